@@ -22,6 +22,10 @@ pub length-unwords : (x : List ℕ) → length (unwords x) ≡ 16
 unfolding unwords bytesOf
 length-unwords x = refl
 
+pub length-words : (s : List ℕ) → length (words s) ≡ 4
+unfolding words
+length-words s = refl
+
 pub unwords-bytes : (x : List ℕ) → AreBytes (unwords x)
 unfolding unwords
 unwords-bytes x =
