@@ -1,0 +1,24 @@
+use mir.Val.{Fits}
+use mir.Syntax.{w32}
+use lib.ListN.{getD}
+use Rattle.counter.proofs.Steps.{gcm-words}
+use borrow.Author.Needs.{needs}
+use Rattle.counter.proofs.gcm_block_add_one.Statement.{statement}
+use Rattle.counter.proofs.gcm_block_add_one.Tie as tie
+
+returns : tie.Need-returns
+returns c =
+    let x = c .before .args .t1 in
+    let h : Fits w32 (getD x 3 0) = search needs in
+    gcm-words x (c .wrapping-add-u32 .result) (h .fits) (c .wrapping-add-u32 .ensures)
+
+pub gcm-block-add-one-spec : {M : Type 1} → statement M
+gcm-block-add-one-spec =
+    tie.close
+    (tie.spec
+    (λ c. search needs)
+    (λ c. search needs)
+    (λ c. search needs)
+    (λ c. search needs)
+    (λ c κs. search needs)
+    returns)

@@ -1,0 +1,13 @@
+-- The two counter steps, on a block of sixteen bytes.
+use Prim.Native.Nat.{_+_, _%_, _^_, ℕ}
+use mathlib.Core.List.{List, _++_}
+use lib.ListN.{take, drop}
+use Rattle.block.specs.BigEndian.{numberOf, bytesOf}
+
+-- Ctr: one more over all sixteen bytes, and all ff is followed by all 00
+unfoldable pub ctrNext : List ℕ → List ℕ
+ctrNext c = bytesOf 16 ((numberOf c + 1) % 2 ^ 128)
+
+-- GCM: one more in the last four bytes, ff ff ff ff followed by 00 00 00 00; the first twelve are kept
+unfoldable pub gcmNext : List ℕ → List ℕ
+gcmNext c = take 12 c ++ bytesOf 4 ((numberOf (drop 12 c) + 1) % 2 ^ 32)
