@@ -1,5 +1,6 @@
 pub mod Entries
 pub mod Xor
+pub mod Bit
 pub mod Xors
 pub mod Convert
 pub mod WordsBack
