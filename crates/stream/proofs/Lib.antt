@@ -1,0 +1,6 @@
+pub mod Chain
+pub mod Undo
+pub mod Loop
+pub mod Fill
+pub mod InWords
+pub mod RoundTrip

@@ -1,0 +1,80 @@
+-- The five kinds: as many bytes come out as go in, bytes give bytes, and the opener takes back what a kind did.
+-- Assumes nothing.
+use mathlib.Core.Path.{_≡_, refl, _∙_}
+use Prim.Native.Nat.{ℕ, _≤_}
+use mathlib.Core.List.{List}
+use native.Mathlib.Omega.{arith}
+use lib.ListN.{length}
+use Rattle.block.specs.Below.{AreBytes}
+use Rattle.block.specs.Xor.{xors}
+use Rattle.block.proofs.Xors.{length-xors, xors-cancel, xors-below}
+use Rattle.cipher.specs.Sm4.{encryptBlock}
+use Rattle.cipher.proofs.Blocks.{length-encryptBlock, encryptBlock-bytes}
+use Rattle.stream.specs.Walk.{chain}
+use Rattle.stream.specs.Stream.{stateAfter, streamMode, opener}
+use Rattle.stream.specs.declared.Kind.{Kind}
+use Rattle.stream.specs.declared.Kind.the-variants.{CfbEncrypt, CfbDecrypt, Ofb, Ctr, Gctr}
+use Rattle.stream.proofs.Chain.{Keeps, chain-length, chain-bytes}
+use Rattle.stream.proofs.Undo.{Undoes, undo}
+
+-- every state and every message
+abbrev Any : List ℕ → Type 0
+Any s = Unit {0}
+
+-- a message of at most a block is covered by the cipher's output
+covered : (rk s d : List ℕ) → length d ≤ 16 → length d ≤ length (encryptBlock rk s)
+covered rk s d h = omega (arith, length-encryptBlock rk s)
+
+-- a block gives a block
+pub stream-block : (k : Kind) (rk s b : List ℕ) → length b ≡ 16 → length (streamMode k rk .block s b) ≡ 16
+stream-block k rk s b n = length-xors b (encryptBlock rk s) (covered rk s b (omega arith)) ∙ n
+
+stream-keeps : (k : Kind) (rk : List ℕ) → Keeps Any Any (streamMode k rk)
+stream-keeps k rk = record {
+  front = λ d h n. tt;
+  back = λ d h n. tt;
+  next = λ s b hs hb n. tt;
+  block = λ s b hs hb n. stream-block k rk s b n;
+  rest = λ s d hs hd n. length-xors d (encryptBlock rk s) (covered rk s d (omega arith));
+}
+
+pub length-stream : (k : Kind) (rk s d : List ℕ) → length (chain (streamMode k rk) s d) ≡ length d
+length-stream k rk s d = chain-length Any Any (streamMode k rk) (stream-keeps k rk) s d tt tt
+
+pub stream-bytes : (k : Kind) (rk s d : List ℕ) → AreBytes d → AreBytes (chain (streamMode k rk) s d)
+stream-bytes k rk s d h =
+    let x : (s d : List ℕ) → AreBytes d → AreBytes (xors d (encryptBlock rk s)) = λ s d g. xors-below 8 d (encryptBlock rk s) g (encryptBlock-bytes rk s) in
+    chain-bytes Any (streamMode k rk) (λ s b hs hb. tt) (λ s b hs hb. x s b hb) (λ s d hs hd. x s d hd) s d tt h
+
+-- with the block and what it became exchanged, the opener goes on in the same state
+same-state : (k : Kind) (s e b c : List ℕ) → stateAfter (opener k) s e c b ≡ stateAfter k s e b c
+same-state CfbEncrypt s e b c = refl
+same-state CfbDecrypt s e b c = refl
+same-state Ofb s e b c = refl
+same-state Ctr s e b c = refl
+same-state Gctr s e b c = refl
+
+stream-undoes : (k : Kind) (rk : List ℕ) → Undoes Any Any (streamMode (opener k) rk) (streamMode k rk)
+stream-undoes k rk =
+    let x : (s d : List ℕ) → length d ≤ 16 → xors (xors d (encryptBlock rk s)) (encryptBlock rk s) ≡ d = λ s d h. xors-cancel d (encryptBlock rk s) (covered rk s d h) in
+    record {
+      keeps = stream-keeps k rk;
+      block = λ s b hs hb n. x s b (omega arith);
+      next = λ s b hs hb n. rw (x s b (omega arith)) (same-state k s (encryptBlock rk s) b (xors b (encryptBlock rk s)));
+      rest = λ s d hs hd n. x s d (omega arith);
+    }
+
+-- all five round trips, for any round keys and any first state
+pub stream-back : (k : Kind) (rk s d : List ℕ) → chain (streamMode (opener k) rk) s (chain (streamMode k rk) s d) ≡ d
+stream-back k rk s d = undo Any Any (streamMode (opener k) rk) (streamMode k rk) (stream-undoes k rk) s d tt tt
+
+opener-twice : (k : Kind) → opener (opener k) ≡ k
+opener-twice CfbEncrypt = refl
+opener-twice CfbDecrypt = refl
+opener-twice Ofb = refl
+opener-twice Ctr = refl
+opener-twice Gctr = refl
+
+-- and the other way round
+pub stream-forth : (k : Kind) (rk s d : List ℕ) → chain (streamMode k rk) s (chain (streamMode (opener k) rk) s d) ≡ d
+stream-forth k rk s d = rw (opener-twice k) at (stream-back (opener k) rk s d)

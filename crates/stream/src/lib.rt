@@ -1,0 +1,86 @@
+// The modes of libsm's `cipher_mode.rs` that xor a message with the cipher of a state: `cfb_encrypt`, `cfb_decrypt`,
+// `ofb_encrypt`, `ctr_encrypt`, and `galois_ctr` of Gcm. They differ in the next state alone, so one loop serves all.
+ghost use mathlib.Core.Path.{_≡_};
+ghost use mathlib.Core.List.{_++_};
+ghost use Prim.Native.Nat.{_<_, _≤_};
+ghost use lib.ListN.{length, take, drop};
+ghost use Rattle.block.specs.Words.{unwords};
+ghost use Rattle.block.specs.Xor.{xors};
+ghost use Rattle.cipher.specs.Sm4.{sboxTable, encryptBlock};
+ghost use Rattle.stream.specs.Walk.{chain, over};
+ghost use Rattle.stream.specs.Stream.{stateAfter, streamMode};
+
+// The mode and, where they differ, the direction.
+pub enum Kind {
+    CfbEncrypt,
+    CfbDecrypt,
+    Ofb,
+    Ctr,
+    Gctr,
+}
+
+// The state after the block `b`: `s` is the state before it, `e` the cipher of `s`, and `c` what the block became.
+fn state_after(kind: Kind, s: [u32; 4], e: [u32; 4], b: [u32; 4], c: [u32; 4]) -> [u32; 4]
+    ensures { λ r. ⌜ unwords r ≡ stateAfter kind (unwords s) (unwords e) (unwords b) (unwords c) ⌝ }
+{
+    match kind {
+        Kind::CfbEncrypt => c,
+        Kind::CfbDecrypt => b,
+        Kind::Ofb => e,
+        Kind::Ctr => counter::block_add_one(s),
+        Kind::Gctr => counter::gcm_block_add_one(s),
+    }
+}
+
+// The block at the front of `data`, to the front of `out`. Returns the next state.
+fn step(
+    t: &[u8; 256],
+    rk: [u32; 32],
+    kind: Kind,
+    s: [u32; 4],
+    data: &[u8],
+    out: &mut [u8],
+) -> [u32; 4]
+    requires { ⌜ now t ≡ sboxTable ⌝ }
+    requires { ⌜ 16 ≤ length (now «data») ⌝ }
+    requires { ⌜ 16 ≤ length (now out) ⌝ }
+    ensures { λ r. ⌜ unwords r ≡ streamMode kind rk .next (unwords s) (take 16 (now («data» .entry))) ⌝ }
+    ensures { λ _. ⌜ now (out .exit) ≡ streamMode kind rk .block (unwords s) (take 16 (now («data» .entry))) ++ drop 16 (now (out .entry)) ⌝ }
+{
+    let e = cipher::encrypt(t, rk, s);
+    let b = block::split_block(data);
+    let c = block::block_xor(b, e);
+    block::put_block(c, out);
+    state_after(kind, s, e, b, c)
+}
+
+// A rest shorter than a block, to the front of `out`: xored with the front of the cipher's output.
+fn xor_rest(t: &[u8; 256], rk: [u32; 32], s: [u32; 4], data: &[u8], out: &mut [u8])
+    requires { ⌜ now t ≡ sboxTable ⌝ }
+    requires { ⌜ length (now «data») < 16 ⌝ }
+    requires { ⌜ length (now «data») ≤ length (now out) ⌝ }
+    ensures { λ _. ⌜ now (out .exit) ≡ over (xors (now («data» .entry)) (encryptBlock rk (unwords s))) (now (out .entry)) ⌝ }
+{
+    let pad = block::combine_block(cipher::encrypt(t, rk, s));
+    let mut i: usize = 0;
+    while i < data.len() {
+        out[i] = data[i] ^ pad[i];
+        i += 1;
+    }
+}
+
+// The whole message `data`, to the front of `out`.
+pub fn stream(t: &[u8; 256], rk: [u32; 32], kind: Kind, iv: [u32; 4], data: &[u8], out: &mut [u8])
+    requires { ⌜ now t ≡ sboxTable ⌝ }
+    requires { ⌜ length (now «data») ≤ length (now out) ⌝ }
+    ensures { λ _. ⌜ now (out .exit) ≡ over (chain (streamMode kind rk) (unwords iv) (now («data» .entry))) (now (out .entry)) ⌝ }
+{
+    let mut s = iv;
+    let mut at: usize = 0;
+    while 16 <= data.len() - at {
+        let next = step(t, rk, kind, s, &data[at..], &mut out[at..]);
+        s = next;
+        at += 16;
+    }
+    xor_rest(t, rk, s, &data[at..], &mut out[at..]);
+}
