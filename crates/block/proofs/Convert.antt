@@ -64,6 +64,10 @@ bytesOf-numberOf (b ∷ bs) h =
     let e : (b * 256 ^ length bs + numberOf bs) / 256 ^ length bs % 256 ≡ b = rw (digits-div b (numberOf-lt bs (h .1)), mod-eq-of-lt (h .0)) in
     ap₂ _∷_ e (bytesOf-above (length bs) b (numberOf bs) ∙ bytesOf-numberOf bs (h .1))
 
+-- lists of one length that spell one number are the same
+pub numberOf-same : (a b : List ℕ) → length a ≡ length b → AreBytes a → AreBytes b → numberOf a ≡ numberOf b → a ≡ b
+numberOf-same a b n ha hb e = sym (bytesOf-numberOf a ha) ∙ ap₂ bytesOf n e ∙ bytesOf-numberOf b hb
+
 pub numberOf-append : (a b : List ℕ) → numberOf (a ++ b) ≡ numberOf a * 256 ^ length b + numberOf b
 unfolding numberOf
 numberOf-append [] b = omega arith

@@ -41,11 +41,13 @@ words-below s h =
     (w 0, (w 4, (w 8, (w 12, tt))))
 
 -- only the first sixteen bytes count
-pub words-take : (s : List ℕ) → words (take 16 s) ≡ words s
+pub words-same : (s t : List ℕ) → ((i : ℕ) → i < 16 → getD s i 0 ≡ getD t i 0) → words s ≡ words t
 unfolding words
-words-take s =
-    let g : (i : ℕ) → i < 16 → getD (take 16 s) i 0 ≡ getD s i 0 = λ i k. getD-take 16 s i 0 k in
+words-same s t g =
     rw (g 0 (lit< tt), g 1 (lit< tt), g 2 (lit< tt), g 3 (lit< tt), g 4 (lit< tt), g 5 (lit< tt), g 6 (lit< tt), g 7 (lit< tt), g 8 (lit< tt), g 9 (lit< tt), g 10 (lit< tt), g 11 (lit< tt), g 12 (lit< tt), g 13 (lit< tt), g 14 (lit< tt), g 15 (lit< tt))
+
+pub words-take : (s : List ℕ) → words (take 16 s) ≡ words s
+words-take s = words-same (take 16 s) s (λ i k. getD-take 16 s i 0 k)
 
 -- the first n entries, each by its place
 listed : ℕ → (ℕ → ℕ) → List ℕ

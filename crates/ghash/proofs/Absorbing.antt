@@ -1,0 +1,74 @@
+-- The hash state over bytes: one step after the other, along the rest of a list.
+-- Assumes nothing.
+use mathlib.Core.Path.{_≡_, refl, sym, ap, ap₂, _∙_}
+use mathlib.Core.List.{List, [], _∷_, _++_}
+use Prim.Native.Nat.{ℕ, _+_, _-_, _<_, _≤_}
+use native.Mathlib.Nat.{le-of-eq}
+use native.Mathlib.Omega.{arith}
+use lib.ListN.{length, take, drop, length-drop, drop-of-length-le}
+use lib.Seq.{take-all, drop-drop}
+use Rattle.block.specs.declared.U128.{U128}
+use Rattle.block.specs.Wide.{value}
+use Rattle.block.specs.Xor.{_⊕_}
+use Rattle.field.specs.Field.{gmul}
+use Rattle.ghash.specs.declared.Ghash.{Ghash}
+use Rattle.ghash.specs.Ghash.{blockOf, blocks, lengthBlock, authBlocks, hashFrom, ghash}
+use Rattle.ghash.specs.Absorbed.{Absorbed}
+use Rattle.ghash.proofs.Blocks.{blocks-nil, blocks-cons}
+use Rattle.ghash.proofs.Join.{hash-append}
+
+-- one block
+pub absorbed-one : (s r : Ghash) (b m : ℕ) → r .h ≡ s .h → m ≡ value (s .y) ⊕ b → value (r .y) ≡ gmul m (value (s .h)) → Absorbed s (b ∷ []) r
+unfolding hashFrom
+absorbed-one s r b m k a e = record { key = k; hash = e ∙ ap (λ (x : ℕ). gmul x (value (s .h))) a }
+
+pub absorbed-same : {s r : Ghash} {b c : ℕ} → Absorbed s (b ∷ []) r → b ≡ c → Absorbed s (c ∷ []) r
+absorbed-same {s} a e = record { key = a .key; hash = a .hash ∙ ap (λ (x : ℕ). hashFrom (value (s .h)) (value (s .y)) (x ∷ [])) e }
+
+pub absorbed-both : (s r q : Ghash) (xs ys : List ℕ) → Absorbed s xs r → Absorbed r ys q → Absorbed s (xs ++ ys) q
+absorbed-both s r q xs ys a b = record {
+  key = b .key ∙ a .key;
+  hash = b .hash ∙ ap₂ (λ (k y : ℕ). hashFrom k y ys) (ap value (a .key)) (a .hash) ∙ sym (hash-append (value (s .h)) (value (s .y)) xs ys);
+}
+
+-- what is left to take in from place i on
+pub record Walked (s₀ : Ghash) (bs : List ℕ) (s : Ghash) (i : ℕ) : Type 0 where
+  pub key : s .h ≡ s₀ .h
+  pub hash : hashFrom (value (s₀ .h)) (value (s .y)) (blocks (drop i bs)) ≡ hashFrom (value (s₀ .h)) (value (s₀ .y)) (blocks bs)
+
+pub walk-start : (s : Ghash) (bs : List ℕ) → Walked s bs s 0
+walk-start s bs = record { key = refl; hash = refl }
+
+module _ (s₀ s : Ghash) (bs : List ℕ) (i : ℕ) (w : Walked s₀ bs s i) where
+  -- as `&bs[i..]` is lent
+  pub walk-on : i < length bs → (r : Ghash) → Absorbed s (blockOf (take (length bs - i) (drop i bs)) ∷ []) r → Walked s₀ bs r (i + 16)
+  walk-on l r a =
+      let k = value (s₀ .h) in
+      let d = drop i bs in
+      let e : drop 16 d ≡ drop (i + 16) bs = drop-drop 16 i bs in
+      record {
+        key = a .key ∙ w .key;
+        hash =
+            ap (λ (y : ℕ). hashFrom k y (blocks (drop (i + 16) bs)))
+            (a .hash ∙ ap₂ (λ (m : ℕ) (t : List ℕ). hashFrom m (value (s .y)) (blockOf t ∷ [])) (ap value (w .key)) (take-all (length bs - i) d (le-of-eq (length-drop i bs))))
+            ∙ sym (hash-append k (value (s .y)) (blockOf d ∷ []) (blocks (drop (i + 16) bs)))
+            ∙ ap (hashFrom k (value (s .y))) (sym (blocks-cons d (simp length-drop (omega arith)) ∙ ap (λ (t : List ℕ). blockOf d ∷ blocks t) e))
+            ∙ w .hash;
+      }
+
+  pub walk-end : length bs ≤ i → Absorbed s₀ (blocks bs) s
+  unfolding hashFrom
+  walk-end l = record {
+    key = w .key;
+    hash = ap (hashFrom (value (s₀ .h)) (value (s .y))) (sym (ap blocks (drop-of-length-le bs l) ∙ blocks-nil)) ∙ w .hash;
+  }
+
+-- a label, a text and their lengths, from the start
+pub absorbed-auth : (h : U128) (s a b r : Ghash) (label text : List ℕ) → (s .h ≡ h) × (value (s .y) ≡ 0)
+    → Absorbed s (blocks label) a → Absorbed a (blocks text) b → Absorbed b (lengthBlock (length label) (length text) ∷ []) r
+    → value (r .y) ≡ ghash (value h) (authBlocks label text)
+unfolding authBlocks
+absorbed-auth h s a b r label text e p q l =
+    let m = lengthBlock (length label) (length text) ∷ [] in
+    absorbed-both s a r (blocks label) (blocks text ++ m) p (absorbed-both a b r (blocks text) m q l) .hash
+    ∙ ap₂ (λ (k y : ℕ). hashFrom k y (authBlocks label text)) (ap value (e .0)) (e .1)

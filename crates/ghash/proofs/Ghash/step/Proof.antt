@@ -1,0 +1,11 @@
+use mathlib.Core.Path.{refl}
+use Rattle.ghash.proofs.Absorbing.{absorbed-one}
+use borrow.Author.Needs.{needs}
+use Rattle.ghash.proofs.Ghash.step.Statement.{statement}
+use Rattle.ghash.proofs.Ghash.step.Tie as tie
+
+returns : tie.Need-returns
+returns c = absorbed-one _ _ _ _ refl (c .before .add .ensures) (c .galois-mul .ensures)
+
+pub step-spec : {M : Type 1} → statement M
+step-spec = tie.close (tie.spec (λ c κs. search needs) (λ c κs. search needs) returns)

@@ -1,0 +1,44 @@
+-- The hash of two lists joined: the first's hash times H to the second's block count, xored with the second's hash.
+-- Assumes nothing.
+use mathlib.Core.Path.{_≡_, refl, sym, ap, _∙_}
+use mathlib.Core.List.{List, [], _∷_, _++_}
+use Prim.Native.Nat.{ℕ}
+use lib.Dec.{lit<}
+use lib.ListN.{length}
+use lib.Bits.{xor-zero-r}
+use Rattle.block.specs.Xor.{_⊕_}
+use Rattle.block.proofs.Xor.{xor-assoc}
+use Rattle.field.specs.Field.{Element, gmul, gpow}
+use Rattle.field.proofs.Bounded.{gmul-lt, gpow-lt}
+use Rattle.field.proofs.Distributes.{xor-gmul}
+use Rattle.field.proofs.Commutes.{gmul-one, gmul-assoc}
+use Rattle.ghash.specs.Ghash.{hashFrom, ghash}
+
+pub hash-append : (h y : ℕ) (xs bs : List ℕ) → hashFrom h y (xs ++ bs) ≡ hashFrom h (hashFrom h y xs) bs
+unfolding hashFrom
+hash-append h y [] bs = refl
+hash-append h y (a ∷ xs) bs = hash-append h (gmul (y ⊕ a) h) xs bs
+
+module _ (h : ℕ) (hh : Element h) where
+  pub hashFrom-lt : (y : ℕ) (bs : List ℕ) → Element y → Element (hashFrom h y bs)
+  unfolding hashFrom
+  hashFrom-lt y [] k = k
+  hashFrom-lt y (b ∷ bs) k = hashFrom-lt (gmul (y ⊕ b) h) bs (gmul-lt (y ⊕ b) h hh)
+
+  pub ghash-lt : (bs : List ℕ) → Element (ghash h bs)
+  ghash-lt bs = hashFrom-lt 0 bs (lit< tt)
+
+  -- a start from y adds y times H to the block count
+  hashFrom-start : (bs : List ℕ) (y z : ℕ) → Element y → hashFrom h (y ⊕ z) bs ≡ gmul y (gpow h (length bs)) ⊕ hashFrom h z bs
+  unfolding hashFrom gpow
+  hashFrom-start [] y z k = ap (λ (w : ℕ). w ⊕ z) (sym (gmul-one y k))
+  hashFrom-start (b ∷ bs) y z k =
+      ap (λ (w : ℕ). hashFrom h w bs) (ap (λ (w : ℕ). gmul w h) (xor-assoc y z b) ∙ xor-gmul y (z ⊕ b) h)
+      ∙ hashFrom-start bs (gmul y h) (gmul (z ⊕ b) h) (gmul-lt y h hh)
+      ∙ ap (λ (w : ℕ). w ⊕ hashFrom h (gmul (z ⊕ b) h) bs) (gmul-assoc y h (gpow h (length bs)) k hh (gpow-lt h (length bs)))
+
+  pub ghash-join : (xs bs : List ℕ) → ghash h (xs ++ bs) ≡ gmul (ghash h xs) (gpow h (length bs)) ⊕ ghash h bs
+  ghash-join xs bs =
+      hash-append h 0 xs bs
+      ∙ ap (λ (w : ℕ). hashFrom h w bs) (sym (xor-zero-r (ghash h xs)))
+      ∙ hashFrom-start bs (ghash h xs) 0 (ghash-lt xs)

@@ -1,0 +1,8 @@
+pub mod Blocks
+pub mod Lengths
+pub mod Join
+pub mod OneChanged
+pub mod ZeroKey
+pub mod Changed
+pub mod Absorbing
+pub mod IvBlocks

@@ -1,0 +1,3 @@
+pub mod Ghash
+pub mod Absorbed
+pub mod OneBlock
