@@ -10,11 +10,7 @@ use Rattle.block.specs.BigEndian.{bytesOf}
 use Rattle.block.specs.Wide.{whole}
 use Rattle.block.proofs.Convert.{length-bytesOf, numberOf-bytesOf, numberOf-append}
 use Rattle.field.specs.Field.{Element}
-use Rattle.ghash.specs.Ghash.{lengthBlock}
-
--- the longest that a label or a text can be
-abbrev pub Short : ℕ → Type 0
-Short n = n ≤ 16777232
+use Rattle.ghash.specs.Ghash.{Short, lengthBlock}
 
 halves : (a t : ℕ) → lengthBlock a t ≡ whole (8 * a % 2 ^ 64) (8 * t % 2 ^ 64)
 unfolding lengthBlock

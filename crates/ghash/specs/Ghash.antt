@@ -1,6 +1,6 @@
 -- GCM's hash, from NIST SP 800-38D, sections 6.4 and 7.1, over blocks as the numbers that they spell.
 use mathlib.Core.List.{List, [], _∷_, _++_}
-use Prim.Native.Nat.{ℕ, zero, suc, _+_, _*_, _/_}
+use Prim.Native.Nat.{ℕ, zero, suc, _+_, _*_, _/_, _≤_}
 use lib.ListN.{length, take, drop, replicate}
 use Rattle.block.specs.BigEndian.{numberOf, bytesOf}
 use Rattle.block.specs.Xor.{_⊕_}
@@ -18,6 +18,10 @@ blocksFrom (suc k) bs = blockOf bs ∷ blocksFrom k (drop 16 bs)
 -- the blocks of a list of bytes, zeros to the last one's end
 unfoldable pub blocks : List ℕ → List ℕ
 blocks bs = blocksFrom ((length bs + 15) / 16) bs
+
+-- the lengths that are hashed: at most 16 MiB and a tag
+abbrev pub Short : ℕ → Type 0
+Short n = n ≤ 16777232
 
 -- two lengths in bits, 8 bytes each
 unfoldable pub lengthBlock : ℕ → ℕ → ℕ

@@ -5,16 +5,18 @@ ghost use Prim.Native.Nat.{_≤_};
 ghost use lib.ListN.{length, getD};
 ghost use Rattle.block.specs.Words.{wordAt, words};
 ghost use Rattle.block.specs.Wide.{value};
-ghost use Rattle.ghash.specs.Ghash.{blockOf, blocks, lengthBlock, authBlocks, ghash};
+ghost use Rattle.ghash.specs.Ghash.{Short, blockOf, blocks, lengthBlock, authBlocks, ghash};
 ghost use Rattle.ghash.specs.Absorbed.{Absorbed};
 use block::U128;
 
+// The byte at i, or 0 past the end.
 fn byte_or_zero(s: &[u8], i: usize) -> u8
     ensures { λ r. ⌜ r ≡ getD (now (s .entry)) i 0 ⌝ }
 {
     if i < s.len() { s[i] } else { 0 }
 }
 
+// The word of the four bytes from `at` on, zeros past the end.
 fn word_or_zeros(s: &[u8], at: usize) -> u32
     requires { ⌜ at ≤ 12 ⌝ }
     ensures { λ r. ⌜ r ≡ wordAt (now (s .entry)) at ⌝ }
@@ -50,6 +52,7 @@ pub struct Ghash {
 }
 
 impl Ghash {
+    // Before the first block the hash is 0.
     pub fn new(h: U128) -> Ghash
         ensures { λ r. ⌜ (r .h ≡ h) × (value (r .y) ≡ 0) ⌝ }
     {
@@ -79,7 +82,7 @@ impl Ghash {
 
     // All of `bytes`, zeros to the last block's end.
     pub fn absorb_all(self, bytes: &[u8]) -> Ghash
-        requires { ⌜ length (now bytes) ≤ 16777232 ⌝ }
+        requires { ⌜ Short (length (now bytes)) ⌝ }
         ensures { λ r. ⌜ Absorbed self (blocks (now (bytes .entry))) r ⌝ }
     {
         let mut state = self;
@@ -93,7 +96,7 @@ impl Ghash {
 
     // The length block: both lengths in bits, the label's first.
     pub fn absorb_lengths(self, label: usize, text: usize) -> Ghash
-        requires { ⌜ (label ≤ 16777232) × (text ≤ 16777232) ⌝ }
+        requires { ⌜ Short label × Short text ⌝ }
         ensures { λ r. ⌜ Absorbed self (lengthBlock label text ∷ []) r ⌝ }
     {
         let b = U128 {
@@ -106,7 +109,7 @@ impl Ghash {
 
 // The hash of a label and a text, with their lengths.
 pub fn galois_hash(h: U128, label: &[u8], text: &[u8]) -> U128
-    requires { ⌜ (length (now label) ≤ 16777232) × (length (now text) ≤ 16777232) ⌝ }
+    requires { ⌜ Short (length (now label)) × Short (length (now text)) ⌝ }
     ensures { λ r. ⌜ value r ≡ ghash (value h) (authBlocks (now (label .entry)) (now (text .entry))) ⌝ }
 {
     let start = Ghash::new(h);
