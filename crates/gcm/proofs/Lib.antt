@@ -1,0 +1,5 @@
+pub mod Same
+pub mod TagTest
+pub mod Parts
+pub mod RoundTrip
+pub mod InWords

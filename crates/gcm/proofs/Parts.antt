@@ -1,0 +1,48 @@
+-- The lengths of text, tag and sealed message, and the two parts of what was sealed.
+-- Assumes nothing.
+use mathlib.Core.Path.{_≡_, ap, ap₂, _∙_}
+use mathlib.Core.List.{List, _++_}
+use Prim.Native.Nat.{ℕ, _+_, _-_, _≤_}
+use native.Mathlib.Omega.{arith}
+use lib.ListN.{length, take, drop, length-append}
+use lib.Seq.{take-at, drop-at}
+use Rattle.block.specs.BigEndian.{bytesOf}
+use Rattle.block.proofs.Convert.{length-bytesOf}
+use Rattle.block.proofs.Xors.{length-xors}
+use Rattle.cipher.specs.Sm4.{encryptBlock}
+use Rattle.cipher.proofs.Blocks.{length-encryptBlock}
+use Rattle.counter.specs.Counter.{gcmNext}
+use Rattle.ghash.specs.Ghash.{ghash, authBlocks}
+use Rattle.stream.specs.declared.Kind.the-variants.{Gctr}
+use Rattle.stream.proofs.RoundTrip.{length-stream}
+use Rattle.gcm.specs.Gcm.{textOf, tagOf, sealed, textPart, tagPart}
+
+pub length-text : (rk j d : List ℕ) → length (textOf rk j d) ≡ length d
+unfolding textOf
+length-text rk j d = length-stream Gctr rk (gcmNext j) d
+
+pub length-tag : (rk : List ℕ) (h : ℕ) (j label text : List ℕ) → length (tagOf rk h j label text) ≡ 16
+unfolding tagOf
+length-tag rk h j label text =
+    let n = length-encryptBlock rk j in
+    let m = length-bytesOf 16 (ghash h (authBlocks label text)) in
+    length-xors (encryptBlock rk j) (bytesOf 16 (ghash h (authBlocks label text))) (omega arith) ∙ n
+
+module _ (rk : List ℕ) (h : ℕ) (j label d : List ℕ) where
+  pub length-sealed : length (sealed rk h j label d) ≡ length d + 16
+  unfolding sealed
+  length-sealed =
+      length-append (textOf rk j d) (tagOf rk h j label (textOf rk j d))
+      ∙ ap₂ _+_ (length-text rk j d) (length-tag rk h j label (textOf rk j d))
+
+  -- where the text ends
+  cut : length (textOf rk j d) ≡ length (sealed rk h j label d) - 16
+  cut = omega (arith, length-sealed, length-text rk j d)
+
+  pub sealed-text : textPart (sealed rk h j label d) ≡ textOf rk j d
+  unfolding sealed
+  sealed-text = take-at (textOf rk j d) (tagOf rk h j label (textOf rk j d)) _ cut
+
+  pub sealed-tag : tagPart (sealed rk h j label d) ≡ tagOf rk h j label (textOf rk j d)
+  unfolding sealed
+  sealed-tag = drop-at (textOf rk j d) (tagOf rk h j label (textOf rk j d)) _ cut

@@ -1,0 +1,22 @@
+use denote.Ref.{now}
+use Rattle.block.specs.Wide.{value}
+use Rattle.gcm.proofs.InWords.{first-counter-words}
+use borrow.Author.Needs.{needs}
+use Rattle.gcm.proofs.first_counter.Statement.{statement}
+use Rattle.gcm.proofs.first_counter.Tie as tie
+
+returns : tie.Need-returns
+returns c =
+    let S = c .before .before .before .before in
+    first-counter-words (value (S .args .h)) _ (now (S .args .iv)) _ (S .pre) (c .before .galois-hash .ensures) (c .from-u128 .ensures)
+
+pub first-counter-spec : {M : Type 1} → statement M
+first-counter-spec =
+    tie.close
+    (tie.spec
+    (λ c. search needs)
+    (λ c. search needs)
+    (λ c. search needs)
+    (λ c κs. search needs)
+    (λ c κs. search needs)
+    returns)

@@ -1,0 +1,14 @@
+use Prim.Native.Nat.{_-_}
+use lib.ListN.{length}
+use Rattle.stream.proofs.Loop.{tail-is}
+use borrow.Author.Needs.{needs}
+use Rattle.gcm.proofs.tag_part.Statement.{statement}
+use Rattle.gcm.proofs.tag_part.Tie as tie
+
+returns : tie.Need-returns
+returns c =
+    let d = c .before .args .«data» .now in
+    tail-is d (length d - 16)
+
+pub tag-part-spec : {M : Type 1} → statement M
+tag-part-spec = tie.close (tie.spec (λ c. search needs) (λ c. search needs) (λ c. search needs) (λ c. search needs) returns)

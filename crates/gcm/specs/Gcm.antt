@@ -1,0 +1,61 @@
+-- GCM, NIST SP 800-38D, over round keys, H and J0.
+use Prim.Native.Nat.{ℕ, _+_, _-_}
+use mathlib.Core.Bool.{Bool, true, false, _&&_, cond}
+use mathlib.Core.List.{List, [], _∷_, _++_}
+use lib.Dec.{eqb}
+use lib.ListN.{length, take, drop, replicate}
+use Rattle.block.specs.BigEndian.{numberOf, bytesOf}
+use Rattle.block.specs.Xor.{xors}
+use Rattle.cipher.specs.Sm4.{encryptBlock}
+use Rattle.counter.specs.Counter.{gcmNext}
+use Rattle.ghash.specs.Ghash.{ghash, authBlocks}
+use Rattle.stream.specs.Walk.{chain, over}
+use Rattle.stream.specs.Stream.{streamMode}
+use Rattle.stream.specs.declared.Kind.the-variants.{Gctr}
+use Rattle.gcm.specs.declared.Opened.{Opened}
+use Rattle.gcm.specs.declared.Opened.the-variants.{Done, InvalidTag}
+
+-- H: the cipher of sixteen zero bytes
+unfoldable pub hashKey : List ℕ → ℕ
+hashKey rk = numberOf (encryptBlock rk (replicate 16 0))
+
+-- J0 of a 16-byte IV: the hash of the IV, and of 8 zero bytes and the number 128 in 8 bytes
+unfoldable pub firstCounter : ℕ → List ℕ → List ℕ
+firstCounter h iv = bytesOf 16 (ghash h (numberOf iv ∷ 128 ∷ []))
+
+-- the text, either way: counters start one after J0
+unfoldable pub textOf : List ℕ → List ℕ → List ℕ → List ℕ
+textOf rk j d = chain (streamMode Gctr rk) (gcmNext j) d
+
+-- the tag of a label and a ciphertext: the cipher of J0, xored with the hash
+unfoldable pub tagOf : List ℕ → ℕ → List ℕ → List ℕ → List ℕ → List ℕ
+tagOf rk h j label text = xors (encryptBlock rk j) (bytesOf 16 (ghash h (authBlocks label text)))
+
+-- the sealed message: ciphertext, then tag
+unfoldable pub sealed : List ℕ → ℕ → List ℕ → List ℕ → List ℕ → List ℕ
+sealed rk h j label d = textOf rk j d ++ tagOf rk h j label (textOf rk j d)
+
+-- its two parts: all but the last sixteen bytes, and those
+abbrev pub textPart : List ℕ → List ℕ
+textPart s = take (length s - 16) s
+
+abbrev pub tagPart : List ℕ → List ℕ
+tagPart s = drop (length s - 16) s
+
+-- whether two lists are the same
+unfoldable pub same : List ℕ → List ℕ → Bool
+same [] [] = true
+same [] (y ∷ b) = false
+same (x ∷ a) [] = false
+same (x ∷ a) (y ∷ b) = eqb x y && same a b
+
+-- whether a sealed message opens under a label
+unfoldable pub opensUnder : List ℕ → ℕ → List ℕ → List ℕ → List ℕ → Bool
+opensUnder rk h j label s = same (tagPart s) (tagOf rk h j label (textPart s))
+
+-- what opening answers, and what it leaves in the output o: the text, or nothing
+unfoldable pub openAnswer : List ℕ → ℕ → List ℕ → List ℕ → List ℕ → Opened
+openAnswer rk h j label s = cond (opensUnder rk h j label s) (Done (length s - 16)) InvalidTag
+
+unfoldable pub openOutput : List ℕ → ℕ → List ℕ → List ℕ → List ℕ → List ℕ → List ℕ
+openOutput rk h j label s o = cond (opensUnder rk h j label s) (over (textOf rk j (textPart s)) o) o

@@ -1,0 +1,117 @@
+// GCM: libsm's `gcm_encrypt` and `gcm_decrypt`, over round keys, H and J0. The IV is the caller's: J0 is made of it once.
+ghost use mathlib.Core.Path.{_≡_};
+ghost use Prim.Native.Nat.{_+_, _-_, _≤_};
+ghost use lib.ListN.{length, take, drop};
+ghost use Rattle.block.specs.Wide.{value};
+ghost use Rattle.block.specs.Words.{unwords};
+ghost use Rattle.cipher.specs.Sm4.{sboxTable};
+ghost use Rattle.stream.specs.Walk.{over};
+ghost use Rattle.gcm.specs.Gcm.{hashKey, firstCounter, tagOf, sealed, textPart, tagPart, opensUnder, openAnswer, openOutput};
+use block::U128;
+use stream::Kind;
+
+// What opening answers: done, with the length of the text, or the tag is not the message's.
+pub enum Opened {
+    Done(usize),
+    InvalidTag,
+}
+
+// H, the cipher of sixteen zero bytes.
+pub fn hash_key(t: &[u8; 256], rk: [u32; 32]) -> U128
+    requires { ⌜ now t ≡ sboxTable ⌝ }
+    ensures { λ r. ⌜ value r ≡ hashKey rk ⌝ }
+{
+    block::to_u128(cipher::encrypt(t, rk, [0u32; 4]))
+}
+
+// J0 of a 16-byte IV. The blocks of an empty label and the IV are the two that J0 is the hash of.
+pub fn first_counter(h: U128, iv: &[u8]) -> [u32; 4]
+    requires { ⌜ length (now iv) ≡ 16 ⌝ }
+    ensures { λ r. ⌜ unwords r ≡ firstCounter (value h) (now (iv .entry)) ⌝ }
+{
+    block::from_u128(ghash::galois_hash(h, &iv[0..0], iv))
+}
+
+fn tag(t: &[u8; 256], rk: [u32; 32], h: U128, j0: [u32; 4], aad: &[u8], text: &[u8]) -> [u32; 4]
+    requires { ⌜ now t ≡ sboxTable ⌝ }
+    requires { ⌜ (length (now aad) ≤ 16777216) × (length (now text) ≤ 16777216) ⌝ }
+    ensures { λ r. ⌜ unwords r ≡ tagOf rk (value h) (unwords j0) (now (aad .entry)) (now (text .entry)) ⌝ }
+{
+    let hash = block::from_u128(ghash::galois_hash(h, aad, text));
+    block::block_xor(cipher::encrypt(t, rk, j0), hash)
+}
+
+// Seals `data` under the label `aad`: ciphertext, then tag.
+pub fn encrypt(
+    t: &[u8; 256],
+    rk: [u32; 32],
+    h: U128,
+    j0: [u32; 4],
+    aad: &[u8],
+    data: &[u8],
+    out: &mut [u8],
+)
+    requires { ⌜ now t ≡ sboxTable ⌝ }
+    requires { ⌜ (length (now aad) ≤ 16777216) × (length (now «data») ≤ 16777216) ⌝ }
+    requires { ⌜ length (now «data») + 16 ≤ length (now out) ⌝ }
+    ensures { λ _. ⌜ now (out .exit) ≡ over (sealed rk (value h) (unwords j0) (now (aad .entry)) (now («data» .entry))) (now (out .entry)) ⌝ }
+{
+    let n = data.len();
+    stream::stream(t, rk, Kind::Gctr, counter::gcm_block_add_one(j0), data, out);
+    let mac = tag(t, rk, h, j0, aad, &out[0..n]);
+    block::put_block(mac, &mut out[n..]);
+}
+
+// The text part of a sealed message.
+pub fn text_part(data: &[u8]) -> &[u8]
+    requires { ⌜ 16 ≤ length (now «data») ⌝ }
+    ensures { λ r. ⌜ now r ≡ textPart (now («data» .entry)) ⌝ }
+{
+    let n = data.len() - 16;
+    &data[0..n]
+}
+
+// The tag part, its last sixteen bytes.
+pub fn tag_part(data: &[u8]) -> &[u8]
+    requires { ⌜ 16 ≤ length (now «data») ⌝ }
+    ensures { λ r. ⌜ now r ≡ tagPart (now («data» .entry)) ⌝ }
+{
+    let n = data.len() - 16;
+    &data[n..]
+}
+
+// Whether a sealed message opens under a label. All sixteen bytes of the tag are looked at, whatever the first ones are.
+pub fn opens(t: &[u8; 256], rk: [u32; 32], h: U128, j0: [u32; 4], aad: &[u8], data: &[u8]) -> bool
+    requires { ⌜ now t ≡ sboxTable ⌝ }
+    requires { ⌜ (length (now aad) ≤ 16777216) × (length (now «data») ≤ 16777232) ⌝ }
+    requires { ⌜ 16 ≤ length (now «data») ⌝ }
+    ensures { λ r. ⌜ r ≡ opensUnder rk (value h) (unwords j0) (now (aad .entry)) (now («data» .entry)) ⌝ }
+{
+    let expected = tag(t, rk, h, j0, aad, text_part(data));
+    let d = block::block_xor(block::split_block(tag_part(data)), expected);
+    d[0] | d[1] | d[2] | d[3] == 0
+}
+
+// Opens a sealed message: the text, once the tag is settled; otherwise `out` stays as it is.
+pub fn decrypt(
+    t: &[u8; 256],
+    rk: [u32; 32],
+    h: U128,
+    j0: [u32; 4],
+    aad: &[u8],
+    data: &[u8],
+    out: &mut [u8],
+) -> Opened
+    requires { ⌜ now t ≡ sboxTable ⌝ }
+    requires { ⌜ (length (now aad) ≤ 16777216) × (length (now «data») ≤ 16777232) ⌝ }
+    requires { ⌜ (16 ≤ length (now «data»)) × (length (now «data») - 16 ≤ length (now out)) ⌝ }
+    ensures { λ r. ⌜ r ≡ openAnswer rk (value h) (unwords j0) (now (aad .entry)) (now («data» .entry)) ⌝ }
+    ensures { λ _. ⌜ now (out .exit) ≡ openOutput rk (value h) (unwords j0) (now (aad .entry)) (now («data» .entry)) (now (out .entry)) ⌝ }
+{
+    if opens(t, rk, h, j0, aad, data) {
+        let text = text_part(data);
+        stream::stream(t, rk, Kind::Gctr, counter::gcm_block_add_one(j0), text, out);
+        return Opened::Done(text.len());
+    }
+    Opened::InvalidTag
+}
