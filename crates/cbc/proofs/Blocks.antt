@@ -1,0 +1,121 @@
+-- Cbc decryption of full blocks: its front is the decrypted front, and its last block takes the last two blocks alone.
+-- Assumes nothing.
+use mathlib.Core.Path.{_≡_, sym, _∙_}
+use Prim.Native.Nat.{ℕ, zero, suc, _+_, _*_, _-_, _/_, _%_, _≤_, _<_}
+use mathlib.Core.List.{List, [], _++_, append-nil}
+use native.Mathlib.Omega.{arith}
+use lib.ListN.{length, take, drop, length-append, length-drop, take-append-drop}
+use lib.Seq.{length-take-le, take-all, take-at, drop-at, take-add, drop-drop, take-append-add, drop-append-add}
+use Rattle.block.specs.Below.{AreBytes}
+use Rattle.block.specs.Words.{words, unwords}
+use Rattle.block.specs.Xor.{xors}
+use Rattle.block.proofs.Entries.{below-drop}
+use Rattle.block.proofs.Xors.{length-xors}
+use Rattle.block.proofs.WordsBack.{unwords-front}
+use Rattle.cipher.specs.Sm4.{decryptWords, decryptBlock}
+use Rattle.cipher.proofs.Blocks.{length-decryptBlock}
+use Rattle.stream.specs.Walk.{chain}
+use Rattle.stream.proofs.Chain.{chain-rest, chain-block, chain-length}
+use Rattle.stream.proofs.Loop.{tailed, tail-is}
+use Rattle.cbc.specs.Cbc.{cbcDecrypt}
+use Rattle.cbc.proofs.InWords.{decrypted-front}
+
+-- what `chain-length` and `undo` are to be told: states of sixteen bytes, messages of full blocks
+abbrev pub Sixteen : List ℕ → Type 0
+Sixteen s = length s ≡ 16
+
+abbrev pub Whole : List ℕ → Type 0
+Whole d = length d % 16 ≡ 0
+
+pub whole-front : (d : List ℕ) → 16 ≤ length d → Whole (take 16 d)
+whole-front d h = rw (length-take-le 16 d h)
+
+pub whole-back : (d : List ℕ) → Whole d → 16 ≤ length d → Whole (drop 16 d)
+whole-back d w h = rw length-drop (omega arith)
+
+pub whole-short : (d : List ℕ) → Whole d → length d < 16 → 0 ≡ length d
+whole-short d w h = omega arith
+
+pub decrypt-block : (rk s c : List ℕ) → length s ≡ 16 → length (cbcDecrypt rk .block s c) ≡ 16
+decrypt-block rk s c h = let n = length-decryptBlock rk c in length-xors (decryptBlock rk c) s (omega arith) ∙ n
+
+-- as many bytes come out as go in
+pub length-decrypt : (rk s d : List ℕ) → length s ≡ 16 → length d % 16 ≡ 0 → length (chain (cbcDecrypt rk) s d) ≡ length d
+length-decrypt rk s d hs h = chain-length Sixteen Whole (cbcDecrypt rk) record {
+  front = λ d g n. whole-front d n;
+  back = λ d g n. whole-back d g n;
+  next = λ s b g k n. n;
+  block = λ s b g k n. decrypt-block rk s b g;
+  rest = λ s d g k n. whole-short d k n;
+} s d hs h
+
+-- n full blocks of d
+front-by : (rk : List ℕ) (n : ℕ) (s d : List ℕ) → length s ≡ 16 → 16 * n ≤ length d
+    → chain (cbcDecrypt rk) s (take (16 * n) d) ≡ take (16 * n) (chain (cbcDecrypt rk) s d)
+front-by rk zero s d hs h = chain-rest (cbcDecrypt rk) s [] (omega arith)
+front-by rk (suc n) s d hs h =
+    let m = cbcDecrypt rk in
+    let e : 16 * suc n ≡ 16 + 16 * n = omega arith in
+    let b = take 16 d in
+    let B : length b ≡ 16 = length-take-le 16 d (omega arith) in
+    let A = m .block s b in
+    let a : length A ≡ 16 = decrypt-block rk s b hs in
+    let F = take (16 * n) (drop 16 d) in
+    let l : length (b ++ F) ≡ 16 + length F = length-append b F ∙ rw B in
+    let i : chain m b F ≡ take (16 * n) (chain m b (drop 16 d)) = front-by rk n b (drop 16 d) B (rw length-drop (omega arith)) in
+    let x : chain m s (b ++ F) ≡ A ++ chain m b F = chain-block m s (b ++ F) (omega arith) ∙ rw (take-at b F 16 B, drop-at b F 16 B) in
+    let y : take (16 + 16 * n) (A ++ chain m b (drop 16 d)) ≡ A ++ take (16 * n) (chain m b (drop 16 d)) = rw a at (take-append-add A (chain m b (drop 16 d)) (16 * n)) in
+    rw (e, take-add 16 (16 * n) d, x, i, chain-block m s d (omega arith), y)
+
+pub decrypt-front : (rk s d : List ℕ) (f : ℕ) → length s ≡ 16 → f % 16 ≡ 0 → f ≤ length d → chain (cbcDecrypt rk) s (take f d) ≡ take f (chain (cbcDecrypt rk) s d)
+decrypt-front rk s d f hs hf hd =
+    let e : 16 * (f / 16) ≡ f = omega arith in
+    rw e at (front-by rk (f / 16) s d hs (omega arith))
+
+-- the last of n + 1 blocks
+last-by : (rk : List ℕ) (n : ℕ) (s d : List ℕ) → length s ≡ 16 → length d ≡ 16 * n + 16
+    → drop (16 * n) (chain (cbcDecrypt rk) s d) ≡ xors (decryptBlock rk (drop (16 * n) d)) (take 16 (drop (16 * n) (s ++ d)))
+last-by rk zero s d hs h =
+    let m = cbcDecrypt rk in
+    let z : length (drop 16 d) < 16 = rw length-drop (omega arith) in
+    rw (chain-block m s d (omega arith), chain-rest m (take 16 d) (drop 16 d) z, append-nil, take-all 16 d (omega arith), take-at s d 16 hs)
+last-by rk (suc n) s d hs h =
+    let m = cbcDecrypt rk in
+    let e : 16 * suc n ≡ 16 + 16 * n = omega arith in
+    let b = take 16 d in
+    let B : length b ≡ 16 = length-take-le 16 d (omega arith) in
+    let A = m .block s b in
+    let a : length A ≡ 16 = decrypt-block rk s b hs in
+    let C = chain m b (drop 16 d) in
+    let x : drop (16 + 16 * n) (A ++ C) ≡ drop (16 * n) C = rw a at (drop-append-add A C (16 * n)) in
+    let y : drop (16 + 16 * n) (s ++ d) ≡ drop (16 * n) d = rw hs at (drop-append-add s d (16 * n)) in
+    rw (e, chain-block m s d (omega arith), x, y, last-by rk n b (drop 16 d) B (rw length-drop (omega arith)), take-append-drop, drop-drop)
+
+pub decrypt-last : (rk s d : List ℕ) → length s ≡ 16 → 16 ≤ length d → length d % 16 ≡ 0
+    → drop (length d - 16) (chain (cbcDecrypt rk) s d) ≡ xors (decryptBlock rk (drop (length d - 16) d)) (take 16 (drop (length d - 16) (s ++ d)))
+decrypt-last rk s d hs h k =
+    let n = length d / 16 - 1 in
+    let e : 16 * n ≡ length d - 16 = omega arith in
+    rw e at (last-by rk n s d hs (omega arith))
+
+-- in the code's words: the block before the last, where there are two
+pub before-words : (s d r : List ℕ) → length s ≡ 16 → AreBytes d → 16 ≤ length d → length d % 16 ≡ 0 → (length d ≡ 16 → ⊥) → r ≡ words (tailed (length d - 32) d)
+    → unwords r ≡ take 16 (drop (length d - 16) (s ++ d))
+before-words s d r hs b h k n e =
+    let g : 32 ≤ length d = omega (arith, n) in
+    let f = length d - 32 in
+    let m : length d - 16 ≡ 16 + f = omega arith in
+    let l : 16 ≤ length (drop f d) = rw length-drop (omega arith) in
+    let x : drop (16 + f) (s ++ d) ≡ drop f d = rw hs at (drop-append-add s d f) in
+    rw (e, tail-is d f, m, x) (unwords-front (drop f d) l (below-drop 256 f d b))
+
+-- the last block
+pub last-words : (rk s d r : List ℕ) → length s ≡ 16 → AreBytes d → 16 ≤ length d → length d % 16 ≡ 0 → length r ≡ 4
+    → unwords r ≡ take 16 (drop (length d - 16) (s ++ d))
+    → unwords (xors (decryptWords rk (words (tailed (length d - 16) d))) r) ≡ drop (length d - 16) (chain (cbcDecrypt rk) s d)
+last-words rk s d r hs b h k four e =
+    let f = length d - 16 in
+    let l : length (drop f d) ≡ 16 = rw length-drop (omega arith) in
+    rw (tail-is d f)
+    (decrypted-front rk (drop f d) r (omega arith) (below-drop 256 f d b) four
+    ∙ rw (take-all 16 (drop f d) (omega arith), e) (sym (decrypt-last rk s d hs h k)))

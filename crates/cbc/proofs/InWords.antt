@@ -1,0 +1,29 @@
+-- A block of the message and a state in words, encrypted or decrypted, are their sixteen bytes encrypted or decrypted.
+-- Assumes nothing.
+use mathlib.Core.Path.{_≡_, ap, _∙_}
+use Prim.Native.Nat.{ℕ, _≤_}
+use mathlib.Core.List.{List}
+use native.Mathlib.Omega.{arith}
+use lib.ListN.{length, take}
+use Rattle.block.specs.Below.{AreBytes, AreWords}
+use Rattle.block.specs.Words.{words, unwords}
+use Rattle.block.specs.Xor.{xors}
+use Rattle.block.proofs.Xors.{length-xors, xors-below}
+use Rattle.block.proofs.WordsBack.{length-words, words-below, unwords-front, unwords-xors}
+use Rattle.cipher.specs.Sm4.{encryptWords, decryptWords, encryptBlock, decryptBlock}
+use Rattle.cipher.proofs.Bounds.{decrypt-four}
+use Rattle.cipher.proofs.Blocks.{encrypt-unwords, decrypt-unwords}
+use Rattle.stream.proofs.InWords.{front-xored}
+
+module _ (rk d s : List ℕ) (full : 16 ≤ length d) (d-bytes : AreBytes d) (four : length s ≡ 4) where
+  pub encrypted-front : AreWords s → unwords (encryptWords rk (xors (words d) s)) ≡ encryptBlock rk (xors (take 16 d) (unwords s))
+  encrypted-front s-words =
+      let n = length-words d in
+      let x = xors (words d) s in
+      encrypt-unwords rk x (length-xors (words d) s (omega arith) ∙ n) (xors-below 32 (words d) s (words-below d d-bytes) s-words)
+      ∙ ap (encryptBlock rk) (front-xored d s full d-bytes four)
+
+  pub decrypted-front : unwords (xors (decryptWords rk (words d)) s) ≡ xors (decryptBlock rk (take 16 d)) (unwords s)
+  decrypted-front =
+      unwords-xors (decryptWords rk (words d)) s (decrypt-four rk (words d)) four
+      ∙ rw (decrypt-unwords rk (words d) (length-words d) (words-below d d-bytes), unwords-front d full d-bytes)

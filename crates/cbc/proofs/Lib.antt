@@ -1,0 +1,6 @@
+pub mod InWords
+pub mod Blocks
+pub mod Padding
+pub mod Unpadded
+pub mod Opens
+pub mod RoundTrip

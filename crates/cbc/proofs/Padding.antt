@@ -1,0 +1,36 @@
+-- The padding: it fills the last block, wherever full blocks were cut off before.
+-- Assumes nothing.
+use mathlib.Core.Path.{_≡_, _∙_}
+use Prim.Native.Nat.{ℕ, zero, suc, _+_, _*_, _-_, _/_, _%_, _≤_, _<_}
+use mathlib.Core.List.{List, _++_}
+use native.Mathlib.Omega.{arith}
+use lib.ListN.{length, take, drop, replicate, length-append, length-drop, length-replicate}
+use lib.Seq.{take-length, take-append-le, drop-append-le}
+use Rattle.stream.proofs.Loop.{tailed, tail-is}
+use Rattle.cbc.specs.Cbc.{padding, padded}
+
+pub length-padded : (d : List ℕ) → length (padded d) ≡ 16 * (length d / 16 + 1)
+length-padded d = length-append d (padding (length d)) ∙ rw (length-replicate (16 - length d % 16) (16 - length d % 16)) (omega arith)
+
+drop-replicate : (n k v : ℕ) → drop n (replicate k v) ≡ replicate (k - n) v
+drop-replicate zero k v = let e : k - 0 ≡ k = omega arith in rw e
+drop-replicate (suc n) zero v = let e : 0 - suc n ≡ 0 = omega arith in rw e
+drop-replicate (suc n) (suc k) v = let e : suc k - suc n ≡ k - n = omega arith in rw e (drop-replicate n k v)
+
+-- sixteen times the count, with the message over its front
+pub pad-filled : (d b : List ℕ) (i : ℕ) → length d < 16 → b ≡ take i d ++ drop i (replicate 16 (16 - length d)) → i ≡ length d → b ≡ padded d
+pad-filled d b i h e n =
+    let k : length d % 16 ≡ length d = omega arith in
+    e ∙ rw (n, take-length, drop-replicate (length d) 16 (16 - length d), k)
+
+-- a full block of the message is one of the padded message
+pub block-padded : (d : List ℕ) (at : ℕ) → at + 16 ≤ length d → take 16 (tailed at d) ≡ take 16 (drop at (padded d))
+block-padded d at h =
+    let n : 16 ≤ length (drop at d) = rw length-drop (omega arith) in
+    rw (tail-is d at, drop-append-le at d (padding (length d)) (omega arith), take-append-le 16 (drop at d) (padding (length d)) n)
+
+-- the last block of the padded message is the padded rest
+pub rest-padded : (d : List ℕ) (at : ℕ) → at ≤ length d → at % 16 ≡ 0 → length d < at + 16 → take 16 (padded (tailed at d)) ≡ take 16 (drop at (padded d))
+rest-padded d at h m l =
+    let n : length (drop at d) % 16 ≡ length d % 16 = rw length-drop (omega arith) in
+    rw (tail-is d at, drop-append-le at d (padding (length d)) h, n)

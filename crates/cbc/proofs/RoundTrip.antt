@@ -1,0 +1,89 @@
+-- What Cbc seals, Cbc opens, for any round keys; and what sealing gives: full blocks, of bytes.
+-- Assumes nothing.
+use mathlib.Core.Path.{_≡_, refl, ap, _∙_}
+use Prim.Native.Nat.{ℕ, _+_, _*_, _-_, _/_, _%_, _≤_, _<_}
+use mathlib.Core.List.{List, [], _∷_}
+use native.Mathlib.Omega.{arith}
+use lib.ListN.{length, take}
+use lib.Seq.{take-append-seam}
+use Rattle.block.specs.Below.{AreBytes}
+use Rattle.block.specs.Xor.{xors}
+use Rattle.block.proofs.Entries.{below-take, below-drop, below-append, below-replicate}
+use Rattle.block.proofs.Xors.{length-xors, xors-cancel, xors-below}
+use Rattle.cipher.proofs.Blocks.{length-encryptBlock, encryptBlock-bytes, block-decrypt-encrypt}
+use Rattle.stream.specs.Walk.{chain, over}
+use Rattle.stream.proofs.Chain.{chain-length, chain-bytes}
+use Rattle.stream.proofs.Undo.{Undoes, undo}
+use Rattle.cbc.specs.Cbc.{padding, padded, cbcEncrypt, cbcDecrypt, cbcSeal}
+use Rattle.cbc.specs.Open.{opening, cbcOpen, unpadded}
+use Rattle.cbc.specs.declared.Opened.the-variants.{Done}
+use Rattle.cbc.proofs.Blocks.{Sixteen, Whole, whole-front, whole-back, whole-short}
+use Rattle.cbc.proofs.Padding.{length-padded}
+use Rattle.cbc.proofs.Unpadded.{padded-unpadded}
+
+abbrev Any : List ℕ → Type 0
+Any s = Unit {0}
+
+pub padded-bytes : (d : List ℕ) → AreBytes d → AreBytes (padded d)
+padded-bytes d h = below-append 256 d (padding (length d)) h (below-replicate 256 (16 - length d % 16) (16 - length d % 16) (omega arith))
+
+padded-whole : (d : List ℕ) → Whole (padded d)
+padded-whole d = omega (arith, length-padded d)
+
+pub length-cbcSeal : (rk iv d : List ℕ) → length (cbcSeal rk iv d) ≡ 16 * (length d / 16 + 1)
+unfolding cbcSeal
+length-cbcSeal rk iv d =
+    chain-length Any Whole (cbcEncrypt rk) record {
+      front = λ d h n. whole-front d n;
+      back = λ d h n. whole-back d h n;
+      next = λ s b hs hb n. tt;
+      block = λ s b hs hb n. length-encryptBlock rk (xors b s);
+      rest = λ s d hs hd n. whole-short d hd n;
+    } iv (padded d) tt (padded-whole d)
+    ∙ length-padded d
+
+pub cbcSeal-bytes : (rk iv d : List ℕ) → AreBytes d → AreBytes (cbcSeal rk iv d)
+unfolding cbcSeal
+cbcSeal-bytes rk iv d h =
+    chain-bytes Any (cbcEncrypt rk) (λ s b hs hb. tt) (λ s b hs hb. encryptBlock-bytes rk (xors b s)) (λ s d hs hd. tt) iv (padded d) tt (padded-bytes d h)
+
+-- a state, and a message of full blocks, of bytes
+abbrev State : List ℕ → Type 0
+State s = Sixteen s × AreBytes s
+
+abbrev Text : List ℕ → Type 0
+Text d = Whole d × AreBytes d
+
+empty : (d : List ℕ) → Whole d → length d < 16 → [] ≡ d
+empty [] w h = refl
+empty (x ∷ d) w h = absurd (omega arith)
+
+cbc-undoes : (rk : List ℕ) → Undoes State Text (cbcDecrypt rk) (cbcEncrypt rk)
+cbc-undoes rk = record {
+  keeps = record {
+    front = λ d h n. (whole-front d n, below-take 256 16 d (h .1));
+    back = λ d h n. (whole-back d (h .0) n, below-drop 256 16 d (h .1));
+    next = λ s b hs hb n. (length-encryptBlock rk (xors b s), encryptBlock-bytes rk (xors b s));
+    block = λ s b hs hb n. length-encryptBlock rk (xors b s);
+    rest = λ s d hs hd n. whole-short d (hd .0) n;
+  };
+  block = λ s b hs hb n.
+      let l : length b ≤ length s = omega arith in
+      rw (block-decrypt-encrypt rk (xors b s) (length-xors b s l ∙ n) (xors-below 8 b s (hb .1) (hs .1))) (xors-cancel b s l);
+  next = λ s b hs hb n. refl;
+  rest = λ s d hs hd n. empty d (hd .0) n;
+}
+
+module _ (rk iv d : List ℕ) (sixteen : length iv ≡ 16) (iv-bytes : AreBytes iv) (d-bytes : AreBytes d) where
+  pub cbc-decrypted : chain (cbcDecrypt rk) iv (cbcSeal rk iv d) ≡ padded d
+  unfolding cbcSeal
+  cbc-decrypted = undo State Text (cbcDecrypt rk) (cbcEncrypt rk) (cbc-undoes rk) iv (padded d) (sixteen, iv-bytes) (padded-whole d, padded-bytes d d-bytes)
+
+  -- the message comes back, and no byte past it is written
+  pub cbc-back : (o : List ℕ) → cbcOpen rk iv (cbcSeal rk iv d) o ≡ record { answer = Done (length d); output = over d o }
+  unfolding cbcOpen opening
+  cbc-back o =
+      let e : take (length d) (padded d) ≡ d = take-append-seam d (padding (length d)) in
+      ap (λ (p : List ℕ). opening (unpadded p) p o) cbc-decrypted
+      ∙ ap (λ x. opening x (padded d) o) (padded-unpadded d)
+      ∙ ap (λ (p : List ℕ). record { answer = Done (length d); output = over p o }) e

@@ -1,0 +1,91 @@
+use mathlib.Core.Path.{_≡_, refl, _∙_}
+use Prim.Native.Nat.{_+_, _≤_, _-_, _%_}
+use native.Mathlib.Omega.{arith}
+use denote.Ref.{now}
+use lib.ListN.{length, take, drop}
+use Rattle.block.specs.Words.{unwords}
+use Rattle.block.specs.Xor.{xors}
+use Rattle.cipher.proofs.Blocks.{length-encryptBlock}
+use Rattle.stream.specs.Walk.{over}
+use Rattle.stream.proofs.Loop.{tailed, onward, turn, nothing-left}
+use Rattle.cbc.specs.Cbc.{padded, cbcEncrypt, cbcSeal}
+use Rattle.cbc.proofs.Padding.{length-padded, block-padded, rest-padded}
+use borrow.Author.Needs.{needs}
+use Rattle.cbc.proofs.encrypt.Statement.{statement}
+use Rattle.cbc.proofs.encrypt.Tie as tie
+
+abbrev Inv-loop : tie.InvT-loop
+Inv-loop t rk d out₀ s₀ at₀ out s at =
+    (at ≤ length d) × (length out ≡ length out₀) × (at % 16 ≡ 0)
+    × (onward (cbcEncrypt rk) (unwords s) (padded d) out at ≡ over (cbcSeal rk (unwords s₀) d) out₀)
+
+abbrev μ-loop : tie.MeasureT-loop
+μ-loop t rk d out₀ s₀ at₀ out s at = length d - at
+
+loop-holds : tie.Need-loop-holds Inv-loop μ-loop
+unfolding cbcSeal
+loop-holds c = (omega arith, refl, refl, refl)
+
+loop-again : tie.Need-loop-again Inv-loop μ-loop
+loop-again c =
+    let r = c .before .before in
+    let l = r .before .before .before .before in
+    let a = l .before .before .before .args in
+    let d = now (a .«data») in
+    let s = unwords (l .loop .s) in
+    let at = l .loop .at in
+    let b = take 16 (tailed at d) in (
+      omega arith,
+      omega arith,
+      omega arith,
+      turn (cbcEncrypt (a .rk)) s _ (padded d) (l .loop .out) (r .encrypt-step .last .1 .1 .1 .1 .0) b at (omega (arith, length-padded d)) (omega arith) (block-padded d at (omega arith))
+          (length-encryptBlock (a .rk) (xors b s)) (r .encrypt-step .ensures .0) (r .encrypt-step .ensures .1)
+          ∙ l .loop .inv .3,
+    )
+
+returns : tie.Need-returns Inv-loop μ-loop
+returns c =
+    let r = c .before .before in
+    let p = r .before .before .before in
+    let l = p .before .before .before in
+    let a = l .before .before .before .args in
+    let d = now (a .«data») in
+    let m = cbcEncrypt (a .rk) in
+    let s = unwords (l .loop .s) in
+    let at = l .loop .at in
+    let b = take 16 (p .pad .result) in
+    let e : b ≡ take 16 (drop at (padded d)) = rw (p .pad .ensures) (rest-padded d at (omega arith) (omega arith) (omega arith)) in
+    nothing-left m (unwords (r .encrypt-step2 .result)) (padded d) _ (at + 16) (omega (arith, length-padded d)) refl
+    ∙ turn m s _ (padded d) (l .loop .out) (r .encrypt-step2 .last .1 .1 .1 .1 .0) b at (omega (arith, length-padded d)) (omega arith) e
+    (length-encryptBlock (a .rk) (xors b s)) (r .encrypt-step2 .ensures .0) (r .encrypt-step2 .ensures .1)
+    ∙ l .loop .inv .3
+
+pub encrypt-spec : {M : Type 1} → statement M
+encrypt-spec =
+    tie.close
+    (tie.spec
+    Inv-loop
+    μ-loop
+    loop-holds
+    (λ c. omega arith)
+    (λ c. omega arith)
+    (λ c. omega arith)
+    (λ c. omega arith)
+    (λ c. omega arith)
+    (λ c. omega arith)
+    (λ c. omega arith)
+    (λ c κs. search needs)
+    (λ c. omega arith)
+    (λ c. omega arith)
+    loop-again
+    (λ c. omega arith)
+    (λ c. omega arith)
+    (λ c. omega arith)
+    (λ c κs. search needs)
+    (λ c. omega arith)
+    (λ c. omega arith)
+    (λ c. omega arith)
+    (λ c. omega arith)
+    (λ c κs. search needs)
+    (λ c. omega arith)
+    returns)

@@ -1,0 +1,158 @@
+// Cbc with padding: `cbc_encrypt` and `cbc_decrypt` of libsm's `cipher_mode.rs`.
+ghost use mathlib.Core.Path.{_≡_};
+ghost use mathlib.Core.List.{_++_};
+ghost use Prim.Native.Nat.{_+_, _-_, _*_, _/_, _%_, _<_, _≤_};
+ghost use lib.ListN.{length, take, drop};
+ghost use Rattle.block.specs.Words.{unwords};
+ghost use Rattle.cipher.specs.Sm4.{sboxTable};
+ghost use Rattle.stream.specs.Walk.{chain, over};
+ghost use Rattle.cbc.specs.Cbc.{padded, cbcEncrypt, cbcDecrypt, cbcSeal};
+ghost use Rattle.cbc.specs.Open.{unpadded, cbcOpen};
+
+// A rest shorter than a block, with its padding.
+fn pad(rest: &[u8]) -> [u8; 16]
+    requires { ⌜ length (now rest) < 16 ⌝ }
+    ensures { λ r. ⌜ r ≡ padded (now (rest .entry)) ⌝ }
+{
+    let mut last = [(16 - rest.len()) as u8; 16];
+    let mut i: usize = 0;
+    while i < rest.len() {
+        last[i] = rest[i];
+        i += 1;
+    }
+    last
+}
+
+// The block at the front of `data`, encrypted to the front of `out`. Returns the next state, the ciphertext block.
+fn encrypt_step(t: &[u8; 256], rk: [u32; 32], s: [u32; 4], data: &[u8], out: &mut [u8]) -> [u32; 4]
+    requires { ⌜ now t ≡ sboxTable ⌝ }
+    requires { ⌜ 16 ≤ length (now «data») ⌝ }
+    requires { ⌜ 16 ≤ length (now out) ⌝ }
+    ensures { λ r. ⌜ unwords r ≡ cbcEncrypt rk .next (unwords s) (take 16 (now («data» .entry))) ⌝ }
+    ensures { λ _. ⌜ now (out .exit) ≡ cbcEncrypt rk .block (unwords s) (take 16 (now («data» .entry))) ++ drop 16 (now (out .entry)) ⌝ }
+{
+    let e = cipher::encrypt(t, rk, block::block_xor(block::split_block(data), s));
+    block::put_block(e, out);
+    e
+}
+
+// The whole message `data` with its padding, encrypted to the front of `out`.
+pub fn encrypt(t: &[u8; 256], rk: [u32; 32], iv: [u32; 4], data: &[u8], out: &mut [u8])
+    requires { ⌜ now t ≡ sboxTable ⌝ }
+    requires { ⌜ 16 * (length (now «data») / 16 + 1) ≤ length (now out) ⌝ }
+    ensures { λ _. ⌜ now (out .exit) ≡ over (cbcSeal rk (unwords iv) (now («data» .entry))) (now (out .entry)) ⌝ }
+{
+    let mut s = iv;
+    let mut at: usize = 0;
+    while 16 <= data.len() - at {
+        let next = encrypt_step(t, rk, s, &data[at..], &mut out[at..]);
+        s = next;
+        at += 16;
+    }
+    let last = pad(&data[at..]);
+    encrypt_step(t, rk, s, &last, &mut out[at..]);
+}
+
+// What opening answers: the length of the message, or that the last byte names no padding.
+pub enum Opened {
+    Done(usize),
+    InvalidLastU8,
+}
+
+// The decision over the padding: how much of the last decrypted block belongs to the message. Its last byte alone is read.
+fn unpad(last: [u8; 16]) -> Opened
+    ensures { λ r. ⌜ r ≡ unpadded last ⌝ }
+{
+    let b = last[15];
+    match b {
+        1..=16 => Opened::Done(16 - b as usize),
+        _ => Opened::InvalidLastU8,
+    }
+}
+
+// The block at the front of `data`, decrypted to the front of `out`. Returns the next state, the ciphertext block.
+fn decrypt_step(t: &[u8; 256], rk: [u32; 32], s: [u32; 4], data: &[u8], out: &mut [u8]) -> [u32; 4]
+    requires { ⌜ now t ≡ sboxTable ⌝ }
+    requires { ⌜ 16 ≤ length (now «data») ⌝ }
+    requires { ⌜ 16 ≤ length (now out) ⌝ }
+    ensures { λ r. ⌜ unwords r ≡ cbcDecrypt rk .next (unwords s) (take 16 (now («data» .entry))) ⌝ }
+    ensures { λ _. ⌜ now (out .exit) ≡ cbcDecrypt rk .block (unwords s) (take 16 (now («data» .entry))) ++ drop 16 (now (out .entry)) ⌝ }
+{
+    let c = block::split_block(data);
+    block::put_block(block::block_xor(cipher::decrypt(t, rk, c), s), out);
+    c
+}
+
+// The full blocks of `data`, decrypted to the front of `out`.
+fn decrypt_blocks(t: &[u8; 256], rk: [u32; 32], iv: [u32; 4], data: &[u8], out: &mut [u8])
+    requires { ⌜ now t ≡ sboxTable ⌝ }
+    requires { ⌜ length (now «data») ≤ length (now out) ⌝ }
+    ensures { λ _. ⌜ now (out .exit) ≡ over (chain (cbcDecrypt rk) (unwords iv) (now («data» .entry))) (now (out .entry)) ⌝ }
+{
+    let mut s = iv;
+    let mut at: usize = 0;
+    while 16 <= data.len() - at {
+        let next = decrypt_step(t, rk, s, &data[at..], &mut out[at..]);
+        s = next;
+        at += 16;
+    }
+}
+
+// The block before the last one, which is the IV where there is one only.
+fn before_last(iv: [u32; 4], data: &[u8]) -> [u32; 4]
+    requires { ⌜ 16 ≤ length (now «data») ⌝ }
+    requires { ⌜ length (now «data») % 16 ≡ 0 ⌝ }
+    ensures { λ r. ⌜ unwords r ≡ take 16 (drop (length (now («data» .entry)) - 16) (unwords iv ++ now («data» .entry))) ⌝ }
+{
+    let n = data.len();
+    if n == 16 {
+        return iv;
+    }
+    let at = n - 32;
+    block::split_block(&data[at..])
+}
+
+// The last block of `data`, decrypted.
+fn last_block(t: &[u8; 256], rk: [u32; 32], iv: [u32; 4], data: &[u8]) -> [u8; 16]
+    requires { ⌜ now t ≡ sboxTable ⌝ }
+    requires { ⌜ 16 ≤ length (now «data») ⌝ }
+    requires { ⌜ length (now «data») % 16 ≡ 0 ⌝ }
+    ensures { λ r. ⌜ r ≡ drop (length (now («data» .entry)) - 16) (chain (cbcDecrypt rk) (unwords iv) (now («data» .entry))) ⌝ }
+{
+    let at = data.len() - 16;
+    let p = cipher::decrypt(t, rk, block::split_block(&data[at..]));
+    block::combine_block(block::block_xor(p, before_last(iv, data)))
+}
+
+// The first `n` bytes of a block, to the front of `out`.
+fn put_front(b: [u8; 16], n: usize, out: &mut [u8])
+    requires { ⌜ n ≤ 16 ⌝ }
+    requires { ⌜ n ≤ length (now out) ⌝ }
+    ensures { λ _. ⌜ now (out .exit) ≡ take n b ++ drop n (now (out .entry)) ⌝ }
+{
+    let mut i: usize = 0;
+    while i < n {
+        out[i] = b[i];
+        i += 1;
+    }
+}
+
+// Opens `data` into the front of `out`. The padding is settled before a byte is written, and its bytes are not written.
+pub fn decrypt(t: &[u8; 256], rk: [u32; 32], iv: [u32; 4], data: &[u8], out: &mut [u8]) -> Opened
+    requires { ⌜ now t ≡ sboxTable ⌝ }
+    requires { ⌜ 16 ≤ length (now «data») ⌝ }
+    requires { ⌜ length (now «data») % 16 ≡ 0 ⌝ }
+    requires { ⌜ length (now «data») ≤ length (now out) ⌝ }
+    ensures { λ r. ⌜ r ≡ cbcOpen rk (unwords iv) (now («data» .entry)) (now (out .entry)) .answer ⌝ }
+    ensures { λ _. ⌜ now (out .exit) ≡ cbcOpen rk (unwords iv) (now («data» .entry)) (now (out .entry)) .output ⌝ }
+{
+    let last = last_block(t, rk, iv, data);
+    let opened = unpad(last);
+    let Opened::Done(keep) = opened else {
+        return Opened::InvalidLastU8;
+    };
+    let at = data.len() - 16;
+    decrypt_blocks(t, rk, iv, &data[0..at], out);
+    put_front(last, keep, &mut out[at..]);
+    Opened::Done(at + keep)
+}
