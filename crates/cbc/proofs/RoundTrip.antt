@@ -12,7 +12,7 @@ use Rattle.block.proofs.Entries.{below-take, below-drop, below-append, below-re
 use Rattle.block.proofs.Xors.{length-xors, xors-cancel, xors-below}
 use Rattle.cipher.proofs.Blocks.{length-encryptBlock, encryptBlock-bytes, block-decrypt-encrypt}
 use Rattle.stream.specs.Walk.{chain, over}
-use Rattle.stream.proofs.Chain.{chain-length, chain-bytes}
+use Rattle.stream.proofs.Chain.{Any, chain-length, chain-bytes}
 use Rattle.stream.proofs.Undo.{Undoes, undo}
 use Rattle.cbc.specs.Cbc.{padding, padded, cbcEncrypt, cbcDecrypt, cbcSeal}
 use Rattle.cbc.specs.Open.{opening, cbcOpen, unpadded}
@@ -20,9 +20,6 @@ use Rattle.cbc.specs.declared.Opened.the-variants.{Done}
 use Rattle.cbc.proofs.Blocks.{Sixteen, Whole, whole-front, whole-back, whole-short}
 use Rattle.cbc.proofs.Padding.{length-padded}
 use Rattle.cbc.proofs.Unpadded.{padded-unpadded}
-
-abbrev Any : List ℕ → Type 0
-Any s = Unit {0}
 
 pub padded-bytes : (d : List ℕ) → AreBytes d → AreBytes (padded d)
 padded-bytes d h = below-append 256 d (padding (length d)) h (below-replicate 256 (16 - length d % 16) (16 - length d % 16) (omega arith))

@@ -21,6 +21,10 @@ chain-block m s d h =
     let e : length d / 16 ≡ suc (length (drop 16 d) / 16) = rw length-drop (omega arith) in
     rw e
 
+-- every state, or every message
+abbrev pub Any : List ℕ → Type 0
+Any s = Unit {0}
+
 -- what it takes for a mode to give as many bytes as it gets, in the states and on the messages that are meant
 pub record Keeps (State Text : List ℕ → Type 0) (m : Mode) : Type 0 where
   pub front : (d : List ℕ) → Text d → 16 ≤ length d → Text (take 16 d)

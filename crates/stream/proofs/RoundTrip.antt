@@ -14,12 +14,8 @@ use Rattle.stream.specs.Walk.{chain}
 use Rattle.stream.specs.Stream.{stateAfter, streamMode, opener}
 use Rattle.stream.specs.declared.Kind.{Kind}
 use Rattle.stream.specs.declared.Kind.the-variants.{CfbEncrypt, CfbDecrypt, Ofb, Ctr, Gctr}
-use Rattle.stream.proofs.Chain.{Keeps, chain-length, chain-bytes}
+use Rattle.stream.proofs.Chain.{Any, Keeps, chain-length, chain-bytes}
 use Rattle.stream.proofs.Undo.{Undoes, undo}
-
--- every state and every message
-abbrev Any : List ℕ → Type 0
-Any s = Unit {0}
 
 -- a message of at most a block is covered by the cipher's output
 covered : (rk s d : List ℕ) → length d ≤ 16 → length d ≤ length (encryptBlock rk s)

@@ -1,5 +1,6 @@
 -- The five modes that xor a message with the cipher of a state: Cfb (its segments are whole blocks), Ofb and Ctr of
--- SP 800-38A, and GCTR of SP 800-38D. A short rest is xored with the front of the cipher's output.
+-- SP 800-38A, and GCTR of SP 800-38D. A short rest is xored with the front of the cipher's output; SP 800-38A leaves Cfb
+-- open there, and libsm does it so.
 use Prim.Native.Nat.{ℕ}
 use mathlib.Core.List.{List}
 use Rattle.block.specs.Xor.{xors}
