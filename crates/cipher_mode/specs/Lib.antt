@@ -1,0 +1,4 @@
+pub mod Outcome
+pub mod Key
+pub mod Tables
+pub mod Calls
