@@ -1,0 +1,24 @@
+-- `label` meets its contract: an edition's two bytes are the last two of its four. Assumes nothing.
+use Rattle.block.specs.BigEndian.{bytesOf}
+use Rattle.label.specs.Label.{labelOf}
+use borrow.Author.Needs.{needs}
+use Rattle.label.proofs.label.Statement.{statement}
+use Rattle.label.proofs.label.Tie as tie
+
+returns : tie.Need-returns
+unfolding labelOf bytesOf
+returns c = rw (c .before .split .ensures, c .split2 .ensures)
+
+pub label-spec : {M : Type 1} → statement M
+label-spec =
+    tie.close
+    (tie.spec
+    (λ c κs. search needs)
+    (λ c κs. search needs)
+    (λ c. search needs)
+    (λ c. search needs)
+    (λ c. search needs)
+    (λ c. search needs)
+    (λ c. search needs)
+    (λ c. search needs)
+    returns)

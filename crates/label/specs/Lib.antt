@@ -1,0 +1,9 @@
+pub mod Ascii
+pub mod Text
+pub mod Label
+pub mod Decimal
+pub mod Hex
+pub mod Key
+pub mod Words
+pub mod Line
+pub mod Status

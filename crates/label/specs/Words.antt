@@ -1,0 +1,52 @@
+-- The words that a person can type: commands, modes, options.
+use Prim.Native.Nat.{ℕ}
+use mathlib.Core.Bool.{Bool, false, not, _&&_}
+use mathlib.Core.List.{List}
+use lib.Dec.{leb, eqb}
+use lib.ListN.{length, getD}
+use Rattle.label.specs.Ascii.{bytes}
+use Rattle.label.specs.Text.{pick, alike}
+use Rattle.label.specs.declared.words.Command.{Command}
+use Rattle.label.specs.declared.words.Command.the-variants.{Seal, Open, Opens, Encrypt, Decrypt, Unknown}
+use Rattle.label.specs.declared.words.ModeName.{ModeName}
+use Rattle.label.specs.declared.words.ModeName.the-variants.{Cfb, Ofb, Ctr, Cbc, Unknown as NoMode}
+
+unfoldable pub commandOf : List ℕ → Command
+commandOf w =
+    pick (alike w (bytes "seal")) Seal
+    (pick (alike w (bytes "open")) Open
+    (pick (alike w (bytes "opens")) Opens
+    (pick (alike w (bytes "encrypt")) Encrypt
+    (pick (alike w (bytes "decrypt")) Decrypt
+    Unknown))))
+
+unfoldable pub modeOf : List ℕ → ModeName
+modeOf w =
+    pick (alike w (bytes "cfb")) Cfb
+    (pick (alike w (bytes "ofb")) Ofb
+    (pick (alike w (bytes "ctr")) Ctr
+    (pick (alike w (bytes "cbc")) Cbc
+    NoMode)))
+
+-- what a line says, by number: 0 the mode, 1 the key, 2 the IV, 3 the job, 4 the edition, 5 IN, 6 OUT
+unfoldable pub optionOf : List ℕ → ℕ
+optionOf w =
+    pick (alike w (bytes "--mode")) 0
+    (pick (alike w (bytes "--key")) 1
+    (pick (alike w (bytes "--iv")) 2
+    (pick (alike w (bytes "--job")) 3
+    (pick (alike w (bytes "--edition")) 4
+    7))))
+
+-- an option begins with a dash; a dash alone is a file
+abbrev pub isOption : List ℕ → Bool
+isOption w = leb 2 (length w) && eqb (getD w 0 0) 45
+
+-- whether a command wants a thing to be said: of a job's edition all but the mode, in the other modes all but job and edition
+abbrev pub wantsOf : Command → ℕ → Bool
+wantsOf Seal k = not (eqb k 0)
+wantsOf Open k = not (eqb k 0)
+wantsOf Opens k = not (eqb k 0) && not (eqb k 6)
+wantsOf Encrypt k = not (eqb k 3) && not (eqb k 4)
+wantsOf Decrypt k = not (eqb k 3) && not (eqb k 4)
+wantsOf Unknown k = false

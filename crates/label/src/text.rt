@@ -1,0 +1,20 @@
+// Comparing words.
+ghost use mathlib.Core.Path.{_≡_};
+ghost use Rattle.label.specs.Text.{alike};
+
+// Whether two words are the same.
+pub fn same(a: &[u8], b: &[u8]) -> bool
+    ensures { λ r. ⌜ r ≡ alike (now (a .entry)) (now (b .entry)) ⌝ }
+{
+    if a.len() != b.len() {
+        return false;
+    }
+    let mut i = 0;
+    while i < a.len() {
+        if a[i] != b[i] {
+            return false;
+        }
+        i += 1;
+    }
+    true
+}
