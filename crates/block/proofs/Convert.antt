@@ -68,6 +68,10 @@ bytesOf-numberOf (b ∷ bs) h =
 pub numberOf-same : (a b : List ℕ) → length a ≡ length b → AreBytes a → AreBytes b → numberOf a ≡ numberOf b → a ≡ b
 numberOf-same a b n ha hb e = sym (bytesOf-numberOf a ha) ∙ ap₂ bytesOf n e ∙ bytesOf-numberOf b hb
 
+-- a number that they have room for is told by its bytes
+pub bytesOf-same : (n x y : ℕ) → x < 256 ^ n → y < 256 ^ n → bytesOf n x ≡ bytesOf n y → x ≡ y
+bytesOf-same n x y hx hy e = sym (numberOf-bytesOf n x ∙ mod-eq-of-lt hx) ∙ ap numberOf e ∙ (numberOf-bytesOf n y ∙ mod-eq-of-lt hy)
+
 pub numberOf-append : (a b : List ℕ) → numberOf (a ++ b) ≡ numberOf a * 256 ^ length b + numberOf b
 unfolding numberOf
 numberOf-append [] b = omega arith

@@ -2,4 +2,6 @@ pub mod Same
 pub mod TagTest
 pub mod Parts
 pub mod RoundTrip
+pub mod TagTells
+pub mod HashKey
 pub mod InWords

@@ -1,10 +1,10 @@
--- The lengths of text, tag and sealed message, and the two parts of what was sealed.
+-- The lengths of text, tag and sealed message, and the two parts of a message and of what was sealed.
 -- Assumes nothing.
-use mathlib.Core.Path.{_≡_, ap, ap₂, _∙_}
+use mathlib.Core.Path.{_≡_, ap₂, _∙_}
 use mathlib.Core.List.{List, _++_}
-use Prim.Native.Nat.{ℕ, _+_, _-_, _≤_}
+use Prim.Native.Nat.{ℕ, _+_, _-_}
 use native.Mathlib.Omega.{arith}
-use lib.ListN.{length, take, drop, length-append}
+use lib.ListN.{length, length-append}
 use lib.Seq.{take-at, drop-at}
 use Rattle.block.specs.BigEndian.{bytesOf}
 use Rattle.block.proofs.Convert.{length-bytesOf}
@@ -28,6 +28,17 @@ length-tag rk h j label text =
     let m = length-bytesOf 16 (ghash h (authBlocks label text)) in
     length-xors (encryptBlock rk j) (bytesOf 16 (ghash h (authBlocks label text))) (omega arith) ∙ n
 
+-- the two parts of a message made of a ciphertext and a tag
+module _ (c t : List ℕ) (n : length t ≡ 16) where
+  seam : length c ≡ length (c ++ t) - 16
+  seam = omega (arith, length-append c t)
+
+  pub parts-text : textPart (c ++ t) ≡ c
+  parts-text = take-at c t (length (c ++ t) - 16) seam
+
+  pub parts-tag : tagPart (c ++ t) ≡ t
+  parts-tag = drop-at c t (length (c ++ t) - 16) seam
+
 module _ (rk : List ℕ) (h : ℕ) (j label d : List ℕ) where
   pub length-sealed : length (sealed rk h j label d) ≡ length d + 16
   unfolding sealed
@@ -35,14 +46,10 @@ module _ (rk : List ℕ) (h : ℕ) (j label d : List ℕ) where
       length-append (textOf rk j d) (tagOf rk h j label (textOf rk j d))
       ∙ ap₂ _+_ (length-text rk j d) (length-tag rk h j label (textOf rk j d))
 
-  -- where the text ends
-  cut : length (textOf rk j d) ≡ length (sealed rk h j label d) - 16
-  cut = omega (arith, length-sealed, length-text rk j d)
-
   pub sealed-text : textPart (sealed rk h j label d) ≡ textOf rk j d
   unfolding sealed
-  sealed-text = take-at (textOf rk j d) (tagOf rk h j label (textOf rk j d)) _ cut
+  sealed-text = parts-text (textOf rk j d) (tagOf rk h j label (textOf rk j d)) (length-tag rk h j label (textOf rk j d))
 
   pub sealed-tag : tagPart (sealed rk h j label d) ≡ tagOf rk h j label (textOf rk j d)
   unfolding sealed
-  sealed-tag = drop-at (textOf rk j d) (tagOf rk h j label (textOf rk j d)) _ cut
+  sealed-tag = parts-tag (textOf rk j d) (tagOf rk h j label (textOf rk j d)) (length-tag rk h j label (textOf rk j d))
