@@ -1,0 +1,6 @@
+pub mod Passes
+pub mod ModesBack
+pub mod ThereAndBack
+pub mod OtherHash
+pub mod OneBlockRefused
+pub mod ZeroKey

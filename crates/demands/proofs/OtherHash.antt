@@ -1,0 +1,87 @@
+-- In Gcm, where a message opens, the same tag is refused as 4 for a label and a ciphertext with another hash. J0 stays shut.
+-- Assumes nothing.
+use mathlib.Core.Path.{_≡_, refl, ap}
+use mathlib.Core.Logic.{_≢_}
+use mathlib.Core.Bool.{Bool, true, false, _||_}
+use mathlib.Core.List.{List, _++_}
+use Prim.Native.Nat.{ℕ, _+_, _-_, _≤_}
+use native.Mathlib.Omega.{arith}
+use lib.Dec.{ltb}
+use lib.ListN.{length}
+use borrow.Author.Tests.{ltb-false, le-ltb, not-false}
+use Rattle.ghash.specs.Ghash.{ghash, authBlocks}
+use Rattle.gcm.specs.Gcm.{hashKey, firstCounter, opensUnder}
+use Rattle.gcm.proofs.TagTells.{opens-not}
+use Rattle.gcm.proofs.HashKey.{hashKey-lt}
+use Rattle.cipher_mode.specs.declared.Answer.the-variants.{InvalidTag}
+use Rattle.cipher_mode.specs.declared.CipherMode.the-variants.{Gcm}
+use Rattle.cipher_mode.specs.declared.KeyAnswer.the-variants.{Key}
+use Rattle.cipher_mode.specs.declared.Sm4CipherMode.{Sm4CipherMode}
+use Rattle.cipher_mode.specs.Outcome.{Outcome, outcome}
+use Rattle.cipher_mode.specs.Tables.{limit}
+use Rattle.cipher_mode.specs.Calls.{badPadding, badTag, decryptCall}
+use Rattle.demands.specs.Call.{RefusedAs}
+use Rattle.demands.proofs.Passes.{DecryptSized, decrypt-passes, decrypt-refuses}
+
+-- the lengths that Gcm takes: of the label, of the data and of the output
+pub record Lengths (aad d o : List ℕ) : Type 0 where
+  pub label : length aad ≤ limit
+  pub longest : length d ≤ limit + 16
+  pub shortest : 16 ≤ length d
+  pub room : length d - 16 ≤ length o
+
+first : (a b : Bool) → (a || b) ≡ false → a ≡ false
+first true b e = e
+first false b e = refl
+
+second : (a b : Bool) → (a || b) ≡ false → b ≡ false
+second true b e = let z : _≡_ {A = ℕ} 0 1 = cc in absurd (omega arith)
+second false b e = e
+
+module _ (m : Sm4CipherMode) (gcm : m .mode ≡ Gcm) where
+  -- what opening tells of the lengths, and of the tag
+  pub gcm-lengths : (aad d iv o : List ℕ) → decryptCall m aad d iv o .head .number ≡ 0 → Lengths aad d o
+  gcm-lengths aad d iv o e =
+      let z = decrypt-passes m aad d iv o e .sized in
+      let w : (ltb limit (length aad) || ltb (limit + 16) (length d)) ≡ false = rw gcm at (z .within) in
+      record {
+        label = ltb-false limit (length aad) (first (ltb limit (length aad)) _ w);
+        longest = ltb-false (limit + 16) (length d) (second (ltb limit (length aad)) _ w);
+        shortest = ltb-false (length d) 16 (rw gcm at (z .whole));
+        room = rw gcm at (z .room);
+      }
+
+  pub gcm-opens : (aad d iv o : List ℕ) → decryptCall m aad d iv o .head .number ≡ 0
+      → opensUnder (m .cipher .rk) (hashKey (m .cipher .rk)) (firstCounter (hashKey (m .cipher .rk)) iv) aad d ≡ true
+  unfolding badTag
+  gcm-opens aad d iv o e = not-false _ (rw gcm at (decrypt-passes m aad d iv o e .tag))
+
+  pub gcm-sized : (aad d iv o : List ℕ) → m .cipher .answer ≡ Key → length iv ≡ 16 → Lengths aad d o → DecryptSized m aad d iv o
+  gcm-sized aad d iv o k n l =
+      record {
+        key = k;
+        sixteen = n;
+        within = rw (gcm, le-ltb limit (length aad) (l .label)) (le-ltb (limit + 16) (length d) (l .longest));
+        whole = rw gcm (le-ltb (length d) 16 (l .shortest));
+        room = rw gcm (l .room);
+      }
+
+  no-padding : (iv d : List ℕ) → badPadding (m .mode) (m .cipher .rk) iv d ≡ false
+  unfolding badPadding
+  no-padding iv d = rw gcm
+
+  refused : (o : List ℕ) (x : Outcome) → x ≡ outcome InvalidTag o → RefusedAs 4 o x
+  refused o x e =
+      record { number = ap (λ (y : Outcome). y .head .number) e; size = ap (λ (y : Outcome). y .head .size) e; bytes = ap (λ (y : Outcome). y .bytes) e }
+
+  pub other-hash-refused : (a₁ a₂ c₁ c₂ t iv o₁ o₂ : List ℕ) → length t ≡ 16
+      → ghash (hashKey (m .cipher .rk)) (authBlocks a₁ c₁) ≢ ghash (hashKey (m .cipher .rk)) (authBlocks a₂ c₂)
+      → Lengths a₂ (c₂ ++ t) o₂ → decryptCall m a₁ (c₁ ++ t) iv o₁ .head .number ≡ 0 → RefusedAs 4 o₂ (decryptCall m a₂ (c₂ ++ t) iv o₂)
+  unfolding badTag
+  other-hash-refused a₁ a₂ c₁ c₂ t iv o₁ o₂ n ne l e =
+      let rk = m .cipher .rk in
+      let h = hashKey rk in
+      let z = decrypt-passes m a₁ (c₁ ++ t) iv o₁ e .sized in
+      refused o₂ _
+      (decrypt-refuses m a₂ (c₂ ++ t) iv o₂ (gcm-sized a₂ (c₂ ++ t) iv o₂ (z .key) (z .sixteen) l) (no-padding iv (c₂ ++ t))
+      (rw (gcm, opens-not rk h (hashKey-lt rk) (firstCounter h iv) a₁ c₁ a₂ c₂ t n ne (gcm-opens a₁ (c₁ ++ t) iv o₁ e))))

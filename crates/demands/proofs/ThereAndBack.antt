@@ -1,0 +1,76 @@
+-- Demand 2, there and back: what a call did, its counterpart takes back.
+-- Assumes nothing.
+use mathlib.Core.Path.{_≡_, ap, _∙_}
+use mathlib.Core.Logic.{_≢_}
+use mathlib.Core.List.{List}
+use Prim.Native.Nat.{ℕ}
+use lib.ListN.{length}
+use Rattle.block.specs.Below.{AreBytes}
+use Rattle.cipher.specs.Sm4.{encryptBlock, decryptBlock}
+use Rattle.cipher.proofs.Blocks.{length-encryptBlock, length-decryptBlock, block-decrypt-encrypt, block-encrypt-decrypt}
+use Rattle.cipher_mode.specs.declared.CipherMode.the-variants.{Cbc}
+use Rattle.cipher_mode.specs.declared.Sm4Cipher.{Sm4Cipher}
+use Rattle.cipher_mode.specs.declared.Sm4CipherMode.{Sm4CipherMode}
+use Rattle.cipher_mode.specs.Outcome.{Outcome, done}
+use Rattle.cipher_mode.specs.Tables.{encryptRoom, decryptRoom}
+use Rattle.cipher_mode.specs.Calls.{blockCall, encrypted, encryptCall, decrypted, decryptCall}
+use Rattle.demands.specs.Call.{single, result}
+use Rattle.demands.specs.ThereAndBack.{Returns, ThereAndBack}
+use Rattle.demands.proofs.Passes.{result-of-done, block-passes, block-leaves, encrypt-passes, encrypt-leaves, decrypt-passes, decrypt-leaves}
+use Rattle.demands.proofs.ModesBack.{back, forth}
+
+returns : (d o : List ℕ) (x : Outcome) → x ≡ done d o → Returns d x
+returns d o x e =
+    record {
+      number = ap (λ (y : Outcome). y .head .number) e;
+      size = ap (λ (y : Outcome). y .head .size) e;
+      message = ap result e ∙ result-of-done d o;
+    }
+
+-- If encryption answers 0, decryption of its result under the same key, IV and label, given room, answers 0 with the
+-- message and its length: in all five modes.
+pub decryption-takes-back : (m : Sm4CipherMode) → ThereAndBack (decryptRoom (m .mode)) (encryptCall m) (decryptCall m)
+decryption-takes-back m label d iv o o′ db ib e r =
+    let p = encrypt-passes m label d iv o e in
+    let c = encrypted (m .mode) (m .cipher .rk) iv label d in
+    let x : encryptCall m label d iv o ≡ done c o = encrypt-leaves m label d iv o p in
+    let k = back (m .cipher .rk) iv label d (p .sixteen) ib db (m .mode) (p .within) in
+    let y : decryptCall m label c iv o′ ≡ done (decrypted (m .mode) (m .cipher .rk) iv c) o′ =
+    decrypt-leaves m label c iv o′
+    (record {
+      sized = record { key = p .key; sixteen = p .sixteen; within = k .within; whole = k .whole; room = rw x at r };
+      padding = k .padding;
+      tag = k .tag;
+    }) in
+    returns d o′ _ (ap (λ (s : List ℕ). decryptCall m label s iv o′) (ap result x ∙ result-of-done c o) ∙ y ∙ ap (λ (s : List ℕ). done s o′) (k .text))
+
+-- Outside Cbc, if decryption answers 0, encryption of its result under the same key, IV and label, given room, answers 0
+-- with the same bytes.
+pub encryption-takes-back : (m : Sm4CipherMode) → m .mode ≢ Cbc → ThereAndBack (encryptRoom (m .mode)) (decryptCall m) (encryptCall m)
+encryption-takes-back m n label c iv o o′ cb ib e r =
+    let p = decrypt-passes m label c iv o e in
+    let d = decrypted (m .mode) (m .cipher .rk) iv c in
+    let x : decryptCall m label c iv o ≡ done d o = decrypt-leaves m label c iv o p in
+    let k = forth (m .cipher .rk) iv label c (m .mode) n (p .sized .within) (p .tag) in
+    let y : encryptCall m label d iv o′ ≡ done (encrypted (m .mode) (m .cipher .rk) iv label d) o′ =
+    encrypt-leaves m label d iv o′ (record { key = p .sized .key; sixteen = p .sized .sixteen; within = k .within; room = rw x at r }) in
+    returns c o′ _ (ap (λ (s : List ℕ). encryptCall m label s iv o′) (ap result x ∙ result-of-done d o) ∙ y ∙ ap (λ (s : List ℕ). done s o′) (k .text))
+
+-- a single block, by two ciphers of which the second undoes the first
+block-back : (f g : List ℕ → List ℕ → List ℕ) → ((rk s : List ℕ) → length (f rk s) ≡ 16) → ((rk s : List ℕ) → length (g rk s) ≡ 16)
+    → ((rk s : List ℕ) → length s ≡ 16 → AreBytes s → g rk (f rk s) ≡ s)
+    → (c : Sm4Cipher) → ThereAndBack (λ n. 16) (single (blockCall f c)) (single (blockCall g c))
+block-back f g lf lg undo c label b iv o o′ bb ib e r =
+    let p = block-passes f c b o e in
+    let a = f (c .rk) b in
+    let x : blockCall f c b o ≡ done a o = block-leaves f c b o p (lf (c .rk) b) in
+    let y : blockCall g c a o′ ≡ done (g (c .rk) a) o′ = block-leaves g c a o′ (record { key = p .key; sixteen = lf (c .rk) b; room = r }) (lg (c .rk) a) in
+    returns b o′ _
+    (ap (λ (s : List ℕ). blockCall g c s o′) (ap result x ∙ result-of-done a o) ∙ y ∙ ap (λ (s : List ℕ). done s o′) (undo (c .rk) b (p .sixteen) bb))
+
+-- The same of a single block: decryption takes back encryption, and encryption takes back decryption.
+pub block-decryption-takes-back : (c : Sm4Cipher) → ThereAndBack (λ n. 16) (single (blockCall encryptBlock c)) (single (blockCall decryptBlock c))
+block-decryption-takes-back = block-back encryptBlock decryptBlock length-encryptBlock length-decryptBlock block-decrypt-encrypt
+
+pub block-encryption-takes-back : (c : Sm4Cipher) → ThereAndBack (λ n. 16) (single (blockCall decryptBlock c)) (single (blockCall encryptBlock c))
+block-encryption-takes-back = block-back decryptBlock encryptBlock length-decryptBlock length-encryptBlock block-encrypt-decrypt

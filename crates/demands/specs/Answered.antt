@@ -1,0 +1,33 @@
+-- Demand 1 as a property of an outcome: what a caller may count on, refused or done.
+use mathlib.Core.Path.{_≡_}
+use mathlib.Core.Logic.{_≢_}
+use mathlib.Core.List.{List}
+use Prim.Native.Nat.{ℕ, _-_, _≤_}
+use lib.ListN.{length, drop}
+use Rattle.cbc.specs.Open.{lastByte}
+use Rattle.cipher_mode.specs.declared.CipherMode.{CipherMode}
+use Rattle.cipher_mode.specs.declared.CipherMode.the-variants.{Cfb, Ofb, Ctr, Cbc, Gcm}
+use Rattle.cipher_mode.specs.Outcome.{Outcome}
+use Rattle.cipher_mode.specs.Calls.{cbcText}
+
+-- x is an answer to a call whose output was lent as o, where document 01's table gives the length n
+pub record Answered (o : List ℕ) (n : ℕ) (x : Outcome) : Type 0 where
+  -- the number is one of document 01's
+  pub numbered : x .head .number ≤ 7
+  -- every refusal reports length 0 and changes no byte of the output
+  pub refused : x .head .number ≢ 0 → (x .head .size ≡ 0) × (x .bytes ≡ o)
+  -- every success reports the table's length, which the output has room for
+  pub reported : x .head .number ≡ 0 → x .head .size ≡ n
+  pub fits : x .head .size ≤ length o
+  -- after a success the bytes past that length are the ones lent
+  pub past : x .head .number ≡ 0 → drop (x .head .size) (x .bytes) ≡ drop (x .head .size) o
+  -- the output is as long as it was
+  pub kept : length (x .bytes) ≡ length o
+
+-- document 01's table for decryption: the length on success, which in Cbc is less by the last decrypted byte
+abbrev pub decryptLength : CipherMode → List ℕ → List ℕ → List ℕ → ℕ
+decryptLength Cfb rk iv d = length d
+decryptLength Ofb rk iv d = length d
+decryptLength Ctr rk iv d = length d
+decryptLength Cbc rk iv d = length d - lastByte (cbcText rk iv d)
+decryptLength Gcm rk iv d = length d - 16

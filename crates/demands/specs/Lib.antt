@@ -1,0 +1,4 @@
+pub mod Call
+pub mod Answered
+pub mod ThereAndBack
+pub mod OneBlockRefused

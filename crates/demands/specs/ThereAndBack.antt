@@ -1,0 +1,23 @@
+-- Demand 2 as a property of any two calls: the second takes back what the first did.
+use mathlib.Core.Path.{_≡_}
+use mathlib.Core.List.{List}
+use Prim.Native.Nat.{ℕ, _≤_}
+use lib.ListN.{length}
+use Rattle.block.specs.Below.{AreBytes}
+use Rattle.cipher_mode.specs.Outcome.{Outcome}
+use Rattle.demands.specs.Call.{Call, result}
+
+-- the call answered 0, with the message d and its length
+pub record Returns (d : List ℕ) (x : Outcome) : Type 0 where
+  pub number : x .head .number ≡ 0
+  pub size : x .head .size ≡ length d
+  pub message : result x ≡ d
+
+-- whenever `there` answers 0, `back`, given its result, the same label and IV, and an output o′ with room for that many
+-- bytes, answers 0 with the data that `there` was given
+abbrev pub ThereAndBack : (ℕ → ℕ) → Call → Call → Type 0
+ThereAndBack room there back =
+    (label d iv o o′ : List ℕ) → AreBytes d → AreBytes iv
+    → there label d iv o .head .number ≡ 0
+    → room (there label d iv o .head .size) ≤ length o′
+    → Returns d (back label (result (there label d iv o)) iv o′)

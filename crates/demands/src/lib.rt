@@ -1,0 +1,1 @@
+// No code: the demands, as theorems over the definitions of the public calls.
