@@ -4,3 +4,5 @@ pub mod ThereAndBack
 pub mod OtherHash
 pub mod OneBlockRefused
 pub mod ZeroKey
+pub mod TrailingZero
+pub mod OtherEdition

@@ -14,7 +14,7 @@ use Rattle.cipher_mode.specs.declared.Sm4CipherMode.{Sm4CipherMode}
 use Rattle.cipher_mode.specs.Calls.{decryptCall}
 use Rattle.demands.specs.Call.{RefusedAs}
 use Rattle.demands.specs.OneBlockRefused.{MovesZero, OneBlockRefused}
-use Rattle.demands.proofs.OtherHash.{Lengths, gcm-lengths, other-hash-refused}
+use Rattle.demands.proofs.OtherHash.{hash-key-nonzero, Lengths, gcm-lengths, other-hash-refused}
 
 -- a list of another label and ciphertext of the same lengths passes where the first does
 same-lengths : (a₁ a₂ c₁ c₂ t o₁ o₂ : List ℕ) → length a₁ ≡ length a₂ → length c₁ ≡ length c₂ → length o₁ ≡ length o₂
@@ -37,19 +37,16 @@ one-block-refused m gcm moves a₁ a₂ c₁ c₂ t iv o₁ o₂ ba₁ ba₂ bc�
     rk : List ℕ
     rk = m .cipher .rk
 
-    nonzero : hashKey rk ≢ 0
-    nonzero z = moves (hashKey-tells rk z)
-
     in-the-text : (a₁ ≡ a₂) × OneBlock c₁ c₂ → RefusedAs 4 o₂ (decryptCall m a₂ (c₂ ++ t) iv o₂)
     in-the-text (e, o) =
         other-hash-refused m gcm a₁ a₂ c₁ c₂ t iv o₁ o₂ n
-        (rw (← e) (text-changed (hashKey rk) (hashKey-lt rk) nonzero a₁ c₁ c₂ bc₁ bc₂ o))
+        (rw (← e) (text-changed (hashKey rk) (hashKey-lt rk) (hash-key-nonzero rk moves) a₁ c₁ c₂ bc₁ bc₂ o))
         (same-lengths a₁ a₂ c₁ c₂ t o₁ o₂ (ap length e) (o .lengths) eo (gcm-lengths m gcm a₁ (c₁ ++ t) iv o₁ opens))
         opens
 
     in-the-label : (c₁ ≡ c₂) × OneBlock a₁ a₂ → RefusedAs 4 o₂ (decryptCall m a₂ (c₂ ++ t) iv o₂)
     in-the-label (e, o) =
         other-hash-refused m gcm a₁ a₂ c₁ c₂ t iv o₁ o₂ n
-        (rw (← e) (label-changed (hashKey rk) (hashKey-lt rk) nonzero a₁ a₂ c₁ ba₁ ba₂ o))
+        (rw (← e) (label-changed (hashKey rk) (hashKey-lt rk) (hash-key-nonzero rk moves) a₁ a₂ c₁ ba₁ ba₂ o))
         (same-lengths a₁ a₂ c₁ c₂ t o₁ o₂ (o .lengths) (ap length e) eo (gcm-lengths m gcm a₁ (c₁ ++ t) iv o₁ opens))
         opens

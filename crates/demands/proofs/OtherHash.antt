@@ -1,18 +1,18 @@
 -- In Gcm, where a message opens, the same tag is refused as 4 for a label and a ciphertext with another hash. J0 stays shut.
 -- Assumes nothing.
-use mathlib.Core.Path.{_≡_, refl, ap}
+use mathlib.Core.Path.{_≡_, refl, ap, _∙_}
 use mathlib.Core.Logic.{_≢_}
 use mathlib.Core.Bool.{Bool, true, false, _||_}
 use mathlib.Core.List.{List, _++_}
 use Prim.Native.Nat.{ℕ, _+_, _-_, _≤_}
 use native.Mathlib.Omega.{arith}
 use lib.Dec.{ltb}
-use lib.ListN.{length}
+use lib.ListN.{length, length-drop, take-append-drop}
 use borrow.Author.Tests.{ltb-false, le-ltb, not-false}
 use Rattle.ghash.specs.Ghash.{ghash, authBlocks}
-use Rattle.gcm.specs.Gcm.{hashKey, firstCounter, opensUnder}
+use Rattle.gcm.specs.Gcm.{hashKey, firstCounter, textPart, tagPart, opensUnder}
 use Rattle.gcm.proofs.TagTells.{opens-not}
-use Rattle.gcm.proofs.HashKey.{hashKey-lt}
+use Rattle.gcm.proofs.HashKey.{hashKey-lt, hashKey-tells}
 use Rattle.cipher_mode.specs.declared.Answer.the-variants.{InvalidTag}
 use Rattle.cipher_mode.specs.declared.CipherMode.the-variants.{Gcm}
 use Rattle.cipher_mode.specs.declared.KeyAnswer.the-variants.{Key}
@@ -21,7 +21,11 @@ use Rattle.cipher_mode.specs.Outcome.{Outcome, outcome}
 use Rattle.cipher_mode.specs.Tables.{limit}
 use Rattle.cipher_mode.specs.Calls.{badPadding, badTag, decryptCall}
 use Rattle.demands.specs.Call.{RefusedAs}
+use Rattle.demands.specs.OneBlockRefused.{MovesZero}
 use Rattle.demands.proofs.Passes.{DecryptSized, decrypt-passes, decrypt-refuses}
+
+pub hash-key-nonzero : (rk : List ℕ) → MovesZero rk → hashKey rk ≢ 0
+hash-key-nonzero rk moves z = moves (hashKey-tells rk z)
 
 -- the lengths that Gcm takes: of the label, of the data and of the output
 pub record Lengths (aad d o : List ℕ) : Type 0 where
@@ -85,3 +89,15 @@ module _ (m : Sm4CipherMode) (gcm : m .mode ≡ Gcm) where
       refused o₂ _
       (decrypt-refuses m a₂ (c₂ ++ t) iv o₂ (gcm-sized a₂ (c₂ ++ t) iv o₂ (z .key) (z .sixteen) l) (no-padding iv (c₂ ++ t))
       (rw (gcm, opens-not rk h (hashKey-lt rk) (firstCounter h iv) a₁ c₁ a₂ c₂ t n ne (gcm-opens a₁ (c₁ ++ t) iv o₁ e))))
+
+  -- the same of a whole message, where only the label is another
+  pub other-label-refused : (a₁ a₂ s iv o₁ o₂ : List ℕ) → length a₂ ≤ limit → length o₁ ≡ length o₂
+      → ghash (hashKey (m .cipher .rk)) (authBlocks a₁ (textPart s)) ≢ ghash (hashKey (m .cipher .rk)) (authBlocks a₂ (textPart s))
+      → decryptCall m a₁ s iv o₁ .head .number ≡ 0 → RefusedAs 4 o₂ (decryptCall m a₂ s iv o₂)
+  other-label-refused a₁ a₂ s iv o₁ o₂ la eo ne e =
+      let l = gcm-lengths a₁ s iv o₁ e in
+      let whole : textPart s ++ tagPart s ≡ s = take-append-drop (length s - 16) s in
+      let n : length (tagPart s) ≡ 16 = length-drop (length s - 16) s ∙ omega (arith, l .shortest) in
+      let lengths : Lengths a₂ s o₂ = record { label = la; longest = l .longest; shortest = l .shortest; room = rw eo at (l .room) } in
+      rw whole at
+      (other-hash-refused a₁ a₂ (textPart s) (textPart s) (tagPart s) iv o₁ o₂ n ne (rw whole lengths) (ap (λ (x : List ℕ). decryptCall m a₁ x iv o₁ .head .number) whole ∙ e))

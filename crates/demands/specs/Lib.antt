@@ -2,3 +2,5 @@ pub mod Call
 pub mod Answered
 pub mod ThereAndBack
 pub mod OneBlockRefused
+pub mod TrailingZero
+pub mod OtherEdition

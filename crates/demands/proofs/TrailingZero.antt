@@ -1,0 +1,43 @@
+-- A trailing zero cannot be dropped unseen, of the label or of the ciphertext: the length block tells.
+-- Assumes nothing.
+use mathlib.Core.Path.{_≡_, _∙_}
+use mathlib.Core.List.{List, [], _∷_, _++_}
+use Prim.Native.Nat.{ℕ, _+_, _-_, _%_, _≤_}
+use native.Mathlib.Omega.{arith}
+use lib.ListN.{length, length-append}
+use lib.Seq.{length-take-le}
+use Rattle.ghash.proofs.Changed.{label-zero, text-zero}
+use Rattle.gcm.specs.Gcm.{hashKey, textPart}
+use Rattle.gcm.proofs.HashKey.{hashKey-lt}
+use Rattle.cipher_mode.specs.declared.CipherMode.the-variants.{Gcm}
+use Rattle.cipher_mode.specs.declared.Sm4CipherMode.{Sm4CipherMode}
+use Rattle.cipher_mode.specs.Calls.{decryptCall}
+use Rattle.demands.specs.OneBlockRefused.{MovesZero}
+use Rattle.demands.specs.TrailingZero.{LabelZeroRefused, TextZeroRefused}
+use Rattle.demands.proofs.OtherHash.{hash-key-nonzero, gcm-lengths, other-hash-refused, other-label-refused}
+
+-- Under a key that does not encrypt the all-zero block to itself: a file that opens in Gcm under a label whose length does not
+-- divide by 16 is refused as 4 under that label with one zero byte more.
+pub label-zero-refused : (m : Sm4CipherMode) → m .mode ≡ Gcm → MovesZero (m .cipher .rk) → LabelZeroRefused (decryptCall m)
+label-zero-refused m gcm moves a file iv o₁ o₂ odd eo opens =
+    let rk = m .cipher .rk in
+    let l = gcm-lengths m gcm a file iv o₁ opens in
+    let longer : length (a ++ (0 ∷ [])) ≡ length a + 1 = length-append a (0 ∷ []) in
+    let text : length (textPart file) ≡ length file - 16 = length-take-le (length file - 16) file (omega arith) in
+    other-label-refused m gcm a (a ++ (0 ∷ [])) file iv o₁ o₂ (omega (arith, l .label)) eo
+    (label-zero (hashKey rk) (hashKey-lt rk) (hash-key-nonzero rk moves) a (textPart file) (omega (arith, l .label)) (omega (arith, l .longest)) odd)
+    opens
+
+-- And one that opens there and whose ciphertext's length does not divide by 16 is refused as 4 with one zero byte more between
+-- ciphertext and tag, given room.
+pub text-zero-refused : (m : Sm4CipherMode) → m .mode ≡ Gcm → MovesZero (m .cipher .rk) → TextZeroRefused (decryptCall m)
+text-zero-refused m gcm moves a c t iv o₁ o₂ n odd room opens =
+    let rk = m .cipher .rk in
+    let l = gcm-lengths m gcm a (c ++ t) iv o₁ opens in
+    let file : length (c ++ t) ≡ length c + length t = length-append c t in
+    let longer : length (c ++ (0 ∷ [])) ≡ length c + 1 = length-append c (0 ∷ []) in
+    let whole : length (c ++ (0 ∷ []) ++ t) ≡ length (c ++ (0 ∷ [])) + length t = length-append (c ++ (0 ∷ [])) t in
+    other-hash-refused m gcm a a c (c ++ (0 ∷ [])) t iv o₁ o₂ n
+    (text-zero (hashKey rk) (hashKey-lt rk) (hash-key-nonzero rk moves) a c (omega (arith, l .label)) (omega (arith, l .longest)) odd)
+    (record { label = l .label; longest = omega (arith, l .longest); shortest = omega arith; room = omega arith })
+    opens

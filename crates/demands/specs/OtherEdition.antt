@@ -1,0 +1,18 @@
+-- What the demands were for, as a property of any call that opens sealed messages.
+use mathlib.Core.Path.{_≡_}
+use mathlib.Core.Logic.{_≢_, _⊎_}
+use mathlib.Core.List.{List}
+use Prim.Native.Nat.{ℕ, _^_, _<_}
+use lib.ListN.{length}
+use Rattle.label.specs.Label.{labelOf}
+use Rattle.demands.specs.Call.{Call, RefusedAs}
+
+-- A file that opens under one job and edition is refused as 4 under another job or another edition, under the same IV and
+-- with as long an output. A job is a number of four bytes, an edition one of two.
+abbrev pub OtherEditionRefused : Call → Type 0
+OtherEditionRefused opening =
+    (job₁ job₂ edition₁ edition₂ : ℕ) (file iv o₁ o₂ : List ℕ)
+    → job₁ < 2 ^ 32 → job₂ < 2 ^ 32 → edition₁ < 2 ^ 16 → edition₂ < 2 ^ 16
+    → (job₁ ≢ job₂) ⊎ (edition₁ ≢ edition₂) → length o₁ ≡ length o₂
+    → opening (labelOf job₁ edition₁) file iv o₁ .head .number ≡ 0
+    → RefusedAs 4 o₂ (opening (labelOf job₂ edition₂) file iv o₂)
