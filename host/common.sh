@@ -1,0 +1,138 @@
+# Shared by the scripts of this folder; not run by itself. It finds the repository and the archive,
+# makes a temporary folder that is removed at the end, builds libsm and our Rust over it, and
+# compiles C for x86-64, on an x86-64 machine or on an Arm one.
+
+repository=$(cd "$(dirname "${BASH_SOURCE[0]}")/.." && pwd)
+rust="$repository/host/rust"
+c="$repository/host/c"
+
+die() {
+    echo "$(basename "$0"): $*" >&2
+    exit 2
+}
+
+# The comment at the top of a script is its help.
+help() {
+    sed -n '2,/^$/s/^# \{0,1\}//p' "$0"
+}
+
+# `work` is a folder for this run.
+make_work() {
+    work=$(mktemp -d -t luossavin.XXXXXX) || die "cannot make a temporary folder"
+    trap 'rm -rf "$work"' EXIT
+    trap 'exit 130' INT TERM
+}
+
+# install COMMAND-OR-FILE PACKAGE..: installs Debian's packages where the first word is not at hand.
+install() {
+    local wanted=$1
+    shift
+    if command -v "$wanted" >/dev/null || [ -e "$wanted" ]; then
+        return
+    fi
+    echo "installing $*" >&2
+    command -v apt-get >/dev/null || die "no $wanted, and no apt-get to install $* with"
+    apt-get install -y --no-install-recommends "$@" >"$work/apt.log" 2>&1 ||
+        { tail -5 "$work/apt.log" >&2; die "could not install $*: see above (root, and apt-get update, may be needed)"; }
+}
+
+# check_libsm FOLDER: that it is a folder of libsm with the four files that are built.
+check_libsm() {
+    local folder=$1 file missing=
+    [ -d "$folder" ] ||
+        die "no folder '$folder': name a folder of libsm at commit 6a5943c1d7, the one that has src/sm4 in it"
+    for file in cipher cipher_mode gcm error; do
+        [ -r "$folder/src/sm4/$file.rs" ] || missing="$missing src/sm4/$file.rs"
+    done
+    [ -z "$missing" ] || die "'$folder' is not a folder of libsm: it has no$missing"
+    command -v rustc >/dev/null || die "no rustc: the Rust is built with the installed one"
+    while read -r sum file; do
+        [ "$(without_tests "$folder/src/sm4/$file" | sha256sum | cut -d' ' -f1)" = "$sum" ] ||
+            echo "note: src/sm4/$file is not the text of commit 6a5943c1d7, so answers may be others" >&2
+    done <"$rust/libsm.sha256"
+}
+
+# The text of a Rust file down to its tests, without blank lines at its end.
+without_tests() {
+    sed '/^#\[cfg(test)\]/,$d' "$1" | sed -e :a -e '/^\n*$/{$d;N;ba' -e '}'
+}
+
+# build_libsm FOLDER: the four files, unchanged, with our mod lines, as $work/liblibsm.rlib.
+build_libsm() {
+    mkdir -p "$work/libsm/sm4"
+    cp "$rust/libsm.rs" "$work/libsm/libsm.rs"
+    cp "$1"/src/sm4/{cipher,cipher_mode,gcm,error}.rs "$work/libsm/sm4/"
+    build_rust --crate-type rlib --crate-name libsm --cap-lints allow \
+        "$work/libsm/libsm.rs" -o "$work/liblibsm.rlib"
+}
+
+# build_oracle FOLDER: the program that asks libsm, as $work/oracle.
+build_oracle() {
+    check_libsm "$1"
+    build_libsm "$1"
+    build_rust --crate-name oracle --extern libsm="$work/liblibsm.rlib" "$rust/main.rs" -o "$work/oracle"
+}
+
+build_rust() {
+    rustc --edition 2021 -O "$@" 2>"$work/rustc.log" || { cat "$work/rustc.log" >&2; die "rustc failed"; }
+}
+
+# archive: the static library, built where it is not there yet. LUOSSAVIN_ARCHIVE names another.
+find_archive() {
+    archive=${LUOSSAVIN_ARCHIVE:-$repository/target/staticlib/libluossavin.a}
+    if [ -z "${LUOSSAVIN_ARCHIVE:-}" ] && command -v rt >/dev/null; then
+        (cd "$repository" && rt staticlib luossavin >"$work/rt.log" 2>&1) ||
+            { tail -5 "$work/rt.log" >&2; die "rt staticlib luossavin failed"; }
+    fi
+    [ -r "$archive" ] || die "no archive at '$archive': run 'rt staticlib luossavin' first"
+}
+
+# The C compiler for x86-64, and what runs its programs.
+find_compiler() {
+    case $(uname -m) in
+    x86_64)
+        install gcc gcc libc6-dev
+        compiler=(gcc)
+        runner=()
+        ;;
+    aarch64)
+        install x86_64-linux-gnu-gcc gcc-x86-64-linux-gnu libc6-dev-amd64-cross
+        install qemu-x86_64 qemu-user
+        compiler=(x86_64-linux-gnu-gcc)
+        runner=(qemu-x86_64 -cpu qemu64)
+        ;;
+    *) die "the archive is for x86-64: this machine is $(uname -m)" ;;
+    esac
+}
+
+# The peers' headers and static libraries, for x86-64.
+find_peers() {
+    case $(uname -m) in
+    x86_64)
+        install /usr/include/gcrypt.h libgcrypt20-dev
+        install /usr/include/openssl/evp.h libssl-dev
+        peers=()
+        ;;
+    aarch64)
+        (
+            cd "$work"
+            dpkg --add-architecture amd64
+            apt-get update
+            apt-get download libgcrypt20-dev:amd64 libgpg-error-dev:amd64 libssl-dev:amd64
+            for package in ./*.deb; do dpkg -x "$package" peers; done
+        ) >"$work/apt.log" 2>&1 || { tail -5 "$work/apt.log" >&2; die "could not fetch the peers for x86-64"; }
+        peers=(-I"$work/peers/usr/include" -I"$work/peers/usr/include/x86_64-linux-gnu"
+            -L"$work/peers/usr/lib/x86_64-linux-gnu")
+        ;;
+    esac
+}
+
+# compile WORDS..: a static program for x86-64.
+compile() {
+    "${compiler[@]}" -std=c11 -O2 -Wall -Wextra -static -no-pie -I"$repository/include" -I"$c" "$@" \
+        2>"$work/cc.log" || { cat "$work/cc.log" >&2; die "the C compiler failed"; }
+}
+
+run() {
+    "${runner[@]}" "$@"
+}

@@ -1,0 +1,158 @@
+//! Fresh cases from a seed, in the differential domain: 16-byte key and IV, lengths within the
+//! limits, without the two inputs on which libsm panics.
+
+use crate::random::Random;
+use crate::record::{write_head, write_record};
+use crate::record::{Call, Direction, Mode, Name, DIRECTIONS, MODES};
+use crate::sealing::{cbc_unpadded, ctr_iv, gcm_iv, there_or_back};
+use std::io::{Result, Write};
+
+const FRESH: u8 = 12;
+const LONG: u8 = 13;
+
+/// The longest data to encrypt, and the longest label.
+const LIMIT: usize = 16_777_216;
+
+pub fn write_fresh(out: &mut impl Write, seed: u64, count: usize) -> Result<()> {
+    let mut random = Random::new(seed);
+    write_head(out, count)?;
+    for _ in 0..count {
+        let call = short(&mut random);
+        write_record(out, FRESH, &call, &call.answer())?;
+    }
+    Ok(())
+}
+
+/// Every mode and direction at the limit; one byte below it; and Gcm with the longest label.
+pub fn write_long(out: &mut impl Write, seed: u64) -> Result<()> {
+    let mut random = Random::new(seed);
+    write_head(out, 22)?;
+    for direction in DIRECTIONS {
+        for mode in MODES {
+            for text in [LIMIT, LIMIT - 1] {
+                long(out, &mut random, direction, mode, 0, text)?;
+            }
+        }
+        long(out, &mut random, direction, Mode::Gcm, LIMIT, 48)?;
+    }
+    Ok(())
+}
+
+fn long(
+    out: &mut impl Write,
+    random: &mut Random,
+    direction: Direction,
+    mode: Mode,
+    label: usize,
+    text: usize,
+) -> Result<()> {
+    let key = random.bytes(16);
+    let iv = iv_for(random, mode, &key);
+    let label = random.bytes(label);
+    let text = random.bytes(text);
+    let call = there_or_back(direction, mode, key, iv, label, text);
+    write_record(out, LONG, &call, &call.expect(Name::Ok))
+}
+
+fn short(random: &mut Random) -> Call {
+    let direction = DIRECTIONS[random.below(2)];
+    let key = key(random);
+    if random.chance(20) {
+        let data = random.bytes(16);
+        return Call {
+            direction,
+            mode: Mode::Block,
+            key,
+            iv: vec![],
+            label: vec![],
+            data,
+        };
+    }
+    let mode = MODES[random.below(5)];
+    let iv = iv_for(random, mode, &key);
+    let label = length(random);
+    let label = random.bytes(label);
+    let text = length(random);
+    let text = random.bytes(text);
+    let mut call = there_or_back(direction, mode, key, iv, label, text);
+    if direction == Direction::Decrypt && random.chance(3) {
+        match mode {
+            Mode::Gcm => damage(random, &mut call),
+            Mode::Cbc => spoil(random, &mut call),
+            _ => {}
+        }
+    }
+    call
+}
+
+/// Mostly a few blocks, and now and then some hundred bytes or some thousand.
+fn length(random: &mut Random) -> usize {
+    match random.below(20) {
+        0 => random.below(5000),
+        1 | 2 => (16 * random.below(40) + 17).saturating_sub(random.below(3)),
+        3..=6 => random.below(300),
+        _ => random.below(49),
+    }
+}
+
+fn key(random: &mut Random) -> Vec<u8> {
+    match random.below(50) {
+        0 => vec![0; 16],
+        1 => vec![0xff; 16],
+        _ => random.bytes(16),
+    }
+}
+
+/// A third of the IVs make the counter come round soon.
+fn iv_for(random: &mut Random, mode: Mode, key: &[u8]) -> Vec<u8> {
+    if !random.chance(3) {
+        return random.bytes(16);
+    }
+    if mode == Mode::Gcm {
+        let front = if random.chance(2) {
+            vec![0xff; 12]
+        } else {
+            random.bytes(12)
+        };
+        return gcm_iv(key, &front, random.below(6) as u32);
+    }
+    let width = 1 + random.below(16);
+    let before = random.below(6) as u8;
+    ctr_iv(random, width, before)
+}
+
+/// Changes one thing of a sealed message: a bit, a byte more or less, a part gone.
+fn damage(random: &mut Random, call: &mut Call) {
+    match random.below(6) {
+        0 => flip(random, &mut call.iv),
+        1 if !call.label.is_empty() => flip(random, &mut call.label),
+        2 => call.label.push(0),
+        3 if !call.label.is_empty() => {
+            call.label.pop();
+        }
+        4 if call.data.len() > 16 => {
+            let keep = 16 + random.below(call.data.len() - 16);
+            call.data.truncate(keep);
+        }
+        _ => flip(random, &mut call.data),
+    }
+}
+
+/// Gives a Cbc message a last block of its own, or a length that does not divide by 16.
+fn spoil(random: &mut Random, call: &mut Call) {
+    let length = call.data.len();
+    match random.below(4) {
+        0 => call.data.truncate(1 + random.below(length)),
+        1 => flip(random, &mut call.data),
+        _ => {
+            let mut text = random.bytes(length);
+            text[length - 1] = random.below(20) as u8;
+            call.data = cbc_unpadded(&call.key, &call.iv, &text);
+        }
+    }
+}
+
+fn flip(random: &mut Random, bytes: &mut [u8]) {
+    let bit = random.below(8 * bytes.len());
+    bytes[bit / 8] ^= 1 << (bit % 8);
+}
