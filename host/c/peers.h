@@ -1,0 +1,23 @@
+/* SM4 as Debian's libraries have it, behind one shape. Cbc is of whole blocks, without padding; in Gcm
+ * the tag stands after the ciphertext; a single block is one block of Ecb. */
+#ifndef PEERS_H
+#define PEERS_H
+
+#include "records.h"
+
+enum verdict { DONE, BAD_TAG, CANNOT };
+
+struct peer {
+    const char *name;
+    const char *(*version)(void);
+    /* Encrypts or decrypts data into out, which has room for 16 bytes more than data. */
+    enum verdict (*run)(int mode, int direction, const uint8_t *key, const uint8_t *iv,
+        struct field label, struct field data, uint8_t *out);
+};
+
+/* Gets the libraries ready; ends the program with a message where that fails. */
+void start_peers(void);
+
+extern const struct peer peers[2];
+
+#endif

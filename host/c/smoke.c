@@ -1,0 +1,140 @@
+/* The archive called from C: every mode there and back, each refusal once, and no byte written that
+ * is not part of a result. Prints what is wrong, and how much was checked; exit status 1 if anything is.
+ */
+#include "luossavin.h"
+
+#include <stdio.h>
+#include <string.h>
+
+enum { EDGE = 8, ROOM = 80, LENT = 0xa5 };
+
+static const char *const modes[] = {"Cfb", "Ofb", "Ctr", "Cbc", "Gcm"};
+static const uint8_t key[16] = {1, 2, 3, 4, 5, 6, 7, 8, 9, 10, 11, 12, 13, 14, 15, 16};
+static const uint8_t iv[17] = {16, 15, 14, 13, 12, 11, 10, 9, 8, 7, 6, 5, 4, 3, 2, 1, 0};
+static const uint8_t label[6] = {0, 0, 0, 7, 0, 2};
+
+static unsigned checked, wrong;
+
+static void check(int holds, const char *what, const char *where, size_t n)
+{
+    checked++;
+    if (!holds) {
+        wrong++;
+        printf("wrong: %s, %s, %zu bytes\n", what, where, n);
+    }
+}
+
+/* An output buffer with an edge on either side, all of it filled with one byte. */
+struct lent {
+    uint8_t bytes[EDGE + ROOM + EDGE];
+};
+
+static uint8_t *lend(struct lent *l)
+{
+    memset(l->bytes, LENT, sizeof l->bytes);
+    return l->bytes + EDGE;
+}
+
+/* Whether the buffer is as it was lent but for `length` bytes at its front. */
+static int untouched(const struct lent *l, size_t length)
+{
+    for (size_t i = 0; i < sizeof l->bytes; i++) {
+        if ((i < EDGE || i >= EDGE + length) && l->bytes[i] != LENT) {
+            return 0;
+        }
+    }
+    return 1;
+}
+
+static struct luossavin_answer encrypt(uint32_t mode, const uint8_t *data, size_t n, uint8_t *out, size_t room)
+{
+    return luossavin_encrypt(mode, key, 16, label, sizeof label, data, n, iv, 16, out, room);
+}
+
+static struct luossavin_answer decrypt(uint32_t mode, const uint8_t *data, size_t n, uint8_t *out, size_t room)
+{
+    return luossavin_decrypt(mode, key, 16, label, sizeof label, data, n, iv, 16, out, room);
+}
+
+static size_t sealed_length(uint32_t mode, size_t n)
+{
+    return mode == 3 ? n / 16 * 16 + 16 : mode == 4 ? n + 16 : n;
+}
+
+static void there_and_back(uint32_t mode, size_t n)
+{
+    uint8_t text[40];
+    struct lent sealed, opened;
+    uint8_t *there = lend(&sealed), *back = lend(&opened);
+    for (size_t i = 0; i < n; i++) {
+        text[i] = (uint8_t)(37 * i + n);
+    }
+    struct luossavin_answer a = encrypt(mode, n ? text : NULL, n, there, ROOM);
+    check(a.number == 0 && a.length == sealed_length(mode, n), "encryption is done", modes[mode], n);
+    check(untouched(&sealed, a.length), "encryption keeps to its length", modes[mode], n);
+    check(n < 16 || memcmp(there, text, n) != 0, "encryption changes the text", modes[mode], n);
+    a = decrypt(mode, there, a.length, back, ROOM);
+    check(a.number == 0 && a.length == n, "decryption is done", modes[mode], n);
+    check(untouched(&opened, a.length), "decryption keeps to its length", modes[mode], n);
+    check(memcmp(back, text, n) == 0, "the text comes back", modes[mode], n);
+}
+
+static void single_block(void)
+{
+    static const uint8_t example[16] = {0x01, 0x23, 0x45, 0x67, 0x89, 0xab, 0xcd, 0xef,
+        0xfe, 0xdc, 0xba, 0x98, 0x76, 0x54, 0x32, 0x10};
+    static const uint8_t result[16] = {0x68, 0x1e, 0xdf, 0x34, 0xd2, 0x06, 0x96, 0x5e,
+        0x86, 0xb3, 0xe9, 0x4f, 0x53, 0x6e, 0x42, 0x46};
+    struct lent one, two;
+    uint8_t *there = lend(&one), *back = lend(&two);
+    struct luossavin_answer a = luossavin_block_encrypt(example, 16, example, 16, there, ROOM);
+    check(a.number == 0 && a.length == 16 && untouched(&one, 16), "a block is encrypted", "block", 16);
+    check(memcmp(there, result, 16) == 0, "GB/T 32907's example 1", "block", 16);
+    a = luossavin_block_decrypt(example, 16, there, 16, back, ROOM);
+    check(a.number == 0 && a.length == 16 && untouched(&two, 16), "a block is decrypted", "block", 16);
+    check(memcmp(back, example, 16) == 0, "the block comes back", "block", 16);
+}
+
+static void refused(struct luossavin_answer a, const struct lent *l, uint32_t number, const char *what)
+{
+    check(a.number == number, what, "its number", number);
+    check(a.length == 0, what, "its length", a.length);
+    check(untouched(l, 0), what, "its output", 0);
+}
+
+static void refusals(void)
+{
+    static const uint8_t too_long[16777217];
+    uint8_t text[32] = {0}, sealed[64];
+    struct lent l;
+    uint8_t *out = lend(&l);
+    refused(luossavin_encrypt(0, key, 15, NULL, 0, text, 32, iv, 16, out, ROOM), &l, 1, "a short key");
+    refused(luossavin_decrypt(4, key, 16, NULL, 0, text, 32, iv, 17, out, ROOM), &l, 1, "a long IV");
+    refused(luossavin_block_encrypt(key, 16, text, 15, out, ROOM), &l, 1, "a short block");
+    refused(decrypt(3, text, 17, out, ROOM), &l, 2, "Cbc of 17 bytes");
+    refused(decrypt(3, NULL, 0, out, ROOM), &l, 2, "Cbc of nothing");
+    refused(decrypt(4, text, 15, out, ROOM), &l, 2, "Gcm of 15 bytes");
+    /* a last byte of 17 once decrypted: the text's own, with the padding block cut off */
+    text[31] = 17;
+    encrypt(3, text, 32, sealed, sizeof sealed);
+    refused(decrypt(3, sealed, 32, out, ROOM), &l, 3, "a last byte of 17");
+    encrypt(4, text, 32, sealed, sizeof sealed);
+    sealed[47] ^= 1;
+    refused(decrypt(4, sealed, 48, out, ROOM), &l, 4, "a damaged tag");
+    refused(encrypt(2, too_long, sizeof too_long, out, ROOM), &l, 5, "16,777,217 bytes");
+    refused(encrypt(2, text, 32, out, 31), &l, 6, "room for 31 of 32 bytes");
+    refused(encrypt(5, text, 32, out, ROOM), &l, 7, "mode 5");
+}
+
+int main(void)
+{
+    for (uint32_t mode = 0; mode <= 4; mode++) {
+        for (size_t n = 0; n <= 40; n++) {
+            there_and_back(mode, n);
+        }
+    }
+    single_block();
+    refusals();
+    printf("%u checked, %u wrong\n", checked, wrong);
+    return wrong != 0;
+}
