@@ -127,10 +127,15 @@ find_peers() {
     esac
 }
 
-# compile WORDS..: a static program for x86-64.
+# compile WORDS..: a static program for x86-64, which needs nothing of x86-64 on the machine that runs it.
 compile() {
-    "${compiler[@]}" -std=c11 -O2 -Wall -Wextra -static -no-pie -I"$repository/include" -I"$c" "$@" \
-        2>"$work/cc.log" || { cat "$work/cc.log" >&2; die "the C compiler failed"; }
+    compile_shared -static -no-pie "$@"
+}
+
+# compile_shared WORDS..: one that uses the machine's own C library.
+compile_shared() {
+    "${compiler[@]}" -std=c11 -O2 -g -Wall -Wextra -I"$repository/include" -I"$c" "$@" 2>"$work/cc.log" ||
+        { cat "$work/cc.log" >&2; die "the C compiler failed"; }
 }
 
 run() {
