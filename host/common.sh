@@ -73,8 +73,11 @@ build_oracle() {
     build_rust --crate-name oracle --extern libsm="$work/liblibsm.rlib" "$rust/main.rs" -o "$work/oracle"
 }
 
+# The compiler of Rust, with the words that go with it.
+rustc=(rustc)
+
 build_rust() {
-    rustc --edition 2021 -O "$@" 2>"$work/rustc.log" || { cat "$work/rustc.log" >&2; die "rustc failed"; }
+    "${rustc[@]}" --edition 2021 -O "$@" 2>"$work/rustc.log" || { cat "$work/rustc.log" >&2; die "rustc failed"; }
 }
 
 # archive: the static library, built where it is not there yet. LUOSSAVIN_ARCHIVE names another.
