@@ -1,0 +1,37 @@
+use mathlib.Core.Path.{_≡_}
+use Prim.Native.Nat.{_≤_, _-_}
+use borrow.Author.Needs.{needs}
+use lib.ListN.{length}
+use Rattle.vectors.proofs.independent.cbc_sealed.Statement.{statement}
+use Rattle.vectors.proofs.independent.cbc_sealed.Tie as tie
+
+abbrev Inv-loop : tie.InvT-loop
+Inv-loop table keys src out₀ before₀ at₀ out before at = (at ≤ length src) × (length out ≡ length out₀) × (length before ≡ 16)
+
+abbrev μ-loop : tie.MeasureT-loop
+μ-loop table keys src out₀ before₀ at₀ out before at = length src - at
+
+pub cbc-sealed-spec : {M : Type 1} → statement M
+cbc-sealed-spec =
+    tie.close
+    (tie.spec
+    Inv-loop
+    μ-loop
+    (λ c. search needs)
+    (λ c κs. search needs)
+    (λ c. search needs)
+    (λ c. search needs)
+    (λ c. search needs)
+    (λ c. search needs)
+    (λ c. search needs)
+    (λ c κs. search needs)
+    (λ c κs. search needs)
+    (λ c κs. search needs)
+    (λ c. search needs)
+    (λ c. search needs)
+    (λ c. search needs)
+    (λ c κs. search needs)
+    (λ c. search needs)
+    (λ c. search needs)
+    (λ c. search needs)
+    (λ c. search needs))

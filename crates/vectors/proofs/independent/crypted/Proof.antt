@@ -1,0 +1,29 @@
+use mathlib.Core.Path.{_≡_}
+use Prim.Native.Nat.{_≤_, _-_}
+use borrow.Author.Needs.{needs}
+use lib.ListN.{length}
+use Rattle.vectors.proofs.independent.crypted.Statement.{statement}
+use Rattle.vectors.proofs.independent.crypted.Tie as tie
+
+abbrev Inv-loop : tie.InvT-loop
+Inv-loop table keys x₀ i₀ x i = (i ≤ 32) × (length x ≡ 16)
+
+abbrev μ-loop : tie.MeasureT-loop
+μ-loop table keys x₀ i₀ x i = 32 - i
+
+pub crypted-spec : {M : Type 1} → statement M
+crypted-spec =
+    tie.close
+    (tie.spec
+    Inv-loop
+    μ-loop
+    (λ c. search needs)
+    (λ c κs. search needs)
+    (λ c κs. search needs)
+    (λ c κs. search needs)
+    (λ c κs. search needs)
+    (λ c. search needs)
+    (λ c. search needs)
+    (λ c. search needs)
+    (λ c κs. search needs)
+    (λ c. search needs))

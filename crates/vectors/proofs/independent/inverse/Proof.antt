@@ -1,0 +1,15 @@
+use Prim.Native.Nat.{_≤_, _-_}
+use borrow.Author.Needs.{needs}
+use Rattle.vectors.proofs.independent.inverse.Statement.{statement}
+use Rattle.vectors.proofs.independent.inverse.Tie as tie
+
+abbrev Inv-loop : tie.InvT-loop
+Inv-loop x power₀ counter₀ power counter = counter ≤ 254
+
+abbrev μ-loop : tie.MeasureT-loop
+μ-loop x power₀ counter₀ power counter = 254 - counter
+
+pub inverse-spec : {M : Type 1} → statement M
+inverse-spec =
+    tie.close
+    (tie.spec Inv-loop μ-loop (λ c. search needs) (λ c κs. search needs) (λ c. search needs) (λ c. search needs) (λ c. search needs) (λ c. search needs))

@@ -1,0 +1,25 @@
+use Prim.Native.Nat.{_≤_, _-_}
+use borrow.Author.Needs.{needs}
+use Rattle.vectors.proofs.independent.times.Statement.{statement}
+use Rattle.vectors.proofs.independent.times.Tie as tie
+
+abbrev Inv-loop : tie.InvT-loop
+Inv-loop a b modulus sum₀ shifted₀ rest₀ counter₀ sum shifted rest counter = counter ≤ 8
+
+abbrev μ-loop : tie.MeasureT-loop
+μ-loop a b modulus sum₀ shifted₀ rest₀ counter₀ sum shifted rest counter = 8 - counter
+
+pub times-spec : {M : Type 1} → statement M
+times-spec =
+    tie.close
+    (tie.spec
+    Inv-loop
+    μ-loop
+    (λ c. search needs)
+    (λ c κs. search needs)
+    (λ c κs. search needs)
+    (λ c. search needs)
+    (λ c. search needs)
+    (λ c. search needs)
+    (λ c. search needs)
+    (λ c. search needs))

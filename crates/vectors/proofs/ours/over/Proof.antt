@@ -1,0 +1,29 @@
+use mathlib.Core.Path.{_≡_}
+use Prim.Native.Nat.{_-_}
+use borrow.Author.Needs.{needs}
+use lib.ListN.{length}
+use Rattle.vectors.proofs.ours.over.Statement.{statement}
+use Rattle.vectors.proofs.ours.over.Tie as tie
+
+abbrev Inv-loop : tie.InvT-loop
+Inv-loop cipher back times block-in x₀ counter₀ x counter = length x ≡ 16
+
+abbrev μ-loop : tie.MeasureT-loop
+μ-loop cipher back times block-in x₀ counter₀ x counter = times - counter
+
+pub over-spec : {M : Type 1} → statement M
+over-spec =
+    tie.close
+    (tie.spec
+    Inv-loop
+    μ-loop
+    (λ c. search needs)
+    (λ c κs. search needs)
+    (λ c. search needs)
+    (λ c. search needs)
+    (λ c. search needs)
+    (λ c κs. search needs)
+    (λ c. search needs)
+    (λ c. search needs)
+    (λ c. search needs)
+    (λ c. search needs))

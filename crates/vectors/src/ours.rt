@@ -1,0 +1,177 @@
+// Whether the product's crates give a published vector, both ways where there are two.
+ghost use mathlib.Core.Path.{_≡_};
+ghost use Prim.Native.Nat.{_+_, _≤_};
+ghost use lib.ListN.{length};
+ghost use Rattle.cipher.specs.Sm4.{sboxTable};
+use crate::words;
+use crate::words::Kind;
+use block::U128;
+use cipher_mode::Answer;
+use cipher_mode::CipherMode;
+use cipher_mode::Sm4Cipher;
+use cipher_mode::Sm4CipherMode;
+
+// Room for the longest result, and more than any length that a call here reports.
+const ROOM: usize = 256;
+
+fn length_of(answer: Answer) -> usize {
+    match answer {
+        Answer::Done(n) => n,
+        _ => ROOM + 1,
+    }
+}
+
+fn one_block(cipher: Sm4Cipher, back: bool, block_in: &[u8], out: &mut [u8]) {
+    if back {
+        cipher.decrypt(block_in, out);
+    } else {
+        cipher.encrypt(block_in, out);
+    }
+}
+
+// A block put through the cipher so many times.
+fn over(cipher: Sm4Cipher, back: bool, times: u32, block_in: &[u8]) -> [u8; 16] {
+    let mut x = [0u8; 16];
+    one_block(cipher, back, block_in, &mut x);
+    for _ in 1..times {
+        let before = x;
+        one_block(cipher, back, &before, &mut x);
+    }
+    x
+}
+
+fn block_vector(times: u32, key: &[u8], text: &[u8], result: &[u8]) -> bool {
+    let cipher = Sm4Cipher::new(key);
+    let there = over(cipher, false, times, text);
+    let back = over(cipher, true, times, result);
+    check::same(&there, result) && check::same(&back, text)
+}
+
+// A mode whose output is the published result and `extra` bytes more, which are Cbc's padding block.
+fn mode_vector(
+    mode: CipherMode,
+    extra: usize,
+    key: &[u8],
+    iv: &[u8],
+    text: &[u8],
+    result: &[u8],
+) -> bool {
+    let keyed = Sm4CipherMode::new(key, mode);
+    let mut there = [0u8; ROOM];
+    let n = length_of(keyed.encrypt(&text[0..0], text, iv, &mut there));
+    if n > ROOM {
+        return false;
+    }
+    if n < extra {
+        return false;
+    }
+    if n - extra != result.len() {
+        return false;
+    }
+    if !words::starts(&there, result) {
+        return false;
+    }
+    let mut back = [0u8; ROOM];
+    let m = length_of(keyed.decrypt(&text[0..0], &there[0..n], iv, &mut back));
+    m == text.len() && words::starts(&back, text)
+}
+
+fn ghash_vector(h: &[u8], label: &[u8], text: &[u8], result: &[u8]) -> bool {
+    if h.len() != 16 {
+        return false;
+    }
+    if label.len() > ROOM {
+        return false;
+    }
+    if text.len() > ROOM {
+        return false;
+    }
+    let hash = ghash::galois_hash(block::to_u128(block::split_block(h)), label, text);
+    let bytes = block::combine_block(block::from_u128(hash));
+    check::same(&bytes, result)
+}
+
+// J0 of a nonce of twelve bytes: the nonce and then 00000001. The base's own calls take no such IV.
+fn first_counter(n: &[u8]) -> [u32; 4] {
+    if n.len() != 12 {
+        return [0u32; 4];
+    }
+    [
+        block::combine([n[0], n[1], n[2], n[3]]),
+        block::combine([n[4], n[5], n[6], n[7]]),
+        block::combine([n[8], n[9], n[10], n[11]]),
+        1,
+    ]
+}
+
+fn opens(answer: gcm::Opened, out: &[u8], text: &[u8]) -> bool {
+    match answer {
+        gcm::Opened::Done(n) => n == text.len() && words::starts(out, text),
+        gcm::Opened::InvalidTag => false,
+    }
+}
+
+// Gcm there and back from round keys, H and J0.
+fn gcm_both(
+    t: &[u8; 256],
+    rk: [u32; 32],
+    h: U128,
+    j0: [u32; 4],
+    label: &[u8],
+    text: &[u8],
+    result: &[u8],
+) -> bool
+    requires { ⌜ now t ≡ sboxTable ⌝ }
+    requires { ⌜ (length (now label) ≤ 256) × (length (now result) ≤ 256) × (length (now result) ≡ length (now text) + 16) ⌝ }
+{
+    let mut out = [0u8; ROOM];
+    gcm::encrypt(t, rk, h, j0, label, text, &mut out);
+    if !words::starts(&out, result) {
+        return false;
+    }
+    let mut back = [0u8; ROOM];
+    let answer = gcm::decrypt(t, rk, h, j0, label, result, &mut back);
+    opens(answer, &back, text)
+}
+
+// Gcm under the check of the IV's length, with J0 given.
+fn gcm_vector(key: &[u8], nonce: &[u8], label: &[u8], text: &[u8], result: &[u8]) -> bool {
+    if label.len() > ROOM {
+        return false;
+    }
+    if result.len() > ROOM {
+        return false;
+    }
+    if result.len() < 16 {
+        return false;
+    }
+    if result.len() - 16 != text.len() {
+        return false;
+    }
+    let t = cipher::sbox();
+    let keyed = Sm4Cipher::new(key);
+    let rk = keyed.rk;
+    gcm_both(
+        &t,
+        rk,
+        gcm::hash_key(&t, rk),
+        first_counter(nonce),
+        label,
+        text,
+        result,
+    )
+}
+
+pub fn gives(kind: Kind, key: &[u8], iv: &[u8], label: &[u8], text: &[u8], result: &[u8]) -> bool {
+    match kind {
+        Kind::Block => block_vector(1, key, text, result),
+        Kind::Million => block_vector(1_000_000, key, text, result),
+        Kind::Cbc => mode_vector(CipherMode::Cbc, 16, key, iv, text, result),
+        Kind::Cfb => mode_vector(CipherMode::Cfb, 0, key, iv, text, result),
+        Kind::Ofb => mode_vector(CipherMode::Ofb, 0, key, iv, text, result),
+        Kind::Ctr => mode_vector(CipherMode::Ctr, 0, key, iv, text, result),
+        Kind::Ghash => ghash_vector(key, label, text, result),
+        Kind::Gcm => gcm_vector(key, iv, label, text, result),
+        Kind::Unknown => false,
+    }
+}
