@@ -6,3 +6,9 @@ pub mod OneBlockRefused
 pub mod ZeroKey
 pub mod TrailingZero
 pub mod OtherEdition
+pub mod ResultLengths
+pub mod EveryCallAnswers
+pub mod UniqueOutcomes
+pub mod NoUsableKey
+pub mod LabelIgnored
+pub mod Exported

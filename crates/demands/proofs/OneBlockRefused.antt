@@ -1,20 +1,24 @@
 -- Demand 3: one changed block, of the ciphertext or of the label, is refused.
 -- Assumes nothing.
-use mathlib.Core.Path.{_≡_, sym, ap, _∙_}
-use mathlib.Core.Logic.{_≢_, ⊎-elim}
+use mathlib.Core.Path.{_≡_, sym, ap, _∙_, refl}
+use mathlib.Core.Logic.{⊎-elim}
 use mathlib.Core.List.{List, _++_}
 use Prim.Native.Nat.{ℕ, _+_}
 use lib.ListN.{length, length-append}
 use Rattle.ghash.specs.OneBlock.{OneBlock}
 use Rattle.ghash.proofs.Changed.{label-changed, text-changed}
 use Rattle.gcm.specs.Gcm.{hashKey}
-use Rattle.gcm.proofs.HashKey.{hashKey-lt, hashKey-tells}
+use Rattle.gcm.proofs.HashKey.{hashKey-lt}
 use Rattle.cipher_mode.specs.declared.CipherMode.the-variants.{Gcm}
 use Rattle.cipher_mode.specs.declared.Sm4CipherMode.{Sm4CipherMode}
 use Rattle.cipher_mode.specs.Calls.{decryptCall}
 use Rattle.demands.specs.Call.{RefusedAs}
 use Rattle.demands.specs.OneBlockRefused.{MovesZero, OneBlockRefused}
 use Rattle.demands.proofs.OtherHash.{hash-key-nonzero, Lengths, gcm-lengths, other-hash-refused}
+use Rattle.cipher.specs.Sm4.{roundKeys}
+use Rattle.cipher_mode.specs.Key.{newCipherMode}
+use Rattle.luossavin.specs.Host.{modeOf, hostDecryptCall}
+use Rattle.demands.proofs.Exported.{moves-new}
 
 -- a list of another label and ciphertext of the same lengths passes where the first does
 same-lengths : (a₁ a₂ c₁ c₂ t o₁ o₂ : List ℕ) → length a₁ ≡ length a₂ → length c₁ ≡ length c₂ → length o₁ ≡ length o₂
@@ -50,3 +54,9 @@ one-block-refused m gcm moves a₁ a₂ c₁ c₂ t iv o₁ o₂ ba₁ ba₂ bc�
         (rw (← e) (label-changed (hashKey rk) (hashKey-lt rk) (hash-key-nonzero rk moves) a₁ a₂ c₁ ba₁ ba₂ o))
         (same-lengths a₁ a₂ c₁ c₂ t o₁ o₂ (o .lengths) (ap length e) eo (gcm-lengths m gcm a₁ (c₁ ++ t) iv o₁ opens))
         opens
+
+-- The same of the exported call with mode 4.
+pub exported-one-block-refused : (key : List ℕ) → MovesZero (roundKeys key) → OneBlockRefused (hostDecryptCall 4 key)
+unfolding hostDecryptCall modeOf newCipherMode
+exported-one-block-refused key moves a₁ a₂ c₁ c₂ t iv o₁ o₂ ba₁ ba₂ bc₁ bc₂ n eo change opens =
+    one-block-refused (newCipherMode key Gcm) refl (moves-new key a₁ (c₁ ++ t) iv o₁ opens moves) a₁ a₂ c₁ c₂ t iv o₁ o₂ ba₁ ba₂ bc₁ bc₂ n eo change opens

@@ -3,7 +3,7 @@
 use mathlib.Core.Path.{_≡_, refl, sym, _∙_}
 use mathlib.Core.Logic.{_≢_, ⊎-elim}
 use mathlib.Core.List.{List}
-use Prim.Native.Nat.{ℕ, _+_, _≤_}
+use Prim.Native.Nat.{ℕ, _≤_}
 use native.Mathlib.Omega.{arith}
 use lib.ListN.{length, drop-of-length-le}
 use Rattle.block.specs.Below.{AreBytes}
@@ -13,7 +13,6 @@ use Rattle.gcm.specs.Gcm.{hashKey, textPart}
 use Rattle.gcm.proofs.HashKey.{hashKey-lt}
 use Rattle.cipher_mode.specs.declared.CipherMode.the-variants.{Gcm}
 use Rattle.cipher_mode.specs.declared.Sm4CipherMode.{Sm4CipherMode}
-use Rattle.cipher_mode.specs.Tables.{limit}
 use Rattle.cipher_mode.specs.Calls.{decryptCall}
 use Rattle.label.specs.Label.{labelOf}
 use Rattle.label.proofs.LabelTells.{length-label, label-bytes, label-job, label-edition}
@@ -21,6 +20,10 @@ use Rattle.demands.specs.Call.{RefusedAs}
 use Rattle.demands.specs.OneBlockRefused.{MovesZero}
 use Rattle.demands.specs.OtherEdition.{OtherEditionRefused}
 use Rattle.demands.proofs.OtherHash.{hash-key-nonzero, other-label-refused}
+use Rattle.cipher.specs.Sm4.{roundKeys}
+use Rattle.cipher_mode.specs.Key.{newCipherMode}
+use Rattle.luossavin.specs.Host.{modeOf, hostDecryptCall}
+use Rattle.demands.proofs.Exported.{moves-new}
 
 -- two lists of a block or less that differ do so inside one block
 one-block : (a b : List ℕ) → a ≢ b → length a ≡ length b → length a ≤ 16 → OneBlock a b
@@ -52,3 +55,9 @@ other-edition-refused m gcm moves j₁ j₂ e₁ e₂ file iv o₁ o₂ hj₁ hj
     short-label-refused m gcm moves (labelOf j₁ e₁) (labelOf j₂ e₂) file iv o₁ o₂ (label-bytes j₁ e₁) (label-bytes j₂ e₂)
     (λ same. ⊎-elim (λ d. d (label-job j₁ e₁ j₂ e₂ same hj₁ hj₂)) (λ d. d (label-edition j₁ e₁ j₂ e₂ same he₁ he₂)) other)
     (n ∙ sym (length-label j₂ e₂)) (omega arith) eo opens
+
+-- The same of the exported call with mode 4.
+pub exported-other-edition-refused : (key : List ℕ) → MovesZero (roundKeys key) → OtherEditionRefused (hostDecryptCall 4 key)
+unfolding hostDecryptCall modeOf newCipherMode
+exported-other-edition-refused key moves j₁ j₂ e₁ e₂ file iv o₁ o₂ hj₁ hj₂ he₁ he₂ other eo opens =
+    other-edition-refused (newCipherMode key Gcm) refl (moves-new key (labelOf j₁ e₁) file iv o₁ opens moves) j₁ j₂ e₁ e₂ file iv o₁ o₂ hj₁ hj₂ he₁ he₂ other eo opens

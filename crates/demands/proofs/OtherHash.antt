@@ -13,16 +13,14 @@ use Rattle.ghash.specs.Ghash.{ghash, authBlocks}
 use Rattle.gcm.specs.Gcm.{hashKey, firstCounter, textPart, tagPart, opensUnder}
 use Rattle.gcm.proofs.TagTells.{opens-not}
 use Rattle.gcm.proofs.HashKey.{hashKey-lt, hashKey-tells}
-use Rattle.cipher_mode.specs.declared.Answer.the-variants.{InvalidTag}
 use Rattle.cipher_mode.specs.declared.CipherMode.the-variants.{Gcm}
 use Rattle.cipher_mode.specs.declared.KeyAnswer.the-variants.{Key}
 use Rattle.cipher_mode.specs.declared.Sm4CipherMode.{Sm4CipherMode}
-use Rattle.cipher_mode.specs.Outcome.{Outcome, outcome}
 use Rattle.cipher_mode.specs.Tables.{limit}
 use Rattle.cipher_mode.specs.Calls.{badPadding, badTag, decryptCall}
 use Rattle.demands.specs.Call.{RefusedAs}
 use Rattle.demands.specs.OneBlockRefused.{MovesZero}
-use Rattle.demands.proofs.Passes.{DecryptSized, decrypt-passes, decrypt-refuses}
+use Rattle.demands.proofs.Passes.{DecryptSized, refused-as, decrypt-passes, decrypt-refuses}
 
 pub hash-key-nonzero : (rk : List ℕ) → MovesZero rk → hashKey rk ≢ 0
 hash-key-nonzero rk moves z = moves (hashKey-tells rk z)
@@ -74,10 +72,6 @@ module _ (m : Sm4CipherMode) (gcm : m .mode ≡ Gcm) where
   unfolding badPadding
   no-padding iv d = rw gcm
 
-  refused : (o : List ℕ) (x : Outcome) → x ≡ outcome InvalidTag o → RefusedAs 4 o x
-  refused o x e =
-      record { number = ap (λ (y : Outcome). y .head .number) e; size = ap (λ (y : Outcome). y .head .size) e; bytes = ap (λ (y : Outcome). y .bytes) e }
-
   pub other-hash-refused : (a₁ a₂ c₁ c₂ t iv o₁ o₂ : List ℕ) → length t ≡ 16
       → ghash (hashKey (m .cipher .rk)) (authBlocks a₁ c₁) ≢ ghash (hashKey (m .cipher .rk)) (authBlocks a₂ c₂)
       → Lengths a₂ (c₂ ++ t) o₂ → decryptCall m a₁ (c₁ ++ t) iv o₁ .head .number ≡ 0 → RefusedAs 4 o₂ (decryptCall m a₂ (c₂ ++ t) iv o₂)
@@ -86,7 +80,7 @@ module _ (m : Sm4CipherMode) (gcm : m .mode ≡ Gcm) where
       let rk = m .cipher .rk in
       let h = hashKey rk in
       let z = decrypt-passes m a₁ (c₁ ++ t) iv o₁ e .sized in
-      refused o₂ _
+      refused-as 4 o₂ _
       (decrypt-refuses m a₂ (c₂ ++ t) iv o₂ (gcm-sized a₂ (c₂ ++ t) iv o₂ (z .key) (z .sixteen) l) (no-padding iv (c₂ ++ t))
       (rw (gcm, opens-not rk h (hashKey-lt rk) (firstCounter h iv) a₁ c₁ a₂ c₂ t n ne (gcm-opens a₁ (c₁ ++ t) iv o₁ e))))
 

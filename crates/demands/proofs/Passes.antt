@@ -22,7 +22,7 @@ use Rattle.cipher_mode.specs.Calls.{wrongSize, blockCall, encrypted, encryptCal
 use Rattle.cipher_mode.proofs.BlockCall.{block-done}
 use Rattle.cipher_mode.proofs.EncryptCall.{encrypt-done}
 use Rattle.cipher_mode.proofs.DecryptCall.{decrypt-bad-tag, decrypt-done}
-use Rattle.demands.specs.Call.{result}
+use Rattle.demands.specs.Call.{result, RefusedAs}
 
 -- where a call answers 0, the test of a refusal did not hold, and what comes next answers 0
 passed : (test : Bool) (n : ℕ) (o : List ℕ) (next : Outcome) → cond test (record { head = refusal (suc n); bytes = o }) next .head .number ≡ 0
@@ -34,11 +34,15 @@ is-key : (a : KeyAnswer) → noKey a ≡ false → a ≡ Key
 is-key Key e = refl
 is-key NoKey e = let z : _≡_ {A = ℕ} 0 1 = cc in absurd (omega arith)
 
-is-sixteen : (s : List ℕ) → wrongSize s ≡ false → length s ≡ 16
+pub is-sixteen : (s : List ℕ) → wrongSize s ≡ false → length s ≡ 16
 is-sixteen s e = eqb-true (length s) 16 (not-false (eqb (length s) 16) e)
 
 pub result-of-done : (p o : List ℕ) → result (done p o) ≡ p
 result-of-done p o = take-at p (drop (length p) o) (length p) refl
+
+pub refused-as : (n : ℕ) (o : List ℕ) (x : Outcome) → x ≡ record { head = refusal n; bytes = o } → RefusedAs n o x
+refused-as n o x e =
+    record { number = ap (λ (y : Outcome). y .head .number) e; size = ap (λ (y : Outcome). y .head .size) e; bytes = ap (λ (y : Outcome). y .bytes) e }
 
 -- one block
 

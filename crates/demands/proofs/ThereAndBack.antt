@@ -11,13 +11,20 @@ use Rattle.cipher.proofs.Blocks.{length-encryptBlock, length-decryptBlock, bloc
 use Rattle.cipher_mode.specs.declared.CipherMode.the-variants.{Cbc}
 use Rattle.cipher_mode.specs.declared.Sm4Cipher.{Sm4Cipher}
 use Rattle.cipher_mode.specs.declared.Sm4CipherMode.{Sm4CipherMode}
-use Rattle.cipher_mode.specs.Outcome.{Outcome, done}
+use Rattle.cipher_mode.specs.Outcome.{Outcome, done, refuse}
 use Rattle.cipher_mode.specs.Tables.{encryptRoom, decryptRoom}
 use Rattle.cipher_mode.specs.Calls.{blockCall, encrypted, encryptCall, decrypted, decryptCall}
-use Rattle.demands.specs.Call.{single, result}
+use Rattle.demands.specs.Call.{single, result, Call}
 use Rattle.demands.specs.ThereAndBack.{Returns, ThereAndBack}
 use Rattle.demands.proofs.Passes.{result-of-done, block-passes, block-leaves, encrypt-passes, encrypt-leaves, decrypt-passes, decrypt-leaves}
 use Rattle.demands.proofs.ModesBack.{back, forth}
+use mathlib.Core.Bool.{Bool, true, false}
+use lib.Dec.{ltb}
+use native.Mathlib.Omega.{arith}
+use Rattle.cipher_mode.specs.declared.Answer.the-variants.{BadMode}
+use Rattle.cipher_mode.specs.Key.{newCipher, newCipherMode}
+use Rattle.luossavin.specs.Host.{modeOf, hostBlockCall, hostEncryptCall, hostDecryptCall}
+use Rattle.demands.proofs.Exported.{three-is-cbc}
 
 returns : (d o : List ℕ) (x : Outcome) → x ≡ done d o → Returns d x
 returns d o x e =
@@ -74,3 +81,31 @@ block-decryption-takes-back = block-back encryptBlock decryptBlock length-encryp
 
 pub block-encryption-takes-back : (c : Sm4Cipher) → ThereAndBack (λ n. 16) (single (blockCall decryptBlock c)) (single (blockCall encryptBlock c))
 block-encryption-takes-back = block-back decryptBlock encryptBlock length-decryptBlock length-encryptBlock block-encrypt-decrypt
+
+-- The exported calls, of every mode number and every key.
+
+-- behind a refusal by number 7 that both have in front
+gated : (b : Bool) (room : ℕ → ℕ) (f g : Call) → ThereAndBack room f g
+    → ThereAndBack room (λ label d iv o. refuse b BadMode o (f label d iv o)) (λ label d iv o. refuse b BadMode o (g label d iv o))
+gated true room f g t = λ label d iv o o′ db ib e r. absurd (omega arith)
+gated false room f g t = t
+
+pub exported-decryption-takes-back : (mode : ℕ) (key : List ℕ) → ThereAndBack (decryptRoom (modeOf mode)) (hostEncryptCall mode key) (hostDecryptCall mode key)
+unfolding hostEncryptCall hostDecryptCall newCipherMode
+exported-decryption-takes-back mode key =
+    let m = newCipherMode key (modeOf mode) in
+    gated (ltb 4 mode) (decryptRoom (modeOf mode)) (encryptCall m) (decryptCall m) (decryption-takes-back m)
+
+pub exported-encryption-takes-back : (mode : ℕ) (key : List ℕ) → mode ≢ 3 → ThereAndBack (encryptRoom (modeOf mode)) (hostDecryptCall mode key) (hostEncryptCall mode key)
+unfolding hostEncryptCall hostDecryptCall newCipherMode
+exported-encryption-takes-back mode key n =
+    let m = newCipherMode key (modeOf mode) in
+    gated (ltb 4 mode) (encryptRoom (modeOf mode)) (decryptCall m) (encryptCall m) (encryption-takes-back m (three-is-cbc mode n))
+
+pub exported-block-decryption-takes-back : (key : List ℕ) → ThereAndBack (λ n. 16) (single (hostBlockCall encryptBlock key)) (single (hostBlockCall decryptBlock key))
+unfolding hostBlockCall
+exported-block-decryption-takes-back key = block-decryption-takes-back (newCipher key)
+
+pub exported-block-encryption-takes-back : (key : List ℕ) → ThereAndBack (λ n. 16) (single (hostBlockCall decryptBlock key)) (single (hostBlockCall encryptBlock key))
+unfolding hostBlockCall
+exported-block-encryption-takes-back key = block-encryption-takes-back (newCipher key)

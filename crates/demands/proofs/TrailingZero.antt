@@ -1,8 +1,8 @@
 -- A trailing zero cannot be dropped unseen, of the label or of the ciphertext: the length block tells.
 -- Assumes nothing.
-use mathlib.Core.Path.{_≡_, _∙_}
+use mathlib.Core.Path.{_≡_, refl}
 use mathlib.Core.List.{List, [], _∷_, _++_}
-use Prim.Native.Nat.{ℕ, _+_, _-_, _%_, _≤_}
+use Prim.Native.Nat.{ℕ, _+_, _-_}
 use native.Mathlib.Omega.{arith}
 use lib.ListN.{length, length-append}
 use lib.Seq.{length-take-le}
@@ -15,6 +15,10 @@ use Rattle.cipher_mode.specs.Calls.{decryptCall}
 use Rattle.demands.specs.OneBlockRefused.{MovesZero}
 use Rattle.demands.specs.TrailingZero.{LabelZeroRefused, TextZeroRefused}
 use Rattle.demands.proofs.OtherHash.{hash-key-nonzero, gcm-lengths, other-hash-refused, other-label-refused}
+use Rattle.cipher.specs.Sm4.{roundKeys}
+use Rattle.cipher_mode.specs.Key.{newCipherMode}
+use Rattle.luossavin.specs.Host.{modeOf, hostDecryptCall}
+use Rattle.demands.proofs.Exported.{moves-new}
 
 -- Under a key that does not encrypt the all-zero block to itself: a file that opens in Gcm under a label whose length does not
 -- divide by 16 is refused as 4 under that label with one zero byte more.
@@ -41,3 +45,14 @@ text-zero-refused m gcm moves a c t iv o₁ o₂ n odd room opens =
     (text-zero (hashKey rk) (hashKey-lt rk) (hash-key-nonzero rk moves) a c (omega (arith, l .label)) (omega (arith, l .longest)) odd)
     (record { label = l .label; longest = omega (arith, l .longest); shortest = omega arith; room = omega arith })
     opens
+
+-- Both of the exported call with mode 4.
+pub exported-label-zero-refused : (key : List ℕ) → MovesZero (roundKeys key) → LabelZeroRefused (hostDecryptCall 4 key)
+unfolding hostDecryptCall modeOf newCipherMode
+exported-label-zero-refused key moves a file iv o₁ o₂ odd eo opens =
+    label-zero-refused (newCipherMode key Gcm) refl (moves-new key a file iv o₁ opens moves) a file iv o₁ o₂ odd eo opens
+
+pub exported-text-zero-refused : (key : List ℕ) → MovesZero (roundKeys key) → TextZeroRefused (hostDecryptCall 4 key)
+unfolding hostDecryptCall modeOf newCipherMode
+exported-text-zero-refused key moves a c t iv o₁ o₂ n odd room opens =
+    text-zero-refused (newCipherMode key Gcm) refl (moves-new key a (c ++ t) iv o₁ opens moves) a c t iv o₁ o₂ n odd room opens

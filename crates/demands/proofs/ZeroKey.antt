@@ -1,10 +1,10 @@
 -- Why demand 3 speaks of keys that do not encrypt the all-zero block to itself: under any other key a tag says nothing.
 -- Assumes nothing.
-use mathlib.Core.Path.{_≡_, sym, ap, _∙_}
+use mathlib.Core.Path.{_≡_, sym, ap, _∙_, refl}
 use mathlib.Core.List.{List}
 use Prim.Native.Nat.{ℕ, _≤_}
 use lib.ListN.{length, replicate}
-use Rattle.cipher.specs.Sm4.{encryptBlock}
+use Rattle.cipher.specs.Sm4.{encryptBlock, roundKeys}
 use Rattle.ghash.specs.Ghash.{ghash, authBlocks}
 use Rattle.ghash.proofs.ZeroKey.{ghash-zero-key}
 use Rattle.gcm.specs.Gcm.{hashKey, firstCounter, textPart}
@@ -16,6 +16,9 @@ use Rattle.cipher_mode.specs.Tables.{limit}
 use Rattle.cipher_mode.specs.Calls.{badTag, decryptCall}
 use Rattle.demands.proofs.Passes.{decrypt-passes, decrypt-leaves}
 use Rattle.demands.proofs.OtherHash.{gcm-lengths, gcm-opens, gcm-sized}
+use Rattle.cipher_mode.specs.Key.{newCipherMode}
+use Rattle.luossavin.specs.Host.{modeOf, hostDecryptCall}
+use Rattle.demands.proofs.Exported.{new-key}
 
 -- Where the all-zero block is encrypted to itself, H is 0, and so is every hash.
 pub every-hash-zero : (rk bs : List ℕ) → encryptBlock rk (replicate 16 0) ≡ replicate 16 0 → ghash (hashKey rk) bs ≡ 0
@@ -39,3 +42,12 @@ any-label-opens m gcm e a₁ a₂ s iv o l opens =
       tag = rw (gcm, opens-alike rk h (firstCounter h iv) a₂ a₁ s same, gcm-opens m gcm a₁ s iv o opens);
     })
     ∙ sym (decrypt-leaves m a₁ s iv o p)
+
+-- The same of the exported call with mode 4.
+pub exported-any-label-opens : (key : List ℕ) → encryptBlock (roundKeys key) (replicate 16 0) ≡ replicate 16 0
+    → (a₁ a₂ s iv o : List ℕ) → length a₂ ≤ limit
+    → hostDecryptCall 4 key a₁ s iv o .head .number ≡ 0 → hostDecryptCall 4 key a₂ s iv o ≡ hostDecryptCall 4 key a₁ s iv o
+unfolding hostDecryptCall modeOf newCipherMode
+exported-any-label-opens key e a₁ a₂ s iv o l opens =
+    let m = newCipherMode key Gcm in
+    any-label-opens m refl (rw (new-key key (decrypt-passes m a₁ s iv o opens .sized .key)) e) a₁ a₂ s iv o l opens

@@ -4,3 +4,5 @@ pub mod ThereAndBack
 pub mod OneBlockRefused
 pub mod TrailingZero
 pub mod OtherEdition
+pub mod OneOutcome
+pub mod NoUsableKey
