@@ -1,6 +1,6 @@
 -- An exported call is the call on a key set up for it, unless its mode number is refused.
 -- Assumes nothing.
-use mathlib.Core.Path.{_≡_, refl}
+use mathlib.Core.Path.{_≡_, refl, sym, ap, _∙_}
 use mathlib.Core.Logic.{_≢_}
 use mathlib.Core.Bool.{Bool, true, false}
 use mathlib.Core.List.{List}
@@ -10,7 +10,8 @@ use lib.Dec.{eqb}
 use lib.ListN.{length}
 use Rattle.cipher.specs.Sm4.{roundKeys}
 use Rattle.cipher_mode.specs.declared.KeyAnswer.the-variants.{Key}
-use Rattle.cipher_mode.specs.declared.CipherMode.the-variants.{Cbc, Gcm}
+use Rattle.cipher_mode.specs.declared.CipherMode.{CipherMode}
+use Rattle.cipher_mode.specs.declared.CipherMode.the-variants.{Cfb, Ofb, Ctr, Cbc, Gcm}
 use Rattle.cipher_mode.specs.Key.{newCipher, newCipherMode}
 use Rattle.cipher_mode.specs.Calls.{decryptCall}
 use Rattle.luossavin.specs.Host.{modeOf}
@@ -27,22 +28,26 @@ new-by key false t e = let f = rw t at e in let z : _≡_ {A = ℕ} 0 1 = cc in 
 pub new-key : (key : List ℕ) → newCipher key .answer ≡ Key → newCipher key .rk ≡ roundKeys key
 new-key key = new-by key (eqb (length key) 16) refl
 
-pub three-is-cbc : (mode : ℕ) → mode ≢ 3 → modeOf mode ≢ Cbc
-unfolding modeOf
-three-is-cbc zero n e = let z : _≡_ {A = ℕ} 0 1 = cc in absurd (omega arith)
-three-is-cbc (suc zero) n e = let z : _≡_ {A = ℕ} 0 1 = cc in absurd (omega arith)
-three-is-cbc (suc (suc zero)) n e = let z : _≡_ {A = ℕ} 0 1 = cc in absurd (omega arith)
-three-is-cbc (suc (suc (suc zero))) n e = n refl
-three-is-cbc (suc (suc (suc (suc m)))) n e = let z : _≡_ {A = ℕ} 0 1 = cc in absurd (omega arith)
+-- document 01's number of a mode
+abbrev pub modeNumber : CipherMode → ℕ
+modeNumber Cfb = 0
+modeNumber Ofb = 1
+modeNumber Ctr = 2
+modeNumber Cbc = 3
+modeNumber Gcm = 4
 
-pub four-is-gcm : (mode : ℕ) → mode ≢ 4 → mode ≤ 4 → modeOf mode ≢ Gcm
+number-of-mode : (mode : ℕ) → mode ≤ 4 → modeNumber (modeOf mode) ≡ mode
 unfolding modeOf
-four-is-gcm zero n h e = let z : _≡_ {A = ℕ} 0 1 = cc in absurd (omega arith)
-four-is-gcm (suc zero) n h e = let z : _≡_ {A = ℕ} 0 1 = cc in absurd (omega arith)
-four-is-gcm (suc (suc zero)) n h e = let z : _≡_ {A = ℕ} 0 1 = cc in absurd (omega arith)
-four-is-gcm (suc (suc (suc zero))) n h e = let z : _≡_ {A = ℕ} 0 1 = cc in absurd (omega arith)
-four-is-gcm (suc (suc (suc (suc zero)))) n h e = n refl
-four-is-gcm (suc (suc (suc (suc (suc m))))) n h e = absurd (omega arith)
+number-of-mode zero h = refl
+number-of-mode (suc zero) h = refl
+number-of-mode (suc (suc zero)) h = refl
+number-of-mode (suc (suc (suc zero))) h = refl
+number-of-mode (suc (suc (suc (suc zero)))) h = refl
+number-of-mode (suc (suc (suc (suc (suc n))))) h = absurd (omega arith)
+
+-- another number is another mode's
+pub other-mode : (mode : ℕ) (x : CipherMode) → mode ≤ 4 → mode ≢ modeNumber x → modeOf mode ≢ x
+other-mode mode x h n e = n (sym (number-of-mode mode h) ∙ ap modeNumber e)
 
 -- where a file opens, the key is usable, and its record moves the zero block if its round keys do
 pub moves-new : (key label file iv o : List ℕ) → decryptCall (newCipherMode key Gcm) label file iv o .head .number ≡ 0

@@ -12,8 +12,7 @@ use Rattle.cipher_mode.specs.declared.KeyAnswer.{KeyAnswer}
 use Rattle.cipher_mode.specs.declared.KeyAnswer.the-variants.{Key, ErrorBlockSize as NoKey}
 use Rattle.cipher_mode.specs.declared.Sm4Cipher.{Sm4Cipher}
 use Rattle.cipher_mode.specs.declared.Sm4CipherMode.{Sm4CipherMode}
-use Rattle.cipher_mode.specs.Outcome.{refusal}
-use Rattle.cipher_mode.specs.Key.{keyHead, newCipher, newCipherMode}
+use Rattle.cipher_mode.specs.Key.{newCipher, newCipherMode}
 use Rattle.cipher_mode.proofs.BlockCall.{block-no-key}
 use Rattle.cipher_mode.proofs.EncryptCall.{encrypt-no-key}
 use Rattle.cipher_mode.proofs.DecryptCall.{decrypt-no-key}
@@ -38,31 +37,34 @@ refused-key-unusable c n =
       decryption = λ m e label d iv o. refused-as 1 o _ (sym (decrypt-no-key m label d iv o (of m e)));
     }
 
--- A key that is not 16 bytes is refused as 1, and the record that comes back is no usable key.
-pub wrong-size-key-unusable : (key : List ℕ) → length key ≢ 16 → (keyHead (newCipher key .answer) ≡ refusal 1) × NoUsableKey (newCipher key)
+-- A key that is not 16 bytes gives a record on which every call answers 1 with the output as it was lent.
+pub wrong-size-key-unusable : (key : List ℕ) → length key ≢ 16 → NoUsableKey (newCipher key)
 unfolding newCipher
 wrong-size-key-unusable key n =
     let e : newCipher key .answer ≡ NoKey = rw (ne-eqb (length key) 16 n) in
-    (ap keyHead e, refused-key-unusable (newCipher key) (λ k. let z : _≡_ {A = ℕ} 0 1 = cc in absurd (omega arith)))
+    refused-key-unusable (newCipher key) (λ k. let z : _≡_ {A = ℕ} 0 1 = cc in absurd (omega arith))
 
--- The exported calls: with a key that is not 16 bytes each answers 1 with the output as it was lent (a mode number above 4 is
--- refused before).
+-- The exported encryption of one block answers 1 to a key that is not 16 bytes, with the output as it was lent.
 pub exported-block-encryption-refused : (key : List ℕ) → length key ≢ 16 → (b o : List ℕ) → RefusedAs 1 o (hostBlockCall encryptBlock key b o)
 unfolding hostBlockCall
-exported-block-encryption-refused key n = wrong-size-key-unusable key n .1 .block-encryption
+exported-block-encryption-refused key n = wrong-size-key-unusable key n .block-encryption
 
+-- The exported decryption of one block answers 1 to a key that is not 16 bytes, with the output as it was lent.
 pub exported-block-decryption-refused : (key : List ℕ) → length key ≢ 16 → (b o : List ℕ) → RefusedAs 1 o (hostBlockCall decryptBlock key b o)
 unfolding hostBlockCall
-exported-block-decryption-refused key n = wrong-size-key-unusable key n .1 .block-decryption
+exported-block-decryption-refused key n = wrong-size-key-unusable key n .block-decryption
 
+-- The exported encryption answers 1 to a key that is not 16 bytes, with the output as it was lent; a mode number above 4 is
+-- refused before.
 pub exported-encryption-refused : (mode : ℕ) → mode ≤ 4 → (key : List ℕ) → length key ≢ 16 → (label d iv o : List ℕ)
     → RefusedAs 1 o (hostEncryptCall mode key label d iv o)
 unfolding hostEncryptCall newCipherMode
 exported-encryption-refused mode h key n label d iv o =
-    rw (le-ltb 4 mode h) (wrong-size-key-unusable key n .1 .encryption (newCipherMode key (modeOf mode)) refl label d iv o)
+    rw (le-ltb 4 mode h) (wrong-size-key-unusable key n .encryption (newCipherMode key (modeOf mode)) refl label d iv o)
 
+-- The exported decryption does the same.
 pub exported-decryption-refused : (mode : ℕ) → mode ≤ 4 → (key : List ℕ) → length key ≢ 16 → (label d iv o : List ℕ)
     → RefusedAs 1 o (hostDecryptCall mode key label d iv o)
 unfolding hostDecryptCall newCipherMode
 exported-decryption-refused mode h key n label d iv o =
-    rw (le-ltb 4 mode h) (wrong-size-key-unusable key n .1 .decryption (newCipherMode key (modeOf mode)) refl label d iv o)
+    rw (le-ltb 4 mode h) (wrong-size-key-unusable key n .decryption (newCipherMode key (modeOf mode)) refl label d iv o)

@@ -20,8 +20,8 @@ use Rattle.cipher_mode.specs.Key.{newCipherMode}
 use Rattle.luossavin.specs.Host.{modeOf, hostDecryptCall}
 use Rattle.demands.proofs.Exported.{moves-new}
 
--- Under a key that does not encrypt the all-zero block to itself: a file that opens in Gcm under a label whose length does not
--- divide by 16 is refused as 4 under that label with one zero byte more.
+-- Under a key that does not encrypt the all-zero block to itself: a file that opens in Gcm under a label whose length is not
+-- divisible by 16 is refused as 4 under that label with one zero byte more.
 pub label-zero-refused : (m : Sm4CipherMode) → m .mode ≡ Gcm → MovesZero (m .cipher .rk) → LabelZeroRefused (decryptCall m)
 label-zero-refused m gcm moves a file iv o₁ o₂ odd eo opens =
     let rk = m .cipher .rk in
@@ -32,8 +32,8 @@ label-zero-refused m gcm moves a file iv o₁ o₂ odd eo opens =
     (label-zero (hashKey rk) (hashKey-lt rk) (hash-key-nonzero rk moves) a (textPart file) (omega (arith, l .label)) (omega (arith, l .longest)) odd)
     opens
 
--- And one that opens there and whose ciphertext's length does not divide by 16 is refused as 4 with one zero byte more between
--- ciphertext and tag, given room.
+-- Under such a key a file that opens in Gcm and whose ciphertext's length is not divisible by 16 is refused as 4 with one zero
+-- byte more between ciphertext and tag, given room.
 pub text-zero-refused : (m : Sm4CipherMode) → m .mode ≡ Gcm → MovesZero (m .cipher .rk) → TextZeroRefused (decryptCall m)
 text-zero-refused m gcm moves a c t iv o₁ o₂ n odd room opens =
     let rk = m .cipher .rk in
@@ -46,12 +46,13 @@ text-zero-refused m gcm moves a c t iv o₁ o₂ n odd room opens =
     (record { label = l .label; longest = omega (arith, l .longest); shortest = omega arith; room = omega arith })
     opens
 
--- Both of the exported call with mode 4.
+-- The same of the exported call with mode 4 and the label.
 pub exported-label-zero-refused : (key : List ℕ) → MovesZero (roundKeys key) → LabelZeroRefused (hostDecryptCall 4 key)
 unfolding hostDecryptCall modeOf newCipherMode
 exported-label-zero-refused key moves a file iv o₁ o₂ odd eo opens =
     label-zero-refused (newCipherMode key Gcm) refl (moves-new key a file iv o₁ opens moves) a file iv o₁ o₂ odd eo opens
 
+-- The same of the exported call with mode 4 and the ciphertext.
 pub exported-text-zero-refused : (key : List ℕ) → MovesZero (roundKeys key) → TextZeroRefused (hostDecryptCall 4 key)
 unfolding hostDecryptCall modeOf newCipherMode
 exported-text-zero-refused key moves a c t iv o₁ o₂ n odd room opens =

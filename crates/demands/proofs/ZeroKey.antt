@@ -1,4 +1,5 @@
--- Why demand 3 speaks of keys that do not encrypt the all-zero block to itself: under any other key a tag says nothing.
+-- Why demand 3 speaks of keys that do not encrypt the all-zero block to itself: under any other
+-- key a tag says nothing of the label.
 -- Assumes nothing.
 use mathlib.Core.Path.{_≡_, sym, ap, _∙_, refl}
 use mathlib.Core.List.{List}

@@ -7,7 +7,7 @@ use lib.ListN.{length, drop}
 use Rattle.cbc.specs.Open.{lastByte}
 use Rattle.cipher_mode.specs.declared.CipherMode.{CipherMode}
 use Rattle.cipher_mode.specs.declared.CipherMode.the-variants.{Cfb, Ofb, Ctr, Cbc, Gcm}
-use Rattle.cipher_mode.specs.Outcome.{Outcome}
+use Rattle.cipher_mode.specs.Outcome.{Head, Outcome, refusal}
 use Rattle.cipher_mode.specs.Calls.{cbcText}
 
 -- x is an answer to a call whose output was lent as o, where document 01's table gives the length n
@@ -23,6 +23,11 @@ pub record Answered (o : List ℕ) (n : ℕ) (x : Outcome) : Type 0 where
   pub past : x .head .number ≡ 0 → drop (x .head .size) (x .bytes) ≡ drop (x .head .size) o
   -- the output is as long as it was
   pub kept : length (x .bytes) ≡ length o
+
+-- h is what setting up the key answers: it lends no output, and reports length 0, done or refused
+pub record KeyAnswered (key : List ℕ) (h : Head) : Type 0 where
+  pub done : length key ≡ 16 → h ≡ record { number = 0; size = 0 }
+  pub refused : length key ≢ 16 → h ≡ refusal 1
 
 -- document 01's table for decryption: the length on success, which in Cbc is less by the last decrypted byte
 abbrev pub decryptLength : CipherMode → List ℕ → List ℕ → List ℕ → ℕ

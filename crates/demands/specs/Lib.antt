@@ -1,8 +1,14 @@
 pub mod Call
+-- demand 1
 pub mod Answered
-pub mod ThereAndBack
-pub mod OneBlockRefused
-pub mod TrailingZero
-pub mod OtherEdition
 pub mod OneOutcome
 pub mod NoUsableKey
+-- demand 2
+pub mod ThereAndBack
+-- demand 3, and what the demands were for
+pub mod OneBlockRefused
+pub mod OtherEdition
+pub mod TrailingZero
+-- the worked table and the imposters
+pub mod Worked
+pub mod Imposters

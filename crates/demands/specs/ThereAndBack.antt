@@ -13,8 +13,8 @@ pub record Returns (d : List ℕ) (x : Outcome) : Type 0 where
   pub size : x .head .size ≡ length d
   pub message : result x ≡ d
 
--- whenever `there` answers 0, `back`, given its result, the same label and IV, and an output o′ with room for that many
--- bytes, answers 0 with the data that `there` was given
+-- Whenever `there` answers 0, `back`, given its result, the same label and IV, and an output o′ with room, answers 0 with the
+-- data that `there` was given. `room` says how much room `back` needs for n bytes.
 abbrev pub ThereAndBack : (ℕ → ℕ) → Call → Call → Type 0
 ThereAndBack room there back =
     (label d iv o o′ : List ℕ) → AreBytes d → AreBytes iv

@@ -1,0 +1,42 @@
+-- Calls that look like encryption or decryption to a careless test, and are not.
+use mathlib.Core.List.{List, _++_}
+use Prim.Native.Nat.{ℕ}
+use lib.ListN.{length, take, drop, replicate}
+use Rattle.cipher_mode.specs.declared.Answer.the-variants.{InvalidTag}
+use Rattle.cipher_mode.specs.declared.CipherMode.the-variants.{Ctr}
+use Rattle.cipher_mode.specs.declared.Sm4CipherMode.{Sm4CipherMode}
+use Rattle.cipher_mode.specs.Outcome.{Outcome, outcome, done}
+use Rattle.cipher_mode.specs.Key.{newCipherMode}
+use Rattle.cipher_mode.specs.Calls.{encrypted, encryptCall}
+use Rattle.demands.specs.Call.{Call}
+
+-- refuses everything
+abbrev pub refusesAll : Call
+refusesAll label d iv o = outcome InvalidTag o
+
+-- answers x, whatever it is given
+abbrev pub constant : Outcome → Call
+constant x label d iv o = x
+
+-- copies the data through untouched
+abbrev pub copies : Call
+copies label d iv o = done d o
+
+-- ciphers the first block and copies the rest
+abbrev pub firstBlockOnly : Sm4CipherMode → Call
+firstBlockOnly m label d iv o = done (take 16 (encrypted (m .mode) (m .cipher .rk) iv label d) ++ drop 16 d) o
+
+-- does what encryption does, and reports the output's length
+abbrev pub inventsLength : Sm4CipherMode → Call
+inventsLength m label d iv o =
+    record {
+      head = record { number = encryptCall m label d iv o .head .number; size = length o };
+      bytes = encryptCall m label d iv o .bytes;
+    }
+
+-- what they are held against: encryption in Ctr under the key, and the IV, of sixteen zero bytes
+abbrev pub zeros : List ℕ
+zeros = replicate 16 0
+
+abbrev pub zeroKey : Sm4CipherMode
+zeroKey = newCipherMode zeros Ctr
