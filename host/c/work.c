@@ -2,6 +2,7 @@
  * its key set up anew.
  *
  *   work archive|libgcrypt|OpenSSL MODE encrypt|decrypt SIZE TIMES
+ *   work version libgcrypt|OpenSSL
  *
  * MODE is 0 to 4. Exit status 3 where the library does not have the mode.
  */
@@ -22,22 +23,32 @@ static int archive(int mode, int direction, struct field data, uint8_t *out, siz
     return a.number == 0;
 }
 
-static int peer(const char *who, int mode, int direction, struct field data, uint8_t *out)
+static const struct peer *named(const char *who)
 {
-    const struct field no_label = {NULL, 0};
     for (int i = 0; i < 2; i++) {
         if (strcmp(who, peers[i].name) == 0) {
-            return peers[i].run(mode, direction, key, iv, no_label, data, out) == DONE;
+            return &peers[i];
         }
     }
     fprintf(stderr, "work: no library '%s'\n", who);
     exit(64);
 }
 
+static int peer(const char *who, int mode, int direction, struct field data, uint8_t *out)
+{
+    const struct field no_label = {NULL, 0};
+    return named(who)->run(mode, direction, key, iv, no_label, data, out) == DONE;
+}
+
 int main(int argc, char **argv)
 {
+    if (argc == 3 && strcmp(argv[1], "version") == 0) {
+        start_peers();
+        puts(named(argv[2])->version());
+        return 0;
+    }
     if (argc != 6) {
-        fprintf(stderr, "usage: work archive|libgcrypt|OpenSSL MODE encrypt|decrypt SIZE TIMES\n");
+        fprintf(stderr, "usage: work archive|libgcrypt|OpenSSL MODE encrypt|decrypt SIZE TIMES, or work version libgcrypt|OpenSSL\n");
         return 64;
     }
     int mode = atoi(argv[2]), direction = strcmp(argv[3], "decrypt") == 0 ? DECRYPT : ENCRYPT;
