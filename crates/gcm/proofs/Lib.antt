@@ -1,4 +1,3 @@
-pub mod Same
 pub mod TagTest
 pub mod Parts
 pub mod RoundTrip

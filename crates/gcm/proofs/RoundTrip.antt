@@ -8,8 +8,9 @@ use lib.ListN.{length, take-append-drop}
 use Rattle.counter.specs.Counter.{gcmNext}
 use Rattle.stream.specs.declared.Kind.the-variants.{Gctr}
 use Rattle.stream.proofs.RoundTrip.{stream-back}
-use Rattle.gcm.specs.Gcm.{textOf, tagOf, sealed, textPart, tagPart, same, opensUnder}
-use Rattle.gcm.proofs.Same.{same-refl, same-equal}
+use Rattle.gcm.specs.Gcm.{textOf, tagOf, sealed, textPart, tagPart, opensUnder}
+use Rattle.block.specs.Same.{same}
+use Rattle.block.proofs.Same.{same-refl, same-equal}
 use Rattle.gcm.proofs.Parts.{sealed-text, sealed-tag}
 
 text-back : (rk j d : List ℕ) → textOf rk j (textOf rk j d) ≡ d

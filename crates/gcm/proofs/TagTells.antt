@@ -15,8 +15,9 @@ use Rattle.cipher.specs.Sm4.{encryptBlock}
 use Rattle.cipher.proofs.Blocks.{length-encryptBlock}
 use Rattle.ghash.specs.Ghash.{ghash, authBlocks}
 use Rattle.ghash.proofs.Join.{ghash-lt}
-use Rattle.gcm.specs.Gcm.{tagOf, textPart, tagPart, same, opensUnder}
-use Rattle.gcm.proofs.Same.{same-equal, same-not}
+use Rattle.gcm.specs.Gcm.{tagOf, textPart, tagPart, opensUnder}
+use Rattle.block.specs.Same.{same}
+use Rattle.block.proofs.Same.{same-equal, same-not}
 use Rattle.gcm.proofs.Parts.{parts-text, parts-tag}
 
 -- what is xored with a block comes back

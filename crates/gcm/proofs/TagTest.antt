@@ -15,8 +15,9 @@ use Rattle.block.specs.Xor.{_⊕_, xors}
 use Rattle.block.proofs.Entries.{below-drop}
 use Rattle.block.proofs.Xor.{xor-same}
 use Rattle.block.proofs.WordsBack.{four-entries, xors-four, words-unwords, unwords-words, length-words, words-below}
-use Rattle.gcm.specs.Gcm.{tagOf, textPart, tagPart, same, opensUnder}
-use Rattle.gcm.proofs.Same.{same-refl, same-equal, test-iff}
+use Rattle.gcm.specs.Gcm.{tagOf, textPart, tagPart, opensUnder}
+use Rattle.block.specs.Same.{same}
+use Rattle.block.proofs.Same.{same-refl, same-equal, test-iff}
 
 or-none-left : (a b : ℕ) → bitOr a b ≡ 0 → a ≡ 0
 or-none-left a b e = omega (arith, or-add-and a b, and-le-r a b)

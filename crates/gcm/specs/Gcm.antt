@@ -1,10 +1,10 @@
 -- GCM, NIST SP 800-38D, over round keys, H and J0.
-use Prim.Native.Nat.{ℕ, _+_, _-_}
-use mathlib.Core.Bool.{Bool, true, false, _&&_, cond}
+use Prim.Native.Nat.{ℕ, _-_}
+use mathlib.Core.Bool.{Bool, cond}
 use mathlib.Core.List.{List, [], _∷_, _++_}
-use lib.Dec.{eqb}
 use lib.ListN.{length, take, drop, replicate}
 use Rattle.block.specs.BigEndian.{numberOf, bytesOf}
+use Rattle.block.specs.Same.{same}
 use Rattle.block.specs.Xor.{xors}
 use Rattle.cipher.specs.Sm4.{encryptBlock}
 use Rattle.counter.specs.Counter.{gcmNext}
@@ -41,13 +41,6 @@ textPart s = take (length s - 16) s
 
 abbrev pub tagPart : List ℕ → List ℕ
 tagPart s = drop (length s - 16) s
-
--- whether two lists are the same
-unfoldable pub same : List ℕ → List ℕ → Bool
-same [] [] = true
-same [] (y ∷ b) = false
-same (x ∷ a) [] = false
-same (x ∷ a) (y ∷ b) = eqb x y && same a b
 
 -- whether a sealed message opens under a label
 unfoldable pub opensUnder : List ℕ → ℕ → List ℕ → List ℕ → List ℕ → Bool

@@ -7,7 +7,7 @@ use Prim.Native.Nat.{ℕ}
 use native.Mathlib.Omega.{arith}
 use lib.Dec.{eqb}
 use borrow.Author.Tests.{eq-eqb, eqb-true}
-use Rattle.gcm.specs.Gcm.{same}
+use Rattle.block.specs.Same.{same}
 
 and-left : (a b : Bool) → (a && b) ≡ true → a ≡ true
 and-left true b h = refl
