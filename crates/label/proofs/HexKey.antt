@@ -10,9 +10,9 @@ use native.Mathlib.Omega.{arith}
 use lib.ListN.{length, take, drop, length-drop}
 use lib.Seq.{length-take-le, take-all}
 use Rattle.label.specs.Hex.{isHex, hexBytes}
-use Rattle.label.specs.Text.{every}
+use Rattle.label.specs.Every.{every}
 use Rattle.label.specs.Key.{isBlank, isHexKey, keyOf}
-use Rattle.label.proofs.Verdicts.{both-first, both-second}
+use Rattle.block.proofs.Same.{and-left, and-right}
 use Rattle.label.proofs.HexPairs.{length-hexBytes}
 
 -- a part that runs to the end of a list is the list from there on
@@ -22,11 +22,11 @@ to-end n s = take-all (length s - n) (drop n s) (simp length-drop (omega arith))
 module _ (f : List ℕ) where
   pub hex-key-long : isHexKey f ≡ true → 32 ≤ length f
   unfolding isHexKey
-  hex-key-long e = leb-true 32 (length f) (both-first _ _ e)
+  hex-key-long e = leb-true 32 (length f) (and-left _ _ e)
 
   pub hex-key-hex : isHexKey f ≡ true → isHex (take 32 f) ≡ true
   unfolding isHexKey
-  hex-key-hex e = both-first (isHex (take 32 f)) (every isBlank (drop 32 f)) (both-second (leb 32 (length f)) _ e)
+  hex-key-hex e = and-left (isHex (take 32 f)) (every isBlank (drop 32 f)) (and-right (leb 32 (length f)) _ e)
 
   pub hex-key-size : isHexKey f ≡ true → length (take 32 f) ≡ 32
   hex-key-size e = length-take-le 32 f (hex-key-long e)

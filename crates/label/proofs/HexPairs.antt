@@ -9,18 +9,18 @@ use native.Mathlib.Omega.{arith}
 use borrow.Author.Tests.{ltb-true}
 use lib.ListN.{length, take, drop, getD, set, length-drop, take-append-drop}
 use lib.Seq.{drop-cons, take-suc-set, drop-set-lt}
-use Rattle.label.specs.Text.{every}
-use Rattle.label.proofs.Verdicts.{both-first, both-second}
+use Rattle.label.specs.Every.{every}
+use Rattle.block.proofs.Same.{and-left, and-right}
 use Rattle.label.specs.Hex.{digitOf, isHexDigit, isHex, hexBytes}
 
 every-at : (f : ℕ → Bool) (s : List ℕ) (i : ℕ) → i < length s → every f s ≡ true → f (getD s i 0) ≡ true
 every-at f [] i h e = absurd (omega arith)
-every-at f (b ∷ s) zero h e = both-first (f b) (every f s) e
-every-at f (b ∷ s) (suc i) h e = every-at f s i (omega arith) (both-second (f b) (every f s) e)
+every-at f (b ∷ s) zero h e = and-left (f b) (every f s) e
+every-at f (b ∷ s) (suc i) h e = every-at f s i (omega arith) (and-right (f b) (every f s) e)
 
 pub hex-digit : (s : List ℕ) (i : ℕ) → i < length s → isHex s ≡ true → digitOf (getD s i 0) < 16
 unfolding isHex
-hex-digit s i h e = ltb-true _ 16 (every-at isHexDigit s i h (both-first _ _ e))
+hex-digit s i h e = ltb-true _ 16 (every-at isHexDigit s i h (and-left _ _ e))
 
 -- the byte of the pair at place i of the digits
 abbrev pub pairAt : List ℕ → ℕ → ℕ

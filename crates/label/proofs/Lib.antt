@@ -1,4 +1,5 @@
 pub mod LabelTells
+pub mod Bounds
 mod StatusTells
 mod Verdicts
 mod Walks

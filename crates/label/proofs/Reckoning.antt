@@ -1,7 +1,7 @@
 -- A walk over decimal digits: what is left of them decides, together with the number that those before it spell.
 -- Assumes nothing.
 use mathlib.Core.Path.{_≡_, sym, _∙_}
-use mathlib.Core.Bool.{Bool, true, false, _&&_}
+use mathlib.Core.Bool.{true, false, cond, _&&_, and-false}
 use mathlib.Core.List.{List, [], _∷_}
 use Prim.Native.Nat.{ℕ, _+_, _*_, _-_, _<_, _≤_}
 use native.Mathlib.Numerals.{add-one}
@@ -10,15 +10,14 @@ use borrow.Author.Tests.{le-leb, lt-leb}
 use lib.Dec.{leb}
 use lib.ListN.{length, drop, getD, drop-of-length-le}
 use lib.Seq.{drop-cons}
-use Rattle.label.specs.Text.{pick, every}
+use Rattle.label.specs.Every.{every}
 use Rattle.label.specs.Decimal.{isDigit, spelled, numberIn}
-use Rattle.label.proofs.Verdicts.{both-no}
 use Rattle.label.specs.declared.decimal.Number.{Number}
 use Rattle.label.specs.declared.decimal.Number.the-variants.{Is, Not}
 
 -- what comes of the digits s after those that spell v
 abbrev pub decided : ℕ → ℕ → List ℕ → Number
-decided most v s = pick (every isDigit s && leb (spelled v s) most) (Is (spelled v s)) Not
+decided most v s = cond (every isDigit s && leb (spelled v s) most) (Is (spelled v s)) Not
 
 pub decided-all : (most : ℕ) (s : List ℕ) → 0 < length s → decided most 0 s ≡ numberIn most s
 unfolding numberIn
@@ -36,7 +35,7 @@ grows v (b ∷ s) = let h = grows (v * 10 + (b - 48)) s in omega arith
 module _ (most v : ℕ) (s : List ℕ) (i : ℕ) (r : Number) (e : decided most v (drop i s) ≡ r) where
   turn : i < length s
       → decided most v (drop i s)
-      ≡ pick ((isDigit (getD s i 0) && every isDigit (drop (i + 1) s)) && leb (spelled (v * 10 + (getD s i 0 - 48)) (drop (i + 1) s)) most)
+      ≡ cond ((isDigit (getD s i 0) && every isDigit (drop (i + 1) s)) && leb (spelled (v * 10 + (getD s i 0 - 48)) (drop (i + 1) s)) most)
       (Is (spelled (v * 10 + (getD s i 0 - 48)) (drop (i + 1) s)))
       Not
   turn h = rw (add-one, drop-cons s i 0)
@@ -47,7 +46,7 @@ module _ (most v : ℕ) (s : List ℕ) (i : ℕ) (r : Number) (e : decided most 
   pub decided-large : i < length s → most < v * 10 + (getD s i 0 - 48) → Not ≡ r
   decided-large h k =
       let g = grows (v * 10 + (getD s i 0 - 48)) (drop (i + 1) s) in
-      sym (turn h ∙ rw (lt-leb (spelled (v * 10 + (getD s i 0 - 48)) (drop (i + 1) s)) most (omega arith), both-no)) ∙ e
+      sym (turn h ∙ rw (lt-leb (spelled (v * 10 + (getD s i 0 - 48)) (drop (i + 1) s)) most (omega arith), and-false)) ∙ e
 
   pub decided-on : i < length s → isDigit (getD s i 0) ≡ true → decided most (v * 10 + (getD s i 0 - 48)) (drop (i + 1) s) ≡ r
   decided-on h t = sym (turn h ∙ rw t) ∙ e

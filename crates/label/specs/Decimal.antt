@@ -1,10 +1,10 @@
 -- A number as a person types it: decimal digits and nothing else, and not above a bound.
 use Prim.Native.Nat.{ℕ, _+_, _*_, _-_}
-use mathlib.Core.Bool.{Bool, _&&_}
+use mathlib.Core.Bool.{Bool, cond, _&&_}
 use mathlib.Core.List.{List, [], _∷_}
 use lib.Dec.{leb}
 use lib.ListN.{length}
-use Rattle.label.specs.Text.{pick, every}
+use Rattle.label.specs.Every.{every}
 use Rattle.label.specs.declared.decimal.Number.{Number}
 use Rattle.label.specs.declared.decimal.Number.the-variants.{Is, Not}
 
@@ -18,4 +18,4 @@ spelled v [] = v
 spelled v (b ∷ s) = spelled (v * 10 + (b - 48)) s
 
 unfoldable pub numberIn : ℕ → List ℕ → Number
-numberIn most s = pick (leb 1 (length s) && (every isDigit s && leb (spelled 0 s) most)) (Is (spelled 0 s)) Not
+numberIn most s = cond (leb 1 (length s) && (every isDigit s && leb (spelled 0 s) most)) (Is (spelled 0 s)) Not

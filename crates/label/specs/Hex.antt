@@ -1,19 +1,19 @@
 -- Bytes as a person types them: hex digits in either case, two to a byte, and nothing else.
 use Prim.Native.Nat.{ℕ, _+_, _*_, _-_, _/_, _%_}
-use mathlib.Core.Bool.{Bool, _&&_}
+use mathlib.Core.Bool.{Bool, cond, _&&_}
 use mathlib.Core.List.{List, [], _∷_, _++_}
 use lib.Dec.{leb, ltb, eqb}
 use lib.ListN.{length, drop}
-use Rattle.label.specs.Text.{pick, every}
+use Rattle.label.specs.Every.{every}
 use Rattle.label.specs.declared.hex.Hex.{Hex}
 use Rattle.label.specs.declared.hex.Hex.the-variants.{Bytes, NotHex, NoRoom}
 
 -- the value of a digit: '0' to '9', 'a' to 'f', 'A' to 'F'; 16 for a byte that is none
 unfoldable pub digitOf : ℕ → ℕ
 digitOf b =
-    pick (leb 48 b && leb b 57) (b - 48)
-    (pick (leb 97 b && leb b 102) (b - 87)
-    (pick (leb 65 b && leb b 70) (b - 55)
+    cond (leb 48 b && leb b 57) (b - 48)
+    (cond (leb 97 b && leb b 102) (b - 87)
+    (cond (leb 65 b && leb b 70) (b - 55)
     16))
 
 abbrev pub isHexDigit : ℕ → Bool
@@ -30,7 +30,7 @@ hexBytes (a ∷ (b ∷ s)) = (digitOf a * 16 + digitOf b) ∷ hexBytes s
 
 -- what comes back, and what stands in the room that was lent
 unfoldable pub hexAnswer : List ℕ → List ℕ → Hex
-hexAnswer s o = pick (isHex s) (pick (leb (length s / 2) (length o)) (Bytes (length s / 2)) NoRoom) NotHex
+hexAnswer s o = cond (isHex s) (cond (leb (length s / 2) (length o)) (Bytes (length s / 2)) NoRoom) NotHex
 
 unfoldable pub hexOut : List ℕ → List ℕ → List ℕ
-hexOut s o = pick (isHex s) (pick (leb (length s / 2) (length o)) (hexBytes s ++ drop (length s / 2) o) o) o
+hexOut s o = cond (isHex s) (cond (leb (length s / 2) (length o)) (hexBytes s ++ drop (length s / 2) o) o) o

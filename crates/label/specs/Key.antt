@@ -1,15 +1,15 @@
 -- What key a file holds.
 use Prim.Native.Nat.{ℕ}
-use mathlib.Core.Bool.{Bool, true, _&&_}
+use mathlib.Core.Bool.{Bool, true, cond, _&&_}
 use mathlib.Core.List.{List}
 use lib.Dec.{leb, eqb}
 use lib.ListN.{length, take, drop}
-use Rattle.label.specs.Text.{pick, every}
+use Rattle.label.specs.Every.{every}
 use Rattle.label.specs.Hex.{isHex, hexBytes}
 
 -- a space, a tab, or an end of line of either kind
 unfoldable pub isBlank : ℕ → Bool
-isBlank b = pick (eqb b 32) true (pick (eqb b 9) true (pick (eqb b 10) true (eqb b 13)))
+isBlank b = cond (eqb b 32) true (cond (eqb b 9) true (cond (eqb b 10) true (eqb b 13)))
 
 -- 32 hex digits, and after them at most blanks
 unfoldable pub isHexKey : List ℕ → Bool
@@ -17,4 +17,4 @@ isHexKey file = leb 32 (length file) && (isHex (take 32 file) && every isBlank (
 
 -- such a file holds the bytes that its digits spell, any other its own bytes
 unfoldable pub keyOf : List ℕ → List ℕ
-keyOf file = pick (isHexKey file) (hexBytes (take 32 file)) file
+keyOf file = cond (isHexKey file) (hexBytes (take 32 file)) file

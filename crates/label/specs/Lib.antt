@@ -1,5 +1,5 @@
 pub mod Ascii
-pub mod Text
+pub mod Every
 pub mod Label
 pub mod Decimal
 pub mod Hex

@@ -1,10 +1,9 @@
 -- What a line of words says: each thing that its command wants, once.
 use Prim.Native.Nat.{ℕ, zero, suc}
-use mathlib.Core.Bool.{Bool, true, false, _&&_}
+use mathlib.Core.Bool.{Bool, true, false, cond, _&&_}
 use mathlib.Core.List.{List, []}
 use lib.Dec.{ltb, eqb}
 use lib.ListN.{getD, set, replicate}
-use Rattle.label.specs.Text.{pick}
 use Rattle.label.specs.Words.{optionOf, isOption, wantsOf}
 use Rattle.label.specs.declared.words.Command.{Command}
 use Rattle.label.specs.declared.line.Fault.{Fault}
@@ -42,24 +41,24 @@ faulty l f i = record { command = l .command; places = l .places; next = l .next
 -- option k at place i: one that there is, that the command wants, and that has not been said
 unfoldable pub afterOption : Line → ℕ → ℕ → Line
 afterOption l k i =
-    pick (eqb k 7) (faulty l NoSuchOption i)
-    (pick (wantsOf (l .command) k)
-    (pick (unsaid l k) (await l k) (faulty l SaidTwice i))
+    cond (eqb k 7) (faulty l NoSuchOption i)
+    (cond (wantsOf (l .command) k)
+    (cond (unsaid l k) (await l k) (faulty l SaidTwice i))
     (faulty l NotOfThisCommand i))
 
 -- any other word is IN, and after that OUT where the command wants one
 unfoldable pub afterFile : Line → ℕ → Line
 afterFile l i =
-    pick (unsaid l 5) (said l 5 i)
-    (pick (wantsOf (l .command) 6 && unsaid l 6) (said l 6 i) (faulty l OneTooMany i))
+    cond (unsaid l 5) (said l 5 i)
+    (cond (wantsOf (l .command) 6 && unsaid l 6) (said l 6 i) (faulty l OneTooMany i))
 
 -- the line after the word w, at place i, has been read: the first fault stays
 unfoldable pub afterWord : Line → List ℕ → ℕ → Line
 afterWord l w i =
-    pick (sound (l .fault))
-    (pick (ltb (l .next) 7)
-    (pick (isOption w) (faulty l NoValue i) (said l (l .next) i))
-    (pick (isOption w) (afterOption l (optionOf w) i) (afterFile l i)))
+    cond (sound (l .fault))
+    (cond (ltb (l .next) 7)
+    (cond (isOption w) (faulty l NoValue i) (said l (l .next) i))
+    (cond (isOption w) (afterOption l (optionOf w) i) (afterFile l i)))
     l
 
 -- a thing that the command wants and that has not been said
@@ -69,7 +68,7 @@ lacks l k = wantsOf (l .command) k && unsaid l k
 -- the first such thing of the n from k on, or 7
 unfoldable pub lackingFrom : Line → ℕ → ℕ → ℕ
 lackingFrom l zero k = 7
-lackingFrom l (suc n) k = pick (lacks l k) k (lackingFrom l n (suc k))
+lackingFrom l (suc n) k = cond (lacks l k) k (lackingFrom l n (suc k))
 
 unfoldable pub lackingIn : Line → ℕ
 lackingIn l = lackingFrom l 7 0

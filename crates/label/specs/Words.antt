@@ -1,11 +1,11 @@
 -- The words that a person can type: commands, modes, options.
 use Prim.Native.Nat.{ℕ}
-use mathlib.Core.Bool.{Bool, false, not, _&&_}
+use mathlib.Core.Bool.{Bool, false, not, cond, _&&_}
 use mathlib.Core.List.{List}
 use lib.Dec.{leb, eqb}
 use lib.ListN.{length, getD}
 use Rattle.label.specs.Ascii.{bytes}
-use Rattle.label.specs.Text.{pick, alike}
+use Rattle.block.specs.Same.{same}
 use Rattle.label.specs.declared.words.Command.{Command}
 use Rattle.label.specs.declared.words.Command.the-variants.{Seal, Open, Opens, Encrypt, Decrypt, Unknown}
 use Rattle.label.specs.declared.words.ModeName.{ModeName}
@@ -13,29 +13,29 @@ use Rattle.label.specs.declared.words.ModeName.the-variants.{Cfb, Ofb, C
 
 unfoldable pub commandOf : List ℕ → Command
 commandOf w =
-    pick (alike w (bytes "seal")) Seal
-    (pick (alike w (bytes "open")) Open
-    (pick (alike w (bytes "opens")) Opens
-    (pick (alike w (bytes "encrypt")) Encrypt
-    (pick (alike w (bytes "decrypt")) Decrypt
+    cond (same w (bytes "seal")) Seal
+    (cond (same w (bytes "open")) Open
+    (cond (same w (bytes "opens")) Opens
+    (cond (same w (bytes "encrypt")) Encrypt
+    (cond (same w (bytes "decrypt")) Decrypt
     Unknown))))
 
 unfoldable pub modeOf : List ℕ → ModeName
 modeOf w =
-    pick (alike w (bytes "cfb")) Cfb
-    (pick (alike w (bytes "ofb")) Ofb
-    (pick (alike w (bytes "ctr")) Ctr
-    (pick (alike w (bytes "cbc")) Cbc
+    cond (same w (bytes "cfb")) Cfb
+    (cond (same w (bytes "ofb")) Ofb
+    (cond (same w (bytes "ctr")) Ctr
+    (cond (same w (bytes "cbc")) Cbc
     NoMode)))
 
 -- what a line says, by number: 0 the mode, 1 the key, 2 the IV, 3 the job, 4 the edition, 5 IN, 6 OUT
 unfoldable pub optionOf : List ℕ → ℕ
 optionOf w =
-    pick (alike w (bytes "--mode")) 0
-    (pick (alike w (bytes "--key")) 1
-    (pick (alike w (bytes "--iv")) 2
-    (pick (alike w (bytes "--job")) 3
-    (pick (alike w (bytes "--edition")) 4
+    cond (same w (bytes "--mode")) 0
+    (cond (same w (bytes "--key")) 1
+    (cond (same w (bytes "--iv")) 2
+    (cond (same w (bytes "--job")) 3
+    (cond (same w (bytes "--edition")) 4
     7))))
 
 -- an option begins with a dash; a dash alone is a file

@@ -5,7 +5,7 @@ ghost use mathlib.Core.Bool.{true};
 ghost use Prim.Native.Nat.{_/_, _≤_};
 ghost use lib.ListN.{length, drop};
 ghost use Rattle.label.specs.Hex.{digitOf, isHexDigit, isHex, hexBytes, hexAnswer, hexOut};
-ghost use Rattle.label.specs.Text.{every};
+ghost use Rattle.label.specs.Every.{every};
 
 pub enum Hex {
     Bytes(usize),

@@ -1,10 +1,10 @@
 // Comparing words.
 ghost use mathlib.Core.Path.{_≡_};
-ghost use Rattle.label.specs.Text.{alike};
+ghost use Rattle.block.specs.Same.{same};
 
 // Whether two words are the same.
-pub fn same(a: &[u8], b: &[u8]) -> bool
-    ensures { λ r. ⌜ r ≡ alike (now (a .entry)) (now (b .entry)) ⌝ }
+pub fn alike(a: &[u8], b: &[u8]) -> bool
+    ensures { λ r. ⌜ r ≡ same (now (a .entry)) (now (b .entry)) ⌝ }
 {
     if a.len() != b.len() {
         return false;

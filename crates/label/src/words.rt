@@ -1,7 +1,7 @@
 // The words that a person can type.
 ghost use mathlib.Core.Path.{_≡_};
 ghost use Rattle.label.specs.Words.{commandOf, modeOf, optionOf, isOption, wantsOf};
-use crate::text::same;
+use crate::text::alike;
 
 pub enum Command {
     Seal,
@@ -40,19 +40,19 @@ pub const NOTHING: usize = 7;
 pub fn read_command(word: &[u8]) -> Command
     ensures { λ r. ⌜ r ≡ commandOf (now (word .entry)) ⌝ }
 {
-    if same(word, b"seal") {
+    if alike(word, b"seal") {
         return Command::Seal;
     }
-    if same(word, b"open") {
+    if alike(word, b"open") {
         return Command::Open;
     }
-    if same(word, b"opens") {
+    if alike(word, b"opens") {
         return Command::Opens;
     }
-    if same(word, b"encrypt") {
+    if alike(word, b"encrypt") {
         return Command::Encrypt;
     }
-    if same(word, b"decrypt") {
+    if alike(word, b"decrypt") {
         return Command::Decrypt;
     }
     Command::Unknown
@@ -61,16 +61,16 @@ pub fn read_command(word: &[u8]) -> Command
 pub fn read_mode(word: &[u8]) -> ModeName
     ensures { λ r. ⌜ r ≡ modeOf (now (word .entry)) ⌝ }
 {
-    if same(word, b"cfb") {
+    if alike(word, b"cfb") {
         return ModeName::Cfb;
     }
-    if same(word, b"ofb") {
+    if alike(word, b"ofb") {
         return ModeName::Ofb;
     }
-    if same(word, b"ctr") {
+    if alike(word, b"ctr") {
         return ModeName::Ctr;
     }
-    if same(word, b"cbc") {
+    if alike(word, b"cbc") {
         return ModeName::Cbc;
     }
     ModeName::Unknown
@@ -80,19 +80,19 @@ pub fn read_mode(word: &[u8]) -> ModeName
 pub fn read_option(word: &[u8]) -> usize
     ensures { λ r. ⌜ r ≡ optionOf (now (word .entry)) ⌝ }
 {
-    if same(word, b"--mode") {
+    if alike(word, b"--mode") {
         return MODE;
     }
-    if same(word, b"--key") {
+    if alike(word, b"--key") {
         return KEY;
     }
-    if same(word, b"--iv") {
+    if alike(word, b"--iv") {
         return IV;
     }
-    if same(word, b"--job") {
+    if alike(word, b"--job") {
         return JOB;
     }
-    if same(word, b"--edition") {
+    if alike(word, b"--edition") {
         return EDITION;
     }
     NOTHING

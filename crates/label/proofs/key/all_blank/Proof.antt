@@ -4,7 +4,7 @@ use Prim.Native.Nat.{_≤_, _-_}
 use native.Mathlib.Omega.{arith}
 use denote.Ref.{now}
 use lib.ListN.{length, drop}
-use Rattle.label.specs.Text.{every}
+use Rattle.label.specs.Every.{every}
 use Rattle.label.proofs.Verdicts.{told}
 use Rattle.label.proofs.Walks.{every-stop, every-go, every-end}
 use borrow.Author.Tests.{not-true, not-false}

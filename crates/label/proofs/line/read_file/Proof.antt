@@ -13,15 +13,23 @@ returns c = c .say .ensures ∙ rw (told (c .before .before .is-unsaid .ensures)
 
 returns-2 : tie.Need-returns-2
 unfolding afterFile
-returns-2 c = c .blame .ensures ∙ rw (told (c .before .before .before .before .is-unsaid .ensures) (c .before .before .before .if1 .left), told (c .before .before .wants .ensures) (not-true _ (c .before .if2 .taken)))
+returns-2 c =
+    let u = c .before .before .before in
+    c .blame .ensures ∙ rw (told (u .before .is-unsaid .ensures) (u .if1 .left), told (c .before .before .wants .ensures) (not-true _ (c .before .if2 .taken)))
 
 returns-3 : tie.Need-returns-3
 unfolding afterFile
-returns-3 c = c .blame2 .ensures ∙ rw (told (c .before .before .before .before .before .before .is-unsaid .ensures) (c .before .before .before .before .before .if1 .left), told (c .before .before .before .before .wants .ensures) (not-false _ (c .before .before .before .if2 .left)), told (c .before .before .is-unsaid2 .ensures) (not-true _ (c .before .if3 .taken)))
+returns-3 c =
+    let w = c .before .before .before in
+    let u = w .before .before in
+    c .blame2 .ensures ∙ rw (told (u .before .is-unsaid .ensures) (u .if1 .left), told (w .before .wants .ensures) (not-false _ (w .if2 .left)), told (c .before .before .is-unsaid2 .ensures) (not-true _ (c .before .if3 .taken)))
 
 returns-4 : tie.Need-returns-4
 unfolding afterFile
-returns-4 c = c .say2 .ensures ∙ rw (told (c .before .before .before .before .before .before .is-unsaid .ensures) (c .before .before .before .before .before .if1 .left), told (c .before .before .before .before .wants .ensures) (not-false _ (c .before .before .before .if2 .left)), told (c .before .before .is-unsaid2 .ensures) (not-false _ (c .before .if3 .left)))
+returns-4 c =
+    let w = c .before .before .before in
+    let u = w .before .before in
+    c .say2 .ensures ∙ rw (told (u .before .is-unsaid .ensures) (u .if1 .left), told (w .before .wants .ensures) (not-false _ (w .if2 .left)), told (c .before .before .is-unsaid2 .ensures) (not-false _ (c .before .if3 .left)))
 
 pub read-file-spec : {M : Type 1} → statement M
 read-file-spec =

@@ -7,20 +7,20 @@ use Rattle.label.proofs.words.read_command.Tie as tie
 
 returns : tie.Need-returns
 unfolding commandOf
-returns c = rw (told (c .before .same .ensures) (c .if1 .taken))
+returns c = rw (told (c .before .alike .ensures) (c .if1 .taken))
 
 returns-2 : tie.Need-returns-2
 unfolding commandOf
 returns-2 c =
     let w1 = c .before .before .before in
-    rw (told (w1 .before .same .ensures) (w1 .if1 .left), told (c .before .same2 .ensures) (c .if2 .taken))
+    rw (told (w1 .before .alike .ensures) (w1 .if1 .left), told (c .before .alike2 .ensures) (c .if2 .taken))
 
 returns-3 : tie.Need-returns-3
 unfolding commandOf
 returns-3 c =
     let w2 = c .before .before .before in
     let w1 = w2 .before .before .before in
-    rw (told (w1 .before .same .ensures) (w1 .if1 .left), told (w2 .before .same2 .ensures) (w2 .if2 .left), told (c .before .same3 .ensures) (c .if3 .taken))
+    rw (told (w1 .before .alike .ensures) (w1 .if1 .left), told (w2 .before .alike2 .ensures) (w2 .if2 .left), told (c .before .alike3 .ensures) (c .if3 .taken))
 
 returns-4 : tie.Need-returns-4
 unfolding commandOf
@@ -28,7 +28,7 @@ returns-4 c =
     let w3 = c .before .before .before in
     let w2 = w3 .before .before .before in
     let w1 = w2 .before .before .before in
-    rw (told (w1 .before .same .ensures) (w1 .if1 .left), told (w2 .before .same2 .ensures) (w2 .if2 .left), told (w3 .before .same3 .ensures) (w3 .if3 .left), told (c .before .same4 .ensures) (c .if4 .taken))
+    rw (told (w1 .before .alike .ensures) (w1 .if1 .left), told (w2 .before .alike2 .ensures) (w2 .if2 .left), told (w3 .before .alike3 .ensures) (w3 .if3 .left), told (c .before .alike4 .ensures) (c .if4 .taken))
 
 returns-5 : tie.Need-returns-5
 unfolding commandOf
@@ -37,7 +37,7 @@ returns-5 c =
     let w3 = w4 .before .before .before in
     let w2 = w3 .before .before .before in
     let w1 = w2 .before .before .before in
-    rw (told (w1 .before .same .ensures) (w1 .if1 .left), told (w2 .before .same2 .ensures) (w2 .if2 .left), told (w3 .before .same3 .ensures) (w3 .if3 .left), told (w4 .before .same4 .ensures) (w4 .if4 .left), told (c .before .same5 .ensures) (c .if5 .taken))
+    rw (told (w1 .before .alike .ensures) (w1 .if1 .left), told (w2 .before .alike2 .ensures) (w2 .if2 .left), told (w3 .before .alike3 .ensures) (w3 .if3 .left), told (w4 .before .alike4 .ensures) (w4 .if4 .left), told (c .before .alike5 .ensures) (c .if5 .taken))
 
 returns-6 : tie.Need-returns-6
 unfolding commandOf
@@ -46,7 +46,7 @@ returns-6 c =
     let w3 = w4 .before .before .before in
     let w2 = w3 .before .before .before in
     let w1 = w2 .before .before .before in
-    rw (told (w1 .before .same .ensures) (w1 .if1 .left), told (w2 .before .same2 .ensures) (w2 .if2 .left), told (w3 .before .same3 .ensures) (w3 .if3 .left), told (w4 .before .same4 .ensures) (w4 .if4 .left), told (c .before .same5 .ensures) (c .if5 .left))
+    rw (told (w1 .before .alike .ensures) (w1 .if1 .left), told (w2 .before .alike2 .ensures) (w2 .if2 .left), told (w3 .before .alike3 .ensures) (w3 .if3 .left), told (w4 .before .alike4 .ensures) (w4 .if4 .left), told (c .before .alike5 .ensures) (c .if5 .left))
 
 pub read-command-spec : {M : Type 1} → statement M
 read-command-spec =
