@@ -1,0 +1,33 @@
+-- `with_iv` is safe: the bytes of the IV lie in their buffer. Assumes nothing.
+use mathlib.Core.Path.{sym, _∙_}
+use native.Mathlib.Omega.{arith}
+use Rattle.label.proofs.Bounds.{hex-le}
+use borrow.Author.Needs.{needs}
+use Rattle.transcript.proofs.with_iv.Statement.{statement}
+use Rattle.transcript.proofs.with_iv.Tie as tie
+
+part-with-key-end : tie.Need-part-with-key-end
+part-with-key-end c = omega (arith, hex-le _ _ (sym (c .before .before .read2 .given .1) ∙ c .before .before .before .before .before .read .ensures .0))
+
+pub with-iv-spec : {M : Type 1} → statement M
+with-iv-spec =
+    tie.close
+    (tie.spec
+    (λ c κs. search needs)
+    (λ c. search needs)
+    (λ c. search needs)
+    (λ c κs. search needs)
+    (λ c κs. search needs)
+    (λ c. search needs)
+    (λ c. search needs)
+    (λ c. search needs)
+    (λ c κs. search needs)
+    (λ c. search needs)
+    (λ c. search needs)
+    (λ c κs. search needs)
+    (λ c. search needs)
+    (λ c. search needs)
+    (λ c. search needs)
+    part-with-key-end
+    (λ c κs. search needs)
+    (λ c. search needs))

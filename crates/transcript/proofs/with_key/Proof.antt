@@ -1,0 +1,30 @@
+-- `with_key` is safe: the key lies in its buffer. Assumes nothing.
+use mathlib.Core.Path.{ap}
+use native.Mathlib.Omega.{arith}
+use lib.ListN.{length, length-append}
+use borrow.Author.Needs.{needs}
+use Rattle.transcript.proofs.with_key.Statement.{statement}
+use Rattle.transcript.proofs.with_key.Tie as tie
+
+part-with-input-end : tie.Need-part-with-input-end
+part-with-input-end c = omega (arith, c .before .before .read .ensures .0, simp length-append at (ap length (c .before .before .read .ensures .1)))
+
+pub with-key-spec : {M : Type 1} → statement M
+with-key-spec =
+    tie.close
+    (tie.spec
+    (λ c κs. search needs)
+    (λ c. search needs)
+    (λ c. search needs)
+    (λ c κs. search needs)
+    (λ c. search needs)
+    (λ c κs. search needs)
+    (λ c. search needs)
+    (λ c. search needs)
+    (λ c. search needs)
+    (λ c κs. search needs)
+    (λ c. search needs)
+    (λ c. search needs)
+    part-with-input-end
+    (λ c κs. search needs)
+    (λ c. search needs))

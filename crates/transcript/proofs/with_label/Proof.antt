@@ -1,0 +1,31 @@
+-- `with_label` is safe: an edition that was read fits 16 bits. Assumes nothing.
+use native.Mathlib.Omega.{arith}
+use borrow.Author.Needs.{needs}
+use Rattle.transcript.proofs.with_label.Statement.{statement}
+use Rattle.transcript.proofs.with_label.Tie as tie
+
+cast-t21 : tie.Need-cast-t21
+cast-t21 c = omega (arith, rw (c .before .read2 .given .1) at (c .before .before .before .number-at2 .ensures))
+
+pub with-label-spec : {M : Type 1} → statement M
+with-label-spec =
+    tie.close
+    (tie.spec
+    (λ c. search needs)
+    (λ c κs. search needs)
+    (λ c. search needs)
+    (λ c. search needs)
+    (λ c. search needs)
+    (λ c κs. search needs)
+    (λ c. search needs)
+    (λ c. search needs)
+    (λ c κs. search needs)
+    (λ c. search needs)
+    (λ c. search needs)
+    (λ c. search needs)
+    (λ c κs. search needs)
+    (λ c. search needs)
+    cast-t21
+    (λ c κs. search needs)
+    (λ c κs. search needs)
+    (λ c. search needs))

@@ -1,0 +1,255 @@
+// The program that `./luossavin` runs: it reads a person's words, does what they ask, and ends with a status line for
+// the launcher. What the words mean is settled by the crate `label`, what becomes of the bytes by `cipher_mode`.
+mod files;
+mod say;
+
+ghost use Prim.Native.Nat.{_≤_};
+ghost use lib.ListN.{length};
+ghost use Rattle.cipher_mode.specs.Outcome.{headOf};
+ghost use Rattle.transcript.specs.AtMost.{AtMost};
+use cipher_mode::Answer;
+use cipher_mode::CipherMode;
+use cipher_mode::Sm4CipherMode;
+use label::decimal::Number;
+use label::hex::Hex;
+use label::line::Fault;
+use label::line::Line;
+use label::words::Command;
+use label::words::EDITION;
+use label::words::IN;
+use label::words::IV;
+use label::words::JOB;
+use label::words::KEY;
+use label::words::MODE;
+use label::words::ModeName;
+use label::words::NOTHING;
+use label::words::OUT;
+
+// How a run ends, besides the cipher's refusals.
+const DONE: u8 = 0;
+
+const USAGE: u8 = 64;
+
+const LIMIT: u8 = 65;
+
+const FILES: u8 = 66;
+
+// The descriptor on which the launcher waits for the status line.
+const REPORT: i32 = 9;
+
+// The arguments: after the program's name what the launcher adds to OUT's name while OUT is being written, and then the
+// person's words, of which the first is the command.
+const BESIDE: usize = 1;
+
+const COMMAND: usize = 2;
+
+// What is asked for: the words are in order, but for the files and the sizes of key and IV. Of what is read later
+// `places` has the places of the words. `launcher` is the process that waits for the status line.
+pub struct Asked {
+    pub command: Command,
+    pub places: [usize; 7],
+    pub mode: CipherMode,
+    pub job: u32,
+    pub edition: u16,
+    pub launcher: i32,
+}
+
+fn main() {
+    let status = run();
+    io::write_all(REPORT, &label::status::line(status));
+}
+
+// Room for any argument: the system hands over none that is longer.
+fn word_room() -> [u8; 131072] {
+    [0u8; 131072]
+}
+
+// One byte more than the longest file that a command reads.
+fn file_room() -> [u8; 2097169] {
+    [0u8; 2097169]
+}
+
+fn run() -> u8 {
+    let mut word = word_room();
+    let n = os::arg(COMMAND, &mut word);
+    let command = label::words::read_command(&word[..n]);
+    if let Command::Unknown = command {
+        return say::no_command();
+    }
+    let line = read_line(command);
+    let fault = line.fault;
+    let Fault::NoFault = fault else {
+        return say::fault(line);
+    };
+    let thing = label::line::lacking(line);
+    if thing < NOTHING {
+        return say::missing(thing);
+    }
+    if label::words::wants(command, MODE) {
+        return with_mode(line);
+    }
+    with_label(line)
+}
+
+// The line with the word at a place read too.
+fn read_at(line: Line, at: usize) -> Line {
+    let mut word = word_room();
+    let n = os::arg(at, &mut word);
+    label::line::read_word(line, &word[..n], at)
+}
+
+// Reads the words after the command.
+fn read_line(command: Command) -> Line {
+    let mut line = label::line::start(command);
+    let count = os::arg_count();
+    let mut at = COMMAND + 1;
+    while at < count {
+        let next = read_at(line, at);
+        line = next;
+        at += 1;
+    }
+    line
+}
+
+fn with_mode(line: Line) -> u8 {
+    let command = line.command;
+    let places = line.places;
+    let mut word = word_room();
+    let n = os::arg(places[MODE], &mut word);
+    let name = label::words::read_mode(&word[..n]);
+    if let ModeName::Unknown = name {
+        return say::wrong(MODE, places[MODE]);
+    }
+    with_iv(Asked {
+        command,
+        places,
+        mode: mode_named(name),
+        job: 0,
+        edition: 0,
+        launcher: libc::getppid(),
+    })
+}
+
+fn mode_named(name: ModeName) -> CipherMode {
+    match name {
+        ModeName::Cfb => CipherMode::Cfb,
+        ModeName::Ofb => CipherMode::Ofb,
+        ModeName::Ctr => CipherMode::Ctr,
+        _ => CipherMode::Cbc,
+    }
+}
+
+// The number that the word at a place spells.
+fn number_at(at: usize, most: u32) -> Number
+    ensures { λ r. ⌜ AtMost most r ⌝ }
+{
+    let mut word = word_room();
+    let n = os::arg(at, &mut word);
+    label::decimal::read(&word[..n], most)
+}
+
+fn with_label(line: Line) -> u8 {
+    let command = line.command;
+    let places = line.places;
+    let read = number_at(places[JOB], u32::MAX);
+    let Number::Is(job) = read else {
+        return say::wrong(JOB, places[JOB]);
+    };
+    let read = number_at(places[EDITION], 65535);
+    let Number::Is(edition) = read else {
+        return say::wrong(EDITION, places[EDITION]);
+    };
+    with_iv(Asked {
+        command,
+        places,
+        mode: CipherMode::Gcm,
+        job,
+        edition: edition as u16,
+        launcher: libc::getppid(),
+    })
+}
+
+fn with_iv(asked: Asked) -> u8 {
+    let places = asked.places;
+    let mut word = word_room();
+    let n = os::arg(places[IV], &mut word);
+    let mut iv = io::large_buffer();
+    let read = label::hex::read(&word[..n], &mut iv);
+    let Hex::Bytes(k) = read else {
+        return say::wrong(IV, places[IV]);
+    };
+    with_key(asked, &iv[0..k])
+}
+
+// A file that fills the buffer is no key, whatever follows.
+fn with_key(asked: Asked, iv: &[u8]) -> u8 {
+    let places = asked.places;
+    let mut file = io::buffer();
+    let read = files::read_key(places[KEY], &mut file);
+    if read.status != DONE {
+        return read.status;
+    }
+    let n = read.length;
+    let mut key = io::buffer();
+    let k = label::key::read(&file[..n], &mut key);
+    with_input(asked, &key[0..k], iv)
+}
+
+fn with_input(asked: Asked, key: &[u8], iv: &[u8]) -> u8 {
+    let command = asked.command;
+    let places = asked.places;
+    let mut data = file_room();
+    let read = files::read_input(places[IN], label::status::most(command), &mut data);
+    if read.status != DONE {
+        return read.status;
+    }
+    let n = read.length;
+    let mut out = file_room();
+    let answer = call(asked, key, iv, &data[..n], &mut out);
+    match answer {
+        Answer::Done(k) => deliver(asked, &out[0..k]),
+        Answer::ErrorBlockSize => say::block_size(key.len(), iv.len()),
+        Answer::ErrorDataLen => say::data_len(command, n),
+        Answer::InvalidLastU8 => say::last_byte(),
+        Answer::InvalidTag => say::tag(asked.job, asked.edition),
+        Answer::TooLong => say::too_long(),
+        Answer::NoRoom => say::no_room(),
+        Answer::BadMode => say::bad_mode(),
+    }
+}
+
+fn is_sealing(command: Command) -> bool {
+    match command {
+        Command::Seal => true,
+        Command::Encrypt => true,
+        _ => false,
+    }
+}
+
+// The call that was asked for. A mode without a label passes over it.
+fn call(asked: Asked, key: &[u8], iv: &[u8], data: &[u8], out: &mut [u8]) -> Answer
+    ensures { λ r. ⌜ headOf r .size ≤ length (now (out .exit)) ⌝ }
+{
+    let command = asked.command;
+    let mode = asked.mode;
+    let label = label::label(asked.job, asked.edition);
+    let cipher = Sm4CipherMode::new(key, mode);
+    if is_sealing(command) {
+        return cipher.encrypt(&label, data, iv, out);
+    }
+    cipher.decrypt(&label, data, iv, out)
+}
+
+// Writes what came of it, or says that the file opens. Whoever has killed the launcher has killed the run: then nothing
+// is written any more.
+fn deliver(asked: Asked, bytes: &[u8]) -> u8 {
+    let command = asked.command;
+    let places = asked.places;
+    if libc::getppid() != asked.launcher {
+        return FILES;
+    }
+    if let Command::Opens = command {
+        return say::opens(places[IN], asked.job, asked.edition);
+    }
+    files::put(places[OUT], BESIDE, bytes)
+}

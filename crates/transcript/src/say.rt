@@ -1,0 +1,215 @@
+// What the tool says to a person, on standard error but for the answer to `opens`. What is said of a failure answers the
+// status that the run ends with.
+use crate::COMMAND;
+use crate::DONE;
+use crate::FILES;
+use crate::LIMIT;
+use crate::USAGE;
+use crate::files;
+use crate::word_room;
+use label::line::Fault;
+use label::line::Line;
+use label::words::Command;
+use label::words::EDITION;
+use label::words::IN;
+use label::words::IV;
+use label::words::JOB;
+use label::words::KEY;
+use label::words::MODE;
+use libc::STDERR_FILENO;
+use libc::STDOUT_FILENO;
+
+fn text(s: &[u8]) {
+    io::write_all(STDERR_FILENO, s);
+}
+
+fn number(n: u64) {
+    io::print_decimal(STDERR_FILENO, n);
+}
+
+fn word(at: usize) {
+    let mut room = word_room();
+    let n = os::arg(at, &mut room);
+    text(&room[..n]);
+}
+
+fn quoted(at: usize) {
+    text(b"\"");
+    word(at);
+    text(b"\"");
+}
+
+// "luossavin seal: "
+fn start() {
+    text(b"luossavin ");
+    word(COMMAND);
+    text(b": ");
+}
+
+// Ends a sentence on words that are wrong.
+fn end() -> u8 {
+    text(b"\nFor an example: ./luossavin ");
+    word(COMMAND);
+    text(b" --help\n");
+    USAGE
+}
+
+pub fn no_command() -> u8 {
+    text(b"luossavin: expected seal, open, opens, encrypt or decrypt, not ");
+    quoted(COMMAND);
+    text(b"\nFor an example: ./luossavin --help\n");
+    USAGE
+}
+
+fn expected(thing: usize) {
+    start();
+    text(b"expected ");
+    match thing {
+        MODE => text(b"--mode with cfb, ofb, ctr or cbc"),
+        KEY => text(b"--key with a file of 16 raw bytes or 32 hex digits"),
+        IV => text(b"--iv with hex digits, two to a byte"),
+        JOB => text(b"--job with a whole number from 0 to 4294967295"),
+        EDITION => text(b"--edition with a whole number from 0 to 65535"),
+        IN => text(b"IN, a file to read, or - for standard input"),
+        _ => text(b"OUT, a file to write, or - for standard output"),
+    }
+}
+
+pub fn missing(thing: usize) -> u8 {
+    expected(thing);
+    text(b", which is missing");
+    end()
+}
+
+pub fn wrong(thing: usize, at: usize) -> u8 {
+    expected(thing);
+    text(b", not ");
+    quoted(at);
+    end()
+}
+
+// A word that is at fault where it stands.
+pub fn fault(line: Line) -> u8 {
+    let fault = line.fault;
+    match fault {
+        Fault::NoValue => wrong(line.next, line.at),
+        Fault::SaidTwice => unexpected(b"only once ", line.at),
+        Fault::OneTooMany => unexpected(b"no further word, not ", line.at),
+        _ => no_option(line),
+    }
+}
+
+fn unexpected(what: &[u8], at: usize) -> u8 {
+    start();
+    text(b"expected ");
+    text(what);
+    quoted(at);
+    end()
+}
+
+fn no_option(line: Line) -> u8 {
+    let command = line.command;
+    if label::words::wants(command, MODE) {
+        return unexpected(b"--mode, --key or --iv, not ", line.at);
+    }
+    unexpected(b"--key, --iv, --job or --edition, not ", line.at)
+}
+
+// What the system kept from being read or written, by its last error.
+pub fn cannot(act: &[u8], what: &[u8]) -> u8 {
+    text(b"luossavin: cannot ");
+    text(act);
+    os::fail(what);
+    FILES
+}
+
+pub fn is_link(what: &[u8]) -> u8 {
+    text(b"luossavin: cannot write ");
+    text(what);
+    text(b": it is a link; expected the file itself, or - for standard output\n");
+    FILES
+}
+
+pub fn over_limit(at: usize, most: usize) -> u8 {
+    start();
+    quoted(at);
+    text(b" is longer than the ");
+    number(most as u64);
+    text(b" bytes that this tool takes; nothing was written\n");
+    LIMIT
+}
+
+// The answer to `opens`.
+pub fn opens(at: usize, job: u32, edition: u16) -> u8 {
+    let mut word = word_room();
+    let n = os::arg(at, &mut word);
+    if files::is_dash(&word[..n]) {
+        io::write_all(STDOUT_FILENO, b"standard input");
+    } else {
+        io::write_all(STDOUT_FILENO, &word[..n]);
+    }
+    io::write_all(STDOUT_FILENO, b" opens under job ");
+    io::print_decimal(STDOUT_FILENO, job as u64);
+    io::write_all(STDOUT_FILENO, b", edition ");
+    io::print_decimal(STDOUT_FILENO, edition as u64);
+    if !io::write_all(STDOUT_FILENO, b"\n") {
+        return cannot(b"write to ", b"standard output");
+    }
+    DONE
+}
+
+// The refusals, by number.
+
+pub fn block_size(key: usize, iv: usize) -> u8 {
+    text(b"1 ErrorBlockSize: ");
+    if key != 16 {
+        text(b"the key file holds neither 16 raw bytes nor 32 hex digits\n");
+        return 1;
+    }
+    text(b"the IV has ");
+    number(iv as u64);
+    text(b" bytes, not 16: it takes 32 hex digits\n");
+    1
+}
+
+pub fn data_len(command: Command, length: usize) -> u8 {
+    text(b"2 ErrorDataLen: this file has ");
+    number(length as u64);
+    if label::words::wants(command, MODE) {
+        text(b" bytes, not a multiple of 16: cbc did not encrypt it, or it was cut short\n");
+        return 2;
+    }
+    text(b" bytes, and a sealed one at least 16: it was never sealed, or it was cut short\n");
+    2
+}
+
+pub fn last_byte() -> u8 {
+    text(
+        b"3 InvalidLastU8: this file was not encrypted with cbc, this key and IV, or it was changed since\n",
+    );
+    3
+}
+
+pub fn tag(job: u32, edition: u16) -> u8 {
+    text(b"4 InvalidTag: this file was not sealed under job ");
+    number(job as u64);
+    text(b", edition ");
+    number(edition as u64);
+    text(b", with this key and IV, or it was changed since\n");
+    4
+}
+
+pub fn too_long() -> u8 {
+    text(b"5 TooLong: this file is longer than the cipher takes\n");
+    5
+}
+
+pub fn no_room() -> u8 {
+    text(b"6 NoRoom: what comes of this file is longer than the tool has room for\n");
+    6
+}
+
+pub fn bad_mode() -> u8 {
+    text(b"7 BadMode: the cipher has no such mode\n");
+    7
+}
