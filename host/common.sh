@@ -12,7 +12,7 @@ die() {
 }
 
 # The comment at the top of a script is its help.
-help() {
+print_help() {
     sed -n '2,/^$/s/^# \{0,1\}//p' "$0"
 }
 
@@ -23,8 +23,8 @@ make_work() {
     trap 'exit 130' INT TERM
 }
 
-# install COMMAND-OR-FILE PACKAGE..: installs Debian's packages where the first word is not at hand.
-install() {
+# need COMMAND-OR-FILE PACKAGE..: installs Debian's packages where the first word is not at hand.
+need() {
     local wanted=$1
     shift
     if command -v "$wanted" >/dev/null || [ -e "$wanted" ]; then
@@ -38,7 +38,7 @@ install() {
 
 # check_libsm FOLDER: that it is a folder of libsm with the four files that are built.
 check_libsm() {
-    local folder=$1 file missing=
+    local folder=$1 file missing=''
     [ -d "$folder" ] ||
         die "no folder '$folder': name a folder of libsm at commit 6a5943c1d7, the one that has src/sm4 in it"
     for file in cipher cipher_mode gcm error; do
@@ -94,13 +94,13 @@ find_archive() {
 find_compiler() {
     case $(uname -m) in
     x86_64)
-        install gcc gcc libc6-dev
+        need gcc gcc libc6-dev
         compiler=(gcc)
         runner=()
         ;;
     aarch64)
-        install x86_64-linux-gnu-gcc gcc-x86-64-linux-gnu libc6-dev-amd64-cross
-        install qemu-x86_64 qemu-user
+        need x86_64-linux-gnu-gcc gcc-x86-64-linux-gnu libc6-dev-amd64-cross
+        need qemu-x86_64 qemu-user
         compiler=(x86_64-linux-gnu-gcc)
         runner=(qemu-x86_64 -cpu qemu64)
         ;;
@@ -112,8 +112,8 @@ find_compiler() {
 find_peers() {
     case $(uname -m) in
     x86_64)
-        install /usr/include/gcrypt.h libgcrypt20-dev
-        install /usr/include/openssl/evp.h libssl-dev
+        need /usr/include/gcrypt.h libgcrypt20-dev
+        need /usr/include/openssl/evp.h libssl-dev
         peers=()
         ;;
     aarch64)

@@ -39,8 +39,10 @@
  *
  *   - each pointer leads to as many bytes as the length beside it says, which nothing else writes
  *     during the call. Only an empty buffer may be NULL with length 0;
- *   - the output buffer overlaps no input. Inputs may overlap one another;
- *   - a key and an IV are not used together twice to encrypt, as the modes themselves ask.
+ *   - the output buffer overlaps no input. Inputs may overlap one another.
+ *
+ * The library remembers no IV: that no two messages are encrypted under the same key and IV is the
+ * host's to see to as well.
  */
 #ifndef LUOSSAVIN_H
 #define LUOSSAVIN_H
