@@ -55,6 +55,7 @@ pub fn write_part(part: usize) {
     }
 }
 
+// Writes some words.
 fn said(words: &[u8]) {
     io::write_all(STDOUT_FILENO, words);
 }

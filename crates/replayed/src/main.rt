@@ -141,6 +141,7 @@ fn one(file: &[u8], at: usize) -> Next {
 }
 
 impl Totals {
+    // The totals with one record more. They stay far below what a u64 holds.
     fn counted(self, part: usize, differs: u64) -> Totals {
         if PARTS <= part {
             return self;
@@ -152,6 +153,7 @@ impl Totals {
     }
 }
 
+// Writes how many were replayed and how many of them differ.
 fn write_counts(replayed: u64, differ: u64) {
     io::print_decimal(STDOUT_FILENO, replayed);
     io::write_all(STDOUT_FILENO, b" replayed ");
@@ -159,12 +161,14 @@ fn write_counts(replayed: u64, differ: u64) {
     io::write_all(STDOUT_FILENO, b" differ\n");
 }
 
+// Names a record that differs.
 fn write_difference(record: u64) {
     io::write_all(STDOUT_FILENO, b"record ");
     io::print_decimal(STDOUT_FILENO, record);
     io::write_all(STDOUT_FILENO, b" differs\n");
 }
 
+// Names the record at which the list ends too soon.
 fn write_cut(record: u64) {
     io::write_all(STDOUT_FILENO, b"the list is cut at record ");
     io::print_decimal(STDOUT_FILENO, record);
@@ -181,6 +185,7 @@ fn write_part(part: usize, replayed: u64, differ: u64) {
     write_counts(replayed, differ);
 }
 
+// Writes a line for each part.
 fn write_parts(totals: Totals) {
     let replayed = totals.replayed;
     let differ = totals.differ;
@@ -189,6 +194,7 @@ fn write_parts(totals: Totals) {
     }
 }
 
+// Replays the whole list and writes how it went.
 fn replay_all(file: &[u8]) {
     let count = list::count(file);
     if count == 0 {
@@ -232,6 +238,7 @@ fn room() -> [u8; 1_000_000] {
     [0u8; 1_000_000]
 }
 
+// Reads the list and replays it.
 fn read_and_replay(fd: i32) {
     let mut file = room();
     let length = io::read_full(fd, &mut file);

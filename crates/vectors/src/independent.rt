@@ -10,10 +10,12 @@ const FIELD: u32 = 0x1f5;
 // x^8 + 1: a product modulo it turns its factors round, as a circulant matrix does.
 const CIRCLE: u32 = 0x101;
 
+// x where the bit is 1, else nothing.
 fn chosen(bit: u8, x: u32) -> u32 {
     if bit == 1 { x } else { 0 }
 }
 
+// A polynomial of degree 8 at most, taken down below 8.
 fn reduced(x: u32, modulus: u32) -> u32 {
     if x >= 256 { x ^ modulus } else { x }
 }
@@ -40,7 +42,7 @@ fn inverse(x: u8) -> u8 {
     power
 }
 
-// The affine map on either side of the inversion.
+// The affine map on either side of the inversion: a circulant matrix, whose rows are the turns of one byte, and a constant.
 fn affine(x: u8) -> u8 {
     times(x, 0xcb, CIRCLE) ^ 0xd3
 }
@@ -54,6 +56,7 @@ pub fn substitution() -> [u8; 256] {
     table
 }
 
+// A byte by the S-box.
 fn substituted(table: &[u8; 256], x: u8) -> u8 {
     table[x as usize]
 }
@@ -75,6 +78,7 @@ fn l_prime_byte(a: u8, b: u8, c: u8, d: u8) -> u8 {
     a ^ window(b, c, 3) ^ window(c, d, 1)
 }
 
+// L: the sum of a word's turns to the left by 0, 2, 10, 18 and 24 bits.
 fn l(w: [u8; 4]) -> [u8; 4] {
     [
         l_byte(w[0], w[1], w[2], w[3]),
@@ -84,6 +88,7 @@ fn l(w: [u8; 4]) -> [u8; 4] {
     ]
 }
 
+// L': the sum of its turns by 0, 13 and 23 bits.
 fn l_prime(w: [u8; 4]) -> [u8; 4] {
     [
         l_prime_byte(w[0], w[1], w[2], w[3]),
@@ -133,6 +138,7 @@ fn constant(i: usize, j: usize) -> u8
     ((4 * i + j) * 7 % 256) as u8
 }
 
+// Round constant i.
 fn constants(i: usize) -> [u8; 4]
     requires { ⌜ i < 32 ⌝ }
 {
@@ -186,6 +192,7 @@ pub fn reversed(keys: [u8; 128]) -> [u8; 128] {
     out
 }
 
+// Round key i.
 fn key_word(keys: &[u8; 128], i: usize) -> [u8; 4]
     requires { ⌜ i < 32 ⌝ }
 {
@@ -229,6 +236,7 @@ pub fn crypted(table: &[u8; 256], keys: &[u8; 128], block: [u8; 16]) -> [u8; 16]
     turned_about(x)
 }
 
+// The sum of two blocks.
 pub fn xored(a: [u8; 16], b: [u8; 16]) -> [u8; 16] {
     let mut out = [0u8; 16];
     for i in 0usize..16 {
@@ -246,10 +254,12 @@ pub fn loaded(s: &[u8]) -> [u8; 16] {
     out
 }
 
+// What stands at `i`, 0 past the end.
 fn byte_or_zero(s: &[u8], i: usize) -> u8 {
     if i < s.len() { s[i] } else { 0 }
 }
 
+// The smaller of two numbers.
 fn least(a: usize, b: usize) -> usize
     ensures { λ r. ⌜ (r ≤ a) × (r ≤ b) ⌝ }
 {
@@ -293,6 +303,7 @@ fn wide(x: u8) -> u32
     x as u32
 }
 
+// The input after `input`, which gave `pad`, which took `taken` to `given`.
 fn next_input(
     chain: Chain,
     input: [u8; 16],
@@ -398,6 +409,7 @@ fn coefficient(v: [u8; 16], i: usize) -> u8
     (v[i / 8] >> (7 - i % 8)) % 2
 }
 
+// The element where the bit is 1, else zero.
 fn masked(bit: u8, v: [u8; 16]) -> [u8; 16] {
     if bit == 1 { v } else { [0u8; 16] }
 }

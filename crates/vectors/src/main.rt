@@ -66,12 +66,14 @@ fn one(table: &[u8; 256], file: &[u8], from: usize) -> Next {
     Next::Differ(r.end)
 }
 
+// Writes how one vector went.
 fn line(number: u64, word: &[u8]) {
     io::write_all(STDOUT_FILENO, b"vector ");
     io::print_decimal(STDOUT_FILENO, number);
     io::write_all(STDOUT_FILENO, word);
 }
 
+// Writes how all of them went.
 fn summary(all: u64, differ: u64) {
     io::print_decimal(STDOUT_FILENO, all);
     io::write_all(STDOUT_FILENO, b" compared ");
@@ -79,6 +81,7 @@ fn summary(all: u64, differ: u64) {
     io::write_all(STDOUT_FILENO, b" differ\n");
 }
 
+// Runs every vector of the file.
 fn run_all(file: &[u8]) {
     let table = independent::substitution();
     let mut at: usize = 0;

@@ -14,6 +14,7 @@ use cipher_mode::Sm4CipherMode;
 // Room for the longest result, and more than any length that a call here reports.
 const ROOM: usize = 256;
 
+// The length of a call that is done; more than there is room for where it is refused.
 fn length_of(answer: Answer) -> usize {
     match answer {
         Answer::Done(n) => n,
@@ -21,6 +22,7 @@ fn length_of(answer: Answer) -> usize {
     }
 }
 
+// One block, encrypted or back. A refusal leaves `out`, which then differs.
 fn one_block(cipher: Sm4Cipher, back: bool, block_in: &[u8], out: &mut [u8]) {
     if back {
         cipher.decrypt(block_in, out);
@@ -40,6 +42,7 @@ fn over(cipher: Sm4Cipher, back: bool, times: u32, block_in: &[u8]) -> [u8; 16] 
     x
 }
 
+// A block, there and back.
 fn block_vector(times: u32, key: &[u8], text: &[u8], result: &[u8]) -> bool {
     let cipher = Sm4Cipher::new(key);
     let there = over(cipher, false, times, text);
@@ -76,6 +79,7 @@ fn mode_vector(
     m == text.len() && words::starts(&back, text)
 }
 
+// The hash of label and text with the length block.
 fn ghash_vector(h: &[u8], label: &[u8], text: &[u8], result: &[u8]) -> bool {
     if h.len() != 16 {
         return false;
@@ -104,6 +108,7 @@ fn first_counter(n: &[u8]) -> [u32; 4] {
     ]
 }
 
+// Whether a message opened to `text`.
 fn opens(answer: gcm::Opened, out: &[u8], text: &[u8]) -> bool {
     match answer {
         gcm::Opened::Done(n) => n == text.len() && words::starts(out, text),
@@ -162,6 +167,7 @@ fn gcm_vector(key: &[u8], nonce: &[u8], label: &[u8], text: &[u8], result: &[u8]
     )
 }
 
+// Whether ours gives the published result of a vector.
 pub fn gives(kind: Kind, key: &[u8], iv: &[u8], label: &[u8], text: &[u8], result: &[u8]) -> bool {
     match kind {
         Kind::Block => block_vector(1, key, text, result),

@@ -14,6 +14,7 @@ fn over(table: &[u8; 256], keys: &[u8; 128], times: u32, block: [u8; 16]) -> [u8
     x
 }
 
+// A block, there and back.
 fn block(table: &[u8; 256], times: u32, key: &[u8], text: &[u8], result: &[u8]) -> bool {
     let keys = independent::expanded(table, independent::loaded(key));
     let there = over(table, &keys, times, independent::loaded(text));
@@ -45,6 +46,7 @@ fn stream(
     words::starts(&out, text)
 }
 
+// Cbc of whole blocks, there and back.
 fn cbc(table: &[u8; 256], key: &[u8], iv: [u8; 16], text: &[u8], result: &[u8]) -> bool {
     let keys = independent::expanded(table, independent::loaded(key));
     let mut out = [0u8; 128];
@@ -57,11 +59,13 @@ fn cbc(table: &[u8; 256], key: &[u8], iv: [u8; 16], text: &[u8], result: &[u8]) 
     words::starts(&out, text)
 }
 
+// The hash of label and text with the length block.
 fn ghash(h: &[u8], label: &[u8], text: &[u8], result: &[u8]) -> bool {
     let hash = independent::hashed(independent::loaded(h), label, text);
     check::same(&hash, result)
 }
 
+// Gcm with a nonce of twelve bytes: the tag, then the text there and back.
 fn gcm(
     table: &[u8; 256],
     key: &[u8],
@@ -92,6 +96,7 @@ fn gcm(
     )
 }
 
+// Whether the independent one gives the published result of a vector.
 pub fn gives(
     kind: Kind,
     table: &[u8; 256],

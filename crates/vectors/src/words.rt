@@ -21,6 +21,7 @@ pub struct Spelled {
     pub end: usize,
 }
 
+// Whether a byte stands between words.
 fn is_blank(b: u8) -> bool {
     match b {
         b' ' | b'\n' => true,
@@ -71,6 +72,7 @@ pub fn word_end(s: &[u8], from: usize) -> usize
     at
 }
 
+// The value of a hex digit, 0 of anything else.
 fn digit(b: u8) -> u8
     ensures { λ r. ⌜ r < 16 ⌝ }
 {
