@@ -29,6 +29,28 @@ fn agree(
         && second::gives(kind, table, key, iv, label, text, result)
 }
 
+// Reads text and result of a vector and runs it.
+fn compared(
+    kind: Kind,
+    table: &[u8; 256],
+    key: &[u8],
+    iv: &[u8],
+    label: &[u8],
+    file: &[u8],
+    from: usize,
+) -> Next {
+    let mut text = [0u8; 128];
+    let t = words::read_hex(file, from, &mut text);
+    let mut result = [0u8; 128];
+    let r = words::read_hex(file, t.end, &mut result);
+    let a = t.count;
+    let b = r.count;
+    if agree(kind, table, key, iv, label, &text[0..a], &result[0..b]) {
+        return Next::Same(r.end);
+    }
+    Next::Differ(r.end)
+}
+
 // Reads one vector and runs it.
 fn one(table: &[u8; 256], file: &[u8], from: usize) -> Next {
     let start = words::word_start(file, from);
@@ -43,27 +65,18 @@ fn one(table: &[u8; 256], file: &[u8], from: usize) -> Next {
     let v = words::read_hex(file, k.end, &mut iv);
     let mut label = [0u8; 64];
     let l = words::read_hex(file, v.end, &mut label);
-    let mut text = [0u8; 128];
-    let t = words::read_hex(file, l.end, &mut text);
-    let mut result = [0u8; 128];
-    let r = words::read_hex(file, t.end, &mut result);
     let a = k.count;
     let b = v.count;
     let c = l.count;
-    let d = t.count;
-    let e = r.count;
-    if agree(
+    compared(
         kind,
         table,
         &key[0..a],
         &iv[0..b],
         &label[0..c],
-        &text[0..d],
-        &result[0..e],
-    ) {
-        return Next::Same(r.end);
-    }
-    Next::Differ(r.end)
+        file,
+        l.end,
+    )
 }
 
 // Writes how one vector went.
