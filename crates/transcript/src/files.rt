@@ -3,7 +3,6 @@ ghost use mathlib.Core.Path.{_≡_};
 ghost use Rattle.io.specs.Counts.{Counts};
 use crate::DONE;
 use crate::FILES;
-use crate::LIMIT;
 use crate::say;
 use crate::word_room;
 
@@ -51,23 +50,29 @@ pub fn is_dash(name: &[u8]) -> bool {
     name[0] == b'-'
 }
 
-// Reads the file that an argument names, as the key.
-pub fn read_key(at: usize, buf: &mut [u8]) -> Read
+// Reads what was opened under a name whole, and closes it. `act` is what it is called where that fails.
+fn read_open(fd: i32, act: &[u8], name: &[u8], buf: &mut [u8]) -> Read
     ensures { λ r. ⌜ Counts (r .length) (now (buf .exit)) ⌝ }
 {
-    let mut name = word_room();
-    let n = os::arg(at, &mut name);
-    let fd = os::open_read(&name[..n]);
     if fd < 0 {
-        say::cannot(b"read the key ", &name[..n]);
+        say::cannot(act, name);
         return failed();
     }
     let read = read_all(fd, buf);
     if read.status != DONE {
-        say::cannot(b"read the key ", &name[..n]);
+        say::cannot(act, name);
     }
     libc::close(fd);
     read
+}
+
+// Reads the key file that an argument names.
+pub fn read_key(at: usize, buf: &mut [u8]) -> Read
+    ensures { λ r. ⌜ Counts (r .length) (now (buf .exit)) ⌝ }
+{
+    let mut word = word_room();
+    let n = os::arg(at, &mut word);
+    read_open(os::open_read(&word[..n]), b"read the key ", &word[..n], buf)
 }
 
 fn open_input(name: &[u8]) -> i32 {
@@ -81,19 +86,9 @@ fn open_input(name: &[u8]) -> i32 {
 pub fn read_input(at: usize, most: usize, buf: &mut [u8]) -> Read
     ensures { λ r. ⌜ Counts (r .length) (now (buf .exit)) ⌝ }
 {
-    let mut name = word_room();
-    let n = os::arg(at, &mut name);
-    let fd = open_input(&name[..n]);
-    if fd < 0 {
-        say::cannot(b"read ", &name[..n]);
-        return failed();
-    }
-    let read = read_all(fd, buf);
-    if read.status != DONE {
-        say::cannot(b"read ", &name[..n]);
-        return read;
-    }
-    libc::close(fd);
+    let mut word = word_room();
+    let n = os::arg(at, &mut word);
+    let read = read_open(open_input(&word[..n]), b"read ", &word[..n], buf);
     if read.length > most {
         let status = say::over_limit(at, most);
         return Read { length: 0, status };
@@ -128,7 +123,7 @@ pub fn put(at: usize, beside: usize, bytes: &[u8]) -> u8 {
     put_file(&word[..n], beside, bytes)
 }
 
-// A link is not followed, and not replaced by a file.
+// Whether a name is a link's, which is not followed, and not replaced by a file. C wants a path that ends in 0.
 fn is_link(name: &[u8]) -> bool {
     if name.len() >= libc::PATH_MAX {
         return false;
@@ -140,7 +135,7 @@ fn is_link(name: &[u8]) -> bool {
     libc::readlink(&path, &mut to) >= 0
 }
 
-// A pipe, a terminal or a device is written straight; a file is replaced. Only in a file is there a place 1 to go to.
+// Replaces a file, and writes a pipe, a terminal or a device straight: only a file has a place 1 to go to.
 fn put_file(name: &[u8], beside: usize, bytes: &[u8]) -> u8 {
     let there = os::open_append(name);
     if there < 0 {

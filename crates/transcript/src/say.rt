@@ -168,18 +168,20 @@ pub fn block_size(key: usize, iv: usize) -> u8 {
     }
     text(b"the IV has ");
     number(iv as u64);
-    text(b" bytes, not 16: it takes 32 hex digits\n");
+    text(b", not 16, bytes: it takes 32 hex digits\n");
     1
 }
 
 pub fn data_len(command: Command, length: usize) -> u8 {
-    text(b"2 ErrorDataLen: this file has ");
+    text(b"2 ErrorDataLen: the length of this file is ");
     number(length as u64);
     if label::words::wants(command, MODE) {
-        text(b" bytes, not a multiple of 16: cbc did not encrypt it, or it was cut short\n");
+        text(
+            b", and cbc writes 16 bytes or a multiple: cbc did not encrypt it, or it was cut short\n",
+        );
         return 2;
     }
-    text(b" bytes, and a sealed one at least 16: it was never sealed, or it was cut short\n");
+    text(b", and that of a sealed one at least 16: it was never sealed, or it was cut short\n");
     2
 }
 
