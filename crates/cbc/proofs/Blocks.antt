@@ -91,7 +91,7 @@ last-by rk (suc n) s d hs h =
     let y : drop (16 + 16 * n) (s ++ d) ≡ drop (16 * n) d = rw hs at (drop-append-add s d (16 * n)) in
     rw (e, chain-block m s d (omega arith), x, y, last-by rk n b (drop 16 d) B (rw length-drop (omega arith)), take-append-drop, drop-drop)
 
-pub decrypt-last : (rk s d : List ℕ) → length s ≡ 16 → 16 ≤ length d → length d % 16 ≡ 0
+decrypt-last : (rk s d : List ℕ) → length s ≡ 16 → 16 ≤ length d → length d % 16 ≡ 0
     → drop (length d - 16) (chain (cbcDecrypt rk) s d) ≡ xors (decryptBlock rk (drop (length d - 16) d)) (take 16 (drop (length d - 16) (s ++ d)))
 decrypt-last rk s d hs h k =
     let n = length d / 16 - 1 in

@@ -12,8 +12,7 @@ use Rattle.block.specs.Below.{AreWords}
 use Rattle.block.specs.BigEndian.{numberOf, bytesOf}
 use Rattle.block.specs.Words.{words, unwords}
 use Rattle.block.specs.Xor.{xors}
-use Rattle.block.proofs.Convert.{length-bytesOf, bytesOf-bytes}
-use Rattle.block.proofs.WordsBack.{length-words, unwords-words, unwords-xors}
+use Rattle.block.proofs.WordsBack.{length-words, unwords-number, unwords-xors}
 use Rattle.cipher.specs.Sm4.{encryptWords, encryptBlock}
 use Rattle.cipher.proofs.Blocks.{encrypt-unwords}
 use Rattle.cipher.proofs.Bounds.{encrypt-four}
@@ -33,13 +32,9 @@ hash-key-words rk x n e f =
     f ∙ ap (λ (l : List ℕ). numberOf (unwords l)) e
     ∙ ap numberOf (encrypt-unwords rk (0 ∷ 0 ∷ 0 ∷ 0 ∷ []) refl (lit< tt, (lit< tt, (lit< tt, (lit< tt, tt)))))
 
--- the block that spells a number
-number-block : (r : List ℕ) (n : ℕ) → r ≡ words (bytesOf 16 n) → unwords r ≡ bytesOf 16 n
-number-block r n e = ap unwords e ∙ unwords-words (bytesOf 16 n) (length-bytesOf 16 n) (bytesOf-bytes 16 n)
-
 pub first-counter-words : (h n : ℕ) (iv r : List ℕ) → length iv ≡ 16 → n ≡ ghash h (authBlocks [] iv) → r ≡ words (bytesOf 16 n) → unwords r ≡ firstCounter h iv
 unfolding firstCounter
-first-counter-words h n iv r l e f = number-block r n f ∙ ap (bytesOf 16) (e ∙ ap (ghash h) (iv-blocks iv l))
+first-counter-words h n iv r l e f = unwords-number r n f ∙ ap (bytesOf 16) (e ∙ ap (ghash h) (iv-blocks iv l))
 
 pub tag-words : (rk j label text e s r : List ℕ) (h n : ℕ) → length j ≡ 4 → AreWords j → e ≡ encryptWords rk j
     → n ≡ ghash h (authBlocks label text) → s ≡ words (bytesOf 16 n) → r ≡ xors e s → unwords r ≡ tagOf rk h (unwords j) label text
@@ -48,7 +43,7 @@ tag-words rk j label text e s r h n l b ee en es er =
     let le : length e ≡ 4 = ap length ee ∙ encrypt-four rk j in
     let ls : length s ≡ 4 = ap length es ∙ length-words (bytesOf 16 n) in
     ap unwords er ∙ unwords-xors e s le ls
-    ∙ ap₂ xors (ap unwords ee ∙ encrypt-unwords rk j l b) (number-block s n es ∙ ap (bytesOf 16) en)
+    ∙ ap₂ xors (ap unwords ee ∙ encrypt-unwords rk j l b) (unwords-number s n es ∙ ap (bytesOf 16) en)
 
 -- the text at the front of the output, then the tag behind it
 pub sealed-written : (text tag o o₁ t : List ℕ) (n : ℕ) → length text ≡ n → length tag ≡ 16 → o₁ ≡ over text o → t ≡ tag ++ drop 16 (tailed n o₁)
