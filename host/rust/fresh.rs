@@ -58,15 +58,7 @@ fn short(random: &mut Random) -> Call {
     let direction = DIRECTIONS[random.below(2)];
     let key = key(random);
     if random.chance(20) {
-        let data = random.bytes(16);
-        return Call {
-            direction,
-            mode: Mode::Block,
-            key,
-            iv: vec![],
-            label: vec![],
-            data,
-        };
+        return Call::on_block(direction, key, random.bytes(16));
     }
     let mode = MODES[random.below(5)];
     let iv = iv_for(random, mode, &key);

@@ -288,15 +288,7 @@ impl List {
                     _ => self.random.bytes(16),
                 };
                 let data = self.random.bytes(16);
-                let call = Call {
-                    direction,
-                    mode: Mode::Block,
-                    key,
-                    iv: vec![],
-                    label: vec![],
-                    data,
-                };
-                self.add(BLOCKS, call, Name::Ok);
+                self.add(BLOCKS, Call::on_block(direction, key, data), Name::Ok);
             }
         }
     }

@@ -70,6 +70,18 @@ pub fn report_own_panics() {
 }
 
 impl Call {
+    /// A call on a single block, which has neither IV nor label.
+    pub fn on_block(direction: Direction, key: Vec<u8>, data: Vec<u8>) -> Call {
+        Call {
+            direction,
+            mode: Mode::Block,
+            key,
+            iv: vec![],
+            label: vec![],
+            data,
+        }
+    }
+
     /// Makes the call.
     pub fn answer(&self) -> Answer {
         IN_LIBSM.store(true, Ordering::Relaxed);
