@@ -14,9 +14,9 @@ use Rattle.block.proofs.Xors.{length-xors}
 use Rattle.block.proofs.WordsBack.{unwords-front}
 use Rattle.cipher.specs.Sm4.{decryptWords, decryptBlock}
 use Rattle.cipher.proofs.Blocks.{length-decryptBlock}
-use Rattle.stream.specs.Walk.{chain}
-use Rattle.stream.proofs.Chain.{chain-rest, chain-block, chain-length}
-use Rattle.stream.proofs.Loop.{tailed, tail-is}
+use Rattle.walk.specs.Walk.{chain}
+use Rattle.walk.proofs.Chain.{chain-rest, chain-block, chain-length}
+use Rattle.walk.proofs.Loop.{tailed, tail-is}
 use Rattle.cbc.specs.Cbc.{cbcDecrypt}
 use Rattle.cbc.proofs.InWords.{decrypted-front}
 

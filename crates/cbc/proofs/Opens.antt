@@ -6,8 +6,8 @@ use mathlib.Core.List.{List, _++_, append-assoc}
 use native.Mathlib.Omega.{arith}
 use lib.ListN.{length, take, drop, length-drop, take-append-drop}
 use lib.Seq.{length-take-le, take-at, drop-at, take-add, drop-drop}
-use Rattle.stream.specs.Walk.{chain, over}
-use Rattle.stream.proofs.Loop.{tailed, returned, tail-is, returned-is}
+use Rattle.walk.specs.Walk.{chain, over}
+use Rattle.walk.proofs.Loop.{tailed, returned, tail-is, returned-is}
 use Rattle.cbc.specs.Cbc.{cbcDecrypt}
 use Rattle.cbc.specs.Open.{unpadded, opening, cbcOpen}
 use Rattle.cbc.specs.declared.Opened.the-variants.{Done, InvalidLastU8}

@@ -6,7 +6,7 @@ use mathlib.Core.List.{List, _++_}
 use native.Mathlib.Omega.{arith}
 use lib.ListN.{length, take, drop, replicate, length-append, length-drop, length-replicate}
 use lib.Seq.{take-length, take-append-le, drop-append-le}
-use Rattle.stream.proofs.Loop.{tailed, tail-is}
+use Rattle.walk.proofs.Loop.{tailed, tail-is}
 use Rattle.cbc.specs.Cbc.{padding, padded}
 
 pub length-padded : (d : List ℕ) → length (padded d) ≡ 16 * (length d / 16 + 1)

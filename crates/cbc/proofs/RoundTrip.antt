@@ -11,9 +11,9 @@ use Rattle.block.specs.Xor.{xors}
 use Rattle.block.proofs.Entries.{below-take, below-drop, below-append, below-replicate}
 use Rattle.block.proofs.Xors.{length-xors, xors-cancel, xors-below}
 use Rattle.cipher.proofs.Blocks.{length-encryptBlock, encryptBlock-bytes, block-decrypt-encrypt}
-use Rattle.stream.specs.Walk.{chain, over}
-use Rattle.stream.proofs.Chain.{Any, chain-length, chain-bytes}
-use Rattle.stream.proofs.Undo.{Undoes, undo}
+use Rattle.walk.specs.Walk.{chain, over}
+use Rattle.walk.proofs.Chain.{Any, chain-length, chain-bytes}
+use Rattle.walk.proofs.Undo.{Undoes, undo}
 use Rattle.cbc.specs.Cbc.{padding, padded, cbcEncrypt, cbcDecrypt, cbcSeal}
 use Rattle.cbc.specs.Open.{opening, cbcOpen, unpadded}
 use Rattle.cbc.specs.declared.Opened.the-variants.{Done}

@@ -4,7 +4,7 @@ use mathlib.Core.Bool.{Bool, cond, _&&_}
 use mathlib.Core.List.{List}
 use lib.Dec.{leb}
 use lib.ListN.{length, take, getD}
-use Rattle.stream.specs.Walk.{chain, over}
+use Rattle.walk.specs.Walk.{chain, over}
 use Rattle.cbc.specs.Cbc.{cbcDecrypt}
 use Rattle.cbc.specs.declared.Opened.{Opened}
 use Rattle.cbc.specs.declared.Opened.the-variants.{Done, InvalidLastU8}

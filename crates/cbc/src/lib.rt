@@ -5,7 +5,7 @@ ghost use Prim.Native.Nat.{_+_, _-_, _*_, _/_, _%_, _<_, _≤_};
 ghost use lib.ListN.{length, take, drop};
 ghost use Rattle.block.specs.Words.{unwords};
 ghost use Rattle.cipher.specs.Sm4.{sboxTable};
-ghost use Rattle.stream.specs.Walk.{chain, over};
+ghost use Rattle.walk.specs.Walk.{chain, over};
 ghost use Rattle.cbc.specs.Cbc.{padded, cbcEncrypt, cbcDecrypt, cbcSeal};
 ghost use Rattle.cbc.specs.Open.{unpadded, cbcOpen};
 

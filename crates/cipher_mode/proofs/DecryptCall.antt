@@ -7,7 +7,7 @@ use Prim.Native.Nat.{ℕ, _<_, _≤_}
 use lib.Dec.{ltb}
 use lib.ListN.{length}
 use borrow.Author.Tests.{eq-eqb, ne-eqb, lt-ltb, le-ltb}
-use Rattle.stream.specs.Walk.{over}
+use Rattle.walk.specs.Walk.{over}
 use Rattle.cipher_mode.specs.declared.Answer.the-variants.{Done, ErrorBlockSize, ErrorDataLen, InvalidLastU8, InvalidTag, TooLong, NoRoom}
 use Rattle.cipher_mode.specs.declared.KeyAnswer.the-variants.{Key, ErrorBlockSize as NoKey}
 use Rattle.cipher_mode.specs.declared.Sm4CipherMode.{Sm4CipherMode}

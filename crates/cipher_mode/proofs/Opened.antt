@@ -12,7 +12,7 @@ use Rattle.cbc.specs.declared.Opened.the-variants.{Done as Cbc·Done, InvalidLa
 use Rattle.gcm.specs.Gcm.{hashKey, firstCounter, textPart, textOf, opensUnder, openAnswer, openOutput}
 use Rattle.gcm.specs.declared.Opened.the-variants.{Done as Gcm·Done, InvalidTag as Gcm·Invalid}
 use Rattle.gcm.proofs.Parts.{length-text}
-use Rattle.stream.specs.Walk.{over}
+use Rattle.walk.specs.Walk.{over}
 use Rattle.cipher_mode.specs.declared.CipherMode.the-variants.{Cbc, Gcm}
 use Rattle.cipher_mode.specs.Calls.{cbcText, badPadding, badTag, decrypted}
 

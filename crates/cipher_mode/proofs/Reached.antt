@@ -4,7 +4,7 @@ use mathlib.Core.Path.{_≡_, sym, ap₂}
 use mathlib.Core.List.{List}
 use Prim.Native.Nat.{ℕ}
 use lib.ListN.{length}
-use Rattle.stream.specs.Walk.{over}
+use Rattle.walk.specs.Walk.{over}
 use Rattle.cipher_mode.specs.declared.Answer.the-variants.{Done}
 use Rattle.cipher_mode.specs.Outcome.{Outcome, outcome, done}
 

@@ -7,7 +7,7 @@ use lib.ListN.{length, take}
 use Rattle.cbc.specs.Cbc.{cbcDecrypt, cbcSeal}
 use Rattle.cbc.specs.Open.{lastByte, namesPadding}
 use Rattle.gcm.specs.Gcm.{hashKey, firstCounter, sealed, textPart, textOf, opensUnder}
-use Rattle.stream.specs.Walk.{chain}
+use Rattle.walk.specs.Walk.{chain}
 use Rattle.stream.specs.Stream.{streamMode}
 use Rattle.stream.specs.declared.Kind.{Kind}
 use Rattle.stream.specs.declared.Kind.the-variants.{CfbEncrypt, CfbDecrypt, Ofb as Ofb·kind, Ctr as Ctr·kind}

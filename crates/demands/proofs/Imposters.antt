@@ -14,7 +14,7 @@ use Rattle.block.proofs.Entries.{below-replicate}
 use Rattle.block.specs.BigEndian.{numberOf, bytesOf}
 use Rattle.cipher.specs.Sm4.{roundKeys}
 use Rattle.counter.specs.Counter.{ctrNext}
-use Rattle.stream.specs.Walk.{walk, chain}
+use Rattle.walk.specs.Walk.{walk, chain}
 use Rattle.cipher_mode.specs.declared.CipherMode.{CipherMode}
 use Rattle.cipher_mode.specs.declared.CipherMode.the-variants.{Cfb, Ofb, Ctr, Cbc, Gcm}
 use Rattle.cipher_mode.specs.declared.KeyAnswer.the-variants.{Key}

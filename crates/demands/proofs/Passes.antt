@@ -9,7 +9,7 @@ use lib.Dec.{eqb, ltb}
 use lib.ListN.{length, drop}
 use lib.Seq.{take-at}
 use borrow.Author.Tests.{eqb-true, ltb-false, not-false}
-use Rattle.stream.specs.Walk.{over}
+use Rattle.walk.specs.Walk.{over}
 use Rattle.cipher_mode.specs.declared.Answer.the-variants.{Done, InvalidTag}
 use Rattle.cipher_mode.specs.declared.KeyAnswer.{KeyAnswer}
 use Rattle.cipher_mode.specs.declared.KeyAnswer.the-variants.{Key, ErrorBlockSize as NoKey}

@@ -18,8 +18,8 @@ use Rattle.cipher.proofs.Blocks.{encrypt-unwords}
 use Rattle.cipher.proofs.Bounds.{encrypt-four}
 use Rattle.ghash.specs.Ghash.{ghash, authBlocks}
 use Rattle.ghash.proofs.IvBlocks.{iv-blocks}
-use Rattle.stream.specs.Walk.{chain, over}
-use Rattle.stream.proofs.Loop.{tailed, returned, tail-is, returned-is}
+use Rattle.walk.specs.Walk.{chain, over}
+use Rattle.walk.proofs.Loop.{tailed, returned, tail-is, returned-is}
 use Rattle.stream.specs.Stream.{streamMode}
 use Rattle.stream.specs.declared.Kind.the-variants.{Gctr}
 use Rattle.counter.specs.Counter.{gcmNext}

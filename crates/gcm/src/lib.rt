@@ -5,7 +5,7 @@ ghost use lib.ListN.{length, take, drop};
 ghost use Rattle.block.specs.Wide.{value};
 ghost use Rattle.block.specs.Words.{unwords};
 ghost use Rattle.cipher.specs.Sm4.{sboxTable};
-ghost use Rattle.stream.specs.Walk.{over};
+ghost use Rattle.walk.specs.Walk.{over};
 ghost use Rattle.gcm.specs.Gcm.{hashKey, firstCounter, tagOf, sealed, textPart, tagPart, opensUnder, openAnswer, openOutput};
 use block::U128;
 use stream::Kind;

@@ -10,12 +10,12 @@ use Rattle.block.specs.Xor.{xors}
 use Rattle.block.proofs.Xors.{length-xors, xors-cancel, xors-below}
 use Rattle.cipher.specs.Sm4.{encryptBlock}
 use Rattle.cipher.proofs.Blocks.{length-encryptBlock, encryptBlock-bytes}
-use Rattle.stream.specs.Walk.{chain}
+use Rattle.walk.specs.Walk.{chain}
 use Rattle.stream.specs.Stream.{stateAfter, streamMode, opener}
 use Rattle.stream.specs.declared.Kind.{Kind}
 use Rattle.stream.specs.declared.Kind.the-variants.{CfbEncrypt, CfbDecrypt, Ofb, Ctr, Gctr}
-use Rattle.stream.proofs.Chain.{Any, Keeps, chain-length, chain-bytes}
-use Rattle.stream.proofs.Undo.{Undoes, undo}
+use Rattle.walk.proofs.Chain.{Any, Keeps, chain-length, chain-bytes}
+use Rattle.walk.proofs.Undo.{Undoes, undo}
 
 -- a message of at most a block is covered by the cipher's output
 covered : (rk s d : List ℕ) → length d ≤ 16 → length d ≤ length (encryptBlock rk s)

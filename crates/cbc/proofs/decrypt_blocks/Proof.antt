@@ -5,8 +5,8 @@ use denote.Ref.{now}
 use lib.ListN.{length, take}
 use Rattle.block.specs.Words.{unwords}
 use Rattle.block.proofs.WordsBack.{length-unwords}
-use Rattle.stream.specs.Walk.{chain, over}
-use Rattle.stream.proofs.Loop.{tailed, tail-is, onward, turn, nothing-left}
+use Rattle.walk.specs.Walk.{chain, over}
+use Rattle.walk.proofs.Loop.{tailed, tail-is, onward, turn, nothing-left}
 use Rattle.cbc.specs.Cbc.{cbcDecrypt}
 use Rattle.cbc.proofs.Blocks.{decrypt-block}
 use borrow.Author.Needs.{needs}

@@ -6,8 +6,8 @@ use lib.ListN.{length, take, drop}
 use Rattle.block.specs.Words.{unwords}
 use Rattle.block.specs.Xor.{xors}
 use Rattle.cipher.proofs.Blocks.{length-encryptBlock}
-use Rattle.stream.specs.Walk.{over}
-use Rattle.stream.proofs.Loop.{tailed, onward, turn, nothing-left}
+use Rattle.walk.specs.Walk.{over}
+use Rattle.walk.proofs.Loop.{tailed, onward, turn, nothing-left}
 use Rattle.cbc.specs.Cbc.{padded, cbcEncrypt, cbcSeal}
 use Rattle.cbc.proofs.Padding.{length-padded, block-padded, rest-padded}
 use borrow.Author.Needs.{needs}

@@ -4,7 +4,7 @@ use Prim.Native.Nat.{_≤_, _-_}
 use native.Mathlib.Omega.{arith}
 use denote.Ref.{now}
 use lib.ListN.{length, take, drop, replicate, length-set}
-use Rattle.stream.proofs.Fill.{copy-turn}
+use Rattle.walk.proofs.Fill.{copy-turn}
 use Rattle.cbc.proofs.Padding.{pad-filled}
 use Rattle.cbc.proofs.pad.Statement.{statement}
 use Rattle.cbc.proofs.pad.Tie as tie

@@ -3,7 +3,7 @@ use mathlib.Core.List.{_++_}
 use Prim.Native.Nat.{_≤_, _-_}
 use native.Mathlib.Omega.{arith}
 use lib.ListN.{length, take, drop, length-set}
-use Rattle.stream.proofs.Fill.{copy-turn}
+use Rattle.walk.proofs.Fill.{copy-turn}
 use Rattle.cbc.proofs.put_front.Statement.{statement}
 use Rattle.cbc.proofs.put_front.Tie as tie
 

@@ -11,7 +11,7 @@ use Rattle.cipher_mode.specs.Tables.{limit}
 use Rattle.cipher_mode.specs.Calls.{encrypted}
 use Rattle.cipher_mode.proofs.EncryptCall.{encrypt-too-long, encrypt-no-room, encrypt-done}
 use Rattle.gcm.specs.Gcm.{hashKey, firstCounter, sealed}
-use Rattle.stream.specs.Walk.{over}
+use Rattle.walk.specs.Walk.{over}
 use Rattle.gcm.proofs.Parts.{length-sealed}
 use borrow.Author.Needs.{needs}
 use Rattle.cipher_mode.proofs.gcm_encrypt.Statement.{statement}

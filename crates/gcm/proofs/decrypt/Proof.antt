@@ -9,7 +9,7 @@ use denote.Ref.{now}
 use lib.ListN.{length}
 use lib.Seq.{length-take-le}
 use Rattle.gcm.specs.Gcm.{textOf}
-use Rattle.stream.specs.Walk.{over}
+use Rattle.walk.specs.Walk.{over}
 use Rattle.block.specs.Words.{unwords}
 use borrow.Author.Needs.{needs}
 use Rattle.gcm.proofs.decrypt.Statement.{statement}

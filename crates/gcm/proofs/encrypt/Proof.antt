@@ -3,12 +3,12 @@ use mathlib.Core.List.{List, _++_}
 use Prim.Native.Nat.{ℕ, _-_}
 use native.Mathlib.Nat.{sub-zero}
 use lib.Seq.{take-at}
-use Rattle.stream.proofs.Loop.{tailed}
+use Rattle.walk.proofs.Loop.{tailed}
 use denote.Ref.{now}
 use lib.ListN.{length, take, drop}
 use Rattle.block.specs.Wide.{value}
 use Rattle.block.specs.Words.{unwords}
-use Rattle.stream.specs.Walk.{over}
+use Rattle.walk.specs.Walk.{over}
 use Rattle.gcm.specs.Gcm.{textOf, tagOf, sealed}
 use Rattle.gcm.proofs.InWords.{text-words, sealed-written}
 use Rattle.gcm.proofs.Parts.{length-text, length-tag}

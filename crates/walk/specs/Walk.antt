@@ -21,6 +21,15 @@ walk m (suc n) s d = m .block s (take 16 d) ++ walk m n (m .next s (take 16 d)) 
 unfoldable pub chain : Mode → List ℕ → List ℕ → List ℕ
 chain m s d = walk m (length d / 16) s d
 
+-- the state after n full blocks of d
+unfoldable pub stepped : Mode → ℕ → List ℕ → List ℕ → List ℕ
+stepped m zero s d = s
+stepped m (suc n) s d = stepped m n (m .next s (take 16 d)) (drop 16 d)
+
+-- the state that the walk over d ends in
+unfoldable pub endState : Mode → List ℕ → List ℕ → List ℕ
+endState m s d = stepped m (length d / 16) s d
+
 -- the output o with p written over its front
 abbrev pub over : List ℕ → List ℕ → List ℕ
 over p o = p ++ drop (length p) o

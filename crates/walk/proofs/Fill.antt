@@ -9,7 +9,7 @@ use lib.ListN.{length, take, drop, getD, set}
 use lib.Seq.{drop-cons, take-suc, set-at, length-take-le, take-length}
 use Rattle.block.specs.Xor.{_⊕_, xors}
 use Rattle.block.proofs.Xors.{length-xors}
-use Rattle.stream.specs.Walk.{over}
+use Rattle.walk.specs.Walk.{over}
 
 -- p is written, and the rest is o's
 fill-turn : (p o : List ℕ) (i v : ℕ) → length p ≡ i → i < length o → set (p ++ drop i o) i v ≡ (p ++ (v ∷ [])) ++ drop (i + 1) o

@@ -9,7 +9,7 @@ use lib.ListN.{length, take, drop, length-append, length-drop}
 use lib.Seq.{length-take-le}
 use Rattle.block.specs.Below.{AreBytes}
 use Rattle.block.proofs.Entries.{below-take, below-drop, below-append}
-use Rattle.stream.specs.Walk.{Mode, walk, chain}
+use Rattle.walk.specs.Walk.{Mode, walk, chain}
 
 pub chain-rest : (m : Mode) (s d : List ℕ) → length d < 16 → chain m s d ≡ m .rest s d
 unfolding chain walk

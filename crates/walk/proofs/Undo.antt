@@ -6,8 +6,8 @@ use mathlib.Core.List.{List, _++_}
 use native.Mathlib.Omega.{arith}
 use lib.ListN.{length, take, drop, length-append, length-drop, take-append-drop}
 use lib.Seq.{length-take-le, take-at, drop-at}
-use Rattle.stream.specs.Walk.{Mode, chain}
-use Rattle.stream.proofs.Chain.{Keeps, chain-rest, chain-block}
+use Rattle.walk.specs.Walk.{Mode, chain}
+use Rattle.walk.proofs.Chain.{Keeps, chain-rest, chain-block}
 
 -- what it takes for w to take back what m gave
 pub record Undoes (State Text : List ℕ → Type 0) (w m : Mode) : Type 0 where

@@ -7,8 +7,9 @@ use mathlib.Core.List.{List, [], _++_, append-assoc, append-nil}
 use native.Mathlib.Omega.{arith}
 use lib.ListN.{length, take, drop, length-append, length-drop, drop-of-length-le, take-append-drop}
 use lib.Seq.{take-all, drop-drop, length-take-le, take-at, drop-at}
-use Rattle.stream.specs.Walk.{Mode, chain, over}
-use Rattle.stream.proofs.Chain.{chain-rest, chain-block}
+use Rattle.walk.specs.Walk.{Mode, chain, endState, over}
+use Rattle.walk.proofs.Chain.{chain-rest, chain-block}
+use Rattle.walk.proofs.Cut.{end-rest, end-block}
 
 -- what `&d[at..]` holds
 abbrev pub tailed : ℕ → List ℕ → List ℕ
@@ -50,6 +51,17 @@ turn m s s′ d o t b at hd ho hb hp fs ft =
     let z : chain m s (drop at d) ≡ q ++ C = chain-block m s (drop at d) h ∙ rw (← hb, fs, drop-drop 16 at d) in
     let w : over (chain m s (drop at d)) (drop at o) ≡ q ++ over C D = rw z (over-append q C (drop at o) ∙ rw hp) in
     rw (x, y, w, append-assoc)
+
+-- and the walk ends in the same state
+pub turn-state : (m : Mode) (s s′ d b : List ℕ) (at : ℕ) → at + 16 ≤ length d → b ≡ take 16 (drop at d) → s′ ≡ m .next s b
+    → endState m s′ (drop (at + 16) d) ≡ endState m s (drop at d)
+turn-state m s s′ d b at hd hb fs =
+    let h : 16 ≤ length (drop at d) = rw length-drop (omega arith) in
+    sym (end-block m s (drop at d) h ∙ rw (← hb, fs, drop-drop 16 at d))
+
+-- at the end of the loop it is in that state
+pub last-state : (m : Mode) (s d : List ℕ) (at : ℕ) → length d < at + 16 → s ≡ endState m s (drop at d)
+last-state m s d at h = sym (end-rest m s (drop at d) (rw length-drop (omega arith)))
 
 -- the end of a loop that writes what the rest gives
 pub rest-written : (m : Mode) (s d o t : List ℕ) (at : ℕ) → length d < at + 16 → t ≡ over (m .rest s (tailed at d)) (tailed at o)
