@@ -17,6 +17,10 @@ pub record Outcome : Type 0 where
   -- the whole output buffer
   pub bytes : List ℕ
 
+-- what a report and the output o are together
+abbrev pub leaving : Head → List ℕ → Outcome
+leaving h o = record { head = h; bytes = o }
+
 -- done, with n bytes
 abbrev pub finished : ℕ → Head
 finished n = record { number = 0; size = n }

@@ -1,3 +1,6 @@
+-- `cbc::pad` meets its contract. The array starts as sixteen times the count; the loop's invariant: the first i bytes are the
+-- rest's, and what is left is the padding.
+-- Assumes nothing.
 use mathlib.Core.Path.{_≡_, refl}
 use mathlib.Core.List.{_++_}
 use Prim.Native.Nat.{_≤_, _-_}

@@ -1,3 +1,5 @@
+-- `cbc::put_front` meets its contract. The loop's invariant: the first i bytes are the block's, the others as they were lent.
+-- Assumes nothing.
 use mathlib.Core.Path.{_≡_, refl, _∙_}
 use mathlib.Core.List.{_++_}
 use Prim.Native.Nat.{_≤_, _-_}
