@@ -28,5 +28,5 @@ module _ (rk : List ℕ) (h : ℕ) (j label : List ℕ) where
   pub sealed-of-opened : (s : List ℕ) → opensUnder rk h j label s ≡ true → sealed rk h j label (textOf rk j (textPart s)) ≡ s
   unfolding opensUnder sealed
   sealed-of-opened s e =
-      rw (text-back rk j (textPart s))
-      (ap (λ (l : List ℕ). textPart s ++ l) (sym (same-equal (tagPart s) (tagOf rk h j label (textPart s)) e)) ∙ take-append-drop (length s - 16) s)
+      let tag = same-equal (tagPart s) (tagOf rk h j label (textPart s)) e in
+      rw (text-back rk j (textPart s)) (ap (λ (l : List ℕ). textPart s ++ l) (sym tag) ∙ take-append-drop (length s - 16) s)

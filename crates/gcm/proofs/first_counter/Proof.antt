@@ -1,3 +1,5 @@
+-- `gcm::first_counter` meets its contract: the blocks of an empty label and a 16-byte IV are those of J0 (`first-counter-words`).
+-- Assumes nothing.
 use denote.Ref.{now}
 use Rattle.block.specs.Wide.{value}
 use Rattle.gcm.proofs.InWords.{first-counter-words}

@@ -1,3 +1,5 @@
+-- `gcm::tag_part` meets its contract: a slice from a place on is the list without what comes before (`tail-is`).
+-- Assumes nothing.
 use Prim.Native.Nat.{_-_}
 use lib.ListN.{length}
 use Rattle.walk.proofs.Loop.{tail-is}
