@@ -1,19 +1,21 @@
-use lib.ListN.{length}
-use denote.Ref.{now}
-use borrow.Author.Tests.{eq-eqb, ne-eqb}
-use Rattle.cipher_mode.specs.Key.{newCipher}
 use borrow.Author.Needs.{needs}
 use Rattle.cipher_mode.proofs.Sm4Cipher.new.Statement.{statement}
 use Rattle.cipher_mode.proofs.Sm4Cipher.new.Tie as tie
+use Rattle.cipher_mode.proofs.Sm4Cipher.new.Reads as reads
+use Rattle.cipher_mode.proofs.Sm4Cipher.new.Lts as lts
+use Rattle.cipher.proofs.key_schedule.Reads as key-schedule-reads
 
+-- src/lib.rt:52:13
 returns : tie.Need-returns
-unfolding newCipher
-returns c = rw (ne-eqb (length (now (c .before .before .args .key))) 16 (c .if1 .taken))
+returns c = ?
 
+-- src/lib.rt:57:13
+key-schedule-requires : tie.Need-key-schedule-requires
+key-schedule-requires c κs = search needs
+
+-- src/lib.rt:48:5
 returns-2 : tie.Need-returns-2
-unfolding newCipher
-returns-2 c =
-    rw (eq-eqb (length (now (c .before .before .before .before .before .args .key))) 16 (c .before .before .before .if1 .left), c .key-schedule .ensures)
+returns-2 c = ?
 
 pub new-spec : {M : Type 1} → statement M
-new-spec = tie.close (tie.spec returns (λ c κs. search needs) (λ c κs. search needs) returns-2)
+new-spec = tie.close (tie.spec returns key-schedule-requires returns-2)
