@@ -83,9 +83,9 @@ pub with-tag-passed : (n : ℕ) → dataCheck Decrypt Gcm n ≡ Passed → 16 �
 unfolding shapeCheck
 with-tag-passed n e = ltb-false n 16 (let-through (ltb n 16) _ _ (shaped Decrypt Gcm n e) .fails)
 
-pub room-passed : (dir : Direction) (m : CipherMode) (n room : ℕ) → roomCheck dir m n room ≡ Passed → roomOf dir m n ≤ room
+pub room-passed : (dir : Direction) (m : CipherMode) (n room : ℕ) → roomCheck dir m n room ≡ Passed → roomOf m dir n ≤ room
 unfolding roomCheck
-room-passed dir m n room e = ltb-false room (roomOf dir m n) (let-through (ltb room (roomOf dir m n)) _ _ e .fails)
+room-passed dir m n room e = ltb-false room (roomOf m dir n) (let-through (ltb room (roomOf m dir n)) _ _ e .fails)
 
 -- a message whose call goes on to work
 pub record InOrder (a : KeyAnswer) (dir : Direction) (m : CipherMode) (n : Lengths) : Type 0 where
@@ -93,7 +93,7 @@ pub record InOrder (a : KeyAnswer) (dir : Direction) (m : CipherMode) (n : Lengt
   pub iv-size : n .iv ≡ 16
   pub label : labelCheck m (n .label) ≡ Passed
   pub content : dataCheck dir m (n .«data») ≡ Passed
-  pub room : roomOf dir m (n .«data») ≤ n .room
+  pub room : roomOf m dir (n .«data») ≤ n .room
 
 pub message-passed : (a : KeyAnswer) (dir : Direction) (m : CipherMode) (n : Lengths) → messageCheck a dir m n ≡ Passed → InOrder a dir m n
 unfolding messageCheck

@@ -66,7 +66,7 @@ unfoldable pub dataCheck : Direction → CipherMode → ℕ → Checked
 dataCheck dir m n = refuse (ltb (limitOf dir m) n) TooLong (shapeCheck dir m n)
 
 unfoldable pub roomCheck : Direction → CipherMode → ℕ → ℕ → Checked
-roomCheck dir m n room = refuse (ltb room (roomOf dir m n)) NoRoom Passed
+roomCheck dir m n room = refuse (ltb room (roomOf m dir n)) NoRoom Passed
 
 -- a message, either way
 unfoldable pub messageCheck : KeyAnswer → Direction → CipherMode → Lengths → Checked

@@ -22,14 +22,11 @@ limitOf Decrypt Cbc = sealedLimit
 limitOf Decrypt Gcm = sealedLimit
 
 -- room for n bytes of data, which is also the length of an encrypted message
-abbrev pub roomOf : Direction → CipherMode → ℕ → ℕ
-roomOf Encrypt Cfb n = n
-roomOf Encrypt Ofb n = n
-roomOf Encrypt Ctr n = n
-roomOf Encrypt Cbc n = 16 * (n / 16 + 1)
-roomOf Encrypt Gcm n = n + 16
-roomOf Decrypt Cfb n = n
-roomOf Decrypt Ofb n = n
-roomOf Decrypt Ctr n = n
-roomOf Decrypt Cbc n = n
-roomOf Decrypt Gcm n = n - 16
+abbrev pub roomOf : CipherMode → Direction → ℕ → ℕ
+roomOf Cfb dir n = n
+roomOf Ofb dir n = n
+roomOf Ctr dir n = n
+roomOf Cbc Encrypt n = 16 * (n / 16 + 1)
+roomOf Cbc Decrypt n = n
+roomOf Gcm Encrypt n = n + 16
+roomOf Gcm Decrypt n = n - 16

@@ -129,7 +129,7 @@ pub fn data(direction: Direction, mode: CipherMode, n: usize) -> Checked
 // How long the message is that `n` bytes are encrypted to; it needs that room.
 pub fn encrypted_length(mode: CipherMode, n: usize) -> usize
     requires { ⌜ n ≤ limit ⌝ }
-    ensures { λ r. ⌜ r ≡ roomOf Direction.Encrypt mode n ⌝ }
+    ensures { λ r. ⌜ r ≡ roomOf mode Direction.Encrypt n ⌝ }
 {
     match mode {
         CipherMode::Cfb => n,
@@ -143,7 +143,7 @@ pub fn encrypted_length(mode: CipherMode, n: usize) -> usize
 // The room that `n` bytes need to be decrypted.
 fn decryption_room(mode: CipherMode, n: usize) -> usize
     requires { ⌜ dataCheck Direction.Decrypt mode n ≡ Checked.Passed ⌝ }
-    ensures { λ r. ⌜ r ≡ roomOf Direction.Decrypt mode n ⌝ }
+    ensures { λ r. ⌜ r ≡ roomOf mode Direction.Decrypt n ⌝ }
 {
     match mode {
         CipherMode::Cfb => n,
@@ -156,7 +156,7 @@ fn decryption_room(mode: CipherMode, n: usize) -> usize
 
 fn room_of(direction: Direction, mode: CipherMode, n: usize) -> usize
     requires { ⌜ dataCheck direction mode n ≡ Checked.Passed ⌝ }
-    ensures { λ r. ⌜ r ≡ roomOf direction mode n ⌝ }
+    ensures { λ r. ⌜ r ≡ roomOf mode direction n ⌝ }
 {
     match direction {
         Direction::Encrypt => encrypted_length(mode, n),

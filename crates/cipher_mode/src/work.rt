@@ -77,7 +77,7 @@ fn by_cbc(
     requires { ⌜ Engine (now t) ⌝ }
     requires { ⌜ length (now iv) ≡ 16 ⌝ }
     requires { ⌜ dataCheck direction CipherMode.Cbc (length (now «data»)) ≡ Checked.Passed ⌝ }
-    requires { ⌜ roomOf direction CipherMode.Cbc (length (now «data»)) ≤ length (now out) ⌝ }
+    requires { ⌜ roomOf CipherMode.Cbc direction (length (now «data»)) ≤ length (now out) ⌝ }
     ensures { λ r. ⌜ outcome r (now (out .exit)) ≡ cbcResult direction rk (now («data» .entry)) (now (iv .entry)) (now (out .entry)) ⌝ }
 {
     let start = block::split_block(iv);
@@ -112,7 +112,7 @@ fn by_gcm(
     requires { ⌜ length (now iv) ≡ 16 ⌝ }
     requires { ⌜ labelCheck CipherMode.Gcm (length (now aad)) ≡ Checked.Passed ⌝ }
     requires { ⌜ dataCheck direction CipherMode.Gcm (length (now «data»)) ≡ Checked.Passed ⌝ }
-    requires { ⌜ roomOf direction CipherMode.Gcm (length (now «data»)) ≤ length (now out) ⌝ }
+    requires { ⌜ roomOf CipherMode.Gcm direction (length (now «data»)) ≤ length (now out) ⌝ }
     ensures { λ r. ⌜ outcome r (now (out .exit)) ≡ gcmResult direction rk (now (aad .entry)) (now («data» .entry)) (now (iv .entry)) (now (out .entry)) ⌝ }
 {
     let h = gcm::hash_key(t, rk);
@@ -141,7 +141,7 @@ pub(crate) fn message(
     requires { ⌜ length (now iv) ≡ 16 ⌝ }
     requires { ⌜ labelCheck mode (length (now aad)) ≡ Checked.Passed ⌝ }
     requires { ⌜ dataCheck direction mode (length (now «data»)) ≡ Checked.Passed ⌝ }
-    requires { ⌜ roomOf direction mode (length (now «data»)) ≤ length (now out) ⌝ }
+    requires { ⌜ roomOf mode direction (length (now «data»)) ≤ length (now out) ⌝ }
     ensures { λ r. ⌜ outcome r (now (out .exit)) ≡ result mode direction rk (now (aad .entry)) (now («data» .entry)) (now (iv .entry)) (now (out .entry)) ⌝ }
 {
     match mode {

@@ -1,58 +1,66 @@
+-- `cipher_mode::Sm4Cipher::call` meets its contract: where the check refused, so does the definition; where it passed, the block was
+-- written and is sixteen bytes.
+-- Assumes nothing.
+use mathlib.Core.Path.{_≡_, sym, ap, _∙_}
+use mathlib.Core.List.{List, _++_}
+use Prim.Native.Nat.{ℕ}
+use denote.Ref.{now}
+use lib.ListN.{length, drop}
+use Rattle.walk.specs.Outcome.{done}
+use Rattle.cipher_mode.specs.Calls.{blockOf, blockCall}
+use Rattle.cipher_mode.specs.declared.Direction.{Direction}
+use Rattle.cipher_mode.specs.declared.Direction.the-variants.{Encrypt, Decrypt}
+use Rattle.cipher.proofs.Blocks.{length-encryptBlock, length-decryptBlock}
+use Rattle.cipher_mode.proofs.Passed.{block-passed}
+use Rattle.cipher_mode.proofs.Ends.{refused-there, went-on, reached}
 use borrow.Author.Needs.{needs}
 use Rattle.cipher_mode.proofs.Sm4Cipher.call.Statement.{statement}
 use Rattle.cipher_mode.proofs.Sm4Cipher.call.Tie as tie
-use Rattle.cipher_mode.proofs.Sm4Cipher.call.Reads as reads
-use Rattle.cipher_mode.proofs.Sm4Cipher.call.Lts as lts
-use Rattle.cipher_mode.proofs.answer.done.Reads as done-reads
-use Rattle.cipher_mode.proofs.answer.refused.Reads as refused-reads
 use Rattle.cipher_mode.proofs.checks.block.Reads as checks-block-reads
 use Rattle.cipher_mode.proofs.work.block.Reads as work-block-reads
 
--- src/lib.rt:69:13
-block-requires : tie.Need-block-requires
-block-requires c κs = search needs
+length-block : (dir : Direction) (rk b : List ℕ) → length (blockOf dir rk b) ≡ 16
+length-block Encrypt rk b = length-encryptBlock rk b
+length-block Decrypt rk b = length-decryptBlock rk b
 
--- src/lib.rt:70:33
-enum-known-checked : tie.Need-enum-known-checked
-enum-known-checked c = search needs
-
--- src/lib.rt:71:13
-refused-requires : tie.Need-refused-requires
-refused-requires c κs = search needs
-
--- src/lib.rt:71:13
 returns : tie.Need-returns
-returns c = ?
+unfolding blockCall
+returns c =
+    let told = c .before .before in
+    let at-check = told .before .before in
+    let a = at-check .before .before .before .args in
+    let o = now (a .out) in
+    refused-there (c .refused .result) _ _ o (done (blockOf (a .direction) (a .self .rk) (now (a .block-in))) o) (c .refused .ensures) (sym (at-check .block .ensures) ∙ told .checked .given .1)
 
-enum-told : tie.Need-enum-told
-enum-told c = search needs
-
--- src/lib.rt:74:9
 block-requires-2 : tie.Need-block-requires-2
-block-requires-2 c κs = ?
+block-requires-2 c κs =
+    let told = c .before .before in
+    let in-order = block-passed _ _ _ (sym (told .before .before .block .ensures) ∙ told .enum-told .given .1) in
+    (in-order .size, in-order .enough)
 
--- src/lib.rt:75:9
-done-requires : tie.Need-done-requires
-done-requires c κs = search needs
-
--- src/lib.rt:65:5
-same-length : tie.Need-same-length
-same-length c = search needs
-
--- src/lib.rt:65:5
 returns-2 : tie.Need-returns-2
-returns-2 c = ?
+unfolding blockCall
+returns-2 c =
+    let at-work = c .before .before .before in
+    let told = at-work .before .before .before in
+    let at-check = told .before .before in
+    let a = at-check .before .before .before .args in
+    let b = blockOf (a .direction) (a .self .rk) (now (a .block-in)) in
+    let o = now (a .out) in
+    let n = length-block (a .direction) (a .self .rk) (now (a .block-in)) in
+    went-on _ o _ (done b o) (sym (at-check .block .ensures) ∙ told .enum-told .given .1)
+    (reached (c .done .result) b o _ 16 (c .done .ensures) n (at-work .block2 .ensures ∙ ap (λ (k : ℕ). b ++ drop k o) (sym n)))
 
 pub call-spec : {M : Type 1} → statement M
 call-spec =
     tie.close
     (tie.spec
-    block-requires
-    enum-known-checked
-    refused-requires
+    (λ c κs. search needs)
+    (λ c. search needs)
+    (λ c κs. search needs)
     returns
-    enum-told
+    (λ c. search needs)
     block-requires-2
-    done-requires
-    same-length
+    (λ c κs. search needs)
+    (λ c. search needs)
     returns-2)

@@ -1,21 +1,24 @@
+-- `cipher_mode::Sm4Cipher::new` meets its contract: the length of the key decides, as in the definition.
+-- Assumes nothing.
+use borrow.Author.Tests.{eq-eqb, ne-eqb}
+use Rattle.cipher_mode.specs.Key.{newCipher}
 use borrow.Author.Needs.{needs}
 use Rattle.cipher_mode.proofs.Sm4Cipher.new.Statement.{statement}
 use Rattle.cipher_mode.proofs.Sm4Cipher.new.Tie as tie
-use Rattle.cipher_mode.proofs.Sm4Cipher.new.Reads as reads
-use Rattle.cipher_mode.proofs.Sm4Cipher.new.Lts as lts
 use Rattle.cipher.proofs.key_schedule.Reads as key-schedule-reads
 
--- src/lib.rt:52:13
 returns : tie.Need-returns
-returns c = ?
+unfolding newCipher
+returns c = rw (ne-eqb _ _ (c .if1 .taken))
 
--- src/lib.rt:57:13
-key-schedule-requires : tie.Need-key-schedule-requires
-key-schedule-requires c κs = search needs
-
--- src/lib.rt:48:5
 returns-2 : tie.Need-returns-2
-returns-2 c = ?
+unfolding newCipher
+returns-2 c = rw (eq-eqb _ _ (c .before .if1 .left), c .key-schedule .ensures)
 
 pub new-spec : {M : Type 1} → statement M
-new-spec = tie.close (tie.spec returns key-schedule-requires returns-2)
+new-spec =
+    tie.close
+    (tie.spec
+    returns
+    (λ c κs. search needs)
+    returns-2)

@@ -1,63 +1,55 @@
+-- `cipher_mode::Sm4CipherMode::call` meets its contract: where a check refused, so does the definition; where all passed, the work leaves
+-- what the definition goes on to.
+-- Assumes nothing.
+use mathlib.Core.Path.{_≡_, sym, _∙_}
+use denote.Ref.{now}
+use Rattle.cipher_mode.specs.Calls.{result, modeCall}
+use Rattle.cipher_mode.proofs.Passed.{message-passed}
+use Rattle.cipher_mode.proofs.Ends.{refused-there, went-on}
 use borrow.Author.Needs.{needs}
 use Rattle.cipher_mode.proofs.Sm4CipherMode.call.Statement.{statement}
 use Rattle.cipher_mode.proofs.Sm4CipherMode.call.Tie as tie
-use Rattle.cipher_mode.proofs.Sm4CipherMode.call.Reads as reads
-use Rattle.cipher_mode.proofs.Sm4CipherMode.call.Lts as lts
-use Rattle.cipher.proofs.plain.Reads as plain-reads
-use Rattle.cipher_mode.proofs.answer.refused.Reads as refused-reads
 use Rattle.cipher_mode.proofs.checks.message.Reads as checks-message-reads
 use Rattle.cipher_mode.proofs.work.message.Reads as work-message-reads
 
--- src/lib.rt:122:13
-message-requires : tie.Need-message-requires
-message-requires c κs = search needs
-
--- src/lib.rt:123:33
-enum-known-checked : tie.Need-enum-known-checked
-enum-known-checked c = search needs
-
--- src/lib.rt:124:13
-refused-requires : tie.Need-refused-requires
-refused-requires c κs = search needs
-
--- src/lib.rt:124:13
 returns : tie.Need-returns
-returns c = ?
+unfolding modeCall
+returns c =
+    let told = c .before .before in
+    let at-check = told .before .before in
+    let a = at-check .before .before .before .before .before .before .args in
+    let o = now (a .out) in
+    let next = result (a .self .mode) (a .direction) (a .self .cipher .rk) (now (a .aad)) (now (a .«data»)) (now (a .iv)) o in
+    refused-there (c .refused .result) _ _ o next (c .refused .ensures) (sym (at-check .message .ensures) ∙ told .checked .given .1)
 
-enum-told : tie.Need-enum-told
-enum-told c = search needs
-
--- src/lib.rt:126:17
-plain-requires : tie.Need-plain-requires
-plain-requires c κs = search needs
-
--- src/lib.rt:128:23
-slice-aggregate-message : tie.Need-slice-aggregate-message
-slice-aggregate-message c = search needs
-
--- src/lib.rt:128:9
 message-requires-2 : tie.Need-message-requires-2
-message-requires-2 c κs = ?
+message-requires-2 c κs =
+    let at-plain = c .before .before .before in
+    let told = at-plain .before in
+    let in-order = message-passed _ _ _ _ (sym (told .before .before .message .ensures) ∙ told .enum-told .given .1) in
+    (at-plain .plain .ensures, (in-order .iv-size, (in-order .label, (in-order .content, in-order .room))))
 
--- src/lib.rt:103:5
-same-length : tie.Need-same-length
-same-length c = search needs
-
--- src/lib.rt:103:5
 returns-2 : tie.Need-returns-2
-returns-2 c = ?
+unfolding modeCall
+returns-2 c =
+    let at-work = c .before .before in
+    let told = at-work .before .before .before .before .before in
+    let a = told .before .before .before .before .before .before .before .before .args in
+    let o = now (a .out) in
+    let next = result (a .self .mode) (a .direction) (a .self .cipher .rk) (now (a .aad)) (now (a .«data»)) (now (a .iv)) o in
+    went-on _ o _ next (sym (told .before .before .message .ensures) ∙ told .enum-told .given .1) (at-work .message2 .ensures)
 
 pub call-spec : {M : Type 1} → statement M
 call-spec =
     tie.close
     (tie.spec
-    message-requires
-    enum-known-checked
-    refused-requires
+    (λ c κs. search needs)
+    (λ c. search needs)
+    (λ c κs. search needs)
     returns
-    enum-told
-    plain-requires
-    slice-aggregate-message
+    (λ c. search needs)
+    (λ c κs. search needs)
+    (λ c. search needs)
     message-requires-2
-    same-length
+    (λ c. search needs)
     returns-2)

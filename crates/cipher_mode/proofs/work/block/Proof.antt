@@ -1,85 +1,59 @@
+-- `cipher_mode::work::block` meets its contract: by either direction the block's words go through the cipher and are put back.
+-- Assumes nothing.
+use mathlib.Core.Path.{ap, _∙_}
+use mathlib.Core.List.{List, _++_}
+use Prim.Native.Nat.{ℕ}
+use denote.Ref.{now}
+use lib.ListN.{drop}
+use Rattle.block.specs.Words.{unwords}
+use Rattle.cipher.specs.Sm4.{encryptWords, decryptWords, encryptBlock, decryptBlock}
 use borrow.Author.Needs.{needs}
 use Rattle.cipher_mode.proofs.work.block.Statement.{statement}
 use Rattle.cipher_mode.proofs.work.block.Tie as tie
-use Rattle.cipher_mode.proofs.work.block.Reads as reads
-use Rattle.cipher_mode.proofs.work.block.Lts as lts
 use Rattle.block.proofs.put_block.Reads as put-block-reads
 use Rattle.block.proofs.split_block.Reads as split-block-reads
-use Rattle.cipher.proofs.decrypt.Reads as decrypt-reads
-use Rattle.cipher.proofs.encrypt.Reads as encrypt-reads
-use Rattle.cipher.proofs.plain.Reads as plain-reads
 
--- src/work.rt:31:13
-plain-requires : tie.Need-plain-requires
-plain-requires c κs = search needs
-
--- src/work.rt:32:9
-split-block-requires : tie.Need-split-block-requires
-split-block-requires c κs = search needs
-
--- src/work.rt:34:64
-enum-told : tie.Need-enum-told
-enum-told c = search needs
-
--- src/work.rt:34:64
-slice-aggregate-encrypt : tie.Need-slice-aggregate-encrypt
-slice-aggregate-encrypt c = search needs
-
--- src/work.rt:34:48
-encrypt-requires : tie.Need-encrypt-requires
-encrypt-requires c κs = search needs
-
--- src/work.rt:34:31
-put-block-requires : tie.Need-put-block-requires
-put-block-requires c κs = search needs
-
--- src/work.rt:35:64
-enum-told-2 : tie.Need-enum-told-2
-enum-told-2 c = search needs
-
--- src/work.rt:35:64
-slice-aggregate-decrypt : tie.Need-slice-aggregate-decrypt
-slice-aggregate-decrypt c = search needs
-
--- src/work.rt:35:48
-decrypt-requires : tie.Need-decrypt-requires
-decrypt-requires c κs = search needs
-
--- src/work.rt:35:31
-put-block-requires-2 : tie.Need-put-block-requires-2
-put-block-requires-2 c κs = search needs
-
--- src/work.rt:26:1
-same-length : tie.Need-same-length
-same-length c = search needs
-
--- src/work.rt:26:1
 returns : tie.Need-returns
-returns c = ?
+unfolding encryptBlock
+returns c =
+    let at-put = c .before .before in
+    let at-encrypt = at-put .before .before in
+    let told = at-encrypt .before .before in
+    let at-split = told .before .before in
+    let a = at-split .before .before .before .before .args in
+    rw (told .enum-told .given .1)
+    (at-put .put-block .ensures
+    ∙ ap (λ (w : List ℕ). unwords w ++ drop 16 (now (a .out)))
+    (at-encrypt .encrypt .ensures ∙ ap (encryptWords (a .rk)) (at-split .split-block .ensures)))
 
--- src/work.rt:26:1
-same-length-2 : tie.Need-same-length-2
-same-length-2 c = search needs
-
--- src/work.rt:26:1
 returns-2 : tie.Need-returns-2
-returns-2 c = ?
+unfolding decryptBlock
+returns-2 c =
+    let at-put = c .before .before in
+    let at-decrypt = at-put .before .before in
+    let told = at-decrypt .before .before in
+    let at-split = told .before .before in
+    let a = at-split .before .before .before .before .args in
+    rw (told .enum-told2 .given .1)
+    (at-put .put-block2 .ensures
+    ∙ ap (λ (w : List ℕ). unwords w ++ drop 16 (now (a .out)))
+    (at-decrypt .decrypt .ensures ∙ ap (decryptWords (a .rk)) (at-split .split-block .ensures)))
 
 pub block-spec : {M : Type 1} → statement M
 block-spec =
     tie.close
     (tie.spec
-    plain-requires
-    split-block-requires
-    enum-told
-    slice-aggregate-encrypt
-    encrypt-requires
-    put-block-requires
-    enum-told-2
-    slice-aggregate-decrypt
-    decrypt-requires
-    put-block-requires-2
-    same-length
+    (λ c κs. search needs)
+    (λ c κs. search needs)
+    (λ c. search needs)
+    (λ c. search needs)
+    (λ c κs. search needs)
+    (λ c κs. search needs)
+    (λ c. search needs)
+    (λ c. search needs)
+    (λ c κs. search needs)
+    (λ c κs. search needs)
+    (λ c. search needs)
     returns
-    same-length-2
+    (λ c. search needs)
     returns-2)

@@ -1,119 +1,111 @@
+-- `cipher_mode::work::message` meets its contract: in each arm the mode is known, and the definition gives what that arm's function leaves.
+-- Assumes nothing.
+use mathlib.Core.Path.{ap, _∙_}
+use denote.Ref.{now}
+use Rattle.walk.specs.Outcome.{Outcome, done}
+use Rattle.walk.specs.Walk.{chain}
+use Rattle.stream.specs.Stream.{streamMode}
+use Rattle.stream.specs.declared.Kind.{Kind}
+use Rattle.cipher_mode.specs.Calls.{result}
 use borrow.Author.Needs.{needs}
 use Rattle.cipher_mode.proofs.work.message.Statement.{statement}
 use Rattle.cipher_mode.proofs.work.message.Tie as tie
-use Rattle.cipher_mode.proofs.work.message.Reads as reads
-use Rattle.cipher_mode.proofs.work.message.Lts as lts
 use Rattle.cipher_mode.proofs.work.by_cbc.Reads as by-cbc-reads
 use Rattle.cipher_mode.proofs.work.by_gcm.Reads as by-gcm-reads
 use Rattle.cipher_mode.proofs.work.by_stream.Reads as by-stream-reads
 use Rattle.cipher_mode.proofs.work.cfb_kind.Reads as cfb-kind-reads
 
--- src/work.rt:148:45
-enum-told : tie.Need-enum-told
-enum-told c = search needs
-
--- src/work.rt:148:45
-cfb-kind-requires : tie.Need-cfb-kind-requires
-cfb-kind-requires c κs = search needs
-
--- src/work.rt:148:28
 by-stream-requires : tie.Need-by-stream-requires
-by-stream-requires c κs = ?
+by-stream-requires c κs =
+    let told = c .before .before in
+    let S = told .before .before .before .before .before .before .before in
+    (S .pre .0, (S .pre .1 .0, rw (told .enum-told .given .1) at (S .pre .1 .1 .1 .1)))
 
--- src/work.rt:149:45
-enum-told-2 : tie.Need-enum-told-2
-enum-told-2 c = search needs
-
--- src/work.rt:149:28
 by-stream-requires-2 : tie.Need-by-stream-requires-2
-by-stream-requires-2 c κs = ?
+by-stream-requires-2 c κs =
+    let told = c .before in
+    let S = told .before .before .before .before .before .before .before in
+    (S .pre .0, (S .pre .1 .0, rw (told .enum-told2 .given .1) at (S .pre .1 .1 .1 .1)))
 
--- src/work.rt:150:45
-enum-told-3 : tie.Need-enum-told-3
-enum-told-3 c = search needs
-
--- src/work.rt:150:28
 by-stream-requires-3 : tie.Need-by-stream-requires-3
-by-stream-requires-3 c κs = ?
+by-stream-requires-3 c κs =
+    let told = c .before in
+    let S = told .before .before .before .before .before .before .before in
+    (S .pre .0, (S .pre .1 .0, rw (told .enum-told3 .given .1) at (S .pre .1 .1 .1 .1)))
 
--- src/work.rt:151:63
-enum-told-4 : tie.Need-enum-told-4
-enum-told-4 c = search needs
-
--- src/work.rt:151:28
 by-cbc-requires : tie.Need-by-cbc-requires
-by-cbc-requires c κs = ?
+by-cbc-requires c κs =
+    let told = c .before in
+    let S = told .before .before .before .before .before .before .before in
+    let mode = told .enum-told4 .given .1 in
+    (S .pre .0, (S .pre .1 .0, (rw mode at (S .pre .1 .1 .1 .0), rw mode at (S .pre .1 .1 .1 .1))))
 
--- src/work.rt:152:68
-enum-told-5 : tie.Need-enum-told-5
-enum-told-5 c = search needs
-
--- src/work.rt:152:28
 by-gcm-requires : tie.Need-by-gcm-requires
-by-gcm-requires c κs = ?
+by-gcm-requires c κs =
+    let told = c .before in
+    let S = told .before .before .before .before .before .before .before in
+    let mode = told .enum-told5 .given .1 in
+    (S .pre .0, (S .pre .1 .0, (rw mode at (S .pre .1 .1 .0), (rw mode at (S .pre .1 .1 .1 .0), rw mode at (S .pre .1 .1 .1 .1)))))
 
--- src/work.rt:130:1
-same-length : tie.Need-same-length
-same-length c = search needs
-
--- src/work.rt:130:1
 returns : tie.Need-returns
-returns c = ?
+unfolding result
+returns c =
+    let at-stream = c .before .before in
+    let at-kind = at-stream .before .before in
+    let told = at-kind .before in
+    let a = told .before .before .before .before .before .before .before .args in
+    rw (told .enum-told .given .1)
+    (at-stream .by-stream .ensures
+    ∙ ap {B = Outcome} (λ (k : Kind). done (chain (streamMode k (a .rk)) (now (a .iv)) (now (a .«data»))) (now (a .out))) (at-kind .cfb-kind .ensures))
 
--- src/work.rt:130:1
-same-length-2 : tie.Need-same-length-2
-same-length-2 c = search needs
-
--- src/work.rt:130:1
 returns-2 : tie.Need-returns-2
-returns-2 c = ?
+unfolding result
+returns-2 c =
+    let at-stream = c .before .before in
+    let told = at-stream .before .before in
+    rw (told .enum-told2 .given .1) (at-stream .by-stream2 .ensures)
 
--- src/work.rt:130:1
-same-length-3 : tie.Need-same-length-3
-same-length-3 c = search needs
-
--- src/work.rt:130:1
 returns-3 : tie.Need-returns-3
-returns-3 c = ?
+unfolding result
+returns-3 c =
+    let at-stream = c .before .before in
+    let told = at-stream .before .before in
+    rw (told .enum-told3 .given .1) (at-stream .by-stream3 .ensures)
 
--- src/work.rt:130:1
-same-length-4 : tie.Need-same-length-4
-same-length-4 c = search needs
-
--- src/work.rt:130:1
 returns-4 : tie.Need-returns-4
-returns-4 c = ?
+unfolding result
+returns-4 c =
+    let at-cbc = c .before .before in
+    rw (at-cbc .before .before .enum-told4 .given .1) (at-cbc .by-cbc .ensures)
 
--- src/work.rt:130:1
-same-length-5 : tie.Need-same-length-5
-same-length-5 c = search needs
-
--- src/work.rt:130:1
 returns-5 : tie.Need-returns-5
-returns-5 c = ?
+unfolding result
+returns-5 c =
+    let at-gcm = c .before .before in
+    rw (at-gcm .before .before .enum-told5 .given .1) (at-gcm .by-gcm .ensures)
 
 pub message-spec : {M : Type 1} → statement M
 message-spec =
     tie.close
     (tie.spec
-    enum-told
-    cfb-kind-requires
+    (λ c. search needs)
+    (λ c κs. search needs)
     by-stream-requires
-    enum-told-2
+    (λ c. search needs)
     by-stream-requires-2
-    enum-told-3
+    (λ c. search needs)
     by-stream-requires-3
-    enum-told-4
+    (λ c. search needs)
     by-cbc-requires
-    enum-told-5
+    (λ c. search needs)
     by-gcm-requires
-    same-length
+    (λ c. search needs)
     returns
-    same-length-2
+    (λ c. search needs)
     returns-2
-    same-length-3
+    (λ c. search needs)
     returns-3
-    same-length-4
+    (λ c. search needs)
     returns-4
-    same-length-5
+    (λ c. search needs)
     returns-5)
