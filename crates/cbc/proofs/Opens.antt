@@ -7,9 +7,8 @@ use native.Mathlib.Omega.{arith}
 use lib.ListN.{length, take, drop, length-drop, take-append-drop}
 use lib.Seq.{length-take-le, take-at, drop-at, take-add, drop-drop}
 use Rattle.walk.specs.Outcome.{Outcome, leaving, written}
-use Rattle.walk.specs.Walk.{chain, over}
+use Rattle.walk.specs.Walk.{over}
 use Rattle.walk.proofs.Loop.{tailed, returned, tail-is, returned-is}
-use Rattle.cbc.specs.Cbc.{cbcDecrypt}
 use Rattle.cbc.specs.Open.{headOf, unpadded, cbcText, cbcOpen}
 use Rattle.cbc.specs.declared.Opened.{Opened}
 use Rattle.cbc.specs.declared.Opened.the-variants.{Done, InvalidLastU8}

@@ -12,7 +12,7 @@ use Rattle.block.proofs.Entries.{below-take, below-drop, below-append, below-re
 use Rattle.block.proofs.Xors.{length-xors, xors-cancel, xors-below}
 use Rattle.cipher.proofs.Blocks.{length-encryptBlock, encryptBlock-bytes, block-decrypt-encrypt}
 use Rattle.walk.specs.Outcome.{Outcome, done, leaving, written, finished}
-use Rattle.walk.specs.Walk.{chain, over}
+use Rattle.walk.specs.Walk.{over}
 use Rattle.walk.proofs.Chain.{Any, chain-length, chain-bytes}
 use Rattle.walk.proofs.Undo.{Undoes, undo}
 use Rattle.cbc.specs.Cbc.{padding, padded, cbcEncrypt, cbcDecrypt, cbcSeal}

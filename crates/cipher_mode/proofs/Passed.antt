@@ -11,7 +11,7 @@ use Rattle.cipher_mode.specs.declared.KeyAnswer.the-variants.{Key, Error
 use Rattle.cipher_mode.specs.declared.CipherMode.{CipherMode}
 use Rattle.cipher_mode.specs.declared.CipherMode.the-variants.{Cbc, Gcm}
 use Rattle.cipher_mode.specs.declared.Direction.{Direction}
-use Rattle.cipher_mode.specs.declared.Direction.the-variants.{Encrypt, Decrypt}
+use Rattle.cipher_mode.specs.declared.Direction.the-variants.{Decrypt}
 use Rattle.cipher_mode.specs.declared.answer.Refusal.{Refusal}
 use Rattle.cipher_mode.specs.declared.checks.Checked.{Checked}
 use Rattle.cipher_mode.specs.declared.checks.Checked.the-variants.{Passed, Refused}
@@ -47,19 +47,13 @@ is-key NoKey e = let z : _≡_ {A = ℕ} 0 1 = cc in absurd (omega arith)
 sixteen : (n : ℕ) → not (eqb n 16) ≡ false → n ≡ 16
 sixteen n e = eqb-true n 16 (not-false (eqb n 16) e)
 
-pub record KeyAndIv (a : KeyAnswer) (iv : ℕ) : Type 0 where
-  pub key : a ≡ Key
-  pub iv-size : iv ≡ 16
-
-pub key-and-iv-passed : (a : KeyAnswer) (m : CipherMode) (iv : ℕ) → keyAndIv a m iv ≡ Passed → KeyAndIv a iv
+pub key-and-iv-passed : (a : KeyAnswer) (m : CipherMode) (iv : ℕ) → keyAndIv a m iv ≡ Passed → (a ≡ Key) × (iv ≡ 16)
 unfolding keyAndIv
 key-and-iv-passed a m iv e =
     let k = let-through (noKey a) _ _ e in
-    let n = let-through (wrongIv m iv) _ _ (k .rest) in
-    record { key = is-key a (k .fails); iv-size = sixteen iv (n .fails) }
+    (is-key a (k .fails), sixteen iv (let-through (wrongIv m iv) _ _ (k .rest) .fails))
 
 pub label-passed : (n : ℕ) → labelCheck Gcm n ≡ Passed → n ≤ limit
-unfolding labelCheck
 label-passed n e = ltb-false limit n (let-through (ltb limit n) _ _ e .fails)
 
 module _ (dir : Direction) (m : CipherMode) (n : ℕ) (e : dataCheck dir m n ≡ Passed) where
@@ -72,7 +66,6 @@ module _ (dir : Direction) (m : CipherMode) (n : ℕ) (e : dataCheck dir m n ≡
   shaped = let-through (ltb (limitOf dir m) n) _ _ e .rest
 
 pub whole-blocks-passed : (n : ℕ) → dataCheck Decrypt Cbc n ≡ Passed → (16 ≤ n) × (n % 16 ≡ 0)
-unfolding shapeCheck
 whole-blocks-passed n e =
     let some = let-through (eqb n 0) _ _ (shaped Decrypt Cbc n e) in
     let even = let-through (not (eqb (n % 16) 0)) _ _ (some .rest) in
@@ -80,7 +73,6 @@ whole-blocks-passed n e =
     (omega (arith, eqb-false n 0 (some .fails)), z)
 
 pub with-tag-passed : (n : ℕ) → dataCheck Decrypt Gcm n ≡ Passed → 16 ≤ n
-unfolding shapeCheck
 with-tag-passed n e = ltb-false n 16 (let-through (ltb n 16) _ _ (shaped Decrypt Gcm n e) .fails)
 
 pub room-passed : (dir : Direction) (m : CipherMode) (n room : ℕ) → roomCheck dir m n room ≡ Passed → roomOf m dir n ≤ room
@@ -103,8 +95,8 @@ message-passed a dir m n e =
     let from-data = both (dataCheck dir m (n .«data»)) _ (from-label .1) in
     let first = key-and-iv-passed a m (n .iv) (from-key .0) in
     record {
-      key = first .key;
-      iv-size = first .iv-size;
+      key = first .0;
+      iv-size = first .1;
       label = from-label .0;
       content = from-data .0;
       room = room-passed dir m (n .«data») (n .room) (from-data .1);

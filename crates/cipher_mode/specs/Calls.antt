@@ -1,6 +1,6 @@
 -- The public calls: what each one leaves, from the inputs alone.
 use Prim.Native.Nat.{ℕ}
-use mathlib.Core.List.{List}
+use mathlib.Core.List.{List, reverse}
 use lib.ListN.{length}
 use Rattle.cipher.specs.Sm4.{encryptBlock, decryptBlock}
 use Rattle.walk.specs.Outcome.{Outcome, done}
@@ -19,6 +19,11 @@ use Rattle.cipher_mode.specs.declared.Direction.the-variants.{Encrypt, D
 use Rattle.cipher_mode.specs.declared.Sm4Cipher.{Sm4Cipher}
 use Rattle.cipher_mode.specs.declared.Sm4CipherMode.{Sm4CipherMode}
 use Rattle.cipher_mode.specs.Checks.{checked, blockCheck, messageCheck}
+
+-- the round keys as a direction takes them: decryption from the last to the first
+abbrev pub keysFor : Direction → List ℕ → List ℕ
+keysFor Encrypt rk = rk
+keysFor Decrypt rk = reverse rk
 
 -- one block, by a direction
 abbrev pub blockOf : Direction → List ℕ → List ℕ → List ℕ
@@ -44,7 +49,7 @@ gcmResult Encrypt rk aad d iv o = done (sealed rk (hashKey rk) (J0 rk iv) aad d)
 gcmResult Decrypt rk aad d iv o = gcmOpen rk (hashKey rk) (J0 rk iv) aad d o
 
 -- what the data d gives in a mode, by a direction; the first three modes are done with whatever they are given
-unfoldable pub result : CipherMode → Direction → List ℕ → List ℕ → List ℕ → List ℕ → List ℕ → Outcome
+abbrev pub result : CipherMode → Direction → List ℕ → List ℕ → List ℕ → List ℕ → List ℕ → Outcome
 result Cfb dir rk aad d iv o = done (chain (streamMode (cfbKind dir) rk) iv d) o
 result Ofb dir rk aad d iv o = done (chain (streamMode Ofb·kind rk) iv d) o
 result Ctr dir rk aad d iv o = done (chain (streamMode Ctr·kind rk) iv d) o

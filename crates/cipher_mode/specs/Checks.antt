@@ -43,7 +43,7 @@ keyAndIv a m iv =
     Passed)
 
 -- only Gcm looks at the label
-unfoldable pub labelCheck : CipherMode → ℕ → Checked
+abbrev pub labelCheck : CipherMode → ℕ → Checked
 labelCheck Cfb n = Passed
 labelCheck Ofb n = Passed
 labelCheck Ctr n = Passed
@@ -51,7 +51,7 @@ labelCheck Cbc n = Passed
 labelCheck Gcm n = refuse (ltb limit n) TooLong Passed
 
 -- the lengths of data to decrypt that are no message's
-unfoldable pub shapeCheck : Direction → CipherMode → ℕ → Checked
+abbrev pub shapeCheck : Direction → CipherMode → ℕ → Checked
 shapeCheck Encrypt m n = Passed
 shapeCheck Decrypt Cfb n = Passed
 shapeCheck Decrypt Ofb n = Passed

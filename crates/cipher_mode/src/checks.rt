@@ -41,15 +41,6 @@ pub fn key_and_iv(key: KeyAnswer, mode: CipherMode, iv: usize) -> Checked
     Checked::Passed
 }
 
-fn gcm_label(n: usize) -> Checked
-    ensures { λ r. ⌜ r ≡ labelCheck CipherMode.Gcm n ⌝ }
-{
-    if n > LIMIT {
-        return Checked::Refused(Refusal::TooLong);
-    }
-    Checked::Passed
-}
-
 // Only Gcm looks at the label.
 pub fn label(mode: CipherMode, n: usize) -> Checked
     ensures { λ r. ⌜ r ≡ labelCheck mode n ⌝ }
@@ -59,7 +50,12 @@ pub fn label(mode: CipherMode, n: usize) -> Checked
         CipherMode::Ofb => Checked::Passed,
         CipherMode::Ctr => Checked::Passed,
         CipherMode::Cbc => Checked::Passed,
-        CipherMode::Gcm => gcm_label(n),
+        CipherMode::Gcm => {
+            if n > LIMIT {
+                return Checked::Refused(Refusal::TooLong);
+            }
+            Checked::Passed
+        }
     }
 }
 

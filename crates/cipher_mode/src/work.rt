@@ -12,7 +12,7 @@ ghost use Rattle.gcm.specs.Open.{headOf as gcmHead};
 ghost use Rattle.cipher_mode.specs.Tables.{roomOf};
 ghost use Rattle.cipher_mode.specs.Answer.{headOf, outcome};
 ghost use Rattle.cipher_mode.specs.Checks.{labelCheck, dataCheck};
-ghost use Rattle.cipher_mode.specs.Calls.{blockOf, cfbKind, cbcResult, gcmResult, result};
+ghost use Rattle.cipher_mode.specs.Calls.{keysFor, blockOf, cfbKind, cbcResult, gcmResult, result};
 use crate::CipherMode;
 use crate::Direction;
 use crate::answer;
@@ -22,6 +22,16 @@ use crate::checks;
 use crate::checks::Checked;
 use stream::Kind;
 
+// The round keys in the order that a direction takes them.
+fn keys_for(rk: [u32; 32], direction: Direction) -> [u32; 32]
+    ensures { λ r. ⌜ r ≡ keysFor direction rk ⌝ }
+{
+    match direction {
+        Direction::Encrypt => rk,
+        Direction::Decrypt => cipher::reversed(rk),
+    }
+}
+
 // A single block.
 pub(crate) fn block(rk: [u32; 32], direction: Direction, block_in: &[u8], out: &mut [u8])
     requires { ⌜ length (now «block_in») ≡ 16 ⌝ }
@@ -29,11 +39,8 @@ pub(crate) fn block(rk: [u32; 32], direction: Direction, block_in: &[u8], out: &
     ensures { λ _. ⌜ now (out .exit) ≡ blockOf direction rk (now («block_in» .entry)) ++ drop 16 (now (out .entry)) ⌝ }
 {
     let t = cipher::plain();
-    let words = block::split_block(block_in);
-    match direction {
-        Direction::Encrypt => block::put_block(cipher::encrypt(&t, rk, words), out),
-        Direction::Decrypt => block::put_block(cipher::decrypt(&t, rk, words), out),
-    }
+    let keys = keys_for(rk, direction);
+    block::put_block(cipher::encrypt(&t, keys, block::split_block(block_in)), out);
 }
 
 // Cfb has a kind for each direction; Ofb and Ctr are their own opposite.

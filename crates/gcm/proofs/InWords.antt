@@ -3,16 +3,15 @@
 use mathlib.Core.Path.{_≡_, refl, sym, ap, ap₂, _∙_}
 use mathlib.Core.List.{List, [], _∷_, _++_, append-assoc}
 use Prim.Native.Nat.{ℕ, _+_}
-use native.Mathlib.Omega.{arith}
 use lib.Dec.{lit<}
-use lib.ListN.{length, take, drop, replicate, length-append, length-drop}
+use lib.ListN.{length, take, drop, length-append}
 use lib.Seq.{take-at, drop-at, drop-drop}
 use Rattle.block.specs.Below.{AreWords}
 use Rattle.block.specs.BigEndian.{numberOf, bytesOf}
 use Rattle.block.specs.Words.{words, unwords}
 use Rattle.block.specs.Xor.{xors}
 use Rattle.block.proofs.WordsBack.{length-words, unwords-number, unwords-xors}
-use Rattle.cipher.specs.Sm4.{encryptWords, encryptBlock}
+use Rattle.cipher.specs.Sm4.{encryptWords}
 use Rattle.cipher.proofs.Blocks.{encrypt-unwords}
 use Rattle.cipher.proofs.Bounds.{encrypt-four}
 use Rattle.ghash.specs.Ghash.{ghash, authBlocks}

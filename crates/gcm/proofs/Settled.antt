@@ -1,14 +1,13 @@
 -- Both answers of opening, by the test that decides.
 -- Assumes nothing.
-use mathlib.Core.Path.{_≡_, sym, ap, _∙_}
+use mathlib.Core.Path.{_≡_, _∙_}
 use mathlib.Core.Bool.{true, false}
 use mathlib.Core.List.{List}
 use Prim.Native.Nat.{ℕ, _-_, _≤_}
 use lib.ListN.{length, take}
 use lib.Seq.{length-take-le, take-all}
 use native.Mathlib.Omega.{arith}
-use Rattle.walk.specs.Outcome.{Outcome, leaving, refused, done}
-use Rattle.walk.specs.Walk.{over}
+use Rattle.walk.specs.Outcome.{refused, done}
 use Rattle.gcm.specs.Gcm.{textPart, textOf, opensUnder}
 use Rattle.gcm.specs.Open.{settled, gcmOpen}
 use Rattle.gcm.proofs.Parts.{length-text}

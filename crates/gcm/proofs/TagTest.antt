@@ -1,11 +1,10 @@
 -- Two blocks of four words are the same where the `|` of their four xors is 0, and so the code settles a tag.
 -- Assumes nothing.
 use mathlib.Core.Path.{_≡_, refl, sym, ap, ap₂, _∙_}
-use mathlib.Core.Bool.{Bool, true, false}
-use mathlib.Core.List.{List, [], _∷_}
+use mathlib.Core.List.{List, _∷_}
 use Prim.Native.Nat.{ℕ, _-_, _≤_}
 use native.Mathlib.Omega.{arith}
-use lib.Bits.{bitOr, bitAnd, or-add-and, and-le-l, and-le-r, xor-self, or-zero-r}
+use lib.Bits.{bitOr, or-add-and, and-le-l, and-le-r, xor-self}
 use lib.Dec.{eqb}
 use lib.ListN.{length, getD, length-drop}
 use borrow.Author.Tests.{eq-eqb, eqb-true}

@@ -1,7 +1,7 @@
 // GCM: libsm's `gcm_encrypt` and `gcm_decrypt`, over round keys, H and J0. The IV is the caller's: J0 is made of it once.
 ghost use mathlib.Core.Path.{_≡_};
 ghost use Prim.Native.Nat.{_+_, _-_, _≤_};
-ghost use lib.ListN.{length, take, drop};
+ghost use lib.ListN.{length};
 ghost use Rattle.block.specs.Wide.{value};
 ghost use Rattle.block.specs.Words.{unwords};
 ghost use Rattle.cipher.specs.Engine.{Engine};

@@ -1,16 +1,15 @@
 -- `cbc::decrypt` meets its contract. The last block decides (`unpad`), before a byte is written; then the front and what the
 -- padding leaves of the last block are put together (`open-done`). The round keys turned round twice are the round keys.
 -- Assumes nothing.
-use mathlib.Core.Path.{_≡_, sym, ap, _∙_}
-use mathlib.Core.List.{List, reverse, reverse-reverse}
-use Prim.Native.Nat.{ℕ, _-_, _≤_}
+use mathlib.Core.Path.{_≡_, sym, _∙_}
+use mathlib.Core.List.{reverse-reverse}
+use Prim.Native.Nat.{_-_}
 use native.Mathlib.Nat.{sub-zero}
 use native.Mathlib.Omega.{arith}
 use denote.Ref.{now}
-use lib.ListN.{length, take, drop}
+use lib.ListN.{length, drop}
 use Rattle.block.specs.Words.{unwords}
 use Rattle.block.proofs.WordsBack.{length-unwords}
-use Rattle.walk.specs.Walk.{over}
 use Rattle.cbc.specs.Open.{cbcText}
 use Rattle.cbc.proofs.Unpadded.{unpadded-le}
 use Rattle.cbc.proofs.Opens.{open-refused, open-done}

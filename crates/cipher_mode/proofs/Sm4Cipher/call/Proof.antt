@@ -1,27 +1,18 @@
 -- `cipher_mode::Sm4Cipher::call` meets its contract: where the check refused, so does the definition; where it passed, the block was
 -- written and is sixteen bytes.
 -- Assumes nothing.
-use mathlib.Core.Path.{_≡_, sym, ap, _∙_}
-use mathlib.Core.List.{List, _++_}
+use mathlib.Core.Path.{sym, ap, _∙_}
+use mathlib.Core.List.{_++_}
 use Prim.Native.Nat.{ℕ}
 use denote.Ref.{now}
-use lib.ListN.{length, drop}
+use lib.ListN.{drop}
 use Rattle.walk.specs.Outcome.{done}
 use Rattle.cipher_mode.specs.Calls.{blockOf, blockCall}
-use Rattle.cipher_mode.specs.declared.Direction.{Direction}
-use Rattle.cipher_mode.specs.declared.Direction.the-variants.{Encrypt, Decrypt}
-use Rattle.cipher.proofs.Blocks.{length-encryptBlock, length-decryptBlock}
 use Rattle.cipher_mode.proofs.Passed.{block-passed}
-use Rattle.cipher_mode.proofs.Ends.{refused-there, went-on, reached}
+use Rattle.cipher_mode.proofs.Ends.{refused-there, went-on, reached, length-block}
 use borrow.Author.Needs.{needs}
 use Rattle.cipher_mode.proofs.Sm4Cipher.call.Statement.{statement}
 use Rattle.cipher_mode.proofs.Sm4Cipher.call.Tie as tie
-use Rattle.cipher_mode.proofs.checks.block.Reads as checks-block-reads
-use Rattle.cipher_mode.proofs.work.block.Reads as work-block-reads
-
-length-block : (dir : Direction) (rk b : List ℕ) → length (blockOf dir rk b) ≡ 16
-length-block Encrypt rk b = length-encryptBlock rk b
-length-block Decrypt rk b = length-decryptBlock rk b
 
 returns : tie.Need-returns
 unfolding blockCall
@@ -55,12 +46,5 @@ pub call-spec : {M : Type 1} → statement M
 call-spec =
     tie.close
     (tie.spec
-    (λ c κs. search needs)
-    (λ c. search needs)
-    (λ c κs. search needs)
-    returns
-    (λ c. search needs)
-    block-requires-2
-    (λ c κs. search needs)
-    (λ c. search needs)
-    returns-2)
+    (λ c κs. search needs) (λ c. search needs) (λ c κs. search needs) returns (λ c. search needs) block-requires-2
+    (λ c κs. search needs) (λ c. search needs) returns-2)

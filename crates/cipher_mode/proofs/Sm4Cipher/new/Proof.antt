@@ -5,7 +5,6 @@ use Rattle.cipher_mode.specs.Key.{newCipher}
 use borrow.Author.Needs.{needs}
 use Rattle.cipher_mode.proofs.Sm4Cipher.new.Statement.{statement}
 use Rattle.cipher_mode.proofs.Sm4Cipher.new.Tie as tie
-use Rattle.cipher.proofs.key_schedule.Reads as key-schedule-reads
 
 returns : tie.Need-returns
 unfolding newCipher
@@ -17,8 +16,4 @@ returns-2 c = rw (eq-eqb _ _ (c .before .if1 .left), c .key-schedule .ensures)
 
 pub new-spec : {M : Type 1} → statement M
 new-spec =
-    tie.close
-    (tie.spec
-    returns
-    (λ c κs. search needs)
-    returns-2)
+    tie.close (tie.spec returns (λ c κs. search needs) returns-2)

@@ -1,7 +1,7 @@
 -- `cipher_mode::Sm4CipherMode::call` meets its contract: where a check refused, so does the definition; where all passed, the work leaves
 -- what the definition goes on to.
 -- Assumes nothing.
-use mathlib.Core.Path.{_≡_, sym, _∙_}
+use mathlib.Core.Path.{sym, _∙_}
 use denote.Ref.{now}
 use Rattle.cipher_mode.specs.Calls.{result, modeCall}
 use Rattle.cipher_mode.proofs.Passed.{message-passed}
@@ -9,8 +9,6 @@ use Rattle.cipher_mode.proofs.Ends.{refused-there, went-on}
 use borrow.Author.Needs.{needs}
 use Rattle.cipher_mode.proofs.Sm4CipherMode.call.Statement.{statement}
 use Rattle.cipher_mode.proofs.Sm4CipherMode.call.Tie as tie
-use Rattle.cipher_mode.proofs.checks.message.Reads as checks-message-reads
-use Rattle.cipher_mode.proofs.work.message.Reads as work-message-reads
 
 returns : tie.Need-returns
 unfolding modeCall
@@ -43,13 +41,5 @@ pub call-spec : {M : Type 1} → statement M
 call-spec =
     tie.close
     (tie.spec
-    (λ c κs. search needs)
-    (λ c. search needs)
-    (λ c κs. search needs)
-    returns
-    (λ c. search needs)
-    (λ c κs. search needs)
-    (λ c. search needs)
-    message-requires-2
-    (λ c. search needs)
-    returns-2)
+    (λ c κs. search needs) (λ c. search needs) (λ c κs. search needs) returns (λ c. search needs) (λ c κs. search needs)
+    (λ c. search needs) message-requires-2 (λ c. search needs) returns-2)

@@ -24,11 +24,4 @@ returns-4 c = rw (c .before .before .enum-told .given .1, eq-eqb _ _ (c .before 
 
 pub block-spec : {M : Type 1} → statement M
 block-spec =
-    tie.close
-    (tie.spec
-    (λ c. search needs)
-    (λ c. search needs)
-    returns
-    returns-2
-    returns-3
-    returns-4)
+    tie.close (tie.spec (λ c. search needs) (λ c. search needs) returns returns-2 returns-3 returns-4)

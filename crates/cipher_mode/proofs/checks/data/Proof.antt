@@ -1,12 +1,10 @@
 -- `cipher_mode::checks::data` meets its contract: too long, or as its shape is.
 -- Assumes nothing.
-use mathlib.Core.Path.{sym}
 use borrow.Author.Tests.{lt-ltb, le-ltb}
 use Rattle.cipher_mode.specs.Checks.{dataCheck}
 use borrow.Author.Needs.{needs}
 use Rattle.cipher_mode.proofs.checks.data.Statement.{statement}
 use Rattle.cipher_mode.proofs.checks.data.Tie as tie
-use Rattle.cipher_mode.proofs.checks.limit_of.Reads as limit-of-reads
 
 returns : tie.Need-returns
 unfolding dataCheck
@@ -18,9 +16,4 @@ returns-2 c = rw (← (c .before .before .limit-of .ensures), le-ltb _ _ (c .bef
 
 pub data-spec : {M : Type 1} → statement M
 data-spec =
-    tie.close
-    (tie.spec
-    (λ c κs. search needs)
-    returns
-    (λ c κs. search needs)
-    returns-2)
+    tie.close (tie.spec (λ c κs. search needs) returns (λ c κs. search needs) returns-2)

@@ -20,10 +20,4 @@ returns-3 c = rw (c .before .enum-told .given .1, eq-eqb _ _ (c .if1 .left))
 
 pub key-and-iv-spec : {M : Type 1} → statement M
 key-and-iv-spec =
-    tie.close
-    (tie.spec
-    (λ c. search needs)
-    (λ c. search needs)
-    returns
-    returns-2
-    returns-3)
+    tie.close (tie.spec (λ c. search needs) (λ c. search needs) returns returns-2 returns-3)

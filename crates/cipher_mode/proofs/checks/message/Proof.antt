@@ -1,13 +1,12 @@
 -- `cipher_mode::checks::message` meets its contract: a stage that refuses ends the list (`stops`), and after one that passed the next
 -- answers (`goes-on`).
 -- Assumes nothing.
-use mathlib.Core.Path.{_≡_, sym, _∙_}
+use mathlib.Core.Path.{sym, _∙_}
 use Rattle.cipher_mode.specs.Checks.{messageCheck}
 use Rattle.cipher_mode.proofs.Passed.{stops, goes-on}
 use borrow.Author.Needs.{needs}
 use Rattle.cipher_mode.proofs.checks.message.Statement.{statement}
 use Rattle.cipher_mode.proofs.checks.message.Tie as tie
-use Rattle.cipher_mode.proofs.checks.key_and_iv.Reads as key-and-iv-reads
 
 returns : tie.Need-returns
 unfolding messageCheck
@@ -51,17 +50,6 @@ pub message-spec : {M : Type 1} → statement M
 message-spec =
     tie.close
     (tie.spec
-    (λ c κs. search needs)
-    (λ c. search needs)
-    (λ c. search needs)
-    returns
-    (λ c κs. search needs)
-    (λ c. search needs)
-    (λ c. search needs)
-    returns-2
-    (λ c κs. search needs)
-    (λ c. search needs)
-    (λ c. search needs)
-    returns-3
-    room-requires
+    (λ c κs. search needs) (λ c. search needs) (λ c. search needs) returns (λ c κs. search needs) (λ c. search needs)
+    (λ c. search needs) returns-2 (λ c κs. search needs) (λ c. search needs) (λ c. search needs) returns-3 room-requires
     returns-4)

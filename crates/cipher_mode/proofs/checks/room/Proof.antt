@@ -5,7 +5,6 @@ use Rattle.cipher_mode.specs.Checks.{roomCheck}
 use borrow.Author.Needs.{needs}
 use Rattle.cipher_mode.proofs.checks.room.Statement.{statement}
 use Rattle.cipher_mode.proofs.checks.room.Tie as tie
-use Rattle.cipher_mode.proofs.checks.room_of.Reads as room-of-reads
 
 returns : tie.Need-returns
 unfolding roomCheck
@@ -17,8 +16,4 @@ returns-2 c = rw (← (c .before .room-of .ensures), le-ltb _ _ (c .if1 .left))
 
 pub room-spec : {M : Type 1} → statement M
 room-spec =
-    tie.close
-    (tie.spec
-    (λ c κs. search needs)
-    returns
-    returns-2)
+    tie.close (tie.spec (λ c κs. search needs) returns returns-2)

@@ -1,12 +1,9 @@
 -- `cipher_mode::checks::room_of` meets its contract: the direction picks the table.
 -- Assumes nothing.
-use native.Mathlib.Omega.{arith}
 use Rattle.cipher_mode.proofs.Passed.{data-within}
 use borrow.Author.Needs.{needs}
 use Rattle.cipher_mode.proofs.checks.room_of.Statement.{statement}
 use Rattle.cipher_mode.proofs.checks.room_of.Tie as tie
-use Rattle.cipher_mode.proofs.checks.decryption_room.Reads as decryption-room-reads
-use Rattle.cipher_mode.proofs.checks.encrypted_length.Reads as encrypted-length-reads
 
 encrypted-length-requires : tie.Need-encrypted-length-requires
 encrypted-length-requires c κs = rw (c .enum-told .given .1) at (data-within _ _ _ (c .before .before .pre))
@@ -24,9 +21,4 @@ pub room-of-spec : {M : Type 1} → statement M
 room-of-spec =
     tie.close
     (tie.spec
-    (λ c. search needs)
-    encrypted-length-requires
-    (λ c. search needs)
-    decryption-room-requires
-    returns
-    returns-2)
+    (λ c. search needs) encrypted-length-requires (λ c. search needs) decryption-room-requires returns returns-2)

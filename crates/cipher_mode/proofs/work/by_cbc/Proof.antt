@@ -3,10 +3,10 @@
 -- Assumes nothing.
 use mathlib.Core.Path.{_≡_, sym, ap, _∙_}
 use mathlib.Core.List.{List}
-use Prim.Native.Nat.{ℕ, _<_, _≤_}
+use Prim.Native.Nat.{ℕ, _<_}
 use native.Mathlib.Omega.{arith}
 use denote.Ref.{now}
-use lib.ListN.{length, getD}
+use lib.ListN.{getD}
 use Rattle.block.specs.Words.{unwords}
 use Rattle.walk.specs.Outcome.{Head, Outcome, leaving}
 use Rattle.walk.specs.Walk.{over}
@@ -18,9 +18,6 @@ use Rattle.cipher_mode.proofs.Ends.{reached, spelled}
 use borrow.Author.Needs.{needs}
 use Rattle.cipher_mode.proofs.work.by_cbc.Statement.{statement}
 use Rattle.cipher_mode.proofs.work.by_cbc.Tie as tie
-use Rattle.block.proofs.split_block.Reads as split-block-reads
-use Rattle.cipher_mode.proofs.checks.encrypted_length.Reads as encrypted-length-reads
-use Rattle.cipher_mode.proofs.work.cbc_answer.Reads as cbc-answer-reads
 
 is-iv : (x : tie.After-split-block) → unwords (x .split-block .result) ≡ now (x .before .before .before .before .before .args .iv)
 is-iv x =
@@ -83,15 +80,6 @@ pub by-cbc-spec : {M : Type 1} → statement M
 by-cbc-spec =
     tie.close
     (tie.spec
-    (λ c κs. search needs)
-    (λ c. search needs)
-    encrypt-requires
-    encrypted-length-requires
-    (λ c κs. search needs)
-    (λ c. search needs)
-    decrypt-requires
-    (λ c κs. search needs)
-    (λ c. search needs)
-    returns
-    (λ c. search needs)
+    (λ c κs. search needs) (λ c. search needs) encrypt-requires encrypted-length-requires (λ c κs. search needs)
+    (λ c. search needs) decrypt-requires (λ c κs. search needs) (λ c. search needs) returns (λ c. search needs)
     returns-2)

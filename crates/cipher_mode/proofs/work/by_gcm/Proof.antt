@@ -7,7 +7,6 @@ use Prim.Native.Nat.{ℕ, _≤_}
 use native.Mathlib.Omega.{arith}
 use denote.Ref.{now}
 use lib.ListN.{length}
-use Rattle.block.specs.Wide.{value}
 use Rattle.block.specs.Words.{unwords}
 use Rattle.walk.specs.Outcome.{Head, Outcome, leaving}
 use Rattle.walk.specs.Walk.{over}
@@ -20,10 +19,6 @@ use Rattle.cipher_mode.proofs.Ends.{reached}
 use borrow.Author.Needs.{needs}
 use Rattle.cipher_mode.proofs.work.by_gcm.Statement.{statement}
 use Rattle.cipher_mode.proofs.work.by_gcm.Tie as tie
-use Rattle.cipher_mode.proofs.checks.encrypted_length.Reads as encrypted-length-reads
-use Rattle.cipher_mode.proofs.work.gcm_answer.Reads as gcm-answer-reads
-use Rattle.gcm.proofs.first_counter.Reads as first-counter-reads
-use Rattle.gcm.proofs.hash_key.Reads as hash-key-reads
 
 is-j0 : (x : tie.After-first-counter)
     → unwords (x .first-counter .result)
@@ -37,7 +32,7 @@ encrypt-requires c κs =
     let told = c .before in
     let S = told .before .before .before .before .before .before .before .before .before in
     let way = told .enum-told .given .1 in
-    let label = label-passed _ (S .pre .1 .1 .0) in
+    let label = label-passed (length (now (S .args .aad))) (S .pre .1 .1 .0) in
     let within : length (now (S .args .«data»)) ≤ limit = rw way at (data-within _ _ _ (S .pre .1 .1 .1 .0)) in
     (S .pre .0, ((omega (arith, label), omega (arith, within)), rw way at (S .pre .1 .1 .1 .1)))
 
@@ -52,7 +47,7 @@ decrypt-requires c κs =
     let told = c .before in
     let S = told .before .before .before .before .before .before .before .before .before in
     let way = told .enum-told2 .given .1 in
-    let label = label-passed _ (S .pre .1 .1 .0) in
+    let label = label-passed (length (now (S .args .aad))) (S .pre .1 .1 .0) in
     let ordered = rw way at (S .pre .1 .1 .1 .0) in
     let within = data-within _ _ _ ordered in
     (S .pre .0, ((omega (arith, label), omega (arith, within)), (with-tag-passed _ ordered, rw way at (S .pre .1 .1 .1 .1))))
@@ -91,16 +86,6 @@ pub by-gcm-spec : {M : Type 1} → statement M
 by-gcm-spec =
     tie.close
     (tie.spec
-    (λ c κs. search needs)
-    (λ c κs. search needs)
-    (λ c. search needs)
-    encrypt-requires
-    encrypted-length-requires
-    (λ c κs. search needs)
-    (λ c. search needs)
-    decrypt-requires
-    (λ c κs. search needs)
-    (λ c. search needs)
-    returns
-    (λ c. search needs)
-    returns-2)
+    (λ c κs. search needs) (λ c κs. search needs) (λ c. search needs) encrypt-requires encrypted-length-requires
+    (λ c κs. search needs) (λ c. search needs) decrypt-requires (λ c κs. search needs) (λ c. search needs) returns
+    (λ c. search needs) returns-2)

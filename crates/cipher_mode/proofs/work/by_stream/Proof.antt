@@ -1,6 +1,6 @@
 -- `cipher_mode::work::by_stream` meets its contract: the words of the IV spell it, the stream writes the chain, and that is as long as the data.
 -- Assumes nothing.
-use mathlib.Core.Path.{_≡_, ap, _∙_}
+use mathlib.Core.Path.{ap, _∙_}
 use mathlib.Core.List.{List}
 use Prim.Native.Nat.{ℕ, _<_}
 use native.Mathlib.Omega.{arith}
@@ -13,7 +13,6 @@ use Rattle.cipher_mode.proofs.Ends.{reached, spelled}
 use borrow.Author.Needs.{needs}
 use Rattle.cipher_mode.proofs.work.by_stream.Statement.{statement}
 use Rattle.cipher_mode.proofs.work.by_stream.Tie as tie
-use Rattle.block.proofs.split_block.Reads as split-block-reads
 
 returns : tie.Need-returns
 returns c =
@@ -34,8 +33,4 @@ pub by-stream-spec : {M : Type 1} → statement M
 by-stream-spec =
     tie.close
     (tie.spec
-    (λ c κs. search needs)
-    (λ c κs. search needs)
-    (λ c κs. search needs)
-    (λ c. search needs)
-    returns)
+    (λ c κs. search needs) (λ c κs. search needs) (λ c κs. search needs) (λ c. search needs) returns)

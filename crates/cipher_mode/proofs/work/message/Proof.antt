@@ -6,14 +6,9 @@ use Rattle.walk.specs.Outcome.{Outcome, done}
 use Rattle.walk.specs.Walk.{chain}
 use Rattle.stream.specs.Stream.{streamMode}
 use Rattle.stream.specs.declared.Kind.{Kind}
-use Rattle.cipher_mode.specs.Calls.{result}
 use borrow.Author.Needs.{needs}
 use Rattle.cipher_mode.proofs.work.message.Statement.{statement}
 use Rattle.cipher_mode.proofs.work.message.Tie as tie
-use Rattle.cipher_mode.proofs.work.by_cbc.Reads as by-cbc-reads
-use Rattle.cipher_mode.proofs.work.by_gcm.Reads as by-gcm-reads
-use Rattle.cipher_mode.proofs.work.by_stream.Reads as by-stream-reads
-use Rattle.cipher_mode.proofs.work.cfb_kind.Reads as cfb-kind-reads
 
 by-stream-requires : tie.Need-by-stream-requires
 by-stream-requires c κs =
@@ -48,7 +43,6 @@ by-gcm-requires c κs =
     (S .pre .0, (S .pre .1 .0, (rw mode at (S .pre .1 .1 .0), (rw mode at (S .pre .1 .1 .1 .0), rw mode at (S .pre .1 .1 .1 .1)))))
 
 returns : tie.Need-returns
-unfolding result
 returns c =
     let at-stream = c .before .before in
     let at-kind = at-stream .before .before in
@@ -59,27 +53,21 @@ returns c =
     ∙ ap {B = Outcome} (λ (k : Kind). done (chain (streamMode k (a .rk)) (now (a .iv)) (now (a .«data»))) (now (a .out))) (at-kind .cfb-kind .ensures))
 
 returns-2 : tie.Need-returns-2
-unfolding result
 returns-2 c =
     let at-stream = c .before .before in
-    let told = at-stream .before .before in
-    rw (told .enum-told2 .given .1) (at-stream .by-stream2 .ensures)
+    rw (at-stream .before .before .enum-told2 .given .1) (at-stream .by-stream2 .ensures)
 
 returns-3 : tie.Need-returns-3
-unfolding result
 returns-3 c =
     let at-stream = c .before .before in
-    let told = at-stream .before .before in
-    rw (told .enum-told3 .given .1) (at-stream .by-stream3 .ensures)
+    rw (at-stream .before .before .enum-told3 .given .1) (at-stream .by-stream3 .ensures)
 
 returns-4 : tie.Need-returns-4
-unfolding result
 returns-4 c =
     let at-cbc = c .before .before in
     rw (at-cbc .before .before .enum-told4 .given .1) (at-cbc .by-cbc .ensures)
 
 returns-5 : tie.Need-returns-5
-unfolding result
 returns-5 c =
     let at-gcm = c .before .before in
     rw (at-gcm .before .before .enum-told5 .given .1) (at-gcm .by-gcm .ensures)
@@ -88,24 +76,7 @@ pub message-spec : {M : Type 1} → statement M
 message-spec =
     tie.close
     (tie.spec
-    (λ c. search needs)
-    (λ c κs. search needs)
-    by-stream-requires
-    (λ c. search needs)
-    by-stream-requires-2
-    (λ c. search needs)
-    by-stream-requires-3
-    (λ c. search needs)
-    by-cbc-requires
-    (λ c. search needs)
-    by-gcm-requires
-    (λ c. search needs)
-    returns
-    (λ c. search needs)
-    returns-2
-    (λ c. search needs)
-    returns-3
-    (λ c. search needs)
-    returns-4
-    (λ c. search needs)
-    returns-5)
+    (λ c. search needs) (λ c κs. search needs) by-stream-requires (λ c. search needs) by-stream-requires-2
+    (λ c. search needs) by-stream-requires-3 (λ c. search needs) by-cbc-requires (λ c. search needs) by-gcm-requires
+    (λ c. search needs) returns (λ c. search needs) returns-2 (λ c. search needs) returns-3 (λ c. search needs)
+    returns-4 (λ c. search needs) returns-5)
