@@ -23,6 +23,20 @@ pub struct Answer {
     pub ending: Ending,
 }
 
+// Document 01's number of a refusal.
+pub fn number(refusal: Refusal) -> u32
+    ensures { λ r. ⌜ r ≡ refusalNumber refusal ⌝ }
+{
+    match refusal {
+        Refusal::ErrorBlockSize => 1,
+        Refusal::ErrorDataLen => 2,
+        Refusal::InvalidLastU8 => 3,
+        Refusal::InvalidTag => 4,
+        Refusal::TooLong => 5,
+        Refusal::NoRoom => 6,
+    }
+}
+
 pub fn done(length: usize) -> Answer
     ensures { λ r. ⌜ headOf r ≡ finished «length» ⌝ }
 {

@@ -62,7 +62,7 @@ impl Sm4Cipher {
     }
 
     // One block, either way, to the front of `out`.
-    fn call(self, direction: Direction, block_in: &[u8], out: &mut [u8]) -> Answer
+    pub fn call(self, direction: Direction, block_in: &[u8], out: &mut [u8]) -> Answer
         ensures { λ r. ⌜ outcome r (now (out .exit)) ≡ blockCall direction self (now («block_in» .entry)) (now (out .entry)) ⌝ }
     {
         let key = self.answer;

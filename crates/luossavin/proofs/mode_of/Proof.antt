@@ -1,5 +1,7 @@
+-- `luossavin::mode_of` meets its contract: each number up to 3 by its arm, and the others by `gcm-above`.
+-- Assumes nothing.
 use Rattle.luossavin.specs.Host.{modeOf}
-use Rattle.luossavin.proofs.Reports.{gcm-above}
+use Rattle.luossavin.proofs.Modes.{gcm-above}
 use Rattle.luossavin.proofs.mode_of.Statement.{statement}
 use Rattle.luossavin.proofs.mode_of.Tie as tie
 
