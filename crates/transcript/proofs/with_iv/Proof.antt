@@ -1,7 +1,7 @@
 -- `with_iv` is safe: the bytes of the IV lie in their buffer. Assumes nothing.
 use mathlib.Core.Path.{sym, _∙_}
 use native.Mathlib.Omega.{arith}
-use Rattle.label.proofs.Bounds.{hex-le}
+use Rattle.typed.proofs.Bounds.{hex-le}
 use borrow.Author.Needs.{needs}
 use Rattle.transcript.proofs.with_iv.Statement.{statement}
 use Rattle.transcript.proofs.with_iv.Tie as tie
