@@ -12,18 +12,19 @@ use cipher_mode::CipherMode;
 use cipher_mode::Sm4CipherMode;
 use typed::decimal::Number;
 use typed::hex::Hex;
+use typed::limits::LONGEST_SEALED;
 use typed::line::Fault;
 use typed::line::Line;
+use typed::things::EDITION;
+use typed::things::IN;
+use typed::things::IV;
+use typed::things::JOB;
+use typed::things::KEY;
+use typed::things::MODE;
+use typed::things::NOTHING;
+use typed::things::OUT;
 use typed::words::Command;
-use typed::words::EDITION;
-use typed::words::IN;
-use typed::words::IV;
-use typed::words::JOB;
-use typed::words::KEY;
-use typed::words::MODE;
 use typed::words::ModeName;
-use typed::words::NOTHING;
-use typed::words::OUT;
 
 // How a run ends, besides the cipher's refusals.
 const DONE: u8 = 0;
@@ -47,7 +48,7 @@ const COMMAND: usize = 2;
 // `places` has the places of the words. `launcher` is the process that waits for the status line.
 pub struct Asked {
     pub command: Command,
-    pub places: [usize; 7],
+    pub places: [usize; NOTHING],
     pub mode: CipherMode,
     pub job: u32,
     pub edition: u16,
@@ -64,9 +65,11 @@ fn word_room() -> [u8; 131072] {
     [0u8; 131072]
 }
 
-// One byte more than the longest file that a command reads.
-fn file_room() -> [u8; 2097169] {
-    [0u8; 2097169]
+// One byte more than the longest file that a command reads, so that a longer one shows.
+const FILE_ROOM: usize = LONGEST_SEALED + 1;
+
+fn file_room() -> [u8; FILE_ROOM] {
+    [0u8; FILE_ROOM]
 }
 
 fn run() -> u8 {
@@ -199,7 +202,7 @@ fn with_input(asked: Asked, key: &[u8], iv: &[u8]) -> u8 {
     let command = asked.command;
     let places = asked.places;
     let mut data = file_room();
-    let read = files::read_input(places[IN], typed::status::most(command), &mut data);
+    let read = files::read_input(places[IN], typed::limits::most(command), &mut data);
     if read.status != DONE {
         return read.status;
     }

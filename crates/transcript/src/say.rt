@@ -11,13 +11,13 @@ use libc::STDERR_FILENO;
 use libc::STDOUT_FILENO;
 use typed::line::Fault;
 use typed::line::Line;
+use typed::things::EDITION;
+use typed::things::IN;
+use typed::things::IV;
+use typed::things::JOB;
+use typed::things::KEY;
+use typed::things::MODE;
 use typed::words::Command;
-use typed::words::EDITION;
-use typed::words::IN;
-use typed::words::IV;
-use typed::words::JOB;
-use typed::words::KEY;
-use typed::words::MODE;
 
 fn text(s: &[u8]) {
     io::write_all(STDERR_FILENO, s);

@@ -2,7 +2,8 @@ pub mod Bounds
 mod StatusTells
 mod Verdicts
 mod Walks
+mod Listed
 mod Reckoning
 mod HexPairs
 mod HexKey
-mod Things
+mod Lacking

@@ -3,6 +3,9 @@ pub mod Every
 pub mod Decimal
 pub mod Hex
 pub mod Key
+pub mod Names
+pub mod Things
 pub mod Words
 pub mod Line
+pub mod Limits
 pub mod Status

@@ -1,12 +1,13 @@
 // What a line of words says.
 ghost use mathlib.Core.Path.{_≡_};
-ghost use Prim.Native.Nat.{_<_, _≤_};
+ghost use Prim.Native.Nat.{_<_};
 ghost use Rattle.typed.specs.Line.{lineOf, sound, unsaid, said, await, faulty, afterOption, afterFile, afterWord, lacks, lackingIn};
+ghost use Rattle.typed.specs.Things.{NOTHING};
+use crate::things::IN;
+use crate::things::NOTHING;
+use crate::things::OUT;
 use crate::words;
 use crate::words::Command;
-use crate::words::IN;
-use crate::words::NOTHING;
-use crate::words::OUT;
 
 pub enum Fault {
     NoFault,
@@ -21,7 +22,7 @@ pub enum Fault {
 // next word says, if it is the value of an option; and the first fault, with the place of its word.
 pub struct Line {
     pub command: Command,
-    pub places: [usize; 7],
+    pub places: [usize; NOTHING],
     pub next: usize,
     pub fault: Fault,
     pub at: usize,
@@ -33,7 +34,7 @@ pub fn start(command: Command) -> Line
 {
     Line {
         command,
-        places: [0usize; 7],
+        places: [0usize; NOTHING],
         next: NOTHING,
         fault: Fault::NoFault,
         at: 0,
@@ -55,7 +56,7 @@ fn is_sound(fault: Fault) -> bool
 
 // Whether a thing has not been said yet.
 fn is_unsaid(line: Line, thing: usize) -> bool
-    requires { ⌜ thing < 7 ⌝ }
+    requires { ⌜ thing < NOTHING ⌝ }
     ensures { λ r. ⌜ r ≡ unsaid line thing ⌝ }
 {
     let places = line.places;
@@ -64,7 +65,7 @@ fn is_unsaid(line: Line, thing: usize) -> bool
 
 // The word at a place says a thing.
 fn say(mut line: Line, thing: usize, at: usize) -> Line
-    requires { ⌜ thing < 7 ⌝ }
+    requires { ⌜ thing < NOTHING ⌝ }
     ensures { λ r. ⌜ r ≡ said line thing at ⌝ }
 {
     line.places[thing] = at;
@@ -97,10 +98,9 @@ fn blame(line: Line, fault: Fault, at: usize) -> Line
 
 // An option is one that there is, that the command wants, and that has not been said.
 fn read_option(line: Line, thing: usize, at: usize) -> Line
-    requires { ⌜ thing ≤ 7 ⌝ }
     ensures { λ r. ⌜ r ≡ afterOption line thing at ⌝ }
 {
-    if thing == NOTHING {
+    if thing >= NOTHING {
         return blame(line, Fault::NoSuchOption, at);
     }
     let command = line.command;
@@ -154,7 +154,7 @@ pub fn read_word(line: Line, word: &[u8], at: usize) -> Line
 
 // Whether the command wants a thing that no word has said.
 fn is_lacking(line: Line, thing: usize) -> bool
-    requires { ⌜ thing < 7 ⌝ }
+    requires { ⌜ thing < NOTHING ⌝ }
     ensures { λ r. ⌜ r ≡ lacks line thing ⌝ }
 {
     let command = line.command;

@@ -1,7 +1,6 @@
-// How a run ended, and how long a file may be.
+// How a run ended.
 ghost use mathlib.Core.Path.{_≡_};
-ghost use Rattle.typed.specs.Status.{statusLine, mostOf};
-use crate::words::Command;
+ghost use Rattle.typed.specs.Status.{statusLine};
 
 // The line that tells the launcher the number that a run ended with.
 pub fn line(number: u8) -> [u8; 11]
@@ -20,18 +19,4 @@ pub fn line(number: u8) -> [u8; 11]
         48 + number % 10,
         b'\n',
     ]
-}
-
-// The longest file that a command reads.
-pub fn most(command: Command) -> usize
-    ensures { λ r. ⌜ r ≡ mostOf command ⌝ }
-{
-    match command {
-        Command::Seal => 2_097_152,
-        Command::Open => 2_097_168,
-        Command::Opens => 2_097_168,
-        Command::Encrypt => 2_097_152,
-        Command::Decrypt => 2_097_168,
-        Command::Unknown => 0,
-    }
 }

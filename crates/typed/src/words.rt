@@ -1,7 +1,14 @@
 // The words that a person can type.
 ghost use mathlib.Core.Path.{_≡_};
 ghost use Rattle.typed.specs.Words.{commandOf, modeOf, optionOf, isOption, wantsOf};
-use crate::text::alike;
+use crate::names::find;
+use crate::things::EDITION;
+use crate::things::IV;
+use crate::things::JOB;
+use crate::things::KEY;
+use crate::things::MODE;
+use crate::things::NOTHING;
+use crate::things::OUT;
 
 pub enum Command {
     Seal,
@@ -20,82 +27,43 @@ pub enum ModeName {
     Unknown,
 }
 
-// What a line says, by number.
-pub const MODE: usize = 0;
-
-pub const KEY: usize = 1;
-
-pub const IV: usize = 2;
-
-pub const JOB: usize = 3;
-
-pub const EDITION: usize = 4;
-
-pub const IN: usize = 5;
-
-pub const OUT: usize = 6;
-
-pub const NOTHING: usize = 7;
-
 pub fn read_command(word: &[u8]) -> Command
     ensures { λ r. ⌜ r ≡ commandOf (now (word .entry)) ⌝ }
 {
-    if alike(word, b"seal") {
-        return Command::Seal;
+    match find(b"seal open opens encrypt decrypt", word) {
+        0 => Command::Seal,
+        1 => Command::Open,
+        2 => Command::Opens,
+        3 => Command::Encrypt,
+        4 => Command::Decrypt,
+        _ => Command::Unknown,
     }
-    if alike(word, b"open") {
-        return Command::Open;
-    }
-    if alike(word, b"opens") {
-        return Command::Opens;
-    }
-    if alike(word, b"encrypt") {
-        return Command::Encrypt;
-    }
-    if alike(word, b"decrypt") {
-        return Command::Decrypt;
-    }
-    Command::Unknown
 }
 
 pub fn read_mode(word: &[u8]) -> ModeName
     ensures { λ r. ⌜ r ≡ modeOf (now (word .entry)) ⌝ }
 {
-    if alike(word, b"cfb") {
-        return ModeName::Cfb;
+    match find(b"cfb ofb ctr cbc", word) {
+        0 => ModeName::Cfb,
+        1 => ModeName::Ofb,
+        2 => ModeName::Ctr,
+        3 => ModeName::Cbc,
+        _ => ModeName::Unknown,
     }
-    if alike(word, b"ofb") {
-        return ModeName::Ofb;
-    }
-    if alike(word, b"ctr") {
-        return ModeName::Ctr;
-    }
-    if alike(word, b"cbc") {
-        return ModeName::Cbc;
-    }
-    ModeName::Unknown
 }
 
 // The thing whose value follows an option, or `NOTHING` for an option that there is not.
 pub fn read_option(word: &[u8]) -> usize
     ensures { λ r. ⌜ r ≡ optionOf (now (word .entry)) ⌝ }
 {
-    if alike(word, b"--mode") {
-        return MODE;
+    match find(b"--mode --key --iv --job --edition", word) {
+        0 => MODE,
+        1 => KEY,
+        2 => IV,
+        3 => JOB,
+        4 => EDITION,
+        _ => NOTHING,
     }
-    if alike(word, b"--key") {
-        return KEY;
-    }
-    if alike(word, b"--iv") {
-        return IV;
-    }
-    if alike(word, b"--job") {
-        return JOB;
-    }
-    if alike(word, b"--edition") {
-        return EDITION;
-    }
-    NOTHING
 }
 
 // Whether a word is an option: it begins with a dash, and is no dash alone.

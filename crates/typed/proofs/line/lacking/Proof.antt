@@ -4,7 +4,7 @@ use Prim.Native.Nat.{_≤_, _-_}
 use native.Mathlib.Omega.{arith}
 use Rattle.typed.specs.Line.{lackingFrom, lackingIn}
 use Rattle.typed.proofs.Verdicts.{told}
-use Rattle.typed.proofs.Things.{lacking-here, lacking-on, lacking-none, lacking-first}
+use Rattle.typed.proofs.Lacking.{lacking-here, lacking-on, lacking-none, lacking-first}
 use Rattle.typed.proofs.line.lacking.Statement.{statement}
 use Rattle.typed.proofs.line.lacking.Tie as tie
 

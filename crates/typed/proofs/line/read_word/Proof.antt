@@ -3,7 +3,6 @@ use mathlib.Core.Path.{_∙_}
 use borrow.Author.Tests.{lt-ltb, le-ltb, not-true, not-false}
 use Rattle.typed.specs.Line.{afterWord}
 use Rattle.typed.proofs.Verdicts.{told}
-use Rattle.typed.proofs.Things.{option-le}
 use borrow.Author.Needs.{needs}
 use Rattle.typed.proofs.line.read_word.Statement.{statement}
 use Rattle.typed.proofs.line.read_word.Tie as tie
@@ -25,9 +24,6 @@ returns-3 c =
     let n = c .before .before in
     let s = n .before .before in
     c .say .ensures ∙ rw (told (s .before .is-sound .ensures) (not-false _ (s .if1 .left)), lt-ltb _ 7 (n .if2 .taken), told (n .before .is-option .ensures) (c .before .if3 .left))
-
-read-option-requires-2 : tie.Need-read-option-requires-2
-read-option-requires-2 c κs = rw (c .read-option .ensures) (option-le _)
 
 returns-4 : tie.Need-returns-4
 unfolding afterWord
@@ -56,7 +52,7 @@ read-word-spec =
     (λ c κs. search needs)
     returns-3
     (λ c κs. search needs)
-    read-option-requires-2
+    (λ c κs. search needs)
     returns-4
     (λ c κs. search needs)
     returns-5)

@@ -1,52 +1,11 @@
--- `words::read_command` meets its contract, word by word. Assumes nothing.
-use Rattle.typed.specs.Words.{commandOf}
-use Rattle.typed.proofs.Verdicts.{told}
+-- `words::read_command` meets its contract. Each arm is the command at the place that `find` answers; the last stands for every place past them.
+-- Assumes nothing.
 use borrow.Author.Needs.{needs}
+use Rattle.typed.specs.Words.{commands}
+use Rattle.typed.specs.declared.words.Command.the-variants.{Unknown}
+use Rattle.typed.proofs.Verdicts.{told, told-none}
 use Rattle.typed.proofs.words.read_command.Statement.{statement}
 use Rattle.typed.proofs.words.read_command.Tie as tie
-
-returns : tie.Need-returns
-unfolding commandOf
-returns c = rw (told (c .before .alike .ensures) (c .if1 .taken))
-
-returns-2 : tie.Need-returns-2
-unfolding commandOf
-returns-2 c =
-    let w1 = c .before .before .before in
-    rw (told (w1 .before .alike .ensures) (w1 .if1 .left), told (c .before .alike2 .ensures) (c .if2 .taken))
-
-returns-3 : tie.Need-returns-3
-unfolding commandOf
-returns-3 c =
-    let w2 = c .before .before .before in
-    let w1 = w2 .before .before .before in
-    rw (told (w1 .before .alike .ensures) (w1 .if1 .left), told (w2 .before .alike2 .ensures) (w2 .if2 .left), told (c .before .alike3 .ensures) (c .if3 .taken))
-
-returns-4 : tie.Need-returns-4
-unfolding commandOf
-returns-4 c =
-    let w3 = c .before .before .before in
-    let w2 = w3 .before .before .before in
-    let w1 = w2 .before .before .before in
-    rw (told (w1 .before .alike .ensures) (w1 .if1 .left), told (w2 .before .alike2 .ensures) (w2 .if2 .left), told (w3 .before .alike3 .ensures) (w3 .if3 .left), told (c .before .alike4 .ensures) (c .if4 .taken))
-
-returns-5 : tie.Need-returns-5
-unfolding commandOf
-returns-5 c =
-    let w4 = c .before .before .before in
-    let w3 = w4 .before .before .before in
-    let w2 = w3 .before .before .before in
-    let w1 = w2 .before .before .before in
-    rw (told (w1 .before .alike .ensures) (w1 .if1 .left), told (w2 .before .alike2 .ensures) (w2 .if2 .left), told (w3 .before .alike3 .ensures) (w3 .if3 .left), told (w4 .before .alike4 .ensures) (w4 .if4 .left), told (c .before .alike5 .ensures) (c .if5 .taken))
-
-returns-6 : tie.Need-returns-6
-unfolding commandOf
-returns-6 c =
-    let w4 = c .before .before .before in
-    let w3 = w4 .before .before .before in
-    let w2 = w3 .before .before .before in
-    let w1 = w2 .before .before .before in
-    rw (told (w1 .before .alike .ensures) (w1 .if1 .left), told (w2 .before .alike2 .ensures) (w2 .if2 .left), told (w3 .before .alike3 .ensures) (w3 .if3 .left), told (w4 .before .alike4 .ensures) (w4 .if4 .left), told (c .before .alike5 .ensures) (c .if5 .left))
 
 pub read-command-spec : {M : Type 1} → statement M
 read-command-spec =
@@ -54,17 +13,9 @@ read-command-spec =
     (tie.spec
     (λ c. search needs)
     (λ c κs. search needs)
-    returns
-    (λ c. search needs)
-    (λ c κs. search needs)
-    returns-2
-    (λ c. search needs)
-    (λ c κs. search needs)
-    returns-3
-    (λ c. search needs)
-    (λ c κs. search needs)
-    returns-4
-    (λ c. search needs)
-    (λ c κs. search needs)
-    returns-5
-    returns-6)
+    (λ c. rw (told (c .before .find .ensures) (c .match .keys1)))
+    (λ c. rw (told (c .before .find .ensures) (c .match .keys2)))
+    (λ c. rw (told (c .before .find .ensures) (c .match .keys3)))
+    (λ c. rw (told (c .before .find .ensures) (c .match .keys4)))
+    (λ c. rw (told (c .before .find .ensures) (c .match .keys5)))
+    (λ c. told-none commands Unknown (c .before .find .ensures) (c .match .rest)))

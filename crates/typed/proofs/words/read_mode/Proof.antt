@@ -1,42 +1,11 @@
--- `words::read_mode` meets its contract, word by word. Assumes nothing.
-use Rattle.typed.specs.Words.{modeOf}
-use Rattle.typed.proofs.Verdicts.{told}
+-- `words::read_mode` meets its contract. Each arm is the mode at the place that `find` answers; the last stands for every place past them.
+-- Assumes nothing.
 use borrow.Author.Needs.{needs}
+use Rattle.typed.specs.Words.{modes}
+use Rattle.typed.specs.declared.words.ModeName.the-variants.{Unknown}
+use Rattle.typed.proofs.Verdicts.{told, told-none}
 use Rattle.typed.proofs.words.read_mode.Statement.{statement}
 use Rattle.typed.proofs.words.read_mode.Tie as tie
-
-returns : tie.Need-returns
-unfolding modeOf
-returns c = rw (told (c .before .alike .ensures) (c .if1 .taken))
-
-returns-2 : tie.Need-returns-2
-unfolding modeOf
-returns-2 c =
-    let w1 = c .before .before .before in
-    rw (told (w1 .before .alike .ensures) (w1 .if1 .left), told (c .before .alike2 .ensures) (c .if2 .taken))
-
-returns-3 : tie.Need-returns-3
-unfolding modeOf
-returns-3 c =
-    let w2 = c .before .before .before in
-    let w1 = w2 .before .before .before in
-    rw (told (w1 .before .alike .ensures) (w1 .if1 .left), told (w2 .before .alike2 .ensures) (w2 .if2 .left), told (c .before .alike3 .ensures) (c .if3 .taken))
-
-returns-4 : tie.Need-returns-4
-unfolding modeOf
-returns-4 c =
-    let w3 = c .before .before .before in
-    let w2 = w3 .before .before .before in
-    let w1 = w2 .before .before .before in
-    rw (told (w1 .before .alike .ensures) (w1 .if1 .left), told (w2 .before .alike2 .ensures) (w2 .if2 .left), told (w3 .before .alike3 .ensures) (w3 .if3 .left), told (c .before .alike4 .ensures) (c .if4 .taken))
-
-returns-5 : tie.Need-returns-5
-unfolding modeOf
-returns-5 c =
-    let w3 = c .before .before .before in
-    let w2 = w3 .before .before .before in
-    let w1 = w2 .before .before .before in
-    rw (told (w1 .before .alike .ensures) (w1 .if1 .left), told (w2 .before .alike2 .ensures) (w2 .if2 .left), told (w3 .before .alike3 .ensures) (w3 .if3 .left), told (c .before .alike4 .ensures) (c .if4 .left))
 
 pub read-mode-spec : {M : Type 1} → statement M
 read-mode-spec =
@@ -44,14 +13,8 @@ read-mode-spec =
     (tie.spec
     (λ c. search needs)
     (λ c κs. search needs)
-    returns
-    (λ c. search needs)
-    (λ c κs. search needs)
-    returns-2
-    (λ c. search needs)
-    (λ c κs. search needs)
-    returns-3
-    (λ c. search needs)
-    (λ c κs. search needs)
-    returns-4
-    returns-5)
+    (λ c. rw (told (c .before .find .ensures) (c .match .keys1)))
+    (λ c. rw (told (c .before .find .ensures) (c .match .keys2)))
+    (λ c. rw (told (c .before .find .ensures) (c .match .keys3)))
+    (λ c. rw (told (c .before .find .ensures) (c .match .keys4)))
+    (λ c. told-none modes Unknown (c .before .find .ensures) (c .match .rest)))

@@ -1,4 +1,4 @@
--- `text::alike` meets its contract: what is left to compare answers for the whole. Assumes nothing.
+-- `names::alike` meets its contract: what is left to compare answers for the whole. Assumes nothing.
 use mathlib.Core.Path.{_≡_, refl}
 use Prim.Native.Nat.{_≤_, _-_}
 use native.Mathlib.Omega.{arith}
@@ -7,8 +7,8 @@ use denote.Ref.{now}
 use lib.ListN.{length, drop}
 use Rattle.block.specs.Same.{same}
 use Rattle.typed.proofs.Walks.{same-stop, same-go, same-end, same-length}
-use Rattle.typed.proofs.text.alike.Statement.{statement}
-use Rattle.typed.proofs.text.alike.Tie as tie
+use Rattle.typed.proofs.names.alike.Statement.{statement}
+use Rattle.typed.proofs.names.alike.Tie as tie
 
 abbrev Inv-loop : tie.InvT-loop
 Inv-loop a b i₀ i = (i ≤ length a) × (same (drop i a) (drop i b) ≡ same a b)
