@@ -3,10 +3,10 @@
 mod files;
 mod say;
 
-ghost use Prim.Native.Nat.{_≤_};
-ghost use lib.ListN.{length};
-ghost use Rattle.cipher_mode.specs.Outcome.{headOf};
+ghost use mathlib.Core.Path.{_≡_};
+ghost use Rattle.cipher_mode.specs.Outcome.{outcome};
 ghost use Rattle.transcript.specs.AtMost.{AtMost};
+ghost use Rattle.transcript.specs.Called.{isSealing, called};
 use cipher_mode::Answer;
 use cipher_mode::CipherMode;
 use cipher_mode::Sm4CipherMode;
@@ -221,17 +221,22 @@ fn with_input(asked: Asked, key: &[u8], iv: &[u8]) -> u8 {
     }
 }
 
-fn is_sealing(command: Command) -> bool {
+fn is_sealing(command: Command) -> bool
+    ensures { λ r. ⌜ r ≡ isSealing command ⌝ }
+{
     match command {
         Command::Seal => true,
+        Command::Open => false,
+        Command::Opens => false,
         Command::Encrypt => true,
-        _ => false,
+        Command::Decrypt => false,
+        Command::Unknown => false,
     }
 }
 
 // The call that was asked for. A mode without a label passes over it.
 fn call(asked: Asked, key: &[u8], iv: &[u8], data: &[u8], out: &mut [u8]) -> Answer
-    ensures { λ r. ⌜ headOf r .size ≤ length (now (out .exit)) ⌝ }
+    ensures { λ r. ⌜ outcome r (now (out .exit)) ≡ called asked (now (key .entry)) (now (iv .entry)) (now («data» .entry)) (now (out .entry)) ⌝ }
 {
     let command = asked.command;
     let mode = asked.mode;

@@ -1,6 +1,6 @@
 pub mod Bounds
 mod StatusTells
-mod Verdicts
+pub mod Verdicts
 mod Walks
 mod Listed
 mod Reckoning
