@@ -1,4 +1,5 @@
--- What a caller can count on: a number that was read is within its bound, and the bytes of hex digits are within the room that was lent.
+-- What a caller can count on: a number that was read is within its bound, and the bytes of hex digits are within the
+-- room that was lent.
 -- Assumes nothing.
 use mathlib.Core.Path.{_≡_, refl}
 use mathlib.Core.Bool.{Bool, true, false, cond}
@@ -8,7 +9,7 @@ use native.Mathlib.Omega.{arith}
 use borrow.Author.Tests.{leb-true}
 use lib.Dec.{leb}
 use lib.ListN.{length}
-use Rattle.typed.specs.Every.{every}
+use Rattle.typed.specs.Tests.{every}
 use Rattle.typed.specs.Decimal.{isDigit, spelled, numberIn}
 use Rattle.typed.specs.Hex.{isHex, hexAnswer}
 use Rattle.typed.specs.declared.decimal.Number.the-variants.{Is, Not}

@@ -10,7 +10,7 @@ use native.Mathlib.Omega.{arith}
 use lib.ListN.{length, take, drop, length-drop}
 use lib.Seq.{length-take-le, take-all}
 use Rattle.typed.specs.Hex.{isHex, hexBytes}
-use Rattle.typed.specs.Every.{every}
+use Rattle.typed.specs.Tests.{every}
 use Rattle.typed.specs.Key.{isBlank, isHexKey, keyOf}
 use Rattle.block.proofs.Same.{and-left, and-right}
 use Rattle.typed.proofs.HexPairs.{length-hexBytes}

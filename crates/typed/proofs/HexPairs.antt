@@ -9,7 +9,7 @@ use native.Mathlib.Omega.{arith}
 use borrow.Author.Tests.{ltb-true}
 use lib.ListN.{length, take, drop, getD, set, length-drop, take-append-drop}
 use lib.Seq.{drop-cons, take-suc-set, drop-set-lt}
-use Rattle.typed.specs.Every.{every}
+use Rattle.typed.specs.Tests.{every}
 use Rattle.block.proofs.Same.{and-left, and-right}
 use Rattle.typed.specs.Hex.{digitOf, isHexDigit, isHex, hexBytes}
 
@@ -26,7 +26,8 @@ hex-digit s i h e = ltb-true _ 16 (every-at isHexDigit s i h (and-left _ _ e))
 abbrev pub pairAt : List ℕ → ℕ → ℕ
 pairAt s i = digitOf (getD s (2 * i) 0) * 16 + digitOf (getD s (2 * i + 1) 0)
 
-pair-turn : (s : List ℕ) (i : ℕ) → 2 * i + 1 < length s → hexBytes (drop (2 * i) s) ≡ pairAt s i ∷ hexBytes (drop (2 * (i + 1)) s)
+pair-turn : (s : List ℕ) (i : ℕ) → 2 * i + 1 < length s
+    → hexBytes (drop (2 * i) s) ≡ pairAt s i ∷ hexBytes (drop (2 * (i + 1)) s)
 unfolding hexBytes
 pair-turn s i h =
     let a : 2 * i < length s = omega arith in
@@ -47,7 +48,10 @@ short-none [] h = refl
 short-none (a ∷ []) h = refl
 short-none (a ∷ (b ∷ l)) h = absurd (omega arith)
 
-pub put-end : (s o : List ℕ) (i : ℕ) {v : List ℕ} → i ≡ length s / 2 → take i o ++ (hexBytes (drop (2 * i) s) ++ drop (length s / 2) o) ≡ v → o ≡ v
+pub put-end : (s o : List ℕ) (i : ℕ) {v : List ℕ}
+    → i ≡ length s / 2
+    → take i o ++ (hexBytes (drop (2 * i) s) ++ drop (length s / 2) o) ≡ v
+    → o ≡ v
 put-end s o i e f =
     let z : hexBytes (drop (2 * i) s) ≡ [] = short-none (drop (2 * i) s) (simp length-drop (omega arith)) in
     sym (rw (z, ← e) (take-append-drop i o)) ∙ f

@@ -9,7 +9,8 @@ use Rattle.typed.specs.Things.{NOTHING}
 use Rattle.typed.specs.Line.{lacks, lackingFrom, lackingIn}
 use Rattle.typed.specs.declared.line.Line.{Line}
 
-module _ (l : Line) (k r : ℕ) (e : lackingFrom l (NOTHING - k) k ≡ r) where
+-- the search stands at thing k, and those from there on decide
+module _ (l : Line) (k : ℕ) {r : ℕ} (e : lackingFrom l (NOTHING - k) k ≡ r) where
   turn : k < NOTHING → lackingFrom l (NOTHING - k) k ≡ cond (lacks l k) k (lackingFrom l (NOTHING - (k + 1)) (k + 1))
   unfolding lackingFrom
   turn h =

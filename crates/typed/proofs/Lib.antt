@@ -1,6 +1,7 @@
 pub mod Bounds
-mod StatusTells
 pub mod Verdicts
+mod StatusTells
+mod Ranges
 mod Walks
 mod Listed
 mod Reckoning

@@ -10,7 +10,7 @@ use borrow.Author.Tests.{le-leb, lt-leb}
 use lib.Dec.{leb}
 use lib.ListN.{length, drop, getD, drop-of-length-le}
 use lib.Seq.{drop-cons}
-use Rattle.typed.specs.Every.{every}
+use Rattle.typed.specs.Tests.{every}
 use Rattle.typed.specs.Decimal.{isDigit, spelled, numberIn}
 use Rattle.typed.specs.declared.decimal.Number.{Number}
 use Rattle.typed.specs.declared.decimal.Number.the-variants.{Is, Not}
@@ -32,11 +32,16 @@ grows : (v : ℕ) (s : List ℕ) → v ≤ spelled v s
 grows v [] = omega arith
 grows v (b ∷ s) = let h = grows (v * 10 + (b - 48)) s in omega arith
 
-module _ (most v : ℕ) (s : List ℕ) (i : ℕ) (r : Number) (e : decided most v (drop i s) ≡ r) where
+-- the text s stands at i, where the digits before spell v, and what is left decides
+module _ (most v : ℕ) (s : List ℕ) (i : ℕ) {r : Number} (e : decided most v (drop i s) ≡ r) where
+  -- the number with the digit at i
+  abbrev grown : ℕ
+  grown = v * 10 + (getD s i 0 - 48)
+
   turn : i < length s
       → decided most v (drop i s)
-      ≡ cond ((isDigit (getD s i 0) && every isDigit (drop (i + 1) s)) && leb (spelled (v * 10 + (getD s i 0 - 48)) (drop (i + 1) s)) most)
-      (Is (spelled (v * 10 + (getD s i 0 - 48)) (drop (i + 1) s)))
+      ≡ cond ((isDigit (getD s i 0) && every isDigit (drop (i + 1) s)) && leb (spelled grown (drop (i + 1) s)) most)
+      (Is (spelled grown (drop (i + 1) s)))
       Not
   turn h = rw (add-one, drop-cons s i 0)
 
@@ -45,8 +50,8 @@ module _ (most v : ℕ) (s : List ℕ) (i : ℕ) (r : Number) (e : decided most 
 
   pub decided-large : i < length s → most < v * 10 + (getD s i 0 - 48) → Not ≡ r
   decided-large h k =
-      let g = grows (v * 10 + (getD s i 0 - 48)) (drop (i + 1) s) in
-      sym (turn h ∙ rw (lt-leb (spelled (v * 10 + (getD s i 0 - 48)) (drop (i + 1) s)) most (omega arith), and-false)) ∙ e
+      let g = grows grown (drop (i + 1) s) in
+      sym (turn h ∙ rw (lt-leb (spelled grown (drop (i + 1) s)) most (omega arith), and-false)) ∙ e
 
   pub decided-on : i < length s → isDigit (getD s i 0) ≡ true → decided most (v * 10 + (getD s i 0 - 48)) (drop (i + 1) s) ≡ r
   decided-on h t = sym (turn h ∙ rw t) ∙ e

@@ -4,13 +4,13 @@ use mathlib.Core.Bool.{Bool, cond, _&&_}
 use mathlib.Core.List.{List, [], _∷_}
 use lib.Dec.{leb}
 use lib.ListN.{length}
-use Rattle.typed.specs.Every.{every}
+use Rattle.typed.specs.Tests.{between, every}
 use Rattle.typed.specs.declared.decimal.Number.{Number}
 use Rattle.typed.specs.declared.decimal.Number.the-variants.{Is, Not}
 
 -- '0' to '9'
 abbrev pub isDigit : ℕ → Bool
-isDigit b = leb 48 b && leb b 57
+isDigit b = between 48 57 b
 
 -- the number that digits spell when they follow those that spell v
 abbrev pub spelled : ℕ → List ℕ → ℕ

@@ -4,16 +4,16 @@ use mathlib.Core.Bool.{Bool, cond, _&&_}
 use mathlib.Core.List.{List, [], _∷_, _++_}
 use lib.Dec.{leb, ltb, eqb}
 use lib.ListN.{length, drop}
-use Rattle.typed.specs.Every.{every}
+use Rattle.typed.specs.Tests.{between, every}
 use Rattle.typed.specs.declared.hex.Hex.{Hex}
 use Rattle.typed.specs.declared.hex.Hex.the-variants.{Bytes, NotHex, NoRoom}
 
 -- the value of a digit: '0' to '9', 'a' to 'f', 'A' to 'F'; 16 for a byte that is none
 unfoldable pub digitOf : ℕ → ℕ
 digitOf b =
-    cond (leb 48 b && leb b 57) (b - 48)
-    (cond (leb 97 b && leb b 102) (b - 87)
-    (cond (leb 65 b && leb b 70) (b - 55)
+    cond (between 48 57 b) (b - 48)
+    (cond (between 97 102 b) (b - 87)
+    (cond (between 65 70 b) (b - 55)
     16))
 
 abbrev pub isHexDigit : ℕ → Bool

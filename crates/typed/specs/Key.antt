@@ -4,7 +4,7 @@ use mathlib.Core.Bool.{Bool, true, cond, _&&_}
 use mathlib.Core.List.{List}
 use lib.Dec.{leb, eqb}
 use lib.ListN.{length, take, drop}
-use Rattle.typed.specs.Every.{every}
+use Rattle.typed.specs.Tests.{every}
 use Rattle.typed.specs.Hex.{isHex, hexBytes}
 
 -- a space, a tab, or an end of line of either kind

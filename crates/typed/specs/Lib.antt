@@ -1,5 +1,5 @@
 pub mod Ascii
-pub mod Every
+pub mod Tests
 pub mod Decimal
 pub mod Hex
 pub mod Key

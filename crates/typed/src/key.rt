@@ -4,7 +4,7 @@ ghost use mathlib.Core.Path.{_≡_};
 ghost use mathlib.Core.List.{_++_};
 ghost use Prim.Native.Nat.{_≤_};
 ghost use lib.ListN.{length, drop};
-ghost use Rattle.typed.specs.Every.{every};
+ghost use Rattle.typed.specs.Tests.{every};
 ghost use Rattle.typed.specs.Key.{isBlank, isHexKey, keyOf};
 use crate::hex;
 

@@ -1,5 +1,5 @@
--- `call` leaves what the call that was asked for leaves. The cipher is the key's in the mode, the label is that of job and edition, and the
--- test of the command picks the call: each return is what that call ensures.
+-- `call` leaves what the call that was asked for leaves. The cipher is the key's in the mode, the label is that of job
+-- and edition, and the test of the command picks the call: each return is what that call ensures.
 -- Assumes nothing.
 use Rattle.typed.proofs.Verdicts.{told}
 use borrow.Author.Needs.{needs}

@@ -1,4 +1,5 @@
--- `number_at` answers a number within its bound. Assumes nothing.
+-- `number_at` meets its contract. A number that `decimal::read` answers is within the bound, by a law of `typed`.
+-- Assumes nothing.
 use mathlib.Core.Path.{_≡_}
 use mathlib.Core.List.{List}
 use Prim.Native.Nat.{ℕ}

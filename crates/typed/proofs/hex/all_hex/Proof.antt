@@ -1,13 +1,16 @@
--- `hex::all_hex` meets its contract: what is left to test answers for the whole. Assumes nothing.
+-- `hex::all_hex` meets its contract. The loop's invariant: what is left of the text decides. A byte that is no digit
+-- decides against; a digit leaves it to the rest; where nothing is left, all were digits. The measure is what is left
+-- of the text.
+-- Assumes nothing.
 use mathlib.Core.Path.{_≡_, refl}
 use Prim.Native.Nat.{_≤_, _-_}
 use native.Mathlib.Omega.{arith}
+use borrow.Author.Tests.{lt-ltb, le-ltb}
 use denote.Ref.{now}
 use lib.ListN.{length, drop}
-use Rattle.typed.specs.Every.{every}
-use Rattle.typed.proofs.Walks.{every-stop, every-go, every-end}
-use borrow.Author.Tests.{lt-ltb, le-ltb}
+use Rattle.typed.specs.Tests.{every}
 use Rattle.typed.specs.Hex.{isHexDigit}
+use Rattle.typed.proofs.Walks.{every-stop, every-go, every-end}
 use Rattle.typed.proofs.hex.all_hex.Statement.{statement}
 use Rattle.typed.proofs.hex.all_hex.Tie as tie
 
@@ -20,21 +23,26 @@ abbrev μ-loop : tie.MeasureT-loop
 loop-holds : tie.Need-loop-holds Inv-loop μ-loop
 loop-holds c = (omega arith, refl)
 
-digit-requires : tie.Need-digit-requires Inv-loop μ-loop
-digit-requires c κs = tt
-
 returns : tie.Need-returns Inv-loop μ-loop
 returns c =
-    let l = c .before .before .before .before in
-    every-stop isHexDigit (now (l .before .before .args .text)) (l .loop .i) (omega arith) (rw (← c .before .digit .ensures) (le-ltb _ 16 (c .if1 .taken))) (l .loop .inv .1)
+    let at-digit = c .before in
+    let at-loop = at-digit .before .before .before in
+    every-stop isHexDigit (now (at-loop .before .before .args .text)) (at-loop .loop .i) (at-loop .loop .inv .1) (omega arith)
+    (rw (← at-digit .digit .ensures) (le-ltb _ 16 (c .if1 .taken)))
 
 loop-again : tie.Need-loop-again Inv-loop μ-loop
 loop-again c =
-    let l = c .before .before .before .before in
-    (omega arith, every-go isHexDigit (now (l .before .before .args .text)) (l .loop .i) (omega arith) (rw (← c .before .digit .ensures) (lt-ltb _ 16 (c .if1 .left))) (l .loop .inv .1))
+    let at-digit = c .before in
+    let at-loop = at-digit .before .before .before in (
+      omega arith,
+      every-go isHexDigit (now (at-loop .before .before .args .text)) (at-loop .loop .i) (at-loop .loop .inv .1) (omega arith)
+          (rw (← at-digit .digit .ensures) (lt-ltb _ 16 (c .if1 .left))),
+    )
 
 returns-2 : tie.Need-returns-2 Inv-loop μ-loop
-returns-2 c = every-end isHexDigit (now (c .before .before .before .args .text)) (c .before .loop .i) (omega arith) (c .before .loop .inv .1)
+returns-2 c =
+    let at-loop = c .before in
+    every-end isHexDigit (now (at-loop .before .before .args .text)) (at-loop .loop .i) (at-loop .loop .inv .1) (omega arith)
 
 pub all-hex-spec : {M : Type 1} → statement M
 all-hex-spec =
@@ -44,7 +52,7 @@ all-hex-spec =
     μ-loop
     loop-holds
     (λ c. omega arith)
-    digit-requires
+    (λ c κs. tt)
     returns
     (λ c. omega arith)
     (λ c. omega arith)

@@ -1,4 +1,5 @@
--- `hex::is_hex` meets its contract. Assumes nothing.
+-- `hex::is_hex` meets its contract. Where all bytes are digits, their number decides; otherwise the text is no hex.
+-- Assumes nothing.
 use Rattle.typed.specs.Hex.{isHex}
 use Rattle.typed.proofs.Verdicts.{told}
 use borrow.Author.Needs.{needs}

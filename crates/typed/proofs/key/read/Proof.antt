@@ -1,38 +1,49 @@
--- `key::read` meets its contract: the digits' bytes or the file's own. Assumes nothing.
-use mathlib.Core.Path.{_∙_}
+-- `key::read` meets its contract. A file that holds a key in hex has 32 digits at its front, and `put` writes the
+-- sixteen bytes that they spell. Any other file is copied as it is.
+-- Assumes nothing.
+use mathlib.Core.Path.{_≡_, _∙_}
+use mathlib.Core.Bool.{true}
 use native.Mathlib.Omega.{arith}
 use denote.Ref.{now}
 use lib.Seq.{take-length}
+use Rattle.typed.specs.Key.{isHexKey}
 use Rattle.typed.proofs.Verdicts.{told}
 use Rattle.typed.proofs.HexKey.{hex-key-long, hex-key-hex, hex-key-size, hex-key, raw-key, hex-key-length}
 use borrow.Author.Needs.{needs}
 use Rattle.typed.proofs.key.read.Statement.{statement}
 use Rattle.typed.proofs.key.read.Tie as tie
 
+-- where the test holds, the file is a key in hex
+in-hex : (c : tie.Then1) → let at-is-hex-key = c .before in isHexKey (now (at-is-hex-key .before .before .before .args .file)) ≡ true
+in-hex c = told (c .before .is-hex-key .ensures) (c .if1 .taken)
+
 part-put-end : tie.Need-part-put-end
-part-put-end c = omega (arith, hex-key-long (now (c .before .before .before .before .args .file)) (told (c .before .is-hex-key .ensures) (c .if1 .taken)))
+part-put-end c = omega (arith, hex-key-long _ (in-hex c))
 
 put-requires : tie.Need-put-requires
 put-requires c κs =
-    let b = c .before .before in
-    let f = now (b .before .before .before .before .args .file) in
-    let t = told (b .before .is-hex-key .ensures) (b .if1 .taken) in
-    (hex-key-hex f t, omega (arith, hex-key-size f t, hex-key-long f t, b .before .before .before .before .pre))
+    let at-if1 = c .before .before in
+    let at-is-hex-key = at-if1 .before in
+    let start = at-is-hex-key .before .before .before in
+    let t = in-hex at-if1 in
+    (hex-key-hex _ t, omega (arith, hex-key-size _ t, hex-key-long _ t, start .pre))
 
 returns : tie.Need-returns
 returns c =
-    let b = c .before .before .before .before .before in
-    let f = now (b .before .before .before .before .args .file) in
-    let t = told (b .before .is-hex-key .ensures) (b .if1 .taken) in
-    (rw (hex-key f t, hex-key-length f t), c .before .before .put .ensures ∙ rw (hex-key f t, hex-key-size f t))
+    let at-put = c .before .before in
+    let at-if1 = at-put .before .before .before in
+    let t = in-hex at-if1 in
+    (rw (hex-key _ t, hex-key-length _ t), at-put .put .ensures ∙ rw (hex-key _ t, hex-key-size _ t))
 
 returns-2 : tie.Need-returns-2
 returns-2 c =
-    let b = c .before .before .before .before in
-    let f = now (b .before .before .before .before .args .file) in
-    let t = told (b .before .is-hex-key .ensures) (b .if1 .left) in
-    let k = c .before .before .copy in
-    (k .ensures .0 ∙ rw (raw-key f t), k .ensures .1 ∙ rw (raw-key f t, k .ensures .0, take-length f))
+    let at-copy = c .before .before in
+    let at-if1 = at-copy .before .before in
+    let at-is-hex-key = at-if1 .before in
+    let file = now (at-is-hex-key .before .before .before .args .file) in
+    let own = raw-key file (told (at-is-hex-key .is-hex-key .ensures) (at-if1 .if1 .left)) in
+    let copied = at-copy .copy .ensures in
+    (copied .0 ∙ rw own, copied .1 ∙ rw (own, copied .0, take-length file))
 
 pub read-spec : {M : Type 1} → statement M
 read-spec =

@@ -1,4 +1,6 @@
--- `line::is_lacking` meets its contract. Assumes nothing.
+-- `line::is_lacking` meets its contract. Where the command wants the thing, whether it has been said decides; otherwise
+-- it is not lacking.
+-- Assumes nothing.
 use mathlib.Core.Path.{_∙_}
 use Rattle.typed.proofs.Verdicts.{told}
 use borrow.Author.Needs.{needs}

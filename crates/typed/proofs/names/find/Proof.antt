@@ -1,5 +1,6 @@
--- `names::find` meets its contract. The loop's invariant: the names that are left decide, once those before them are counted. The name at `at`
--- is the word, or the walk goes on behind its blank; at the end none was. The measure is what is left of the text.
+-- `names::find` meets its contract. The loop's invariant: the names from `at` on decide, added to those that were
+-- passed. The name at `at` is the word, or the walk goes on behind its blank; where no name is left, none was the word.
+-- The measure is what is left of the text.
 -- Assumes nothing.
 use mathlib.Core.Path.{_≡_, refl}
 use Prim.Native.Nat.{_≤_, _+_, _-_}

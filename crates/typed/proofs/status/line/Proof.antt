@@ -1,4 +1,5 @@
--- `status::line` meets its contract. Assumes nothing.
+-- `status::line` meets its contract. The bytes are those of the definition, written out.
+-- Assumes nothing.
 use mathlib.Core.Path.{refl}
 use Rattle.typed.specs.Status.{statusLine}
 use borrow.Author.Needs.{needs}

@@ -1,4 +1,6 @@
--- `words::is_option` meets its contract. Assumes nothing.
+-- `words::is_option` meets its contract. A word of less than two bytes is no option; of a longer one the first byte
+-- decides.
+-- Assumes nothing.
 use borrow.Author.Tests.{le-leb, lt-leb}
 use borrow.Author.Needs.{needs}
 use Rattle.typed.proofs.words.is_option.Statement.{statement}

@@ -1,4 +1,5 @@
--- `words::read_mode` meets its contract. Each arm is the mode at the place that `find` answers; the last stands for every place past them.
+-- `words::read_mode` meets its contract. Each arm is the mode at the place that `find` answers; the last is for every
+-- place past those.
 -- Assumes nothing.
 use borrow.Author.Needs.{needs}
 use Rattle.typed.specs.Words.{modes}

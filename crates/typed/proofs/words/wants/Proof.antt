@@ -1,4 +1,6 @@
--- `words::wants` meets its contract, command by command. Assumes nothing.
+-- `words::wants` meets its contract. For each command the definition computes once the command is known, and of two
+-- tests the first.
+-- Assumes nothing.
 use borrow.Author.Tests.{eq-eqb, ne-eqb}
 use borrow.Author.Needs.{needs}
 use Rattle.typed.proofs.words.wants.Statement.{statement}
