@@ -4,7 +4,6 @@ use mathlib.Core.Path.{_≡_}
 use mathlib.Core.Bool.{true, false, and-false}
 use Prim.Native.Nat.{ℕ, _<_, _≤_}
 use borrow.Author.Tests.{le-leb, lt-leb}
-use lib.Dec.{leb}
 use Rattle.typed.specs.Tests.{between}
 
 pub inside : (a z b : ℕ) → a ≤ b → b ≤ z → between a z b ≡ true

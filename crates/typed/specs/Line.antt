@@ -1,7 +1,7 @@
 -- What a line of words says: each thing that its command wants, once.
 use Prim.Native.Nat.{ℕ, zero, suc}
 use mathlib.Core.Bool.{Bool, true, false, cond, _&&_}
-use mathlib.Core.List.{List, []}
+use mathlib.Core.List.{List}
 use lib.Dec.{ltb, eqb}
 use lib.ListN.{getD, set, replicate}
 use Rattle.typed.specs.Things.{IN, OUT, NOTHING}

@@ -39,7 +39,7 @@ fn all_hex(text: &[u8]) -> bool
 }
 
 // Whether `text` is hex digits alone, and an even number of them.
-pub fn is_hex(text: &[u8]) -> bool
+pub(crate) fn is_hex(text: &[u8]) -> bool
     ensures { λ r. ⌜ r ≡ isHex (now (text .entry)) ⌝ }
 {
     if all_hex(text) {

@@ -1,5 +1,5 @@
-// What a person types to the tool and reads from it: numbers, bytes in hex, keys, words, the line that they make, the
-// files that it takes, and the status that a run ends with.
+// What a person types to the tool and reads from it: numbers, bytes in hex, keys, words, the line that they make, how
+// long a file may be, and the status that a run ends with.
 pub mod decimal;
 pub mod hex;
 pub mod key;

@@ -53,7 +53,7 @@ pub fn read_mode(word: &[u8]) -> ModeName
 }
 
 // The thing whose value follows an option, or `NOTHING` for an option that there is not.
-pub fn read_option(word: &[u8]) -> usize
+pub(crate) fn read_option(word: &[u8]) -> usize
     ensures { λ r. ⌜ r ≡ optionOf (now (word .entry)) ⌝ }
 {
     match find(b"--mode --key --iv --job --edition", word) {
@@ -67,7 +67,7 @@ pub fn read_option(word: &[u8]) -> usize
 }
 
 // Whether a word is an option: it begins with a dash, and is no dash alone.
-pub fn is_option(word: &[u8]) -> bool
+pub(crate) fn is_option(word: &[u8]) -> bool
     ensures { λ r. ⌜ r ≡ isOption (now (word .entry)) ⌝ }
 {
     if word.len() < 2 {

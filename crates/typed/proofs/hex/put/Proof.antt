@@ -7,8 +7,8 @@ use mathlib.Core.List.{_++_}
 use Prim.Native.Nat.{_≤_, _<_, _+_, _-_, _*_, _/_}
 use native.Mathlib.Omega.{arith}
 use denote.Ref.{now}
-use lib.ListN.{length, take, drop, getD, length-set}
-use Rattle.typed.specs.Hex.{digitOf, hexBytes}
+use lib.ListN.{length, take, drop, length-set}
+use Rattle.typed.specs.Hex.{hexBytes}
 use Rattle.typed.proofs.HexPairs.{hex-digit, put-turn, put-end}
 use Rattle.typed.proofs.hex.put.Statement.{statement}
 use Rattle.typed.proofs.hex.put.Tie as tie

@@ -2,7 +2,7 @@
 -- passed. The name at `at` is the word, or the walk goes on behind its blank; where no name is left, none was the word.
 -- The measure is what is left of the text.
 -- Assumes nothing.
-use mathlib.Core.Path.{_≡_, refl}
+use mathlib.Core.Path.{_≡_}
 use Prim.Native.Nat.{_≤_, _+_, _-_}
 use native.Mathlib.Omega.{arith}
 use denote.Ref.{now}
