@@ -236,7 +236,8 @@ fn is_sealing(command: Command) -> bool
 
 // The call that was asked for. A mode without a label passes over it.
 fn call(asked: Asked, key: &[u8], iv: &[u8], data: &[u8], out: &mut [u8]) -> Answer
-    ensures { λ r. ⌜ outcome r (now (out .exit)) ≡ called asked (now (key .entry)) (now (iv .entry)) (now («data» .entry)) (now (out .entry)) ⌝ }
+    ensures { λ r.
+        ⌜ outcome r (now (out .exit)) ≡ called asked (now (key .entry)) (now (iv .entry)) (now («data» .entry)) (now (out .entry)) ⌝ }
 {
     let command = asked.command;
     let mode = asked.mode;

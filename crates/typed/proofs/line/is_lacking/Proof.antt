@@ -7,11 +7,11 @@ use borrow.Author.Needs.{needs}
 use Rattle.typed.proofs.line.is_lacking.Statement.{statement}
 use Rattle.typed.proofs.line.is_lacking.Tie as tie
 
-returns : tie.Need-returns
-returns c = c .is-unsaid .ensures ∙ rw (told (c .before .before .wants .ensures) (c .before .if1 .taken))
-
-returns-2 : tie.Need-returns-2
-returns-2 c = rw (told (c .before .wants .ensures) (c .if1 .left))
-
 pub is-lacking-spec : {M : Type 1} → statement M
-is-lacking-spec = tie.close (tie.spec (λ c κs. search needs) (λ c κs. search needs) returns returns-2)
+is-lacking-spec =
+    tie.close
+    (tie.spec
+    (λ c κs. search needs)
+    (λ c κs. search needs)
+    (λ c. c .is-unsaid .ensures ∙ rw (told (c .before .before .wants .ensures) (c .before .if1 .taken)))
+    (λ c. rw (told (c .before .wants .ensures) (c .if1 .left))))

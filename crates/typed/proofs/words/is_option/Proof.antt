@@ -6,11 +6,10 @@ use borrow.Author.Needs.{needs}
 use Rattle.typed.proofs.words.is_option.Statement.{statement}
 use Rattle.typed.proofs.words.is_option.Tie as tie
 
-returns : tie.Need-returns
-returns c = rw (lt-leb 2 _ (c .if1 .taken))
-
-returns-2 : tie.Need-returns-2
-returns-2 c = rw (le-leb 2 _ (c .before .if1 .left))
-
 pub is-option-spec : {M : Type 1} → statement M
-is-option-spec = tie.close (tie.spec returns (λ c. search needs) returns-2)
+is-option-spec =
+    tie.close
+    (tie.spec
+    (λ c. rw (lt-leb 2 _ (c .if1 .taken)))
+    (λ c. search needs)
+    (λ c. rw (le-leb 2 _ (c .before .if1 .left))))
