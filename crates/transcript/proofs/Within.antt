@@ -1,15 +1,17 @@
--- The length that a public call reports lies within its output.
+-- The length that a call reports lies within its output.
 -- Assumes nothing.
-use mathlib.Core.Path.{_≡_, refl, sym, subst}
+use mathlib.Core.Path.{_≡_, sym, subst}
 use mathlib.Core.Bool.{Bool, true, false, cond}
 use mathlib.Core.List.{List}
 use Prim.Native.Nat.{ℕ, _≤_}
 use native.Mathlib.Omega.{arith}
 use lib.ListN.{length, length-append}
-use Rattle.cipher_mode.specs.Outcome.{Outcome, headOf, outcome, refuse, done}
+use Rattle.cipher_mode.specs.Outcome.{Outcome, headOf, outcome, done}
 use Rattle.cipher_mode.specs.Calls.{encryptCall, decryptCall}
 use Rattle.cipher_mode.specs.declared.Answer.{Answer}
 use Rattle.cipher_mode.specs.declared.Sm4CipherMode.{Sm4CipherMode}
+use Rattle.transcript.specs.Called.{isSealing, called}
+use Rattle.transcript.specs.declared.Asked.{Asked}
 
 unfoldable Within : Outcome → Type 0
 Within x = x .head .size ≤ length (x .bytes)
@@ -18,13 +20,13 @@ refused-within : (a : Answer) (o : List ℕ) → headOf a .size ≡ 0 → Within
 unfolding Within
 refused-within a o e = rw e (omega arith)
 
-cond-within : (t : Bool) (x y : Outcome) → Within x → Within y → Within (cond t x y)
-cond-within true x y h k = h
-cond-within false x y h k = k
-
 done-within : (p o : List ℕ) → Within (done p o)
 unfolding Within
 done-within p o = simp length-append (omega arith)
+
+cond-within : (t : Bool) (x y : Outcome) → Within x → Within y → Within (cond t x y)
+cond-within true x y h k = h
+cond-within false x y h k = k
 
 module _ (m : Sm4CipherMode) (aad d iv o : List ℕ) where
   encrypt-within : Within (encryptCall m aad d iv o)
@@ -35,10 +37,12 @@ module _ (m : Sm4CipherMode) (aad d iv o : List ℕ) where
   unfolding decryptCall
   decrypt-within = search (cond-within, refused-within, done-within) depth 9
 
-  pub encrypt-fits : (a : Answer) (o′ : List ℕ) → outcome a o′ ≡ encryptCall m aad d iv o → headOf a .size ≤ length o′
-  unfolding Within
-  encrypt-fits a o′ e = subst Within (sym e) encrypt-within
+  either-within : (t : Bool) → Within (cond t encryptCall decryptCall m aad d iv o)
+  either-within true = encrypt-within
+  either-within false = decrypt-within
 
-  pub decrypt-fits : (a : Answer) (o′ : List ℕ) → outcome a o′ ≡ decryptCall m aad d iv o → headOf a .size ≤ length o′
-  unfolding Within
-  decrypt-fits a o′ e = subst Within (sym e) decrypt-within
+pub called-fits : (a : Asked) (key iv d o : List ℕ) (r : Answer) (o′ : List ℕ)
+    → outcome r o′ ≡ called a key iv d o
+    → headOf r .size ≤ length o′
+unfolding Within called
+called-fits a key iv d o r o′ e = subst Within (sym e) (either-within _ _ d iv o (isSealing (a .command)))
