@@ -4,12 +4,15 @@ mod files;
 mod say;
 
 ghost use mathlib.Core.Path.{_≡_};
-ghost use Rattle.cipher_mode.specs.Outcome.{outcome};
+ghost use Rattle.cipher_mode.specs.Answer.{outcome};
 ghost use Rattle.transcript.specs.AtMost.{AtMost};
-ghost use Rattle.transcript.specs.Called.{isSealing, called};
-use cipher_mode::Answer;
+ghost use Rattle.transcript.specs.Called.{directionOf, called};
 use cipher_mode::CipherMode;
+use cipher_mode::Direction;
 use cipher_mode::Sm4CipherMode;
+use cipher_mode::answer::Answer;
+use cipher_mode::answer::Ending;
+use cipher_mode::answer::Refusal;
 use typed::decimal::Number;
 use typed::hex::Hex;
 use typed::limits::LONGEST_SEALED;
@@ -209,44 +212,47 @@ fn with_input(asked: Asked, key: &[u8], iv: &[u8]) -> u8 {
     let n = read.length;
     let mut out = file_room();
     let answer = call(asked, key, iv, &data[..n], &mut out);
-    match answer {
-        Answer::Done(k) => deliver(asked, &out[0..k]),
-        Answer::ErrorBlockSize => say::block_size(key.len(), iv.len()),
-        Answer::ErrorDataLen => say::data_len(command, n),
-        Answer::InvalidLastU8 => say::last_byte(),
-        Answer::InvalidTag => say::tag(asked.job, asked.edition),
-        Answer::TooLong => say::too_long(),
-        Answer::NoRoom => say::no_room(),
-        Answer::BadMode => say::bad_mode(),
+    let ending = answer.ending;
+    match ending {
+        Ending::Done(k) => deliver(asked, &out[0..k]),
+        Ending::Refused(refusal) => refuse(refusal, asked, key.len(), iv.len(), n),
     }
 }
 
-fn is_sealing(command: Command) -> bool
-    ensures { λ r. ⌜ r ≡ isSealing command ⌝ }
+// Says why, of a key, an IV and data of these lengths.
+fn refuse(refusal: Refusal, asked: Asked, key: usize, iv: usize, data: usize) -> u8 {
+    let command = asked.command;
+    match refusal {
+        Refusal::ErrorBlockSize => say::block_size(key, iv),
+        Refusal::ErrorDataLen => say::data_len(command, data),
+        Refusal::InvalidLastU8 => say::last_byte(),
+        Refusal::InvalidTag => say::tag(asked.job, asked.edition),
+        Refusal::TooLong => say::too_long(),
+        Refusal::NoRoom => say::no_room(),
+    }
+}
+
+fn direction_of(command: Command) -> Direction
+    ensures { λ r. ⌜ r ≡ directionOf command ⌝ }
 {
     match command {
-        Command::Seal => true,
-        Command::Open => false,
-        Command::Opens => false,
-        Command::Encrypt => true,
-        Command::Decrypt => false,
-        Command::Unknown => false,
+        Command::Seal => Direction::Encrypt,
+        Command::Open => Direction::Decrypt,
+        Command::Opens => Direction::Decrypt,
+        Command::Encrypt => Direction::Encrypt,
+        Command::Decrypt => Direction::Decrypt,
+        Command::Unknown => Direction::Decrypt,
     }
 }
 
 // The call that was asked for. A mode without a label passes over it.
 fn call(asked: Asked, key: &[u8], iv: &[u8], data: &[u8], out: &mut [u8]) -> Answer
-    ensures { λ r.
-        ⌜ outcome r (now (out .exit)) ≡ called asked (now (key .entry)) (now (iv .entry)) (now («data» .entry)) (now (out .entry)) ⌝ }
+    ensures { λ r. ⌜ outcome r (now (out .exit)) ≡ called asked (now (key .entry)) (now (iv .entry)) (now («data» .entry)) (now (out .entry)) ⌝ }
 {
     let command = asked.command;
     let mode = asked.mode;
     let label = label::label(asked.job, asked.edition);
-    let cipher = Sm4CipherMode::new(key, mode);
-    if is_sealing(command) {
-        return cipher.encrypt(&label, data, iv, out);
-    }
-    cipher.decrypt(&label, data, iv, out)
+    Sm4CipherMode::new(key, mode).call(direction_of(command), &label, data, iv, out)
 }
 
 // Writes what came of it, or says that the file opens. Whoever has killed the launcher has killed the run: then nothing

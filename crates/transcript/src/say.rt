@@ -210,8 +210,3 @@ pub fn no_room() -> u8 {
     text(b"6 NoRoom: what comes of this file is longer than the tool has room for\n");
     6
 }
-
-pub fn bad_mode() -> u8 {
-    text(b"7 BadMode: the cipher has no such mode\n");
-    7
-}
