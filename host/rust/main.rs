@@ -1,6 +1,6 @@
 //! Writes libsm's own answers to standard output, in the form of `record.rs`:
 //!
-//!   oracle list                 the fixed list that the program `replayed` replays
+//!   oracle list                 the fixed list that the program `rust_answers` replays
 //!   oracle fresh SEED COUNT     so many short cases from a seed
 //!   oracle long SEED            cases at the length limits
 //!   oracle differences          the smallest inputs of docs/DIFFERENCES.md

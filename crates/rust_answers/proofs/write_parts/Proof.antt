@@ -1,7 +1,7 @@
 use Prim.Native.Nat.{_≤_, _-_}
 use borrow.Author.Needs.{needs}
-use Rattle.replayed.proofs.write_parts.Statement.{statement}
-use Rattle.replayed.proofs.write_parts.Tie as tie
+use Rattle.rust_answers.proofs.write_parts.Statement.{statement}
+use Rattle.rust_answers.proofs.write_parts.Tie as tie
 
 abbrev Inv-loop : tie.InvT-loop
 Inv-loop replayed differ part₀ part = part ≤ 16

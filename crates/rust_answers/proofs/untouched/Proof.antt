@@ -1,8 +1,8 @@
 use Prim.Native.Nat.{_≤_, _-_}
 use borrow.Author.Needs.{needs}
 use lib.ListN.{length}
-use Rattle.replayed.proofs.untouched.Statement.{statement}
-use Rattle.replayed.proofs.untouched.Tie as tie
+use Rattle.rust_answers.proofs.untouched.Statement.{statement}
+use Rattle.rust_answers.proofs.untouched.Tie as tie
 
 abbrev Inv-loop : tie.InvT-loop
 Inv-loop out at i₀ i = 0 ≤ i
