@@ -1,8 +1,8 @@
 // Runs the published vectors of the file that its argument names. A vector is the same where the
 // published value, ours and that of an independent SM4 agree, both ways where there are two.
+mod by_independent;
 mod independent;
 mod ours;
-mod second;
 mod words;
 
 use libc::STDOUT_FILENO;
@@ -26,7 +26,7 @@ fn agree(
     result: &[u8],
 ) -> bool {
     ours::gives(kind, key, iv, label, text, result)
-        && second::gives(kind, table, key, iv, label, text, result)
+        && by_independent::gives(kind, table, key, iv, label, text, result)
 }
 
 // Reads text and result of a vector and runs it.

@@ -2,8 +2,8 @@ use mathlib.Core.Path.{_≡_}
 use Prim.Native.Nat.{_≤_, _-_}
 use borrow.Author.Needs.{needs}
 use lib.ListN.{length}
-use Rattle.vectors.proofs.second.over.Statement.{statement}
-use Rattle.vectors.proofs.second.over.Tie as tie
+use Rattle.vectors.proofs.by_independent.over.Statement.{statement}
+use Rattle.vectors.proofs.by_independent.over.Tie as tie
 
 abbrev Inv-loop : tie.InvT-loop
 Inv-loop table keys times x₀ counter₀ x counter = (counter ≤ times) × (length x ≡ 16)
