@@ -15,7 +15,8 @@ use Rattle.ghash.specs.Ghash.{Short, lengthBlock}
 halves : (a t : ℕ) → lengthBlock a t ≡ whole (8 * a % 2 ^ 64) (8 * t % 2 ^ 64)
 unfolding lengthBlock
 halves a t =
-    numberOf-append (bytesOf 8 (8 * a)) (bytesOf 8 (8 * t)) ∙ rw (length-bytesOf 8 (8 * t), numberOf-bytesOf 8 (8 * a), numberOf-bytesOf 8 (8 * t))
+    numberOf-append (bytesOf 8 (8 * a)) (bytesOf 8 (8 * t))
+    ∙ rw (length-bytesOf 8 (8 * t), numberOf-bytesOf 8 (8 * a), numberOf-bytesOf 8 (8 * t))
 
 pub lengthBlock-lt : (a t : ℕ) → Element (lengthBlock a t)
 lengthBlock-lt a t = rw (halves a t) (digits-lt {m = 2 ^ 64} {c = 2 ^ 64} (mod-lt (8 * a) (lit< tt)) (mod-lt (8 * t) (lit< tt)))
