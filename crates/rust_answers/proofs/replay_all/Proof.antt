@@ -1,3 +1,6 @@
+-- `rust_answers::replay_all` is safe and ends. The loop's invariant: no more records differ than were seen, and no more were
+-- seen than the list says it has, so neither count wraps. The measure is the number of records left.
+-- Assumes nothing.
 use Prim.Native.Nat.{_≤_, _-_}
 use borrow.Author.Needs.{needs}
 use Rattle.rust_answers.proofs.replay_all.Statement.{statement}

@@ -1,3 +1,6 @@
+-- `rust_answers::write_parts` is safe and ends. The loop's invariant: `part` is at most 16, which is the length of both arrays
+-- of counts, so each read lies inside. The measure is the number of parts left.
+-- Assumes nothing.
 use Prim.Native.Nat.{_≤_, _-_}
 use borrow.Author.Needs.{needs}
 use Rattle.rust_answers.proofs.write_parts.Statement.{statement}
