@@ -1,3 +1,6 @@
+-- `vectors::by_independent::over` is safe and ends. The loop's invariant: at most `times` turns have gone by, and `x` is a
+-- block. The measure is the number of turns left.
+-- Assumes nothing.
 use mathlib.Core.Path.{_≡_}
 use Prim.Native.Nat.{_≤_, _-_}
 use borrow.Author.Needs.{needs}
@@ -14,4 +17,12 @@ abbrev μ-loop : tie.MeasureT-loop
 pub over-spec : {M : Type 1} → statement M
 over-spec =
     tie.close
-    (tie.spec Inv-loop μ-loop (λ c. search needs) (λ c κs. search needs) (λ c. search needs) (λ c. search needs) (λ c. search needs) (λ c. search needs))
+    (tie.spec
+    Inv-loop
+    μ-loop
+    (λ c. search needs)
+    (λ c κs. search needs)
+    (λ c. search needs)
+    (λ c. search needs)
+    (λ c. search needs)
+    (λ c. search needs))
