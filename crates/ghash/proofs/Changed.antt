@@ -12,7 +12,7 @@ use lib.Seq.{length-take-le, take-all, drop-drop}
 use Rattle.block.specs.Below.{AreBytes}
 use Rattle.block.proofs.Entries.{below-drop}
 use Rattle.field.specs.Field.{Element}
-use Rattle.ghash.specs.Ghash.{Short, blockOf, blocks, lengthBlock, authBlocks, ghash}
+use Rattle.ghash.specs.Ghash.{Hashable, blockOf, blocks, lengthBlock, authBlocks, ghash}
 use Rattle.ghash.specs.OneBlock.{OneBlock}
 use Rattle.ghash.proofs.Blocks.{blockOf-lt, blockOf-same, blocks-cons, blocks-append, blocks-zero}
 use Rattle.ghash.proofs.Lengths.{lengthBlock-lt, lengthBlock-same}
@@ -86,7 +86,7 @@ module _ (h : ℕ) (hh : Element h) (nz : h ≢ 0) where
 
   -- lists that make the same blocks are told apart by their lengths
   lengths-told : (a t b u : List ℕ) → blocks a ≡ blocks b → blocks t ≡ blocks u
-      → Short (length a) → Short (length t) → Short (length b) → Short (length u)
+      → Hashable (length a) → Hashable (length t) → Hashable (length b) → Hashable (length u)
       → ¬ ((length a ≡ length b) × (length t ≡ length u)) → ghash h (authBlocks a t) ≢ ghash h (authBlocks b u)
   unfolding authBlocks
   lengths-told a t b u p q sa st sb su d e =
@@ -98,13 +98,13 @@ module _ (h : ℕ) (hh : Element h) (nz : h ≢ 0) where
       ∙ e
       ∙ ap (ghash h) (sym (append-assoc (blocks b) (blocks u) (n ∷ []))))
 
-  pub label-zero : (a t : List ℕ) → Short (length a + 1) → Short (length t) → length a % 16 ≢ 0
+  pub label-zero : (a t : List ℕ) → Hashable (length a + 1) → Hashable (length t) → length a % 16 ≢ 0
       → ghash h (authBlocks a t) ≢ ghash h (authBlocks (a ++ (0 ∷ [])) t)
   label-zero a t sa st n =
       let l : length (a ++ (0 ∷ [])) ≡ length a + 1 = length-append a (0 ∷ []) in
       lengths-told a t (a ++ (0 ∷ [])) t (sym (blocks-zero a n)) refl (omega arith) st (omega arith) st (λ d. omega (arith, d .0))
 
-  pub text-zero : (a t : List ℕ) → Short (length a) → Short (length t + 1) → length t % 16 ≢ 0
+  pub text-zero : (a t : List ℕ) → Hashable (length a) → Hashable (length t + 1) → length t % 16 ≢ 0
       → ghash h (authBlocks a t) ≢ ghash h (authBlocks a (t ++ (0 ∷ [])))
   text-zero a t sa st n =
       let l : length (t ++ (0 ∷ [])) ≡ length t + 1 = length-append t (0 ∷ []) in
