@@ -5,7 +5,7 @@ ghost use lib.ListN.{length};
 ghost use Rattle.block.specs.Wide.{value};
 ghost use Rattle.block.specs.Words.{unwords};
 ghost use Rattle.cipher.specs.Engine.{Engine};
-ghost use Rattle.ghash.specs.Ghash.{Short};
+ghost use Rattle.ghash.specs.Ghash.{Hashable};
 ghost use Rattle.walk.specs.Outcome.{leaving};
 ghost use Rattle.walk.specs.Walk.{over};
 ghost use Rattle.gcm.specs.Gcm.{hashKey, firstCounter, tagOf, sealed, textPart, tagPart, opensUnder};
@@ -37,7 +37,7 @@ pub fn first_counter(h: U128, iv: &[u8]) -> [u32; 4]
 
 fn tag(t: &[u32], rk: [u32; 32], h: U128, j0: [u32; 4], aad: &[u8], text: &[u8]) -> [u32; 4]
     requires { ⌜ Engine (now t) ⌝ }
-    requires { ⌜ Short (length (now aad)) × Short (length (now text)) ⌝ }
+    requires { ⌜ Hashable (length (now aad)) × Hashable (length (now text)) ⌝ }
     ensures { λ r. ⌜ unwords r ≡ tagOf rk (value h) (unwords j0) (now (aad .entry)) (now (text .entry)) ⌝ }
 {
     let hash = block::from_u128(ghash::galois_hash(h, aad, text));
@@ -55,7 +55,7 @@ pub fn encrypt(
     out: &mut [u8],
 )
     requires { ⌜ Engine (now t) ⌝ }
-    requires { ⌜ Short (length (now aad)) × Short (length (now «data»)) ⌝ }
+    requires { ⌜ Hashable (length (now aad)) × Hashable (length (now «data»)) ⌝ }
     requires { ⌜ length (now «data») + 16 ≤ length (now out) ⌝ }
     ensures { λ _. ⌜ now (out .exit) ≡ over (sealed rk (value h) (unwords j0) (now (aad .entry)) (now («data» .entry))) (now (out .entry)) ⌝ }
 {
@@ -86,7 +86,7 @@ pub fn tag_part(data: &[u8]) -> &[u8]
 // Whether a sealed message opens under a label. All sixteen bytes of the tag are looked at, whatever the first ones are.
 pub fn opens(t: &[u32], rk: [u32; 32], h: U128, j0: [u32; 4], aad: &[u8], data: &[u8]) -> bool
     requires { ⌜ Engine (now t) ⌝ }
-    requires { ⌜ Short (length (now aad)) × Short (length (now «data»)) ⌝ }
+    requires { ⌜ Hashable (length (now aad)) × Hashable (length (now «data»)) ⌝ }
     requires { ⌜ 16 ≤ length (now «data») ⌝ }
     ensures { λ r. ⌜ r ≡ opensUnder rk (value h) (unwords j0) (now (aad .entry)) (now («data» .entry)) ⌝ }
 {
@@ -106,7 +106,7 @@ pub fn decrypt(
     out: &mut [u8],
 ) -> Opened
     requires { ⌜ Engine (now t) ⌝ }
-    requires { ⌜ Short (length (now aad)) × Short (length (now «data»)) ⌝ }
+    requires { ⌜ Hashable (length (now aad)) × Hashable (length (now «data»)) ⌝ }
     requires { ⌜ (16 ≤ length (now «data»)) × (length (now «data») - 16 ≤ length (now out)) ⌝ }
     ensures { λ r. ⌜ leaving (headOf r) (now (out .exit)) ≡ gcmOpen rk (value h) (unwords j0) (now (aad .entry)) (now («data» .entry)) (now (out .entry)) ⌝ }
 {

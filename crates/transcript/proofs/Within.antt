@@ -19,7 +19,7 @@ use Rattle.gcm.specs.Open.{headOf as gcmHead, settled, gcmOpen}
 use Rattle.gcm.specs.declared.Opened.the-variants.{Done as Gcm·Done, InvalidTag}
 use Rattle.gcm.proofs.Parts.{length-text}
 use Rattle.cipher_mode.specs.Answer.{headOf, outcome}
-use Rattle.cipher_mode.specs.Checks.{checked}
+use Rattle.cipher_mode.specs.Checks.{checked, messageCheck}
 use Rattle.cipher_mode.specs.Calls.{cfbKind, result, modeCall}
 use Rattle.cipher_mode.specs.declared.answer.Answer.{Answer}
 use Rattle.cipher_mode.specs.declared.checks.Checked.{Checked}
@@ -28,7 +28,10 @@ use Rattle.cipher_mode.specs.declared.CipherMode.{CipherMode}
 use Rattle.cipher_mode.specs.declared.CipherMode.the-variants.{Cfb, Ofb, Ctr, Cbc, Gcm}
 use Rattle.cipher_mode.specs.declared.Direction.{Direction}
 use Rattle.cipher_mode.specs.declared.Direction.the-variants.{Encrypt, Decrypt}
-use Rattle.transcript.specs.Called.{called}
+use Rattle.cipher_mode.specs.declared.Sm4CipherMode.{Sm4CipherMode}
+use Rattle.cipher_mode.specs.Key.{newCipherMode}
+use Rattle.label.specs.Label.{labelOf}
+use Rattle.transcript.specs.Called.{directionOf, called}
 use Rattle.transcript.specs.declared.Asked.{Asked}
 
 unfoldable Within : Outcome → Type 0
@@ -78,8 +81,17 @@ unfolding Within
 checked-within Passed o next h = h
 checked-within (Refused r) o next h = omega arith
 
+mode-within : (dir : Direction) (m : Sm4CipherMode) (aad d iv o : List ℕ) → Within (modeCall dir m aad d iv o)
+unfolding modeCall
+mode-within dir m aad d iv o =
+    checked-within
+    (messageCheck (m .cipher .answer) dir (m .mode) (record { iv = length iv; label = length aad; «data» = length d; room = length o }))
+    o (result (m .mode) dir (m .cipher .rk) aad d iv o) (result-within (m .mode) dir (m .cipher .rk) aad d iv o)
+
 pub called-fits : (a : Asked) (key iv d o : List ℕ) (r : Answer) (o′ : List ℕ)
     → outcome r o′ ≡ called a key iv d o
     → headOf r .size ≤ length o′
-unfolding Within called modeCall
-called-fits a key iv d o r o′ e = subst Within (sym e) (checked-within _ o _ (result-within (a .mode) _ _ _ d iv o))
+unfolding Within called
+called-fits a key iv d o r o′ e =
+    subst Within (sym e)
+    (mode-within (directionOf (a .command)) (newCipherMode key (a .mode)) (labelOf (a .job) (a .edition)) d iv o)

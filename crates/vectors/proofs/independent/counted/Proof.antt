@@ -1,3 +1,6 @@
+-- `vectors::independent::counted` is safe and ends. The loop's invariant: `i` is at most 16, which is `out`'s length, and the
+-- carry is at most 1, so that a byte and the carry fit. The measure is `i`, which falls.
+-- Assumes nothing.
 use mathlib.Core.Path.{_≡_}
 use Prim.Native.Nat.{_≤_, _-_}
 use borrow.Author.Needs.{needs}

@@ -1,3 +1,6 @@
+-- `vectors::independent::crypted` is safe and ends. The loop's invariant: at most 32 rounds have gone by, so there is a round
+-- key for the next one, and the state is a block. The measure is the number of rounds left.
+-- Assumes nothing.
 use mathlib.Core.Path.{_≡_}
 use Prim.Native.Nat.{_≤_, _-_}
 use borrow.Author.Needs.{needs}

@@ -1,3 +1,7 @@
+-- `vectors::independent::expanded` is safe and ends. The loop's invariant: at most 32 rounds have gone by, the state is a
+-- block and `keys` has its 128 bytes, which four stores a round keep (`length-set`), so that the stores at 4 i to 4 i + 3
+-- lie inside. The measure is the number of rounds left.
+-- Assumes nothing.
 use mathlib.Core.Path.{_≡_}
 use Prim.Native.Nat.{_≤_, _-_}
 use native.Mathlib.Omega.{arith}

@@ -1,3 +1,6 @@
+-- `vectors::independent::loaded` is safe and ends. The loop's invariant: `i` is at most 16, which is `out`'s length, so each
+-- store lies inside. The measure is the number of bytes left.
+-- Assumes nothing.
 use mathlib.Core.Path.{_≡_}
 use Prim.Native.Nat.{_≤_, _-_}
 use borrow.Author.Needs.{needs}

@@ -1,3 +1,6 @@
+-- `vectors::independent::product` is safe and ends. The loop's invariant: at most 128 coefficients were taken, so 127 - i
+-- names one, and the sum is a block. The measure is the number of coefficients left.
+-- Assumes nothing.
 use mathlib.Core.Path.{_≡_}
 use Prim.Native.Nat.{_≤_, _-_}
 use borrow.Author.Needs.{needs}

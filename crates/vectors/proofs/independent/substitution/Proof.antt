@@ -1,3 +1,6 @@
+-- `vectors::independent::substitution` is safe and ends. The loop's invariant: `x` is at most 256, which is the table's
+-- length, so each store lies inside. The measure is the number of entries left.
+-- Assumes nothing.
 use mathlib.Core.Path.{_≡_}
 use Prim.Native.Nat.{_≤_, _-_}
 use borrow.Author.Needs.{needs}

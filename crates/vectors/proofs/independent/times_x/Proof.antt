@@ -1,3 +1,7 @@
+-- `vectors::independent::times_x` is safe and ends. The loop's invariant: `i` is at most 16, which is `out`'s length, so each
+-- store lies inside, and what is carried is at most 128, so that what is added to the first byte fits. The measure is the
+-- number of bytes left.
+-- Assumes nothing.
 use mathlib.Core.Path.{_≡_}
 use Prim.Native.Nat.{_≤_, _-_}
 use borrow.Author.Needs.{needs}

@@ -1,3 +1,6 @@
+-- `vectors::independent::with_bits` is safe and ends. The loop's invariant: `i` is at most 8 and `out` a block, and `from` is
+-- at most 8, so the place from + 7 - i lies inside. The measure is the number of bytes left.
+-- Assumes nothing.
 use mathlib.Core.Path.{_≡_}
 use Prim.Native.Nat.{_≤_, _-_}
 use borrow.Author.Needs.{needs}

@@ -1,3 +1,6 @@
+-- `vectors::ours::gcm_vector` is safe and ends. The table that is lent is the S-box (`sbox`), and the four tests leave the
+-- lengths that `gcm_both` asks for.
+-- Assumes nothing.
 use native.Mathlib.Omega.{arith}
 use borrow.Author.Needs.{needs}
 use Rattle.vectors.proofs.ours.gcm_vector.Statement.{statement}
@@ -5,8 +8,8 @@ use Rattle.vectors.proofs.ours.gcm_vector.Tie as tie
 
 gcm-both-requires : tie.Need-gcm-both-requires
 gcm-both-requires c κs =
-    let s = c .before .before .before .before .before .before in
-    (s .sbox .ensures, omega (arith, s .before))
+    let at-sbox = c .before .before .before .before .before .before in
+    (at-sbox .sbox .ensures, omega (arith, at-sbox .before))
 
 pub gcm-vector-spec : {M : Type 1} → statement M
 gcm-vector-spec =

@@ -1,3 +1,6 @@
+-- `vectors::ours::over` is safe and ends. The loop's invariant is that `x` is a block, which `one_block` keeps, and the measure
+-- is the number of turns left.
+-- Assumes nothing.
 use mathlib.Core.Path.{_≡_}
 use Prim.Native.Nat.{_-_}
 use borrow.Author.Needs.{needs}

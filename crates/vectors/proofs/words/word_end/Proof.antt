@@ -1,3 +1,6 @@
+-- `vectors::words::word_end` meets its contract. The loop's invariant is what the contract says, of `at`: it lies from `from` to
+-- the end. The measure is what is left of `s`.
+-- Assumes nothing.
 use Prim.Native.Nat.{_≤_, _-_}
 use borrow.Author.Needs.{needs}
 use lib.ListN.{length}

@@ -15,7 +15,7 @@ const CFB_TAIL: u8 = 25;
 
 const LIMIT: usize = 16_777_216;
 
-pub fn write_listed(out: &mut impl Write) -> Result<()> {
+pub fn write_differences(out: &mut impl Write) -> Result<()> {
     let mut calls = vec![
         (
             CBC_OF_NOTHING,
