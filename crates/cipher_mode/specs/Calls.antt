@@ -16,6 +16,7 @@ use Rattle.cipher_mode.specs.declared.CipherMode.{CipherMode}
 use Rattle.cipher_mode.specs.declared.CipherMode.the-variants.{Cfb, Ofb, Ctr, Cbc, Gcm}
 use Rattle.cipher_mode.specs.declared.Direction.{Direction}
 use Rattle.cipher_mode.specs.declared.Direction.the-variants.{Encrypt, Decrypt}
+use Rattle.cipher_mode.specs.declared.checks.Lengths.{Lengths}
 use Rattle.cipher_mode.specs.declared.Sm4Cipher.{Sm4Cipher}
 use Rattle.cipher_mode.specs.declared.Sm4CipherMode.{Sm4CipherMode}
 use Rattle.cipher_mode.specs.Checks.{checked, blockCheck, messageCheck}
@@ -49,17 +50,19 @@ gcmResult Encrypt rk aad d iv o = done (sealed rk (hashKey rk) (J0 rk iv) aad d)
 gcmResult Decrypt rk aad d iv o = gcmOpen rk (hashKey rk) (J0 rk iv) aad d o
 
 -- what the data d gives in a mode, by a direction; the first three modes are done with whatever they are given
-abbrev pub result : CipherMode → Direction → List ℕ → List ℕ → List ℕ → List ℕ → List ℕ → Outcome
-result Cfb dir rk aad d iv o = done (chain (streamMode (cfbKind dir) rk) iv d) o
-result Ofb dir rk aad d iv o = done (chain (streamMode Ofb·kind rk) iv d) o
-result Ctr dir rk aad d iv o = done (chain (streamMode Ctr·kind rk) iv d) o
-result Cbc dir rk aad d iv o = cbcResult dir rk d iv o
-result Gcm dir rk aad d iv o = gcmResult dir rk aad d iv o
+abbrev pub modeResult : CipherMode → Direction → List ℕ → List ℕ → List ℕ → List ℕ → List ℕ → Outcome
+modeResult Cfb dir rk aad d iv o = done (chain (streamMode (cfbKind dir) rk) iv d) o
+modeResult Ofb dir rk aad d iv o = done (chain (streamMode Ofb·kind rk) iv d) o
+modeResult Ctr dir rk aad d iv o = done (chain (streamMode Ctr·kind rk) iv d) o
+modeResult Cbc dir rk aad d iv o = cbcResult dir rk d iv o
+modeResult Gcm dir rk aad d iv o = gcmResult dir rk aad d iv o
+
+-- how many bytes a call was lent of each kind
+abbrev pub lengthsOf : List ℕ → List ℕ → List ℕ → List ℕ → Lengths
+lengthsOf aad d iv o = record { iv = length iv; label = length aad; «data» = length d; room = length o }
 
 -- the data d under the label aad and the IV iv, into the output o
 unfoldable pub modeCall : Direction → Sm4CipherMode → List ℕ → List ℕ → List ℕ → List ℕ → Outcome
 modeCall dir m aad d iv o =
-    checked
-    (messageCheck (m .cipher .answer) dir (m .mode) (record { iv = length iv; label = length aad; «data» = length d; room = length o }))
-    o
-    (result (m .mode) dir (m .cipher .rk) aad d iv o)
+    checked (messageCheck (m .cipher .answer) dir (m .mode) (lengthsOf aad d iv o)) o
+    (modeResult (m .mode) dir (m .cipher .rk) aad d iv o)

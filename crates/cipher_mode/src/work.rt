@@ -12,7 +12,7 @@ ghost use Rattle.gcm.specs.Open.{headOf as gcmHead};
 ghost use Rattle.cipher_mode.specs.Tables.{roomOf};
 ghost use Rattle.cipher_mode.specs.Answer.{headOf, outcome};
 ghost use Rattle.cipher_mode.specs.Checks.{labelCheck, dataCheck};
-ghost use Rattle.cipher_mode.specs.Calls.{keysFor, blockOf, cfbKind, cbcResult, gcmResult, result};
+ghost use Rattle.cipher_mode.specs.Calls.{keysFor, blockOf, cfbKind, cbcResult, gcmResult, modeResult};
 use crate::CipherMode;
 use crate::Direction;
 use crate::answer;
@@ -149,7 +149,7 @@ pub(crate) fn message(
     requires { ⌜ labelCheck mode (length (now aad)) ≡ Checked.Passed ⌝ }
     requires { ⌜ dataCheck direction mode (length (now «data»)) ≡ Checked.Passed ⌝ }
     requires { ⌜ roomOf mode direction (length (now «data»)) ≤ length (now out) ⌝ }
-    ensures { λ r. ⌜ outcome r (now (out .exit)) ≡ result mode direction rk (now (aad .entry)) (now («data» .entry)) (now (iv .entry)) (now (out .entry)) ⌝ }
+    ensures { λ r. ⌜ outcome r (now (out .exit)) ≡ modeResult mode direction rk (now (aad .entry)) (now («data» .entry)) (now (iv .entry)) (now (out .entry)) ⌝ }
 {
     match mode {
         CipherMode::Cfb => by_stream(t, rk, cfb_kind(direction), iv, data, out),

@@ -3,7 +3,7 @@ use mathlib.Core.Path.{_≡_}
 use mathlib.Core.List.{List}
 use Prim.Native.Nat.{ℕ}
 use lib.ListN.{take}
-use Rattle.cipher_mode.specs.Outcome.{Outcome}
+use Rattle.walk.specs.Outcome.{Outcome}
 
 -- a call with its key: the outcome of a label, the data, an IV and the output as it was lent
 abbrev pub Call : Type 0

@@ -4,7 +4,7 @@ use mathlib.Core.List.{List}
 use Prim.Native.Nat.{ℕ, _≤_}
 use lib.ListN.{length}
 use Rattle.block.specs.Below.{AreBytes}
-use Rattle.cipher_mode.specs.Outcome.{Outcome}
+use Rattle.walk.specs.Outcome.{Outcome}
 use Rattle.demands.specs.Call.{Call, result}
 
 -- the call answered 0, with the message d and its length

@@ -20,7 +20,7 @@ use Rattle.gcm.specs.declared.Opened.the-variants.{Done as Gcm·Done, InvalidTa
 use Rattle.gcm.proofs.Parts.{length-text}
 use Rattle.cipher_mode.specs.Answer.{headOf, outcome}
 use Rattle.cipher_mode.specs.Checks.{checked, messageCheck}
-use Rattle.cipher_mode.specs.Calls.{cfbKind, result, modeCall}
+use Rattle.cipher_mode.specs.Calls.{cfbKind, lengthsOf, modeResult, modeCall}
 use Rattle.cipher_mode.specs.declared.answer.Answer.{Answer}
 use Rattle.cipher_mode.specs.declared.checks.Checked.{Checked}
 use Rattle.cipher_mode.specs.declared.checks.Checked.the-variants.{Passed, Refused}
@@ -67,7 +67,7 @@ gcm-within rk h j aad d o =
     let m = length-take-le (length d - 16) d (omega arith) in
     written-within (gcmHead (settled rk h j aad d)) (textOf rk j (textPart d)) o (omega (arith, gcm-size (length d - 16) (opensUnder rk h j aad d)))
 
-result-within : (m : CipherMode) (dir : Direction) (rk aad d iv o : List ℕ) → Within (result m dir rk aad d iv o)
+result-within : (m : CipherMode) (dir : Direction) (rk aad d iv o : List ℕ) → Within (modeResult m dir rk aad d iv o)
 result-within Cfb dir rk aad d iv o = done-within (chain (streamMode (cfbKind dir) rk) iv d) o
 result-within Ofb dir rk aad d iv o = done-within (chain (streamMode Ofb·kind rk) iv d) o
 result-within Ctr dir rk aad d iv o = done-within (chain (streamMode Ctr·kind rk) iv d) o
@@ -84,9 +84,9 @@ checked-within (Refused r) o next h = omega arith
 mode-within : (dir : Direction) (m : Sm4CipherMode) (aad d iv o : List ℕ) → Within (modeCall dir m aad d iv o)
 unfolding modeCall
 mode-within dir m aad d iv o =
-    checked-within
-    (messageCheck (m .cipher .answer) dir (m .mode) (record { iv = length iv; label = length aad; «data» = length d; room = length o }))
-    o (result (m .mode) dir (m .cipher .rk) aad d iv o) (result-within (m .mode) dir (m .cipher .rk) aad d iv o)
+    checked-within (messageCheck (m .cipher .answer) dir (m .mode) (lengthsOf aad d iv o)) o
+    (modeResult (m .mode) dir (m .cipher .rk) aad d iv o)
+    (result-within (m .mode) dir (m .cipher .rk) aad d iv o)
 
 pub called-fits : (a : Asked) (key iv d o : List ℕ) (r : Answer) (o′ : List ℕ)
     → outcome r o′ ≡ called a key iv d o

@@ -3,7 +3,7 @@
 -- Assumes nothing.
 use mathlib.Core.Path.{sym, _∙_}
 use denote.Ref.{now}
-use Rattle.cipher_mode.specs.Calls.{result, modeCall}
+use Rattle.cipher_mode.specs.Calls.{modeResult, modeCall}
 use Rattle.cipher_mode.proofs.Passed.{message-passed}
 use Rattle.cipher_mode.proofs.Ends.{refused-there, went-on}
 use borrow.Author.Needs.{needs}
@@ -17,7 +17,7 @@ returns c =
     let at-check = told .before .before in
     let a = at-check .before .before .before .before .before .before .args in
     let o = now (a .out) in
-    let next = result (a .self .mode) (a .direction) (a .self .cipher .rk) (now (a .aad)) (now (a .«data»)) (now (a .iv)) o in
+    let next = modeResult (a .self .mode) (a .direction) (a .self .cipher .rk) (now (a .aad)) (now (a .«data»)) (now (a .iv)) o in
     refused-there (c .refused .result) _ _ o next (c .refused .ensures) (sym (at-check .message .ensures) ∙ told .checked .given .1)
 
 message-requires-2 : tie.Need-message-requires-2
@@ -34,7 +34,7 @@ returns-2 c =
     let told = at-work .before .before .before .before .before in
     let a = told .before .before .before .before .before .before .before .before .args in
     let o = now (a .out) in
-    let next = result (a .self .mode) (a .direction) (a .self .cipher .rk) (now (a .aad)) (now (a .«data»)) (now (a .iv)) o in
+    let next = modeResult (a .self .mode) (a .direction) (a .self .cipher .rk) (now (a .aad)) (now (a .«data»)) (now (a .iv)) o in
     went-on _ o _ next (sym (told .before .before .message .ensures) ∙ told .enum-told .given .1) (at-work .message2 .ensures)
 
 pub call-spec : {M : Type 1} → statement M
