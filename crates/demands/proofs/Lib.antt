@@ -7,3 +7,16 @@ pub mod EveryCallAnswers
 pub mod UniqueOutcomes
 pub mod NoUsableKey
 pub mod LabelIgnored
+-- demand 2
+pub mod ModesBack
+pub mod ThereAndBack
+-- demand 3, and what the demands were for
+pub mod OtherHash
+pub mod OneBlockRefused
+pub mod ZeroKey
+pub mod OtherEdition
+pub mod TrailingZero
+-- the worked table and the imposters
+pub mod Worked
+pub mod ZeroCipher
+pub mod Imposters

@@ -19,7 +19,7 @@ module _ (rk : List ℕ) (h : ℕ) (j label s o : List ℕ) where
   open-refused closed = rw closed
 
   -- the text has as many bytes as are reported
-  text-size : 16 ≤ length s → length (textOf rk j (textPart s)) ≡ length s - 16
+  pub text-size : 16 ≤ length s → length (textOf rk j (textPart s)) ≡ length s - 16
   text-size n = length-text rk j (textPart s) ∙ length-take-le (length s - 16) s (omega arith)
 
   -- done, with the text at the front of the output

@@ -1,0 +1,167 @@
+-- In each mode, what encrypting gave is in order for decrypting and decrypts to the message; outside Cbc also the other way
+-- about.
+-- Assumes nothing.
+use mathlib.Core.Path.{_≡_, refl, sym, ap, _∙_}
+use mathlib.Core.Logic.{_≢_}
+use mathlib.Core.Bool.{Bool, true, false}
+use mathlib.Core.List.{List}
+use Prim.Native.Nat.{ℕ, _%_, _≤_}
+use native.Mathlib.Omega.{arith}
+use lib.ListN.{length}
+use borrow.Author.Tests.{eq-eqb, ne-eqb, le-ltb}
+use Rattle.block.specs.Below.{AreBytes}
+use Rattle.walk.specs.Outcome.{Outcome, done}
+use Rattle.walk.specs.Walk.{chain}
+use Rattle.stream.specs.Stream.{streamMode}
+use Rattle.stream.specs.declared.Kind.the-variants.{CfbEncrypt, CfbDecrypt, Ofb as Ofb·kind, Ctr as Ctr·kind}
+use Rattle.stream.proofs.RoundTrip.{length-stream, stream-back, stream-forth}
+use Rattle.cbc.specs.Cbc.{cbcSeal}
+use Rattle.cbc.proofs.RoundTrip.{length-cbcSeal, cbc-back}
+use Rattle.gcm.specs.Gcm.{hashKey, J0, sealed, textOf, textPart, opensUnder}
+use Rattle.gcm.specs.Open.{gcmOpen}
+use Rattle.gcm.proofs.Parts.{length-sealed}
+use Rattle.gcm.proofs.RoundTrip.{opens-sealed, text-of-sealed, sealed-of-opened}
+use Rattle.gcm.proofs.Settled.{text-size, open-refused, open-done}
+use Rattle.cipher_mode.specs.declared.CipherMode.{CipherMode}
+use Rattle.cipher_mode.specs.declared.CipherMode.the-variants.{Cfb, Ofb, Ctr, Cbc, Gcm}
+use Rattle.cipher_mode.specs.declared.Direction.the-variants.{Encrypt, Decrypt}
+use Rattle.cipher_mode.specs.declared.checks.Checked.the-variants.{Passed}
+use Rattle.cipher_mode.specs.Tables.{limit, sealedLimit}
+use Rattle.cipher_mode.specs.Checks.{dataCheck}
+use Rattle.cipher_mode.specs.Calls.{modeResult}
+use Rattle.cipher_mode.proofs.Passed.{data-within, with-tag-passed}
+
+-- the message that d is encrypted to
+abbrev pub encrypted : CipherMode → List ℕ → List ℕ → List ℕ → List ℕ → List ℕ
+encrypted Cfb rk aad d iv = chain (streamMode CfbEncrypt rk) iv d
+encrypted Ofb rk aad d iv = chain (streamMode Ofb·kind rk) iv d
+encrypted Ctr rk aad d iv = chain (streamMode Ctr·kind rk) iv d
+encrypted Cbc rk aad d iv = cbcSeal rk iv d
+encrypted Gcm rk aad d iv = sealed rk (hashKey rk) (J0 rk iv) aad d
+
+pub encrypts : (m : CipherMode) (rk aad d iv o : List ℕ) → modeResult m Encrypt rk aad d iv o ≡ done (encrypted m rk aad d iv) o
+encrypts Cfb rk aad d iv o = refl
+encrypts Ofb rk aad d iv o = refl
+encrypts Ctr rk aad d iv o = refl
+encrypts Cbc rk aad d iv o = refl
+encrypts Gcm rk aad d iv o = refl
+
+-- lengths that decryption takes
+whole-passes : (n : ℕ) → n ≤ sealedLimit → 16 ≤ n → n % 16 ≡ 0 → dataCheck Decrypt Cbc n ≡ Passed
+unfolding dataCheck
+whole-passes n h k e = rw (le-ltb sealedLimit n h, ne-eqb n 0 (λ z. omega arith), eq-eqb (n % 16) 0 e)
+
+pub tagged-passes : (n : ℕ) → n ≤ sealedLimit → 16 ≤ n → dataCheck Decrypt Gcm n ≡ Passed
+unfolding dataCheck
+tagged-passes n h k = rw (le-ltb sealedLimit n h, le-ltb n 16 k)
+
+-- the message c is in order for decrypting, and decrypts to d
+pub record Decrypts (m : CipherMode) (rk aad c iv d : List ℕ) : Type 0 where
+  pub content : dataCheck Decrypt m (length c) ≡ Passed
+  pub opened : (o : List ℕ) → modeResult m Decrypt rk aad c iv o ≡ done d o
+
+module _ (rk aad d iv : List ℕ) (sixteen : length iv ≡ 16) (iv-bytes : AreBytes iv) (d-bytes : AreBytes d) where
+  cbc-decrypts : length d ≤ limit → Decrypts Cbc rk aad (cbcSeal rk iv d) iv d
+  cbc-decrypts l =
+      let n = length-cbcSeal rk iv d in
+      record {
+        content = whole-passes (length (cbcSeal rk iv d)) (omega arith) (omega arith) (omega arith);
+        opened = cbc-back rk iv d sixteen iv-bytes d-bytes;
+      }
+
+  gcm-decrypts : length d ≤ limit → Decrypts Gcm rk aad (encrypted Gcm rk aad d iv) iv d
+  gcm-decrypts l =
+      let h = hashKey rk in
+      let j = J0 rk iv in
+      let c = sealed rk h j aad d in
+      let n = length-sealed rk h j aad d in
+      record {
+        content = tagged-passes (length c) (omega arith) (omega arith);
+        opened = λ o.
+            sym (open-done rk h j aad c o (omega arith) (opens-sealed rk h j aad d))
+            ∙ ap {B = Outcome} (λ (p : List ℕ). done p o) (text-of-sealed rk h j aad d);
+      }
+
+  -- in every mode
+  pub back : (m : CipherMode) → dataCheck Encrypt m (length d) ≡ Passed → Decrypts m rk aad (encrypted m rk aad d iv) iv d
+  unfolding dataCheck
+  back Cfb e =
+      record {
+        content = rw (length-stream CfbEncrypt rk iv d) e;
+        opened = λ o. ap {B = Outcome} (λ (p : List ℕ). done p o) (stream-back CfbEncrypt rk iv d);
+      }
+  back Ofb e =
+      record {
+        content = rw (length-stream Ofb·kind rk iv d) e;
+        opened = λ o. ap {B = Outcome} (λ (p : List ℕ). done p o) (stream-back Ofb·kind rk iv d);
+      }
+  back Ctr e =
+      record {
+        content = rw (length-stream Ctr·kind rk iv d) e;
+        opened = λ o. ap {B = Outcome} (λ (p : List ℕ). done p o) (stream-back Ctr·kind rk iv d);
+      }
+  back Cbc e = cbc-decrypts (data-within Encrypt Cbc (length d) e)
+  back Gcm e = gcm-decrypts (data-within Encrypt Gcm (length d) e)
+
+-- the data c decrypted to a text that is in order for encrypting, and encrypts to c
+pub record Encrypts (m : CipherMode) (rk aad c iv o : List ℕ) : Type 0 where
+  pub text : List ℕ
+  pub opened : modeResult m Decrypt rk aad c iv o ≡ done text o
+  pub content : dataCheck Encrypt m (length text) ≡ Passed
+  pub again : encrypted m rk aad text iv ≡ c
+
+-- a message of Gcm that was opened is one that opens
+opens-by : (rk : List ℕ) (h : ℕ) (j aad c o : List ℕ) (t : Bool) → opensUnder rk h j aad c ≡ t
+    → gcmOpen rk h j aad c o .head .number ≡ 0 → opensUnder rk h j aad c ≡ true
+opens-by rk h j aad c o true e z = e
+opens-by rk h j aad c o false e z =
+    let four : _≡_ {A = ℕ} 4 0 = ap (λ (x : Outcome). x .head .number) (open-refused rk h j aad c o e) ∙ z in
+    absurd (omega arith)
+
+pub opened-opens : (rk : List ℕ) (h : ℕ) (j aad c o : List ℕ) → gcmOpen rk h j aad c o .head .number ≡ 0 → opensUnder rk h j aad c ≡ true
+opened-opens rk h j aad c o = opens-by rk h j aad c o (opensUnder rk h j aad c) refl
+
+module _ (rk aad c iv o : List ℕ) where
+  gcm-encrypts : dataCheck Decrypt Gcm (length c) ≡ Passed → modeResult Gcm Decrypt rk aad c iv o .head .number ≡ 0 → Encrypts Gcm rk aad c iv o
+  unfolding dataCheck
+  gcm-encrypts e z =
+      let h = hashKey rk in
+      let j = J0 rk iv in
+      let n = with-tag-passed (length c) e in
+      let l = data-within Decrypt Gcm (length c) e in
+      let t = opened-opens rk h j aad c o z in
+      let k = text-size rk h j aad c o n in
+      record {
+        text = textOf rk j (textPart c);
+        opened = sym (open-done rk h j aad c o n t);
+        content = rw (le-ltb limit (length (textOf rk j (textPart c))) (omega arith));
+        again = sealed-of-opened rk h j aad c t;
+      }
+
+  -- in every mode but Cbc
+  pub forth : (m : CipherMode) → m ≢ Cbc → dataCheck Decrypt m (length c) ≡ Passed → modeResult m Decrypt rk aad c iv o .head .number ≡ 0
+      → Encrypts m rk aad c iv o
+  unfolding dataCheck
+  forth Cfb n e z =
+      record {
+        text = chain (streamMode CfbDecrypt rk) iv c;
+        opened = refl;
+        content = rw (length-stream CfbDecrypt rk iv c) e;
+        again = stream-forth CfbEncrypt rk iv c;
+      }
+  forth Ofb n e z =
+      record {
+        text = chain (streamMode Ofb·kind rk) iv c;
+        opened = refl;
+        content = rw (length-stream Ofb·kind rk iv c) e;
+        again = stream-forth Ofb·kind rk iv c;
+      }
+  forth Ctr n e z =
+      record {
+        text = chain (streamMode Ctr·kind rk) iv c;
+        opened = refl;
+        content = rw (length-stream Ctr·kind rk iv c) e;
+        again = stream-forth Ctr·kind rk iv c;
+      }
+  forth Cbc n e z = absurd (n refl)
+  forth Gcm n e z = gcm-encrypts e z

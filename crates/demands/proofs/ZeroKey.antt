@@ -1,0 +1,53 @@
+-- Why demand 3 speaks of keys that do not encrypt the all-zero block to itself: under any other
+-- key a tag says nothing of the label.
+-- Assumes nothing.
+use mathlib.Core.Path.{_≡_, sym, ap, _∙_}
+use mathlib.Core.List.{List}
+use Prim.Native.Nat.{ℕ, _≤_}
+use lib.ListN.{length, replicate}
+use Rattle.cipher.specs.Sm4.{encryptBlock, roundKeys}
+use Rattle.ghash.specs.Ghash.{ghash, authBlocks}
+use Rattle.ghash.proofs.ZeroKey.{ghash-zero-key}
+use Rattle.gcm.specs.Gcm.{hashKey, J0, textPart}
+use Rattle.gcm.proofs.HashKey.{hashKey-zero}
+use Rattle.gcm.proofs.TagTells.{opens-alike}
+use Rattle.gcm.specs.Open.{settled, gcmOpen}
+use Rattle.cipher_mode.specs.declared.Direction.the-variants.{Decrypt}
+use Rattle.cipher_mode.specs.declared.Sm4Cipher.{Sm4Cipher}
+use Rattle.cipher_mode.specs.Key.{newCipher, newCipherMode}
+use Rattle.cipher_mode.specs.Tables.{limit}
+use Rattle.cipher_mode.specs.Calls.{modeCall}
+use Rattle.luossavin.specs.Host.{modeOf, hostModeCall}
+use Rattle.demands.specs.Call.{inGcm}
+use Rattle.demands.proofs.Through.{through, leaves}
+use Rattle.demands.proofs.Exported.{new-key}
+use Rattle.demands.proofs.OtherHash.{Fits, gcm-fits, gcm-in-order}
+
+-- Where the all-zero block is encrypted to itself, H is 0, and so is every hash.
+pub every-hash-zero : (rk bs : List ℕ) → encryptBlock rk (replicate 16 0) ≡ replicate 16 0 → ghash (hashKey rk) bs ≡ 0
+every-hash-zero rk bs e = ap (λ (h : ℕ). ghash h bs) (hashKey-zero rk e) ∙ ghash-zero-key bs
+
+-- So whatever opens under one label opens under any other that is not too long, with the same outcome.
+pub any-label-opens : (c : Sm4Cipher) → encryptBlock (c .rk) (replicate 16 0) ≡ replicate 16 0
+    → (a₁ a₂ s iv o : List ℕ) → length a₂ ≤ limit
+    → modeCall Decrypt (inGcm c) a₁ s iv o .head .number ≡ 0 → modeCall Decrypt (inGcm c) a₂ s iv o ≡ modeCall Decrypt (inGcm c) a₁ s iv o
+unfolding gcmOpen settled
+any-label-opens c e a₁ a₂ s iv o l opens =
+    let rk = c .rk in
+    let h = hashKey rk in
+    let p = through Decrypt (inGcm c) a₁ s iv o opens in
+    let f = gcm-fits c a₁ s iv o opens in
+    let fits : Fits a₂ s o = record { label = l; longest = f .longest; shortest = f .shortest; room = f .room } in
+    let same : ghash h (authBlocks a₂ (textPart s)) ≡ ghash h (authBlocks a₁ (textPart s)) =
+    every-hash-zero rk _ e ∙ sym (every-hash-zero rk _ e) in
+    leaves Decrypt (inGcm c) a₂ s iv o (gcm-in-order c a₂ s iv o (p .key) (p .iv-size) fits)
+    ∙ rw (opens-alike rk h (J0 rk iv) a₂ a₁ s same) (sym (leaves Decrypt (inGcm c) a₁ s iv o p))
+
+-- The same of the exported call with mode 4.
+pub exported-any-label-opens : (key : List ℕ) → encryptBlock (roundKeys key) (replicate 16 0) ≡ replicate 16 0
+    → (a₁ a₂ s iv o : List ℕ) → length a₂ ≤ limit
+    → hostModeCall Decrypt 4 key a₁ s iv o .head .number ≡ 0 → hostModeCall Decrypt 4 key a₂ s iv o ≡ hostModeCall Decrypt 4 key a₁ s iv o
+unfolding hostModeCall modeOf newCipherMode
+exported-any-label-opens key e a₁ a₂ s iv o l opens =
+    let c = newCipher key in
+    any-label-opens c (rw (new-key key (through Decrypt (inGcm c) a₁ s iv o opens .key)) e) a₁ a₂ s iv o l opens
