@@ -17,7 +17,8 @@ use Rattle.cipher_mode.specs.declared.checks.Checked.{Checked}
 use Rattle.cipher_mode.specs.declared.checks.Checked.the-variants.{Passed, Refused}
 use Rattle.cipher_mode.specs.declared.checks.Lengths.{Lengths}
 use Rattle.cipher_mode.specs.Tables.{limit, limitOf, roomOf}
-use Rattle.cipher_mode.specs.Checks.{refuse, andThen, noKey, wrongIv, keyAndIv, labelCheck, shapeCheck, dataCheck, roomCheck, messageCheck, blockCheck}
+use Rattle.cipher_mode.specs.Checks.{refuse, andThen, noKey, wrongIv, keyAndIv, labelCheck, shapeCheck, dataCheck}
+use Rattle.cipher_mode.specs.Checks.{roomCheck, messageCheck, blockCheck}
 
 -- a test that refused nothing does not hold, and what comes next passed
 record Let-through (test : Bool) (next : Checked) : Type 0 where

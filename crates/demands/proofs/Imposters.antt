@@ -54,7 +54,9 @@ nothing-in-order a k Gcm = record { key = k; iv-size = refl; label = refl; conte
 pub refusing-all-breaks-demand-2 : (m : Sm4CipherMode) → m .cipher .answer ≡ Key → (room : ℕ → ℕ)
     → ¬ ThereAndBack room (modeCall Encrypt m) refusesAll
 refusing-all-breaks-demand-2 m k room back =
-    let x = leaves Encrypt m [] [] zeros zeros (nothing-in-order (m .cipher .answer) k (m .mode)) ∙ encrypts (m .mode) (m .cipher .rk) [] [] zeros zeros in
+    let x =
+    leaves Encrypt m [] [] zeros zeros (nothing-in-order (m .cipher .answer) k (m .mode))
+    ∙ encrypts (m .mode) (m .cipher .rk) [] [] zeros zeros in
     let e : modeCall Encrypt m [] [] zeros zeros .head .number ≡ 0 = ap (λ (x : Outcome). x .head .number) x in
     let n = room (modeCall Encrypt m [] [] zeros zeros .head .size) in
     let r = back [] [] zeros zeros (replicate n 0) tt (below-replicate 256 16 0 (lit< tt)) e (le-of-eq (sym (length-replicate n 0))) in

@@ -122,7 +122,8 @@ pub opened-opens : (rk : List ℕ) (h : ℕ) (j aad c o : List ℕ) → gcmOpen 
 opened-opens rk h j aad c o = opens-by rk h j aad c o (opensUnder rk h j aad c) refl
 
 module _ (rk aad c iv o : List ℕ) where
-  gcm-encrypts : dataCheck Decrypt Gcm (length c) ≡ Passed → modeResult Gcm Decrypt rk aad c iv o .head .number ≡ 0 → Encrypts Gcm rk aad c iv o
+  gcm-encrypts : dataCheck Decrypt Gcm (length c) ≡ Passed → modeResult Gcm Decrypt rk aad c iv o .head .number ≡ 0
+      → Encrypts Gcm rk aad c iv o
   unfolding dataCheck
   gcm-encrypts e z =
       let h = hashKey rk in

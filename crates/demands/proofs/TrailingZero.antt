@@ -30,7 +30,8 @@ label-zero-refused c moves a file iv o₁ o₂ odd eo opens =
     let longer : length (a ++ (0 ∷ [])) ≡ length a + 1 = length-append a (0 ∷ []) in
     let text : length (textPart file) ≡ length file - 16 = length-take-le (length file - 16) file (omega arith) in
     other-label-refused c a (a ++ (0 ∷ [])) file iv o₁ o₂ (omega (arith, l .label)) eo
-    (label-zero (hashKey rk) (hashKey-lt rk) (hash-key-nonzero rk moves) a (textPart file) (omega (arith, l .label)) (omega (arith, l .longest)) odd)
+    (label-zero (hashKey rk) (hashKey-lt rk) (hash-key-nonzero rk moves) a (textPart file)
+    (omega (arith, l .label)) (omega (arith, l .longest)) odd)
     opens
 
 -- Under such a key a file that opens in Gcm and whose ciphertext's length is not divisible by 16 is refused as 4 with one zero

@@ -57,7 +57,8 @@ pub unique-new-cipher : (key : List ℕ) (r₁ r₂ : Sm4Cipher) → r₁ ≡ ne
 unique-new-cipher key r₁ r₂ e₁ e₂ = e₁ ∙ sym e₂
 
 -- Any two records that setting up a key with a mode may give are the same.
-pub unique-new-cipher-mode : (key : List ℕ) (mode : CipherMode) (r₁ r₂ : Sm4CipherMode) → r₁ ≡ newCipherMode key mode → r₂ ≡ newCipherMode key mode → r₁ ≡ r₂
+pub unique-new-cipher-mode : (key : List ℕ) (mode : CipherMode) (r₁ r₂ : Sm4CipherMode)
+    → r₁ ≡ newCipherMode key mode → r₂ ≡ newCipherMode key mode → r₁ ≡ r₂
 unique-new-cipher-mode key mode r₁ r₂ e₁ e₂ = e₁ ∙ sym e₂
 
 -- A call on one block, either way, has one outcome.

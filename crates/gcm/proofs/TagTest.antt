@@ -63,7 +63,8 @@ module _ (a b : List ℕ) (na : length a ≡ 4) (nb : length b ≡ 4) where
 
 -- as `opens` has it: f the words of the message's tag part, e those of the recomputed tag, d the xor of the two
 pub opens-words : (rk j label s f e d p q : List ℕ) (h : ℕ) → 16 ≤ length s → AreBytes s → p ≡ tagPart s → f ≡ words p
-    → length e ≡ 4 → AreWords e → q ≡ textPart s → unwords e ≡ tagOf rk h j label q → d ≡ xors f e → eqb (anyBit d) 0 ≡ opensUnder rk h j label s
+    → length e ≡ 4 → AreWords e → q ≡ textPart s → unwords e ≡ tagOf rk h j label q → d ≡ xors f e
+    → eqb (anyBit d) 0 ≡ opensUnder rk h j label s
 unfolding opensUnder
 opens-words rk j label s f e d p q h n b ep ef le we eq ee ed =
     let bt : AreBytes (tagPart s) = below-drop 256 (length s - 16) s b in

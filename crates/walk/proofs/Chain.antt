@@ -15,7 +15,8 @@ pub chain-rest : (m : Mode) (s d : List ℕ) → length d < 16 → chain m s d �
 unfolding chain walk
 chain-rest m s d h = let e : length d / 16 ≡ 0 = omega arith in rw e
 
-pub chain-block : (m : Mode) (s d : List ℕ) → 16 ≤ length d → chain m s d ≡ m .block s (take 16 d) ++ chain m (m .next s (take 16 d)) (drop 16 d)
+pub chain-block : (m : Mode) (s d : List ℕ) → 16 ≤ length d
+    → chain m s d ≡ m .block s (take 16 d) ++ chain m (m .next s (take 16 d)) (drop 16 d)
 unfolding chain walk
 chain-block m s d h =
     let e : length d / 16 ≡ suc (length (drop 16 d) / 16) = rw length-drop (omega arith) in

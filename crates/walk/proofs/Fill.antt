@@ -20,7 +20,8 @@ pub copy-turn : (s o b : List ℕ) (i : ℕ) → b ≡ take i s ++ drop i o → 
     → set b i (getD s i 0) ≡ take (i + 1) s ++ drop (i + 1) o
 copy-turn s o b i e h k = rw e (fill-turn (take i s) o i (getD s i 0) (length-take-le i s (omega arith)) k ∙ rw (add-one, take-suc s i 0))
 
-xors-suc : (a b : List ℕ) (i : ℕ) → i < length a → i < length b → xors (take (suc i) a) b ≡ xors (take i a) b ++ ((getD a i 0 ⊕ getD b i 0) ∷ [])
+xors-suc : (a b : List ℕ) (i : ℕ) → i < length a → i < length b
+    → xors (take (suc i) a) b ≡ xors (take i a) b ++ ((getD a i 0 ⊕ getD b i 0) ∷ [])
 xors-suc [] b i h k = absurd (omega arith)
 xors-suc (x ∷ a) [] i h k = absurd (omega arith)
 xors-suc (x ∷ a) (y ∷ b) zero h k = refl

@@ -27,7 +27,9 @@ pub tail-is : (d : List ℕ) (at : ℕ) → tailed at d ≡ drop at d
 tail-is d at = take-all (length d - at) (drop at d) (rw length-drop (omega arith))
 
 pub returned-is : (o t : List ℕ) (at : ℕ) → returned at o t ≡ take at o ++ t
-returned-is o t at = let h : length (drop at o) ≤ length o - at = rw length-drop (omega arith) in rw (drop-of-length-le (drop at o) h, append-nil)
+returned-is o t at =
+    let h : length (drop at o) ≤ length o - at = rw length-drop (omega arith) in
+    rw (drop-of-length-le (drop at o) h, append-nil)
 
 pub length-tailed : (d : List ℕ) (at : ℕ) → length (tailed at d) ≡ length d - at
 length-tailed d at = rw (tail-is d at, length-drop)

@@ -44,7 +44,8 @@ loop-again c =
     let written = at-step .decrypt-step .last .1 .1 .1 .1 .0 in (
       omega arith,
       omega arith,
-      turn (cbcDecrypt rk) (unwords s) _ d (at-loop .loop .out) written b at (omega arith) (omega arith) front full (stepped .0) (stepped .1)
+      turn (cbcDecrypt rk) (unwords s) _ d (at-loop .loop .out) written b at (omega arith) (omega arith) front full
+          (stepped .0) (stepped .1)
           ∙ at-loop .loop .inv .2,
     )
 

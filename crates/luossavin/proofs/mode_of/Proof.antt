@@ -22,7 +22,9 @@ unfolding modeOf
 returns-4 c = rw (c .match .keys4)
 
 returns-5 : tie.Need-returns-5
-returns-5 c = gcm-above (c .before .args .mode) (c .match .rest .0 .0 .0 .1) (c .match .rest .0 .0 .1) (c .match .rest .0 .1) (c .match .rest .1)
+returns-5 c =
+    let others = c .match .rest in
+    gcm-above (c .before .args .mode) (others .0 .0 .0 .1) (others .0 .0 .1) (others .0 .1) (others .1)
 
 pub mode-of-spec : {M : Type 1} → statement M
 mode-of-spec = tie.close (tie.spec returns returns-2 returns-3 returns-4 returns-5)

@@ -11,7 +11,10 @@ returns : tie.Need-returns
 returns c = sym (ap endingHead (c .before .ending .given .1))
 
 returns-2 : tie.Need-returns-2
-returns-2 c = c .refusal .ensures ∙ ap refused (c .before .number .ensures) ∙ sym (ap endingHead (c .before .before .before .ending2 .given .1))
+returns-2 c =
+    let at-number = c .before in
+    let told = at-number .before .before in
+    c .refusal .ensures ∙ ap refused (at-number .number .ensures) ∙ sym (ap endingHead (told .ending2 .given .1))
 
 pub report-spec : {M : Type 1} → statement M
 report-spec =

@@ -21,7 +21,8 @@ returns c =
     let at-check = told .before .before in
     let a = at-check .before .before .before .args in
     let o = now (a .out) in
-    refused-there (c .refused .result) _ _ o (done (blockOf (a .direction) (a .self .rk) (now (a .block-in))) o) (c .refused .ensures) (sym (at-check .block .ensures) ∙ told .checked .given .1)
+    refused-there (c .refused .result) _ _ o (done (blockOf (a .direction) (a .self .rk) (now (a .block-in))) o) (c .refused .ensures)
+    (sym (at-check .block .ensures) ∙ told .checked .given .1)
 
 block-requires-2 : tie.Need-block-requires-2
 block-requires-2 c κs =

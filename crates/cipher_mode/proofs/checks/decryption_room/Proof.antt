@@ -1,5 +1,4 @@
--- `cipher_mode::checks::decryption_room` meets its contract: in each arm the mode is known, and the table gives that arm. In Gcm data that is in
--- order has a tag.
+-- `cipher_mode::checks::decryption_room` meets its contract: the mode picks the table's row, and Gcm's data in order has a tag.
 -- Assumes nothing.
 use native.Mathlib.Omega.{arith}
 use Rattle.cipher_mode.proofs.Passed.{with-tag-passed}

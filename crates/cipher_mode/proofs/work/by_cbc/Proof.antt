@@ -1,5 +1,4 @@
--- `cipher_mode::work::by_cbc` meets its contract: the words of the IV spell it; sealing is as long as the table says, and opening answers
--- what `cbc::decrypt` does.
+-- `cipher_mode::work::by_cbc` meets its contract: sealing is as long as the table says, and opening answers as `cbc::decrypt`.
 -- Assumes nothing.
 use mathlib.Core.Path.{_≡_, sym, ap, _∙_}
 use mathlib.Core.List.{List}
@@ -73,7 +72,8 @@ returns-2 c =
     let d = now (a .«data») in
     let o = now (a .out) in
     rw (told .enum-told2 .given .1)
-    (ap {B = Outcome} (λ (h : Head). leaving h (at-decrypt .decrypt .last .1 .1 .1 .1 .0)) (c .cbc-answer .ensures) ∙ at-decrypt .decrypt .ensures
+    (ap {B = Outcome} (λ (h : Head). leaving h (at-decrypt .decrypt .last .1 .1 .1 .1 .0)) (c .cbc-answer .ensures)
+    ∙ at-decrypt .decrypt .ensures
     ∙ ap {B = Outcome} (λ (s : List ℕ). cbcOpen (a .rk) s d o) (is-iv at-split))
 
 pub by-cbc-spec : {M : Type 1} → statement M

@@ -1,5 +1,4 @@
--- `cipher_mode::work::by_gcm` meets its contract: H and J0 are those of the round keys and the IV; sealing is as long as the table says,
--- and opening answers what `gcm::decrypt` does.
+-- `cipher_mode::work::by_gcm` meets its contract: with H and J0 of keys and IV, as long as the table says or as `gcm::decrypt`.
 -- Assumes nothing.
 use mathlib.Core.Path.{_≡_, sym, ap, ap₂, _∙_}
 use mathlib.Core.List.{List}
@@ -22,7 +21,8 @@ use Rattle.cipher_mode.proofs.work.by_gcm.Tie as tie
 
 is-j0 : (x : tie.After-first-counter)
     → unwords (x .first-counter .result)
-    ≡ J0 (x .before .before .before .before .before .before .before .args .rk) (now (x .before .before .before .before .before .before .before .args .iv))
+    ≡ J0 (x .before .before .before .before .before .before .before .args .rk)
+    (now (x .before .before .before .before .before .before .before .args .iv))
 is-j0 x =
     let a = x .before .before .before .before .before .before .before .args in
     x .first-counter .ensures ∙ ap (λ (h : ℕ). firstCounter h (now (a .iv))) (x .before .hash-key .ensures)
@@ -79,7 +79,8 @@ returns-2 c =
     let d = now (a .«data») in
     let o = now (a .out) in
     rw (told .enum-told2 .given .1)
-    (ap {B = Outcome} (λ (h : Head). leaving h (at-decrypt .decrypt .last .1 .1 .1 .1 .1 .1 .0)) (c .gcm-answer .ensures) ∙ at-decrypt .decrypt .ensures
+    (ap {B = Outcome} (λ (h : Head). leaving h (at-decrypt .decrypt .last .1 .1 .1 .1 .1 .1 .0)) (c .gcm-answer .ensures)
+    ∙ at-decrypt .decrypt .ensures
     ∙ ap₂ {C = Outcome} (λ (h : ℕ) (j : List ℕ). gcmOpen (a .rk) h j aad d o) (at-counter .before .hash-key .ensures) (is-j0 at-counter))
 
 pub by-gcm-spec : {M : Type 1} → statement M

@@ -1,4 +1,4 @@
--- `cipher_mode::work::by_stream` meets its contract: the words of the IV spell it, the stream writes the chain, and that is as long as the data.
+-- `cipher_mode::work::by_stream` meets its contract: the IV's words spell it, and the chain is as long as the data.
 -- Assumes nothing.
 use mathlib.Core.Path.{ap, _∙_}
 use mathlib.Core.List.{List}

@@ -50,7 +50,8 @@ returns c =
     let a = told .before .before .before .before .before .before .before .args in
     rw (told .enum-told .given .1)
     (at-stream .by-stream .ensures
-    ∙ ap {B = Outcome} (λ (k : Kind). done (chain (streamMode k (a .rk)) (now (a .iv)) (now (a .«data»))) (now (a .out))) (at-kind .cfb-kind .ensures))
+    ∙ ap {B = Outcome} (λ (k : Kind). done (chain (streamMode k (a .rk)) (now (a .iv)) (now (a .«data»))) (now (a .out)))
+    (at-kind .cfb-kind .ensures))
 
 returns-2 : tie.Need-returns-2
 returns-2 c =
