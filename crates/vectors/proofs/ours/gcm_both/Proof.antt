@@ -1,5 +1,5 @@
 -- `vectors::ours::gcm_both` is safe and ends. The label and the result have at most 256 bytes, which is within Gcm's limits and
--- the room of both outputs, and the result is 16 bytes longer than the text: with the S-box, all that `encrypt` and `decrypt`
+-- the room of both outputs, and the result is 16 bytes longer than the text: with the engine, all that `encrypt` and `decrypt`
 -- ask.
 -- Assumes nothing.
 use native.Mathlib.Omega.{arith}
@@ -9,7 +9,7 @@ use Rattle.vectors.proofs.ours.gcm_both.Tie as tie
 
 decrypt-requires : tie.Need-decrypt-requires
 decrypt-requires c κs =
-    let at-start = c .before .before .before .before .before .before .before .before .before .before in
+    let at-start = c .before .before .before .before .before .before .before .before .before .before .before in
     (at-start .pre .0, (omega (arith, at-start .pre .1), omega (arith, at-start .pre .1)))
 
 pub gcm-both-spec : {M : Type 1} → statement M
