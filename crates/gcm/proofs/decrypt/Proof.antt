@@ -59,10 +59,5 @@ pub decrypt-spec : {M : Type 1} → statement M
 decrypt-spec =
     tie.close
     (tie.spec
-    (λ c κs. search needs)
-    (λ c κs. search needs)
-    (λ c κs. search needs)
-    stream-requires
-    (λ c. search needs)
-    returns
+    (λ c κs. search needs) (λ c κs. search needs) (λ c κs. search needs) stream-requires (λ c. search needs) returns
     returns-2)

@@ -55,13 +55,5 @@ pub opens-spec : {M : Type 1} → statement M
 opens-spec =
     tie.close
     (tie.spec
-    (λ c κs. search needs)
-    tag-requires
-    (λ c κs. search needs)
-    split-block-requires
-    (λ c κs. search needs)
-    (λ c. search needs)
-    (λ c. search needs)
-    (λ c. search needs)
-    (λ c. search needs)
-    returns)
+    (λ c κs. search needs) tag-requires (λ c κs. search needs) split-block-requires (λ c κs. search needs)
+    (λ c. search needs) (λ c. search needs) (λ c. search needs) (λ c. search needs) returns)

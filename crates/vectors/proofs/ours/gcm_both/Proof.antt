@@ -16,13 +16,5 @@ pub gcm-both-spec : {M : Type 1} → statement M
 gcm-both-spec =
     tie.close
     (tie.spec
-    (λ c. search needs)
-    (λ c κs. search needs)
-    (λ c. search needs)
-    (λ c κs. search needs)
-    (λ c. search needs)
-    (λ c. search needs)
-    decrypt-requires
-    (λ c. search needs)
-    (λ c κs. search needs)
-    (λ c. search needs))
+    (λ c. search needs) (λ c κs. search needs) (λ c. search needs) (λ c κs. search needs) (λ c. search needs)
+    (λ c. search needs) decrypt-requires (λ c. search needs) (λ c κs. search needs) (λ c. search needs))
