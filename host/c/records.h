@@ -1,4 +1,4 @@
-/* Recorded calls of libsm, read from standard input in the form that crates/replayed/README.md gives. */
+/* Recorded calls of libsm, read from standard input in the form that crates/rust_answers/README.md gives. */
 #ifndef RECORDS_H
 #define RECORDS_H
 

@@ -1,4 +1,4 @@
-//! The fixed list that the program `replayed` replays. It is the same at every run.
+//! The fixed list that the program `rust_answers` replays. It is the same at every run.
 
 use crate::random::Random;
 use crate::record::{write_head, write_record};

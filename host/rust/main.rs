@@ -1,14 +1,14 @@
 //! Writes libsm's own answers to standard output, in the form of `record.rs`:
 //!
-//!   oracle list                 the fixed list that the program `replayed` replays
+//!   oracle list                 the fixed list that the program `rust_answers` replays
 //!   oracle fresh SEED COUNT     so many short cases from a seed
 //!   oracle long SEED            cases at the length limits
-//!   oracle listed               the smallest inputs of docs/DIFFERENCES.md
+//!   oracle differences          the smallest inputs of docs/DIFFERENCES.md
 
+mod differences;
 mod field;
 mod fresh;
 mod list;
-mod listed;
 mod random;
 mod record;
 mod sealing;
@@ -27,7 +27,7 @@ fn main() {
             fresh::write_fresh(&mut out, number(seed), number(count) as usize)
         }
         ["long", seed] => fresh::write_long(&mut out, number(seed)),
-        ["listed"] => listed::write_listed(&mut out),
+        ["differences"] => differences::write_differences(&mut out),
         _ => usage(),
     };
     if let Err(error) = done.and_then(|()| out.flush()) {
@@ -41,6 +41,6 @@ fn number(word: &str) -> u64 {
 }
 
 fn usage() -> ! {
-    eprintln!("usage: oracle list | fresh SEED COUNT | long SEED | listed");
+    eprintln!("usage: oracle list | fresh SEED COUNT | long SEED | differences");
     exit(64);
 }

@@ -14,9 +14,9 @@ use Rattle.block.proofs.Xors.{length-xors}
 use Rattle.block.proofs.WordsBack.{unwords-front}
 use Rattle.cipher.specs.Sm4.{decryptWords, decryptBlock}
 use Rattle.cipher.proofs.Blocks.{length-decryptBlock}
-use Rattle.stream.specs.Walk.{chain}
-use Rattle.stream.proofs.Chain.{chain-rest, chain-block, chain-length}
-use Rattle.stream.proofs.Loop.{tailed, tail-is}
+use Rattle.walk.specs.Walk.{chain}
+use Rattle.walk.proofs.Chain.{chain-rest, chain-block, chain-length}
+use Rattle.walk.proofs.Loop.{tailed, tail-is}
 use Rattle.cbc.specs.Cbc.{cbcDecrypt}
 use Rattle.cbc.proofs.InWords.{decrypted-front}
 
@@ -63,11 +63,13 @@ front-by rk (suc n) s d hs h =
     let F = take (16 * n) (drop 16 d) in
     let l : length (b ++ F) ≡ 16 + length F = length-append b F ∙ rw B in
     let i : chain m b F ≡ take (16 * n) (chain m b (drop 16 d)) = front-by rk n b (drop 16 d) B (rw length-drop (omega arith)) in
+    let C = chain m b (drop 16 d) in
     let x : chain m s (b ++ F) ≡ A ++ chain m b F = chain-block m s (b ++ F) (omega arith) ∙ rw (take-at b F 16 B, drop-at b F 16 B) in
-    let y : take (16 + 16 * n) (A ++ chain m b (drop 16 d)) ≡ A ++ take (16 * n) (chain m b (drop 16 d)) = rw a at (take-append-add A (chain m b (drop 16 d)) (16 * n)) in
+    let y : take (16 + 16 * n) (A ++ C) ≡ A ++ take (16 * n) C = rw a at (take-append-add A C (16 * n)) in
     rw (e, take-add 16 (16 * n) d, x, i, chain-block m s d (omega arith), y)
 
-pub decrypt-front : (rk s d : List ℕ) (f : ℕ) → length s ≡ 16 → f % 16 ≡ 0 → f ≤ length d → chain (cbcDecrypt rk) s (take f d) ≡ take f (chain (cbcDecrypt rk) s d)
+pub decrypt-front : (rk s d : List ℕ) (f : ℕ) → length s ≡ 16 → f % 16 ≡ 0 → f ≤ length d
+    → chain (cbcDecrypt rk) s (take f d) ≡ take f (chain (cbcDecrypt rk) s d)
 decrypt-front rk s d f hs hf hd =
     let e : 16 * (f / 16) ≡ f = omega arith in
     rw e at (front-by rk (f / 16) s d hs (omega arith))
@@ -78,7 +80,13 @@ last-by : (rk : List ℕ) (n : ℕ) (s d : List ℕ) → length s ≡ 16 → len
 last-by rk zero s d hs h =
     let m = cbcDecrypt rk in
     let z : length (drop 16 d) < 16 = rw length-drop (omega arith) in
-    rw (chain-block m s d (omega arith), chain-rest m (take 16 d) (drop 16 d) z, append-nil, take-all 16 d (omega arith), take-at s d 16 hs)
+    rw (
+      chain-block m s d (omega arith),
+      chain-rest m (take 16 d) (drop 16 d) z,
+      append-nil,
+      take-all 16 d (omega arith),
+      take-at s d 16 hs,
+    )
 last-by rk (suc n) s d hs h =
     let m = cbcDecrypt rk in
     let e : 16 * suc n ≡ 16 + 16 * n = omega arith in
@@ -89,18 +97,20 @@ last-by rk (suc n) s d hs h =
     let C = chain m b (drop 16 d) in
     let x : drop (16 + 16 * n) (A ++ C) ≡ drop (16 * n) C = rw a at (drop-append-add A C (16 * n)) in
     let y : drop (16 + 16 * n) (s ++ d) ≡ drop (16 * n) d = rw hs at (drop-append-add s d (16 * n)) in
-    rw (e, chain-block m s d (omega arith), x, y, last-by rk n b (drop 16 d) B (rw length-drop (omega arith)), take-append-drop, drop-drop)
+    let i = last-by rk n b (drop 16 d) B (rw length-drop (omega arith)) in
+    rw (e, chain-block m s d (omega arith), x, y, i, take-append-drop, drop-drop)
 
 decrypt-last : (rk s d : List ℕ) → length s ≡ 16 → 16 ≤ length d → length d % 16 ≡ 0
-    → drop (length d - 16) (chain (cbcDecrypt rk) s d) ≡ xors (decryptBlock rk (drop (length d - 16) d)) (take 16 (drop (length d - 16) (s ++ d)))
+    → drop (length d - 16) (chain (cbcDecrypt rk) s d)
+    ≡ xors (decryptBlock rk (drop (length d - 16) d)) (take 16 (drop (length d - 16) (s ++ d)))
 decrypt-last rk s d hs h k =
     let n = length d / 16 - 1 in
     let e : 16 * n ≡ length d - 16 = omega arith in
     rw e at (last-by rk n s d hs (omega arith))
 
 -- in the code's words: the block before the last, where there are two
-pub before-words : (s d r : List ℕ) → length s ≡ 16 → AreBytes d → 16 ≤ length d → length d % 16 ≡ 0 → (length d ≡ 16 → ⊥) → r ≡ words (tailed (length d - 32) d)
-    → unwords r ≡ take 16 (drop (length d - 16) (s ++ d))
+pub before-words : (s d r : List ℕ) → length s ≡ 16 → AreBytes d → 16 ≤ length d → length d % 16 ≡ 0 → (length d ≡ 16 → ⊥)
+    → r ≡ words (tailed (length d - 32) d) → unwords r ≡ take 16 (drop (length d - 16) (s ++ d))
 before-words s d r hs b h k n e =
     let g : 32 ≤ length d = omega (arith, n) in
     let f = length d - 32 in

@@ -13,7 +13,7 @@ use Rattle.block.proofs.WordsBack.{length-words, words-below, unwords-front, un
 use Rattle.cipher.specs.Sm4.{encryptWords, decryptWords, encryptBlock, decryptBlock}
 use Rattle.cipher.proofs.Bounds.{decrypt-four}
 use Rattle.cipher.proofs.Blocks.{encrypt-unwords, decrypt-unwords}
-use Rattle.stream.proofs.InWords.{front-xored}
+use Rattle.block.proofs.InWords.{front-xored}
 
 module _ (rk d s : List ℕ) (full : 16 ≤ length d) (d-bytes : AreBytes d) (four : length s ≡ 4) where
   pub encrypted-front : AreWords s → unwords (encryptWords rk (xors (words d) s)) ≡ encryptBlock rk (xors (take 16 d) (unwords s))

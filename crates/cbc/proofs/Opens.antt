@@ -6,38 +6,43 @@ use mathlib.Core.List.{List, _++_, append-assoc}
 use native.Mathlib.Omega.{arith}
 use lib.ListN.{length, take, drop, length-drop, take-append-drop}
 use lib.Seq.{length-take-le, take-at, drop-at, take-add, drop-drop}
-use Rattle.stream.specs.Walk.{chain, over}
-use Rattle.stream.proofs.Loop.{tailed, returned, tail-is, returned-is}
-use Rattle.cbc.specs.Cbc.{cbcDecrypt}
-use Rattle.cbc.specs.Open.{unpadded, opening, cbcOpen}
+use Rattle.walk.specs.Outcome.{Outcome, leaving, written}
+use Rattle.walk.specs.Walk.{over}
+use Rattle.walk.proofs.Loop.{tailed, returned, tail-is, returned-is}
+use Rattle.cbc.specs.Open.{headOf, unpadded, cbcText, cbcOpen}
+use Rattle.cbc.specs.declared.Opened.{Opened}
 use Rattle.cbc.specs.declared.Opened.the-variants.{Done, InvalidLastU8}
 use Rattle.cbc.proofs.Blocks.{decrypt-front, length-decrypt}
 use Rattle.cbc.proofs.Unpadded.{two-unpadded, two-refused, unpadded-le}
 
 module _ (rk s d last o : List ℕ) (hs : length s ≡ 16) (full : 16 ≤ length d) (whole : length d % 16 ≡ 0)
-    (last-is : last ≡ drop (length d - 16) (chain (cbcDecrypt rk) s d)) where
-  text-length : length (chain (cbcDecrypt rk) s d) ≡ length d
+    (last-is : last ≡ drop (length d - 16) (cbcText rk s d)) where
+  text-length : length (cbcText rk s d) ≡ length d
   text-length = length-decrypt rk s d hs whole
 
-  in-parts : take (length d - 16) (chain (cbcDecrypt rk) s d) ++ last ≡ chain (cbcDecrypt rk) s d
-  in-parts = rw last-is (take-append-drop (length d - 16) (chain (cbcDecrypt rk) s d))
+  in-parts : take (length d - 16) (cbcText rk s d) ++ last ≡ cbcText rk s d
+  in-parts = rw last-is (take-append-drop (length d - 16) (cbcText rk s d))
 
   last-length : length last ≡ 16
   last-length = rw (last-is, length-drop, text-length) (omega arith)
 
-  pub open-refused : unpadded last ≡ InvalidLastU8 → (InvalidLastU8 ≡ cbcOpen rk s d o .answer) × (o ≡ cbcOpen rk s d o .output)
-  unfolding cbcOpen opening
-  open-refused e =
-      let p = chain (cbcDecrypt rk) s d in
-      let u : unpadded p ≡ InvalidLastU8 = rw in-parts at (two-refused (take (length d - 16) p) last (omega (arith, last-length)) e) in
-      (ap (λ x. opening x p o .answer) (sym u), ap (λ x. opening x p o .output) (sym u))
+  -- what is decided of the text decides the call
+  decided : (a : Opened) → unpadded (cbcText rk s d) ≡ a → written (headOf a) (cbcText rk s d) o ≡ cbcOpen rk s d o
+  unfolding cbcOpen
+  decided a e = ap {B = Outcome} (λ (x : Opened). written (headOf x) (cbcText rk s d) o) (sym e)
 
-  pub open-done : (k : ℕ) (o₁ t : List ℕ) → length d ≤ length o → unpadded last ≡ Done k → o₁ ≡ over (chain (cbcDecrypt rk) s (take (length d - 16) d)) o
+  pub open-refused : (a : Opened) → a ≡ InvalidLastU8 → unpadded last ≡ a → leaving (headOf a) o ≡ cbcOpen rk s d o
+  open-refused a bad e =
+      let p = cbcText rk s d in
+      let u = rw in-parts at (two-refused (take (length d - 16) p) last (omega (arith, last-length)) (e ∙ bad)) in
+      rw bad (decided InvalidLastU8 u)
+
+  pub open-done : (k : ℕ) (o₁ t : List ℕ) → length d ≤ length o → unpadded last ≡ Done k
+      → o₁ ≡ over (cbcText rk s (take (length d - 16) d)) o
       → t ≡ take k last ++ drop k (tailed (length d - 16) o₁)
-      → (Done (length d - 16 + k) ≡ cbcOpen rk s d o .answer) × (returned (length d - 16) o₁ t ≡ cbcOpen rk s d o .output)
-  unfolding cbcOpen opening
+      → leaving (headOf (Done (length d - 16 + k))) (returned (length d - 16) o₁ t) ≡ cbcOpen rk s d o
   open-done k o₁ t room e e₁ eₜ =
-      let p = chain (cbcDecrypt rk) s d in
+      let p = cbcText rk s d in
       let f = length d - 16 in
       let n = text-length in
       let le : k ≤ 16 = rw last-length at (unpadded-le last k e) in
@@ -51,4 +56,4 @@ module _ (rk s d last o : List ℕ) (hs : length s ≡ 16) (full : 16 ≤ length
       let v : take (f + k) p ≡ A ++ take k (drop f p) = take-add f k p in
       let w : length (take (f + k) p) ≡ f + k = length-take-le (f + k) p (omega arith) in
       let g : over (take (f + k) p) o ≡ A ++ (take k (drop f p) ++ drop k (drop f o)) = rw (w, v, append-assoc, drop-drop) in
-      (ap (λ x. opening x p o .answer) (sym u), returned-is o₁ t f ∙ rw (x, z) (sym g) ∙ ap (λ x. opening x p o .output) (sym u))
+      ap {B = Outcome} (leaving (headOf (Done (f + k)))) (returned-is o₁ t f ∙ rw (x, z) (sym g)) ∙ decided (Done (f + k)) u

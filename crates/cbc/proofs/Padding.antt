@@ -6,7 +6,7 @@ use mathlib.Core.List.{List, _++_}
 use native.Mathlib.Omega.{arith}
 use lib.ListN.{length, take, drop, replicate, length-append, length-drop, length-replicate}
 use lib.Seq.{take-length, take-append-le, drop-append-le}
-use Rattle.stream.proofs.Loop.{tailed, tail-is}
+use Rattle.walk.proofs.Loop.{tailed, tail-is}
 use Rattle.cbc.specs.Cbc.{padding, padded}
 
 pub length-padded : (d : List ℕ) → length (padded d) ≡ 16 * (length d / 16 + 1)
@@ -18,7 +18,8 @@ drop-replicate (suc n) zero v = let e : 0 - suc n ≡ 0 = omega arith in rw e
 drop-replicate (suc n) (suc k) v = let e : suc k - suc n ≡ k - n = omega arith in rw e (drop-replicate n k v)
 
 -- sixteen times the count, with the message over its front
-pub pad-filled : (d b : List ℕ) (i : ℕ) → length d < 16 → b ≡ take i d ++ drop i (replicate 16 (16 - length d)) → i ≡ length d → b ≡ padded d
+pub pad-filled : (d b : List ℕ) (i : ℕ) → length d < 16 → b ≡ take i d ++ drop i (replicate 16 (16 - length d))
+    → i ≡ length d → b ≡ padded d
 pad-filled d b i h e n =
     let k : length d % 16 ≡ length d = omega arith in
     e ∙ rw (n, take-length, drop-replicate (length d) 16 (16 - length d), k)
@@ -30,7 +31,8 @@ block-padded d at h =
     rw (tail-is d at, drop-append-le at d (padding (length d)) (omega arith), take-append-le 16 (drop at d) (padding (length d)) n)
 
 -- the last block of the padded message is the padded rest
-pub rest-padded : (d : List ℕ) (at : ℕ) → at ≤ length d → at % 16 ≡ 0 → length d < at + 16 → take 16 (padded (tailed at d)) ≡ take 16 (drop at (padded d))
+pub rest-padded : (d : List ℕ) (at : ℕ) → at ≤ length d → at % 16 ≡ 0 → length d < at + 16
+    → take 16 (padded (tailed at d)) ≡ take 16 (drop at (padded d))
 rest-padded d at h m l =
     let n : length (drop at d) % 16 ≡ length d % 16 = rw length-drop (omega arith) in
     rw (tail-is d at, drop-append-le at d (padding (length d)) h, n)

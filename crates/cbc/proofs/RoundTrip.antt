@@ -11,18 +11,20 @@ use Rattle.block.specs.Xor.{xors}
 use Rattle.block.proofs.Entries.{below-take, below-drop, below-append, below-replicate}
 use Rattle.block.proofs.Xors.{length-xors, xors-cancel, xors-below}
 use Rattle.cipher.proofs.Blocks.{length-encryptBlock, encryptBlock-bytes, block-decrypt-encrypt}
-use Rattle.stream.specs.Walk.{chain, over}
-use Rattle.stream.proofs.Chain.{Any, chain-length, chain-bytes}
-use Rattle.stream.proofs.Undo.{Undoes, undo}
+use Rattle.walk.specs.Outcome.{Outcome, done, leaving, written, finished}
+use Rattle.walk.specs.Walk.{over}
+use Rattle.walk.proofs.Chain.{Any, chain-length, chain-bytes}
+use Rattle.walk.proofs.Undo.{Undoes, undo}
 use Rattle.cbc.specs.Cbc.{padding, padded, cbcEncrypt, cbcDecrypt, cbcSeal}
-use Rattle.cbc.specs.Open.{opening, cbcOpen, unpadded}
-use Rattle.cbc.specs.declared.Opened.the-variants.{Done}
+use Rattle.cbc.specs.Open.{headOf, unpadded, cbcText, cbcOpen}
+use Rattle.cbc.specs.declared.Opened.{Opened}
 use Rattle.cbc.proofs.Blocks.{Sixteen, Whole, whole-front, whole-back, whole-short}
 use Rattle.cbc.proofs.Padding.{length-padded}
 use Rattle.cbc.proofs.Unpadded.{padded-unpadded}
 
 pub padded-bytes : (d : List ℕ) → AreBytes d → AreBytes (padded d)
-padded-bytes d h = below-append 256 d (padding (length d)) h (below-replicate 256 (16 - length d % 16) (16 - length d % 16) (omega arith))
+padded-bytes d h =
+    below-append 256 d (padding (length d)) h (below-replicate 256 (16 - length d % 16) (16 - length d % 16) (omega arith))
 
 padded-whole : (d : List ℕ) → Whole (padded d)
 padded-whole d = omega (arith, length-padded d)
@@ -42,7 +44,8 @@ length-cbcSeal rk iv d =
 pub cbcSeal-bytes : (rk iv d : List ℕ) → AreBytes d → AreBytes (cbcSeal rk iv d)
 unfolding cbcSeal
 cbcSeal-bytes rk iv d h =
-    chain-bytes Any (cbcEncrypt rk) (λ s b hs hb. tt) (λ s b hs hb. encryptBlock-bytes rk (xors b s)) (λ s d hs hd. tt) iv (padded d) tt (padded-bytes d h)
+    chain-bytes Any (cbcEncrypt rk) (λ s b hs hb. tt) (λ s b hs hb. encryptBlock-bytes rk (xors b s)) (λ s d hs hd. tt)
+    iv (padded d) tt (padded-bytes d h)
 
 -- a state, and a message of full blocks, of bytes
 abbrev State : List ℕ → Type 0
@@ -72,15 +75,17 @@ cbc-undoes rk = record {
 }
 
 module _ (rk iv d : List ℕ) (sixteen : length iv ≡ 16) (iv-bytes : AreBytes iv) (d-bytes : AreBytes d) where
-  pub cbc-decrypted : chain (cbcDecrypt rk) iv (cbcSeal rk iv d) ≡ padded d
+  cbc-decrypted : cbcText rk iv (cbcSeal rk iv d) ≡ padded d
   unfolding cbcSeal
-  cbc-decrypted = undo State Text (cbcDecrypt rk) (cbcEncrypt rk) (cbc-undoes rk) iv (padded d) (sixteen, iv-bytes) (padded-whole d, padded-bytes d d-bytes)
+  cbc-decrypted =
+      undo State Text (cbcDecrypt rk) (cbcEncrypt rk) (cbc-undoes rk) iv (padded d)
+      (sixteen, iv-bytes) (padded-whole d, padded-bytes d d-bytes)
 
   -- the message comes back, and no byte past it is written
-  pub cbc-back : (o : List ℕ) → cbcOpen rk iv (cbcSeal rk iv d) o ≡ record { answer = Done (length d); output = over d o }
-  unfolding cbcOpen opening
+  pub cbc-back : (o : List ℕ) → cbcOpen rk iv (cbcSeal rk iv d) o ≡ done d o
+  unfolding cbcOpen
   cbc-back o =
       let e : take (length d) (padded d) ≡ d = take-append-seam d (padding (length d)) in
-      ap (λ (p : List ℕ). opening (unpadded p) p o) cbc-decrypted
-      ∙ ap (λ x. opening x (padded d) o) (padded-unpadded d)
-      ∙ ap (λ (p : List ℕ). record { answer = Done (length d); output = over p o }) e
+      ap {B = Outcome} (λ (p : List ℕ). written (headOf (unpadded p)) p o) cbc-decrypted
+      ∙ ap {B = Outcome} (λ (x : Opened). written (headOf x) (padded d) o) (padded-unpadded d)
+      ∙ ap {B = Outcome} (λ (p : List ℕ). leaving (finished (length d)) (over p o)) e

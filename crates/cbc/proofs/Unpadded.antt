@@ -34,7 +34,8 @@ unfolding namesPadding
 names-le b e = leb-true b 16 (second (leb 1 b) (leb b 16) e)
 
 -- of a block, by the byte at its end
-pub block-unpadded : (p : List ℕ) (u : Bool) → length p ≡ 16 → namesPadding (getD p 15 0) ≡ u → cond u (Done (16 - getD p 15 0)) InvalidLastU8 ≡ unpadded p
+pub block-unpadded : (p : List ℕ) (u : Bool) → length p ≡ 16 → namesPadding (getD p 15 0) ≡ u
+    → cond u (Done (16 - getD p 15 0)) InvalidLastU8 ≡ unpadded p
 unfolding unpadded
 block-unpadded p u n e = let k : length p - 1 ≡ 15 = omega arith in rw (k, n, e)
 
@@ -44,7 +45,8 @@ last-of-two a b h =
     let e : length a + length b - 1 ≡ length a + (length b - 1) = omega arith in
     rw (length-append a b, e) (getD-append-add a b (length b - 1) 0)
 
-two-by : (a b : List ℕ) (k : ℕ) (u : Bool) → 16 ≤ length b → namesPadding (lastByte b) ≡ u → cond u (Done (length b - lastByte b)) InvalidLastU8 ≡ Done k
+two-by : (a b : List ℕ) (k : ℕ) (u : Bool) → 16 ≤ length b → namesPadding (lastByte b) ≡ u
+    → cond u (Done (length b - lastByte b)) InvalidLastU8 ≡ Done k
     → cond u (Done (length a + length b - lastByte b)) InvalidLastU8 ≡ Done (length a + k)
 two-by a b k true h e f =
     let g : length b - lastByte b ≡ k = cc in
@@ -79,6 +81,7 @@ unfolding unpadded
 padded-unpadded d =
     let k = 16 - length d % 16 in
     let n : length (padding (length d)) ≡ k = length-replicate k k in
-    let l : lastByte (padded d) ≡ k = last-of-two d (padding (length d)) (omega arith) ∙ rw n (getD-replicate k (k - 1) k 0 (omega arith)) in
+    let l : lastByte (padded d) ≡ k =
+    last-of-two d (padding (length d)) (omega arith) ∙ rw n (getD-replicate k (k - 1) k 0 (omega arith)) in
     let m : length d + length (padding (length d)) - k ≡ length d = omega arith in
     rw (l, names-some k (omega arith) (omega arith), length-append d (padding (length d)), m)

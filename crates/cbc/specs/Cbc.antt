@@ -4,7 +4,7 @@ use mathlib.Core.List.{List, [], _++_}
 use lib.ListN.{length, replicate}
 use Rattle.block.specs.Xor.{xors}
 use Rattle.cipher.specs.Sm4.{encryptBlock, decryptBlock}
-use Rattle.stream.specs.Walk.{Mode, chain}
+use Rattle.walk.specs.Walk.{Mode, chain}
 
 -- the padding of a message of n bytes: always there, 1 to 16 bytes, each holding their count
 abbrev pub padding : ℕ → List ℕ

@@ -1,13 +1,19 @@
--- Opening a Cbc message: the answer and the output, from the ciphertext and the output before.
+-- Opening a Cbc message: what it leaves, from the ciphertext and the output before.
 use Prim.Native.Nat.{ℕ, _-_}
 use mathlib.Core.Bool.{Bool, cond, _&&_}
 use mathlib.Core.List.{List}
 use lib.Dec.{leb}
-use lib.ListN.{length, take, getD}
-use Rattle.stream.specs.Walk.{chain, over}
+use lib.ListN.{length, getD}
+use Rattle.walk.specs.Outcome.{Head, Outcome, finished, refusal, written}
+use Rattle.walk.specs.Walk.{chain}
 use Rattle.cbc.specs.Cbc.{cbcDecrypt}
 use Rattle.cbc.specs.declared.Opened.{Opened}
 use Rattle.cbc.specs.declared.Opened.the-variants.{Done, InvalidLastU8}
+
+-- document 01's number and length for each answer
+abbrev pub headOf : Opened → Head
+headOf (Done n) = finished n
+headOf InvalidLastU8 = refusal 3
 
 abbrev pub lastByte : List ℕ → ℕ
 lastByte p = getD p (length p - 1) 0
@@ -20,15 +26,10 @@ namesPadding b = leb 1 b && leb b 16
 unfoldable pub unpadded : List ℕ → Opened
 unpadded p = cond (namesPadding (lastByte p)) (Done (length p - lastByte p)) InvalidLastU8
 
-pub record Opening : Type 0 where
-  pub answer : Opened
-  pub output : List ℕ
+-- the ciphertext d with its padding, decrypted
+abbrev pub cbcText : List ℕ → List ℕ → List ℕ → List ℕ
+cbcText rk iv d = chain (cbcDecrypt rk) iv d
 
--- p is the decrypted text, o the output before: the padding's bytes are not written, and a refusal writes nothing
-unfoldable pub opening : Opened → List ℕ → List ℕ → Opening
-opening (Done n) p o = record { answer = Done n; output = over (take n p) o }
-opening InvalidLastU8 p o = record { answer = InvalidLastU8; output = o }
-
--- opening the ciphertext d into o
-unfoldable pub cbcOpen : List ℕ → List ℕ → List ℕ → List ℕ → Opening
-cbcOpen rk iv d o = opening (unpadded (chain (cbcDecrypt rk) iv d)) (chain (cbcDecrypt rk) iv d) o
+-- opening the ciphertext d into o: the padding's bytes are not written, and a refusal writes nothing
+unfoldable pub cbcOpen : List ℕ → List ℕ → List ℕ → List ℕ → Outcome
+cbcOpen rk iv d o = written (headOf (unpadded (cbcText rk iv d))) (cbcText rk iv d) o

@@ -1,13 +1,14 @@
 // Cbc with padding: `cbc_encrypt` and `cbc_decrypt` of libsm's `cipher_mode.rs`.
 ghost use mathlib.Core.Path.{_≡_};
-ghost use mathlib.Core.List.{_++_};
+ghost use mathlib.Core.List.{_++_, reverse};
 ghost use Prim.Native.Nat.{_+_, _-_, _*_, _/_, _%_, _<_, _≤_};
 ghost use lib.ListN.{length, take, drop};
 ghost use Rattle.block.specs.Words.{unwords};
-ghost use Rattle.cipher.specs.Sm4.{sboxTable};
-ghost use Rattle.stream.specs.Walk.{chain, over};
+ghost use Rattle.cipher.specs.Engine.{Engine};
+ghost use Rattle.walk.specs.Outcome.{leaving};
+ghost use Rattle.walk.specs.Walk.{chain, over};
 ghost use Rattle.cbc.specs.Cbc.{padded, cbcEncrypt, cbcDecrypt, cbcSeal};
-ghost use Rattle.cbc.specs.Open.{unpadded, cbcOpen};
+ghost use Rattle.cbc.specs.Open.{headOf, unpadded, cbcOpen};
 
 // A rest shorter than a block, with its padding.
 fn pad(rest: &[u8]) -> [u8; 16]
@@ -24,8 +25,8 @@ fn pad(rest: &[u8]) -> [u8; 16]
 }
 
 // The block at the front of `data`, encrypted to the front of `out`. Returns the next state, the ciphertext block.
-fn encrypt_step(t: &[u8; 256], rk: [u32; 32], s: [u32; 4], data: &[u8], out: &mut [u8]) -> [u32; 4]
-    requires { ⌜ now t ≡ sboxTable ⌝ }
+fn encrypt_step(t: &[u32], rk: [u32; 32], s: [u32; 4], data: &[u8], out: &mut [u8]) -> [u32; 4]
+    requires { ⌜ Engine (now t) ⌝ }
     requires { ⌜ 16 ≤ length (now «data») ⌝ }
     requires { ⌜ 16 ≤ length (now out) ⌝ }
     ensures { λ r. ⌜ unwords r ≡ cbcEncrypt rk .next (unwords s) (take 16 (now («data» .entry))) ⌝ }
@@ -37,8 +38,8 @@ fn encrypt_step(t: &[u8; 256], rk: [u32; 32], s: [u32; 4], data: &[u8], out: &mu
 }
 
 // The whole message `data` with its padding, encrypted to the front of `out`.
-pub fn encrypt(t: &[u8; 256], rk: [u32; 32], iv: [u32; 4], data: &[u8], out: &mut [u8])
-    requires { ⌜ now t ≡ sboxTable ⌝ }
+pub fn encrypt(t: &[u32], rk: [u32; 32], iv: [u32; 4], data: &[u8], out: &mut [u8])
+    requires { ⌜ Engine (now t) ⌝ }
     requires { ⌜ 16 * (length (now «data») / 16 + 1) ≤ length (now out) ⌝ }
     ensures { λ _. ⌜ now (out .exit) ≡ over (cbcSeal rk (unwords iv) (now («data» .entry))) (now (out .entry)) ⌝ }
 {
@@ -70,29 +71,31 @@ fn unpad(last: [u8; 16]) -> Opened
     }
 }
 
-// The block at the front of `data`, decrypted to the front of `out`. Returns the next state, the ciphertext block.
-fn decrypt_step(t: &[u8; 256], rk: [u32; 32], s: [u32; 4], data: &[u8], out: &mut [u8]) -> [u32; 4]
-    requires { ⌜ now t ≡ sboxTable ⌝ }
+// The block at the front of `data`, decrypted to the front of `out` by the round keys turned round. Returns the next state,
+// the ciphertext block.
+fn decrypt_step(t: &[u32], back: [u32; 32], s: [u32; 4], data: &[u8], out: &mut [u8]) -> [u32; 4]
+    requires { ⌜ Engine (now t) ⌝ }
     requires { ⌜ 16 ≤ length (now «data») ⌝ }
     requires { ⌜ 16 ≤ length (now out) ⌝ }
-    ensures { λ r. ⌜ unwords r ≡ cbcDecrypt rk .next (unwords s) (take 16 (now («data» .entry))) ⌝ }
-    ensures { λ _. ⌜ now (out .exit) ≡ cbcDecrypt rk .block (unwords s) (take 16 (now («data» .entry))) ++ drop 16 (now (out .entry)) ⌝ }
+    ensures { λ r. ⌜ unwords r ≡ cbcDecrypt (reverse back) .next (unwords s) (take 16 (now («data» .entry))) ⌝ }
+    ensures { λ _. ⌜ now (out .exit) ≡ cbcDecrypt (reverse back) .block (unwords s) (take 16 (now («data» .entry))) ++ drop 16 (now (out .entry)) ⌝ }
 {
-    let c = block::split_block(data);
-    block::put_block(block::block_xor(cipher::decrypt(t, rk, c), s), out);
-    c
+    let p = cipher::encrypt(t, back, block::split_block(data));
+    block::put_block(block::block_xor(p, s), out);
+    // read once more, so that it need not be kept while the cipher works
+    block::split_block(data)
 }
 
 // The full blocks of `data`, decrypted to the front of `out`.
-fn decrypt_blocks(t: &[u8; 256], rk: [u32; 32], iv: [u32; 4], data: &[u8], out: &mut [u8])
-    requires { ⌜ now t ≡ sboxTable ⌝ }
+fn decrypt_blocks(t: &[u32], back: [u32; 32], iv: [u32; 4], data: &[u8], out: &mut [u8])
+    requires { ⌜ Engine (now t) ⌝ }
     requires { ⌜ length (now «data») ≤ length (now out) ⌝ }
-    ensures { λ _. ⌜ now (out .exit) ≡ over (chain (cbcDecrypt rk) (unwords iv) (now («data» .entry))) (now (out .entry)) ⌝ }
+    ensures { λ _. ⌜ now (out .exit) ≡ over (chain (cbcDecrypt (reverse back)) (unwords iv) (now («data» .entry))) (now (out .entry)) ⌝ }
 {
     let mut s = iv;
     let mut at: usize = 0;
     while 16 <= data.len() - at {
-        let next = decrypt_step(t, rk, s, &data[at..], &mut out[at..]);
+        let next = decrypt_step(t, back, s, &data[at..], &mut out[at..]);
         s = next;
         at += 16;
     }
@@ -113,14 +116,14 @@ fn before_last(iv: [u32; 4], data: &[u8]) -> [u32; 4]
 }
 
 // The last block of `data`, decrypted.
-fn last_block(t: &[u8; 256], rk: [u32; 32], iv: [u32; 4], data: &[u8]) -> [u8; 16]
-    requires { ⌜ now t ≡ sboxTable ⌝ }
+fn last_block(t: &[u32], back: [u32; 32], iv: [u32; 4], data: &[u8]) -> [u8; 16]
+    requires { ⌜ Engine (now t) ⌝ }
     requires { ⌜ 16 ≤ length (now «data») ⌝ }
     requires { ⌜ length (now «data») % 16 ≡ 0 ⌝ }
-    ensures { λ r. ⌜ r ≡ drop (length (now («data» .entry)) - 16) (chain (cbcDecrypt rk) (unwords iv) (now («data» .entry))) ⌝ }
+    ensures { λ r. ⌜ r ≡ drop (length (now («data» .entry)) - 16) (chain (cbcDecrypt (reverse back)) (unwords iv) (now («data» .entry))) ⌝ }
 {
     let at = data.len() - 16;
-    let p = cipher::decrypt(t, rk, block::split_block(&data[at..]));
+    let p = cipher::encrypt(t, back, block::split_block(&data[at..]));
     block::combine_block(block::block_xor(p, before_last(iv, data)))
 }
 
@@ -138,21 +141,21 @@ fn put_front(b: [u8; 16], n: usize, out: &mut [u8])
 }
 
 // Opens `data` into the front of `out`. The padding is settled before a byte is written, and its bytes are not written.
-pub fn decrypt(t: &[u8; 256], rk: [u32; 32], iv: [u32; 4], data: &[u8], out: &mut [u8]) -> Opened
-    requires { ⌜ now t ≡ sboxTable ⌝ }
+pub fn decrypt(t: &[u32], rk: [u32; 32], iv: [u32; 4], data: &[u8], out: &mut [u8]) -> Opened
+    requires { ⌜ Engine (now t) ⌝ }
     requires { ⌜ 16 ≤ length (now «data») ⌝ }
     requires { ⌜ length (now «data») % 16 ≡ 0 ⌝ }
     requires { ⌜ length (now «data») ≤ length (now out) ⌝ }
-    ensures { λ r. ⌜ r ≡ cbcOpen rk (unwords iv) (now («data» .entry)) (now (out .entry)) .answer ⌝ }
-    ensures { λ _. ⌜ now (out .exit) ≡ cbcOpen rk (unwords iv) (now («data» .entry)) (now (out .entry)) .output ⌝ }
+    ensures { λ r. ⌜ leaving (headOf r) (now (out .exit)) ≡ cbcOpen rk (unwords iv) (now («data» .entry)) (now (out .entry)) ⌝ }
 {
-    let last = last_block(t, rk, iv, data);
+    let back = cipher::reversed(rk);
+    let last = last_block(t, back, iv, data);
     let opened = unpad(last);
     let Opened::Done(keep) = opened else {
-        return Opened::InvalidLastU8;
+        return opened;
     };
     let at = data.len() - 16;
-    decrypt_blocks(t, rk, iv, &data[0..at], out);
+    decrypt_blocks(t, back, iv, &data[0..at], out);
     put_front(last, keep, &mut out[at..]);
     Opened::Done(at + keep)
 }

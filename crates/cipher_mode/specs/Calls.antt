@@ -1,94 +1,68 @@
--- The public calls: what each one leaves, from the inputs alone, its refusals in document 01's order.
-use Prim.Native.Nat.{ℕ, _-_}
-use mathlib.Core.Bool.{Bool, false, not, _||_}
-use mathlib.Core.List.{List}
-use lib.Dec.{eqb, ltb}
-use lib.ListN.{length, take}
-use Rattle.cbc.specs.Cbc.{cbcDecrypt, cbcSeal}
-use Rattle.cbc.specs.Open.{lastByte, namesPadding}
-use Rattle.gcm.specs.Gcm.{hashKey, firstCounter, sealed, textPart, textOf, opensUnder}
-use Rattle.stream.specs.Walk.{chain}
+-- The public calls: what each one leaves, from the inputs alone.
+use Prim.Native.Nat.{ℕ}
+use mathlib.Core.List.{List, reverse}
+use lib.ListN.{length}
+use Rattle.cipher.specs.Sm4.{encryptBlock, decryptBlock}
+use Rattle.walk.specs.Outcome.{Outcome, done}
+use Rattle.walk.specs.Walk.{chain}
 use Rattle.stream.specs.Stream.{streamMode}
 use Rattle.stream.specs.declared.Kind.{Kind}
 use Rattle.stream.specs.declared.Kind.the-variants.{CfbEncrypt, CfbDecrypt, Ofb as Ofb·kind, Ctr as Ctr·kind}
-use Rattle.cipher_mode.specs.declared.Answer.the-variants.{ErrorBlockSize, ErrorDataLen, InvalidLastU8, InvalidTag, TooLong, NoRoom}
+use Rattle.cbc.specs.Cbc.{cbcSeal}
+use Rattle.cbc.specs.Open.{cbcOpen}
+use Rattle.gcm.specs.Gcm.{hashKey, J0, sealed}
+use Rattle.gcm.specs.Open.{gcmOpen}
 use Rattle.cipher_mode.specs.declared.CipherMode.{CipherMode}
 use Rattle.cipher_mode.specs.declared.CipherMode.the-variants.{Cfb, Ofb, Ctr, Cbc, Gcm}
+use Rattle.cipher_mode.specs.declared.Direction.{Direction}
+use Rattle.cipher_mode.specs.declared.Direction.the-variants.{Encrypt, Decrypt}
+use Rattle.cipher_mode.specs.declared.checks.Lengths.{Lengths}
 use Rattle.cipher_mode.specs.declared.Sm4Cipher.{Sm4Cipher}
 use Rattle.cipher_mode.specs.declared.Sm4CipherMode.{Sm4CipherMode}
-use Rattle.cipher_mode.specs.Outcome.{Outcome, refuse, done}
-use Rattle.cipher_mode.specs.Key.{noKey}
-use Rattle.cipher_mode.specs.Tables.{limit, decryptLimit, labelTooLong, wrongLength, encryptRoom, decryptRoom}
+use Rattle.cipher_mode.specs.Checks.{checked, blockCheck, messageCheck}
 
--- an IV or a single block that is not 16 bytes
-abbrev pub wrongSize : List ℕ → Bool
-wrongSize s = not (eqb (length s) 16)
+-- the round keys as a direction takes them: decryption from the last to the first
+abbrev pub keysFor : Direction → List ℕ → List ℕ
+keysFor Encrypt rk = rk
+keysFor Decrypt rk = reverse rk
 
--- one block, either way: f is `encryptBlock` or `decryptBlock`
-unfoldable pub blockCall : (List ℕ → List ℕ → List ℕ) → Sm4Cipher → List ℕ → List ℕ → Outcome
-blockCall f c b o =
-    refuse (noKey (c .answer)) ErrorBlockSize o
-    (refuse (wrongSize b) ErrorBlockSize o
-    (refuse (ltb (length o) 16) NoRoom o
-    (done (f (c .rk) b) o)))
+-- one block, by a direction
+abbrev pub blockOf : Direction → List ℕ → List ℕ → List ℕ
+blockOf Encrypt rk b = encryptBlock rk b
+blockOf Decrypt rk b = decryptBlock rk b
 
--- the message that encrypting d gives, under the round keys rk, the IV iv and, in Gcm, the label aad
-unfoldable pub encrypted : CipherMode → List ℕ → List ℕ → List ℕ → List ℕ → List ℕ
-encrypted Cfb rk iv aad d = chain (streamMode CfbEncrypt rk) iv d
-encrypted Ofb rk iv aad d = chain (streamMode Ofb·kind rk) iv d
-encrypted Ctr rk iv aad d = chain (streamMode Ctr·kind rk) iv d
-encrypted Cbc rk iv aad d = cbcSeal rk iv d
-encrypted Gcm rk iv aad d = sealed rk (hashKey rk) (firstCounter (hashKey rk) iv) aad d
+-- a single block b, into the output o
+unfoldable pub blockCall : Direction → Sm4Cipher → List ℕ → List ℕ → Outcome
+blockCall dir c b o = checked (blockCheck (c .answer) (length b) (length o)) o (done (blockOf dir (c .rk) b) o)
 
-unfoldable pub encryptCall : Sm4CipherMode → List ℕ → List ℕ → List ℕ → List ℕ → Outcome
-encryptCall m aad d iv o =
-    refuse (noKey (m .cipher .answer)) ErrorBlockSize o
-    (refuse (wrongSize iv) ErrorBlockSize o
-    (refuse (labelTooLong (m .mode) aad || ltb limit (length d)) TooLong o
-    (refuse (ltb (length o) (encryptRoom (m .mode) (length d))) NoRoom o
-    (done (encrypted (m .mode) (m .cipher .rk) iv aad d) o))))
+abbrev pub cfbKind : Direction → Kind
+cfbKind Encrypt = CfbEncrypt
+cfbKind Decrypt = CfbDecrypt
 
--- Cbc: the decrypted text, padding and all; its last byte names no padding
-abbrev pub cbcText : List ℕ → List ℕ → List ℕ → List ℕ
-cbcText rk iv d = chain (cbcDecrypt rk) iv d
+-- Cbc pads and opens by its padding
+abbrev pub cbcResult : Direction → List ℕ → List ℕ → List ℕ → List ℕ → Outcome
+cbcResult Encrypt rk d iv o = done (cbcSeal rk iv d) o
+cbcResult Decrypt rk d iv o = cbcOpen rk iv d o
 
-unfoldable pub badPadding : CipherMode → List ℕ → List ℕ → List ℕ → Bool
-badPadding Cfb rk iv d = false
-badPadding Ofb rk iv d = false
-badPadding Ctr rk iv d = false
-badPadding Cbc rk iv d = not (namesPadding (lastByte (cbcText rk iv d)))
-badPadding Gcm rk iv d = false
+-- Gcm seals and opens under the label aad
+abbrev pub gcmResult : Direction → List ℕ → List ℕ → List ℕ → List ℕ → List ℕ → Outcome
+gcmResult Encrypt rk aad d iv o = done (sealed rk (hashKey rk) (J0 rk iv) aad d) o
+gcmResult Decrypt rk aad d iv o = gcmOpen rk (hashKey rk) (J0 rk iv) aad d o
 
--- Gcm: the last sixteen bytes are not the tag
-unfoldable pub badTag : CipherMode → List ℕ → List ℕ → List ℕ → List ℕ → Bool
-badTag Cfb rk iv aad d = false
-badTag Ofb rk iv aad d = false
-badTag Ctr rk iv aad d = false
-badTag Cbc rk iv aad d = false
-badTag Gcm rk iv aad d = not (opensUnder rk (hashKey rk) (firstCounter (hashKey rk) iv) aad d)
+-- what the data d gives in a mode, by a direction; the first three modes are done with whatever they are given
+abbrev pub modeResult : CipherMode → Direction → List ℕ → List ℕ → List ℕ → List ℕ → List ℕ → Outcome
+modeResult Cfb dir rk aad d iv o = done (chain (streamMode (cfbKind dir) rk) iv d) o
+modeResult Ofb dir rk aad d iv o = done (chain (streamMode Ofb·kind rk) iv d) o
+modeResult Ctr dir rk aad d iv o = done (chain (streamMode Ctr·kind rk) iv d) o
+modeResult Cbc dir rk aad d iv o = cbcResult dir rk d iv o
+modeResult Gcm dir rk aad d iv o = gcmResult dir rk aad d iv o
 
--- the text that decrypting d gives
-unfoldable pub decrypted : CipherMode → List ℕ → List ℕ → List ℕ → List ℕ
-decrypted Cfb rk iv d = chain (streamMode CfbDecrypt rk) iv d
-decrypted Ofb rk iv d = chain (streamMode Ofb·kind rk) iv d
-decrypted Ctr rk iv d = chain (streamMode Ctr·kind rk) iv d
-decrypted Cbc rk iv d = take (length (cbcText rk iv d) - lastByte (cbcText rk iv d)) (cbcText rk iv d)
-decrypted Gcm rk iv d = textOf rk (firstCounter (hashKey rk) iv) (textPart d)
+-- how many bytes a call was lent of each kind
+abbrev pub lengthsOf : List ℕ → List ℕ → List ℕ → List ℕ → Lengths
+lengthsOf aad d iv o = record { iv = length iv; label = length aad; «data» = length d; room = length o }
 
-unfoldable pub decryptCall : Sm4CipherMode → List ℕ → List ℕ → List ℕ → List ℕ → Outcome
-decryptCall m aad d iv o =
-    refuse (noKey (m .cipher .answer)) ErrorBlockSize o
-    (refuse (wrongSize iv) ErrorBlockSize o
-    (refuse (labelTooLong (m .mode) aad || ltb (decryptLimit (m .mode)) (length d)) TooLong o
-    (refuse (wrongLength (m .mode) (length d)) ErrorDataLen o
-    (refuse (ltb (length o) (decryptRoom (m .mode) (length d))) NoRoom o
-    (refuse (badPadding (m .mode) (m .cipher .rk) iv d) InvalidLastU8 o
-    (refuse (badTag (m .mode) (m .cipher .rk) iv aad d) InvalidTag o
-    (done (decrypted (m .mode) (m .cipher .rk) iv d) o)))))))
-
--- Cfb, Ofb and Ctr once key and IV are in order: the part that their inner function has
-unfoldable pub streamCall : Kind → List ℕ → List ℕ → List ℕ → List ℕ → Outcome
-streamCall k rk iv d o =
-    refuse (ltb limit (length d)) TooLong o
-    (refuse (ltb (length o) (length d)) NoRoom o
-    (done (chain (streamMode k rk) iv d) o))
+-- the data d under the label aad and the IV iv, into the output o
+unfoldable pub modeCall : Direction → Sm4CipherMode → List ℕ → List ℕ → List ℕ → List ℕ → Outcome
+modeCall dir m aad d iv o =
+    checked (messageCheck (m .cipher .answer) dir (m .mode) (lengthsOf aad d iv o)) o
+    (modeResult (m .mode) dir (m .cipher .rk) aad d iv o)

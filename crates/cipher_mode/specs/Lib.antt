@@ -1,4 +1,5 @@
-pub mod Outcome
+pub mod Answer
 pub mod Key
 pub mod Tables
+pub mod Checks
 pub mod Calls

@@ -1,26 +1,16 @@
 // The public calls of libsm's `cipher.rs` and `cipher_mode.rs`. None has a `requires`: whatever the inputs are, the contract
 // gives the whole outcome, by one definition of `specs/Calls.antt`.
-ghost use mathlib.Core.Path.{_≡_};
-ghost use mathlib.Core.List.{[]};
-ghost use lib.ListN.{length};
-ghost use Rattle.block.specs.Words.{unwords};
-ghost use Rattle.cipher.specs.Sm4.{sboxTable, encryptBlock, decryptBlock};
-ghost use Rattle.cipher_mode.specs.Outcome.{outcome};
-ghost use Rattle.cipher_mode.specs.Key.{newCipher, newCipherMode, ready};
-ghost use Rattle.cipher_mode.specs.Calls.{blockCall, streamCall, encryptCall, decryptCall};
-use stream::Kind;
+pub mod answer;
+pub mod checks;
+mod work;
 
-// What a call answers: done with a length, or one of document 01's refusals (7, BadMode, at the host boundary only).
-pub enum Answer {
-    Done(usize),
-    ErrorBlockSize,
-    ErrorDataLen,
-    InvalidLastU8,
-    InvalidTag,
-    TooLong,
-    NoRoom,
-    BadMode,
-}
+ghost use mathlib.Core.Path.{_≡_};
+ghost use Rattle.cipher_mode.specs.Answer.{outcome};
+ghost use Rattle.cipher_mode.specs.Key.{newCipher, newCipherMode};
+ghost use Rattle.cipher_mode.specs.Calls.{blockCall, modeCall};
+use answer::Answer;
+use checks::Checked;
+use checks::Lengths;
 
 // What setting up a key answers.
 pub enum KeyAnswer {
@@ -42,6 +32,11 @@ pub enum CipherMode {
     Gcm,
 }
 
+pub enum Direction {
+    Encrypt,
+    Decrypt,
+}
+
 // A key's record with the mode that it is used in.
 pub struct Sm4CipherMode {
     pub cipher: Sm4Cipher,
@@ -59,175 +54,39 @@ impl Sm4Cipher {
                 answer: KeyAnswer::ErrorBlockSize,
             };
         }
-        let t = cipher::sbox();
-        let rk = cipher::key_schedule(&t, key);
+        let rk = cipher::key_schedule(key);
         Sm4Cipher {
             rk,
             answer: KeyAnswer::Key,
         }
     }
 
+    // One block, either way, to the front of `out`.
+    pub fn call(self, direction: Direction, block_in: &[u8], out: &mut [u8]) -> Answer
+        ensures { λ r. ⌜ outcome r (now (out .exit)) ≡ blockCall direction self (now («block_in» .entry)) (now (out .entry)) ⌝ }
+    {
+        let key = self.answer;
+        let checked = checks::block(key, block_in.len(), out.len());
+        if let Checked::Refused(refusal) = checked {
+            return answer::refused(refusal);
+        }
+        let rk = self.rk;
+        work::block(rk, direction, block_in, out);
+        answer::done(16)
+    }
+
     // One block, encrypted to the front of `out`.
     pub fn encrypt(self, block_in: &[u8], out: &mut [u8]) -> Answer
-        ensures { λ r. ⌜ outcome r (now (out .exit)) ≡ blockCall encryptBlock self (now («block_in» .entry)) (now (out .entry)) ⌝ }
+        ensures { λ r. ⌜ outcome r (now (out .exit)) ≡ blockCall Direction.Encrypt self (now («block_in» .entry)) (now (out .entry)) ⌝ }
     {
-        let answer = self.answer;
-        let KeyAnswer::Key = answer else {
-            return Answer::ErrorBlockSize;
-        };
-        if block_in.len() != 16 {
-            return Answer::ErrorBlockSize;
-        }
-        if out.len() < 16 {
-            return Answer::NoRoom;
-        }
-        let t = cipher::sbox();
-        let rk = self.rk;
-        block::put_block(cipher::encrypt(&t, rk, block::split_block(block_in)), out);
-        Answer::Done(16)
+        self.call(Direction::Encrypt, block_in, out)
     }
 
     // One block, decrypted to the front of `out`.
     pub fn decrypt(self, block_in: &[u8], out: &mut [u8]) -> Answer
-        ensures { λ r. ⌜ outcome r (now (out .exit)) ≡ blockCall decryptBlock self (now («block_in» .entry)) (now (out .entry)) ⌝ }
+        ensures { λ r. ⌜ outcome r (now (out .exit)) ≡ blockCall Direction.Decrypt self (now («block_in» .entry)) (now (out .entry)) ⌝ }
     {
-        let answer = self.answer;
-        let KeyAnswer::Key = answer else {
-            return Answer::ErrorBlockSize;
-        };
-        if block_in.len() != 16 {
-            return Answer::ErrorBlockSize;
-        }
-        if out.len() < 16 {
-            return Answer::NoRoom;
-        }
-        let t = cipher::sbox();
-        let rk = self.rk;
-        block::put_block(cipher::decrypt(&t, rk, block::split_block(block_in)), out);
-        Answer::Done(16)
-    }
-}
-
-// The longest data to encrypt, the longest label of Gcm, and the longest data to decrypt in Cfb, Ofb and Ctr.
-const LIMIT: usize = 16777216;
-
-// The longest data to decrypt in Cbc and Gcm: a block more.
-const SEALED_LIMIT: usize = 16777232;
-
-// Cfb, Ofb and Ctr, either way.
-fn stream_checked(
-    t: &[u8; 256],
-    rk: [u32; 32],
-    kind: Kind,
-    iv: [u32; 4],
-    data: &[u8],
-    out: &mut [u8],
-) -> Answer
-    requires { ⌜ now t ≡ sboxTable ⌝ }
-    ensures { λ r. ⌜ outcome r (now (out .exit)) ≡ streamCall kind rk (unwords iv) (now («data» .entry)) (now (out .entry)) ⌝ }
-{
-    if data.len() > LIMIT {
-        return Answer::TooLong;
-    }
-    if out.len() < data.len() {
-        return Answer::NoRoom;
-    }
-    stream::stream(t, rk, kind, iv, data, out);
-    Answer::Done(data.len())
-}
-
-fn cbc_encrypt(t: &[u8; 256], rk: [u32; 32], iv: [u32; 4], data: &[u8], out: &mut [u8]) -> Answer
-    requires { ⌜ now t ≡ sboxTable ⌝ }
-    ensures { λ r. ⌜ outcome r (now (out .exit)) ≡ encryptCall (ready rk CipherMode.Cbc) [] (now («data» .entry)) (unwords iv) (now (out .entry)) ⌝ }
-{
-    if data.len() > LIMIT {
-        return Answer::TooLong;
-    }
-    let n = 16 * (data.len() / 16 + 1);
-    if out.len() < n {
-        return Answer::NoRoom;
-    }
-    cbc::encrypt(t, rk, iv, data, out);
-    Answer::Done(n)
-}
-
-fn cbc_decrypt(t: &[u8; 256], rk: [u32; 32], iv: [u32; 4], data: &[u8], out: &mut [u8]) -> Answer
-    requires { ⌜ now t ≡ sboxTable ⌝ }
-    ensures { λ r. ⌜ outcome r (now (out .exit)) ≡ decryptCall (ready rk CipherMode.Cbc) [] (now («data» .entry)) (unwords iv) (now (out .entry)) ⌝ }
-{
-    if data.len() > SEALED_LIMIT {
-        return Answer::TooLong;
-    }
-    if data.len() == 0 {
-        return Answer::ErrorDataLen;
-    }
-    if data.len() % 16 != 0 {
-        return Answer::ErrorDataLen;
-    }
-    if out.len() < data.len() {
-        return Answer::NoRoom;
-    }
-    match cbc::decrypt(t, rk, iv, data, out) {
-        cbc::Opened::Done(n) => Answer::Done(n),
-        cbc::Opened::InvalidLastU8 => Answer::InvalidLastU8,
-    }
-}
-
-fn gcm_encrypt(
-    t: &[u8; 256],
-    rk: [u32; 32],
-    iv: &[u8],
-    aad: &[u8],
-    data: &[u8],
-    out: &mut [u8],
-) -> Answer
-    requires { ⌜ now t ≡ sboxTable ⌝ }
-    requires { ⌜ length (now iv) ≡ 16 ⌝ }
-    ensures { λ r. ⌜ outcome r (now (out .exit)) ≡ encryptCall (ready rk CipherMode.Gcm) (now (aad .entry)) (now («data» .entry)) (now (iv .entry)) (now (out .entry)) ⌝ }
-{
-    if aad.len() > LIMIT {
-        return Answer::TooLong;
-    }
-    if data.len() > LIMIT {
-        return Answer::TooLong;
-    }
-    let n = data.len() + 16;
-    if out.len() < n {
-        return Answer::NoRoom;
-    }
-    let h = gcm::hash_key(t, rk);
-    gcm::encrypt(t, rk, h, gcm::first_counter(h, iv), aad, data, out);
-    Answer::Done(n)
-}
-
-fn gcm_decrypt(
-    t: &[u8; 256],
-    rk: [u32; 32],
-    iv: &[u8],
-    aad: &[u8],
-    data: &[u8],
-    out: &mut [u8],
-) -> Answer
-    requires { ⌜ now t ≡ sboxTable ⌝ }
-    requires { ⌜ length (now iv) ≡ 16 ⌝ }
-    ensures { λ r. ⌜ outcome r (now (out .exit)) ≡ decryptCall (ready rk CipherMode.Gcm) (now (aad .entry)) (now («data» .entry)) (now (iv .entry)) (now (out .entry)) ⌝ }
-{
-    if aad.len() > LIMIT {
-        return Answer::TooLong;
-    }
-    if data.len() > SEALED_LIMIT {
-        return Answer::TooLong;
-    }
-    if data.len() < 16 {
-        return Answer::ErrorDataLen;
-    }
-    if out.len() < data.len() - 16 {
-        return Answer::NoRoom;
-    }
-    let h = gcm::hash_key(t, rk);
-    match gcm::decrypt(t, rk, h, gcm::first_counter(h, iv), aad, data, out) {
-        gcm::Opened::Done(n) => Answer::Done(n),
-        gcm::Opened::InvalidTag => Answer::InvalidTag,
+        self.call(Direction::Decrypt, block_in, out)
     }
 }
 
@@ -239,53 +98,47 @@ impl Sm4CipherMode {
         Sm4CipherMode { cipher, mode }
     }
 
-    // Encrypts `data` to the front of `out`, under the label `aad` in Gcm. The other modes do not look at `aad`.
-    pub fn encrypt(self, aad: &[u8], data: &[u8], iv: &[u8], out: &mut [u8]) -> Answer
-        ensures { λ r. ⌜ outcome r (now (out .exit)) ≡ encryptCall self (now (aad .entry)) (now («data» .entry)) (now (iv .entry)) (now (out .entry)) ⌝ }
+    // A message, either way, to the front of `out`: everything that can be told of the key's answer, the mode and the lengths
+    // is settled before any work.
+    pub fn call(
+        self,
+        direction: Direction,
+        aad: &[u8],
+        data: &[u8],
+        iv: &[u8],
+        out: &mut [u8],
+    ) -> Answer
+        ensures { λ r. ⌜ outcome r (now (out .exit)) ≡ modeCall direction self (now (aad .entry)) (now («data» .entry)) (now (iv .entry)) (now (out .entry)) ⌝ }
     {
         let cipher = self.cipher;
-        let answer = cipher.answer;
-        let KeyAnswer::Key = answer else {
-            return Answer::ErrorBlockSize;
-        };
-        if iv.len() != 16 {
-            return Answer::ErrorBlockSize;
-        }
-        let t = cipher::sbox();
-        let rk = cipher.rk;
-        let start = block::split_block(iv);
+        let key = cipher.answer;
         let mode = self.mode;
-        match mode {
-            CipherMode::Cfb => stream_checked(&t, rk, Kind::CfbEncrypt, start, data, out),
-            CipherMode::Ofb => stream_checked(&t, rk, Kind::Ofb, start, data, out),
-            CipherMode::Ctr => stream_checked(&t, rk, Kind::Ctr, start, data, out),
-            CipherMode::Cbc => cbc_encrypt(&t, rk, start, data, out),
-            CipherMode::Gcm => gcm_encrypt(&t, rk, iv, aad, data, out),
+        let lengths = Lengths {
+            iv: iv.len(),
+            label: aad.len(),
+            data: data.len(),
+            room: out.len(),
+        };
+        let checked = checks::message(key, direction, mode, lengths);
+        if let Checked::Refused(refusal) = checked {
+            return answer::refused(refusal);
         }
+        let t = cipher::plain();
+        let rk = cipher.rk;
+        work::message(&t, rk, direction, mode, aad, data, iv, out)
+    }
+
+    // Encrypts `data` to the front of `out`, under the label `aad` in Gcm. The other modes do not look at `aad`.
+    pub fn encrypt(self, aad: &[u8], data: &[u8], iv: &[u8], out: &mut [u8]) -> Answer
+        ensures { λ r. ⌜ outcome r (now (out .exit)) ≡ modeCall Direction.Encrypt self (now (aad .entry)) (now («data» .entry)) (now (iv .entry)) (now (out .entry)) ⌝ }
+    {
+        self.call(Direction::Encrypt, aad, data, iv, out)
     }
 
     // Decrypts `data` to the front of `out`. In Gcm and Cbc nothing is written before tag or padding is settled.
     pub fn decrypt(self, aad: &[u8], data: &[u8], iv: &[u8], out: &mut [u8]) -> Answer
-        ensures { λ r. ⌜ outcome r (now (out .exit)) ≡ decryptCall self (now (aad .entry)) (now («data» .entry)) (now (iv .entry)) (now (out .entry)) ⌝ }
+        ensures { λ r. ⌜ outcome r (now (out .exit)) ≡ modeCall Direction.Decrypt self (now (aad .entry)) (now («data» .entry)) (now (iv .entry)) (now (out .entry)) ⌝ }
     {
-        let cipher = self.cipher;
-        let answer = cipher.answer;
-        let KeyAnswer::Key = answer else {
-            return Answer::ErrorBlockSize;
-        };
-        if iv.len() != 16 {
-            return Answer::ErrorBlockSize;
-        }
-        let t = cipher::sbox();
-        let rk = cipher.rk;
-        let start = block::split_block(iv);
-        let mode = self.mode;
-        match mode {
-            CipherMode::Cfb => stream_checked(&t, rk, Kind::CfbDecrypt, start, data, out),
-            CipherMode::Ofb => stream_checked(&t, rk, Kind::Ofb, start, data, out),
-            CipherMode::Ctr => stream_checked(&t, rk, Kind::Ctr, start, data, out),
-            CipherMode::Cbc => cbc_decrypt(&t, rk, start, data, out),
-            CipherMode::Gcm => gcm_decrypt(&t, rk, iv, aad, data, out),
-        }
+        self.call(Direction::Decrypt, aad, data, iv, out)
     }
 }

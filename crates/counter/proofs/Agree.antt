@@ -44,7 +44,9 @@ module _ (c : List ℕ) (n : length c ≡ 16) (b : AreBytes c) where
       let x : (numberOf c + 1) % 2 ^ 128 ≡ k * 2 ^ 32 + 0 = rw (in-parts, add-zero) (carried (2 ^ 96) (2 ^ 32) h l (lit< tt) (lit< tt) w) in
       let y : ctrNext c ≡ bytesOf 12 k ++ bytesOf 4 0 = ap (bytesOf 16) x ∙ bytesOf-append 12 4 k 0 (lit< tt) in
       let z : bytesOf 12 k ≡ take 12 c =
-      sym (take-at (bytesOf 12 k) (bytesOf 4 0) 12 (length-bytesOf 12 k)) ∙ ap (take 12) (sym y ∙ q) ∙ take-at (take 12 c) _ 12 (length-take-le 12 c (omega arith)) in
+      sym (take-at (bytesOf 12 k) (bytesOf 4 0) 12 (length-bytesOf 12 k))
+      ∙ ap (take 12) (sym y ∙ q)
+      ∙ take-at (take 12 c) _ 12 (length-take-le 12 c (omega arith)) in
       no-turn h high-lt (sym (numberOf-bytesOf 12 k) ∙ ap numberOf z)
 
   same : (numberOf (drop 12 c) ≡ 2 ^ 32 - 1 → ⊥) → ctrNext c ≡ gcmNext c

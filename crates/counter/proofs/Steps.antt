@@ -12,7 +12,8 @@ use Rattle.block.proofs.WordsBack.{unwords-number}
 use Rattle.counter.specs.Counter.{ctrNext, gcmNext}
 
 -- Ctr's step over the number of four words
-pub ctr-words : (x r : List ℕ) (m : ℕ) → m ≡ (numberOf (unwords x) + 1) % 2 ^ 128 → r ≡ words (bytesOf 16 m) → unwords r ≡ ctrNext (unwords x)
+pub ctr-words : (x r : List ℕ) (m : ℕ) → m ≡ (numberOf (unwords x) + 1) % 2 ^ 128 → r ≡ words (bytesOf 16 m)
+    → unwords r ≡ ctrNext (unwords x)
 unfolding ctrNext
 ctr-words x r m e f = unwords-number r m f ∙ ap (bytesOf 16) e
 

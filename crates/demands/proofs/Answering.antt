@@ -1,42 +1,78 @@
--- An outcome is answered as demand 1 asks, step by step down the list of refusals.
+-- An outcome is answered as demand 1 asks: a refusal, or a success whose result has the table's length and fits.
 -- Assumes nothing.
-use mathlib.Core.Path.{_≡_, refl, _∙_}
-use mathlib.Core.Bool.{Bool, true, false, cond}
+use mathlib.Core.Path.{_≡_, refl, ap, subst, _∙_}
+use mathlib.Core.Bool.{Bool, true, false}
 use mathlib.Core.List.{List}
-use Prim.Native.Nat.{ℕ, suc, _≤_}
+use Prim.Native.Nat.{ℕ, _≤_, _<_}
 use native.Mathlib.Omega.{arith}
-use lib.ListN.{length, drop, length-append, length-drop}
-use lib.Seq.{drop-at}
-use Rattle.cipher_mode.specs.Outcome.{Outcome, refusal, done}
+use lib.ListN.{length, take, drop, length-append, length-drop}
+use lib.Seq.{drop-at, length-take-le}
+use Rattle.walk.specs.Outcome.{Outcome, finished, leaving, refused, refuse, written, done}
+use Rattle.walk.specs.Walk.{over}
+use Rattle.cipher_mode.specs.declared.answer.Refusal.{Refusal}
+use Rattle.cipher_mode.specs.declared.answer.Refusal.the-variants.{ErrorBlockSize, ErrorDataLen, InvalidLastU8, InvalidTag, TooLong, NoRoom}
+use Rattle.cipher_mode.specs.declared.checks.Checked.{Checked}
+use Rattle.cipher_mode.specs.declared.checks.Checked.the-variants.{Passed, Refused}
+use Rattle.cipher_mode.specs.Answer.{refusalNumber}
+use Rattle.cipher_mode.specs.Checks.{checked}
 use Rattle.demands.specs.Answered.{Answered}
 
--- a refusal, where the test holds; otherwise what comes next, which may count on it that the test does not hold
-pub refuses : (test : Bool) {k n : ℕ} {o : List ℕ} {next : Outcome} → k ≤ 6 → (test ≡ false → Answered o n next)
-    → Answered o n (cond test (record { head = refusal (suc k); bytes = o }) next)
-refuses true h f =
+pub refuses : (k n : ℕ) (o : List ℕ) → 0 < k → k ≤ 7 → Answered o n (refused k o)
+refuses k n o h l =
     record {
-      numbered = omega arith;
+      numbered = l;
       refused = λ _. (refl, refl);
       reported = λ e. absurd (omega arith);
       fits = omega arith;
       past = λ e. absurd (omega arith);
       kept = refl;
     }
-refuses false h f = f refl
 
--- a success, whose result has the table's length and fits
-pub does : (p : List ℕ) {n : ℕ} {o : List ℕ} → length p ≡ n → n ≤ length o → Answered o n (done p o)
-does p {n} {o} e h =
+pub does : (p o : List ℕ) (n : ℕ) → length p ≡ n → n ≤ length o → Answered o n (done p o)
+does p o n e h =
     record {
       numbered = omega arith;
-      refused = λ f. absurd (f refl);
+      refused = λ nz. absurd (nz refl);
       reported = λ _. e;
       fits = omega arith;
       past = λ _. drop-at p (drop (length p) o) (length p) refl;
-      kept = length-append p (drop (length p) o) ∙ rw (length-drop (length p) o) (omega arith);
+      kept = rw (length-append, length-drop) (omega arith);
     }
+
+-- the first n bytes of a text
+pub writes : (p o : List ℕ) (n : ℕ) → n ≤ length p → n ≤ length o → Answered o n (written (finished n) p o)
+writes p o n h k =
+    let e = length-take-le n p h in
+    let x : done (take n p) o ≡ written (finished n) p o = ap {B = Outcome} (λ (m : ℕ). leaving (finished m) (over (take n p) o)) e in
+    subst (λ (y : Outcome). Answered o n y) x (does (take n p) o n e k)
+
+-- a refusal by number k in front, or what comes next, which may count on it that the test does not hold
+pub behind : (test : Bool) (k n : ℕ) (o : List ℕ) (next : Outcome) → 0 < k → k ≤ 7 → (test ≡ false → Answered o n next)
+    → Answered o n (refuse test k o next)
+behind true k n o next h l f = refuses k n o h l
+behind false k n o next h l f = f refl
+
+numbered : (r : Refusal) → (0 < refusalNumber r) × (refusalNumber r ≤ 7)
+numbered ErrorBlockSize = (omega arith, omega arith)
+numbered ErrorDataLen = (omega arith, omega arith)
+numbered InvalidLastU8 = (omega arith, omega arith)
+numbered InvalidTag = (omega arith, omega arith)
+numbered TooLong = (omega arith, omega arith)
+numbered NoRoom = (omega arith, omega arith)
+
+-- a check in front, or what comes next, which may count on it that the check passed
+pub checks : (k : Checked) (n : ℕ) (o : List ℕ) (next : Outcome) → (k ≡ Passed → Answered o n next) → Answered o n (checked k o next)
+checks Passed n o next f = f refl
+checks (Refused r) n o next f = refuses (refusalNumber r) n o (numbered r .0) (numbered r .1)
 
 -- the table's length may be told by what success tells
 pub told-length : (n k : ℕ) (o : List ℕ) (x : Outcome) → (x .head .number ≡ 0 → n ≡ k) → Answered o n x → Answered o k x
 told-length n k o x e a =
-    record { numbered = a .numbered; refused = a .refused; reported = λ z. a .reported z ∙ e z; fits = a .fits; past = a .past; kept = a .kept }
+    record {
+      numbered = a .numbered;
+      refused = a .refused;
+      reported = λ z. a .reported z ∙ e z;
+      fits = a .fits;
+      past = a .past;
+      kept = a .kept;
+    }

@@ -1,39 +1,49 @@
 -- Demand 1: every call ends with an answer. A refusal reports length 0 and leaves the output as it was lent; a success reports
 -- the length of document 01's table and leaves what lies past it as it was lent. For all inputs.
 -- Assumes nothing.
-use mathlib.Core.Path.{_≡_, ap}
-use mathlib.Core.Bool.{_||_}
+use mathlib.Core.Path.{_≡_, ap, _∙_}
+use mathlib.Core.Bool.{Bool, true, false, cond}
 use mathlib.Core.List.{List}
-use Prim.Native.Nat.{ℕ}
-use native.Mathlib.Nat.{le-trans}
+use Prim.Native.Nat.{ℕ, _-_, _≤_}
 use native.Mathlib.Omega.{arith}
 use lib.Dec.{ltb}
 use lib.ListN.{length}
-use borrow.Author.Tests.{eq-eqb, ne-eqb, ltb-false}
-use Rattle.cipher.specs.Sm4.{encryptBlock, decryptBlock, roundKeys}
-use Rattle.cipher.proofs.Blocks.{length-encryptBlock, length-decryptBlock}
+use lib.Seq.{length-take-le}
+use borrow.Author.Tests.{eq-eqb, ne-eqb}
+use Rattle.cipher.specs.Sm4.{roundKeys}
+use Rattle.walk.specs.Outcome.{written, done}
+use Rattle.walk.specs.Walk.{chain}
+use Rattle.stream.specs.Stream.{streamMode}
+use Rattle.stream.specs.declared.Kind.{Kind}
+use Rattle.stream.specs.declared.Kind.the-variants.{Ofb as Ofb·kind, Ctr as Ctr·kind}
+use Rattle.stream.proofs.RoundTrip.{length-stream}
+use Rattle.cbc.specs.Cbc.{cbcSeal}
+use Rattle.cbc.specs.Open.{headOf as cbcHead, lastByte, namesPadding, unpadded, cbcText, cbcOpen}
+use Rattle.cbc.specs.declared.Opened.the-variants.{Done as Cbc·Done, InvalidLastU8}
+use Rattle.cbc.proofs.Blocks.{length-decrypt}
+use Rattle.cbc.proofs.RoundTrip.{length-cbcSeal}
+use Rattle.gcm.specs.Gcm.{hashKey, J0, sealed, textPart, textOf, opensUnder}
+use Rattle.gcm.specs.Open.{headOf as gcmHead, settled, gcmOpen}
+use Rattle.gcm.specs.declared.Opened.the-variants.{Done as Gcm·Done, InvalidTag}
+use Rattle.gcm.proofs.Parts.{length-sealed, length-text}
 use Rattle.cipher_mode.specs.declared.CipherMode.{CipherMode}
+use Rattle.cipher_mode.specs.declared.CipherMode.the-variants.{Cfb, Ofb, Ctr, Cbc, Gcm}
+use Rattle.cipher_mode.specs.declared.Direction.{Direction}
+use Rattle.cipher_mode.specs.declared.Direction.the-variants.{Encrypt, Decrypt}
+use Rattle.cipher_mode.specs.declared.checks.Checked.the-variants.{Passed}
 use Rattle.cipher_mode.specs.declared.Sm4Cipher.{Sm4Cipher}
 use Rattle.cipher_mode.specs.declared.Sm4CipherMode.{Sm4CipherMode}
-use Rattle.cipher_mode.specs.Outcome.{done}
-use Rattle.cipher_mode.specs.Key.{keyHead, noKey, newCipher, newCipherMode}
-use Rattle.cipher_mode.specs.Tables.{limit, decryptLimit, labelTooLong, wrongLength, encryptRoom, decryptRoom}
-use Rattle.cipher_mode.specs.Calls.{wrongSize, blockCall, encrypted, encryptCall, badPadding, badTag, decrypted, decryptCall}
-use Rattle.demands.specs.Answered.{Answered, KeyAnswered, decryptLength}
-use Rattle.demands.proofs.Answering.{refuses, does, told-length}
-use Rattle.demands.proofs.Passes.{is-sixteen, decrypt-passes}
-use Rattle.demands.proofs.ResultLengths.{length-encrypted, length-decrypted, decryptLength-fits}
-use Rattle.luossavin.specs.Host.{modeOf, hostBlockCall, hostEncryptCall, hostDecryptCall}
+use Rattle.cipher_mode.specs.Key.{keyHead, newCipher, newCipherMode}
+use Rattle.cipher_mode.specs.Tables.{roomOf}
+use Rattle.cipher_mode.specs.Checks.{dataCheck, blockCheck, messageCheck}
+use Rattle.cipher_mode.specs.Calls.{blockOf, blockCall, cfbKind, modeResult, lengthsOf, modeCall}
+use Rattle.cipher_mode.proofs.Passed.{message-passed, block-passed, whole-blocks-passed}
+use Rattle.cipher_mode.proofs.Ends.{length-block}
+use Rattle.luossavin.specs.Host.{modeOf, hostBlockCall, hostModeCall}
+use Rattle.demands.specs.Answered.{Answered, KeyAnswered, lengthOf}
+use Rattle.demands.proofs.Answering.{refuses, does, writes, behind, checks, told-length}
+use Rattle.demands.proofs.Through.{through}
 use Rattle.demands.proofs.Exported.{new-key}
-
-block-answers : (f : List ℕ → List ℕ → List ℕ) → ((rk s : List ℕ) → length (f rk s) ≡ 16)
-    → (c : Sm4Cipher) (b o : List ℕ) → Answered o 16 (blockCall f c b o)
-unfolding blockCall
-block-answers f lf c b o =
-    refuses (noKey (c .answer)) (omega arith) (λ _.
-    refuses (wrongSize b) (omega arith) (λ _.
-    refuses (ltb (length o) 16) (omega arith) (λ r.
-    does (f (c .rk) b) (lf (c .rk) b) (ltb-false (length o) 16 r))))
 
 -- Setting up a key answers 0 of 16 bytes and 1 of any other number of bytes, with length 0.
 pub new-cipher-answers : (key : List ℕ) → KeyAnswered key (keyHead (newCipher key .answer))
@@ -45,64 +55,74 @@ pub new-cipher-mode-answers : (key : List ℕ) (mode : CipherMode) → KeyAnswer
 unfolding newCipherMode
 new-cipher-mode-answers key mode = new-cipher-answers key
 
--- Encrypting one block: a refusal, or a success of 16 bytes.
-pub block-encryption-answers : (c : Sm4Cipher) (b o : List ℕ) → Answered o 16 (blockCall encryptBlock c b o)
-block-encryption-answers = block-answers encryptBlock length-encryptBlock
+-- One block, either way: a refusal, or a success of 16 bytes.
+pub block-answers : (dir : Direction) (c : Sm4Cipher) (b o : List ℕ) → Answered o 16 (blockCall dir c b o)
+unfolding blockCall
+block-answers dir c b o =
+    checks (blockCheck (c .answer) (length b) (length o)) 16 o (done (blockOf dir (c .rk) b) o) (λ e.
+    does (blockOf dir (c .rk) b) o 16 (length-block dir (c .rk) b) (block-passed _ _ _ e .enough))
 
--- Decrypting one block: a refusal, or a success of 16 bytes.
-pub block-decryption-answers : (c : Sm4Cipher) (b o : List ℕ) → Answered o 16 (blockCall decryptBlock c b o)
-block-decryption-answers = block-answers decryptBlock length-decryptBlock
+stream-answers : (k : Kind) (rk iv d o : List ℕ) → length d ≤ length o → Answered o (length d) (done (chain (streamMode k rk) iv d) o)
+stream-answers k rk iv d o r = does (chain (streamMode k rk) iv d) o (length d) (length-stream k rk iv d) r
 
--- Encrypting a message: a refusal, or a success of as many bytes as the table asks room for.
-pub encryption-answers : (m : Sm4CipherMode) (label d iv o : List ℕ) → Answered o (encryptRoom (m .mode) (length d)) (encryptCall m label d iv o)
-unfolding encryptCall
-encryption-answers m label d iv o =
-    refuses (noKey (m .cipher .answer)) (omega arith) (λ _.
-    refuses (wrongSize iv) (omega arith) (λ _.
-    refuses (labelTooLong (m .mode) label || ltb limit (length d)) (omega arith) (λ _.
-    refuses (ltb (length o) (encryptRoom (m .mode) (length d))) (omega arith) (λ r.
-    does (encrypted (m .mode) (m .cipher .rk) iv label d) (length-encrypted (m .mode) (m .cipher .rk) iv label d) (ltb-false (length o) (encryptRoom (m .mode) (length d)) r)))))
+-- opening in Cbc and in Gcm, by the test t that decides
+cbc-by : (p o : List ℕ) (b : ℕ) (t : Bool) → length p ≤ length o
+    → Answered o (length p - b) (written (cbcHead (cond t (Cbc·Done (length p - b)) InvalidLastU8)) p o)
+cbc-by p o b true r = writes p o (length p - b) (omega arith) (omega arith)
+cbc-by p o b false r = refuses 3 (length p - b) o (omega arith) (omega arith)
 
--- Decrypting a message: a refusal, or a success of as many bytes as the table says.
-pub decryption-answers : (m : Sm4CipherMode) (label d iv o : List ℕ) → Answered o (decryptLength (m .mode) (m .cipher .rk) iv d) (decryptCall m label d iv o)
-unfolding decryptCall
-decryption-answers m label d iv o =
-    refuses (noKey (m .cipher .answer)) (omega arith) (λ _.
-    refuses (wrongSize iv) (omega arith) (λ s.
-    refuses (labelTooLong (m .mode) label || ltb (decryptLimit (m .mode)) (length d)) (omega arith) (λ _.
-    refuses (wrongLength (m .mode) (length d)) (omega arith) (λ w.
-    refuses (ltb (length o) (decryptRoom (m .mode) (length d))) (omega arith) (λ r.
-    refuses (badPadding (m .mode) (m .cipher .rk) iv d) (omega arith) (λ _.
-    refuses (badTag (m .mode) (m .cipher .rk) iv label d) (omega arith) (λ _.
-    does (decrypted (m .mode) (m .cipher .rk) iv d) (length-decrypted (m .mode) (m .cipher .rk) iv d (is-sixteen iv s) w)
-    (le-trans (decryptLength-fits (m .mode) (m .cipher .rk) iv d) (ltb-false (length o) (decryptRoom (m .mode) (length d)) r)))))))))
+gcm-by : (p o : List ℕ) (n : ℕ) (t : Bool) → n ≤ length p → n ≤ length o
+    → Answered o n (written (gcmHead (cond t (Gcm·Done n) InvalidTag)) p o)
+gcm-by p o n true h r = writes p o n h r
+gcm-by p o n false h r = refuses 4 n o (omega arith) (omega arith)
 
-block-exported-answers : (f : List ℕ → List ℕ → List ℕ) → ((rk s : List ℕ) → length (f rk s) ≡ 16) → (key b o : List ℕ) → Answered o 16 (hostBlockCall f key b o)
+cbc-answers : (rk iv d o : List ℕ) → length iv ≡ 16 → dataCheck Decrypt Cbc (length d) ≡ Passed → length d ≤ length o
+    → Answered o (length d - lastByte (cbcText rk iv d)) (cbcOpen rk iv d o)
+unfolding cbcOpen unpadded
+cbc-answers rk iv d o n e r =
+    let p = cbcText rk iv d in
+    let l : length p ≡ length d = length-decrypt rk iv d n (whole-blocks-passed (length d) e .1) in
+    told-length _ _ o _ (λ _. ap (λ (k : ℕ). k - lastByte p) l) (cbc-by p o (lastByte p) (namesPadding (lastByte p)) (omega arith))
+
+gcm-answers : (rk : List ℕ) (h : ℕ) (j aad d o : List ℕ) → length d - 16 ≤ length o → Answered o (length d - 16) (gcmOpen rk h j aad d o)
+unfolding gcmOpen settled
+gcm-answers rk h j aad d o r =
+    let n = length-text rk j (textPart d) ∙ length-take-le (length d - 16) d (omega arith) in
+    gcm-by (textOf rk j (textPart d)) o (length d - 16) (opensUnder rk h j aad d) (omega arith) r
+
+result-answers : (m : CipherMode) (dir : Direction) (rk aad d iv o : List ℕ) → length iv ≡ 16 → dataCheck dir m (length d) ≡ Passed
+    → roomOf m dir (length d) ≤ length o → Answered o (lengthOf m dir rk iv d) (modeResult m dir rk aad d iv o)
+result-answers Cfb dir rk aad d iv o n e r = stream-answers (cfbKind dir) rk iv d o r
+result-answers Ofb dir rk aad d iv o n e r = stream-answers Ofb·kind rk iv d o r
+result-answers Ctr dir rk aad d iv o n e r = stream-answers Ctr·kind rk iv d o r
+result-answers Cbc Encrypt rk aad d iv o n e r = does (cbcSeal rk iv d) o _ (length-cbcSeal rk iv d) r
+result-answers Cbc Decrypt rk aad d iv o n e r = cbc-answers rk iv d o n e r
+result-answers Gcm Encrypt rk aad d iv o n e r =
+    does (sealed rk (hashKey rk) (J0 rk iv) aad d) o _ (length-sealed rk (hashKey rk) (J0 rk iv) aad d) r
+result-answers Gcm Decrypt rk aad d iv o n e r = gcm-answers rk (hashKey rk) (J0 rk iv) aad d o r
+
+-- A message, either way: a refusal, or a success of as many bytes as the table says.
+pub message-answers : (dir : Direction) (m : Sm4CipherMode) (label d iv o : List ℕ)
+    → Answered o (lengthOf (m .mode) dir (m .cipher .rk) iv d) (modeCall dir m label d iv o)
+unfolding modeCall
+message-answers dir m label d iv o =
+    checks (messageCheck (m .cipher .answer) dir (m .mode) (lengthsOf label d iv o)) _ o
+    (modeResult (m .mode) dir (m .cipher .rk) label d iv o) (λ e.
+    let p = message-passed _ _ _ _ e in
+    result-answers (m .mode) dir (m .cipher .rk) label d iv o (p .iv-size) (p .content) (p .room))
+
+-- The exported call on one block, either way: a refusal, or a success of 16 bytes.
+pub exported-block-answers : (dir : Direction) (key b o : List ℕ) → Answered o 16 (hostBlockCall dir key b o)
 unfolding hostBlockCall
-block-exported-answers f lf key b o = block-answers f lf (newCipher key) b o
+exported-block-answers dir key b o = block-answers dir (newCipher key) b o
 
--- The exported encryption of one block: a refusal, or a success of 16 bytes.
-pub exported-block-encryption-answers : (key b o : List ℕ) → Answered o 16 (hostBlockCall encryptBlock key b o)
-exported-block-encryption-answers = block-exported-answers encryptBlock length-encryptBlock
-
--- The exported decryption of one block: a refusal, or a success of 16 bytes.
-pub exported-block-decryption-answers : (key b o : List ℕ) → Answered o 16 (hostBlockCall decryptBlock key b o)
-exported-block-decryption-answers = block-exported-answers decryptBlock length-decryptBlock
-
--- The exported encryption of a message: the same as above, a mode number over 4 being one refusal more.
-pub exported-encryption-answers : (mode : ℕ) (key label d iv o : List ℕ)
-    → Answered o (encryptRoom (modeOf mode) (length d)) (hostEncryptCall mode key label d iv o)
-unfolding hostEncryptCall newCipherMode
-exported-encryption-answers mode key label d iv o =
-    refuses (ltb 4 mode) (omega arith) (λ _. encryption-answers (newCipherMode key (modeOf mode)) label d iv o)
-
--- The exported decryption of a message: the same as above, a mode number over 4 being one refusal more.
-pub exported-decryption-answers : (mode : ℕ) (key label d iv o : List ℕ)
-    → Answered o (decryptLength (modeOf mode) (roundKeys key) iv d) (hostDecryptCall mode key label d iv o)
-unfolding hostDecryptCall newCipherMode
-exported-decryption-answers mode key label d iv o =
+-- The exported call on a message, either way: the same as above, a mode number over 4 being one refusal more.
+pub exported-message-answers : (dir : Direction) (mode : ℕ) (key label d iv o : List ℕ)
+    → Answered o (lengthOf (modeOf mode) dir (roundKeys key) iv d) (hostModeCall dir mode key label d iv o)
+unfolding hostModeCall newCipherMode
+exported-message-answers dir mode key label d iv o =
     let m = newCipherMode key (modeOf mode) in
-    refuses (ltb 4 mode) (omega arith) (λ _.
-    told-length _ _ o (decryptCall m label d iv o)
-    (λ z. ap (λ (rk : List ℕ). decryptLength (modeOf mode) rk iv d) (new-key key (decrypt-passes m label d iv o z .sized .key)))
-    (decryption-answers m label d iv o))
+    behind (ltb 4 mode) 7 _ o (modeCall dir m label d iv o) (omega arith) (omega arith) (λ _.
+    told-length _ _ o (modeCall dir m label d iv o)
+    (λ z. ap (λ (rk : List ℕ). lengthOf (modeOf mode) dir rk iv d) (new-key key (through dir m label d iv o z .key)))
+    (message-answers dir m label d iv o))

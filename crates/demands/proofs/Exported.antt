@@ -12,11 +12,12 @@ use Rattle.cipher.specs.Sm4.{roundKeys}
 use Rattle.cipher_mode.specs.declared.KeyAnswer.the-variants.{Key}
 use Rattle.cipher_mode.specs.declared.CipherMode.{CipherMode}
 use Rattle.cipher_mode.specs.declared.CipherMode.the-variants.{Cfb, Ofb, Ctr, Cbc, Gcm}
+use Rattle.cipher_mode.specs.declared.Direction.the-variants.{Decrypt}
 use Rattle.cipher_mode.specs.Key.{newCipher, newCipherMode}
-use Rattle.cipher_mode.specs.Calls.{decryptCall}
+use Rattle.cipher_mode.specs.Calls.{modeCall}
 use Rattle.luossavin.specs.Host.{modeOf}
-use Rattle.demands.proofs.Passes.{decrypt-passes}
 use Rattle.demands.specs.OneBlockRefused.{MovesZero}
+use Rattle.demands.proofs.Through.{through}
 
 -- by the test b on the key's size
 new-by : (key : List ℕ) (b : Bool) → eqb (length key) 16 ≡ b → newCipher key .answer ≡ Key → newCipher key .rk ≡ roundKeys key
@@ -50,7 +51,7 @@ pub other-mode : (mode : ℕ) (x : CipherMode) → mode ≤ 4 → mode ≢ modeN
 other-mode mode x h n e = n (sym (number-of-mode mode h) ∙ ap modeNumber e)
 
 -- where a file opens, the key is usable, and its record moves the zero block if its round keys do
-pub moves-new : (key label file iv o : List ℕ) → decryptCall (newCipherMode key Gcm) label file iv o .head .number ≡ 0
+pub moves-new : (key label file iv o : List ℕ) → modeCall Decrypt (newCipherMode key Gcm) label file iv o .head .number ≡ 0
     → MovesZero (roundKeys key) → MovesZero (newCipher key .rk)
 unfolding newCipherMode
-moves-new key label file iv o opens moves = rw (new-key key (decrypt-passes (newCipherMode key Gcm) label file iv o opens .sized .key)) moves
+moves-new key label file iv o opens moves = rw (new-key key (through Decrypt (newCipherMode key Gcm) label file iv o opens .key)) moves

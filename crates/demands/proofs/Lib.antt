@@ -1,8 +1,7 @@
 -- what every file below cites
-pub mod Passes
+pub mod Through
 pub mod Exported
 -- demand 1
-pub mod ResultLengths
 pub mod Answering
 pub mod EveryCallAnswers
 pub mod UniqueOutcomes

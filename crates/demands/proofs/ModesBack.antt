@@ -1,134 +1,168 @@
--- In each mode, what encrypting gave passes the tests of decrypting and decrypts to the message; outside Cbc also the other
--- way about.
+-- In each mode, what encrypting gave is in order for decrypting and decrypts to the message; outside Cbc also the other way
+-- about.
 -- Assumes nothing.
-use mathlib.Core.Path.{_≡_, refl, ap, _∙_}
+use mathlib.Core.Path.{_≡_, refl, sym, ap, _∙_}
 use mathlib.Core.Logic.{_≢_}
-use mathlib.Core.Bool.{Bool, true, false, not, cond, _||_}
+use mathlib.Core.Bool.{Bool, true, false}
 use mathlib.Core.List.{List}
-use Prim.Native.Nat.{ℕ, _+_, _-_, _%_, _≤_}
+use Prim.Native.Nat.{ℕ, _%_, _≤_}
 use native.Mathlib.Omega.{arith}
-use lib.Dec.{ltb}
-use lib.ListN.{length, take, length-take}
-use lib.Seq.{take-append-seam}
-use borrow.Author.Tests.{eq-eqb, ne-eqb, ltb-false, le-ltb, not-false}
+use lib.ListN.{length}
+use borrow.Author.Tests.{eq-eqb, ne-eqb, le-ltb}
 use Rattle.block.specs.Below.{AreBytes}
+use Rattle.walk.specs.Outcome.{Outcome, done}
+use Rattle.walk.specs.Walk.{chain}
+use Rattle.stream.specs.Stream.{streamMode}
 use Rattle.stream.specs.declared.Kind.the-variants.{CfbEncrypt, CfbDecrypt, Ofb as Ofb·kind, Ctr as Ctr·kind}
 use Rattle.stream.proofs.RoundTrip.{length-stream, stream-back, stream-forth}
-use Rattle.cbc.specs.Cbc.{padding, padded, cbcSeal}
-use Rattle.cbc.specs.Open.{lastByte, namesPadding, unpadded}
-use Rattle.cbc.specs.declared.Opened.the-variants.{Done as Opened·Done, InvalidLastU8 as Opened·None}
-use Rattle.cbc.proofs.Unpadded.{padded-unpadded}
-use Rattle.cbc.proofs.RoundTrip.{length-cbcSeal, cbc-decrypted}
-use Rattle.gcm.specs.Gcm.{hashKey, firstCounter, sealed, textOf, textPart, opensUnder}
-use Rattle.gcm.proofs.Parts.{length-sealed, length-text}
+use Rattle.cbc.specs.Cbc.{cbcSeal}
+use Rattle.cbc.proofs.RoundTrip.{length-cbcSeal, cbc-back}
+use Rattle.gcm.specs.Gcm.{hashKey, J0, sealed, textOf, textPart, opensUnder}
+use Rattle.gcm.specs.Open.{gcmOpen}
+use Rattle.gcm.proofs.Parts.{length-sealed}
 use Rattle.gcm.proofs.RoundTrip.{opens-sealed, text-of-sealed, sealed-of-opened}
+use Rattle.gcm.proofs.Settled.{text-size, open-refused, open-done}
 use Rattle.cipher_mode.specs.declared.CipherMode.{CipherMode}
 use Rattle.cipher_mode.specs.declared.CipherMode.the-variants.{Cfb, Ofb, Ctr, Cbc, Gcm}
-use Rattle.cipher_mode.specs.Tables.{limit, decryptLimit, labelTooLong, wrongLength}
-use Rattle.cipher_mode.specs.Calls.{encrypted, badPadding, badTag, decrypted}
+use Rattle.cipher_mode.specs.declared.Direction.the-variants.{Encrypt, Decrypt}
+use Rattle.cipher_mode.specs.declared.checks.Checked.the-variants.{Passed}
+use Rattle.cipher_mode.specs.Tables.{limit, sealedLimit}
+use Rattle.cipher_mode.specs.Checks.{dataCheck}
+use Rattle.cipher_mode.specs.Calls.{modeResult}
+use Rattle.cipher_mode.proofs.Passed.{data-within, with-tag-passed}
 
--- the data c passes every test on its length and its bytes, and decrypts to d
-pub record Decrypts (mode : CipherMode) (rk iv aad c d : List ℕ) : Type 0 where
-  pub within : (labelTooLong mode aad || ltb (decryptLimit mode) (length c)) ≡ false
-  pub whole : wrongLength mode (length c) ≡ false
-  pub padding : badPadding mode rk iv c ≡ false
-  pub tag : badTag mode rk iv aad c ≡ false
-  pub text : decrypted mode rk iv c ≡ d
+-- the message that d is encrypted to
+abbrev pub encrypted : CipherMode → List ℕ → List ℕ → List ℕ → List ℕ → List ℕ
+encrypted Cfb rk aad d iv = chain (streamMode CfbEncrypt rk) iv d
+encrypted Ofb rk aad d iv = chain (streamMode Ofb·kind rk) iv d
+encrypted Ctr rk aad d iv = chain (streamMode Ctr·kind rk) iv d
+encrypted Cbc rk aad d iv = cbcSeal rk iv d
+encrypted Gcm rk aad d iv = sealed rk (hashKey rk) (J0 rk iv) aad d
 
-pub record Encrypts (mode : CipherMode) (rk iv aad d c : List ℕ) : Type 0 where
-  pub within : (labelTooLong mode aad || ltb limit (length d)) ≡ false
-  pub text : encrypted mode rk iv aad d ≡ c
+pub encrypts : (m : CipherMode) (rk aad d iv o : List ℕ) → modeResult m Encrypt rk aad d iv o ≡ done (encrypted m rk aad d iv) o
+encrypts Cfb rk aad d iv o = refl
+encrypts Ofb rk aad d iv o = refl
+encrypts Ctr rk aad d iv o = refl
+encrypts Cbc rk aad d iv o = refl
+encrypts Gcm rk aad d iv o = refl
 
--- two tests, neither of which holds
-neither : (a b c : Bool) → (a || b) ≡ false → (b ≡ false → c ≡ false) → (a || c) ≡ false
-neither true b c e f = e
-neither false b c e f = f e
+-- lengths that decryption takes
+whole-passes : (n : ℕ) → n ≤ sealedLimit → 16 ≤ n → n % 16 ≡ 0 → dataCheck Decrypt Cbc n ≡ Passed
+unfolding dataCheck
+whole-passes n h k e = rw (le-ltb sealedLimit n h, ne-eqb n 0 (λ z. omega arith), eq-eqb (n % 16) 0 e)
 
--- a text whose last byte names its padding
-names : (n k : ℕ) (u : Bool) → cond u (Opened·Done n) Opened·None ≡ Opened·Done k → (u ≡ true) × (n ≡ k)
-names n k true e = (refl, cc)
-names n k false e = let z : _≡_ {A = ℕ} 0 1 = cc in absurd (omega arith)
+pub tagged-passes : (n : ℕ) → n ≤ sealedLimit → 16 ≤ n → dataCheck Decrypt Gcm n ≡ Passed
+unfolding dataCheck
+tagged-passes n h k = rw (le-ltb sealedLimit n h, le-ltb n 16 k)
 
-module _ (rk iv aad d : List ℕ) (sixteen : length iv ≡ 16) (iv-bytes : AreBytes iv) (d-bytes : AreBytes d) where
-  cbc-back : ltb limit (length d) ≡ false → Decrypts Cbc rk iv aad (cbcSeal rk iv d) d
-  unfolding badPadding badTag decrypted unpadded
-  cbc-back e =
+-- the message c is in order for decrypting, and decrypts to d
+pub record Decrypts (m : CipherMode) (rk aad c iv d : List ℕ) : Type 0 where
+  pub content : dataCheck Decrypt m (length c) ≡ Passed
+  pub opened : (o : List ℕ) → modeResult m Decrypt rk aad c iv o ≡ done d o
+
+module _ (rk aad d iv : List ℕ) (sixteen : length iv ≡ 16) (iv-bytes : AreBytes iv) (d-bytes : AreBytes d) where
+  cbc-decrypts : length d ≤ limit → Decrypts Cbc rk aad (cbcSeal rk iv d) iv d
+  cbc-decrypts l =
       let n = length-cbcSeal rk iv d in
-      let l = ltb-false limit (length d) e in
-      let p = cbc-decrypted rk iv d sixteen iv-bytes d-bytes in
-      let u = names (length (padded d) - lastByte (padded d)) (length d) (namesPadding (lastByte (padded d))) (padded-unpadded d) in
       record {
-        within = le-ltb (limit + 16) (length (cbcSeal rk iv d)) (omega arith);
-        whole = rw (ne-eqb (length (cbcSeal rk iv d)) 0 (λ z. omega arith), eq-eqb (length (cbcSeal rk iv d) % 16) 0 (omega arith));
-        padding = ap (λ (q : List ℕ). not (namesPadding (lastByte q))) p ∙ ap not (u .0);
-        tag = refl;
-        text =
-            ap (λ (q : List ℕ). take (length q - lastByte q) q) p ∙ ap (λ (k : ℕ). take k (padded d)) (u .1)
-            ∙ take-append-seam d (Rattle.cbc.specs.Cbc.padding (length d));
+        content = whole-passes (length (cbcSeal rk iv d)) (omega arith) (omega arith) (omega arith);
+        opened = cbc-back rk iv d sixteen iv-bytes d-bytes;
       }
 
-  gcm-back : (ltb limit (length aad) || ltb limit (length d)) ≡ false → Decrypts Gcm rk iv aad (encrypted Gcm rk iv aad d) d
-  unfolding encrypted badPadding badTag decrypted
-  gcm-back e =
+  gcm-decrypts : length d ≤ limit → Decrypts Gcm rk aad (encrypted Gcm rk aad d iv) iv d
+  gcm-decrypts l =
       let h = hashKey rk in
-      let j = firstCounter h iv in
+      let j = J0 rk iv in
+      let c = sealed rk h j aad d in
       let n = length-sealed rk h j aad d in
       record {
-        within = neither (ltb limit (length aad)) (ltb limit (length d)) _ e (λ f. let l = ltb-false limit (length d) f in le-ltb (limit + 16) (length (sealed rk h j aad d)) (omega arith));
-        whole = le-ltb (length (sealed rk h j aad d)) 16 (omega arith);
-        padding = refl;
-        tag = ap not (opens-sealed rk h j aad d);
-        text = text-of-sealed rk h j aad d;
+        content = tagged-passes (length c) (omega arith) (omega arith);
+        opened = λ o.
+            sym (open-done rk h j aad c o (omega arith) (opens-sealed rk h j aad d))
+            ∙ ap {B = Outcome} (λ (p : List ℕ). done p o) (text-of-sealed rk h j aad d);
       }
 
   -- in every mode
-  pub back : (mode : CipherMode) → (labelTooLong mode aad || ltb limit (length d)) ≡ false → Decrypts mode rk iv aad (encrypted mode rk iv aad d) d
-  unfolding encrypted badPadding badTag decrypted
+  pub back : (m : CipherMode) → dataCheck Encrypt m (length d) ≡ Passed → Decrypts m rk aad (encrypted m rk aad d iv) iv d
+  unfolding dataCheck
   back Cfb e =
       record {
-        within = rw (length-stream CfbEncrypt rk iv d) e;
-        whole = refl;
-        padding = refl;
-        tag = refl;
-        text = stream-back CfbEncrypt rk iv d;
+        content = rw (length-stream CfbEncrypt rk iv d) e;
+        opened = λ o. ap {B = Outcome} (λ (p : List ℕ). done p o) (stream-back CfbEncrypt rk iv d);
       }
   back Ofb e =
       record {
-        within = rw (length-stream Ofb·kind rk iv d) e;
-        whole = refl;
-        padding = refl;
-        tag = refl;
-        text = stream-back Ofb·kind rk iv d;
+        content = rw (length-stream Ofb·kind rk iv d) e;
+        opened = λ o. ap {B = Outcome} (λ (p : List ℕ). done p o) (stream-back Ofb·kind rk iv d);
       }
   back Ctr e =
       record {
-        within = rw (length-stream Ctr·kind rk iv d) e;
-        whole = refl;
-        padding = refl;
-        tag = refl;
-        text = stream-back Ctr·kind rk iv d;
+        content = rw (length-stream Ctr·kind rk iv d) e;
+        opened = λ o. ap {B = Outcome} (λ (p : List ℕ). done p o) (stream-back Ctr·kind rk iv d);
       }
-  back Cbc e = cbc-back e
-  back Gcm e = gcm-back e
+  back Cbc e = cbc-decrypts (data-within Encrypt Cbc (length d) e)
+  back Gcm e = gcm-decrypts (data-within Encrypt Gcm (length d) e)
 
-module _ (rk iv aad c : List ℕ) where
-  gcm-forth : (ltb limit (length aad) || ltb (limit + 16) (length c)) ≡ false → badTag Gcm rk iv aad c ≡ false → Encrypts Gcm rk iv aad (decrypted Gcm rk iv c) c
-  unfolding encrypted badTag decrypted
-  gcm-forth e t =
+-- the data c decrypted to a text that is in order for encrypting, and encrypts to c
+pub record Encrypts (m : CipherMode) (rk aad c iv o : List ℕ) : Type 0 where
+  pub text : List ℕ
+  pub opened : modeResult m Decrypt rk aad c iv o ≡ done text o
+  pub content : dataCheck Encrypt m (length text) ≡ Passed
+  pub again : encrypted m rk aad text iv ≡ c
+
+-- a message of Gcm that was opened is one that opens
+opens-by : (rk : List ℕ) (h : ℕ) (j aad c o : List ℕ) (t : Bool) → opensUnder rk h j aad c ≡ t
+    → gcmOpen rk h j aad c o .head .number ≡ 0 → opensUnder rk h j aad c ≡ true
+opens-by rk h j aad c o true e z = e
+opens-by rk h j aad c o false e z =
+    let four : _≡_ {A = ℕ} 4 0 = ap (λ (x : Outcome). x .head .number) (open-refused rk h j aad c o e) ∙ z in
+    absurd (omega arith)
+
+pub opened-opens : (rk : List ℕ) (h : ℕ) (j aad c o : List ℕ) → gcmOpen rk h j aad c o .head .number ≡ 0 → opensUnder rk h j aad c ≡ true
+opened-opens rk h j aad c o = opens-by rk h j aad c o (opensUnder rk h j aad c) refl
+
+module _ (rk aad c iv o : List ℕ) where
+  gcm-encrypts : dataCheck Decrypt Gcm (length c) ≡ Passed → modeResult Gcm Decrypt rk aad c iv o .head .number ≡ 0
+      → Encrypts Gcm rk aad c iv o
+  unfolding dataCheck
+  gcm-encrypts e z =
       let h = hashKey rk in
-      let j = firstCounter h iv in
-      let n : length (textOf rk j (textPart c)) ≤ length c - 16 = rw (length-text rk j (textPart c), length-take (length c - 16) c) (omega arith) in
+      let j = J0 rk iv in
+      let n = with-tag-passed (length c) e in
+      let l = data-within Decrypt Gcm (length c) e in
+      let t = opened-opens rk h j aad c o z in
+      let k = text-size rk h j aad c o n in
       record {
-        within = neither (ltb limit (length aad)) (ltb (limit + 16) (length c)) _ e (λ f. let l = ltb-false (limit + 16) (length c) f in le-ltb limit (length (textOf rk j (textPart c))) (omega arith));
-        text = sealed-of-opened rk h j aad c (not-false (opensUnder rk h j aad c) t);
+        text = textOf rk j (textPart c);
+        opened = sym (open-done rk h j aad c o n t);
+        content = rw (le-ltb limit (length (textOf rk j (textPart c))) (omega arith));
+        again = sealed-of-opened rk h j aad c t;
       }
 
   -- in every mode but Cbc
-  pub forth : (mode : CipherMode) → mode ≢ Cbc → (labelTooLong mode aad || ltb (decryptLimit mode) (length c)) ≡ false → badTag mode rk iv aad c ≡ false
-      → Encrypts mode rk iv aad (decrypted mode rk iv c) c
-  unfolding encrypted decrypted
-  forth Cfb n e t = record { within = rw (length-stream CfbDecrypt rk iv c) e; text = stream-forth CfbEncrypt rk iv c }
-  forth Ofb n e t = record { within = rw (length-stream Ofb·kind rk iv c) e; text = stream-forth Ofb·kind rk iv c }
-  forth Ctr n e t = record { within = rw (length-stream Ctr·kind rk iv c) e; text = stream-forth Ctr·kind rk iv c }
-  forth Cbc n e t = absurd (n refl)
-  forth Gcm n e t = gcm-forth e t
+  pub forth : (m : CipherMode) → m ≢ Cbc → dataCheck Decrypt m (length c) ≡ Passed → modeResult m Decrypt rk aad c iv o .head .number ≡ 0
+      → Encrypts m rk aad c iv o
+  unfolding dataCheck
+  forth Cfb n e z =
+      record {
+        text = chain (streamMode CfbDecrypt rk) iv c;
+        opened = refl;
+        content = rw (length-stream CfbDecrypt rk iv c) e;
+        again = stream-forth CfbEncrypt rk iv c;
+      }
+  forth Ofb n e z =
+      record {
+        text = chain (streamMode Ofb·kind rk) iv c;
+        opened = refl;
+        content = rw (length-stream Ofb·kind rk iv c) e;
+        again = stream-forth Ofb·kind rk iv c;
+      }
+  forth Ctr n e z =
+      record {
+        text = chain (streamMode Ctr·kind rk) iv c;
+        opened = refl;
+        content = rw (length-stream Ctr·kind rk iv c) e;
+        again = stream-forth Ctr·kind rk iv c;
+      }
+  forth Cbc n e z = absurd (n refl)
+  forth Gcm n e z = gcm-encrypts e z

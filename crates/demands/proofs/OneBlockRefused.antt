@@ -1,6 +1,6 @@
 -- Demand 3: one changed block, of the ciphertext or of the label, is refused.
 -- Assumes nothing.
-use mathlib.Core.Path.{_≡_, sym, ap, _∙_, refl}
+use mathlib.Core.Path.{_≡_, sym, ap, _∙_}
 use mathlib.Core.Logic.{⊎-elim}
 use mathlib.Core.List.{List, _++_}
 use Prim.Native.Nat.{ℕ, _+_}
@@ -9,20 +9,20 @@ use Rattle.ghash.specs.OneBlock.{OneBlock}
 use Rattle.ghash.proofs.Changed.{label-changed, text-changed}
 use Rattle.gcm.specs.Gcm.{hashKey}
 use Rattle.gcm.proofs.HashKey.{hashKey-lt}
-use Rattle.cipher_mode.specs.declared.CipherMode.the-variants.{Gcm}
-use Rattle.cipher_mode.specs.declared.Sm4CipherMode.{Sm4CipherMode}
-use Rattle.cipher_mode.specs.Calls.{decryptCall}
-use Rattle.demands.specs.Call.{RefusedAs}
+use Rattle.cipher_mode.specs.declared.Direction.the-variants.{Decrypt}
+use Rattle.cipher_mode.specs.declared.Sm4Cipher.{Sm4Cipher}
+use Rattle.cipher_mode.specs.Calls.{modeCall}
+use Rattle.demands.specs.Call.{inGcm, RefusedAs}
 use Rattle.demands.specs.OneBlockRefused.{MovesZero, OneBlockRefused}
-use Rattle.demands.proofs.OtherHash.{hash-key-nonzero, Lengths, gcm-lengths, other-hash-refused}
+use Rattle.demands.proofs.OtherHash.{hash-key-nonzero, Fits, gcm-fits, other-hash-refused}
 use Rattle.cipher.specs.Sm4.{roundKeys}
-use Rattle.cipher_mode.specs.Key.{newCipherMode}
-use Rattle.luossavin.specs.Host.{modeOf, hostDecryptCall}
+use Rattle.cipher_mode.specs.Key.{newCipher, newCipherMode}
+use Rattle.luossavin.specs.Host.{modeOf, hostModeCall}
 use Rattle.demands.proofs.Exported.{moves-new}
 
 -- a list of another label and ciphertext of the same lengths passes where the first does
 same-lengths : (a₁ a₂ c₁ c₂ t o₁ o₂ : List ℕ) → length a₁ ≡ length a₂ → length c₁ ≡ length c₂ → length o₁ ≡ length o₂
-    → Lengths a₁ (c₁ ++ t) o₁ → Lengths a₂ (c₂ ++ t) o₂
+    → Fits a₁ (c₁ ++ t) o₁ → Fits a₂ (c₂ ++ t) o₂
 same-lengths a₁ a₂ c₁ c₂ t o₁ o₂ ea ec eo l =
     let s : length (c₁ ++ t) ≡ length (c₂ ++ t) = length-append c₁ t ∙ ap (λ (n : ℕ). n + length t) ec ∙ sym (length-append c₂ t) in
     record {
@@ -34,29 +34,30 @@ same-lengths a₁ a₂ c₁ c₂ t o₁ o₂ ea ec eo l =
 
 -- Under a key that does not encrypt the all-zero block to itself, Gcm refuses a message that differs from one that opens
 -- inside exactly one block of its ciphertext or of its label: as 4, with length 0 and the output as it was lent.
-pub one-block-refused : (m : Sm4CipherMode) → m .mode ≡ Gcm → MovesZero (m .cipher .rk) → OneBlockRefused (decryptCall m)
-one-block-refused m gcm moves a₁ a₂ c₁ c₂ t iv o₁ o₂ ba₁ ba₂ bc₁ bc₂ n eo change opens =
+pub one-block-refused : (c : Sm4Cipher) → MovesZero (c .rk) → OneBlockRefused (modeCall Decrypt (inGcm c))
+one-block-refused c moves a₁ a₂ c₁ c₂ t iv o₁ o₂ ba₁ ba₂ bc₁ bc₂ n eo change opens =
     ⊎-elim in-the-text in-the-label change
   where
     rk : List ℕ
-    rk = m .cipher .rk
+    rk = c .rk
 
-    in-the-text : (a₁ ≡ a₂) × OneBlock c₁ c₂ → RefusedAs 4 o₂ (decryptCall m a₂ (c₂ ++ t) iv o₂)
+    in-the-text : (a₁ ≡ a₂) × OneBlock c₁ c₂ → RefusedAs 4 o₂ (modeCall Decrypt (inGcm c) a₂ (c₂ ++ t) iv o₂)
     in-the-text (e, o) =
-        other-hash-refused m gcm a₁ a₂ c₁ c₂ t iv o₁ o₂ n
+        other-hash-refused c a₁ a₂ c₁ c₂ t iv o₁ o₂ n
         (rw (← e) (text-changed (hashKey rk) (hashKey-lt rk) (hash-key-nonzero rk moves) a₁ c₁ c₂ bc₁ bc₂ o))
-        (same-lengths a₁ a₂ c₁ c₂ t o₁ o₂ (ap length e) (o .lengths) eo (gcm-lengths m gcm a₁ (c₁ ++ t) iv o₁ opens))
+        (same-lengths a₁ a₂ c₁ c₂ t o₁ o₂ (ap length e) (o .lengths) eo (gcm-fits c a₁ (c₁ ++ t) iv o₁ opens))
         opens
 
-    in-the-label : (c₁ ≡ c₂) × OneBlock a₁ a₂ → RefusedAs 4 o₂ (decryptCall m a₂ (c₂ ++ t) iv o₂)
+    in-the-label : (c₁ ≡ c₂) × OneBlock a₁ a₂ → RefusedAs 4 o₂ (modeCall Decrypt (inGcm c) a₂ (c₂ ++ t) iv o₂)
     in-the-label (e, o) =
-        other-hash-refused m gcm a₁ a₂ c₁ c₂ t iv o₁ o₂ n
+        other-hash-refused c a₁ a₂ c₁ c₂ t iv o₁ o₂ n
         (rw (← e) (label-changed (hashKey rk) (hashKey-lt rk) (hash-key-nonzero rk moves) a₁ a₂ c₁ ba₁ ba₂ o))
-        (same-lengths a₁ a₂ c₁ c₂ t o₁ o₂ (o .lengths) (ap length e) eo (gcm-lengths m gcm a₁ (c₁ ++ t) iv o₁ opens))
+        (same-lengths a₁ a₂ c₁ c₂ t o₁ o₂ (o .lengths) (ap length e) eo (gcm-fits c a₁ (c₁ ++ t) iv o₁ opens))
         opens
 
 -- The same of the exported call with mode 4.
-pub exported-one-block-refused : (key : List ℕ) → MovesZero (roundKeys key) → OneBlockRefused (hostDecryptCall 4 key)
-unfolding hostDecryptCall modeOf newCipherMode
+pub exported-one-block-refused : (key : List ℕ) → MovesZero (roundKeys key) → OneBlockRefused (hostModeCall Decrypt 4 key)
+unfolding hostModeCall modeOf newCipherMode
 exported-one-block-refused key moves a₁ a₂ c₁ c₂ t iv o₁ o₂ ba₁ ba₂ bc₁ bc₂ n eo change opens =
-    one-block-refused (newCipherMode key Gcm) refl (moves-new key a₁ (c₁ ++ t) iv o₁ opens moves) a₁ a₂ c₁ c₂ t iv o₁ o₂ ba₁ ba₂ bc₁ bc₂ n eo change opens
+    let moved = moves-new key a₁ (c₁ ++ t) iv o₁ opens moves in
+    one-block-refused (newCipher key) moved a₁ a₂ c₁ c₂ t iv o₁ o₂ ba₁ ba₂ bc₁ bc₂ n eo change opens

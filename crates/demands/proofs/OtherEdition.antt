@@ -11,18 +11,18 @@ use Rattle.ghash.specs.OneBlock.{OneBlock}
 use Rattle.ghash.proofs.Changed.{label-changed}
 use Rattle.gcm.specs.Gcm.{hashKey, textPart}
 use Rattle.gcm.proofs.HashKey.{hashKey-lt}
-use Rattle.cipher_mode.specs.declared.CipherMode.the-variants.{Gcm}
-use Rattle.cipher_mode.specs.declared.Sm4CipherMode.{Sm4CipherMode}
-use Rattle.cipher_mode.specs.Calls.{decryptCall}
+use Rattle.cipher_mode.specs.declared.Direction.the-variants.{Decrypt}
+use Rattle.cipher_mode.specs.declared.Sm4Cipher.{Sm4Cipher}
+use Rattle.cipher_mode.specs.Calls.{modeCall}
 use Rattle.label.specs.Label.{labelOf}
 use Rattle.label.proofs.LabelTells.{length-label, label-bytes, label-job, label-edition}
-use Rattle.demands.specs.Call.{RefusedAs}
+use Rattle.demands.specs.Call.{inGcm, RefusedAs}
 use Rattle.demands.specs.OneBlockRefused.{MovesZero}
 use Rattle.demands.specs.OtherEdition.{OtherEditionRefused}
 use Rattle.demands.proofs.OtherHash.{hash-key-nonzero, other-label-refused}
 use Rattle.cipher.specs.Sm4.{roundKeys}
-use Rattle.cipher_mode.specs.Key.{newCipherMode}
-use Rattle.luossavin.specs.Host.{modeOf, hostDecryptCall}
+use Rattle.cipher_mode.specs.Key.{newCipher, newCipherMode}
+use Rattle.luossavin.specs.Host.{modeOf, hostModeCall}
 use Rattle.demands.proofs.Exported.{moves-new}
 
 -- two lists of a block or less that differ do so inside one block
@@ -38,26 +38,27 @@ one-block a b ne e l =
     }
 
 -- a file under another label of a block or less
-short-label-refused : (m : Sm4CipherMode) → m .mode ≡ Gcm → MovesZero (m .cipher .rk) → (a₁ a₂ file iv o₁ o₂ : List ℕ) → AreBytes a₁ → AreBytes a₂
+short-label-refused : (c : Sm4Cipher) → MovesZero (c .rk) → (a₁ a₂ file iv o₁ o₂ : List ℕ) → AreBytes a₁ → AreBytes a₂
     → a₁ ≢ a₂ → length a₁ ≡ length a₂ → length a₁ ≤ 16 → length o₁ ≡ length o₂
-    → decryptCall m a₁ file iv o₁ .head .number ≡ 0 → RefusedAs 4 o₂ (decryptCall m a₂ file iv o₂)
-short-label-refused m gcm moves a₁ a₂ file iv o₁ o₂ b₁ b₂ ne e l eo opens =
-    let rk = m .cipher .rk in
-    other-label-refused m gcm a₁ a₂ file iv o₁ o₂ (omega arith) eo
+    → modeCall Decrypt (inGcm c) a₁ file iv o₁ .head .number ≡ 0 → RefusedAs 4 o₂ (modeCall Decrypt (inGcm c) a₂ file iv o₂)
+short-label-refused c moves a₁ a₂ file iv o₁ o₂ b₁ b₂ ne e l eo opens =
+    let rk = c .rk in
+    other-label-refused c a₁ a₂ file iv o₁ o₂ (omega arith) eo
     (label-changed (hashKey rk) (hashKey-lt rk) (hash-key-nonzero rk moves) a₁ a₂ (textPart file) b₁ b₂ (one-block a₁ a₂ ne e l))
     opens
 
 -- Under a key that does not encrypt the all-zero block to itself, a file that opens in Gcm under one job and edition is
 -- refused as 4 under every other job or edition.
-pub other-edition-refused : (m : Sm4CipherMode) → m .mode ≡ Gcm → MovesZero (m .cipher .rk) → OtherEditionRefused (decryptCall m)
-other-edition-refused m gcm moves j₁ j₂ e₁ e₂ file iv o₁ o₂ hj₁ hj₂ he₁ he₂ other eo opens =
+pub other-edition-refused : (c : Sm4Cipher) → MovesZero (c .rk) → OtherEditionRefused (modeCall Decrypt (inGcm c))
+other-edition-refused c moves j₁ j₂ e₁ e₂ file iv o₁ o₂ hj₁ hj₂ he₁ he₂ other eo opens =
     let n : length (labelOf j₁ e₁) ≡ 6 = length-label j₁ e₁ in
-    short-label-refused m gcm moves (labelOf j₁ e₁) (labelOf j₂ e₂) file iv o₁ o₂ (label-bytes j₁ e₁) (label-bytes j₂ e₂)
+    short-label-refused c moves (labelOf j₁ e₁) (labelOf j₂ e₂) file iv o₁ o₂ (label-bytes j₁ e₁) (label-bytes j₂ e₂)
     (λ same. ⊎-elim (λ d. d (label-job j₁ e₁ j₂ e₂ same hj₁ hj₂)) (λ d. d (label-edition j₁ e₁ j₂ e₂ same he₁ he₂)) other)
     (n ∙ sym (length-label j₂ e₂)) (omega arith) eo opens
 
 -- The same of the exported call with mode 4.
-pub exported-other-edition-refused : (key : List ℕ) → MovesZero (roundKeys key) → OtherEditionRefused (hostDecryptCall 4 key)
-unfolding hostDecryptCall modeOf newCipherMode
+pub exported-other-edition-refused : (key : List ℕ) → MovesZero (roundKeys key) → OtherEditionRefused (hostModeCall Decrypt 4 key)
+unfolding hostModeCall modeOf newCipherMode
 exported-other-edition-refused key moves j₁ j₂ e₁ e₂ file iv o₁ o₂ hj₁ hj₂ he₁ he₂ other eo opens =
-    other-edition-refused (newCipherMode key Gcm) refl (moves-new key (labelOf j₁ e₁) file iv o₁ opens moves) j₁ j₂ e₁ e₂ file iv o₁ o₂ hj₁ hj₂ he₁ he₂ other eo opens
+    let moved = moves-new key (labelOf j₁ e₁) file iv o₁ opens moves in
+    other-edition-refused (newCipher key) moved j₁ j₂ e₁ e₂ file iv o₁ o₂ hj₁ hj₂ he₁ he₂ other eo opens

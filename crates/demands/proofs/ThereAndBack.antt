@@ -2,109 +2,114 @@
 -- Assumes nothing.
 use mathlib.Core.Path.{_≡_, refl, ap, _∙_}
 use mathlib.Core.Logic.{_≢_}
+use mathlib.Core.Bool.{Bool, true, false}
 use mathlib.Core.List.{List}
 use Prim.Native.Nat.{ℕ}
+use native.Mathlib.Omega.{arith}
+use lib.Dec.{ltb}
 use lib.ListN.{length}
+use borrow.Author.Tests.{ltb-false}
 use Rattle.block.specs.Below.{AreBytes}
-use Rattle.cipher.specs.Sm4.{encryptBlock, decryptBlock}
-use Rattle.cipher.proofs.Blocks.{length-encryptBlock, length-decryptBlock, block-decrypt-encrypt, block-encrypt-decrypt}
+use Rattle.cipher.proofs.Blocks.{block-decrypt-encrypt, block-encrypt-decrypt}
+use Rattle.walk.specs.Outcome.{Outcome, done, refuse}
 use Rattle.cipher_mode.specs.declared.CipherMode.the-variants.{Cbc}
+use Rattle.cipher_mode.specs.declared.Direction.{Direction}
+use Rattle.cipher_mode.specs.declared.Direction.the-variants.{Encrypt, Decrypt}
 use Rattle.cipher_mode.specs.declared.Sm4Cipher.{Sm4Cipher}
 use Rattle.cipher_mode.specs.declared.Sm4CipherMode.{Sm4CipherMode}
-use Rattle.cipher_mode.specs.Outcome.{Outcome, done, refuse}
-use Rattle.cipher_mode.specs.Tables.{encryptRoom, decryptRoom}
-use Rattle.cipher_mode.specs.Calls.{blockCall, encrypted, encryptCall, decrypted, decryptCall}
-use Rattle.demands.specs.Call.{single, result, Call}
-use Rattle.demands.specs.ThereAndBack.{Returns, ThereAndBack}
-use Rattle.demands.proofs.Passes.{result-of-done, block-passes, block-leaves, EncryptPasses, encrypt-passes, encrypt-leaves, DecryptSized, decrypt-passes, decrypt-leaves}
-use Rattle.demands.proofs.ModesBack.{back, forth}
-use mathlib.Core.Bool.{Bool, true, false}
-use lib.Dec.{ltb}
-use native.Mathlib.Omega.{arith}
-use borrow.Author.Tests.{ltb-false}
-use Rattle.cipher_mode.specs.declared.Answer.the-variants.{BadMode}
 use Rattle.cipher_mode.specs.Key.{newCipher, newCipherMode}
-use Rattle.luossavin.specs.Host.{modeOf, hostBlockCall, hostEncryptCall, hostDecryptCall}
+use Rattle.cipher_mode.specs.Tables.{roomOf}
+use Rattle.cipher_mode.specs.Calls.{blockOf, blockCall, lengthsOf, modeCall}
+use Rattle.cipher_mode.proofs.Passed.{InOrder}
+use Rattle.cipher_mode.proofs.Ends.{length-block}
+use Rattle.luossavin.specs.Host.{modeOf, hostBlockCall, hostModeCall}
+use Rattle.demands.specs.Call.{single, result, Call}
+use Rattle.demands.specs.ThereAndBack.{opposite, Returns, ThereAndBack}
+use Rattle.demands.proofs.Through.{result-of-done, block-through, block-leaves, through, leaves}
 use Rattle.demands.proofs.Exported.{other-mode}
+use Rattle.demands.proofs.ModesBack.{encrypted, encrypts, back, forth}
 
-returns : (d o : List ℕ) (x : Outcome) → x ≡ done d o → Returns d x
-returns d o x e =
+-- the second call answered 0 with d; it was given the result c of the first
+returns : (back : Call) (label c d iv o o′ : List ℕ) (x : Outcome) → x ≡ done c o → back label c iv o′ ≡ done d o′
+    → Returns d (back label (result x) iv o′)
+returns back label c d iv o o′ x e f =
+    let y : back label (result x) iv o′ ≡ done d o′ =
+    ap {B = Outcome} (λ (s : List ℕ). back label s iv o′) (ap result e ∙ result-of-done c o) ∙ f in
     record {
-      number = ap (λ (y : Outcome). y .head .number) e;
-      size = ap (λ (y : Outcome). y .head .size) e;
-      message = ap result e ∙ result-of-done d o;
+      number = ap (λ (y : Outcome). y .head .number) y;
+      size = ap (λ (y : Outcome). y .head .size) y;
+      message = ap result y ∙ result-of-done d o′;
     }
 
 -- If encryption answers 0, decryption of its result under the same key, IV and label, given room, answers 0 with the
 -- message and its length: in all five modes.
-pub decryption-takes-back : (m : Sm4CipherMode) → ThereAndBack (decryptRoom (m .mode)) (encryptCall m) (decryptCall m)
+pub decryption-takes-back : (m : Sm4CipherMode) → ThereAndBack (roomOf (m .mode) Decrypt) (modeCall Encrypt m) (modeCall Decrypt m)
 decryption-takes-back m label d iv o o′ db ib e r =
-    let p = encrypt-passes m label d iv o e in
-    let c = encrypted (m .mode) (m .cipher .rk) iv label d in
-    let x : encryptCall m label d iv o ≡ done c o = encrypt-leaves m label d iv o p in
-    let k = back (m .cipher .rk) iv label d (p .sixteen) ib db (m .mode) (p .within) in
-    let s : DecryptSized m label c iv o′ = record { key = p .key; sixteen = p .sixteen; within = k .within; whole = k .whole; room = rw x at r } in
-    let y = decrypt-leaves m label c iv o′ (record { sized = s; padding = k .padding; tag = k .tag }) in
-    returns d o′ _ (ap (λ (s : List ℕ). decryptCall m label s iv o′) (ap result x ∙ result-of-done c o) ∙ y ∙ ap (λ (s : List ℕ). done s o′) (k .text))
+    let rk = m .cipher .rk in
+    let p = through Encrypt m label d iv o e in
+    let c = encrypted (m .mode) rk label d iv in
+    let x : modeCall Encrypt m label d iv o ≡ done c o = leaves Encrypt m label d iv o p ∙ encrypts (m .mode) rk label d iv o in
+    let k = back rk label d iv (p .iv-size) ib db (m .mode) (p .content) in
+    let q : InOrder (m .cipher .answer) Decrypt (m .mode) (lengthsOf label c iv o′) =
+    record { key = p .key; iv-size = p .iv-size; label = p .label; content = k .content; room = rw x at r } in
+    returns (modeCall Decrypt m) label c d iv o o′ _ x (leaves Decrypt m label c iv o′ q ∙ k .opened o′)
 
 -- Outside Cbc, if decryption answers 0, encryption of its result under the same key, IV and label, given room, answers 0
 -- with the same bytes.
-pub encryption-takes-back : (m : Sm4CipherMode) → m .mode ≢ Cbc → ThereAndBack (encryptRoom (m .mode)) (decryptCall m) (encryptCall m)
+pub encryption-takes-back : (m : Sm4CipherMode) → m .mode ≢ Cbc
+    → ThereAndBack (roomOf (m .mode) Encrypt) (modeCall Decrypt m) (modeCall Encrypt m)
 encryption-takes-back m n label c iv o o′ cb ib e r =
-    let p = decrypt-passes m label c iv o e in
-    let d = decrypted (m .mode) (m .cipher .rk) iv c in
-    let x : decryptCall m label c iv o ≡ done d o = decrypt-leaves m label c iv o p in
-    let k = forth (m .cipher .rk) iv label c (m .mode) n (p .sized .within) (p .tag) in
-    let q : EncryptPasses m label d iv o′ = record { key = p .sized .key; sixteen = p .sized .sixteen; within = k .within; room = rw x at r } in
-    let y = encrypt-leaves m label d iv o′ q in
-    returns c o′ _ (ap (λ (s : List ℕ). encryptCall m label s iv o′) (ap result x ∙ result-of-done d o) ∙ y ∙ ap (λ (s : List ℕ). done s o′) (k .text))
+    let rk = m .cipher .rk in
+    let p = through Decrypt m label c iv o e in
+    let y = leaves Decrypt m label c iv o p in
+    let k = forth rk label c iv o (m .mode) n (p .content) (rw y at e) in
+    let d = k .text in
+    let x : modeCall Decrypt m label c iv o ≡ done d o = y ∙ k .opened in
+    let q : InOrder (m .cipher .answer) Encrypt (m .mode) (lengthsOf label d iv o′) =
+    record { key = p .key; iv-size = p .iv-size; label = p .label; content = k .content; room = rw x at r } in
+    returns (modeCall Encrypt m) label d c iv o o′ _ x
+    (leaves Encrypt m label d iv o′ q ∙ encrypts (m .mode) rk label d iv o′ ∙ ap {B = Outcome} (λ (s : List ℕ). done s o′) (k .again))
 
--- a single block, by two ciphers of which the second undoes the first
-block-back : (f g : List ℕ → List ℕ → List ℕ) → ((rk s : List ℕ) → length (f rk s) ≡ 16) → ((rk s : List ℕ) → length (g rk s) ≡ 16)
-    → ((rk s : List ℕ) → length s ≡ 16 → AreBytes s → g rk (f rk s) ≡ s)
-    → (c : Sm4Cipher) → ThereAndBack (λ n. 16) (single (blockCall f c)) (single (blockCall g c))
-block-back f g lf lg undo c label b iv o o′ bb ib e r =
-    let p = block-passes f c b o e in
-    let a = f (c .rk) b in
-    let x : blockCall f c b o ≡ done a o = block-leaves f c b o p (lf (c .rk) b) in
-    let y : blockCall g c a o′ ≡ done (g (c .rk) a) o′ = block-leaves g c a o′ (record { key = p .key; sixteen = lf (c .rk) b; room = r }) (lg (c .rk) a) in
-    returns b o′ _
-    (ap (λ (s : List ℕ). blockCall g c s o′) (ap result x ∙ result-of-done a o) ∙ y ∙ ap (λ (s : List ℕ). done s o′) (undo (c .rk) b (p .sixteen) bb))
+block-undone : (dir : Direction) (rk b : List ℕ) → length b ≡ 16 → AreBytes b → blockOf (opposite dir) rk (blockOf dir rk b) ≡ b
+block-undone Encrypt rk b n h = block-decrypt-encrypt rk b n h
+block-undone Decrypt rk b n h = block-encrypt-decrypt rk b n h
 
--- If encrypting one block answers 0, decrypting the result under the same key, given room, answers 0 with the block.
-pub block-decryption-takes-back : (c : Sm4Cipher) → ThereAndBack (λ n. 16) (single (blockCall encryptBlock c)) (single (blockCall decryptBlock c))
-block-decryption-takes-back = block-back encryptBlock decryptBlock length-encryptBlock length-decryptBlock block-decrypt-encrypt
-
--- If decrypting one block answers 0, encrypting the result under the same key, given room, answers 0 with the block.
-pub block-encryption-takes-back : (c : Sm4Cipher) → ThereAndBack (λ n. 16) (single (blockCall decryptBlock c)) (single (blockCall encryptBlock c))
-block-encryption-takes-back = block-back decryptBlock encryptBlock length-decryptBlock length-encryptBlock block-encrypt-decrypt
+-- If a call on one block answers 0, the opposite call on the result under the same key, given room, answers 0 with the block.
+pub block-takes-back : (dir : Direction) (c : Sm4Cipher)
+    → ThereAndBack (λ n. 16) (single (blockCall dir c)) (single (blockCall (opposite dir) c))
+block-takes-back dir c label b iv o o′ bb ib e r =
+    let p = block-through dir c b o e in
+    let a = blockOf dir (c .rk) b in
+    let n = length-block dir (c .rk) b in
+    let y = block-leaves (opposite dir) c a o′ (record { key = p .key; size = n; enough = r }) in
+    returns (single (blockCall (opposite dir) c)) label a b iv o o′ _ (block-leaves dir c b o p)
+    (y ∙ ap {B = Outcome} (λ (s : List ℕ). done s o′) (block-undone dir (c .rk) b (p .size) bb))
 
 -- behind a refusal by number 7 that both have in front
 gated : (b : Bool) (room : ℕ → ℕ) (f g : Call) → (b ≡ false → ThereAndBack room f g)
-    → ThereAndBack room (λ label d iv o. refuse b BadMode o (f label d iv o)) (λ label d iv o. refuse b BadMode o (g label d iv o))
+    → ThereAndBack room (λ label d iv o. refuse b 7 o (f label d iv o)) (λ label d iv o. refuse b 7 o (g label d iv o))
 gated true room f g t = λ label d iv o o′ db ib e r. absurd (omega arith)
 gated false room f g t = t refl
 
 -- The exported decryption takes back the exported encryption, for every mode number and every key.
-pub exported-decryption-takes-back : (mode : ℕ) (key : List ℕ) → ThereAndBack (decryptRoom (modeOf mode)) (hostEncryptCall mode key) (hostDecryptCall mode key)
-unfolding hostEncryptCall hostDecryptCall newCipherMode
+pub exported-decryption-takes-back : (mode : ℕ) (key : List ℕ)
+    → ThereAndBack (roomOf (modeOf mode) Decrypt) (hostModeCall Encrypt mode key) (hostModeCall Decrypt mode key)
+unfolding hostModeCall newCipherMode
 exported-decryption-takes-back mode key =
     let m = newCipherMode key (modeOf mode) in
-    gated (ltb 4 mode) (decryptRoom (modeOf mode)) (encryptCall m) (decryptCall m) (λ _. decryption-takes-back m)
+    gated (ltb 4 mode) (roomOf (modeOf mode) Decrypt) (modeCall Encrypt m) (modeCall Decrypt m) (λ _. decryption-takes-back m)
 
 -- The exported encryption takes back the exported decryption, for every key and every mode number but 3, which is Cbc.
-pub exported-encryption-takes-back : (mode : ℕ) (key : List ℕ) → mode ≢ 3 → ThereAndBack (encryptRoom (modeOf mode)) (hostDecryptCall mode key) (hostEncryptCall mode key)
-unfolding hostEncryptCall hostDecryptCall newCipherMode
+pub exported-encryption-takes-back : (mode : ℕ) (key : List ℕ) → mode ≢ 3
+    → ThereAndBack (roomOf (modeOf mode) Encrypt) (hostModeCall Decrypt mode key) (hostModeCall Encrypt mode key)
+unfolding hostModeCall newCipherMode
 exported-encryption-takes-back mode key n =
     let m = newCipherMode key (modeOf mode) in
-    gated (ltb 4 mode) (encryptRoom (modeOf mode)) (decryptCall m) (encryptCall m) (λ b. encryption-takes-back m (other-mode mode Cbc (ltb-false 4 mode b) n))
+    gated (ltb 4 mode) (roomOf (modeOf mode) Encrypt) (modeCall Decrypt m) (modeCall Encrypt m)
+    (λ b. encryption-takes-back m (other-mode mode Cbc (ltb-false 4 mode b) n))
 
--- The exported decryption of one block takes back the exported encryption.
-pub exported-block-decryption-takes-back : (key : List ℕ) → ThereAndBack (λ n. 16) (single (hostBlockCall encryptBlock key)) (single (hostBlockCall decryptBlock key))
+-- Each exported call on one block takes back the opposite one.
+pub exported-block-takes-back : (dir : Direction) (key : List ℕ)
+    → ThereAndBack (λ n. 16) (single (hostBlockCall dir key)) (single (hostBlockCall (opposite dir) key))
 unfolding hostBlockCall
-exported-block-decryption-takes-back key = block-decryption-takes-back (newCipher key)
-
--- The exported encryption of one block takes back the exported decryption.
-pub exported-block-encryption-takes-back : (key : List ℕ) → ThereAndBack (λ n. 16) (single (hostBlockCall decryptBlock key)) (single (hostBlockCall encryptBlock key))
-unfolding hostBlockCall
-exported-block-encryption-takes-back key = block-encryption-takes-back (newCipher key)
+exported-block-takes-back dir key = block-takes-back dir (newCipher key)

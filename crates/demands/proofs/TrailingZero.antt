@@ -1,6 +1,6 @@
 -- A trailing zero cannot be dropped unseen, of the label or of the ciphertext: the length block tells.
 -- Assumes nothing.
-use mathlib.Core.Path.{_≡_, refl}
+use mathlib.Core.Path.{_≡_}
 use mathlib.Core.List.{List, [], _∷_, _++_}
 use Prim.Native.Nat.{ℕ, _+_, _-_}
 use native.Mathlib.Omega.{arith}
@@ -9,51 +9,53 @@ use lib.Seq.{length-take-le}
 use Rattle.ghash.proofs.Changed.{label-zero, text-zero}
 use Rattle.gcm.specs.Gcm.{hashKey, textPart}
 use Rattle.gcm.proofs.HashKey.{hashKey-lt}
-use Rattle.cipher_mode.specs.declared.CipherMode.the-variants.{Gcm}
-use Rattle.cipher_mode.specs.declared.Sm4CipherMode.{Sm4CipherMode}
-use Rattle.cipher_mode.specs.Calls.{decryptCall}
+use Rattle.cipher_mode.specs.declared.Direction.the-variants.{Decrypt}
+use Rattle.cipher_mode.specs.declared.Sm4Cipher.{Sm4Cipher}
+use Rattle.cipher_mode.specs.Calls.{modeCall}
+use Rattle.demands.specs.Call.{inGcm}
 use Rattle.demands.specs.OneBlockRefused.{MovesZero}
 use Rattle.demands.specs.TrailingZero.{LabelZeroRefused, TextZeroRefused}
-use Rattle.demands.proofs.OtherHash.{hash-key-nonzero, gcm-lengths, other-hash-refused, other-label-refused}
+use Rattle.demands.proofs.OtherHash.{hash-key-nonzero, gcm-fits, other-hash-refused, other-label-refused}
 use Rattle.cipher.specs.Sm4.{roundKeys}
-use Rattle.cipher_mode.specs.Key.{newCipherMode}
-use Rattle.luossavin.specs.Host.{modeOf, hostDecryptCall}
+use Rattle.cipher_mode.specs.Key.{newCipher, newCipherMode}
+use Rattle.luossavin.specs.Host.{modeOf, hostModeCall}
 use Rattle.demands.proofs.Exported.{moves-new}
 
 -- Under a key that does not encrypt the all-zero block to itself: a file that opens in Gcm under a label whose length is not
 -- divisible by 16 is refused as 4 under that label with one zero byte more.
-pub label-zero-refused : (m : Sm4CipherMode) → m .mode ≡ Gcm → MovesZero (m .cipher .rk) → LabelZeroRefused (decryptCall m)
-label-zero-refused m gcm moves a file iv o₁ o₂ odd eo opens =
-    let rk = m .cipher .rk in
-    let l = gcm-lengths m gcm a file iv o₁ opens in
+pub label-zero-refused : (c : Sm4Cipher) → MovesZero (c .rk) → LabelZeroRefused (modeCall Decrypt (inGcm c))
+label-zero-refused c moves a file iv o₁ o₂ odd eo opens =
+    let rk = c .rk in
+    let l = gcm-fits c a file iv o₁ opens in
     let longer : length (a ++ (0 ∷ [])) ≡ length a + 1 = length-append a (0 ∷ []) in
     let text : length (textPart file) ≡ length file - 16 = length-take-le (length file - 16) file (omega arith) in
-    other-label-refused m gcm a (a ++ (0 ∷ [])) file iv o₁ o₂ (omega (arith, l .label)) eo
-    (label-zero (hashKey rk) (hashKey-lt rk) (hash-key-nonzero rk moves) a (textPart file) (omega (arith, l .label)) (omega (arith, l .longest)) odd)
+    other-label-refused c a (a ++ (0 ∷ [])) file iv o₁ o₂ (omega (arith, l .label)) eo
+    (label-zero (hashKey rk) (hashKey-lt rk) (hash-key-nonzero rk moves) a (textPart file)
+    (omega (arith, l .label)) (omega (arith, l .longest)) odd)
     opens
 
 -- Under such a key a file that opens in Gcm and whose ciphertext's length is not divisible by 16 is refused as 4 with one zero
 -- byte more between ciphertext and tag, given room.
-pub text-zero-refused : (m : Sm4CipherMode) → m .mode ≡ Gcm → MovesZero (m .cipher .rk) → TextZeroRefused (decryptCall m)
-text-zero-refused m gcm moves a c t iv o₁ o₂ n odd room opens =
-    let rk = m .cipher .rk in
-    let l = gcm-lengths m gcm a (c ++ t) iv o₁ opens in
+pub text-zero-refused : (k : Sm4Cipher) → MovesZero (k .rk) → TextZeroRefused (modeCall Decrypt (inGcm k))
+text-zero-refused k moves a c t iv o₁ o₂ n odd room opens =
+    let rk = k .rk in
+    let l = gcm-fits k a (c ++ t) iv o₁ opens in
     let file : length (c ++ t) ≡ length c + length t = length-append c t in
     let longer : length (c ++ (0 ∷ [])) ≡ length c + 1 = length-append c (0 ∷ []) in
     let whole : length (c ++ (0 ∷ []) ++ t) ≡ length (c ++ (0 ∷ [])) + length t = length-append (c ++ (0 ∷ [])) t in
-    other-hash-refused m gcm a a c (c ++ (0 ∷ [])) t iv o₁ o₂ n
+    other-hash-refused k a a c (c ++ (0 ∷ [])) t iv o₁ o₂ n
     (text-zero (hashKey rk) (hashKey-lt rk) (hash-key-nonzero rk moves) a c (omega (arith, l .label)) (omega (arith, l .longest)) odd)
     (record { label = l .label; longest = omega (arith, l .longest); shortest = omega arith; room = omega arith })
     opens
 
 -- The same of the exported call with mode 4 and the label.
-pub exported-label-zero-refused : (key : List ℕ) → MovesZero (roundKeys key) → LabelZeroRefused (hostDecryptCall 4 key)
-unfolding hostDecryptCall modeOf newCipherMode
+pub exported-label-zero-refused : (key : List ℕ) → MovesZero (roundKeys key) → LabelZeroRefused (hostModeCall Decrypt 4 key)
+unfolding hostModeCall modeOf newCipherMode
 exported-label-zero-refused key moves a file iv o₁ o₂ odd eo opens =
-    label-zero-refused (newCipherMode key Gcm) refl (moves-new key a file iv o₁ opens moves) a file iv o₁ o₂ odd eo opens
+    label-zero-refused (newCipher key) (moves-new key a file iv o₁ opens moves) a file iv o₁ o₂ odd eo opens
 
 -- The same of the exported call with mode 4 and the ciphertext.
-pub exported-text-zero-refused : (key : List ℕ) → MovesZero (roundKeys key) → TextZeroRefused (hostDecryptCall 4 key)
-unfolding hostDecryptCall modeOf newCipherMode
+pub exported-text-zero-refused : (key : List ℕ) → MovesZero (roundKeys key) → TextZeroRefused (hostModeCall Decrypt 4 key)
+unfolding hostModeCall modeOf newCipherMode
 exported-text-zero-refused key moves a c t iv o₁ o₂ n odd room opens =
-    text-zero-refused (newCipherMode key Gcm) refl (moves-new key a (c ++ t) iv o₁ opens moves) a c t iv o₁ o₂ n odd room opens
+    text-zero-refused (newCipher key) (moves-new key a (c ++ t) iv o₁ opens moves) a c t iv o₁ o₂ n odd room opens

@@ -3,46 +3,48 @@
 use mathlib.Core.Path.{_≡_, refl, sym, ap, _∙_}
 use mathlib.Core.List.{List}
 use Prim.Native.Nat.{ℕ, zero, suc}
-use Rattle.cipher.specs.Sm4.{encryptBlock, decryptBlock}
-use Rattle.cipher_mode.specs.declared.Answer.{Answer}
-use Rattle.cipher_mode.specs.declared.Answer.the-variants.{Done, ErrorBlockSize, ErrorDataLen, InvalidLastU8, InvalidTag, TooLong, NoRoom, BadMode}
+use Rattle.walk.specs.Outcome.{Outcome}
+use Rattle.cipher_mode.specs.declared.answer.Answer.{Answer}
+use Rattle.cipher_mode.specs.declared.answer.Ending.{Ending}
+use Rattle.cipher_mode.specs.declared.answer.Ending.the-variants.{Done, Refused}
+use Rattle.cipher_mode.specs.declared.answer.Refusal.the-variants.{ErrorBlockSize, ErrorDataLen, InvalidLastU8, InvalidTag, TooLong, NoRoom}
 use Rattle.cipher_mode.specs.declared.CipherMode.{CipherMode}
+use Rattle.cipher_mode.specs.declared.Direction.{Direction}
 use Rattle.cipher_mode.specs.declared.Sm4Cipher.{Sm4Cipher}
 use Rattle.cipher_mode.specs.declared.Sm4CipherMode.{Sm4CipherMode}
-use Rattle.cipher_mode.specs.Outcome.{Outcome, headOf, outcome}
+use Rattle.cipher_mode.specs.Answer.{endingHead, outcome}
 use Rattle.cipher_mode.specs.Key.{newCipher, newCipherMode}
-use Rattle.cipher_mode.specs.Calls.{blockCall, encryptCall, decryptCall}
-use Rattle.luossavin.specs.Host.{reported, hostBlockCall, hostEncryptCall, hostDecryptCall}
+use Rattle.cipher_mode.specs.Calls.{blockCall, modeCall}
+use Rattle.luossavin.specs.Host.{reported, hostBlockCall, hostModeCall}
 use Rattle.demands.specs.OneOutcome.{OneOutcome, OneReport}
 
--- the answer of a number and a length
-answerOf : ℕ → ℕ → Answer
-answerOf zero n = Done n
-answerOf (suc zero) n = ErrorBlockSize
-answerOf (suc (suc zero)) n = ErrorDataLen
-answerOf (suc (suc (suc zero))) n = InvalidLastU8
-answerOf (suc (suc (suc (suc zero)))) n = InvalidTag
-answerOf (suc (suc (suc (suc (suc zero))))) n = TooLong
-answerOf (suc (suc (suc (suc (suc (suc zero)))))) n = NoRoom
-answerOf (suc (suc (suc (suc (suc (suc (suc k))))))) n = BadMode
+-- the ending of a number and a length
+endingOf : ℕ → ℕ → Ending
+endingOf zero n = Done n
+endingOf (suc zero) n = Refused ErrorBlockSize
+endingOf (suc (suc zero)) n = Refused ErrorDataLen
+endingOf (suc (suc (suc zero))) n = Refused InvalidLastU8
+endingOf (suc (suc (suc (suc zero)))) n = Refused InvalidTag
+endingOf (suc (suc (suc (suc (suc zero))))) n = Refused TooLong
+endingOf (suc (suc (suc (suc (suc (suc k)))))) n = Refused NoRoom
 
--- an answer is told by its number and its length
-told : (a : Answer) → answerOf (headOf a .number) (headOf a .size) ≡ a
-unfolding answerOf
+-- an ending is told by its number and its length
+told : (e : Ending) → endingOf (endingHead e .number) (endingHead e .size) ≡ e
+unfolding endingOf
 told (Done n) = refl
-told ErrorBlockSize = refl
-told ErrorDataLen = refl
-told InvalidLastU8 = refl
-told InvalidTag = refl
-told TooLong = refl
-told NoRoom = refl
-told BadMode = refl
+told (Refused ErrorBlockSize) = refl
+told (Refused ErrorDataLen) = refl
+told (Refused InvalidLastU8) = refl
+told (Refused InvalidTag) = refl
+told (Refused TooLong) = refl
+told (Refused NoRoom) = refl
 
 -- so an outcome has one answer and one output
 one : (x : Outcome) → OneOutcome x
 one x a₁ a₂ o₁ o₂ e₁ e₂ =
     let e : outcome a₁ o₁ ≡ outcome a₂ o₂ = e₁ ∙ sym e₂ in
-    (sym (told a₁) ∙ ap (λ (y : Outcome). answerOf (y .head .number) (y .head .size)) e ∙ told a₂, ap (λ (y : Outcome). y .bytes) e)
+    let ending = sym (told (a₁ .ending)) ∙ ap (λ (y : Outcome). endingOf (y .head .number) (y .head .size)) e ∙ told (a₂ .ending) in
+    (ap {B = Answer} (λ (e : Ending). record { ending = e }) ending, ap (λ (y : Outcome). y .bytes) e)
 
 -- and a host's answer is its number and its length
 one-report : (x : Outcome) → OneReport x
@@ -55,37 +57,22 @@ pub unique-new-cipher : (key : List ℕ) (r₁ r₂ : Sm4Cipher) → r₁ ≡ ne
 unique-new-cipher key r₁ r₂ e₁ e₂ = e₁ ∙ sym e₂
 
 -- Any two records that setting up a key with a mode may give are the same.
-pub unique-new-cipher-mode : (key : List ℕ) (mode : CipherMode) (r₁ r₂ : Sm4CipherMode) → r₁ ≡ newCipherMode key mode → r₂ ≡ newCipherMode key mode → r₁ ≡ r₂
+pub unique-new-cipher-mode : (key : List ℕ) (mode : CipherMode) (r₁ r₂ : Sm4CipherMode)
+    → r₁ ≡ newCipherMode key mode → r₂ ≡ newCipherMode key mode → r₁ ≡ r₂
 unique-new-cipher-mode key mode r₁ r₂ e₁ e₂ = e₁ ∙ sym e₂
 
--- Encrypting one block has one outcome.
-pub unique-block-encryption : (c : Sm4Cipher) (b o : List ℕ) → OneOutcome (blockCall encryptBlock c b o)
-unique-block-encryption c b o = one (blockCall encryptBlock c b o)
+-- A call on one block, either way, has one outcome.
+pub unique-block : (dir : Direction) (c : Sm4Cipher) (b o : List ℕ) → OneOutcome (blockCall dir c b o)
+unique-block dir c b o = one (blockCall dir c b o)
 
--- Decrypting one block has one outcome.
-pub unique-block-decryption : (c : Sm4Cipher) (b o : List ℕ) → OneOutcome (blockCall decryptBlock c b o)
-unique-block-decryption c b o = one (blockCall decryptBlock c b o)
+-- A call on a message, either way, has one outcome.
+pub unique-message : (dir : Direction) (m : Sm4CipherMode) (label d iv o : List ℕ) → OneOutcome (modeCall dir m label d iv o)
+unique-message dir m label d iv o = one (modeCall dir m label d iv o)
 
--- Encrypting a message has one outcome.
-pub unique-encryption : (m : Sm4CipherMode) (label d iv o : List ℕ) → OneOutcome (encryptCall m label d iv o)
-unique-encryption m label d iv o = one (encryptCall m label d iv o)
+-- The exported call on one block, either way, has one outcome.
+pub unique-exported-block : (dir : Direction) (key b o : List ℕ) → OneReport (hostBlockCall dir key b o)
+unique-exported-block dir key b o = one-report (hostBlockCall dir key b o)
 
--- Decrypting a message has one outcome.
-pub unique-decryption : (m : Sm4CipherMode) (label d iv o : List ℕ) → OneOutcome (decryptCall m label d iv o)
-unique-decryption m label d iv o = one (decryptCall m label d iv o)
-
--- The exported encryption of one block has one outcome.
-pub unique-exported-block-encryption : (key b o : List ℕ) → OneReport (hostBlockCall encryptBlock key b o)
-unique-exported-block-encryption key b o = one-report (hostBlockCall encryptBlock key b o)
-
--- The exported decryption of one block has one outcome.
-pub unique-exported-block-decryption : (key b o : List ℕ) → OneReport (hostBlockCall decryptBlock key b o)
-unique-exported-block-decryption key b o = one-report (hostBlockCall decryptBlock key b o)
-
--- The exported encryption of a message has one outcome.
-pub unique-exported-encryption : (mode : ℕ) (key label d iv o : List ℕ) → OneReport (hostEncryptCall mode key label d iv o)
-unique-exported-encryption mode key label d iv o = one-report (hostEncryptCall mode key label d iv o)
-
--- The exported decryption of a message has one outcome.
-pub unique-exported-decryption : (mode : ℕ) (key label d iv o : List ℕ) → OneReport (hostDecryptCall mode key label d iv o)
-unique-exported-decryption mode key label d iv o = one-report (hostDecryptCall mode key label d iv o)
+-- The exported call on a message, either way, has one outcome.
+pub unique-exported-message : (dir : Direction) (mode : ℕ) (key label d iv o : List ℕ) → OneReport (hostModeCall dir mode key label d iv o)
+unique-exported-message dir mode key label d iv o = one-report (hostModeCall dir mode key label d iv o)

@@ -2,13 +2,14 @@
 use mathlib.Core.Path.{_≡_}
 use mathlib.Core.Logic.{_≢_}
 use mathlib.Core.List.{List}
-use Prim.Native.Nat.{ℕ, _-_, _≤_}
+use Prim.Native.Nat.{ℕ, _+_, _-_, _*_, _/_, _≤_}
 use lib.ListN.{length, drop}
-use Rattle.cbc.specs.Open.{lastByte}
+use Rattle.walk.specs.Outcome.{Head, Outcome, finished, refusal}
+use Rattle.cbc.specs.Open.{lastByte, cbcText}
 use Rattle.cipher_mode.specs.declared.CipherMode.{CipherMode}
 use Rattle.cipher_mode.specs.declared.CipherMode.the-variants.{Cfb, Ofb, Ctr, Cbc, Gcm}
-use Rattle.cipher_mode.specs.Outcome.{Head, Outcome, refusal}
-use Rattle.cipher_mode.specs.Calls.{cbcText}
+use Rattle.cipher_mode.specs.declared.Direction.{Direction}
+use Rattle.cipher_mode.specs.declared.Direction.the-variants.{Encrypt, Decrypt}
 
 -- x is an answer to a call whose output was lent as o, where document 01's table gives the length n
 pub record Answered (o : List ℕ) (n : ℕ) (x : Outcome) : Type 0 where
@@ -26,13 +27,15 @@ pub record Answered (o : List ℕ) (n : ℕ) (x : Outcome) : Type 0 where
 
 -- h is what setting up the key answers: it lends no output, and reports length 0, done or refused
 pub record KeyAnswered (key : List ℕ) (h : Head) : Type 0 where
-  pub done : length key ≡ 16 → h ≡ record { number = 0; size = 0 }
+  pub done : length key ≡ 16 → h ≡ finished 0
   pub refused : length key ≢ 16 → h ≡ refusal 1
 
--- document 01's table for decryption: the length on success, which in Cbc is less by the last decrypted byte
-abbrev pub decryptLength : CipherMode → List ℕ → List ℕ → List ℕ → ℕ
-decryptLength Cfb rk iv d = length d
-decryptLength Ofb rk iv d = length d
-decryptLength Ctr rk iv d = length d
-decryptLength Cbc rk iv d = length d - lastByte (cbcText rk iv d)
-decryptLength Gcm rk iv d = length d - 16
+-- document 01's table: the length on success, which in Cbc decryption is less by the last decrypted byte
+abbrev pub lengthOf : CipherMode → Direction → List ℕ → List ℕ → List ℕ → ℕ
+lengthOf Cfb dir rk iv d = length d
+lengthOf Ofb dir rk iv d = length d
+lengthOf Ctr dir rk iv d = length d
+lengthOf Cbc Encrypt rk iv d = 16 * (length d / 16 + 1)
+lengthOf Cbc Decrypt rk iv d = length d - lastByte (cbcText rk iv d)
+lengthOf Gcm Encrypt rk iv d = length d + 16
+lengthOf Gcm Decrypt rk iv d = length d - 16

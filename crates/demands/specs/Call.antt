@@ -3,11 +3,18 @@ use mathlib.Core.Path.{_≡_}
 use mathlib.Core.List.{List}
 use Prim.Native.Nat.{ℕ}
 use lib.ListN.{take}
-use Rattle.cipher_mode.specs.Outcome.{Outcome}
+use Rattle.walk.specs.Outcome.{Outcome}
+use Rattle.cipher_mode.specs.declared.CipherMode.the-variants.{Gcm}
+use Rattle.cipher_mode.specs.declared.Sm4Cipher.{Sm4Cipher}
+use Rattle.cipher_mode.specs.declared.Sm4CipherMode.{Sm4CipherMode}
 
 -- a call with its key: the outcome of a label, the data, an IV and the output as it was lent
 abbrev pub Call : Type 0
 Call = List ℕ → List ℕ → List ℕ → List ℕ → Outcome
+
+-- a key's record in Gcm
+abbrev pub inGcm : Sm4Cipher → Sm4CipherMode
+inGcm c = record { cipher = c; mode = Gcm }
 
 -- a single block's call is one that looks at neither label nor IV
 abbrev pub single : (List ℕ → List ℕ → Outcome) → Call

@@ -2,17 +2,17 @@
 use mathlib.Core.List.{List, _++_}
 use Prim.Native.Nat.{ℕ}
 use lib.ListN.{length, take, drop, replicate}
-use Rattle.cipher_mode.specs.declared.Answer.the-variants.{InvalidTag}
+use Rattle.walk.specs.Outcome.{Outcome, refused, done}
 use Rattle.cipher_mode.specs.declared.CipherMode.the-variants.{Ctr}
+use Rattle.cipher_mode.specs.declared.Direction.the-variants.{Encrypt}
 use Rattle.cipher_mode.specs.declared.Sm4CipherMode.{Sm4CipherMode}
-use Rattle.cipher_mode.specs.Outcome.{Outcome, outcome, done}
 use Rattle.cipher_mode.specs.Key.{newCipherMode}
-use Rattle.cipher_mode.specs.Calls.{encrypted, encryptCall}
-use Rattle.demands.specs.Call.{Call}
+use Rattle.cipher_mode.specs.Calls.{modeCall}
+use Rattle.demands.specs.Call.{Call, result}
 
 -- refuses everything
 abbrev pub refusesAll : Call
-refusesAll label d iv o = outcome InvalidTag o
+refusesAll label d iv o = refused 4 o
 
 -- answers x, whatever it is given
 abbrev pub constant : Outcome → Call
@@ -24,14 +24,14 @@ copies label d iv o = done d o
 
 -- ciphers the first block and copies the rest
 abbrev pub firstBlockOnly : Sm4CipherMode → Call
-firstBlockOnly m label d iv o = done (take 16 (encrypted (m .mode) (m .cipher .rk) iv label d) ++ drop 16 d) o
+firstBlockOnly m label d iv o = done (take 16 (result (modeCall Encrypt m label d iv o)) ++ drop 16 d) o
 
 -- does what encryption does, and reports the output's length
 abbrev pub inventsLength : Sm4CipherMode → Call
 inventsLength m label d iv o =
     record {
-      head = record { number = encryptCall m label d iv o .head .number; size = length o };
-      bytes = encryptCall m label d iv o .bytes;
+      head = record { number = modeCall Encrypt m label d iv o .head .number; size = length o };
+      bytes = modeCall Encrypt m label d iv o .bytes;
     }
 
 -- what they are held against: encryption in Ctr under the key, and the IV, of sixteen zero bytes

@@ -2,8 +2,9 @@
 use mathlib.Core.Path.{_≡_}
 use mathlib.Core.List.{List}
 use Prim.Native.Nat.{ℕ}
-use Rattle.cipher_mode.specs.declared.Answer.{Answer}
-use Rattle.cipher_mode.specs.Outcome.{Outcome, outcome}
+use Rattle.walk.specs.Outcome.{Outcome}
+use Rattle.cipher_mode.specs.declared.answer.Answer.{Answer}
+use Rattle.cipher_mode.specs.Answer.{outcome}
 use Rattle.luossavin.specs.declared.LuossavinAnswer.{LuossavinAnswer}
 use Rattle.luossavin.specs.Host.{reported}
 

@@ -4,8 +4,14 @@ use mathlib.Core.List.{List}
 use Prim.Native.Nat.{ℕ, _≤_}
 use lib.ListN.{length}
 use Rattle.block.specs.Below.{AreBytes}
-use Rattle.cipher_mode.specs.Outcome.{Outcome}
+use Rattle.walk.specs.Outcome.{Outcome}
+use Rattle.cipher_mode.specs.declared.Direction.{Direction}
+use Rattle.cipher_mode.specs.declared.Direction.the-variants.{Encrypt, Decrypt}
 use Rattle.demands.specs.Call.{Call, result}
+
+abbrev pub opposite : Direction → Direction
+opposite Encrypt = Decrypt
+opposite Decrypt = Encrypt
 
 -- the call answered 0, with the message d and its length
 pub record Returns (d : List ℕ) (x : Outcome) : Type 0 where

@@ -19,7 +19,9 @@ spells-zero = refl
 module _ (rk : List ℕ) where
   pub hashKey-lt : hashKey rk < 2 ^ 128
   unfolding hashKey
-  hashKey-lt = rw (length-encryptBlock rk (replicate 16 0)) at (numberOf-lt (encryptBlock rk (replicate 16 0)) (encryptBlock-bytes rk (replicate 16 0)))
+  hashKey-lt =
+      rw (length-encryptBlock rk (replicate 16 0))
+      at (numberOf-lt (encryptBlock rk (replicate 16 0)) (encryptBlock-bytes rk (replicate 16 0)))
 
   pub hashKey-zero : encryptBlock rk (replicate 16 0) ≡ replicate 16 0 → hashKey rk ≡ 0
   unfolding hashKey

@@ -1,30 +1,27 @@
--- The code is the definitions: H, J0, the tag, a sealed message written in two parts, and both answers of opening.
+-- The code is the definitions: H, J0, the tag, and a sealed message written in two parts.
 -- Assumes nothing.
 use mathlib.Core.Path.{_≡_, refl, sym, ap, ap₂, _∙_}
-use mathlib.Core.Bool.{true, false}
 use mathlib.Core.List.{List, [], _∷_, _++_, append-assoc}
-use Prim.Native.Nat.{ℕ, _+_, _-_, _<_, _≤_}
-use native.Mathlib.Omega.{arith}
+use Prim.Native.Nat.{ℕ, _+_}
 use lib.Dec.{lit<}
-use lib.ListN.{length, take, drop, replicate, length-append, length-drop}
+use lib.ListN.{length, take, drop, length-append}
 use lib.Seq.{take-at, drop-at, drop-drop}
 use Rattle.block.specs.Below.{AreWords}
 use Rattle.block.specs.BigEndian.{numberOf, bytesOf}
 use Rattle.block.specs.Words.{words, unwords}
 use Rattle.block.specs.Xor.{xors}
 use Rattle.block.proofs.WordsBack.{length-words, unwords-number, unwords-xors}
-use Rattle.cipher.specs.Sm4.{encryptWords, encryptBlock}
+use Rattle.cipher.specs.Sm4.{encryptWords}
 use Rattle.cipher.proofs.Blocks.{encrypt-unwords}
 use Rattle.cipher.proofs.Bounds.{encrypt-four}
 use Rattle.ghash.specs.Ghash.{ghash, authBlocks}
 use Rattle.ghash.proofs.IvBlocks.{iv-blocks}
-use Rattle.stream.specs.Walk.{chain, over}
-use Rattle.stream.proofs.Loop.{tailed, returned, tail-is, returned-is}
+use Rattle.walk.specs.Walk.{chain, over}
+use Rattle.walk.proofs.Loop.{tailed, returned, tail-is, returned-is}
 use Rattle.stream.specs.Stream.{streamMode}
 use Rattle.stream.specs.declared.Kind.the-variants.{Gctr}
 use Rattle.counter.specs.Counter.{gcmNext}
-use Rattle.gcm.specs.declared.Opened.the-variants.{Done, InvalidTag}
-use Rattle.gcm.specs.Gcm.{hashKey, firstCounter, textOf, tagOf, textPart, opensUnder, openAnswer, openOutput}
+use Rattle.gcm.specs.Gcm.{hashKey, firstCounter, textOf, tagOf}
 
 pub hash-key-words : (rk x : List ℕ) (n : ℕ) → x ≡ encryptWords rk (0 ∷ 0 ∷ 0 ∷ 0 ∷ []) → n ≡ numberOf (unwords x) → n ≡ hashKey rk
 unfolding hashKey unwords bytesOf
@@ -32,7 +29,8 @@ hash-key-words rk x n e f =
     f ∙ ap (λ (l : List ℕ). numberOf (unwords l)) e
     ∙ ap numberOf (encrypt-unwords rk (0 ∷ 0 ∷ 0 ∷ 0 ∷ []) refl (lit< tt, (lit< tt, (lit< tt, (lit< tt, tt)))))
 
-pub first-counter-words : (h n : ℕ) (iv r : List ℕ) → length iv ≡ 16 → n ≡ ghash h (authBlocks [] iv) → r ≡ words (bytesOf 16 n) → unwords r ≡ firstCounter h iv
+pub first-counter-words : (h n : ℕ) (iv r : List ℕ) → length iv ≡ 16 → n ≡ ghash h (authBlocks [] iv) → r ≡ words (bytesOf 16 n)
+    → unwords r ≡ firstCounter h iv
 unfolding firstCounter
 first-counter-words h n iv r l e f = unwords-number r n f ∙ ap (bytesOf 16) (e ∙ ap (ghash h) (iv-blocks iv l))
 
@@ -46,27 +44,21 @@ tag-words rk j label text e s r h n l b ee en es er =
     ∙ ap₂ xors (ap unwords ee ∙ encrypt-unwords rk j l b) (unwords-number s n es ∙ ap (bytesOf 16) en)
 
 -- the text at the front of the output, then the tag behind it
-pub sealed-written : (text tag o o₁ t : List ℕ) (n : ℕ) → length text ≡ n → length tag ≡ 16 → o₁ ≡ over text o → t ≡ tag ++ drop 16 (tailed n o₁)
+pub sealed-written : (text tag o o₁ t : List ℕ) (n : ℕ) → length text ≡ n → length tag ≡ 16 → o₁ ≡ over text o
+    → t ≡ tag ++ drop 16 (tailed n o₁)
     → returned n o₁ t ≡ over (text ++ tag) o
 sealed-written text tag o o₁ t n lt lg e f =
     let front : take n o₁ ≡ text = ap (take n) e ∙ take-at text (drop (length text) o) n lt in
-    let back : drop n o₁ ≡ drop n o = ap (drop n) e ∙ drop-at text (drop (length text) o) n lt ∙ ap (λ (k : ℕ). drop k o) lt in
+    let back : drop n o₁ ≡ drop n o =
+    ap (drop n) e ∙ drop-at text (drop (length text) o) n lt ∙ ap (λ (k : ℕ). drop k o) lt in
+    let behind : t ≡ tag ++ drop (n + 16) o =
+    f ∙ ap (λ (l : List ℕ). tag ++ drop 16 l) (tail-is o₁ n ∙ back) ∙ ap (λ (l : List ℕ). tag ++ l) (drop-drop 16 n o) in
     let all : length (text ++ tag) ≡ n + 16 = length-append text tag ∙ ap₂ _+_ lt lg in
     returned-is o₁ t n
-    ∙ ap₂ _++_ front (f ∙ ap (λ (l : List ℕ). tag ++ drop 16 l) (tail-is o₁ n ∙ back) ∙ ap (λ (l : List ℕ). tag ++ l) (drop-drop 16 n o))
+    ∙ ap₂ _++_ front behind
     ∙ sym (append-assoc text tag (drop (n + 16) o)) ∙ ap (λ (k : ℕ). (text ++ tag) ++ drop k o) (sym all)
 
 -- the counters of the text start one after J0
 pub text-words : (rk j next d : List ℕ) → next ≡ gcmNext j → chain (streamMode Gctr rk) next d ≡ textOf rk j d
 unfolding textOf
 text-words rk j next d e = ap (λ (s : List ℕ). chain (streamMode Gctr rk) s d) e
-
-module _ (rk : List ℕ) (h : ℕ) (j label s o : List ℕ) where
-  pub opened-yes : opensUnder rk h j label s ≡ true → (n : ℕ) (o′ : List ℕ) → n ≡ length s - 16 → o′ ≡ over (textOf rk j (textPart s)) o
-      → (Done n ≡ openAnswer rk h j label s) × (o′ ≡ openOutput rk h j label s o)
-  unfolding openAnswer openOutput
-  opened-yes y n o′ en eo = rw y (ap Done en, eo)
-
-  pub opened-no : opensUnder rk h j label s ≡ false → (InvalidTag ≡ openAnswer rk h j label s) × (o ≡ openOutput rk h j label s o)
-  unfolding openAnswer openOutput
-  opened-no y = rw y (refl, refl)

@@ -4,3 +4,4 @@ pub mod RoundTrip
 pub mod TagTells
 pub mod HashKey
 pub mod InWords
+pub mod Settled

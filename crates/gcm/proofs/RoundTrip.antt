@@ -1,6 +1,6 @@
 -- What was sealed opens, with its text; what opens is sealed again to the same bytes. For any round keys, H and J0.
 -- Assumes nothing.
-use mathlib.Core.Path.{_≡_, sym, ap, ap₂, _∙_}
+use mathlib.Core.Path.{_≡_, sym, ap, _∙_}
 use mathlib.Core.Bool.{true}
 use mathlib.Core.List.{List, _++_}
 use Prim.Native.Nat.{ℕ, _-_}
@@ -9,7 +9,6 @@ use Rattle.counter.specs.Counter.{gcmNext}
 use Rattle.stream.specs.declared.Kind.the-variants.{Gctr}
 use Rattle.stream.proofs.RoundTrip.{stream-back}
 use Rattle.gcm.specs.Gcm.{textOf, tagOf, sealed, textPart, tagPart, opensUnder}
-use Rattle.block.specs.Same.{same}
 use Rattle.block.proofs.Same.{same-refl, same-equal}
 use Rattle.gcm.proofs.Parts.{sealed-text, sealed-tag}
 
@@ -28,5 +27,5 @@ module _ (rk : List ℕ) (h : ℕ) (j label : List ℕ) where
   pub sealed-of-opened : (s : List ℕ) → opensUnder rk h j label s ≡ true → sealed rk h j label (textOf rk j (textPart s)) ≡ s
   unfolding opensUnder sealed
   sealed-of-opened s e =
-      rw (text-back rk j (textPart s))
-      (ap (λ (l : List ℕ). textPart s ++ l) (sym (same-equal (tagPart s) (tagOf rk h j label (textPart s)) e)) ∙ take-append-drop (length s - 16) s)
+      let tag = same-equal (tagPart s) (tagOf rk h j label (textPart s)) e in
+      rw (text-back rk j (textPart s)) (ap (λ (l : List ℕ). textPart s ++ l) (sym tag) ∙ take-append-drop (length s - 16) s)

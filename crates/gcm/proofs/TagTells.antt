@@ -47,7 +47,7 @@ module _ (rk : List ℕ) (h : ℕ) (hh : h < 2 ^ 128) (j : List ℕ) where
       (λ q. ne (tag-tells a c b d (sym f ∙ sym (parts-tag d t n) ∙ q ∙ ap (tagOf rk h j b) (parts-text d t n))))
 
 -- and where the hashes are equal, a message opens under both labels or under neither
-pub opens-alike : (rk : List ℕ) (h : ℕ) (j a b s : List ℕ) → ghash h (authBlocks a (textPart s)) ≡ ghash h (authBlocks b (textPart s))
-    → opensUnder rk h j a s ≡ opensUnder rk h j b s
+pub opens-alike : (rk : List ℕ) (h : ℕ) (j a b s : List ℕ)
+    → ghash h (authBlocks a (textPart s)) ≡ ghash h (authBlocks b (textPart s)) → opensUnder rk h j a s ≡ opensUnder rk h j b s
 unfolding opensUnder tagOf
 opens-alike rk h j a b s e = ap (λ (y : ℕ). same (tagPart s) (xors (encryptBlock rk j) (bytesOf 16 y))) e

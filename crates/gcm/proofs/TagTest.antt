@@ -1,11 +1,10 @@
 -- Two blocks of four words are the same where the `|` of their four xors is 0, and so the code settles a tag.
 -- Assumes nothing.
 use mathlib.Core.Path.{_≡_, refl, sym, ap, ap₂, _∙_}
-use mathlib.Core.Bool.{Bool, true, false}
-use mathlib.Core.List.{List, [], _∷_}
+use mathlib.Core.List.{List, _∷_}
 use Prim.Native.Nat.{ℕ, _-_, _≤_}
 use native.Mathlib.Omega.{arith}
-use lib.Bits.{bitOr, bitAnd, or-add-and, and-le-l, and-le-r, xor-self, or-zero-r}
+use lib.Bits.{bitOr, or-add-and, and-le-l, and-le-r, xor-self}
 use lib.Dec.{eqb}
 use lib.ListN.{length, getD, length-drop}
 use borrow.Author.Tests.{eq-eqb, eqb-true}
@@ -34,7 +33,9 @@ anyBit d = bitOr (bitOr (bitOr (getD d 0 0) (getD d 1 0)) (getD d 2 0)) (getD d 
 
 -- a block xored with itself has no bit
 none : (a : List ℕ) → length a ≡ 4 → anyBit (xors a a) ≡ 0
-none a n = ap anyBit (sym (xors-four a a n n)) ∙ rw (xor-self (getD a 0 0), xor-self (getD a 1 0), xor-self (getD a 2 0), xor-self (getD a 3 0))
+none a n =
+    ap anyBit (sym (xors-four a a n n))
+    ∙ rw (xor-self (getD a 0 0), xor-self (getD a 1 0), xor-self (getD a 2 0), xor-self (getD a 3 0))
 
 module _ (a b : List ℕ) (na : length a ≡ 4) (nb : length b ≡ 4) where
   -- no bit of the four is set: the words are the same
@@ -56,11 +57,14 @@ module _ (a b : List ℕ) (na : length a ≡ 4) (nb : length b ≡ 4) where
       let back : unwords a ≡ unwords b → a ≡ b = λ e. sym (words-unwords a na ha) ∙ ap words e ∙ words-unwords b nb hb in
       test-iff (eqb (anyBit (xors a b)) 0) (same (unwords a) (unwords b))
       (λ e. ap (λ (l : List ℕ). same (unwords a) (unwords l)) (sym (no-bit (eqb-true (anyBit (xors a b)) 0 e))) ∙ same-refl (unwords a))
-      (λ e. eq-eqb (anyBit (xors a b)) 0 (ap (λ (l : List ℕ). anyBit (xors a l)) (sym (back (same-equal (unwords a) (unwords b) e))) ∙ none a na))
+      (λ e.
+      let ab = back (same-equal (unwords a) (unwords b) e) in
+      eq-eqb (anyBit (xors a b)) 0 (ap (λ (l : List ℕ). anyBit (xors a l)) (sym ab) ∙ none a na))
 
 -- as `opens` has it: f the words of the message's tag part, e those of the recomputed tag, d the xor of the two
-pub opens-words : (rk j label s f e d p q : List ℕ) (h : ℕ) → 16 ≤ length s → AreBytes s → p ≡ tagPart s → f ≡ words p → length e ≡ 4 → AreWords e
-    → q ≡ textPart s → unwords e ≡ tagOf rk h j label q → d ≡ xors f e → eqb (anyBit d) 0 ≡ opensUnder rk h j label s
+pub opens-words : (rk j label s f e d p q : List ℕ) (h : ℕ) → 16 ≤ length s → AreBytes s → p ≡ tagPart s → f ≡ words p
+    → length e ≡ 4 → AreWords e → q ≡ textPart s → unwords e ≡ tagOf rk h j label q → d ≡ xors f e
+    → eqb (anyBit d) 0 ≡ opensUnder rk h j label s
 unfolding opensUnder
 opens-words rk j label s f e d p q h n b ep ef le we eq ee ed =
     let bt : AreBytes (tagPart s) = below-drop 256 (length s - 16) s b in

@@ -1,6 +1,6 @@
 -- GCM, NIST SP 800-38D, over round keys, H and J0.
 use Prim.Native.Nat.{ℕ, _-_}
-use mathlib.Core.Bool.{Bool, cond}
+use mathlib.Core.Bool.{Bool}
 use mathlib.Core.List.{List, [], _∷_, _++_}
 use lib.ListN.{length, take, drop, replicate}
 use Rattle.block.specs.BigEndian.{numberOf, bytesOf}
@@ -9,11 +9,9 @@ use Rattle.block.specs.Xor.{xors}
 use Rattle.cipher.specs.Sm4.{encryptBlock}
 use Rattle.counter.specs.Counter.{gcmNext}
 use Rattle.ghash.specs.Ghash.{ghash, authBlocks}
-use Rattle.stream.specs.Walk.{chain, over}
+use Rattle.walk.specs.Walk.{chain}
 use Rattle.stream.specs.Stream.{streamMode}
 use Rattle.stream.specs.declared.Kind.the-variants.{Gctr}
-use Rattle.gcm.specs.declared.Opened.{Opened}
-use Rattle.gcm.specs.declared.Opened.the-variants.{Done, InvalidTag}
 
 -- H: the cipher of sixteen zero bytes
 unfoldable pub hashKey : List ℕ → ℕ
@@ -22,6 +20,10 @@ hashKey rk = numberOf (encryptBlock rk (replicate 16 0))
 -- J0 of a 16-byte IV: the hash of the IV, and of 8 zero bytes and the number 128 in 8 bytes
 unfoldable pub firstCounter : ℕ → List ℕ → List ℕ
 firstCounter h iv = bytesOf 16 (ghash h (numberOf iv ∷ 128 ∷ []))
+
+-- J0 of an IV under round keys
+abbrev pub J0 : List ℕ → List ℕ → List ℕ
+J0 rk iv = firstCounter (hashKey rk) iv
 
 -- the text, either way: counters start one after J0
 unfoldable pub textOf : List ℕ → List ℕ → List ℕ → List ℕ
@@ -45,10 +47,3 @@ tagPart s = drop (length s - 16) s
 -- whether a sealed message opens under a label
 unfoldable pub opensUnder : List ℕ → ℕ → List ℕ → List ℕ → List ℕ → Bool
 opensUnder rk h j label s = same (tagPart s) (tagOf rk h j label (textPart s))
-
--- what opening answers, and what it leaves in the output o: the text, or nothing
-unfoldable pub openAnswer : List ℕ → ℕ → List ℕ → List ℕ → List ℕ → Opened
-openAnswer rk h j label s = cond (opensUnder rk h j label s) (Done (length s - 16)) InvalidTag
-
-unfoldable pub openOutput : List ℕ → ℕ → List ℕ → List ℕ → List ℕ → List ℕ → List ℕ
-openOutput rk h j label s o = cond (opensUnder rk h j label s) (over (textOf rk j (textPart s)) o) o

@@ -1,12 +1,15 @@
 // GCM: libsm's `gcm_encrypt` and `gcm_decrypt`, over round keys, H and J0. The IV is the caller's: J0 is made of it once.
 ghost use mathlib.Core.Path.{_≡_};
 ghost use Prim.Native.Nat.{_+_, _-_, _≤_};
-ghost use lib.ListN.{length, take, drop};
+ghost use lib.ListN.{length};
 ghost use Rattle.block.specs.Wide.{value};
 ghost use Rattle.block.specs.Words.{unwords};
-ghost use Rattle.cipher.specs.Sm4.{sboxTable};
-ghost use Rattle.stream.specs.Walk.{over};
-ghost use Rattle.gcm.specs.Gcm.{hashKey, firstCounter, tagOf, sealed, textPart, tagPart, opensUnder, openAnswer, openOutput};
+ghost use Rattle.cipher.specs.Engine.{Engine};
+ghost use Rattle.ghash.specs.Ghash.{Hashable};
+ghost use Rattle.walk.specs.Outcome.{leaving};
+ghost use Rattle.walk.specs.Walk.{over};
+ghost use Rattle.gcm.specs.Gcm.{hashKey, firstCounter, tagOf, sealed, textPart, tagPart, opensUnder};
+ghost use Rattle.gcm.specs.Open.{headOf, gcmOpen};
 use block::U128;
 use stream::Kind;
 
@@ -17,8 +20,8 @@ pub enum Opened {
 }
 
 // H, the cipher of sixteen zero bytes.
-pub fn hash_key(t: &[u8; 256], rk: [u32; 32]) -> U128
-    requires { ⌜ now t ≡ sboxTable ⌝ }
+pub fn hash_key(t: &[u32], rk: [u32; 32]) -> U128
+    requires { ⌜ Engine (now t) ⌝ }
     ensures { λ r. ⌜ value r ≡ hashKey rk ⌝ }
 {
     block::to_u128(cipher::encrypt(t, rk, [0u32; 4]))
@@ -32,9 +35,9 @@ pub fn first_counter(h: U128, iv: &[u8]) -> [u32; 4]
     block::from_u128(ghash::galois_hash(h, &iv[0..0], iv))
 }
 
-fn tag(t: &[u8; 256], rk: [u32; 32], h: U128, j0: [u32; 4], aad: &[u8], text: &[u8]) -> [u32; 4]
-    requires { ⌜ now t ≡ sboxTable ⌝ }
-    requires { ⌜ (length (now aad) ≤ 16777216) × (length (now text) ≤ 16777216) ⌝ }
+fn tag(t: &[u32], rk: [u32; 32], h: U128, j0: [u32; 4], aad: &[u8], text: &[u8]) -> [u32; 4]
+    requires { ⌜ Engine (now t) ⌝ }
+    requires { ⌜ Hashable (length (now aad)) × Hashable (length (now text)) ⌝ }
     ensures { λ r. ⌜ unwords r ≡ tagOf rk (value h) (unwords j0) (now (aad .entry)) (now (text .entry)) ⌝ }
 {
     let hash = block::from_u128(ghash::galois_hash(h, aad, text));
@@ -43,7 +46,7 @@ fn tag(t: &[u8; 256], rk: [u32; 32], h: U128, j0: [u32; 4], aad: &[u8], text: &[
 
 // Seals `data` under the label `aad`: ciphertext, then tag.
 pub fn encrypt(
-    t: &[u8; 256],
+    t: &[u32],
     rk: [u32; 32],
     h: U128,
     j0: [u32; 4],
@@ -51,8 +54,8 @@ pub fn encrypt(
     data: &[u8],
     out: &mut [u8],
 )
-    requires { ⌜ now t ≡ sboxTable ⌝ }
-    requires { ⌜ (length (now aad) ≤ 16777216) × (length (now «data») ≤ 16777216) ⌝ }
+    requires { ⌜ Engine (now t) ⌝ }
+    requires { ⌜ Hashable (length (now aad)) × Hashable (length (now «data»)) ⌝ }
     requires { ⌜ length (now «data») + 16 ≤ length (now out) ⌝ }
     ensures { λ _. ⌜ now (out .exit) ≡ over (sealed rk (value h) (unwords j0) (now (aad .entry)) (now («data» .entry))) (now (out .entry)) ⌝ }
 {
@@ -81,9 +84,9 @@ pub fn tag_part(data: &[u8]) -> &[u8]
 }
 
 // Whether a sealed message opens under a label. All sixteen bytes of the tag are looked at, whatever the first ones are.
-pub fn opens(t: &[u8; 256], rk: [u32; 32], h: U128, j0: [u32; 4], aad: &[u8], data: &[u8]) -> bool
-    requires { ⌜ now t ≡ sboxTable ⌝ }
-    requires { ⌜ (length (now aad) ≤ 16777216) × (length (now «data») ≤ 16777232) ⌝ }
+pub fn opens(t: &[u32], rk: [u32; 32], h: U128, j0: [u32; 4], aad: &[u8], data: &[u8]) -> bool
+    requires { ⌜ Engine (now t) ⌝ }
+    requires { ⌜ Hashable (length (now aad)) × Hashable (length (now «data»)) ⌝ }
     requires { ⌜ 16 ≤ length (now «data») ⌝ }
     ensures { λ r. ⌜ r ≡ opensUnder rk (value h) (unwords j0) (now (aad .entry)) (now («data» .entry)) ⌝ }
 {
@@ -94,7 +97,7 @@ pub fn opens(t: &[u8; 256], rk: [u32; 32], h: U128, j0: [u32; 4], aad: &[u8], da
 
 // Opens a sealed message: the text, once the tag is settled; otherwise `out` stays as it is.
 pub fn decrypt(
-    t: &[u8; 256],
+    t: &[u32],
     rk: [u32; 32],
     h: U128,
     j0: [u32; 4],
@@ -102,11 +105,10 @@ pub fn decrypt(
     data: &[u8],
     out: &mut [u8],
 ) -> Opened
-    requires { ⌜ now t ≡ sboxTable ⌝ }
-    requires { ⌜ (length (now aad) ≤ 16777216) × (length (now «data») ≤ 16777232) ⌝ }
+    requires { ⌜ Engine (now t) ⌝ }
+    requires { ⌜ Hashable (length (now aad)) × Hashable (length (now «data»)) ⌝ }
     requires { ⌜ (16 ≤ length (now «data»)) × (length (now «data») - 16 ≤ length (now out)) ⌝ }
-    ensures { λ r. ⌜ r ≡ openAnswer rk (value h) (unwords j0) (now (aad .entry)) (now («data» .entry)) ⌝ }
-    ensures { λ _. ⌜ now (out .exit) ≡ openOutput rk (value h) (unwords j0) (now (aad .entry)) (now («data» .entry)) (now (out .entry)) ⌝ }
+    ensures { λ r. ⌜ leaving (headOf r) (now (out .exit)) ≡ gcmOpen rk (value h) (unwords j0) (now (aad .entry)) (now («data» .entry)) (now (out .entry)) ⌝ }
 {
     if opens(t, rk, h, j0, aad, data) {
         let text = text_part(data);

@@ -18,7 +18,8 @@ use Rattle.ghash.proofs.Blocks.{blocks-nil, blocks-cons}
 use Rattle.ghash.proofs.Join.{hash-append}
 
 -- one block
-pub absorbed-one : (s r : Ghash) (b m : ℕ) → r .h ≡ s .h → m ≡ value (s .y) ⊕ b → value (r .y) ≡ gmul m (value (s .h)) → Absorbed s (b ∷ []) r
+pub absorbed-one : (s r : Ghash) (b m : ℕ) → r .h ≡ s .h → m ≡ value (s .y) ⊕ b → value (r .y) ≡ gmul m (value (s .h))
+    → Absorbed s (b ∷ []) r
 unfolding hashFrom
 absorbed-one s r b m k a e = record { key = k; hash = e ∙ ap (λ (x : ℕ). gmul x (value (s .h))) a }
 
@@ -45,14 +46,17 @@ module _ (s₀ s : Ghash) (bs : List ℕ) (i : ℕ) (w : Walked s₀ bs s i) whe
   walk-on l r a =
       let k = value (s₀ .h) in
       let d = drop i bs in
-      let e : drop 16 d ≡ drop (i + 16) bs = drop-drop 16 i bs in
+      let rest = blocks (drop (i + 16) bs) in
+      let lent : take (length bs - i) d ≡ d = take-all (length bs - i) d (le-of-eq (length-drop i bs)) in
+      let cut : blocks d ≡ blockOf d ∷ rest =
+      blocks-cons d (simp length-drop (omega arith)) ∙ ap (λ (t : List ℕ). blockOf d ∷ blocks t) (drop-drop 16 i bs) in
       record {
         key = a .key ∙ w .key;
         hash =
-            ap (λ (y : ℕ). hashFrom k y (blocks (drop (i + 16) bs)))
-            (a .hash ∙ ap₂ (λ (m : ℕ) (t : List ℕ). hashFrom m (value (s .y)) (blockOf t ∷ [])) (ap value (w .key)) (take-all (length bs - i) d (le-of-eq (length-drop i bs))))
-            ∙ sym (hash-append k (value (s .y)) (blockOf d ∷ []) (blocks (drop (i + 16) bs)))
-            ∙ ap (hashFrom k (value (s .y))) (sym (blocks-cons d (simp length-drop (omega arith)) ∙ ap (λ (t : List ℕ). blockOf d ∷ blocks t) e))
+            ap (λ (y : ℕ). hashFrom k y rest)
+            (a .hash ∙ ap₂ (λ (m : ℕ) (t : List ℕ). hashFrom m (value (s .y)) (blockOf t ∷ [])) (ap value (w .key)) lent)
+            ∙ sym (hash-append k (value (s .y)) (blockOf d ∷ []) rest)
+            ∙ ap (hashFrom k (value (s .y))) (sym cut)
             ∙ w .hash;
       }
 

@@ -103,7 +103,8 @@ blocksFrom-zero (suc k) bs =
     ap₂ _∷_ (blockOf-zero bs)
     (⊎-elim
     (λ (z : 16 - length bs ≡ 0). ap (blocksFrom k) (drop-append-le 16 bs (0 ∷ []) (omega arith)) ∙ blocksFrom-zero k (drop 16 bs))
-    (λ (p : 0 < 16 - length bs). ap (blocksFrom k) (drop-of-length-le (bs ++ (0 ∷ [])) {i = 16} (simp length-append (omega arith)) ∙ sym (drop-of-length-le bs {i = 16} (omega arith))))
+    (λ (p : 0 < 16 - length bs). ap (blocksFrom k)
+    (drop-of-length-le (bs ++ (0 ∷ [])) {i = 16} (simp length-append (omega arith)) ∙ sym (drop-of-length-le bs {i = 16} (omega arith))))
     (eq-zero-or-pos (16 - length bs)))
 
 -- nor do the blocks change, where the last one has room for it
@@ -128,6 +129,7 @@ getD-before-zeros (b ∷ bs) n (suc i) = getD-before-zeros bs n i
 pub blockOf-words : (bs : List ℕ) → AreBytes bs → numberOf (unwords (words bs)) ≡ blockOf bs
 unfolding padded
 blockOf-words bs h =
-    ap (λ (w : List ℕ). numberOf (unwords w)) (sym (words-take (bs ++ replicate 16 0) ∙ words-same (bs ++ replicate 16 0) bs (λ i k. getD-before-zeros bs 16 i)))
+    let e = words-take (bs ++ replicate 16 0) ∙ words-same (bs ++ replicate 16 0) bs (λ i k. getD-before-zeros bs 16 i) in
+    ap (λ (w : List ℕ). numberOf (unwords w)) (sym e)
     ∙ ap numberOf (unwords-words (padded bs) (padded-length bs) (padded-bytes bs h))
     ∙ sym (blockOf-padded bs)

@@ -17,6 +17,7 @@ lengthBlock-iv = refl
 pub iv-blocks : (iv : List ℕ) → length iv ≡ 16 → authBlocks [] iv ≡ numberOf iv ∷ 128 ∷ []
 unfolding authBlocks
 iv-blocks iv e =
-    let one : blocks iv ≡ numberOf iv ∷ [] = blocks-cons iv (omega arith) ∙ ap₂ _∷_ (blockOf-full iv e) (ap blocks (drop-of-length-le iv (le-of-eq e)) ∙ blocks-nil) in
+    let one : blocks iv ≡ numberOf iv ∷ [] =
+    blocks-cons iv (omega arith) ∙ ap₂ _∷_ (blockOf-full iv e) (ap blocks (drop-of-length-le iv (le-of-eq e)) ∙ blocks-nil) in
     ap₂ (λ (l t : List ℕ). l ++ (t ++ (lengthBlock 0 (length iv) ∷ []))) blocks-nil one
     ∙ ap (λ (n : ℕ). numberOf iv ∷ n ∷ []) (ap (lengthBlock 0) e ∙ lengthBlock-iv)

@@ -18,7 +18,11 @@ module _ (h : ℕ) (hh : Element h) (nz : h ≢ 0) where
   -- one block's hash comes of one start alone
   step-cancel : (y z b : ℕ) → Element y → Element z → gmul (y ⊕ b) h ≡ gmul (z ⊕ b) h → y ≡ z
   step-cancel y z b hy hz e =
-      let q : gmul (y ⊕ z) h ≡ 0 = ap (λ (w : ℕ). gmul w h) (sym (xor-meet y b z)) ∙ xor-gmul (y ⊕ b) (b ⊕ z) h ∙ ap₂ _⊕_ e (ap (λ (w : ℕ). gmul w h) (xor-comm b z)) ∙ xor-self (gmul (z ⊕ b) h) in
+      let q : gmul (y ⊕ z) h ≡ 0 =
+      ap (λ (w : ℕ). gmul w h) (sym (xor-meet y b z))
+      ∙ xor-gmul (y ⊕ b) (b ⊕ z) h
+      ∙ ap₂ _⊕_ e (ap (λ (w : ℕ). gmul w h) (xor-comm b z))
+      ∙ xor-self (gmul (z ⊕ b) h) in
       ⊎-elim (λ s. xor-same y z z (s ∙ sym (xor-self z))) (λ z0. absurd (nz z0)) (zero-product (y ⊕ z) h (xor-lt 128 y z hy hz) hh q)
 
   -- and so does that of many
@@ -28,9 +32,12 @@ module _ (h : ℕ) (hh : Element h) (nz : h ≢ 0) where
   start-cancel (b ∷ bs) y z hy hz e =
       step-cancel y z b hy hz (start-cancel bs (gmul (y ⊕ b) h) (gmul (z ⊕ b) h) (gmul-lt (y ⊕ b) h hh) (gmul-lt (z ⊕ b) h hh) e)
 
-  pub one-changed : (xs : List ℕ) (b c : ℕ) (ys : List ℕ) → Element b → Element c → b ≢ c → ghash h (xs ++ (b ∷ ys)) ≢ ghash h (xs ++ (c ∷ ys))
+  pub one-changed : (xs : List ℕ) (b c : ℕ) (ys : List ℕ) → Element b → Element c → b ≢ c
+      → ghash h (xs ++ (b ∷ ys)) ≢ ghash h (xs ++ (c ∷ ys))
   unfolding hashFrom
   one-changed xs b c ys hb hc n e =
       let y = ghash h xs in
-      let s : gmul (y ⊕ b) h ≡ gmul (y ⊕ c) h = start-cancel ys (gmul (y ⊕ b) h) (gmul (y ⊕ c) h) (gmul-lt (y ⊕ b) h hh) (gmul-lt (y ⊕ c) h hh) (sym (hash-append h 0 xs (b ∷ ys)) ∙ e ∙ hash-append h 0 xs (c ∷ ys)) in
+      let ends = sym (hash-append h 0 xs (b ∷ ys)) ∙ e ∙ hash-append h 0 xs (c ∷ ys) in
+      let s : gmul (y ⊕ b) h ≡ gmul (y ⊕ c) h =
+      start-cancel ys (gmul (y ⊕ b) h) (gmul (y ⊕ c) h) (gmul-lt (y ⊕ b) h hh) (gmul-lt (y ⊕ c) h hh) ends in
       n (step-cancel b c y hb hc (ap (λ (w : ℕ). gmul w h) (xor-comm b y) ∙ s ∙ ap (λ (w : ℕ). gmul w h) (xor-comm y c)))

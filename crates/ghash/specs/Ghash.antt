@@ -1,6 +1,6 @@
 -- GCM's hash, from NIST SP 800-38D, sections 6.4 and 7.1, over blocks as the numbers that they spell.
 use mathlib.Core.List.{List, [], _∷_, _++_}
-use Prim.Native.Nat.{ℕ, zero, suc, _+_, _*_, _/_, _≤_}
+use Prim.Native.Nat.{ℕ, zero, suc, _+_, _*_, _/_, _^_, _<_}
 use lib.ListN.{length, take, drop, replicate}
 use Rattle.block.specs.BigEndian.{numberOf, bytesOf}
 use Rattle.block.specs.Xor.{_⊕_}
@@ -19,9 +19,9 @@ blocksFrom (suc k) bs = blockOf bs ∷ blocksFrom k (drop 16 bs)
 unfoldable pub blocks : List ℕ → List ℕ
 blocks bs = blocksFrom ((length bs + 15) / 16) bs
 
--- the lengths that are hashed: at most 16 MiB and a tag
-abbrev pub Short : ℕ → Type 0
-Short n = n ≤ 16777232
+-- the lengths that can be hashed: in bits they fit 8 bytes, as SP 800-38D, section 5.2.1.1, asks of labels and IVs
+abbrev pub Hashable : ℕ → Type 0
+Hashable n = n < 2 ^ 61
 
 -- two lengths in bits, 8 bytes each
 unfoldable pub lengthBlock : ℕ → ℕ → ℕ

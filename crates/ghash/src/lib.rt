@@ -5,7 +5,7 @@ ghost use Prim.Native.Nat.{_≤_};
 ghost use lib.ListN.{length, getD};
 ghost use Rattle.block.specs.Words.{wordAt, words};
 ghost use Rattle.block.specs.Wide.{value};
-ghost use Rattle.ghash.specs.Ghash.{Short, blockOf, blocks, lengthBlock, authBlocks, ghash};
+ghost use Rattle.ghash.specs.Ghash.{Hashable, blockOf, blocks, lengthBlock, authBlocks, ghash};
 ghost use Rattle.ghash.specs.Absorbed.{Absorbed};
 use block::U128;
 
@@ -82,7 +82,7 @@ impl Ghash {
 
     // All of `bytes`, zeros to the last block's end.
     pub fn absorb_all(self, bytes: &[u8]) -> Ghash
-        requires { ⌜ Short (length (now bytes)) ⌝ }
+        requires { ⌜ Hashable (length (now bytes)) ⌝ }
         ensures { λ r. ⌜ Absorbed self (blocks (now (bytes .entry))) r ⌝ }
     {
         let mut state = self;
@@ -96,7 +96,7 @@ impl Ghash {
 
     // The length block: both lengths in bits, the label's first.
     pub fn absorb_lengths(self, label: usize, text: usize) -> Ghash
-        requires { ⌜ Short label × Short text ⌝ }
+        requires { ⌜ Hashable label × Hashable text ⌝ }
         ensures { λ r. ⌜ Absorbed self (lengthBlock label text ∷ []) r ⌝ }
     {
         let b = U128 {
@@ -109,7 +109,7 @@ impl Ghash {
 
 // The hash of a label and a text, with their lengths.
 pub fn galois_hash(h: U128, label: &[u8], text: &[u8]) -> U128
-    requires { ⌜ Short (length (now label)) × Short (length (now text)) ⌝ }
+    requires { ⌜ Hashable (length (now label)) × Hashable (length (now text)) ⌝ }
     ensures { λ r. ⌜ value r ≡ ghash (value h) (authBlocks (now (label .entry)) (now (text .entry))) ⌝ }
 {
     let start = Ghash::new(h);

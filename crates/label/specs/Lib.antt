@@ -1,9 +1,1 @@
-pub mod Ascii
-pub mod Every
 pub mod Label
-pub mod Decimal
-pub mod Hex
-pub mod Key
-pub mod Words
-pub mod Line
-pub mod Status

@@ -1,13 +1,4 @@
-// The label of a job and an edition, and what a person types to the tool and reads from it: numbers, bytes in hex,
-// keys, words, the line that they make, and the status that a run ends with.
-pub mod decimal;
-pub mod hex;
-pub mod key;
-pub mod line;
-pub mod status;
-mod text;
-pub mod words;
-
+// The label of a job and an edition.
 ghost use mathlib.Core.Path.{_≡_};
 ghost use Rattle.label.specs.Label.{labelOf};
 

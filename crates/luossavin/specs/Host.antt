@@ -2,12 +2,12 @@
 use Prim.Native.Nat.{ℕ, zero, suc}
 use mathlib.Core.List.{List}
 use lib.Dec.{ltb}
-use Rattle.cipher_mode.specs.declared.Answer.the-variants.{BadMode}
+use Rattle.walk.specs.Outcome.{Head, Outcome, leaving, refuse}
 use Rattle.cipher_mode.specs.declared.CipherMode.{CipherMode}
 use Rattle.cipher_mode.specs.declared.CipherMode.the-variants.{Cfb, Ofb, Ctr, Cbc, Gcm}
-use Rattle.cipher_mode.specs.Outcome.{Head, Outcome, refuse}
+use Rattle.cipher_mode.specs.declared.Direction.{Direction}
 use Rattle.cipher_mode.specs.Key.{newCipher, newCipherMode}
-use Rattle.cipher_mode.specs.Calls.{blockCall, encryptCall, decryptCall}
+use Rattle.cipher_mode.specs.Calls.{blockCall, modeCall}
 use Rattle.luossavin.specs.declared.LuossavinAnswer.{LuossavinAnswer}
 
 -- what a host's answer reports
@@ -16,7 +16,7 @@ headIn r = record { number = r .number; size = r .length }
 
 -- the outcome of a host's answer with the output o
 abbrev pub reported : LuossavinAnswer → List ℕ → Outcome
-reported r o = record { head = headIn r; bytes = o }
+reported r o = leaving (headIn r) o
 
 -- 0 Cfb, 1 Ofb, 2 Ctr, 3 Cbc, 4 Gcm; a number above 4 is refused before this is asked
 unfoldable pub modeOf : ℕ → CipherMode
@@ -26,15 +26,11 @@ modeOf (suc (suc zero)) = Ctr
 modeOf (suc (suc (suc zero))) = Cbc
 modeOf (suc (suc (suc (suc n)))) = Gcm
 
-unfoldable pub hostBlockCall : (List ℕ → List ℕ → List ℕ) → List ℕ → List ℕ → List ℕ → Outcome
-hostBlockCall f key b o = blockCall f (newCipher key) b o
+unfoldable pub hostBlockCall : Direction → List ℕ → List ℕ → List ℕ → Outcome
+hostBlockCall dir key b o = blockCall dir (newCipher key) b o
 
-unfoldable pub hostEncryptCall : ℕ → List ℕ → List ℕ → List ℕ → List ℕ → List ℕ → Outcome
-hostEncryptCall mode key aad d iv o =
-    refuse (ltb 4 mode) BadMode o
-    (encryptCall (newCipherMode key (modeOf mode)) aad d iv o)
-
-unfoldable pub hostDecryptCall : ℕ → List ℕ → List ℕ → List ℕ → List ℕ → List ℕ → Outcome
-hostDecryptCall mode key aad d iv o =
-    refuse (ltb 4 mode) BadMode o
-    (decryptCall (newCipherMode key (modeOf mode)) aad d iv o)
+-- a mode number above 4 is BadMode, 7
+unfoldable pub hostModeCall : Direction → ℕ → List ℕ → List ℕ → List ℕ → List ℕ → List ℕ → Outcome
+hostModeCall dir mode key aad d iv o =
+    refuse (ltb 4 mode) 7 o
+    (modeCall dir (newCipherMode key (modeOf mode)) aad d iv o)

@@ -1,13 +1,16 @@
 // The host boundary: what a host in C or Rust links, declared in `include/luossavin.h`. Every call ends with an answer, and
 // none has a `requires`: a host that breaks one could not be told.
 ghost use mathlib.Core.Path.{_≡_};
-ghost use Rattle.cipher.specs.Sm4.{encryptBlock, decryptBlock};
-ghost use Rattle.cipher_mode.specs.Outcome.{refusal as refused, headOf};
-ghost use Rattle.luossavin.specs.Host.{headIn, reported, modeOf, hostBlockCall, hostEncryptCall, hostDecryptCall};
-use cipher_mode::Answer;
+ghost use Rattle.walk.specs.Outcome.{refusal as refused};
+ghost use Rattle.cipher_mode.specs.Answer.{headOf};
+ghost use Rattle.luossavin.specs.Host.{headIn, reported, modeOf, hostBlockCall, hostModeCall};
 use cipher_mode::CipherMode;
+use cipher_mode::Direction;
 use cipher_mode::Sm4Cipher;
 use cipher_mode::Sm4CipherMode;
+use cipher_mode::answer;
+use cipher_mode::answer::Answer;
+use cipher_mode::answer::Ending;
 
 // Document 01's number, and how many bytes of the output are the result.
 #[repr(C)]
@@ -15,6 +18,9 @@ pub struct LuossavinAnswer {
     pub number: u32,
     pub length: usize,
 }
+
+// The one refusal that is the boundary's own.
+const BAD_MODE: u32 = 7;
 
 fn refusal(number: u32) -> LuossavinAnswer
     ensures { λ r. ⌜ headIn r ≡ refused number ⌝ }
@@ -25,18 +31,13 @@ fn refusal(number: u32) -> LuossavinAnswer
 fn report(answer: Answer) -> LuossavinAnswer
     ensures { λ r. ⌜ headIn r ≡ headOf answer ⌝ }
 {
-    match answer {
-        Answer::Done(n) => LuossavinAnswer {
+    let ending = answer.ending;
+    match ending {
+        Ending::Done(n) => LuossavinAnswer {
             number: 0,
             length: n,
         },
-        Answer::ErrorBlockSize => refusal(1),
-        Answer::ErrorDataLen => refusal(2),
-        Answer::InvalidLastU8 => refusal(3),
-        Answer::InvalidTag => refusal(4),
-        Answer::TooLong => refusal(5),
-        Answer::NoRoom => refusal(6),
-        Answer::BadMode => refusal(7),
+        Ending::Refused(reason) => refusal(answer::number(reason)),
     }
 }
 
@@ -53,15 +54,38 @@ fn mode_of(mode: u32) -> CipherMode
     }
 }
 
+fn block_call(direction: Direction, key: &[u8], block: &[u8], out: &mut [u8]) -> LuossavinAnswer
+    ensures { λ r. ⌜ reported r (now (out .exit)) ≡ hostBlockCall direction (now (key .entry)) (now (block .entry)) (now (out .entry)) ⌝ }
+{
+    report(Sm4Cipher::new(key).call(direction, block, out))
+}
+
+fn mode_call(
+    direction: Direction,
+    mode: u32,
+    key: &[u8],
+    aad: &[u8],
+    data: &[u8],
+    iv: &[u8],
+    out: &mut [u8],
+) -> LuossavinAnswer
+    ensures { λ r. ⌜ reported r (now (out .exit)) ≡ hostModeCall direction mode (now (key .entry)) (now (aad .entry)) (now («data» .entry)) (now (iv .entry)) (now (out .entry)) ⌝ }
+{
+    match mode {
+        0..=4 => report(Sm4CipherMode::new(key, mode_of(mode)).call(direction, aad, data, iv, out)),
+        _ => refusal(BAD_MODE),
+    }
+}
+
 #[no_mangle]
 pub extern "C" fn luossavin_block_encrypt(
     key: &[u8],
     block: &[u8],
     out: &mut [u8],
 ) -> LuossavinAnswer
-    ensures { λ r. ⌜ reported r (now (out .exit)) ≡ hostBlockCall encryptBlock (now (key .entry)) (now (block .entry)) (now (out .entry)) ⌝ }
+    ensures { λ r. ⌜ reported r (now (out .exit)) ≡ hostBlockCall Direction.Encrypt (now (key .entry)) (now (block .entry)) (now (out .entry)) ⌝ }
 {
-    report(Sm4Cipher::new(key).encrypt(block, out))
+    block_call(Direction::Encrypt, key, block, out)
 }
 
 #[no_mangle]
@@ -70,9 +94,9 @@ pub extern "C" fn luossavin_block_decrypt(
     block: &[u8],
     out: &mut [u8],
 ) -> LuossavinAnswer
-    ensures { λ r. ⌜ reported r (now (out .exit)) ≡ hostBlockCall decryptBlock (now (key .entry)) (now (block .entry)) (now (out .entry)) ⌝ }
+    ensures { λ r. ⌜ reported r (now (out .exit)) ≡ hostBlockCall Direction.Decrypt (now (key .entry)) (now (block .entry)) (now (out .entry)) ⌝ }
 {
-    report(Sm4Cipher::new(key).decrypt(block, out))
+    block_call(Direction::Decrypt, key, block, out)
 }
 
 #[no_mangle]
@@ -84,12 +108,9 @@ pub extern "C" fn luossavin_encrypt(
     iv: &[u8],
     out: &mut [u8],
 ) -> LuossavinAnswer
-    ensures { λ r. ⌜ reported r (now (out .exit)) ≡ hostEncryptCall mode (now (key .entry)) (now (aad .entry)) (now («data» .entry)) (now (iv .entry)) (now (out .entry)) ⌝ }
+    ensures { λ r. ⌜ reported r (now (out .exit)) ≡ hostModeCall Direction.Encrypt mode (now (key .entry)) (now (aad .entry)) (now («data» .entry)) (now (iv .entry)) (now (out .entry)) ⌝ }
 {
-    match mode {
-        0..=4 => report(Sm4CipherMode::new(key, mode_of(mode)).encrypt(aad, data, iv, out)),
-        _ => report(Answer::BadMode),
-    }
+    mode_call(Direction::Encrypt, mode, key, aad, data, iv, out)
 }
 
 #[no_mangle]
@@ -101,10 +122,7 @@ pub extern "C" fn luossavin_decrypt(
     iv: &[u8],
     out: &mut [u8],
 ) -> LuossavinAnswer
-    ensures { λ r. ⌜ reported r (now (out .exit)) ≡ hostDecryptCall mode (now (key .entry)) (now (aad .entry)) (now («data» .entry)) (now (iv .entry)) (now (out .entry)) ⌝ }
+    ensures { λ r. ⌜ reported r (now (out .exit)) ≡ hostModeCall Direction.Decrypt mode (now (key .entry)) (now (aad .entry)) (now («data» .entry)) (now (iv .entry)) (now (out .entry)) ⌝ }
 {
-    match mode {
-        0..=4 => report(Sm4CipherMode::new(key, mode_of(mode)).decrypt(aad, data, iv, out)),
-        _ => report(Answer::BadMode),
-    }
+    mode_call(Direction::Decrypt, mode, key, aad, data, iv, out)
 }

@@ -10,12 +10,12 @@ use Rattle.block.specs.Xor.{xors}
 use Rattle.block.proofs.Xors.{length-xors, xors-cancel, xors-below}
 use Rattle.cipher.specs.Sm4.{encryptBlock}
 use Rattle.cipher.proofs.Blocks.{length-encryptBlock, encryptBlock-bytes}
-use Rattle.stream.specs.Walk.{chain}
+use Rattle.walk.specs.Walk.{chain}
 use Rattle.stream.specs.Stream.{stateAfter, streamMode, opener}
 use Rattle.stream.specs.declared.Kind.{Kind}
 use Rattle.stream.specs.declared.Kind.the-variants.{CfbEncrypt, CfbDecrypt, Ofb, Ctr, Gctr}
-use Rattle.stream.proofs.Chain.{Any, Keeps, chain-length, chain-bytes}
-use Rattle.stream.proofs.Undo.{Undoes, undo}
+use Rattle.walk.proofs.Chain.{Any, Keeps, chain-length, chain-bytes}
+use Rattle.walk.proofs.Undo.{Undoes, undo}
 
 -- a message of at most a block is covered by the cipher's output
 covered : (rk s d : List ℕ) → length d ≤ 16 → length d ≤ length (encryptBlock rk s)
@@ -39,7 +39,8 @@ length-stream k rk s d = chain-length Any Any (streamMode k rk) (stream-keeps k 
 
 pub stream-bytes : (k : Kind) (rk s d : List ℕ) → AreBytes d → AreBytes (chain (streamMode k rk) s d)
 stream-bytes k rk s d h =
-    let x : (s d : List ℕ) → AreBytes d → AreBytes (xors d (encryptBlock rk s)) = λ s d g. xors-below 8 d (encryptBlock rk s) g (encryptBlock-bytes rk s) in
+    let x : (s d : List ℕ) → AreBytes d → AreBytes (xors d (encryptBlock rk s)) =
+    λ s d g. xors-below 8 d (encryptBlock rk s) g (encryptBlock-bytes rk s) in
     chain-bytes Any (streamMode k rk) (λ s b hs hb. tt) (λ s b hs hb. x s b hb) (λ s d hs hd. x s d hd) s d tt h
 
 -- with the block and what it became exchanged, the opener goes on in the same state
@@ -52,7 +53,8 @@ same-state Gctr s e b c = refl
 
 stream-undoes : (k : Kind) (rk : List ℕ) → Undoes Any Any (streamMode (opener k) rk) (streamMode k rk)
 stream-undoes k rk =
-    let x : (s d : List ℕ) → length d ≤ 16 → xors (xors d (encryptBlock rk s)) (encryptBlock rk s) ≡ d = λ s d h. xors-cancel d (encryptBlock rk s) (covered rk s d h) in
+    let x : (s d : List ℕ) → length d ≤ 16 → xors (xors d (encryptBlock rk s)) (encryptBlock rk s) ≡ d =
+    λ s d h. xors-cancel d (encryptBlock rk s) (covered rk s d h) in
     record {
       keeps = stream-keeps k rk;
       block = λ s b hs hb n. x s b (omega arith);

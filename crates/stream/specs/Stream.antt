@@ -6,7 +6,7 @@ use mathlib.Core.List.{List}
 use Rattle.block.specs.Xor.{xors}
 use Rattle.cipher.specs.Sm4.{encryptBlock}
 use Rattle.counter.specs.Counter.{ctrNext, gcmNext}
-use Rattle.stream.specs.Walk.{Mode}
+use Rattle.walk.specs.Walk.{Mode}
 use Rattle.stream.specs.declared.Kind.{Kind}
 use Rattle.stream.specs.declared.Kind.the-variants.{CfbEncrypt, CfbDecrypt, Ofb, Ctr, Gctr}
 

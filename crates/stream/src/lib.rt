@@ -6,8 +6,9 @@ ghost use Prim.Native.Nat.{_<_, _≤_};
 ghost use lib.ListN.{length, take, drop};
 ghost use Rattle.block.specs.Words.{unwords};
 ghost use Rattle.block.specs.Xor.{xors};
-ghost use Rattle.cipher.specs.Sm4.{sboxTable, encryptBlock};
-ghost use Rattle.stream.specs.Walk.{chain, over};
+ghost use Rattle.cipher.specs.Engine.{Engine};
+ghost use Rattle.cipher.specs.Sm4.{encryptBlock};
+ghost use Rattle.walk.specs.Walk.{chain, endState, over};
 ghost use Rattle.stream.specs.Stream.{stateAfter, streamMode};
 
 // The mode and, where they differ, the direction.
@@ -33,15 +34,8 @@ fn state_after(kind: Kind, s: [u32; 4], e: [u32; 4], b: [u32; 4], c: [u32; 4]) -
 }
 
 // The block at the front of `data`, to the front of `out`. Returns the next state.
-fn step(
-    t: &[u8; 256],
-    rk: [u32; 32],
-    kind: Kind,
-    s: [u32; 4],
-    data: &[u8],
-    out: &mut [u8],
-) -> [u32; 4]
-    requires { ⌜ now t ≡ sboxTable ⌝ }
+fn step(t: &[u32], rk: [u32; 32], kind: Kind, s: [u32; 4], data: &[u8], out: &mut [u8]) -> [u32; 4]
+    requires { ⌜ Engine (now t) ⌝ }
     requires { ⌜ 16 ≤ length (now «data») ⌝ }
     requires { ⌜ 16 ≤ length (now out) ⌝ }
     ensures { λ r. ⌜ unwords r ≡ streamMode kind rk .next (unwords s) (take 16 (now («data» .entry))) ⌝ }
@@ -55,8 +49,8 @@ fn step(
 }
 
 // A rest shorter than a block, to the front of `out`: xored with the front of the cipher's output.
-fn xor_rest(t: &[u8; 256], rk: [u32; 32], s: [u32; 4], data: &[u8], out: &mut [u8])
-    requires { ⌜ now t ≡ sboxTable ⌝ }
+fn xor_rest(t: &[u32], rk: [u32; 32], s: [u32; 4], data: &[u8], out: &mut [u8])
+    requires { ⌜ Engine (now t) ⌝ }
     requires { ⌜ length (now «data») < 16 ⌝ }
     requires { ⌜ length (now «data») ≤ length (now out) ⌝ }
     ensures { λ _. ⌜ now (out .exit) ≡ over (xors (now («data» .entry)) (encryptBlock rk (unwords s))) (now (out .entry)) ⌝ }
@@ -69,10 +63,19 @@ fn xor_rest(t: &[u8; 256], rk: [u32; 32], s: [u32; 4], data: &[u8], out: &mut [u
     }
 }
 
-// The whole message `data`, to the front of `out`.
-pub fn stream(t: &[u8; 256], rk: [u32; 32], kind: Kind, iv: [u32; 4], data: &[u8], out: &mut [u8])
-    requires { ⌜ now t ≡ sboxTable ⌝ }
+// The whole message `data`, to the front of `out`. Returns the state after its full blocks, with which a message that goes
+// on after full blocks goes on.
+pub fn stream(
+    t: &[u32],
+    rk: [u32; 32],
+    kind: Kind,
+    iv: [u32; 4],
+    data: &[u8],
+    out: &mut [u8],
+) -> [u32; 4]
+    requires { ⌜ Engine (now t) ⌝ }
     requires { ⌜ length (now «data») ≤ length (now out) ⌝ }
+    ensures { λ r. ⌜ unwords r ≡ endState (streamMode kind rk) (unwords iv) (now («data» .entry)) ⌝ }
     ensures { λ _. ⌜ now (out .exit) ≡ over (chain (streamMode kind rk) (unwords iv) (now («data» .entry))) (now (out .entry)) ⌝ }
 {
     let mut s = iv;
@@ -83,4 +86,5 @@ pub fn stream(t: &[u8; 256], rk: [u32; 32], kind: Kind, iv: [u32; 4], data: &[u8
         at += 16;
     }
     xor_rest(t, rk, s, &data[at..], &mut out[at..]);
+    s
 }

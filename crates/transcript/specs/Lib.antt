@@ -1,1 +1,2 @@
 pub mod AtMost
+pub mod Called

@@ -1,29 +1,33 @@
 // The program that `./luossavin` runs: it reads a person's words, does what they ask, and ends with a status line for
-// the launcher. What the words mean is settled by the crate `label`, what becomes of the bytes by `cipher_mode`.
+// the launcher. What the words mean is settled by the crate `typed`, what becomes of the bytes by `cipher_mode`.
 mod files;
 mod say;
 
-ghost use Prim.Native.Nat.{_≤_};
-ghost use lib.ListN.{length};
-ghost use Rattle.cipher_mode.specs.Outcome.{headOf};
+ghost use mathlib.Core.Path.{_≡_};
+ghost use Rattle.cipher_mode.specs.Answer.{outcome};
 ghost use Rattle.transcript.specs.AtMost.{AtMost};
-use cipher_mode::Answer;
+ghost use Rattle.transcript.specs.Called.{directionOf, called};
 use cipher_mode::CipherMode;
+use cipher_mode::Direction;
 use cipher_mode::Sm4CipherMode;
-use label::decimal::Number;
-use label::hex::Hex;
-use label::line::Fault;
-use label::line::Line;
-use label::words::Command;
-use label::words::EDITION;
-use label::words::IN;
-use label::words::IV;
-use label::words::JOB;
-use label::words::KEY;
-use label::words::MODE;
-use label::words::ModeName;
-use label::words::NOTHING;
-use label::words::OUT;
+use cipher_mode::answer::Answer;
+use cipher_mode::answer::Ending;
+use cipher_mode::answer::Refusal;
+use typed::decimal::Number;
+use typed::hex::Hex;
+use typed::limits::LONGEST_SEALED;
+use typed::line::Fault;
+use typed::line::Line;
+use typed::things::EDITION;
+use typed::things::IN;
+use typed::things::IV;
+use typed::things::JOB;
+use typed::things::KEY;
+use typed::things::MODE;
+use typed::things::NOTHING;
+use typed::things::OUT;
+use typed::words::Command;
+use typed::words::ModeName;
 
 // How a run ends, besides the cipher's refusals.
 const DONE: u8 = 0;
@@ -47,7 +51,7 @@ const COMMAND: usize = 2;
 // `places` has the places of the words. `launcher` is the process that waits for the status line.
 pub struct Asked {
     pub command: Command,
-    pub places: [usize; 7],
+    pub places: [usize; NOTHING],
     pub mode: CipherMode,
     pub job: u32,
     pub edition: u16,
@@ -56,7 +60,7 @@ pub struct Asked {
 
 fn main() {
     let status = run();
-    io::write_all(REPORT, &label::status::line(status));
+    io::write_all(REPORT, &typed::status::line(status));
 }
 
 // Room for any argument: the system hands over none that is longer.
@@ -64,15 +68,17 @@ fn word_room() -> [u8; 131072] {
     [0u8; 131072]
 }
 
-// One byte more than the longest file that a command reads.
-fn file_room() -> [u8; 2097169] {
-    [0u8; 2097169]
+// One byte more than the longest file that a command reads, so that a longer one shows.
+const FILE_ROOM: usize = LONGEST_SEALED + 1;
+
+fn file_room() -> [u8; FILE_ROOM] {
+    [0u8; FILE_ROOM]
 }
 
 fn run() -> u8 {
     let mut word = word_room();
     let n = os::arg(COMMAND, &mut word);
-    let command = label::words::read_command(&word[..n]);
+    let command = typed::words::read_command(&word[..n]);
     if let Command::Unknown = command {
         return say::no_command();
     }
@@ -81,11 +87,11 @@ fn run() -> u8 {
     let Fault::NoFault = fault else {
         return say::fault(line);
     };
-    let thing = label::line::lacking(line);
+    let thing = typed::line::lacking(line);
     if thing < NOTHING {
         return say::missing(thing);
     }
-    if label::words::wants(command, MODE) {
+    if typed::words::wants(command, MODE) {
         return with_mode(line);
     }
     with_label(line)
@@ -95,12 +101,12 @@ fn run() -> u8 {
 fn read_at(line: Line, at: usize) -> Line {
     let mut word = word_room();
     let n = os::arg(at, &mut word);
-    label::line::read_word(line, &word[..n], at)
+    typed::line::read_word(line, &word[..n], at)
 }
 
 // Reads the words after the command.
 fn read_line(command: Command) -> Line {
-    let mut line = label::line::start(command);
+    let mut line = typed::line::start(command);
     let count = os::arg_count();
     let mut at = COMMAND + 1;
     while at < count {
@@ -116,7 +122,7 @@ fn with_mode(line: Line) -> u8 {
     let places = line.places;
     let mut word = word_room();
     let n = os::arg(places[MODE], &mut word);
-    let name = label::words::read_mode(&word[..n]);
+    let name = typed::words::read_mode(&word[..n]);
     if let ModeName::Unknown = name {
         return say::wrong(MODE, places[MODE]);
     }
@@ -145,7 +151,7 @@ fn number_at(at: usize, most: u32) -> Number
 {
     let mut word = word_room();
     let n = os::arg(at, &mut word);
-    label::decimal::read(&word[..n], most)
+    typed::decimal::read(&word[..n], most)
 }
 
 fn with_label(line: Line) -> u8 {
@@ -174,7 +180,7 @@ fn with_iv(asked: Asked) -> u8 {
     let mut word = word_room();
     let n = os::arg(places[IV], &mut word);
     let mut iv = io::large_buffer();
-    let read = label::hex::read(&word[..n], &mut iv);
+    let read = typed::hex::read(&word[..n], &mut iv);
     let Hex::Bytes(k) = read else {
         return say::wrong(IV, places[IV]);
     };
@@ -191,7 +197,7 @@ fn with_key(asked: Asked, iv: &[u8]) -> u8 {
     }
     let n = read.length;
     let mut key = io::buffer();
-    let k = label::key::read(&file[..n], &mut key);
+    let k = typed::key::read(&file[..n], &mut key);
     with_input(asked, &key[0..k], iv)
 }
 
@@ -199,45 +205,54 @@ fn with_input(asked: Asked, key: &[u8], iv: &[u8]) -> u8 {
     let command = asked.command;
     let places = asked.places;
     let mut data = file_room();
-    let read = files::read_input(places[IN], label::status::most(command), &mut data);
+    let read = files::read_input(places[IN], typed::limits::most(command), &mut data);
     if read.status != DONE {
         return read.status;
     }
     let n = read.length;
     let mut out = file_room();
     let answer = call(asked, key, iv, &data[..n], &mut out);
-    match answer {
-        Answer::Done(k) => deliver(asked, &out[0..k]),
-        Answer::ErrorBlockSize => say::block_size(key.len(), iv.len()),
-        Answer::ErrorDataLen => say::data_len(command, n),
-        Answer::InvalidLastU8 => say::last_byte(),
-        Answer::InvalidTag => say::tag(asked.job, asked.edition),
-        Answer::TooLong => say::too_long(),
-        Answer::NoRoom => say::no_room(),
-        Answer::BadMode => say::bad_mode(),
+    let ending = answer.ending;
+    match ending {
+        Ending::Done(k) => deliver(asked, &out[0..k]),
+        Ending::Refused(refusal) => refuse(refusal, asked, key.len(), iv.len(), n),
     }
 }
 
-fn is_sealing(command: Command) -> bool {
+// Says why, of a key, an IV and data of these lengths.
+fn refuse(refusal: Refusal, asked: Asked, key: usize, iv: usize, data: usize) -> u8 {
+    let command = asked.command;
+    match refusal {
+        Refusal::ErrorBlockSize => say::block_size(key, iv),
+        Refusal::ErrorDataLen => say::data_len(command, data),
+        Refusal::InvalidLastU8 => say::last_byte(),
+        Refusal::InvalidTag => say::tag(asked.job, asked.edition),
+        Refusal::TooLong => say::too_long(),
+        Refusal::NoRoom => say::no_room(),
+    }
+}
+
+fn direction_of(command: Command) -> Direction
+    ensures { λ r. ⌜ r ≡ directionOf command ⌝ }
+{
     match command {
-        Command::Seal => true,
-        Command::Encrypt => true,
-        _ => false,
+        Command::Seal => Direction::Encrypt,
+        Command::Open => Direction::Decrypt,
+        Command::Opens => Direction::Decrypt,
+        Command::Encrypt => Direction::Encrypt,
+        Command::Decrypt => Direction::Decrypt,
+        Command::Unknown => Direction::Decrypt,
     }
 }
 
 // The call that was asked for. A mode without a label passes over it.
 fn call(asked: Asked, key: &[u8], iv: &[u8], data: &[u8], out: &mut [u8]) -> Answer
-    ensures { λ r. ⌜ headOf r .size ≤ length (now (out .exit)) ⌝ }
+    ensures { λ r. ⌜ outcome r (now (out .exit)) ≡ called asked (now (key .entry)) (now (iv .entry)) (now («data» .entry)) (now (out .entry)) ⌝ }
 {
     let command = asked.command;
     let mode = asked.mode;
     let label = label::label(asked.job, asked.edition);
-    let cipher = Sm4CipherMode::new(key, mode);
-    if is_sealing(command) {
-        return cipher.encrypt(&label, data, iv, out);
-    }
-    cipher.decrypt(&label, data, iv, out)
+    Sm4CipherMode::new(key, mode).call(direction_of(command), &label, data, iv, out)
 }
 
 // Writes what came of it, or says that the file opens. Whoever has killed the launcher has killed the run: then nothing

@@ -7,17 +7,17 @@ use crate::LIMIT;
 use crate::USAGE;
 use crate::files;
 use crate::word_room;
-use label::line::Fault;
-use label::line::Line;
-use label::words::Command;
-use label::words::EDITION;
-use label::words::IN;
-use label::words::IV;
-use label::words::JOB;
-use label::words::KEY;
-use label::words::MODE;
 use libc::STDERR_FILENO;
 use libc::STDOUT_FILENO;
+use typed::line::Fault;
+use typed::line::Line;
+use typed::things::EDITION;
+use typed::things::IN;
+use typed::things::IV;
+use typed::things::JOB;
+use typed::things::KEY;
+use typed::things::MODE;
+use typed::words::Command;
 
 fn text(s: &[u8]) {
     io::write_all(STDERR_FILENO, s);
@@ -109,7 +109,7 @@ fn unexpected(what: &[u8], at: usize) -> u8 {
 
 fn no_option(line: Line) -> u8 {
     let command = line.command;
-    if label::words::wants(command, MODE) {
+    if typed::words::wants(command, MODE) {
         return unexpected(b"--mode, --key or --iv, not ", line.at);
     }
     unexpected(b"--key, --iv, --job or --edition, not ", line.at)
@@ -175,7 +175,7 @@ pub fn block_size(key: usize, iv: usize) -> u8 {
 pub fn data_len(command: Command, length: usize) -> u8 {
     text(b"2 ErrorDataLen: the length of this file is ");
     number(length as u64);
-    if label::words::wants(command, MODE) {
+    if typed::words::wants(command, MODE) {
         text(
             b", and cbc writes 16 bytes or a multiple: cbc did not encrypt it, or it was cut short\n",
         );
@@ -209,9 +209,4 @@ pub fn too_long() -> u8 {
 pub fn no_room() -> u8 {
     text(b"6 NoRoom: what comes of this file is longer than the tool has room for\n");
     6
-}
-
-pub fn bad_mode() -> u8 {
-    text(b"7 BadMode: the cipher has no such mode\n");
-    7
 }

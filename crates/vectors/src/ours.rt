@@ -2,42 +2,36 @@
 ghost use mathlib.Core.Path.{_≡_};
 ghost use Prim.Native.Nat.{_+_, _≤_};
 ghost use lib.ListN.{length};
-ghost use Rattle.cipher.specs.Sm4.{sboxTable};
+ghost use Rattle.cipher.specs.Engine.{Engine};
 use crate::words;
 use crate::words::Kind;
 use block::U128;
-use cipher_mode::Answer;
 use cipher_mode::CipherMode;
+use cipher_mode::Direction;
 use cipher_mode::Sm4Cipher;
 use cipher_mode::Sm4CipherMode;
+use cipher_mode::answer::Answer;
+use cipher_mode::answer::Ending;
 
 // Room for the longest result, and more than any length that a call here reports.
 const ROOM: usize = 256;
 
 // The length of a call that is done; more than there is room for where it is refused.
 fn length_of(answer: Answer) -> usize {
-    match answer {
-        Answer::Done(n) => n,
-        _ => ROOM + 1,
+    let ending = answer.ending;
+    match ending {
+        Ending::Done(n) => n,
+        Ending::Refused(_) => ROOM + 1,
     }
 }
 
-// One block, encrypted or back. A refusal leaves `out`, which then differs.
-fn one_block(cipher: Sm4Cipher, back: bool, block_in: &[u8], out: &mut [u8]) {
-    if back {
-        cipher.decrypt(block_in, out);
-    } else {
-        cipher.encrypt(block_in, out);
-    }
-}
-
-// A block put through the cipher so many times.
-fn over(cipher: Sm4Cipher, back: bool, times: u32, block_in: &[u8]) -> [u8; 16] {
+// A block put through the cipher so many times. A refusal leaves `x`, which then differs.
+fn over(cipher: Sm4Cipher, direction: Direction, times: u32, block_in: &[u8]) -> [u8; 16] {
     let mut x = [0u8; 16];
-    one_block(cipher, back, block_in, &mut x);
+    cipher.call(direction, block_in, &mut x);
     for _ in 1..times {
         let before = x;
-        one_block(cipher, back, &before, &mut x);
+        cipher.call(direction, &before, &mut x);
     }
     x
 }
@@ -45,8 +39,8 @@ fn over(cipher: Sm4Cipher, back: bool, times: u32, block_in: &[u8]) -> [u8; 16] 
 // A block, there and back.
 fn block_vector(times: u32, key: &[u8], text: &[u8], result: &[u8]) -> bool {
     let cipher = Sm4Cipher::new(key);
-    let there = over(cipher, false, times, text);
-    let back = over(cipher, true, times, result);
+    let there = over(cipher, Direction::Encrypt, times, text);
+    let back = over(cipher, Direction::Decrypt, times, result);
     check::same(&there, result) && check::same(&back, text)
 }
 
@@ -118,7 +112,7 @@ fn opens(answer: gcm::Opened, out: &[u8], text: &[u8]) -> bool {
 
 // Gcm there and back from round keys, H and J0.
 fn gcm_both(
-    t: &[u8; 256],
+    t: &[u32],
     rk: [u32; 32],
     h: U128,
     j0: [u32; 4],
@@ -126,7 +120,7 @@ fn gcm_both(
     text: &[u8],
     result: &[u8],
 ) -> bool
-    requires { ⌜ now t ≡ sboxTable ⌝ }
+    requires { ⌜ Engine (now t) ⌝ }
     requires { ⌜ (length (now label) ≤ 256) × (length (now result) ≤ 256) × (length (now result) ≡ length (now text) + 16) ⌝ }
 {
     let mut out = [0u8; ROOM];
@@ -153,7 +147,7 @@ fn gcm_vector(key: &[u8], nonce: &[u8], label: &[u8], text: &[u8], result: &[u8]
     if result.len() - 16 != text.len() {
         return false;
     }
-    let t = cipher::sbox();
+    let t = cipher::plain();
     let keyed = Sm4Cipher::new(key);
     let rk = keyed.rk;
     gcm_both(

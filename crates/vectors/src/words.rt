@@ -15,7 +15,16 @@ pub enum Kind {
     Unknown,
 }
 
-// The bytes that a word spelled, and where the word ended.
+// The words of a vector after its kind.
+pub enum Word {
+    Key,
+    Iv,
+    Label,
+    Text,
+    Result,
+}
+
+// How many bytes a word spells, which may be more than there was room for, and where the word ends.
 pub struct Spelled {
     pub count: usize,
     pub end: usize,
@@ -72,6 +81,15 @@ pub fn word_end(s: &[u8], from: usize) -> usize
     at
 }
 
+// Where so many words from `from` on have ended.
+pub fn past(s: &[u8], from: usize, count: usize) -> usize {
+    let mut at = from;
+    for _ in 0..count {
+        at = word_end(s, word_start(s, at));
+    }
+    at
+}
+
 // The value of a hex digit, 0 of anything else.
 fn digit(b: u8) -> u8
     ensures { λ r. ⌜ r < 16 ⌝ }
@@ -83,25 +101,31 @@ fn digit(b: u8) -> u8
     }
 }
 
-// Puts the bytes that the digits of `word` spell into `out`, and says how many there are.
-fn unhex(word: &[u8], out: &mut [u8]) -> usize
-    ensures { λ r. ⌜ r ≤ length (now (out .entry)) ⌝ }
+// The value of the digit at `i`, 0 past the end.
+fn digit_at(word: &[u8], i: usize) -> u8
+    ensures { λ r. ⌜ r < 16 ⌝ }
 {
-    let mut count: usize = 0;
-    while count < out.len() {
-        if word.len() / 2 <= count {
-            return count;
-        }
-        out[count] = digit(word[2 * count]) * 16 + digit(word[2 * count + 1]);
-        count += 1;
+    if i < word.len() { digit(word[i]) } else { 0 }
+}
+
+// Says how many bytes `word` spells, and puts them into `out` if it has room for them all. A - spells none,
+// and an odd digit at the end counts as a byte, so that nothing of a word is passed over.
+fn unhex(word: &[u8], out: &mut [u8]) -> usize {
+    if check::same(word, b"-") {
+        return 0;
+    }
+    let count = word.len() / 2 + word.len() % 2;
+    if out.len() < count {
+        return count;
+    }
+    for i in 0..count {
+        out[i] = digit_at(word, 2 * i) * 16 + digit_at(word, 2 * i + 1);
     }
     count
 }
 
 // Reads the next word as bytes.
-pub fn read_hex(s: &[u8], from: usize, out: &mut [u8]) -> Spelled
-    ensures { λ r. ⌜ r .count ≤ length (now (out .entry)) ⌝ }
-{
+pub fn read_hex(s: &[u8], from: usize, out: &mut [u8]) -> Spelled {
     let start = word_start(s, from);
     let end = word_end(s, start);
     let count = unhex(&s[start..end], out);

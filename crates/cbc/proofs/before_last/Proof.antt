@@ -1,3 +1,5 @@
+-- `cbc::before_last` meets its contract: of IV and data together it is the block that ends where the last one begins.
+-- Assumes nothing.
 use mathlib.Core.Path.{_≡_, sym}
 use Prim.Native.Nat.{ℕ, _-_, _<_}
 use native.Mathlib.Omega.{arith}
@@ -21,21 +23,17 @@ returns c =
 
 returns-2 : tie.Need-returns-2
 returns-2 c =
-    let k = c .before .before .before in
-    let S = k .before in
+    let at-data = c .before .before .before in
+    let S = at-data .before in
     let a = S .args in
     let d = now (a .«data») in
-    let small : (i : ℕ) → getD d i 0 < 256 = λ i. omega (arith, k .shared-slice-known .given i) in
-    before-words (unwords (a .iv)) d (c .split-block .result) (length-unwords (a .iv)) (below-each 256 d small) (S .pre .0) (S .pre .1) (c .before .before .if1 .left) (c .split-block .ensures)
+    let small : (i : ℕ) → getD d i 0 < 256 = λ i. omega (arith, at-data .shared-slice-known .given i) in
+    before-words (unwords (a .iv)) d (c .split-block .result) (length-unwords (a .iv)) (below-each 256 d small)
+    (S .pre .0) (S .pre .1) (c .before .before .if1 .left) (c .split-block .ensures)
 
 pub before-last-spec : {M : Type 1} → statement M
 before-last-spec =
     tie.close
     (tie.spec
-    returns
-    (λ c. search needs)
-    (λ c. search needs)
-    (λ c. search needs)
-    (λ c. search needs)
-    (λ c κs. search needs)
+    returns (λ c. search needs) (λ c. search needs) (λ c. search needs) (λ c. search needs) (λ c κs. search needs)
     returns-2)

@@ -1,11 +1,17 @@
+-- `cbc::last_block` meets its contract: the last block of the decrypted text takes the last two blocks alone (`last-words`), and
+-- the cipher under the round keys turned round is decryption.
+-- Assumes nothing.
 use mathlib.Core.Path.{_≡_, _∙_}
+use mathlib.Core.List.{reverse}
 use Prim.Native.Nat.{ℕ, _-_, _<_}
 use native.Mathlib.Omega.{arith}
 use denote.Ref.{now}
 use lib.ListN.{length, getD}
-use Rattle.block.specs.Words.{unwords}
+use Rattle.block.specs.Words.{words, unwords}
 use Rattle.block.proofs.Entries.{below-each}
 use Rattle.block.proofs.WordsBack.{length-unwords}
+use Rattle.cipher.proofs.Blocks.{decrypt-turned}
+use Rattle.walk.proofs.Loop.{tailed}
 use Rattle.cbc.proofs.Blocks.{last-words}
 use borrow.Author.Needs.{needs}
 use Rattle.cbc.proofs.last_block.Statement.{statement}
@@ -13,32 +19,31 @@ use Rattle.cbc.proofs.last_block.Tie as tie
 
 returns : tie.Need-returns
 returns c =
-    let x = c .before in
-    let b = x .before in
-    let q = b .before in
-    let l = q .before in
-    let k = l .before .before in
-    let S = k .before in
+    let at-xor = c .before in
+    let at-before-last = at-xor .before in
+    let at-encrypt = at-before-last .before in
+    let at-split = at-encrypt .before in
+    let at-data = at-split .before .before in
+    let S = at-data .before .before in
     let a = S .args in
     let d = now (a .«data») in
-    let r = b .before-last in
-    let four : length (r .result) ≡ 4 = search (needs, r) in
-    let small : (i : ℕ) → getD d i 0 < 256 = λ i. omega (arith, k .shared-slice-known .given i) in
+    let chained = at-before-last .before-last in
+    let four : length (chained .result) ≡ 4 = search (needs, chained) in
+    let small : (i : ℕ) → getD d i 0 < 256 = λ i. omega (arith, at-data .shared-slice-known2 .given i) in
+    let words-of-last = words (tailed (length d - 16) d) in
     c .combine-block .ensures
-    ∙ rw (x .block-xor .ensures, q .decrypt .ensures, l .split-block .ensures)
-    (last-words (a .rk) (unwords (a .iv)) d (r .result) (length-unwords (a .iv)) (below-each 256 d small) (S .pre .1 .0) (S .pre .1 .1) four (r .ensures))
+    ∙ rw (
+      at-xor .block-xor .ensures,
+      at-encrypt .encrypt .ensures,
+      at-split .split-block .ensures,
+      ← decrypt-turned (a .back) words-of-last,
+    )
+    (last-words (reverse (a .back)) (unwords (a .iv)) d (chained .result) (length-unwords (a .iv)) (below-each 256 d small)
+    (S .pre .1 .0) (S .pre .1 .1) four (chained .ensures))
 
 pub last-block-spec : {M : Type 1} → statement M
 last-block-spec =
     tie.close
     (tie.spec
-    (λ c. search needs)
-    (λ c. search needs)
-    (λ c. search needs)
-    (λ c. search needs)
-    (λ c κs. search needs)
-    (λ c κs. search needs)
-    (λ c κs. search needs)
-    (λ c κs. search needs)
-    (λ c κs. search needs)
-    returns)
+    (λ c. search needs) (λ c. search needs) (λ c. search needs) (λ c. search needs) (λ c κs. search needs)
+    (λ c κs. search needs) (λ c κs. search needs) (λ c κs. search needs) (λ c κs. search needs) returns)

@@ -1,10 +1,13 @@
+-- `cbc::pad` meets its contract. The array starts as sixteen times the count; the loop's invariant: the first i bytes are the
+-- rest's, and what is left is the padding.
+-- Assumes nothing.
 use mathlib.Core.Path.{_≡_, refl}
 use mathlib.Core.List.{_++_}
 use Prim.Native.Nat.{_≤_, _-_}
 use native.Mathlib.Omega.{arith}
 use denote.Ref.{now}
 use lib.ListN.{length, take, drop, replicate, length-set}
-use Rattle.stream.proofs.Fill.{copy-turn}
+use Rattle.walk.proofs.Fill.{copy-turn}
 use Rattle.cbc.proofs.Padding.{pad-filled}
 use Rattle.cbc.proofs.pad.Statement.{statement}
 use Rattle.cbc.proofs.pad.Tie as tie
@@ -36,14 +39,5 @@ pub pad-spec : {M : Type 1} → statement M
 pad-spec =
     tie.close
     (tie.spec
-    Inv-loop
-    μ-loop
-    (λ c. omega arith)
-    (λ c. omega arith)
-    loop-holds
-    (λ c. omega arith)
-    (λ c. omega arith)
-    (λ c. omega arith)
-    (λ c. omega arith)
-    loop-again
-    returns)
+    Inv-loop μ-loop (λ c. omega arith) (λ c. omega arith) loop-holds (λ c. omega arith) (λ c. omega arith)
+    (λ c. omega arith) (λ c. omega arith) loop-again returns)

@@ -1,9 +1,11 @@
+-- `cbc::put_front` meets its contract. The loop's invariant: the first i bytes are the block's, the others as they were lent.
+-- Assumes nothing.
 use mathlib.Core.Path.{_≡_, refl, _∙_}
 use mathlib.Core.List.{_++_}
 use Prim.Native.Nat.{_≤_, _-_}
 use native.Mathlib.Omega.{arith}
 use lib.ListN.{length, take, drop, length-set}
-use Rattle.stream.proofs.Fill.{copy-turn}
+use Rattle.walk.proofs.Fill.{copy-turn}
 use Rattle.cbc.proofs.put_front.Statement.{statement}
 use Rattle.cbc.proofs.put_front.Tie as tie
 
@@ -29,13 +31,5 @@ pub put-front-spec : {M : Type 1} → statement M
 put-front-spec =
     tie.close
     (tie.spec
-    Inv-loop
-    μ-loop
-    loop-holds
-    (λ c. omega arith)
-    (λ c. omega arith)
-    (λ c. omega arith)
-    (λ c. omega arith)
-    loop-again
-    (λ c. omega arith)
-    returns)
+    Inv-loop μ-loop loop-holds (λ c. omega arith) (λ c. omega arith) (λ c. omega arith) (λ c. omega arith) loop-again
+    (λ c. omega arith) returns)

@@ -1,3 +1,5 @@
+-- `cbc::unpad` meets its contract: in each arm the range tells whether the last byte names a padding.
+-- Assumes nothing.
 use mathlib.Core.Bool.{true, false}
 use native.Mathlib.Omega.{arith}
 use Rattle.cbc.proofs.Unpadded.{names-some, zero-names-none, high-names-none, block-unpadded}

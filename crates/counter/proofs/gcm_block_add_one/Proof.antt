@@ -1,3 +1,6 @@
+-- `counter::gcm_block_add_one` meets its contract. The last word is below 2^32, so it is the number that its four bytes
+-- spell, and to count it up is to count these bytes up and keep the twelve before them (`gcm-words`).
+-- Assumes nothing.
 use mir.Val.{Fits}
 use mir.Syntax.{w32}
 use lib.ListN.{getD}
@@ -16,9 +19,4 @@ pub gcm-block-add-one-spec : {M : Type 1} → statement M
 gcm-block-add-one-spec =
     tie.close
     (tie.spec
-    (λ c. search needs)
-    (λ c. search needs)
-    (λ c. search needs)
-    (λ c. search needs)
-    (λ c κs. search needs)
-    returns)
+    (λ c. search needs) (λ c. search needs) (λ c. search needs) (λ c. search needs) (λ c κs. search needs) returns)

@@ -1,53 +1,63 @@
-use mathlib.Core.Path.{sym}
-use Rattle.block.specs.Wide.{value}
-use Rattle.gcm.proofs.InWords.{text-words, opened-yes, opened-no}
-use mathlib.Core.Path.{_≡_, ap, _∙_}
+-- `gcm::decrypt` meets its contract. Where the tag is the message's, the stream writes its text and the definition is done
+-- (`open-done`); otherwise nothing is written, and it refuses (`open-refused`).
+-- Assumes nothing.
+use mathlib.Core.Path.{_≡_, sym, ap, ap₂, _∙_}
 use mathlib.Core.List.{List}
 use Prim.Native.Nat.{ℕ, _-_}
 use native.Mathlib.Omega.{arith}
 use denote.Ref.{now}
 use lib.ListN.{length}
 use lib.Seq.{length-take-le}
-use Rattle.gcm.specs.Gcm.{textOf}
-use Rattle.stream.specs.Walk.{over}
+use Rattle.block.specs.Wide.{value}
 use Rattle.block.specs.Words.{unwords}
+use Rattle.walk.specs.Outcome.{Outcome, leaving, finished}
+use Rattle.walk.specs.Walk.{over}
+use Rattle.gcm.specs.Gcm.{textOf, textPart}
+use Rattle.gcm.proofs.InWords.{text-words}
+use Rattle.gcm.proofs.Parts.{length-text}
+use Rattle.gcm.proofs.Settled.{open-refused, open-done}
 use borrow.Author.Needs.{needs}
 use Rattle.gcm.proofs.decrypt.Statement.{statement}
 use Rattle.gcm.proofs.decrypt.Tie as tie
 
 stream-requires : tie.Need-stream-requires
 stream-requires c κs =
-    let d = c .before .before .before .before .before .before .before .before .args .«data» .now in
-    let n : length (now (c .before .before .text-part .result)) ≡ length d - 16 = ap length (c .before .before .text-part .ensures) ∙ length-take-le (length d - 16) d (omega arith) in
+    let at-text = c .before .before in
+    let d = at-text .before .before .before .before .before .before .before .args .«data» .now in
+    let n : length (now (at-text .text-part .result)) ≡ length d - 16 =
+    ap length (at-text .text-part .ensures) ∙ length-take-le (length d - 16) d (omega arith) in
     (search needs, omega arith)
 
 returns : tie.Need-returns
 returns c =
-    let r = c .before .before in
-    let x = r .before .before in
-    let t = x .before in
-    let o = t .before .before in
-    let a = c .before .before .before .before .before .before .before .before .before .before .before .args in
+    let at-stream = c .before .before in
+    let at-counter = at-stream .before .before in
+    let at-text = at-counter .before in
+    let at-opens = at-text .before .before in
+    let S = at-opens .before .before .before .before .before in
+    let a = S .args in
     let d = now (a .«data») in
-    let e = t .text-part .ensures in
-    opened-yes (a .rk) (value (a .h)) (unwords (a .j0)) (now (a .aad)) d (now (a .out)) (sym (o .opens .ensures) ∙ t .before .if1 .taken) _ _
-    (ap length e ∙ length-take-le (length d - 16) d (omega arith))
-    (r .stream .ensures
-    ∙ ap (λ (p : List ℕ). over p (now (a .out))) (text-words (a .rk) (unwords (a .j0)) _ (now (t .text-part .result)) (x .gcm-block-add-one .ensures) ∙ ap (textOf (a .rk) (unwords (a .j0))) e))
+    let j = unwords (a .j0) in
+    let text = now (at-text .text-part .result) in
+    let part = at-text .text-part .ensures in
+    let opens = sym (at-opens .opens .ensures) ∙ at-text .before .if1 .taken in
+    let is-text = text-words (a .rk) j _ text (at-counter .gcm-block-add-one .ensures) ∙ ap (textOf (a .rk) j) part in
+    let size : length text ≡ length (textOf (a .rk) j (textPart d)) =
+    ap length part ∙ sym (length-text (a .rk) j (textPart d)) in
+    ap₂ {C = Outcome} (λ (n : ℕ) (o : List ℕ). leaving (finished n) o) size
+    (at-stream .stream .ensures .1 ∙ ap (λ (p : List ℕ). over p (now (a .out))) is-text)
+    ∙ open-done (a .rk) (value (a .h)) j (now (a .aad)) d (now (a .out)) (S .pre .1 .1 .0) opens
 
 returns-2 : tie.Need-returns-2
 returns-2 c =
-    let a = c .before .before .before .before .before .args in
-    opened-no (a .rk) (value (a .h)) (unwords (a .j0)) (now (a .aad)) (now (a .«data»)) (now (a .out)) (sym (c .before .opens .ensures) ∙ c .if1 .left)
+    let S = c .before .before .before .before .before .before in
+    let a = S .args in
+    open-refused (a .rk) (value (a .h)) (unwords (a .j0)) (now (a .aad)) (now (a .«data»)) (now (a .out))
+    (sym (c .before .opens .ensures) ∙ c .if1 .left)
 
 pub decrypt-spec : {M : Type 1} → statement M
 decrypt-spec =
     tie.close
     (tie.spec
-    (λ c κs. search needs)
-    (λ c κs. search needs)
-    (λ c κs. search needs)
-    stream-requires
-    (λ c. search needs)
-    returns
+    (λ c κs. search needs) (λ c κs. search needs) (λ c κs. search needs) stream-requires (λ c. search needs) returns
     returns-2)

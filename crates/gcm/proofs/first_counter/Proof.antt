@@ -1,3 +1,5 @@
+-- `gcm::first_counter` meets its contract: the blocks of an empty label and a 16-byte IV are those of J0 (`first-counter-words`).
+-- Assumes nothing.
 use denote.Ref.{now}
 use Rattle.block.specs.Wide.{value}
 use Rattle.gcm.proofs.InWords.{first-counter-words}
@@ -14,9 +16,4 @@ pub first-counter-spec : {M : Type 1} → statement M
 first-counter-spec =
     tie.close
     (tie.spec
-    (λ c. search needs)
-    (λ c. search needs)
-    (λ c. search needs)
-    (λ c κs. search needs)
-    (λ c κs. search needs)
-    returns)
+    (λ c. search needs) (λ c. search needs) (λ c. search needs) (λ c κs. search needs) (λ c κs. search needs) returns)

@@ -1,3 +1,5 @@
+-- `gcm::tag` meets its contract: the words of the hash and of the ciphered J0, xored, are the tag's (`tag-words`).
+-- Assumes nothing.
 use mathlib.Core.Path.{_≡_}
 use Prim.Native.Nat.{ℕ, _^_}
 use mir.Val.{Fits}
@@ -13,11 +15,16 @@ use Rattle.gcm.proofs.tag.Tie as tie
 
 returns : tie.Need-returns
 returns c =
-    let a = c .before .before .before .before .before .before .args in
-    let n : length (a .j0) ≡ 4 = search needs in
-    let f : (i : ℕ) → Fits w32 (getD (a .j0) i 0) = λ i. search needs in
-    tag-words (a .rk) (a .j0) (now (a .aad)) (now (a .text)) _ _ _ (value (a .h)) _ n (below-each (2 ^ 32) (a .j0) (λ i. f i .fits))
-    (c .before .encrypt .ensures) (c .before .before .before .galois-hash .ensures) (c .before .before .from-u128 .ensures) (c .block-xor .ensures)
+    let at-encrypt = c .before in
+    let at-words = at-encrypt .before in
+    let at-hash = at-words .before in
+    let S = at-hash .before .before .before .before in
+    let a = S .args in
+    let counter = S .good .1 .1 .1 .0 in
+    let four : length (a .j0) ≡ 4 = search (needs, counter) in
+    let fits : (i : ℕ) → Fits w32 (getD (a .j0) i 0) = λ i. search (needs, counter) in
+    tag-words (a .rk) (a .j0) (now (a .aad)) (now (a .text)) _ _ _ (value (a .h)) _ four (below-each (2 ^ 32) (a .j0) (λ i. fits i .fits))
+    (at-encrypt .encrypt .ensures) (at-hash .galois-hash .ensures) (at-words .from-u128 .ensures) (c .block-xor .ensures)
 
 pub tag-spec : {M : Type 1} → statement M
 tag-spec =

@@ -1,3 +1,6 @@
+-- `ghash::byte_or_zero` meets its contract. Inside, the byte that is read is the list's entry; past the end an entry is its
+-- default, 0 (`List·getD-eq-default`).
+-- Assumes nothing.
 use mathlib.Core.Path.{sym}
 use native.Mathlib.Omega.{arith}
 use lib.ListN.{List·getD-eq-default}

@@ -1,4 +1,6 @@
--- `label` meets its contract: an edition's two bytes are the last two of its four. Assumes nothing.
+-- `label` meets its contract. `split` gives the four bytes of the job, and four of the edition, of which the last two
+-- are its own.
+-- Assumes nothing.
 use Rattle.block.specs.BigEndian.{bytesOf}
 use Rattle.label.specs.Label.{labelOf}
 use borrow.Author.Needs.{needs}
@@ -13,12 +15,5 @@ pub label-spec : {M : Type 1} → statement M
 label-spec =
     tie.close
     (tie.spec
-    (λ c κs. search needs)
-    (λ c κs. search needs)
-    (λ c. search needs)
-    (λ c. search needs)
-    (λ c. search needs)
-    (λ c. search needs)
-    (λ c. search needs)
-    (λ c. search needs)
-    returns)
+    (λ c κs. search needs) (λ c κs. search needs) (λ c. search needs) (λ c. search needs) (λ c. search needs)
+    (λ c. search needs) (λ c. search needs) (λ c. search needs) returns)

@@ -1,5 +1,7 @@
+-- `luossavin::mode_of` meets its contract: each number up to 3 by its arm, and the others by `gcm-above`.
+-- Assumes nothing.
 use Rattle.luossavin.specs.Host.{modeOf}
-use Rattle.luossavin.proofs.Reports.{gcm-above}
+use Rattle.luossavin.proofs.Modes.{gcm-above}
 use Rattle.luossavin.proofs.mode_of.Statement.{statement}
 use Rattle.luossavin.proofs.mode_of.Tie as tie
 
@@ -20,7 +22,9 @@ unfolding modeOf
 returns-4 c = rw (c .match .keys4)
 
 returns-5 : tie.Need-returns-5
-returns-5 c = gcm-above (c .before .args .mode) (c .match .rest .0 .0 .0 .1) (c .match .rest .0 .0 .1) (c .match .rest .0 .1) (c .match .rest .1)
+returns-5 c =
+    let others = c .match .rest in
+    gcm-above (c .before .args .mode) (others .0 .0 .0 .1) (others .0 .0 .1) (others .0 .1) (others .1)
 
 pub mode-of-spec : {M : Type 1} → statement M
 mode-of-spec = tie.close (tie.spec returns returns-2 returns-3 returns-4 returns-5)

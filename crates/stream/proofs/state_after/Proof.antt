@@ -1,3 +1,5 @@
+-- `stream::state_after` meets its contract: in each arm the kind is known, and the definition gives that arm's state.
+-- Assumes nothing.
 use borrow.Author.Needs.{needs}
 use Rattle.stream.proofs.state_after.Statement.{statement}
 use Rattle.stream.proofs.state_after.Tie as tie
@@ -21,15 +23,5 @@ pub state-after-spec : {M : Type 1} → statement M
 state-after-spec =
     tie.close
     (tie.spec
-    (λ c. search needs)
-    (λ c. search needs)
-    (λ c. search needs)
-    (λ c. search needs)
-    (λ c κs. search needs)
-    (λ c. search needs)
-    (λ c κs. search needs)
-    returns
-    returns-2
-    returns-3
-    returns-4
-    returns-5)
+    (λ c. search needs) (λ c. search needs) (λ c. search needs) (λ c. search needs) (λ c κs. search needs)
+    (λ c. search needs) (λ c κs. search needs) returns returns-2 returns-3 returns-4 returns-5)

@@ -1,3 +1,6 @@
+-- `stream::step` meets its contract. The words that are ciphered, read and xored are those of sixteen bytes (`unwords-front`,
+-- `encrypt-unwords`, `front-xored`), so what is written and the next state are the definition's.
+-- Assumes nothing.
 use mathlib.Core.Path.{_≡_, _∙_}
 use Prim.Native.Nat.{ℕ, _^_, _<_}
 use native.Mathlib.Omega.{arith}
@@ -10,41 +13,38 @@ use Rattle.block.proofs.WordsBack.{unwords-front}
 use Rattle.cipher.specs.Sm4.{encryptWords}
 use Rattle.cipher.proofs.Bounds.{encrypt-four}
 use Rattle.cipher.proofs.Blocks.{encrypt-unwords}
-use Rattle.stream.proofs.InWords.{front-xored}
+use Rattle.block.proofs.InWords.{front-xored}
 use borrow.Author.Needs.{needs}
 use Rattle.stream.proofs.step.Statement.{statement}
 use Rattle.stream.proofs.step.Tie as tie
 
 returns : tie.Need-returns
 returns c =
-    let p = c .before .before .before in
-    let x = p .before .before in
-    let l = x .before in
-    let e = l .before in
-    let k = e .before .before in
-    let S = k .before in
+    let at-put-block = c .before .before .before in
+    let at-xor = at-put-block .before .before in
+    let at-split = at-xor .before in
+    let at-encrypt = at-split .before in
+    let at-data = at-encrypt .before .before in
+    let S = at-data .before .before in
     let a = S .args in
     let d = now (a .«data») in
-    let r = S .good .1 .1 .1 .0 in
-    let four : length (a .s) ≡ 4 = search (needs, r) in
-    let fits : (i : ℕ) → Fits w32 (getD (a .s) i 0) = λ i. search (needs, r) in
-    let small : (i : ℕ) → getD d i 0 < 256 = λ i. omega (arith, k .shared-slice-known .given i) in
+    let state = S .good .1 .1 .1 .0 in
+    let four : length (a .s) ≡ 4 = search (needs, state) in
+    let fits : (i : ℕ) → Fits w32 (getD (a .s) i 0) = λ i. search (needs, state) in
+    let small : (i : ℕ) → getD d i 0 < 256 = λ i. omega (arith, at-data .shared-slice-known2 .given i) in
     let bytes = below-each 256 d small in
-    let f = unwords-front d (S .pre .1 .0) bytes in
-    let g = encrypt-unwords (a .rk) (a .s) four (below-each (2 ^ 32) (a .s) (λ i. fits i .fits)) in
-    let h = rw g at (front-xored d (encryptWords (a .rk) (a .s)) (S .pre .1 .0) bytes (encrypt-four (a .rk) (a .s))) in (
-      c .state-after .ensures ∙ rw (x .block-xor .ensures, l .split-block .ensures, e .encrypt .ensures, f, g, h),
-      p .put-block .ensures ∙ rw (x .block-xor .ensures, l .split-block .ensures, e .encrypt .ensures, h),
+    let read = unwords-front d (S .pre .1 .0) bytes in
+    let ciphered = encrypt-unwords (a .rk) (a .s) four (below-each (2 ^ 32) (a .s) (λ i. fits i .fits)) in
+    let xored = rw ciphered at (front-xored d (encryptWords (a .rk) (a .s)) (S .pre .1 .0) bytes (encrypt-four (a .rk) (a .s))) in (
+      c .state-after .ensures
+          ∙ rw (at-xor .block-xor .ensures, at-split .split-block .ensures, at-encrypt .encrypt .ensures, read, ciphered, xored),
+      at-put-block .put-block .ensures
+          ∙ rw (at-xor .block-xor .ensures, at-split .split-block .ensures, at-encrypt .encrypt .ensures, xored),
     )
 
 pub step-spec : {M : Type 1} → statement M
 step-spec =
     tie.close
     (tie.spec
-    (λ c κs. search needs)
-    (λ c κs. search needs)
-    (λ c κs. search needs)
-    (λ c κs. search needs)
-    (λ c κs. search needs)
-    (λ c. search needs)
-    returns)
+    (λ c κs. search needs) (λ c κs. search needs) (λ c κs. search needs) (λ c κs. search needs) (λ c κs. search needs)
+    (λ c. search needs) returns)

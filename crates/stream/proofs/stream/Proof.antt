@@ -1,13 +1,16 @@
+-- `stream::stream` meets its contract. The loop's invariant says what will stand in the output, and in which state the walk
+-- will end, if it goes on from here; so nothing is said about the past.
+-- Assumes nothing.
 use mathlib.Core.Path.{_≡_, refl, _∙_}
 use Prim.Native.Nat.{_≤_, _-_}
 use native.Mathlib.Omega.{arith}
 use denote.Ref.{now}
-use lib.ListN.{length, take}
+use lib.ListN.{length, take, drop}
 use lib.Seq.{length-take-le}
 use Rattle.block.specs.Words.{unwords}
-use Rattle.stream.specs.Walk.{chain, over}
+use Rattle.walk.specs.Walk.{chain, endState, over}
 use Rattle.stream.specs.Stream.{streamMode}
-use Rattle.stream.proofs.Loop.{tailed, tail-is, length-tailed, onward, turn, rest-written}
+use Rattle.walk.proofs.Loop.{tailed, tail-is, length-tailed, onward, turn, turn-state, last-state, rest-written}
 use Rattle.stream.proofs.RoundTrip.{stream-block}
 use borrow.Author.Needs.{needs}
 use Rattle.stream.proofs.stream.Statement.{statement}
@@ -15,60 +18,56 @@ use Rattle.stream.proofs.stream.Tie as tie
 
 abbrev Inv-loop : tie.InvT-loop
 Inv-loop t rk kind d out₀ s₀ at₀ out s at =
-    (at ≤ length d) × (length out ≡ length out₀) × (onward (streamMode kind rk) (unwords s) d out at ≡ over (chain (streamMode kind rk) (unwords s₀) d) out₀)
+    (at ≤ length d) × (length out ≡ length out₀)
+    × (endState (streamMode kind rk) (unwords s) (drop at d) ≡ endState (streamMode kind rk) (unwords s₀) d)
+    × (onward (streamMode kind rk) (unwords s) d out at ≡ over (chain (streamMode kind rk) (unwords s₀) d) out₀)
 
 abbrev μ-loop : tie.MeasureT-loop
 μ-loop t rk kind d out₀ s₀ at₀ out s at = length d - at
 
 loop-holds : tie.Need-loop-holds Inv-loop μ-loop
-loop-holds c = (omega arith, refl, refl)
+loop-holds c = (omega arith, refl, refl, refl)
 
 loop-again : tie.Need-loop-again Inv-loop μ-loop
 loop-again c =
-    let r = c .before .before in
-    let l = r .before .before .before .before in
-    let a = l .before .before .before .args in
+    let at-step = c .before .before in
+    let at-loop = at-step .before .before .before .before in
+    let a = at-loop .before .before .before .before .args in
+    let m = streamMode (a .kind) (a .rk) in
     let d = now (a .«data») in
-    let s = unwords (l .loop .s) in
-    let at = l .loop .at in (
+    let s = unwords (at-loop .loop .s) in
+    let at = at-loop .loop .at in
+    let b = take 16 (tailed at d) in
+    let front : b ≡ take 16 (drop at d) = rw (tail-is d at) in
+    let full = stream-block (a .kind) (a .rk) s b (length-take-le 16 (tailed at d) (omega (arith, length-tailed d at))) in
+    let stepped = at-step .step .ensures in
+    let written = at-step .step .last .1 .1 .1 .1 .1 .0 in (
       omega arith,
       omega arith,
-      turn (streamMode (a .kind) (a .rk)) s _ d (l .loop .out) (r .step .last .1 .1 .1 .1 .1 .0) (take 16 (tailed at d)) at (omega arith) (omega arith) (rw (tail-is d at))
-          (stream-block (a .kind) (a .rk) s (take 16 (tailed at d)) (length-take-le 16 (tailed at d) (omega (arith, length-tailed d at)))) (r .step .ensures .0) (r .step .ensures .1)
-          ∙ l .loop .inv .2,
+      turn-state m s _ d b at (omega arith) front (stepped .0) ∙ at-loop .loop .inv .2,
+      turn m s _ d (at-loop .loop .out) written b at (omega arith) (omega arith) front full (stepped .0) (stepped .1)
+          ∙ at-loop .loop .inv .3,
     )
 
 returns : tie.Need-returns Inv-loop μ-loop
 returns c =
-    let r = c .before .before in
-    let l = r .before .before .before .before in
-    let a = l .before .before .before .args in
-    rest-written (streamMode (a .kind) (a .rk)) (unwords (l .loop .s)) (now (a .«data»)) (l .loop .out) (r .xor-rest .last .1 .1 .1 .1 .0) (l .loop .at) (omega arith) (r .xor-rest .ensures) ∙ l .loop .inv .2
+    let at-rest = c .before .before in
+    let at-loop = at-rest .before .before .before .before in
+    let a = at-loop .before .before .before .before .args in
+    let m = streamMode (a .kind) (a .rk) in
+    let d = now (a .«data») in
+    let s = unwords (at-loop .loop .s) in
+    let at = at-loop .loop .at in
+    let written = at-rest .xor-rest .last .1 .1 .1 .1 .0 in (
+      last-state m s d at (omega arith) ∙ at-loop .loop .inv .2,
+      rest-written m s d (at-loop .loop .out) written at (omega arith) (at-rest .xor-rest .ensures) ∙ at-loop .loop .inv .3,
+    )
 
 pub stream-spec : {M : Type 1} → statement M
 stream-spec =
     tie.close
     (tie.spec
-    Inv-loop
-    μ-loop
-    loop-holds
-    (λ c. omega arith)
-    (λ c. omega arith)
-    (λ c. omega arith)
-    (λ c. omega arith)
-    (λ c. omega arith)
-    (λ c. omega arith)
-    (λ c. omega arith)
-    (λ c κs. search needs)
-    (λ c. omega arith)
-    (λ c. omega arith)
-    loop-again
-    (λ c. omega arith)
-    (λ c. omega arith)
-    (λ c. omega arith)
-    (λ c. omega arith)
-    (λ c. omega arith)
-    (λ c. omega arith)
-    (λ c κs. search needs)
-    (λ c. omega arith)
-    returns)
+    Inv-loop μ-loop loop-holds (λ c. omega arith) (λ c. omega arith) (λ c. omega arith) (λ c. omega arith)
+    (λ c. omega arith) (λ c. omega arith) (λ c. omega arith) (λ c κs. search needs) (λ c. omega arith)
+    (λ c. omega arith) loop-again (λ c. omega arith) (λ c. omega arith) (λ c. omega arith) (λ c. omega arith)
+    (λ c. omega arith) (λ c. omega arith) (λ c κs. search needs) (λ c. omega arith) returns)

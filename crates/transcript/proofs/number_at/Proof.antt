@@ -1,11 +1,12 @@
--- `number_at` answers a number within its bound. Assumes nothing.
+-- `number_at` meets its contract. A number that `decimal::read` answers is within the bound, by a law of `typed`.
+-- Assumes nothing.
 use mathlib.Core.Path.{_≡_}
 use mathlib.Core.List.{List}
 use Prim.Native.Nat.{ℕ}
-use Rattle.label.specs.Decimal.{numberIn}
-use Rattle.label.specs.declared.decimal.Number.{Number}
-use Rattle.label.specs.declared.decimal.Number.the-variants.{Is, Not}
-use Rattle.label.proofs.Bounds.{number-le}
+use Rattle.typed.specs.Decimal.{numberIn}
+use Rattle.typed.specs.declared.decimal.Number.{Number}
+use Rattle.typed.specs.declared.decimal.Number.the-variants.{Is, Not}
+use Rattle.typed.proofs.Bounds.{number-le}
 use Rattle.transcript.specs.AtMost.{AtMost}
 use borrow.Author.Needs.{needs}
 use Rattle.transcript.proofs.number_at.Statement.{statement}

@@ -1,4 +1,6 @@
--- `with_key` is safe: the key lies in its buffer. Assumes nothing.
+-- `with_key` is safe. `key::read` answers the length of the key that stands at the front of the buffer, so that the key is a part
+-- of it.
+-- Assumes nothing.
 use mathlib.Core.Path.{ap}
 use native.Mathlib.Omega.{arith}
 use lib.ListN.{length, length-append}
@@ -7,7 +9,9 @@ use Rattle.transcript.proofs.with_key.Statement.{statement}
 use Rattle.transcript.proofs.with_key.Tie as tie
 
 part-with-input-end : tie.Need-part-with-input-end
-part-with-input-end c = omega (arith, c .before .before .read .ensures .0, simp length-append at (ap length (c .before .before .read .ensures .1)))
+part-with-input-end c =
+    let at-read = c .before .before in
+    omega (arith, at-read .read .ensures .0, simp length-append at (ap length (at-read .read .ensures .1)))
 
 pub with-key-spec : {M : Type 1} → statement M
 with-key-spec =

@@ -1,11 +1,15 @@
--- `with_label` is safe: an edition that was read fits 16 bits. Assumes nothing.
+-- `with_label` is safe. The number that was read for the edition is at most 65535, so that it fits 16 bits.
+-- Assumes nothing.
 use native.Mathlib.Omega.{arith}
 use borrow.Author.Needs.{needs}
 use Rattle.transcript.proofs.with_label.Statement.{statement}
 use Rattle.transcript.proofs.with_label.Tie as tie
 
 cast-t21 : tie.Need-cast-t21
-cast-t21 c = omega (arith, rw (c .before .read2 .given .1) at (c .before .before .before .number-at2 .ensures))
+cast-t21 c =
+    let at-number = c .before in
+    let at-number-at2 = at-number .before .before in
+    omega (arith, rw (at-number .read2 .given .1) at (at-number-at2 .number-at2 .ensures))
 
 pub with-label-spec : {M : Type 1} → statement M
 with-label-spec =

@@ -1,3 +1,5 @@
+-- `cipher_mode::Sm4CipherMode::new` meets its contract: it is the key's record beside the mode.
+-- Assumes nothing.
 use Rattle.cipher_mode.specs.Key.{newCipherMode}
 use borrow.Author.Needs.{needs}
 use Rattle.cipher_mode.proofs.Sm4CipherMode.new.Statement.{statement}
@@ -8,4 +10,5 @@ unfolding newCipherMode
 returns c = rw (c .new .ensures)
 
 pub new-spec : {M : Type 1} → statement M
-new-spec = tie.close (tie.spec (λ c κs. search needs) returns)
+new-spec =
+    tie.close (tie.spec (λ c κs. search needs) returns)

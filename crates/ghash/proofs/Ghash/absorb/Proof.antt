@@ -1,3 +1,6 @@
+-- `ghash::Ghash::absorb` meets its contract. The words that are loaded spell the number of the block at the front of `rest`,
+-- filled up with zeros (`blockOf-words`), and `step` takes in that number (`absorbed-same`).
+-- Assumes nothing.
 use Rattle.ghash.proofs.Absorbing.{absorbed-same}
 use mathlib.Core.Path.{_≡_, ap, _∙_}
 use mathlib.Core.List.{List}
@@ -14,9 +17,15 @@ use Rattle.ghash.proofs.Ghash.absorb.Tie as tie
 
 returns : tie.Need-returns
 returns c =
-    let s = c .before .before .before .before .args .rest .now in
-    let e : value (c .before .to-u128 .result) ≡ blockOf s =
-    c .before .to-u128 .ensures ∙ ap (λ (w : List ℕ). numberOf (unwords w)) (c .before .before .load-block .ensures) ∙ blockOf-words s (below-each 256 s (λ i. c .before .before .before .shared-slice-known .given i .fits)) in
+    let at-number = c .before in
+    let at-load = at-number .before in
+    let at-slice = at-load .before in
+    let s = at-slice .before .args .rest .now in
+    let bytes = below-each 256 s (λ i. at-slice .shared-slice-known .given i .fits) in
+    let e : value (at-number .to-u128 .result) ≡ blockOf s =
+    at-number .to-u128 .ensures
+    ∙ ap (λ (w : List ℕ). numberOf (unwords w)) (at-load .load-block .ensures)
+    ∙ blockOf-words s bytes in
     absorbed-same (c .step .ensures) e
 
 pub absorb-spec : {M : Type 1} → statement M

@@ -1,3 +1,7 @@
+-- `ghash::Ghash::absorb_all` meets its contract. The loop's invariant: `at` is at most 15 past the end, and to go on from
+-- `state` over the blocks from `at` on gives what all blocks give from the start (`Walked`). A turn takes in the block at
+-- `at` (`walk-on`), and past the end none is left (`walk-end`). The measure is what is left of the length.
+-- Assumes nothing.
 use Prim.Native.Nat.{_≤_, _+_, _-_}
 use native.Mathlib.Omega.{arith}
 use borrow.Author.Needs.{needs}
@@ -16,7 +20,9 @@ loop-holds : tie.Need-loop-holds Inv-loop μ-loop
 loop-holds c = (omega arith, walk-start _ _)
 
 loop-again : tie.Need-loop-again Inv-loop μ-loop
-loop-again c = let l = c .before .before .before .loop in (omega arith, walk-on _ _ _ _ (l .inv .1) (omega arith) _ (c .absorb .ensures))
+loop-again c =
+    let turn = c .before .before .before .loop in
+    (omega arith, walk-on _ _ _ _ (turn .inv .1) (omega arith) _ (c .absorb .ensures))
 
 returns : tie.Need-returns Inv-loop μ-loop
 returns c = walk-end _ _ _ _ (c .before .loop .inv .1) (omega arith)
@@ -25,14 +31,5 @@ pub absorb-all-spec : {M : Type 1} → statement M
 absorb-all-spec =
     tie.close
     (tie.spec
-    Inv-loop
-    μ-loop
-    loop-holds
-    (λ c. search needs)
-    (λ c. search needs)
-    (λ c. search needs)
-    (λ c κs. search needs)
-    (λ c. search needs)
-    (λ c. search needs)
-    loop-again
-    returns)
+    Inv-loop μ-loop loop-holds (λ c. search needs) (λ c. search needs) (λ c. search needs) (λ c κs. search needs)
+    (λ c. search needs) (λ c. search needs) loop-again returns)

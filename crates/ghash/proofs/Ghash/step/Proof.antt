@@ -1,3 +1,6 @@
+-- `ghash::Ghash::step` meets its contract. `add` ensures the sum of hash and block and `galois_mul` its product with H, which
+-- is what one block makes of the hash (`absorbed-one`).
+-- Assumes nothing.
 use mathlib.Core.Path.{refl}
 use Rattle.ghash.proofs.Absorbing.{absorbed-one}
 use borrow.Author.Needs.{needs}

@@ -1,4 +1,5 @@
--- `files::part_name` answers how long the name is that it made. Assumes nothing.
+-- `files::part_name` meets its contract. The name fits, and `os::arg` answers no more bytes than the room behind it.
+-- Assumes nothing.
 use native.Mathlib.Omega.{arith}
 use Rattle.io.proofs.Counting.{counts}
 use borrow.Author.Needs.{needs}

@@ -1,4 +1,6 @@
--- `files::read_all` answers how much of the buffer it filled: the measure is the room that is left. Assumes nothing.
+-- `files::read_all` meets its contract. The loop's invariant: what has been read lies in the buffer, which keeps its length. Each read
+-- fills some of the room that is left, which is the measure.
+-- Assumes nothing.
 use mathlib.Core.Path.{_≡_, refl}
 use Prim.Native.Nat.{_≤_, _-_}
 use native.Mathlib.Omega.{arith}
@@ -16,17 +18,8 @@ abbrev μ-loop : tie.MeasureT-loop
 loop-holds : tie.Need-loop-holds Inv-loop μ-loop
 loop-holds c = (omega arith, refl)
 
-read-requires : tie.Need-read-requires Inv-loop μ-loop
-read-requires c κs = tt
-
-failed-requires : tie.Need-failed-requires Inv-loop μ-loop
-failed-requires c κs = tt
-
 returns : tie.Need-returns Inv-loop μ-loop
 returns c = counts _ _ (omega arith)
-
-count-requires : tie.Need-count-requires Inv-loop μ-loop
-count-requires c κs = tt
 
 returns-2 : tie.Need-returns-2 Inv-loop μ-loop
 returns-2 c = counts _ _ (omega arith)
@@ -44,14 +37,14 @@ read-all-spec =
     (λ c. omega arith)
     (λ c. omega arith)
     (λ c. omega arith)
-    read-requires
-    failed-requires
+    (λ c κs. tt)
+    (λ c κs. tt)
     (λ c. omega arith)
     returns
     (λ c. omega arith)
     (λ c. omega arith)
     (λ c. omega arith)
-    count-requires
+    (λ c κs. tt)
     (λ c. omega arith)
     (λ c. omega arith)
     (λ c. omega arith)

@@ -1,3 +1,6 @@
+-- `vectors::independent::inverse` is safe and ends. The loop's invariant is that at most 254 turns have gone by, and the
+-- measure is the number of turns left.
+-- Assumes nothing.
 use Prim.Native.Nat.{_≤_, _-_}
 use borrow.Author.Needs.{needs}
 use Rattle.vectors.proofs.independent.inverse.Statement.{statement}
@@ -12,4 +15,6 @@ abbrev μ-loop : tie.MeasureT-loop
 pub inverse-spec : {M : Type 1} → statement M
 inverse-spec =
     tie.close
-    (tie.spec Inv-loop μ-loop (λ c. search needs) (λ c κs. search needs) (λ c. search needs) (λ c. search needs) (λ c. search needs) (λ c. search needs))
+    (tie.spec
+    Inv-loop μ-loop (λ c. search needs) (λ c κs. search needs) (λ c. search needs) (λ c. search needs)
+    (λ c. search needs) (λ c. search needs))

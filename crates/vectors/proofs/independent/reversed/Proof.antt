@@ -1,3 +1,6 @@
+-- `vectors::independent::reversed` is safe and ends. The loop's invariant: `i` is at most 128, which is `out`'s length, so
+-- each store lies inside, and the place 124 - 4 (i / 4) + i % 4 that is read is below 128. The measure is the number of bytes left.
+-- Assumes nothing.
 use mathlib.Core.Path.{_≡_}
 use Prim.Native.Nat.{_≤_, _-_}
 use borrow.Author.Needs.{needs}
@@ -15,15 +18,5 @@ pub reversed-spec : {M : Type 1} → statement M
 reversed-spec =
     tie.close
     (tie.spec
-    Inv-loop
-    μ-loop
-    (λ c. search needs)
-    (λ c. search needs)
-    (λ c. search needs)
-    (λ c. search needs)
-    (λ c. search needs)
-    (λ c. search needs)
-    (λ c. search needs)
-    (λ c. search needs)
-    (λ c. search needs)
-    (λ c. search needs))
+    Inv-loop μ-loop (λ c. search needs) (λ c. search needs) (λ c. search needs) (λ c. search needs) (λ c. search needs)
+    (λ c. search needs) (λ c. search needs) (λ c. search needs) (λ c. search needs) (λ c. search needs))

@@ -1,0 +1,48 @@
+-- How a call ends: refused by a check, or done with what the work wrote.
+-- Assumes nothing.
+use mathlib.Core.Path.{_≡_, refl, sym, ap, ap₂, _∙_}
+use mathlib.Core.List.{List}
+use Prim.Native.Nat.{ℕ, _<_}
+use lib.ListN.{length, getD}
+use Rattle.block.specs.Words.{words, unwords}
+use Rattle.block.proofs.Entries.{below-each}
+use Rattle.block.proofs.WordsBack.{length-unwords, unwords-words}
+use Rattle.cipher.specs.Sm4.{encryptWords, decryptWords, encryptBlock, decryptBlock}
+use Rattle.walk.specs.Outcome.{Head, Outcome, finished, refusal, leaving, done}
+use Rattle.walk.specs.Walk.{over}
+use Rattle.cipher_mode.specs.declared.answer.Refusal.{Refusal}
+use Rattle.cipher_mode.specs.declared.answer.Answer.{Answer}
+use Rattle.cipher_mode.specs.declared.checks.Checked.{Checked}
+use Rattle.cipher_mode.specs.declared.checks.Checked.the-variants.{Passed, Refused}
+use Rattle.cipher_mode.specs.Answer.{refusalNumber, headOf, outcome}
+use Rattle.cipher_mode.specs.declared.Direction.{Direction}
+use Rattle.cipher_mode.specs.declared.Direction.the-variants.{Encrypt, Decrypt}
+use Rattle.cipher_mode.specs.Checks.{checked}
+use Rattle.cipher_mode.specs.Calls.{keysFor, blockOf}
+
+-- the check refused, and the answer says so
+pub refused-there : (a : Answer) (k : Checked) (r : Refusal) (o : List ℕ) (next : Outcome) → headOf a ≡ refusal (refusalNumber r)
+    → k ≡ Refused r → outcome a o ≡ checked k o next
+refused-there a k r o next e f =
+    ap {B = Outcome} (λ (h : Head). leaving h o) e ∙ sym (ap {B = Outcome} (λ (x : Checked). checked x o next) f)
+
+-- the check passed, and the work left what comes next
+pub went-on : (k : Checked) (o : List ℕ) (x next : Outcome) → k ≡ Passed → x ≡ next → x ≡ checked k o next
+went-on k o x next f e = e ∙ sym (ap {B = Outcome} (λ (y : Checked). checked y o next) f)
+
+-- the result p was written to the front of the output, and the answer is its length
+pub reached : (a : Answer) (p o o′ : List ℕ) (n : ℕ) → headOf a ≡ finished n → length p ≡ n → o′ ≡ over p o → outcome a o′ ≡ done p o
+reached a p o o′ n h l e = ap₂ {C = Outcome} leaving (h ∙ ap finished (sym l)) e
+
+-- a block by a direction is what the cipher makes of its words under that direction's round keys
+pub block-by : (dir : Direction) (rk b : List ℕ) → unwords (encryptWords (keysFor dir rk) (words b)) ≡ blockOf dir rk b
+unfolding encryptBlock decryptBlock decryptWords
+block-by Encrypt rk b = refl
+block-by Decrypt rk b = refl
+
+pub length-block : (dir : Direction) (rk b : List ℕ) → length (blockOf dir rk b) ≡ 16
+length-block dir rk b = rw (← block-by dir rk b) (length-unwords (encryptWords (keysFor dir rk) (words b)))
+
+-- the words of a 16-byte IV spell it
+pub spelled : (iv w : List ℕ) → length iv ≡ 16 → ((i : ℕ) → getD iv i 0 < 256) → w ≡ words iv → unwords w ≡ iv
+spelled iv w n small e = ap unwords e ∙ unwords-words iv n (below-each 256 iv small)

@@ -1,0 +1,117 @@
+-- What is known of the lengths where the checks passed.
+-- Assumes nothing.
+use mathlib.Core.Path.{_≡_, refl, sym, ap, _∙_}
+use mathlib.Core.Bool.{Bool, true, false, not}
+use Prim.Native.Nat.{ℕ, _%_, _≤_}
+use native.Mathlib.Omega.{arith}
+use lib.Dec.{eqb, ltb}
+use borrow.Author.Tests.{ltb-false, eqb-true, eqb-false, not-false}
+use Rattle.cipher_mode.specs.declared.KeyAnswer.{KeyAnswer}
+use Rattle.cipher_mode.specs.declared.KeyAnswer.the-variants.{Key, ErrorBlockSize as NoKey}
+use Rattle.cipher_mode.specs.declared.CipherMode.{CipherMode}
+use Rattle.cipher_mode.specs.declared.CipherMode.the-variants.{Cbc, Gcm}
+use Rattle.cipher_mode.specs.declared.Direction.{Direction}
+use Rattle.cipher_mode.specs.declared.Direction.the-variants.{Decrypt}
+use Rattle.cipher_mode.specs.declared.answer.Refusal.{Refusal}
+use Rattle.cipher_mode.specs.declared.checks.Checked.{Checked}
+use Rattle.cipher_mode.specs.declared.checks.Checked.the-variants.{Passed, Refused}
+use Rattle.cipher_mode.specs.declared.checks.Lengths.{Lengths}
+use Rattle.cipher_mode.specs.Tables.{limit, limitOf, roomOf}
+use Rattle.cipher_mode.specs.Checks.{refuse, andThen, noKey, wrongIv, keyAndIv, labelCheck, shapeCheck, dataCheck}
+use Rattle.cipher_mode.specs.Checks.{roomCheck, messageCheck, blockCheck}
+
+-- a test that refused nothing does not hold, and what comes next passed
+record Let-through (test : Bool) (next : Checked) : Type 0 where
+  pub fails : test ≡ false
+  pub rest : next ≡ Passed
+
+let-through : (test : Bool) (r : Refusal) (next : Checked) → refuse test r next ≡ Passed → Let-through test next
+let-through true r next e = let z : _≡_ {A = ℕ} 0 1 = cc in absurd (omega arith)
+let-through false r next e = record { fails = refl; rest = e }
+
+both : (a b : Checked) → andThen a b ≡ Passed → (a ≡ Passed) × (b ≡ Passed)
+both Passed b e = (refl, e)
+both (Refused r) b e = let z : _≡_ {A = ℕ} 0 1 = cc in absurd (omega arith)
+
+-- a stage that refused ends the list; b is its definition
+pub stops : (a b next : Checked) (r : Refusal) → a ≡ b → a ≡ Refused r → a ≡ andThen b next
+stops a b next r e f = f ∙ sym (ap (λ (x : Checked). andThen x next) (sym e ∙ f))
+
+-- after one that passed, what comes next is the answer
+pub goes-on : (a b next x : Checked) → a ≡ b → a ≡ Passed → x ≡ next → x ≡ andThen b next
+goes-on a b next x e f g = g ∙ sym (ap (λ (y : Checked). andThen y next) (sym e ∙ f))
+
+is-key : (a : KeyAnswer) → noKey a ≡ false → a ≡ Key
+is-key Key e = refl
+is-key NoKey e = let z : _≡_ {A = ℕ} 0 1 = cc in absurd (omega arith)
+
+sixteen : (n : ℕ) → not (eqb n 16) ≡ false → n ≡ 16
+sixteen n e = eqb-true n 16 (not-false (eqb n 16) e)
+
+pub key-and-iv-passed : (a : KeyAnswer) (m : CipherMode) (iv : ℕ) → keyAndIv a m iv ≡ Passed → (a ≡ Key) × (iv ≡ 16)
+unfolding keyAndIv
+key-and-iv-passed a m iv e =
+    let k = let-through (noKey a) _ _ e in
+    (is-key a (k .fails), sixteen iv (let-through (wrongIv m iv) _ _ (k .rest) .fails))
+
+pub label-passed : (n : ℕ) → labelCheck Gcm n ≡ Passed → n ≤ limit
+label-passed n e = ltb-false limit n (let-through (ltb limit n) _ _ e .fails)
+
+module _ (dir : Direction) (m : CipherMode) (n : ℕ) (e : dataCheck dir m n ≡ Passed) where
+  pub data-within : n ≤ limitOf dir m
+  unfolding dataCheck
+  data-within = ltb-false (limitOf dir m) n (let-through (ltb (limitOf dir m) n) _ _ e .fails)
+
+  shaped : shapeCheck dir m n ≡ Passed
+  unfolding dataCheck
+  shaped = let-through (ltb (limitOf dir m) n) _ _ e .rest
+
+pub whole-blocks-passed : (n : ℕ) → dataCheck Decrypt Cbc n ≡ Passed → (16 ≤ n) × (n % 16 ≡ 0)
+whole-blocks-passed n e =
+    let some = let-through (eqb n 0) _ _ (shaped Decrypt Cbc n e) in
+    let even = let-through (not (eqb (n % 16) 0)) _ _ (some .rest) in
+    let z : n % 16 ≡ 0 = eqb-true (n % 16) 0 (not-false _ (even .fails)) in
+    (omega (arith, eqb-false n 0 (some .fails)), z)
+
+pub with-tag-passed : (n : ℕ) → dataCheck Decrypt Gcm n ≡ Passed → 16 ≤ n
+with-tag-passed n e = ltb-false n 16 (let-through (ltb n 16) _ _ (shaped Decrypt Gcm n e) .fails)
+
+pub room-passed : (dir : Direction) (m : CipherMode) (n room : ℕ) → roomCheck dir m n room ≡ Passed → roomOf m dir n ≤ room
+unfolding roomCheck
+room-passed dir m n room e = ltb-false room (roomOf m dir n) (let-through (ltb room (roomOf m dir n)) _ _ e .fails)
+
+-- a message whose call goes on to work
+pub record InOrder (a : KeyAnswer) (dir : Direction) (m : CipherMode) (n : Lengths) : Type 0 where
+  pub key : a ≡ Key
+  pub iv-size : n .iv ≡ 16
+  pub label : labelCheck m (n .label) ≡ Passed
+  pub content : dataCheck dir m (n .«data») ≡ Passed
+  pub room : roomOf m dir (n .«data») ≤ n .room
+
+pub message-passed : (a : KeyAnswer) (dir : Direction) (m : CipherMode) (n : Lengths) → messageCheck a dir m n ≡ Passed → InOrder a dir m n
+unfolding messageCheck
+message-passed a dir m n e =
+    let from-key = both (keyAndIv a m (n .iv)) _ e in
+    let from-label = both (labelCheck m (n .label)) _ (from-key .1) in
+    let from-data = both (dataCheck dir m (n .«data»)) _ (from-label .1) in
+    let first = key-and-iv-passed a m (n .iv) (from-key .0) in
+    record {
+      key = first .0;
+      iv-size = first .1;
+      label = from-label .0;
+      content = from-data .0;
+      room = room-passed dir m (n .«data») (n .room) (from-data .1);
+    }
+
+pub record BlockInOrder (a : KeyAnswer) (n room : ℕ) : Type 0 where
+  pub key : a ≡ Key
+  pub size : n ≡ 16
+  pub enough : 16 ≤ room
+
+pub block-passed : (a : KeyAnswer) (n room : ℕ) → blockCheck a n room ≡ Passed → BlockInOrder a n room
+unfolding blockCheck
+block-passed a n room e =
+    let k = let-through (noKey a) _ _ e in
+    let s = let-through (not (eqb n 16)) _ _ (k .rest) in
+    let r = let-through (ltb room 16) _ _ (s .rest) in
+    record { key = is-key a (k .fails); size = sixteen n (s .fails); enough = ltb-false room 16 (r .fails) }

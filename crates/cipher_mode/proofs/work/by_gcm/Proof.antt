@@ -1,0 +1,92 @@
+-- `cipher_mode::work::by_gcm` meets its contract: with H and J0 of keys and IV, as long as the table says or as `gcm::decrypt`.
+-- Assumes nothing.
+use mathlib.Core.Path.{_≡_, sym, ap, ap₂, _∙_}
+use mathlib.Core.List.{List}
+use Prim.Native.Nat.{ℕ, _≤_}
+use native.Mathlib.Omega.{arith}
+use denote.Ref.{now}
+use lib.ListN.{length}
+use Rattle.block.specs.Words.{unwords}
+use Rattle.walk.specs.Outcome.{Head, Outcome, leaving}
+use Rattle.walk.specs.Walk.{over}
+use Rattle.gcm.specs.Gcm.{hashKey, firstCounter, J0, sealed}
+use Rattle.gcm.specs.Open.{gcmOpen}
+use Rattle.gcm.proofs.Parts.{length-sealed}
+use Rattle.cipher_mode.specs.Tables.{limit}
+use Rattle.cipher_mode.proofs.Passed.{label-passed, data-within, with-tag-passed}
+use Rattle.cipher_mode.proofs.Ends.{reached}
+use borrow.Author.Needs.{needs}
+use Rattle.cipher_mode.proofs.work.by_gcm.Statement.{statement}
+use Rattle.cipher_mode.proofs.work.by_gcm.Tie as tie
+
+is-j0 : (x : tie.After-first-counter)
+    → unwords (x .first-counter .result)
+    ≡ J0 (x .before .before .before .before .before .before .before .args .rk)
+    (now (x .before .before .before .before .before .before .before .args .iv))
+is-j0 x =
+    let a = x .before .before .before .before .before .before .before .args in
+    x .first-counter .ensures ∙ ap (λ (h : ℕ). firstCounter h (now (a .iv))) (x .before .hash-key .ensures)
+
+encrypt-requires : tie.Need-encrypt-requires
+encrypt-requires c κs =
+    let told = c .before in
+    let S = told .before .before .before .before .before .before .before .before .before in
+    let way = told .enum-told .given .1 in
+    let label = label-passed (length (now (S .args .aad))) (S .pre .1 .1 .0) in
+    let within : length (now (S .args .«data»)) ≤ limit = rw way at (data-within _ _ _ (S .pre .1 .1 .1 .0)) in
+    (S .pre .0, ((omega (arith, label), omega (arith, within)), rw way at (S .pre .1 .1 .1 .1)))
+
+encrypted-length-requires : tie.Need-encrypted-length-requires
+encrypted-length-requires c κs =
+    let told = c .before .before .before .before in
+    let S = told .before .before .before .before .before .before .before .before .before in
+    rw (told .enum-told .given .1) at (data-within _ _ _ (S .pre .1 .1 .1 .0))
+
+decrypt-requires : tie.Need-decrypt-requires
+decrypt-requires c κs =
+    let told = c .before in
+    let S = told .before .before .before .before .before .before .before .before .before in
+    let way = told .enum-told2 .given .1 in
+    let label = label-passed (length (now (S .args .aad))) (S .pre .1 .1 .0) in
+    let ordered = rw way at (S .pre .1 .1 .1 .0) in
+    let within = data-within _ _ _ ordered in
+    (S .pre .0, ((omega (arith, label), omega (arith, within)), (with-tag-passed _ ordered, rw way at (S .pre .1 .1 .1 .1))))
+
+returns : tie.Need-returns
+returns c =
+    let at-length = c .before in
+    let at-encrypt = at-length .before .before .before in
+    let told = at-encrypt .before .before in
+    let at-counter = told .before .before in
+    let a = at-counter .before .before .before .before .before .before .before .args in
+    let aad = now (a .aad) in
+    let d = now (a .«data») in
+    let o = now (a .out) in
+    let j = J0 (a .rk) (now (a .iv)) in
+    rw (told .enum-told .given .1)
+    (reached (c .done .result) (sealed (a .rk) (hashKey (a .rk)) j aad d) o _ _ (c .done .ensures)
+    (length-sealed (a .rk) (hashKey (a .rk)) j aad d ∙ sym (at-length .encrypted-length .ensures))
+    (at-encrypt .encrypt .ensures
+    ∙ ap₂ (λ (h : ℕ) (j : List ℕ). over (sealed (a .rk) h j aad d) o) (at-counter .before .hash-key .ensures) (is-j0 at-counter)))
+
+returns-2 : tie.Need-returns-2
+returns-2 c =
+    let at-decrypt = c .before .before .before in
+    let told = at-decrypt .before .before in
+    let at-counter = told .before .before in
+    let a = at-counter .before .before .before .before .before .before .before .args in
+    let aad = now (a .aad) in
+    let d = now (a .«data») in
+    let o = now (a .out) in
+    rw (told .enum-told2 .given .1)
+    (ap {B = Outcome} (λ (h : Head). leaving h (at-decrypt .decrypt .last .1 .1 .1 .1 .1 .1 .0)) (c .gcm-answer .ensures)
+    ∙ at-decrypt .decrypt .ensures
+    ∙ ap₂ {C = Outcome} (λ (h : ℕ) (j : List ℕ). gcmOpen (a .rk) h j aad d o) (at-counter .before .hash-key .ensures) (is-j0 at-counter))
+
+pub by-gcm-spec : {M : Type 1} → statement M
+by-gcm-spec =
+    tie.close
+    (tie.spec
+    (λ c κs. search needs) (λ c κs. search needs) (λ c. search needs) encrypt-requires encrypted-length-requires
+    (λ c κs. search needs) (λ c. search needs) decrypt-requires (λ c κs. search needs) (λ c. search needs) returns
+    (λ c. search needs) returns-2)

@@ -1,0 +1,36 @@
+-- `cipher_mode::work::by_stream` meets its contract: the IV's words spell it, and the chain is as long as the data.
+-- Assumes nothing.
+use mathlib.Core.Path.{ap, _∙_}
+use mathlib.Core.List.{List}
+use Prim.Native.Nat.{ℕ, _<_}
+use native.Mathlib.Omega.{arith}
+use denote.Ref.{now}
+use lib.ListN.{getD}
+use Rattle.walk.specs.Walk.{chain, over}
+use Rattle.stream.specs.Stream.{streamMode}
+use Rattle.stream.proofs.RoundTrip.{length-stream}
+use Rattle.cipher_mode.proofs.Ends.{reached, spelled}
+use borrow.Author.Needs.{needs}
+use Rattle.cipher_mode.proofs.work.by_stream.Statement.{statement}
+use Rattle.cipher_mode.proofs.work.by_stream.Tie as tie
+
+returns : tie.Need-returns
+returns c =
+    let at-stream = c .before .before .before in
+    let at-split = at-stream .before .before in
+    let at-iv = at-split .before .before .before in
+    let S = at-iv .before .before in
+    let a = S .args in
+    let iv = now (a .iv) in
+    let d = now (a .«data») in
+    let o = now (a .out) in
+    let small : (i : ℕ) → getD iv i 0 < 256 = λ i. omega (arith, at-iv .shared-slice-known2 .given i) in
+    let is-iv = spelled iv _ (S .pre .1 .0) small (at-split .split-block .ensures) in
+    reached (c .done .result) (chain (streamMode (a .kind) (a .rk)) iv d) o _ _ (c .done .ensures) (length-stream (a .kind) (a .rk) iv d)
+    (at-stream .stream .ensures .1 ∙ ap (λ (s : List ℕ). over (chain (streamMode (a .kind) (a .rk)) s d) o) is-iv)
+
+pub by-stream-spec : {M : Type 1} → statement M
+by-stream-spec =
+    tie.close
+    (tie.spec
+    (λ c κs. search needs) (λ c κs. search needs) (λ c κs. search needs) (λ c. search needs) returns)

@@ -1,0 +1,83 @@
+-- `cipher_mode::work::message` meets its contract: in each arm the mode is known, and the definition gives what that arm's function leaves.
+-- Assumes nothing.
+use mathlib.Core.Path.{ap, _∙_}
+use denote.Ref.{now}
+use Rattle.walk.specs.Outcome.{Outcome, done}
+use Rattle.walk.specs.Walk.{chain}
+use Rattle.stream.specs.Stream.{streamMode}
+use Rattle.stream.specs.declared.Kind.{Kind}
+use borrow.Author.Needs.{needs}
+use Rattle.cipher_mode.proofs.work.message.Statement.{statement}
+use Rattle.cipher_mode.proofs.work.message.Tie as tie
+
+by-stream-requires : tie.Need-by-stream-requires
+by-stream-requires c κs =
+    let told = c .before .before in
+    let S = told .before .before .before .before .before .before .before in
+    (S .pre .0, (S .pre .1 .0, rw (told .enum-told .given .1) at (S .pre .1 .1 .1 .1)))
+
+by-stream-requires-2 : tie.Need-by-stream-requires-2
+by-stream-requires-2 c κs =
+    let told = c .before in
+    let S = told .before .before .before .before .before .before .before in
+    (S .pre .0, (S .pre .1 .0, rw (told .enum-told2 .given .1) at (S .pre .1 .1 .1 .1)))
+
+by-stream-requires-3 : tie.Need-by-stream-requires-3
+by-stream-requires-3 c κs =
+    let told = c .before in
+    let S = told .before .before .before .before .before .before .before in
+    (S .pre .0, (S .pre .1 .0, rw (told .enum-told3 .given .1) at (S .pre .1 .1 .1 .1)))
+
+by-cbc-requires : tie.Need-by-cbc-requires
+by-cbc-requires c κs =
+    let told = c .before in
+    let S = told .before .before .before .before .before .before .before in
+    let mode = told .enum-told4 .given .1 in
+    (S .pre .0, (S .pre .1 .0, (rw mode at (S .pre .1 .1 .1 .0), rw mode at (S .pre .1 .1 .1 .1))))
+
+by-gcm-requires : tie.Need-by-gcm-requires
+by-gcm-requires c κs =
+    let told = c .before in
+    let S = told .before .before .before .before .before .before .before in
+    let mode = told .enum-told5 .given .1 in
+    (S .pre .0, (S .pre .1 .0, (rw mode at (S .pre .1 .1 .0), (rw mode at (S .pre .1 .1 .1 .0), rw mode at (S .pre .1 .1 .1 .1)))))
+
+returns : tie.Need-returns
+returns c =
+    let at-stream = c .before .before in
+    let at-kind = at-stream .before .before in
+    let told = at-kind .before in
+    let a = told .before .before .before .before .before .before .before .args in
+    rw (told .enum-told .given .1)
+    (at-stream .by-stream .ensures
+    ∙ ap {B = Outcome} (λ (k : Kind). done (chain (streamMode k (a .rk)) (now (a .iv)) (now (a .«data»))) (now (a .out)))
+    (at-kind .cfb-kind .ensures))
+
+returns-2 : tie.Need-returns-2
+returns-2 c =
+    let at-stream = c .before .before in
+    rw (at-stream .before .before .enum-told2 .given .1) (at-stream .by-stream2 .ensures)
+
+returns-3 : tie.Need-returns-3
+returns-3 c =
+    let at-stream = c .before .before in
+    rw (at-stream .before .before .enum-told3 .given .1) (at-stream .by-stream3 .ensures)
+
+returns-4 : tie.Need-returns-4
+returns-4 c =
+    let at-cbc = c .before .before in
+    rw (at-cbc .before .before .enum-told4 .given .1) (at-cbc .by-cbc .ensures)
+
+returns-5 : tie.Need-returns-5
+returns-5 c =
+    let at-gcm = c .before .before in
+    rw (at-gcm .before .before .enum-told5 .given .1) (at-gcm .by-gcm .ensures)
+
+pub message-spec : {M : Type 1} → statement M
+message-spec =
+    tie.close
+    (tie.spec
+    (λ c. search needs) (λ c κs. search needs) by-stream-requires (λ c. search needs) by-stream-requires-2
+    (λ c. search needs) by-stream-requires-3 (λ c. search needs) by-cbc-requires (λ c. search needs) by-gcm-requires
+    (λ c. search needs) returns (λ c. search needs) returns-2 (λ c. search needs) returns-3 (λ c. search needs)
+    returns-4 (λ c. search needs) returns-5)

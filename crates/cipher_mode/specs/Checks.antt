@@ -1,0 +1,90 @@
+-- What is refused before a byte is looked at, in document 01's order and by stages: key and IV, label, data, room.
+use Prim.Native.Nat.{ℕ, _%_}
+use mathlib.Core.Bool.{Bool, true, false, not, cond}
+use mathlib.Core.List.{List}
+use lib.Dec.{eqb, ltb}
+use Rattle.walk.specs.Outcome.{Outcome, refused}
+use Rattle.cipher_mode.specs.declared.KeyAnswer.{KeyAnswer}
+use Rattle.cipher_mode.specs.declared.KeyAnswer.the-variants.{Key, ErrorBlockSize as NoKey}
+use Rattle.cipher_mode.specs.declared.CipherMode.{CipherMode}
+use Rattle.cipher_mode.specs.declared.CipherMode.the-variants.{Cfb, Ofb, Ctr, Cbc, Gcm}
+use Rattle.cipher_mode.specs.declared.Direction.{Direction}
+use Rattle.cipher_mode.specs.declared.Direction.the-variants.{Encrypt, Decrypt}
+use Rattle.cipher_mode.specs.declared.answer.Refusal.{Refusal}
+use Rattle.cipher_mode.specs.declared.answer.Refusal.the-variants.{ErrorBlockSize, ErrorDataLen, TooLong, NoRoom}
+use Rattle.cipher_mode.specs.declared.checks.Checked.{Checked}
+use Rattle.cipher_mode.specs.declared.checks.Checked.the-variants.{Passed, Refused}
+use Rattle.cipher_mode.specs.declared.checks.Lengths.{Lengths}
+use Rattle.cipher_mode.specs.Answer.{refusalNumber}
+use Rattle.cipher_mode.specs.Tables.{limit, limitOf, roomOf}
+
+-- where the test holds, the refusal r; otherwise what comes next
+abbrev pub refuse : Bool → Refusal → Checked → Checked
+refuse test r next = cond test (Refused r) next
+
+-- one stage and then the next
+abbrev pub andThen : Checked → Checked → Checked
+andThen Passed next = next
+andThen (Refused r) next = Refused r
+
+-- a key answer that is not a key
+abbrev pub noKey : KeyAnswer → Bool
+noKey Key = false
+noKey NoKey = true
+
+-- an IV of n bytes that the mode does not take: 16 bytes, in every mode
+abbrev pub wrongIv : CipherMode → ℕ → Bool
+wrongIv m n = not (eqb n 16)
+
+unfoldable pub keyAndIv : KeyAnswer → CipherMode → ℕ → Checked
+keyAndIv a m iv =
+    refuse (noKey a) ErrorBlockSize
+    (refuse (wrongIv m iv) ErrorBlockSize
+    Passed)
+
+-- only Gcm looks at the label
+abbrev pub labelCheck : CipherMode → ℕ → Checked
+labelCheck Cfb n = Passed
+labelCheck Ofb n = Passed
+labelCheck Ctr n = Passed
+labelCheck Cbc n = Passed
+labelCheck Gcm n = refuse (ltb limit n) TooLong Passed
+
+-- the lengths of data to decrypt that are no message's
+abbrev pub shapeCheck : Direction → CipherMode → ℕ → Checked
+shapeCheck Encrypt m n = Passed
+shapeCheck Decrypt Cfb n = Passed
+shapeCheck Decrypt Ofb n = Passed
+shapeCheck Decrypt Ctr n = Passed
+shapeCheck Decrypt Cbc n =
+    refuse (eqb n 0) ErrorDataLen
+    (refuse (not (eqb (n % 16) 0)) ErrorDataLen
+    Passed)
+shapeCheck Decrypt Gcm n = refuse (ltb n 16) ErrorDataLen Passed
+
+unfoldable pub dataCheck : Direction → CipherMode → ℕ → Checked
+dataCheck dir m n = refuse (ltb (limitOf dir m) n) TooLong (shapeCheck dir m n)
+
+unfoldable pub roomCheck : Direction → CipherMode → ℕ → ℕ → Checked
+roomCheck dir m n room = refuse (ltb room (roomOf m dir n)) NoRoom Passed
+
+-- a message, either way
+unfoldable pub messageCheck : KeyAnswer → Direction → CipherMode → Lengths → Checked
+messageCheck a dir m n =
+    andThen (keyAndIv a m (n .iv))
+    (andThen (labelCheck m (n .label))
+    (andThen (dataCheck dir m (n .«data»))
+    (roomCheck dir m (n .«data») (n .room))))
+
+-- a single block of n bytes, either way
+unfoldable pub blockCheck : KeyAnswer → ℕ → ℕ → Checked
+blockCheck a n room =
+    refuse (noKey a) ErrorBlockSize
+    (refuse (not (eqb n 16)) ErrorBlockSize
+    (refuse (ltb room 16) NoRoom
+    Passed))
+
+-- a call: what was refused, with the output o as it was lent, or what comes next
+abbrev pub checked : Checked → List ℕ → Outcome → Outcome
+checked Passed o next = next
+checked (Refused r) o next = refused (refusalNumber r) o

@@ -1,0 +1,207 @@
+// All that is refused before a byte is looked at: it depends on the key's answer, the mode, the direction and the lengths
+// alone. The stages stand in document 01's order, and a call takes those that it has.
+ghost use mathlib.Core.Path.{_≡_};
+ghost use Prim.Native.Nat.{_≤_};
+ghost use Rattle.cipher_mode.specs.Tables.{limit, limitOf, roomOf};
+ghost use Rattle.cipher_mode.specs.Checks.{keyAndIv, labelCheck, shapeCheck, dataCheck, roomCheck, messageCheck, blockCheck};
+use crate::CipherMode;
+use crate::Direction;
+use crate::KeyAnswer;
+use crate::answer::Refusal;
+
+// The longest data to encrypt, the longest label of Gcm, and the longest data to decrypt in Cfb, Ofb and Ctr.
+pub const LIMIT: usize = 16777216;
+
+// The longest data to decrypt in Cbc and Gcm: a block more.
+pub const SEALED_LIMIT: usize = 16777232;
+
+pub enum Checked {
+    Passed,
+    Refused(Refusal),
+}
+
+// How many bytes a call was lent of each kind.
+pub struct Lengths {
+    pub iv: usize,
+    pub label: usize,
+    pub data: usize,
+    pub room: usize,
+}
+
+// The key's answer is a key, and the IV has the size that the mode takes: 16 bytes in every mode.
+pub fn key_and_iv(key: KeyAnswer, mode: CipherMode, iv: usize) -> Checked
+    ensures { λ r. ⌜ r ≡ keyAndIv key mode iv ⌝ }
+{
+    let KeyAnswer::Key = key else {
+        return Checked::Refused(Refusal::ErrorBlockSize);
+    };
+    if iv != 16 {
+        return Checked::Refused(Refusal::ErrorBlockSize);
+    }
+    Checked::Passed
+}
+
+// Only Gcm looks at the label.
+pub fn label(mode: CipherMode, n: usize) -> Checked
+    ensures { λ r. ⌜ r ≡ labelCheck mode n ⌝ }
+{
+    match mode {
+        CipherMode::Cfb => Checked::Passed,
+        CipherMode::Ofb => Checked::Passed,
+        CipherMode::Ctr => Checked::Passed,
+        CipherMode::Cbc => Checked::Passed,
+        CipherMode::Gcm => {
+            if n > LIMIT {
+                return Checked::Refused(Refusal::TooLong);
+            }
+            Checked::Passed
+        }
+    }
+}
+
+fn limit_of(direction: Direction, mode: CipherMode) -> usize
+    ensures { λ r. ⌜ r ≡ limitOf direction mode ⌝ }
+{
+    let Direction::Decrypt = direction else {
+        return LIMIT;
+    };
+    match mode {
+        CipherMode::Cfb => LIMIT,
+        CipherMode::Ofb => LIMIT,
+        CipherMode::Ctr => LIMIT,
+        CipherMode::Cbc => SEALED_LIMIT,
+        CipherMode::Gcm => SEALED_LIMIT,
+    }
+}
+
+// Cbc gives full blocks, and at least one.
+fn whole_blocks(n: usize) -> Checked
+    ensures { λ r. ⌜ r ≡ shapeCheck Direction.Decrypt CipherMode.Cbc n ⌝ }
+{
+    if n == 0 {
+        return Checked::Refused(Refusal::ErrorDataLen);
+    }
+    if n % 16 != 0 {
+        return Checked::Refused(Refusal::ErrorDataLen);
+    }
+    Checked::Passed
+}
+
+// Gcm gives a tag, and before it the text.
+fn with_tag(n: usize) -> Checked
+    ensures { λ r. ⌜ r ≡ shapeCheck Direction.Decrypt CipherMode.Gcm n ⌝ }
+{
+    if n < 16 {
+        return Checked::Refused(Refusal::ErrorDataLen);
+    }
+    Checked::Passed
+}
+
+// The lengths of data to decrypt that nothing was ever encrypted to.
+fn shape(direction: Direction, mode: CipherMode, n: usize) -> Checked
+    ensures { λ r. ⌜ r ≡ shapeCheck direction mode n ⌝ }
+{
+    let Direction::Decrypt = direction else {
+        return Checked::Passed;
+    };
+    match mode {
+        CipherMode::Cfb => Checked::Passed,
+        CipherMode::Ofb => Checked::Passed,
+        CipherMode::Ctr => Checked::Passed,
+        CipherMode::Cbc => whole_blocks(n),
+        CipherMode::Gcm => with_tag(n),
+    }
+}
+
+pub fn data(direction: Direction, mode: CipherMode, n: usize) -> Checked
+    ensures { λ r. ⌜ r ≡ dataCheck direction mode n ⌝ }
+{
+    if n > limit_of(direction, mode) {
+        return Checked::Refused(Refusal::TooLong);
+    }
+    shape(direction, mode, n)
+}
+
+// How long the message is that `n` bytes are encrypted to; it needs that room.
+pub fn encrypted_length(mode: CipherMode, n: usize) -> usize
+    requires { ⌜ n ≤ limit ⌝ }
+    ensures { λ r. ⌜ r ≡ roomOf mode Direction.Encrypt n ⌝ }
+{
+    match mode {
+        CipherMode::Cfb => n,
+        CipherMode::Ofb => n,
+        CipherMode::Ctr => n,
+        CipherMode::Cbc => 16 * (n / 16 + 1),
+        CipherMode::Gcm => n + 16,
+    }
+}
+
+// The room that `n` bytes need to be decrypted.
+fn decryption_room(mode: CipherMode, n: usize) -> usize
+    requires { ⌜ dataCheck Direction.Decrypt mode n ≡ Checked.Passed ⌝ }
+    ensures { λ r. ⌜ r ≡ roomOf mode Direction.Decrypt n ⌝ }
+{
+    match mode {
+        CipherMode::Cfb => n,
+        CipherMode::Ofb => n,
+        CipherMode::Ctr => n,
+        CipherMode::Cbc => n,
+        CipherMode::Gcm => n - 16,
+    }
+}
+
+fn room_of(direction: Direction, mode: CipherMode, n: usize) -> usize
+    requires { ⌜ dataCheck direction mode n ≡ Checked.Passed ⌝ }
+    ensures { λ r. ⌜ r ≡ roomOf mode direction n ⌝ }
+{
+    match direction {
+        Direction::Encrypt => encrypted_length(mode, n),
+        Direction::Decrypt => decryption_room(mode, n),
+    }
+}
+
+// The room, for data that is in order.
+pub fn room(direction: Direction, mode: CipherMode, n: usize, room: usize) -> Checked
+    requires { ⌜ dataCheck direction mode n ≡ Checked.Passed ⌝ }
+    ensures { λ r. ⌜ r ≡ roomCheck direction mode n room ⌝ }
+{
+    if room < room_of(direction, mode, n) {
+        return Checked::Refused(Refusal::NoRoom);
+    }
+    Checked::Passed
+}
+
+// A message, either way: all stages.
+pub fn message(key: KeyAnswer, direction: Direction, mode: CipherMode, n: Lengths) -> Checked
+    ensures { λ r. ⌜ r ≡ messageCheck key direction mode n ⌝ }
+{
+    let first = key_and_iv(key, mode, n.iv);
+    let Checked::Passed = first else {
+        return first;
+    };
+    let second = label(mode, n.label);
+    let Checked::Passed = second else {
+        return second;
+    };
+    let third = data(direction, mode, n.data);
+    let Checked::Passed = third else {
+        return third;
+    };
+    room(direction, mode, n.data, n.room)
+}
+
+// A single block, either way.
+pub fn block(key: KeyAnswer, n: usize, room: usize) -> Checked
+    ensures { λ r. ⌜ r ≡ blockCheck key n room ⌝ }
+{
+    let KeyAnswer::Key = key else {
+        return Checked::Refused(Refusal::ErrorBlockSize);
+    };
+    if n != 16 {
+        return Checked::Refused(Refusal::ErrorBlockSize);
+    }
+    if room < 16 {
+        return Checked::Refused(Refusal::NoRoom);
+    }
+    Checked::Passed
+}

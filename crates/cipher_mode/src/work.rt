@@ -1,0 +1,161 @@
+// What is done once nothing stands against it: bytes to bytes.
+ghost use mathlib.Core.Path.{_≡_};
+ghost use mathlib.Core.List.{_++_};
+ghost use Prim.Native.Nat.{_≤_};
+ghost use lib.ListN.{length, drop};
+ghost use Rattle.cipher.specs.Engine.{Engine};
+ghost use Rattle.walk.specs.Outcome.{done};
+ghost use Rattle.walk.specs.Walk.{chain};
+ghost use Rattle.stream.specs.Stream.{streamMode};
+ghost use Rattle.cbc.specs.Open.{headOf as cbcHead};
+ghost use Rattle.gcm.specs.Open.{headOf as gcmHead};
+ghost use Rattle.cipher_mode.specs.Tables.{roomOf};
+ghost use Rattle.cipher_mode.specs.Answer.{headOf, outcome};
+ghost use Rattle.cipher_mode.specs.Checks.{labelCheck, dataCheck};
+ghost use Rattle.cipher_mode.specs.Calls.{keysFor, blockOf, cfbKind, cbcResult, gcmResult, modeResult};
+use crate::CipherMode;
+use crate::Direction;
+use crate::answer;
+use crate::answer::Answer;
+use crate::answer::Refusal;
+use crate::checks;
+use crate::checks::Checked;
+use stream::Kind;
+
+// The round keys in the order that a direction takes them.
+fn keys_for(rk: [u32; 32], direction: Direction) -> [u32; 32]
+    ensures { λ r. ⌜ r ≡ keysFor direction rk ⌝ }
+{
+    match direction {
+        Direction::Encrypt => rk,
+        Direction::Decrypt => cipher::reversed(rk),
+    }
+}
+
+// A single block.
+pub(crate) fn block(rk: [u32; 32], direction: Direction, block_in: &[u8], out: &mut [u8])
+    requires { ⌜ length (now «block_in») ≡ 16 ⌝ }
+    requires { ⌜ 16 ≤ length (now out) ⌝ }
+    ensures { λ _. ⌜ now (out .exit) ≡ blockOf direction rk (now («block_in» .entry)) ++ drop 16 (now (out .entry)) ⌝ }
+{
+    let t = cipher::plain();
+    let keys = keys_for(rk, direction);
+    block::put_block(cipher::encrypt(&t, keys, block::split_block(block_in)), out);
+}
+
+// Cfb has a kind for each direction; Ofb and Ctr are their own opposite.
+fn cfb_kind(direction: Direction) -> Kind
+    ensures { λ r. ⌜ r ≡ cfbKind direction ⌝ }
+{
+    match direction {
+        Direction::Encrypt => Kind::CfbEncrypt,
+        Direction::Decrypt => Kind::CfbDecrypt,
+    }
+}
+
+// Cfb, Ofb and Ctr, either way.
+fn by_stream(t: &[u32], rk: [u32; 32], kind: Kind, iv: &[u8], data: &[u8], out: &mut [u8]) -> Answer
+    requires { ⌜ Engine (now t) ⌝ }
+    requires { ⌜ length (now iv) ≡ 16 ⌝ }
+    requires { ⌜ length (now «data») ≤ length (now out) ⌝ }
+    ensures { λ r. ⌜ outcome r (now (out .exit)) ≡ done (chain (streamMode kind rk) (now (iv .entry)) (now («data» .entry))) (now (out .entry)) ⌝ }
+{
+    stream::stream(t, rk, kind, block::split_block(iv), data, out);
+    answer::done(data.len())
+}
+
+fn cbc_answer(opened: cbc::Opened) -> Answer
+    ensures { λ r. ⌜ headOf r ≡ cbcHead opened ⌝ }
+{
+    match opened {
+        cbc::Opened::Done(n) => answer::done(n),
+        cbc::Opened::InvalidLastU8 => answer::refused(Refusal::InvalidLastU8),
+    }
+}
+
+fn by_cbc(
+    t: &[u32],
+    rk: [u32; 32],
+    direction: Direction,
+    iv: &[u8],
+    data: &[u8],
+    out: &mut [u8],
+) -> Answer
+    requires { ⌜ Engine (now t) ⌝ }
+    requires { ⌜ length (now iv) ≡ 16 ⌝ }
+    requires { ⌜ dataCheck direction CipherMode.Cbc (length (now «data»)) ≡ Checked.Passed ⌝ }
+    requires { ⌜ roomOf CipherMode.Cbc direction (length (now «data»)) ≤ length (now out) ⌝ }
+    ensures { λ r. ⌜ outcome r (now (out .exit)) ≡ cbcResult direction rk (now («data» .entry)) (now (iv .entry)) (now (out .entry)) ⌝ }
+{
+    let start = block::split_block(iv);
+    match direction {
+        Direction::Encrypt => {
+            cbc::encrypt(t, rk, start, data, out);
+            answer::done(checks::encrypted_length(CipherMode::Cbc, data.len()))
+        }
+        Direction::Decrypt => cbc_answer(cbc::decrypt(t, rk, start, data, out)),
+    }
+}
+
+fn gcm_answer(opened: gcm::Opened) -> Answer
+    ensures { λ r. ⌜ headOf r ≡ gcmHead opened ⌝ }
+{
+    match opened {
+        gcm::Opened::Done(n) => answer::done(n),
+        gcm::Opened::InvalidTag => answer::refused(Refusal::InvalidTag),
+    }
+}
+
+fn by_gcm(
+    t: &[u32],
+    rk: [u32; 32],
+    direction: Direction,
+    aad: &[u8],
+    data: &[u8],
+    iv: &[u8],
+    out: &mut [u8],
+) -> Answer
+    requires { ⌜ Engine (now t) ⌝ }
+    requires { ⌜ length (now iv) ≡ 16 ⌝ }
+    requires { ⌜ labelCheck CipherMode.Gcm (length (now aad)) ≡ Checked.Passed ⌝ }
+    requires { ⌜ dataCheck direction CipherMode.Gcm (length (now «data»)) ≡ Checked.Passed ⌝ }
+    requires { ⌜ roomOf CipherMode.Gcm direction (length (now «data»)) ≤ length (now out) ⌝ }
+    ensures { λ r. ⌜ outcome r (now (out .exit)) ≡ gcmResult direction rk (now (aad .entry)) (now («data» .entry)) (now (iv .entry)) (now (out .entry)) ⌝ }
+{
+    let h = gcm::hash_key(t, rk);
+    let j0 = gcm::first_counter(h, iv);
+    match direction {
+        Direction::Encrypt => {
+            gcm::encrypt(t, rk, h, j0, aad, data, out);
+            answer::done(checks::encrypted_length(CipherMode::Gcm, data.len()))
+        }
+        Direction::Decrypt => gcm_answer(gcm::decrypt(t, rk, h, j0, aad, data, out)),
+    }
+}
+
+// A message. Only Gcm looks at the label.
+pub(crate) fn message(
+    t: &[u32],
+    rk: [u32; 32],
+    direction: Direction,
+    mode: CipherMode,
+    aad: &[u8],
+    data: &[u8],
+    iv: &[u8],
+    out: &mut [u8],
+) -> Answer
+    requires { ⌜ Engine (now t) ⌝ }
+    requires { ⌜ length (now iv) ≡ 16 ⌝ }
+    requires { ⌜ labelCheck mode (length (now aad)) ≡ Checked.Passed ⌝ }
+    requires { ⌜ dataCheck direction mode (length (now «data»)) ≡ Checked.Passed ⌝ }
+    requires { ⌜ roomOf mode direction (length (now «data»)) ≤ length (now out) ⌝ }
+    ensures { λ r. ⌜ outcome r (now (out .exit)) ≡ modeResult mode direction rk (now (aad .entry)) (now («data» .entry)) (now (iv .entry)) (now (out .entry)) ⌝ }
+{
+    match mode {
+        CipherMode::Cfb => by_stream(t, rk, cfb_kind(direction), iv, data, out),
+        CipherMode::Ofb => by_stream(t, rk, Kind::Ofb, iv, data, out),
+        CipherMode::Ctr => by_stream(t, rk, Kind::Ctr, iv, data, out),
+        CipherMode::Cbc => by_cbc(t, rk, direction, iv, data, out),
+        CipherMode::Gcm => by_gcm(t, rk, direction, aad, data, iv, out),
+    }
+}

@@ -1,0 +1,83 @@
+-- What a call that answered 0 had in order, and what a call leaves that has all in order.
+-- Assumes nothing.
+use mathlib.Core.Path.{_≡_, refl, sym, ap}
+use mathlib.Core.List.{List}
+use Prim.Native.Nat.{ℕ}
+use native.Mathlib.Omega.{arith}
+use lib.ListN.{length}
+use lib.Seq.{take-append-seam}
+use borrow.Author.Tests.{eq-eqb, le-ltb}
+use Rattle.walk.specs.Outcome.{Outcome, refused, done}
+use Rattle.cipher_mode.specs.declared.KeyAnswer.{KeyAnswer}
+use Rattle.cipher_mode.specs.declared.CipherMode.{CipherMode}
+use Rattle.cipher_mode.specs.declared.Direction.{Direction}
+use Rattle.cipher_mode.specs.declared.answer.Refusal.{Refusal}
+use Rattle.cipher_mode.specs.declared.answer.Refusal.the-variants.{ErrorBlockSize, ErrorDataLen, InvalidLastU8, InvalidTag, TooLong, NoRoom}
+use Rattle.cipher_mode.specs.declared.checks.Checked.{Checked}
+use Rattle.cipher_mode.specs.declared.checks.Checked.the-variants.{Passed, Refused}
+use Rattle.cipher_mode.specs.declared.checks.Lengths.{Lengths}
+use Rattle.cipher_mode.specs.declared.Sm4Cipher.{Sm4Cipher}
+use Rattle.cipher_mode.specs.declared.Sm4CipherMode.{Sm4CipherMode}
+use Rattle.cipher_mode.specs.Answer.{refusalNumber}
+use Rattle.cipher_mode.specs.Tables.{roomOf}
+use Rattle.cipher_mode.specs.Checks.{keyAndIv, roomCheck, blockCheck, messageCheck, checked}
+use Rattle.cipher_mode.specs.Calls.{blockOf, blockCall, modeResult, lengthsOf, modeCall}
+use Rattle.cipher_mode.proofs.Passed.{InOrder, BlockInOrder, message-passed, block-passed}
+use Rattle.cipher_mode.proofs.Ends.{went-on}
+use Rattle.demands.specs.Call.{result, RefusedAs}
+
+pub result-of-done : (p o : List ℕ) → result (done p o) ≡ p
+result-of-done p o = take-append-seam p _
+
+pub refused-as : (n : ℕ) (o : List ℕ) (x : Outcome) → x ≡ refused n o → RefusedAs n o x
+refused-as n o x e =
+    record {
+      number = ap (λ (y : Outcome). y .head .number) e;
+      size = ap (λ (y : Outcome). y .head .size) e;
+      bytes = ap (λ (y : Outcome). y .bytes) e;
+    }
+
+-- no refusal has the number 0
+not-zero : (r : Refusal) → refusalNumber r ≡ 0 → ⊥
+not-zero ErrorBlockSize e = omega arith
+not-zero ErrorDataLen e = omega arith
+not-zero InvalidLastU8 e = omega arith
+not-zero InvalidTag e = omega arith
+not-zero TooLong e = omega arith
+not-zero NoRoom e = omega arith
+
+zero-passed : (k : Checked) (o : List ℕ) (next : Outcome) → checked k o next .head .number ≡ 0 → k ≡ Passed
+zero-passed Passed o next e = refl
+zero-passed (Refused r) o next e = absurd (not-zero r e)
+
+-- a single block
+module _ (dir : Direction) (c : Sm4Cipher) (b o : List ℕ) where
+  pub block-through : blockCall dir c b o .head .number ≡ 0 → BlockInOrder (c .answer) (length b) (length o)
+  unfolding blockCall
+  block-through e = block-passed _ _ _ (zero-passed (blockCheck (c .answer) (length b) (length o)) o (done (blockOf dir (c .rk) b) o) e)
+
+  pub block-leaves : BlockInOrder (c .answer) (length b) (length o) → blockCall dir c b o ≡ done (blockOf dir (c .rk) b) o
+  unfolding blockCall blockCheck
+  block-leaves p = rw (p .key, eq-eqb (length b) 16 (p .size), le-ltb (length o) 16 (p .enough))
+
+-- what is in order passes
+in-order : (a : KeyAnswer) (dir : Direction) (m : CipherMode) (n : Lengths) → InOrder a dir m n → messageCheck a dir m n ≡ Passed
+unfolding messageCheck keyAndIv roomCheck
+in-order a dir m n p =
+    rw (p .key, eq-eqb (n .iv) 16 (p .iv-size), p .label, p .content, le-ltb (n .room) (roomOf m dir (n .«data»)) (p .room))
+
+-- a message
+module _ (dir : Direction) (m : Sm4CipherMode) (aad d iv o : List ℕ) where
+  pub through : modeCall dir m aad d iv o .head .number ≡ 0 → InOrder (m .cipher .answer) dir (m .mode) (lengthsOf aad d iv o)
+  unfolding modeCall
+  through e =
+      message-passed _ _ _ _
+      (zero-passed (messageCheck (m .cipher .answer) dir (m .mode) (lengthsOf aad d iv o)) o
+      (modeResult (m .mode) dir (m .cipher .rk) aad d iv o) e)
+
+  pub leaves : InOrder (m .cipher .answer) dir (m .mode) (lengthsOf aad d iv o)
+      → modeCall dir m aad d iv o ≡ modeResult (m .mode) dir (m .cipher .rk) aad d iv o
+  unfolding modeCall
+  leaves p =
+      let next = modeResult (m .mode) dir (m .cipher .rk) aad d iv o in
+      sym (went-on (messageCheck (m .cipher .answer) dir (m .mode) (lengthsOf aad d iv o)) o next next (in-order _ _ _ _ p) refl)

@@ -1,0 +1,32 @@
+-- The search for a thing that a line lacks goes from each thing to the next.
+-- Assumes nothing.
+use mathlib.Core.Path.{_≡_, refl, sym, _∙_}
+use mathlib.Core.Bool.{true, false, cond}
+use Prim.Native.Nat.{ℕ, suc, _+_, _-_, _<_, _≤_}
+use native.Mathlib.Numerals.{add-one}
+use native.Mathlib.Omega.{arith}
+use Rattle.typed.specs.Things.{NOTHING}
+use Rattle.typed.specs.Line.{lacks, lackingFrom, lackingIn}
+use Rattle.typed.specs.declared.line.Line.{Line}
+
+-- the search stands at thing k, and those from there on decide
+module _ (l : Line) (k : ℕ) {r : ℕ} (e : lackingFrom l (NOTHING - k) k ≡ r) where
+  turn : k < NOTHING → lackingFrom l (NOTHING - k) k ≡ cond (lacks l k) k (lackingFrom l (NOTHING - (k + 1)) (k + 1))
+  unfolding lackingFrom
+  turn h =
+      let n : NOTHING - k ≡ suc (NOTHING - (k + 1)) = omega arith in
+      rw (n, add-one k)
+
+  pub lacking-here : k < NOTHING → lacks l k ≡ true → k ≡ r
+  lacking-here h t = sym (turn h ∙ rw t) ∙ e
+
+  pub lacking-on : k < NOTHING → lacks l k ≡ false → lackingFrom l (NOTHING - (k + 1)) (k + 1) ≡ r
+  lacking-on h t = sym (turn h ∙ rw t) ∙ e
+
+  pub lacking-none : NOTHING ≤ k → NOTHING ≡ r
+  unfolding lackingFrom
+  lacking-none h = let n : NOTHING - k ≡ 0 = omega arith in sym (rw n) ∙ e
+
+pub lacking-first : (l : Line) → lackingFrom l NOTHING 0 ≡ lackingIn l
+unfolding lackingIn
+lacking-first l = refl

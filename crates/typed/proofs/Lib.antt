@@ -1,0 +1,10 @@
+pub mod Bounds
+pub mod Verdicts
+mod StatusTells
+mod Ranges
+mod Walks
+mod Listed
+mod Reckoning
+mod HexPairs
+mod HexKey
+mod Lacking

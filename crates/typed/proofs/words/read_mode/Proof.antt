@@ -1,0 +1,21 @@
+-- `words::read_mode` meets its contract. Each arm is the mode at the place that `find` answers; the last is for every
+-- place past those.
+-- Assumes nothing.
+use borrow.Author.Needs.{needs}
+use Rattle.typed.specs.Words.{modes}
+use Rattle.typed.specs.declared.words.ModeName.the-variants.{Unknown}
+use Rattle.typed.proofs.Verdicts.{told, told-none}
+use Rattle.typed.proofs.words.read_mode.Statement.{statement}
+use Rattle.typed.proofs.words.read_mode.Tie as tie
+
+pub read-mode-spec : {M : Type 1} → statement M
+read-mode-spec =
+    tie.close
+    (tie.spec
+    (λ c. search needs)
+    (λ c κs. search needs)
+    (λ c. rw (told (c .before .find .ensures) (c .match .keys1)))
+    (λ c. rw (told (c .before .find .ensures) (c .match .keys2)))
+    (λ c. rw (told (c .before .find .ensures) (c .match .keys3)))
+    (λ c. rw (told (c .before .find .ensures) (c .match .keys4)))
+    (λ c. told-none modes Unknown (c .before .find .ensures) (c .match .rest)))

@@ -1,0 +1,21 @@
+-- A number as a person types it: decimal digits and nothing else, and not above a bound.
+use Prim.Native.Nat.{ℕ, _+_, _*_, _-_}
+use mathlib.Core.Bool.{Bool, cond, _&&_}
+use mathlib.Core.List.{List, [], _∷_}
+use lib.Dec.{leb}
+use lib.ListN.{length}
+use Rattle.typed.specs.Tests.{between, every}
+use Rattle.typed.specs.declared.decimal.Number.{Number}
+use Rattle.typed.specs.declared.decimal.Number.the-variants.{Is, Not}
+
+-- '0' to '9'
+abbrev pub isDigit : ℕ → Bool
+isDigit b = between 48 57 b
+
+-- the number that digits spell when they follow those that spell v
+abbrev pub spelled : ℕ → List ℕ → ℕ
+spelled v [] = v
+spelled v (b ∷ s) = spelled (v * 10 + (b - 48)) s
+
+unfoldable pub numberIn : ℕ → List ℕ → Number
+numberIn most s = cond (leb 1 (length s) && (every isDigit s && leb (spelled 0 s) most)) (Is (spelled 0 s)) Not

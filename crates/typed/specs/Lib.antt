@@ -1,0 +1,11 @@
+pub mod Ascii
+pub mod Tests
+pub mod Decimal
+pub mod Hex
+pub mod Key
+pub mod Names
+pub mod Things
+pub mod Words
+pub mod Line
+pub mod Limits
+pub mod Status

@@ -1,0 +1,76 @@
+-- What a line of words says: each thing that its command wants, once.
+use Prim.Native.Nat.{ℕ, zero, suc}
+use mathlib.Core.Bool.{Bool, true, false, cond, _&&_}
+use mathlib.Core.List.{List}
+use lib.Dec.{ltb, eqb}
+use lib.ListN.{getD, set, replicate}
+use Rattle.typed.specs.Things.{IN, OUT, NOTHING}
+use Rattle.typed.specs.Words.{optionOf, isOption, wantsOf}
+use Rattle.typed.specs.declared.words.Command.{Command}
+use Rattle.typed.specs.declared.line.Fault.{Fault}
+use Rattle.typed.specs.declared.line.Fault.the-variants.{NoFault, NoSuchOption, NotOfThisCommand, SaidTwice, NoValue, OneTooMany}
+use Rattle.typed.specs.declared.line.Line.{Line}
+
+-- a line of which only the command has been read
+abbrev pub lineOf : Command → Line
+lineOf c = record { command = c; places = replicate NOTHING 0; next = NOTHING; fault = NoFault; at = 0 }
+
+abbrev pub sound : Fault → Bool
+sound NoFault = true
+sound NoSuchOption = false
+sound NotOfThisCommand = false
+sound SaidTwice = false
+sound NoValue = false
+sound OneTooMany = false
+
+-- thing k has not been said yet
+abbrev pub unsaid : Line → ℕ → Bool
+unsaid l k = eqb (getD (l .places) k 0) 0
+
+-- the word at place i says thing k
+abbrev pub said : Line → ℕ → ℕ → Line
+said l k i = record { command = l .command; places = set (l .places) k i; next = NOTHING; fault = l .fault; at = l .at }
+
+-- thing k is what the next word says
+abbrev pub await : Line → ℕ → Line
+await l k = record { command = l .command; places = l .places; next = k; fault = l .fault; at = l .at }
+
+-- the word at place i is at fault
+abbrev pub faulty : Line → Fault → ℕ → Line
+faulty l f i = record { command = l .command; places = l .places; next = l .next; fault = f; at = i }
+
+-- option k at place i: one that there is, that the command wants, and that has not been said
+unfoldable pub afterOption : Line → ℕ → ℕ → Line
+afterOption l k i =
+    cond (ltb k NOTHING)
+    (cond (wantsOf (l .command) k)
+    (cond (unsaid l k) (await l k) (faulty l SaidTwice i))
+    (faulty l NotOfThisCommand i))
+    (faulty l NoSuchOption i)
+
+-- any other word is IN, and after that OUT where the command wants one
+unfoldable pub afterFile : Line → ℕ → Line
+afterFile l i =
+    cond (unsaid l IN) (said l IN i)
+    (cond (wantsOf (l .command) OUT && unsaid l OUT) (said l OUT i) (faulty l OneTooMany i))
+
+-- the line after the word w, at place i, has been read: the first fault stays
+unfoldable pub afterWord : Line → List ℕ → ℕ → Line
+afterWord l w i =
+    cond (sound (l .fault))
+    (cond (ltb (l .next) NOTHING)
+    (cond (isOption w) (faulty l NoValue i) (said l (l .next) i))
+    (cond (isOption w) (afterOption l (optionOf w) i) (afterFile l i)))
+    l
+
+-- a thing that the command wants and that has not been said
+abbrev pub lacks : Line → ℕ → Bool
+lacks l k = wantsOf (l .command) k && unsaid l k
+
+-- the first such thing of the n from k on, or NOTHING
+unfoldable pub lackingFrom : Line → ℕ → ℕ → ℕ
+lackingFrom l zero k = NOTHING
+lackingFrom l (suc n) k = cond (lacks l k) k (lackingFrom l n (suc k))
+
+unfoldable pub lackingIn : Line → ℕ
+lackingIn l = lackingFrom l NOTHING 0

@@ -1,0 +1,27 @@
+-- The things that a line of words says, by number: those that an option names, then the files.
+use Prim.Native.Nat.{ℕ}
+
+abbrev pub MODE : ℕ
+MODE = 0
+
+abbrev pub KEY : ℕ
+KEY = 1
+
+abbrev pub IV : ℕ
+IV = 2
+
+abbrev pub JOB : ℕ
+JOB = 3
+
+abbrev pub EDITION : ℕ
+EDITION = 4
+
+abbrev pub IN : ℕ
+IN = 5
+
+abbrev pub OUT : ℕ
+OUT = 6
+
+-- none of them, and so how many there are
+abbrev pub NOTHING : ℕ
+NOTHING = 7

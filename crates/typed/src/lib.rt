@@ -1,0 +1,11 @@
+// What a person types to the tool and reads from it: numbers, bytes in hex, keys, words, the line that they make, how
+// long a file may be, and the status that a run ends with.
+pub mod decimal;
+pub mod hex;
+pub mod key;
+pub mod limits;
+pub mod line;
+mod names;
+pub mod status;
+pub mod things;
+pub mod words;

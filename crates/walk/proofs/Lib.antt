@@ -1,0 +1,5 @@
+pub mod Chain
+pub mod Cut
+pub mod Undo
+pub mod Loop
+pub mod Fill

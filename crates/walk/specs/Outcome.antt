@@ -1,0 +1,46 @@
+-- What a call leaves: its number, its length, and every byte of the output. The numbers are document 01's.
+use Prim.Native.Nat.{ℕ}
+use mathlib.Core.Bool.{Bool, cond}
+use mathlib.Core.List.{List}
+use lib.ListN.{length, take}
+use Rattle.walk.specs.Walk.{over}
+
+-- what a call reports
+pub record Head : Type 0 where
+  -- 0 for done, otherwise the refusal
+  pub number : ℕ
+  -- how many bytes of the output are the result
+  pub size : ℕ
+
+pub record Outcome : Type 0 where
+  pub head : Head
+  -- the whole output buffer
+  pub bytes : List ℕ
+
+-- what a report and the output o are together
+abbrev pub leaving : Head → List ℕ → Outcome
+leaving h o = record { head = h; bytes = o }
+
+-- done, with n bytes
+abbrev pub finished : ℕ → Head
+finished n = record { number = 0; size = n }
+
+-- a refusal reports its number, and length 0
+abbrev pub refusal : ℕ → Head
+refusal n = record { number = n; size = 0 }
+
+-- refused: the output o is as it was lent
+abbrev pub refused : ℕ → List ℕ → Outcome
+refused n o = record { head = refusal n; bytes = o }
+
+-- where the test holds, refusal n; otherwise what comes next
+abbrev pub refuse : Bool → ℕ → List ℕ → Outcome → Outcome
+refuse test n o next = cond test (refused n o) next
+
+-- what h reports of p stands at the front of the output, and the rest of it is as it was lent
+abbrev pub written : Head → List ℕ → List ℕ → Outcome
+written h p o = record { head = h; bytes = over (take (h .size) p) o }
+
+-- done: all of p stands at the front of the output
+abbrev pub done : List ℕ → List ℕ → Outcome
+done p o = record { head = finished (length p); bytes = over p o }
