@@ -32,8 +32,10 @@ need() {
     fi
     echo "installing $*" >&2
     command -v apt-get >/dev/null || die "no $wanted, and no apt-get to install $* with"
+    # where the lists of packages are missing or old, they are fetched once
     apt-get install -y --no-install-recommends "$@" >"$work/apt.log" 2>&1 ||
-        { tail -5 "$work/apt.log" >&2; die "could not install $*: see above (root, and apt-get update, may be needed)"; }
+        { apt-get update && apt-get install -y --no-install-recommends "$@"; } >"$work/apt.log" 2>&1 ||
+        { tail -5 "$work/apt.log" >&2; die "could not install $*: see above (root may be needed)"; }
 }
 
 # check_libsm FOLDER: that it is a folder of libsm with the four files that are built.

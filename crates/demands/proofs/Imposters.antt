@@ -15,8 +15,6 @@ use Rattle.cipher.specs.Sm4.{roundKeys}
 use Rattle.counter.specs.Counter.{ctrNext}
 use Rattle.walk.specs.Walk.{walk, chain}
 use Rattle.walk.specs.Outcome.{Outcome, done}
-use Rattle.stream.specs.declared.Kind.the-variants.{Ctr as Ctr·kind}
-use Rattle.stream.proofs.RoundTrip.{length-stream}
 use Rattle.cipher_mode.specs.declared.CipherMode.{CipherMode}
 use Rattle.cipher_mode.specs.declared.CipherMode.the-variants.{Cfb, Ofb, Ctr, Cbc, Gcm}
 use Rattle.cipher_mode.specs.declared.Direction.the-variants.{Encrypt}
@@ -25,10 +23,12 @@ use Rattle.cipher_mode.specs.declared.KeyAnswer.the-variants.{Key}
 use Rattle.cipher_mode.specs.declared.Sm4CipherMode.{Sm4CipherMode}
 use Rattle.cipher_mode.specs.Key.{newCipher, newCipherMode}
 use Rattle.cipher_mode.specs.Tables.{limit}
-use Rattle.cipher_mode.specs.Checks.{keyAndIv, dataCheck, roomCheck, messageCheck}
+use Rattle.cipher_mode.specs.Checks.{dataCheck}
 use Rattle.cipher_mode.specs.Calls.{lengthsOf, modeCall}
 use Rattle.cipher_mode.proofs.Passed.{InOrder}
-use Rattle.demands.specs.Call.{result}
+use Rattle.demands.specs.Call.{Call, result}
+use Rattle.demands.specs.Answered.{Answered, lengthOf}
+use Rattle.demands.specs.Served.{Asks, Served}
 use Rattle.demands.specs.ThereAndBack.{ThereAndBack}
 use Rattle.demands.specs.OneBlockRefused.{OneBlockRefused}
 use Rattle.demands.specs.Imposters.{zeros, zeroKey, refusesAll, constant, copies, firstBlockOnly, inventsLength}
@@ -49,7 +49,17 @@ nothing-in-order a k Ctr = record { key = k; iv-size = refl; label = refl; conte
 nothing-in-order a k Cbc = record { key = k; iv-size = refl; label = refl; content = refl; room = omega arith }
 nothing-in-order a k Gcm = record { key = k; iv-size = refl; label = refl; content = refl; room = omega arith }
 
--- But it breaks demand 2, with any usable key, in any mode and whatever room it is given: it does not give back the empty
+-- the empty message is asked for in order in every mode
+nothing-asked : (m : CipherMode) → Asks m [] [] zeros zeros
+nothing-asked m =
+    record { sixteen = refl; label-fits = λ _. omega arith; data-fits = omega arith; room = nothing-in-order Key refl m .room }
+
+-- But it does not serve: nobody's empty message, without a label and under an IV of zeros, is encrypted, in any mode and whatever
+-- stands beside it for decryption.
+pub refusing-all-serves-nobody : (m : CipherMode) (decryption : Call) → ¬ Served m refusesAll decryption
+refusing-all-serves-nobody m decryption s = absurd (omega (arith, s .sealing [] [] zeros zeros (nothing-asked m) .number))
+
+-- And as decryption it breaks demand 2, with any usable key, in any mode and whatever room it is given: it does not give back the empty
 -- message, encrypted without a label under an IV of zeros.
 pub refusing-all-breaks-demand-2 : (m : Sm4CipherMode) → m .cipher .answer ≡ Key → (room : ℕ → ℕ)
     → ¬ ThereAndBack room (modeCall Encrypt m) refusesAll
@@ -63,15 +73,6 @@ refusing-all-breaks-demand-2 m k room back =
     absurd (omega (arith, r .number))
 
 -- The others are held against encryption in Ctr under the key and the IV of sixteen zero bytes.
-
--- A constant answer, whatever it is, is wrong at one of two inputs: no data, no label, no output, and as the IV either nothing
--- (refusal 1) or sixteen zeros (done).
-pub constant-contradicts : (x : Outcome) → constant x [] [] [] [] ≡ modeCall Encrypt zeroKey [] [] [] []
-    → constant x [] [] zeros [] ≢ modeCall Encrypt zeroKey [] [] zeros []
-unfolding modeCall messageCheck keyAndIv dataCheck roomCheck newCipherMode newCipher
-constant-contradicts x e f =
-    let g : _≡_ {A = ℕ} 1 0 = ap (λ (y : Outcome). y .head .number) (sym e ∙ f) in
-    absurd (omega arith)
 
 -- what Ctr leaves under the zero key, given room
 ctr-leaves : (d o : List ℕ) → length d ≤ limit → length d ≤ length o
@@ -89,6 +90,21 @@ seventeen-bytes : encrypted Ctr (roundKeys zeros) [] (replicate 17 0) zeros
     ≡ 0x9f ∷ 0x1f ∷ 0x7b ∷ 0xff ∷ 0x6f ∷ 0x55 ∷ 0x11 ∷ 0x38 ∷ 0x4d ∷ 0x94 ∷ 0x30 ∷ 0x53 ∷ 0x1e ∷ 0x53 ∷ 0x8f ∷ 0xd3 ∷ 0x23 ∷ []
 unfolding chain walk ctrNext numberOf bytesOf
 seventeen-bytes = rw (zero-block, block-of-one)
+
+another-byte : encrypted Ctr (roundKeys zeros) [] (1 ∷ []) zeros ≡ 0x9e ∷ []
+unfolding chain walk
+another-byte = rw zero-block
+
+-- A constant answer, whatever it is, is wrong at one of two inputs that are both in order: a byte 0 becomes 9f and a byte 1
+-- becomes 9e.
+pub constant-contradicts : (x : Outcome) → constant x [] (0 ∷ []) zeros (0 ∷ []) ≡ modeCall Encrypt zeroKey [] (0 ∷ []) zeros (0 ∷ [])
+    → constant x [] (1 ∷ []) zeros (0 ∷ []) ≢ modeCall Encrypt zeroKey [] (1 ∷ []) zeros (0 ∷ [])
+constant-contradicts x e f =
+    let o : List ℕ = 0 ∷ [] in
+    let g = ctr-leaves (0 ∷ []) o (omega arith) (omega arith) ∙ ap {B = Outcome} (λ (p : List ℕ). done p o) one-byte in
+    let h = ctr-leaves (1 ∷ []) o (omega arith) (omega arith) ∙ ap {B = Outcome} (λ (p : List ℕ). done p o) another-byte in
+    let z : _≡_ {A = ℕ} 0x9f 0x9e = ap (λ (y : Outcome). getD (y .bytes) 0 0) (sym (e ∙ g) ∙ f ∙ h) in
+    absurd (omega arith)
 
 -- A copy is wrong at one zero byte, which becomes 9f. (Of no data there is no other result.)
 pub copy-contradicts : copies [] (0 ∷ []) zeros (0 ∷ []) ≢ modeCall Encrypt zeroKey [] (0 ∷ []) zeros (0 ∷ [])
@@ -108,10 +124,10 @@ first-block-only-contradicts e =
     let z : _≡_ {A = ℕ} 0 0x23 = ap (λ (x : Outcome). getD (x .bytes) 16 0) (sym f ∙ e ∙ g) in
     absurd (omega arith)
 
--- A length of its own invention, the output's, is wrong at no data with an output of one byte: the table says 0.
-pub invented-length-contradicts : inventsLength zeroKey [] [] zeros (0 ∷ []) ≢ modeCall Encrypt zeroKey [] [] zeros (0 ∷ [])
-invented-length-contradicts e =
-    let none = length-stream Ctr·kind (roundKeys zeros) zeros [] in
-    let f : _≡_ {A = ℕ} 1 (length (encrypted Ctr (roundKeys zeros) [] [] zeros)) =
-    ap (λ (x : Outcome). x .head .size) (e ∙ ctr-leaves [] (0 ∷ []) (omega arith) (omega arith)) in
-    absurd (omega arith)
+-- A length of its own invention, the output's, breaks the table of lengths at no data with an output of one byte: the table
+-- says 0.
+pub invented-length-breaks-the-table :
+    ¬ ((label d iv o : List ℕ) → Answered o (lengthOf Ctr Encrypt (zeroKey .cipher .rk) iv d) (inventsLength zeroKey label d iv o))
+invented-length-breaks-the-table claim =
+    let done-there = ap (λ (x : Outcome). x .head .number) (ctr-leaves [] (0 ∷ []) (omega arith) (omega arith)) in
+    absurd (omega (arith, claim [] [] zeros (0 ∷ []) .reported done-there))

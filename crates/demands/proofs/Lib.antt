@@ -9,7 +9,9 @@ pub mod NoUsableKey
 pub mod LabelIgnored
 -- demand 2
 pub mod ModesBack
+pub mod WhichNumber
 pub mod ThereAndBack
+pub mod Served
 -- demand 3, and what the demands were for
 pub mod OtherHash
 pub mod OneBlockRefused
@@ -18,5 +20,6 @@ pub mod OtherEdition
 pub mod TrailingZero
 -- the worked table and the imposters
 pub mod Worked
+pub mod Edges
 pub mod ZeroCipher
 pub mod Imposters

@@ -26,7 +26,7 @@ use Rattle.cipher_mode.specs.declared.CipherMode.{CipherMode}
 use Rattle.cipher_mode.specs.declared.CipherMode.the-variants.{Cfb, Ofb, Ctr, Cbc, Gcm}
 use Rattle.cipher_mode.specs.declared.Direction.the-variants.{Encrypt, Decrypt}
 use Rattle.cipher_mode.specs.declared.checks.Checked.the-variants.{Passed}
-use Rattle.cipher_mode.specs.Tables.{limit, sealedLimit}
+use Rattle.cipher_mode.specs.Tables.{limit, sealedLimit, roomOf}
 use Rattle.cipher_mode.specs.Checks.{dataCheck}
 use Rattle.cipher_mode.specs.Calls.{modeResult}
 use Rattle.cipher_mode.proofs.Passed.{data-within, with-tag-passed}
@@ -45,6 +45,13 @@ encrypts Ofb rk aad d iv o = refl
 encrypts Ctr rk aad d iv o = refl
 encrypts Cbc rk aad d iv o = refl
 encrypts Gcm rk aad d iv o = refl
+
+pub length-encrypted : (m : CipherMode) (rk aad d iv : List ℕ) → length (encrypted m rk aad d iv) ≡ roomOf m Encrypt (length d)
+length-encrypted Cfb rk aad d iv = length-stream CfbEncrypt rk iv d
+length-encrypted Ofb rk aad d iv = length-stream Ofb·kind rk iv d
+length-encrypted Ctr rk aad d iv = length-stream Ctr·kind rk iv d
+length-encrypted Cbc rk aad d iv = length-cbcSeal rk iv d
+length-encrypted Gcm rk aad d iv = length-sealed rk (hashKey rk) (J0 rk iv) aad d
 
 -- lengths that decryption takes
 whole-passes : (n : ℕ) → n ≤ sealedLimit → 16 ≤ n → n % 16 ≡ 0 → dataCheck Decrypt Cbc n ≡ Passed

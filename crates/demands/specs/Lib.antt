@@ -1,9 +1,11 @@
 pub mod Call
 -- demand 1
 pub mod Answered
+pub mod WhichNumber
 pub mod OneOutcome
 pub mod NoUsableKey
 -- demand 2
+pub mod Served
 pub mod ThereAndBack
 -- demand 3, and what the demands were for
 pub mod OneBlockRefused
@@ -11,4 +13,5 @@ pub mod OtherEdition
 pub mod TrailingZero
 -- the worked table and the imposters
 pub mod Worked
+pub mod Edges
 pub mod Imposters

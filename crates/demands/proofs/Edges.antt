@@ -1,0 +1,51 @@
+-- Document 01's "At the edges" holds of the definitions, by computation, and what the checks say is what the calls answer.
+-- Assumes nothing.
+use mathlib.Core.Path.{_≡_, refl, ap, _∙_}
+use mathlib.Core.Logic.{_≢_}
+use mathlib.Core.Bool.{Bool, true, false}
+use mathlib.Core.List.{List, map}
+use Prim.Native.Nat.{ℕ}
+use Rattle.walk.specs.Outcome.{Outcome, finished}
+use Rattle.cbc.specs.Open.{namesPadding, unpadded}
+use Rattle.cipher_mode.specs.declared.KeyAnswer.the-variants.{Key}
+use Rattle.cipher_mode.specs.declared.Direction.{Direction}
+use Rattle.cipher_mode.specs.declared.Direction.the-variants.{Encrypt}
+use Rattle.cipher_mode.specs.declared.checks.Checked.{Checked}
+use Rattle.cipher_mode.specs.declared.checks.Checked.the-variants.{Passed, Refused}
+use Rattle.cipher_mode.specs.declared.Sm4CipherMode.{Sm4CipherMode}
+use Rattle.cipher_mode.specs.Checks.{keyAndIv, dataCheck, roomCheck, messageCheck, checked}
+use Rattle.cipher_mode.specs.Calls.{modeResult, lengthsOf, modeCall}
+use Rattle.demands.specs.Edges.{Row, verdict, said, edges}
+use Rattle.demands.proofs.ModesBack.{encrypts, length-encrypted}
+
+-- All rows, whether the tag is right or not: what the definitions say is what the paper says.
+pub at-the-edges : (right : Bool) → map (λ (r : Row). r .ours) (edges right) ≡ map (λ (r : Row). r .paper) (edges right)
+unfolding messageCheck keyAndIv dataCheck roomCheck namesPadding unpadded
+at-the-edges true = refl
+at-the-edges false = refl
+
+verdict-refused : (k : Checked) (o : List ℕ) (next : Outcome) (n : ℕ) → k ≢ Passed → checked k o next .head ≡ verdict k n
+verdict-refused Passed o next n h = absurd (h refl)
+verdict-refused (Refused r) o next n h = refl
+
+verdict-done : (k : Checked) (o : List ℕ) (next : Outcome) (n : ℕ) → next .head ≡ finished n → checked k o next .head ≡ verdict k n
+verdict-done Passed o next n e = e
+verdict-done (Refused r) o next n e = refl
+
+-- Where the checks refuse, every call under a usable key with those lengths answers what is said.
+pub edge-refused : (dir : Direction) (m : Sm4CipherMode) → m .cipher .answer ≡ Key → (label d iv o : List ℕ)
+    → messageCheck Key dir (m .mode) (lengthsOf label d iv o) ≢ Passed
+    → modeCall dir m label d iv o .head ≡ said dir (m .mode) (lengthsOf label d iv o)
+unfolding modeCall
+edge-refused dir m k label d iv o h =
+    rw k (verdict-refused (messageCheck Key dir (m .mode) (lengthsOf label d iv o)) o (modeResult (m .mode) dir (m .cipher .rk) label d iv o) _ h)
+
+-- And of encryption it is the whole report.
+pub edge-encrypted : (m : Sm4CipherMode) → m .cipher .answer ≡ Key → (label d iv o : List ℕ)
+    → modeCall Encrypt m label d iv o .head ≡ said Encrypt (m .mode) (lengthsOf label d iv o)
+unfolding modeCall
+edge-encrypted m k label d iv o =
+    let rk = m .cipher .rk in
+    let size = ap finished (length-encrypted (m .mode) rk label d iv) in
+    let head = ap (λ (x : Outcome). x .head) (encrypts (m .mode) rk label d iv o) ∙ size in
+    rw k (verdict-done (messageCheck Key Encrypt (m .mode) (lengthsOf label d iv o)) o (modeResult (m .mode) Encrypt rk label d iv o) _ head)

@@ -1,0 +1,87 @@
+-- Which number a call answers: for each call document 01's conditions, a row each, in the order in which they are asked.
+use mathlib.Core.Path.{_≡_}
+use mathlib.Core.Logic.{_⊎_}
+use mathlib.Core.Bool.{Bool, true, false, not, cond, _&&_}
+use mathlib.Core.List.{List, [], _∷_, map}
+use Prim.Native.Nat.{ℕ, _%_}
+use lib.Dec.{eqb, ltb}
+use lib.ListN.{length}
+use Rattle.cipher.specs.Sm4.{roundKeys}
+use Rattle.cbc.specs.Open.{lastByte, namesPadding, cbcText}
+use Rattle.gcm.specs.Gcm.{hashKey, J0, opensUnder}
+use Rattle.cipher_mode.specs.declared.CipherMode.{CipherMode}
+use Rattle.cipher_mode.specs.declared.CipherMode.the-variants.{Cfb, Ofb, Ctr, Cbc, Gcm}
+use Rattle.cipher_mode.specs.declared.Direction.the-variants.{Encrypt, Decrypt}
+use Rattle.cipher_mode.specs.Tables.{limit, limitOf, roomOf}
+use Rattle.luossavin.specs.Host.{modeOf}
+
+-- a condition, and the number that is answered where it is the first to hold
+pub record Row : Type 0 where
+  pub holds : Bool
+  pub number : ℕ
+
+abbrev row : Bool → ℕ → Row
+row holds number = record { holds = holds; number = number }
+
+-- The number of the first row whose condition holds, 0 where none does: so a number is answered exactly when its condition
+-- holds and no earlier one does.
+abbrev pub firstOf : List Row → ℕ
+firstOf [] = 0
+firstOf (r ∷ rows) = cond (r .holds) (r .number) (firstOf rows)
+
+-- the numbers that a list of rows can give
+abbrev pub numbersOf : List Row → List ℕ
+numbersOf rows = 0 ∷ map (λ (r : Row). r .number) rows
+
+abbrev pub Among : ℕ → List ℕ → Type 0
+Among n [] = ⊥
+Among n (k ∷ ks) = (n ≡ k) ⊎ Among n ks
+
+abbrev pub isCbc : CipherMode → Bool
+isCbc Cfb = false
+isCbc Ofb = false
+isCbc Ctr = false
+isCbc Cbc = true
+isCbc Gcm = false
+
+abbrev pub isGcm : CipherMode → Bool
+isGcm Cfb = false
+isGcm Ofb = false
+isGcm Ctr = false
+isGcm Cbc = false
+isGcm Gcm = true
+
+-- the exported call on one block, either way
+abbrev pub blockRows : List ℕ → List ℕ → List ℕ → List Row
+blockRows key b o =
+    row (not (eqb (length key) 16)) 1
+    ∷ row (not (eqb (length b) 16)) 1
+    ∷ row (ltb (length o) 16) 6
+    ∷ []
+
+-- the exported encryption of a message
+abbrev pub encryptRows : ℕ → List ℕ → List ℕ → List ℕ → List ℕ → List ℕ → List Row
+encryptRows mode key label d iv o =
+    row (ltb 4 mode) 7
+    ∷ row (not (eqb (length key) 16)) 1
+    ∷ row (not (eqb (length iv) 16)) 1
+    ∷ row (isGcm (modeOf mode) && ltb limit (length label)) 5
+    ∷ row (ltb limit (length d)) 5
+    ∷ row (ltb (length o) (roomOf (modeOf mode) Encrypt (length d))) 6
+    ∷ []
+
+-- the exported decryption of a message
+abbrev pub decryptRows : ℕ → List ℕ → List ℕ → List ℕ → List ℕ → List ℕ → List Row
+decryptRows mode key label d iv o =
+    row (ltb 4 mode) 7
+    ∷ row (not (eqb (length key) 16)) 1
+    ∷ row (not (eqb (length iv) 16)) 1
+    ∷ row (isGcm (modeOf mode) && ltb limit (length label)) 5
+    ∷ row (ltb (limitOf Decrypt (modeOf mode)) (length d)) 5
+    ∷ row (isCbc (modeOf mode) && eqb (length d) 0) 2
+    ∷ row (isCbc (modeOf mode) && not (eqb (length d % 16) 0)) 2
+    ∷ row (isGcm (modeOf mode) && ltb (length d) 16) 2
+    ∷ row (ltb (length o) (roomOf (modeOf mode) Decrypt (length d))) 6
+    ∷ row (isCbc (modeOf mode) && not (namesPadding (lastByte (cbcText (roundKeys key) iv d)))) 3
+    ∷ row (isGcm (modeOf mode) && not (opensUnder (roundKeys key) (hashKey (roundKeys key)) (J0 (roundKeys key) iv) label d)) 4
+    ∷ []
