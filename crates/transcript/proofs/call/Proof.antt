@@ -1,5 +1,5 @@
--- `transcript::call` leaves what the call that was asked for leaves: the cipher is the key's in the mode, the label that of job and edition, and
--- the direction the command's.
+-- `transcript::call` leaves what the call that was asked for leaves: the cipher is the key's in the mode, the label that of job and
+-- edition, and the direction the command's.
 -- Assumes nothing.
 use mathlib.Core.Path.{ap, _∙_}
 use Rattle.transcript.specs.Called.{called}

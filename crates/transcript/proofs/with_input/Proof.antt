@@ -1,4 +1,5 @@
--- `transcript::with_input` is safe. Where the call is done, the length that it reports lies within its output, so that the result is a part of it.
+-- `transcript::with_input` is safe. Where the call is done, the length that it reports lies within its output, so that the
+-- result is a part of it.
 -- Assumes nothing.
 use native.Mathlib.Omega.{arith}
 use Rattle.transcript.proofs.Within.{called-fits}
