@@ -192,11 +192,7 @@ fn put_over(name: &[u8], at: usize, key_file: &[u8], bytes: &[u8]) -> u8 {
     if holds(name, key_file) {
         return say::holds_key(name);
     }
-    let kept = kept_of(at);
-    if !kept.known {
-        return say::not_known(name);
-    }
-    replace(name, kept, bytes)
+    replace(name, kept_of(at), bytes)
 }
 
 // Whether a name is a link's, which is not followed, and not replaced by a file. C wants a path that ends in 0.
@@ -301,6 +297,9 @@ fn part_name(name: &[u8], part: &mut [u8]) -> usize
 
 // Writes a file beside `name`, and gives it that name once all is in it.
 fn replace(name: &[u8], kept: Kept, bytes: &[u8]) -> u8 {
+    if !kept.known {
+        return say::not_known(name);
+    }
     let mut word = word_room();
     let n = part_name(name, &mut word);
     let part = &word[..n];
