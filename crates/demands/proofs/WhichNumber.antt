@@ -25,7 +25,8 @@ use Rattle.cipher_mode.specs.declared.checks.Checked.the-variants.{Passed, Refu
 use Rattle.cipher_mode.specs.Answer.{refusalNumber}
 use Rattle.cipher_mode.specs.Key.{newCipher, newCipherMode}
 use Rattle.cipher_mode.specs.Tables.{limit, limitOf, roomOf}
-use Rattle.cipher_mode.specs.Checks.{refuse, andThen, keyAndIv, labelCheck, shapeCheck, dataCheck, roomCheck, messageCheck, blockCheck, checked}
+use Rattle.cipher_mode.specs.Checks.{refuse, andThen, keyAndIv, labelCheck, shapeCheck, dataCheck}
+use Rattle.cipher_mode.specs.Checks.{roomCheck, messageCheck, blockCheck, checked}
 use Rattle.cipher_mode.specs.Calls.{blockCall, modeResult, lengthsOf, modeCall}
 use Rattle.luossavin.specs.Host.{modeOf, hostBlockCall, hostModeCall}
 use Rattle.demands.specs.WhichNumber.{Row, Among, isCbc, isGcm, firstOf, numbersOf, blockRows, encryptRows, decryptRows}
@@ -124,7 +125,8 @@ from-iv dir m iv label d room n =
 -- by the test t on the key's size
 by-key : (key : List ℕ) (t : Bool) → eqb (length key) 16 ≡ t → (dir : Direction) (m : CipherMode) (label d iv o : List ℕ)
     → modeCall dir (newCipherMode key m) label d iv o .head .number
-    ≡ cond (not t) 1 (behind (messageCheck Key dir m (lengthsOf label d iv o)) (modeResult m dir (roundKeys key) label d iv o .head .number))
+    ≡ cond (not t) 1 (behind (messageCheck Key dir m (lengthsOf label d iv o))
+    (modeResult m dir (roundKeys key) label d iv o .head .number))
 unfolding modeCall newCipherMode newCipher messageCheck keyAndIv
 by-key key true e dir m label d iv o = rw e (number-checked (messageCheck Key dir m (lengthsOf label d iv o)) o _)
 by-key key false e dir m label d iv o = rw e
