@@ -80,9 +80,10 @@ fn decrypt_step(t: &[u32], back: [u32; 32], s: [u32; 4], data: &[u8], out: &mut 
     ensures { λ r. ⌜ unwords r ≡ cbcDecrypt (reverse back) .next (unwords s) (take 16 (now («data» .entry))) ⌝ }
     ensures { λ _. ⌜ now (out .exit) ≡ cbcDecrypt (reverse back) .block (unwords s) (take 16 (now («data» .entry))) ++ drop 16 (now (out .entry)) ⌝ }
 {
-    let c = block::split_block(data);
-    block::put_block(block::block_xor(cipher::encrypt(t, back, c), s), out);
-    c
+    let p = cipher::encrypt(t, back, block::split_block(data));
+    block::put_block(block::block_xor(p, s), out);
+    // read once more, so that it need not be kept while the cipher works
+    block::split_block(data)
 }
 
 // The full blocks of `data`, decrypted to the front of `out`.

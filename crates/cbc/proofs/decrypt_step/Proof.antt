@@ -18,7 +18,7 @@ use Rattle.cbc.proofs.decrypt_step.Tie as tie
 
 returns : tie.Need-returns
 returns c =
-    let at-put-block = c .before .before in
+    let at-put-block = c .before .before .before in
     let at-xor = at-put-block .before .before in
     let at-encrypt = at-xor .before in
     let at-split = at-encrypt .before in
@@ -31,7 +31,7 @@ returns c =
     let small : (i : ℕ) → getD d i 0 < 256 = λ i. omega (arith, at-data .shared-slice-known2 .given i) in
     let bytes = below-each 256 d small in
     let decrypted = decrypted-front (reverse (a .back)) d (a .s) (S .pre .1 .0) bytes four in (
-      rw (at-split .split-block .ensures) (unwords-front d (S .pre .1 .0) bytes),
+      rw (c .split-block2 .ensures) (unwords-front d (S .pre .1 .0) bytes),
       at-put-block .put-block .ensures
           ∙ rw (at-xor .block-xor .ensures, at-encrypt .encrypt .ensures, at-split .split-block .ensures)
           (rw (decrypt-turned (a .back) (words d)) at (ap (λ (l : List ℕ). l ++ drop 16 (now (a .out))) decrypted)),
@@ -41,5 +41,5 @@ pub decrypt-step-spec : {M : Type 1} → statement M
 decrypt-step-spec =
     tie.close
     (tie.spec
-    (λ c κs. search needs) (λ c κs. search needs) (λ c κs. search needs) (λ c κs. search needs) (λ c. search needs)
-    returns)
+    (λ c κs. search needs) (λ c κs. search needs) (λ c κs. search needs) (λ c κs. search needs) (λ c κs. search needs)
+    (λ c. search needs) returns)
