@@ -1,10 +1,15 @@
 // Reading files whole, and putting a new one in OUT's place.
 ghost use mathlib.Core.Path.{_≡_};
 ghost use Rattle.io.specs.Counts.{Counts};
+use crate::BESIDE;
+use crate::COMMAND;
 use crate::DONE;
 use crate::FILES;
+use crate::FRESH;
+use crate::KEPT;
 use crate::say;
 use crate::word_room;
+use typed::decimal::Number;
 
 // How many bytes were read, and the status to end with where they could not be.
 pub struct Read {
@@ -43,11 +48,23 @@ fn read_all(fd: i32, buf: &mut [u8]) -> Read
     }
 }
 
+// Whether a name stands for standard input or output.
 pub fn is_dash(name: &[u8]) -> bool {
-    if name.len() != 1 {
-        return false;
-    }
-    name[0] == b'-'
+    typed::names::alike(name, b"-")
+}
+
+// Whether IN, at this place, is standard input.
+pub fn is_input(at: usize) -> bool {
+    let mut word = word_room();
+    let n = os::arg(at, &mut word);
+    is_dash(&word[..n])
+}
+
+// Whether the key, said at this place, is standard input.
+pub fn is_key_input(at: usize) -> bool {
+    let mut word = word_room();
+    let n = os::arg(at, &mut word);
+    is_dash(typed::words::value(&word[..n]))
 }
 
 // Reads what was opened under a name whole, and closes it. `act` is what it is called where that fails.
@@ -66,13 +83,14 @@ fn read_open(fd: i32, act: &[u8], name: &[u8], buf: &mut [u8]) -> Read
     read
 }
 
-// Reads the key file that an argument names.
+// Reads the key file that an argument names, or standard input.
 pub fn read_key(at: usize, buf: &mut [u8]) -> Read
     ensures { λ r. ⌜ Counts (r .length) (now (buf .exit)) ⌝ }
 {
     let mut word = word_room();
     let n = os::arg(at, &mut word);
-    read_open(os::open_read(&word[..n]), b"read the key ", &word[..n], buf)
+    let name = typed::words::value(&word[..n]);
+    read_open(open_input(name), b"read the key ", name, buf)
 }
 
 fn open_input(name: &[u8]) -> i32 {
@@ -107,20 +125,68 @@ fn write_out(fd: i32, bytes: &[u8]) -> bool {
     true
 }
 
-// Writes the bytes to the file that an argument names, or to standard output.
-pub fn put(at: usize, beside: usize, bytes: &[u8]) -> u8 {
+// Writes the bytes to the file that an argument names, or to standard output. A file is replaced; a pipe, a terminal or a
+// device is written straight: only a file has a place 1 to go to. `shy`: a terminal is spared the bytes.
+pub fn put(at: usize, shy: bool, key_file: &[u8], bytes: &[u8]) -> u8 {
     let mut word = word_room();
     let n = os::arg(at, &mut word);
-    if is_dash(&word[..n]) {
-        if !io::write_all(libc::STDOUT_FILENO, bytes) {
-            return say::cannot(b"write to ", b"standard output");
+    let name = &word[..n];
+    if is_dash(name) {
+        return put_straight(libc::STDOUT_FILENO, b"standard output", shy, bytes);
+    }
+    if is_link(name) {
+        return say::is_link(name);
+    }
+    let there = os::open_append(name);
+    if there < 0 {
+        if os::errno() != libc::ENOENT {
+            return say::cannot(b"write ", name);
         }
-        return DONE;
+        return replace(name, fresh(), bytes);
     }
-    if is_link(&word[..n]) {
-        return say::is_link(&word[..n]);
+    if libc::lseek(there, 1, libc::SEEK_SET) == 1 {
+        libc::close(there);
+        return put_over(name, at, key_file, bytes);
     }
-    put_file(&word[..n], beside, bytes)
+    put_straight(there, name, shy, bytes)
+}
+
+// Writes to what is no file.
+fn put_straight(fd: i32, name: &[u8], shy: bool, bytes: &[u8]) -> u8 {
+    if shy {
+        if libc::isatty(fd) == 1 {
+            return say::terminal();
+        }
+    }
+    if !write_out(fd, bytes) {
+        return say::cannot(b"write ", name);
+    }
+    DONE
+}
+
+// Whether a file holds these bytes and no others, as far as a key file goes.
+fn holds(name: &[u8], bytes: &[u8]) -> bool {
+    let fd = os::open_read(name);
+    if fd < 0 {
+        return false;
+    }
+    let mut file = io::buffer();
+    let read = read_all(fd, &mut file);
+    libc::close(fd);
+    let n = read.length;
+    typed::names::alike(&file[..n], bytes)
+}
+
+// Replaces a file, unless it is the key's: a file that holds what the key file holds is that one or as good.
+fn put_over(name: &[u8], at: usize, key_file: &[u8], bytes: &[u8]) -> u8 {
+    if holds(name, key_file) {
+        return say::holds_key(name);
+    }
+    let kept = kept_of(at);
+    if !kept.known {
+        return say::not_known(name);
+    }
+    replace(name, kept, bytes)
 }
 
 // Whether a name is a link's, which is not followed, and not replaced by a file. C wants a path that ends in 0.
@@ -135,28 +201,84 @@ fn is_link(name: &[u8]) -> bool {
     libc::readlink(&path, &mut to) >= 0
 }
 
-// Replaces a file, and writes a pipe, a terminal or a device straight: only a file has a place 1 to go to.
-fn put_file(name: &[u8], beside: usize, bytes: &[u8]) -> u8 {
-    let there = os::open_append(name);
-    if there < 0 {
-        if os::errno() != libc::ENOENT {
-            return say::cannot(b"write ", name);
-        }
-        return replace(name, beside, bytes);
-    }
-    if libc::lseek(there, 1, libc::SEEK_SET) == 1 {
-        libc::close(there);
-        return replace(name, beside, bytes);
-    }
-    if !write_out(there, bytes) {
-        return say::cannot(b"write ", name);
-    }
-    libc::close(there);
-    DONE
+// The permissions of a file, its owner and its group, where they are known.
+pub struct Kept {
+    pub known: bool,
+    pub mode: u32,
+    pub owner: u32,
+    pub group: u32,
 }
 
-// The name under which a file is written: its own, and what the argument adds.
-fn part_name(name: &[u8], beside: usize, part: &mut [u8]) -> usize
+fn unknown() -> Kept {
+    Kept {
+        known: false,
+        mode: 0,
+        owner: 0,
+        group: 0,
+    }
+}
+
+// What a new file gets: the system leaves an owner and a group of this number as they are.
+fn fresh() -> Kept {
+    let mut word = io::buffer();
+    let n = os::arg(FRESH, &mut word);
+    let read = typed::decimal::read(&word[..n], 511);
+    let Number::Is(mode) = read else {
+        return unknown();
+    };
+    Kept {
+        known: true,
+        mode,
+        owner: u32::MAX,
+        group: u32::MAX,
+    }
+}
+
+// What the launcher says of a file: permissions, owner and group, in 4, 10 and 10 decimal digits.
+fn read_kept(digits: &[u8]) -> Kept {
+    if digits.len() != 24 {
+        return unknown();
+    }
+    let read = typed::decimal::read(&digits[0..4], 4095);
+    let Number::Is(mode) = read else {
+        return unknown();
+    };
+    let read = typed::decimal::read(&digits[4..14], u32::MAX);
+    let Number::Is(owner) = read else {
+        return unknown();
+    };
+    let read = typed::decimal::read(&digits[14..24], u32::MAX);
+    let Number::Is(group) = read else {
+        return unknown();
+    };
+    Kept {
+        known: true,
+        mode,
+        owner,
+        group,
+    }
+}
+
+// What the launcher says of the file that the argument at this place names.
+fn kept_of(at: usize) -> Kept {
+    let mut word = io::buffer();
+    let n = os::arg(KEPT, &mut word);
+    if at < COMMAND {
+        return unknown();
+    }
+    let words = at - COMMAND;
+    if words > n {
+        return unknown();
+    }
+    let from = words * 24;
+    if from + 24 > n {
+        return unknown();
+    }
+    read_kept(&word[from..from + 24])
+}
+
+// The name under which a file is written: its own, and what the launcher adds.
+fn part_name(name: &[u8], part: &mut [u8]) -> usize
     ensures { λ r. ⌜ Counts r (now (part .exit)) ⌝ }
 {
     let n = name.len();
@@ -164,28 +286,47 @@ fn part_name(name: &[u8], beside: usize, part: &mut [u8]) -> usize
         return 0;
     }
     bytes::copy(name, part);
-    n + os::arg(beside, &mut part[n..])
+    n + os::arg(BESIDE, &mut part[n..])
 }
 
 // Writes a file beside `name`, and gives it that name once all is in it.
-fn replace(name: &[u8], beside: usize, bytes: &[u8]) -> u8 {
+fn replace(name: &[u8], kept: Kept, bytes: &[u8]) -> u8 {
     let mut word = word_room();
-    let n = part_name(name, beside, &mut word);
+    let n = part_name(name, &mut word);
     let part = &word[..n];
     let fd = os::create(part);
     if fd < 0 {
-        return say::cannot(b"write ", name);
+        return say::cannot_by(name, part);
     }
-    if !write_out(fd, bytes) {
-        let status = say::cannot(b"write ", name);
-        os::unlink(part);
-        return status;
-    }
+    let status = fill(fd, name, part, kept, bytes);
     libc::close(fd);
+    if status != DONE {
+        return undo(part, status);
+    }
     if os::rename(part, name) < 0 {
-        let status = say::cannot(b"write ", name);
-        os::unlink(part);
-        return status;
+        return undo(part, say::cannot_by(name, part));
     }
     DONE
+}
+
+// Writes the bytes, and then gives the file what it keeps: until then its owner alone may read it.
+fn fill(fd: i32, name: &[u8], part: &[u8], kept: Kept, bytes: &[u8]) -> u8 {
+    if !write_out(fd, bytes) {
+        return say::cannot_by(name, part);
+    }
+    if libc::fchown(fd, kept.owner, kept.group) < 0 {
+        return say::cannot_keep(name, kept.owner, kept.group);
+    }
+    if libc::fchmod(fd, kept.mode) < 0 {
+        return say::cannot_by(name, part);
+    }
+    DONE
+}
+
+// Removes what was written beside OUT.
+fn undo(part: &[u8], status: u8) -> u8 {
+    if os::unlink(part) < 0 {
+        say::cannot(b"remove ", part);
+    }
+    status
 }

@@ -19,6 +19,7 @@ use typed::limits::LONGEST_SEALED;
 use typed::line::Fault;
 use typed::line::Line;
 use typed::things::EDITION;
+use typed::things::FORCE;
 use typed::things::IN;
 use typed::things::IV;
 use typed::things::JOB;
@@ -41,11 +42,18 @@ const FILES: u8 = 66;
 // The descriptor on which the launcher waits for the status line.
 const REPORT: i32 = 9;
 
-// The arguments: after the program's name what the launcher adds to OUT's name while OUT is being written, and then the
-// person's words, of which the first is the command.
+// The arguments: the name by which the tool was called; what the launcher adds to OUT's name while OUT is being written;
+// the permissions of a new file, as a number; of each of the person's words what the file has that it names; and then
+// these words, of which the first is the command.
+const TOOL: usize = 0;
+
 const BESIDE: usize = 1;
 
-const COMMAND: usize = 2;
+const FRESH: usize = 2;
+
+const KEPT: usize = 3;
+
+const COMMAND: usize = 4;
 
 // What is asked for: the words are in order, but for the files and the sizes of key and IV. Of what is read later
 // `places` has the places of the words. `launcher` is the process that waits for the status line.
@@ -64,8 +72,10 @@ fn main() {
 }
 
 // Room for any argument: the system hands over none that is longer.
-fn word_room() -> [u8; 131072] {
-    [0u8; 131072]
+const WORD_ROOM: usize = 131072;
+
+fn word_room() -> [u8; WORD_ROOM] {
+    [0u8; WORD_ROOM]
 }
 
 // One byte more than the longest file that a command reads, so that a longer one shows.
@@ -122,7 +132,7 @@ fn with_mode(line: Line) -> u8 {
     let places = line.places;
     let mut word = word_room();
     let n = os::arg(places[MODE], &mut word);
-    let name = typed::words::read_mode(&word[..n]);
+    let name = typed::words::read_mode(typed::words::value(&word[..n]));
     if let ModeName::Unknown = name {
         return say::wrong(MODE, places[MODE]);
     }
@@ -151,7 +161,7 @@ fn number_at(at: usize, most: u32) -> Number
 {
     let mut word = word_room();
     let n = os::arg(at, &mut word);
-    typed::decimal::read(&word[..n], most)
+    typed::decimal::read(typed::words::value(&word[..n]), most)
 }
 
 fn with_label(line: Line) -> u8 {
@@ -180,7 +190,7 @@ fn with_iv(asked: Asked) -> u8 {
     let mut word = word_room();
     let n = os::arg(places[IV], &mut word);
     let mut iv = io::large_buffer();
-    let read = typed::hex::read(&word[..n], &mut iv);
+    let read = typed::hex::read(typed::words::value(&word[..n]), &mut iv);
     let Hex::Bytes(k) = read else {
         return say::wrong(IV, places[IV]);
     };
@@ -190,6 +200,11 @@ fn with_iv(asked: Asked) -> u8 {
 // A file that fills the buffer is no key, whatever follows.
 fn with_key(asked: Asked, iv: &[u8]) -> u8 {
     let places = asked.places;
+    if files::is_input(places[IN]) {
+        if files::is_key_input(places[KEY]) {
+            return say::one_input();
+        }
+    }
     let mut file = io::buffer();
     let read = files::read_key(places[KEY], &mut file);
     if read.status != DONE {
@@ -198,10 +213,11 @@ fn with_key(asked: Asked, iv: &[u8]) -> u8 {
     let n = read.length;
     let mut key = io::buffer();
     let k = typed::key::read(&file[..n], &mut key);
-    with_input(asked, &key[0..k], iv)
+    with_input(asked, &file[..n], &key[0..k], iv)
 }
 
-fn with_input(asked: Asked, key: &[u8], iv: &[u8]) -> u8 {
+// `file` is what the key file holds, and `key` the key that it spells.
+fn with_input(asked: Asked, file: &[u8], key: &[u8], iv: &[u8]) -> u8 {
     let command = asked.command;
     let places = asked.places;
     let mut data = file_room();
@@ -214,7 +230,7 @@ fn with_input(asked: Asked, key: &[u8], iv: &[u8]) -> u8 {
     let answer = call(asked, key, iv, &data[..n], &mut out);
     let ending = answer.ending;
     match ending {
-        Ending::Done(k) => deliver(asked, &out[0..k]),
+        Ending::Done(k) => deliver(asked, file, &out[0..k]),
         Ending::Refused(refusal) => refuse(refusal, asked, key.len(), iv.len(), n),
     }
 }
@@ -222,8 +238,10 @@ fn with_input(asked: Asked, key: &[u8], iv: &[u8]) -> u8 {
 // Says why, of a key, an IV and data of these lengths.
 fn refuse(refusal: Refusal, asked: Asked, key: usize, iv: usize, data: usize) -> u8 {
     let command = asked.command;
+    let places = asked.places;
+    say::refusal(places[IN]);
     match refusal {
-        Refusal::ErrorBlockSize => say::block_size(key, iv),
+        Refusal::ErrorBlockSize => say::block_size(places[KEY], key, iv),
         Refusal::ErrorDataLen => say::data_len(command, data),
         Refusal::InvalidLastU8 => say::last_byte(),
         Refusal::InvalidTag => say::tag(asked.job, asked.edition),
@@ -255,9 +273,19 @@ fn call(asked: Asked, key: &[u8], iv: &[u8], data: &[u8], out: &mut [u8]) -> Ans
     Sm4CipherMode::new(key, mode).call(direction_of(command), &label, data, iv, out)
 }
 
+// Whether a terminal is spared what the command writes.
+fn is_shy(asked: Asked) -> bool {
+    let command = asked.command;
+    let places = asked.places;
+    if places[FORCE] != 0 {
+        return false;
+    }
+    typed::words::writes_sealed(command)
+}
+
 // Writes what came of it, or says that the file opens. Whoever has killed the launcher has killed the run: then nothing
 // is written any more.
-fn deliver(asked: Asked, bytes: &[u8]) -> u8 {
+fn deliver(asked: Asked, key_file: &[u8], bytes: &[u8]) -> u8 {
     let command = asked.command;
     let places = asked.places;
     if libc::getppid() != asked.launcher {
@@ -266,5 +294,5 @@ fn deliver(asked: Asked, bytes: &[u8]) -> u8 {
     if let Command::Opens = command {
         return say::opens(places[IN], asked.job, asked.edition);
     }
-    files::put(places[OUT], BESIDE, bytes)
+    files::put(places[OUT], is_shy(asked), key_file, bytes)
 }

@@ -4,7 +4,9 @@ use crate::COMMAND;
 use crate::DONE;
 use crate::FILES;
 use crate::LIMIT;
+use crate::TOOL;
 use crate::USAGE;
+use crate::WORD_ROOM;
 use crate::files;
 use crate::word_room;
 use libc::STDERR_FILENO;
@@ -27,16 +29,56 @@ fn number(n: u64) {
     io::print_decimal(STDERR_FILENO, n);
 }
 
+// Room for any name as it is shown: a byte of it may take four.
+const SHOWN_ROOM: usize = 4 * WORD_ROOM;
+
+fn shown_room() -> [u8; SHOWN_ROOM] {
+    [0u8; SHOWN_ROOM]
+}
+
+// Writes a name so that nothing in it can do harm.
+fn name(fd: i32, s: &[u8]) {
+    if s.len() > WORD_ROOM {
+        return;
+    }
+    let mut room = shown_room();
+    let n = typed::shown::put(s, &mut room);
+    io::write_all(fd, &room[0..n]);
+}
+
 fn word(at: usize) {
     let mut room = word_room();
     let n = os::arg(at, &mut room);
-    text(&room[..n]);
+    name(STDERR_FILENO, &room[..n]);
 }
 
 fn quoted(at: usize) {
     text(b"\"");
     word(at);
     text(b"\"");
+}
+
+// The value that the word at a place says.
+fn value(at: usize) {
+    let mut room = word_room();
+    let n = os::arg(at, &mut room);
+    name(STDERR_FILENO, typed::words::value(&room[..n]));
+}
+
+// What a file that is read is called.
+fn file(fd: i32, s: &[u8]) {
+    if files::is_dash(s) {
+        io::write_all(fd, b"standard input");
+        return;
+    }
+    name(fd, s);
+}
+
+// What IN, at this place, is called.
+fn input(fd: i32, at: usize) {
+    let mut room = word_room();
+    let n = os::arg(at, &mut room);
+    file(fd, &room[..n]);
 }
 
 // "luossavin seal: "
@@ -46,18 +88,28 @@ fn start() {
     text(b": ");
 }
 
+// The tool as it was called, which the launcher has seen to be harmless.
+fn tool() {
+    let mut room = word_room();
+    let n = os::arg(TOOL, &mut room);
+    text(b"\nFor an example: ");
+    text(&room[..n]);
+}
+
 // Ends a sentence on words that are wrong.
 fn end() -> u8 {
-    text(b"\nFor an example: ./luossavin ");
+    tool();
+    text(b" help ");
     word(COMMAND);
-    text(b" --help\n");
+    text(b"\n");
     USAGE
 }
 
 pub fn no_command() -> u8 {
-    text(b"luossavin: expected seal, open, opens, encrypt or decrypt, not ");
+    text(b"luossavin: expected seal, open, opens, encrypt, decrypt, demo or help, not ");
     quoted(COMMAND);
-    text(b"\nFor an example: ./luossavin --help\n");
+    tool();
+    text(b" help\n");
     USAGE
 }
 
@@ -83,8 +135,29 @@ pub fn missing(thing: usize) -> u8 {
 
 pub fn wrong(thing: usize, at: usize) -> u8 {
     expected(thing);
+    text(b", not \"");
+    value(at);
+    text(b"\"");
+    end()
+}
+
+// An option stands where the value of the one before it was expected.
+fn no_value(thing: usize, at: usize) -> u8 {
+    expected(thing);
     text(b", not ");
     quoted(at);
+    end()
+}
+
+pub fn one_input() -> u8 {
+    start();
+    text(b"expected standard input for one of --key and IN, not for both");
+    end()
+}
+
+pub fn terminal() -> u8 {
+    start();
+    text(b"expected OUT that is no terminal, since what is written is no text, or --force");
     end()
 }
 
@@ -92,7 +165,7 @@ pub fn wrong(thing: usize, at: usize) -> u8 {
 pub fn fault(line: Line) -> u8 {
     let fault = line.fault;
     match fault {
-        Fault::NoValue => wrong(line.next, line.at),
+        Fault::NoValue => no_value(line.next, line.at),
         Fault::SaidTwice => unexpected(b"only once ", line.at),
         Fault::OneTooMany => unexpected(b"no further word, not ", line.at),
         _ => no_option(line),
@@ -109,30 +182,71 @@ fn unexpected(what: &[u8], at: usize) -> u8 {
 
 fn no_option(line: Line) -> u8 {
     let command = line.command;
-    if typed::words::wants(command, MODE) {
-        return unexpected(b"--mode, --key or --iv, not ", line.at);
+    match command {
+        Command::Seal => { unexpected(b"--key, --iv, --job, --edition or --force, not ", line.at) }
+        Command::Encrypt => unexpected(b"--mode, --key, --iv or --force, not ", line.at),
+        Command::Decrypt => unexpected(b"--mode, --key or --iv, not ", line.at),
+        _ => unexpected(b"--key, --iv, --job or --edition, not ", line.at),
     }
-    unexpected(b"--key, --iv, --job or --edition, not ", line.at)
 }
 
 // What the system kept from being read or written, by its last error.
 pub fn cannot(act: &[u8], what: &[u8]) -> u8 {
     text(b"luossavin: cannot ");
     text(act);
-    os::fail(what);
+    file(STDERR_FILENO, what);
+    os::fail(b"");
     FILES
 }
 
-pub fn is_link(what: &[u8]) -> u8 {
+// OUT cannot be written under the name that it has until it is whole.
+pub fn cannot_by(what: &[u8], part: &[u8]) -> u8 {
     text(b"luossavin: cannot write ");
-    text(what);
-    text(b": it is a link; expected the file itself, or - for standard output\n");
+    name(STDERR_FILENO, what);
+    text(b" by way of ");
+    name(STDERR_FILENO, part);
+    os::fail(b"");
     FILES
+}
+
+pub fn cannot_keep(what: &[u8], owner: u32, group: u32) -> u8 {
+    text(b"luossavin: cannot write ");
+    name(STDERR_FILENO, what);
+    text(b", which belongs to user ");
+    number(owner as u64);
+    text(b" and group ");
+    number(group as u64);
+    text(b", and a new file cannot be given to them");
+    os::fail(b"");
+    FILES
+}
+
+// OUT cannot be written, for a reason that is not the system's.
+fn not_written(what: &[u8], why: &[u8]) -> u8 {
+    text(b"luossavin: cannot write ");
+    name(STDERR_FILENO, what);
+    text(why);
+    FILES
+}
+
+pub fn not_known(what: &[u8]) -> u8 {
+    not_written(what, b": its permissions and its owner are not known\n")
+}
+
+pub fn holds_key(what: &[u8]) -> u8 {
+    not_written(what, b": it holds the key; expected another file\n")
+}
+
+pub fn is_link(what: &[u8]) -> u8 {
+    not_written(
+        what,
+        b": it is a link; expected the file itself, or - for standard output\n",
+    )
 }
 
 pub fn over_limit(at: usize, most: usize) -> u8 {
     start();
-    quoted(at);
+    input(STDERR_FILENO, at);
     text(b" is longer than the ");
     number(most as u64);
     text(b" bytes that this tool takes; nothing was written\n");
@@ -141,29 +255,33 @@ pub fn over_limit(at: usize, most: usize) -> u8 {
 
 // The answer to `opens`.
 pub fn opens(at: usize, job: u32, edition: u16) -> u8 {
-    let mut word = word_room();
-    let n = os::arg(at, &mut word);
-    if files::is_dash(&word[..n]) {
-        io::write_all(STDOUT_FILENO, b"standard input");
-    } else {
-        io::write_all(STDOUT_FILENO, &word[..n]);
-    }
+    input(STDOUT_FILENO, at);
     io::write_all(STDOUT_FILENO, b" opens under job ");
     io::print_decimal(STDOUT_FILENO, job as u64);
     io::write_all(STDOUT_FILENO, b", edition ");
     io::print_decimal(STDOUT_FILENO, edition as u64);
     if !io::write_all(STDOUT_FILENO, b"\n") {
-        return cannot(b"write to ", b"standard output");
+        return cannot(b"write ", b"standard output");
     }
     DONE
 }
 
-// The refusals, by number.
+// The refusals: the tool and the file that each is about, and then by number what it says.
 
-pub fn block_size(key: usize, iv: usize) -> u8 {
+pub fn refusal(at: usize) {
+    start();
+    input(STDERR_FILENO, at);
+    text(b": ");
+}
+
+pub fn block_size(at: usize, key: usize, iv: usize) -> u8 {
     text(b"1 ErrorBlockSize: ");
     if key != 16 {
-        text(b"the key file holds neither 16 raw bytes nor 32 hex digits\n");
+        text(b"the key file ");
+        value(at);
+        text(b" has ");
+        number(key as u64);
+        text(b" bytes, and neither 16 raw bytes nor 32 hex digits\n");
         return 1;
     }
     text(b"the IV has ");

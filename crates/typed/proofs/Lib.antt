@@ -8,3 +8,4 @@ mod Reckoning
 mod HexPairs
 mod HexKey
 mod Lacking
+mod Showing

@@ -8,4 +8,5 @@ pub mod Things
 pub mod Words
 pub mod Line
 pub mod Limits
+pub mod Shown
 pub mod Status

@@ -1,11 +1,11 @@
 -- What a line of words says: each thing that its command wants, once.
 use Prim.Native.Nat.{ℕ, zero, suc}
-use mathlib.Core.Bool.{Bool, true, false, cond, _&&_}
+use mathlib.Core.Bool.{Bool, true, false, cond, _&&_, _||_}
 use mathlib.Core.List.{List}
 use lib.Dec.{ltb, eqb}
 use lib.ListN.{getD, set, replicate}
-use Rattle.typed.specs.Things.{IN, OUT, NOTHING}
-use Rattle.typed.specs.Words.{optionOf, isOption, wantsOf}
+use Rattle.typed.specs.Things.{FORCE, IN, OUT, NOTHING}
+use Rattle.typed.specs.Words.{optionOf, isOption, endsOptions, hasValue, takesOf, wantsOf}
 use Rattle.typed.specs.declared.words.Command.{Command}
 use Rattle.typed.specs.declared.line.Fault.{Fault}
 use Rattle.typed.specs.declared.line.Fault.the-variants.{NoFault, NoSuchOption, NotOfThisCommand, SaidTwice, NoValue, OneTooMany}
@@ -13,7 +13,7 @@ use Rattle.typed.specs.declared.line.Line.{Line}
 
 -- a line of which only the command has been read
 abbrev pub lineOf : Command → Line
-lineOf c = record { command = c; places = replicate NOTHING 0; next = NOTHING; fault = NoFault; at = 0 }
+lineOf c = record { command = c; places = replicate NOTHING 0; next = NOTHING; files = false; fault = NoFault; at = 0 }
 
 abbrev pub sound : Fault → Bool
 sound NoFault = true
@@ -29,22 +29,26 @@ unsaid l k = eqb (getD (l .places) k 0) 0
 
 -- the word at place i says thing k
 abbrev pub said : Line → ℕ → ℕ → Line
-said l k i = record { command = l .command; places = set (l .places) k i; next = NOTHING; fault = l .fault; at = l .at }
+said l k i = record { command = l .command; places = set (l .places) k i; next = NOTHING; files = l .files; fault = l .fault; at = l .at }
 
 -- thing k is what the next word says
 abbrev pub await : Line → ℕ → Line
-await l k = record { command = l .command; places = l .places; next = k; fault = l .fault; at = l .at }
+await l k = record { command = l .command; places = l .places; next = k; files = l .files; fault = l .fault; at = l .at }
 
 -- the word at place i is at fault
 abbrev pub faulty : Line → Fault → ℕ → Line
-faulty l f i = record { command = l .command; places = l .places; next = l .next; fault = f; at = i }
+faulty l f i = record { command = l .command; places = l .places; next = l .next; files = l .files; fault = f; at = i }
 
--- option k at place i: one that there is, that the command wants, and that has not been said
-unfoldable pub afterOption : Line → ℕ → ℕ → Line
-afterOption l k i =
+-- every word from here on is a file
+abbrev pub filesFrom : Line → Line
+filesFrom l = record { command = l .command; places = l .places; next = l .next; files = true; fault = l .fault; at = l .at }
+
+-- option k at place i: one that there is, that the command takes, and that has not been said; v: it has its value in it
+unfoldable pub afterOption : Line → ℕ → Bool → ℕ → Line
+afterOption l k v i =
     cond (ltb k NOTHING)
-    (cond (wantsOf (l .command) k)
-    (cond (unsaid l k) (await l k) (faulty l SaidTwice i))
+    (cond (takesOf (l .command) k)
+    (cond (unsaid l k) (cond (v || eqb k FORCE) (said l k i) (await l k)) (faulty l SaidTwice i))
     (faulty l NotOfThisCommand i))
     (faulty l NoSuchOption i)
 
@@ -54,13 +58,21 @@ afterFile l i =
     cond (unsaid l IN) (said l IN i)
     (cond (wantsOf (l .command) OUT && unsaid l OUT) (said l OUT i) (faulty l OneTooMany i))
 
+-- a word where no value is awaited
+unfoldable pub afterFree : Line → List ℕ → ℕ → Line
+afterFree l w i =
+    cond (isOption w)
+    (cond (endsOptions w) (filesFrom l) (afterOption l (optionOf w) (hasValue w) i))
+    (afterFile l i)
+
 -- the line after the word w, at place i, has been read: the first fault stays
 unfoldable pub afterWord : Line → List ℕ → ℕ → Line
 afterWord l w i =
     cond (sound (l .fault))
+    (cond (l .files) (afterFile l i)
     (cond (ltb (l .next) NOTHING)
     (cond (isOption w) (faulty l NoValue i) (said l (l .next) i))
-    (cond (isOption w) (afterOption l (optionOf w) i) (afterFile l i)))
+    (afterFree l w i)))
     l
 
 -- a thing that the command wants and that has not been said

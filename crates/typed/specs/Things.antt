@@ -16,12 +16,16 @@ JOB = 3
 abbrev pub EDITION : ℕ
 EDITION = 4
 
+-- the one option that is said without a value
+abbrev pub FORCE : ℕ
+FORCE = 5
+
 abbrev pub IN : ℕ
-IN = 5
+IN = 6
 
 abbrev pub OUT : ℕ
-OUT = 6
+OUT = 7
 
 -- none of them, and so how many there are
 abbrev pub NOTHING : ℕ
-NOTHING = 7
+NOTHING = 8

@@ -1,12 +1,14 @@
 -- The words that a person can type: commands, modes, options.
-use Prim.Native.Nat.{ℕ}
-use mathlib.Core.Bool.{Bool, false, not, _&&_}
+use Prim.Native.Nat.{ℕ, suc}
+use mathlib.Core.Bool.{Bool, true, false, cond, not, _&&_}
 use mathlib.Core.List.{List, [], _∷_}
-use lib.Dec.{leb, eqb}
-use lib.ListN.{length, getD}
+use lib.Dec.{leb, ltb, eqb}
+use lib.ListN.{length, getD, take, drop}
+use Rattle.bytes.specs.Bytes.{indexOf}
+use Rattle.block.specs.Same.{same}
 use Rattle.typed.specs.Ascii.{bytes}
 use Rattle.typed.specs.Names.{placeIn}
-use Rattle.typed.specs.Things.{MODE, KEY, IV, JOB, EDITION, OUT, NOTHING}
+use Rattle.typed.specs.Things.{MODE, KEY, IV, JOB, EDITION, FORCE, OUT, NOTHING}
 use Rattle.typed.specs.declared.words.Command.{Command}
 use Rattle.typed.specs.declared.words.Command.the-variants.{Seal, Open, Opens, Encrypt, Decrypt, Unknown}
 use Rattle.typed.specs.declared.words.ModeName.{ModeName}
@@ -29,19 +31,59 @@ modeOf w = getD modes (placeIn (bytes "cfb ofb ctr cbc") w) NoMode
 abbrev pub options : List ℕ
 options = MODE ∷ KEY ∷ IV ∷ JOB ∷ EDITION ∷ []
 
--- the thing whose value follows an option
-abbrev pub optionOf : List ℕ → ℕ
-optionOf w = getD options (placeIn (bytes "--mode --key --iv --job --edition") w) NOTHING
-
 -- an option begins with a dash; a dash alone is a file
 abbrev pub isOption : List ℕ → Bool
 isOption w = leb 2 (length w) && eqb (getD w 0 0) 45
 
--- whether a command wants a thing to be said: of a job's edition all but the mode, in the other modes all but job and edition
+-- two dashes alone: every word after them is a file
+abbrev pub endsOptions : List ℕ → Bool
+endsOptions w = same w (bytes "--")
+
+-- `--key=FILE`: the option's name stands before the first '=', and its value behind it
+unfoldable pub nameOf : List ℕ → List ℕ
+nameOf w = take (indexOf 61 w) w
+
+unfoldable pub hasValue : List ℕ → Bool
+hasValue w = ltb (indexOf 61 w) (length w)
+
+-- the value that a word says: what is behind the '=' of an option, and of any other word all of it
+unfoldable pub valueOf : List ℕ → List ℕ
+valueOf w = cond (isOption w && hasValue w) (drop (suc (indexOf 61 w)) w) w
+
+-- an option that is said without a value
+abbrev pub flagOf : List ℕ → ℕ
+flagOf w = getD (FORCE ∷ []) (placeIn (bytes "--force") w) NOTHING
+
+-- the place of an option among those that take a value
+abbrev pub optionPlace : List ℕ → ℕ
+optionPlace w = placeIn (bytes "--mode --key --iv --job --edition") (nameOf w)
+
+-- the thing that an option says
+abbrev pub optionOf : List ℕ → ℕ
+optionOf w = getD options (optionPlace w) (flagOf w)
+
+-- the things that belong to a command: of a job's edition all but the mode, in the other modes all but job and edition
+abbrev pub belongsTo : Command → ℕ → Bool
+belongsTo Seal k = not (eqb k MODE)
+belongsTo Open k = not (eqb k MODE)
+belongsTo Opens k = not (eqb k MODE) && not (eqb k OUT)
+belongsTo Encrypt k = not (eqb k JOB) && not (eqb k EDITION)
+belongsTo Decrypt k = not (eqb k JOB) && not (eqb k EDITION)
+belongsTo Unknown k = false
+
+-- the commands that write what is no text, which a terminal is spared
+abbrev pub writesSealed : Command → Bool
+writesSealed Seal = true
+writesSealed Open = false
+writesSealed Opens = false
+writesSealed Encrypt = true
+writesSealed Decrypt = false
+writesSealed Unknown = false
+
+-- whether a command takes a thing: `--force` is for those that write what is no text
+abbrev pub takesOf : Command → ℕ → Bool
+takesOf c k = cond (eqb k FORCE) (writesSealed c) (belongsTo c k)
+
+-- whether it wants the thing to be said: all that it takes but `--force`
 abbrev pub wantsOf : Command → ℕ → Bool
-wantsOf Seal k = not (eqb k MODE)
-wantsOf Open k = not (eqb k MODE)
-wantsOf Opens k = not (eqb k MODE) && not (eqb k OUT)
-wantsOf Encrypt k = not (eqb k JOB) && not (eqb k EDITION)
-wantsOf Decrypt k = not (eqb k JOB) && not (eqb k EDITION)
-wantsOf Unknown k = false
+wantsOf c k = cond (eqb k FORCE) false (belongsTo c k)

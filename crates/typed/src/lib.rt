@@ -1,11 +1,12 @@
 // What a person types to the tool and reads from it: numbers, bytes in hex, keys, words, the line that they make, how
-// long a file may be, and the status that a run ends with.
+// long a file may be, how a name is shown, and the status that a run ends with.
 pub mod decimal;
 pub mod hex;
 pub mod key;
 pub mod limits;
 pub mod line;
-mod names;
+pub mod names;
+pub mod shown;
 pub mod status;
 pub mod things;
 pub mod words;

@@ -1,8 +1,9 @@
 // What a line of words says.
 ghost use mathlib.Core.Path.{_≡_};
 ghost use Prim.Native.Nat.{_<_};
-ghost use Rattle.typed.specs.Line.{lineOf, sound, unsaid, said, await, faulty, afterOption, afterFile, afterWord, lacks, lackingIn};
+ghost use Rattle.typed.specs.Line.{lineOf, sound, unsaid, said, await, faulty, filesFrom, afterOption, afterFile, afterFree, afterWord, lacks, lackingIn};
 ghost use Rattle.typed.specs.Things.{NOTHING};
+use crate::things::FORCE;
 use crate::things::IN;
 use crate::things::NOTHING;
 use crate::things::OUT;
@@ -19,11 +20,13 @@ pub enum Fault {
 }
 
 // What has been read of a line: for each thing the place of the word that says it, 0 where none has; the thing that the
-// next word says, if it is the value of an option; and the first fault, with the place of its word.
+// next word says, if it is the value of an option; whether all words from here on are files; and the first fault, with
+// the place of its word.
 pub struct Line {
     pub command: Command,
     pub places: [usize; NOTHING],
     pub next: usize,
+    pub files: bool,
     pub fault: Fault,
     pub at: usize,
 }
@@ -36,6 +39,7 @@ pub fn start(command: Command) -> Line
         command,
         places: [0usize; NOTHING],
         next: NOTHING,
+        files: false,
         fault: Fault::NoFault,
         at: 0,
     }
@@ -91,24 +95,39 @@ fn blame(line: Line, fault: Fault, at: usize) -> Line
         command,
         places,
         next: line.next,
+        files: line.files,
         fault,
         at,
     }
 }
 
-// An option is one that there is, that the command wants, and that has not been said.
-fn read_option(line: Line, thing: usize, at: usize) -> Line
-    ensures { λ r. ⌜ r ≡ afterOption line thing at ⌝ }
+// Every word from here on is a file.
+fn files_from(mut line: Line) -> Line
+    ensures { λ r. ⌜ r ≡ filesFrom line ⌝ }
+{
+    line.files = true;
+    line
+}
+
+// An option is one that there is, that the command takes, and that has not been said. `valued`: it has its value in it.
+fn read_option(line: Line, thing: usize, valued: bool, at: usize) -> Line
+    ensures { λ r. ⌜ r ≡ afterOption line thing valued at ⌝ }
 {
     if thing >= NOTHING {
         return blame(line, Fault::NoSuchOption, at);
     }
     let command = line.command;
-    if !words::wants(command, thing) {
+    if !words::takes(command, thing) {
         return blame(line, Fault::NotOfThisCommand, at);
     }
     if !is_unsaid(line, thing) {
         return blame(line, Fault::SaidTwice, at);
+    }
+    if valued {
+        return say(line, thing, at);
+    }
+    if thing == FORCE {
+        return say(line, thing, at);
     }
     wait_for(line, thing)
 }
@@ -130,6 +149,19 @@ fn read_file(line: Line, at: usize) -> Line
     say(line, OUT, at)
 }
 
+// A word where no value is awaited.
+fn read_free(line: Line, word: &[u8], at: usize) -> Line
+    ensures { λ r. ⌜ r ≡ afterFree line (now (word .entry)) at ⌝ }
+{
+    if !words::is_option(word) {
+        return read_file(line, at);
+    }
+    if words::ends_options(word) {
+        return files_from(line);
+    }
+    read_option(line, words::read_option(word), words::has_value(word), at)
+}
+
 // The line once one more word has been read.
 pub fn read_word(line: Line, word: &[u8], at: usize) -> Line
     ensures { λ r. ⌜ r ≡ afterWord line (now (word .entry)) at ⌝ }
@@ -138,18 +170,17 @@ pub fn read_word(line: Line, word: &[u8], at: usize) -> Line
     if !is_sound(fault) {
         return line;
     }
+    if line.files {
+        return read_file(line, at);
+    }
     let next = line.next;
-    let option = words::is_option(word);
-    if next < NOTHING {
-        if option {
-            return blame(line, Fault::NoValue, at);
-        }
-        return say(line, next, at);
+    if next >= NOTHING {
+        return read_free(line, word, at);
     }
-    if option {
-        return read_option(line, words::read_option(word), at);
+    if words::is_option(word) {
+        return blame(line, Fault::NoValue, at);
     }
-    read_file(line, at)
+    say(line, next, at)
 }
 
 // Whether the command wants a thing that no word has said.

@@ -3,7 +3,8 @@ ghost use mathlib.Core.Path.{_≡_};
 ghost use Rattle.block.specs.Same.{same};
 ghost use Rattle.typed.specs.Names.{placeIn};
 
-fn alike(a: &[u8], b: &[u8]) -> bool
+// Whether two words are the same.
+pub fn alike(a: &[u8], b: &[u8]) -> bool
     ensures { λ r. ⌜ r ≡ same (now (a .entry)) (now (b .entry)) ⌝ }
 {
     if a.len() != b.len() {

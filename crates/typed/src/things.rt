@@ -9,9 +9,12 @@ pub const JOB: usize = 3;
 
 pub const EDITION: usize = 4;
 
-pub const IN: usize = 5;
+// The one option that is said without a value.
+pub const FORCE: usize = 5;
 
-pub const OUT: usize = 6;
+pub const IN: usize = 6;
+
+pub const OUT: usize = 7;
 
 // None of them, and so how many there are.
-pub const NOTHING: usize = 7;
+pub const NOTHING: usize = 8;

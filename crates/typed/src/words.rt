@@ -1,8 +1,13 @@
 // The words that a person can type.
 ghost use mathlib.Core.Path.{_≡_};
-ghost use Rattle.typed.specs.Words.{commandOf, modeOf, optionOf, isOption, wantsOf};
+ghost use Prim.Native.Nat.{_≤_};
+ghost use lib.ListN.{length};
+ghost use Rattle.bytes.specs.Bytes.{indexOf};
+ghost use Rattle.typed.specs.Words.{commandOf, modeOf, flagOf, optionOf, isOption, endsOptions, hasValue, valueOf, belongsTo, writesSealed, takesOf, wantsOf};
+use crate::names::alike;
 use crate::names::find;
 use crate::things::EDITION;
+use crate::things::FORCE;
 use crate::things::IV;
 use crate::things::JOB;
 use crate::things::KEY;
@@ -52,17 +57,56 @@ pub fn read_mode(word: &[u8]) -> ModeName
     }
 }
 
-// The thing whose value follows an option, or `NOTHING` for an option that there is not.
+// The place of the first '=' of a word, or the word's length.
+fn equals_sign(word: &[u8]) -> usize
+    ensures { λ r. ⌜ r ≡ indexOf 61 (now (word .entry)) ⌝ }
+    ensures { λ r. ⌜ r ≤ length (now (word .entry)) ⌝ }
+{
+    bytes::scan::find(word, 0, word.len(), b'=')
+}
+
+// Whether an option has its value in it.
+pub(crate) fn has_value(word: &[u8]) -> bool
+    ensures { λ r. ⌜ r ≡ hasValue (now (word .entry)) ⌝ }
+{
+    equals_sign(word) < word.len()
+}
+
+// The value that a word says: what is behind the '=' of an option, and of any other word all of it.
+pub fn value(word: &[u8]) -> &[u8]
+    ensures { λ r. ⌜ now r ≡ valueOf (now (word .entry)) ⌝ }
+{
+    let n = equals_sign(word);
+    if is_option(word) {
+        if n < word.len() {
+            return &word[n + 1..];
+        }
+    }
+    word
+}
+
+// An option that is said without a value, or `NOTHING`.
+fn read_flag(word: &[u8]) -> usize
+    ensures { λ r. ⌜ r ≡ flagOf (now (word .entry)) ⌝ }
+{
+    match find(b"--force", word) {
+        0 => FORCE,
+        _ => NOTHING,
+    }
+}
+
+// The thing that an option says, or `NOTHING` for an option that there is not.
 pub(crate) fn read_option(word: &[u8]) -> usize
     ensures { λ r. ⌜ r ≡ optionOf (now (word .entry)) ⌝ }
 {
-    match find(b"--mode --key --iv --job --edition", word) {
+    let n = equals_sign(word);
+    match find(b"--mode --key --iv --job --edition", &word[0..n]) {
         0 => MODE,
         1 => KEY,
         2 => IV,
         3 => JOB,
         4 => EDITION,
-        _ => NOTHING,
+        _ => read_flag(word),
     }
 }
 
@@ -76,9 +120,16 @@ pub(crate) fn is_option(word: &[u8]) -> bool
     word[0] == b'-'
 }
 
-// Whether a command wants a thing to be said.
-pub fn wants(command: Command, thing: usize) -> bool
-    ensures { λ r. ⌜ r ≡ wantsOf command thing ⌝ }
+// Whether a word says that only files follow.
+pub(crate) fn ends_options(word: &[u8]) -> bool
+    ensures { λ r. ⌜ r ≡ endsOptions (now (word .entry)) ⌝ }
+{
+    alike(word, b"--")
+}
+
+// Whether a thing other than `FORCE` belongs to a command.
+fn belongs(command: Command, thing: usize) -> bool
+    ensures { λ r. ⌜ r ≡ belongsTo command thing ⌝ }
 {
     match command {
         Command::Seal => thing != MODE,
@@ -88,4 +139,38 @@ pub fn wants(command: Command, thing: usize) -> bool
         Command::Decrypt => thing != JOB && thing != EDITION,
         Command::Unknown => false,
     }
+}
+
+// Whether a command writes what is no text, which a terminal is spared.
+pub fn writes_sealed(command: Command) -> bool
+    ensures { λ r. ⌜ r ≡ writesSealed command ⌝ }
+{
+    match command {
+        Command::Seal => true,
+        Command::Open => false,
+        Command::Opens => false,
+        Command::Encrypt => true,
+        Command::Decrypt => false,
+        Command::Unknown => false,
+    }
+}
+
+// Whether a command takes a thing.
+pub fn takes(command: Command, thing: usize) -> bool
+    ensures { λ r. ⌜ r ≡ takesOf command thing ⌝ }
+{
+    if thing == FORCE {
+        return writes_sealed(command);
+    }
+    belongs(command, thing)
+}
+
+// Whether a command wants a thing to be said.
+pub fn wants(command: Command, thing: usize) -> bool
+    ensures { λ r. ⌜ r ≡ wantsOf command thing ⌝ }
+{
+    if thing == FORCE {
+        return false;
+    }
+    belongs(command, thing)
 }

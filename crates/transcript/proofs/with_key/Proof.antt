@@ -10,13 +10,19 @@ use Rattle.transcript.proofs.with_key.Tie as tie
 
 part-with-input-end : tie.Need-part-with-input-end
 part-with-input-end c =
-    let at-read = c .before .before in
+    let at-read = c .before .before .before in
     omega (arith, at-read .read .ensures .0, simp length-append at (ap length (at-read .read .ensures .1)))
 
 pub with-key-spec : {M : Type 1} → statement M
 with-key-spec =
     tie.close
     (tie.spec
+    (λ c. search needs)
+    (λ c κs. search needs)
+    (λ c. search needs)
+    (λ c κs. search needs)
+    (λ c κs. search needs)
+    (λ c. search needs)
     (λ c κs. search needs)
     (λ c. search needs)
     (λ c. search needs)
@@ -27,6 +33,8 @@ with-key-spec =
     (λ c. search needs)
     (λ c. search needs)
     (λ c κs. search needs)
+    (λ c. search needs)
+    (λ c. search needs)
     (λ c. search needs)
     (λ c. search needs)
     part-with-input-end

@@ -1,13 +1,13 @@
 -- `line::read_option` meets its contract. The tests are those of the definition, in its order: whether there is such a
--- thing, whether the command wants it, whether it has not been said. Each return is what the last call made of the
--- line.
+-- thing, whether the command takes it, whether it has not been said, and whether a value has to follow. Each return is
+-- what the last call made of the line.
 -- Assumes nothing.
 use mathlib.Core.Path.{_≡_, _∙_}
-use mathlib.Core.Bool.{true}
-use borrow.Author.Tests.{lt-ltb, le-ltb, not-true, not-false}
+use mathlib.Core.Bool.{true, or-true}
+use borrow.Author.Tests.{lt-ltb, le-ltb, eq-eqb, ne-eqb, not-true, not-false}
 use Rattle.typed.specs.Things.{NOTHING}
-use Rattle.typed.specs.Words.{wantsOf}
-use Rattle.typed.specs.Line.{afterOption}
+use Rattle.typed.specs.Words.{takesOf}
+use Rattle.typed.specs.Line.{unsaid, afterOption}
 use Rattle.typed.proofs.Verdicts.{told}
 use borrow.Author.Needs.{needs}
 use Rattle.typed.proofs.line.read_option.Statement.{statement}
@@ -21,14 +21,14 @@ returns-2 : tie.Need-returns-2
 unfolding afterOption
 returns-2 c =
     let at-if2 = c .before in
-    let at-wants = at-if2 .before in
-    let at-if1 = at-wants .before in
-    let unwanted = told (at-wants .wants .ensures) (not-true _ (at-if2 .if2 .taken)) in
-    c .blame2 .ensures ∙ rw (lt-ltb _ NOTHING (at-if1 .if1 .left), unwanted)
+    let at-takes = at-if2 .before in
+    let at-if1 = at-takes .before in
+    let untaken = told (at-takes .takes .ensures) (not-true _ (at-if2 .if2 .taken)) in
+    c .blame2 .ensures ∙ rw (lt-ltb _ NOTHING (at-if1 .if1 .left), untaken)
 
--- past the second test the command wants the thing
-wanted : (c : tie.Else2) → let args = c .before .before .before .args in wantsOf (args .line .command) (args .thing) ≡ true
-wanted c = told (c .before .wants .ensures) (not-false _ (c .if2 .left))
+-- past the second test the command takes the thing
+taken : (c : tie.Else2) → let args = c .before .before .before .args in takesOf (args .line .command) (args .thing) ≡ true
+taken c = told (c .before .takes .ensures) (not-false _ (c .if2 .left))
 
 returns-3 : tie.Need-returns-3
 unfolding afterOption
@@ -37,16 +37,39 @@ returns-3 c =
     let at-if2 = at-is-unsaid .before in
     let at-if1 = at-if2 .before .before in
     let said = told (at-is-unsaid .is-unsaid .ensures) (not-true _ (c .before .if3 .taken)) in
-    c .blame3 .ensures ∙ rw (lt-ltb _ NOTHING (at-if1 .if1 .left), wanted at-if2, said)
+    c .blame3 .ensures ∙ rw (lt-ltb _ NOTHING (at-if1 .if1 .left), taken at-if2, said)
+
+-- past the third test the thing has not been said
+fresh : (c : tie.Else3) → let args = c .before .before .before .before .before .args in unsaid (args .line) (args .thing) ≡ true
+fresh c = told (c .before .is-unsaid .ensures) (not-false _ (c .if3 .left))
 
 returns-4 : tie.Need-returns-4
 unfolding afterOption
 returns-4 c =
-    let at-is-unsaid = c .before .before in
-    let at-if2 = at-is-unsaid .before in
+    let at-if3 = c .before .before in
+    let at-if2 = at-if3 .before .before in
     let at-if1 = at-if2 .before .before in
-    let unsaid = told (at-is-unsaid .is-unsaid .ensures) (not-false _ (c .before .if3 .left)) in
-    c .wait-for .ensures ∙ rw (lt-ltb _ NOTHING (at-if1 .if1 .left), wanted at-if2, unsaid)
+    c .say .ensures ∙ rw (lt-ltb _ NOTHING (at-if1 .if1 .left), taken at-if2, fresh at-if3, c .before .if4 .taken)
+
+returns-5 : tie.Need-returns-5
+unfolding afterOption
+returns-5 c =
+    let at-if4 = c .before .before in
+    let at-if3 = at-if4 .before in
+    let at-if2 = at-if3 .before .before in
+    let at-if1 = at-if2 .before .before in
+    c .say2 .ensures
+    ∙ rw (lt-ltb _ NOTHING (at-if1 .if1 .left), taken at-if2, fresh at-if3, at-if4 .if4 .left, eq-eqb _ _ (c .before .if5 .taken))
+
+returns-6 : tie.Need-returns-6
+unfolding afterOption
+returns-6 c =
+    let at-if4 = c .before .before in
+    let at-if3 = at-if4 .before in
+    let at-if2 = at-if3 .before .before in
+    let at-if1 = at-if2 .before .before in
+    c .wait-for .ensures
+    ∙ rw (lt-ltb _ NOTHING (at-if1 .if1 .left), taken at-if2, fresh at-if3, at-if4 .if4 .left, ne-eqb _ _ (c .before .if5 .left))
 
 pub read-option-spec : {M : Type 1} → statement M
 read-option-spec =
@@ -61,4 +84,8 @@ read-option-spec =
     (λ c κs. search needs)
     returns-3
     (λ c κs. search needs)
-    returns-4)
+    returns-4
+    (λ c κs. search needs)
+    returns-5
+    (λ c κs. search needs)
+    returns-6)

@@ -1,6 +1,6 @@
 -- `line::read_word` meets its contract. A line at fault stays as it is. Otherwise the tests are those of the
--- definition: whether a value is awaited, and whether the word is an option. Each return is what the last call made of
--- the line.
+-- definition: whether only files follow, whether a value is awaited, and whether the word is an option. Each return is
+-- what the last call made of the line.
 -- Assumes nothing.
 use mathlib.Core.Path.{_≡_, _∙_}
 use mathlib.Core.Bool.{true}
@@ -22,38 +22,31 @@ line-sound c = told (c .before .is-sound .ensures) (not-false _ (c .if1 .left))
 
 returns-2 : tie.Need-returns-2
 unfolding afterWord
-returns-2 c =
-    let at-if2 = c .before .before in
-    let at-is-option = at-if2 .before in
-    let option = told (at-is-option .is-option .ensures) (c .before .if3 .taken) in
-    c .blame .ensures ∙ rw (line-sound (at-is-option .before), lt-ltb _ NOTHING (at-if2 .if2 .taken), option)
+returns-2 c = c .read-file .ensures ∙ rw (line-sound (c .before .before), c .before .if2 .taken)
 
 returns-3 : tie.Need-returns-3
 unfolding afterWord
 returns-3 c =
     let at-if2 = c .before .before in
-    let at-is-option = at-if2 .before in
-    let no-option = told (at-is-option .is-option .ensures) (c .before .if3 .left) in
-    c .say .ensures ∙ rw (line-sound (at-is-option .before), lt-ltb _ NOTHING (at-if2 .if2 .taken), no-option)
+    c .read-free .ensures ∙ rw (line-sound (at-if2 .before), at-if2 .if2 .left, le-ltb _ NOTHING (c .before .if3 .taken))
 
 returns-4 : tie.Need-returns-4
 unfolding afterWord
 returns-4 c =
-    let at-read-option = c .before in
-    let at-if4 = at-read-option .before in
-    let at-if2 = at-if4 .before in
-    let at-is-option = at-if2 .before in
-    let option = told (at-is-option .is-option .ensures) (at-if4 .if4 .taken) in
-    c .read-option2 .ensures
-    ∙ rw (line-sound (at-is-option .before), le-ltb _ NOTHING (at-if2 .if2 .left), option, at-read-option .read-option .ensures)
+    let at-is-option = c .before .before in
+    let at-if3 = at-is-option .before in
+    let at-if2 = at-if3 .before in
+    let option = told (at-is-option .is-option .ensures) (c .before .if4 .taken) in
+    c .blame .ensures ∙ rw (line-sound (at-if2 .before), at-if2 .if2 .left, lt-ltb _ NOTHING (at-if3 .if3 .left), option)
 
 returns-5 : tie.Need-returns-5
 unfolding afterWord
 returns-5 c =
-    let at-if2 = c .before .before in
-    let at-is-option = at-if2 .before in
+    let at-is-option = c .before .before in
+    let at-if3 = at-is-option .before in
+    let at-if2 = at-if3 .before in
     let no-option = told (at-is-option .is-option .ensures) (c .before .if4 .left) in
-    c .read-file .ensures ∙ rw (line-sound (at-is-option .before), le-ltb _ NOTHING (at-if2 .if2 .left), no-option)
+    c .say .ensures ∙ rw (line-sound (at-if2 .before), at-if2 .if2 .left, lt-ltb _ NOTHING (at-if3 .if3 .left), no-option)
 
 pub read-word-spec : {M : Type 1} → statement M
 read-word-spec =
@@ -61,7 +54,6 @@ read-word-spec =
     (tie.spec
     (λ c κs. search needs)
     returns
-    (λ c κs. search needs)
     (λ c κs. search needs)
     returns-2
     (λ c κs. search needs)

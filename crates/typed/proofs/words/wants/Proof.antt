@@ -1,6 +1,6 @@
--- `words::wants` meets its contract. In each arm the command is known, and the definition computes; of two tests that are
--- joined, the first decides alone or leaves it to the second.
+-- `words::wants` meets its contract. `--force` is wanted by no command; any other thing is wanted where it belongs.
 -- Assumes nothing.
+use mathlib.Core.Path.{_∙_}
 use borrow.Author.Tests.{eq-eqb, ne-eqb}
 use borrow.Author.Needs.{needs}
 use Rattle.typed.proofs.words.wants.Statement.{statement}
@@ -10,18 +10,6 @@ pub wants-spec : {M : Type 1} → statement M
 wants-spec =
     tie.close
     (tie.spec
-    (λ c. search needs)
-    (λ c. search needs)
-    (λ c. search needs)
-    (λ c. search needs)
-    (λ c. search needs)
-    (λ c. search needs)
-    (λ c. rw (c .enum-told .given .1))
-    (λ c. rw (c .enum-told2 .given .1))
-    (λ c. rw (c .before .enum-told3 .given .1, ne-eqb _ _ (c .if1 .taken)))
-    (λ c. rw (c .before .enum-told3 .given .1, eq-eqb _ _ (c .if1 .left)))
-    (λ c. rw (c .before .enum-told4 .given .1, ne-eqb _ _ (c .if2 .taken)))
-    (λ c. rw (c .before .enum-told4 .given .1, eq-eqb _ _ (c .if2 .left)))
-    (λ c. rw (c .before .enum-told5 .given .1, ne-eqb _ _ (c .if3 .taken)))
-    (λ c. rw (c .before .enum-told5 .given .1, eq-eqb _ _ (c .if3 .left)))
-    (λ c. search needs))
+    (λ c. rw (eq-eqb _ _ (c .if1 .taken)))
+    (λ c κs. search needs)
+    (λ c. c .belongs .ensures ∙ rw (ne-eqb _ _ (c .before .if1 .left))))

@@ -1,0 +1,18 @@
+-- `words::read_flag` meets its contract. The first arm is the flag at the place that `find` answers; the other is for
+-- every place past it.
+-- Assumes nothing.
+use mathlib.Core.List.{[], _∷_}
+use Rattle.typed.specs.Things.{FORCE, NOTHING}
+use Rattle.typed.proofs.Verdicts.{told, told-none}
+use borrow.Author.Needs.{needs}
+use Rattle.typed.proofs.words.read_flag.Statement.{statement}
+use Rattle.typed.proofs.words.read_flag.Tie as tie
+
+pub read-flag-spec : {M : Type 1} → statement M
+read-flag-spec =
+    tie.close
+    (tie.spec
+    (λ c. search needs)
+    (λ c κs. search needs)
+    (λ c. rw (told (c .before .find .ensures) (c .match .keys1)))
+    (λ c. told-none (FORCE ∷ []) NOTHING (c .before .find .ensures) (c .match .rest)))

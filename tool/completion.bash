@@ -1,0 +1,25 @@
+# Completion for bash. Put a line `. PATH/tool/completion.bash` into ~/.bashrc, with the path to this file.
+_luossavin() {
+    local word=${COMP_WORDS[COMP_CWORD]} before=${COMP_WORDS[COMP_CWORD - 1]} options=''
+    COMPREPLY=()
+    if [ "$COMP_CWORD" -eq 1 ]; then
+        mapfile -t COMPREPLY < <(compgen -W 'seal open opens encrypt decrypt demo help --help --version' -- "$word")
+        return
+    fi
+    case ${COMP_WORDS[1]} in
+    seal) options='--key --iv --job --edition --force' ;;
+    open | opens) options='--key --iv --job --edition' ;;
+    encrypt) options='--mode --key --iv --force' ;;
+    decrypt) options='--mode --key --iv' ;;
+    help | --help) options='seal open opens encrypt decrypt' ;;
+    esac
+    case $before in
+    --mode) options='cfb ofb ctr cbc' ;;
+    --iv | --job | --edition) options='' ;;
+    help | --help) ;;
+    *) case $word in -*) ;; *) options='' ;; esac ;;
+    esac
+    # with none of these bash completes the names of files
+    mapfile -t COMPREPLY < <(compgen -W "$options" -- "$word")
+}
+complete -o default -F _luossavin luossavin ./luossavin
