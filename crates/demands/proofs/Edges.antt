@@ -38,7 +38,8 @@ pub edge-refused : (dir : Direction) (m : Sm4CipherMode) → m .cipher .answer �
     → modeCall dir m label d iv o .head ≡ said dir (m .mode) (lengthsOf label d iv o)
 unfolding modeCall
 edge-refused dir m k label d iv o h =
-    rw k (verdict-refused (messageCheck Key dir (m .mode) (lengthsOf label d iv o)) o (modeResult (m .mode) dir (m .cipher .rk) label d iv o) _ h)
+    rw k (verdict-refused (messageCheck Key dir (m .mode) (lengthsOf label d iv o)) o
+    (modeResult (m .mode) dir (m .cipher .rk) label d iv o) _ h)
 
 -- And of encryption it is the whole report.
 pub edge-encrypted : (m : Sm4CipherMode) → m .cipher .answer ≡ Key → (label d iv o : List ℕ)
@@ -48,4 +49,5 @@ edge-encrypted m k label d iv o =
     let rk = m .cipher .rk in
     let size = ap finished (length-encrypted (m .mode) rk label d iv) in
     let head = ap (λ (x : Outcome). x .head) (encrypts (m .mode) rk label d iv o) ∙ size in
-    rw k (verdict-done (messageCheck Key Encrypt (m .mode) (lengthsOf label d iv o)) o (modeResult (m .mode) Encrypt rk label d iv o) _ head)
+    rw k (verdict-done (messageCheck Key Encrypt (m .mode) (lengthsOf label d iv o)) o
+    (modeResult (m .mode) Encrypt rk label d iv o) _ head)

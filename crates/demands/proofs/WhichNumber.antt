@@ -25,10 +25,12 @@ use Rattle.cipher_mode.specs.declared.checks.Checked.the-variants.{Passed, Refu
 use Rattle.cipher_mode.specs.Answer.{refusalHead}
 use Rattle.cipher_mode.specs.Key.{newCipher, newCipherMode}
 use Rattle.cipher_mode.specs.Tables.{limit, limitOf, roomOf}
-use Rattle.cipher_mode.specs.Checks.{refuse, andThen, keyAndIv, labelCheck, shapeCheck, dataCheck, roomCheck, messageCheck, blockCheck, checked}
+use Rattle.cipher_mode.specs.Checks.{refuse, andThen, keyAndIv, labelCheck, shapeCheck, dataCheck}
+use Rattle.cipher_mode.specs.Checks.{roomCheck, messageCheck, blockCheck, checked}
 use Rattle.cipher_mode.specs.Calls.{blockCall, modeResult, lengthsOf, modeCall}
 use Rattle.luossavin.specs.Host.{modeOf, hostBlockCall, hostModeCall}
-use Rattle.demands.specs.WhichNumber.{Said, saidIn, only, Row, Among, isCbc, isGcm, firstOf, numbersOf, blockRows, encryptRows, decryptRows}
+use Rattle.demands.specs.WhichNumber.{Said, saidIn, only, Row, Among, isCbc, isGcm}
+use Rattle.demands.specs.WhichNumber.{firstOf, numbersOf, blockRows, encryptRows, decryptRows}
 use Rattle.demands.proofs.ModesBack.{encrypts}
 
 -- what is said behind a check, s being what comes next

@@ -65,8 +65,8 @@ unfolding gcmOpen settled
 gcm-within rk h j aad d o =
     let n = length-text rk j (textPart d) in
     let m = length-take-le (length d - 16) d (omega arith) in
-    written-within (gcmHead (settled rk h j aad d)) (textOf rk j (textPart d)) o
-    (omega (arith, gcm-size (length d - 16) (opensUnder rk h j aad d)))
+    let k = gcm-size (length d - 16) (opensUnder rk h j aad d) in
+    written-within (gcmHead (settled rk h j aad d)) (textOf rk j (textPart d)) o (omega (arith, k))
 
 result-within : (m : CipherMode) (dir : Direction) (rk aad d iv o : List ℕ) → Within (modeResult m dir rk aad d iv o)
 result-within Cfb dir rk aad d iv o = done-within (chain (streamMode (cfbKind dir) rk) iv d) o

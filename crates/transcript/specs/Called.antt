@@ -3,7 +3,8 @@ use mathlib.Core.List.{List}
 use Prim.Native.Nat.{ℕ}
 use Rattle.label.specs.Label.{labelOf}
 use Rattle.typed.specs.declared.words.Command.{Command}
-use Rattle.typed.specs.declared.words.Command.the-variants.{Seal, Open, Opens, Encrypt as Encrypt·command, Decrypt as Decrypt·command, Unknown}
+use Rattle.typed.specs.declared.words.Command.the-variants.{Seal, Open, Opens, Unknown}
+use Rattle.typed.specs.declared.words.Command.the-variants.{Encrypt as Encrypt·command, Decrypt as Decrypt·command}
 use Rattle.walk.specs.Outcome.{Outcome}
 use Rattle.cipher_mode.specs.Calls.{modeCall}
 use Rattle.cipher_mode.specs.Key.{newCipherMode}

@@ -132,7 +132,7 @@ pub fn put(at: usize, shy: bool, key_file: &[u8], bytes: &[u8]) -> u8 {
     let n = os::arg(at, &mut word);
     let name = &word[..n];
     if is_dash(name) {
-        return put_straight(libc::STDOUT_FILENO, b"standard output", shy, bytes);
+        return put_standard(shy, key_file, bytes);
     }
     if is_link(name) {
         return say::is_link(name);
@@ -151,7 +151,17 @@ pub fn put(at: usize, shy: bool, key_file: &[u8], bytes: &[u8]) -> u8 {
     put_straight(there, name, shy, bytes)
 }
 
-// Writes to what is no file.
+// Writes to standard output, unless that has been opened on the key's file: only a file has a place.
+fn put_standard(shy: bool, key_file: &[u8], bytes: &[u8]) -> u8 {
+    if libc::lseek(libc::STDOUT_FILENO, 0, libc::SEEK_CUR) >= 0 {
+        if holds(b"/proc/self/fd/1", key_file) {
+            return say::holds_key(b"standard output");
+        }
+    }
+    put_straight(libc::STDOUT_FILENO, b"standard output", shy, bytes)
+}
+
+// Writes where nothing is replaced.
 fn put_straight(fd: i32, name: &[u8], shy: bool, bytes: &[u8]) -> u8 {
     if shy {
         if libc::isatty(fd) == 1 {
@@ -182,11 +192,7 @@ fn put_over(name: &[u8], at: usize, key_file: &[u8], bytes: &[u8]) -> u8 {
     if holds(name, key_file) {
         return say::holds_key(name);
     }
-    let kept = kept_of(at);
-    if !kept.known {
-        return say::not_known(name);
-    }
-    replace(name, kept, bytes)
+    replace(name, kept_of(at), bytes)
 }
 
 // Whether a name is a link's, which is not followed, and not replaced by a file. C wants a path that ends in 0.
@@ -291,6 +297,9 @@ fn part_name(name: &[u8], part: &mut [u8]) -> usize
 
 // Writes a file beside `name`, and gives it that name once all is in it.
 fn replace(name: &[u8], kept: Kept, bytes: &[u8]) -> u8 {
+    if !kept.known {
+        return say::not_known(name);
+    }
     let mut word = word_room();
     let n = part_name(name, &mut word);
     let part = &word[..n];

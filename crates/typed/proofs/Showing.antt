@@ -63,7 +63,8 @@ byte-turn o t p n b r s h q e =
     let none : drop (length o - n) (drop n o) ≡ [] = drop-of-length-le (drop n o) {i = length o - n} (simp length-drop (omega arith)) in
     let size : n + r ≡ length (take n o) + length (shownByte p b) = omega (arith, q, length-take-le n o h) in
     let m : n + length (shownByte p b ++ R) ≡ n + (r + length R) = rw (length-append, q) in
-    rw (none, append-nil, e, to-end n o, joined (take n o) (shownByte p b) (drop r (drop n o)) R (n + r) size, m, drop-drop (length R) r (drop n o), drop-drop (r + length R) n o)
+    let whole = joined (take n o) (shownByte p b) (drop r (drop n o)) R (n + r) size in
+    rw (none, append-nil, e, to-end n o, whole, m, drop-drop (length R) r (drop n o), drop-drop (r + length R) n o)
 
 -- the name stands at i behind the byte p, n bytes are written, and what is left decides
 module _ (o₀ name : List ℕ) where
@@ -77,7 +78,8 @@ module _ (o₀ name : List ℕ) where
   unfolding shownFrom
   left-turn o t p n i r l h k q e =
       let c : drop i name ≡ getD name i 0 ∷ drop (i + 1) name = rw (add-one i) (drop-cons name i 0 h) in
-      (omega (arith, q, rw (c, length-append) at (l .0)), byte-turn o t p n (getD name i 0) r (drop (i + 1) name) k q e ∙ ap (λ (x : List ℕ). final o p n x) (sym c) ∙ l .1)
+      let turn = byte-turn o t p n (getD name i 0) r (drop (i + 1) name) k q e in
+      (omega (arith, q, rw (c, length-append) at (l .0)), turn ∙ ap (λ (x : List ℕ). final o p n x) (sym c) ∙ l .1)
 
   pub left-end : (o : List ℕ) (p n i : ℕ) → Left o p n i → length name ≤ i
       → (n ≡ length (shown name)) × (o ≡ shown name ++ drop n o₀)

@@ -156,7 +156,7 @@ pub fn writes_sealed(command: Command) -> bool
 }
 
 // Whether a command takes a thing.
-pub fn takes(command: Command, thing: usize) -> bool
+pub(crate) fn takes(command: Command, thing: usize) -> bool
     ensures { λ r. ⌜ r ≡ takesOf command thing ⌝ }
 {
     if thing == FORCE {

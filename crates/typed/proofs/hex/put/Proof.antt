@@ -67,21 +67,6 @@ pub put-spec : {M : Type 1} → statement M
 put-spec =
     tie.close
     (tie.spec
-    Inv-loop
-    μ-loop
-    loop-holds
-    (λ c. omega arith)
-    (λ c. omega arith)
-    (λ c κs. tt)
-    mul-out
-    (λ c. omega arith)
-    (λ c. omega arith)
-    (λ c. omega arith)
-    (λ c κs. tt)
-    add-out
-    (λ c. omega arith)
-    (λ c. omega arith)
-    (λ c. omega arith)
-    loop-again
-    (λ c. omega arith)
-    returns)
+    Inv-loop μ-loop loop-holds (λ c. omega arith) (λ c. omega arith) (λ c κs. tt) mul-out (λ c. omega arith)
+    (λ c. omega arith) (λ c. omega arith) (λ c κs. tt) add-out (λ c. omega arith) (λ c. omega arith) (λ c. omega arith)
+    loop-again (λ c. omega arith) returns)

@@ -11,7 +11,6 @@ pub is-lacking-spec : {M : Type 1} → statement M
 is-lacking-spec =
     tie.close
     (tie.spec
-    (λ c κs. search needs)
-    (λ c κs. search needs)
+    (λ c κs. search needs) (λ c κs. search needs)
     (λ c. c .is-unsaid .ensures ∙ rw (told (c .before .before .wants .ensures) (c .before .if1 .taken)))
     (λ c. rw (told (c .before .wants .ensures) (c .if1 .left))))

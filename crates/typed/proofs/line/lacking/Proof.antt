@@ -46,12 +46,4 @@ pub lacking-spec : {M : Type 1} → statement M
 lacking-spec =
     tie.close
     (tie.spec
-    Inv-loop
-    μ-loop
-    loop-holds
-    (λ c κs. omega arith)
-    returns
-    (λ c. omega arith)
-    (λ c. omega arith)
-    loop-again
-    returns-2)
+    Inv-loop μ-loop loop-holds (λ c κs. omega arith) returns (λ c. omega arith) (λ c. omega arith) loop-again returns-2)

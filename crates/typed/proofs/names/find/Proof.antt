@@ -53,17 +53,5 @@ pub find-spec : {M : Type 1} → statement M
 find-spec =
     tie.close
     (tie.spec
-    Inv-loop
-    μ-loop
-    loop-holds
-    find-requires
-    (λ c. omega arith)
-    (λ c. omega arith)
-    (λ c. omega arith)
-    (λ c κs. tt)
-    returns
-    (λ c. omega arith)
-    (λ c. omega arith)
-    (λ c. omega arith)
-    loop-again
-    returns-2)
+    Inv-loop μ-loop loop-holds find-requires (λ c. omega arith) (λ c. omega arith) (λ c. omega arith) (λ c κs. tt)
+    returns (λ c. omega arith) (λ c. omega arith) (λ c. omega arith) loop-again returns-2)

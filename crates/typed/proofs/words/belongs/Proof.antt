@@ -10,18 +10,11 @@ pub belongs-spec : {M : Type 1} → statement M
 belongs-spec =
     tie.close
     (tie.spec
-    (λ c. search needs)
-    (λ c. search needs)
-    (λ c. search needs)
-    (λ c. search needs)
-    (λ c. search needs)
-    (λ c. search needs)
-    (λ c. rw (c .enum-told .given .1))
-    (λ c. rw (c .enum-told2 .given .1))
+    (λ c. search needs) (λ c. search needs) (λ c. search needs) (λ c. search needs) (λ c. search needs)
+    (λ c. search needs) (λ c. rw (c .enum-told .given .1)) (λ c. rw (c .enum-told2 .given .1))
     (λ c. rw (c .before .enum-told3 .given .1, ne-eqb _ _ (c .if1 .taken)))
     (λ c. rw (c .before .enum-told3 .given .1, eq-eqb _ _ (c .if1 .left)))
     (λ c. rw (c .before .enum-told4 .given .1, ne-eqb _ _ (c .if2 .taken)))
     (λ c. rw (c .before .enum-told4 .given .1, eq-eqb _ _ (c .if2 .left)))
     (λ c. rw (c .before .enum-told5 .given .1, ne-eqb _ _ (c .if3 .taken)))
-    (λ c. rw (c .before .enum-told5 .given .1, eq-eqb _ _ (c .if3 .left)))
-    (λ c. search needs))
+    (λ c. rw (c .before .enum-told5 .given .1, eq-eqb _ _ (c .if3 .left))) (λ c. search needs))

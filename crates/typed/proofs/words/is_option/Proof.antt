@@ -10,6 +10,4 @@ pub is-option-spec : {M : Type 1} → statement M
 is-option-spec =
     tie.close
     (tie.spec
-    (λ c. rw (lt-leb 2 _ (c .if1 .taken)))
-    (λ c. search needs)
-    (λ c. rw (le-leb 2 _ (c .before .if1 .left))))
+    (λ c. rw (lt-leb 2 _ (c .if1 .taken))) (λ c. search needs) (λ c. rw (le-leb 2 _ (c .before .if1 .left))))

@@ -12,9 +12,7 @@ pub read-command-spec : {M : Type 1} → statement M
 read-command-spec =
     tie.close
     (tie.spec
-    (λ c. search needs)
-    (λ c κs. search needs)
-    (λ c. rw (told (c .before .find .ensures) (c .match .keys1)))
+    (λ c. search needs) (λ c κs. search needs) (λ c. rw (told (c .before .find .ensures) (c .match .keys1)))
     (λ c. rw (told (c .before .find .ensures) (c .match .keys2)))
     (λ c. rw (told (c .before .find .ensures) (c .match .keys3)))
     (λ c. rw (told (c .before .find .ensures) (c .match .keys4)))

@@ -12,7 +12,5 @@ pub read-flag-spec : {M : Type 1} → statement M
 read-flag-spec =
     tie.close
     (tie.spec
-    (λ c. search needs)
-    (λ c κs. search needs)
-    (λ c. rw (told (c .before .find .ensures) (c .match .keys1)))
+    (λ c. search needs) (λ c κs. search needs) (λ c. rw (told (c .before .find .ensures) (c .match .keys1)))
     (λ c. told-none (FORCE ∷ []) NOTHING (c .before .find .ensures) (c .match .rest)))

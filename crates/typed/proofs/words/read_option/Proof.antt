@@ -32,16 +32,8 @@ pub read-option-spec : {M : Type 1} → statement M
 read-option-spec =
     tie.close
     (tie.spec
-    (λ c κs. search needs)
-    (λ c. search needs)
-    (λ c. search needs)
-    (λ c. search needs)
-    (λ c. search needs)
-    (λ c κs. search needs)
-    (λ c κs. search needs)
-    (λ c. rw (told (place (c .before)) (c .match .keys1)))
-    (λ c. rw (told (place (c .before)) (c .match .keys2)))
-    (λ c. rw (told (place (c .before)) (c .match .keys3)))
-    (λ c. rw (told (place (c .before)) (c .match .keys4)))
-    (λ c. rw (told (place (c .before)) (c .match .keys5)))
+    (λ c κs. search needs) (λ c. search needs) (λ c. search needs) (λ c. search needs) (λ c. search needs)
+    (λ c κs. search needs) (λ c κs. search needs) (λ c. rw (told (place (c .before)) (c .match .keys1)))
+    (λ c. rw (told (place (c .before)) (c .match .keys2))) (λ c. rw (told (place (c .before)) (c .match .keys3)))
+    (λ c. rw (told (place (c .before)) (c .match .keys4))) (λ c. rw (told (place (c .before)) (c .match .keys5)))
     (λ c. c .read-flag .ensures ∙ told-none options (flagOf _) (place (c .before .before)) (c .before .match .rest)))

@@ -11,7 +11,5 @@ pub takes-spec : {M : Type 1} → statement M
 takes-spec =
     tie.close
     (tie.spec
-    (λ c κs. search needs)
-    (λ c. c .writes-sealed .ensures ∙ rw (eq-eqb _ _ (c .before .if1 .taken)))
-    (λ c κs. search needs)
-    (λ c. c .belongs .ensures ∙ rw (ne-eqb _ _ (c .before .if1 .left))))
+    (λ c κs. search needs) (λ c. c .writes-sealed .ensures ∙ rw (eq-eqb _ _ (c .before .if1 .taken)))
+    (λ c κs. search needs) (λ c. c .belongs .ensures ∙ rw (ne-eqb _ _ (c .before .if1 .left))))

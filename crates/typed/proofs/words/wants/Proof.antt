@@ -10,6 +10,5 @@ pub wants-spec : {M : Type 1} → statement M
 wants-spec =
     tie.close
     (tie.spec
-    (λ c. rw (eq-eqb _ _ (c .if1 .taken)))
-    (λ c κs. search needs)
+    (λ c. rw (eq-eqb _ _ (c .if1 .taken))) (λ c κs. search needs)
     (λ c. c .belongs .ensures ∙ rw (ne-eqb _ _ (c .before .if1 .left))))
