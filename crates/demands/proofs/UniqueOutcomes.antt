@@ -53,14 +53,17 @@ told (Refused WrongBlock) = refl
 one : (x : Outcome) → OneOutcome x
 one x a₁ a₂ o₁ o₂ e₁ e₂ =
     let e : outcome a₁ o₁ ≡ outcome a₂ o₂ = e₁ ∙ sym e₂ in
-    let ending = sym (told (a₁ .ending)) ∙ ap (λ (y : Outcome). endingOf (y .head .number) (y .head .size) (y .head .missing)) e ∙ told (a₂ .ending) in
+    let same = ap (λ (y : Outcome). endingOf (y .head .number) (y .head .size) (y .head .missing)) e in
+    let ending = sym (told (a₁ .ending)) ∙ same ∙ told (a₂ .ending) in
     (ap {B = Answer} (λ (e : Ending). record { ending = e }) ending, ap (λ (y : Outcome). y .bytes) e)
 
 -- and a host's answer is its head
 one-report : (x : Outcome) → OneReport x
 one-report x a₁ a₂ o₁ o₂ e₁ e₂ =
-    let e : reported a₁ o₁ ≡ reported a₂ o₂ = e₁ ∙ sym e₂ in
-    (ap (λ (y : Outcome). record { number = y .head .number; missing = y .head .missing; length = y .head .size }) e, ap (λ (y : Outcome). y .bytes) e)
+    let e : reported a₁ o₁ ≡ reported a₂ o₂ = e₁ ∙ sym e₂ in (
+      ap (λ (y : Outcome). record { number = y .head .number; missing = y .head .missing; length = y .head .size }) e,
+      ap (λ (y : Outcome). y .bytes) e,
+    )
 
 -- Any two records that setting up a key may give are the same.
 pub unique-new-cipher : (key : List ℕ) (r₁ r₂ : Sm4Cipher) → r₁ ≡ newCipher key → r₂ ≡ newCipher key → r₁ ≡ r₂

@@ -73,7 +73,8 @@ unfolding behind
 shape-number Cfb n k = refl
 shape-number Ofb n k = refl
 shape-number Ctr n k = refl
-shape-number Cbc n k = number-refuse (eqb n 0) _ _ k ∙ ap {B = Said} (cond (eqb n 0) (only 8)) (number-refuse (not (eqb (n % 16) 0)) _ Passed k)
+shape-number Cbc n k = number-refuse (eqb n 0) _ _ k
+    ∙ ap {B = Said} (cond (eqb n 0) (only 8)) (number-refuse (not (eqb (n % 16) 0)) _ Passed k)
 shape-number Gcm n k = number-refuse (ltb n 16) _ Passed k
 
 -- opening, by the test that decides
@@ -85,7 +86,8 @@ gcm-by : (n : ℕ) (t : Bool) → saidIn (gcmHead (cond t (Gcm·Done n) InvalidT
 gcm-by n true = refl
 gcm-by n false = refl
 
-cbc-number : (rk iv d o : List ℕ) → saidIn (cbcOpen rk iv d o .head) ≡ cond (not (namesPadding (lastByte (cbcText rk iv d)))) (only 3) (only 0)
+cbc-number : (rk iv d o : List ℕ) → saidIn (cbcOpen rk iv d o .head)
+    ≡ cond (not (namesPadding (lastByte (cbcText rk iv d)))) (only 3) (only 0)
 unfolding cbcOpen unpadded
 cbc-number rk iv d o = cbc-by (length (cbcText rk iv d) - lastByte (cbcText rk iv d)) (namesPadding (lastByte (cbcText rk iv d)))
 
@@ -160,8 +162,10 @@ exported-encryption-number mode key label d iv o =
     number-front (ltb 4 mode) 7 o _
     ∙ ap {B = Said} (cond (ltb 4 mode) (only 7))
     (by-key key (eqb (length key) 16) refl Encrypt m label d iv o
-    ∙ ap {B = Said} (λ (k : Said). cond (not (eqb (length key) 16)) (only 1) (behind (messageCheck Key Encrypt m (lengthsOf label d iv o)) k)) n
-    ∙ ap {B = Said} (cond (not (eqb (length key) 16)) (only 1)) (from-iv Encrypt m (length iv) (length label) (length d) (length o) (only 0)))
+    ∙ ap {B = Said} (λ (k : Said). cond (not (eqb (length key) 16)) (only 1)
+    (behind (messageCheck Key Encrypt m (lengthsOf label d iv o)) k)) n
+    ∙ ap {B = Said} (cond (not (eqb (length key) 16)) (only 1))
+    (from-iv Encrypt m (length iv) (length label) (length d) (length o) (only 0)))
 
 -- The exported decryption says what the first condition says that holds: mode, key, IV, label, data, room, padding, tag.
 pub exported-decryption-number : (mode : ℕ) (key label d iv o : List ℕ)

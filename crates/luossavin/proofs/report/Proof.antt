@@ -14,7 +14,8 @@ returns-2 : tie.Need-returns-2
 returns-2 c =
     let at-number = c .before in
     let at-ending = at-number .before .before in
-    told (at-ending .ending2 .given .0 .0) _ _ (at-number .number .ensures) (c .missing .ensures) ∙ sym (ap endingHead (at-ending .ending2 .given .1))
+    told (at-ending .ending2 .given .0 .0) _ _ (at-number .number .ensures) (c .missing .ensures)
+    ∙ sym (ap endingHead (at-ending .ending2 .given .1))
 
 pub report-spec : {M : Type 1} → statement M
 report-spec =
