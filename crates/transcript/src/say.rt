@@ -29,6 +29,15 @@ fn number(n: u64) {
     io::print_decimal(STDERR_FILENO, n);
 }
 
+fn bytes(n: usize) {
+    number(n as u64);
+    if n == 1 {
+        text(b" byte");
+    } else {
+        text(b" bytes");
+    }
+}
+
 // Room for any name as it is shown: a byte of it may take four.
 const SHOWN_ROOM: usize = 4 * WORD_ROOM;
 
@@ -278,15 +287,15 @@ pub fn key_size(at: usize, key: usize) -> u8 {
     text(b"1 ErrorBlockSize: the key file ");
     value(at);
     text(b" has ");
-    number(key as u64);
-    text(b" bytes, and neither 16 raw bytes nor 32 hex digits\n");
+    bytes(key);
+    text(b", and neither 16 raw bytes nor 32 hex digits\n");
     1
 }
 
 pub fn uneven(length: usize) -> u8 {
     text(b"2 ErrorDataLen: this file has ");
-    number(length as u64);
-    text(b" bytes, and cbc writes 16 or a multiple: cbc did not encrypt it, or it was cut short\n");
+    bytes(length);
+    text(b", and cbc writes 16 or a multiple: cbc did not encrypt it, or it was cut short\n");
     2
 }
 
@@ -323,17 +332,21 @@ pub fn empty() -> u8 {
 
 pub fn short(length: usize, missing: u8) -> u8 {
     text(b"9 ShortGcm: this file has ");
-    number(length as u64);
-    text(b" bytes; a sealed file has at least 16, so ");
+    bytes(length);
+    text(b"; a sealed file has at least 16, so ");
     number(missing as u64);
-    text(b" are missing: was it cut off?\n");
+    if missing == 1 {
+        text(b" is missing: was it cut off?\n");
+    } else {
+        text(b" are missing: was it cut off?\n");
+    }
     9
 }
 
 pub fn iv_size(iv: usize) -> u8 {
     text(b"10 WrongIv: the IV has ");
     number(iv as u64);
-    text(b" bytes, not 16: it takes 32 hex digits\n");
+    text(b", not 16, bytes: it takes 32 hex digits\n");
     10
 }
 
