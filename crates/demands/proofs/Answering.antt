@@ -20,9 +20,11 @@ use Rattle.cipher_mode.specs.Checks.{checked}
 use Rattle.demands.specs.Answered.{Answered}
 
 -- a refusal by its head
-refuses-by : (h : Head) (n : ℕ) (o : List ℕ) → 0 < h .number → h .size ≡ 0 → (h .number ≢ 9 → h .missing ≡ 0) → Answered o n (leaving h o)
-refuses-by h n o some none told =
+refuses-by : (h : Head) (n : ℕ) (o : List ℕ) → 0 < h .number → h .number ≤ 11 → h .size ≡ 0 → (h .number ≢ 9 → h .missing ≡ 0)
+    → Answered o n (leaving h o)
+refuses-by h n o some most none told =
     record {
+      numbered = most;
       missing = told;
       refused = λ _. (none, refl);
       reported = λ e. absurd (omega arith);
@@ -31,12 +33,13 @@ refuses-by h n o some none told =
       kept = refl;
     }
 
-pub refuses : (k n : ℕ) (o : List ℕ) → 0 < k → Answered o n (refused k o)
-refuses k n o h = refuses-by (refusal k) n o h refl (λ _. refl)
+pub refuses : (k n : ℕ) (o : List ℕ) → 0 < k → k ≤ 11 → Answered o n (refused k o)
+refuses k n o h l = refuses-by (refusal k) n o h l refl (λ _. refl)
 
 pub does : (p o : List ℕ) (n : ℕ) → length p ≡ n → n ≤ length o → Answered o n (done p o)
 does p o n e h =
     record {
+      numbered = omega arith;
       missing = λ _. refl;
       refused = λ nz. absurd (nz refl);
       reported = λ _. e;
@@ -53,22 +56,22 @@ writes p o n h k =
     subst (λ (y : Outcome). Answered o n y) x (does (take n p) o n e k)
 
 -- a refusal by number k in front, or what comes next, which may count on it that the test does not hold
-pub behind : (test : Bool) (k n : ℕ) (o : List ℕ) (next : Outcome) → 0 < k → (test ≡ false → Answered o n next)
+pub behind : (test : Bool) (k n : ℕ) (o : List ℕ) (next : Outcome) → 0 < k → k ≤ 11 → (test ≡ false → Answered o n next)
     → Answered o n (refuse test k o next)
-behind true k n o next h f = refuses k n o h
-behind false k n o next h f = f refl
+behind true k n o next h l f = refuses k n o h l
+behind false k n o next h l f = f refl
 
 refusal-answers : (r : Refusal) (n : ℕ) (o : List ℕ) → Answered o n (leaving (refusalHead r) o)
-refusal-answers ErrorBlockSize n o = refuses 1 n o (omega arith)
-refusal-answers ErrorDataLen n o = refuses 2 n o (omega arith)
-refusal-answers InvalidLastU8 n o = refuses 3 n o (omega arith)
-refusal-answers InvalidTag n o = refuses 4 n o (omega arith)
-refusal-answers TooLong n o = refuses 5 n o (omega arith)
-refusal-answers NoRoom n o = refuses 6 n o (omega arith)
-refusal-answers EmptyCbc n o = refuses 8 n o (omega arith)
-refusal-answers (ShortGcm k) n o = refuses-by (cutShort k) n o (omega arith) refl (λ other. absurd (other refl))
-refusal-answers WrongIv n o = refuses 10 n o (omega arith)
-refusal-answers WrongBlock n o = refuses 11 n o (omega arith)
+refusal-answers ErrorBlockSize n o = refuses 1 n o (omega arith) (omega arith)
+refusal-answers ErrorDataLen n o = refuses 2 n o (omega arith) (omega arith)
+refusal-answers InvalidLastU8 n o = refuses 3 n o (omega arith) (omega arith)
+refusal-answers InvalidTag n o = refuses 4 n o (omega arith) (omega arith)
+refusal-answers TooLong n o = refuses 5 n o (omega arith) (omega arith)
+refusal-answers NoRoom n o = refuses 6 n o (omega arith) (omega arith)
+refusal-answers EmptyCbc n o = refuses 8 n o (omega arith) (omega arith)
+refusal-answers (ShortGcm k) n o = refuses-by (cutShort k) n o (omega arith) (omega arith) refl (λ other. absurd (other refl))
+refusal-answers WrongIv n o = refuses 10 n o (omega arith) (omega arith)
+refusal-answers WrongBlock n o = refuses 11 n o (omega arith) (omega arith)
 
 -- a check in front, or what comes next, which may count on it that the check passed
 pub checks : (k : Checked) (n : ℕ) (o : List ℕ) (next : Outcome) → (k ≡ Passed → Answered o n next) → Answered o n (checked k o next)
@@ -79,6 +82,7 @@ checks (Refused r) n o next f = refusal-answers r n o
 pub told-length : (n k : ℕ) (o : List ℕ) (x : Outcome) → (x .head .number ≡ 0 → n ≡ k) → Answered o n x → Answered o k x
 told-length n k o x e a =
     record {
+      numbered = a .numbered;
       missing = a .missing;
       refused = a .refused;
       reported = λ z. a .reported z ∙ e z;

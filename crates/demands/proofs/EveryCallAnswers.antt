@@ -69,12 +69,12 @@ stream-answers k rk iv d o r = does (chain (streamMode k rk) iv d) o (length d) 
 cbc-by : (p o : List ℕ) (b : ℕ) (t : Bool) → length p ≤ length o
     → Answered o (length p - b) (written (cbcHead (cond t (Cbc·Done (length p - b)) InvalidLastU8)) p o)
 cbc-by p o b true r = writes p o (length p - b) (omega arith) (omega arith)
-cbc-by p o b false r = refuses 3 (length p - b) o (omega arith)
+cbc-by p o b false r = refuses 3 (length p - b) o (omega arith) (omega arith)
 
 gcm-by : (p o : List ℕ) (n : ℕ) (t : Bool) → n ≤ length p → n ≤ length o
     → Answered o n (written (gcmHead (cond t (Gcm·Done n) InvalidTag)) p o)
 gcm-by p o n true h r = writes p o n h r
-gcm-by p o n false h r = refuses 4 n o (omega arith)
+gcm-by p o n false h r = refuses 4 n o (omega arith) (omega arith)
 
 cbc-answers : (rk iv d o : List ℕ) → length iv ≡ 16 → dataCheck Decrypt Cbc (length d) ≡ Passed → length d ≤ length o
     → Answered o (length d - lastByte (cbcText rk iv d)) (cbcOpen rk iv d o)
@@ -122,7 +122,7 @@ pub exported-message-answers : (dir : Direction) (mode : ℕ) (key label d iv o 
 unfolding hostModeCall newCipherMode
 exported-message-answers dir mode key label d iv o =
     let m = newCipherMode key (modeOf mode) in
-    behind (ltb 4 mode) 7 _ o (modeCall dir m label d iv o) (omega arith) (λ _.
+    behind (ltb 4 mode) 7 _ o (modeCall dir m label d iv o) (omega arith) (omega arith) (λ _.
     told-length _ _ o (modeCall dir m label d iv o)
     (λ z. ap (λ (rk : List ℕ). lengthOf (modeOf mode) dir rk iv d) (new-key key (through dir m label d iv o z .key)))
     (message-answers dir m label d iv o))

@@ -1,4 +1,5 @@
--- Document 01's "At the edges", with document 02's numbers: what the definitions say of a call with these lengths, whatever its bytes are, beside the paper.
+-- Document 01's "At the edges", with document 02's numbers: what the definitions say of a call with these lengths, whatever its
+-- bytes are, beside the papers.
 use mathlib.Core.Bool.{Bool, cond}
 use mathlib.Core.List.{List, [], _∷_, _++_, map}
 use Prim.Native.Nat.{ℕ, _-_}
