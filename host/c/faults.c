@@ -4,8 +4,9 @@
  *                     behind its end and then before its start, and inputs may not be written at all
  *   faults --heap     the same on buffers from malloc, without the limits and fewer sizes: for valgrind
  *
- * Every call's number, length and output are held to what the header says, which is written down again
- * below (expected). Prints what is wrong, and how many calls were made; exit status 1 if anything is.
+ * Every call's number, missing count, length and output are held to what the header says, which is written
+ * down again below (number_for, missing_for). Prints what is wrong, how many calls were made, and how many
+ * of them for each number; exit status 1 if anything is wrong.
  */
 #define _DEFAULT_SOURCE
 
@@ -32,7 +33,7 @@ struct trial {
     size_t key, iv, label, data, room;
 };
 
-static unsigned long calls, wrong;
+static unsigned long calls, wrong, calls_for[12];
 static struct trial now;
 
 static void print_trial(const char *what)
@@ -142,31 +143,52 @@ static size_t room_needed(const struct trial *t)
     return n;
 }
 
-static uint32_t expected(const struct trial *t)
+/* The first of the header's order that applies. */
+static uint32_t number_for(const struct trial *t)
 {
-    int opens = t->direction == DECRYPT && (t->mode == CBC || t->mode == GCM);
-    if (t->mode == BLOCK) {
-        return t->key != 16 || t->data != 16 ? 1 : t->room < 16 ? 6 : 0;
-    }
-    if (t->mode > GCM) {
+    int opens_cbc = t->direction == DECRYPT && t->mode == CBC;
+    int opens_gcm = t->direction == DECRYPT && t->mode == GCM;
+    size_t most = opens_cbc || opens_gcm ? LIMIT + 16 : LIMIT;
+    if (t->mode != BLOCK && t->mode > GCM) {
         return 7;
     }
-    if (t->key != 16 || t->iv != 16) {
+    if (t->key != 16) {
         return 1;
     }
-    if (t->data > (size_t)(opens ? LIMIT + 16 : LIMIT) || (t->mode == GCM && t->label > LIMIT)) {
+    if (t->mode == BLOCK && t->data != 16) {
+        return 11;
+    }
+    if (t->mode != BLOCK && t->iv != 16) {
+        return 10;
+    }
+    if (t->data > most || (t->mode == GCM && t->label > LIMIT)) {
         return 5;
     }
-    if (opens && (t->mode == CBC ? t->data == 0 || t->data % 16 != 0 : t->data < 16)) {
+    if (opens_cbc && t->data == 0) {
+        return 8;
+    }
+    if (opens_cbc && t->data % 16 != 0) {
         return 2;
+    }
+    if (opens_gcm && t->data < 16) {
+        return 9;
     }
     if (t->room < room_needed(t)) {
         return 6;
     }
-    if (opens && t->state == BAD) {
-        return t->mode == CBC ? 3 : 4;
+    if (opens_cbc && t->state == BAD) {
+        return 3;
+    }
+    if (opens_gcm && t->state == BAD) {
+        return 4;
     }
     return 0;
+}
+
+/* Refusal 9 alone tells that bytes were missing. */
+static size_t missing_for(const struct trial *t, uint32_t number)
+{
+    return number == 9 ? 16 - t->data : 0;
 }
 
 static struct luossavin_answer call(const struct trial *t, const uint8_t *key, const uint8_t *iv,
@@ -274,7 +296,7 @@ static int result_is(const struct trial *t, struct buffer key, struct buffer iv,
     roomy.room = t->data + 100;
     again = memory(roomy.room);
     a = call(&roomy, key.bytes, iv.bytes, label.bytes, data.bytes, again);
-    same = a.number == 0 && a.length == length && memcmp(again, out.bytes, length) == 0;
+    same = a.number == 0 && a.missing == 0 && a.length == length && memcmp(again, out.bytes, length) == 0;
     free(again);
     return same;
 }
@@ -288,10 +310,11 @@ static void try(struct trial t)
 {
     struct buffer key = lend(t.key, 0), iv = lend(t.iv, 0), label = lend(t.label, 0), data, kept, out;
     struct luossavin_answer a;
-    uint32_t number = expected(&t);
-    size_t length = number == 0 ? length_when_done(&t) : 0;
+    uint32_t number = number_for(&t);
+    size_t missing = missing_for(&t, number), length = number == 0 ? length_when_done(&t) : 0;
     now = t;
     calls++;
+    calls_for[number]++;
     fill(key);
     fill(iv);
     fill(label);
@@ -307,6 +330,8 @@ static void try(struct trial t)
         t.data ? data.bytes : NULL, t.room ? out.bytes : NULL);
     if (a.number != number) {
         print_trial("its number");
+    } else if (a.missing != missing) {
+        print_trial("its missing count");
     } else if (a.length != length) {
         print_trial("its length");
     } else if (!untouched(out, length)) {
@@ -418,8 +443,13 @@ static void limits(uint32_t mode, int direction)
     try(t);
     t.label = LIMIT + 1;
     try(t);
+    /* the label comes before data that is too short, and the IV before both */
     t.data = 3;
     t.room = 0;
+    try(t);
+    t.data = 0;
+    try(t);
+    t.iv = 12;
     try(t);
 }
 
@@ -452,5 +482,9 @@ int main(int argc, char **argv)
         all(1);
     }
     printf("%lu calls, %lu wrong\n", calls, wrong);
+    printf("by number:");
+    for (int number = 0; number < 12; number++) {
+        printf(" %d: %lu%s", number, calls_for[number], number == 11 ? "\n" : ",");
+    }
     return wrong != 0;
 }

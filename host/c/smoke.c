@@ -1,8 +1,10 @@
-/* The archive called from C: every mode there and back, each refusal once, and no byte written that
- * is not part of a result. Prints what is wrong, and how much was checked; exit status 1 if anything is.
+/* The archive called from C: the answer's layout, every mode there and back, each refusal, what comes first
+ * where two things are wrong, and no byte written that is not part of a result. Prints what is wrong, and
+ * how much was checked; exit status 1 if anything is.
  */
 #include "luossavin.h"
 
+#include <stddef.h>
 #include <stdio.h>
 #include <string.h>
 
@@ -20,8 +22,27 @@ static void check(int holds, const char *what, const char *where, size_t n)
     checked++;
     if (!holds) {
         wrong++;
-        printf("wrong: %s, %s, %zu bytes\n", what, where, n);
+        printf("wrong: %s, %s (%zu)\n", what, where, n);
     }
+}
+
+/* Number and length stand where they stood before `missing` came into the hole between them. */
+static void layout(void)
+{
+    size_t size = sizeof(struct luossavin_answer);
+    size_t number = offsetof(struct luossavin_answer, number);
+    size_t missing = offsetof(struct luossavin_answer, missing);
+    size_t length = offsetof(struct luossavin_answer, length);
+    check(size == 16, "its size", "the answer", size);
+    check(number == 0, "where the number stands", "the answer", number);
+    check(missing == 4, "where the missing count stands", "the answer", missing);
+    check(length == 8, "where the length stands", "the answer", length);
+}
+
+/* Whether a call is done with that length: nothing is missing then. */
+static int done(struct luossavin_answer a, size_t length)
+{
+    return a.number == 0 && a.missing == 0 && a.length == length;
 }
 
 /* An output buffer with an edge on either side, all of it filled with one byte. */
@@ -70,11 +91,11 @@ static void there_and_back(uint32_t mode, size_t n)
         text[i] = (uint8_t)(37 * i + n);
     }
     struct luossavin_answer a = encrypt(mode, n ? text : NULL, n, there, ROOM);
-    check(a.number == 0 && a.length == sealed_length(mode, n), "encryption is done", modes[mode], n);
+    check(done(a, sealed_length(mode, n)), "encryption is done", modes[mode], n);
     check(untouched(&sealed, a.length), "encryption keeps to its length", modes[mode], n);
     check(n < 16 || memcmp(there, text, n) != 0, "encryption changes the text", modes[mode], n);
     a = decrypt(mode, there, a.length, back, ROOM);
-    check(a.number == 0 && a.length == n, "decryption is done", modes[mode], n);
+    check(done(a, n), "decryption is done", modes[mode], n);
     check(untouched(&opened, a.length), "decryption keeps to its length", modes[mode], n);
     check(memcmp(back, text, n) == 0, "the text comes back", modes[mode], n);
 }
@@ -88,32 +109,43 @@ static void single_block(void)
     struct lent one, two;
     uint8_t *there = lend(&one), *back = lend(&two);
     struct luossavin_answer a = luossavin_block_encrypt(example, 16, example, 16, there, ROOM);
-    check(a.number == 0 && a.length == 16 && untouched(&one, 16), "a block is encrypted", "block", 16);
+    check(done(a, 16) && untouched(&one, 16), "a block is encrypted", "block", 16);
     check(memcmp(there, result, 16) == 0, "GB/T 32907's example 1", "block", 16);
     a = luossavin_block_decrypt(example, 16, there, 16, back, ROOM);
-    check(a.number == 0 && a.length == 16 && untouched(&two, 16), "a block is decrypted", "block", 16);
+    check(done(a, 16) && untouched(&two, 16), "a block is decrypted", "block", 16);
     check(memcmp(back, example, 16) == 0, "the block comes back", "block", 16);
 }
 
+/* A refusal with nothing missing. */
 static void refused(struct luossavin_answer a, const struct lent *l, uint32_t number, const char *what)
 {
-    check(a.number == number, what, "its number", number);
+    check(a.number == number, what, "its number", a.number);
+    check(a.missing == 0, what, "its missing count", a.missing);
     check(a.length == 0, what, "its length", a.length);
     check(untouched(l, 0), what, "its output", 0);
 }
 
+/* Refusal 9 of n bytes, which are 16 - n too few for a tag. */
+static void cut_short(struct luossavin_answer a, const struct lent *l, size_t n)
+{
+    check(a.number == 9, "Gcm of too few bytes: its number", modes[4], n);
+    check(a.missing == 16 - n, "Gcm of too few bytes: its missing count", modes[4], n);
+    check(a.length == 0, "Gcm of too few bytes: its length", modes[4], n);
+    check(untouched(l, 0), "Gcm of too few bytes: its output", modes[4], n);
+}
+
+static const uint8_t too_long[16777217];
+
+/* Each refusal, alone. */
 static void refusals(void)
 {
-    static const uint8_t too_long[16777217];
     uint8_t text[32] = {0}, sealed[64];
     struct lent l;
     uint8_t *out = lend(&l);
     refused(luossavin_encrypt(0, key, 15, NULL, 0, text, 32, iv, 16, out, ROOM), &l, 1, "a short key");
-    refused(luossavin_decrypt(4, key, 16, NULL, 0, text, 32, iv, 17, out, ROOM), &l, 1, "a long IV");
-    refused(luossavin_block_encrypt(key, 16, text, 15, out, ROOM), &l, 1, "a short block");
+    refused(luossavin_block_encrypt(iv, 17, text, 16, out, ROOM), &l, 1, "a long key, one block");
     refused(decrypt(3, text, 17, out, ROOM), &l, 2, "Cbc of 17 bytes");
-    refused(decrypt(3, NULL, 0, out, ROOM), &l, 2, "Cbc of nothing");
-    refused(decrypt(4, text, 15, out, ROOM), &l, 2, "Gcm of 15 bytes");
+    refused(decrypt(3, text, 1, out, ROOM), &l, 2, "Cbc of 1 byte");
     /* a last byte of 17 once decrypted: the text's own, with the padding block cut off */
     text[31] = 17;
     encrypt(3, text, 32, sealed, sizeof sealed);
@@ -124,10 +156,39 @@ static void refusals(void)
     refused(encrypt(2, too_long, sizeof too_long, out, ROOM), &l, 5, "16,777,217 bytes");
     refused(encrypt(2, text, 32, out, 31), &l, 6, "room for 31 of 32 bytes");
     refused(encrypt(5, text, 32, out, ROOM), &l, 7, "mode 5");
+    refused(decrypt(3, NULL, 0, out, ROOM), &l, 8, "Cbc of nothing");
+    for (size_t n = 0; n < 16; n++) {
+        cut_short(decrypt(4, n ? text : NULL, n, out, ROOM), &l, n);
+    }
+    refused(luossavin_decrypt(4, key, 16, NULL, 0, text, 32, iv, 17, out, ROOM), &l, 10, "a long IV");
+    refused(luossavin_encrypt(0, key, 16, NULL, 0, text, 32, iv, 12, out, ROOM), &l, 10, "an IV of 12 bytes");
+    refused(luossavin_block_encrypt(key, 16, text, 15, out, ROOM), &l, 11, "a short block");
+    refused(luossavin_block_decrypt(key, 16, text, 17, out, ROOM), &l, 11, "a long block");
+}
+
+/* Where two things are wrong, the one that comes first is the answer; another's missing count is not left behind. */
+static void order(void)
+{
+    uint8_t text[32] = {0};
+    struct lent l;
+    uint8_t *out = lend(&l);
+    refused(luossavin_block_encrypt(key, 15, text, 15, out, 0), &l, 1, "key before block, one block");
+    refused(luossavin_block_decrypt(key, 16, text, 15, out, 0), &l, 11, "block before room");
+    refused(luossavin_decrypt(5, key, 15, NULL, 0, text, 3, iv, 12, out, 0), &l, 7, "mode before key");
+    refused(luossavin_decrypt(4, key, 15, NULL, 0, text, 3, iv, 12, out, 0), &l, 1, "key before IV");
+    refused(luossavin_decrypt(4, key, 16, NULL, 0, text, 3, iv, 12, out, ROOM), &l, 10, "IV before short Gcm");
+    refused(luossavin_decrypt(3, key, 16, NULL, 0, NULL, 0, iv, 12, out, ROOM), &l, 10, "IV before empty Cbc");
+    refused(luossavin_decrypt(4, key, 16, too_long, sizeof too_long, text, 3, iv, 12, out, 0), &l, 10, "IV before label");
+    refused(luossavin_decrypt(4, key, 16, too_long, sizeof too_long, text, 3, iv, 16, out, ROOM), &l, 5, "label before short Gcm");
+    refused(luossavin_decrypt(4, key, 16, too_long, sizeof too_long, NULL, 0, iv, 16, out, 0), &l, 5, "label before no Gcm");
+    cut_short(decrypt(4, text, 15, out, 0), &l, 15);
+    refused(decrypt(3, text, 17, out, 0), &l, 2, "Cbc's length before room");
+    refused(decrypt(3, NULL, 0, NULL, 0), &l, 8, "empty Cbc, with no room");
 }
 
 int main(void)
 {
+    layout();
     for (uint32_t mode = 0; mode <= 4; mode++) {
         for (size_t n = 0; n <= 40; n++) {
             there_and_back(mode, n);
@@ -135,6 +196,7 @@ int main(void)
     }
     single_block();
     refusals();
+    order();
     printf("%u checked, %u wrong\n", checked, wrong);
     return wrong != 0;
 }

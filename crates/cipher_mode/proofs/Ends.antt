@@ -8,20 +8,20 @@ use Rattle.block.specs.Words.{words, unwords}
 use Rattle.block.proofs.Entries.{below-each}
 use Rattle.block.proofs.WordsBack.{length-unwords, unwords-words}
 use Rattle.cipher.specs.Sm4.{encryptWords, decryptWords, encryptBlock, decryptBlock}
-use Rattle.walk.specs.Outcome.{Head, Outcome, finished, refusal, leaving, done}
+use Rattle.walk.specs.Outcome.{Head, Outcome, finished, leaving, done}
 use Rattle.walk.specs.Walk.{over}
 use Rattle.cipher_mode.specs.declared.answer.Refusal.{Refusal}
 use Rattle.cipher_mode.specs.declared.answer.Answer.{Answer}
 use Rattle.cipher_mode.specs.declared.checks.Checked.{Checked}
 use Rattle.cipher_mode.specs.declared.checks.Checked.the-variants.{Passed, Refused}
-use Rattle.cipher_mode.specs.Answer.{refusalNumber, headOf, outcome}
+use Rattle.cipher_mode.specs.Answer.{refusalHead, headOf, outcome}
 use Rattle.cipher_mode.specs.declared.Direction.{Direction}
 use Rattle.cipher_mode.specs.declared.Direction.the-variants.{Encrypt, Decrypt}
 use Rattle.cipher_mode.specs.Checks.{checked}
 use Rattle.cipher_mode.specs.Calls.{keysFor, blockOf}
 
 -- the check refused, and the answer says so
-pub refused-there : (a : Answer) (k : Checked) (r : Refusal) (o : List ℕ) (next : Outcome) → headOf a ≡ refusal (refusalNumber r)
+pub refused-there : (a : Answer) (k : Checked) (r : Refusal) (o : List ℕ) (next : Outcome) → headOf a ≡ refusalHead r
     → k ≡ Refused r → outcome a o ≡ checked k o next
 refused-there a k r o next e f =
     ap {B = Outcome} (λ (h : Head). leaving h o) e ∙ sym (ap {B = Outcome} (λ (x : Checked). checked x o next) f)

@@ -1,24 +1,28 @@
 -- Document 01's number and values for every case of an answer.
 use Prim.Native.Nat.{ℕ}
 use mathlib.Core.List.{List}
-use Rattle.walk.specs.Outcome.{Head, Outcome, finished, refusal, leaving}
+use Rattle.walk.specs.Outcome.{Head, Outcome, finished, refusal, cutShort, leaving}
 use Rattle.cipher_mode.specs.declared.answer.Refusal.{Refusal}
-use Rattle.cipher_mode.specs.declared.answer.Refusal.the-variants.{ErrorBlockSize, ErrorDataLen, InvalidLastU8, InvalidTag, TooLong, NoRoom}
+use Rattle.cipher_mode.specs.declared.answer.Refusal.the-variants.{ErrorBlockSize, ErrorDataLen, InvalidLastU8, InvalidTag, TooLong, NoRoom, EmptyCbc, ShortGcm, WrongIv, WrongBlock}
 use Rattle.cipher_mode.specs.declared.answer.Ending.{Ending}
 use Rattle.cipher_mode.specs.declared.answer.Ending.the-variants.{Done, Refused}
 use Rattle.cipher_mode.specs.declared.answer.Answer.{Answer}
 
-abbrev pub refusalNumber : Refusal → ℕ
-refusalNumber ErrorBlockSize = 1
-refusalNumber ErrorDataLen = 2
-refusalNumber InvalidLastU8 = 3
-refusalNumber InvalidTag = 4
-refusalNumber TooLong = 5
-refusalNumber NoRoom = 6
+abbrev pub refusalHead : Refusal → Head
+refusalHead ErrorBlockSize = refusal 1
+refusalHead ErrorDataLen = refusal 2
+refusalHead InvalidLastU8 = refusal 3
+refusalHead InvalidTag = refusal 4
+refusalHead TooLong = refusal 5
+refusalHead NoRoom = refusal 6
+refusalHead EmptyCbc = refusal 8
+refusalHead (ShortGcm n) = cutShort n
+refusalHead WrongIv = refusal 10
+refusalHead WrongBlock = refusal 11
 
 abbrev pub endingHead : Ending → Head
 endingHead (Done n) = finished n
-endingHead (Refused r) = refusal (refusalNumber r)
+endingHead (Refused r) = refusalHead r
 
 abbrev pub headOf : Answer → Head
 headOf a = endingHead (a .ending)

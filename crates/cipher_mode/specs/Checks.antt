@@ -1,9 +1,9 @@
 -- What is refused before a byte is looked at, in document 01's order and by stages: key and IV, label, data, room.
-use Prim.Native.Nat.{ℕ, _%_}
+use Prim.Native.Nat.{ℕ, _-_, _%_}
 use mathlib.Core.Bool.{Bool, true, false, not, cond}
 use mathlib.Core.List.{List}
 use lib.Dec.{eqb, ltb}
-use Rattle.walk.specs.Outcome.{Outcome, refused}
+use Rattle.walk.specs.Outcome.{Outcome, leaving}
 use Rattle.cipher_mode.specs.declared.KeyAnswer.{KeyAnswer}
 use Rattle.cipher_mode.specs.declared.KeyAnswer.the-variants.{Key, ErrorBlockSize as NoKey}
 use Rattle.cipher_mode.specs.declared.CipherMode.{CipherMode}
@@ -11,11 +11,11 @@ use Rattle.cipher_mode.specs.declared.CipherMode.the-variants.{Cfb, Ofb,
 use Rattle.cipher_mode.specs.declared.Direction.{Direction}
 use Rattle.cipher_mode.specs.declared.Direction.the-variants.{Encrypt, Decrypt}
 use Rattle.cipher_mode.specs.declared.answer.Refusal.{Refusal}
-use Rattle.cipher_mode.specs.declared.answer.Refusal.the-variants.{ErrorBlockSize, ErrorDataLen, TooLong, NoRoom}
+use Rattle.cipher_mode.specs.declared.answer.Refusal.the-variants.{ErrorBlockSize, ErrorDataLen, TooLong, NoRoom, EmptyCbc, ShortGcm, WrongIv, WrongBlock}
 use Rattle.cipher_mode.specs.declared.checks.Checked.{Checked}
 use Rattle.cipher_mode.specs.declared.checks.Checked.the-variants.{Passed, Refused}
 use Rattle.cipher_mode.specs.declared.checks.Lengths.{Lengths}
-use Rattle.cipher_mode.specs.Answer.{refusalNumber}
+use Rattle.cipher_mode.specs.Answer.{refusalHead}
 use Rattle.cipher_mode.specs.Tables.{limit, limitOf, roomOf}
 
 -- where the test holds, the refusal r; otherwise what comes next
@@ -39,7 +39,7 @@ wrongIv m n = not (eqb n 16)
 unfoldable pub keyAndIv : KeyAnswer → CipherMode → ℕ → Checked
 keyAndIv a m iv =
     refuse (noKey a) ErrorBlockSize
-    (refuse (wrongIv m iv) ErrorBlockSize
+    (refuse (wrongIv m iv) WrongIv
     Passed)
 
 -- only Gcm looks at the label
@@ -57,10 +57,10 @@ shapeCheck Decrypt Cfb n = Passed
 shapeCheck Decrypt Ofb n = Passed
 shapeCheck Decrypt Ctr n = Passed
 shapeCheck Decrypt Cbc n =
-    refuse (eqb n 0) ErrorDataLen
+    refuse (eqb n 0) EmptyCbc
     (refuse (not (eqb (n % 16) 0)) ErrorDataLen
     Passed)
-shapeCheck Decrypt Gcm n = refuse (ltb n 16) ErrorDataLen Passed
+shapeCheck Decrypt Gcm n = refuse (ltb n 16) (ShortGcm (16 - n)) Passed
 
 unfoldable pub dataCheck : Direction → CipherMode → ℕ → Checked
 dataCheck dir m n = refuse (ltb (limitOf dir m) n) TooLong (shapeCheck dir m n)
@@ -80,11 +80,11 @@ messageCheck a dir m n =
 unfoldable pub blockCheck : KeyAnswer → ℕ → ℕ → Checked
 blockCheck a n room =
     refuse (noKey a) ErrorBlockSize
-    (refuse (not (eqb n 16)) ErrorBlockSize
+    (refuse (not (eqb n 16)) WrongBlock
     (refuse (ltb room 16) NoRoom
     Passed))
 
 -- a call: what was refused, with the output o as it was lent, or what comes next
 abbrev pub checked : Checked → List ℕ → Outcome → Outcome
 checked Passed o next = next
-checked (Refused r) o next = refused (refusalNumber r) o
+checked (Refused r) o next = leaving (refusalHead r) o

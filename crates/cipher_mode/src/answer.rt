@@ -1,9 +1,10 @@
 // What a call answers. Every head is made here.
 ghost use mathlib.Core.Path.{_≡_};
-ghost use Rattle.walk.specs.Outcome.{finished, refusal as refusalHead};
-ghost use Rattle.cipher_mode.specs.Answer.{refusalNumber, headOf};
+ghost use Rattle.walk.specs.Outcome.{finished};
+ghost use Rattle.cipher_mode.specs.Answer.{refusalHead, headOf};
 
-// Why a call was refused, by the names of document 01.
+// Why a call was refused, by the names of document 01 and, after them, those that tell its lengths apart: Cbc decryption of
+// nothing; Gcm decryption of fewer than 16 bytes, with how many were missing; a wrong IV; a wrong single block.
 pub enum Refusal {
     ErrorBlockSize,
     ErrorDataLen,
@@ -11,6 +12,10 @@ pub enum Refusal {
     InvalidTag,
     TooLong,
     NoRoom,
+    EmptyCbc,
+    ShortGcm(u8),
+    WrongIv,
+    WrongBlock,
 }
 
 // How a call ended: done with a length, or refused.
@@ -25,7 +30,7 @@ pub struct Answer {
 
 // Document 01's number of a refusal.
 pub fn number(refusal: Refusal) -> u32
-    ensures { λ r. ⌜ r ≡ refusalNumber refusal ⌝ }
+    ensures { λ r. ⌜ r ≡ refusalHead refusal .number ⌝ }
 {
     match refusal {
         Refusal::ErrorBlockSize => 1,
@@ -34,6 +39,28 @@ pub fn number(refusal: Refusal) -> u32
         Refusal::InvalidTag => 4,
         Refusal::TooLong => 5,
         Refusal::NoRoom => 6,
+        Refusal::EmptyCbc => 8,
+        Refusal::ShortGcm(_) => 9,
+        Refusal::WrongIv => 10,
+        Refusal::WrongBlock => 11,
+    }
+}
+
+// How many bytes were missing: of refusal 9 alone.
+pub fn missing(refusal: Refusal) -> u8
+    ensures { λ r. ⌜ r ≡ refusalHead refusal .missing ⌝ }
+{
+    match refusal {
+        Refusal::ErrorBlockSize => 0,
+        Refusal::ErrorDataLen => 0,
+        Refusal::InvalidLastU8 => 0,
+        Refusal::InvalidTag => 0,
+        Refusal::TooLong => 0,
+        Refusal::NoRoom => 0,
+        Refusal::EmptyCbc => 0,
+        Refusal::ShortGcm(n) => n,
+        Refusal::WrongIv => 0,
+        Refusal::WrongBlock => 0,
     }
 }
 
@@ -46,7 +73,7 @@ pub fn done(length: usize) -> Answer
 }
 
 pub fn refused(refusal: Refusal) -> Answer
-    ensures { λ r. ⌜ headOf r ≡ refusalHead (refusalNumber refusal) ⌝ }
+    ensures { λ r. ⌜ headOf r ≡ refusalHead refusal ⌝ }
 {
     Answer {
         ending: Ending::Refused(refusal),

@@ -36,7 +36,7 @@ pub fn key_and_iv(key: KeyAnswer, mode: CipherMode, iv: usize) -> Checked
         return Checked::Refused(Refusal::ErrorBlockSize);
     };
     if iv != 16 {
-        return Checked::Refused(Refusal::ErrorBlockSize);
+        return Checked::Refused(Refusal::WrongIv);
     }
     Checked::Passed
 }
@@ -79,7 +79,7 @@ fn whole_blocks(n: usize) -> Checked
     ensures { λ r. ⌜ r ≡ shapeCheck Direction.Decrypt CipherMode.Cbc n ⌝ }
 {
     if n == 0 {
-        return Checked::Refused(Refusal::ErrorDataLen);
+        return Checked::Refused(Refusal::EmptyCbc);
     }
     if n % 16 != 0 {
         return Checked::Refused(Refusal::ErrorDataLen);
@@ -92,7 +92,7 @@ fn with_tag(n: usize) -> Checked
     ensures { λ r. ⌜ r ≡ shapeCheck Direction.Decrypt CipherMode.Gcm n ⌝ }
 {
     if n < 16 {
-        return Checked::Refused(Refusal::ErrorDataLen);
+        return Checked::Refused(Refusal::ShortGcm((16 - n) as u8));
     }
     Checked::Passed
 }
@@ -198,7 +198,7 @@ pub fn block(key: KeyAnswer, n: usize, room: usize) -> Checked
         return Checked::Refused(Refusal::ErrorBlockSize);
     };
     if n != 16 {
-        return Checked::Refused(Refusal::ErrorBlockSize);
+        return Checked::Refused(Refusal::WrongBlock);
     }
     if room < 16 {
         return Checked::Refused(Refusal::NoRoom);

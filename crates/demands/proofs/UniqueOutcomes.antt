@@ -8,6 +8,7 @@ use Rattle.cipher_mode.specs.declared.answer.Answer.{Answer}
 use Rattle.cipher_mode.specs.declared.answer.Ending.{Ending}
 use Rattle.cipher_mode.specs.declared.answer.Ending.the-variants.{Done, Refused}
 use Rattle.cipher_mode.specs.declared.answer.Refusal.the-variants.{ErrorBlockSize, ErrorDataLen, InvalidLastU8, InvalidTag, TooLong, NoRoom}
+use Rattle.cipher_mode.specs.declared.answer.Refusal.the-variants.{EmptyCbc, ShortGcm, WrongIv, WrongBlock}
 use Rattle.cipher_mode.specs.declared.CipherMode.{CipherMode}
 use Rattle.cipher_mode.specs.declared.Direction.{Direction}
 use Rattle.cipher_mode.specs.declared.Sm4Cipher.{Sm4Cipher}
@@ -18,18 +19,23 @@ use Rattle.cipher_mode.specs.Calls.{blockCall, modeCall}
 use Rattle.luossavin.specs.Host.{reported, hostBlockCall, hostModeCall}
 use Rattle.demands.specs.OneOutcome.{OneOutcome, OneReport}
 
--- the ending of a number and a length
-endingOf : ℕ → ℕ → Ending
-endingOf zero n = Done n
-endingOf (suc zero) n = Refused ErrorBlockSize
-endingOf (suc (suc zero)) n = Refused ErrorDataLen
-endingOf (suc (suc (suc zero))) n = Refused InvalidLastU8
-endingOf (suc (suc (suc (suc zero)))) n = Refused InvalidTag
-endingOf (suc (suc (suc (suc (suc zero))))) n = Refused TooLong
-endingOf (suc (suc (suc (suc (suc (suc k)))))) n = Refused NoRoom
+-- the ending of a head
+endingOf : ℕ → ℕ → ℕ → Ending
+endingOf zero n k = Done n
+endingOf (suc zero) n k = Refused ErrorBlockSize
+endingOf (suc (suc zero)) n k = Refused ErrorDataLen
+endingOf (suc (suc (suc zero))) n k = Refused InvalidLastU8
+endingOf (suc (suc (suc (suc zero)))) n k = Refused InvalidTag
+endingOf (suc (suc (suc (suc (suc zero))))) n k = Refused TooLong
+endingOf (suc (suc (suc (suc (suc (suc zero)))))) n k = Refused NoRoom
+endingOf (suc (suc (suc (suc (suc (suc (suc zero))))))) n k = Refused NoRoom
+endingOf (suc (suc (suc (suc (suc (suc (suc (suc zero)))))))) n k = Refused EmptyCbc
+endingOf (suc (suc (suc (suc (suc (suc (suc (suc (suc zero))))))))) n k = Refused (ShortGcm k)
+endingOf (suc (suc (suc (suc (suc (suc (suc (suc (suc (suc zero)))))))))) n k = Refused WrongIv
+endingOf (suc (suc (suc (suc (suc (suc (suc (suc (suc (suc (suc m))))))))))) n k = Refused WrongBlock
 
--- an ending is told by its number and its length
-told : (e : Ending) → endingOf (endingHead e .number) (endingHead e .size) ≡ e
+-- an ending is told by its head
+told : (e : Ending) → endingOf (endingHead e .number) (endingHead e .size) (endingHead e .missing) ≡ e
 unfolding endingOf
 told (Done n) = refl
 told (Refused ErrorBlockSize) = refl
@@ -38,19 +44,26 @@ told (Refused InvalidLastU8) = refl
 told (Refused InvalidTag) = refl
 told (Refused TooLong) = refl
 told (Refused NoRoom) = refl
+told (Refused EmptyCbc) = refl
+told (Refused (ShortGcm n)) = refl
+told (Refused WrongIv) = refl
+told (Refused WrongBlock) = refl
 
 -- so an outcome has one answer and one output
 one : (x : Outcome) → OneOutcome x
 one x a₁ a₂ o₁ o₂ e₁ e₂ =
     let e : outcome a₁ o₁ ≡ outcome a₂ o₂ = e₁ ∙ sym e₂ in
-    let ending = sym (told (a₁ .ending)) ∙ ap (λ (y : Outcome). endingOf (y .head .number) (y .head .size)) e ∙ told (a₂ .ending) in
+    let same = ap (λ (y : Outcome). endingOf (y .head .number) (y .head .size) (y .head .missing)) e in
+    let ending = sym (told (a₁ .ending)) ∙ same ∙ told (a₂ .ending) in
     (ap {B = Answer} (λ (e : Ending). record { ending = e }) ending, ap (λ (y : Outcome). y .bytes) e)
 
--- and a host's answer is its number and its length
+-- and a host's answer is its head
 one-report : (x : Outcome) → OneReport x
 one-report x a₁ a₂ o₁ o₂ e₁ e₂ =
-    let e : reported a₁ o₁ ≡ reported a₂ o₂ = e₁ ∙ sym e₂ in
-    (ap (λ (y : Outcome). record { number = y .head .number; length = y .head .size }) e, ap (λ (y : Outcome). y .bytes) e)
+    let e : reported a₁ o₁ ≡ reported a₂ o₂ = e₁ ∙ sym e₂ in (
+      ap (λ (y : Outcome). record { number = y .head .number; missing = y .head .missing; length = y .head .size }) e,
+      ap (λ (y : Outcome). y .bytes) e,
+    )
 
 -- Any two records that setting up a key may give are the same.
 pub unique-new-cipher : (key : List ℕ) (r₁ r₂ : Sm4Cipher) → r₁ ≡ newCipher key → r₂ ≡ newCipher key → r₁ ≡ r₂

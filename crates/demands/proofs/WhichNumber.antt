@@ -22,41 +22,42 @@ use Rattle.cipher_mode.specs.declared.Direction.the-variants.{Encrypt, Decrypt}
 use Rattle.cipher_mode.specs.declared.answer.Refusal.{Refusal}
 use Rattle.cipher_mode.specs.declared.checks.Checked.{Checked}
 use Rattle.cipher_mode.specs.declared.checks.Checked.the-variants.{Passed, Refused}
-use Rattle.cipher_mode.specs.Answer.{refusalNumber}
+use Rattle.cipher_mode.specs.Answer.{refusalHead}
 use Rattle.cipher_mode.specs.Key.{newCipher, newCipherMode}
 use Rattle.cipher_mode.specs.Tables.{limit, limitOf, roomOf}
 use Rattle.cipher_mode.specs.Checks.{refuse, andThen, keyAndIv, labelCheck, shapeCheck, dataCheck}
 use Rattle.cipher_mode.specs.Checks.{roomCheck, messageCheck, blockCheck, checked}
 use Rattle.cipher_mode.specs.Calls.{blockCall, modeResult, lengthsOf, modeCall}
 use Rattle.luossavin.specs.Host.{modeOf, hostBlockCall, hostModeCall}
-use Rattle.demands.specs.WhichNumber.{Row, Among, isCbc, isGcm, firstOf, numbersOf, blockRows, encryptRows, decryptRows}
+use Rattle.demands.specs.WhichNumber.{Said, saidIn, only, Row, Among, isCbc, isGcm}
+use Rattle.demands.specs.WhichNumber.{firstOf, numbersOf, blockRows, encryptRows, decryptRows}
 use Rattle.demands.proofs.ModesBack.{encrypts}
 
--- the number behind a check, n being what comes next
-behind : Checked → ℕ → ℕ
-behind Passed n = n
-behind (Refused r) n = refusalNumber r
+-- what is said behind a check, s being what comes next
+behind : Checked → Said → Said
+behind Passed s = s
+behind (Refused r) s = saidIn (refusalHead r)
 
-number-checked : (k : Checked) (o : List ℕ) (next : Outcome) → checked k o next .head .number ≡ behind k (next .head .number)
+number-checked : (k : Checked) (o : List ℕ) (next : Outcome) → saidIn (checked k o next .head) ≡ behind k (saidIn (next .head))
 unfolding behind
 number-checked Passed o next = refl
 number-checked (Refused r) o next = refl
 
-number-refuse : (t : Bool) (r : Refusal) (k : Checked) (n : ℕ) → behind (refuse t r k) n ≡ cond t (refusalNumber r) (behind k n)
+number-refuse : (t : Bool) (r : Refusal) (k : Checked) (n : Said) → behind (refuse t r k) n ≡ cond t (saidIn (refusalHead r)) (behind k n)
 unfolding behind
 number-refuse true r k n = refl
 number-refuse false r k n = refl
 
-number-then : (a b : Checked) (n : ℕ) → behind (andThen a b) n ≡ behind a (behind b n)
+number-then : (a b : Checked) (n : Said) → behind (andThen a b) n ≡ behind a (behind b n)
 unfolding behind
 number-then Passed b n = refl
 number-then (Refused r) b n = refl
 
-number-front : (t : Bool) (k : ℕ) (o : List ℕ) (x : Outcome) → refuseAs t k o x .head .number ≡ cond t k (x .head .number)
+number-front : (t : Bool) (k : ℕ) (o : List ℕ) (x : Outcome) → saidIn (refuseAs t k o x .head) ≡ cond t (only k) (saidIn (x .head))
 number-front true k o x = refl
 number-front false k o x = refl
 
-label-number : (m : CipherMode) (n k : ℕ) → behind (labelCheck m n) k ≡ cond (isGcm m && ltb limit n) 5 k
+label-number : (m : CipherMode) (n : ℕ) (k : Said) → behind (labelCheck m n) k ≡ cond (isGcm m && ltb limit n) (only 5) k
 unfolding behind
 label-number Cfb n k = refl
 label-number Ofb n k = refl
@@ -64,37 +65,41 @@ label-number Ctr n k = refl
 label-number Cbc n k = refl
 label-number Gcm n k = number-refuse (ltb limit n) _ Passed k
 
-shape-number : (m : CipherMode) (n k : ℕ)
+shape-number : (m : CipherMode) (n : ℕ) (k : Said)
     → behind (shapeCheck Decrypt m n) k
-    ≡ cond (isCbc m && eqb n 0) 2 (cond (isCbc m && not (eqb (n % 16) 0)) 2 (cond (isGcm m && ltb n 16) 2 k))
+    ≡ cond (isCbc m && eqb n 0) (only 8)
+    (cond (isCbc m && not (eqb (n % 16) 0)) (only 2) (cond (isGcm m && ltb n 16) (record { number = 9; missing = 16 - n }) k))
 unfolding behind
 shape-number Cfb n k = refl
 shape-number Ofb n k = refl
 shape-number Ctr n k = refl
-shape-number Cbc n k = number-refuse (eqb n 0) _ _ k ∙ ap (cond (eqb n 0) 2) (number-refuse (not (eqb (n % 16) 0)) _ Passed k)
+shape-number Cbc n k = number-refuse (eqb n 0) _ _ k
+    ∙ ap {B = Said} (cond (eqb n 0) (only 8)) (number-refuse (not (eqb (n % 16) 0)) _ Passed k)
 shape-number Gcm n k = number-refuse (ltb n 16) _ Passed k
 
 -- opening, by the test that decides
-cbc-by : (n : ℕ) (t : Bool) → cbcHead (cond t (Cbc·Done n) InvalidLastU8) .number ≡ cond (not t) 3 0
+cbc-by : (n : ℕ) (t : Bool) → saidIn (cbcHead (cond t (Cbc·Done n) InvalidLastU8)) ≡ cond (not t) (only 3) (only 0)
 cbc-by n true = refl
 cbc-by n false = refl
 
-gcm-by : (n : ℕ) (t : Bool) → gcmHead (cond t (Gcm·Done n) InvalidTag) .number ≡ cond (not t) 4 0
+gcm-by : (n : ℕ) (t : Bool) → saidIn (gcmHead (cond t (Gcm·Done n) InvalidTag)) ≡ cond (not t) (only 4) (only 0)
 gcm-by n true = refl
 gcm-by n false = refl
 
-cbc-number : (rk iv d o : List ℕ) → cbcOpen rk iv d o .head .number ≡ cond (not (namesPadding (lastByte (cbcText rk iv d)))) 3 0
+cbc-number : (rk iv d o : List ℕ) → saidIn (cbcOpen rk iv d o .head)
+    ≡ cond (not (namesPadding (lastByte (cbcText rk iv d)))) (only 3) (only 0)
 unfolding cbcOpen unpadded
 cbc-number rk iv d o = cbc-by (length (cbcText rk iv d) - lastByte (cbcText rk iv d)) (namesPadding (lastByte (cbcText rk iv d)))
 
-gcm-number : (rk : List ℕ) (h : ℕ) (j aad d o : List ℕ) → gcmOpen rk h j aad d o .head .number ≡ cond (not (opensUnder rk h j aad d)) 4 0
+gcm-number : (rk : List ℕ) (h : ℕ) (j aad d o : List ℕ)
+    → saidIn (gcmOpen rk h j aad d o .head) ≡ cond (not (opensUnder rk h j aad d)) (only 4) (only 0)
 unfolding gcmOpen settled
 gcm-number rk h j aad d o = gcm-by (length d - 16) (opensUnder rk h j aad d)
 
 opening-number : (m : CipherMode) (rk aad d iv o : List ℕ)
-    → modeResult m Decrypt rk aad d iv o .head .number
-    ≡ cond (isCbc m && not (namesPadding (lastByte (cbcText rk iv d)))) 3
-    (cond (isGcm m && not (opensUnder rk (hashKey rk) (J0 rk iv) aad d)) 4 0)
+    → saidIn (modeResult m Decrypt rk aad d iv o .head)
+    ≡ cond (isCbc m && not (namesPadding (lastByte (cbcText rk iv d)))) (only 3)
+    (cond (isGcm m && not (opensUnder rk (hashKey rk) (J0 rk iv) aad d)) (only 4) (only 0))
 opening-number Cfb rk aad d iv o = refl
 opening-number Ofb rk aad d iv o = refl
 opening-number Ctr rk aad d iv o = refl
@@ -102,102 +107,108 @@ opening-number Cbc rk aad d iv o = cbc-number rk iv d o
 opening-number Gcm rk aad d iv o = gcm-number rk (hashKey rk) (J0 rk iv) aad d o
 
 -- past the key: the check of a message from the IV on, n being what comes next
-from-iv : (dir : Direction) (m : CipherMode) (iv label d room n : ℕ)
+from-iv : (dir : Direction) (m : CipherMode) (iv label d room : ℕ) (n : Said)
     → behind (messageCheck Key dir m (record { iv = iv; label = label; «data» = d; room = room })) n
-    ≡ cond (not (eqb iv 16)) 1
-    (cond (isGcm m && ltb limit label) 5
-    (cond (ltb (limitOf dir m) d) 5
-    (behind (shapeCheck dir m d) (cond (ltb room (roomOf m dir d)) 6 n))))
+    ≡ cond (not (eqb iv 16)) (only 10)
+    (cond (isGcm m && ltb limit label) (only 5)
+    (cond (ltb (limitOf dir m) d) (only 5)
+    (behind (shapeCheck dir m d) (cond (ltb room (roomOf m dir d)) (only 6) n))))
 unfolding messageCheck keyAndIv dataCheck roomCheck behind
 from-iv dir m iv label d room n =
-    let of-room : behind (roomCheck dir m d room) n ≡ cond (ltb room (roomOf m dir d)) 6 n =
+    let of-room : behind (roomCheck dir m d room) n ≡ cond (ltb room (roomOf m dir d)) (only 6) n =
     number-refuse (ltb room (roomOf m dir d)) _ Passed n in
-    let of-data : (k : ℕ) → behind (dataCheck dir m d) k ≡ cond (ltb (limitOf dir m) d) 5 (behind (shapeCheck dir m d) k) =
+    let of-data : (k : Said) → behind (dataCheck dir m d) k ≡ cond (ltb (limitOf dir m) d) (only 5) (behind (shapeCheck dir m d) k) =
     λ k. number-refuse (ltb (limitOf dir m) d) _ (shapeCheck dir m d) k in
     number-then (keyAndIv Key m iv) _ n
     ∙ number-refuse (not (eqb iv 16)) _ Passed _
-    ∙ ap (cond (not (eqb iv 16)) 1)
+    ∙ ap {B = Said} (cond (not (eqb iv 16)) (only 10))
     (number-then (labelCheck m label) _ n ∙ label-number m label _
-    ∙ ap (cond (isGcm m && ltb limit label) 5)
+    ∙ ap {B = Said} (cond (isGcm m && ltb limit label) (only 5))
     (number-then (dataCheck dir m d) _ n ∙ of-data _
-    ∙ ap (λ (k : ℕ). cond (ltb (limitOf dir m) d) 5 (behind (shapeCheck dir m d) k)) of-room))
+    ∙ ap {B = Said} (λ (k : Said). cond (ltb (limitOf dir m) d) (only 5) (behind (shapeCheck dir m d) k)) of-room))
 
 -- by the test t on the key's size
 by-key : (key : List ℕ) (t : Bool) → eqb (length key) 16 ≡ t → (dir : Direction) (m : CipherMode) (label d iv o : List ℕ)
-    → modeCall dir (newCipherMode key m) label d iv o .head .number
-    ≡ cond (not t) 1 (behind (messageCheck Key dir m (lengthsOf label d iv o))
-    (modeResult m dir (roundKeys key) label d iv o .head .number))
+    → saidIn (modeCall dir (newCipherMode key m) label d iv o .head)
+    ≡ cond (not t) (only 1)
+    (behind (messageCheck Key dir m (lengthsOf label d iv o)) (saidIn (modeResult m dir (roundKeys key) label d iv o .head)))
 unfolding modeCall newCipherMode newCipher messageCheck keyAndIv
 by-key key true e dir m label d iv o = rw e (number-checked (messageCheck Key dir m (lengthsOf label d iv o)) o _)
 by-key key false e dir m label d iv o = rw e
 
 block-by-key : (key : List ℕ) (t : Bool) → eqb (length key) 16 ≡ t → (dir : Direction) (b o : List ℕ)
-    → blockCall dir (newCipher key) b o .head .number ≡ cond (not t) 1 (behind (blockCheck Key (length b) (length o)) 0)
+    → saidIn (blockCall dir (newCipher key) b o .head) ≡ cond (not t) (only 1) (behind (blockCheck Key (length b) (length o)) (only 0))
 unfolding blockCall newCipher blockCheck
 block-by-key key true e dir b o = rw e (number-checked (blockCheck Key (length b) (length o)) o _)
 block-by-key key false e dir b o = rw e
 
--- The exported call on one block, either way, answers the number of the first condition that holds: the key's size, the
+-- The exported call on one block, either way, says what the first condition says that holds: the key's size, the
 -- block's, the room.
-pub exported-block-number : (dir : Direction) (key b o : List ℕ) → hostBlockCall dir key b o .head .number ≡ firstOf (blockRows key b o)
+pub exported-block-number : (dir : Direction) (key b o : List ℕ) → saidIn (hostBlockCall dir key b o .head) ≡ firstOf (blockRows key b o)
 unfolding hostBlockCall blockCheck behind
 exported-block-number dir key b o =
     block-by-key key (eqb (length key) 16) refl dir b o
-    ∙ ap (cond (not (eqb (length key) 16)) 1)
-    (number-refuse (not (eqb (length b) 16)) _ _ 0 ∙ ap (cond (not (eqb (length b) 16)) 1) (number-refuse (ltb (length o) 16) _ Passed 0))
+    ∙ ap {B = Said} (cond (not (eqb (length key) 16)) (only 1))
+    (number-refuse (not (eqb (length b) 16)) _ _ (only 0)
+    ∙ ap {B = Said} (cond (not (eqb (length b) 16)) (only 11)) (number-refuse (ltb (length o) 16) _ Passed (only 0)))
 
--- The exported encryption answers the number of the first condition that holds: mode, key, IV, label, data, room.
+-- The exported encryption says what the first condition says that holds: mode, key, IV, label, data, room.
 pub exported-encryption-number : (mode : ℕ) (key label d iv o : List ℕ)
-    → hostModeCall Encrypt mode key label d iv o .head .number ≡ firstOf (encryptRows mode key label d iv o)
+    → saidIn (hostModeCall Encrypt mode key label d iv o .head) ≡ firstOf (encryptRows mode key label d iv o)
 unfolding hostModeCall behind
 exported-encryption-number mode key label d iv o =
     let m = modeOf mode in
-    let n = ap (λ (x : Outcome). x .head .number) (encrypts m (roundKeys key) label d iv o) in
+    let n = ap {B = Said} (λ (x : Outcome). saidIn (x .head)) (encrypts m (roundKeys key) label d iv o) in
     number-front (ltb 4 mode) 7 o _
-    ∙ ap (cond (ltb 4 mode) 7)
+    ∙ ap {B = Said} (cond (ltb 4 mode) (only 7))
     (by-key key (eqb (length key) 16) refl Encrypt m label d iv o
-    ∙ ap (λ (k : ℕ). cond (not (eqb (length key) 16)) 1 (behind (messageCheck Key Encrypt m (lengthsOf label d iv o)) k)) n
-    ∙ ap (cond (not (eqb (length key) 16)) 1) (from-iv Encrypt m (length iv) (length label) (length d) (length o) 0))
+    ∙ ap {B = Said} (λ (k : Said). cond (not (eqb (length key) 16)) (only 1)
+    (behind (messageCheck Key Encrypt m (lengthsOf label d iv o)) k)) n
+    ∙ ap {B = Said} (cond (not (eqb (length key) 16)) (only 1))
+    (from-iv Encrypt m (length iv) (length label) (length d) (length o) (only 0)))
 
--- The exported decryption answers the number of the first condition that holds: mode, key, IV, label, data, room, padding, tag.
+-- The exported decryption says what the first condition says that holds: mode, key, IV, label, data, room, padding, tag.
 pub exported-decryption-number : (mode : ℕ) (key label d iv o : List ℕ)
-    → hostModeCall Decrypt mode key label d iv o .head .number ≡ firstOf (decryptRows mode key label d iv o)
+    → saidIn (hostModeCall Decrypt mode key label d iv o .head) ≡ firstOf (decryptRows mode key label d iv o)
 unfolding hostModeCall
 exported-decryption-number mode key label d iv o =
     let m = modeOf mode in
-    let in-lengths : (n : ℕ) → ℕ = λ n. behind (messageCheck Key Decrypt m (lengthsOf label d iv o)) n in
-    let in-shape : (n : ℕ) → ℕ =
-    λ n. cond (not (eqb (length iv) 16)) 1 (cond (isGcm m && ltb limit (length label)) 5 (cond (ltb (limitOf Decrypt m) (length d)) 5 n)) in
+    let in-lengths : Said → Said = λ n. behind (messageCheck Key Decrypt m (lengthsOf label d iv o)) n in
+    let in-shape : Said → Said =
+    λ n.
+    cond (not (eqb (length iv) 16)) (only 10)
+    (cond (isGcm m && ltb limit (length label)) (only 5) (cond (ltb (limitOf Decrypt m) (length d)) (only 5) n)) in
     number-front (ltb 4 mode) 7 o _
-    ∙ ap (cond (ltb 4 mode) 7)
+    ∙ ap {B = Said} (cond (ltb 4 mode) (only 7))
     (by-key key (eqb (length key) 16) refl Decrypt m label d iv o
-    ∙ ap (cond (not (eqb (length key) 16)) 1)
-    (ap in-lengths (opening-number m (roundKeys key) label d iv o)
+    ∙ ap {B = Said} (cond (not (eqb (length key) 16)) (only 1))
+    (ap {A = Said} {B = Said} in-lengths (opening-number m (roundKeys key) label d iv o)
     ∙ from-iv Decrypt m (length iv) (length label) (length d) (length o) _
-    ∙ ap in-shape (shape-number m (length d) _)))
+    ∙ ap {A = Said} {B = Said} in-shape (shape-number m (length d) _)))
 
 -- one row in front
-one-more : (t : Bool) (k n : ℕ) (ks : List ℕ) → Among n (0 ∷ ks) → Among (cond t k n) (0 ∷ k ∷ ks)
-one-more true k n ks a = inr (inl refl)
-one-more false k n ks a = ⊎-elim inl (λ later. inr (inr later)) a
+one-more : (t : Bool) (r n : Said) (ks : List ℕ) → Among (n .number) (0 ∷ ks) → Among ((cond t r n) .number) (0 ∷ r .number ∷ ks)
+one-more true r n ks a = inr (inl refl)
+one-more false r n ks a = ⊎-elim inl (λ later. inr (inr later)) a
 
 -- a list of rows gives 0 or a number of its rows
-one-of : (rows : List Row) → Among (firstOf rows) (numbersOf rows)
+one-of : (rows : List Row) → Among (firstOf rows .number) (numbersOf rows)
 one-of [] = inl refl
-one-of (r ∷ rows) = one-more (r .holds) (r .number) (firstOf rows) (map (λ (r : Row). r .number) rows) (one-of rows)
+one-of (r ∷ rows) = one-more (r .holds) (r .says) (firstOf rows) (map (λ (r : Row). r .says .number) rows) (one-of rows)
 
--- So a call on one block answers 0, 1 or 6 and nothing else;
-pub exported-block-numbers : (dir : Direction) (key b o : List ℕ) → Among (hostBlockCall dir key b o .head .number) (0 ∷ 1 ∷ 1 ∷ 6 ∷ [])
-exported-block-numbers dir key b o = rw (exported-block-number dir key b o) (one-of (blockRows key b o))
+-- So a call on one block answers 0, 1, 11 or 6 and nothing else;
+pub exported-block-numbers : (dir : Direction) (key b o : List ℕ) → Among (hostBlockCall dir key b o .head .number) (0 ∷ 1 ∷ 11 ∷ 6 ∷ [])
+exported-block-numbers dir key b o =
+    rw (ap (λ (s : Said). s .number) (exported-block-number dir key b o)) (one-of (blockRows key b o))
 
--- encryption 0, 7, 1, 5 or 6;
+-- encryption 0, 7, 1, 10, 5 or 6;
 pub exported-encryption-numbers : (mode : ℕ) (key label d iv o : List ℕ)
-    → Among (hostModeCall Encrypt mode key label d iv o .head .number) (0 ∷ 7 ∷ 1 ∷ 1 ∷ 5 ∷ 5 ∷ 6 ∷ [])
+    → Among (hostModeCall Encrypt mode key label d iv o .head .number) (0 ∷ 7 ∷ 1 ∷ 10 ∷ 5 ∷ 5 ∷ 6 ∷ [])
 exported-encryption-numbers mode key label d iv o =
-    rw (exported-encryption-number mode key label d iv o) (one-of (encryptRows mode key label d iv o))
+    rw (ap (λ (s : Said). s .number) (exported-encryption-number mode key label d iv o)) (one-of (encryptRows mode key label d iv o))
 
--- and decryption one of the eight.
+-- and decryption 0, 7, 1, 10, 5, 8, 2, 9, 6, 3 or 4.
 pub exported-decryption-numbers : (mode : ℕ) (key label d iv o : List ℕ)
-    → Among (hostModeCall Decrypt mode key label d iv o .head .number) (0 ∷ 7 ∷ 1 ∷ 1 ∷ 5 ∷ 5 ∷ 2 ∷ 2 ∷ 2 ∷ 6 ∷ 3 ∷ 4 ∷ [])
+    → Among (hostModeCall Decrypt mode key label d iv o .head .number) (0 ∷ 7 ∷ 1 ∷ 10 ∷ 5 ∷ 5 ∷ 8 ∷ 2 ∷ 9 ∷ 6 ∷ 3 ∷ 4 ∷ [])
 exported-decryption-numbers mode key label d iv o =
-    rw (exported-decryption-number mode key label d iv o) (one-of (decryptRows mode key label d iv o))
+    rw (ap (λ (s : Said). s .number) (exported-decryption-number mode key label d iv o)) (one-of (decryptRows mode key label d iv o))

@@ -13,8 +13,10 @@ use Rattle.cipher_mode.specs.declared.Direction.the-variants.{Encrypt, Decrypt}
 
 -- x is an answer to a call whose output was lent as o, where document 01's table gives the length n
 pub record Answered (o : List ℕ) (n : ℕ) (x : Outcome) : Type 0 where
-  -- the number is one of document 01's
-  pub numbered : x .head .number ≤ 7
+  -- the number is one of the papers'
+  pub numbered : x .head .number ≤ 11
+  -- only refusal 9 tells that bytes were missing
+  pub missing : x .head .number ≢ 9 → x .head .missing ≡ 0
   -- every refusal reports length 0 and changes no byte of the output
   pub refused : x .head .number ≢ 0 → (x .head .size ≡ 0) × (x .bytes ≡ o)
   -- every success reports the table's length, which the output has room for

@@ -1,9 +1,10 @@
--- Document 01's "At the edges": what the definitions say of a call with these lengths, whatever its bytes are, beside the paper.
+-- Document 01's "At the edges", with document 02's numbers: what the definitions say of a call with these lengths, whatever its
+-- bytes are, beside the papers.
 use mathlib.Core.Bool.{Bool, cond}
 use mathlib.Core.List.{List, [], _∷_, _++_, map}
 use Prim.Native.Nat.{ℕ, _-_}
 use lib.ListN.{replicate}
-use Rattle.walk.specs.Outcome.{Head, finished, refusal}
+use Rattle.walk.specs.Outcome.{Head, finished, refusal, cutShort}
 use Rattle.cbc.specs.Open.{headOf as cbcHead, unpadded}
 use Rattle.gcm.specs.Open.{headOf as gcmHead}
 use Rattle.gcm.specs.declared.Opened.the-variants.{Done as Gcm·Done, InvalidTag}
@@ -15,7 +16,7 @@ use Rattle.cipher_mode.specs.declared.Direction.the-variants.{Encrypt, Decrypt}
 use Rattle.cipher_mode.specs.declared.checks.Checked.{Checked}
 use Rattle.cipher_mode.specs.declared.checks.Checked.the-variants.{Passed, Refused}
 use Rattle.cipher_mode.specs.declared.checks.Lengths.{Lengths}
-use Rattle.cipher_mode.specs.Answer.{refusalNumber}
+use Rattle.cipher_mode.specs.Answer.{refusalHead}
 use Rattle.cipher_mode.specs.Tables.{roomOf}
 use Rattle.cipher_mode.specs.Checks.{messageCheck}
 
@@ -26,7 +27,7 @@ sizes iv d room = record { iv = iv; label = 0; «data» = d; room = room }
 -- what the checks say: a refusal, or that the call goes on, with the table's room
 abbrev pub verdict : Checked → ℕ → Head
 verdict Passed n = finished n
-verdict (Refused r) n = refusal (refusalNumber r)
+verdict (Refused r) n = refusalHead r
 
 abbrev pub said : Direction → CipherMode → Lengths → Head
 said dir m n = verdict (messageCheck Key dir m n) (roomOf m dir (n .«data»))
@@ -38,11 +39,11 @@ pub record Row : Type 0 where
 abbrev row : Head → Head → Row
 row ours paper = record { ours = ours; paper = paper }
 
--- an IV of so many bytes is refused as 1 in every mode and direction
+-- an IV of so many bytes is refused as 10 in every mode and direction
 abbrev wrongIv : ℕ → List Row
 wrongIv n =
-    map (λ (m : CipherMode). row (said Encrypt m (sizes n 32 48)) (refusal 1)) (Cfb ∷ Ofb ∷ Ctr ∷ Cbc ∷ Gcm ∷ [])
-    ++ map (λ (m : CipherMode). row (said Decrypt m (sizes n 32 48)) (refusal 1)) (Cfb ∷ Ofb ∷ Ctr ∷ Cbc ∷ Gcm ∷ [])
+    map (λ (m : CipherMode). row (said Encrypt m (sizes n 32 48)) (refusal 10)) (Cfb ∷ Ofb ∷ Ctr ∷ Cbc ∷ Gcm ∷ [])
+    ++ map (λ (m : CipherMode). row (said Decrypt m (sizes n 32 48)) (refusal 10)) (Cfb ∷ Ofb ∷ Ctr ∷ Cbc ∷ Gcm ∷ [])
 
 -- right says whether a tag is the message's
 abbrev pub edges : Bool → List Row
@@ -53,13 +54,20 @@ edges right =
     ∷ row (said Encrypt Cbc (sizes 16 16 32)) (finished 32)
     -- Cbc decryption of 16 bytes ending in 10 hex once decrypted is done with length 0
     ∷ row (cbcHead (unpadded (replicate 15 0 ++ (0x10 ∷ [])))) (finished 0)
-    -- Gcm decryption of 15 bytes is 2; of 16 it is done with length 0, or 4
-    ∷ row (said Decrypt Gcm (sizes 16 15 16)) (refusal 2)
+    -- Gcm decryption of 15 bytes is 9 with 1 missing, of none with 16; of 16 bytes it is done with length 0, or 4
+    ∷ row (said Decrypt Gcm (sizes 16 15 16)) (cutShort 1)
+    ∷ row (said Decrypt Gcm (sizes 16 0 16)) (cutShort 16)
     ∷ row (said Decrypt Gcm (sizes 16 16 0)) (finished 0)
     ∷ row (gcmHead (cond right (Gcm·Done (16 - 16)) InvalidTag)) (cond right (finished 0) (refusal 4))
+    -- Gcm encryption of nothing is done, and so is Cbc's; Cbc decryption of nothing is 8, of 17 bytes 2
+    ∷ row (said Encrypt Gcm (sizes 16 0 16)) (finished 16)
+    ∷ row (said Decrypt Cbc (sizes 16 0 16)) (refusal 8)
+    ∷ row (said Decrypt Cbc (sizes 16 17 17)) (refusal 2)
+    -- a wrong IV with short data is 10, with nothing missing
+    ∷ row (said Decrypt Gcm (sizes 12 3 16)) (refusal 10)
     -- Cbc decryption of 16,777,233 bytes is 5 and not 2
     ∷ row (said Decrypt Cbc (sizes 16 16777233 16777233)) (refusal 5)
     -- room one byte short is 6, even where the padding would also be bad
     ∷ row (said Decrypt Cbc (sizes 16 16 15)) (refusal 6)
-    -- a 12-byte or a 17-byte IV is 1 in every mode
+    -- a 12-byte or a 17-byte IV is 10 in every mode
     ∷ (wrongIv 12 ++ wrongIv 17)

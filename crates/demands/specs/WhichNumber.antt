@@ -3,10 +3,11 @@ use mathlib.Core.Path.{_≡_}
 use mathlib.Core.Logic.{_⊎_}
 use mathlib.Core.Bool.{Bool, true, false, not, cond, _&&_}
 use mathlib.Core.List.{List, [], _∷_, map}
-use Prim.Native.Nat.{ℕ, _%_}
+use Prim.Native.Nat.{ℕ, _-_, _%_}
 use lib.Dec.{eqb, ltb}
 use lib.ListN.{length}
 use Rattle.cipher.specs.Sm4.{roundKeys}
+use Rattle.walk.specs.Outcome.{Head}
 use Rattle.cbc.specs.Open.{lastByte, namesPadding, cbcText}
 use Rattle.gcm.specs.Gcm.{hashKey, J0, opensUnder}
 use Rattle.cipher_mode.specs.declared.CipherMode.{CipherMode}
@@ -15,23 +16,34 @@ use Rattle.cipher_mode.specs.declared.Direction.the-variants.{Encrypt, Decrypt}
 use Rattle.cipher_mode.specs.Tables.{limit, limitOf, roomOf}
 use Rattle.luossavin.specs.Host.{modeOf}
 
--- a condition, and the number that is answered where it is the first to hold
+-- what a call says of a refusal: its number, and how many bytes were missing
+pub record Said : Type 0 where
+  pub number : ℕ
+  pub missing : ℕ
+
+abbrev pub saidIn : Head → Said
+saidIn h = record { number = h .number; missing = h .missing }
+
+abbrev pub only : ℕ → Said
+only n = record { number = n; missing = 0 }
+
+-- a condition, and what is said where it is the first to hold
 pub record Row : Type 0 where
   pub holds : Bool
-  pub number : ℕ
+  pub says : Said
 
 abbrev row : Bool → ℕ → Row
-row holds number = record { holds = holds; number = number }
+row holds n = record { holds = holds; says = only n }
 
--- The number of the first row whose condition holds, 0 where none does: so a number is answered exactly when its condition
--- holds and no earlier one does.
-abbrev pub firstOf : List Row → ℕ
-firstOf [] = 0
-firstOf (r ∷ rows) = cond (r .holds) (r .number) (firstOf rows)
+-- What the first row says whose condition holds, 0 where none does: so a number is answered exactly when its condition holds
+-- and no earlier one does.
+abbrev pub firstOf : List Row → Said
+firstOf [] = only 0
+firstOf (r ∷ rows) = cond (r .holds) (r .says) (firstOf rows)
 
 -- the numbers that a list of rows can give
 abbrev pub numbersOf : List Row → List ℕ
-numbersOf rows = 0 ∷ map (λ (r : Row). r .number) rows
+numbersOf rows = 0 ∷ map (λ (r : Row). r .says .number) rows
 
 abbrev pub Among : ℕ → List ℕ → Type 0
 Among n [] = ⊥
@@ -55,7 +67,7 @@ isGcm Gcm = true
 abbrev pub blockRows : List ℕ → List ℕ → List ℕ → List Row
 blockRows key b o =
     row (not (eqb (length key) 16)) 1
-    ∷ row (not (eqb (length b) 16)) 1
+    ∷ row (not (eqb (length b) 16)) 11
     ∷ row (ltb (length o) 16) 6
     ∷ []
 
@@ -64,7 +76,7 @@ abbrev pub encryptRows : ℕ → List ℕ → List ℕ → List ℕ → List ℕ
 encryptRows mode key label d iv o =
     row (ltb 4 mode) 7
     ∷ row (not (eqb (length key) 16)) 1
-    ∷ row (not (eqb (length iv) 16)) 1
+    ∷ row (not (eqb (length iv) 16)) 10
     ∷ row (isGcm (modeOf mode) && ltb limit (length label)) 5
     ∷ row (ltb limit (length d)) 5
     ∷ row (ltb (length o) (roomOf (modeOf mode) Encrypt (length d))) 6
@@ -75,12 +87,12 @@ abbrev pub decryptRows : ℕ → List ℕ → List ℕ → List ℕ → List ℕ
 decryptRows mode key label d iv o =
     row (ltb 4 mode) 7
     ∷ row (not (eqb (length key) 16)) 1
-    ∷ row (not (eqb (length iv) 16)) 1
+    ∷ row (not (eqb (length iv) 16)) 10
     ∷ row (isGcm (modeOf mode) && ltb limit (length label)) 5
     ∷ row (ltb (limitOf Decrypt (modeOf mode)) (length d)) 5
-    ∷ row (isCbc (modeOf mode) && eqb (length d) 0) 2
+    ∷ row (isCbc (modeOf mode) && eqb (length d) 0) 8
     ∷ row (isCbc (modeOf mode) && not (eqb (length d % 16) 0)) 2
-    ∷ row (isGcm (modeOf mode) && ltb (length d) 16) 2
+    ∷ record { holds = isGcm (modeOf mode) && ltb (length d) 16; says = record { number = 9; missing = 16 - length d } }
     ∷ row (ltb (length o) (roomOf (modeOf mode) Decrypt (length d))) 6
     ∷ row (isCbc (modeOf mode) && not (namesPadding (lastByte (cbcText (roundKeys key) iv d)))) 3
     ∷ row (isGcm (modeOf mode) && not (opensUnder (roundKeys key) (hashKey (roundKeys key)) (J0 (roundKeys key) iv) label d)) 4

@@ -12,7 +12,7 @@ use Rattle.luossavin.specs.declared.LuossavinAnswer.{LuossavinAnswer}
 
 -- what a host's answer reports
 abbrev pub headIn : LuossavinAnswer → Head
-headIn r = record { number = r .number; size = r .length }
+headIn r = record { number = r .number; size = r .length; missing = r .missing }
 
 -- the outcome of a host's answer with the output o
 abbrev pub reported : LuossavinAnswer → List ℕ → Outcome

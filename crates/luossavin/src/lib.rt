@@ -12,10 +12,11 @@ use cipher_mode::answer;
 use cipher_mode::answer::Answer;
 use cipher_mode::answer::Ending;
 
-// Document 01's number, and how many bytes of the output are the result.
+// Document 01's number, how many bytes were missing where that is refusal 9, and how many bytes of the output are the result.
 #[repr(C)]
 pub struct LuossavinAnswer {
     pub number: u32,
+    pub missing: u8,
     pub length: usize,
 }
 
@@ -25,7 +26,11 @@ const BAD_MODE: u32 = 7;
 fn refusal(number: u32) -> LuossavinAnswer
     ensures { λ r. ⌜ headIn r ≡ refused number ⌝ }
 {
-    LuossavinAnswer { number, length: 0 }
+    LuossavinAnswer {
+        number,
+        missing: 0,
+        length: 0,
+    }
 }
 
 fn report(answer: Answer) -> LuossavinAnswer
@@ -35,9 +40,14 @@ fn report(answer: Answer) -> LuossavinAnswer
     match ending {
         Ending::Done(n) => LuossavinAnswer {
             number: 0,
+            missing: 0,
             length: n,
         },
-        Ending::Refused(reason) => refusal(answer::number(reason)),
+        Ending::Refused(reason) => LuossavinAnswer {
+            number: answer::number(reason),
+            missing: answer::missing(reason),
+            length: 0,
+        },
     }
 }
 

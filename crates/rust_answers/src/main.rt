@@ -1,7 +1,7 @@
 // Replays libsm's recorded answers, read from the file that its argument names, and says how many
-// agree. A record agrees where number, length and every byte of the output are as recorded, and
-// every byte past the length is as it was lent. README.md beside this crate's folders has the form
-// of the file and what its parts are.
+// agree. A record agrees where number, length and every byte of the output are as recorded, the
+// missing count goes with them, and every byte past the length is as it was lent. README.md beside
+// this crate's folders has the form of the file and what its parts are.
 mod list;
 
 use libc::STDOUT_FILENO;
@@ -27,18 +27,29 @@ pub enum Next {
     Cut,
 }
 
-// The numbers that a name of libsm's may stand for. The names: 0 Ok, 1 ErrorBlockSize,
-// 2 ErrorDataLen, 3 InvalidLastU8, 4 InvalidTag. A request that gives a refusal another number, or
-// that decides otherwise than libsm in some part, changes this and not the list.
+// The numbers that a name of libsm's may stand for. The names: 0 Ok, 1 ErrorBlockSize, which is the
+// key, the IV or the block, 2 ErrorDataLen, 3 InvalidLastU8, 4 InvalidTag, 5 a panic, which is Cbc
+// decryption of nothing or Gcm decryption of too little. A request that gives a refusal another
+// number, or that decides otherwise than libsm in some part, changes this and not the list.
 fn may_stand_for(name: u8, number: u32) -> bool {
     match name {
         0 => number == 0,
-        1 => number == 1,
+        1 => number == 1 || number == 10 || number == 11,
         2 => number == 2,
         3 => number == 3,
         4 => number == 4,
+        5 => number == 8 || number == 9,
         _ => false,
     }
+}
+
+// Whether the missing count is right: refusal 9 tells what the data lacks of a tag's 16 bytes, and
+// every other answer says 0.
+fn counts_missing(number: u32, missing: u8, data: &[u8]) -> bool {
+    if number == 9 {
+        return data.len() + list::wide(missing) == 16;
+    }
+    missing == 0
 }
 
 // Makes the call of a record: mode 5 is a single block, direction 0 is encryption.
@@ -98,6 +109,9 @@ fn agrees(
     let mut out = [LENT; 8192];
     let answer = called(direction, mode, key, iv, label, data, &mut out);
     if !may_stand_for(name, answer.number) {
+        return false;
+    }
+    if !counts_missing(answer.number, answer.missing, data) {
         return false;
     }
     if answer.number != 0 {

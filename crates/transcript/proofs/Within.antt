@@ -30,6 +30,7 @@ use Rattle.cipher_mode.specs.declared.Direction.{Direction}
 use Rattle.cipher_mode.specs.declared.Direction.the-variants.{Encrypt, Decrypt}
 use Rattle.cipher_mode.specs.declared.Sm4CipherMode.{Sm4CipherMode}
 use Rattle.cipher_mode.specs.Key.{newCipherMode}
+use Rattle.cipher_mode.proofs.Refusals.{no-size}
 use Rattle.label.specs.Label.{labelOf}
 use Rattle.transcript.specs.Called.{directionOf, called}
 use Rattle.transcript.specs.declared.Asked.{Asked}
@@ -80,7 +81,7 @@ result-within Gcm Decrypt rk aad d iv o = gcm-within rk _ _ aad d o
 checked-within : (k : Checked) (o : List ℕ) (next : Outcome) → Within next → Within (checked k o next)
 unfolding Within
 checked-within Passed o next h = h
-checked-within (Refused r) o next h = omega arith
+checked-within (Refused r) o next h = omega (arith, no-size r)
 
 mode-within : (dir : Direction) (m : Sm4CipherMode) (aad d iv o : List ℕ) → Within (modeCall dir m aad d iv o)
 unfolding modeCall

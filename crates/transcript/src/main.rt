@@ -237,16 +237,19 @@ fn with_input(asked: Asked, file: &[u8], key: &[u8], iv: &[u8]) -> u8 {
 
 // Says why, of a key, an IV and data of these lengths.
 fn refuse(refusal: Refusal, asked: Asked, key: usize, iv: usize, data: usize) -> u8 {
-    let command = asked.command;
     let places = asked.places;
     say::refusal(places[IN]);
     match refusal {
-        Refusal::ErrorBlockSize => say::block_size(places[KEY], key, iv),
-        Refusal::ErrorDataLen => say::data_len(command, data),
+        Refusal::ErrorBlockSize => say::key_size(places[KEY], key),
+        Refusal::ErrorDataLen => say::uneven(data),
         Refusal::InvalidLastU8 => say::last_byte(),
         Refusal::InvalidTag => say::tag(asked.job, asked.edition),
         Refusal::TooLong => say::too_long(),
         Refusal::NoRoom => say::no_room(),
+        Refusal::EmptyCbc => say::empty(),
+        Refusal::ShortGcm(missing) => say::short(data, missing),
+        Refusal::WrongIv => say::iv_size(iv),
+        Refusal::WrongBlock => say::block_size(data),
     }
 }
 

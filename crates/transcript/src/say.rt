@@ -29,6 +29,15 @@ fn number(n: u64) {
     io::print_decimal(STDERR_FILENO, n);
 }
 
+fn bytes(n: usize) {
+    number(n as u64);
+    if n == 1 {
+        text(b" byte");
+    } else {
+        text(b" bytes");
+    }
+}
+
 // Room for any name as it is shown: a byte of it may take four.
 const SHOWN_ROOM: usize = 4 * WORD_ROOM;
 
@@ -274,32 +283,19 @@ pub fn refusal(at: usize) {
     text(b": ");
 }
 
-pub fn block_size(at: usize, key: usize, iv: usize) -> u8 {
-    text(b"1 ErrorBlockSize: ");
-    if key != 16 {
-        text(b"the key file ");
-        value(at);
-        text(b" has ");
-        number(key as u64);
-        text(b" bytes, and neither 16 raw bytes nor 32 hex digits\n");
-        return 1;
-    }
-    text(b"the IV has ");
-    number(iv as u64);
-    text(b", not 16, bytes: it takes 32 hex digits\n");
+pub fn key_size(at: usize, key: usize) -> u8 {
+    text(b"1 ErrorBlockSize: the key file ");
+    value(at);
+    text(b" has ");
+    bytes(key);
+    text(b", and neither 16 raw bytes nor 32 hex digits\n");
     1
 }
 
-pub fn data_len(command: Command, length: usize) -> u8 {
-    text(b"2 ErrorDataLen: the length of this file is ");
-    number(length as u64);
-    if typed::words::wants(command, MODE) {
-        text(
-            b", and cbc writes 16 bytes or a multiple: cbc did not encrypt it, or it was cut short\n",
-        );
-        return 2;
-    }
-    text(b", and that of a sealed one at least 16: it was never sealed, or it was cut short\n");
+pub fn uneven(length: usize) -> u8 {
+    text(b"2 ErrorDataLen: this file has ");
+    bytes(length);
+    text(b", and cbc writes 16 or a multiple: cbc did not encrypt it, or it was cut short\n");
     2
 }
 
@@ -327,4 +323,37 @@ pub fn too_long() -> u8 {
 pub fn no_room() -> u8 {
     text(b"6 NoRoom: what comes of this file is longer than the tool has room for\n");
     6
+}
+
+pub fn empty() -> u8 {
+    text(b"8 EmptyCbc: this file is empty, and cbc writes at least 16 bytes: was it cut off?\n");
+    8
+}
+
+pub fn short(length: usize, missing: u8) -> u8 {
+    text(b"9 ShortGcm: this file has ");
+    bytes(length);
+    text(b"; a sealed file has at least 16, so ");
+    number(missing as u64);
+    if missing == 1 {
+        text(b" is missing: was it cut off?\n");
+    } else {
+        text(b" are missing: was it cut off?\n");
+    }
+    9
+}
+
+pub fn iv_size(iv: usize) -> u8 {
+    text(b"10 WrongIv: the IV has ");
+    number(iv as u64);
+    text(b", not 16, bytes: it takes 32 hex digits\n");
+    10
+}
+
+// The tool asks for no single block; should it ever, this is what there is to say.
+pub fn block_size(length: usize) -> u8 {
+    text(b"11 WrongBlock: a single block has 16 bytes, not ");
+    number(length as u64);
+    text(b"\n");
+    11
 }

@@ -11,6 +11,8 @@ pub record Head : Type 0 where
   pub number : ℕ
   -- how many bytes of the output are the result
   pub size : ℕ
+  -- of refusal 9, how many bytes were missing; otherwise 0
+  pub missing : ℕ
 
 pub record Outcome : Type 0 where
   pub head : Head
@@ -23,11 +25,15 @@ leaving h o = record { head = h; bytes = o }
 
 -- done, with n bytes
 abbrev pub finished : ℕ → Head
-finished n = record { number = 0; size = n }
+finished n = record { number = 0; size = n; missing = 0 }
 
--- a refusal reports its number, and length 0
+-- a refusal reports its number, and 0 in every other field
 abbrev pub refusal : ℕ → Head
-refusal n = record { number = n; size = 0 }
+refusal n = record { number = n; size = 0; missing = 0 }
+
+-- but for refusal 9, which tells that k bytes were missing
+abbrev pub cutShort : ℕ → Head
+cutShort k = record { number = 9; size = 0; missing = k }
 
 -- refused: the output o is as it was lent
 abbrev pub refused : ℕ → List ℕ → Outcome

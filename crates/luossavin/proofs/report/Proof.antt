@@ -1,8 +1,8 @@
--- `luossavin::report` meets its contract: done reports its length, and a refusal its number.
+-- `luossavin::report` meets its contract: done reports its length, and a refusal its number and what was missing (`told`).
 -- Assumes nothing.
 use mathlib.Core.Path.{sym, ap, _∙_}
-use Rattle.walk.specs.Outcome.{refusal as refused}
 use Rattle.cipher_mode.specs.Answer.{endingHead}
+use Rattle.luossavin.proofs.Refusals.{told}
 use borrow.Author.Needs.{needs}
 use Rattle.luossavin.proofs.report.Statement.{statement}
 use Rattle.luossavin.proofs.report.Tie as tie
@@ -13,8 +13,9 @@ returns c = sym (ap endingHead (c .before .ending .given .1))
 returns-2 : tie.Need-returns-2
 returns-2 c =
     let at-number = c .before in
-    let told = at-number .before .before in
-    c .refusal .ensures ∙ ap refused (at-number .number .ensures) ∙ sym (ap endingHead (told .ending2 .given .1))
+    let at-ending = at-number .before .before in
+    told (at-ending .ending2 .given .0 .0) _ _ (at-number .number .ensures) (c .missing .ensures)
+    ∙ sym (ap endingHead (at-ending .ending2 .given .1))
 
 pub report-spec : {M : Type 1} → statement M
 report-spec =

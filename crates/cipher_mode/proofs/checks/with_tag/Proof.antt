@@ -1,6 +1,7 @@
 -- `cipher_mode::checks::with_tag` meets its contract: each return is one test of the definition.
 -- Assumes nothing.
 use borrow.Author.Tests.{lt-ltb, le-ltb}
+use borrow.Author.Needs.{needs}
 use Rattle.cipher_mode.proofs.checks.with_tag.Statement.{statement}
 use Rattle.cipher_mode.proofs.checks.with_tag.Tie as tie
 
@@ -12,4 +13,4 @@ returns-2 c = rw (le-ltb _ _ (c .if1 .left))
 
 pub with-tag-spec : {M : Type 1} → statement M
 with-tag-spec =
-    tie.close (tie.spec returns returns-2)
+    tie.close (tie.spec (λ c. search needs) (λ c. search needs) returns returns-2)

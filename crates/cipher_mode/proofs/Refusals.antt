@@ -1,0 +1,19 @@
+-- Every refusal reports length 0.
+-- Assumes nothing.
+use mathlib.Core.Path.{_≡_, refl}
+use Rattle.cipher_mode.specs.Answer.{refusalHead}
+use Rattle.cipher_mode.specs.declared.answer.Refusal.{Refusal}
+use Rattle.cipher_mode.specs.declared.answer.Refusal.the-variants.{ErrorBlockSize, ErrorDataLen, InvalidLastU8, InvalidTag}
+use Rattle.cipher_mode.specs.declared.answer.Refusal.the-variants.{TooLong, NoRoom, EmptyCbc, ShortGcm, WrongIv, WrongBlock}
+
+pub no-size : (r : Refusal) → refusalHead r .size ≡ 0
+no-size ErrorBlockSize = refl
+no-size ErrorDataLen = refl
+no-size InvalidLastU8 = refl
+no-size InvalidTag = refl
+no-size TooLong = refl
+no-size NoRoom = refl
+no-size EmptyCbc = refl
+no-size (ShortGcm n) = refl
+no-size WrongIv = refl
+no-size WrongBlock = refl
