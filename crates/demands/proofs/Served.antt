@@ -41,6 +41,10 @@ label-in-order Ctr n h = refl
 label-in-order Cbc n h = refl
 label-in-order Gcm n h = rw (le-ltb limit n (h refl))
 
+iv-in-order : (m : CipherMode) (n : ℕ) → (n ≡ 16) ⊎ ((m ≡ Gcm) × (n ≡ 12)) → wrongIv m n ≡ false
+iv-in-order m n (inl e) = sixteen-taken m n e
+iv-in-order m n (inr (e, f)) = rw (e, f)
+
 data-in-order : (m : CipherMode) (n : ℕ) → n ≤ limit → dataCheck Encrypt m n ≡ Passed
 unfolding dataCheck
 data-in-order m n h = rw (le-ltb limit n h)
@@ -50,7 +54,7 @@ asks-in-order : (m : Sm4CipherMode) → m .cipher .answer ≡ Key → (label d i
 asks-in-order m k label d iv o a =
     record {
       key = k;
-      iv-size = a .sixteen;
+      iv-size = iv-in-order (m .mode) (length iv) (a .iv-size);
       label = label-in-order (m .mode) (length label) (a .label-fits);
       content = data-in-order (m .mode) (length d) (a .data-fits);
       room = a .room;
