@@ -72,7 +72,7 @@ edges right =
     -- Gcm takes a 12-byte IV, and the other modes refuse it as 10
     ∷ row (said Encrypt Gcm (sizes 12 32 48)) (finished 48)
     ∷ row (said Decrypt Gcm (sizes 12 32 48)) (finished 16)
-    ∷ wrongIv 12 (Cfb ∷ Ofb ∷ Ctr ∷ Cbc ∷ [])
+    ∷ (wrongIv 12 (Cfb ∷ Ofb ∷ Ctr ∷ Cbc ∷ [])
     -- an IV of any other length is 10 in Gcm too
-    ++ wrongIv 17 (Cfb ∷ Ofb ∷ Ctr ∷ Cbc ∷ Gcm ∷ [])
-    ++ wrongIv 0 (Gcm ∷ []) ++ wrongIv 11 (Gcm ∷ []) ++ wrongIv 13 (Gcm ∷ []) ++ wrongIv 15 (Gcm ∷ [])
+    ++ (wrongIv 17 (Cfb ∷ Ofb ∷ Ctr ∷ Cbc ∷ Gcm ∷ [])
+    ++ (wrongIv 0 (Gcm ∷ []) ++ (wrongIv 11 (Gcm ∷ []) ++ (wrongIv 13 (Gcm ∷ []) ++ wrongIv 15 (Gcm ∷ []))))))
