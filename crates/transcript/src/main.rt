@@ -250,6 +250,7 @@ fn refuse(refusal: Refusal, asked: Asked, key: usize, iv: usize, data: usize) ->
         Refusal::ShortGcm(missing) => say::short(data, missing),
         Refusal::WrongIv => say::iv_size(iv),
         Refusal::WrongBlock => say::block_size(data),
+        Refusal::Ended => say::ended(),
     }
 }
 
