@@ -1,0 +1,4 @@
+pub mod Begun
+pub mod Pads
+pub mod KeyStream
+pub mod Filling
