@@ -1,11 +1,11 @@
 -- A block filled from what is held and from the text behind it, zeros to its end.
 -- Assumes nothing.
 use mathlib.Core.Path.{_≡_, sym, ap, _∙_}
-use mathlib.Core.List.{List, _++_}
+use mathlib.Core.List.{List, _++_, append-assoc}
 use Prim.Native.Nat.{ℕ, _+_, _-_, _≤_, _<_}
 use native.Mathlib.Omega.{arith}
-use lib.ListN.{length, take, getD, replicate, length-append, List·getD-append}
-use lib.Seq.{getD-take, getD-append-add, length-take-le}
+use lib.ListN.{length, take, drop, getD, replicate, length-append, take-append-drop, List·getD-append}
+use lib.Seq.{getD-take, getD-append-add, length-take-le, take-append-le, take-append-add}
 use Rattle.ghash.proofs.Blocks.{getD-before-zeros}
 use Rattle.pieces.specs.Hashing.{filledUp}
 
@@ -28,3 +28,15 @@ filled-length c = length-take-le 16 (c ++ replicate 16 0) (simp length-append (o
 pub filled-at : (c : List ℕ) (i : ℕ) → i < 16 → getD (filledUp c) i 0 ≡ getD c i 0
 unfolding filledUp
 filled-at c i h = getD-take 16 (c ++ replicate 16 0) i 0 h ∙ getD-before-zeros c 16 i
+
+-- a block that b, of p bytes, and d fill, and what is left of d
+pub filled-full : (b d : List ℕ) (p : ℕ) → length b ≡ p → p ≤ 16 → 16 - p ≤ length d → filledUp (b ++ d) ++ drop (16 - p) d ≡ b ++ d
+unfolding filledUp
+filled-full b d p n low full =
+    let all : 16 ≤ length (b ++ d) = rw length-append (omega arith) in
+    let k : 16 ≡ length b + (16 - p) = omega arith in
+    let front : take 16 ((b ++ d) ++ replicate 16 0) ≡ b ++ take (16 - p) d =
+    take-append-le 16 (b ++ d) (replicate 16 0) all ∙ ap (λ (n : ℕ). take n (b ++ d)) k ∙ take-append-add b d (16 - p) in
+    ap (λ (l : List ℕ). l ++ drop (16 - p) d) front
+    ∙ append-assoc b (take (16 - p) d) (drop (16 - p) d)
+    ∙ ap (λ (l : List ℕ). b ++ l) (take-append-drop (16 - p) d)

@@ -2,3 +2,4 @@ pub mod Begun
 pub mod Pads
 pub mod KeyStream
 pub mod Filling
+pub mod HashOn

@@ -3,7 +3,7 @@ use Prim.Native.Nat.{ℕ, _*_, _/_}
 use mathlib.Core.List.{List, [], _∷_, _++_}
 use lib.ListN.{length, take, drop, replicate}
 use Rattle.block.specs.BigEndian.{numberOf, bytesOf}
-use Rattle.ghash.specs.Ghash.{blocks, lengthBlock, hashFrom}
+use Rattle.ghash.specs.Ghash.{blocks, lengthBlock, hashFrom, ghash}
 use Rattle.pieces.specs.declared.hashing.Hashing.{Hashing}
 
 -- the full blocks of a list of bytes, and the bytes behind them
@@ -24,6 +24,10 @@ hashAfter h y c = record {
   y = bytesOf 16 (hashFrom (numberOf h) (numberOf y) (blocks (fullPart c)));
   held = filledUp (begunPart c);
 }
+
+-- after the label and the text c, from the start
+unfoldable pub hashOf : ℕ → List ℕ → List ℕ → Hashing
+hashOf h label c = hashAfter (bytesOf 16 h) (bytesOf 16 (ghash h (blocks label))) c
 
 -- after the text e, where p bytes of a block were held
 unfoldable pub hashNext : Hashing → ℕ → List ℕ → Hashing

@@ -1,12 +1,12 @@
 // GCM's hash on its way through a text that comes in pieces.
 ghost use mathlib.Core.Path.{_≡_};
-ghost use mathlib.Core.List.{_++_};
+ghost use mathlib.Core.List.{[], _++_};
 ghost use Prim.Native.Nat.{_<_, _≤_};
 ghost use lib.ListN.{length, getD, take};
 ghost use Rattle.block.specs.BigEndian.{numberOf, bytesOf};
 ghost use Rattle.block.specs.Wide.{value};
 ghost use Rattle.ghash.specs.Ghash.{Hashable};
-ghost use Rattle.pieces.specs.Hashing.{filledUp, hashAfter, hashNext, hashEnd};
+ghost use Rattle.pieces.specs.Hashing.{filledUp, hashAfter, hashNext, hashEnd, hashOf};
 use block::U128;
 use ghash::Ghash;
 
@@ -55,4 +55,75 @@ fn filled(held: [u8; 16], p: usize, data: &[u8]) -> [u8; 16]
         i += 1;
     }
     b
+}
+
+// `data` behind the p bytes that are held. The first block is theirs both; the full blocks behind it go through the hash as
+// they stand, and the last bytes are held.
+pub fn take_in(g: Hashing, p: usize, data: &[u8]) -> Hashing
+    requires { ⌜ p < 16 ⌝ }
+    requires { ⌜ Hashable (length (now «data»)) ⌝ }
+    ensures { λ r. ⌜ r ≡ hashNext g p (now («data» .entry)) ⌝ }
+{
+    let h = g.h;
+    let y = g.y;
+    let held = g.held;
+    let first = filled(held, p, data);
+    let m = 16 - p;
+    if data.len() < m {
+        return Hashing { h, y, held: first };
+    }
+    full_blocks(h, y, first, &data[m..])
+}
+
+// A full block and then `rest`, of which the last bytes are held.
+fn full_blocks(h: [u8; 16], y: [u8; 16], first: [u8; 16], rest: &[u8]) -> Hashing
+    requires { ⌜ Hashable (length (now rest)) ⌝ }
+    ensures { λ r. ⌜ r ≡ hashAfter h y (first ++ now (rest .entry)) ⌝ }
+{
+    let n = rest.len() - rest.len() % 16;
+    let start = Ghash {
+        h: number_of(h),
+        y: number_of(y),
+    };
+    let begun = start.absorb(&first);
+    let end = begun.absorb_all(&rest[0..n]);
+    let last = end.y;
+    Hashing {
+        h,
+        y: bytes_of(last),
+        held: filled([0u8; 16], 0, &rest[n..]),
+    }
+}
+
+// The hash at the end of a text, where p bytes are held, for these lengths of label and text.
+pub fn end(g: Hashing, p: usize, label: usize, text: usize) -> [u8; 16]
+    requires { ⌜ p < 16 ⌝ }
+    requires { ⌜ Hashable label × Hashable text ⌝ }
+    ensures { λ r. ⌜ r ≡ hashEnd g p label text ⌝ }
+{
+    let h = g.h;
+    let y = g.y;
+    let held = g.held;
+    let start = Ghash {
+        h: number_of(h),
+        y: number_of(y),
+    };
+    let all = start.absorb_all(&held[0..p]);
+    let last = all.absorb_lengths(label, text);
+    bytes_of(last.y)
+}
+
+// The hash before the first byte of a text, under H: that of the label's blocks.
+pub fn begin(h: U128, label: &[u8]) -> Hashing
+    requires { ⌜ Hashable (length (now label)) ⌝ }
+    ensures { λ r. ⌜ r ≡ hashOf (value h) (now (label .entry)) [] ⌝ }
+{
+    let start = Ghash::new(h);
+    let labelled = start.absorb_all(label);
+    let y = labelled.y;
+    Hashing {
+        h: bytes_of(h),
+        y: bytes_of(y),
+        held: [0u8; 16],
+    }
 }
