@@ -1,7 +1,8 @@
 -- What is known of the lengths where the checks passed.
 -- Assumes nothing.
 use mathlib.Core.Path.{_≡_, refl, sym, ap, _∙_}
-use mathlib.Core.Bool.{Bool, true, false, not}
+use mathlib.Core.Logic.{_⊎_, inl, inr}
+use mathlib.Core.Bool.{Bool, true, false, not, _&&_}
 use Prim.Native.Nat.{ℕ, _%_, _≤_}
 use native.Mathlib.Omega.{arith}
 use lib.Dec.{eqb, ltb}
@@ -45,14 +46,22 @@ is-key : (a : KeyAnswer) → noKey a ≡ false → a ≡ Key
 is-key Key e = refl
 is-key NoKey e = let z : _≡_ {A = ℕ} 0 1 = cc in absurd (omega arith)
 
-sixteen : (n : ℕ) → not (eqb n 16) ≡ false → n ≡ 16
+pub sixteen : (n : ℕ) → not (eqb n 16) ≡ false → n ≡ 16
 sixteen n e = eqb-true n 16 (not-false (eqb n 16) e)
 
-pub key-and-iv-passed : (a : KeyAnswer) (m : CipherMode) (iv : ℕ) → keyAndIv a m iv ≡ Passed → (a ≡ Key) × (iv ≡ 16)
+pub key-and-iv-passed : (a : KeyAnswer) (m : CipherMode) (iv : ℕ) → keyAndIv a m iv ≡ Passed → (a ≡ Key) × (wrongIv m iv ≡ false)
 unfolding keyAndIv
 key-and-iv-passed a m iv e =
     let k = let-through (noKey a) _ _ e in
-    (is-key a (k .fails), sixteen iv (let-through (wrongIv m iv) _ _ (k .rest) .fails))
+    (is-key a (k .fails), let-through (wrongIv m iv) _ _ (k .rest) .fails)
+
+-- an IV that Gcm takes
+pub iv-twelve-or-sixteen : (n : ℕ) → wrongIv Gcm n ≡ false → (n ≡ 12) ⊎ (n ≡ 16)
+iv-twelve-or-sixteen n e = one-of (eqb n 12) refl e
+  where
+    one-of : (twelve : Bool) → eqb n 12 ≡ twelve → not twelve && not (eqb n 16) ≡ false → (n ≡ 12) ⊎ (n ≡ 16)
+    one-of true t f = inl (eqb-true n 12 t)
+    one-of false t f = inr (sixteen n f)
 
 pub label-passed : (n : ℕ) → labelCheck Gcm n ≡ Passed → n ≤ limit
 label-passed n e = ltb-false limit n (let-through (ltb limit n) _ _ e .fails)
@@ -83,7 +92,7 @@ room-passed dir m n room e = ltb-false room (roomOf m dir n) (let-through (ltb r
 -- a message whose call goes on to work
 pub record InOrder (a : KeyAnswer) (dir : Direction) (m : CipherMode) (n : Lengths) : Type 0 where
   pub key : a ≡ Key
-  pub iv-size : n .iv ≡ 16
+  pub iv-size : wrongIv m (n .iv) ≡ false
   pub label : labelCheck m (n .label) ≡ Passed
   pub content : dataCheck dir m (n .«data») ≡ Passed
   pub room : roomOf m dir (n .«data») ≤ n .room

@@ -1,6 +1,6 @@
 -- What is refused before a byte is looked at, in document 01's order and by stages: key and IV, label, data, room.
 use Prim.Native.Nat.{ℕ, _-_, _%_}
-use mathlib.Core.Bool.{Bool, true, false, not, cond}
+use mathlib.Core.Bool.{Bool, true, false, not, _&&_, cond}
 use mathlib.Core.List.{List}
 use lib.Dec.{eqb, ltb}
 use Rattle.walk.specs.Outcome.{Outcome, leaving}
@@ -32,9 +32,13 @@ abbrev pub noKey : KeyAnswer → Bool
 noKey Key = false
 noKey NoKey = true
 
--- an IV of n bytes that the mode does not take: 16 bytes, in every mode
+-- an IV of n bytes that the mode does not take: it takes 16 bytes, and in Gcm 12 as well
 abbrev pub wrongIv : CipherMode → ℕ → Bool
-wrongIv m n = not (eqb n 16)
+wrongIv Cfb n = not (eqb n 16)
+wrongIv Ofb n = not (eqb n 16)
+wrongIv Ctr n = not (eqb n 16)
+wrongIv Cbc n = not (eqb n 16)
+wrongIv Gcm n = not (eqb n 12) && not (eqb n 16)
 
 unfoldable pub keyAndIv : KeyAnswer → CipherMode → ℕ → Checked
 keyAndIv a m iv =

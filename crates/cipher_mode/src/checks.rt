@@ -3,7 +3,7 @@
 ghost use mathlib.Core.Path.{_≡_};
 ghost use Prim.Native.Nat.{_≤_};
 ghost use Rattle.cipher_mode.specs.Tables.{limit, limitOf, roomOf};
-ghost use Rattle.cipher_mode.specs.Checks.{keyAndIv, labelCheck, shapeCheck, dataCheck, roomCheck, messageCheck, blockCheck};
+ghost use Rattle.cipher_mode.specs.Checks.{wrongIv, keyAndIv, labelCheck, shapeCheck, dataCheck, roomCheck, messageCheck, blockCheck};
 use crate::CipherMode;
 use crate::Direction;
 use crate::KeyAnswer;
@@ -28,14 +28,27 @@ pub struct Lengths {
     pub room: usize,
 }
 
-// The key's answer is a key, and the IV has the size that the mode takes: 16 bytes in every mode.
+// An IV of a size that the mode does not take: 16 bytes, and in Gcm 12 as well.
+fn wrong_iv(mode: CipherMode, n: usize) -> bool
+    ensures { λ r. ⌜ r ≡ wrongIv mode n ⌝ }
+{
+    match mode {
+        CipherMode::Cfb => n != 16,
+        CipherMode::Ofb => n != 16,
+        CipherMode::Ctr => n != 16,
+        CipherMode::Cbc => n != 16,
+        CipherMode::Gcm => n != 12 && n != 16,
+    }
+}
+
+// The key's answer is a key, and the IV has a size that the mode takes.
 pub fn key_and_iv(key: KeyAnswer, mode: CipherMode, iv: usize) -> Checked
     ensures { λ r. ⌜ r ≡ keyAndIv key mode iv ⌝ }
 {
     let KeyAnswer::Key = key else {
         return Checked::Refused(Refusal::ErrorBlockSize);
     };
-    if iv != 16 {
+    if wrong_iv(mode, iv) {
         return Checked::Refused(Refusal::WrongIv);
     }
     Checked::Passed

@@ -1,5 +1,6 @@
 // What is done once nothing stands against it: bytes to bytes.
 ghost use mathlib.Core.Path.{_≡_};
+ghost use mathlib.Core.Bool.{false};
 ghost use mathlib.Core.List.{_++_};
 ghost use Prim.Native.Nat.{_≤_};
 ghost use lib.ListN.{length, drop};
@@ -11,7 +12,7 @@ ghost use Rattle.cbc.specs.Open.{headOf as cbcHead};
 ghost use Rattle.gcm.specs.Open.{headOf as gcmHead};
 ghost use Rattle.cipher_mode.specs.Tables.{roomOf};
 ghost use Rattle.cipher_mode.specs.Answer.{headOf, outcome};
-ghost use Rattle.cipher_mode.specs.Checks.{labelCheck, dataCheck};
+ghost use Rattle.cipher_mode.specs.Checks.{wrongIv, labelCheck, dataCheck};
 ghost use Rattle.cipher_mode.specs.Calls.{keysFor, blockOf, cfbKind, cbcResult, gcmResult, modeResult};
 use crate::CipherMode;
 use crate::Direction;
@@ -116,7 +117,7 @@ fn by_gcm(
     out: &mut [u8],
 ) -> Answer
     requires { ⌜ Engine (now t) ⌝ }
-    requires { ⌜ length (now iv) ≡ 16 ⌝ }
+    requires { ⌜ wrongIv CipherMode.Gcm (length (now iv)) ≡ false ⌝ }
     requires { ⌜ labelCheck CipherMode.Gcm (length (now aad)) ≡ Checked.Passed ⌝ }
     requires { ⌜ dataCheck direction CipherMode.Gcm (length (now «data»)) ≡ Checked.Passed ⌝ }
     requires { ⌜ roomOf CipherMode.Gcm direction (length (now «data»)) ≤ length (now out) ⌝ }
@@ -145,7 +146,7 @@ pub(crate) fn message(
     out: &mut [u8],
 ) -> Answer
     requires { ⌜ Engine (now t) ⌝ }
-    requires { ⌜ length (now iv) ≡ 16 ⌝ }
+    requires { ⌜ wrongIv mode (length (now iv)) ≡ false ⌝ }
     requires { ⌜ labelCheck mode (length (now aad)) ≡ Checked.Passed ⌝ }
     requires { ⌜ dataCheck direction mode (length (now «data»)) ≡ Checked.Passed ⌝ }
     requires { ⌜ roomOf mode direction (length (now «data»)) ≤ length (now out) ⌝ }

@@ -35,9 +35,9 @@ use Rattle.cipher_mode.specs.declared.Sm4Cipher.{Sm4Cipher}
 use Rattle.cipher_mode.specs.declared.Sm4CipherMode.{Sm4CipherMode}
 use Rattle.cipher_mode.specs.Key.{keyHead, newCipher, newCipherMode}
 use Rattle.cipher_mode.specs.Tables.{roomOf}
-use Rattle.cipher_mode.specs.Checks.{dataCheck, blockCheck, messageCheck}
+use Rattle.cipher_mode.specs.Checks.{wrongIv, dataCheck, blockCheck, messageCheck}
 use Rattle.cipher_mode.specs.Calls.{blockOf, blockCall, cfbKind, modeResult, lengthsOf, modeCall}
-use Rattle.cipher_mode.proofs.Passed.{message-passed, block-passed, whole-blocks-passed}
+use Rattle.cipher_mode.proofs.Passed.{sixteen, message-passed, block-passed, whole-blocks-passed}
 use Rattle.cipher_mode.proofs.Ends.{length-block}
 use Rattle.luossavin.specs.Host.{modeOf, hostBlockCall, hostModeCall}
 use Rattle.demands.specs.Answered.{Answered, KeyAnswered, lengthOf}
@@ -90,13 +90,13 @@ gcm-answers rk h j aad d o r =
     let n = length-text rk j (textPart d) ∙ length-take-le (length d - 16) d (omega arith) in
     gcm-by (textOf rk j (textPart d)) o (length d - 16) (opensUnder rk h j aad d) (omega arith) r
 
-result-answers : (m : CipherMode) (dir : Direction) (rk aad d iv o : List ℕ) → length iv ≡ 16 → dataCheck dir m (length d) ≡ Passed
-    → roomOf m dir (length d) ≤ length o → Answered o (lengthOf m dir rk iv d) (modeResult m dir rk aad d iv o)
+result-answers : (m : CipherMode) (dir : Direction) (rk aad d iv o : List ℕ) → wrongIv m (length iv) ≡ false
+    → dataCheck dir m (length d) ≡ Passed → roomOf m dir (length d) ≤ length o → Answered o (lengthOf m dir rk iv d) (modeResult m dir rk aad d iv o)
 result-answers Cfb dir rk aad d iv o n e r = stream-answers (cfbKind dir) rk iv d o r
 result-answers Ofb dir rk aad d iv o n e r = stream-answers Ofb·kind rk iv d o r
 result-answers Ctr dir rk aad d iv o n e r = stream-answers Ctr·kind rk iv d o r
 result-answers Cbc Encrypt rk aad d iv o n e r = does (cbcSeal rk iv d) o _ (length-cbcSeal rk iv d) r
-result-answers Cbc Decrypt rk aad d iv o n e r = cbc-answers rk iv d o n e r
+result-answers Cbc Decrypt rk aad d iv o n e r = cbc-answers rk iv d o (sixteen (length iv) n) e r
 result-answers Gcm Encrypt rk aad d iv o n e r =
     does (sealed rk (hashKey rk) (J0 rk iv) aad d) o _ (length-sealed rk (hashKey rk) (J0 rk iv) aad d) r
 result-answers Gcm Decrypt rk aad d iv o n e r = gcm-answers rk (hashKey rk) (J0 rk iv) aad d o r

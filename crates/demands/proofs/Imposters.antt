@@ -1,7 +1,7 @@
 -- Imposters put in the place of a call: each breaks a demand or the definition, at an input that is named.
 -- Assumes nothing.
 use mathlib.Core.Path.{_≡_, refl, sym, ap, _∙_}
-use mathlib.Core.Logic.{_≢_}
+use mathlib.Core.Logic.{_≢_, inl}
 use mathlib.Core.List.{List, [], _∷_, _++_}
 use Prim.Native.Nat.{ℕ, _≤_}
 use native.Mathlib.Nat.{le-of-eq}
@@ -52,7 +52,7 @@ nothing-in-order a k Gcm = record { key = k; iv-size = refl; label = refl; conte
 -- the empty message is asked for in order in every mode
 nothing-asked : (m : CipherMode) → Asks m [] [] zeros zeros
 nothing-asked m =
-    record { sixteen = refl; label-fits = λ _. omega arith; data-fits = omega arith; room = nothing-in-order Key refl m .room }
+    record { iv-size = inl refl; label-fits = λ _. omega arith; data-fits = omega arith; room = nothing-in-order Key refl m .room }
 
 -- But it does not serve: nobody's empty message, without a label and under an IV of zeros, is encrypted, in any mode and whatever
 -- stands beside it for decryption.

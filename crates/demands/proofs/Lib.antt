@@ -11,6 +11,7 @@ pub mod LabelIgnored
 pub mod ModesBack
 pub mod WhichNumber
 pub mod ThereAndBack
+pub mod TwelveBytes
 pub mod Served
 -- demand 3, and what the demands were for
 pub mod OtherHash

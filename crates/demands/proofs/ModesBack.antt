@@ -27,9 +27,9 @@ use Rattle.cipher_mode.specs.declared.CipherMode.the-variants.{Cfb, Ofb, Ctr, C
 use Rattle.cipher_mode.specs.declared.Direction.the-variants.{Encrypt, Decrypt}
 use Rattle.cipher_mode.specs.declared.checks.Checked.the-variants.{Passed}
 use Rattle.cipher_mode.specs.Tables.{limit, sealedLimit, roomOf}
-use Rattle.cipher_mode.specs.Checks.{dataCheck}
+use Rattle.cipher_mode.specs.Checks.{wrongIv, dataCheck}
 use Rattle.cipher_mode.specs.Calls.{modeResult}
-use Rattle.cipher_mode.proofs.Passed.{data-within, with-tag-passed}
+use Rattle.cipher_mode.proofs.Passed.{sixteen, data-within, with-tag-passed}
 
 -- the message that d is encrypted to
 abbrev pub encrypted : CipherMode → List ℕ → List ℕ → List ℕ → List ℕ → List ℕ
@@ -67,13 +67,13 @@ pub record Decrypts (m : CipherMode) (rk aad c iv d : List ℕ) : Type 0 where
   pub content : dataCheck Decrypt m (length c) ≡ Passed
   pub opened : (o : List ℕ) → modeResult m Decrypt rk aad c iv o ≡ done d o
 
-module _ (rk aad d iv : List ℕ) (sixteen : length iv ≡ 16) (iv-bytes : AreBytes iv) (d-bytes : AreBytes d) where
-  cbc-decrypts : length d ≤ limit → Decrypts Cbc rk aad (cbcSeal rk iv d) iv d
-  cbc-decrypts l =
+module _ (rk aad d iv : List ℕ) (iv-bytes : AreBytes iv) (d-bytes : AreBytes d) where
+  cbc-decrypts : length iv ≡ 16 → length d ≤ limit → Decrypts Cbc rk aad (cbcSeal rk iv d) iv d
+  cbc-decrypts n16 l =
       let n = length-cbcSeal rk iv d in
       record {
         content = whole-passes (length (cbcSeal rk iv d)) (omega arith) (omega arith) (omega arith);
-        opened = cbc-back rk iv d sixteen iv-bytes d-bytes;
+        opened = cbc-back rk iv d n16 iv-bytes d-bytes;
       }
 
   gcm-decrypts : length d ≤ limit → Decrypts Gcm rk aad (encrypted Gcm rk aad d iv) iv d
@@ -90,25 +90,26 @@ module _ (rk aad d iv : List ℕ) (sixteen : length iv ≡ 16) (iv-bytes : AreBy
       }
 
   -- in every mode
-  pub back : (m : CipherMode) → dataCheck Encrypt m (length d) ≡ Passed → Decrypts m rk aad (encrypted m rk aad d iv) iv d
+  pub back : (m : CipherMode) → wrongIv m (length iv) ≡ false → dataCheck Encrypt m (length d) ≡ Passed
+      → Decrypts m rk aad (encrypted m rk aad d iv) iv d
   unfolding dataCheck
-  back Cfb e =
+  back Cfb n e =
       record {
         content = rw (length-stream CfbEncrypt rk iv d) e;
         opened = λ o. ap {B = Outcome} (λ (p : List ℕ). done p o) (stream-back CfbEncrypt rk iv d);
       }
-  back Ofb e =
+  back Ofb n e =
       record {
         content = rw (length-stream Ofb·kind rk iv d) e;
         opened = λ o. ap {B = Outcome} (λ (p : List ℕ). done p o) (stream-back Ofb·kind rk iv d);
       }
-  back Ctr e =
+  back Ctr n e =
       record {
         content = rw (length-stream Ctr·kind rk iv d) e;
         opened = λ o. ap {B = Outcome} (λ (p : List ℕ). done p o) (stream-back Ctr·kind rk iv d);
       }
-  back Cbc e = cbc-decrypts (data-within Encrypt Cbc (length d) e)
-  back Gcm e = gcm-decrypts (data-within Encrypt Gcm (length d) e)
+  back Cbc n e = cbc-decrypts (sixteen (length iv) n) (data-within Encrypt Cbc (length d) e)
+  back Gcm n e = gcm-decrypts (data-within Encrypt Gcm (length d) e)
 
 -- the data c decrypted to a text that is in order for encrypting, and encrypts to c
 pub record Encrypts (m : CipherMode) (rk aad c iv o : List ℕ) : Type 0 where

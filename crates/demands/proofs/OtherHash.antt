@@ -2,7 +2,7 @@
 -- Assumes nothing.
 use mathlib.Core.Path.{_≡_, sym, ap, _∙_}
 use mathlib.Core.Logic.{_≢_}
-use mathlib.Core.Bool.{true}
+use mathlib.Core.Bool.{true, false}
 use mathlib.Core.List.{List, _++_}
 use Prim.Native.Nat.{ℕ, _-_, _≤_}
 use native.Mathlib.Omega.{arith}
@@ -18,6 +18,7 @@ use Rattle.cipher_mode.specs.declared.Direction.the-variants.{Decrypt}
 use Rattle.cipher_mode.specs.declared.KeyAnswer.the-variants.{Key}
 use Rattle.cipher_mode.specs.declared.Sm4Cipher.{Sm4Cipher}
 use Rattle.cipher_mode.specs.Tables.{limit, sealedLimit}
+use Rattle.cipher_mode.specs.Checks.{wrongIv}
 use Rattle.cipher_mode.specs.Calls.{lengthsOf, modeCall}
 use Rattle.cipher_mode.proofs.Passed.{InOrder, label-passed, data-within, with-tag-passed}
 use Rattle.demands.specs.Call.{inGcm, RefusedAs}
@@ -53,7 +54,7 @@ module _ (c : Sm4Cipher) where
       let x = leaves Decrypt (inGcm c) aad d iv o (through Decrypt (inGcm c) aad d iv o e) in
       opened-opens (c .rk) (hashKey (c .rk)) (J0 (c .rk) iv) aad d o (rw x at e)
 
-  pub gcm-in-order : (aad d iv o : List ℕ) → c .answer ≡ Key → length iv ≡ 16 → Fits aad d o
+  pub gcm-in-order : (aad d iv o : List ℕ) → c .answer ≡ Key → wrongIv Gcm (length iv) ≡ false → Fits aad d o
       → InOrder (c .answer) Decrypt Gcm (lengthsOf aad d iv o)
   gcm-in-order aad d iv o k n l =
       record {

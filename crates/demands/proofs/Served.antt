@@ -1,6 +1,7 @@
 -- Whoever asks in order is served.
 -- Assumes nothing.
 use mathlib.Core.Path.{_≡_, refl, ap, _∙_}
+use mathlib.Core.Logic.{_⊎_, ⊎-elim}
 use mathlib.Core.Bool.{Bool, true, false}
 use mathlib.Core.List.{List}
 use Prim.Native.Nat.{ℕ, _≤_}
@@ -19,7 +20,7 @@ use Rattle.cipher_mode.specs.declared.Sm4Cipher.{Sm4Cipher}
 use Rattle.cipher_mode.specs.declared.Sm4CipherMode.{Sm4CipherMode}
 use Rattle.cipher_mode.specs.Key.{newCipher, newCipherMode}
 use Rattle.cipher_mode.specs.Tables.{limit, roomOf}
-use Rattle.cipher_mode.specs.Checks.{labelCheck, dataCheck}
+use Rattle.cipher_mode.specs.Checks.{wrongIv, labelCheck, dataCheck}
 use Rattle.cipher_mode.specs.Calls.{blockOf, blockCall, lengthsOf, modeCall}
 use Rattle.cipher_mode.proofs.Passed.{InOrder}
 use Rattle.cipher_mode.proofs.Ends.{length-block}
@@ -41,6 +42,16 @@ label-in-order Ctr n h = refl
 label-in-order Cbc n h = refl
 label-in-order Gcm n h = rw (le-ltb limit n (h refl))
 
+takes-sixteen : (m : CipherMode) → wrongIv m 16 ≡ false
+takes-sixteen Cfb = refl
+takes-sixteen Ofb = refl
+takes-sixteen Ctr = refl
+takes-sixteen Cbc = refl
+takes-sixteen Gcm = refl
+
+iv-in-order : (m : CipherMode) (n : ℕ) → (n ≡ 16) ⊎ ((m ≡ Gcm) × (n ≡ 12)) → wrongIv m n ≡ false
+iv-in-order m n s = ⊎-elim (λ e. rw e (takes-sixteen m)) (λ (e, f). rw (e, f)) s
+
 data-in-order : (m : CipherMode) (n : ℕ) → n ≤ limit → dataCheck Encrypt m n ≡ Passed
 unfolding dataCheck
 data-in-order m n h = rw (le-ltb limit n h)
@@ -50,7 +61,7 @@ asks-in-order : (m : Sm4CipherMode) → m .cipher .answer ≡ Key → (label d i
 asks-in-order m k label d iv o a =
     record {
       key = k;
-      iv-size = a .sixteen;
+      iv-size = iv-in-order (m .mode) (length iv) (a .iv-size);
       label = label-in-order (m .mode) (length label) (a .label-fits);
       content = data-in-order (m .mode) (length d) (a .data-fits);
       room = a .room;

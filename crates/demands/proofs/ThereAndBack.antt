@@ -49,7 +49,7 @@ decryption-takes-back m label d iv o o′ db ib e r =
     let p = through Encrypt m label d iv o e in
     let c = encrypted (m .mode) rk label d iv in
     let x : modeCall Encrypt m label d iv o ≡ done c o = leaves Encrypt m label d iv o p ∙ encrypts (m .mode) rk label d iv o in
-    let k = back rk label d iv (p .iv-size) ib db (m .mode) (p .content) in
+    let k = back rk label d iv ib db (m .mode) (p .iv-size) (p .content) in
     let q : InOrder (m .cipher .answer) Decrypt (m .mode) (lengthsOf label c iv o′) =
     record { key = p .key; iv-size = p .iv-size; label = p .label; content = k .content; room = rw x at r } in
     returns (modeCall Decrypt m) label c d iv o o′ _ x (leaves Decrypt m label c iv o′ q ∙ k .opened o′)

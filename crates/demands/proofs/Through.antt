@@ -70,7 +70,7 @@ module _ (dir : Direction) (c : Sm4Cipher) (b o : List ℕ) where
 in-order : (a : KeyAnswer) (dir : Direction) (m : CipherMode) (n : Lengths) → InOrder a dir m n → messageCheck a dir m n ≡ Passed
 unfolding messageCheck keyAndIv roomCheck
 in-order a dir m n p =
-    rw (p .key, eq-eqb (n .iv) 16 (p .iv-size), p .label, p .content, le-ltb (n .room) (roomOf m dir (n .«data»)) (p .room))
+    rw (p .key, p .iv-size, p .label, p .content, le-ltb (n .room) (roomOf m dir (n .«data»)) (p .room))
 
 -- a message
 module _ (dir : Direction) (m : Sm4CipherMode) (aad d iv o : List ℕ) where

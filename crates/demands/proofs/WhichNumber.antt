@@ -1,6 +1,6 @@
 -- Which number an exported call answers: that of the first of document 01's conditions that holds, and no other.
 -- Assumes nothing.
-use mathlib.Core.Path.{_≡_, refl, ap, _∙_}
+use mathlib.Core.Path.{_≡_, refl, sym, ap, _∙_}
 use mathlib.Core.Logic.{inl, inr, ⊎-elim}
 use mathlib.Core.Bool.{Bool, true, false, not, cond, _&&_}
 use mathlib.Core.List.{List, [], _∷_, map}
@@ -25,7 +25,7 @@ use Rattle.cipher_mode.specs.declared.checks.Checked.the-variants.{Passed, Refu
 use Rattle.cipher_mode.specs.Answer.{refusalHead}
 use Rattle.cipher_mode.specs.Key.{newCipher, newCipherMode}
 use Rattle.cipher_mode.specs.Tables.{limit, limitOf, roomOf}
-use Rattle.cipher_mode.specs.Checks.{refuse, andThen, keyAndIv, labelCheck, shapeCheck, dataCheck}
+use Rattle.cipher_mode.specs.Checks.{refuse, andThen, wrongIv, keyAndIv, labelCheck, shapeCheck, dataCheck}
 use Rattle.cipher_mode.specs.Checks.{roomCheck, messageCheck, blockCheck, checked}
 use Rattle.cipher_mode.specs.Calls.{blockCall, modeResult, lengthsOf, modeCall}
 use Rattle.luossavin.specs.Host.{modeOf, hostBlockCall, hostModeCall}
@@ -106,10 +106,28 @@ opening-number Ctr rk aad d iv o = refl
 opening-number Cbc rk aad d iv o = cbc-number rk iv d o
 opening-number Gcm rk aad d iv o = gcm-number rk (hashKey rk) (J0 rk iv) aad d o
 
+and-true : (b : Bool) → b && true ≡ b
+and-true true = refl
+and-true false = refl
+
+and-swap : (a b : Bool) → a && b ≡ b && a
+and-swap true true = refl
+and-swap true false = refl
+and-swap false true = refl
+and-swap false false = refl
+
+-- an IV that a mode does not take, as the row has it
+iv-test : (m : CipherMode) (n : ℕ) → wrongIv m n ≡ not (eqb n 16) && not (isGcm m && eqb n 12)
+iv-test Cfb n = sym (and-true (not (eqb n 16)))
+iv-test Ofb n = sym (and-true (not (eqb n 16)))
+iv-test Ctr n = sym (and-true (not (eqb n 16)))
+iv-test Cbc n = sym (and-true (not (eqb n 16)))
+iv-test Gcm n = and-swap (not (eqb n 12)) (not (eqb n 16))
+
 -- past the key: the check of a message from the IV on, n being what comes next
 from-iv : (dir : Direction) (m : CipherMode) (iv label d room : ℕ) (n : Said)
     → behind (messageCheck Key dir m (record { iv = iv; label = label; «data» = d; room = room })) n
-    ≡ cond (not (eqb iv 16)) (only 10)
+    ≡ cond (not (eqb iv 16) && not (isGcm m && eqb iv 12)) (only 10)
     (cond (isGcm m && ltb limit label) (only 5)
     (cond (ltb (limitOf dir m) d) (only 5)
     (behind (shapeCheck dir m d) (cond (ltb room (roomOf m dir d)) (only 6) n))))
@@ -119,9 +137,11 @@ from-iv dir m iv label d room n =
     number-refuse (ltb room (roomOf m dir d)) _ Passed n in
     let of-data : (k : Said) → behind (dataCheck dir m d) k ≡ cond (ltb (limitOf dir m) d) (only 5) (behind (shapeCheck dir m d) k) =
     λ k. number-refuse (ltb (limitOf dir m) d) _ (shapeCheck dir m d) k in
-    number-then (keyAndIv Key m iv) _ n
-    ∙ number-refuse (not (eqb iv 16)) _ Passed _
-    ∙ ap {B = Said} (cond (not (eqb iv 16)) (only 10))
+    let test = not (eqb iv 16) && not (isGcm m && eqb iv 12) in
+    let of-iv : (k : Said) → behind (keyAndIv Key m iv) k ≡ cond test (only 10) k =
+    λ k. number-refuse (wrongIv m iv) _ Passed k ∙ ap {B = Said} (λ (t : Bool). cond t (only 10) k) (iv-test m iv) in
+    number-then (keyAndIv Key m iv) _ n ∙ of-iv _
+    ∙ ap {B = Said} (cond test (only 10))
     (number-then (labelCheck m label) _ n ∙ label-number m label _
     ∙ ap {B = Said} (cond (isGcm m && ltb limit label) (only 5))
     (number-then (dataCheck dir m d) _ n ∙ of-data _
@@ -176,7 +196,7 @@ exported-decryption-number mode key label d iv o =
     let in-lengths : Said → Said = λ n. behind (messageCheck Key Decrypt m (lengthsOf label d iv o)) n in
     let in-shape : Said → Said =
     λ n.
-    cond (not (eqb (length iv) 16)) (only 10)
+    cond (not (eqb (length iv) 16) && not (isGcm m && eqb (length iv) 12)) (only 10)
     (cond (isGcm m && ltb limit (length label)) (only 5) (cond (ltb (limitOf Decrypt m) (length d)) (only 5) n)) in
     number-front (ltb 4 mode) 7 o _
     ∙ ap {B = Said} (cond (ltb 4 mode) (only 7))

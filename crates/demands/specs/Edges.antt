@@ -39,11 +39,11 @@ pub record Row : Type 0 where
 abbrev row : Head → Head → Row
 row ours paper = record { ours = ours; paper = paper }
 
--- an IV of so many bytes is refused as 10 in every mode and direction
-abbrev wrongIv : ℕ → List Row
-wrongIv n =
-    map (λ (m : CipherMode). row (said Encrypt m (sizes n 32 48)) (refusal 10)) (Cfb ∷ Ofb ∷ Ctr ∷ Cbc ∷ Gcm ∷ [])
-    ++ map (λ (m : CipherMode). row (said Decrypt m (sizes n 32 48)) (refusal 10)) (Cfb ∷ Ofb ∷ Ctr ∷ Cbc ∷ Gcm ∷ [])
+-- an IV of so many bytes is refused as 10 in these modes, in each direction
+abbrev wrongIv : ℕ → List CipherMode → List Row
+wrongIv n modes =
+    map (λ (m : CipherMode). row (said Encrypt m (sizes n 32 48)) (refusal 10)) modes
+    ++ map (λ (m : CipherMode). row (said Decrypt m (sizes n 32 48)) (refusal 10)) modes
 
 -- right says whether a tag is the message's
 abbrev pub edges : Bool → List Row
@@ -64,10 +64,15 @@ edges right =
     ∷ row (said Decrypt Cbc (sizes 16 0 16)) (refusal 8)
     ∷ row (said Decrypt Cbc (sizes 16 17 17)) (refusal 2)
     -- a wrong IV with short data is 10, with nothing missing
-    ∷ row (said Decrypt Gcm (sizes 12 3 16)) (refusal 10)
+    ∷ row (said Decrypt Gcm (sizes 13 3 16)) (refusal 10)
     -- Cbc decryption of 16,777,233 bytes is 5 and not 2
     ∷ row (said Decrypt Cbc (sizes 16 16777233 16777233)) (refusal 5)
     -- room one byte short is 6, even where the padding would also be bad
     ∷ row (said Decrypt Cbc (sizes 16 16 15)) (refusal 6)
-    -- a 12-byte or a 17-byte IV is 10 in every mode
-    ∷ (wrongIv 12 ++ wrongIv 17)
+    -- Gcm takes a 12-byte IV, and the other modes refuse it as 10
+    ∷ row (said Encrypt Gcm (sizes 12 32 48)) (finished 48)
+    ∷ row (said Decrypt Gcm (sizes 12 32 48)) (finished 16)
+    ∷ (wrongIv 12 (Cfb ∷ Ofb ∷ Ctr ∷ Cbc ∷ [])
+    -- an IV of any other length is 10 in Gcm too
+    ++ (wrongIv 17 (Cfb ∷ Ofb ∷ Ctr ∷ Cbc ∷ Gcm ∷ [])
+    ++ (wrongIv 0 (Gcm ∷ []) ++ (wrongIv 11 (Gcm ∷ []) ++ (wrongIv 13 (Gcm ∷ []) ++ wrongIv 15 (Gcm ∷ []))))))

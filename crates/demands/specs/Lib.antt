@@ -7,6 +7,7 @@ pub mod NoUsableKey
 -- demand 2
 pub mod Served
 pub mod ThereAndBack
+pub mod TwelveBytes
 -- demand 3, and what the demands were for
 pub mod OneBlockRefused
 pub mod OtherEdition

@@ -1,5 +1,6 @@
 -- Whoever asks in order is served, as a property of any calls: a library that refuses everything does not have it.
 use mathlib.Core.Path.{_≡_}
+use mathlib.Core.Logic.{_⊎_}
 use mathlib.Core.List.{List}
 use Prim.Native.Nat.{ℕ, _≤_}
 use lib.ListN.{length}
@@ -18,7 +19,7 @@ pub record Serves (n : ℕ) (x : Outcome) : Type 0 where
 
 -- a message to encrypt in a mode: IV and lengths within document 01's limits, and the table's room
 pub record Asks (mode : CipherMode) (label d iv o : List ℕ) : Type 0 where
-  pub sixteen : length iv ≡ 16
+  pub iv-size : (length iv ≡ 16) ⊎ ((mode ≡ Gcm) × (length iv ≡ 12))
   pub label-fits : mode ≡ Gcm → length label ≤ limit
   pub data-fits : length d ≤ limit
   pub room : roomOf mode Encrypt (length d) ≤ length o

@@ -76,7 +76,7 @@ abbrev pub encryptRows : ℕ → List ℕ → List ℕ → List ℕ → List ℕ
 encryptRows mode key label d iv o =
     row (ltb 4 mode) 7
     ∷ row (not (eqb (length key) 16)) 1
-    ∷ row (not (eqb (length iv) 16)) 10
+    ∷ row (not (eqb (length iv) 16) && not (isGcm (modeOf mode) && eqb (length iv) 12)) 10
     ∷ row (isGcm (modeOf mode) && ltb limit (length label)) 5
     ∷ row (ltb limit (length d)) 5
     ∷ row (ltb (length o) (roomOf (modeOf mode) Encrypt (length d))) 6
@@ -87,7 +87,7 @@ abbrev pub decryptRows : ℕ → List ℕ → List ℕ → List ℕ → List ℕ
 decryptRows mode key label d iv o =
     row (ltb 4 mode) 7
     ∷ row (not (eqb (length key) 16)) 1
-    ∷ row (not (eqb (length iv) 16)) 10
+    ∷ row (not (eqb (length iv) 16) && not (isGcm (modeOf mode) && eqb (length iv) 12)) 10
     ∷ row (isGcm (modeOf mode) && ltb limit (length label)) 5
     ∷ row (ltb (limitOf Decrypt (modeOf mode)) (length d)) 5
     ∷ row (isCbc (modeOf mode) && eqb (length d) 0) 8

@@ -6,11 +6,11 @@ use Prim.Native.Nat.{ℕ, _+_}
 use lib.Dec.{lit<}
 use lib.ListN.{length, take, drop, length-append}
 use lib.Seq.{take-at, drop-at, drop-drop}
-use Rattle.block.specs.Below.{AreWords}
+use Rattle.block.specs.Below.{AreBytes, AreWords}
 use Rattle.block.specs.BigEndian.{numberOf, bytesOf}
-use Rattle.block.specs.Words.{words, unwords}
+use Rattle.block.specs.Words.{wordAt, words, unwords}
 use Rattle.block.specs.Xor.{xors}
-use Rattle.block.proofs.WordsBack.{length-words, unwords-number, unwords-xors}
+use Rattle.block.proofs.WordsBack.{length-words, unwords-twelve, unwords-number, unwords-xors}
 use Rattle.cipher.specs.Sm4.{encryptWords}
 use Rattle.cipher.proofs.Blocks.{encrypt-unwords}
 use Rattle.cipher.proofs.Bounds.{encrypt-four}
@@ -21,7 +21,7 @@ use Rattle.walk.proofs.Loop.{tailed, returned, tail-is, returned-is}
 use Rattle.stream.specs.Stream.{streamMode}
 use Rattle.stream.specs.declared.Kind.the-variants.{Gctr}
 use Rattle.counter.specs.Counter.{gcmNext}
-use Rattle.gcm.specs.Gcm.{hashKey, firstCounter, textOf, tagOf}
+use Rattle.gcm.specs.Gcm.{hashKey, nonceCounter, hashedCounter, textOf, tagOf}
 
 pub hash-key-words : (rk x : List ℕ) (n : ℕ) → x ≡ encryptWords rk (0 ∷ 0 ∷ 0 ∷ 0 ∷ []) → n ≡ numberOf (unwords x) → n ≡ hashKey rk
 unfolding hashKey unwords bytesOf
@@ -29,10 +29,14 @@ hash-key-words rk x n e f =
     f ∙ ap (λ (l : List ℕ). numberOf (unwords l)) e
     ∙ ap numberOf (encrypt-unwords rk (0 ∷ 0 ∷ 0 ∷ 0 ∷ []) refl (lit< tt, (lit< tt, (lit< tt, (lit< tt, tt)))))
 
-pub first-counter-words : (h n : ℕ) (iv r : List ℕ) → length iv ≡ 16 → n ≡ ghash h (authBlocks [] iv) → r ≡ words (bytesOf 16 n)
-    → unwords r ≡ firstCounter h iv
-unfolding firstCounter
-first-counter-words h n iv r l e f = unwords-number r n f ∙ ap (bytesOf 16) (e ∙ ap (ghash h) (iv-blocks iv l))
+pub nonce-counter-words : (iv : List ℕ) (a b c : ℕ) → length iv ≡ 12 → AreBytes iv
+    → a ≡ wordAt iv 0 → b ≡ wordAt iv 4 → c ≡ wordAt iv 8 → unwords (a ∷ b ∷ c ∷ 1 ∷ []) ≡ nonceCounter iv
+unfolding bytesOf
+nonce-counter-words iv a b c n small ea eb ec = rw (ea, eb, ec) (unwords-twelve iv 1 n small)
+
+pub hashed-counter-words : (h n : ℕ) (iv r : List ℕ) → length iv ≡ 16 → n ≡ ghash h (authBlocks [] iv) → r ≡ words (bytesOf 16 n)
+    → unwords r ≡ hashedCounter h iv
+hashed-counter-words h n iv r l e f = unwords-number r n f ∙ ap (bytesOf 16) (e ∙ ap (ghash h) (iv-blocks iv l))
 
 pub tag-words : (rk j label text e s r : List ℕ) (h n : ℕ) → length j ≡ 4 → AreWords j → e ≡ encryptWords rk j
     → n ≡ ghash h (authBlocks label text) → s ≡ words (bytesOf 16 n) → r ≡ xors e s → unwords r ≡ tagOf rk h (unwords j) label text

@@ -1,7 +1,8 @@
 -- GCM, NIST SP 800-38D, over round keys, H and J0.
 use Prim.Native.Nat.{ℕ, _-_}
-use mathlib.Core.Bool.{Bool}
+use mathlib.Core.Bool.{Bool, cond}
 use mathlib.Core.List.{List, [], _∷_, _++_}
+use lib.Dec.{eqb}
 use lib.ListN.{length, take, drop, replicate}
 use Rattle.block.specs.BigEndian.{numberOf, bytesOf}
 use Rattle.block.specs.Same.{same}
@@ -17,9 +18,17 @@ use Rattle.stream.specs.declared.Kind.the-variants.{Gctr}
 unfoldable pub hashKey : List ℕ → ℕ
 hashKey rk = numberOf (encryptBlock rk (replicate 16 0))
 
+-- J0 of a 12-byte IV: the IV, and then 00000001
+abbrev pub nonceCounter : List ℕ → List ℕ
+nonceCounter iv = iv ++ (0 ∷ 0 ∷ 0 ∷ 1 ∷ [])
+
 -- J0 of a 16-byte IV: the hash of the IV, and of 8 zero bytes and the number 128 in 8 bytes
+abbrev pub hashedCounter : ℕ → List ℕ → List ℕ
+hashedCounter h iv = bytesOf 16 (ghash h (numberOf iv ∷ 128 ∷ []))
+
+-- J0, by the length of the IV: section 7.1, step 2. Gcm takes no other lengths.
 unfoldable pub firstCounter : ℕ → List ℕ → List ℕ
-firstCounter h iv = bytesOf 16 (ghash h (numberOf iv ∷ 128 ∷ []))
+firstCounter h iv = cond (eqb (length iv) 12) (nonceCounter iv) (hashedCounter h iv)
 
 -- J0 of an IV under round keys
 abbrev pub J0 : List ℕ → List ℕ → List ℕ

@@ -1,5 +1,6 @@
 // GCM: libsm's `gcm_encrypt` and `gcm_decrypt`, over round keys, H and J0. The IV is the caller's: J0 is made of it once.
 ghost use mathlib.Core.Path.{_≡_};
+ghost use mathlib.Core.Logic.{_⊎_};
 ghost use Prim.Native.Nat.{_+_, _-_, _≤_};
 ghost use lib.ListN.{length};
 ghost use Rattle.block.specs.Wide.{value};
@@ -8,7 +9,7 @@ ghost use Rattle.cipher.specs.Engine.{Engine};
 ghost use Rattle.ghash.specs.Ghash.{Hashable};
 ghost use Rattle.walk.specs.Outcome.{leaving};
 ghost use Rattle.walk.specs.Walk.{over};
-ghost use Rattle.gcm.specs.Gcm.{hashKey, firstCounter, tagOf, sealed, textPart, tagPart, opensUnder};
+ghost use Rattle.gcm.specs.Gcm.{hashKey, nonceCounter, hashedCounter, firstCounter, tagOf, sealed, textPart, tagPart, opensUnder};
 ghost use Rattle.gcm.specs.Open.{headOf, gcmOpen};
 use block::U128;
 use stream::Kind;
@@ -27,12 +28,36 @@ pub fn hash_key(t: &[u32], rk: [u32; 32]) -> U128
     block::to_u128(cipher::encrypt(t, rk, [0u32; 4]))
 }
 
+// J0 of a 12-byte IV.
+fn nonce_counter(iv: &[u8]) -> [u32; 4]
+    requires { ⌜ length (now iv) ≡ 12 ⌝ }
+    ensures { λ r. ⌜ unwords r ≡ nonceCounter (now (iv .entry)) ⌝ }
+{
+    [
+        block::word_at(iv, 0),
+        block::word_at(iv, 4),
+        block::word_at(iv, 8),
+        1,
+    ]
+}
+
 // J0 of a 16-byte IV. The blocks of an empty label and the IV are the two that J0 is the hash of.
-pub fn first_counter(h: U128, iv: &[u8]) -> [u32; 4]
+fn hashed_counter(h: U128, iv: &[u8]) -> [u32; 4]
     requires { ⌜ length (now iv) ≡ 16 ⌝ }
-    ensures { λ r. ⌜ unwords r ≡ firstCounter (value h) (now (iv .entry)) ⌝ }
+    ensures { λ r. ⌜ unwords r ≡ hashedCounter (value h) (now (iv .entry)) ⌝ }
 {
     block::from_u128(ghash::galois_hash(h, &iv[0..0], iv))
+}
+
+// J0 of an IV of twelve or of sixteen bytes.
+pub fn first_counter(h: U128, iv: &[u8]) -> [u32; 4]
+    requires { ⌜ (length (now iv) ≡ 12) ⊎ (length (now iv) ≡ 16) ⌝ }
+    ensures { λ r. ⌜ unwords r ≡ firstCounter (value h) (now (iv .entry)) ⌝ }
+{
+    if iv.len() == 12 {
+        return nonce_counter(iv);
+    }
+    hashed_counter(h, iv)
 }
 
 fn tag(t: &[u32], rk: [u32; 32], h: U128, j0: [u32; 4], aad: &[u8], text: &[u8]) -> [u32; 4]

@@ -13,7 +13,7 @@ use Rattle.gcm.specs.Gcm.{hashKey, firstCounter, J0, sealed}
 use Rattle.gcm.specs.Open.{gcmOpen}
 use Rattle.gcm.proofs.Parts.{length-sealed}
 use Rattle.cipher_mode.specs.Tables.{limit}
-use Rattle.cipher_mode.proofs.Passed.{label-passed, data-within, with-tag-passed}
+use Rattle.cipher_mode.proofs.Passed.{iv-twelve-or-sixteen, label-passed, data-within, with-tag-passed}
 use Rattle.cipher_mode.proofs.Ends.{reached}
 use borrow.Author.Needs.{needs}
 use Rattle.cipher_mode.proofs.work.by_gcm.Statement.{statement}
@@ -26,6 +26,11 @@ is-j0 : (x : tie.After-first-counter)
 is-j0 x =
     let a = x .before .before .before .before .before .before .before .args in
     x .first-counter .ensures ∙ ap (λ (h : ℕ). firstCounter h (now (a .iv))) (x .before .hash-key .ensures)
+
+first-counter-requires : tie.Need-first-counter-requires
+first-counter-requires c κs =
+    let S = c .before .before .before .before .before .before in
+    iv-twelve-or-sixteen (length (now (S .args .iv))) (S .pre .1 .0)
 
 encrypt-requires : tie.Need-encrypt-requires
 encrypt-requires c κs =
@@ -87,6 +92,6 @@ pub by-gcm-spec : {M : Type 1} → statement M
 by-gcm-spec =
     tie.close
     (tie.spec
-    (λ c κs. search needs) (λ c κs. search needs) (λ c. search needs) encrypt-requires encrypted-length-requires
+    (λ c κs. search needs) first-counter-requires (λ c. search needs) encrypt-requires encrypted-length-requires
     (λ c κs. search needs) (λ c. search needs) decrypt-requires (λ c κs. search needs) (λ c. search needs) returns
     (λ c. search needs) returns-2)

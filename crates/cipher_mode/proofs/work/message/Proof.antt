@@ -6,6 +6,7 @@ use Rattle.walk.specs.Outcome.{Outcome, done}
 use Rattle.walk.specs.Walk.{chain}
 use Rattle.stream.specs.Stream.{streamMode}
 use Rattle.stream.specs.declared.Kind.{Kind}
+use Rattle.cipher_mode.proofs.Passed.{sixteen}
 use borrow.Author.Needs.{needs}
 use Rattle.cipher_mode.proofs.work.message.Statement.{statement}
 use Rattle.cipher_mode.proofs.work.message.Tie as tie
@@ -14,33 +15,36 @@ by-stream-requires : tie.Need-by-stream-requires
 by-stream-requires c κs =
     let told = c .before .before in
     let S = told .before .before .before .before .before .before .before in
-    (S .pre .0, (S .pre .1 .0, rw (told .enum-told .given .1) at (S .pre .1 .1 .1 .1)))
+    let mode = told .enum-told .given .1 in
+    (S .pre .0, (sixteen _ (rw mode at (S .pre .1 .0)), rw mode at (S .pre .1 .1 .1 .1)))
 
 by-stream-requires-2 : tie.Need-by-stream-requires-2
 by-stream-requires-2 c κs =
     let told = c .before in
     let S = told .before .before .before .before .before .before .before in
-    (S .pre .0, (S .pre .1 .0, rw (told .enum-told2 .given .1) at (S .pre .1 .1 .1 .1)))
+    let mode = told .enum-told2 .given .1 in
+    (S .pre .0, (sixteen _ (rw mode at (S .pre .1 .0)), rw mode at (S .pre .1 .1 .1 .1)))
 
 by-stream-requires-3 : tie.Need-by-stream-requires-3
 by-stream-requires-3 c κs =
     let told = c .before in
     let S = told .before .before .before .before .before .before .before in
-    (S .pre .0, (S .pre .1 .0, rw (told .enum-told3 .given .1) at (S .pre .1 .1 .1 .1)))
+    let mode = told .enum-told3 .given .1 in
+    (S .pre .0, (sixteen _ (rw mode at (S .pre .1 .0)), rw mode at (S .pre .1 .1 .1 .1)))
 
 by-cbc-requires : tie.Need-by-cbc-requires
 by-cbc-requires c κs =
     let told = c .before in
     let S = told .before .before .before .before .before .before .before in
     let mode = told .enum-told4 .given .1 in
-    (S .pre .0, (S .pre .1 .0, (rw mode at (S .pre .1 .1 .1 .0), rw mode at (S .pre .1 .1 .1 .1))))
+    (S .pre .0, (sixteen _ (rw mode at (S .pre .1 .0)), (rw mode at (S .pre .1 .1 .1 .0), rw mode at (S .pre .1 .1 .1 .1))))
 
 by-gcm-requires : tie.Need-by-gcm-requires
 by-gcm-requires c κs =
     let told = c .before in
     let S = told .before .before .before .before .before .before .before in
     let mode = told .enum-told5 .given .1 in
-    (S .pre .0, (S .pre .1 .0, (rw mode at (S .pre .1 .1 .0), (rw mode at (S .pre .1 .1 .1 .0), rw mode at (S .pre .1 .1 .1 .1)))))
+    (S .pre .0, (rw mode at (S .pre .1 .0), (rw mode at (S .pre .1 .1 .0), (rw mode at (S .pre .1 .1 .1 .0), rw mode at (S .pre .1 .1 .1 .1)))))
 
 returns : tie.Need-returns
 returns c =

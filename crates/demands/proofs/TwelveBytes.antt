@@ -1,0 +1,51 @@
+-- A 12-byte IV in Gcm: its counters are SP 800-38D's.
+-- Assumes nothing.
+use mathlib.Core.Path.{_≡_, refl, ap, ap₂, _∙_}
+use mathlib.Core.List.{List, [], _∷_, _++_}
+use Prim.Native.Nat.{ℕ, _+_, _%_, _^_}
+use lib.ListN.{length}
+use lib.Seq.{take-at, drop-at}
+use borrow.Author.Tests.{eq-eqb}
+use Rattle.block.specs.BigEndian.{numberOf, bytesOf}
+use Rattle.counter.specs.Counter.{gcmNext}
+use Rattle.gcm.specs.Gcm.{hashKey, firstCounter, J0, textOf, tagOf, sealed}
+use Rattle.cipher.specs.Sm4.{roundKeys}
+use Rattle.cipher_mode.specs.declared.Direction.the-variants.{Encrypt}
+use Rattle.cipher_mode.specs.declared.Sm4Cipher.{Sm4Cipher}
+use Rattle.cipher_mode.specs.Key.{newCipher, newCipherMode}
+use Rattle.cipher_mode.specs.Calls.{modeCall}
+use Rattle.luossavin.specs.Host.{modeOf, hostModeCall}
+use Rattle.demands.specs.Call.{inGcm, result}
+use Rattle.demands.specs.TwelveBytes.{followedBy, textFromTwo, CountsFromTwo}
+use Rattle.demands.proofs.Through.{result-of-done, through, leaves}
+use Rattle.demands.proofs.Exported.{new-key}
+
+first-counter : (rk iv : List ℕ) → length iv ≡ 12 → J0 rk iv ≡ followedBy 1 iv
+unfolding firstCounter
+first-counter rk iv n = rw (eq-eqb (length iv) 12 n)
+
+next-counter : (iv : List ℕ) → length iv ≡ 12 → gcmNext (followedBy 1 iv) ≡ followedBy 2 iv
+unfolding gcmNext numberOf bytesOf
+next-counter iv n =
+    ap₂ (λ (front back : List ℕ). front ++ bytesOf 4 ((numberOf back + 1) % 2 ^ 32))
+    (take-at iv (0 ∷ 0 ∷ 0 ∷ 1 ∷ []) 12 n) (drop-at iv (0 ∷ 0 ∷ 0 ∷ 1 ∷ []) 12 n)
+
+sealed-from-two : (rk label d iv : List ℕ) → length iv ≡ 12
+    → sealed rk (hashKey rk) (J0 rk iv) label d
+    ≡ textFromTwo rk iv d ++ tagOf rk (hashKey rk) (followedBy 1 iv) label (textFromTwo rk iv d)
+unfolding sealed textOf
+sealed-from-two rk label d iv n = rw (first-counter rk iv n, next-counter iv n)
+
+-- What Gcm seals under a 12-byte IV is the text under the counters from 00000002 on, and the tag under 00000001.
+pub twelve-counts-from-two : (c : Sm4Cipher) → CountsFromTwo (c .rk) (modeCall Encrypt (inGcm c))
+twelve-counts-from-two c label d iv o n e =
+    ap result (leaves Encrypt (inGcm c) label d iv o (through Encrypt (inGcm c) label d iv o e))
+    ∙ result-of-done (sealed (c .rk) (hashKey (c .rk)) (J0 (c .rk) iv) label d) o
+    ∙ sealed-from-two (c .rk) label d iv n
+
+-- The same of the exported call with mode 4.
+pub exported-twelve-counts-from-two : (key : List ℕ) → CountsFromTwo (roundKeys key) (hostModeCall Encrypt 4 key)
+unfolding hostModeCall modeOf newCipherMode
+exported-twelve-counts-from-two key label d iv o n e =
+    let c = newCipher key in
+    rw (← new-key key (through Encrypt (inGcm c) label d iv o e .key)) (twelve-counts-from-two c label d iv o n e)
