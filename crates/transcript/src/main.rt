@@ -238,6 +238,7 @@ fn with_input(asked: Asked, file: &[u8], key: &[u8], iv: &[u8]) -> u8 {
 // Says why, of a key, an IV and data of these lengths.
 fn refuse(refusal: Refusal, asked: Asked, key: usize, iv: usize, data: usize) -> u8 {
     let places = asked.places;
+    let mode = asked.mode;
     say::refusal(places[IN]);
     match refusal {
         Refusal::ErrorBlockSize => say::key_size(places[KEY], key),
@@ -248,7 +249,7 @@ fn refuse(refusal: Refusal, asked: Asked, key: usize, iv: usize, data: usize) ->
         Refusal::NoRoom => say::no_room(),
         Refusal::EmptyCbc => say::empty(),
         Refusal::ShortGcm(missing) => say::short(data, missing),
-        Refusal::WrongIv => say::iv_size(iv),
+        Refusal::WrongIv => say::iv_size(mode, iv),
         Refusal::WrongBlock => say::block_size(data),
         Refusal::Ended => say::ended(),
     }

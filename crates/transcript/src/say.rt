@@ -9,6 +9,7 @@ use crate::USAGE;
 use crate::WORD_ROOM;
 use crate::files;
 use crate::word_room;
+use cipher_mode::CipherMode;
 use libc::STDERR_FILENO;
 use libc::STDOUT_FILENO;
 use typed::line::Fault;
@@ -343,10 +344,13 @@ pub fn short(length: usize, missing: u8) -> u8 {
     9
 }
 
-pub fn iv_size(iv: usize) -> u8 {
+pub fn iv_size(mode: CipherMode, iv: usize) -> u8 {
     text(b"10 WrongIv: the IV has ");
-    number(iv as u64);
-    text(b", not 16, bytes: it takes 32 hex digits\n");
+    bytes(iv);
+    match mode {
+        CipherMode::Gcm => text(b", not 12 or 16: it takes 24 or 32 hex digits\n"),
+        _ => text(b", not 16: it takes 32 hex digits\n"),
+    }
     10
 }
 

@@ -1,11 +1,6 @@
 // Whether the product's crates give a published vector, both ways where there are two.
-ghost use mathlib.Core.Path.{_≡_};
-ghost use Prim.Native.Nat.{_+_, _≤_};
-ghost use lib.ListN.{length};
-ghost use Rattle.cipher.specs.Engine.{Engine};
 use crate::words;
 use crate::words::Kind;
-use block::U128;
 use cipher_mode::CipherMode;
 use cipher_mode::Direction;
 use cipher_mode::Sm4Cipher;
@@ -44,18 +39,20 @@ fn block_vector(times: u32, key: &[u8], text: &[u8], result: &[u8]) -> bool {
     check::same(&there, result) && check::same(&back, text)
 }
 
-// A mode whose output is the published result and `extra` bytes more, which are Cbc's padding block.
+// A mode, there and back by the public calls. The output is the published result and `extra` bytes more, which are Cbc's
+// padding block; in Gcm the result is ciphertext and tag.
 fn mode_vector(
     mode: CipherMode,
     extra: usize,
     key: &[u8],
     iv: &[u8],
+    label: &[u8],
     text: &[u8],
     result: &[u8],
 ) -> bool {
     let keyed = Sm4CipherMode::new(key, mode);
     let mut there = [0u8; ROOM];
-    let n = length_of(keyed.encrypt(&text[0..0], text, iv, &mut there));
+    let n = length_of(keyed.encrypt(label, text, iv, &mut there));
     if n > ROOM {
         return false;
     }
@@ -69,7 +66,7 @@ fn mode_vector(
         return false;
     }
     let mut back = [0u8; ROOM];
-    let m = length_of(keyed.decrypt(&text[0..0], &there[0..n], iv, &mut back));
+    let m = length_of(keyed.decrypt(label, &there[0..n], iv, &mut back));
     m == text.len() && words::starts(&back, text)
 }
 
@@ -89,89 +86,17 @@ fn ghash_vector(h: &[u8], label: &[u8], text: &[u8], result: &[u8]) -> bool {
     check::same(&bytes, result)
 }
 
-// J0 of a nonce of twelve bytes: the nonce and then 00000001. The base's own calls take no such IV.
-fn first_counter(n: &[u8]) -> [u32; 4] {
-    if n.len() != 12 {
-        return [0u32; 4];
-    }
-    [
-        block::combine([n[0], n[1], n[2], n[3]]),
-        block::combine([n[4], n[5], n[6], n[7]]),
-        block::combine([n[8], n[9], n[10], n[11]]),
-        1,
-    ]
-}
-
-// Whether a message opened to `text`.
-fn opens(answer: gcm::Opened, out: &[u8], text: &[u8]) -> bool {
-    match answer {
-        gcm::Opened::Done(n) => n == text.len() && words::starts(out, text),
-        gcm::Opened::InvalidTag => false,
-    }
-}
-
-// Gcm there and back from round keys, H and J0.
-fn gcm_both(
-    t: &[u32],
-    rk: [u32; 32],
-    h: U128,
-    j0: [u32; 4],
-    label: &[u8],
-    text: &[u8],
-    result: &[u8],
-) -> bool
-    requires { ⌜ Engine (now t) ⌝ }
-    requires { ⌜ (length (now label) ≤ 256) × (length (now result) ≤ 256) × (length (now result) ≡ length (now text) + 16) ⌝ }
-{
-    let mut out = [0u8; ROOM];
-    gcm::encrypt(t, rk, h, j0, label, text, &mut out);
-    if !words::starts(&out, result) {
-        return false;
-    }
-    let mut back = [0u8; ROOM];
-    let answer = gcm::decrypt(t, rk, h, j0, label, result, &mut back);
-    opens(answer, &back, text)
-}
-
-// Gcm under the check of the IV's length, with J0 given.
-fn gcm_vector(key: &[u8], nonce: &[u8], label: &[u8], text: &[u8], result: &[u8]) -> bool {
-    if label.len() > ROOM {
-        return false;
-    }
-    if result.len() > ROOM {
-        return false;
-    }
-    if result.len() < 16 {
-        return false;
-    }
-    if result.len() - 16 != text.len() {
-        return false;
-    }
-    let t = cipher::plain();
-    let keyed = Sm4Cipher::new(key);
-    let rk = keyed.rk;
-    gcm_both(
-        &t,
-        rk,
-        gcm::hash_key(&t, rk),
-        first_counter(nonce),
-        label,
-        text,
-        result,
-    )
-}
-
 // Whether ours gives the published result of a vector.
 pub fn gives(kind: Kind, key: &[u8], iv: &[u8], label: &[u8], text: &[u8], result: &[u8]) -> bool {
     match kind {
         Kind::Block => block_vector(1, key, text, result),
         Kind::Million => block_vector(1_000_000, key, text, result),
-        Kind::Cbc => mode_vector(CipherMode::Cbc, 16, key, iv, text, result),
-        Kind::Cfb => mode_vector(CipherMode::Cfb, 0, key, iv, text, result),
-        Kind::Ofb => mode_vector(CipherMode::Ofb, 0, key, iv, text, result),
-        Kind::Ctr => mode_vector(CipherMode::Ctr, 0, key, iv, text, result),
+        Kind::Cbc => mode_vector(CipherMode::Cbc, 16, key, iv, label, text, result),
+        Kind::Cfb => mode_vector(CipherMode::Cfb, 0, key, iv, label, text, result),
+        Kind::Ofb => mode_vector(CipherMode::Ofb, 0, key, iv, label, text, result),
+        Kind::Ctr => mode_vector(CipherMode::Ctr, 0, key, iv, label, text, result),
         Kind::Ghash => ghash_vector(key, label, text, result),
-        Kind::Gcm => gcm_vector(key, iv, label, text, result),
+        Kind::Gcm => mode_vector(CipherMode::Gcm, 0, key, iv, label, text, result),
         Kind::Unknown => false,
     }
 }
