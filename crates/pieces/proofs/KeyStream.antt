@@ -29,6 +29,11 @@ counts Ctr rk s b = refl
 counts Gcm rk s b = refl
 
 module _ (c : Counting) (rk : List ℕ) where
+  -- before the first byte
+  pub flow-start : (s : List ℕ) → flowAt rk s ≡ flowAfter c rk s []
+  unfolding flowAfter
+  flow-start s = ap {B = Flow} (flowAt rk) (sym (end-rest (flowMode c rk) s [] (omega arith)))
+
   -- a text that does not fill the begun block needs no more of the stream
   pub text-short : (f : Flow) (p : ℕ) (e : List ℕ) → length e < 16 - p → flowText c rk f p e ≡ xors e (drop p (f .pad))
   unfolding flowText

@@ -3,3 +3,6 @@ pub mod Pads
 pub mod KeyStream
 pub mod Filling
 pub mod HashOn
+pub mod Passing
+pub mod Stepping
+pub mod TagWords

@@ -6,6 +6,7 @@ ghost use Rattle.block.specs.Words.{unwords};
 ghost use Rattle.block.specs.Xor.{xors};
 ghost use Rattle.cipher.specs.Engine.{Engine};
 ghost use Rattle.walk.specs.Walk.{chain, over};
+ghost use Rattle.pieces.specs.States.{noFlow};
 ghost use Rattle.pieces.specs.Flow.{kindOf, nextCounter, flowMode, flowAt, flowAfter, flowText, flowNext};
 use stream::Kind;
 
@@ -59,6 +60,16 @@ pub fn xor_pad(pad: [u8; 16], p: usize, data: &[u8], out: &mut [u8])
     while i < n {
         out[i] = data[i] ^ pad[p + i];
         i += 1;
+    }
+}
+
+// A flow of zeros, of no message.
+pub fn none() -> Flow
+    ensures { λ r. ⌜ r ≡ noFlow ⌝ }
+{
+    Flow {
+        counter: [0u8; 16],
+        pad: [0u8; 16],
     }
 }
 

@@ -6,6 +6,7 @@ ghost use lib.ListN.{length, getD, take};
 ghost use Rattle.block.specs.BigEndian.{numberOf, bytesOf};
 ghost use Rattle.block.specs.Wide.{value};
 ghost use Rattle.ghash.specs.Ghash.{Hashable};
+ghost use Rattle.pieces.specs.States.{noHashing};
 ghost use Rattle.pieces.specs.Hashing.{filledUp, hashAfter, hashNext, hashEnd, hashOf};
 use block::U128;
 use ghash::Ghash;
@@ -17,6 +18,17 @@ pub struct Hashing {
     pub h: [u8; 16],
     pub y: [u8; 16],
     pub held: [u8; 16],
+}
+
+// A hash of zeros, of no message.
+pub fn none() -> Hashing
+    ensures { λ r. ⌜ r ≡ noHashing ⌝ }
+{
+    Hashing {
+        h: [0u8; 16],
+        y: [0u8; 16],
+        held: [0u8; 16],
+    }
 }
 
 fn number_of(b: [u8; 16]) -> U128
