@@ -15,6 +15,7 @@ pub mod TwelveBytes
 pub mod Served
 -- demand 3, and what the demands were for
 pub mod OtherHash
+pub mod InPieces
 pub mod OneBlockRefused
 pub mod ZeroKey
 pub mod OtherEdition

@@ -40,7 +40,7 @@ refused-as n o x e =
     }
 
 -- no refusal has the number 0
-not-zero : (r : Refusal) → refusalHead r .number ≡ 0 → ⊥
+pub not-zero : (r : Refusal) → refusalHead r .number ≡ 0 → ⊥
 not-zero ErrorBlockSize e = omega arith
 not-zero ErrorDataLen e = omega arith
 not-zero InvalidLastU8 e = omega arith

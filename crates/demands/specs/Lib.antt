@@ -8,6 +8,7 @@ pub mod NoUsableKey
 pub mod Served
 pub mod ThereAndBack
 pub mod TwelveBytes
+pub mod InPieces
 -- demand 3, and what the demands were for
 pub mod OneBlockRefused
 pub mod OtherEdition
