@@ -178,9 +178,10 @@ ctr-in-pieces dir c ps label iv o r e =
     subst
     (λ (x : Stepped Ctr). AllDone Ctr call x ps 0 (ctrEnd (stateAfter Ctr Piece call (x .state) ps))
     × (wrote Ctr Piece call (x .state) ps ≡ result (modeCall dir m label (whole ps) iv o)))
-    (sym (ctr-starts c iv (p .key) (p .iv-size)))
-    (record { start = record { number = refl; size = refl }; pieces = w .all; end = ended },
-    ap (λ (l : List ℕ). l ++ wrote Ctr Piece call (ctrAfter rk iv []) ps) (sym (chain-nothing rk iv)) ∙ w .bytes ∙ sym single)
+    (sym (ctr-starts c iv (p .key) (p .iv-size))) (
+      record { start = record { number = refl; size = refl }; pieces = w .all; end = ended },
+      ap (λ (l : List ℕ). l ++ wrote Ctr Piece call (ctrAfter rk iv []) ps) (sym (chain-nothing rk iv)) ∙ w .bytes ∙ sym single,
+    )
 
 -- Under any record: Gcm sealing in pieces gives the ciphertext and the tag of the single call.
 pub seal-in-pieces : (c : Sm4Cipher) → SealInPieces Seal (sealStart c) sealPiece sealEnd (modeCall Encrypt (inGcm c))
@@ -199,7 +200,7 @@ seal-in-pieces c ps label iv t o r room e =
     let single : result (modeCall Encrypt (inGcm c) label (whole ps) iv o) ≡ text (whole ps) ++ tag =
     ap result (leaves Encrypt (inGcm c) label (whole ps) iv o p) ∙ result-of-done (text (whole ps) ++ tag) o in
     let ends : (x : Stepped Seal) → x ≡ record { head = finished 16; bytes = over tag t; state = sealShut ended }
-        → Did Seal 16 x × (written Seal x ≡ tag) =
+    → Did Seal 16 x × (written Seal x ≡ tag) =
     λ x f. subst (λ (y : Stepped Seal). Did Seal 16 y × (written Seal y ≡ tag)) (sym f)
     (record { number = refl; size = refl }, take-at tag _ 16 (length-tag rk (hashKey rk) j label (text (whole ps)))) in
     let last = ends _ (ap (λ (s : Seal). sealEnd s t) (w .state) ∙ end) in
@@ -207,11 +208,12 @@ seal-in-pieces c ps label iv t o r room e =
     (λ (x : Stepped Seal). AllDone Seal call x ps 16 (sealEnd (stateAfter Seal Piece call (x .state) ps) t)
     × (wrote Seal Piece call (x .state) ps ++ written Seal (sealEnd (stateAfter Seal Piece call (x .state) ps) t)
     ≡ result (modeCall Encrypt (inGcm c) label (whole ps) iv o)))
-    (sym (seal-starts c label iv (p .key) (p .iv-size) hl))
-    (record { start = record { number = refl; size = refl }; pieces = w .all; end = last .0 },
-    ap₂ _++_
-    (ap (λ (l : List ℕ). l ++ wrote Seal Piece call (sealAfter rk label iv []) ps) (sym (text-nothing rk j)) ∙ w .bytes) (last .1)
-    ∙ sym single)
+    (sym (seal-starts c label iv (p .key) (p .iv-size) hl)) (
+      record { start = record { number = refl; size = refl }; pieces = w .all; end = last .0 },
+      ap₂ _++_
+          (ap (λ (l : List ℕ). l ++ wrote Seal Piece call (sealAfter rk label iv []) ps) (sym (text-nothing rk j)) ∙ w .bytes) (last .1)
+          ∙ sym single,
+    )
 
 -- pieces of a ciphertext behind c, which write nothing
 pub record Took (rk label iv c : List ℕ) (cs : List (List ℕ)) : Type 0 where
@@ -229,8 +231,10 @@ took rk label iv hl c (e ∷ cs) h =
     let behind : stateAfter Opens (List ℕ) opensPiece (opensAfter rk label iv (c ++ e)) cs ≡ opensAfter rk label iv (c ++ (e ++ joined cs)) =
     rest .state ∙ ap (opensAfter rk label iv) (append-assoc c e (joined cs)) in
     record {
-      all = (did Opens 0 _ (ap (λ (y : Stepped Opens). y .head) x),
-      subst (λ (s : Opens). AllDid Opens (List ℕ) opensPiece none s cs) (sym (ap (λ (y : Stepped Opens). y .state) x)) (rest .all));
+      all = (
+        did Opens 0 _ (ap (λ (y : Stepped Opens). y .head) x),
+        subst (λ (s : Opens). AllDid Opens (List ℕ) opensPiece none s cs) (sym (ap (λ (y : Stepped Opens). y .state) x)) (rest .all),
+      );
       state = ap (λ (y : Stepped Opens). stateAfter Opens (List ℕ) opensPiece (y .state) cs) x ∙ behind;
     }
 
@@ -299,8 +303,9 @@ opens-in-pieces c cs label iv tag o fits room n e =
     (λ (x : Stepped Opens). AllDid Opens (List ℕ) opensPiece none (x .state) cs
     × (opensEnd (stateAfter Opens (List ℕ) opensPiece (x .state) cs) tag .head .number
     ≡ modeCall Decrypt (inGcm c) label (text ++ tag) iv o .head .number))
-    (sym (opens-begins c label iv passed))
-    (k .all,
-    ap (λ (y : Opens). opensEnd y tag .head .number) (k .state)
-    ∙ ap (λ (x : Stepped Opens). x .head .number) (opens-end-follows rk label iv text (s .label-fits) tag fits n)
-    ∙ sym single)
+    (sym (opens-begins c label iv passed)) (
+      k .all,
+      ap (λ (y : Opens). opensEnd y tag .head .number) (k .state)
+          ∙ ap (λ (x : Stepped Opens). x .head .number) (opens-end-follows rk label iv text (s .label-fits) tag fits n)
+          ∙ sym single,
+    )
