@@ -6,4 +6,3 @@ pub mod HashOn
 pub mod Passing
 pub mod Stepping
 pub mod TagWords
-pub mod Follows
