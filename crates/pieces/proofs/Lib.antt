@@ -6,3 +6,4 @@ pub mod HashOn
 pub mod Passing
 pub mod Stepping
 pub mod TagWords
+pub mod Sealing
