@@ -7,3 +7,6 @@ pub mod Passing
 pub mod Stepping
 pub mod TagWords
 pub mod Sealing
+pub mod CtrInPieces
+pub mod OpensInPieces
+pub mod SealInPieces
