@@ -6,3 +6,7 @@ pub mod HashOn
 pub mod Passing
 pub mod Stepping
 pub mod TagWords
+pub mod Sealing
+pub mod CtrInPieces
+pub mod OpensInPieces
+pub mod SealInPieces

@@ -5,6 +5,7 @@ ghost use lib.ListN.{length, drop};
 ghost use Rattle.block.specs.Words.{unwords};
 ghost use Rattle.block.specs.Xor.{xors};
 ghost use Rattle.cipher.specs.Engine.{Engine};
+ghost use Rattle.cipher.specs.Sm4.{encryptBlock};
 ghost use Rattle.walk.specs.Walk.{chain, over};
 ghost use Rattle.pieces.specs.States.{noFlow};
 ghost use Rattle.pieces.specs.Flow.{kindOf, nextCounter, flowMode, flowAt, flowAfter, flowText, flowNext};
@@ -73,6 +74,14 @@ pub fn none() -> Flow
     }
 }
 
+// The cipher of a block, in bytes.
+pub fn ciphered(t: &[u32], rk: [u32; 32], s: [u32; 4]) -> [u8; 16]
+    requires { ⌜ Engine (now t) ⌝ }
+    ensures { λ r. ⌜ r ≡ encryptBlock rk (unwords s) ⌝ }
+{
+    block::combine_block(cipher::encrypt(t, rk, s))
+}
+
 // The flow at a counter.
 pub fn begin(t: &[u32], rk: [u32; 32], s: [u32; 4]) -> Flow
     requires { ⌜ Engine (now t) ⌝ }
@@ -80,7 +89,7 @@ pub fn begin(t: &[u32], rk: [u32; 32], s: [u32; 4]) -> Flow
 {
     Flow {
         counter: block::combine_block(s),
-        pad: block::combine_block(cipher::encrypt(t, rk, s)),
+        pad: ciphered(t, rk, s),
     }
 }
 

@@ -12,6 +12,7 @@ use cipher_mode::answer::Answer;
 use cipher_mode::answer::Refusal;
 use cipher_mode::checks::Checked;
 use crate::checks;
+use crate::flow;
 use crate::hashing;
 use crate::hashing::Hashing;
 
@@ -61,7 +62,7 @@ pub fn start(cipher: Sm4Cipher, aad: &[u8], iv: &[u8]) -> OpensStep
     let j0 = gcm::first_counter(h, iv);
     let state = Opens {
         hashing: hashing::begin(h, aad),
-        mask: block::combine_block(cipher::encrypt(&t, rk, j0)),
+        mask: flow::ciphered(&t, rk, j0),
         label: aad.len(),
         total: 0,
         stands: 0,

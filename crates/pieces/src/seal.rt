@@ -66,7 +66,7 @@ pub fn start(cipher: Sm4Cipher, aad: &[u8], iv: &[u8]) -> SealStep
         rk,
         flow: flow::begin(&t, rk, counter::gcm_block_add_one(j0)),
         hashing: hashing::begin(h, aad),
-        mask: block::combine_block(cipher::encrypt(&t, rk, j0)),
+        mask: flow::ciphered(&t, rk, j0),
         label: aad.len(),
         total: 0,
         stands: 0,

@@ -2,19 +2,14 @@
 -- of the keys, the IV and the label.
 -- Assumes nothing.
 use mathlib.Core.Path.{_≡_, sym, ap, ap₂, _∙_}
-use mathlib.Core.Bool.{false}
 use mathlib.Core.List.{List, []}
-use Prim.Native.Nat.{ℕ, _^_, _≤_}
+use Prim.Native.Nat.{ℕ}
 use native.Mathlib.Omega.{arith}
-use mir.Val.{Fits}
-use mir.Syntax.{w32}
 use denote.Ref.{now}
-use lib.ListN.{length, getD}
+use lib.ListN.{length}
 use Rattle.block.specs.Words.{unwords}
-use Rattle.block.proofs.Entries.{below-each}
 use Rattle.cipher.specs.Sm4.{encryptBlock}
-use Rattle.cipher.proofs.Blocks.{encrypt-unwords}
-use Rattle.gcm.specs.Gcm.{hashKey, firstCounter, J0}
+use Rattle.gcm.specs.Gcm.{firstCounter, J0}
 use Rattle.cipher_mode.proofs.Passed.{iv-twelve-or-sixteen}
 use Rattle.pieces.specs.declared.hashing.Hashing.{Hashing}
 use Rattle.pieces.specs.declared.opens.Opens.{Opens}
@@ -59,8 +54,7 @@ returns-2 : tie.Need-returns-2
 unfolding opensStart opensAfter
 returns-2 c =
     let at-mask = c .before in
-    let at-encrypt = at-mask .before in
-    let at-begin = at-encrypt .before .before in
+    let at-begin = at-mask .before .before in
     let at-counter = at-begin .before in
     let at-key = at-counter .before in
     let told = at-key .before .before .before .before in
@@ -68,12 +62,7 @@ returns-2 c =
     let a = at-check .before .before .before .args in
     let rk = a .cipher .rk in
     let label = now (a .aad) in
-    let j = at-counter .first-counter .result in
-    let four : length j ≡ 4 = search (needs, at-counter .first-counter .ok) in
-    let fits : (i : ℕ) → Fits w32 (getD j i 0) = λ i. search (needs, at-counter .first-counter .ok) in
-    let mask = at-mask .combine-block .ensures ∙ ap unwords (at-encrypt .encrypt .ensures)
-    ∙ encrypt-unwords rk j four (below-each (2 ^ 32) j (λ i. fits i .fits))
-    ∙ ap (encryptBlock rk) (is-j0 at-counter) in
+    let mask = at-mask .ciphered .ensures ∙ ap (encryptBlock rk) (is-j0 at-counter) in
     begun-there Opens _ opensShut _ _ _ (sym (at-check .gcm-start .ensures) ∙ told .enum-told .given .1) (c .done .ensures)
     (ap₂ {C = Opens} (λ (g : Hashing) (m : List ℕ). record { hashing = g; mask = m; label = length label; total = 0; stands = 0 })
     (at-begin .begin .ensures ∙ ap (λ (h : ℕ). hashOf h label []) (at-key .hash-key .ensures)) mask)
@@ -84,4 +73,4 @@ start-spec =
     (tie.spec
     (λ c κs. search needs) (λ c. search needs) (λ c κs. search needs) (λ c κs. search needs) (λ c κs. search needs) returns
     (λ c. search needs) (λ c κs. search needs) (λ c. search needs) (λ c κs. search needs) first-counter-requires begin-requires
-    (λ c. search needs) (λ c κs. search needs) (λ c κs. search needs) (λ c κs. search needs) returns-2)
+    (λ c. search needs) (λ c κs. search needs) (λ c κs. search needs) returns-2)

@@ -1,122 +1,89 @@
+-- `pieces::seal::start` meets its contract: what the checks refuse is refused, and otherwise the flow is at the counter after J0,
+-- and H, J0 and the label's hash are those of the keys, the IV and the label.
+-- Assumes nothing.
+use mathlib.Core.Path.{_≡_, sym, ap, _∙_}
+use mathlib.Core.List.{[]}
+use Prim.Native.Nat.{ℕ}
+use native.Mathlib.Omega.{arith}
+use denote.Ref.{now}
+use lib.ListN.{length}
+use Rattle.block.specs.Words.{unwords}
+use Rattle.cipher.specs.Sm4.{encryptBlock}
+use Rattle.counter.specs.Counter.{gcmNext}
+use Rattle.gcm.specs.Gcm.{hashKey, firstCounter, J0}
+use Rattle.cipher_mode.proofs.Passed.{iv-twelve-or-sixteen}
+use Rattle.pieces.specs.declared.flow.Counting.the-variants.{Gcm as Gcm·counting}
+use Rattle.pieces.specs.declared.flow.Flow.{Flow}
+use Rattle.pieces.specs.declared.seal.Seal.{Seal}
+use Rattle.pieces.specs.Flow.{flowAt}
+use Rattle.pieces.specs.Hashing.{hashOf}
+use Rattle.pieces.specs.States.{sealAfter, sealShut}
+use Rattle.pieces.specs.Calls.{sealStart}
+use Rattle.pieces.proofs.KeyStream.{flow-start}
+use Rattle.pieces.proofs.Passing.{GcmStarts, starting-passed}
+use Rattle.pieces.proofs.Sealing.{no-text, same-seal}
+use Rattle.pieces.proofs.Stepping.{refused-start, begun-there}
 use borrow.Author.Needs.{needs}
 use Rattle.pieces.proofs.seal.start.Statement.{statement}
 use Rattle.pieces.proofs.seal.start.Tie as tie
-use Rattle.pieces.proofs.seal.start.Reads as reads
-use Rattle.pieces.proofs.seal.start.Lts as lts
-use Rattle.block.proofs.combine_block.Reads as combine-block-reads
-use Rattle.cipher.proofs.encrypt.Reads as encrypt-reads
-use Rattle.cipher.proofs.plain.Reads as plain-reads
-use Rattle.cipher_mode.proofs.answer.done.Reads as done-reads
-use Rattle.cipher_mode.proofs.answer.number.Reads as number-reads
-use Rattle.cipher_mode.proofs.answer.refused.Reads as refused-reads
-use Rattle.counter.proofs.gcm_block_add_one.Reads as gcm-block-add-one-reads
-use Rattle.gcm.proofs.first_counter.Reads as first-counter-reads
-use Rattle.gcm.proofs.hash_key.Reads as hash-key-reads
-use Rattle.pieces.proofs.checks.gcm_start.Reads as gcm-start-reads
-use Rattle.pieces.proofs.flow.begin.Reads as flow-begin-reads
-use Rattle.pieces.proofs.hashing.begin.Reads as hashing-begin-reads
-use Rattle.pieces.proofs.seal.shut.Reads as shut-reads
 
--- src/seal.rt:54:9
-gcm-start-requires : tie.Need-gcm-start-requires
-gcm-start-requires c κs = search needs
-
--- src/seal.rt:55:29
-enum-known-checked : tie.Need-enum-known-checked
-enum-known-checked c = search needs
-
--- src/seal.rt:57:21
-refused-requires : tie.Need-refused-requires
-refused-requires c κs = search needs
-
--- src/seal.rt:58:25
-number-requires : tie.Need-number-requires
-number-requires c κs = search needs
-
--- src/seal.rt:58:20
-shut-requires : tie.Need-shut-requires
-shut-requires c κs = search needs
-
--- src/seal.rt:56:9
 returns : tie.Need-returns
-returns c = ?
+unfolding sealStart
+returns c =
+    let at-number = c .before in
+    let at-refused = at-number .before in
+    let told = at-refused .before .before in
+    let at-check = told .before .before in
+    refused-start Seal _ sealShut _ _ _ _ _ (sym (at-check .gcm-start .ensures) ∙ told .checked .given .1)
+    (at-refused .refused .ensures) (at-number .number .ensures) (c .shut .ensures)
 
-enum-told : tie.Need-enum-told
-enum-told c = search needs
+passed : (x : tie.After-enum-told)
+    → let a = x .before .before .before .before .before .args in GcmStarts (length (now (a .iv))) (length (now (a .aad)))
+passed x = starting-passed _ _ _ (sym (x .before .before .gcm-start .ensures) ∙ x .enum-told .given .1)
 
--- src/seal.rt:61:13
-plain-requires : tie.Need-plain-requires
-plain-requires c κs = search needs
-
--- src/seal.rt:63:27
-slice-aggregate-hash-key : tie.Need-slice-aggregate-hash-key
-slice-aggregate-hash-key c = search needs
-
--- src/seal.rt:63:9
-hash-key-requires : tie.Need-hash-key-requires
-hash-key-requires c κs = search needs
-
--- src/seal.rt:64:9
 first-counter-requires : tie.Need-first-counter-requires
-first-counter-requires c κs = ?
+first-counter-requires c κs = iv-twelve-or-sixteen _ (passed (c .before .before .before .before) .taken)
 
--- src/seal.rt:67:27
-slice-aggregate-begin : tie.Need-slice-aggregate-begin
-slice-aggregate-begin c = search needs
-
--- src/seal.rt:67:35
-gcm-block-add-one-requires : tie.Need-gcm-block-add-one-requires
-gcm-block-add-one-requires c κs = search needs
-
--- src/seal.rt:67:15
-begin-requires : tie.Need-begin-requires
-begin-requires c κs = search needs
-
--- src/seal.rt:68:18
 begin-requires-2 : tie.Need-begin-requires-2
-begin-requires-2 c κs = ?
+begin-requires-2 c κs = let within = passed (c .before .before .before .before .before .before .before .before) .labelled in omega arith
 
--- src/seal.rt:69:52
-slice-aggregate-encrypt : tie.Need-slice-aggregate-encrypt
-slice-aggregate-encrypt c = search needs
+is-j0 : (x : tie.After-first-counter)
+    → let a = x .before .before .before .before .before .before .before .before .before .before .args in
+    unwords (x .first-counter .result) ≡ J0 (a .cipher .rk) (now (a .iv))
+is-j0 x =
+    let at-key = x .before in
+    let a = at-key .before .before .before .before .before .before .before .before .before .args in
+    x .first-counter .ensures ∙ ap (λ (h : ℕ). firstCounter h (now (a .iv))) (at-key .hash-key .ensures)
 
--- src/seal.rt:69:36
-encrypt-requires : tie.Need-encrypt-requires
-encrypt-requires c κs = search needs
-
--- src/seal.rt:69:15
-combine-block-requires : tie.Need-combine-block-requires
-combine-block-requires c κs = search needs
-
--- src/seal.rt:75:17
-done-requires : tie.Need-done-requires
-done-requires c κs = search needs
-
--- src/seal.rt:50:1
 returns-2 : tie.Need-returns-2
-returns-2 c = ?
+unfolding sealStart sealAfter
+returns-2 c =
+    let at-mask = c .before in
+    let at-hash = at-mask .before .before in
+    let at-flow = at-hash .before in
+    let at-next = at-flow .before in
+    let at-counter = at-next .before .before in
+    let at-key = at-counter .before in
+    let told = at-key .before .before .before .before in
+    let at-check = told .before .before in
+    let a = at-check .before .before .before .args in
+    let rk = a .cipher .rk in
+    let label = now (a .aad) in
+    let j = J0 rk (now (a .iv)) in
+    let next = at-next .gcm-block-add-one .ensures ∙ ap gcmNext (is-j0 at-counter) in
+    let flow = at-flow .begin .ensures ∙ ap {B = Flow} (flowAt rk) next ∙ flow-start Gcm·counting rk (gcmNext j) in
+    let hashing =
+    at-hash .begin2 .ensures ∙ ap (λ (h : ℕ). hashOf h label []) (at-key .hash-key .ensures)
+    ∙ sym (ap (hashOf (hashKey rk) label) (no-text rk j)) in
+    let mask = at-mask .ciphered .ensures ∙ ap (encryptBlock rk) (is-j0 at-counter) in
+    begun-there Seal _ sealShut _ _ _ (sym (at-check .gcm-start .ensures) ∙ told .enum-told .given .1) (c .done .ensures)
+    (same-seal rk _ _ _ _ _ _ (length label) 0 flow hashing mask)
 
 pub start-spec : {M : Type 1} → statement M
 start-spec =
     tie.close
     (tie.spec
-    gcm-start-requires
-    enum-known-checked
-    refused-requires
-    number-requires
-    shut-requires
-    returns
-    enum-told
-    plain-requires
-    slice-aggregate-hash-key
-    hash-key-requires
-    first-counter-requires
-    slice-aggregate-begin
-    gcm-block-add-one-requires
-    begin-requires
-    begin-requires-2
-    slice-aggregate-encrypt
-    encrypt-requires
-    combine-block-requires
-    done-requires
-    returns-2)
+    (λ c κs. search needs) (λ c. search needs) (λ c κs. search needs) (λ c κs. search needs) (λ c κs. search needs) returns
+    (λ c. search needs) (λ c κs. search needs) (λ c. search needs) (λ c κs. search needs) first-counter-requires
+    (λ c. search needs) (λ c κs. search needs) (λ c κs. search needs) begin-requires-2 (λ c. search needs)
+    (λ c κs. search needs) (λ c κs. search needs) returns-2)
