@@ -61,7 +61,7 @@ pub behind : (test : Bool) (k n : ℕ) (o : List ℕ) (next : Outcome) → 0 < k
 behind true k n o next h l f = refuses k n o h l
 behind false k n o next h l f = f refl
 
-refusal-answers : (r : Refusal) (n : ℕ) (o : List ℕ) → Answered o n (leaving (refusalHead r) o)
+pub refusal-answers : (r : Refusal) (n : ℕ) (o : List ℕ) → Answered o n (leaving (refusalHead r) o)
 refusal-answers ErrorBlockSize n o = refuses 1 n o (omega arith) (omega arith)
 refusal-answers ErrorDataLen n o = refuses 2 n o (omega arith) (omega arith)
 refusal-answers InvalidLastU8 n o = refuses 3 n o (omega arith) (omega arith)

@@ -39,8 +39,9 @@ use Rattle.pieces.specs.declared.seal.Seal.{Seal}
 use Rattle.pieces.specs.Checks.{gcmStarting}
 use Rattle.pieces.specs.States.{ctrAfter, sealAfter, sealShut, opensAfter, opensShut}
 use Rattle.pieces.specs.Calls.{Stepped, ended, begun, ctrStart, ctrPiece, ctrEnd, sealStart, sealPiece, sealEnd, opensStart, opensPiece, opensEnd}
-use Rattle.pieces.proofs.Follows.{ctr-fronts, ctr-piece-follows, ctr-end-follows, seal-fronts, seal-piece-follows, seal-end-follows}
-use Rattle.pieces.proofs.Follows.{opens-piece-follows, opens-end-follows}
+use Rattle.pieces.proofs.CtrInPieces.{ctr-started, ctr-goes-on, ctr-joined, ctr-ended}
+use Rattle.pieces.proofs.SealInPieces.{seal-started, seal-joined, seal-goes-on, seal-ended}
+use Rattle.pieces.proofs.OpensInPieces.{opens-started, opens-goes-on, opens-ended}
 use Rattle.demands.specs.Call.{inGcm, result}
 use Rattle.demands.specs.InPieces.{Did, written, stateAfter, wrote, AllDid, Piece, onto, sizeOf, whole, Roomy}
 use Rattle.demands.specs.InPieces.{AllDone, joined, none, CtrInPieces, SealInPieces, OpensInPieces}
@@ -127,13 +128,13 @@ ctr-within Decrypt n e = data-within Decrypt Ctr·mode n e
 -- the starts that pass
 ctr-starts : (c : Sm4Cipher) (iv : List ℕ) → c .answer ≡ Key → wrongIv Ctr·mode (length iv) ≡ false
     → ctrStart c iv ≡ record { head = finished 0; bytes = []; state = ctrAfter (c .rk) iv [] }
-unfolding ctrStart keyAndIv
-ctr-starts c iv k n = rw (k, n)
+unfolding keyAndIv
+ctr-starts c iv k n = ctr-started c iv (rw (k, n))
 
 seal-starts : (c : Sm4Cipher) (label iv : List ℕ) → c .answer ≡ Key → wrongIv Gcm (length iv) ≡ false → length label ≤ limit
     → sealStart c label iv ≡ record { head = finished 0; bytes = []; state = sealAfter (c .rk) label iv [] }
-unfolding sealStart gcmStarting keyAndIv
-seal-starts c label iv k n h = rw (k, n, le-ltb limit (length label) h)
+unfolding gcmStarting keyAndIv
+seal-starts c label iv k n h = seal-started c label iv (rw (k, n, le-ltb limit (length label) h))
 
 -- no text gives none
 chain-nothing : (rk iv : List ℕ) → chain (streamMode Ctr·kind rk) iv [] ≡ []
@@ -147,16 +148,16 @@ ctr-goes : (rk iv : List ℕ) → Goes Ctr (chain (streamMode Ctr·kind rk) iv) 
 ctr-goes rk iv =
     record {
       kept = length-stream Ctr·kind rk iv;
-      goes = λ d p h r. ctr-piece-follows rk iv d (p .text) (p .out) h r;
-      fronts = ctr-fronts rk iv;
+      goes = λ d p h r. ctr-goes-on rk iv d (p .text) (p .out) h r;
+      fronts = λ d e. sym (ctr-joined rk iv d e);
     }
 
 seal-goes : (rk label iv : List ℕ) → length label ≤ limit → Goes Seal (textOf rk (J0 rk iv)) (sealAfter rk label iv) (onto Seal sealPiece)
 seal-goes rk label iv hl =
     record {
       kept = length-text rk (J0 rk iv);
-      goes = λ d p h r. seal-piece-follows rk label iv d hl (p .text) (p .out) h r;
-      fronts = λ d e. seal-fronts rk label iv d hl e;
+      goes = λ d p h r. seal-goes-on rk label iv d hl (p .text) (p .out) h r;
+      fronts = λ d e. sym (seal-joined rk (J0 rk iv) d e);
     }
 
 -- Under any record, either way: Ctr in pieces gives the bytes of the single call.
@@ -174,7 +175,7 @@ ctr-in-pieces dir c ps label iv o r e =
     ap result (leaves dir m label (whole ps) iv o p) ∙ result-of-done (text (whole ps)) o in
     let ended : Did Ctr 0 (ctrEnd (stateAfter Ctr Piece call (ctrAfter rk iv []) ps)) =
     subst (λ (s : Ctr). Did Ctr 0 (ctrEnd s)) (sym (w .state))
-    (did Ctr 0 _ (ap (λ (x : Stepped Ctr). x .head) (ctr-end-follows rk iv (whole ps) fits))) in
+    (did Ctr 0 _ (ap (λ (x : Stepped Ctr). x .head) (ctr-ended rk iv (whole ps) fits))) in
     subst
     (λ (x : Stepped Ctr). AllDone Ctr call x ps 0 (ctrEnd (stateAfter Ctr Piece call (x .state) ps))
     × (wrote Ctr Piece call (x .state) ps ≡ result (modeCall dir m label (whole ps) iv o)))
@@ -196,7 +197,7 @@ seal-in-pieces c ps label iv t o r room e =
     let hl = label-passed (length label) (p .label) in
     let fits : length (whole ps) ≤ limit = data-within Encrypt Gcm (length (whole ps)) (p .content) in
     let w = went Seal text (sealAfter rk label iv) call (seal-goes rk label iv hl) [] ps (omega arith) r in
-    let end = seal-end-follows rk label iv (whole ps) hl t fits room in
+    let end = seal-ended rk label iv (whole ps) hl t fits room in
     let single : result (modeCall Encrypt (inGcm c) label (whole ps) iv o) ≡ text (whole ps) ++ tag =
     ap result (leaves Encrypt (inGcm c) label (whole ps) iv o p) ∙ result-of-done (text (whole ps) ++ tag) o in
     let ends : (x : Stepped Seal) → x ≡ record { head = finished 16; bytes = over tag t; state = sealShut ended }
@@ -227,7 +228,7 @@ took rk label iv hl c (e ∷ cs) h =
     let n : length (e ++ joined cs) ≡ length e + length (joined cs) = length-append e (joined cs) in
     let m : length (c ++ e) ≡ length c + length e = length-append c e in
     let rest = took rk label iv hl (c ++ e) cs (omega arith) in
-    let x = opens-piece-follows rk label iv c hl e (omega arith) in
+    let x = opens-goes-on rk label iv c hl e (omega arith) in
     let behind : stateAfter Opens (List ℕ) opensPiece (opensAfter rk label iv (c ++ e)) cs ≡ opensAfter rk label iv (c ++ (e ++ joined cs)) =
     rest .state ∙ ap (opensAfter rk label iv) (append-assoc c e (joined cs)) in
     record {
@@ -261,21 +262,7 @@ opens-starts : (c : Sm4Cipher) (label iv : List ℕ) → opensStart c label iv .
 unfolding opensStart
 opens-starts c label iv e = passed-start (gcmStarting (c .answer) (length iv) (length label)) opensShut (opensAfter (c .rk) label iv []) e
 
-opens-begins : (c : Sm4Cipher) (label iv : List ℕ) → gcmStarting (c .answer) (length iv) (length label) ≡ Passed
-    → opensStart c label iv ≡ record { head = finished 0; bytes = []; state = opensAfter (c .rk) label iv [] }
-unfolding opensStart
-opens-begins c label iv e = rw e
-
--- a ciphertext and its tag open where the tag is theirs
-opens-parts : (rk : List ℕ) (h : ℕ) (j label c tag : List ℕ) → length tag ≡ 16
-    → opensUnder rk h j label (c ++ tag) ≡ same tag (tagOf rk h j label c)
-unfolding opensUnder
-opens-parts rk h j label c tag n =
-    let k : length (c ++ tag) - 16 ≡ length c = ap (λ (m : ℕ). m - 16) (length-append c tag) ∙ omega arith in
-    let front : take (length (c ++ tag) - 16) (c ++ tag) ≡ c = take-at c tag _ (sym k) in
-    let back : drop (length (c ++ tag) - 16) (c ++ tag) ≡ tag = drop-at c tag _ (sym k) in
-    ap₂ (λ (t f : List ℕ). same t (tagOf rk h j label f)) back front
-
+-- the same test decides the single call
 by-test : (t : Bool) (n : ℕ) → gcmHead (cond t (Gcm·Done n) InvalidTag) .number ≡ cond t (finished 0) (refusal 4) .number
 by-test true n = refl
 by-test false n = refl
@@ -294,18 +281,18 @@ opens-in-pieces c cs label iv tag o fits room n e =
     let m : length (text ++ tag) ≡ length text + length tag = length-append text tag in
     let ready : Fits label (text ++ tag) o =
     record { label = s .label-fits; longest = omega arith; shortest = omega arith; room = omega arith } in
-    let single : modeCall Decrypt (inGcm c) label (text ++ tag) iv o .head .number ≡ cond (same tag (tagOf rk h j label text)) (finished 0) (refusal 4) .number =
+    let single : modeCall Decrypt (inGcm c) label (text ++ tag) iv o .head .number
+    ≡ cond (opensUnder rk h j label (text ++ tag)) (finished 0) (refusal 4) .number =
     ap (λ (x : Outcome). x .head .number)
     (leaves Decrypt (inGcm c) label (text ++ tag) iv o (gcm-in-order c label (text ++ tag) iv o (s .key) (s .iv-size) ready))
-    ∙ by-test (opensUnder rk h j label (text ++ tag)) (length (text ++ tag) - 16)
-    ∙ ap (λ (t : Bool). cond t (finished 0) (refusal 4) .number) (opens-parts rk h j label text tag n) in
+    ∙ by-test (opensUnder rk h j label (text ++ tag)) (length (text ++ tag) - 16) in
     subst
     (λ (x : Stepped Opens). AllDid Opens (List ℕ) opensPiece none (x .state) cs
     × (opensEnd (stateAfter Opens (List ℕ) opensPiece (x .state) cs) tag .head .number
     ≡ modeCall Decrypt (inGcm c) label (text ++ tag) iv o .head .number))
-    (sym (opens-begins c label iv passed)) (
+    (sym (opens-started c label iv passed)) (
       k .all,
       ap (λ (y : Opens). opensEnd y tag .head .number) (k .state)
-          ∙ ap (λ (x : Stepped Opens). x .head .number) (opens-end-follows rk label iv text (s .label-fits) tag fits n)
+          ∙ ap (λ (x : Stepped Opens). x .head .number) (opens-ended rk label iv text (s .label-fits) tag fits n)
           ∙ sym single,
     )

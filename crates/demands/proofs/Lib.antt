@@ -10,6 +10,7 @@ pub mod LabelIgnored
 -- demand 2
 pub mod ModesBack
 pub mod WhichNumber
+pub mod WhichNumberInPieces
 pub mod ThereAndBack
 pub mod TwelveBytes
 pub mod Served

@@ -4,6 +4,8 @@ pub mod Answered
 pub mod WhichNumber
 pub mod OneOutcome
 pub mod NoUsableKey
+pub mod Steps
+pub mod WhichNumberInPieces
 -- demand 2
 pub mod Served
 pub mod ThereAndBack

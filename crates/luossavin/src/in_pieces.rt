@@ -40,27 +40,33 @@ pub struct LuossavinOpensStep {
 fn ctr_step(step: CtrStep) -> LuossavinCtrStep
     ensures { λ r. ⌜ (headIn (r .answer) ≡ headOf (step .answer)) × (r .state ≡ step .state) ⌝ }
 {
+    let answer = step.answer;
+    let state = step.state;
     LuossavinCtrStep {
-        answer: report(step.answer),
-        state: step.state,
+        answer: report(answer),
+        state,
     }
 }
 
 fn seal_step(step: SealStep) -> LuossavinSealStep
     ensures { λ r. ⌜ (headIn (r .answer) ≡ headOf (step .answer)) × (r .state ≡ step .state) ⌝ }
 {
+    let answer = step.answer;
+    let state = step.state;
     LuossavinSealStep {
-        answer: report(step.answer),
-        state: step.state,
+        answer: report(answer),
+        state,
     }
 }
 
 fn opens_step(step: OpensStep) -> LuossavinOpensStep
     ensures { λ r. ⌜ (headIn (r .answer) ≡ headOf (step .answer)) × (r .state ≡ step .state) ⌝ }
 {
+    let answer = step.answer;
+    let state = step.state;
     LuossavinOpensStep {
-        answer: report(step.answer),
-        state: step.state,
+        answer: report(answer),
+        state,
     }
 }
 
