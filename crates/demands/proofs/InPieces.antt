@@ -29,6 +29,7 @@ use Rattle.cipher_mode.specs.declared.Sm4Cipher.{Sm4Cipher}
 use Rattle.cipher_mode.specs.declared.Sm4CipherMode.{Sm4CipherMode}
 use Rattle.cipher_mode.specs.declared.checks.Checked.{Checked}
 use Rattle.cipher_mode.specs.declared.checks.Checked.the-variants.{Passed, Refused}
+use Rattle.cipher_mode.specs.Key.{newCipher, newCipherMode}
 use Rattle.cipher_mode.specs.Tables.{limit}
 use Rattle.cipher_mode.specs.Checks.{wrongIv, keyAndIv, labelCheck, dataCheck}
 use Rattle.cipher_mode.specs.Calls.{modeCall}
@@ -42,6 +43,8 @@ use Rattle.pieces.specs.Calls.{Stepped, ended, begun, ctrStart, ctrPiece, ctrEn
 use Rattle.pieces.proofs.CtrInPieces.{ctr-started, ctr-goes-on, ctr-joined, ctr-ended}
 use Rattle.pieces.proofs.SealInPieces.{seal-started, seal-joined, seal-goes-on, seal-ended}
 use Rattle.pieces.proofs.OpensInPieces.{opens-started, opens-goes-on, opens-ended}
+use Rattle.luossavin.specs.Host.{modeOf, hostModeCall}
+use Rattle.luossavin.specs.InPieces.{hostCtrStart, hostSealStart, hostOpensStart}
 use Rattle.demands.specs.Call.{inGcm, result}
 use Rattle.demands.specs.InPieces.{Did, written, stateAfter, wrote, AllDid, Piece, onto, sizeOf, whole, Roomy}
 use Rattle.demands.specs.InPieces.{AllDone, joined, none, CtrInPieces, SealInPieces, OpensInPieces}
@@ -296,3 +299,16 @@ opens-in-pieces c cs label iv tag o fits room n e =
           ∙ ap (λ (x : Stepped Opens). x .head .number) (opens-ended rk label iv text (s .label-fits) tag fits n)
           ∙ sym single,
     )
+
+-- The same of the exported calls, with mode 2 and with mode 4.
+pub exported-ctr-in-pieces : (dir : Direction) (key : List ℕ) → CtrInPieces Ctr (hostCtrStart key) ctrPiece ctrEnd (hostModeCall dir 2 key)
+unfolding hostCtrStart hostModeCall modeOf newCipherMode
+exported-ctr-in-pieces dir key = ctr-in-pieces dir (newCipher key)
+
+pub exported-seal-in-pieces : (key : List ℕ) → SealInPieces Seal (hostSealStart key) sealPiece sealEnd (hostModeCall Encrypt 4 key)
+unfolding hostSealStart hostModeCall modeOf newCipherMode
+exported-seal-in-pieces key = seal-in-pieces (newCipher key)
+
+pub exported-opens-in-pieces : (key : List ℕ) → OpensInPieces Opens (hostOpensStart key) opensPiece opensEnd (hostModeCall Decrypt 4 key)
+unfolding hostOpensStart hostModeCall modeOf newCipherMode
+exported-opens-in-pieces key = opens-in-pieces (newCipher key)
