@@ -10,3 +10,5 @@ pub mod Sealing
 pub mod CtrInPieces
 pub mod OpensInPieces
 pub mod SealInPieces
+pub mod Joined
+pub mod Standing
