@@ -41,6 +41,7 @@ use Rattle.pieces.specs.Checks.{gcmStarting}
 use Rattle.pieces.specs.States.{ctrAfter, sealAfter, sealShut, opensAfter, opensShut}
 use Rattle.pieces.specs.Calls.{Stepped, ended, begun, ctrStart, ctrPiece, ctrEnd, sealStart, sealPiece, sealEnd, opensStart, opensPiece, opensEnd}
 use Rattle.pieces.proofs.CtrInPieces.{ctr-started, ctr-goes-on, ctr-joined, ctr-ended}
+use Rattle.pieces.proofs.Sealing.{no-text}
 use Rattle.pieces.proofs.SealInPieces.{seal-started, seal-joined, seal-goes-on, seal-ended}
 use Rattle.pieces.proofs.OpensInPieces.{opens-started, opens-goes-on, opens-ended}
 use Rattle.luossavin.specs.Host.{modeOf, hostModeCall}
@@ -143,10 +144,6 @@ seal-starts c label iv k n h = seal-started c label iv (rw (k, n, le-ltb limit (
 chain-nothing : (rk iv : List ℕ) → chain (streamMode Ctr·kind rk) iv [] ≡ []
 chain-nothing rk iv = chain-rest (streamMode Ctr·kind rk) iv [] (omega arith)
 
-text-nothing : (rk j : List ℕ) → textOf rk j [] ≡ []
-unfolding textOf
-text-nothing rk j = chain-rest (streamMode Gctr rk) (gcmNext j) [] (omega arith)
-
 ctr-goes : (rk iv : List ℕ) → Goes Ctr (chain (streamMode Ctr·kind rk) iv) (ctrAfter rk iv) (onto Ctr ctrPiece)
 ctr-goes rk iv =
     record {
@@ -215,7 +212,7 @@ seal-in-pieces c ps label iv t o r room e =
     (sym (seal-starts c label iv (p .key) (p .iv-size) hl)) (
       record { start = record { number = refl; size = refl }; pieces = w .all; end = last .0 },
       ap₂ _++_
-          (ap (λ (l : List ℕ). l ++ wrote Seal Piece call (sealAfter rk label iv []) ps) (sym (text-nothing rk j)) ∙ w .bytes) (last .1)
+          (ap (λ (l : List ℕ). l ++ wrote Seal Piece call (sealAfter rk label iv []) ps) (sym (no-text rk j)) ∙ w .bytes) (last .1)
           ∙ sym single,
     )
 

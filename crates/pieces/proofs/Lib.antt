@@ -10,5 +10,3 @@ pub mod Sealing
 pub mod CtrInPieces
 pub mod OpensInPieces
 pub mod SealInPieces
-pub mod Joined
-pub mod Standing

@@ -3,4 +3,3 @@ pub mod Hashing
 pub mod Checks
 pub mod States
 pub mod Calls
-pub mod Runs
