@@ -7,15 +7,13 @@ use mathlib.Core.List.{List, [], _∷_, _++_, append-assoc, append-nil}
 use Prim.Native.Nat.{ℕ, _+_, _-_, _≤_}
 use native.Mathlib.Omega.{arith}
 use lib.ListN.{length, take, drop, length-append, length-drop}
-use lib.Seq.{take-append-seam, take-at, drop-at}
+use lib.Seq.{take-at}
 use borrow.Author.Tests.{le-ltb}
-use Rattle.block.specs.Same.{same}
-use Rattle.counter.specs.Counter.{gcmNext}
-use Rattle.walk.specs.Outcome.{Head, Outcome, finished, refusal, done}
+use Rattle.walk.specs.Outcome.{Head, Outcome, finished, refusal}
 use Rattle.walk.specs.Walk.{chain, over}
 use Rattle.walk.proofs.Chain.{chain-rest}
 use Rattle.stream.specs.Stream.{streamMode}
-use Rattle.stream.specs.declared.Kind.the-variants.{Ctr as Ctr·kind, Gctr}
+use Rattle.stream.specs.declared.Kind.the-variants.{Ctr as Ctr·kind}
 use Rattle.stream.proofs.RoundTrip.{length-stream}
 use Rattle.gcm.specs.Gcm.{hashKey, J0, textOf, tagOf, sealed, opensUnder}
 use Rattle.gcm.specs.Open.{headOf as gcmHead, settled, gcmOpen}
@@ -33,7 +31,7 @@ use Rattle.cipher_mode.specs.Key.{newCipher, newCipherMode}
 use Rattle.cipher_mode.specs.Tables.{limit}
 use Rattle.cipher_mode.specs.Checks.{wrongIv, keyAndIv, labelCheck, dataCheck}
 use Rattle.cipher_mode.specs.Calls.{modeCall}
-use Rattle.cipher_mode.proofs.Passed.{InOrder, both, key-and-iv-passed, label-passed, data-within}
+use Rattle.cipher_mode.proofs.Passed.{both, key-and-iv-passed, label-passed, data-within}
 use Rattle.pieces.specs.declared.ctr.Ctr.{Ctr}
 use Rattle.pieces.specs.declared.opens.Opens.{Opens}
 use Rattle.pieces.specs.declared.seal.Seal.{Seal}

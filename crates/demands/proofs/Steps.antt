@@ -13,7 +13,7 @@ use Rattle.block.specs.Same.{same}
 use Rattle.block.specs.Xor.{xors}
 use Rattle.block.proofs.Convert.{length-bytesOf}
 use Rattle.block.proofs.Xors.{length-xors}
-use Rattle.walk.specs.Outcome.{Head, Outcome, finished, refusal, leaving, done}
+use Rattle.walk.specs.Outcome.{Head, finished, refusal, leaving}
 use Rattle.walk.specs.Walk.{over}
 use Rattle.cipher_mode.specs.declared.CipherMode.the-variants.{Ctr as Ctr·mode, Gcm}
 use Rattle.cipher_mode.specs.declared.Sm4Cipher.{Sm4Cipher}
