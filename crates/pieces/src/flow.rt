@@ -17,8 +17,8 @@ pub enum Counting {
     Gcm,
 }
 
-// The counter of the block that is begun, and its cipher, at a block's edge too: so a message has one cipher more than the
-// single call, and no block is ciphered twice. The place in the block is the caller's to know.
+// The counter of the block that is begun, and its cipher, at a block's edge too: so no block is ciphered twice, and however a
+// message is cut it has as many ciphers as the single call. The place in the block is the caller's to know.
 #[repr(C)]
 pub struct Flow {
     pub counter: [u8; 16],
