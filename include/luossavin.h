@@ -10,21 +10,24 @@
  *   1  ErrorBlockSize  the key is not 16 bytes
  *   2  ErrorDataLen    Cbc decryption of a length that does not divide by 16
  *   3  InvalidLastU8   Cbc decryption: the last decrypted byte is 0 or above 16
- *   4  InvalidTag      Gcm decryption: the 16 bytes at the end are not the tag
+ *   4  InvalidTag      Gcm decryption: the 16 bytes at the end are not the tag; in pieces, they are not the one given
  *   5  TooLong         a length limit is passed
  *   6  NoRoom          the output buffer is shorter than the room needed
  *   7  BadMode         the mode is above 4
  *   8  EmptyCbc        Cbc decryption of 0 bytes
- *   9  ShortGcm        Gcm decryption of fewer than 16 bytes
+ *   9  ShortGcm        Gcm decryption of fewer than 16 bytes; in pieces, a tag of fewer or more
  *  10  WrongIv         the IV is not 16 bytes; in Gcm, neither 12 nor 16
  *  11  WrongBlock      the single block is not 16 bytes
+ *  12  Ended           the message in pieces has come to its end
  *
  * Where several apply, the first of the call's order is the answer: of a single block 1, 11, 6; of a
- * message 7, 1, 10, 5, then in Cbc 8, 2 or in Gcm 9, then 6, 3, 4. Every number but 0 is a refusal: it
- * reports length 0 and changes no byte of the output buffer.
+ * message 7, 1, 10, 5, then in Cbc 8, 2 or in Gcm 9, then 6, 3, 4; of a message in pieces 1, 10, 5 at its
+ * start, and 12, 5, 9, 6, 4 from there on. Every number but 0 is a refusal: it reports length 0 and changes
+ * no byte of the output buffer.
  *
- * In refusal 9 `missing` is how many bytes were missing: 16 - n for n bytes of data, so 16 where there was
- * no data and 1 where there were 15 bytes. In every other answer, done or refused, it is 0.
+ * In refusal 9 `missing` is how many bytes were missing: 16 - n for n bytes of data, or for a tag of n bytes,
+ * so 16 where there was none and 1 where there were 15 bytes; 0 for a tag of more than 16. In every other
+ * answer, done or refused, it is 0.
  *
  * When a call is done, the first `length` bytes of the output buffer are the result, and every byte
  * after them is as it was. For n bytes of data:
@@ -51,6 +54,8 @@
  *
  * The output holds no IV: a message is decrypted under the bytes that it was encrypted under, and as many.
  * Nothing is claimed between a 12-byte IV and the 16-byte IV that extends it with 00000001.
+ *
+ * A message may also come in pieces: see luossavin_ctr_start.
  *
  * What no proof can see stays the host's duty, and a call that breaks it has no defined outcome:
  *
@@ -105,6 +110,178 @@ struct luossavin_answer luossavin_encrypt(uint32_t mode, const uint8_t *key, siz
 struct luossavin_answer luossavin_decrypt(uint32_t mode, const uint8_t *key, size_t key_len,
     const uint8_t *aad, size_t aad_len, const uint8_t *data, size_t data_len,
     const uint8_t *iv, size_t iv_len, uint8_t *out, size_t room);
+
+/* Messages in pieces.
+ *
+ * A text that is still being written goes in as it comes, cut anywhere, with nothing in a piece too. There are
+ * three kinds: Ctr, either way; Gcm sealing; and Gcm opening, which writes no text and answers whether the
+ * message opens. Each has a start, pieces and an end. The outputs of the pieces joined, and sealing's tag after
+ * them, are what the single call makes of the joined pieces, whatever the cuts; opening answers 0 exactly when
+ * luossavin_decrypt, given room, opens the joined pieces with the tag behind them, else 4.
+ *
+ * Each call takes a state by value and gives an answer beside the next state. A loop over pieces:
+ *
+ *     struct luossavin_seal_step start = luossavin_seal_start(key, 16, label, label_len, iv, iv_len);
+ *     struct luossavin_answer a = start.answer;
+ *     while (a.number == 0 && (n = next_lines(text, sizeof text)) != 0) {
+ *         a = luossavin_seal_add(&start.state, text, n, out, sizeof out);
+ *         send(out, a.length);
+ *     }
+ *     if (a.number == 0) {
+ *         a = luossavin_seal_finish(&start.state, out, sizeof out);
+ *         send(out, a.length);
+ *     }
+ *
+ * where a refusal sends nothing, since its length is 0. luossavin_seal_add and the others that end in _add and
+ * _finish call a piece or an end and put the next state in the place of the one before. For n bytes in a piece:
+ *
+ *                          room needed   length when done
+ *   any start              none          0
+ *   a piece, Ctr, sealing  n             n
+ *   a piece, opening       none          0
+ *   Ctr's end              none          0
+ *   sealing's end          16            16: the tag
+ *   opening's end          none          0
+ *
+ * The pieces of a message have at most 16,777,216 bytes together. Refusal 5 is a piece that would pass this, so
+ * that an empty one is done where they have just as many, and one byte more is not.
+ *
+ * A refusal gives back the state as it was, and the message may go on: a piece that found no room may come again
+ * with more, and an end that was refused for its room or for its tag's length may be tried again. Only an end
+ * that answers 0, or opening's that answers 4, brings a message to its end: after it every call answers 12. A
+ * start that is refused gives no state but a record that holds the refusal, and every call on it answers that.
+ *
+ * What is in a state is the library's own, and may change with the library: a host copies it and hands it on, and
+ * neither looks into it nor keeps it in a file. Whatever it holds, every call has an answer, among those above, and
+ * touches nothing that was not lent. What stays the host's to see to:
+ *
+ *   - an older copy of a state still works, as the state that it was. Two texts that are put through copies of
+ *     one state of Ctr or sealing use the same key stream, as two messages under one key and IV do: whoever has
+ *     both results learns how the texts differ, and under sealing may come to forge. Go on from a copy only
+ *     with the text that it went on with before;
+ *   - a state holds what the key's holder alone may know: of Ctr and sealing all that encrypts and decrypts, of
+ *     opening what makes a tag. The state after an end that answered 0 or 4 holds nothing of it, but copies do,
+ *     those on the stack where the calls were made included, and so does a state that came to no end: overwrite
+ *     them;
+ *   - opening's pieces say nothing of the text. None of it may be shown, or used, before opening's end has
+ *     answered 0 for all of it; then the pieces may be decrypted, by luossavin_decrypt with the tag behind them.
+ */
+struct luossavin_flow {
+    uint8_t counter[16];
+    uint8_t pad[16];
+};
+struct luossavin_hashing {
+    uint8_t h[16];
+    uint8_t y[16];
+    uint8_t held[16];
+};
+struct luossavin_ctr {
+    uint32_t round_keys[32];
+    struct luossavin_flow flow;
+    size_t total;
+    uint32_t stands;
+};
+struct luossavin_seal {
+    uint32_t round_keys[32];
+    struct luossavin_flow flow;
+    struct luossavin_hashing hashing;
+    uint8_t mask[16];
+    size_t label;
+    size_t total;
+    uint32_t stands;
+};
+struct luossavin_opens {
+    struct luossavin_hashing hashing;
+    uint8_t mask[16];
+    size_t label;
+    size_t total;
+    uint32_t stands;
+};
+
+/* An answer beside the next state. */
+struct luossavin_ctr_step {
+    struct luossavin_answer answer;
+    struct luossavin_ctr state;
+};
+struct luossavin_seal_step {
+    struct luossavin_answer answer;
+    struct luossavin_seal state;
+};
+struct luossavin_opens_step {
+    struct luossavin_answer answer;
+    struct luossavin_opens state;
+};
+
+/* Ctr under a key and an IV of 16 bytes each: encryption and decryption are the same. The start answers 0, 1 or
+ * 10; a piece 0, 12, 5 or 6; the end, which writes nothing, 0 or 12. */
+struct luossavin_ctr_step luossavin_ctr_start(const uint8_t *key, size_t key_len, const uint8_t *iv, size_t iv_len);
+struct luossavin_ctr_step luossavin_ctr_piece(struct luossavin_ctr state,
+    const uint8_t *data, size_t data_len, uint8_t *out, size_t room);
+struct luossavin_ctr_step luossavin_ctr_end(struct luossavin_ctr state);
+
+/* Gcm encryption under a key of 16 bytes, an IV of 12 or 16 and the whole label. The start answers 0, 1, 10, or
+ * 5 for the label; a piece 0, 12, 5 or 6; the end, which writes the tag, 0, 12 or 6. */
+struct luossavin_seal_step luossavin_seal_start(const uint8_t *key, size_t key_len,
+    const uint8_t *aad, size_t aad_len, const uint8_t *iv, size_t iv_len);
+struct luossavin_seal_step luossavin_seal_piece(struct luossavin_seal state,
+    const uint8_t *data, size_t data_len, uint8_t *out, size_t room);
+struct luossavin_seal_step luossavin_seal_end(struct luossavin_seal state, uint8_t *out, size_t room);
+
+/* Whether a Gcm message opens, under the key, IV and label that sealed it. The pieces are the ciphertext without
+ * the tag, which comes with the end. The start answers as sealing's; a piece 0, 12 or 5; the end 0 for yes, 4 for
+ * no, 12, or 9 for a tag that has not 16 bytes. */
+struct luossavin_opens_step luossavin_opens_start(const uint8_t *key, size_t key_len,
+    const uint8_t *aad, size_t aad_len, const uint8_t *iv, size_t iv_len);
+struct luossavin_opens_step luossavin_opens_piece(struct luossavin_opens state, const uint8_t *data, size_t data_len);
+struct luossavin_opens_step luossavin_opens_end(struct luossavin_opens state, const uint8_t *tag, size_t tag_len);
+
+/* The same pieces and ends on a state that stays in its place, so that none is gone on with by mistake. */
+
+static inline struct luossavin_answer luossavin_ctr_add(struct luossavin_ctr *state,
+    const uint8_t *data, size_t data_len, uint8_t *out, size_t room)
+{
+    struct luossavin_ctr_step step = luossavin_ctr_piece(*state, data, data_len, out, room);
+    *state = step.state;
+    return step.answer;
+}
+
+static inline struct luossavin_answer luossavin_ctr_finish(struct luossavin_ctr *state)
+{
+    struct luossavin_ctr_step step = luossavin_ctr_end(*state);
+    *state = step.state;
+    return step.answer;
+}
+
+static inline struct luossavin_answer luossavin_seal_add(struct luossavin_seal *state,
+    const uint8_t *data, size_t data_len, uint8_t *out, size_t room)
+{
+    struct luossavin_seal_step step = luossavin_seal_piece(*state, data, data_len, out, room);
+    *state = step.state;
+    return step.answer;
+}
+
+static inline struct luossavin_answer luossavin_seal_finish(struct luossavin_seal *state, uint8_t *out, size_t room)
+{
+    struct luossavin_seal_step step = luossavin_seal_end(*state, out, room);
+    *state = step.state;
+    return step.answer;
+}
+
+static inline struct luossavin_answer luossavin_opens_add(struct luossavin_opens *state,
+    const uint8_t *data, size_t data_len)
+{
+    struct luossavin_opens_step step = luossavin_opens_piece(*state, data, data_len);
+    *state = step.state;
+    return step.answer;
+}
+
+static inline struct luossavin_answer luossavin_opens_finish(struct luossavin_opens *state,
+    const uint8_t *tag, size_t tag_len)
+{
+    struct luossavin_opens_step step = luossavin_opens_end(*state, tag, tag_len);
+    *state = step.state;
+    return step.answer;
+}
 
 #ifdef __cplusplus
 }
