@@ -10,20 +10,20 @@
  *   1  ErrorBlockSize  the key is not 16 bytes
  *   2  ErrorDataLen    Cbc decryption of a length that does not divide by 16
  *   3  InvalidLastU8   Cbc decryption: the last decrypted byte is 0 or above 16
- *   4  InvalidTag      Gcm decryption: the 16 bytes at the end are not the tag; in pieces, they are not the one given
+ *   4  InvalidTag      Gcm decryption: the 16 bytes at the end are not the tag
  *   5  TooLong         a length limit is passed
  *   6  NoRoom          the output buffer is shorter than the room needed
  *   7  BadMode         the mode is above 4
  *   8  EmptyCbc        Cbc decryption of 0 bytes
- *   9  ShortGcm        Gcm decryption of fewer than 16 bytes; in pieces, a tag of fewer or more
+ *   9  ShortGcm        Gcm decryption of fewer than 16 bytes; in pieces, a tag that has not 16
  *  10  WrongIv         the IV is not 16 bytes; in Gcm, neither 12 nor 16
  *  11  WrongBlock      the single block is not 16 bytes
  *  12  Ended           the message in pieces has come to its end
  *
  * Where several apply, the first of the call's order is the answer: of a single block 1, 11, 6; of a
- * message 7, 1, 10, 5, then in Cbc 8, 2 or in Gcm 9, then 6, 3, 4; of a message in pieces 1, 10, 5 at its
- * start, and 12, 5, 9, 6, 4 from there on. Every number but 0 is a refusal: it reports length 0 and changes
- * no byte of the output buffer.
+ * message 7, 1, 10, 5, then in Cbc 8, 2 or in Gcm 9, then 6, 3, 4; of a message in pieces 1, 10, 5 at the
+ * start, and from there on what the start was refused with, then 12, 5, 9, 6, 4. Every number but 0 is a
+ * refusal: it reports length 0 and changes no byte of the output buffer.
  *
  * In refusal 9 `missing` is how many bytes were missing: 16 - n for n bytes of data, or for a tag of n bytes,
  * so 16 where there was none and 1 where there were 15 bytes; 0 for a tag of more than 16. In every other
@@ -55,7 +55,7 @@
  * The output holds no IV: a message is decrypted under the bytes that it was encrypted under, and as many.
  * Nothing is claimed between a 12-byte IV and the 16-byte IV that extends it with 00000001.
  *
- * A message may also come in pieces: see luossavin_ctr_start.
+ * A message may also come in pieces, in Ctr and Gcm: what holds for these is said where they are declared.
  *
  * What no proof can see stays the host's duty, and a call that breaks it has no defined outcome:
  *
@@ -113,11 +113,11 @@ struct luossavin_answer luossavin_decrypt(uint32_t mode, const uint8_t *key, siz
 
 /* Messages in pieces.
  *
- * A text that is still being written goes in as it comes, cut anywhere, with nothing in a piece too. There are
- * three kinds: Ctr, either way; Gcm sealing; and Gcm opening, which writes no text and answers whether the
- * message opens. Each has a start, pieces and an end. The outputs of the pieces joined, and sealing's tag after
- * them, are what the single call makes of the joined pieces, whatever the cuts; opening answers 0 exactly when
- * luossavin_decrypt, given room, opens the joined pieces with the tag behind them, else 4.
+ * A text that is still being written goes in as it comes, cut anywhere, also with nothing in a piece. There
+ * are three kinds: Ctr, either way; Gcm sealing; and Gcm opening, which answers whether a message opens and
+ * writes no text. Each has a start, pieces and an end. Whatever the cuts, the outputs of the pieces joined,
+ * and sealing's tag behind them, are what the single call makes of the joined pieces; and opening answers 0
+ * exactly when luossavin_decrypt, given room, opens the joined pieces with the tag behind them, and else 4.
  *
  * Each call takes a state by value and gives an answer beside the next state. A loop over pieces:
  *
@@ -132,39 +132,38 @@ struct luossavin_answer luossavin_decrypt(uint32_t mode, const uint8_t *key, siz
  *         send(out, a.length);
  *     }
  *
- * where a refusal sends nothing, since its length is 0. luossavin_seal_add and the others that end in _add and
- * _finish call a piece or an end and put the next state in the place of the one before. For n bytes in a piece:
+ * A refusal sends nothing here, since its length is 0. luossavin_seal_add, and the others in _add and _finish,
+ * make the call and put the next state in the place of the one before. For a piece of n bytes:
  *
- *                          room needed   length when done
- *   any start              none          0
- *   a piece, Ctr, sealing  n             n
- *   a piece, opening       none          0
- *   Ctr's end              none          0
- *   sealing's end          16            16: the tag
- *   opening's end          none          0
+ *                             room needed   length when done
+ *   any start                 none          0
+ *   a piece, Ctr or sealing   n             n
+ *   a piece, opening          none          0
+ *   Ctr's end                 none          0
+ *   sealing's end             16            16: the tag
+ *   opening's end             none          0
  *
- * The pieces of a message have at most 16,777,216 bytes together. Refusal 5 is a piece that would pass this, so
- * that an empty one is done where they have just as many, and one byte more is not.
+ * The pieces of a message have at most 16,777,216 bytes together. The piece that would pass this is refused
+ * with 5, so that an empty one is done where they have just as many.
  *
- * A refusal gives back the state as it was, and the message may go on: a piece that found no room may come again
- * with more, and an end that was refused for its room or for its tag's length may be tried again. Only an end
- * that answers 0, or opening's that answers 4, brings a message to its end: after it every call answers 12. A
- * start that is refused gives no state but a record that holds the refusal, and every call on it answers that.
+ * A refused call gives back the state as it was, and the message may go on: a piece that found no room may
+ * come again with more, and so may an end that was refused for its room or its tag's length. Only an end that
+ * answers 0, or 4 in opening, brings a message to its end, and every call after it answers 12. A start that
+ * is refused gives no state but a record of the refusal, and every call on that answers the same number.
  *
- * What is in a state is the library's own, and may change with the library: a host copies it and hands it on, and
- * neither looks into it nor keeps it in a file. Whatever it holds, every call has an answer, among those above, and
- * touches nothing that was not lent. What stays the host's to see to:
+ * What is in a state is the library's own, and another release may have it otherwise: a host copies a state
+ * and hands it on, and neither looks into it nor keeps it in a file. Whatever one holds, every call on it has
+ * an answer, among those said here, and touches nothing that was not lent. The host is to see to this:
  *
- *   - an older copy of a state still works, as the state that it was. Two texts that are put through copies of
- *     one state of Ctr or sealing use the same key stream, as two messages under one key and IV do: whoever has
- *     both results learns how the texts differ, and under sealing may come to forge. Go on from a copy only
- *     with the text that it went on with before;
- *   - a state holds what the key's holder alone may know: of Ctr and sealing all that encrypts and decrypts, of
- *     opening what makes a tag. The state after an end that answered 0 or 4 holds nothing of it, but copies do,
- *     those on the stack where the calls were made included, and so does a state that came to no end: overwrite
- *     them;
- *   - opening's pieces say nothing of the text. None of it may be shown, or used, before opening's end has
- *     answered 0 for all of it; then the pieces may be decrypted, by luossavin_decrypt with the tag behind them.
+ *   - an older copy of a state still works, as the state that it was. Two texts that go through copies of one
+ *     state, of Ctr or of sealing, use one key stream twice, as two messages under one key and IV do: who has
+ *     both outputs learns how the texts differ, and from two tags may come to forge others. A copy may go on
+ *     with the same text only;
+ *   - a state is as secret as the key: those of Ctr and sealing encrypt and decrypt, and that of opening makes
+ *     tags. After an end that answered 0 or 4 it holds nothing more. Until then, and where no end comes, it is
+ *     the host's to overwrite, and so are copies of it, those on the stack of the caller among them;
+ *   - opening's pieces answer 0 whatever they hold. No text may be shown, or acted on, before opening's end
+ *     has answered 0 for all of it.
  */
 struct luossavin_flow {
     uint8_t counter[16];
@@ -212,30 +211,33 @@ struct luossavin_opens_step {
     struct luossavin_opens state;
 };
 
-/* Ctr under a key and an IV of 16 bytes each: encryption and decryption are the same. The start answers 0, 1 or
- * 10; a piece 0, 12, 5 or 6; the end, which writes nothing, 0 or 12. */
-struct luossavin_ctr_step luossavin_ctr_start(const uint8_t *key, size_t key_len, const uint8_t *iv, size_t iv_len);
+/* Ctr under a key and an IV of 16 bytes each; encryption and decryption are the same. The start answers 0, 1
+ * or 10, a piece 0, 5, 6 or 12, and the end, which writes nothing, 0 or 12. */
+struct luossavin_ctr_step luossavin_ctr_start(const uint8_t *key, size_t key_len,
+    const uint8_t *iv, size_t iv_len);
 struct luossavin_ctr_step luossavin_ctr_piece(struct luossavin_ctr state,
     const uint8_t *data, size_t data_len, uint8_t *out, size_t room);
 struct luossavin_ctr_step luossavin_ctr_end(struct luossavin_ctr state);
 
-/* Gcm encryption under a key of 16 bytes, an IV of 12 or 16 and the whole label. The start answers 0, 1, 10, or
- * 5 for the label; a piece 0, 12, 5 or 6; the end, which writes the tag, 0, 12 or 6. */
+/* Gcm encryption under a key of 16 bytes, an IV of 12 or 16 and the whole label. The start answers 0, 1, 10,
+ * or 5 for the label, a piece 0, 5, 6 or 12, and the end, which writes the tag, 0, 6 or 12. */
 struct luossavin_seal_step luossavin_seal_start(const uint8_t *key, size_t key_len,
     const uint8_t *aad, size_t aad_len, const uint8_t *iv, size_t iv_len);
 struct luossavin_seal_step luossavin_seal_piece(struct luossavin_seal state,
     const uint8_t *data, size_t data_len, uint8_t *out, size_t room);
 struct luossavin_seal_step luossavin_seal_end(struct luossavin_seal state, uint8_t *out, size_t room);
 
-/* Whether a Gcm message opens, under the key, IV and label that sealed it. The pieces are the ciphertext without
- * the tag, which comes with the end. The start answers as sealing's; a piece 0, 12 or 5; the end 0 for yes, 4 for
- * no, 12, or 9 for a tag that has not 16 bytes. */
+/* Whether a Gcm message opens, under the key, label and IV that it was sealed under. The pieces are those of
+ * the ciphertext; the tag of 16 bytes comes with the end. The start answers 0, 1, 10, or 5 for the label, a
+ * piece 0, 5 or 12, and the end 0 for yes, 4 for no, 9 or 12. */
 struct luossavin_opens_step luossavin_opens_start(const uint8_t *key, size_t key_len,
     const uint8_t *aad, size_t aad_len, const uint8_t *iv, size_t iv_len);
-struct luossavin_opens_step luossavin_opens_piece(struct luossavin_opens state, const uint8_t *data, size_t data_len);
-struct luossavin_opens_step luossavin_opens_end(struct luossavin_opens state, const uint8_t *tag, size_t tag_len);
+struct luossavin_opens_step luossavin_opens_piece(struct luossavin_opens state,
+    const uint8_t *data, size_t data_len);
+struct luossavin_opens_step luossavin_opens_end(struct luossavin_opens state,
+    const uint8_t *tag, size_t tag_len);
 
-/* The same pieces and ends on a state that stays in its place, so that none is gone on with by mistake. */
+/* Pieces and ends on a state that stays in its place: the one before cannot be gone on with by mistake. */
 
 static inline struct luossavin_answer luossavin_ctr_add(struct luossavin_ctr *state,
     const uint8_t *data, size_t data_len, uint8_t *out, size_t room)
@@ -260,7 +262,8 @@ static inline struct luossavin_answer luossavin_seal_add(struct luossavin_seal *
     return step.answer;
 }
 
-static inline struct luossavin_answer luossavin_seal_finish(struct luossavin_seal *state, uint8_t *out, size_t room)
+static inline struct luossavin_answer luossavin_seal_finish(struct luossavin_seal *state,
+    uint8_t *out, size_t room)
 {
     struct luossavin_seal_step step = luossavin_seal_end(*state, out, room);
     *state = step.state;

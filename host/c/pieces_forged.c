@@ -78,11 +78,18 @@ static void any_state(void)
     }
 }
 
-/* The first of the header's order that applies; `yes` is opening's answer, which the fields decide. */
-static uint32_t number_for(uint32_t yes)
+/* What a call that is done writes, and so the room that it needs. */
+static size_t written(void)
+{
+    return given.kind == OPENING ? 0 : !ends ? data_len : given.kind == SEALING ? 16 : 0;
+}
+
+/* The first of the header's order that applies. Whether such fields open is theirs to decide: `said` is the answer
+ * that came, and either is right. */
+static uint32_t number_for(uint32_t said)
 {
     uint32_t stands = *stands_of(&given);
-    size_t total = *total_of(&given), needed = given.kind == OPENING ? 0 : !ends ? data_len : given.kind == SEALING ? 16 : 0;
+    size_t total = *total_of(&given);
     if (stands != 0) {
         return stands == 1 || stands == 5 || stands == 10 ? stands : 12;
     }
@@ -90,17 +97,17 @@ static uint32_t number_for(uint32_t yes)
         return 5;
     }
     if (given.kind == OPENING && ends) {
-        return room != 16 ? 9 : yes == 0 ? 0 : 4;
+        return room != 16 ? 9 : said == 0 ? 0 : 4;
     }
-    return room < needed ? 6 : 0;
+    return room < written() ? 6 : 0;
 }
 
-/* Whether the answer and the state after it are in order; a piece or an end writes `length` bytes. */
-static int in_order(struct luossavin_answer a, struct state *after, size_t length)
+/* Whether the answer and the state after it are in order. */
+static int in_order(struct luossavin_answer a, struct state *after)
 {
     uint32_t number = number_for(a.number);
     size_t missing = number == 9 && room < 16 ? 16 - room : 0;
-    if (a.number != number || a.missing != missing || a.length != (number == 0 ? length : 0)) {
+    if (a.number != number || a.missing != missing || a.length != (number == 0 ? written() : 0)) {
         return is_wrong("the answer on a forged state");
     }
     if (number != 0 && number != 4) {
@@ -126,7 +133,6 @@ static void one_forged(void)
     struct state after = given, again = given;
     struct luossavin_answer a, b;
     uint8_t other[MOST + 1] = {0};
-    size_t length = given.kind == OPENING ? 0 : !ends ? data_len : given.kind == SEALING ? 16 : 0;
     int is_tag = ends && given.kind == OPENING;
     fill(data);
     shut(data);
@@ -136,7 +142,7 @@ static void one_forged(void)
     }
     a = call(&after, lent(data), lent(bytes));
     b = call(&again, lent(data), other);
-    if (in_order(a, &after, length)) {
+    if (in_order(a, &after)) {
         if (!untouched(bytes, a.length)) {
             is_wrong("a forged state writes past its length");
         } else if (b.number != a.number || !same_state(&after, &again) || memcmp(other, bytes.bytes, a.length) != 0) {
