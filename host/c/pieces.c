@@ -370,9 +370,9 @@ static void every_cut(void)
 static void random_cuts(size_t count, size_t most, int bits)
 {
     for (size_t i = 0; i < count; i++) {
-        /* a message at the limit with either length of IV, where there are long ones */
+        /* of the long ones, the first two have just as many bytes as may be, one under each length of IV */
         size_t length = most == LIMIT && i < 2 ? most : below(most + 1);
-        make(length, (i + draw() % 2) % 2 ? 12 : 16, i % 2 ? (enum spoil)below(SPOILS) : NOTHING);
+        make(length, i % 2 ? 12 : 16, i / 2 % 2 ? (enum spoil)below(SPOILS) : NOTHING);
         draw_cuts(bits);
         hold_all();
     }

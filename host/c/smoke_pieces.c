@@ -299,6 +299,21 @@ static void older_copy(void)
     check(memcmp(first, again, 28) == 0, "the bytes are the same", "an older copy", 28);
 }
 
+/* Steps that follow one another in one variable, which is then read for a call and written by it. */
+static void one_variable(void)
+{
+    uint8_t whole[ROOM], out[ROOM];
+    struct luossavin_seal_step step = seal_start(12);
+    luossavin_encrypt(4, key, 16, label, sizeof label, rfc_text, 40, iv, 12, whole, ROOM);
+    step = luossavin_seal_piece(step.state, rfc_text, 23, out, ROOM);
+    check(done(step.answer, 23), "a piece is done", "one variable", 23);
+    step = luossavin_seal_piece(step.state, rfc_text + 23, 17, out + 23, ROOM - 23);
+    check(done(step.answer, 17), "a piece is done", "one variable", 17);
+    step = luossavin_seal_end(step.state, out + 40, ROOM - 40);
+    check(done(step.answer, 16), "the end is done", "one variable", 16);
+    check(memcmp(out, whole, 56) == 0, "it is the single call's", "one variable", 56);
+}
+
 /* 16,777,216 bytes in all: an empty piece is done then, and one byte more is not. */
 static void to_the_limit(void)
 {
@@ -330,5 +345,6 @@ void pieces(void)
     opens_pieces(0);
     opens_pieces(4);
     older_copy();
+    one_variable();
     to_the_limit();
 }
