@@ -146,14 +146,15 @@ struct luossavin_answer luossavin_decrypt(uint32_t mode, const uint8_t *key, siz
  * The pieces of a message have at most 16,777,216 bytes together. The piece that would pass this is refused
  * with 5, so that an empty one is done where they have just as many.
  *
- * A refused call gives back the state as it was, and the message may go on: a piece that found no room may
- * come again with more, and so may an end that was refused for its room or its tag's length. Only an end that
- * answers 0, or 4 in opening, brings a message to its end, and every call after it answers 12. A start that
- * is refused gives no state but a record of the refusal, and every call on that answers the same number.
+ * Only an end that answers 0, or 4 in opening, brings a message to its end, and every call after it answers 12.
+ * Every other refusal gives back the state as it was, and the message may go on: a piece that found no room
+ * may come again with more, and so may an end that was refused for its room or for its tag's length. A start
+ * that is refused gives no state but a record of the refusal, and every call on that answers the same number.
  *
  * What is in a state is the library's own, and another release may have it otherwise: a host copies a state
- * and hands it on, and neither looks into it nor keeps it in a file. Whatever one holds, every call on it has
- * an answer, among those said here, and touches nothing that was not lent. The host is to see to this:
+ * and hands it on, and neither looks into it nor keeps it in a file. Whatever a host may put into one, every
+ * call has an answer, in the order above, and touches nothing that was not lent; a count over its limit there
+ * is refusal 5. The host is to see to this:
  *
  *   - an older copy of a state still works, as the state that it was. Two texts that go through copies of one
  *     state, of Ctr or of sealing, use one key stream twice, as two messages under one key and IV do: who has
@@ -162,7 +163,7 @@ struct luossavin_answer luossavin_decrypt(uint32_t mode, const uint8_t *key, siz
  *   - a state is as secret as the key: those of Ctr and sealing encrypt and decrypt, and that of opening makes
  *     tags. After an end that answered 0 or 4 it holds nothing more. Until then, and where no end comes, it is
  *     the host's to overwrite, and so are copies of it, those on the stack of the caller among them;
- *   - opening's pieces answer 0 whatever they hold. No text may be shown, or acted on, before opening's end
+ *   - a piece of opening is done whatever it holds. No text may be shown, or acted on, before opening's end
  *     has answered 0 for all of it.
  */
 struct luossavin_flow {

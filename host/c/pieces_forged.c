@@ -13,7 +13,9 @@
 #include <string.h>
 #include <unistd.h>
 
-enum { MOST = 48 };
+enum { MOST = 48, NUMBERS = 13 };
+
+static unsigned long calls_for[NUMBERS];
 
 /* What runs. */
 static struct state given;
@@ -110,6 +112,7 @@ static int in_order(struct luossavin_answer a, struct state *after)
     if (a.number != number || a.missing != missing || a.length != (number == 0 ? written() : 0)) {
         return is_wrong("the answer on a forged state");
     }
+    calls_for[number]++;
     if (number != 0 && number != 4) {
         return same_state(&given, after) || is_wrong("a refusal moves a forged state");
     }
@@ -166,4 +169,11 @@ void forged(size_t count)
         room = !ends && given.kind == OPENING ? 0 : below(2) ? 16 : below(MOST);
         one_forged();
     }
+    printf("  by number:");
+    for (int number = 0; number < NUMBERS; number++) {
+        if (calls_for[number] != 0) {
+            printf(" %d: %lu", number, calls_for[number]);
+        }
+    }
+    puts(", each made twice");
 }
