@@ -146,7 +146,7 @@ struct luossavin_answer luossavin_decrypt(uint32_t mode, const uint8_t *key, siz
  * The pieces of a message have at most 16,777,216 bytes together. The piece that would pass this is refused
  * with 5, so that an empty one is done where they have just as many.
  *
- * Only an end that answers 0, or 4 in opening, brings a message to its end, and every call after it answers 12.
+ * Only an end that answers 0, or 4 in opening, brings a message to its end, and all calls after it answer 12.
  * Every other refusal gives back the state as it was, and the message may go on: a piece that found no room
  * may come again with more, and so may an end that was refused for its room or for its tag's length. A start
  * that is refused gives no state but a record of the refusal, and every call on that answers the same number.
