@@ -7,15 +7,13 @@ use mathlib.Core.List.{List, [], _∷_, _++_, append-assoc, append-nil}
 use Prim.Native.Nat.{ℕ, _+_, _-_, _≤_}
 use native.Mathlib.Omega.{arith}
 use lib.ListN.{length, take, drop, length-append, length-drop}
-use lib.Seq.{take-append-seam, take-at, drop-at}
+use lib.Seq.{take-at}
 use borrow.Author.Tests.{le-ltb}
-use Rattle.block.specs.Same.{same}
-use Rattle.counter.specs.Counter.{gcmNext}
-use Rattle.walk.specs.Outcome.{Head, Outcome, finished, refusal, done}
+use Rattle.walk.specs.Outcome.{Head, Outcome, finished, refusal}
 use Rattle.walk.specs.Walk.{chain, over}
 use Rattle.walk.proofs.Chain.{chain-rest}
 use Rattle.stream.specs.Stream.{streamMode}
-use Rattle.stream.specs.declared.Kind.the-variants.{Ctr as Ctr·kind, Gctr}
+use Rattle.stream.specs.declared.Kind.the-variants.{Ctr as Ctr·kind}
 use Rattle.stream.proofs.RoundTrip.{length-stream}
 use Rattle.gcm.specs.Gcm.{hashKey, J0, textOf, tagOf, sealed, opensUnder}
 use Rattle.gcm.specs.Open.{headOf as gcmHead, settled, gcmOpen}
@@ -29,10 +27,11 @@ use Rattle.cipher_mode.specs.declared.Sm4Cipher.{Sm4Cipher}
 use Rattle.cipher_mode.specs.declared.Sm4CipherMode.{Sm4CipherMode}
 use Rattle.cipher_mode.specs.declared.checks.Checked.{Checked}
 use Rattle.cipher_mode.specs.declared.checks.Checked.the-variants.{Passed, Refused}
+use Rattle.cipher_mode.specs.Key.{newCipher, newCipherMode}
 use Rattle.cipher_mode.specs.Tables.{limit}
 use Rattle.cipher_mode.specs.Checks.{wrongIv, keyAndIv, labelCheck, dataCheck}
 use Rattle.cipher_mode.specs.Calls.{modeCall}
-use Rattle.cipher_mode.proofs.Passed.{InOrder, both, key-and-iv-passed, label-passed, data-within}
+use Rattle.cipher_mode.proofs.Passed.{both, key-and-iv-passed, label-passed, data-within}
 use Rattle.pieces.specs.declared.ctr.Ctr.{Ctr}
 use Rattle.pieces.specs.declared.opens.Opens.{Opens}
 use Rattle.pieces.specs.declared.seal.Seal.{Seal}
@@ -40,8 +39,11 @@ use Rattle.pieces.specs.Checks.{gcmStarting}
 use Rattle.pieces.specs.States.{ctrAfter, sealAfter, sealShut, opensAfter, opensShut}
 use Rattle.pieces.specs.Calls.{Stepped, ended, begun, ctrStart, ctrPiece, ctrEnd, sealStart, sealPiece, sealEnd, opensStart, opensPiece, opensEnd}
 use Rattle.pieces.proofs.CtrInPieces.{ctr-started, ctr-goes-on, ctr-joined, ctr-ended}
+use Rattle.pieces.proofs.Sealing.{no-text}
 use Rattle.pieces.proofs.SealInPieces.{seal-started, seal-joined, seal-goes-on, seal-ended}
 use Rattle.pieces.proofs.OpensInPieces.{opens-started, opens-goes-on, opens-ended}
+use Rattle.luossavin.specs.Host.{modeOf, hostModeCall}
+use Rattle.luossavin.specs.InPieces.{hostCtrStart, hostSealStart, hostOpensStart}
 use Rattle.demands.specs.Call.{inGcm, result}
 use Rattle.demands.specs.InPieces.{Did, written, stateAfter, wrote, AllDid, Piece, onto, sizeOf, whole, Roomy}
 use Rattle.demands.specs.InPieces.{AllDone, joined, none, CtrInPieces, SealInPieces, OpensInPieces}
@@ -140,10 +142,6 @@ seal-starts c label iv k n h = seal-started c label iv (rw (k, n, le-ltb limit (
 chain-nothing : (rk iv : List ℕ) → chain (streamMode Ctr·kind rk) iv [] ≡ []
 chain-nothing rk iv = chain-rest (streamMode Ctr·kind rk) iv [] (omega arith)
 
-text-nothing : (rk j : List ℕ) → textOf rk j [] ≡ []
-unfolding textOf
-text-nothing rk j = chain-rest (streamMode Gctr rk) (gcmNext j) [] (omega arith)
-
 ctr-goes : (rk iv : List ℕ) → Goes Ctr (chain (streamMode Ctr·kind rk) iv) (ctrAfter rk iv) (onto Ctr ctrPiece)
 ctr-goes rk iv =
     record {
@@ -212,7 +210,7 @@ seal-in-pieces c ps label iv t o r room e =
     (sym (seal-starts c label iv (p .key) (p .iv-size) hl)) (
       record { start = record { number = refl; size = refl }; pieces = w .all; end = last .0 },
       ap₂ _++_
-          (ap (λ (l : List ℕ). l ++ wrote Seal Piece call (sealAfter rk label iv []) ps) (sym (text-nothing rk j)) ∙ w .bytes) (last .1)
+          (ap (λ (l : List ℕ). l ++ wrote Seal Piece call (sealAfter rk label iv []) ps) (sym (no-text rk j)) ∙ w .bytes) (last .1)
           ∙ sym single,
     )
 
@@ -296,3 +294,16 @@ opens-in-pieces c cs label iv tag o fits room n e =
           ∙ ap (λ (x : Stepped Opens). x .head .number) (opens-ended rk label iv text (s .label-fits) tag fits n)
           ∙ sym single,
     )
+
+-- The same of the exported calls, with mode 2 and with mode 4.
+pub exported-ctr-in-pieces : (dir : Direction) (key : List ℕ) → CtrInPieces Ctr (hostCtrStart key) ctrPiece ctrEnd (hostModeCall dir 2 key)
+unfolding hostCtrStart hostModeCall modeOf newCipherMode
+exported-ctr-in-pieces dir key = ctr-in-pieces dir (newCipher key)
+
+pub exported-seal-in-pieces : (key : List ℕ) → SealInPieces Seal (hostSealStart key) sealPiece sealEnd (hostModeCall Encrypt 4 key)
+unfolding hostSealStart hostModeCall modeOf newCipherMode
+exported-seal-in-pieces key = seal-in-pieces (newCipher key)
+
+pub exported-opens-in-pieces : (key : List ℕ) → OpensInPieces Opens (hostOpensStart key) opensPiece opensEnd (hostModeCall Decrypt 4 key)
+unfolding hostOpensStart hostModeCall modeOf newCipherMode
+exported-opens-in-pieces key = opens-in-pieces (newCipher key)

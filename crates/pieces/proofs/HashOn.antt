@@ -1,16 +1,16 @@
 -- The hash cut anywhere: from the hash after a text, what is behind it goes on as in the whole.
 -- Assumes nothing.
-use mathlib.Core.Path.{_≡_, refl, sym, ap, ap₂, subst, _∙_}
-use mathlib.Core.List.{List, [], _∷_, _++_, append-assoc, append-nil}
-use Prim.Native.Nat.{ℕ, _+_, _-_, _*_, _/_, _%_, _^_, _≤_, _<_}
+use mathlib.Core.Path.{_≡_, refl, sym, ap, ap₂, _∙_}
+use mathlib.Core.List.{List, [], _∷_, _++_, append-assoc}
+use Prim.Native.Nat.{ℕ, _+_, _-_, _*_, _/_, _%_, _<_}
 use native.Mathlib.Nat.{mod-eq-of-lt, mod-lt}
 use native.Mathlib.Omega.{arith}
 use lib.Dec.{lit<}
-use lib.ListN.{length, take, drop, replicate, length-append, drop-of-length-le}
-use lib.Seq.{take-take, take-at, length-take-le}
+use lib.ListN.{length, take, drop, replicate, drop-of-length-le}
+use lib.Seq.{take-take, take-at}
 use Rattle.block.specs.Below.{AreBytes}
 use Rattle.block.specs.BigEndian.{numberOf, bytesOf}
-use Rattle.block.proofs.Convert.{length-bytesOf, bytesOf-bytes, bytesOf-numberOf, numberOf-bytesOf, numberOf-lt}
+use Rattle.block.proofs.Convert.{bytesOf-numberOf, numberOf-bytesOf}
 use Rattle.field.specs.Field.{Element}
 use Rattle.ghash.specs.Ghash.{blockOf, blocks, lengthBlock, authBlocks, hashFrom, ghash}
 use Rattle.ghash.proofs.Blocks.{blocks-nil, blocks-cons, blocks-append}

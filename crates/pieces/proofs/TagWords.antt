@@ -7,7 +7,7 @@ use lib.Dec.{eqb}
 use lib.ListN.{length}
 use Rattle.block.specs.Below.{AreBytes, AreWords}
 use Rattle.block.specs.Same.{same}
-use Rattle.block.specs.Words.{words, unwords}
+use Rattle.block.specs.Words.{words}
 use Rattle.block.specs.Xor.{xors}
 use Rattle.block.proofs.WordsBack.{length-words, words-below, unwords-words, unwords-xors}
 use Rattle.block.proofs.Xors.{length-xors, xors-below}

@@ -3,15 +3,15 @@ ghost use mathlib.Core.Path.{_≡_};
 ghost use mathlib.Core.List.{[]};
 ghost use Rattle.pieces.specs.States.{ctrShut};
 ghost use Rattle.pieces.specs.Calls.{ctrStepped, ctrStart, ctrPiece, ctrEnd};
+use crate::checks;
+use crate::flow;
+use crate::flow::Counting;
+use crate::flow::Flow;
 use cipher_mode::CipherMode;
 use cipher_mode::Sm4Cipher;
 use cipher_mode::answer;
 use cipher_mode::answer::Answer;
 use cipher_mode::checks::Checked;
-use crate::checks;
-use crate::flow;
-use crate::flow::Counting;
-use crate::flow::Flow;
 
 // The round keys, the flow, and how many bytes went through; 0, or what every call answers. A host in C hands it in and out.
 #[repr(C)]

@@ -51,7 +51,7 @@ fn least(a: usize, b: usize) -> usize
 }
 
 // The bytes of `data` that the pad has from place p on, xored with it, to the front of `out`.
-pub fn xor_pad(pad: [u8; 16], p: usize, data: &[u8], out: &mut [u8])
+pub(crate) fn xor_pad(pad: [u8; 16], p: usize, data: &[u8], out: &mut [u8])
     requires { ⌜ p ≤ 16 ⌝ }
     requires { ⌜ length (now «data») ≤ length (now out) ⌝ }
     ensures { λ _. ⌜ now (out .exit) ≡ over (xors (now («data» .entry)) (drop p pad)) (now (out .entry)) ⌝ }
@@ -65,7 +65,7 @@ pub fn xor_pad(pad: [u8; 16], p: usize, data: &[u8], out: &mut [u8])
 }
 
 // A flow of zeros, of no message.
-pub fn none() -> Flow
+pub(crate) fn none() -> Flow
     ensures { λ r. ⌜ r ≡ noFlow ⌝ }
 {
     Flow {
@@ -75,7 +75,7 @@ pub fn none() -> Flow
 }
 
 // The cipher of a block, in bytes.
-pub fn ciphered(t: &[u32], rk: [u32; 32], s: [u32; 4]) -> [u8; 16]
+pub(crate) fn ciphered(t: &[u32], rk: [u32; 32], s: [u32; 4]) -> [u8; 16]
     requires { ⌜ Engine (now t) ⌝ }
     ensures { λ r. ⌜ r ≡ encryptBlock rk (unwords s) ⌝ }
 {
@@ -83,7 +83,7 @@ pub fn ciphered(t: &[u32], rk: [u32; 32], s: [u32; 4]) -> [u8; 16]
 }
 
 // The flow at a counter.
-pub fn begin(t: &[u32], rk: [u32; 32], s: [u32; 4]) -> Flow
+pub(crate) fn begin(t: &[u32], rk: [u32; 32], s: [u32; 4]) -> Flow
     requires { ⌜ Engine (now t) ⌝ }
     ensures { λ r. ⌜ r ≡ flowAt rk (unwords s) ⌝ }
 {
@@ -118,7 +118,7 @@ fn onward(
 }
 
 // `data` from place p of the begun block on: this ends with its pad, and what follows goes through the stream.
-pub fn run(
+pub(crate) fn run(
     t: &[u32],
     rk: [u32; 32],
     counting: Counting,

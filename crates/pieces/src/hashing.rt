@@ -21,7 +21,7 @@ pub struct Hashing {
 }
 
 // A hash of zeros, of no message.
-pub fn none() -> Hashing
+pub(crate) fn none() -> Hashing
     ensures { λ r. ⌜ r ≡ noHashing ⌝ }
 {
     Hashing {
@@ -71,7 +71,7 @@ fn filled(held: [u8; 16], p: usize, data: &[u8]) -> [u8; 16]
 
 // `data` behind the p bytes that are held. The first block is theirs both; the full blocks behind it go through the hash as
 // they stand, and the last bytes are held.
-pub fn take_in(g: Hashing, p: usize, data: &[u8]) -> Hashing
+pub(crate) fn take_in(g: Hashing, p: usize, data: &[u8]) -> Hashing
     requires { ⌜ p < 16 ⌝ }
     requires { ⌜ Hashable (length (now «data»)) ⌝ }
     ensures { λ r. ⌜ r ≡ hashNext g p (now («data» .entry)) ⌝ }
@@ -108,7 +108,7 @@ fn full_blocks(h: [u8; 16], y: [u8; 16], first: [u8; 16], rest: &[u8]) -> Hashin
 }
 
 // The hash at the end of a text, where p bytes are held, for these lengths of label and text.
-pub fn end(g: Hashing, p: usize, label: usize, text: usize) -> [u8; 16]
+pub(crate) fn end(g: Hashing, p: usize, label: usize, text: usize) -> [u8; 16]
     requires { ⌜ p < 16 ⌝ }
     requires { ⌜ Hashable label × Hashable text ⌝ }
     ensures { λ r. ⌜ r ≡ hashEnd g p label text ⌝ }
@@ -126,7 +126,7 @@ pub fn end(g: Hashing, p: usize, label: usize, text: usize) -> [u8; 16]
 }
 
 // The hash before the first byte of a text, under H: that of the label's blocks.
-pub fn begin(h: U128, label: &[u8]) -> Hashing
+pub(crate) fn begin(h: U128, label: &[u8]) -> Hashing
     requires { ⌜ Hashable (length (now label)) ⌝ }
     ensures { λ r. ⌜ r ≡ hashOf (value h) (now (label .entry)) [] ⌝ }
 {

@@ -6,15 +6,15 @@ ghost use Rattle.block.specs.Same.{same};
 ghost use Rattle.block.specs.Xor.{xors};
 ghost use Rattle.pieces.specs.States.{opensShut};
 ghost use Rattle.pieces.specs.Calls.{opensStepped, opensStart, opensPiece, opensEnd};
+use crate::checks;
+use crate::flow;
+use crate::hashing;
+use crate::hashing::Hashing;
 use cipher_mode::Sm4Cipher;
 use cipher_mode::answer;
 use cipher_mode::answer::Answer;
 use cipher_mode::answer::Refusal;
 use cipher_mode::checks::Checked;
-use crate::checks;
-use crate::flow;
-use crate::hashing;
-use crate::hashing::Hashing;
 
 // The hash, the cipher of J0 and the lengths; 0, or what every call answers. The round keys are needed no more.
 #[repr(C)]

@@ -3,16 +3,16 @@ ghost use mathlib.Core.Path.{_≡_};
 ghost use mathlib.Core.List.{[]};
 ghost use Rattle.pieces.specs.States.{sealShut};
 ghost use Rattle.pieces.specs.Calls.{sealStepped, sealStart, sealPiece, sealEnd};
-use cipher_mode::Sm4Cipher;
-use cipher_mode::answer;
-use cipher_mode::answer::Answer;
-use cipher_mode::checks::Checked;
 use crate::checks;
 use crate::flow;
 use crate::flow::Counting;
 use crate::flow::Flow;
 use crate::hashing;
 use crate::hashing::Hashing;
+use cipher_mode::Sm4Cipher;
+use cipher_mode::answer;
+use cipher_mode::answer::Answer;
+use cipher_mode::checks::Checked;
 
 // The round keys, the flow, the hash of what was written, the cipher of J0 and the lengths; 0, or what every call answers.
 #[repr(C)]

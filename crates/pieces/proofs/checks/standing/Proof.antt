@@ -2,7 +2,6 @@
 -- Assumes nothing.
 use borrow.Author.Tests.{eq-eqb, ne-eqb}
 use Rattle.pieces.specs.Checks.{standing}
-use borrow.Author.Needs.{needs}
 use Rattle.pieces.proofs.checks.standing.Statement.{statement}
 use Rattle.pieces.proofs.checks.standing.Tie as tie
 

@@ -1,7 +1,6 @@
 -- `pieces::ctr::start` meets its contract: what the checks refuse is refused, and otherwise the IV is the first counter.
 -- Assumes nothing.
 use mathlib.Core.Path.{_≡_, sym, ap, _∙_}
-use mathlib.Core.List.{List, []}
 use Prim.Native.Nat.{ℕ, _<_}
 use native.Mathlib.Omega.{arith}
 use denote.Ref.{now}

@@ -1,15 +1,13 @@
 -- `pieces::opens::same_tag` meets its contract: the four words of the difference are all 0 exactly where the tags are the same
 -- (`tag-test`).
 -- Assumes nothing.
-use mathlib.Core.Path.{_≡_, ap, ap₂, _∙_}
-use mathlib.Core.List.{List}
-use Prim.Native.Nat.{ℕ, _^_, _<_}
+use mathlib.Core.Path.{_≡_}
+use Prim.Native.Nat.{ℕ, _<_}
 use native.Mathlib.Omega.{arith}
 use mir.Val.{Fits}
 use mir.Syntax.{w8}
 use denote.Ref.{now}
 use lib.ListN.{length, getD}
-use Rattle.block.specs.Below.{AreBytes}
 use Rattle.block.proofs.Entries.{below-each}
 use Rattle.pieces.proofs.TagWords.{same-words}
 use borrow.Author.Needs.{needs}

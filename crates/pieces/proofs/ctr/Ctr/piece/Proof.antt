@@ -1,6 +1,6 @@
 -- `pieces::ctr::Ctr::piece` meets its contract: what the checks refuse leaves output and state, and otherwise the flow runs on.
 -- Assumes nothing.
-use mathlib.Core.Path.{refl, sym, ap, _∙_}
+use mathlib.Core.Path.{sym, ap, _∙_}
 use Prim.Native.Nat.{_+_, _≤_}
 use native.Mathlib.Omega.{arith}
 use denote.Ref.{now}

@@ -10,7 +10,7 @@ use denote.Ref.{now}
 use lib.ListN.{length}
 use Rattle.block.specs.Same.{same}
 use Rattle.block.specs.Xor.{xors}
-use Rattle.walk.specs.Outcome.{Head, finished, refusal}
+use Rattle.walk.specs.Outcome.{finished, refusal}
 use Rattle.pieces.specs.declared.opens.Opens.{Opens}
 use Rattle.pieces.specs.Hashing.{hashEnd}
 use Rattle.pieces.specs.Calls.{opensEnd}
