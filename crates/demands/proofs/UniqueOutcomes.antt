@@ -8,7 +8,7 @@ use Rattle.cipher_mode.specs.declared.answer.Answer.{Answer}
 use Rattle.cipher_mode.specs.declared.answer.Ending.{Ending}
 use Rattle.cipher_mode.specs.declared.answer.Ending.the-variants.{Done, Refused}
 use Rattle.cipher_mode.specs.declared.answer.Refusal.the-variants.{ErrorBlockSize, ErrorDataLen, InvalidLastU8, InvalidTag, TooLong, NoRoom}
-use Rattle.cipher_mode.specs.declared.answer.Refusal.the-variants.{EmptyCbc, ShortGcm, WrongIv, WrongBlock}
+use Rattle.cipher_mode.specs.declared.answer.Refusal.the-variants.{EmptyCbc, ShortGcm, WrongIv, WrongBlock, Ended}
 use Rattle.cipher_mode.specs.declared.CipherMode.{CipherMode}
 use Rattle.cipher_mode.specs.declared.Direction.{Direction}
 use Rattle.cipher_mode.specs.declared.Sm4Cipher.{Sm4Cipher}
@@ -32,7 +32,8 @@ endingOf (suc (suc (suc (suc (suc (suc (suc zero))))))) n k = Refused NoRoom
 endingOf (suc (suc (suc (suc (suc (suc (suc (suc zero)))))))) n k = Refused EmptyCbc
 endingOf (suc (suc (suc (suc (suc (suc (suc (suc (suc zero))))))))) n k = Refused (ShortGcm k)
 endingOf (suc (suc (suc (suc (suc (suc (suc (suc (suc (suc zero)))))))))) n k = Refused WrongIv
-endingOf (suc (suc (suc (suc (suc (suc (suc (suc (suc (suc (suc m))))))))))) n k = Refused WrongBlock
+endingOf (suc (suc (suc (suc (suc (suc (suc (suc (suc (suc (suc zero))))))))))) n k = Refused WrongBlock
+endingOf (suc (suc (suc (suc (suc (suc (suc (suc (suc (suc (suc (suc m)))))))))))) n k = Refused Ended
 
 -- an ending is told by its head
 told : (e : Ending) → endingOf (endingHead e .number) (endingHead e .size) (endingHead e .missing) ≡ e
@@ -48,6 +49,7 @@ told (Refused EmptyCbc) = refl
 told (Refused (ShortGcm n)) = refl
 told (Refused WrongIv) = refl
 told (Refused WrongBlock) = refl
+told (Refused Ended) = refl
 
 -- so an outcome has one answer and one output
 one : (x : Outcome) → OneOutcome x

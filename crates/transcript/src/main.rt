@@ -251,6 +251,7 @@ fn refuse(refusal: Refusal, asked: Asked, key: usize, iv: usize, data: usize) ->
         Refusal::ShortGcm(missing) => say::short(data, missing),
         Refusal::WrongIv => say::iv_size(mode, iv),
         Refusal::WrongBlock => say::block_size(data),
+        Refusal::Ended => say::ended(),
     }
 }
 

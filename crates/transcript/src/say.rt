@@ -361,3 +361,8 @@ pub fn block_size(length: usize) -> u8 {
     text(b"\n");
     11
 }
+
+pub fn ended() -> u8 {
+    text(b"12 Ended: this message has come to its end\n");
+    12
+}
