@@ -34,7 +34,7 @@ returned-is o t at =
 pub length-tailed : (d : List ℕ) (at : ℕ) → length (tailed at d) ≡ length d - at
 length-tailed d at = rw (tail-is d at, length-drop)
 
-over-append : (p q o : List ℕ) → over (p ++ q) o ≡ p ++ over q (drop (length p) o)
+pub over-append : (p q o : List ℕ) → over (p ++ q) o ≡ p ++ over q (drop (length p) o)
 over-append p q o = rw (length-append p q, append-assoc, drop-drop)
 
 -- a turn of the loop: the step wrote what the block b gives, and what will stand at the end is the same

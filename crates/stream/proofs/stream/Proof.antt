@@ -63,8 +63,10 @@ returns c =
     let ended = last-state m s d at (omega arith) ∙ at-loop .loop .inv .2 in
     let rested = at-rest .xor-rest .ensures in (
       ended,
-      (rested .0 ∙ ap (encryptBlock (a .rk)) ended,
-      rest-written m s d (at-loop .loop .out) written at (omega arith) (rested .1) ∙ at-loop .loop .inv .3),
+      (
+        rested .0 ∙ ap (encryptBlock (a .rk)) ended,
+        rest-written m s d (at-loop .loop .out) written at (omega arith) (rested .1) ∙ at-loop .loop .inv .3,
+      ),
     )
 
 pub stream-spec : {M : Type 1} → statement M
