@@ -150,7 +150,7 @@ pub fn start(asked: Asked, key_file: &[u8]) -> Output {
     let there = os::open_append(name);
     if there < 0 {
         if os::errno() != libc::ENOENT {
-            return none(say::cannot(b"write ", name));
+            return none(say::cannot_write(name));
         }
         return beside(name, fresh());
     }
@@ -239,19 +239,11 @@ fn cannot(asked: Asked, output: Output) -> u8 {
     let mut word = word_room();
     let n = os::arg(places[OUT], &mut word);
     if output.straight {
-        return say::cannot(b"write ", out_name(&word[..n]));
+        return say::cannot_write(&word[..n]);
     }
     let mut part = word_room();
     let m = part_name(&word[..n], &mut part);
     say::cannot_by(&word[..n], &part[..m])
-}
-
-// What OUT is called.
-fn out_name(name: &[u8]) -> &[u8] {
-    if files::is_dash(name) {
-        return b"standard output";
-    }
-    name
 }
 
 fn stopped(mut output: Output, status: u8) -> Output {
@@ -260,7 +252,7 @@ fn stopped(mut output: Output, status: u8) -> Output {
 }
 
 // Whoever has killed the launcher has killed the run: then nothing is written any more.
-fn is_alone(asked: Asked) -> bool {
+pub fn is_alone(asked: Asked) -> bool {
     libc::getppid() != asked.launcher
 }
 
@@ -337,7 +329,7 @@ pub fn undo(asked: Asked, output: Output, status: u8) -> u8 {
     let n = os::arg(places[OUT], &mut word);
     if output.straight {
         if output.begun {
-            say::not_whole(out_name(&word[..n]));
+            say::not_whole(&word[..n]);
         }
         return status;
     }

@@ -1,0 +1,277 @@
+// What a pass over IN makes of its bytes: a state by value, a step for each piece, and the end. A pass that settles something
+// before the first byte is written gives none.
+ghost use mathlib.Core.Path.{_≡_};
+ghost use Prim.Native.Nat.{_+_, _≤_};
+ghost use lib.ListN.{length};
+ghost use Rattle.cipher.specs.Engine.{Engine};
+use cbc::Opened;
+use cipher_mode::CipherMode;
+use cipher_mode::Direction;
+use cipher_mode::Sm4Cipher;
+use cipher_mode::answer;
+use cipher_mode::answer::Answer;
+use cipher_mode::answer::Refusal;
+use cipher_mode::checks;
+use cipher_mode::checks::Checked;
+use stream::Kind;
+
+// What is done with the bytes: sealed; asked whether they open; opened; xored with key stream; encrypted or decrypted with
+// Cfb or Ofb; and of Cbc encrypted, asked for their padding, decrypted.
+pub enum Task {
+    Stream(Kind),
+    CbcSeal,
+    CbcSettle,
+    CbcText,
+}
+
+// A pass on its way. `chain` is the chaining state of Cfb, Ofb and Cbc.
+pub struct Work {
+    pub task: Task,
+    pub rk: [u32; 32],
+    pub chain: [u32; 4],
+}
+
+// What came of a step: how many bytes it wrote, and its answer, which is done unless it was refused.
+pub struct Step {
+    pub work: Work,
+    pub length: usize,
+    pub answer: Answer,
+}
+
+// The bytes but for the last k.
+fn but_last(n: usize, k: usize) -> usize
+    ensures { λ r. ⌜ (r ≤ n) × (n ≤ r + k) ⌝ }
+{
+    if n < k { 0 } else { n - k }
+}
+
+// The full blocks of n bytes.
+fn full(n: usize) -> usize
+    ensures { λ r. ⌜ (r ≤ n) × (n ≤ r + 15) ⌝ }
+{
+    n - n % 16
+}
+
+// How many of the n bytes at hand a pass takes. The rest waits for what follows: it may be the tag, a block that is not full
+// yet, or what settles the padding.
+pub fn taken(task: Task, n: usize) -> usize
+    ensures { λ r. ⌜ (r ≤ n) × (n ≤ r + 32) ⌝ }
+{
+    match task {
+        Task::Stream(_) => full(n),
+        Task::CbcSeal => full(n),
+        Task::CbcSettle => full(but_last(n, 17)),
+        Task::CbcText => full(but_last(n, 1)),
+    }
+}
+
+fn done(work: Work, length: usize) -> Step
+    ensures { λ r. ⌜ r .length ≡ «length» ⌝ }
+{
+    Step {
+        work,
+        length,
+        answer: answer::done(length),
+    }
+}
+
+fn refused(work: Work, refusal: Refusal) -> Step
+    ensures { λ r. ⌜ r .length ≡ 0 ⌝ }
+{
+    Step {
+        work,
+        length: 0,
+        answer: answer::refused(refusal),
+    }
+}
+
+fn chained(mut work: Work, chain: [u32; 4], length: usize) -> Step
+    ensures { λ r. ⌜ r .length ≡ «length» ⌝ }
+{
+    work.chain = chain;
+    done(work, length)
+}
+
+fn stream_piece(t: &[u32], work: Work, kind: Kind, data: &[u8], out: &mut [u8]) -> Step
+    requires { ⌜ Engine (now t) ⌝ }
+    requires { ⌜ length (now «data») ≤ length (now out) ⌝ }
+    ensures { λ r. ⌜ r .length ≡ length (now («data» .entry)) ⌝ }
+{
+    let rk = work.rk;
+    let chain = work.chain;
+    let end = stream::stream(t, rk, kind, chain, data, out);
+    let next = end.state;
+    chained(work, next, data.len())
+}
+
+fn cbc_seal_piece(t: &[u32], work: Work, data: &[u8], out: &mut [u8]) -> Step
+    requires { ⌜ Engine (now t) ⌝ }
+    requires { ⌜ length (now «data») ≤ length (now out) ⌝ }
+    ensures { λ r. ⌜ r .length ≡ length (now («data» .entry)) ⌝ }
+{
+    let rk = work.rk;
+    let chain = work.chain;
+    let next = cbc::encrypt_blocks(t, rk, chain, data, out);
+    chained(work, next, data.len())
+}
+
+fn cbc_text_piece(t: &[u32], work: Work, data: &[u8], out: &mut [u8]) -> Step
+    requires { ⌜ Engine (now t) ⌝ }
+    requires { ⌜ length (now «data») ≤ length (now out) ⌝ }
+    ensures { λ r. ⌜ r .length ≡ length (now («data» .entry)) ⌝ }
+{
+    let rk = work.rk;
+    let chain = work.chain;
+    let next = cbc::decrypt_blocks(t, cipher::reversed(rk), chain, data, out);
+    chained(work, next, data.len())
+}
+
+// A piece, of the length that the pass takes.
+pub fn piece(t: &[u32], work: Work, data: &[u8], out: &mut [u8]) -> Step
+    requires { ⌜ Engine (now t) ⌝ }
+    requires { ⌜ length (now «data») ≤ length (now out) ⌝ }
+    ensures { λ r. ⌜ r .length ≤ length (now (out .exit)) ⌝ }
+{
+    let task = work.task;
+    match task {
+        Task::Stream(kind) => stream_piece(t, work, kind, data, out),
+        Task::CbcSeal => cbc_seal_piece(t, work, data, out),
+        Task::CbcSettle => done(work, 0),
+        Task::CbcText => cbc_text_piece(t, work, data, out),
+    }
+}
+
+fn cbc_seal_end(t: &[u32], work: Work, rest: &[u8], out: &mut [u8]) -> Step
+    requires { ⌜ Engine (now t) ⌝ }
+    requires { ⌜ length (now rest) ≤ 32 ⌝ }
+    requires { ⌜ 48 ≤ length (now out) ⌝ }
+    ensures { λ r. ⌜ r .length ≤ length (now (out .exit)) ⌝ }
+{
+    let rk = work.rk;
+    let chain = work.chain;
+    cbc::encrypt(t, rk, chain, rest, out);
+    done(work, 16 * (rest.len() / 16 + 1))
+}
+
+// The last blocks, which settle the padding. As many bytes are over as of the whole, so their length is refused where that of
+// the whole is.
+fn cbc_text_end(t: &[u32], work: Work, rest: &[u8], out: &mut [u8]) -> Step
+    requires { ⌜ Engine (now t) ⌝ }
+    requires { ⌜ length (now rest) ≤ length (now out) ⌝ }
+    ensures { λ r. ⌜ r .length ≤ length (now (out .exit)) ⌝ }
+{
+    let checked = checks::data(Direction::Decrypt, CipherMode::Cbc, rest.len());
+    if let Checked::Refused(refusal) = checked {
+        return refused(work, refusal);
+    }
+    let rk = work.rk;
+    let chain = work.chain;
+    let opened = cbc::decrypt(t, rk, chain, rest, out);
+    match opened {
+        Opened::Done(n) => done(work, n),
+        Opened::InvalidLastU8 => refused(work, Refusal::InvalidLastU8),
+    }
+}
+
+// A step that keeps what it wrote to itself.
+fn silent(mut step: Step) -> Step
+    ensures { λ r. ⌜ r .length ≡ 0 ⌝ }
+{
+    step.length = 0;
+    step
+}
+
+// The end, with the bytes that waited.
+pub fn end(t: &[u32], work: Work, rest: &[u8], out: &mut [u8]) -> Step
+    requires { ⌜ Engine (now t) ⌝ }
+    requires { ⌜ length (now rest) ≤ 32 ⌝ }
+    requires { ⌜ 48 ≤ length (now out) ⌝ }
+    ensures { λ r. ⌜ r .length ≤ length (now (out .exit)) ⌝ }
+{
+    let task = work.task;
+    match task {
+        Task::Stream(kind) => stream_piece(t, work, kind, rest, out),
+        Task::CbcSeal => cbc_seal_end(t, work, rest, out),
+        Task::CbcSettle => silent(cbc_text_end(t, work, rest, out)),
+        Task::CbcText => cbc_text_end(t, work, rest, out),
+    }
+}
+
+// What is done with the bytes in a mode, one way or the other, in the first pass or the only one.
+fn task_of(direction: Direction, mode: CipherMode) -> Task {
+    match direction {
+        Direction::Encrypt => encryption(mode),
+        Direction::Decrypt => decryption(mode),
+    }
+}
+
+fn encryption(mode: CipherMode) -> Task {
+    match mode {
+        CipherMode::Cfb => Task::Stream(Kind::CfbEncrypt),
+        CipherMode::Ofb => Task::Stream(Kind::Ofb),
+        CipherMode::Ctr => Task::Stream(Kind::Ctr),
+        CipherMode::Cbc => Task::CbcSeal,
+        CipherMode::Gcm => Task::Stream(Kind::Gctr),
+    }
+}
+
+fn decryption(mode: CipherMode) -> Task {
+    match mode {
+        CipherMode::Cfb => Task::Stream(Kind::CfbDecrypt),
+        CipherMode::Ofb => Task::Stream(Kind::Ofb),
+        CipherMode::Ctr => Task::Stream(Kind::Ctr),
+        CipherMode::Cbc => Task::CbcSettle,
+        CipherMode::Gcm => Task::Stream(Kind::Gctr),
+    }
+}
+
+// The first state of Cfb, Ofb and Cbc, which an IV of twelve bytes has none of.
+fn first_state(iv: &[u8]) -> [u32; 4] {
+    if iv.len() < 16 {
+        return [0u32; 4];
+    }
+    block::split_block(iv)
+}
+
+// A pass before its first byte. What is refused of key and IV is refused here.
+pub fn start(cipher: Sm4Cipher, direction: Direction, mode: CipherMode, label: &[u8], iv: &[u8]) -> Step {
+    let key = cipher.answer;
+    let rk = cipher.rk;
+    let work = Work {
+        task: task_of(direction, mode),
+        rk,
+        chain: first_state(iv),
+    };
+    let checked = checks::key_and_iv(key, mode, iv.len());
+    if let Checked::Refused(refusal) = checked {
+        return refused(work, refusal);
+    }
+    done(work, 0)
+}
+
+// Whether a pass only settles what another is to write.
+pub fn is_settling(task: Task) -> bool {
+    match task {
+        Task::CbcSettle => true,
+        _ => false,
+    }
+}
+
+// The pass that writes what this one settles.
+pub fn writing(work: Work) -> Work {
+    let task = work.task;
+    let rk = work.rk;
+    let chain = work.chain;
+    Work {
+        task: writing_task(task),
+        rk,
+        chain,
+    }
+}
+
+fn writing_task(task: Task) -> Task {
+    match task {
+        Task::CbcSettle => Task::CbcText,
+        _ => task,
+    }
+}
