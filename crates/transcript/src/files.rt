@@ -133,9 +133,13 @@ fn natural(n: i64) -> u64 {
     if n > 0 { n as u64 } else { 0 }
 }
 
-// How many bytes follow the place where a file stands.
+// How many bytes follow the place where a file stands. A folder, which cannot be read, has a length too.
 fn size_from(fd: i32, from: i64) -> u64 {
     if from < 0 {
+        return 0;
+    }
+    let mut byte = [0u8; 1];
+    if libc::pread(fd, &mut byte, from) < 0 {
         return 0;
     }
     let start = natural(from);

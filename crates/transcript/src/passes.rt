@@ -225,6 +225,13 @@ fn show(before: usize, after: usize, size: u64) {
     }
 }
 
+// Clears the line that was shown, where one was.
+fn show_end(read: usize) {
+    if read >= MIB {
+        say::end_of_progress();
+    }
+}
+
 // Whether a person sees how far a pass is: on a terminal that is not shown the text itself.
 fn is_seen(output: Output) -> bool {
     if libc::isatty(libc::STDERR_FILENO) != 1 {
@@ -241,7 +248,7 @@ pub fn run(asked: Asked, source: Source, most: usize, first: Pass) -> Pass
     let seen = is_seen(output);
     let pass = walk(asked, source, most, first, seen);
     if seen {
-        say::end_of_progress();
+        show_end(pass.read);
     }
     pass
 }

@@ -10,24 +10,39 @@ use cipher_mode::Direction;
 use cipher_mode::Sm4Cipher;
 use cipher_mode::answer;
 use cipher_mode::answer::Answer;
+use cipher_mode::answer::Ending;
 use cipher_mode::answer::Refusal;
 use cipher_mode::checks;
 use cipher_mode::checks::Checked;
+use pieces::ctr::Ctr;
+use pieces::flow::Counting;
+use pieces::flow::Flow;
+use pieces::opens::Opens;
+use pieces::seal::Seal;
 use stream::Kind;
 
 // What is done with the bytes: sealed; asked whether they open; opened; xored with key stream; encrypted or decrypted with
 // Cfb or Ofb; and of Cbc encrypted, asked for their padding, decrypted.
 pub enum Task {
+    Seal,
+    GcmSettle,
+    GcmText,
+    Ctr,
     Stream(Kind),
     CbcSeal,
     CbcSettle,
     CbcText,
 }
 
-// A pass on its way. `chain` is the chaining state of Cfb, Ofb and Cbc.
+// A pass on its way, with the state of each task: the message that is sealed or asked whether it opens; the key stream that
+// its text is xored with; the message in Ctr; and the chaining state of Cfb, Ofb and Cbc.
 pub struct Work {
     pub task: Task,
     pub rk: [u32; 32],
+    pub seal: Seal,
+    pub opens: Opens,
+    pub flow: Flow,
+    pub ctr: Ctr,
     pub chain: [u32; 4],
 }
 
@@ -58,6 +73,10 @@ pub fn taken(task: Task, n: usize) -> usize
     ensures { λ r. ⌜ (r ≤ n) × (n ≤ r + 32) ⌝ }
 {
     match task {
+        Task::Seal => n,
+        Task::GcmSettle => but_last(n, 16),
+        Task::GcmText => but_last(n, 16),
+        Task::Ctr => n,
         Task::Stream(_) => full(n),
         Task::CbcSeal => full(n),
         Task::CbcSettle => full(but_last(n, 17)),
@@ -90,6 +109,66 @@ fn chained(mut work: Work, chain: [u32; 4], length: usize) -> Step
 {
     work.chain = chain;
     done(work, length)
+}
+
+// What a call on a message in pieces answered, where it wrote so many bytes unless it was refused.
+fn answered(work: Work, answer: Answer, length: usize) -> Step
+    ensures { λ r. ⌜ r .length ≤ «length» ⌝ }
+{
+    let ending = answer.ending;
+    match ending {
+        Ending::Done(_) => done(work, length),
+        Ending::Refused(refusal) => refused(work, refusal),
+    }
+}
+
+fn seal_piece(mut work: Work, data: &[u8], out: &mut [u8]) -> Step
+    ensures { λ r. ⌜ r .length ≤ length (now («data» .entry)) ⌝ }
+{
+    let seal = work.seal;
+    let step = seal.piece(data, out);
+    let next = step.state;
+    work.seal = next;
+    let answer = step.answer;
+    answered(work, answer, data.len())
+}
+
+fn ctr_piece(mut work: Work, data: &[u8], out: &mut [u8]) -> Step
+    ensures { λ r. ⌜ r .length ≤ length (now («data» .entry)) ⌝ }
+{
+    let ctr = work.ctr;
+    let step = ctr.piece(data, out);
+    let next = step.state;
+    work.ctr = next;
+    let answer = step.answer;
+    answered(work, answer, data.len())
+}
+
+// A piece that is asked whether it opens, and of which so many bytes were written.
+fn gcm_piece(mut work: Work, data: &[u8], length: usize) -> Step
+    ensures { λ r. ⌜ r .length ≤ «length» ⌝ }
+{
+    let opens = work.opens;
+    let step = opens.piece(data);
+    let next = step.state;
+    work.opens = next;
+    let answer = step.answer;
+    answered(work, answer, length)
+}
+
+// The text of a piece, which is asked once more whether it opens.
+fn gcm_text_piece(t: &[u32], mut work: Work, data: &[u8], out: &mut [u8]) -> Step
+    requires { ⌜ Engine (now t) ⌝ }
+    requires { ⌜ length (now «data») ≤ length (now out) ⌝ }
+    ensures { λ r. ⌜ r .length ≤ length (now («data» .entry)) ⌝ }
+{
+    let rk = work.rk;
+    let flow = work.flow;
+    let opens = work.opens;
+    let place = opens.total % 16;
+    let next = pieces::flow::run(t, rk, Counting::Gcm, flow, place, data, out);
+    work.flow = next;
+    gcm_piece(work, data, data.len())
 }
 
 fn stream_piece(t: &[u32], work: Work, kind: Kind, data: &[u8], out: &mut [u8]) -> Step
@@ -134,11 +213,43 @@ pub fn piece(t: &[u32], work: Work, data: &[u8], out: &mut [u8]) -> Step
 {
     let task = work.task;
     match task {
+        Task::Seal => seal_piece(work, data, out),
+        Task::GcmSettle => gcm_piece(work, data, 0),
+        Task::GcmText => gcm_text_piece(t, work, data, out),
+        Task::Ctr => ctr_piece(work, data, out),
         Task::Stream(kind) => stream_piece(t, work, kind, data, out),
         Task::CbcSeal => cbc_seal_piece(t, work, data, out),
         Task::CbcSettle => done(work, 0),
         Task::CbcText => cbc_text_piece(t, work, data, out),
     }
+}
+
+fn seal_end(work: Work, out: &mut [u8]) -> Step
+    ensures { λ r. ⌜ r .length ≤ 16 ⌝ }
+{
+    let seal = work.seal;
+    let step = seal.end(out);
+    let answer = step.answer;
+    answered(work, answer, 16)
+}
+
+// What waited is the tag.
+fn gcm_end(work: Work, tag: &[u8]) -> Step
+    ensures { λ r. ⌜ r .length ≤ 0 ⌝ }
+{
+    let opens = work.opens;
+    let step = opens.end(tag);
+    let answer = step.answer;
+    answered(work, answer, 0)
+}
+
+fn ctr_end(work: Work) -> Step
+    ensures { λ r. ⌜ r .length ≤ 0 ⌝ }
+{
+    let ctr = work.ctr;
+    let step = ctr.end();
+    let answer = step.answer;
+    answered(work, answer, 0)
 }
 
 fn cbc_seal_end(t: &[u32], work: Work, rest: &[u8], out: &mut [u8]) -> Step
@@ -190,6 +301,10 @@ pub fn end(t: &[u32], work: Work, rest: &[u8], out: &mut [u8]) -> Step
 {
     let task = work.task;
     match task {
+        Task::Seal => seal_end(work, out),
+        Task::GcmSettle => gcm_end(work, rest),
+        Task::GcmText => gcm_end(work, rest),
+        Task::Ctr => ctr_end(work),
         Task::Stream(kind) => stream_piece(t, work, kind, rest, out),
         Task::CbcSeal => cbc_seal_end(t, work, rest, out),
         Task::CbcSettle => silent(cbc_text_end(t, work, rest, out)),
@@ -209,9 +324,9 @@ fn encryption(mode: CipherMode) -> Task {
     match mode {
         CipherMode::Cfb => Task::Stream(Kind::CfbEncrypt),
         CipherMode::Ofb => Task::Stream(Kind::Ofb),
-        CipherMode::Ctr => Task::Stream(Kind::Ctr),
+        CipherMode::Ctr => Task::Ctr,
         CipherMode::Cbc => Task::CbcSeal,
-        CipherMode::Gcm => Task::Stream(Kind::Gctr),
+        CipherMode::Gcm => Task::Seal,
     }
 }
 
@@ -219,9 +334,9 @@ fn decryption(mode: CipherMode) -> Task {
     match mode {
         CipherMode::Cfb => Task::Stream(Kind::CfbDecrypt),
         CipherMode::Ofb => Task::Stream(Kind::Ofb),
-        CipherMode::Ctr => Task::Stream(Kind::Ctr),
+        CipherMode::Ctr => Task::Ctr,
         CipherMode::Cbc => Task::CbcSettle,
-        CipherMode::Gcm => Task::Stream(Kind::Gctr),
+        CipherMode::Gcm => Task::GcmSettle,
     }
 }
 
@@ -233,13 +348,30 @@ fn first_state(iv: &[u8]) -> [u32; 4] {
     block::split_block(iv)
 }
 
-// A pass before its first byte. What is refused of key and IV is refused here.
-pub fn start(cipher: Sm4Cipher, direction: Direction, mode: CipherMode, label: &[u8], iv: &[u8]) -> Step {
+// A pass before its first byte. What is refused of key and IV is refused here. A mode without a label passes over it.
+pub fn start(
+    cipher: Sm4Cipher,
+    direction: Direction,
+    mode: CipherMode,
+    label: &[u8],
+    iv: &[u8],
+) -> Step {
     let key = cipher.answer;
     let rk = cipher.rk;
+    let sealing = pieces::seal::start(cipher, label, iv);
+    let seal = sealing.state;
+    let flow = seal.flow;
+    let opening = pieces::opens::start(cipher, label, iv);
+    let opens = opening.state;
+    let counting = pieces::ctr::start(cipher, iv);
+    let ctr = counting.state;
     let work = Work {
         task: task_of(direction, mode),
         rk,
+        seal,
+        opens,
+        flow,
+        ctr,
         chain: first_state(iv),
     };
     let checked = checks::key_and_iv(key, mode, iv.len());
@@ -252,8 +384,18 @@ pub fn start(cipher: Sm4Cipher, direction: Direction, mode: CipherMode, label: &
 // Whether a pass only settles what another is to write.
 pub fn is_settling(task: Task) -> bool {
     match task {
+        Task::GcmSettle => true,
         Task::CbcSettle => true,
         _ => false,
+    }
+}
+
+// The task that writes what this one settles.
+fn writing_task(task: Task) -> Task {
+    match task {
+        Task::GcmSettle => Task::GcmText,
+        Task::CbcSettle => Task::CbcText,
+        _ => task,
     }
 }
 
@@ -261,17 +403,18 @@ pub fn is_settling(task: Task) -> bool {
 pub fn writing(work: Work) -> Work {
     let task = work.task;
     let rk = work.rk;
+    let seal = work.seal;
+    let opens = work.opens;
+    let flow = work.flow;
+    let ctr = work.ctr;
     let chain = work.chain;
     Work {
         task: writing_task(task),
         rk,
+        seal,
+        opens,
+        flow,
+        ctr,
         chain,
-    }
-}
-
-fn writing_task(task: Task) -> Task {
-    match task {
-        Task::CbcSettle => Task::CbcText,
-        _ => task,
     }
 }
