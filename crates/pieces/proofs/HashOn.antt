@@ -1,16 +1,16 @@
 -- The hash cut anywhere: from the hash after a text, what is behind it goes on as in the whole.
 -- Assumes nothing.
-use mathlib.Core.Path.{_≡_, refl, sym, ap, ap₂, subst, _∙_}
-use mathlib.Core.List.{List, [], _∷_, _++_, append-assoc, append-nil}
-use Prim.Native.Nat.{ℕ, _+_, _-_, _*_, _/_, _%_, _^_, _≤_, _<_}
-use native.Mathlib.Nat.{mod-eq-of-lt}
+use mathlib.Core.Path.{_≡_, refl, sym, ap, ap₂, _∙_}
+use mathlib.Core.List.{List, [], _∷_, _++_, append-assoc}
+use Prim.Native.Nat.{ℕ, _+_, _-_, _*_, _/_, _%_, _<_}
+use native.Mathlib.Nat.{mod-eq-of-lt, mod-lt}
 use native.Mathlib.Omega.{arith}
 use lib.Dec.{lit<}
-use lib.ListN.{length, take, drop, replicate, length-append, drop-of-length-le}
-use lib.Seq.{take-take, take-at, length-take-le}
+use lib.ListN.{length, take, drop, replicate, drop-of-length-le}
+use lib.Seq.{take-take, take-at}
 use Rattle.block.specs.Below.{AreBytes}
 use Rattle.block.specs.BigEndian.{numberOf, bytesOf}
-use Rattle.block.proofs.Convert.{length-bytesOf, bytesOf-bytes, bytesOf-numberOf, numberOf-bytesOf, numberOf-lt}
+use Rattle.block.proofs.Convert.{bytesOf-numberOf, numberOf-bytesOf}
 use Rattle.field.specs.Field.{Element}
 use Rattle.ghash.specs.Ghash.{blockOf, blocks, lengthBlock, authBlocks, hashFrom, ghash}
 use Rattle.ghash.proofs.Blocks.{blocks-nil, blocks-cons, blocks-append}
@@ -64,9 +64,9 @@ module _ (h y c : List ℕ) (eh : Element (numberOf h)) (ey : Element (numberOf 
   so-far-is = spelled-back so-far (hashFrom-lt (numberOf h) eh (numberOf y) (blocks (fullPart c)) ey)
 
   -- the blocks behind
-  more : (x : List ℕ) (l : List ℕ) → hashFrom (numberOf h) (numberOf (bytesOf 16 so-far)) l ≡ hashFrom (numberOf h) (numberOf y) (blocks (fullPart c) ++ l)
+  more : (l : List ℕ) → hashFrom (numberOf h) (numberOf (bytesOf 16 so-far)) l ≡ hashFrom (numberOf h) (numberOf y) (blocks (fullPart c) ++ l)
   unfolding so-far
-  more x l = ap (λ (n : ℕ). hashFrom (numberOf h) n l) so-far-is ∙ sym (hash-append (numberOf h) (numberOf y) (blocks (fullPart c)) l)
+  more l = ap (λ (n : ℕ). hashFrom (numberOf h) n l) so-far-is ∙ sym (hash-append (numberOf h) (numberOf y) (blocks (fullPart c)) l)
 
   joined : (x : List ℕ) → blocks (fullPart c) ++ blocks x ≡ blocks (fullPart c ++ x)
   joined x = sym (blocks-append (length c / 16) (fullPart c) x (full-length c))
@@ -83,7 +83,7 @@ module _ (h y c : List ℕ) (eh : Element (numberOf h)) (ey : Element (numberOf 
       sym (begun-behind (length c / 16) (fullPart c) (b ++ e) (full-length c)) ∙ ap begunPart whole in
       ap {B = Hashing} (λ (l : List ℕ). hashAfter h (bytesOf 16 so-far) (l ++ e)) held-is
       ∙ ap₂ {C = Hashing} (λ (n : ℕ) (l : List ℕ). record { h = h; y = bytesOf 16 n; held = filledUp l })
-      (more e (blocks (fullPart (b ++ e))) ∙ ap (hashFrom (numberOf h) (numberOf y)) (joined (fullPart (b ++ e)) ∙ ap blocks full)) begun
+      (more (blocks (fullPart (b ++ e))) ∙ ap (hashFrom (numberOf h) (numberOf y)) (joined (fullPart (b ++ e)) ∙ ap blocks full)) begun
 
   -- and at the end all blocks of c are hashed
   pub hash-ends : (label text : ℕ)
@@ -96,5 +96,26 @@ module _ (h y c : List ℕ) (eh : Element (numberOf h)) (ey : Element (numberOf 
       let all : blocks (fullPart c) ++ blocks b ≡ blocks c = joined b ∙ ap blocks (both-parts c) in
       ap (λ (l : List ℕ). bytesOf 16 (hashFrom (numberOf h) (numberOf (bytesOf 16 so-far)) (blocks l ++ m))) held-is
       ∙ ap (bytesOf 16)
-      (more b (blocks b ++ m)
+      (more (blocks b ++ m)
       ∙ ap (hashFrom (numberOf h) (numberOf y)) (sym (append-assoc (blocks (fullPart c)) (blocks b) m) ∙ ap (λ (l : List ℕ). l ++ m) all))
+
+-- sixteen bytes spell an element of the field
+element-bytes : (x : ℕ) → Element (numberOf (bytesOf 16 x))
+element-bytes x = rw (numberOf-bytesOf 16 x) (mod-lt x (lit< tt))
+
+module _ (h : ℕ) (label c : List ℕ) where
+  -- from the start
+  pub hash-on-of : (e : List ℕ) → hashNext (hashOf h label c) (length c % 16) e ≡ hashOf h label (c ++ e)
+  unfolding hashOf
+  hash-on-of e = hash-on (bytesOf 16 h) (bytesOf 16 (ghash h (blocks label))) c (element-bytes h) (element-bytes (ghash h (blocks label))) e
+
+  -- and at the end it is the hash of label and text
+  pub hash-ends-of : Element h → hashEnd (hashOf h label c) (length c % 16) (length label) (length c) ≡ bytesOf 16 (ghash h (authBlocks label c))
+  unfolding hashOf authBlocks
+  hash-ends-of hh =
+      let y = ghash h (blocks label) in
+      let m = blocks c ++ (lengthBlock (length label) (length c) ∷ []) in
+      hash-ends (bytesOf 16 h) (bytesOf 16 y) c (element-bytes h) (element-bytes y) (length label) (length c)
+      ∙ ap (bytesOf 16)
+      (ap₂ (λ (k x : ℕ). hashFrom k x m) (spelled-back h hh) (spelled-back y (ghash-lt h hh (blocks label)))
+      ∙ sym (hash-append h 0 (blocks label) m))

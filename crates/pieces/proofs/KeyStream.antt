@@ -15,12 +15,13 @@ use Rattle.cipher.proofs.Blocks.{length-encryptBlock}
 use Rattle.walk.specs.Walk.{chain, endState}
 use Rattle.walk.proofs.Chain.{chain-rest, chain-block}
 use Rattle.walk.proofs.Cut.{end-rest, end-block, end-cut, chain-cut}
+use Rattle.stream.proofs.RoundTrip.{length-stream}
 use Rattle.pieces.specs.declared.flow.Counting.{Counting}
 use Rattle.pieces.specs.declared.flow.Counting.the-variants.{Ctr, Gcm}
 use Rattle.pieces.specs.declared.flow.Flow.{Flow}
-use Rattle.pieces.specs.Flow.{nextCounter, flowMode, flowAt, flowAfter, flowText, flowNext}
+use Rattle.pieces.specs.Flow.{kindOf, nextCounter, flowMode, flowAt, flowAfter, flowText, flowNext}
 use Rattle.pieces.specs.Hashing.{fullPart, begunPart}
-use Rattle.pieces.proofs.Pads.{xors-front, xors-cut}
+use Rattle.pieces.proofs.Pads.{xors-front, xors-cut, length-both}
 use Rattle.pieces.proofs.Begun.{full-length, begun-length, both-parts}
 
 -- the next state is the next counter, whatever the block is
@@ -29,6 +30,11 @@ counts Ctr rk s b = refl
 counts Gcm rk s b = refl
 
 module _ (c : Counting) (rk : List ℕ) where
+  -- before the first byte
+  pub flow-start : (s : List ℕ) → flowAt rk s ≡ flowAfter c rk s []
+  unfolding flowAfter
+  flow-start s = ap {B = Flow} (flowAt rk) (sym (end-rest (flowMode c rk) s [] (omega arith)))
+
   -- a text that does not fill the begun block needs no more of the stream
   pub text-short : (f : Flow) (p : ℕ) (e : List ℕ) → length e < 16 - p → flowText c rk f p e ≡ xors e (drop p (f .pad))
   unfolding flowText
@@ -38,6 +44,16 @@ module _ (c : Counting) (rk : List ℕ) where
       let none : drop (16 - p) e ≡ [] = drop-of-length-le e {i = 16 - p} (omega arith) in
       let rest : chain m t (drop (16 - p) e) ≡ [] = ap (chain m t) none ∙ chain-rest m t [] (omega arith) in
       rw rest (append-nil (xors e (drop p (f .pad))))
+
+  -- as many bytes come out as go in
+  pub text-length : (f : Flow) (p : ℕ) (e : List ℕ) → length (f .pad) ≡ 16 → p < 16 → length (flowText c rk f p e) ≡ length e
+  unfolding flowText
+  text-length f p e n low =
+      let t = nextCounter c (f .counter) in
+      let left = length-drop p (f .pad) in
+      let front = length-both e (drop p (f .pad)) in
+      let back = length-stream (kindOf c) rk t (drop (16 - p) e) ∙ length-drop (16 - p) e in
+      length-append (xors e (drop p (f .pad))) (chain (flowMode c rk) t (drop (16 - p) e)) ∙ omega arith
 
   -- behind a block that is begun with b
   module _ (s b e : List ℕ) (low : length b < 16) where

@@ -1,2 +1,6 @@
 pub mod Flow
 pub mod Hashing
+pub mod Checks
+pub mod States
+pub mod Calls
+pub mod Runs

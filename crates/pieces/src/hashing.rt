@@ -6,6 +6,7 @@ ghost use lib.ListN.{length, getD, take};
 ghost use Rattle.block.specs.BigEndian.{numberOf, bytesOf};
 ghost use Rattle.block.specs.Wide.{value};
 ghost use Rattle.ghash.specs.Ghash.{Hashable};
+ghost use Rattle.pieces.specs.States.{noHashing};
 ghost use Rattle.pieces.specs.Hashing.{filledUp, hashAfter, hashNext, hashEnd, hashOf};
 use block::U128;
 use ghash::Ghash;
@@ -17,6 +18,17 @@ pub struct Hashing {
     pub h: [u8; 16],
     pub y: [u8; 16],
     pub held: [u8; 16],
+}
+
+// A hash of zeros, of no message.
+pub(crate) fn none() -> Hashing
+    ensures { λ r. ⌜ r ≡ noHashing ⌝ }
+{
+    Hashing {
+        h: [0u8; 16],
+        y: [0u8; 16],
+        held: [0u8; 16],
+    }
 }
 
 fn number_of(b: [u8; 16]) -> U128
@@ -59,7 +71,7 @@ fn filled(held: [u8; 16], p: usize, data: &[u8]) -> [u8; 16]
 
 // `data` behind the p bytes that are held. The first block is theirs both; the full blocks behind it go through the hash as
 // they stand, and the last bytes are held.
-pub fn take_in(g: Hashing, p: usize, data: &[u8]) -> Hashing
+pub(crate) fn take_in(g: Hashing, p: usize, data: &[u8]) -> Hashing
     requires { ⌜ p < 16 ⌝ }
     requires { ⌜ Hashable (length (now «data»)) ⌝ }
     ensures { λ r. ⌜ r ≡ hashNext g p (now («data» .entry)) ⌝ }
@@ -96,7 +108,7 @@ fn full_blocks(h: [u8; 16], y: [u8; 16], first: [u8; 16], rest: &[u8]) -> Hashin
 }
 
 // The hash at the end of a text, where p bytes are held, for these lengths of label and text.
-pub fn end(g: Hashing, p: usize, label: usize, text: usize) -> [u8; 16]
+pub(crate) fn end(g: Hashing, p: usize, label: usize, text: usize) -> [u8; 16]
     requires { ⌜ p < 16 ⌝ }
     requires { ⌜ Hashable label × Hashable text ⌝ }
     ensures { λ r. ⌜ r ≡ hashEnd g p label text ⌝ }
@@ -114,7 +126,7 @@ pub fn end(g: Hashing, p: usize, label: usize, text: usize) -> [u8; 16]
 }
 
 // The hash before the first byte of a text, under H: that of the label's blocks.
-pub fn begin(h: U128, label: &[u8]) -> Hashing
+pub(crate) fn begin(h: U128, label: &[u8]) -> Hashing
     requires { ⌜ Hashable (length (now label)) ⌝ }
     ensures { λ r. ⌜ r ≡ hashOf (value h) (now (label .entry)) [] ⌝ }
 {

@@ -1,14 +1,8 @@
--- `pieces::flow::begin` meets its contract: the cipher of four words is that of the bytes that they spell.
+-- `pieces::flow::begin` meets its contract: the counter's bytes, and its cipher.
 -- Assumes nothing.
-use mathlib.Core.Path.{_≡_, ap, ap₂, _∙_}
+use mathlib.Core.Path.{ap₂}
 use mathlib.Core.List.{List}
-use Prim.Native.Nat.{ℕ, _^_}
-use mir.Val.{Fits}
-use mir.Syntax.{w32}
-use lib.ListN.{length, getD}
-use Rattle.block.specs.Words.{unwords}
-use Rattle.block.proofs.Entries.{below-each}
-use Rattle.cipher.proofs.Blocks.{encrypt-unwords}
+use Prim.Native.Nat.{ℕ}
 use Rattle.pieces.specs.declared.flow.Flow.{Flow}
 use borrow.Author.Needs.{needs}
 use Rattle.pieces.proofs.flow.begin.Statement.{statement}
@@ -16,16 +10,7 @@ use Rattle.pieces.proofs.flow.begin.Tie as tie
 
 returns : tie.Need-returns
 returns c =
-    let at-encrypt = c .before in
-    let at-counter = at-encrypt .before in
-    let S = at-counter .before .before in
-    let a = S .args in
-    let four : length (a .s) ≡ 4 = search needs in
-    let fits : (i : ℕ) → Fits w32 (getD (a .s) i 0) = λ i. search needs in
-    ap₂ {C = Flow} (λ (s p : List ℕ). record { counter = s; pad = p }) (at-counter .combine-block .ensures)
-    (c .combine-block2 .ensures ∙ ap unwords (at-encrypt .encrypt .ensures)
-    ∙ encrypt-unwords (a .rk) (a .s) four (below-each (2 ^ 32) (a .s) (λ i. fits i .fits)))
+    ap₂ {C = Flow} (λ (s p : List ℕ). record { counter = s; pad = p }) (c .before .combine-block .ensures) (c .ciphered .ensures)
 
 pub begin-spec : {M : Type 1} → statement M
-begin-spec =
-    tie.close (tie.spec (λ c κs. search needs) (λ c κs. search needs) (λ c κs. search needs) returns)
+begin-spec = tie.close (tie.spec (λ c κs. search needs) (λ c κs. search needs) returns)

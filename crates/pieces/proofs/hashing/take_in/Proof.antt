@@ -13,7 +13,7 @@ use lib.Seq.{length-take-le}
 use Rattle.block.proofs.Entries.{below-each}
 use Rattle.walk.proofs.Loop.{tail-is}
 use Rattle.pieces.specs.declared.hashing.Hashing.{Hashing}
-use Rattle.pieces.specs.Hashing.{filledUp, hashAfter, hashNext}
+use Rattle.pieces.specs.Hashing.{hashAfter, hashNext}
 use Rattle.pieces.proofs.Filling.{filled-full}
 use Rattle.pieces.proofs.HashOn.{held-within}
 use borrow.Author.Needs.{needs}
