@@ -180,29 +180,23 @@ pub fn to_be_read_twice(mut source: Source) -> Source {
     let name = &word[..n];
     source.aside = os::create(name);
     if source.aside < 0 {
-        return unkept(source);
+        return unkept(source, name);
     }
     source.again = os::open_read(name);
-    if os::unlink(name) < 0 {
-        return unkept(source);
-    }
     if source.again < 0 {
-        return unkept(source);
+        return unkept(source, name);
+    }
+    if os::unlink(name) < 0 {
+        return unkept(source, name);
     }
     source
 }
 
 // Says that IN cannot be kept aside, which leaves nothing to read.
-fn unkept(mut source: Source) -> Source {
-    cannot_keep();
+fn unkept(mut source: Source, name: &[u8]) -> Source {
+    say::cannot(b"keep what is read in ", name);
     source.fd = -1;
     source
-}
-
-fn cannot_keep() {
-    let mut word = io::buffer();
-    let n = os::arg(ASIDE, &mut word);
-    say::cannot(b"keep what is read in ", &word[..n]);
 }
 
 // Keeps a piece aside, where IN is kept.
@@ -210,8 +204,10 @@ pub fn keep(source: Source, bytes: &[u8]) -> bool {
     if source.aside < 0 {
         return true;
     }
+    let mut word = io::buffer();
+    let n = os::arg(ASIDE, &mut word);
     if !io::write_all(source.aside, bytes) {
-        cannot_keep();
+        say::cannot(b"keep what is read in ", &word[..n]);
         return false;
     }
     true

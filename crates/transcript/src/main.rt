@@ -7,8 +7,10 @@ mod say;
 mod work;
 
 ghost use mathlib.Core.Path.{_≡_};
+ghost use Rattle.cipher_mode.specs.Key.{newCipher};
+ghost use Rattle.label.specs.Label.{labelOf};
 ghost use Rattle.transcript.specs.AtMost.{AtMost};
-ghost use Rattle.transcript.specs.Called.{directionOf};
+ghost use Rattle.transcript.specs.Begun.{Begun, directionOf};
 use cipher_mode::CipherMode;
 use cipher_mode::Direction;
 use cipher_mode::Sm4Cipher;
@@ -259,18 +261,34 @@ fn settle(asked: Asked, file: &[u8], source: Source, work: Work) -> u8 {
     if first.fd < 0 {
         return FILES;
     }
-    let pass = passes::run(asked, first, most(asked), passes::start(work, output::none(DONE)));
+    let pass = passes::run(
+        asked,
+        first,
+        most(asked),
+        passes::start(work, output::none(DONE)),
+    );
     let status = judge(asked, pass, 0);
     if status != DONE {
         return status;
     }
-    deliver(asked, file, files::again(first), work::writing(work), pass.read)
+    deliver(
+        asked,
+        file,
+        files::again(first),
+        work::writing(work),
+        pass.read,
+    )
 }
 
 // Says that IN opens, or why not.
 fn opens(asked: Asked, source: Source, work: Work) -> u8 {
     let places = asked.places;
-    let pass = passes::run(asked, source, most(asked), passes::start(work, output::none(DONE)));
+    let pass = passes::run(
+        asked,
+        source,
+        most(asked),
+        passes::start(work, output::none(DONE)),
+    );
     let status = judge(asked, pass, 0);
     if status != DONE {
         return status;
@@ -354,7 +372,9 @@ fn direction_of(command: Command) -> Direction
 }
 
 // The pass that was asked for, before its first byte. A mode without a label passes over it.
-fn begin(asked: Asked, key: &[u8], iv: &[u8]) -> Step {
+fn begin(asked: Asked, key: &[u8], iv: &[u8]) -> Step
+    ensures { λ r. ⌜ Begun (newCipher (now (key .entry))) (labelOf (asked .job) (asked .edition)) (now (iv .entry)) (r .work) ⌝ }
+{
     let command = asked.command;
     let mode = asked.mode;
     let label = label::label(asked.job, asked.edition);

@@ -233,17 +233,12 @@ fn beside(name: &[u8], kept: Kept) -> Output {
     }
 }
 
-// Says that OUT cannot be written.
-fn cannot(asked: Asked, output: Output) -> u8 {
-    let places = asked.places;
-    let mut word = word_room();
-    let n = os::arg(places[OUT], &mut word);
+// Says that OUT cannot be written, by the system's last error, which to read a word from the line would forget.
+fn cannot(output: Output, name: &[u8], part: &[u8]) -> u8 {
     if output.straight {
-        return say::cannot_write(&word[..n]);
+        return say::cannot_write(name);
     }
-    let mut part = word_room();
-    let m = part_name(&word[..n], &mut part);
-    say::cannot_by(&word[..n], &part[..m])
+    say::cannot_by(name, part)
 }
 
 fn stopped(mut output: Output, status: u8) -> Output {
@@ -266,8 +261,13 @@ pub fn put(asked: Asked, mut output: Output, bytes: &[u8]) -> Output {
             return stopped(output, FILES);
         }
     }
+    let places = asked.places;
+    let mut word = word_room();
+    let n = os::arg(places[OUT], &mut word);
+    let mut part = word_room();
+    let m = part_name(&word[..n], &mut part);
     if !io::write_all(output.fd, bytes) {
-        return stopped(output, cannot(asked, output));
+        return stopped(output, cannot(output, &word[..n], &part[..m]));
     }
     output.begun = true;
     output
@@ -281,18 +281,14 @@ fn is_kept(fd: i32) -> bool {
     true
 }
 
-// All was written: a file gets OUT's name.
+// All was written: a file gets OUT's name, unless nobody waits for it any more.
 pub fn finish(asked: Asked, output: Output) -> u8 {
-    if !is_kept(output.fd) {
-        return undo(asked, output, cannot(asked, output));
-    }
-    if output.straight {
-        return DONE;
-    }
-    if is_alone(asked) {
-        return undo(asked, output, FILES);
-    }
-    let status = give(asked, output);
+    let places = asked.places;
+    let mut word = word_room();
+    let n = os::arg(places[OUT], &mut word);
+    let mut part = word_room();
+    let m = part_name(&word[..n], &mut part);
+    let status = give(asked, output, &word[..n], &part[..m]);
     if status != DONE {
         return undo(asked, output, status);
     }
@@ -301,22 +297,25 @@ pub fn finish(asked: Asked, output: Output) -> u8 {
 }
 
 // Gives the file what it keeps, which until then its owner alone may read, and then the name.
-fn give(asked: Asked, output: Output) -> u8 {
-    let places = asked.places;
-    let mut word = word_room();
-    let n = os::arg(places[OUT], &mut word);
-    let name = &word[..n];
+fn give(asked: Asked, output: Output, name: &[u8], part: &[u8]) -> u8 {
+    if !is_kept(output.fd) {
+        return cannot(output, name, part);
+    }
+    if output.straight {
+        return DONE;
+    }
+    if is_alone(asked) {
+        return FILES;
+    }
     let kept = output.kept;
     if libc::fchown(output.fd, kept.owner, kept.group) < 0 {
         return say::cannot_keep(name, kept.owner, kept.group);
     }
     if libc::fchmod(output.fd, kept.mode) < 0 {
-        return cannot(asked, output);
+        return cannot(output, name, part);
     }
-    let mut part = word_room();
-    let m = part_name(name, &mut part);
-    if os::rename(&part[..m], name) < 0 {
-        return say::cannot_by(name, &part[..m]);
+    if os::rename(part, name) < 0 {
+        return cannot(output, name, part);
     }
     DONE
 }

@@ -120,21 +120,17 @@ fn none(news: News) -> Fetched
     Fetched { length: 0, news }
 }
 
-fn cannot_read(at: usize) {
-    let mut word = word_room();
-    let n = os::arg(at, &mut word);
-    say::cannot(b"read ", &word[..n]);
-}
-
 // Reads on behind the bytes that wait, `most` bytes at most, and keeps aside what it read where IN is kept.
 fn fetch(asked: Asked, source: Source, waiting: usize, most: usize, buf: &mut [u8]) -> Fetched
     requires { ⌜ waiting ≤ length (now buf) ⌝ }
     ensures { λ r. ⌜ (waiting + r .length ≤ length (now (buf .exit))) × (r .length ≤ most) ⌝ }
 {
     let places = asked.places;
+    let mut word = word_room();
+    let m = os::arg(places[IN], &mut word);
     let got = libc::read(source.fd, &mut buf[waiting..]);
     if got < 0 {
-        cannot_read(places[IN]);
+        say::cannot(b"read ", &word[..m]);
         return none(News::Failed);
     }
     let n = io::count(got, &buf[waiting..]);

@@ -4,6 +4,7 @@ ghost use mathlib.Core.Path.{_≡_};
 ghost use Prim.Native.Nat.{_+_, _≤_};
 ghost use lib.ListN.{length};
 ghost use Rattle.cipher.specs.Engine.{Engine};
+ghost use Rattle.transcript.specs.Begun.{Begun};
 use cbc::Opened;
 use cipher_mode::CipherMode;
 use cipher_mode::Direction;
@@ -15,8 +16,6 @@ use cipher_mode::answer::Refusal;
 use cipher_mode::checks;
 use cipher_mode::checks::Checked;
 use pieces::ctr::Ctr;
-use pieces::flow::Counting;
-use pieces::flow::Flow;
 use pieces::opens::Opens;
 use pieces::seal::Seal;
 use stream::Kind;
@@ -34,14 +33,13 @@ pub enum Task {
     CbcText,
 }
 
-// A pass on its way, with the state of each task: the message that is sealed or asked whether it opens; the key stream that
-// its text is xored with; the message in Ctr; and the chaining state of Cfb, Ofb and Cbc.
+// A pass on its way, with the state of each task: a message that is sealed, one that is asked whether it opens, one in Ctr; and
+// the chaining state of Cfb, Ofb and Cbc, which in Gcm is the counter that the text is opened with.
 pub struct Work {
     pub task: Task,
     pub rk: [u32; 32],
     pub seal: Seal,
     pub opens: Opens,
-    pub flow: Flow,
     pub ctr: Ctr,
     pub chain: [u32; 4],
 }
@@ -75,7 +73,7 @@ pub fn taken(task: Task, n: usize) -> usize
     match task {
         Task::Seal => n,
         Task::GcmSettle => but_last(n, 16),
-        Task::GcmText => but_last(n, 16),
+        Task::GcmText => full(but_last(n, 16)),
         Task::Ctr => n,
         Task::Stream(_) => full(n),
         Task::CbcSeal => full(n),
@@ -86,6 +84,7 @@ pub fn taken(task: Task, n: usize) -> usize
 
 fn done(work: Work, length: usize) -> Step
     ensures { λ r. ⌜ r .length ≡ «length» ⌝ }
+    ensures { λ r. ⌜ r .work ≡ work ⌝ }
 {
     Step {
         work,
@@ -96,6 +95,7 @@ fn done(work: Work, length: usize) -> Step
 
 fn refused(work: Work, refusal: Refusal) -> Step
     ensures { λ r. ⌜ r .length ≡ 0 ⌝ }
+    ensures { λ r. ⌜ r .work ≡ work ⌝ }
 {
     Step {
         work,
@@ -156,21 +156,6 @@ fn gcm_piece(mut work: Work, data: &[u8], length: usize) -> Step
     answered(work, answer, length)
 }
 
-// The text of a piece, which is asked once more whether it opens.
-fn gcm_text_piece(t: &[u32], mut work: Work, data: &[u8], out: &mut [u8]) -> Step
-    requires { ⌜ Engine (now t) ⌝ }
-    requires { ⌜ length (now «data») ≤ length (now out) ⌝ }
-    ensures { λ r. ⌜ r .length ≤ length (now («data» .entry)) ⌝ }
-{
-    let rk = work.rk;
-    let flow = work.flow;
-    let opens = work.opens;
-    let place = opens.total % 16;
-    let next = pieces::flow::run(t, rk, Counting::Gcm, flow, place, data, out);
-    work.flow = next;
-    gcm_piece(work, data, data.len())
-}
-
 fn stream_piece(t: &[u32], work: Work, kind: Kind, data: &[u8], out: &mut [u8]) -> Step
     requires { ⌜ Engine (now t) ⌝ }
     requires { ⌜ length (now «data») ≤ length (now out) ⌝ }
@@ -181,6 +166,17 @@ fn stream_piece(t: &[u32], work: Work, kind: Kind, data: &[u8], out: &mut [u8]) 
     let end = stream::stream(t, rk, kind, chain, data, out);
     let next = end.state;
     chained(work, next, data.len())
+}
+
+// The text of a piece, which is asked once more whether it opens.
+fn gcm_text_piece(t: &[u32], work: Work, data: &[u8], out: &mut [u8]) -> Step
+    requires { ⌜ Engine (now t) ⌝ }
+    requires { ⌜ length (now «data») ≤ length (now out) ⌝ }
+    ensures { λ r. ⌜ r .length ≤ length (now («data» .entry)) ⌝ }
+{
+    let step = stream_piece(t, work, Kind::Gctr, data, out);
+    let next = step.work;
+    gcm_piece(next, data, data.len())
 }
 
 fn cbc_seal_piece(t: &[u32], work: Work, data: &[u8], out: &mut [u8]) -> Step
@@ -233,14 +229,26 @@ fn seal_end(work: Work, out: &mut [u8]) -> Step
     answered(work, answer, 16)
 }
 
-// What waited is the tag.
-fn gcm_end(work: Work, tag: &[u8]) -> Step
-    ensures { λ r. ⌜ r .length ≤ 0 ⌝ }
+// The tag settles whether what came before it opens, of which so many bytes are written now.
+fn gcm_end(work: Work, tag: &[u8], length: usize) -> Step
+    ensures { λ r. ⌜ r .length ≤ «length» ⌝ }
 {
     let opens = work.opens;
     let step = opens.end(tag);
     let answer = step.answer;
-    answered(work, answer, 0)
+    answered(work, answer, length)
+}
+
+// The rest of the text, and the tag behind it.
+fn gcm_text_end(t: &[u32], work: Work, rest: &[u8], out: &mut [u8]) -> Step
+    requires { ⌜ Engine (now t) ⌝ }
+    requires { ⌜ length (now rest) ≤ length (now out) ⌝ }
+    ensures { λ r. ⌜ r .length ≤ length (now (rest .entry)) ⌝ }
+{
+    let n = but_last(rest.len(), 16);
+    let step = gcm_text_piece(t, work, &rest[0..n], out);
+    let next = step.work;
+    gcm_end(next, &rest[n..], n)
 }
 
 fn ctr_end(work: Work) -> Step
@@ -302,8 +310,8 @@ pub fn end(t: &[u32], work: Work, rest: &[u8], out: &mut [u8]) -> Step
     let task = work.task;
     match task {
         Task::Seal => seal_end(work, out),
-        Task::GcmSettle => gcm_end(work, rest),
-        Task::GcmText => gcm_end(work, rest),
+        Task::GcmSettle => gcm_end(work, rest, 0),
+        Task::GcmText => gcm_text_end(t, work, rest, out),
         Task::Ctr => ctr_end(work),
         Task::Stream(kind) => stream_piece(t, work, kind, rest, out),
         Task::CbcSeal => cbc_seal_end(t, work, rest, out),
@@ -340,12 +348,19 @@ fn decryption(mode: CipherMode) -> Task {
     }
 }
 
-// The first state of Cfb, Ofb and Cbc, which an IV of twelve bytes has none of.
-fn first_state(iv: &[u8]) -> [u32; 4] {
-    if iv.len() < 16 {
+// The first chaining state: the IV, which is refused where it is no block, and in Gcm the first counter of the text.
+fn first_state(mode: CipherMode, iv: &[u8], counter: &[u8]) -> [u32; 4] {
+    match mode {
+        CipherMode::Gcm => block_of(counter),
+        _ => block_of(iv),
+    }
+}
+
+fn block_of(bytes: &[u8]) -> [u32; 4] {
+    if bytes.len() < 16 {
         return [0u32; 4];
     }
-    block::split_block(iv)
+    block::split_block(bytes)
 }
 
 // A pass before its first byte. What is refused of key and IV is refused here. A mode without a label passes over it.
@@ -355,12 +370,15 @@ pub fn start(
     mode: CipherMode,
     label: &[u8],
     iv: &[u8],
-) -> Step {
+) -> Step
+    ensures { λ r. ⌜ Begun cipher (now (label .entry)) (now (iv .entry)) (r .work) ⌝ }
+{
     let key = cipher.answer;
     let rk = cipher.rk;
     let sealing = pieces::seal::start(cipher, label, iv);
     let seal = sealing.state;
     let flow = seal.flow;
+    let counter = flow.counter;
     let opening = pieces::opens::start(cipher, label, iv);
     let opens = opening.state;
     let counting = pieces::ctr::start(cipher, iv);
@@ -370,9 +388,8 @@ pub fn start(
         rk,
         seal,
         opens,
-        flow,
         ctr,
-        chain: first_state(iv),
+        chain: first_state(mode, iv, &counter),
     };
     let checked = checks::key_and_iv(key, mode, iv.len());
     if let Checked::Refused(refusal) = checked {
@@ -405,7 +422,6 @@ pub fn writing(work: Work) -> Work {
     let rk = work.rk;
     let seal = work.seal;
     let opens = work.opens;
-    let flow = work.flow;
     let ctr = work.ctr;
     let chain = work.chain;
     Work {
@@ -413,7 +429,6 @@ pub fn writing(work: Work) -> Work {
         rk,
         seal,
         opens,
-        flow,
         ctr,
         chain,
     }
