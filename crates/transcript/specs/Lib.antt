@@ -1,2 +1,2 @@
 pub mod AtMost
-pub mod Begun
+pub mod Starts

@@ -10,7 +10,7 @@ ghost use mathlib.Core.Path.{_≡_};
 ghost use Rattle.cipher_mode.specs.Key.{newCipher};
 ghost use Rattle.label.specs.Label.{labelOf};
 ghost use Rattle.transcript.specs.AtMost.{AtMost};
-ghost use Rattle.transcript.specs.Begun.{Begun, directionOf};
+ghost use Rattle.transcript.specs.Starts.{directionOf, StartsOf};
 use cipher_mode::CipherMode;
 use cipher_mode::Direction;
 use cipher_mode::Sm4Cipher;
@@ -34,6 +34,7 @@ use typed::things::NOTHING;
 use typed::things::OUT;
 use typed::words::Command;
 use typed::words::ModeName;
+use work::Starts;
 use work::Step;
 use work::Work;
 
@@ -371,12 +372,18 @@ fn direction_of(command: Command) -> Direction
     }
 }
 
-// The pass that was asked for, before its first byte. A mode without a label passes over it.
-fn begin(asked: Asked, key: &[u8], iv: &[u8]) -> Step
-    ensures { λ r. ⌜ Begun (newCipher (now (key .entry))) (labelOf (asked .job) (asked .edition)) (now (iv .entry)) (r .work) ⌝ }
+// The messages in pieces, at their start, under the key, the IV and the label of job and edition.
+fn labelled(asked: Asked, key: &[u8], iv: &[u8]) -> Starts
+    ensures { λ r. ⌜ StartsOf (newCipher (now (key .entry))) (labelOf (asked .job) (asked .edition)) (now (iv .entry)) r ⌝ }
 {
+    let label = label::label(asked.job, asked.edition);
+    work::start_all(Sm4Cipher::new(key), &label, iv)
+}
+
+// The pass that was asked for, before its first byte.
+fn begin(asked: Asked, key: &[u8], iv: &[u8]) -> Step {
     let command = asked.command;
     let mode = asked.mode;
-    let label = label::label(asked.job, asked.edition);
-    work::start(Sm4Cipher::new(key), direction_of(command), mode, &label, iv)
+    let starts = labelled(asked, key, iv);
+    work::start(Sm4Cipher::new(key), direction_of(command), mode, starts, iv)
 }

@@ -4,7 +4,7 @@ ghost use mathlib.Core.Path.{_≡_};
 ghost use Prim.Native.Nat.{_+_, _≤_};
 ghost use lib.ListN.{length};
 ghost use Rattle.cipher.specs.Engine.{Engine};
-ghost use Rattle.transcript.specs.Begun.{Begun};
+ghost use Rattle.transcript.specs.Starts.{StartsOf};
 use cbc::Opened;
 use cipher_mode::CipherMode;
 use cipher_mode::Direction;
@@ -16,8 +16,11 @@ use cipher_mode::answer::Refusal;
 use cipher_mode::checks;
 use cipher_mode::checks::Checked;
 use pieces::ctr::Ctr;
+use pieces::ctr::CtrStep;
 use pieces::opens::Opens;
+use pieces::opens::OpensStep;
 use pieces::seal::Seal;
+use pieces::seal::SealStep;
 use stream::Kind;
 
 // What is done with the bytes: sealed; asked whether they open; opened; xored with key stream; encrypted or decrypted with
@@ -84,7 +87,6 @@ pub fn taken(task: Task, n: usize) -> usize
 
 fn done(work: Work, length: usize) -> Step
     ensures { λ r. ⌜ r .length ≡ «length» ⌝ }
-    ensures { λ r. ⌜ r .work ≡ work ⌝ }
 {
     Step {
         work,
@@ -95,7 +97,6 @@ fn done(work: Work, length: usize) -> Step
 
 fn refused(work: Work, refusal: Refusal) -> Step
     ensures { λ r. ⌜ r .length ≡ 0 ⌝ }
-    ensures { λ r. ⌜ r .work ≡ work ⌝ }
 {
     Step {
         work,
@@ -349,39 +350,49 @@ fn decryption(mode: CipherMode) -> Task {
 }
 
 // The first chaining state: the IV, which is refused where it is no block, and in Gcm the first counter of the text.
-fn first_state(mode: CipherMode, iv: &[u8], counter: &[u8]) -> [u32; 4] {
-    match mode {
-        CipherMode::Gcm => block_of(counter),
-        _ => block_of(iv),
+fn first_state(mode: CipherMode, iv: &[u8], counter: [u8; 16]) -> [u32; 4] {
+    if let CipherMode::Gcm = mode {
+        return block::split_block(&counter);
     }
-}
-
-fn block_of(bytes: &[u8]) -> [u32; 4] {
-    if bytes.len() < 16 {
+    if iv.len() < 16 {
         return [0u32; 4];
     }
-    block::split_block(bytes)
+    block::split_block(iv)
 }
 
-// A pass before its first byte. What is refused of key and IV is refused here. A mode without a label passes over it.
+// The starts of the messages in pieces that a pass may be of.
+pub struct Starts {
+    pub seal: SealStep,
+    pub opens: OpensStep,
+    pub ctr: CtrStep,
+}
+
+pub fn start_all(cipher: Sm4Cipher, label: &[u8], iv: &[u8]) -> Starts
+    ensures { λ r. ⌜ StartsOf cipher (now (label .entry)) (now (iv .entry)) r ⌝ }
+{
+    let seal = pieces::seal::start(cipher, label, iv);
+    let opens = pieces::opens::start(cipher, label, iv);
+    let ctr = pieces::ctr::start(cipher, iv);
+    Starts { seal, opens, ctr }
+}
+
+// A pass before its first byte. What is refused of key and IV is refused here.
 pub fn start(
     cipher: Sm4Cipher,
     direction: Direction,
     mode: CipherMode,
-    label: &[u8],
+    starts: Starts,
     iv: &[u8],
-) -> Step
-    ensures { λ r. ⌜ Begun cipher (now (label .entry)) (now (iv .entry)) (r .work) ⌝ }
-{
+) -> Step {
     let key = cipher.answer;
     let rk = cipher.rk;
-    let sealing = pieces::seal::start(cipher, label, iv);
+    let sealing = starts.seal;
     let seal = sealing.state;
     let flow = seal.flow;
     let counter = flow.counter;
-    let opening = pieces::opens::start(cipher, label, iv);
+    let opening = starts.opens;
     let opens = opening.state;
-    let counting = pieces::ctr::start(cipher, iv);
+    let counting = starts.ctr;
     let ctr = counting.state;
     let work = Work {
         task: task_of(direction, mode),
@@ -389,7 +400,7 @@ pub fn start(
         seal,
         opens,
         ctr,
-        chain: first_state(mode, iv, &counter),
+        chain: first_state(mode, iv, counter),
     };
     let checked = checks::key_and_iv(key, mode, iv.len());
     if let Checked::Refused(refusal) = checked {
