@@ -34,7 +34,7 @@ returned-is o t at =
 pub length-tailed : (d : List ℕ) (at : ℕ) → length (tailed at d) ≡ length d - at
 length-tailed d at = rw (tail-is d at, length-drop)
 
-over-append : (p q o : List ℕ) → over (p ++ q) o ≡ p ++ over q (drop (length p) o)
+pub over-append : (p q o : List ℕ) → over (p ++ q) o ≡ p ++ over q (drop (length p) o)
 over-append p q o = rw (length-append p q, append-assoc, drop-drop)
 
 -- p was written to the front of an output, and then q behind it

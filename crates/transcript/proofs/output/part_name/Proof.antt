@@ -1,10 +1,10 @@
--- `files::part_name` meets its contract. The name fits, and `os::arg` answers no more bytes than the room behind it.
+-- `output::part_name` meets its contract. The name fits, and `os::arg` answers no more bytes than the room behind it.
 -- Assumes nothing.
 use native.Mathlib.Omega.{arith}
 use Rattle.io.proofs.Counting.{counts}
 use borrow.Author.Needs.{needs}
-use Rattle.transcript.proofs.files.part_name.Statement.{statement}
-use Rattle.transcript.proofs.files.part_name.Tie as tie
+use Rattle.transcript.proofs.output.part_name.Statement.{statement}
+use Rattle.transcript.proofs.output.part_name.Tie as tie
 
 returns-2 : tie.Need-returns-2
 returns-2 c = counts _ _ (omega arith)
