@@ -16,7 +16,7 @@
  *   7  BadMode         the mode is above 4
  *   8  EmptyCbc        Cbc decryption of 0 bytes
  *   9  ShortGcm        Gcm decryption of fewer than 16 bytes
- *  10  WrongIv         the IV is not 16 bytes
+ *  10  WrongIv         the IV is not 16 bytes; in Gcm, neither 12 nor 16
  *  11  WrongBlock      the single block is not 16 bytes
  *
  * Where several apply, the first of the call's order is the answer: of a single block 1, 11, 6; of a
@@ -41,14 +41,25 @@
  * Ctr, and 16,777,232 in Cbc and Gcm. The label has at most 16,777,216 bytes in Gcm; the other modes
  * ignore it, whatever its length.
  *
+ * The IV has 16 bytes in Cfb, Ofb, Ctr and Cbc, and 12 or 16 in Gcm. There its length says how J0, the
+ * counter before those of the text, is made of it, as SP 800-38D has it:
+ *
+ *   12 bytes   the form that SP 800-38D recommends and RFC 8998 uses, for messages that are exchanged with
+ *              a partner who follows either. J0 is the IV followed by 00000001, so that the text's counters
+ *              start at 00000002; the IV is neither padded nor hashed;
+ *   16 bytes   the form that the company's own files have. J0 is the hash of the IV.
+ *
+ * The output holds no IV: a message is decrypted under the bytes that it was encrypted under, and as many.
+ * Nothing is claimed between a 12-byte IV and the 16-byte IV that extends it with 00000001.
+ *
  * What no proof can see stays the host's duty, and a call that breaks it has no defined outcome:
  *
  *   - each pointer leads to as many bytes as the length beside it says, which nothing else writes
  *     during the call. Only an empty buffer may be NULL with length 0;
  *   - the output buffer overlaps no input. Inputs may overlap one another.
  *
- * The library remembers no IV: that no two messages are encrypted under the same key and IV is the
- * host's to see to as well.
+ * The library remembers no IV: that no two messages are encrypted under the same key and IV, whatever its
+ * length, is the host's to see to as well.
  */
 #ifndef LUOSSAVIN_H
 #define LUOSSAVIN_H
@@ -78,10 +89,10 @@ struct luossavin_answer luossavin_block_encrypt(const uint8_t *key, size_t key_l
 struct luossavin_answer luossavin_block_decrypt(const uint8_t *key, size_t key_len,
     const uint8_t *block, size_t block_len, uint8_t *out, size_t room);
 
-/* Encrypts `data`. The mode is 0 Cfb, 1 Ofb, 2 Ctr, 3 Cbc or 4 Gcm; key and IV have 16 bytes each.
- * Cbc always adds 1 to 16 bytes of padding, each holding their count. Gcm seals `data` together with
- * the label `aad`, which is not part of the output, and puts a tag of 16 bytes at the end. Data
- * of 0 bytes is encrypted as any other. It answers 0, 1, 5, 6, 7 or 10. */
+/* Encrypts `data`. The mode is 0 Cfb, 1 Ofb, 2 Ctr, 3 Cbc or 4 Gcm. Key and IV have 16 bytes each; in
+ * Gcm the IV may have 12. Cbc always adds 1 to 16 bytes of padding, each holding their count. Gcm seals
+ * `data` together with the label `aad`, which is not part of the output, and puts a tag of 16 bytes at
+ * the end. Data of 0 bytes is encrypted as any other. It answers 0, 1, 5, 6, 7 or 10. */
 struct luossavin_answer luossavin_encrypt(uint32_t mode, const uint8_t *key, size_t key_len,
     const uint8_t *aad, size_t aad_len, const uint8_t *data, size_t data_len,
     const uint8_t *iv, size_t iv_len, uint8_t *out, size_t room);

@@ -1,9 +1,10 @@
-/* Holds the archive, libgcrypt and OpenSSL to recorded answers of libsm.
+/* Holds the archive, libgcrypt and OpenSSL to recorded answers of libsm. Where libsm refuses a 12-byte IV in
+ * Gcm, as docs/DIFFERENCES.md lists, the archive is held to libgcrypt instead.
  *
  *   compare < LIST
  *
- * Prints, for each of the three, how many records were compared and how many differ, and the smallest
- * record that differs. Exit status 1 if any does, 2 if the list cannot be read.
+ * Prints, for each of the three, how many records were compared and how many differ; how many had a 12-byte
+ * IV in Gcm; and the smallest record that differs. Exit status 1 if any does, 2 if the list cannot be read.
  */
 #define _POSIX_C_SOURCE 200809L /* open_memstream */
 
@@ -23,6 +24,11 @@ enum { ARCHIVE, PEERS = 1, SIDES = 3 };
 static struct {
     unsigned long compared, differ;
 } tally[SIDES];
+
+/* Of the records with a 12-byte IV in Gcm, how many the archive is to seal, to open and to refuse. */
+static struct {
+    unsigned long sealed, opened, refused;
+} twelve;
 
 /* The number that the archive must answer: that of libsm's name, or, of the inputs that
  * docs/DIFFERENCES.md lists, what is said there. */
@@ -48,6 +54,18 @@ static uint32_t number_for(const struct record *r)
 static size_t missing_for(const struct record *r, uint32_t number)
 {
     return number == 9 ? 16 - r->data.length : 0;
+}
+
+/* Whether a record has an IV that libsm refuses and the archive takes. */
+static int has_twelve(const struct record *r)
+{
+    return r->mode == GCM && r->iv.length == 12;
+}
+
+/* Whose answer a record holds: that of a 12-byte IV is put into it by ask_gcrypt. */
+static const char *answers_for(const struct record *r)
+{
+    return has_twelve(r) ? peers[0].name : "libsm";
 }
 
 /* The smallest record that differs, kept as text. */
@@ -83,27 +101,55 @@ static void differs(int side, const char *who, const struct record *r, const cha
     print_field(to, "iv", r->iv);
     print_field(to, "label", r->label);
     print_field(to, "data", r->data);
-    fprintf(to, "  libsm answers %s\n", answer_names[r->name]);
-    print_field(to, "libsm", r->output);
+    fprintf(to, "  %s answers %s\n", answers_for(r), answer_names[r->name]);
+    print_field(to, "answer", r->output);
     print_field(to, "got", got);
     fclose(to);
 }
 
+/* What a buffer is for: what is got, and libgcrypt's answer in the place of libsm's. */
+enum { GOT, STANDS_IN };
+
 /* A buffer of at least `count` bytes, kept from call to call. */
-static uint8_t *buffer(size_t count)
+static uint8_t *buffer(int which, size_t count)
 {
-    static uint8_t *bytes;
-    static size_t room;
-    if (count > room) {
-        free(bytes);
-        room = count;
-        bytes = malloc(room);
-        if (bytes == NULL) {
+    static uint8_t *bytes[2];
+    static size_t room[2];
+    if (count > room[which]) {
+        free(bytes[which]);
+        room[which] = count;
+        bytes[which] = malloc(count);
+        if (bytes[which] == NULL) {
             fprintf(stderr, "no memory for an output\n");
             exit(2);
         }
     }
-    return bytes;
+    return bytes[which];
+}
+
+/* The length that a peer gives. */
+static size_t raw_length(const struct record *r, size_t n)
+{
+    return r->mode != GCM ? n : r->direction == ENCRYPT ? n + 16 : n - 16;
+}
+
+/* Puts libgcrypt's answer into a record with a 12-byte IV, and counts it. libsm must have refused it, and
+ * for its IV: a key of another size, or fewer bytes than a tag to open, would be another difference, and
+ * are in no record. */
+static void ask_gcrypt(struct record *r)
+{
+    uint8_t *out = buffer(STANDS_IN, r->data.length + 16);
+    enum verdict verdict = CANNOT;
+    if (r->name == ERROR_BLOCK_SIZE && r->key.length == 16 && (r->direction == ENCRYPT || r->data.length >= 16)) {
+        verdict = peers[0].run(GCM, r->direction, r->key.bytes, r->iv, r->label, r->data, out);
+    }
+    if (verdict == CANNOT) {
+        fprintf(stderr, "a record with a 12-byte IV that libsm does not refuse, or libgcrypt cannot answer\n");
+        exit(2);
+    }
+    r->name = verdict == DONE ? OK : INVALID_TAG;
+    r->output = (struct field){out, verdict == DONE ? raw_length(r, r->data.length) : 0};
+    *(verdict == BAD_TAG ? &twelve.refused : r->direction == ENCRYPT ? &twelve.sealed : &twelve.opened) += 1;
 }
 
 static struct luossavin_answer call(const struct record *r, uint8_t *out, size_t room)
@@ -138,7 +184,7 @@ static void compare_archive(const struct record *r, uint32_t index)
     size_t room = room_needed(r) + (index % 2 ? SLACK / 2 : 0);
     uint32_t number = number_for(r);
     size_t missing = missing_for(r, number), length = number == 0 ? r->output.length : 0;
-    uint8_t *out = buffer(room + SLACK);
+    uint8_t *out = buffer(GOT, room + SLACK);
     struct luossavin_answer a;
     struct field got = {out, 0};
     char what[120];
@@ -212,12 +258,12 @@ static void compare_peer(int side, const struct peer *p, const struct record *r)
     if (r->name == ERROR_BLOCK_SIZE || r->name == ERROR_DATA_LEN || r->name == PANICKED) {
         return; /* a peer has its own way to refuse these */
     }
-    got.bytes = buffer(data.length + 16);
-    got.length = data.length;
-    if (r->mode == GCM) {
-        got.length = r->direction == ENCRYPT ? data.length + 16 : data.length - 16;
+    if (has_twelve(r)) {
+        return; /* the answer is libgcrypt's own, and OpenSSL 3.0 has no SM4 in Gcm */
     }
-    verdict = p->run(r->mode, r->direction, r->key.bytes, r->iv.bytes, r->label, data, (uint8_t *)got.bytes);
+    got.bytes = buffer(GOT, data.length + 16);
+    got.length = raw_length(r, data.length);
+    verdict = p->run(r->mode, r->direction, r->key.bytes, r->iv, r->label, data, (uint8_t *)got.bytes);
     if (verdict == CANNOT && r->mode == GCM && side == PEERS + 1) {
         return; /* OpenSSL 3.0 has no SM4 in Gcm */
     }
@@ -235,6 +281,9 @@ int main(void)
     start_peers();
     for (uint32_t i = 0; i < count; i++) {
         read_record(&r);
+        if (has_twelve(&r)) {
+            ask_gcrypt(&r);
+        }
         compare_archive(&r, i);
         for (int p = 0; p < 2; p++) {
             compare_peer(PEERS + p, &peers[p], &r);
@@ -245,6 +294,8 @@ int main(void)
         printf("  %s %s: %lu compared %lu differ\n", peers[p].name, peers[p].version(), tally[PEERS + p].compared,
             tally[PEERS + p].differ);
     }
+    printf("  12-byte IVs, the archive against libgcrypt: %lu of those, %lu sealed %lu opened %lu refused\n",
+        twelve.sealed + twelve.opened + twelve.refused, twelve.sealed, twelve.opened, twelve.refused);
     for (int side = 0; side < SIDES; side++) {
         differ += tally[side].differ;
     }

@@ -143,6 +143,12 @@ static size_t room_needed(const struct trial *t)
     return n;
 }
 
+/* Whether a mode takes an IV of so many bytes. */
+static int takes_iv(uint32_t mode, size_t n)
+{
+    return n == 16 || (mode == GCM && n == 12);
+}
+
 /* The first of the header's order that applies. */
 static uint32_t number_for(const struct trial *t)
 {
@@ -158,7 +164,7 @@ static uint32_t number_for(const struct trial *t)
     if (t->mode == BLOCK && t->data != 16) {
         return 11;
     }
-    if (t->mode != BLOCK && t->iv != 16) {
+    if (t->mode != BLOCK && !takes_iv(t->mode, t->iv)) {
         return 10;
     }
     if (t->data > most || (t->mode == GCM && t->label > LIMIT)) {
@@ -273,7 +279,7 @@ static struct buffer message(const struct trial *t, struct buffer key, struct bu
 {
     struct buffer data = lend(t->data, 0);
     fill(data);
-    if (t->direction == ENCRYPT || t->key != 16 || t->iv != 16 || t->data < 16 || t->data > LIMIT + 16) {
+    if (t->direction == ENCRYPT || t->key != 16 || !takes_iv(t->mode, t->iv) || t->data < 16 || t->data > LIMIT + 16) {
         return data;
     }
     if (t->mode == CBC && t->data % 16 == 0) {
@@ -358,15 +364,29 @@ static void try_rooms(struct trial t)
     }
 }
 
+/* Messages under a key and an IV that the mode takes: good and spoiled, under labels, into every room. */
+static void messages(struct trial t)
+{
+    static const size_t labels[] = {0, 1, 15, 16, 17};
+    for (t.state = GOOD; t.state <= BAD; t.state++) {
+        for (int i = 0; i < 5; i++) {
+            t.label = labels[i];
+            for (t.data = 0; t.data <= 49; t.data++) {
+                try_rooms(t);
+            }
+        }
+    }
+}
+
 static void sizes(uint32_t mode, int direction)
 {
-    static const size_t sizes_16[] = {0, 1, 12, 15, 16, 17, 32};
-    static const size_t labels[] = {0, 1, 15, 16, 17};
+    static const size_t keys[] = {0, 1, 12, 15, 16, 17, 32};
+    static const size_t ivs[] = {0, 1, 11, 12, 13, 15, 16, 17, 32};
     struct trial t = {mode, direction, GOOD, 16, 16, 5, 33, 80};
     for (int i = 0; i < 7; i++) {
-        for (int j = 0; j < 7; j++) {
-            t.key = sizes_16[i];
-            t.iv = sizes_16[j];
+        for (int j = 0; j < 9; j++) {
+            t.key = keys[i];
+            t.iv = ivs[j];
             for (t.data = 0; t.data < 50; t.data += heap ? 16 : 1) {
                 for (t.room = 0; t.room <= 80; t.room += 40) {
                     try(t);
@@ -375,13 +395,10 @@ static void sizes(uint32_t mode, int direction)
         }
     }
     t.key = t.iv = 16;
-    for (t.state = GOOD; t.state <= BAD; t.state++) {
-        for (int i = 0; i < 5; i++) {
-            t.label = labels[i];
-            for (t.data = 0; t.data <= 49; t.data++) {
-                try_rooms(t);
-            }
-        }
+    messages(t);
+    if (mode == GCM) {
+        t.iv = 12;
+        messages(t);
     }
 }
 
@@ -443,13 +460,22 @@ static void limits(uint32_t mode, int direction)
     try(t);
     t.label = LIMIT + 1;
     try(t);
-    /* the label comes before data that is too short, and the IV before both */
+    /* the label comes before data that is too short, and the IV before both; Gcm takes one of 12 bytes */
     t.data = 3;
     t.room = 0;
     try(t);
     t.data = 0;
     try(t);
+    t.iv = 13;
+    try(t);
     t.iv = 12;
+    try(t);
+    t.label = LIMIT;
+    try(t);
+    t.data = most;
+    t.room = room_needed(&t);
+    try(t);
+    t.state = BAD;
     try(t);
 }
 

@@ -20,7 +20,7 @@ static int gcrypt_mode(int mode)
     return modes[mode];
 }
 
-static int gcrypt_start(gcry_cipher_hd_t h, int mode, const uint8_t *key, const uint8_t *iv)
+static int gcrypt_start(gcry_cipher_hd_t h, int mode, const uint8_t *key, struct field iv)
 {
     if (gcry_cipher_setkey(h, key, 16)) {
         return 0;
@@ -29,9 +29,9 @@ static int gcrypt_start(gcry_cipher_hd_t h, int mode, const uint8_t *key, const 
     case BLOCK:
         return 1;
     case CTR:
-        return !gcry_cipher_setctr(h, iv, 16);
+        return !gcry_cipher_setctr(h, iv.bytes, iv.length);
     default:
-        return !gcry_cipher_setiv(h, iv, 16);
+        return !gcry_cipher_setiv(h, iv.bytes, iv.length);
     }
 }
 
@@ -53,7 +53,7 @@ static enum verdict gcrypt_gcm(gcry_cipher_hd_t h, int direction, struct field l
     return gcry_err_code(error) == GPG_ERR_CHECKSUM ? BAD_TAG : error ? CANNOT : DONE;
 }
 
-static enum verdict gcrypt_run(int mode, int direction, const uint8_t *key, const uint8_t *iv,
+static enum verdict gcrypt_run(int mode, int direction, const uint8_t *key, struct field iv,
     struct field label, struct field data, uint8_t *out)
 {
     gcry_cipher_hd_t h;
@@ -99,7 +99,7 @@ static const EVP_CIPHER *openssl_mode(int mode)
     }
 }
 
-static enum verdict openssl_run(int mode, int direction, const uint8_t *key, const uint8_t *iv,
+static enum verdict openssl_run(int mode, int direction, const uint8_t *key, struct field iv,
     struct field label, struct field data, uint8_t *out)
 {
     const EVP_CIPHER *cipher = openssl_mode(mode);
@@ -109,7 +109,7 @@ static enum verdict openssl_run(int mode, int direction, const uint8_t *key, con
     if (cipher == NULL || (context = EVP_CIPHER_CTX_new()) == NULL) {
         return CANNOT;
     }
-    done = EVP_CipherInit_ex(context, cipher, NULL, key, iv, direction == ENCRYPT) == 1
+    done = EVP_CipherInit_ex(context, cipher, NULL, key, iv.bytes, direction == ENCRYPT) == 1
         && EVP_CIPHER_CTX_set_padding(context, 0) == 1
         && EVP_CipherUpdate(context, out, &first, data.bytes, (int)data.length) == 1
         && EVP_CipherFinal_ex(context, out + first, &last) == 1

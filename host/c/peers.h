@@ -10,8 +10,9 @@ enum verdict { DONE, BAD_TAG, CANNOT };
 struct peer {
     const char *name;
     const char *(*version)(void);
-    /* Encrypts or decrypts data into out, which has room for 16 bytes more than data. */
-    enum verdict (*run)(int mode, int direction, const uint8_t *key, const uint8_t *iv,
+    /* Encrypts or decrypts data into out, which has room for 16 bytes more than data. The key has 16 bytes; so
+     * has the IV, or 12 in Gcm. */
+    enum verdict (*run)(int mode, int direction, const uint8_t *key, struct field iv,
         struct field label, struct field data, uint8_t *out);
 };
 

@@ -1,6 +1,6 @@
-/* The archive called from C: the answer's layout, every mode there and back, each refusal, what comes first
- * where two things are wrong, and no byte written that is not part of a result. Prints what is wrong, and
- * how much was checked; exit status 1 if anything is.
+/* The archive called from C: the answer's layout, every mode there and back, Gcm under both lengths of IV,
+ * each refusal, what comes first where two things are wrong, and no byte written that is not part of a
+ * result. Prints what is wrong, and how much was checked; exit status 1 if anything is.
  */
 #include "luossavin.h"
 
@@ -67,14 +67,28 @@ static int untouched(const struct lent *l, size_t length)
     return 1;
 }
 
+/* Calls under the first iv_len bytes of the IV, and under 16 of them. */
+
+static struct luossavin_answer encrypt_under(size_t iv_len, uint32_t mode, const uint8_t *data, size_t n,
+    uint8_t *out, size_t room)
+{
+    return luossavin_encrypt(mode, key, 16, label, sizeof label, data, n, iv, iv_len, out, room);
+}
+
+static struct luossavin_answer decrypt_under(size_t iv_len, uint32_t mode, const uint8_t *data, size_t n,
+    uint8_t *out, size_t room)
+{
+    return luossavin_decrypt(mode, key, 16, label, sizeof label, data, n, iv, iv_len, out, room);
+}
+
 static struct luossavin_answer encrypt(uint32_t mode, const uint8_t *data, size_t n, uint8_t *out, size_t room)
 {
-    return luossavin_encrypt(mode, key, 16, label, sizeof label, data, n, iv, 16, out, room);
+    return encrypt_under(16, mode, data, n, out, room);
 }
 
 static struct luossavin_answer decrypt(uint32_t mode, const uint8_t *data, size_t n, uint8_t *out, size_t room)
 {
-    return luossavin_decrypt(mode, key, 16, label, sizeof label, data, n, iv, 16, out, room);
+    return decrypt_under(16, mode, data, n, out, room);
 }
 
 static size_t sealed_length(uint32_t mode, size_t n)
@@ -82,7 +96,7 @@ static size_t sealed_length(uint32_t mode, size_t n)
     return mode == 3 ? n / 16 * 16 + 16 : mode == 4 ? n + 16 : n;
 }
 
-static void there_and_back(uint32_t mode, size_t n)
+static void there_and_back(size_t iv_len, uint32_t mode, size_t n)
 {
     uint8_t text[40];
     struct lent sealed, opened;
@@ -90,11 +104,11 @@ static void there_and_back(uint32_t mode, size_t n)
     for (size_t i = 0; i < n; i++) {
         text[i] = (uint8_t)(37 * i + n);
     }
-    struct luossavin_answer a = encrypt(mode, n ? text : NULL, n, there, ROOM);
+    struct luossavin_answer a = encrypt_under(iv_len, mode, n ? text : NULL, n, there, ROOM);
     check(done(a, sealed_length(mode, n)), "encryption is done", modes[mode], n);
     check(untouched(&sealed, a.length), "encryption keeps to its length", modes[mode], n);
     check(n < 16 || memcmp(there, text, n) != 0, "encryption changes the text", modes[mode], n);
-    a = decrypt(mode, there, a.length, back, ROOM);
+    a = decrypt_under(iv_len, mode, there, a.length, back, ROOM);
     check(done(a, n), "decryption is done", modes[mode], n);
     check(untouched(&opened, a.length), "decryption keeps to its length", modes[mode], n);
     check(memcmp(back, text, n) == 0, "the text comes back", modes[mode], n);
@@ -123,6 +137,87 @@ static void refused(struct luossavin_answer a, const struct lent *l, uint32_t nu
     check(a.missing == 0, what, "its missing count", a.missing);
     check(a.length == 0, what, "its length", a.length);
     check(untouched(l, 0), what, "its output", 0);
+}
+
+/* Refusal 10 of a message that is in order but for its IV, both ways. */
+static void wrong_iv(uint32_t mode, size_t iv_len)
+{
+    uint8_t text[32] = {0};
+    char what[40];
+    struct lent l;
+    uint8_t *out = lend(&l);
+    snprintf(what, sizeof what, "%s under an IV of %zu bytes", modes[mode], iv_len);
+    refused(encrypt_under(iv_len, mode, text, 32, out, ROOM), &l, 10, what);
+    refused(decrypt_under(iv_len, mode, text, 32, out, ROOM), &l, 10, what);
+}
+
+/* The lengths of IV that are refused: 12 bytes outside Gcm, and in every mode all but 12 and 16. */
+static void wrong_ivs(void)
+{
+    static const size_t lengths[] = {0, 1, 11, 13, 15, 17};
+    for (uint32_t mode = 0; mode <= 4; mode++) {
+        for (size_t i = 0; i < sizeof lengths / sizeof *lengths; i++) {
+            wrong_iv(mode, lengths[i]);
+        }
+        if (mode != 4) {
+            wrong_iv(mode, 12);
+        }
+    }
+}
+
+/* RFC 8998, appendix A.1: Gcm under a 12-byte IV. */
+static const uint8_t rfc_key[16] = {0x01, 0x23, 0x45, 0x67, 0x89, 0xab, 0xcd, 0xef, 0xfe, 0xdc, 0xba, 0x98, 0x76,
+    0x54, 0x32, 0x10};
+static const uint8_t rfc_iv[12] = {0x00, 0x00, 0x12, 0x34, 0x56, 0x78, 0x00, 0x00, 0x00, 0x00, 0xab, 0xcd};
+static const uint8_t rfc_label[20] = {0xfe, 0xed, 0xfa, 0xce, 0xde, 0xad, 0xbe, 0xef, 0xfe, 0xed, 0xfa, 0xce, 0xde,
+    0xad, 0xbe, 0xef, 0xab, 0xad, 0xda, 0xd2};
+static const uint8_t rfc_text[64] = {0xaa, 0xaa, 0xaa, 0xaa, 0xaa, 0xaa, 0xaa, 0xaa, 0xbb, 0xbb, 0xbb, 0xbb, 0xbb,
+    0xbb, 0xbb, 0xbb, 0xcc, 0xcc, 0xcc, 0xcc, 0xcc, 0xcc, 0xcc, 0xcc, 0xdd, 0xdd, 0xdd, 0xdd, 0xdd, 0xdd, 0xdd, 0xdd,
+    0xee, 0xee, 0xee, 0xee, 0xee, 0xee, 0xee, 0xee, 0xff, 0xff, 0xff, 0xff, 0xff, 0xff, 0xff, 0xff, 0xee, 0xee, 0xee,
+    0xee, 0xee, 0xee, 0xee, 0xee, 0xaa, 0xaa, 0xaa, 0xaa, 0xaa, 0xaa, 0xaa, 0xaa};
+static const uint8_t rfc_sealed[80] = {0x17, 0xf3, 0x99, 0xf0, 0x8c, 0x67, 0xd5, 0xee, 0x19, 0xd0, 0xdc, 0x99, 0x69,
+    0xc4, 0xbb, 0x7d, 0x5f, 0xd4, 0x6f, 0xd3, 0x75, 0x64, 0x89, 0x06, 0x91, 0x57, 0xb2, 0x82, 0xbb, 0x20, 0x07, 0x35,
+    0xd8, 0x27, 0x10, 0xca, 0x5c, 0x22, 0xf0, 0xcc, 0xfa, 0x7c, 0xbf, 0x93, 0xd4, 0x96, 0xac, 0x15, 0xa5, 0x68, 0x34,
+    0xcb, 0xcf, 0x98, 0xc3, 0x97, 0xb4, 0x02, 0x4a, 0x26, 0x91, 0x23, 0x3b, 0x8d, 0x83, 0xde, 0x35, 0x41, 0xe4, 0xc2,
+    0xb5, 0x81, 0x77, 0xe0, 0x65, 0xa9, 0xbf, 0x7b, 0x62, 0xec};
+
+static struct luossavin_answer rfc_decrypt(const uint8_t *aad, size_t aad_len, const uint8_t *nonce, size_t nonce_len,
+    uint8_t *out)
+{
+    return luossavin_decrypt(4, rfc_key, 16, aad, aad_len, rfc_sealed, sizeof rfc_sealed, nonce, nonce_len, out, ROOM);
+}
+
+static void rfc_8998(void)
+{
+    struct lent one, two;
+    uint8_t *there = lend(&one), *back = lend(&two);
+    struct luossavin_answer a = luossavin_encrypt(4, rfc_key, 16, rfc_label, sizeof rfc_label, rfc_text,
+        sizeof rfc_text, rfc_iv, 12, there, ROOM);
+    check(done(a, 80) && untouched(&one, 80), "it is sealed", "RFC 8998", 80);
+    check(memcmp(there, rfc_sealed, 80) == 0, "ciphertext and tag", "RFC 8998", 80);
+    a = rfc_decrypt(rfc_label, sizeof rfc_label, rfc_iv, 12, back);
+    check(done(a, 64) && untouched(&two, 64), "it is opened", "RFC 8998", 64);
+    check(memcmp(back, rfc_text, 64) == 0, "the text", "RFC 8998", 64);
+}
+
+/* The same message under another label, and under other IVs: one that differs in a bit, and the 16-byte one
+ * that extends its own with 00000001. That the last is refused is so for this key and IV; of others nothing
+ * is claimed between the two lengths. */
+static void rfc_8998_otherwise(void)
+{
+    uint8_t other_label[20], other_iv[12], extended[16] = {0};
+    struct lent l;
+    uint8_t *out = lend(&l);
+    memcpy(other_label, rfc_label, 20);
+    other_label[19] ^= 1;
+    memcpy(other_iv, rfc_iv, 12);
+    other_iv[11] ^= 1;
+    memcpy(extended, rfc_iv, 12);
+    extended[15] = 1;
+    refused(rfc_decrypt(other_label, 20, rfc_iv, 12, out), &l, 4, "RFC 8998, another label");
+    refused(rfc_decrypt(rfc_label, 19, rfc_iv, 12, out), &l, 4, "RFC 8998, a shorter label");
+    refused(rfc_decrypt(rfc_label, 20, other_iv, 12, out), &l, 4, "RFC 8998, another IV");
+    refused(rfc_decrypt(rfc_label, 20, extended, 16, out), &l, 4, "RFC 8998, the IV with 00000001 after it");
 }
 
 /* Refusal 9 of n bytes, which are 16 - n too few for a tag. */
@@ -159,9 +254,9 @@ static void refusals(void)
     refused(decrypt(3, NULL, 0, out, ROOM), &l, 8, "Cbc of nothing");
     for (size_t n = 0; n < 16; n++) {
         cut_short(decrypt(4, n ? text : NULL, n, out, ROOM), &l, n);
+        cut_short(decrypt_under(12, 4, n ? text : NULL, n, out, ROOM), &l, n);
     }
-    refused(luossavin_decrypt(4, key, 16, NULL, 0, text, 32, iv, 17, out, ROOM), &l, 10, "a long IV");
-    refused(luossavin_encrypt(0, key, 16, NULL, 0, text, 32, iv, 12, out, ROOM), &l, 10, "an IV of 12 bytes");
+    wrong_ivs();
     refused(luossavin_block_encrypt(key, 16, text, 15, out, ROOM), &l, 11, "a short block");
     refused(luossavin_block_decrypt(key, 16, text, 17, out, ROOM), &l, 11, "a long block");
 }
@@ -174,12 +269,13 @@ static void order(void)
     uint8_t *out = lend(&l);
     refused(luossavin_block_encrypt(key, 15, text, 15, out, 0), &l, 1, "key before block, one block");
     refused(luossavin_block_decrypt(key, 16, text, 15, out, 0), &l, 11, "block before room");
-    refused(luossavin_decrypt(5, key, 15, NULL, 0, text, 3, iv, 12, out, 0), &l, 7, "mode before key");
-    refused(luossavin_decrypt(4, key, 15, NULL, 0, text, 3, iv, 12, out, 0), &l, 1, "key before IV");
-    refused(luossavin_decrypt(4, key, 16, NULL, 0, text, 3, iv, 12, out, ROOM), &l, 10, "IV before short Gcm");
+    refused(luossavin_decrypt(5, key, 15, NULL, 0, text, 3, iv, 13, out, 0), &l, 7, "mode before key");
+    refused(luossavin_decrypt(4, key, 15, NULL, 0, text, 3, iv, 13, out, 0), &l, 1, "key before IV");
+    refused(luossavin_decrypt(4, key, 16, NULL, 0, text, 3, iv, 13, out, ROOM), &l, 10, "IV before short Gcm");
     refused(luossavin_decrypt(3, key, 16, NULL, 0, NULL, 0, iv, 12, out, ROOM), &l, 10, "IV before empty Cbc");
-    refused(luossavin_decrypt(4, key, 16, too_long, sizeof too_long, text, 3, iv, 12, out, 0), &l, 10, "IV before label");
+    refused(luossavin_decrypt(4, key, 16, too_long, sizeof too_long, text, 3, iv, 13, out, 0), &l, 10, "IV before label");
     refused(luossavin_decrypt(4, key, 16, too_long, sizeof too_long, text, 3, iv, 16, out, ROOM), &l, 5, "label before short Gcm");
+    refused(luossavin_decrypt(4, key, 16, too_long, sizeof too_long, text, 3, iv, 12, out, 0), &l, 5, "label, under 12 bytes");
     refused(luossavin_decrypt(4, key, 16, too_long, sizeof too_long, NULL, 0, iv, 16, out, 0), &l, 5, "label before no Gcm");
     cut_short(decrypt(4, text, 15, out, 0), &l, 15);
     refused(decrypt(3, text, 17, out, 0), &l, 2, "Cbc's length before room");
@@ -191,9 +287,14 @@ int main(void)
     layout();
     for (uint32_t mode = 0; mode <= 4; mode++) {
         for (size_t n = 0; n <= 40; n++) {
-            there_and_back(mode, n);
+            there_and_back(16, mode, n);
         }
     }
+    for (size_t n = 0; n <= 40; n++) {
+        there_and_back(12, 4, n);
+    }
+    rfc_8998();
+    rfc_8998_otherwise();
     single_block();
     refusals();
     order();

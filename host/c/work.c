@@ -36,8 +36,8 @@ static const struct peer *named(const char *who)
 
 static int peer(const char *who, int mode, int direction, struct field data, uint8_t *out)
 {
-    const struct field no_label = {NULL, 0};
-    return named(who)->run(mode, direction, key, iv, no_label, data, out) == DONE;
+    const struct field the_iv = {iv, sizeof iv}, no_label = {NULL, 0};
+    return named(who)->run(mode, direction, key, the_iv, no_label, data, out) == DONE;
 }
 
 int main(int argc, char **argv)

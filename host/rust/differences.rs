@@ -2,7 +2,7 @@
 //! both sides still do what is said there.
 
 use crate::record::{write_head, write_record};
-use crate::record::{Call, Direction, Mode, Name};
+use crate::record::{Call, Direction, Mode, Name, DIRECTIONS};
 use crate::sealing::{cbc_unpadded, there_or_back};
 use std::io::{Result, Write};
 
@@ -12,6 +12,7 @@ const TOO_LONG: u8 = 22;
 const INNER_PADDING_BYTE: u8 = 23;
 const TWELVE_BYTE_IV: u8 = 24;
 const CFB_TAIL: u8 = 25;
+const ONE_BYTE_IV: u8 = 26;
 
 const LIMIT: usize = 16_777_216;
 
@@ -33,9 +34,16 @@ pub fn write_differences(out: &mut impl Write) -> Result<()> {
             Name::Panicked,
         ),
         (INNER_PADDING_BYTE, inner_padding_byte(), Name::Ok),
-        (TWELVE_BYTE_IV, twelve_byte_iv(), Name::ErrorBlockSize),
         (CFB_TAIL, plain(Direction::Encrypt, Mode::Cfb, 1), Name::Ok),
     ];
+    for direction in DIRECTIONS {
+        calls.push((
+            TWELVE_BYTE_IV,
+            twelve_byte_iv(direction),
+            Name::ErrorBlockSize,
+        ));
+    }
+    calls.push((ONE_BYTE_IV, one_byte_iv(), Name::ErrorBlockSize));
     for mode in [Mode::Cfb, Mode::Ofb, Mode::Ctr, Mode::Cbc, Mode::Gcm] {
         calls.push((
             TOO_LONG,
@@ -99,9 +107,21 @@ fn inner_padding_byte() -> Call {
     call
 }
 
-fn twelve_byte_iv() -> Call {
+/// Sealing nothing, or opening what nothing seals to.
+fn twelve_byte_iv(direction: Direction) -> Call {
+    there_or_back(
+        direction,
+        Mode::Gcm,
+        vec![0; 16],
+        vec![0; 12],
+        vec![],
+        vec![],
+    )
+}
+
+fn one_byte_iv() -> Call {
     Call {
-        iv: vec![0; 12],
+        iv: vec![0; 1],
         ..plain(Direction::Encrypt, Mode::Gcm, 0)
     }
 }

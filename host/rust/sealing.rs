@@ -6,7 +6,8 @@ use crate::random::Random;
 use crate::record::{Call, Direction, Mode};
 use libsm::sm4::cipher::Sm4Cipher;
 
-/// A call on `text`: it is encrypted, or what it encrypts to is decrypted.
+/// A call on `text`: it is encrypted, or what it encrypts to is decrypted. What a 12-byte IV encrypts
+/// to libsm does not say, and says of the 16-byte IV with the same J0.
 pub fn there_or_back(
     direction: Direction,
     mode: Mode,
@@ -24,10 +25,25 @@ pub fn there_or_back(
         data: text,
     };
     if direction == Direction::Decrypt {
-        call.data = call.output();
+        call.data = if call.iv.len() == 12 {
+            sealed_under_twelve(&call)
+        } else {
+            call.output()
+        };
         call.direction = Direction::Decrypt;
     }
     call
+}
+
+/// What a Gcm call seals under a 12-byte IV, whose J0 is the IV and then 00000001.
+fn sealed_under_twelve(call: &Call) -> Vec<u8> {
+    let before = u32::MAX - 1;
+    let same_j0 = Call {
+        iv: gcm_iv(&call.key, &call.iv, before),
+        ..call.clone()
+    };
+    check_gcm_counters(&same_j0, &call.iv, before);
+    same_j0.output()
 }
 
 /// Cbc of whole blocks without a padding block, so that `text` itself stands where padding would.

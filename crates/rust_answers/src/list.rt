@@ -50,7 +50,7 @@ pub fn write_part(part: usize) {
         8 => said(b"Cbc lengths"),
         9 => said(b"single blocks"),
         10 => said(b"wrong sizes"),
-        11 => said(b"twelve-byte IVs"),
+        11 => said(b"twelve-byte IVs, refused by libsm and taken here"),
         _ => said(b"unknown part"),
     }
 }

@@ -1,7 +1,8 @@
 // Replays libsm's recorded answers, read from the file that its argument names, and says how many
 // agree. A record agrees where number, length and every byte of the output are as recorded, the
-// missing count goes with them, and every byte past the length is as it was lent. README.md beside
-// this crate's folders has the form of the file and what its parts are.
+// missing count goes with them, and every byte past the length is as it was lent; and, of a 12-byte
+// IV in Gcm, which libsm refuses and ours takes, where ours does just that. README.md beside this
+// crate's folders has the form of the file and what its parts are.
 mod list;
 
 use libc::STDOUT_FILENO;
@@ -30,7 +31,8 @@ pub enum Next {
 // The numbers that a name of libsm's may stand for. The names: 0 Ok, 1 ErrorBlockSize, which is the
 // key, the IV or the block, 2 ErrorDataLen, 3 InvalidLastU8, 4 InvalidTag, 5 a panic, which is Cbc
 // decryption of nothing or Gcm decryption of too little. A request that gives a refusal another
-// number, or that decides otherwise than libsm in some part, changes this and not the list.
+// number changes this and not the list; one that decides otherwise than libsm has a function of its
+// own, which says of which records.
 fn may_stand_for(name: u8, number: u32) -> bool {
     match name {
         0 => number == 0,
@@ -50,6 +52,11 @@ fn counts_missing(number: u32, missing: u8, data: &[u8]) -> bool {
         return data.len() + list::wide(missing) == 16;
     }
     missing == 0
+}
+
+// Whether libsm refused a call for its 12-byte IV in Gcm, and for nothing else: ours takes that IV.
+fn refused_for_twelve(mode: u8, name: u8, key: &[u8], iv: &[u8]) -> bool {
+    mode == 4 && name == 1 && key.len() == 16 && iv.len() == 12
 }
 
 // Makes the call of a record: mode 5 is a single block, direction 0 is encryption.
@@ -95,6 +102,35 @@ fn holds(out: &[u8], expected: &[u8]) -> bool {
     check::same(&out[0..n], expected) && untouched(out, n)
 }
 
+// Whether sealed bytes open to the text, and nothing past it is written.
+fn opens(key: &[u8], iv: &[u8], label: &[u8], sealed: &[u8], text: &[u8]) -> bool {
+    let mut out = [LENT; 8192];
+    let answer = called(1, 4, key, iv, label, sealed, &mut out);
+    answer.number == 0 && answer.length == text.len() && holds(&out, text)
+}
+
+// Whether a call that libsm refused for its 12-byte IV is taken. Libsm has no bytes to compare: what
+// is sealed is held to the text that it was sealed from. What is to be opened was sealed by nobody in
+// this list, and its tag is refused.
+fn takes_twelve(direction: u8, key: &[u8], iv: &[u8], label: &[u8], data: &[u8]) -> bool {
+    let mut out = [LENT; 8192];
+    let answer = called(direction, 4, key, iv, label, data, &mut out);
+    if answer.missing != 0 {
+        return false;
+    }
+    if direction != 0 {
+        return answer.number == 4 && answer.length == 0 && untouched(&out, 0);
+    }
+    let n = answer.length;
+    if out.len() < n {
+        return false;
+    }
+    if answer.number != 0 || n != data.len() + 16 {
+        return false;
+    }
+    untouched(&out, n) && opens(key, iv, label, &out[0..n], data)
+}
+
 // Whether a call answers as recorded.
 fn agrees(
     direction: u8,
@@ -106,6 +142,9 @@ fn agrees(
     data: &[u8],
     expected: &[u8],
 ) -> bool {
+    if refused_for_twelve(mode, name, key, iv) {
+        return takes_twelve(direction, key, iv, label, data);
+    }
     let mut out = [LENT; 8192];
     let answer = called(direction, mode, key, iv, label, data, &mut out);
     if !may_stand_for(name, answer.number) {
