@@ -15,16 +15,19 @@
  *   6  NoRoom          the output buffer is shorter than the room needed
  *   7  BadMode         the mode is above 4
  *   8  EmptyCbc        Cbc decryption of 0 bytes
- *   9  ShortGcm        Gcm decryption of fewer than 16 bytes
+ *   9  ShortGcm        Gcm decryption of fewer than 16 bytes; in pieces, a tag that has not 16
  *  10  WrongIv         the IV is not 16 bytes; in Gcm, neither 12 nor 16
  *  11  WrongBlock      the single block is not 16 bytes
+ *  12  Ended           the message in pieces has come to its end
  *
  * Where several apply, the first of the call's order is the answer: of a single block 1, 11, 6; of a
- * message 7, 1, 10, 5, then in Cbc 8, 2 or in Gcm 9, then 6, 3, 4. Every number but 0 is a refusal: it
- * reports length 0 and changes no byte of the output buffer.
+ * message 7, 1, 10, 5, then in Cbc 8, 2 or in Gcm 9, then 6, 3, 4; of a message in pieces 1, 10, 5 at the
+ * start, and from there on what the start was refused with, then 12, 5, 9, 6, 4. Every number but 0 is a
+ * refusal: it reports length 0 and changes no byte of the output buffer.
  *
- * In refusal 9 `missing` is how many bytes were missing: 16 - n for n bytes of data, so 16 where there was
- * no data and 1 where there were 15 bytes. In every other answer, done or refused, it is 0.
+ * In refusal 9 `missing` is how many bytes were missing: 16 - n for n bytes of data, or for a tag of n bytes,
+ * so 16 where there was none and 1 where there were 15 bytes; 0 for a tag of more than 16. In every other
+ * answer, done or refused, it is 0.
  *
  * When a call is done, the first `length` bytes of the output buffer are the result, and every byte
  * after them is as it was. For n bytes of data:
@@ -51,6 +54,8 @@
  *
  * The output holds no IV: a message is decrypted under the bytes that it was encrypted under, and as many.
  * Nothing is claimed between a 12-byte IV and the 16-byte IV that extends it with 00000001.
+ *
+ * A message may also come in pieces, in Ctr and Gcm: what holds for these is said where they are declared.
  *
  * What no proof can see stays the host's duty, and a call that breaks it has no defined outcome:
  *
@@ -105,6 +110,182 @@ struct luossavin_answer luossavin_encrypt(uint32_t mode, const uint8_t *key, siz
 struct luossavin_answer luossavin_decrypt(uint32_t mode, const uint8_t *key, size_t key_len,
     const uint8_t *aad, size_t aad_len, const uint8_t *data, size_t data_len,
     const uint8_t *iv, size_t iv_len, uint8_t *out, size_t room);
+
+/* Messages in pieces.
+ *
+ * A text that is still being written goes in as it comes, cut anywhere, also with nothing in a piece. There
+ * are three kinds: Ctr, either way; Gcm sealing; and Gcm opening, which answers whether a message opens and
+ * writes no text. Each has a start, pieces and an end. Whatever the cuts, the outputs of the pieces joined,
+ * and sealing's tag behind them, are what the single call makes of the joined pieces; and opening answers 0
+ * exactly when luossavin_decrypt, given room, opens the joined pieces with the tag behind them, and else 4.
+ *
+ * Each call takes a state by value and gives an answer beside the next state. A loop over pieces:
+ *
+ *     struct luossavin_seal_step start = luossavin_seal_start(key, 16, label, label_len, iv, iv_len);
+ *     struct luossavin_answer a = start.answer;
+ *     while (a.number == 0 && (n = next_lines(text, sizeof text)) != 0) {
+ *         a = luossavin_seal_add(&start.state, text, n, out, sizeof out);
+ *         send(out, a.length);
+ *     }
+ *     if (a.number == 0) {
+ *         a = luossavin_seal_finish(&start.state, out, sizeof out);
+ *         send(out, a.length);
+ *     }
+ *
+ * A refusal sends nothing here, since its length is 0. luossavin_seal_add, and the others in _add and _finish,
+ * make the call and put the next state in the place of the one before. For a piece of n bytes:
+ *
+ *                             room needed   length when done
+ *   any start                 none          0
+ *   a piece, Ctr or sealing   n             n
+ *   a piece, opening          none          0
+ *   Ctr's end                 none          0
+ *   sealing's end             16            16: the tag
+ *   opening's end             none          0
+ *
+ * The pieces of a message have at most 16,777,216 bytes together. The piece that would pass this is refused
+ * with 5, so that an empty one is done where they have just as many.
+ *
+ * Only an end that answers 0, or 4 in opening, brings a message to its end, and all calls after it answer 12.
+ * Every other refusal gives back the state as it was, and the message may go on: a piece that found no room
+ * may come again with more, and so may an end that was refused for its room or for its tag's length. A start
+ * that is refused gives no state but a record of the refusal, and every call on that answers the same number.
+ *
+ * What is in a state is the library's own, and another release may have it otherwise: a host copies a state
+ * and hands it on, and neither looks into it nor keeps it in a file. Whatever a host may put into one, every
+ * call has an answer, in the order above, and touches nothing that was not lent; a count over its limit there
+ * is refusal 5. The host is to see to this:
+ *
+ *   - an older copy of a state still works, as the state that it was. Two texts that go through copies of one
+ *     state, of Ctr or of sealing, use one key stream twice, as two messages under one key and IV do: who has
+ *     both outputs learns how the texts differ, and from two tags may come to forge others. A copy may go on
+ *     with the same text only;
+ *   - a state is as secret as the key: those of Ctr and sealing encrypt and decrypt, and that of opening makes
+ *     tags. After an end that answered 0 or 4 it holds nothing more. Until then, and where no end comes, it is
+ *     the host's to overwrite, and so are copies of it, those on the stack of the caller among them;
+ *   - a piece of opening is done whatever it holds. No text may be shown, or acted on, before opening's end
+ *     has answered 0 for all of it.
+ */
+struct luossavin_flow {
+    uint8_t counter[16];
+    uint8_t pad[16];
+};
+struct luossavin_hashing {
+    uint8_t h[16];
+    uint8_t y[16];
+    uint8_t held[16];
+};
+struct luossavin_ctr {
+    uint32_t round_keys[32];
+    struct luossavin_flow flow;
+    size_t total;
+    uint32_t stands;
+};
+struct luossavin_seal {
+    uint32_t round_keys[32];
+    struct luossavin_flow flow;
+    struct luossavin_hashing hashing;
+    uint8_t mask[16];
+    size_t label;
+    size_t total;
+    uint32_t stands;
+};
+struct luossavin_opens {
+    struct luossavin_hashing hashing;
+    uint8_t mask[16];
+    size_t label;
+    size_t total;
+    uint32_t stands;
+};
+
+/* An answer beside the next state. */
+struct luossavin_ctr_step {
+    struct luossavin_answer answer;
+    struct luossavin_ctr state;
+};
+struct luossavin_seal_step {
+    struct luossavin_answer answer;
+    struct luossavin_seal state;
+};
+struct luossavin_opens_step {
+    struct luossavin_answer answer;
+    struct luossavin_opens state;
+};
+
+/* Ctr under a key and an IV of 16 bytes each; encryption and decryption are the same. The start answers 0, 1
+ * or 10, a piece 0, 5, 6 or 12, and the end, which writes nothing, 0 or 12. */
+struct luossavin_ctr_step luossavin_ctr_start(const uint8_t *key, size_t key_len,
+    const uint8_t *iv, size_t iv_len);
+struct luossavin_ctr_step luossavin_ctr_piece(struct luossavin_ctr state,
+    const uint8_t *data, size_t data_len, uint8_t *out, size_t room);
+struct luossavin_ctr_step luossavin_ctr_end(struct luossavin_ctr state);
+
+/* Gcm encryption under a key of 16 bytes, an IV of 12 or 16 and the whole label. The start answers 0, 1, 10,
+ * or 5 for the label, a piece 0, 5, 6 or 12, and the end, which writes the tag, 0, 6 or 12. */
+struct luossavin_seal_step luossavin_seal_start(const uint8_t *key, size_t key_len,
+    const uint8_t *aad, size_t aad_len, const uint8_t *iv, size_t iv_len);
+struct luossavin_seal_step luossavin_seal_piece(struct luossavin_seal state,
+    const uint8_t *data, size_t data_len, uint8_t *out, size_t room);
+struct luossavin_seal_step luossavin_seal_end(struct luossavin_seal state, uint8_t *out, size_t room);
+
+/* Whether a Gcm message opens, under the key, label and IV that it was sealed under. The pieces are those of
+ * the ciphertext; the tag of 16 bytes comes with the end. The start answers 0, 1, 10, or 5 for the label, a
+ * piece 0, 5 or 12, and the end 0 for yes, 4 for no, 9 or 12. */
+struct luossavin_opens_step luossavin_opens_start(const uint8_t *key, size_t key_len,
+    const uint8_t *aad, size_t aad_len, const uint8_t *iv, size_t iv_len);
+struct luossavin_opens_step luossavin_opens_piece(struct luossavin_opens state,
+    const uint8_t *data, size_t data_len);
+struct luossavin_opens_step luossavin_opens_end(struct luossavin_opens state,
+    const uint8_t *tag, size_t tag_len);
+
+/* Pieces and ends on a state that stays in its place: the one before cannot be gone on with by mistake. */
+
+static inline struct luossavin_answer luossavin_ctr_add(struct luossavin_ctr *state,
+    const uint8_t *data, size_t data_len, uint8_t *out, size_t room)
+{
+    struct luossavin_ctr_step step = luossavin_ctr_piece(*state, data, data_len, out, room);
+    *state = step.state;
+    return step.answer;
+}
+
+static inline struct luossavin_answer luossavin_ctr_finish(struct luossavin_ctr *state)
+{
+    struct luossavin_ctr_step step = luossavin_ctr_end(*state);
+    *state = step.state;
+    return step.answer;
+}
+
+static inline struct luossavin_answer luossavin_seal_add(struct luossavin_seal *state,
+    const uint8_t *data, size_t data_len, uint8_t *out, size_t room)
+{
+    struct luossavin_seal_step step = luossavin_seal_piece(*state, data, data_len, out, room);
+    *state = step.state;
+    return step.answer;
+}
+
+static inline struct luossavin_answer luossavin_seal_finish(struct luossavin_seal *state,
+    uint8_t *out, size_t room)
+{
+    struct luossavin_seal_step step = luossavin_seal_end(*state, out, room);
+    *state = step.state;
+    return step.answer;
+}
+
+static inline struct luossavin_answer luossavin_opens_add(struct luossavin_opens *state,
+    const uint8_t *data, size_t data_len)
+{
+    struct luossavin_opens_step step = luossavin_opens_piece(*state, data, data_len);
+    *state = step.state;
+    return step.answer;
+}
+
+static inline struct luossavin_answer luossavin_opens_finish(struct luossavin_opens *state,
+    const uint8_t *tag, size_t tag_len)
+{
+    struct luossavin_opens_step step = luossavin_opens_end(*state, tag, tag_len);
+    *state = step.state;
+    return step.answer;
+}
 
 #ifdef __cplusplus
 }

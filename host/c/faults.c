@@ -8,21 +8,19 @@
  * down again below (number_for, missing_for). Prints what is wrong, how many calls were made, and how many
  * of them for each number; exit status 1 if anything is wrong.
  */
-#define _DEFAULT_SOURCE
-
+#include "faults.h"
+#include "fenced.h"
 #include "luossavin.h"
 
 #include <signal.h>
 #include <stdio.h>
 #include <stdlib.h>
 #include <string.h>
-#include <sys/mman.h>
 #include <unistd.h>
 
 /* A mode that is passed on as it is; BLOCK stands for the single block, and is none of those. */
 enum { CFB, OFB, CTR, CBC, GCM, BLOCK = 1000 };
 enum { ENCRYPT, DECRYPT };
-enum { LENT = 0xa5, GUARD = 64, LIMIT = 16777216 };
 
 /* A message as it comes: good; or, of Cbc and Gcm decryption, with a last byte or a tag that is refused. */
 enum { GOOD, BAD };
@@ -33,7 +31,8 @@ struct trial {
     size_t key, iv, label, data, room;
 };
 
-static unsigned long calls, wrong, calls_for[12];
+unsigned long calls, wrong, calls_for[NUMBERS];
+void (*print_now)(const char *what);
 static struct trial now;
 
 static void print_trial(const char *what)
@@ -49,81 +48,9 @@ static void print_trial(const char *what)
 static void on_fault(int signal)
 {
     /* the program is lost, so what printf needs is not missed */
-    print_trial(signal == SIGSEGV ? "it touches memory that it was not lent" : "it faults");
+    print_now(signal == SIGSEGV ? "it touches memory that it was not lent" : "it faults");
     fflush(stdout);
     _exit(1);
-}
-
-/* Buffers. In fenced memory a buffer ends, or starts, at a page that must not be touched; the bytes on
- * its other side, in its own pages, are guard bytes. On the heap it has a block of just its length. */
-
-static int heap;
-static int fence_after = 1;
-
-struct buffer {
-    uint8_t *bytes;
-    size_t length;
-    uint8_t *pages;
-    size_t size;
-};
-
-static size_t page(void)
-{
-    return (size_t)sysconf(_SC_PAGESIZE);
-}
-
-static struct buffer lend(size_t length, uint8_t value)
-{
-    struct buffer b = {NULL, length, NULL, 0};
-    if (heap) {
-        b.bytes = malloc(length);
-        if (b.bytes == NULL && length != 0) {
-            fprintf(stderr, "no memory for a buffer\n");
-            exit(2);
-        }
-        memset(b.bytes, value, length);
-        return b;
-    }
-    b.size = (length + GUARD + page() - 1) / page() * page();
-    b.pages = mmap(NULL, b.size + 2 * page(), PROT_NONE, MAP_PRIVATE | MAP_ANONYMOUS, -1, 0);
-    if (b.pages == MAP_FAILED || mprotect(b.pages + page(), b.size, PROT_READ | PROT_WRITE) != 0) {
-        perror("faults");
-        exit(2);
-    }
-    memset(b.pages + page(), LENT, b.size);
-    b.bytes = b.pages + page() + (fence_after ? b.size - length : 0);
-    memset(b.bytes, value, length);
-    return b;
-}
-
-static void shut(struct buffer b)
-{
-    if (!heap && mprotect(b.pages + page(), b.size, PROT_READ) != 0) {
-        perror("faults");
-        exit(2);
-    }
-}
-
-static void give_back(struct buffer b)
-{
-    if (heap) {
-        free(b.bytes);
-    } else {
-        munmap(b.pages, b.size + 2 * page());
-    }
-}
-
-/* Whether all but the first `length` bytes of an output buffer, guard bytes included, are as they were. */
-static int untouched(struct buffer b, size_t length)
-{
-    const uint8_t *from = heap ? b.bytes : b.pages + page();
-    const uint8_t *to = heap ? b.bytes + b.length : b.pages + page() + b.size;
-    for (const uint8_t *p = from; p < to; p++) {
-        if ((p < b.bytes || p >= b.bytes + length) && *p != LENT) {
-            return 0;
-        }
-    }
-    return 1;
 }
 
 /* What the header says. */
@@ -206,29 +133,6 @@ static struct luossavin_answer call(const struct trial *t, const uint8_t *key, c
     }
     return (t->direction == ENCRYPT ? luossavin_encrypt : luossavin_decrypt)(
         t->mode, key, t->key, label, t->label, data, t->data, iv, t->iv, out, t->room);
-}
-
-/* The bytes that inputs are made of. */
-static uint8_t byte_of(size_t i)
-{
-    return (uint8_t)(i * 167 + i / 256 * 13 + 29);
-}
-
-static void fill(struct buffer b)
-{
-    for (size_t i = 0; i < b.length; i++) {
-        b.bytes[i] = byte_of(i);
-    }
-}
-
-static int holds_fill(struct buffer b)
-{
-    for (size_t i = 0; i < b.length; i++) {
-        if (b.bytes[i] != byte_of(i)) {
-            return 0;
-        }
-    }
-    return 1;
 }
 
 static void *memory(size_t count)
@@ -332,8 +236,7 @@ static void try(struct trial t)
     shut(iv);
     shut(label);
     shut(data);
-    a = call(&t, t.key ? key.bytes : NULL, t.iv ? iv.bytes : NULL, t.label ? label.bytes : NULL,
-        t.data ? data.bytes : NULL, t.room ? out.bytes : NULL);
+    a = call(&t, lent(key), lent(iv), lent(label), lent(data), lent(out));
     if (a.number != number) {
         print_trial("its number");
     } else if (a.missing != missing) {
@@ -481,6 +384,7 @@ static void limits(uint32_t mode, int direction)
 
 static void all(int with_limits)
 {
+    print_now = print_trial;
     for (uint32_t mode = CFB; mode <= GCM; mode++) {
         for (int direction = ENCRYPT; direction <= DECRYPT; direction++) {
             sizes(mode, direction);
@@ -491,6 +395,7 @@ static void all(int with_limits)
     }
     single_blocks();
     bad_modes();
+    pieces(with_limits);
 }
 
 int main(int argc, char **argv)
@@ -509,8 +414,8 @@ int main(int argc, char **argv)
     }
     printf("%lu calls, %lu wrong\n", calls, wrong);
     printf("by number:");
-    for (int number = 0; number < 12; number++) {
-        printf(" %d: %lu%s", number, calls_for[number], number == 11 ? "\n" : ",");
+    for (int number = 0; number < NUMBERS; number++) {
+        printf(" %d: %lu%s", number, calls_for[number], number == NUMBERS - 1 ? "\n" : ",");
     }
     return wrong != 0;
 }

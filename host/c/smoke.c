@@ -1,14 +1,13 @@
 /* The archive called from C: the answer's layout, every mode there and back, Gcm under both lengths of IV,
  * each refusal, what comes first where two things are wrong, and no byte written that is not part of a
- * result. Prints what is wrong, and how much was checked; exit status 1 if anything is.
+ * result; and the same of messages in pieces (smoke_pieces.c). Prints what is wrong, and how much was
+ * checked; exit status 1 if anything is.
  */
-#include "luossavin.h"
+#include "smoke.h"
 
 #include <stddef.h>
 #include <stdio.h>
 #include <string.h>
-
-enum { EDGE = 8, ROOM = 80, LENT = 0xa5 };
 
 static const char *const modes[] = {"Cfb", "Ofb", "Ctr", "Cbc", "Gcm"};
 static const uint8_t key[16] = {1, 2, 3, 4, 5, 6, 7, 8, 9, 10, 11, 12, 13, 14, 15, 16};
@@ -17,7 +16,7 @@ static const uint8_t label[6] = {0, 0, 0, 7, 0, 2};
 
 static unsigned checked, wrong;
 
-static void check(int holds, const char *what, const char *where, size_t n)
+void check(int holds, const char *what, const char *where, size_t n)
 {
     checked++;
     if (!holds) {
@@ -39,25 +38,18 @@ static void layout(void)
     check(length == 8, "where the length stands", "the answer", length);
 }
 
-/* Whether a call is done with that length: nothing is missing then. */
-static int done(struct luossavin_answer a, size_t length)
+int done(struct luossavin_answer a, size_t length)
 {
     return a.number == 0 && a.missing == 0 && a.length == length;
 }
 
-/* An output buffer with an edge on either side, all of it filled with one byte. */
-struct lent {
-    uint8_t bytes[EDGE + ROOM + EDGE];
-};
-
-static uint8_t *lend(struct lent *l)
+uint8_t *lend(struct lent *l)
 {
     memset(l->bytes, LENT, sizeof l->bytes);
     return l->bytes + EDGE;
 }
 
-/* Whether the buffer is as it was lent but for `length` bytes at its front. */
-static int untouched(const struct lent *l, size_t length)
+int untouched(const struct lent *l, size_t length)
 {
     for (size_t i = 0; i < sizeof l->bytes; i++) {
         if ((i < EDGE || i >= EDGE + length) && l->bytes[i] != LENT) {
@@ -130,8 +122,7 @@ static void single_block(void)
     check(memcmp(back, example, 16) == 0, "the block comes back", "block", 16);
 }
 
-/* A refusal with nothing missing. */
-static void refused(struct luossavin_answer a, const struct lent *l, uint32_t number, const char *what)
+void refused(struct luossavin_answer a, const struct lent *l, uint32_t number, const char *what)
 {
     check(a.number == number, what, "its number", a.number);
     check(a.missing == 0, what, "its missing count", a.missing);
@@ -165,17 +156,16 @@ static void wrong_ivs(void)
     }
 }
 
-/* RFC 8998, appendix A.1: Gcm under a 12-byte IV. */
-static const uint8_t rfc_key[16] = {0x01, 0x23, 0x45, 0x67, 0x89, 0xab, 0xcd, 0xef, 0xfe, 0xdc, 0xba, 0x98, 0x76,
+const uint8_t rfc_key[16] = {0x01, 0x23, 0x45, 0x67, 0x89, 0xab, 0xcd, 0xef, 0xfe, 0xdc, 0xba, 0x98, 0x76,
     0x54, 0x32, 0x10};
-static const uint8_t rfc_iv[12] = {0x00, 0x00, 0x12, 0x34, 0x56, 0x78, 0x00, 0x00, 0x00, 0x00, 0xab, 0xcd};
-static const uint8_t rfc_label[20] = {0xfe, 0xed, 0xfa, 0xce, 0xde, 0xad, 0xbe, 0xef, 0xfe, 0xed, 0xfa, 0xce, 0xde,
+const uint8_t rfc_iv[12] = {0x00, 0x00, 0x12, 0x34, 0x56, 0x78, 0x00, 0x00, 0x00, 0x00, 0xab, 0xcd};
+const uint8_t rfc_label[20] = {0xfe, 0xed, 0xfa, 0xce, 0xde, 0xad, 0xbe, 0xef, 0xfe, 0xed, 0xfa, 0xce, 0xde,
     0xad, 0xbe, 0xef, 0xab, 0xad, 0xda, 0xd2};
-static const uint8_t rfc_text[64] = {0xaa, 0xaa, 0xaa, 0xaa, 0xaa, 0xaa, 0xaa, 0xaa, 0xbb, 0xbb, 0xbb, 0xbb, 0xbb,
+const uint8_t rfc_text[64] = {0xaa, 0xaa, 0xaa, 0xaa, 0xaa, 0xaa, 0xaa, 0xaa, 0xbb, 0xbb, 0xbb, 0xbb, 0xbb,
     0xbb, 0xbb, 0xbb, 0xcc, 0xcc, 0xcc, 0xcc, 0xcc, 0xcc, 0xcc, 0xcc, 0xdd, 0xdd, 0xdd, 0xdd, 0xdd, 0xdd, 0xdd, 0xdd,
     0xee, 0xee, 0xee, 0xee, 0xee, 0xee, 0xee, 0xee, 0xff, 0xff, 0xff, 0xff, 0xff, 0xff, 0xff, 0xff, 0xee, 0xee, 0xee,
     0xee, 0xee, 0xee, 0xee, 0xee, 0xaa, 0xaa, 0xaa, 0xaa, 0xaa, 0xaa, 0xaa, 0xaa};
-static const uint8_t rfc_sealed[80] = {0x17, 0xf3, 0x99, 0xf0, 0x8c, 0x67, 0xd5, 0xee, 0x19, 0xd0, 0xdc, 0x99, 0x69,
+const uint8_t rfc_sealed[80] = {0x17, 0xf3, 0x99, 0xf0, 0x8c, 0x67, 0xd5, 0xee, 0x19, 0xd0, 0xdc, 0x99, 0x69,
     0xc4, 0xbb, 0x7d, 0x5f, 0xd4, 0x6f, 0xd3, 0x75, 0x64, 0x89, 0x06, 0x91, 0x57, 0xb2, 0x82, 0xbb, 0x20, 0x07, 0x35,
     0xd8, 0x27, 0x10, 0xca, 0x5c, 0x22, 0xf0, 0xcc, 0xfa, 0x7c, 0xbf, 0x93, 0xd4, 0x96, 0xac, 0x15, 0xa5, 0x68, 0x34,
     0xcb, 0xcf, 0x98, 0xc3, 0x97, 0xb4, 0x02, 0x4a, 0x26, 0x91, 0x23, 0x3b, 0x8d, 0x83, 0xde, 0x35, 0x41, 0xe4, 0xc2,
@@ -229,7 +219,7 @@ static void cut_short(struct luossavin_answer a, const struct lent *l, size_t n)
     check(untouched(l, 0), "Gcm of too few bytes: its output", modes[4], n);
 }
 
-static const uint8_t too_long[16777217];
+const uint8_t too_long[16777217];
 
 /* Each refusal, alone. */
 static void refusals(void)
@@ -298,6 +288,7 @@ int main(void)
     single_block();
     refusals();
     order();
+    pieces();
     printf("%u checked, %u wrong\n", checked, wrong);
     return wrong != 0;
 }

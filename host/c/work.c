@@ -2,10 +2,13 @@
  * its key set up anew.
  *
  *   work archive|libgcrypt|OpenSSL MODE encrypt|decrypt SIZE TIMES
+ *   work pieces MODE encrypt|decrypt SIZE TIMES PIECE
  *   work version libgcrypt|OpenSSL
  *
- * MODE is 0 to 4. Exit status 3 where the library does not have the mode.
+ * MODE is 0 to 4. In pieces of PIECE bytes, by the archive, it is 2, or 4: sealing, or opening without the text.
+ * Exit status 3 where the library does not have the mode.
  */
+#include "kinds.h"
 #include "luossavin.h"
 #include "peers.h"
 
@@ -20,6 +23,21 @@ static int archive(int mode, int direction, struct field data, uint8_t *out, siz
 {
     struct luossavin_answer a = (direction == ENCRYPT ? luossavin_encrypt : luossavin_decrypt)(
         mode, key, 16, NULL, 0, data.bytes, data.length, iv, 16, out, room);
+    return a.number == 0;
+}
+
+static int in_pieces(enum kind kind, size_t by, struct field data, uint8_t *out, size_t room)
+{
+    const struct given given = {key, iv, NULL, sizeof key, sizeof iv, 0};
+    size_t text = kind == OPENING ? data.length - 16 : data.length;
+    struct state s;
+    struct luossavin_answer a = call_start(kind, &s, &given);
+    for (size_t i = 0; a.number == 0 && i < text; i += by) {
+        a = call_piece(&s, data.bytes + i, text - i < by ? text - i : by, out + i, room - i);
+    }
+    if (a.number == 0) {
+        a = kind == OPENING ? call_end(&s, (uint8_t *)data.bytes + text, 16) : call_end(&s, out + text, room - text);
+    }
     return a.number == 0;
 }
 
@@ -40,39 +58,67 @@ static int peer(const char *who, int mode, int direction, struct field data, uin
     return named(who)->run(mode, direction, key, the_iv, no_label, data, out) == DONE;
 }
 
-int main(int argc, char **argv)
+/* What runs, of the words after the first. */
+struct task {
+    int mode, direction, times;
+    size_t size, by;
+};
+
+static int once(const char *who, const struct task *t, struct field data, uint8_t *out, size_t room)
 {
-    if (argc == 3 && strcmp(argv[1], "version") == 0) {
-        start_peers();
-        puts(named(argv[2])->version());
-        return 0;
+    if (strcmp(who, "archive") == 0) {
+        return archive(t->mode, t->direction, data, out, room);
     }
-    if (argc != 6) {
-        fprintf(stderr, "usage: work archive|libgcrypt|OpenSSL MODE encrypt|decrypt SIZE TIMES, or work version libgcrypt|OpenSSL\n");
-        return 64;
+    if (strcmp(who, "pieces") == 0) {
+        return in_pieces(t->mode == CTR ? COUNTING : t->direction == ENCRYPT ? SEALING : OPENING, t->by, data, out, room);
     }
-    int mode = atoi(argv[2]), direction = strcmp(argv[3], "decrypt") == 0 ? DECRYPT : ENCRYPT;
-    size_t size = strtoul(argv[4], NULL, 10), room = size + 16;
-    int times = atoi(argv[5]);
+    return peer(who, t->mode, t->direction, data, out);
+}
+
+static int run(const char *who, const struct task *t)
+{
+    size_t room = t->size + 16;
     uint8_t *text = calloc(1, room), *out = malloc(room);
-    struct field data = {text, size};
-    if (mode < CFB || mode > GCM || text == NULL || out == NULL) {
+    struct field data = {text, t->size};
+    if (text == NULL || out == NULL) {
         return 64;
     }
-    start_peers();
-    if (direction == DECRYPT) {
+    if (t->direction == DECRYPT) {
         /* something to open, made by the archive, whoever opens it */
-        if (!archive(mode, ENCRYPT, data, out, room)) {
+        if (!archive(t->mode, ENCRYPT, data, out, room)) {
             return 1;
         }
         memcpy(text, out, room);
-        data.length = mode == CBC || mode == GCM ? room : size;
+        data.length = t->mode == CBC || t->mode == GCM ? room : t->size;
     }
-    for (int i = 0; i < times; i++) {
-        if (strcmp(argv[1], "archive") == 0 ? !archive(mode, direction, data, out, room)
-                                            : !peer(argv[1], mode, direction, data, out)) {
+    for (int i = 0; i < t->times; i++) {
+        if (!once(who, t, data, out, room)) {
             return 3;
         }
     }
     return 0;
+}
+
+int main(int argc, char **argv)
+{
+    struct task t = {0};
+    int pieces = argc == 7 && strcmp(argv[1], "pieces") == 0;
+    start_peers();
+    if (argc == 3 && strcmp(argv[1], "version") == 0) {
+        puts(named(argv[2])->version());
+        return 0;
+    }
+    if (argc == 6 || pieces) {
+        t.mode = atoi(argv[2]);
+        t.direction = strcmp(argv[3], "decrypt") == 0 ? DECRYPT : ENCRYPT;
+        t.size = strtoul(argv[4], NULL, 10);
+        t.times = atoi(argv[5]);
+        t.by = pieces ? strtoul(argv[6], NULL, 10) : 0;
+    }
+    if (t.times == 0 || t.mode < CFB || t.mode > GCM || (pieces && (t.by == 0 || (t.mode != CTR && t.mode != GCM)))) {
+        fprintf(stderr, "usage: work archive|libgcrypt|OpenSSL MODE encrypt|decrypt SIZE TIMES, or work pieces 2|4 "
+            "encrypt|decrypt SIZE TIMES PIECE, or work version libgcrypt|OpenSSL\n");
+        return 64;
+    }
+    return run(argv[1], &t);
 }

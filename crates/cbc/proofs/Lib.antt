@@ -4,3 +4,4 @@ pub mod Padding
 pub mod Unpadded
 pub mod Opens
 pub mod RoundTrip
+pub mod Goes

@@ -12,7 +12,7 @@ use Rattle.block.proofs.Entries.{below-take, below-drop, below-append, below-re
 use Rattle.block.proofs.Xors.{length-xors, xors-cancel, xors-below}
 use Rattle.cipher.proofs.Blocks.{length-encryptBlock, encryptBlock-bytes, block-decrypt-encrypt}
 use Rattle.walk.specs.Outcome.{Outcome, done, leaving, written, finished}
-use Rattle.walk.specs.Walk.{over}
+use Rattle.walk.specs.Walk.{chain, over}
 use Rattle.walk.proofs.Chain.{Any, chain-length, chain-bytes}
 use Rattle.walk.proofs.Undo.{Undoes, undo}
 use Rattle.cbc.specs.Cbc.{padding, padded, cbcEncrypt, cbcDecrypt, cbcSeal}
@@ -29,17 +29,19 @@ padded-bytes d h =
 padded-whole : (d : List ℕ) → Whole (padded d)
 padded-whole d = omega (arith, length-padded d)
 
+-- as many bytes come out as go in
+pub length-encrypt : (rk s d : List ℕ) → length d % 16 ≡ 0 → length (chain (cbcEncrypt rk) s d) ≡ length d
+length-encrypt rk s d h = chain-length Any Whole (cbcEncrypt rk) record {
+  front = λ d h n. whole-front d n;
+  back = λ d h n. whole-back d h n;
+  next = λ s b hs hb n. tt;
+  block = λ s b hs hb n. length-encryptBlock rk (xors b s);
+  rest = λ s d hs hd n. whole-short d hd n;
+} s d tt h
+
 pub length-cbcSeal : (rk iv d : List ℕ) → length (cbcSeal rk iv d) ≡ 16 * (length d / 16 + 1)
 unfolding cbcSeal
-length-cbcSeal rk iv d =
-    chain-length Any Whole (cbcEncrypt rk) record {
-      front = λ d h n. whole-front d n;
-      back = λ d h n. whole-back d h n;
-      next = λ s b hs hb n. tt;
-      block = λ s b hs hb n. length-encryptBlock rk (xors b s);
-      rest = λ s d hs hd n. whole-short d hd n;
-    } iv (padded d) tt (padded-whole d)
-    ∙ length-padded d
+length-cbcSeal rk iv d = length-encrypt rk iv (padded d) (padded-whole d) ∙ length-padded d
 
 pub cbcSeal-bytes : (rk iv d : List ℕ) → AreBytes d → AreBytes (cbcSeal rk iv d)
 unfolding cbcSeal

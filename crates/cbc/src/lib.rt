@@ -6,7 +6,7 @@ ghost use lib.ListN.{length, take, drop};
 ghost use Rattle.block.specs.Words.{unwords};
 ghost use Rattle.cipher.specs.Engine.{Engine};
 ghost use Rattle.walk.specs.Outcome.{leaving};
-ghost use Rattle.walk.specs.Walk.{chain, over};
+ghost use Rattle.walk.specs.Walk.{chain, endState, over};
 ghost use Rattle.cbc.specs.Cbc.{padded, cbcEncrypt, cbcDecrypt, cbcSeal};
 ghost use Rattle.cbc.specs.Open.{headOf, unpadded, cbcOpen};
 
@@ -37,11 +37,18 @@ fn encrypt_step(t: &[u32], rk: [u32; 32], s: [u32; 4], data: &[u8], out: &mut [u
     e
 }
 
-// The whole message `data` with its padding, encrypted to the front of `out`.
-pub fn encrypt(t: &[u32], rk: [u32; 32], iv: [u32; 4], data: &[u8], out: &mut [u8])
+// The full blocks of `data`, encrypted to the front of `out`. Returns the state after them, with which a message goes on.
+pub fn encrypt_blocks(
+    t: &[u32],
+    rk: [u32; 32],
+    iv: [u32; 4],
+    data: &[u8],
+    out: &mut [u8],
+) -> [u32; 4]
     requires { ⌜ Engine (now t) ⌝ }
-    requires { ⌜ 16 * (length (now «data») / 16 + 1) ≤ length (now out) ⌝ }
-    ensures { λ _. ⌜ now (out .exit) ≡ over (cbcSeal rk (unwords iv) (now («data» .entry))) (now (out .entry)) ⌝ }
+    requires { ⌜ length (now «data») ≤ length (now out) ⌝ }
+    ensures { λ r. ⌜ unwords r ≡ endState (cbcEncrypt rk) (unwords iv) (now («data» .entry)) ⌝ }
+    ensures { λ _. ⌜ now (out .exit) ≡ over (chain (cbcEncrypt rk) (unwords iv) (now («data» .entry))) (now (out .entry)) ⌝ }
 {
     let mut s = iv;
     let mut at: usize = 0;
@@ -50,6 +57,17 @@ pub fn encrypt(t: &[u32], rk: [u32; 32], iv: [u32; 4], data: &[u8], out: &mut [u
         s = next;
         at += 16;
     }
+    s
+}
+
+// The whole message `data` with its padding, encrypted to the front of `out`.
+pub fn encrypt(t: &[u32], rk: [u32; 32], iv: [u32; 4], data: &[u8], out: &mut [u8])
+    requires { ⌜ Engine (now t) ⌝ }
+    requires { ⌜ 16 * (length (now «data») / 16 + 1) ≤ length (now out) ⌝ }
+    ensures { λ _. ⌜ now (out .exit) ≡ over (cbcSeal rk (unwords iv) (now («data» .entry))) (now (out .entry)) ⌝ }
+{
+    let at = data.len() - data.len() % 16;
+    let s = encrypt_blocks(t, rk, iv, &data[0..at], out);
     let last = pad(&data[at..]);
     encrypt_step(t, rk, s, &last, &mut out[at..]);
 }
@@ -86,10 +104,18 @@ fn decrypt_step(t: &[u32], back: [u32; 32], s: [u32; 4], data: &[u8], out: &mut 
     block::split_block(data)
 }
 
-// The full blocks of `data`, decrypted to the front of `out`.
-fn decrypt_blocks(t: &[u32], back: [u32; 32], iv: [u32; 4], data: &[u8], out: &mut [u8])
+// The full blocks of `data`, decrypted to the front of `out` by the round keys turned round. Returns the state after them,
+// with which a message goes on.
+pub fn decrypt_blocks(
+    t: &[u32],
+    back: [u32; 32],
+    iv: [u32; 4],
+    data: &[u8],
+    out: &mut [u8],
+) -> [u32; 4]
     requires { ⌜ Engine (now t) ⌝ }
     requires { ⌜ length (now «data») ≤ length (now out) ⌝ }
+    ensures { λ r. ⌜ unwords r ≡ endState (cbcDecrypt (reverse back)) (unwords iv) (now («data» .entry)) ⌝ }
     ensures { λ _. ⌜ now (out .exit) ≡ over (chain (cbcDecrypt (reverse back)) (unwords iv) (now («data» .entry))) (now (out .entry)) ⌝ }
 {
     let mut s = iv;
@@ -99,6 +125,7 @@ fn decrypt_blocks(t: &[u32], back: [u32; 32], iv: [u32; 4], data: &[u8], out: &m
         s = next;
         at += 16;
     }
+    s
 }
 
 // The block before the last one, which is the IV where there is one only.

@@ -22,15 +22,15 @@ use Rattle.cipher_mode.specs.Checks.{refuse, andThen, noKey, wrongIv, ke
 use Rattle.cipher_mode.specs.Checks.{roomCheck, messageCheck, blockCheck}
 
 -- a test that refused nothing does not hold, and what comes next passed
-record Let-through (test : Bool) (next : Checked) : Type 0 where
+pub record Let-through (test : Bool) (next : Checked) : Type 0 where
   pub fails : test ≡ false
   pub rest : next ≡ Passed
 
-let-through : (test : Bool) (r : Refusal) (next : Checked) → refuse test r next ≡ Passed → Let-through test next
+pub let-through : (test : Bool) (r : Refusal) (next : Checked) → refuse test r next ≡ Passed → Let-through test next
 let-through true r next e = let z : _≡_ {A = ℕ} 0 1 = cc in absurd (omega arith)
 let-through false r next e = record { fails = refl; rest = e }
 
-both : (a b : Checked) → andThen a b ≡ Passed → (a ≡ Passed) × (b ≡ Passed)
+pub both : (a b : Checked) → andThen a b ≡ Passed → (a ≡ Passed) × (b ≡ Passed)
 both Passed b e = (refl, e)
 both (Refused r) b e = let z : _≡_ {A = ℕ} 0 1 = cc in absurd (omega arith)
 

@@ -3,7 +3,7 @@ use Prim.Native.Nat.{ℕ}
 use mathlib.Core.List.{List}
 use Rattle.walk.specs.Outcome.{Head, Outcome, finished, refusal, cutShort, leaving}
 use Rattle.cipher_mode.specs.declared.answer.Refusal.{Refusal}
-use Rattle.cipher_mode.specs.declared.answer.Refusal.the-variants.{ErrorBlockSize, ErrorDataLen, InvalidLastU8, InvalidTag, TooLong, NoRoom, EmptyCbc, ShortGcm, WrongIv, WrongBlock}
+use Rattle.cipher_mode.specs.declared.answer.Refusal.the-variants.{ErrorBlockSize, ErrorDataLen, InvalidLastU8, InvalidTag, TooLong, NoRoom, EmptyCbc, ShortGcm, WrongIv, WrongBlock, Ended}
 use Rattle.cipher_mode.specs.declared.answer.Ending.{Ending}
 use Rattle.cipher_mode.specs.declared.answer.Ending.the-variants.{Done, Refused}
 use Rattle.cipher_mode.specs.declared.answer.Answer.{Answer}
@@ -19,6 +19,7 @@ refusalHead EmptyCbc = refusal 8
 refusalHead (ShortGcm n) = cutShort n
 refusalHead WrongIv = refusal 10
 refusalHead WrongBlock = refusal 11
+refusalHead Ended = refusal 12
 
 abbrev pub endingHead : Ending → Head
 endingHead (Done n) = finished n

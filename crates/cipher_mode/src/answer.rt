@@ -4,7 +4,8 @@ ghost use Rattle.walk.specs.Outcome.{finished};
 ghost use Rattle.cipher_mode.specs.Answer.{refusalHead, headOf};
 
 // Why a call was refused, by the names of document 01 and, after them, those that tell its lengths apart: Cbc decryption of
-// nothing; Gcm decryption of fewer than 16 bytes, with how many were missing; a wrong IV; a wrong single block.
+// nothing; a Gcm message or tag that is not as long as it must be, with how many bytes were missing; a wrong IV; a wrong
+// single block. The last is of a message in pieces that has come to its end.
 pub enum Refusal {
     ErrorBlockSize,
     ErrorDataLen,
@@ -16,6 +17,7 @@ pub enum Refusal {
     ShortGcm(u8),
     WrongIv,
     WrongBlock,
+    Ended,
 }
 
 // How a call ended: done with a length, or refused.
@@ -43,6 +45,7 @@ pub fn number(refusal: Refusal) -> u32
         Refusal::ShortGcm(_) => 9,
         Refusal::WrongIv => 10,
         Refusal::WrongBlock => 11,
+        Refusal::Ended => 12,
     }
 }
 
@@ -61,6 +64,7 @@ pub fn missing(refusal: Refusal) -> u8
         Refusal::ShortGcm(n) => n,
         Refusal::WrongIv => 0,
         Refusal::WrongBlock => 0,
+        Refusal::Ended => 0,
     }
 }
 

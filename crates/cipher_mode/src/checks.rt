@@ -72,7 +72,7 @@ pub fn label(mode: CipherMode, n: usize) -> Checked
     }
 }
 
-fn limit_of(direction: Direction, mode: CipherMode) -> usize
+pub fn limit_of(direction: Direction, mode: CipherMode) -> usize
     ensures { λ r. ⌜ r ≡ limitOf direction mode ⌝ }
 {
     let Direction::Decrypt = direction else {

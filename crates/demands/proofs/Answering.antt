@@ -12,7 +12,7 @@ use Rattle.walk.specs.Outcome.{Head, Outcome, finished, refusal, cutShort, leav
 use Rattle.walk.specs.Walk.{over}
 use Rattle.cipher_mode.specs.declared.answer.Refusal.{Refusal}
 use Rattle.cipher_mode.specs.declared.answer.Refusal.the-variants.{ErrorBlockSize, ErrorDataLen, InvalidLastU8, InvalidTag, TooLong, NoRoom}
-use Rattle.cipher_mode.specs.declared.answer.Refusal.the-variants.{EmptyCbc, ShortGcm, WrongIv, WrongBlock}
+use Rattle.cipher_mode.specs.declared.answer.Refusal.the-variants.{EmptyCbc, ShortGcm, WrongIv, WrongBlock, Ended}
 use Rattle.cipher_mode.specs.declared.checks.Checked.{Checked}
 use Rattle.cipher_mode.specs.declared.checks.Checked.the-variants.{Passed, Refused}
 use Rattle.cipher_mode.specs.Answer.{refusalHead}
@@ -20,7 +20,7 @@ use Rattle.cipher_mode.specs.Checks.{checked}
 use Rattle.demands.specs.Answered.{Answered}
 
 -- a refusal by its head
-refuses-by : (h : Head) (n : ℕ) (o : List ℕ) → 0 < h .number → h .number ≤ 11 → h .size ≡ 0 → (h .number ≢ 9 → h .missing ≡ 0)
+refuses-by : (h : Head) (n : ℕ) (o : List ℕ) → 0 < h .number → h .number ≤ 12 → h .size ≡ 0 → (h .number ≢ 9 → h .missing ≡ 0)
     → Answered o n (leaving h o)
 refuses-by h n o some most none told =
     record {
@@ -33,7 +33,7 @@ refuses-by h n o some most none told =
       kept = refl;
     }
 
-pub refuses : (k n : ℕ) (o : List ℕ) → 0 < k → k ≤ 11 → Answered o n (refused k o)
+pub refuses : (k n : ℕ) (o : List ℕ) → 0 < k → k ≤ 12 → Answered o n (refused k o)
 refuses k n o h l = refuses-by (refusal k) n o h l refl (λ _. refl)
 
 pub does : (p o : List ℕ) (n : ℕ) → length p ≡ n → n ≤ length o → Answered o n (done p o)
@@ -56,12 +56,12 @@ writes p o n h k =
     subst (λ (y : Outcome). Answered o n y) x (does (take n p) o n e k)
 
 -- a refusal by number k in front, or what comes next, which may count on it that the test does not hold
-pub behind : (test : Bool) (k n : ℕ) (o : List ℕ) (next : Outcome) → 0 < k → k ≤ 11 → (test ≡ false → Answered o n next)
+pub behind : (test : Bool) (k n : ℕ) (o : List ℕ) (next : Outcome) → 0 < k → k ≤ 12 → (test ≡ false → Answered o n next)
     → Answered o n (refuse test k o next)
 behind true k n o next h l f = refuses k n o h l
 behind false k n o next h l f = f refl
 
-refusal-answers : (r : Refusal) (n : ℕ) (o : List ℕ) → Answered o n (leaving (refusalHead r) o)
+pub refusal-answers : (r : Refusal) (n : ℕ) (o : List ℕ) → Answered o n (leaving (refusalHead r) o)
 refusal-answers ErrorBlockSize n o = refuses 1 n o (omega arith) (omega arith)
 refusal-answers ErrorDataLen n o = refuses 2 n o (omega arith) (omega arith)
 refusal-answers InvalidLastU8 n o = refuses 3 n o (omega arith) (omega arith)
@@ -72,6 +72,7 @@ refusal-answers EmptyCbc n o = refuses 8 n o (omega arith) (omega arith)
 refusal-answers (ShortGcm k) n o = refuses-by (cutShort k) n o (omega arith) (omega arith) refl (λ other. absurd (other refl))
 refusal-answers WrongIv n o = refuses 10 n o (omega arith) (omega arith)
 refusal-answers WrongBlock n o = refuses 11 n o (omega arith) (omega arith)
+refusal-answers Ended n o = refuses 12 n o (omega arith) (omega arith)
 
 -- a check in front, or what comes next, which may count on it that the check passed
 pub checks : (k : Checked) (n : ℕ) (o : List ℕ) (next : Outcome) → (k ≡ Passed → Answered o n next) → Answered o n (checked k o next)

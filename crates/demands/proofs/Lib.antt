@@ -6,15 +6,18 @@ pub mod Answering
 pub mod EveryCallAnswers
 pub mod UniqueOutcomes
 pub mod NoUsableKey
+pub mod Steps
 pub mod LabelIgnored
 -- demand 2
 pub mod ModesBack
 pub mod WhichNumber
+pub mod WhichNumberInPieces
 pub mod ThereAndBack
 pub mod TwelveBytes
 pub mod Served
 -- demand 3, and what the demands were for
 pub mod OtherHash
+pub mod InPieces
 pub mod OneBlockRefused
 pub mod ZeroKey
 pub mod OtherEdition

@@ -13,7 +13,7 @@ use Rattle.cipher_mode.specs.declared.CipherMode.{CipherMode}
 use Rattle.cipher_mode.specs.declared.Direction.{Direction}
 use Rattle.cipher_mode.specs.declared.answer.Refusal.{Refusal}
 use Rattle.cipher_mode.specs.declared.answer.Refusal.the-variants.{ErrorBlockSize, ErrorDataLen, InvalidLastU8, InvalidTag, TooLong, NoRoom}
-use Rattle.cipher_mode.specs.declared.answer.Refusal.the-variants.{EmptyCbc, ShortGcm, WrongIv, WrongBlock}
+use Rattle.cipher_mode.specs.declared.answer.Refusal.the-variants.{EmptyCbc, ShortGcm, WrongIv, WrongBlock, Ended}
 use Rattle.cipher_mode.specs.declared.checks.Checked.{Checked}
 use Rattle.cipher_mode.specs.declared.checks.Checked.the-variants.{Passed, Refused}
 use Rattle.cipher_mode.specs.declared.checks.Lengths.{Lengths}
@@ -40,7 +40,7 @@ refused-as n o x e =
     }
 
 -- no refusal has the number 0
-not-zero : (r : Refusal) → refusalHead r .number ≡ 0 → ⊥
+pub not-zero : (r : Refusal) → refusalHead r .number ≡ 0 → ⊥
 not-zero ErrorBlockSize e = omega arith
 not-zero ErrorDataLen e = omega arith
 not-zero InvalidLastU8 e = omega arith
@@ -51,6 +51,7 @@ not-zero EmptyCbc e = omega arith
 not-zero (ShortGcm n) e = omega arith
 not-zero WrongIv e = omega arith
 not-zero WrongBlock e = omega arith
+not-zero Ended e = omega arith
 
 zero-passed : (k : Checked) (o : List ℕ) (next : Outcome) → checked k o next .head .number ≡ 0 → k ≡ Passed
 zero-passed Passed o next e = refl

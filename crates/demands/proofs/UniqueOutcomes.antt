@@ -1,23 +1,35 @@
 -- Demand 1, that outcomes can be predicted: any two outcomes that a contract allows coincide.
 -- Assumes nothing.
-use mathlib.Core.Path.{_≡_, refl, sym, ap, _∙_}
+use mathlib.Core.Path.{_≡_, refl, sym, ap, ap₂, _∙_}
 use mathlib.Core.List.{List}
 use Prim.Native.Nat.{ℕ, zero, suc}
-use Rattle.walk.specs.Outcome.{Outcome}
+use Rattle.walk.specs.Outcome.{Head, Outcome}
 use Rattle.cipher_mode.specs.declared.answer.Answer.{Answer}
 use Rattle.cipher_mode.specs.declared.answer.Ending.{Ending}
 use Rattle.cipher_mode.specs.declared.answer.Ending.the-variants.{Done, Refused}
 use Rattle.cipher_mode.specs.declared.answer.Refusal.the-variants.{ErrorBlockSize, ErrorDataLen, InvalidLastU8, InvalidTag, TooLong, NoRoom}
-use Rattle.cipher_mode.specs.declared.answer.Refusal.the-variants.{EmptyCbc, ShortGcm, WrongIv, WrongBlock}
+use Rattle.cipher_mode.specs.declared.answer.Refusal.the-variants.{EmptyCbc, ShortGcm, WrongIv, WrongBlock, Ended}
 use Rattle.cipher_mode.specs.declared.CipherMode.{CipherMode}
 use Rattle.cipher_mode.specs.declared.Direction.{Direction}
 use Rattle.cipher_mode.specs.declared.Sm4Cipher.{Sm4Cipher}
 use Rattle.cipher_mode.specs.declared.Sm4CipherMode.{Sm4CipherMode}
-use Rattle.cipher_mode.specs.Answer.{endingHead, outcome}
+use Rattle.cipher_mode.specs.Answer.{endingHead, headOf, outcome}
 use Rattle.cipher_mode.specs.Key.{newCipher, newCipherMode}
 use Rattle.cipher_mode.specs.Calls.{blockCall, modeCall}
-use Rattle.luossavin.specs.Host.{reported, hostBlockCall, hostModeCall}
-use Rattle.demands.specs.OneOutcome.{OneOutcome, OneReport}
+use Rattle.pieces.specs.declared.ctr.Ctr.{Ctr}
+use Rattle.pieces.specs.declared.ctr.CtrStep.{CtrStep}
+use Rattle.pieces.specs.declared.opens.Opens.{Opens}
+use Rattle.pieces.specs.declared.opens.OpensStep.{OpensStep}
+use Rattle.pieces.specs.declared.seal.Seal.{Seal}
+use Rattle.pieces.specs.declared.seal.SealStep.{SealStep}
+use Rattle.pieces.specs.Calls.{Stepped, ctrStepped, sealStepped, opensStepped}
+use Rattle.luossavin.specs.declared.LuossavinAnswer.{LuossavinAnswer}
+use Rattle.luossavin.specs.declared.in_pieces.LuossavinCtrStep.{LuossavinCtrStep}
+use Rattle.luossavin.specs.declared.in_pieces.LuossavinOpensStep.{LuossavinOpensStep}
+use Rattle.luossavin.specs.declared.in_pieces.LuossavinSealStep.{LuossavinSealStep}
+use Rattle.luossavin.specs.Host.{headIn, reported, hostBlockCall, hostModeCall}
+use Rattle.luossavin.specs.InPieces.{ctrReported, sealReported, opensReported}
+use Rattle.demands.specs.OneOutcome.{OneOutcome, OneReport, OneStep}
 
 -- the ending of a head
 endingOf : ℕ → ℕ → ℕ → Ending
@@ -32,7 +44,8 @@ endingOf (suc (suc (suc (suc (suc (suc (suc zero))))))) n k = Refused NoRoom
 endingOf (suc (suc (suc (suc (suc (suc (suc (suc zero)))))))) n k = Refused EmptyCbc
 endingOf (suc (suc (suc (suc (suc (suc (suc (suc (suc zero))))))))) n k = Refused (ShortGcm k)
 endingOf (suc (suc (suc (suc (suc (suc (suc (suc (suc (suc zero)))))))))) n k = Refused WrongIv
-endingOf (suc (suc (suc (suc (suc (suc (suc (suc (suc (suc (suc m))))))))))) n k = Refused WrongBlock
+endingOf (suc (suc (suc (suc (suc (suc (suc (suc (suc (suc (suc zero))))))))))) n k = Refused WrongBlock
+endingOf (suc (suc (suc (suc (suc (suc (suc (suc (suc (suc (suc (suc m)))))))))))) n k = Refused Ended
 
 -- an ending is told by its head
 told : (e : Ending) → endingOf (endingHead e .number) (endingHead e .size) (endingHead e .missing) ≡ e
@@ -48,22 +61,27 @@ told (Refused EmptyCbc) = refl
 told (Refused (ShortGcm n)) = refl
 told (Refused WrongIv) = refl
 told (Refused WrongBlock) = refl
+told (Refused Ended) = refl
 
--- so an outcome has one answer and one output
+-- so two answers with one head are the same
+one-answer : (a₁ a₂ : Answer) → headOf a₁ ≡ headOf a₂ → a₁ ≡ a₂
+one-answer a₁ a₂ e =
+    let same = ap (λ (h : Head). endingOf (h .number) (h .size) (h .missing)) e in
+    ap {B = Answer} (λ (e : Ending). record { ending = e }) (sym (told (a₁ .ending)) ∙ same ∙ told (a₂ .ending))
+
+-- and two of a host's are
+one-host-answer : (a₁ a₂ : LuossavinAnswer) → headIn a₁ ≡ headIn a₂ → a₁ ≡ a₂
+one-host-answer a₁ a₂ e = ap (λ (h : Head). record { number = h .number; missing = h .missing; length = h .size }) e
+
 one : (x : Outcome) → OneOutcome x
 one x a₁ a₂ o₁ o₂ e₁ e₂ =
     let e : outcome a₁ o₁ ≡ outcome a₂ o₂ = e₁ ∙ sym e₂ in
-    let same = ap (λ (y : Outcome). endingOf (y .head .number) (y .head .size) (y .head .missing)) e in
-    let ending = sym (told (a₁ .ending)) ∙ same ∙ told (a₂ .ending) in
-    (ap {B = Answer} (λ (e : Ending). record { ending = e }) ending, ap (λ (y : Outcome). y .bytes) e)
+    (one-answer a₁ a₂ (ap (λ (y : Outcome). y .head) e), ap (λ (y : Outcome). y .bytes) e)
 
--- and a host's answer is its head
 one-report : (x : Outcome) → OneReport x
 one-report x a₁ a₂ o₁ o₂ e₁ e₂ =
-    let e : reported a₁ o₁ ≡ reported a₂ o₂ = e₁ ∙ sym e₂ in (
-      ap (λ (y : Outcome). record { number = y .head .number; missing = y .head .missing; length = y .head .size }) e,
-      ap (λ (y : Outcome). y .bytes) e,
-    )
+    let e : reported a₁ o₁ ≡ reported a₂ o₂ = e₁ ∙ sym e₂ in
+    (one-host-answer a₁ a₂ (ap (λ (y : Outcome). y .head) e), ap (λ (y : Outcome). y .bytes) e)
 
 -- Any two records that setting up a key may give are the same.
 pub unique-new-cipher : (key : List ℕ) (r₁ r₂ : Sm4Cipher) → r₁ ≡ newCipher key → r₂ ≡ newCipher key → r₁ ≡ r₂
@@ -89,3 +107,56 @@ unique-exported-block dir key b o = one-report (hostBlockCall dir key b o)
 -- The exported call on a message, either way, has one outcome.
 pub unique-exported-message : (dir : Direction) (mode : ℕ) (key label d iv o : List ℕ) → OneReport (hostModeCall dir mode key label d iv o)
 unique-exported-message dir mode key label d iv o = one-report (hostModeCall dir mode key label d iv o)
+
+-- A call on a message in pieces, be it a start, a piece or an end, has one answer, one output and one state.
+pub unique-ctr-step : (x : Stepped Ctr) → OneStep Ctr CtrStep ctrStepped x
+unique-ctr-step x r₁ r₂ o₁ o₂ e₁ e₂ =
+    let e : ctrStepped r₁ o₁ ≡ ctrStepped r₂ o₂ = e₁ ∙ sym e₂ in
+    let answer = one-answer (r₁ .answer) (r₂ .answer) (ap (λ (y : Stepped Ctr). y .head) e) in (
+      ap₂ {C = CtrStep} (λ (a : Answer) (s : Ctr). record { answer = a; state = s }) answer (ap (λ (y : Stepped Ctr). y .state) e),
+      ap (λ (y : Stepped Ctr). y .bytes) e,
+    )
+
+pub unique-seal-step : (x : Stepped Seal) → OneStep Seal SealStep sealStepped x
+unique-seal-step x r₁ r₂ o₁ o₂ e₁ e₂ =
+    let e : sealStepped r₁ o₁ ≡ sealStepped r₂ o₂ = e₁ ∙ sym e₂ in
+    let answer = one-answer (r₁ .answer) (r₂ .answer) (ap (λ (y : Stepped Seal). y .head) e) in (
+      ap₂ {C = SealStep} (λ (a : Answer) (s : Seal). record { answer = a; state = s }) answer (ap (λ (y : Stepped Seal). y .state) e),
+      ap (λ (y : Stepped Seal). y .bytes) e,
+    )
+
+pub unique-opens-step : (x : Stepped Opens) → OneStep Opens OpensStep opensStepped x
+unique-opens-step x r₁ r₂ o₁ o₂ e₁ e₂ =
+    let e : opensStepped r₁ o₁ ≡ opensStepped r₂ o₂ = e₁ ∙ sym e₂ in
+    let answer = one-answer (r₁ .answer) (r₂ .answer) (ap (λ (y : Stepped Opens). y .head) e) in (
+      ap₂ {C = OpensStep} (λ (a : Answer) (s : Opens). record { answer = a; state = s }) answer (ap (λ (y : Stepped Opens). y .state) e),
+      ap (λ (y : Stepped Opens). y .bytes) e,
+    )
+
+-- The same of the exported calls.
+pub unique-exported-ctr-step : (x : Stepped Ctr) → OneStep Ctr LuossavinCtrStep ctrReported x
+unique-exported-ctr-step x r₁ r₂ o₁ o₂ e₁ e₂ =
+    let e : ctrReported r₁ o₁ ≡ ctrReported r₂ o₂ = e₁ ∙ sym e₂ in
+    let answer = one-host-answer (r₁ .answer) (r₂ .answer) (ap (λ (y : Stepped Ctr). y .head) e) in (
+      ap₂ {C = LuossavinCtrStep} (λ (a : LuossavinAnswer) (s : Ctr). record { answer = a; state = s }) answer
+          (ap (λ (y : Stepped Ctr). y .state) e),
+      ap (λ (y : Stepped Ctr). y .bytes) e,
+    )
+
+pub unique-exported-seal-step : (x : Stepped Seal) → OneStep Seal LuossavinSealStep sealReported x
+unique-exported-seal-step x r₁ r₂ o₁ o₂ e₁ e₂ =
+    let e : sealReported r₁ o₁ ≡ sealReported r₂ o₂ = e₁ ∙ sym e₂ in
+    let answer = one-host-answer (r₁ .answer) (r₂ .answer) (ap (λ (y : Stepped Seal). y .head) e) in (
+      ap₂ {C = LuossavinSealStep} (λ (a : LuossavinAnswer) (s : Seal). record { answer = a; state = s }) answer
+          (ap (λ (y : Stepped Seal). y .state) e),
+      ap (λ (y : Stepped Seal). y .bytes) e,
+    )
+
+pub unique-exported-opens-step : (x : Stepped Opens) → OneStep Opens LuossavinOpensStep opensReported x
+unique-exported-opens-step x r₁ r₂ o₁ o₂ e₁ e₂ =
+    let e : opensReported r₁ o₁ ≡ opensReported r₂ o₂ = e₁ ∙ sym e₂ in
+    let answer = one-host-answer (r₁ .answer) (r₂ .answer) (ap (λ (y : Stepped Opens). y .head) e) in (
+      ap₂ {C = LuossavinOpensStep} (λ (a : LuossavinAnswer) (s : Opens). record { answer = a; state = s }) answer
+          (ap (λ (y : Stepped Opens). y .state) e),
+      ap (λ (y : Stepped Opens). y .bytes) e,
+    )

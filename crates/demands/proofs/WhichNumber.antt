@@ -34,7 +34,7 @@ use Rattle.demands.specs.WhichNumber.{firstOf, numbersOf, blockRows, enc
 use Rattle.demands.proofs.ModesBack.{encrypts}
 
 -- what is said behind a check, s being what comes next
-behind : Checked → Said → Said
+unfoldable pub behind : Checked → Said → Said
 behind Passed s = s
 behind (Refused r) s = saidIn (refusalHead r)
 
@@ -43,12 +43,12 @@ unfolding behind
 number-checked Passed o next = refl
 number-checked (Refused r) o next = refl
 
-number-refuse : (t : Bool) (r : Refusal) (k : Checked) (n : Said) → behind (refuse t r k) n ≡ cond t (saidIn (refusalHead r)) (behind k n)
+pub number-refuse : (t : Bool) (r : Refusal) (k : Checked) (n : Said) → behind (refuse t r k) n ≡ cond t (saidIn (refusalHead r)) (behind k n)
 unfolding behind
 number-refuse true r k n = refl
 number-refuse false r k n = refl
 
-number-then : (a b : Checked) (n : Said) → behind (andThen a b) n ≡ behind a (behind b n)
+pub number-then : (a b : Checked) (n : Said) → behind (andThen a b) n ≡ behind a (behind b n)
 unfolding behind
 number-then Passed b n = refl
 number-then (Refused r) b n = refl

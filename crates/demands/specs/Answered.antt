@@ -14,7 +14,7 @@ use Rattle.cipher_mode.specs.declared.Direction.the-variants.{Encrypt, Decrypt}
 -- x is an answer to a call whose output was lent as o, where document 01's table gives the length n
 pub record Answered (o : List ℕ) (n : ℕ) (x : Outcome) : Type 0 where
   -- the number is one of the papers'
-  pub numbered : x .head .number ≤ 11
+  pub numbered : x .head .number ≤ 12
   -- only refusal 9 tells that bytes were missing
   pub missing : x .head .number ≢ 9 → x .head .missing ≡ 0
   -- every refusal reports length 0 and changes no byte of the output

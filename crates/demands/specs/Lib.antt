@@ -4,10 +4,13 @@ pub mod Answered
 pub mod WhichNumber
 pub mod OneOutcome
 pub mod NoUsableKey
+pub mod Steps
+pub mod WhichNumberInPieces
 -- demand 2
 pub mod Served
 pub mod ThereAndBack
 pub mod TwelveBytes
+pub mod InPieces
 -- demand 3, and what the demands were for
 pub mod OneBlockRefused
 pub mod OtherEdition

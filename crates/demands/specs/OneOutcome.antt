@@ -5,6 +5,7 @@ use Prim.Native.Nat.{ℕ}
 use Rattle.walk.specs.Outcome.{Outcome}
 use Rattle.cipher_mode.specs.declared.answer.Answer.{Answer}
 use Rattle.cipher_mode.specs.Answer.{outcome}
+use Rattle.pieces.specs.Calls.{Stepped}
 use Rattle.luossavin.specs.declared.LuossavinAnswer.{LuossavinAnswer}
 use Rattle.luossavin.specs.Host.{reported}
 
@@ -19,3 +20,8 @@ abbrev pub OneReport : Outcome → Type 0
 OneReport x =
     (answer₁ answer₂ : LuossavinAnswer) (output₁ output₂ : List ℕ) → reported answer₁ output₁ ≡ x → reported answer₂ output₂ ≡ x
     → (answer₁ ≡ answer₂) × (output₁ ≡ output₂)
+
+-- the same of calls on messages in pieces, where a step r and an output o are together what `of` says
+abbrev pub OneStep : (S R : Type 0) → (R → List ℕ → Stepped S) → Stepped S → Type 0
+OneStep S R of x =
+    (step₁ step₂ : R) (output₁ output₂ : List ℕ) → of step₁ output₁ ≡ x → of step₂ output₂ ≡ x → (step₁ ≡ step₂) × (output₁ ≡ output₂)

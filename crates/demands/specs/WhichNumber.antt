@@ -32,7 +32,7 @@ pub record Row : Type 0 where
   pub holds : Bool
   pub says : Said
 
-abbrev row : Bool → ℕ → Row
+abbrev pub row : Bool → ℕ → Row
 row holds n = record { holds = holds; says = only n }
 
 -- What the first row says whose condition holds, 0 where none does: so a number is answered exactly when its condition holds

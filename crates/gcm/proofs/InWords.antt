@@ -1,11 +1,10 @@
 -- The code is the definitions: H, J0, the tag, and a sealed message written in two parts.
 -- Assumes nothing.
 use mathlib.Core.Path.{_≡_, refl, sym, ap, ap₂, _∙_}
-use mathlib.Core.List.{List, [], _∷_, _++_, append-assoc}
-use Prim.Native.Nat.{ℕ, _+_}
+use mathlib.Core.List.{List, [], _∷_, _++_}
+use Prim.Native.Nat.{ℕ}
 use lib.Dec.{lit<}
-use lib.ListN.{length, take, drop, length-append}
-use lib.Seq.{take-at, drop-at, drop-drop}
+use lib.ListN.{length, drop}
 use Rattle.block.specs.Below.{AreBytes, AreWords}
 use Rattle.block.specs.BigEndian.{numberOf, bytesOf}
 use Rattle.block.specs.Words.{wordAt, words, unwords}
@@ -17,7 +16,7 @@ use Rattle.cipher.proofs.Bounds.{encrypt-four}
 use Rattle.ghash.specs.Ghash.{ghash, authBlocks}
 use Rattle.ghash.proofs.IvBlocks.{iv-blocks}
 use Rattle.walk.specs.Walk.{chain, over}
-use Rattle.walk.proofs.Loop.{tailed, returned, tail-is, returned-is}
+use Rattle.walk.proofs.Loop.{tailed, returned, over-behind}
 use Rattle.stream.specs.Stream.{streamMode}
 use Rattle.stream.specs.declared.Kind.the-variants.{Gctr}
 use Rattle.counter.specs.Counter.{gcmNext}
@@ -52,15 +51,7 @@ pub sealed-written : (text tag o o₁ t : List ℕ) (n : ℕ) → length text �
     → t ≡ tag ++ drop 16 (tailed n o₁)
     → returned n o₁ t ≡ over (text ++ tag) o
 sealed-written text tag o o₁ t n lt lg e f =
-    let front : take n o₁ ≡ text = ap (take n) e ∙ take-at text (drop (length text) o) n lt in
-    let back : drop n o₁ ≡ drop n o =
-    ap (drop n) e ∙ drop-at text (drop (length text) o) n lt ∙ ap (λ (k : ℕ). drop k o) lt in
-    let behind : t ≡ tag ++ drop (n + 16) o =
-    f ∙ ap (λ (l : List ℕ). tag ++ drop 16 l) (tail-is o₁ n ∙ back) ∙ ap (λ (l : List ℕ). tag ++ l) (drop-drop 16 n o) in
-    let all : length (text ++ tag) ≡ n + 16 = length-append text tag ∙ ap₂ _+_ lt lg in
-    returned-is o₁ t n
-    ∙ ap₂ _++_ front behind
-    ∙ sym (append-assoc text tag (drop (n + 16) o)) ∙ ap (λ (k : ℕ). (text ++ tag) ++ drop k o) (sym all)
+    over-behind text tag o o₁ t n lt e (f ∙ ap (λ (k : ℕ). tag ++ drop k (tailed n o₁)) (sym lg))
 
 -- the counters of the text start one after J0
 pub text-words : (rk j next d : List ℕ) → next ≡ gcmNext j → chain (streamMode Gctr rk) next d ≡ textOf rk j d

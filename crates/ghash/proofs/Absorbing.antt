@@ -26,7 +26,7 @@ absorbed-one s r b m k a e = record { key = k; hash = e ∙ ap (λ (x : ℕ). gm
 pub absorbed-same : {s r : Ghash} {b c : ℕ} → Absorbed s (b ∷ []) r → b ≡ c → Absorbed s (c ∷ []) r
 absorbed-same {s} a e = record { key = a .key; hash = a .hash ∙ ap (λ (x : ℕ). hashFrom (value (s .h)) (value (s .y)) (x ∷ [])) e }
 
-absorbed-both : (s r q : Ghash) (xs ys : List ℕ) → Absorbed s xs r → Absorbed r ys q → Absorbed s (xs ++ ys) q
+pub absorbed-both : (s r q : Ghash) (xs ys : List ℕ) → Absorbed s xs r → Absorbed r ys q → Absorbed s (xs ++ ys) q
 absorbed-both s r q xs ys a b = record {
   key = b .key ∙ a .key;
   hash = b .hash ∙ ap₂ (λ (k y : ℕ). hashFrom k y ys) (ap value (a .key)) (a .hash) ∙ sym (hash-append (value (s .h)) (value (s .y)) xs ys);

@@ -120,7 +120,7 @@ getD-zeros (suc n) zero = refl
 getD-zeros (suc n) (suc i) = getD-zeros n i
 
 -- the zeros after a list read like its end
-getD-before-zeros : (bs : List ℕ) (n i : ℕ) → getD (bs ++ replicate n 0) i 0 ≡ getD bs i 0
+pub getD-before-zeros : (bs : List ℕ) (n i : ℕ) → getD (bs ++ replicate n 0) i 0 ≡ getD bs i 0
 getD-before-zeros [] n i = getD-zeros n i
 getD-before-zeros (b ∷ bs) n zero = refl
 getD-before-zeros (b ∷ bs) n (suc i) = getD-before-zeros bs n i

@@ -20,7 +20,7 @@ hash-append h y [] bs = refl
 hash-append h y (a ∷ xs) bs = hash-append h (gmul (y ⊕ a) h) xs bs
 
 module _ (h : ℕ) (hh : Element h) where
-  hashFrom-lt : (y : ℕ) (bs : List ℕ) → Element y → Element (hashFrom h y bs)
+  pub hashFrom-lt : (y : ℕ) (bs : List ℕ) → Element y → Element (hashFrom h y bs)
   unfolding hashFrom
   hashFrom-lt y [] k = k
   hashFrom-lt y (b ∷ bs) k = hashFrom-lt (gmul (y ⊕ b) h) bs (gmul-lt (y ⊕ b) h hh)

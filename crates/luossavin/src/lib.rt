@@ -1,5 +1,7 @@
 // The host boundary: what a host in C or Rust links, declared in `include/luossavin.h`. Every call ends with an answer, and
 // none has a `requires`: a host that breaks one could not be told.
+mod in_pieces;
+
 ghost use mathlib.Core.Path.{_≡_};
 ghost use Rattle.walk.specs.Outcome.{refusal as refused};
 ghost use Rattle.cipher_mode.specs.Answer.{headOf};
@@ -33,7 +35,7 @@ fn refusal(number: u32) -> LuossavinAnswer
     }
 }
 
-fn report(answer: Answer) -> LuossavinAnswer
+pub(crate) fn report(answer: Answer) -> LuossavinAnswer
     ensures { λ r. ⌜ headIn r ≡ headOf answer ⌝ }
 {
     let ending = answer.ending;

@@ -48,11 +48,12 @@ fn step(t: &[u32], rk: [u32; 32], kind: Kind, s: [u32; 4], data: &[u8], out: &mu
     state_after(kind, s, e, b, c)
 }
 
-// A rest shorter than a block, to the front of `out`: xored with the front of the cipher's output.
-fn xor_rest(t: &[u32], rk: [u32; 32], s: [u32; 4], data: &[u8], out: &mut [u8])
+// A rest shorter than a block, to the front of `out`: xored with the front of the cipher's output, which is returned.
+fn xor_rest(t: &[u32], rk: [u32; 32], s: [u32; 4], data: &[u8], out: &mut [u8]) -> [u8; 16]
     requires { ⌜ Engine (now t) ⌝ }
     requires { ⌜ length (now «data») < 16 ⌝ }
     requires { ⌜ length (now «data») ≤ length (now out) ⌝ }
+    ensures { λ r. ⌜ r ≡ encryptBlock rk (unwords s) ⌝ }
     ensures { λ _. ⌜ now (out .exit) ≡ over (xors (now («data» .entry)) (encryptBlock rk (unwords s))) (now (out .entry)) ⌝ }
 {
     let pad = block::combine_block(cipher::encrypt(t, rk, s));
@@ -61,10 +62,17 @@ fn xor_rest(t: &[u32], rk: [u32; 32], s: [u32; 4], data: &[u8], out: &mut [u8])
         out[i] = data[i] ^ pad[i];
         i += 1;
     }
+    pad
 }
 
-// The whole message `data`, to the front of `out`. Returns the state after its full blocks, with which a message that goes
-// on after full blocks goes on.
+// Where a walk ends: the state after the full blocks, and the cipher of it, with which the rest was xored. A message that
+// goes on takes both from here, so that no block is ciphered twice.
+pub struct End {
+    pub state: [u32; 4],
+    pub pad: [u8; 16],
+}
+
+// The whole message `data`, to the front of `out`. Returns where the walk ends.
 pub fn stream(
     t: &[u32],
     rk: [u32; 32],
@@ -72,10 +80,11 @@ pub fn stream(
     iv: [u32; 4],
     data: &[u8],
     out: &mut [u8],
-) -> [u32; 4]
+) -> End
     requires { ⌜ Engine (now t) ⌝ }
     requires { ⌜ length (now «data») ≤ length (now out) ⌝ }
-    ensures { λ r. ⌜ unwords r ≡ endState (streamMode kind rk) (unwords iv) (now («data» .entry)) ⌝ }
+    ensures { λ r. ⌜ unwords (r .state) ≡ endState (streamMode kind rk) (unwords iv) (now («data» .entry)) ⌝ }
+    ensures { λ r. ⌜ r .pad ≡ encryptBlock rk (endState (streamMode kind rk) (unwords iv) (now («data» .entry))) ⌝ }
     ensures { λ _. ⌜ now (out .exit) ≡ over (chain (streamMode kind rk) (unwords iv) (now («data» .entry))) (now (out .entry)) ⌝ }
 {
     let mut s = iv;
@@ -85,6 +94,6 @@ pub fn stream(
         s = next;
         at += 16;
     }
-    xor_rest(t, rk, s, &data[at..], &mut out[at..]);
-    s
+    let pad = xor_rest(t, rk, s, &data[at..], &mut out[at..]);
+    End { state: s, pad }
 }

@@ -1,2 +1,2 @@
 pub mod AtMost
-pub mod Called
+pub mod Starts

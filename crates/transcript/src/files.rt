@@ -1,15 +1,12 @@
-// Reading files whole, and putting a new one in OUT's place.
+// What is read: the key file whole, and IN piece by piece, once or, where something is settled before the first byte is
+// written, twice.
 ghost use mathlib.Core.Path.{_≡_};
 ghost use Rattle.io.specs.Counts.{Counts};
-use crate::BESIDE;
-use crate::COMMAND;
+use crate::ASIDE;
 use crate::DONE;
 use crate::FILES;
-use crate::FRESH;
-use crate::KEPT;
 use crate::say;
 use crate::word_room;
-use typed::decimal::Number;
 
 // How many bytes were read, and the status to end with where they could not be.
 pub struct Read {
@@ -67,32 +64,6 @@ pub fn is_key_input(at: usize) -> bool {
     is_dash(typed::words::value(&word[..n]))
 }
 
-// Reads what was opened under a name whole, and closes it. `act` is what it is called where that fails.
-fn read_open(fd: i32, act: &[u8], name: &[u8], buf: &mut [u8]) -> Read
-    ensures { λ r. ⌜ Counts (r .length) (now (buf .exit)) ⌝ }
-{
-    if fd < 0 {
-        say::cannot(act, name);
-        return failed();
-    }
-    let read = read_all(fd, buf);
-    if read.status != DONE {
-        say::cannot(act, name);
-    }
-    libc::close(fd);
-    read
-}
-
-// Reads the key file that an argument names, or standard input.
-pub fn read_key(at: usize, buf: &mut [u8]) -> Read
-    ensures { λ r. ⌜ Counts (r .length) (now (buf .exit)) ⌝ }
-{
-    let mut word = word_room();
-    let n = os::arg(at, &mut word);
-    let name = typed::words::value(&word[..n]);
-    read_open(open_input(name), b"read the key ", name, buf)
-}
-
 fn open_input(name: &[u8]) -> i32 {
     if is_dash(name) {
         return libc::STDIN_FILENO;
@@ -100,82 +71,28 @@ fn open_input(name: &[u8]) -> i32 {
     os::open_read(name)
 }
 
-// Reads the file that an argument names, or standard input, and refuses one that is longer than `most`.
-pub fn read_input(at: usize, most: usize, buf: &mut [u8]) -> Read
+// Reads the key file that an argument names, or standard input, and closes it.
+pub fn read_key(at: usize, buf: &mut [u8]) -> Read
     ensures { λ r. ⌜ Counts (r .length) (now (buf .exit)) ⌝ }
 {
     let mut word = word_room();
     let n = os::arg(at, &mut word);
-    let read = read_open(open_input(&word[..n]), b"read ", &word[..n], buf);
-    if read.length > most {
-        let status = say::over_limit(at, most);
-        return Read { length: 0, status };
+    let name = typed::words::value(&word[..n]);
+    let fd = open_input(name);
+    if fd < 0 {
+        say::cannot(b"read the key ", name);
+        return failed();
     }
+    let read = read_all(fd, buf);
+    if read.status != DONE {
+        say::cannot(b"read the key ", name);
+    }
+    libc::close(fd);
     read
 }
 
-// Writes all of the bytes, through to the disk where there is one.
-fn write_out(fd: i32, bytes: &[u8]) -> bool {
-    if !io::write_all(fd, bytes) {
-        return false;
-    }
-    if libc::fsync(fd) < 0 {
-        return os::errno() == libc::EINVAL;
-    }
-    true
-}
-
-// Writes the bytes to the file that an argument names, or to standard output. A file is replaced; a pipe, a terminal or a
-// device is written straight: only a file has a place 1 to go to. `shy`: a terminal is spared the bytes.
-pub fn put(at: usize, shy: bool, key_file: &[u8], bytes: &[u8]) -> u8 {
-    let mut word = word_room();
-    let n = os::arg(at, &mut word);
-    let name = &word[..n];
-    if is_dash(name) {
-        return put_standard(shy, key_file, bytes);
-    }
-    if is_link(name) {
-        return say::is_link(name);
-    }
-    let there = os::open_append(name);
-    if there < 0 {
-        if os::errno() != libc::ENOENT {
-            return say::cannot(b"write ", name);
-        }
-        return replace(name, fresh(), bytes);
-    }
-    if libc::lseek(there, 1, libc::SEEK_SET) == 1 {
-        libc::close(there);
-        return put_over(name, at, key_file, bytes);
-    }
-    put_straight(there, name, shy, bytes)
-}
-
-// Writes to standard output, unless that has been opened on the key's file: only a file has a place.
-fn put_standard(shy: bool, key_file: &[u8], bytes: &[u8]) -> u8 {
-    if libc::lseek(libc::STDOUT_FILENO, 0, libc::SEEK_CUR) >= 0 {
-        if holds(b"/proc/self/fd/1", key_file) {
-            return say::holds_key(b"standard output");
-        }
-    }
-    put_straight(libc::STDOUT_FILENO, b"standard output", shy, bytes)
-}
-
-// Writes where nothing is replaced.
-fn put_straight(fd: i32, name: &[u8], shy: bool, bytes: &[u8]) -> u8 {
-    if shy {
-        if libc::isatty(fd) == 1 {
-            return say::terminal();
-        }
-    }
-    if !write_out(fd, bytes) {
-        return say::cannot(b"write ", name);
-    }
-    DONE
-}
-
 // Whether a file holds these bytes and no others, as far as a key file goes.
-fn holds(name: &[u8], bytes: &[u8]) -> bool {
+pub fn holds(name: &[u8], bytes: &[u8]) -> bool {
     let fd = os::open_read(name);
     if fd < 0 {
         return false;
@@ -187,155 +104,122 @@ fn holds(name: &[u8], bytes: &[u8]) -> bool {
     typed::names::alike(&file[..n], bytes)
 }
 
-// Replaces a file, unless it is the key's: a file that holds what the key file holds is that one or as good.
-fn put_over(name: &[u8], at: usize, key_file: &[u8], bytes: &[u8]) -> u8 {
-    if holds(name, key_file) {
-        return say::holds_key(name);
-    }
-    replace(name, kept_of(at), bytes)
+// IN: the descriptor that is read, -1 where it could not be opened; where it stands, -1 for what cannot be read twice; how
+// many bytes follow, 0 where that is not known; and, for what is kept aside, the descriptors that it is written and read by.
+pub struct Source {
+    pub fd: i32,
+    pub from: i64,
+    pub size: u64,
+    pub aside: i32,
+    pub again: i32,
 }
 
-// Whether a name is a link's, which is not followed, and not replaced by a file. C wants a path that ends in 0.
-fn is_link(name: &[u8]) -> bool {
-    if name.len() >= libc::PATH_MAX {
-        return false;
+// Where a descriptor stands, or -1: only a file has a place beyond that to go to, and comes back.
+fn place(fd: i32) -> i64 {
+    let from = libc::lseek(fd, 0, libc::SEEK_CUR);
+    if from < 0 {
+        return -1;
     }
-    let mut path = io::buffer();
-    bytes::copy(name, &mut path);
-    path[4095] = 0;
-    let mut to = [0u8; 1];
-    libc::readlink(&path, &mut to) >= 0
+    if libc::lseek(fd, 1, libc::SEEK_CUR) <= from {
+        return -1;
+    }
+    if libc::lseek(fd, from, libc::SEEK_SET) != from {
+        return -1;
+    }
+    from
 }
 
-// The permissions of a file, its owner and its group, where they are known.
-pub struct Kept {
-    pub known: bool,
-    pub mode: u32,
-    pub owner: u32,
-    pub group: u32,
+fn natural(n: i64) -> u64 {
+    if n > 0 { n as u64 } else { 0 }
 }
 
-fn unknown() -> Kept {
-    Kept {
-        known: false,
-        mode: 0,
-        owner: 0,
-        group: 0,
-    }
-}
-
-// What a new file gets: the system leaves an owner and a group of this number as they are.
-fn fresh() -> Kept {
-    let mut word = io::buffer();
-    let n = os::arg(FRESH, &mut word);
-    let read = typed::decimal::read(&word[..n], 511);
-    let Number::Is(mode) = read else {
-        return unknown();
-    };
-    Kept {
-        known: true,
-        mode,
-        owner: u32::MAX,
-        group: u32::MAX,
-    }
-}
-
-// What the launcher says of a file: permissions, owner and group, in 4, 10 and 10 decimal digits.
-fn read_kept(digits: &[u8]) -> Kept {
-    if digits.len() != 24 {
-        return unknown();
-    }
-    let read = typed::decimal::read(&digits[0..4], 4095);
-    let Number::Is(mode) = read else {
-        return unknown();
-    };
-    let read = typed::decimal::read(&digits[4..14], u32::MAX);
-    let Number::Is(owner) = read else {
-        return unknown();
-    };
-    let read = typed::decimal::read(&digits[14..24], u32::MAX);
-    let Number::Is(group) = read else {
-        return unknown();
-    };
-    Kept {
-        known: true,
-        mode,
-        owner,
-        group,
-    }
-}
-
-// What the launcher says of the file that the argument at this place names.
-fn kept_of(at: usize) -> Kept {
-    let mut word = io::buffer();
-    let n = os::arg(KEPT, &mut word);
-    if at < COMMAND {
-        return unknown();
-    }
-    let words = at - COMMAND;
-    if words > n {
-        return unknown();
-    }
-    let from = words * 24;
-    if from + 24 > n {
-        return unknown();
-    }
-    read_kept(&word[from..from + 24])
-}
-
-// The name under which a file is written: its own, and what the launcher adds.
-fn part_name(name: &[u8], part: &mut [u8]) -> usize
-    ensures { λ r. ⌜ Counts r (now (part .exit)) ⌝ }
-{
-    let n = name.len();
-    if n > part.len() {
+// How many bytes follow the place where a file stands. A folder, which cannot be read, has a length too.
+fn size_from(fd: i32, from: i64) -> u64 {
+    if from < 0 {
         return 0;
     }
-    bytes::copy(name, part);
-    n + os::arg(BESIDE, &mut part[n..])
+    let mut byte = [0u8; 1];
+    if libc::pread(fd, &mut byte, from) < 0 {
+        return 0;
+    }
+    let start = natural(from);
+    let end = natural(libc::lseek(fd, 0, libc::SEEK_END));
+    libc::lseek(fd, from, libc::SEEK_SET);
+    if end < start {
+        return 0;
+    }
+    end - start
 }
 
-// Writes a file beside `name`, and gives it that name once all is in it.
-fn replace(name: &[u8], kept: Kept, bytes: &[u8]) -> u8 {
-    if !kept.known {
-        return say::not_known(name);
-    }
+// Opens IN, at this place.
+pub fn open(at: usize) -> Source {
     let mut word = word_room();
-    let n = part_name(name, &mut word);
-    let part = &word[..n];
-    let fd = os::create(part);
+    let n = os::arg(at, &mut word);
+    let fd = open_input(&word[..n]);
     if fd < 0 {
-        return say::cannot_by(name, part);
+        say::cannot(b"read ", &word[..n]);
     }
-    let status = fill(fd, name, part, kept, bytes);
-    libc::close(fd);
-    if status != DONE {
-        return undo(part, status);
+    let from = place(fd);
+    Source {
+        fd,
+        from,
+        size: size_from(fd, from),
+        aside: -1,
+        again: -1,
     }
-    if os::rename(part, name) < 0 {
-        return undo(part, say::cannot_by(name, part));
-    }
-    DONE
 }
 
-// Writes the bytes, and then gives the file what it keeps: until then its owner alone may read it.
-fn fill(fd: i32, name: &[u8], part: &[u8], kept: Kept, bytes: &[u8]) -> u8 {
-    if !write_out(fd, bytes) {
-        return say::cannot_by(name, part);
+// IN as it is read first where it is read twice. What cannot be is kept aside, in a file that has lost its name before it has
+// a byte: it goes with the run, however that ends.
+pub fn to_be_read_twice(mut source: Source) -> Source {
+    if source.from >= 0 {
+        return source;
     }
-    if libc::fchown(fd, kept.owner, kept.group) < 0 {
-        return say::cannot_keep(name, kept.owner, kept.group);
+    let mut word = io::buffer();
+    let n = os::arg(ASIDE, &mut word);
+    let name = &word[..n];
+    source.aside = os::create(name);
+    if source.aside < 0 {
+        return unkept(source, name);
     }
-    if libc::fchmod(fd, kept.mode) < 0 {
-        return say::cannot_by(name, part);
+    source.again = os::open_read(name);
+    if source.again < 0 {
+        return unkept(source, name);
     }
-    DONE
+    if os::unlink(name) < 0 {
+        return unkept(source, name);
+    }
+    source
 }
 
-// Removes what was written beside OUT.
-fn undo(part: &[u8], status: u8) -> u8 {
-    if os::unlink(part) < 0 {
-        say::cannot(b"remove ", part);
+// Says that IN cannot be kept aside, which leaves nothing to read.
+fn unkept(mut source: Source, name: &[u8]) -> Source {
+    say::cannot(b"keep what is read in ", name);
+    source.fd = -1;
+    source
+}
+
+// Keeps a piece aside, where IN is kept.
+pub fn keep(source: Source, bytes: &[u8]) -> bool {
+    if source.aside < 0 {
+        return true;
     }
-    status
+    let mut word = io::buffer();
+    let n = os::arg(ASIDE, &mut word);
+    if !io::write_all(source.aside, bytes) {
+        say::cannot(b"keep what is read in ", &word[..n]);
+        return false;
+    }
+    true
+}
+
+// IN as it is read the second time.
+pub fn again(mut source: Source) -> Source {
+    if source.from >= 0 {
+        libc::lseek(source.fd, source.from, libc::SEEK_SET);
+        return source;
+    }
+    source.fd = source.again;
+    source.aside = -1;
+    source
 }

@@ -1,21 +1,26 @@
 // The program that `./luossavin` runs: it reads a person's words, does what they ask, and ends with a status line for
 // the launcher. What the words mean is settled by the crate `typed`, what becomes of the bytes by `cipher_mode`.
 mod files;
+mod output;
+mod passes;
 mod say;
+mod work;
 
 ghost use mathlib.Core.Path.{_≡_};
-ghost use Rattle.cipher_mode.specs.Answer.{outcome};
+ghost use Rattle.cipher_mode.specs.Key.{newCipher};
+ghost use Rattle.label.specs.Label.{labelOf};
 ghost use Rattle.transcript.specs.AtMost.{AtMost};
-ghost use Rattle.transcript.specs.Called.{directionOf, called};
+ghost use Rattle.transcript.specs.Starts.{directionOf, StartsOf};
 use cipher_mode::CipherMode;
 use cipher_mode::Direction;
-use cipher_mode::Sm4CipherMode;
-use cipher_mode::answer::Answer;
+use cipher_mode::Sm4Cipher;
 use cipher_mode::answer::Ending;
 use cipher_mode::answer::Refusal;
+use cipher_mode::checks;
+use files::Source;
+use passes::Pass;
 use typed::decimal::Number;
 use typed::hex::Hex;
-use typed::limits::LONGEST_SEALED;
 use typed::line::Fault;
 use typed::line::Line;
 use typed::things::EDITION;
@@ -29,13 +34,14 @@ use typed::things::NOTHING;
 use typed::things::OUT;
 use typed::words::Command;
 use typed::words::ModeName;
+use work::Starts;
+use work::Step;
+use work::Work;
 
 // How a run ends, besides the cipher's refusals.
 const DONE: u8 = 0;
 
 const USAGE: u8 = 64;
-
-const LIMIT: u8 = 65;
 
 const FILES: u8 = 66;
 
@@ -43,17 +49,19 @@ const FILES: u8 = 66;
 const REPORT: i32 = 9;
 
 // The arguments: the name by which the tool was called; what the launcher adds to OUT's name while OUT is being written;
-// the permissions of a new file, as a number; of each of the person's words what the file has that it names; and then
-// these words, of which the first is the command.
+// the name of a file in which IN is kept where it cannot be read twice; the permissions of a new file, as a number; of each
+// of the person's words what the file has that it names; and then these words, of which the first is the command.
 const TOOL: usize = 0;
 
 const BESIDE: usize = 1;
 
-const FRESH: usize = 2;
+const ASIDE: usize = 2;
 
-const KEPT: usize = 3;
+const FRESH: usize = 3;
 
-const COMMAND: usize = 4;
+const KEPT: usize = 4;
+
+const COMMAND: usize = 5;
 
 // What is asked for: the words are in order, but for the files and the sizes of key and IV. Of what is read later
 // `places` has the places of the words. `launcher` is the process that waits for the status line.
@@ -76,13 +84,6 @@ const WORD_ROOM: usize = 131072;
 
 fn word_room() -> [u8; WORD_ROOM] {
     [0u8; WORD_ROOM]
-}
-
-// One byte more than the longest file that a command reads, so that a longer one shows.
-const FILE_ROOM: usize = LONGEST_SEALED + 1;
-
-fn file_room() -> [u8; FILE_ROOM] {
-    [0u8; FILE_ROOM]
 }
 
 fn run() -> u8 {
@@ -213,25 +214,128 @@ fn with_key(asked: Asked, iv: &[u8]) -> u8 {
     let n = read.length;
     let mut key = io::buffer();
     let k = typed::key::read(&file[..n], &mut key);
-    with_input(asked, &file[..n], &key[0..k], iv)
+    with_cipher(asked, &file[..n], &key[0..k], iv)
 }
 
-// `file` is what the key file holds, and `key` the key that it spells.
-fn with_input(asked: Asked, file: &[u8], key: &[u8], iv: &[u8]) -> u8 {
-    let command = asked.command;
-    let places = asked.places;
-    let mut data = file_room();
-    let read = files::read_input(places[IN], typed::limits::most(command), &mut data);
-    if read.status != DONE {
-        return read.status;
-    }
-    let n = read.length;
-    let mut out = file_room();
-    let answer = call(asked, key, iv, &data[..n], &mut out);
+// `file` is what the key file holds, and `key` the key that it spells. What is wrong with key or IV is said before IN is read.
+fn with_cipher(asked: Asked, file: &[u8], key: &[u8], iv: &[u8]) -> u8 {
+    let begun = begin(asked, key, iv);
+    let answer = begun.answer;
     let ending = answer.ending;
+    if let Ending::Refused(refusal) = ending {
+        return refuse(refusal, asked, key.len(), iv.len(), 0);
+    }
+    let work = begun.work;
+    with_input(asked, file, work)
+}
+
+// The longest IN.
+fn most(asked: Asked) -> usize {
+    let command = asked.command;
+    let mode = asked.mode;
+    checks::limit_of(direction_of(command), mode)
+}
+
+fn with_input(asked: Asked, file: &[u8], work: Work) -> u8 {
+    let places = asked.places;
+    let source = files::open(places[IN]);
+    if source.fd < 0 {
+        return FILES;
+    }
+    if source.size > most(asked) as u64 {
+        return refuse(Refusal::TooLong, asked, 0, 0, 0);
+    }
+    let task = work.task;
+    if work::is_settling(task) {
+        return settle(asked, file, source, work);
+    }
+    deliver(asked, file, source, work, 0)
+}
+
+// A pass that writes nothing and settles whether anything is to be written. What cannot be read twice is kept for the second.
+fn settle(asked: Asked, file: &[u8], source: Source, work: Work) -> u8 {
+    let command = asked.command;
+    if let Command::Opens = command {
+        return opens(asked, source, work);
+    }
+    let first = files::to_be_read_twice(source);
+    if first.fd < 0 {
+        return FILES;
+    }
+    let pass = passes::run(
+        asked,
+        first,
+        most(asked),
+        passes::start(work, output::none(DONE)),
+    );
+    let status = judge(asked, pass, 0);
+    if status != DONE {
+        return status;
+    }
+    deliver(
+        asked,
+        file,
+        files::again(first),
+        work::writing(work),
+        pass.read,
+    )
+}
+
+// Says that IN opens, or why not.
+fn opens(asked: Asked, source: Source, work: Work) -> u8 {
+    let places = asked.places;
+    let pass = passes::run(
+        asked,
+        source,
+        most(asked),
+        passes::start(work, output::none(DONE)),
+    );
+    let status = judge(asked, pass, 0);
+    if status != DONE {
+        return status;
+    }
+    if output::is_alone(asked) {
+        return FILES;
+    }
+    say::opens(places[IN], asked.job, asked.edition)
+}
+
+// A pass that writes. `settled`: how long IN was when a pass before this one settled it, 0 where none was needed.
+fn deliver(asked: Asked, file: &[u8], source: Source, work: Work, settled: usize) -> u8 {
+    let output = output::start(asked, file);
+    if output.status != DONE {
+        return output.status;
+    }
+    let pass = passes::run(asked, source, most(asked), passes::start(work, output));
+    let written = pass.output;
+    let status = judge(asked, pass, settled);
+    if status != DONE {
+        return output::undo(asked, written, status);
+    }
+    output::finish(asked, written)
+}
+
+// The status that a pass leads to. What was settled and is refused now, or has another length, was changed in between.
+fn judge(asked: Asked, pass: Pass, settled: usize) -> u8 {
+    let places = asked.places;
+    if pass.status != DONE {
+        return pass.status;
+    }
+    let answer = pass.answer;
+    let ending = answer.ending;
+    if settled != 0 {
+        if pass.read != settled {
+            return say::changed(places[IN]);
+        }
+    }
     match ending {
-        Ending::Done(k) => deliver(asked, file, &out[0..k]),
-        Ending::Refused(refusal) => refuse(refusal, asked, key.len(), iv.len(), n),
+        Ending::Done(_) => DONE,
+        Ending::Refused(refusal) => {
+            if settled != 0 {
+                return say::changed(places[IN]);
+            }
+            refuse(refusal, asked, 0, 0, pass.read)
+        }
     }
 }
 
@@ -245,12 +349,13 @@ fn refuse(refusal: Refusal, asked: Asked, key: usize, iv: usize, data: usize) ->
         Refusal::ErrorDataLen => say::uneven(data),
         Refusal::InvalidLastU8 => say::last_byte(),
         Refusal::InvalidTag => say::tag(asked.job, asked.edition),
-        Refusal::TooLong => say::too_long(),
+        Refusal::TooLong => say::too_long(most(asked)),
         Refusal::NoRoom => say::no_room(),
         Refusal::EmptyCbc => say::empty(),
         Refusal::ShortGcm(missing) => say::short(data, missing),
         Refusal::WrongIv => say::iv_size(mode, iv),
         Refusal::WrongBlock => say::block_size(data),
+        Refusal::Ended => say::ended(),
     }
 }
 
@@ -267,36 +372,18 @@ fn direction_of(command: Command) -> Direction
     }
 }
 
-// The call that was asked for. A mode without a label passes over it.
-fn call(asked: Asked, key: &[u8], iv: &[u8], data: &[u8], out: &mut [u8]) -> Answer
-    ensures { λ r. ⌜ outcome r (now (out .exit)) ≡ called asked (now (key .entry)) (now (iv .entry)) (now («data» .entry)) (now (out .entry)) ⌝ }
+// The messages in pieces, at their start, under the key, the IV and the label of job and edition.
+fn labelled(asked: Asked, key: &[u8], iv: &[u8]) -> Starts
+    ensures { λ r. ⌜ StartsOf (newCipher (now (key .entry))) (labelOf (asked .job) (asked .edition)) (now (iv .entry)) r ⌝ }
 {
+    let label = label::label(asked.job, asked.edition);
+    work::start_all(Sm4Cipher::new(key), &label, iv)
+}
+
+// The pass that was asked for, before its first byte.
+fn begin(asked: Asked, key: &[u8], iv: &[u8]) -> Step {
     let command = asked.command;
     let mode = asked.mode;
-    let label = label::label(asked.job, asked.edition);
-    Sm4CipherMode::new(key, mode).call(direction_of(command), &label, data, iv, out)
-}
-
-// Whether a terminal is spared what the command writes.
-fn is_shy(asked: Asked) -> bool {
-    let command = asked.command;
-    let places = asked.places;
-    if places[FORCE] != 0 {
-        return false;
-    }
-    typed::words::writes_sealed(command)
-}
-
-// Writes what came of it, or says that the file opens. Whoever has killed the launcher has killed the run: then nothing
-// is written any more.
-fn deliver(asked: Asked, key_file: &[u8], bytes: &[u8]) -> u8 {
-    let command = asked.command;
-    let places = asked.places;
-    if libc::getppid() != asked.launcher {
-        return FILES;
-    }
-    if let Command::Opens = command {
-        return say::opens(places[IN], asked.job, asked.edition);
-    }
-    files::put(places[OUT], is_shy(asked), key_file, bytes)
+    let starts = labelled(asked, key, iv);
+    work::start(Sm4Cipher::new(key), direction_of(command), mode, starts, iv)
 }

@@ -3,7 +3,6 @@
 use crate::COMMAND;
 use crate::DONE;
 use crate::FILES;
-use crate::LIMIT;
 use crate::TOOL;
 use crate::USAGE;
 use crate::WORD_ROOM;
@@ -209,6 +208,22 @@ pub fn cannot(act: &[u8], what: &[u8]) -> u8 {
     FILES
 }
 
+// What OUT is called.
+fn output(s: &[u8]) {
+    if files::is_dash(s) {
+        text(b"standard output");
+        return;
+    }
+    name(STDERR_FILENO, s);
+}
+
+pub fn cannot_write(what: &[u8]) -> u8 {
+    text(b"luossavin: cannot write ");
+    output(what);
+    os::fail(b"");
+    FILES
+}
+
 // OUT cannot be written under the name that it has until it is whole.
 pub fn cannot_by(what: &[u8], part: &[u8]) -> u8 {
     text(b"luossavin: cannot write ");
@@ -254,13 +269,46 @@ pub fn is_link(what: &[u8]) -> u8 {
     )
 }
 
-pub fn over_limit(at: usize, most: usize) -> u8 {
+// What was written to OUT, which cannot be taken back.
+pub fn not_whole(what: &[u8]) {
+    text(b"luossavin: what was written to ");
+    output(what);
+    text(b" is not whole\n");
+}
+
+// IN was settled, and then it was no longer what had been.
+pub fn changed(at: usize) -> u8 {
     start();
     input(STDERR_FILENO, at);
-    text(b" is longer than the ");
-    number(most as u64);
-    text(b" bytes that this tool takes; nothing was written\n");
-    LIMIT
+    text(b" was changed while it was read\n");
+    FILES
+}
+
+// How far a pass is, out of as much as it has to read, where that is known. The next line is written over it.
+pub fn progress(mib: usize, size: u64) {
+    start();
+    number(mib as u64);
+    if size == 0 {
+        text(b" MiB so far\r");
+        return;
+    }
+    text(b" of ");
+    number(mib_of(size));
+    text(b" MiB\r");
+}
+
+// Bytes in MiB, the last one begun.
+fn mib_of(size: u64) -> u64 {
+    let full = size / 1048576;
+    if size % 1048576 == 0 {
+        return full;
+    }
+    full + 1
+}
+
+// Blanks over the last line on how far a pass is.
+pub fn end_of_progress() {
+    text(b"                                        \r");
 }
 
 // The answer to `opens`.
@@ -271,7 +319,7 @@ pub fn opens(at: usize, job: u32, edition: u16) -> u8 {
     io::write_all(STDOUT_FILENO, b", edition ");
     io::print_decimal(STDOUT_FILENO, edition as u64);
     if !io::write_all(STDOUT_FILENO, b"\n") {
-        return cannot(b"write ", b"standard output");
+        return cannot_write(b"-");
     }
     DONE
 }
@@ -316,8 +364,10 @@ pub fn tag(job: u32, edition: u16) -> u8 {
     4
 }
 
-pub fn too_long() -> u8 {
-    text(b"5 TooLong: this file is longer than the cipher takes\n");
+pub fn too_long(most: usize) -> u8 {
+    text(b"5 TooLong: this file is longer than the ");
+    number(most as u64);
+    text(b" bytes that the cipher takes\n");
     5
 }
 
@@ -360,4 +410,9 @@ pub fn block_size(length: usize) -> u8 {
     number(length as u64);
     text(b"\n");
     11
+}
+
+pub fn ended() -> u8 {
+    text(b"12 Ended: this message has come to its end\n");
+    12
 }

@@ -7,6 +7,5 @@ pub mod Names
 pub mod Things
 pub mod Words
 pub mod Line
-pub mod Limits
 pub mod Shown
 pub mod Status

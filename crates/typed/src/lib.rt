@@ -1,9 +1,8 @@
-// What a person types to the tool and reads from it: numbers, bytes in hex, keys, words, the line that they make, how
-// long a file may be, how a name is shown, and the status that a run ends with.
+// What a person types to the tool and reads from it: numbers, bytes in hex, keys, words, the line that they make, how a name
+// is shown, and the status that a run ends with.
 pub mod decimal;
 pub mod hex;
 pub mod key;
-pub mod limits;
 pub mod line;
 pub mod names;
 pub mod shown;

@@ -1,7 +1,7 @@
 -- A loop over the tails of a message and of an output follows the walk. Its invariant speaks of what will stand in the output
 -- at the end, if the walk goes on from here.
 -- Assumes nothing.
-use mathlib.Core.Path.{_≡_, sym, _∙_}
+use mathlib.Core.Path.{_≡_, sym, ap, ap₂, _∙_}
 use Prim.Native.Nat.{ℕ, _+_, _-_, _≤_, _<_}
 use mathlib.Core.List.{List, [], _++_, append-assoc, append-nil}
 use native.Mathlib.Omega.{arith}
@@ -34,8 +34,16 @@ returned-is o t at =
 pub length-tailed : (d : List ℕ) (at : ℕ) → length (tailed at d) ≡ length d - at
 length-tailed d at = rw (tail-is d at, length-drop)
 
-over-append : (p q o : List ℕ) → over (p ++ q) o ≡ p ++ over q (drop (length p) o)
+pub over-append : (p q o : List ℕ) → over (p ++ q) o ≡ p ++ over q (drop (length p) o)
 over-append p q o = rw (length-append p q, append-assoc, drop-drop)
+
+-- p was written to the front of an output, and then q behind it
+pub over-behind : (p q o o₁ t : List ℕ) (n : ℕ) → length p ≡ n → o₁ ≡ over p o → t ≡ over q (tailed n o₁)
+    → returned n o₁ t ≡ over (p ++ q) o
+over-behind p q o o₁ t n l e f =
+    let front : take n o₁ ≡ p = ap (take n) e ∙ take-at p (drop (length p) o) n l in
+    let back : tailed n o₁ ≡ drop (length p) o = tail-is o₁ n ∙ ap (drop n) e ∙ drop-at p (drop (length p) o) n l in
+    returned-is o₁ t n ∙ ap₂ _++_ front (f ∙ ap (over q) back) ∙ sym (over-append p q o)
 
 -- a turn of the loop: the step wrote what the block b gives, and what will stand at the end is the same
 pub turn : (m : Mode) (s s′ d o t b : List ℕ) (at : ℕ) → at + 16 ≤ length d → at + 16 ≤ length o → b ≡ take 16 (drop at d)

@@ -65,7 +65,7 @@ returns-2 c =
     let S = at-reversed .before .before .before .before in
     let a = S .args in
     let d = now (a .«data») in
-    let front = rw (at-reversed .reversed .ensures, reverse-reverse (a .rk), sub-zero) at (at-blocks .decrypt-blocks .ensures) in
+    let front = rw (at-reversed .reversed .ensures, reverse-reverse (a .rk), sub-zero) at (at-blocks .decrypt-blocks .ensures .1) in
     open-done (a .rk) (unwords (a .iv)) d (at-last .last-block .result) (now (a .out)) (length-unwords (a .iv))
     (S .pre .1 .0) (S .pre .1 .1 .0) (last-is at-last) (at-opened .opened .given .0 .0)
     (at-blocks .decrypt-blocks .last .1 .1 .1 .1 .0) (at-put-front .put-front .last .1 .1 .0) (S .pre .1 .1 .1)

@@ -1,5 +1,5 @@
--- `cbc::decrypt_blocks` meets its contract. The loop's invariant says what will stand in the output if the walk goes on from
--- here; at the end no full block is left, and a rest gives nothing.
+-- `cbc::decrypt_blocks` meets its contract. The loop's invariant says what will stand in the output, and in which state the
+-- walk will end, if it goes on from here; at the end no full block is left, and a rest gives nothing.
 -- Assumes nothing.
 use mathlib.Core.Path.{_≡_, refl, _∙_}
 use mathlib.Core.List.{reverse}
@@ -9,8 +9,8 @@ use denote.Ref.{now}
 use lib.ListN.{length, take, drop}
 use Rattle.block.specs.Words.{unwords}
 use Rattle.block.proofs.WordsBack.{length-unwords}
-use Rattle.walk.specs.Walk.{chain, over}
-use Rattle.walk.proofs.Loop.{tailed, tail-is, onward, turn, nothing-left}
+use Rattle.walk.specs.Walk.{chain, endState, over}
+use Rattle.walk.proofs.Loop.{tailed, tail-is, onward, turn, turn-state, last-state, nothing-left}
 use Rattle.cbc.specs.Cbc.{cbcDecrypt}
 use Rattle.cbc.proofs.Blocks.{decrypt-block}
 use borrow.Author.Needs.{needs}
@@ -20,13 +20,14 @@ use Rattle.cbc.proofs.decrypt_blocks.Tie as tie
 abbrev Inv-loop : tie.InvT-loop
 Inv-loop t back d out₀ s₀ at₀ out s at =
     (at ≤ length d) × (length out ≡ length out₀)
+    × (endState (cbcDecrypt (reverse back)) (unwords s) (drop at d) ≡ endState (cbcDecrypt (reverse back)) (unwords s₀) d)
     × (onward (cbcDecrypt (reverse back)) (unwords s) d out at ≡ over (chain (cbcDecrypt (reverse back)) (unwords s₀) d) out₀)
 
 abbrev μ-loop : tie.MeasureT-loop
 μ-loop t back d out₀ s₀ at₀ out s at = length d - at
 
 loop-holds : tie.Need-loop-holds Inv-loop μ-loop
-loop-holds c = (omega arith, refl, refl)
+loop-holds c = (omega arith, refl, refl, refl)
 
 loop-again : tie.Need-loop-again Inv-loop μ-loop
 loop-again c =
@@ -44,17 +45,22 @@ loop-again c =
     let written = at-step .decrypt-step .last .1 .1 .1 .1 .0 in (
       omega arith,
       omega arith,
+      turn-state (cbcDecrypt rk) (unwords s) _ d b at (omega arith) front (stepped .0) ∙ at-loop .loop .inv .2,
       turn (cbcDecrypt rk) (unwords s) _ d (at-loop .loop .out) written b at (omega arith) (omega arith) front full
           (stepped .0) (stepped .1)
-          ∙ at-loop .loop .inv .2,
+          ∙ at-loop .loop .inv .3,
     )
 
 returns : tie.Need-returns Inv-loop μ-loop
 returns c =
     let at-loop = c .before in
     let a = at-loop .before .before .before .before .args in
-    let l = at-loop .loop in
-    nothing-left (cbcDecrypt (reverse (a .back))) (unwords (l .s)) (now (a .«data»)) (l .out) (l .at) (omega arith) refl ∙ l .inv .2
+    let m = cbcDecrypt (reverse (a .back)) in
+    let d = now (a .«data») in
+    let l = at-loop .loop in (
+      last-state m (unwords (l .s)) d (l .at) (omega arith) ∙ l .inv .2,
+      nothing-left m (unwords (l .s)) d (l .out) (l .at) (omega arith) refl ∙ l .inv .3,
+    )
 
 pub decrypt-blocks-spec : {M : Type 1} → statement M
 decrypt-blocks-spec =

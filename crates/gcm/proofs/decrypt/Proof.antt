@@ -45,7 +45,7 @@ returns c =
     let size : length text ≡ length (textOf (a .rk) j (textPart d)) =
     ap length part ∙ sym (length-text (a .rk) j (textPart d)) in
     ap₂ {C = Outcome} (λ (n : ℕ) (o : List ℕ). leaving (finished n) o) size
-    (at-stream .stream .ensures .1 ∙ ap (λ (p : List ℕ). over p (now (a .out))) is-text)
+    (at-stream .stream .ensures .1 .1 ∙ ap (λ (p : List ℕ). over p (now (a .out))) is-text)
     ∙ open-done (a .rk) (value (a .h)) j (now (a .aad)) d (now (a .out)) (S .pre .1 .1 .0) opens
 
 returns-2 : tie.Need-returns-2

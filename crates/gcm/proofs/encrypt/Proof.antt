@@ -33,7 +33,7 @@ returns c =
     let text = textOf (a .rk) j d in
     let o₁ = at-stream .stream .last .1 .1 .1 .1 .1 .0 in
     let e : o₁ ≡ over text o =
-    at-stream .stream .ensures .1
+    at-stream .stream .ensures .1 .1
     ∙ ap (λ (q : List ℕ). over q o) (text-words (a .rk) j _ d (at-counter .gcm-block-add-one .ensures)) in
     let n = length-text (a .rk) j d in
     let front : take (length d - 0) o₁ ≡ text =

@@ -1,13 +1,8 @@
 -- `gcm::first_counter` meets its contract: the test that it makes is the definition's, and each function gives its side.
 -- Assumes nothing.
-use mathlib.Core.Path.{_≡_}
 use mathlib.Core.Logic.{⊎-elim}
-use Prim.Native.Nat.{ℕ}
-use denote.Ref.{now}
-use lib.ListN.{length}
 use borrow.Author.Tests.{eq-eqb, ne-eqb}
 use Rattle.gcm.specs.Gcm.{firstCounter}
-use borrow.Author.Needs.{needs}
 use Rattle.gcm.proofs.first_counter.Statement.{statement}
 use Rattle.gcm.proofs.first_counter.Tie as tie
 

@@ -1,13 +1,14 @@
 -- `stream::stream` meets its contract. The loop's invariant says what will stand in the output, and in which state the walk
 -- will end, if it goes on from here; so nothing is said about the past.
 -- Assumes nothing.
-use mathlib.Core.Path.{_≡_, refl, _∙_}
+use mathlib.Core.Path.{_≡_, refl, ap, _∙_}
 use Prim.Native.Nat.{_≤_, _-_}
 use native.Mathlib.Omega.{arith}
 use denote.Ref.{now}
 use lib.ListN.{length, take, drop}
 use lib.Seq.{length-take-le}
 use Rattle.block.specs.Words.{unwords}
+use Rattle.cipher.specs.Sm4.{encryptBlock}
 use Rattle.walk.specs.Walk.{chain, endState, over}
 use Rattle.stream.specs.Stream.{streamMode}
 use Rattle.walk.proofs.Loop.{tailed, tail-is, length-tailed, onward, turn, turn-state, last-state, rest-written}
@@ -58,9 +59,14 @@ returns c =
     let d = now (a .«data») in
     let s = unwords (at-loop .loop .s) in
     let at = at-loop .loop .at in
-    let written = at-rest .xor-rest .last .1 .1 .1 .1 .0 in (
-      last-state m s d at (omega arith) ∙ at-loop .loop .inv .2,
-      rest-written m s d (at-loop .loop .out) written at (omega arith) (at-rest .xor-rest .ensures) ∙ at-loop .loop .inv .3,
+    let written = at-rest .xor-rest .last .1 .1 .1 .1 .0 in
+    let ended = last-state m s d at (omega arith) ∙ at-loop .loop .inv .2 in
+    let rested = at-rest .xor-rest .ensures in (
+      ended,
+      (
+        rested .0 ∙ ap (encryptBlock (a .rk)) ended,
+        rest-written m s d (at-loop .loop .out) written at (omega arith) (rested .1) ∙ at-loop .loop .inv .3,
+      ),
     )
 
 pub stream-spec : {M : Type 1} → statement M

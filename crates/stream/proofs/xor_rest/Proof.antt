@@ -44,9 +44,11 @@ returns c =
     let four : length (a .s) ≡ 4 = search (needs, state) in
     let fits : (i : ℕ) → Fits w32 (getD (a .s) i 0) = λ i. search (needs, state) in
     let ciphered = encrypt-unwords (a .rk) (a .s) four (below-each (2 ^ 32) (a .s) (λ i. fits i .fits)) in
-    let l = at-loop .loop in
-    xor-filled (now (a .«data»)) (at-combine .combine-block .result) (now (a .out)) (l .out) (l .i) (l .inv .2) (omega arith) (omega arith)
-    ∙ rw (at-combine .combine-block .ensures, at-encrypt .encrypt .ensures, ciphered)
+    let l = at-loop .loop in (
+      at-combine .combine-block .ensures ∙ rw (at-encrypt .encrypt .ensures, ciphered),
+      xor-filled (now (a .«data»)) (at-combine .combine-block .result) (now (a .out)) (l .out) (l .i) (l .inv .2) (omega arith) (omega arith)
+          ∙ rw (at-combine .combine-block .ensures, at-encrypt .encrypt .ensures, ciphered),
+    )
 
 pub xor-rest-spec : {M : Type 1} → statement M
 xor-rest-spec =

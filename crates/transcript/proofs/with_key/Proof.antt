@@ -8,8 +8,8 @@ use borrow.Author.Needs.{needs}
 use Rattle.transcript.proofs.with_key.Statement.{statement}
 use Rattle.transcript.proofs.with_key.Tie as tie
 
-part-with-input-end : tie.Need-part-with-input-end
-part-with-input-end c =
+part-with-cipher-end : tie.Need-part-with-cipher-end
+part-with-cipher-end c =
     let at-read = c .before .before .before in
     omega (arith, at-read .read .ensures .0, simp length-append at (ap length (at-read .read .ensures .1)))
 
@@ -21,4 +21,4 @@ with-key-spec =
     (λ c. search needs) (λ c κs. search needs) (λ c. search needs) (λ c. search needs) (λ c κs. search needs)
     (λ c. search needs) (λ c κs. search needs) (λ c. search needs) (λ c. search needs) (λ c. search needs)
     (λ c κs. search needs) (λ c. search needs) (λ c. search needs) (λ c. search needs) (λ c. search needs)
-    part-with-input-end (λ c κs. search needs) (λ c. search needs))
+    part-with-cipher-end (λ c κs. search needs) (λ c. search needs))

@@ -27,7 +27,7 @@ returns c =
     let small : (i : ℕ) → getD iv i 0 < 256 = λ i. omega (arith, at-iv .shared-slice-known2 .given i) in
     let is-iv = spelled iv _ (S .pre .1 .0) small (at-split .split-block .ensures) in
     reached (c .done .result) (chain (streamMode (a .kind) (a .rk)) iv d) o _ _ (c .done .ensures) (length-stream (a .kind) (a .rk) iv d)
-    (at-stream .stream .ensures .1 ∙ ap (λ (s : List ℕ). over (chain (streamMode (a .kind) (a .rk)) s d) o) is-iv)
+    (at-stream .stream .ensures .1 .1 ∙ ap (λ (s : List ℕ). over (chain (streamMode (a .kind) (a .rk)) s d) o) is-iv)
 
 pub by-stream-spec : {M : Type 1} → statement M
 by-stream-spec =

@@ -1,0 +1,98 @@
+-- A message in pieces, as properties of any calls on states of a kind S: whatever the cuts are, empty ones too, the pieces give
+-- what the single call gives.
+use mathlib.Core.Path.{_≡_}
+use mathlib.Core.List.{List, [], _∷_, _++_}
+use Prim.Native.Nat.{ℕ, _≤_}
+use lib.ListN.{length, take}
+use Rattle.cipher_mode.specs.Tables.{limit}
+use Rattle.pieces.specs.Calls.{Stepped}
+use Rattle.demands.specs.Call.{Call, result}
+
+-- a call answered 0 with n bytes
+pub record Did (S : Type 0) (n : ℕ) (x : Stepped S) : Type 0 where
+  pub number : x .head .number ≡ 0
+  pub size : x .head .size ≡ n
+
+-- what a call wrote: the bytes of its output up to the length that it reports
+abbrev pub written : (S : Type 0) → Stepped S → List ℕ
+written S x = take (x .head .size) (x .bytes)
+
+-- Calls on pieces of a kind P, one after the other, from the state s on: the state after them,
+abbrev pub stateAfter : (S P : Type 0) → (S → P → Stepped S) → S → List P → S
+stateAfter S P call s [] = s
+stateAfter S P call s (p ∷ ps) = stateAfter S P call (call s p .state) ps
+
+-- what they wrote, joined,
+abbrev pub wrote : (S P : Type 0) → (S → P → Stepped S) → S → List P → List ℕ
+wrote S P call s [] = []
+wrote S P call s (p ∷ ps) = written S (call s p) ++ wrote S P call (call s p .state) ps
+
+-- and that each answered 0 with as many bytes as it should
+abbrev pub AllDid : (S P : Type 0) → (S → P → Stepped S) → (P → ℕ) → S → List P → Type 0
+AllDid S P call size s [] = Unit {0}
+AllDid S P call size s (p ∷ ps) = Did S (size p) (call s p) × AllDid S P call size (call s p .state) ps
+
+-- a piece of a message, and the output that is lent for it
+pub record Piece : Type 0 where
+  pub text : List ℕ
+  pub out : List ℕ
+
+-- the call on a piece
+abbrev pub onto : (S : Type 0) → (S → List ℕ → List ℕ → Stepped S) → S → Piece → Stepped S
+onto S piece s p = piece s (p .text) (p .out)
+
+-- the length of a piece
+abbrev pub sizeOf : Piece → ℕ
+sizeOf p = length (p .text)
+
+-- the message that the pieces make
+abbrev pub whole : List Piece → List ℕ
+whole [] = []
+whole (p ∷ ps) = p .text ++ whole ps
+
+-- each output has room for its piece
+abbrev pub Roomy : List Piece → Type 0
+Roomy [] = Unit {0}
+Roomy (p ∷ ps) = (length (p .text) ≤ length (p .out)) × Roomy ps
+
+-- all answered 0: the start with no bytes, each piece with its own length, the end with n
+pub record AllDone (S : Type 0) (call : S → Piece → Stepped S) (started : Stepped S) (ps : List Piece) (n : ℕ) (ended : Stepped S) : Type 0 where
+  pub start : Did S 0 started
+  pub pieces : AllDid S Piece call sizeOf (started .state) ps
+  pub end : Did S n ended
+
+-- Whenever the single call encrypts the whole, so do start, pieces and end, with its bytes. Ctr has no label.
+abbrev pub CtrInPieces : (S : Type 0) → (List ℕ → Stepped S) → (S → List ℕ → List ℕ → Stepped S) → (S → Stepped S) → Call → Type 0
+CtrInPieces S start piece end single =
+    (ps : List Piece) (label iv o : List ℕ) → Roomy ps → single label (whole ps) iv o .head .number ≡ 0
+    → AllDone S (onto S piece) (start iv) ps 0 (end (stateAfter S Piece (onto S piece) (start iv .state) ps))
+    × (wrote S Piece (onto S piece) (start iv .state) ps ≡ result (single label (whole ps) iv o))
+
+-- Whenever the single call seals the whole, so do start, pieces and end: the pieces write its ciphertext, and the end, given an
+-- output t with room, its tag.
+abbrev pub SealInPieces : (S : Type 0) → (List ℕ → List ℕ → Stepped S) → (S → List ℕ → List ℕ → Stepped S)
+    → (S → List ℕ → Stepped S) → Call → Type 0
+SealInPieces S start piece end single =
+    (ps : List Piece) (label iv t o : List ℕ) → Roomy ps → 16 ≤ length t → single label (whole ps) iv o .head .number ≡ 0
+    → AllDone S (onto S piece) (start label iv) ps 16 (end (stateAfter S Piece (onto S piece) (start label iv .state) ps) t)
+    × (wrote S Piece (onto S piece) (start label iv .state) ps
+    ++ written S (end (stateAfter S Piece (onto S piece) (start label iv .state) ps) t)
+    ≡ result (single label (whole ps) iv o))
+
+-- the ciphertext that the pieces make which an opening takes; they lend no output
+abbrev pub joined : List (List ℕ) → List ℕ
+joined [] = []
+joined (c ∷ cs) = c ++ joined cs
+
+abbrev pub none : List ℕ → ℕ
+none c = 0
+
+-- Whenever the start answers 0 and the ciphertext is within the limit, every piece of it is taken, and the end, with a tag of
+-- sixteen bytes, answers the number that the single call, given room, answers to the ciphertext and that tag: 0 exactly where
+-- it opens, and otherwise 4.
+abbrev pub OpensInPieces : (S : Type 0) → (List ℕ → List ℕ → Stepped S) → (S → List ℕ → Stepped S) → (S → List ℕ → Stepped S) → Call → Type 0
+OpensInPieces S start piece end single =
+    (cs : List (List ℕ)) (label iv tag o : List ℕ) → length (joined cs) ≤ limit → length (joined cs) ≤ length o → length tag ≡ 16
+    → start label iv .head .number ≡ 0
+    → AllDid S (List ℕ) piece none (start label iv .state) cs
+    × (end (stateAfter S (List ℕ) piece (start label iv .state) cs) tag .head .number ≡ single label (joined cs ++ tag) iv o .head .number)

@@ -1,0 +1,29 @@
+-- The full blocks of a text and what is begun behind them, also where the text goes on.
+-- Assumes nothing.
+use mathlib.Core.Path.{_≡_}
+use mathlib.Core.List.{List, _++_}
+use Prim.Native.Nat.{ℕ, _+_, _*_, _/_, _%_}
+use native.Mathlib.Omega.{arith}
+use lib.ListN.{length, length-append, length-drop, take-append-drop}
+use lib.Seq.{length-take-le, take-append-add, drop-append-add}
+use Rattle.pieces.specs.Hashing.{fullPart, begunPart}
+
+pub full-length : (c : List ℕ) → length (fullPart c) ≡ 16 * (length c / 16)
+full-length c = length-take-le (16 * (length c / 16)) c (omega arith)
+
+pub begun-length : (c : List ℕ) → length (begunPart c) ≡ length c % 16
+begun-length c = rw length-drop (omega arith)
+
+pub both-parts : (c : List ℕ) → fullPart c ++ begunPart c ≡ c
+both-parts c = take-append-drop (16 * (length c / 16)) c
+
+-- behind full blocks
+module _ (k : ℕ) (a x : List ℕ) (n : length a ≡ 16 * k) where
+  seam : 16 * (length (a ++ x) / 16) ≡ length a + 16 * (length x / 16)
+  seam = rw length-append (omega arith)
+
+  pub full-behind : fullPart (a ++ x) ≡ a ++ fullPart x
+  full-behind = rw seam (take-append-add a x (16 * (length x / 16)))
+
+  pub begun-behind : begunPart (a ++ x) ≡ begunPart x
+  begun-behind = rw seam (drop-append-add a x (16 * (length x / 16)))

@@ -1,0 +1,12 @@
+pub mod Begun
+pub mod Pads
+pub mod KeyStream
+pub mod Filling
+pub mod HashOn
+pub mod Passing
+pub mod Stepping
+pub mod TagWords
+pub mod Sealing
+pub mod CtrInPieces
+pub mod OpensInPieces
+pub mod SealInPieces

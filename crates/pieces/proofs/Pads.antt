@@ -1,0 +1,44 @@
+-- A text xored with a pad that is shorter or longer: as far as both go, in two parts, and byte by byte.
+-- Assumes nothing.
+use mathlib.Core.Path.{_≡_, refl, sym, ap, ap₂, _∙_}
+use mathlib.Core.List.{List, [], _∷_, _++_}
+use Prim.Native.Nat.{ℕ, zero, suc, _+_, _-_, _≤_, _<_, min}
+use native.Mathlib.Omega.{arith}
+use lib.ListN.{length, take, drop, getD, set, length-drop}
+use lib.Seq.{take-nil, getD-drop}
+use Rattle.block.specs.Xor.{_⊕_, xors}
+use Rattle.walk.specs.Walk.{over}
+use Rattle.walk.proofs.Fill.{xor-turn}
+
+-- bytes past the end of either do not count
+pub xors-front : (n : ℕ) (a b : List ℕ) → min (length a) (length b) ≤ n → xors (take n a) b ≡ xors a b
+xors-front n [] b h = ap (λ (l : List ℕ). xors l b) (take-nil n)
+xors-front zero (x ∷ a) [] h = refl
+xors-front zero (x ∷ a) (y ∷ b) h = absurd (omega arith)
+xors-front (suc n) (x ∷ a) [] h = refl
+xors-front (suc n) (x ∷ a) (y ∷ b) h = ap (λ (l : List ℕ). (x ⊕ y) ∷ l) (xors-front n a b (omega arith))
+
+pub length-both : (a b : List ℕ) → length (xors a b) ≡ min (length a) (length b)
+length-both [] b = omega arith
+length-both (x ∷ a) [] = omega arith
+length-both (x ∷ a) (y ∷ b) = let i = length-both a b in omega arith
+
+-- a text in two parts goes on in the pad
+pub xors-cut : (a b p : List ℕ) → length a ≤ length p → xors (a ++ b) p ≡ xors a p ++ xors b (drop (length a) p)
+xors-cut [] b p h = refl
+xors-cut (x ∷ a) b [] h = absurd (omega arith)
+xors-cut (x ∷ a) b (y ∷ p) h = ap (λ (l : List ℕ). (x ⊕ y) ∷ l) (xors-cut a b p (omega arith))
+
+-- the pad from place p on
+module _ (d pad o b : List ℕ) (p i : ℕ) (e : b ≡ xors (take i d) (drop p pad) ++ drop i o) where
+  pub pad-turn : i < length d → p + i < length pad → i < length o
+      → set b i (getD d i 0 ⊕ getD pad (p + i) 0) ≡ xors (take (i + 1) d) (drop p pad) ++ drop (i + 1) o
+  pad-turn h k l =
+      let left : i < length (drop p pad) = rw length-drop (omega arith) in
+      ap (λ (x : ℕ). set b i (getD d i 0 ⊕ x)) (sym (getD-drop p pad i 0)) ∙ xor-turn d (drop p pad) o b i e h left l
+
+  pub pad-reached : i ≡ min (length d) (length pad - p) → b ≡ over (xors d (drop p pad)) o
+  pad-reached n =
+      let left = length-drop p pad in
+      let both : i ≡ length (xors d (drop p pad)) = omega (arith, length-both d (drop p pad)) in
+      e ∙ ap₂ (λ (l : List ℕ) (k : ℕ). l ++ drop k o) (xors-front i d (drop p pad) (omega arith)) both

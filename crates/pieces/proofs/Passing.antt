@@ -1,0 +1,79 @@
+-- What is known where the checks of a piece or of an end passed, and that a state that stands at 0 passes.
+-- Assumes nothing.
+use mathlib.Core.Path.{_≡_, refl}
+use mathlib.Core.Bool.{Bool, true, false, not, cond}
+use Prim.Native.Nat.{ℕ, _+_, _≤_}
+use native.Mathlib.Omega.{arith}
+use lib.Dec.{eqb, ltb}
+use borrow.Author.Tests.{ltb-false, le-ltb, eqb-true, eq-eqb}
+use Rattle.cipher_mode.specs.declared.KeyAnswer.{KeyAnswer}
+use Rattle.cipher_mode.specs.declared.CipherMode.the-variants.{Gcm}
+use Rattle.cipher_mode.specs.declared.answer.Refusal.the-variants.{ErrorBlockSize, TooLong, WrongIv, Ended}
+use Rattle.cipher_mode.specs.declared.checks.Checked.the-variants.{Passed, Refused}
+use Rattle.cipher_mode.specs.Checks.{refuse, keyAndIv, wrongIv}
+use Rattle.cipher_mode.specs.Tables.{limit}
+use Rattle.cipher_mode.proofs.Passed.{let-through, both, sixteen, key-and-iv-passed, label-passed}
+use Rattle.pieces.specs.Checks.{gcmStarting, standing, running, writing, tagged}
+
+-- a state that runs, and n bytes more
+pub record Runs (mark label total n : ℕ) : Type 0 where
+  pub stands : mark ≡ 0
+  pub labelled : label ≤ limit
+  pub within : total + n ≤ limit
+
+-- an IV that Gcm takes, and a label within the limit
+pub record GcmStarts (iv label : ℕ) : Type 0 where
+  pub taken : wrongIv Gcm iv ≡ false
+  pub labelled : label ≤ limit
+
+pub starting-passed : (a : KeyAnswer) (iv label : ℕ) → gcmStarting a iv label ≡ Passed → GcmStarts iv label
+unfolding gcmStarting
+starting-passed a iv label e =
+    let from-key = both (keyAndIv a Gcm iv) _ e in
+    record { taken = key-and-iv-passed a Gcm iv (from-key .0) .1; labelled = label-passed label (from-key .1) }
+
+-- every mark but 0 is refused
+not-refused : (t a b d : Bool)
+    → cond t Passed (refuse a ErrorBlockSize (refuse b TooLong (refuse d WrongIv (Refused Ended)))) ≡ Passed → t ≡ true
+not-refused true a b d e = refl
+not-refused false a b d e =
+    let last = let-through d _ _ (let-through b _ _ (let-through a _ _ e .rest) .rest) .rest in
+    let z : _≡_ {A = ℕ} 0 1 = cc in absurd (omega arith)
+
+module _ (mark label total : ℕ) where
+  pub running-passed : (n : ℕ) → running mark label total n ≡ Passed → Runs mark label total n
+  unfolding running standing
+  running-passed n e =
+      let from-mark = both (standing mark) _ e in
+      let from-label = let-through (ltb limit label) _ _ (from-mark .1) in
+      record {
+        stands = eqb-true mark 0 (not-refused (eqb mark 0) (eqb mark 1) (eqb mark 5) (eqb mark 10) (from-mark .0));
+        labelled = ltb-false limit label (from-label .fails);
+        within = ltb-false limit (total + n) (let-through (ltb limit (total + n)) _ _ (from-label .rest) .fails);
+      }
+
+  pub writing-passed : (n written room : ℕ) → writing mark label total n written room ≡ Passed → Runs mark label total n × (written ≤ room)
+  unfolding writing
+  writing-passed n written room e =
+      let from-state = both (running mark label total n) _ e in
+      (running-passed n (from-state .0), ltb-false room written (let-through (ltb room written) _ _ (from-state .1) .fails))
+
+  pub tagged-passed : (tag : ℕ) → tagged mark label total tag ≡ Passed → Runs mark label total 0 × (tag ≡ 16)
+  unfolding tagged
+  tagged-passed tag e =
+      let from-state = both (running mark label total 0) _ e in
+      (running-passed 0 (from-state .0), sixteen tag (let-through (not (eqb tag 16)) _ _ (from-state .1) .fails))
+
+-- and the other way round
+module _ (label total : ℕ) (labelled : label ≤ limit) where
+  pub running-passes : (n : ℕ) → total + n ≤ limit → running 0 label total n ≡ Passed
+  unfolding running standing
+  running-passes n h = rw (le-ltb limit label labelled, le-ltb limit (total + n) h)
+
+  pub writing-passes : (n written room : ℕ) → total + n ≤ limit → written ≤ room → writing 0 label total n written room ≡ Passed
+  unfolding writing
+  writing-passes n written room h k = rw (running-passes n h, le-ltb room written k)
+
+  pub tagged-passes : (tag : ℕ) → total + 0 ≤ limit → tag ≡ 16 → tagged 0 label total tag ≡ Passed
+  unfolding tagged
+  tagged-passes tag h k = rw (running-passes 0 h, eq-eqb tag 16 k)

@@ -1,0 +1,28 @@
+-- Sealing: a state by its parts, and no text of nothing.
+-- Assumes nothing.
+use mathlib.Core.Path.{_≡_, ap, ap₂, _∙_}
+use mathlib.Core.List.{List, []}
+use Prim.Native.Nat.{ℕ}
+use native.Mathlib.Omega.{arith}
+use Rattle.counter.specs.Counter.{gcmNext}
+use Rattle.stream.specs.Stream.{streamMode}
+use Rattle.stream.specs.declared.Kind.the-variants.{Gctr}
+use Rattle.walk.proofs.Chain.{chain-rest}
+use Rattle.gcm.specs.Gcm.{textOf}
+use Rattle.pieces.specs.declared.flow.Flow.{Flow}
+use Rattle.pieces.specs.declared.hashing.Hashing.{Hashing}
+use Rattle.pieces.specs.declared.seal.Seal.{Seal}
+
+pub no-text : (rk j : List ℕ) → textOf rk j [] ≡ []
+unfolding textOf
+no-text rk j = chain-rest (streamMode Gctr rk) (gcmNext j) [] (omega arith)
+
+-- a state that runs is told by its parts
+pub same-seal : (rk m n : List ℕ) (f g : Flow) (h k : Hashing) (label total : ℕ) → f ≡ g → h ≡ k → m ≡ n
+    → _≡_ {A = Seal}
+    (record { rk = rk; flow = f; hashing = h; mask = m; label = label; total = total; stands = 0 })
+    (record { rk = rk; flow = g; hashing = k; mask = n; label = label; total = total; stands = 0 })
+same-seal rk m n f g h k label total ef eh em =
+    ap₂ {C = Seal}
+    (λ (x : Flow) (y : Hashing). record { rk = rk; flow = x; hashing = y; mask = m; label = label; total = total; stands = 0 }) ef eh
+    ∙ ap {B = Seal} (λ (x : List ℕ). record { rk = rk; flow = g; hashing = k; mask = x; label = label; total = total; stands = 0 }) em

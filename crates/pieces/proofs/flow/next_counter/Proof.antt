@@ -1,0 +1,17 @@
+-- `pieces::flow::next_counter` meets its contract: in each arm it is known whose counters are meant.
+-- Assumes nothing.
+use borrow.Author.Needs.{needs}
+use Rattle.pieces.proofs.flow.next_counter.Statement.{statement}
+use Rattle.pieces.proofs.flow.next_counter.Tie as tie
+
+returns : tie.Need-returns
+returns c = rw (c .before .enum-told .given .1) (c .block-add-one .ensures)
+
+returns-2 : tie.Need-returns-2
+returns-2 c = rw (c .before .enum-told2 .given .1) (c .gcm-block-add-one .ensures)
+
+pub next-counter-spec : {M : Type 1} → statement M
+next-counter-spec =
+    tie.close
+    (tie.spec
+    (λ c. search needs) (λ c κs. search needs) (λ c. search needs) (λ c κs. search needs) returns returns-2)

@@ -1,0 +1,66 @@
+-- The three states: after a text, and shut.
+use Prim.Native.Nat.{ℕ}
+use mathlib.Core.List.{List}
+use lib.ListN.{length, replicate}
+use Rattle.cipher.specs.Sm4.{encryptBlock}
+use Rattle.counter.specs.Counter.{gcmNext}
+use Rattle.gcm.specs.Gcm.{hashKey, J0, textOf}
+use Rattle.pieces.specs.declared.flow.Counting.the-variants.{Ctr as Ctr·counting, Gcm as Gcm·counting}
+use Rattle.pieces.specs.declared.flow.Flow.{Flow}
+use Rattle.pieces.specs.declared.hashing.Hashing.{Hashing}
+use Rattle.pieces.specs.declared.ctr.Ctr.{Ctr}
+use Rattle.pieces.specs.declared.opens.Opens.{Opens}
+use Rattle.pieces.specs.declared.seal.Seal.{Seal}
+use Rattle.pieces.specs.Flow.{flowAfter}
+use Rattle.pieces.specs.Hashing.{hashOf}
+
+-- Ctr under the round keys rk and the IV iv, after the text d
+unfoldable pub ctrAfter : List ℕ → List ℕ → List ℕ → Ctr
+ctrAfter rk iv d = record { rk = rk; flow = flowAfter Ctr·counting rk iv d; total = length d; stands = 0 }
+
+-- Gcm sealing under a label: counters from one after J0 on, the hash of what was written, and the cipher of J0 for the tag
+unfoldable pub sealAfter : List ℕ → List ℕ → List ℕ → List ℕ → Seal
+sealAfter rk label iv d = record {
+  rk = rk;
+  flow = flowAfter Gcm·counting rk (gcmNext (J0 rk iv)) d;
+  hashing = hashOf (hashKey rk) label (textOf rk (J0 rk iv) d);
+  mask = encryptBlock rk (J0 rk iv);
+  label = length label;
+  total = length d;
+  stands = 0;
+}
+
+-- Gcm opening under a label, after the ciphertext c
+unfoldable pub opensAfter : List ℕ → List ℕ → List ℕ → List ℕ → Opens
+opensAfter rk label iv c = record {
+  hashing = hashOf (hashKey rk) label c;
+  mask = encryptBlock rk (J0 rk iv);
+  label = length label;
+  total = length c;
+  stands = 0;
+}
+
+-- a flow and a hash of nothing but zeros
+abbrev pub noFlow : Flow
+noFlow = record { counter = replicate 16 0; pad = replicate 16 0 }
+
+abbrev pub noHashing : Hashing
+noHashing = record { h = replicate 16 0; y = replicate 16 0; held = replicate 16 0 }
+
+-- no message, with the number of the refusal that every call answers; nothing of a key is in it
+unfoldable pub ctrShut : ℕ → Ctr
+ctrShut n = record { rk = replicate 32 0; flow = noFlow; total = 0; stands = n }
+
+unfoldable pub sealShut : ℕ → Seal
+sealShut n = record {
+  rk = replicate 32 0;
+  flow = noFlow;
+  hashing = noHashing;
+  mask = replicate 16 0;
+  label = 0;
+  total = 0;
+  stands = n;
+}
+
+unfoldable pub opensShut : ℕ → Opens
+opensShut n = record { hashing = noHashing; mask = replicate 16 0; label = 0; total = 0; stands = n }

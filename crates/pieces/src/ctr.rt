@@ -1,0 +1,115 @@
+// Ctr in pieces, either way.
+ghost use mathlib.Core.Path.{_≡_};
+ghost use mathlib.Core.List.{[]};
+ghost use Rattle.pieces.specs.States.{ctrShut};
+ghost use Rattle.pieces.specs.Calls.{ctrStepped, ctrStart, ctrPiece, ctrEnd};
+use crate::checks;
+use crate::flow;
+use crate::flow::Counting;
+use crate::flow::Flow;
+use cipher_mode::CipherMode;
+use cipher_mode::Sm4Cipher;
+use cipher_mode::answer;
+use cipher_mode::answer::Answer;
+use cipher_mode::checks::Checked;
+
+// The round keys, the flow, and how many bytes went through; 0, or what every call answers. A host in C hands it in and out.
+#[repr(C)]
+pub struct Ctr {
+    pub rk: [u32; 32],
+    pub flow: Flow,
+    pub total: usize,
+    pub stands: u32,
+}
+
+pub struct CtrStep {
+    pub answer: Answer,
+    pub state: Ctr,
+}
+
+// The state of no message.
+fn shut(stands: u32) -> Ctr
+    ensures { λ r. ⌜ r ≡ ctrShut stands ⌝ }
+{
+    Ctr {
+        rk: [0u32; 32],
+        flow: flow::none(),
+        total: 0,
+        stands,
+    }
+}
+
+// Key and IV are checked as in the single call.
+pub fn start(cipher: Sm4Cipher, iv: &[u8]) -> CtrStep
+    ensures { λ r. ⌜ ctrStepped r [] ≡ ctrStart cipher (now (iv .entry)) ⌝ }
+{
+    let key = cipher.answer;
+    let checked = cipher_mode::checks::key_and_iv(key, CipherMode::Ctr, iv.len());
+    if let Checked::Refused(refusal) = checked {
+        return CtrStep {
+            answer: answer::refused(refusal),
+            state: shut(answer::number(refusal)),
+        };
+    }
+    let t = cipher::plain();
+    let rk = cipher.rk;
+    let flow = flow::begin(&t, rk, block::split_block(iv));
+    let state = Ctr {
+        rk,
+        flow,
+        total: 0,
+        stands: 0,
+    };
+    CtrStep {
+        answer: answer::done(0),
+        state,
+    }
+}
+
+impl Ctr {
+    // A piece of any length, to the front of `out`.
+    pub fn piece(self, data: &[u8], out: &mut [u8]) -> CtrStep
+        ensures { λ r. ⌜ ctrStepped r (now (out .exit)) ≡ ctrPiece self (now («data» .entry)) (now (out .entry)) ⌝ }
+    {
+        let n = data.len();
+        let total = self.total;
+        let checked = checks::writing(self.stands, 0, total, n, n, out.len());
+        if let Checked::Refused(refusal) = checked {
+            return CtrStep {
+                answer: answer::refused(refusal),
+                state: self,
+            };
+        }
+        let t = cipher::plain();
+        let rk = self.rk;
+        let flow = self.flow;
+        let next = flow::run(&t, rk, Counting::Ctr, flow, total % 16, data, out);
+        let state = Ctr {
+            rk,
+            flow: next,
+            total: total + n,
+            stands: 0,
+        };
+        CtrStep {
+            answer: answer::done(n),
+            state,
+        }
+    }
+
+    // The end of the message, of which nothing is kept.
+    pub fn end(self) -> CtrStep
+        ensures { λ r. ⌜ ctrStepped r [] ≡ ctrEnd self ⌝ }
+    {
+        let checked = checks::running(self.stands, 0, self.total, 0);
+        if let Checked::Refused(refusal) = checked {
+            return CtrStep {
+                answer: answer::refused(refusal),
+                state: self,
+            };
+        }
+        CtrStep {
+            answer: answer::done(0),
+            state: shut(12),
+        }
+    }
+}

@@ -1,0 +1,144 @@
+// Whether a sealed message opens that comes in pieces, with its tag at the end. No text is written.
+ghost use mathlib.Core.Path.{_≡_};
+ghost use mathlib.Core.List.{[]};
+ghost use lib.ListN.{length};
+ghost use Rattle.block.specs.Same.{same};
+ghost use Rattle.block.specs.Xor.{xors};
+ghost use Rattle.pieces.specs.States.{opensShut};
+ghost use Rattle.pieces.specs.Calls.{opensStepped, opensStart, opensPiece, opensEnd};
+use crate::checks;
+use crate::flow;
+use crate::hashing;
+use crate::hashing::Hashing;
+use cipher_mode::Sm4Cipher;
+use cipher_mode::answer;
+use cipher_mode::answer::Answer;
+use cipher_mode::answer::Refusal;
+use cipher_mode::checks::Checked;
+
+// The hash, the cipher of J0 and the lengths; 0, or what every call answers. The round keys are needed no more.
+#[repr(C)]
+pub struct Opens {
+    pub hashing: Hashing,
+    pub mask: [u8; 16],
+    pub label: usize,
+    pub total: usize,
+    pub stands: u32,
+}
+
+pub struct OpensStep {
+    pub answer: Answer,
+    pub state: Opens,
+}
+
+// The state of no message.
+fn shut(stands: u32) -> Opens
+    ensures { λ r. ⌜ r ≡ opensShut stands ⌝ }
+{
+    Opens {
+        hashing: hashing::none(),
+        mask: [0u8; 16],
+        label: 0,
+        total: 0,
+        stands,
+    }
+}
+
+// Key, IV and label are checked as in the single call.
+pub fn start(cipher: Sm4Cipher, aad: &[u8], iv: &[u8]) -> OpensStep
+    ensures { λ r. ⌜ opensStepped r [] ≡ opensStart cipher (now (aad .entry)) (now (iv .entry)) ⌝ }
+{
+    let key = cipher.answer;
+    let checked = checks::gcm_start(key, iv.len(), aad.len());
+    if let Checked::Refused(refusal) = checked {
+        return OpensStep {
+            answer: answer::refused(refusal),
+            state: shut(answer::number(refusal)),
+        };
+    }
+    let t = cipher::plain();
+    let rk = cipher.rk;
+    let h = gcm::hash_key(&t, rk);
+    let j0 = gcm::first_counter(h, iv);
+    let state = Opens {
+        hashing: hashing::begin(h, aad),
+        mask: flow::ciphered(&t, rk, j0),
+        label: aad.len(),
+        total: 0,
+        stands: 0,
+    };
+    OpensStep {
+        answer: answer::done(0),
+        state,
+    }
+}
+
+// Whether the tag is the one of mask and hash. All sixteen bytes are looked at, whatever the first ones are.
+fn same_tag(tag: &[u8], mask: [u8; 16], hash: [u8; 16]) -> bool
+    requires { ⌜ length (now tag) ≡ 16 ⌝ }
+    ensures { λ r. ⌜ r ≡ same (now (tag .entry)) (xors mask hash) ⌝ }
+{
+    let expected = block::block_xor(block::split_block(&mask), block::split_block(&hash));
+    let d = block::block_xor(block::split_block(tag), expected);
+    d[0] | d[1] | d[2] | d[3] == 0
+}
+
+impl Opens {
+    // A piece of the ciphertext.
+    pub fn piece(self, data: &[u8]) -> OpensStep
+        ensures { λ r. ⌜ opensStepped r [] ≡ opensPiece self (now («data» .entry)) ⌝ }
+    {
+        let n = data.len();
+        let total = self.total;
+        let label = self.label;
+        let checked = checks::running(self.stands, label, total, n);
+        if let Checked::Refused(refusal) = checked {
+            return OpensStep {
+                answer: answer::refused(refusal),
+                state: self,
+            };
+        }
+        let begun = self.hashing;
+        let mask = self.mask;
+        let state = Opens {
+            hashing: hashing::take_in(begun, total % 16, data),
+            mask,
+            label,
+            total: total + n,
+            stands: 0,
+        };
+        OpensStep {
+            answer: answer::done(0),
+            state,
+        }
+    }
+
+    // The end: 0 where the message opens with this tag, otherwise 4. Either way nothing is kept.
+    pub fn end(self, tag: &[u8]) -> OpensStep
+        ensures { λ r. ⌜ opensStepped r [] ≡ opensEnd self (now (tag .entry)) ⌝ }
+    {
+        let total = self.total;
+        let label = self.label;
+        let checked = checks::tagged(self.stands, label, total, tag.len());
+        if let Checked::Refused(refusal) = checked {
+            return OpensStep {
+                answer: answer::refused(refusal),
+                state: self,
+            };
+        }
+        let mask = self.mask;
+        let begun = self.hashing;
+        let hash = hashing::end(begun, total % 16, label, total);
+        let state = shut(12);
+        if same_tag(tag, mask, hash) {
+            return OpensStep {
+                answer: answer::done(0),
+                state,
+            };
+        }
+        OpensStep {
+            answer: answer::refused(Refusal::InvalidTag),
+            state,
+        }
+    }
+}

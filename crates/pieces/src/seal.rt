@@ -1,0 +1,138 @@
+// Gcm sealing in pieces: the ciphertext of each as it comes, and the tag at the end.
+ghost use mathlib.Core.Path.{_≡_};
+ghost use mathlib.Core.List.{[]};
+ghost use Rattle.pieces.specs.States.{sealShut};
+ghost use Rattle.pieces.specs.Calls.{sealStepped, sealStart, sealPiece, sealEnd};
+use crate::checks;
+use crate::flow;
+use crate::flow::Counting;
+use crate::flow::Flow;
+use crate::hashing;
+use crate::hashing::Hashing;
+use cipher_mode::Sm4Cipher;
+use cipher_mode::answer;
+use cipher_mode::answer::Answer;
+use cipher_mode::checks::Checked;
+
+// The round keys, the flow, the hash of what was written, the cipher of J0 and the lengths; 0, or what every call answers.
+#[repr(C)]
+pub struct Seal {
+    pub rk: [u32; 32],
+    pub flow: Flow,
+    pub hashing: Hashing,
+    pub mask: [u8; 16],
+    pub label: usize,
+    pub total: usize,
+    pub stands: u32,
+}
+
+pub struct SealStep {
+    pub answer: Answer,
+    pub state: Seal,
+}
+
+// The state of no message.
+fn shut(stands: u32) -> Seal
+    ensures { λ r. ⌜ r ≡ sealShut stands ⌝ }
+{
+    Seal {
+        rk: [0u32; 32],
+        flow: flow::none(),
+        hashing: hashing::none(),
+        mask: [0u8; 16],
+        label: 0,
+        total: 0,
+        stands,
+    }
+}
+
+// Key, IV and label are checked as in the single call.
+pub fn start(cipher: Sm4Cipher, aad: &[u8], iv: &[u8]) -> SealStep
+    ensures { λ r. ⌜ sealStepped r [] ≡ sealStart cipher (now (aad .entry)) (now (iv .entry)) ⌝ }
+{
+    let key = cipher.answer;
+    let checked = checks::gcm_start(key, iv.len(), aad.len());
+    if let Checked::Refused(refusal) = checked {
+        return SealStep {
+            answer: answer::refused(refusal),
+            state: shut(answer::number(refusal)),
+        };
+    }
+    let t = cipher::plain();
+    let rk = cipher.rk;
+    let h = gcm::hash_key(&t, rk);
+    let j0 = gcm::first_counter(h, iv);
+    let state = Seal {
+        rk,
+        flow: flow::begin(&t, rk, counter::gcm_block_add_one(j0)),
+        hashing: hashing::begin(h, aad),
+        mask: flow::ciphered(&t, rk, j0),
+        label: aad.len(),
+        total: 0,
+        stands: 0,
+    };
+    SealStep {
+        answer: answer::done(0),
+        state,
+    }
+}
+
+impl Seal {
+    // A piece of any length, to the front of `out`. What was written is hashed.
+    pub fn piece(self, data: &[u8], out: &mut [u8]) -> SealStep
+        ensures { λ r. ⌜ sealStepped r (now (out .exit)) ≡ sealPiece self (now («data» .entry)) (now (out .entry)) ⌝ }
+    {
+        let n = data.len();
+        let total = self.total;
+        let label = self.label;
+        let checked = checks::writing(self.stands, label, total, n, n, out.len());
+        if let Checked::Refused(refusal) = checked {
+            return SealStep {
+                answer: answer::refused(refusal),
+                state: self,
+            };
+        }
+        let t = cipher::plain();
+        let rk = self.rk;
+        let flow = self.flow;
+        let begun = self.hashing;
+        let mask = self.mask;
+        let next = flow::run(&t, rk, Counting::Gcm, flow, total % 16, data, out);
+        let state = Seal {
+            rk,
+            flow: next,
+            hashing: hashing::take_in(begun, total % 16, &out[0..n]),
+            mask,
+            label,
+            total: total + n,
+            stands: 0,
+        };
+        SealStep {
+            answer: answer::done(n),
+            state,
+        }
+    }
+
+    // The end: the tag, to the front of `out`. Nothing is kept.
+    pub fn end(self, out: &mut [u8]) -> SealStep
+        ensures { λ r. ⌜ sealStepped r (now (out .exit)) ≡ sealEnd self (now (out .entry)) ⌝ }
+    {
+        let total = self.total;
+        let label = self.label;
+        let checked = checks::writing(self.stands, label, total, 0, 16, out.len());
+        if let Checked::Refused(refusal) = checked {
+            return SealStep {
+                answer: answer::refused(refusal),
+                state: self,
+            };
+        }
+        let mask = self.mask;
+        let begun = self.hashing;
+        let hash = hashing::end(begun, total % 16, label, total);
+        flow::xor_pad(hash, 0, &mask, out);
+        SealStep {
+            answer: answer::done(16),
+            state: shut(12),
+        }
+    }
+}

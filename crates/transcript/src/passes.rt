@@ -1,0 +1,250 @@
+// A pass over IN: it is read piece by piece, in a fixed amount of memory, and what comes of each piece is written at once.
+ghost use mathlib.Core.Path.{_≡_};
+ghost use Prim.Native.Nat.{_+_, _≤_};
+ghost use lib.ListN.{length};
+ghost use Rattle.cipher.specs.Engine.{Engine};
+use crate::Asked;
+use crate::DONE;
+use crate::FILES;
+use crate::files;
+use crate::files::Source;
+use crate::output;
+use crate::output::Output;
+use crate::say;
+use crate::word_room;
+use crate::work;
+use crate::work::Work;
+use cipher_mode::answer;
+use cipher_mode::answer::Answer;
+use cipher_mode::answer::Ending;
+use cipher_mode::answer::Refusal;
+use typed::things::IN;
+
+// A pass on its way: how many bytes have been read, and how many of them wait at the front of the buffer for what follows. It
+// is over with a status, which has been said where it is not `DONE`, and then with the answer of the last step.
+pub struct Pass {
+    pub work: Work,
+    pub output: Output,
+    pub read: usize,
+    pub waiting: usize,
+    pub over: bool,
+    pub status: u8,
+    pub answer: Answer,
+}
+
+// A pass that has read nothing yet.
+pub fn start(work: Work, output: Output) -> Pass
+    ensures { λ r. ⌜ r .waiting ≡ 0 ⌝ }
+{
+    Pass {
+        work,
+        output,
+        read: 0,
+        waiting: 0,
+        over: false,
+        status: DONE,
+        answer: answer::done(0),
+    }
+}
+
+// A pass that is over with a status.
+fn over(mut pass: Pass, status: u8) -> Pass
+    ensures { λ r. ⌜ r .waiting ≡ pass .waiting ⌝ }
+{
+    pass.over = true;
+    pass.status = status;
+    pass
+}
+
+// A pass that is over with an answer.
+fn answered(mut pass: Pass, answer: Answer) -> Pass
+    ensures { λ r. ⌜ r .waiting ≡ pass .waiting ⌝ }
+{
+    pass.over = true;
+    pass.answer = answer;
+    pass
+}
+
+// Brings the bytes from a place on, up to another, to the front of the buffer.
+fn bring_forward(buf: &mut [u8], from: usize, to: usize)
+    requires { ⌜ from ≤ to ⌝ }
+    requires { ⌜ to ≤ length (now buf) ⌝ }
+{
+    let n = to - from;
+    let mut i = 0;
+    while i < n {
+        buf[i] = buf[from + i];
+        i += 1;
+    }
+}
+
+// Writes what a step made of a piece.
+fn write(asked: Asked, mut pass: Pass, step: work::Step, out: &[u8]) -> Pass
+    requires { ⌜ step .length ≤ length (now out) ⌝ }
+    ensures { λ r. ⌜ r .waiting ≡ pass .waiting ⌝ }
+{
+    let answer = step.answer;
+    let ending = answer.ending;
+    let Ending::Done(_) = ending else {
+        return answered(pass, answer);
+    };
+    let before = pass.output;
+    let n = step.length;
+    let after = output::put(asked, before, &out[0..n]);
+    let work = step.work;
+    pass.work = work;
+    pass.output = after;
+    if after.status != DONE {
+        return over(pass, after.status);
+    }
+    pass
+}
+
+// What a read brought.
+pub enum News {
+    More,
+    Nothing,
+    TooMuch,
+    Failed,
+}
+
+// How many bytes a read brought, where it brought some.
+pub struct Fetched {
+    pub length: usize,
+    pub news: News,
+}
+
+fn none(news: News) -> Fetched
+    ensures { λ r. ⌜ r .length ≡ 0 ⌝ }
+{
+    Fetched { length: 0, news }
+}
+
+// Reads on behind the bytes that wait, `most` bytes at most, and keeps aside what it read where IN is kept.
+fn fetch(asked: Asked, source: Source, waiting: usize, most: usize, buf: &mut [u8]) -> Fetched
+    requires { ⌜ waiting ≤ length (now buf) ⌝ }
+    ensures { λ r. ⌜ (waiting + r .length ≤ length (now (buf .exit))) × (r .length ≤ most) ⌝ }
+{
+    let places = asked.places;
+    let mut word = word_room();
+    let m = os::arg(places[IN], &mut word);
+    let got = libc::read(source.fd, &mut buf[waiting..]);
+    if got < 0 {
+        say::cannot(b"read ", &word[..m]);
+        return none(News::Failed);
+    }
+    let n = io::count(got, &buf[waiting..]);
+    if n == 0 {
+        return none(News::Nothing);
+    }
+    if n > most {
+        return none(News::TooMuch);
+    }
+    if !files::keep(source, &buf[waiting..waiting + n]) {
+        return none(News::Failed);
+    }
+    Fetched {
+        length: n,
+        news: News::More,
+    }
+}
+
+// The n bytes at the front of the buffer are at hand: what the pass takes of them goes its way, and the rest waits.
+fn turn(asked: Asked, t: &[u32], pass: Pass, n: usize, data: &mut [u8], out: &mut [u8]) -> Pass
+    requires { ⌜ Engine (now t) ⌝ }
+    requires { ⌜ n ≤ length (now «data») ⌝ }
+    requires { ⌜ length (now «data») ≤ length (now out) ⌝ }
+    ensures { λ r. ⌜ r .waiting ≤ 32 ⌝ }
+{
+    let work = pass.work;
+    let task = work.task;
+    let k = work::taken(task, n);
+    let step = work::piece(t, work, &data[0..k], out);
+    let mut next = write(asked, pass, step, out);
+    bring_forward(data, k, n);
+    next.waiting = n - k;
+    next
+}
+
+// There is no more to read.
+fn close(asked: Asked, t: &[u32], pass: Pass, news: News, rest: &[u8], out: &mut [u8]) -> Pass
+    requires { ⌜ Engine (now t) ⌝ }
+    requires { ⌜ length (now rest) ≤ 32 ⌝ }
+    requires { ⌜ 48 ≤ length (now out) ⌝ }
+{
+    let work = pass.work;
+    match news {
+        News::Nothing => {
+            let step = work::end(t, work, rest, out);
+            let answer = step.answer;
+            answered(write(asked, pass, step, out), answer)
+        }
+        News::TooMuch => answered(pass, answer::refused(Refusal::TooLong)),
+        _ => over(pass, FILES),
+    }
+}
+
+// A pass over IN, of `most` bytes at most.
+fn walk(asked: Asked, source: Source, most: usize, first: Pass, seen: bool) -> Pass
+    requires { ⌜ first .waiting ≡ 0 ⌝ }
+{
+    let t = cipher::plain();
+    let mut data = io::large_buffer();
+    let mut out = io::large_buffer();
+    let mut pass = first;
+    let mut read: usize = 0;
+    while !pass.over {
+        let waiting = pass.waiting;
+        let fetched = fetch(asked, source, waiting, most - read, &mut data);
+        let n = fetched.length;
+        let news = fetched.news;
+        if n == 0 {
+            pass.read = read;
+            return close(asked, &t, pass, news, &data[0..waiting], &mut out);
+        }
+        if seen {
+            show(read, read + n, source.size);
+        }
+        read += n;
+        let next = turn(asked, &t, pass, waiting + n, &mut data, &mut out);
+        pass = next;
+    }
+    pass
+}
+
+const MIB: usize = 1048576;
+
+// Shows how far a pass is, for each MiB anew.
+fn show(before: usize, after: usize, size: u64) {
+    if after / MIB > before / MIB {
+        say::progress(after / MIB, size);
+    }
+}
+
+// Clears the line that was shown, where one was.
+fn show_end(read: usize) {
+    if read >= MIB {
+        say::end_of_progress();
+    }
+}
+
+// Whether a person sees how far a pass is: on a terminal that is not shown the text itself.
+fn is_seen(output: Output) -> bool {
+    if libc::isatty(libc::STDERR_FILENO) != 1 {
+        return false;
+    }
+    libc::isatty(output.fd) != 1
+}
+
+// A pass over IN, of `most` bytes at most, with a word on how far it is.
+pub fn run(asked: Asked, source: Source, most: usize, first: Pass) -> Pass
+    requires { ⌜ first .waiting ≡ 0 ⌝ }
+{
+    let output = first.output;
+    let seen = is_seen(output);
+    let pass = walk(asked, source, most, first, seen);
+    if seen {
+        show_end(pass.read);
+    }
+    pass
+}

@@ -1,0 +1,446 @@
+// What a pass over IN makes of its bytes: a state by value, a step for each piece, and the end. A pass that settles something
+// before the first byte is written gives none.
+ghost use mathlib.Core.Path.{_≡_};
+ghost use Prim.Native.Nat.{_+_, _≤_};
+ghost use lib.ListN.{length};
+ghost use Rattle.cipher.specs.Engine.{Engine};
+ghost use Rattle.transcript.specs.Starts.{StartsOf};
+use cbc::Opened;
+use cipher_mode::CipherMode;
+use cipher_mode::Direction;
+use cipher_mode::Sm4Cipher;
+use cipher_mode::answer;
+use cipher_mode::answer::Answer;
+use cipher_mode::answer::Ending;
+use cipher_mode::answer::Refusal;
+use cipher_mode::checks;
+use cipher_mode::checks::Checked;
+use pieces::ctr::Ctr;
+use pieces::ctr::CtrStep;
+use pieces::opens::Opens;
+use pieces::opens::OpensStep;
+use pieces::seal::Seal;
+use pieces::seal::SealStep;
+use stream::Kind;
+
+// What is done with the bytes: sealed; asked whether they open; opened; xored with key stream; encrypted or decrypted with
+// Cfb or Ofb; and of Cbc encrypted, asked for their padding, decrypted.
+pub enum Task {
+    Seal,
+    GcmSettle,
+    GcmText,
+    Ctr,
+    Stream(Kind),
+    CbcSeal,
+    CbcSettle,
+    CbcText,
+}
+
+// A pass on its way, with the state of each task: a message that is sealed, one that is asked whether it opens, one in Ctr; and
+// the chaining state of Cfb, Ofb and Cbc, which in Gcm is the counter that the text is opened with.
+pub struct Work {
+    pub task: Task,
+    pub rk: [u32; 32],
+    pub seal: Seal,
+    pub opens: Opens,
+    pub ctr: Ctr,
+    pub chain: [u32; 4],
+}
+
+// What came of a step: how many bytes it wrote, and its answer, which is done unless it was refused.
+pub struct Step {
+    pub work: Work,
+    pub length: usize,
+    pub answer: Answer,
+}
+
+// The bytes but for the last k.
+fn but_last(n: usize, k: usize) -> usize
+    ensures { λ r. ⌜ (r ≤ n) × (n ≤ r + k) ⌝ }
+{
+    if n < k { 0 } else { n - k }
+}
+
+// The full blocks of n bytes.
+fn full(n: usize) -> usize
+    ensures { λ r. ⌜ (r ≤ n) × (n ≤ r + 15) ⌝ }
+{
+    n - n % 16
+}
+
+// How many of the n bytes at hand a pass takes. The rest waits for what follows: it may be the tag, a block that is not full
+// yet, or what settles the padding.
+pub fn taken(task: Task, n: usize) -> usize
+    ensures { λ r. ⌜ (r ≤ n) × (n ≤ r + 32) ⌝ }
+{
+    match task {
+        Task::Seal => n,
+        Task::GcmSettle => but_last(n, 16),
+        Task::GcmText => full(but_last(n, 16)),
+        Task::Ctr => n,
+        Task::Stream(_) => full(n),
+        Task::CbcSeal => full(n),
+        Task::CbcSettle => full(but_last(n, 17)),
+        Task::CbcText => full(but_last(n, 1)),
+    }
+}
+
+fn done(work: Work, length: usize) -> Step
+    ensures { λ r. ⌜ r .length ≡ «length» ⌝ }
+{
+    Step {
+        work,
+        length,
+        answer: answer::done(length),
+    }
+}
+
+fn refused(work: Work, refusal: Refusal) -> Step
+    ensures { λ r. ⌜ r .length ≡ 0 ⌝ }
+{
+    Step {
+        work,
+        length: 0,
+        answer: answer::refused(refusal),
+    }
+}
+
+fn chained(mut work: Work, chain: [u32; 4], length: usize) -> Step
+    ensures { λ r. ⌜ r .length ≡ «length» ⌝ }
+{
+    work.chain = chain;
+    done(work, length)
+}
+
+// What a call on a message in pieces answered, where it wrote so many bytes unless it was refused.
+fn answered(work: Work, answer: Answer, length: usize) -> Step
+    ensures { λ r. ⌜ r .length ≤ «length» ⌝ }
+{
+    let ending = answer.ending;
+    match ending {
+        Ending::Done(_) => done(work, length),
+        Ending::Refused(refusal) => refused(work, refusal),
+    }
+}
+
+fn seal_piece(mut work: Work, data: &[u8], out: &mut [u8]) -> Step
+    ensures { λ r. ⌜ r .length ≤ length (now («data» .entry)) ⌝ }
+{
+    let seal = work.seal;
+    let step = seal.piece(data, out);
+    let next = step.state;
+    work.seal = next;
+    let answer = step.answer;
+    answered(work, answer, data.len())
+}
+
+fn ctr_piece(mut work: Work, data: &[u8], out: &mut [u8]) -> Step
+    ensures { λ r. ⌜ r .length ≤ length (now («data» .entry)) ⌝ }
+{
+    let ctr = work.ctr;
+    let step = ctr.piece(data, out);
+    let next = step.state;
+    work.ctr = next;
+    let answer = step.answer;
+    answered(work, answer, data.len())
+}
+
+// A piece that is asked whether it opens, and of which so many bytes were written.
+fn gcm_piece(mut work: Work, data: &[u8], length: usize) -> Step
+    ensures { λ r. ⌜ r .length ≤ «length» ⌝ }
+{
+    let opens = work.opens;
+    let step = opens.piece(data);
+    let next = step.state;
+    work.opens = next;
+    let answer = step.answer;
+    answered(work, answer, length)
+}
+
+fn stream_piece(t: &[u32], work: Work, kind: Kind, data: &[u8], out: &mut [u8]) -> Step
+    requires { ⌜ Engine (now t) ⌝ }
+    requires { ⌜ length (now «data») ≤ length (now out) ⌝ }
+    ensures { λ r. ⌜ r .length ≡ length (now («data» .entry)) ⌝ }
+{
+    let rk = work.rk;
+    let chain = work.chain;
+    let end = stream::stream(t, rk, kind, chain, data, out);
+    let next = end.state;
+    chained(work, next, data.len())
+}
+
+// The text of a piece, which is asked once more whether it opens.
+fn gcm_text_piece(t: &[u32], work: Work, data: &[u8], out: &mut [u8]) -> Step
+    requires { ⌜ Engine (now t) ⌝ }
+    requires { ⌜ length (now «data») ≤ length (now out) ⌝ }
+    ensures { λ r. ⌜ r .length ≤ length (now («data» .entry)) ⌝ }
+{
+    let step = stream_piece(t, work, Kind::Gctr, data, out);
+    let next = step.work;
+    gcm_piece(next, data, data.len())
+}
+
+fn cbc_seal_piece(t: &[u32], work: Work, data: &[u8], out: &mut [u8]) -> Step
+    requires { ⌜ Engine (now t) ⌝ }
+    requires { ⌜ length (now «data») ≤ length (now out) ⌝ }
+    ensures { λ r. ⌜ r .length ≡ length (now («data» .entry)) ⌝ }
+{
+    let rk = work.rk;
+    let chain = work.chain;
+    let next = cbc::encrypt_blocks(t, rk, chain, data, out);
+    chained(work, next, data.len())
+}
+
+fn cbc_text_piece(t: &[u32], work: Work, data: &[u8], out: &mut [u8]) -> Step
+    requires { ⌜ Engine (now t) ⌝ }
+    requires { ⌜ length (now «data») ≤ length (now out) ⌝ }
+    ensures { λ r. ⌜ r .length ≡ length (now («data» .entry)) ⌝ }
+{
+    let rk = work.rk;
+    let chain = work.chain;
+    let next = cbc::decrypt_blocks(t, cipher::reversed(rk), chain, data, out);
+    chained(work, next, data.len())
+}
+
+// A piece, of the length that the pass takes.
+pub fn piece(t: &[u32], work: Work, data: &[u8], out: &mut [u8]) -> Step
+    requires { ⌜ Engine (now t) ⌝ }
+    requires { ⌜ length (now «data») ≤ length (now out) ⌝ }
+    ensures { λ r. ⌜ r .length ≤ length (now (out .exit)) ⌝ }
+{
+    let task = work.task;
+    match task {
+        Task::Seal => seal_piece(work, data, out),
+        Task::GcmSettle => gcm_piece(work, data, 0),
+        Task::GcmText => gcm_text_piece(t, work, data, out),
+        Task::Ctr => ctr_piece(work, data, out),
+        Task::Stream(kind) => stream_piece(t, work, kind, data, out),
+        Task::CbcSeal => cbc_seal_piece(t, work, data, out),
+        Task::CbcSettle => done(work, 0),
+        Task::CbcText => cbc_text_piece(t, work, data, out),
+    }
+}
+
+fn seal_end(work: Work, out: &mut [u8]) -> Step
+    ensures { λ r. ⌜ r .length ≤ 16 ⌝ }
+{
+    let seal = work.seal;
+    let step = seal.end(out);
+    let answer = step.answer;
+    answered(work, answer, 16)
+}
+
+// The tag settles whether what came before it opens, of which so many bytes are written now.
+fn gcm_end(work: Work, tag: &[u8], length: usize) -> Step
+    ensures { λ r. ⌜ r .length ≤ «length» ⌝ }
+{
+    let opens = work.opens;
+    let step = opens.end(tag);
+    let answer = step.answer;
+    answered(work, answer, length)
+}
+
+// The rest of the text, and the tag behind it.
+fn gcm_text_end(t: &[u32], work: Work, rest: &[u8], out: &mut [u8]) -> Step
+    requires { ⌜ Engine (now t) ⌝ }
+    requires { ⌜ length (now rest) ≤ length (now out) ⌝ }
+    ensures { λ r. ⌜ r .length ≤ length (now (rest .entry)) ⌝ }
+{
+    let n = but_last(rest.len(), 16);
+    let step = gcm_text_piece(t, work, &rest[0..n], out);
+    let next = step.work;
+    gcm_end(next, &rest[n..], n)
+}
+
+fn ctr_end(work: Work) -> Step
+    ensures { λ r. ⌜ r .length ≤ 0 ⌝ }
+{
+    let ctr = work.ctr;
+    let step = ctr.end();
+    let answer = step.answer;
+    answered(work, answer, 0)
+}
+
+fn cbc_seal_end(t: &[u32], work: Work, rest: &[u8], out: &mut [u8]) -> Step
+    requires { ⌜ Engine (now t) ⌝ }
+    requires { ⌜ length (now rest) ≤ 32 ⌝ }
+    requires { ⌜ 48 ≤ length (now out) ⌝ }
+    ensures { λ r. ⌜ r .length ≤ length (now (out .exit)) ⌝ }
+{
+    let rk = work.rk;
+    let chain = work.chain;
+    cbc::encrypt(t, rk, chain, rest, out);
+    done(work, 16 * (rest.len() / 16 + 1))
+}
+
+// The last blocks, which settle the padding. As many bytes are over as of the whole, so their length is refused where that of
+// the whole is.
+fn cbc_text_end(t: &[u32], work: Work, rest: &[u8], out: &mut [u8]) -> Step
+    requires { ⌜ Engine (now t) ⌝ }
+    requires { ⌜ length (now rest) ≤ length (now out) ⌝ }
+    ensures { λ r. ⌜ r .length ≤ length (now (out .exit)) ⌝ }
+{
+    let checked = checks::data(Direction::Decrypt, CipherMode::Cbc, rest.len());
+    if let Checked::Refused(refusal) = checked {
+        return refused(work, refusal);
+    }
+    let rk = work.rk;
+    let chain = work.chain;
+    let opened = cbc::decrypt(t, rk, chain, rest, out);
+    match opened {
+        Opened::Done(n) => done(work, n),
+        Opened::InvalidLastU8 => refused(work, Refusal::InvalidLastU8),
+    }
+}
+
+// A step that keeps what it wrote to itself.
+fn silent(mut step: Step) -> Step
+    ensures { λ r. ⌜ r .length ≡ 0 ⌝ }
+{
+    step.length = 0;
+    step
+}
+
+// The end, with the bytes that waited.
+pub fn end(t: &[u32], work: Work, rest: &[u8], out: &mut [u8]) -> Step
+    requires { ⌜ Engine (now t) ⌝ }
+    requires { ⌜ length (now rest) ≤ 32 ⌝ }
+    requires { ⌜ 48 ≤ length (now out) ⌝ }
+    ensures { λ r. ⌜ r .length ≤ length (now (out .exit)) ⌝ }
+{
+    let task = work.task;
+    match task {
+        Task::Seal => seal_end(work, out),
+        Task::GcmSettle => gcm_end(work, rest, 0),
+        Task::GcmText => gcm_text_end(t, work, rest, out),
+        Task::Ctr => ctr_end(work),
+        Task::Stream(kind) => stream_piece(t, work, kind, rest, out),
+        Task::CbcSeal => cbc_seal_end(t, work, rest, out),
+        Task::CbcSettle => silent(cbc_text_end(t, work, rest, out)),
+        Task::CbcText => cbc_text_end(t, work, rest, out),
+    }
+}
+
+// What is done with the bytes in a mode, one way or the other, in the first pass or the only one.
+fn task_of(direction: Direction, mode: CipherMode) -> Task {
+    match direction {
+        Direction::Encrypt => encryption(mode),
+        Direction::Decrypt => decryption(mode),
+    }
+}
+
+fn encryption(mode: CipherMode) -> Task {
+    match mode {
+        CipherMode::Cfb => Task::Stream(Kind::CfbEncrypt),
+        CipherMode::Ofb => Task::Stream(Kind::Ofb),
+        CipherMode::Ctr => Task::Ctr,
+        CipherMode::Cbc => Task::CbcSeal,
+        CipherMode::Gcm => Task::Seal,
+    }
+}
+
+fn decryption(mode: CipherMode) -> Task {
+    match mode {
+        CipherMode::Cfb => Task::Stream(Kind::CfbDecrypt),
+        CipherMode::Ofb => Task::Stream(Kind::Ofb),
+        CipherMode::Ctr => Task::Ctr,
+        CipherMode::Cbc => Task::CbcSettle,
+        CipherMode::Gcm => Task::GcmSettle,
+    }
+}
+
+// The first chaining state: the IV, which is refused where it is no block, and in Gcm the first counter of the text.
+fn first_state(mode: CipherMode, iv: &[u8], counter: [u8; 16]) -> [u32; 4] {
+    if let CipherMode::Gcm = mode {
+        return block::split_block(&counter);
+    }
+    if iv.len() < 16 {
+        return [0u32; 4];
+    }
+    block::split_block(iv)
+}
+
+// The starts of the messages in pieces that a pass may be of.
+pub struct Starts {
+    pub seal: SealStep,
+    pub opens: OpensStep,
+    pub ctr: CtrStep,
+}
+
+pub fn start_all(cipher: Sm4Cipher, label: &[u8], iv: &[u8]) -> Starts
+    ensures { λ r. ⌜ StartsOf cipher (now (label .entry)) (now (iv .entry)) r ⌝ }
+{
+    let seal = pieces::seal::start(cipher, label, iv);
+    let opens = pieces::opens::start(cipher, label, iv);
+    let ctr = pieces::ctr::start(cipher, iv);
+    Starts { seal, opens, ctr }
+}
+
+// A pass before its first byte. What is refused of key and IV is refused here.
+pub fn start(
+    cipher: Sm4Cipher,
+    direction: Direction,
+    mode: CipherMode,
+    starts: Starts,
+    iv: &[u8],
+) -> Step {
+    let key = cipher.answer;
+    let rk = cipher.rk;
+    let sealing = starts.seal;
+    let seal = sealing.state;
+    let flow = seal.flow;
+    let counter = flow.counter;
+    let opening = starts.opens;
+    let opens = opening.state;
+    let counting = starts.ctr;
+    let ctr = counting.state;
+    let work = Work {
+        task: task_of(direction, mode),
+        rk,
+        seal,
+        opens,
+        ctr,
+        chain: first_state(mode, iv, counter),
+    };
+    let checked = checks::key_and_iv(key, mode, iv.len());
+    if let Checked::Refused(refusal) = checked {
+        return refused(work, refusal);
+    }
+    done(work, 0)
+}
+
+// Whether a pass only settles what another is to write.
+pub fn is_settling(task: Task) -> bool {
+    match task {
+        Task::GcmSettle => true,
+        Task::CbcSettle => true,
+        _ => false,
+    }
+}
+
+// The task that writes what this one settles.
+fn writing_task(task: Task) -> Task {
+    match task {
+        Task::GcmSettle => Task::GcmText,
+        Task::CbcSettle => Task::CbcText,
+        _ => task,
+    }
+}
+
+// The pass that writes what this one settles.
+pub fn writing(work: Work) -> Work {
+    let task = work.task;
+    let rk = work.rk;
+    let seal = work.seal;
+    let opens = work.opens;
+    let ctr = work.ctr;
+    let chain = work.chain;
+    Work {
+        task: writing_task(task),
+        rk,
+        seal,
+        opens,
+        ctr,
+        chain,
+    }
+}

@@ -1,0 +1,36 @@
+/* What the two files of the smoke test share: single calls, and messages in pieces. */
+#ifndef SMOKE_H
+#define SMOKE_H
+
+#include "luossavin.h"
+
+enum { EDGE = 8, ROOM = 80, LENT = 0xa5 };
+
+void check(int holds, const char *what, const char *where, size_t n);
+
+/* Whether a call is done with that length: nothing is missing then. */
+int done(struct luossavin_answer a, size_t length);
+
+/* An output buffer with an edge on either side, all of it filled with one byte. */
+struct lent {
+    uint8_t bytes[EDGE + ROOM + EDGE];
+};
+
+uint8_t *lend(struct lent *l);
+
+/* Whether the buffer is as it was lent but for `length` bytes at its front. */
+int untouched(const struct lent *l, size_t length);
+
+/* A refusal with nothing missing. */
+void refused(struct luossavin_answer a, const struct lent *l, uint32_t number, const char *what);
+
+/* One byte more than any limit. */
+extern const uint8_t too_long[16777217];
+
+/* RFC 8998, appendix A.1: Gcm under a 12-byte IV. */
+extern const uint8_t rfc_key[16], rfc_iv[12], rfc_label[20], rfc_text[64], rfc_sealed[80];
+
+/* Messages in pieces. */
+void pieces(void);
+
+#endif
