@@ -8,7 +8,7 @@ use Rattle.bytes.specs.Bytes.{indexOf}
 use Rattle.block.specs.Same.{same}
 use Rattle.typed.specs.Ascii.{bytes}
 use Rattle.typed.specs.Names.{placeIn}
-use Rattle.typed.specs.Things.{MODE, KEY, IV, JOB, EDITION, FORCE, OUT}
+use Rattle.typed.specs.Things.{MODE, KEY, IV, JOB, EDITION, FORCE, OUT, NOTHING}
 use Rattle.typed.specs.declared.words.Command.{Command}
 use Rattle.typed.specs.declared.words.Command.the-variants.{Seal, Open, Opens, Encrypt, Decrypt, Unknown}
 use Rattle.typed.specs.declared.words.ModeName.{ModeName}
