@@ -6,14 +6,14 @@ use Prim.Native.Nat.{ℕ, _+_, _-_, _*_, _/_, _%_, _<_}
 use native.Mathlib.Nat.{mod-eq-of-lt, mod-lt}
 use native.Mathlib.Omega.{arith}
 use lib.Dec.{lit<}
-use lib.ListN.{length, take, drop, replicate, drop-of-length-le}
+use lib.ListN.{length, take, drop, replicate}
 use lib.Seq.{take-take, take-at}
 use Rattle.block.specs.Below.{AreBytes}
 use Rattle.block.specs.BigEndian.{numberOf, bytesOf}
 use Rattle.block.proofs.Convert.{bytesOf-numberOf, numberOf-bytesOf}
 use Rattle.field.specs.Field.{Element}
-use Rattle.ghash.specs.Ghash.{blockOf, blocks, lengthBlock, authBlocks, hashFrom, ghash}
-use Rattle.ghash.proofs.Blocks.{blocks-nil, blocks-cons, blocks-append}
+use Rattle.ghash.specs.Ghash.{blocks, lengthBlock, authBlocks, hashFrom, ghash}
+use Rattle.ghash.proofs.Blocks.{blocks-nil, blocks-append}
 use Rattle.ghash.proofs.Join.{hash-append, hashFrom-lt, ghash-lt}
 use Rattle.pieces.specs.declared.hashing.Hashing.{Hashing}
 use Rattle.pieces.specs.Hashing.{fullPart, begunPart, filledUp, hashAfter, hashOf, hashNext, hashEnd}
@@ -37,12 +37,9 @@ held-within h y c low n small =
     (sym (ap (λ (l : List ℕ). bytesOf 16 (hashFrom (numberOf h) (numberOf y) l)) none ∙ respelled y n small))
     (sym (ap (λ (k : ℕ). drop k c) z))
 
--- a full block's number, and then those of the full blocks behind it
-pub full-first : (b c : List ℕ) → length b ≡ 16 → blocks (fullPart (b ++ c)) ≡ blockOf b ∷ blocks (fullPart c)
-full-first b c n =
-    let one : blocks b ≡ blockOf b ∷ [] =
-    blocks-cons b (omega arith) ∙ ap (λ (l : List ℕ). blockOf b ∷ l) (ap blocks (drop-of-length-le b {i = 16} (omega arith)) ∙ blocks-nil) in
-    ap blocks (full-behind 1 b c n) ∙ blocks-append 1 b (fullPart c) n ∙ ap (λ (l : List ℕ). l ++ blocks (fullPart c)) one
+-- a full block, and then the full blocks behind it
+pub full-first : (b c : List ℕ) → length b ≡ 16 → blocks (fullPart (b ++ c)) ≡ blocks b ++ blocks (fullPart c)
+full-first b c n = ap blocks (full-behind 1 b c n) ∙ blocks-append 1 b (fullPart c) n
 
 -- what is held before the place where the text ended
 held-part : (b : List ℕ) → length b < 16 → take (length b) (filledUp b) ≡ b

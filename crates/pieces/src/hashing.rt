@@ -97,7 +97,7 @@ fn full_blocks(h: [u8; 16], y: [u8; 16], first: [u8; 16], rest: &[u8]) -> Hashin
         h: number_of(h),
         y: number_of(y),
     };
-    let begun = start.absorb(&first);
+    let begun = start.absorb_all(&first);
     let end = begun.absorb_all(&rest[0..n]);
     let last = end.y;
     Hashing {

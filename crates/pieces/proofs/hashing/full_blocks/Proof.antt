@@ -2,7 +2,7 @@
 -- (`full-first`), and what is held is what is begun behind them (`begun-behind`).
 -- Assumes nothing.
 use mathlib.Core.Path.{_≡_, sym, ap, ap₂, _∙_}
-use mathlib.Core.List.{List, _∷_, _++_}
+use mathlib.Core.List.{List, _++_}
 use Prim.Native.Nat.{ℕ, _-_, _*_, _/_, _%_}
 use native.Mathlib.Nat.{sub-zero}
 use native.Mathlib.Omega.{arith}
@@ -10,7 +10,7 @@ use denote.Ref.{now}
 use lib.ListN.{length, take, drop}
 use Rattle.block.specs.BigEndian.{bytesOf}
 use Rattle.block.specs.Wide.{value}
-use Rattle.ghash.specs.Ghash.{blockOf, blocks, hashFrom}
+use Rattle.ghash.specs.Ghash.{blocks, hashFrom}
 use Rattle.ghash.proofs.Absorbing.{absorbed-both}
 use Rattle.walk.proofs.Loop.{tail-is}
 use Rattle.pieces.specs.declared.hashing.Hashing.{Hashing}
@@ -42,12 +42,12 @@ returns c =
     let begun = tail-is d (length d - length d % 16) ∙ ap (λ (k : ℕ). drop k d) cut in
     let h = value (at-h .number-of .result) in
     let y = value (at-y .number-of2 .result) in
-    let hashed = absorbed-both _ _ _ _ _ (at-first .absorb .ensures) (at-all .absorb-all .ensures) .hash in
+    let hashed = absorbed-both _ _ _ _ _ (at-first .absorb-all .ensures) (at-all .absorb-all2 .ensures) .hash in
     ap₂ {C = Hashing} (λ (y l : List ℕ). record { h = a .h; y = y; held = l })
     (at-bytes .bytes-of .ensures
     ∙ ap (bytesOf 16)
     (hashed
-    ∙ ap (λ (l : List ℕ). hashFrom h y (blockOf b ∷ blocks l)) full
+    ∙ ap (λ (l : List ℕ). hashFrom h y (blocks b ++ blocks l)) full
     ∙ ap (hashFrom h y) (sym (full-first b d n))
     ∙ ap₂ (λ (h y : ℕ). hashFrom h y (blocks (fullPart (b ++ d)))) (at-h .number-of .ensures) (at-y .number-of2 .ensures)))
     (c .filled .ensures ∙ ap filledUp (begun ∙ sym (begun-behind 1 b d n)))
