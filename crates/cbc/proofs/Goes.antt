@@ -1,10 +1,9 @@
 -- Sealing goes on behind the full blocks: what they gave, and then, from the state that they end in, what the padded rest gives.
 -- Assumes nothing.
 use mathlib.Core.Path.{_≡_, refl, sym, ap, _∙_}
-use Prim.Native.Nat.{ℕ, _+_, _*_, _-_, _/_, _%_, _≤_, _<_}
-use mathlib.Core.List.{List, [], _++_}
-use native.Mathlib.Omega.{arith}
-use lib.ListN.{length, take, drop, length-append, take-append-drop}
+use Prim.Native.Nat.{ℕ, _+_, _-_, _%_, _≤_}
+use mathlib.Core.List.{List, _++_}
+use lib.ListN.{length, take, drop, take-append-drop}
 use lib.Seq.{length-take-le, take-at, drop-at, take-append-le}
 use Rattle.walk.specs.Walk.{chain, endState, over}
 use Rattle.walk.proofs.Cut.{chain-cut}

@@ -127,7 +127,7 @@ first-block-only-contradicts e =
 -- A length of its own invention, the output's, breaks the table of lengths at no data with an output of one byte: the table
 -- says 0.
 pub invented-length-breaks-the-table :
-    ¬ ((label d iv o : List ℕ) → Answered o (lengthOf Ctr Encrypt (zeroKey .cipher .rk) iv d) (inventsLength zeroKey label d iv o))
+    ¬ ((label d iv o : List ℕ) → Answered 11 o (lengthOf Ctr Encrypt (zeroKey .cipher .rk) iv d) (inventsLength zeroKey label d iv o))
 invented-length-breaks-the-table claim =
     let done-there = ap (λ (x : Outcome). x .head .number) (ctr-leaves [] (0 ∷ []) (omega arith) (omega arith)) in
     absurd (omega (arith, claim [] [] zeros (0 ∷ []) .reported done-there))

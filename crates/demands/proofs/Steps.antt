@@ -39,27 +39,27 @@ use Rattle.pieces.proofs.Passing.{writing-passed}
 use Rattle.demands.specs.Answered.{Answered}
 use Rattle.demands.specs.Steps.{outcomeOf, StepAnswered, turned, NoCtr, NoSeal, NoOpens}
 use Rattle.demands.proofs.Through.{not-zero}
-use Rattle.demands.proofs.Answering.{refuses, does, refusal-answers}
+use Rattle.demands.proofs.Answering.{refuses, does, refusal-answers, within-twelve}
 
 -- a refusal, or what comes next, which may count on it that the check passed
 goes-answers : (S : Type 0) (k : Checked) (o : List ℕ) (s : S) (n : ℕ) (next : Stepped S)
-    → (k ≡ Passed → Answered o n (outcomeOf S next))
+    → (k ≡ Passed → Answered 12 o n (outcomeOf S next))
     → (next .head .number ≢ 0 → next .head .number ≢ 4 → next .state ≡ s)
     → StepAnswered S s o n (goesOn S k o s next)
 goes-answers S Passed o s n next a u = record { answered = a refl; unmoved = u }
-goes-answers S (Refused r) o s n next a u = record { answered = refusal-answers r n o; unmoved = λ _ _. refl }
+goes-answers S (Refused r) o s n next a u = record { answered = refusal-answers 12 r n o (within-twelve (Refused r)); unmoved = λ _ _. refl }
 
 -- done with p, whose length is n
-written-answers : (p o : List ℕ) (n : ℕ) → length p ≡ n → n ≤ length o → Answered o n (leaving (finished n) (over p o))
-written-answers p o n e h = subst (λ (m : ℕ). Answered o n (leaving (finished m) (over p o))) e (does p o n e h)
+written-answers : (p o : List ℕ) (n : ℕ) → length p ≡ n → n ≤ length o → Answered 12 o n (leaving (finished n) (over p o))
+written-answers p o n e h = subst (λ (m : ℕ). Answered 12 o n (leaving (finished m) (over p o))) e (does 12 p o n e h)
 
 -- done with no output
-nothing-answers : Answered [] 0 (leaving (finished 0) [])
+nothing-answers : Answered 12 [] 0 (leaving (finished 0) [])
 nothing-answers = written-answers [] [] 0 refl (omega arith)
 
-yes-or-no-answers : (t : Bool) → Answered [] 0 (leaving (cond t (finished 0) (refusal 4)) [])
+yes-or-no-answers : (t : Bool) → Answered 12 [] 0 (leaving (cond t (finished 0) (refusal 4)) [])
 yes-or-no-answers true = nothing-answers
-yes-or-no-answers false = refuses 4 0 [] (omega arith) (omega arith)
+yes-or-no-answers false = refuses 12 4 0 [] (omega arith) (omega arith)
 
 -- the tag decides between 0 and 4
 unmoved-end : (t : Bool) (s r : Opens)
@@ -120,20 +120,20 @@ opens-end-answers s tag =
     (λ _. yes-or-no-answers test) (unmoved-end test s (opensShut ended))
 
 -- The starts report length 0, done or refused.
-start-answers : (S : Type 0) (k : Checked) (shut : ℕ → S) (s : S) → Answered [] 0 (outcomeOf S (begun S k shut s))
+start-answers : (S : Type 0) (k : Checked) (shut : ℕ → S) (s : S) → Answered 12 [] 0 (outcomeOf S (begun S k shut s))
 start-answers S Passed shut s = nothing-answers
-start-answers S (Refused r) shut s = refusal-answers r 0 []
+start-answers S (Refused r) shut s = refusal-answers 12 r 0 [] (within-twelve (Refused r))
 
-pub ctr-start-answers : (c : Sm4Cipher) (iv : List ℕ) → Answered [] 0 (outcomeOf Ctr (ctrStart c iv))
+pub ctr-start-answers : (c : Sm4Cipher) (iv : List ℕ) → Answered 12 [] 0 (outcomeOf Ctr (ctrStart c iv))
 unfolding ctrStart
 ctr-start-answers c iv = start-answers Ctr (keyAndIv (c .answer) Ctr·mode (length iv)) ctrShut (ctrAfter (c .rk) iv [])
 
-pub seal-start-answers : (c : Sm4Cipher) (label iv : List ℕ) → Answered [] 0 (outcomeOf Seal (sealStart c label iv))
+pub seal-start-answers : (c : Sm4Cipher) (label iv : List ℕ) → Answered 12 [] 0 (outcomeOf Seal (sealStart c label iv))
 unfolding sealStart
 seal-start-answers c label iv =
     start-answers Seal (gcmStarting (c .answer) (length iv) (length label)) sealShut (sealAfter (c .rk) label iv [])
 
-pub opens-start-answers : (c : Sm4Cipher) (label iv : List ℕ) → Answered [] 0 (outcomeOf Opens (opensStart c label iv))
+pub opens-start-answers : (c : Sm4Cipher) (label iv : List ℕ) → Answered 12 [] 0 (outcomeOf Opens (opensStart c label iv))
 unfolding opensStart
 opens-start-answers c label iv =
     start-answers Opens (gcmStarting (c .answer) (length iv) (length label)) opensShut (opensAfter (c .rk) label iv [])

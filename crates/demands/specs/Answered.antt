@@ -11,10 +11,11 @@ use Rattle.cipher_mode.specs.declared.CipherMode.the-variants.{Cfb, Ofb, Ctr, C
 use Rattle.cipher_mode.specs.declared.Direction.{Direction}
 use Rattle.cipher_mode.specs.declared.Direction.the-variants.{Encrypt, Decrypt}
 
--- x is an answer to a call whose output was lent as o, where document 01's table gives the length n
-pub record Answered (o : List ℕ) (n : ℕ) (x : Outcome) : Type 0 where
+-- x is an answer to a call whose numbers go up to `most`, whose output was lent as o, and of which document 01's table gives the
+-- length n
+pub record Answered (most : ℕ) (o : List ℕ) (n : ℕ) (x : Outcome) : Type 0 where
   -- the number is one of the papers'
-  pub numbered : x .head .number ≤ 12
+  pub numbered : x .head .number ≤ most
   -- only refusal 9 tells that bytes were missing
   pub missing : x .head .number ≢ 9 → x .head .missing ≡ 0
   -- every refusal reports length 0 and changes no byte of the output

@@ -16,7 +16,7 @@ outcomeOf S x = leaving (x .head) (x .bytes)
 
 -- x is an answer to a call on the state s whose output was lent as o, where a success has the length n
 pub record StepAnswered (S : Type 0) (s : S) (o : List ℕ) (n : ℕ) (x : Stepped S) : Type 0 where
-  pub answered : Answered o n (outcomeOf S x)
+  pub answered : Answered 12 o n (outcomeOf S x)
   -- every refusal leaves the state as it came, but for 4, which is the end of an opening
   pub unmoved : x .head .number ≢ 0 → x .head .number ≢ 4 → x .state ≡ s
 
