@@ -6,63 +6,41 @@
 const char *const kind_names[KINDS] = {"Ctr", "sealing", "opening"};
 
 /* Without a hole before the last field, that a state's fields are the same is that its bytes up to there are. */
-_Static_assert(offsetof(struct luossavin_ctr, stands) == 32 * 4 + 2 * 16 + 8, "Ctr's state has a hole");
-_Static_assert(offsetof(struct luossavin_seal, stands) == 32 * 4 + 6 * 16 + 2 * 8, "sealing's state has a hole");
-_Static_assert(offsetof(struct luossavin_opens, stands) == 4 * 16 + 2 * 8, "opening's state has a hole");
+_Static_assert(offsetof(struct luossavin_ctr, key) == 32 * 4 + 2 * 16 + 8 + 4, "Ctr's state has a hole");
+_Static_assert(offsetof(struct luossavin_seal, key) == 32 * 4 + 6 * 16 + 2 * 8 + 4, "sealing's state has a hole");
+_Static_assert(offsetof(struct luossavin_opens, key) == 4 * 16 + 2 * 8 + 4, "opening's state has a hole");
 
 struct luossavin_answer call_start(enum kind kind, struct state *s, const struct given *g)
 {
     memset(s, 0, sizeof *s);
     s->kind = kind;
     if (kind == COUNTING) {
-        struct luossavin_ctr_step step = luossavin_ctr_start(g->key, g->key_len, g->iv, g->iv_len);
+        struct luossavin_ctr_step step = luossavin_ctr_start(g->key, g->decrypt, g->iv, g->iv_len);
         s->is.ctr = step.state;
         return step.answer;
     }
     if (kind == SEALING) {
-        struct luossavin_seal_step step = luossavin_seal_start(
-            g->key, g->key_len, g->label, g->label_len, g->iv, g->iv_len);
+        struct luossavin_seal_step step = luossavin_seal_start(g->key, g->label, g->label_len, g->iv, g->iv_len);
         s->is.seal = step.state;
         return step.answer;
     }
-    struct luossavin_opens_step step = luossavin_opens_start(
-        g->key, g->key_len, g->label, g->label_len, g->iv, g->iv_len);
+    struct luossavin_opens_step step = luossavin_opens_start(g->key, g->label, g->label_len, g->iv, g->iv_len);
     s->is.opens = step.state;
     return step.answer;
 }
 
 struct luossavin_answer call_piece(struct state *s, const uint8_t *data, size_t data_len, uint8_t *out, size_t room)
 {
-    if (s->kind == COUNTING) {
-        struct luossavin_ctr_step step = luossavin_ctr_piece(s->is.ctr, data, data_len, out, room);
-        s->is.ctr = step.state;
-        return step.answer;
-    }
-    if (s->kind == SEALING) {
-        struct luossavin_seal_step step = luossavin_seal_piece(s->is.seal, data, data_len, out, room);
-        s->is.seal = step.state;
-        return step.answer;
-    }
-    struct luossavin_opens_step step = luossavin_opens_piece(s->is.opens, data, data_len);
-    s->is.opens = step.state;
-    return step.answer;
+    return s->kind == COUNTING ? luossavin_ctr_add(&s->is.ctr, data, data_len, out, room)
+        : s->kind == SEALING   ? luossavin_seal_add(&s->is.seal, data, data_len, out, room)
+                               : luossavin_opens_add(&s->is.opens, data, data_len);
 }
 
 struct luossavin_answer call_end(struct state *s, uint8_t *bytes, size_t count)
 {
-    if (s->kind == COUNTING) {
-        struct luossavin_ctr_step step = luossavin_ctr_end(s->is.ctr);
-        s->is.ctr = step.state;
-        return step.answer;
-    }
-    if (s->kind == SEALING) {
-        struct luossavin_seal_step step = luossavin_seal_end(s->is.seal, bytes, count);
-        s->is.seal = step.state;
-        return step.answer;
-    }
-    struct luossavin_opens_step step = luossavin_opens_end(s->is.opens, bytes, count);
-    s->is.opens = step.state;
-    return step.answer;
+    return s->kind == COUNTING ? luossavin_ctr_finish(&s->is.ctr)
+        : s->kind == SEALING   ? luossavin_seal_finish(&s->is.seal, bytes, count)
+                               : luossavin_opens_finish(&s->is.opens, bytes, count);
 }
 
 size_t *total_of(struct state *s)
@@ -80,28 +58,32 @@ uint32_t *stands_of(struct state *s)
     return s->kind == COUNTING ? &s->is.ctr.stands : s->kind == SEALING ? &s->is.seal.stands : &s->is.opens.stands;
 }
 
-uint8_t *bytes_of(struct state *s)
+uint16_t *number_of(struct state *s)
 {
-    return (uint8_t *)&s->is;
-}
-
-size_t fields_of(const struct state *s)
-{
-    size_t last = s->kind == COUNTING ? offsetof(struct luossavin_ctr, stands)
-        : s->kind == SEALING          ? offsetof(struct luossavin_seal, stands)
-                                      : offsetof(struct luossavin_opens, stands);
-    return last + sizeof(uint32_t);
+    return s->kind == COUNTING ? &s->is.ctr.key : s->kind == SEALING ? &s->is.seal.key : &s->is.opens.key;
 }
 
 int same_state(const struct state *a, const struct state *b)
 {
-    return a->kind == b->kind && memcmp(&a->is, &b->is, fields_of(a)) == 0;
+    size_t last = a->kind == COUNTING ? offsetof(struct luossavin_ctr, key)
+        : a->kind == SEALING          ? offsetof(struct luossavin_seal, key)
+                                      : offsetof(struct luossavin_opens, key);
+    return a->kind == b->kind && memcmp(&a->is, &b->is, last + sizeof(uint16_t)) == 0;
 }
 
-int holds_only(const struct state *s, uint32_t stands)
+int holds_only(const struct state *s, uint32_t stands, uint16_t number)
 {
     struct state only = {.kind = s->kind};
     memset(&only.is, 0, sizeof only.is);
     *stands_of(&only) = stands;
+    *number_of(&only) = number;
     return same_state(s, &only);
+}
+
+struct part part_on(const struct state *s, enum step step, size_t data, size_t room)
+{
+    struct state copy = *s;
+    const size_t *label = label_of(&copy);
+    return (struct part){.kind = s->kind, .step = step, .stands = *stands_of(&copy), .number = *number_of(&copy),
+        .total = *total_of(&copy), .label_before = label ? *label : 0, .data = data, .room = room};
 }

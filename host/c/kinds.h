@@ -3,9 +3,7 @@
 #ifndef KINDS_H
 #define KINDS_H
 
-#include "luossavin.h"
-
-enum kind { COUNTING, SEALING, OPENING, KINDS };
+#include "rules.h"
 
 extern const char *const kind_names[KINDS];
 
@@ -18,10 +16,12 @@ struct state {
     } is;
 };
 
-/* A key, an IV and a label as they are given; Ctr takes no label. */
+/* What a start is given: Ctr takes no label, and the direction is Ctr's alone. */
 struct given {
-    const uint8_t *key, *iv, *label;
-    size_t key_len, iv_len, label_len;
+    struct luossavin_key key;
+    bool decrypt;
+    const uint8_t *iv, *label;
+    size_t iv_len, label_len;
 };
 
 struct luossavin_answer call_start(enum kind kind, struct state *s, const struct given *g);
@@ -35,16 +35,16 @@ struct luossavin_answer call_end(struct state *s, uint8_t *bytes, size_t count);
 /* Whether every field is the same. */
 int same_state(const struct state *a, const struct state *b);
 
-/* Whether every field is zero but the last, which is the one given. */
-int holds_only(const struct state *s, uint32_t stands);
+/* Whether every field is zero but the last two: what it stands at, and its key's number. */
+int holds_only(const struct state *s, uint32_t stands, uint16_t number);
 
 /* Fields that a forged state is given; Ctr has no label, and gives NULL. */
 size_t *total_of(struct state *s);
 size_t *label_of(struct state *s);
 uint32_t *stands_of(struct state *s);
+uint16_t *number_of(struct state *s);
 
-/* All bytes of a state, and how many of them are fields: the last field has padding behind it, none before. */
-uint8_t *bytes_of(struct state *s);
-size_t fields_of(const struct state *s);
+/* A call on a state, as the rules see it: the fields of the state are in it. */
+struct part part_on(const struct state *s, enum step step, size_t data, size_t room);
 
 #endif
