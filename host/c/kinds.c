@@ -80,10 +80,17 @@ int holds_only(const struct state *s, uint32_t stands, uint16_t number)
     return same_state(s, &only);
 }
 
-struct part part_on(const struct state *s, enum step step, size_t data, size_t room)
+int state_is_due(const struct part *p, struct luossavin_answer due, const struct state *before, struct state *after)
 {
-    struct state copy = *s;
-    const size_t *label = label_of(&copy);
-    return (struct part){.kind = s->kind, .step = step, .stands = *stands_of(&copy), .number = *number_of(&copy),
-        .total = *total_of(&copy), .label_before = label ? *label : 0, .data = data, .room = room};
+    size_t total = p->step == START ? 0 : p->total + p->data;
+    if (p->step == START && due.number != 0) {
+        return holds_only(after, due.number, due.key);
+    }
+    if (due.number != 0 && due.number != 4) {
+        return same_state(before, after);
+    }
+    if (p->step == END) {
+        return holds_only(after, 12, due.key);
+    }
+    return *stands_of(after) == 0 && *total_of(after) == total && *number_of(after) == due.key;
 }

@@ -44,7 +44,8 @@ size_t *label_of(struct state *s);
 uint32_t *stands_of(struct state *s);
 uint16_t *number_of(struct state *s);
 
-/* A call on a state, as the rules see it: the fields of the state are in it. */
-struct part part_on(const struct state *s, enum step step, size_t data, size_t room);
+/* Whether the state after a call is the one that is due with its answer: a refusal leaves the one before, or, of a
+ * start, nothing but its number and the key's; an end leaves no more; a piece adds its length to the total. */
+int state_is_due(const struct part *p, struct luossavin_answer due, const struct state *before, struct state *after);
 
 #endif
