@@ -3,8 +3,11 @@
  *
  *   compare < LIST
  *
- * Prints, for each of the three, how many records were compared and how many differ; how many had a 12-byte
- * IV in Gcm; and the smallest record that differs. Exit status 1 if any does, 2 if the list cannot be read.
+ * The archive makes each call under the key with number 1. Every third call it makes once more with the key
+ * retired, under another number: decryption must then be what it was, and encryption the refusal that the rules
+ * (rules.c) say. Prints, for each of the three, how many records were compared and how many differ; how many had
+ * a 12-byte IV in Gcm; what came of those that were retired; and the smallest record that differs. Exit status 1
+ * if any does, 2 if the list cannot be read.
  */
 #define _POSIX_C_SOURCE 200809L /* open_memstream */
 
@@ -30,6 +33,12 @@ static struct {
     unsigned long sealed, opened, refused;
 } twelve;
 
+/* Of the records that are asked again under a retired key: how many encryptions that makes refusals, how many
+ * decryptions are done as they were, and how many of both are refused as they were. */
+static struct {
+    unsigned long stopped, decrypted, refused;
+} again;
+
 /* The number that the archive must answer: that of libsm's name, or, of the inputs that
  * docs/DIFFERENCES.md lists, what is said there. */
 static uint32_t number_for(const struct record *r)
@@ -50,10 +59,23 @@ static uint32_t number_for(const struct record *r)
     return r->name;
 }
 
-/* How many bytes the archive must say were missing: of refusal 9, those to a tag's sixteen. */
-static size_t missing_for(const struct record *r, uint32_t number)
+/* A record as the rules see it, under a key with these fields. What only libsm can know of the data is taken
+ * from its answer. */
+static struct whole whole_of(const struct record *r, struct holder key, size_t room)
 {
-    return number == 9 ? 16 - r->data.length : 0;
+    struct whole w = {.is_block = r->mode == BLOCK, .mode = r->mode, .direction = r->direction, .key = key,
+        .iv = r->iv.length, .label = r->label.length, .data = r->data.length, .room = room};
+    w.last = r->name == OK ? (uint8_t)(r->data.length - r->output.length) : 0;
+    w.wrong_tag = r->name == INVALID_TAG;
+    return w;
+}
+
+/* Whether what the rules say is libsm's number and length, and where docs/DIFFERENCES.md lists another, that. Of
+ * 14 libsm knows nothing. */
+static int is_as_recorded(const struct record *r, struct luossavin_answer due)
+{
+    size_t length = due.number == 0 ? r->output.length : 0;
+    return due.number == 14 || (due.number == number_for(r) && due.length == length);
 }
 
 /* Whether a record has an IV that libsm refuses and the archive takes. */
@@ -152,62 +174,67 @@ static void ask_gcrypt(struct record *r)
     *(verdict == BAD_TAG ? &twelve.refused : r->direction == ENCRYPT ? &twelve.sealed : &twelve.opened) += 1;
 }
 
-static struct luossavin_answer call(const struct record *r, uint8_t *out, size_t room)
+static struct luossavin_answer call(const struct record *r, struct luossavin_key key, uint8_t *out, size_t room)
 {
     if (r->mode == BLOCK) {
         return (r->direction == ENCRYPT ? luossavin_block_encrypt : luossavin_block_decrypt)(
-            r->key.bytes, r->key.length, r->data.bytes, r->data.length, out, room);
+            key, r->data.bytes, r->data.length, out, room);
     }
-    return (r->direction == ENCRYPT ? luossavin_encrypt : luossavin_decrypt)(r->mode, r->key.bytes, r->key.length,
-        r->label.bytes, r->label.length, r->data.bytes, r->data.length, r->iv.bytes, r->iv.length, out, room);
+    return (r->direction == ENCRYPT ? luossavin_encrypt : luossavin_decrypt)(r->mode, key, r->label.bytes,
+        r->label.length, r->data.bytes, r->data.length, r->iv.bytes, r->iv.length, out, room);
 }
 
-/* The least room that the header asks for. */
-static size_t room_needed(const struct record *r)
+static int is_filled(const uint8_t *bytes, size_t count)
 {
-    size_t n = r->data.length;
-    if (r->mode == BLOCK) {
-        return 16;
+    for (size_t i = 0; i < count; i++) {
+        if (bytes[i] != LENT) {
+            return 0;
+        }
     }
-    if (r->mode == CBC && r->direction == ENCRYPT) {
-        return n / 16 * 16 + 16;
-    }
-    if (r->mode == GCM) {
-        return r->direction == ENCRYPT ? n + 16 : n < 16 ? 0 : n - 16;
-    }
-    return n;
+    return 1;
 }
 
+/* The call on a key's record, whose fields must be those that are expected of it, with `slack` bytes of room more
+ * than it needs. Gives the number that is due. */
+static uint32_t compare_under(const struct record *r, struct luossavin_key key, struct holder fields, size_t slack)
+{
+    struct whole w = whole_of(r, fields, SIZE_MAX);
+    struct luossavin_answer a, due = answer_to(&w);
+    size_t room = room_needed(&w) + slack;
+    uint8_t *out = buffer(GOT, room + SLACK);
+    struct field got = {out, 0};
+    char what[160];
+    memset(out, LENT, room + SLACK);
+    a = call(r, key, out, room);
+    got.length = a.length <= room ? a.length : room;
+    if (!is_as_recorded(r, due)) {
+        differs(ARCHIVE, "the rules", r, "what they say is not what is recorded", got);
+    } else if (difference(a, due) != NULL || key.answer != fields.answer || key.number != fields.number
+        || key.retired != fields.retired) {
+        snprintf(what, sizeof what, "record %u, %u, %u, number %u, missing %u, key %u, length %zu, expected %u, %u, %u, %zu",
+            key.answer, key.number, key.retired, a.number, a.missing, a.key, a.length, due.number, due.missing, due.key,
+            due.length);
+        differs(ARCHIVE, "the archive", r, what, got);
+    } else if (memcmp(out, r->output.bytes, due.length) != 0) {
+        differs(ARCHIVE, "the archive", r, "the output is another", got);
+    } else if (!is_filled(out + due.length, room + SLACK - due.length)) {
+        differs(ARCHIVE, "the archive", r, "a byte past the length is written", got);
+    }
+    return due.number;
+}
+
+/* Once under the key; every third time then under the key retired. */
 static void compare_archive(const struct record *r, uint32_t index)
 {
     /* the least room and more than that, by turns; what lies past the room must stay as it is too */
-    size_t room = room_needed(r) + (index % 2 ? SLACK / 2 : 0);
-    uint32_t number = number_for(r);
-    size_t missing = missing_for(r, number), length = number == 0 ? r->output.length : 0;
-    uint8_t *out = buffer(GOT, room + SLACK);
-    struct luossavin_answer a;
-    struct field got = {out, 0};
-    char what[120];
+    size_t slack = index % 2 ? SLACK / 2 : 0;
+    uint32_t number = 1 + index % 65535;
     tally[ARCHIVE].compared++;
-    memset(out, LENT, room + SLACK);
-    a = call(r, out, room);
-    got.length = a.length <= room ? a.length : room;
-    if (a.number != number || a.missing != missing || a.length != length) {
-        snprintf(what, sizeof what, "number %u, missing %u, length %zu, expected %u, %zu, %zu", a.number, a.missing,
-            a.length, number, missing, length);
-        differs(ARCHIVE, "the archive", r, what, got);
-        return;
-    }
-    if (memcmp(out, r->output.bytes, length) != 0) {
-        differs(ARCHIVE, "the archive", r, "the output is another", got);
-        return;
-    }
-    for (size_t i = length; i < room + SLACK; i++) {
-        if (out[i] != LENT) {
-            snprintf(what, sizeof what, "byte %zu, past the length, is written", i);
-            differs(ARCHIVE, "the archive", r, what, got);
-            return;
-        }
+    compare_under(r, luossavin_key_new(r->key.bytes, r->key.length, 1), set_up(r->key.length, 1), slack);
+    if (index % 3 == 2) {
+        struct luossavin_key old = luossavin_key_retire(luossavin_key_new(r->key.bytes, r->key.length, number));
+        uint32_t answer = compare_under(r, old, retired(set_up(r->key.length, number)), slack);
+        *(answer == 14 ? &again.stopped : answer == 0 ? &again.decrypted : &again.refused) += 1;
     }
 }
 
@@ -296,6 +323,8 @@ int main(void)
     }
     printf("  12-byte IVs, the archive against libgcrypt: %lu of those, %lu sealed %lu opened %lu refused\n",
         twelve.sealed + twelve.opened + twelve.refused, twelve.sealed, twelve.opened, twelve.refused);
+    printf("  asked again with the key retired: %lu of those, %lu encryptions refused with 14, %lu decrypted, %lu refused as "
+        "before\n", again.stopped + again.decrypted + again.refused, again.stopped, again.decrypted, again.refused);
     for (int side = 0; side < SIDES; side++) {
         differ += tally[side].differ;
     }
