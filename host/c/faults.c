@@ -10,6 +10,8 @@
  */
 #include "faults.h"
 
+#include "calls.h"
+
 #include <signal.h>
 #include <stdio.h>
 #include <stdlib.h>
@@ -82,23 +84,11 @@ static struct whole now;
 static void print_trial(const char *what)
 {
     if (is_printed()) {
-        printf("wrong: %s: %s %u, %s, record %u, %u, %u, iv %zu, label %zu, data %zu, room %zu, last %u, tag %s\n", what,
-            now.is_block ? "block" : "mode", now.mode, now.direction == ENCRYPT ? "encrypt" : "decrypt", now.key.answer,
-            now.key.number, now.key.retired, now.iv, now.label, now.data, now.room, now.last,
-            now.wrong_tag ? "wrong" : "right");
+        printf("wrong: %s: %s %u, %s, record %u, %u, %u, ", what, now.is_block ? "block" : "mode", now.mode,
+            now.direction == ENCRYPT ? "encrypt" : "decrypt", now.key.answer, now.key.number, now.key.retired);
+        printf("iv %zu, label %zu, data %zu, room %zu, last %u, tag %s\n", now.iv, now.label, now.data, now.room,
+            now.last, now.wrong_tag ? "wrong" : "right");
     }
-}
-
-static struct luossavin_answer call(const struct whole *w, const uint8_t *iv, const uint8_t *label, const uint8_t *data,
-    uint8_t *out)
-{
-    struct luossavin_key key = record(w->key);
-    if (w->is_block) {
-        return (w->direction == ENCRYPT ? luossavin_block_encrypt : luossavin_block_decrypt)(
-            key, data, w->data, out, w->room);
-    }
-    return (w->direction == ENCRYPT ? luossavin_encrypt : luossavin_decrypt)(
-        w->mode, key, label, w->label, data, w->data, iv, w->iv, out, w->room);
 }
 
 static void *memory(size_t count)
@@ -116,7 +106,7 @@ static void seal_blocks(const uint8_t *iv, uint8_t *data, size_t length)
 {
     struct whole sealing = {.mode = CBC, .key = holders[0], .iv = 16, .data = length, .room = length + 16};
     uint8_t *sealed = memory(sealing.room);
-    call(&sealing, iv, NULL, data, sealed);
+    call_whole(&sealing, record(sealing.key), iv, NULL, data, sealed);
     memcpy(data, sealed, length);
     free(sealed);
 }
@@ -138,7 +128,7 @@ static void seal_gcm(const struct whole *w, const uint8_t *iv, const uint8_t *la
         .room = w->data};
     uint8_t *text = memory(w->data);
     memcpy(text, data, w->data);
-    call(&sealing, iv, label, text, data);
+    call_whole(&sealing, record(sealing.key), iv, label, text, data);
     data[w->data - 1] ^= w->wrong_tag;
     free(text);
 }
@@ -166,12 +156,13 @@ static int result_is(const struct whole *w, struct beside b, struct buffer data,
     struct luossavin_answer due)
 {
     struct whole roomy = *w;
+    struct luossavin_answer a;
     uint8_t *again;
     int same;
     roomy.room = w->data + 100;
     again = memory(roomy.room);
-    same = difference(call(&roomy, b.iv.bytes, b.label.bytes, data.bytes, again), due) == NULL
-        && memcmp(again, out.bytes, due.length) == 0;
+    a = call_whole(&roomy, record(w->key), b.iv.bytes, b.label.bytes, data.bytes, again);
+    same = difference(a, due) == NULL && memcmp(again, out.bytes, due.length) == 0;
     free(again);
     return same;
 }
@@ -184,7 +175,7 @@ static void try(struct whole w)
     now = w;
     memcpy(kept.bytes, data.bytes, w.data);
     shut(data);
-    if (judge(call(&w, lent(b.iv), lent(b.label), lent(data), lent(out)), due)) {
+    if (judge(call_whole(&w, record(w.key), lent(b.iv), lent(b.label), lent(data), lent(out)), due)) {
         if (!untouched(out, due.length)) {
             print_trial("it writes past its length");
         } else if (due.number == 0 && !result_is(&w, b, data, out, due)) {

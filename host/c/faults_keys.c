@@ -18,7 +18,8 @@ static void print_trial(const char *what)
         return;
     }
     if (now.retires) {
-        printf("wrong: %s: a record of %u, %u, %u, retired\n", what, now.fields.answer, now.fields.number, now.fields.retired);
+        printf("wrong: %s: a record of %u, %u, %u, retired\n", what, now.fields.answer, now.fields.number,
+            now.fields.retired);
     } else {
         printf("wrong: %s: a key of %zu bytes with number %u\n", what, now.bytes, now.number);
     }

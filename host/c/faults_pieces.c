@@ -3,7 +3,7 @@
  * rules.c; a state must be the one before it after every refusal.
  */
 #include "faults.h"
-#include "kinds.h"
+#include "calls.h"
 
 #include <stdio.h>
 #include <stdlib.h>
@@ -24,8 +24,8 @@ static void print_trial(const char *what)
         printf(", record %u, %u, %u, %s, iv %zu, label %zu\n", now.key.answer, now.key.number, now.key.retired,
             now.decrypt ? "decrypt" : "encrypt", now.iv, now.label);
     } else {
-        printf(", before %zu, total %zu, stands %u, key %u, data %zu, room %zu, tag %s\n", before_now, now.total, now.stands,
-            now.number, now.data, now.room, now.wrong_tag ? "wrong" : "right");
+        printf(", before %zu, total %zu, stands %u, key %u, data %zu, room %zu, tag %s\n", before_now, now.total,
+            now.stands, now.number, now.data, now.room, now.wrong_tag ? "wrong" : "right");
     }
 }
 
@@ -77,7 +77,8 @@ static struct buffer lend_out(const struct part *p, size_t before)
     return out;
 }
 
-static struct luossavin_answer call(const struct part *p, struct state *s, const uint8_t *data, uint8_t *out, size_t room)
+static struct luossavin_answer call(const struct part *p, struct state *s, const uint8_t *data, uint8_t *out,
+    size_t room)
 {
     return p->step == PIECE ? call_piece(s, data, p->data, out, room) : call_end(s, out, room);
 }
@@ -94,7 +95,8 @@ static int result_is(const struct part *p, const struct state *before, struct bu
 }
 
 /* Holds the answer, then the state, to what the header says. Whether all is as it should be so far. */
-static int in_order(struct luossavin_answer a, struct luossavin_answer due, const struct state *before, struct state *after)
+static int in_order(struct luossavin_answer a, struct luossavin_answer due, const struct state *before,
+    struct state *after)
 {
     if (!judge(a, due)) {
         return 0;
@@ -187,7 +189,8 @@ static void at_place(enum kind kind, size_t before)
  * the key is repeated by each. */
 static void not_standing(enum kind kind)
 {
-    static const uint32_t stands[] = {1, 5, 10, 13, 14, 12, 2, 4, 6, 9, 11, 15, 16, 255, 256, 65536, 0x80000000, 0xffffffff};
+    static const uint32_t stands[] = {1, 5, 10, 13, 14, 12, 2, 4, 6, 9, 11, 15, 16, 255, 256, 65536, 0x80000000,
+        0xffffffff};
     static const uint16_t numbers[] = {0, 1, 65535};
     for (int i = 0; i < 18; i++) {
         struct part p = {.kind = kind, .step = PIECE, .total = 17, .stands = stands[i], .number = numbers[i % 3]};

@@ -15,7 +15,7 @@
  */
 #include "pieces.h"
 
-#include "kinds.h"
+#include "calls.h"
 #include "peers.h"
 #include "random.h"
 #include "wrap.h"
@@ -223,7 +223,8 @@ static int hold_retired(void)
     if (now == OPENING) {
         return 1;
     }
-    return (is(begin(&s, false, 1), 14, 0, 0) && holds_only(&s, 14, m.number)) || is_wrong("a start under a retired key");
+    return (is(begin(&s, false, 1), 14, 0, 0) && holds_only(&s, 14, m.number))
+        || is_wrong("a start under a retired key");
 }
 
 /* A call that must be refused, with the state and the buffer that it had as they were. */

@@ -5,7 +5,7 @@
 #include "pieces.h"
 
 #include "fenced.h"
-#include "kinds.h"
+#include "calls.h"
 #include "random.h"
 
 #include <signal.h>
@@ -121,7 +121,8 @@ static void one_forged(void)
     if (in_order(a, &after)) {
         if (!untouched(bytes, a.length)) {
             is_wrong("a forged state writes past its length");
-        } else if (difference(a, b) != NULL || !same_state(&after, &again) || memcmp(other, bytes.bytes, a.length) != 0) {
+        } else if (difference(a, b) != NULL || !same_state(&after, &again)
+            || memcmp(other, bytes.bytes, a.length) != 0) {
             is_wrong("a forged state answers otherwise when it is asked again");
         }
     }

@@ -52,11 +52,6 @@ struct luossavin_key holding(struct luossavin_key key, struct holder fields)
     return key;
 }
 
-struct holder held_by(const struct luossavin_key *key)
-{
-    return (struct holder){key->answer, key->number, key->retired};
-}
-
 int same_key(const struct luossavin_key *a, const struct luossavin_key *b)
 {
     /* without a hole before the last field, the same fields are the same bytes up to its end */

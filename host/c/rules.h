@@ -21,9 +21,8 @@ struct holder {
 struct holder set_up(size_t bytes, uint32_t number);
 struct holder retired(struct holder key);
 
-/* The record with these fields, and the fields of a record. */
+/* The record with these fields. */
 struct luossavin_key holding(struct luossavin_key key, struct holder fields);
-struct holder held_by(const struct luossavin_key *key);
 
 /* Whether every field is the same. */
 int same_key(const struct luossavin_key *a, const struct luossavin_key *b);

@@ -265,7 +265,8 @@ static void refusals(void)
     wrong_ivs();
     refused(luossavin_block_encrypt(key, text, 15, out, ROOM), &l, 11, "a short block");
     refused(luossavin_block_decrypt(key, text, 17, out, ROOM), &l, 11, "a long block");
-    refused(luossavin_encrypt(2, luossavin_key_retire(key), NULL, 0, text, 32, iv, 16, out, ROOM), &l, 14, "a retired key");
+    none = luossavin_key_retire(key);
+    refused(luossavin_encrypt(2, none, NULL, 0, text, 32, iv, 16, out, ROOM), &l, 14, "a retired key");
 }
 
 /* Where two things are wrong, the one that comes first is the answer; another's missing count is not left behind. */

@@ -2,7 +2,7 @@
  * refusal 14 stands among the others, and messages from before a retirement. */
 #include "smoke.h"
 
-#include "kinds.h"
+#include "calls.h"
 
 #include <stdio.h>
 #include <string.h>
@@ -97,27 +97,20 @@ static void retiring(void)
 
 /* Whole messages and blocks, on every record, alone and with every other thing wrong as well. */
 
-static struct luossavin_answer call_whole(struct luossavin_key k, const struct whole *w, const uint8_t *data, uint8_t *out)
-{
-    if (w->is_block) {
-        return (w->direction == ENCRYPT ? luossavin_block_encrypt : luossavin_block_decrypt)(k, data, w->data, out, w->room);
-    }
-    return (w->direction == ENCRYPT ? luossavin_encrypt : luossavin_decrypt)(w->mode, k,
-        w->label > sizeof label ? too_long : label, w->label, data, w->data, iv, w->iv, out, w->room);
-}
-
-/* The answer is the one that the rules give, and the bytes are those of the key itself, whatever its number and mark. */
+/* The answer is the one that the rules give, and the bytes are those of the key itself, whatever its number and
+ * its mark. */
 static void check_whole(struct whole w, const uint8_t *data)
 {
+    const uint8_t *aad = w.label > sizeof label ? too_long : label;
     struct luossavin_answer due = answer_to(&w);
     struct lent one, two;
     uint8_t *out = lend(&one), *again = lend(&two);
     char what[80];
     snprintf(what, sizeof what, "a record of %u, %u, %u, %s %u%s", w.key.answer, w.key.number, w.key.retired,
         w.is_block ? "block" : "mode", w.mode, w.direction == ENCRYPT ? ", encryption" : ", decryption");
-    answered(call_whole(holding(key, w.key), &w, data, out), &one, due, what);
+    answered(call_whole(&w, holding(key, w.key), iv, aad, data, out), &one, due, what);
     if (due.number == 0) {
-        call_whole(key, &w, data, again);
+        call_whole(&w, key, iv, aad, data, again);
         check(memcmp(out, again, due.length) == 0, what, "its bytes", w.data);
     }
 }
@@ -250,8 +243,8 @@ static void order_of_retired(void)
         refused(luossavin_encrypt(mode, zeroth, NULL, 0, iv, 16, iv, 16, out, ROOM), &l, 13, "number before retired");
         refused(luossavin_encrypt(mode, old, NULL, 0, iv, 16, iv, 15, out, ROOM), &l, 10, "IV before retired");
         refused(luossavin_encrypt(mode, old, NULL, 0, NULL, 0, iv, 16, out, ROOM), &l, 14, "retired, of nothing");
-        refused(luossavin_encrypt(mode, old, NULL, 0, too_long, over, iv, 16, out, ROOM), &l, 14, "retired before data");
-        refused(luossavin_encrypt(mode, old, NULL, 0, iv, 16, iv, 16, out, 0), &l, 14, "retired before room");
+        refused(luossavin_encrypt(mode, old, NULL, 0, too_long, over, iv, 16, out, ROOM), &l, 14, "and before data");
+        refused(luossavin_encrypt(mode, old, NULL, 0, iv, 16, iv, 16, out, 0), &l, 14, "and before room");
     }
     refused(luossavin_encrypt(5, old, NULL, 0, iv, 16, iv, 16, out, ROOM), &l, 7, "mode before retired");
     refused(luossavin_encrypt(4, old, too_long, over, iv, 16, iv, 12, out, ROOM), &l, 14, "retired before label");
@@ -268,19 +261,20 @@ static void order_of_retired(void)
 /* Encrypted before it: decrypted after it, under the record as it was and under the retired one. */
 static void sealed_before(uint32_t mode)
 {
-    struct luossavin_key old;
     uint8_t sealed[ROOM];
     struct luossavin_answer a = luossavin_encrypt(mode, key, label, sizeof label, rfc_text, 50, iv, 16, sealed, ROOM);
-    struct lent one, two, three;
-    uint8_t *out = lend(&one), *as_ever = lend(&two), *none = lend(&three);
-    old = luossavin_key_retire(key);
-    check(done(luossavin_decrypt(mode, old, label, sizeof label, sealed, a.length, iv, 16, out, ROOM), 50),
-        "it is decrypted", "retired since, in mode", mode);
-    check(done(luossavin_decrypt(mode, key, label, sizeof label, sealed, a.length, iv, 16, as_ever, ROOM), 50),
-        "it is decrypted under the older record", "retired since, in mode", mode);
-    check(memcmp(out, rfc_text, 50) == 0 && memcmp(as_ever, rfc_text, 50) == 0, "its text", "retired since, in mode", mode);
-    check(untouched(&one, 50) && untouched(&two, 50), "it keeps to its length", "retired since, in mode", mode);
-    refused(luossavin_encrypt(mode, old, label, sizeof label, rfc_text, 50, iv, 16, none, ROOM), &three, 14, "retired since");
+    const struct luossavin_key old = luossavin_key_retire(key), records[] = {key, old};
+    struct lent l;
+    uint8_t *out;
+    for (int i = 0; i < 2; i++) {
+        const char *where = i ? "sealed before it was retired" : "the record before it was retired";
+        out = lend(&l);
+        check(done(luossavin_decrypt(mode, records[i], label, sizeof label, sealed, a.length, iv, 16, out, ROOM), 50),
+            "it is decrypted", where, mode);
+        check(memcmp(out, rfc_text, 50) == 0 && untouched(&l, 50), "its text", where, mode);
+    }
+    out = lend(&l);
+    refused(luossavin_encrypt(mode, old, label, sizeof label, rfc_text, 50, iv, 16, out, ROOM), &l, 14, "retired");
 }
 
 static void block_before(void)
@@ -296,20 +290,21 @@ static void block_before(void)
 static void started_before(enum kind kind)
 {
     struct given g = {.key = key, .iv = iv, .label = label, .iv_len = 16, .label_len = sizeof label};
+    const char *where = kind_names[kind];
     uint8_t whole[ROOM];
+    const uint8_t *data = kind == OPENING ? whole : rfc_text;
+    size_t step = kind == OPENING ? 0 : 20, tag = kind == SEALING ? 16 : 0;
     struct state s;
     struct lent l;
     uint8_t *out = lend(&l);
-    size_t step = kind == OPENING ? 0 : 20, tag = kind == SEALING ? 16 : 0;
     luossavin_encrypt(kind == COUNTING ? CTR : GCM, key, label, sizeof label, rfc_text, 40, iv, 16, whole, ROOM);
     call_start(kind, &s, &g);
-    check(done(call_piece(&s, kind == OPENING ? whole : rfc_text, 20, out, 20), step), "a piece", "started before", kind);
+    check(done(call_piece(&s, data, 20, out, 20), step), "a piece before it is retired", where, 20);
     g.key = luossavin_key_retire(g.key);
-    check(done(call_piece(&s, (kind == OPENING ? whole : rfc_text) + 20, 20, out + 20, 20), step), "a piece after it",
-        "started before", kind);
-    check(done(call_end(&s, kind == OPENING ? whole + 40 : out + 40, 16), tag), "the end after it", "started before", kind);
-    check(untouched(&l, 2 * step + tag) && memcmp(out, whole, 2 * step + tag) == 0, "the bytes", "started before", kind);
-    check(call_start(kind, &s, &g).number == (kind == OPENING ? 0 : 14), "another start", "retired since", kind);
+    check(done(call_piece(&s, data + 20, 20, out + 20, 20), step), "a piece after it is retired", where, 20);
+    check(done(call_end(&s, (kind == OPENING ? whole : out) + 40, 16), tag), "the end after it is retired", where, 40);
+    check(memcmp(out, whole, 2 * step + tag) == 0 && untouched(&l, 2 * step + tag), "the bytes", where, 40);
+    check(call_start(kind, &s, &g).number == (kind == OPENING ? 0 : 14), "a start after it is retired", where, 0);
 }
 
 /* What was encrypted under a retired key before it was retired is decrypted in pieces under it. */

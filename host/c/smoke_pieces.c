@@ -2,7 +2,7 @@
  * call, each refusal and which comes first, and states that stay as they were. */
 #include "smoke.h"
 
-#include "kinds.h"
+#include "calls.h"
 
 #include <stddef.h>
 #include <stdio.h>
@@ -43,8 +43,8 @@ static struct luossavin_answer start(enum kind kind, size_t iv_len, struct state
 
 /* The header's loop, in pieces of `by` bytes: of a started message, whose start answered `a`. What is written goes
  * to `out`; opening reads its tag behind the data. */
-static struct luossavin_answer go_by(size_t by, struct luossavin_answer a, struct state *s, const uint8_t *data, size_t n,
-    uint8_t *out, size_t room)
+static struct luossavin_answer go_by(size_t by, struct luossavin_answer a, struct state *s, const uint8_t *data,
+    size_t n, uint8_t *out, size_t room)
 {
     size_t written = 0;
     for (size_t i = 0; a.number == 0 && i < n; i += by) {
@@ -211,13 +211,15 @@ static void with_refusals(enum kind kind, uint32_t verdict)
     struct luossavin_answer due = {.number = verdict, .key = NUMBER, .length = kind == SEALING ? 16 : 0};
     uint8_t sealed[ROOM], out[32];
     struct state s;
+    struct luossavin_answer a;
     luossavin_encrypt(GCM, key, label, sizeof label, too_long, 19, iv, 16, sealed, ROOM);
     sealed[34] ^= verdict == 4;
     start(kind, 16, &s);
-    check(done(call_piece(&s, kind == OPENING ? sealed : too_long, 19, out, 19), kind == OPENING ? 0 : 19), "a piece is done",
-        kind_names[kind], 19);
+    a = call_piece(&s, kind == OPENING ? sealed : too_long, 19, out, 19);
+    check(done(a, kind == OPENING ? 0 : 19), "a piece is done", kind_names[kind], 19);
     refused_on_the_way(&s);
-    check(difference(call_end(&s, kind == OPENING ? sealed + 19 : out, 16), due) == NULL, "the end", kind_names[kind], verdict);
+    a = call_end(&s, kind == OPENING ? sealed + 19 : out, 16);
+    check(difference(a, due) == NULL, "the end", kind_names[kind], verdict);
     refused_after_the_end(&s);
 }
 

@@ -8,7 +8,7 @@
  * 0 to 4. In pieces of PIECE bytes, by the archive, it is 2, or 4: sealing, or opening without the text. Exit
  * status 3 where the library does not have the mode.
  */
-#include "kinds.h"
+#include "calls.h"
 #include "peers.h"
 
 #include <stdio.h>

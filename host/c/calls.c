@@ -1,4 +1,4 @@
-#include "kinds.h"
+#include "calls.h"
 
 #include <stddef.h>
 #include <string.h>
@@ -9,6 +9,17 @@ const char *const kind_names[KINDS] = {"Ctr", "sealing", "opening"};
 _Static_assert(offsetof(struct luossavin_ctr, key) == 32 * 4 + 2 * 16 + 8 + 4, "Ctr's state has a hole");
 _Static_assert(offsetof(struct luossavin_seal, key) == 32 * 4 + 6 * 16 + 2 * 8 + 4, "sealing's state has a hole");
 _Static_assert(offsetof(struct luossavin_opens, key) == 4 * 16 + 2 * 8 + 4, "opening's state has a hole");
+
+struct luossavin_answer call_whole(const struct whole *w, struct luossavin_key key, const uint8_t *iv,
+    const uint8_t *label, const uint8_t *data, uint8_t *out)
+{
+    if (w->is_block) {
+        return (w->direction == ENCRYPT ? luossavin_block_encrypt : luossavin_block_decrypt)(
+            key, data, w->data, out, w->room);
+    }
+    return (w->direction == ENCRYPT ? luossavin_encrypt : luossavin_decrypt)(
+        w->mode, key, label, w->label, data, w->data, iv, w->iv, out, w->room);
+}
 
 struct luossavin_answer call_start(enum kind kind, struct state *s, const struct given *g)
 {

@@ -1,9 +1,15 @@
-/* The three kinds of messages in pieces behind one shape, for the tests. A call puts the next state in the
- * place of the one before. */
-#ifndef KINDS_H
-#define KINDS_H
+/* The library's calls as the rules see them, for the tests: those on blocks and whole messages behind one shape, and
+ * the three kinds of messages in pieces behind another. */
+#ifndef CALLS_H
+#define CALLS_H
 
 #include "rules.h"
+
+/* The call of `w`, which has the lengths, on a record, whatever the fields of the key in `w` are. */
+struct luossavin_answer call_whole(const struct whole *w, struct luossavin_key key, const uint8_t *iv,
+    const uint8_t *label, const uint8_t *data, uint8_t *out);
+
+/* In pieces, a call puts the next state in the place of the one before. */
 
 extern const char *const kind_names[KINDS];
 
