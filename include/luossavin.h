@@ -30,11 +30,11 @@
  *  13  WrongNumber     the key's number is not from 1 to 65,535
  *  14  Retired         encryption under a retired key
  *
- * Where several apply, the first of the call's order is the answer: of setting up a key 1, 13, and every call
- * on a record that was refused so answers as that did, in the place of the two; of a single block 1, 13, 11,
- * 14, 6; of a message 7, 1, 13, 10, 14, 5, then in Cbc 8, 2 or in Gcm 9, then 6, 3, 4; of a message in pieces
- * 1, 13, 10, 14, 5 at the start, and from there on what the start was refused with, then 12, 5, 9, 6, 4. Every
- * number but 0 is a refusal: it reports length 0 and changes no byte of the output buffer.
+ * Where several apply, the first of the call's order is the answer: of setting up a key 1, 13, which the calls
+ * on that record then answer again where it stands in theirs; of a single block 1, 13, 11, 14, 6; of a message
+ * 7, 1, 13, 10, 14, 5, then in Cbc 8, 2 or in Gcm 9, then 6, 3, 4; of a message in pieces 1, 13, 10, 14, 5 at
+ * the start, and from there on what the start was refused with, then 12, 5, 9, 6, 4. Every number but 0 is a
+ * refusal: it reports length 0 and changes no byte of the output buffer.
  *
  * In refusal 9 `missing` is how many bytes were missing: 16 - n for n bytes of data, or for a tag of n bytes,
  * so 16 where there was none and 1 where there were 15 bytes; 0 for a tag of more than 16. In every other

@@ -218,7 +218,7 @@ static void on_starts(struct holder fields)
                 g.label_len = p.label = sizeof label;
                 check_start(&p, &g);
                 g.label = too_long;
-                g.label_len = p.label = p.kind == SEALING ? sizeof too_long : 0;
+                g.label_len = p.label = p.kind == COUNTING ? 0 : sizeof too_long;
                 check_start(&p, &g);
             }
         }
