@@ -3,7 +3,6 @@ ghost use mathlib.Core.Path.{_≡_};
 ghost use Prim.Native.Nat.{_<_};
 ghost use Rattle.typed.specs.Line.{lineOf, sound, unsaid, said, await, faulty, filesFrom, afterOption, afterFile, afterFree, afterWord, lacks, lackingIn};
 ghost use Rattle.typed.specs.Things.{NOTHING};
-use crate::things::FORCE;
 use crate::things::IN;
 use crate::things::NOTHING;
 use crate::things::OUT;
@@ -126,7 +125,7 @@ fn read_option(line: Line, thing: usize, valued: bool, at: usize) -> Line
     if valued {
         return say(line, thing, at);
     }
-    if thing == FORCE {
+    if words::is_flag(thing) {
         return say(line, thing, at);
     }
     wait_for(line, thing)
