@@ -1,6 +1,6 @@
 -- The key's record: setting it up, from the bytes and the number alone; retiring it; the number that it answers with.
 use Prim.Native.Nat.{ℕ}
-use mathlib.Core.Bool.{true, false, not, _||_, cond}
+use mathlib.Core.Bool.{Bool, true, false, not, _||_, cond}
 use mathlib.Core.List.{List}
 use lib.Dec.{eqb, ltb}
 use lib.ListN.{length, replicate}
@@ -22,11 +22,15 @@ keyHead WrongNumber = refusal 13
 abbrev pub noCipher : KeyAnswer → Sm4Cipher
 noCipher a = record { rk = replicate 32 0; answer = a; number = 0; retired = false }
 
--- a key has 16 bytes, and a number from 1 to 65,535; a new one is unretired
+-- a key's number is 1 to 65,535
+abbrev pub wrongNumber : ℕ → Bool
+wrongNumber n = eqb n 0 || ltb 65535 n
+
+-- a key has 16 bytes and a number in range; a new one is unretired
 unfoldable pub newCipher : List ℕ → ℕ → Sm4Cipher
 newCipher key number =
     cond (not (eqb (length key) 16)) (noCipher ErrorBlockSize)
-    (cond (eqb number 0 || ltb 65535 number) (noCipher WrongNumber)
+    (cond (wrongNumber number) (noCipher WrongNumber)
     (record { rk = roundKeys key; answer = Key; number = number; retired = false }))
 
 -- the record retired; of no key the same no key

@@ -6,7 +6,7 @@ mod work;
 
 ghost use mathlib.Core.Path.{_≡_};
 ghost use Rattle.cipher_mode.specs.Answer.{outcome};
-ghost use Rattle.cipher_mode.specs.Key.{noCipher, newCipher, retire, numberIn, newCipherMode};
+ghost use Rattle.cipher_mode.specs.Key.{noCipher, wrongNumber, newCipher, retire, numberIn, newCipherMode};
 ghost use Rattle.cipher_mode.specs.Calls.{blockCall, modeCall};
 use answer::Answer;
 use checks::Checked;
@@ -57,6 +57,13 @@ pub fn number_in(answer: KeyAnswer, number: u16) -> u16
     }
 }
 
+// A key's number is 1 to 65,535.
+fn wrong_number(n: u32) -> bool
+    ensures { λ r. ⌜ r ≡ wrongNumber n ⌝ }
+{
+    n == 0 || n > 65535
+}
+
 // A record that every call refuses.
 fn no_cipher(answer: KeyAnswer) -> Sm4Cipher
     ensures { λ r. ⌜ r ≡ noCipher answer ⌝ }
@@ -77,7 +84,7 @@ impl Sm4Cipher {
         if key.len() != 16 {
             return no_cipher(KeyAnswer::ErrorBlockSize);
         }
-        if number == 0 || number > 65535 {
+        if wrong_number(number) {
             return no_cipher(KeyAnswer::WrongNumber);
         }
         let rk = cipher::key_schedule(key);
@@ -94,16 +101,17 @@ impl Sm4Cipher {
         ensures { λ r. ⌜ r ≡ retire self ⌝ }
     {
         let answer = self.answer;
-        let KeyAnswer::Key = answer else {
-            return self;
-        };
         let rk = self.rk;
         let number = self.number;
-        Sm4Cipher {
-            rk,
-            answer: KeyAnswer::Key,
-            number,
-            retired: true,
+        match answer {
+            KeyAnswer::Key => Sm4Cipher {
+                rk,
+                answer: KeyAnswer::Key,
+                number,
+                retired: true,
+            },
+            KeyAnswer::ErrorBlockSize => self,
+            KeyAnswer::WrongNumber => self,
         }
     }
 
