@@ -321,7 +321,7 @@ fn opens(asked: Asked, source: Source, work: Work) -> u8 {
     if output::is_alone(asked) {
         return FILES;
     }
-    say::opens(places[IN], places[NUMBER], asked.job, asked.edition)
+    say::opens(places[IN], named(asked), asked.job, asked.edition)
 }
 
 // A pass that writes. `settled`: how long IN was when a pass before this one settled it, 0 where none was needed.
@@ -362,6 +362,15 @@ fn judge(asked: Asked, pass: Pass, settled: usize) -> u8 {
     }
 }
 
+// The key's number, where one was said, and else 0.
+fn named(asked: Asked) -> u32 {
+    let places = asked.places;
+    if places[NUMBER] == 0 {
+        return 0;
+    }
+    asked.number
+}
+
 // Says why, of a key, an IV and data of these lengths.
 fn refuse(refusal: Refusal, asked: Asked, key: usize, iv: usize, data: usize) -> u8 {
     let places = asked.places;
@@ -370,8 +379,8 @@ fn refuse(refusal: Refusal, asked: Asked, key: usize, iv: usize, data: usize) ->
     match refusal {
         Refusal::ErrorBlockSize => say::key_size(places[KEY], key),
         Refusal::ErrorDataLen => say::uneven(data),
-        Refusal::InvalidLastU8 => say::last_byte(places[NUMBER]),
-        Refusal::InvalidTag => say::tag(places[NUMBER], asked.job, asked.edition),
+        Refusal::InvalidLastU8 => say::last_byte(named(asked)),
+        Refusal::InvalidTag => say::tag(named(asked), asked.job, asked.edition),
         Refusal::TooLong => say::too_long(most(asked)),
         Refusal::NoRoom => say::no_room(),
         Refusal::EmptyCbc => say::empty(),
@@ -380,7 +389,7 @@ fn refuse(refusal: Refusal, asked: Asked, key: usize, iv: usize, data: usize) ->
         Refusal::WrongBlock => say::block_size(data),
         Refusal::Ended => say::ended(),
         Refusal::WrongNumber => say::wrong_number(places[NUMBER]),
-        Refusal::Retired => say::retired(places[NUMBER]),
+        Refusal::Retired => say::retired(named(asked)),
     }
 }
 

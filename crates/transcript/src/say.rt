@@ -69,25 +69,25 @@ fn quoted(at: usize) {
 }
 
 // The value that the word at a place says.
-fn value(fd: i32, at: usize) {
+fn value(at: usize) {
     let mut room = word_room();
     let n = os::arg(at, &mut room);
-    name(fd, typed::words::value(&room[..n]));
+    name(STDERR_FILENO, typed::words::value(&room[..n]));
 }
 
-// The key, by the number that the word at a place says, where one does.
-fn key(at: usize) {
-    if at == 0 {
+// A key, by its number where that is not 0.
+fn key(n: u32) {
+    if n == 0 {
         text(b"this key");
         return;
     }
     text(b"key ");
-    value(STDERR_FILENO, at);
+    number(n as u64);
 }
 
-fn key_and_iv(at: usize) {
-    key(at);
-    if at == 0 {
+fn key_and_iv(n: u32) {
+    key(n);
+    if n == 0 {
         text(b" and IV");
     } else {
         text(b" and this IV");
@@ -166,7 +166,7 @@ pub fn missing(thing: usize) -> u8 {
 pub fn wrong(thing: usize, at: usize) -> u8 {
     expected(thing);
     text(b", not \"");
-    value(STDERR_FILENO, at);
+    value(at);
     text(b"\"");
     end()
 }
@@ -344,15 +344,15 @@ pub fn end_of_progress() {
 }
 
 // The answer to `opens`.
-pub fn opens(at: usize, number_at: usize, job: u32, edition: u16) -> u8 {
+pub fn opens(at: usize, key: u32, job: u32, edition: u16) -> u8 {
     input(STDOUT_FILENO, at);
     io::write_all(STDOUT_FILENO, b" opens under job ");
     io::print_decimal(STDOUT_FILENO, job as u64);
     io::write_all(STDOUT_FILENO, b", edition ");
     io::print_decimal(STDOUT_FILENO, edition as u64);
-    if number_at != 0 {
+    if key != 0 {
         io::write_all(STDOUT_FILENO, b", with key ");
-        value(STDOUT_FILENO, number_at);
+        io::print_decimal(STDOUT_FILENO, key as u64);
     }
     if !io::write_all(STDOUT_FILENO, b"\n") {
         return cannot_write(b"-");
@@ -370,7 +370,7 @@ pub fn refusal(at: usize) {
 
 pub fn key_size(at: usize, key: usize) -> u8 {
     text(b"1 ErrorBlockSize: the key file ");
-    value(STDERR_FILENO, at);
+    value(at);
     text(b" has ");
     bytes(key);
     text(b", and neither 16 raw bytes nor 32 hex digits\n");
@@ -384,20 +384,20 @@ pub fn uneven(length: usize) -> u8 {
     2
 }
 
-pub fn last_byte(number_at: usize) -> u8 {
+pub fn last_byte(key: u32) -> u8 {
     text(b"3 InvalidLastU8: this file was not encrypted with cbc, ");
-    key_and_iv(number_at);
+    key_and_iv(key);
     text(b", or it was changed since\n");
     3
 }
 
-pub fn tag(number_at: usize, job: u32, edition: u16) -> u8 {
+pub fn tag(key: u32, job: u32, edition: u16) -> u8 {
     text(b"4 InvalidTag: this file was not sealed under job ");
     number(job as u64);
     text(b", edition ");
     number(edition as u64);
     text(b", with ");
-    key_and_iv(number_at);
+    key_and_iv(key);
     text(b", or it was changed since\n");
     4
 }
@@ -457,14 +457,14 @@ pub fn ended() -> u8 {
 
 pub fn wrong_number(at: usize) -> u8 {
     text(b"13 WrongNumber: the key's number is 1 to 65535, not ");
-    value(STDERR_FILENO, at);
+    value(at);
     text(b"\n");
     13
 }
 
-pub fn retired(at: usize) -> u8 {
+pub fn retired(n: u32) -> u8 {
     text(b"14 Retired: ");
-    key(at);
+    key(n);
     text(
         b" is retired: old files still open with it, and nothing new is sealed or encrypted under it; take the current key\n",
     );

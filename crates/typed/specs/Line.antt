@@ -84,5 +84,6 @@ unfoldable pub lackingFrom : Line → ℕ → ℕ → ℕ
 lackingFrom l zero k = NOTHING
 lackingFrom l (suc n) k = cond (lacks l k) k (lackingFrom l n (suc k))
 
+-- what a line lacks: the value that is still awaited, or the first such thing
 unfoldable pub lackingIn : Line → ℕ
-lackingIn l = lackingFrom l NOTHING 0
+lackingIn l = cond (ltb (l .next) NOTHING) (l .next) (lackingFrom l NOTHING 0)

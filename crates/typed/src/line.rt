@@ -194,10 +194,14 @@ fn is_lacking(line: Line, thing: usize) -> bool
     false
 }
 
-// The first thing that the command wants and no word has said, or `NOTHING`.
+// The thing whose value is still awaited, or the first that the command wants and no word has said, or `NOTHING`.
 pub fn lacking(line: Line) -> usize
     ensures { λ r. ⌜ r ≡ lackingIn line ⌝ }
 {
+    let next = line.next;
+    if next < NOTHING {
+        return next;
+    }
     let mut thing = 0;
     while thing < NOTHING {
         if is_lacking(line, thing) {
