@@ -1,7 +1,7 @@
 -- What is refused before a byte is looked at, in document 01's order and by stages: key and IV, which end with
 -- whether the key may encrypt, then label, data and room.
 use Prim.Native.Nat.{ℕ, _-_, _%_}
-use mathlib.Core.Bool.{Bool, true, false, not, _&&_, cond}
+use mathlib.Core.Bool.{Bool, not, _&&_, cond}
 use mathlib.Core.List.{List}
 use lib.Dec.{eqb, ltb}
 use Rattle.walk.specs.Outcome.{Outcome, leaving}

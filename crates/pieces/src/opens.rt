@@ -7,9 +7,9 @@ ghost use Rattle.block.specs.Xor.{xors};
 ghost use Rattle.pieces.specs.States.{opensShut};
 ghost use Rattle.pieces.specs.Calls.{opensStepped, opensStart, opensPiece, opensEnd};
 use crate::checks;
-use crate::flow;
 use crate::hashing;
 use crate::hashing::Hashing;
+use crate::tagging;
 use cipher_mode::Direction;
 use cipher_mode::Sm4Cipher;
 use cipher_mode::answer;
@@ -63,11 +63,12 @@ pub fn start(cipher: Sm4Cipher, aad: &[u8], iv: &[u8]) -> OpensStep
     }
     let t = cipher::plain();
     let rk = cipher.rk;
-    let h = gcm::hash_key(&t, rk);
-    let j0 = gcm::first_counter(h, iv);
+    let begun = tagging::begin(&t, rk, aad, iv);
+    let hashing = begun.hashing;
+    let mask = begun.mask;
     let state = Opens {
-        hashing: hashing::begin(h, aad),
-        mask: flow::ciphered(&t, rk, j0),
+        hashing,
+        mask,
         label: aad.len(),
         total: 0,
         stands: 0,

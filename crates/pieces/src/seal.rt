@@ -9,6 +9,7 @@ use crate::flow::Counting;
 use crate::flow::Flow;
 use crate::hashing;
 use crate::hashing::Hashing;
+use crate::tagging;
 use cipher_mode::Direction;
 use cipher_mode::Sm4Cipher;
 use cipher_mode::answer;
@@ -66,13 +67,15 @@ pub fn start(cipher: Sm4Cipher, aad: &[u8], iv: &[u8]) -> SealStep
     }
     let t = cipher::plain();
     let rk = cipher.rk;
-    let h = gcm::hash_key(&t, rk);
-    let j0 = gcm::first_counter(h, iv);
+    let begun = tagging::begin(&t, rk, aad, iv);
+    let j0 = begun.j0;
+    let hashing = begun.hashing;
+    let mask = begun.mask;
     let state = Seal {
         rk,
         flow: flow::begin(&t, rk, counter::gcm_block_add_one(j0)),
-        hashing: hashing::begin(h, aad),
-        mask: flow::ciphered(&t, rk, j0),
+        hashing,
+        mask,
         label: aad.len(),
         total: 0,
         stands: 0,
