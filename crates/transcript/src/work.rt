@@ -353,6 +353,14 @@ fn decryption(mode: CipherMode) -> Task {
     }
 }
 
+// The state that an IV of a block's size is.
+fn block_state(iv: &[u8]) -> [u32; 4]
+    requires { ⌜ length (now iv) ≡ 16 ⌝ }
+    ensures { λ r. ⌜ unwords r ≡ now (iv .entry) ⌝ }
+{
+    block::split_block(iv)
+}
+
 // The first counter of a Gcm text: the one after J0.
 fn text_counter(rk: [u32; 32], iv: &[u8]) -> [u32; 4]
     requires { ⌜ wrongIv CipherMode.Gcm (length (now iv)) ≡ false ⌝ }
@@ -369,10 +377,10 @@ fn first_state(mode: CipherMode, rk: [u32; 32], iv: &[u8]) -> [u32; 4]
     ensures { λ r. ⌜ unwords r ≡ stateOf mode rk (now (iv .entry)) ⌝ }
 {
     match mode {
-        CipherMode::Cfb => block::split_block(iv),
-        CipherMode::Ofb => block::split_block(iv),
-        CipherMode::Ctr => block::split_block(iv),
-        CipherMode::Cbc => block::split_block(iv),
+        CipherMode::Cfb => block_state(iv),
+        CipherMode::Ofb => block_state(iv),
+        CipherMode::Ctr => block_state(iv),
+        CipherMode::Cbc => block_state(iv),
         CipherMode::Gcm => text_counter(rk, iv),
     }
 }
