@@ -16,7 +16,7 @@ keyAnswerOf n = cond (eqb n 0) Key (cond (eqb n 13) WrongNumber ErrorBlockSize)
 -- what a host's record is: retired is 0 for unretired, and all else is retired
 unfoldable pub cipherIn : LuossavinKey → Sm4Cipher
 cipherIn k = record {
-  rk = k .round-keys;
+  rk = k .«round_keys»;
   answer = keyAnswerOf (k .answer);
   number = k .number;
   retired = not (eqb (k .retired) 0);
@@ -25,7 +25,7 @@ cipherIn k = record {
 -- the record that a host is handed
 unfoldable pub keyOf : Sm4Cipher → LuossavinKey
 keyOf c = record {
-  round-keys = c .rk;
+  «round_keys» = c .rk;
   answer = keyHead (c .answer) .number;
   number = c .number;
   retired = cond (c .retired) 1 0;
@@ -38,5 +38,5 @@ hostKeyNew key number = keyOf (newCipher key number)
 unfoldable pub hostKeyRetire : LuossavinKey → LuossavinKey
 hostKeyRetire k =
     cond (eqb (k .answer) 0)
-    (record { round-keys = k .round-keys; answer = 0; number = k .number; retired = 1 })
+    (record { «round_keys» = k .«round_keys»; answer = 0; number = k .number; retired = 1 })
     k
