@@ -35,16 +35,18 @@ pub fn read(text: &[u8], most: u32) -> Number
     Number::Is(value)
 }
 
+fn is_digit(b: u8) -> bool
+    ensures { λ r. ⌜ r ≡ isDigit b ⌝ }
+{
+    b >= b'0' && b <= b'9'
+}
+
 fn all_digits(text: &[u8]) -> bool
     ensures { λ r. ⌜ r ≡ every isDigit (now (text .entry)) ⌝ }
 {
     let mut i = 0;
     while i < text.len() {
-        let b = text[i];
-        if b < b'0' {
-            return false;
-        }
-        if b > b'9' {
+        if !is_digit(text[i]) {
             return false;
         }
         i += 1;

@@ -1,14 +1,16 @@
--- `decimal::all_digits` meets its contract. The loop's invariant: what is left of the text decides. A byte below '0' or above '9'
--- decides against; a digit leaves it to the rest; where nothing is left, all were digits. The measure is what is left of the text.
+-- `decimal::all_digits` meets its contract. The loop's invariant: what is left of the text decides. A byte that is no digit
+-- decides against; a digit leaves it to the rest; where nothing is left, all were digits. The measure is what is left
+-- of the text.
 -- Assumes nothing.
 use mathlib.Core.Path.{_≡_, refl}
 use Prim.Native.Nat.{_≤_, _-_}
 use native.Mathlib.Omega.{arith}
+use borrow.Author.Tests.{not-true, not-false}
 use denote.Ref.{now}
-use lib.ListN.{length, drop, getD}
+use lib.ListN.{length, drop}
 use Rattle.typed.specs.Tests.{every}
 use Rattle.typed.specs.Decimal.{isDigit}
-use Rattle.typed.proofs.Ranges.{inside, below, above}
+use Rattle.typed.proofs.Verdicts.{told}
 use Rattle.typed.proofs.Walks.{every-stop, every-go, every-end}
 use Rattle.typed.proofs.decimal.all_digits.Statement.{statement}
 use Rattle.typed.proofs.decimal.all_digits.Tie as tie
@@ -22,39 +24,30 @@ abbrev μ-loop : tie.MeasureT-loop
 loop-holds : tie.Need-loop-holds Inv-loop μ-loop
 loop-holds c = (omega arith, refl)
 
--- below '0'
 returns : tie.Need-returns Inv-loop μ-loop
 returns c =
-    let at-loop = c .before .before .before in
-    let text = now (at-loop .before .args .text) in
-    every-stop isDigit text (at-loop .loop .i) (at-loop .loop .inv .1) (omega arith)
-    (below 48 57 (getD text (at-loop .loop .i) 0) (omega arith))
-
--- above '9'
-returns-2 : tie.Need-returns-2 Inv-loop μ-loop
-returns-2 c =
-    let at-loop = c .before .before .before .before in
-    let text = now (at-loop .before .args .text) in
-    every-stop isDigit text (at-loop .loop .i) (at-loop .loop .inv .1) (omega arith)
-    (above 48 57 (getD text (at-loop .loop .i) 0) (omega arith))
+    let at-digit = c .before in
+    let at-loop = at-digit .before .before .before in
+    every-stop isDigit (now (at-loop .before .before .args .text)) (at-loop .loop .i) (at-loop .loop .inv .1) (omega arith)
+    (told (at-digit .is-digit .ensures) (not-true _ (c .if1 .taken)))
 
 loop-again : tie.Need-loop-again Inv-loop μ-loop
 loop-again c =
-    let at-loop = c .before .before .before .before in
-    let text = now (at-loop .before .args .text) in (
+    let at-digit = c .before in
+    let at-loop = at-digit .before .before .before in (
       omega arith,
-      every-go isDigit text (at-loop .loop .i) (at-loop .loop .inv .1) (omega arith)
-          (inside 48 57 (getD text (at-loop .loop .i) 0) (omega arith) (omega arith)),
+      every-go isDigit (now (at-loop .before .before .args .text)) (at-loop .loop .i) (at-loop .loop .inv .1) (omega arith)
+          (told (at-digit .is-digit .ensures) (not-false _ (c .if1 .left))),
     )
 
-returns-3 : tie.Need-returns-3 Inv-loop μ-loop
-returns-3 c =
+returns-2 : tie.Need-returns-2 Inv-loop μ-loop
+returns-2 c =
     let at-loop = c .before in
-    every-end isDigit (now (at-loop .before .args .text)) (at-loop .loop .i) (at-loop .loop .inv .1) (omega arith)
+    every-end isDigit (now (at-loop .before .before .args .text)) (at-loop .loop .i) (at-loop .loop .inv .1) (omega arith)
 
 pub all-digits-spec : {M : Type 1} → statement M
 all-digits-spec =
     tie.close
     (tie.spec
-    Inv-loop μ-loop loop-holds (λ c. omega arith) returns returns-2 (λ c. omega arith) (λ c. omega arith) loop-again
-    returns-3)
+    Inv-loop μ-loop loop-holds (λ c. omega arith) (λ c κs. tt) returns (λ c. omega arith) (λ c. omega arith) loop-again
+    returns-2)
