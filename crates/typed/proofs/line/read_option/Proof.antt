@@ -3,7 +3,7 @@
 -- what the last call made of the line.
 -- Assumes nothing.
 use mathlib.Core.Path.{_≡_, _∙_}
-use mathlib.Core.Bool.{true, or-true}
+use mathlib.Core.Bool.{true}
 use borrow.Author.Tests.{lt-ltb, le-ltb, not-true, not-false}
 use Rattle.typed.specs.Things.{NOTHING}
 use Rattle.typed.specs.Words.{takesOf}
