@@ -3,8 +3,8 @@
 -- what the last call made of the line.
 -- Assumes nothing.
 use mathlib.Core.Path.{_≡_, _∙_}
-use mathlib.Core.Bool.{true, or-true}
-use borrow.Author.Tests.{lt-ltb, le-ltb, eq-eqb, ne-eqb, not-true, not-false}
+use mathlib.Core.Bool.{true}
+use borrow.Author.Tests.{lt-ltb, le-ltb, not-true, not-false}
 use Rattle.typed.specs.Things.{NOTHING}
 use Rattle.typed.specs.Words.{takesOf}
 use Rattle.typed.specs.Line.{unsaid, afterOption}
@@ -54,27 +54,29 @@ returns-4 c =
 returns-5 : tie.Need-returns-5
 unfolding afterOption
 returns-5 c =
-    let at-if4 = c .before .before in
+    let at-is-flag = c .before .before in
+    let at-if4 = at-is-flag .before in
     let at-if3 = at-if4 .before in
     let at-if2 = at-if3 .before .before in
     let at-if1 = at-if2 .before .before in
-    c .say2 .ensures
-    ∙ rw (lt-ltb _ NOTHING (at-if1 .if1 .left), taken at-if2, fresh at-if3, at-if4 .if4 .left, eq-eqb _ _ (c .before .if5 .taken))
+    let flag = told (at-is-flag .is-flag .ensures) (c .before .if5 .taken) in
+    c .say2 .ensures ∙ rw (lt-ltb _ NOTHING (at-if1 .if1 .left), taken at-if2, fresh at-if3, at-if4 .if4 .left, flag)
 
 returns-6 : tie.Need-returns-6
 unfolding afterOption
 returns-6 c =
-    let at-if4 = c .before .before in
+    let at-is-flag = c .before .before in
+    let at-if4 = at-is-flag .before in
     let at-if3 = at-if4 .before in
     let at-if2 = at-if3 .before .before in
     let at-if1 = at-if2 .before .before in
-    c .wait-for .ensures
-    ∙ rw (lt-ltb _ NOTHING (at-if1 .if1 .left), taken at-if2, fresh at-if3, at-if4 .if4 .left, ne-eqb _ _ (c .before .if5 .left))
+    let no-flag = told (at-is-flag .is-flag .ensures) (c .before .if5 .left) in
+    c .wait-for .ensures ∙ rw (lt-ltb _ NOTHING (at-if1 .if1 .left), taken at-if2, fresh at-if3, at-if4 .if4 .left, no-flag)
 
 pub read-option-spec : {M : Type 1} → statement M
 read-option-spec =
     tie.close
     (tie.spec
     (λ c κs. search needs) returns (λ c κs. search needs) (λ c κs. search needs) returns-2 (λ c κs. search needs)
-    (λ c κs. search needs) returns-3 (λ c κs. search needs) returns-4 (λ c κs. search needs) returns-5
-    (λ c κs. search needs) returns-6)
+    (λ c κs. search needs) returns-3 (λ c κs. search needs) returns-4 (λ c κs. search needs)
+    (λ c κs. search needs) returns-5 (λ c κs. search needs) returns-6)
