@@ -5,4 +5,5 @@ pub mod AllPadding
 pub mod Unpadded
 pub mod Opens
 pub mod RoundTrip
+pub mod SealsBack
 pub mod Goes
