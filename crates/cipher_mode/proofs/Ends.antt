@@ -8,7 +8,7 @@ use Rattle.block.specs.Words.{words, unwords}
 use Rattle.block.proofs.Entries.{below-each}
 use Rattle.block.proofs.WordsBack.{length-unwords, unwords-words}
 use Rattle.cipher.specs.Sm4.{encryptWords, decryptWords, encryptBlock, decryptBlock}
-use Rattle.walk.specs.Outcome.{Head, Outcome, finished, leaving, done}
+use Rattle.walk.specs.Outcome.{Head, Outcome, finished, under, leaving, keyed, done}
 use Rattle.walk.specs.Walk.{over}
 use Rattle.cipher_mode.specs.declared.answer.Refusal.{Refusal}
 use Rattle.cipher_mode.specs.declared.answer.Answer.{Answer}
@@ -20,19 +20,24 @@ use Rattle.cipher_mode.specs.declared.Direction.the-variants.{Encrypt, D
 use Rattle.cipher_mode.specs.Checks.{checked}
 use Rattle.cipher_mode.specs.Calls.{keysFor, blockOf}
 
--- the check refused, and the answer says so
-pub refused-there : (a : Answer) (k : Checked) (r : Refusal) (o : List ℕ) (next : Outcome) → headOf a ≡ refusalHead r
-    → k ≡ Refused r → outcome a o ≡ checked k o next
-refused-there a k r o next e f =
-    ap {B = Outcome} (λ (h : Head). leaving h o) e ∙ sym (ap {B = Outcome} (λ (x : Checked). checked x o next) f)
+-- the check refused, and the answer says so, on the key of number n
+pub refused-there : (a : Answer) (n m : ℕ) (k : Checked) (r : Refusal) (o : List ℕ) (next : Outcome)
+    → headOf a ≡ under n (refusalHead r) → n ≡ m → k ≡ Refused r → outcome a o ≡ keyed m (checked k o next)
+refused-there a n m k r o next e g f =
+    ap {B = Outcome} (λ (h : Head). leaving h o) e
+    ∙ ap₂ {C = Outcome} (λ (i : ℕ) (x : Checked). keyed i (checked x o next)) g (sym f)
 
 -- the check passed, and the work left what comes next
 pub went-on : (k : Checked) (o : List ℕ) (x next : Outcome) → k ≡ Passed → x ≡ next → x ≡ checked k o next
 went-on k o x next f e = e ∙ sym (ap {B = Outcome} (λ (y : Checked). checked y o next) f)
 
--- the result p was written to the front of the output, and the answer is its length
-pub reached : (a : Answer) (p o o′ : List ℕ) (n : ℕ) → headOf a ≡ finished n → length p ≡ n → o′ ≡ over p o → outcome a o′ ≡ done p o
-reached a p o o′ n h l e = ap₂ {C = Outcome} leaving (h ∙ ap finished (sym l)) e
+-- the result p was written to the front of the output, and n is its length
+pub reached : (p o o′ : List ℕ) (n : ℕ) → length p ≡ n → o′ ≡ over p o → leaving (finished n) o′ ≡ done p o
+reached p o o′ n l e = ap₂ {C = Outcome} leaving (ap finished (sym l)) e
+
+-- the answer says what the outcome x is, on the key of number n
+pub on-key : (a : Answer) (n m : ℕ) (o : List ℕ) (h : Head) (x : Outcome) → headOf a ≡ under n h → n ≡ m → leaving h o ≡ x → outcome a o ≡ keyed m x
+on-key a n m o h x e g f = ap {B = Outcome} (λ (i : Head). leaving i o) e ∙ ap₂ {C = Outcome} keyed g f
 
 -- a block by a direction is what the cipher makes of its words under that direction's round keys
 pub block-by : (dir : Direction) (rk b : List ℕ) → unwords (encryptWords (keysFor dir rk) (words b)) ≡ blockOf dir rk b

@@ -8,7 +8,7 @@ use native.Mathlib.Omega.{arith}
 use lib.Dec.{eqb, ltb}
 use borrow.Author.Tests.{ltb-false, eqb-true, eqb-false, not-false}
 use Rattle.cipher_mode.specs.declared.KeyAnswer.{KeyAnswer}
-use Rattle.cipher_mode.specs.declared.KeyAnswer.the-variants.{Key, ErrorBlockSize as NoKey}
+use Rattle.cipher_mode.specs.declared.KeyAnswer.the-variants.{Key, ErrorBlockSize as NoKey, WrongNumber as NoNumber}
 use Rattle.cipher_mode.specs.declared.CipherMode.{CipherMode}
 use Rattle.cipher_mode.specs.declared.CipherMode.the-variants.{Cbc, Gcm}
 use Rattle.cipher_mode.specs.declared.Direction.{Direction}
@@ -18,7 +18,7 @@ use Rattle.cipher_mode.specs.declared.checks.Checked.{Checked}
 use Rattle.cipher_mode.specs.declared.checks.Checked.the-variants.{Passed, Refused}
 use Rattle.cipher_mode.specs.declared.checks.Lengths.{Lengths}
 use Rattle.cipher_mode.specs.Tables.{limit, limitOf, roomOf}
-use Rattle.cipher_mode.specs.Checks.{refuse, andThen, noKey, wrongIv, keyAndIv, labelCheck, shapeCheck, dataCheck}
+use Rattle.cipher_mode.specs.Checks.{refuse, andThen, keyCheck, wrongIv, retiredCheck, keyAndIv, labelCheck, shapeCheck, dataCheck}
 use Rattle.cipher_mode.specs.Checks.{roomCheck, messageCheck, blockCheck}
 
 -- a test that refused nothing does not hold, and what comes next passed
@@ -42,18 +42,27 @@ stops a b next r e f = f ∙ sym (ap (λ (x : Checked). andThen x next) (sym e �
 pub goes-on : (a b next x : Checked) → a ≡ b → a ≡ Passed → x ≡ next → x ≡ andThen b next
 goes-on a b next x e f g = g ∙ sym (ap (λ (y : Checked). andThen y next) (sym e ∙ f))
 
-is-key : (a : KeyAnswer) → noKey a ≡ false → a ≡ Key
+is-key : (a : KeyAnswer) → keyCheck a ≡ Passed → a ≡ Key
 is-key Key e = refl
 is-key NoKey e = let z : _≡_ {A = ℕ} 0 1 = cc in absurd (omega arith)
+is-key NoNumber e = let z : _≡_ {A = ℕ} 0 1 = cc in absurd (omega arith)
 
 pub sixteen : (n : ℕ) → not (eqb n 16) ≡ false → n ≡ 16
 sixteen n e = eqb-true n 16 (not-false (eqb n 16) e)
 
-pub key-and-iv-passed : (a : KeyAnswer) (m : CipherMode) (iv : ℕ) → keyAndIv a m iv ≡ Passed → (a ≡ Key) × (wrongIv m iv ≡ false)
+-- a key that stands, and may do what is asked with this IV
+pub record KeyInOrder (a : KeyAnswer) (retired : Bool) (dir : Direction) (m : CipherMode) (iv : ℕ) : Type 0 where
+  pub key : a ≡ Key
+  pub iv-size : wrongIv m iv ≡ false
+  pub may : retiredCheck dir retired ≡ Passed
+
+pub key-and-iv-passed : (a : KeyAnswer) (retired : Bool) (dir : Direction) (m : CipherMode) (iv : ℕ)
+    → keyAndIv a retired dir m iv ≡ Passed → KeyInOrder a retired dir m iv
 unfolding keyAndIv
-key-and-iv-passed a m iv e =
-    let k = let-through (noKey a) _ _ e in
-    (is-key a (k .fails), let-through (wrongIv m iv) _ _ (k .rest) .fails)
+key-and-iv-passed a retired dir m iv e =
+    let from-key = both (keyCheck a) _ e in
+    let from-iv = let-through (wrongIv m iv) _ _ (from-key .1) in
+    record { key = is-key a (from-key .0); iv-size = from-iv .fails; may = from-iv .rest }
 
 -- an IV that Gcm takes
 pub iv-twelve-or-sixteen : (n : ℕ) → wrongIv Gcm n ≡ false → (n ≡ 12) ⊎ (n ≡ 16)
@@ -90,37 +99,48 @@ unfolding roomCheck
 room-passed dir m n room e = ltb-false room (roomOf m dir n) (let-through (ltb room (roomOf m dir n)) _ _ e .fails)
 
 -- a message whose call goes on to work
-pub record InOrder (a : KeyAnswer) (dir : Direction) (m : CipherMode) (n : Lengths) : Type 0 where
+pub record InOrder (a : KeyAnswer) (retired : Bool) (dir : Direction) (m : CipherMode) (n : Lengths) : Type 0 where
   pub key : a ≡ Key
   pub iv-size : wrongIv m (n .iv) ≡ false
+  pub may : retiredCheck dir retired ≡ Passed
   pub label : labelCheck m (n .label) ≡ Passed
   pub content : dataCheck dir m (n .«data») ≡ Passed
   pub room : roomOf m dir (n .«data») ≤ n .room
 
-pub message-passed : (a : KeyAnswer) (dir : Direction) (m : CipherMode) (n : Lengths) → messageCheck a dir m n ≡ Passed → InOrder a dir m n
+pub message-passed : (a : KeyAnswer) (retired : Bool) (dir : Direction) (m : CipherMode) (n : Lengths)
+    → messageCheck a retired dir m n ≡ Passed → InOrder a retired dir m n
 unfolding messageCheck
-message-passed a dir m n e =
-    let from-key = both (keyAndIv a m (n .iv)) _ e in
+message-passed a retired dir m n e =
+    let from-key = both (keyAndIv a retired dir m (n .iv)) _ e in
     let from-label = both (labelCheck m (n .label)) _ (from-key .1) in
     let from-data = both (dataCheck dir m (n .«data»)) _ (from-label .1) in
-    let first = key-and-iv-passed a m (n .iv) (from-key .0) in
+    let first = key-and-iv-passed a retired dir m (n .iv) (from-key .0) in
     record {
-      key = first .0;
-      iv-size = first .1;
+      key = first .key;
+      iv-size = first .iv-size;
+      may = first .may;
       label = from-label .0;
       content = from-data .0;
       room = room-passed dir m (n .«data») (n .room) (from-data .1);
     }
 
-pub record BlockInOrder (a : KeyAnswer) (n room : ℕ) : Type 0 where
+pub record BlockInOrder (a : KeyAnswer) (retired : Bool) (dir : Direction) (n room : ℕ) : Type 0 where
   pub key : a ≡ Key
   pub size : n ≡ 16
+  pub may : retiredCheck dir retired ≡ Passed
   pub enough : 16 ≤ room
 
-pub block-passed : (a : KeyAnswer) (n room : ℕ) → blockCheck a n room ≡ Passed → BlockInOrder a n room
+pub block-passed : (a : KeyAnswer) (retired : Bool) (dir : Direction) (n room : ℕ)
+    → blockCheck a retired dir n room ≡ Passed → BlockInOrder a retired dir n room
 unfolding blockCheck
-block-passed a n room e =
-    let k = let-through (noKey a) _ _ e in
-    let s = let-through (not (eqb n 16)) _ _ (k .rest) in
-    let r = let-through (ltb room 16) _ _ (s .rest) in
-    record { key = is-key a (k .fails); size = sixteen n (s .fails); enough = ltb-false room 16 (r .fails) }
+block-passed a retired dir n room e =
+    let from-key = both (keyCheck a) _ e in
+    let from-size = let-through (not (eqb n 16)) _ _ (from-key .1) in
+    let from-mark = both (retiredCheck dir retired) _ (from-size .rest) in
+    let r = let-through (ltb room 16) _ _ (from-mark .1) in
+    record {
+      key = is-key a (from-key .0);
+      size = sixteen n (from-size .fails);
+      may = from-mark .0;
+      enough = ltb-false room 16 (r .fails);
+    }

@@ -4,7 +4,7 @@ use mathlib.Core.Path.{_≡_, refl}
 use Rattle.cipher_mode.specs.Answer.{refusalHead}
 use Rattle.cipher_mode.specs.declared.answer.Refusal.{Refusal}
 use Rattle.cipher_mode.specs.declared.answer.Refusal.the-variants.{ErrorBlockSize, ErrorDataLen, InvalidLastU8, InvalidTag}
-use Rattle.cipher_mode.specs.declared.answer.Refusal.the-variants.{TooLong, NoRoom, EmptyCbc, ShortGcm, WrongIv, WrongBlock, Ended}
+use Rattle.cipher_mode.specs.declared.answer.Refusal.the-variants.{TooLong, NoRoom, EmptyCbc, ShortGcm, WrongIv, WrongBlock, Ended, WrongNumber, Retired}
 
 pub no-size : (r : Refusal) → refusalHead r .size ≡ 0
 no-size ErrorBlockSize = refl
@@ -18,3 +18,5 @@ no-size (ShortGcm n) = refl
 no-size WrongIv = refl
 no-size WrongBlock = refl
 no-size Ended = refl
+no-size WrongNumber = refl
+no-size Retired = refl

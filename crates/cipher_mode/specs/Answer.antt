@@ -1,9 +1,9 @@
 -- Document 01's number and values for every case of an answer.
 use Prim.Native.Nat.{ℕ}
 use mathlib.Core.List.{List}
-use Rattle.walk.specs.Outcome.{Head, Outcome, finished, refusal, cutShort, leaving}
+use Rattle.walk.specs.Outcome.{Head, Outcome, finished, refusal, cutShort, under, leaving}
 use Rattle.cipher_mode.specs.declared.answer.Refusal.{Refusal}
-use Rattle.cipher_mode.specs.declared.answer.Refusal.the-variants.{ErrorBlockSize, ErrorDataLen, InvalidLastU8, InvalidTag, TooLong, NoRoom, EmptyCbc, ShortGcm, WrongIv, WrongBlock, Ended}
+use Rattle.cipher_mode.specs.declared.answer.Refusal.the-variants.{ErrorBlockSize, ErrorDataLen, InvalidLastU8, InvalidTag, TooLong, NoRoom, EmptyCbc, ShortGcm, WrongIv, WrongBlock, Ended, WrongNumber, Retired}
 use Rattle.cipher_mode.specs.declared.answer.Ending.{Ending}
 use Rattle.cipher_mode.specs.declared.answer.Ending.the-variants.{Done, Refused}
 use Rattle.cipher_mode.specs.declared.answer.Answer.{Answer}
@@ -20,13 +20,19 @@ refusalHead (ShortGcm n) = cutShort n
 refusalHead WrongIv = refusal 10
 refusalHead WrongBlock = refusal 11
 refusalHead Ended = refusal 12
+refusalHead WrongNumber = refusal 13
+refusalHead Retired = refusal 14
 
 abbrev pub endingHead : Ending → Head
 endingHead (Done n) = finished n
 endingHead (Refused r) = refusalHead r
 
+-- the outcome of an ending with the output o, whichever key it is on
+abbrev pub ended : Ending → List ℕ → Outcome
+ended e o = leaving (endingHead e) o
+
 abbrev pub headOf : Answer → Head
-headOf a = endingHead (a .ending)
+headOf a = under (a .key) (endingHead (a .ending))
 
 -- the outcome of an answer with the output o
 abbrev pub outcome : Answer → List ℕ → Outcome

@@ -3,7 +3,7 @@ use Prim.Native.Nat.{ℕ}
 use mathlib.Core.List.{List, reverse}
 use lib.ListN.{length}
 use Rattle.cipher.specs.Sm4.{encryptBlock, decryptBlock}
-use Rattle.walk.specs.Outcome.{Outcome, done}
+use Rattle.walk.specs.Outcome.{Outcome, keyed, done}
 use Rattle.walk.specs.Walk.{chain}
 use Rattle.stream.specs.Stream.{streamMode}
 use Rattle.stream.specs.declared.Kind.{Kind}
@@ -19,6 +19,7 @@ use Rattle.cipher_mode.specs.declared.Direction.the-variants.{Encrypt, D
 use Rattle.cipher_mode.specs.declared.checks.Lengths.{Lengths}
 use Rattle.cipher_mode.specs.declared.Sm4Cipher.{Sm4Cipher}
 use Rattle.cipher_mode.specs.declared.Sm4CipherMode.{Sm4CipherMode}
+use Rattle.cipher_mode.specs.Key.{keyNumber}
 use Rattle.cipher_mode.specs.Checks.{checked, blockCheck, messageCheck}
 
 -- the round keys as a direction takes them: decryption from the last to the first
@@ -33,7 +34,10 @@ blockOf Decrypt rk b = decryptBlock rk b
 
 -- a single block b, into the output o
 unfoldable pub blockCall : Direction → Sm4Cipher → List ℕ → List ℕ → Outcome
-blockCall dir c b o = checked (blockCheck (c .answer) (length b) (length o)) o (done (blockOf dir (c .rk) b) o)
+blockCall dir c b o =
+    keyed (keyNumber c)
+    (checked (blockCheck (c .answer) (c .retired) dir (length b) (length o)) o
+    (done (blockOf dir (c .rk) b) o))
 
 abbrev pub cfbKind : Direction → Kind
 cfbKind Encrypt = CfbEncrypt
@@ -64,5 +68,6 @@ lengthsOf aad d iv o = record { iv = length iv; label = length aad; «data» = l
 -- the data d under the label aad and the IV iv, into the output o
 unfoldable pub modeCall : Direction → Sm4CipherMode → List ℕ → List ℕ → List ℕ → List ℕ → Outcome
 modeCall dir m aad d iv o =
-    checked (messageCheck (m .cipher .answer) dir (m .mode) (lengthsOf aad d iv o)) o
-    (modeResult (m .mode) dir (m .cipher .rk) aad d iv o)
+    keyed (keyNumber (m .cipher))
+    (checked (messageCheck (m .cipher .answer) (m .cipher .retired) dir (m .mode) (lengthsOf aad d iv o)) o
+    (modeResult (m .mode) dir (m .cipher .rk) aad d iv o))

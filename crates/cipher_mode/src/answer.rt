@@ -1,11 +1,12 @@
 // What a call answers. Every head is made here.
 ghost use mathlib.Core.Path.{_≡_};
-ghost use Rattle.walk.specs.Outcome.{finished};
+ghost use Rattle.walk.specs.Outcome.{finished, under};
 ghost use Rattle.cipher_mode.specs.Answer.{refusalHead, headOf};
 
 // Why a call was refused, by the names of document 01 and, after them, those that tell its lengths apart: Cbc decryption of
 // nothing; a Gcm message or tag that is not as long as it must be, with how many bytes were missing; a wrong IV; a wrong
-// single block. The last is of a message in pieces that has come to its end.
+// single block. Then come a message in pieces that has come to its end, a key's number out of range, and encrypting under a
+// retired key.
 pub enum Refusal {
     ErrorBlockSize,
     ErrorDataLen,
@@ -18,6 +19,8 @@ pub enum Refusal {
     WrongIv,
     WrongBlock,
     Ended,
+    WrongNumber,
+    Retired,
 }
 
 // How a call ended: done with a length, or refused.
@@ -26,8 +29,10 @@ pub enum Ending {
     Refused(Refusal),
 }
 
+// How it ended, and the number of the key that it was made on: 0 where no key stands.
 pub struct Answer {
     pub ending: Ending,
+    pub key: u16,
 }
 
 // Document 01's number of a refusal.
@@ -46,6 +51,8 @@ pub fn number(refusal: Refusal) -> u32
         Refusal::WrongIv => 10,
         Refusal::WrongBlock => 11,
         Refusal::Ended => 12,
+        Refusal::WrongNumber => 13,
+        Refusal::Retired => 14,
     }
 }
 
@@ -65,21 +72,25 @@ pub fn missing(refusal: Refusal) -> u8
         Refusal::WrongIv => 0,
         Refusal::WrongBlock => 0,
         Refusal::Ended => 0,
+        Refusal::WrongNumber => 0,
+        Refusal::Retired => 0,
     }
 }
 
-pub fn done(length: usize) -> Answer
-    ensures { λ r. ⌜ headOf r ≡ finished «length» ⌝ }
+pub fn done(key: u16, length: usize) -> Answer
+    ensures { λ r. ⌜ headOf r ≡ under key (finished «length») ⌝ }
 {
     Answer {
         ending: Ending::Done(length),
+        key,
     }
 }
 
-pub fn refused(refusal: Refusal) -> Answer
-    ensures { λ r. ⌜ headOf r ≡ refusalHead refusal ⌝ }
+pub fn refused(key: u16, refusal: Refusal) -> Answer
+    ensures { λ r. ⌜ headOf r ≡ under key (refusalHead refusal) ⌝ }
 {
     Answer {
         ending: Ending::Refused(refusal),
+        key,
     }
 }

@@ -1,9 +1,9 @@
-// All that is refused before a byte is looked at: it depends on the key's answer, the mode, the direction and the lengths
-// alone. The stages stand in document 01's order, and a call takes those that it has.
+// All that is refused before a byte is looked at: it depends on the key's answer and mark, the mode, the direction and the
+// lengths alone. The stages stand in document 01's order, and a call takes those that it has.
 ghost use mathlib.Core.Path.{_≡_};
 ghost use Prim.Native.Nat.{_≤_};
 ghost use Rattle.cipher_mode.specs.Tables.{limit, limitOf, roomOf};
-ghost use Rattle.cipher_mode.specs.Checks.{wrongIv, keyAndIv, labelCheck, shapeCheck, dataCheck, roomCheck, messageCheck, blockCheck};
+ghost use Rattle.cipher_mode.specs.Checks.{keyCheck, wrongIv, retiredCheck, keyAndIv, labelCheck, shapeCheck, dataCheck, roomCheck, messageCheck, blockCheck};
 use crate::CipherMode;
 use crate::Direction;
 use crate::KeyAnswer;
@@ -28,6 +28,17 @@ pub struct Lengths {
     pub room: usize,
 }
 
+// A key's answer that is no key is refused as it was when the key was set up.
+fn key(answer: KeyAnswer) -> Checked
+    ensures { λ r. ⌜ r ≡ keyCheck answer ⌝ }
+{
+    match answer {
+        KeyAnswer::Key => Checked::Passed,
+        KeyAnswer::ErrorBlockSize => Checked::Refused(Refusal::ErrorBlockSize),
+        KeyAnswer::WrongNumber => Checked::Refused(Refusal::WrongNumber),
+    }
+}
+
 // An IV of a size that the mode does not take: 16 bytes, and in Gcm 12 as well.
 fn wrong_iv(mode: CipherMode, n: usize) -> bool
     ensures { λ r. ⌜ r ≡ wrongIv mode n ⌝ }
@@ -41,17 +52,37 @@ fn wrong_iv(mode: CipherMode, n: usize) -> bool
     }
 }
 
-// The key's answer is a key, and the IV has a size that the mode takes.
-pub fn key_and_iv(key: KeyAnswer, mode: CipherMode, iv: usize) -> Checked
-    ensures { λ r. ⌜ r ≡ keyAndIv key mode iv ⌝ }
+// A retired key does not encrypt.
+fn retired(direction: Direction, retired: bool) -> Checked
+    ensures { λ r. ⌜ r ≡ retiredCheck direction retired ⌝ }
 {
-    let KeyAnswer::Key = key else {
-        return Checked::Refused(Refusal::ErrorBlockSize);
+    let Direction::Encrypt = direction else {
+        return Checked::Passed;
+    };
+    if retired {
+        return Checked::Refused(Refusal::Retired);
+    }
+    Checked::Passed
+}
+
+// The key's answer is a key, the IV has a size that the mode takes, and the key may do what is asked.
+pub fn key_and_iv(
+    answer: KeyAnswer,
+    mark: bool,
+    direction: Direction,
+    mode: CipherMode,
+    iv: usize,
+) -> Checked
+    ensures { λ r. ⌜ r ≡ keyAndIv answer mark direction mode iv ⌝ }
+{
+    let first = key(answer);
+    let Checked::Passed = first else {
+        return first;
     };
     if wrong_iv(mode, iv) {
         return Checked::Refused(Refusal::WrongIv);
     }
-    Checked::Passed
+    retired(direction, mark)
 }
 
 // Only Gcm looks at the label.
@@ -185,10 +216,16 @@ pub fn room(direction: Direction, mode: CipherMode, n: usize, room: usize) -> Ch
 }
 
 // A message, either way: all stages.
-pub fn message(key: KeyAnswer, direction: Direction, mode: CipherMode, n: Lengths) -> Checked
-    ensures { λ r. ⌜ r ≡ messageCheck key direction mode n ⌝ }
+pub fn message(
+    answer: KeyAnswer,
+    mark: bool,
+    direction: Direction,
+    mode: CipherMode,
+    n: Lengths,
+) -> Checked
+    ensures { λ r. ⌜ r ≡ messageCheck answer mark direction mode n ⌝ }
 {
-    let first = key_and_iv(key, mode, n.iv);
+    let first = key_and_iv(answer, mark, direction, mode, n.iv);
     let Checked::Passed = first else {
         return first;
     };
@@ -204,15 +241,20 @@ pub fn message(key: KeyAnswer, direction: Direction, mode: CipherMode, n: Length
 }
 
 // A single block, either way.
-pub fn block(key: KeyAnswer, n: usize, room: usize) -> Checked
-    ensures { λ r. ⌜ r ≡ blockCheck key n room ⌝ }
+pub fn block(answer: KeyAnswer, mark: bool, direction: Direction, n: usize, room: usize) -> Checked
+    ensures { λ r. ⌜ r ≡ blockCheck answer mark direction n room ⌝ }
 {
-    let KeyAnswer::Key = key else {
-        return Checked::Refused(Refusal::ErrorBlockSize);
+    let first = key(answer);
+    let Checked::Passed = first else {
+        return first;
     };
     if n != 16 {
         return Checked::Refused(Refusal::WrongBlock);
     }
+    let second = retired(direction, mark);
+    let Checked::Passed = second else {
+        return second;
+    };
     if room < 16 {
         return Checked::Refused(Refusal::NoRoom);
     }

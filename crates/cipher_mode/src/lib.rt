@@ -6,7 +6,7 @@ mod work;
 
 ghost use mathlib.Core.Path.{_≡_};
 ghost use Rattle.cipher_mode.specs.Answer.{outcome};
-ghost use Rattle.cipher_mode.specs.Key.{newCipher, newCipherMode};
+ghost use Rattle.cipher_mode.specs.Key.{noCipher, wrongNumber, newCipher, retire, numberIn, newCipherMode};
 ghost use Rattle.cipher_mode.specs.Calls.{blockCall, modeCall};
 use answer::Answer;
 use checks::Checked;
@@ -16,12 +16,15 @@ use checks::Lengths;
 pub enum KeyAnswer {
     Key,
     ErrorBlockSize,
+    WrongNumber,
 }
 
-// Round keys, beside the answer that says whether they are a key's.
+// Round keys, beside the answer that says whether they are a key's; the key's number, and whether it is retired.
 pub struct Sm4Cipher {
     pub rk: [u32; 32],
     pub answer: KeyAnswer,
+    pub number: u16,
+    pub retired: bool,
 }
 
 pub enum CipherMode {
@@ -43,21 +46,72 @@ pub struct Sm4CipherMode {
     pub mode: CipherMode,
 }
 
+// The number that the answers repeat of a record with this answer: 0 where no key stands.
+pub fn number_in(answer: KeyAnswer, number: u16) -> u16
+    ensures { λ r. ⌜ r ≡ numberIn answer number ⌝ }
+{
+    match answer {
+        KeyAnswer::Key => number,
+        KeyAnswer::ErrorBlockSize => 0,
+        KeyAnswer::WrongNumber => 0,
+    }
+}
+
+// A key's number is 1 to 65,535.
+fn wrong_number(n: u32) -> bool
+    ensures { λ r. ⌜ r ≡ wrongNumber n ⌝ }
+{
+    n == 0 || n > 65535
+}
+
+// A record that every call refuses.
+fn no_cipher(answer: KeyAnswer) -> Sm4Cipher
+    ensures { λ r. ⌜ r ≡ noCipher answer ⌝ }
+{
+    Sm4Cipher {
+        rk: [0u32; 32],
+        answer,
+        number: 0,
+        retired: false,
+    }
+}
+
 impl Sm4Cipher {
-    // The key's record; of a key that is not 16 bytes one that every call refuses.
-    pub fn new(key: &[u8]) -> Sm4Cipher
-        ensures { λ r. ⌜ r ≡ newCipher (now (key .entry)) ⌝ }
+    // The record of a new key: 16 bytes, and a number from 1 to 65,535.
+    pub fn new(key: &[u8], number: u32) -> Sm4Cipher
+        ensures { λ r. ⌜ r ≡ newCipher (now (key .entry)) number ⌝ }
     {
         if key.len() != 16 {
-            return Sm4Cipher {
-                rk: [0u32; 32],
-                answer: KeyAnswer::ErrorBlockSize,
-            };
+            return no_cipher(KeyAnswer::ErrorBlockSize);
+        }
+        if wrong_number(number) {
+            return no_cipher(KeyAnswer::WrongNumber);
         }
         let rk = cipher::key_schedule(key);
         Sm4Cipher {
             rk,
             answer: KeyAnswer::Key,
+            number: number as u16,
+            retired: false,
+        }
+    }
+
+    // The record retired: it decrypts and encrypts no more. There is no way back.
+    pub fn retire(self) -> Sm4Cipher
+        ensures { λ r. ⌜ r ≡ retire self ⌝ }
+    {
+        let answer = self.answer;
+        let rk = self.rk;
+        let number = self.number;
+        match answer {
+            KeyAnswer::Key => Sm4Cipher {
+                rk,
+                answer: KeyAnswer::Key,
+                number,
+                retired: true,
+            },
+            KeyAnswer::ErrorBlockSize => self,
+            KeyAnswer::WrongNumber => self,
         }
     }
 
@@ -65,14 +119,15 @@ impl Sm4Cipher {
     pub fn call(self, direction: Direction, block_in: &[u8], out: &mut [u8]) -> Answer
         ensures { λ r. ⌜ outcome r (now (out .exit)) ≡ blockCall direction self (now («block_in» .entry)) (now (out .entry)) ⌝ }
     {
-        let key = self.answer;
-        let checked = checks::block(key, block_in.len(), out.len());
+        let stands = self.answer;
+        let key = number_in(stands, self.number);
+        let checked = checks::block(stands, self.retired, direction, block_in.len(), out.len());
         if let Checked::Refused(refusal) = checked {
-            return answer::refused(refusal);
+            return answer::refused(key, refusal);
         }
         let rk = self.rk;
         work::block(rk, direction, block_in, out);
-        answer::done(16)
+        answer::done(key, 16)
     }
 
     // One block, encrypted to the front of `out`.
@@ -91,15 +146,15 @@ impl Sm4Cipher {
 }
 
 impl Sm4CipherMode {
-    pub fn new(key: &[u8], mode: CipherMode) -> Sm4CipherMode
-        ensures { λ r. ⌜ r ≡ newCipherMode (now (key .entry)) mode ⌝ }
+    pub fn new(key: &[u8], number: u32, mode: CipherMode) -> Sm4CipherMode
+        ensures { λ r. ⌜ r ≡ newCipherMode (now (key .entry)) number mode ⌝ }
     {
-        let cipher = Sm4Cipher::new(key);
+        let cipher = Sm4Cipher::new(key, number);
         Sm4CipherMode { cipher, mode }
     }
 
-    // A message, either way, to the front of `out`: everything that can be told of the key's answer, the mode and the lengths
-    // is settled before any work.
+    // A message, either way, to the front of `out`: everything that can be told of the record, the mode and the lengths is
+    // settled before any work.
     pub fn call(
         self,
         direction: Direction,
@@ -111,7 +166,8 @@ impl Sm4CipherMode {
         ensures { λ r. ⌜ outcome r (now (out .exit)) ≡ modeCall direction self (now (aad .entry)) (now («data» .entry)) (now (iv .entry)) (now (out .entry)) ⌝ }
     {
         let cipher = self.cipher;
-        let key = cipher.answer;
+        let stands = cipher.answer;
+        let key = number_in(stands, cipher.number);
         let mode = self.mode;
         let lengths = Lengths {
             iv: iv.len(),
@@ -119,13 +175,14 @@ impl Sm4CipherMode {
             data: data.len(),
             room: out.len(),
         };
-        let checked = checks::message(key, direction, mode, lengths);
+        let checked = checks::message(stands, cipher.retired, direction, mode, lengths);
         if let Checked::Refused(refusal) = checked {
-            return answer::refused(refusal);
+            return answer::refused(key, refusal);
         }
         let t = cipher::plain();
         let rk = cipher.rk;
-        work::message(&t, rk, direction, mode, aad, data, iv, out)
+        let ending = work::message(&t, rk, direction, mode, aad, data, iv, out);
+        Answer { ending, key }
     }
 
     // Encrypts `data` to the front of `out`, under the label `aad` in Gcm. The other modes do not look at `aad`.

@@ -11,13 +11,12 @@ ghost use Rattle.stream.specs.Stream.{streamMode};
 ghost use Rattle.cbc.specs.Open.{headOf as cbcHead};
 ghost use Rattle.gcm.specs.Open.{headOf as gcmHead};
 ghost use Rattle.cipher_mode.specs.Tables.{roomOf};
-ghost use Rattle.cipher_mode.specs.Answer.{headOf, outcome};
+ghost use Rattle.cipher_mode.specs.Answer.{endingHead, ended};
 ghost use Rattle.cipher_mode.specs.Checks.{wrongIv, labelCheck, dataCheck};
 ghost use Rattle.cipher_mode.specs.Calls.{keysFor, blockOf, cfbKind, cbcResult, gcmResult, modeResult};
 use crate::CipherMode;
 use crate::Direction;
-use crate::answer;
-use crate::answer::Answer;
+use crate::answer::Ending;
 use crate::answer::Refusal;
 use crate::checks;
 use crate::checks::Checked;
@@ -55,22 +54,22 @@ fn cfb_kind(direction: Direction) -> Kind
 }
 
 // Cfb, Ofb and Ctr, either way.
-fn by_stream(t: &[u32], rk: [u32; 32], kind: Kind, iv: &[u8], data: &[u8], out: &mut [u8]) -> Answer
+fn by_stream(t: &[u32], rk: [u32; 32], kind: Kind, iv: &[u8], data: &[u8], out: &mut [u8]) -> Ending
     requires { ⌜ Engine (now t) ⌝ }
     requires { ⌜ length (now iv) ≡ 16 ⌝ }
     requires { ⌜ length (now «data») ≤ length (now out) ⌝ }
-    ensures { λ r. ⌜ outcome r (now (out .exit)) ≡ done (chain (streamMode kind rk) (now (iv .entry)) (now («data» .entry))) (now (out .entry)) ⌝ }
+    ensures { λ r. ⌜ ended r (now (out .exit)) ≡ done (chain (streamMode kind rk) (now (iv .entry)) (now («data» .entry))) (now (out .entry)) ⌝ }
 {
     stream::stream(t, rk, kind, block::split_block(iv), data, out);
-    answer::done(data.len())
+    Ending::Done(data.len())
 }
 
-fn cbc_answer(opened: cbc::Opened) -> Answer
-    ensures { λ r. ⌜ headOf r ≡ cbcHead opened ⌝ }
+fn cbc_answer(opened: cbc::Opened) -> Ending
+    ensures { λ r. ⌜ endingHead r ≡ cbcHead opened ⌝ }
 {
     match opened {
-        cbc::Opened::Done(n) => answer::done(n),
-        cbc::Opened::InvalidLastU8 => answer::refused(Refusal::InvalidLastU8),
+        cbc::Opened::Done(n) => Ending::Done(n),
+        cbc::Opened::InvalidLastU8 => Ending::Refused(Refusal::InvalidLastU8),
     }
 }
 
@@ -81,29 +80,29 @@ fn by_cbc(
     iv: &[u8],
     data: &[u8],
     out: &mut [u8],
-) -> Answer
+) -> Ending
     requires { ⌜ Engine (now t) ⌝ }
     requires { ⌜ length (now iv) ≡ 16 ⌝ }
     requires { ⌜ dataCheck direction CipherMode.Cbc (length (now «data»)) ≡ Checked.Passed ⌝ }
     requires { ⌜ roomOf CipherMode.Cbc direction (length (now «data»)) ≤ length (now out) ⌝ }
-    ensures { λ r. ⌜ outcome r (now (out .exit)) ≡ cbcResult direction rk (now («data» .entry)) (now (iv .entry)) (now (out .entry)) ⌝ }
+    ensures { λ r. ⌜ ended r (now (out .exit)) ≡ cbcResult direction rk (now («data» .entry)) (now (iv .entry)) (now (out .entry)) ⌝ }
 {
     let start = block::split_block(iv);
     match direction {
         Direction::Encrypt => {
             cbc::encrypt(t, rk, start, data, out);
-            answer::done(checks::encrypted_length(CipherMode::Cbc, data.len()))
+            Ending::Done(checks::encrypted_length(CipherMode::Cbc, data.len()))
         }
         Direction::Decrypt => cbc_answer(cbc::decrypt(t, rk, start, data, out)),
     }
 }
 
-fn gcm_answer(opened: gcm::Opened) -> Answer
-    ensures { λ r. ⌜ headOf r ≡ gcmHead opened ⌝ }
+fn gcm_answer(opened: gcm::Opened) -> Ending
+    ensures { λ r. ⌜ endingHead r ≡ gcmHead opened ⌝ }
 {
     match opened {
-        gcm::Opened::Done(n) => answer::done(n),
-        gcm::Opened::InvalidTag => answer::refused(Refusal::InvalidTag),
+        gcm::Opened::Done(n) => Ending::Done(n),
+        gcm::Opened::InvalidTag => Ending::Refused(Refusal::InvalidTag),
     }
 }
 
@@ -115,20 +114,20 @@ fn by_gcm(
     data: &[u8],
     iv: &[u8],
     out: &mut [u8],
-) -> Answer
+) -> Ending
     requires { ⌜ Engine (now t) ⌝ }
     requires { ⌜ wrongIv CipherMode.Gcm (length (now iv)) ≡ false ⌝ }
     requires { ⌜ labelCheck CipherMode.Gcm (length (now aad)) ≡ Checked.Passed ⌝ }
     requires { ⌜ dataCheck direction CipherMode.Gcm (length (now «data»)) ≡ Checked.Passed ⌝ }
     requires { ⌜ roomOf CipherMode.Gcm direction (length (now «data»)) ≤ length (now out) ⌝ }
-    ensures { λ r. ⌜ outcome r (now (out .exit)) ≡ gcmResult direction rk (now (aad .entry)) (now («data» .entry)) (now (iv .entry)) (now (out .entry)) ⌝ }
+    ensures { λ r. ⌜ ended r (now (out .exit)) ≡ gcmResult direction rk (now (aad .entry)) (now («data» .entry)) (now (iv .entry)) (now (out .entry)) ⌝ }
 {
     let h = gcm::hash_key(t, rk);
     let j0 = gcm::first_counter(h, iv);
     match direction {
         Direction::Encrypt => {
             gcm::encrypt(t, rk, h, j0, aad, data, out);
-            answer::done(checks::encrypted_length(CipherMode::Gcm, data.len()))
+            Ending::Done(checks::encrypted_length(CipherMode::Gcm, data.len()))
         }
         Direction::Decrypt => gcm_answer(gcm::decrypt(t, rk, h, j0, aad, data, out)),
     }
@@ -144,13 +143,13 @@ pub(crate) fn message(
     data: &[u8],
     iv: &[u8],
     out: &mut [u8],
-) -> Answer
+) -> Ending
     requires { ⌜ Engine (now t) ⌝ }
     requires { ⌜ wrongIv mode (length (now iv)) ≡ false ⌝ }
     requires { ⌜ labelCheck mode (length (now aad)) ≡ Checked.Passed ⌝ }
     requires { ⌜ dataCheck direction mode (length (now «data»)) ≡ Checked.Passed ⌝ }
     requires { ⌜ roomOf mode direction (length (now «data»)) ≤ length (now out) ⌝ }
-    ensures { λ r. ⌜ outcome r (now (out .exit)) ≡ modeResult mode direction rk (now (aad .entry)) (now («data» .entry)) (now (iv .entry)) (now (out .entry)) ⌝ }
+    ensures { λ r. ⌜ ended r (now (out .exit)) ≡ modeResult mode direction rk (now (aad .entry)) (now («data» .entry)) (now (iv .entry)) (now (out .entry)) ⌝ }
 {
     match mode {
         CipherMode::Cfb => by_stream(t, rk, cfb_kind(direction), iv, data, out),

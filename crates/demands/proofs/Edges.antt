@@ -5,7 +5,7 @@ use mathlib.Core.Logic.{_≢_}
 use mathlib.Core.Bool.{Bool, true, false}
 use mathlib.Core.List.{List, map}
 use Prim.Native.Nat.{ℕ}
-use Rattle.walk.specs.Outcome.{Outcome, finished}
+use Rattle.walk.specs.Outcome.{Outcome, finished, under}
 use Rattle.cbc.specs.Open.{namesPadding, unpadded}
 use Rattle.cipher_mode.specs.declared.KeyAnswer.the-variants.{Key}
 use Rattle.cipher_mode.specs.declared.Direction.{Direction}
@@ -13,14 +13,15 @@ use Rattle.cipher_mode.specs.declared.Direction.the-variants.{Encrypt}
 use Rattle.cipher_mode.specs.declared.checks.Checked.{Checked}
 use Rattle.cipher_mode.specs.declared.checks.Checked.the-variants.{Passed, Refused}
 use Rattle.cipher_mode.specs.declared.Sm4CipherMode.{Sm4CipherMode}
-use Rattle.cipher_mode.specs.Checks.{keyAndIv, dataCheck, roomCheck, messageCheck, checked}
+use Rattle.cipher_mode.specs.Key.{newCipher}
+use Rattle.cipher_mode.specs.Checks.{keyAndIv, dataCheck, roomCheck, messageCheck, blockCheck, checked}
 use Rattle.cipher_mode.specs.Calls.{modeResult, lengthsOf, modeCall}
-use Rattle.demands.specs.Edges.{Row, verdict, said, edges}
+use Rattle.demands.specs.Edges.{Row, verdict, saidOf, edges}
 use Rattle.demands.proofs.ModesBack.{encrypts, length-encrypted}
 
 -- All rows, whether the tag is right or not: what the definitions say is what the paper says.
 pub at-the-edges : (right : Bool) → map (λ (r : Row). r .ours) (edges right) ≡ map (λ (r : Row). r .paper) (edges right)
-unfolding messageCheck keyAndIv dataCheck roomCheck namesPadding unpadded
+unfolding messageCheck blockCheck keyAndIv dataCheck roomCheck newCipher namesPadding unpadded
 at-the-edges true = refl
 at-the-edges false = refl
 
@@ -32,22 +33,27 @@ verdict-done : (k : Checked) (o : List ℕ) (next : Outcome) (n : ℕ) → next 
 verdict-done Passed o next n e = e
 verdict-done (Refused r) o next n e = refl
 
--- Where the checks refuse, every call under a usable key with those lengths answers what is said.
+-- Where the checks refuse, every call under a usable key with those lengths answers what is said, with the key's number.
 pub edge-refused : (dir : Direction) (m : Sm4CipherMode) → m .cipher .answer ≡ Key → (label d iv o : List ℕ)
-    → messageCheck Key dir (m .mode) (lengthsOf label d iv o) ≢ Passed
-    → modeCall dir m label d iv o .head ≡ said dir (m .mode) (lengthsOf label d iv o)
+    → messageCheck Key (m .cipher .retired) dir (m .mode) (lengthsOf label d iv o) ≢ Passed
+    → modeCall dir m label d iv o .head ≡ under (m .cipher .number) (saidOf (m .cipher .retired) dir (m .mode) (lengthsOf label d iv o))
 unfolding modeCall
 edge-refused dir m k label d iv o h =
-    rw k (verdict-refused (messageCheck Key dir (m .mode) (lengthsOf label d iv o)) o
-    (modeResult (m .mode) dir (m .cipher .rk) label d iv o) _ h)
+    rw k
+    (ap (under (m .cipher .number))
+    (verdict-refused (messageCheck Key (m .cipher .retired) dir (m .mode) (lengthsOf label d iv o)) o
+    (modeResult (m .mode) dir (m .cipher .rk) label d iv o) _ h))
 
 -- And of encryption it is the whole report.
 pub edge-encrypted : (m : Sm4CipherMode) → m .cipher .answer ≡ Key → (label d iv o : List ℕ)
-    → modeCall Encrypt m label d iv o .head ≡ said Encrypt (m .mode) (lengthsOf label d iv o)
+    → modeCall Encrypt m label d iv o .head
+    ≡ under (m .cipher .number) (saidOf (m .cipher .retired) Encrypt (m .mode) (lengthsOf label d iv o))
 unfolding modeCall
 edge-encrypted m k label d iv o =
     let rk = m .cipher .rk in
     let size = ap finished (length-encrypted (m .mode) rk label d iv) in
     let head = ap (λ (x : Outcome). x .head) (encrypts (m .mode) rk label d iv o) ∙ size in
-    rw k (verdict-done (messageCheck Key Encrypt (m .mode) (lengthsOf label d iv o)) o
-    (modeResult (m .mode) Encrypt rk label d iv o) _ head)
+    rw k
+    (ap (under (m .cipher .number))
+    (verdict-done (messageCheck Key (m .cipher .retired) Encrypt (m .mode) (lengthsOf label d iv o)) o
+    (modeResult (m .mode) Encrypt rk label d iv o) _ head))

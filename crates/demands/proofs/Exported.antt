@@ -1,33 +1,56 @@
--- An exported call is the call on a key set up for it, unless its mode number is refused.
+-- An exported call is the call on the record that the host holds, unless its mode number is refused. A record crosses the boundary
+-- and back as it is.
 -- Assumes nothing.
-use mathlib.Core.Path.{_≡_, refl, sym, ap, _∙_}
+use mathlib.Core.Path.{_≡_, refl, sym, ap, ap₂, _∙_}
 use mathlib.Core.Logic.{_≢_}
-use mathlib.Core.Bool.{Bool, true, false}
+use mathlib.Core.Bool.{Bool, true, false, not, cond}
 use mathlib.Core.List.{List}
 use Prim.Native.Nat.{ℕ, zero, suc, _≤_}
 use native.Mathlib.Omega.{arith}
 use lib.Dec.{eqb}
-use lib.ListN.{length}
-use Rattle.cipher.specs.Sm4.{roundKeys}
-use Rattle.cipher_mode.specs.declared.KeyAnswer.the-variants.{Key}
+use Rattle.cipher_mode.specs.declared.KeyAnswer.{KeyAnswer}
+use Rattle.cipher_mode.specs.declared.KeyAnswer.the-variants.{Key, ErrorBlockSize, WrongNumber}
 use Rattle.cipher_mode.specs.declared.CipherMode.{CipherMode}
 use Rattle.cipher_mode.specs.declared.CipherMode.the-variants.{Cfb, Ofb, Ctr, Cbc, Gcm}
-use Rattle.cipher_mode.specs.declared.Direction.the-variants.{Decrypt}
-use Rattle.cipher_mode.specs.Key.{newCipher, newCipherMode}
-use Rattle.cipher_mode.specs.Calls.{modeCall}
+use Rattle.cipher_mode.specs.declared.Sm4Cipher.{Sm4Cipher}
+use Rattle.cipher_mode.specs.Key.{keyHead, newCipher, retire}
+use Rattle.luossavin.specs.declared.key.LuossavinKey.{LuossavinKey}
+use Rattle.luossavin.specs.Key.{keyAnswerOf, cipherIn, keyOf, hostKeyNew, hostKeyRetire}
 use Rattle.luossavin.specs.Host.{modeOf}
-use Rattle.demands.specs.OneBlockRefused.{MovesZero}
-use Rattle.demands.proofs.Through.{through}
 
--- by the test b on the key's size
-new-by : (key : List ℕ) (b : Bool) → eqb (length key) 16 ≡ b → newCipher key .answer ≡ Key → newCipher key .rk ≡ roundKeys key
-unfolding newCipher
-new-by key true t e = rw t
-new-by key false t e = let f = rw t at e in let z : _≡_ {A = ℕ} 0 1 = cc in absurd (omega arith)
+answer-back : (a : KeyAnswer) → keyAnswerOf (keyHead a .number) ≡ a
+unfolding keyAnswerOf
+answer-back Key = refl
+answer-back ErrorBlockSize = refl
+answer-back WrongNumber = refl
 
--- a record that is a key's holds its round keys
-pub new-key : (key : List ℕ) → newCipher key .answer ≡ Key → newCipher key .rk ≡ roundKeys key
-new-key key = new-by key (eqb (length key) 16) refl
+mark-back : (b : Bool) → not (eqb (cond b 1 0) 0) ≡ b
+mark-back true = refl
+mark-back false = refl
+
+-- a record that was handed out comes back as it was
+pub handed-back : (c : Sm4Cipher) → cipherIn (keyOf c) ≡ c
+unfolding cipherIn keyOf
+handed-back c =
+    ap₂ {C = Sm4Cipher} (λ (a : KeyAnswer) (b : Bool). record { rk = c .rk; answer = a; number = c .number; retired = b })
+    (answer-back (c .answer)) (mark-back (c .retired))
+
+-- so what a host set up is the key's record
+pub new-is-new : (key : List ℕ) (n : ℕ) → cipherIn (hostKeyNew key n) ≡ newCipher key n
+unfolding hostKeyNew
+new-is-new key n = handed-back (newCipher key n)
+
+-- by the tests on the record's answer
+retired-by : (k : LuossavinKey) (zero thirteen : Bool) → eqb (k .answer) 0 ≡ zero → eqb (k .answer) 13 ≡ thirteen
+    → cipherIn (hostKeyRetire k) ≡ retire (cipherIn k)
+unfolding cipherIn keyAnswerOf hostKeyRetire retire
+retired-by k true t e f = rw e
+retired-by k false true e f = rw (e, f) (rw e)
+retired-by k false false e f = rw (e, f) (rw e)
+
+-- and what it retires is that record retired
+pub retired-is-retired : (k : LuossavinKey) → cipherIn (hostKeyRetire k) ≡ retire (cipherIn k)
+retired-is-retired k = retired-by k (eqb (k .answer) 0) (eqb (k .answer) 13) refl refl
 
 -- document 01's number of a mode
 abbrev pub modeNumber : CipherMode → ℕ
@@ -49,9 +72,3 @@ number-of-mode (suc (suc (suc (suc (suc n))))) h = absurd (omega arith)
 -- another number is another mode's
 pub other-mode : (mode : ℕ) (x : CipherMode) → mode ≤ 4 → mode ≢ modeNumber x → modeOf mode ≢ x
 other-mode mode x h n e = n (sym (number-of-mode mode h) ∙ ap modeNumber e)
-
--- where a file opens, the key is usable, and its record moves the zero block if its round keys do
-pub moves-new : (key label file iv o : List ℕ) → modeCall Decrypt (newCipherMode key Gcm) label file iv o .head .number ≡ 0
-    → MovesZero (roundKeys key) → MovesZero (newCipher key .rk)
-unfolding newCipherMode
-moves-new key label file iv o opens moves = rw (new-key key (through Decrypt (newCipherMode key Gcm) label file iv o opens .key)) moves

@@ -2,6 +2,7 @@
 -- Assumes nothing.
 use mathlib.Core.Path.{_≡_, refl, sym, ap, _∙_}
 use mathlib.Core.Logic.{_≢_, inl}
+use mathlib.Core.Bool.{Bool, true, false, cond}
 use mathlib.Core.List.{List, [], _∷_, _++_}
 use Prim.Native.Nat.{ℕ, _≤_}
 use native.Mathlib.Nat.{le-of-eq}
@@ -14,24 +15,27 @@ use Rattle.block.specs.BigEndian.{numberOf, bytesOf}
 use Rattle.cipher.specs.Sm4.{roundKeys}
 use Rattle.counter.specs.Counter.{ctrNext}
 use Rattle.walk.specs.Walk.{walk, chain}
-use Rattle.walk.specs.Outcome.{Outcome, done}
+use Rattle.walk.specs.Outcome.{Head, Outcome, keyed, done}
 use Rattle.cipher_mode.specs.declared.CipherMode.{CipherMode}
 use Rattle.cipher_mode.specs.declared.CipherMode.the-variants.{Cfb, Ofb, Ctr, Cbc, Gcm}
 use Rattle.cipher_mode.specs.declared.Direction.the-variants.{Encrypt}
 use Rattle.cipher_mode.specs.declared.KeyAnswer.{KeyAnswer}
 use Rattle.cipher_mode.specs.declared.KeyAnswer.the-variants.{Key}
+use Rattle.cipher_mode.specs.declared.Sm4Cipher.{Sm4Cipher}
 use Rattle.cipher_mode.specs.declared.Sm4CipherMode.{Sm4CipherMode}
-use Rattle.cipher_mode.specs.Key.{newCipher, newCipherMode}
+use Rattle.cipher_mode.specs.Key.{newCipher, keyNumber, newCipherMode}
 use Rattle.cipher_mode.specs.Tables.{limit}
-use Rattle.cipher_mode.specs.Checks.{dataCheck}
+use Rattle.cipher_mode.specs.Checks.{keyAndIv, dataCheck, messageCheck}
 use Rattle.cipher_mode.specs.Calls.{lengthsOf, modeCall}
 use Rattle.cipher_mode.proofs.Passed.{InOrder}
 use Rattle.demands.specs.Call.{Call, result}
-use Rattle.demands.specs.Answered.{Answered, lengthOf}
+use Rattle.demands.specs.Answered.{singleNumbers, Answered, KeyAnswered, lengthOf}
 use Rattle.demands.specs.Served.{Asks, Served}
 use Rattle.demands.specs.ThereAndBack.{ThereAndBack}
 use Rattle.demands.specs.OneBlockRefused.{OneBlockRefused}
 use Rattle.demands.specs.Imposters.{zeros, zeroKey, refusesAll, constant, copies, firstBlockOnly, inventsLength}
+use Rattle.demands.specs.Imposters.{forgetsNumber, takesAnyNumber, copiesAnew, throwsAway}
+use Rattle.demands.specs.Retired.{StaysRetired, DecryptsAlike}
 use Rattle.demands.proofs.Through.{leaves}
 use Rattle.demands.proofs.ModesBack.{encrypted, encrypts}
 use Rattle.demands.proofs.ZeroCipher.{zero-block, block-of-one}
@@ -41,32 +45,32 @@ pub refusing-all-meets-demand-3 : OneBlockRefused refusesAll
 refusing-all-meets-demand-3 a₁ a₂ c₁ c₂ t iv o₁ o₂ ba₁ ba₂ bc₁ bc₂ n eo change opens = absurd (omega arith)
 
 -- no data and no label are in order, and an output of sixteen bytes has room for what they give
-nothing-in-order : (a : KeyAnswer) → a ≡ Key → (m : CipherMode) → InOrder a Encrypt m (lengthsOf [] [] zeros zeros)
+nothing-in-order : (a : KeyAnswer) (r : Bool) → a ≡ Key → r ≡ false → (m : CipherMode) → InOrder a r Encrypt m (lengthsOf [] [] zeros zeros)
 unfolding dataCheck
-nothing-in-order a k Cfb = record { key = k; iv-size = refl; label = refl; content = refl; room = omega arith }
-nothing-in-order a k Ofb = record { key = k; iv-size = refl; label = refl; content = refl; room = omega arith }
-nothing-in-order a k Ctr = record { key = k; iv-size = refl; label = refl; content = refl; room = omega arith }
-nothing-in-order a k Cbc = record { key = k; iv-size = refl; label = refl; content = refl; room = omega arith }
-nothing-in-order a k Gcm = record { key = k; iv-size = refl; label = refl; content = refl; room = omega arith }
+nothing-in-order a r k u Cfb = record { key = k; iv-size = refl; may = rw u; label = refl; content = refl; room = omega arith }
+nothing-in-order a r k u Ofb = record { key = k; iv-size = refl; may = rw u; label = refl; content = refl; room = omega arith }
+nothing-in-order a r k u Ctr = record { key = k; iv-size = refl; may = rw u; label = refl; content = refl; room = omega arith }
+nothing-in-order a r k u Cbc = record { key = k; iv-size = refl; may = rw u; label = refl; content = refl; room = omega arith }
+nothing-in-order a r k u Gcm = record { key = k; iv-size = refl; may = rw u; label = refl; content = refl; room = omega arith }
 
 -- the empty message is asked for in order in every mode
 nothing-asked : (m : CipherMode) → Asks m [] [] zeros zeros
 nothing-asked m =
-    record { iv-size = inl refl; label-fits = λ _. omega arith; data-fits = omega arith; room = nothing-in-order Key refl m .room }
+    record { iv-size = inl refl; label-fits = λ _. omega arith; data-fits = omega arith; room = nothing-in-order Key false refl refl m .room }
 
 -- But it does not serve: nobody's empty message, without a label and under an IV of zeros, is encrypted, in any mode and whatever
 -- stands beside it for decryption.
 pub refusing-all-serves-nobody : (m : CipherMode) (decryption : Call) → ¬ Served m refusesAll decryption
 refusing-all-serves-nobody m decryption s = absurd (omega (arith, s .sealing [] [] zeros zeros (nothing-asked m) .number))
 
--- And as decryption it breaks demand 2, with any usable key, in any mode and whatever room it is given: it does not give back the empty
+-- And as decryption it breaks demand 2, with any usable and unretired key, in any mode and whatever room it is given: it does not give back the empty
 -- message, encrypted without a label under an IV of zeros.
-pub refusing-all-breaks-demand-2 : (m : Sm4CipherMode) → m .cipher .answer ≡ Key → (room : ℕ → ℕ)
+pub refusing-all-breaks-demand-2 : (m : Sm4CipherMode) → m .cipher .answer ≡ Key → m .cipher .retired ≡ false → (room : ℕ → ℕ)
     → ¬ ThereAndBack room (modeCall Encrypt m) refusesAll
-refusing-all-breaks-demand-2 m k room back =
+refusing-all-breaks-demand-2 m k u room back =
     let x =
-    leaves Encrypt m [] [] zeros zeros (nothing-in-order (m .cipher .answer) k (m .mode))
-    ∙ encrypts (m .mode) (m .cipher .rk) [] [] zeros zeros in
+    leaves Encrypt m [] [] zeros zeros (nothing-in-order (m .cipher .answer) (m .cipher .retired) k u (m .mode))
+    ∙ ap {B = Outcome} (keyed (keyNumber (m .cipher))) (encrypts (m .mode) (m .cipher .rk) [] [] zeros zeros) in
     let e : modeCall Encrypt m [] [] zeros zeros .head .number ≡ 0 = ap (λ (x : Outcome). x .head .number) x in
     let n = room (modeCall Encrypt m [] [] zeros zeros .head .size) in
     let r = back [] [] zeros zeros (replicate n 0) tt (below-replicate 256 16 0 (lit< tt)) e (le-of-eq (sym (length-replicate n 0))) in
@@ -76,11 +80,11 @@ refusing-all-breaks-demand-2 m k room back =
 
 -- what Ctr leaves under the zero key, given room
 ctr-leaves : (d o : List ℕ) → length d ≤ limit → length d ≤ length o
-    → modeCall Encrypt zeroKey [] d zeros o ≡ done (encrypted Ctr (roundKeys zeros) [] d zeros) o
+    → modeCall Encrypt zeroKey [] d zeros o ≡ keyed 1 (done (encrypted Ctr (roundKeys zeros) [] d zeros) o)
 unfolding newCipherMode newCipher dataCheck
 ctr-leaves d o l r =
     leaves Encrypt zeroKey [] d zeros o
-    (record { key = refl; iv-size = refl; label = refl; content = rw (le-ltb limit (length d) l); room = r })
+    (record { key = refl; iv-size = refl; may = refl; label = refl; content = rw (le-ltb limit (length d) l); room = r })
 
 one-byte : encrypted Ctr (roundKeys zeros) [] (0 ∷ []) zeros ≡ 0x9f ∷ []
 unfolding chain walk
@@ -101,15 +105,15 @@ pub constant-contradicts : (x : Outcome) → constant x [] (0 ∷ []) zeros (0 �
     → constant x [] (1 ∷ []) zeros (0 ∷ []) ≢ modeCall Encrypt zeroKey [] (1 ∷ []) zeros (0 ∷ [])
 constant-contradicts x e f =
     let o : List ℕ = 0 ∷ [] in
-    let g = ctr-leaves (0 ∷ []) o (omega arith) (omega arith) ∙ ap {B = Outcome} (λ (p : List ℕ). done p o) one-byte in
-    let h = ctr-leaves (1 ∷ []) o (omega arith) (omega arith) ∙ ap {B = Outcome} (λ (p : List ℕ). done p o) another-byte in
+    let g = ctr-leaves (0 ∷ []) o (omega arith) (omega arith) ∙ ap {B = Outcome} (λ (p : List ℕ). keyed 1 (done p o)) one-byte in
+    let h = ctr-leaves (1 ∷ []) o (omega arith) (omega arith) ∙ ap {B = Outcome} (λ (p : List ℕ). keyed 1 (done p o)) another-byte in
     let z : _≡_ {A = ℕ} 0x9f 0x9e = ap (λ (y : Outcome). getD (y .bytes) 0 0) (sym (e ∙ g) ∙ f ∙ h) in
     absurd (omega arith)
 
 -- A copy is wrong at one zero byte, which becomes 9f. (Of no data there is no other result.)
 pub copy-contradicts : copies [] (0 ∷ []) zeros (0 ∷ []) ≢ modeCall Encrypt zeroKey [] (0 ∷ []) zeros (0 ∷ [])
 copy-contradicts e =
-    let f = ctr-leaves (0 ∷ []) (0 ∷ []) (omega arith) (omega arith) ∙ ap {B = Outcome} (λ (p : List ℕ). done p (0 ∷ [])) one-byte in
+    let f = ctr-leaves (0 ∷ []) (0 ∷ []) (omega arith) (omega arith) ∙ ap {B = Outcome} (λ (p : List ℕ). keyed 1 (done p (0 ∷ []))) one-byte in
     let g : _≡_ {A = ℕ} 0 0x9f = ap (λ (x : Outcome). getD (x .bytes) 0 0) (e ∙ f) in
     absurd (omega arith)
 
@@ -119,7 +123,7 @@ pub first-block-only-contradicts :
     firstBlockOnly zeroKey [] (replicate 17 0) zeros (replicate 17 0) ≢ modeCall Encrypt zeroKey [] (replicate 17 0) zeros (replicate 17 0)
 first-block-only-contradicts e =
     let d : List ℕ = replicate 17 0 in
-    let g = ctr-leaves d d (omega arith) (omega arith) ∙ ap {B = Outcome} (λ (p : List ℕ). done p d) seventeen-bytes in
+    let g = ctr-leaves d d (omega arith) (omega arith) ∙ ap {B = Outcome} (λ (p : List ℕ). keyed 1 (done p d)) seventeen-bytes in
     let f = ap {B = Outcome} (λ (x : Outcome). done (take 16 (result x) ++ drop 16 d) d) g in
     let z : _≡_ {A = ℕ} 0 0x23 = ap (λ (x : Outcome). getD (x .bytes) 16 0) (sym f ∙ e ∙ g) in
     absurd (omega arith)
@@ -127,7 +131,33 @@ first-block-only-contradicts e =
 -- A length of its own invention, the output's, breaks the table of lengths at no data with an output of one byte: the table
 -- says 0.
 pub invented-length-breaks-the-table :
-    ¬ ((label d iv o : List ℕ) → Answered 11 o (lengthOf Ctr Encrypt (zeroKey .cipher .rk) iv d) (inventsLength zeroKey label d iv o))
+    ¬ ((label d iv o : List ℕ) → Answered singleNumbers 1 o (lengthOf Ctr Encrypt (zeroKey .cipher .rk) iv d) (inventsLength zeroKey label d iv o))
 invented-length-breaks-the-table claim =
     let done-there = ap (λ (x : Outcome). x .head .number) (ctr-leaves [] (0 ∷ []) (omega arith) (omega arith)) in
     absurd (omega (arith, claim [] [] zeros (0 ∷ []) .reported done-there))
+
+-- Setting up a key without its number breaks what set-up answers, at sixteen zero bytes and the number 2: it is 1.
+pub forgotten-number-is-told : ¬ ((key : List ℕ) (n : ℕ) → KeyAnswered key n (forgetsNumber key n))
+unfolding newCipher
+forgotten-number-is-told claim =
+    let z : _≡_ {A = ℕ} 1 2 = claim zeros 2 .done refl (omega arith) (omega arith) .1 in absurd (omega arith)
+
+-- Taking any number breaks it at sixteen zero bytes and the number 0, which is 13.
+pub any-number-is-told : ¬ ((key : List ℕ) (n : ℕ) → KeyAnswered key n (takesAnyNumber key n))
+any-number-is-told claim =
+    let z : _≡_ {A = ℕ} 0 13 = ap (λ (h : Head). h .number) (claim zeros 0 .out-of-range refl (inl refl)) in absurd (omega arith)
+
+-- Retiring by a copy breaks that a retired record stays retired, at any that is.
+pub copy-anew-is-unretired : ¬ StaysRetired copiesAnew
+copy-anew-is-unretired claim =
+    let z : _≡_ {A = Bool} false true = claim (record { rk = []; answer = Key; number = 1; retired = true }) refl in
+    let y : _≡_ {A = ℕ} 0 1 = ap (λ (b : Bool). cond b 1 0) z in
+    absurd (omega arith)
+
+-- Retiring a key by making it none breaks that old files open, at the key of sixteen zero bytes in Ctr and an IV of none: the key
+-- answers 10, and the imposter 1.
+pub thrown-away-opens-nothing : ¬ ((c : Sm4Cipher) → DecryptsAlike c (throwsAway c))
+unfolding modeCall messageCheck keyAndIv newCipher
+thrown-away-opens-nothing claim =
+    let z : _≡_ {A = ℕ} 1 10 = ap (λ (x : Outcome). x .head .number) (claim (newCipher zeros 1) .message Ctr [] [] [] []) in
+    absurd (omega arith)

@@ -9,7 +9,7 @@ use native.Mathlib.Omega.{arith}
 use lib.ListN.{length, take, drop, length-append, length-drop}
 use lib.Seq.{take-at}
 use borrow.Author.Tests.{le-ltb}
-use Rattle.walk.specs.Outcome.{Head, Outcome, finished, refusal}
+use Rattle.walk.specs.Outcome.{Head, Outcome, finished, refusal, under}
 use Rattle.walk.specs.Walk.{chain, over}
 use Rattle.walk.proofs.Chain.{chain-rest}
 use Rattle.stream.specs.Stream.{streamMode}
@@ -25,11 +25,10 @@ use Rattle.cipher_mode.specs.declared.Direction.the-variants.{Encrypt, Decrypt}
 use Rattle.cipher_mode.specs.declared.KeyAnswer.the-variants.{Key}
 use Rattle.cipher_mode.specs.declared.Sm4Cipher.{Sm4Cipher}
 use Rattle.cipher_mode.specs.declared.Sm4CipherMode.{Sm4CipherMode}
-use Rattle.cipher_mode.specs.declared.checks.Checked.{Checked}
-use Rattle.cipher_mode.specs.declared.checks.Checked.the-variants.{Passed, Refused}
-use Rattle.cipher_mode.specs.Key.{newCipher, newCipherMode}
+use Rattle.cipher_mode.specs.declared.checks.Checked.the-variants.{Passed}
+use Rattle.cipher_mode.specs.Key.{keyNumber}
 use Rattle.cipher_mode.specs.Tables.{limit}
-use Rattle.cipher_mode.specs.Checks.{wrongIv, keyAndIv, labelCheck, dataCheck}
+use Rattle.cipher_mode.specs.Checks.{wrongIv, retiredCheck, keyAndIv, labelCheck, dataCheck}
 use Rattle.cipher_mode.specs.Calls.{modeCall}
 use Rattle.cipher_mode.proofs.Passed.{both, key-and-iv-passed, label-passed, data-within}
 use Rattle.pieces.specs.declared.ctr.Ctr.{Ctr}
@@ -37,30 +36,33 @@ use Rattle.pieces.specs.declared.opens.Opens.{Opens}
 use Rattle.pieces.specs.declared.seal.Seal.{Seal}
 use Rattle.pieces.specs.Checks.{gcmStarting}
 use Rattle.pieces.specs.States.{ctrAfter, sealAfter, sealShut, opensAfter, opensShut}
-use Rattle.pieces.specs.Calls.{Stepped, ended, begun, ctrStart, ctrPiece, ctrEnd, sealStart, sealPiece, sealEnd, opensStart, opensPiece, opensEnd}
+use Rattle.pieces.specs.Calls.{Stepped, ended, ctrStart, ctrPiece, ctrEnd, sealStart, sealPiece, sealEnd, opensStart, opensPiece, opensEnd}
 use Rattle.pieces.proofs.CtrInPieces.{ctr-started, ctr-goes-on, ctr-joined, ctr-ended}
 use Rattle.pieces.proofs.Sealing.{no-text}
 use Rattle.pieces.proofs.SealInPieces.{seal-started, seal-joined, seal-goes-on, seal-ended}
 use Rattle.pieces.proofs.OpensInPieces.{opens-started, opens-goes-on, opens-ended}
+use Rattle.luossavin.specs.declared.key.LuossavinKey.{LuossavinKey}
+use Rattle.luossavin.specs.Key.{cipherIn}
 use Rattle.luossavin.specs.Host.{modeOf, hostModeCall}
-use Rattle.luossavin.specs.InPieces.{hostCtrStart, hostSealStart, hostOpensStart}
+use Rattle.luossavin.specs.InPieces.{directionOf, hostCtrStart, hostSealStart, hostOpensStart}
 use Rattle.demands.specs.Call.{inGcm, result}
 use Rattle.demands.specs.InPieces.{Did, written, stateAfter, wrote, AllDid, Piece, onto, sizeOf, whole, Roomy}
 use Rattle.demands.specs.InPieces.{AllDone, joined, none, CtrInPieces, SealInPieces, OpensInPieces}
-use Rattle.demands.proofs.Through.{not-zero, result-of-done, through, leaves}
+use Rattle.demands.proofs.Through.{result-of-done, passed-start, through, leaves}
 use Rattle.demands.proofs.OtherHash.{Fits, gcm-in-order}
 
-did : (S : Type 0) (n : ℕ) (x : Stepped S) → x .head ≡ finished n → Did S n x
-did S n x e = record { number = ap (λ (h : Head). h .number) e; size = ap (λ (h : Head). h .size) e }
+did : (S : Type 0) (n i : ℕ) (x : Stepped S) → x .head ≡ under i (finished n) → Did S n x
+did S n i x e = record { number = ap (λ (h : Head). h .number) e; size = ap (λ (h : Head). h .size) e }
 
--- what a piece e behind the text d does, where `text` is what the single call gives and `after` the state after a text
-pub record Goes (S : Type 0) (text : List ℕ → List ℕ) (after : List ℕ → S) (call : S → Piece → Stepped S) : Type 0 where
+-- what a piece e behind the text d does, where `text` is what the single call gives, `after` the state after a text and i the key's
+-- number
+pub record Goes (S : Type 0) (i : ℕ) (text : List ℕ → List ℕ) (after : List ℕ → S) (call : S → Piece → Stepped S) : Type 0 where
   -- as many bytes as go in, and the first ones do not depend on the last
   pub kept : (d : List ℕ) → length (text d) ≡ length d
   pub goes : (d : List ℕ) (p : Piece) → length d + length (p .text) ≤ limit → length (p .text) ≤ length (p .out)
       → call (after d) p
       ≡ record {
-        head = finished (length (p .text));
+        head = under i (finished (length (p .text)));
         bytes = over (drop (length d) (text (d ++ p .text))) (p .out);
         state = after (d ++ p .text);
       }
@@ -81,7 +83,7 @@ record First (S : Type 0) (text : List ℕ → List ℕ) (after : List ℕ → S
   pub state : stateAfter S Piece call (x .state) ps ≡ after (d ++ (p .text ++ whole ps))
   pub bytes : text d ++ (written S x ++ wrote S Piece call (x .state) ps) ≡ text (d ++ (p .text ++ whole ps))
 
-module _ (S : Type 0) (text : List ℕ → List ℕ) (after : List ℕ → S) (call : S → Piece → Stepped S) (g : Goes S text after call) where
+module _ (S : Type 0) (text : List ℕ → List ℕ) (after : List ℕ → S) (call : S → Piece → Stepped S) (i : ℕ) (g : Goes S i text after call) where
   stretch-length : (d e : List ℕ) → length (drop (length d) (text (d ++ e))) ≡ length e
   stretch-length d e =
       length-drop (length d) (text (d ++ e)) ∙ ap (λ (n : ℕ). n - length d) (g .kept (d ++ e) ∙ length-append d e) ∙ omega arith
@@ -89,7 +91,7 @@ module _ (S : Type 0) (text : List ℕ → List ℕ) (after : List ℕ → S) (c
   -- the first piece, by what its call left
   one-more : (d : List ℕ) (p : Piece) (ps : List Piece) (x : Stepped S)
       → x ≡ record {
-        head = finished (length (p .text));
+        head = under i (finished (length (p .text)));
         bytes = over (drop (length d) (text (d ++ p .text))) (p .out);
         state = after (d ++ p .text);
       }
@@ -128,58 +130,62 @@ ctr-within Encrypt n e = data-within Encrypt Ctr·mode n e
 ctr-within Decrypt n e = data-within Decrypt Ctr·mode n e
 
 -- the starts that pass
-ctr-starts : (c : Sm4Cipher) (iv : List ℕ) → c .answer ≡ Key → wrongIv Ctr·mode (length iv) ≡ false
-    → ctrStart c iv ≡ record { head = finished 0; bytes = []; state = ctrAfter (c .rk) iv [] }
+ctr-starts : (dir : Direction) (c : Sm4Cipher) (iv : List ℕ) → c .answer ≡ Key → wrongIv Ctr·mode (length iv) ≡ false
+    → retiredCheck dir (c .retired) ≡ Passed
+    → ctrStart dir c iv ≡ record { head = under (keyNumber c) (finished 0); bytes = []; state = ctrAfter (keyNumber c) (c .rk) iv [] }
 unfolding keyAndIv
-ctr-starts c iv k n = ctr-started c iv (rw (k, n))
+ctr-starts dir c iv k n u = ctr-started dir c iv (rw (k, n, u))
 
-seal-starts : (c : Sm4Cipher) (label iv : List ℕ) → c .answer ≡ Key → wrongIv Gcm (length iv) ≡ false → length label ≤ limit
-    → sealStart c label iv ≡ record { head = finished 0; bytes = []; state = sealAfter (c .rk) label iv [] }
+seal-starts : (c : Sm4Cipher) (label iv : List ℕ) → c .answer ≡ Key → wrongIv Gcm (length iv) ≡ false
+    → retiredCheck Encrypt (c .retired) ≡ Passed → length label ≤ limit
+    → sealStart c label iv ≡ record { head = under (keyNumber c) (finished 0); bytes = []; state = sealAfter (keyNumber c) (c .rk) label iv [] }
 unfolding gcmStarting keyAndIv
-seal-starts c label iv k n h = seal-started c label iv (rw (k, n, le-ltb limit (length label) h))
+seal-starts c label iv k n u h = seal-started c label iv (rw (k, n, u, le-ltb limit (length label) h))
 
 -- no text gives none
 chain-nothing : (rk iv : List ℕ) → chain (streamMode Ctr·kind rk) iv [] ≡ []
 chain-nothing rk iv = chain-rest (streamMode Ctr·kind rk) iv [] (omega arith)
 
-ctr-goes : (rk iv : List ℕ) → Goes Ctr (chain (streamMode Ctr·kind rk) iv) (ctrAfter rk iv) (onto Ctr ctrPiece)
-ctr-goes rk iv =
+ctr-goes : (i : ℕ) (rk iv : List ℕ) → Goes Ctr i (chain (streamMode Ctr·kind rk) iv) (ctrAfter i rk iv) (onto Ctr ctrPiece)
+ctr-goes i rk iv =
     record {
       kept = length-stream Ctr·kind rk iv;
-      goes = λ d p h r. ctr-goes-on rk iv d (p .text) (p .out) h r;
-      fronts = λ d e. sym (ctr-joined rk iv d e);
+      goes = λ d p h r. ctr-goes-on i rk iv d (p .text) (p .out) h r;
+      fronts = λ d e. sym (ctr-joined i rk iv d e);
     }
 
-seal-goes : (rk label iv : List ℕ) → length label ≤ limit → Goes Seal (textOf rk (J0 rk iv)) (sealAfter rk label iv) (onto Seal sealPiece)
-seal-goes rk label iv hl =
+seal-goes : (i : ℕ) (rk label iv : List ℕ) → length label ≤ limit
+    → Goes Seal i (textOf rk (J0 rk iv)) (sealAfter i rk label iv) (onto Seal sealPiece)
+seal-goes i rk label iv hl =
     record {
       kept = length-text rk (J0 rk iv);
-      goes = λ d p h r. seal-goes-on rk label iv d hl (p .text) (p .out) h r;
+      goes = λ d p h r. seal-goes-on i rk label iv d hl (p .text) (p .out) h r;
       fronts = λ d e. sym (seal-joined rk (J0 rk iv) d e);
     }
 
 -- Under any record, either way: Ctr in pieces gives the bytes of the single call.
 pub ctr-in-pieces : (dir : Direction) (c : Sm4Cipher)
-    → CtrInPieces Ctr (ctrStart c) ctrPiece ctrEnd (modeCall dir (record { cipher = c; mode = Ctr·mode }))
+    → CtrInPieces Ctr (ctrStart dir c) ctrPiece ctrEnd (modeCall dir (record { cipher = c; mode = Ctr·mode }))
 ctr-in-pieces dir c ps label iv o r e =
     let rk = c .rk in
+    let i = keyNumber c in
     let call = onto Ctr ctrPiece in
     let text = chain (streamMode Ctr·kind rk) iv in
     let m : Sm4CipherMode = record { cipher = c; mode = Ctr·mode } in
     let p = through dir m label (whole ps) iv o e in
     let fits : length (whole ps) ≤ limit = ctr-within dir (length (whole ps)) (p .content) in
-    let w = went Ctr text (ctrAfter rk iv) call (ctr-goes rk iv) [] ps (omega arith) r in
+    let w = went Ctr text (ctrAfter i rk iv) call i (ctr-goes i rk iv) [] ps (omega arith) r in
     let single : result (modeCall dir m label (whole ps) iv o) ≡ text (whole ps) =
     ap result (leaves dir m label (whole ps) iv o p) ∙ result-of-done (text (whole ps)) o in
-    let ended : Did Ctr 0 (ctrEnd (stateAfter Ctr Piece call (ctrAfter rk iv []) ps)) =
+    let ended : Did Ctr 0 (ctrEnd (stateAfter Ctr Piece call (ctrAfter i rk iv []) ps)) =
     subst (λ (s : Ctr). Did Ctr 0 (ctrEnd s)) (sym (w .state))
-    (did Ctr 0 _ (ap (λ (x : Stepped Ctr). x .head) (ctr-ended rk iv (whole ps) fits))) in
+    (did Ctr 0 i _ (ap (λ (x : Stepped Ctr). x .head) (ctr-ended i rk iv (whole ps) fits))) in
     subst
     (λ (x : Stepped Ctr). AllDone Ctr call x ps 0 (ctrEnd (stateAfter Ctr Piece call (x .state) ps))
     × (wrote Ctr Piece call (x .state) ps ≡ result (modeCall dir m label (whole ps) iv o)))
-    (sym (ctr-starts c iv (p .key) (p .iv-size))) (
+    (sym (ctr-starts dir c iv (p .key) (p .iv-size) (p .may))) (
       record { start = record { number = refl; size = refl }; pieces = w .all; end = ended },
-      ap (λ (l : List ℕ). l ++ wrote Ctr Piece call (ctrAfter rk iv []) ps) (sym (chain-nothing rk iv)) ∙ w .bytes ∙ sym single,
+      ap (λ (l : List ℕ). l ++ wrote Ctr Piece call (ctrAfter i rk iv []) ps) (sym (chain-nothing rk iv)) ∙ w .bytes ∙ sym single,
     )
 
 -- Under any record: Gcm sealing in pieces gives the ciphertext and the tag of the single call.
@@ -187,6 +193,7 @@ pub seal-in-pieces : (c : Sm4Cipher) → SealInPieces Seal (sealStart c) sealPie
 unfolding sealed
 seal-in-pieces c ps label iv t o r room e =
     let rk = c .rk in
+    let i = keyNumber c in
     let j = J0 rk iv in
     let call = onto Seal sealPiece in
     let text = textOf rk j in
@@ -194,11 +201,11 @@ seal-in-pieces c ps label iv t o r room e =
     let p = through Encrypt (inGcm c) label (whole ps) iv o e in
     let hl = label-passed (length label) (p .label) in
     let fits : length (whole ps) ≤ limit = data-within Encrypt Gcm (length (whole ps)) (p .content) in
-    let w = went Seal text (sealAfter rk label iv) call (seal-goes rk label iv hl) [] ps (omega arith) r in
-    let end = seal-ended rk label iv (whole ps) hl t fits room in
+    let w = went Seal text (sealAfter i rk label iv) call i (seal-goes i rk label iv hl) [] ps (omega arith) r in
+    let end = seal-ended i rk label iv (whole ps) hl t fits room in
     let single : result (modeCall Encrypt (inGcm c) label (whole ps) iv o) ≡ text (whole ps) ++ tag =
     ap result (leaves Encrypt (inGcm c) label (whole ps) iv o p) ∙ result-of-done (text (whole ps) ++ tag) o in
-    let ends : (x : Stepped Seal) → x ≡ record { head = finished 16; bytes = over tag t; state = sealShut ended }
+    let ends : (x : Stepped Seal) → x ≡ record { head = under i (finished 16); bytes = over tag t; state = sealShut i ended }
     → Did Seal 16 x × (written Seal x ≡ tag) =
     λ x f. subst (λ (y : Stepped Seal). Did Seal 16 y × (written Seal y ≡ tag)) (sym f)
     (record { number = refl; size = refl }, take-at tag _ 16 (length-tag rk (hashKey rk) j label (text (whole ps)))) in
@@ -207,31 +214,31 @@ seal-in-pieces c ps label iv t o r room e =
     (λ (x : Stepped Seal). AllDone Seal call x ps 16 (sealEnd (stateAfter Seal Piece call (x .state) ps) t)
     × (wrote Seal Piece call (x .state) ps ++ written Seal (sealEnd (stateAfter Seal Piece call (x .state) ps) t)
     ≡ result (modeCall Encrypt (inGcm c) label (whole ps) iv o)))
-    (sym (seal-starts c label iv (p .key) (p .iv-size) hl)) (
+    (sym (seal-starts c label iv (p .key) (p .iv-size) (p .may) hl)) (
       record { start = record { number = refl; size = refl }; pieces = w .all; end = last .0 },
       ap₂ _++_
-          (ap (λ (l : List ℕ). l ++ wrote Seal Piece call (sealAfter rk label iv []) ps) (sym (no-text rk j)) ∙ w .bytes) (last .1)
+          (ap (λ (l : List ℕ). l ++ wrote Seal Piece call (sealAfter i rk label iv []) ps) (sym (no-text rk j)) ∙ w .bytes) (last .1)
           ∙ sym single,
     )
 
 -- pieces of a ciphertext behind c, which write nothing
-pub record Took (rk label iv c : List ℕ) (cs : List (List ℕ)) : Type 0 where
-  pub all : AllDid Opens (List ℕ) opensPiece none (opensAfter rk label iv c) cs
-  pub state : stateAfter Opens (List ℕ) opensPiece (opensAfter rk label iv c) cs ≡ opensAfter rk label iv (c ++ joined cs)
+pub record Took (i : ℕ) (rk label iv c : List ℕ) (cs : List (List ℕ)) : Type 0 where
+  pub all : AllDid Opens (List ℕ) opensPiece none (opensAfter i rk label iv c) cs
+  pub state : stateAfter Opens (List ℕ) opensPiece (opensAfter i rk label iv c) cs ≡ opensAfter i rk label iv (c ++ joined cs)
 
-took : (rk label iv : List ℕ) → length label ≤ limit → (c : List ℕ) (cs : List (List ℕ)) → length c + length (joined cs) ≤ limit
-    → Took rk label iv c cs
-took rk label iv hl c [] h = record { all = tt; state = ap (opensAfter rk label iv) (sym (append-nil c)) }
-took rk label iv hl c (e ∷ cs) h =
+took : (i : ℕ) (rk label iv : List ℕ) → length label ≤ limit → (c : List ℕ) (cs : List (List ℕ)) → length c + length (joined cs) ≤ limit
+    → Took i rk label iv c cs
+took i rk label iv hl c [] h = record { all = tt; state = ap (opensAfter i rk label iv) (sym (append-nil c)) }
+took i rk label iv hl c (e ∷ cs) h =
     let n : length (e ++ joined cs) ≡ length e + length (joined cs) = length-append e (joined cs) in
     let m : length (c ++ e) ≡ length c + length e = length-append c e in
-    let rest = took rk label iv hl (c ++ e) cs (omega arith) in
-    let x = opens-goes-on rk label iv c hl e (omega arith) in
-    let behind : stateAfter Opens (List ℕ) opensPiece (opensAfter rk label iv (c ++ e)) cs ≡ opensAfter rk label iv (c ++ (e ++ joined cs)) =
-    rest .state ∙ ap (opensAfter rk label iv) (append-assoc c e (joined cs)) in
+    let rest = took i rk label iv hl (c ++ e) cs (omega arith) in
+    let x = opens-goes-on i rk label iv c hl e (omega arith) in
+    let behind : stateAfter Opens (List ℕ) opensPiece (opensAfter i rk label iv (c ++ e)) cs ≡ opensAfter i rk label iv (c ++ (e ++ joined cs)) =
+    rest .state ∙ ap (opensAfter i rk label iv) (append-assoc c e (joined cs)) in
     record {
       all = (
-        did Opens 0 _ (ap (λ (y : Stepped Opens). y .head) x),
+        did Opens 0 i _ (ap (λ (y : Stepped Opens). y .head) x),
         subst (λ (s : Opens). AllDid Opens (List ℕ) opensPiece none s cs) (sym (ap (λ (y : Stepped Opens). y .state) x)) (rest .all),
       );
       state = ap (λ (y : Stepped Opens). stateAfter Opens (List ℕ) opensPiece (y .state) cs) x ∙ behind;
@@ -243,22 +250,20 @@ record Starts (c : Sm4Cipher) (label iv : List ℕ) : Type 0 where
   pub iv-size : wrongIv Gcm (length iv) ≡ false
   pub label-fits : length label ≤ limit
 
-started : (c : Sm4Cipher) (label iv : List ℕ) → gcmStarting (c .answer) (length iv) (length label) ≡ Passed → Starts c label iv
+started : (c : Sm4Cipher) (label iv : List ℕ) → gcmStarting (c .answer) (c .retired) Decrypt (length iv) (length label) ≡ Passed
+    → Starts c label iv
 unfolding gcmStarting
 started c label iv e =
-    let b = both (keyAndIv (c .answer) Gcm (length iv)) (labelCheck Gcm (length label)) e in
-    let first = key-and-iv-passed (c .answer) Gcm (length iv) (b .0) in
-    record { key = first .0; iv-size = first .1; label-fits = label-passed (length label) (b .1) }
-
--- a start that answers 0 has passed
-passed-start : (k : Checked) (shut : ℕ → Opens) (s : Opens) → begun Opens k shut s .head .number ≡ 0 → k ≡ Passed
-passed-start Passed shut s e = refl
-passed-start (Refused r) shut s e = absurd (not-zero r e)
+    let b = both (keyAndIv (c .answer) (c .retired) Decrypt Gcm (length iv)) (labelCheck Gcm (length label)) e in
+    let first = key-and-iv-passed (c .answer) (c .retired) Decrypt Gcm (length iv) (b .0) in
+    record { key = first .key; iv-size = first .iv-size; label-fits = label-passed (length label) (b .1) }
 
 opens-starts : (c : Sm4Cipher) (label iv : List ℕ) → opensStart c label iv .head .number ≡ 0
-    → gcmStarting (c .answer) (length iv) (length label) ≡ Passed
+    → gcmStarting (c .answer) (c .retired) Decrypt (length iv) (length label) ≡ Passed
 unfolding opensStart
-opens-starts c label iv e = passed-start (gcmStarting (c .answer) (length iv) (length label)) opensShut (opensAfter (c .rk) label iv []) e
+opens-starts c label iv e =
+    let i = keyNumber c in
+    passed-start Opens (gcmStarting (c .answer) (c .retired) Decrypt (length iv) (length label)) (opensShut i) (opensAfter i (c .rk) label iv []) e
 
 -- the same test decides the single call
 by-test : (t : Bool) (n : ℕ) → gcmHead (cond t (Gcm·Done n) InvalidTag) .number ≡ cond t (finished 0) (refusal 4) .number
@@ -270,12 +275,13 @@ pub opens-in-pieces : (c : Sm4Cipher) → OpensInPieces Opens (opensStart c) ope
 unfolding gcmOpen settled
 opens-in-pieces c cs label iv tag o fits room n e =
     let rk = c .rk in
+    let i = keyNumber c in
     let h = hashKey rk in
     let j = J0 rk iv in
     let text = joined cs in
     let passed = opens-starts c label iv e in
     let s = started c label iv passed in
-    let k = took rk label iv (s .label-fits) [] cs (omega arith) in
+    let k = took i rk label iv (s .label-fits) [] cs (omega arith) in
     let m : length (text ++ tag) ≡ length text + length tag = length-append text tag in
     let ready : Fits label (text ++ tag) o =
     record { label = s .label-fits; longest = omega arith; shortest = omega arith; room = omega arith } in
@@ -291,19 +297,20 @@ opens-in-pieces c cs label iv tag o fits room n e =
     (sym (opens-started c label iv passed)) (
       k .all,
       ap (λ (y : Opens). opensEnd y tag .head .number) (k .state)
-          ∙ ap (λ (x : Stepped Opens). x .head .number) (opens-ended rk label iv text (s .label-fits) tag fits n)
+          ∙ ap (λ (x : Stepped Opens). x .head .number) (opens-ended i rk label iv text (s .label-fits) tag fits n)
           ∙ sym single,
     )
 
 -- The same of the exported calls, with mode 2 and with mode 4.
-pub exported-ctr-in-pieces : (dir : Direction) (key : List ℕ) → CtrInPieces Ctr (hostCtrStart key) ctrPiece ctrEnd (hostModeCall dir 2 key)
-unfolding hostCtrStart hostModeCall modeOf newCipherMode
-exported-ctr-in-pieces dir key = ctr-in-pieces dir (newCipher key)
+pub exported-ctr-in-pieces : (decrypt : Bool) (k : LuossavinKey)
+    → CtrInPieces Ctr (hostCtrStart k decrypt) ctrPiece ctrEnd (hostModeCall (directionOf decrypt) 2 k)
+unfolding hostCtrStart hostModeCall modeOf
+exported-ctr-in-pieces decrypt k = ctr-in-pieces (directionOf decrypt) (cipherIn k)
 
-pub exported-seal-in-pieces : (key : List ℕ) → SealInPieces Seal (hostSealStart key) sealPiece sealEnd (hostModeCall Encrypt 4 key)
-unfolding hostSealStart hostModeCall modeOf newCipherMode
-exported-seal-in-pieces key = seal-in-pieces (newCipher key)
+pub exported-seal-in-pieces : (k : LuossavinKey) → SealInPieces Seal (hostSealStart k) sealPiece sealEnd (hostModeCall Encrypt 4 k)
+unfolding hostSealStart hostModeCall modeOf
+exported-seal-in-pieces k = seal-in-pieces (cipherIn k)
 
-pub exported-opens-in-pieces : (key : List ℕ) → OpensInPieces Opens (hostOpensStart key) opensPiece opensEnd (hostModeCall Decrypt 4 key)
-unfolding hostOpensStart hostModeCall modeOf newCipherMode
-exported-opens-in-pieces key = opens-in-pieces (newCipher key)
+pub exported-opens-in-pieces : (k : LuossavinKey) → OpensInPieces Opens (hostOpensStart k) opensPiece opensEnd (hostModeCall Decrypt 4 k)
+unfolding hostOpensStart hostModeCall modeOf
+exported-opens-in-pieces k = opens-in-pieces (cipherIn k)

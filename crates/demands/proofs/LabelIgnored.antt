@@ -13,10 +13,10 @@ use Rattle.cipher_mode.specs.declared.CipherMode.{CipherMode}
 use Rattle.cipher_mode.specs.declared.CipherMode.the-variants.{Cfb, Ofb, Ctr, Cbc, Gcm}
 use Rattle.cipher_mode.specs.declared.Direction.{Direction}
 use Rattle.cipher_mode.specs.declared.Sm4CipherMode.{Sm4CipherMode}
-use Rattle.cipher_mode.specs.Key.{newCipherMode}
 use Rattle.cipher_mode.specs.Checks.{labelCheck, messageCheck}
 use Rattle.cipher_mode.specs.Calls.{modeResult, modeCall}
-use Rattle.luossavin.specs.Host.{modeOf, hostModeCall}
+use Rattle.luossavin.specs.declared.key.LuossavinKey.{LuossavinKey}
+use Rattle.luossavin.specs.Host.{modeIn, hostModeCall}
 use Rattle.demands.proofs.Exported.{other-mode}
 
 -- the two places where a call looks at the label
@@ -45,9 +45,9 @@ gated true o x y e = refl
 gated false o x y e = e refl
 
 -- The exported call of every mode number but 4 has the same outcome under any two labels.
-pub exported-label-ignored : (dir : Direction) (mode : ℕ) → mode ≢ 4 → (key a₁ a₂ d iv o : List ℕ)
-    → hostModeCall dir mode key a₁ d iv o ≡ hostModeCall dir mode key a₂ d iv o
-unfolding hostModeCall newCipherMode
-exported-label-ignored dir mode n key a₁ a₂ d iv o =
+pub exported-label-ignored : (dir : Direction) (mode : ℕ) → mode ≢ 4 → (k : LuossavinKey) (a₁ a₂ d iv o : List ℕ)
+    → hostModeCall dir mode k a₁ d iv o ≡ hostModeCall dir mode k a₂ d iv o
+unfolding hostModeCall
+exported-label-ignored dir mode n k a₁ a₂ d iv o =
     gated (ltb 4 mode) o _ _ (λ b.
-    label-ignored dir (newCipherMode key (modeOf mode)) (other-mode mode Gcm (ltb-false 4 mode b) n) a₁ a₂ d iv o)
+    label-ignored dir (modeIn k mode) (other-mode mode Gcm (ltb-false 4 mode b) n) a₁ a₂ d iv o)

@@ -15,10 +15,9 @@ use Rattle.cipher_mode.specs.Calls.{modeCall}
 use Rattle.demands.specs.Call.{inGcm, RefusedAs}
 use Rattle.demands.specs.OneBlockRefused.{MovesZero, OneBlockRefused}
 use Rattle.demands.proofs.OtherHash.{hash-key-nonzero, Fits, gcm-fits, other-hash-refused}
-use Rattle.cipher.specs.Sm4.{roundKeys}
-use Rattle.cipher_mode.specs.Key.{newCipher, newCipherMode}
+use Rattle.luossavin.specs.declared.key.LuossavinKey.{LuossavinKey}
+use Rattle.luossavin.specs.Key.{cipherIn}
 use Rattle.luossavin.specs.Host.{modeOf, hostModeCall}
-use Rattle.demands.proofs.Exported.{moves-new}
 
 -- a list of another label and ciphertext of the same lengths passes where the first does
 same-lengths : (a₁ a₂ c₁ c₂ t o₁ o₂ : List ℕ) → length a₁ ≡ length a₂ → length c₁ ≡ length c₂ → length o₁ ≡ length o₂
@@ -56,8 +55,6 @@ one-block-refused c moves a₁ a₂ c₁ c₂ t iv o₁ o₂ ba₁ ba₂ bc₁ b
         opens
 
 -- The same of the exported call with mode 4.
-pub exported-one-block-refused : (key : List ℕ) → MovesZero (roundKeys key) → OneBlockRefused (hostModeCall Decrypt 4 key)
-unfolding hostModeCall modeOf newCipherMode
-exported-one-block-refused key moves a₁ a₂ c₁ c₂ t iv o₁ o₂ ba₁ ba₂ bc₁ bc₂ n eo change opens =
-    let moved = moves-new key a₁ (c₁ ++ t) iv o₁ opens moves in
-    one-block-refused (newCipher key) moved a₁ a₂ c₁ c₂ t iv o₁ o₂ ba₁ ba₂ bc₁ bc₂ n eo change opens
+pub exported-one-block-refused : (k : LuossavinKey) → MovesZero (k .«round_keys») → OneBlockRefused (hostModeCall Decrypt 4 k)
+unfolding hostModeCall modeOf cipherIn
+exported-one-block-refused k moves = one-block-refused (cipherIn k) moves

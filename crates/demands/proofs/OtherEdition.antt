@@ -20,10 +20,9 @@ use Rattle.demands.specs.Call.{inGcm, RefusedAs}
 use Rattle.demands.specs.OneBlockRefused.{MovesZero}
 use Rattle.demands.specs.OtherEdition.{OtherEditionRefused}
 use Rattle.demands.proofs.OtherHash.{hash-key-nonzero, other-label-refused}
-use Rattle.cipher.specs.Sm4.{roundKeys}
-use Rattle.cipher_mode.specs.Key.{newCipher, newCipherMode}
+use Rattle.luossavin.specs.declared.key.LuossavinKey.{LuossavinKey}
+use Rattle.luossavin.specs.Key.{cipherIn}
 use Rattle.luossavin.specs.Host.{modeOf, hostModeCall}
-use Rattle.demands.proofs.Exported.{moves-new}
 
 -- two lists of a block or less that differ do so inside one block
 one-block : (a b : List ℕ) → a ≢ b → length a ≡ length b → length a ≤ 16 → OneBlock a b
@@ -57,8 +56,6 @@ other-edition-refused c moves j₁ j₂ e₁ e₂ file iv o₁ o₂ hj₁ hj₂ 
     (n ∙ sym (length-label j₂ e₂)) (omega arith) eo opens
 
 -- The same of the exported call with mode 4.
-pub exported-other-edition-refused : (key : List ℕ) → MovesZero (roundKeys key) → OtherEditionRefused (hostModeCall Decrypt 4 key)
-unfolding hostModeCall modeOf newCipherMode
-exported-other-edition-refused key moves j₁ j₂ e₁ e₂ file iv o₁ o₂ hj₁ hj₂ he₁ he₂ other eo opens =
-    let moved = moves-new key (labelOf j₁ e₁) file iv o₁ opens moves in
-    other-edition-refused (newCipher key) moved j₁ j₂ e₁ e₂ file iv o₁ o₂ hj₁ hj₂ he₁ he₂ other eo opens
+pub exported-other-edition-refused : (k : LuossavinKey) → MovesZero (k .«round_keys») → OtherEditionRefused (hostModeCall Decrypt 4 k)
+unfolding hostModeCall modeOf cipherIn
+exported-other-edition-refused k moves = other-edition-refused (cipherIn k) moves

@@ -1,6 +1,6 @@
 -- In Gcm, where a message opens, the same tag is refused as 4 for a label and a ciphertext with another hash. J0 stays shut.
 -- Assumes nothing.
-use mathlib.Core.Path.{_≡_, sym, ap, _∙_}
+use mathlib.Core.Path.{_≡_, refl, sym, ap, _∙_}
 use mathlib.Core.Logic.{_≢_}
 use mathlib.Core.Bool.{true, false}
 use mathlib.Core.List.{List, _++_}
@@ -9,6 +9,7 @@ use native.Mathlib.Omega.{arith}
 use lib.ListN.{length, length-drop, take-append-drop}
 use borrow.Author.Tests.{le-ltb}
 use Rattle.ghash.specs.Ghash.{ghash, authBlocks}
+use Rattle.walk.specs.Outcome.{Outcome, keyed}
 use Rattle.gcm.specs.Gcm.{hashKey, J0, textPart, tagPart, opensUnder}
 use Rattle.gcm.proofs.TagTells.{opens-not}
 use Rattle.gcm.proofs.HashKey.{hashKey-lt, hashKey-tells}
@@ -17,6 +18,7 @@ use Rattle.cipher_mode.specs.declared.CipherMode.the-variants.{Gcm}
 use Rattle.cipher_mode.specs.declared.Direction.the-variants.{Decrypt}
 use Rattle.cipher_mode.specs.declared.KeyAnswer.the-variants.{Key}
 use Rattle.cipher_mode.specs.declared.Sm4Cipher.{Sm4Cipher}
+use Rattle.cipher_mode.specs.Key.{keyNumber}
 use Rattle.cipher_mode.specs.Tables.{limit, sealedLimit}
 use Rattle.cipher_mode.specs.Checks.{wrongIv}
 use Rattle.cipher_mode.specs.Calls.{lengthsOf, modeCall}
@@ -55,11 +57,12 @@ module _ (c : Sm4Cipher) where
       opened-opens (c .rk) (hashKey (c .rk)) (J0 (c .rk) iv) aad d o (rw x at e)
 
   pub gcm-in-order : (aad d iv o : List ℕ) → c .answer ≡ Key → wrongIv Gcm (length iv) ≡ false → Fits aad d o
-      → InOrder (c .answer) Decrypt Gcm (lengthsOf aad d iv o)
+      → InOrder (c .answer) (c .retired) Decrypt Gcm (lengthsOf aad d iv o)
   gcm-in-order aad d iv o k n l =
       record {
         key = k;
         iv-size = n;
+        may = refl;
         label = rw (le-ltb limit (length aad) (l .label));
         content = tagged-passes (length d) (l .longest) (l .shortest);
         room = l .room;
@@ -75,9 +78,9 @@ module _ (c : Sm4Cipher) where
       let j = J0 rk iv in
       let p = through Decrypt (inGcm c) a₁ (c₁ ++ t) iv o₁ e in
       let closed = opens-not rk h (hashKey-lt rk) j a₁ c₁ a₂ c₂ t n ne (gcm-opens a₁ (c₁ ++ t) iv o₁ e) in
-      refused-as 4 o₂ _
+      refused-as (keyNumber c) 4 o₂ _
       (leaves Decrypt (inGcm c) a₂ (c₂ ++ t) iv o₂ (gcm-in-order a₂ (c₂ ++ t) iv o₂ (p .key) (p .iv-size) l)
-      ∙ sym (open-refused rk h j a₂ (c₂ ++ t) o₂ closed))
+      ∙ ap {B = Outcome} (keyed (keyNumber c)) (sym (open-refused rk h j a₂ (c₂ ++ t) o₂ closed)))
 
   -- the same of a whole message, where only the label is another
   pub other-label-refused : (a₁ a₂ s iv o₁ o₂ : List ℕ) → length a₂ ≤ limit → length o₁ ≡ length o₂

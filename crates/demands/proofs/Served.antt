@@ -8,8 +8,8 @@ use Prim.Native.Nat.{ℕ, _≤_}
 use native.Mathlib.Omega.{arith}
 use lib.Dec.{ltb}
 use lib.ListN.{length}
-use borrow.Author.Tests.{eq-eqb, le-ltb}
-use Rattle.walk.specs.Outcome.{Outcome, refuse, done}
+use borrow.Author.Tests.{le-ltb}
+use Rattle.walk.specs.Outcome.{Outcome, keyed, refuse, done}
 use Rattle.cipher_mode.specs.declared.CipherMode.{CipherMode}
 use Rattle.cipher_mode.specs.declared.CipherMode.the-variants.{Cfb, Ofb, Ctr, Cbc, Gcm}
 use Rattle.cipher_mode.specs.declared.Direction.{Direction}
@@ -18,22 +18,25 @@ use Rattle.cipher_mode.specs.declared.KeyAnswer.the-variants.{Key}
 use Rattle.cipher_mode.specs.declared.checks.Checked.the-variants.{Passed}
 use Rattle.cipher_mode.specs.declared.Sm4Cipher.{Sm4Cipher}
 use Rattle.cipher_mode.specs.declared.Sm4CipherMode.{Sm4CipherMode}
-use Rattle.cipher_mode.specs.Key.{newCipher, newCipherMode}
+use Rattle.cipher_mode.specs.Key.{keyNumber}
 use Rattle.cipher_mode.specs.Tables.{limit, roomOf}
-use Rattle.cipher_mode.specs.Checks.{wrongIv, labelCheck, dataCheck}
+use Rattle.cipher_mode.specs.Checks.{wrongIv, retiredCheck, labelCheck, dataCheck}
 use Rattle.cipher_mode.specs.Calls.{blockOf, blockCall, lengthsOf, modeCall}
 use Rattle.cipher_mode.proofs.Passed.{InOrder}
 use Rattle.cipher_mode.proofs.Ends.{length-block}
-use Rattle.luossavin.specs.Host.{modeOf, hostBlockCall, hostModeCall}
+use Rattle.luossavin.specs.declared.key.LuossavinKey.{LuossavinKey}
+use Rattle.luossavin.specs.Key.{keyAnswerOf, cipherIn}
+use Rattle.luossavin.specs.Host.{modeOf, modeIn, hostBlockCall, hostModeCall}
 use Rattle.demands.specs.Call.{Call, single}
+use Rattle.demands.specs.ThereAndBack.{AtAnyTime, HostAtAnyTime}
 use Rattle.demands.specs.Served.{Serves, Asks, Served, BlockServed}
 use Rattle.demands.proofs.Through.{block-leaves, leaves}
 use Rattle.demands.proofs.ModesBack.{encrypted, encrypts, length-encrypted}
-use Rattle.demands.proofs.ThereAndBack.{decryption-takes-back}
+use Rattle.demands.proofs.ThereAndBack.{decryption-takes-back, host-at-any-time}
 
--- done with p
-serves : (p o : List ℕ) (n : ℕ) (x : Outcome) → x ≡ done p o → length p ≡ n → Serves n x
-serves p o n x e l = record { number = ap (λ (y : Outcome). y .head .number) e; size = ap (λ (y : Outcome). y .head .size) e ∙ l }
+-- done with p, on whichever key
+serves : (p o : List ℕ) (n i : ℕ) (x : Outcome) → x ≡ keyed i (done p o) → length p ≡ n → Serves n x
+serves p o n i x e l = record { number = ap (λ (y : Outcome). y .head .number) e; size = ap (λ (y : Outcome). y .head .size) e ∙ l }
 
 label-in-order : (m : CipherMode) (n : ℕ) → (m ≡ Gcm → n ≤ limit) → labelCheck m n ≡ Passed
 label-in-order Cfb n h = refl
@@ -56,46 +59,52 @@ data-in-order : (m : CipherMode) (n : ℕ) → n ≤ limit → dataCheck Encrypt
 unfolding dataCheck
 data-in-order m n h = rw (le-ltb limit n h)
 
-asks-in-order : (m : Sm4CipherMode) → m .cipher .answer ≡ Key → (label d iv o : List ℕ) → Asks (m .mode) label d iv o
-    → InOrder (m .cipher .answer) Encrypt (m .mode) (lengthsOf label d iv o)
-asks-in-order m k label d iv o a =
+asks-in-order : (m : Sm4CipherMode) → m .cipher .answer ≡ Key → m .cipher .retired ≡ false → (label d iv o : List ℕ)
+    → Asks (m .mode) label d iv o → InOrder (m .cipher .answer) (m .cipher .retired) Encrypt (m .mode) (lengthsOf label d iv o)
+asks-in-order m k u label d iv o a =
     record {
       key = k;
       iv-size = iv-in-order (m .mode) (length iv) (a .iv-size);
+      may = rw u;
       label = label-in-order (m .mode) (length label) (a .label-fits);
       content = data-in-order (m .mode) (length d) (a .data-fits);
       room = a .room;
     }
 
-module _ (m : Sm4CipherMode) (k : m .cipher .answer ≡ Key) where
-  seals : (label d iv o : List ℕ) → Asks (m .mode) label d iv o
-      → Serves (roomOf (m .mode) Encrypt (length d)) (modeCall Encrypt m label d iv o)
-  seals label d iv o a =
-      serves (encrypted (m .mode) (m .cipher .rk) label d iv) o _ _
-      (leaves Encrypt m label d iv o (asks-in-order m k label d iv o a) ∙ encrypts (m .mode) (m .cipher .rk) label d iv o)
-      (length-encrypted (m .mode) (m .cipher .rk) label d iv)
+module _ (mode : CipherMode) (c : Sm4Cipher) (k : c .answer ≡ Key) (u : c .retired ≡ false) where
+  abbrev m : Sm4CipherMode
+  m = record { cipher = c; mode = mode }
 
-  -- With a usable key, in every mode: encryption that is asked for in order is done with the table's length, and so is decryption
-  -- of what it gave, with the message's.
-  pub served : Served (m .mode) (modeCall Encrypt m) (modeCall Decrypt m)
-  served =
+  seals : (label d iv o : List ℕ) → Asks mode label d iv o → Serves (roomOf mode Encrypt (length d)) (modeCall Encrypt m label d iv o)
+  seals label d iv o a =
+      serves (encrypted mode (c .rk) label d iv) o _ (keyNumber c) _
+      (leaves Encrypt m label d iv o (asks-in-order m k u label d iv o a)
+      ∙ ap {B = Outcome} (keyed (keyNumber c)) (encrypts mode (c .rk) label d iv o))
+      (length-encrypted mode (c .rk) label d iv)
+
+  -- With a usable and unretired key, in every mode: encryption that is asked for in order is done with the table's length, and so is
+  -- decryption of what it gave, now or when the key is retired, with the message's.
+  pub served : (later : Sm4Cipher) → AtAnyTime c later
+      → Served mode (modeCall Encrypt m) (modeCall Decrypt (record { cipher = later; mode = mode }))
+  served later t =
       record {
         sealing = seals;
         opening = λ label d iv o o′ a db ib r.
             let s = seals label d iv o a in
-            let back = decryption-takes-back m label d iv o o′ db ib (s .number) (rw (s .size) r) in
+            let back = decryption-takes-back mode c later t label d iv o o′ db ib (s .number) (rw (s .size) r) in
             record { number = back .number; size = back .size };
       }
 
--- With a usable key, either way: a call on sixteen bytes with room for them is done with sixteen.
-pub block-served : (dir : Direction) (c : Sm4Cipher) → c .answer ≡ Key → BlockServed (single (blockCall dir c))
-block-served dir c k label b iv o n r =
-    serves (blockOf dir (c .rk) b) o 16 _ (block-leaves dir c b o (record { key = k; size = n; enough = r })) (length-block dir (c .rk) b)
-
--- a key of sixteen bytes is usable
-usable : (key : List ℕ) → length key ≡ 16 → newCipher key .answer ≡ Key
-unfolding newCipher
-usable key n = rw (eq-eqb (length key) 16 n)
+-- With a usable key: a call on sixteen bytes with room for them is done with sixteen, encryption where the key is not retired.
+pub block-served : (dir : Direction) (c : Sm4Cipher) → c .answer ≡ Key → (dir ≡ Encrypt → c .retired ≡ false)
+    → BlockServed (single (blockCall dir c))
+block-served dir c k u label b iv o n r =
+    serves (blockOf dir (c .rk) b) o 16 (keyNumber c) _
+    (block-leaves dir c b o (record { key = k; size = n; may = allowed dir (c .retired) u; enough = r })) (length-block dir (c .rk) b)
+  where
+    allowed : (dir : Direction) (retired : Bool) → (dir ≡ Encrypt → retired ≡ false) → retiredCheck dir retired ≡ Passed
+    allowed Encrypt retired u = rw (u refl)
+    allowed Decrypt retired u = refl
 
 -- behind a refusal by number 7 that is not given
 ungated : (b : Bool) (mode : CipherMode) (f g : Call) → b ≡ false → Served mode f g
@@ -103,15 +112,16 @@ ungated : (b : Bool) (mode : CipherMode) (f g : Call) → b ≡ false → Served
 ungated true mode f g e s = let z : _≡_ {A = ℕ} 0 1 = cc in absurd (omega arith)
 ungated false mode f g e s = s
 
--- The exported calls serve every key of sixteen bytes, in every mode.
-pub exported-served : (mode : ℕ) (key : List ℕ) → mode ≤ 4 → length key ≡ 16
-    → Served (modeOf mode) (hostModeCall Encrypt mode key) (hostModeCall Decrypt mode key)
-unfolding hostModeCall newCipherMode
-exported-served mode key h n =
-    let m = newCipherMode key (modeOf mode) in
-    ungated (ltb 4 mode) (modeOf mode) (modeCall Encrypt m) (modeCall Decrypt m) (le-ltb 4 mode h) (served m (usable key n))
+-- The exported calls serve every record of a key that is not retired, in every mode, and open for it when it is.
+pub exported-served : (mode : ℕ) (k later : LuossavinKey) → mode ≤ 4 → k .answer ≡ 0 → k .retired ≡ 0 → HostAtAnyTime k later
+    → Served (modeOf mode) (hostModeCall Encrypt mode k) (hostModeCall Decrypt mode later)
+unfolding hostModeCall cipherIn keyAnswerOf
+exported-served mode k later h a u t =
+    ungated (ltb 4 mode) (modeOf mode) (modeCall Encrypt (modeIn k mode)) (modeCall Decrypt (modeIn later mode)) (le-ltb 4 mode h)
+    (served (modeOf mode) (cipherIn k) (rw a) (rw u) (cipherIn later) (host-at-any-time k later t))
 
--- The exported calls on one block serve every key of sixteen bytes.
-pub exported-block-served : (dir : Direction) (key : List ℕ) → length key ≡ 16 → BlockServed (single (hostBlockCall dir key))
-unfolding hostBlockCall
-exported-block-served dir key n = block-served dir (newCipher key) (usable key n)
+-- The exported calls on one block serve every record of a key, encryption where it is not retired.
+pub exported-block-served : (dir : Direction) (k : LuossavinKey) → k .answer ≡ 0 → (dir ≡ Encrypt → k .retired ≡ 0)
+    → BlockServed (single (hostBlockCall dir k))
+unfolding hostBlockCall cipherIn keyAnswerOf
+exported-block-served dir k a u = block-served dir (cipherIn k) (rw a) (λ e. rw (u e))

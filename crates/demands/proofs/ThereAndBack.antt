@@ -1,39 +1,41 @@
 -- Demand 2, there and back: what a call did, its counterpart takes back.
 -- Assumes nothing.
-use mathlib.Core.Path.{_≡_, refl, ap, _∙_}
-use mathlib.Core.Logic.{_≢_}
+use mathlib.Core.Path.{_≡_, refl, sym, ap, subst, _∙_}
+use mathlib.Core.Logic.{_≢_, inl, inr, ⊎-elim}
 use mathlib.Core.Bool.{Bool, true, false}
 use mathlib.Core.List.{List}
 use Prim.Native.Nat.{ℕ}
 use native.Mathlib.Omega.{arith}
 use lib.Dec.{ltb}
-use lib.ListN.{length}
 use borrow.Author.Tests.{ltb-false}
-use Rattle.block.specs.Below.{AreBytes}
 use Rattle.cipher.proofs.Blocks.{block-decrypt-encrypt, block-encrypt-decrypt}
-use Rattle.walk.specs.Outcome.{Outcome, done, refuse}
+use Rattle.walk.specs.Outcome.{Outcome, keyed, done, refuse}
+use Rattle.cipher_mode.specs.declared.KeyAnswer.{KeyAnswer}
+use Rattle.cipher_mode.specs.declared.KeyAnswer.the-variants.{Key, ErrorBlockSize as NoKey, WrongNumber as NoNumber}
+use Rattle.cipher_mode.specs.declared.CipherMode.{CipherMode}
 use Rattle.cipher_mode.specs.declared.CipherMode.the-variants.{Cbc}
-use Rattle.cipher_mode.specs.declared.Direction.{Direction}
 use Rattle.cipher_mode.specs.declared.Direction.the-variants.{Encrypt, Decrypt}
 use Rattle.cipher_mode.specs.declared.Sm4Cipher.{Sm4Cipher}
 use Rattle.cipher_mode.specs.declared.Sm4CipherMode.{Sm4CipherMode}
-use Rattle.cipher_mode.specs.Key.{newCipher, newCipherMode}
+use Rattle.cipher_mode.specs.Key.{retiredIf, retire, keyNumber}
 use Rattle.cipher_mode.specs.Tables.{roomOf}
-use Rattle.cipher_mode.specs.Calls.{blockOf, blockCall, lengthsOf, modeCall}
+use Rattle.cipher_mode.specs.Calls.{blockOf, blockCall, modeResult, lengthsOf, modeCall}
 use Rattle.cipher_mode.proofs.Passed.{InOrder}
 use Rattle.cipher_mode.proofs.Ends.{length-block}
-use Rattle.luossavin.specs.Host.{modeOf, hostBlockCall, hostModeCall}
+use Rattle.luossavin.specs.declared.key.LuossavinKey.{LuossavinKey}
+use Rattle.luossavin.specs.Key.{cipherIn}
+use Rattle.luossavin.specs.Host.{modeOf, modeIn, hostBlockCall, hostModeCall}
 use Rattle.demands.specs.Call.{single, result, Call}
-use Rattle.demands.specs.ThereAndBack.{opposite, Returns, ThereAndBack}
+use Rattle.demands.specs.ThereAndBack.{AtAnyTime, HostAtAnyTime, Returns, ThereAndBack}
 use Rattle.demands.proofs.Through.{result-of-done, block-through, block-leaves, through, leaves}
-use Rattle.demands.proofs.Exported.{other-mode}
+use Rattle.demands.proofs.Exported.{retired-is-retired, other-mode}
 use Rattle.demands.proofs.ModesBack.{encrypted, encrypts, back, forth}
 
 -- the second call answered 0 with d; it was given the result c of the first
-returns : (back : Call) (label c d iv o o′ : List ℕ) (x : Outcome) → x ≡ done c o → back label c iv o′ ≡ done d o′
-    → Returns d (back label (result x) iv o′)
-returns back label c d iv o o′ x e f =
-    let y : back label (result x) iv o′ ≡ done d o′ =
+returns : (back : Call) (label c d iv o o′ : List ℕ) (i j : ℕ) (x : Outcome) → x ≡ keyed i (done c o)
+    → back label c iv o′ ≡ keyed j (done d o′) → Returns d (back label (result x) iv o′)
+returns back label c d iv o o′ i j x e f =
+    let y : back label (result x) iv o′ ≡ keyed j (done d o′) =
     ap {B = Outcome} (λ (s : List ℕ). back label s iv o′) (ap result e ∙ result-of-done c o) ∙ f in
     record {
       number = ap (λ (y : Outcome). y .head .number) y;
@@ -41,49 +43,110 @@ returns back label c d iv o o′ x e f =
       message = ap result y ∙ result-of-done d o′;
     }
 
--- If encryption answers 0, decryption of its result under the same key, IV and label, given room, answers 0 with the
--- message and its length: in all five modes.
-pub decryption-takes-back : (m : Sm4CipherMode) → ThereAndBack (roomOf (m .mode) Decrypt) (modeCall Encrypt m) (modeCall Decrypt m)
-decryption-takes-back m label d iv o o′ db ib e r =
-    let rk = m .cipher .rk in
+-- a retired record is a key where the record is, with its round keys
+pub record SameKey (c d : Sm4Cipher) : Type 0 where
+  pub keys : d .rk ≡ c .rk
+  pub answer : d .answer ≡ c .answer
+
+retired-same : (c : Sm4Cipher) (a : KeyAnswer) → c .answer ≡ a → SameKey c (retiredIf a c)
+retired-same c Key e = record { keys = refl; answer = sym e }
+retired-same c NoKey e = record { keys = refl; answer = refl }
+retired-same c NoNumber e = record { keys = refl; answer = refl }
+
+pub at-any-time : (c d : Sm4Cipher) → AtAnyTime c d → SameKey c d
+unfolding retire
+at-any-time c d t =
+    ⊎-elim (λ e. subst (SameKey c) (sym e) (record { keys = refl; answer = refl }))
+    (λ e. subst (SameKey c) (sym e) (retired-same c (c .answer) refl)) t
+
+-- If encryption answers 0, decryption of its result under the same key, now or when it is retired, with the same IV and label, given
+-- room, answers 0 with the message and its length: in all five modes.
+pub decryption-takes-back : (mode : CipherMode) (c later : Sm4Cipher) → AtAnyTime c later
+    → ThereAndBack (roomOf mode Decrypt) (modeCall Encrypt (record { cipher = c; mode = mode }))
+    (modeCall Decrypt (record { cipher = later; mode = mode }))
+decryption-takes-back mode c later t label d iv o o′ db ib e r =
+    let rk = c .rk in
+    let m : Sm4CipherMode = record { cipher = c; mode = mode } in
+    let n : Sm4CipherMode = record { cipher = later; mode = mode } in
+    let s = at-any-time c later t in
     let p = through Encrypt m label d iv o e in
-    let c = encrypted (m .mode) rk label d iv in
-    let x : modeCall Encrypt m label d iv o ≡ done c o = leaves Encrypt m label d iv o p ∙ encrypts (m .mode) rk label d iv o in
-    let k = back rk label d iv ib db (m .mode) (p .iv-size) (p .content) in
-    let q : InOrder (m .cipher .answer) Decrypt (m .mode) (lengthsOf label c iv o′) =
-    record { key = p .key; iv-size = p .iv-size; label = p .label; content = k .content; room = rw x at r } in
-    returns (modeCall Decrypt m) label c d iv o o′ _ x (leaves Decrypt m label c iv o′ q ∙ k .opened o′)
+    let text = encrypted mode rk label d iv in
+    let x : modeCall Encrypt m label d iv o ≡ keyed (keyNumber c) (done text o) =
+    leaves Encrypt m label d iv o p ∙ ap {B = Outcome} (keyed (keyNumber c)) (encrypts mode rk label d iv o) in
+    let k = back rk label d iv ib db mode (p .iv-size) (p .content) in
+    let q : InOrder (later .answer) (later .retired) Decrypt mode (lengthsOf label text iv o′) =
+    record {
+      key = s .answer ∙ p .key;
+      iv-size = p .iv-size;
+      may = refl;
+      label = p .label;
+      content = k .content;
+      room = rw x at r;
+    } in
+    returns (modeCall Decrypt n) label text d iv o o′ (keyNumber c) (keyNumber later) _ x
+    (leaves Decrypt n label text iv o′ q
+    ∙ ap {B = Outcome} (λ (rk : List ℕ). keyed (keyNumber later) (modeResult mode Decrypt rk label text iv o′)) (s .keys)
+    ∙ ap {B = Outcome} (keyed (keyNumber later)) (k .opened o′))
 
--- Outside Cbc, if decryption answers 0, encryption of its result under the same key, IV and label, given room, answers 0
--- with the same bytes.
-pub encryption-takes-back : (m : Sm4CipherMode) → m .mode ≢ Cbc
-    → ThereAndBack (roomOf (m .mode) Encrypt) (modeCall Decrypt m) (modeCall Encrypt m)
-encryption-takes-back m n label c iv o o′ cb ib e r =
-    let rk = m .cipher .rk in
-    let p = through Decrypt m label c iv o e in
-    let y = leaves Decrypt m label c iv o p in
-    let k = forth rk label c iv o (m .mode) n (p .content) (rw y at e) in
+-- Outside Cbc, if decryption under a key, now or when it is retired, answers 0, encryption of its result under the key, where that is
+-- not retired, with the same IV and label, given room, answers 0 with the same bytes.
+pub encryption-takes-back : (mode : CipherMode) (c later : Sm4Cipher) → AtAnyTime c later → c .retired ≡ false → mode ≢ Cbc
+    → ThereAndBack (roomOf mode Encrypt) (modeCall Decrypt (record { cipher = later; mode = mode }))
+    (modeCall Encrypt (record { cipher = c; mode = mode }))
+encryption-takes-back mode c later t u n label text iv o o′ cb ib e r =
+    let rk = c .rk in
+    let m : Sm4CipherMode = record { cipher = c; mode = mode } in
+    let l : Sm4CipherMode = record { cipher = later; mode = mode } in
+    let s = at-any-time c later t in
+    let p = through Decrypt l label text iv o e in
+    let y : modeCall Decrypt l label text iv o ≡ keyed (keyNumber later) (modeResult mode Decrypt rk label text iv o) =
+    leaves Decrypt l label text iv o p
+    ∙ ap {B = Outcome} (λ (rk : List ℕ). keyed (keyNumber later) (modeResult mode Decrypt rk label text iv o)) (s .keys) in
+    let k = forth rk label text iv o mode n (p .content) (rw y at e) in
     let d = k .text in
-    let x : modeCall Decrypt m label c iv o ≡ done d o = y ∙ k .opened in
-    let q : InOrder (m .cipher .answer) Encrypt (m .mode) (lengthsOf label d iv o′) =
-    record { key = p .key; iv-size = p .iv-size; label = p .label; content = k .content; room = rw x at r } in
-    returns (modeCall Encrypt m) label d c iv o o′ _ x
-    (leaves Encrypt m label d iv o′ q ∙ encrypts (m .mode) rk label d iv o′ ∙ ap {B = Outcome} (λ (s : List ℕ). done s o′) (k .again))
+    let x : modeCall Decrypt l label text iv o ≡ keyed (keyNumber later) (done d o) =
+    y ∙ ap {B = Outcome} (keyed (keyNumber later)) (k .opened) in
+    let q : InOrder (c .answer) (c .retired) Encrypt mode (lengthsOf label d iv o′) =
+    record {
+      key = sym (s .answer) ∙ p .key;
+      iv-size = p .iv-size;
+      may = rw u;
+      label = p .label;
+      content = k .content;
+      room = rw x at r;
+    } in
+    returns (modeCall Encrypt m) label d text iv o o′ (keyNumber later) (keyNumber c) _ x
+    (leaves Encrypt m label d iv o′ q
+    ∙ ap {B = Outcome} (keyed (keyNumber c)) (encrypts mode rk label d iv o′ ∙ ap {B = Outcome} (λ (s : List ℕ). done s o′) (k .again)))
 
-block-undone : (dir : Direction) (rk b : List ℕ) → length b ≡ 16 → AreBytes b → blockOf (opposite dir) rk (blockOf dir rk b) ≡ b
-block-undone Encrypt rk b n h = block-decrypt-encrypt rk b n h
-block-undone Decrypt rk b n h = block-encrypt-decrypt rk b n h
+-- If encryption of one block answers 0, decryption of the result under the same key, now or when it is retired, given room, answers 0
+-- with the block;
+pub block-decryption-takes-back : (c later : Sm4Cipher) → AtAnyTime c later
+    → ThereAndBack (λ n. 16) (single (blockCall Encrypt c)) (single (blockCall Decrypt later))
+block-decryption-takes-back c later t label b iv o o′ bb ib e r =
+    let s = at-any-time c later t in
+    let p = block-through Encrypt c b o e in
+    let a = blockOf Encrypt (c .rk) b in
+    let n = length-block Encrypt (c .rk) b in
+    let y = block-leaves Decrypt later a o′ (record { key = s .answer ∙ p .key; size = n; may = refl; enough = r }) in
+    returns (single (blockCall Decrypt later)) label a b iv o o′ (keyNumber c) (keyNumber later) _ (block-leaves Encrypt c b o p)
+    (y ∙ ap {B = Outcome} (λ (d : List ℕ). keyed (keyNumber later) (done d o′))
+    (ap (λ (rk : List ℕ). blockOf Decrypt rk a) (s .keys) ∙ block-decrypt-encrypt (c .rk) b (p .size) bb))
 
--- If a call on one block answers 0, the opposite call on the result under the same key, given room, answers 0 with the block.
-pub block-takes-back : (dir : Direction) (c : Sm4Cipher)
-    → ThereAndBack (λ n. 16) (single (blockCall dir c)) (single (blockCall (opposite dir) c))
-block-takes-back dir c label b iv o o′ bb ib e r =
-    let p = block-through dir c b o e in
-    let a = blockOf dir (c .rk) b in
-    let n = length-block dir (c .rk) b in
-    let y = block-leaves (opposite dir) c a o′ (record { key = p .key; size = n; enough = r }) in
-    returns (single (blockCall (opposite dir) c)) label a b iv o o′ _ (block-leaves dir c b o p)
-    (y ∙ ap {B = Outcome} (λ (s : List ℕ). done s o′) (block-undone dir (c .rk) b (p .size) bb))
+-- and the other way about, where the key is not retired.
+pub block-encryption-takes-back : (c later : Sm4Cipher) → AtAnyTime c later → c .retired ≡ false
+    → ThereAndBack (λ n. 16) (single (blockCall Decrypt later)) (single (blockCall Encrypt c))
+block-encryption-takes-back c later t u label b iv o o′ bb ib e r =
+    let s = at-any-time c later t in
+    let p = block-through Decrypt later b o e in
+    let a = blockOf Decrypt (c .rk) b in
+    let n = length-block Decrypt (c .rk) b in
+    let x : blockCall Decrypt later b o ≡ keyed (keyNumber later) (done a o) =
+    block-leaves Decrypt later b o p
+    ∙ ap {B = Outcome} (λ (rk : List ℕ). keyed (keyNumber later) (done (blockOf Decrypt rk b) o)) (s .keys) in
+    let y = block-leaves Encrypt c a o′ (record { key = sym (s .answer) ∙ p .key; size = n; may = rw u; enough = r }) in
+    returns (single (blockCall Encrypt c)) label a b iv o o′ (keyNumber later) (keyNumber c) _ x
+    (y ∙ ap {B = Outcome} (λ (d : List ℕ). keyed (keyNumber c) (done d o′)) (block-encrypt-decrypt (c .rk) b (p .size) bb))
 
 -- behind a refusal by number 7 that both have in front
 gated : (b : Bool) (room : ℕ → ℕ) (f g : Call) → (b ≡ false → ThereAndBack room f g)
@@ -91,25 +154,38 @@ gated : (b : Bool) (room : ℕ → ℕ) (f g : Call) → (b ≡ false → ThereA
 gated true room f g t = λ label d iv o o′ db ib e r. absurd (omega arith)
 gated false room f g t = t refl
 
--- The exported decryption takes back the exported encryption, for every mode number and every key.
-pub exported-decryption-takes-back : (mode : ℕ) (key : List ℕ)
-    → ThereAndBack (roomOf (modeOf mode) Decrypt) (hostModeCall Encrypt mode key) (hostModeCall Decrypt mode key)
-unfolding hostModeCall newCipherMode
-exported-decryption-takes-back mode key =
-    let m = newCipherMode key (modeOf mode) in
-    gated (ltb 4 mode) (roomOf (modeOf mode) Decrypt) (modeCall Encrypt m) (modeCall Decrypt m) (λ _. decryption-takes-back m)
+-- a host's record, now or when it is retired
+pub host-at-any-time : (k later : LuossavinKey) → HostAtAnyTime k later → AtAnyTime (cipherIn k) (cipherIn later)
+host-at-any-time k later t =
+    ⊎-elim (λ e. inl (ap cipherIn e)) (λ e. inr (ap cipherIn e ∙ retired-is-retired k)) t
 
--- The exported encryption takes back the exported decryption, for every key and every mode number but 3, which is Cbc.
-pub exported-encryption-takes-back : (mode : ℕ) (key : List ℕ) → mode ≢ 3
-    → ThereAndBack (roomOf (modeOf mode) Encrypt) (hostModeCall Decrypt mode key) (hostModeCall Encrypt mode key)
-unfolding hostModeCall newCipherMode
-exported-encryption-takes-back mode key n =
-    let m = newCipherMode key (modeOf mode) in
-    gated (ltb 4 mode) (roomOf (modeOf mode) Encrypt) (modeCall Decrypt m) (modeCall Encrypt m)
-    (λ b. encryption-takes-back m (other-mode mode Cbc (ltb-false 4 mode b) n))
+-- The exported decryption takes back the exported encryption, for every mode number and every record, now or when it is retired.
+pub exported-decryption-takes-back : (mode : ℕ) (k later : LuossavinKey) → HostAtAnyTime k later
+    → ThereAndBack (roomOf (modeOf mode) Decrypt) (hostModeCall Encrypt mode k) (hostModeCall Decrypt mode later)
+unfolding hostModeCall
+exported-decryption-takes-back mode k later t =
+    gated (ltb 4 mode) (roomOf (modeOf mode) Decrypt) (modeCall Encrypt (modeIn k mode)) (modeCall Decrypt (modeIn later mode))
+    (λ _. decryption-takes-back (modeOf mode) (cipherIn k) (cipherIn later) (host-at-any-time k later t))
 
--- Each exported call on one block takes back the opposite one.
-pub exported-block-takes-back : (dir : Direction) (key : List ℕ)
-    → ThereAndBack (λ n. 16) (single (hostBlockCall dir key)) (single (hostBlockCall (opposite dir) key))
+-- The exported encryption takes back the exported decryption, for every record that is not retired and every mode number but 3, which
+-- is Cbc.
+pub exported-encryption-takes-back : (mode : ℕ) (k later : LuossavinKey) → HostAtAnyTime k later → k .retired ≡ 0 → mode ≢ 3
+    → ThereAndBack (roomOf (modeOf mode) Encrypt) (hostModeCall Decrypt mode later) (hostModeCall Encrypt mode k)
+unfolding hostModeCall cipherIn
+exported-encryption-takes-back mode k later t u n =
+    gated (ltb 4 mode) (roomOf (modeOf mode) Encrypt) (modeCall Decrypt (modeIn later mode)) (modeCall Encrypt (modeIn k mode))
+    (λ b. encryption-takes-back (modeOf mode) (cipherIn k) (cipherIn later) (host-at-any-time k later t) (rw u)
+    (other-mode mode Cbc (ltb-false 4 mode b) n))
+
+-- The exported calls on one block, likewise.
+pub exported-block-decryption-takes-back : (k later : LuossavinKey) → HostAtAnyTime k later
+    → ThereAndBack (λ n. 16) (single (hostBlockCall Encrypt k)) (single (hostBlockCall Decrypt later))
 unfolding hostBlockCall
-exported-block-takes-back dir key = block-takes-back dir (newCipher key)
+exported-block-decryption-takes-back k later t =
+    block-decryption-takes-back (cipherIn k) (cipherIn later) (host-at-any-time k later t)
+
+pub exported-block-encryption-takes-back : (k later : LuossavinKey) → HostAtAnyTime k later → k .retired ≡ 0
+    → ThereAndBack (λ n. 16) (single (hostBlockCall Decrypt later)) (single (hostBlockCall Encrypt k))
+unfolding hostBlockCall cipherIn
+exported-block-encryption-takes-back k later t u =
+    block-encryption-takes-back (cipherIn k) (cipherIn later) (host-at-any-time k later t) (rw u)

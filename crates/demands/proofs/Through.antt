@@ -1,37 +1,41 @@
 -- What a call that answered 0 had in order, and what a call leaves that has all in order.
 -- Assumes nothing.
 use mathlib.Core.Path.{_≡_, refl, sym, ap}
+use mathlib.Core.Bool.{Bool}
 use mathlib.Core.List.{List}
 use Prim.Native.Nat.{ℕ}
 use native.Mathlib.Omega.{arith}
 use lib.ListN.{length}
 use lib.Seq.{take-append-seam}
 use borrow.Author.Tests.{eq-eqb, le-ltb}
-use Rattle.walk.specs.Outcome.{Outcome, refused, done}
+use Rattle.walk.specs.Outcome.{Outcome, keyed, refused, done}
 use Rattle.cipher_mode.specs.declared.KeyAnswer.{KeyAnswer}
 use Rattle.cipher_mode.specs.declared.CipherMode.{CipherMode}
 use Rattle.cipher_mode.specs.declared.Direction.{Direction}
 use Rattle.cipher_mode.specs.declared.answer.Refusal.{Refusal}
 use Rattle.cipher_mode.specs.declared.answer.Refusal.the-variants.{ErrorBlockSize, ErrorDataLen, InvalidLastU8, InvalidTag, TooLong, NoRoom}
-use Rattle.cipher_mode.specs.declared.answer.Refusal.the-variants.{EmptyCbc, ShortGcm, WrongIv, WrongBlock, Ended}
+use Rattle.cipher_mode.specs.declared.answer.Refusal.the-variants.{EmptyCbc, ShortGcm, WrongIv, WrongBlock, Ended, WrongNumber, Retired}
 use Rattle.cipher_mode.specs.declared.checks.Checked.{Checked}
 use Rattle.cipher_mode.specs.declared.checks.Checked.the-variants.{Passed, Refused}
 use Rattle.cipher_mode.specs.declared.checks.Lengths.{Lengths}
 use Rattle.cipher_mode.specs.declared.Sm4Cipher.{Sm4Cipher}
 use Rattle.cipher_mode.specs.declared.Sm4CipherMode.{Sm4CipherMode}
 use Rattle.cipher_mode.specs.Answer.{refusalHead}
+use Rattle.cipher_mode.specs.Key.{keyNumber}
 use Rattle.cipher_mode.specs.Tables.{roomOf}
 use Rattle.cipher_mode.specs.Checks.{keyAndIv, roomCheck, blockCheck, messageCheck, checked}
 use Rattle.cipher_mode.specs.Calls.{blockOf, blockCall, modeResult, lengthsOf, modeCall}
 use Rattle.cipher_mode.proofs.Passed.{InOrder, BlockInOrder, message-passed, block-passed}
 use Rattle.cipher_mode.proofs.Ends.{went-on}
+use Rattle.pieces.specs.Calls.{begun}
 use Rattle.demands.specs.Call.{result, RefusedAs}
 
 pub result-of-done : (p o : List ℕ) → result (done p o) ≡ p
 result-of-done p o = take-append-seam p _
 
-pub refused-as : (n : ℕ) (o : List ℕ) (x : Outcome) → x ≡ refused n o → RefusedAs n o x
-refused-as n o x e =
+-- on whichever key
+pub refused-as : (k n : ℕ) (o : List ℕ) (x : Outcome) → x ≡ keyed k (refused n o) → RefusedAs n o x
+refused-as k n o x e =
     record {
       number = ap (λ (y : Outcome). y .head .number) e;
       size = ap (λ (y : Outcome). y .head .size) e;
@@ -52,39 +56,51 @@ not-zero (ShortGcm n) e = omega arith
 not-zero WrongIv e = omega arith
 not-zero WrongBlock e = omega arith
 not-zero Ended e = omega arith
+not-zero WrongNumber e = omega arith
+not-zero Retired e = omega arith
 
 zero-passed : (k : Checked) (o : List ℕ) (next : Outcome) → checked k o next .head .number ≡ 0 → k ≡ Passed
 zero-passed Passed o next e = refl
 zero-passed (Refused r) o next e = absurd (not-zero r e)
 
+-- a start that answers 0 has passed
+pub passed-start : (S : Type 0) (k : Checked) (shut : ℕ → S) (s : S) → begun S k shut s .head .number ≡ 0 → k ≡ Passed
+passed-start S Passed shut s e = refl
+passed-start S (Refused r) shut s e = absurd (not-zero r e)
+
 -- a single block
 module _ (dir : Direction) (c : Sm4Cipher) (b o : List ℕ) where
-  pub block-through : blockCall dir c b o .head .number ≡ 0 → BlockInOrder (c .answer) (length b) (length o)
+  pub block-through : blockCall dir c b o .head .number ≡ 0 → BlockInOrder (c .answer) (c .retired) dir (length b) (length o)
   unfolding blockCall
-  block-through e = block-passed _ _ _ (zero-passed (blockCheck (c .answer) (length b) (length o)) o (done (blockOf dir (c .rk) b) o) e)
+  block-through e =
+      block-passed _ _ _ _ _
+      (zero-passed (blockCheck (c .answer) (c .retired) dir (length b) (length o)) o (done (blockOf dir (c .rk) b) o) e)
 
-  pub block-leaves : BlockInOrder (c .answer) (length b) (length o) → blockCall dir c b o ≡ done (blockOf dir (c .rk) b) o
+  pub block-leaves : BlockInOrder (c .answer) (c .retired) dir (length b) (length o)
+      → blockCall dir c b o ≡ keyed (keyNumber c) (done (blockOf dir (c .rk) b) o)
   unfolding blockCall blockCheck
-  block-leaves p = rw (p .key, eq-eqb (length b) 16 (p .size), le-ltb (length o) 16 (p .enough))
+  block-leaves p = rw (p .key, eq-eqb (length b) 16 (p .size), p .may, le-ltb (length o) 16 (p .enough))
 
 -- what is in order passes
-in-order : (a : KeyAnswer) (dir : Direction) (m : CipherMode) (n : Lengths) → InOrder a dir m n → messageCheck a dir m n ≡ Passed
+in-order : (a : KeyAnswer) (retired : Bool) (dir : Direction) (m : CipherMode) (n : Lengths)
+    → InOrder a retired dir m n → messageCheck a retired dir m n ≡ Passed
 unfolding messageCheck keyAndIv roomCheck
-in-order a dir m n p =
-    rw (p .key, p .iv-size, p .label, p .content, le-ltb (n .room) (roomOf m dir (n .«data»)) (p .room))
+in-order a retired dir m n p =
+    rw (p .key, p .iv-size, p .may, p .label, p .content, le-ltb (n .room) (roomOf m dir (n .«data»)) (p .room))
 
 -- a message
 module _ (dir : Direction) (m : Sm4CipherMode) (aad d iv o : List ℕ) where
-  pub through : modeCall dir m aad d iv o .head .number ≡ 0 → InOrder (m .cipher .answer) dir (m .mode) (lengthsOf aad d iv o)
+  pub through : modeCall dir m aad d iv o .head .number ≡ 0 → InOrder (m .cipher .answer) (m .cipher .retired) dir (m .mode) (lengthsOf aad d iv o)
   unfolding modeCall
   through e =
-      message-passed _ _ _ _
-      (zero-passed (messageCheck (m .cipher .answer) dir (m .mode) (lengthsOf aad d iv o)) o
+      message-passed _ _ _ _ _
+      (zero-passed (messageCheck (m .cipher .answer) (m .cipher .retired) dir (m .mode) (lengthsOf aad d iv o)) o
       (modeResult (m .mode) dir (m .cipher .rk) aad d iv o) e)
 
-  pub leaves : InOrder (m .cipher .answer) dir (m .mode) (lengthsOf aad d iv o)
-      → modeCall dir m aad d iv o ≡ modeResult (m .mode) dir (m .cipher .rk) aad d iv o
+  pub leaves : InOrder (m .cipher .answer) (m .cipher .retired) dir (m .mode) (lengthsOf aad d iv o)
+      → modeCall dir m aad d iv o ≡ keyed (keyNumber (m .cipher)) (modeResult (m .mode) dir (m .cipher .rk) aad d iv o)
   unfolding modeCall
   leaves p =
       let next = modeResult (m .mode) dir (m .cipher .rk) aad d iv o in
-      sym (went-on (messageCheck (m .cipher .answer) dir (m .mode) (lengthsOf aad d iv o)) o next next (in-order _ _ _ _ p) refl)
+      let k = messageCheck (m .cipher .answer) (m .cipher .retired) dir (m .mode) (lengthsOf aad d iv o) in
+      ap {B = Outcome} (keyed (keyNumber (m .cipher))) (sym (went-on k o next next (in-order _ _ _ _ _ p) refl))

@@ -1,8 +1,8 @@
 -- A trailing zero cannot be dropped unseen, of the label or of the ciphertext: the length block tells.
 -- Assumes nothing.
 use mathlib.Core.Path.{_≡_}
-use mathlib.Core.List.{List, [], _∷_, _++_}
-use Prim.Native.Nat.{ℕ, _+_, _-_}
+use mathlib.Core.List.{[], _∷_, _++_}
+use Prim.Native.Nat.{_+_, _-_}
 use native.Mathlib.Omega.{arith}
 use lib.ListN.{length, length-append}
 use lib.Seq.{length-take-le}
@@ -16,10 +16,9 @@ use Rattle.demands.specs.Call.{inGcm}
 use Rattle.demands.specs.OneBlockRefused.{MovesZero}
 use Rattle.demands.specs.TrailingZero.{LabelZeroRefused, TextZeroRefused}
 use Rattle.demands.proofs.OtherHash.{hash-key-nonzero, gcm-fits, other-hash-refused, other-label-refused}
-use Rattle.cipher.specs.Sm4.{roundKeys}
-use Rattle.cipher_mode.specs.Key.{newCipher, newCipherMode}
+use Rattle.luossavin.specs.declared.key.LuossavinKey.{LuossavinKey}
+use Rattle.luossavin.specs.Key.{cipherIn}
 use Rattle.luossavin.specs.Host.{modeOf, hostModeCall}
-use Rattle.demands.proofs.Exported.{moves-new}
 
 -- Under a key that does not encrypt the all-zero block to itself: a file that opens in Gcm under a label whose length is not
 -- divisible by 16 is refused as 4 under that label with one zero byte more.
@@ -49,13 +48,11 @@ text-zero-refused k moves a c t iv o₁ o₂ n odd room opens =
     opens
 
 -- The same of the exported call with mode 4 and the label.
-pub exported-label-zero-refused : (key : List ℕ) → MovesZero (roundKeys key) → LabelZeroRefused (hostModeCall Decrypt 4 key)
-unfolding hostModeCall modeOf newCipherMode
-exported-label-zero-refused key moves a file iv o₁ o₂ odd eo opens =
-    label-zero-refused (newCipher key) (moves-new key a file iv o₁ opens moves) a file iv o₁ o₂ odd eo opens
+pub exported-label-zero-refused : (k : LuossavinKey) → MovesZero (k .«round_keys») → LabelZeroRefused (hostModeCall Decrypt 4 k)
+unfolding hostModeCall modeOf cipherIn
+exported-label-zero-refused k moves = label-zero-refused (cipherIn k) moves
 
 -- The same of the exported call with mode 4 and the ciphertext.
-pub exported-text-zero-refused : (key : List ℕ) → MovesZero (roundKeys key) → TextZeroRefused (hostModeCall Decrypt 4 key)
-unfolding hostModeCall modeOf newCipherMode
-exported-text-zero-refused key moves a c t iv o₁ o₂ n odd room opens =
-    text-zero-refused (newCipher key) (moves-new key a (c ++ t) iv o₁ opens moves) a c t iv o₁ o₂ n odd room opens
+pub exported-text-zero-refused : (k : LuossavinKey) → MovesZero (k .«round_keys») → TextZeroRefused (hostModeCall Decrypt 4 k)
+unfolding hostModeCall modeOf cipherIn
+exported-text-zero-refused k moves = text-zero-refused (cipherIn k) moves

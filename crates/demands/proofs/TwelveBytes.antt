@@ -9,16 +9,15 @@ use borrow.Author.Tests.{eq-eqb}
 use Rattle.block.specs.BigEndian.{numberOf, bytesOf}
 use Rattle.counter.specs.Counter.{gcmNext}
 use Rattle.gcm.specs.Gcm.{hashKey, firstCounter, J0, textOf, tagOf, sealed}
-use Rattle.cipher.specs.Sm4.{roundKeys}
 use Rattle.cipher_mode.specs.declared.Direction.the-variants.{Encrypt}
 use Rattle.cipher_mode.specs.declared.Sm4Cipher.{Sm4Cipher}
-use Rattle.cipher_mode.specs.Key.{newCipher, newCipherMode}
 use Rattle.cipher_mode.specs.Calls.{modeCall}
+use Rattle.luossavin.specs.declared.key.LuossavinKey.{LuossavinKey}
+use Rattle.luossavin.specs.Key.{cipherIn}
 use Rattle.luossavin.specs.Host.{modeOf, hostModeCall}
 use Rattle.demands.specs.Call.{inGcm, result}
 use Rattle.demands.specs.TwelveBytes.{followedBy, textFromTwo, CountsFromTwo}
 use Rattle.demands.proofs.Through.{result-of-done, through, leaves}
-use Rattle.demands.proofs.Exported.{new-key}
 
 first-counter : (rk iv : List ℕ) → length iv ≡ 12 → J0 rk iv ≡ followedBy 1 iv
 unfolding firstCounter
@@ -44,8 +43,6 @@ twelve-counts-from-two c label d iv o n e =
     ∙ sealed-from-two (c .rk) label d iv n
 
 -- The same of the exported call with mode 4.
-pub exported-twelve-counts-from-two : (key : List ℕ) → CountsFromTwo (roundKeys key) (hostModeCall Encrypt 4 key)
-unfolding hostModeCall modeOf newCipherMode
-exported-twelve-counts-from-two key label d iv o n e =
-    let c = newCipher key in
-    rw (← new-key key (through Encrypt (inGcm c) label d iv o e .key)) (twelve-counts-from-two c label d iv o n e)
+pub exported-twelve-counts-from-two : (k : LuossavinKey) → CountsFromTwo (k .«round_keys») (hostModeCall Encrypt 4 k)
+unfolding hostModeCall modeOf cipherIn
+exported-twelve-counts-from-two k = twelve-counts-from-two (cipherIn k)

@@ -8,13 +8,13 @@ use Rattle.cipher_mode.specs.declared.answer.Answer.{Answer}
 use Rattle.cipher_mode.specs.declared.answer.Ending.{Ending}
 use Rattle.cipher_mode.specs.declared.answer.Ending.the-variants.{Done, Refused}
 use Rattle.cipher_mode.specs.declared.answer.Refusal.the-variants.{ErrorBlockSize, ErrorDataLen, InvalidLastU8, InvalidTag, TooLong, NoRoom}
-use Rattle.cipher_mode.specs.declared.answer.Refusal.the-variants.{EmptyCbc, ShortGcm, WrongIv, WrongBlock, Ended}
+use Rattle.cipher_mode.specs.declared.answer.Refusal.the-variants.{EmptyCbc, ShortGcm, WrongIv, WrongBlock, Ended, WrongNumber, Retired}
 use Rattle.cipher_mode.specs.declared.CipherMode.{CipherMode}
 use Rattle.cipher_mode.specs.declared.Direction.{Direction}
 use Rattle.cipher_mode.specs.declared.Sm4Cipher.{Sm4Cipher}
 use Rattle.cipher_mode.specs.declared.Sm4CipherMode.{Sm4CipherMode}
 use Rattle.cipher_mode.specs.Answer.{endingHead, headOf, outcome}
-use Rattle.cipher_mode.specs.Key.{newCipher, newCipherMode}
+use Rattle.cipher_mode.specs.Key.{newCipher, retire, newCipherMode}
 use Rattle.cipher_mode.specs.Calls.{blockCall, modeCall}
 use Rattle.pieces.specs.declared.ctr.Ctr.{Ctr}
 use Rattle.pieces.specs.declared.ctr.CtrStep.{CtrStep}
@@ -27,6 +27,8 @@ use Rattle.luossavin.specs.declared.LuossavinAnswer.{LuossavinAnswer}
 use Rattle.luossavin.specs.declared.in_pieces.LuossavinCtrStep.{LuossavinCtrStep}
 use Rattle.luossavin.specs.declared.in_pieces.LuossavinOpensStep.{LuossavinOpensStep}
 use Rattle.luossavin.specs.declared.in_pieces.LuossavinSealStep.{LuossavinSealStep}
+use Rattle.luossavin.specs.declared.key.LuossavinKey.{LuossavinKey}
+use Rattle.luossavin.specs.Key.{hostKeyNew, hostKeyRetire}
 use Rattle.luossavin.specs.Host.{headIn, reported, hostBlockCall, hostModeCall}
 use Rattle.luossavin.specs.InPieces.{ctrReported, sealReported, opensReported}
 use Rattle.demands.specs.OneOutcome.{OneOutcome, OneReport, OneStep}
@@ -45,7 +47,9 @@ endingOf (suc (suc (suc (suc (suc (suc (suc (suc zero)))))))) n k = Refused Empt
 endingOf (suc (suc (suc (suc (suc (suc (suc (suc (suc zero))))))))) n k = Refused (ShortGcm k)
 endingOf (suc (suc (suc (suc (suc (suc (suc (suc (suc (suc zero)))))))))) n k = Refused WrongIv
 endingOf (suc (suc (suc (suc (suc (suc (suc (suc (suc (suc (suc zero))))))))))) n k = Refused WrongBlock
-endingOf (suc (suc (suc (suc (suc (suc (suc (suc (suc (suc (suc (suc m)))))))))))) n k = Refused Ended
+endingOf (suc (suc (suc (suc (suc (suc (suc (suc (suc (suc (suc (suc zero)))))))))))) n k = Refused Ended
+endingOf (suc (suc (suc (suc (suc (suc (suc (suc (suc (suc (suc (suc (suc zero))))))))))))) n k = Refused WrongNumber
+endingOf (suc (suc (suc (suc (suc (suc (suc (suc (suc (suc (suc (suc (suc (suc m)))))))))))))) n k = Refused Retired
 
 -- an ending is told by its head
 told : (e : Ending) → endingOf (endingHead e .number) (endingHead e .size) (endingHead e .missing) ≡ e
@@ -62,16 +66,19 @@ told (Refused (ShortGcm n)) = refl
 told (Refused WrongIv) = refl
 told (Refused WrongBlock) = refl
 told (Refused Ended) = refl
+told (Refused WrongNumber) = refl
+told (Refused Retired) = refl
 
 -- so two answers with one head are the same
 one-answer : (a₁ a₂ : Answer) → headOf a₁ ≡ headOf a₂ → a₁ ≡ a₂
 one-answer a₁ a₂ e =
     let same = ap (λ (h : Head). endingOf (h .number) (h .size) (h .missing)) e in
-    ap {B = Answer} (λ (e : Ending). record { ending = e }) (sym (told (a₁ .ending)) ∙ same ∙ told (a₂ .ending))
+    ap₂ {C = Answer} (λ (e : Ending) (k : ℕ). record { ending = e; key = k }) (sym (told (a₁ .ending)) ∙ same ∙ told (a₂ .ending))
+    (ap (λ (h : Head). h .key) e)
 
 -- and two of a host's are
 one-host-answer : (a₁ a₂ : LuossavinAnswer) → headIn a₁ ≡ headIn a₂ → a₁ ≡ a₂
-one-host-answer a₁ a₂ e = ap (λ (h : Head). record { number = h .number; missing = h .missing; length = h .size }) e
+one-host-answer a₁ a₂ e = ap (λ (h : Head). record { number = h .number; missing = h .missing; key = h .key; length = h .size }) e
 
 one : (x : Outcome) → OneOutcome x
 one x a₁ a₂ o₁ o₂ e₁ e₂ =
@@ -84,13 +91,24 @@ one-report x a₁ a₂ o₁ o₂ e₁ e₂ =
     (one-host-answer a₁ a₂ (ap (λ (y : Outcome). y .head) e), ap (λ (y : Outcome). y .bytes) e)
 
 -- Any two records that setting up a key may give are the same.
-pub unique-new-cipher : (key : List ℕ) (r₁ r₂ : Sm4Cipher) → r₁ ≡ newCipher key → r₂ ≡ newCipher key → r₁ ≡ r₂
-unique-new-cipher key r₁ r₂ e₁ e₂ = e₁ ∙ sym e₂
+pub unique-new-cipher : (key : List ℕ) (n : ℕ) (r₁ r₂ : Sm4Cipher) → r₁ ≡ newCipher key n → r₂ ≡ newCipher key n → r₁ ≡ r₂
+unique-new-cipher key n r₁ r₂ e₁ e₂ = e₁ ∙ sym e₂
 
 -- Any two records that setting up a key with a mode may give are the same.
-pub unique-new-cipher-mode : (key : List ℕ) (mode : CipherMode) (r₁ r₂ : Sm4CipherMode)
-    → r₁ ≡ newCipherMode key mode → r₂ ≡ newCipherMode key mode → r₁ ≡ r₂
-unique-new-cipher-mode key mode r₁ r₂ e₁ e₂ = e₁ ∙ sym e₂
+pub unique-new-cipher-mode : (key : List ℕ) (n : ℕ) (mode : CipherMode) (r₁ r₂ : Sm4CipherMode)
+    → r₁ ≡ newCipherMode key n mode → r₂ ≡ newCipherMode key n mode → r₁ ≡ r₂
+unique-new-cipher-mode key n mode r₁ r₂ e₁ e₂ = e₁ ∙ sym e₂
+
+-- Any two records that retiring one may give are the same.
+pub unique-retired : (c r₁ r₂ : Sm4Cipher) → r₁ ≡ retire c → r₂ ≡ retire c → r₁ ≡ r₂
+unique-retired c r₁ r₂ e₁ e₂ = e₁ ∙ sym e₂
+
+-- The same of a host's records.
+pub unique-exported-new : (key : List ℕ) (n : ℕ) (r₁ r₂ : LuossavinKey) → r₁ ≡ hostKeyNew key n → r₂ ≡ hostKeyNew key n → r₁ ≡ r₂
+unique-exported-new key n r₁ r₂ e₁ e₂ = e₁ ∙ sym e₂
+
+pub unique-exported-retired : (k r₁ r₂ : LuossavinKey) → r₁ ≡ hostKeyRetire k → r₂ ≡ hostKeyRetire k → r₁ ≡ r₂
+unique-exported-retired k r₁ r₂ e₁ e₂ = e₁ ∙ sym e₂
 
 -- A call on one block, either way, has one outcome.
 pub unique-block : (dir : Direction) (c : Sm4Cipher) (b o : List ℕ) → OneOutcome (blockCall dir c b o)
@@ -101,12 +119,13 @@ pub unique-message : (dir : Direction) (m : Sm4CipherMode) (label d iv o : List 
 unique-message dir m label d iv o = one (modeCall dir m label d iv o)
 
 -- The exported call on one block, either way, has one outcome.
-pub unique-exported-block : (dir : Direction) (key b o : List ℕ) → OneReport (hostBlockCall dir key b o)
-unique-exported-block dir key b o = one-report (hostBlockCall dir key b o)
+pub unique-exported-block : (dir : Direction) (k : LuossavinKey) (b o : List ℕ) → OneReport (hostBlockCall dir k b o)
+unique-exported-block dir k b o = one-report (hostBlockCall dir k b o)
 
 -- The exported call on a message, either way, has one outcome.
-pub unique-exported-message : (dir : Direction) (mode : ℕ) (key label d iv o : List ℕ) → OneReport (hostModeCall dir mode key label d iv o)
-unique-exported-message dir mode key label d iv o = one-report (hostModeCall dir mode key label d iv o)
+pub unique-exported-message : (dir : Direction) (mode : ℕ) (k : LuossavinKey) (label d iv o : List ℕ)
+    → OneReport (hostModeCall dir mode k label d iv o)
+unique-exported-message dir mode k label d iv o = one-report (hostModeCall dir mode k label d iv o)
 
 -- A call on a message in pieces, be it a start, a piece or an end, has one answer, one output and one state.
 pub unique-ctr-step : (x : Stepped Ctr) → OneStep Ctr CtrStep ctrStepped x

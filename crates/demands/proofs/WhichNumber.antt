@@ -1,12 +1,13 @@
 -- Which number an exported call answers: that of the first of document 01's conditions that holds, and no other.
 -- Assumes nothing.
-use mathlib.Core.Path.{_≡_, refl, sym, ap, _∙_}
+use mathlib.Core.Path.{_≡_, refl, sym, ap, ap₂, _∙_}
 use mathlib.Core.Logic.{inl, inr, ⊎-elim}
 use mathlib.Core.Bool.{Bool, true, false, not, cond, _&&_}
-use mathlib.Core.List.{List, [], _∷_, map}
+use mathlib.Core.List.{List, [], _∷_, _++_, map}
 use Prim.Native.Nat.{ℕ, _-_, _%_}
 use lib.Dec.{eqb, ltb}
 use lib.ListN.{length}
+use borrow.Author.Tests.{eqb-true}
 use Rattle.cipher.specs.Sm4.{roundKeys}
 use Rattle.walk.specs.Outcome.{Outcome, refuse as refuseAs}
 use Rattle.cbc.specs.Open.{headOf as cbcHead, lastByte, namesPadding, unpadded, cbcText, cbcOpen}
@@ -14,24 +15,47 @@ use Rattle.cbc.specs.declared.Opened.the-variants.{Done as Cbc·Done, InvalidLa
 use Rattle.gcm.specs.Gcm.{hashKey, J0, opensUnder}
 use Rattle.gcm.specs.Open.{headOf as gcmHead, settled, gcmOpen}
 use Rattle.gcm.specs.declared.Opened.the-variants.{Done as Gcm·Done, InvalidTag}
-use Rattle.cipher_mode.specs.declared.KeyAnswer.the-variants.{Key}
+use Rattle.cipher_mode.specs.declared.KeyAnswer.the-variants.{Key, ErrorBlockSize as NoKey, WrongNumber as NoNumber}
 use Rattle.cipher_mode.specs.declared.CipherMode.{CipherMode}
 use Rattle.cipher_mode.specs.declared.CipherMode.the-variants.{Cfb, Ofb, Ctr, Cbc, Gcm}
 use Rattle.cipher_mode.specs.declared.Direction.{Direction}
 use Rattle.cipher_mode.specs.declared.Direction.the-variants.{Encrypt, Decrypt}
 use Rattle.cipher_mode.specs.declared.answer.Refusal.{Refusal}
+use Rattle.cipher_mode.specs.declared.answer.Refusal.the-variants.{NoRoom, WrongIv, WrongBlock}
 use Rattle.cipher_mode.specs.declared.checks.Checked.{Checked}
 use Rattle.cipher_mode.specs.declared.checks.Checked.the-variants.{Passed, Refused}
 use Rattle.cipher_mode.specs.Answer.{refusalHead}
-use Rattle.cipher_mode.specs.Key.{newCipher, newCipherMode}
+use Rattle.cipher_mode.specs.Key.{keyHead, noCipher, wrongNumber, newCipher}
 use Rattle.cipher_mode.specs.Tables.{limit, limitOf, roomOf}
-use Rattle.cipher_mode.specs.Checks.{refuse, andThen, wrongIv, keyAndIv, labelCheck, shapeCheck, dataCheck}
+use Rattle.cipher_mode.specs.Checks.{refuse, andThen, keyCheck, wrongIv, retiredCheck, keyAndIv, labelCheck, shapeCheck, dataCheck}
 use Rattle.cipher_mode.specs.Checks.{roomCheck, messageCheck, blockCheck, checked}
 use Rattle.cipher_mode.specs.Calls.{blockCall, modeResult, lengthsOf, modeCall}
+use Rattle.luossavin.specs.declared.key.LuossavinKey.{LuossavinKey}
+use Rattle.luossavin.specs.Key.{keyAnswerOf, cipherIn, keyOf, hostKeyNew}
 use Rattle.luossavin.specs.Host.{modeOf, hostBlockCall, hostModeCall}
-use Rattle.demands.specs.WhichNumber.{Said, saidIn, only, Row, Among, isCbc, isGcm}
-use Rattle.demands.specs.WhichNumber.{firstOf, numbersOf, blockRows, encryptRows, decryptRows}
+use Rattle.demands.specs.WhichNumber.{Said, saidIn, only, Row, row, Among, isCbc, isGcm, isRetired}
+use Rattle.demands.specs.WhichNumber.{firstOf, numbersOf, newRows, keyRows, retiredRows, blockRows, encryptRows, decryptRows}
 use Rattle.demands.proofs.ModesBack.{encrypts}
+
+-- what the first row says that holds, or else k
+unfoldable pub orElse : List Row → Said → Said
+orElse [] k = k
+orElse (r ∷ rows) k = cond (r .holds) (r .says) (orElse rows k)
+
+pub first-append : (a b : List Row) → orElse a (firstOf b) ≡ firstOf (a ++ b)
+unfolding orElse
+first-append [] b = refl
+first-append (r ∷ a) b = ap {B = Said} (cond (r .holds) (r .says)) (first-append a b)
+
+pub first-of : (a : List Row) → orElse a (only 0) ≡ firstOf a
+unfolding orElse
+first-of [] = refl
+first-of (r ∷ a) = ap {B = Said} (cond (r .holds) (r .says)) (first-of a)
+
+pub or-append : (a b : List Row) (k : Said) → orElse a (orElse b k) ≡ orElse (a ++ b) k
+unfolding orElse
+or-append [] b k = refl
+or-append (r ∷ a) b k = ap {B = Said} (cond (r .holds) (r .says)) (or-append a b k)
 
 -- what is said behind a check, s being what comes next
 unfoldable pub behind : Checked → Said → Said
@@ -124,87 +148,123 @@ iv-test Ctr n = sym (and-true (not (eqb n 16)))
 iv-test Cbc n = sym (and-true (not (eqb n 16)))
 iv-test Gcm n = and-swap (not (eqb n 12)) (not (eqb n 16))
 
--- past the key: the check of a message from the IV on, n being what comes next
-from-iv : (dir : Direction) (m : CipherMode) (iv label d room : ℕ) (n : Said)
-    → behind (messageCheck Key dir m (record { iv = iv; label = label; «data» = d; room = room })) n
-    ≡ cond (not (eqb iv 16) && not (isGcm m && eqb iv 12)) (only 10)
+-- a record's answer that is no key
+pub key-number : (n : ℕ) (k : Said)
+    → behind (keyCheck (keyAnswerOf n)) k ≡ cond (not (eqb n 0) && not (eqb n 13)) (only 1) (cond (eqb n 13) (only 13) k)
+unfolding keyAnswerOf behind
+key-number n k = by-answer (eqb n 0) (eqb n 13) refl refl
+  where
+    by-answer : (zero thirteen : Bool) → eqb n 0 ≡ zero → eqb n 13 ≡ thirteen
+        → behind (keyCheck (keyAnswerOf n)) k ≡ cond (not (eqb n 0) && not (eqb n 13)) (only 1) (cond (eqb n 13) (only 13) k)
+    by-answer true t e f = let z = eqb-true n 0 e in rw z
+    by-answer false true e f = rw (e, f)
+    by-answer false false e f = rw (e, f)
+
+-- and a retired key that is to encrypt
+pub retired-number : (dir : Direction) (k : LuossavinKey) (n : Said)
+    → behind (retiredCheck dir (isRetired k)) n ≡ orElse (retiredRows dir k) n
+unfolding behind orElse
+retired-number Encrypt k n = number-refuse (isRetired k) _ Passed n
+retired-number Decrypt k n = refl
+
+-- the check of a key and of a test behind it, n being what comes next
+pub from-key : (dir : Direction) (k : LuossavinKey) (test : Bool) (r : Refusal) (n : Said)
+    → behind (andThen (keyCheck (cipherIn k .answer)) (refuse test r (retiredCheck dir (cipherIn k .retired)))) n
+    ≡ orElse (keyRows k) (cond test (saidIn (refusalHead r)) (orElse (retiredRows dir k) n))
+unfolding cipherIn orElse
+from-key dir k test r n =
+    number-then (keyCheck (keyAnswerOf (k .answer))) _ n ∙ key-number (k .answer) _
+    ∙ ap {B = Said} (λ (m : Said). orElse (keyRows k) m)
+    (number-refuse test r _ n ∙ ap {B = Said} (cond test (saidIn (refusalHead r))) (retired-number dir k n))
+
+-- the check of a message, n being what comes next
+from-message : (dir : Direction) (k : LuossavinKey) (m : CipherMode) (iv label d room : ℕ) (n : Said)
+    → behind (messageCheck (cipherIn k .answer) (cipherIn k .retired) dir m (record { iv = iv; label = label; «data» = d; room = room })) n
+    ≡ orElse (keyRows k)
+    (cond (not (eqb iv 16) && not (isGcm m && eqb iv 12)) (only 10)
+    (orElse (retiredRows dir k)
     (cond (isGcm m && ltb limit label) (only 5)
     (cond (ltb (limitOf dir m) d) (only 5)
-    (behind (shapeCheck dir m d) (cond (ltb room (roomOf m dir d)) (only 6) n))))
+    (behind (shapeCheck dir m d) (cond (ltb room (roomOf m dir d)) (only 6) n))))))
 unfolding messageCheck keyAndIv dataCheck roomCheck behind
-from-iv dir m iv label d room n =
+from-message dir k m iv label d room n =
     let of-room : behind (roomCheck dir m d room) n ≡ cond (ltb room (roomOf m dir d)) (only 6) n =
     number-refuse (ltb room (roomOf m dir d)) _ Passed n in
     let of-data : (k : Said) → behind (dataCheck dir m d) k ≡ cond (ltb (limitOf dir m) d) (only 5) (behind (shapeCheck dir m d) k) =
     λ k. number-refuse (ltb (limitOf dir m) d) _ (shapeCheck dir m d) k in
-    let test = not (eqb iv 16) && not (isGcm m && eqb iv 12) in
-    let of-iv : (k : Said) → behind (keyAndIv Key m iv) k ≡ cond test (only 10) k =
-    λ k. number-refuse (wrongIv m iv) _ Passed k ∙ ap {B = Said} (λ (t : Bool). cond t (only 10) k) (iv-test m iv) in
-    number-then (keyAndIv Key m iv) _ n ∙ of-iv _
-    ∙ ap {B = Said} (cond test (only 10))
+    number-then (keyAndIv (cipherIn k .answer) (cipherIn k .retired) dir m iv) _ n
+    ∙ from-key dir k (wrongIv m iv) WrongIv _
+    ∙ ap₂ {C = Said} (λ (t : Bool) (s : Said). orElse (keyRows k) (cond t (only 10) (orElse (retiredRows dir k) s))) (iv-test m iv)
     (number-then (labelCheck m label) _ n ∙ label-number m label _
     ∙ ap {B = Said} (cond (isGcm m && ltb limit label) (only 5))
     (number-then (dataCheck dir m d) _ n ∙ of-data _
     ∙ ap {B = Said} (λ (k : Said). cond (ltb (limitOf dir m) d) (only 5) (behind (shapeCheck dir m d) k)) of-room))
 
--- by the test t on the key's size
-by-key : (key : List ℕ) (t : Bool) → eqb (length key) 16 ≡ t → (dir : Direction) (m : CipherMode) (label d iv o : List ℕ)
-    → saidIn (modeCall dir (newCipherMode key m) label d iv o .head)
-    ≡ cond (not t) (only 1)
-    (behind (messageCheck Key dir m (lengthsOf label d iv o)) (saidIn (modeResult m dir (roundKeys key) label d iv o .head)))
-unfolding modeCall newCipherMode newCipher messageCheck keyAndIv
-by-key key true e dir m label d iv o = rw e (number-checked (messageCheck Key dir m (lengthsOf label d iv o)) o _)
-by-key key false e dir m label d iv o = rw e
+-- Setting up a key says what the first condition says that holds: the key's size, its number.
+pub exported-new-number : (key : List ℕ) (n : ℕ) → hostKeyNew key n .answer ≡ firstOf (newRows key n) .number
+unfolding hostKeyNew keyOf newCipher
+exported-new-number key n = by-tests (not (eqb (length key) 16)) (wrongNumber n)
+  where
+    by-tests : (size range : Bool)
+        → keyHead (cond size (noCipher NoKey)
+        (cond range (noCipher NoNumber) (record { rk = roundKeys key; answer = Key; number = n; retired = false })) .answer) .number
+        ≡ cond size (only 1) (cond range (only 13) (only 0)) .number
+    by-tests true range = refl
+    by-tests false true = refl
+    by-tests false false = refl
 
-block-by-key : (key : List ℕ) (t : Bool) → eqb (length key) 16 ≡ t → (dir : Direction) (b o : List ℕ)
-    → saidIn (blockCall dir (newCipher key) b o .head) ≡ cond (not t) (only 1) (behind (blockCheck Key (length b) (length o)) (only 0))
-unfolding blockCall newCipher blockCheck
-block-by-key key true e dir b o = rw e (number-checked (blockCheck Key (length b) (length o)) o _)
-block-by-key key false e dir b o = rw e
+-- The exported call on one block says what the first condition says that holds: the key, the block's size, where it encrypts whether
+-- the key is retired, the room.
+pub exported-block-number : (dir : Direction) (k : LuossavinKey) (b o : List ℕ)
+    → saidIn (hostBlockCall dir k b o .head) ≡ firstOf (blockRows dir k b o)
+unfolding hostBlockCall blockCall blockCheck cipherIn behind orElse
+exported-block-number dir k b o =
+    let short = not (eqb (length b) 16) in
+    let tight = ltb (length o) 16 in
+    let marked = retiredCheck dir (isRetired k) in
+    number-checked (blockCheck (cipherIn k .answer) (cipherIn k .retired) dir (length b) (length o)) o _
+    ∙ number-then (keyCheck (keyAnswerOf (k .answer))) _ (only 0) ∙ key-number (k .answer) _
+    ∙ ap {B = Said} (orElse (keyRows k))
+    (number-refuse short WrongBlock _ (only 0)
+    ∙ ap {B = Said} (cond short (only 11))
+    (number-then marked _ (only 0) ∙ retired-number dir k _
+    ∙ ap {B = Said} (orElse (retiredRows dir k)) (number-refuse tight NoRoom Passed (only 0))
+    ∙ first-append (retiredRows dir k) (row tight 6 ∷ [])))
 
--- The exported call on one block, either way, says what the first condition says that holds: the key's size, the
--- block's, the room.
-pub exported-block-number : (dir : Direction) (key b o : List ℕ) → saidIn (hostBlockCall dir key b o .head) ≡ firstOf (blockRows key b o)
-unfolding hostBlockCall blockCheck behind
-exported-block-number dir key b o =
-    block-by-key key (eqb (length key) 16) refl dir b o
-    ∙ ap {B = Said} (cond (not (eqb (length key) 16)) (only 1))
-    (number-refuse (not (eqb (length b) 16)) _ _ (only 0)
-    ∙ ap {B = Said} (cond (not (eqb (length b) 16)) (only 11)) (number-refuse (ltb (length o) 16) _ Passed (only 0)))
-
--- The exported encryption says what the first condition says that holds: mode, key, IV, label, data, room.
-pub exported-encryption-number : (mode : ℕ) (key label d iv o : List ℕ)
-    → saidIn (hostModeCall Encrypt mode key label d iv o .head) ≡ firstOf (encryptRows mode key label d iv o)
-unfolding hostModeCall behind
-exported-encryption-number mode key label d iv o =
+-- The exported encryption says what the first condition says that holds: mode, key, IV, whether the key is retired, label, data, room.
+pub exported-encryption-number : (mode : ℕ) (k : LuossavinKey) (label d iv o : List ℕ)
+    → saidIn (hostModeCall Encrypt mode k label d iv o .head) ≡ firstOf (encryptRows mode k label d iv o)
+unfolding hostModeCall modeCall cipherIn behind orElse
+exported-encryption-number mode k label d iv o =
     let m = modeOf mode in
-    let n = ap {B = Said} (λ (x : Outcome). saidIn (x .head)) (encrypts m (roundKeys key) label d iv o) in
+    let rk = k .«round_keys» in
+    let n = ap {B = Said} (λ (x : Outcome). saidIn (x .head)) (encrypts m rk label d iv o) in
     number-front (ltb 4 mode) 7 o _
     ∙ ap {B = Said} (cond (ltb 4 mode) (only 7))
-    (by-key key (eqb (length key) 16) refl Encrypt m label d iv o
-    ∙ ap {B = Said} (λ (k : Said). cond (not (eqb (length key) 16)) (only 1)
-    (behind (messageCheck Key Encrypt m (lengthsOf label d iv o)) k)) n
-    ∙ ap {B = Said} (cond (not (eqb (length key) 16)) (only 1))
-    (from-iv Encrypt m (length iv) (length label) (length d) (length o) (only 0)))
+    (number-checked (messageCheck (cipherIn k .answer) (cipherIn k .retired) Encrypt m (lengthsOf label d iv o)) o _
+    ∙ ap {B = Said} (λ (s : Said). behind (messageCheck (cipherIn k .answer) (cipherIn k .retired) Encrypt m (lengthsOf label d iv o)) s) n
+    ∙ from-message Encrypt k m (length iv) (length label) (length d) (length o) (only 0))
 
 -- The exported decryption says what the first condition says that holds: mode, key, IV, label, data, room, padding, tag.
-pub exported-decryption-number : (mode : ℕ) (key label d iv o : List ℕ)
-    → saidIn (hostModeCall Decrypt mode key label d iv o .head) ≡ firstOf (decryptRows mode key label d iv o)
-unfolding hostModeCall
-exported-decryption-number mode key label d iv o =
+pub exported-decryption-number : (mode : ℕ) (k : LuossavinKey) (label d iv o : List ℕ)
+    → saidIn (hostModeCall Decrypt mode k label d iv o .head) ≡ firstOf (decryptRows mode k label d iv o)
+unfolding hostModeCall modeCall cipherIn orElse
+exported-decryption-number mode k label d iv o =
     let m = modeOf mode in
-    let in-lengths : Said → Said = λ n. behind (messageCheck Key Decrypt m (lengthsOf label d iv o)) n in
+    let rk = k .«round_keys» in
+    let in-lengths : Said → Said =
+    λ n. behind (messageCheck (cipherIn k .answer) (cipherIn k .retired) Decrypt m (lengthsOf label d iv o)) n in
     let in-shape : Said → Said =
     λ n.
-    cond (not (eqb (length iv) 16) && not (isGcm m && eqb (length iv) 12)) (only 10)
-    (cond (isGcm m && ltb limit (length label)) (only 5) (cond (ltb (limitOf Decrypt m) (length d)) (only 5) n)) in
+    orElse (keyRows k)
+    (cond (not (eqb (length iv) 16) && not (isGcm m && eqb (length iv) 12)) (only 10)
+    (cond (isGcm m && ltb limit (length label)) (only 5) (cond (ltb (limitOf Decrypt m) (length d)) (only 5) n))) in
     number-front (ltb 4 mode) 7 o _
     ∙ ap {B = Said} (cond (ltb 4 mode) (only 7))
-    (by-key key (eqb (length key) 16) refl Decrypt m label d iv o
-    ∙ ap {B = Said} (cond (not (eqb (length key) 16)) (only 1))
-    (ap {A = Said} {B = Said} in-lengths (opening-number m (roundKeys key) label d iv o)
-    ∙ from-iv Decrypt m (length iv) (length label) (length d) (length o) _
-    ∙ ap {A = Said} {B = Said} in-shape (shape-number m (length d) _)))
+    (number-checked (messageCheck (cipherIn k .answer) (cipherIn k .retired) Decrypt m (lengthsOf label d iv o)) o _
+    ∙ ap {A = Said} {B = Said} in-lengths (opening-number m rk label d iv o)
+    ∙ from-message Decrypt k m (length iv) (length label) (length d) (length o) _
+    ∙ ap {A = Said} {B = Said} in-shape (shape-number m (length d) _))
 
 -- one row in front
 one-more : (t : Bool) (r n : Said) (ks : List ℕ) → Among (n .number) (0 ∷ ks) → Among ((cond t r n) .number) (0 ∷ r .number ∷ ks)
@@ -216,19 +276,26 @@ one-of : (rows : List Row) → Among (firstOf rows .number) (numbersOf rows)
 one-of [] = inl refl
 one-of (r ∷ rows) = one-more (r .holds) (r .says) (firstOf rows) (map (λ (r : Row). r .says .number) rows) (one-of rows)
 
--- So a call on one block answers 0, 1, 11 or 6 and nothing else;
-pub exported-block-numbers : (dir : Direction) (key b o : List ℕ) → Among (hostBlockCall dir key b o .head .number) (0 ∷ 1 ∷ 11 ∷ 6 ∷ [])
-exported-block-numbers dir key b o =
-    rw (ap (λ (s : Said). s .number) (exported-block-number dir key b o)) (one-of (blockRows key b o))
+-- So encrypting one block answers 0, 1, 13, 11, 14 or 6 and nothing else;
+pub exported-block-encryption-numbers : (k : LuossavinKey) (b o : List ℕ)
+    → Among (hostBlockCall Encrypt k b o .head .number) (0 ∷ 1 ∷ 13 ∷ 11 ∷ 14 ∷ 6 ∷ [])
+exported-block-encryption-numbers k b o =
+    rw (ap (λ (s : Said). s .number) (exported-block-number Encrypt k b o)) (one-of (blockRows Encrypt k b o))
 
--- encryption 0, 7, 1, 10, 5 or 6;
-pub exported-encryption-numbers : (mode : ℕ) (key label d iv o : List ℕ)
-    → Among (hostModeCall Encrypt mode key label d iv o .head .number) (0 ∷ 7 ∷ 1 ∷ 10 ∷ 5 ∷ 5 ∷ 6 ∷ [])
-exported-encryption-numbers mode key label d iv o =
-    rw (ap (λ (s : Said). s .number) (exported-encryption-number mode key label d iv o)) (one-of (encryptRows mode key label d iv o))
+-- decrypting one 0, 1, 13, 11 or 6;
+pub exported-block-decryption-numbers : (k : LuossavinKey) (b o : List ℕ)
+    → Among (hostBlockCall Decrypt k b o .head .number) (0 ∷ 1 ∷ 13 ∷ 11 ∷ 6 ∷ [])
+exported-block-decryption-numbers k b o =
+    rw (ap (λ (s : Said). s .number) (exported-block-number Decrypt k b o)) (one-of (blockRows Decrypt k b o))
 
--- and decryption 0, 7, 1, 10, 5, 8, 2, 9, 6, 3 or 4.
-pub exported-decryption-numbers : (mode : ℕ) (key label d iv o : List ℕ)
-    → Among (hostModeCall Decrypt mode key label d iv o .head .number) (0 ∷ 7 ∷ 1 ∷ 10 ∷ 5 ∷ 5 ∷ 8 ∷ 2 ∷ 9 ∷ 6 ∷ 3 ∷ 4 ∷ [])
-exported-decryption-numbers mode key label d iv o =
-    rw (ap (λ (s : Said). s .number) (exported-decryption-number mode key label d iv o)) (one-of (decryptRows mode key label d iv o))
+-- encryption 0, 7, 1, 13, 10, 14, 5 or 6;
+pub exported-encryption-numbers : (mode : ℕ) (k : LuossavinKey) (label d iv o : List ℕ)
+    → Among (hostModeCall Encrypt mode k label d iv o .head .number) (0 ∷ 7 ∷ 1 ∷ 13 ∷ 10 ∷ 14 ∷ 5 ∷ 5 ∷ 6 ∷ [])
+exported-encryption-numbers mode k label d iv o =
+    rw (ap (λ (s : Said). s .number) (exported-encryption-number mode k label d iv o)) (one-of (encryptRows mode k label d iv o))
+
+-- and decryption 0, 7, 1, 13, 10, 5, 8, 2, 9, 6, 3 or 4.
+pub exported-decryption-numbers : (mode : ℕ) (k : LuossavinKey) (label d iv o : List ℕ)
+    → Among (hostModeCall Decrypt mode k label d iv o .head .number) (0 ∷ 7 ∷ 1 ∷ 13 ∷ 10 ∷ 5 ∷ 5 ∷ 8 ∷ 2 ∷ 9 ∷ 6 ∷ 3 ∷ 4 ∷ [])
+exported-decryption-numbers mode k label d iv o =
+    rw (ap (λ (s : Said). s .number) (exported-decryption-number mode k label d iv o)) (one-of (decryptRows mode k label d iv o))

@@ -2,7 +2,7 @@
 -- Assumes nothing.
 use mathlib.Core.Path.{_≡_, refl, ap, _∙_}
 use mathlib.Core.Bool.{Bool, true, false, not, cond, _&&_}
-use mathlib.Core.List.{List, [], _∷_, _++_}
+use mathlib.Core.List.{List, [], _∷_}
 use Prim.Native.Nat.{ℕ, _+_, _-_, _%_}
 use lib.Dec.{eqb, ltb}
 use lib.ListN.{length}
@@ -10,12 +10,12 @@ use borrow.Author.Tests.{eqb-true}
 use Rattle.block.specs.Same.{same}
 use Rattle.block.specs.Xor.{xors}
 use Rattle.walk.specs.Outcome.{finished, refusal}
-use Rattle.cipher_mode.specs.declared.KeyAnswer.the-variants.{Key}
 use Rattle.cipher_mode.specs.declared.CipherMode.the-variants.{Ctr as Ctr·mode, Gcm}
-use Rattle.cipher_mode.specs.declared.answer.Refusal.the-variants.{ShortGcm}
+use Rattle.cipher_mode.specs.declared.Direction.{Direction}
+use Rattle.cipher_mode.specs.declared.Direction.the-variants.{Encrypt, Decrypt}
+use Rattle.cipher_mode.specs.declared.answer.Refusal.the-variants.{TooLong, ShortGcm, WrongIv}
 use Rattle.cipher_mode.specs.declared.checks.Checked.{Checked}
 use Rattle.cipher_mode.specs.declared.checks.Checked.the-variants.{Passed, Refused}
-use Rattle.cipher_mode.specs.Key.{newCipher}
 use Rattle.cipher_mode.specs.Tables.{limit}
 use Rattle.cipher_mode.specs.Checks.{keyAndIv}
 use Rattle.pieces.specs.declared.ctr.Ctr.{Ctr}
@@ -24,31 +24,13 @@ use Rattle.pieces.specs.declared.seal.Seal.{Seal}
 use Rattle.pieces.specs.Hashing.{hashEnd}
 use Rattle.pieces.specs.Checks.{gcmStarting, standing, running, writing, tagged}
 use Rattle.pieces.specs.Calls.{Stepped, begun, goesOn, ctrStart, sealStart, opensStart, ctrPiece, ctrEnd, sealPiece, sealEnd, opensPiece, opensEnd}
-use Rattle.luossavin.specs.InPieces.{hostCtrStart, hostSealStart, hostOpensStart}
-use Rattle.demands.specs.WhichNumber.{Said, saidIn, only, Row, row, firstOf}
+use Rattle.luossavin.specs.declared.key.LuossavinKey.{LuossavinKey}
+use Rattle.luossavin.specs.Key.{cipherIn}
+use Rattle.luossavin.specs.InPieces.{directionOf, hostCtrStart, hostSealStart, hostOpensStart}
+use Rattle.demands.specs.WhichNumber.{Said, saidIn, only, row, firstOf, keyRows, retiredRows}
 use Rattle.demands.specs.WhichNumberInPieces.{standsRows, runningRows, ctrPieceRows, ctrEndRows, sealPieceRows, sealEndRows}
 use Rattle.demands.specs.WhichNumberInPieces.{opensPieceRows, opensEndRows, ctrStartRows, gcmStartRows}
-use Rattle.demands.proofs.WhichNumber.{behind, number-refuse, number-then}
-
--- what the first row says that holds, or else k
-orElse : List Row → Said → Said
-orElse [] k = k
-orElse (r ∷ rows) k = cond (r .holds) (r .says) (orElse rows k)
-
-first-append : (a b : List Row) → orElse a (firstOf b) ≡ firstOf (a ++ b)
-unfolding orElse
-first-append [] b = refl
-first-append (r ∷ a) b = ap {B = Said} (cond (r .holds) (r .says)) (first-append a b)
-
-first-of : (a : List Row) → orElse a (only 0) ≡ firstOf a
-unfolding orElse
-first-of [] = refl
-first-of (r ∷ a) = ap {B = Said} (cond (r .holds) (r .says)) (first-of a)
-
-or-append : (a b : List Row) (k : Said) → orElse a (orElse b k) ≡ orElse (a ++ b) k
-unfolding orElse
-or-append [] b k = refl
-or-append (r ∷ a) b k = ap {B = Said} (cond (r .holds) (r .says)) (or-append a b k)
+use Rattle.demands.proofs.WhichNumber.{orElse, first-append, first-of, or-append, behind, number-refuse, number-then, from-key}
 
 step-number : (S : Type 0) (k : Checked) (o : List ℕ) (s : S) (next : Stepped S) → saidIn (goesOn S k o s next .head) ≡ behind k (saidIn (next .head))
 unfolding behind
@@ -75,7 +57,10 @@ module _ (mark : ℕ) (k : Said) where
       (number-refuse (eqb mark 1) _ _ k
       ∙ ap {B = Said} (cond (eqb mark 1) (only 1))
       (number-refuse (eqb mark 5) _ _ k
-      ∙ ap {B = Said} (cond (eqb mark 5) (only 5)) (number-refuse (eqb mark 10) _ _ k)))
+      ∙ ap {B = Said} (cond (eqb mark 5) (only 5))
+      (number-refuse (eqb mark 10) _ _ k
+      ∙ ap {B = Said} (cond (eqb mark 10) (only 10))
+      (number-refuse (eqb mark 13) _ _ k ∙ ap {B = Said} (cond (eqb mark 13) (only 13)) (number-refuse (eqb mark 14) _ _ k)))))
 
   stands-number : behind (standing mark) k ≡ orElse (standsRows mark) k
   stands-number = stands-by (eqb mark 0) refl
@@ -147,38 +132,41 @@ opens-end-number s tag =
     ∙ first-append runs
     (record { holds = not (eqb (length tag) 16); says = record { number = 9; missing = 16 - length tag } } ∷ row (not test) 4 ∷ [])
 
--- a start, by the test t on the key's size
-ctr-start-said : (key iv : List ℕ) (t : Bool) → eqb (length key) 16 ≡ t
-    → behind (keyAndIv (newCipher key .answer) Ctr·mode (length iv)) (only 0) ≡ firstOf (ctrStartRows key iv)
-unfolding newCipher keyAndIv behind
-ctr-start-said key iv true e = rw e (number-refuse (not (eqb (length iv) 16)) _ Passed (only 0))
-ctr-start-said key iv false e = rw e
+-- the start of Gcm, either way
+gcm-start-said : (dir : Direction) (k : LuossavinKey) (label iv : List ℕ)
+    → behind (gcmStarting (cipherIn k .answer) (cipherIn k .retired) dir (length iv) (length label)) (only 0)
+    ≡ firstOf (gcmStartRows dir k label iv)
+unfolding gcmStarting keyAndIv behind orElse
+gcm-start-said dir k label iv =
+    let wrong = not (eqb (length iv) 12) && not (eqb (length iv) 16) in
+    let long = ltb limit (length label) in
+    number-then (keyAndIv (cipherIn k .answer) (cipherIn k .retired) dir Gcm (length iv)) _ (only 0)
+    ∙ from-key dir k wrong WrongIv _
+    ∙ ap {B = Said} (λ (s : Said). orElse (keyRows k) (cond wrong (only 10) s))
+    (ap {B = Said} (orElse (retiredRows dir k)) (number-refuse long TooLong Passed (only 0))
+    ∙ first-append (retiredRows dir k) (row long 5 ∷ []))
 
-gcm-start-said : (key label iv : List ℕ) (t : Bool) → eqb (length key) 16 ≡ t
-    → behind (gcmStarting (newCipher key .answer) (length iv) (length label)) (only 0) ≡ firstOf (gcmStartRows key label iv)
-unfolding gcmStarting newCipher keyAndIv behind
-gcm-start-said key label iv true e =
-    rw e
-    (number-then (keyAndIv Key Gcm (length iv)) _ (only 0)
-    ∙ number-refuse (not (eqb (length iv) 12) && not (eqb (length iv) 16)) _ Passed _
-    ∙ ap {B = Said} (cond (not (eqb (length iv) 12) && not (eqb (length iv) 16)) (only 10))
-    (number-refuse (ltb limit (length label)) _ Passed (only 0)))
-gcm-start-said key label iv false e = rw e
+-- The exported starts say what the first condition says that holds: key, IV, where they encrypt whether the key is retired, label.
+pub exported-ctr-start-number : (k : LuossavinKey) (decrypt : Bool) (iv : List ℕ)
+    → saidIn (hostCtrStart k decrypt iv .head) ≡ firstOf (ctrStartRows k decrypt iv)
+unfolding hostCtrStart ctrStart keyAndIv orElse
+exported-ctr-start-number k decrypt iv =
+    let dir = directionOf decrypt in
+    let wrong = not (eqb (length iv) 16) in
+    start-number Ctr (keyAndIv (cipherIn k .answer) (cipherIn k .retired) dir Ctr·mode (length iv)) _ _
+    ∙ from-key dir k wrong WrongIv (only 0)
+    ∙ ap {B = Said} (λ (s : Said). orElse (keyRows k) (cond wrong (only 10) s)) (first-of (retiredRows dir k))
 
--- The exported starts say what the first condition says that holds: key, IV, label.
-pub exported-ctr-start-number : (key iv : List ℕ) → saidIn (hostCtrStart key iv .head) ≡ firstOf (ctrStartRows key iv)
-unfolding hostCtrStart ctrStart
-exported-ctr-start-number key iv =
-    start-number Ctr (keyAndIv (newCipher key .answer) Ctr·mode (length iv)) _ _ ∙ ctr-start-said key iv (eqb (length key) 16) refl
-
-pub exported-seal-start-number : (key label iv : List ℕ) → saidIn (hostSealStart key label iv .head) ≡ firstOf (gcmStartRows key label iv)
+pub exported-seal-start-number : (k : LuossavinKey) (label iv : List ℕ)
+    → saidIn (hostSealStart k label iv .head) ≡ firstOf (gcmStartRows Encrypt k label iv)
 unfolding hostSealStart sealStart
-exported-seal-start-number key label iv =
-    start-number Seal (gcmStarting (newCipher key .answer) (length iv) (length label)) _ _
-    ∙ gcm-start-said key label iv (eqb (length key) 16) refl
+exported-seal-start-number k label iv =
+    start-number Seal (gcmStarting (cipherIn k .answer) (cipherIn k .retired) Encrypt (length iv) (length label)) _ _
+    ∙ gcm-start-said Encrypt k label iv
 
-pub exported-opens-start-number : (key label iv : List ℕ) → saidIn (hostOpensStart key label iv .head) ≡ firstOf (gcmStartRows key label iv)
+pub exported-opens-start-number : (k : LuossavinKey) (label iv : List ℕ)
+    → saidIn (hostOpensStart k label iv .head) ≡ firstOf (gcmStartRows Decrypt k label iv)
 unfolding hostOpensStart opensStart
-exported-opens-start-number key label iv =
-    start-number Opens (gcmStarting (newCipher key .answer) (length iv) (length label)) _ _
-    ∙ gcm-start-said key label iv (eqb (length key) 16) refl
+exported-opens-start-number k label iv =
+    start-number Opens (gcmStarting (cipherIn k .answer) (cipherIn k .retired) Decrypt (length iv) (length label)) _ _
+    ∙ gcm-start-said Decrypt k label iv

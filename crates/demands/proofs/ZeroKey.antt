@@ -5,7 +5,7 @@ use mathlib.Core.Path.{_≡_, sym, ap, _∙_}
 use mathlib.Core.List.{List}
 use Prim.Native.Nat.{ℕ, _≤_}
 use lib.ListN.{length, replicate}
-use Rattle.cipher.specs.Sm4.{encryptBlock, roundKeys}
+use Rattle.cipher.specs.Sm4.{encryptBlock}
 use Rattle.ghash.specs.Ghash.{ghash, authBlocks}
 use Rattle.ghash.proofs.ZeroKey.{ghash-zero-key}
 use Rattle.gcm.specs.Gcm.{hashKey, J0, textPart}
@@ -14,13 +14,13 @@ use Rattle.gcm.proofs.TagTells.{opens-alike}
 use Rattle.gcm.specs.Open.{settled, gcmOpen}
 use Rattle.cipher_mode.specs.declared.Direction.the-variants.{Decrypt}
 use Rattle.cipher_mode.specs.declared.Sm4Cipher.{Sm4Cipher}
-use Rattle.cipher_mode.specs.Key.{newCipher, newCipherMode}
 use Rattle.cipher_mode.specs.Tables.{limit}
 use Rattle.cipher_mode.specs.Calls.{modeCall}
+use Rattle.luossavin.specs.declared.key.LuossavinKey.{LuossavinKey}
+use Rattle.luossavin.specs.Key.{cipherIn}
 use Rattle.luossavin.specs.Host.{modeOf, hostModeCall}
 use Rattle.demands.specs.Call.{inGcm}
 use Rattle.demands.proofs.Through.{through, leaves}
-use Rattle.demands.proofs.Exported.{new-key}
 use Rattle.demands.proofs.OtherHash.{Fits, gcm-fits, gcm-in-order}
 
 -- Where the all-zero block is encrypted to itself, H is 0, and so is every hash.
@@ -44,10 +44,8 @@ any-label-opens c e a₁ a₂ s iv o l opens =
     ∙ rw (opens-alike rk h (J0 rk iv) a₂ a₁ s same) (sym (leaves Decrypt (inGcm c) a₁ s iv o p))
 
 -- The same of the exported call with mode 4.
-pub exported-any-label-opens : (key : List ℕ) → encryptBlock (roundKeys key) (replicate 16 0) ≡ replicate 16 0
+pub exported-any-label-opens : (k : LuossavinKey) → encryptBlock (k .«round_keys») (replicate 16 0) ≡ replicate 16 0
     → (a₁ a₂ s iv o : List ℕ) → length a₂ ≤ limit
-    → hostModeCall Decrypt 4 key a₁ s iv o .head .number ≡ 0 → hostModeCall Decrypt 4 key a₂ s iv o ≡ hostModeCall Decrypt 4 key a₁ s iv o
-unfolding hostModeCall modeOf newCipherMode
-exported-any-label-opens key e a₁ a₂ s iv o l opens =
-    let c = newCipher key in
-    any-label-opens c (rw (new-key key (through Decrypt (inGcm c) a₁ s iv o opens .key)) e) a₁ a₂ s iv o l opens
+    → hostModeCall Decrypt 4 k a₁ s iv o .head .number ≡ 0 → hostModeCall Decrypt 4 k a₂ s iv o ≡ hostModeCall Decrypt 4 k a₁ s iv o
+unfolding hostModeCall modeOf cipherIn
+exported-any-label-opens k = any-label-opens (cipherIn k)

@@ -1,21 +1,35 @@
 -- Demand 1 as a property of an outcome: what a caller may count on, refused or done.
 use mathlib.Core.Path.{_≡_}
-use mathlib.Core.Logic.{_≢_}
-use mathlib.Core.List.{List}
-use Prim.Native.Nat.{ℕ, _+_, _-_, _*_, _/_, _≤_}
+use mathlib.Core.Logic.{_≢_, _⊎_}
+use mathlib.Core.Bool.{Bool, true, false, _||_}
+use mathlib.Core.List.{List, [], _∷_}
+use Prim.Native.Nat.{ℕ, _+_, _-_, _*_, _/_, _≤_, _<_}
+use lib.Dec.{eqb}
 use lib.ListN.{length, drop}
-use Rattle.walk.specs.Outcome.{Head, Outcome, finished, refusal}
+use Rattle.walk.specs.Outcome.{Outcome, finished, refusal}
 use Rattle.cbc.specs.Open.{lastByte, cbcText}
 use Rattle.cipher_mode.specs.declared.CipherMode.{CipherMode}
 use Rattle.cipher_mode.specs.declared.CipherMode.the-variants.{Cfb, Ofb, Ctr, Cbc, Gcm}
 use Rattle.cipher_mode.specs.declared.Direction.{Direction}
 use Rattle.cipher_mode.specs.declared.Direction.the-variants.{Encrypt, Decrypt}
+use Rattle.cipher_mode.specs.declared.Sm4Cipher.{Sm4Cipher}
+use Rattle.cipher_mode.specs.Key.{keyHead, keyNumber}
 
--- x is an answer to a call whose numbers go up to `most`, whose output was lent as o, and of which document 01's table gives the
--- length n
-pub record Answered (most : ℕ) (o : List ℕ) (n : ℕ) (x : Outcome) : Type 0 where
-  -- the number is one of the papers'
-  pub numbered : x .head .number ≤ most
+-- whether a number is one of a list
+abbrev pub oneOf : ℕ → List ℕ → Bool
+oneOf n [] = false
+oneOf n (k ∷ ks) = eqb n k || oneOf n ks
+
+-- the numbers that a single call can answer: 12 is of messages in pieces alone
+abbrev pub singleNumbers : List ℕ
+singleNumbers = 0 ∷ 1 ∷ 2 ∷ 3 ∷ 4 ∷ 5 ∷ 6 ∷ 7 ∷ 8 ∷ 9 ∷ 10 ∷ 11 ∷ 13 ∷ 14 ∷ []
+
+-- x is an answer to a call on the key of number k whose output was lent as o, and of which document 01's table gives the length n
+pub record Answered (numbers : List ℕ) (k : ℕ) (o : List ℕ) (n : ℕ) (x : Outcome) : Type 0 where
+  -- the number is one of those that the call can answer
+  pub numbered : oneOf (x .head .number) numbers ≡ true
+  -- refused or done, the key's number is repeated
+  pub key : x .head .key ≡ k
   -- only refusal 9 tells that bytes were missing
   pub missing : x .head .number ≢ 9 → x .head .missing ≡ 0
   -- every refusal reports length 0 and changes no byte of the output
@@ -28,10 +42,13 @@ pub record Answered (most : ℕ) (o : List ℕ) (n : ℕ) (x : Outcome) : Type 0
   -- the output is as long as it was
   pub kept : length (x .bytes) ≡ length o
 
--- h is what setting up the key answers: it lends no output, and reports length 0, done or refused
-pub record KeyAnswered (key : List ℕ) (h : Head) : Type 0 where
-  pub done : length key ≡ 16 → h ≡ finished 0
-  pub refused : length key ≢ 16 → h ≡ refusal 1
+-- c is the record that setting up the key with the number n gives: it lends no output, and reports length 0, done or refused
+pub record KeyAnswered (key : List ℕ) (n : ℕ) (c : Sm4Cipher) : Type 0 where
+  pub done : length key ≡ 16 → 1 ≤ n → n ≤ 65535 → (keyHead (c .answer) ≡ finished 0) × (keyNumber c ≡ n)
+  pub refused : length key ≢ 16 → keyHead (c .answer) ≡ refusal 1
+  pub out-of-range : length key ≡ 16 → (n ≡ 0) ⊎ (65535 < n) → keyHead (c .answer) ≡ refusal 13
+  -- a record set up anew is unretired
+  pub fresh : c .retired ≡ false
 
 -- document 01's table: the length on success, which in Cbc decryption is less by the last decrypted byte
 abbrev pub lengthOf : CipherMode → Direction → List ℕ → List ℕ → List ℕ → ℕ

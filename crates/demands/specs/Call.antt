@@ -24,7 +24,7 @@ single call label d iv o = call d o
 abbrev pub result : Outcome → List ℕ
 result x = take (x .head .size) (x .bytes)
 
--- the call was refused with the number n: it reports 0 otherwise, and the output is o, as it was lent
+-- the call was refused with the number n: it reports no bytes and none missing, and the output is o, as it was lent
 pub record RefusedAs (n : ℕ) (o : List ℕ) (x : Outcome) : Type 0 where
   pub number : x .head .number ≡ n
   pub size : x .head .size ≡ 0

@@ -1,6 +1,6 @@
 -- Document 01's "At the edges", with document 02's numbers: what the definitions say of a call with these lengths, whatever its
 -- bytes are, beside the papers.
-use mathlib.Core.Bool.{Bool, cond}
+use mathlib.Core.Bool.{Bool, true, false, cond}
 use mathlib.Core.List.{List, [], _∷_, _++_, map}
 use Prim.Native.Nat.{ℕ, _-_}
 use lib.ListN.{replicate}
@@ -18,7 +18,8 @@ use Rattle.cipher_mode.specs.declared.checks.Checked.the-variants.{Passed, Refu
 use Rattle.cipher_mode.specs.declared.checks.Lengths.{Lengths}
 use Rattle.cipher_mode.specs.Answer.{refusalHead}
 use Rattle.cipher_mode.specs.Tables.{roomOf}
-use Rattle.cipher_mode.specs.Checks.{messageCheck}
+use Rattle.cipher_mode.specs.Key.{keyHead, newCipher}
+use Rattle.cipher_mode.specs.Checks.{messageCheck, blockCheck}
 
 -- a message of so many bytes, under an IV of so many, without a label, with so much room
 abbrev pub sizes : ℕ → ℕ → ℕ → Lengths
@@ -29,8 +30,20 @@ abbrev pub verdict : Checked → ℕ → Head
 verdict Passed n = finished n
 verdict (Refused r) n = refusalHead r
 
+-- under a key, retired or not
+abbrev pub saidOf : Bool → Direction → CipherMode → Lengths → Head
+saidOf retired dir m n = verdict (messageCheck Key retired dir m n) (roomOf m dir (n .«data»))
+
 abbrev pub said : Direction → CipherMode → Lengths → Head
-said dir m n = verdict (messageCheck Key dir m n) (roomOf m dir (n .«data»))
+said dir m n = saidOf false dir m n
+
+-- a single block, under a retired key
+abbrev retiredBlock : Direction → ℕ → ℕ → Head
+retiredBlock dir n room = verdict (blockCheck Key true dir n room) 16
+
+-- setting up a key of so many bytes with a number
+abbrev setUp : ℕ → ℕ → Head
+setUp bytes n = keyHead (newCipher (replicate bytes 0) n .answer)
 
 pub record Row : Type 0 where
   pub ours : Head
@@ -72,6 +85,27 @@ edges right =
     -- Gcm takes a 12-byte IV, and the other modes refuse it as 10
     ∷ row (said Encrypt Gcm (sizes 12 32 48)) (finished 48)
     ∷ row (said Decrypt Gcm (sizes 12 32 48)) (finished 16)
+    -- a retired key decrypts in every mode, and encrypts in none
+    ∷ row (saidOf true Decrypt Cfb (sizes 16 5 5)) (finished 5)
+    ∷ row (saidOf true Decrypt Ofb (sizes 16 5 5)) (finished 5)
+    ∷ row (saidOf true Decrypt Ctr (sizes 16 5 5)) (finished 5)
+    ∷ row (saidOf true Decrypt Cbc (sizes 16 16 16)) (finished 16)
+    ∷ row (saidOf true Decrypt Gcm (sizes 16 16 0)) (finished 0)
+    ∷ row (saidOf true Encrypt Ofb (sizes 16 5 5)) (refusal 14)
+    ∷ row (saidOf true Encrypt Ctr (sizes 16 5 5)) (refusal 14)
+    -- 14 comes after a wrong IV or block, and before the limit and the room
+    ∷ row (saidOf true Encrypt Gcm (sizes 13 5 21)) (refusal 10)
+    ∷ row (saidOf true Encrypt Gcm (sizes 12 16777217 0)) (refusal 14)
+    ∷ row (saidOf true Encrypt Cbc (sizes 16 5 0)) (refusal 14)
+    ∷ row (retiredBlock Encrypt 15 16) (refusal 11)
+    ∷ row (retiredBlock Encrypt 16 0) (refusal 14)
+    ∷ row (retiredBlock Decrypt 16 16) (finished 16)
+    -- a key's number is 1 to 65,535, and is looked at after the key
+    ∷ row (setUp 16 0) (refusal 13)
+    ∷ row (setUp 16 1) (finished 0)
+    ∷ row (setUp 16 65535) (finished 0)
+    ∷ row (setUp 16 65536) (refusal 13)
+    ∷ row (setUp 15 0) (refusal 1)
     ∷ (wrongIv 12 (Cfb ∷ Ofb ∷ Ctr ∷ Cbc ∷ [])
     -- an IV of any other length is 10 in Gcm too
     ++ (wrongIv 17 (Cfb ∷ Ofb ∷ Ctr ∷ Cbc ∷ Gcm ∷ [])

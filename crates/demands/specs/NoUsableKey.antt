@@ -8,7 +8,7 @@ use Rattle.cipher_mode.specs.declared.Sm4CipherMode.{Sm4CipherMode}
 use Rattle.cipher_mode.specs.Calls.{blockCall, modeCall}
 use Rattle.demands.specs.Call.{RefusedAs}
 
--- every call on c, alone or with a mode, is refused as 1 with the output as it was lent
-pub record NoUsableKey (c : Sm4Cipher) : Type 0 where
-  pub block : (dir : Direction) (b o : List ℕ) → RefusedAs 1 o (blockCall dir c b o)
-  pub message : (dir : Direction) (m : Sm4CipherMode) → m .cipher ≡ c → (label d iv o : List ℕ) → RefusedAs 1 o (modeCall dir m label d iv o)
+-- every call on c, alone or with a mode, is refused as n with the output as it was lent
+pub record NoUsableKey (n : ℕ) (c : Sm4Cipher) : Type 0 where
+  pub block : (dir : Direction) (b o : List ℕ) → RefusedAs n o (blockCall dir c b o)
+  pub message : (dir : Direction) (m : Sm4CipherMode) → m .cipher ≡ c → (label d iv o : List ℕ) → RefusedAs n o (modeCall dir m label d iv o)

@@ -15,7 +15,7 @@ OneOutcome x =
     (answer₁ answer₂ : Answer) (output₁ output₂ : List ℕ) → outcome answer₁ output₁ ≡ x → outcome answer₂ output₂ ≡ x
     → (answer₁ ≡ answer₂) × (output₁ ≡ output₂)
 
--- the same of an exported call, which answers number, missing bytes and length
+-- the same of an exported call, which answers number, missing bytes, key and length
 abbrev pub OneReport : Outcome → Type 0
 OneReport x =
     (answer₁ answer₂ : LuossavinAnswer) (output₁ output₂ : List ℕ) → reported answer₁ output₁ ≡ x → reported answer₂ output₂ ≡ x

@@ -1,19 +1,20 @@
 -- Which number a call answers: for each call document 01's conditions, a row each, in the order in which they are asked.
 use mathlib.Core.Path.{_≡_}
 use mathlib.Core.Logic.{_⊎_}
-use mathlib.Core.Bool.{Bool, true, false, not, cond, _&&_}
-use mathlib.Core.List.{List, [], _∷_, map}
+use mathlib.Core.Bool.{Bool, true, false, not, cond, _&&_, _||_}
+use mathlib.Core.List.{List, [], _∷_, _++_, map}
 use Prim.Native.Nat.{ℕ, _-_, _%_}
 use lib.Dec.{eqb, ltb}
 use lib.ListN.{length}
-use Rattle.cipher.specs.Sm4.{roundKeys}
 use Rattle.walk.specs.Outcome.{Head}
 use Rattle.cbc.specs.Open.{lastByte, namesPadding, cbcText}
 use Rattle.gcm.specs.Gcm.{hashKey, J0, opensUnder}
 use Rattle.cipher_mode.specs.declared.CipherMode.{CipherMode}
 use Rattle.cipher_mode.specs.declared.CipherMode.the-variants.{Cfb, Ofb, Ctr, Cbc, Gcm}
+use Rattle.cipher_mode.specs.declared.Direction.{Direction}
 use Rattle.cipher_mode.specs.declared.Direction.the-variants.{Encrypt, Decrypt}
 use Rattle.cipher_mode.specs.Tables.{limit, limitOf, roomOf}
+use Rattle.luossavin.specs.declared.key.LuossavinKey.{LuossavinKey}
 use Rattle.luossavin.specs.Host.{modeOf}
 
 -- what a call says of a refusal: its number, and how many bytes were missing
@@ -63,37 +64,62 @@ isGcm Ctr = false
 isGcm Cbc = false
 isGcm Gcm = true
 
--- the exported call on one block, either way
-abbrev pub blockRows : List ℕ → List ℕ → List ℕ → List Row
-blockRows key b o =
+-- setting up a key with the number n
+abbrev pub newRows : List ℕ → ℕ → List Row
+newRows key n =
     row (not (eqb (length key) 16)) 1
-    ∷ row (not (eqb (length b) 16)) 11
-    ∷ row (ltb (length o) 16) 6
+    ∷ row (eqb n 0 || ltb 65535 n) 13
     ∷ []
+
+-- a host's record of no key, whatever its answer holds
+abbrev pub keyRows : LuossavinKey → List Row
+keyRows k =
+    row (not (eqb (k .answer) 0) && not (eqb (k .answer) 13)) 1
+    ∷ row (eqb (k .answer) 13) 13
+    ∷ []
+
+abbrev pub isRetired : LuossavinKey → Bool
+isRetired k = not (eqb (k .retired) 0)
+
+-- encrypting under a retired key; decryption has no such row
+abbrev pub retiredRows : Direction → LuossavinKey → List Row
+retiredRows Encrypt k = row (isRetired k) 14 ∷ []
+retiredRows Decrypt k = []
+
+-- the exported call on one block
+abbrev pub blockRows : Direction → LuossavinKey → List ℕ → List ℕ → List Row
+blockRows dir k b o =
+    keyRows k
+    ++ (row (not (eqb (length b) 16)) 11
+    ∷ retiredRows dir k
+    ++ (row (ltb (length o) 16) 6
+    ∷ []))
 
 -- the exported encryption of a message
-abbrev pub encryptRows : ℕ → List ℕ → List ℕ → List ℕ → List ℕ → List ℕ → List Row
-encryptRows mode key label d iv o =
+abbrev pub encryptRows : ℕ → LuossavinKey → List ℕ → List ℕ → List ℕ → List ℕ → List Row
+encryptRows mode k label d iv o =
     row (ltb 4 mode) 7
-    ∷ row (not (eqb (length key) 16)) 1
-    ∷ row (not (eqb (length iv) 16) && not (isGcm (modeOf mode) && eqb (length iv) 12)) 10
-    ∷ row (isGcm (modeOf mode) && ltb limit (length label)) 5
+    ∷ keyRows k
+    ++ (row (not (eqb (length iv) 16) && not (isGcm (modeOf mode) && eqb (length iv) 12)) 10
+    ∷ retiredRows Encrypt k
+    ++ (row (isGcm (modeOf mode) && ltb limit (length label)) 5
     ∷ row (ltb limit (length d)) 5
     ∷ row (ltb (length o) (roomOf (modeOf mode) Encrypt (length d))) 6
-    ∷ []
+    ∷ []))
 
 -- the exported decryption of a message
-abbrev pub decryptRows : ℕ → List ℕ → List ℕ → List ℕ → List ℕ → List ℕ → List Row
-decryptRows mode key label d iv o =
+abbrev pub decryptRows : ℕ → LuossavinKey → List ℕ → List ℕ → List ℕ → List ℕ → List Row
+decryptRows mode k label d iv o =
+    let rk = k .«round_keys» in
     row (ltb 4 mode) 7
-    ∷ row (not (eqb (length key) 16)) 1
-    ∷ row (not (eqb (length iv) 16) && not (isGcm (modeOf mode) && eqb (length iv) 12)) 10
+    ∷ keyRows k
+    ++ (row (not (eqb (length iv) 16) && not (isGcm (modeOf mode) && eqb (length iv) 12)) 10
     ∷ row (isGcm (modeOf mode) && ltb limit (length label)) 5
     ∷ row (ltb (limitOf Decrypt (modeOf mode)) (length d)) 5
     ∷ row (isCbc (modeOf mode) && eqb (length d) 0) 8
     ∷ row (isCbc (modeOf mode) && not (eqb (length d % 16) 0)) 2
     ∷ record { holds = isGcm (modeOf mode) && ltb (length d) 16; says = record { number = 9; missing = 16 - length d } }
     ∷ row (ltb (length o) (roomOf (modeOf mode) Decrypt (length d))) 6
-    ∷ row (isCbc (modeOf mode) && not (namesPadding (lastByte (cbcText (roundKeys key) iv d)))) 3
-    ∷ row (isGcm (modeOf mode) && not (opensUnder (roundKeys key) (hashKey (roundKeys key)) (J0 (roundKeys key) iv) label d)) 4
-    ∷ []
+    ∷ row (isCbc (modeOf mode) && not (namesPadding (lastByte (cbcText rk iv d)))) 3
+    ∷ row (isGcm (modeOf mode) && not (opensUnder rk (hashKey rk) (J0 rk iv) label d)) 4
+    ∷ [])

@@ -1,32 +1,37 @@
 -- Which number a call on a message in pieces answers: for each call the conditions, a row each, in the order in which they are
 -- asked, for every value of a state.
-use mathlib.Core.Bool.{not, _&&_}
+use mathlib.Core.Bool.{Bool, not, _&&_}
 use mathlib.Core.List.{List, [], _∷_, _++_}
 use Prim.Native.Nat.{ℕ, _+_, _-_, _%_}
 use lib.Dec.{eqb, ltb}
 use lib.ListN.{length}
 use Rattle.block.specs.Same.{same}
 use Rattle.block.specs.Xor.{xors}
+use Rattle.cipher_mode.specs.declared.Direction.{Direction}
 use Rattle.cipher_mode.specs.Tables.{limit}
 use Rattle.pieces.specs.declared.ctr.Ctr.{Ctr}
 use Rattle.pieces.specs.declared.opens.Opens.{Opens}
 use Rattle.pieces.specs.declared.seal.Seal.{Seal}
 use Rattle.pieces.specs.Hashing.{hashEnd}
-use Rattle.demands.specs.WhichNumber.{Row, row}
+use Rattle.luossavin.specs.declared.key.LuossavinKey.{LuossavinKey}
+use Rattle.luossavin.specs.InPieces.{directionOf}
+use Rattle.demands.specs.WhichNumber.{Row, row, keyRows, retiredRows}
 
 -- the exported starts
-abbrev pub ctrStartRows : List ℕ → List ℕ → List Row
-ctrStartRows key iv =
-    row (not (eqb (length key) 16)) 1
-    ∷ row (not (eqb (length iv) 16)) 10
-    ∷ []
+abbrev pub ctrStartRows : LuossavinKey → Bool → List ℕ → List Row
+ctrStartRows k decrypt iv =
+    keyRows k
+    ++ (row (not (eqb (length iv) 16)) 10
+    ∷ retiredRows (directionOf decrypt) k)
 
-abbrev pub gcmStartRows : List ℕ → List ℕ → List ℕ → List Row
-gcmStartRows key label iv =
-    row (not (eqb (length key) 16)) 1
-    ∷ row (not (eqb (length iv) 12) && not (eqb (length iv) 16)) 10
-    ∷ row (ltb limit (length label)) 5
-    ∷ []
+-- Gcm, sealing or opening
+abbrev pub gcmStartRows : Direction → LuossavinKey → List ℕ → List ℕ → List Row
+gcmStartRows dir k label iv =
+    keyRows k
+    ++ (row (not (eqb (length iv) 12) && not (eqb (length iv) 16)) 10
+    ∷ retiredRows dir k
+    ++ (row (ltb limit (length label)) 5
+    ∷ []))
 
 -- what a state stands at: a refused start answers its refusal, and an ended message 12
 abbrev pub standsRows : ℕ → List Row
@@ -34,6 +39,8 @@ standsRows stands =
     row (eqb stands 1) 1
     ∷ row (eqb stands 5) 5
     ∷ row (eqb stands 10) 10
+    ∷ row (eqb stands 13) 13
+    ∷ row (eqb stands 14) 14
     ∷ row (not (eqb stands 0)) 12
     ∷ []
 

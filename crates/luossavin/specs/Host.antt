@@ -6,13 +6,15 @@ use Rattle.walk.specs.Outcome.{Head, Outcome, leaving, refuse}
 use Rattle.cipher_mode.specs.declared.CipherMode.{CipherMode}
 use Rattle.cipher_mode.specs.declared.CipherMode.the-variants.{Cfb, Ofb, Ctr, Cbc, Gcm}
 use Rattle.cipher_mode.specs.declared.Direction.{Direction}
-use Rattle.cipher_mode.specs.Key.{newCipher, newCipherMode}
+use Rattle.cipher_mode.specs.declared.Sm4CipherMode.{Sm4CipherMode}
 use Rattle.cipher_mode.specs.Calls.{blockCall, modeCall}
 use Rattle.luossavin.specs.declared.LuossavinAnswer.{LuossavinAnswer}
+use Rattle.luossavin.specs.declared.key.LuossavinKey.{LuossavinKey}
+use Rattle.luossavin.specs.Key.{cipherIn}
 
 -- what a host's answer reports
 abbrev pub headIn : LuossavinAnswer → Head
-headIn r = record { number = r .number; size = r .length; missing = r .missing }
+headIn r = record { number = r .number; size = r .length; missing = r .missing; key = r .key }
 
 -- the outcome of a host's answer with the output o
 abbrev pub reported : LuossavinAnswer → List ℕ → Outcome
@@ -26,11 +28,15 @@ modeOf (suc (suc zero)) = Ctr
 modeOf (suc (suc (suc zero))) = Cbc
 modeOf (suc (suc (suc (suc n)))) = Gcm
 
-unfoldable pub hostBlockCall : Direction → List ℕ → List ℕ → List ℕ → Outcome
-hostBlockCall dir key b o = blockCall dir (newCipher key) b o
+-- a host's record with the mode that it is used in
+abbrev pub modeIn : LuossavinKey → ℕ → Sm4CipherMode
+modeIn k mode = record { cipher = cipherIn k; mode = modeOf mode }
 
--- a mode number above 4 is BadMode, 7
-unfoldable pub hostModeCall : Direction → ℕ → List ℕ → List ℕ → List ℕ → List ℕ → List ℕ → Outcome
-hostModeCall dir mode key aad d iv o =
+unfoldable pub hostBlockCall : Direction → LuossavinKey → List ℕ → List ℕ → Outcome
+hostBlockCall dir k b o = blockCall dir (cipherIn k) b o
+
+-- a mode number above 4 is BadMode, 7, before the key is looked at
+unfoldable pub hostModeCall : Direction → ℕ → LuossavinKey → List ℕ → List ℕ → List ℕ → List ℕ → Outcome
+hostModeCall dir mode k aad d iv o =
     refuse (ltb 4 mode) 7 o
-    (modeCall dir (newCipherMode key (modeOf mode)) aad d iv o)
+    (modeCall dir (modeIn k mode) aad d iv o)

@@ -1,8 +1,10 @@
 -- The exported calls on messages in pieces: what each one leaves. A piece and an end are those of `pieces`; a start takes the
--- key's bytes.
+-- host's record of a key.
 use Prim.Native.Nat.{ℕ}
+use mathlib.Core.Bool.{Bool, true, false}
 use mathlib.Core.List.{List}
-use Rattle.cipher_mode.specs.Key.{newCipher}
+use Rattle.cipher_mode.specs.declared.Direction.{Direction}
+use Rattle.cipher_mode.specs.declared.Direction.the-variants.{Encrypt, Decrypt}
 use Rattle.pieces.specs.declared.ctr.Ctr.{Ctr}
 use Rattle.pieces.specs.declared.opens.Opens.{Opens}
 use Rattle.pieces.specs.declared.seal.Seal.{Seal}
@@ -10,6 +12,8 @@ use Rattle.pieces.specs.Calls.{Stepped, ctrStart, sealStart, opensStart}
 use Rattle.luossavin.specs.declared.in_pieces.LuossavinCtrStep.{LuossavinCtrStep}
 use Rattle.luossavin.specs.declared.in_pieces.LuossavinOpensStep.{LuossavinOpensStep}
 use Rattle.luossavin.specs.declared.in_pieces.LuossavinSealStep.{LuossavinSealStep}
+use Rattle.luossavin.specs.declared.key.LuossavinKey.{LuossavinKey}
+use Rattle.luossavin.specs.Key.{cipherIn}
 use Rattle.luossavin.specs.Host.{headIn}
 
 -- what a host's step and the output o are together
@@ -22,11 +26,15 @@ sealReported r o = record { head = headIn (r .answer); bytes = o; state = r .sta
 abbrev pub opensReported : LuossavinOpensStep → List ℕ → Stepped Opens
 opensReported r o = record { head = headIn (r .answer); bytes = o; state = r .state }
 
-unfoldable pub hostCtrStart : List ℕ → List ℕ → Stepped Ctr
-hostCtrStart key iv = ctrStart (newCipher key) iv
+abbrev pub directionOf : Bool → Direction
+directionOf true = Decrypt
+directionOf false = Encrypt
 
-unfoldable pub hostSealStart : List ℕ → List ℕ → List ℕ → Stepped Seal
-hostSealStart key label iv = sealStart (newCipher key) label iv
+unfoldable pub hostCtrStart : LuossavinKey → Bool → List ℕ → Stepped Ctr
+hostCtrStart k decrypt iv = ctrStart (directionOf decrypt) (cipherIn k) iv
 
-unfoldable pub hostOpensStart : List ℕ → List ℕ → List ℕ → Stepped Opens
-hostOpensStart key label iv = opensStart (newCipher key) label iv
+unfoldable pub hostSealStart : LuossavinKey → List ℕ → List ℕ → Stepped Seal
+hostSealStart k label iv = sealStart (cipherIn k) label iv
+
+unfoldable pub hostOpensStart : LuossavinKey → List ℕ → List ℕ → Stepped Opens
+hostOpensStart k label iv = opensStart (cipherIn k) label iv

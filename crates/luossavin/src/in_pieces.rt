@@ -1,14 +1,16 @@
-// Messages in pieces, for a host: the calls of the crate `pieces`, which a start takes the key's bytes for. A state goes in and
-// comes back by value, beside the answer, and each of its values has an answer.
+// Messages in pieces, for a host: the calls of the crate `pieces`, which a start takes the key's record for. A state goes in
+// and comes back by value, beside the answer, and each of its values has an answer.
 ghost use mathlib.Core.Path.{_≡_};
 ghost use mathlib.Core.List.{[]};
 ghost use Rattle.cipher_mode.specs.Answer.{headOf};
 ghost use Rattle.pieces.specs.Calls.{ctrPiece, ctrEnd, sealPiece, sealEnd, opensPiece, opensEnd};
 ghost use Rattle.luossavin.specs.Host.{headIn};
-ghost use Rattle.luossavin.specs.InPieces.{ctrReported, sealReported, opensReported, hostCtrStart, hostSealStart, hostOpensStart};
+ghost use Rattle.luossavin.specs.InPieces.{ctrReported, sealReported, opensReported, directionOf, hostCtrStart, hostSealStart, hostOpensStart};
 use crate::LuossavinAnswer;
+use crate::key::LuossavinKey;
+use crate::key::cipher_of;
 use crate::report;
-use cipher_mode::Sm4Cipher;
+use cipher_mode::Direction;
 use pieces::ctr;
 use pieces::ctr::Ctr;
 use pieces::ctr::CtrStep;
@@ -70,11 +72,24 @@ fn opens_step(step: OpensStep) -> LuossavinOpensStep
     }
 }
 
-#[no_mangle]
-pub extern "C" fn luossavin_ctr_start(key: &[u8], iv: &[u8]) -> LuossavinCtrStep
-    ensures { λ r. ⌜ ctrReported r [] ≡ hostCtrStart (now (key .entry)) (now (iv .entry)) ⌝ }
+fn direction_of(decrypt: bool) -> Direction
+    ensures { λ r. ⌜ r ≡ directionOf decrypt ⌝ }
 {
-    ctr_step(ctr::start(Sm4Cipher::new(key), iv))
+    if decrypt {
+        return Direction::Decrypt;
+    }
+    Direction::Encrypt
+}
+
+#[no_mangle]
+pub extern "C" fn luossavin_ctr_start(
+    key: LuossavinKey,
+    decrypt: bool,
+    iv: &[u8],
+) -> LuossavinCtrStep
+    ensures { λ r. ⌜ ctrReported r [] ≡ hostCtrStart key decrypt (now (iv .entry)) ⌝ }
+{
+    ctr_step(ctr::start(direction_of(decrypt), cipher_of(key), iv))
 }
 
 #[no_mangle]
@@ -92,10 +107,14 @@ pub extern "C" fn luossavin_ctr_end(state: Ctr) -> LuossavinCtrStep
 }
 
 #[no_mangle]
-pub extern "C" fn luossavin_seal_start(key: &[u8], aad: &[u8], iv: &[u8]) -> LuossavinSealStep
-    ensures { λ r. ⌜ sealReported r [] ≡ hostSealStart (now (key .entry)) (now (aad .entry)) (now (iv .entry)) ⌝ }
+pub extern "C" fn luossavin_seal_start(
+    key: LuossavinKey,
+    aad: &[u8],
+    iv: &[u8],
+) -> LuossavinSealStep
+    ensures { λ r. ⌜ sealReported r [] ≡ hostSealStart key (now (aad .entry)) (now (iv .entry)) ⌝ }
 {
-    seal_step(seal::start(Sm4Cipher::new(key), aad, iv))
+    seal_step(seal::start(cipher_of(key), aad, iv))
 }
 
 #[no_mangle]
@@ -117,10 +136,14 @@ pub extern "C" fn luossavin_seal_end(state: Seal, out: &mut [u8]) -> LuossavinSe
 }
 
 #[no_mangle]
-pub extern "C" fn luossavin_opens_start(key: &[u8], aad: &[u8], iv: &[u8]) -> LuossavinOpensStep
-    ensures { λ r. ⌜ opensReported r [] ≡ hostOpensStart (now (key .entry)) (now (aad .entry)) (now (iv .entry)) ⌝ }
+pub extern "C" fn luossavin_opens_start(
+    key: LuossavinKey,
+    aad: &[u8],
+    iv: &[u8],
+) -> LuossavinOpensStep
+    ensures { λ r. ⌜ opensReported r [] ≡ hostOpensStart key (now (aad .entry)) (now (iv .entry)) ⌝ }
 {
-    opens_step(opens::start(Sm4Cipher::new(key), aad, iv))
+    opens_step(opens::start(cipher_of(key), aad, iv))
 }
 
 #[no_mangle]

@@ -1,24 +1,28 @@
 // The host boundary: what a host in C or Rust links, declared in `include/luossavin.h`. Every call ends with an answer, and
 // none has a `requires`: a host that breaks one could not be told.
 mod in_pieces;
+mod key;
 
 ghost use mathlib.Core.Path.{_≡_};
 ghost use Rattle.walk.specs.Outcome.{refusal as refused};
 ghost use Rattle.cipher_mode.specs.Answer.{headOf};
-ghost use Rattle.luossavin.specs.Host.{headIn, reported, modeOf, hostBlockCall, hostModeCall};
+ghost use Rattle.luossavin.specs.Host.{headIn, reported, modeOf, modeIn, hostBlockCall, hostModeCall};
 use cipher_mode::CipherMode;
 use cipher_mode::Direction;
-use cipher_mode::Sm4Cipher;
 use cipher_mode::Sm4CipherMode;
 use cipher_mode::answer;
 use cipher_mode::answer::Answer;
 use cipher_mode::answer::Ending;
+use key::LuossavinKey;
+use key::cipher_of;
 
-// Document 01's number, how many bytes were missing where that is refusal 9, and how many bytes of the output are the result.
+// The papers' number, how many bytes were missing where that is refusal 9, the number of the key that stands, and how many
+// bytes of the output are the result.
 #[repr(C)]
 pub struct LuossavinAnswer {
     pub number: u32,
     pub missing: u8,
+    pub key: u16,
     pub length: usize,
 }
 
@@ -31,6 +35,7 @@ fn refusal(number: u32) -> LuossavinAnswer
     LuossavinAnswer {
         number,
         missing: 0,
+        key: 0,
         length: 0,
     }
 }
@@ -39,15 +44,18 @@ pub(crate) fn report(answer: Answer) -> LuossavinAnswer
     ensures { λ r. ⌜ headIn r ≡ headOf answer ⌝ }
 {
     let ending = answer.ending;
+    let key = answer.key;
     match ending {
         Ending::Done(n) => LuossavinAnswer {
             number: 0,
             missing: 0,
+            key,
             length: n,
         },
         Ending::Refused(reason) => LuossavinAnswer {
             number: answer::number(reason),
             missing: answer::missing(reason),
+            key,
             length: 0,
         },
     }
@@ -66,47 +74,62 @@ fn mode_of(mode: u32) -> CipherMode
     }
 }
 
-fn block_call(direction: Direction, key: &[u8], block: &[u8], out: &mut [u8]) -> LuossavinAnswer
-    ensures { λ r. ⌜ reported r (now (out .exit)) ≡ hostBlockCall direction (now (key .entry)) (now (block .entry)) (now (out .entry)) ⌝ }
+// The record with the mode that it is used in.
+fn mode_in(key: LuossavinKey, mode: u32) -> Sm4CipherMode
+    ensures { λ r. ⌜ r ≡ modeIn key mode ⌝ }
 {
-    report(Sm4Cipher::new(key).call(direction, block, out))
+    Sm4CipherMode {
+        cipher: cipher_of(key),
+        mode: mode_of(mode),
+    }
+}
+
+fn block_call(
+    direction: Direction,
+    key: LuossavinKey,
+    block: &[u8],
+    out: &mut [u8],
+) -> LuossavinAnswer
+    ensures { λ r. ⌜ reported r (now (out .exit)) ≡ hostBlockCall direction key (now (block .entry)) (now (out .entry)) ⌝ }
+{
+    report(cipher_of(key).call(direction, block, out))
 }
 
 fn mode_call(
     direction: Direction,
     mode: u32,
-    key: &[u8],
+    key: LuossavinKey,
     aad: &[u8],
     data: &[u8],
     iv: &[u8],
     out: &mut [u8],
 ) -> LuossavinAnswer
-    ensures { λ r. ⌜ reported r (now (out .exit)) ≡ hostModeCall direction mode (now (key .entry)) (now (aad .entry)) (now («data» .entry)) (now (iv .entry)) (now (out .entry)) ⌝ }
+    ensures { λ r. ⌜ reported r (now (out .exit)) ≡ hostModeCall direction mode key (now (aad .entry)) (now («data» .entry)) (now (iv .entry)) (now (out .entry)) ⌝ }
 {
     match mode {
-        0..=4 => report(Sm4CipherMode::new(key, mode_of(mode)).call(direction, aad, data, iv, out)),
+        0..=4 => report(mode_in(key, mode).call(direction, aad, data, iv, out)),
         _ => refusal(BAD_MODE),
     }
 }
 
 #[no_mangle]
 pub extern "C" fn luossavin_block_encrypt(
-    key: &[u8],
+    key: LuossavinKey,
     block: &[u8],
     out: &mut [u8],
 ) -> LuossavinAnswer
-    ensures { λ r. ⌜ reported r (now (out .exit)) ≡ hostBlockCall Direction.Encrypt (now (key .entry)) (now (block .entry)) (now (out .entry)) ⌝ }
+    ensures { λ r. ⌜ reported r (now (out .exit)) ≡ hostBlockCall Direction.Encrypt key (now (block .entry)) (now (out .entry)) ⌝ }
 {
     block_call(Direction::Encrypt, key, block, out)
 }
 
 #[no_mangle]
 pub extern "C" fn luossavin_block_decrypt(
-    key: &[u8],
+    key: LuossavinKey,
     block: &[u8],
     out: &mut [u8],
 ) -> LuossavinAnswer
-    ensures { λ r. ⌜ reported r (now (out .exit)) ≡ hostBlockCall Direction.Decrypt (now (key .entry)) (now (block .entry)) (now (out .entry)) ⌝ }
+    ensures { λ r. ⌜ reported r (now (out .exit)) ≡ hostBlockCall Direction.Decrypt key (now (block .entry)) (now (out .entry)) ⌝ }
 {
     block_call(Direction::Decrypt, key, block, out)
 }
@@ -114,13 +137,13 @@ pub extern "C" fn luossavin_block_decrypt(
 #[no_mangle]
 pub extern "C" fn luossavin_encrypt(
     mode: u32,
-    key: &[u8],
+    key: LuossavinKey,
     aad: &[u8],
     data: &[u8],
     iv: &[u8],
     out: &mut [u8],
 ) -> LuossavinAnswer
-    ensures { λ r. ⌜ reported r (now (out .exit)) ≡ hostModeCall Direction.Encrypt mode (now (key .entry)) (now (aad .entry)) (now («data» .entry)) (now (iv .entry)) (now (out .entry)) ⌝ }
+    ensures { λ r. ⌜ reported r (now (out .exit)) ≡ hostModeCall Direction.Encrypt mode key (now (aad .entry)) (now («data» .entry)) (now (iv .entry)) (now (out .entry)) ⌝ }
 {
     mode_call(Direction::Encrypt, mode, key, aad, data, iv, out)
 }
@@ -128,13 +151,13 @@ pub extern "C" fn luossavin_encrypt(
 #[no_mangle]
 pub extern "C" fn luossavin_decrypt(
     mode: u32,
-    key: &[u8],
+    key: LuossavinKey,
     aad: &[u8],
     data: &[u8],
     iv: &[u8],
     out: &mut [u8],
 ) -> LuossavinAnswer
-    ensures { λ r. ⌜ reported r (now (out .exit)) ≡ hostModeCall Direction.Decrypt mode (now (key .entry)) (now (aad .entry)) (now («data» .entry)) (now (iv .entry)) (now (out .entry)) ⌝ }
+    ensures { λ r. ⌜ reported r (now (out .exit)) ≡ hostModeCall Direction.Decrypt mode key (now (aad .entry)) (now («data» .entry)) (now (iv .entry)) (now (out .entry)) ⌝ }
 {
     mode_call(Direction::Decrypt, mode, key, aad, data, iv, out)
 }

@@ -7,14 +7,16 @@ use native.Mathlib.Nat.{add-zero}
 use native.Mathlib.Omega.{arith}
 use lib.ListN.{length, drop, length-append}
 use lib.Seq.{drop-at}
-use Rattle.walk.specs.Outcome.{finished}
+use Rattle.walk.specs.Outcome.{finished, under}
 use Rattle.walk.specs.Walk.{chain, over}
 use Rattle.stream.specs.Stream.{streamMode}
 use Rattle.stream.specs.declared.Kind.the-variants.{Ctr as Ctr·kind}
 use Rattle.stream.proofs.RoundTrip.{length-stream}
 use Rattle.cipher_mode.specs.declared.CipherMode.the-variants.{Ctr as Ctr·mode}
+use Rattle.cipher_mode.specs.declared.Direction.{Direction}
 use Rattle.cipher_mode.specs.declared.Sm4Cipher.{Sm4Cipher}
 use Rattle.cipher_mode.specs.declared.checks.Checked.the-variants.{Passed}
+use Rattle.cipher_mode.specs.Key.{keyNumber}
 use Rattle.cipher_mode.specs.Checks.{keyAndIv}
 use Rattle.cipher_mode.specs.Tables.{limit}
 use Rattle.pieces.specs.declared.flow.Counting.the-variants.{Ctr as Ctr·counting}
@@ -27,28 +29,29 @@ use Rattle.pieces.proofs.Passing.{running-passes, writing-passes}
 use Rattle.pieces.proofs.Stepping.{step, same-step, went-on, begun-there}
 
 -- a start that passes stands before the first byte
-pub ctr-started : (c : Sm4Cipher) (iv : List ℕ) → keyAndIv (c .answer) Ctr·mode (length iv) ≡ Passed
-    → ctrStart c iv ≡ step Ctr (finished 0) [] (ctrAfter (c .rk) iv [])
+pub ctr-started : (dir : Direction) (c : Sm4Cipher) (iv : List ℕ) → keyAndIv (c .answer) (c .retired) dir Ctr·mode (length iv) ≡ Passed
+    → ctrStart dir c iv ≡ step Ctr (under (keyNumber c) (finished 0)) [] (ctrAfter (keyNumber c) (c .rk) iv [])
 unfolding ctrStart
-ctr-started c iv e = sym (begun-there Ctr _ ctrShut _ _ _ e refl refl)
+ctr-started dir c iv e = sym (begun-there Ctr _ ctrShut (λ (k : ℕ). ctrAfter k (c .rk) iv []) _ _ refl _ _ e refl refl)
 
-module _ (rk iv d : List ℕ) where
+module _ (k : ℕ) (rk iv d : List ℕ) where
   -- what the single call gives of d and then e, from e's first byte on
   abbrev pub ctrStretch : List ℕ → List ℕ
   ctrStretch e = drop (length d) (chain (streamMode Ctr·kind rk) iv (d ++ e))
 
   -- a piece e behind d gives its stretch of the single call on both, and the state after both
   pub ctr-goes-on : (e o : List ℕ) → length d + length e ≤ limit → length e ≤ length o
-      → ctrPiece (ctrAfter rk iv d) e o ≡ step Ctr (finished (length e)) (over (ctrStretch e) o) (ctrAfter rk iv (d ++ e))
+      → ctrPiece (ctrAfter k rk iv d) e o
+      ≡ step Ctr (under k (finished (length e))) (over (ctrStretch e) o) (ctrAfter k rk iv (d ++ e))
   unfolding ctrPiece ctrAfter
   ctr-goes-on e o within room =
       let m = streamMode Ctr·kind rk in
       let text = text-on Ctr·counting rk iv d e in
       let written = sym (ap (drop (length d)) text ∙ drop-at (chain m iv d) _ (length d) (length-stream Ctr·kind rk iv d)) in
       sym
-      (went-on Ctr _ o _ _ _ (writing-passes 0 (length d) (omega arith) (length e) (length e) (length o) within room)
+      (went-on Ctr _ _ o _ _ _ (writing-passes 0 (length d) (omega arith) (length e) (length e) (length o) within room)
       (same-step Ctr _ _ _ _ _ _ refl (ap (λ (l : List ℕ). over l o) (sym written))
-      (ap₂ {C = Ctr} (λ (f : Flow) (n : ℕ). record { rk = rk; flow = f; total = n; stands = 0 }) (sym (flow-on Ctr·counting rk iv d e))
+      (ap₂ {C = Ctr} (λ (f : Flow) (n : ℕ). record { rk = rk; flow = f; total = n; stands = 0; key = k }) (sym (flow-on Ctr·counting rk iv d e))
       (length-append d e))))
 
   -- and what d gave stands before it
@@ -60,6 +63,6 @@ module _ (rk iv d : List ℕ) where
       ∙ sym text
 
   -- the end is done, and then every call is refused by 12
-  pub ctr-ended : length d ≤ limit → ctrEnd (ctrAfter rk iv d) ≡ step Ctr (finished 0) [] (ctrShut ended)
+  pub ctr-ended : length d ≤ limit → ctrEnd (ctrAfter k rk iv d) ≡ step Ctr (under k (finished 0)) [] (ctrShut k ended)
   unfolding ctrEnd ctrAfter
-  ctr-ended within = sym (went-on Ctr _ [] _ _ _ (running-passes 0 (length d) (omega arith) 0 (rw add-zero within)) refl)
+  ctr-ended within = sym (went-on Ctr _ _ [] _ _ _ (running-passes 0 (length d) (omega arith) 0 (rw add-zero within)) refl)

@@ -8,7 +8,8 @@ use lib.Dec.{eqb, ltb}
 use borrow.Author.Tests.{ltb-false, le-ltb, eqb-true, eq-eqb}
 use Rattle.cipher_mode.specs.declared.KeyAnswer.{KeyAnswer}
 use Rattle.cipher_mode.specs.declared.CipherMode.the-variants.{Gcm}
-use Rattle.cipher_mode.specs.declared.answer.Refusal.the-variants.{ErrorBlockSize, TooLong, WrongIv, Ended}
+use Rattle.cipher_mode.specs.declared.Direction.{Direction}
+use Rattle.cipher_mode.specs.declared.answer.Refusal.the-variants.{ErrorBlockSize, TooLong, WrongIv, Ended, WrongNumber, Retired}
 use Rattle.cipher_mode.specs.declared.checks.Checked.the-variants.{Passed, Refused}
 use Rattle.cipher_mode.specs.Checks.{refuse, keyAndIv, wrongIv}
 use Rattle.cipher_mode.specs.Tables.{limit}
@@ -26,18 +27,22 @@ pub record GcmStarts (iv label : ℕ) : Type 0 where
   pub taken : wrongIv Gcm iv ≡ false
   pub labelled : label ≤ limit
 
-pub starting-passed : (a : KeyAnswer) (iv label : ℕ) → gcmStarting a iv label ≡ Passed → GcmStarts iv label
+pub starting-passed : (a : KeyAnswer) (retired : Bool) (dir : Direction) (iv label : ℕ)
+    → gcmStarting a retired dir iv label ≡ Passed → GcmStarts iv label
 unfolding gcmStarting
-starting-passed a iv label e =
-    let from-key = both (keyAndIv a Gcm iv) _ e in
-    record { taken = key-and-iv-passed a Gcm iv (from-key .0) .1; labelled = label-passed label (from-key .1) }
+starting-passed a retired dir iv label e =
+    let from-key = both (keyAndIv a retired dir Gcm iv) _ e in
+    record { taken = key-and-iv-passed a retired dir Gcm iv (from-key .0) .iv-size; labelled = label-passed label (from-key .1) }
 
 -- every mark but 0 is refused
-not-refused : (t a b d : Bool)
-    → cond t Passed (refuse a ErrorBlockSize (refuse b TooLong (refuse d WrongIv (Refused Ended)))) ≡ Passed → t ≡ true
-not-refused true a b d e = refl
-not-refused false a b d e =
-    let last = let-through d _ _ (let-through b _ _ (let-through a _ _ e .rest) .rest) .rest in
+not-refused : (t a b d f g : Bool)
+    → cond t Passed
+    (refuse a ErrorBlockSize (refuse b TooLong (refuse d WrongIv (refuse f WrongNumber (refuse g Retired (Refused Ended))))))
+    ≡ Passed → t ≡ true
+not-refused true a b d f g e = refl
+not-refused false a b d f g e =
+    let third = let-through d _ _ (let-through b _ _ (let-through a _ _ e .rest) .rest) .rest in
+    let last = let-through g _ _ (let-through f _ _ third .rest) .rest in
     let z : _≡_ {A = ℕ} 0 1 = cc in absurd (omega arith)
 
 module _ (mark label total : ℕ) where
@@ -47,7 +52,9 @@ module _ (mark label total : ℕ) where
       let from-mark = both (standing mark) _ e in
       let from-label = let-through (ltb limit label) _ _ (from-mark .1) in
       record {
-        stands = eqb-true mark 0 (not-refused (eqb mark 0) (eqb mark 1) (eqb mark 5) (eqb mark 10) (from-mark .0));
+        stands =
+            eqb-true mark 0
+            (not-refused (eqb mark 0) (eqb mark 1) (eqb mark 5) (eqb mark 10) (eqb mark 13) (eqb mark 14) (from-mark .0));
         labelled = ltb-false limit label (from-label .fails);
         within = ltb-false limit (total + n) (let-through (ltb limit (total + n)) _ _ (from-label .rest) .fails);
       }

@@ -9,13 +9,15 @@ use lib.Seq.{drop-at}
 use Rattle.block.specs.Xor.{xors}
 use Rattle.cipher.specs.Sm4.{encryptBlock}
 use Rattle.counter.specs.Counter.{gcmNext}
-use Rattle.walk.specs.Outcome.{finished}
+use Rattle.walk.specs.Outcome.{finished, under}
 use Rattle.walk.specs.Walk.{over}
 use Rattle.gcm.specs.Gcm.{hashKey, J0, textOf, tagOf}
 use Rattle.gcm.proofs.HashKey.{hashKey-lt}
 use Rattle.gcm.proofs.Parts.{length-text}
+use Rattle.cipher_mode.specs.declared.Direction.the-variants.{Encrypt}
 use Rattle.cipher_mode.specs.declared.Sm4Cipher.{Sm4Cipher}
 use Rattle.cipher_mode.specs.declared.checks.Checked.the-variants.{Passed}
+use Rattle.cipher_mode.specs.Key.{keyNumber}
 use Rattle.cipher_mode.specs.Tables.{limit}
 use Rattle.pieces.specs.declared.flow.Counting.the-variants.{Gcm as Gcm·counting}
 use Rattle.pieces.specs.declared.seal.Seal.{Seal}
@@ -31,10 +33,10 @@ use Rattle.pieces.proofs.Sealing.{same-seal}
 use Rattle.pieces.proofs.Stepping.{step, same-step, went-on, begun-there}
 
 -- a start that passes stands before the first byte
-pub seal-started : (c : Sm4Cipher) (label iv : List ℕ) → gcmStarting (c .answer) (length iv) (length label) ≡ Passed
-    → sealStart c label iv ≡ step Seal (finished 0) [] (sealAfter (c .rk) label iv [])
+pub seal-started : (c : Sm4Cipher) (label iv : List ℕ) → gcmStarting (c .answer) (c .retired) Encrypt (length iv) (length label) ≡ Passed
+    → sealStart c label iv ≡ step Seal (under (keyNumber c) (finished 0)) [] (sealAfter (keyNumber c) (c .rk) label iv [])
 unfolding sealStart
-seal-started c label iv e = sym (begun-there Seal _ sealShut _ _ _ e refl refl)
+seal-started c label iv e = sym (begun-there Seal _ sealShut (λ (k : ℕ). sealAfter k (c .rk) label iv []) _ _ refl _ _ e refl refl)
 
 -- what a piece e gives behind d is its stretch of the single call's ciphertext
 module _ (rk j d e : List ℕ) where
@@ -52,11 +54,11 @@ module _ (rk j d e : List ℕ) where
   pub seal-joined : textOf rk j d ++ drop (length d) (textOf rk j (d ++ e)) ≡ textOf rk j (d ++ e)
   seal-joined = ap (λ (l : List ℕ). textOf rk j d ++ l) stretch ∙ sym text-goes-on
 
-module _ (rk label iv d : List ℕ) (labelled : length label ≤ limit) where
+module _ (k : ℕ) (rk label iv d : List ℕ) (labelled : length label ≤ limit) where
   -- a piece e behind d gives its stretch of the single call's ciphertext, and the state after both
   pub seal-goes-on : (e o : List ℕ) → length d + length e ≤ limit → length e ≤ length o
-      → sealPiece (sealAfter rk label iv d) e o
-      ≡ step Seal (finished (length e)) (over (drop (length d) (textOf rk (J0 rk iv) (d ++ e))) o) (sealAfter rk label iv (d ++ e))
+      → sealPiece (sealAfter k rk label iv d) e o
+      ≡ step Seal (under k (finished (length e))) (over (drop (length d) (textOf rk (J0 rk iv) (d ++ e))) o) (sealAfter k rk label iv (d ++ e))
   unfolding sealPiece sealAfter
   seal-goes-on e o within room =
       let j = J0 rk iv in
@@ -67,7 +69,7 @@ module _ (rk label iv d : List ℕ) (labelled : length label ≤ limit) where
       ∙ hash-on-of h label text (here rk j d e)
       ∙ ap (hashOf h label) (sym (text-goes-on rk j d e)) in
       sym
-      (went-on Seal _ o _ _ _ (writing-passes (length label) (length d) labelled (length e) (length e) (length o) within room)
+      (went-on Seal _ _ o _ _ _ (writing-passes (length label) (length d) labelled (length e) (length e) (length o) within room)
       (same-step Seal _ _ _ _ _ _ refl (ap (λ (l : List ℕ). over l o) (stretch rk j d e))
       (ap {B = Seal} (λ (n : ℕ). record {
         rk = rk;
@@ -77,13 +79,14 @@ module _ (rk label iv d : List ℕ) (labelled : length label ≤ limit) where
         label = length label;
         total = n;
         stands = 0;
+        key = k;
       }) (length-append d e)
-      ∙ same-seal rk _ _ _ _ _ _ (length label) (length d + length e) (sym (flow-on Gcm·counting rk (gcmNext j) d e)) (sym hashed) refl)))
+      ∙ same-seal rk _ _ _ _ _ _ (length label) (length d + length e) k (sym (flow-on Gcm·counting rk (gcmNext j) d e)) (sym hashed) refl)))
 
   -- the end gives the single call's tag, and then every call is refused by 12
   pub seal-ended : (o : List ℕ) → length d ≤ limit → 16 ≤ length o
-      → sealEnd (sealAfter rk label iv d) o
-      ≡ step Seal (finished 16) (over (tagOf rk (hashKey rk) (J0 rk iv) label (textOf rk (J0 rk iv) d)) o) (sealShut ended)
+      → sealEnd (sealAfter k rk label iv d) o
+      ≡ step Seal (under k (finished 16)) (over (tagOf rk (hashKey rk) (J0 rk iv) label (textOf rk (J0 rk iv) d)) o) (sealShut k ended)
   unfolding sealEnd sealAfter tagOf
   seal-ended o within room =
       let j = J0 rk iv in
@@ -93,5 +96,5 @@ module _ (rk label iv d : List ℕ) (labelled : length label ≤ limit) where
       ap (λ (n : ℕ). hashEnd (hashOf h label text) (n % 16) (length label) n) (sym (length-text rk j d))
       ∙ hash-ends-of h label text (hashKey-lt rk) in
       sym
-      (went-on Seal _ o _ _ _ (writing-passes (length label) (length d) labelled 0 16 (length o) (rw add-zero within) room)
+      (went-on Seal _ _ o _ _ _ (writing-passes (length label) (length d) labelled 0 16 (length o) (rw add-zero within) room)
       (same-step Seal _ _ _ _ _ _ refl (ap (λ (l : List ℕ). over (xors (encryptBlock rk j) l) o) (sym tag)) refl))

@@ -5,14 +5,17 @@ use mathlib.Core.List.{List, []}
 use lib.ListN.{length}
 use Rattle.block.specs.Same.{same}
 use Rattle.block.specs.Xor.{xors}
-use Rattle.walk.specs.Outcome.{Head, finished, refusal}
+use Rattle.walk.specs.Outcome.{Head, finished, refusal, under}
 use Rattle.walk.specs.Walk.{over}
 use Rattle.cipher_mode.specs.declared.CipherMode.the-variants.{Ctr as Ctr·mode}
+use Rattle.cipher_mode.specs.declared.Direction.{Direction}
+use Rattle.cipher_mode.specs.declared.Direction.the-variants.{Encrypt, Decrypt}
 use Rattle.cipher_mode.specs.declared.Sm4Cipher.{Sm4Cipher}
 use Rattle.cipher_mode.specs.declared.checks.Checked.{Checked}
 use Rattle.cipher_mode.specs.declared.checks.Checked.the-variants.{Passed, Refused}
 use Rattle.cipher_mode.specs.declared.answer.Refusal.the-variants.{Ended}
 use Rattle.cipher_mode.specs.Answer.{refusalHead, headOf}
+use Rattle.cipher_mode.specs.Key.{keyNumber}
 use Rattle.cipher_mode.specs.Checks.{keyAndIv}
 use Rattle.pieces.specs.declared.flow.Counting.the-variants.{Ctr as Ctr·counting, Gcm as Gcm·counting}
 use Rattle.pieces.specs.declared.ctr.Ctr.{Ctr}
@@ -43,6 +46,10 @@ sealStepped r o = record { head = headOf (r .answer); bytes = o; state = r .stat
 abbrev pub opensStepped : OpensStep → List ℕ → Stepped Opens
 opensStepped r o = record { head = headOf (r .answer); bytes = o; state = r .state }
 
+-- the same step, on the key of number k
+abbrev pub stepOn : (S : Type 0) → ℕ → Stepped S → Stepped S
+stepOn S k x = record { head = under k (x .head); bytes = x .bytes; state = x .state }
+
 -- the number that a state stands at after its end
 abbrev pub ended : ℕ
 ended = refusalHead Ended .number
@@ -57,13 +64,18 @@ abbrev pub goesOn : (S : Type 0) → Checked → List ℕ → S → Stepped S �
 goesOn S Passed o s next = next
 goesOn S (Refused r) o s next = record { head = refusalHead r; bytes = o; state = s }
 
-unfoldable pub ctrStart : Sm4Cipher → List ℕ → Stepped Ctr
-ctrStart c iv = begun Ctr (keyAndIv (c .answer) Ctr·mode (length iv)) ctrShut (ctrAfter (c .rk) iv [])
+-- encryption and decryption differ in what a retired key may start
+unfoldable pub ctrStart : Direction → Sm4Cipher → List ℕ → Stepped Ctr
+ctrStart dir c iv =
+    let k = keyNumber c in
+    stepOn Ctr k
+    (begun Ctr (keyAndIv (c .answer) (c .retired) dir Ctr·mode (length iv)) (ctrShut k) (ctrAfter k (c .rk) iv []))
 
 -- the piece e, into the output o
 unfoldable pub ctrPiece : Ctr → List ℕ → List ℕ → Stepped Ctr
 ctrPiece s e o =
-    goesOn Ctr (writing (s .stands) 0 (s .total) (length e) (length e) (length o)) o s
+    stepOn Ctr (s .key)
+    (goesOn Ctr (writing (s .stands) 0 (s .total) (length e) (length e) (length o)) o s
     (record {
       head = finished (length e);
       bytes = over (flowText Ctr·counting (s .rk) (s .flow) (s .total % 16) e) o;
@@ -72,21 +84,29 @@ ctrPiece s e o =
         flow = flowNext Ctr·counting (s .rk) (s .flow) (s .total % 16) e;
         total = s .total + length e;
         stands = 0;
+        key = s .key;
       };
-    })
+    }))
 
 unfoldable pub ctrEnd : Ctr → Stepped Ctr
-ctrEnd s = goesOn Ctr (running (s .stands) 0 (s .total) 0) [] s (record { head = finished 0; bytes = []; state = ctrShut ended })
+ctrEnd s =
+    stepOn Ctr (s .key)
+    (goesOn Ctr (running (s .stands) 0 (s .total) 0) [] s
+    (record { head = finished 0; bytes = []; state = ctrShut (s .key) ended }))
 
 unfoldable pub sealStart : Sm4Cipher → List ℕ → List ℕ → Stepped Seal
-sealStart c label iv = begun Seal (gcmStarting (c .answer) (length iv) (length label)) sealShut (sealAfter (c .rk) label iv [])
+sealStart c label iv =
+    let k = keyNumber c in
+    stepOn Seal k
+    (begun Seal (gcmStarting (c .answer) (c .retired) Encrypt (length iv) (length label)) (sealShut k) (sealAfter k (c .rk) label iv []))
 
 -- the piece e, into the output o: what is written is hashed
 unfoldable pub sealPiece : Seal → List ℕ → List ℕ → Stepped Seal
 sealPiece s e o =
     let p = s .total % 16 in
     let text = flowText Gcm·counting (s .rk) (s .flow) p e in
-    goesOn Seal (writing (s .stands) (s .label) (s .total) (length e) (length e) (length o)) o s
+    stepOn Seal (s .key)
+    (goesOn Seal (writing (s .stands) (s .label) (s .total) (length e) (length e) (length o)) o s
     (record {
       head = finished (length e);
       bytes = over text o;
@@ -98,26 +118,32 @@ sealPiece s e o =
         label = s .label;
         total = s .total + length e;
         stands = 0;
+        key = s .key;
       };
-    })
+    }))
 
 -- the tag, at the front of the output o
 unfoldable pub sealEnd : Seal → List ℕ → Stepped Seal
 sealEnd s o =
-    goesOn Seal (writing (s .stands) (s .label) (s .total) 0 16 (length o)) o s
+    stepOn Seal (s .key)
+    (goesOn Seal (writing (s .stands) (s .label) (s .total) 0 16 (length o)) o s
     (record {
       head = finished 16;
       bytes = over (xors (s .mask) (hashEnd (s .hashing) (s .total % 16) (s .label) (s .total))) o;
-      state = sealShut ended;
-    })
+      state = sealShut (s .key) ended;
+    }))
 
 unfoldable pub opensStart : Sm4Cipher → List ℕ → List ℕ → Stepped Opens
-opensStart c label iv = begun Opens (gcmStarting (c .answer) (length iv) (length label)) opensShut (opensAfter (c .rk) label iv [])
+opensStart c label iv =
+    let k = keyNumber c in
+    stepOn Opens k
+    (begun Opens (gcmStarting (c .answer) (c .retired) Decrypt (length iv) (length label)) (opensShut k) (opensAfter k (c .rk) label iv []))
 
 -- the piece e of the ciphertext, of which nothing is written
 unfoldable pub opensPiece : Opens → List ℕ → Stepped Opens
 opensPiece s e =
-    goesOn Opens (running (s .stands) (s .label) (s .total) (length e)) [] s
+    stepOn Opens (s .key)
+    (goesOn Opens (running (s .stands) (s .label) (s .total) (length e)) [] s
     (record {
       head = finished 0;
       bytes = [];
@@ -127,18 +153,20 @@ opensPiece s e =
         label = s .label;
         total = s .total + length e;
         stands = 0;
+        key = s .key;
       };
-    })
+    }))
 
 -- yes or no, by all sixteen bytes of the tag
 unfoldable pub opensEnd : Opens → List ℕ → Stepped Opens
 opensEnd s tag =
-    goesOn Opens (tagged (s .stands) (s .label) (s .total) (length tag)) [] s
+    stepOn Opens (s .key)
+    (goesOn Opens (tagged (s .stands) (s .label) (s .total) (length tag)) [] s
     (record {
       head =
           cond (same tag (xors (s .mask) (hashEnd (s .hashing) (s .total % 16) (s .label) (s .total))))
           (finished 0)
           (refusal 4);
       bytes = [];
-      state = opensShut ended;
-    })
+      state = opensShut (s .key) ended;
+    }))

@@ -1,4 +1,4 @@
--- The three states: after a text, and shut.
+-- The three states: after a text, and shut. Each carries the number k of its key.
 use Prim.Native.Nat.{ℕ}
 use mathlib.Core.List.{List}
 use lib.ListN.{length, replicate}
@@ -15,12 +15,12 @@ use Rattle.pieces.specs.Flow.{flowAfter}
 use Rattle.pieces.specs.Hashing.{hashOf}
 
 -- Ctr under the round keys rk and the IV iv, after the text d
-unfoldable pub ctrAfter : List ℕ → List ℕ → List ℕ → Ctr
-ctrAfter rk iv d = record { rk = rk; flow = flowAfter Ctr·counting rk iv d; total = length d; stands = 0 }
+unfoldable pub ctrAfter : ℕ → List ℕ → List ℕ → List ℕ → Ctr
+ctrAfter k rk iv d = record { rk = rk; flow = flowAfter Ctr·counting rk iv d; total = length d; stands = 0; key = k }
 
 -- Gcm sealing under a label: counters from one after J0 on, the hash of what was written, and the cipher of J0 for the tag
-unfoldable pub sealAfter : List ℕ → List ℕ → List ℕ → List ℕ → Seal
-sealAfter rk label iv d = record {
+unfoldable pub sealAfter : ℕ → List ℕ → List ℕ → List ℕ → List ℕ → Seal
+sealAfter k rk label iv d = record {
   rk = rk;
   flow = flowAfter Gcm·counting rk (gcmNext (J0 rk iv)) d;
   hashing = hashOf (hashKey rk) label (textOf rk (J0 rk iv) d);
@@ -28,16 +28,18 @@ sealAfter rk label iv d = record {
   label = length label;
   total = length d;
   stands = 0;
+  key = k;
 }
 
 -- Gcm opening under a label, after the ciphertext c
-unfoldable pub opensAfter : List ℕ → List ℕ → List ℕ → List ℕ → Opens
-opensAfter rk label iv c = record {
+unfoldable pub opensAfter : ℕ → List ℕ → List ℕ → List ℕ → List ℕ → Opens
+opensAfter k rk label iv c = record {
   hashing = hashOf (hashKey rk) label c;
   mask = encryptBlock rk (J0 rk iv);
   label = length label;
   total = length c;
   stands = 0;
+  key = k;
 }
 
 -- a flow and a hash of nothing but zeros
@@ -47,12 +49,12 @@ noFlow = record { counter = replicate 16 0; pad = replicate 16 0 }
 abbrev pub noHashing : Hashing
 noHashing = record { h = replicate 16 0; y = replicate 16 0; held = replicate 16 0 }
 
--- no message, with the number of the refusal that every call answers; nothing of a key is in it
-unfoldable pub ctrShut : ℕ → Ctr
-ctrShut n = record { rk = replicate 32 0; flow = noFlow; total = 0; stands = n }
+-- no message, with the number of the refusal that every call answers; nothing of a key is in it but its number
+unfoldable pub ctrShut : ℕ → ℕ → Ctr
+ctrShut k n = record { rk = replicate 32 0; flow = noFlow; total = 0; stands = n; key = k }
 
-unfoldable pub sealShut : ℕ → Seal
-sealShut n = record {
+unfoldable pub sealShut : ℕ → ℕ → Seal
+sealShut k n = record {
   rk = replicate 32 0;
   flow = noFlow;
   hashing = noHashing;
@@ -60,7 +62,8 @@ sealShut n = record {
   label = 0;
   total = 0;
   stands = n;
+  key = k;
 }
 
-unfoldable pub opensShut : ℕ → Opens
-opensShut n = record { hashing = noHashing; mask = replicate 16 0; label = 0; total = 0; stands = n }
+unfoldable pub opensShut : ℕ → ℕ → Opens
+opensShut k n = record { hashing = noHashing; mask = replicate 16 0; label = 0; total = 0; stands = n; key = k }

@@ -2,16 +2,23 @@
 ghost use mathlib.Core.Path.{_≡_};
 ghost use Rattle.pieces.specs.Checks.{gcmStarting, standing, running, writing, tagged};
 use cipher_mode::CipherMode;
+use cipher_mode::Direction;
 use cipher_mode::KeyAnswer;
 use cipher_mode::answer::Refusal;
 use cipher_mode::checks::Checked;
 use cipher_mode::checks::LIMIT;
 
 // A start of Gcm, either way.
-pub(crate) fn gcm_start(key: KeyAnswer, iv: usize, label: usize) -> Checked
-    ensures { λ r. ⌜ r ≡ gcmStarting key iv label ⌝ }
+pub(crate) fn gcm_start(
+    answer: KeyAnswer,
+    mark: bool,
+    direction: Direction,
+    iv: usize,
+    label: usize,
+) -> Checked
+    ensures { λ r. ⌜ r ≡ gcmStarting answer mark direction iv label ⌝ }
 {
-    let first = cipher_mode::checks::key_and_iv(key, CipherMode::Gcm, iv);
+    let first = cipher_mode::checks::key_and_iv(answer, mark, direction, CipherMode::Gcm, iv);
     let Checked::Passed = first else {
         return first;
     };
@@ -33,6 +40,12 @@ fn standing(mark: u32) -> Checked
     }
     if mark == 10 {
         return Checked::Refused(Refusal::WrongIv);
+    }
+    if mark == 13 {
+        return Checked::Refused(Refusal::WrongNumber);
+    }
+    if mark == 14 {
+        return Checked::Refused(Refusal::Retired);
     }
     Checked::Refused(Refusal::Ended)
 }

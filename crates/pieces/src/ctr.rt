@@ -8,18 +8,21 @@ use crate::flow;
 use crate::flow::Counting;
 use crate::flow::Flow;
 use cipher_mode::CipherMode;
+use cipher_mode::Direction;
 use cipher_mode::Sm4Cipher;
 use cipher_mode::answer;
 use cipher_mode::answer::Answer;
 use cipher_mode::checks::Checked;
 
-// The round keys, the flow, and how many bytes went through; 0, or what every call answers. A host in C hands it in and out.
+// The round keys, the flow, and how many bytes went through; 0, or what every call answers; the key's number. A host in C
+// hands it in and out.
 #[repr(C)]
 pub struct Ctr {
     pub rk: [u32; 32],
     pub flow: Flow,
     pub total: usize,
     pub stands: u32,
+    pub key: u16,
 }
 
 pub struct CtrStep {
@@ -28,27 +31,36 @@ pub struct CtrStep {
 }
 
 // The state of no message.
-fn shut(stands: u32) -> Ctr
-    ensures { λ r. ⌜ r ≡ ctrShut stands ⌝ }
+fn shut(key: u16, stands: u32) -> Ctr
+    ensures { λ r. ⌜ r ≡ ctrShut key stands ⌝ }
 {
     Ctr {
         rk: [0u32; 32],
         flow: flow::none(),
         total: 0,
         stands,
+        key,
     }
 }
 
-// Key and IV are checked as in the single call.
-pub fn start(cipher: Sm4Cipher, iv: &[u8]) -> CtrStep
-    ensures { λ r. ⌜ ctrStepped r [] ≡ ctrStart cipher (now (iv .entry)) ⌝ }
+// Key and IV are checked as in the single call of that direction; from here on the two are the same.
+pub fn start(direction: Direction, cipher: Sm4Cipher, iv: &[u8]) -> CtrStep
+    ensures { λ r. ⌜ ctrStepped r [] ≡ ctrStart direction cipher (now (iv .entry)) ⌝ }
 {
-    let key = cipher.answer;
-    let checked = cipher_mode::checks::key_and_iv(key, CipherMode::Ctr, iv.len());
+    let stands = cipher.answer;
+    let key = cipher_mode::number_in(stands, cipher.number);
+    let mark = cipher.retired;
+    let checked = cipher_mode::checks::key_and_iv(
+        stands,
+        mark,
+        direction,
+        CipherMode::Ctr,
+        iv.len(),
+    );
     if let Checked::Refused(refusal) = checked {
         return CtrStep {
-            answer: answer::refused(refusal),
-            state: shut(answer::number(refusal)),
+            answer: answer::refused(key, refusal),
+            state: shut(key, answer::number(refusal)),
         };
     }
     let t = cipher::plain();
@@ -59,9 +71,10 @@ pub fn start(cipher: Sm4Cipher, iv: &[u8]) -> CtrStep
         flow,
         total: 0,
         stands: 0,
+        key,
     };
     CtrStep {
-        answer: answer::done(0),
+        answer: answer::done(key, 0),
         state,
     }
 }
@@ -71,12 +84,13 @@ impl Ctr {
     pub fn piece(self, data: &[u8], out: &mut [u8]) -> CtrStep
         ensures { λ r. ⌜ ctrStepped r (now (out .exit)) ≡ ctrPiece self (now («data» .entry)) (now (out .entry)) ⌝ }
     {
+        let key = self.key;
         let n = data.len();
         let total = self.total;
         let checked = checks::writing(self.stands, 0, total, n, n, out.len());
         if let Checked::Refused(refusal) = checked {
             return CtrStep {
-                answer: answer::refused(refusal),
+                answer: answer::refused(key, refusal),
                 state: self,
             };
         }
@@ -89,9 +103,10 @@ impl Ctr {
             flow: next,
             total: total + n,
             stands: 0,
+            key,
         };
         CtrStep {
-            answer: answer::done(n),
+            answer: answer::done(key, n),
             state,
         }
     }
@@ -100,16 +115,17 @@ impl Ctr {
     pub fn end(self) -> CtrStep
         ensures { λ r. ⌜ ctrStepped r [] ≡ ctrEnd self ⌝ }
     {
+        let key = self.key;
         let checked = checks::running(self.stands, 0, self.total, 0);
         if let Checked::Refused(refusal) = checked {
             return CtrStep {
-                answer: answer::refused(refusal),
+                answer: answer::refused(key, refusal),
                 state: self,
             };
         }
         CtrStep {
-            answer: answer::done(0),
-            state: shut(12),
+            answer: answer::done(key, 0),
+            state: shut(key, 12),
         }
     }
 }

@@ -7,3 +7,4 @@ pub mod flow;
 pub mod hashing;
 pub mod opens;
 pub mod seal;
+mod tagging;

@@ -7,16 +7,17 @@ ghost use Rattle.block.specs.Xor.{xors};
 ghost use Rattle.pieces.specs.States.{opensShut};
 ghost use Rattle.pieces.specs.Calls.{opensStepped, opensStart, opensPiece, opensEnd};
 use crate::checks;
-use crate::flow;
 use crate::hashing;
 use crate::hashing::Hashing;
+use crate::tagging;
+use cipher_mode::Direction;
 use cipher_mode::Sm4Cipher;
 use cipher_mode::answer;
 use cipher_mode::answer::Answer;
 use cipher_mode::answer::Refusal;
 use cipher_mode::checks::Checked;
 
-// The hash, the cipher of J0 and the lengths; 0, or what every call answers. The round keys are needed no more.
+// The hash, the cipher of J0 and the lengths; 0, or what every call answers; the key's number. The round keys are needed no more.
 #[repr(C)]
 pub struct Opens {
     pub hashing: Hashing,
@@ -24,6 +25,7 @@ pub struct Opens {
     pub label: usize,
     pub total: usize,
     pub stands: u32,
+    pub key: u16,
 }
 
 pub struct OpensStep {
@@ -32,8 +34,8 @@ pub struct OpensStep {
 }
 
 // The state of no message.
-fn shut(stands: u32) -> Opens
-    ensures { λ r. ⌜ r ≡ opensShut stands ⌝ }
+fn shut(key: u16, stands: u32) -> Opens
+    ensures { λ r. ⌜ r ≡ opensShut key stands ⌝ }
 {
     Opens {
         hashing: hashing::none(),
@@ -41,6 +43,7 @@ fn shut(stands: u32) -> Opens
         label: 0,
         total: 0,
         stands,
+        key,
     }
 }
 
@@ -48,27 +51,31 @@ fn shut(stands: u32) -> Opens
 pub fn start(cipher: Sm4Cipher, aad: &[u8], iv: &[u8]) -> OpensStep
     ensures { λ r. ⌜ opensStepped r [] ≡ opensStart cipher (now (aad .entry)) (now (iv .entry)) ⌝ }
 {
-    let key = cipher.answer;
-    let checked = checks::gcm_start(key, iv.len(), aad.len());
+    let stands = cipher.answer;
+    let key = cipher_mode::number_in(stands, cipher.number);
+    let mark = cipher.retired;
+    let checked = checks::gcm_start(stands, mark, Direction::Decrypt, iv.len(), aad.len());
     if let Checked::Refused(refusal) = checked {
         return OpensStep {
-            answer: answer::refused(refusal),
-            state: shut(answer::number(refusal)),
+            answer: answer::refused(key, refusal),
+            state: shut(key, answer::number(refusal)),
         };
     }
     let t = cipher::plain();
     let rk = cipher.rk;
-    let h = gcm::hash_key(&t, rk);
-    let j0 = gcm::first_counter(h, iv);
+    let begun = tagging::begin(&t, rk, aad, iv);
+    let hashing = begun.hashing;
+    let mask = begun.mask;
     let state = Opens {
-        hashing: hashing::begin(h, aad),
-        mask: flow::ciphered(&t, rk, j0),
+        hashing,
+        mask,
         label: aad.len(),
         total: 0,
         stands: 0,
+        key,
     };
     OpensStep {
-        answer: answer::done(0),
+        answer: answer::done(key, 0),
         state,
     }
 }
@@ -88,13 +95,14 @@ impl Opens {
     pub fn piece(self, data: &[u8]) -> OpensStep
         ensures { λ r. ⌜ opensStepped r [] ≡ opensPiece self (now («data» .entry)) ⌝ }
     {
+        let key = self.key;
         let n = data.len();
         let total = self.total;
         let label = self.label;
         let checked = checks::running(self.stands, label, total, n);
         if let Checked::Refused(refusal) = checked {
             return OpensStep {
-                answer: answer::refused(refusal),
+                answer: answer::refused(key, refusal),
                 state: self,
             };
         }
@@ -106,9 +114,10 @@ impl Opens {
             label,
             total: total + n,
             stands: 0,
+            key,
         };
         OpensStep {
-            answer: answer::done(0),
+            answer: answer::done(key, 0),
             state,
         }
     }
@@ -117,27 +126,28 @@ impl Opens {
     pub fn end(self, tag: &[u8]) -> OpensStep
         ensures { λ r. ⌜ opensStepped r [] ≡ opensEnd self (now (tag .entry)) ⌝ }
     {
+        let key = self.key;
         let total = self.total;
         let label = self.label;
         let checked = checks::tagged(self.stands, label, total, tag.len());
         if let Checked::Refused(refusal) = checked {
             return OpensStep {
-                answer: answer::refused(refusal),
+                answer: answer::refused(key, refusal),
                 state: self,
             };
         }
         let mask = self.mask;
         let begun = self.hashing;
         let hash = hashing::end(begun, total % 16, label, total);
-        let state = shut(12);
+        let state = shut(key, 12);
         if same_tag(tag, mask, hash) {
             return OpensStep {
-                answer: answer::done(0),
+                answer: answer::done(key, 0),
                 state,
             };
         }
         OpensStep {
-            answer: answer::refused(Refusal::InvalidTag),
+            answer: answer::refused(key, Refusal::InvalidTag),
             state,
         }
     }

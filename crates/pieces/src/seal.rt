@@ -9,12 +9,15 @@ use crate::flow::Counting;
 use crate::flow::Flow;
 use crate::hashing;
 use crate::hashing::Hashing;
+use crate::tagging;
+use cipher_mode::Direction;
 use cipher_mode::Sm4Cipher;
 use cipher_mode::answer;
 use cipher_mode::answer::Answer;
 use cipher_mode::checks::Checked;
 
-// The round keys, the flow, the hash of what was written, the cipher of J0 and the lengths; 0, or what every call answers.
+// The round keys, the flow, the hash of what was written, the cipher of J0 and the lengths; 0, or what every call answers;
+// the key's number.
 #[repr(C)]
 pub struct Seal {
     pub rk: [u32; 32],
@@ -24,6 +27,7 @@ pub struct Seal {
     pub label: usize,
     pub total: usize,
     pub stands: u32,
+    pub key: u16,
 }
 
 pub struct SealStep {
@@ -32,8 +36,8 @@ pub struct SealStep {
 }
 
 // The state of no message.
-fn shut(stands: u32) -> Seal
-    ensures { λ r. ⌜ r ≡ sealShut stands ⌝ }
+fn shut(key: u16, stands: u32) -> Seal
+    ensures { λ r. ⌜ r ≡ sealShut key stands ⌝ }
 {
     Seal {
         rk: [0u32; 32],
@@ -43,6 +47,7 @@ fn shut(stands: u32) -> Seal
         label: 0,
         total: 0,
         stands,
+        key,
     }
 }
 
@@ -50,29 +55,34 @@ fn shut(stands: u32) -> Seal
 pub fn start(cipher: Sm4Cipher, aad: &[u8], iv: &[u8]) -> SealStep
     ensures { λ r. ⌜ sealStepped r [] ≡ sealStart cipher (now (aad .entry)) (now (iv .entry)) ⌝ }
 {
-    let key = cipher.answer;
-    let checked = checks::gcm_start(key, iv.len(), aad.len());
+    let stands = cipher.answer;
+    let key = cipher_mode::number_in(stands, cipher.number);
+    let mark = cipher.retired;
+    let checked = checks::gcm_start(stands, mark, Direction::Encrypt, iv.len(), aad.len());
     if let Checked::Refused(refusal) = checked {
         return SealStep {
-            answer: answer::refused(refusal),
-            state: shut(answer::number(refusal)),
+            answer: answer::refused(key, refusal),
+            state: shut(key, answer::number(refusal)),
         };
     }
     let t = cipher::plain();
     let rk = cipher.rk;
-    let h = gcm::hash_key(&t, rk);
-    let j0 = gcm::first_counter(h, iv);
+    let begun = tagging::begin(&t, rk, aad, iv);
+    let j0 = begun.j0;
+    let hashing = begun.hashing;
+    let mask = begun.mask;
     let state = Seal {
         rk,
         flow: flow::begin(&t, rk, counter::gcm_block_add_one(j0)),
-        hashing: hashing::begin(h, aad),
-        mask: flow::ciphered(&t, rk, j0),
+        hashing,
+        mask,
         label: aad.len(),
         total: 0,
         stands: 0,
+        key,
     };
     SealStep {
-        answer: answer::done(0),
+        answer: answer::done(key, 0),
         state,
     }
 }
@@ -82,13 +92,14 @@ impl Seal {
     pub fn piece(self, data: &[u8], out: &mut [u8]) -> SealStep
         ensures { λ r. ⌜ sealStepped r (now (out .exit)) ≡ sealPiece self (now («data» .entry)) (now (out .entry)) ⌝ }
     {
+        let key = self.key;
         let n = data.len();
         let total = self.total;
         let label = self.label;
         let checked = checks::writing(self.stands, label, total, n, n, out.len());
         if let Checked::Refused(refusal) = checked {
             return SealStep {
-                answer: answer::refused(refusal),
+                answer: answer::refused(key, refusal),
                 state: self,
             };
         }
@@ -106,9 +117,10 @@ impl Seal {
             label,
             total: total + n,
             stands: 0,
+            key,
         };
         SealStep {
-            answer: answer::done(n),
+            answer: answer::done(key, n),
             state,
         }
     }
@@ -117,12 +129,13 @@ impl Seal {
     pub fn end(self, out: &mut [u8]) -> SealStep
         ensures { λ r. ⌜ sealStepped r (now (out .exit)) ≡ sealEnd self (now (out .entry)) ⌝ }
     {
+        let key = self.key;
         let total = self.total;
         let label = self.label;
         let checked = checks::writing(self.stands, label, total, 0, 16, out.len());
         if let Checked::Refused(refusal) = checked {
             return SealStep {
-                answer: answer::refused(refusal),
+                answer: answer::refused(key, refusal),
                 state: self,
             };
         }
@@ -131,8 +144,8 @@ impl Seal {
         let hash = hashing::end(begun, total % 16, label, total);
         flow::xor_pad(hash, 0, &mask, out);
         SealStep {
-            answer: answer::done(16),
-            state: shut(12),
+            answer: answer::done(key, 16),
+            state: shut(key, 12),
         }
     }
 }

@@ -13,6 +13,8 @@ pub record Head : Type 0 where
   pub size : ℕ
   -- of refusal 9, how many bytes were missing; otherwise 0
   pub missing : ℕ
+  -- the number of the key that the call stands on, 0 where none stands yet
+  pub key : ℕ
 
 pub record Outcome : Type 0 where
   pub head : Head
@@ -25,15 +27,23 @@ leaving h o = record { head = h; bytes = o }
 
 -- done, with n bytes
 abbrev pub finished : ℕ → Head
-finished n = record { number = 0; size = n; missing = 0 }
+finished n = record { number = 0; size = n; missing = 0; key = 0 }
 
 -- a refusal reports its number, and 0 in every other field
 abbrev pub refusal : ℕ → Head
-refusal n = record { number = n; size = 0; missing = 0 }
+refusal n = record { number = n; size = 0; missing = 0; key = 0 }
 
 -- but for refusal 9, which tells that k bytes were missing
 abbrev pub cutShort : ℕ → Head
-cutShort k = record { number = 9; size = 0; missing = k }
+cutShort k = record { number = 9; size = 0; missing = k; key = 0 }
+
+-- the same report, on the key of number k
+abbrev pub under : ℕ → Head → Head
+under k h = record { number = h .number; size = h .size; missing = h .missing; key = k }
+
+-- the same outcome, on the key of number k
+abbrev pub keyed : ℕ → Outcome → Outcome
+keyed k x = leaving (under k (x .head)) (x .bytes)
 
 -- refused: the output o is as it was lent
 abbrev pub refused : ℕ → List ℕ → Outcome

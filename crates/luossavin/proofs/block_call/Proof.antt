@@ -1,4 +1,4 @@
--- `luossavin::block_call` meets its contract: it reports the call on the record that setting up the key gives.
+-- `luossavin::block_call` meets its contract: it reports the call on the host's record.
 -- Assumes nothing.
 use mathlib.Core.Path.{ap, _∙_}
 use denote.Ref.{now}
@@ -14,10 +14,10 @@ returns : tie.Need-returns
 unfolding hostBlockCall
 returns c =
     let at-call = c .before .before .before in
-    let at-new = at-call .before .before in
-    let a = at-new .before .before .before .before .args in
+    let at-key = at-call .before .before in
+    let a = at-key .before .before .before .args in
     ap {B = Outcome} (λ (h : Head). leaving h (at-call .call .last .1 .1 .1 .0)) (c .report .ensures) ∙ at-call .call .ensures
-    ∙ ap {B = Outcome} (λ (k : Sm4Cipher). blockCall (a .direction) k (now (a .block)) (now (a .out))) (at-new .new .ensures)
+    ∙ ap {B = Outcome} (λ (k : Sm4Cipher). blockCall (a .direction) k (now (a .block)) (now (a .out))) (at-key .cipher-of .ensures)
 
 pub block-call-spec : {M : Type 1} → statement M
 block-call-spec =

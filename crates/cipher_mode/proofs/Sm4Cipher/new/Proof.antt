@@ -1,19 +1,53 @@
--- `cipher_mode::Sm4Cipher::new` meets its contract: the length of the key decides, as in the definition.
+-- `cipher_mode::Sm4Cipher::new` meets its contract: the length of the key decides, and then its number, as in the definition.
 -- Assumes nothing.
-use borrow.Author.Tests.{eq-eqb, ne-eqb}
-use Rattle.cipher_mode.specs.Key.{newCipher}
+use mathlib.Core.Path.{_≡_, sym, _∙_}
+use mathlib.Core.Bool.{Bool, true, false, _||_}
+use Prim.Native.Nat.{ℕ, _≤_}
+use native.Mathlib.Omega.{arith}
+use lib.Dec.{eqb, ltb}
+use borrow.Author.Tests.{eq-eqb, ne-eqb, ltb-false}
+use Rattle.cipher_mode.specs.Key.{wrongNumber, newCipher}
 use borrow.Author.Needs.{needs}
 use Rattle.cipher_mode.proofs.Sm4Cipher.new.Statement.{statement}
 use Rattle.cipher_mode.proofs.Sm4Cipher.new.Tie as tie
 
+in-range : (n : ℕ) → wrongNumber n ≡ false → n ≤ 65535
+in-range n e = not-above (eqb n 0) e
+  where
+    not-above : (none : Bool) → none || ltb 65535 n ≡ false → n ≤ 65535
+    not-above true f = let z : _≡_ {A = ℕ} 0 1 = cc in absurd (omega arith)
+    not-above false f = ltb-false 65535 n f
+
 returns : tie.Need-returns
 unfolding newCipher
-returns c = rw (ne-eqb _ _ (c .if1 .taken))
+returns c = rw (ne-eqb _ _ (c .before .if1 .taken)) (c .no-cipher .ensures)
 
 returns-2 : tie.Need-returns-2
 unfolding newCipher
-returns-2 c = rw (eq-eqb _ _ (c .before .if1 .left), c .key-schedule .ensures)
+returns-2 c =
+    let at-number = c .before .before in
+    rw (eq-eqb _ _ (at-number .before .if1 .left), sym (at-number .wrong-number .ensures) ∙ c .before .if2 .taken) (c .no-cipher2 .ensures)
+
+cast-t10 : tie.Need-cast-t10
+cast-t10 c =
+    let at-number = c .before .before in
+    let n = at-number .before .before .before .args .number in
+    let small : n ≤ 65535 = in-range n (sym (at-number .wrong-number .ensures) ∙ c .before .if2 .left) in
+    record { fits = omega (arith, small) }
+
+returns-3 : tie.Need-returns-3
+unfolding newCipher
+returns-3 c =
+    let at-number = c .before .before in
+    rw (
+      eq-eqb _ _ (at-number .before .if1 .left),
+      sym (at-number .wrong-number .ensures) ∙ c .before .if2 .left,
+      c .key-schedule .ensures,
+    )
 
 pub new-spec : {M : Type 1} → statement M
 new-spec =
-    tie.close (tie.spec returns (λ c κs. search needs) returns-2)
+    tie.close
+    (tie.spec
+    (λ c κs. search needs) returns (λ c κs. search needs) (λ c κs. search needs) returns-2 (λ c κs. search needs)
+    cast-t10 returns-3)

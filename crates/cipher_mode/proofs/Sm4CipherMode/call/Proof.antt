@@ -1,8 +1,9 @@
 -- `cipher_mode::Sm4CipherMode::call` meets its contract: where a check refused, so does the definition; where all passed, the work leaves
 -- what the definition goes on to.
 -- Assumes nothing.
-use mathlib.Core.Path.{sym, _∙_}
+use mathlib.Core.Path.{sym, ap₂, _∙_}
 use denote.Ref.{now}
+use Rattle.walk.specs.Outcome.{Outcome, keyed}
 use Rattle.cipher_mode.specs.Calls.{modeResult, modeCall}
 use Rattle.cipher_mode.proofs.Passed.{message-passed}
 use Rattle.cipher_mode.proofs.Ends.{refused-there, went-on}
@@ -15,16 +16,18 @@ unfolding modeCall
 returns c =
     let told = c .before .before in
     let at-check = told .before .before in
-    let a = at-check .before .before .before .before .before .before .args in
+    let at-number = at-check .before in
+    let a = at-number .before .before .before .before .before .before .args in
     let o = now (a .out) in
     let next = modeResult (a .self .mode) (a .direction) (a .self .cipher .rk) (now (a .aad)) (now (a .«data»)) (now (a .iv)) o in
-    refused-there (c .refused .result) _ _ o next (c .refused .ensures) (sym (at-check .message .ensures) ∙ told .checked .given .1)
+    refused-there (c .refused .result) _ _ _ _ o next (c .refused .ensures) (at-number .number-in .ensures)
+    (sym (at-check .message .ensures) ∙ told .checked .given .1)
 
 message-requires-2 : tie.Need-message-requires-2
 message-requires-2 c κs =
     let at-plain = c .before .before .before in
     let told = at-plain .before in
-    let in-order = message-passed _ _ _ _ (sym (told .before .before .message .ensures) ∙ told .enum-told .given .1) in
+    let in-order = message-passed _ _ _ _ _ (sym (told .before .before .message .ensures) ∙ told .enum-told .given .1) in
     (at-plain .plain .ensures, (in-order .iv-size, (in-order .label, (in-order .content, in-order .room))))
 
 returns-2 : tie.Need-returns-2
@@ -32,14 +35,17 @@ unfolding modeCall
 returns-2 c =
     let at-work = c .before .before in
     let told = at-work .before .before .before .before .before in
-    let a = told .before .before .before .before .before .before .before .before .args in
+    let at-check = told .before .before in
+    let at-number = at-check .before in
+    let a = at-number .before .before .before .before .before .before .args in
     let o = now (a .out) in
     let next = modeResult (a .self .mode) (a .direction) (a .self .cipher .rk) (now (a .aad)) (now (a .«data»)) (now (a .iv)) o in
-    went-on _ o _ next (sym (told .before .before .message .ensures) ∙ told .enum-told .given .1) (at-work .message2 .ensures)
+    ap₂ {C = Outcome} keyed (at-number .number-in .ensures)
+    (went-on _ o _ next (sym (at-check .message .ensures) ∙ told .enum-told .given .1) (at-work .message2 .ensures))
 
 pub call-spec : {M : Type 1} → statement M
 call-spec =
     tie.close
     (tie.spec
-    (λ c κs. search needs) (λ c. search needs) (λ c κs. search needs) returns (λ c. search needs) (λ c κs. search needs)
-    (λ c. search needs) message-requires-2 (λ c. search needs) returns-2)
+    (λ c κs. search needs) (λ c κs. search needs) (λ c. search needs) (λ c κs. search needs) returns
+    (λ c. search needs) (λ c κs. search needs) (λ c. search needs) message-requires-2 (λ c. search needs) returns-2)

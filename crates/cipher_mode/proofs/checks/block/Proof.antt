@@ -1,27 +1,54 @@
--- `cipher_mode::checks::block` meets its contract: each return is the definition, by the tests that led there.
+-- `cipher_mode::checks::block` meets its contract: a stage that refuses ends the list (`stops`), and after one that passed the next
+-- answers (`goes-on`).
 -- Assumes nothing.
 use borrow.Author.Tests.{eq-eqb, ne-eqb, lt-ltb, le-ltb}
 use Rattle.cipher_mode.specs.Checks.{blockCheck}
+use Rattle.cipher_mode.proofs.Passed.{stops, goes-on}
 use borrow.Author.Needs.{needs}
 use Rattle.cipher_mode.proofs.checks.block.Statement.{statement}
 use Rattle.cipher_mode.proofs.checks.block.Tie as tie
 
 returns : tie.Need-returns
 unfolding blockCheck
-returns c = rw (c .enum-told2 .given .1)
+returns c = stops _ _ _ _ (c .before .before .key .ensures) (c .enum-told2 .given .1)
 
 returns-2 : tie.Need-returns-2
 unfolding blockCheck
-returns-2 c = rw (c .before .enum-told .given .1, ne-eqb _ _ (c .if1 .taken))
+returns-2 c =
+    let told = c .before in
+    goes-on _ _ _ _ (told .before .before .key .ensures) (told .enum-told .given .1) (rw (ne-eqb _ _ (c .if1 .taken)))
 
 returns-3 : tie.Need-returns-3
 unfolding blockCheck
-returns-3 c = rw (c .before .before .enum-told .given .1, eq-eqb _ _ (c .before .if1 .left), lt-ltb _ _ (c .if2 .taken))
+returns-3 c =
+    let at-mark = c .before .before in
+    let told = at-mark .before .before in
+    goes-on _ _ _ _ (told .before .before .key .ensures) (told .enum-told .given .1)
+    (rw (eq-eqb _ _ (at-mark .before .if1 .left)) (stops _ _ _ _ (at-mark .retired .ensures) (c .enum-told4 .given .1)))
 
 returns-4 : tie.Need-returns-4
 unfolding blockCheck
-returns-4 c = rw (c .before .before .enum-told .given .1, eq-eqb _ _ (c .before .if1 .left), le-ltb _ _ (c .if2 .left))
+returns-4 c =
+    let marked = c .before in
+    let at-mark = marked .before .before in
+    let told = at-mark .before .before in
+    goes-on _ _ _ _ (told .before .before .key .ensures) (told .enum-told .given .1)
+    (rw (eq-eqb _ _ (at-mark .before .if1 .left))
+    (goes-on _ _ _ _ (at-mark .retired .ensures) (marked .enum-told3 .given .1) (rw (lt-ltb _ _ (c .if2 .taken)))))
+
+returns-5 : tie.Need-returns-5
+unfolding blockCheck
+returns-5 c =
+    let marked = c .before in
+    let at-mark = marked .before .before in
+    let told = at-mark .before .before in
+    goes-on _ _ _ _ (told .before .before .key .ensures) (told .enum-told .given .1)
+    (rw (eq-eqb _ _ (at-mark .before .if1 .left))
+    (goes-on _ _ _ _ (at-mark .retired .ensures) (marked .enum-told3 .given .1) (rw (le-ltb _ _ (c .if2 .left)))))
 
 pub block-spec : {M : Type 1} → statement M
 block-spec =
-    tie.close (tie.spec (λ c. search needs) (λ c. search needs) returns returns-2 returns-3 returns-4)
+    tie.close
+    (tie.spec
+    (λ c κs. search needs) (λ c. search needs) (λ c. search needs) returns returns-2 (λ c κs. search needs)
+    (λ c. search needs) (λ c. search needs) returns-3 returns-4 returns-5)

@@ -48,8 +48,7 @@ decrypt-requires c κs =
 
 returns : tie.Need-returns
 returns c =
-    let at-length = c .before in
-    let at-encrypt = at-length .before .before .before in
+    let at-encrypt = c .before .before .before in
     let told = at-encrypt .before .before in
     let at-split = told .before .before in
     let S = at-split .before .before .before .before .before in
@@ -58,8 +57,8 @@ returns c =
     let d = now (a .«data») in
     let o = now (a .out) in
     rw (told .enum-told .given .1)
-    (reached (c .done .result) (cbcSeal (a .rk) iv d) o _ _ (c .done .ensures)
-    (length-cbcSeal (a .rk) iv d ∙ sym (at-length .encrypted-length .ensures))
+    (reached (cbcSeal (a .rk) iv d) o _ _
+    (length-cbcSeal (a .rk) iv d ∙ sym (c .encrypted-length .ensures))
     (at-encrypt .encrypt .ensures ∙ ap (λ (s : List ℕ). over (cbcSeal (a .rk) s d) o) (is-iv at-split)))
 
 returns-2 : tie.Need-returns-2
@@ -80,6 +79,5 @@ pub by-cbc-spec : {M : Type 1} → statement M
 by-cbc-spec =
     tie.close
     (tie.spec
-    (λ c κs. search needs) (λ c. search needs) encrypt-requires encrypted-length-requires (λ c κs. search needs)
-    (λ c. search needs) decrypt-requires (λ c κs. search needs) (λ c. search needs) returns (λ c. search needs)
-    returns-2)
+    (λ c κs. search needs) (λ c. search needs) encrypt-requires encrypted-length-requires (λ c. search needs)
+    decrypt-requires (λ c κs. search needs) (λ c. search needs) returns (λ c. search needs) returns-2)

@@ -59,8 +59,7 @@ decrypt-requires c κs =
 
 returns : tie.Need-returns
 returns c =
-    let at-length = c .before in
-    let at-encrypt = at-length .before .before .before in
+    let at-encrypt = c .before .before .before in
     let told = at-encrypt .before .before in
     let at-counter = told .before .before in
     let a = at-counter .before .before .before .before .before .before .before .args in
@@ -69,8 +68,8 @@ returns c =
     let o = now (a .out) in
     let j = J0 (a .rk) (now (a .iv)) in
     rw (told .enum-told .given .1)
-    (reached (c .done .result) (sealed (a .rk) (hashKey (a .rk)) j aad d) o _ _ (c .done .ensures)
-    (length-sealed (a .rk) (hashKey (a .rk)) j aad d ∙ sym (at-length .encrypted-length .ensures))
+    (reached (sealed (a .rk) (hashKey (a .rk)) j aad d) o _ _
+    (length-sealed (a .rk) (hashKey (a .rk)) j aad d ∙ sym (c .encrypted-length .ensures))
     (at-encrypt .encrypt .ensures
     ∙ ap₂ (λ (h : ℕ) (j : List ℕ). over (sealed (a .rk) h j aad d) o) (at-counter .before .hash-key .ensures) (is-j0 at-counter)))
 
@@ -93,5 +92,5 @@ by-gcm-spec =
     tie.close
     (tie.spec
     (λ c κs. search needs) first-counter-requires (λ c. search needs) encrypt-requires encrypted-length-requires
-    (λ c κs. search needs) (λ c. search needs) decrypt-requires (λ c κs. search needs) (λ c. search needs) returns
-    (λ c. search needs) returns-2)
+    (λ c. search needs) decrypt-requires (λ c κs. search needs) (λ c. search needs) returns (λ c. search needs)
+    returns-2)

@@ -16,7 +16,7 @@ use Rattle.cipher_mode.proofs.work.by_stream.Tie as tie
 
 returns : tie.Need-returns
 returns c =
-    let at-stream = c .before .before .before in
+    let at-stream = c .before .before in
     let at-split = at-stream .before .before in
     let at-iv = at-split .before .before .before in
     let S = at-iv .before .before in
@@ -26,11 +26,11 @@ returns c =
     let o = now (a .out) in
     let small : (i : ℕ) → getD iv i 0 < 256 = λ i. omega (arith, at-iv .shared-slice-known2 .given i) in
     let is-iv = spelled iv _ (S .pre .1 .0) small (at-split .split-block .ensures) in
-    reached (c .done .result) (chain (streamMode (a .kind) (a .rk)) iv d) o _ _ (c .done .ensures) (length-stream (a .kind) (a .rk) iv d)
+    reached (chain (streamMode (a .kind) (a .rk)) iv d) o _ _ (length-stream (a .kind) (a .rk) iv d)
     (at-stream .stream .ensures .1 .1 ∙ ap (λ (s : List ℕ). over (chain (streamMode (a .kind) (a .rk)) s d) o) is-iv)
 
 pub by-stream-spec : {M : Type 1} → statement M
 by-stream-spec =
     tie.close
     (tie.spec
-    (λ c κs. search needs) (λ c κs. search needs) (λ c κs. search needs) (λ c. search needs) returns)
+    (λ c κs. search needs) (λ c κs. search needs) (λ c. search needs) returns)

@@ -1,19 +1,19 @@
 -- `cipher_mode::work::cbc_answer` meets its contract: each case is answered under its own number.
 -- Assumes nothing.
-use mathlib.Core.Path.{sym, ap, _∙_}
+use mathlib.Core.Path.{sym, ap}
 use Rattle.cbc.specs.Open.{headOf}
 use borrow.Author.Needs.{needs}
 use Rattle.cipher_mode.proofs.work.cbc_answer.Statement.{statement}
 use Rattle.cipher_mode.proofs.work.cbc_answer.Tie as tie
 
 returns : tie.Need-returns
-returns c = c .done .ensures ∙ sym (ap headOf (c .before .before .opened .given .1))
+returns c = sym (ap headOf (c .before .opened .given .1))
 
 returns-2 : tie.Need-returns-2
-returns-2 c = c .refused .ensures ∙ sym (ap headOf (c .before .enum-told .given .1))
+returns-2 c = sym (ap headOf (c .enum-told .given .1))
 
 pub cbc-answer-spec : {M : Type 1} → statement M
 cbc-answer-spec =
     tie.close
     (tie.spec
-    (λ c. search needs) (λ c κs. search needs) (λ c. search needs) (λ c κs. search needs) returns returns-2)
+    (λ c. search needs) (λ c. search needs) returns returns-2)

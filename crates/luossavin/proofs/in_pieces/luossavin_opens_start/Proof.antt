@@ -1,4 +1,4 @@
--- `luossavin::in_pieces::luossavin_opens_start` meets its contract: it hands on a start on the record that setting up the key gives.
+-- `luossavin::in_pieces::luossavin_opens_start` meets its contract: it hands on a start on the host's record.
 -- Assumes nothing.
 use mathlib.Core.Path.{ap, _∙_}
 use denote.Ref.{now}
@@ -15,10 +15,10 @@ returns : tie.Need-returns
 unfolding hostOpensStart
 returns c =
     let at-start = c .before in
-    let at-new = at-start .before in
-    let a = at-new .before .before .before .before .args in
+    let at-key = at-start .before in
+    let a = at-key .before .before .before .args in
     handed-on Opens _ _ _ _ _ _ (c .opens-step .ensures)
-    (at-start .start .ensures ∙ ap {B = Stepped Opens} (λ (k : Sm4Cipher). opensStart k (now (a .aad)) (now (a .iv))) (at-new .new .ensures))
+    (at-start .start .ensures ∙ ap {B = Stepped Opens} (λ (k : Sm4Cipher). opensStart k (now (a .aad)) (now (a .iv))) (at-key .cipher-of .ensures))
 
 pub luossavin-opens-start-spec : {M : Type 1} → statement M
 luossavin-opens-start-spec =

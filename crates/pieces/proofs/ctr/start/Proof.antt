@@ -1,6 +1,7 @@
 -- `pieces::ctr::start` meets its contract: what the checks refuse is refused, and otherwise the IV is the first counter.
 -- Assumes nothing.
 use mathlib.Core.Path.{_≡_, sym, ap, _∙_}
+use mathlib.Core.List.{[]}
 use Prim.Native.Nat.{ℕ, _<_}
 use native.Mathlib.Omega.{arith}
 use denote.Ref.{now}
@@ -22,15 +23,19 @@ use Rattle.pieces.proofs.ctr.start.Tie as tie
 returns : tie.Need-returns
 unfolding ctrStart
 returns c =
-    let at-number = c .before in
-    let at-refused = at-number .before in
+    let at-mark = c .before in
+    let at-refused = at-mark .before in
     let told = at-refused .before .before in
     let at-check = told .before .before in
-    refused-start Ctr _ ctrShut _ _ _ _ _ (sym (at-check .key-and-iv .ensures) ∙ told .checked .given .1)
-    (at-refused .refused .ensures) (at-number .number .ensures) (c .shut .ensures)
+    let at-number = at-check .before in
+    let a = at-number .before .before .args in
+    refused-start Ctr _ ctrShut (λ (k : ℕ). ctrAfter k (a .cipher .rk) (now (a .iv)) []) _ _ (at-number .number-in .ensures) _ _ _ _
+    (sym (at-check .key-and-iv .ensures) ∙ told .checked .given .1) (at-refused .refused .ensures) (at-mark .number .ensures)
+    (c .shut .ensures)
 
-passed : (x : tie.After-enum-told) → length (now (x .before .before .before .before .args .iv)) ≡ 16
-passed x = sixteen _ (key-and-iv-passed _ _ _ (sym (x .before .before .key-and-iv .ensures) ∙ x .enum-told .given .1) .1)
+passed : (x : tie.After-enum-told) → length (now (x .before .before .before .before .before .args .iv)) ≡ 16
+passed x =
+    sixteen _ (key-and-iv-passed _ _ _ _ _ (sym (x .before .before .key-and-iv .ensures) ∙ x .enum-told .given .1) .iv-size)
 
 split-block-requires : tie.Need-split-block-requires
 split-block-requires c κs = let n = passed (c .before .before .before) in omega arith
@@ -42,22 +47,25 @@ returns-2 c =
     let at-split = at-begin .before in
     let told = at-split .before .before .before .before in
     let at-check = told .before .before in
-    let at-iv = at-check .before in
+    let at-number = at-check .before in
+    let at-iv = at-number .before in
     let a = at-iv .before .args in
     let iv = now (a .iv) in
     let rk = a .cipher .rk in
+    let n = at-number .number-in .result in
     let small : (i : ℕ) → getD iv i 0 < 256 = λ i. omega (arith, at-iv .shared-slice-known .given i) in
     let flow =
     at-begin .begin .ensures
     ∙ ap {B = Flow} (flowAt rk) (spelled iv _ (passed told) small (at-split .split-block .ensures))
     ∙ flow-start Ctr·counting rk iv in
-    begun-there Ctr _ ctrShut _ _ _ (sym (at-check .key-and-iv .ensures) ∙ told .enum-told .given .1) (c .done .ensures)
-    (ap {B = Ctr} (λ (f : Flow). record { rk = rk; flow = f; total = 0; stands = 0 }) flow)
+    begun-there Ctr _ ctrShut (λ (k : ℕ). ctrAfter k rk iv []) n _ (at-number .number-in .ensures) _ _
+    (sym (at-check .key-and-iv .ensures) ∙ told .enum-told .given .1) (c .done .ensures)
+    (ap {B = Ctr} (λ (f : Flow). record { rk = rk; flow = f; total = 0; stands = 0; key = n }) flow)
 
 pub start-spec : {M : Type 1} → statement M
 start-spec =
     tie.close
     (tie.spec
-    (λ c κs. search needs) (λ c. search needs) (λ c κs. search needs) (λ c κs. search needs) (λ c κs. search needs) returns
-    (λ c. search needs) (λ c κs. search needs) (λ c. search needs) split-block-requires (λ c κs. search needs)
-    (λ c κs. search needs) returns-2)
+    (λ c κs. search needs) (λ c κs. search needs) (λ c. search needs) (λ c κs. search needs) (λ c κs. search needs)
+    (λ c κs. search needs) returns (λ c. search needs) (λ c κs. search needs) (λ c. search needs) split-block-requires
+    (λ c κs. search needs) (λ c κs. search needs) returns-2)

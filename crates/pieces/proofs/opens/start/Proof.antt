@@ -1,22 +1,17 @@
--- `pieces::opens::start` meets its contract: what the checks refuse is refused, and otherwise H, J0 and the label's hash are those
--- of the keys, the IV and the label.
+-- `pieces::opens::start` meets its contract: what the checks refuse is refused, and otherwise the label's hash and the cipher of J0
+-- are `tagging::begin`'s.
 -- Assumes nothing.
-use mathlib.Core.Path.{_≡_, sym, ap, ap₂, _∙_}
+use mathlib.Core.Path.{sym, ap₂, _∙_}
 use mathlib.Core.List.{List, []}
 use Prim.Native.Nat.{ℕ}
-use native.Mathlib.Omega.{arith}
 use denote.Ref.{now}
 use lib.ListN.{length}
-use Rattle.block.specs.Words.{unwords}
-use Rattle.cipher.specs.Sm4.{encryptBlock}
-use Rattle.gcm.specs.Gcm.{firstCounter, J0}
 use Rattle.cipher_mode.proofs.Passed.{iv-twelve-or-sixteen}
 use Rattle.pieces.specs.declared.hashing.Hashing.{Hashing}
 use Rattle.pieces.specs.declared.opens.Opens.{Opens}
-use Rattle.pieces.specs.Hashing.{hashOf}
 use Rattle.pieces.specs.States.{opensAfter, opensShut}
 use Rattle.pieces.specs.Calls.{opensStart}
-use Rattle.pieces.proofs.Passing.{GcmStarts, starting-passed}
+use Rattle.pieces.proofs.Passing.{starting-passed}
 use Rattle.pieces.proofs.Stepping.{refused-start, begun-there}
 use borrow.Author.Needs.{needs}
 use Rattle.pieces.proofs.opens.start.Statement.{statement}
@@ -25,52 +20,44 @@ use Rattle.pieces.proofs.opens.start.Tie as tie
 returns : tie.Need-returns
 unfolding opensStart
 returns c =
-    let at-number = c .before in
-    let at-refused = at-number .before in
+    let at-mark = c .before in
+    let at-refused = at-mark .before in
     let told = at-refused .before .before in
     let at-check = told .before .before in
-    refused-start Opens _ opensShut _ _ _ _ _ (sym (at-check .gcm-start .ensures) ∙ told .checked .given .1)
-    (at-refused .refused .ensures) (at-number .number .ensures) (c .shut .ensures)
-
-passed : (x : tie.After-enum-told)
-    → let a = x .before .before .before .before .before .args in GcmStarts (length (now (a .iv))) (length (now (a .aad)))
-passed x = starting-passed _ _ _ (sym (x .before .before .gcm-start .ensures) ∙ x .enum-told .given .1)
-
-first-counter-requires : tie.Need-first-counter-requires
-first-counter-requires c κs = iv-twelve-or-sixteen _ (passed (c .before .before .before .before) .taken)
+    let at-number = at-check .before in
+    let a = at-number .before .before .before .args in
+    refused-start Opens _ opensShut (λ (k : ℕ). opensAfter k (a .cipher .rk) (now (a .aad)) (now (a .iv)) []) _ _
+    (at-number .number-in .ensures) _ _ _ _ (sym (at-check .gcm-start .ensures) ∙ told .checked .given .1) (at-refused .refused .ensures)
+    (at-mark .number .ensures) (c .shut .ensures)
 
 begin-requires : tie.Need-begin-requires
-begin-requires c κs = let within = passed (c .before .before .before .before .before) .labelled in omega arith
-
-is-j0 : (x : tie.After-first-counter)
-    → let a = x .before .before .before .before .before .before .before .before .before .before .args in
-    unwords (x .first-counter .result) ≡ J0 (a .cipher .rk) (now (a .iv))
-is-j0 x =
-    let at-key = x .before in
-    let a = at-key .before .before .before .before .before .before .before .before .before .args in
-    x .first-counter .ensures ∙ ap (λ (h : ℕ). firstCounter h (now (a .iv))) (at-key .hash-key .ensures)
+begin-requires c κs =
+    let at-plain = c .before .before in
+    let told = at-plain .before in
+    let in-order = starting-passed _ _ _ _ _ (sym (told .before .before .gcm-start .ensures) ∙ told .enum-told .given .1) in
+    (at-plain .plain .ensures, (in-order .labelled, iv-twelve-or-sixteen _ (in-order .taken)))
 
 returns-2 : tie.Need-returns-2
 unfolding opensStart opensAfter
 returns-2 c =
-    let at-mask = c .before in
-    let at-begin = at-mask .before .before in
-    let at-counter = at-begin .before in
-    let at-key = at-counter .before in
-    let told = at-key .before .before .before .before in
+    let at-begin = c .before .before .before in
+    let told = at-begin .before .before .before .before in
     let at-check = told .before .before in
-    let a = at-check .before .before .before .args in
+    let at-number = at-check .before in
+    let a = at-number .before .before .before .args in
     let rk = a .cipher .rk in
     let label = now (a .aad) in
-    let mask = at-mask .ciphered .ensures ∙ ap (encryptBlock rk) (is-j0 at-counter) in
-    begun-there Opens _ opensShut _ _ _ (sym (at-check .gcm-start .ensures) ∙ told .enum-told .given .1) (c .done .ensures)
-    (ap₂ {C = Opens} (λ (g : Hashing) (m : List ℕ). record { hashing = g; mask = m; label = length label; total = 0; stands = 0 })
-    (at-begin .begin .ensures ∙ ap (λ (h : ℕ). hashOf h label []) (at-key .hash-key .ensures)) mask)
+    let n = at-number .number-in .result in
+    let begun = at-begin .begin .ensures in
+    begun-there Opens _ opensShut (λ (k : ℕ). opensAfter k rk label (now (a .iv)) []) n _ (at-number .number-in .ensures) _ _
+    (sym (at-check .gcm-start .ensures) ∙ told .enum-told .given .1) (c .done .ensures)
+    (ap₂ {C = Opens} (λ (g : Hashing) (m : List ℕ). record { hashing = g; mask = m; label = length label; total = 0; stands = 0; key = n })
+    (begun .1 .0) (begun .1 .1))
 
 pub start-spec : {M : Type 1} → statement M
 start-spec =
     tie.close
     (tie.spec
-    (λ c κs. search needs) (λ c. search needs) (λ c κs. search needs) (λ c κs. search needs) (λ c κs. search needs) returns
-    (λ c. search needs) (λ c κs. search needs) (λ c. search needs) (λ c κs. search needs) first-counter-requires begin-requires
-    (λ c. search needs) (λ c κs. search needs) (λ c κs. search needs) returns-2)
+    (λ c κs. search needs) (λ c κs. search needs) (λ c. search needs) (λ c κs. search needs) (λ c κs. search needs)
+    (λ c κs. search needs) returns (λ c. search needs) (λ c κs. search needs) (λ c. search needs) begin-requires
+    (λ c κs. search needs) returns-2)

@@ -22,6 +22,7 @@ returns c =
       label = 0;
       total = 0;
       stands = c .before .before .args .stands;
+      key = c .before .before .args .key;
     }) (c .before .none .ensures) (c .none2 .ensures)
 
 pub shut-spec : {M : Type 1} → statement M

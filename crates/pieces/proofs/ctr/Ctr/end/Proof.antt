@@ -14,7 +14,7 @@ unfolding ctrEnd
 returns c =
     let told = c .before .before in
     let at-check = told .before .before in
-    refused-there Ctr _ [] _ _ _ _ (sym (at-check .running .ensures) ∙ told .checked .given .1) (c .refused .ensures)
+    refused-there Ctr _ _ [] _ _ _ _ (sym (at-check .running .ensures) ∙ told .checked .given .1) (c .refused .ensures)
 
 returns-2 : tie.Need-returns-2
 unfolding ctrEnd
@@ -22,7 +22,7 @@ returns-2 c =
     let at-done = c .before in
     let told = at-done .before in
     let at-check = told .before .before in
-    went-on Ctr _ [] _ _ _ (sym (at-check .running .ensures) ∙ told .enum-told .given .1)
+    went-on Ctr _ _ [] _ _ _ (sym (at-check .running .ensures) ∙ told .enum-told .given .1)
     (same-step Ctr _ _ [] [] _ _ (at-done .done .ensures) refl (c .shut .ensures))
 
 pub end-spec : {M : Type 1} → statement M

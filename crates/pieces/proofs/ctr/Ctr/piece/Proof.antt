@@ -20,7 +20,7 @@ returns c =
     let told = c .before .before in
     let at-check = told .before .before in
     let a = at-check .before .before .before .args in
-    refused-there Ctr _ (now (a .out)) (a .self) _ _ _ (sym (at-check .writing .ensures) ∙ told .checked .given .1) (c .refused .ensures)
+    refused-there Ctr _ _ (now (a .out)) (a .self) _ _ _ (sym (at-check .writing .ensures) ∙ told .checked .given .1) (c .refused .ensures)
 
 passed : (x : tie.After-enum-told)
     → let a = x .before .before .before .before .before .args in
@@ -32,8 +32,8 @@ run-requires c κs =
     let at-plain = c .before .before .before .before in
     (at-plain .plain .ensures, (omega arith, passed (at-plain .before) .1))
 
-add-t13 : tie.Need-add-t13
-add-t13 c =
+add-t14 : tie.Need-add-t14
+add-t14 c =
     let told = c .before .before .before .before .before .before .before .before in
     let within = passed told .0 .within in search needs
 
@@ -46,13 +46,13 @@ returns-2 c =
     let a = at-check .before .before .before .args in
     let s = a .self in
     let ran = at-run .run .ensures in
-    went-on Ctr _ (now (a .out)) s _ _ (sym (at-check .writing .ensures) ∙ told .enum-told .given .1)
+    went-on Ctr _ _ (now (a .out)) s _ _ (sym (at-check .writing .ensures) ∙ told .enum-told .given .1)
     (same-step Ctr _ _ _ _ _ _ (c .done .ensures) (ran .1)
-    (ap {B = Ctr} (λ (f : Flow). record { rk = s .rk; flow = f; total = s .total + length (now (a .«data»)); stands = 0 }) (ran .0)))
+    (ap {B = Ctr} (λ (f : Flow). record { rk = s .rk; flow = f; total = s .total + length (now (a .«data»)); stands = 0; key = s .key }) (ran .0)))
 
 pub piece-spec : {M : Type 1} → statement M
 piece-spec =
     tie.close
     (tie.spec
     (λ c κs. search needs) (λ c. search needs) (λ c κs. search needs) returns (λ c. search needs) (λ c κs. search needs)
-    (λ c. search needs) run-requires add-t13 (λ c κs. search needs) (λ c. search needs) returns-2)
+    (λ c. search needs) run-requires add-t14 (λ c κs. search needs) (λ c. search needs) returns-2)

@@ -10,12 +10,12 @@ use denote.Ref.{now}
 use lib.ListN.{length}
 use Rattle.block.specs.Same.{same}
 use Rattle.block.specs.Xor.{xors}
-use Rattle.walk.specs.Outcome.{finished, refusal}
+use Rattle.walk.specs.Outcome.{Head, finished, refusal, under}
 use Rattle.pieces.specs.declared.opens.Opens.{Opens}
 use Rattle.pieces.specs.Hashing.{hashEnd}
 use Rattle.pieces.specs.Calls.{opensEnd}
 use Rattle.pieces.proofs.Passing.{Runs, tagged-passed}
-use Rattle.pieces.proofs.Stepping.{same-step, refused-there, went-on}
+use Rattle.pieces.proofs.Stepping.{step, same-step, refused-there, went-on}
 use borrow.Author.Needs.{needs}
 use Rattle.pieces.proofs.opens.Opens.end.Statement.{statement}
 use Rattle.pieces.proofs.opens.Opens.end.Tie as tie
@@ -26,7 +26,7 @@ returns c =
     let told = c .before .before in
     let at-check = told .before .before in
     let a = at-check .before .before .args in
-    refused-there Opens _ [] (a .self) _ _ _ (sym (at-check .tagged .ensures) ∙ told .checked .given .1) (c .refused .ensures)
+    refused-there Opens _ _ [] (a .self) _ _ _ (sym (at-check .tagged .ensures) ∙ told .checked .given .1) (c .refused .ensures)
 
 passed : (x : tie.After-enum-told)
     → let a = x .before .before .before .before .args in
@@ -51,31 +51,27 @@ tested x =
     let a = at-end .before .before .before .before .before .before .before .args in
     x .same-tag .ensures ∙ ap (λ (l : List ℕ). same (now (a .tag)) (xors (a .self .mask) l)) (at-end .end .ensures)
 
-returns-2 : tie.Need-returns-2
+-- and what it says is the definition's
+ends : (x : tie.After-same-tag) (h : Head) (t : Bool) → x .same-tag .result ≡ t
+    → let a = x .before .before .before .before .before .before .before .before .before .args in
+    h ≡ under (a .self .key) (cond t (finished 0) (refusal 4))
+    → step Opens h [] (x .before .shut .result) ≡ opensEnd (a .self) (now (a .tag))
 unfolding opensEnd
-returns-2 c =
-    let at-tag = c .before .before in
-    let at-shut = at-tag .before in
+ends x h t e f =
+    let at-shut = x .before in
     let told = at-shut .before .before .before .before in
     let at-check = told .before .before in
     let a = at-check .before .before .args in
-    let yes = sym (tested at-tag) ∙ c .before .if1 .taken in
-    went-on Opens _ [] (a .self) _ _ (sym (at-check .tagged .ensures) ∙ told .enum-told .given .1)
-    (same-step Opens _ _ [] [] _ _ (c .done .ensures ∙ sym (ap (λ (t : Bool). cond t (finished 0) (refusal 4)) yes)) refl
+    let k = a .self .key in
+    went-on Opens _ _ [] (a .self) _ _ (sym (at-check .tagged .ensures) ∙ told .enum-told .given .1)
+    (same-step Opens _ _ [] [] _ _ (f ∙ ap (λ (t : Bool). under k (cond t (finished 0) (refusal 4))) (sym e ∙ tested x)) refl
     (at-shut .shut .ensures))
 
+returns-2 : tie.Need-returns-2
+returns-2 c = ends (c .before .before) _ _ (c .before .if1 .taken) (c .done .ensures)
+
 returns-3 : tie.Need-returns-3
-unfolding opensEnd
-returns-3 c =
-    let at-tag = c .before .before in
-    let at-shut = at-tag .before in
-    let told = at-shut .before .before .before .before in
-    let at-check = told .before .before in
-    let a = at-check .before .before .args in
-    let no = sym (tested at-tag) ∙ c .before .if1 .left in
-    went-on Opens _ [] (a .self) _ _ (sym (at-check .tagged .ensures) ∙ told .enum-told .given .1)
-    (same-step Opens _ _ [] [] _ _ (c .refused2 .ensures ∙ sym (ap (λ (t : Bool). cond t (finished 0) (refusal 4)) no)) refl
-    (at-shut .shut .ensures))
+returns-3 c = ends (c .before .before) _ _ (c .before .if1 .left) (c .refused2 .ensures)
 
 pub end-spec : {M : Type 1} → statement M
 end-spec =

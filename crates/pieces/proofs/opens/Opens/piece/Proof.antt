@@ -21,7 +21,7 @@ returns c =
     let told = c .before .before in
     let at-check = told .before .before in
     let a = at-check .before .before .args in
-    refused-there Opens _ [] (a .self) _ _ _ (sym (at-check .running .ensures) ∙ told .checked .given .1) (c .refused .ensures)
+    refused-there Opens _ _ [] (a .self) _ _ _ (sym (at-check .running .ensures) ∙ told .checked .given .1) (c .refused .ensures)
 
 passed : (x : tie.After-enum-told)
     → let a = x .before .before .before .before .args in
@@ -31,8 +31,8 @@ passed x = running-passed _ _ _ _ (sym (x .before .before .running .ensures) ∙
 take-in-requires : tie.Need-take-in-requires
 take-in-requires c κs = let within = passed (c .before .before) .within in (omega arith, omega arith)
 
-add-t14 : tie.Need-add-t14
-add-t14 c = let within = passed (c .before .before .before) .within in search needs
+add-t15 : tie.Need-add-t15
+add-t15 c = let within = passed (c .before .before .before) .within in search needs
 
 returns-2 : tie.Need-returns-2
 unfolding opensPiece
@@ -42,15 +42,15 @@ returns-2 c =
     let at-check = told .before .before in
     let a = at-check .before .before .args in
     let s = a .self in
-    went-on Opens _ [] s _ _ (sym (at-check .running .ensures) ∙ told .enum-told .given .1)
+    went-on Opens _ _ [] s _ _ (sym (at-check .running .ensures) ∙ told .enum-told .given .1)
     (same-step Opens _ _ [] [] _ _ (c .done .ensures) refl
     (ap {B = Opens}
-    (λ (g : Hashing). record { hashing = g; mask = s .mask; label = s .label; total = s .total + length (now (a .«data»)); stands = 0 })
+    (λ (g : Hashing). record { hashing = g; mask = s .mask; label = s .label; total = s .total + length (now (a .«data»)); stands = 0; key = s .key })
     (at-hash .take-in .ensures)))
 
 pub piece-spec : {M : Type 1} → statement M
 piece-spec =
     tie.close
     (tie.spec
-    (λ c κs. search needs) (λ c. search needs) (λ c κs. search needs) returns (λ c. search needs) take-in-requires add-t14
+    (λ c κs. search needs) (λ c. search needs) (λ c κs. search needs) returns (λ c. search needs) take-in-requires add-t15
     (λ c κs. search needs) returns-2)

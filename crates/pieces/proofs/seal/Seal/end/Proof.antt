@@ -23,7 +23,7 @@ returns c =
     let told = c .before .before in
     let at-check = told .before .before in
     let a = at-check .before .before .args in
-    refused-there Seal _ (now (a .out)) (a .self) _ _ _ (sym (at-check .writing .ensures) ∙ told .checked .given .1) (c .refused .ensures)
+    refused-there Seal _ _ (now (a .out)) (a .self) _ _ _ (sym (at-check .writing .ensures) ∙ told .checked .given .1) (c .refused .ensures)
 
 passed : (x : tie.After-enum-told)
     → let a = x .before .before .before .before .args in
@@ -56,7 +56,7 @@ returns-2 c =
     let a = at-check .before .before .args in
     let s = a .self in
     let o = now (a .out) in
-    went-on Seal _ o s _ _ (sym (at-check .writing .ensures) ∙ told .enum-told .given .1)
+    went-on Seal _ _ o s _ _ (sym (at-check .writing .ensures) ∙ told .enum-told .given .1)
     (same-step Seal _ _ _ _ _ _ (at-done .done .ensures)
     (at-tag .xor-pad .ensures ∙ ap (λ (l : List ℕ). over (xors (s .mask) l) o) (at-end .end .ensures)) (c .shut .ensures))
 

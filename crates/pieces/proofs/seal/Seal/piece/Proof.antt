@@ -27,7 +27,7 @@ returns c =
     let told = c .before .before in
     let at-check = told .before .before in
     let a = at-check .before .before .before .args in
-    refused-there Seal _ (now (a .out)) (a .self) _ _ _ (sym (at-check .writing .ensures) ∙ told .checked .given .1) (c .refused .ensures)
+    refused-there Seal _ _ (now (a .out)) (a .self) _ _ _ (sym (at-check .writing .ensures) ∙ told .checked .given .1) (c .refused .ensures)
 
 passed : (x : tie.After-enum-told)
     → let a = x .before .before .before .before .before .args in
@@ -54,8 +54,8 @@ take-in-requires c κs =
     let within = passed told .0 .within in
     (omega arith, simp length-take (omega arith))
 
-add-t29 : tie.Need-add-t29
-add-t29 c =
+add-t30 : tie.Need-add-t30
+add-t30 c =
     let told = c .before .before .before .before .before .before .before .before .before .before .before .before .before in
     let within = passed told .0 .within in search needs
 
@@ -78,9 +78,9 @@ returns-2 c =
     let o₁ = at-run .run .last .1 .1 .1 .1 .1 .1 .0 in
     let written : take (length d - 0) o₁ ≡ text =
     rw sub-zero (ap (take (length d)) (ran .1) ∙ take-at text (drop (length text) o) (length d) n) in
-    went-on Seal _ o s _ _ (sym (at-check .writing .ensures) ∙ told .enum-told .given .1)
+    went-on Seal _ _ o s _ _ (sym (at-check .writing .ensures) ∙ told .enum-told .given .1)
     (same-step Seal _ _ _ _ _ _ (c .done .ensures) (ran .1)
-    (same-seal (s .rk) (s .mask) (s .mask) _ _ _ _ (s .label) (s .total + length d) (ran .0)
+    (same-seal (s .rk) (s .mask) (s .mask) _ _ _ _ (s .label) (s .total + length d) (s .key) (ran .0)
     (at-hash .take-in .ensures ∙ ap (hashNext (s .hashing) p) written) refl))
 
 pub piece-spec : {M : Type 1} → statement M
@@ -88,5 +88,5 @@ piece-spec =
     tie.close
     (tie.spec
     (λ c κs. search needs) (λ c. search needs) (λ c κs. search needs) returns (λ c. search needs) (λ c κs. search needs)
-    (λ c. search needs) run-requires (λ c. search needs) (λ c. search needs) part-take-in-end take-in-requires add-t29
+    (λ c. search needs) run-requires (λ c. search needs) (λ c. search needs) part-take-in-end take-in-requires add-t30
     (λ c κs. search needs) (λ c. search needs) returns-2)

@@ -1,0 +1,82 @@
+// A key's record, as a host holds it. A host can put anything into one, and each value has its answer.
+ghost use mathlib.Core.Path.{_≡_};
+ghost use Rattle.cipher_mode.specs.Key.{keyHead};
+ghost use Rattle.luossavin.specs.Key.{keyAnswerOf, cipherIn, hostKeyNew, hostKeyRetire};
+use cipher_mode::KeyAnswer;
+use cipher_mode::Sm4Cipher;
+
+#[repr(C)]
+pub struct LuossavinKey {
+    pub round_keys: [u32; 32],
+    pub answer: u32,
+    pub number: u16,
+    pub retired: u8,
+}
+
+fn key_answer_of(answer: u32) -> KeyAnswer
+    ensures { λ r. ⌜ r ≡ keyAnswerOf answer ⌝ }
+{
+    match answer {
+        0 => KeyAnswer::Key,
+        13 => KeyAnswer::WrongNumber,
+        _ => KeyAnswer::ErrorBlockSize,
+    }
+}
+
+// The record that the calls of `cipher_mode` take.
+pub(crate) fn cipher_of(key: LuossavinKey) -> Sm4Cipher
+    ensures { λ r. ⌜ r ≡ cipherIn key ⌝ }
+{
+    let rk = key.round_keys;
+    let number = key.number;
+    Sm4Cipher {
+        rk,
+        answer: key_answer_of(key.answer),
+        number,
+        retired: key.retired != 0,
+    }
+}
+
+// The number of a key's answer.
+fn answer_number(answer: KeyAnswer) -> u32
+    ensures { λ r. ⌜ r ≡ keyHead answer .number ⌝ }
+{
+    match answer {
+        KeyAnswer::Key => 0,
+        KeyAnswer::ErrorBlockSize => 1,
+        KeyAnswer::WrongNumber => 13,
+    }
+}
+
+#[no_mangle]
+pub extern "C" fn luossavin_key_new(key: &[u8], number: u32) -> LuossavinKey
+    ensures { λ r. ⌜ r ≡ hostKeyNew (now (key .entry)) number ⌝ }
+{
+    let cipher = Sm4Cipher::new(key, number);
+    let rk = cipher.rk;
+    let answer = cipher.answer;
+    LuossavinKey {
+        round_keys: rk,
+        answer: answer_number(answer),
+        number: cipher.number,
+        retired: cipher.retired as u8,
+    }
+}
+
+// A key is retired, and what is no key comes back as it was.
+#[no_mangle]
+pub extern "C" fn luossavin_key_retire(key: LuossavinKey) -> LuossavinKey
+    ensures { λ r. ⌜ r ≡ hostKeyRetire key ⌝ }
+{
+    if key.answer != 0 {
+        return key;
+    }
+    let round_keys = key.round_keys;
+    let number = key.number;
+    LuossavinKey {
+        round_keys,
+        answer: 0,
+        number,
+        retired: 1,
+    }
+}

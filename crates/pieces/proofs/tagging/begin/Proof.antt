@@ -1,0 +1,33 @@
+-- `pieces::tagging::begin` meets its contract: H and J0 are those of the keys and the IV.
+-- Assumes nothing.
+use mathlib.Core.Path.{ap, _∙_}
+use mathlib.Core.List.{[]}
+use Prim.Native.Nat.{ℕ}
+use native.Mathlib.Omega.{arith}
+use denote.Ref.{now}
+use Rattle.cipher.specs.Sm4.{encryptBlock}
+use Rattle.gcm.specs.Gcm.{firstCounter}
+use Rattle.pieces.specs.Hashing.{hashOf}
+use borrow.Author.Needs.{needs}
+use Rattle.pieces.proofs.tagging.begin.Statement.{statement}
+use Rattle.pieces.proofs.tagging.begin.Tie as tie
+
+first-counter-requires : tie.Need-first-counter-requires
+first-counter-requires c κs = c .before .before .before .before .pre .1 .1
+
+begin-requires : tie.Need-begin-requires
+begin-requires c κs = let within = c .before .before .before .before .before .pre .1 .0 in omega arith
+
+returns : tie.Need-returns
+returns c =
+    let at-begin = c .before in
+    let at-counter = at-begin .before in
+    let at-key = at-counter .before in
+    let a = at-key .before .before .before .before .args in
+    let h = at-key .hash-key .ensures in
+    let j0 = at-counter .first-counter .ensures ∙ ap (λ (h : ℕ). firstCounter h (now (a .iv))) h in
+    (j0, (at-begin .begin .ensures ∙ ap (λ (h : ℕ). hashOf h (now (a .aad)) []) h, c .ciphered .ensures ∙ ap (encryptBlock (a .rk)) j0))
+
+pub begin-spec : {M : Type 1} → statement M
+begin-spec =
+    tie.close (tie.spec (λ c κs. search needs) first-counter-requires begin-requires (λ c κs. search needs) returns)
