@@ -3,8 +3,16 @@
  * Link with libluossavin.a. The library keeps nothing between calls, allocates nothing, reads and
  * writes only the buffers of the call, and every call returns.
  *
- * Every call answers a number, a length and a count of missing bytes. The outcome, which is these three
- * and every byte of the output buffer, follows from the call's inputs alone:
+ * A key is set up once, with a number of its own, into a record that every other call takes by value:
+ *
+ *     struct luossavin_key key = luossavin_key_new(bytes, 16, 7);
+ *     struct luossavin_answer a = luossavin_encrypt(4, key, label, label_len, text, n, iv, iv_len, out, room);
+ *
+ * A key that is no longer to encrypt is retired, and decrypts as before; what holds for records is said where
+ * they are declared.
+ *
+ * Every call on a record answers a number, a length, a count of missing bytes and the key's number. The
+ * outcome, which is these four and every byte of the output buffer, follows from the call's inputs alone:
  *
  *   0  done            nothing below applies
  *   1  ErrorBlockSize  the key is not 16 bytes
@@ -19,15 +27,21 @@
  *  10  WrongIv         the IV is not 16 bytes; in Gcm, neither 12 nor 16
  *  11  WrongBlock      the single block is not 16 bytes
  *  12  Ended           the message in pieces has come to its end
+ *  13  WrongNumber     the key's number is not from 1 to 65,535
+ *  14  Retired         encryption under a retired key
  *
- * Where several apply, the first of the call's order is the answer: of a single block 1, 11, 6; of a
- * message 7, 1, 10, 5, then in Cbc 8, 2 or in Gcm 9, then 6, 3, 4; of a message in pieces 1, 10, 5 at the
- * start, and from there on what the start was refused with, then 12, 5, 9, 6, 4. Every number but 0 is a
+ * Where several apply, the first of the call's order is the answer: of setting up a key 1, 13, which the calls
+ * on that record then answer again where it stands in theirs; of a single block 1, 13, 11, 14, 6; of a message
+ * 7, 1, 13, 10, 14, 5, then in Cbc 8, 2 or in Gcm 9, then 6, 3, 4; of a message in pieces 1, 13, 10, 14, 5 at
+ * the start, and from there on what the start was refused with, then 12, 5, 9, 6, 4. Every number but 0 is a
  * refusal: it reports length 0 and changes no byte of the output buffer.
  *
  * In refusal 9 `missing` is how many bytes were missing: 16 - n for n bytes of data, or for a tag of n bytes,
  * so 16 where there was none and 1 where there were 15 bytes; 0 for a tag of more than 16. In every other
  * answer, done or refused, it is 0.
+ *
+ * `key` is the number of the key that the call was on, whether it is done or refused; 0 where no key stands,
+ * which is in refusals 7, 1 and 13.
  *
  * When a call is done, the first `length` bytes of the output buffer are the result, and every byte
  * after them is as it was. For n bytes of data:
@@ -61,7 +75,8 @@
  *
  *   - each pointer leads to as many bytes as the length beside it says, which nothing else writes
  *     during the call. Only an empty buffer may be NULL with length 0;
- *   - the output buffer overlaps no input. Inputs may overlap one another.
+ *   - the output buffer overlaps no input. Inputs may overlap one another;
+ *   - a bool is 0 or 1.
  *
  * The library remembers no IV: that no two messages are encrypted under the same key and IV, whatever its
  * length, is the host's to see to as well.
@@ -69,6 +84,7 @@
 #ifndef LUOSSAVIN_H
 #define LUOSSAVIN_H
 
+#include <stdbool.h>
 #include <stddef.h>
 #include <stdint.h>
 
@@ -76,38 +92,87 @@
 extern "C" {
 #endif
 
-/* 16 bytes, which come back in two registers. `missing` fills a part of the hole that was between the
- * other two, which stand where they stood before it came. */
+/* 16 bytes, which come back in two registers. `missing` and `key` fill parts of the hole that was between the
+ * other two, which stand where they stood before these came. */
 struct luossavin_answer {
     uint32_t number;
     uint8_t missing;
+    uint16_t key;
     size_t length;
 };
 
-/* Encrypts one block of 16 bytes under a key of 16 bytes, as GB/T 32907-2016 has it. It answers 0
- * with length 16, or 1, 11 or 6. */
-struct luossavin_answer luossavin_block_encrypt(const uint8_t *key, size_t key_len,
+/* A key's record.
+ *
+ * `answer` is 0 for a key. Otherwise setting it up was refused, with that number, and the record is no key: its
+ * other fields are 0, and the calls on it are refused with the same number. It need not be looked at, since
+ * every call says so again.
+ *
+ * When a key is changed for another, the old one's files are still to open, and nothing new is to be sealed
+ * under it. It is then retired, which is done to a copy of the record that takes its place:
+ *
+ *     key = luossavin_key_retire(key);
+ *
+ * A retired key decrypts and opens as before, in all five modes, Ofb and Ctr among them, and in pieces. Every
+ * encryption under it is refusal 14, also that of a block and the start of sealing or of Ctr's encryption in
+ * pieces. What was sealed before opens at any time, under the record as it was and under the retired one.
+ *
+ * No call takes the mark back, but the record is a value, and the host is to see to this:
+ *
+ *   - a copy that was made before is not retired, and still encrypts;
+ *   - a record that is set up anew from the same bytes is not retired: which numbers are is the host's to keep;
+ *   - a message in pieces that was started before goes on to its end, since its state has all that it needs;
+ *   - two keys with one number are not told apart by an answer;
+ *   - a record is as secret as the key, retired or not: whoever has the round keys has the key. When it is no
+ *     longer used it is the host's to overwrite, and so are copies of it, those on the stack of the caller among
+ *     them.
+ *
+ * A host can put anything into a record, and every call has an answer for every value:
+ *
+ *   round_keys   are used as they stand
+ *   answer       0 is a key, 13 answers 13, and all else 1
+ *   number       any value is repeated as it stands, 0 too
+ *   retired      0 is not retired, and all else is
+ *
+ * What is behind the last field, a byte, is no part of the record yet and may hold anything. */
+struct luossavin_key {
+    uint32_t round_keys[32];
+    uint32_t answer;
+    uint16_t number;
+    uint8_t retired;
+};
+
+/* Sets up a key of 16 bytes under a number from 1 to 65,535. The record's `answer` is 0, 1 or 13; a key is not
+ * retired. */
+struct luossavin_key luossavin_key_new(const uint8_t *key, size_t key_len, uint32_t number);
+
+/* The same key with `retired` 1, whatever it was. A record that is no key, `answer` not 0, comes back with every
+ * field as it was. */
+struct luossavin_key luossavin_key_retire(struct luossavin_key key);
+
+/* Encrypts one block of 16 bytes, as GB/T 32907-2016 has it. It answers 0 with length 16, or 1, 13, 11, 14
+ * or 6. */
+struct luossavin_answer luossavin_block_encrypt(struct luossavin_key key,
     const uint8_t *block, size_t block_len, uint8_t *out, size_t room);
 
 /* Decrypts one block: what luossavin_block_encrypt made of a block under the same key gives that
- * block back. It answers 0 with length 16, or 1, 11 or 6. */
-struct luossavin_answer luossavin_block_decrypt(const uint8_t *key, size_t key_len,
+ * block back. It answers 0 with length 16, or 1, 13, 11 or 6. */
+struct luossavin_answer luossavin_block_decrypt(struct luossavin_key key,
     const uint8_t *block, size_t block_len, uint8_t *out, size_t room);
 
-/* Encrypts `data`. The mode is 0 Cfb, 1 Ofb, 2 Ctr, 3 Cbc or 4 Gcm. Key and IV have 16 bytes each; in
- * Gcm the IV may have 12. Cbc always adds 1 to 16 bytes of padding, each holding their count. Gcm seals
- * `data` together with the label `aad`, which is not part of the output, and puts a tag of 16 bytes at
- * the end. Data of 0 bytes is encrypted as any other. It answers 0, 1, 5, 6, 7 or 10. */
-struct luossavin_answer luossavin_encrypt(uint32_t mode, const uint8_t *key, size_t key_len,
+/* Encrypts `data`. The mode is 0 Cfb, 1 Ofb, 2 Ctr, 3 Cbc or 4 Gcm. The IV has 16 bytes; in Gcm it may have
+ * 12. Cbc always adds 1 to 16 bytes of padding, each holding their count. Gcm seals `data` together with the
+ * label `aad`, which is not part of the output, and puts a tag of 16 bytes at the end. Data of 0 bytes is
+ * encrypted as any other. It answers 0, 1, 5, 6, 7, 10, 13 or 14. */
+struct luossavin_answer luossavin_encrypt(uint32_t mode, struct luossavin_key key,
     const uint8_t *aad, size_t aad_len, const uint8_t *data, size_t data_len,
     const uint8_t *iv, size_t iv_len, uint8_t *out, size_t room);
 
 /* Decrypts `data`: what luossavin_encrypt made of a message under the same mode, key, label and IV
  * gives that message back. Cbc looks at the last decrypted byte only, which names the bytes to drop;
  * the others of the padding are not read. Gcm writes nothing before the tag is found to be right, and
- * Cbc nothing before that last byte is. It answers 0 to 10: 2, 3 and 8 in Cbc alone, 4 and 9 in Gcm
- * alone. */
-struct luossavin_answer luossavin_decrypt(uint32_t mode, const uint8_t *key, size_t key_len,
+ * Cbc nothing before that last byte is. Whether the key is retired makes no difference. It answers 0 to 10 or
+ * 13: 2, 3 and 8 in Cbc alone, 4 and 9 in Gcm alone. */
+struct luossavin_answer luossavin_decrypt(uint32_t mode, struct luossavin_key key,
     const uint8_t *aad, size_t aad_len, const uint8_t *data, size_t data_len,
     const uint8_t *iv, size_t iv_len, uint8_t *out, size_t room);
 
@@ -121,7 +186,7 @@ struct luossavin_answer luossavin_decrypt(uint32_t mode, const uint8_t *key, siz
  *
  * Each call takes a state by value and gives an answer beside the next state. A loop over pieces:
  *
- *     struct luossavin_seal_step start = luossavin_seal_start(key, 16, label, label_len, iv, iv_len);
+ *     struct luossavin_seal_step start = luossavin_seal_start(key, label, label_len, iv, iv_len);
  *     struct luossavin_answer a = start.answer;
  *     while (a.number == 0 && (n = next_lines(text, sizeof text)) != 0) {
  *         a = luossavin_seal_add(&start.state, text, n, out, sizeof out);
@@ -150,6 +215,7 @@ struct luossavin_answer luossavin_decrypt(uint32_t mode, const uint8_t *key, siz
  * Every other refusal gives back the state as it was, and the message may go on: a piece that found no room
  * may come again with more, and so may an end that was refused for its room or for its tag's length. A start
  * that is refused gives no state but a record of the refusal, and every call on that answers the same number.
+ * Every answer has the key's number, as the start's had it: those of refusals, and those after an end, too.
  *
  * What is in a state is the library's own, and another release may have it otherwise: a host copies a state
  * and hands it on, and neither looks into it nor keeps it in a file. Whatever a host may put into one, every
@@ -180,6 +246,7 @@ struct luossavin_ctr {
     struct luossavin_flow flow;
     size_t total;
     uint32_t stands;
+    uint16_t key;
 };
 struct luossavin_seal {
     uint32_t round_keys[32];
@@ -189,6 +256,7 @@ struct luossavin_seal {
     size_t label;
     size_t total;
     uint32_t stands;
+    uint16_t key;
 };
 struct luossavin_opens {
     struct luossavin_hashing hashing;
@@ -196,6 +264,7 @@ struct luossavin_opens {
     size_t label;
     size_t total;
     uint32_t stands;
+    uint16_t key;
 };
 
 /* An answer beside the next state. */
@@ -212,26 +281,27 @@ struct luossavin_opens_step {
     struct luossavin_opens state;
 };
 
-/* Ctr under a key and an IV of 16 bytes each; encryption and decryption are the same. The start answers 0, 1
- * or 10, a piece 0, 5, 6 or 12, and the end, which writes nothing, 0 or 12. */
-struct luossavin_ctr_step luossavin_ctr_start(const uint8_t *key, size_t key_len,
+/* Ctr under an IV of 16 bytes. Encryption and decryption give the same bytes; which of them it is the start
+ * takes, since a retired key starts decryption alone. The start answers 0, 1, 13, 10, or 14 for encryption, a
+ * piece 0, 5, 6 or 12, and the end, which writes nothing, 0 or 12. */
+struct luossavin_ctr_step luossavin_ctr_start(struct luossavin_key key, bool decrypt,
     const uint8_t *iv, size_t iv_len);
 struct luossavin_ctr_step luossavin_ctr_piece(struct luossavin_ctr state,
     const uint8_t *data, size_t data_len, uint8_t *out, size_t room);
 struct luossavin_ctr_step luossavin_ctr_end(struct luossavin_ctr state);
 
-/* Gcm encryption under a key of 16 bytes, an IV of 12 or 16 and the whole label. The start answers 0, 1, 10,
- * or 5 for the label, a piece 0, 5, 6 or 12, and the end, which writes the tag, 0, 6 or 12. */
-struct luossavin_seal_step luossavin_seal_start(const uint8_t *key, size_t key_len,
+/* Gcm encryption under an IV of 12 or 16 bytes and the whole label. The start answers 0, 1, 13, 10, 14, or 5
+ * for the label, a piece 0, 5, 6 or 12, and the end, which writes the tag, 0, 6 or 12. */
+struct luossavin_seal_step luossavin_seal_start(struct luossavin_key key,
     const uint8_t *aad, size_t aad_len, const uint8_t *iv, size_t iv_len);
 struct luossavin_seal_step luossavin_seal_piece(struct luossavin_seal state,
     const uint8_t *data, size_t data_len, uint8_t *out, size_t room);
 struct luossavin_seal_step luossavin_seal_end(struct luossavin_seal state, uint8_t *out, size_t room);
 
 /* Whether a Gcm message opens, under the key, label and IV that it was sealed under. The pieces are those of
- * the ciphertext; the tag of 16 bytes comes with the end. The start answers 0, 1, 10, or 5 for the label, a
- * piece 0, 5 or 12, and the end 0 for yes, 4 for no, 9 or 12. */
-struct luossavin_opens_step luossavin_opens_start(const uint8_t *key, size_t key_len,
+ * the ciphertext; the tag of 16 bytes comes with the end. The key may be retired. The start answers 0, 1, 13,
+ * 10, or 5 for the label, a piece 0, 5 or 12, and the end 0 for yes, 4 for no, 9 or 12. */
+struct luossavin_opens_step luossavin_opens_start(struct luossavin_key key,
     const uint8_t *aad, size_t aad_len, const uint8_t *iv, size_t iv_len);
 struct luossavin_opens_step luossavin_opens_piece(struct luossavin_opens state,
     const uint8_t *data, size_t data_len);

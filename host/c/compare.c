@@ -3,12 +3,15 @@
  *
  *   compare < LIST
  *
- * Prints, for each of the three, how many records were compared and how many differ; how many had a 12-byte
- * IV in Gcm; and the smallest record that differs. Exit status 1 if any does, 2 if the list cannot be read.
+ * The archive makes each call under the key with number 1. Every third call it makes once more with the key
+ * retired, under another number: decryption must then be what it was, and encryption the refusal that the rules
+ * (rules.c) say. Prints, for each of the three, how many records were compared and how many differ; how many had
+ * a 12-byte IV in Gcm; what came of those that were retired; and the smallest record that differs. Exit status 1
+ * if any does, 2 if the list cannot be read.
  */
 #define _POSIX_C_SOURCE 200809L /* open_memstream */
 
-#include "luossavin.h"
+#include "calls.h"
 #include "peers.h"
 #include "records.h"
 
@@ -30,6 +33,12 @@ static struct {
     unsigned long sealed, opened, refused;
 } twelve;
 
+/* Of the records that are asked again under a retired key: how many encryptions that makes refusals, how many
+ * decryptions are done as they were, and how many of both are refused as they were. */
+static struct {
+    unsigned long stopped, decrypted, refused;
+} again;
+
 /* The number that the archive must answer: that of libsm's name, or, of the inputs that
  * docs/DIFFERENCES.md lists, what is said there. */
 static uint32_t number_for(const struct record *r)
@@ -50,10 +59,24 @@ static uint32_t number_for(const struct record *r)
     return r->name;
 }
 
-/* How many bytes the archive must say were missing: of refusal 9, those to a tag's sixteen. */
-static size_t missing_for(const struct record *r, uint32_t number)
+/* A record as the rules see it, under a key with these fields and with `slack` bytes of room more than it needs.
+ * What only libsm can know of the data is taken from its answer. */
+static struct whole whole_of(const struct record *r, struct holder key, size_t slack)
 {
-    return number == 9 ? 16 - r->data.length : 0;
+    struct whole w = {.is_block = r->mode == BLOCK, .mode = r->mode, .direction = r->direction, .key = key,
+        .iv = r->iv.length, .label = r->label.length, .data = r->data.length};
+    w.last = r->name == OK ? (uint8_t)(r->data.length - r->output.length) : 0;
+    w.wrong_tag = r->name == INVALID_TAG;
+    w.room = room_needed(&w) + slack;
+    return w;
+}
+
+/* Whether what the rules say is libsm's number and length, and where docs/DIFFERENCES.md lists another, that. Of
+ * 14 libsm knows nothing. */
+static int is_as_recorded(const struct record *r, struct luossavin_answer due)
+{
+    size_t length = due.number == 0 ? r->output.length : 0;
+    return due.number == 14 || (due.number == number_for(r) && due.length == length);
 }
 
 /* Whether a record has an IV that libsm refuses and the archive takes. */
@@ -152,62 +175,57 @@ static void ask_gcrypt(struct record *r)
     *(verdict == BAD_TAG ? &twelve.refused : r->direction == ENCRYPT ? &twelve.sealed : &twelve.opened) += 1;
 }
 
-static struct luossavin_answer call(const struct record *r, uint8_t *out, size_t room)
+static int is_filled(const uint8_t *bytes, size_t count)
 {
-    if (r->mode == BLOCK) {
-        return (r->direction == ENCRYPT ? luossavin_block_encrypt : luossavin_block_decrypt)(
-            r->key.bytes, r->key.length, r->data.bytes, r->data.length, out, room);
+    for (size_t i = 0; i < count; i++) {
+        if (bytes[i] != LENT) {
+            return 0;
+        }
     }
-    return (r->direction == ENCRYPT ? luossavin_encrypt : luossavin_decrypt)(r->mode, r->key.bytes, r->key.length,
-        r->label.bytes, r->label.length, r->data.bytes, r->data.length, r->iv.bytes, r->iv.length, out, room);
+    return 1;
 }
 
-/* The least room that the header asks for. */
-static size_t room_needed(const struct record *r)
+/* The call on a key's record, which must have the fields that are expected of it. Gives the number that is due. */
+static uint32_t compare_under(const struct record *r, struct luossavin_key key, struct holder fields, size_t slack)
 {
-    size_t n = r->data.length;
-    if (r->mode == BLOCK) {
-        return 16;
+    const struct luossavin_key due_key = holding(key, fields);
+    struct whole w = whole_of(r, fields, slack);
+    struct luossavin_answer a, due = answer_to(&w);
+    uint8_t *out = buffer(GOT, w.room + SLACK);
+    struct field got = {out, 0};
+    char what[120];
+    memset(out, LENT, w.room + SLACK);
+    a = call_whole(&w, key, r->iv.bytes, r->label.bytes, r->data.bytes, out);
+    got.length = a.length <= w.room ? a.length : w.room;
+    if (!is_as_recorded(r, due)) {
+        differs(ARCHIVE, "the rules", r, "what they say is not what is recorded", got);
+    } else if (!same_key(&key, &due_key)) {
+        snprintf(what, sizeof what, "its key's record is %u, %u, %u", key.answer, key.number, key.retired);
+        differs(ARCHIVE, "the archive", r, what, got);
+    } else if (difference(a, due) != NULL) {
+        snprintf(what, sizeof what, "number %u, missing %u, key %u, length %zu, expected %u, %u, %u, %zu", a.number,
+            a.missing, a.key, a.length, due.number, due.missing, due.key, due.length);
+        differs(ARCHIVE, "the archive", r, what, got);
+    } else if (memcmp(out, r->output.bytes, due.length) != 0) {
+        differs(ARCHIVE, "the archive", r, "the output is another", got);
+    } else if (!is_filled(out + due.length, w.room + SLACK - due.length)) {
+        differs(ARCHIVE, "the archive", r, "a byte past the length is written", got);
     }
-    if (r->mode == CBC && r->direction == ENCRYPT) {
-        return n / 16 * 16 + 16;
-    }
-    if (r->mode == GCM) {
-        return r->direction == ENCRYPT ? n + 16 : n < 16 ? 0 : n - 16;
-    }
-    return n;
+    return due.number;
 }
 
+/* Once under the key; every third time then under the key retired. */
 static void compare_archive(const struct record *r, uint32_t index)
 {
     /* the least room and more than that, by turns; what lies past the room must stay as it is too */
-    size_t room = room_needed(r) + (index % 2 ? SLACK / 2 : 0);
-    uint32_t number = number_for(r);
-    size_t missing = missing_for(r, number), length = number == 0 ? r->output.length : 0;
-    uint8_t *out = buffer(GOT, room + SLACK);
-    struct luossavin_answer a;
-    struct field got = {out, 0};
-    char what[120];
+    size_t slack = index % 2 ? SLACK / 2 : 0;
+    uint32_t number = 1 + index % 65535;
     tally[ARCHIVE].compared++;
-    memset(out, LENT, room + SLACK);
-    a = call(r, out, room);
-    got.length = a.length <= room ? a.length : room;
-    if (a.number != number || a.missing != missing || a.length != length) {
-        snprintf(what, sizeof what, "number %u, missing %u, length %zu, expected %u, %zu, %zu", a.number, a.missing,
-            a.length, number, missing, length);
-        differs(ARCHIVE, "the archive", r, what, got);
-        return;
-    }
-    if (memcmp(out, r->output.bytes, length) != 0) {
-        differs(ARCHIVE, "the archive", r, "the output is another", got);
-        return;
-    }
-    for (size_t i = length; i < room + SLACK; i++) {
-        if (out[i] != LENT) {
-            snprintf(what, sizeof what, "byte %zu, past the length, is written", i);
-            differs(ARCHIVE, "the archive", r, what, got);
-            return;
-        }
+    compare_under(r, luossavin_key_new(r->key.bytes, r->key.length, 1), set_up(r->key.length, 1), slack);
+    if (index % 3 == 2) {
+        struct luossavin_key old = luossavin_key_retire(luossavin_key_new(r->key.bytes, r->key.length, number));
+        uint32_t answer = compare_under(r, old, retired(set_up(r->key.length, number)), slack);
+        *(answer == 14 ? &again.stopped : answer == 0 ? &again.decrypted : &again.refused) += 1;
     }
 }
 
@@ -296,6 +314,8 @@ int main(void)
     }
     printf("  12-byte IVs, the archive against libgcrypt: %lu of those, %lu sealed %lu opened %lu refused\n",
         twelve.sealed + twelve.opened + twelve.refused, twelve.sealed, twelve.opened, twelve.refused);
+    printf("  asked again with the key retired: %lu of those, %lu not encrypted %lu decrypted %lu refused as before\n",
+        again.stopped + again.decrypted + again.refused, again.stopped, again.decrypted, again.refused);
     for (int side = 0; side < SIDES; side++) {
         differ += tally[side].differ;
     }

@@ -1,8 +1,9 @@
-/* What the two files of the program `faults` share: single calls, and messages in pieces. */
+/* What the three files of the program `faults` share: single calls, keys, and messages in pieces. */
 #ifndef FAULTS_H
 #define FAULTS_H
 
-enum { LIMIT = 16777216, NUMBERS = 13 };
+#include "fenced.h"
+#include "rules.h"
 
 /* How many calls were made, how many of them for each number, and how much was wrong. */
 extern unsigned long calls, wrong, calls_for[NUMBERS];
@@ -10,7 +11,31 @@ extern unsigned long calls, wrong, calls_for[NUMBERS];
 /* Prints the trial that runs, as wrong: a fault has no other way to name it. */
 extern void (*print_now)(const char *what);
 
-/* Messages in pieces, with or without those at the limits. */
+/* Whether there is still room to print one more that is wrong. */
+int is_printed(void);
+
+/* Counts a call, and prints it where its answer is not the one that is due. Whether it is. */
+int judge(struct luossavin_answer got, struct luossavin_answer due);
+
+/* The key that calls are on, with these fields in its record. */
+struct luossavin_key record(struct holder fields);
+
+/* Records of every kind: keys, retired ones, and those that are none. The first is a key that is not retired. */
+enum { HOLDERS = 9 };
+extern const struct holder holders[HOLDERS];
+
+/* What a call is lent beside data: an IV and a label, which it may only read. */
+struct beside {
+    struct buffer iv, label;
+};
+
+struct beside lend_beside(size_t iv, size_t label);
+
+/* Prints the trial where a call has written there. */
+void take_back(struct beside b);
+
+/* Keys, and messages in pieces with or without those at the limits. */
+void keys(void);
 void pieces(int with_limits);
 
 #endif

@@ -8,12 +8,14 @@
  *
  * A message is a text under a key, a label and an IV of 12 or 16 bytes. The single call and libgcrypt must agree
  * on Ctr (under 16 bytes) and on sealing; and on opening, either of what was sealed or of that with a bit of tag,
- * label or ciphertext changed. Then each way of cutting it must give the same, with refused calls in between.
+ * label or ciphertext changed. Then each way of cutting it must give the same, with refused calls in between. The
+ * key has any number, which every answer must repeat; half of Ctr's decryptions and of the openings are under it
+ * once it is retired, and what would encrypt under it then must be refused at the start.
  * Prints what is wrong and how much was done; exit status 1 if anything is wrong.
  */
 #include "pieces.h"
 
-#include "kinds.h"
+#include "calls.h"
 #include "peers.h"
 #include "random.h"
 #include "wrap.h"
@@ -29,16 +31,19 @@ enum spoil { NOTHING, THE_TAG, THE_LABEL, THE_TEXT, SPOILS };
 
 unsigned long calls, wrong;
 void (*describe)(void);
-static unsigned long messages, came_round, verdicts[2], runs;
+static unsigned long messages, came_round, verdicts[2], runs, retired_runs;
 
-/* The message that runs: what is given, its text, and what the single call makes of it in Ctr and in sealing;
- * what is received in its place for opening, under which label, and whether that opens (0 or 4). */
+/* The message that runs: what is given, the key's record as it is and retired; its text, and what the single call
+ * makes of it in Ctr and in sealing; what is received in its place for opening, under which label, and whether that
+ * opens (0 or 4). */
 static struct {
     uint64_t seed;
     enum spoil spoil;
-    uint8_t key[16], iv[16], label[LABELS], other_label[LABELS];
+    uint8_t bytes[16], iv[16], label[LABELS], other_label[LABELS];
+    struct luossavin_key key, old;
     size_t iv_len, label_len, other_len, length;
     uint32_t verdict;
+    uint16_t number;
 } m;
 static uint8_t text[LIMIT], counted[LIMIT], sealed[LIMIT + 16], received[LIMIT + 16], out[LIMIT + 16 + SLACK];
 static const uint8_t too_long[LIMIT + 1];
@@ -50,8 +55,8 @@ static enum kind now;
 static void describe_message(void)
 {
     static const char *const spoils[SPOILS] = {"nothing", "tag", "label", "text"};
-    printf("  %s, %zu bytes from %#llx, iv %zu, label %zu, changed: %s, %zu cuts:", kind_names[now], m.length,
-        (unsigned long long)m.seed, m.iv_len, m.label_len, spoils[m.spoil], cut_count);
+    printf("  %s, %zu bytes from %#llx, key %u, iv %zu, label %zu, changed: %s, %zu cuts:", kind_names[now], m.length,
+        (unsigned long long)m.seed, m.number, m.iv_len, m.label_len, spoils[m.spoil], cut_count);
     for (size_t i = 0; i < cut_count && i < 12; i++) {
         printf(" %zu", cuts[i]);
     }
@@ -71,7 +76,7 @@ int is_wrong(const char *what)
 static int is(struct luossavin_answer a, uint32_t number, size_t missing, size_t length)
 {
     calls++;
-    return a.number == number && a.missing == missing && a.length == length;
+    return a.number == number && a.missing == missing && a.key == m.number && a.length == length;
 }
 
 /* Whether the output buffer is as it was lent from `from` up to SLACK bytes behind `to`. */
@@ -123,7 +128,7 @@ static void choose_iv(void)
 static void hold_peer(int mode, struct field data, const uint8_t *ours, size_t length)
 {
     const struct field iv = {m.iv, m.iv_len}, label = {m.label, m.label_len};
-    if (peers[0].run(mode, ENCRYPT, m.key, iv, label, data, out) != DONE || memcmp(out, ours, length) != 0) {
+    if (peers[0].run(mode, ENCRYPT, m.bytes, iv, label, data, out) != DONE || memcmp(out, ours, length) != 0) {
         is_wrong("libgcrypt and the single call differ");
     }
 }
@@ -134,13 +139,13 @@ static void ask_encryption(void)
     const struct field data = {text, m.length};
     if (m.iv_len == 16) {
         now = COUNTING;
-        if (luossavin_encrypt(2, m.key, 16, NULL, 0, text, m.length, m.iv, 16, counted, m.length).number != 0) {
+        if (luossavin_encrypt(CTR, m.key, NULL, 0, text, m.length, m.iv, 16, counted, m.length).number != 0) {
             is_wrong("the single call is refused");
         }
         hold_peer(CTR, data, counted, m.length);
     }
     now = SEALING;
-    if (luossavin_encrypt(4, m.key, 16, m.label, m.label_len, text, m.length, m.iv, m.iv_len, sealed,
+    if (luossavin_encrypt(GCM, m.key, m.label, m.label_len, text, m.length, m.iv, m.iv_len, sealed,
         m.length + 16).number != 0) {
         is_wrong("the single call is refused");
     }
@@ -153,9 +158,9 @@ static void ask_opening(void)
     const struct field iv = {m.iv, m.iv_len}, label = {m.other_label, m.other_len}, data = {received, m.length + 16};
     enum verdict wanted = m.spoil == NOTHING ? DONE : BAD_TAG;
     now = OPENING;
-    m.verdict = luossavin_decrypt(4, m.key, 16, m.other_label, m.other_len, received, m.length + 16, m.iv, m.iv_len,
+    m.verdict = luossavin_decrypt(GCM, m.old, m.other_label, m.other_len, received, m.length + 16, m.iv, m.iv_len,
         out, m.length).number;
-    if (m.verdict != (wanted == DONE ? 0 : 4) || peers[0].run(GCM, DECRYPT, m.key, iv, label, data, out) != wanted) {
+    if (m.verdict != (wanted == DONE ? 0 : 4) || peers[0].run(GCM, DECRYPT, m.bytes, iv, label, data, out) != wanted) {
         is_wrong("whether the single call opens it, or libgcrypt");
     }
     verdicts[wanted]++;
@@ -170,7 +175,10 @@ static void make(size_t length, size_t iv_len, enum spoil spoil)
     m.length = length;
     m.iv_len = iv_len;
     m.label_len = m.other_len = below(LABELS);
-    draw_bytes(m.key, 16);
+    draw_bytes(m.bytes, 16);
+    m.number = (uint16_t)(1 + below(65535));
+    m.key = luossavin_key_new(m.bytes, 16, m.number);
+    m.old = luossavin_key_retire(m.key);
     draw_bytes(m.label, m.label_len);
     memcpy(m.other_label, m.label, LABELS);
     draw_bytes(text, length);
@@ -185,14 +193,38 @@ static void make(size_t length, size_t iv_len, enum spoil spoil)
 
 /* Holding it in pieces. */
 
-static struct luossavin_answer begin(struct state *s)
+/* Starts a message under the key, or, where it is retired, under the record that says so. */
+static struct luossavin_answer begin(struct state *s, bool decrypt, int is_retired)
 {
-    struct given given = {m.key, m.iv, m.label, 16, m.iv_len, m.label_len};
+    struct given given = {is_retired ? m.old : m.key, decrypt, m.iv, m.label, m.iv_len, m.label_len};
     if (now == OPENING) {
         given.label = m.other_label;
         given.label_len = m.other_len;
     }
     return call_start(now, s, &given);
+}
+
+/* A start, half of those that decrypt under the retired key. */
+static int hold_start(struct state *s)
+{
+    bool decrypt = now == COUNTING && below(2);
+    int is_retired = (decrypt || now == OPENING) && below(2);
+    retired_runs += (unsigned long)is_retired;
+    if (!is(begin(s, decrypt, is_retired), 0, 0, 0)) {
+        return is_wrong("the answer of a start");
+    }
+    return 1;
+}
+
+/* One that encrypts, which a retired key may not: nothing is left but the refusal and the key's number. */
+static int hold_retired(void)
+{
+    struct state s;
+    if (now == OPENING) {
+        return 1;
+    }
+    return (is(begin(&s, false, 1), 14, 0, 0) && holds_only(&s, 14, m.number))
+        || is_wrong("a start under a retired key");
 }
 
 /* A call that must be refused, with the state and the buffer that it had as they were. */
@@ -265,7 +297,7 @@ static int hold_end(struct state *s)
     if (now == SEALING && memcmp(out, sealed + m.length, 16) != 0) {
         return is_wrong("the tag");
     }
-    if (!clean(a.length, 16) || !holds_only(s, 12)) {
+    if (!clean(a.length, 16) || !holds_only(s, 12, m.number)) {
         return is_wrong("an end writes past its length, or leaves something in the state");
     }
     memset(out, LENT, 16);
@@ -289,8 +321,7 @@ static void hold(enum kind kind)
     size_t from = 0, older_from = 0, kept = below(cut_count + 1);
     now = kind;
     runs++;
-    if (!is(begin(&s), 0, 0, 0)) {
-        is_wrong("the answer of a start");
+    if (!hold_retired() || !hold_start(&s)) {
         return;
     }
     older = s;
@@ -400,7 +431,7 @@ int main(int argc, char **argv)
     if (messages != 0) {
         printf("  %lu messages, in %lu a counter comes round, %lu open and %lu do not; libgcrypt %s\n", messages,
             came_round, verdicts[DONE], verdicts[BAD_TAG], peers[0].version());
-        printf("  cut %lu times\n", runs);
+        printf("  cut %lu times, %lu of them under a retired key\n", runs, retired_runs);
     }
     printf("  %lu calls, %lu wrong\n", calls, wrong);
     return wrong != 0;

@@ -4,8 +4,6 @@
 
 #include <stddef.h>
 
-enum { LIMIT = 16777216 };
-
 extern unsigned long calls, wrong;
 
 /* Counts what is wrong and prints it, with what `describe` adds. Answers 0. */

@@ -1,11 +1,11 @@
-/* States that a host made up: any field holds anything. The header's order still says which number comes, a
- * refusal leaves the state as it was, a piece counts its bytes, the outcome is the same when the call is made
- * again, and buffers are fenced on either side.
+/* States that a host made up: any field holds anything. The header's order (rules.c) still says which number comes,
+ * each answer has the key's number that stands there, a refusal leaves the state as it was, a piece counts its
+ * bytes, the outcome is the same when the call is made again, and buffers are fenced on either side.
  */
 #include "pieces.h"
 
 #include "fenced.h"
-#include "kinds.h"
+#include "calls.h"
 #include "random.h"
 
 #include <signal.h>
@@ -13,20 +13,18 @@
 #include <string.h>
 #include <unistd.h>
 
-enum { MOST = 48, NUMBERS = 13 };
+enum { MOST = 48 };
 
 static unsigned long calls_for[NUMBERS];
 
-/* What runs. */
+/* What runs: a call, and the state that it is on, which holds the same. */
+static struct part now;
 static struct state given;
-static int ends;
-static size_t data_len, room;
 
 static void describe_forged(void)
 {
-    const size_t *label = label_of(&given);
-    printf("  %s, %s, total %zu, label %zu, stands %u, data %zu, room %zu\n", kind_names[given.kind],
-        ends ? "end" : "piece", *total_of(&given), label ? *label : 0, *stands_of(&given), data_len, room);
+    printf("  %s, %s, total %zu, label %zu, stands %u, key %u, data %zu, room %zu\n", kind_names[now.kind],
+        now.step == END ? "end" : "piece", now.total, now.label_before, now.stands, now.number, now.data, now.room);
 }
 
 static void on_fault(int signal)
@@ -56,10 +54,10 @@ static size_t any_length(void)
 
 static uint32_t any_standing(void)
 {
-    static const uint32_t known[] = {1, 5, 10, 12};
+    static const uint32_t known[] = {1, 5, 10, 12, 13, 14};
     switch (below(8)) {
     case 0:
-        return known[below(4)];
+        return known[below(6)];
     case 1:
         return (uint32_t)below(20);
     case 2:
@@ -69,78 +67,53 @@ static uint32_t any_standing(void)
     }
 }
 
-static void any_state(void)
+/* A state of any bytes, with some fields that are nearer to what the library gives, and a call on it. */
+static void any_call(void)
 {
     given.kind = (enum kind)below(KINDS);
-    draw_bytes(bytes_of(&given), sizeof given.is);
-    *total_of(&given) = any_length();
-    *stands_of(&given) = any_standing();
+    draw_bytes((uint8_t *)&given.is, sizeof given.is);
+    now = (struct part){.kind = given.kind, .number = *number_of(&given)};
+    *total_of(&given) = now.total = any_length();
+    *stands_of(&given) = now.stands = any_standing();
     if (label_of(&given) != NULL) {
-        *label_of(&given) = any_length();
+        *label_of(&given) = now.label_before = any_length();
     }
+    now.step = below(3) == 0 ? END : PIECE;
+    now.data = now.step == END ? 0 : below(MOST);
+    now.room = now.step == PIECE && now.kind == OPENING ? 0 : below(2) ? 16 : below(MOST);
 }
 
-/* What a call that is done writes, and so the room that it needs. */
-static size_t written(void)
-{
-    return given.kind == OPENING ? 0 : !ends ? data_len : given.kind == SEALING ? 16 : 0;
-}
-
-/* The first of the header's order that applies. Whether such fields open is theirs to decide: `said` is the answer
- * that came, and either is right. */
-static uint32_t number_for(uint32_t said)
-{
-    uint32_t stands = *stands_of(&given);
-    size_t total = *total_of(&given);
-    if (stands != 0) {
-        return stands == 1 || stands == 5 || stands == 10 ? stands : 12;
-    }
-    if (total > LIMIT || data_len > LIMIT - total || (label_of(&given) != NULL && *label_of(&given) > LIMIT)) {
-        return 5;
-    }
-    if (given.kind == OPENING && ends) {
-        return room != 16 ? 9 : said == 0 ? 0 : 4;
-    }
-    return room < written() ? 6 : 0;
-}
-
-/* Whether the answer and the state after it are in order. */
+/* Whether the answer and the state after it are in order. Whether such fields open is theirs to decide: either is
+ * right, 0 or 4. */
 static int in_order(struct luossavin_answer a, struct state *after)
 {
-    uint32_t number = number_for(a.number);
-    size_t missing = number == 9 && room < 16 ? 16 - room : 0;
-    if (a.number != number || a.missing != missing || a.length != (number == 0 ? written() : 0)) {
+    struct luossavin_answer due;
+    now.wrong_tag = a.number == 4;
+    due = answer_to_part(&now);
+    if (difference(a, due) != NULL) {
         return is_wrong("the answer on a forged state");
     }
-    calls_for[number]++;
-    if (number != 0 && number != 4) {
-        return same_state(&given, after) || is_wrong("a refusal moves a forged state");
-    }
-    if (ends) {
-        return holds_only(after, 12) || is_wrong("an end leaves something in a forged state");
-    }
-    return (*stands_of(after) == 0 && *total_of(after) == *total_of(&given) + data_len)
-        || is_wrong("a piece on a forged state counts otherwise");
+    calls_for[due.number]++;
+    return state_is_due(&now, due, &given, after) || is_wrong("the state after a forged one");
 }
 
 static struct luossavin_answer call(struct state *s, const uint8_t *data, uint8_t *bytes)
 {
     calls++;
-    return ends ? call_end(s, bytes, room) : call_piece(s, data, data_len, bytes, room);
+    return now.step == END ? call_end(s, bytes, now.room) : call_piece(s, data, now.data, bytes, now.room);
 }
 
 /* One call, made twice: into fenced memory and into a buffer that held other bytes. */
 static void one_forged(void)
 {
-    struct buffer data = lend(data_len, 0), bytes = lend(room, LENT);
+    struct buffer data = lend(now.data, 0), bytes = lend(now.room, LENT);
     struct state after = given, again = given;
     struct luossavin_answer a, b;
     uint8_t other[MOST + 1] = {0};
-    int is_tag = ends && given.kind == OPENING;
     fill(data);
     shut(data);
-    if (is_tag) {
-        memcpy(other, bytes.bytes, room);
+    if (now.step == END && now.kind == OPENING) {
+        memcpy(other, bytes.bytes, now.room);
         shut(bytes);
     }
     a = call(&after, lent(data), lent(bytes));
@@ -148,7 +121,8 @@ static void one_forged(void)
     if (in_order(a, &after)) {
         if (!untouched(bytes, a.length)) {
             is_wrong("a forged state writes past its length");
-        } else if (b.number != a.number || !same_state(&after, &again) || memcmp(other, bytes.bytes, a.length) != 0) {
+        } else if (difference(a, b) != NULL || !same_state(&after, &again)
+            || memcmp(other, bytes.bytes, a.length) != 0) {
             is_wrong("a forged state answers otherwise when it is asked again");
         }
     }
@@ -163,10 +137,7 @@ void forged(size_t count)
     signal(SIGBUS, on_fault);
     for (size_t i = 0; i < count; i++) {
         fence_after = i % 2;
-        any_state();
-        ends = below(3) == 0;
-        data_len = ends ? 0 : below(MOST);
-        room = !ends && given.kind == OPENING ? 0 : below(2) ? 16 : below(MOST);
+        any_call();
         one_forged();
     }
     printf("  by number:");

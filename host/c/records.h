@@ -2,11 +2,10 @@
 #ifndef RECORDS_H
 #define RECORDS_H
 
-#include <stddef.h>
-#include <stdint.h>
+#include "rules.h"
 
-enum { CFB, OFB, CTR, CBC, GCM, BLOCK };
-enum { ENCRYPT, DECRYPT };
+/* In the place of a mode: a single block. */
+enum { BLOCK = 5 };
 enum { OK, ERROR_BLOCK_SIZE, ERROR_DATA_LEN, INVALID_LAST_U8, INVALID_TAG, PANICKED };
 
 struct field {

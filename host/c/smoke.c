@@ -1,7 +1,7 @@
 /* The archive called from C: the answer's layout, every mode there and back, Gcm under both lengths of IV,
  * each refusal, what comes first where two things are wrong, and no byte written that is not part of a
- * result; and the same of messages in pieces (smoke_pieces.c). Prints what is wrong, and how much was
- * checked; exit status 1 if anything is.
+ * result; the same of keys, retired or not (smoke_keys.c), and of messages in pieces (smoke_pieces.c). Prints
+ * what is wrong, and how much was checked; exit status 1 if anything is.
  */
 #include "smoke.h"
 
@@ -10,37 +10,39 @@
 #include <string.h>
 
 static const char *const modes[] = {"Cfb", "Ofb", "Ctr", "Cbc", "Gcm"};
-static const uint8_t key[16] = {1, 2, 3, 4, 5, 6, 7, 8, 9, 10, 11, 12, 13, 14, 15, 16};
-static const uint8_t iv[17] = {16, 15, 14, 13, 12, 11, 10, 9, 8, 7, 6, 5, 4, 3, 2, 1, 0};
-static const uint8_t label[6] = {0, 0, 0, 7, 0, 2};
+const uint8_t key_bytes[17] = {1, 2, 3, 4, 5, 6, 7, 8, 9, 10, 11, 12, 13, 14, 15, 16, 17};
+struct luossavin_key key;
+const uint8_t iv[17] = {16, 15, 14, 13, 12, 11, 10, 9, 8, 7, 6, 5, 4, 3, 2, 1, 0};
+const uint8_t label[6] = {0, 0, 0, 7, 0, 2};
 
 static unsigned checked, wrong;
 
 void check(int holds, const char *what, const char *where, size_t n)
 {
     checked++;
-    if (!holds) {
-        wrong++;
+    if (!holds && ++wrong <= 20) {
         printf("wrong: %s, %s (%zu)\n", what, where, n);
     }
 }
 
-/* Number and length stand where they stood before `missing` came into the hole between them. */
+void stands_at(size_t is, size_t wanted, const char *what, const char *where)
+{
+    check(is == wanted, what, where, is);
+}
+
+/* Number and length stand where they stood before others came into the hole between them. */
 static void layout(void)
 {
-    size_t size = sizeof(struct luossavin_answer);
-    size_t number = offsetof(struct luossavin_answer, number);
-    size_t missing = offsetof(struct luossavin_answer, missing);
-    size_t length = offsetof(struct luossavin_answer, length);
-    check(size == 16, "its size", "the answer", size);
-    check(number == 0, "where the number stands", "the answer", number);
-    check(missing == 4, "where the missing count stands", "the answer", missing);
-    check(length == 8, "where the length stands", "the answer", length);
+    stands_at(sizeof(struct luossavin_answer), 16, "its size", "the answer");
+    stands_at(offsetof(struct luossavin_answer, number), 0, "where the number stands", "the answer");
+    stands_at(offsetof(struct luossavin_answer, missing), 4, "where the missing count stands", "the answer");
+    stands_at(offsetof(struct luossavin_answer, key), 6, "where the key's number stands", "the answer");
+    stands_at(offsetof(struct luossavin_answer, length), 8, "where the length stands", "the answer");
 }
 
 int done(struct luossavin_answer a, size_t length)
 {
-    return a.number == 0 && a.missing == 0 && a.length == length;
+    return a.number == 0 && a.missing == 0 && a.key == NUMBER && a.length == length;
 }
 
 uint8_t *lend(struct lent *l)
@@ -64,13 +66,13 @@ int untouched(const struct lent *l, size_t length)
 static struct luossavin_answer encrypt_under(size_t iv_len, uint32_t mode, const uint8_t *data, size_t n,
     uint8_t *out, size_t room)
 {
-    return luossavin_encrypt(mode, key, 16, label, sizeof label, data, n, iv, iv_len, out, room);
+    return luossavin_encrypt(mode, key, label, sizeof label, data, n, iv, iv_len, out, room);
 }
 
 static struct luossavin_answer decrypt_under(size_t iv_len, uint32_t mode, const uint8_t *data, size_t n,
     uint8_t *out, size_t room)
 {
-    return luossavin_decrypt(mode, key, 16, label, sizeof label, data, n, iv, iv_len, out, room);
+    return luossavin_decrypt(mode, key, label, sizeof label, data, n, iv, iv_len, out, room);
 }
 
 static struct luossavin_answer encrypt(uint32_t mode, const uint8_t *data, size_t n, uint8_t *out, size_t room)
@@ -114,20 +116,31 @@ static void single_block(void)
         0x86, 0xb3, 0xe9, 0x4f, 0x53, 0x6e, 0x42, 0x46};
     struct lent one, two;
     uint8_t *there = lend(&one), *back = lend(&two);
-    struct luossavin_answer a = luossavin_block_encrypt(example, 16, example, 16, there, ROOM);
+    struct luossavin_key under = luossavin_key_new(example, 16, NUMBER);
+    struct luossavin_answer a = luossavin_block_encrypt(under, example, 16, there, ROOM);
     check(done(a, 16) && untouched(&one, 16), "a block is encrypted", "block", 16);
     check(memcmp(there, result, 16) == 0, "GB/T 32907's example 1", "block", 16);
-    a = luossavin_block_decrypt(example, 16, there, 16, back, ROOM);
+    a = luossavin_block_decrypt(under, there, 16, back, ROOM);
     check(done(a, 16) && untouched(&two, 16), "a block is decrypted", "block", 16);
     check(memcmp(back, example, 16) == 0, "the block comes back", "block", 16);
 }
 
+void answered(struct luossavin_answer a, const struct lent *l, struct luossavin_answer due, const char *what)
+{
+    check(a.number == due.number, what, "its number", a.number);
+    check(a.missing == due.missing, what, "its missing count", a.missing);
+    check(a.key == due.key, what, "its key's number", a.key);
+    check(a.length == due.length, what, "its length", a.length);
+    check(untouched(l, due.length), what, "its output", due.length);
+}
+
 void refused(struct luossavin_answer a, const struct lent *l, uint32_t number, const char *what)
 {
-    check(a.number == number, what, "its number", a.number);
-    check(a.missing == 0, what, "its missing count", a.missing);
-    check(a.length == 0, what, "its length", a.length);
-    check(untouched(l, 0), what, "its output", 0);
+    struct luossavin_answer due = {.number = number, .key = NUMBER};
+    if (number == 7 || number == 1 || number == 13) {
+        due.key = 0;
+    }
+    answered(a, l, due, what);
 }
 
 /* Refusal 10 of a message that is in order but for its IV, both ways. */
@@ -174,15 +187,16 @@ const uint8_t rfc_sealed[80] = {0x17, 0xf3, 0x99, 0xf0, 0x8c, 0x67, 0xd5, 0xee, 
 static struct luossavin_answer rfc_decrypt(const uint8_t *aad, size_t aad_len, const uint8_t *nonce, size_t nonce_len,
     uint8_t *out)
 {
-    return luossavin_decrypt(4, rfc_key, 16, aad, aad_len, rfc_sealed, sizeof rfc_sealed, nonce, nonce_len, out, ROOM);
+    return luossavin_decrypt(4, luossavin_key_new(rfc_key, 16, NUMBER), aad, aad_len, rfc_sealed, sizeof rfc_sealed,
+        nonce, nonce_len, out, ROOM);
 }
 
 static void rfc_8998(void)
 {
     struct lent one, two;
     uint8_t *there = lend(&one), *back = lend(&two);
-    struct luossavin_answer a = luossavin_encrypt(4, rfc_key, 16, rfc_label, sizeof rfc_label, rfc_text,
-        sizeof rfc_text, rfc_iv, 12, there, ROOM);
+    struct luossavin_answer a = luossavin_encrypt(4, luossavin_key_new(rfc_key, 16, NUMBER), rfc_label,
+        sizeof rfc_label, rfc_text, sizeof rfc_text, rfc_iv, 12, there, ROOM);
     check(done(a, 80) && untouched(&one, 80), "it is sealed", "RFC 8998", 80);
     check(memcmp(there, rfc_sealed, 80) == 0, "ciphertext and tag", "RFC 8998", 80);
     a = rfc_decrypt(rfc_label, sizeof rfc_label, rfc_iv, 12, back);
@@ -213,10 +227,8 @@ static void rfc_8998_otherwise(void)
 /* Refusal 9 of n bytes, which are 16 - n too few for a tag. */
 static void cut_short(struct luossavin_answer a, const struct lent *l, size_t n)
 {
-    check(a.number == 9, "Gcm of too few bytes: its number", modes[4], n);
-    check(a.missing == 16 - n, "Gcm of too few bytes: its missing count", modes[4], n);
-    check(a.length == 0, "Gcm of too few bytes: its length", modes[4], n);
-    check(untouched(l, 0), "Gcm of too few bytes: its output", modes[4], n);
+    struct luossavin_answer due = {.number = 9, .missing = (uint8_t)(16 - n), .key = NUMBER};
+    answered(a, l, due, "Gcm of too few bytes");
 }
 
 const uint8_t too_long[16777217];
@@ -227,8 +239,11 @@ static void refusals(void)
     uint8_t text[32] = {0}, sealed[64];
     struct lent l;
     uint8_t *out = lend(&l);
-    refused(luossavin_encrypt(0, key, 15, NULL, 0, text, 32, iv, 16, out, ROOM), &l, 1, "a short key");
-    refused(luossavin_block_encrypt(iv, 17, text, 16, out, ROOM), &l, 1, "a long key, one block");
+    struct luossavin_key none = luossavin_key_new(key_bytes, 15, NUMBER), zeroth = luossavin_key_new(key_bytes, 16, 0);
+    refused(luossavin_encrypt(0, none, NULL, 0, text, 32, iv, 16, out, ROOM), &l, 1, "a short key");
+    refused(luossavin_block_encrypt(none, text, 16, out, ROOM), &l, 1, "a short key, one block");
+    refused(luossavin_decrypt(1, zeroth, NULL, 0, text, 32, iv, 16, out, ROOM), &l, 13, "a key with number 0");
+    refused(luossavin_block_decrypt(zeroth, text, 16, out, ROOM), &l, 13, "a key with number 0, one block");
     refused(decrypt(3, text, 17, out, ROOM), &l, 2, "Cbc of 17 bytes");
     refused(decrypt(3, text, 1, out, ROOM), &l, 2, "Cbc of 1 byte");
     /* a last byte of 17 once decrypted: the text's own, with the padding block cut off */
@@ -247,8 +262,10 @@ static void refusals(void)
         cut_short(decrypt_under(12, 4, n ? text : NULL, n, out, ROOM), &l, n);
     }
     wrong_ivs();
-    refused(luossavin_block_encrypt(key, 16, text, 15, out, ROOM), &l, 11, "a short block");
-    refused(luossavin_block_decrypt(key, 16, text, 17, out, ROOM), &l, 11, "a long block");
+    refused(luossavin_block_encrypt(key, text, 15, out, ROOM), &l, 11, "a short block");
+    refused(luossavin_block_decrypt(key, text, 17, out, ROOM), &l, 11, "a long block");
+    none = luossavin_key_retire(key);
+    refused(luossavin_encrypt(2, none, NULL, 0, text, 32, iv, 16, out, ROOM), &l, 14, "a retired key");
 }
 
 /* Where two things are wrong, the one that comes first is the answer; another's missing count is not left behind. */
@@ -257,16 +274,18 @@ static void order(void)
     uint8_t text[32] = {0};
     struct lent l;
     uint8_t *out = lend(&l);
-    refused(luossavin_block_encrypt(key, 15, text, 15, out, 0), &l, 1, "key before block, one block");
-    refused(luossavin_block_decrypt(key, 16, text, 15, out, 0), &l, 11, "block before room");
-    refused(luossavin_decrypt(5, key, 15, NULL, 0, text, 3, iv, 13, out, 0), &l, 7, "mode before key");
-    refused(luossavin_decrypt(4, key, 15, NULL, 0, text, 3, iv, 13, out, 0), &l, 1, "key before IV");
-    refused(luossavin_decrypt(4, key, 16, NULL, 0, text, 3, iv, 13, out, ROOM), &l, 10, "IV before short Gcm");
-    refused(luossavin_decrypt(3, key, 16, NULL, 0, NULL, 0, iv, 12, out, ROOM), &l, 10, "IV before empty Cbc");
-    refused(luossavin_decrypt(4, key, 16, too_long, sizeof too_long, text, 3, iv, 13, out, 0), &l, 10, "IV before label");
-    refused(luossavin_decrypt(4, key, 16, too_long, sizeof too_long, text, 3, iv, 16, out, ROOM), &l, 5, "label before short Gcm");
-    refused(luossavin_decrypt(4, key, 16, too_long, sizeof too_long, text, 3, iv, 12, out, 0), &l, 5, "label, under 12 bytes");
-    refused(luossavin_decrypt(4, key, 16, too_long, sizeof too_long, NULL, 0, iv, 16, out, 0), &l, 5, "label before no Gcm");
+    struct luossavin_key none = luossavin_key_new(key_bytes, 15, NUMBER);
+    size_t over = sizeof too_long;
+    refused(luossavin_block_encrypt(none, text, 15, out, 0), &l, 1, "key before block, one block");
+    refused(luossavin_block_decrypt(key, text, 15, out, 0), &l, 11, "block before room");
+    refused(luossavin_decrypt(5, none, NULL, 0, text, 3, iv, 13, out, 0), &l, 7, "mode before key");
+    refused(luossavin_decrypt(4, none, NULL, 0, text, 3, iv, 13, out, 0), &l, 1, "key before IV");
+    refused(luossavin_decrypt(4, key, NULL, 0, text, 3, iv, 13, out, ROOM), &l, 10, "IV before short Gcm");
+    refused(luossavin_decrypt(3, key, NULL, 0, NULL, 0, iv, 12, out, ROOM), &l, 10, "IV before empty Cbc");
+    refused(luossavin_decrypt(4, key, too_long, over, text, 3, iv, 13, out, 0), &l, 10, "IV before label");
+    refused(luossavin_decrypt(4, key, too_long, over, text, 3, iv, 16, out, ROOM), &l, 5, "label before short Gcm");
+    refused(luossavin_decrypt(4, key, too_long, over, text, 3, iv, 12, out, 0), &l, 5, "label, under 12 bytes");
+    refused(luossavin_decrypt(4, key, too_long, over, NULL, 0, iv, 16, out, 0), &l, 5, "label before no Gcm");
     cut_short(decrypt(4, text, 15, out, 0), &l, 15);
     refused(decrypt(3, text, 17, out, 0), &l, 2, "Cbc's length before room");
     refused(decrypt(3, NULL, 0, NULL, 0), &l, 8, "empty Cbc, with no room");
@@ -275,6 +294,7 @@ static void order(void)
 int main(void)
 {
     layout();
+    key = luossavin_key_new(key_bytes, 16, NUMBER);
     for (uint32_t mode = 0; mode <= 4; mode++) {
         for (size_t n = 0; n <= 40; n++) {
             there_and_back(16, mode, n);
@@ -288,6 +308,7 @@ int main(void)
     single_block();
     refusals();
     order();
+    keys();
     pieces();
     printf("%u checked, %u wrong\n", checked, wrong);
     return wrong != 0;

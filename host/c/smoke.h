@@ -1,14 +1,24 @@
-/* What the two files of the smoke test share: single calls, and messages in pieces. */
+/* What the three files of the smoke test share: single calls, keys, and messages in pieces. */
 #ifndef SMOKE_H
 #define SMOKE_H
 
-#include "luossavin.h"
+#include "rules.h"
 
 enum { EDGE = 8, ROOM = 80, LENT = 0xa5 };
 
 void check(int holds, const char *what, const char *where, size_t n);
 
-/* Whether a call is done with that length: nothing is missing then. */
+/* Whether something stands where it should, or has the size that it should. */
+void stands_at(size_t is, size_t wanted, const char *what, const char *where);
+
+/* The key that the calls are on, and its number. */
+enum { NUMBER = 0x1267 };
+extern const uint8_t key_bytes[17];
+extern struct luossavin_key key;
+
+extern const uint8_t iv[17], label[6];
+
+/* Whether a call on that key is done with that length: nothing is missing then. */
 int done(struct luossavin_answer a, size_t length);
 
 /* An output buffer with an edge on either side, all of it filled with one byte. */
@@ -21,14 +31,20 @@ uint8_t *lend(struct lent *l);
 /* Whether the buffer is as it was lent but for `length` bytes at its front. */
 int untouched(const struct lent *l, size_t length);
 
-/* A refusal with nothing missing. */
+/* A refusal with nothing missing, which has the key's number unless it says that there is no key, or no mode. */
 void refused(struct luossavin_answer a, const struct lent *l, uint32_t number, const char *what);
+
+/* An answer and the output are what the rules say. */
+void answered(struct luossavin_answer a, const struct lent *l, struct luossavin_answer due, const char *what);
 
 /* One byte more than any limit. */
 extern const uint8_t too_long[16777217];
 
 /* RFC 8998, appendix A.1: Gcm under a 12-byte IV. */
 extern const uint8_t rfc_key[16], rfc_iv[12], rfc_label[20], rfc_text[64], rfc_sealed[80];
+
+/* Records of keys: layout, setting up, retiring, and what every value of one means. */
+void keys(void);
 
 /* Messages in pieces. */
 void pieces(void);

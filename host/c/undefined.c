@@ -10,7 +10,8 @@ enum { TEXT = 100 };
 
 int main(void)
 {
-    static const uint8_t key[16] = "one key for all", iv[16] = "sixteen bytes!!";
+    static const uint8_t bytes[16] = "one key for all", iv[16] = "sixteen bytes!!";
+    const struct luossavin_key key = luossavin_key_new(bytes, sizeof bytes, 1);
     uint8_t label[] = "label of a job", text[TEXT] = "text", sealed[TEXT + 16], opened[TEXT];
     struct luossavin_answer a, b;
 
@@ -20,8 +21,8 @@ int main(void)
     }
     (void)VALGRIND_MAKE_MEM_UNDEFINED(label, sizeof label);
     (void)VALGRIND_MAKE_MEM_UNDEFINED(text, sizeof text);
-    a = luossavin_encrypt(4, key, sizeof key, label, sizeof label, text, sizeof text, iv, sizeof iv, sealed, sizeof sealed);
-    b = luossavin_decrypt(4, key, sizeof key, label, sizeof label, sealed, sizeof sealed, iv, sizeof iv, opened, sizeof opened);
+    a = luossavin_encrypt(4, key, label, sizeof label, text, sizeof text, iv, sizeof iv, sealed, sizeof sealed);
+    b = luossavin_decrypt(4, key, label, sizeof label, sealed, sizeof sealed, iv, sizeof iv, opened, sizeof opened);
     (void)VALGRIND_MAKE_MEM_DEFINED(&a, sizeof a);
     (void)VALGRIND_MAKE_MEM_DEFINED(&b, sizeof b);
     return a.number == 0 && b.number == 0 ? 0 : 2;

@@ -1,15 +1,14 @@
-/* The work that is counted: a message of SIZE bytes, encrypted or decrypted TIMES times, each time with
- * its key set up anew.
+/* The work that is counted: a message of SIZE bytes, encrypted or decrypted TIMES times.
  *
- *   work archive|libgcrypt|OpenSSL MODE encrypt|decrypt SIZE TIMES
+ *   work archive|once|libgcrypt|OpenSSL MODE encrypt|decrypt SIZE TIMES
  *   work pieces MODE encrypt|decrypt SIZE TIMES PIECE
  *   work version libgcrypt|OpenSSL
  *
- * MODE is 0 to 4. In pieces of PIECE bytes, by the archive, it is 2, or 4: sealing, or opening without the text.
- * Exit status 3 where the library does not have the mode.
+ * Each message has its key set up anew; of `once`, which is the archive too, one set-up serves all of them. MODE is
+ * 0 to 4. In pieces of PIECE bytes, by the archive, it is 2, or 4: sealing, or opening without the text. Exit
+ * status 3 where the library does not have the mode.
  */
-#include "kinds.h"
-#include "luossavin.h"
+#include "calls.h"
 #include "peers.h"
 
 #include <stdio.h>
@@ -19,17 +18,40 @@
 static const uint8_t key[16] = {1, 35, 69, 103, 137, 171, 205, 239, 254, 220, 186, 152, 118, 84, 50, 16};
 static const uint8_t iv[16] = {7};
 
-static int archive(int mode, int direction, struct field data, uint8_t *out, size_t room)
+/* What runs, of the words after the first. */
+struct task {
+    int mode, direction, times;
+    size_t size, by;
+};
+
+/* A message's work. Whether it is done. */
+typedef int work(const struct task *t, struct field data, uint8_t *out, size_t room);
+
+/* The key's record, which `once` keeps. */
+static struct luossavin_key record;
+
+static void set_up_key(void)
 {
-    struct luossavin_answer a = (direction == ENCRYPT ? luossavin_encrypt : luossavin_decrypt)(
-        mode, key, 16, NULL, 0, data.bytes, data.length, iv, 16, out, room);
-    return a.number == 0;
+    record = luossavin_key_new(key, sizeof key, 1);
 }
 
-static int in_pieces(enum kind kind, size_t by, struct field data, uint8_t *out, size_t room)
+static int once(const struct task *t, struct field data, uint8_t *out, size_t room)
 {
-    const struct given given = {key, iv, NULL, sizeof key, sizeof iv, 0};
-    size_t text = kind == OPENING ? data.length - 16 : data.length;
+    return (t->direction == ENCRYPT ? luossavin_encrypt : luossavin_decrypt)(
+        t->mode, record, NULL, 0, data.bytes, data.length, iv, 16, out, room).number == 0;
+}
+
+static int archive(const struct task *t, struct field data, uint8_t *out, size_t room)
+{
+    set_up_key();
+    return once(t, data, out, room);
+}
+
+static int in_pieces(const struct task *t, struct field data, uint8_t *out, size_t room)
+{
+    const struct given given = {.key = luossavin_key_new(key, sizeof key, 1), .iv = iv, .iv_len = sizeof iv};
+    enum kind kind = t->mode == CTR ? COUNTING : t->direction == ENCRYPT ? SEALING : OPENING;
+    size_t text = kind == OPENING ? data.length - 16 : data.length, by = t->by;
     struct state s;
     struct luossavin_answer a = call_start(kind, &s, &given);
     for (size_t i = 0; a.number == 0 && i < text; i += by) {
@@ -41,7 +63,16 @@ static int in_pieces(enum kind kind, size_t by, struct field data, uint8_t *out,
     return a.number == 0;
 }
 
-static const struct peer *named(const char *who)
+static const struct peer *peer;
+
+static int by_peer(const struct task *t, struct field data, uint8_t *out, size_t room)
+{
+    const struct field the_iv = {iv, sizeof iv}, no_label = {NULL, 0};
+    (void)room;
+    return peer->run(t->mode, t->direction, key, the_iv, no_label, data, out) == DONE;
+}
+
+static const struct peer *peer_named(const char *who)
 {
     for (int i = 0; i < 2; i++) {
         if (strcmp(who, peers[i].name) == 0) {
@@ -52,30 +83,22 @@ static const struct peer *named(const char *who)
     exit(64);
 }
 
-static int peer(const char *who, int mode, int direction, struct field data, uint8_t *out)
-{
-    const struct field the_iv = {iv, sizeof iv}, no_label = {NULL, 0};
-    return named(who)->run(mode, direction, key, the_iv, no_label, data, out) == DONE;
-}
-
-/* What runs, of the words after the first. */
-struct task {
-    int mode, direction, times;
-    size_t size, by;
-};
-
-static int once(const char *who, const struct task *t, struct field data, uint8_t *out, size_t room)
+static work *work_of(const char *who)
 {
     if (strcmp(who, "archive") == 0) {
-        return archive(t->mode, t->direction, data, out, room);
+        return archive;
+    }
+    if (strcmp(who, "once") == 0) {
+        return once;
     }
     if (strcmp(who, "pieces") == 0) {
-        return in_pieces(t->mode == CTR ? COUNTING : t->direction == ENCRYPT ? SEALING : OPENING, t->by, data, out, room);
+        return in_pieces;
     }
-    return peer(who, t->mode, t->direction, data, out);
+    peer = peer_named(who);
+    return by_peer;
 }
 
-static int run(const char *who, const struct task *t)
+static int run(work *one, const struct task *t)
 {
     size_t room = t->size + 16;
     uint8_t *text = calloc(1, room), *out = malloc(room);
@@ -83,16 +106,19 @@ static int run(const char *who, const struct task *t)
     if (text == NULL || out == NULL) {
         return 64;
     }
+    set_up_key();
     if (t->direction == DECRYPT) {
         /* something to open, made by the archive, whoever opens it */
-        if (!archive(t->mode, ENCRYPT, data, out, room)) {
+        struct task sealing = *t;
+        sealing.direction = ENCRYPT;
+        if (!once(&sealing, data, out, room)) {
             return 1;
         }
         memcpy(text, out, room);
         data.length = t->mode == CBC || t->mode == GCM ? room : t->size;
     }
     for (int i = 0; i < t->times; i++) {
-        if (!once(who, t, data, out, room)) {
+        if (!one(t, data, out, room)) {
             return 3;
         }
     }
@@ -105,7 +131,7 @@ int main(int argc, char **argv)
     int pieces = argc == 7 && strcmp(argv[1], "pieces") == 0;
     start_peers();
     if (argc == 3 && strcmp(argv[1], "version") == 0) {
-        puts(named(argv[2])->version());
+        puts(peer_named(argv[2])->version());
         return 0;
     }
     if (argc == 6 || pieces) {
@@ -116,9 +142,9 @@ int main(int argc, char **argv)
         t.by = pieces ? strtoul(argv[6], NULL, 10) : 0;
     }
     if (t.times == 0 || t.mode < CFB || t.mode > GCM || (pieces && (t.by == 0 || (t.mode != CTR && t.mode != GCM)))) {
-        fprintf(stderr, "usage: work archive|libgcrypt|OpenSSL MODE encrypt|decrypt SIZE TIMES, or work pieces 2|4 "
+        fprintf(stderr, "usage: work archive|once|libgcrypt|OpenSSL MODE encrypt|decrypt SIZE TIMES, or work pieces 2|4 "
             "encrypt|decrypt SIZE TIMES PIECE, or work version libgcrypt|OpenSSL\n");
         return 64;
     }
-    return run(argv[1], &t);
+    return run(work_of(argv[1]), &t);
 }

@@ -1,7 +1,5 @@
 #include "wrap.h"
 
-#include "luossavin.h"
-
 #include <stdio.h>
 #include <stdlib.h>
 #include <string.h>
@@ -59,7 +57,7 @@ void iv_near_ctr_wrap(uint8_t *iv, uint8_t before)
     iv[15] -= before;
 }
 
-void iv_near_gcm_wrap(const uint8_t *key, uint8_t *iv, uint8_t before)
+void iv_near_gcm_wrap(struct luossavin_key key, uint8_t *iv, uint8_t before)
 {
     const uint8_t zeros[16] = {0};
     uint8_t h[16];
@@ -67,7 +65,7 @@ void iv_near_gcm_wrap(const uint8_t *key, uint8_t *iv, uint8_t before)
     memset(iv + 12, 0xff, 4);
     iv[15] -= before;
     j0 = from_bytes(iv);
-    luossavin_block_encrypt(key, 16, zeros, 16, h, 16);
+    luossavin_block_encrypt(key, zeros, 16, h, 16);
     back = inverse(from_bytes(h));
     /* J0 is (IV x H + 128) x H, where 128 is the length block */
     found = product(product(j0, back) ^ 128, back);

@@ -1,0 +1,57 @@
+/* The library's calls as the rules see them, for the tests: those on blocks and whole messages behind one shape, and
+ * the three kinds of messages in pieces behind another. */
+#ifndef CALLS_H
+#define CALLS_H
+
+#include "rules.h"
+
+/* The call of `w`, which has the lengths, on a record, whatever the fields of the key in `w` are. */
+struct luossavin_answer call_whole(const struct whole *w, struct luossavin_key key, const uint8_t *iv,
+    const uint8_t *label, const uint8_t *data, uint8_t *out);
+
+/* In pieces, a call puts the next state in the place of the one before. */
+
+extern const char *const kind_names[KINDS];
+
+struct state {
+    enum kind kind;
+    union {
+        struct luossavin_ctr ctr;
+        struct luossavin_seal seal;
+        struct luossavin_opens opens;
+    } is;
+};
+
+/* What a start is given: Ctr takes no label, and the direction is Ctr's alone. */
+struct given {
+    struct luossavin_key key;
+    bool decrypt;
+    const uint8_t *iv, *label;
+    size_t iv_len, label_len;
+};
+
+struct luossavin_answer call_start(enum kind kind, struct state *s, const struct given *g);
+
+/* Opening takes neither out nor room. */
+struct luossavin_answer call_piece(struct state *s, const uint8_t *data, size_t data_len, uint8_t *out, size_t room);
+
+/* `bytes` are lent for sealing's tag, or are opening's; Ctr takes none. */
+struct luossavin_answer call_end(struct state *s, uint8_t *bytes, size_t count);
+
+/* Whether every field is the same. */
+int same_state(const struct state *a, const struct state *b);
+
+/* Whether every field is zero but the last two: what it stands at, and its key's number. */
+int holds_only(const struct state *s, uint32_t stands, uint16_t number);
+
+/* Fields that a forged state is given; Ctr has no label, and gives NULL. */
+size_t *total_of(struct state *s);
+size_t *label_of(struct state *s);
+uint32_t *stands_of(struct state *s);
+uint16_t *number_of(struct state *s);
+
+/* Whether the state after a call is the one that is due with its answer: a refusal leaves the one before, or, of a
+ * start, nothing but its number and the key's; an end leaves no more; a piece adds its length to the total. */
+int state_is_due(const struct part *p, struct luossavin_answer due, const struct state *before, struct state *after);
+
+#endif

@@ -1,0 +1,194 @@
+#include "rules.h"
+
+#include <string.h>
+
+/* A refusal, and whether what it is for is there. */
+struct row {
+    int holds;
+    uint32_t number;
+};
+
+/* The first that holds; 0 where none does. */
+static uint32_t first_of(const struct row *rows, size_t count)
+{
+    for (size_t i = 0; i < count; i++) {
+        if (rows[i].holds) {
+            return rows[i].number;
+        }
+    }
+    return 0;
+}
+
+#define FIRST_OF(rows) first_of(rows, sizeof rows / sizeof *rows)
+
+/* Records. */
+
+struct holder set_up(size_t bytes, uint32_t number)
+{
+    const struct row rows[] = {
+        {bytes != 16, 1},
+        {number < 1 || number > 65535, 13},
+    };
+    struct holder key = {FIRST_OF(rows), 0, 0};
+    if (key.answer == 0) {
+        key.number = (uint16_t)number;
+    }
+    return key;
+}
+
+struct holder retired(struct holder key)
+{
+    if (key.answer == 0) {
+        key.retired = 1;
+    }
+    return key;
+}
+
+struct luossavin_key holding(struct luossavin_key key, struct holder fields)
+{
+    key.answer = fields.answer;
+    key.number = fields.number;
+    key.retired = fields.retired;
+    return key;
+}
+
+int same_key(const struct luossavin_key *a, const struct luossavin_key *b)
+{
+    /* without a hole before the last field, the same fields are the same bytes up to its end */
+    _Static_assert(offsetof(struct luossavin_key, retired) == 32 * 4 + 4 + 2, "the record has a hole");
+    return memcmp(a, b, offsetof(struct luossavin_key, retired) + 1) == 0;
+}
+
+/* What a record is to a call: 0 is a key, 13 is refused so, and all else is refused with 1. */
+static uint32_t refused_as(struct holder key)
+{
+    return key.answer == 0 ? 0 : key.answer == 13 ? 13 : 1;
+}
+
+/* A refusal that comes before a key stands has no number of one. */
+static uint16_t number_in(uint32_t refusal, struct holder key)
+{
+    return refusal == 7 || refusal == 1 || refusal == 13 ? 0 : key.number;
+}
+
+/* Whole messages, and blocks. */
+
+int takes_iv(uint32_t mode, size_t bytes)
+{
+    return bytes == 16 || (mode == GCM && bytes == 12);
+}
+
+size_t room_needed(const struct whole *w)
+{
+    size_t n = w->data;
+    if (w->is_block) {
+        return 16;
+    }
+    if (w->mode == CBC) {
+        return w->direction == ENCRYPT ? n / 16 * 16 + 16 : n;
+    }
+    if (w->mode == GCM) {
+        return w->direction == ENCRYPT ? n + 16 : n < 16 ? 0 : n - 16;
+    }
+    return n;
+}
+
+static uint32_t block_number(const struct whole *w)
+{
+    const struct row rows[] = {
+        {refused_as(w->key) == 1, 1},
+        {refused_as(w->key) == 13, 13},
+        {w->data != 16, 11},
+        {w->direction == ENCRYPT && w->key.retired != 0, 14},
+        {w->room < 16, 6},
+    };
+    return FIRST_OF(rows);
+}
+
+static uint32_t message_number(const struct whole *w)
+{
+    int cbc = w->direction == DECRYPT && w->mode == CBC, gcm = w->direction == DECRYPT && w->mode == GCM;
+    const struct row rows[] = {
+        {w->mode > GCM, 7},
+        {refused_as(w->key) == 1, 1},
+        {refused_as(w->key) == 13, 13},
+        {!takes_iv(w->mode, w->iv), 10},
+        {w->direction == ENCRYPT && w->key.retired != 0, 14},
+        {w->mode == GCM && w->label > LIMIT, 5},
+        {w->data > (cbc || gcm ? LIMIT + 16 : LIMIT), 5},
+        {cbc && w->data == 0, 8},
+        {cbc && w->data % 16 != 0, 2},
+        {gcm && w->data < 16, 9},
+        {w->room < room_needed(w), 6},
+        {cbc && (w->last < 1 || w->last > 16), 3},
+        {gcm && w->wrong_tag, 4},
+    };
+    return FIRST_OF(rows);
+}
+
+struct luossavin_answer answer_to(const struct whole *w)
+{
+    struct luossavin_answer due = {0};
+    due.number = w->is_block ? block_number(w) : message_number(w);
+    due.missing = due.number == 9 ? 16 - w->data : 0;
+    due.key = number_in(due.number, w->key);
+    due.length = due.number != 0                                     ? 0
+        : !w->is_block && w->mode == CBC && w->direction == DECRYPT ? w->data - w->last
+                                                                     : room_needed(w);
+    return due;
+}
+
+/* Messages in pieces. */
+
+static uint32_t start_number(const struct part *p)
+{
+    int gcm = p->kind != COUNTING, encrypts = p->kind == SEALING || (p->kind == COUNTING && !p->decrypt);
+    const struct row rows[] = {
+        {refused_as(p->key) == 1, 1},
+        {refused_as(p->key) == 13, 13},
+        {!takes_iv(gcm ? GCM : CTR, p->iv), 10},
+        {encrypts && p->key.retired != 0, 14},
+        {gcm && p->label > LIMIT, 5},
+    };
+    return FIRST_OF(rows);
+}
+
+size_t part_needs(const struct part *p)
+{
+    return p->step == START || p->kind == OPENING ? 0 : p->step == PIECE ? p->data : p->kind == SEALING ? 16 : 0;
+}
+
+static uint32_t later_number(const struct part *p)
+{
+    int takes_tag = p->kind == OPENING && p->step == END;
+    uint32_t at = p->stands;
+    const struct row rows[] = {
+        {at == 1 || at == 5 || at == 10 || at == 13 || at == 14, at},
+        {at != 0, 12},
+        {p->kind != COUNTING && p->label_before > LIMIT, 5},
+        {p->total > LIMIT || p->data > LIMIT - p->total, 5},
+        {takes_tag && p->room != 16, 9},
+        {p->room < part_needs(p), 6},
+        {takes_tag && p->wrong_tag, 4},
+    };
+    return FIRST_OF(rows);
+}
+
+struct luossavin_answer answer_to_part(const struct part *p)
+{
+    struct luossavin_answer due = {0};
+    due.number = p->step == START ? start_number(p) : later_number(p);
+    due.missing = due.number == 9 && p->room < 16 ? 16 - p->room : 0;
+    due.key = p->step == START ? number_in(due.number, p->key) : p->number;
+    due.length = due.number == 0 ? part_needs(p) : 0;
+    return due;
+}
+
+const char *difference(struct luossavin_answer got, struct luossavin_answer due)
+{
+    return got.number != due.number   ? "its number"
+        : got.missing != due.missing  ? "its missing count"
+        : got.key != due.key          ? "its key's number"
+        : got.length != due.length    ? "its length"
+                                      : NULL;
+}

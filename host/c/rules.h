@@ -1,0 +1,65 @@
+/* What include/luossavin.h says a call answers, written down again for the tests: the refusals in their order, and
+ * with them the missing count, the key's number and the length. It goes by lengths and by fields that the tests
+ * choose themselves; nothing of the library is called, and nothing that it gave back is looked at. */
+#ifndef RULES_H
+#define RULES_H
+
+#include "luossavin.h"
+
+enum { LIMIT = 16777216, NUMBERS = 15 };
+enum { CFB, OFB, CTR, CBC, GCM };
+enum { ENCRYPT, DECRYPT };
+
+/* The fields of a key's record that an answer goes by. */
+struct holder {
+    uint32_t answer;
+    uint16_t number;
+    uint8_t retired;
+};
+
+/* Those of a key that is set up of so many bytes and a number, and of one that is retired. */
+struct holder set_up(size_t bytes, uint32_t number);
+struct holder retired(struct holder key);
+
+/* The record with these fields. */
+struct luossavin_key holding(struct luossavin_key key, struct holder fields);
+
+/* Whether every field is the same. */
+int same_key(const struct luossavin_key *a, const struct luossavin_key *b);
+
+/* A call on a whole message, or on one block. Of a message to decrypt: in Cbc, `last` is the last byte once it is
+ * decrypted; in Gcm, `wrong_tag` says that the tag is not the right one. */
+struct whole {
+    int is_block;
+    uint32_t mode;
+    int direction;
+    struct holder key;
+    size_t iv, label, data, room;
+    uint8_t last;
+    int wrong_tag;
+};
+
+int takes_iv(uint32_t mode, size_t bytes);
+size_t room_needed(const struct whole *w);
+struct luossavin_answer answer_to(const struct whole *w);
+
+/* A call on a message in pieces. A start goes by the first line of fields; a piece and an end by the second, which
+ * are those of the state that it is on, and by the third. In opening's end `room` is the tag's length. */
+enum kind { COUNTING, SEALING, OPENING, KINDS };
+enum step { START, PIECE, END };
+
+struct part {
+    enum kind kind;
+    enum step step;
+    struct holder key; int decrypt; size_t iv, label;
+    uint32_t stands; uint16_t number; size_t total, label_before;
+    size_t data, room; int wrong_tag;
+};
+
+size_t part_needs(const struct part *p);
+struct luossavin_answer answer_to_part(const struct part *p);
+
+/* What an answer has otherwise than the one that is due; NULL where they are the same. */
+const char *difference(struct luossavin_answer got, struct luossavin_answer due);
+
+#endif
