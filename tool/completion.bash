@@ -7,15 +7,15 @@ _luossavin() {
         return
     fi
     case ${COMP_WORDS[1]} in
-    seal) options='--key --iv --job --edition --force' ;;
-    open | opens) options='--key --iv --job --edition' ;;
-    encrypt) options='--mode --key --iv --force' ;;
-    decrypt) options='--mode --key --iv' ;;
+    seal) options='--key --number --retired --iv --job --edition --force' ;;
+    open | opens) options='--key --number --retired --iv --job --edition' ;;
+    encrypt) options='--mode --key --number --retired --iv --force' ;;
+    decrypt) options='--mode --key --number --retired --iv' ;;
     help | --help) options='seal open opens encrypt decrypt' ;;
     esac
     case $before in
     --mode) options='cfb ofb ctr cbc' ;;
-    --iv | --job | --edition) options='' ;;
+    --number | --iv | --job | --edition) options='' ;;
     help | --help) ;;
     *) case $word in -*) ;; *) options='' ;; esac ;;
     esac

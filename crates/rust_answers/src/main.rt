@@ -1,12 +1,15 @@
 // Replays libsm's recorded answers, read from the file that its argument names, and says how many
 // agree. A record agrees where number, length and every byte of the output are as recorded, the
-// missing count goes with them, and every byte past the length is as it was lent; and, of a 12-byte
-// IV in Gcm, which libsm refuses and ours takes, where ours does just that. README.md beside this
-// crate's folders has the form of the file and what its parts are.
+// missing count and the key's number go with them, and every byte past the length is as it was lent;
+// and, of a 12-byte IV in Gcm, which libsm refuses and ours takes, where ours does just that.
+// README.md beside this crate's folders has the form of the file and what its parts are.
 mod list;
 
 use libc::STDOUT_FILENO;
 use luossavin::LuossavinAnswer;
+
+// The number of every key here: libsm's keys have none, and ours want one.
+const NUMBER: u16 = 1;
 
 // What the output buffer holds before a call.
 const LENT: u8 = 0xa5;
@@ -54,12 +57,22 @@ fn counts_missing(number: u32, missing: u8, data: &[u8]) -> bool {
     missing == 0
 }
 
+// Whether the key's number is right: refusal 1 says 0, since no key stands, and every other answer
+// repeats the number.
+fn repeats_key(number: u32, key: u16) -> bool {
+    if number == 1 {
+        return key == 0;
+    }
+    key == NUMBER
+}
+
 // Whether libsm refused a call for its 12-byte IV in Gcm, and for nothing else: ours takes that IV.
 fn refused_for_twelve(mode: u8, name: u8, key: &[u8], iv: &[u8]) -> bool {
     mode == 4 && name == 1 && key.len() == 16 && iv.len() == 12
 }
 
-// Makes the call of a record: mode 5 is a single block, direction 0 is encryption.
+// Makes the call of a record, on the record of its key: mode 5 is a single block, direction 0 is
+// encryption.
 fn called(
     direction: u8,
     mode: u8,
@@ -69,16 +82,17 @@ fn called(
     data: &[u8],
     out: &mut [u8],
 ) -> LuossavinAnswer {
+    let keyed = luossavin::key::luossavin_key_new(key, NUMBER as u32);
     if mode == 5 {
         if direction == 0 {
-            return luossavin::luossavin_block_encrypt(key, data, out);
+            return luossavin::luossavin_block_encrypt(keyed, data, out);
         }
-        return luossavin::luossavin_block_decrypt(key, data, out);
+        return luossavin::luossavin_block_decrypt(keyed, data, out);
     }
     if direction == 0 {
-        return luossavin::luossavin_encrypt(mode as u32, key, label, data, iv, out);
+        return luossavin::luossavin_encrypt(mode as u32, keyed, label, data, iv, out);
     }
-    luossavin::luossavin_decrypt(mode as u32, key, label, data, iv, out)
+    luossavin::luossavin_decrypt(mode as u32, keyed, label, data, iv, out)
 }
 
 // Whether no byte of `out` from `at` on was written.
@@ -151,6 +165,9 @@ fn agrees(
         return false;
     }
     if !counts_missing(answer.number, answer.missing, data) {
+        return false;
+    }
+    if !repeats_key(answer.number, answer.key) {
         return false;
     }
     if answer.number != 0 {

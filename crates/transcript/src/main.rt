@@ -7,10 +7,9 @@ mod say;
 mod work;
 
 ghost use mathlib.Core.Path.{_≡_};
-ghost use Rattle.cipher_mode.specs.Key.{newCipher};
 ghost use Rattle.label.specs.Label.{labelOf};
 ghost use Rattle.transcript.specs.AtMost.{AtMost};
-ghost use Rattle.transcript.specs.Starts.{directionOf, StartsOf};
+ghost use Rattle.transcript.specs.Starts.{directionOf, cipherOf, StartsOf};
 use cipher_mode::CipherMode;
 use cipher_mode::Direction;
 use cipher_mode::Sm4Cipher;
@@ -24,14 +23,14 @@ use typed::hex::Hex;
 use typed::line::Fault;
 use typed::line::Line;
 use typed::things::EDITION;
-use typed::things::FORCE;
 use typed::things::IN;
 use typed::things::IV;
 use typed::things::JOB;
 use typed::things::KEY;
 use typed::things::MODE;
 use typed::things::NOTHING;
-use typed::things::OUT;
+use typed::things::NUMBER;
+use typed::things::RETIRED;
 use typed::words::Command;
 use typed::words::ModeName;
 use work::Starts;
@@ -68,6 +67,8 @@ const COMMAND: usize = 5;
 pub struct Asked {
     pub command: Command,
     pub places: [usize; NOTHING],
+    pub number: u32,
+    pub retired: bool,
     pub mode: CipherMode,
     pub job: u32,
     pub edition: u16,
@@ -102,10 +103,15 @@ fn run() -> u8 {
     if thing < NOTHING {
         return say::missing(thing);
     }
+    let places = line.places;
+    let read = key_number(places[NUMBER]);
+    let Number::Is(number) = read else {
+        return say::wrong(NUMBER, places[NUMBER]);
+    };
     if typed::words::wants(command, MODE) {
-        return with_mode(line);
+        return with_mode(line, number);
     }
-    with_label(line)
+    with_label(line, number)
 }
 
 // The line with the word at a place read too.
@@ -128,7 +134,20 @@ fn read_line(command: Command) -> Line {
     line
 }
 
-fn with_mode(line: Line) -> u8 {
+// The number of a key for which none was said.
+const UNNUMBERED: u32 = 1;
+
+// The key's number, which a word at this place says or none does. What does not fit is out of range as it is.
+fn key_number(at: usize) -> Number {
+    if at == 0 {
+        return Number::Is(UNNUMBERED);
+    }
+    let mut word = word_room();
+    let n = os::arg(at, &mut word);
+    typed::decimal::read_capped(typed::words::value(&word[..n]), u32::MAX)
+}
+
+fn with_mode(line: Line, number: u32) -> u8 {
     let command = line.command;
     let places = line.places;
     let mut word = word_room();
@@ -140,6 +159,8 @@ fn with_mode(line: Line) -> u8 {
     with_iv(Asked {
         command,
         places,
+        number,
+        retired: places[RETIRED] != 0,
         mode: mode_named(name),
         job: 0,
         edition: 0,
@@ -165,7 +186,7 @@ fn number_at(at: usize, most: u32) -> Number
     typed::decimal::read(typed::words::value(&word[..n]), most)
 }
 
-fn with_label(line: Line) -> u8 {
+fn with_label(line: Line, number: u32) -> u8 {
     let command = line.command;
     let places = line.places;
     let read = number_at(places[JOB], u32::MAX);
@@ -179,6 +200,8 @@ fn with_label(line: Line) -> u8 {
     with_iv(Asked {
         command,
         places,
+        number,
+        retired: places[RETIRED] != 0,
         mode: CipherMode::Gcm,
         job,
         edition: edition as u16,
@@ -220,8 +243,7 @@ fn with_key(asked: Asked, iv: &[u8]) -> u8 {
 // `file` is what the key file holds, and `key` the key that it spells. What is wrong with key or IV is said before IN is read.
 fn with_cipher(asked: Asked, file: &[u8], key: &[u8], iv: &[u8]) -> u8 {
     let begun = begin(asked, key, iv);
-    let answer = begun.answer;
-    let ending = answer.ending;
+    let ending = begun.ending;
     if let Ending::Refused(refusal) = ending {
         return refuse(refusal, asked, key.len(), iv.len(), 0);
     }
@@ -297,7 +319,7 @@ fn opens(asked: Asked, source: Source, work: Work) -> u8 {
     if output::is_alone(asked) {
         return FILES;
     }
-    say::opens(places[IN], asked.job, asked.edition)
+    say::opens(places[IN], named(asked), asked.job, asked.edition)
 }
 
 // A pass that writes. `settled`: how long IN was when a pass before this one settled it, 0 where none was needed.
@@ -321,8 +343,7 @@ fn judge(asked: Asked, pass: Pass, settled: usize) -> u8 {
     if pass.status != DONE {
         return pass.status;
     }
-    let answer = pass.answer;
-    let ending = answer.ending;
+    let ending = pass.ending;
     if settled != 0 {
         if pass.read != settled {
             return say::changed(places[IN]);
@@ -339,6 +360,15 @@ fn judge(asked: Asked, pass: Pass, settled: usize) -> u8 {
     }
 }
 
+// The key's number, where one was said, and else 0.
+fn named(asked: Asked) -> u32 {
+    let places = asked.places;
+    if places[NUMBER] == 0 {
+        return 0;
+    }
+    asked.number
+}
+
 // Says why, of a key, an IV and data of these lengths.
 fn refuse(refusal: Refusal, asked: Asked, key: usize, iv: usize, data: usize) -> u8 {
     let places = asked.places;
@@ -347,8 +377,8 @@ fn refuse(refusal: Refusal, asked: Asked, key: usize, iv: usize, data: usize) ->
     match refusal {
         Refusal::ErrorBlockSize => say::key_size(places[KEY], key),
         Refusal::ErrorDataLen => say::uneven(data),
-        Refusal::InvalidLastU8 => say::last_byte(),
-        Refusal::InvalidTag => say::tag(asked.job, asked.edition),
+        Refusal::InvalidLastU8 => say::last_byte(named(asked)),
+        Refusal::InvalidTag => say::tag(named(asked), asked.job, asked.edition),
         Refusal::TooLong => say::too_long(most(asked)),
         Refusal::NoRoom => say::no_room(),
         Refusal::EmptyCbc => say::empty(),
@@ -356,6 +386,8 @@ fn refuse(refusal: Refusal, asked: Asked, key: usize, iv: usize, data: usize) ->
         Refusal::WrongIv => say::iv_size(mode, iv),
         Refusal::WrongBlock => say::block_size(data),
         Refusal::Ended => say::ended(),
+        Refusal::WrongNumber => say::wrong_number(places[NUMBER]),
+        Refusal::Retired => say::retired(named(asked)),
     }
 }
 
@@ -372,12 +404,24 @@ fn direction_of(command: Command) -> Direction
     }
 }
 
+// The key with its number, retired where that was said.
+fn cipher_of(asked: Asked, key: &[u8]) -> Sm4Cipher
+    ensures { λ r. ⌜ r ≡ cipherOf (now (key .entry)) (asked .number) (asked .retired) ⌝ }
+{
+    let cipher = Sm4Cipher::new(key, asked.number);
+    if asked.retired {
+        return cipher.retire();
+    }
+    cipher
+}
+
 // The messages in pieces, at their start, under the key, the IV and the label of job and edition.
 fn labelled(asked: Asked, key: &[u8], iv: &[u8]) -> Starts
-    ensures { λ r. ⌜ StartsOf (newCipher (now (key .entry))) (labelOf (asked .job) (asked .edition)) (now (iv .entry)) r ⌝ }
+    ensures { λ r. ⌜ StartsOf (directionOf (asked .command)) (cipherOf (now (key .entry)) (asked .number) (asked .retired)) (labelOf (asked .job) (asked .edition)) (now (iv .entry)) r ⌝ }
 {
+    let command = asked.command;
     let label = label::label(asked.job, asked.edition);
-    work::start_all(Sm4Cipher::new(key), &label, iv)
+    work::start_all(direction_of(command), cipher_of(asked, key), &label, iv)
 }
 
 // The pass that was asked for, before its first byte.
@@ -385,5 +429,11 @@ fn begin(asked: Asked, key: &[u8], iv: &[u8]) -> Step {
     let command = asked.command;
     let mode = asked.mode;
     let starts = labelled(asked, key, iv);
-    work::start(Sm4Cipher::new(key), direction_of(command), mode, starts, iv)
+    work::start(
+        cipher_of(asked, key),
+        direction_of(command),
+        mode,
+        starts,
+        iv,
+    )
 }

@@ -1,6 +1,5 @@
 // OUT, from what is settled before its first byte to what is done once it has its last. A file is written beside itself, and
 // gets OUT's name once it is whole; what has no place to go back to is written straight.
-ghost use mathlib.Core.Path.{_≡_};
 ghost use Rattle.io.specs.Counts.{Counts};
 use crate::Asked;
 use crate::BESIDE;

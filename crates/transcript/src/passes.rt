@@ -14,14 +14,12 @@ use crate::say;
 use crate::word_room;
 use crate::work;
 use crate::work::Work;
-use cipher_mode::answer;
-use cipher_mode::answer::Answer;
 use cipher_mode::answer::Ending;
 use cipher_mode::answer::Refusal;
 use typed::things::IN;
 
 // A pass on its way: how many bytes have been read, and how many of them wait at the front of the buffer for what follows. It
-// is over with a status, which has been said where it is not `DONE`, and then with the answer of the last step.
+// is over with a status, which has been said where it is not `DONE`, and then as the last step ended.
 pub struct Pass {
     pub work: Work,
     pub output: Output,
@@ -29,7 +27,7 @@ pub struct Pass {
     pub waiting: usize,
     pub over: bool,
     pub status: u8,
-    pub answer: Answer,
+    pub ending: Ending,
 }
 
 // A pass that has read nothing yet.
@@ -43,7 +41,7 @@ pub fn start(work: Work, output: Output) -> Pass
         waiting: 0,
         over: false,
         status: DONE,
-        answer: answer::done(0),
+        ending: Ending::Done(0),
     }
 }
 
@@ -56,13 +54,21 @@ fn over(mut pass: Pass, status: u8) -> Pass
     pass
 }
 
-// A pass that is over with an answer.
-fn answered(mut pass: Pass, answer: Answer) -> Pass
+// A pass that is over, as a step ended.
+fn ended(pass: Pass, ending: Ending) -> Pass
     ensures { λ r. ⌜ r .waiting ≡ pass .waiting ⌝ }
 {
-    pass.over = true;
-    pass.answer = answer;
-    pass
+    let work = pass.work;
+    let output = pass.output;
+    Pass {
+        work,
+        output,
+        read: pass.read,
+        waiting: pass.waiting,
+        over: true,
+        status: pass.status,
+        ending,
+    }
 }
 
 // Brings the bytes from a place on, up to another, to the front of the buffer.
@@ -83,10 +89,9 @@ fn write(asked: Asked, mut pass: Pass, step: work::Step, out: &[u8]) -> Pass
     requires { ⌜ step .length ≤ length (now out) ⌝ }
     ensures { λ r. ⌜ r .waiting ≡ pass .waiting ⌝ }
 {
-    let answer = step.answer;
-    let ending = answer.ending;
+    let ending = step.ending;
     let Ending::Done(_) = ending else {
-        return answered(pass, answer);
+        return ended(pass, ending);
     };
     let before = pass.output;
     let n = step.length;
@@ -176,10 +181,10 @@ fn close(asked: Asked, t: &[u32], pass: Pass, news: News, rest: &[u8], out: &mut
     match news {
         News::Nothing => {
             let step = work::end(t, work, rest, out);
-            let answer = step.answer;
-            answered(write(asked, pass, step, out), answer)
+            let ending = step.ending;
+            ended(write(asked, pass, step, out), ending)
         }
-        News::TooMuch => answered(pass, answer::refused(Refusal::TooLong)),
+        News::TooMuch => ended(pass, Ending::Refused(Refusal::TooLong)),
         _ => over(pass, FILES),
     }
 }

@@ -19,6 +19,7 @@ use typed::things::IV;
 use typed::things::JOB;
 use typed::things::KEY;
 use typed::things::MODE;
+use typed::things::NUMBER;
 use typed::words::Command;
 
 fn text(s: &[u8]) {
@@ -72,6 +73,25 @@ fn value(at: usize) {
     let mut room = word_room();
     let n = os::arg(at, &mut room);
     name(STDERR_FILENO, typed::words::value(&room[..n]));
+}
+
+// A key, by its number where that is not 0.
+fn key(n: u32) {
+    if n == 0 {
+        text(b"this key");
+        return;
+    }
+    text(b"key ");
+    number(n as u64);
+}
+
+fn key_and_iv(n: u32) {
+    key(n);
+    if n == 0 {
+        text(b" and IV");
+    } else {
+        text(b" and this IV");
+    }
 }
 
 // What a file that is read is called.
@@ -128,6 +148,7 @@ fn expected(thing: usize) {
     match thing {
         MODE => text(b"--mode with cfb, ofb, ctr or cbc"),
         KEY => text(b"--key with a file of 16 raw bytes or 32 hex digits"),
+        NUMBER => text(b"--number with a whole number from 1 to 65535"),
         IV => text(b"--iv with hex digits, two to a byte"),
         JOB => text(b"--job with a whole number from 0 to 4294967295"),
         EDITION => text(b"--edition with a whole number from 0 to 65535"),
@@ -192,10 +213,21 @@ fn unexpected(what: &[u8], at: usize) -> u8 {
 fn no_option(line: Line) -> u8 {
     let command = line.command;
     match command {
-        Command::Seal => { unexpected(b"--key, --iv, --job, --edition or --force, not ", line.at) }
-        Command::Encrypt => unexpected(b"--mode, --key, --iv or --force, not ", line.at),
-        Command::Decrypt => unexpected(b"--mode, --key or --iv, not ", line.at),
-        _ => unexpected(b"--key, --iv, --job or --edition, not ", line.at),
+        Command::Seal => unexpected(
+            b"--key, --number, --retired, --iv, --job, --edition or --force, not ",
+            line.at,
+        ),
+        Command::Encrypt => unexpected(
+            b"--mode, --key, --number, --retired, --iv or --force, not ",
+            line.at,
+        ),
+        Command::Decrypt => {
+            unexpected(b"--mode, --key, --number, --retired or --iv, not ", line.at)
+        }
+        _ => unexpected(
+            b"--key, --number, --retired, --iv, --job or --edition, not ",
+            line.at,
+        ),
     }
 }
 
@@ -312,12 +344,16 @@ pub fn end_of_progress() {
 }
 
 // The answer to `opens`.
-pub fn opens(at: usize, job: u32, edition: u16) -> u8 {
+pub fn opens(at: usize, key: u32, job: u32, edition: u16) -> u8 {
     input(STDOUT_FILENO, at);
     io::write_all(STDOUT_FILENO, b" opens under job ");
     io::print_decimal(STDOUT_FILENO, job as u64);
     io::write_all(STDOUT_FILENO, b", edition ");
     io::print_decimal(STDOUT_FILENO, edition as u64);
+    if key != 0 {
+        io::write_all(STDOUT_FILENO, b", with key ");
+        io::print_decimal(STDOUT_FILENO, key as u64);
+    }
     if !io::write_all(STDOUT_FILENO, b"\n") {
         return cannot_write(b"-");
     }
@@ -348,19 +384,21 @@ pub fn uneven(length: usize) -> u8 {
     2
 }
 
-pub fn last_byte() -> u8 {
-    text(
-        b"3 InvalidLastU8: this file was not encrypted with cbc, this key and IV, or it was changed since\n",
-    );
+pub fn last_byte(key: u32) -> u8 {
+    text(b"3 InvalidLastU8: this file was not encrypted with cbc, ");
+    key_and_iv(key);
+    text(b", or it was changed since\n");
     3
 }
 
-pub fn tag(job: u32, edition: u16) -> u8 {
+pub fn tag(key: u32, job: u32, edition: u16) -> u8 {
     text(b"4 InvalidTag: this file was not sealed under job ");
     number(job as u64);
     text(b", edition ");
     number(edition as u64);
-    text(b", with this key and IV, or it was changed since\n");
+    text(b", with ");
+    key_and_iv(key);
+    text(b", or it was changed since\n");
     4
 }
 
@@ -415,4 +453,20 @@ pub fn block_size(length: usize) -> u8 {
 pub fn ended() -> u8 {
     text(b"12 Ended: this message has come to its end\n");
     12
+}
+
+pub fn wrong_number(at: usize) -> u8 {
+    text(b"13 WrongNumber: the key's number is 1 to 65535, not ");
+    value(at);
+    text(b"\n");
+    13
+}
+
+pub fn retired(n: u32) -> u8 {
+    text(b"14 Retired: ");
+    key(n);
+    text(
+        b" is retired: old files still open with it, and nothing new is sealed or encrypted under it; take the current key\n",
+    );
+    14
 }

@@ -1,15 +1,19 @@
 // What a pass over IN makes of its bytes: a state by value, a step for each piece, and the end. A pass that settles something
 // before the first byte is written gives none.
 ghost use mathlib.Core.Path.{_≡_};
+ghost use mathlib.Core.Bool.{false};
 ghost use Prim.Native.Nat.{_+_, _≤_};
 ghost use lib.ListN.{length};
+ghost use Rattle.block.specs.Words.{unwords};
 ghost use Rattle.cipher.specs.Engine.{Engine};
-ghost use Rattle.transcript.specs.Starts.{StartsOf};
+ghost use Rattle.counter.specs.Counter.{gcmNext};
+ghost use Rattle.gcm.specs.Gcm.{J0};
+ghost use Rattle.cipher_mode.specs.Checks.{wrongIv};
+ghost use Rattle.transcript.specs.Starts.{stateOf, StartsOf};
 use cbc::Opened;
 use cipher_mode::CipherMode;
 use cipher_mode::Direction;
 use cipher_mode::Sm4Cipher;
-use cipher_mode::answer;
 use cipher_mode::answer::Answer;
 use cipher_mode::answer::Ending;
 use cipher_mode::answer::Refusal;
@@ -47,11 +51,11 @@ pub struct Work {
     pub chain: [u32; 4],
 }
 
-// What came of a step: how many bytes it wrote, and its answer, which is done unless it was refused.
+// What came of a step: how many bytes it wrote, and how it ended, which is done unless it was refused.
 pub struct Step {
     pub work: Work,
     pub length: usize,
-    pub answer: Answer,
+    pub ending: Ending,
 }
 
 // The bytes but for the last k.
@@ -91,7 +95,7 @@ fn done(work: Work, length: usize) -> Step
     Step {
         work,
         length,
-        answer: answer::done(length),
+        ending: Ending::Done(length),
     }
 }
 
@@ -101,7 +105,7 @@ fn refused(work: Work, refusal: Refusal) -> Step
     Step {
         work,
         length: 0,
-        answer: answer::refused(refusal),
+        ending: Ending::Refused(refusal),
     }
 }
 
@@ -349,15 +353,36 @@ fn decryption(mode: CipherMode) -> Task {
     }
 }
 
-// The first chaining state: the IV, which is refused where it is no block, and in Gcm the first counter of the text.
-fn first_state(mode: CipherMode, iv: &[u8], counter: [u8; 16]) -> [u32; 4] {
-    if let CipherMode::Gcm = mode {
-        return block::split_block(&counter);
-    }
-    if iv.len() < 16 {
-        return [0u32; 4];
-    }
+// The state that an IV of a block's size is.
+fn block_state(iv: &[u8]) -> [u32; 4]
+    requires { ⌜ length (now iv) ≡ 16 ⌝ }
+    ensures { λ r. ⌜ unwords r ≡ now (iv .entry) ⌝ }
+{
     block::split_block(iv)
+}
+
+// The first counter of a Gcm text: the one after J0.
+fn text_counter(rk: [u32; 32], iv: &[u8]) -> [u32; 4]
+    requires { ⌜ wrongIv CipherMode.Gcm (length (now iv)) ≡ false ⌝ }
+    ensures { λ r. ⌜ unwords r ≡ gcmNext (J0 rk (now (iv .entry))) ⌝ }
+{
+    let t = cipher::plain();
+    let h = gcm::hash_key(&t, rk);
+    counter::gcm_block_add_one(gcm::first_counter(h, iv))
+}
+
+// The first chaining state: the IV, and in Gcm the first counter of the text.
+fn first_state(mode: CipherMode, rk: [u32; 32], iv: &[u8]) -> [u32; 4]
+    requires { ⌜ wrongIv mode (length (now iv)) ≡ false ⌝ }
+    ensures { λ r. ⌜ unwords r ≡ stateOf mode rk (now (iv .entry)) ⌝ }
+{
+    match mode {
+        CipherMode::Cfb => block_state(iv),
+        CipherMode::Ofb => block_state(iv),
+        CipherMode::Ctr => block_state(iv),
+        CipherMode::Cbc => block_state(iv),
+        CipherMode::Gcm => text_counter(rk, iv),
+    }
 }
 
 // The starts of the messages in pieces that a pass may be of.
@@ -367,16 +392,16 @@ pub struct Starts {
     pub ctr: CtrStep,
 }
 
-pub fn start_all(cipher: Sm4Cipher, label: &[u8], iv: &[u8]) -> Starts
-    ensures { λ r. ⌜ StartsOf cipher (now (label .entry)) (now (iv .entry)) r ⌝ }
+pub fn start_all(direction: Direction, cipher: Sm4Cipher, label: &[u8], iv: &[u8]) -> Starts
+    ensures { λ r. ⌜ StartsOf direction cipher (now (label .entry)) (now (iv .entry)) r ⌝ }
 {
     let seal = pieces::seal::start(cipher, label, iv);
     let opens = pieces::opens::start(cipher, label, iv);
-    let ctr = pieces::ctr::start(cipher, iv);
+    let ctr = pieces::ctr::start(direction, cipher, iv);
     Starts { seal, opens, ctr }
 }
 
-// A pass before its first byte. What is refused of key and IV is refused here.
+// A pass before its first byte. What is refused of key and IV, and of a retired key, is refused here.
 pub fn start(
     cipher: Sm4Cipher,
     direction: Direction,
@@ -388,8 +413,6 @@ pub fn start(
     let rk = cipher.rk;
     let sealing = starts.seal;
     let seal = sealing.state;
-    let flow = seal.flow;
-    let counter = flow.counter;
     let opening = starts.opens;
     let opens = opening.state;
     let counting = starts.ctr;
@@ -400,13 +423,13 @@ pub fn start(
         seal,
         opens,
         ctr,
-        chain: first_state(mode, iv, counter),
+        chain: [0u32; 4],
     };
-    let checked = checks::key_and_iv(key, mode, iv.len());
+    let checked = checks::key_and_iv(key, cipher.retired, direction, mode, iv.len());
     if let Checked::Refused(refusal) = checked {
         return refused(work, refusal);
     }
-    done(work, 0)
+    chained(work, first_state(mode, rk, iv), 0)
 }
 
 // Whether a pass only settles what another is to write.

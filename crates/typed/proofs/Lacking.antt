@@ -1,10 +1,11 @@
--- The search for a thing that a line lacks goes from each thing to the next.
+-- A value that is awaited is what a line lacks, and where none is the search goes from each thing to the next.
 -- Assumes nothing.
-use mathlib.Core.Path.{_≡_, refl, sym, _∙_}
+use mathlib.Core.Path.{_≡_, sym, _∙_}
 use mathlib.Core.Bool.{true, false, cond}
 use Prim.Native.Nat.{ℕ, suc, _+_, _-_, _<_, _≤_}
 use native.Mathlib.Numerals.{add-one}
 use native.Mathlib.Omega.{arith}
+use borrow.Author.Tests.{lt-ltb, le-ltb}
 use Rattle.typed.specs.Things.{NOTHING}
 use Rattle.typed.specs.Line.{lacks, lackingFrom, lackingIn}
 use Rattle.typed.specs.declared.line.Line.{Line}
@@ -27,6 +28,10 @@ module _ (l : Line) (k : ℕ) {r : ℕ} (e : lackingFrom l (NOTHING - k) k ≡ r
   unfolding lackingFrom
   lacking-none h = let n : NOTHING - k ≡ 0 = omega arith in sym (rw n) ∙ e
 
-pub lacking-first : (l : Line) → lackingFrom l NOTHING 0 ≡ lackingIn l
+pub lacking-value : (l : Line) → l .next < NOTHING → l .next ≡ lackingIn l
 unfolding lackingIn
-lacking-first l = refl
+lacking-value l h = rw (lt-ltb (l .next) NOTHING h)
+
+pub lacking-first : (l : Line) → NOTHING ≤ l .next → lackingFrom l NOTHING 0 ≡ lackingIn l
+unfolding lackingIn
+lacking-first l h = rw (le-ltb (l .next) NOTHING h)

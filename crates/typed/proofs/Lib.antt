@@ -5,6 +5,7 @@ mod Ranges
 mod Walks
 mod Listed
 mod Reckoning
+mod Capped
 mod HexPairs
 mod HexKey
 mod Lacking

@@ -4,8 +4,8 @@ use mathlib.Core.Bool.{Bool, true, false, cond, _&&_, _||_}
 use mathlib.Core.List.{List}
 use lib.Dec.{ltb, eqb}
 use lib.ListN.{getD, set, replicate}
-use Rattle.typed.specs.Things.{FORCE, IN, OUT, NOTHING}
-use Rattle.typed.specs.Words.{optionOf, isOption, endsOptions, hasValue, takesOf, wantsOf}
+use Rattle.typed.specs.Things.{IN, OUT, NOTHING}
+use Rattle.typed.specs.Words.{isFlag, optionOf, isOption, endsOptions, hasValue, takesOf, wantsOf}
 use Rattle.typed.specs.declared.words.Command.{Command}
 use Rattle.typed.specs.declared.line.Fault.{Fault}
 use Rattle.typed.specs.declared.line.Fault.the-variants.{NoFault, NoSuchOption, NotOfThisCommand, SaidTwice, NoValue, OneTooMany}
@@ -48,7 +48,7 @@ unfoldable pub afterOption : Line → ℕ → Bool → ℕ → Line
 afterOption l k v i =
     cond (ltb k NOTHING)
     (cond (takesOf (l .command) k)
-    (cond (unsaid l k) (cond (v || eqb k FORCE) (said l k i) (await l k)) (faulty l SaidTwice i))
+    (cond (unsaid l k) (cond (v || isFlag k) (said l k i) (await l k)) (faulty l SaidTwice i))
     (faulty l NotOfThisCommand i))
     (faulty l NoSuchOption i)
 
@@ -84,5 +84,6 @@ unfoldable pub lackingFrom : Line → ℕ → ℕ → ℕ
 lackingFrom l zero k = NOTHING
 lackingFrom l (suc n) k = cond (lacks l k) k (lackingFrom l n (suc k))
 
+-- what a line lacks: the value that is still awaited, or the first such thing
 unfoldable pub lackingIn : Line → ℕ
-lackingIn l = lackingFrom l NOTHING 0
+lackingIn l = cond (ltb (l .next) NOTHING) (l .next) (lackingFrom l NOTHING 0)

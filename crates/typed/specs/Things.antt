@@ -7,25 +7,32 @@ MODE = 0
 abbrev pub KEY : ℕ
 KEY = 1
 
+-- the key's number
+abbrev pub NUMBER : ℕ
+NUMBER = 2
+
 abbrev pub IV : ℕ
-IV = 2
+IV = 3
 
 abbrev pub JOB : ℕ
-JOB = 3
+JOB = 4
 
 abbrev pub EDITION : ℕ
-EDITION = 4
+EDITION = 5
 
--- the one option that is said without a value
+-- the options that are said without a value
 abbrev pub FORCE : ℕ
-FORCE = 5
+FORCE = 6
+
+abbrev pub RETIRED : ℕ
+RETIRED = 7
 
 abbrev pub IN : ℕ
-IN = 6
+IN = 8
 
 abbrev pub OUT : ℕ
-OUT = 7
+OUT = 9
 
 -- none of them, and so how many there are
 abbrev pub NOTHING : ℕ
-NOTHING = 8
+NOTHING = 10

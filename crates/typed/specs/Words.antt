@@ -1,6 +1,6 @@
 -- The words that a person can type: commands, modes, options.
 use Prim.Native.Nat.{ℕ, suc}
-use mathlib.Core.Bool.{Bool, true, false, cond, not, _&&_}
+use mathlib.Core.Bool.{Bool, true, false, cond, not, _&&_, _||_}
 use mathlib.Core.List.{List, [], _∷_}
 use lib.Dec.{leb, ltb, eqb}
 use lib.ListN.{length, getD, take, drop}
@@ -8,7 +8,7 @@ use Rattle.bytes.specs.Bytes.{indexOf}
 use Rattle.block.specs.Same.{same}
 use Rattle.typed.specs.Ascii.{bytes}
 use Rattle.typed.specs.Names.{placeIn}
-use Rattle.typed.specs.Things.{MODE, KEY, IV, JOB, EDITION, FORCE, OUT, NOTHING}
+use Rattle.typed.specs.Things.{MODE, KEY, NUMBER, IV, JOB, EDITION, FORCE, RETIRED, OUT, NOTHING}
 use Rattle.typed.specs.declared.words.Command.{Command}
 use Rattle.typed.specs.declared.words.Command.the-variants.{Seal, Open, Opens, Encrypt, Decrypt, Unknown}
 use Rattle.typed.specs.declared.words.ModeName.{ModeName}
@@ -29,7 +29,10 @@ abbrev pub modeOf : List ℕ → ModeName
 modeOf w = getD modes (placeIn (bytes "cfb ofb ctr cbc") w) NoMode
 
 abbrev pub options : List ℕ
-options = MODE ∷ KEY ∷ IV ∷ JOB ∷ EDITION ∷ []
+options = MODE ∷ KEY ∷ NUMBER ∷ IV ∷ JOB ∷ EDITION ∷ []
+
+abbrev pub flags : List ℕ
+flags = FORCE ∷ RETIRED ∷ []
 
 -- an option begins with a dash; a dash alone is a file
 abbrev pub isOption : List ℕ → Bool
@@ -52,11 +55,14 @@ valueOf w = cond (isOption w && hasValue w) (drop (suc (indexOf 61 w)) w) w
 
 -- an option that is said without a value
 abbrev pub flagOf : List ℕ → ℕ
-flagOf w = getD (FORCE ∷ []) (placeIn (bytes "--force") w) NOTHING
+flagOf w = getD flags (placeIn (bytes "--force --retired") w) NOTHING
+
+abbrev pub isFlag : ℕ → Bool
+isFlag k = eqb k FORCE || eqb k RETIRED
 
 -- the place of an option among those that take a value
 abbrev pub optionPlace : List ℕ → ℕ
-optionPlace w = placeIn (bytes "--mode --key --iv --job --edition") (nameOf w)
+optionPlace w = placeIn (bytes "--mode --key --number --iv --job --edition") (nameOf w)
 
 -- the thing that an option says
 abbrev pub optionOf : List ℕ → ℕ
@@ -84,6 +90,10 @@ writesSealed Unknown = false
 abbrev pub takesOf : Command → ℕ → Bool
 takesOf c k = cond (eqb k FORCE) (writesSealed c) (belongsTo c k)
 
--- whether it wants the thing to be said: all that it takes but `--force`
+-- the things that may be left unsaid: the key's number, and what is said without a value
+abbrev pub isOptional : ℕ → Bool
+isOptional k = eqb k NUMBER || isFlag k
+
+-- whether a command wants a thing to be said: all that belongs to it but these
 abbrev pub wantsOf : Command → ℕ → Bool
-wantsOf c k = cond (eqb k FORCE) false (belongsTo c k)
+wantsOf c k = cond (isOptional k) false (belongsTo c k)

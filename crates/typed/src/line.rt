@@ -3,7 +3,6 @@ ghost use mathlib.Core.Path.{_≡_};
 ghost use Prim.Native.Nat.{_<_};
 ghost use Rattle.typed.specs.Line.{lineOf, sound, unsaid, said, await, faulty, filesFrom, afterOption, afterFile, afterFree, afterWord, lacks, lackingIn};
 ghost use Rattle.typed.specs.Things.{NOTHING};
-use crate::things::FORCE;
 use crate::things::IN;
 use crate::things::NOTHING;
 use crate::things::OUT;
@@ -126,7 +125,7 @@ fn read_option(line: Line, thing: usize, valued: bool, at: usize) -> Line
     if valued {
         return say(line, thing, at);
     }
-    if thing == FORCE {
+    if words::is_flag(thing) {
         return say(line, thing, at);
     }
     wait_for(line, thing)
@@ -195,10 +194,14 @@ fn is_lacking(line: Line, thing: usize) -> bool
     false
 }
 
-// The first thing that the command wants and no word has said, or `NOTHING`.
+// The thing whose value is still awaited, or the first that the command wants and no word has said, or `NOTHING`.
 pub fn lacking(line: Line) -> usize
     ensures { λ r. ⌜ r ≡ lackingIn line ⌝ }
 {
+    let next = line.next;
+    if next < NOTHING {
+        return next;
+    }
     let mut thing = 0;
     while thing < NOTHING {
         if is_lacking(line, thing) {

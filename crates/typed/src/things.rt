@@ -3,18 +3,23 @@ pub const MODE: usize = 0;
 
 pub const KEY: usize = 1;
 
-pub const IV: usize = 2;
+// The key's number.
+pub const NUMBER: usize = 2;
 
-pub const JOB: usize = 3;
+pub const IV: usize = 3;
 
-pub const EDITION: usize = 4;
+pub const JOB: usize = 4;
 
-// The one option that is said without a value.
-pub const FORCE: usize = 5;
+pub const EDITION: usize = 5;
 
-pub const IN: usize = 6;
+// The options that are said without a value.
+pub const FORCE: usize = 6;
 
-pub const OUT: usize = 7;
+pub const RETIRED: usize = 7;
+
+pub const IN: usize = 8;
+
+pub const OUT: usize = 9;
 
 // None of them, and so how many there are.
-pub const NOTHING: usize = 8;
+pub const NOTHING: usize = 10;

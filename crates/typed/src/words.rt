@@ -3,7 +3,7 @@ ghost use mathlib.Core.Path.{_≡_};
 ghost use Prim.Native.Nat.{_≤_};
 ghost use lib.ListN.{length};
 ghost use Rattle.bytes.specs.Bytes.{indexOf};
-ghost use Rattle.typed.specs.Words.{commandOf, modeOf, flagOf, optionOf, isOption, endsOptions, hasValue, valueOf, belongsTo, writesSealed, takesOf, wantsOf};
+ghost use Rattle.typed.specs.Words.{commandOf, modeOf, flagOf, optionOf, isOption, endsOptions, hasValue, valueOf, isFlag, isOptional, belongsTo, writesSealed, takesOf, wantsOf};
 use crate::names::alike;
 use crate::names::find;
 use crate::things::EDITION;
@@ -13,7 +13,9 @@ use crate::things::JOB;
 use crate::things::KEY;
 use crate::things::MODE;
 use crate::things::NOTHING;
+use crate::things::NUMBER;
 use crate::things::OUT;
+use crate::things::RETIRED;
 
 pub enum Command {
     Seal,
@@ -89,8 +91,9 @@ pub fn value(word: &[u8]) -> &[u8]
 fn read_flag(word: &[u8]) -> usize
     ensures { λ r. ⌜ r ≡ flagOf (now (word .entry)) ⌝ }
 {
-    match find(b"--force", word) {
+    match find(b"--force --retired", word) {
         0 => FORCE,
+        1 => RETIRED,
         _ => NOTHING,
     }
 }
@@ -100,12 +103,13 @@ pub(crate) fn read_option(word: &[u8]) -> usize
     ensures { λ r. ⌜ r ≡ optionOf (now (word .entry)) ⌝ }
 {
     let n = equals_sign(word);
-    match find(b"--mode --key --iv --job --edition", &word[0..n]) {
+    match find(b"--mode --key --number --iv --job --edition", &word[0..n]) {
         0 => MODE,
         1 => KEY,
-        2 => IV,
-        3 => JOB,
-        4 => EDITION,
+        2 => NUMBER,
+        3 => IV,
+        4 => JOB,
+        5 => EDITION,
         _ => read_flag(word),
     }
 }
@@ -165,11 +169,25 @@ pub(crate) fn takes(command: Command, thing: usize) -> bool
     belongs(command, thing)
 }
 
+// Whether a thing is said without a value.
+pub(crate) fn is_flag(thing: usize) -> bool
+    ensures { λ r. ⌜ r ≡ isFlag thing ⌝ }
+{
+    thing == FORCE || thing == RETIRED
+}
+
+// Whether a thing may be left unsaid: the key's number, and what is said without a value.
+fn is_optional(thing: usize) -> bool
+    ensures { λ r. ⌜ r ≡ isOptional thing ⌝ }
+{
+    thing == NUMBER || is_flag(thing)
+}
+
 // Whether a command wants a thing to be said.
 pub fn wants(command: Command, thing: usize) -> bool
     ensures { λ r. ⌜ r ≡ wantsOf command thing ⌝ }
 {
-    if thing == FORCE {
+    if is_optional(thing) {
         return false;
     }
     belongs(command, thing)

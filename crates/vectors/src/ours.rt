@@ -8,6 +8,9 @@ use cipher_mode::Sm4CipherMode;
 use cipher_mode::answer::Answer;
 use cipher_mode::answer::Ending;
 
+// The number of every key here: a vector's key has none, and a record wants one.
+const NUMBER: u32 = 1;
+
 // Room for the longest result, and more than any length that a call here reports.
 const ROOM: usize = 256;
 
@@ -33,7 +36,7 @@ fn over(cipher: Sm4Cipher, direction: Direction, times: u32, block_in: &[u8]) ->
 
 // A block, there and back.
 fn block_vector(times: u32, key: &[u8], text: &[u8], result: &[u8]) -> bool {
-    let cipher = Sm4Cipher::new(key);
+    let cipher = Sm4Cipher::new(key, NUMBER);
     let there = over(cipher, Direction::Encrypt, times, text);
     let back = over(cipher, Direction::Decrypt, times, result);
     check::same(&there, result) && check::same(&back, text)
@@ -50,7 +53,7 @@ fn mode_vector(
     text: &[u8],
     result: &[u8],
 ) -> bool {
-    let keyed = Sm4CipherMode::new(key, mode);
+    let keyed = Sm4CipherMode::new(key, NUMBER, mode);
     let mut there = [0u8; ROOM];
     let n = length_of(keyed.encrypt(label, text, iv, &mut there));
     if n > ROOM {

@@ -1,8 +1,10 @@
--- `labelled` meets its contract: the cipher is the key's, and the label that of job and edition.
+-- `labelled` meets its contract: the direction is the command's, the cipher the key's as it was asked for, and the label that of job
+-- and edition.
 -- Assumes nothing.
 use mathlib.Core.Path.{_≡_, subst}
 use mathlib.Core.List.{List}
 use Prim.Native.Nat.{ℕ}
+use Rattle.cipher_mode.specs.declared.Direction.{Direction}
 use Rattle.cipher_mode.specs.declared.Sm4Cipher.{Sm4Cipher}
 use Rattle.transcript.specs.Starts.{StartsOf}
 use Rattle.transcript.specs.declared.work.Starts.{Starts}
@@ -10,17 +12,21 @@ use borrow.Author.Needs.{needs}
 use Rattle.transcript.proofs.labelled.Statement.{statement}
 use Rattle.transcript.proofs.labelled.Tie as tie
 
-same-starts : (c d : Sm4Cipher) (l m iv : List ℕ) (s : Starts) → c ≡ d → l ≡ m → StartsOf c l iv s → StartsOf d m iv s
-same-starts c d l m iv s e f h =
-    subst (λ (x : Sm4Cipher). StartsOf x m iv s) e (subst (λ (y : List ℕ). StartsOf c y iv s) f h)
+same-starts : (a b : Direction) (c d : Sm4Cipher) (l m iv : List ℕ) (s : Starts)
+    → a ≡ b → c ≡ d → l ≡ m → StartsOf a c l iv s → StartsOf b d m iv s
+same-starts a b c d l m iv s e f g h =
+    subst (λ (x : Direction). StartsOf x d m iv s) e
+    (subst (λ (x : Sm4Cipher). StartsOf a x m iv s) f (subst (λ (x : List ℕ). StartsOf a c x iv s) g h))
 
 returns : tie.Need-returns
 returns c =
-    let at-new = c .before .before in
-    same-starts _ _ _ _ _ (c .start-all .result) (at-new .new .ensures) (at-new .before .label .ensures) (c .start-all .ensures)
+    let at-cipher = c .before .before in
+    let at-direction = at-cipher .before in
+    same-starts _ _ _ _ _ _ _ (c .start-all .result) (at-direction .direction-of .ensures) (at-cipher .cipher-of .ensures)
+    (at-direction .before .label .ensures) (c .start-all .ensures)
 
 pub labelled-spec : {M : Type 1} → statement M
 labelled-spec =
     tie.close
     (tie.spec
-    (λ c κs. search needs) (λ c κs. search needs) (λ c. search needs) (λ c κs. search needs) returns)
+    (λ c κs. search needs) (λ c κs. search needs) (λ c κs. search needs) (λ c. search needs) (λ c κs. search needs) returns)

@@ -5,8 +5,8 @@ use borrow.Author.Needs.{needs}
 use Rattle.transcript.proofs.with_label.Statement.{statement}
 use Rattle.transcript.proofs.with_label.Tie as tie
 
-cast-t21 : tie.Need-cast-t21
-cast-t21 c =
+cast-t25 : tie.Need-cast-t25
+cast-t25 c =
     let at-number = c .before in
     let at-number-at2 = at-number .before .before in
     omega (arith, rw (at-number .read2 .given .1) at (at-number-at2 .number-at2 .ensures))
@@ -17,5 +17,5 @@ with-label-spec =
     (tie.spec
     (λ c. search needs) (λ c κs. search needs) (λ c. search needs) (λ c. search needs) (λ c. search needs)
     (λ c κs. search needs) (λ c. search needs) (λ c. search needs) (λ c κs. search needs) (λ c. search needs)
-    (λ c. search needs) (λ c. search needs) (λ c κs. search needs) (λ c. search needs) cast-t21 (λ c κs. search needs)
+    (λ c. search needs) (λ c. search needs) (λ c κs. search needs) (λ c. search needs) (λ c. search needs) cast-t25 (λ c κs. search needs)
     (λ c κs. search needs) (λ c. search needs))

@@ -1,8 +1,13 @@
 -- `cipher_mode::checks::block` meets its contract: a stage that refuses ends the list (`stops`), and after one that passed the next
 -- answers (`goes-on`).
 -- Assumes nothing.
+use mathlib.Core.Path.{_≡_}
+use lib.Dec.{ltb}
 use borrow.Author.Tests.{eq-eqb, ne-eqb, lt-ltb, le-ltb}
-use Rattle.cipher_mode.specs.Checks.{blockCheck}
+use Rattle.cipher_mode.specs.declared.answer.Refusal.the-variants.{NoRoom}
+use Rattle.cipher_mode.specs.declared.checks.Checked.{Checked}
+use Rattle.cipher_mode.specs.declared.checks.Checked.the-variants.{Passed}
+use Rattle.cipher_mode.specs.Checks.{refuse, blockCheck}
 use Rattle.cipher_mode.proofs.Passed.{stops, goes-on}
 use borrow.Author.Needs.{needs}
 use Rattle.cipher_mode.proofs.checks.block.Statement.{statement}
@@ -26,25 +31,22 @@ returns-3 c =
     goes-on _ _ _ _ (told .before .before .key .ensures) (told .enum-told .given .1)
     (rw (eq-eqb _ _ (at-mark .before .if1 .left)) (stops _ _ _ _ (at-mark .retired .ensures) (c .enum-told4 .given .1)))
 
-returns-4 : tie.Need-returns-4
+-- past key, block and mark the room decides
+to-room : (c : tie.After-enum-told3) (r : Checked)
+    → let a = c .before .before .before .before .before .before .before .args in
+    r ≡ refuse (ltb (a .room) 16) NoRoom Passed → r ≡ blockCheck (a .answer) (a .mark) (a .direction) (a .n) (a .room)
 unfolding blockCheck
-returns-4 c =
-    let marked = c .before in
-    let at-mark = marked .before .before in
+to-room c r e =
+    let at-mark = c .before .before in
     let told = at-mark .before .before in
     goes-on _ _ _ _ (told .before .before .key .ensures) (told .enum-told .given .1)
-    (rw (eq-eqb _ _ (at-mark .before .if1 .left))
-    (goes-on _ _ _ _ (at-mark .retired .ensures) (marked .enum-told3 .given .1) (rw (lt-ltb _ _ (c .if2 .taken)))))
+    (rw (eq-eqb _ _ (at-mark .before .if1 .left)) (goes-on _ _ _ _ (at-mark .retired .ensures) (c .enum-told3 .given .1) e))
+
+returns-4 : tie.Need-returns-4
+returns-4 c = to-room (c .before) _ (rw (lt-ltb _ _ (c .if2 .taken)))
 
 returns-5 : tie.Need-returns-5
-unfolding blockCheck
-returns-5 c =
-    let marked = c .before in
-    let at-mark = marked .before .before in
-    let told = at-mark .before .before in
-    goes-on _ _ _ _ (told .before .before .key .ensures) (told .enum-told .given .1)
-    (rw (eq-eqb _ _ (at-mark .before .if1 .left))
-    (goes-on _ _ _ _ (at-mark .retired .ensures) (marked .enum-told3 .given .1) (rw (le-ltb _ _ (c .if2 .left)))))
+returns-5 c = to-room (c .before) _ (rw (le-ltb _ _ (c .if2 .left)))
 
 pub block-spec : {M : Type 1} → statement M
 block-spec =

@@ -1,8 +1,7 @@
 -- `work::cbc_text_end` meets its contract. What passed the check are full blocks, and what opening reports lies within the output.
 -- Assumes nothing.
-use mathlib.Core.Path.{_≡_, sym, _∙_}
+use mathlib.Core.Path.{sym, _∙_}
 use native.Mathlib.Omega.{arith}
-use denote.Ref.{now}
 use Rattle.cipher_mode.proofs.Passed.{whole-blocks-passed}
 use Rattle.transcript.proofs.Within.{opened-within}
 use borrow.Author.Needs.{needs}

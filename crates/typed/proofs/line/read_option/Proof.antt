@@ -3,11 +3,12 @@
 -- what the last call made of the line.
 -- Assumes nothing.
 use mathlib.Core.Path.{_≡_, _∙_}
-use mathlib.Core.Bool.{true, or-true}
-use borrow.Author.Tests.{lt-ltb, le-ltb, eq-eqb, ne-eqb, not-true, not-false}
+use mathlib.Core.Bool.{Bool, true, false, cond}
+use borrow.Author.Tests.{lt-ltb, le-ltb, not-true, not-false}
+use Rattle.typed.specs.declared.line.Line.{Line}
 use Rattle.typed.specs.Things.{NOTHING}
 use Rattle.typed.specs.Words.{takesOf}
-use Rattle.typed.specs.Line.{unsaid, afterOption}
+use Rattle.typed.specs.Line.{unsaid, said, await, afterOption}
 use Rattle.typed.proofs.Verdicts.{told}
 use borrow.Author.Needs.{needs}
 use Rattle.typed.proofs.line.read_option.Statement.{statement}
@@ -36,8 +37,8 @@ returns-3 c =
     let at-is-unsaid = c .before .before in
     let at-if2 = at-is-unsaid .before in
     let at-if1 = at-if2 .before .before in
-    let said = told (at-is-unsaid .is-unsaid .ensures) (not-true _ (c .before .if3 .taken)) in
-    c .blame3 .ensures ∙ rw (lt-ltb _ NOTHING (at-if1 .if1 .left), taken at-if2, said)
+    let not-fresh = told (at-is-unsaid .is-unsaid .ensures) (not-true _ (c .before .if3 .taken)) in
+    c .blame3 .ensures ∙ rw (lt-ltb _ NOTHING (at-if1 .if1 .left), taken at-if2, not-fresh)
 
 -- past the third test the thing has not been said
 fresh : (c : tie.Else3) → let args = c .before .before .before .before .before .args in unsaid (args .line) (args .thing) ≡ true
@@ -51,30 +52,28 @@ returns-4 c =
     let at-if1 = at-if2 .before .before in
     c .say .ensures ∙ rw (lt-ltb _ NOTHING (at-if1 .if1 .left), taken at-if2, fresh at-if3, c .before .if4 .taken)
 
-returns-5 : tie.Need-returns-5
+-- past the fourth, whether the thing is said without a value decides
+by-flag : (c : tie.After-is-flag) (flag : Bool) (r : Line) → c .is-flag .result ≡ flag
+    → let a = c .before .before .before .before .before .before .before .args in
+    r ≡ cond flag (said (a .line) (a .thing) (a .at)) (await (a .line) (a .thing)) → r ≡ afterOption (a .line) (a .thing) (a .valued) (a .at)
 unfolding afterOption
-returns-5 c =
-    let at-if4 = c .before .before in
+by-flag c flag r e f =
+    let at-if4 = c .before in
     let at-if3 = at-if4 .before in
     let at-if2 = at-if3 .before .before in
     let at-if1 = at-if2 .before .before in
-    c .say2 .ensures
-    ∙ rw (lt-ltb _ NOTHING (at-if1 .if1 .left), taken at-if2, fresh at-if3, at-if4 .if4 .left, eq-eqb _ _ (c .before .if5 .taken))
+    f ∙ rw (lt-ltb _ NOTHING (at-if1 .if1 .left), taken at-if2, fresh at-if3, at-if4 .if4 .left, told (c .is-flag .ensures) e)
+
+returns-5 : tie.Need-returns-5
+returns-5 c = by-flag (c .before .before) true _ (c .before .if5 .taken) (c .say2 .ensures)
 
 returns-6 : tie.Need-returns-6
-unfolding afterOption
-returns-6 c =
-    let at-if4 = c .before .before in
-    let at-if3 = at-if4 .before in
-    let at-if2 = at-if3 .before .before in
-    let at-if1 = at-if2 .before .before in
-    c .wait-for .ensures
-    ∙ rw (lt-ltb _ NOTHING (at-if1 .if1 .left), taken at-if2, fresh at-if3, at-if4 .if4 .left, ne-eqb _ _ (c .before .if5 .left))
+returns-6 c = by-flag (c .before .before) false _ (c .before .if5 .left) (c .wait-for .ensures)
 
 pub read-option-spec : {M : Type 1} → statement M
 read-option-spec =
     tie.close
     (tie.spec
     (λ c κs. search needs) returns (λ c κs. search needs) (λ c κs. search needs) returns-2 (λ c κs. search needs)
-    (λ c κs. search needs) returns-3 (λ c κs. search needs) returns-4 (λ c κs. search needs) returns-5
-    (λ c κs. search needs) returns-6)
+    (λ c κs. search needs) returns-3 (λ c κs. search needs) returns-4 (λ c κs. search needs)
+    (λ c κs. search needs) returns-5 (λ c κs. search needs) returns-6)

@@ -5,7 +5,7 @@ use mathlib.Core.Path.{_≡_, refl}
 use Prim.Native.Nat.{_≤_, _*_, _-_}
 use native.Mathlib.Omega.{arith}
 use denote.Ref.{now}
-use lib.ListN.{length, length-append, length-drop}
+use lib.ListN.{length}
 use Rattle.typed.proofs.Showing.{Left, byte-le, left-turn, left-end}
 use Rattle.typed.proofs.shown.put.Statement.{statement}
 use Rattle.typed.proofs.shown.put.Tie as tie

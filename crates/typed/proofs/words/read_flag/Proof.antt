@@ -1,8 +1,8 @@
--- `words::read_flag` meets its contract. The first arm is the flag at the place that `find` answers; the other is for
--- every place past it.
+-- `words::read_flag` meets its contract. Each arm is the flag at the place that `find` answers; the last is for every
+-- place past those.
 -- Assumes nothing.
-use mathlib.Core.List.{[], _∷_}
-use Rattle.typed.specs.Things.{FORCE, NOTHING}
+use Rattle.typed.specs.Things.{NOTHING}
+use Rattle.typed.specs.Words.{flags}
 use Rattle.typed.proofs.Verdicts.{told, told-none}
 use borrow.Author.Needs.{needs}
 use Rattle.typed.proofs.words.read_flag.Statement.{statement}
@@ -13,4 +13,5 @@ read-flag-spec =
     tie.close
     (tie.spec
     (λ c. search needs) (λ c κs. search needs) (λ c. rw (told (c .before .find .ensures) (c .match .keys1)))
-    (λ c. told-none (FORCE ∷ []) NOTHING (c .before .find .ensures) (c .match .rest)))
+    (λ c. rw (told (c .before .find .ensures) (c .match .keys2)))
+    (λ c. told-none flags NOTHING (c .before .find .ensures) (c .match .rest)))
