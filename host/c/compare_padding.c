@@ -39,11 +39,9 @@ static void count(const struct record *r, uint32_t number)
 {
     uint8_t last[16];
     last_block(r, last);
-    if (number == 15 && last[15] <= 16) {
-        not_borne_out[last[15]]++;
-    } else {
-        *(number == 0 ? &opened : &named_none) += 1;
-    }
+    opened += number == 0;
+    named_none += number == 3;
+    not_borne_out[last[15] <= 16 ? last[15] : 0] += number == 15;
 }
 
 /* Whether OpenSSL's verdict is the archive's answer; both have written their text. */
@@ -57,21 +55,19 @@ static int agree(struct luossavin_answer a, const uint8_t *out, enum verdict ver
 
 void compare_padding(const struct record *r)
 {
-    const struct luossavin_key key = luossavin_key_new(r->key.bytes, r->key.length, 1);
     const size_t n = r->data.length;
-    uint8_t *out = buffer(GOT, n + 16), *beside = buffer(BESIDE, n + 16);
-    struct luossavin_answer a;
-    struct field theirs = {beside, 0};
-    enum verdict verdict;
-    char what[80];
     if (!has_last_block(r) || n > LIMIT + 16) {
         return;
     }
-    a = luossavin_decrypt(CBC, key, NULL, 0, r->data.bytes, n, r->iv.bytes, r->iv.length, out, n);
-    verdict = openssl_unpadded(r->key.bytes, r->iv, r->data, beside, &theirs.length);
+    uint8_t *out = buffer(GOT, n + 16), *beside = buffer(BESIDE, n + 16);
+    struct field theirs = {beside, 0};
+    struct luossavin_answer a = luossavin_decrypt(CBC, luossavin_key_new(r->key.bytes, r->key.length, 1), NULL, 0,
+        r->data.bytes, n, r->iv.bytes, r->iv.length, out, n);
+    enum verdict verdict = openssl_unpadded(r->key.bytes, r->iv, r->data, beside, &theirs.length);
     tally[PADDING].compared++;
     count(r, a.number);
     if (!agree(a, out, verdict, theirs)) {
+        char what[120];
         snprintf(what, sizeof what, "it %s, and the archive answers %u with length %zu",
             verdict == DONE ? "decrypts" : verdict == BAD_PADDING ? "refuses" : "reports an error", a.number, a.length);
         differs(PADDING, "OpenSSL's check of the padding", r, what, theirs);
@@ -84,8 +80,9 @@ void print_paddings(void)
     for (int i = 2; i <= 16; i++) {
         all += not_borne_out[i];
     }
-    printf("  OpenSSL's check of the padding, against the archive: %lu compared %lu differ, %lu opened %lu refused with 3 "
-        "%lu with 15\n", tally[PADDING].compared, tally[PADDING].differ, opened, named_none, all);
+    printf("  OpenSSL's check of the padding, against the archive: %lu compared %lu differ, ", tally[PADDING].compared,
+        tally[PADDING].differ);
+    printf("%lu opened %lu refused with 3 %lu with 15\n", opened, named_none, all);
     printf("  refused with 15, where libsm goes by the last byte, by that byte:");
     for (int i = 2; i <= 16; i++) {
         printf(" %d: %lu%s", i, not_borne_out[i], i < 16 ? "," : "\n");
