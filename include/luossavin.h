@@ -176,10 +176,10 @@ struct luossavin_answer luossavin_encrypt(uint32_t mode, struct luossavin_key ke
  *
  * Cbc reads all of the padding, as RFC 5652 has it. The last decrypted byte names how many bytes to drop; 3 says
  * that it names no padding, and 15 that it names one which the bytes before it do not bear out. In either case the
- * file is damaged near its end, or it was opened under a wrong key or IV. That a padding is right vouches for no
- * more than the padding: only Gcm has a tag over all of the text. And whoever may have messages of their own
- * choice decrypted, and learns which were refused for their padding, can work out a Cbc text from that: to others
- * the answer is not to be shown. */
+ * file is damaged near its end, or cut, or it was opened under a wrong key; a wrong IV shows so in a file of one
+ * block alone. That a padding is right vouches for no more than the padding: only Gcm has a tag over all of the
+ * text. And whoever may have messages of their own choice decrypted, and learns which were refused for their
+ * padding, can work out a Cbc text from that: to others the answer is not to be shown. */
 struct luossavin_answer luossavin_decrypt(uint32_t mode, struct luossavin_key key,
     const uint8_t *aad, size_t aad_len, const uint8_t *data, size_t data_len,
     const uint8_t *iv, size_t iv_len, uint8_t *out, size_t room);
