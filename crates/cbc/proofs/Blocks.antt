@@ -1,15 +1,15 @@
 -- Cbc decryption of full blocks: its front is the decrypted front, and its last block takes the last two blocks alone.
 -- Assumes nothing.
-use mathlib.Core.Path.{_≡_, sym, _∙_}
+use mathlib.Core.Path.{_≡_, refl, sym, _∙_}
 use Prim.Native.Nat.{ℕ, zero, suc, _+_, _*_, _-_, _/_, _%_, _≤_, _<_}
-use mathlib.Core.List.{List, [], _++_, append-nil}
+use mathlib.Core.List.{List, [], _∷_, _++_, append-nil}
 use native.Mathlib.Omega.{arith}
 use lib.ListN.{length, take, drop, length-append, length-drop, take-append-drop}
 use lib.Seq.{length-take-le, take-all, take-at, drop-at, take-add, drop-drop, take-append-add, drop-append-add}
 use Rattle.block.specs.Below.{AreBytes}
 use Rattle.block.specs.Words.{words, unwords}
 use Rattle.block.specs.Xor.{xors}
-use Rattle.block.proofs.Entries.{below-drop}
+use Rattle.block.proofs.Entries.{below-take, below-drop}
 use Rattle.block.proofs.Xors.{length-xors}
 use Rattle.block.proofs.WordsBack.{unwords-front}
 use Rattle.cipher.specs.Sm4.{decryptWords, decryptBlock}
@@ -35,6 +35,20 @@ whole-back d w h = rw length-drop (omega arith)
 
 pub whole-short : (d : List ℕ) → Whole d → length d < 16 → 0 ≡ length d
 whole-short d w h = omega arith
+
+pub whole-empty : (d : List ℕ) → Whole d → length d < 16 → [] ≡ d
+whole-empty [] w h = refl
+whole-empty (x ∷ d) w h = absurd (omega arith)
+
+-- messages of full blocks, of bytes
+abbrev pub Text : List ℕ → Type 0
+Text d = Whole d × AreBytes d
+
+pub text-front : (d : List ℕ) → Text d → 16 ≤ length d → Text (take 16 d)
+text-front d t h = (whole-front d h, below-take 256 16 d (t .1))
+
+pub text-back : (d : List ℕ) → Text d → 16 ≤ length d → Text (drop 16 d)
+text-back d t h = (whole-back d (t .0) h, below-drop 256 16 d (t .1))
 
 pub decrypt-block : (rk s c : List ℕ) → length s ≡ 16 → length (cbcDecrypt rk .block s c) ≡ 16
 decrypt-block rk s c h = let n = length-decryptBlock rk c in length-xors (decryptBlock rk c) s (omega arith) ∙ n

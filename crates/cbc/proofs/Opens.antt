@@ -1,6 +1,6 @@
 -- Opening by parts: the last block decides, then the front is written, and then what the padding leaves of the last block.
 -- Assumes nothing.
-use mathlib.Core.Path.{_≡_, ap, sym, _∙_}
+use mathlib.Core.Path.{_≡_, refl, ap, sym, _∙_}
 use Prim.Native.Nat.{ℕ, _+_, _-_, _%_, _≤_}
 use mathlib.Core.List.{List, _++_, append-assoc}
 use native.Mathlib.Omega.{arith}
@@ -11,9 +11,9 @@ use Rattle.walk.specs.Walk.{over}
 use Rattle.walk.proofs.Loop.{tailed, returned, tail-is, returned-is}
 use Rattle.cbc.specs.Open.{headOf, unpadded, cbcText, cbcOpen}
 use Rattle.cbc.specs.declared.Opened.{Opened}
-use Rattle.cbc.specs.declared.Opened.the-variants.{Done, InvalidLastU8}
+use Rattle.cbc.specs.declared.Opened.the-variants.{Done, InvalidLastU8, InvalidPadding}
 use Rattle.cbc.proofs.Blocks.{decrypt-front, length-decrypt}
-use Rattle.cbc.proofs.Unpadded.{two-unpadded, two-refused, unpadded-le}
+use Rattle.cbc.proofs.Unpadded.{behind, unpadded-behind, unpadded-le}
 
 module _ (rk s d last o : List ℕ) (hs : length s ≡ 16) (full : 16 ≤ length d) (whole : length d % 16 ≡ 0)
     (last-is : last ≡ drop (length d - 16) (cbcText rk s d)) where
@@ -31,11 +31,18 @@ module _ (rk s d last o : List ℕ) (hs : length s ≡ 16) (full : 16 ≤ length
   unfolding cbcOpen
   decided a e = ap {B = Outcome} (λ (x : Opened). written (headOf x) (cbcText rk s d) o) (sym e)
 
-  pub open-refused : (a : Opened) → a ≡ InvalidLastU8 → unpadded last ≡ a → leaving (headOf a) o ≡ cbcOpen rk s d o
-  open-refused a bad e =
+  -- the last block decides the text
+  text-decided : (a : Opened) → unpadded last ≡ a → unpadded (cbcText rk s d) ≡ behind (length d - 16) a
+  text-decided a e =
       let p = cbcText rk s d in
-      let u = rw in-parts at (two-refused (take (length d - 16) p) last (omega (arith, last-length)) (e ∙ bad)) in
-      rw bad (decided InvalidLastU8 u)
+      let f = length d - 16 in
+      let l : length (take f p) ≡ f = length-take-le f p (omega (arith, text-length)) in
+      rw (in-parts, l, e) at (unpadded-behind (take f p) last (omega (arith, last-length)))
+
+  pub open-refused : (a : Opened) → (headOf a .number ≡ 0 → ⊥) → unpadded last ≡ a → leaving (headOf a) o ≡ cbcOpen rk s d o
+  open-refused (Done n) bad e = absurd (bad refl)
+  open-refused InvalidLastU8 bad e = decided InvalidLastU8 (text-decided InvalidLastU8 e)
+  open-refused InvalidPadding bad e = decided InvalidPadding (text-decided InvalidPadding e)
 
   pub open-done : (k : ℕ) (o₁ t : List ℕ) → length d ≤ length o → unpadded last ≡ Done k
       → o₁ ≡ over (cbcText rk s (take (length d - 16) d)) o
@@ -48,7 +55,7 @@ module _ (rk s d last o : List ℕ) (hs : length s ≡ 16) (full : 16 ≤ length
       let le : k ≤ 16 = rw last-length at (unpadded-le last k e) in
       let A = take f p in
       let a : length A ≡ f = length-take-le f p (omega arith) in
-      let u : unpadded p ≡ Done (f + k) = rw (in-parts, a) at (two-unpadded A last k (omega (arith, last-length)) e) in
+      let u : unpadded p ≡ Done (f + k) = text-decided (Done k) e in
       let q : o₁ ≡ A ++ drop f o = e₁ ∙ rw (decrypt-front rk s d f hs (omega arith) (omega arith), a) in
       let x : take f o₁ ≡ A = rw q (take-at A (drop f o) f a) in
       let y : drop f o₁ ≡ drop f o = rw q (drop-at A (drop f o) f a) in

@@ -1,14 +1,14 @@
 -- What Cbc seals, Cbc opens, for any round keys; and what sealing gives: full blocks, of bytes.
 -- Assumes nothing.
 use mathlib.Core.Path.{_≡_, refl, ap, _∙_}
-use Prim.Native.Nat.{ℕ, _+_, _*_, _-_, _/_, _%_, _≤_, _<_}
-use mathlib.Core.List.{List, [], _∷_}
+use Prim.Native.Nat.{ℕ, _+_, _*_, _-_, _/_, _%_, _≤_}
+use mathlib.Core.List.{List}
 use native.Mathlib.Omega.{arith}
 use lib.ListN.{length, take}
 use lib.Seq.{take-append-seam}
 use Rattle.block.specs.Below.{AreBytes}
 use Rattle.block.specs.Xor.{xors}
-use Rattle.block.proofs.Entries.{below-take, below-drop, below-append, below-replicate}
+use Rattle.block.proofs.Entries.{below-append, below-replicate}
 use Rattle.block.proofs.Xors.{length-xors, xors-cancel, xors-below}
 use Rattle.cipher.proofs.Blocks.{length-encryptBlock, encryptBlock-bytes, block-decrypt-encrypt}
 use Rattle.walk.specs.Outcome.{Outcome, done, leaving, written, finished}
@@ -18,7 +18,7 @@ use Rattle.walk.proofs.Undo.{Undoes, undo}
 use Rattle.cbc.specs.Cbc.{padding, padded, cbcEncrypt, cbcDecrypt, cbcSeal}
 use Rattle.cbc.specs.Open.{headOf, unpadded, cbcText, cbcOpen}
 use Rattle.cbc.specs.declared.Opened.{Opened}
-use Rattle.cbc.proofs.Blocks.{Sixteen, Whole, whole-front, whole-back, whole-short}
+use Rattle.cbc.proofs.Blocks.{Sixteen, Whole, Text, whole-front, whole-back, whole-short, whole-empty, text-front, text-back}
 use Rattle.cbc.proofs.Padding.{length-padded}
 use Rattle.cbc.proofs.Unpadded.{padded-unpadded}
 
@@ -49,22 +49,15 @@ cbcSeal-bytes rk iv d h =
     chain-bytes Any (cbcEncrypt rk) (λ s b hs hb. tt) (λ s b hs hb. encryptBlock-bytes rk (xors b s)) (λ s d hs hd. tt)
     iv (padded d) tt (padded-bytes d h)
 
--- a state, and a message of full blocks, of bytes
+-- a state of bytes
 abbrev State : List ℕ → Type 0
 State s = Sixteen s × AreBytes s
-
-abbrev Text : List ℕ → Type 0
-Text d = Whole d × AreBytes d
-
-empty : (d : List ℕ) → Whole d → length d < 16 → [] ≡ d
-empty [] w h = refl
-empty (x ∷ d) w h = absurd (omega arith)
 
 cbc-undoes : (rk : List ℕ) → Undoes State Text (cbcDecrypt rk) (cbcEncrypt rk)
 cbc-undoes rk = record {
   keeps = record {
-    front = λ d h n. (whole-front d n, below-take 256 16 d (h .1));
-    back = λ d h n. (whole-back d (h .0) n, below-drop 256 16 d (h .1));
+    front = text-front;
+    back = text-back;
     next = λ s b hs hb n. (length-encryptBlock rk (xors b s), encryptBlock-bytes rk (xors b s));
     block = λ s b hs hb n. length-encryptBlock rk (xors b s);
     rest = λ s d hs hd n. whole-short d (hd .0) n;
@@ -73,7 +66,7 @@ cbc-undoes rk = record {
       let l : length b ≤ length s = omega arith in
       rw (block-decrypt-encrypt rk (xors b s) (length-xors b s l ∙ n) (xors-below 8 b s (hb .1) (hs .1))) (xors-cancel b s l);
   next = λ s b hs hb n. refl;
-  rest = λ s d hs hd n. empty d (hd .0) n;
+  rest = λ s d hs hd n. whole-empty d (hd .0) n;
 }
 
 module _ (rk iv d : List ℕ) (sixteen : length iv ≡ 16) (iv-bytes : AreBytes iv) (d-bytes : AreBytes d) where

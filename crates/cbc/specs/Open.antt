@@ -1,19 +1,21 @@
 -- Opening a Cbc message: what it leaves, from the ciphertext and the output before.
 use Prim.Native.Nat.{ℕ, _-_}
-use mathlib.Core.Bool.{Bool, cond, _&&_}
+use mathlib.Core.Bool.{Bool, cond, not, _&&_}
 use mathlib.Core.List.{List}
 use lib.Dec.{leb}
-use lib.ListN.{length, getD}
+use lib.ListN.{length, drop, getD, replicate}
+use Rattle.block.specs.Same.{same}
 use Rattle.walk.specs.Outcome.{Head, Outcome, finished, refusal, written}
 use Rattle.walk.specs.Walk.{chain}
 use Rattle.cbc.specs.Cbc.{cbcDecrypt}
 use Rattle.cbc.specs.declared.Opened.{Opened}
-use Rattle.cbc.specs.declared.Opened.the-variants.{Done, InvalidLastU8}
+use Rattle.cbc.specs.declared.Opened.the-variants.{Done, InvalidLastU8, InvalidPadding}
 
--- document 01's number and length for each answer
+-- number and length for each answer, by document 01 and request W6
 abbrev pub headOf : Opened → Head
 headOf (Done n) = finished n
 headOf InvalidLastU8 = refusal 3
+headOf InvalidPadding = refusal 15
 
 abbrev pub lastByte : List ℕ → ℕ
 lastByte p = getD p (length p - 1) 0
@@ -22,9 +24,14 @@ lastByte p = getD p (length p - 1) 0
 unfoldable pub namesPadding : ℕ → Bool
 namesPadding b = leb 1 b && leb b 16
 
--- a decrypted text's length without its padding; its last byte alone decides
+-- RFC 5652, section 6.3: the last byte tells how many bytes of padding there are, and each of them holds that count
+unfoldable pub allPadding : List ℕ → Bool
+allPadding p = same (drop (length p - lastByte p) p) (replicate (lastByte p) (lastByte p))
+
+-- a decrypted text's length without its padding
 unfoldable pub unpadded : List ℕ → Opened
-unpadded p = cond (namesPadding (lastByte p)) (Done (length p - lastByte p)) InvalidLastU8
+unpadded p =
+    cond (not (namesPadding (lastByte p))) InvalidLastU8 (cond (not (allPadding p)) InvalidPadding (Done (length p - lastByte p)))
 
 -- the ciphertext d with its padding, decrypted
 abbrev pub cbcText : List ℕ → List ℕ → List ℕ → List ℕ

@@ -2,7 +2,8 @@
 ghost use mathlib.Core.Path.{_≡_};
 ghost use mathlib.Core.List.{_++_, reverse};
 ghost use Prim.Native.Nat.{_+_, _-_, _*_, _/_, _%_, _<_, _≤_};
-ghost use lib.ListN.{length, take, drop};
+ghost use lib.ListN.{length, take, drop, replicate};
+ghost use Rattle.block.specs.Same.{same};
 ghost use Rattle.block.specs.Words.{unwords};
 ghost use Rattle.cipher.specs.Engine.{Engine};
 ghost use Rattle.walk.specs.Outcome.{leaving};
@@ -72,19 +73,41 @@ pub fn encrypt(t: &[u32], rk: [u32; 32], iv: [u32; 4], data: &[u8], out: &mut [u
     encrypt_step(t, rk, s, &last, &mut out[at..]);
 }
 
-// What opening answers: the length of the message, or that the last byte names no padding.
+// What opening answers: the length of the message, that the last byte names no padding, or that another byte of the padding
+// that it names differs from it.
 pub enum Opened {
     Done(usize),
     InvalidLastU8,
+    InvalidPadding,
 }
 
-// The decision over the padding: how much of the last decrypted block belongs to the message. Its last byte alone is read.
+// Whether the last `n` bytes of a block all hold `n`. All sixteen bytes are read, and no branch is taken on what they hold.
+fn all_padding(last: [u8; 16], n: usize) -> bool
+    requires { ⌜ n ≤ 16 ⌝ }
+    ensures { λ r. ⌜ r ≡ same (drop (16 - n) last) (replicate n n) ⌝ }
+{
+    let mut differ: usize = 0;
+    for i in 0..16 {
+        // 1 at a byte of the padding, 0 before it
+        let counts = (i + n) / 16;
+        differ += counts * (last[i] as usize ^ n);
+    }
+    differ == 0
+}
+
+// The decision over the padding: how much of the last decrypted block belongs to the message.
 fn unpad(last: [u8; 16]) -> Opened
     ensures { λ r. ⌜ r ≡ unpadded last ⌝ }
 {
     let b = last[15];
     match b {
-        1..=16 => Opened::Done(16 - b as usize),
+        1..=16 => {
+            let n = b as usize;
+            if !all_padding(last, n) {
+                return Opened::InvalidPadding;
+            }
+            Opened::Done(16 - n)
+        }
         _ => Opened::InvalidLastU8,
     }
 }

@@ -5,8 +5,8 @@ ghost use Rattle.cipher_mode.specs.Answer.{refusalHead, headOf};
 
 // Why a call was refused, by the names of document 01 and, after them, those that tell its lengths apart: Cbc decryption of
 // nothing; a Gcm message or tag that is not as long as it must be, with how many bytes were missing; a wrong IV; a wrong
-// single block. Then come a message in pieces that has come to its end, a key's number out of range, and encrypting under a
-// retired key.
+// single block. Then come a message in pieces that has come to its end, a key's number out of range, encrypting under a
+// retired key, and a Cbc padding whose bytes are not all its count.
 pub enum Refusal {
     ErrorBlockSize,
     ErrorDataLen,
@@ -21,6 +21,7 @@ pub enum Refusal {
     Ended,
     WrongNumber,
     Retired,
+    InvalidPadding,
 }
 
 // How a call ended: done with a length, or refused.
@@ -53,6 +54,7 @@ pub fn number(refusal: Refusal) -> u32
         Refusal::Ended => 12,
         Refusal::WrongNumber => 13,
         Refusal::Retired => 14,
+        Refusal::InvalidPadding => 15,
     }
 }
 
@@ -74,6 +76,7 @@ pub fn missing(refusal: Refusal) -> u8
         Refusal::Ended => 0,
         Refusal::WrongNumber => 0,
         Refusal::Retired => 0,
+        Refusal::InvalidPadding => 0,
     }
 }
 

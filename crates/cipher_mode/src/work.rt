@@ -70,6 +70,7 @@ fn cbc_answer(opened: cbc::Opened) -> Ending
     match opened {
         cbc::Opened::Done(n) => Ending::Done(n),
         cbc::Opened::InvalidLastU8 => Ending::Refused(Refusal::InvalidLastU8),
+        cbc::Opened::InvalidPadding => Ending::Refused(Refusal::InvalidPadding),
     }
 }
 

@@ -12,7 +12,7 @@ use Rattle.walk.specs.Outcome.{Head, Outcome, finished, refusal, cutShort, leav
 use Rattle.walk.specs.Walk.{over}
 use Rattle.cipher_mode.specs.declared.answer.Refusal.{Refusal}
 use Rattle.cipher_mode.specs.declared.answer.Refusal.the-variants.{ErrorBlockSize, ErrorDataLen, InvalidLastU8, InvalidTag, TooLong, NoRoom}
-use Rattle.cipher_mode.specs.declared.answer.Refusal.the-variants.{EmptyCbc, ShortGcm, WrongIv, WrongBlock, Ended, WrongNumber, Retired}
+use Rattle.cipher_mode.specs.declared.answer.Refusal.the-variants.{EmptyCbc, ShortGcm, WrongIv, WrongBlock, Ended, WrongNumber, Retired, InvalidPadding}
 use Rattle.cipher_mode.specs.declared.checks.Checked.{Checked}
 use Rattle.cipher_mode.specs.declared.checks.Checked.the-variants.{Passed, Refused}
 use Rattle.cipher_mode.specs.Answer.{refusalHead}
@@ -78,6 +78,7 @@ module _ (numbers : List ℕ) where
   refusal-answers Ended n o h = refuses 12 n o (omega arith) h
   refusal-answers WrongNumber n o h = refuses 13 n o (omega arith) h
   refusal-answers Retired n o h = refuses 14 n o (omega arith) h
+  refusal-answers InvalidPadding n o h = refuses 15 n o (omega arith) h
 
   -- a check whose refusals have such numbers
   abbrev pub Within : Checked → Type 0

@@ -6,7 +6,8 @@ use mathlib.Core.Bool.{Bool, true, false}
 use mathlib.Core.List.{List, map}
 use Prim.Native.Nat.{ℕ}
 use Rattle.walk.specs.Outcome.{Outcome, finished, under}
-use Rattle.cbc.specs.Open.{namesPadding, unpadded}
+use Rattle.block.specs.Same.{same}
+use Rattle.cbc.specs.Open.{namesPadding, allPadding, unpadded}
 use Rattle.cipher_mode.specs.declared.KeyAnswer.the-variants.{Key}
 use Rattle.cipher_mode.specs.declared.Direction.{Direction}
 use Rattle.cipher_mode.specs.declared.Direction.the-variants.{Encrypt}
@@ -21,7 +22,7 @@ use Rattle.demands.proofs.ModesBack.{encrypts, length-encrypted}
 
 -- All rows, whether the tag is right or not: what the definitions say is what the paper says.
 pub at-the-edges : (right : Bool) → map (λ (r : Row). r .ours) (edges right) ≡ map (λ (r : Row). r .paper) (edges right)
-unfolding messageCheck blockCheck keyAndIv dataCheck roomCheck newCipher namesPadding unpadded
+unfolding messageCheck blockCheck keyAndIv dataCheck roomCheck newCipher namesPadding allPadding unpadded same
 at-the-edges true = refl
 at-the-edges false = refl
 

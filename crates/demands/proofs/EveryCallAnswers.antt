@@ -19,8 +19,8 @@ use Rattle.stream.specs.declared.Kind.{Kind}
 use Rattle.stream.specs.declared.Kind.the-variants.{Ofb as Ofb·kind, Ctr as Ctr·kind}
 use Rattle.stream.proofs.RoundTrip.{length-stream}
 use Rattle.cbc.specs.Cbc.{cbcSeal}
-use Rattle.cbc.specs.Open.{headOf as cbcHead, lastByte, namesPadding, unpadded, cbcText, cbcOpen}
-use Rattle.cbc.specs.declared.Opened.the-variants.{Done as Cbc·Done, InvalidLastU8}
+use Rattle.cbc.specs.Open.{headOf as cbcHead, lastByte, namesPadding, allPadding, unpadded, cbcText, cbcOpen}
+use Rattle.cbc.specs.declared.Opened.the-variants.{Done as Cbc·Done, InvalidLastU8, InvalidPadding}
 use Rattle.cbc.proofs.Blocks.{length-decrypt}
 use Rattle.cbc.proofs.RoundTrip.{length-cbcSeal}
 use Rattle.gcm.specs.Gcm.{hashKey, J0, sealed, textPart, textOf, opensUnder}
@@ -155,11 +155,13 @@ block-answers dir c b o =
 stream-answers : (k : Kind) (rk iv d o : List ℕ) → length d ≤ length o → Answered singleNumbers 0 o (length d) (done (chain (streamMode k rk) iv d) o)
 stream-answers k rk iv d o r = does singleNumbers (chain (streamMode k rk) iv d) o (length d) refl (length-stream k rk iv d) r
 
--- opening in Cbc and in Gcm, by the test t that decides
-cbc-by : (p o : List ℕ) (b : ℕ) (t : Bool) → length p ≤ length o
-    → Answered singleNumbers 0 o (length p - b) (written (cbcHead (cond t (Cbc·Done (length p - b)) InvalidLastU8)) p o)
-cbc-by p o b true r = writes singleNumbers p o (length p - b) refl (omega arith) (omega arith)
-cbc-by p o b false r = refuses singleNumbers 3 (length p - b) o (omega arith) refl
+-- opening in Cbc and in Gcm, by the tests that decide
+cbc-by : (p o : List ℕ) (b : ℕ) (none bad : Bool) → length p ≤ length o
+    → Answered singleNumbers 0 o (length p - b)
+    (written (cbcHead (cond none InvalidLastU8 (cond bad InvalidPadding (Cbc·Done (length p - b))))) p o)
+cbc-by p o b true bad r = refuses singleNumbers 3 (length p - b) o (omega arith) refl
+cbc-by p o b false true r = refuses singleNumbers 15 (length p - b) o (omega arith) refl
+cbc-by p o b false false r = writes singleNumbers p o (length p - b) refl (omega arith) (omega arith)
 
 gcm-by : (p o : List ℕ) (n : ℕ) (t : Bool) → n ≤ length p → n ≤ length o
     → Answered singleNumbers 0 o n (written (gcmHead (cond t (Gcm·Done n) InvalidTag)) p o)
@@ -172,7 +174,8 @@ unfolding cbcOpen unpadded
 cbc-answers rk iv d o n e r =
     let p = cbcText rk iv d in
     let l : length p ≡ length d = length-decrypt rk iv d n (whole-blocks-passed (length d) e .1) in
-    told-length singleNumbers _ _ o _ (λ _. ap (λ (k : ℕ). k - lastByte p) l) (cbc-by p o (lastByte p) (namesPadding (lastByte p)) (omega arith))
+    told-length singleNumbers _ _ o _ (λ _. ap (λ (k : ℕ). k - lastByte p) l)
+    (cbc-by p o (lastByte p) (not (namesPadding (lastByte p))) (not (allPadding p)) (omega arith))
 
 gcm-answers : (rk : List ℕ) (h : ℕ) (j aad d o : List ℕ) → length d - 16 ≤ length o → Answered singleNumbers 0 o (length d - 16) (gcmOpen rk h j aad d o)
 unfolding gcmOpen settled

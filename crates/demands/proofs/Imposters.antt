@@ -66,7 +66,7 @@ refusing-all-serves-nobody m decryption s = absurd (omega (arith, s .sealing [] 
 -- And as decryption it breaks demand 2, with any usable and unretired key, in any mode and whatever room it is given: it does not give back the empty
 -- message, encrypted without a label under an IV of zeros.
 pub refusing-all-breaks-demand-2 : (m : Sm4CipherMode) → m .cipher .answer ≡ Key → m .cipher .retired ≡ false → (room : ℕ → ℕ)
-    → ¬ ThereAndBack room (modeCall Encrypt m) refusesAll
+    → ¬ ThereAndBack (λ (n : ℕ) (o : List ℕ). room n ≤ length o) (modeCall Encrypt m) refusesAll
 refusing-all-breaks-demand-2 m k u room back =
     let x =
     leaves Encrypt m [] [] zeros zeros (nothing-in-order (m .cipher .answer) (m .cipher .retired) k u (m .mode))

@@ -1,22 +1,26 @@
--- In each mode, what encrypting gave is in order for decrypting and decrypts to the message; outside Cbc also the other way
--- about.
+-- In each mode, what encrypting gave is in order for decrypting and decrypts to the message, and the other way about.
 -- Assumes nothing.
-use mathlib.Core.Path.{_≡_, refl, sym, ap, _∙_}
-use mathlib.Core.Logic.{_≢_}
+use mathlib.Core.Path.{_≡_, refl, sym, ap, subst, _∙_}
 use mathlib.Core.Bool.{Bool, true, false}
 use mathlib.Core.List.{List}
 use Prim.Native.Nat.{ℕ, _%_, _≤_}
 use native.Mathlib.Omega.{arith}
-use lib.ListN.{length}
+use lib.ListN.{length, take}
+use lib.Seq.{length-take-le}
 use borrow.Author.Tests.{eq-eqb, ne-eqb, le-ltb}
 use Rattle.block.specs.Below.{AreBytes}
-use Rattle.walk.specs.Outcome.{Outcome, done}
-use Rattle.walk.specs.Walk.{chain}
+use Rattle.walk.specs.Outcome.{Outcome, finished, leaving, written, done}
+use Rattle.walk.specs.Walk.{chain, over}
 use Rattle.stream.specs.Stream.{streamMode}
 use Rattle.stream.specs.declared.Kind.the-variants.{CfbEncrypt, CfbDecrypt, Ofb as Ofb·kind, Ctr as Ctr·kind}
 use Rattle.stream.proofs.RoundTrip.{length-stream, stream-back, stream-forth}
 use Rattle.cbc.specs.Cbc.{cbcSeal}
+use Rattle.cbc.specs.Open.{headOf as cbcHead, unpadded, cbcText, cbcOpen}
+use Rattle.cbc.specs.declared.Opened.{Opened}
+use Rattle.cbc.specs.declared.Opened.the-variants.{Done as Cbc·Done, InvalidLastU8, InvalidPadding}
 use Rattle.cbc.proofs.RoundTrip.{length-cbcSeal, cbc-back}
+use Rattle.cbc.proofs.SealsBack.{cbc-seals-back}
+use Rattle.cbc.proofs.Unpadded.{unpadded-le}
 use Rattle.gcm.specs.Gcm.{hashKey, J0, sealed, textOf, textPart, opensUnder}
 use Rattle.gcm.specs.Open.{gcmOpen}
 use Rattle.gcm.proofs.Parts.{length-sealed}
@@ -29,7 +33,7 @@ use Rattle.cipher_mode.specs.declared.checks.Checked.the-variants.{Passed}
 use Rattle.cipher_mode.specs.Tables.{limit, sealedLimit, roomOf}
 use Rattle.cipher_mode.specs.Checks.{wrongIv, dataCheck}
 use Rattle.cipher_mode.specs.Calls.{modeResult}
-use Rattle.cipher_mode.proofs.Passed.{sixteen, data-within, with-tag-passed}
+use Rattle.cipher_mode.proofs.Passed.{sixteen, data-within, whole-blocks-passed, with-tag-passed}
 
 -- the message that d is encrypted to
 abbrev pub encrypted : CipherMode → List ℕ → List ℕ → List ℕ → List ℕ → List ℕ
@@ -129,6 +133,22 @@ opens-by rk h j aad c o false e z =
 pub opened-opens : (rk : List ℕ) (h : ℕ) (j aad c o : List ℕ) → gcmOpen rk h j aad c o .head .number ≡ 0 → opensUnder rk h j aad c ≡ true
 opened-opens rk h j aad c o = opens-by rk h j aad c o (opensUnder rk h j aad c) refl
 
+-- what an opening that answered 0 gave: a text of this size
+record Opens-as (a : Opened) : Type 0 where
+  pub size : ℕ
+  pub done : a ≡ Cbc·Done size
+
+-- a message of Cbc that was opened is one with a padding, of which n bytes are the text
+opened-with : (p o : List ℕ) (n : ℕ) (a : Opened) → a ≡ Cbc·Done n → n ≤ length p → written (cbcHead a) p o ≡ done (take n p) o
+opened-with p o n a e h =
+    ap {B = Outcome} (λ (a : Opened). written (cbcHead a) p o) e
+    ∙ ap {B = Outcome} (λ (k : ℕ). leaving (finished k) (over (take n p) o)) (sym (length-take-le n p h))
+
+unpadded-by : (p o : List ℕ) (a : Opened) → written (cbcHead a) p o .head .number ≡ 0 → Opens-as a
+unpadded-by p o (Cbc·Done n) z = record { size = n; done = refl }
+unpadded-by p o InvalidLastU8 z = absurd (omega arith)
+unpadded-by p o InvalidPadding z = absurd (omega arith)
+
 module _ (rk aad c iv o : List ℕ) where
   gcm-encrypts : dataCheck Decrypt Gcm (length c) ≡ Passed → modeResult Gcm Decrypt rk aad c iv o .head .number ≡ 0
       → Encrypts Gcm rk aad c iv o
@@ -147,30 +167,49 @@ module _ (rk aad c iv o : List ℕ) where
         again = sealed-of-opened rk h j aad c t;
       }
 
-  -- in every mode but Cbc
-  pub forth : (m : CipherMode) → m ≢ Cbc → dataCheck Decrypt m (length c) ≡ Passed → modeResult m Decrypt rk aad c iv o .head .number ≡ 0
+  cbc-encrypts : length iv ≡ 16 → AreBytes c → dataCheck Decrypt Cbc (length c) ≡ Passed
+      → modeResult Cbc Decrypt rk aad c iv o .head .number ≡ 0 → modeResult Cbc Decrypt rk aad c iv o .head .size ≤ limit
+      → Encrypts Cbc rk aad c iv o
+  unfolding cbcOpen dataCheck
+  cbc-encrypts sixteen-iv bytes e z l =
+      let p = cbcText rk iv c in
+      let a = unpadded-by p o (unpadded p) z in
+      let n = a .size in
+      let fits = unpadded-le p n (a .done) in
+      let size = length-take-le n p fits in
+      let reported : n ≤ limit = subst (λ (k : ℕ). k ≤ limit) (ap (λ (a : Opened). cbcHead a .size) (a .done)) l in
+      record {
+        text = take n p;
+        opened = opened-with p o n (unpadded p) (a .done) fits;
+        content = rw (le-ltb limit (length (take n p)) (omega arith));
+        again = cbc-seals-back rk iv c n sixteen-iv bytes (whole-blocks-passed (length c) e .1) (a .done);
+      }
+
+  -- in every mode
+  pub forth : (m : CipherMode) → wrongIv m (length iv) ≡ false → AreBytes c → dataCheck Decrypt m (length c) ≡ Passed
+      → modeResult m Decrypt rk aad c iv o .head .number ≡ 0 → (m ≡ Cbc → modeResult m Decrypt rk aad c iv o .head .size ≤ limit)
       → Encrypts m rk aad c iv o
   unfolding dataCheck
-  forth Cfb n e z =
+  forth Cfb n b e z l =
       record {
         text = chain (streamMode CfbDecrypt rk) iv c;
         opened = refl;
         content = rw (length-stream CfbDecrypt rk iv c) e;
         again = stream-forth CfbEncrypt rk iv c;
       }
-  forth Ofb n e z =
+  forth Ofb n b e z l =
       record {
         text = chain (streamMode Ofb·kind rk) iv c;
         opened = refl;
         content = rw (length-stream Ofb·kind rk iv c) e;
         again = stream-forth Ofb·kind rk iv c;
       }
-  forth Ctr n e z =
+  forth Ctr n b e z l =
       record {
         text = chain (streamMode Ctr·kind rk) iv c;
         opened = refl;
         content = rw (length-stream Ctr·kind rk iv c) e;
         again = stream-forth Ctr·kind rk iv c;
       }
-  forth Cbc n e z = absurd (n refl)
-  forth Gcm n e z = gcm-encrypts e z
+  forth Cbc n b e z l = cbc-encrypts (sixteen (length iv) n) b e z (l refl)
+  forth Gcm n b e z l = gcm-encrypts e z

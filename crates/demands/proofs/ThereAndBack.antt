@@ -1,24 +1,21 @@
 -- Demand 2, there and back: what a call did, its counterpart takes back.
 -- Assumes nothing.
 use mathlib.Core.Path.{_≡_, refl, sym, ap, subst, _∙_}
-use mathlib.Core.Logic.{_≢_, inl, inr, ⊎-elim}
+use mathlib.Core.Logic.{inl, inr, ⊎-elim}
 use mathlib.Core.Bool.{Bool, true, false}
 use mathlib.Core.List.{List}
 use Prim.Native.Nat.{ℕ}
 use native.Mathlib.Omega.{arith}
 use lib.Dec.{ltb}
-use borrow.Author.Tests.{ltb-false}
 use Rattle.cipher.proofs.Blocks.{block-decrypt-encrypt, block-encrypt-decrypt}
 use Rattle.walk.specs.Outcome.{Outcome, keyed, done, refuse}
 use Rattle.cipher_mode.specs.declared.KeyAnswer.{KeyAnswer}
 use Rattle.cipher_mode.specs.declared.KeyAnswer.the-variants.{Key, ErrorBlockSize as NoKey, WrongNumber as NoNumber}
 use Rattle.cipher_mode.specs.declared.CipherMode.{CipherMode}
-use Rattle.cipher_mode.specs.declared.CipherMode.the-variants.{Cbc}
 use Rattle.cipher_mode.specs.declared.Direction.the-variants.{Encrypt, Decrypt}
 use Rattle.cipher_mode.specs.declared.Sm4Cipher.{Sm4Cipher}
 use Rattle.cipher_mode.specs.declared.Sm4CipherMode.{Sm4CipherMode}
 use Rattle.cipher_mode.specs.Key.{retiredIf, retire, keyNumber}
-use Rattle.cipher_mode.specs.Tables.{roomOf}
 use Rattle.cipher_mode.specs.Calls.{blockOf, blockCall, modeResult, lengthsOf, modeCall}
 use Rattle.cipher_mode.proofs.Passed.{InOrder}
 use Rattle.cipher_mode.proofs.Ends.{length-block}
@@ -26,9 +23,9 @@ use Rattle.luossavin.specs.declared.key.LuossavinKey.{LuossavinKey}
 use Rattle.luossavin.specs.Key.{cipherIn}
 use Rattle.luossavin.specs.Host.{modeOf, modeIn, hostBlockCall, hostModeCall}
 use Rattle.demands.specs.Call.{single, result, Call}
-use Rattle.demands.specs.ThereAndBack.{AtAnyTime, HostAtAnyTime, Returns, ThereAndBack}
+use Rattle.demands.specs.ThereAndBack.{AtAnyTime, HostAtAnyTime, Returns, Decryptable, Encryptable, Sixteen, ThereAndBack}
 use Rattle.demands.proofs.Through.{result-of-done, block-through, block-leaves, through, leaves}
-use Rattle.demands.proofs.Exported.{retired-is-retired, other-mode}
+use Rattle.demands.proofs.Exported.{retired-is-retired}
 use Rattle.demands.proofs.ModesBack.{encrypted, encrypts, back, forth}
 
 -- the second call answered 0 with d; it was given the result c of the first
@@ -62,7 +59,7 @@ at-any-time c d t =
 -- If encryption answers 0, decryption of its result under the same key, now or when it is retired, with the same IV and label, given
 -- room, answers 0 with the message and its length: in all five modes.
 pub decryption-takes-back : (mode : CipherMode) (c later : Sm4Cipher) → AtAnyTime c later
-    → ThereAndBack (roomOf mode Decrypt) (modeCall Encrypt (record { cipher = c; mode = mode }))
+    → ThereAndBack (Decryptable mode) (modeCall Encrypt (record { cipher = c; mode = mode }))
     (modeCall Decrypt (record { cipher = later; mode = mode }))
 decryption-takes-back mode c later t label d iv o o′ db ib e r =
     let rk = c .rk in
@@ -88,12 +85,12 @@ decryption-takes-back mode c later t label d iv o o′ db ib e r =
     ∙ ap {B = Outcome} (λ (rk : List ℕ). keyed (keyNumber later) (modeResult mode Decrypt rk label text iv o′)) (s .keys)
     ∙ ap {B = Outcome} (keyed (keyNumber later)) (k .opened o′))
 
--- Outside Cbc, if decryption under a key, now or when it is retired, answers 0, encryption of its result under the key, where that is
--- not retired, with the same IV and label, given room, answers 0 with the same bytes.
-pub encryption-takes-back : (mode : CipherMode) (c later : Sm4Cipher) → AtAnyTime c later → c .retired ≡ false → mode ≢ Cbc
-    → ThereAndBack (roomOf mode Encrypt) (modeCall Decrypt (record { cipher = later; mode = mode }))
+-- If decryption under a key, now or when it is retired, answers 0, encryption of its result under the key, where that is not retired,
+-- with the same IV and label, given room and in Cbc no more than may be encrypted, answers 0 with the same bytes: in all five modes.
+pub encryption-takes-back : (mode : CipherMode) (c later : Sm4Cipher) → AtAnyTime c later → c .retired ≡ false
+    → ThereAndBack (Encryptable mode) (modeCall Decrypt (record { cipher = later; mode = mode }))
     (modeCall Encrypt (record { cipher = c; mode = mode }))
-encryption-takes-back mode c later t u n label text iv o o′ cb ib e r =
+encryption-takes-back mode c later t u label text iv o o′ cb ib e r =
     let rk = c .rk in
     let m : Sm4CipherMode = record { cipher = c; mode = mode } in
     let l : Sm4CipherMode = record { cipher = later; mode = mode } in
@@ -102,7 +99,7 @@ encryption-takes-back mode c later t u n label text iv o o′ cb ib e r =
     let y : modeCall Decrypt l label text iv o ≡ keyed (keyNumber later) (modeResult mode Decrypt rk label text iv o) =
     leaves Decrypt l label text iv o p
     ∙ ap {B = Outcome} (λ (rk : List ℕ). keyed (keyNumber later) (modeResult mode Decrypt rk label text iv o)) (s .keys) in
-    let k = forth rk label text iv o mode n (p .content) (rw y at e) in
+    let k = forth rk label text iv o mode (p .iv-size) cb (p .content) (rw y at e) (rw y at (r .0)) in
     let d = k .text in
     let x : modeCall Decrypt l label text iv o ≡ keyed (keyNumber later) (done d o) =
     y ∙ ap {B = Outcome} (keyed (keyNumber later)) (k .opened) in
@@ -113,7 +110,7 @@ encryption-takes-back mode c later t u n label text iv o o′ cb ib e r =
       may = rw u;
       label = p .label;
       content = k .content;
-      room = rw x at r;
+      room = rw x at (r .1);
     } in
     returns (modeCall Encrypt m) label d text iv o o′ (keyNumber later) (keyNumber c) _ x
     (leaves Encrypt m label d iv o′ q
@@ -122,7 +119,7 @@ encryption-takes-back mode c later t u n label text iv o o′ cb ib e r =
 -- If encryption of one block answers 0, decryption of the result under the same key, now or when it is retired, given room, answers 0
 -- with the block;
 pub block-decryption-takes-back : (c later : Sm4Cipher) → AtAnyTime c later
-    → ThereAndBack (λ n. 16) (single (blockCall Encrypt c)) (single (blockCall Decrypt later))
+    → ThereAndBack Sixteen (single (blockCall Encrypt c)) (single (blockCall Decrypt later))
 block-decryption-takes-back c later t label b iv o o′ bb ib e r =
     let s = at-any-time c later t in
     let p = block-through Encrypt c b o e in
@@ -135,7 +132,7 @@ block-decryption-takes-back c later t label b iv o o′ bb ib e r =
 
 -- and the other way about, where the key is not retired.
 pub block-encryption-takes-back : (c later : Sm4Cipher) → AtAnyTime c later → c .retired ≡ false
-    → ThereAndBack (λ n. 16) (single (blockCall Decrypt later)) (single (blockCall Encrypt c))
+    → ThereAndBack Sixteen (single (blockCall Decrypt later)) (single (blockCall Encrypt c))
 block-encryption-takes-back c later t u label b iv o o′ bb ib e r =
     let s = at-any-time c later t in
     let p = block-through Decrypt later b o e in
@@ -149,10 +146,10 @@ block-encryption-takes-back c later t u label b iv o o′ bb ib e r =
     (y ∙ ap {B = Outcome} (λ (d : List ℕ). keyed (keyNumber c) (done d o′)) (block-encrypt-decrypt (c .rk) b (p .size) bb))
 
 -- behind a refusal by number 7 that both have in front
-gated : (b : Bool) (room : ℕ → ℕ) (f g : Call) → (b ≡ false → ThereAndBack room f g)
-    → ThereAndBack room (λ label d iv o. refuse b 7 o (f label d iv o)) (λ label d iv o. refuse b 7 o (g label d iv o))
-gated true room f g t = λ label d iv o o′ db ib e r. absurd (omega arith)
-gated false room f g t = t refl
+gated : (b : Bool) (Asks : ℕ → List ℕ → Type 0) (f g : Call) → (b ≡ false → ThereAndBack Asks f g)
+    → ThereAndBack Asks (λ label d iv o. refuse b 7 o (f label d iv o)) (λ label d iv o. refuse b 7 o (g label d iv o))
+gated true Asks f g t = λ label d iv o o′ db ib e r. absurd (omega arith)
+gated false Asks f g t = t refl
 
 -- a host's record, now or when it is retired
 pub host-at-any-time : (k later : LuossavinKey) → HostAtAnyTime k later → AtAnyTime (cipherIn k) (cipherIn later)
@@ -161,31 +158,29 @@ host-at-any-time k later t =
 
 -- The exported decryption takes back the exported encryption, for every mode number and every record, now or when it is retired.
 pub exported-decryption-takes-back : (mode : ℕ) (k later : LuossavinKey) → HostAtAnyTime k later
-    → ThereAndBack (roomOf (modeOf mode) Decrypt) (hostModeCall Encrypt mode k) (hostModeCall Decrypt mode later)
+    → ThereAndBack (Decryptable (modeOf mode)) (hostModeCall Encrypt mode k) (hostModeCall Decrypt mode later)
 unfolding hostModeCall
 exported-decryption-takes-back mode k later t =
-    gated (ltb 4 mode) (roomOf (modeOf mode) Decrypt) (modeCall Encrypt (modeIn k mode)) (modeCall Decrypt (modeIn later mode))
+    gated (ltb 4 mode) (Decryptable (modeOf mode)) (modeCall Encrypt (modeIn k mode)) (modeCall Decrypt (modeIn later mode))
     (λ _. decryption-takes-back (modeOf mode) (cipherIn k) (cipherIn later) (host-at-any-time k later t))
 
--- The exported encryption takes back the exported decryption, for every record that is not retired and every mode number but 3, which
--- is Cbc.
-pub exported-encryption-takes-back : (mode : ℕ) (k later : LuossavinKey) → HostAtAnyTime k later → k .retired ≡ 0 → mode ≢ 3
-    → ThereAndBack (roomOf (modeOf mode) Encrypt) (hostModeCall Decrypt mode later) (hostModeCall Encrypt mode k)
+-- The exported encryption takes back the exported decryption, for every record that is not retired and every mode number.
+pub exported-encryption-takes-back : (mode : ℕ) (k later : LuossavinKey) → HostAtAnyTime k later → k .retired ≡ 0
+    → ThereAndBack (Encryptable (modeOf mode)) (hostModeCall Decrypt mode later) (hostModeCall Encrypt mode k)
 unfolding hostModeCall cipherIn
-exported-encryption-takes-back mode k later t u n =
-    gated (ltb 4 mode) (roomOf (modeOf mode) Encrypt) (modeCall Decrypt (modeIn later mode)) (modeCall Encrypt (modeIn k mode))
-    (λ b. encryption-takes-back (modeOf mode) (cipherIn k) (cipherIn later) (host-at-any-time k later t) (rw u)
-    (other-mode mode Cbc (ltb-false 4 mode b) n))
+exported-encryption-takes-back mode k later t u =
+    gated (ltb 4 mode) (Encryptable (modeOf mode)) (modeCall Decrypt (modeIn later mode)) (modeCall Encrypt (modeIn k mode))
+    (λ _. encryption-takes-back (modeOf mode) (cipherIn k) (cipherIn later) (host-at-any-time k later t) (rw u))
 
 -- The exported calls on one block, likewise.
 pub exported-block-decryption-takes-back : (k later : LuossavinKey) → HostAtAnyTime k later
-    → ThereAndBack (λ n. 16) (single (hostBlockCall Encrypt k)) (single (hostBlockCall Decrypt later))
+    → ThereAndBack Sixteen (single (hostBlockCall Encrypt k)) (single (hostBlockCall Decrypt later))
 unfolding hostBlockCall
 exported-block-decryption-takes-back k later t =
     block-decryption-takes-back (cipherIn k) (cipherIn later) (host-at-any-time k later t)
 
 pub exported-block-encryption-takes-back : (k later : LuossavinKey) → HostAtAnyTime k later → k .retired ≡ 0
-    → ThereAndBack (λ n. 16) (single (hostBlockCall Decrypt later)) (single (hostBlockCall Encrypt k))
+    → ThereAndBack Sixteen (single (hostBlockCall Decrypt later)) (single (hostBlockCall Encrypt k))
 unfolding hostBlockCall cipherIn
 exported-block-encryption-takes-back k later t u =
     block-encryption-takes-back (cipherIn k) (cipherIn later) (host-at-any-time k later t) (rw u)

@@ -10,8 +10,8 @@ use lib.ListN.{length}
 use borrow.Author.Tests.{eqb-true}
 use Rattle.cipher.specs.Sm4.{roundKeys}
 use Rattle.walk.specs.Outcome.{Outcome, refuse as refuseAs}
-use Rattle.cbc.specs.Open.{headOf as cbcHead, lastByte, namesPadding, unpadded, cbcText, cbcOpen}
-use Rattle.cbc.specs.declared.Opened.the-variants.{Done as Cbc·Done, InvalidLastU8}
+use Rattle.cbc.specs.Open.{headOf as cbcHead, lastByte, namesPadding, allPadding, unpadded, cbcText, cbcOpen}
+use Rattle.cbc.specs.declared.Opened.the-variants.{Done as Cbc·Done, InvalidLastU8, InvalidPadding}
 use Rattle.gcm.specs.Gcm.{hashKey, J0, opensUnder}
 use Rattle.gcm.specs.Open.{headOf as gcmHead, settled, gcmOpen}
 use Rattle.gcm.specs.declared.Opened.the-variants.{Done as Gcm·Done, InvalidTag}
@@ -101,19 +101,23 @@ shape-number Cbc n k = number-refuse (eqb n 0) _ _ k
     ∙ ap {B = Said} (cond (eqb n 0) (only 8)) (number-refuse (not (eqb (n % 16) 0)) _ Passed k)
 shape-number Gcm n k = number-refuse (ltb n 16) _ Passed k
 
--- opening, by the test that decides
-cbc-by : (n : ℕ) (t : Bool) → saidIn (cbcHead (cond t (Cbc·Done n) InvalidLastU8)) ≡ cond (not t) (only 3) (only 0)
-cbc-by n true = refl
-cbc-by n false = refl
+-- opening, by the tests that decide
+cbc-by : (n : ℕ) (none bad : Bool)
+    → saidIn (cbcHead (cond none InvalidLastU8 (cond bad InvalidPadding (Cbc·Done n)))) ≡ cond none (only 3) (cond bad (only 15) (only 0))
+cbc-by n true bad = refl
+cbc-by n false true = refl
+cbc-by n false false = refl
 
 gcm-by : (n : ℕ) (t : Bool) → saidIn (gcmHead (cond t (Gcm·Done n) InvalidTag)) ≡ cond (not t) (only 4) (only 0)
 gcm-by n true = refl
 gcm-by n false = refl
 
 cbc-number : (rk iv d o : List ℕ) → saidIn (cbcOpen rk iv d o .head)
-    ≡ cond (not (namesPadding (lastByte (cbcText rk iv d)))) (only 3) (only 0)
+    ≡ cond (not (namesPadding (lastByte (cbcText rk iv d)))) (only 3) (cond (not (allPadding (cbcText rk iv d))) (only 15) (only 0))
 unfolding cbcOpen unpadded
-cbc-number rk iv d o = cbc-by (length (cbcText rk iv d) - lastByte (cbcText rk iv d)) (namesPadding (lastByte (cbcText rk iv d)))
+cbc-number rk iv d o =
+    let p = cbcText rk iv d in
+    cbc-by (length p - lastByte p) (not (namesPadding (lastByte p))) (not (allPadding p))
 
 gcm-number : (rk : List ℕ) (h : ℕ) (j aad d o : List ℕ)
     → saidIn (gcmOpen rk h j aad d o .head) ≡ cond (not (opensUnder rk h j aad d)) (only 4) (only 0)
@@ -123,7 +127,8 @@ gcm-number rk h j aad d o = gcm-by (length d - 16) (opensUnder rk h j aad d)
 opening-number : (m : CipherMode) (rk aad d iv o : List ℕ)
     → saidIn (modeResult m Decrypt rk aad d iv o .head)
     ≡ cond (isCbc m && not (namesPadding (lastByte (cbcText rk iv d)))) (only 3)
-    (cond (isGcm m && not (opensUnder rk (hashKey rk) (J0 rk iv) aad d)) (only 4) (only 0))
+    (cond (isCbc m && not (allPadding (cbcText rk iv d))) (only 15)
+    (cond (isGcm m && not (opensUnder rk (hashKey rk) (J0 rk iv) aad d)) (only 4) (only 0)))
 opening-number Cfb rk aad d iv o = refl
 opening-number Ofb rk aad d iv o = refl
 opening-number Ctr rk aad d iv o = refl
@@ -294,8 +299,8 @@ pub exported-encryption-numbers : (mode : ℕ) (k : LuossavinKey) (label d iv o 
 exported-encryption-numbers mode k label d iv o =
     rw (ap (λ (s : Said). s .number) (exported-encryption-number mode k label d iv o)) (one-of (encryptRows mode k label d iv o))
 
--- and decryption 0, 7, 1, 13, 10, 5, 8, 2, 9, 6, 3 or 4.
+-- and decryption 0, 7, 1, 13, 10, 5, 8, 2, 9, 6, 3, 15 or 4.
 pub exported-decryption-numbers : (mode : ℕ) (k : LuossavinKey) (label d iv o : List ℕ)
-    → Among (hostModeCall Decrypt mode k label d iv o .head .number) (0 ∷ 7 ∷ 1 ∷ 13 ∷ 10 ∷ 5 ∷ 5 ∷ 8 ∷ 2 ∷ 9 ∷ 6 ∷ 3 ∷ 4 ∷ [])
+    → Among (hostModeCall Decrypt mode k label d iv o .head .number) (0 ∷ 7 ∷ 1 ∷ 13 ∷ 10 ∷ 5 ∷ 5 ∷ 8 ∷ 2 ∷ 9 ∷ 6 ∷ 3 ∷ 15 ∷ 4 ∷ [])
 exported-decryption-numbers mode k label d iv o =
     rw (ap (λ (s : Said). s .number) (exported-decryption-number mode k label d iv o)) (one-of (decryptRows mode k label d iv o))

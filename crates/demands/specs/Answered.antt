@@ -22,7 +22,7 @@ oneOf n (k ∷ ks) = eqb n k || oneOf n ks
 
 -- the numbers that a single call can answer: 12 is of messages in pieces alone
 abbrev pub singleNumbers : List ℕ
-singleNumbers = 0 ∷ 1 ∷ 2 ∷ 3 ∷ 4 ∷ 5 ∷ 6 ∷ 7 ∷ 8 ∷ 9 ∷ 10 ∷ 11 ∷ 13 ∷ 14 ∷ []
+singleNumbers = 0 ∷ 1 ∷ 2 ∷ 3 ∷ 4 ∷ 5 ∷ 6 ∷ 7 ∷ 8 ∷ 9 ∷ 10 ∷ 11 ∷ 13 ∷ 14 ∷ 15 ∷ []
 
 -- x is an answer to a call on the key of number k whose output was lent as o, and of which document 01's table gives the length n
 pub record Answered (numbers : List ℕ) (k : ℕ) (o : List ℕ) (n : ℕ) (x : Outcome) : Type 0 where

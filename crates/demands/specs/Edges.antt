@@ -65,8 +65,15 @@ edges right =
     row (said Encrypt Cbc (sizes 16 0 16)) (finished 16)
     ∷ row (said Encrypt Cbc (sizes 16 15 16)) (finished 16)
     ∷ row (said Encrypt Cbc (sizes 16 16 32)) (finished 32)
-    -- Cbc decryption of 16 bytes ending in 10 hex once decrypted is done with length 0
-    ∷ row (cbcHead (unpadded (replicate 15 0 ++ (0x10 ∷ [])))) (finished 0)
+    -- Cbc decryption of 16 bytes that are 10 hex once decrypted is done with length 0; where only the last one is, it is 15
+    ∷ row (cbcHead (unpadded (replicate 16 0x10))) (finished 0)
+    ∷ row (cbcHead (unpadded (replicate 15 0 ++ (0x10 ∷ [])))) (refusal 15)
+    -- a padding of two is told by both its bytes, and one of one by itself; 0 and 11 hex name none
+    ∷ row (cbcHead (unpadded (replicate 14 0 ++ (2 ∷ 2 ∷ [])))) (finished 14)
+    ∷ row (cbcHead (unpadded (replicate 15 0 ++ (2 ∷ [])))) (refusal 15)
+    ∷ row (cbcHead (unpadded (replicate 15 0 ++ (1 ∷ [])))) (finished 15)
+    ∷ row (cbcHead (unpadded (replicate 16 0))) (refusal 3)
+    ∷ row (cbcHead (unpadded (replicate 16 0x11))) (refusal 3)
     -- Gcm decryption of 15 bytes is 9 with 1 missing, of none with 16; of 16 bytes it is done with length 0, or 4
     ∷ row (said Decrypt Gcm (sizes 16 15 16)) (cutShort 1)
     ∷ row (said Decrypt Gcm (sizes 16 0 16)) (cutShort 16)

@@ -6,8 +6,12 @@ use Prim.Native.Nat.{ℕ, _≤_}
 use lib.ListN.{length}
 use Rattle.block.specs.Below.{AreBytes}
 use Rattle.walk.specs.Outcome.{Outcome}
+use Rattle.cipher_mode.specs.declared.CipherMode.{CipherMode}
+use Rattle.cipher_mode.specs.declared.CipherMode.the-variants.{Cbc}
+use Rattle.cipher_mode.specs.declared.Direction.the-variants.{Encrypt, Decrypt}
 use Rattle.cipher_mode.specs.declared.Sm4Cipher.{Sm4Cipher}
 use Rattle.cipher_mode.specs.Key.{retire}
+use Rattle.cipher_mode.specs.Tables.{limit, roomOf}
 use Rattle.luossavin.specs.declared.key.LuossavinKey.{LuossavinKey}
 use Rattle.luossavin.specs.Key.{hostKeyRetire}
 use Rattle.demands.specs.Call.{Call, result}
@@ -26,11 +30,24 @@ pub record Returns (d : List ℕ) (x : Outcome) : Type 0 where
   pub size : x .head .size ≡ length d
   pub message : result x ≡ d
 
--- Whenever `there` answers 0, `back`, given its result, the same label and IV, and an output o′ with room, answers 0 with the
--- data that `there` was given. `room` says how much room `back` needs for n bytes.
-abbrev pub ThereAndBack : (ℕ → ℕ) → Call → Call → Type 0
-ThereAndBack room there back =
+-- what decryption asks of n bytes that encryption gave, and of the output: room
+abbrev pub Decryptable : CipherMode → ℕ → List ℕ → Type 0
+Decryptable mode n o = roomOf mode Decrypt n ≤ length o
+
+-- what encryption asks of n bytes that decryption gave: room, and in Cbc that they are no more than may be encrypted, since a full
+-- message with a padding of 1 to 15 bytes gives more; in the other modes decryption's own limit sees to it
+abbrev pub Encryptable : CipherMode → ℕ → List ℕ → Type 0
+Encryptable mode n o = (mode ≡ Cbc → n ≤ limit) × (roomOf mode Encrypt n ≤ length o)
+
+-- a single block asks for its sixteen bytes
+abbrev pub Sixteen : ℕ → List ℕ → Type 0
+Sixteen n o = 16 ≤ length o
+
+-- Whenever `there` answers 0, `back`, given its result, the same label and IV, and an output o′ as it asks for, answers 0 with the
+-- data that `there` was given.
+abbrev pub ThereAndBack : (ℕ → List ℕ → Type 0) → Call → Call → Type 0
+ThereAndBack Asks there back =
     (label d iv o o′ : List ℕ) → AreBytes d → AreBytes iv
     → there label d iv o .head .number ≡ 0
-    → room (there label d iv o .head .size) ≤ length o′
+    → Asks (there label d iv o .head .size) o′
     → Returns d (back label (result (there label d iv o)) iv o′)

@@ -7,7 +7,7 @@ use Prim.Native.Nat.{ℕ, _-_, _%_}
 use lib.Dec.{eqb, ltb}
 use lib.ListN.{length}
 use Rattle.walk.specs.Outcome.{Head}
-use Rattle.cbc.specs.Open.{lastByte, namesPadding, cbcText}
+use Rattle.cbc.specs.Open.{lastByte, namesPadding, allPadding, cbcText}
 use Rattle.gcm.specs.Gcm.{hashKey, J0, opensUnder}
 use Rattle.cipher_mode.specs.declared.CipherMode.{CipherMode}
 use Rattle.cipher_mode.specs.declared.CipherMode.the-variants.{Cfb, Ofb, Ctr, Cbc, Gcm}
@@ -121,5 +121,6 @@ decryptRows mode k label d iv o =
     ∷ record { holds = isGcm (modeOf mode) && ltb (length d) 16; says = record { number = 9; missing = 16 - length d } }
     ∷ row (ltb (length o) (roomOf (modeOf mode) Decrypt (length d))) 6
     ∷ row (isCbc (modeOf mode) && not (namesPadding (lastByte (cbcText rk iv d)))) 3
+    ∷ row (isCbc (modeOf mode) && not (allPadding (cbcText rk iv d))) 15
     ∷ row (isGcm (modeOf mode) && not (opensUnder rk (hashKey rk) (J0 rk iv) label d)) 4
     ∷ [])

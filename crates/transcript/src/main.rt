@@ -388,6 +388,7 @@ fn refuse(refusal: Refusal, asked: Asked, key: usize, iv: usize, data: usize) ->
         Refusal::Ended => say::ended(),
         Refusal::WrongNumber => say::wrong_number(places[NUMBER]),
         Refusal::Retired => say::retired(named(asked)),
+        Refusal::InvalidPadding => say::padding(named(asked)),
     }
 }
 

@@ -391,6 +391,15 @@ pub fn last_byte(key: u32) -> u8 {
     3
 }
 
+pub fn padding(key: u32) -> u8 {
+    text(
+        b"15 InvalidPadding: the end of this file is damaged: it was changed since, or not encrypted with cbc, ",
+    );
+    key_and_iv(key);
+    text(b"\n");
+    15
+}
+
 pub fn tag(key: u32, job: u32, edition: u16) -> u8 {
     text(b"4 InvalidTag: this file was not sealed under job ");
     number(job as u64);

@@ -294,6 +294,7 @@ fn cbc_text_end(t: &[u32], work: Work, rest: &[u8], out: &mut [u8]) -> Step
     match opened {
         Opened::Done(n) => done(work, n),
         Opened::InvalidLastU8 => refused(work, Refusal::InvalidLastU8),
+        Opened::InvalidPadding => refused(work, Refusal::InvalidPadding),
     }
 }
 

@@ -2,15 +2,21 @@
 -- padding leaves of the last block are put together (`open-done`). The round keys turned round twice are the round keys.
 -- Assumes nothing.
 use mathlib.Core.Path.{_≡_, sym, _∙_}
-use mathlib.Core.List.{reverse-reverse}
+use mathlib.Core.List.{[], _∷_, reverse-reverse}
+use mathlib.Core.Logic.{⊎-elim}
 use Prim.Native.Nat.{_-_}
 use native.Mathlib.Nat.{sub-zero}
 use native.Mathlib.Omega.{arith}
+use denote.Enum.Declared.{tagOf}
 use denote.Ref.{now}
+use types.Run.{OneOf}
 use lib.ListN.{length, drop}
 use Rattle.block.specs.Words.{unwords}
 use Rattle.block.proofs.WordsBack.{length-unwords}
-use Rattle.cbc.specs.Open.{cbcText}
+use Rattle.cbc.specs.Open.{headOf, cbcText}
+use Rattle.cbc.specs.declared.Opened.{Opened}
+use Rattle.cbc.specs.declared.Opened.the-variants.{Done, InvalidLastU8, InvalidPadding}
+use Rattle.cbc.proofs.Opened.{the-type}
 use Rattle.cbc.proofs.Unpadded.{unpadded-le}
 use Rattle.cbc.proofs.Opens.{open-refused, open-done}
 use borrow.Author.Needs.{needs}
@@ -26,14 +32,21 @@ last-is x =
     let a = x .before .before .before .before .before .args in
     rw (x .before .reversed .ensures, reverse-reverse (a .rk)) at (x .last-block .ensures)
 
+-- what is not done has a number
+refusing : (a : Opened) → OneOf (1 ∷ 2 ∷ []) (tagOf the-type a) → headOf a .number ≡ 0 → ⊥
+refusing (Done n) told e = ⊎-elim (λ t. omega arith) (λ t. omega arith) told
+refusing InvalidLastU8 told e = omega arith
+refusing InvalidPadding told e = omega arith
+
 returns : tie.Need-returns
 returns c =
-    let at-unpad = c .before .before in
+    let at-unpad = c .before in
     let at-last = at-unpad .before in
     let S = at-last .before .before .before .before .before in
     let a = S .args in
+    let answer = at-unpad .unpad .result in
     open-refused (a .rk) (unwords (a .iv)) (now (a .«data»)) (at-last .last-block .result) (now (a .out)) (length-unwords (a .iv))
-    (S .pre .1 .0) (S .pre .1 .1 .0) (last-is at-last) (at-unpad .unpad .result) (c .enum-told .given .1) (sym (at-unpad .unpad .ensures))
+    (S .pre .1 .0) (S .pre .1 .1 .0) (last-is at-last) answer (refusing answer (c .match .keys2)) (sym (at-unpad .unpad .ensures))
 
 put-front-requires : tie.Need-put-front-requires
 put-front-requires c κs =
@@ -75,6 +88,6 @@ pub decrypt-spec : {M : Type 1} → statement M
 decrypt-spec =
     tie.close
     (tie.spec
-    (λ c κs. search needs) (λ c κs. search needs) (λ c κs. search needs) (λ c. search needs) (λ c. search needs) returns
+    (λ c κs. search needs) (λ c κs. search needs) (λ c κs. search needs) (λ c. search needs) returns
     (λ c. search needs) (λ c. search needs) (λ c. search needs) (λ c. search needs) (λ c κs. search needs)
     (λ c. search needs) (λ c. search needs) (λ c. search needs) put-front-requires add-t11 (λ c. search needs) returns-2)
