@@ -20,7 +20,7 @@ same-answer true u f g = sym (f refl)
 same-answer false true f g = g refl
 same-answer false false f g = refl
 
-or-false : (t u : Bool) → t || u ≡ false → (t ≡ false) × (u ≡ false)
+pub or-false : (t u : Bool) → t || u ≡ false → (t ≡ false) × (u ≡ false)
 or-false true u e = let z : _≡_ {A = ℕ} 0 1 = cc in absurd (omega arith)
 or-false false u e = (refl, e)
 

@@ -1,49 +1,34 @@
+-- `editions::under_key` meets its contract: H and J0 are those of the keys and the IV.
+-- Assumes nothing.
+use mathlib.Core.Path.{ap, ap₂, _∙_}
+use mathlib.Core.List.{List}
+use Prim.Native.Nat.{ℕ}
+use denote.Ref.{now}
+use lib.ListN.{length}
+use Rattle.gcm.specs.Gcm.{firstCounter}
+use Rattle.cipher_mode.proofs.Passed.{iv-twelve-or-sixteen}
+use Rattle.editions.specs.Which.{Verdict, onKey, firstOpening, opensFile}
 use borrow.Author.Needs.{needs}
 use Rattle.editions.proofs.under_key.Statement.{statement}
 use Rattle.editions.proofs.under_key.Tie as tie
-use Rattle.editions.proofs.under_key.Reads as reads
-use Rattle.editions.proofs.under_key.Lts as lts
-use Rattle.cipher.proofs.plain.Reads as plain-reads
-use Rattle.editions.proofs.search.Reads as search-reads
-use Rattle.gcm.proofs.first_counter.Reads as first-counter-reads
-use Rattle.gcm.proofs.hash_key.Reads as hash-key-reads
 
--- src/lib.rt:164:13
-plain-requires : tie.Need-plain-requires
-plain-requires c κs = search needs
-
--- src/lib.rt:165:27
-slice-aggregate-hash-key : tie.Need-slice-aggregate-hash-key
-slice-aggregate-hash-key c = search needs
-
--- src/lib.rt:165:9
-hash-key-requires : tie.Need-hash-key-requires
-hash-key-requires c κs = search needs
-
--- src/lib.rt:166:9
 first-counter-requires : tie.Need-first-counter-requires
-first-counter-requires c κs = ?
+first-counter-requires c κs =
+    let S = c .before .before .before .before .before .before .before in
+    iv-twelve-or-sixteen (length (now (S .args .iv))) (S .pre .0)
 
--- src/lib.rt:167:12
-slice-aggregate-search : tie.Need-slice-aggregate-search
-slice-aggregate-search c = search needs
-
--- src/lib.rt:167:5
-search-requires : tie.Need-search-requires
-search-requires c κs = search needs
-
--- src/lib.rt:150:1
 returns : tie.Need-returns
-returns c = ?
+returns c =
+    let at-counter = c .before .before in
+    let at-key = at-counter .before in
+    let a = at-key .before .before .before .before .before .before .before .args in
+    let h = at-key .hash-key .ensures in
+    let j0 = at-counter .first-counter .ensures ∙ ap (λ (h : ℕ). firstCounter h (now (a .iv))) h in
+    c .search .ensures
+    ∙ ap₂ {C = Verdict} (λ (h : ℕ) (j : List ℕ). onKey (a .key) (firstOpening (opensFile (a .rk) h j (now (a .file))) (now (a .labels)) (now (a .lengths)) 0 0)) h j0
 
 pub under-key-spec : {M : Type 1} → statement M
 under-key-spec =
     tie.close
     (tie.spec
-    plain-requires
-    slice-aggregate-hash-key
-    hash-key-requires
-    first-counter-requires
-    slice-aggregate-search
-    search-requires
-    returns)
+    (λ c κs. search needs) (λ c. search needs) (λ c κs. search needs) first-counter-requires (λ c. search needs) (λ c κs. search needs) returns)

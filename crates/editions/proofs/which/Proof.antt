@@ -1,69 +1,54 @@
+-- `editions::which` meets its contract: a bad list ends it, then what a check refused, and then the search gives the verdict.
+-- Assumes nothing.
+use mathlib.Core.Path.{sym, ap, _∙_}
+use denote.Ref.{now}
+use Rattle.gcm.specs.Gcm.{hashKey, J0}
+use Rattle.editions.specs.Which.{firstOpening, opensFile, which, verdictOf}
+use Rattle.editions.proofs.Passed.{adds-up, search-passed}
+use Rattle.editions.proofs.Ends.{bad-there, list-stands, refused-there, went-on}
 use borrow.Author.Needs.{needs}
 use Rattle.editions.proofs.which.Statement.{statement}
 use Rattle.editions.proofs.which.Tie as tie
-use Rattle.editions.proofs.which.Reads as reads
-use Rattle.editions.proofs.which.Lts as lts
-use Rattle.cipher_mode.proofs.number_in.Reads as number-in-reads
-use Rattle.editions.proofs.bad_list.Reads as bad-list-reads
-use Rattle.editions.proofs.check.Reads as check-reads
-use Rattle.editions.proofs.under_key.Reads as under-key-reads
-use Rattle.editions.proofs.without.Reads as without-reads
 
--- src/lib.rt:181:8
-bad-list-requires : tie.Need-bad-list-requires
-bad-list-requires c κs = search needs
-
--- src/lib.rt:182:9
-without-requires : tie.Need-without-requires
-without-requires c κs = search needs
-
--- src/lib.rt:182:9
 returns : tie.Need-returns
-returns c = ?
+unfolding which
+returns c =
+    let at-list = c .before .before in
+    bad-there _ _ _ _ (sym (at-list .bad-list .ensures) ∙ c .before .if1 .taken) (ap verdictOf (c .without .ensures))
 
--- src/lib.rt:185:9
-number-in-requires : tie.Need-number-in-requires
-number-in-requires c κs = search needs
-
--- src/lib.rt:186:9
-check-requires : tie.Need-check-requires
-check-requires c κs = search needs
-
--- src/lib.rt:187:29
-enum-known-checked : tie.Need-enum-known-checked
-enum-known-checked c = search needs
-
--- src/lib.rt:188:9
-without-requires-2 : tie.Need-without-requires-2
-without-requires-2 c κs = search needs
-
--- src/lib.rt:188:9
 returns-2 : tie.Need-returns-2
-returns-2 c = ?
+unfolding which
+returns-2 c =
+    let told = c .before .before in
+    let at-check = told .before .before in
+    let at-number = at-check .before in
+    let good = at-number .before in
+    list-stands _ _ _ _ (sym (good .before .bad-list .ensures) ∙ good .if1 .left)
+    (ap verdictOf (c .without2 .ensures)
+    ∙ refused-there _ _ _ _ (at-number .number-in .ensures) _ (sym (at-check .check .ensures) ∙ told .checked .given .1))
 
-enum-told : tie.Need-enum-told
-enum-told c = search needs
-
--- src/lib.rt:191:5
 under-key-requires : tie.Need-under-key-requires
-under-key-requires c κs = ?
+under-key-requires c κs =
+    let told = c .before in
+    let at-check = told .before .before in
+    let good = at-check .before .before in
+    let in-order = search-passed _ _ _ _ _ (sym (at-check .check .ensures) ∙ told .enum-told .given .1) in
+    (in-order .iv-size, (in-order .content, (adds-up _ _ (sym (good .before .bad-list .ensures) ∙ good .if1 .left), in-order .short)))
 
--- src/lib.rt:172:1
 returns-3 : tie.Need-returns-3
-returns-3 c = ?
+unfolding which
+returns-3 c =
+    let told = c .before .before in
+    let at-check = told .before .before in
+    let at-number = at-check .before in
+    let good = at-number .before in
+    list-stands _ _ _ _ (sym (good .before .bad-list .ensures) ∙ good .if1 .left)
+    (c .under-key .ensures
+    ∙ went-on _ _ _ _ (at-number .number-in .ensures) (sym (at-check .check .ensures) ∙ told .enum-told .given .1))
 
 pub which-spec : {M : Type 1} → statement M
 which-spec =
     tie.close
     (tie.spec
-    bad-list-requires
-    without-requires
-    returns
-    number-in-requires
-    check-requires
-    enum-known-checked
-    without-requires-2
-    returns-2
-    enum-told
-    under-key-requires
-    returns-3)
+    (λ c κs. search needs) (λ c κs. search needs) returns (λ c κs. search needs) (λ c κs. search needs) (λ c. search needs)
+    (λ c κs. search needs) returns-2 (λ c. search needs) under-key-requires returns-3)

@@ -1,0 +1,42 @@
+-- What is known where nothing was refused.
+-- Assumes nothing.
+use mathlib.Core.Path.{_≡_}
+use mathlib.Core.Bool.{Bool, false, not}
+use mathlib.Core.List.{List}
+use Prim.Native.Nat.{ℕ}
+use lib.Dec.{eqb, ltb}
+use lib.ListN.{length}
+use borrow.Author.Tests.{eqb-true, not-false}
+use Rattle.cipher_mode.specs.declared.KeyAnswer.{KeyAnswer}
+use Rattle.cipher_mode.specs.declared.CipherMode.the-variants.{Gcm}
+use Rattle.cipher_mode.specs.declared.Direction.the-variants.{Decrypt}
+use Rattle.cipher_mode.specs.declared.checks.Checked.the-variants.{Passed}
+use Rattle.cipher_mode.specs.Checks.{wrongIv, keyAndIv, dataCheck}
+use Rattle.cipher_mode.proofs.Passed.{let-through, both, key-and-iv-passed}
+use Rattle.editions.specs.Candidates.{sum, badList, anyTooLong}
+use Rattle.editions.specs.Which.{searchCheck}
+use Rattle.editions.proofs.Turns.{or-false}
+
+pub adds-up : (labels lengths : List ℕ) → badList labels lengths ≡ false → sum lengths ≡ length labels
+unfolding badList
+adds-up labels lengths e =
+    let same = eqb (sum lengths) (length labels) in
+    eqb-true (sum lengths) (length labels) (not-false same (or-false (ltb 64 (length lengths)) (not same) e .1))
+
+-- a search that goes on to look at tags
+pub record InOrder (iv file : ℕ) (lengths : List ℕ) : Type 0 where
+  pub iv-size : wrongIv Gcm iv ≡ false
+  pub short : anyTooLong lengths ≡ false
+  pub content : dataCheck Decrypt Gcm file ≡ Passed
+
+pub search-passed : (a : KeyAnswer) (retired : Bool) (iv file : ℕ) (lengths : List ℕ)
+    → searchCheck a retired iv file lengths ≡ Passed → InOrder iv file lengths
+unfolding searchCheck
+search-passed a retired iv file lengths e =
+    let from-key = both (keyAndIv a retired Decrypt Gcm iv) _ e in
+    let from-labels = let-through (anyTooLong lengths) _ _ (from-key .1) in
+    record {
+      iv-size = key-and-iv-passed a retired Decrypt Gcm iv (from-key .0) .iv-size;
+      short = from-labels .fails;
+      content = from-labels .rest;
+    }
