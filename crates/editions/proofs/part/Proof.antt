@@ -1,7 +1,8 @@
 -- `editions::part` meets its contract: each return is the definition, by the tests that led there. The start is tested before the
 -- difference is taken, and the two tests are the definition's one.
 -- Assumes nothing.
-use mathlib.Core.Path.{sym, _∙_}
+use mathlib.Core.Path.{_≡_, sym, _∙_}
+use mathlib.Core.Bool.{true}
 use native.Mathlib.Omega.{arith}
 use denote.Ref.{now}
 use borrow.Author.Tests.{not-true, not-false}
@@ -15,25 +16,29 @@ returns : tie.Need-returns
 returns c =
     let at-test = c .before .before in
     let a = at-test .before .before .args in
-    part-none (verdictOf (a .found)) (now (a .labels)) (sym (at-test .is-candidate .ensures) ∙ not-true (at-test .is-candidate .result) (c .before .if1 .taken))
+    part-none (verdictOf (a .found)) (now (a .labels))
+    (sym (at-test .is-candidate .ensures) ∙ not-true (at-test .is-candidate .result) (c .before .if1 .taken))
+
+is-found : (x : tie.Else1) → verdictOf (x .before .before .before .args .found) .found ≡ true
+is-found x = sym (x .before .is-candidate .ensures) ∙ not-false (x .before .is-candidate .result) (x .if1 .left)
 
 returns-2 : tie.Need-returns-2
 returns-2 c =
     let found = c .before .before in
     let a = found .before .before .before .args in
-    part-outside (verdictOf (a .found)) (now (a .labels)) (sym (found .before .is-candidate .ensures) ∙ not-false (found .before .is-candidate .result) (found .if1 .left)) (omega arith)
+    part-outside (verdictOf (a .found)) (now (a .labels)) (is-found found) (omega arith)
 
 returns-3 : tie.Need-returns-3
 returns-3 c =
     let found = c .before .before .before in
     let a = found .before .before .before .args in
-    part-outside (verdictOf (a .found)) (now (a .labels)) (sym (found .before .is-candidate .ensures) ∙ not-false (found .before .is-candidate .result) (found .if1 .left)) (omega arith)
+    part-outside (verdictOf (a .found)) (now (a .labels)) (is-found found) (omega arith)
 
 returns-4 : tie.Need-returns-4
 returns-4 c =
     let found = c .before .before .before in
     let a = found .before .before .before .args in
-    part-inside (verdictOf (a .found)) (now (a .labels)) (sym (found .before .is-candidate .ensures) ∙ not-false (found .before .is-candidate .result) (found .if1 .left)) (omega arith)
+    part-inside (verdictOf (a .found)) (now (a .labels)) (is-found found) (omega arith)
 
 pub part-spec : {M : Type 1} → statement M
 part-spec =

@@ -1,0 +1,3 @@
+-- What the verdict on a question says.
+-- Assumes nothing.
+use Prim.Native.Nat.{ℕ}
