@@ -18,10 +18,13 @@ module _ (v : Verdict) (labels : List ℕ) where
   unfolding partOf
   part-outside e past = rw (e, lt-ltb _ _ past)
 
-  -- as the borrow checker writes a part
-  pub part-inside : v .found ≡ true → v .start + v .size ≤ length labels
-      → take (v .start + v .size - v .start) (drop (v .start) labels) ≡ partOf v labels
+  pub part-inside : v .found ≡ true → v .start + v .size ≤ length labels → take (v .size) (drop (v .start) labels) ≡ partOf v labels
   unfolding partOf
-  part-inside e within =
+  part-inside e within = rw (e, le-ltb _ _ within)
+
+  -- as the borrow checker writes a part
+  pub part-lent : v .found ≡ true → v .start + v .size ≤ length labels
+      → take (v .start + v .size - v .start) (drop (v .start) labels) ≡ partOf v labels
+  part-lent e within =
       let same : v .start + v .size - v .start ≡ v .size = omega arith in
-      rw (same, e, le-ltb _ _ within)
+      rw same (part-inside e within)

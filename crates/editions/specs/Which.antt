@@ -60,9 +60,13 @@ abbrev pub checkedVerdict : Checked → Verdict → Verdict
 checkedVerdict Passed next = next
 checkedVerdict (Refused r) next = noneWith (refusalHead r)
 
--- the test: whether the file opens under a label
+-- the test: whether the file opens under a label, by round keys, H and J0
 abbrev pub opensFile : List ℕ → ℕ → List ℕ → List ℕ → List ℕ → Bool
 opensFile rk h j file label = opensUnder rk h j label file
+
+-- and by a key's record and an IV
+abbrev pub opensWith : Sm4Cipher → List ℕ → List ℕ → List ℕ → Bool
+opensWith c iv file label = opensFile (c .rk) (hashKey (c .rk)) (J0 (c .rk) iv) file label
 
 -- the verdict on a key's record, a file, an IV and the candidates; a bad list is told before any key is looked at
 unfoldable pub which : Sm4Cipher → List ℕ → List ℕ → List ℕ → List ℕ → Verdict
@@ -70,7 +74,7 @@ which c file iv labels lengths =
     cond (badList labels lengths) (noneWith (refusal 16))
     (onKey (keyNumber c)
     (checkedVerdict (searchCheck (c .answer) (c .retired) (length iv) (length file) lengths)
-    (firstOpening (opensFile (c .rk) (hashKey (c .rk)) (J0 (c .rk) iv) file) labels lengths 0 0)))
+    (firstOpening (opensWith c iv file) labels lengths 0 0)))
 
 -- the label found, as a part of the buffer; empty in every other answer, and where the part lies outside
 unfoldable pub partOf : Verdict → List ℕ → List ℕ

@@ -1,7 +1,6 @@
 // Which of many labels a sealed file opens under. Nothing is decrypted and nothing is written.
 ghost use mathlib.Core.Path.{_≡_};
 ghost use mathlib.Core.Bool.{false};
-ghost use mathlib.Core.Logic.{_⊎_};
 ghost use lib.Dec.{eqb};
 ghost use lib.ListN.{length};
 ghost use Rattle.block.specs.Wide.{value};
@@ -98,8 +97,13 @@ fn any_too_long(lengths: &[usize]) -> bool
 fn check(answer: KeyAnswer, mark: bool, iv: usize, file: usize, lengths: &[usize]) -> Checked
     ensures { λ r. ⌜ r ≡ searchCheck answer mark iv file (now (lengths .entry)) ⌝ }
 {
-    let first =
-        cipher_mode::checks::key_and_iv(answer, mark, Direction::Decrypt, CipherMode::Gcm, iv);
+    let first = cipher_mode::checks::key_and_iv(
+        answer,
+        mark,
+        Direction::Decrypt,
+        CipherMode::Gcm,
+        iv,
+    );
     let Checked::Passed = first else {
         return first;
     };
@@ -109,7 +113,7 @@ fn check(answer: KeyAnswer, mark: bool, iv: usize, file: usize, lengths: &[usize
     cipher_mode::checks::data(Direction::Decrypt, CipherMode::Gcm, file)
 }
 
-// The first candidate that opens the file. Each one hashes the whole text again: W12 is to hash it once for all of them.
+// The first candidate that opens the file. Each one hashes the whole text again, until W12 joins a label's hash to the text's.
 fn search(
     t: &[u32],
     rk: [u32; 32],
@@ -169,13 +173,7 @@ fn under_key(
 
 // The first of the candidates that the sealed file opens under, with a key's record, retired or not. The candidates are lent one
 // after another in `labels`, and `lengths` has the length of each.
-pub fn which(
-    cipher: Sm4Cipher,
-    file: &[u8],
-    iv: &[u8],
-    labels: &[u8],
-    lengths: &[usize],
-) -> Found
+pub fn which(cipher: Sm4Cipher, file: &[u8], iv: &[u8], labels: &[u8], lengths: &[usize]) -> Found
     ensures { λ r. ⌜ verdictOf r ≡ which cipher (now (file .entry)) (now (iv .entry)) (now (labels .entry)) (now (lengths .entry)) ⌝ }
 {
     if bad_list(labels, lengths) {

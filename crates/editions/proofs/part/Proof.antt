@@ -7,7 +7,7 @@ use native.Mathlib.Omega.{arith}
 use denote.Ref.{now}
 use borrow.Author.Tests.{not-true, not-false}
 use Rattle.editions.specs.Which.{verdictOf}
-use Rattle.editions.proofs.Parts.{part-none, part-outside, part-inside}
+use Rattle.editions.proofs.Parts.{part-none, part-outside, part-lent}
 use borrow.Author.Needs.{needs}
 use Rattle.editions.proofs.part.Statement.{statement}
 use Rattle.editions.proofs.part.Tie as tie
@@ -38,7 +38,7 @@ returns-4 : tie.Need-returns-4
 returns-4 c =
     let found = c .before .before .before in
     let a = found .before .before .before .args in
-    part-inside (verdictOf (a .found)) (now (a .labels)) (is-found found) (omega arith)
+    part-lent (verdictOf (a .found)) (now (a .labels)) (is-found found) (omega arith)
 
 pub part-spec : {M : Type 1} → statement M
 part-spec =

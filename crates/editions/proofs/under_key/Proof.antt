@@ -24,8 +24,9 @@ returns c =
     let a = at-key .before .before .before .before .before .before .before .args in
     let h = at-key .hash-key .ensures in
     let j0 = at-counter .first-counter .ensures ∙ ap (λ (h : ℕ). firstCounter h (now (a .iv))) h in
-    c .search .ensures
-    ∙ ap₂ {C = Verdict} (λ (h : ℕ) (j : List ℕ). onKey (a .key) (firstOpening (opensFile (a .rk) h j (now (a .file))) (now (a .labels)) (now (a .lengths)) 0 0)) h j0
+    let given : ℕ → List ℕ → Verdict =
+    λ h j. onKey (a .key) (firstOpening (opensFile (a .rk) h j (now (a .file))) (now (a .labels)) (now (a .lengths)) 0 0) in
+    c .search .ensures ∙ ap₂ given h j0
 
 pub under-key-spec : {M : Type 1} → statement M
 under-key-spec =

@@ -1,11 +1,9 @@
 -- `editions::which` meets its contract: a bad list ends it, then what a check refused, and then the search gives the verdict.
 -- Assumes nothing.
 use mathlib.Core.Path.{sym, ap, _∙_}
-use denote.Ref.{now}
-use Rattle.gcm.specs.Gcm.{hashKey, J0}
-use Rattle.editions.specs.Which.{firstOpening, opensFile, which, verdictOf}
+use Rattle.editions.specs.Which.{which, verdictOf}
 use Rattle.editions.proofs.Passed.{adds-up, search-passed}
-use Rattle.editions.proofs.Ends.{bad-there, list-stands, refused-there, went-on}
+use Rattle.editions.proofs.Ends.{list-told, check-told}
 use borrow.Author.Needs.{needs}
 use Rattle.editions.proofs.which.Statement.{statement}
 use Rattle.editions.proofs.which.Tie as tie
@@ -14,7 +12,7 @@ returns : tie.Need-returns
 unfolding which
 returns c =
     let at-list = c .before .before in
-    bad-there _ _ _ _ (sym (at-list .bad-list .ensures) ∙ c .before .if1 .taken) (ap verdictOf (c .without .ensures))
+    list-told _ _ _ _ _ (sym (at-list .bad-list .ensures) ∙ c .before .if1 .taken) (ap verdictOf (c .without .ensures))
 
 returns-2 : tie.Need-returns-2
 unfolding which
@@ -23,9 +21,9 @@ returns-2 c =
     let at-check = told .before .before in
     let at-number = at-check .before in
     let good = at-number .before in
-    list-stands _ _ _ _ (sym (good .before .bad-list .ensures) ∙ good .if1 .left)
+    list-told _ _ _ _ _ (sym (good .before .bad-list .ensures) ∙ good .if1 .left)
     (ap verdictOf (c .without2 .ensures)
-    ∙ refused-there _ _ _ _ (at-number .number-in .ensures) _ (sym (at-check .check .ensures) ∙ told .checked .given .1))
+    ∙ check-told _ _ _ _ _ (at-number .number-in .ensures) (sym (at-check .check .ensures) ∙ told .checked .given .1))
 
 under-key-requires : tie.Need-under-key-requires
 under-key-requires c κs =
@@ -42,9 +40,9 @@ returns-3 c =
     let at-check = told .before .before in
     let at-number = at-check .before in
     let good = at-number .before in
-    list-stands _ _ _ _ (sym (good .before .bad-list .ensures) ∙ good .if1 .left)
+    list-told _ _ _ _ _ (sym (good .before .bad-list .ensures) ∙ good .if1 .left)
     (c .under-key .ensures
-    ∙ went-on _ _ _ _ (at-number .number-in .ensures) (sym (at-check .check .ensures) ∙ told .enum-told .given .1))
+    ∙ check-told _ _ _ _ _ (at-number .number-in .ensures) (sym (at-check .check .ensures) ∙ told .enum-told .given .1))
 
 pub which-spec : {M : Type 1} → statement M
 which-spec =
