@@ -1,4 +1,4 @@
--- What is refused, one by one, and the numbers that a question is answered with: of those of document 01, never 4, 6, 7 or 14.
+-- What is refused, one by one, and the numbers that a question is answered with: never 4, 6, 7 or 14.
 -- Assumes nothing.
 use mathlib.Core.Path.{_≡_, refl, ap}
 use mathlib.Core.Bool.{Bool, true, false, _||_, cond}

@@ -3,10 +3,10 @@
 use mathlib.Core.Path.{_≡_}
 use mathlib.Core.Bool.{Bool, false, not}
 use mathlib.Core.List.{List}
-use Prim.Native.Nat.{ℕ}
+use Prim.Native.Nat.{ℕ, _≤_}
 use lib.Dec.{eqb, ltb}
 use lib.ListN.{length}
-use borrow.Author.Tests.{eqb-true, not-false}
+use borrow.Author.Tests.{ltb-false, eqb-true, not-false}
 use Rattle.cipher_mode.specs.declared.KeyAnswer.{KeyAnswer}
 use Rattle.cipher_mode.specs.declared.CipherMode.the-variants.{Gcm}
 use Rattle.cipher_mode.specs.declared.Direction.the-variants.{Decrypt}
@@ -17,11 +17,17 @@ use Rattle.editions.specs.Candidates.{sum, badList, anyTooLong}
 use Rattle.editions.specs.Which.{searchCheck}
 use Rattle.editions.proofs.Turns.{or-false}
 
-pub adds-up : (labels lengths : List ℕ) → badList labels lengths ≡ false → sum lengths ≡ length labels
-unfolding badList
-adds-up labels lengths e =
-    let same = eqb (sum lengths) (length labels) in
-    eqb-true (sum lengths) (length labels) (not-false same (or-false (ltb 64 (length lengths)) (not same) e .1))
+-- a list that is not bad
+module _ (labels lengths : List ℕ) (good : badList labels lengths ≡ false) where
+  few-and-whole : (ltb 64 (length lengths) ≡ false) × (not (eqb (sum lengths) (length labels)) ≡ false)
+  unfolding badList
+  few-and-whole = or-false (ltb 64 (length lengths)) (not (eqb (sum lengths) (length labels))) good
+
+  pub at-most-64 : length lengths ≤ 64
+  at-most-64 = ltb-false 64 (length lengths) (few-and-whole .0)
+
+  pub adds-up : sum lengths ≡ length labels
+  adds-up = eqb-true (sum lengths) (length labels) (not-false (eqb (sum lengths) (length labels)) (few-and-whole .1))
 
 -- a search that goes on to look at tags
 pub record InOrder (iv file : ℕ) (lengths : List ℕ) : Type 0 where

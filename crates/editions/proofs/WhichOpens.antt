@@ -14,7 +14,7 @@ use Rattle.cipher_mode.specs.declared.checks.Checked.the-variants.{Passed, Refu
 use Rattle.cipher_mode.specs.Key.{keyNumber}
 use Rattle.editions.specs.Candidates.{sum, badList, labelAt}
 use Rattle.editions.specs.Which.{Verdict, noneWith, onKey, firstOpening, searchCheck, checkedVerdict, opensWith, which, partOf}
-use Rattle.editions.proofs.Passed.{adds-up}
+use Rattle.editions.proofs.Passed.{at-most-64, adds-up}
 use Rattle.editions.proofs.Turns.{sum-turn}
 use Rattle.editions.proofs.Parts.{part-inside}
 use Rattle.editions.proofs.Numbers.{search-went-on}
@@ -120,3 +120,23 @@ module _ (c : Sm4Cipher) (file iv labels lengths : List ℕ) where
   none-found e done =
       let asked = done-asked done in
       record { asked = asked; none = found-is-none (opensWith c iv file) labels lengths (rw (searches asked) at e) }
+
+  zero-told : (bad : Bool) (k : Checked) → told bad k .found ≡ false → told bad k ≡ noneWith (told bad k .head)
+  zero-told true k e = refl
+  zero-told false (Refused r) e = refl
+  zero-told false Passed e = rw (none-is-found (opensWith c iv file) labels lengths (found-is-none (opensWith c iv file) labels lengths e))
+
+  -- place, start and size are 0 unless a candidate is found
+  pub zero-unless-found : which c file iv labels lengths .found ≡ false
+      → which c file iv labels lengths ≡ noneWith (which c file iv labels lengths .head)
+  unfolding which
+  zero-unless-found e = zero-told (badList labels lengths) stage e
+
+  pub place-below-64 : which c file iv labels lengths .place < 64
+  place-below-64 = either (verdict .found) refl
+    where
+      either : (found : Bool) → verdict .found ≡ found → verdict .place < 64
+      either true e =
+          let there = found-opens e in
+          omega (arith, there .first .inside, at-most-64 labels lengths (there .asked .list))
+      either false e = rw (zero-unless-found e) (omega arith)
