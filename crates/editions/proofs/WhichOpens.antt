@@ -35,10 +35,11 @@ pub record Asked (c : Sm4Cipher) (file iv labels lengths : List ℕ) : Type 0 wh
   pub list : badList labels lengths ≡ false
   pub checks : searchCheck (c .answer) (c .retired) (length iv) (length file) lengths ≡ Passed
 
--- a candidate was found: the first that opens the file, and the part is that candidate
+-- a candidate was found: the first that opens the file; start and size point to it, and the part handed back is that candidate
 pub record FoundThere (c : Sm4Cipher) (file iv labels lengths : List ℕ) (v : Verdict) : Type 0 where
   pub asked : Asked c file iv labels lengths
   pub first : IsFirst (opensWith c iv file) labels lengths (v .place)
+  pub there : take (v .size) (drop (v .start) labels) ≡ labelAt labels lengths (v .place)
   pub part : partOf v labels ≡ labelAt labels lengths (v .place)
 
 -- none was found: nothing stood against the question, and no candidate opens the file
@@ -105,14 +106,16 @@ module _ (c : Sm4Cipher) (file iv labels lengths : List ℕ) where
       (candidate-inside lengths i (length labels) h (adds-up labels lengths good)))
 
   pub found-opens : which c file iv labels lengths .found ≡ true → FoundThere c file iv labels lengths (which c file iv labels lengths)
+  unfolding labelAt
   found-opens e =
       let asked = found-asked e in
       let whole = searches asked in
-      let there = found-is-first (opensWith c iv file) labels lengths (rw whole at e) in
+      let found = found-is-first (opensWith c iv file) labels lengths (rw whole at e) in
       record {
         asked = asked;
-        first = rw whole (there .0);
-        part = rw whole (rw (there .1) (part-of _ (there .0 .inside) (asked .list)));
+        first = rw whole (found .0);
+        there = rw whole (rw (found .1));
+        part = rw whole (rw (found .1) (part-of _ (found .0 .inside) (asked .list)));
       }
 
   pub none-found : which c file iv labels lengths .found ≡ false → which c file iv labels lengths .head .number ≡ 0
