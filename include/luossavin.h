@@ -29,12 +29,13 @@
  *  12  Ended           the message in pieces has come to its end
  *  13  WrongNumber     the key's number is not from 1 to 65,535
  *  14  Retired         encryption under a retired key
+ *  15  InvalidPadding  Cbc decryption: the last decrypted byte p is 1 to 16, and not all p last bytes are p
  *
  * Where several apply, the first of the call's order is the answer: of setting up a key 1, 13, which the calls
  * on that record then answer again where it stands in theirs; of a single block 1, 13, 11, 14, 6; of a message
- * 7, 1, 13, 10, 14, 5, then in Cbc 8, 2 or in Gcm 9, then 6, 3, 4; of a message in pieces 1, 13, 10, 14, 5 at
- * the start, and from there on what the start was refused with, then 12, 5, 9, 6, 4. Every number but 0 is a
- * refusal: it reports length 0 and changes no byte of the output buffer.
+ * 7, 1, 13, 10, 14, 5, then in Cbc 8, 2 or in Gcm 9, then 6, then in Cbc 3, 15 or in Gcm 4; of a message in
+ * pieces 1, 13, 10, 14, 5 at the start, and from there on what the start was refused with, then 12, 5, 9, 6, 4.
+ * Every number but 0 is a refusal: it reports length 0 and changes no byte of the output buffer.
  *
  * In refusal 9 `missing` is how many bytes were missing: 16 - n for n bytes of data, or for a tag of n bytes,
  * so 16 where there was none and 1 where there were 15 bytes; 0 for a tag of more than 16. In every other
@@ -167,11 +168,18 @@ struct luossavin_answer luossavin_encrypt(uint32_t mode, struct luossavin_key ke
     const uint8_t *aad, size_t aad_len, const uint8_t *data, size_t data_len,
     const uint8_t *iv, size_t iv_len, uint8_t *out, size_t room);
 
-/* Decrypts `data`: what luossavin_encrypt made of a message under the same mode, key, label and IV
- * gives that message back. Cbc looks at the last decrypted byte only, which names the bytes to drop;
- * the others of the padding are not read. Gcm writes nothing before the tag is found to be right, and
- * Cbc nothing before that last byte is. Whether the key is retired makes no difference. It answers 0 to 10 or
- * 13: 2, 3 and 8 in Cbc alone, 4 and 9 in Gcm alone. */
+/* Decrypts `data`: what luossavin_encrypt made of a message under the same mode, key, label and IV gives that
+ * message back, and what is given back encrypts to `data` again, where it is within the limit and the key is not
+ * retired. Whether it is retired makes no difference here. Gcm writes nothing before the tag is found to be
+ * right, and Cbc nothing before the padding is. It answers 0 to 10, 13 or 15: 2, 3, 8 and 15 in Cbc alone, 4 and
+ * 9 in Gcm alone.
+ *
+ * Cbc reads all of the padding, as RFC 5652 has it. The last decrypted byte names how many bytes to drop; 3 says
+ * that it names no padding, and 15 that it names one which the bytes before it do not bear out. In either case the
+ * file is damaged near its end, or cut, or it was opened under a wrong key; a wrong IV shows so in a file of one
+ * block alone. That a padding is right vouches for no more than the padding: only Gcm has a tag over all of the
+ * text. And whoever may have messages of their own choice decrypted, and learns which were refused for their
+ * padding, can work out a Cbc text from that: to others the answer is not to be shown. */
 struct luossavin_answer luossavin_decrypt(uint32_t mode, struct luossavin_key key,
     const uint8_t *aad, size_t aad_len, const uint8_t *data, size_t data_len,
     const uint8_t *iv, size_t iv_len, uint8_t *out, size_t room);

@@ -21,6 +21,11 @@ struct luossavin_answer call_whole(const struct whole *w, struct luossavin_key k
         w->mode, key, label, w->label, data, w->data, iv, w->iv, out, w->room);
 }
 
+void seal_blocks(struct luossavin_key key, const uint8_t *iv, const uint8_t *text, size_t length, uint8_t *out)
+{
+    luossavin_encrypt(CBC, key, NULL, 0, text, length, iv, 16, out, length + 16);
+}
+
 struct luossavin_answer call_start(enum kind kind, struct state *s, const struct given *g)
 {
     memset(s, 0, sizeof *s);

@@ -9,6 +9,10 @@
 struct luossavin_answer call_whole(const struct whole *w, struct luossavin_key key, const uint8_t *iv,
     const uint8_t *label, const uint8_t *data, uint8_t *out);
 
+/* Cbc of whole blocks without the padding block, so that they decrypt to `text` itself. `out` has room for 16 bytes
+ * more. */
+void seal_blocks(struct luossavin_key key, const uint8_t *iv, const uint8_t *text, size_t length, uint8_t *out);
+
 /* In pieces, a call puts the next state in the place of the one before. */
 
 extern const char *const kind_names[KINDS];

@@ -1,19 +1,22 @@
-/* Holds the archive, libgcrypt and OpenSSL to recorded answers of libsm. Where libsm refuses a 12-byte IV in
- * Gcm, as docs/DIFFERENCES.md lists, the archive is held to libgcrypt instead.
+/* Holds the archive, libgcrypt and OpenSSL to recorded answers of libsm. Where docs/DIFFERENCES.md lists another
+ * answer, both sides are held to just that. Where libsm refuses a 12-byte IV in Gcm, the archive is held to
+ * libgcrypt instead; where a Cbc padding is not borne out, libsm is to go by its last byte, and the archive to refuse
+ * it. The archive is also held to OpenSSL's own check of the padding (compare_padding.c).
  *
  *   compare < LIST
  *
  * The archive makes each call under the key with number 1. Every third call it makes once more with the key
  * retired, under another number: decryption must then be what it was, and encryption the refusal that the rules
- * (rules.c) say. Prints, for each of the three, how many records were compared and how many differ; how many had
- * a 12-byte IV in Gcm; what came of those that were retired; and the smallest record that differs. Exit status 1
- * if any does, 2 if the list cannot be read.
+ * (rules.c) say. Prints, for each of the three, how many records were compared and how many differ; the same of
+ * paddings; how many had a 12-byte IV in Gcm; what came of those that were retired; and the smallest record that
+ * differs. Exit status 1 if any does, 2 if the list cannot be read.
  */
 #define _POSIX_C_SOURCE 200809L /* open_memstream */
 
+#include "compare.h"
+
 #include "calls.h"
 #include "peers.h"
-#include "records.h"
 
 #include <stdio.h>
 #include <stdlib.h>
@@ -21,12 +24,7 @@
 
 enum { LENT = 0xa5, SLACK = 40 };
 
-/* Who is compared. */
-enum { ARCHIVE, PEERS = 1, SIDES = 3 };
-
-static struct {
-    unsigned long compared, differ;
-} tally[SIDES];
+struct tally tally[SIDES];
 
 /* Of the records with a 12-byte IV in Gcm, how many the archive is to seal, to open and to refuse. */
 static struct {
@@ -43,8 +41,11 @@ static struct {
  * docs/DIFFERENCES.md lists, what is said there. */
 static uint32_t number_for(const struct record *r)
 {
-    enum { CBC_OF_NOTHING = 20, SHORT_GCM, TOO_LONG };
+    enum { INNER_PADDING_BYTES = 7, CBC_OF_NOTHING = 20, SHORT_GCM, TOO_LONG, INNER_PADDING_BYTE };
     switch (r->part) {
+    case INNER_PADDING_BYTES:
+    case INNER_PADDING_BYTE:
+        return 15;
     case CBC_OF_NOTHING:
         return 8;
     case SHORT_GCM:
@@ -60,23 +61,30 @@ static uint32_t number_for(const struct record *r)
 }
 
 /* A record as the rules see it, under a key with these fields and with `slack` bytes of room more than it needs.
- * What only libsm can know of the data is taken from its answer. */
+ * Whether a tag is right is taken from libsm's answer, and Cbc's last block from libgcrypt. */
 static struct whole whole_of(const struct record *r, struct holder key, size_t slack)
 {
     struct whole w = {.is_block = r->mode == BLOCK, .mode = r->mode, .direction = r->direction, .key = key,
         .iv = r->iv.length, .label = r->label.length, .data = r->data.length};
-    w.last = r->name == OK ? (uint8_t)(r->data.length - r->output.length) : 0;
+    last_block(r, w.last);
     w.wrong_tag = r->name == INVALID_TAG;
     w.room = room_needed(&w) + slack;
     return w;
 }
 
-/* Whether what the rules say is libsm's number and length, and where docs/DIFFERENCES.md lists another, that. Of
- * 14 libsm knows nothing. */
-static int is_as_recorded(const struct record *r, struct luossavin_answer due)
+/* Whether what the rules say is what is recorded: libsm's number and length, or what docs/DIFFERENCES.md lists in their
+ * place. A padding that is refused with 15 libsm takes for as many bytes as the last one says; of 14 it knows
+ * nothing. */
+static int is_as_recorded(const struct record *r, const struct whole *w, struct luossavin_answer due)
 {
-    size_t length = due.number == 0 ? r->output.length : 0;
-    return due.number == 14 || (due.number == number_for(r) && due.length == length);
+    switch (due.number) {
+    case 14:
+        return 1;
+    case 15:
+        return r->name == OK && r->output.length == r->data.length - w->last[15];
+    default:
+        return due.number == number_for(r) && due.length == (due.number == 0 ? r->output.length : 0);
+    }
 }
 
 /* Whether a record has an IV that libsm refuses and the archive takes. */
@@ -104,7 +112,7 @@ static void print_field(FILE *to, const char *name, struct field f)
     fprintf(to, f.length > 256 ? ".. (%zu bytes)\n" : " (%zu bytes)\n", f.length);
 }
 
-static void differs(int side, const char *who, const struct record *r, const char *what, struct field got)
+void differs(int side, const char *who, const struct record *r, const char *what, struct field got)
 {
     size_t length, size = r->label.length + r->data.length;
     FILE *to;
@@ -130,11 +138,7 @@ static void differs(int side, const char *who, const struct record *r, const cha
     fclose(to);
 }
 
-/* What a buffer is for: what is got, and libgcrypt's answer in the place of libsm's. */
-enum { GOT, STANDS_IN };
-
-/* A buffer of at least `count` bytes, kept from call to call. */
-static uint8_t *buffer(int which, size_t count)
+uint8_t *buffer(int which, size_t count)
 {
     static uint8_t *bytes[2];
     static size_t room[2];
@@ -161,7 +165,7 @@ static size_t raw_length(const struct record *r, size_t n)
  * are in no record. */
 static void ask_gcrypt(struct record *r)
 {
-    uint8_t *out = buffer(STANDS_IN, r->data.length + 16);
+    uint8_t *out = buffer(BESIDE, r->data.length + 16);
     enum verdict verdict = CANNOT;
     if (r->name == ERROR_BLOCK_SIZE && r->key.length == 16 && (r->direction == ENCRYPT || r->data.length >= 16)) {
         verdict = peers[0].run(GCM, r->direction, r->key.bytes, r->iv, r->label, r->data, out);
@@ -197,7 +201,7 @@ static uint32_t compare_under(const struct record *r, struct luossavin_key key, 
     memset(out, LENT, w.room + SLACK);
     a = call_whole(&w, key, r->iv.bytes, r->label.bytes, r->data.bytes, out);
     got.length = a.length <= w.room ? a.length : w.room;
-    if (!is_as_recorded(r, due)) {
+    if (!is_as_recorded(r, &w, due)) {
         differs(ARCHIVE, "the rules", r, "what they say is not what is recorded", got);
     } else if (!same_key(&key, &due_key)) {
         snprintf(what, sizeof what, "its key's record is %u, %u, %u", key.answer, key.number, key.retired);
@@ -303,6 +307,7 @@ int main(void)
             ask_gcrypt(&r);
         }
         compare_archive(&r, i);
+        compare_padding(&r);
         for (int p = 0; p < 2; p++) {
             compare_peer(PEERS + p, &peers[p], &r);
         }
@@ -312,6 +317,7 @@ int main(void)
         printf("  %s %s: %lu compared %lu differ\n", peers[p].name, peers[p].version(), tally[PEERS + p].compared,
             tally[PEERS + p].differ);
     }
+    print_paddings();
     printf("  12-byte IVs, the archive against libgcrypt: %lu of those, %lu sealed %lu opened %lu refused\n",
         twelve.sealed + twelve.opened + twelve.refused, twelve.sealed, twelve.opened, twelve.refused);
     printf("  asked again with the key retired: %lu of those, %lu not encrypted %lu decrypted %lu refused as before\n",

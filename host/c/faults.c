@@ -86,8 +86,12 @@ static void print_trial(const char *what)
     if (is_printed()) {
         printf("wrong: %s: %s %u, %s, record %u, %u, %u, ", what, now.is_block ? "block" : "mode", now.mode,
             now.direction == ENCRYPT ? "encrypt" : "decrypt", now.key.answer, now.key.number, now.key.retired);
-        printf("iv %zu, label %zu, data %zu, room %zu, last %u, tag %s\n", now.iv, now.label, now.data, now.room,
-            now.last, now.wrong_tag ? "wrong" : "right");
+        printf("iv %zu, label %zu, data %zu, room %zu, tag %s, last block ", now.iv, now.label, now.data, now.room,
+            now.wrong_tag ? "wrong" : "right");
+        for (int i = 0; i < 16; i++) {
+            printf("%02x", now.last[i]);
+        }
+        putchar('\n');
     }
 }
 
@@ -102,23 +106,22 @@ static void *memory(size_t count)
 }
 
 /* Cbc of whole blocks without a padding block, in place. */
-static void seal_blocks(const uint8_t *iv, uint8_t *data, size_t length)
+static void seal_in_place(const uint8_t *iv, uint8_t *data, size_t length)
 {
-    struct whole sealing = {.mode = CBC, .key = holders[0], .iv = 16, .data = length, .room = length + 16};
-    uint8_t *sealed = memory(sealing.room);
-    call_whole(&sealing, record(sealing.key), iv, NULL, data, sealed);
+    uint8_t *sealed = memory(length + 16);
+    seal_blocks(record(holders[0]), iv, data, length, sealed);
     memcpy(data, sealed, length);
     free(sealed);
 }
 
-/* A Cbc message that decrypts to the last byte that it is to have. The last block is sealed by itself, since the
- * longest message has one block more than may be encrypted. */
+/* A Cbc message that decrypts to the last block that it is to have. That is sealed by itself, since the longest
+ * message has one block more than may be encrypted. */
 static void seal_cbc(const struct whole *w, const uint8_t *iv, uint8_t *data)
 {
     size_t front = w->data - 16;
-    data[w->data - 1] = w->last;
-    seal_blocks(iv, data, front);
-    seal_blocks(front ? data + front - 16 : iv, data + front, 16);
+    memcpy(data + front, w->last, 16);
+    seal_in_place(iv, data, front);
+    seal_in_place(front ? data + front - 16 : iv, data + front, 16);
 }
 
 /* A Gcm message that opens, or whose tag is damaged. */
@@ -190,19 +193,38 @@ static void try(struct whole w)
     give_back(out);
 }
 
-/* The same, with a last byte and a tag that are right, and then with wrong ones. */
+/* The same, with a padding and a tag that are right, and then with wrong ones. */
 static struct whole good(struct whole w)
 {
-    w.last = 1;
+    pad(w.last, 1);
     w.wrong_tag = 0;
     return w;
 }
 
 static struct whole spoiled(struct whole w)
 {
-    w.last = 17;
+    w.last[15] = 17;
     w.wrong_tag = 1;
     return w;
+}
+
+/* With a padding of so many bytes, of which the one that stands `back` bytes before the last is another. */
+static struct whole mispadded(struct whole w, uint8_t count, uint8_t back)
+{
+    pad(w.last, count);
+    w.last[15 - back] ^= 1;
+    return w;
+}
+
+/* A message as it should be, and spoiled in every way that there is for it. */
+static void each_of(struct whole w, void (*tried)(struct whole w))
+{
+    tried(good(w));
+    tried(spoiled(w));
+    if (w.mode == CBC && w.direction == DECRYPT) {
+        tried(mispadded(w, 2, 1));
+        tried(mispadded(w, 16, 15));
+    }
 }
 
 /* Every room from none to one more than needed. */
@@ -221,8 +243,33 @@ static void messages(struct whole w, int label_count)
     for (int i = 0; i < label_count; i++) {
         w.label = labels[i];
         for (w.data = 0; w.data <= 49; w.data++) {
-            try_rooms(good(w));
-            try_rooms(spoiled(w));
+            each_of(w, try_rooms);
+        }
+    }
+}
+
+/* A padding of every count, as it should be and with each byte but the last another. */
+static void try_paddings(struct whole w)
+{
+    for (uint8_t count = 1; count <= 16; count++) {
+        pad(w.last, count);
+        try(w);
+        for (uint8_t back = 1; back < count; back++) {
+            try(mispadded(w, count, back));
+        }
+    }
+}
+
+/* Those under a key and a retired one, into room for a byte less than there is data, for as many, and for one more. */
+static void paddings(void)
+{
+    struct whole w = {.mode = CBC, .direction = DECRYPT, .iv = 16};
+    for (int i = 0; i < 2; i++) {
+        w.key = holders[i];
+        for (w.data = 16; w.data <= 48; w.data += 16) {
+            for (w.room = w.data - 1; w.room <= w.data + 1; w.room++) {
+                try_paddings(w);
+            }
         }
     }
 }
@@ -231,7 +278,7 @@ static void messages(struct whole w, int label_count)
 static void sizes(uint32_t mode, int direction)
 {
     static const size_t ivs[] = {0, 1, 11, 12, 13, 15, 16, 17, 32};
-    struct whole w = {.mode = mode, .direction = direction, .label = 5, .last = 1};
+    struct whole w = {.mode = mode, .direction = direction, .label = 5, .last = {[15] = 1}};
     for (int i = 0; i < HOLDERS; i++) {
         for (int j = 0; j < 9; j++) {
             w.key = holders[i];
@@ -250,6 +297,7 @@ static void sizes(uint32_t mode, int direction)
         messages(w, heap ? 1 : 2);
     }
 }
+
 
 static void single_blocks(void)
 {
@@ -291,12 +339,10 @@ static void limits(uint32_t mode, int direction)
     size_t most = opens ? LIMIT + 16 : LIMIT;
     struct whole w = {.mode = mode, .direction = direction, .key = holders[0], .iv = 16, .label = 5, .data = most};
     w.room = room_needed(&w);
-    try(good(w));
-    try(spoiled(w));
+    each_of(w, try);
     w.room--;
-    try(good(w));
-    try(spoiled(w));
-    w.last = 1;
+    each_of(w, try);
+    w = good(w);
     w.data = most + 1;
     w.room = most + 100;
     try(w);
@@ -337,8 +383,7 @@ static void limits(uint32_t mode, int direction)
     try(w);
     w.data = most;
     w.room = room_needed(&w);
-    try(good(w));
-    try(spoiled(w));
+    each_of(w, try);
 }
 
 static void all(int with_limits)
@@ -352,6 +397,7 @@ static void all(int with_limits)
             }
         }
     }
+    paddings();
     single_blocks();
     bad_modes();
     keys();

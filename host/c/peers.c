@@ -2,7 +2,9 @@
 
 #include <gcrypt.h>
 #include <openssl/crypto.h>
+#include <openssl/err.h>
 #include <openssl/evp.h>
+#include <openssl/proverr.h>
 #include <stdio.h>
 #include <stdlib.h>
 
@@ -116,6 +118,30 @@ static enum verdict openssl_run(int mode, int direction, const uint8_t *key, str
         && (size_t)(first + last) == data.length;
     EVP_CIPHER_CTX_free(context);
     return done ? DONE : CANNOT;
+}
+
+enum verdict openssl_unpadded(const uint8_t *key, struct field iv, struct field data, uint8_t *out, size_t *length)
+{
+    EVP_CIPHER_CTX *context = EVP_CIPHER_CTX_new();
+    int first = 0, last = 0, taken, ends;
+    unsigned long error;
+    if (context == NULL) {
+        return CANNOT;
+    }
+    ERR_clear_error();
+    taken = EVP_DecryptInit_ex(context, openssl_mode(CBC), NULL, key, iv.bytes) == 1
+        && EVP_CIPHER_CTX_set_padding(context, 1) == 1
+        && EVP_DecryptUpdate(context, out, &first, data.bytes, (int)data.length) == 1;
+    /* the last block is held back until here */
+    ends = taken && EVP_DecryptFinal_ex(context, out + first, &last) == 1;
+    error = ERR_peek_error();
+    EVP_CIPHER_CTX_free(context);
+    *length = (size_t)(first + last);
+    if (ends) {
+        return DONE;
+    }
+    return taken && ERR_GET_LIB(error) == ERR_LIB_PROV && ERR_GET_REASON(error) == PROV_R_BAD_DECRYPT ? BAD_PADDING
+                                                                                                      : CANNOT;
 }
 
 void start_peers(void)

@@ -5,7 +5,7 @@
 
 #include "records.h"
 
-enum verdict { DONE, BAD_TAG, CANNOT };
+enum verdict { DONE, BAD_TAG, BAD_PADDING, CANNOT };
 
 struct peer {
     const char *name;
@@ -20,5 +20,9 @@ struct peer {
 void start_peers(void);
 
 extern const struct peer peers[2];
+
+/* OpenSSL's decryption in Cbc with a check of the padding that is its own. It gives the length without it; out has
+ * room for 16 bytes more than data. Key and IV have 16 bytes. */
+enum verdict openssl_unpadded(const uint8_t *key, struct field iv, struct field data, uint8_t *out, size_t *length);
 
 #endif

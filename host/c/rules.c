@@ -71,6 +71,29 @@ static uint16_t number_in(uint32_t refusal, struct holder key)
     return refusal == 7 || refusal == 1 || refusal == 13 ? 0 : key.number;
 }
 
+/* Cbc's padding. */
+
+void pad(uint8_t block[16], uint8_t count)
+{
+    memset(block + 16 - count, count, count);
+}
+
+static int names_padding(const uint8_t last[16])
+{
+    return last[15] >= 1 && last[15] <= 16;
+}
+
+/* Whether as many bytes as the last one says, counted from the end, all hold that. */
+static int bears_out(const uint8_t last[16])
+{
+    for (int i = 1; i <= last[15] && i <= 16; i++) {
+        if (last[16 - i] != last[15]) {
+            return 0;
+        }
+    }
+    return 1;
+}
+
 /* Whole messages, and blocks. */
 
 int takes_iv(uint32_t mode, size_t bytes)
@@ -120,7 +143,8 @@ static uint32_t message_number(const struct whole *w)
         {cbc && w->data % 16 != 0, 2},
         {gcm && w->data < 16, 9},
         {w->room < room_needed(w), 6},
-        {cbc && (w->last < 1 || w->last > 16), 3},
+        {cbc && !names_padding(w->last), 3},
+        {cbc && !bears_out(w->last), 15},
         {gcm && w->wrong_tag, 4},
     };
     return FIRST_OF(rows);
@@ -133,7 +157,7 @@ struct luossavin_answer answer_to(const struct whole *w)
     due.missing = due.number == 9 ? 16 - w->data : 0;
     due.key = number_in(due.number, w->key);
     due.length = due.number != 0                                     ? 0
-        : !w->is_block && w->mode == CBC && w->direction == DECRYPT ? w->data - w->last
+        : !w->is_block && w->mode == CBC && w->direction == DECRYPT ? w->data - w->last[15]
                                                                      : room_needed(w);
     return due;
 }

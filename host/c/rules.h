@@ -6,7 +6,7 @@
 
 #include "luossavin.h"
 
-enum { LIMIT = 16777216, NUMBERS = 15 };
+enum { LIMIT = 16777216, NUMBERS = 16 };
 enum { CFB, OFB, CTR, CBC, GCM };
 enum { ENCRYPT, DECRYPT };
 
@@ -27,7 +27,7 @@ struct luossavin_key holding(struct luossavin_key key, struct holder fields);
 /* Whether every field is the same. */
 int same_key(const struct luossavin_key *a, const struct luossavin_key *b);
 
-/* A call on a whole message, or on one block. Of a message to decrypt: in Cbc, `last` is the last byte once it is
+/* A call on a whole message, or on one block. Of a message to decrypt: in Cbc, `last` is the last block once it is
  * decrypted; in Gcm, `wrong_tag` says that the tag is not the right one. */
 struct whole {
     int is_block;
@@ -35,9 +35,12 @@ struct whole {
     int direction;
     struct holder key;
     size_t iv, label, data, room;
-    uint8_t last;
+    uint8_t last[16];
     int wrong_tag;
 };
+
+/* Puts a padding of 1 to 16 bytes at the end of a block. */
+void pad(uint8_t block[16], uint8_t count);
 
 int takes_iv(uint32_t mode, size_t bytes);
 size_t room_needed(const struct whole *w);

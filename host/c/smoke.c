@@ -1,9 +1,11 @@
 /* The archive called from C: the answer's layout, every mode there and back, Gcm under both lengths of IV,
  * each refusal, what comes first where two things are wrong, and no byte written that is not part of a
- * result; the same of keys, retired or not (smoke_keys.c), and of messages in pieces (smoke_pieces.c). Prints
- * what is wrong, and how much was checked; exit status 1 if anything is.
+ * result; Cbc's padding (smoke_padding.c); the same of keys, retired or not (smoke_keys.c), and of messages in
+ * pieces (smoke_pieces.c). Prints what is wrong, and how much was checked; exit status 1 if anything is.
  */
 #include "smoke.h"
+
+#include "calls.h"
 
 #include <stddef.h>
 #include <stdio.h>
@@ -246,10 +248,12 @@ static void refusals(void)
     refused(luossavin_block_decrypt(zeroth, text, 16, out, ROOM), &l, 13, "a key with number 0, one block");
     refused(decrypt(3, text, 17, out, ROOM), &l, 2, "Cbc of 17 bytes");
     refused(decrypt(3, text, 1, out, ROOM), &l, 2, "Cbc of 1 byte");
-    /* a last byte of 17 once decrypted: the text's own, with the padding block cut off */
     text[31] = 17;
-    encrypt(3, text, 32, sealed, sizeof sealed);
+    seal_blocks(key, iv, text, 32, sealed);
     refused(decrypt(3, sealed, 32, out, ROOM), &l, 3, "a last byte of 17");
+    text[31] = 2;
+    seal_blocks(key, iv, text, 32, sealed);
+    refused(decrypt(3, sealed, 32, out, ROOM), &l, 15, "a last byte of 2 behind one of 0");
     encrypt(4, text, 32, sealed, sizeof sealed);
     sealed[47] ^= 1;
     refused(decrypt(4, sealed, 48, out, ROOM), &l, 4, "a damaged tag");
@@ -308,6 +312,7 @@ int main(void)
     single_block();
     refusals();
     order();
+    paddings();
     keys();
     pieces();
     printf("%u checked, %u wrong\n", checked, wrong);

@@ -1,4 +1,4 @@
-/* What the three files of the smoke test share: single calls, keys, and messages in pieces. */
+/* What the files of the smoke test share: single calls, Cbc's padding, keys, and messages in pieces. */
 #ifndef SMOKE_H
 #define SMOKE_H
 
@@ -42,6 +42,9 @@ extern const uint8_t too_long[16777217];
 
 /* RFC 8998, appendix A.1: Gcm under a 12-byte IV. */
 extern const uint8_t rfc_key[16], rfc_iv[12], rfc_label[20], rfc_text[64], rfc_sealed[80];
+
+/* Cbc's padding: every count, and every byte of it another. */
+void paddings(void);
 
 /* Records of keys: layout, setting up, retiring, and what every value of one means. */
 void keys(void);

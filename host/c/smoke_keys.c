@@ -127,29 +127,47 @@ static void with_lengths(struct whole w, const uint8_t *data, size_t length)
     }
 }
 
-/* A text of 19 bytes to encrypt, or what it was encrypted to; `spoiled` has a tag or a last byte that is refused. */
-static void with_message(struct whole w, int spoiled)
+/* A message to decrypt, with the last block or the tag that `w` says. Gives its length. */
+static size_t seal(const struct whole *w, const uint8_t *text, size_t n, uint8_t *sealed)
 {
-    uint8_t text[TEXT] = "nineteen bytes of it", sealed[ROOM];
-    size_t n = 19, length;
+    uint8_t blocks[TEXT];
+    size_t length;
+    if (w->mode == CBC) {
+        memcpy(blocks, text, TEXT - 16);
+        memcpy(blocks + TEXT - 16, w->last, 16);
+        seal_blocks(key, iv, blocks, TEXT, sealed);
+        return TEXT;
+    }
+    length = luossavin_encrypt(w->mode, key, label, sizeof label, text, n, iv, w->iv, sealed, ROOM).length;
+    if (w->mode == GCM) {
+        sealed[length - 1] ^= w->wrong_tag;
+    }
+    return length;
+}
+
+/* A text of 19 bytes to encrypt, or a message to decrypt. */
+static void with_message(struct whole w)
+{
+    static const uint8_t text[TEXT] = "nineteen bytes of it";
+    uint8_t sealed[ROOM];
     if (w.direction == ENCRYPT || w.mode > GCM || !takes_iv(w.mode, w.iv)) {
-        with_lengths(w, text, n);
-        return;
+        with_lengths(w, text, 19);
+    } else {
+        with_lengths(w, sealed, seal(&w, text, 19, sealed));
     }
-    w.last = 13; /* 19 bytes and as many more are two blocks */
-    if (w.mode == CBC && spoiled) {
-        text[TEXT - 1] = w.last = 17;
-        n = TEXT;
+}
+
+/* Messages to decrypt that are refused for their tag, or for their padding: one that names none, and one that names
+ * twelve bytes where the others hold 13. */
+static void with_spoiled(struct whole w)
+{
+    w.wrong_tag = 1;
+    w.last[15] = 17;
+    with_message(w);
+    if (w.mode == CBC) {
+        w.last[15] = 12;
+        with_message(w);
     }
-    length = luossavin_encrypt(w.mode, key, label, sizeof label, text, n, iv, w.iv, sealed, ROOM).length;
-    if (w.mode == CBC && spoiled) {
-        length -= 16;
-    }
-    if (w.mode == GCM && spoiled) {
-        sealed[length - 1] ^= 1;
-        w.wrong_tag = 1;
-    }
-    with_lengths(w, sealed, length);
 }
 
 static void on_blocks(struct holder fields)
@@ -167,15 +185,16 @@ static void on_blocks(struct holder fields)
 static void on_messages(struct holder fields)
 {
     struct whole w = {.key = fields};
+    pad(w.last, 13);
     for (w.mode = CFB; w.mode <= GCM + 1; w.mode++) {
         for (w.iv = 12; w.iv <= 16; w.iv += 2) {
             for (w.direction = ENCRYPT; w.direction <= DECRYPT; w.direction++) {
                 w.label = sizeof too_long;
-                with_message(w, 0);
+                with_message(w);
                 w.label = sizeof label;
-                with_message(w, 0);
+                with_message(w);
                 if (w.direction == DECRYPT && (w.mode == CBC || w.mode == GCM)) {
-                    with_message(w, 1);
+                    with_spoiled(w);
                 }
             }
         }

@@ -81,10 +81,10 @@ fn short(random: &mut Random) -> Call {
     let text = length(random);
     let text = random.bytes(text);
     let mut call = there_or_back(direction, mode, key, iv, label, text);
-    if direction == Direction::Decrypt && random.chance(3) {
+    if direction == Direction::Decrypt {
         match mode {
-            Mode::Gcm => damage(random, &mut call),
-            Mode::Cbc => spoil(random, &mut call),
+            Mode::Gcm if random.chance(3) => damage(random, &mut call),
+            Mode::Cbc if random.chance(2) => spoil(random, &mut call),
             _ => {}
         }
     }
@@ -144,18 +144,36 @@ fn damage(random: &mut Random, call: &mut Call) {
     }
 }
 
-/// Gives a Cbc message a last block of its own, or a length that does not divide by 16.
+/// Gives a Cbc message an end of its own, or a length that does not divide by 16.
 fn spoil(random: &mut Random, call: &mut Call) {
     let length = call.data.len();
-    match random.below(4) {
+    match random.below(8) {
         0 => call.data.truncate(1 + random.below(length)),
         1 => flip(random, &mut call.data),
-        _ => {
+        2 => {
             let mut text = random.bytes(length);
             text[length - 1] = random.below(20) as u8;
             call.data = cbc_unpadded(&call.key, &call.iv, &text);
         }
+        _ => {
+            let text = mispadded(random, length);
+            call.data = cbc_unpadded(&call.key, &call.iv, &text);
+        }
     }
+}
+
+/// A text with a padding of 1 to 16 bytes, each count as often as any other, of which one byte is then
+/// another: mostly one of the padding, else one of the last block. Now and then it stays as it is.
+fn mispadded(random: &mut Random, length: usize) -> Vec<u8> {
+    let count = 1 + random.below(16);
+    let mut text = random.bytes(length);
+    text[length - count..].fill(count as u8);
+    let among = if random.chance(4) { 16 } else { count };
+    let back = random.below(among);
+    if !random.chance(8) {
+        text[length - 1 - back] ^= 1 + random.below(255) as u8;
+    }
+    text
 }
 
 fn flip(random: &mut Random, bytes: &mut [u8]) {

@@ -9,6 +9,9 @@ pub const FIXED: usize = 24;
 // The bytes before the first record: the mark and the count.
 pub const HEAD: usize = 24;
 
+// The part of paddings that libsm takes by their last byte alone.
+pub const INNER_PADDING: u8 = 7;
+
 pub fn wide(x: u8) -> usize
     ensures { λ r. ⌜ r < 256 ⌝ }
 {
@@ -46,7 +49,7 @@ pub fn write_part(part: usize) {
         4 => said(b"Gcm counters that come round"),
         5 => said(b"damaged Gcm messages"),
         6 => said(b"last padding bytes"),
-        7 => said(b"inner padding bytes"),
+        7 => said(b"inner padding bytes, taken by libsm and refused here"),
         8 => said(b"Cbc lengths"),
         9 => said(b"single blocks"),
         10 => said(b"wrong sizes"),

@@ -1,7 +1,8 @@
 // Replays libsm's recorded answers, read from the file that its argument names, and says how many
 // agree. A record agrees where number, length and every byte of the output are as recorded, the
 // missing count and the key's number go with them, and every byte past the length is as it was lent;
-// and, of a 12-byte IV in Gcm, which libsm refuses and ours takes, where ours does just that.
+// and, of a 12-byte IV in Gcm, which libsm refuses and ours takes, and of a padding that libsm takes by
+// its last byte alone and ours refuses, where ours does just that.
 // README.md beside this crate's folders has the form of the file and what its parts are.
 mod list;
 
@@ -69,6 +70,11 @@ fn repeats_key(number: u32, key: u16) -> bool {
 // Whether libsm refused a call for its 12-byte IV in Gcm, and for nothing else: ours takes that IV.
 fn refused_for_twelve(mode: u8, name: u8, key: &[u8], iv: &[u8]) -> bool {
     mode == 4 && name == 1 && key.len() == 16 && iv.len() == 12
+}
+
+// Whether a record is of the list's part of paddings that libsm takes by their last byte alone.
+fn took_padding(part: u8, name: u8) -> bool {
+    part == list::INNER_PADDING && name == 0
 }
 
 // Makes the call of a record, on the record of its key: mode 5 is a single block, direction 0 is
@@ -145,8 +151,19 @@ fn takes_twelve(direction: u8, key: &[u8], iv: &[u8], label: &[u8], data: &[u8])
     untouched(&out, n) && opens(key, iv, label, &out[0..n], data)
 }
 
+// Whether a padding that libsm took is refused for its other bytes, with nothing written.
+fn refuses_padding(key: &[u8], iv: &[u8], data: &[u8]) -> bool {
+    let mut out = [LENT; 8192];
+    let answer = called(1, 3, key, iv, &[], data, &mut out);
+    if answer.missing != 0 || answer.key != NUMBER {
+        return false;
+    }
+    answer.number == 15 && answer.length == 0 && untouched(&out, 0)
+}
+
 // Whether a call answers as recorded.
 fn agrees(
+    part: u8,
     direction: u8,
     mode: u8,
     name: u8,
@@ -158,6 +175,9 @@ fn agrees(
 ) -> bool {
     if refused_for_twelve(mode, name, key, iv) {
         return takes_twelve(direction, key, iv, label, data);
+    }
+    if took_padding(part, name) {
+        return refuses_padding(key, iv, data);
     }
     let mut out = [LENT; 8192];
     let answer = called(direction, mode, key, iv, label, data, &mut out);
@@ -196,6 +216,7 @@ fn one(file: &[u8], at: usize) -> Next {
     }
     let part = list::wide(rest[0]);
     if agrees(
+        rest[0],
         rest[1],
         rest[2],
         rest[3],
