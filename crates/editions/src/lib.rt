@@ -189,7 +189,8 @@ pub fn which(cipher: Sm4Cipher, file: &[u8], iv: &[u8], labels: &[u8], lengths: 
     under_key(rk, key, file, iv, labels, lengths)
 }
 
-fn is_candidate(ended: Ended) -> bool
+// Whether a question ended with a candidate.
+pub fn is_candidate(ended: Ended) -> bool
     ensures { λ r. ⌜ r ≡ isFound ended ⌝ }
 {
     match ended {
