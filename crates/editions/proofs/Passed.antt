@@ -8,6 +8,7 @@ use lib.Dec.{eqb, ltb}
 use lib.ListN.{length}
 use borrow.Author.Tests.{ltb-false, eqb-true, not-false}
 use Rattle.cipher_mode.specs.declared.KeyAnswer.{KeyAnswer}
+use Rattle.cipher_mode.specs.declared.KeyAnswer.the-variants.{Key}
 use Rattle.cipher_mode.specs.declared.CipherMode.the-variants.{Gcm}
 use Rattle.cipher_mode.specs.declared.Direction.the-variants.{Decrypt}
 use Rattle.cipher_mode.specs.declared.checks.Checked.the-variants.{Passed}
@@ -30,19 +31,22 @@ module _ (labels lengths : List ℕ) (good : badList labels lengths ≡ false) w
   adds-up = eqb-true (sum lengths) (length labels) (not-false (eqb (sum lengths) (length labels)) (few-and-whole .1))
 
 -- a search that goes on to look at tags
-pub record InOrder (iv file : ℕ) (lengths : List ℕ) : Type 0 where
+pub record InOrder (a : KeyAnswer) (iv file : ℕ) (lengths : List ℕ) : Type 0 where
+  pub key : a ≡ Key
   pub iv-size : wrongIv Gcm iv ≡ false
   pub short : anyTooLong lengths ≡ false
   pub content : dataCheck Decrypt Gcm file ≡ Passed
 
 pub search-passed : (a : KeyAnswer) (retired : Bool) (iv file : ℕ) (lengths : List ℕ)
-    → searchCheck a retired iv file lengths ≡ Passed → InOrder iv file lengths
+    → searchCheck a retired iv file lengths ≡ Passed → InOrder a iv file lengths
 unfolding searchCheck
 search-passed a retired iv file lengths e =
     let from-key = both (keyAndIv a retired Decrypt Gcm iv) _ e in
     let from-labels = let-through (anyTooLong lengths) _ _ (from-key .1) in
+    let first = key-and-iv-passed a retired Decrypt Gcm iv (from-key .0) in
     record {
-      iv-size = key-and-iv-passed a retired Decrypt Gcm iv (from-key .0) .iv-size;
+      key = first .key;
+      iv-size = first .iv-size;
       short = from-labels .fails;
       content = from-labels .rest;
     }

@@ -87,7 +87,8 @@ module _ (c : Sm4Cipher) (file iv labels lengths : List ℕ) where
   done-told true k e = absurd (omega arith)
   done-told false k e = (refl, e)
 
-  done-asked : verdict .head .number ≡ 0 → Asked c file iv labels lengths
+  -- an answer that is no refusal tells that nothing stood against
+  pub done-asked : which c file iv labels lengths .head .number ≡ 0 → Asked c file iv labels lengths
   unfolding which
   done-asked e =
       let nothing = done-told (badList labels lengths) stage e in
