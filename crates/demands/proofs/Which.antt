@@ -31,7 +31,7 @@ use Rattle.luossavin.specs.Key.{cipherIn}
 use Rattle.luossavin.specs.Host.{modeOf, hostModeCall}
 use Rattle.demands.specs.Call.{inGcm, RefusedAs}
 use Rattle.demands.specs.OneBlockRefused.{MovesZero}
-use Rattle.demands.specs.Which.{FirstThatOpens, NoneOpens, Tells}
+use Rattle.demands.specs.Which.{FirstThatOpens, Tells}
 use Rattle.demands.proofs.Through.{leaves}
 use Rattle.demands.proofs.OtherHash.{Fits, gcm-in-order}
 use Rattle.demands.proofs.OtherEdition.{other-edition-refused}
