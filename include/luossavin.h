@@ -371,10 +371,10 @@ static inline struct luossavin_answer luossavin_opens_finish(struct luossavin_op
 
 /* Which edition does this file open under?
  *
- * It is asked of a Gcm message, the file, with up to 64 candidate labels. These lie one after another in one buffer,
- * with nothing between them; their lengths are in an array beside it, in the same order, and add up to the
- * buffer's. A candidate may be empty, and may come more than once. The limit of a label holds for each of them, and
- * not for the buffer. With two labels of six bytes:
+ * It is asked of a Gcm message, the file, with up to 64 candidate labels. These lie one after another in one
+ * buffer, with nothing between them; their lengths are in an array beside it, in the same order, and add up to
+ * the buffer's. A candidate may be empty, and may come more than once. The limit of a label holds for each of
+ * them, and not for the buffer. With two labels of six bytes:
  *
  *     const uint8_t labels[12] = {0, 0, 0, 7, 0, 1, 0, 0, 0, 7, 0, 2};
  *     const size_t lengths[2] = {6, 6};
@@ -389,29 +389,29 @@ static inline struct luossavin_answer luossavin_opens_finish(struct luossavin_op
  *
  * There are three ways for it to end:
  *
- *   found     number 0 and `found` 1. The candidate at `place`, counted from 0, is the first that opens the file,
- *             and is the `length` bytes of the buffer from `start` on. luossavin_decrypt, given room, opens the file
- *             under it, and answers 4 under each candidate before it; those after it are not tried. Of equal labels
- *             it is the first;
- *   none      number 0 and `found` 0. That is no refusal: luossavin_decrypt answers 4 under every candidate. The
- *             file was sealed under a label that is not among them, or under another key or IV, or it is damaged;
- *             which of these is not told. Without candidates, and with nothing else to refuse, it is the answer;
- *   refused   the number is not 0, and no candidate was tried.
+ *   found     number 0 and `found` 1. The candidate at `place`, counted from 0, is the first that opens the
+ *             file, and is the `length` bytes of the buffer from `start` on: luossavin_decrypt, given room,
+ *             answers 0 under it, and 4 under each candidate before it. Of equal labels it is the first. Of
+ *             those after it nothing is said;
+ *   none      number 0 and `found` 0. That is no refusal: luossavin_decrypt answers 4 under every candidate.
+ *             The file was sealed under a label that is not among them, or under another key or IV, or it is
+ *             damaged; which of these is not told. Without candidates, where nothing is refused, it is none;
+ *   refused   the number is not 0, and nothing is said of any candidate.
  *
- * `place`, `start` and `length` are 0 unless `found` is 1. They do not say whether there is one: the first candidate
- * has place and start 0, and an empty one that is found has length 0. Callers go by `found`.
+ * `place`, `start` and `length` are 0 unless `found` is 1. They do not say whether there is one: the first
+ * candidate has place and start 0, and an empty one that is found has length 0. Callers go by `found`.
  *
  * The refusals, in their order:
  *
- *   16       the count is above 64, or the lengths do not add up to labels_len. The sum does not come round: 2^64 - 1
- *            and 2 are not 1. Without candidates the buffer must be empty as well
- *    1, 13   the record is no key
- *   10       the IV has neither 12 nor 16 bytes
- *    5       the file has more than 16,777,232 bytes, or any one label more than 16,777,216, also one that
- *            comes after a candidate which would open the file
- *    9       the file has fewer than 16 bytes, and `missing` says how many it lacks
+ *   16      the count is above 64, or the lengths do not add up to labels_len. The sum does not come round:
+ *           2^64 - 1 and 2 are not 1. Without candidates the buffer is empty as well
+ *    1, 13  the record is no key
+ *   10      the IV has neither 12 nor 16 bytes
+ *    5      the file has more than 16,777,232 bytes, or any one label more than 16,777,216, also one that
+ *           comes after a candidate which would open the file
+ *    9      the file has fewer than 16 bytes, and `missing` says how many it lacks
  *
- * A retired key is asked as any other. A tag that is not right is none, and not refusal 4.
+ * A retired key is asked as any other. Refusal 4 is not given here: where no tag is right, it is none.
  *
  * No text is made and nothing is written: there is no output buffer, and `answer.length` is always 0. The answer
  * speaks of labels and shows nothing of the file's text. A text may be shown, or acted on, only once
@@ -426,7 +426,8 @@ struct luossavin_found {
 
 /* Asks it of the file `sealed`. It answers 0, 1, 5, 9, 10, 13 or 16. */
 struct luossavin_found luossavin_which(struct luossavin_key key, const uint8_t *sealed, size_t sealed_len,
-    const uint8_t *iv, size_t iv_len, const uint8_t *labels, size_t labels_len, const size_t *lengths, size_t count);
+    const uint8_t *iv, size_t iv_len, const uint8_t *labels, size_t labels_len,
+    const size_t *lengths, size_t count);
 
 #ifdef __cplusplus
 }
