@@ -7,7 +7,7 @@
 #include <stdio.h>
 #include <string.h>
 
-enum { MOST = 64, FILE_SIZE = 37 };
+enum { FILE_SIZE = 37 };
 
 /* What runs. Its file is sealed under `under_len` bytes of the labels' buffer, from `from` on. */
 static struct search now;
@@ -73,10 +73,10 @@ static void try(struct search s)
 /* A question with so many candidates of one length. */
 static struct search question(size_t count, size_t length)
 {
-    static size_t lengths[MOST + 3];
+    static size_t lengths[CANDIDATES + 3];
     struct search s = {.key = holders[0], .iv = 16, .file = FILE_SIZE, .lengths = lengths, .count = count,
         .labels_len = count * length, .spoiled = 1};
-    for (size_t i = 0; i < MOST + 3; i++) {
+    for (size_t i = 0; i < CANDIDATES + 3; i++) {
         lengths[i] = length;
     }
     from = 0;
@@ -132,7 +132,7 @@ static void try_list(struct search s)
 static void lists(void)
 {
     static const size_t sizes[] = {0, 1, 6, 16, 17};
-    for (size_t count = 0; count <= MOST + 2; count += heap ? 3 : 1) {
+    for (size_t count = 0; count <= CANDIDATES + 2; count += heap && count < 60 ? 3 : 1) {
         for (int i = 0; i < 5; i++) {
             for (size_t iv = 12; iv <= 16; iv += 4) {
                 struct search s = question(count, sizes[i]);
@@ -154,8 +154,8 @@ static void sums(void)
 {
     static const size_t big[] = {SIZE_MAX, SIZE_MAX - 5, SIZE_MAX / 2 + 1, (size_t)1 << 58};
     for (int i = 0; i < 4; i++) {
-        for (size_t place = 0; place < MOST; place += 7) {
-            struct search s = question(MOST, 6);
+        for (size_t place = 0; place < CANDIDATES; place += 7) {
+            struct search s = question(CANDIDATES, 6);
             size_t before = s.labels_len;
             for (size_t j = 0; j <= place; j++) {
                 s = resized(s, j, big[i]);
@@ -170,7 +170,7 @@ static void sums(void)
         try(lent_bytes(resized(resized(question(2, 6), 0, big[i]), 1, 1 - big[i]), 1));
         try(lent_bytes(resized(question(1, 6), 0, big[i]), 1));
     }
-    try(lent_bytes(question(MOST, (size_t)1 << 58), 0));
+    try(lent_bytes(question(CANDIDATES, (size_t)1 << 58), 0));
 }
 
 /* Every record, IV and size of file, on lists that are in order and on others. */

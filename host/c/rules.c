@@ -235,7 +235,7 @@ static int any_above(size_t limit, const size_t *lengths, size_t count)
 static uint32_t search_number(const struct search *s)
 {
     const struct row rows[] = {
-        {s->count > 64, 16},
+        {s->count > CANDIDATES, 16},
         {!add_up(s->lengths, s->count, s->labels_len), 16},
         {refused_as(s->key) == 1, 1},
         {refused_as(s->key) == 13, 13},

@@ -6,7 +6,8 @@
 
 #include "luossavin.h"
 
-enum { LIMIT = 16777216, NUMBERS = 17 };
+/* The most bytes of a text or a label, the most labels of a question, and how many numbers there are. */
+enum { LIMIT = 16777216, CANDIDATES = 64, NUMBERS = 17 };
 enum { CFB, OFB, CTR, CBC, GCM };
 enum { ENCRYPT, DECRYPT };
 

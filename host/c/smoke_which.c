@@ -7,7 +7,7 @@
 #include <stdio.h>
 #include <string.h>
 
-enum { MOST = 64, TEXT = 24, SEALED = TEXT + 16 };
+enum { TEXT = 24, SEALED = TEXT + 16 };
 
 static void layout(void)
 {
@@ -21,7 +21,7 @@ static void layout(void)
 
 /* The candidates of a question. */
 static uint8_t labels[2 * LIMIT + 4096];
-static size_t lengths[MOST + 3];
+static size_t lengths[CANDIDATES + 3];
 
 /* A question without candidates, of a file that opens under no label yet. */
 static struct search question(size_t iv_len)
@@ -142,18 +142,18 @@ static void each_place(struct search s, const char *what)
 static void places(size_t iv_len)
 {
     struct search s;
-    for (size_t count = 0; count <= MOST; count = count < 3 ? count + 1 : count + 61) {
+    for (size_t count = 0; count <= CANDIDATES; count = count < 3 ? count + 1 : count + 61) {
         s = question(iv_len);
         add_editions(&s, 1, count);
         each_place(s, "editions");
     }
     s = question(iv_len);
-    for (size_t n = 0; n < MOST; n++) {
+    for (size_t n = 0; n < CANDIDATES; n++) {
         add(&s, rfc_text, n);
     }
     each_place(s, "longer and longer labels");
     s = question(iv_len);
-    for (size_t n = MOST; n-- > 0;) {
+    for (size_t n = CANDIDATES; n-- > 0;) {
         add(&s, rfc_text, n);
     }
     each_place(s, "shorter and shorter labels");
@@ -163,12 +163,12 @@ static void places(size_t iv_len)
 static void equals(void)
 {
     struct search s = question(16);
-    for (size_t i = 0; i < MOST; i++) {
+    for (size_t i = 0; i < CANDIDATES; i++) {
         add(&s, edition(1 + i % 5 * (i % 3)).bytes, i % 4 ? 6 : 0);
     }
     each_place(s, "labels more than once");
     s = question(12);
-    for (size_t i = 0; i < MOST; i++) {
+    for (size_t i = 0; i < CANDIDATES; i++) {
         add_editions(&s, 2, 2);
     }
     each_place(s, "one label 64 times");
@@ -180,7 +180,7 @@ static void empties(void)
     struct search s = question(16);
     uint8_t file[SEALED];
     s.labels = NULL;
-    for (s.count = 0; s.count <= MOST + 1; s.count++) {
+    for (s.count = 0; s.count <= CANDIDATES + 1; s.count++) {
         lengths[s.count] = 0;
         seal_under(&s, NULL, 0, file);
         ask(&s, file, "empty labels");
@@ -255,7 +255,7 @@ enum { IN_ORDER, TOO_MANY, TOO_FEW_BYTES, TOO_MANY_BYTES, COMES_ROUND, NO_CANDID
 static void spoil_list(struct search *s, int way)
 {
     if (way == TOO_MANY) {
-        while (s->count <= MOST) {
+        while (s->count <= CANDIDATES) {
             add(s, NULL, 0);
         }
     } else if (way == COMES_ROUND) {
@@ -319,7 +319,7 @@ static void sums(void)
         check(ask(&s, file, "a sum that comes round").answer.number == 16, "16", "a sum that comes round", i);
     }
     s.labels_len = 0;
-    for (s.count = 0; s.count < MOST; s.count++) {
+    for (s.count = 0; s.count < CANDIDATES; s.count++) {
         lengths[s.count] = (size_t)1 << 58;
     }
     check(ask(&s, file, "64 times 2^58").answer.number == 16, "16", "64 times 2^58", s.count);
