@@ -30,11 +30,13 @@
  *  13  WrongNumber     the key's number is not from 1 to 65,535
  *  14  Retired         encryption under a retired key
  *  15  InvalidPadding  Cbc decryption: the last decrypted byte p is 1 to 16, and not all p last bytes are p
+ *  16  BadList         more than 64 candidate labels, or lengths that do not add up to the labels' buffer
  *
  * Where several apply, the first of the call's order is the answer: of setting up a key 1, 13, which the calls
  * on that record then answer again where it stands in theirs; of a single block 1, 13, 11, 14, 6; of a message
  * 7, 1, 13, 10, 14, 5, then in Cbc 8, 2 or in Gcm 9, then 6, then in Cbc 3, 15 or in Gcm 4; of a message in
- * pieces 1, 13, 10, 14, 5 at the start, and from there on what the start was refused with, then 12, 5, 9, 6, 4.
+ * pieces 1, 13, 10, 14, 5 at the start, and from there on what the start was refused with, then 12, 5, 9, 6, 4;
+ * of the question which label a file opens under 16, 1, 13, 10, 5, 9.
  * Every number but 0 is a refusal: it reports length 0 and changes no byte of the output buffer.
  *
  * In refusal 9 `missing` is how many bytes were missing: 16 - n for n bytes of data, or for a tag of n bytes,
@@ -42,7 +44,7 @@
  * answer, done or refused, it is 0.
  *
  * `key` is the number of the key that the call was on, whether it is done or refused; 0 where no key stands,
- * which is in refusals 7, 1 and 13.
+ * which is in refusals 7, 16, 1 and 13.
  *
  * When a call is done, the first `length` bytes of the output buffer are the result, and every byte
  * after them is as it was. For n bytes of data:
@@ -71,11 +73,13 @@
  * Nothing is claimed between a 12-byte IV and the 16-byte IV that extends it with 00000001.
  *
  * A message may also come in pieces, in Ctr and Gcm: what holds for these is said where they are declared.
+ * There it is also said how to ask which of up to 64 labels a Gcm message opens under.
  *
  * What no proof can see stays the host's duty, and a call that breaks it has no defined outcome:
  *
  *   - each pointer leads to as many bytes as the length beside it says, which nothing else writes
- *     during the call. Only an empty buffer may be NULL with length 0;
+ *     during the call; that to the lengths of labels leads to as many of these as the count beside it
+ *     says. Only an empty buffer may be NULL with length 0;
  *   - the output buffer overlaps no input. Inputs may overlap one another;
  *   - a bool is 0 or 1.
  *
@@ -364,6 +368,66 @@ static inline struct luossavin_answer luossavin_opens_finish(struct luossavin_op
     *state = step.state;
     return step.answer;
 }
+
+/* Which edition does this file open under?
+ *
+ * It is asked of a Gcm message, the file, with up to 64 candidate labels. These lie one after another in one
+ * buffer, with nothing between them; their lengths are in an array beside it, in the same order, and add up to
+ * the buffer's. A candidate may be empty, and may come more than once. The limit of a label holds for each of
+ * them, and not for the buffer. With two labels of six bytes:
+ *
+ *     const uint8_t labels[12] = {0, 0, 0, 7, 0, 1, 0, 0, 0, 7, 0, 2};
+ *     const size_t lengths[2] = {6, 6};
+ *     struct luossavin_found f = luossavin_which(key, file, file_len, iv, iv_len, labels, 12, lengths, 2);
+ *     if (f.answer.number != 0) {
+ *         say_refused(f.answer.number);
+ *     } else if (f.found == 1) {
+ *         say_opens_under(labels + f.start, f.length);
+ *     } else {
+ *         say_none_opens();
+ *     }
+ *
+ * There are three ways for it to end:
+ *
+ *   found     number 0 and `found` 1. The candidate at `place`, counted from 0, is the first that opens the
+ *             file, and is the `length` bytes of the buffer from `start` on: luossavin_decrypt, given room,
+ *             answers 0 under it, and 4 under each candidate before it. Of equal labels it is the first. Of
+ *             those after it nothing is said;
+ *   none      number 0 and `found` 0. That is no refusal: luossavin_decrypt answers 4 under every candidate.
+ *             The file was sealed under a label that is not among them, or under another key or IV, or it is
+ *             damaged; which of these is not told. Without candidates, where nothing is refused, it is none;
+ *   refused   the number is not 0, and nothing is said of any candidate.
+ *
+ * `place`, `start` and `length` are 0 unless `found` is 1. They do not say whether there is one: the first
+ * candidate has place and start 0, and an empty one that is found has length 0. Callers go by `found`.
+ *
+ * The refusals, in their order:
+ *
+ *   16      the count is above 64, or the lengths do not add up to labels_len. The sum does not come round:
+ *           2^64 - 1 and 2 are not 1. Without candidates the buffer is empty as well
+ *    1, 13  the record is no key
+ *   10      the IV has neither 12 nor 16 bytes
+ *    5      the file has more than 16,777,232 bytes, or any one label more than 16,777,216, also one that
+ *           comes after a candidate which would open the file
+ *    9      the file has fewer than 16 bytes, and `missing` says how many it lacks
+ *
+ * A retired key is asked as any other. Refusal 4 is not given here: where no tag is right, it is none.
+ *
+ * No text is made and nothing is written: there is no output buffer, and `answer.length` is always 0. The answer
+ * speaks of labels and shows nothing of the file's text. A text may be shown, or acted on, only once
+ * luossavin_decrypt has opened the file under the label found. */
+struct luossavin_found {
+    struct luossavin_answer answer;
+    uint32_t found;
+    uint32_t place;
+    size_t start;
+    size_t length;
+};
+
+/* Asks it of the file `sealed`. It answers 0, 1, 5, 9, 10, 13 or 16. */
+struct luossavin_found luossavin_which(struct luossavin_key key, const uint8_t *sealed, size_t sealed_len,
+    const uint8_t *iv, size_t iv_len, const uint8_t *labels, size_t labels_len,
+    const size_t *lengths, size_t count);
 
 #ifdef __cplusplus
 }

@@ -26,6 +26,12 @@ void seal_blocks(struct luossavin_key key, const uint8_t *iv, const uint8_t *tex
     luossavin_encrypt(CBC, key, NULL, 0, text, length, iv, 16, out, length + 16);
 }
 
+struct luossavin_found call_search(const struct search *s, struct luossavin_key key, const uint8_t *file,
+    const uint8_t *iv)
+{
+    return luossavin_which(key, file, s->file, iv, s->iv, s->labels, s->labels_len, s->lengths, s->count);
+}
+
 struct luossavin_answer call_start(enum kind kind, struct state *s, const struct given *g)
 {
     memset(s, 0, sizeof *s);

@@ -1,5 +1,5 @@
 /* The library's calls as the rules see them, for the tests: those on blocks and whole messages behind one shape, and
- * the three kinds of messages in pieces behind another. */
+ * the three kinds of messages in pieces behind another; and the question which label a file opens under. */
 #ifndef CALLS_H
 #define CALLS_H
 
@@ -12,6 +12,10 @@ struct luossavin_answer call_whole(const struct whole *w, struct luossavin_key k
 /* Cbc of whole blocks without the padding block, so that they decrypt to `text` itself. `out` has room for 16 bytes
  * more. */
 void seal_blocks(struct luossavin_key key, const uint8_t *iv, const uint8_t *text, size_t length, uint8_t *out);
+
+/* The question of `s`, which has the lengths and the candidates, on a record. */
+struct luossavin_found call_search(const struct search *s, struct luossavin_key key, const uint8_t *file,
+    const uint8_t *iv);
 
 /* In pieces, a call puts the next state in the place of the one before. */
 

@@ -136,9 +136,7 @@ static void seal_gcm(const struct whole *w, const uint8_t *iv, const uint8_t *la
     free(text);
 }
 
-/* The message of a trial: plain bytes; for decryption in Cbc and Gcm, where the sizes allow it, one that was
- * sealed, whether or not the record of the trial could seal it. */
-static struct buffer message(const struct whole *w, struct beside b)
+struct buffer message(const struct whole *w, struct beside b)
 {
     struct buffer data = lend(w->data, 0);
     fill(data);
@@ -402,6 +400,7 @@ static void all(int with_limits)
     bad_modes();
     keys();
     pieces(with_limits);
+    which(with_limits);
 }
 
 int main(int argc, char **argv)

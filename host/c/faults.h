@@ -1,4 +1,5 @@
-/* What the three files of the program `faults` share: single calls, keys, and messages in pieces. */
+/* What the files of the program `faults` share: single calls, keys, messages in pieces, and which label a file opens
+ * under. */
 #ifndef FAULTS_H
 #define FAULTS_H
 
@@ -34,8 +35,13 @@ struct beside lend_beside(size_t iv, size_t label);
 /* Prints the trial where a call has written there. */
 void take_back(struct beside b);
 
-/* Keys, and messages in pieces with or without those at the limits. */
+/* The message of a call: plain bytes; for decryption in Cbc and Gcm, where the sizes
+ * allow it, one that was sealed, whether or not the record of the call could seal it. */
+struct buffer message(const struct whole *w, struct beside b);
+
+/* Keys; messages in pieces, and which label a file opens under, with or without those at the limits. */
 void keys(void);
 void pieces(int with_limits);
+void which(int with_limits);
 
 #endif

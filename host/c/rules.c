@@ -68,7 +68,7 @@ static uint32_t refused_as(struct holder key)
 /* A refusal that comes before a key stands has no number of one. */
 static uint16_t number_in(uint32_t refusal, struct holder key)
 {
-    return refusal == 7 || refusal == 1 || refusal == 13 ? 0 : key.number;
+    return refusal == 7 || refusal == 16 || refusal == 1 || refusal == 13 ? 0 : key.number;
 }
 
 /* Cbc's padding. */
@@ -208,6 +208,76 @@ struct luossavin_answer answer_to_part(const struct part *p)
     return due;
 }
 
+/* Which label a file opens under. */
+
+/* Whether the lengths add up to the buffer; what is left of it cannot come round. */
+static int add_up(const size_t *lengths, size_t count, size_t left)
+{
+    for (size_t i = 0; i < count; i++) {
+        if (lengths[i] > left) {
+            return 0;
+        }
+        left -= lengths[i];
+    }
+    return left == 0;
+}
+
+static int any_above(size_t limit, const size_t *lengths, size_t count)
+{
+    for (size_t i = 0; i < count; i++) {
+        if (lengths[i] > limit) {
+            return 1;
+        }
+    }
+    return 0;
+}
+
+static uint32_t search_number(const struct search *s)
+{
+    const struct row rows[] = {
+        {s->count > CANDIDATES, 16},
+        {!add_up(s->lengths, s->count, s->labels_len), 16},
+        {refused_as(s->key) == 1, 1},
+        {refused_as(s->key) == 13, 13},
+        {!takes_iv(GCM, s->iv), 10},
+        {any_above(LIMIT, s->lengths, s->count), 5},
+        {s->file > LIMIT + 16, 5},
+        {s->file < 16, 9},
+    };
+    return FIRST_OF(rows);
+}
+
+static int same_bytes(const uint8_t *a, size_t a_len, const uint8_t *b, size_t b_len)
+{
+    return a_len == b_len && (a_len == 0 || memcmp(a, b, a_len) == 0);
+}
+
+/* The first candidate that is the label; a list that is in order is not read past its end. */
+static void find(const struct search *s, struct luossavin_found *due)
+{
+    for (size_t i = 0, start = 0; i < s->count; start += s->lengths[i], i++) {
+        if (same_bytes(s->labels + start, s->lengths[i], s->under, s->under_len)) {
+            due->found = 1;
+            due->place = (uint32_t)i;
+            due->start = start;
+            due->length = s->lengths[i];
+            return;
+        }
+    }
+}
+
+struct luossavin_found answer_to_search(const struct search *s)
+{
+    struct luossavin_found due = {0};
+    due.answer.number = search_number(s);
+    due.answer.missing = due.answer.number == 9 ? 16 - s->file : 0;
+    due.answer.key = number_in(due.answer.number, s->key);
+    if (due.answer.number == 0 && !s->spoiled) {
+        find(s, &due);
+    }
+    return due;
+}
+
 const char *difference(struct luossavin_answer got, struct luossavin_answer due)
 {
     return got.number != due.number   ? "its number"
@@ -215,4 +285,15 @@ const char *difference(struct luossavin_answer got, struct luossavin_answer due)
         : got.key != due.key          ? "its key's number"
         : got.length != due.length    ? "its length"
                                       : NULL;
+}
+
+const char *difference_found(struct luossavin_found got, struct luossavin_found due)
+{
+    const char *what = difference(got.answer, due.answer);
+    return what != NULL            ? what
+        : got.found != due.found   ? "whether one is found"
+        : got.place != due.place   ? "its place"
+        : got.start != due.start   ? "its start"
+        : got.length != due.length ? "its label's length"
+                                   : NULL;
 }

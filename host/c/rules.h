@@ -6,7 +6,8 @@
 
 #include "luossavin.h"
 
-enum { LIMIT = 16777216, NUMBERS = 16 };
+/* The most bytes of a text or a label, the most labels of a question, and how many numbers there are. */
+enum { LIMIT = 16777216, CANDIDATES = 64, NUMBERS = 17 };
 enum { CFB, OFB, CTR, CBC, GCM };
 enum { ENCRYPT, DECRYPT };
 
@@ -62,7 +63,20 @@ struct part {
 size_t part_needs(const struct part *p);
 struct luossavin_answer answer_to_part(const struct part *p);
 
+/* The question which of the candidates a file opens under: their bytes, their lengths, and the label that the file
+ * was sealed under, which is the only one that opens it; where it is spoiled none does. */
+struct search {
+    struct holder key;
+    size_t iv, file;
+    const uint8_t *labels; size_t labels_len;
+    const size_t *lengths; size_t count;
+    const uint8_t *under; size_t under_len; int spoiled;
+};
+
+struct luossavin_found answer_to_search(const struct search *s);
+
 /* What an answer has otherwise than the one that is due; NULL where they are the same. */
 const char *difference(struct luossavin_answer got, struct luossavin_answer due);
+const char *difference_found(struct luossavin_found got, struct luossavin_found due);
 
 #endif

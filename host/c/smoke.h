@@ -1,4 +1,5 @@
-/* What the files of the smoke test share: single calls, Cbc's padding, keys, and messages in pieces. */
+/* What the files of the smoke test share: single calls, Cbc's padding, keys, messages in pieces, and the question which
+ * label a file opens under. */
 #ifndef SMOKE_H
 #define SMOKE_H
 
@@ -49,7 +50,13 @@ void paddings(void);
 /* Records of keys: layout, setting up, retiring, and what every value of one means. */
 void keys(void);
 
+/* Every kind of value that a record can hold. */
+void every_record(void (*what)(struct holder fields));
+
 /* Messages in pieces. */
 void pieces(void);
+
+/* Which of many labels a file opens under. */
+void which(void);
 
 #endif

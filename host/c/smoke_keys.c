@@ -58,8 +58,7 @@ static void set_ups(void)
     check(luossavin_key_new(key_bytes, 17, 65536).answer == 1, "key before number", "setting up a key", 17);
 }
 
-/* Every kind of value that a record can hold. */
-static void every_record(void (*what)(struct holder fields))
+void every_record(void (*what)(struct holder fields))
 {
     static const uint32_t answers[] = {0, 1, 13, 7, 0xffffffff};
     static const uint16_t numbers[] = {0, 1, 65535};

@@ -22,6 +22,7 @@ pub mod InPieces
 pub mod OneBlockRefused
 pub mod ZeroKey
 pub mod OtherEdition
+pub mod Which
 pub mod TrailingZero
 -- the worked table and the imposters
 pub mod Worked

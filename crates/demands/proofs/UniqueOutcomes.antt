@@ -30,6 +30,8 @@ use Rattle.luossavin.specs.declared.in_pieces.LuossavinSealStep.{LuossavinSealS
 use Rattle.luossavin.specs.declared.key.LuossavinKey.{LuossavinKey}
 use Rattle.luossavin.specs.Key.{hostKeyNew, hostKeyRetire}
 use Rattle.luossavin.specs.Host.{headIn, reported, hostBlockCall, hostModeCall}
+use Rattle.luossavin.specs.declared.which.LuossavinFound.{LuossavinFound}
+use Rattle.luossavin.specs.Which.{Told, foundReported}
 use Rattle.luossavin.specs.InPieces.{ctrReported, sealReported, opensReported}
 use Rattle.demands.specs.OneOutcome.{OneOutcome, OneReport, OneStep}
 
@@ -128,6 +130,26 @@ unique-exported-block dir k b o = one-report (hostBlockCall dir k b o)
 pub unique-exported-message : (dir : Direction) (mode : ℕ) (k : LuossavinKey) (label d iv o : List ℕ)
     → OneReport (hostModeCall dir mode k label d iv o)
 unique-exported-message dir mode k label d iv o = one-report (hostModeCall dir mode k label d iv o)
+
+-- What is told of the candidates is told by one answer alone.
+pub unique-exported-which : (x : Told) (r₁ r₂ : LuossavinFound) → foundReported r₁ ≡ x → foundReported r₂ ≡ x → r₁ ≡ r₂
+unique-exported-which x r₁ r₂ e₁ e₂ =
+    let e : foundReported r₁ ≡ foundReported r₂ = e₁ ∙ sym e₂ in
+    let answer = one-host-answer (r₁ .answer) (r₂ .answer) (ap (λ (t : Told). t .head) e) in
+    ap {B = LuossavinFound} (λ (a : LuossavinAnswer). record {
+      answer = a;
+      found = r₁ .found;
+      place = r₁ .place;
+      start = r₁ .start;
+      length = r₁ .length;
+    }) answer
+    ∙ ap {B = LuossavinFound} (λ (t : Told). record {
+      answer = r₂ .answer;
+      found = t .found;
+      place = t .place;
+      start = t .start;
+      length = t .size;
+    }) e
 
 -- A call on a message in pieces, be it a start, a piece or an end, has one answer, one output and one state.
 pub unique-ctr-step : (x : Stepped Ctr) → OneStep Ctr CtrStep ctrStepped x

@@ -9,7 +9,7 @@ use lib.Dec.{eqb, ltb}
 use lib.ListN.{length}
 use borrow.Author.Tests.{eqb-true}
 use Rattle.cipher.specs.Sm4.{roundKeys}
-use Rattle.walk.specs.Outcome.{Outcome, refuse as refuseAs}
+use Rattle.walk.specs.Outcome.{Outcome, refusal, refuse as refuseAs}
 use Rattle.cbc.specs.Open.{headOf as cbcHead, lastByte, namesPadding, allPadding, unpadded, cbcText, cbcOpen}
 use Rattle.cbc.specs.declared.Opened.the-variants.{Done as Cbc·Done, InvalidLastU8, InvalidPadding}
 use Rattle.gcm.specs.Gcm.{hashKey, J0, opensUnder}
@@ -21,20 +21,24 @@ use Rattle.cipher_mode.specs.declared.CipherMode.the-variants.{Cfb, Ofb, Ctr, C
 use Rattle.cipher_mode.specs.declared.Direction.{Direction}
 use Rattle.cipher_mode.specs.declared.Direction.the-variants.{Encrypt, Decrypt}
 use Rattle.cipher_mode.specs.declared.answer.Refusal.{Refusal}
-use Rattle.cipher_mode.specs.declared.answer.Refusal.the-variants.{NoRoom, WrongIv, WrongBlock}
+use Rattle.cipher_mode.specs.declared.answer.Refusal.the-variants.{TooLong, NoRoom, ShortGcm, WrongIv, WrongBlock}
 use Rattle.cipher_mode.specs.declared.checks.Checked.{Checked}
 use Rattle.cipher_mode.specs.declared.checks.Checked.the-variants.{Passed, Refused}
 use Rattle.cipher_mode.specs.Answer.{refusalHead}
-use Rattle.cipher_mode.specs.Key.{keyHead, noCipher, wrongNumber, newCipher}
-use Rattle.cipher_mode.specs.Tables.{limit, limitOf, roomOf}
+use Rattle.cipher_mode.specs.Key.{keyHead, noCipher, wrongNumber, newCipher, keyNumber}
+use Rattle.cipher_mode.specs.Tables.{limit, sealedLimit, limitOf, roomOf}
 use Rattle.cipher_mode.specs.Checks.{refuse, andThen, keyCheck, wrongIv, retiredCheck, keyAndIv, labelCheck, shapeCheck, dataCheck}
 use Rattle.cipher_mode.specs.Checks.{roomCheck, messageCheck, blockCheck, checked}
 use Rattle.cipher_mode.specs.Calls.{blockCall, modeResult, lengthsOf, modeCall}
 use Rattle.luossavin.specs.declared.key.LuossavinKey.{LuossavinKey}
 use Rattle.luossavin.specs.Key.{keyAnswerOf, cipherIn, keyOf, hostKeyNew}
 use Rattle.luossavin.specs.Host.{modeOf, hostBlockCall, hostModeCall}
+use Rattle.luossavin.specs.Which.{hostWhich}
+use Rattle.editions.specs.Candidates.{badList, anyTooLong}
+use Rattle.editions.specs.Which.{Verdict, noneWith, onKey, firstOpening, searchCheck, checkedVerdict, opensWith, which}
+use Rattle.editions.proofs.FirstOpening.{search-number}
 use Rattle.demands.specs.WhichNumber.{Said, saidIn, only, Row, row, Among, isCbc, isGcm, isRetired}
-use Rattle.demands.specs.WhichNumber.{firstOf, numbersOf, newRows, keyRows, retiredRows, blockRows, encryptRows, decryptRows}
+use Rattle.demands.specs.WhichNumber.{firstOf, numbersOf, newRows, keyRows, retiredRows, blockRows, whichRows, encryptRows, decryptRows}
 use Rattle.demands.proofs.ModesBack.{encrypts}
 
 -- what the first row says that holds, or else k
@@ -271,6 +275,43 @@ exported-decryption-number mode k label d iv o =
     ∙ from-message Decrypt k m (length iv) (length label) (length d) (length o) _
     ∙ ap {A = Said} {B = Said} in-shape (shape-number m (length d) _))
 
+-- a verdict that is no refusal says 0
+found-said : (test : List ℕ → Bool) (labels lengths : List ℕ) → saidIn (firstOpening test labels lengths 0 0 .head) ≡ only 0
+found-said test labels lengths = ap saidIn (search-number test labels lengths)
+
+checked-said : (k : Checked) (v : Verdict) → saidIn (checkedVerdict k v .head) ≡ behind k (saidIn (v .head))
+unfolding behind
+checked-said Passed v = refl
+checked-said (Refused r) v = refl
+
+bad-list-said : (t : Bool) (n : ℕ) (v : Verdict)
+    → saidIn (cond t (noneWith (refusal 16)) (onKey n v) .head) ≡ cond t (only 16) (saidIn (v .head))
+bad-list-said true n v = refl
+bad-list-said false n v = refl
+
+-- The exported question says what the first condition says that holds: the list, the key, the IV, the labels, the file; and 0 where a
+-- candidate is found or none opens.
+pub exported-which-number : (k : LuossavinKey) (file iv labels lengths : List ℕ)
+    → saidIn (hostWhich k file iv labels lengths .head) ≡ firstOf (whichRows k file iv labels lengths)
+unfolding hostWhich which searchCheck keyAndIv dataCheck behind orElse
+exported-which-number k file iv labels lengths =
+    let c = cipherIn k in
+    let wrong = not (eqb (length iv) 12) && not (eqb (length iv) 16) in
+    let check = searchCheck (c .answer) (c .retired) (length iv) (length file) lengths in
+    let verdict = firstOpening (opensWith c iv file) labels lengths 0 0 in
+    let searched = ap {B = Said} (behind check) (found-said (opensWith c iv file) labels lengths) in
+    bad-list-said (badList labels lengths) (keyNumber c) (checkedVerdict check verdict)
+    ∙ ap {B = Said} (cond (badList labels lengths) (only 16))
+    (checked-said check verdict ∙ searched
+    ∙ number-then (keyAndIv (c .answer) (c .retired) Decrypt Gcm (length iv)) _ (only 0)
+    ∙ from-key Decrypt k wrong WrongIv _
+    ∙ ap {B = Said} (λ (s : Said). orElse (keyRows k) (cond wrong (only 10) s))
+    (number-refuse (anyTooLong lengths) TooLong _ (only 0)
+    ∙ ap {B = Said} (cond (anyTooLong lengths) (only 5))
+    (number-refuse (ltb sealedLimit (length file)) TooLong _ (only 0)
+    ∙ ap {B = Said} (cond (ltb sealedLimit (length file)) (only 5))
+    (number-refuse (ltb (length file) 16) (ShortGcm (16 - length file)) Passed (only 0)))))
+
 -- one row in front
 one-more : (t : Bool) (r n : Said) (ks : List ℕ) → Among (n .number) (0 ∷ ks) → Among ((cond t r n) .number) (0 ∷ r .number ∷ ks)
 one-more true r n ks a = inr (inl refl)
@@ -304,3 +345,9 @@ pub exported-decryption-numbers : (mode : ℕ) (k : LuossavinKey) (label d iv o 
     → Among (hostModeCall Decrypt mode k label d iv o .head .number) (0 ∷ 7 ∷ 1 ∷ 13 ∷ 10 ∷ 5 ∷ 5 ∷ 8 ∷ 2 ∷ 9 ∷ 6 ∷ 3 ∷ 15 ∷ 4 ∷ [])
 exported-decryption-numbers mode k label d iv o =
     rw (ap (λ (s : Said). s .number) (exported-decryption-number mode k label d iv o)) (one-of (decryptRows mode k label d iv o))
+
+-- The question which of many labels a file opens under answers 0, 16, 1, 13, 10, 5 or 9.
+pub exported-which-numbers : (k : LuossavinKey) (file iv labels lengths : List ℕ)
+    → Among (hostWhich k file iv labels lengths .head .number) (0 ∷ 16 ∷ 1 ∷ 13 ∷ 10 ∷ 5 ∷ 5 ∷ 9 ∷ [])
+exported-which-numbers k file iv labels lengths =
+    rw (ap (λ (s : Said). s .number) (exported-which-number k file iv labels lengths)) (one-of (whichRows k file iv labels lengths))

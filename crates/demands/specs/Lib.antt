@@ -15,6 +15,7 @@ pub mod InPieces
 -- demand 3, and what the demands were for
 pub mod OneBlockRefused
 pub mod OtherEdition
+pub mod Which
 pub mod TrailingZero
 -- the worked table and the imposters
 pub mod Worked

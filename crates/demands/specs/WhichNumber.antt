@@ -13,7 +13,8 @@ use Rattle.cipher_mode.specs.declared.CipherMode.{CipherMode}
 use Rattle.cipher_mode.specs.declared.CipherMode.the-variants.{Cfb, Ofb, Ctr, Cbc, Gcm}
 use Rattle.cipher_mode.specs.declared.Direction.{Direction}
 use Rattle.cipher_mode.specs.declared.Direction.the-variants.{Encrypt, Decrypt}
-use Rattle.cipher_mode.specs.Tables.{limit, limitOf, roomOf}
+use Rattle.cipher_mode.specs.Tables.{limit, sealedLimit, limitOf, roomOf}
+use Rattle.editions.specs.Candidates.{badList, anyTooLong}
 use Rattle.luossavin.specs.declared.key.LuossavinKey.{LuossavinKey}
 use Rattle.luossavin.specs.Host.{modeOf}
 
@@ -94,6 +95,17 @@ blockRows dir k b o =
     ∷ retiredRows dir k
     ++ (row (ltb (length o) 16) 6
     ∷ []))
+
+-- the exported question which of many labels a file opens under
+abbrev pub whichRows : LuossavinKey → List ℕ → List ℕ → List ℕ → List ℕ → List Row
+whichRows k file iv labels lengths =
+    row (badList labels lengths) 16
+    ∷ keyRows k
+    ++ (row (not (eqb (length iv) 12) && not (eqb (length iv) 16)) 10
+    ∷ row (anyTooLong lengths) 5
+    ∷ row (ltb sealedLimit (length file)) 5
+    ∷ record { holds = ltb (length file) 16; says = record { number = 9; missing = 16 - length file } }
+    ∷ [])
 
 -- the exported encryption of a message
 abbrev pub encryptRows : ℕ → LuossavinKey → List ℕ → List ℕ → List ℕ → List ℕ → List Row

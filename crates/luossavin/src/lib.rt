@@ -2,6 +2,7 @@
 // none has a `requires`: a host that breaks one could not be told.
 mod in_pieces;
 pub mod key;
+mod which;
 
 ghost use mathlib.Core.Path.{_≡_};
 ghost use Rattle.walk.specs.Outcome.{refusal as refused};

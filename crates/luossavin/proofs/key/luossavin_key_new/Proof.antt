@@ -1,18 +1,13 @@
 -- `luossavin::key::luossavin_key_new` meets its contract: it hands out the record that setting up the key gives.
 -- Assumes nothing.
-use mathlib.Core.Path.{_≡_, refl, ap, ap₂, _∙_}
-use mathlib.Core.Bool.{Bool, true, false, cond}
+use mathlib.Core.Path.{ap, ap₂, _∙_}
 use Prim.Native.Nat.{ℕ}
-use mir.Val.{boolByte}
 use Rattle.luossavin.specs.declared.key.LuossavinKey.{LuossavinKey}
 use Rattle.luossavin.specs.Key.{keyOf, hostKeyNew}
+use Rattle.luossavin.proofs.Marks.{mark-byte}
 use borrow.Author.Needs.{needs}
 use Rattle.luossavin.proofs.key.luossavin_key_new.Statement.{statement}
 use Rattle.luossavin.proofs.key.luossavin_key_new.Tie as tie
-
-mark-byte : (b : Bool) → boolByte b ≡ cond b 1 0
-mark-byte true = refl
-mark-byte false = refl
 
 returns : tie.Need-returns
 unfolding hostKeyNew keyOf

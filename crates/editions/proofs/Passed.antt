@@ -1,0 +1,52 @@
+-- What is known where nothing was refused.
+-- Assumes nothing.
+use mathlib.Core.Path.{_≡_}
+use mathlib.Core.Bool.{Bool, false, not}
+use mathlib.Core.List.{List}
+use Prim.Native.Nat.{ℕ, _≤_}
+use lib.Dec.{eqb, ltb}
+use lib.ListN.{length}
+use borrow.Author.Tests.{ltb-false, eqb-true, not-false}
+use Rattle.cipher_mode.specs.declared.KeyAnswer.{KeyAnswer}
+use Rattle.cipher_mode.specs.declared.KeyAnswer.the-variants.{Key}
+use Rattle.cipher_mode.specs.declared.CipherMode.the-variants.{Gcm}
+use Rattle.cipher_mode.specs.declared.Direction.the-variants.{Decrypt}
+use Rattle.cipher_mode.specs.declared.checks.Checked.the-variants.{Passed}
+use Rattle.cipher_mode.specs.Checks.{wrongIv, keyAndIv, dataCheck}
+use Rattle.cipher_mode.proofs.Passed.{let-through, both, key-and-iv-passed}
+use Rattle.editions.specs.Candidates.{sum, badList, anyTooLong}
+use Rattle.editions.specs.Which.{searchCheck}
+use Rattle.editions.proofs.Turns.{or-false}
+
+-- a list that is not bad
+module _ (labels lengths : List ℕ) (good : badList labels lengths ≡ false) where
+  few-and-whole : (ltb 64 (length lengths) ≡ false) × (not (eqb (sum lengths) (length labels)) ≡ false)
+  unfolding badList
+  few-and-whole = or-false (ltb 64 (length lengths)) (not (eqb (sum lengths) (length labels))) good
+
+  pub at-most-64 : length lengths ≤ 64
+  at-most-64 = ltb-false 64 (length lengths) (few-and-whole .0)
+
+  pub adds-up : sum lengths ≡ length labels
+  adds-up = eqb-true (sum lengths) (length labels) (not-false (eqb (sum lengths) (length labels)) (few-and-whole .1))
+
+-- a search that goes on to look at tags
+pub record InOrder (a : KeyAnswer) (iv file : ℕ) (lengths : List ℕ) : Type 0 where
+  pub key : a ≡ Key
+  pub iv-size : wrongIv Gcm iv ≡ false
+  pub short : anyTooLong lengths ≡ false
+  pub content : dataCheck Decrypt Gcm file ≡ Passed
+
+pub search-passed : (a : KeyAnswer) (retired : Bool) (iv file : ℕ) (lengths : List ℕ)
+    → searchCheck a retired iv file lengths ≡ Passed → InOrder a iv file lengths
+unfolding searchCheck
+search-passed a retired iv file lengths e =
+    let from-key = both (keyAndIv a retired Decrypt Gcm iv) _ e in
+    let from-labels = let-through (anyTooLong lengths) _ _ (from-key .1) in
+    let first = key-and-iv-passed a retired Decrypt Gcm iv (from-key .0) in
+    record {
+      key = first .key;
+      iv-size = first .iv-size;
+      short = from-labels .fails;
+      content = from-labels .rest;
+    }

@@ -1,0 +1,48 @@
+-- `editions::add_up` meets its contract. The loop's invariant: all the lengths and what is left of `n` are together `n` and the lengths
+-- to come. The measure is how many are to come.
+-- Assumes nothing.
+use mathlib.Core.Path.{_≡_, sym}
+use Prim.Native.Nat.{_+_, _-_, _≤_}
+use native.Mathlib.Omega.{arith}
+use denote.Ref.{now}
+use lib.ListN.{length, drop}
+use borrow.Author.Tests.{ne-eqb}
+use Rattle.editions.specs.Candidates.{sum}
+use Rattle.editions.proofs.Turns.{nothing-left, sum-turn, sum-end}
+use Rattle.editions.proofs.add_up.Statement.{statement}
+use Rattle.editions.proofs.add_up.Tie as tie
+
+abbrev Inv-loop : tie.InvT-loop
+Inv-loop lengths n left₀ i₀ left i = (i ≤ length lengths) × (sum lengths + left ≡ n + sum (drop i lengths))
+
+abbrev μ-loop : tie.MeasureT-loop
+μ-loop lengths n left₀ i₀ left i = length lengths - i
+
+returns : tie.Need-returns Inv-loop μ-loop
+returns c =
+    let at-loop = c .before .before .before in
+    let a = at-loop .before .args in
+    let ns = now (a .lengths) in
+    let turn = sum-turn ns (at-loop .loop .i) (omega arith) in
+    sym (ne-eqb (sum ns) (a .n) (λ e. omega arith))
+
+loop-again : tie.Need-loop-again Inv-loop μ-loop
+loop-again c =
+    let at-loop = c .before .before .before in
+    let turn = sum-turn (now (at-loop .before .args .lengths)) (at-loop .loop .i) (omega arith) in
+    omega arith
+
+returns-2 : tie.Need-returns-2 Inv-loop μ-loop
+returns-2 c =
+    let at-loop = c .before in
+    let a = at-loop .before .args in
+    let ns = now (a .lengths) in
+    let past = sum-end ns (at-loop .loop .i) (omega arith) in
+    nothing-left (sum ns) (at-loop .loop .left) (a .n) (omega arith)
+
+pub add-up-spec : {M : Type 1} → statement M
+add-up-spec =
+    tie.close
+    (tie.spec
+    Inv-loop μ-loop (λ c. omega arith) (λ c. omega arith) (λ c. omega arith) returns (λ c. omega arith) (λ c. omega arith)
+    loop-again returns-2)

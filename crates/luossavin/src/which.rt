@@ -1,0 +1,77 @@
+// Which of many labels a file opens under, for a host. The part of the lent buffer crosses as its start and length, since no
+// reference does.
+ghost use mathlib.Core.Path.{_≡_};
+ghost use Rattle.walk.specs.Outcome.{under};
+ghost use Rattle.editions.specs.Which.{endedHead, isFound};
+ghost use Rattle.luossavin.specs.Host.{headIn};
+ghost use Rattle.luossavin.specs.Which.{foundReported, hostWhich};
+use crate::LuossavinAnswer;
+use crate::key::LuossavinKey;
+use crate::key::cipher_of;
+use cipher_mode::answer;
+use editions::Ended;
+
+// `found` is 1 or 0, and place, start and length are 0 unless it is 1.
+#[repr(C)]
+pub struct LuossavinFound {
+    pub answer: LuossavinAnswer,
+    pub found: u32,
+    pub place: u32,
+    pub start: usize,
+    pub length: usize,
+}
+
+// The refusal of a list of candidates.
+const BAD_LIST: u32 = 16;
+
+fn report_ended(ended: Ended, key: u16) -> LuossavinAnswer
+    ensures { λ r. ⌜ headIn r ≡ under key (endedHead ended) ⌝ }
+{
+    match ended {
+        Ended::Candidate => LuossavinAnswer {
+            number: 0,
+            missing: 0,
+            key,
+            length: 0,
+        },
+        Ended::None => LuossavinAnswer {
+            number: 0,
+            missing: 0,
+            key,
+            length: 0,
+        },
+        Ended::BadList => LuossavinAnswer {
+            number: BAD_LIST,
+            missing: 0,
+            key,
+            length: 0,
+        },
+        Ended::Refused(reason) => LuossavinAnswer {
+            number: answer::number(reason),
+            missing: answer::missing(reason),
+            key,
+            length: 0,
+        },
+    }
+}
+
+#[no_mangle]
+pub extern "C" fn luossavin_which(
+    key: LuossavinKey,
+    sealed: &[u8],
+    iv: &[u8],
+    labels: &[u8],
+    lengths: &[usize],
+) -> LuossavinFound
+    ensures { λ r. ⌜ foundReported r ≡ hostWhich key (now (sealed .entry)) (now (iv .entry)) (now (labels .entry)) (now (lengths .entry)) ⌝ }
+{
+    let found = editions::which(cipher_of(key), sealed, iv, labels, lengths);
+    let ended = found.ended;
+    LuossavinFound {
+        answer: report_ended(ended, found.key),
+        found: editions::is_candidate(ended) as u32,
+        place: found.place as u32,
+        start: found.start,
+        length: found.length,
+    }
+}
