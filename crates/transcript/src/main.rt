@@ -306,6 +306,16 @@ fn with_input(asked: Asked, file: &[u8], source: Source, work: Work) -> u8 {
     deliver(asked, file, source, work, 0)
 }
 
+// A pass that writes nothing.
+fn silent_pass(asked: Asked, source: Source, work: Work) -> Pass {
+    passes::run(
+        asked,
+        source,
+        most(asked),
+        passes::start(work, output::none(DONE)),
+    )
+}
+
 // A pass that writes nothing and settles whether anything is to be written. What cannot be read twice is kept for the second.
 fn settle(asked: Asked, file: &[u8], source: Source, work: Work) -> u8 {
     let command = asked.command;
@@ -316,12 +326,7 @@ fn settle(asked: Asked, file: &[u8], source: Source, work: Work) -> u8 {
     if first.fd < 0 {
         return FILES;
     }
-    let pass = passes::run(
-        asked,
-        first,
-        most(asked),
-        passes::start(work, output::none(DONE)),
-    );
+    let pass = silent_pass(asked, first, work);
     let status = judge(asked, pass, 0);
     if status != DONE {
         return status;
@@ -338,12 +343,7 @@ fn settle(asked: Asked, file: &[u8], source: Source, work: Work) -> u8 {
 // Says that IN opens, or why not.
 fn opens(asked: Asked, source: Source, work: Work) -> u8 {
     let places = asked.places;
-    let pass = passes::run(
-        asked,
-        source,
-        most(asked),
-        passes::start(work, output::none(DONE)),
-    );
+    let pass = silent_pass(asked, source, work);
     let status = judge(asked, pass, 0);
     if status != DONE {
         return status;

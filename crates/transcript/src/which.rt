@@ -7,13 +7,11 @@ use crate::FILES;
 use crate::begin;
 use crate::files;
 use crate::files::Source;
-use crate::most;
 use crate::named;
 use crate::output;
-use crate::passes;
-use crate::passes::Pass;
 use crate::refuse;
 use crate::say;
+use crate::silent_pass;
 use crate::with_iv;
 use crate::word_room;
 use cipher_mode::answer::Ending;
@@ -104,18 +102,6 @@ fn candidate(asked: Asked, list: &[u8], place: usize) -> Candidate
     Candidate::Label(asked.job, edition as u16)
 }
 
-// A pass over IN under the job and the edition that are asked for.
-fn ask(asked: Asked, source: Source, key: &[u8], iv: &[u8]) -> Pass {
-    let begun = begin(asked, key, iv);
-    let work = begun.work;
-    passes::run(
-        asked,
-        source,
-        most(asked),
-        passes::start(work, output::none(DONE)),
-    )
-}
-
 // What a pass tells: IN opens, or does not; or the run is over with a status, which has been said.
 pub enum Verdict {
     Opens,
@@ -123,29 +109,49 @@ pub enum Verdict {
     Over(u8),
 }
 
-// What a pass tells; `settled`: how long IN was in the pass before, 0 where there was none.
-fn judge(asked: Asked, pass: Pass, settled: usize) -> Verdict {
-    let places = asked.places;
-    if pass.status != DONE {
-        return Verdict::Over(pass.status);
-    }
-    if settled != 0 {
-        if pass.read != settled {
-            return Verdict::Over(say::changed(places[IN]));
-        }
-    }
-    let ending = pass.ending;
-    match ending {
-        Ending::Done(_) => Verdict::Opens,
-        Ending::Refused(refusal) => refused(asked, refusal, pass.read),
+// What a pass told, and how many bytes it read.
+pub struct Asking {
+    pub verdict: Verdict,
+    pub read: usize,
+}
+
+fn told(verdict: Verdict, read: usize) -> Asking {
+    Asking { verdict, read }
+}
+
+fn refused(asked: Asked, refusal: Refusal, read: usize) -> Verdict {
+    match refusal {
+        Refusal::InvalidTag => Verdict::OpensNot,
+        _ => Verdict::Over(refuse(refusal, asked, 0, 0, read)),
     }
 }
 
-fn refused(asked: Asked, refusal: Refusal, length: usize) -> Verdict {
-    match refusal {
-        Refusal::InvalidTag => Verdict::OpensNot,
-        _ => Verdict::Over(refuse(refusal, asked, 0, 0, length)),
+// What the ending of a pass tells that read so many bytes.
+fn judge(asked: Asked, ending: Ending, read: usize) -> Verdict {
+    match ending {
+        Ending::Done(_) => Verdict::Opens,
+        Ending::Refused(refusal) => refused(asked, refusal, read),
     }
+}
+
+// A pass over IN under the job and the edition that are asked for. `settled`: how long IN was in the pass before, 0 where there was
+// none.
+fn ask(asked: Asked, source: Source, settled: usize, key: &[u8], iv: &[u8]) -> Asking {
+    let begun = begin(asked, key, iv);
+    let work = begun.work;
+    let pass = silent_pass(asked, source, work);
+    let read = pass.read;
+    if pass.status != DONE {
+        return told(Verdict::Over(pass.status), read);
+    }
+    if settled != 0 {
+        if read != settled {
+            let places = asked.places;
+            return told(Verdict::Over(say::changed(places[IN])), read);
+        }
+    }
+    let ending = pass.ending;
+    told(judge(asked, ending, read), read)
 }
 
 // A search on its way: IN as it is read next, and how many bytes the last pass read. It is over with a status, which has been
@@ -188,13 +194,13 @@ fn ask_label(
     let mut one = asked;
     one.job = job;
     one.edition = edition;
-    let pass = ask(one, source, key, iv);
-    let told = judge(one, pass, search.read);
-    match told {
+    let asking = ask(one, source, search.read, key, iv);
+    let verdict = asking.verdict;
+    match verdict {
         Verdict::Opens => over(search, found(asked, job, edition)),
         Verdict::OpensNot => Search {
             source: files::again(source),
-            read: pass.read,
+            read: asking.read,
             over: false,
             status: DONE,
         },
@@ -248,8 +254,9 @@ fn none(asked: Asked, search: Search, key: &[u8], iv: &[u8]) -> u8 {
     let places = asked.places;
     if search.read == 0 {
         let source = search.source;
-        let told = judge(asked, ask(asked, source, key, iv), 0);
-        if let Verdict::Over(status) = told {
+        let asking = ask(asked, source, 0, key, iv);
+        let verdict = asking.verdict;
+        if let Verdict::Over(status) = verdict {
             return status;
         }
     }
