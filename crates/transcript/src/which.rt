@@ -1,5 +1,5 @@
-// Which of the candidates a sealed file opens under. Each is asked about by a pass of its own over IN, in order, and the first that
-// opens is the answer.
+// Which of the candidates a sealed file opens under. Each is asked about by a pass of its own over IN, in order, and the first
+// that opens is the answer.
 ghost use Prim.Native.Nat.{_<_};
 use crate::Asked;
 use crate::DONE;
@@ -134,8 +134,8 @@ fn judge(asked: Asked, ending: Ending, read: usize) -> Verdict {
     }
 }
 
-// A pass over IN under the job and the edition that are asked for. `settled`: how long IN was in the pass before, 0 where there was
-// none.
+// A pass over IN under the job and the edition that are asked for. `settled`: how long IN was in the pass before, 0 where there
+// was none.
 fn ask(asked: Asked, source: Source, settled: usize, key: &[u8], iv: &[u8]) -> Asking {
     let begun = begin(asked, key, iv);
     let work = begun.work;

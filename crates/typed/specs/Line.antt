@@ -8,7 +8,8 @@ use Rattle.typed.specs.Things.{JOB, EDITION, EDITIONS, CANDIDATES, IN, O
 use Rattle.typed.specs.Words.{isFlag, saysLabel, optionOf, isOption, endsOptions, hasValue, takesOf, wantsOf}
 use Rattle.typed.specs.declared.words.Command.{Command}
 use Rattle.typed.specs.declared.line.Fault.{Fault}
-use Rattle.typed.specs.declared.line.Fault.the-variants.{NoFault, NoSuchOption, NotOfThisCommand, SaidTwice, NotBoth, NoValue, OneTooMany}
+use Rattle.typed.specs.declared.line.Fault.the-variants.{NoFault, NoSuchOption, NotOfThisCommand, SaidTwice, NotBoth}
+use Rattle.typed.specs.declared.line.Fault.the-variants.{NoValue, OneTooMany}
 use Rattle.typed.specs.declared.line.Line.{Line}
 
 -- a line of which only the command has been read

@@ -23,8 +23,10 @@ loop-holds c = (omega arith, omega arith)
 loop-again : tie.Need-loop-again Inv-loop μ-loop
 loop-again c =
     let at-loop = c .before .before in
-    let list = now (at-loop .before .before .args .list) in
-    (omega arith, count-on list (at-loop .loop .at) (c .find .result) (omega arith) (c .find .ensures .0) (at-loop .loop .n) (at-loop .loop .inv .1))
+    let list = now (at-loop .before .before .args .list) in (
+      omega arith,
+      count-on list (at-loop .loop .at) (c .find .result) (omega arith) (c .find .ensures .0) (at-loop .loop .n) (at-loop .loop .inv .1),
+    )
 
 returns : tie.Need-returns Inv-loop μ-loop
 returns c =

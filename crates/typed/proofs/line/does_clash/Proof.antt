@@ -9,7 +9,8 @@ use Rattle.typed.proofs.line.does_clash.Tie as tie
 returns-2 : tie.Need-returns-2
 returns-2 c =
     let at-says-label = c .before .before in
-    rw (told (at-says-label .says-label .ensures) (c .before .if2 .taken), ne-eqb _ _ (at-says-label .before .if1 .left), c .is-unsaid .ensures)
+    let label = told (at-says-label .says-label .ensures) (c .before .if2 .taken) in
+    rw (label, ne-eqb _ _ (at-says-label .before .if1 .left), c .is-unsaid .ensures)
 
 returns-3 : tie.Need-returns-3
 returns-3 c =
