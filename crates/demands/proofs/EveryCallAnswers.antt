@@ -122,7 +122,7 @@ unfolding newCipher
 new-cipher-answers key n =
     record {
       done = λ e l h.
-          rw (eq-eqb (length key) 16 e, ne-eqb n 0 (λ z. omega arith), le-ltb 65535 n h) (refl, refl);
+          rw (eq-eqb (length key) 16 e, ne-eqb n 0 (λ z. omega arith), le-ltb 65535 n h) (refl, refl, refl);
       refused = λ e. rw (ne-eqb (length key) 16 e);
       out-of-range = λ e o. rw (eq-eqb (length key) 16 e, out-of-range n o);
       fresh = fresh (not (eqb (length key) 16)) (wrongNumber n);

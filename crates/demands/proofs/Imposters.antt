@@ -4,7 +4,7 @@ use mathlib.Core.Path.{_≡_, refl, sym, ap, _∙_}
 use mathlib.Core.Logic.{_≢_, inl}
 use mathlib.Core.Bool.{Bool, true, false, cond}
 use mathlib.Core.List.{List, [], _∷_, _++_}
-use Prim.Native.Nat.{ℕ, _≤_}
+use Prim.Native.Nat.{ℕ, _+_, _-_, _≤_}
 use native.Mathlib.Nat.{le-of-eq}
 use native.Mathlib.Omega.{arith}
 use lib.Dec.{lit<}
@@ -18,26 +18,34 @@ use Rattle.walk.specs.Walk.{walk, chain}
 use Rattle.walk.specs.Outcome.{Head, Outcome, keyed, done}
 use Rattle.cipher_mode.specs.declared.CipherMode.{CipherMode}
 use Rattle.cipher_mode.specs.declared.CipherMode.the-variants.{Cfb, Ofb, Ctr, Cbc, Gcm}
-use Rattle.cipher_mode.specs.declared.Direction.the-variants.{Encrypt}
+use Rattle.cipher_mode.specs.declared.Direction.the-variants.{Encrypt, Decrypt}
 use Rattle.cipher_mode.specs.declared.KeyAnswer.{KeyAnswer}
 use Rattle.cipher_mode.specs.declared.KeyAnswer.the-variants.{Key}
 use Rattle.cipher_mode.specs.declared.Sm4Cipher.{Sm4Cipher}
+use Rattle.cipher_mode.specs.declared.checks.Checked.the-variants.{Passed}
 use Rattle.cipher_mode.specs.declared.Sm4CipherMode.{Sm4CipherMode}
 use Rattle.cipher_mode.specs.Key.{newCipher, keyNumber, newCipherMode}
 use Rattle.cipher_mode.specs.Tables.{limit}
 use Rattle.cipher_mode.specs.Checks.{keyAndIv, dataCheck, messageCheck}
 use Rattle.cipher_mode.specs.Calls.{lengthsOf, modeCall}
 use Rattle.cipher_mode.proofs.Passed.{InOrder}
-use Rattle.demands.specs.Call.{Call, result}
+use Rattle.editions.specs.Candidates.{sum, badList, anyTooLong, labelAt}
+use Rattle.editions.specs.Which.{Verdict, searchCheck, opensWith, which}
+use Rattle.editions.proofs.FirstOpening.{IsFirst}
+use Rattle.editions.proofs.WhichOpens.{Asked, first-opens}
+use Rattle.demands.specs.Call.{Call, result, inGcm}
 use Rattle.demands.specs.Answered.{singleNumbers, Answered, KeyAnswered, lengthOf}
 use Rattle.demands.specs.Served.{Asks, Served}
 use Rattle.demands.specs.ThereAndBack.{ThereAndBack}
 use Rattle.demands.specs.OneBlockRefused.{OneBlockRefused}
 use Rattle.demands.specs.Imposters.{zeros, zeroKey, refusesAll, constant, copies, firstBlockOnly, inventsLength}
-use Rattle.demands.specs.Imposters.{forgetsNumber, takesAnyNumber, copiesAnew, throwsAway}
+use Rattle.demands.specs.Imposters.{forgetsNumber, takesAnyNumber, copiesAnew, throwsAway, countsFromOne, fileFirst}
 use Rattle.demands.specs.Retired.{StaysRetired, DecryptsAlike}
-use Rattle.demands.proofs.Through.{leaves}
-use Rattle.demands.proofs.ModesBack.{encrypted, encrypts}
+use Rattle.demands.specs.Which.{Tells}
+use Rattle.demands.proofs.Through.{through, leaves}
+use Rattle.demands.proofs.ModesBack.{encrypted, encrypts, length-encrypted}
+use Rattle.demands.proofs.ThereAndBack.{decryption-takes-back}
+use Rattle.demands.proofs.OtherHash.{gcm-opens}
 use Rattle.demands.proofs.ZeroCipher.{zero-block, block-of-one}
 
 -- The call that refuses everything meets demand 3: nothing opens, so there is nothing to refuse.
@@ -161,3 +169,57 @@ unfolding modeCall messageCheck keyAndIv newCipher
 thrown-away-opens-nothing claim =
     let z : _≡_ {A = ℕ} 1 10 = ap (λ (x : Outcome). x .head .number) (claim (newCipher zeros 1) .message Ctr [] [] [] []) in
     absurd (omega arith)
+
+-- one empty candidate and sixteen bytes of IV: what is left to pass is the file
+one-candidate-passes : (a : KeyAnswer) (retired : Bool) (file : ℕ) → a ≡ Key → dataCheck Decrypt Gcm file ≡ Passed
+    → searchCheck a retired 16 file (0 ∷ []) ≡ Passed
+unfolding searchCheck keyAndIv anyTooLong
+one-candidate-passes a retired file k e = rw (k, e)
+
+-- Counting places from 1 is told by the empty message, sealed under the empty label with any usable and unretired key: it opens under the
+-- only candidate, which is at place 0.
+pub counting-from-one-is-told : (c : Sm4Cipher) → c .answer ≡ Key → c .retired ≡ false
+    → ¬ ((file iv labels lengths o : List ℕ) → length file - 16 ≤ length o
+    → Tells (modeCall Decrypt (inGcm c)) file iv labels lengths o (countsFromOne c file iv labels lengths))
+unfolding labelAt badList sum
+counting-from-one-is-told c k u claim =
+    let file = result (modeCall Encrypt (inGcm c) [] [] zeros zeros) in
+    let sealed : modeCall Encrypt (inGcm c) [] [] zeros zeros ≡ keyed (keyNumber c) (done (encrypted Gcm (c .rk) [] [] zeros) zeros) =
+    leaves Encrypt (inGcm c) [] [] zeros zeros (nothing-in-order (c .answer) (c .retired) k u Gcm)
+    ∙ ap {B = Outcome} (keyed (keyNumber c)) (encrypts Gcm (c .rk) [] [] zeros zeros) in
+    let done-there : modeCall Encrypt (inGcm c) [] [] zeros zeros .head .number ≡ 0 = ap (λ (x : Outcome). x .head .number) sealed in
+    let room : modeCall Encrypt (inGcm c) [] [] zeros zeros .head .size - 16 ≤ length zeros =
+    rw sealed (simp (length-encrypted Gcm (c .rk) [] [] zeros) (omega arith)) in
+    let bytes = below-replicate 256 16 0 (lit< tt) in
+    let back = decryption-takes-back Gcm c c (inl refl) [] [] zeros zeros zeros tt bytes done-there room .number in
+    let p = through Decrypt (inGcm c) [] file zeros zeros back in
+    let asked : Asked c file zeros [] (0 ∷ []) =
+    record { list = refl; checks = one-candidate-passes (c .answer) (c .retired) (length file) k (p .content) } in
+    let first : IsFirst (opensWith c zeros file) [] (0 ∷ []) 0 =
+    record { inside = omega arith; passes = gcm-opens c [] file zeros zeros back; none-before = λ j h. absurd (omega arith) } in
+    let found = first-opens c file zeros [] (0 ∷ []) asked 0 first in
+    let told = claim file zeros [] (0 ∷ []) zeros (p .room) .found (ap (λ (v : Verdict). v .found) found) .inside in
+    absurd (omega (arith, told))
+
+-- Looking at the file's length before the labels' is told by a file of no bytes and one label past the limit, which is 5, with any usable
+-- key: the imposter answers 9.
+module _ (c : Sm4Cipher) (k : c .answer ≡ Key) (n : ℕ) (past : n ≡ limit + 1) where
+  too-long : (labels : List ℕ) → length labels ≡ n → which c [] zeros labels (n ∷ []) .head .number ≡ 5
+  unfolding which badList sum searchCheck keyAndIv anyTooLong
+  too-long labels e = rw (e, past, k)
+
+  short-first : (labels : List ℕ) → fileFirst c [] zeros labels (n ∷ []) .head .number ≡ 9
+  unfolding keyAndIv dataCheck
+  short-first labels = rw k
+
+  told-apart : ¬ ((file iv labels lengths : List ℕ) → fileFirst c file iv labels lengths ≡ which c file iv labels lengths)
+  told-apart claim =
+      let labels : List ℕ = replicate n 0 in
+      let z : _≡_ {A = ℕ} 9 5 =
+      sym (short-first labels) ∙ ap (λ (v : Verdict). v .head .number) (claim [] zeros labels (n ∷ []))
+      ∙ too-long labels (length-replicate n 0) in
+      absurd (omega arith)
+
+pub file-first-contradicts : (c : Sm4Cipher) → c .answer ≡ Key
+    → ¬ ((file iv labels lengths : List ℕ) → fileFirst c file iv labels lengths ≡ which c file iv labels lengths)
+file-first-contradicts c k = told-apart c k (limit + 1) refl

@@ -22,6 +22,7 @@ use Rattle.pieces.specs.declared.ctr.Ctr.{Ctr}
 use Rattle.pieces.specs.declared.seal.Seal.{Seal}
 use Rattle.pieces.specs.Checks.{gcmStarting}
 use Rattle.pieces.specs.Calls.{ctrStart, sealStart, opensStart}
+use Rattle.editions.specs.Which.{which, searchCheck}
 use Rattle.luossavin.specs.declared.key.LuossavinKey.{LuossavinKey}
 use Rattle.luossavin.specs.Key.{cipherIn, hostKeyRetire}
 use Rattle.demands.specs.Retired.{StaysRetired, DecryptsAlike, EncryptsNothing}
@@ -91,17 +92,28 @@ pub exported-stays-retired : (k : LuossavinKey) → k .retired ≢ 0 → hostKey
 exported-stays-retired k = host-marked k (eqb (k .answer) 0) refl
 
 -- Decryption does not look at the mark.
+same : (c : Sm4Cipher) → DecryptsAlike c c
+same c =
+    record {
+      block = λ b o. refl;
+      message = λ mode label s iv o. refl;
+      ctr = λ iv. refl;
+      opens = λ label iv. refl;
+      which = λ file iv labels lengths. refl;
+    }
+
 alike : (c : Sm4Cipher) (a : KeyAnswer) → c .answer ≡ a → DecryptsAlike c (retiredIf a c)
-unfolding blockCall blockCheck modeCall messageCheck keyAndIv ctrStart opensStart gcmStarting
+unfolding blockCall blockCheck modeCall messageCheck keyAndIv ctrStart opensStart gcmStarting which searchCheck
 alike c Key e =
     record {
       block = λ b o. rw e;
       message = λ mode label s iv o. rw e;
       ctr = λ iv. rw e;
       opens = λ label iv. rw e;
+      which = λ file iv labels lengths. rw e;
     }
-alike c NoKey e = record { block = λ b o. refl; message = λ mode label s iv o. refl; ctr = λ iv. refl; opens = λ label iv. refl }
-alike c NoNumber e = record { block = λ b o. refl; message = λ mode label s iv o. refl; ctr = λ iv. refl; opens = λ label iv. refl }
+alike c NoKey e = same c
+alike c NoNumber e = same c
 
 pub retired-decrypts-alike : (c : Sm4Cipher) → DecryptsAlike c (retire c)
 unfolding retire

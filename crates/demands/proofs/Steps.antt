@@ -30,6 +30,7 @@ use Rattle.cipher_mode.specs.Answer.{refusalHead}
 use Rattle.cipher_mode.specs.Key.{keyNumber}
 use Rattle.cipher_mode.specs.Tables.{limit}
 use Rattle.cipher_mode.specs.Checks.{refuse, andThen, keyCheck, wrongIv, retiredCheck, keyAndIv}
+use Rattle.cipher_mode.proofs.Refusals.{not-zero}
 use Rattle.pieces.specs.declared.flow.Counting.the-variants.{Ctr as Ctr·counting, Gcm as Gcm·counting}
 use Rattle.pieces.specs.declared.ctr.Ctr.{Ctr}
 use Rattle.pieces.specs.declared.opens.Opens.{Opens}
@@ -44,7 +45,6 @@ use Rattle.pieces.proofs.KeyStream.{text-length}
 use Rattle.pieces.proofs.Passing.{writing-passed}
 use Rattle.demands.specs.Answered.{Answered}
 use Rattle.demands.specs.Steps.{outcomeOf, ctrKey, sealKey, opensKey, pieceNumbers, StepAnswered, turned, NoCtr, NoSeal, NoOpens}
-use Rattle.demands.proofs.Through.{not-zero}
 use Rattle.demands.proofs.Answering.{refuses, does, refusal-answers, Within, within-refuse, within-cond, within-then, on-key}
 use Rattle.demands.proofs.EveryCallAnswers.{key-and-iv-within, label-within}
 

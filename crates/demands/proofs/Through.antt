@@ -4,7 +4,6 @@ use mathlib.Core.Path.{_≡_, refl, sym, ap}
 use mathlib.Core.Bool.{Bool}
 use mathlib.Core.List.{List}
 use Prim.Native.Nat.{ℕ}
-use native.Mathlib.Omega.{arith}
 use lib.ListN.{length}
 use lib.Seq.{take-append-seam}
 use borrow.Author.Tests.{eq-eqb, le-ltb}
@@ -12,21 +11,18 @@ use Rattle.walk.specs.Outcome.{Outcome, keyed, refused, done}
 use Rattle.cipher_mode.specs.declared.KeyAnswer.{KeyAnswer}
 use Rattle.cipher_mode.specs.declared.CipherMode.{CipherMode}
 use Rattle.cipher_mode.specs.declared.Direction.{Direction}
-use Rattle.cipher_mode.specs.declared.answer.Refusal.{Refusal}
-use Rattle.cipher_mode.specs.declared.answer.Refusal.the-variants.{ErrorBlockSize, ErrorDataLen, InvalidLastU8, InvalidTag, TooLong, NoRoom}
-use Rattle.cipher_mode.specs.declared.answer.Refusal.the-variants.{EmptyCbc, ShortGcm, WrongIv, WrongBlock, Ended, WrongNumber, Retired, InvalidPadding}
 use Rattle.cipher_mode.specs.declared.checks.Checked.{Checked}
 use Rattle.cipher_mode.specs.declared.checks.Checked.the-variants.{Passed, Refused}
 use Rattle.cipher_mode.specs.declared.checks.Lengths.{Lengths}
 use Rattle.cipher_mode.specs.declared.Sm4Cipher.{Sm4Cipher}
 use Rattle.cipher_mode.specs.declared.Sm4CipherMode.{Sm4CipherMode}
-use Rattle.cipher_mode.specs.Answer.{refusalHead}
 use Rattle.cipher_mode.specs.Key.{keyNumber}
 use Rattle.cipher_mode.specs.Tables.{roomOf}
 use Rattle.cipher_mode.specs.Checks.{keyAndIv, roomCheck, blockCheck, messageCheck, checked}
 use Rattle.cipher_mode.specs.Calls.{blockOf, blockCall, modeResult, lengthsOf, modeCall}
 use Rattle.cipher_mode.proofs.Passed.{InOrder, BlockInOrder, message-passed, block-passed}
 use Rattle.cipher_mode.proofs.Ends.{went-on}
+use Rattle.cipher_mode.proofs.Refusals.{not-zero}
 use Rattle.pieces.specs.Calls.{begun}
 use Rattle.demands.specs.Call.{result, RefusedAs}
 
@@ -42,23 +38,6 @@ refused-as k n o x e =
       missing = ap (λ (y : Outcome). y .head .missing) e;
       bytes = ap (λ (y : Outcome). y .bytes) e;
     }
-
--- no refusal has the number 0
-pub not-zero : (r : Refusal) → refusalHead r .number ≡ 0 → ⊥
-not-zero ErrorBlockSize e = omega arith
-not-zero ErrorDataLen e = omega arith
-not-zero InvalidLastU8 e = omega arith
-not-zero InvalidTag e = omega arith
-not-zero TooLong e = omega arith
-not-zero NoRoom e = omega arith
-not-zero EmptyCbc e = omega arith
-not-zero (ShortGcm n) e = omega arith
-not-zero WrongIv e = omega arith
-not-zero WrongBlock e = omega arith
-not-zero Ended e = omega arith
-not-zero WrongNumber e = omega arith
-not-zero Retired e = omega arith
-not-zero InvalidPadding e = omega arith
 
 zero-passed : (k : Checked) (o : List ℕ) (next : Outcome) → checked k o next .head .number ≡ 0 → k ≡ Passed
 zero-passed Passed o next e = refl

@@ -7,6 +7,7 @@ use Prim.Native.Nat.{ℕ, _+_, _-_, _*_, _/_, _≤_, _<_}
 use lib.Dec.{eqb}
 use lib.ListN.{length, drop}
 use Rattle.walk.specs.Outcome.{Outcome, finished, refusal}
+use Rattle.cipher.specs.Sm4.{roundKeys}
 use Rattle.cbc.specs.Open.{lastByte, cbcText}
 use Rattle.cipher_mode.specs.declared.CipherMode.{CipherMode}
 use Rattle.cipher_mode.specs.declared.CipherMode.the-variants.{Cfb, Ofb, Ctr, Cbc, Gcm}
@@ -44,7 +45,7 @@ pub record Answered (numbers : List ℕ) (k : ℕ) (o : List ℕ) (n : ℕ) (x :
 
 -- c is the record that setting up the key with the number n gives: it lends no output, and reports length 0, done or refused
 pub record KeyAnswered (key : List ℕ) (n : ℕ) (c : Sm4Cipher) : Type 0 where
-  pub done : length key ≡ 16 → 1 ≤ n → n ≤ 65535 → (keyHead (c .answer) ≡ finished 0) × (keyNumber c ≡ n)
+  pub done : length key ≡ 16 → 1 ≤ n → n ≤ 65535 → (keyHead (c .answer) ≡ finished 0) × (keyNumber c ≡ n) × (c .rk ≡ roundKeys key)
   pub refused : length key ≢ 16 → keyHead (c .answer) ≡ refusal 1
   pub out-of-range : length key ≡ 16 → (n ≡ 0) ⊎ (65535 < n) → keyHead (c .answer) ≡ refusal 13
   -- a record set up anew is unretired

@@ -1,17 +1,23 @@
--- Calls that look like encryption, decryption, setting up a key or retiring one to a careless test, and are not.
+-- Calls that look like encryption, decryption, setting up a key, retiring one or asking for a file's label to a careless test, and are
+-- not.
 use mathlib.Core.Bool.{true, false}
 use mathlib.Core.List.{List, _++_}
-use Prim.Native.Nat.{ℕ}
+use Prim.Native.Nat.{ℕ, _+_}
 use lib.ListN.{length, take, drop, replicate}
 use Rattle.cipher.specs.Sm4.{roundKeys}
 use Rattle.walk.specs.Outcome.{Outcome, refused, done}
 use Rattle.cipher_mode.specs.declared.KeyAnswer.the-variants.{Key, ErrorBlockSize}
-use Rattle.cipher_mode.specs.declared.CipherMode.the-variants.{Ctr}
-use Rattle.cipher_mode.specs.declared.Direction.the-variants.{Encrypt}
+use Rattle.cipher_mode.specs.declared.CipherMode.the-variants.{Ctr, Gcm}
+use Rattle.cipher_mode.specs.declared.Direction.the-variants.{Encrypt, Decrypt}
+use Rattle.cipher_mode.specs.declared.answer.Refusal.the-variants.{TooLong}
+use Rattle.cipher_mode.specs.declared.checks.Checked.the-variants.{Passed}
 use Rattle.cipher_mode.specs.declared.Sm4Cipher.{Sm4Cipher}
 use Rattle.cipher_mode.specs.declared.Sm4CipherMode.{Sm4CipherMode}
-use Rattle.cipher_mode.specs.Key.{newCipher, newCipherMode}
+use Rattle.cipher_mode.specs.Key.{keyNumber, newCipher, newCipherMode}
+use Rattle.cipher_mode.specs.Checks.{refuse, andThen, keyAndIv, dataCheck}
 use Rattle.cipher_mode.specs.Calls.{modeCall}
+use Rattle.editions.specs.Candidates.{anyTooLong}
+use Rattle.editions.specs.Which.{Verdict, onKey, firstOpening, checkedVerdict, opensWith, which}
 use Rattle.demands.specs.Call.{Call, result}
 
 -- refuses everything
@@ -54,7 +60,22 @@ copiesAnew c = record { rk = c .rk; answer = c .answer; number = c .number; reti
 abbrev pub throwsAway : Sm4Cipher → Sm4Cipher
 throwsAway c = record { rk = c .rk; answer = ErrorBlockSize; number = c .number; retired = true }
 
--- what they are held against: encryption in Ctr under the key of number 1, and the IV, of sixteen zero bytes
+-- asks which label a file opens under, and counts the places from 1
+abbrev pub countsFromOne : Sm4Cipher → List ℕ → List ℕ → List ℕ → List ℕ → Verdict
+countsFromOne c file iv labels lengths =
+    let v = which c file iv labels lengths in
+    record { head = v .head; found = v .found; place = v .place + 1; start = v .start; size = v .size }
+
+-- asks it, and looks at the file's length before the labels'
+abbrev pub fileFirst : Sm4Cipher → List ℕ → List ℕ → List ℕ → List ℕ → Verdict
+fileFirst c file iv labels lengths =
+    onKey (keyNumber c)
+    (checkedVerdict
+    (andThen (keyAndIv (c .answer) (c .retired) Decrypt Gcm (length iv))
+    (andThen (dataCheck Decrypt Gcm (length file)) (refuse (anyTooLong lengths) TooLong Passed)))
+    (firstOpening (opensWith c iv file) labels lengths 0 0))
+
+-- what the others are held against: encryption in Ctr under the key of number 1, and the IV, of sixteen zero bytes
 abbrev pub zeros : List ℕ
 zeros = replicate 16 0
 

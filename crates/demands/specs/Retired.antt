@@ -9,6 +9,7 @@ use Rattle.cipher_mode.specs.declared.Direction.the-variants.{Encrypt, Decrypt}
 use Rattle.cipher_mode.specs.declared.Sm4Cipher.{Sm4Cipher}
 use Rattle.cipher_mode.specs.Calls.{blockCall, modeCall}
 use Rattle.pieces.specs.Calls.{ctrStart, sealStart, opensStart}
+use Rattle.editions.specs.Which.{which as asks}
 
 -- a retired record does not come back unretired
 abbrev pub StaysRetired : (Sm4Cipher → Sm4Cipher) → Type 0
@@ -21,6 +22,7 @@ pub record DecryptsAlike (c d : Sm4Cipher) : Type 0 where
       → modeCall Decrypt (record { cipher = d; mode = mode }) label s iv o ≡ modeCall Decrypt (record { cipher = c; mode = mode }) label s iv o
   pub ctr : (iv : List ℕ) → ctrStart Decrypt d iv ≡ ctrStart Decrypt c iv
   pub opens : (label iv : List ℕ) → opensStart d label iv ≡ opensStart c label iv
+  pub which : (file iv labels lengths : List ℕ) → asks d file iv labels lengths ≡ asks c file iv labels lengths
 
 -- nothing is encrypted under the record
 pub record EncryptsNothing (c : Sm4Cipher) : Type 0 where

@@ -7,7 +7,7 @@ use mathlib.Core.List.{List, [], _∷_}
 use Prim.Native.Nat.{ℕ, zero, suc, _+_, _≤_, _<_}
 use native.Mathlib.Omega.{arith}
 use lib.ListN.{length, getD, take, drop}
-use Rattle.walk.specs.Outcome.{Head, finished, refusal}
+use Rattle.walk.specs.Outcome.{finished, refusal}
 use Rattle.cipher_mode.specs.declared.Sm4Cipher.{Sm4Cipher}
 use Rattle.cipher_mode.specs.declared.checks.Checked.{Checked}
 use Rattle.cipher_mode.specs.declared.checks.Checked.the-variants.{Passed, Refused}
@@ -17,8 +17,8 @@ use Rattle.editions.specs.Which.{Verdict, noneWith, onKey, firstOpening,
 use Rattle.editions.proofs.Passed.{at-most-64, adds-up}
 use Rattle.editions.proofs.Turns.{sum-turn}
 use Rattle.editions.proofs.Parts.{part-inside}
-use Rattle.editions.proofs.Numbers.{search-went-on}
-use Rattle.editions.proofs.FirstOpening.{IsFirst, NonePasses, candidate, first-is-found, none-is-found, found-is-first, found-is-none, search-number}
+use Rattle.editions.proofs.Numbers.{zero-passed}
+use Rattle.editions.proofs.FirstOpening.{IsFirst, NonePasses, candidate, first-is-found, none-is-found, found-is-first, found-is-none}
 
 sum-cut : (ns : List ℕ) (i : ℕ) → sum (take i ns) + sum (drop i ns) ≡ sum ns
 unfolding sum
@@ -92,11 +92,7 @@ module _ (c : Sm4Cipher) (file iv labels lengths : List ℕ) where
   unfolding which
   done-asked e =
       let nothing = done-told (badList labels lengths) stage e in
-      let searched = ap (λ (h : Head). h .number) (search-number (opensWith c iv file) labels lengths) in
-      record {
-        list = nothing .0;
-        checks = search-went-on search searched (c .answer) (c .retired) (length iv) (length file) lengths (nothing .1);
-      }
+      record { list = nothing .0; checks = zero-passed stage search (nothing .1) }
 
   part-of : (i : ℕ) → i < length lengths → badList labels lengths ≡ false
       → partOf (onKey (keyNumber c) (candidate lengths i)) labels ≡ labelAt labels lengths i
