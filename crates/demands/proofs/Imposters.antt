@@ -22,6 +22,7 @@ use Rattle.cipher_mode.specs.declared.Direction.the-variants.{Encrypt, Decrypt}
 use Rattle.cipher_mode.specs.declared.KeyAnswer.{KeyAnswer}
 use Rattle.cipher_mode.specs.declared.KeyAnswer.the-variants.{Key}
 use Rattle.cipher_mode.specs.declared.Sm4Cipher.{Sm4Cipher}
+use Rattle.cipher_mode.specs.declared.checks.Checked.the-variants.{Passed}
 use Rattle.cipher_mode.specs.declared.Sm4CipherMode.{Sm4CipherMode}
 use Rattle.cipher_mode.specs.Key.{newCipher, keyNumber, newCipherMode}
 use Rattle.cipher_mode.specs.Tables.{limit}
@@ -147,7 +148,7 @@ invented-length-breaks-the-table claim =
 pub forgotten-number-is-told : ¬ ((key : List ℕ) (n : ℕ) → KeyAnswered key n (forgetsNumber key n))
 unfolding newCipher
 forgotten-number-is-told claim =
-    let z : _≡_ {A = ℕ} 1 2 = claim zeros 2 .done refl (omega arith) (omega arith) .1 .0 in absurd (omega arith)
+    let z : _≡_ {A = ℕ} 1 2 = claim zeros 2 .done refl (omega arith) (omega arith) .1 in absurd (omega arith)
 
 -- Taking any number breaks it at sixteen zero bytes and the number 0, which is 13.
 pub any-number-is-told : ¬ ((key : List ℕ) (n : ℕ) → KeyAnswered key n (takesAnyNumber key n))
@@ -169,12 +170,18 @@ thrown-away-opens-nothing claim =
     let z : _≡_ {A = ℕ} 1 10 = ap (λ (x : Outcome). x .head .number) (claim (newCipher zeros 1) .message Ctr [] [] [] []) in
     absurd (omega arith)
 
+-- one empty candidate and sixteen bytes of IV: what is left to pass is the file
+one-candidate-passes : (a : KeyAnswer) (retired : Bool) (file : ℕ) → a ≡ Key → dataCheck Decrypt Gcm file ≡ Passed
+    → searchCheck a retired 16 file (0 ∷ []) ≡ Passed
+unfolding searchCheck keyAndIv anyTooLong
+one-candidate-passes a retired file k e = rw (k, e)
+
 -- Counting places from 1 is told by the empty message, sealed under the empty label with any usable and unretired key: it opens under the
 -- only candidate, which is at place 0.
 pub counting-from-one-is-told : (c : Sm4Cipher) → c .answer ≡ Key → c .retired ≡ false
     → ¬ ((file iv labels lengths o : List ℕ) → length file - 16 ≤ length o
     → Tells (modeCall Decrypt (inGcm c)) file iv labels lengths o (countsFromOne c file iv labels lengths))
-unfolding searchCheck keyAndIv labelAt badList sum anyTooLong
+unfolding labelAt badList sum
 counting-from-one-is-told c k u claim =
     let file = result (modeCall Encrypt (inGcm c) [] [] zeros zeros) in
     let sealed : modeCall Encrypt (inGcm c) [] [] zeros zeros ≡ keyed (keyNumber c) (done (encrypted Gcm (c .rk) [] [] zeros) zeros) =
@@ -186,7 +193,8 @@ counting-from-one-is-told c k u claim =
     let bytes = below-replicate 256 16 0 (lit< tt) in
     let back = decryption-takes-back Gcm c c (inl refl) [] [] zeros zeros zeros tt bytes done-there room .number in
     let p = through Decrypt (inGcm c) [] file zeros zeros back in
-    let asked : Asked c file zeros [] (0 ∷ []) = record { list = refl; checks = rw (k, p .content) } in
+    let asked : Asked c file zeros [] (0 ∷ []) =
+    record { list = refl; checks = one-candidate-passes (c .answer) (c .retired) (length file) k (p .content) } in
     let first : IsFirst (opensWith c zeros file) [] (0 ∷ []) 0 =
     record { inside = omega arith; passes = gcm-opens c [] file zeros zeros back; none-before = λ j h. absurd (omega arith) } in
     let found = first-opens c file zeros [] (0 ∷ []) asked 0 first in
@@ -195,20 +203,23 @@ counting-from-one-is-told c k u claim =
 
 -- Looking at the file's length before the labels' is told by a file of no bytes and one label past the limit, which is 5, with any usable
 -- key: the imposter answers 9.
-too-long-first : (c : Sm4Cipher) → c .answer ≡ Key → (labels : List ℕ) → length labels ≡ limit + 1
-    → which c [] zeros labels (limit + 1 ∷ []) .head .number ≡ 5
-unfolding which badList sum searchCheck keyAndIv anyTooLong
-too-long-first c k labels e = rw (e, k)
+module _ (c : Sm4Cipher) (k : c .answer ≡ Key) (n : ℕ) (past : n ≡ limit + 1) where
+  too-long : (labels : List ℕ) → length labels ≡ n → which c [] zeros labels (n ∷ []) .head .number ≡ 5
+  unfolding which badList sum searchCheck keyAndIv anyTooLong
+  too-long labels e = rw (e, past, k)
 
-short-first : (c : Sm4Cipher) → c .answer ≡ Key → (labels : List ℕ) → fileFirst c [] zeros labels (limit + 1 ∷ []) .head .number ≡ 9
-unfolding keyAndIv dataCheck
-short-first c k labels = rw k
+  short-first : (labels : List ℕ) → fileFirst c [] zeros labels (n ∷ []) .head .number ≡ 9
+  unfolding keyAndIv dataCheck
+  short-first labels = rw k
+
+  told-apart : ¬ ((file iv labels lengths : List ℕ) → fileFirst c file iv labels lengths ≡ which c file iv labels lengths)
+  told-apart claim =
+      let labels : List ℕ = replicate n 0 in
+      let z : _≡_ {A = ℕ} 9 5 =
+      sym (short-first labels) ∙ ap (λ (v : Verdict). v .head .number) (claim [] zeros labels (n ∷ []))
+      ∙ too-long labels (length-replicate n 0) in
+      absurd (omega arith)
 
 pub file-first-contradicts : (c : Sm4Cipher) → c .answer ≡ Key
     → ¬ ((file iv labels lengths : List ℕ) → fileFirst c file iv labels lengths ≡ which c file iv labels lengths)
-file-first-contradicts c k claim =
-    let labels = replicate (limit + 1) 0 in
-    let z : _≡_ {A = ℕ} 9 5 =
-    sym (short-first c k labels) ∙ ap (λ (v : Verdict). v .head .number) (claim [] zeros labels (limit + 1 ∷ []))
-    ∙ too-long-first c k labels (length-replicate (limit + 1) 0) in
-    absurd (omega arith)
+file-first-contradicts c k = told-apart c k (limit + 1) refl
