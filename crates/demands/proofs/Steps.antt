@@ -30,7 +30,7 @@ use Rattle.cipher_mode.specs.Answer.{refusalHead}
 use Rattle.cipher_mode.specs.Key.{keyNumber}
 use Rattle.cipher_mode.specs.Tables.{limit}
 use Rattle.cipher_mode.specs.Checks.{refuse, andThen, keyCheck, wrongIv, retiredCheck, keyAndIv}
-use Rattle.cipher_mode.proofs.Refusals.{not-zero}
+use Rattle.cipher_mode.proofs.Refusals.{refuses}
 use Rattle.pieces.specs.declared.flow.Counting.the-variants.{Ctr as Ctr·counting, Gcm as Gcm·counting}
 use Rattle.pieces.specs.declared.ctr.Ctr.{Ctr}
 use Rattle.pieces.specs.declared.opens.Opens.{Opens}
@@ -362,7 +362,7 @@ opens-refused-start c label iv n =
 ended-state : (S : Type 0) (k : Checked) (o : List ℕ) (s : S) (next : Stepped S) → goesOn S k o s next .head .number ≡ 0
     → goesOn S k o s next .state ≡ next .state
 ended-state S Passed o s next e = refl
-ended-state S (Refused r) o s next e = absurd (not-zero r e)
+ended-state S (Refused r) o s next e = absurd (refuses r .not-zero e)
 
 twelve : shut-mark ended
 unfolding shut-mark
