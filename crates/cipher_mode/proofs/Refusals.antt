@@ -1,6 +1,6 @@
 -- Every refusal has a number that is not 0, reports length 0, and says nothing of a counter.
 -- Assumes nothing.
-use mathlib.Core.Path.{_≡_, refl}
+use mathlib.Core.Path.{_≡_, refl, sym, ap}
 use mathlib.Core.Logic.{_≢_}
 use Prim.Native.Nat.{ℕ, _<_}
 use native.Mathlib.Omega.{arith}
@@ -38,7 +38,11 @@ refuses WrongNumber = by-number 13 (omega arith)
 refuses Retired = by-number 14 (omega arith)
 refuses InvalidPadding = by-number 15 (omega arith)
 
+-- a report that says this of a counter
+abbrev silenced : Head → ℕ → Head
+silenced h c = record { number = h .number; size = h .size; missing = h .missing; cameRound = c; key = h .key }
+
 -- so no ending says anything of a counter by itself
 pub quiet-ending : (e : Ending) → telling false (endingHead e) ≡ endingHead e
 quiet-ending (Done n) = refl
-quiet-ending (Refused r) = rw (refuses r .no-round)
+quiet-ending (Refused r) = ap {B = Head} (silenced (refusalHead r)) (sym (refuses r .no-round))

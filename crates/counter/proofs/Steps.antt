@@ -12,7 +12,7 @@ use Rattle.block.specs.Wide.{whole}
 use Rattle.block.specs.Words.{words, unwords}
 use Rattle.block.proofs.Convert.{numberOf-bytesOf, numberOf-lt}
 use Rattle.block.proofs.WordsBack.{unwords-number, unwords-bytes, length-unwords}
-use Rattle.counter.specs.Counter.{ctrNext, ctrPasses, gcmNext, gcmPasses}
+use Rattle.counter.specs.Counter.{lastFour, ctrNext, ctrPasses, gcmNext, gcmPasses}
 use Rattle.counter.proofs.Round.{zero-tells, no-bit}
 
 -- Ctr's step over the number of four words
@@ -31,6 +31,10 @@ ctr-words-pass x high low e =
 -- GCM's step over the last of four words
 last-word : (x : List ℕ) → getD x 3 0 < 2 ^ 32 → numberOf (bytesOf 4 (getD x 3 0)) ≡ getD x 3 0
 last-word x h = numberOf-bytesOf 4 (getD x 3 0) ∙ mod-eq-of-lt h
+
+pub last-four : (x : List ℕ) → getD x 3 0 < 2 ^ 32 → lastFour (unwords x) ≡ getD x 3 0
+unfolding unwords bytesOf
+last-four x h = last-word x h
 
 pub gcm-words : (x : List ℕ) (w : ℕ) → getD x 3 0 < 2 ^ 32 → w ≡ (getD x 3 0 + 1) % 2 ^ 32
     → unwords (getD x 0 0 ∷ getD x 1 0 ∷ getD x 2 0 ∷ w ∷ []) ≡ gcmNext (unwords x)
