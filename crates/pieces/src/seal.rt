@@ -73,9 +73,10 @@ pub fn start(cipher: Sm4Cipher, aad: &[u8], iv: &[u8]) -> SealStep
     let j0 = begun.j0;
     let hashing = begun.hashing;
     let mask = begun.mask;
+    let first = counter::gcm_block_add_one(j0).counter;
     let state = Seal {
         rk,
-        flow: flow::begin(&t, rk, counter::gcm_block_add_one(j0)),
+        flow: flow::begin(&t, rk, first),
         hashing,
         mask,
         label: aad.len(),
