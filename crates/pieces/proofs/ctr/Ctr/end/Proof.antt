@@ -7,6 +7,7 @@ use mathlib.Core.List.{List, []}
 use Prim.Native.Nat.{ℕ}
 use mir.Val.{Fits}
 use mir.Syntax.{w8}
+use native.Mathlib.Omega.{arith}
 use lib.ListN.{length, getD}
 use Rattle.counter.specs.CameRound.{blocksOf, ctrCameRound}
 use Rattle.walk.specs.Outcome.{Head, finished, under, telling}
@@ -31,6 +32,9 @@ first-length s = search needs
 first-fits : (s : tie.Start) (i : ℕ) → Fits w8 (getD (s .args .self .first) i 0)
 first-fits s i = search needs
 
+split-block-requires : tie.Need-split-block-requires
+split-block-requires c κs = let n = first-length (c .before .before .before .before .before) in omega arith
+
 returns-2 : tie.Need-returns-2
 unfolding ctrEnd
 returns-2 c =
@@ -52,4 +56,4 @@ end-spec =
     tie.close
     (tie.spec
     (λ c κs. search needs) (λ c. search needs) (λ c κs. search needs) returns (λ c. search needs) (λ c. search needs)
-    (λ c κs. search needs) (λ c κs. search needs) (λ c κs. search needs) (λ c κs. search needs) returns-2)
+    split-block-requires (λ c κs. search needs) (λ c κs. search needs) (λ c κs. search needs) returns-2)
