@@ -15,7 +15,7 @@ use Rattle.block.specs.BigEndian.{numberOf, bytesOf}
 use Rattle.cipher.specs.Sm4.{roundKeys}
 use Rattle.counter.specs.Counter.{ctrNext}
 use Rattle.walk.specs.Walk.{walk, chain}
-use Rattle.walk.specs.Outcome.{Head, Outcome, keyed, done}
+use Rattle.walk.specs.Outcome.{Head, Outcome, keyed, reporting, done}
 use Rattle.cipher_mode.specs.declared.CipherMode.{CipherMode}
 use Rattle.cipher_mode.specs.declared.CipherMode.the-variants.{Cfb, Ofb, Ctr, Cbc, Gcm}
 use Rattle.cipher_mode.specs.declared.Direction.the-variants.{Encrypt, Decrypt}
@@ -34,6 +34,7 @@ use Rattle.editions.specs.Which.{Verdict, searchCheck, opensWith, which}
 use Rattle.editions.proofs.FirstOpening.{IsFirst}
 use Rattle.editions.proofs.WhichOpens.{Asked, first-opens}
 use Rattle.demands.specs.Call.{Call, result, inGcm}
+use Rattle.demands.specs.CameRound.{roundOf}
 use Rattle.demands.specs.Answered.{singleNumbers, Answered, KeyAnswered, lengthOf}
 use Rattle.demands.specs.Served.{Asks, Served}
 use Rattle.demands.specs.ThereAndBack.{ThereAndBack}
@@ -86,9 +87,13 @@ refusing-all-breaks-demand-2 m k u room back =
 
 -- The others are held against encryption in Ctr under the key and the IV of sixteen zero bytes.
 
--- what Ctr leaves under the zero key, given room
+-- what Ctr leaves of d under the zero key and IV, where p is the result
+abbrev left : List ℕ → List ℕ → List ℕ → Outcome
+left d p o = keyed 1 (reporting (roundOf Ctr Encrypt (roundKeys zeros) zeros (length d)) (done p o))
+
+-- and it leaves that, given room
 ctr-leaves : (d o : List ℕ) → length d ≤ limit → length d ≤ length o
-    → modeCall Encrypt zeroKey [] d zeros o ≡ keyed 1 (done (encrypted Ctr (roundKeys zeros) [] d zeros) o)
+    → modeCall Encrypt zeroKey [] d zeros o ≡ left d (encrypted Ctr (roundKeys zeros) [] d zeros) o
 unfolding newCipherMode newCipher dataCheck
 ctr-leaves d o l r =
     leaves Encrypt zeroKey [] d zeros o
@@ -113,15 +118,16 @@ pub constant-contradicts : (x : Outcome) → constant x [] (0 ∷ []) zeros (0 �
     → constant x [] (1 ∷ []) zeros (0 ∷ []) ≢ modeCall Encrypt zeroKey [] (1 ∷ []) zeros (0 ∷ [])
 constant-contradicts x e f =
     let o : List ℕ = 0 ∷ [] in
-    let g = ctr-leaves (0 ∷ []) o (omega arith) (omega arith) ∙ ap {B = Outcome} (λ (p : List ℕ). keyed 1 (done p o)) one-byte in
-    let h = ctr-leaves (1 ∷ []) o (omega arith) (omega arith) ∙ ap {B = Outcome} (λ (p : List ℕ). keyed 1 (done p o)) another-byte in
+    let g = ctr-leaves (0 ∷ []) o (omega arith) (omega arith) ∙ ap {B = Outcome} (λ (p : List ℕ). left (0 ∷ []) p o) one-byte in
+    let h = ctr-leaves (1 ∷ []) o (omega arith) (omega arith) ∙ ap {B = Outcome} (λ (p : List ℕ). left (1 ∷ []) p o) another-byte in
     let z : _≡_ {A = ℕ} 0x9f 0x9e = ap (λ (y : Outcome). getD (y .bytes) 0 0) (sym (e ∙ g) ∙ f ∙ h) in
     absurd (omega arith)
 
 -- A copy is wrong at one zero byte, which becomes 9f. (Of no data there is no other result.)
 pub copy-contradicts : copies [] (0 ∷ []) zeros (0 ∷ []) ≢ modeCall Encrypt zeroKey [] (0 ∷ []) zeros (0 ∷ [])
 copy-contradicts e =
-    let f = ctr-leaves (0 ∷ []) (0 ∷ []) (omega arith) (omega arith) ∙ ap {B = Outcome} (λ (p : List ℕ). keyed 1 (done p (0 ∷ []))) one-byte in
+    let o : List ℕ = 0 ∷ [] in
+    let f = ctr-leaves o o (omega arith) (omega arith) ∙ ap {B = Outcome} (λ (p : List ℕ). left o p o) one-byte in
     let g : _≡_ {A = ℕ} 0 0x9f = ap (λ (x : Outcome). getD (x .bytes) 0 0) (e ∙ f) in
     absurd (omega arith)
 
@@ -131,7 +137,7 @@ pub first-block-only-contradicts :
     firstBlockOnly zeroKey [] (replicate 17 0) zeros (replicate 17 0) ≢ modeCall Encrypt zeroKey [] (replicate 17 0) zeros (replicate 17 0)
 first-block-only-contradicts e =
     let d : List ℕ = replicate 17 0 in
-    let g = ctr-leaves d d (omega arith) (omega arith) ∙ ap {B = Outcome} (λ (p : List ℕ). keyed 1 (done p d)) seventeen-bytes in
+    let g = ctr-leaves d d (omega arith) (omega arith) ∙ ap {B = Outcome} (λ (p : List ℕ). left d p d) seventeen-bytes in
     let f = ap {B = Outcome} (λ (x : Outcome). done (take 16 (result x) ++ drop 16 d) d) g in
     let z : _≡_ {A = ℕ} 0 0x23 = ap (λ (x : Outcome). getD (x .bytes) 16 0) (sym f ∙ e ∙ g) in
     absurd (omega arith)
@@ -184,7 +190,8 @@ pub counting-from-one-is-told : (c : Sm4Cipher) → c .answer ≡ Key → c .ret
 unfolding labelAt badList sum
 counting-from-one-is-told c k u claim =
     let file = result (modeCall Encrypt (inGcm c) [] [] zeros zeros) in
-    let sealed : modeCall Encrypt (inGcm c) [] [] zeros zeros ≡ keyed (keyNumber c) (done (encrypted Gcm (c .rk) [] [] zeros) zeros) =
+    let sealed : modeCall Encrypt (inGcm c) [] [] zeros zeros
+    ≡ keyed (keyNumber c) (reporting (roundOf Gcm Encrypt (c .rk) zeros 0) (done (encrypted Gcm (c .rk) [] [] zeros) zeros)) =
     leaves Encrypt (inGcm c) [] [] zeros zeros (nothing-in-order (c .answer) (c .retired) k u Gcm)
     ∙ ap {B = Outcome} (keyed (keyNumber c)) (encrypts Gcm (c .rk) [] [] zeros zeros) in
     let done-there : modeCall Encrypt (inGcm c) [] [] zeros zeros .head .number ≡ 0 = ap (λ (x : Outcome). x .head .number) sealed in

@@ -29,6 +29,7 @@ use Rattle.luossavin.specs.Key.{keyAnswerOf, cipherIn}
 use Rattle.luossavin.specs.Host.{modeOf, modeIn, hostBlockCall, hostModeCall}
 use Rattle.demands.specs.Call.{Call, single}
 use Rattle.demands.specs.ThereAndBack.{AtAnyTime, HostAtAnyTime}
+use Rattle.demands.specs.CameRound.{roundOf}
 use Rattle.demands.specs.Served.{Serves, Asks, Served, BlockServed}
 use Rattle.demands.proofs.Through.{block-leaves, leaves}
 use Rattle.demands.proofs.ModesBack.{encrypted, encrypts, length-encrypted}
@@ -77,7 +78,7 @@ module _ (mode : CipherMode) (c : Sm4Cipher) (k : c .answer ≡ Key) (u : c .ret
 
   seals : (label d iv o : List ℕ) → Asks mode label d iv o → Serves (roomOf mode Encrypt (length d)) (modeCall Encrypt m label d iv o)
   seals label d iv o a =
-      serves (encrypted mode (c .rk) label d iv) o _ (keyNumber c) _ _
+      serves (encrypted mode (c .rk) label d iv) o _ (keyNumber c) (roundOf mode Encrypt (c .rk) iv (length d)) _
       (leaves Encrypt m label d iv o (asks-in-order m k u label d iv o a)
       ∙ ap {B = Outcome} (keyed (keyNumber c)) (encrypts mode (c .rk) label d iv o))
       (length-encrypted mode (c .rk) label d iv)

@@ -7,6 +7,7 @@ use mathlib.Core.List.{List}
 use Prim.Native.Nat.{ℕ}
 use native.Mathlib.Omega.{arith}
 use lib.Dec.{ltb}
+use lib.ListN.{length}
 use Rattle.cipher.proofs.Blocks.{block-decrypt-encrypt, block-encrypt-decrypt}
 use Rattle.walk.specs.Outcome.{Outcome, keyed, reporting, done, refuse}
 use Rattle.cipher_mode.specs.declared.KeyAnswer.{KeyAnswer}
@@ -81,7 +82,8 @@ decryption-takes-back mode c later t label d iv o o′ db ib e r =
       content = k .content;
       room = rw x at r;
     } in
-    returns (modeCall Decrypt n) label text d iv o o′ (keyNumber c) (keyNumber later) _ _ _ x
+    returns (modeCall Decrypt n) label text d iv o o′ (keyNumber c) (keyNumber later) (roundOf mode Encrypt rk iv (length d))
+    (roundOf mode Decrypt rk iv (length text)) _ x
     (leaves Decrypt n label text iv o′ q
     ∙ ap {B = Outcome} (λ (rk : List ℕ). keyed (keyNumber later) (modeResult mode Decrypt rk label text iv o′)) (s .keys)
     ∙ ap {B = Outcome} (keyed (keyNumber later)) (k .opened o′))
@@ -113,7 +115,8 @@ encryption-takes-back mode c later t u label text iv o o′ cb ib e r =
       content = k .content;
       room = rw x at (r .1);
     } in
-    returns (modeCall Encrypt m) label d text iv o o′ (keyNumber later) (keyNumber c) _ _ _ x
+    returns (modeCall Encrypt m) label d text iv o o′ (keyNumber later) (keyNumber c) (roundOf mode Decrypt rk iv (length text))
+    (roundOf mode Encrypt rk iv (length d)) _ x
     (leaves Encrypt m label d iv o′ q
     ∙ ap {B = Outcome} (keyed (keyNumber c))
     (encrypts mode rk label d iv o′

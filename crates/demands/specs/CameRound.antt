@@ -1,12 +1,13 @@
 -- What an answer says of a counter, as a property of any report: document 02's formula where it is done, and no where it is refused.
 use mathlib.Core.Path.{_≡_}
 use mathlib.Core.Logic.{_≢_}
-use mathlib.Core.Bool.{Bool, false, cond}
+use mathlib.Core.Bool.{Bool, false, _&&_, cond}
 use mathlib.Core.List.{List}
 use Prim.Native.Nat.{ℕ, _-_}
+use lib.Dec.{eqb}
 use Rattle.counter.specs.Counter.{lastFour}
 use Rattle.counter.specs.CameRound.{blocksOf, ctrCameRound, gcmCameRound}
-use Rattle.walk.specs.Outcome.{Head}
+use Rattle.walk.specs.Outcome.{Head, telling}
 use Rattle.gcm.specs.Gcm.{J0}
 use Rattle.cipher_mode.specs.declared.CipherMode.{CipherMode}
 use Rattle.cipher_mode.specs.declared.CipherMode.the-variants.{Cfb, Ofb, Ctr, Cbc, Gcm}
@@ -26,3 +27,7 @@ roundOf Gcm Decrypt rk iv n = gcmCameRound (lastFour (J0 rk iv)) (blocksOf (n - 
 pub record Says (b : Bool) (h : Head) : Type 0 where
   pub done : h .number ≡ 0 → h .cameRound ≡ cond b 1 0
   pub refused : h .number ≢ 0 → h .cameRound ≡ 0
+
+-- the report h where it says b if it is done
+abbrev pub tellingDone : Bool → Head → Head
+tellingDone b h = telling (eqb (h .number) 0 && b) h

@@ -40,7 +40,7 @@ firstBlockOnly m label d iv o = done (take 16 (result (modeCall Encrypt m label 
 abbrev pub inventsLength : Sm4CipherMode → Call
 inventsLength m label d iv o =
     record {
-      head = record { number = modeCall Encrypt m label d iv o .head .number; size = length o; missing = 0; key = 1 };
+      head = record { number = modeCall Encrypt m label d iv o .head .number; size = length o; missing = 0; cameRound = 0; key = 1 };
       bytes = modeCall Encrypt m label d iv o .bytes;
     }
 
