@@ -14,6 +14,7 @@ use Rattle.block.proofs.Entries.{below-replicate}
 use Rattle.block.specs.BigEndian.{numberOf, bytesOf}
 use Rattle.cipher.specs.Sm4.{roundKeys}
 use Rattle.counter.specs.Counter.{ctrNext}
+use Rattle.counter.proofs.Edges.{ctr-one-block, ctr-two-blocks}
 use Rattle.walk.specs.Walk.{walk, chain}
 use Rattle.walk.specs.Outcome.{Head, Outcome, keyed, reporting, done}
 use Rattle.cipher_mode.specs.declared.CipherMode.{CipherMode}
@@ -26,7 +27,7 @@ use Rattle.cipher_mode.specs.declared.checks.Checked.the-variants.{Passed}
 use Rattle.cipher_mode.specs.declared.Sm4CipherMode.{Sm4CipherMode}
 use Rattle.cipher_mode.specs.Key.{newCipher, keyNumber, newCipherMode}
 use Rattle.cipher_mode.specs.Tables.{limit}
-use Rattle.cipher_mode.specs.Checks.{keyAndIv, dataCheck, messageCheck}
+use Rattle.cipher_mode.specs.Checks.{keyAndIv, dataCheck, roomCheck, messageCheck}
 use Rattle.cipher_mode.specs.Calls.{lengthsOf, modeCall}
 use Rattle.cipher_mode.proofs.Passed.{InOrder}
 use Rattle.editions.specs.Candidates.{sum, badList, anyTooLong, labelAt}
@@ -34,12 +35,12 @@ use Rattle.editions.specs.Which.{Verdict, searchCheck, opensWith, which}
 use Rattle.editions.proofs.FirstOpening.{IsFirst}
 use Rattle.editions.proofs.WhichOpens.{Asked, first-opens}
 use Rattle.demands.specs.Call.{Call, result, inGcm}
-use Rattle.demands.specs.CameRound.{roundOf}
+use Rattle.demands.specs.CameRound.{roundOf, Says}
 use Rattle.demands.specs.Answered.{singleNumbers, Answered, KeyAnswered, lengthOf}
 use Rattle.demands.specs.Served.{Asks, Served}
 use Rattle.demands.specs.ThereAndBack.{ThereAndBack}
 use Rattle.demands.specs.OneBlockRefused.{OneBlockRefused}
-use Rattle.demands.specs.Imposters.{zeros, zeroKey, refusesAll, constant, copies, firstBlockOnly, inventsLength}
+use Rattle.demands.specs.Imposters.{zeros, zeroKey, ones, refusesAll, constant, copies, firstBlockOnly, inventsLength, countsEveryStep, saysItRefused}
 use Rattle.demands.specs.Imposters.{forgetsNumber, takesAnyNumber, copiesAnew, throwsAway, countsFromOne, fileFirst}
 use Rattle.demands.specs.Retired.{StaysRetired, DecryptsAlike}
 use Rattle.demands.specs.Which.{Tells}
@@ -149,6 +150,29 @@ pub invented-length-breaks-the-table :
 invented-length-breaks-the-table claim =
     let done-there = ap (λ (x : Outcome). x .head .number) (ctr-leaves [] (0 ∷ []) (omega arith) (omega arith)) in
     absurd (omega (arith, claim [] [] zeros (0 ∷ []) .reported done-there))
+
+-- Counting the step after the last block is told by one byte under the IV of sixteen bytes ff: its one block has no step after it.
+pub every-step-is-told :
+    ¬ ((label d iv o : List ℕ) → Says (roundOf Ctr Encrypt (zeroKey .cipher .rk) iv (length d)) (countsEveryStep zeroKey label d iv o .head))
+unfolding newCipherMode newCipher dataCheck
+every-step-is-told claim =
+    let o : List ℕ = 0 ∷ [] in
+    let left =
+    leaves Encrypt zeroKey [] o ones o
+    (record { key = refl; iv-size = refl; may = refl; label = refl; content = refl; room = omega arith }) in
+    let number : countsEveryStep zeroKey [] o ones o .head .number ≡ 0 = ap (λ (x : Outcome). x .head .number) left in
+    let z : _≡_ {A = ℕ} 1 0 =
+    sym (ap (λ (b : Bool). cond b 1 0) ctr-two-blocks) ∙ claim [] o ones o .done number ∙ ap (λ (b : Bool). cond b 1 0) ctr-one-block in
+    absurd (omega arith)
+
+-- A yes beside a refusal is told by seventeen bytes under that IV and an output of none: 6 says nothing of a counter.
+pub yes-refused-is-told :
+    ¬ ((label d iv o : List ℕ) → Says (roundOf Ctr Encrypt (zeroKey .cipher .rk) iv (length d)) (saysItRefused zeroKey label d iv o .head))
+unfolding modeCall messageCheck keyAndIv dataCheck roomCheck newCipherMode newCipher
+yes-refused-is-told claim =
+    let d : List ℕ = replicate 17 0 in
+    let z : _≡_ {A = ℕ} 1 0 = sym (ap (λ (b : Bool). cond b 1 0) ctr-two-blocks) ∙ claim [] d ones [] .refused (λ e. omega arith) in
+    absurd (omega arith)
 
 -- Setting up a key without its number breaks what set-up answers, at sixteen zero bytes and the number 2: it is 1.
 pub forgotten-number-is-told : ¬ ((key : List ℕ) (n : ℕ) → KeyAnswered key n (forgetsNumber key n))
