@@ -26,6 +26,7 @@ not-full high h n = omega (arith, n)
 one-less : (b : ℕ) → b ≤ 2 ^ 64 → b - 1 < 2 ^ 64
 one-less b h = omega arith
 
+-- some blocks, from an IV whose number has these halves on
 module _ (iv : List ℕ) (b high low : ℕ) (some : b ≡ 0 → ⊥) (v : whole high low ≡ numberOf iv) (lows : low < 2 ^ 64) where
   by-halves : leb (2 ^ 64 * 2 ^ 64) (high * 2 ^ 64 + low + (b - 1)) ≡ ctrCameRound iv b
   unfolding ctrCameRound
@@ -40,6 +41,7 @@ module _ (iv : List ℕ) (b high low : ℕ) (some : b ≡ 0 → ⊥) (v : whole 
       ∙ sym (high-short (2 ^ 64) high low (b - 1) lows (not-full high h n) (one-less b l))
       ∙ by-halves
 
+-- GCM's word and b more reach 2^32
 pub gcm-left : (low b : ℕ) → low < 2 ^ 32 → ltb (2 ^ 32 - 1 - low) b ≡ gcmCameRound low b
 unfolding gcmCameRound
 gcm-left low b h = left-tells (2 ^ 32) low b h

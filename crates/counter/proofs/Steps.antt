@@ -28,7 +28,7 @@ ctr-words-pass x high low e =
     let h : numberOf (unwords x) < 2 ^ 128 = rw (length-unwords x) at (numberOf-lt (unwords x) (unwords-bytes x)) in
     no-bit high low ∙ zero-tells (2 ^ 128) (numberOf (unwords x)) (whole high low) h e
 
--- GCM's step over the last of four words
+-- the last of four words is the number that its bytes spell
 last-word : (x : List ℕ) → getD x 3 0 < 2 ^ 32 → numberOf (bytesOf 4 (getD x 3 0)) ≡ getD x 3 0
 last-word x h = numberOf-bytesOf 4 (getD x 3 0) ∙ mod-eq-of-lt h
 
@@ -36,6 +36,7 @@ pub last-four : (x : List ℕ) → getD x 3 0 < 2 ^ 32 → lastFour (unwords x) 
 unfolding unwords bytesOf
 last-four x h = last-word x h
 
+-- GCM's step over the last of four words
 pub gcm-words : (x : List ℕ) (w : ℕ) → getD x 3 0 < 2 ^ 32 → w ≡ (getD x 3 0 + 1) % 2 ^ 32
     → unwords (getD x 0 0 ∷ getD x 1 0 ∷ getD x 2 0 ∷ w ∷ []) ≡ gcmNext (unwords x)
 unfolding gcmNext unwords bytesOf

@@ -369,7 +369,7 @@ fn text_counter(rk: [u32; 32], iv: &[u8]) -> [u32; 4]
 {
     let t = cipher::plain();
     let h = gcm::hash_key(&t, rk);
-    counter::gcm_block_add_one(gcm::first_counter(h, iv))
+    counter::gcm_block_add_one(gcm::first_counter(h, iv)).counter
 }
 
 // The first chaining state: the IV, and in Gcm the first counter of the text.
