@@ -363,16 +363,6 @@ static void bad_modes(void)
     }
 }
 
-/* A text at the limit whose last counter is the one that has come round, and then all ones. */
-static void just_round(struct whole w)
-{
-    uint32_t usual = before_wrap, counters = LIMIT / 16 + (w.mode == GCM);
-    for (before_wrap = counters - 2; before_wrap < counters; before_wrap++) {
-        try(w);
-    }
-    before_wrap = usual;
-}
-
 /* One at each limit, one over it, and what comes first where more than one thing is wrong. */
 static void limits(uint32_t mode, int direction)
 {
@@ -381,9 +371,6 @@ static void limits(uint32_t mode, int direction)
     struct whole w = {.mode = mode, .direction = direction, .key = holders[0], .iv = 16, .label = 5, .data = most};
     w.room = room_needed(&w);
     each_of(w, try);
-    if (mode == CTR || mode == GCM) {
-        just_round(good(w));
-    }
     w.room--;
     each_of(w, try);
     w = good(w);
@@ -430,6 +417,19 @@ static void limits(uint32_t mode, int direction)
     each_of(w, try);
 }
 
+/* A text at the limit whose last counter is the one that has come round, and then all ones. */
+static void just_round(uint32_t mode, int direction)
+{
+    uint32_t usual = before_wrap, counters = LIMIT / 16 + (mode == GCM);
+    struct whole w = {.mode = mode, .direction = direction, .key = holders[0], .iv = 16, .data = LIMIT};
+    w.data += mode == GCM && direction == DECRYPT ? 16 : 0;
+    w.room = room_needed(&w);
+    for (before_wrap = counters - 2; before_wrap < counters; before_wrap++) {
+        try(w);
+    }
+    before_wrap = usual;
+}
+
 static void all(int with_limits)
 {
     print_now = print_trial;
@@ -438,6 +438,9 @@ static void all(int with_limits)
             sizes(mode, direction);
             if (with_limits) {
                 limits(mode, direction);
+            }
+            if (with_limits && (mode == CTR || mode == GCM)) {
+                just_round(mode, direction);
             }
         }
     }

@@ -64,7 +64,8 @@ static void begin(enum kind kind, size_t before, struct state *s)
     }
 }
 
-/* A state is a value, so the one before a call serves many. */
+/* A state is a value, so the one before a call serves many. Its counters stay the message's own unless the call is to
+ * find others. */
 static void prepare(const struct part *p, size_t before, struct state *s)
 {
     static struct state begun;

@@ -1,6 +1,6 @@
 /* Whether a counter came round: what single calls and messages in pieces say of texts about the place where it does,
- * by lengths that are written down here; IVs under which none does; the bytes on the other side; refusals and calls
- * that never say it; and J0 by two ways. */
+ * by lengths that are written down here; texts of many blocks; IVs under which none does; the bytes on the other side;
+ * refusals and calls that never say it; and J0 by two ways. */
 #include "smoke.h"
 
 #include "wrap.h"
@@ -81,6 +81,32 @@ static void near(void)
                     in_pieces(modes[m], under, 16, n, by, yes);
                 }
             }
+        }
+    }
+}
+
+/* Texts of so many blocks, of which the last counter is the one that has come round, and then all ones: all of the
+ * count is added, and not its last byte or two alone. */
+static void many_blocks(uint32_t mode, uint32_t blocks)
+{
+    static uint8_t sealed[16 * 65537 + 16];
+    uint8_t under[16];
+    const struct given g = {key, false, under, label, 16, sizeof label};
+    size_t n = 16 * blocks, tag = mode == GCM ? 16 : 0;
+    enum kind kind = mode == CTR ? COUNTING : SEALING;
+    struct state s;
+    for (int yes = 0; yes <= 1; yes++) {
+        struct luossavin_answer a;
+        iv_near(mode, blocks - (mode == CTR) - (uint32_t)yes, under);
+        a = luossavin_encrypt(mode, key, label, sizeof label, too_long, n, under, 16, sealed, sizeof sealed);
+        check(says(a, n + tag, yes), "many blocks", kind_names[kind], blocks);
+        a = call_start(kind, &s, &g);
+        a = go_by(4000, a, &s, too_long, n, sealed, sizeof sealed);
+        check(says(a, tag, yes), "many blocks in pieces", kind_names[kind], blocks);
+        if (kind == SEALING) {
+            a = call_start(OPENING, &s, &g);
+            a = go_by(4000, a, &s, sealed, n, NULL, 0);
+            check(says(a, 0, yes), "many blocks in pieces", kind_names[OPENING], blocks);
         }
     }
 }
@@ -299,6 +325,10 @@ static void j0_by_two_ways(void)
 void rounds(void)
 {
     near();
+    for (uint32_t blocks = 255; blocks <= 65537; blocks += blocks == 257 ? 65535 - 257 : 1) {
+        many_blocks(CTR, blocks);
+        many_blocks(GCM, blocks);
+    }
     one_bit();
     never();
     behind();
