@@ -4,7 +4,7 @@ use mathlib.Core.Bool.{Bool, cond}
 use mathlib.Core.List.{List, []}
 use Prim.Native.Nat.{ℕ}
 use Rattle.typed.specs.declared.words.Command.{Command}
-use Rattle.typed.specs.declared.words.Command.the-variants.{Seal, Open, Opens, Unknown}
+use Rattle.typed.specs.declared.words.Command.the-variants.{Seal, Open, Opens, Which, Unknown}
 use Rattle.typed.specs.declared.words.Command.the-variants.{Encrypt as Encrypt·command, Decrypt as Decrypt·command}
 use Rattle.cipher_mode.specs.declared.Direction.{Direction}
 use Rattle.cipher_mode.specs.declared.Direction.the-variants.{Encrypt, Decrypt}
@@ -22,6 +22,7 @@ abbrev pub directionOf : Command → Direction
 directionOf Seal = Encrypt
 directionOf Open = Decrypt
 directionOf Opens = Decrypt
+directionOf Which = Decrypt
 directionOf Encrypt·command = Encrypt
 directionOf Decrypt·command = Decrypt
 directionOf Unknown = Decrypt

@@ -1,5 +1,5 @@
-// What is read: the key file whole, and IN piece by piece, once or, where something is settled before the first byte is
-// written, twice.
+// What is read: the key file and a list of candidates whole, and IN piece by piece: once, or twice where something is settled
+// before the first byte is written, or once for each candidate.
 ghost use mathlib.Core.Path.{_≡_};
 ghost use Rattle.io.specs.Counts.{Counts};
 use crate::ASIDE;
@@ -57,8 +57,8 @@ pub fn is_input(at: usize) -> bool {
     is_dash(&word[..n])
 }
 
-// Whether the key, said at this place, is standard input.
-pub fn is_key_input(at: usize) -> bool {
+// Whether the file that an option names, said at this place, is standard input.
+pub fn is_value_input(at: usize) -> bool {
     let mut word = word_room();
     let n = os::arg(at, &mut word);
     is_dash(typed::words::value(&word[..n]))
@@ -71,8 +71,8 @@ fn open_input(name: &[u8]) -> i32 {
     os::open_read(name)
 }
 
-// Reads the key file that an argument names, or standard input, and closes it.
-pub fn read_key(at: usize, buf: &mut [u8]) -> Read
+// Reads the file that an option names, or standard input, and closes it. `act` says what cannot be done where it cannot be read.
+pub fn read_value(at: usize, act: &[u8], buf: &mut [u8]) -> Read
     ensures { λ r. ⌜ Counts (r .length) (now (buf .exit)) ⌝ }
 {
     let mut word = word_room();
@@ -80,12 +80,12 @@ pub fn read_key(at: usize, buf: &mut [u8]) -> Read
     let name = typed::words::value(&word[..n]);
     let fd = open_input(name);
     if fd < 0 {
-        say::cannot(b"read the key ", name);
+        say::cannot(act, name);
         return failed();
     }
     let read = read_all(fd, buf);
     if read.status != DONE {
-        say::cannot(b"read the key ", name);
+        say::cannot(act, name);
     }
     libc::close(fd);
     read
@@ -169,7 +169,7 @@ pub fn open(at: usize) -> Source {
     }
 }
 
-// IN as it is read first where it is read twice. What cannot be is kept aside, in a file that has lost its name before it has
+// IN as it is read first where it is read again. What cannot be is kept aside, in a file that has lost its name before it has
 // a byte: it goes with the run, however that ends.
 pub fn to_be_read_twice(mut source: Source) -> Source {
     if source.from >= 0 {
@@ -213,13 +213,13 @@ pub fn keep(source: Source, bytes: &[u8]) -> bool {
     true
 }
 
-// IN as it is read the second time.
+// IN as it is read once more, from where it stood. What was kept aside is a file from then on.
 pub fn again(mut source: Source) -> Source {
-    if source.from >= 0 {
-        libc::lseek(source.fd, source.from, libc::SEEK_SET);
-        return source;
+    if source.from < 0 {
+        source.fd = source.again;
+        source.from = 0;
+        source.aside = -1;
     }
-    source.fd = source.again;
-    source.aside = -1;
+    libc::lseek(source.fd, source.from, libc::SEEK_SET);
     source
 }

@@ -4,6 +4,7 @@ mod files;
 mod output;
 mod passes;
 mod say;
+mod which;
 mod work;
 
 ghost use mathlib.Core.Path.{_≡_};
@@ -22,6 +23,7 @@ use typed::decimal::Number;
 use typed::hex::Hex;
 use typed::line::Fault;
 use typed::line::Line;
+use typed::things::CANDIDATES;
 use typed::things::EDITION;
 use typed::things::IN;
 use typed::things::IV;
@@ -41,6 +43,9 @@ use work::Work;
 const DONE: u8 = 0;
 
 const USAGE: u8 = 64;
+
+// Of `which`: IN opens under none of the candidates.
+const NONE: u8 = 65;
 
 const FILES: u8 = 66;
 
@@ -63,7 +68,9 @@ const KEPT: usize = 4;
 const COMMAND: usize = 5;
 
 // What is asked for: the words are in order, but for the files and the sizes of key and IV. Of what is read later
-// `places` has the places of the words. `launcher` is the process that waits for the status line.
+// `places` has the places of the words. Of `which`: the edition that the caller asked for, where one was said; how many candidates
+// there are; and of a range the last edition, of which `edition` is the first. `launcher` is the process that waits for the status
+// line.
 pub struct Asked {
     pub command: Command,
     pub places: [usize; NOTHING],
@@ -72,6 +79,9 @@ pub struct Asked {
     pub mode: CipherMode,
     pub job: u32,
     pub edition: u16,
+    pub wanted: u16,
+    pub count: usize,
+    pub last: u16,
     pub launcher: i32,
 }
 
@@ -111,6 +121,9 @@ fn run() -> u8 {
     if typed::words::wants(command, MODE) {
         return with_mode(line, number);
     }
+    if places[CANDIDATES] != 0 {
+        return which::with_list(asked_for(line, number, CipherMode::Gcm, 0, 0));
+    }
     with_label(line, number)
 }
 
@@ -147,8 +160,26 @@ fn key_number(at: usize) -> Number {
     typed::decimal::read_capped(typed::words::value(&word[..n]), u32::MAX)
 }
 
-fn with_mode(line: Line, number: u32) -> u8 {
+// What a line asks for that has no candidates, or none yet.
+fn asked_for(line: Line, number: u32, mode: CipherMode, job: u32, edition: u16) -> Asked {
     let command = line.command;
+    let places = line.places;
+    Asked {
+        command,
+        places,
+        number,
+        retired: places[RETIRED] != 0,
+        mode,
+        job,
+        edition,
+        wanted: 0,
+        count: 0,
+        last: 0,
+        launcher: libc::getppid(),
+    }
+}
+
+fn with_mode(line: Line, number: u32) -> u8 {
     let places = line.places;
     let mut word = word_room();
     let n = os::arg(places[MODE], &mut word);
@@ -156,16 +187,7 @@ fn with_mode(line: Line, number: u32) -> u8 {
     if let ModeName::Unknown = name {
         return say::wrong(MODE, places[MODE]);
     }
-    with_iv(Asked {
-        command,
-        places,
-        number,
-        retired: places[RETIRED] != 0,
-        mode: mode_named(name),
-        job: 0,
-        edition: 0,
-        launcher: libc::getppid(),
-    })
+    with_iv(asked_for(line, number, mode_named(name), 0, 0), b"")
 }
 
 fn mode_named(name: ModeName) -> CipherMode {
@@ -186,6 +208,16 @@ fn number_at(at: usize, most: u32) -> Number
     typed::decimal::read(typed::words::value(&word[..n]), most)
 }
 
+// The edition that a word at this place says, and 0 where none does.
+fn edition_at(at: usize) -> Number
+    ensures { λ r. ⌜ AtMost 65535 r ⌝ }
+{
+    if at == 0 {
+        return Number::Is(0);
+    }
+    number_at(at, 65535)
+}
+
 fn with_label(line: Line, number: u32) -> u8 {
     let command = line.command;
     let places = line.places;
@@ -193,23 +225,19 @@ fn with_label(line: Line, number: u32) -> u8 {
     let Number::Is(job) = read else {
         return say::wrong(JOB, places[JOB]);
     };
-    let read = number_at(places[EDITION], 65535);
+    let read = edition_at(places[EDITION]);
     let Number::Is(edition) = read else {
         return say::wrong(EDITION, places[EDITION]);
     };
-    with_iv(Asked {
-        command,
-        places,
-        number,
-        retired: places[RETIRED] != 0,
-        mode: CipherMode::Gcm,
-        job,
-        edition: edition as u16,
-        launcher: libc::getppid(),
-    })
+    let asked = asked_for(line, number, CipherMode::Gcm, job, edition as u16);
+    if let Command::Which = command {
+        return which::with_range(asked);
+    }
+    with_iv(asked, b"")
 }
 
-fn with_iv(asked: Asked) -> u8 {
+// `list` is what the candidates are read from, where they are listed.
+fn with_iv(asked: Asked, list: &[u8]) -> u8 {
     let places = asked.places;
     let mut word = word_room();
     let n = os::arg(places[IV], &mut word);
@@ -218,37 +246,49 @@ fn with_iv(asked: Asked) -> u8 {
     let Hex::Bytes(k) = read else {
         return say::wrong(IV, places[IV]);
     };
-    with_key(asked, &iv[0..k])
+    with_key(asked, list, &iv[0..k])
 }
 
 // A file that fills the buffer is no key, whatever follows.
-fn with_key(asked: Asked, iv: &[u8]) -> u8 {
+fn with_key(asked: Asked, list: &[u8], iv: &[u8]) -> u8 {
     let places = asked.places;
     if files::is_input(places[IN]) {
-        if files::is_key_input(places[KEY]) {
-            return say::one_input();
+        if files::is_value_input(places[KEY]) {
+            return say::one_input(b"--key and IN");
         }
     }
     let mut file = io::buffer();
-    let read = files::read_key(places[KEY], &mut file);
+    let read = files::read_value(places[KEY], b"read the key ", &mut file);
     if read.status != DONE {
         return read.status;
     }
     let n = read.length;
     let mut key = io::buffer();
     let k = typed::key::read(&file[..n], &mut key);
-    with_cipher(asked, &file[..n], &key[0..k], iv)
+    with_cipher(asked, list, &file[..n], &key[0..k], iv)
 }
 
 // `file` is what the key file holds, and `key` the key that it spells. What is wrong with key or IV is said before IN is read.
-fn with_cipher(asked: Asked, file: &[u8], key: &[u8], iv: &[u8]) -> u8 {
+fn with_cipher(asked: Asked, list: &[u8], file: &[u8], key: &[u8], iv: &[u8]) -> u8 {
+    let command = asked.command;
+    let places = asked.places;
     let begun = begin(asked, key, iv);
     let ending = begun.ending;
     if let Ending::Refused(refusal) = ending {
         return refuse(refusal, asked, key.len(), iv.len(), 0);
     }
+    let source = files::open(places[IN]);
+    if source.fd < 0 {
+        return FILES;
+    }
+    if source.size > most(asked) as u64 {
+        return refuse(Refusal::TooLong, asked, 0, 0, 0);
+    }
+    if let Command::Which = command {
+        return which::run(asked, source, list, key, iv);
+    }
     let work = begun.work;
-    with_input(asked, file, work)
+    with_input(asked, file, source, work)
 }
 
 // The longest IN.
@@ -258,20 +298,22 @@ fn most(asked: Asked) -> usize {
     checks::limit_of(direction_of(command), mode)
 }
 
-fn with_input(asked: Asked, file: &[u8], work: Work) -> u8 {
-    let places = asked.places;
-    let source = files::open(places[IN]);
-    if source.fd < 0 {
-        return FILES;
-    }
-    if source.size > most(asked) as u64 {
-        return refuse(Refusal::TooLong, asked, 0, 0, 0);
-    }
+fn with_input(asked: Asked, file: &[u8], source: Source, work: Work) -> u8 {
     let task = work.task;
     if work::is_settling(task) {
         return settle(asked, file, source, work);
     }
     deliver(asked, file, source, work, 0)
+}
+
+// A pass that writes nothing.
+fn silent_pass(asked: Asked, source: Source, work: Work) -> Pass {
+    passes::run(
+        asked,
+        source,
+        most(asked),
+        passes::start(work, output::none(DONE)),
+    )
 }
 
 // A pass that writes nothing and settles whether anything is to be written. What cannot be read twice is kept for the second.
@@ -284,12 +326,7 @@ fn settle(asked: Asked, file: &[u8], source: Source, work: Work) -> u8 {
     if first.fd < 0 {
         return FILES;
     }
-    let pass = passes::run(
-        asked,
-        first,
-        most(asked),
-        passes::start(work, output::none(DONE)),
-    );
+    let pass = silent_pass(asked, first, work);
     let status = judge(asked, pass, 0);
     if status != DONE {
         return status;
@@ -306,12 +343,7 @@ fn settle(asked: Asked, file: &[u8], source: Source, work: Work) -> u8 {
 // Says that IN opens, or why not.
 fn opens(asked: Asked, source: Source, work: Work) -> u8 {
     let places = asked.places;
-    let pass = passes::run(
-        asked,
-        source,
-        most(asked),
-        passes::start(work, output::none(DONE)),
-    );
+    let pass = silent_pass(asked, source, work);
     let status = judge(asked, pass, 0);
     if status != DONE {
         return status;
@@ -399,6 +431,7 @@ fn direction_of(command: Command) -> Direction
         Command::Seal => Direction::Encrypt,
         Command::Open => Direction::Decrypt,
         Command::Opens => Direction::Decrypt,
+        Command::Which => Direction::Decrypt,
         Command::Encrypt => Direction::Encrypt,
         Command::Decrypt => Direction::Decrypt,
         Command::Unknown => Direction::Decrypt,

@@ -1,8 +1,9 @@
-// What the tool says to a person, on standard error but for the answer to `opens`. What is said of a failure answers the
-// status that the run ends with.
+// What the tool says to a person, on standard error but for the answers to `opens` and `which`. What is said of a failure
+// answers the status that the run ends with.
 use crate::COMMAND;
 use crate::DONE;
 use crate::FILES;
+use crate::NONE;
 use crate::TOOL;
 use crate::USAGE;
 use crate::WORD_ROOM;
@@ -13,7 +14,9 @@ use libc::STDERR_FILENO;
 use libc::STDOUT_FILENO;
 use typed::line::Fault;
 use typed::line::Line;
+use typed::things::CANDIDATES;
 use typed::things::EDITION;
+use typed::things::EDITIONS;
 use typed::things::IN;
 use typed::things::IV;
 use typed::things::JOB;
@@ -76,21 +79,21 @@ fn value(at: usize) {
 }
 
 // A key, by its number where that is not 0.
-fn key(n: u32) {
+fn key(fd: i32, n: u32) {
     if n == 0 {
-        text(b"this key");
+        io::write_all(fd, b"this key");
         return;
     }
-    text(b"key ");
-    number(n as u64);
+    io::write_all(fd, b"key ");
+    io::print_decimal(fd, n as u64);
 }
 
-fn key_and_iv(n: u32) {
-    key(n);
+fn key_and_iv(fd: i32, n: u32) {
+    key(fd, n);
     if n == 0 {
-        text(b" and IV");
+        io::write_all(fd, b" and IV");
     } else {
-        text(b" and this IV");
+        io::write_all(fd, b" and this IV");
     }
 }
 
@@ -108,6 +111,13 @@ fn input(fd: i32, at: usize) {
     let mut room = word_room();
     let n = os::arg(at, &mut room);
     file(fd, &room[..n]);
+}
+
+// What the file is called that an option names, said at this place.
+fn value_file(fd: i32, at: usize) {
+    let mut room = word_room();
+    let n = os::arg(at, &mut room);
+    file(fd, typed::words::value(&room[..n]));
 }
 
 // "luossavin seal: "
@@ -135,7 +145,7 @@ fn end() -> u8 {
 }
 
 pub fn no_command() -> u8 {
-    text(b"luossavin: expected seal, open, opens, encrypt, decrypt, demo or help, not ");
+    text(b"luossavin: expected seal, open, opens, which, encrypt, decrypt, demo or help, not ");
     quoted(COMMAND);
     tool();
     text(b" help\n");
@@ -152,6 +162,10 @@ fn expected(thing: usize) {
         IV => text(b"--iv with hex digits, two to a byte"),
         JOB => text(b"--job with a whole number from 0 to 4294967295"),
         EDITION => text(b"--edition with a whole number from 0 to 65535"),
+        EDITIONS => text(
+            b"--editions with a range as 1-3, of whole numbers from 0 to 65535, or one number",
+        ),
+        CANDIDATES => text(b"--candidates with a file that has a job and an edition to a line"),
         IN => text(b"IN, a file to read, or - for standard input"),
         _ => text(b"OUT, a file to write, or - for standard output"),
     }
@@ -179,9 +193,24 @@ fn no_value(thing: usize, at: usize) -> u8 {
     end()
 }
 
-pub fn one_input() -> u8 {
+// Standard input is named for two things.
+pub fn one_input(of: &[u8]) -> u8 {
     start();
-    text(b"expected standard input for one of --key and IN, not for both");
+    text(b"expected standard input for one of ");
+    text(of);
+    text(b", not for both");
+    end()
+}
+
+// A line of a list of candidates that says nothing right; the list is named at this place.
+pub fn wrong_line(at: usize, place: usize, line: &[u8]) -> u8 {
+    start();
+    value_file(STDERR_FILENO, at);
+    text(b", line ");
+    number(place as u64);
+    text(b": expected a job and an edition with a blank between, as 4711 1, not \"");
+    name(STDERR_FILENO, line);
+    text(b"\"");
     end()
 }
 
@@ -197,6 +226,10 @@ pub fn fault(line: Line) -> u8 {
     match fault {
         Fault::NoValue => no_value(line.next, line.at),
         Fault::SaidTwice => unexpected(b"only once ", line.at),
+        Fault::NotBoth => unexpected(
+            b"--candidates, or --job and --editions, not both: ",
+            line.at,
+        ),
         Fault::OneTooMany => unexpected(b"no further word, not ", line.at),
         _ => no_option(line),
     }
@@ -215,6 +248,10 @@ fn no_option(line: Line) -> u8 {
     match command {
         Command::Seal => unexpected(
             b"--key, --number, --retired, --iv, --job, --edition or --force, not ",
+            line.at,
+        ),
+        Command::Which => unexpected(
+            b"--key, --number, --retired, --iv, --job, --editions, --edition or --candidates, not ",
             line.at,
         ),
         Command::Encrypt => unexpected(
@@ -343,21 +380,85 @@ pub fn end_of_progress() {
     text(b"                                        \r");
 }
 
-// The answer to `opens`.
-pub fn opens(at: usize, key: u32, job: u32, edition: u16) -> u8 {
-    input(STDOUT_FILENO, at);
-    io::write_all(STDOUT_FILENO, b" opens under job ");
-    io::print_decimal(STDOUT_FILENO, job as u64);
-    io::write_all(STDOUT_FILENO, b", edition ");
-    io::print_decimal(STDOUT_FILENO, edition as u64);
-    if key != 0 {
-        io::write_all(STDOUT_FILENO, b", with key ");
-        io::print_decimal(STDOUT_FILENO, key as u64);
-    }
+// A part of an answer, on standard output.
+fn answer(s: &[u8]) {
+    io::write_all(STDOUT_FILENO, s);
+}
+
+fn answer_number(n: u64) {
+    io::print_decimal(STDOUT_FILENO, n);
+}
+
+// Ends an answer that the run ends with this status for.
+fn answered(status: u8) -> u8 {
     if !io::write_all(STDOUT_FILENO, b"\n") {
         return cannot_write(b"-");
     }
-    DONE
+    status
+}
+
+// "rough.sealed opens under job 4711, edition 1"
+fn opened(at: usize, key: u32, job: u32, edition: u16) {
+    input(STDOUT_FILENO, at);
+    answer(b" opens under job ");
+    answer_number(job as u64);
+    answer(b", edition ");
+    answer_number(edition as u64);
+    if key != 0 {
+        answer(b", with key ");
+        answer_number(key as u64);
+    }
+}
+
+// The answer to `opens`, and to `which` where a candidate opens.
+pub fn opens(at: usize, key: u32, job: u32, edition: u16) -> u8 {
+    opened(at, key, job, edition);
+    answered(DONE)
+}
+
+// The answer to `which` where a candidate opens, and the caller had asked for an edition.
+pub fn found_for(at: usize, key: u32, job: u32, edition: u16, wanted: u16) -> u8 {
+    opened(at, key, job, edition);
+    answer(b": the edition you asked for");
+    if edition != wanted {
+        answer(b", ");
+        answer_number(wanted as u64);
+        answer(b", is not in this file");
+    }
+    answered(DONE)
+}
+
+// The answer to `which` where no edition of a range opens.
+pub fn none_of_range(at: usize, key: u32, job: u32, first: u16, last: u16) -> u8 {
+    input(STDOUT_FILENO, at);
+    if first == last {
+        answer(b" does not open under edition ");
+        answer_number(first as u64);
+    } else {
+        answer(b" opens under none of editions ");
+        answer_number(first as u64);
+        answer(b" to ");
+        answer_number(last as u64);
+    }
+    answer(b" of job ");
+    answer_number(job as u64);
+    none(key)
+}
+
+// The answer to `which` where nothing opens that is listed in the file that is named at a place.
+pub fn none_of_list(at: usize, key: u32, list: usize) -> u8 {
+    input(STDOUT_FILENO, at);
+    answer(b" opens under none of the candidates in ");
+    value_file(STDOUT_FILENO, list);
+    none(key)
+}
+
+// Ends an answer that no candidate opens.
+fn none(key: u32) -> u8 {
+    answer(b", with ");
+    key_and_iv(STDOUT_FILENO, key);
+    answer(b": look for another key, another IV or another job, unless the file was changed since");
+    answered(NONE)
 }
 
 // The refusals: the tool and the file that each is about, and then by number what it says.
@@ -386,7 +487,7 @@ pub fn uneven(length: usize) -> u8 {
 
 pub fn last_byte(key: u32) -> u8 {
     text(b"3 InvalidLastU8: this file was not encrypted with cbc, ");
-    key_and_iv(key);
+    key_and_iv(STDERR_FILENO, key);
     text(b", or it was changed since\n");
     3
 }
@@ -395,7 +496,7 @@ pub fn padding(key: u32) -> u8 {
     text(
         b"15 InvalidPadding: the end of this file is damaged: it was changed since, or not encrypted with cbc, ",
     );
-    key_and_iv(key);
+    key_and_iv(STDERR_FILENO, key);
     text(b"\n");
     15
 }
@@ -406,7 +507,7 @@ pub fn tag(key: u32, job: u32, edition: u16) -> u8 {
     text(b", edition ");
     number(edition as u64);
     text(b", with ");
-    key_and_iv(key);
+    key_and_iv(STDERR_FILENO, key);
     text(b", or it was changed since\n");
     4
 }
@@ -473,9 +574,40 @@ pub fn wrong_number(at: usize) -> u8 {
 
 pub fn retired(n: u32) -> u8 {
     text(b"14 Retired: ");
-    key(n);
+    key(STDERR_FILENO, n);
     text(
         b" is retired: old files still open with it, and nothing new is sealed or encrypted under it; take the current key\n",
     );
     14
+}
+
+// More candidates than one run asks about.
+fn too_many() -> u8 {
+    text(b", and up to 64 are asked about at once: ask about 64 at a time\n");
+    16
+}
+
+pub fn too_many_editions(count: usize) -> u8 {
+    text(b"16 BadList: there are ");
+    number(count as u64);
+    text(b" candidates");
+    too_many()
+}
+
+// The list is named at this place.
+pub fn too_many_lines(at: usize, count: usize) -> u8 {
+    text(b"16 BadList: ");
+    value_file(STDERR_FILENO, at);
+    text(b" has ");
+    number(count as u64);
+    text(b" lines");
+    too_many()
+}
+
+// A list that was not read to its end, which is longer than candidates of any size take.
+pub fn too_long_list(at: usize) -> u8 {
+    text(b"16 BadList: ");
+    value_file(STDERR_FILENO, at);
+    text(b" has 65536 bytes or more of candidates");
+    too_many()
 }

@@ -3,10 +3,12 @@ pub mod Verdicts
 mod StatusTells
 mod Ranges
 mod Walks
-mod Listed
 mod Reckoning
 mod Capped
 mod HexPairs
 mod HexKey
+mod Parting
+mod Listed
 mod Lacking
+mod ByLine
 mod Showing

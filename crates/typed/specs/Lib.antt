@@ -3,6 +3,9 @@ pub mod Tests
 pub mod Decimal
 pub mod Hex
 pub mod Key
+pub mod Parts
+pub mod Range
+pub mod Candidates
 pub mod Names
 pub mod Things
 pub mod Words

@@ -1,14 +1,15 @@
 -- What a line of words says: each thing that its command wants, once.
 use Prim.Native.Nat.{ℕ, zero, suc}
-use mathlib.Core.Bool.{Bool, true, false, cond, _&&_, _||_}
+use mathlib.Core.Bool.{Bool, true, false, cond, not, _&&_, _||_}
 use mathlib.Core.List.{List}
 use lib.Dec.{ltb, eqb}
 use lib.ListN.{getD, set, replicate}
-use Rattle.typed.specs.Things.{IN, OUT, NOTHING}
-use Rattle.typed.specs.Words.{isFlag, optionOf, isOption, endsOptions, hasValue, takesOf, wantsOf}
+use Rattle.typed.specs.Things.{JOB, EDITION, EDITIONS, CANDIDATES, IN, OUT, NOTHING}
+use Rattle.typed.specs.Words.{isFlag, saysLabel, optionOf, isOption, endsOptions, hasValue, takesOf, wantsOf}
 use Rattle.typed.specs.declared.words.Command.{Command}
 use Rattle.typed.specs.declared.line.Fault.{Fault}
-use Rattle.typed.specs.declared.line.Fault.the-variants.{NoFault, NoSuchOption, NotOfThisCommand, SaidTwice, NoValue, OneTooMany}
+use Rattle.typed.specs.declared.line.Fault.the-variants.{NoFault, NoSuchOption, NotOfThisCommand, SaidTwice, NotBoth}
+use Rattle.typed.specs.declared.line.Fault.the-variants.{NoValue, OneTooMany}
 use Rattle.typed.specs.declared.line.Line.{Line}
 
 -- a line of which only the command has been read
@@ -20,12 +21,21 @@ sound NoFault = true
 sound NoSuchOption = false
 sound NotOfThisCommand = false
 sound SaidTwice = false
+sound NotBoth = false
 sound NoValue = false
 sound OneTooMany = false
 
 -- thing k has not been said yet
 abbrev pub unsaid : Line → ℕ → Bool
 unsaid l k = eqb (getD (l .places) k 0) 0
+
+-- no label has been said by job, edition or editions
+abbrev pub unlabelled : Line → Bool
+unlabelled l = unsaid l JOB && (unsaid l EDITION && unsaid l EDITIONS)
+
+-- thing k cannot stand beside what has been said: a file of candidates says the labels, or the other things do
+abbrev pub clashes : Line → ℕ → Bool
+clashes l k = cond (eqb k CANDIDATES) (not (unlabelled l)) (saysLabel k && not (unsaid l CANDIDATES))
 
 -- the word at place i says thing k
 abbrev pub said : Line → ℕ → ℕ → Line
@@ -43,12 +53,15 @@ faulty l f i = record { command = l .command; places = l .places; next = l .next
 abbrev pub filesFrom : Line → Line
 filesFrom l = record { command = l .command; places = l .places; next = l .next; files = true; fault = l .fault; at = l .at }
 
--- option k at place i: one that there is, that the command takes, and that has not been said; v: it has its value in it
+-- option k at place i: one that there is, that the command takes, that has not been said, and that can stand beside what has
+-- been; v: it has its value in it
 unfoldable pub afterOption : Line → ℕ → Bool → ℕ → Line
 afterOption l k v i =
     cond (ltb k NOTHING)
     (cond (takesOf (l .command) k)
-    (cond (unsaid l k) (cond (v || isFlag k) (said l k i) (await l k)) (faulty l SaidTwice i))
+    (cond (unsaid l k)
+    (cond (clashes l k) (faulty l NotBoth i) (cond (v || isFlag k) (said l k i) (await l k)))
+    (faulty l SaidTwice i))
     (faulty l NotOfThisCommand i))
     (faulty l NoSuchOption i)
 
@@ -75,9 +88,9 @@ afterWord l w i =
     (afterFree l w i)))
     l
 
--- a thing that the command wants and that has not been said
+-- a thing that the command wants, and that has not been said, nor another in its place
 abbrev pub lacks : Line → ℕ → Bool
-lacks l k = wantsOf (l .command) k && unsaid l k
+lacks l k = wantsOf (l .command) k && (unsaid l k && not (clashes l k))
 
 -- the first such thing of the n from k on, or NOTHING
 unfoldable pub lackingFrom : Line → ℕ → ℕ → ℕ

@@ -20,19 +20,26 @@ JOB = 4
 abbrev pub EDITION : ℕ
 EDITION = 5
 
+-- the candidates of `which`: a range of editions, or a file that lists them
+abbrev pub EDITIONS : ℕ
+EDITIONS = 6
+
+abbrev pub CANDIDATES : ℕ
+CANDIDATES = 7
+
 -- the options that are said without a value
 abbrev pub FORCE : ℕ
-FORCE = 6
+FORCE = 8
 
 abbrev pub RETIRED : ℕ
-RETIRED = 7
+RETIRED = 9
 
 abbrev pub IN : ℕ
-IN = 8
+IN = 10
 
 abbrev pub OUT : ℕ
-OUT = 9
+OUT = 11
 
 -- none of them, and so how many there are
 abbrev pub NOTHING : ℕ
-NOTHING = 10
+NOTHING = 12

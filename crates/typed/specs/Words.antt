@@ -8,19 +8,19 @@ use Rattle.bytes.specs.Bytes.{indexOf}
 use Rattle.block.specs.Same.{same}
 use Rattle.typed.specs.Ascii.{bytes}
 use Rattle.typed.specs.Names.{placeIn}
-use Rattle.typed.specs.Things.{MODE, KEY, NUMBER, IV, JOB, EDITION, FORCE, RETIRED, OUT, NOTHING}
+use Rattle.typed.specs.Things.{MODE, KEY, NUMBER, IV, JOB, EDITION, EDITIONS, CANDIDATES, FORCE, RETIRED, OUT, NOTHING}
 use Rattle.typed.specs.declared.words.Command.{Command}
-use Rattle.typed.specs.declared.words.Command.the-variants.{Seal, Open, Opens, Encrypt, Decrypt, Unknown}
+use Rattle.typed.specs.declared.words.Command.the-variants.{Seal, Open, Opens, Which, Encrypt, Decrypt, Unknown}
 use Rattle.typed.specs.declared.words.ModeName.{ModeName}
 use Rattle.typed.specs.declared.words.ModeName.the-variants.{Cfb, Ofb, Ctr, Cbc, Unknown as NoMode}
 
 -- commands, modes and the things of options, each list in the order of its names
 
 abbrev pub commands : List Command
-commands = Seal ∷ Open ∷ Opens ∷ Encrypt ∷ Decrypt ∷ []
+commands = Seal ∷ Open ∷ Opens ∷ Which ∷ Encrypt ∷ Decrypt ∷ []
 
 abbrev pub commandOf : List ℕ → Command
-commandOf w = getD commands (placeIn (bytes "seal open opens encrypt decrypt") w) Unknown
+commandOf w = getD commands (placeIn (bytes "seal open opens which encrypt decrypt") w) Unknown
 
 abbrev pub modes : List ModeName
 modes = Cfb ∷ Ofb ∷ Ctr ∷ Cbc ∷ []
@@ -29,7 +29,7 @@ abbrev pub modeOf : List ℕ → ModeName
 modeOf w = getD modes (placeIn (bytes "cfb ofb ctr cbc") w) NoMode
 
 abbrev pub options : List ℕ
-options = MODE ∷ KEY ∷ NUMBER ∷ IV ∷ JOB ∷ EDITION ∷ []
+options = MODE ∷ KEY ∷ NUMBER ∷ IV ∷ JOB ∷ EDITION ∷ EDITIONS ∷ CANDIDATES ∷ []
 
 abbrev pub flags : List ℕ
 flags = FORCE ∷ RETIRED ∷ []
@@ -62,19 +62,32 @@ isFlag k = eqb k FORCE || eqb k RETIRED
 
 -- the place of an option among those that take a value
 abbrev pub optionPlace : List ℕ → ℕ
-optionPlace w = placeIn (bytes "--mode --key --number --iv --job --edition") (nameOf w)
+optionPlace w = placeIn (bytes "--mode --key --number --iv --job --edition --editions --candidates") (nameOf w)
 
 -- the thing that an option says
 abbrev pub optionOf : List ℕ → ℕ
 optionOf w = getD options (optionPlace w) (flagOf w)
 
--- the things that belong to a command: of a job's edition all but the mode, in the other modes all but job and edition
+-- the things that say more labels than one
+abbrev pub saysSeveral : ℕ → Bool
+saysSeveral k = eqb k EDITIONS || eqb k CANDIDATES
+
+-- the things that say a label, or a part of one
+abbrev pub saysLabel : ℕ → Bool
+saysLabel k = eqb k JOB || (eqb k EDITION || saysSeveral k)
+
+-- the things of a command that has one label
+abbrev pub ofOneLabel : ℕ → Bool
+ofOneLabel k = not (eqb k MODE) && not (saysSeveral k)
+
+-- the things that belong to a command: of a job's edition all but the mode, in the other modes all but what says a label
 abbrev pub belongsTo : Command → ℕ → Bool
-belongsTo Seal k = not (eqb k MODE)
-belongsTo Open k = not (eqb k MODE)
-belongsTo Opens k = not (eqb k MODE) && not (eqb k OUT)
-belongsTo Encrypt k = not (eqb k JOB) && not (eqb k EDITION)
-belongsTo Decrypt k = not (eqb k JOB) && not (eqb k EDITION)
+belongsTo Seal k = ofOneLabel k
+belongsTo Open k = ofOneLabel k
+belongsTo Opens k = not (eqb k OUT) && ofOneLabel k
+belongsTo Which k = not (eqb k MODE) && not (eqb k OUT)
+belongsTo Encrypt k = not (saysLabel k)
+belongsTo Decrypt k = not (saysLabel k)
 belongsTo Unknown k = false
 
 -- the commands that write what is no text, which a terminal is spared
@@ -82,6 +95,7 @@ abbrev pub writesSealed : Command → Bool
 writesSealed Seal = true
 writesSealed Open = false
 writesSealed Opens = false
+writesSealed Which = false
 writesSealed Encrypt = true
 writesSealed Decrypt = false
 writesSealed Unknown = false
@@ -90,10 +104,21 @@ writesSealed Unknown = false
 abbrev pub takesOf : Command → ℕ → Bool
 takesOf c k = cond (eqb k FORCE) (writesSealed c) (belongsTo c k)
 
--- the things that may be left unsaid: the key's number, and what is said without a value
-abbrev pub isOptional : ℕ → Bool
-isOptional k = eqb k NUMBER || isFlag k
+-- the command that asks which label a file opens under
+abbrev pub asksWhich : Command → Bool
+asksWhich Seal = false
+asksWhich Open = false
+asksWhich Opens = false
+asksWhich Which = true
+asksWhich Encrypt = false
+asksWhich Decrypt = false
+asksWhich Unknown = false
+
+-- the things that a command lets be unsaid: the key's number, a file of candidates, and what is said without a value; and of
+-- `which` the edition, which there is the one that the caller asked for
+abbrev pub isOptional : Command → ℕ → Bool
+isOptional c k = cond (eqb k EDITION) (asksWhich c) (eqb k NUMBER || (eqb k CANDIDATES || isFlag k))
 
 -- whether a command wants a thing to be said: all that belongs to it but these
 abbrev pub wantsOf : Command → ℕ → Bool
-wantsOf c k = cond (isOptional k) false (belongsTo c k)
+wantsOf c k = cond (isOptional c k) false (belongsTo c k)

@@ -1,9 +1,13 @@
 // What a line of words says.
 ghost use mathlib.Core.Path.{_≡_};
 ghost use Prim.Native.Nat.{_<_};
-ghost use Rattle.typed.specs.Line.{lineOf, sound, unsaid, said, await, faulty, filesFrom, afterOption, afterFile, afterFree, afterWord, lacks, lackingIn};
+ghost use Rattle.typed.specs.Line.{lineOf, sound, unsaid, unlabelled, clashes, said, await, faulty, filesFrom, afterOption, afterFile, afterFree, afterWord, lacks, lackingIn};
 ghost use Rattle.typed.specs.Things.{NOTHING};
+use crate::things::CANDIDATES;
+use crate::things::EDITION;
+use crate::things::EDITIONS;
 use crate::things::IN;
+use crate::things::JOB;
 use crate::things::NOTHING;
 use crate::things::OUT;
 use crate::words;
@@ -14,6 +18,7 @@ pub enum Fault {
     NoSuchOption,
     NotOfThisCommand,
     SaidTwice,
+    NotBoth,
     NoValue,
     OneTooMany,
 }
@@ -52,6 +57,7 @@ fn is_sound(fault: Fault) -> bool
         Fault::NoSuchOption => false,
         Fault::NotOfThisCommand => false,
         Fault::SaidTwice => false,
+        Fault::NotBoth => false,
         Fault::NoValue => false,
         Fault::OneTooMany => false,
     }
@@ -64,6 +70,32 @@ fn is_unsaid(line: Line, thing: usize) -> bool
 {
     let places = line.places;
     places[thing] == 0
+}
+
+// Whether no label has been said by job, edition or editions.
+fn is_unlabelled(line: Line) -> bool
+    ensures { λ r. ⌜ r ≡ unlabelled line ⌝ }
+{
+    if !is_unsaid(line, JOB) {
+        return false;
+    }
+    if !is_unsaid(line, EDITION) {
+        return false;
+    }
+    is_unsaid(line, EDITIONS)
+}
+
+// Whether a thing cannot stand beside what has been said: a file of candidates says the labels, or the other things do.
+fn does_clash(line: Line, thing: usize) -> bool
+    ensures { λ r. ⌜ r ≡ clashes line thing ⌝ }
+{
+    if thing == CANDIDATES {
+        return !is_unlabelled(line);
+    }
+    if words::says_label(thing) {
+        return !is_unsaid(line, CANDIDATES);
+    }
+    false
 }
 
 // The word at a place says a thing.
@@ -108,7 +140,8 @@ fn files_from(mut line: Line) -> Line
     line
 }
 
-// An option is one that there is, that the command takes, and that has not been said. `valued`: it has its value in it.
+// An option is one that there is, that the command takes, that has not been said, and that can stand beside what has been.
+// `valued`: it has its value in it.
 fn read_option(line: Line, thing: usize, valued: bool, at: usize) -> Line
     ensures { λ r. ⌜ r ≡ afterOption line thing valued at ⌝ }
 {
@@ -121,6 +154,9 @@ fn read_option(line: Line, thing: usize, valued: bool, at: usize) -> Line
     }
     if !is_unsaid(line, thing) {
         return blame(line, Fault::SaidTwice, at);
+    }
+    if does_clash(line, thing) {
+        return blame(line, Fault::NotBoth, at);
     }
     if valued {
         return say(line, thing, at);
@@ -182,16 +218,19 @@ pub fn read_word(line: Line, word: &[u8], at: usize) -> Line
     say(line, next, at)
 }
 
-// Whether the command wants a thing that no word has said.
+// Whether the command wants a thing that no word has said, nor another thing in its place.
 fn is_lacking(line: Line, thing: usize) -> bool
     requires { ⌜ thing < NOTHING ⌝ }
     ensures { λ r. ⌜ r ≡ lacks line thing ⌝ }
 {
     let command = line.command;
-    if words::wants(command, thing) {
-        return is_unsaid(line, thing);
+    if !words::wants(command, thing) {
+        return false;
     }
-    false
+    if !is_unsaid(line, thing) {
+        return false;
+    }
+    !does_clash(line, thing)
 }
 
 // The thing whose value is still awaited, or the first that the command wants and no word has said, or `NOTHING`.

@@ -12,14 +12,19 @@ pub const JOB: usize = 4;
 
 pub const EDITION: usize = 5;
 
+// The candidates of `which`: a range of editions, or a file that lists them.
+pub const EDITIONS: usize = 6;
+
+pub const CANDIDATES: usize = 7;
+
 // The options that are said without a value.
-pub const FORCE: usize = 6;
+pub const FORCE: usize = 8;
 
-pub const RETIRED: usize = 7;
+pub const RETIRED: usize = 9;
 
-pub const IN: usize = 8;
+pub const IN: usize = 10;
 
-pub const OUT: usize = 9;
+pub const OUT: usize = 11;
 
 // None of them, and so how many there are.
-pub const NOTHING: usize = 10;
+pub const NOTHING: usize = 12;

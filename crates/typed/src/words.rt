@@ -3,10 +3,12 @@ ghost use mathlib.Core.Path.{_≡_};
 ghost use Prim.Native.Nat.{_≤_};
 ghost use lib.ListN.{length};
 ghost use Rattle.bytes.specs.Bytes.{indexOf};
-ghost use Rattle.typed.specs.Words.{commandOf, modeOf, flagOf, optionOf, isOption, endsOptions, hasValue, valueOf, isFlag, isOptional, belongsTo, writesSealed, takesOf, wantsOf};
+ghost use Rattle.typed.specs.Words.{commandOf, modeOf, flagOf, optionOf, isOption, endsOptions, hasValue, valueOf, isFlag, saysSeveral, saysLabel, ofOneLabel, asksWhich, isOptional, belongsTo, writesSealed, takesOf, wantsOf};
 use crate::names::alike;
 use crate::names::find;
+use crate::things::CANDIDATES;
 use crate::things::EDITION;
+use crate::things::EDITIONS;
 use crate::things::FORCE;
 use crate::things::IV;
 use crate::things::JOB;
@@ -21,6 +23,7 @@ pub enum Command {
     Seal,
     Open,
     Opens,
+    Which,
     Encrypt,
     Decrypt,
     Unknown,
@@ -37,12 +40,13 @@ pub enum ModeName {
 pub fn read_command(word: &[u8]) -> Command
     ensures { λ r. ⌜ r ≡ commandOf (now (word .entry)) ⌝ }
 {
-    match find(b"seal open opens encrypt decrypt", word) {
+    match find(b"seal open opens which encrypt decrypt", word) {
         0 => Command::Seal,
         1 => Command::Open,
         2 => Command::Opens,
-        3 => Command::Encrypt,
-        4 => Command::Decrypt,
+        3 => Command::Which,
+        4 => Command::Encrypt,
+        5 => Command::Decrypt,
         _ => Command::Unknown,
     }
 }
@@ -103,13 +107,18 @@ pub(crate) fn read_option(word: &[u8]) -> usize
     ensures { λ r. ⌜ r ≡ optionOf (now (word .entry)) ⌝ }
 {
     let n = equals_sign(word);
-    match find(b"--mode --key --number --iv --job --edition", &word[0..n]) {
+    match find(
+        b"--mode --key --number --iv --job --edition --editions --candidates",
+        &word[0..n],
+    ) {
         0 => MODE,
         1 => KEY,
         2 => NUMBER,
         3 => IV,
         4 => JOB,
         5 => EDITION,
+        6 => EDITIONS,
+        7 => CANDIDATES,
         _ => read_flag(word),
     }
 }
@@ -131,16 +140,47 @@ pub(crate) fn ends_options(word: &[u8]) -> bool
     alike(word, b"--")
 }
 
+// Whether a thing says more labels than one.
+fn says_several(thing: usize) -> bool
+    ensures { λ r. ⌜ r ≡ saysSeveral thing ⌝ }
+{
+    thing == EDITIONS || thing == CANDIDATES
+}
+
+// Whether a thing says a label, or a part of one.
+pub(crate) fn says_label(thing: usize) -> bool
+    ensures { λ r. ⌜ r ≡ saysLabel thing ⌝ }
+{
+    if thing == JOB {
+        return true;
+    }
+    if thing == EDITION {
+        return true;
+    }
+    says_several(thing)
+}
+
+// Whether a thing is of a command that has one label.
+fn of_one_label(thing: usize) -> bool
+    ensures { λ r. ⌜ r ≡ ofOneLabel thing ⌝ }
+{
+    if thing == MODE {
+        return false;
+    }
+    !says_several(thing)
+}
+
 // Whether a thing other than `FORCE` belongs to a command.
 fn belongs(command: Command, thing: usize) -> bool
     ensures { λ r. ⌜ r ≡ belongsTo command thing ⌝ }
 {
     match command {
-        Command::Seal => thing != MODE,
-        Command::Open => thing != MODE,
-        Command::Opens => thing != MODE && thing != OUT,
-        Command::Encrypt => thing != JOB && thing != EDITION,
-        Command::Decrypt => thing != JOB && thing != EDITION,
+        Command::Seal => of_one_label(thing),
+        Command::Open => of_one_label(thing),
+        Command::Opens => thing != OUT && of_one_label(thing),
+        Command::Which => thing != MODE && thing != OUT,
+        Command::Encrypt => !says_label(thing),
+        Command::Decrypt => !says_label(thing),
         Command::Unknown => false,
     }
 }
@@ -153,6 +193,7 @@ pub fn writes_sealed(command: Command) -> bool
         Command::Seal => true,
         Command::Open => false,
         Command::Opens => false,
+        Command::Which => false,
         Command::Encrypt => true,
         Command::Decrypt => false,
         Command::Unknown => false,
@@ -176,18 +217,43 @@ pub(crate) fn is_flag(thing: usize) -> bool
     thing == FORCE || thing == RETIRED
 }
 
-// Whether a thing may be left unsaid: the key's number, and what is said without a value.
-fn is_optional(thing: usize) -> bool
-    ensures { λ r. ⌜ r ≡ isOptional thing ⌝ }
+// Whether a command asks which label a file opens under.
+fn asks_which(command: Command) -> bool
+    ensures { λ r. ⌜ r ≡ asksWhich command ⌝ }
 {
-    thing == NUMBER || is_flag(thing)
+    match command {
+        Command::Seal => false,
+        Command::Open => false,
+        Command::Opens => false,
+        Command::Which => true,
+        Command::Encrypt => false,
+        Command::Decrypt => false,
+        Command::Unknown => false,
+    }
+}
+
+// Whether a command lets a thing be unsaid: the key's number, a file of candidates, and what is said without a value; and of
+// `which` the edition, which there is the one that the caller asked for.
+fn is_optional(command: Command, thing: usize) -> bool
+    ensures { λ r. ⌜ r ≡ isOptional command thing ⌝ }
+{
+    if thing == EDITION {
+        return asks_which(command);
+    }
+    if thing == NUMBER {
+        return true;
+    }
+    if thing == CANDIDATES {
+        return true;
+    }
+    is_flag(thing)
 }
 
 // Whether a command wants a thing to be said.
 pub fn wants(command: Command, thing: usize) -> bool
     ensures { λ r. ⌜ r ≡ wantsOf command thing ⌝ }
 {
-    if is_optional(thing) {
+    if is_optional(command, thing) {
         return false;
     }
     belongs(command, thing)

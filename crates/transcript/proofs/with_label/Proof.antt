@@ -5,11 +5,10 @@ use borrow.Author.Needs.{needs}
 use Rattle.transcript.proofs.with_label.Statement.{statement}
 use Rattle.transcript.proofs.with_label.Tie as tie
 
-cast-t25 : tie.Need-cast-t25
-cast-t25 c =
+cast-asked-for : tie.Need-cast-asked-for
+cast-asked-for c =
     let at-number = c .before in
-    let at-number-at2 = at-number .before .before in
-    omega (arith, rw (at-number .read2 .given .1) at (at-number-at2 .number-at2 .ensures))
+    omega (arith, rw (at-number .read2 .given .1) at (at-number .before .before .edition-at .ensures))
 
 pub with-label-spec : {M : Type 1} → statement M
 with-label-spec =
@@ -17,5 +16,6 @@ with-label-spec =
     (tie.spec
     (λ c. search needs) (λ c κs. search needs) (λ c. search needs) (λ c. search needs) (λ c. search needs)
     (λ c κs. search needs) (λ c. search needs) (λ c. search needs) (λ c κs. search needs) (λ c. search needs)
-    (λ c. search needs) (λ c. search needs) (λ c κs. search needs) (λ c. search needs) (λ c. search needs) cast-t25 (λ c κs. search needs)
+    (λ c. search needs) (λ c. search needs) (λ c κs. search needs) (λ c. search needs) cast-asked-for
+    (λ c κs. search needs) (λ c. search needs) (λ c κs. search needs) (λ c. search needs) (λ c. search needs)
     (λ c κs. search needs) (λ c. search needs))

@@ -17,4 +17,5 @@ read-command-spec =
     (λ c. rw (told (c .before .find .ensures) (c .match .keys3)))
     (λ c. rw (told (c .before .find .ensures) (c .match .keys4)))
     (λ c. rw (told (c .before .find .ensures) (c .match .keys5)))
+    (λ c. rw (told (c .before .find .ensures) (c .match .keys6)))
     (λ c. told-none commands Unknown (c .before .find .ensures) (c .match .rest)))
