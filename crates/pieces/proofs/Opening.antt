@@ -1,6 +1,6 @@
 -- What states of opening are told by.
 -- Assumes nothing.
-use mathlib.Core.Path.{_≡_, ap, ap₂, _∙_}
+use mathlib.Core.Path.{_≡_}
 use mathlib.Core.List.{List}
 use Prim.Native.Nat.{ℕ}
 use Rattle.pieces.specs.declared.hashing.Hashing.{Hashing}

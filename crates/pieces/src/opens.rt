@@ -67,7 +67,6 @@ pub fn start(cipher: Sm4Cipher, aad: &[u8], iv: &[u8]) -> OpensStep
     let t = cipher::plain();
     let rk = cipher.rk;
     let begun = tagging::begin(&t, rk, aad, iv);
-    let j0 = begun.j0;
     let hashing = begun.hashing;
     let mask = begun.mask;
     let state = Opens {
@@ -75,7 +74,7 @@ pub fn start(cipher: Sm4Cipher, aad: &[u8], iv: &[u8]) -> OpensStep
         mask,
         label: aad.len(),
         total: 0,
-        low: j0[3],
+        low: begun.low,
         stands: 0,
         key,
     };

@@ -81,7 +81,7 @@ pub fn start(cipher: Sm4Cipher, aad: &[u8], iv: &[u8]) -> SealStep
         mask,
         label: aad.len(),
         total: 0,
-        low: j0[3],
+        low: begun.low,
         stands: 0,
         key,
     };

@@ -1,16 +1,11 @@
 -- `pieces::opens::start` meets its contract: what the checks refuse is refused, and otherwise the label's hash and the cipher of J0
 -- are `tagging::begin`'s.
 -- Assumes nothing.
-use mathlib.Core.Path.{_≡_, sym, ap, _∙_}
+use mathlib.Core.Path.{sym, _∙_}
 use mathlib.Core.List.{[]}
 use Prim.Native.Nat.{ℕ}
-use mir.Val.{Fits}
-use mir.Syntax.{w32}
 use denote.Ref.{now}
-use lib.ListN.{length, getD}
-use Rattle.counter.specs.Counter.{lastFour}
-use Rattle.counter.proofs.Steps.{last-four}
-use Rattle.gcm.specs.Gcm.{J0}
+use lib.ListN.{length}
 use Rattle.cipher_mode.proofs.Passed.{iv-twelve-or-sixteen}
 use Rattle.pieces.specs.declared.opens.Opens.{Opens}
 use Rattle.pieces.specs.States.{opensAfter, opensShut}
@@ -42,19 +37,10 @@ begin-requires c κs =
     let in-order = starting-passed _ _ _ _ _ (sym (told .before .before .gcm-start .ensures) ∙ told .enum-told .given .1) in
     (at-plain .plain .ensures, (in-order .labelled, iv-twelve-or-sixteen _ (in-order .taken)))
 
--- the last word of J0
-low : (x : tie.After-begin)
-    → let a = x .before .before .before .before .before .before .before .before .before .before .args in
-    getD (x .begin .result .j0) 3 0 ≡ lastFour (J0 (a .cipher .rk) (now (a .iv)))
-low x =
-    let w = x .begin .result .j0 in
-    let h : Fits w32 (getD w 3 0) = search needs in
-    sym (last-four w (h .fits)) ∙ ap lastFour (x .begin .ensures .0)
-
 returns-2 : tie.Need-returns-2
 unfolding opensStart opensAfter
 returns-2 c =
-    let at-begin = c .before .before .before .before in
+    let at-begin = c .before .before .before in
     let told = at-begin .before .before .before .before in
     let at-check = told .before .before in
     let at-number = at-check .before in
@@ -65,7 +51,7 @@ returns-2 c =
     let begun = at-begin .begin .ensures in
     begun-there Opens _ opensShut (λ (k : ℕ). opensAfter k rk label (now (a .iv)) []) n _ (at-number .number-in .ensures) _ _
     (sym (at-check .gcm-start .ensures) ∙ told .enum-told .given .1) (c .done .ensures)
-    (same-opens _ _ _ _ _ _ (length label) 0 n (begun .1 .0) (begun .1 .1) (low at-begin))
+    (same-opens _ _ _ _ _ _ (length label) 0 n (begun .1 .0) (begun .1 .1 .0) (begun .1 .1 .1))
 
 pub start-spec : {M : Type 1} → statement M
 start-spec =
@@ -73,4 +59,4 @@ start-spec =
     (tie.spec
     (λ c κs. search needs) (λ c κs. search needs) (λ c. search needs) (λ c κs. search needs) (λ c κs. search needs)
     (λ c κs. search needs) returns (λ c. search needs) (λ c κs. search needs) (λ c. search needs) begin-requires
-    (λ c. search needs) (λ c κs. search needs) returns-2)
+    (λ c κs. search needs) returns-2)

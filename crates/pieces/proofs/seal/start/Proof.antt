@@ -1,15 +1,12 @@
 -- `pieces::seal::start` meets its contract: what the checks refuse is refused, and otherwise the flow is at the counter after J0,
 -- and J0, the label's hash and the cipher of J0 are `tagging::begin`'s.
 -- Assumes nothing.
-use mathlib.Core.Path.{_≡_, sym, ap, _∙_}
+use mathlib.Core.Path.{sym, ap, _∙_}
 use mathlib.Core.List.{[]}
 use Prim.Native.Nat.{ℕ}
-use mir.Val.{Fits}
-use mir.Syntax.{w32}
 use denote.Ref.{now}
-use lib.ListN.{length, getD}
-use Rattle.counter.specs.Counter.{gcmNext, lastFour}
-use Rattle.counter.proofs.Steps.{last-four}
+use lib.ListN.{length}
+use Rattle.counter.specs.Counter.{gcmNext}
 use Rattle.gcm.specs.Gcm.{hashKey, J0}
 use Rattle.cipher_mode.proofs.Passed.{iv-twelve-or-sixteen}
 use Rattle.pieces.specs.declared.flow.Counting.the-variants.{Gcm as Gcm·counting}
@@ -47,15 +44,6 @@ begin-requires c κs =
     let in-order = starting-passed _ _ _ _ _ (sym (told .before .before .gcm-start .ensures) ∙ told .enum-told .given .1) in
     (at-plain .plain .ensures, (in-order .labelled, iv-twelve-or-sixteen _ (in-order .taken)))
 
--- the last word of J0
-low : (x : tie.After-begin)
-    → let a = x .before .before .before .before .before .before .before .before .before .before .args in
-    getD (x .begin .result .j0) 3 0 ≡ lastFour (J0 (a .cipher .rk) (now (a .iv)))
-low x =
-    let w = x .begin .result .j0 in
-    let h : Fits w32 (getD w 3 0) = search needs in
-    sym (last-four w (h .fits)) ∙ ap lastFour (x .begin .ensures .0)
-
 returns-2 : tie.Need-returns-2
 unfolding sealStart sealAfter
 returns-2 c =
@@ -77,7 +65,7 @@ returns-2 c =
     let hashing = begun .1 .0 ∙ sym (ap (hashOf (hashKey rk) label) (no-text rk j)) in
     begun-there Seal _ sealShut (λ (k : ℕ). sealAfter k rk label iv []) n _ (at-number .number-in .ensures) _ _
     (sym (at-check .gcm-start .ensures) ∙ told .enum-told .given .1) (c .done .ensures)
-    (same-seal rk _ _ _ _ _ _ _ _ (length label) 0 n flow hashing (begun .1 .1) (low at-begin))
+    (same-seal rk _ _ _ _ _ _ _ _ (length label) 0 n flow hashing (begun .1 .1 .0) (begun .1 .1 .1))
 
 pub start-spec : {M : Type 1} → statement M
 start-spec =
@@ -85,4 +73,4 @@ start-spec =
     (tie.spec
     (λ c κs. search needs) (λ c κs. search needs) (λ c. search needs) (λ c κs. search needs) (λ c κs. search needs)
     (λ c κs. search needs) returns (λ c. search needs) (λ c κs. search needs) (λ c. search needs) begin-requires
-    (λ c κs. search needs) (λ c. search needs) (λ c κs. search needs) (λ c. search needs) (λ c κs. search needs) returns-2)
+    (λ c κs. search needs) (λ c. search needs) (λ c κs. search needs) (λ c κs. search needs) returns-2)
