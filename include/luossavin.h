@@ -11,8 +11,9 @@
  * A key that is no longer to encrypt is retired, and decrypts as before; what holds for records is said where
  * they are declared.
  *
- * Every call on a record answers a number, a length, a count of missing bytes and the key's number. The
- * outcome, which is these four and every byte of the output buffer, follows from the call's inputs alone:
+ * Every call on a record answers a number, a length, a count of missing bytes, the key's number and whether a
+ * counter came round. The outcome, which is these five and every byte of the output buffer, follows from the
+ * call's inputs alone:
  *
  *   0  done            nothing below applies
  *   1  ErrorBlockSize  the key is not 16 bytes
@@ -46,6 +47,9 @@
  * `key` is the number of the key that the call was on, whether it is done or refused; 0 where no key stands,
  * which is in refusals 7, 16, 1 and 13.
  *
+ * `came_round` is 1 where a counter came round within the message, from all ones to zero, and 0 otherwise; what
+ * that means and what to do then is said below.
+ *
  * When a call is done, the first `length` bytes of the output buffer are the result, and every byte
  * after them is as it was. For n bytes of data:
  *
@@ -72,6 +76,28 @@
  * The output holds no IV: a message is decrypted under the bytes that it was encrypted under, and as many.
  * Nothing is claimed between a 12-byte IV and the 16-byte IV that extends it with 00000001.
  *
+ * Ctr and Gcm number the blocks of a text by a counter: Ctr in all 16 bytes, from the IV on, and Gcm in the last
+ * four, from the one after J0 on. After all ones it goes on at zero, and then it has come round. For n bytes of
+ * text, which are b blocks of 16 with the last one rounded up, `came_round` is 1
+ *
+ *   in Ctr    exactly when b is at least 1 and the IV as a number, big-endian, plus b - 1 reaches 2^128: from an
+ *             IV of all ones one block says 0, and two say 1;
+ *   in Gcm    exactly when J0's last four bytes, as a number, plus b reach 2^32: where they are ffffffff a text
+ *             of 0 bytes says 0, and one of 1 byte says 1. In decryption the text is the data without its tag.
+ *             Under a 12-byte IV it is never 1 within the limits: that would take a text of almost 64 GiB.
+ *
+ * It is no refusal. The work is done all the same, either way, and bytes and length are what they would be without
+ * the report. Only luossavin_encrypt and luossavin_decrypt in modes 2 and 4 can say 1, and in pieces the three
+ * ends, of the whole message; they do so with number 0 alone. Every refusal says 0, 4 among them, and so do the
+ * other modes, single blocks, starts, pieces, and luossavin_which.
+ *
+ * Within one message no counter is used twice, come round or not: the limits are far below that. But behind all
+ * ones its counters start again at zero, where those of another message may stand: the second block under a Ctr IV
+ * of all ones has the counter that the first has under an IV of zeros. Two blocks that have one counter under one
+ * key have one key stream: who has both outputs learns how the texts differ, and who knows one text reads the
+ * other. So a host that is told 1 takes another IV for the next file, and not one that it counts on from this
+ * file's. To decrypt there is nothing to do: the text is right.
+ *
  * A message may also come in pieces, in Ctr and Gcm: what holds for these is said where they are declared.
  * There it is also said how to ask which of up to 64 labels a Gcm message opens under.
  *
@@ -97,11 +123,12 @@
 extern "C" {
 #endif
 
-/* 16 bytes, which come back in two registers. `missing` and `key` fill parts of the hole that was between the
+/* 16 bytes, which come back in two registers. `missing`, `came_round` and `key` fill the hole that was between the
  * other two, which stand where they stood before these came. */
 struct luossavin_answer {
     uint32_t number;
     uint8_t missing;
+    uint8_t came_round;
     uint16_t key;
     size_t length;
 };
@@ -229,10 +256,14 @@ struct luossavin_answer luossavin_decrypt(uint32_t mode, struct luossavin_key ke
  * that is refused gives no state but a record of the refusal, and every call on that answers the same number.
  * Every answer has the key's number, as the start's had it: those of refusals, and those after an end, too.
  *
+ * Whether a counter came round is said once, by the end that answers 0, of all pieces together, as the single call
+ * says it. Starts and pieces say 0, also the piece in which it came round, and so does every refusal: an end that
+ * was refused says it when it is done.
+ *
  * What is in a state is the library's own, and another release may have it otherwise: a host copies a state
  * and hands it on, and neither looks into it nor keeps it in a file. Whatever a host may put into one, every
  * call has an answer, in the order above, and touches nothing that was not lent; a count over its limit there
- * is refusal 5. The host is to see to this:
+ * is refusal 5, and `came_round` is 0 or 1. The host is to see to this:
  *
  *   - an older copy of a state still works, as the state that it was. Two texts that go through copies of one
  *     state, of Ctr or of sealing, use one key stream twice, as two messages under one key and IV do: who has
@@ -256,6 +287,7 @@ struct luossavin_hashing {
 struct luossavin_ctr {
     uint32_t round_keys[32];
     struct luossavin_flow flow;
+    uint8_t first[16];
     size_t total;
     uint32_t stands;
     uint16_t key;
@@ -267,6 +299,7 @@ struct luossavin_seal {
     uint8_t mask[16];
     size_t label;
     size_t total;
+    uint32_t low;
     uint32_t stands;
     uint16_t key;
 };
@@ -275,6 +308,7 @@ struct luossavin_opens {
     uint8_t mask[16];
     size_t label;
     size_t total;
+    uint32_t low;
     uint32_t stands;
     uint16_t key;
 };

@@ -6,9 +6,9 @@
 const char *const kind_names[KINDS] = {"Ctr", "sealing", "opening"};
 
 /* Without a hole before the last field, that a state's fields are the same is that its bytes up to there are. */
-_Static_assert(offsetof(struct luossavin_ctr, key) == 32 * 4 + 2 * 16 + 8 + 4, "Ctr's state has a hole");
-_Static_assert(offsetof(struct luossavin_seal, key) == 32 * 4 + 6 * 16 + 2 * 8 + 4, "sealing's state has a hole");
-_Static_assert(offsetof(struct luossavin_opens, key) == 4 * 16 + 2 * 8 + 4, "opening's state has a hole");
+_Static_assert(offsetof(struct luossavin_ctr, key) == 32 * 4 + 3 * 16 + 8 + 4, "Ctr's state has a hole");
+_Static_assert(offsetof(struct luossavin_seal, key) == 32 * 4 + 6 * 16 + 2 * 8 + 2 * 4, "sealing's state has a hole");
+_Static_assert(offsetof(struct luossavin_opens, key) == 4 * 16 + 2 * 8 + 2 * 4, "opening's state has a hole");
 
 struct luossavin_answer call_whole(const struct whole *w, struct luossavin_key key, const uint8_t *iv,
     const uint8_t *label, const uint8_t *data, uint8_t *out)
@@ -83,6 +83,16 @@ uint32_t *stands_of(struct state *s)
 uint16_t *number_of(struct state *s)
 {
     return s->kind == COUNTING ? &s->is.ctr.key : s->kind == SEALING ? &s->is.seal.key : &s->is.opens.key;
+}
+
+void put_from(struct state *s, const uint8_t from[16])
+{
+    uint32_t low = (uint32_t)from[12] << 24 | (uint32_t)from[13] << 16 | (uint32_t)from[14] << 8 | from[15];
+    if (s->kind == COUNTING) {
+        memcpy(s->is.ctr.first, from, 16);
+    } else {
+        *(s->kind == SEALING ? &s->is.seal.low : &s->is.opens.low) = low;
+    }
 }
 
 int same_state(const struct state *a, const struct state *b)

@@ -58,6 +58,10 @@ size_t *label_of(struct state *s);
 uint32_t *stands_of(struct state *s);
 uint16_t *number_of(struct state *s);
 
+/* What the message's counters are counted from, put into a state: Ctr keeps all of it, Gcm's two the last four bytes
+ * as a number. */
+void put_from(struct state *s, const uint8_t from[16]);
+
 /* Whether the state after a call is the one that is due with its answer: a refusal leaves the one before, or, of a
  * start, nothing but its number and the key's; an end leaves no more; a piece adds its length to the total. */
 int state_is_due(const struct part *p, struct luossavin_answer due, const struct state *before, struct state *after);

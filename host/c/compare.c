@@ -7,8 +7,9 @@
  *
  * The archive makes each call under the key with number 1. Every third call it makes once more with the key
  * retired, under another number: decryption must then be what it was, and encryption the refusal that the rules
- * (rules.c) say. Prints, for each of the three, how many records were compared and how many differ; the same of
- * paddings; how many had a 12-byte IV in Gcm; what came of those that were retired; and the smallest record that
+ * (rules.c) say. They also say whether a counter came round, of which libsm has no report. Prints, for each of the
+ * three, how many records were compared and how many differ; the same of paddings; how many had a 12-byte IV in Gcm;
+ * what came of those that were retired; in how many answers a counter came round; and the smallest record that
  * differs. Exit status 1 if any does, 2 if the list cannot be read.
  */
 #define _POSIX_C_SOURCE 200809L /* open_memstream */
@@ -17,6 +18,7 @@
 
 #include "calls.h"
 #include "peers.h"
+#include "wrap.h"
 
 #include <stdio.h>
 #include <stdlib.h>
@@ -36,6 +38,9 @@ static struct {
 static struct {
     unsigned long stopped, decrypted, refused;
 } again;
+
+/* In how many answers of the archive a counter came round; libsm has no such report. */
+static unsigned long came_round;
 
 /* The number that the archive must answer: that of libsm's name, or, of the inputs that
  * docs/DIFFERENCES.md lists, what is said there. */
@@ -62,11 +67,12 @@ static uint32_t number_for(const struct record *r)
 
 /* A record as the rules see it, under a key with these fields and with `slack` bytes of room more than it needs.
  * Whether a tag is right is taken from libsm's answer, and Cbc's last block from libgcrypt. */
-static struct whole whole_of(const struct record *r, struct holder key, size_t slack)
+static struct whole whole_of(const struct record *r, struct luossavin_key key, struct holder fields, size_t slack)
 {
-    struct whole w = {.is_block = r->mode == BLOCK, .mode = r->mode, .direction = r->direction, .key = key,
+    struct whole w = {.is_block = r->mode == BLOCK, .mode = r->mode, .direction = r->direction, .key = fields,
         .iv = r->iv.length, .label = r->label.length, .data = r->data.length};
     last_block(r, w.last);
+    count_from(r->mode, key, r->iv.bytes, r->iv.length, w.from);
     w.wrong_tag = r->name == INVALID_TAG;
     w.room = room_needed(&w) + slack;
     return w;
@@ -193,7 +199,7 @@ static int is_filled(const uint8_t *bytes, size_t count)
 static uint32_t compare_under(const struct record *r, struct luossavin_key key, struct holder fields, size_t slack)
 {
     const struct luossavin_key due_key = holding(key, fields);
-    struct whole w = whole_of(r, fields, slack);
+    struct whole w = whole_of(r, key, fields, slack);
     struct luossavin_answer a, due = answer_to(&w);
     uint8_t *out = buffer(GOT, w.room + SLACK);
     struct field got = {out, 0};
@@ -207,14 +213,16 @@ static uint32_t compare_under(const struct record *r, struct luossavin_key key, 
         snprintf(what, sizeof what, "its key's record is %u, %u, %u", key.answer, key.number, key.retired);
         differs(ARCHIVE, "the archive", r, what, got);
     } else if (difference(a, due) != NULL) {
-        snprintf(what, sizeof what, "number %u, missing %u, key %u, length %zu, expected %u, %u, %u, %zu", a.number,
-            a.missing, a.key, a.length, due.number, due.missing, due.key, due.length);
+        snprintf(what, sizeof what, "number %u, missing %u, key %u, length %zu, round %u, expected %u, %u, %u, %zu, %u",
+            a.number, a.missing, a.key, a.length, a.came_round, due.number, due.missing, due.key, due.length,
+            due.came_round);
         differs(ARCHIVE, "the archive", r, what, got);
     } else if (memcmp(out, r->output.bytes, due.length) != 0) {
         differs(ARCHIVE, "the archive", r, "the output is another", got);
     } else if (!is_filled(out + due.length, w.room + SLACK - due.length)) {
         differs(ARCHIVE, "the archive", r, "a byte past the length is written", got);
     }
+    came_round += due.came_round;
     return due.number;
 }
 
@@ -322,6 +330,7 @@ int main(void)
         twelve.sealed + twelve.opened + twelve.refused, twelve.sealed, twelve.opened, twelve.refused);
     printf("  asked again with the key retired: %lu of those, %lu not encrypted %lu decrypted %lu refused as before\n",
         again.stopped + again.decrypted + again.refused, again.stopped, again.decrypted, again.refused);
+    printf("  a counter came round in %lu answers of the archive\n", came_round);
     for (int side = 0; side < SIDES; side++) {
         differ += tally[side].differ;
     }

@@ -4,13 +4,15 @@
  *                     behind its end and then before its start, and inputs may not be written at all
  *   faults --heap     the same on buffers from malloc, without the limits and fewer sizes: for valgrind
  *
- * Every call's number, missing count, key's number, length and output are held to what the header says, which is
- * written down again in rules.c. Prints what is wrong, how many calls were made, and how many of them for each
- * number; exit status 1 if anything is wrong.
+ * Every call's number, missing count, key's number, length, output and whether a counter came round are held to what
+ * the header says, which is written down again in rules.c. IVs of 16 bytes are such that a counter comes round in a
+ * text of some blocks, and not in a shorter one. Prints what is wrong, how many calls were made, how many of them for
+ * each number, and in how many a counter came round; exit status 1 if anything is wrong.
  */
 #include "faults.h"
 
 #include "calls.h"
+#include "wrap.h"
 
 #include <signal.h>
 #include <stdio.h>
@@ -18,7 +20,8 @@
 #include <string.h>
 #include <unistd.h>
 
-unsigned long calls, wrong, calls_for[NUMBERS];
+unsigned long calls, wrong, calls_for[NUMBERS], came_round;
+uint32_t before_wrap = 1;
 void (*print_now)(const char *what);
 
 const struct holder holders[HOLDERS] = {{0, 1, 0}, {0, 65535, 1}, {0, 0, 2}, {0, 256, 255}, {1, 0, 0}, {13, 0, 0},
@@ -35,6 +38,7 @@ int judge(struct luossavin_answer got, struct luossavin_answer due)
     const char *what = difference(got, due);
     calls++;
     calls_for[due.number]++;
+    came_round += due.came_round;
     if (what != NULL) {
         print_now(what);
     }
@@ -51,11 +55,31 @@ struct luossavin_key record(struct holder fields)
     return holding(key, fields);
 }
 
-struct beside lend_beside(size_t iv, size_t label)
+void near_wrap(uint32_t mode, uint8_t iv[16])
 {
-    struct beside b = {lend(iv, 0), lend(label, 0)};
+    static uint8_t gcm[16];
+    static uint32_t made_for = UINT32_MAX;
+    if (mode != GCM) {
+        iv_near_ctr_wrap(iv, before_wrap);
+        return;
+    }
+    if (made_for != before_wrap) {
+        memset(gcm, 0x5a, 16);
+        iv_near_gcm_wrap(record(holders[0]), gcm, before_wrap);
+        made_for = before_wrap;
+    }
+    memcpy(iv, gcm, 16);
+}
+
+struct beside lend_beside(uint32_t mode, size_t iv, size_t label)
+{
+    struct beside b = {.iv = lend(iv, 0), .label = lend(label, 0)};
     fill(b.iv);
     fill(b.label);
+    if (iv == 16) {
+        near_wrap(mode, b.iv.bytes);
+    }
+    memcpy(b.kept_iv, b.iv.bytes, iv);
     shut(b.iv);
     shut(b.label);
     return b;
@@ -63,7 +87,7 @@ struct beside lend_beside(size_t iv, size_t label)
 
 void take_back(struct beside b)
 {
-    if (!holds_fill(b.iv) || !holds_fill(b.label)) {
+    if (memcmp(b.kept_iv, b.iv.bytes, b.iv.length) != 0 || !holds_fill(b.label)) {
         print_now("it changes an input");
     }
     give_back(b.iv);
@@ -81,6 +105,13 @@ static void on_fault(int signal)
 /* What runs. A message to decrypt is spoiled as its `last` and `wrong_tag` say. */
 static struct whole now;
 
+static void print_bytes(const uint8_t bytes[16])
+{
+    for (int i = 0; i < 16; i++) {
+        printf("%02x", bytes[i]);
+    }
+}
+
 static void print_trial(const char *what)
 {
     if (is_printed()) {
@@ -88,9 +119,9 @@ static void print_trial(const char *what)
             now.direction == ENCRYPT ? "encrypt" : "decrypt", now.key.answer, now.key.number, now.key.retired);
         printf("iv %zu, label %zu, data %zu, room %zu, tag %s, last block ", now.iv, now.label, now.data, now.room,
             now.wrong_tag ? "wrong" : "right");
-        for (int i = 0; i < 16; i++) {
-            printf("%02x", now.last[i]);
-        }
+        print_bytes(now.last);
+        printf(", counted from ");
+        print_bytes(now.from);
         putchar('\n');
     }
 }
@@ -170,9 +201,11 @@ static int result_is(const struct whole *w, struct beside b, struct buffer data,
 
 static void try(struct whole w)
 {
-    struct luossavin_answer due = answer_to(&w);
-    struct beside b = lend_beside(w.iv, w.label);
+    struct luossavin_answer due;
+    struct beside b = lend_beside(w.mode, w.iv, w.label);
     struct buffer data = message(&w, b), kept = lend(w.data, 0), out = lend(w.room, LENT);
+    count_from(w.mode, record(w.key), b.iv.bytes, w.iv, w.from);
+    due = answer_to(&w);
     now = w;
     memcpy(kept.bytes, data.bytes, w.data);
     shut(data);
@@ -384,6 +417,19 @@ static void limits(uint32_t mode, int direction)
     each_of(w, try);
 }
 
+/* A text at the limit whose last counter is the one that has come round, and then all ones. */
+static void just_round(uint32_t mode, int direction)
+{
+    uint32_t usual = before_wrap, counters = LIMIT / 16 + (mode == GCM);
+    struct whole w = {.mode = mode, .direction = direction, .key = holders[0], .iv = 16, .data = LIMIT};
+    w.data += mode == GCM && direction == DECRYPT ? 16 : 0;
+    w.room = room_needed(&w);
+    for (before_wrap = counters - 2; before_wrap < counters; before_wrap++) {
+        try(w);
+    }
+    before_wrap = usual;
+}
+
 static void all(int with_limits)
 {
     print_now = print_trial;
@@ -392,6 +438,9 @@ static void all(int with_limits)
             sizes(mode, direction);
             if (with_limits) {
                 limits(mode, direction);
+            }
+            if (with_limits && (mode == CTR || mode == GCM)) {
+                just_round(mode, direction);
             }
         }
     }
@@ -417,7 +466,7 @@ int main(int argc, char **argv)
         fence_after = 0;
         all(1);
     }
-    printf("%lu calls, %lu wrong\n", calls, wrong);
+    printf("%lu calls, %lu wrong; in %lu a counter comes round\n", calls, wrong, came_round);
     printf("by number:");
     for (int number = 0; number < NUMBERS; number++) {
         printf(" %d: %lu%s", number, calls_for[number], number == NUMBERS - 1 ? "\n" : ",");

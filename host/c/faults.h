@@ -6,8 +6,9 @@
 #include "fenced.h"
 #include "rules.h"
 
-/* How many calls were made, how many of them for each number, and how much was wrong. */
-extern unsigned long calls, wrong, calls_for[NUMBERS];
+/* How many calls were made, how many of them for each number, in how many a counter came round, and how much was
+ * wrong. */
+extern unsigned long calls, wrong, calls_for[NUMBERS], came_round;
 
 /* Prints the trial that runs, as wrong: a fault has no other way to name it. */
 extern void (*print_now)(const char *what);
@@ -28,9 +29,15 @@ extern const struct holder holders[HOLDERS];
 /* What a call is lent beside data: an IV and a label, which it may only read. */
 struct beside {
     struct buffer iv, label;
+    uint8_t kept_iv[32];
 };
 
-struct beside lend_beside(size_t iv, size_t label);
+struct beside lend_beside(uint32_t mode, size_t iv, size_t label);
+
+/* IVs of 16 bytes have so many counters before the one that is all ones, in Ctr and in Gcm, where J0's is the first
+ * of them; in the other modes they are the same as in Ctr. */
+extern uint32_t before_wrap;
+void near_wrap(uint32_t mode, uint8_t iv[16]);
 
 /* Prints the trial where a call has written there. */
 void take_back(struct beside b);

@@ -1,9 +1,10 @@
 /* Messages in pieces under bad input: every record, size and room of a start, a piece and an end, states that are
- * none, that have ended, or that stand at the limit. Buffers are as in faults.c, and what the header says is in
- * rules.c; a state must be the one before it after every refusal.
+ * none, that have ended, that stand at the limit, or that say other counters. Buffers and IVs are as in faults.c,
+ * and what the header says is in rules.c; a state must be the one before it after every refusal.
  */
 #include "faults.h"
 #include "calls.h"
+#include "wrap.h"
 
 #include <stdio.h>
 #include <stdlib.h>
@@ -24,8 +25,12 @@ static void print_trial(const char *what)
         printf(", record %u, %u, %u, %s, iv %zu, label %zu\n", now.key.answer, now.key.number, now.key.retired,
             now.decrypt ? "decrypt" : "encrypt", now.iv, now.label);
     } else {
-        printf(", before %zu, total %zu, stands %u, key %u, data %zu, room %zu, tag %s\n", before_now, now.total,
-            now.stands, now.number, now.data, now.room, now.wrong_tag ? "wrong" : "right");
+        printf(", before %zu, total %zu, stands %u, key %u, data %zu, room %zu, tag %s, counted from ", before_now,
+            now.total, now.stands, now.number, now.data, now.room, now.wrong_tag ? "wrong" : "right");
+        for (int i = 0; i < 16; i++) {
+            printf("%02x", now.from[i]);
+        }
+        putchar('\n');
     }
 }
 
@@ -34,11 +39,23 @@ static void print_trial(const char *what)
 
 static uint8_t text[LIMIT], sealed[LIMIT + 16];
 
+/* A call on such a message, as it was begun. */
+static struct part on_message(enum kind kind, enum step step)
+{
+    struct part p = {.kind = kind, .step = step, .number = 1};
+    uint32_t mode = kind == COUNTING ? CTR : GCM;
+    uint8_t iv[16];
+    near_wrap(mode, iv);
+    count_from(mode, record(holders[0]), iv, 16, p.from);
+    return p;
+}
+
 static void begin(enum kind kind, size_t before, struct state *s)
 {
-    static const uint8_t iv[16] = {2, 7, 1, 8, 2, 8};
+    uint8_t iv[16];
     const struct given given = {.key = record(holders[0]), .iv = iv, .iv_len = 16};
     static uint8_t out[LIMIT];
+    near_wrap(kind == COUNTING ? CTR : GCM, iv);
     luossavin_encrypt(GCM, given.key, NULL, 0, text, before, iv, 16, sealed, sizeof sealed);
     if (call_start(kind, s, &given).number != 0
         || call_piece(s, kind == OPENING ? sealed : text, before, out, sizeof out).number != 0) {
@@ -47,7 +64,8 @@ static void begin(enum kind kind, size_t before, struct state *s)
     }
 }
 
-/* A state is a value, so the one before a call serves many. */
+/* A state is a value, so the one before a call serves many. Its counters stay the message's own unless the call is to
+ * find others. */
 static void prepare(const struct part *p, size_t before, struct state *s)
 {
     static struct state begun;
@@ -60,6 +78,9 @@ static void prepare(const struct part *p, size_t before, struct state *s)
     *total_of(s) = p->total;
     *stands_of(s) = p->stands;
     *number_of(s) = p->number;
+    if (memcmp(p->from, on_message(p->kind, p->step).from, 16) != 0) {
+        put_from(s, p->from);
+    }
 }
 
 /* What is lent beside the data: an output buffer, or opening's tag. */
@@ -110,7 +131,7 @@ static int in_order(struct luossavin_answer a, struct luossavin_answer due, cons
 
 static void try_start(struct part p)
 {
-    struct beside b = lend_beside(p.iv, p.label);
+    struct beside b = lend_beside(p.kind == COUNTING ? CTR : GCM, p.iv, p.label);
     struct given given = {record(p.key), p.decrypt, lent(b.iv), lent(b.label), p.iv, p.label};
     struct state s;
     p.step = START;
@@ -169,7 +190,8 @@ static void starts(enum kind kind)
  * every length of tag. */
 static void at_place(enum kind kind, size_t before)
 {
-    struct part p = {.kind = kind, .step = PIECE, .number = 1, .total = before};
+    struct part p = on_message(kind, PIECE);
+    p.total = before;
     for (p.data = 0; p.data <= 34; p.data += heap ? 3 : 1) {
         size_t most = kind == OPENING ? 0 : p.data + 1;
         for (p.room = 0; p.room <= most; p.room++) {
@@ -193,7 +215,10 @@ static void not_standing(enum kind kind)
         0xffffffff};
     static const uint16_t numbers[] = {0, 1, 65535};
     for (int i = 0; i < 18; i++) {
-        struct part p = {.kind = kind, .step = PIECE, .total = 17, .stands = stands[i], .number = numbers[i % 3]};
+        struct part p = on_message(kind, PIECE);
+        p.total = 17;
+        p.stands = stands[i];
+        p.number = numbers[i % 3];
         for (p.data = 0; p.data <= 17; p.data++) {
             p.room = 0;
             try(p, 17);
@@ -214,7 +239,9 @@ static void forged_totals(enum kind kind)
     static const size_t totals[] = {LIMIT - 17, LIMIT - 16, LIMIT - 1, LIMIT, LIMIT + 1, LIMIT + 16, (size_t)1 << 32,
         SIZE_MAX / 2, SIZE_MAX - 16, SIZE_MAX};
     for (int i = 0; i < 10; i++) {
-        struct part p = {.kind = kind, .step = PIECE, .number = 65535, .total = totals[i]};
+        struct part p = on_message(kind, PIECE);
+        p.number = 65535;
+        p.total = totals[i];
         for (p.data = 0; p.data <= 18; p.data++) {
             p.room = kind == OPENING ? 0 : p.data;
             try(p, 3);
@@ -230,6 +257,25 @@ static void forged_totals(enum kind kind)
     }
 }
 
+/* Ends of a message of so many bytes that was counted from something else, or so its state says. */
+static void forged_counters(enum kind kind)
+{
+    static const uint32_t before[] = {0, 1, 2, 3, 255, 256, LIMIT / 16 - 2, LIMIT / 16 - 1, LIMIT / 16, 0x7fffffff,
+        0xfffffffe, 0xffffffff};
+    static const uint8_t tops[] = {0xff, 0xfe, 0x7f, 0};
+    static const size_t totals[] = {0, 1, 15, 16, 17, 32, 33, LIMIT - 16, LIMIT - 15, LIMIT, LIMIT + 1, SIZE_MAX};
+    struct part p = on_message(kind, END);
+    for (int i = 0; i < 12 * 4 * 12; i++) {
+        iv_near_ctr_wrap(p.from, before[i % 12]);
+        p.from[i % 7] = tops[i / 12 % 4];
+        p.total = totals[i / 48];
+        for (p.room = 15; p.room <= 17; p.room++) {
+            p.wrong_tag = kind == OPENING && p.total != 17; /* the tag is that of 17 bytes */
+            try(p, 17);
+        }
+    }
+}
+
 /* Real lengths: a label, a piece and a message at the limit and one over it. */
 static void limits(enum kind kind)
 {
@@ -241,7 +287,9 @@ static void limits(enum kind kind)
     try_start(p);
     p.iv = 13;
     try_start(p);
-    p = (struct part){.kind = kind, .step = PIECE, .number = 1, .total = 16, .data = LIMIT - 16, .room = LIMIT - 16};
+    p = on_message(kind, PIECE);
+    p.total = 16;
+    p.data = p.room = LIMIT - 16;
     try(p, 16);
     p.total = 17;
     try(p, 17);
@@ -275,6 +323,7 @@ void pieces(int with_limits)
         }
         not_standing(kind);
         forged_totals(kind);
+        forged_counters(kind);
         if (with_limits) {
             limits(kind);
         }

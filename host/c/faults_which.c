@@ -52,7 +52,7 @@ static void judge_search(const struct search *s, const struct buffer *file, cons
 
 static void try(struct search s)
 {
-    struct beside b = lend_beside(s.iv, s.labels_len);
+    struct beside b = lend_beside(GCM, s.iv, s.labels_len);
     struct buffer lengths = lend_lengths(&s), file = file_of(&s, b), kept = lend(s.file, 0);
     memcpy(kept.bytes, file.bytes, s.file);
     shut(file);

@@ -10,7 +10,8 @@
  * on Ctr (under 16 bytes) and on sealing; and on opening, either of what was sealed or of that with a bit of tag,
  * label or ciphertext changed. Then each way of cutting it must give the same, with refused calls in between. The
  * key has any number, which every answer must repeat; half of Ctr's decryptions and of the openings are under it
- * once it is retired, and what would encrypt under it then must be refused at the start.
+ * once it is retired, and what would encrypt under it then must be refused at the start. Half of the IVs of 16 bytes
+ * lead to where the counter comes round, or almost: the single call and the end must say whether it did.
  * Prints what is wrong and how much was done; exit status 1 if anything is wrong.
  */
 #include "pieces.h"
@@ -31,11 +32,11 @@ enum spoil { NOTHING, THE_TAG, THE_LABEL, THE_TEXT, SPOILS };
 
 unsigned long calls, wrong;
 void (*describe)(void);
-static unsigned long messages, came_round, verdicts[2], runs, retired_runs;
+static unsigned long messages, came_round, ends_round, verdicts[2], runs, retired_runs;
 
 /* The message that runs: what is given, the key's record as it is and retired; its text, and what the single call
  * makes of it in Ctr and in sealing; what is received in its place for opening, under which label, and whether that
- * opens (0 or 4). */
+ * opens (0 or 4). Of Ctr and then of Gcm, whether a counter comes round, as the rules say. */
 static struct {
     uint64_t seed;
     enum spoil spoil;
@@ -44,6 +45,7 @@ static struct {
     size_t iv_len, label_len, other_len, length;
     uint32_t verdict;
     uint16_t number;
+    uint8_t round[2];
 } m;
 static uint8_t text[LIMIT], counted[LIMIT], sealed[LIMIT + 16], received[LIMIT + 16], out[LIMIT + 16 + SLACK];
 static const uint8_t too_long[LIMIT + 1];
@@ -73,10 +75,19 @@ int is_wrong(const char *what)
     return 0;
 }
 
+/* An answer that says that no counter came round, and one that says what it is to say. */
+
 static int is(struct luossavin_answer a, uint32_t number, size_t missing, size_t length)
 {
     calls++;
-    return a.number == number && a.missing == missing && a.key == m.number && a.length == length;
+    return a.number == number && a.missing == missing && a.came_round == 0 && a.key == m.number && a.length == length;
+}
+
+static int is_round(struct luossavin_answer a, uint32_t number, size_t length, uint8_t round)
+{
+    int as_due = a.came_round == round;
+    a.came_round = 0;
+    return is(a, number, 0, length) && as_due;
 }
 
 /* Whether the output buffer is as it was lent from `from` up to SLACK bytes behind `to`. */
@@ -107,21 +118,31 @@ static void change(void)
     }
 }
 
-/* One in four has a counter that comes round, where it is long enough: Ctr's, or Gcm's under 16 bytes. */
+/* Whether a counter comes round in the text, as the rules have it. */
+static uint8_t rounds_in(uint32_t mode)
+{
+    struct whole w = {.mode = mode, .key = set_up(16, m.number), .iv = m.iv_len, .data = m.length, .room = SIZE_MAX};
+    count_from(mode, m.key, m.iv, m.iv_len, w.from);
+    return answer_to(&w).came_round;
+}
+
+/* Half of those of 16 bytes lead to where a counter comes round, Ctr's or Gcm's: within the text, or just where it
+ * ends. */
 static void choose_iv(void)
 {
-    uint8_t before;
+    uint32_t blocks = (uint32_t)((m.length + 15) / 16), before;
     draw_bytes(m.iv, 16);
-    if (m.iv_len != 16 || m.length < 32 || below(4) != 0) {
-        return;
+    if (m.iv_len == 16 && below(2) == 0) {
+        before = (uint32_t)(blocks < 2 || below(2) ? below(blocks + 2) : blocks - 2 + below(4));
+        if (below(2) == 0) {
+            iv_near_ctr_wrap(m.iv, before);
+        } else {
+            iv_near_gcm_wrap(m.key, m.iv, before);
+        }
     }
-    came_round++;
-    before = (uint8_t)below(m.length / 16 - 1);
-    if (below(2) == 0) {
-        iv_near_ctr_wrap(m.iv, before);
-    } else {
-        iv_near_gcm_wrap(m.key, m.iv, before);
-    }
+    m.round[0] = rounds_in(CTR);
+    m.round[1] = rounds_in(GCM);
+    came_round += m.round[0] || m.round[1];
 }
 
 /* What libgcrypt makes of `data`, in `out`, against the archive's `ours`. */
@@ -137,17 +158,19 @@ static void hold_peer(int mode, struct field data, const uint8_t *ours, size_t l
 static void ask_encryption(void)
 {
     const struct field data = {text, m.length};
+    struct luossavin_answer a;
     if (m.iv_len == 16) {
         now = COUNTING;
-        if (luossavin_encrypt(CTR, m.key, NULL, 0, text, m.length, m.iv, 16, counted, m.length).number != 0) {
-            is_wrong("the single call is refused");
+        a = luossavin_encrypt(CTR, m.key, NULL, 0, text, m.length, m.iv, 16, counted, m.length);
+        if (!is_round(a, 0, m.length, m.round[0])) {
+            is_wrong("the single call's answer");
         }
         hold_peer(CTR, data, counted, m.length);
     }
     now = SEALING;
-    if (luossavin_encrypt(GCM, m.key, m.label, m.label_len, text, m.length, m.iv, m.iv_len, sealed,
-        m.length + 16).number != 0) {
-        is_wrong("the single call is refused");
+    a = luossavin_encrypt(GCM, m.key, m.label, m.label_len, text, m.length, m.iv, m.iv_len, sealed, m.length + 16);
+    if (!is_round(a, 0, m.length + 16, m.round[1])) {
+        is_wrong("the single call's answer");
     }
     hold_peer(GCM, data, sealed, m.length + 16);
 }
@@ -157,10 +180,13 @@ static void ask_opening(void)
 {
     const struct field iv = {m.iv, m.iv_len}, label = {m.other_label, m.other_len}, data = {received, m.length + 16};
     enum verdict wanted = m.spoil == NOTHING ? DONE : BAD_TAG;
+    struct luossavin_answer a;
     now = OPENING;
-    m.verdict = luossavin_decrypt(GCM, m.old, m.other_label, m.other_len, received, m.length + 16, m.iv, m.iv_len,
-        out, m.length).number;
-    if (m.verdict != (wanted == DONE ? 0 : 4) || peers[0].run(GCM, DECRYPT, m.bytes, iv, label, data, out) != wanted) {
+    m.verdict = wanted == DONE ? 0 : 4;
+    a = luossavin_decrypt(GCM, m.old, m.other_label, m.other_len, received, m.length + 16, m.iv, m.iv_len, out,
+        m.length);
+    if (!is_round(a, m.verdict, wanted == DONE ? m.length : 0, wanted == DONE && m.round[1])
+        || peers[0].run(GCM, DECRYPT, m.bytes, iv, label, data, out) != wanted) {
         is_wrong("whether the single call opens it, or libgcrypt");
     }
     verdicts[wanted]++;
@@ -286,14 +312,17 @@ static int hold_refused_ends(const struct state *s)
 
 static int hold_end(struct state *s)
 {
+    uint32_t number = now == OPENING ? m.verdict : 0;
+    uint8_t round = number == 0 ? m.round[now != COUNTING] : 0;
     struct luossavin_answer a;
     if (!hold_refused_ends(s)) {
         return 0;
     }
     a = now == OPENING ? call_end(s, received + m.length, 16) : call_end(s, out, 16 + below(SLACK));
-    if (!is(a, now == OPENING ? m.verdict : 0, 0, now == SEALING ? 16 : 0)) {
+    if (!is_round(a, number, now == SEALING ? 16 : 0, round)) {
         return is_wrong("the answer of an end");
     }
+    ends_round += round;
     if (now == SEALING && memcmp(out, sealed + m.length, 16) != 0) {
         return is_wrong("the tag");
     }
@@ -431,7 +460,8 @@ int main(int argc, char **argv)
     if (messages != 0) {
         printf("  %lu messages, in %lu a counter comes round, %lu open and %lu do not; libgcrypt %s\n", messages,
             came_round, verdicts[DONE], verdicts[BAD_TAG], peers[0].version());
-        printf("  cut %lu times, %lu of them under a retired key\n", runs, retired_runs);
+        printf("  cut %lu times, %lu of them under a retired key; %lu ends say that a counter came round\n", runs,
+            retired_runs, ends_round);
     }
     printf("  %lu calls, %lu wrong\n", calls, wrong);
     return wrong != 0;

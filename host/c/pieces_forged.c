@@ -1,12 +1,14 @@
 /* States that a host made up: any field holds anything. The header's order (rules.c) still says which number comes,
- * each answer has the key's number that stands there, a refusal leaves the state as it was, a piece counts its
- * bytes, the outcome is the same when the call is made again, and buffers are fenced on either side.
+ * each answer has the key's number that stands there, an end says whether a counter came round by what the state says
+ * that it was counted from, a refusal leaves the state as it was, a piece counts its bytes, the outcome is the same
+ * when the call is made again, and buffers are fenced on either side.
  */
 #include "pieces.h"
 
 #include "fenced.h"
 #include "calls.h"
 #include "random.h"
+#include "wrap.h"
 
 #include <signal.h>
 #include <stdio.h>
@@ -15,7 +17,7 @@
 
 enum { MOST = 48 };
 
-static unsigned long calls_for[NUMBERS];
+static unsigned long calls_for[NUMBERS], came_round;
 
 /* What runs: a call, and the state that it is on, which holds the same. */
 static struct part now;
@@ -67,6 +69,15 @@ static uint32_t any_standing(void)
     }
 }
 
+/* What counters may be counted from: anything, or near the place where they come round for such a total. */
+static void any_from(uint8_t from[16], size_t total)
+{
+    draw_bytes(from, 16);
+    if (below(4) != 0) {
+        iv_near_ctr_wrap(from, (uint32_t)(total / 16 + 3 - below(6)));
+    }
+}
+
 /* A state of any bytes, with some fields that are nearer to what the library gives, and a call on it. */
 static void any_call(void)
 {
@@ -78,6 +89,8 @@ static void any_call(void)
     if (label_of(&given) != NULL) {
         *label_of(&given) = now.label_before = any_length();
     }
+    any_from(now.from, now.total);
+    put_from(&given, now.from);
     now.step = below(3) == 0 ? END : PIECE;
     now.data = now.step == END ? 0 : below(MOST);
     now.room = now.step == PIECE && now.kind == OPENING ? 0 : below(2) ? 16 : below(MOST);
@@ -94,6 +107,7 @@ static int in_order(struct luossavin_answer a, struct state *after)
         return is_wrong("the answer on a forged state");
     }
     calls_for[due.number]++;
+    came_round += due.came_round;
     return state_is_due(&now, due, &given, after) || is_wrong("the state after a forged one");
 }
 
@@ -146,5 +160,5 @@ void forged(size_t count)
             printf(" %d: %lu", number, calls_for[number]);
         }
     }
-    puts(", each made twice");
+    printf("; %lu say that a counter came round, each made twice\n", came_round);
 }

@@ -94,6 +94,26 @@ static int bears_out(const uint8_t last[16])
     return 1;
 }
 
+/* Counters. */
+
+/* Whether a big-endian number of so many bytes, and `more`, come to what these bytes cannot hold: what is carried out
+ * of the first byte. */
+static int passes(const uint8_t *number, size_t bytes, uint64_t more)
+{
+    while (bytes-- > 0) {
+        more = (more + number[bytes]) >> 8;
+    }
+    return more != 0;
+}
+
+/* Whether a counter comes round within a text. Ctr's first one is the IV, so that the last of b blocks has b - 1 added
+ * to it; Gcm's first one is the one after J0, of which the last four bytes are counted. The other modes have none. */
+static int comes_round(uint32_t mode, const uint8_t from[16], size_t text)
+{
+    size_t blocks = text / 16 + (text % 16 != 0);
+    return mode == CTR ? blocks >= 1 && passes(from, 16, blocks - 1) : mode == GCM && passes(from + 12, 4, blocks);
+}
+
 /* Whole messages, and blocks. */
 
 int takes_iv(uint32_t mode, size_t bytes)
@@ -152,6 +172,7 @@ static uint32_t message_number(const struct whole *w)
 
 struct luossavin_answer answer_to(const struct whole *w)
 {
+    int gcm = w->direction == DECRYPT && w->mode == GCM;
     struct luossavin_answer due = {0};
     due.number = w->is_block ? block_number(w) : message_number(w);
     due.missing = due.number == 9 ? 16 - w->data : 0;
@@ -159,6 +180,7 @@ struct luossavin_answer answer_to(const struct whole *w)
     due.length = due.number != 0                                     ? 0
         : !w->is_block && w->mode == CBC && w->direction == DECRYPT ? w->data - w->last[15]
                                                                      : room_needed(w);
+    due.came_round = due.number == 0 && !w->is_block && comes_round(w->mode, w->from, w->data - (gcm ? 16 : 0));
     return due;
 }
 
@@ -205,6 +227,8 @@ struct luossavin_answer answer_to_part(const struct part *p)
     due.missing = due.number == 9 && p->room < 16 ? 16 - p->room : 0;
     due.key = p->step == START ? number_in(due.number, p->key) : p->number;
     due.length = due.number == 0 ? part_needs(p) : 0;
+    due.came_round = due.number == 0 && p->step == END
+        && comes_round(p->kind == COUNTING ? CTR : GCM, p->from, p->total);
     return due;
 }
 
@@ -280,11 +304,12 @@ struct luossavin_found answer_to_search(const struct search *s)
 
 const char *difference(struct luossavin_answer got, struct luossavin_answer due)
 {
-    return got.number != due.number   ? "its number"
-        : got.missing != due.missing  ? "its missing count"
-        : got.key != due.key          ? "its key's number"
-        : got.length != due.length    ? "its length"
-                                      : NULL;
+    return got.number != due.number         ? "its number"
+        : got.missing != due.missing        ? "its missing count"
+        : got.key != due.key                ? "its key's number"
+        : got.length != due.length          ? "its length"
+        : got.came_round != due.came_round  ? "whether a counter came round"
+                                            : NULL;
 }
 
 const char *difference_found(struct luossavin_found got, struct luossavin_found due)

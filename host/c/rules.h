@@ -1,6 +1,7 @@
 /* What include/luossavin.h says a call answers, written down again for the tests: the refusals in their order, and
- * with them the missing count, the key's number and the length. It goes by lengths and by fields that the tests
- * choose themselves; nothing of the library is called, and nothing that it gave back is looked at. */
+ * with them the missing count, the key's number, the length and whether a counter came round. It goes by lengths and
+ * by fields that the tests choose themselves; nothing of the library is called, and nothing that it gave back is
+ * looked at. */
 #ifndef RULES_H
 #define RULES_H
 
@@ -29,7 +30,8 @@ struct luossavin_key holding(struct luossavin_key key, struct holder fields);
 int same_key(const struct luossavin_key *a, const struct luossavin_key *b);
 
 /* A call on a whole message, or on one block. Of a message to decrypt: in Cbc, `last` is the last block once it is
- * decrypted; in Gcm, `wrong_tag` says that the tag is not the right one. */
+ * decrypted; in Gcm, `wrong_tag` says that the tag is not the right one. `from` is what the text's counters are
+ * counted from: in Ctr the IV, and in Gcm J0, of which only the last four bytes matter. */
 struct whole {
     int is_block;
     uint32_t mode;
@@ -38,6 +40,7 @@ struct whole {
     size_t iv, label, data, room;
     uint8_t last[16];
     int wrong_tag;
+    uint8_t from[16];
 };
 
 /* Puts a padding of 1 to 16 bytes at the end of a block. */
@@ -48,7 +51,8 @@ size_t room_needed(const struct whole *w);
 struct luossavin_answer answer_to(const struct whole *w);
 
 /* A call on a message in pieces. A start goes by the first line of fields; a piece and an end by the second, which
- * are those of the state that it is on, and by the third. In opening's end `room` is the tag's length. */
+ * are those of the state that it is on, and by the third. In opening's end `room` is the tag's length. An end that is
+ * done also goes by what all of the message's counters were counted from. */
 enum kind { COUNTING, SEALING, OPENING, KINDS };
 enum step { START, PIECE, END };
 
@@ -58,6 +62,7 @@ struct part {
     struct holder key; int decrypt; size_t iv, label;
     uint32_t stands; uint16_t number; size_t total, label_before;
     size_t data, room; int wrong_tag;
+    uint8_t from[16];
 };
 
 size_t part_needs(const struct part *p);

@@ -1,12 +1,10 @@
 /* The archive called from C: the answer's layout, every mode there and back, Gcm under both lengths of IV,
  * each refusal, what comes first where two things are wrong, and no byte written that is not part of a
  * result; Cbc's padding (smoke_padding.c); the same of keys, retired or not (smoke_keys.c), of messages in pieces
- * (smoke_pieces.c), and of which label a file opens under (smoke_which.c). Prints what is wrong, and how much was
- * checked; exit status 1 if anything is.
+ * (smoke_pieces.c), and of which label a file opens under (smoke_which.c); and counters that come round
+ * (smoke_round.c). Prints what is wrong, and how much was checked; exit status 1 if anything is.
  */
 #include "smoke.h"
-
-#include "calls.h"
 
 #include <stddef.h>
 #include <stdio.h>
@@ -39,13 +37,14 @@ static void layout(void)
     stands_at(sizeof(struct luossavin_answer), 16, "its size", "the answer");
     stands_at(offsetof(struct luossavin_answer, number), 0, "where the number stands", "the answer");
     stands_at(offsetof(struct luossavin_answer, missing), 4, "where the missing count stands", "the answer");
+    stands_at(offsetof(struct luossavin_answer, came_round), 5, "where its counter's report stands", "the answer");
     stands_at(offsetof(struct luossavin_answer, key), 6, "where the key's number stands", "the answer");
     stands_at(offsetof(struct luossavin_answer, length), 8, "where the length stands", "the answer");
 }
 
 int done(struct luossavin_answer a, size_t length)
 {
-    return a.number == 0 && a.missing == 0 && a.key == NUMBER && a.length == length;
+    return a.number == 0 && a.missing == 0 && a.came_round == 0 && a.key == NUMBER && a.length == length;
 }
 
 uint8_t *lend(struct lent *l)
@@ -132,6 +131,7 @@ void answered(struct luossavin_answer a, const struct lent *l, struct luossavin_
 {
     check(a.number == due.number, what, "its number", a.number);
     check(a.missing == due.missing, what, "its missing count", a.missing);
+    check(a.came_round == due.came_round, what, "whether a counter came round", a.came_round);
     check(a.key == due.key, what, "its key's number", a.key);
     check(a.length == due.length, what, "its length", a.length);
     check(untouched(l, due.length), what, "its output", due.length);
@@ -317,6 +317,7 @@ int main(void)
     keys();
     pieces();
     which();
+    rounds();
     printf("%u checked, %u wrong\n", checked, wrong);
     return wrong != 0;
 }

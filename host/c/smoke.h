@@ -1,9 +1,9 @@
-/* What the files of the smoke test share: single calls, Cbc's padding, keys, messages in pieces, and the question which
- * label a file opens under. */
+/* What the files of the smoke test share: single calls, Cbc's padding, keys, messages in pieces, the question which
+ * label a file opens under, and counters that come round. */
 #ifndef SMOKE_H
 #define SMOKE_H
 
-#include "rules.h"
+#include "calls.h"
 
 enum { EDGE = 8, ROOM = 80, LENT = 0xa5 };
 
@@ -19,7 +19,7 @@ extern struct luossavin_key key;
 
 extern const uint8_t iv[17], label[6];
 
-/* Whether a call on that key is done with that length: nothing is missing then. */
+/* Whether a call on that key is done with that length: nothing is missing then, and no counter came round. */
 int done(struct luossavin_answer a, size_t length);
 
 /* An output buffer with an edge on either side, all of it filled with one byte. */
@@ -32,7 +32,8 @@ uint8_t *lend(struct lent *l);
 /* Whether the buffer is as it was lent but for `length` bytes at its front. */
 int untouched(const struct lent *l, size_t length);
 
-/* A refusal with nothing missing, which has the key's number unless it says that there is no key, or no mode. */
+/* A refusal with nothing missing, and no counter that came round, which has the key's number unless it says that there
+ * is no key, or no mode. */
 void refused(struct luossavin_answer a, const struct lent *l, uint32_t number, const char *what);
 
 /* An answer and the output are what the rules say. */
@@ -56,7 +57,15 @@ void every_record(void (*what)(struct holder fields));
 /* Messages in pieces. */
 void pieces(void);
 
+/* The header's loop, in pieces of `by` bytes: of a started message, whose start answered `a`. What is written goes
+ * to `out`; opening reads its tag behind the data. */
+struct luossavin_answer go_by(size_t by, struct luossavin_answer a, struct state *s, const uint8_t *data, size_t n,
+    uint8_t *out, size_t room);
+
 /* Which of many labels a file opens under. */
 void which(void);
+
+/* Counters that come round. */
+void rounds(void);
 
 #endif

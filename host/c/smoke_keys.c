@@ -2,7 +2,7 @@
  * refusal 14 stands among the others, and messages from before a retirement. */
 #include "smoke.h"
 
-#include "calls.h"
+#include "wrap.h"
 
 #include <stdio.h>
 #include <string.h>
@@ -101,10 +101,12 @@ static void retiring(void)
 static void check_whole(struct whole w, const uint8_t *data)
 {
     const uint8_t *aad = w.label > sizeof label ? too_long : label;
-    struct luossavin_answer due = answer_to(&w);
+    struct luossavin_answer due;
     struct lent one, two;
     uint8_t *out = lend(&one), *again = lend(&two);
     char what[80];
+    count_from(w.mode, key, iv, w.iv, w.from);
+    due = answer_to(&w);
     snprintf(what, sizeof what, "a record of %u, %u, %u, %s %u%s", w.key.answer, w.key.number, w.key.retired,
         w.is_block ? "block" : "mode", w.mode, w.direction == ENCRYPT ? ", encryption" : ", decryption");
     answered(call_whole(&w, holding(key, w.key), iv, aad, data, out), &one, due, what);

@@ -2,8 +2,6 @@
  * before either refusal. */
 #include "smoke.h"
 
-#include "calls.h"
-
 #include <stdio.h>
 #include <string.h>
 

@@ -2,33 +2,34 @@
  * call, each refusal and which comes first, and states that stay as they were. */
 #include "smoke.h"
 
-#include "calls.h"
-
 #include <stddef.h>
 #include <stdio.h>
 #include <string.h>
 
 static void layouts(void)
 {
-    stands_at(sizeof(struct luossavin_ctr), 176, "its size", "Ctr's state");
+    stands_at(sizeof(struct luossavin_ctr), 192, "its size", "Ctr's state");
     stands_at(offsetof(struct luossavin_ctr, flow), 128, "where the flow stands", "Ctr's state");
-    stands_at(offsetof(struct luossavin_ctr, total), 160, "where the total stands", "Ctr's state");
-    stands_at(offsetof(struct luossavin_ctr, stands), 168, "where its standing is", "Ctr's state");
-    stands_at(offsetof(struct luossavin_ctr, key), 172, "where the key's number stands", "Ctr's state");
-    stands_at(sizeof(struct luossavin_seal), 248, "its size", "sealing's state");
+    stands_at(offsetof(struct luossavin_ctr, first), 160, "where the first counter stands", "Ctr's state");
+    stands_at(offsetof(struct luossavin_ctr, total), 176, "where the total stands", "Ctr's state");
+    stands_at(offsetof(struct luossavin_ctr, stands), 184, "where its standing is", "Ctr's state");
+    stands_at(offsetof(struct luossavin_ctr, key), 188, "where the key's number stands", "Ctr's state");
+    stands_at(sizeof(struct luossavin_seal), 256, "its size", "sealing's state");
     stands_at(offsetof(struct luossavin_seal, flow), 128, "where the flow stands", "sealing's state");
     stands_at(offsetof(struct luossavin_seal, hashing), 160, "where the hash stands", "sealing's state");
     stands_at(offsetof(struct luossavin_seal, mask), 208, "where the mask stands", "sealing's state");
     stands_at(offsetof(struct luossavin_seal, label), 224, "where the label stands", "sealing's state");
     stands_at(offsetof(struct luossavin_seal, total), 232, "where the total stands", "sealing's state");
-    stands_at(offsetof(struct luossavin_seal, stands), 240, "where its standing is", "sealing's state");
-    stands_at(offsetof(struct luossavin_seal, key), 244, "where the key's number stands", "sealing's state");
-    stands_at(sizeof(struct luossavin_opens), 88, "its size", "opening's state");
+    stands_at(offsetof(struct luossavin_seal, low), 240, "where J0's last bytes stand", "sealing's state");
+    stands_at(offsetof(struct luossavin_seal, stands), 244, "where its standing is", "sealing's state");
+    stands_at(offsetof(struct luossavin_seal, key), 248, "where the key's number stands", "sealing's state");
+    stands_at(sizeof(struct luossavin_opens), 96, "its size", "opening's state");
     stands_at(offsetof(struct luossavin_opens, mask), 48, "where the mask stands", "opening's state");
     stands_at(offsetof(struct luossavin_opens, label), 64, "where the label stands", "opening's state");
     stands_at(offsetof(struct luossavin_opens, total), 72, "where the total stands", "opening's state");
-    stands_at(offsetof(struct luossavin_opens, stands), 80, "where its standing is", "opening's state");
-    stands_at(offsetof(struct luossavin_opens, key), 84, "where the key's number stands", "opening's state");
+    stands_at(offsetof(struct luossavin_opens, low), 80, "where J0's last bytes stand", "opening's state");
+    stands_at(offsetof(struct luossavin_opens, stands), 84, "where its standing is", "opening's state");
+    stands_at(offsetof(struct luossavin_opens, key), 88, "where the key's number stands", "opening's state");
     stands_at(offsetof(struct luossavin_ctr_step, state), 16, "where the state stands", "Ctr's step");
     stands_at(offsetof(struct luossavin_seal_step, state), 16, "where the state stands", "sealing's step");
     stands_at(offsetof(struct luossavin_opens_step, state), 16, "where the state stands", "opening's step");
@@ -41,15 +42,15 @@ static struct luossavin_answer start(enum kind kind, size_t iv_len, struct state
     return call_start(kind, s, &g);
 }
 
-/* The header's loop, in pieces of `by` bytes: of a started message, whose start answered `a`. What is written goes
- * to `out`; opening reads its tag behind the data. */
-static struct luossavin_answer go_by(size_t by, struct luossavin_answer a, struct state *s, const uint8_t *data,
-    size_t n, uint8_t *out, size_t room)
+struct luossavin_answer go_by(size_t by, struct luossavin_answer a, struct state *s, const uint8_t *data, size_t n,
+    uint8_t *out, size_t room)
 {
     size_t written = 0;
+    check(a.came_round == 0, "whether a counter came round", "a start", n);
     for (size_t i = 0; a.number == 0 && i < n; i += by) {
         a = call_piece(s, data + i, n - i < by ? n - i : by, out + written, room - written);
         written += a.length;
+        check(a.came_round == 0, "whether a counter came round", "a piece", i);
     }
     return a.number != 0       ? a
         : s->kind == OPENING ? call_end(s, (uint8_t *)data + n, 16)

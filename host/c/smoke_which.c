@@ -2,8 +2,6 @@
  * empty and equal labels, every refusal with every later one there as well, and answers against the single call. */
 #include "smoke.h"
 
-#include "calls.h"
-
 #include <stdio.h>
 #include <string.h>
 

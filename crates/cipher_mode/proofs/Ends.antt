@@ -1,14 +1,16 @@
 -- How a call ends: refused by a check, or done with what the work wrote.
 -- Assumes nothing.
 use mathlib.Core.Path.{_≡_, refl, sym, ap, ap₂, _∙_}
+use mathlib.Core.Bool.{Bool, _&&_}
 use mathlib.Core.List.{List}
 use Prim.Native.Nat.{ℕ, _<_}
+use lib.Dec.{eqb}
 use lib.ListN.{length, getD}
 use Rattle.block.specs.Words.{words, unwords}
 use Rattle.block.proofs.Entries.{below-each}
 use Rattle.block.proofs.WordsBack.{length-unwords, unwords-words}
 use Rattle.cipher.specs.Sm4.{encryptWords, decryptWords, encryptBlock, decryptBlock}
-use Rattle.walk.specs.Outcome.{Head, Outcome, finished, under, leaving, keyed, done}
+use Rattle.walk.specs.Outcome.{Head, Outcome, finished, under, telling, leaving, keyed, reporting, done}
 use Rattle.walk.specs.Walk.{over}
 use Rattle.cipher_mode.specs.declared.answer.Refusal.{Refusal}
 use Rattle.cipher_mode.specs.declared.answer.Answer.{Answer}
@@ -38,6 +40,14 @@ reached p o o′ n l e = ap₂ {C = Outcome} leaving (ap finished (sym l)) e
 -- the answer says what the outcome x is, on the key of number n
 pub on-key : (a : Answer) (n m : ℕ) (o : List ℕ) (h : Head) (x : Outcome) → headOf a ≡ under n h → n ≡ m → leaving h o ≡ x → outcome a o ≡ keyed m x
 on-key a n m o h x e g f = ap {B = Outcome} (λ (i : Head). leaving i o) e ∙ ap₂ {C = Outcome} keyed g f
+
+-- the work left the outcome x, which is done, and told b of its counter
+pub told-of : (b t : Bool) (h : Head) (o : List ℕ) (x : Outcome) → b ≡ t → leaving h o ≡ x → x .head .number ≡ 0
+    → leaving (telling b h) o ≡ reporting t x
+told-of b t h o x e f z =
+    let tells : b ≡ (eqb (x .head .number) 0 && t) = rw z e in
+    ap {B = Outcome} (λ (y : Outcome). leaving (telling b (y .head)) (y .bytes)) f
+    ∙ ap {B = Outcome} (λ (u : Bool). leaving (telling u (x .head)) (x .bytes)) tells
 
 -- a block by a direction is what the cipher makes of its words under that direction's round keys
 pub block-by : (dir : Direction) (rk b : List ℕ) → unwords (encryptWords (keysFor dir rk) (words b)) ≡ blockOf dir rk b

@@ -1,41 +1,48 @@
--- Every refusal reports length 0 and a number of its own, which is not 0.
+-- Every refusal has a number that is not 0, reports length 0, and says nothing of a counter.
 -- Assumes nothing.
-use mathlib.Core.Path.{_≡_, refl}
+use mathlib.Core.Path.{_≡_, refl, sym, ap}
+use mathlib.Core.Logic.{_≢_}
+use Prim.Native.Nat.{ℕ, _<_}
 use native.Mathlib.Omega.{arith}
-use Rattle.cipher_mode.specs.Answer.{refusalHead}
+use Rattle.walk.specs.Outcome.{Head, refusal, telling}
+use mathlib.Core.Bool.{false}
+use Rattle.cipher_mode.specs.Answer.{refusalHead, endingHead}
 use Rattle.cipher_mode.specs.declared.answer.Refusal.{Refusal}
 use Rattle.cipher_mode.specs.declared.answer.Refusal.the-variants.{ErrorBlockSize, ErrorDataLen, InvalidLastU8, InvalidTag}
 use Rattle.cipher_mode.specs.declared.answer.Refusal.the-variants.{TooLong, NoRoom, EmptyCbc, ShortGcm, WrongIv, WrongBlock, Ended, WrongNumber, Retired, InvalidPadding}
+use Rattle.cipher_mode.specs.declared.answer.Ending.{Ending}
+use Rattle.cipher_mode.specs.declared.answer.Ending.the-variants.{Done, Refused}
 
-pub no-size : (r : Refusal) → refusalHead r .size ≡ 0
-no-size ErrorBlockSize = refl
-no-size ErrorDataLen = refl
-no-size InvalidLastU8 = refl
-no-size InvalidTag = refl
-no-size TooLong = refl
-no-size NoRoom = refl
-no-size EmptyCbc = refl
-no-size (ShortGcm n) = refl
-no-size WrongIv = refl
-no-size WrongBlock = refl
-no-size Ended = refl
-no-size WrongNumber = refl
-no-size Retired = refl
-no-size InvalidPadding = refl
+-- what every refusal reports
+pub record Refuses (h : Head) : Type 0 where
+  pub not-zero : h .number ≢ 0
+  pub no-size : h .size ≡ 0
+  pub no-round : h .cameRound ≡ 0
 
--- no refusal has the number 0
-pub not-zero : (r : Refusal) → refusalHead r .number ≡ 0 → ⊥
-not-zero ErrorBlockSize e = omega arith
-not-zero ErrorDataLen e = omega arith
-not-zero InvalidLastU8 e = omega arith
-not-zero InvalidTag e = omega arith
-not-zero TooLong e = omega arith
-not-zero NoRoom e = omega arith
-not-zero EmptyCbc e = omega arith
-not-zero (ShortGcm n) e = omega arith
-not-zero WrongIv e = omega arith
-not-zero WrongBlock e = omega arith
-not-zero Ended e = omega arith
-not-zero WrongNumber e = omega arith
-not-zero Retired e = omega arith
-not-zero InvalidPadding e = omega arith
+by-number : (n : ℕ) → 0 < n → Refuses (refusal n)
+by-number n h = record { not-zero = λ e. omega arith; no-size = refl; no-round = refl }
+
+pub refuses : (r : Refusal) → Refuses (refusalHead r)
+refuses ErrorBlockSize = by-number 1 (omega arith)
+refuses ErrorDataLen = by-number 2 (omega arith)
+refuses InvalidLastU8 = by-number 3 (omega arith)
+refuses InvalidTag = by-number 4 (omega arith)
+refuses TooLong = by-number 5 (omega arith)
+refuses NoRoom = by-number 6 (omega arith)
+refuses EmptyCbc = by-number 8 (omega arith)
+refuses (ShortGcm n) = record { not-zero = λ e. omega arith; no-size = refl; no-round = refl }
+refuses WrongIv = by-number 10 (omega arith)
+refuses WrongBlock = by-number 11 (omega arith)
+refuses Ended = by-number 12 (omega arith)
+refuses WrongNumber = by-number 13 (omega arith)
+refuses Retired = by-number 14 (omega arith)
+refuses InvalidPadding = by-number 15 (omega arith)
+
+-- a report that says this of a counter
+abbrev silenced : Head → ℕ → Head
+silenced h c = record { number = h .number; size = h .size; missing = h .missing; cameRound = c; key = h .key }
+
+-- so no ending says anything of a counter by itself
+pub quiet-ending : (e : Ending) → telling false (endingHead e) ≡ endingHead e
+quiet-ending (Done n) = refl
+quiet-ending (Refused r) = ap {B = Head} (silenced (refusalHead r)) (sym (refuses r .no-round))

@@ -1,12 +1,13 @@
 -- Document 01's number and values for every case of an answer.
 use Prim.Native.Nat.{ℕ}
 use mathlib.Core.List.{List}
-use Rattle.walk.specs.Outcome.{Head, Outcome, finished, refusal, cutShort, under, leaving}
+use Rattle.walk.specs.Outcome.{Head, Outcome, finished, refusal, cutShort, under, telling, leaving}
 use Rattle.cipher_mode.specs.declared.answer.Refusal.{Refusal}
 use Rattle.cipher_mode.specs.declared.answer.Refusal.the-variants.{ErrorBlockSize, ErrorDataLen, InvalidLastU8, InvalidTag, TooLong, NoRoom, EmptyCbc, ShortGcm, WrongIv, WrongBlock, Ended, WrongNumber, Retired, InvalidPadding}
 use Rattle.cipher_mode.specs.declared.answer.Ending.{Ending}
 use Rattle.cipher_mode.specs.declared.answer.Ending.the-variants.{Done, Refused}
 use Rattle.cipher_mode.specs.declared.answer.Answer.{Answer}
+use Rattle.cipher_mode.specs.declared.work.Worked.{Worked}
 
 abbrev pub refusalHead : Refusal → Head
 refusalHead ErrorBlockSize = refusal 1
@@ -32,8 +33,15 @@ endingHead (Refused r) = refusalHead r
 abbrev pub ended : Ending → List ℕ → Outcome
 ended e o = leaving (endingHead e) o
 
+-- what work that came to an end reports, and its outcome with the output o
+abbrev pub workedHead : Worked → Head
+workedHead w = telling (w .«came_round») (endingHead (w .ending))
+
+abbrev pub worked : Worked → List ℕ → Outcome
+worked w o = leaving (workedHead w) o
+
 abbrev pub headOf : Answer → Head
-headOf a = under (a .key) (endingHead (a .ending))
+headOf a = under (a .key) (telling (a .«came_round») (endingHead (a .ending)))
 
 -- the outcome of an answer with the output o
 abbrev pub outcome : Answer → List ℕ → Outcome

@@ -1,9 +1,12 @@
 -- The public calls: what each one leaves, from the inputs alone.
-use Prim.Native.Nat.{ℕ}
+use Prim.Native.Nat.{ℕ, _-_}
+use mathlib.Core.Bool.{Bool}
 use mathlib.Core.List.{List, reverse}
 use lib.ListN.{length}
 use Rattle.cipher.specs.Sm4.{encryptBlock, decryptBlock}
-use Rattle.walk.specs.Outcome.{Outcome, keyed, done}
+use Rattle.counter.specs.Counter.{lastFour}
+use Rattle.counter.specs.CameRound.{blocksOf, ctrCameRound, gcmCameRound}
+use Rattle.walk.specs.Outcome.{Outcome, keyed, reporting, done}
 use Rattle.walk.specs.Walk.{chain}
 use Rattle.stream.specs.Stream.{streamMode}
 use Rattle.stream.specs.declared.Kind.{Kind}
@@ -48,16 +51,20 @@ abbrev pub cbcResult : Direction → List ℕ → List ℕ → List ℕ → List
 cbcResult Encrypt rk d iv o = done (cbcSeal rk iv d) o
 cbcResult Decrypt rk d iv o = cbcOpen rk iv d o
 
--- Gcm seals and opens under the label aad
+-- whether Gcm's counter came round over a text of n bytes
+abbrev pub gcmRound : List ℕ → List ℕ → ℕ → Bool
+gcmRound rk iv n = gcmCameRound (lastFour (J0 rk iv)) (blocksOf n)
+
+-- Gcm seals and opens under the label aad; the tag is no part of the text
 abbrev pub gcmResult : Direction → List ℕ → List ℕ → List ℕ → List ℕ → List ℕ → Outcome
-gcmResult Encrypt rk aad d iv o = done (sealed rk (hashKey rk) (J0 rk iv) aad d) o
-gcmResult Decrypt rk aad d iv o = gcmOpen rk (hashKey rk) (J0 rk iv) aad d o
+gcmResult Encrypt rk aad d iv o = reporting (gcmRound rk iv (length d)) (done (sealed rk (hashKey rk) (J0 rk iv) aad d) o)
+gcmResult Decrypt rk aad d iv o = reporting (gcmRound rk iv (length d - 16)) (gcmOpen rk (hashKey rk) (J0 rk iv) aad d o)
 
 -- what the data d gives in a mode, by a direction; the first three modes are done with whatever they are given
 abbrev pub modeResult : CipherMode → Direction → List ℕ → List ℕ → List ℕ → List ℕ → List ℕ → Outcome
 modeResult Cfb dir rk aad d iv o = done (chain (streamMode (cfbKind dir) rk) iv d) o
 modeResult Ofb dir rk aad d iv o = done (chain (streamMode Ofb·kind rk) iv d) o
-modeResult Ctr dir rk aad d iv o = done (chain (streamMode Ctr·kind rk) iv d) o
+modeResult Ctr dir rk aad d iv o = reporting (ctrCameRound iv (blocksOf (length d))) (done (chain (streamMode Ctr·kind rk) iv d) o)
 modeResult Cbc dir rk aad d iv o = cbcResult dir rk d iv o
 modeResult Gcm dir rk aad d iv o = gcmResult dir rk aad d iv o
 

@@ -1,6 +1,6 @@
 // What a call answers. Every head is made here.
 ghost use mathlib.Core.Path.{_≡_};
-ghost use Rattle.walk.specs.Outcome.{finished, under};
+ghost use Rattle.walk.specs.Outcome.{finished, under, telling};
 ghost use Rattle.cipher_mode.specs.Answer.{refusalHead, headOf};
 
 // Why a call was refused, by the names of document 01 and, after them, those that tell its lengths apart: Cbc decryption of
@@ -30,9 +30,11 @@ pub enum Ending {
     Refused(Refusal),
 }
 
-// How it ended, and the number of the key that it was made on: 0 where no key stands.
+// How it ended; whether the counter of the message came round, which a refusal never says; and the number of the key that it was
+// made on: 0 where no key stands.
 pub struct Answer {
     pub ending: Ending,
+    pub came_round: bool,
     pub key: u16,
 }
 
@@ -85,6 +87,18 @@ pub fn done(key: u16, length: usize) -> Answer
 {
     Answer {
         ending: Ending::Done(length),
+        came_round: false,
+        key,
+    }
+}
+
+// Done with a message whose counter came round, or did not.
+pub fn done_round(key: u16, length: usize, came_round: bool) -> Answer
+    ensures { λ r. ⌜ headOf r ≡ under key (telling «came_round» (finished «length»)) ⌝ }
+{
+    Answer {
+        ending: Ending::Done(length),
+        came_round,
         key,
     }
 }
@@ -94,6 +108,7 @@ pub fn refused(key: u16, refusal: Refusal) -> Answer
 {
     Answer {
         ending: Ending::Refused(refusal),
+        came_round: false,
         key,
     }
 }

@@ -181,8 +181,13 @@ impl Sm4CipherMode {
         }
         let t = cipher::plain();
         let rk = cipher.rk;
-        let ending = work::message(&t, rk, direction, mode, aad, data, iv, out);
-        Answer { ending, key }
+        let worked = work::message(&t, rk, direction, mode, aad, data, iv, out);
+        let ending = worked.ending;
+        Answer {
+            ending,
+            came_round: worked.came_round,
+            key,
+        }
     }
 
     // Encrypts `data` to the front of `out`, under the label `aad` in Gcm. The other modes do not look at `aad`.

@@ -1,17 +1,19 @@
 // What is done once nothing stands against it: bytes to bytes.
 ghost use mathlib.Core.Path.{_≡_};
-ghost use mathlib.Core.Bool.{false};
+ghost use mathlib.Core.Bool.{false, _&&_};
+ghost use lib.Dec.{eqb};
 ghost use mathlib.Core.List.{_++_};
 ghost use Prim.Native.Nat.{_≤_};
 ghost use lib.ListN.{length, drop};
 ghost use Rattle.cipher.specs.Engine.{Engine};
-ghost use Rattle.walk.specs.Outcome.{done};
+ghost use Rattle.counter.specs.CameRound.{blocksOf, ctrCameRound};
+ghost use Rattle.walk.specs.Outcome.{telling, reporting, done};
 ghost use Rattle.walk.specs.Walk.{chain};
 ghost use Rattle.stream.specs.Stream.{streamMode};
 ghost use Rattle.cbc.specs.Open.{headOf as cbcHead};
 ghost use Rattle.gcm.specs.Open.{headOf as gcmHead};
 ghost use Rattle.cipher_mode.specs.Tables.{roomOf};
-ghost use Rattle.cipher_mode.specs.Answer.{endingHead, ended};
+ghost use Rattle.cipher_mode.specs.Answer.{endingHead, ended, workedHead, worked};
 ghost use Rattle.cipher_mode.specs.Checks.{wrongIv, labelCheck, dataCheck};
 ghost use Rattle.cipher_mode.specs.Calls.{keysFor, blockOf, cfbKind, cbcResult, gcmResult, modeResult};
 use crate::CipherMode;
@@ -21,6 +23,22 @@ use crate::answer::Refusal;
 use crate::checks;
 use crate::checks::Checked;
 use stream::Kind;
+
+// How work ended, and whether the counter of the message came round.
+pub struct Worked {
+    pub ending: Ending,
+    pub came_round: bool,
+}
+
+// Work that has no counter.
+fn quiet(ending: Ending) -> Worked
+    ensures { λ r. ⌜ workedHead r ≡ endingHead ending ⌝ }
+{
+    Worked {
+        ending,
+        came_round: false,
+    }
+}
 
 // The round keys in the order that a direction takes them.
 fn keys_for(rk: [u32; 32], direction: Direction) -> [u32; 32]
@@ -64,6 +82,20 @@ fn by_stream(t: &[u32], rk: [u32; 32], kind: Kind, iv: &[u8], data: &[u8], out: 
     Ending::Done(data.len())
 }
 
+// Ctr, either way.
+fn by_ctr(t: &[u32], rk: [u32; 32], iv: &[u8], data: &[u8], out: &mut [u8]) -> Worked
+    requires { ⌜ Engine (now t) ⌝ }
+    requires { ⌜ length (now iv) ≡ 16 ⌝ }
+    requires { ⌜ length (now «data») ≤ length (now out) ⌝ }
+    ensures { λ r. ⌜ worked r (now (out .exit)) ≡ reporting (ctrCameRound (now (iv .entry)) (blocksOf (length (now («data» .entry))))) (done (chain (streamMode Kind.Ctr rk) (now (iv .entry)) (now («data» .entry))) (now (out .entry))) ⌝ }
+{
+    let ending = by_stream(t, rk, Kind::Ctr, iv, data, out);
+    Worked {
+        ending,
+        came_round: counter::ctr_came_round(block::split_block(iv), data.len()),
+    }
+}
+
 fn cbc_answer(opened: cbc::Opened) -> Ending
     ensures { λ r. ⌜ endingHead r ≡ cbcHead opened ⌝ }
 {
@@ -98,12 +130,19 @@ fn by_cbc(
     }
 }
 
-fn gcm_answer(opened: gcm::Opened) -> Ending
-    ensures { λ r. ⌜ endingHead r ≡ gcmHead opened ⌝ }
+// What opening answers, and where it opened whether the counter came round.
+fn gcm_answer(opened: gcm::Opened, came_round: bool) -> Worked
+    ensures { λ r. ⌜ workedHead r ≡ telling (eqb (gcmHead opened .number) 0 && «came_round») (gcmHead opened) ⌝ }
 {
     match opened {
-        gcm::Opened::Done(n) => Ending::Done(n),
-        gcm::Opened::InvalidTag => Ending::Refused(Refusal::InvalidTag),
+        gcm::Opened::Done(n) => Worked {
+            ending: Ending::Done(n),
+            came_round,
+        },
+        gcm::Opened::InvalidTag => Worked {
+            ending: Ending::Refused(Refusal::InvalidTag),
+            came_round: false,
+        },
     }
 }
 
@@ -115,22 +154,29 @@ fn by_gcm(
     data: &[u8],
     iv: &[u8],
     out: &mut [u8],
-) -> Ending
+) -> Worked
     requires { ⌜ Engine (now t) ⌝ }
     requires { ⌜ wrongIv CipherMode.Gcm (length (now iv)) ≡ false ⌝ }
     requires { ⌜ labelCheck CipherMode.Gcm (length (now aad)) ≡ Checked.Passed ⌝ }
     requires { ⌜ dataCheck direction CipherMode.Gcm (length (now «data»)) ≡ Checked.Passed ⌝ }
     requires { ⌜ roomOf CipherMode.Gcm direction (length (now «data»)) ≤ length (now out) ⌝ }
-    ensures { λ r. ⌜ ended r (now (out .exit)) ≡ gcmResult direction rk (now (aad .entry)) (now («data» .entry)) (now (iv .entry)) (now (out .entry)) ⌝ }
+    ensures { λ r. ⌜ worked r (now (out .exit)) ≡ gcmResult direction rk (now (aad .entry)) (now («data» .entry)) (now (iv .entry)) (now (out .entry)) ⌝ }
 {
     let h = gcm::hash_key(t, rk);
     let j0 = gcm::first_counter(h, iv);
     match direction {
         Direction::Encrypt => {
             gcm::encrypt(t, rk, h, j0, aad, data, out);
-            Ending::Done(checks::encrypted_length(CipherMode::Gcm, data.len()))
+            let n = checks::encrypted_length(CipherMode::Gcm, data.len());
+            Worked {
+                ending: Ending::Done(n),
+                came_round: counter::gcm_came_round(j0[3], data.len()),
+            }
         }
-        Direction::Decrypt => gcm_answer(gcm::decrypt(t, rk, h, j0, aad, data, out)),
+        Direction::Decrypt => {
+            let opened = gcm::decrypt(t, rk, h, j0, aad, data, out);
+            gcm_answer(opened, counter::gcm_came_round(j0[3], data.len() - 16))
+        }
     }
 }
 
@@ -144,19 +190,19 @@ pub(crate) fn message(
     data: &[u8],
     iv: &[u8],
     out: &mut [u8],
-) -> Ending
+) -> Worked
     requires { ⌜ Engine (now t) ⌝ }
     requires { ⌜ wrongIv mode (length (now iv)) ≡ false ⌝ }
     requires { ⌜ labelCheck mode (length (now aad)) ≡ Checked.Passed ⌝ }
     requires { ⌜ dataCheck direction mode (length (now «data»)) ≡ Checked.Passed ⌝ }
     requires { ⌜ roomOf mode direction (length (now «data»)) ≤ length (now out) ⌝ }
-    ensures { λ r. ⌜ ended r (now (out .exit)) ≡ modeResult mode direction rk (now (aad .entry)) (now («data» .entry)) (now (iv .entry)) (now (out .entry)) ⌝ }
+    ensures { λ r. ⌜ worked r (now (out .exit)) ≡ modeResult mode direction rk (now (aad .entry)) (now («data» .entry)) (now (iv .entry)) (now (out .entry)) ⌝ }
 {
     match mode {
-        CipherMode::Cfb => by_stream(t, rk, cfb_kind(direction), iv, data, out),
-        CipherMode::Ofb => by_stream(t, rk, Kind::Ofb, iv, data, out),
-        CipherMode::Ctr => by_stream(t, rk, Kind::Ctr, iv, data, out),
-        CipherMode::Cbc => by_cbc(t, rk, direction, iv, data, out),
+        CipherMode::Cfb => quiet(by_stream(t, rk, cfb_kind(direction), iv, data, out)),
+        CipherMode::Ofb => quiet(by_stream(t, rk, Kind::Ofb, iv, data, out)),
+        CipherMode::Ctr => by_ctr(t, rk, iv, data, out),
+        CipherMode::Cbc => quiet(by_cbc(t, rk, direction, iv, data, out)),
         CipherMode::Gcm => by_gcm(t, rk, direction, aad, data, iv, out),
     }
 }

@@ -1,3 +1,7 @@
 pub mod Carry
+pub mod Round
 pub mod Steps
 pub mod Agree
+pub mod Formula
+pub mod StepsTell
+pub mod Edges

@@ -1,15 +1,19 @@
--- The code's four words step as the definitions' sixteen bytes do.
+-- The code's four words step as the definitions' sixteen bytes do, and come round where these do.
 -- Assumes nothing.
 use mathlib.Core.Path.{_≡_, ap, sym, _∙_}
 use Prim.Native.Nat.{ℕ, _+_, _%_, _^_, _<_}
 use mathlib.Core.List.{List, [], _∷_}
 use native.Mathlib.Nat.{mod-eq-of-lt}
+use lib.Bits.{bitOr}
+use lib.Dec.{eqb}
 use lib.ListN.{getD}
 use Rattle.block.specs.BigEndian.{numberOf, bytesOf}
+use Rattle.block.specs.Wide.{whole}
 use Rattle.block.specs.Words.{words, unwords}
-use Rattle.block.proofs.Convert.{numberOf-bytesOf}
-use Rattle.block.proofs.WordsBack.{unwords-number}
-use Rattle.counter.specs.Counter.{ctrNext, gcmNext}
+use Rattle.block.proofs.Convert.{numberOf-bytesOf, numberOf-lt}
+use Rattle.block.proofs.WordsBack.{unwords-number, unwords-bytes, length-unwords}
+use Rattle.counter.specs.Counter.{lastFour, ctrNext, ctrPasses, gcmNext, gcmPasses}
+use Rattle.counter.proofs.Round.{zero-tells, no-bit}
 
 -- Ctr's step over the number of four words
 pub ctr-words : (x r : List ℕ) (m : ℕ) → m ≡ (numberOf (unwords x) + 1) % 2 ^ 128 → r ≡ words (bytesOf 16 m)
@@ -17,10 +21,29 @@ pub ctr-words : (x r : List ℕ) (m : ℕ) → m ≡ (numberOf (unwords x) + 1) 
 unfolding ctrNext
 ctr-words x r m e f = unwords-number r m f ∙ ap (bytesOf 16) e
 
+pub ctr-words-pass : (x : List ℕ) (high low : ℕ) → whole high low ≡ (numberOf (unwords x) + 1) % 2 ^ 128
+    → eqb (bitOr high low) 0 ≡ ctrPasses (unwords x)
+unfolding ctrPasses
+ctr-words-pass x high low e =
+    let h : numberOf (unwords x) < 2 ^ 128 = rw (length-unwords x) at (numberOf-lt (unwords x) (unwords-bytes x)) in
+    no-bit high low ∙ zero-tells (2 ^ 128) (numberOf (unwords x)) (whole high low) h e
+
+-- the last of four words is the number that its bytes spell
+last-word : (x : List ℕ) → getD x 3 0 < 2 ^ 32 → numberOf (bytesOf 4 (getD x 3 0)) ≡ getD x 3 0
+last-word x h = numberOf-bytesOf 4 (getD x 3 0) ∙ mod-eq-of-lt h
+
+pub last-four : (x : List ℕ) → getD x 3 0 < 2 ^ 32 → lastFour (unwords x) ≡ getD x 3 0
+unfolding unwords bytesOf
+last-four x h = last-word x h
+
 -- GCM's step over the last of four words
 pub gcm-words : (x : List ℕ) (w : ℕ) → getD x 3 0 < 2 ^ 32 → w ≡ (getD x 3 0 + 1) % 2 ^ 32
     → unwords (getD x 0 0 ∷ getD x 1 0 ∷ getD x 2 0 ∷ w ∷ []) ≡ gcmNext (unwords x)
 unfolding gcmNext unwords bytesOf
 gcm-words x w h e =
-    let n : numberOf (bytesOf 4 (getD x 3 0)) ≡ getD x 3 0 = numberOf-bytesOf 4 (getD x 3 0) ∙ mod-eq-of-lt h in
-    ap (λ (v : ℕ). unwords (getD x 0 0 ∷ getD x 1 0 ∷ getD x 2 0 ∷ v ∷ [])) (e ∙ ap (λ (v : ℕ). (v + 1) % 2 ^ 32) (sym n))
+    ap (λ (v : ℕ). unwords (getD x 0 0 ∷ getD x 1 0 ∷ getD x 2 0 ∷ v ∷ [])) (e ∙ ap (λ (v : ℕ). (v + 1) % 2 ^ 32) (sym (last-word x h)))
+
+pub gcm-words-pass : (x : List ℕ) (w : ℕ) → getD x 3 0 < 2 ^ 32 → w ≡ (getD x 3 0 + 1) % 2 ^ 32 → eqb w 0 ≡ gcmPasses (unwords x)
+unfolding gcmPasses unwords bytesOf
+gcm-words-pass x w h e =
+    zero-tells (2 ^ 32) (getD x 3 0) w h e ∙ ap (λ (v : ℕ). eqb (v + 1) (2 ^ 32)) (sym (last-word x h))

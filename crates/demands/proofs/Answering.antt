@@ -8,7 +8,7 @@ use Prim.Native.Nat.{ℕ, _≤_, _<_}
 use native.Mathlib.Omega.{arith}
 use lib.ListN.{length, take, drop, length-append, length-drop}
 use lib.Seq.{drop-at, length-take-le}
-use Rattle.walk.specs.Outcome.{Head, Outcome, finished, refusal, cutShort, leaving, keyed, refused, refuse, written, done}
+use Rattle.walk.specs.Outcome.{Head, Outcome, finished, refusal, cutShort, leaving, keyed, reporting, refused, refuse, written, done}
 use Rattle.walk.specs.Walk.{over}
 use Rattle.cipher_mode.specs.declared.answer.Refusal.{Refusal}
 use Rattle.cipher_mode.specs.declared.answer.Refusal.the-variants.{ErrorBlockSize, ErrorDataLen, InvalidLastU8, InvalidTag, TooLong, NoRoom}
@@ -123,6 +123,20 @@ module _ (numbers : List ℕ) where
       record {
         numbered = a .numbered;
         key = refl;
+        missing = a .missing;
+        refused = a .refused;
+        reported = a .reported;
+        fits = a .fits;
+        past = a .past;
+        kept = a .kept;
+      }
+
+  -- and so may be what is said of a counter
+  pub reports : (b : Bool) (k n : ℕ) (o : List ℕ) (x : Outcome) → Answered numbers k o n x → Answered numbers k o n (reporting b x)
+  reports b k n o x a =
+      record {
+        numbered = a .numbered;
+        key = a .key;
         missing = a .missing;
         refused = a .refused;
         reported = a .reported;

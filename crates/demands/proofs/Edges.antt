@@ -1,22 +1,30 @@
 -- Document 01's "At the edges" holds of the definitions, by computation, and what the checks say is what the calls answer.
 -- Assumes nothing.
-use mathlib.Core.Path.{_≡_, refl, ap, _∙_}
+use mathlib.Core.Path.{_≡_, refl, sym, ap, _∙_}
 use mathlib.Core.Logic.{_≢_}
-use mathlib.Core.Bool.{Bool, true, false}
+use mathlib.Core.Bool.{Bool, true, false, _&&_}
 use mathlib.Core.List.{List, map}
 use Prim.Native.Nat.{ℕ}
-use Rattle.walk.specs.Outcome.{Outcome, finished, under}
+use lib.Dec.{eqb}
+use lib.ListN.{length}
+use borrow.Author.Tests.{ne-eqb}
+use Rattle.walk.specs.Outcome.{Outcome, finished, under, telling}
 use Rattle.block.specs.Same.{same}
 use Rattle.cbc.specs.Open.{namesPadding, allPadding, unpadded}
 use Rattle.cipher_mode.specs.declared.KeyAnswer.the-variants.{Key}
 use Rattle.cipher_mode.specs.declared.Direction.{Direction}
 use Rattle.cipher_mode.specs.declared.Direction.the-variants.{Encrypt}
+use Rattle.cipher_mode.specs.declared.answer.Refusal.{Refusal}
+use Rattle.cipher_mode.specs.declared.answer.Ending.the-variants.{Refused as Refused·ending}
 use Rattle.cipher_mode.specs.declared.checks.Checked.{Checked}
 use Rattle.cipher_mode.specs.declared.checks.Checked.the-variants.{Passed, Refused}
 use Rattle.cipher_mode.specs.declared.Sm4CipherMode.{Sm4CipherMode}
+use Rattle.cipher_mode.specs.Answer.{refusalHead}
 use Rattle.cipher_mode.specs.Key.{newCipher}
 use Rattle.cipher_mode.specs.Checks.{keyAndIv, dataCheck, roomCheck, messageCheck, blockCheck, checked}
 use Rattle.cipher_mode.specs.Calls.{modeResult, lengthsOf, modeCall}
+use Rattle.cipher_mode.proofs.Refusals.{refuses, quiet-ending}
+use Rattle.demands.specs.CameRound.{roundOf, tellingDone}
 use Rattle.demands.specs.Edges.{Row, verdict, saidOf, edges}
 use Rattle.demands.proofs.ModesBack.{encrypts, length-encrypted}
 
@@ -30,9 +38,16 @@ verdict-refused : (k : Checked) (o : List ℕ) (next : Outcome) (n : ℕ) → k 
 verdict-refused Passed o next n h = absurd (h refl)
 verdict-refused (Refused r) o next n h = refl
 
-verdict-done : (k : Checked) (o : List ℕ) (next : Outcome) (n : ℕ) → next .head ≡ finished n → checked k o next .head ≡ verdict k n
-verdict-done Passed o next n e = e
-verdict-done (Refused r) o next n e = refl
+-- a refusal says nothing of a counter
+refusal-quiet : (r : Refusal) (b : Bool) → refusalHead r ≡ tellingDone b (refusalHead r)
+refusal-quiet r b =
+    let no : (eqb (refusalHead r .number) 0 && b) ≡ false = rw (ne-eqb (refusalHead r .number) 0 (refuses r .not-zero)) in
+    sym (ap (λ (t : Bool). telling t (refusalHead r)) no ∙ quiet-ending (Refused·ending r))
+
+verdict-done : (k : Checked) (o : List ℕ) (next : Outcome) (n : ℕ) (b : Bool) → next .head ≡ telling b (finished n)
+    → checked k o next .head ≡ tellingDone b (verdict k n)
+verdict-done Passed o next n b e = e
+verdict-done (Refused r) o next n b e = refusal-quiet r b
 
 -- Where the checks refuse, every call under a usable key with those lengths answers what is said, with the key's number.
 pub edge-refused : (dir : Direction) (m : Sm4CipherMode) → m .cipher .answer ≡ Key → (label d iv o : List ℕ)
@@ -45,16 +60,18 @@ edge-refused dir m k label d iv o h =
     (verdict-refused (messageCheck Key (m .cipher .retired) dir (m .mode) (lengthsOf label d iv o)) o
     (modeResult (m .mode) dir (m .cipher .rk) label d iv o) _ h))
 
--- And of encryption it is the whole report.
+-- And of encryption it is the whole report, where done with what document 02's formula says of a counter.
 pub edge-encrypted : (m : Sm4CipherMode) → m .cipher .answer ≡ Key → (label d iv o : List ℕ)
     → modeCall Encrypt m label d iv o .head
-    ≡ under (m .cipher .number) (saidOf (m .cipher .retired) Encrypt (m .mode) (lengthsOf label d iv o))
+    ≡ under (m .cipher .number)
+    (tellingDone (roundOf (m .mode) Encrypt (m .cipher .rk) iv (length d)) (saidOf (m .cipher .retired) Encrypt (m .mode) (lengthsOf label d iv o)))
 unfolding modeCall
 edge-encrypted m k label d iv o =
     let rk = m .cipher .rk in
-    let size = ap finished (length-encrypted (m .mode) rk label d iv) in
+    let b = roundOf (m .mode) Encrypt rk iv (length d) in
+    let size = ap (λ (n : ℕ). telling b (finished n)) (length-encrypted (m .mode) rk label d iv) in
     let head = ap (λ (x : Outcome). x .head) (encrypts (m .mode) rk label d iv o) ∙ size in
     rw k
     (ap (under (m .cipher .number))
     (verdict-done (messageCheck Key (m .cipher .retired) Encrypt (m .mode) (lengthsOf label d iv o)) o
-    (modeResult (m .mode) Encrypt rk label d iv o) _ head))
+    (modeResult (m .mode) Encrypt rk label d iv o) _ b head))

@@ -49,8 +49,9 @@ use Rattle.cipher_mode.proofs.Ends.{length-block}
 use Rattle.luossavin.specs.declared.key.LuossavinKey.{LuossavinKey}
 use Rattle.luossavin.specs.Key.{cipherIn, hostKeyNew}
 use Rattle.luossavin.specs.Host.{modeOf, modeIn, hostBlockCall, hostModeCall}
+use Rattle.demands.specs.CameRound.{roundOf}
 use Rattle.demands.specs.Answered.{oneOf, singleNumbers, Answered, KeyAnswered, lengthOf}
-use Rattle.demands.proofs.Answering.{refuses, does, writes, behind, Within, within-refuse, within-then, checks, told-length, on-key}
+use Rattle.demands.proofs.Answering.{refuses, does, writes, behind, Within, within-refuse, within-then, checks, told-length, on-key, reports}
 use Rattle.demands.proofs.Exported.{new-is-new}
 
 -- the refusals of a call, by the numbers that it may answer
@@ -187,12 +188,15 @@ result-answers : (m : CipherMode) (dir : Direction) (rk aad d iv o : List ℕ) �
     → dataCheck dir m (length d) ≡ Passed → roomOf m dir (length d) ≤ length o → Answered singleNumbers 0 o (lengthOf m dir rk iv d) (modeResult m dir rk aad d iv o)
 result-answers Cfb dir rk aad d iv o n e r = stream-answers (cfbKind dir) rk iv d o r
 result-answers Ofb dir rk aad d iv o n e r = stream-answers Ofb·kind rk iv d o r
-result-answers Ctr dir rk aad d iv o n e r = stream-answers Ctr·kind rk iv d o r
+result-answers Ctr dir rk aad d iv o n e r =
+    reports singleNumbers (roundOf Ctr dir rk iv (length d)) 0 _ o _ (stream-answers Ctr·kind rk iv d o r)
 result-answers Cbc Encrypt rk aad d iv o n e r = does singleNumbers (cbcSeal rk iv d) o _ refl (length-cbcSeal rk iv d) r
 result-answers Cbc Decrypt rk aad d iv o n e r = cbc-answers rk iv d o (sixteen (length iv) n) e r
 result-answers Gcm Encrypt rk aad d iv o n e r =
-    does singleNumbers (sealed rk (hashKey rk) (J0 rk iv) aad d) o _ refl (length-sealed rk (hashKey rk) (J0 rk iv) aad d) r
-result-answers Gcm Decrypt rk aad d iv o n e r = gcm-answers rk (hashKey rk) (J0 rk iv) aad d o r
+    reports singleNumbers (roundOf Gcm Encrypt rk iv (length d)) 0 _ o _
+    (does singleNumbers (sealed rk (hashKey rk) (J0 rk iv) aad d) o _ refl (length-sealed rk (hashKey rk) (J0 rk iv) aad d) r)
+result-answers Gcm Decrypt rk aad d iv o n e r =
+    reports singleNumbers (roundOf Gcm Decrypt rk iv (length d)) 0 _ o _ (gcm-answers rk (hashKey rk) (J0 rk iv) aad d o r)
 
 -- A message, either way: a refusal, or a success of as many bytes as the table says.
 pub message-answers : (dir : Direction) (m : Sm4CipherMode) (label d iv o : List ℕ)

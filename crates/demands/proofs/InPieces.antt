@@ -9,7 +9,8 @@ use native.Mathlib.Omega.{arith}
 use lib.ListN.{length, take, drop, length-append, length-drop}
 use lib.Seq.{take-at}
 use borrow.Author.Tests.{le-ltb}
-use Rattle.walk.specs.Outcome.{Head, Outcome, finished, refusal, under}
+use Rattle.counter.specs.CameRound.{blocksOf, ctrCameRound}
+use Rattle.walk.specs.Outcome.{Head, Outcome, finished, refusal, under, telling}
 use Rattle.walk.specs.Walk.{chain, over}
 use Rattle.walk.proofs.Chain.{chain-rest}
 use Rattle.stream.specs.Stream.{streamMode}
@@ -29,7 +30,7 @@ use Rattle.cipher_mode.specs.declared.checks.Checked.the-variants.{Passed}
 use Rattle.cipher_mode.specs.Key.{keyNumber}
 use Rattle.cipher_mode.specs.Tables.{limit}
 use Rattle.cipher_mode.specs.Checks.{wrongIv, retiredCheck, keyAndIv, labelCheck, dataCheck}
-use Rattle.cipher_mode.specs.Calls.{modeCall}
+use Rattle.cipher_mode.specs.Calls.{gcmRound, modeCall}
 use Rattle.cipher_mode.proofs.Passed.{both, key-and-iv-passed, label-passed, data-within}
 use Rattle.pieces.specs.declared.ctr.Ctr.{Ctr}
 use Rattle.pieces.specs.declared.opens.Opens.{Opens}
@@ -46,13 +47,14 @@ use Rattle.luossavin.specs.Key.{cipherIn}
 use Rattle.luossavin.specs.Host.{modeOf, hostModeCall}
 use Rattle.luossavin.specs.InPieces.{directionOf, hostCtrStart, hostSealStart, hostOpensStart}
 use Rattle.demands.specs.Call.{inGcm, result}
+use Rattle.demands.specs.CameRound.{tellingDone}
 use Rattle.demands.specs.InPieces.{Did, written, stateAfter, wrote, AllDid, Piece, onto, sizeOf, whole, Roomy}
-use Rattle.demands.specs.InPieces.{AllDone, joined, none, CtrInPieces, SealInPieces, OpensInPieces}
+use Rattle.demands.specs.InPieces.{AllDone, joined, none, TellsAlike, CtrInPieces, SealInPieces, OpensInPieces}
 use Rattle.demands.proofs.Through.{result-of-done, passed-start, through, leaves}
 use Rattle.demands.proofs.OtherHash.{Fits, gcm-in-order}
 
-did : (S : Type 0) (n i : ℕ) (x : Stepped S) → x .head ≡ under i (finished n) → Did S n x
-did S n i x e = record { number = ap (λ (h : Head). h .number) e; size = ap (λ (h : Head). h .size) e }
+did : (S : Type 0) (n i : ℕ) (b : Bool) (x : Stepped S) → x .head ≡ under i (telling b (finished n)) → Did S n x
+did S n i b x e = record { number = ap (λ (h : Head). h .number) e; size = ap (λ (h : Head). h .size) e }
 
 -- what a piece e behind the text d does, where `text` is what the single call gives, `after` the state after a text and i the key's
 -- number
@@ -175,17 +177,17 @@ ctr-in-pieces dir c ps label iv o r e =
     let p = through dir m label (whole ps) iv o e in
     let fits : length (whole ps) ≤ limit = ctr-within dir (length (whole ps)) (p .content) in
     let w = went Ctr text (ctrAfter i rk iv) call i (ctr-goes i rk iv) [] ps (omega arith) r in
-    let single : result (modeCall dir m label (whole ps) iv o) ≡ text (whole ps) =
-    ap result (leaves dir m label (whole ps) iv o p) ∙ result-of-done (text (whole ps)) o in
-    let ended : Did Ctr 0 (ctrEnd (stateAfter Ctr Piece call (ctrAfter i rk iv []) ps)) =
-    subst (λ (s : Ctr). Did Ctr 0 (ctrEnd s)) (sym (w .state))
-    (did Ctr 0 i _ (ap (λ (x : Stepped Ctr). x .head) (ctr-ended i rk iv (whole ps) fits))) in
+    let left = leaves dir m label (whole ps) iv o p in
+    let single : result (modeCall dir m label (whole ps) iv o) ≡ text (whole ps) = ap result left ∙ result-of-done (text (whole ps)) o in
+    let end = ap (λ (x : Stepped Ctr). x .head) (ap ctrEnd (w .state) ∙ ctr-ended i rk iv (whole ps) fits) in
     subst
     (λ (x : Stepped Ctr). AllDone Ctr call x ps 0 (ctrEnd (stateAfter Ctr Piece call (x .state) ps))
-    × (wrote Ctr Piece call (x .state) ps ≡ result (modeCall dir m label (whole ps) iv o)))
+    × (wrote Ctr Piece call (x .state) ps ≡ result (modeCall dir m label (whole ps) iv o))
+    × TellsAlike Ctr (ctrEnd (stateAfter Ctr Piece call (x .state) ps)) (modeCall dir m label (whole ps) iv o))
     (sym (ctr-starts dir c iv (p .key) (p .iv-size) (p .may))) (
-      record { start = record { number = refl; size = refl }; pieces = w .all; end = ended },
+      record { start = record { number = refl; size = refl }; pieces = w .all; end = did Ctr 0 i (ctrCameRound iv (blocksOf (length (whole ps)))) _ end },
       ap (λ (l : List ℕ). l ++ wrote Ctr Piece call (ctrAfter i rk iv []) ps) (sym (chain-nothing rk iv)) ∙ w .bytes ∙ sym single,
+      ap (λ (h : Head). h .cameRound) end ∙ sym (ap (λ (x : Outcome). x .head .cameRound) left),
     )
 
 -- Under any record: Gcm sealing in pieces gives the ciphertext and the tag of the single call.
@@ -203,22 +205,26 @@ seal-in-pieces c ps label iv t o r room e =
     let fits : length (whole ps) ≤ limit = data-within Encrypt Gcm (length (whole ps)) (p .content) in
     let w = went Seal text (sealAfter i rk label iv) call i (seal-goes i rk label iv hl) [] ps (omega arith) r in
     let end = seal-ended i rk label iv (whole ps) hl t fits room in
+    let left = leaves Encrypt (inGcm c) label (whole ps) iv o p in
     let single : result (modeCall Encrypt (inGcm c) label (whole ps) iv o) ≡ text (whole ps) ++ tag =
-    ap result (leaves Encrypt (inGcm c) label (whole ps) iv o p) ∙ result-of-done (text (whole ps) ++ tag) o in
-    let ends : (x : Stepped Seal) → x ≡ record { head = under i (finished 16); bytes = over tag t; state = sealShut i ended }
-    → Did Seal 16 x × (written Seal x ≡ tag) =
-    λ x f. subst (λ (y : Stepped Seal). Did Seal 16 y × (written Seal y ≡ tag)) (sym f)
-    (record { number = refl; size = refl }, take-at tag _ 16 (length-tag rk (hashKey rk) j label (text (whole ps)))) in
+    ap result left ∙ result-of-done (text (whole ps) ++ tag) o in
+    let reported = telling (gcmRound rk iv (length (whole ps))) (finished 16) in
+    let ends : (x : Stepped Seal) → x ≡ record { head = under i reported; bytes = over tag t; state = sealShut i ended }
+    → Did Seal 16 x × (written Seal x ≡ tag) × (x .head .cameRound ≡ reported .cameRound) =
+    λ x f. subst (λ (y : Stepped Seal). Did Seal 16 y × (written Seal y ≡ tag) × (y .head .cameRound ≡ reported .cameRound)) (sym f)
+    (record { number = refl; size = refl }, take-at tag _ 16 (length-tag rk (hashKey rk) j label (text (whole ps))), refl) in
     let last = ends _ (ap (λ (s : Seal). sealEnd s t) (w .state) ∙ end) in
     subst
     (λ (x : Stepped Seal). AllDone Seal call x ps 16 (sealEnd (stateAfter Seal Piece call (x .state) ps) t)
     × (wrote Seal Piece call (x .state) ps ++ written Seal (sealEnd (stateAfter Seal Piece call (x .state) ps) t)
-    ≡ result (modeCall Encrypt (inGcm c) label (whole ps) iv o)))
+    ≡ result (modeCall Encrypt (inGcm c) label (whole ps) iv o))
+    × TellsAlike Seal (sealEnd (stateAfter Seal Piece call (x .state) ps) t) (modeCall Encrypt (inGcm c) label (whole ps) iv o))
     (sym (seal-starts c label iv (p .key) (p .iv-size) (p .may) hl)) (
       record { start = record { number = refl; size = refl }; pieces = w .all; end = last .0 },
       ap₂ _++_
           (ap (λ (l : List ℕ). l ++ wrote Seal Piece call (sealAfter i rk label iv []) ps) (sym (no-text rk j)) ∙ w .bytes) (last .1)
           ∙ sym single,
+      last .2 ∙ sym (ap (λ (x : Outcome). x .head .cameRound) left),
     )
 
 -- pieces of a ciphertext behind c, which write nothing
@@ -238,7 +244,7 @@ took i rk label iv hl c (e ∷ cs) h =
     rest .state ∙ ap (opensAfter i rk label iv) (append-assoc c e (joined cs)) in
     record {
       all = (
-        did Opens 0 i _ (ap (λ (y : Stepped Opens). y .head) x),
+        did Opens 0 i false _ (ap (λ (y : Stepped Opens). y .head) x),
         subst (λ (s : Opens). AllDid Opens (List ℕ) opensPiece none s cs) (sym (ap (λ (y : Stepped Opens). y .state) x)) (rest .all),
       );
       state = ap (λ (y : Stepped Opens). stateAfter Opens (List ℕ) opensPiece (y .state) cs) x ∙ behind;
@@ -265,10 +271,13 @@ opens-starts c label iv e =
     let i = keyNumber c in
     passed-start Opens (gcmStarting (c .answer) (c .retired) Decrypt (length iv) (length label)) (opensShut i) (opensAfter i (c .rk) label iv []) e
 
--- the same test decides the single call
-by-test : (t : Bool) (n : ℕ) → gcmHead (cond t (Gcm·Done n) InvalidTag) .number ≡ cond t (finished 0) (refusal 4) .number
-by-test true n = refl
-by-test false n = refl
+-- the same test decides the single call, and what it tells of the counter
+by-test : (t b : Bool) (n : ℕ)
+    → let single = tellingDone b (gcmHead (cond t (Gcm·Done n) InvalidTag)) in
+    let end = cond t (telling b (finished 0)) (refusal 4) in
+    (end .number ≡ single .number) × (end .cameRound ≡ single .cameRound)
+by-test true b n = (refl, refl)
+by-test false b n = (refl, refl)
 
 -- Under any record: Gcm opening in pieces answers as the single call does.
 pub opens-in-pieces : (c : Sm4Cipher) → OpensInPieces Opens (opensStart c) opensPiece opensEnd (modeCall Decrypt (inGcm c))
@@ -276,29 +285,29 @@ unfolding gcmOpen settled
 opens-in-pieces c cs label iv tag o fits room n e =
     let rk = c .rk in
     let i = keyNumber c in
-    let h = hashKey rk in
-    let j = J0 rk iv in
     let text = joined cs in
     let passed = opens-starts c label iv e in
     let s = started c label iv passed in
     let k = took i rk label iv (s .label-fits) [] cs (omega arith) in
     let m : length (text ++ tag) ≡ length text + length tag = length-append text tag in
+    let size : length (text ++ tag) - 16 ≡ length text = omega arith in
     let ready : Fits label (text ++ tag) o =
     record { label = s .label-fits; longest = omega arith; shortest = omega arith; room = omega arith } in
-    let single : modeCall Decrypt (inGcm c) label (text ++ tag) iv o .head .number
-    ≡ cond (opensUnder rk h j label (text ++ tag)) (finished 0) (refusal 4) .number =
-    ap (λ (x : Outcome). x .head .number)
-    (leaves Decrypt (inGcm c) label (text ++ tag) iv o (gcm-in-order c label (text ++ tag) iv o (s .key) (s .iv-size) ready))
-    ∙ by-test (opensUnder rk h j label (text ++ tag)) (length (text ++ tag) - 16) in
+    let left = leaves Decrypt (inGcm c) label (text ++ tag) iv o (gcm-in-order c label (text ++ tag) iv o (s .key) (s .iv-size) ready) in
+    let test = opensUnder rk (hashKey rk) (J0 rk iv) label (text ++ tag) in
+    let end = ap (λ (y : Opens). opensEnd y tag) (k .state) ∙ opens-ended i rk label iv text (s .label-fits) tag fits n in
+    let same = by-test test (gcmRound rk iv (length text)) (length (text ++ tag) - 16) in
+    let told = ap (λ (r : ℕ). tellingDone (gcmRound rk iv r) (gcmHead (cond test (Gcm·Done (length (text ++ tag) - 16)) InvalidTag))) size in
     subst
     (λ (x : Stepped Opens). AllDid Opens (List ℕ) opensPiece none (x .state) cs
     × (opensEnd (stateAfter Opens (List ℕ) opensPiece (x .state) cs) tag .head .number
-    ≡ modeCall Decrypt (inGcm c) label (text ++ tag) iv o .head .number))
+    ≡ modeCall Decrypt (inGcm c) label (text ++ tag) iv o .head .number)
+    × TellsAlike Opens (opensEnd (stateAfter Opens (List ℕ) opensPiece (x .state) cs) tag) (modeCall Decrypt (inGcm c) label (text ++ tag) iv o))
     (sym (opens-started c label iv passed)) (
       k .all,
-      ap (λ (y : Opens). opensEnd y tag .head .number) (k .state)
-          ∙ ap (λ (x : Stepped Opens). x .head .number) (opens-ended i rk label iv text (s .label-fits) tag fits n)
-          ∙ sym single,
+      ap (λ (x : Stepped Opens). x .head .number) end ∙ same .0 ∙ sym (ap (λ (x : Outcome). x .head .number) left),
+      ap (λ (x : Stepped Opens). x .head .cameRound) end ∙ same .1 ∙ sym (ap (λ (h : Head). h .cameRound) told)
+          ∙ sym (ap (λ (x : Outcome). x .head .cameRound) left),
     )
 
 -- The same of the exported calls, with mode 2 and with mode 4.

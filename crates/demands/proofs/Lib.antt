@@ -6,6 +6,7 @@ pub mod Answering
 pub mod EveryCallAnswers
 pub mod UniqueOutcomes
 pub mod NoUsableKey
+pub mod CameRound
 pub mod Retired
 pub mod Steps
 pub mod LabelIgnored

@@ -9,7 +9,7 @@ use lib.ListN.{length, take}
 use lib.Seq.{length-take-le}
 use borrow.Author.Tests.{eq-eqb, ne-eqb, le-ltb}
 use Rattle.block.specs.Below.{AreBytes}
-use Rattle.walk.specs.Outcome.{Outcome, finished, leaving, written, done}
+use Rattle.walk.specs.Outcome.{Outcome, finished, leaving, written, reporting, done}
 use Rattle.walk.specs.Walk.{chain, over}
 use Rattle.stream.specs.Stream.{streamMode}
 use Rattle.stream.specs.declared.Kind.the-variants.{CfbEncrypt, CfbDecrypt, Ofb as Ofb·kind, Ctr as Ctr·kind}
@@ -34,6 +34,7 @@ use Rattle.cipher_mode.specs.Tables.{limit, sealedLimit, roomOf}
 use Rattle.cipher_mode.specs.Checks.{wrongIv, dataCheck}
 use Rattle.cipher_mode.specs.Calls.{modeResult}
 use Rattle.cipher_mode.proofs.Passed.{sixteen, data-within, whole-blocks-passed, with-tag-passed}
+use Rattle.demands.specs.CameRound.{roundOf}
 
 -- the message that d is encrypted to
 abbrev pub encrypted : CipherMode → List ℕ → List ℕ → List ℕ → List ℕ → List ℕ
@@ -43,7 +44,8 @@ encrypted Ctr rk aad d iv = chain (streamMode Ctr·kind rk) iv d
 encrypted Cbc rk aad d iv = cbcSeal rk iv d
 encrypted Gcm rk aad d iv = sealed rk (hashKey rk) (J0 rk iv) aad d
 
-pub encrypts : (m : CipherMode) (rk aad d iv o : List ℕ) → modeResult m Encrypt rk aad d iv o ≡ done (encrypted m rk aad d iv) o
+pub encrypts : (m : CipherMode) (rk aad d iv o : List ℕ)
+    → modeResult m Encrypt rk aad d iv o ≡ reporting (roundOf m Encrypt rk iv (length d)) (done (encrypted m rk aad d iv) o)
 encrypts Cfb rk aad d iv o = refl
 encrypts Ofb rk aad d iv o = refl
 encrypts Ctr rk aad d iv o = refl
@@ -69,7 +71,7 @@ tagged-passes n h k = rw (le-ltb sealedLimit n h, le-ltb n 16 k)
 -- the message c is in order for decrypting, and decrypts to d
 pub record Decrypts (m : CipherMode) (rk aad c iv d : List ℕ) : Type 0 where
   pub content : dataCheck Decrypt m (length c) ≡ Passed
-  pub opened : (o : List ℕ) → modeResult m Decrypt rk aad c iv o ≡ done d o
+  pub opened : (o : List ℕ) → modeResult m Decrypt rk aad c iv o ≡ reporting (roundOf m Decrypt rk iv (length c)) (done d o)
 
 module _ (rk aad d iv : List ℕ) (iv-bytes : AreBytes iv) (d-bytes : AreBytes d) where
   cbc-decrypts : length iv ≡ 16 → length d ≤ limit → Decrypts Cbc rk aad (cbcSeal rk iv d) iv d
@@ -89,8 +91,9 @@ module _ (rk aad d iv : List ℕ) (iv-bytes : AreBytes iv) (d-bytes : AreBytes d
       record {
         content = tagged-passes (length c) (omega arith) (omega arith);
         opened = λ o.
-            sym (open-done rk h j aad c o (omega arith) (opens-sealed rk h j aad d))
-            ∙ ap {B = Outcome} (λ (p : List ℕ). done p o) (text-of-sealed rk h j aad d);
+            ap {B = Outcome} (reporting (roundOf Gcm Decrypt rk iv (length c)))
+            (sym (open-done rk h j aad c o (omega arith) (opens-sealed rk h j aad d))
+            ∙ ap {B = Outcome} (λ (p : List ℕ). done p o) (text-of-sealed rk h j aad d));
       }
 
   -- in every mode
@@ -110,7 +113,9 @@ module _ (rk aad d iv : List ℕ) (iv-bytes : AreBytes iv) (d-bytes : AreBytes d
   back Ctr n e =
       record {
         content = rw (length-stream Ctr·kind rk iv d) e;
-        opened = λ o. ap {B = Outcome} (λ (p : List ℕ). done p o) (stream-back Ctr·kind rk iv d);
+        opened = λ o.
+            ap {B = Outcome} (λ (p : List ℕ). reporting (roundOf Ctr Decrypt rk iv (length (encrypted Ctr rk aad d iv))) (done p o))
+            (stream-back Ctr·kind rk iv d);
       }
   back Cbc n e = cbc-decrypts (sixteen (length iv) n) (data-within Encrypt Cbc (length d) e)
   back Gcm n e = gcm-decrypts (data-within Encrypt Gcm (length d) e)
@@ -118,7 +123,7 @@ module _ (rk aad d iv : List ℕ) (iv-bytes : AreBytes iv) (d-bytes : AreBytes d
 -- the data c decrypted to a text that is in order for encrypting, and encrypts to c
 pub record Encrypts (m : CipherMode) (rk aad c iv o : List ℕ) : Type 0 where
   pub text : List ℕ
-  pub opened : modeResult m Decrypt rk aad c iv o ≡ done text o
+  pub opened : modeResult m Decrypt rk aad c iv o ≡ reporting (roundOf m Decrypt rk iv (length c)) (done text o)
   pub content : dataCheck Encrypt m (length text) ≡ Passed
   pub again : encrypted m rk aad text iv ≡ c
 
@@ -162,7 +167,7 @@ module _ (rk aad c iv o : List ℕ) where
       let k = text-size rk h j aad c o n in
       record {
         text = textOf rk j (textPart c);
-        opened = sym (open-done rk h j aad c o n t);
+        opened = ap {B = Outcome} (reporting (roundOf Gcm Decrypt rk iv (length c))) (sym (open-done rk h j aad c o n t));
         content = rw (le-ltb limit (length (textOf rk j (textPart c))) (omega arith));
         again = sealed-of-opened rk h j aad c t;
       }

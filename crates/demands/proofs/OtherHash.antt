@@ -9,7 +9,7 @@ use native.Mathlib.Omega.{arith}
 use lib.ListN.{length, length-drop, take-append-drop}
 use borrow.Author.Tests.{le-ltb}
 use Rattle.ghash.specs.Ghash.{ghash, authBlocks}
-use Rattle.walk.specs.Outcome.{Outcome, keyed}
+use Rattle.walk.specs.Outcome.{Outcome, keyed, reporting}
 use Rattle.gcm.specs.Gcm.{hashKey, J0, textPart, tagPart, opensUnder}
 use Rattle.gcm.proofs.TagTells.{opens-not}
 use Rattle.gcm.proofs.HashKey.{hashKey-lt, hashKey-tells}
@@ -23,6 +23,7 @@ use Rattle.cipher_mode.specs.Tables.{limit, sealedLimit}
 use Rattle.cipher_mode.specs.Checks.{wrongIv}
 use Rattle.cipher_mode.specs.Calls.{lengthsOf, modeCall}
 use Rattle.cipher_mode.proofs.Passed.{InOrder, label-passed, data-within, with-tag-passed}
+use Rattle.demands.specs.CameRound.{roundOf}
 use Rattle.demands.specs.Call.{inGcm, RefusedAs}
 use Rattle.demands.specs.OneBlockRefused.{MovesZero}
 use Rattle.demands.proofs.Through.{refused-as, through, leaves}
@@ -80,7 +81,8 @@ module _ (c : Sm4Cipher) where
       let closed = opens-not rk h (hashKey-lt rk) j a₁ c₁ a₂ c₂ t n ne (gcm-opens a₁ (c₁ ++ t) iv o₁ e) in
       refused-as (keyNumber c) 4 o₂ _
       (leaves Decrypt (inGcm c) a₂ (c₂ ++ t) iv o₂ (gcm-in-order a₂ (c₂ ++ t) iv o₂ (p .key) (p .iv-size) l)
-      ∙ ap {B = Outcome} (keyed (keyNumber c)) (sym (open-refused rk h j a₂ (c₂ ++ t) o₂ closed)))
+      ∙ ap {B = Outcome} (λ (x : Outcome). keyed (keyNumber c) (reporting (roundOf Gcm Decrypt rk iv (length (c₂ ++ t))) x))
+      (sym (open-refused rk h j a₂ (c₂ ++ t) o₂ closed)))
 
   -- the same of a whole message, where only the label is another
   pub other-label-refused : (a₁ a₂ s iv o₁ o₂ : List ℕ) → length a₂ ≤ limit → length o₁ ≡ length o₂

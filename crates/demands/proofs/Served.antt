@@ -9,7 +9,7 @@ use native.Mathlib.Omega.{arith}
 use lib.Dec.{ltb}
 use lib.ListN.{length}
 use borrow.Author.Tests.{le-ltb}
-use Rattle.walk.specs.Outcome.{Outcome, keyed, refuse, done}
+use Rattle.walk.specs.Outcome.{Outcome, keyed, refuse, reporting, done}
 use Rattle.cipher_mode.specs.declared.CipherMode.{CipherMode}
 use Rattle.cipher_mode.specs.declared.CipherMode.the-variants.{Cfb, Ofb, Ctr, Cbc, Gcm}
 use Rattle.cipher_mode.specs.declared.Direction.{Direction}
@@ -29,14 +29,15 @@ use Rattle.luossavin.specs.Key.{keyAnswerOf, cipherIn}
 use Rattle.luossavin.specs.Host.{modeOf, modeIn, hostBlockCall, hostModeCall}
 use Rattle.demands.specs.Call.{Call, single}
 use Rattle.demands.specs.ThereAndBack.{AtAnyTime, HostAtAnyTime}
+use Rattle.demands.specs.CameRound.{roundOf}
 use Rattle.demands.specs.Served.{Serves, Asks, Served, BlockServed}
 use Rattle.demands.proofs.Through.{block-leaves, leaves}
 use Rattle.demands.proofs.ModesBack.{encrypted, encrypts, length-encrypted}
 use Rattle.demands.proofs.ThereAndBack.{decryption-takes-back, host-at-any-time}
 
 -- done with p, on whichever key
-serves : (p o : List ℕ) (n i : ℕ) (x : Outcome) → x ≡ keyed i (done p o) → length p ≡ n → Serves n x
-serves p o n i x e l = record { number = ap (λ (y : Outcome). y .head .number) e; size = ap (λ (y : Outcome). y .head .size) e ∙ l }
+serves : (p o : List ℕ) (n i : ℕ) (b : Bool) (x : Outcome) → x ≡ keyed i (reporting b (done p o)) → length p ≡ n → Serves n x
+serves p o n i b x e l = record { number = ap (λ (y : Outcome). y .head .number) e; size = ap (λ (y : Outcome). y .head .size) e ∙ l }
 
 label-in-order : (m : CipherMode) (n : ℕ) → (m ≡ Gcm → n ≤ limit) → labelCheck m n ≡ Passed
 label-in-order Cfb n h = refl
@@ -77,7 +78,7 @@ module _ (mode : CipherMode) (c : Sm4Cipher) (k : c .answer ≡ Key) (u : c .ret
 
   seals : (label d iv o : List ℕ) → Asks mode label d iv o → Serves (roomOf mode Encrypt (length d)) (modeCall Encrypt m label d iv o)
   seals label d iv o a =
-      serves (encrypted mode (c .rk) label d iv) o _ (keyNumber c) _
+      serves (encrypted mode (c .rk) label d iv) o _ (keyNumber c) (roundOf mode Encrypt (c .rk) iv (length d)) _
       (leaves Encrypt m label d iv o (asks-in-order m k u label d iv o a)
       ∙ ap {B = Outcome} (keyed (keyNumber c)) (encrypts mode (c .rk) label d iv o))
       (length-encrypted mode (c .rk) label d iv)
@@ -99,7 +100,7 @@ module _ (mode : CipherMode) (c : Sm4Cipher) (k : c .answer ≡ Key) (u : c .ret
 pub block-served : (dir : Direction) (c : Sm4Cipher) → c .answer ≡ Key → (dir ≡ Encrypt → c .retired ≡ false)
     → BlockServed (single (blockCall dir c))
 block-served dir c k u label b iv o n r =
-    serves (blockOf dir (c .rk) b) o 16 (keyNumber c) _
+    serves (blockOf dir (c .rk) b) o 16 (keyNumber c) false _
     (block-leaves dir c b o (record { key = k; size = n; may = allowed dir (c .retired) u; enough = r })) (length-block dir (c .rk) b)
   where
     allowed : (dir : Direction) (retired : Bool) → (dir ≡ Encrypt → retired ≡ false) → retiredCheck dir retired ≡ Passed

@@ -13,7 +13,8 @@ use Rattle.block.specs.Same.{same}
 use Rattle.block.specs.Xor.{xors}
 use Rattle.block.proofs.Convert.{length-bytesOf}
 use Rattle.block.proofs.Xors.{length-xors}
-use Rattle.walk.specs.Outcome.{Head, finished, refusal, under, leaving}
+use Rattle.counter.specs.CameRound.{blocksOf, ctrCameRound, gcmCameRound}
+use Rattle.walk.specs.Outcome.{Head, finished, refusal, under, leaving, telling}
 use Rattle.walk.specs.Walk.{over}
 use Rattle.cipher_mode.specs.declared.KeyAnswer.{KeyAnswer}
 use Rattle.cipher_mode.specs.declared.KeyAnswer.the-variants.{Key, ErrorBlockSize as NoKey, WrongNumber as NoNumber}
@@ -30,7 +31,7 @@ use Rattle.cipher_mode.specs.Answer.{refusalHead}
 use Rattle.cipher_mode.specs.Key.{keyNumber}
 use Rattle.cipher_mode.specs.Tables.{limit}
 use Rattle.cipher_mode.specs.Checks.{refuse, andThen, keyCheck, wrongIv, retiredCheck, keyAndIv}
-use Rattle.cipher_mode.proofs.Refusals.{not-zero}
+use Rattle.cipher_mode.proofs.Refusals.{refuses as each-refuses}
 use Rattle.pieces.specs.declared.flow.Counting.the-variants.{Ctr as Ctr·counting, Gcm as Gcm·counting}
 use Rattle.pieces.specs.declared.ctr.Ctr.{Ctr}
 use Rattle.pieces.specs.declared.opens.Opens.{Opens}
@@ -45,7 +46,7 @@ use Rattle.pieces.proofs.KeyStream.{text-length}
 use Rattle.pieces.proofs.Passing.{writing-passed}
 use Rattle.demands.specs.Answered.{Answered}
 use Rattle.demands.specs.Steps.{outcomeOf, ctrKey, sealKey, opensKey, pieceNumbers, StepAnswered, turned, NoCtr, NoSeal, NoOpens}
-use Rattle.demands.proofs.Answering.{refuses, does, refusal-answers, Within, within-refuse, within-cond, within-then, on-key}
+use Rattle.demands.proofs.Answering.{refuses, does, refusal-answers, Within, within-refuse, within-cond, within-then, on-key, reports}
 use Rattle.demands.proofs.EveryCallAnswers.{key-and-iv-within, label-within}
 
 -- the refusals of a piece and of an end
@@ -102,15 +103,16 @@ written-answers p o n e h =
 nothing-answers : Answered pieceNumbers 0 [] 0 (leaving (finished 0) [])
 nothing-answers = written-answers [] [] 0 refl (omega arith)
 
-yes-or-no-answers : (t : Bool) → Answered pieceNumbers 0 [] 0 (leaving (cond t (finished 0) (refusal 4)) [])
-yes-or-no-answers true = nothing-answers
-yes-or-no-answers false = refuses pieceNumbers 4 0 [] (omega arith) refl
+yes-or-no-answers : (t b : Bool) → Answered pieceNumbers 0 [] 0 (leaving (cond t (telling b (finished 0)) (refusal 4)) [])
+yes-or-no-answers true b = reports pieceNumbers b 0 0 [] _ nothing-answers
+yes-or-no-answers false b = refuses pieceNumbers 4 0 [] (omega arith) refl
 
 -- the tag decides between 0 and 4
-unmoved-end : (t : Bool) (s r : Opens)
-    → cond t (finished 0) (refusal 4) .number ≢ 0 → cond t (finished 0) (refusal 4) .number ≢ 4 → r ≡ s
-unmoved-end true s r n m = absurd (n refl)
-unmoved-end false s r n m = absurd (m refl)
+unmoved-end : (t b : Bool) (s r : Opens)
+    → let h = cond t (telling b (finished 0)) (refusal 4) in
+    h .number ≢ 0 → h .number ≢ 4 → r ≡ s
+unmoved-end true b s r n m = absurd (n refl)
+unmoved-end false b s r n m = absurd (m refl)
 
 low : (n : ℕ) → n % 16 < 16
 low n = omega arith
@@ -131,7 +133,7 @@ pub ctr-end-answers : (s : Ctr) → StepAnswered Ctr ctrKey s [] 0 (ctrEnd s)
 unfolding ctrEnd ctrShut
 ctr-end-answers s =
     goes-answers Ctr ctrKey (running (s .stands) 0 (s .total) 0) [] s 0 _ (running-within (s .stands) 0 (s .total) 0)
-    (λ _. nothing-answers) refl (λ z _. absurd (z refl))
+    (λ _. reports pieceNumbers (ctrCameRound (s .first) (blocksOf (s .total))) 0 0 [] _ nothing-answers) refl (λ z _. absurd (z refl))
 
 -- A piece of a sealing, likewise.
 pub seal-piece-answers : (s : Seal) (e o : List ℕ) → length (s .flow .pad) ≡ 16 → StepAnswered Seal sealKey s o (length e) (sealPiece s e o)
@@ -152,8 +154,9 @@ seal-end-answers s o n =
     let m : length hash ≡ 16 = length-bytesOf 16 _ in
     goes-answers Seal sealKey (writing (s .stands) (s .label) (s .total) 0 16 (length o)) o s 16 _
     (writing-within (s .stands) (s .label) (s .total) 0 16 (length o))
-    (λ k. written-answers (xors (s .mask) hash) o 16 (length-xors (s .mask) hash (omega arith) ∙ n)
-    (writing-passed (s .stands) (s .label) (s .total) 0 16 (length o) k .1))
+    (λ k. reports pieceNumbers (gcmCameRound (s .low) (blocksOf (s .total))) 0 16 o _
+    (written-answers (xors (s .mask) hash) o 16 (length-xors (s .mask) hash (omega arith) ∙ n)
+    (writing-passed (s .stands) (s .label) (s .total) 0 16 (length o) k .1)))
     refl (λ z _. absurd (z refl))
 
 -- A piece of an opening is refused or taken; its end is refused, or answers 0 or 4, and only 4 leaves another state.
@@ -167,9 +170,10 @@ pub opens-end-answers : (s : Opens) (tag : List ℕ) → StepAnswered Opens open
 unfolding opensEnd opensShut
 opens-end-answers s tag =
     let test = same tag (xors (s .mask) (hashEnd (s .hashing) (s .total % 16) (s .label) (s .total))) in
+    let round = gcmCameRound (s .low) (blocksOf (s .total)) in
     goes-answers Opens opensKey (tagged (s .stands) (s .label) (s .total) (length tag)) [] s 0 _
-    (tagged-within (s .stands) (s .label) (s .total) (length tag)) (λ _. yes-or-no-answers test) refl
-    (unmoved-end test s (opensShut (s .key) ended))
+    (tagged-within (s .stands) (s .label) (s .total) (length tag)) (λ _. yes-or-no-answers test round) refl
+    (unmoved-end test round s (opensShut (s .key) ended))
 
 -- The starts report length 0, done or refused, and the state carries the key's number.
 start-answers : (S : Type 0) (number : S → ℕ) (n : ℕ) (k : Checked) (shut : ℕ → S) (s : S) → Within pieceNumbers k
@@ -362,7 +366,7 @@ opens-refused-start c label iv n =
 ended-state : (S : Type 0) (k : Checked) (o : List ℕ) (s : S) (next : Stepped S) → goesOn S k o s next .head .number ≡ 0
     → goesOn S k o s next .state ≡ next .state
 ended-state S Passed o s next e = refl
-ended-state S (Refused r) o s next e = absurd (not-zero r e)
+ended-state S (Refused r) o s next e = absurd (each-refuses r .not-zero e)
 
 twelve : shut-mark ended
 unfolding shut-mark

@@ -7,8 +7,9 @@ use mathlib.Core.List.{List}
 use Prim.Native.Nat.{ℕ}
 use native.Mathlib.Omega.{arith}
 use lib.Dec.{ltb}
+use lib.ListN.{length}
 use Rattle.cipher.proofs.Blocks.{block-decrypt-encrypt, block-encrypt-decrypt}
-use Rattle.walk.specs.Outcome.{Outcome, keyed, done, refuse}
+use Rattle.walk.specs.Outcome.{Outcome, keyed, reporting, done, refuse}
 use Rattle.cipher_mode.specs.declared.KeyAnswer.{KeyAnswer}
 use Rattle.cipher_mode.specs.declared.KeyAnswer.the-variants.{Key, ErrorBlockSize as NoKey, WrongNumber as NoNumber}
 use Rattle.cipher_mode.specs.declared.CipherMode.{CipherMode}
@@ -23,16 +24,17 @@ use Rattle.luossavin.specs.declared.key.LuossavinKey.{LuossavinKey}
 use Rattle.luossavin.specs.Key.{cipherIn}
 use Rattle.luossavin.specs.Host.{modeOf, modeIn, hostBlockCall, hostModeCall}
 use Rattle.demands.specs.Call.{single, result, Call}
+use Rattle.demands.specs.CameRound.{roundOf}
 use Rattle.demands.specs.ThereAndBack.{AtAnyTime, HostAtAnyTime, Returns, Decryptable, Encryptable, Sixteen, ThereAndBack}
 use Rattle.demands.proofs.Through.{result-of-done, block-through, block-leaves, through, leaves}
 use Rattle.demands.proofs.Exported.{retired-is-retired}
 use Rattle.demands.proofs.ModesBack.{encrypted, encrypts, back, forth}
 
 -- the second call answered 0 with d; it was given the result c of the first
-returns : (back : Call) (label c d iv o o′ : List ℕ) (i j : ℕ) (x : Outcome) → x ≡ keyed i (done c o)
-    → back label c iv o′ ≡ keyed j (done d o′) → Returns d (back label (result x) iv o′)
-returns back label c d iv o o′ i j x e f =
-    let y : back label (result x) iv o′ ≡ keyed j (done d o′) =
+returns : (back : Call) (label c d iv o o′ : List ℕ) (i j : ℕ) (a b : Bool) (x : Outcome) → x ≡ keyed i (reporting a (done c o))
+    → back label c iv o′ ≡ keyed j (reporting b (done d o′)) → Returns d (back label (result x) iv o′)
+returns back label c d iv o o′ i j a b x e f =
+    let y : back label (result x) iv o′ ≡ keyed j (reporting b (done d o′)) =
     ap {B = Outcome} (λ (s : List ℕ). back label s iv o′) (ap result e ∙ result-of-done c o) ∙ f in
     record {
       number = ap (λ (y : Outcome). y .head .number) y;
@@ -68,7 +70,7 @@ decryption-takes-back mode c later t label d iv o o′ db ib e r =
     let s = at-any-time c later t in
     let p = through Encrypt m label d iv o e in
     let text = encrypted mode rk label d iv in
-    let x : modeCall Encrypt m label d iv o ≡ keyed (keyNumber c) (done text o) =
+    let x : modeCall Encrypt m label d iv o ≡ keyed (keyNumber c) (reporting (roundOf mode Encrypt rk iv (length d)) (done text o)) =
     leaves Encrypt m label d iv o p ∙ ap {B = Outcome} (keyed (keyNumber c)) (encrypts mode rk label d iv o) in
     let k = back rk label d iv ib db mode (p .iv-size) (p .content) in
     let q : InOrder (later .answer) (later .retired) Decrypt mode (lengthsOf label text iv o′) =
@@ -80,7 +82,8 @@ decryption-takes-back mode c later t label d iv o o′ db ib e r =
       content = k .content;
       room = rw x at r;
     } in
-    returns (modeCall Decrypt n) label text d iv o o′ (keyNumber c) (keyNumber later) _ x
+    returns (modeCall Decrypt n) label text d iv o o′ (keyNumber c) (keyNumber later) (roundOf mode Encrypt rk iv (length d))
+    (roundOf mode Decrypt rk iv (length text)) _ x
     (leaves Decrypt n label text iv o′ q
     ∙ ap {B = Outcome} (λ (rk : List ℕ). keyed (keyNumber later) (modeResult mode Decrypt rk label text iv o′)) (s .keys)
     ∙ ap {B = Outcome} (keyed (keyNumber later)) (k .opened o′))
@@ -101,7 +104,7 @@ encryption-takes-back mode c later t u label text iv o o′ cb ib e r =
     ∙ ap {B = Outcome} (λ (rk : List ℕ). keyed (keyNumber later) (modeResult mode Decrypt rk label text iv o)) (s .keys) in
     let k = forth rk label text iv o mode (p .iv-size) cb (p .content) (rw y at e) (rw y at (r .0)) in
     let d = k .text in
-    let x : modeCall Decrypt l label text iv o ≡ keyed (keyNumber later) (done d o) =
+    let x : modeCall Decrypt l label text iv o ≡ keyed (keyNumber later) (reporting (roundOf mode Decrypt rk iv (length text)) (done d o)) =
     y ∙ ap {B = Outcome} (keyed (keyNumber later)) (k .opened) in
     let q : InOrder (c .answer) (c .retired) Encrypt mode (lengthsOf label d iv o′) =
     record {
@@ -112,9 +115,12 @@ encryption-takes-back mode c later t u label text iv o o′ cb ib e r =
       content = k .content;
       room = rw x at (r .1);
     } in
-    returns (modeCall Encrypt m) label d text iv o o′ (keyNumber later) (keyNumber c) _ x
+    returns (modeCall Encrypt m) label d text iv o o′ (keyNumber later) (keyNumber c) (roundOf mode Decrypt rk iv (length text))
+    (roundOf mode Encrypt rk iv (length d)) _ x
     (leaves Encrypt m label d iv o′ q
-    ∙ ap {B = Outcome} (keyed (keyNumber c)) (encrypts mode rk label d iv o′ ∙ ap {B = Outcome} (λ (s : List ℕ). done s o′) (k .again)))
+    ∙ ap {B = Outcome} (keyed (keyNumber c))
+    (encrypts mode rk label d iv o′
+    ∙ ap {B = Outcome} (λ (s : List ℕ). reporting (roundOf mode Encrypt rk iv (length d)) (done s o′)) (k .again)))
 
 -- If encryption of one block answers 0, decryption of the result under the same key, now or when it is retired, given room, answers 0
 -- with the block;
@@ -126,7 +132,7 @@ block-decryption-takes-back c later t label b iv o o′ bb ib e r =
     let a = blockOf Encrypt (c .rk) b in
     let n = length-block Encrypt (c .rk) b in
     let y = block-leaves Decrypt later a o′ (record { key = s .answer ∙ p .key; size = n; may = refl; enough = r }) in
-    returns (single (blockCall Decrypt later)) label a b iv o o′ (keyNumber c) (keyNumber later) _ (block-leaves Encrypt c b o p)
+    returns (single (blockCall Decrypt later)) label a b iv o o′ (keyNumber c) (keyNumber later) false false _ (block-leaves Encrypt c b o p)
     (y ∙ ap {B = Outcome} (λ (d : List ℕ). keyed (keyNumber later) (done d o′))
     (ap (λ (rk : List ℕ). blockOf Decrypt rk a) (s .keys) ∙ block-decrypt-encrypt (c .rk) b (p .size) bb))
 
@@ -142,7 +148,7 @@ block-encryption-takes-back c later t u label b iv o o′ bb ib e r =
     block-leaves Decrypt later b o p
     ∙ ap {B = Outcome} (λ (rk : List ℕ). keyed (keyNumber later) (done (blockOf Decrypt rk b) o)) (s .keys) in
     let y = block-leaves Encrypt c a o′ (record { key = sym (s .answer) ∙ p .key; size = n; may = rw u; enough = r }) in
-    returns (single (blockCall Encrypt c)) label a b iv o o′ (keyNumber later) (keyNumber c) _ x
+    returns (single (blockCall Encrypt c)) label a b iv o o′ (keyNumber later) (keyNumber c) false false _ x
     (y ∙ ap {B = Outcome} (λ (d : List ℕ). keyed (keyNumber c) (done d o′)) (block-encrypt-decrypt (c .rk) b (p .size) bb))
 
 -- behind a refusal by number 7 that both have in front

@@ -22,7 +22,7 @@ use Rattle.cipher_mode.specs.Checks.{keyAndIv, roomCheck, blockCheck, messageCh
 use Rattle.cipher_mode.specs.Calls.{blockOf, blockCall, modeResult, lengthsOf, modeCall}
 use Rattle.cipher_mode.proofs.Passed.{InOrder, BlockInOrder, message-passed, block-passed}
 use Rattle.cipher_mode.proofs.Ends.{went-on}
-use Rattle.cipher_mode.proofs.Refusals.{not-zero}
+use Rattle.cipher_mode.proofs.Refusals.{refuses}
 use Rattle.pieces.specs.Calls.{begun}
 use Rattle.demands.specs.Call.{result, RefusedAs}
 
@@ -41,12 +41,12 @@ refused-as k n o x e =
 
 zero-passed : (k : Checked) (o : List ℕ) (next : Outcome) → checked k o next .head .number ≡ 0 → k ≡ Passed
 zero-passed Passed o next e = refl
-zero-passed (Refused r) o next e = absurd (not-zero r e)
+zero-passed (Refused r) o next e = absurd (refuses r .not-zero e)
 
 -- a start that answers 0 has passed
 pub passed-start : (S : Type 0) (k : Checked) (shut : ℕ → S) (s : S) → begun S k shut s .head .number ≡ 0 → k ≡ Passed
 passed-start S Passed shut s e = refl
-passed-start S (Refused r) shut s e = absurd (not-zero r e)
+passed-start S (Refused r) shut s e = absurd (refuses r .not-zero e)
 
 -- a single block
 module _ (dir : Direction) (c : Sm4Cipher) (b o : List ℕ) where

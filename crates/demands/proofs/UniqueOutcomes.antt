@@ -1,8 +1,10 @@
 -- Demand 1, that outcomes can be predicted: any two outcomes that a contract allows coincide.
 -- Assumes nothing.
 use mathlib.Core.Path.{_≡_, refl, sym, ap, ap₂, _∙_}
+use mathlib.Core.Bool.{Bool, true, false, cond}
 use mathlib.Core.List.{List}
 use Prim.Native.Nat.{ℕ, zero, suc}
+use native.Mathlib.Omega.{arith}
 use Rattle.walk.specs.Outcome.{Head, Outcome}
 use Rattle.cipher_mode.specs.declared.answer.Answer.{Answer}
 use Rattle.cipher_mode.specs.declared.answer.Ending.{Ending}
@@ -73,16 +75,32 @@ told (Refused WrongNumber) = refl
 told (Refused Retired) = refl
 told (Refused InvalidPadding) = refl
 
+-- and a yes or no by the number that it is reported as
+told-round : (b c : Bool) → _≡_ {A = ℕ} (cond b 1 0) (cond c 1 0) → b ≡ c
+told-round true true e = refl
+told-round true false e = absurd (omega arith)
+told-round false true e = absurd (omega arith)
+told-round false false e = refl
+
 -- so two answers with one head are the same
 one-answer : (a₁ a₂ : Answer) → headOf a₁ ≡ headOf a₂ → a₁ ≡ a₂
 one-answer a₁ a₂ e =
     let same = ap (λ (h : Head). endingOf (h .number) (h .size) (h .missing)) e in
-    ap₂ {C = Answer} (λ (e : Ending) (k : ℕ). record { ending = e; key = k }) (sym (told (a₁ .ending)) ∙ same ∙ told (a₂ .ending))
-    (ap (λ (h : Head). h .key) e)
+    let round = told-round (a₁ .«came_round») (a₂ .«came_round») (ap (λ (h : Head). h .cameRound) e) in
+    ap₂ {C = Answer} (λ (e : Ending) (k : ℕ). record { ending = e; «came_round» = a₁ .«came_round»; key = k })
+    (sym (told (a₁ .ending)) ∙ same ∙ told (a₂ .ending)) (ap (λ (h : Head). h .key) e)
+    ∙ ap {B = Answer} (λ (b : Bool). record { ending = a₂ .ending; «came_round» = b; key = a₂ .key }) round
 
 -- and two of a host's are
 one-host-answer : (a₁ a₂ : LuossavinAnswer) → headIn a₁ ≡ headIn a₂ → a₁ ≡ a₂
-one-host-answer a₁ a₂ e = ap (λ (h : Head). record { number = h .number; missing = h .missing; key = h .key; length = h .size }) e
+one-host-answer a₁ a₂ e =
+    ap (λ (h : Head). record {
+      number = h .number;
+      missing = h .missing;
+      «came_round» = h .cameRound;
+      key = h .key;
+      length = h .size;
+    }) e
 
 one : (x : Outcome) → OneOutcome x
 one x a₁ a₂ o₁ o₂ e₁ e₂ =

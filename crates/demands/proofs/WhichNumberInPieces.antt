@@ -9,7 +9,8 @@ use lib.ListN.{length}
 use borrow.Author.Tests.{eqb-true}
 use Rattle.block.specs.Same.{same}
 use Rattle.block.specs.Xor.{xors}
-use Rattle.walk.specs.Outcome.{finished, refusal}
+use Rattle.counter.specs.CameRound.{blocksOf, gcmCameRound}
+use Rattle.walk.specs.Outcome.{finished, refusal, telling}
 use Rattle.cipher_mode.specs.declared.CipherMode.the-variants.{Ctr as Ctr·mode, Gcm}
 use Rattle.cipher_mode.specs.declared.Direction.{Direction}
 use Rattle.cipher_mode.specs.declared.Direction.the-variants.{Encrypt, Decrypt}
@@ -43,9 +44,9 @@ start-number S Passed shut s = refl
 start-number S (Refused r) shut s = refl
 
 -- the last question of an opening
-yes-or-no : (t : Bool) → saidIn (cond t (finished 0) (refusal 4)) ≡ cond (not t) (only 4) (only 0)
-yes-or-no true = refl
-yes-or-no false = refl
+yes-or-no : (t b : Bool) → saidIn (cond t (telling b (finished 0)) (refusal 4)) ≡ cond (not t) (only 4) (only 0)
+yes-or-no true b = refl
+yes-or-no false b = refl
 
 -- what a mark says
 module _ (mark : ℕ) (k : Said) where
@@ -128,7 +129,7 @@ opens-end-number s tag =
     step-number Opens (tagged (s .stands) (s .label) (s .total) (length tag)) [] s _
     ∙ tagged-number (s .stands) (s .label) (s .total) (length tag) _
     ∙ ap {B = Said} (λ (k : Said). orElse runs (cond (not (eqb (length tag) 16)) (record { number = 9; missing = 16 - length tag }) k))
-    (yes-or-no test)
+    (yes-or-no test (gcmCameRound (s .low) (blocksOf (s .total))))
     ∙ first-append runs
     (record { holds = not (eqb (length tag) 16); says = record { number = 9; missing = 16 - length tag } } ∷ row (not test) 4 ∷ [])
 

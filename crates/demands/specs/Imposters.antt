@@ -5,7 +5,8 @@ use mathlib.Core.List.{List, _++_}
 use Prim.Native.Nat.{ℕ, _+_}
 use lib.ListN.{length, take, drop, replicate}
 use Rattle.cipher.specs.Sm4.{roundKeys}
-use Rattle.walk.specs.Outcome.{Outcome, refused, done}
+use Rattle.counter.specs.CameRound.{blocksOf, ctrCameRound}
+use Rattle.walk.specs.Outcome.{Outcome, leaving, telling, refused, done}
 use Rattle.cipher_mode.specs.declared.KeyAnswer.the-variants.{Key, ErrorBlockSize}
 use Rattle.cipher_mode.specs.declared.CipherMode.the-variants.{Ctr, Gcm}
 use Rattle.cipher_mode.specs.declared.Direction.the-variants.{Encrypt, Decrypt}
@@ -40,9 +41,21 @@ firstBlockOnly m label d iv o = done (take 16 (result (modeCall Encrypt m label 
 abbrev pub inventsLength : Sm4CipherMode → Call
 inventsLength m label d iv o =
     record {
-      head = record { number = modeCall Encrypt m label d iv o .head .number; size = length o; missing = 0; key = 1 };
+      head = record { number = modeCall Encrypt m label d iv o .head .number; size = length o; missing = 0; cameRound = 0; key = 1 };
       bytes = modeCall Encrypt m label d iv o .bytes;
     }
+
+-- does what encryption does, and says of the counter what the step after the last block says too
+abbrev pub countsEveryStep : Sm4CipherMode → Call
+countsEveryStep m label d iv o =
+    let x = modeCall Encrypt m label d iv o in
+    leaving (telling (ctrCameRound iv (blocksOf (length d) + 1)) (x .head)) (x .bytes)
+
+-- does what encryption does, and says of the counter what the formula says, also where it is refused
+abbrev pub saysItRefused : Sm4CipherMode → Call
+saysItRefused m label d iv o =
+    let x = modeCall Encrypt m label d iv o in
+    leaving (telling (ctrCameRound iv (blocksOf (length d))) (x .head)) (x .bytes)
 
 -- sets up a key, and forgets its number
 abbrev pub forgetsNumber : List ℕ → ℕ → Sm4Cipher
@@ -81,3 +94,7 @@ zeros = replicate 16 0
 
 abbrev pub zeroKey : Sm4CipherMode
 zeroKey = newCipherMode zeros 1 Ctr
+
+-- the IV of sixteen bytes ff, which the counter comes round from at once
+abbrev pub ones : List ℕ
+ones = replicate 16 255

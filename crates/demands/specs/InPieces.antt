@@ -4,6 +4,7 @@ use mathlib.Core.Path.{_≡_}
 use mathlib.Core.List.{List, [], _∷_, _++_}
 use Prim.Native.Nat.{ℕ, _≤_}
 use lib.ListN.{length, take}
+use Rattle.walk.specs.Outcome.{Outcome}
 use Rattle.cipher_mode.specs.Tables.{limit}
 use Rattle.pieces.specs.Calls.{Stepped}
 use Rattle.demands.specs.Call.{Call, result}
@@ -61,15 +62,21 @@ pub record AllDone (S : Type 0) (call : S → Piece → Stepped S) (started : St
   pub pieces : AllDid S Piece call sizeOf (started .state) ps
   pub end : Did S n ended
 
--- Whenever the single call encrypts the whole, so do start, pieces and end, with its bytes. Ctr has no label.
+-- an end tells of the counter what the single call tells
+abbrev pub TellsAlike : (S : Type 0) → Stepped S → Outcome → Type 0
+TellsAlike S end single = end .head .cameRound ≡ single .head .cameRound
+
+-- Whenever the single call encrypts the whole, so do start, pieces and end, with its bytes, and the end tells of the counter what it
+-- tells. Ctr has no label.
 abbrev pub CtrInPieces : (S : Type 0) → (List ℕ → Stepped S) → (S → List ℕ → List ℕ → Stepped S) → (S → Stepped S) → Call → Type 0
 CtrInPieces S start piece end single =
     (ps : List Piece) (label iv o : List ℕ) → Roomy ps → single label (whole ps) iv o .head .number ≡ 0
     → AllDone S (onto S piece) (start iv) ps 0 (end (stateAfter S Piece (onto S piece) (start iv .state) ps))
     × (wrote S Piece (onto S piece) (start iv .state) ps ≡ result (single label (whole ps) iv o))
+    × TellsAlike S (end (stateAfter S Piece (onto S piece) (start iv .state) ps)) (single label (whole ps) iv o)
 
 -- Whenever the single call seals the whole, so do start, pieces and end: the pieces write its ciphertext, and the end, given an
--- output t with room, its tag.
+-- output t with room, its tag, and it tells of the counter what the single call tells.
 abbrev pub SealInPieces : (S : Type 0) → (List ℕ → List ℕ → Stepped S) → (S → List ℕ → List ℕ → Stepped S)
     → (S → List ℕ → Stepped S) → Call → Type 0
 SealInPieces S start piece end single =
@@ -78,6 +85,7 @@ SealInPieces S start piece end single =
     × (wrote S Piece (onto S piece) (start label iv .state) ps
     ++ written S (end (stateAfter S Piece (onto S piece) (start label iv .state) ps) t)
     ≡ result (single label (whole ps) iv o))
+    × TellsAlike S (end (stateAfter S Piece (onto S piece) (start label iv .state) ps) t) (single label (whole ps) iv o)
 
 -- the ciphertext that the pieces make which an opening takes; they lend no output
 abbrev pub joined : List (List ℕ) → List ℕ
@@ -89,10 +97,11 @@ none c = 0
 
 -- Whenever the start answers 0 and the ciphertext is within the limit, every piece of it is taken, and the end, with a tag of
 -- sixteen bytes, answers the number that the single call, given room, answers to the ciphertext and that tag: 0 exactly where
--- it opens, and otherwise 4.
+-- it opens, and otherwise 4; and it tells of the counter what the single call tells.
 abbrev pub OpensInPieces : (S : Type 0) → (List ℕ → List ℕ → Stepped S) → (S → List ℕ → Stepped S) → (S → List ℕ → Stepped S) → Call → Type 0
 OpensInPieces S start piece end single =
     (cs : List (List ℕ)) (label iv tag o : List ℕ) → length (joined cs) ≤ limit → length (joined cs) ≤ length o → length tag ≡ 16
     → start label iv .head .number ≡ 0
     → AllDid S (List ℕ) piece none (start label iv .state) cs
     × (end (stateAfter S (List ℕ) piece (start label iv .state) cs) tag .head .number ≡ single label (joined cs ++ tag) iv o .head .number)
+    × TellsAlike S (end (stateAfter S (List ℕ) piece (start label iv .state) cs) tag) (single label (joined cs ++ tag) iv o)

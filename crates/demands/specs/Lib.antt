@@ -4,6 +4,7 @@ pub mod Answered
 pub mod WhichNumber
 pub mod OneOutcome
 pub mod NoUsableKey
+pub mod CameRound
 pub mod Retired
 pub mod Steps
 pub mod WhichNumberInPieces

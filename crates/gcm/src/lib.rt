@@ -85,7 +85,8 @@ pub fn encrypt(
     ensures { λ _. ⌜ now (out .exit) ≡ over (sealed rk (value h) (unwords j0) (now (aad .entry)) (now («data» .entry))) (now (out .entry)) ⌝ }
 {
     let n = data.len();
-    stream::stream(t, rk, Kind::Gctr, counter::gcm_block_add_one(j0), data, out);
+    let first = counter::gcm_block_add_one(j0).counter;
+    stream::stream(t, rk, Kind::Gctr, first, data, out);
     let mac = tag(t, rk, h, j0, aad, &out[0..n]);
     block::put_block(mac, &mut out[n..]);
 }
@@ -137,7 +138,8 @@ pub fn decrypt(
 {
     if opens(t, rk, h, j0, aad, data) {
         let text = text_part(data);
-        stream::stream(t, rk, Kind::Gctr, counter::gcm_block_add_one(j0), text, out);
+        let first = counter::gcm_block_add_one(j0).counter;
+        stream::stream(t, rk, Kind::Gctr, first, text, out);
         return Opened::Done(text.len());
     }
     Opened::InvalidTag

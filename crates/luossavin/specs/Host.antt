@@ -14,7 +14,7 @@ use Rattle.luossavin.specs.Key.{cipherIn}
 
 -- what a host's answer reports
 abbrev pub headIn : LuossavinAnswer → Head
-headIn r = record { number = r .number; size = r .length; missing = r .missing; key = r .key }
+headIn r = record { number = r .number; size = r .length; missing = r .missing; cameRound = r .«came_round»; key = r .key }
 
 -- the outcome of a host's answer with the output o
 abbrev pub reported : LuossavinAnswer → List ℕ → Outcome

@@ -17,12 +17,13 @@ use cipher_mode::answer::Ending;
 use key::LuossavinKey;
 use key::cipher_of;
 
-// The papers' number, how many bytes were missing where that is refusal 9, the number of the key that stands, and how many
-// bytes of the output are the result.
+// The papers' number, how many bytes were missing where that is refusal 9, 1 where the counter of a message came round, the number
+// of the key that stands, and how many bytes of the output are the result.
 #[repr(C)]
 pub struct LuossavinAnswer {
     pub number: u32,
     pub missing: u8,
+    pub came_round: u8,
     pub key: u16,
     pub length: usize,
 }
@@ -36,6 +37,7 @@ fn refusal(number: u32) -> LuossavinAnswer
     LuossavinAnswer {
         number,
         missing: 0,
+        came_round: 0,
         key: 0,
         length: 0,
     }
@@ -45,17 +47,20 @@ pub(crate) fn report(answer: Answer) -> LuossavinAnswer
     ensures { λ r. ⌜ headIn r ≡ headOf answer ⌝ }
 {
     let ending = answer.ending;
+    let came_round = answer.came_round as u8;
     let key = answer.key;
     match ending {
         Ending::Done(n) => LuossavinAnswer {
             number: 0,
             missing: 0,
+            came_round,
             key,
             length: n,
         },
         Ending::Refused(reason) => LuossavinAnswer {
             number: answer::number(reason),
             missing: answer::missing(reason),
+            came_round,
             key,
             length: 0,
         },

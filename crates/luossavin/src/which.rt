@@ -31,24 +31,28 @@ fn report_ended(ended: Ended, key: u16) -> LuossavinAnswer
         Ended::Candidate => LuossavinAnswer {
             number: 0,
             missing: 0,
+            came_round: 0,
             key,
             length: 0,
         },
         Ended::None => LuossavinAnswer {
             number: 0,
             missing: 0,
+            came_round: 0,
             key,
             length: 0,
         },
         Ended::BadList => LuossavinAnswer {
             number: BAD_LIST,
             missing: 0,
+            came_round: 0,
             key,
             length: 0,
         },
         Ended::Refused(reason) => LuossavinAnswer {
             number: answer::number(reason),
             missing: answer::missing(reason),
+            came_round: 0,
             key,
             length: 0,
         },

@@ -7,7 +7,8 @@ use native.Mathlib.Nat.{add-zero}
 use native.Mathlib.Omega.{arith}
 use lib.ListN.{length, drop, length-append}
 use lib.Seq.{drop-at}
-use Rattle.walk.specs.Outcome.{finished, under}
+use Rattle.counter.specs.CameRound.{blocksOf, ctrCameRound}
+use Rattle.walk.specs.Outcome.{finished, under, telling}
 use Rattle.walk.specs.Walk.{chain, over}
 use Rattle.stream.specs.Stream.{streamMode}
 use Rattle.stream.specs.declared.Kind.the-variants.{Ctr as Ctr·kind}
@@ -51,8 +52,8 @@ module _ (k : ℕ) (rk iv d : List ℕ) where
       sym
       (went-on Ctr _ _ o _ _ _ (writing-passes 0 (length d) (omega arith) (length e) (length e) (length o) within room)
       (same-step Ctr _ _ _ _ _ _ refl (ap (λ (l : List ℕ). over l o) (sym written))
-      (ap₂ {C = Ctr} (λ (f : Flow) (n : ℕ). record { rk = rk; flow = f; total = n; stands = 0; key = k }) (sym (flow-on Ctr·counting rk iv d e))
-      (length-append d e))))
+      (ap₂ {C = Ctr} (λ (f : Flow) (n : ℕ). record { rk = rk; flow = f; first = iv; total = n; stands = 0; key = k })
+      (sym (flow-on Ctr·counting rk iv d e)) (length-append d e))))
 
   -- and what d gave stands before it
   pub ctr-joined : (e : List ℕ) → chain (streamMode Ctr·kind rk) iv d ++ ctrStretch e ≡ chain (streamMode Ctr·kind rk) iv (d ++ e)
@@ -62,7 +63,9 @@ module _ (k : ℕ) (rk iv d : List ℕ) where
       ap (λ (l : List ℕ). chain m iv d ++ l) (ap (drop (length d)) text ∙ drop-at (chain m iv d) _ (length d) (length-stream Ctr·kind rk iv d))
       ∙ sym text
 
-  -- the end is done, and then every call is refused by 12
-  pub ctr-ended : length d ≤ limit → ctrEnd (ctrAfter k rk iv d) ≡ step Ctr (under k (finished 0)) [] (ctrShut k ended)
+  -- the end is done, and tells of the counter what the single call does; then every call is refused by 12
+  pub ctr-ended : length d ≤ limit
+      → ctrEnd (ctrAfter k rk iv d)
+      ≡ step Ctr (under k (telling (ctrCameRound iv (blocksOf (length d))) (finished 0))) [] (ctrShut k ended)
   unfolding ctrEnd ctrAfter
   ctr-ended within = sym (went-on Ctr _ _ [] _ _ _ (running-passes 0 (length d) (omega arith) 0 (rw add-zero within)) refl)

@@ -7,6 +7,7 @@ pub mod Passing
 pub mod Stepping
 pub mod TagWords
 pub mod Sealing
+pub mod Opening
 pub mod CtrInPieces
 pub mod OpensInPieces
 pub mod SealInPieces

@@ -9,7 +9,8 @@ use lib.ListN.{length, length-append}
 use Rattle.block.specs.Same.{same}
 use Rattle.block.specs.Xor.{xors}
 use Rattle.cipher.specs.Sm4.{encryptBlock}
-use Rattle.walk.specs.Outcome.{Head, finished, refusal, under}
+use Rattle.counter.specs.Counter.{lastFour}
+use Rattle.walk.specs.Outcome.{Head, finished, refusal, under, telling}
 use Rattle.gcm.specs.Gcm.{hashKey, J0, tagOf, opensUnder}
 use Rattle.gcm.proofs.HashKey.{hashKey-lt}
 use Rattle.gcm.proofs.Parts.{parts-text, parts-tag}
@@ -18,6 +19,7 @@ use Rattle.cipher_mode.specs.declared.Sm4Cipher.{Sm4Cipher}
 use Rattle.cipher_mode.specs.declared.checks.Checked.the-variants.{Passed}
 use Rattle.cipher_mode.specs.Key.{keyNumber}
 use Rattle.cipher_mode.specs.Tables.{limit}
+use Rattle.cipher_mode.specs.Calls.{gcmRound}
 use Rattle.pieces.specs.declared.hashing.Hashing.{Hashing}
 use Rattle.pieces.specs.declared.opens.Opens.{Opens}
 use Rattle.pieces.specs.Checks.{gcmStarting}
@@ -34,6 +36,10 @@ unfolding opensStart
 opens-started c label iv e = sym (begun-there Opens _ opensShut (λ (k : ℕ). opensAfter k (c .rk) label iv []) _ _ refl _ _ e refl refl)
 
 module _ (k : ℕ) (rk label iv c : List ℕ) (labelled : length label ≤ limit) where
+  -- the report of an end that opens
+  abbrev pub opened : Head
+  opened = telling (gcmRound rk iv (length c)) (finished 0)
+
   -- a piece e behind c gives the state after both
   pub opens-goes-on : (e : List ℕ) → length c + length e ≤ limit
       → opensPiece (opensAfter k rk label iv c) e ≡ step Opens (under k (finished 0)) [] (opensAfter k rk label iv (c ++ e))
@@ -47,14 +53,15 @@ module _ (k : ℕ) (rk label iv c : List ℕ) (labelled : length label ≤ limit
         mask = encryptBlock rk (J0 rk iv);
         label = length label;
         total = n;
+        low = lastFour (J0 rk iv);
         stands = 0;
         key = k;
       }) (sym (hash-on-of (hashKey rk) label c e)) (length-append c e))))
 
-  -- the end answers 0 where the single call opens c with the tag, otherwise 4
+  -- the end answers 0 where the single call opens c with the tag, and tells of the counter what it does; otherwise 4
   pub opens-ended : (tag : List ℕ) → length c ≤ limit → length tag ≡ 16
       → opensEnd (opensAfter k rk label iv c) tag
-      ≡ step Opens (under k (cond (opensUnder rk (hashKey rk) (J0 rk iv) label (c ++ tag)) (finished 0) (refusal 4))) [] (opensShut k ended)
+      ≡ step Opens (under k (cond (opensUnder rk (hashKey rk) (J0 rk iv) label (c ++ tag)) opened (refusal 4))) [] (opensShut k ended)
   unfolding opensEnd opensAfter opensUnder tagOf
   opens-ended tag within n =
       let j = J0 rk iv in
@@ -65,4 +72,4 @@ module _ (k : ℕ) (rk label iv c : List ℕ) (labelled : length label ≤ limit
       ap (λ (l : List ℕ). same tag (xors (encryptBlock rk j) l)) (hash-ends-of h label c (hashKey-lt rk)) ∙ whole in
       sym
       (went-on Opens _ _ [] _ _ _ (tagged-passes (length label) (length c) labelled (length tag) (rw add-zero within) n)
-      (same-step Opens _ _ [] [] _ _ (ap {B = Head} (λ (t : Bool). under k (cond t (finished 0) (refusal 4))) (sym test)) refl refl))
+      (same-step Opens _ _ [] [] _ _ (ap {B = Head} (λ (t : Bool). under k (cond t opened (refusal 4))) (sym test)) refl refl))

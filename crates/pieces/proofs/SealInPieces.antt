@@ -8,8 +8,8 @@ use lib.ListN.{length, drop, length-append}
 use lib.Seq.{drop-at}
 use Rattle.block.specs.Xor.{xors}
 use Rattle.cipher.specs.Sm4.{encryptBlock}
-use Rattle.counter.specs.Counter.{gcmNext}
-use Rattle.walk.specs.Outcome.{finished, under}
+use Rattle.counter.specs.Counter.{gcmNext, lastFour}
+use Rattle.walk.specs.Outcome.{finished, under, telling}
 use Rattle.walk.specs.Walk.{over}
 use Rattle.gcm.specs.Gcm.{hashKey, J0, textOf, tagOf}
 use Rattle.gcm.proofs.HashKey.{hashKey-lt}
@@ -19,6 +19,7 @@ use Rattle.cipher_mode.specs.declared.Sm4Cipher.{Sm4Cipher}
 use Rattle.cipher_mode.specs.declared.checks.Checked.the-variants.{Passed}
 use Rattle.cipher_mode.specs.Key.{keyNumber}
 use Rattle.cipher_mode.specs.Tables.{limit}
+use Rattle.cipher_mode.specs.Calls.{gcmRound}
 use Rattle.pieces.specs.declared.flow.Counting.the-variants.{Gcm as Gcm·counting}
 use Rattle.pieces.specs.declared.seal.Seal.{Seal}
 use Rattle.pieces.specs.Flow.{flowAfter, flowText}
@@ -78,15 +79,18 @@ module _ (k : ℕ) (rk label iv d : List ℕ) (labelled : length label ≤ limit
         mask = encryptBlock rk j;
         label = length label;
         total = n;
+        low = lastFour j;
         stands = 0;
         key = k;
       }) (length-append d e)
-      ∙ same-seal rk _ _ _ _ _ _ (length label) (length d + length e) k (sym (flow-on Gcm·counting rk (gcmNext j) d e)) (sym hashed) refl)))
+      ∙ same-seal rk _ _ _ _ _ _ _ _ (length label) (length d + length e) k (sym (flow-on Gcm·counting rk (gcmNext j) d e)) (sym hashed) refl
+      refl)))
 
-  -- the end gives the single call's tag, and then every call is refused by 12
+  -- the end gives the single call's tag, and tells of the counter what it does; then every call is refused by 12
   pub seal-ended : (o : List ℕ) → length d ≤ limit → 16 ≤ length o
       → sealEnd (sealAfter k rk label iv d) o
-      ≡ step Seal (under k (finished 16)) (over (tagOf rk (hashKey rk) (J0 rk iv) label (textOf rk (J0 rk iv) d)) o) (sealShut k ended)
+      ≡ step Seal (under k (telling (gcmRound rk iv (length d)) (finished 16)))
+      (over (tagOf rk (hashKey rk) (J0 rk iv) label (textOf rk (J0 rk iv) d)) o) (sealShut k ended)
   unfolding sealEnd sealAfter tagOf
   seal-ended o within room =
       let j = J0 rk iv in

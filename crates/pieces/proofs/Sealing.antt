@@ -1,6 +1,6 @@
 -- Sealing: a state by its parts, and no text of nothing.
 -- Assumes nothing.
-use mathlib.Core.Path.{_≡_, ap, ap₂, _∙_}
+use mathlib.Core.Path.{_≡_}
 use mathlib.Core.List.{List, []}
 use Prim.Native.Nat.{ℕ}
 use native.Mathlib.Omega.{arith}
@@ -18,11 +18,8 @@ unfolding textOf
 no-text rk j = chain-rest (streamMode Gctr rk) (gcmNext j) [] (omega arith)
 
 -- a state that runs is told by its parts
-pub same-seal : (rk m n : List ℕ) (f g : Flow) (h k : Hashing) (label total key : ℕ) → f ≡ g → h ≡ k → m ≡ n
+pub same-seal : (rk m n : List ℕ) (f g : Flow) (h k : Hashing) (low low′ label total key : ℕ) → f ≡ g → h ≡ k → m ≡ n → low ≡ low′
     → _≡_ {A = Seal}
-    (record { rk = rk; flow = f; hashing = h; mask = m; label = label; total = total; stands = 0; key = key })
-    (record { rk = rk; flow = g; hashing = k; mask = n; label = label; total = total; stands = 0; key = key })
-same-seal rk m n f g h k label total key ef eh em =
-    ap₂ {C = Seal}
-    (λ (x : Flow) (y : Hashing). record { rk = rk; flow = x; hashing = y; mask = m; label = label; total = total; stands = 0; key = key }) ef eh
-    ∙ ap {B = Seal} (λ (x : List ℕ). record { rk = rk; flow = g; hashing = k; mask = x; label = label; total = total; stands = 0; key = key }) em
+    (record { rk = rk; flow = f; hashing = h; mask = m; label = label; total = total; low = low; stands = 0; key = key })
+    (record { rk = rk; flow = g; hashing = k; mask = n; label = label; total = total; low = low′; stands = 0; key = key })
+same-seal rk m n f g h k low low′ label total key ef eh em el = rw (ef, eh, em, el)

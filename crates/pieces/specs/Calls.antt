@@ -5,7 +5,8 @@ use mathlib.Core.List.{List, []}
 use lib.ListN.{length}
 use Rattle.block.specs.Same.{same}
 use Rattle.block.specs.Xor.{xors}
-use Rattle.walk.specs.Outcome.{Head, finished, refusal, under}
+use Rattle.counter.specs.CameRound.{blocksOf, ctrCameRound, gcmCameRound}
+use Rattle.walk.specs.Outcome.{Head, finished, refusal, under, telling}
 use Rattle.walk.specs.Walk.{over}
 use Rattle.cipher_mode.specs.declared.CipherMode.the-variants.{Ctr as Ctr·mode}
 use Rattle.cipher_mode.specs.declared.Direction.{Direction}
@@ -82,17 +83,23 @@ ctrPiece s e o =
       state = record {
         rk = s .rk;
         flow = flowNext Ctr·counting (s .rk) (s .flow) (s .total % 16) e;
+        first = s .first;
         total = s .total + length e;
         stands = 0;
         key = s .key;
       };
     }))
 
+-- the end, which tells of the whole whether its counter came round
 unfoldable pub ctrEnd : Ctr → Stepped Ctr
 ctrEnd s =
     stepOn Ctr (s .key)
     (goesOn Ctr (running (s .stands) 0 (s .total) 0) [] s
-    (record { head = finished 0; bytes = []; state = ctrShut (s .key) ended }))
+    (record {
+      head = telling (ctrCameRound (s .first) (blocksOf (s .total))) (finished 0);
+      bytes = [];
+      state = ctrShut (s .key) ended;
+    }))
 
 unfoldable pub sealStart : Sm4Cipher → List ℕ → List ℕ → Stepped Seal
 sealStart c label iv =
@@ -117,18 +124,19 @@ sealPiece s e o =
         mask = s .mask;
         label = s .label;
         total = s .total + length e;
+        low = s .low;
         stands = 0;
         key = s .key;
       };
     }))
 
--- the tag, at the front of the output o
+-- the tag, at the front of the output o, and whether the counter came round
 unfoldable pub sealEnd : Seal → List ℕ → Stepped Seal
 sealEnd s o =
     stepOn Seal (s .key)
     (goesOn Seal (writing (s .stands) (s .label) (s .total) 0 16 (length o)) o s
     (record {
-      head = finished 16;
+      head = telling (gcmCameRound (s .low) (blocksOf (s .total))) (finished 16);
       bytes = over (xors (s .mask) (hashEnd (s .hashing) (s .total % 16) (s .label) (s .total))) o;
       state = sealShut (s .key) ended;
     }))
@@ -152,12 +160,13 @@ opensPiece s e =
         mask = s .mask;
         label = s .label;
         total = s .total + length e;
+        low = s .low;
         stands = 0;
         key = s .key;
       };
     }))
 
--- yes or no, by all sixteen bytes of the tag
+-- yes or no, by all sixteen bytes of the tag, and with a yes whether the counter came round
 unfoldable pub opensEnd : Opens → List ℕ → Stepped Opens
 opensEnd s tag =
     stepOn Opens (s .key)
@@ -165,7 +174,7 @@ opensEnd s tag =
     (record {
       head =
           cond (same tag (xors (s .mask) (hashEnd (s .hashing) (s .total % 16) (s .label) (s .total))))
-          (finished 0)
+          (telling (gcmCameRound (s .low) (blocksOf (s .total))) (finished 0))
           (refusal 4);
       bytes = [];
       state = opensShut (s .key) ended;

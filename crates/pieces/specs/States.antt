@@ -3,7 +3,7 @@ use Prim.Native.Nat.{ℕ}
 use mathlib.Core.List.{List}
 use lib.ListN.{length, replicate}
 use Rattle.cipher.specs.Sm4.{encryptBlock}
-use Rattle.counter.specs.Counter.{gcmNext}
+use Rattle.counter.specs.Counter.{gcmNext, lastFour}
 use Rattle.gcm.specs.Gcm.{hashKey, J0, textOf}
 use Rattle.pieces.specs.declared.flow.Counting.the-variants.{Ctr as Ctr·counting, Gcm as Gcm·counting}
 use Rattle.pieces.specs.declared.flow.Flow.{Flow}
@@ -16,7 +16,7 @@ use Rattle.pieces.specs.Hashing.{hashOf}
 
 -- Ctr under the round keys rk and the IV iv, after the text d
 unfoldable pub ctrAfter : ℕ → List ℕ → List ℕ → List ℕ → Ctr
-ctrAfter k rk iv d = record { rk = rk; flow = flowAfter Ctr·counting rk iv d; total = length d; stands = 0; key = k }
+ctrAfter k rk iv d = record { rk = rk; flow = flowAfter Ctr·counting rk iv d; first = iv; total = length d; stands = 0; key = k }
 
 -- Gcm sealing under a label: counters from one after J0 on, the hash of what was written, and the cipher of J0 for the tag
 unfoldable pub sealAfter : ℕ → List ℕ → List ℕ → List ℕ → List ℕ → Seal
@@ -27,6 +27,7 @@ sealAfter k rk label iv d = record {
   mask = encryptBlock rk (J0 rk iv);
   label = length label;
   total = length d;
+  low = lastFour (J0 rk iv);
   stands = 0;
   key = k;
 }
@@ -38,6 +39,7 @@ opensAfter k rk label iv c = record {
   mask = encryptBlock rk (J0 rk iv);
   label = length label;
   total = length c;
+  low = lastFour (J0 rk iv);
   stands = 0;
   key = k;
 }
@@ -51,7 +53,7 @@ noHashing = record { h = replicate 16 0; y = replicate 16 0; held = replicate 16
 
 -- no message, with the number of the refusal that every call answers; nothing of a key is in it but its number
 unfoldable pub ctrShut : ℕ → ℕ → Ctr
-ctrShut k n = record { rk = replicate 32 0; flow = noFlow; total = 0; stands = n; key = k }
+ctrShut k n = record { rk = replicate 32 0; flow = noFlow; first = replicate 16 0; total = 0; stands = n; key = k }
 
 unfoldable pub sealShut : ℕ → ℕ → Seal
 sealShut k n = record {
@@ -61,9 +63,10 @@ sealShut k n = record {
   mask = replicate 16 0;
   label = 0;
   total = 0;
+  low = 0;
   stands = n;
   key = k;
 }
 
 unfoldable pub opensShut : ℕ → ℕ → Opens
-opensShut k n = record { hashing = noHashing; mask = replicate 16 0; label = 0; total = 0; stands = n; key = k }
+opensShut k n = record { hashing = noHashing; mask = replicate 16 0; label = 0; total = 0; low = 0; stands = n; key = k }

@@ -14,12 +14,13 @@ use cipher_mode::answer;
 use cipher_mode::answer::Answer;
 use cipher_mode::checks::Checked;
 
-// The round keys, the flow, and how many bytes went through; 0, or what every call answers; the key's number. A host in C
-// hands it in and out.
+// The round keys, the flow, the first counter, and how many bytes went through; 0, or what every call answers; the key's number. A
+// host in C hands it in and out.
 #[repr(C)]
 pub struct Ctr {
     pub rk: [u32; 32],
     pub flow: Flow,
+    pub first: [u8; 16],
     pub total: usize,
     pub stands: u32,
     pub key: u16,
@@ -37,6 +38,7 @@ fn shut(key: u16, stands: u32) -> Ctr
     Ctr {
         rk: [0u32; 32],
         flow: flow::none(),
+        first: [0u8; 16],
         total: 0,
         stands,
         key,
@@ -66,9 +68,11 @@ pub fn start(direction: Direction, cipher: Sm4Cipher, iv: &[u8]) -> CtrStep
     let t = cipher::plain();
     let rk = cipher.rk;
     let flow = flow::begin(&t, rk, block::split_block(iv));
+    let first = flow.counter;
     let state = Ctr {
         rk,
         flow,
+        first,
         total: 0,
         stands: 0,
         key,
@@ -97,10 +101,12 @@ impl Ctr {
         let t = cipher::plain();
         let rk = self.rk;
         let flow = self.flow;
+        let first = self.first;
         let next = flow::run(&t, rk, Counting::Ctr, flow, total % 16, data, out);
         let state = Ctr {
             rk,
             flow: next,
+            first,
             total: total + n,
             stands: 0,
             key,
@@ -111,7 +117,7 @@ impl Ctr {
         }
     }
 
-    // The end of the message, of which nothing is kept.
+    // The end of the message, which tells whether its counter came round. Nothing is kept.
     pub fn end(self) -> CtrStep
         ensures { λ r. ⌜ ctrStepped r [] ≡ ctrEnd self ⌝ }
     {
@@ -123,8 +129,10 @@ impl Ctr {
                 state: self,
             };
         }
+        let first = self.first;
+        let came_round = counter::ctr_came_round(block::split_block(&first), self.total);
         CtrStep {
-            answer: answer::done(key, 0),
+            answer: answer::done_round(key, 0, came_round),
             state: shut(key, 12),
         }
     }

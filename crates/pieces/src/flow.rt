@@ -38,8 +38,8 @@ fn next_counter(counting: Counting, s: [u32; 4]) -> [u32; 4]
     ensures { λ r. ⌜ unwords r ≡ nextCounter counting (unwords s) ⌝ }
 {
     match counting {
-        Counting::Ctr => counter::block_add_one(s),
-        Counting::Gcm => counter::gcm_block_add_one(s),
+        Counting::Ctr => counter::block_add_one(s).counter,
+        Counting::Gcm => counter::gcm_block_add_one(s).counter,
     }
 }
 

@@ -17,13 +17,15 @@ use cipher_mode::answer::Answer;
 use cipher_mode::answer::Refusal;
 use cipher_mode::checks::Checked;
 
-// The hash, the cipher of J0 and the lengths; 0, or what every call answers; the key's number. The round keys are needed no more.
+// The hash, the cipher of J0, the lengths and the number in J0's last four bytes; 0, or what every call answers; the key's number. The
+// round keys are needed no more.
 #[repr(C)]
 pub struct Opens {
     pub hashing: Hashing,
     pub mask: [u8; 16],
     pub label: usize,
     pub total: usize,
+    pub low: u32,
     pub stands: u32,
     pub key: u16,
 }
@@ -42,6 +44,7 @@ fn shut(key: u16, stands: u32) -> Opens
         mask: [0u8; 16],
         label: 0,
         total: 0,
+        low: 0,
         stands,
         key,
     }
@@ -71,6 +74,7 @@ pub fn start(cipher: Sm4Cipher, aad: &[u8], iv: &[u8]) -> OpensStep
         mask,
         label: aad.len(),
         total: 0,
+        low: begun.low,
         stands: 0,
         key,
     };
@@ -113,6 +117,7 @@ impl Opens {
             mask,
             label,
             total: total + n,
+            low: self.low,
             stands: 0,
             key,
         };
@@ -122,7 +127,7 @@ impl Opens {
         }
     }
 
-    // The end: 0 where the message opens with this tag, otherwise 4. Either way nothing is kept.
+    // The end: 0 where the message opens with this tag, and whether the counter came round; otherwise 4. Either way nothing is kept.
     pub fn end(self, tag: &[u8]) -> OpensStep
         ensures { λ r. ⌜ opensStepped r [] ≡ opensEnd self (now (tag .entry)) ⌝ }
     {
@@ -141,8 +146,9 @@ impl Opens {
         let hash = hashing::end(begun, total % 16, label, total);
         let state = shut(key, 12);
         if same_tag(tag, mask, hash) {
+            let came_round = counter::gcm_came_round(self.low, total);
             return OpensStep {
-                answer: answer::done(key, 0),
+                answer: answer::done_round(key, 0, came_round),
                 state,
             };
         }

@@ -16,8 +16,8 @@ use cipher_mode::answer;
 use cipher_mode::answer::Answer;
 use cipher_mode::checks::Checked;
 
-// The round keys, the flow, the hash of what was written, the cipher of J0 and the lengths; 0, or what every call answers;
-// the key's number.
+// The round keys, the flow, the hash of what was written, the cipher of J0, the lengths and the number in J0's last four bytes; 0, or
+// what every call answers; the key's number.
 #[repr(C)]
 pub struct Seal {
     pub rk: [u32; 32],
@@ -26,6 +26,7 @@ pub struct Seal {
     pub mask: [u8; 16],
     pub label: usize,
     pub total: usize,
+    pub low: u32,
     pub stands: u32,
     pub key: u16,
 }
@@ -46,6 +47,7 @@ fn shut(key: u16, stands: u32) -> Seal
         mask: [0u8; 16],
         label: 0,
         total: 0,
+        low: 0,
         stands,
         key,
     }
@@ -71,13 +73,15 @@ pub fn start(cipher: Sm4Cipher, aad: &[u8], iv: &[u8]) -> SealStep
     let j0 = begun.j0;
     let hashing = begun.hashing;
     let mask = begun.mask;
+    let first = counter::gcm_block_add_one(j0).counter;
     let state = Seal {
         rk,
-        flow: flow::begin(&t, rk, counter::gcm_block_add_one(j0)),
+        flow: flow::begin(&t, rk, first),
         hashing,
         mask,
         label: aad.len(),
         total: 0,
+        low: begun.low,
         stands: 0,
         key,
     };
@@ -116,6 +120,7 @@ impl Seal {
             mask,
             label,
             total: total + n,
+            low: self.low,
             stands: 0,
             key,
         };
@@ -125,7 +130,7 @@ impl Seal {
         }
     }
 
-    // The end: the tag, to the front of `out`. Nothing is kept.
+    // The end: the tag, to the front of `out`, and whether the counter came round. Nothing is kept.
     pub fn end(self, out: &mut [u8]) -> SealStep
         ensures { λ r. ⌜ sealStepped r (now (out .exit)) ≡ sealEnd self (now (out .entry)) ⌝ }
     {
@@ -143,8 +148,9 @@ impl Seal {
         let begun = self.hashing;
         let hash = hashing::end(begun, total % 16, label, total);
         flow::xor_pad(hash, 0, &mask, out);
+        let came_round = counter::gcm_came_round(self.low, total);
         SealStep {
-            answer: answer::done(key, 16),
+            answer: answer::done_round(key, 16, came_round),
             state: shut(key, 12),
         }
     }

@@ -28,8 +28,8 @@ fn state_after(kind: Kind, s: [u32; 4], e: [u32; 4], b: [u32; 4], c: [u32; 4]) -
         Kind::CfbEncrypt => c,
         Kind::CfbDecrypt => b,
         Kind::Ofb => e,
-        Kind::Ctr => counter::block_add_one(s),
-        Kind::Gctr => counter::gcm_block_add_one(s),
+        Kind::Ctr => counter::block_add_one(s).counter,
+        Kind::Gctr => counter::gcm_block_add_one(s).counter,
     }
 }
 

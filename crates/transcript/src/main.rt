@@ -351,7 +351,17 @@ fn opens(asked: Asked, source: Source, work: Work) -> u8 {
     if output::is_alone(asked) {
         return FILES;
     }
+    warn(asked, pass);
     say::opens(places[IN], named(asked), asked.job, asked.edition)
+}
+
+// Says where the counter of a message came round. The work is done all the same.
+fn warn(asked: Asked, pass: Pass) {
+    let command = asked.command;
+    let places = asked.places;
+    if pass.came_round {
+        say::came_round(command, places[IN]);
+    }
 }
 
 // A pass that writes. `settled`: how long IN was when a pass before this one settled it, 0 where none was needed.
@@ -366,7 +376,11 @@ fn deliver(asked: Asked, file: &[u8], source: Source, work: Work, settled: usize
     if status != DONE {
         return output::undo(asked, written, status);
     }
-    output::finish(asked, written)
+    let status = output::finish(asked, written);
+    if status == DONE {
+        warn(asked, pass);
+    }
+    status
 }
 
 // The status that a pass leads to. What was settled and is refused now, or has another length, was changed in between.

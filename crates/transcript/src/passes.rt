@@ -19,7 +19,8 @@ use cipher_mode::answer::Refusal;
 use typed::things::IN;
 
 // A pass on its way: how many bytes have been read, and how many of them wait at the front of the buffer for what follows. It
-// is over with a status, which has been said where it is not `DONE`, and then as the last step ended.
+// is over with a status, which has been said where it is not `DONE`, and then as the last step ended, which told whether the counter
+// came round.
 pub struct Pass {
     pub work: Work,
     pub output: Output,
@@ -28,6 +29,7 @@ pub struct Pass {
     pub over: bool,
     pub status: u8,
     pub ending: Ending,
+    pub came_round: bool,
 }
 
 // A pass that has read nothing yet.
@@ -42,6 +44,7 @@ pub fn start(work: Work, output: Output) -> Pass
         over: false,
         status: DONE,
         ending: Ending::Done(0),
+        came_round: false,
     }
 }
 
@@ -54,8 +57,8 @@ fn over(mut pass: Pass, status: u8) -> Pass
     pass
 }
 
-// A pass that is over, as a step ended.
-fn ended(pass: Pass, ending: Ending) -> Pass
+// A pass that is over, as a step ended, and with what that told of the counter.
+fn ended(pass: Pass, ending: Ending, came_round: bool) -> Pass
     ensures { λ r. ⌜ r .waiting ≡ pass .waiting ⌝ }
 {
     let work = pass.work;
@@ -68,6 +71,7 @@ fn ended(pass: Pass, ending: Ending) -> Pass
         over: true,
         status: pass.status,
         ending,
+        came_round,
     }
 }
 
@@ -91,7 +95,7 @@ fn write(asked: Asked, mut pass: Pass, step: work::Step, out: &[u8]) -> Pass
 {
     let ending = step.ending;
     let Ending::Done(_) = ending else {
-        return ended(pass, ending);
+        return ended(pass, ending, false);
     };
     let before = pass.output;
     let n = step.length;
@@ -182,9 +186,10 @@ fn close(asked: Asked, t: &[u32], pass: Pass, news: News, rest: &[u8], out: &mut
         News::Nothing => {
             let step = work::end(t, work, rest, out);
             let ending = step.ending;
-            ended(write(asked, pass, step, out), ending)
+            let came_round = step.came_round;
+            ended(write(asked, pass, step, out), ending, came_round)
         }
-        News::TooMuch => ended(pass, Ending::Refused(Refusal::TooLong)),
+        News::TooMuch => ended(pass, Ending::Refused(Refusal::TooLong), false),
         _ => over(pass, FILES),
     }
 }

@@ -410,6 +410,20 @@ fn opened(at: usize, key: u32, job: u32, edition: u16) {
     }
 }
 
+// A warning, where the counter of a message came round. What to do about it is for whoever seals or encrypts.
+pub fn came_round(command: Command, at: usize) {
+    refusal(at);
+    text(
+        b"warning: under this IV the counter came round to 0, where it may meet another file's; take another IV and ",
+    );
+    match command {
+        Command::Seal => text(b"seal the file anew\n"),
+        Command::Encrypt => text(b"encrypt the file anew\n"),
+        Command::Decrypt => text(b"have the file encrypted anew\n"),
+        _ => text(b"have the file sealed anew\n"),
+    }
+}
+
 // The answer to `opens`, and to `which` where a candidate opens.
 pub fn opens(at: usize, key: u32, job: u32, edition: u16) -> u8 {
     opened(at, key, job, edition);

@@ -51,11 +51,13 @@ pub struct Work {
     pub chain: [u32; 4],
 }
 
-// What came of a step: how many bytes it wrote, and how it ended, which is done unless it was refused.
+// What came of a step: how many bytes it wrote, and how it ended, which is done unless it was refused; and whether the counter of the
+// message came round, which the end of it tells.
 pub struct Step {
     pub work: Work,
     pub length: usize,
     pub ending: Ending,
+    pub came_round: bool,
 }
 
 // The bytes but for the last k.
@@ -96,6 +98,7 @@ fn done(work: Work, length: usize) -> Step
         work,
         length,
         ending: Ending::Done(length),
+        came_round: false,
     }
 }
 
@@ -106,6 +109,7 @@ fn refused(work: Work, refusal: Refusal) -> Step
         work,
         length: 0,
         ending: Ending::Refused(refusal),
+        came_round: false,
     }
 }
 
@@ -122,7 +126,12 @@ fn answered(work: Work, answer: Answer, length: usize) -> Step
 {
     let ending = answer.ending;
     match ending {
-        Ending::Done(_) => done(work, length),
+        Ending::Done(_) => Step {
+            work,
+            length,
+            ending: Ending::Done(length),
+            came_round: answer.came_round,
+        },
         Ending::Refused(refusal) => refused(work, refusal),
     }
 }
@@ -369,7 +378,7 @@ fn text_counter(rk: [u32; 32], iv: &[u8]) -> [u32; 4]
 {
     let t = cipher::plain();
     let h = gcm::hash_key(&t, rk);
-    counter::gcm_block_add_one(gcm::first_counter(h, iv))
+    counter::gcm_block_add_one(gcm::first_counter(h, iv)).counter
 }
 
 // The first chaining state: the IV, and in Gcm the first counter of the text.

@@ -1,19 +1,26 @@
 -- `counter::block_add_one` meets its contract. `to_u128` ensures the number that the block spells, `u128_add_one` one more,
--- and `from_u128` the block that spells that, which is Ctr's next counter (`ctr-words`).
+-- and `from_u128` the block that spells that, which is Ctr's next counter (`ctr-words`). It is 0 exactly where it came round
+-- (`ctr-words-pass`).
 -- Assumes nothing.
-use mathlib.Core.Path.{_∙_}
+use mathlib.Core.Path.{ap, _∙_}
+use Prim.Native.Nat.{ℕ, _+_, _%_, _^_}
 use Rattle.block.specs.Wide.{value}
-use Rattle.counter.proofs.Steps.{ctr-words}
+use Rattle.counter.proofs.Steps.{ctr-words, ctr-words-pass}
 use borrow.Author.Needs.{needs}
 use Rattle.counter.proofs.block_add_one.Statement.{statement}
 use Rattle.counter.proofs.block_add_one.Tie as tie
 
 returns : tie.Need-returns
 returns c =
-    let at-add = c .before in
+    let at-block = c .before in
+    let at-add = at-block .before in
     let at-number = at-add .before in
-    ctr-words (at-number .before .args .a) (c .from-u128 .result) (value (at-add .u128-add-one .result))
-    (at-add .u128-add-one .ensures ∙ rw (at-number .to-u128 .ensures)) (c .from-u128 .ensures)
+    let x = at-number .before .args .a in
+    let sum = at-add .u128-add-one .result in
+    let more = at-add .u128-add-one .ensures ∙ ap (λ (v : ℕ). (v + 1) % 2 ^ 128) (at-number .to-u128 .ensures) in (
+      ctr-words x (at-block .from-u128 .result) (value sum) more (at-block .from-u128 .ensures),
+      ctr-words-pass x (sum .high) (sum .low) more,
+    )
 
 pub block-add-one-spec : {M : Type 1} → statement M
 block-add-one-spec =

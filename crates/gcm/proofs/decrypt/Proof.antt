@@ -22,7 +22,7 @@ use Rattle.gcm.proofs.decrypt.Tie as tie
 
 stream-requires : tie.Need-stream-requires
 stream-requires c κs =
-    let at-text = c .before .before in
+    let at-text = c .before .before .before in
     let d = at-text .before .before .before .before .before .before .before .args .«data» .now in
     let n : length (now (at-text .text-part .result)) ≡ length d - 16 =
     ap length (at-text .text-part .ensures) ∙ length-take-le (length d - 16) d (omega arith) in
@@ -31,7 +31,7 @@ stream-requires c κs =
 returns : tie.Need-returns
 returns c =
     let at-stream = c .before .before in
-    let at-counter = at-stream .before .before in
+    let at-counter = at-stream .before .before .before in
     let at-text = at-counter .before in
     let at-opens = at-text .before .before in
     let S = at-opens .before .before .before .before .before in
@@ -41,7 +41,7 @@ returns c =
     let text = now (at-text .text-part .result) in
     let part = at-text .text-part .ensures in
     let opens = sym (at-opens .opens .ensures) ∙ at-text .before .if1 .taken in
-    let is-text = text-words (a .rk) j _ text (at-counter .gcm-block-add-one .ensures) ∙ ap (textOf (a .rk) j) part in
+    let is-text = text-words (a .rk) j _ text (at-counter .gcm-block-add-one .ensures .0) ∙ ap (textOf (a .rk) j) part in
     let size : length text ≡ length (textOf (a .rk) j (textPart d)) =
     ap length part ∙ sym (length-text (a .rk) j (textPart d)) in
     ap₂ {C = Outcome} (λ (n : ℕ) (o : List ℕ). leaving (finished n) o) size

@@ -25,7 +25,7 @@ returns c =
     let at-put-block = c .before .before in
     let at-tag = at-put-block .before .before in
     let at-stream = at-tag .before .before .before .before .before in
-    let at-counter = at-stream .before .before in
+    let at-counter = at-stream .before .before .before in
     let a = at-counter .before .before .before .before .before .args in
     let d = now (a .«data») in
     let o = now (a .out) in
@@ -34,7 +34,7 @@ returns c =
     let o₁ = at-stream .stream .last .1 .1 .1 .1 .1 .0 in
     let e : o₁ ≡ over text o =
     at-stream .stream .ensures .1 .1
-    ∙ ap (λ (q : List ℕ). over q o) (text-words (a .rk) j _ d (at-counter .gcm-block-add-one .ensures)) in
+    ∙ ap (λ (q : List ℕ). over q o) (text-words (a .rk) j _ d (at-counter .gcm-block-add-one .ensures .0)) in
     let n = length-text (a .rk) j d in
     let front : take (length d - 0) o₁ ≡ text =
     rw sub-zero (ap (take (length d)) e ∙ take-at text (drop (length text) o) (length d) n) in

@@ -14,10 +14,10 @@ returns-3 : tie.Need-returns-3
 returns-3 c = rw (c .enum-told3 .given .1)
 
 returns-4 : tie.Need-returns-4
-returns-4 c = rw (c .before .enum-told4 .given .1) (c .block-add-one .ensures)
+returns-4 c = rw (c .before .before .enum-told4 .given .1) (c .before .block-add-one .ensures .0)
 
 returns-5 : tie.Need-returns-5
-returns-5 c = rw (c .before .enum-told5 .given .1) (c .gcm-block-add-one .ensures)
+returns-5 c = rw (c .before .before .enum-told5 .given .1) (c .before .gcm-block-add-one .ensures .0)
 
 pub state-after-spec : {M : Type 1} → statement M
 state-after-spec =

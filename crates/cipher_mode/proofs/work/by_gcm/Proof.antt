@@ -1,20 +1,27 @@
 -- `cipher_mode::work::by_gcm` meets its contract: with H and J0 of keys and IV, as long as the table says or as `gcm::decrypt`.
 -- Assumes nothing.
-use mathlib.Core.Path.{_≡_, sym, ap, ap₂, _∙_}
+use mir.Val.{Fits}
+use mir.Syntax.{w32}
+use mathlib.Core.Path.{_≡_, refl, sym, ap, ap₂, _∙_}
+use mathlib.Core.Bool.{Bool}
 use mathlib.Core.List.{List}
-use Prim.Native.Nat.{ℕ, _≤_}
+use Prim.Native.Nat.{ℕ, _-_, _≤_}
 use native.Mathlib.Omega.{arith}
 use denote.Ref.{now}
-use lib.ListN.{length}
+use lib.ListN.{length, getD}
 use Rattle.block.specs.Words.{unwords}
-use Rattle.walk.specs.Outcome.{Head, Outcome, leaving}
+use Rattle.counter.specs.Counter.{lastFour}
+use Rattle.counter.specs.CameRound.{blocksOf, gcmCameRound}
+use Rattle.counter.proofs.Steps.{last-four}
+use Rattle.walk.specs.Outcome.{Head, Outcome, leaving, reporting}
 use Rattle.walk.specs.Walk.{over}
 use Rattle.gcm.specs.Gcm.{hashKey, firstCounter, J0, sealed}
 use Rattle.gcm.specs.Open.{gcmOpen}
 use Rattle.gcm.proofs.Parts.{length-sealed}
 use Rattle.cipher_mode.specs.Tables.{limit}
+use Rattle.cipher_mode.specs.Calls.{gcmRound}
 use Rattle.cipher_mode.proofs.Passed.{iv-twelve-or-sixteen, label-passed, data-within, with-tag-passed}
-use Rattle.cipher_mode.proofs.Ends.{reached}
+use Rattle.cipher_mode.proofs.Ends.{reached, told-of}
 use borrow.Author.Needs.{needs}
 use Rattle.cipher_mode.proofs.work.by_gcm.Statement.{statement}
 use Rattle.cipher_mode.proofs.work.by_gcm.Tie as tie
@@ -57,9 +64,24 @@ decrypt-requires c κs =
     let within = data-within _ _ _ ordered in
     (S .pre .0, ((omega (arith, label), omega (arith, within)), (with-tag-passed _ ordered, rw way at (S .pre .1 .1 .1 .1))))
 
+-- what is told of the counter: J0's last word is the number in its last four bytes
+round : (x : tie.After-first-counter) (b : Bool) (n : ℕ) → b ≡ gcmCameRound (getD (x .first-counter .result) 3 0) (blocksOf n)
+    → b ≡ gcmRound (x .before .before .before .before .before .before .before .args .rk)
+    (now (x .before .before .before .before .before .before .before .args .iv)) n
+round x b n e =
+    let j = x .first-counter .result in
+    let h : Fits w32 (getD j 3 0) = search needs in
+    e ∙ ap (λ (low : ℕ). gcmCameRound low (blocksOf n)) (sym (last-four j (h .fits)) ∙ ap lastFour (is-j0 x))
+
+sub-gcm-came-round : tie.Need-sub-gcm-came-round
+sub-gcm-came-round c =
+    let told = c .before .before .before .before in
+    let S = told .before .before .before .before .before .before .before .before .before in
+    omega (arith, with-tag-passed _ (rw (told .enum-told2 .given .1) at (S .pre .1 .1 .1 .0)))
+
 returns : tie.Need-returns
 returns c =
-    let at-encrypt = c .before .before .before in
+    let at-encrypt = c .before .before .before .before in
     let told = at-encrypt .before .before in
     let at-counter = told .before .before in
     let a = at-counter .before .before .before .before .before .before .before .args in
@@ -68,29 +90,36 @@ returns c =
     let o = now (a .out) in
     let j = J0 (a .rk) (now (a .iv)) in
     rw (told .enum-told .given .1)
+    (told-of _ _ _ _ _ (round at-counter (c .gcm-came-round .result) (length d) (c .gcm-came-round .ensures))
     (reached (sealed (a .rk) (hashKey (a .rk)) j aad d) o _ _
-    (length-sealed (a .rk) (hashKey (a .rk)) j aad d ∙ sym (c .encrypted-length .ensures))
+    (length-sealed (a .rk) (hashKey (a .rk)) j aad d ∙ sym (c .before .encrypted-length .ensures))
     (at-encrypt .encrypt .ensures
     ∙ ap₂ (λ (h : ℕ) (j : List ℕ). over (sealed (a .rk) h j aad d) o) (at-counter .before .hash-key .ensures) (is-j0 at-counter)))
+    refl)
 
 returns-2 : tie.Need-returns-2
 returns-2 c =
-    let at-decrypt = c .before .before .before in
+    let at-round = c .before in
+    let at-decrypt = at-round .before .before .before in
     let told = at-decrypt .before .before in
     let at-counter = told .before .before in
     let a = at-counter .before .before .before .before .before .before .before .args in
     let aad = now (a .aad) in
     let d = now (a .«data») in
     let o = now (a .out) in
+    let b = at-round .gcm-came-round2 .result in
     rw (told .enum-told2 .given .1)
     (ap {B = Outcome} (λ (h : Head). leaving h (at-decrypt .decrypt .last .1 .1 .1 .1 .1 .1 .0)) (c .gcm-answer .ensures)
-    ∙ at-decrypt .decrypt .ensures
+    ∙ ap {B = Outcome} (reporting b)
+    (at-decrypt .decrypt .ensures
     ∙ ap₂ {C = Outcome} (λ (h : ℕ) (j : List ℕ). gcmOpen (a .rk) h j aad d o) (at-counter .before .hash-key .ensures) (is-j0 at-counter))
+    ∙ ap {B = Outcome} (λ (t : Bool). reporting t (gcmOpen (a .rk) (hashKey (a .rk)) (J0 (a .rk) (now (a .iv))) aad d o))
+    (round at-counter b (length d - 16) (at-round .gcm-came-round2 .ensures)))
 
 pub by-gcm-spec : {M : Type 1} → statement M
 by-gcm-spec =
     tie.close
     (tie.spec
     (λ c κs. search needs) first-counter-requires (λ c. search needs) encrypt-requires encrypted-length-requires
-    (λ c. search needs) decrypt-requires (λ c κs. search needs) (λ c. search needs) returns (λ c. search needs)
-    returns-2)
+    (λ c. search needs) (λ c κs. search needs) (λ c. search needs) decrypt-requires (λ c. search needs) sub-gcm-came-round
+    (λ c κs. search needs) (λ c κs. search needs) (λ c. search needs) returns (λ c. search needs) returns-2)

@@ -1,16 +1,14 @@
--- `cipher_mode::work::gcm_answer` meets its contract: each case is answered under its own number.
+-- `cipher_mode::work::gcm_answer` meets its contract: each case is answered under its own number, and only done tells of a counter.
 -- Assumes nothing.
-use mathlib.Core.Path.{sym, ap}
-use Rattle.gcm.specs.Open.{headOf}
 use borrow.Author.Needs.{needs}
 use Rattle.cipher_mode.proofs.work.gcm_answer.Statement.{statement}
 use Rattle.cipher_mode.proofs.work.gcm_answer.Tie as tie
 
 returns : tie.Need-returns
-returns c = sym (ap headOf (c .before .opened .given .1))
+returns c = rw (c .before .opened .given .1)
 
 returns-2 : tie.Need-returns-2
-returns-2 c = sym (ap headOf (c .enum-told .given .1))
+returns-2 c = rw (c .enum-told .given .1)
 
 pub gcm-answer-spec : {M : Type 1} → statement M
 gcm-answer-spec =

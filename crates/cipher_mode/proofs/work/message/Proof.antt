@@ -2,7 +2,7 @@
 -- Assumes nothing.
 use mathlib.Core.Path.{ap, _∙_}
 use denote.Ref.{now}
-use Rattle.walk.specs.Outcome.{Outcome, done}
+use Rattle.walk.specs.Outcome.{Head, Outcome, leaving, done}
 use Rattle.walk.specs.Walk.{chain}
 use Rattle.stream.specs.Stream.{streamMode}
 use Rattle.stream.specs.declared.Kind.{Kind}
@@ -25,8 +25,8 @@ by-stream-requires-2 c κs =
     let mode = told .enum-told2 .given .1 in
     (S .pre .0, (sixteen _ (rw mode at (S .pre .1 .0)), rw mode at (S .pre .1 .1 .1 .1)))
 
-by-stream-requires-3 : tie.Need-by-stream-requires-3
-by-stream-requires-3 c κs =
+by-ctr-requires : tie.Need-by-ctr-requires
+by-ctr-requires c κs =
     let told = c .before in
     let S = told .before .before .before .before .before .before .before in
     let mode = told .enum-told3 .given .1 in
@@ -48,29 +48,34 @@ by-gcm-requires c κs =
 
 returns : tie.Need-returns
 returns c =
-    let at-stream = c .before .before in
+    let at-stream = c .before .before .before in
     let at-kind = at-stream .before .before in
     let told = at-kind .before in
     let a = told .before .before .before .before .before .before .before .args in
     rw (told .enum-told .given .1)
-    (at-stream .by-stream .ensures
+    (ap {B = Outcome} (λ (h : Head). leaving h (at-stream .by-stream .last .1 .1 .1 .1 .1 .0)) (c .quiet .ensures)
+    ∙ at-stream .by-stream .ensures
     ∙ ap {B = Outcome} (λ (k : Kind). done (chain (streamMode k (a .rk)) (now (a .iv)) (now (a .«data»))) (now (a .out)))
     (at-kind .cfb-kind .ensures))
 
 returns-2 : tie.Need-returns-2
 returns-2 c =
-    let at-stream = c .before .before in
-    rw (at-stream .before .before .enum-told2 .given .1) (at-stream .by-stream2 .ensures)
+    let at-stream = c .before .before .before in
+    rw (at-stream .before .before .enum-told2 .given .1)
+    (ap {B = Outcome} (λ (h : Head). leaving h (at-stream .by-stream2 .last .1 .1 .1 .1 .1 .0)) (c .quiet2 .ensures)
+    ∙ at-stream .by-stream2 .ensures)
 
 returns-3 : tie.Need-returns-3
 returns-3 c =
-    let at-stream = c .before .before in
-    rw (at-stream .before .before .enum-told3 .given .1) (at-stream .by-stream3 .ensures)
+    let at-ctr = c .before .before in
+    rw (at-ctr .before .before .enum-told3 .given .1) (at-ctr .by-ctr .ensures)
 
 returns-4 : tie.Need-returns-4
 returns-4 c =
-    let at-cbc = c .before .before in
-    rw (at-cbc .before .before .enum-told4 .given .1) (at-cbc .by-cbc .ensures)
+    let at-cbc = c .before .before .before in
+    rw (at-cbc .before .before .enum-told4 .given .1)
+    (ap {B = Outcome} (λ (h : Head). leaving h (at-cbc .by-cbc .last .1 .1 .1 .1 .1 .0)) (c .quiet3 .ensures)
+    ∙ at-cbc .by-cbc .ensures)
 
 returns-5 : tie.Need-returns-5
 returns-5 c =
@@ -81,7 +86,7 @@ pub message-spec : {M : Type 1} → statement M
 message-spec =
     tie.close
     (tie.spec
-    (λ c. search needs) (λ c κs. search needs) by-stream-requires (λ c. search needs) by-stream-requires-2
-    (λ c. search needs) by-stream-requires-3 (λ c. search needs) by-cbc-requires (λ c. search needs) by-gcm-requires
-    (λ c. search needs) returns (λ c. search needs) returns-2 (λ c. search needs) returns-3 (λ c. search needs)
-    returns-4 (λ c. search needs) returns-5)
+    (λ c. search needs) (λ c κs. search needs) by-stream-requires (λ c κs. search needs) (λ c. search needs) by-stream-requires-2
+    (λ c κs. search needs) (λ c. search needs) by-ctr-requires (λ c. search needs) by-cbc-requires (λ c κs. search needs)
+    (λ c. search needs) by-gcm-requires (λ c. search needs) returns (λ c. search needs) returns-2 (λ c. search needs) returns-3
+    (λ c. search needs) returns-4 (λ c. search needs) returns-5)

@@ -1,7 +1,10 @@
 -- `luossavin::which::report_ended` meets its contract: each case reports its own number, and a refusal what was missing (`told`).
 -- Assumes nothing.
-use mathlib.Core.Path.{sym, ap, _∙_}
+use mathlib.Core.Path.{refl, sym, ap, _∙_}
+use mathlib.Core.Bool.{false}
 use Rattle.walk.specs.Outcome.{Head, under}
+use Rattle.cipher_mode.specs.declared.answer.Ending.the-variants.{Refused}
+use Rattle.cipher_mode.proofs.Refusals.{quiet-ending}
 use Rattle.editions.specs.declared.Ended.{Ended}
 use Rattle.editions.specs.Which.{endedHead}
 use Rattle.luossavin.proofs.Refusals.{told}
@@ -23,7 +26,9 @@ returns-4 c =
     let at-number = c .before in
     let at-ended = at-number .before .before in
     let k = at-ended .before .before .args .key in
-    told (at-ended .ended .given .0 .0) _ _ k (at-number .number .ensures) (c .missing .ensures)
+    let r = at-ended .ended .given .0 .0 in
+    told r false _ _ 0 k (at-number .number .ensures) (c .missing .ensures) refl
+    ∙ ap (under k) (quiet-ending (Refused r))
     ∙ sym (ap {B = Head} (λ (e : Ended). under k (endedHead e)) (at-ended .ended .given .1))
 
 pub report-ended-spec : {M : Type 1} → statement M

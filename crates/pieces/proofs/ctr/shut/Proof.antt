@@ -12,7 +12,14 @@ use Rattle.pieces.proofs.ctr.shut.Tie as tie
 returns : tie.Need-returns
 unfolding ctrShut
 returns c =
-    ap {B = Ctr} (λ (f : Flow). record { rk = replicate 32 0; flow = f; total = 0; stands = c .before .args .stands; key = c .before .args .key }) (c .none .ensures)
+    ap {B = Ctr} (λ (f : Flow). record {
+      rk = replicate 32 0;
+      flow = f;
+      first = replicate 16 0;
+      total = 0;
+      stands = c .before .args .stands;
+      key = c .before .args .key;
+    }) (c .none .ensures)
 
 pub shut-spec : {M : Type 1} → statement M
 shut-spec = tie.close (tie.spec (λ c κs. search needs) returns)

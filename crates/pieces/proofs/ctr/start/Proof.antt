@@ -1,7 +1,7 @@
 -- `pieces::ctr::start` meets its contract: what the checks refuse is refused, and otherwise the IV is the first counter.
 -- Assumes nothing.
-use mathlib.Core.Path.{_≡_, sym, ap, _∙_}
-use mathlib.Core.List.{[]}
+use mathlib.Core.Path.{_≡_, sym, ap, ap₂, _∙_}
+use mathlib.Core.List.{List, []}
 use Prim.Native.Nat.{ℕ, _<_}
 use native.Mathlib.Omega.{arith}
 use denote.Ref.{now}
@@ -43,7 +43,7 @@ split-block-requires c κs = let n = passed (c .before .before .before) in omega
 returns-2 : tie.Need-returns-2
 unfolding ctrStart ctrAfter
 returns-2 c =
-    let at-begin = c .before in
+    let at-begin = c .before .before in
     let at-split = at-begin .before in
     let told = at-split .before .before .before .before in
     let at-check = told .before .before in
@@ -54,13 +54,12 @@ returns-2 c =
     let rk = a .cipher .rk in
     let n = at-number .number-in .result in
     let small : (i : ℕ) → getD iv i 0 < 256 = λ i. omega (arith, at-iv .shared-slice-known .given i) in
-    let flow =
-    at-begin .begin .ensures
-    ∙ ap {B = Flow} (flowAt rk) (spelled iv _ (passed told) small (at-split .split-block .ensures))
-    ∙ flow-start Ctr·counting rk iv in
+    let counter = spelled iv _ (passed told) small (at-split .split-block .ensures) in
+    let flow = at-begin .begin .ensures ∙ ap {B = Flow} (flowAt rk) counter ∙ flow-start Ctr·counting rk iv in
+    let first = ap (λ (f : Flow). f .counter) (at-begin .begin .ensures) ∙ counter in
     begun-there Ctr _ ctrShut (λ (k : ℕ). ctrAfter k rk iv []) n _ (at-number .number-in .ensures) _ _
     (sym (at-check .key-and-iv .ensures) ∙ told .enum-told .given .1) (c .done .ensures)
-    (ap {B = Ctr} (λ (f : Flow). record { rk = rk; flow = f; total = 0; stands = 0; key = n }) flow)
+    (ap₂ {C = Ctr} (λ (f : Flow) (v : List ℕ). record { rk = rk; flow = f; first = v; total = 0; stands = 0; key = n }) flow first)
 
 pub start-spec : {M : Type 1} → statement M
 start-spec =

@@ -5,10 +5,10 @@ use Rattle.pieces.proofs.flow.next_counter.Statement.{statement}
 use Rattle.pieces.proofs.flow.next_counter.Tie as tie
 
 returns : tie.Need-returns
-returns c = rw (c .before .enum-told .given .1) (c .block-add-one .ensures)
+returns c = rw (c .before .before .enum-told .given .1) (c .before .block-add-one .ensures .0)
 
 returns-2 : tie.Need-returns-2
-returns-2 c = rw (c .before .enum-told2 .given .1) (c .gcm-block-add-one .ensures)
+returns-2 c = rw (c .before .before .enum-told2 .given .1) (c .before .gcm-block-add-one .ensures .0)
 
 pub next-counter-spec : {M : Type 1} → statement M
 next-counter-spec =

@@ -13,8 +13,15 @@ returns : tie.Need-returns
 unfolding opensShut
 returns c =
     ap {B = Opens}
-    (λ (g : Hashing). record { hashing = g; mask = replicate 16 0; label = 0; total = 0; stands = c .before .args .stands; key = c .before .args .key })
-    (c .none .ensures)
+    (λ (g : Hashing). record {
+      hashing = g;
+      mask = replicate 16 0;
+      label = 0;
+      total = 0;
+      low = 0;
+      stands = c .before .args .stands;
+      key = c .before .args .key;
+    }) (c .none .ensures)
 
 pub shut-spec : {M : Type 1} → statement M
 shut-spec = tie.close (tie.spec (λ c κs. search needs) returns)

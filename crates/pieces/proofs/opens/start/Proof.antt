@@ -1,16 +1,16 @@
 -- `pieces::opens::start` meets its contract: what the checks refuse is refused, and otherwise the label's hash and the cipher of J0
 -- are `tagging::begin`'s.
 -- Assumes nothing.
-use mathlib.Core.Path.{sym, ap₂, _∙_}
-use mathlib.Core.List.{List, []}
+use mathlib.Core.Path.{sym, _∙_}
+use mathlib.Core.List.{[]}
 use Prim.Native.Nat.{ℕ}
 use denote.Ref.{now}
 use lib.ListN.{length}
 use Rattle.cipher_mode.proofs.Passed.{iv-twelve-or-sixteen}
-use Rattle.pieces.specs.declared.hashing.Hashing.{Hashing}
 use Rattle.pieces.specs.declared.opens.Opens.{Opens}
 use Rattle.pieces.specs.States.{opensAfter, opensShut}
 use Rattle.pieces.specs.Calls.{opensStart}
+use Rattle.pieces.proofs.Opening.{same-opens}
 use Rattle.pieces.proofs.Passing.{starting-passed}
 use Rattle.pieces.proofs.Stepping.{refused-start, begun-there}
 use borrow.Author.Needs.{needs}
@@ -51,8 +51,7 @@ returns-2 c =
     let begun = at-begin .begin .ensures in
     begun-there Opens _ opensShut (λ (k : ℕ). opensAfter k rk label (now (a .iv)) []) n _ (at-number .number-in .ensures) _ _
     (sym (at-check .gcm-start .ensures) ∙ told .enum-told .given .1) (c .done .ensures)
-    (ap₂ {C = Opens} (λ (g : Hashing) (m : List ℕ). record { hashing = g; mask = m; label = length label; total = 0; stands = 0; key = n })
-    (begun .1 .0) (begun .1 .1))
+    (same-opens _ _ _ _ _ _ (length label) 0 n (begun .1 .0) (begun .1 .1 .0) (begun .1 .1 .1))
 
 pub start-spec : {M : Type 1} → statement M
 start-spec =

@@ -21,6 +21,7 @@ returns c =
       mask = replicate 16 0;
       label = 0;
       total = 0;
+      low = 0;
       stands = c .before .before .args .stands;
       key = c .before .before .args .key;
     }) (c .before .none .ensures) (c .none2 .ensures)

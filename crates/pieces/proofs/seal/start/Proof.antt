@@ -48,8 +48,8 @@ returns-2 : tie.Need-returns-2
 unfolding sealStart sealAfter
 returns-2 c =
     let at-flow = c .before in
-    let at-next = at-flow .before in
-    let at-begin = at-next .before .before .before .before .before in
+    let at-next = at-flow .before .before .before in
+    let at-begin = at-next .before .before .before .before in
     let told = at-begin .before .before .before .before in
     let at-check = told .before .before in
     let at-number = at-check .before in
@@ -60,12 +60,12 @@ returns-2 c =
     let j = J0 rk iv in
     let n = at-number .number-in .result in
     let begun = at-begin .begin .ensures in
-    let next = at-next .gcm-block-add-one .ensures ∙ ap gcmNext (begun .0) in
+    let next = at-next .gcm-block-add-one .ensures .0 ∙ ap gcmNext (begun .0) in
     let flow = at-flow .begin2 .ensures ∙ ap {B = Flow} (flowAt rk) next ∙ flow-start Gcm·counting rk (gcmNext j) in
     let hashing = begun .1 .0 ∙ sym (ap (hashOf (hashKey rk) label) (no-text rk j)) in
     begun-there Seal _ sealShut (λ (k : ℕ). sealAfter k rk label iv []) n _ (at-number .number-in .ensures) _ _
     (sym (at-check .gcm-start .ensures) ∙ told .enum-told .given .1) (c .done .ensures)
-    (same-seal rk _ _ _ _ _ _ (length label) 0 n flow hashing (begun .1 .1))
+    (same-seal rk _ _ _ _ _ _ _ _ (length label) 0 n flow hashing (begun .1 .1 .0) (begun .1 .1 .1))
 
 pub start-spec : {M : Type 1} → statement M
 start-spec =
@@ -73,4 +73,4 @@ start-spec =
     (tie.spec
     (λ c κs. search needs) (λ c κs. search needs) (λ c. search needs) (λ c κs. search needs) (λ c κs. search needs)
     (λ c κs. search needs) returns (λ c. search needs) (λ c κs. search needs) (λ c. search needs) begin-requires
-    (λ c. search needs) (λ c κs. search needs) (λ c κs. search needs) (λ c κs. search needs) returns-2)
+    (λ c κs. search needs) (λ c. search needs) (λ c κs. search needs) (λ c κs. search needs) returns-2)

@@ -18,10 +18,11 @@ first-counter-requires c κs =
 
 returns : tie.Need-returns
 returns c =
-    let at-counter = c .before in
+    let at-next = c .before in
+    let at-counter = at-next .before in
     let at-key = at-counter .before in
     let iv = now (at-key .before .before .before .before .args .iv) in
-    c .gcm-block-add-one .ensures
+    at-next .gcm-block-add-one .ensures .0
     ∙ ap gcmNext (at-counter .first-counter .ensures ∙ ap (λ (h : ℕ). firstCounter h iv) (at-key .hash-key .ensures))
 
 pub text-counter-spec : {M : Type 1} → statement M

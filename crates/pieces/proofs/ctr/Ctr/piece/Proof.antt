@@ -29,30 +29,37 @@ passed x = writing-passed _ _ _ _ _ _ (sym (x .before .before .writing .ensures)
 
 run-requires : tie.Need-run-requires
 run-requires c κs =
-    let at-plain = c .before .before .before .before in
+    let at-plain = c .before .before .before .before .before in
     (at-plain .plain .ensures, (omega arith, passed (at-plain .before) .1))
 
-add-t14 : tie.Need-add-t14
-add-t14 c =
-    let told = c .before .before .before .before .before .before .before .before in
+add-t15 : tie.Need-add-t15
+add-t15 c =
+    let told = c .before .before .before .before .before .before .before .before .before in
     let within = passed told .0 .within in search needs
 
 returns-2 : tie.Need-returns-2
 unfolding ctrPiece
 returns-2 c =
     let at-run = c .before .before .before in
-    let told = at-run .before .before .before .before .before .before in
+    let told = at-run .before .before .before .before .before .before .before in
     let at-check = told .before .before in
     let a = at-check .before .before .before .args in
     let s = a .self in
     let ran = at-run .run .ensures in
     went-on Ctr _ _ (now (a .out)) s _ _ (sym (at-check .writing .ensures) ∙ told .enum-told .given .1)
     (same-step Ctr _ _ _ _ _ _ (c .done .ensures) (ran .1)
-    (ap {B = Ctr} (λ (f : Flow). record { rk = s .rk; flow = f; total = s .total + length (now (a .«data»)); stands = 0; key = s .key }) (ran .0)))
+    (ap {B = Ctr} (λ (f : Flow). record {
+      rk = s .rk;
+      flow = f;
+      first = s .first;
+      total = s .total + length (now (a .«data»));
+      stands = 0;
+      key = s .key;
+    }) (ran .0)))
 
 pub piece-spec : {M : Type 1} → statement M
 piece-spec =
     tie.close
     (tie.spec
     (λ c κs. search needs) (λ c. search needs) (λ c κs. search needs) returns (λ c. search needs) (λ c κs. search needs)
-    (λ c. search needs) run-requires add-t14 (λ c κs. search needs) (λ c. search needs) returns-2)
+    (λ c. search needs) run-requires add-t15 (λ c κs. search needs) (λ c. search needs) returns-2)

@@ -10,7 +10,8 @@ use denote.Ref.{now}
 use lib.ListN.{length}
 use Rattle.block.specs.Same.{same}
 use Rattle.block.specs.Xor.{xors}
-use Rattle.walk.specs.Outcome.{Head, finished, refusal, under}
+use Rattle.counter.specs.CameRound.{blocksOf, gcmCameRound}
+use Rattle.walk.specs.Outcome.{Head, finished, refusal, under, telling}
 use Rattle.pieces.specs.declared.opens.Opens.{Opens}
 use Rattle.pieces.specs.Hashing.{hashEnd}
 use Rattle.pieces.specs.Calls.{opensEnd}
@@ -54,7 +55,7 @@ tested x =
 -- and what it says is the definition's
 ends : (x : tie.After-same-tag) (h : Head) (t : Bool) → x .same-tag .result ≡ t
     → let a = x .before .before .before .before .before .before .before .before .before .args in
-    h ≡ under (a .self .key) (cond t (finished 0) (refusal 4))
+    h ≡ under (a .self .key) (cond t (telling (gcmCameRound (a .self .low) (blocksOf (a .self .total))) (finished 0)) (refusal 4))
     → step Opens h [] (x .before .shut .result) ≡ opensEnd (a .self) (now (a .tag))
 unfolding opensEnd
 ends x h t e f =
@@ -63,12 +64,18 @@ ends x h t e f =
     let at-check = told .before .before in
     let a = at-check .before .before .args in
     let k = a .self .key in
+    let yes = telling (gcmCameRound (a .self .low) (blocksOf (a .self .total))) (finished 0) in
     went-on Opens _ _ [] (a .self) _ _ (sym (at-check .tagged .ensures) ∙ told .enum-told .given .1)
-    (same-step Opens _ _ [] [] _ _ (f ∙ ap (λ (t : Bool). under k (cond t (finished 0) (refusal 4))) (sym e ∙ tested x)) refl
+    (same-step Opens _ _ [] [] _ _ (f ∙ ap (λ (t : Bool). under k (cond t yes (refusal 4))) (sym e ∙ tested x)) refl
     (at-shut .shut .ensures))
 
 returns-2 : tie.Need-returns-2
-returns-2 c = ends (c .before .before) _ _ (c .before .if1 .taken) (c .done .ensures)
+returns-2 c =
+    let at-round = c .before in
+    let at-if = at-round .before in
+    let a = at-if .before .before .before .before .before .before .before .before .before .before .args in
+    ends (at-if .before) _ _ (at-if .if1 .taken)
+    (c .done-round .ensures ∙ ap {B = Head} (λ (b : Bool). under (a .self .key) (telling b (finished 0))) (at-round .gcm-came-round .ensures))
 
 returns-3 : tie.Need-returns-3
 returns-3 c = ends (c .before .before) _ _ (c .before .if1 .left) (c .refused2 .ensures)
@@ -78,4 +85,4 @@ end-spec =
     tie.close
     (tie.spec
     (λ c κs. search needs) (λ c. search needs) (λ c κs. search needs) returns (λ c. search needs) end-requires
-    (λ c κs. search needs) same-tag-requires (λ c κs. search needs) returns-2 (λ c κs. search needs) returns-3)
+    (λ c κs. search needs) same-tag-requires (λ c κs. search needs) (λ c κs. search needs) returns-2 (λ c κs. search needs) returns-3)

@@ -45,8 +45,15 @@ returns-2 c =
     went-on Opens _ _ [] s _ _ (sym (at-check .running .ensures) ∙ told .enum-told .given .1)
     (same-step Opens _ _ [] [] _ _ (c .done .ensures) refl
     (ap {B = Opens}
-    (λ (g : Hashing). record { hashing = g; mask = s .mask; label = s .label; total = s .total + length (now (a .«data»)); stands = 0; key = s .key })
-    (at-hash .take-in .ensures)))
+    (λ (g : Hashing). record {
+      hashing = g;
+      mask = s .mask;
+      label = s .label;
+      total = s .total + length (now (a .«data»));
+      low = s .low;
+      stands = 0;
+      key = s .key;
+    }) (at-hash .take-in .ensures)))
 
 pub piece-spec : {M : Type 1} → statement M
 piece-spec =

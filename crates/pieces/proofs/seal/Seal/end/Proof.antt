@@ -2,12 +2,14 @@
 -- the state is shut.
 -- Assumes nothing.
 use mathlib.Core.Path.{_≡_, sym, ap, _∙_}
+use mathlib.Core.Bool.{Bool}
 use mathlib.Core.List.{List}
 use Prim.Native.Nat.{ℕ, _≤_}
 use native.Mathlib.Omega.{arith}
 use denote.Ref.{now}
 use lib.ListN.{length}
 use Rattle.block.specs.Xor.{xors}
+use Rattle.walk.specs.Outcome.{Head, finished, under, telling}
 use Rattle.walk.specs.Walk.{over}
 use Rattle.pieces.specs.declared.seal.Seal.{Seal}
 use Rattle.pieces.specs.Calls.{sealEnd}
@@ -49,7 +51,8 @@ returns-2 : tie.Need-returns-2
 unfolding sealEnd
 returns-2 c =
     let at-done = c .before in
-    let at-tag = at-done .before .before .before in
+    let at-round = at-done .before in
+    let at-tag = at-round .before .before .before in
     let at-end = at-tag .before .before .before in
     let told = at-end .before .before .before in
     let at-check = told .before .before in
@@ -57,7 +60,9 @@ returns-2 c =
     let s = a .self in
     let o = now (a .out) in
     went-on Seal _ _ o s _ _ (sym (at-check .writing .ensures) ∙ told .enum-told .given .1)
-    (same-step Seal _ _ _ _ _ _ (at-done .done .ensures)
+    (same-step Seal _ _ _ _ _ _
+    (at-done .done-round .ensures
+    ∙ ap {B = Head} (λ (b : Bool). under (s .key) (telling b (finished 16))) (at-round .gcm-came-round .ensures))
     (at-tag .xor-pad .ensures ∙ ap (λ (l : List ℕ). over (xors (s .mask) l) o) (at-end .end .ensures)) (c .shut .ensures))
 
 pub end-spec : {M : Type 1} → statement M
@@ -65,4 +70,4 @@ end-spec =
     tie.close
     (tie.spec
     (λ c κs. search needs) (λ c. search needs) (λ c κs. search needs) returns (λ c. search needs) end-requires
-    (λ c. search needs) xor-pad-requires (λ c κs. search needs) (λ c κs. search needs) (λ c. search needs) returns-2)
+    (λ c. search needs) xor-pad-requires (λ c κs. search needs) (λ c κs. search needs) (λ c κs. search needs) (λ c. search needs) returns-2)

@@ -80,8 +80,8 @@ returns-2 c =
     rw sub-zero (ap (take (length d)) (ran .1) ∙ take-at text (drop (length text) o) (length d) n) in
     went-on Seal _ _ o s _ _ (sym (at-check .writing .ensures) ∙ told .enum-told .given .1)
     (same-step Seal _ _ _ _ _ _ (c .done .ensures) (ran .1)
-    (same-seal (s .rk) (s .mask) (s .mask) _ _ _ _ (s .label) (s .total + length d) (s .key) (ran .0)
-    (at-hash .take-in .ensures ∙ ap (hashNext (s .hashing) p) written) refl))
+    (same-seal (s .rk) (s .mask) (s .mask) _ _ _ _ (s .low) (s .low) (s .label) (s .total + length d) (s .key) (ran .0)
+    (at-hash .take-in .ensures ∙ ap (hashNext (s .hashing) p) written) refl refl))
 
 pub piece-spec : {M : Type 1} → statement M
 piece-spec =

@@ -1,0 +1,24 @@
+-- The formula at its edges, computed: Ctr from all ones on, and GCM from a last word of all ones on.
+-- Assumes nothing.
+use mathlib.Core.Path.{_≡_, refl}
+use mathlib.Core.Bool.{true, false}
+use lib.ListN.{replicate}
+use Prim.Native.Nat.{_-_, _^_}
+use Rattle.block.specs.BigEndian.{numberOf}
+use Rattle.counter.specs.CameRound.{ctrCameRound, gcmCameRound}
+
+pub ctr-one-block : ctrCameRound (replicate 16 255) 1 ≡ false
+unfolding ctrCameRound numberOf
+ctr-one-block = refl
+
+pub ctr-two-blocks : ctrCameRound (replicate 16 255) 2 ≡ true
+unfolding ctrCameRound numberOf
+ctr-two-blocks = refl
+
+pub gcm-no-block : gcmCameRound (2 ^ 32 - 1) 0 ≡ false
+unfolding gcmCameRound
+gcm-no-block = refl
+
+pub gcm-one-block : gcmCameRound (2 ^ 32 - 1) 1 ≡ true
+unfolding gcmCameRound
+gcm-one-block = refl

@@ -1,0 +1,33 @@
+-- What an answer says of a counter, as a property of any report: document 02's formula where it is done, and no where it is refused.
+use mathlib.Core.Path.{_≡_}
+use mathlib.Core.Logic.{_≢_}
+use mathlib.Core.Bool.{Bool, false, _&&_, cond}
+use mathlib.Core.List.{List}
+use Prim.Native.Nat.{ℕ, _-_}
+use lib.Dec.{eqb}
+use Rattle.counter.specs.Counter.{lastFour}
+use Rattle.counter.specs.CameRound.{blocksOf, ctrCameRound, gcmCameRound}
+use Rattle.walk.specs.Outcome.{Head, telling}
+use Rattle.gcm.specs.Gcm.{J0}
+use Rattle.cipher_mode.specs.declared.CipherMode.{CipherMode}
+use Rattle.cipher_mode.specs.declared.CipherMode.the-variants.{Cfb, Ofb, Ctr, Cbc, Gcm}
+use Rattle.cipher_mode.specs.declared.Direction.{Direction}
+use Rattle.cipher_mode.specs.declared.Direction.the-variants.{Encrypt, Decrypt}
+
+-- the formula by mode, over n bytes of data: of a sealed message the last sixteen are its tag, and the other modes have no counter
+abbrev pub roundOf : CipherMode → Direction → List ℕ → List ℕ → ℕ → Bool
+roundOf Cfb dir rk iv n = false
+roundOf Ofb dir rk iv n = false
+roundOf Ctr dir rk iv n = ctrCameRound iv (blocksOf n)
+roundOf Cbc dir rk iv n = false
+roundOf Gcm Encrypt rk iv n = gcmCameRound (lastFour (J0 rk iv)) (blocksOf n)
+roundOf Gcm Decrypt rk iv n = gcmCameRound (lastFour (J0 rk iv)) (blocksOf (n - 16))
+
+-- the report says b where it is done, and no where it is refused
+pub record Says (b : Bool) (h : Head) : Type 0 where
+  pub done : h .number ≡ 0 → h .cameRound ≡ cond b 1 0
+  pub refused : h .number ≢ 0 → h .cameRound ≡ 0
+
+-- the report h where it says b if it is done
+abbrev pub tellingDone : Bool → Head → Head
+tellingDone b h = telling (eqb (h .number) 0 && b) h
