@@ -1,2 +1,5 @@
+pub mod Accepted
 pub mod Following
 pub mod Laying
+pub mod OwnPlans
+pub mod Sharing

@@ -1,7 +1,6 @@
 -- `plan::make` meets its contract: each return is the tests that led to it, and a piece is short enough for a plan of 64.
 -- Assumes nothing.
 use mathlib.Core.Path.{_≡_, ap, _∙_}
-use Prim.Native.Nat.{_≤_}
 use native.Mathlib.Omega.{arith}
 use borrow.Author.Needs.{needs}
 use borrow.Author.Tests.{eq-eqb, ne-eqb, lt-ltb, le-ltb}
@@ -9,6 +8,7 @@ use Rattle.ranges.specs.Plan.{planned, planIn}
 use Rattle.ranges.specs.declared.plan.Plan.{Plan}
 use Rattle.ranges.specs.declared.plan.Planned.{Planned}
 use Rattle.ranges.specs.declared.plan.Making.the-variants.{Made}
+use Rattle.ranges.proofs.Sharing.{short-enough}
 use Rattle.ranges.proofs.plan.make.Statement.{statement}
 use Rattle.ranges.proofs.plan.make.Tie as tie
 
@@ -29,11 +29,19 @@ returns-3 c =
     c .without3 .ensures ∙ rw (ne-eqb _ _ (b .before .before .if1 .left), le-ltb _ _ (b .before .if2 .left), lt-ltb _ _ (b .if3 .taken))
 
 plan-in-requires : tie.Need-plan-in-requires
-plan-in-requires c κs = ?
+plan-in-requires c κs =
+    let a = c .before .before .before .before .args in
+    let short = short-enough (a .n) (a .workers) (omega arith) (omega arith) in
+    omega (arith, short, c .piece-size .ensures)
 
 returns-4 : tie.Need-returns-4
 unfolding planned
-returns-4 c = ?
+returns-4 c =
+    let b = c .before .before in
+    let n = b .before .before .before .args .n in
+    rw (ne-eqb _ _ (b .before .before .if1 .left), le-ltb _ _ (b .before .if2 .left), le-ltb _ _ (b .if3 .left))
+    (ap {B = Planned} (λ (p : Plan). record { making = Made; plan = p })
+    (c .plan-in .ensures ∙ ap {B = Plan} (planIn n) (c .before .piece-size .ensures)))
 
 pub make-spec : {M : Type 1} → statement M
 make-spec =
