@@ -82,8 +82,14 @@ module _ (starts lengths : List ℕ) (count i at n : ℕ) (room : count ≤ leng
       let all = length-take-le count starts room in
       let all′ = length-take-le count lengths room′ in
       let last = last-piece (take count starts) i count inside all (eqb (i + 1) count) refl in
-      rw (← last, add-one i, drop-cons (take count starts) i 0 (omega (arith, all)), drop-cons (take count lengths) i 0 (omega (arith, all′)),
-      getD-take count starts i 0 inside, getD-take count lengths i 0 inside)
+      rw (
+        ← last,
+        add-one i,
+        drop-cons (take count starts) i 0 (omega (arith, all)),
+        drop-cons (take count lengths) i 0 (omega (arith, all′)),
+        getD-take count starts i 0 inside,
+        getD-take count lengths i 0 inside,
+      )
 
   -- r is what the test of the piece says
   module _ (here : at ≤ n) {r : Bool} (tells : r ≡ isPiece (getD starts i 0) (getD lengths i 0) at (n - at) (eqb (i + 1) count)) where

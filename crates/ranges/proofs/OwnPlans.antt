@@ -55,14 +55,29 @@ module _ (n size : ℕ) where
   unfolding follows startsFrom lengthsFrom
   last-piece k at h g =
       let end : at + (n - at) ≡ n = omega arith in
-      rw (before k at h, past k (at + size) g, lt-ltb at n h, le-ltb size (n - at) (omega arith), eq-eqb at at refl,
-      ne-eqb (n - at) 0 (λ e. omega (arith, e)), end, eq-eqb n n refl)
+      rw (
+        before k at h,
+        past k (at + size) g,
+        lt-ltb at n h,
+        le-ltb size (n - at) (omega arith),
+        eq-eqb at at refl,
+        ne-eqb (n - at) 0 (λ e. omega (arith, e)),
+        end,
+        eq-eqb n n refl,
+      )
 
   full-piece : size % 16 ≡ 0 → 1 ≤ size → (k at : ℕ) → at + size < n → laid (suc k) at ≡ laid k (at + size)
   unfolding follows startsFrom lengthsFrom
   full-piece whole some k at h =
-      rw (before k at (omega arith), lt-ltb at n (omega arith), lt-ltb size (n - at) (omega arith), eq-eqb at at refl,
-      ne-eqb size 0 (λ e. omega (arith, e)), eq-eqb (size % 16) 0 whole, or-true)
+      rw (
+        before k at (omega arith),
+        lt-ltb at n (omega arith),
+        lt-ltb size (n - at) (omega arith),
+        eq-eqb at at refl,
+        ne-eqb size 0 (λ e. omega (arith, e)),
+        eq-eqb (size % 16) 0 whole,
+        or-true,
+      )
 
   module _ (whole : size % 16 ≡ 0) (some : 1 ≤ n → 1 ≤ size) where
     one-more : (k at : ℕ) → at ≤ n → (t u : Bool) → ltb at n ≡ t → ltb (at + size) n ≡ u

@@ -43,8 +43,7 @@ loop-again c =
     let at = at-loop .loop .at in
     let i = at-loop .loop .i in
     let inv = at-loop .loop .inv in
-    let one = at-most-one n size at i _ (c .begins .ensures) in
-    (
+    let one = at-most-one n size at i _ (c .begins .ensures) in (
       omega arith,
       omega (arith, one),
       omega arith,
