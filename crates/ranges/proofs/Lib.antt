@@ -1,4 +1,5 @@
 pub mod Accepted
+pub mod ByPiece
 pub mod Following
 pub mod Laying
 pub mod OwnPlans

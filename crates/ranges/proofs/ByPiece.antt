@@ -1,0 +1,84 @@
+-- The check read piece by piece: it accepts a plan exactly when the pieces are at most 64, the first starts at 0, each starts where
+-- the one before ends, the last ends at n, none is empty, each length but the last divides by 16, and no pieces are for no bytes.
+-- Assumes nothing.
+use mathlib.Core.Path.{_≡_, refl, sym, _∙_}
+use mathlib.Core.Bool.{Bool, true, false, _||_}
+use mathlib.Core.List.{List, [], _∷_}
+use mathlib.Core.Logic.{_≢_, _⊎_, inl, inr}
+use Prim.Native.Nat.{ℕ, zero, suc, _+_, _%_, _≤_, _<_}
+use native.Mathlib.Omega.{arith}
+use lib.Dec.{eqb}
+use lib.ListN.{length, getD, take}
+use lib.Seq.{getD-take, length-take-le}
+use borrow.Author.Tests.{eqb-true, eq-eqb, ne-eqb, le-leb}
+use Rattle.ranges.specs.Plan.{isLast, follows, accepts}
+use Rattle.ranges.specs.declared.plan.Plan.{Plan}
+use Rattle.ranges.proofs.Following.{reaches}
+use Rattle.ranges.proofs.Accepted.{First, first-piece, at-most-64, from-0-to-n, no-pieces}
+
+-- piece i of `count`
+pub record Piece (starts lengths : List ℕ) (count n i : ℕ) : Type 0 where
+  pub not-empty : getD lengths i 0 ≢ 0
+  pub goes-on : suc i < count → (getD lengths i 0 % 16 ≡ 0) × (getD starts (suc i) 0 ≡ getD starts i 0 + getD lengths i 0)
+  pub ends : suc i ≡ count → getD starts i 0 + getD lengths i 0 ≡ n
+
+-- all that the check asks
+pub record Reading (p : Plan) (n : ℕ) : Type 0 where
+  pub few : p .count ≤ 64
+  pub none : p .count ≡ 0 → n ≡ 0
+  pub first : 0 < p .count → getD (p .starts) 0 0 ≡ 0
+  pub piece : (i : ℕ) → i < p .count → Piece (p .starts) (p .lengths) (p .count) n i
+
+starts-at : (at n : ℕ) (ss ls : List ℕ) → follows at n ss ls ≡ true → 0 < length ss → getD ss 0 0 ≡ at
+unfolding follows
+starts-at at n [] ls e h = absurd (omega (arith, h))
+starts-at at n (s ∷ ss) [] e h = let z : _≡_ {A = ℕ} 0 1 = cc in absurd (omega arith)
+starts-at at n (s ∷ ss) (l ∷ ls) e h = first-piece at n s l ss ls e .starts-here
+
+ends-at : (at n : ℕ) (ss ls : List ℕ) → follows at n ss ls ≡ true → length ss ≡ 0 → at ≡ n
+unfolding follows
+ends-at at n [] ls e h = eqb-true at n e
+ends-at at n (s ∷ ss) ls e h = absurd (omega (arith, h))
+
+whole-blocks : (ss : List ℕ) (l : ℕ) → (ss ≡ []) ⊎ (l % 16 ≡ 0) → 0 < length ss → l % 16 ≡ 0
+whole-blocks ss l (inl e) h = absurd (let f : length ss ≡ 0 = rw e in omega (arith, f, h))
+whole-blocks ss l (inr e) h = e
+
+pub each-piece : (at n : ℕ) (ss ls : List ℕ) → follows at n ss ls ≡ true → (i : ℕ) → i < length ss → Piece ss ls (length ss) n i
+unfolding follows
+each-piece at n [] ls e i h = absurd (omega (arith, h))
+each-piece at n (s ∷ ss) [] e i h = let z : _≡_ {A = ℕ} 0 1 = cc in absurd (omega arith)
+each-piece at n (s ∷ ss) (l ∷ ls) e zero h =
+    let f = first-piece at n s l ss ls e in
+    record {
+      not-empty = f .not-empty;
+      goes-on = λ g.
+          (whole-blocks ss l (f .last-or-whole) (omega (arith, g)), starts-at (at + l) n ss ls (f .rest) (omega (arith, g)) ∙ rw (f .starts-here));
+      ends = λ g. rw (f .starts-here) (ends-at (at + l) n ss ls (f .rest) (omega (arith, g)));
+    }
+each-piece at n (s ∷ ss) (l ∷ ls) e (suc i) h =
+    let next = each-piece (at + l) n ss ls (first-piece at n s l ss ls e .rest) i (omega (arith, h)) in
+    record {
+      not-empty = next .not-empty;
+      goes-on = λ g. next .goes-on (omega (arith, g));
+      ends = λ g. next .ends (omega (arith, g));
+    }
+
+last-or-whole : (ss : List ℕ) (l : ℕ) → (0 < length ss → l % 16 ≡ 0) → (isLast ss || eqb (l % 16) 0) ≡ true
+last-or-whole [] l f = refl
+last-or-whole (s ∷ ss) l f = eq-eqb (l % 16) 0 (f (omega arith))
+
+from-pieces : (at n : ℕ) (ss ls : List ℕ) → length ss ≡ length ls → (length ss ≡ 0 → at ≡ n) → (0 < length ss → getD ss 0 0 ≡ at)
+    → ((i : ℕ) → i < length ss → Piece ss ls (length ss) n i) → follows at n ss ls ≡ true
+unfolding follows
+from-pieces at n [] ls e none first piece = eq-eqb at n (none refl)
+from-pieces at n (s ∷ ss) [] e none first piece = absurd (omega (arith, e))
+from-pieces at n (s ∷ ss) (l ∷ ls) e none first piece =
+    let p = piece 0 (omega arith) in
+    let here : s ≡ at = first (omega arith) in
+    let rest =
+    from-pieces (at + l) n ss ls (omega (arith, e)) (λ h. rw (← here) (p .ends (omega (arith, h))))
+    (λ h. p .goes-on (omega (arith, h)) .1 ∙ rw here)
+    (λ i h. let q = piece (suc i) (omega (arith, h)) in
+    record { not-empty = q .not-empty; goes-on = λ g. q .goes-on (omega (arith, g)); ends = λ g. q .ends (omega (arith, g)) }) in
+    rw (eq-eqb s at here, ne-eqb l 0 (p .not-empty), last-or-whole ss l (λ h. p .goes-on (omega (arith, h)) .0)) rest
