@@ -82,3 +82,75 @@ from-pieces at n (s ∷ ss) (l ∷ ls) e none first piece =
     (λ i h. let q = piece (suc i) (omega (arith, h)) in
     record { not-empty = q .not-empty; goes-on = λ g. q .goes-on (omega (arith, g)); ends = λ g. q .ends (omega (arith, g)) }) in
     rw (eq-eqb s at here, ne-eqb l 0 (p .not-empty), last-or-whole ss l (λ h. p .goes-on (omega (arith, h)) .0)) rest
+
+-- each piece starts with a block and lies within n
+each-inside : (at n : ℕ) (ss ls : List ℕ) → at % 16 ≡ 0 → follows at n ss ls ≡ true → (i : ℕ) → i < length ss
+    → (getD ss i 0 % 16 ≡ 0) × (getD ss i 0 + getD ls i 0 ≤ n)
+unfolding follows
+each-inside at n [] ls b e i h = absurd (omega (arith, h))
+each-inside at n (s ∷ ss) [] b e i h = let z : _≡_ {A = ℕ} 0 1 = cc in absurd (omega arith)
+each-inside at n (s ∷ ss) (l ∷ ls) b e zero h =
+    let f = first-piece at n s l ss ls e in
+    rw (f .starts-here) (b, f .inside)
+each-inside at n (s ∷ ss) (l ∷ ls) b e (suc i) h =
+    let f = first-piece at n s l ss ls e in
+    let whole = whole-blocks ss l (f .last-or-whole) (omega (arith, h)) in
+    each-inside (at + l) n ss ls (omega (arith, b, whole)) (f .rest) i (omega (arith, h))
+
+-- a piece of the arrays is a piece of their first `count` entries
+module _ (starts lengths : List ℕ) (count n i : ℕ) (h : i < count) where
+  of-arrays : Piece (take count starts) (take count lengths) count n i → Piece starts lengths count n i
+  of-arrays q =
+      record {
+        not-empty = rw (getD-take count lengths i 0 h) at (q .not-empty);
+        goes-on = λ g. rw (getD-take count starts (suc i) 0 g, getD-take count starts i 0 h, getD-take count lengths i 0 h) at (q .goes-on g);
+        ends = λ g. rw (getD-take count starts i 0 h, getD-take count lengths i 0 h) at (q .ends g);
+      }
+
+  of-front : Piece starts lengths count n i → Piece (take count starts) (take count lengths) count n i
+  of-front q =
+      record {
+        not-empty = rw (getD-take count lengths i 0 h) (q .not-empty);
+        goes-on = λ g. rw (getD-take count starts (suc i) 0 g, getD-take count starts i 0 h, getD-take count lengths i 0 h) (q .goes-on g);
+        ends = λ g. rw (getD-take count starts i 0 h, getD-take count lengths i 0 h) (q .ends g);
+      }
+
+module _ (p : Plan) (n : ℕ) (room : length (p .starts) ≡ 64) where
+  abbrev ss : List ℕ
+  ss = take (p .count) (p .starts)
+
+  abbrev ls : List ℕ
+  ls = take (p .count) (p .lengths)
+
+  module _ (accepted : accepts p n ≡ true) where
+    as-many : length ss ≡ p .count
+    as-many = let few = at-most-64 p n accepted in length-take-le (p .count) (p .starts) (omega (arith, few, room))
+
+    pub piece-inside : (i : ℕ) → i < p .count → (getD (p .starts) i 0 % 16 ≡ 0) × (getD (p .starts) i 0 + getD (p .lengths) i 0 ≤ n)
+    piece-inside i h =
+        rw (getD-take (p .count) (p .starts) i 0 h, getD-take (p .count) (p .lengths) i 0 h)
+        at (each-inside 0 n ss ls refl (from-0-to-n p n accepted) i (omega (arith, h, as-many)))
+
+    pub accepted-reading : Reading p n
+    accepted-reading =
+        record {
+          few = at-most-64 p n accepted;
+          none = no-pieces p n accepted;
+          first = λ h.
+              sym (getD-take (p .count) (p .starts) 0 0 h) ∙ starts-at 0 n ss ls (from-0-to-n p n accepted) (omega (arith, h, as-many));
+          piece = λ i h.
+              of-arrays (p .starts) (p .lengths) (p .count) n i h
+              (rw as-many at (each-piece 0 n ss ls (from-0-to-n p n accepted) i (omega (arith, h, as-many))));
+        }
+
+  pub reading-accepted : length (p .lengths) ≡ 64 → Reading p n → accepts p n ≡ true
+  unfolding accepts
+  reading-accepted room′ r =
+      let few = r .few in
+      let many : length ss ≡ p .count = length-take-le (p .count) (p .starts) (omega (arith, few, room)) in
+      let many′ : length ls ≡ p .count = length-take-le (p .count) (p .lengths) (omega (arith, few, room′)) in
+      rw (le-leb (p .count) 64 few)
+      (from-pieces 0 n ss ls (many ∙ sym many′) (λ e. sym (r .none (sym many ∙ e)))
+      (λ h. let g : 0 < p .count = omega (arith, h, many) in getD-take (p .count) (p .starts) 0 0 g ∙ r .first g)
+      (λ i h. let g : i < p .count = omega (arith, h, many) in
+      rw many (of-front (p .starts) (p .lengths) (p .count) n i g (r .piece i g))))
