@@ -3,4 +3,5 @@ pub mod ByPiece
 pub mod Following
 pub mod Laying
 pub mod OwnPlans
+pub mod Places
 pub mod Sharing

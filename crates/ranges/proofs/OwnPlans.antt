@@ -19,13 +19,13 @@ or-true false = refl
 -- n bytes in pieces of `size`
 module _ (n size : ℕ) where
   -- at n or past it no piece begins
-  past : (k at : ℕ) → n ≤ at → countFrom n size k at ≡ 0
+  pub past : (k at : ℕ) → n ≤ at → countFrom n size k at ≡ 0
   unfolding countFrom
   past zero at h = refl
   past (suc k) at h = rw (le-ltb at n h, past k (at + size) (omega arith))
 
   -- before it one does
-  before : (k at : ℕ) → at < n → countFrom n size (suc k) at ≡ suc (countFrom n size k (at + size))
+  pub before : (k at : ℕ) → at < n → countFrom n size (suc k) at ≡ suc (countFrom n size k (at + size))
   unfolding countFrom
   before k at h = rw (lt-ltb at n h) (omega arith)
 

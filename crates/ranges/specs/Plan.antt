@@ -3,7 +3,7 @@ use Prim.Native.Nat.{ℕ, zero, suc, _+_, _-_, _*_, _/_, _%_}
 use mathlib.Core.Bool.{Bool, true, false, not, _&&_, _||_, cond}
 use mathlib.Core.List.{List, [], _∷_}
 use lib.Dec.{eqb, leb, ltb}
-use lib.ListN.{take}
+use lib.ListN.{take, replicate}
 use Rattle.counter.specs.CameRound.{blocksOf}
 use Rattle.cipher_mode.specs.Tables.{limit}
 use Rattle.ranges.specs.declared.plan.Making.{Making}
@@ -65,9 +65,12 @@ planIn n size = record { count = countFrom n size 64 0; starts = startsFrom n si
 abbrev pub planOf : ℕ → ℕ → Plan
 planOf n w = planIn n (pieceSize n w)
 
--- a plan of no pieces, and why
+abbrev pub noPieces : Plan
+noPieces = record { count = 0; starts = replicate 64 0; lengths = replicate 64 0 }
+
+-- no plan, and why
 abbrev pub without : Making → Planned
-without m = record { making = m; plan = planIn 0 0 }
+without m = record { making = m; plan = noPieces }
 
 -- what the planner answers: a number of workers outside 1 to 64 is told before a length past the limit
 unfoldable pub planned : ℕ → ℕ → Planned

@@ -2,7 +2,7 @@
 ghost use mathlib.Core.Path.{_≡_};
 ghost use Prim.Native.Nat.{_*_, _≤_};
 ghost use Rattle.cipher_mode.specs.Tables.{limit};
-ghost use Rattle.ranges.specs.Plan.{accepts, isPiece, begins, startAt, lengthAt, pieceSize, planIn, planned};
+ghost use Rattle.ranges.specs.Plan.{accepts, isPiece, begins, startAt, lengthAt, pieceSize, planIn, noPieces, planned};
 use cipher_mode::checks::LIMIT;
 
 // The most pieces of a plan.
@@ -144,9 +144,15 @@ fn piece_size(n: usize, workers: usize) -> usize
 
 // No plan: one of no pieces.
 fn without(making: Making) -> Planned
-    ensures { λ r. ⌜ r ≡ record { making = making; plan = planIn 0 0 } ⌝ }
+    ensures { λ r. ⌜ r ≡ record { making = making; plan = noPieces } ⌝ }
 {
-    let plan = plan_in(0, 0);
+    let starts = [0usize; MOST];
+    let lengths = [0usize; MOST];
+    let plan = Plan {
+        count: 0,
+        starts,
+        lengths,
+    };
     Planned { making, plan }
 }
 
