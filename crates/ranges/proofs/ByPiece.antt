@@ -2,7 +2,7 @@
 -- the one before ends, the last ends at n, none is empty, each length but the last divides by 16, and no pieces are for no bytes.
 -- Assumes nothing.
 use mathlib.Core.Path.{_≡_, refl, sym, _∙_}
-use mathlib.Core.Bool.{Bool, true, false, _||_}
+use mathlib.Core.Bool.{true, _||_}
 use mathlib.Core.List.{List, [], _∷_}
 use mathlib.Core.Logic.{_≢_, _⊎_, inl, inr}
 use Prim.Native.Nat.{ℕ, zero, suc, _+_, _%_, _≤_, _<_}
@@ -13,8 +13,7 @@ use lib.Seq.{getD-take, length-take-le}
 use borrow.Author.Tests.{eqb-true, eq-eqb, ne-eqb, le-leb}
 use Rattle.ranges.specs.Plan.{isLast, follows, accepts}
 use Rattle.ranges.specs.declared.plan.Plan.{Plan}
-use Rattle.ranges.proofs.Following.{reaches}
-use Rattle.ranges.proofs.Accepted.{First, first-piece, at-most-64, from-0-to-n, no-pieces}
+use Rattle.ranges.proofs.Accepted.{first-piece, at-most-64, from-0-to-n, no-pieces}
 
 -- piece i of `count`
 pub record Piece (starts lengths : List ℕ) (count n i : ℕ) : Type 0 where

@@ -4,4 +4,5 @@ pub mod Following
 pub mod Laying
 pub mod OwnPlans
 pub mod Places
+pub mod Planner
 pub mod Sharing

@@ -1,15 +1,14 @@
 -- The planner's plans are accepted, have no more pieces than workers, and no piece is longer than its share.
 -- Assumes nothing.
-use mathlib.Core.Path.{_≡_, refl, sym, _∙_}
+use mathlib.Core.Path.{_≡_, refl, _∙_}
 use mathlib.Core.Bool.{Bool, true, false, _||_}
-use mathlib.Core.List.{List}
 use Prim.Native.Nat.{ℕ, zero, suc, _+_, _-_, _*_, _%_, _≤_, _<_}
 use native.Mathlib.Nat.{suc-mul, mul-le-mul-right}
 use native.Mathlib.Omega.{arith}
-use lib.Dec.{eqb, ltb}
+use lib.Dec.{ltb}
 use lib.ListN.{getD, take}
 use borrow.Author.Tests.{ltb-true, ltb-false, lt-ltb, le-ltb, le-leb, eq-eqb, ne-eqb}
-use Rattle.ranges.specs.Plan.{isLast, follows, accepts, pieceSize, lengthAt, countFrom, startsFrom, lengthsFrom, planIn, planOf}
+use Rattle.ranges.specs.Plan.{follows, accepts, pieceSize, lengthAt, countFrom, startsFrom, lengthsFrom, planOf}
 use Rattle.ranges.proofs.Sharing.{whole-blocks, hold-all, none-empty}
 
 or-true : (t : Bool) → t || true ≡ true

@@ -2,7 +2,7 @@
 -- for its place to be reckoned.
 -- Assumes nothing.
 use mathlib.Core.Path.{_≡_}
-use Prim.Native.Nat.{ℕ, zero, suc, _+_, _-_, _*_, _/_, _%_, _≤_, _<_}
+use Prim.Native.Nat.{ℕ, zero, suc, _+_, _-_, _*_, _/_, _%_, _≤_}
 use native.Mathlib.Nat.{div-add-mod, div-le-self, mod-lt, mul-left-comm, mul-mod-right}
 use native.Mathlib.Omega.{arith}
 use Rattle.counter.specs.CameRound.{blocksOf}

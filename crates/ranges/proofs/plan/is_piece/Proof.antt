@@ -1,6 +1,5 @@
 -- `plan::is_piece` meets its contract: each return is the tests that led to it.
 -- Assumes nothing.
-use mathlib.Core.Path.{_≡_}
 use borrow.Author.Tests.{eq-eqb, ne-eqb, le-leb, lt-leb}
 use Rattle.ranges.specs.Plan.{isPiece}
 use Rattle.ranges.proofs.plan.is_piece.Statement.{statement}

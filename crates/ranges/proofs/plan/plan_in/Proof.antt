@@ -1,7 +1,7 @@
 -- `plan::plan_in` meets its contract. The loop's invariant: the places so far, and those still to come from byte `at` on, are the
 -- plan. The measure is how many are to come.
 -- Assumes nothing.
-use mathlib.Core.Path.{_≡_, refl, sym, _∙_}
+use mathlib.Core.Path.{_≡_, refl, _∙_}
 use mathlib.Core.List.{_++_}
 use Prim.Native.Nat.{_+_, _-_, _*_, _≤_}
 use native.Mathlib.Omega.{arith}
