@@ -71,8 +71,12 @@ no-bytes p room accepted =
     sym (length-take-le (p .count) (p .starts) (omega (arith, few, room)))
     ∙ nothing-follows (take (p .count) (p .starts)) (take (p .count) (p .lengths)) (from-0-to-n p 0 accepted)
 
+-- 2^63
+abbrev half : ℕ
+half = 9223372036854775808
+
 -- two lengths of 2^63 do not add up to 0 bytes
 pub wraps-nowhere : (starts lengths : List ℕ)
-    → accepts (record { count = 2; starts = 0 ∷ 9223372036854775808 ∷ starts; lengths = 9223372036854775808 ∷ 9223372036854775808 ∷ lengths }) 0 ≡ false
+    → accepts (record { count = 2; starts = 0 ∷ half ∷ starts; lengths = half ∷ half ∷ lengths }) 0 ≡ false
 unfolding accepts follows
 wraps-nowhere starts lengths = refl

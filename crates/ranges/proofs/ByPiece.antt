@@ -51,8 +51,10 @@ each-piece at n (s ∷ ss) (l ∷ ls) e zero h =
     let f = first-piece at n s l ss ls e in
     record {
       not-empty = f .not-empty;
-      goes-on = λ g.
-          (whole-blocks ss l (f .last-or-whole) (omega (arith, g)), starts-at (at + l) n ss ls (f .rest) (omega (arith, g)) ∙ rw (f .starts-here));
+      goes-on = λ g. (
+        whole-blocks ss l (f .last-or-whole) (omega (arith, g)),
+        starts-at (at + l) n ss ls (f .rest) (omega (arith, g)) ∙ rw (f .starts-here),
+      );
       ends = λ g. rw (f .starts-here) (ends-at (at + l) n ss ls (f .rest) (omega (arith, g)));
     }
 each-piece at n (s ∷ ss) (l ∷ ls) e (suc i) h =
@@ -98,20 +100,26 @@ each-inside at n (s ∷ ss) (l ∷ ls) b e (suc i) h =
 
 -- a piece of the arrays is a piece of their first `count` entries
 module _ (starts lengths : List ℕ) (count n i : ℕ) (h : i < count) where
+  abbrev start : getD (take count starts) i 0 ≡ getD starts i 0
+  start = getD-take count starts i 0 h
+
+  abbrev size : getD (take count lengths) i 0 ≡ getD lengths i 0
+  size = getD-take count lengths i 0 h
+
   of-arrays : Piece (take count starts) (take count lengths) count n i → Piece starts lengths count n i
   of-arrays q =
       record {
-        not-empty = rw (getD-take count lengths i 0 h) at (q .not-empty);
-        goes-on = λ g. rw (getD-take count starts (suc i) 0 g, getD-take count starts i 0 h, getD-take count lengths i 0 h) at (q .goes-on g);
-        ends = λ g. rw (getD-take count starts i 0 h, getD-take count lengths i 0 h) at (q .ends g);
+        not-empty = rw size at (q .not-empty);
+        goes-on = λ g. rw (getD-take count starts (suc i) 0 g, start, size) at (q .goes-on g);
+        ends = λ g. rw (start, size) at (q .ends g);
       }
 
   of-front : Piece starts lengths count n i → Piece (take count starts) (take count lengths) count n i
   of-front q =
       record {
-        not-empty = rw (getD-take count lengths i 0 h) (q .not-empty);
-        goes-on = λ g. rw (getD-take count starts (suc i) 0 g, getD-take count starts i 0 h, getD-take count lengths i 0 h) (q .goes-on g);
-        ends = λ g. rw (getD-take count starts i 0 h, getD-take count lengths i 0 h) (q .ends g);
+        not-empty = rw size (q .not-empty);
+        goes-on = λ g. rw (getD-take count starts (suc i) 0 g, start, size) (q .goes-on g);
+        ends = λ g. rw (start, size) (q .ends g);
       }
 
 module _ (p : Plan) (n : ℕ) (room : length (p .starts) ≡ 64) where

@@ -72,7 +72,8 @@ last-piece xs i count h n false e =
 abbrev pub followsFrom : List ℕ → List ℕ → ℕ → ℕ → ℕ → ℕ → Bool
 followsFrom starts lengths count n i at = follows at n (drop i (take count starts)) (drop i (take count lengths))
 
-module _ (starts lengths : List ℕ) (count i at n : ℕ) (room : count ≤ length starts) (room′ : count ≤ length lengths) (inside : i < count) where
+module _ (starts lengths : List ℕ) (count i at n : ℕ)
+    (room : count ≤ length starts) (room′ : count ≤ length lengths) (inside : i < count) where
   abbrev next : Bool
   next = followsFrom starts lengths count n (i + 1) (at + getD lengths i 0)
 

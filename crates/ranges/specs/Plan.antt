@@ -65,6 +65,7 @@ planIn n size = record { count = countFrom n size 64 0; starts = startsFrom n si
 abbrev pub planOf : ℕ → ℕ → Plan
 planOf n w = planIn n (pieceSize n w)
 
+-- only zeros
 abbrev pub noPieces : Plan
 noPieces = record { count = 0; starts = replicate 64 0; lengths = replicate 64 0 }
 
