@@ -35,11 +35,13 @@ module _ (rk iv : List ℕ) (offset n size : ℕ) where
 
   length-mask : length mask ≡ size
   length-mask =
-      let a = length-replicate (min offset size) 0 in
+      let front : List ℕ = replicate (min offset size) 0 in
+      let back : List ℕ = replicate (size - (offset + n)) 0 in
+      let a : length front ≡ min offset size = length-replicate (min offset size) 0 in
       let b = length-take-le inside stream enough in
-      let c = length-replicate (size - (offset + n)) 0 in
-      length-append (replicate (min offset size) 0) (take inside stream ++ replicate (size - (offset + n)) 0)
-      ∙ ap (λ (k : ℕ). length (replicate (min offset size) 0) + k) (length-append (take inside stream) (replicate (size - (offset + n)) 0))
+      let c : length back ≡ size - (offset + n) = length-replicate (size - (offset + n)) 0 in
+      length-append front (take inside stream ++ back)
+      ∙ ap (λ (k : ℕ). length front + k) (length-append (take inside stream) back)
       ∙ omega (arith, a, b, c)
 
 module _ (rk iv : List ℕ) (offset n : ℕ) (t : List ℕ) where

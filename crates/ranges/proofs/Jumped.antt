@@ -4,7 +4,8 @@
 use mathlib.Core.Path.{_≡_, refl, sym, ap, ap₂, _∙_}
 use mathlib.Core.List.{List, _++_}
 use Prim.Native.Nat.{ℕ, zero, suc, _/_, _%_}
-use lib.ListN.{length, drop, replicate, length-replicate}
+use native.Mathlib.Omega.{arith}
+use lib.ListN.{length, drop, replicate, length-append, length-drop, length-replicate}
 use lib.Seq.{drop-at}
 use Rattle.block.specs.Below.{AreBytes}
 use Rattle.block.proofs.Convert.{length-bytesOf, bytesOf-bytes}
@@ -49,3 +50,11 @@ jumped rk iv d offset l a = sym (behind rk iv (replicate offset 0) d offset l a 
 pub stretch-of-whole : (rk iv pre d : List ℕ) → length iv ≡ 16 → AreBytes iv
     → drop (length pre) (chain (streamMode Ctr·kind rk) iv (pre ++ d)) ≡ stretch rk iv (length pre) d
 stretch-of-whole rk iv pre d l a = behind rk iv pre d (length pre) l a refl ∙ jumped rk iv d (length pre) l a
+
+pub length-stretch : (rk iv : List ℕ) (offset : ℕ) (d : List ℕ) → length (stretch rk iv offset d) ≡ length d
+unfolding stretch
+length-stretch rk iv offset d =
+    let z : List ℕ = replicate offset 0 in
+    let n : length z ≡ offset = length-replicate offset 0 in
+    let m = length-stream Ctr·kind rk iv (z ++ d) ∙ length-append z d in
+    length-drop offset (chain (streamMode Ctr·kind rk) iv (z ++ d)) ∙ omega arith

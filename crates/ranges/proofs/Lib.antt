@@ -6,6 +6,7 @@ pub mod OwnPlans
 pub mod Places
 pub mod Planner
 pub mod Sharing
+pub mod Passed
 pub mod Jumped
 pub mod KeyStream
 pub mod Applied
