@@ -42,7 +42,9 @@ module _ (c : List ℕ) (n : length c ≡ 16) (b : AreBytes c) where
       let w : l + 1 ≡ 2 ^ 32 = omega arith in
       let k = (h + 1) % 2 ^ 96 in
       let zero : l + 1 - 2 ^ 32 ≡ 0 = omega arith in
-      let x : (numberOf c + 1) % 2 ^ 128 ≡ k * 2 ^ 32 + 0 = rw in-parts (carried (2 ^ 96) (2 ^ 32) h l 1 (lit< tt) (omega arith) (lit≤ tt) (omega arith) ∙ ap (λ (r : ℕ). k * 2 ^ 32 + r) zero) in
+      let x : (numberOf c + 1) % 2 ^ 128 ≡ k * 2 ^ 32 + 0 =
+      rw in-parts
+      (carried (2 ^ 96) (2 ^ 32) h l 1 (lit< tt) (omega arith) (lit≤ tt) (omega arith) ∙ ap (λ (r : ℕ). k * 2 ^ 32 + r) zero) in
       let y : ctrNext c ≡ bytesOf 12 k ++ bytesOf 4 0 = ap (bytesOf 16) x ∙ bytesOf-append 12 4 k 0 (lit< tt) in
       let z : bytesOf 12 k ≡ take 12 c =
       sym (take-at (bytesOf 12 k) (bytesOf 4 0) 12 (length-bytesOf 12 k))

@@ -3,12 +3,12 @@
 -- Assumes nothing.
 use mathlib.Core.Path.{_≡_, refl, sym, ap, ap₂, _∙_}
 use mathlib.Core.List.{List, [], _∷_, _++_}
-use Prim.Native.Nat.{ℕ, zero, suc, _+_, _-_, _*_, _≤_, min}
+use Prim.Native.Nat.{ℕ, _+_, _-_, _≤_, min}
 use native.Mathlib.Omega.{arith}
 use lib.Bits.{xor-zero-r}
 use lib.ListN.{length, take, drop, replicate, length-append, length-take, length-drop, length-replicate, take-append-drop}
 use lib.Seq.{drop-drop, length-take-le}
-use Rattle.block.specs.Xor.{_⊕_, xors}
+use Rattle.block.specs.Xor.{xors}
 use Rattle.block.proofs.Xors.{length-xors, xors-assoc, xors-comm, xors-append}
 use Rattle.pieces.proofs.Pads.{xors-front}
 use Rattle.ranges.specs.Range.{stretch, applied}

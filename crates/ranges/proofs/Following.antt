@@ -92,6 +92,16 @@ module _ (starts lengths : List ℕ) (count i at n : ℕ)
         getD-take count lengths i 0 inside,
       )
 
+  -- where they follow one another, the piece starts here and ends within n, and those behind it follow
+  pub follows-on : followsFrom starts lengths count n i at ≡ true
+      → (getD starts i 0 ≡ at) × (at + getD lengths i 0 ≤ n) × (next ≡ true)
+  follows-on e =
+      let here = eqb-true (getD starts i 0) at (and-left (eqb (getD starts i 0) at) _ (sym turn ∙ e)) in
+      let from-length = and-right (eqb (getD starts i 0) at) _ (sym turn ∙ e) in
+      let from-last = and-right (not (eqb (getD lengths i 0) 0)) _ from-length in
+      let rest = and-right (eqb (i + 1) count || eqb (getD lengths i 0 % 16) 0) _ from-last in
+      (here, reaches (at + getD lengths i 0) n (drop (i + 1) (take count starts)) (drop (i + 1) (take count lengths)) rest, rest)
+
   -- r is what the test of the piece says
   module _ (here : at ≤ n) {r : Bool} (tells : r ≡ isPiece (getD starts i 0) (getD lengths i 0) at (n - at) (eqb (i + 1) count)) where
     -- after a piece that passes, whether those to come follow one another from its end decides

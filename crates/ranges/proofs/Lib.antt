@@ -10,3 +10,4 @@ pub mod Passed
 pub mod Jumped
 pub mod KeyStream
 pub mod Applied
+pub mod Joined

@@ -23,14 +23,13 @@ use Rattle.cipher_mode.specs.Checks.{refuse, andThen, keyAndIv, checked}
 unfoldable pub stretch : List ℕ → List ℕ → ℕ → List ℕ → List ℕ
 stretch rk iv offset d = drop offset (chain (streamMode Ctr·kind rk) iv (replicate offset 0 ++ d))
 
--- what is refused of n bytes at `offset`, with an IV and an output of these lengths: as in the single call, with the end of the stretch in
--- the place of the text's length
+-- what is refused of a stretch that ends at byte `end`, with an IV of this length: as in the single call of a text that ends there
+unfoldable pub reachCheck : KeyAnswer → Bool → Direction → ℕ → ℕ → Checked
+reachCheck a retired dir iv end = andThen (keyAndIv a retired dir Ctr iv) (refuse (ltb limit end) TooLong Passed)
+
+-- and of n bytes at `offset`, with so much room
 unfoldable pub rangeCheck : KeyAnswer → Bool → Direction → ℕ → ℕ → ℕ → ℕ → Checked
-rangeCheck a retired dir iv offset n room =
-    andThen (keyAndIv a retired dir Ctr iv)
-    (refuse (ltb limit (offset + n)) TooLong
-    (refuse (ltb room n) NoRoom
-    Passed))
+rangeCheck a retired dir iv offset n room = andThen (reachCheck a retired dir iv (offset + n)) (refuse (ltb room n) NoRoom Passed)
 
 -- the stretch d at `offset`, into the output o; nothing is said of a counter
 unfoldable pub rangeCall : Direction → Sm4Cipher → List ℕ → ℕ → List ℕ → List ℕ → Outcome

@@ -1,11 +1,11 @@
 // Ctr from any byte on.
 ghost use mathlib.Core.Path.{_≡_};
-ghost use Prim.Native.Nat.{_≤_};
+ghost use Prim.Native.Nat.{_+_, _≤_};
 ghost use lib.ListN.{length};
 ghost use Rattle.cipher.specs.Engine.{Engine};
 ghost use Rattle.walk.specs.Walk.{over};
 ghost use Rattle.cipher_mode.specs.Answer.{outcome};
-ghost use Rattle.ranges.specs.Range.{stretch, rangeCheck, rangeCall};
+ghost use Rattle.ranges.specs.Range.{stretch, reachCheck, rangeCall};
 use cipher_mode::CipherMode;
 use cipher_mode::Direction;
 use cipher_mode::KeyAnswer;
@@ -18,17 +18,16 @@ use cipher_mode::checks::LIMIT;
 use pieces::flow;
 use pieces::flow::Counting;
 
-// All that is refused of a stretch of n bytes. What is left behind the offset only shrinks, so no sum wraps.
-fn check(
+// What is refused of key, IV and the end of a stretch. What is left behind the offset only shrinks, so no sum wraps.
+pub(crate) fn reach(
     answer: KeyAnswer,
     mark: bool,
     direction: Direction,
     iv: usize,
     offset: usize,
     n: usize,
-    room: usize,
 ) -> Checked
-    ensures { λ r. ⌜ r ≡ rangeCheck answer mark direction iv offset n room ⌝ }
+    ensures { λ r. ⌜ r ≡ reachCheck answer mark direction iv (offset + n) ⌝ }
 {
     let first = cipher_mode::checks::key_and_iv(answer, mark, direction, CipherMode::Ctr, iv);
     let Checked::Passed = first else {
@@ -39,9 +38,6 @@ fn check(
     }
     if n > LIMIT - offset {
         return Checked::Refused(Refusal::TooLong);
-    }
-    if room < n {
-        return Checked::Refused(Refusal::NoRoom);
     }
     Checked::Passed
 }
@@ -79,17 +75,12 @@ pub fn range(
     let stands = cipher.answer;
     let key = cipher_mode::number_in(stands, cipher.number);
     let n = data.len();
-    let checked = check(
-        stands,
-        cipher.retired,
-        direction,
-        iv.len(),
-        offset,
-        n,
-        out.len(),
-    );
+    let checked = reach(stands, cipher.retired, direction, iv.len(), offset, n);
     if let Checked::Refused(refusal) = checked {
         return answer::refused(key, refusal);
+    }
+    if out.len() < n {
+        return answer::refused(key, Refusal::NoRoom);
     }
     let t = cipher::plain();
     let rk = cipher.rk;

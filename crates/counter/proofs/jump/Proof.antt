@@ -1,5 +1,5 @@
--- `counter::jump` meets its contract. `to_u128` ensures the number that the block spells, `u128_add` so many more, and `from_u128` the block
--- that spells that, which is Ctr's counter so many blocks on (`ctr-jump-words`).
+-- `counter::jump` meets its contract. `to_u128` ensures the number that the block spells, `u128_add` so many more, and `from_u128` the
+-- block that spells that, which is Ctr's counter so many blocks on (`ctr-jump-words`).
 -- Assumes nothing.
 use mathlib.Core.Path.{ap, _∙_}
 use Prim.Native.Nat.{ℕ, _+_, _%_, _^_}
