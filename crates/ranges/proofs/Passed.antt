@@ -44,3 +44,9 @@ module _ (a : KeyAnswer) (retired : Bool) (dir : Direction) (iv offset n room : 
   pub has-room : reachCheck a retired dir iv (offset + n) ≡ Passed → n ≤ room → rangeCheck a retired dir iv offset n room ≡ Passed
   unfolding rangeCheck
   has-room e h = rw (e, le-ltb room n h)
+
+  pub range-reached : rangeCheck a retired dir iv offset n room ≡ Passed → iv ≡ 16
+  unfolding rangeCheck
+  range-reached e =
+      reach-passed a retired dir iv (offset + n)
+      (both (reachCheck a retired dir iv (offset + n)) (refuse (ltb room n) NoRoom Passed) e .0)
