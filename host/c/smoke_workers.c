@@ -257,7 +257,7 @@ static size_t full[WORKERS + 1];
 /* Uneven ones, and the ways to break a plan one by one. */
 static void hand_made(void)
 {
-    static const size_t uneven[] = {16, 160, 48, 5}, gap[] = {0, 16, 64}, empty[] = {16, 0, 16}, odd[] = {16, 15, 17};
+    static const size_t uneven[] = {16, 160, 48, 5}, empty[] = {16, 0, 16}, odd[] = {16, 15, 17};
     struct luossavin_plan p = following(uneven, 4);
     broken(&p, 229, "uneven pieces");
     p = following(uneven + 3, 1);
@@ -279,8 +279,10 @@ static void hand_made(void)
     p.count = 64;
     is_yes(&p, 64 * 16, "64 whole pieces");
     p = following(uneven, 3);
-    memcpy(p.starts, gap, sizeof gap);
-    is_no(&p, 224, "overlapping pieces");
+    p.starts[2] = 64;
+    is_no(&p, 112, "overlapping pieces");
+    p.starts[2] = 192;
+    is_no(&p, 240, "a gap between pieces");
     p = following(empty, 3);
     is_no(&p, 32, "an empty piece inside");
     p.count = 2;
