@@ -9,7 +9,7 @@ use native.Mathlib.Omega.{arith}
 use lib.Dec.{eqb, ltb}
 use lib.ListN.{length, drop}
 use Rattle.block.specs.Below.{AreBytes}
-use Rattle.walk.specs.Outcome.{Head, Outcome, keyed, refuse as refuseAs, done}
+use Rattle.walk.specs.Outcome.{Outcome, keyed, refuse as refuseAs, done}
 use Rattle.walk.specs.Walk.{chain}
 use Rattle.stream.specs.Stream.{streamMode}
 use Rattle.stream.specs.declared.Kind.the-variants.{Ctr as Ctr·kind}
@@ -17,7 +17,6 @@ use Rattle.cipher_mode.specs.declared.CipherMode.the-variants.{Ctr}
 use Rattle.cipher_mode.specs.declared.Direction.{Direction}
 use Rattle.cipher_mode.specs.declared.Sm4Cipher.{Sm4Cipher}
 use Rattle.cipher_mode.specs.declared.answer.Refusal.the-variants.{TooLong, NoRoom, WrongIv}
-use Rattle.cipher_mode.specs.declared.checks.Checked.{Checked}
 use Rattle.cipher_mode.specs.declared.checks.Checked.the-variants.{Passed}
 use Rattle.cipher_mode.specs.Tables.{limit}
 use Rattle.cipher_mode.specs.Key.{keyNumber}
@@ -44,7 +43,8 @@ use Rattle.demands.specs.Workers.{rangeRows, planRows, makeRows}
 use Rattle.demands.proofs.Through.{result-of-done, zero-passed}
 use Rattle.demands.proofs.CameRound.{quiet, on-key, behind as says-behind}
 use Rattle.demands.proofs.UniqueOutcomes.{one-report, one-host-answer}
-use Rattle.demands.proofs.WhichNumber.{orElse, first-append, behind, number-checked, number-front, number-refuse, number-then, from-key}
+use Rattle.demands.proofs.WhichNumber.{orElse, first-append, behind, from-key}
+use Rattle.demands.proofs.WhichNumber.{number-checked, number-front, number-refuse, number-then}
 
 -- key, IV, mark and the end of the stretch, n being what comes next
 reach-said : (k : LuossavinKey) (dir : Direction) (iv : List ℕ) (end : ℕ) (n : Said)
@@ -72,9 +72,11 @@ exported-range-number k decrypt iv offset d o =
     number-checked (rangeCheck (c .answer) (c .retired) dir (length iv) offset (length d) (length o)) o
     (done (stretch (c .rk) iv offset d) o)
     ∙ number-then (reachCheck (c .answer) (c .retired) dir (length iv) (offset + length d)) _ (only 0)
-    ∙ ap {B = Said} (behind (reachCheck (c .answer) (c .retired) dir (length iv) (offset + length d))) (number-refuse short NoRoom Passed (only 0))
+    ∙ ap {B = Said} (behind (reachCheck (c .answer) (c .retired) dir (length iv) (offset + length d)))
+        (number-refuse short NoRoom Passed (only 0))
     ∙ reach-said k dir iv (offset + length d) _
-    ∙ ap {B = Said} (λ (s : Said). orElse (keyRows k) (cond wrong (only 10) s)) (first-append (retiredRows dir k) (row long 5 ∷ row short 6 ∷ []))
+    ∙ ap {B = Said} (λ (s : Said). orElse (keyRows k) (cond wrong (only 10) s))
+        (first-append (retiredRows dir k) (row long 5 ∷ row short 6 ∷ []))
 
 -- Work by a plan the same, with the plan between the length and the room.
 pub exported-plan-number : (k : LuossavinKey) (decrypt : Bool) (iv : List ℕ) (plan : Plan) (d o : List ℕ)
@@ -98,14 +100,16 @@ exported-plan-number k decrypt iv plan d o =
 -- The planner says 17 for a count of workers outside 1 to 64, and then 5.
 made-said : (bad long : Bool) (x : Planned)
     → x .making ≡ Made
-    → saidIn (makingHead (cond bad (without BadWorkers) (cond long (without TooLong·made) x) .making)) ≡ firstOf (row bad 17 ∷ row long 5 ∷ [])
+    → saidIn (makingHead (cond bad (without BadWorkers) (cond long (without TooLong·made) x) .making))
+        ≡ firstOf (row bad 17 ∷ row long 5 ∷ [])
 made-said true long x e = refl
 made-said false true x e = refl
 made-said false false x e = rw e
 
 pub exported-make-number : (n workers : ℕ) → saidIn (hostPlanMake n workers .head) ≡ firstOf (makeRows n workers)
 unfolding hostPlanMake planned
-exported-make-number n workers = made-said (eqb workers 0 || ltb 64 workers) (ltb limit n) (record { making = Made; plan = planOf n workers }) refl
+exported-make-number n workers =
+    made-said (eqb workers 0 || ltb 64 workers) (ltb limit n) (record { making = Made; plan = planOf n workers }) refl
 
 -- Any two answers and outputs that the contracts allow coincide, and so do any two plans that are handed out.
 pub unique-exported-range : (k : LuossavinKey) (decrypt : Bool) (iv : List ℕ) (offset : ℕ) (d o : List ℕ)
@@ -116,10 +120,12 @@ pub unique-exported-by-plan : (k : LuossavinKey) (decrypt : Bool) (iv : List ℕ
     → OneReport (hostCtrByPlan k decrypt iv plan d o)
 unique-exported-by-plan k decrypt iv plan d o = one-report (hostCtrByPlan k decrypt iv plan d o)
 
-pub unique-exported-plan : (x : Handed) (r₁ r₂ : LuossavinPlanned) → plannedReported r₁ ≡ x → plannedReported r₂ ≡ x → r₁ ≡ r₂
+pub unique-exported-plan : (x : Handed) (r₁ r₂ : LuossavinPlanned)
+    → plannedReported r₁ ≡ x → plannedReported r₂ ≡ x → r₁ ≡ r₂
 unique-exported-plan x r₁ r₂ e₁ e₂ =
     let e = e₁ ∙ sym e₂ in
-    ap {B = LuossavinPlanned} (λ a. record { answer = a; plan = r₁ .plan }) (one-host-answer (r₁ .answer) (r₂ .answer) (ap (λ (h : Handed). h .head) e))
+    ap {B = LuossavinPlanned} (λ a. record { answer = a; plan = r₁ .plan })
+        (one-host-answer (r₁ .answer) (r₂ .answer) (ap (λ (h : Handed). h .head) e))
     ∙ ap {B = LuossavinPlanned} (λ (p : Plan). record { answer = r₂ .answer; plan = p }) (ap (λ (h : Handed). h .plan) e)
 
 -- Nothing is said of a counter.
@@ -133,7 +139,8 @@ unfolding hostCtrRange rangeCall
 exported-range-says k decrypt iv offset d o =
     let c = cipherIn k in
     on-key false (keyNumber c) _
-    (says-behind false (rangeCheck (c .answer) (c .retired) (directionOf decrypt) (length iv) offset (length d) (length o)) o _ (quiet _ refl))
+    (says-behind false (rangeCheck (c .answer) (c .retired) (directionOf decrypt) (length iv) offset (length d) (length o)) o _
+        (quiet _ refl))
 
 pub exported-plan-says : (k : LuossavinKey) (decrypt : Bool) (iv : List ℕ) (plan : Plan) (d o : List ℕ)
     → Says false (hostCtrByPlan k decrypt iv plan d o .head)

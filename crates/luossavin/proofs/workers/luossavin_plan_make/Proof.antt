@@ -1,8 +1,7 @@
 -- `luossavin::workers::luossavin_plan_make` meets its contract: it hands on the planner's answer and its plan.
 -- Assumes nothing.
-use mathlib.Core.Path.{ap, ap₂, _∙_}
+use mathlib.Core.Path.{ap, _∙_}
 use Rattle.walk.specs.Outcome.{Head}
-use Rattle.ranges.specs.declared.plan.Plan.{Plan}
 use Rattle.ranges.specs.declared.plan.Planned.{Planned}
 use Rattle.luossavin.specs.Ranges.{Handed, makingHead, hostPlanMake}
 use borrow.Author.Needs.{needs}

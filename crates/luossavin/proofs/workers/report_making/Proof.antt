@@ -2,7 +2,6 @@
 -- Assumes nothing.
 use mathlib.Core.Path.{sym, ap, _∙_}
 use Rattle.walk.specs.Outcome.{Head}
-use Rattle.ranges.specs.declared.plan.Making.{Making}
 use Rattle.luossavin.specs.Ranges.{makingHead}
 use borrow.Author.Needs.{needs}
 use Rattle.luossavin.proofs.workers.report_making.Statement.{statement}
