@@ -73,10 +73,10 @@ exported-range-number k decrypt iv offset d o =
     (done (stretch (c .rk) iv offset d) o)
     ∙ number-then (reachCheck (c .answer) (c .retired) dir (length iv) (offset + length d)) _ (only 0)
     ∙ ap {B = Said} (behind (reachCheck (c .answer) (c .retired) dir (length iv) (offset + length d)))
-        (number-refuse short NoRoom Passed (only 0))
+    (number-refuse short NoRoom Passed (only 0))
     ∙ reach-said k dir iv (offset + length d) _
     ∙ ap {B = Said} (λ (s : Said). orElse (keyRows k) (cond wrong (only 10) s))
-        (first-append (retiredRows dir k) (row long 5 ∷ row short 6 ∷ []))
+    (first-append (retiredRows dir k) (row long 5 ∷ row short 6 ∷ []))
 
 -- Work by a plan the same, with the plan between the length and the room.
 pub exported-plan-number : (k : LuossavinKey) (decrypt : Bool) (iv : List ℕ) (plan : Plan) (d o : List ℕ)
@@ -101,7 +101,7 @@ exported-plan-number k decrypt iv plan d o =
 made-said : (bad long : Bool) (x : Planned)
     → x .making ≡ Made
     → saidIn (makingHead (cond bad (without BadWorkers) (cond long (without TooLong·made) x) .making))
-        ≡ firstOf (row bad 17 ∷ row long 5 ∷ [])
+    ≡ firstOf (row bad 17 ∷ row long 5 ∷ [])
 made-said true long x e = refl
 made-said false true x e = refl
 made-said false false x e = rw e
@@ -125,7 +125,7 @@ pub unique-exported-plan : (x : Handed) (r₁ r₂ : LuossavinPlanned)
 unique-exported-plan x r₁ r₂ e₁ e₂ =
     let e = e₁ ∙ sym e₂ in
     ap {B = LuossavinPlanned} (λ a. record { answer = a; plan = r₁ .plan })
-        (one-host-answer (r₁ .answer) (r₂ .answer) (ap (λ (h : Handed). h .head) e))
+    (one-host-answer (r₁ .answer) (r₂ .answer) (ap (λ (h : Handed). h .head) e))
     ∙ ap {B = LuossavinPlanned} (λ (p : Plan). record { answer = r₂ .answer; plan = p }) (ap (λ (h : Handed). h .plan) e)
 
 -- Nothing is said of a counter.
@@ -140,7 +140,7 @@ exported-range-says k decrypt iv offset d o =
     let c = cipherIn k in
     on-key false (keyNumber c) _
     (says-behind false (rangeCheck (c .answer) (c .retired) (directionOf decrypt) (length iv) offset (length d) (length o)) o _
-        (quiet _ refl))
+    (quiet _ refl))
 
 pub exported-plan-says : (k : LuossavinKey) (decrypt : Bool) (iv : List ℕ) (plan : Plan) (d o : List ℕ)
     → Says false (hostCtrByPlan k decrypt iv plan d o .head)
