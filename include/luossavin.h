@@ -32,12 +32,15 @@
  *  14  Retired         encryption under a retired key
  *  15  InvalidPadding  Cbc decryption: the last decrypted byte p is 1 to 16, and not all p last bytes are p
  *  16  BadList         more than 64 candidate labels, or lengths that do not add up to the labels' buffer
+ *  17  BadWorkers      a plan for no workers, or for more than 64
+ *  18  NotAccepted     work by a plan that is none for so many bytes
  *
  * Where several apply, the first of the call's order is the answer: of setting up a key 1, 13, which the calls
  * on that record then answer again where it stands in theirs; of a single block 1, 13, 11, 14, 6; of a message
  * 7, 1, 13, 10, 14, 5, then in Cbc 8, 2 or in Gcm 9, then 6, then in Cbc 3, 15 or in Gcm 4; of a message in
  * pieces 1, 13, 10, 14, 5 at the start, and from there on what the start was refused with, then 12, 5, 9, 6, 4;
- * of the question which label a file opens under 16, 1, 13, 10, 5, 9.
+ * of the question which label a file opens under 16, 1, 13, 10, 5, 9; of making a plan 17, 5; of a range 1, 13,
+ * 10, 14, 5, 6; and of work by a plan 1, 13, 10, 14, 5, 18, 6.
  * Every number but 0 is a refusal: it reports length 0 and changes no byte of the output buffer.
  *
  * In refusal 9 `missing` is how many bytes were missing: 16 - n for n bytes of data, or for a tag of n bytes,
@@ -45,7 +48,7 @@
  * answer, done or refused, it is 0.
  *
  * `key` is the number of the key that the call was on, whether it is done or refused; 0 where no key stands,
- * which is in refusals 7, 16, 1 and 13.
+ * which is in refusals 7, 16, 1 and 13, and in every answer of making a plan, which is on no key.
  *
  * `came_round` is 1 where a counter came round within the message, from all ones to zero, and 0 otherwise; what
  * that means and what to do then is said below.
@@ -89,7 +92,7 @@
  * It is no refusal. The work is done all the same, either way, and bytes and length are what they would be without
  * the report. Only luossavin_encrypt and luossavin_decrypt in modes 2 and 4 can say 1, and in pieces the three
  * ends, of the whole message; they do so with number 0 alone. Every refusal says 0, 4 among them, and so do the
- * other modes, single blocks, starts, pieces, and luossavin_which.
+ * other modes, single blocks, starts, pieces, luossavin_which, plans, ranges and work by a plan.
  *
  * Within one message no counter is used twice, come round or not: the limits are far below that. But behind all
  * ones its counters start again at zero, where those of another message may stand: the second block under a Ctr IV
@@ -99,7 +102,8 @@
  * file's. To decrypt there is nothing to do: the text is right.
  *
  * A message may also come in pieces, in Ctr and Gcm: what holds for these is said where they are declared.
- * There it is also said how to ask which of up to 64 labels a Gcm message opens under.
+ * There it is also said how to ask which of up to 64 labels a Gcm message opens under, and how several workers
+ * share one Ctr message.
  *
  * What no proof can see stays the host's duty, and a call that breaks it has no defined outcome:
  *
@@ -462,6 +466,80 @@ struct luossavin_found {
 struct luossavin_found luossavin_which(struct luossavin_key key, const uint8_t *sealed, size_t sealed_len,
     const uint8_t *iv, size_t iv_len, const uint8_t *labels, size_t labels_len,
     const size_t *lengths, size_t count);
+
+/* One Ctr message among several workers.
+ *
+ * Ctr can start at any byte. A range is a stretch of a message, so many bytes from an offset on: its output is that
+ * stretch of what the single call makes of the whole message, whatever is before and after it, and offset 0 with all
+ * of the data is the single call. Ranges of one message may be done in any order, and at the same time: the library
+ * shares nothing between calls, so each worker, a thread of its own too, may be on its own part of one data and one
+ * output buffer, as long as no two of the parts written overlap.
+ *
+ * A plan says who does what. Piece i is the `lengths[i]` bytes from `starts[i]` on, for i from 0 to `count` less 1.
+ * A file of n bytes among four workers:
+ *
+ *     struct luossavin_planned p = luossavin_plan_make(n, 4);
+ *     for (size_t i = 0; i < p.plan.count; i++) {
+ *         start_worker(i);
+ *     }
+ *
+ * and worker i, with p.plan.starts[i] as start and p.plan.lengths[i] as length:
+ *
+ *     a = luossavin_ctr_range(key, false, iv, 16, start, data + start, length, out + start, length);
+ *
+ * A plan is accepted for n bytes exactly when all of these hold, and there is an answer for every plan and every n:
+ *
+ *   - it has at most 64 pieces; none exactly when n is 0;
+ *   - the first starts at 0, each starts where the one before ends, and the last ends at n. No sum comes round here:
+ *     two lengths of 2^63 do not end at 0;
+ *   - no piece is empty, and each length but the last divides by 16.
+ *
+ * Entries from `count` on are not looked at. A host may make a plan itself, with pieces as uneven as it likes. The
+ * planner's has pieces of 16 x (b / workers, rounded up) bytes for b blocks, the last one of what is left; that may
+ * be fewer pieces than workers, and never more. It is accepted, entries from `count` on are 0, and a refusal has
+ * zeros throughout.
+ *
+ * Any plan that is accepted gives the single call's bytes. For n bytes of data:
+ *
+ *                        room needed   length when done
+ *   making a plan        none          0
+ *   a range              n             n
+ *   work by a plan       n             n
+ *
+ * None of these says that a counter came round: a range does not know the message's end, and work by a plan keeps to
+ * what its ranges say. The bytes are right there all the same. Whoever is to know asks the single call, or works it
+ * out by the formula above. That ranges of one message are given one key and one IV, and no two texts the same
+ * stretch of these, is the host's to see to: two texts at one offset use one key stream twice. */
+struct luossavin_plan {
+    size_t count;
+    size_t starts[64];
+    size_t lengths[64];
+};
+
+/* A plan beside the answer of its making. */
+struct luossavin_planned {
+    struct luossavin_answer answer;
+    struct luossavin_plan plan;
+};
+
+/* A plan of n bytes for 1 to 64 workers. It answers 0; 17 for another number of workers; or 5 where n is over
+ * 16,777,216. Its key's number and length are 0. */
+struct luossavin_planned luossavin_plan_make(size_t n, size_t workers);
+
+/* Whether a plan is accepted for n bytes. It has no refusals, and n no limit. */
+bool luossavin_plan_accepts(struct luossavin_plan plan, size_t n);
+
+/* Ctr of `data`, which stands at `offset` of its message, under the message's IV of 16 bytes. Encryption and
+ * decryption give the same bytes; a retired key decrypts alone. It answers 0, 1, 13, 10, 14 for encryption, 5 where
+ * the range ends behind byte 16,777,216, or 6. The sum does not come round: an offset may be 2^64 - 1, which is 5
+ * whatever the length, and nothing at offset 16,777,216 is done. */
+struct luossavin_answer luossavin_ctr_range(struct luossavin_key key, bool decrypt, const uint8_t *iv, size_t iv_len,
+    size_t offset, const uint8_t *data, size_t data_len, uint8_t *out, size_t room);
+
+/* Ctr of a whole message, range by range as a plan has it. It answers 0, 1, 13, 10, 14 for encryption, 5, 18 where
+ * the plan is not accepted for data_len bytes, or 6. */
+struct luossavin_answer luossavin_ctr_by_plan(struct luossavin_key key, bool decrypt, const uint8_t *iv, size_t iv_len,
+    struct luossavin_plan plan, const uint8_t *data, size_t data_len, uint8_t *out, size_t room);
 
 #ifdef __cplusplus
 }

@@ -32,6 +32,15 @@ struct luossavin_found call_search(const struct search *s, struct luossavin_key 
     return luossavin_which(key, file, s->file, iv, s->iv, s->labels, s->labels_len, s->lengths, s->count);
 }
 
+struct luossavin_answer call_stretch(const struct stretch *s, struct luossavin_key key, const uint8_t *iv,
+    const uint8_t *data, uint8_t *out)
+{
+    if (s->plan != NULL) {
+        return luossavin_ctr_by_plan(key, s->decrypt, iv, s->iv, *s->plan, data, s->data, out, s->room);
+    }
+    return luossavin_ctr_range(key, s->decrypt, iv, s->iv, s->offset, data, s->data, out, s->room);
+}
+
 struct luossavin_answer call_start(enum kind kind, struct state *s, const struct given *g)
 {
     memset(s, 0, sizeof *s);

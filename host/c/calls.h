@@ -1,5 +1,6 @@
 /* The library's calls as the rules see them, for the tests: those on blocks and whole messages behind one shape, and
- * the three kinds of messages in pieces behind another; and the question which label a file opens under. */
+ * the three kinds of messages in pieces behind another; the question which label a file opens under; and ranges and
+ * work by a plan. */
 #ifndef CALLS_H
 #define CALLS_H
 
@@ -16,6 +17,10 @@ void seal_blocks(struct luossavin_key key, const uint8_t *iv, const uint8_t *tex
 /* The question of `s`, which has the lengths and the candidates, on a record. */
 struct luossavin_found call_search(const struct search *s, struct luossavin_key key, const uint8_t *file,
     const uint8_t *iv);
+
+/* The range of `s`, or the work by its plan, on a record. */
+struct luossavin_answer call_stretch(const struct stretch *s, struct luossavin_key key, const uint8_t *iv,
+    const uint8_t *data, uint8_t *out);
 
 /* In pieces, a call puts the next state in the place of the one before. */
 

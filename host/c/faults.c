@@ -450,6 +450,7 @@ static void all(int with_limits)
     keys();
     pieces(with_limits);
     which(with_limits);
+    workers(with_limits);
 }
 
 int main(int argc, char **argv)

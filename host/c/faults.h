@@ -1,5 +1,5 @@
-/* What the files of the program `faults` share: single calls, keys, messages in pieces, and which label a file opens
- * under. */
+/* What the files of the program `faults` share: single calls, keys, messages in pieces, which label a file opens
+ * under, and ranges and plans for several workers. */
 #ifndef FAULTS_H
 #define FAULTS_H
 
@@ -46,9 +46,11 @@ void take_back(struct beside b);
  * allow it, one that was sealed, whether or not the record of the call could seal it. */
 struct buffer message(const struct whole *w, struct beside b);
 
-/* Keys; messages in pieces, and which label a file opens under, with or without those at the limits. */
+/* Keys; messages in pieces, which label a file opens under, and ranges and plans, with or without those at the
+ * limits. */
 void keys(void);
 void pieces(int with_limits);
 void which(int with_limits);
+void workers(int with_limits);
 
 #endif

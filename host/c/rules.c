@@ -302,6 +302,62 @@ struct luossavin_found answer_to_search(const struct search *s)
     return due;
 }
 
+/* Ranges and plans. */
+
+int is_accepted(const struct luossavin_plan *plan, size_t n)
+{
+    /* wide enough for any sum of a start and a length */
+    unsigned __int128 end = 0;
+    if (plan->count > WORKERS || (plan->count == 0) != (n == 0)) {
+        return 0;
+    }
+    for (size_t i = 0; i < plan->count; i++) {
+        if (plan->starts[i] != end || plan->lengths[i] == 0 || (i + 1 < plan->count && plan->lengths[i] % 16 != 0)) {
+            return 0;
+        }
+        end = (unsigned __int128)plan->starts[i] + plan->lengths[i];
+    }
+    return end == n;
+}
+
+struct luossavin_planned answer_to_planner(size_t n, size_t workers)
+{
+    const struct row rows[] = {
+        {workers < 1 || workers > WORKERS, 17},
+        {n > LIMIT, 5},
+    };
+    struct luossavin_planned due = {.answer = {.number = FIRST_OF(rows)}};
+    size_t blocks, size;
+    if (due.answer.number != 0 || n == 0) {
+        return due;
+    }
+    blocks = (n + 15) / 16;
+    size = 16 * ((blocks + workers - 1) / workers);
+    due.plan.count = (n + size - 1) / size;
+    for (size_t i = 0; i < due.plan.count; i++) {
+        due.plan.starts[i] = i * size;
+        due.plan.lengths[i] = i + 1 < due.plan.count ? size : n - i * size;
+    }
+    return due;
+}
+
+struct luossavin_answer answer_to_stretch(const struct stretch *s)
+{
+    const struct row rows[] = {
+        {refused_as(s->key) == 1, 1},
+        {refused_as(s->key) == 13, 13},
+        {!takes_iv(CTR, s->iv), 10},
+        {!s->decrypt && s->key.retired != 0, 14},
+        {s->offset > LIMIT || s->data > LIMIT - s->offset, 5},
+        {s->plan != NULL && !is_accepted(s->plan, s->data), 18},
+        {s->room < s->data, 6},
+    };
+    struct luossavin_answer due = {.number = FIRST_OF(rows)};
+    due.key = number_in(due.number, s->key);
+    due.length = due.number == 0 ? s->data : 0;
+    return due;
+}
+
 const char *difference(struct luossavin_answer got, struct luossavin_answer due)
 {
     return got.number != due.number         ? "its number"
@@ -321,4 +377,14 @@ const char *difference_found(struct luossavin_found got, struct luossavin_found 
         : got.start != due.start   ? "its start"
         : got.length != due.length ? "its label's length"
                                    : NULL;
+}
+
+const char *difference_planned(const struct luossavin_planned *got, const struct luossavin_planned *due)
+{
+    const char *what = difference(got->answer, due->answer);
+    return what != NULL                                                               ? what
+        : got->plan.count != due->plan.count                                          ? "how many pieces it has"
+        : memcmp(got->plan.starts, due->plan.starts, sizeof due->plan.starts) != 0    ? "where its pieces start"
+        : memcmp(got->plan.lengths, due->plan.lengths, sizeof due->plan.lengths) != 0 ? "its pieces' lengths"
+                                                                                      : NULL;
 }

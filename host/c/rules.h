@@ -8,7 +8,7 @@
 #include "luossavin.h"
 
 /* The most bytes of a text or a label, the most labels of a question, and how many numbers there are. */
-enum { LIMIT = 16777216, CANDIDATES = 64, NUMBERS = 17 };
+enum { LIMIT = 16777216, CANDIDATES = 64, NUMBERS = 19 };
 enum { CFB, OFB, CTR, CBC, GCM };
 enum { ENCRYPT, DECRYPT };
 
@@ -80,8 +80,25 @@ struct search {
 
 struct luossavin_found answer_to_search(const struct search *s);
 
+/* A range of Ctr, at an offset; or, where there is a plan, work by it. */
+struct stretch {
+    struct holder key;
+    int decrypt;
+    size_t iv, offset;
+    const struct luossavin_plan *plan;
+    size_t data, room;
+};
+
+struct luossavin_answer answer_to_stretch(const struct stretch *s);
+
+/* The plan that is made, and whether one is accepted. */
+enum { WORKERS = 64 };
+struct luossavin_planned answer_to_planner(size_t n, size_t workers);
+int is_accepted(const struct luossavin_plan *plan, size_t n);
+
 /* What an answer has otherwise than the one that is due; NULL where they are the same. */
 const char *difference(struct luossavin_answer got, struct luossavin_answer due);
 const char *difference_found(struct luossavin_found got, struct luossavin_found due);
+const char *difference_planned(const struct luossavin_planned *got, const struct luossavin_planned *due);
 
 #endif

@@ -1,5 +1,5 @@
 /* What the files of the smoke test share: single calls, Cbc's padding, keys, messages in pieces, the question which
- * label a file opens under, and counters that come round. */
+ * label a file opens under, counters that come round, and ranges and plans for several workers. */
 #ifndef SMOKE_H
 #define SMOKE_H
 
@@ -67,5 +67,8 @@ void which(void);
 
 /* Counters that come round. */
 void rounds(void);
+
+/* Ranges, plans and work by a plan. */
+void workers(void);
 
 #endif

@@ -4,11 +4,11 @@ use mathlib.Core.Path.{_≡_, ap, sym, _∙_}
 use mathlib.Core.Logic.{_↔_}
 use Prim.Native.Nat.{ℕ, _+_, _-_, _*_, _%_, _^_, _<_}
 use mathlib.Core.List.{List, _++_}
-use native.Mathlib.Nat.{mod-eq-of-lt, add-zero}
+use native.Mathlib.Nat.{mod-eq-of-lt}
 use native.Mathlib.Omega.{arith}
 use lib.ListN.{length, take, drop, length-drop, take-append-drop}
 use lib.Seq.{length-take-le, take-at}
-use lib.Dec.{lit<}
+use lib.Dec.{lit<, lit≤}
 use Rattle.block.specs.Below.{AreBytes}
 use Rattle.block.specs.BigEndian.{numberOf, bytesOf}
 use Rattle.block.proofs.Entries.{below-take, below-drop}
@@ -41,7 +41,10 @@ module _ (c : List ℕ) (n : length c ≡ 16) (b : AreBytes c) where
       let l = numberOf (drop 12 c) in
       let w : l + 1 ≡ 2 ^ 32 = omega arith in
       let k = (h + 1) % 2 ^ 96 in
-      let x : (numberOf c + 1) % 2 ^ 128 ≡ k * 2 ^ 32 + 0 = rw (in-parts, add-zero) (carried (2 ^ 96) (2 ^ 32) h l (lit< tt) (lit< tt) w) in
+      let zero : l + 1 - 2 ^ 32 ≡ 0 = omega arith in
+      let x : (numberOf c + 1) % 2 ^ 128 ≡ k * 2 ^ 32 + 0 =
+      rw in-parts
+      (carried (2 ^ 96) (2 ^ 32) h l 1 (lit< tt) (omega arith) (lit≤ tt) (omega arith) ∙ ap (λ (r : ℕ). k * 2 ^ 32 + r) zero) in
       let y : ctrNext c ≡ bytesOf 12 k ++ bytesOf 4 0 = ap (bytesOf 16) x ∙ bytesOf-append 12 4 k 0 (lit< tt) in
       let z : bytesOf 12 k ≡ take 12 c =
       sym (take-at (bytesOf 12 k) (bytesOf 4 0) 12 (length-bytesOf 12 k))
@@ -56,7 +59,7 @@ module _ (c : List ℕ) (n : length c ≡ 16) (b : AreBytes c) where
       let l = numberOf (drop 12 c) in
       let m : l + 1 < 2 ^ 32 = omega (arith, f, low-lt) in
       let t : bytesOf 12 h ≡ take 12 c = rw (length-take-le 12 c (omega arith)) at (bytesOf-numberOf (take 12 c) (below-take 256 12 c b)) in
-      let x : (numberOf c + 1) % 2 ^ 128 ≡ h * 2 ^ 32 + (l + 1) = rw in-parts (kept (2 ^ 96) (2 ^ 32) h l high-lt m) in
+      let x : (numberOf c + 1) % 2 ^ 128 ≡ h * 2 ^ 32 + (l + 1) = rw in-parts (kept (2 ^ 96) (2 ^ 32) h l 1 high-lt m) in
       rw (x, bytesOf-append 12 4 h (l + 1) m, t, mod-eq-of-lt m)
 
   pub steps-agree : (ctrNext c ≡ gcmNext c) ↔ (numberOf (drop 12 c) ≡ 2 ^ 32 - 1 → ⊥)

@@ -1,15 +1,22 @@
--- One more than a number in two parts: either the low part wraps and the high one counts, or the low part counts alone.
+-- More than a number in two parts, where what is added is no more than the low part can be: either the low part wraps and the high one
+-- counts, or the low part counts alone.
 -- Assumes nothing.
-use mathlib.Core.Path.{_≡_}
-use Prim.Native.Nat.{ℕ, _+_, _*_, _%_, _<_}
-use native.Mathlib.Nat.{add-assoc, add-mul, one-mul, mul-div-cancel, mul-mod-left, mod-eq-of-lt, add-zero}
-use lib.Arith.{mod-mul, digits-lt}
+use mathlib.Core.Path.{_≡_, ap, _∙_}
+use Prim.Native.Nat.{ℕ, _+_, _-_, _*_, _%_, _≤_, _<_}
+use native.Mathlib.Nat.{add-assoc, add-mul, one-mul, mod-eq-of-lt}
+use native.Mathlib.Omega.{arith}
+use lib.Arith.{mod-mul, digits-lt, digits-div, digits-mod}
 
 -- high below A, low below B
-pub carried : (A B high low : ℕ) → 0 < A → 0 < B → low + 1 ≡ B → (high * B + low + 1) % (A * B) ≡ (high + 1) % A * B
-carried A B high low p q e =
-    let f : high * B + low + 1 ≡ (high + 1) * B = rw (add-assoc, e, add-mul high 1 B, one-mul) in
-    rw (f, mod-mul ((high + 1) * B) p q, mul-div-cancel (high + 1) q, mul-mod-left, add-zero)
+pub carried : (A B high low k : ℕ) → 0 < A → low < B → k ≤ B → B ≤ low + k
+    → (high * B + low + k) % (A * B) ≡ (high + 1) % A * B + (low + k - B)
+carried A B high low k p l h e =
+    let r = low + k - B in
+    let small : r < B = omega arith in
+    let one : (high + 1) * B ≡ high * B + B = add-mul high 1 B ∙ ap (λ (x : ℕ). high * B + x) (one-mul B) in
+    let f : high * B + low + k ≡ (high + 1) * B + r = omega arith in
+    let q : 0 < B = omega arith in
+    rw (f, mod-mul ((high + 1) * B + r) p q, digits-div (high + 1) small, digits-mod (high + 1) small)
 
-pub kept : (A B high low : ℕ) → high < A → low + 1 < B → (high * B + low + 1) % (A * B) ≡ high * B + (low + 1)
-kept A B high low h l = rw (add-assoc, mod-eq-of-lt (digits-lt h l))
+pub kept : (A B high low k : ℕ) → high < A → low + k < B → (high * B + low + k) % (A * B) ≡ high * B + (low + k)
+kept A B high low k h l = rw (add-assoc, mod-eq-of-lt (digits-lt h l))

@@ -5,3 +5,4 @@ pub mod Agree
 pub mod Formula
 pub mod StepsTell
 pub mod Edges
+pub mod JumpSteps

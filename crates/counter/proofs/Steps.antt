@@ -12,14 +12,20 @@ use Rattle.block.specs.Wide.{whole}
 use Rattle.block.specs.Words.{words, unwords}
 use Rattle.block.proofs.Convert.{numberOf-bytesOf, numberOf-lt}
 use Rattle.block.proofs.WordsBack.{unwords-number, unwords-bytes, length-unwords}
-use Rattle.counter.specs.Counter.{lastFour, ctrNext, ctrPasses, gcmNext, gcmPasses}
+use Rattle.counter.specs.Counter.{lastFour, ctrJump, ctrNext, ctrPasses, gcmNext, gcmPasses}
 use Rattle.counter.proofs.Round.{zero-tells, no-bit}
 
--- Ctr's step over the number of four words
+-- Ctr's counter k blocks on, over the number of four words
+pub ctr-jump-words : (x r : List ℕ) (k m : ℕ) → m ≡ (numberOf (unwords x) + k) % 2 ^ 128 → r ≡ words (bytesOf 16 m)
+    → unwords r ≡ ctrJump (unwords x) k
+unfolding ctrJump
+ctr-jump-words x r k m e f = unwords-number r m f ∙ ap (bytesOf 16) e
+
+-- and its step, which is one block on
 pub ctr-words : (x r : List ℕ) (m : ℕ) → m ≡ (numberOf (unwords x) + 1) % 2 ^ 128 → r ≡ words (bytesOf 16 m)
     → unwords r ≡ ctrNext (unwords x)
-unfolding ctrNext
-ctr-words x r m e f = unwords-number r m f ∙ ap (bytesOf 16) e
+unfolding ctrNext ctrJump
+ctr-words x r m e f = ctr-jump-words x r 1 m e f
 
 pub ctr-words-pass : (x : List ℕ) (high low : ℕ) → whole high low ≡ (numberOf (unwords x) + 1) % 2 ^ 128
     → eqb (bitOr high low) 0 ≡ ctrPasses (unwords x)

@@ -10,6 +10,10 @@ use Rattle.block.specs.BigEndian.{numberOf, bytesOf}
 unfoldable pub ctrNext : List ℕ → List ℕ
 ctrNext c = bytesOf 16 ((numberOf c + 1) % 2 ^ 128)
 
+-- Ctr's counter k blocks on: k more over all sixteen bytes
+unfoldable pub ctrJump : List ℕ → ℕ → List ℕ
+ctrJump c k = bytesOf 16 ((numberOf c + k) % 2 ^ 128)
+
 -- GCM: one more in the last four bytes, ff ff ff ff followed by 00 00 00 00; the first twelve are kept
 unfoldable pub gcmNext : List ℕ → List ℕ
 gcmNext c = take 12 c ++ bytesOf 4 ((numberOf (drop 12 c) + 1) % 2 ^ 32)

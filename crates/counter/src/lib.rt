@@ -4,7 +4,7 @@ ghost use mathlib.Core.Path.{_≡_};
 ghost use Prim.Native.Nat.{_+_, _%_, _^_};
 ghost use Rattle.block.specs.Wide.{value};
 ghost use Rattle.block.specs.Words.{unwords};
-ghost use Rattle.counter.specs.Counter.{ctrNext, ctrPasses, gcmNext, gcmPasses};
+ghost use Rattle.counter.specs.Counter.{ctrJump, ctrNext, ctrPasses, gcmNext, gcmPasses};
 ghost use Rattle.counter.specs.CameRound.{blocksOf, ctrCameRound, gcmCameRound};
 
 // The next counter, and whether the step to it passed from all ones to zero.
@@ -13,12 +13,12 @@ pub struct Next {
     pub came_round: bool,
 }
 
-// One more, with a carry from the low half to the high one.
-fn u128_add_one(n: block::U128) -> block::U128
-    ensures { λ r. ⌜ value r ≡ (value n + 1) % 2 ^ 128 ⌝ }
+// So many more, with a carry from the low half to the high one.
+fn u128_add(n: block::U128, k: u64) -> block::U128
+    ensures { λ r. ⌜ value r ≡ (value n + k) % 2 ^ 128 ⌝ }
 {
-    let low = std::num::wrapping_add_u64(n.low, 1);
-    if low == 0 {
+    let low = std::num::wrapping_add_u64(n.low, k);
+    if low < k {
         return block::U128 {
             high: std::num::wrapping_add_u64(n.high, 1),
             low,
@@ -32,11 +32,18 @@ pub fn block_add_one(a: [u32; 4]) -> Next
     ensures { λ r. ⌜ unwords (r .counter) ≡ ctrNext (unwords a) ⌝ }
     ensures { λ r. ⌜ r .«came_round» ≡ ctrPasses (unwords a) ⌝ }
 {
-    let sum = u128_add_one(block::to_u128(a));
+    let sum = u128_add(block::to_u128(a), 1);
     Next {
         counter: block::from_u128(sum),
         came_round: sum.high | sum.low == 0,
     }
+}
+
+// Ctr's counter so many blocks on, without a step for each.
+pub fn jump(a: [u32; 4], blocks: u64) -> [u32; 4]
+    ensures { λ r. ⌜ unwords r ≡ ctrJump (unwords a) blocks ⌝ }
+{
+    block::from_u128(u128_add(block::to_u128(a), blocks))
 }
 
 // GCM's next counter: the last four bytes count, the first twelve are kept. The four are zero exactly where they came round.

@@ -61,13 +61,13 @@ use Rattle.demands.specs.CameRound.{roundOf, Says}
 use Rattle.demands.proofs.Through.{through}
 
 -- what says nothing of a counter says no
-quiet : (h : Head) → h .cameRound ≡ 0 → Says false h
+pub quiet : (h : Head) → h .cameRound ≡ 0 → Says false h
 quiet h e = record { done = λ _. e; refused = λ _. e }
 
 refusal-says : (r : Refusal) (b : Bool) → Says b (refusalHead r)
 refusal-says r b = record { done = λ e. absurd (refuses r .not-zero e); refused = λ _. refuses r .no-round }
 
-on-key : (b : Bool) (k : ℕ) (h : Head) → Says b h → Says b (under k h)
+pub on-key : (b : Bool) (k : ℕ) (h : Head) → Says b h → Says b (under k h)
 on-key b k h s = record { done = s .done; refused = s .refused }
 
 done-says : (b : Bool) (n : ℕ) → Says b (telling b (finished n))
@@ -81,7 +81,7 @@ reports b x =
     }
 
 -- behind a check, and behind a refusal by number 7
-behind : (b : Bool) (k : Checked) (o : List ℕ) (next : Outcome) → Says b (next .head) → Says b (checked k o next .head)
+pub behind : (b : Bool) (k : Checked) (o : List ℕ) (next : Outcome) → Says b (next .head) → Says b (checked k o next .head)
 behind b Passed o next s = s
 behind b (Refused r) o next s = refusal-says r b
 

@@ -24,6 +24,7 @@ pub mod OneBlockRefused
 pub mod ZeroKey
 pub mod OtherEdition
 pub mod Which
+pub mod Workers
 pub mod TrailingZero
 -- the worked table and the imposters
 pub mod Worked

@@ -39,7 +39,7 @@ refused-as k n o x e =
       bytes = ap (λ (y : Outcome). y .bytes) e;
     }
 
-zero-passed : (k : Checked) (o : List ℕ) (next : Outcome) → checked k o next .head .number ≡ 0 → k ≡ Passed
+pub zero-passed : (k : Checked) (o : List ℕ) (next : Outcome) → checked k o next .head .number ≡ 0 → k ≡ Passed
 zero-passed Passed o next e = refl
 zero-passed (Refused r) o next e = absurd (refuses r .not-zero e)
 

@@ -92,7 +92,7 @@ one-answer a₁ a₂ e =
     ∙ ap {B = Answer} (λ (b : Bool). record { ending = a₂ .ending; «came_round» = b; key = a₂ .key }) round
 
 -- and two of a host's are
-one-host-answer : (a₁ a₂ : LuossavinAnswer) → headIn a₁ ≡ headIn a₂ → a₁ ≡ a₂
+pub one-host-answer : (a₁ a₂ : LuossavinAnswer) → headIn a₁ ≡ headIn a₂ → a₁ ≡ a₂
 one-host-answer a₁ a₂ e =
     ap (λ (h : Head). record {
       number = h .number;
@@ -107,7 +107,7 @@ one x a₁ a₂ o₁ o₂ e₁ e₂ =
     let e : outcome a₁ o₁ ≡ outcome a₂ o₂ = e₁ ∙ sym e₂ in
     (one-answer a₁ a₂ (ap (λ (y : Outcome). y .head) e), ap (λ (y : Outcome). y .bytes) e)
 
-one-report : (x : Outcome) → OneReport x
+pub one-report : (x : Outcome) → OneReport x
 one-report x a₁ a₂ o₁ o₂ e₁ e₂ =
     let e : reported a₁ o₁ ≡ reported a₂ o₂ = e₁ ∙ sym e₂ in
     (one-host-answer a₁ a₂ (ap (λ (y : Outcome). y .head) e), ap (λ (y : Outcome). y .bytes) e)

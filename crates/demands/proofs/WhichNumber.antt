@@ -66,7 +66,7 @@ unfoldable pub behind : Checked → Said → Said
 behind Passed s = s
 behind (Refused r) s = saidIn (refusalHead r)
 
-number-checked : (k : Checked) (o : List ℕ) (next : Outcome) → saidIn (checked k o next .head) ≡ behind k (saidIn (next .head))
+pub number-checked : (k : Checked) (o : List ℕ) (next : Outcome) → saidIn (checked k o next .head) ≡ behind k (saidIn (next .head))
 unfolding behind
 number-checked Passed o next = refl
 number-checked (Refused r) o next = refl
@@ -81,7 +81,7 @@ unfolding behind
 number-then Passed b n = refl
 number-then (Refused r) b n = refl
 
-number-front : (t : Bool) (k : ℕ) (o : List ℕ) (x : Outcome) → saidIn (refuseAs t k o x .head) ≡ cond t (only k) (saidIn (x .head))
+pub number-front : (t : Bool) (k : ℕ) (o : List ℕ) (x : Outcome) → saidIn (refuseAs t k o x .head) ≡ cond t (only k) (saidIn (x .head))
 number-front true k o x = refl
 number-front false k o x = refl
 

@@ -17,6 +17,7 @@ pub mod InPieces
 pub mod OneBlockRefused
 pub mod OtherEdition
 pub mod Which
+pub mod Workers
 pub mod TrailingZero
 -- the worked table and the imposters
 pub mod Worked

@@ -72,7 +72,7 @@ fn opens_step(step: OpensStep) -> LuossavinOpensStep
     }
 }
 
-fn direction_of(decrypt: bool) -> Direction
+pub(crate) fn direction_of(decrypt: bool) -> Direction
     ensures { λ r. ⌜ r ≡ directionOf decrypt ⌝ }
 {
     if decrypt {

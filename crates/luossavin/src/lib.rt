@@ -3,6 +3,7 @@
 mod in_pieces;
 pub mod key;
 mod which;
+mod workers;
 
 ghost use mathlib.Core.Path.{_≡_};
 ghost use Rattle.walk.specs.Outcome.{refusal as refused};

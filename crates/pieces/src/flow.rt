@@ -83,7 +83,7 @@ pub(crate) fn ciphered(t: &[u32], rk: [u32; 32], s: [u32; 4]) -> [u8; 16]
 }
 
 // The flow at a counter.
-pub(crate) fn begin(t: &[u32], rk: [u32; 32], s: [u32; 4]) -> Flow
+pub fn begin(t: &[u32], rk: [u32; 32], s: [u32; 4]) -> Flow
     requires { ⌜ Engine (now t) ⌝ }
     ensures { λ r. ⌜ r ≡ flowAt rk (unwords s) ⌝ }
 {
@@ -118,7 +118,7 @@ fn onward(
 }
 
 // `data` from place p of the begun block on: this ends with its pad, and what follows goes through the stream.
-pub(crate) fn run(
+pub fn run(
     t: &[u32],
     rk: [u32; 32],
     counting: Counting,

@@ -1,4 +1,4 @@
--- `counter::block_add_one` meets its contract. `to_u128` ensures the number that the block spells, `u128_add_one` one more,
+-- `counter::block_add_one` meets its contract. `to_u128` ensures the number that the block spells, `u128_add` one more,
 -- and `from_u128` the block that spells that, which is Ctr's next counter (`ctr-words`). It is 0 exactly where it came round
 -- (`ctr-words-pass`).
 -- Assumes nothing.
@@ -16,8 +16,8 @@ returns c =
     let at-add = at-block .before in
     let at-number = at-add .before in
     let x = at-number .before .args .a in
-    let sum = at-add .u128-add-one .result in
-    let more = at-add .u128-add-one .ensures ∙ ap (λ (v : ℕ). (v + 1) % 2 ^ 128) (at-number .to-u128 .ensures) in (
+    let sum = at-add .u128-add .result in
+    let more = at-add .u128-add .ensures ∙ ap (λ (v : ℕ). (v + 1) % 2 ^ 128) (at-number .to-u128 .ensures) in (
       ctr-words x (at-block .from-u128 .result) (value sum) more (at-block .from-u128 .ensures),
       ctr-words-pass x (sum .high) (sum .low) more,
     )

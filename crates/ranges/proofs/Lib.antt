@@ -1,0 +1,13 @@
+pub mod Accepted
+pub mod ByPiece
+pub mod Following
+pub mod Laying
+pub mod OwnPlans
+pub mod Places
+pub mod Planner
+pub mod Sharing
+pub mod Passed
+pub mod Jumped
+pub mod KeyStream
+pub mod Applied
+pub mod Joined

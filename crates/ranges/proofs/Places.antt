@@ -1,0 +1,73 @@
+-- How many of a plan's places are pieces, n over the size rounded up, and that the places past them hold 0.
+-- Assumes nothing.
+use mathlib.Core.Path.{_≡_, refl, sym}
+use mathlib.Core.Bool.{Bool, true, false}
+use Prim.Native.Nat.{ℕ, zero, suc, _+_, _-_, _*_, _/_, _≤_, _<_}
+use native.Mathlib.Nat.{suc-mul, mul-le-mul-right, div-eq-of-lt-le}
+use native.Mathlib.Numerals.{add-one}
+use native.Mathlib.Omega.{arith}
+use lib.Dec.{ltb}
+use lib.ListN.{getD}
+use borrow.Author.Tests.{ltb-true, ltb-false, le-ltb}
+use Rattle.ranges.specs.Plan.{pieceSize, countFrom, startsFrom, lengthsFrom, planOf}
+use Rattle.ranges.proofs.Sharing.{hold-all, none-empty}
+use Rattle.ranges.proofs.OwnPlans.{past, before}
+
+-- n bytes in pieces of `size`
+module _ (n size : ℕ) where
+  -- the pieces end at n or past it, and the last begins before n
+  abbrev Reached : ℕ → ℕ → Type 0
+  Reached k at = (n ≤ at + countFrom n size k at * size) × (at + countFrom n size k at * size < n + size)
+
+  reached-on : (k at : ℕ) → at < n + size → (t : Bool) → ltb at n ≡ t → (at < n → Reached k (at + size)) → Reached (suc k) at
+  reached-on k at h false e rest =
+      let f = ltb-false at n e in
+      rw (past n size (suc k) at f) (omega (arith, f), omega arith)
+  reached-on k at h true e rest =
+      let f = ltb-true at n e in
+      let next = rest f in
+      rw (before n size k at f, suc-mul (countFrom n size k (at + size)) size) (omega (arith, next .0), omega (arith, next .1))
+
+  reached : (k at : ℕ) → n ≤ at + k * size → at < n + size → Reached k at
+  unfolding countFrom
+  reached zero at h g = (omega (arith, h), omega (arith, g))
+  reached (suc k) at h g =
+      reached-on k at g (ltb at n) refl (λ f. reached k (at + size) (omega (arith, h, suc-mul k size)) (omega (arith, f)))
+
+  -- k places from `at` on: place i past the pieces holds 0
+  abbrev Empty : ℕ → ℕ → ℕ → Type 0
+  Empty k at i = (getD (startsFrom n size k at) i 0 ≡ 0) × (getD (lengthsFrom n size k at) i 0 ≡ 0)
+
+  all-empty : (k at i : ℕ) → n ≤ at → Empty k at i
+  unfolding startsFrom lengthsFrom
+  all-empty zero at i h = (refl, refl)
+  all-empty (suc k) at zero h =
+      let none : n - at ≡ 0 = omega arith in
+      (rw (le-ltb at n h), rw (none, le-ltb size 0 (omega arith)))
+  all-empty (suc k) at (suc i) h = all-empty k (at + size) i (omega arith)
+
+  empty-on : (k at i : ℕ) → countFrom n size (suc k) at ≤ i → (t : Bool) → ltb at n ≡ t
+      → ((j : ℕ) → countFrom n size k (at + size) ≤ j → Empty k (at + size) j) → Empty (suc k) at i
+  unfolding startsFrom lengthsFrom
+  empty-on k at i h false e rest = all-empty (suc k) at i (ltb-false at n e)
+  empty-on k at zero h true e rest = absurd (omega (arith, h, before n size k at (ltb-true at n e)))
+  empty-on k at (suc i) h true e rest = rest i (omega (arith, h, before n size k at (ltb-true at n e)))
+
+  empty : (k at i : ℕ) → countFrom n size k at ≤ i → Empty k at i
+  unfolding startsFrom lengthsFrom
+  empty zero at i h = (refl, refl)
+  empty (suc k) at i h = empty-on k at i h (ltb at n) refl (empty k (at + size))
+
+pub past-the-count : (n w i : ℕ) → planOf n w .count ≤ i → (getD (planOf n w .starts) i 0 ≡ 0) × (getD (planOf n w .lengths) i 0 ≡ 0)
+past-the-count n w i h = empty n (pieceSize n w) 64 0 i h
+
+-- n over the size, rounded up, where there is a byte at all
+pub count-rounded-up : (n w : ℕ) → 1 ≤ w → w ≤ 64 → 1 ≤ n → planOf n w .count ≡ (n + (pieceSize n w - 1)) / pieceSize n w
+count-rounded-up n w least most h =
+    let size = pieceSize n w in
+    let some = none-empty n w least h in
+    let all = hold-all n w least in
+    let more = mul-le-mul-right size most in
+    let r = reached n size 64 0 (omega (arith, all, more)) (omega (arith, h)) in
+    let one-more = suc-mul (planOf n w .count) size in
+    sym (div-eq-of-lt-le size (omega (arith, r .1)) (rw (add-one (planOf n w .count), one-more) (omega (arith, r .0, some))))
