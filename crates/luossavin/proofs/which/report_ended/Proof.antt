@@ -16,12 +16,12 @@ returns c =
 returns-2 : tie.Need-returns-2
 returns-2 c =
     let k = c .before .before .before .args .key in
-    c .numbered .ensures ∙ sym (ap {B = Head} (λ (e : Ended). under k (endedHead e)) (c .before .enum-told2 .given .1))
+    c .numbered2 .ensures ∙ sym (ap {B = Head} (λ (e : Ended). under k (endedHead e)) (c .before .enum-told2 .given .1))
 
 returns-3 : tie.Need-returns-3
 returns-3 c =
     let k = c .before .before .before .args .key in
-    c .numbered .ensures ∙ sym (ap {B = Head} (λ (e : Ended). under k (endedHead e)) (c .before .enum-told3 .given .1))
+    c .numbered3 .ensures ∙ sym (ap {B = Head} (λ (e : Ended). under k (endedHead e)) (c .before .enum-told3 .given .1))
 
 returns-4 : tie.Need-returns-4
 returns-4 c =

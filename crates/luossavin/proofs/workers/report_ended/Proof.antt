@@ -24,7 +24,7 @@ returns-3 : tie.Need-returns-3
 returns-3 c =
     let at-ended = c .before .before .before in
     let k = at-ended .before .before .args .key in
-    c .report .ensures ∙ c .before .refused .ensures
+    c .report2 .ensures ∙ c .before .refused .ensures
     ∙ sym (ap {B = Head} (λ (e : Ended). under k (endedHead e)) (at-ended .ended2 .given .1))
 
 pub report-ended-spec : {M : Type 1} → statement M
