@@ -18,7 +18,7 @@ use Rattle.stream.proofs.RoundTrip.{length-stream}
 use Rattle.ranges.specs.declared.plan.Plan.{Plan}
 use Rattle.ranges.specs.Plan.{follows, accepts}
 use Rattle.ranges.specs.Range.{stretch}
-use Rattle.ranges.specs.Shares.{Share, shares, sharesOf, shareOf, laid, worked, allWorked}
+use Rattle.ranges.specs.Shares.{Share, shares, sharesOf, shareOf, laidAt, worked, allWorked}
 use Rattle.ranges.proofs.Accepted.{first-piece, from-0-to-n}
 use Rattle.ranges.proofs.KeyStream.{pads, chain-pads, stretch-pads}
 use Rattle.ranges.proofs.Copied.{copied, length-copied, none-copied, copies-commute, copies-join, all-copied, laid-copied}
@@ -64,7 +64,7 @@ module _ (rk iv d : List ℕ) where
 
   worker-copies : (p : Share) (o : List ℕ) → length d ≤ length o → worked rk iv d p o ≡ copies p o
   worker-copies p o h =
-      ap (λ (s : List ℕ). laid (p .start) s o) (share-of-whole p)
+      ap (λ (s : List ℕ). laidAt (p .start) s o) (share-of-whole p)
       ∙ laid-copied (p .start) (p .size) whole o (omega (arith, h, length-whole))
 
   all-copy : (ps : List Share) (o : List ℕ) → length d ≤ length o
@@ -76,6 +76,9 @@ module _ (rk iv d : List ℕ) where
         ap (worked rk iv d p) (rest .0) ∙ worker-copies p u (omega (arith, h, rest .1)),
         length-copied (p .start) (p .size) whole u ∙ rest .1,
       )
+
+  pub length-worked : (ps : List Share) (o : List ℕ) → length d ≤ length o → length (allWorked rk iv d ps o) ≡ length o
+  length-worked ps o h = let all = all-copy ps o h in ap length (all .0) ∙ all .1
 
   -- Shares done in any order leave the same, overlapping or not, inside the text or not.
   pub any-order : (o : List ℕ) → length d ≤ length o → (ps qs : List Share) → Perm ps qs → allWorked rk iv d ps o ≡ allWorked rk iv d qs o

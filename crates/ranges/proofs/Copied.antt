@@ -1,7 +1,7 @@
 -- Copying stretches of one list into another: in any order, overlapping or not, the same comes of it, and stretches that follow one
 -- another are one.
 -- Assumes nothing.
-use mathlib.Core.Path.{_≡_, refl, sym, ap, _∙_}
+use mathlib.Core.Path.{_≡_, refl, ap, _∙_}
 use mathlib.Core.List.{List, [], _∷_, _++_}
 use Prim.Native.Nat.{ℕ, zero, suc, _+_, _≤_}
 use native.Mathlib.Nat.{add-zero}
@@ -9,7 +9,7 @@ use native.Mathlib.Omega.{arith}
 use lib.ListN.{length, take, drop, take-append-drop}
 use lib.Seq.{take-nil, drop-nil}
 use Rattle.walk.specs.Walk.{over}
-use Rattle.ranges.specs.Shares.{laid}
+use Rattle.ranges.specs.Shares.{laidAt}
 
 -- u with n bytes from `at` on copied from t, as far as both go
 unfoldable pub copied : ℕ → ℕ → List ℕ → List ℕ → List ℕ
@@ -73,13 +73,13 @@ all-copied [] u h = refl
 all-copied (c ∷ t) [] h = absurd (omega (arith, h))
 all-copied (c ∷ t) (x ∷ u) h = ap {B = List ℕ} (λ l. c ∷ l) (all-copied t u (omega (arith, h)))
 
-nothing-laid : (at : ℕ) (u : List ℕ) → laid at [] u ≡ u
+nothing-laid : (at : ℕ) (u : List ℕ) → laidAt at [] u ≡ u
 nothing-laid at u = ap (λ (k : ℕ). take at u ++ drop k u) (add-zero at) ∙ take-append-drop at u
 
 -- a stretch that is laid is copied
-pub laid-copied : (at n : ℕ) (t u : List ℕ) → length t ≤ length u → laid at (take n (drop at t)) u ≡ copied at n t u
+pub laid-copied : (at n : ℕ) (t u : List ℕ) → length t ≤ length u → laidAt at (take n (drop at t)) u ≡ copied at n t u
 unfolding copied
-laid-copied at n [] u h = ap (λ (s : List ℕ). laid at s u) (ap (take n) (drop-nil at) ∙ take-nil n) ∙ nothing-laid at u
+laid-copied at n [] u h = ap (λ (s : List ℕ). laidAt at s u) (ap (take n) (drop-nil at) ∙ take-nil n) ∙ nothing-laid at u
 laid-copied at n (c ∷ t) [] h = absurd (omega (arith, h))
 laid-copied zero zero (c ∷ t) (x ∷ u) h = refl
 laid-copied zero (suc n) (c ∷ t) (x ∷ u) h =

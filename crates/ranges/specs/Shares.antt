@@ -24,12 +24,12 @@ abbrev pub shareOf : Share → List ℕ → List ℕ
 shareOf p l = take (p .size) (drop (p .start) l)
 
 -- an output with the bytes s laid into it from byte `at` on
-abbrev pub laid : ℕ → List ℕ → List ℕ → List ℕ
-laid at s o = take at o ++ (s ++ drop (at + length s) o)
+abbrev pub laidAt : ℕ → List ℕ → List ℕ → List ℕ
+laidAt at s o = take at o ++ (s ++ drop (at + length s) o)
 
 -- the output o after the worker of a share: what Ctr gives of that stretch of the text d stands at the share's own place
 abbrev pub worked : List ℕ → List ℕ → List ℕ → Share → List ℕ → List ℕ
-worked rk iv d p o = laid (p .start) (stretch rk iv (p .start) (shareOf p d)) o
+worked rk iv d p o = laidAt (p .start) (stretch rk iv (p .start) (shareOf p d)) o
 
 -- and after all workers, one after the other: the last of the list is the first to work
 abbrev pub allWorked : List ℕ → List ℕ → List ℕ → List Share → List ℕ → List ℕ
