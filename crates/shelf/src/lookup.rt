@@ -1,10 +1,11 @@
 // What the records of a shelf say, each by one walk over them; `s` is the used part.
 ghost use mathlib.Core.Path.{_≡_};
-ghost use mathlib.Core.Bool.{false};
+ghost use mathlib.Core.Bool.{false, _&&_};
 ghost use lib.ListN.{length};
 ghost use Rattle.shelf.specs.Records.{stored, records};
 ghost use Rattle.shelf.specs.Shelf.{hasCurrent, twoCurrent, soundUpTo, notHigher, those, stays, placeOf, sizeOf};
 use crate::records;
+use crate::records::Head;
 
 // Where a job's current record stands, and how many bytes it has: 0 where there is none.
 pub(crate) struct Span {
@@ -29,25 +30,34 @@ pub(crate) fn has_current(s: &[u8], job: u32) -> bool
     }
 }
 
+// Whether a record is current and has another current one of its job behind it, in `rest`.
+fn is_doubled(rest: &[u8], h: Head) -> bool
+    ensures { λ r. ⌜ r ≡ h .current && hasCurrent (h .job) (records (now (rest .entry))) ⌝ }
+{
+    if h.current {
+        return has_current(rest, h.job);
+    }
+    false
+}
+
 // How many bytes are in order. A shelf whose used bytes are not all in order breaks off there: at a record that does not stand
 // whole or has no known mark, or at a current one with another current one of its job behind it.
 pub fn sound_up_to(s: &[u8]) -> usize
     ensures { λ r. ⌜ r ≡ soundUpTo (records (now (s .entry))) ⌝ }
 {
+    let mut t = s;
     let mut at = 0;
     loop {
-        let h = records::front(&s[at..]);
+        let h = records::front(t);
         let n = h.size;
         if n == 0 {
             return at;
         }
-        let next = at + n;
-        if h.current {
-            if has_current(&s[next..], h.job) {
-                return at;
-            }
+        t = &t[n..];
+        if is_doubled(t, h) {
+            return at;
         }
-        at = next;
+        at += n;
     }
 }
 
@@ -73,10 +83,10 @@ pub(crate) fn not_higher(s: &[u8], job: u32, edition: u16) -> bool
 pub(crate) fn kept_size(s: &[u8], coming: bool, job: u32) -> usize
     ensures { λ r. ⌜ r ≡ length (stored (those (stays coming job) (records (now (s .entry))))) ⌝ }
 {
+    let mut t = s;
     let mut kept = 0;
-    let mut at = 0;
     loop {
-        let h = records::front(&s[at..]);
+        let h = records::front(t);
         let n = h.size;
         if n == 0 {
             return kept;
@@ -84,7 +94,7 @@ pub(crate) fn kept_size(s: &[u8], coming: bool, job: u32) -> usize
         if records::stays(h, coming, job) {
             kept += n;
         }
-        at += n;
+        t = &t[n..];
     }
 }
 
@@ -92,9 +102,10 @@ pub(crate) fn seek(s: &[u8], job: u32) -> Span
     requires { ⌜ twoCurrent (records (now s)) ≡ false ⌝ }
     ensures { λ r. ⌜ r ≡ record { start = placeOf job (records (now (s .entry))); length = sizeOf job (records (now (s .entry))) } ⌝ }
 {
+    let mut t = s;
     let mut at = 0;
     loop {
-        let h = records::front(&s[at..]);
+        let h = records::front(t);
         let n = h.size;
         if n == 0 {
             return Span {
@@ -108,6 +119,7 @@ pub(crate) fn seek(s: &[u8], job: u32) -> Span
                 length: n,
             };
         }
+        t = &t[n..];
         at += n;
     }
 }

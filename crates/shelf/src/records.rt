@@ -110,12 +110,13 @@ pub(crate) fn reaches(h: Head, job: u32, edition: u16) -> bool
 pub(crate) fn stays(h: Head, coming: bool, job: u32) -> bool
     ensures { λ r. ⌜ r ≡ h .current && not (coming && eqb (h .job) job) ⌝ }
 {
-    if coming {
-        if h.job == job {
-            return false;
-        }
+    if !h.current {
+        return false;
     }
-    h.current
+    if coming {
+        return h.job != job;
+    }
+    true
 }
 
 // The head of a current record.

@@ -1,0 +1,78 @@
+use mathlib.Core.Path.{_≡_, refl, sym, ap, _∙_}
+use lib.ListN.{length}
+use Rattle.shelf.specs.Records.{stored, records}
+use Rattle.shelf.specs.Shelf.{hasCurrent, notHigher}
+use Rattle.shelf.proofs.lookup.seek.Statement.{statement}
+use Rattle.shelf.proofs.lookup.seek.Tie as tie
+use Rattle.shelf.proofs.lookup.seek.Reads as reads
+use Rattle.shelf.proofs.lookup.seek.Lts as lts
+use Rattle.shelf.proofs.records.front.Reads as front-reads
+use Rattle.shelf.proofs.records.is_current_of.Reads as is-current-of-reads
+
+abbrev Inv-loop : tie.InvT-loop
+Inv-loop s job t₀ at₀ t at = ?
+
+abbrev μ-loop : tie.MeasureT-loop
+μ-loop s job t₀ at₀ t at = length t
+
+-- src/lookup.rt:107:5
+loop-holds : tie.Need-loop-holds Inv-loop μ-loop
+loop-holds c = ?
+
+-- src/lookup.rt:108:13
+front-requires : tie.Need-front-requires Inv-loop μ-loop
+front-requires c κs = ?
+
+-- src/lookup.rt:111:13
+returns : tie.Need-returns Inv-loop μ-loop
+returns c = ?
+
+-- src/lookup.rt:116:12
+is-current-of-requires : tie.Need-is-current-of-requires Inv-loop μ-loop
+is-current-of-requires c κs = ?
+
+-- src/lookup.rt:117:13
+returns-2 : tie.Need-returns-2 Inv-loop μ-loop
+returns-2 c = ?
+
+-- src/lookup.rt:122:13
+sub-t : tie.Need-sub-t Inv-loop μ-loop
+sub-t c = ?
+
+-- src/lookup.rt:122:13
+part-t-start : tie.Need-part-t-start Inv-loop μ-loop
+part-t-start c = ?
+
+-- src/lookup.rt:122:13
+part-t-end : tie.Need-part-t-end Inv-loop μ-loop
+part-t-end c = ?
+
+-- src/lookup.rt:123:9
+add-at : tie.Need-add-at Inv-loop μ-loop
+add-at c = ?
+
+-- src/lookup.rt:107:5
+loop-less : tie.Need-loop-less Inv-loop μ-loop
+loop-less c = ?
+
+-- src/lookup.rt:107:5
+loop-again : tie.Need-loop-again Inv-loop μ-loop
+loop-again c = ?
+
+pub seek-spec : {M : Type 1} → statement M
+seek-spec =
+    tie.close
+    (tie.spec
+    Inv-loop
+    μ-loop
+    loop-holds
+    front-requires
+    returns
+    is-current-of-requires
+    returns-2
+    sub-t
+    part-t-start
+    part-t-end
+    add-at
+    loop-less
+    loop-again)
