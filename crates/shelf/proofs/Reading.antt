@@ -13,6 +13,7 @@ use Rattle.block.specs.BigEndian.{bytesOf}
 use Rattle.block.specs.Words.{wordAt}
 use Rattle.block.proofs.Convert.{length-bytesOf}
 use Rattle.block.proofs.Same.{and-left, and-right}
+use Rattle.walk.proofs.Loop.{tailed, tail-is}
 use Rattle.label.proofs.LabelTells.{length-label}
 use Rattle.shelf.specs.declared.records.Head.{Head}
 use Rattle.shelf.specs.Records.{Record, written, marked, startsRecord, sizeAt, front, readUpTo, records, headAt}
@@ -121,7 +122,8 @@ pub record Turn (b : List ℕ) (h : Head) : Type 0 where
   pub size : h .size ≡ sizeAt b
   pub long : 12 ≤ h .size
   pub within : h .size ≤ length b
-  pub reads : records b ≡ entry b h ∷ records (drop (h .size) b)
+  -- what is behind it is written as the borrow checker has it
+  pub reads : records b ≡ entry b h ∷ records (tailed (h .size) b)
   pub whole : length (written (entry b h)) ≡ h .size
 
 module _ (b : List ℕ) (h : Head) (e : h ≡ headAt b) where
@@ -145,7 +147,7 @@ module _ (b : List ℕ) (h : Head) (e : h ≡ headAt b) where
   pub at-end : h .size ≡ 0 → records b ≡ []
   at-end z = end-by (startsRecord b) refl z
 
-  entry-front : startsRecord b ≡ true → front b ≡ entry b h
+  pub entry-front : startsRecord b ≡ true → front b ≡ entry b h
   unfolding front
   entry-front f =
       let s = size-starts b f in
@@ -167,7 +169,7 @@ module _ (b : List ℕ) (h : Head) (e : h ≡ headAt b) where
         reads =
           records-one b f
           ∙ ap {B = List Record} (λ (r : Record). r ∷ records (drop (sizeAt b) b)) (entry-front f)
-          ∙ ap {B = List Record} (λ (k : ℕ). entry b h ∷ records (drop k b)) (sym n);
+          ∙ ap {B = List Record} (λ (l : List ℕ). entry b h ∷ records l) (sym (tail-is b (h .size) ∙ ap (λ (k : ℕ). drop k b) n));
         whole = length-written (entry b h) ∙ rw l (omega arith)
       }
   turn-by false f z = absurd (z (head-none f))

@@ -5,6 +5,7 @@ ghost use mathlib.Core.List.{_++_};
 ghost use Prim.Native.Nat.{_+_, _≤_};
 ghost use lib.Dec.{ltb};
 ghost use lib.ListN.{length, take, drop};
+ghost use lib.Seq.{paste};
 ghost use Rattle.walk.specs.Walk.{over};
 ghost use Rattle.shelf.specs.Records.{written, stored, records};
 ghost use Rattle.shelf.specs.Shelf.{twoCurrent, those, stays, supersede, roomMade};
@@ -16,7 +17,7 @@ use crate::records;
 fn move_down(shelf: &mut [u8], to: usize, from: usize, n: usize)
     requires { ⌜ to ≤ from ⌝ }
     requires { ⌜ from + n ≤ length (now shelf) ⌝ }
-    ensures { λ _. ⌜ now (shelf .exit) ≡ take to (now (shelf .entry)) ++ (take n (drop from (now (shelf .entry))) ++ drop (to + n) (now (shelf .entry))) ⌝ }
+    ensures { λ _. ⌜ now (shelf .exit) ≡ paste (now (shelf .entry)) to (drop from (now (shelf .entry))) n ⌝ }
 {
     let mut i = 0;
     while i < n {

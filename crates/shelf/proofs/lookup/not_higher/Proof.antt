@@ -1,13 +1,19 @@
+-- `lookup::not_higher` meets its contract. The loop's invariant: what the records to come say is what all say. The measure is how many
+-- bytes are to come.
+-- Assumes nothing.
 use mathlib.Core.Path.{_≡_, refl, sym, ap, _∙_}
+use Prim.Native.Nat.{_≤_}
+use native.Mathlib.Omega.{arith}
+use denote.Ref.{now}
 use lib.ListN.{length}
-use Rattle.shelf.specs.Records.{stored, records}
-use Rattle.shelf.specs.Shelf.{hasCurrent, notHigher}
+use Rattle.walk.proofs.Loop.{length-tailed}
+use Rattle.shelf.specs.Records.{records}
+use Rattle.shelf.specs.Shelf.{notHigher}
+use Rattle.shelf.proofs.Reading.{Turn, at-end, on}
+use Rattle.shelf.proofs.Walks.{higher-here, higher-behind}
+use borrow.Author.Needs.{needs}
 use Rattle.shelf.proofs.lookup.not_higher.Statement.{statement}
 use Rattle.shelf.proofs.lookup.not_higher.Tie as tie
-use Rattle.shelf.proofs.lookup.not_higher.Reads as reads
-use Rattle.shelf.proofs.lookup.not_higher.Lts as lts
-use Rattle.shelf.proofs.records.front.Reads as front-reads
-use Rattle.shelf.proofs.records.reaches.Reads as reaches-reads
 
 abbrev Inv-loop : tie.InvT-loop
 Inv-loop s job edition t₀ t = notHigher job edition (records t) ≡ notHigher job edition (records s)
@@ -15,59 +21,41 @@ Inv-loop s job edition t₀ t = notHigher job edition (records t) ≡ notHigher 
 abbrev μ-loop : tie.MeasureT-loop
 μ-loop s job edition t₀ t = length t
 
--- src/lookup.rt:69:5
-loop-holds : tie.Need-loop-holds Inv-loop μ-loop
-loop-holds c = ?
+turn : (x : tie.Else1 Inv-loop μ-loop) → Turn (now (x .before .before .loop .t)) (x .before .front .result)
+turn x = on _ _ (x .before .front .ensures) (x .if1 .left)
 
--- src/lookup.rt:70:13
-front-requires : tie.Need-front-requires Inv-loop μ-loop
-front-requires c κs = ?
-
--- src/lookup.rt:73:13
 returns : tie.Need-returns Inv-loop μ-loop
-returns c = ?
+unfolding notHigher
+returns c =
+    let at-front = c .before in
+    let at-loop = at-front .before in
+    let a = at-loop .before .before .args in
+    let end = at-end (now (at-loop .loop .t)) (at-front .front .result) (at-front .front .ensures) (c .if1 .taken) in
+    sym (ap (notHigher (a .job) (a .edition)) end) ∙ at-loop .loop .inv
 
--- src/lookup.rt:75:12
-reaches-requires : tie.Need-reaches-requires Inv-loop μ-loop
-reaches-requires c κs = ?
-
--- src/lookup.rt:76:13
 returns-2 : tie.Need-returns-2 Inv-loop μ-loop
-returns-2 c = ?
+returns-2 c =
+    let at-test = c .before in
+    let at-loop = at-test .before .before .before in
+    sym (higher-here _ _ (turn (at-test .before)) _ _ (sym (at-test .reaches .ensures) ∙ c .if2 .taken)) ∙ at-loop .loop .inv
 
--- src/lookup.rt:78:13
 sub-t : tie.Need-sub-t Inv-loop μ-loop
-sub-t c = ?
+sub-t c = omega (arith, turn (c .before .before) .within)
 
--- src/lookup.rt:78:13
 part-t-start : tie.Need-part-t-start Inv-loop μ-loop
-part-t-start c = ?
+part-t-start c = omega (arith, turn (c .before .before) .within)
 
--- src/lookup.rt:78:13
-part-t-end : tie.Need-part-t-end Inv-loop μ-loop
-part-t-end c = ?
-
--- src/lookup.rt:69:5
 loop-less : tie.Need-loop-less Inv-loop μ-loop
-loop-less c = ?
+loop-less c =
+    let here = turn (c .before .before .before) in
+    let l = length-tailed (now (c .before .before .before .before .before .loop .t)) (c .before .before .before .before .front .result .size) in
+    omega (arith, here .within, here .long, l)
 
--- src/lookup.rt:69:5
 loop-again : tie.Need-loop-again Inv-loop μ-loop
-loop-again c = ?
+loop-again c =
+    let at-test = c .before .before in
+    let at-loop = at-test .before .before .before in
+    sym (higher-behind _ _ (turn (at-test .before)) _ _ (sym (at-test .reaches .ensures) ∙ c .before .if2 .left)) ∙ at-loop .loop .inv
 
 pub not-higher-spec : {M : Type 1} → statement M
-not-higher-spec =
-    tie.close
-    (tie.spec
-    Inv-loop
-    μ-loop
-    loop-holds
-    front-requires
-    returns
-    reaches-requires
-    returns-2
-    sub-t
-    part-t-start
-    part-t-end
-    loop-less
-    loop-again)
+not-higher-spec = tie.close (tie.spec Inv-loop μ-loop (λ c. refl) (λ c κs. search needs) returns (λ c κs. search needs) returns-2 sub-t part-t-start (λ c. omega arith) loop-less loop-again)
