@@ -1,0 +1,4 @@
+pub mod Reading
+pub mod Walks
+pub mod Inverse
+pub mod Superseding

@@ -1,0 +1,82 @@
+use borrow.Author.Needs.{needs}
+use Rattle.shelf.proofs.change.append.Statement.{statement}
+use Rattle.shelf.proofs.change.append.Tie as tie
+use Rattle.shelf.proofs.change.append.Reads as reads
+use Rattle.shelf.proofs.change.append.Lts as lts
+use Rattle.bytes.proofs.copy.Reads as copy-reads
+use Rattle.shelf.proofs.records.new_head.Reads as new-head-reads
+
+-- src/change.rt:101:48
+cast-new-head : tie.Need-cast-new-head
+cast-new-head c = search needs
+
+-- src/change.rt:101:16
+new-head-requires : tie.Need-new-head-requires
+new-head-requires c κs = search needs
+
+-- src/change.rt:102:17
+slice-aggregate-copy : tie.Need-slice-aggregate-copy
+slice-aggregate-copy c = search needs
+
+-- src/change.rt:102:24
+sub-copy : tie.Need-sub-copy
+sub-copy c = search needs
+
+-- src/change.rt:102:24
+part-copy-start : tie.Need-part-copy-start
+part-copy-start c = search needs
+
+-- src/change.rt:102:24
+part-copy-end : tie.Need-part-copy-end
+part-copy-end c = search needs
+
+-- src/change.rt:102:5
+copy-requires : tie.Need-copy-requires
+copy-requires c κs = search needs
+
+-- src/change.rt:103:18
+add-behind : tie.Need-add-behind
+add-behind c = search needs
+
+-- src/change.rt:104:25
+sub-copy-2 : tie.Need-sub-copy-2
+sub-copy-2 c = search needs
+
+-- src/change.rt:104:25
+part-copy-start-2 : tie.Need-part-copy-start-2
+part-copy-start-2 c = search needs
+
+-- src/change.rt:104:25
+part-copy-end-2 : tie.Need-part-copy-end-2
+part-copy-end-2 c = search needs
+
+-- src/change.rt:104:5
+copy-requires-2 : tie.Need-copy-requires-2
+copy-requires-2 c κs = search needs
+
+-- src/change.rt:96:1
+same-length : tie.Need-same-length
+same-length c = search needs
+
+-- src/change.rt:96:1
+returns : tie.Need-returns
+returns c = ?
+
+pub append-spec : {M : Type 1} → statement M
+append-spec =
+    tie.close
+    (tie.spec
+    cast-new-head
+    new-head-requires
+    slice-aggregate-copy
+    sub-copy
+    part-copy-start
+    part-copy-end
+    copy-requires
+    add-behind
+    sub-copy-2
+    part-copy-start-2
+    part-copy-end-2
+    copy-requires-2
+    same-length
+    returns)
