@@ -107,15 +107,15 @@
  * file's. To decrypt there is nothing to do: the text is right.
  *
  * A message may also come in pieces, in Ctr and Gcm: what holds for these is said where they are declared.
- * There it is also said how to ask which of up to 64 labels a Gcm message opens under, and how several workers
- * share one Ctr message.
+ * There it is also said how to ask which of up to 64 labels a Gcm message opens under, how several workers share
+ * one Ctr message, and how the editions of jobs are kept on a shelf.
  *
  * What no proof can see stays the host's duty, and a call that breaks it has no defined outcome:
  *
  *   - each pointer leads to as many bytes as the length beside it says, which nothing else writes
  *     during the call; that to the lengths of labels leads to as many of these as the count beside it
  *     says. Only an empty buffer may be NULL with length 0;
- *   - the output buffer overlaps no input. Inputs may overlap one another;
+ *   - the output buffer overlaps no input, nor does a shelf that is put into. Inputs may overlap one another;
  *   - a bool is 0 or 1.
  *
  * The library remembers no IV: that no two messages are encrypted under the same key and IV, whatever its
