@@ -26,6 +26,9 @@ length-written r =
     let l = length-label (r .job) (r .edition) in
     rw length-append (omega (arith, n, m, l))
 
+pub never : false ≡ true → ⊥
+never e = let z : _≡_ {A = ℕ} 0 1 = cc in omega arith
+
 module _ (b : List ℕ) where
   pub starts-within : startsRecord b ≡ true → (12 ≤ length b) × (marked b ≡ true) × (12 + wordAt b 8 ≤ length b)
   unfolding startsRecord

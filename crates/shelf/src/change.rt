@@ -1,7 +1,6 @@
 // What changes a shelf; its first `used` bytes are its records.
 ghost use mathlib.Core.Path.{_≡_};
 ghost use mathlib.Core.Bool.{true, false};
-ghost use mathlib.Core.List.{_++_};
 ghost use Prim.Native.Nat.{_+_, _≤_};
 ghost use lib.Dec.{ltb};
 ghost use lib.ListN.{length, take, drop};
@@ -93,14 +92,13 @@ pub(crate) fn make_room(shelf: &mut [u8], used: usize, job: u32, n: usize) -> us
     used
 }
 
-// Writes a current record at `at`.
-pub(crate) fn append(shelf: &mut [u8], at: usize, job: u32, edition: u16, sealed: &[u8])
-    requires { ⌜ at + (12 + length (now sealed)) ≤ length (now shelf) ⌝ }
+// Writes a current record to the front of `out`.
+pub(crate) fn write(job: u32, edition: u16, sealed: &[u8], out: &mut [u8])
+    requires { ⌜ 12 + length (now sealed) ≤ length (now out) ⌝ }
     requires { ⌜ length (now sealed) ≤ 65536 ⌝ }
-    ensures { λ _. ⌜ now (shelf .exit) ≡ take at (now (shelf .entry)) ++ over (written (newRecord job edition (now (sealed .entry)))) (drop at (now (shelf .entry))) ⌝ }
+    ensures { λ _. ⌜ now (out .exit) ≡ over (written (newRecord job edition (now (sealed .entry)))) (now (out .entry)) ⌝ }
 {
     let head = records::new_head(job, edition, sealed.len() as u32);
-    bytes::copy(&head, &mut shelf[at..]);
-    let behind = at + records::HEAD;
-    bytes::copy(sealed, &mut shelf[behind..]);
+    bytes::copy(&head, out);
+    bytes::copy(sealed, &mut out[records::HEAD..]);
 }

@@ -1,8 +1,8 @@
 use borrow.Author.Needs.{needs}
-use Rattle.shelf.proofs.change.append.Statement.{statement}
-use Rattle.shelf.proofs.change.append.Tie as tie
-use Rattle.shelf.proofs.change.append.Reads as reads
-use Rattle.shelf.proofs.change.append.Lts as lts
+use Rattle.shelf.proofs.change.write.Statement.{statement}
+use Rattle.shelf.proofs.change.write.Tie as tie
+use Rattle.shelf.proofs.change.write.Reads as reads
+use Rattle.shelf.proofs.change.write.Lts as lts
 use Rattle.bytes.proofs.copy.Reads as copy-reads
 use Rattle.shelf.proofs.records.new_head.Reads as new-head-reads
 
@@ -18,39 +18,23 @@ new-head-requires c κs = search needs
 slice-aggregate-copy : tie.Need-slice-aggregate-copy
 slice-aggregate-copy c = search needs
 
--- src/change.rt:102:24
-sub-copy : tie.Need-sub-copy
-sub-copy c = search needs
-
--- src/change.rt:102:24
-part-copy-start : tie.Need-part-copy-start
-part-copy-start c = search needs
-
--- src/change.rt:102:24
-part-copy-end : tie.Need-part-copy-end
-part-copy-end c = search needs
-
 -- src/change.rt:102:5
 copy-requires : tie.Need-copy-requires
 copy-requires c κs = search needs
 
--- src/change.rt:103:18
-add-behind : tie.Need-add-behind
-add-behind c = search needs
+-- src/change.rt:103:25
+sub-copy : tie.Need-sub-copy
+sub-copy c = search needs
 
--- src/change.rt:104:25
-sub-copy-2 : tie.Need-sub-copy-2
-sub-copy-2 c = search needs
+-- src/change.rt:103:25
+part-copy-start : tie.Need-part-copy-start
+part-copy-start c = search needs
 
--- src/change.rt:104:25
-part-copy-start-2 : tie.Need-part-copy-start-2
-part-copy-start-2 c = search needs
+-- src/change.rt:103:25
+part-copy-end : tie.Need-part-copy-end
+part-copy-end c = search needs
 
--- src/change.rt:104:25
-part-copy-end-2 : tie.Need-part-copy-end-2
-part-copy-end-2 c = search needs
-
--- src/change.rt:104:5
+-- src/change.rt:103:5
 copy-requires-2 : tie.Need-copy-requires-2
 copy-requires-2 c κs = search needs
 
@@ -62,21 +46,17 @@ same-length c = search needs
 returns : tie.Need-returns
 returns c = ?
 
-pub append-spec : {M : Type 1} → statement M
-append-spec =
+pub write-spec : {M : Type 1} → statement M
+write-spec =
     tie.close
     (tie.spec
     cast-new-head
     new-head-requires
     slice-aggregate-copy
+    copy-requires
     sub-copy
     part-copy-start
     part-copy-end
-    copy-requires
-    add-behind
-    sub-copy-2
-    part-copy-start-2
-    part-copy-end-2
     copy-requires-2
     same-length
     returns)
