@@ -9,6 +9,7 @@ use lib.Dec.{eqb}
 use lib.ListN.{length, take, drop, length-append, length-take, length-drop, take-append-drop}
 use lib.Seq.{paste, take-paste, drop-paste, length-paste, drop-drop, take-take, take-nil, length-take-le}
 use Rattle.block.specs.Below.{AreBytes}
+use Rattle.block.proofs.Entries.{below-take, below-drop}
 use Rattle.walk.specs.Walk.{over}
 use Rattle.walk.proofs.Loop.{tailed, tail-is}
 use Rattle.shelf.specs.declared.records.Head.{Head}
@@ -45,57 +46,91 @@ between-same to at used s s₀ h e =
     let f : (l : List ℕ) → drop (at - to) (drop to l) ≡ drop at l = λ l. drop-drop (at - to) to l ∙ ap (λ (n : ℕ). drop n l) (sym k) in
     ap (take (used - at)) (sym (f s) ∙ ap (drop (at - to)) e ∙ f s₀)
 
-module _ (coming : Bool) (job : ℕ) (s s₀ : List ℕ) (to at used : ℕ) (h : Head) where
-  module _ (told : h ≡ headAt (between at used s)) (t : Turn (between at used s) h) (below : to ≤ at) (inside : at ≤ used) (room : used ≤ length s) where
-    length-between : length (between at used s) ≡ used - at
-    length-between = let l = length-drop at s in length-take-le (used - at) (drop at s) (omega arith)
+-- how far a collection has come: the records up to `at` are done with, and what stays of them stands before `to`
+pub record Collecting (coming : Bool) (job : ℕ) (s₀ : List ℕ) (used : ℕ) (s : List ℕ) (to at : ℕ) : Type 0 where
+  pub below : to ≤ at
+  pub inside : at ≤ used
+  pub long : length s ≡ length s₀
+  -- nothing from `to` on has changed
+  pub behind : drop to s ≡ drop to s₀
+  -- with what stays of the records to come, it is all that stays
+  pub all : take to s ++ kept coming job (between at used s) ≡ kept coming job (take used s₀)
 
-    pub fits : at + h .size ≤ used
-    fits = let l = length-between in let w = t .within in omega arith
+module _ (coming : Bool) (job : ℕ) (s₀ : List ℕ) (used : ℕ) (room : used ≤ length s₀) where
+  pub collecting-starts : Collecting coming job s₀ used s₀ 0 0
+  collecting-starts =
+      let e : used - 0 ≡ used = omega arith in
+      record { below = omega arith; inside = omega arith; long = refl; behind = refl; all = rw e }
 
-    -- it stays
-    pub stayed : AreBytes (between at used s) → h .current && not (coming && eqb (h .job) job) ≡ true
-        → take (to + h .size) (paste s to (drop at s) (h .size)) ++ kept coming job (between (at + h .size) used s)
-        ≡ take to s ++ kept coming job (between at used s)
-    stayed small stay =
-        let l = length-drop at s in
-        let f = fits in
-        let whole : written (entry (between at used s) h) ≡ take (h .size) (drop at s) =
-        entry-written (between at used s) h told t small ∙ take-take (h .size) (used - at) (drop at s) (omega arith) in
-        let one : kept coming job (between at used s) ≡ take (h .size) (drop at s) ++ kept coming job (between (at + h .size) used s) =
-        kept-here (between at used s) h t coming job stay
-        ∙ ap₂ _++_ whole (ap (kept coming job) (between-on at used (h .size) s)) in
-        ap (λ (x : List ℕ). x ++ kept coming job (between (at + h .size) used s)) (take-paste s to (drop at s) (h .size) (omega arith) (omega arith))
-        ∙ append-assoc (take to s) (take (h .size) (drop at s)) _
-        ∙ ap (λ (x : List ℕ). take to s ++ x) (sym one)
+  module _ (s : List ℕ) (to at : ℕ) (so-far : Collecting coming job s₀ used s to at) where
+    -- the end: all that is kept stands at the front
+    module _ (none : records (between at used s) ≡ []) where
+      front-kept : take to s ≡ kept coming job (take used s₀)
+      unfolding those stored
+      front-kept =
+          sym (append-nil (take to s))
+          ∙ ap (λ (rs : List Record). take to s ++ stored (those (stays coming job) rs)) (sym none)
+          ∙ so-far .all
 
-    pub behind-same : drop to s ≡ drop to s₀ → drop (to + h .size) (paste s to (drop at s) (h .size)) ≡ drop (to + h .size) s₀
-    behind-same e =
-        let l = length-drop at s in
-        let f = fits in
-        drop-paste s to (drop at s) (h .size) (omega arith) (omega arith)
-        ∙ sym (drop-drop (h .size) to s) ∙ ap (drop (h .size)) e ∙ drop-drop (h .size) to s₀
+      pub kept-length : to ≡ length (kept coming job (take used s₀))
+      kept-length = sym (length-take-le to s (omega arith)) ∙ ap length front-kept
 
-    pub still-long : length (paste s to (drop at s) (h .size)) ≡ length s
-    still-long = let l = length-drop at s in let f = fits in length-paste s to (drop at s) (h .size) (omega arith) (omega arith)
+      pub kept-over : s ≡ over (kept coming job (take used s₀)) s₀
+      kept-over = sym (take-append-drop to s) ∙ ap₂ _++_ front-kept (so-far .behind ∙ ap (λ (k : ℕ). drop k s₀) kept-length)
 
-    -- it does not
-    pub left-out : h .current && not (coming && eqb (h .job) job) ≡ false
-        → kept coming job (between (at + h .size) used s) ≡ kept coming job (between at used s)
-    left-out gone = sym (kept-behind (between at used s) h t coming job gone ∙ ap (kept coming job) (between-on at used (h .size) s))
+    -- a turn
+    module _ (h : Head) (told : h ≡ headAt (between at used s)) (t : Turn (between at used s) h) where
+      pub fits : at + h .size ≤ used
+      fits =
+          let l = length-drop at s in
+          let n : length (between at used s) ≡ used - at = length-take-le (used - at) (drop at s) (omega arith) in
+          omega (arith, t .within)
 
--- the end: all that is kept stands at the front
-module _ (coming : Bool) (job : ℕ) (s s₀ : List ℕ) (to at used : ℕ) (none : records (between at used s) ≡ [])
-    (all : take to s ++ kept coming job (between at used s) ≡ kept coming job (take used s₀)) (long : to ≤ length s) where
-  front-kept : take to s ≡ kept coming job (take used s₀)
-  unfolding those stored
-  front-kept =
-      sym (append-nil (take to s))
-      ∙ ap (λ (rs : List Record). take to s ++ stored (those (stays coming job) rs)) (sym none)
-      ∙ all
+      small-here : AreBytes s₀ → AreBytes (between at used s)
+      small-here small =
+          rw (between-same to at used s s₀ (so-far .below) (so-far .behind))
+          (below-take 256 (used - at) (drop at s₀) (below-drop 256 at s₀ small))
 
-  pub kept-length : to ≡ length (kept coming job (take used s₀))
-  kept-length = sym (length-take-le to s long) ∙ ap length front-kept
+      -- it stays
+      one-more : AreBytes s₀ → h .current && not (coming && eqb (h .job) job) ≡ true
+          → kept coming job (between at used s) ≡ take (h .size) (drop at s) ++ kept coming job (between (at + h .size) used s)
+      one-more small stay =
+          let f = fits in
+          let whole : written (entry (between at used s) h) ≡ take (h .size) (drop at s) =
+          entry-written (between at used s) h told t (small-here small) ∙ take-take (h .size) (used - at) (drop at s) (omega arith) in
+          kept-here (between at used s) h t coming job stay
+          ∙ ap₂ _++_ whole (ap (kept coming job) (between-on at used (h .size) s))
 
-  pub kept-over : drop to s ≡ drop to s₀ → s ≡ over (kept coming job (take used s₀)) s₀
-  kept-over e = sym (take-append-drop to s) ∙ ap₂ _++_ front-kept (e ∙ ap (λ (k : ℕ). drop k s₀) kept-length)
+      pub stay-turn : AreBytes s₀ → h .current && not (coming && eqb (h .job) job) ≡ true → (s′ : List ℕ) (to′ : ℕ)
+          → s′ ≡ paste s to (drop at s) (h .size) → to′ ≡ to + h .size → Collecting coming job s₀ used s′ to′ (at + h .size)
+      stay-turn small stay s′ to′ e g =
+          let f = fits in
+          let n = h .size in
+          let l = length-drop at s in
+          let moved = drop-paste s to (drop at s) n (omega arith) (omega arith) in
+          let rest = between-same (to + n) (at + n) used (paste s to (drop at s) n) s (omega arith) moved in
+          record {
+            below = omega arith;
+            inside = f;
+            long = ap length e ∙ length-paste s to (drop at s) n (omega arith) (omega arith) ∙ so-far .long;
+            behind =
+              rw (e, g) (moved ∙ sym (drop-drop n to s) ∙ ap (drop n) (so-far .behind) ∙ drop-drop n to s₀);
+            all =
+              rw (e, g, take-paste s to (drop at s) n (omega arith) (omega arith), rest)
+              (append-assoc (take to s) (take n (drop at s)) (kept coming job (between (at + n) used s))
+              ∙ ap (λ (x : List ℕ). take to s ++ x) (sym (one-more small stay)) ∙ so-far .all)
+          }
+
+      -- it does not
+      pub gone-turn : h .current && not (coming && eqb (h .job) job) ≡ false → (s′ : List ℕ) (to′ : ℕ) → s′ ≡ s → to′ ≡ to
+          → Collecting coming job s₀ used s′ to′ (at + h .size)
+      gone-turn gone s′ to′ e g =
+          let same : kept coming job (between at used s) ≡ kept coming job (between (at + h .size) used s) =
+          kept-behind (between at used s) h t coming job gone ∙ ap (kept coming job) (between-on at used (h .size) s) in
+          record {
+            below = omega arith;
+            inside = fits;
+            long = ap length e ∙ so-far .long;
+            behind = rw (e, g) (so-far .behind);
+            all = rw (e, g) (ap (λ (x : List ℕ). take to s ++ x) (sym same) ∙ so-far .all)
+          }

@@ -56,8 +56,10 @@ unfolding findCall
 returns-3 c =
     let at-seek = c .before .before in
     let good = at-seek .before .before in
+    let a = good .before .before .before .args in
     let there = found at-seek in
-    rw (sym (good .before .bad .ensures) ∙ good .if1 .left, there .0, there .1, size-has _ _ (omega arith))
+    let has = size-has (a .job) (records (take (a .used) (now (a .shelf)))) (omega arith) in
+    rw (sym (good .before .bad .ensures) ∙ good .if1 .left, there .0, there .1, has)
 
 pub find-spec : {M : Type 1} → statement M
 find-spec = tie.close (tie.spec (λ c κs. search needs) returns (λ c. search needs) (λ c. search needs) part-seek-end seek-requires returns-2 returns-3)
