@@ -6,3 +6,4 @@ pub mod Sound
 pub mod Keeping
 pub mod Marking
 pub mod Putting
+pub mod Outcomes

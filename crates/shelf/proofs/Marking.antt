@@ -11,11 +11,10 @@ use Rattle.block.specs.Below.{AreBytes}
 use Rattle.block.proofs.Entries.{below-take}
 use Rattle.walk.specs.Walk.{over}
 use Rattle.shelf.specs.Records.{Record, written, stored, records}
-use Rattle.shelf.specs.Shelf.{isCurrentOf, hasCurrent, placeOf, sizeOf, supersede}
+use Rattle.shelf.specs.Shelf.{isCurrentOf, hasCurrent, placeOf, sizeOf, supersede, InOrder}
 use Rattle.shelf.proofs.Reading.{length-written}
 use Rattle.shelf.proofs.Inverse.{stored-records}
 use Rattle.shelf.proofs.Superseding.{or-rest, supersede-none, length-supersede, mark-one, current-size, none-size}
-use Rattle.shelf.proofs.Sound.{InOrder}
 
 has-by : (job : ℕ) (rs : List Record) (t : Bool) → hasCurrent job rs ≡ t → 0 < sizeOf job rs → hasCurrent job rs ≡ true
 has-by job rs true e h = e

@@ -6,10 +6,18 @@ use mathlib.Core.List.{List, [], _∷_, _++_, append-nil, append-assoc}
 use Prim.Native.Nat.{ℕ, _+_, _≤_, _<_}
 use native.Mathlib.Omega.{arith}
 use lib.Dec.{leb, ltb, eqb}
-use lib.ListN.{length, length-append}
+use lib.ListN.{length, take, drop, length-append}
+use lib.Seq.{take-length}
 use borrow.Author.Tests.{ltb-true, ltb-false, le-leb, lt-leb}
+use Rattle.block.specs.BigEndian.{bytesOf}
+use Rattle.block.proofs.Convert.{length-bytesOf}
+use Rattle.walk.specs.Walk.{over}
+use Rattle.walk.proofs.Loop.{tailed, returned, over-behind}
+use Rattle.label.specs.Label.{labelOf}
+use Rattle.label.proofs.LabelTells.{length-label}
 use Rattle.shelf.specs.Records.{Record, written, stored}
 use Rattle.shelf.specs.Shelf.{isCurrentOf, those, stays, collected, superseded, supersede, withNew, fitted, roomMade}
+use Rattle.shelf.specs.Calls.{newRecord}
 use Rattle.shelf.proofs.Reading.{length-written}
 use Rattle.shelf.proofs.Superseding.{length-supersede}
 
@@ -31,7 +39,9 @@ those-append test (r ∷ a) b = rw (those-append test a b) (cons-where (test r) 
 one-coming : (job : ℕ) (current same : Bool) (r : Record) → r .current ≡ current → eqb (r .job) job ≡ same → (a b : List Record) → a ≡ b
     → cond (stays true job r) (r ∷ a) a ≡ cond (cond (isCurrentOf job r) (superseded r) r .current) (cond (isCurrentOf job r) (superseded r) r ∷ b) b
 one-coming job true true r e f a b g = rw (e, f) g
-one-coming job true false r e f a b g = rw (e, f) (ap {B = List Record} (λ (l : List Record). r ∷ l) g)
+one-coming job true false r e f a b g = 
+    rw (e, f)
+    (ap {B = List Record} (λ (l : List Record). record { current = true; job = r .job; edition = r .edition; sealed = r .sealed } ∷ l) g)
 one-coming job false same r e f a b g = rw e g
 
 -- what stays where a job's new record is coming
@@ -110,6 +120,23 @@ module _ (new : Record) (rs : List Record) where
     pub enough : length (stored (collected (withNew new rs))) ≤ room
         → length (stored (roomMade room (length (new .sealed)) (new .job) rs)) + (12 + length (new .sealed)) ≤ room
     enough = enough-by (ltb room (length (stored rs) + (12 + length (new .sealed)))) refl
+
+-- head and sealed bytes written one behind the other
+pub record-written : (job edition : ℕ) (sealed head o o₁ t : List ℕ) → head ≡ 0x52 ∷ 0x44 ∷ (labelOf job edition ++ bytesOf 4 (length sealed))
+    → o₁ ≡ take (length head) head ++ drop (length head) o → t ≡ take (length sealed) sealed ++ drop (length sealed) (tailed 12 o₁)
+    → returned 12 o₁ t ≡ over (written (newRecord job edition sealed)) o
+unfolding written
+record-written job edition sealed head o o₁ t e f g =
+    let n = length-append (labelOf job edition) (bytesOf 4 (length sealed)) in
+    let l = length-label job edition in
+    let k = length-bytesOf 4 (length sealed) in
+    let long : length head ≡ 12 = ap length e ∙ rw n (omega arith) in
+    let whole : head ++ sealed ≡ written (newRecord job edition sealed) =
+    ap (λ (x : List ℕ). x ++ sealed) e
+    ∙ ap (λ (x : List ℕ). 0x52 ∷ 0x44 ∷ x) (append-assoc (labelOf job edition) (bytesOf 4 (length sealed)) sealed) in
+    over-behind head sealed o o₁ t 12 long (f ∙ ap (λ (x : List ℕ). x ++ drop (length head) o) (take-length head))
+    (g ∙ ap (λ (x : List ℕ). x ++ drop (length sealed) (tailed 12 o₁)) (take-length sealed))
+    ∙ ap (λ (x : List ℕ). over x o) whole
 
 module _ (room n job used : ℕ) (rs : List Record) (fills : length (stored rs) ≡ used) where
   pub made-short : ltb room (used + (12 + n)) ≡ true → those (stays true job) rs ≡ roomMade room n job rs

@@ -11,7 +11,7 @@ use lib.Seq.{length-take-le}
 use borrow.Author.Tests.{lt-ltb, le-ltb, ltb-false, eqb-true, eq-eqb, ne-eqb, not-false}
 use Rattle.block.specs.Words.{wordAt}
 use Rattle.shelf.specs.Records.{Record, written, stored, startsRecord, sizeAt, front, records}
-use Rattle.shelf.specs.Shelf.{hasCurrent, twoCurrent, soundUpTo, badShelf}
+use Rattle.shelf.specs.Shelf.{hasCurrent, twoCurrent, soundUpTo, badShelf, InOrder}
 use Rattle.shelf.proofs.Reading.{length-written, starts-within, size-starts, too-short, never, records-none, records-one}
 use Rattle.shelf.proofs.Walks.{or-left, or-right}
 
@@ -84,13 +84,6 @@ sound-test rs used false e h = rw (sound-all rs e) (or-false (not (eqb (length (
 sound-test rs used true e h =
     let l = sound-less rs e in
     rw (ne-eqb (soundUpTo rs) used (λ f. omega arith)) (or-true (not (eqb (length (stored rs)) used)))
-
--- what a shelf in order is
-pub record InOrder (shelf : List ℕ) (used : ℕ) : Type 0 where
-  pub size : length shelf ≤ 65536
-  pub within : used ≤ length shelf
-  pub fills : length (stored (records (take used shelf))) ≡ used
-  pub single : twoCurrent (records (take used shelf)) ≡ false
 
 module _ (shelf : List ℕ) (used : ℕ) where
   pub bad-size : 65536 < length shelf → true ≡ badShelf shelf used

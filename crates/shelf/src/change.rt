@@ -1,13 +1,12 @@
 // What changes a shelf; its first `used` bytes are its records.
 ghost use mathlib.Core.Path.{_≡_};
-ghost use mathlib.Core.Bool.{true, false};
 ghost use Prim.Native.Nat.{_+_, _≤_};
 ghost use lib.Dec.{ltb};
 ghost use lib.ListN.{length, take, drop};
 ghost use lib.Seq.{paste};
 ghost use Rattle.walk.specs.Walk.{over};
 ghost use Rattle.shelf.specs.Records.{written, stored, records};
-ghost use Rattle.shelf.specs.Shelf.{twoCurrent, those, stays, supersede, roomMade};
+ghost use Rattle.shelf.specs.Shelf.{those, stays, supersede, roomMade, InOrder};
 ghost use Rattle.shelf.specs.Calls.{newRecord};
 use crate::lookup;
 use crate::records;
@@ -50,9 +49,7 @@ pub(crate) fn keep(shelf: &mut [u8], used: usize, coming: bool, job: u32) -> usi
 
 // Marks the job's current record, if there is one, superseded: one byte.
 fn mark(shelf: &mut [u8], used: usize, job: u32)
-    requires { ⌜ used ≤ length (now shelf) ⌝ }
-    requires { ⌜ length (stored (records (take used (now shelf)))) ≡ used ⌝ }
-    requires { ⌜ twoCurrent (records (take used (now shelf))) ≡ false ⌝ }
+    requires { ⌜ InOrder (now shelf) used ⌝ }
     ensures { λ _. ⌜ now (shelf .exit) ≡ over (stored (supersede job (records (take used (now (shelf .entry)))))) (now (shelf .entry)) ⌝ }
 {
     let span = lookup::seek(&shelf[0..used], job);
@@ -79,9 +76,7 @@ pub(crate) fn short(room: usize, taken: usize, n: usize) -> bool
 // Makes room for a new record of the job with `n` sealed bytes, and hands back where it goes. Where it fits behind the last one,
 // the current one is marked; else all that is superseded is thrown out, and that one with it, unmarked.
 pub(crate) fn make_room(shelf: &mut [u8], used: usize, job: u32, n: usize) -> usize
-    requires { ⌜ used ≤ length (now shelf) ⌝ }
-    requires { ⌜ length (stored (records (take used (now shelf)))) ≡ used ⌝ }
-    requires { ⌜ twoCurrent (records (take used (now shelf))) ≡ false ⌝ }
+    requires { ⌜ InOrder (now shelf) used ⌝ }
     ensures { λ r. ⌜ r ≡ length (stored (roomMade (length (now (shelf .entry))) n job (records (take used (now (shelf .entry)))))) ⌝ }
     ensures { λ _. ⌜ now (shelf .exit) ≡ over (stored (roomMade (length (now (shelf .entry))) n job (records (take used (now (shelf .entry)))))) (now (shelf .entry)) ⌝ }
 {
