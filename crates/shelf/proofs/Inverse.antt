@@ -49,9 +49,10 @@ module _ (b : List ℕ) (small : AreBytes b) where
 
   marked-back : marked b ≡ true → (0x52 ≡ getD b 0 0) × (markOf (eqb (getD b 1 0) 0x44) ≡ getD b 1 0)
   unfolding marked
-  marked-back m =
-      (sym (eqb-true (getD b 0 0) 0x52 (and-left _ _ m)),
-        mark-by (getD b 1 0) (eqb (getD b 1 0) 0x44) refl (and-right (eqb (getD b 0 0) 0x52) _ m))
+  marked-back m = (
+    sym (eqb-true (getD b 0 0) 0x52 (and-left _ _ m)),
+    mark-by (getD b 1 0) (eqb (getD b 1 0) 0x44) refl (and-right (eqb (getD b 0 0) 0x52) _ m),
+  )
 
   -- the record that is read, written, is the bytes that it was read from
   pub front-written : startsRecord b ≡ true → written (front b) ≡ take (sizeAt b) b
@@ -94,10 +95,10 @@ stored-by zero b h small =
 stored-by (suc n) b h small =
     stored-step b small (startsRecord b) refl
     (λ f.
-      let w = starts-within b f in
-      let s = size-starts b f in
-      let l = length-drop (sizeAt b) b in
-      stored-by n (drop (sizeAt b) b) (omega arith) (below-drop 256 (sizeAt b) b small))
+    let w = starts-within b f in
+    let s = size-starts b f in
+    let l = length-drop (sizeAt b) b in
+    stored-by n (drop (sizeAt b) b) (omega arith) (below-drop 256 (sizeAt b) b small))
 
 pub stored-front : (b : List ℕ) → AreBytes b → stored (records b) ≡ take (length (stored (records b))) b
 stored-front b small = stored-by (length b) b (omega arith) small

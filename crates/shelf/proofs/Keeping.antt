@@ -114,11 +114,11 @@ module _ (coming : Bool) (job : ℕ) (s₀ : List ℕ) (used : ℕ) (room : used
             inside = f;
             long = ap length e ∙ length-paste s to (drop at s) n (omega arith) (omega arith) ∙ so-far .long;
             behind =
-              rw (e, g) (moved ∙ sym (drop-drop n to s) ∙ ap (drop n) (so-far .behind) ∙ drop-drop n to s₀);
+                rw (e, g) (moved ∙ sym (drop-drop n to s) ∙ ap (drop n) (so-far .behind) ∙ drop-drop n to s₀);
             all =
-              rw (e, g, take-paste s to (drop at s) n (omega arith) (omega arith), rest)
-              (append-assoc (take to s) (take n (drop at s)) (kept coming job (between (at + n) used s))
-              ∙ ap (λ (x : List ℕ). take to s ++ x) (sym (one-more small stay)) ∙ so-far .all)
+                rw (e, g, take-paste s to (drop at s) n (omega arith) (omega arith), rest)
+                (append-assoc (take to s) (take n (drop at s)) (kept coming job (between (at + n) used s))
+                ∙ ap (λ (x : List ℕ). take to s ++ x) (sym (one-more small stay)) ∙ so-far .all);
           }
 
       -- it does not
@@ -132,5 +132,5 @@ module _ (coming : Bool) (job : ℕ) (s₀ : List ℕ) (used : ℕ) (room : used
             inside = fits;
             long = ap length e ∙ so-far .long;
             behind = rw (e, g) (so-far .behind);
-            all = rw (e, g) (ap (λ (x : List ℕ). take to s ++ x) (sym same) ∙ so-far .all)
+            all = rw (e, g) (ap (λ (x : List ℕ). take to s ++ x) (sym same) ∙ so-far .all);
           }

@@ -39,7 +39,7 @@ those-append test (r ∷ a) b = rw (those-append test a b) (cons-where (test r) 
 one-coming : (job : ℕ) (current same : Bool) (r : Record) → r .current ≡ current → eqb (r .job) job ≡ same → (a b : List Record) → a ≡ b
     → cond (stays true job r) (r ∷ a) a ≡ cond (cond (isCurrentOf job r) (superseded r) r .current) (cond (isCurrentOf job r) (superseded r) r ∷ b) b
 one-coming job true true r e f a b g = rw (e, f) g
-one-coming job true false r e f a b g = 
+one-coming job true false r e f a b g =
     rw (e, f)
     (ap {B = List Record} (λ (l : List Record). record { current = true; job = r .job; edition = r .edition; sealed = r .sealed } ∷ l) g)
 one-coming job false same r e f a b g = rw e g

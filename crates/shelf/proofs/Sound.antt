@@ -42,10 +42,10 @@ within-by zero b h = within-step b false (too-short b (omega arith)) (λ e. absu
 within-by (suc n) b h =
     within-step b (startsRecord b) refl
     (λ f.
-      let w = starts-within b f in
-      let s = size-starts b f in
-      let l = length-drop (sizeAt b) b in
-      within-by n (drop (sizeAt b) b) (omega arith))
+    let w = starts-within b f in
+    let s = size-starts b f in
+    let l = length-drop (sizeAt b) b in
+    within-by n (drop (sizeAt b) b) (omega arith))
 
 pub stored-within : (b : List ℕ) → length (stored (records b)) ≤ length b
 stored-within b = within-by (length b) b (omega arith)
@@ -114,12 +114,16 @@ module _ (shelf : List ℕ) (used : ℕ) where
         size = ltb-false 65536 (length shelf) first;
         within = ltb-false (length shelf) used second;
         fills = eqb-true (length (stored (records (take used shelf)))) used (not-false (eqb (length (stored (records (take used shelf)))) used) filled);
-        single = or-right (not (eqb (length (stored (records (take used shelf)))) used)) _ e₂
+        single = or-right (not (eqb (length (stored (records (take used shelf)))) used)) _ e₂;
       }
 
   -- and the other way round
   pub not-bad : InOrder shelf used → badShelf shelf used ≡ false
   unfolding badShelf
   not-bad o =
-      rw (le-ltb 65536 (length shelf) (o .size), le-ltb (length shelf) used (o .within),
-        eq-eqb (length (stored (records (take used shelf)))) used (o .fills), o .single)
+      rw (
+        le-ltb 65536 (length shelf) (o .size),
+        le-ltb (length shelf) used (o .within),
+        eq-eqb (length (stored (records (take used shelf)))) used (o .fills),
+        o .single,
+      )

@@ -74,10 +74,10 @@ loop-again c =
     let told = at-else .before .front .ensures in
     ⊎-elim
     (λ w.
-      stay-turn _ _ s₀ _ (S .pre) _ _ _ (at-loop .loop .inv) _ told (turn at-else) (below-each 256 s₀ each)
-      (sym (at-stays .stays .ensures) ∙ w .0 .taken) _ _ (w .5 ∙ w .2 .ensures) (w .6))
+    stay-turn _ _ s₀ _ (S .pre) _ _ _ (at-loop .loop .inv) _ told (turn at-else) (below-each 256 s₀ each)
+    (sym (at-stays .stays .ensures) ∙ w .0 .taken) _ _ (w .5 ∙ w .2 .ensures) (w .6))
     (λ w.
-      gone-turn _ _ s₀ _ (S .pre) _ _ _ (at-loop .loop .inv) _ told (turn at-else) (sym (at-stays .stays .ensures) ∙ w .0 .left) _ _ (w .1) (w .2))
+    gone-turn _ _ s₀ _ (S .pre) _ _ _ (at-loop .loop .inv) _ told (turn at-else) (sym (at-stays .stays .ensures) ∙ w .0 .left) _ _ (w .1) (w .2))
     (c .if2 .came)
 
 pub keep-spec : {M : Type 1} → statement M

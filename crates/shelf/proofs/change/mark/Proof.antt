@@ -31,9 +31,10 @@ found : (x : tie.After-seek)
 found x =
     let a = x .before .before .before .before .args in
     let whole : a .used - 0 ≡ a .used = omega arith in
-    let told = x .seek .ensures in
-    (ap (λ (s : Span). s .start) told ∙ ap (λ (k : ℕ). placeOf (a .job) (records (take k (now (a .shelf))))) whole,
-      ap (λ (s : Span). s .length) told ∙ ap (λ (k : ℕ). sizeOf (a .job) (records (take k (now (a .shelf))))) whole)
+    let told = x .seek .ensures in (
+      ap (λ (s : Span). s .start) told ∙ ap (λ (k : ℕ). placeOf (a .job) (records (take k (now (a .shelf))))) whole,
+      ap (λ (s : Span). s .length) told ∙ ap (λ (k : ℕ). sizeOf (a .job) (records (take k (now (a .shelf))))) whole,
+    )
 
 has : (x : tie.Then1)
     → let a = x .before .before .before .before .before .before .args in
