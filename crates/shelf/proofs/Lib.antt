@@ -7,3 +7,5 @@ pub mod Keeping
 pub mod Marking
 pub mod Putting
 pub mod Outcomes
+pub mod Current
+pub mod ReadsProper
