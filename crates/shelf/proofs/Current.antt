@@ -6,10 +6,10 @@ use mathlib.Core.List.{List, [], _∷_, _++_, append-nil}
 use Prim.Native.Nat.{ℕ, _+_, _≤_}
 use native.Mathlib.Omega.{arith}
 use lib.Dec.{leb, eqb}
-use lib.ListN.{length}
+use lib.ListN.{length, length-append}
 use borrow.Author.Tests.{eqb-true, eq-eqb, ne-eqb}
 use Rattle.block.proofs.Same.{and-left, and-right}
-use Rattle.shelf.specs.Records.{Record, stored}
+use Rattle.shelf.specs.Records.{Record, written, stored}
 use Rattle.shelf.specs.Shelf.{isCurrentOf, those, currentOf, collected, hasCurrent, twoCurrent, superseded, supersede, withNew, fitted}
 use Rattle.shelf.proofs.Walks.{or-left, or-right, none-current, alone}
 use Rattle.shelf.proofs.Putting.{those-append}
@@ -95,6 +95,17 @@ marked-out : (other : ℕ) (r : Record) (a b : List Record) (t : Bool) → isCur
     → a ≡ cond t (r ∷ b) b
 marked-out other r a b true e f g = let z : _≡_ {A = ℕ} 0 1 = (let w = f refl in cc) in absurd (omega arith)
 marked-out other r a b false e f g = g
+
+shorter-by : (r : Record) (a b : List Record) (t : Bool) → length (stored a) ≤ length (stored b)
+    → length (stored (cond t (r ∷ a) a)) ≤ length (stored (r ∷ b))
+unfolding stored
+shorter-by r a b true h = let n = length-append (written r) (stored a) in let m = length-append (written r) (stored b) in omega arith
+shorter-by r a b false h = let m = length-append (written r) (stored b) in omega arith
+
+pub collected-length : (rs : List Record) → length (stored (collected rs)) ≤ length (stored rs)
+unfolding those
+collected-length [] = omega arith
+collected-length (r ∷ rs) = shorter-by r (collected rs) rs (r .current) (collected-length rs)
 
 -- marking: of the job there is none left, and of the others nothing is changed
 marked-by : (job other : ℕ) (r : Record) (a b : List Record) (t : Bool) → isCurrentOf job r ≡ t → (isCurrentOf other r ≡ true → t ≡ false)

@@ -9,5 +9,5 @@ pub mod Putting
 pub mod Outcomes
 pub mod Current
 pub mod ReadsProper
-pub mod LookUp
+pub mod FoundPart
 pub mod AfterPut
