@@ -3,7 +3,7 @@
 use mathlib.Core.Path.{_≡_, refl, sym, ap, ap₂, _∙_}
 use mathlib.Core.Bool.{Bool, true, false, _||_, cond}
 use mathlib.Core.List.{List, [], _∷_, _++_}
-use Prim.Native.Nat.{ℕ, zero, suc, _+_, _-_, _≤_, _^_}
+use Prim.Native.Nat.{ℕ, zero, suc, _+_, _-_, _≤_, _<_, _^_}
 use native.Mathlib.Nat.{mod-eq-of-lt}
 use native.Mathlib.Omega.{arith}
 use lib.Dec.{eqb, lit<}
@@ -18,8 +18,8 @@ use Rattle.block.proofs.Entries.{below-at, below-drop}
 use Rattle.block.proofs.Same.{and-left, and-right}
 use Rattle.label.specs.Label.{labelOf}
 use Rattle.shelf.specs.declared.records.Head.{Head}
-use Rattle.shelf.specs.Records.{Record, Proper, AllProper, markOf, written, stored, marked, startsRecord, sizeAt, front, records, headAt}
-use Rattle.shelf.proofs.Reading.{length-written, starts-within, size-starts, stands, records-none, records-one, entry, entry-front, Turn}
+use Rattle.shelf.specs.Records.{Record, Proper, AllProper, markOf, written, stored, marked, startsRecord, sizeAt, front, readUpTo, records, headAt}
+use Rattle.shelf.proofs.Reading.{length-written, starts-within, size-starts, stands, too-short, never, records-none, records-one, entry, entry-front, Turn}
 
 -- the first n entries, each by its place
 listed : ℕ → (ℕ → ℕ) → List ℕ
@@ -38,7 +38,7 @@ mark-by x false e f = sym (eqb-true x 0x58 f)
 
 -- a byte list that is read as a number is its bytes again
 module _ (b : List ℕ) (small : AreBytes b) where
-  at : (i : ℕ) → _
+  at : (i : ℕ) → getD b i 0 < 256
   at i = below-at 256 b (lit< tt) small i
 
   four-back : (i : ℕ) → bytesOf 4 (wordAt b i) ≡ getD b i 0 ∷ getD b (i + 1) 0 ∷ getD b (i + 2) 0 ∷ getD b (i + 3) 0 ∷ []
@@ -49,9 +49,10 @@ module _ (b : List ℕ) (small : AreBytes b) where
 
   marked-back : marked b ≡ true → (0x52 ≡ getD b 0 0) × (markOf (eqb (getD b 1 0) 0x44) ≡ getD b 1 0)
   unfolding marked
-  marked-back m =
-      (sym (eqb-true (getD b 0 0) 0x52 (and-left _ _ m)),
-        mark-by (getD b 1 0) (eqb (getD b 1 0) 0x44) refl (and-right (eqb (getD b 0 0) 0x52) _ m))
+  marked-back m = (
+    sym (eqb-true (getD b 0 0) 0x52 (and-left _ _ m)),
+    mark-by (getD b 1 0) (eqb (getD b 1 0) 0x44) refl (and-right (eqb (getD b 0 0) 0x52) _ m),
+  )
 
   -- the record that is read, written, is the bytes that it was read from
   pub front-written : startsRecord b ≡ true → written (front b) ≡ take (sizeAt b) b
@@ -69,27 +70,38 @@ module _ (b : List ℕ) (small : AreBytes b) where
       ∙ ap (λ (k : ℕ). take k b) (sym (size-starts b f)))
 
 -- what reads is what is stored of it
-stored-by : (n : ℕ) (b : List ℕ) → length b ≤ n → AreBytes b → (s : Bool) → startsRecord b ≡ s
+stored-step : (b : List ℕ) → AreBytes b → (s : Bool) → startsRecord b ≡ s
+    → (s ≡ true → stored (records (drop (sizeAt b) b)) ≡ take (length (stored (records (drop (sizeAt b) b)))) (drop (sizeAt b) b))
     → stored (records b) ≡ take (length (stored (records b))) b
 unfolding stored
-stored-by n b h small false f = let e = records-none b f in rw e
-stored-by zero b h small true f = let w = starts-within b f in absurd (omega arith)
-stored-by (suc n) b h small true f =
+stored-step b small false f more = let e = records-none b f in rw e
+stored-step b small true f more =
     let w = starts-within b f in
     let s = size-starts b f in
     let d = drop (sizeAt b) b in
-    let l = length-drop (sizeAt b) b in
     let one = ap stored (records-one b f) ∙ ap (λ (x : List ℕ). x ++ stored (records d)) (front-written b small f) in
-    let n₁ : length (take (sizeAt b) b) ≡ sizeAt b = length-take-le (sizeAt b) b (omega arith) in
+    let n : length (take (sizeAt b) b) ≡ sizeAt b = length-take-le (sizeAt b) b (omega arith) in
     let size : length (stored (records b)) ≡ sizeAt b + length (stored (records d)) =
-    ap length one ∙ length-append (take (sizeAt b) b) (stored (records d)) ∙ ap (λ (k : ℕ). k + length (stored (records d))) n₁ in
+    ap length one ∙ length-append (take (sizeAt b) b) (stored (records d)) ∙ ap (λ (k : ℕ). k + length (stored (records d))) n in
     one
-    ∙ ap (λ (x : List ℕ). take (sizeAt b) b ++ x) (stored-by n d (omega arith) (below-drop 256 (sizeAt b) b small) (startsRecord d) refl)
+    ∙ ap (λ (x : List ℕ). take (sizeAt b) b ++ x) (more refl)
     ∙ sym (take-add (sizeAt b) (length (stored (records d))) b)
     ∙ ap (λ (k : ℕ). take k b) (sym size)
 
+stored-by : (n : ℕ) (b : List ℕ) → length b ≤ n → AreBytes b → stored (records b) ≡ take (length (stored (records b))) b
+stored-by zero b h small =
+    let none = too-short b (omega arith) in
+    stored-step b small false none (λ e. absurd (never e))
+stored-by (suc n) b h small =
+    stored-step b small (startsRecord b) refl
+    (λ f.
+    let w = starts-within b f in
+    let s = size-starts b f in
+    let l = length-drop (sizeAt b) b in
+    stored-by n (drop (sizeAt b) b) (omega arith) (below-drop 256 (sizeAt b) b small))
+
 pub stored-front : (b : List ℕ) → AreBytes b → stored (records b) ≡ take (length (stored (records b))) b
-stored-front b small = stored-by (length b) b (omega arith) small (startsRecord b) refl
+stored-front b small = stored-by (length b) b (omega arith) small
 
 -- records that fill the bytes are the bytes
 pub stored-records : (b : List ℕ) → AreBytes b → length (stored (records b)) ≡ length b → stored (records b) ≡ b
@@ -137,7 +149,7 @@ module _ (r : Record) (proper : Proper r) (rest : List ℕ) where
 
 -- what was stored is read
 pub records-stored : (rs : List Record) → AllProper rs → records (stored rs) ≡ rs
-unfolding stored records
+unfolding stored records readUpTo
 records-stored [] h = refl
 records-stored (r ∷ rs) h = written-reads r (h .0) (stored rs) ∙ ap {B = List Record} (λ (l : List Record). r ∷ l) (records-stored rs (h .1))
 

@@ -2,3 +2,12 @@ pub mod Reading
 pub mod Walks
 pub mod Inverse
 pub mod Superseding
+pub mod Sound
+pub mod Keeping
+pub mod Marking
+pub mod Putting
+pub mod Outcomes
+pub mod Current
+pub mod ReadsProper
+pub mod FoundPart
+pub mod AfterPut

@@ -26,6 +26,9 @@ length-written r =
     let l = length-label (r .job) (r .edition) in
     rw length-append (omega (arith, n, m, l))
 
+pub never : false ≡ true → ⊥
+never e = let z : _≡_ {A = ℕ} 0 1 = cc in omega arith
+
 module _ (b : List ℕ) where
   pub starts-within : startsRecord b ≡ true → (12 ≤ length b) × (marked b ≡ true) × (12 + wordAt b 8 ≤ length b)
   unfolding startsRecord
@@ -90,10 +93,10 @@ enough (suc n) zero b h k = read-none b (suc n) (too-short b (omega arith))
 enough (suc n) (suc m) b h k =
     same-where (startsRecord b) _ _ _
     (λ e.
-      let w = starts-within b e in
-      let s = size-starts b e in
-      let l = length-drop (sizeAt b) b in
-      ap {B = List Record} (λ (rs : List Record). front b ∷ rs) (enough n m (drop (sizeAt b) b) (omega arith) (omega arith)))
+    let w = starts-within b e in
+    let s = size-starts b e in
+    let l = length-drop (sizeAt b) b in
+    ap {B = List Record} (λ (rs : List Record). front b ∷ rs) (enough n m (drop (sizeAt b) b) (omega arith) (omega arith)))
 
 pub records-none : (b : List ℕ) → startsRecord b ≡ false → records b ≡ []
 unfolding records
@@ -167,10 +170,10 @@ module _ (b : List ℕ) (h : Head) (e : h ≡ headAt b) where
         long = omega arith;
         within = omega arith;
         reads =
-          records-one b f
-          ∙ ap {B = List Record} (λ (r : Record). r ∷ records (drop (sizeAt b) b)) (entry-front f)
-          ∙ ap {B = List Record} (λ (l : List ℕ). entry b h ∷ records l) (sym (tail-is b (h .size) ∙ ap (λ (k : ℕ). drop k b) n));
-        whole = length-written (entry b h) ∙ rw l (omega arith)
+            records-one b f
+            ∙ ap {B = List Record} (λ (r : Record). r ∷ records (drop (sizeAt b) b)) (entry-front f)
+            ∙ ap {B = List Record} (λ (l : List ℕ). entry b h ∷ records l) (sym (tail-is b (h .size) ∙ ap (λ (k : ℕ). drop k b) n));
+        whole = length-written (entry b h) ∙ rw l (omega arith);
       }
   turn-by false f z = absurd (z (head-none f))
 

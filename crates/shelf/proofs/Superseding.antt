@@ -52,7 +52,7 @@ two-rest : (r : Record) (rs : List Record) → twoCurrent (r ∷ rs) ≡ false �
 unfolding twoCurrent
 two-rest r rs e = or-right (r .current && hasCurrent (r .job) rs) _ e
 
-or-rest : (a b : Bool) → a || b ≡ true → a ≡ false → b ≡ true
+pub or-rest : (a b : Bool) → a || b ≡ true → a ≡ false → b ≡ true
 or-rest true b e f = cc
 or-rest false b e f = e
 

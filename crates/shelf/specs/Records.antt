@@ -59,7 +59,7 @@ front b =
       current = eqb (getD b 1 0) 0x44;
       job = wordAt b 2;
       edition = numberOf (getD b 6 0 ∷ getD b 7 0 ∷ []);
-      sealed = take (wordAt b 8) (drop 12 b)
+      sealed = take (wordAt b 8) (drop 12 b);
     }
 
 -- at most n records from the front of b on, as far as they stand whole

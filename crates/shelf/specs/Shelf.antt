@@ -1,5 +1,6 @@
 -- What a shelf says of its jobs, and what putting and collecting make of its records.
-use Prim.Native.Nat.{ℕ, _+_}
+use Prim.Native.Nat.{ℕ, _+_, _≤_}
+use mathlib.Core.Path.{_≡_}
 use mathlib.Core.Bool.{Bool, true, false, not, _&&_, _||_, cond}
 use mathlib.Core.List.{List, [], _∷_, _++_}
 use lib.Dec.{leb, ltb, eqb}
@@ -86,3 +87,10 @@ badShelf shelf used =
     || (ltb (length shelf) used
     || (not (eqb (length (stored rs)) used)
     || twoCurrent rs))
+
+-- a shelf that is not bad
+pub record InOrder (shelf : List ℕ) (used : ℕ) : Type 0 where
+  pub size : length shelf ≤ 65536
+  pub within : used ≤ length shelf
+  pub fills : length (stored (records (take used shelf))) ≡ used
+  pub single : twoCurrent (records (take used shelf)) ≡ false

@@ -1,14 +1,12 @@
 // What changes a shelf; its first `used` bytes are its records.
 ghost use mathlib.Core.Path.{_≡_};
-ghost use mathlib.Core.Bool.{true, false};
-ghost use mathlib.Core.List.{_++_};
 ghost use Prim.Native.Nat.{_+_, _≤_};
 ghost use lib.Dec.{ltb};
 ghost use lib.ListN.{length, take, drop};
 ghost use lib.Seq.{paste};
 ghost use Rattle.walk.specs.Walk.{over};
 ghost use Rattle.shelf.specs.Records.{written, stored, records};
-ghost use Rattle.shelf.specs.Shelf.{twoCurrent, those, stays, supersede, roomMade};
+ghost use Rattle.shelf.specs.Shelf.{those, stays, supersede, roomMade, InOrder};
 ghost use Rattle.shelf.specs.Calls.{newRecord};
 use crate::lookup;
 use crate::records;
@@ -51,9 +49,7 @@ pub(crate) fn keep(shelf: &mut [u8], used: usize, coming: bool, job: u32) -> usi
 
 // Marks the job's current record, if there is one, superseded: one byte.
 fn mark(shelf: &mut [u8], used: usize, job: u32)
-    requires { ⌜ used ≤ length (now shelf) ⌝ }
-    requires { ⌜ length (stored (records (take used (now shelf)))) ≡ used ⌝ }
-    requires { ⌜ twoCurrent (records (take used (now shelf))) ≡ false ⌝ }
+    requires { ⌜ InOrder (now shelf) used ⌝ }
     ensures { λ _. ⌜ now (shelf .exit) ≡ over (stored (supersede job (records (take used (now (shelf .entry)))))) (now (shelf .entry)) ⌝ }
 {
     let span = lookup::seek(&shelf[0..used], job);
@@ -80,9 +76,7 @@ pub(crate) fn short(room: usize, taken: usize, n: usize) -> bool
 // Makes room for a new record of the job with `n` sealed bytes, and hands back where it goes. Where it fits behind the last one,
 // the current one is marked; else all that is superseded is thrown out, and that one with it, unmarked.
 pub(crate) fn make_room(shelf: &mut [u8], used: usize, job: u32, n: usize) -> usize
-    requires { ⌜ used ≤ length (now shelf) ⌝ }
-    requires { ⌜ length (stored (records (take used (now shelf)))) ≡ used ⌝ }
-    requires { ⌜ twoCurrent (records (take used (now shelf))) ≡ false ⌝ }
+    requires { ⌜ InOrder (now shelf) used ⌝ }
     ensures { λ r. ⌜ r ≡ length (stored (roomMade (length (now (shelf .entry))) n job (records (take used (now (shelf .entry)))))) ⌝ }
     ensures { λ _. ⌜ now (shelf .exit) ≡ over (stored (roomMade (length (now (shelf .entry))) n job (records (take used (now (shelf .entry)))))) (now (shelf .entry)) ⌝ }
 {
@@ -93,14 +87,13 @@ pub(crate) fn make_room(shelf: &mut [u8], used: usize, job: u32, n: usize) -> us
     used
 }
 
-// Writes a current record at `at`.
-pub(crate) fn append(shelf: &mut [u8], at: usize, job: u32, edition: u16, sealed: &[u8])
-    requires { ⌜ at + (12 + length (now sealed)) ≤ length (now shelf) ⌝ }
+// Writes a current record to the front of `out`.
+pub(crate) fn write(job: u32, edition: u16, sealed: &[u8], out: &mut [u8])
+    requires { ⌜ 12 + length (now sealed) ≤ length (now out) ⌝ }
     requires { ⌜ length (now sealed) ≤ 65536 ⌝ }
-    ensures { λ _. ⌜ now (shelf .exit) ≡ take at (now (shelf .entry)) ++ over (written (newRecord job edition (now (sealed .entry)))) (drop at (now (shelf .entry))) ⌝ }
+    ensures { λ _. ⌜ now (out .exit) ≡ over (written (newRecord job edition (now (sealed .entry)))) (now (out .entry)) ⌝ }
 {
     let head = records::new_head(job, edition, sealed.len() as u32);
-    bytes::copy(&head, &mut shelf[at..]);
-    let behind = at + records::HEAD;
-    bytes::copy(sealed, &mut shelf[behind..]);
+    bytes::copy(&head, out);
+    bytes::copy(sealed, &mut out[records::HEAD..]);
 }

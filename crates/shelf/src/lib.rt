@@ -79,7 +79,7 @@ pub fn put(shelf: &mut [u8], used: usize, job: u32, edition: u16, sealed: &[u8])
         return Kept { ended, used };
     }
     let at = change::make_room(shelf, used, job, n);
-    change::append(shelf, at, job, edition, sealed);
+    change::write(job, edition, sealed, &mut shelf[at..]);
     let ended = Ended::Done;
     Kept {
         ended,

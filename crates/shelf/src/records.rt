@@ -13,7 +13,9 @@ ghost use Rattle.shelf.specs.Records.{marked, sizeAt, headAt};
 pub(crate) const HEAD: usize = 12;
 
 const MARK: u8 = 0x52;
+
 const CURRENT: u8 = 0x44;
+
 pub(crate) const SUPERSEDED: u8 = 0x58;
 
 // What the first bytes of a record say, and how many bytes it has, these included.
@@ -126,6 +128,17 @@ pub(crate) fn new_head(job: u32, edition: u16, n: u32) -> [u8; HEAD]
     let l = label::label(job, edition);
     let b = block::split(n);
     [
-        MARK, CURRENT, l[0], l[1], l[2], l[3], l[4], l[5], b[0], b[1], b[2], b[3],
+        MARK,
+        CURRENT,
+        l[0],
+        l[1],
+        l[2],
+        l[3],
+        l[4],
+        l[5],
+        b[0],
+        b[1],
+        b[2],
+        b[3],
     ]
 }

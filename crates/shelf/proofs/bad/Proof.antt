@@ -1,46 +1,31 @@
+-- `shelf::bad` meets its contract: what is in order up to the used count is the definition's last two tests.
+-- Assumes nothing.
+use mathlib.Core.Path.{_≡_, ap, _∙_}
+use mathlib.Core.Bool.{not}
+use Prim.Native.Nat.{ℕ, _-_}
+use native.Mathlib.Omega.{arith}
+use denote.Ref.{now}
+use lib.Dec.{eqb}
+use lib.ListN.{take}
+use Rattle.shelf.specs.Records.{records}
+use Rattle.shelf.specs.Shelf.{soundUpTo}
+use Rattle.shelf.proofs.Sound.{bad-size, bad-used, bad-records}
 use borrow.Author.Needs.{needs}
 use Rattle.shelf.proofs.bad.Statement.{statement}
 use Rattle.shelf.proofs.bad.Tie as tie
-use Rattle.shelf.proofs.bad.Reads as reads
-use Rattle.shelf.proofs.bad.Lts as lts
-use Rattle.shelf.proofs.lookup.sound_up_to.Reads as sound-up-to-reads
 
--- src/lib.rt:54:9
 returns : tie.Need-returns
-returns c = ?
+returns c = let a = c .before .before .args in bad-size (now (a .shelf)) (a .used) (omega arith)
 
--- src/lib.rt:57:9
 returns-2 : tie.Need-returns-2
-returns-2 c = ?
+returns-2 c = let a = c .before .before .before .args in bad-used (now (a .shelf)) (a .used) (omega arith) (omega arith)
 
--- src/lib.rt:59:25
-sub-sound-up-to : tie.Need-sub-sound-up-to
-sub-sound-up-to c = search needs
-
--- src/lib.rt:59:25
-part-sound-up-to-start : tie.Need-part-sound-up-to-start
-part-sound-up-to-start c = search needs
-
--- src/lib.rt:59:25
-part-sound-up-to-end : tie.Need-part-sound-up-to-end
-part-sound-up-to-end c = search needs
-
--- src/lib.rt:59:5
-sound-up-to-requires : tie.Need-sound-up-to-requires
-sound-up-to-requires c κs = search needs
-
--- src/lib.rt:50:1
 returns-3 : tie.Need-returns-3
-returns-3 c = ?
+returns-3 c =
+    let a = c .before .before .before .before .before .args in
+    let whole : a .used - 0 ≡ a .used = omega arith in
+    let told = c .sound-up-to .ensures ∙ ap (λ (k : ℕ). soundUpTo (records (take k (now (a .shelf))))) whole in
+    ap (λ (k : ℕ). not (eqb k (a .used))) told ∙ bad-records (now (a .shelf)) (a .used) (omega arith) (omega arith)
 
 pub bad-spec : {M : Type 1} → statement M
-bad-spec =
-    tie.close
-    (tie.spec
-    returns
-    returns-2
-    sub-sound-up-to
-    part-sound-up-to-start
-    part-sound-up-to-end
-    sound-up-to-requires
-    returns-3)
+bad-spec = tie.close (tie.spec returns returns-2 (λ c. search needs) (λ c. search needs) (λ c. search needs) (λ c κs. search needs) returns-3)

@@ -1,85 +1,84 @@
+-- `change::keep` meets its contract. The loop's invariant is how far the collection has come, and the measure how many bytes are to come.
+-- Assumes nothing.
+use mathlib.Core.Path.{_≡_, sym, _∙_}
+use mathlib.Core.Logic.{⊎-elim}
+use Prim.Native.Nat.{ℕ, _+_, _-_, _≤_, _<_}
+use native.Mathlib.Omega.{arith}
+use denote.Ref.{now}
+use lib.ListN.{length, getD}
+use Rattle.block.specs.Below.{AreBytes}
+use Rattle.block.proofs.Entries.{below-each}
+use Rattle.shelf.proofs.Reading.{Turn, at-end, on}
+use Rattle.shelf.proofs.Keeping.{between, Collecting, collecting-starts, kept-length, kept-over, fits, stay-turn, gone-turn}
+use borrow.Author.Needs.{needs}
 use Rattle.shelf.proofs.change.keep.Statement.{statement}
 use Rattle.shelf.proofs.change.keep.Tie as tie
-use Rattle.shelf.proofs.change.keep.Reads as reads
-use Rattle.shelf.proofs.change.keep.Lts as lts
-use Rattle.shelf.proofs.change.move_down.Reads as move-down-reads
-use Rattle.shelf.proofs.records.front.Reads as front-reads
-use Rattle.shelf.proofs.records.stays.Reads as stays-reads
 
 abbrev Inv-loop : tie.InvT-loop
-Inv-loop shelf₀ used coming job to₀ at₀ shelf to at = ?
+Inv-loop shelf₀ used coming job to₀ at₀ shelf to at = Collecting coming job shelf₀ used shelf to at
 
 abbrev μ-loop : tie.MeasureT-loop
-μ-loop shelf₀ used coming job to₀ at₀ shelf to at = ?
+μ-loop shelf₀ used coming job to₀ at₀ shelf to at = used - at
 
--- src/change.rt:38:5
 loop-holds : tie.Need-loop-holds Inv-loop μ-loop
-loop-holds c = ?
+loop-holds c = collecting-starts _ _ _ _ (c .before .pre)
 
--- src/change.rt:39:32
-sub-front : tie.Need-sub-front Inv-loop μ-loop
-sub-front c = ?
+turn : (x : tie.Else1 Inv-loop μ-loop)
+    → let at-loop = x .before .before .before .before in
+    Turn (between (at-loop .loop .at) (at-loop .before .before .args .used) (at-loop .loop .shelf)) (x .before .front .result)
+turn x = on _ _ (x .before .front .ensures) (x .if1 .left)
 
--- src/change.rt:39:32
-part-front-start : tie.Need-part-front-start Inv-loop μ-loop
-part-front-start c = ?
+room : (x : tie.Else1 Inv-loop μ-loop)
+    → let at-loop = x .before .before .before .before in
+    at-loop .loop .at + x .before .front .result .size ≤ at-loop .before .before .args .used
+room x =
+    let at-loop = x .before .before .before .before in
+    fits _ _ _ _ (at-loop .before .before .pre) _ _ _ (at-loop .loop .inv) _ (x .before .front .ensures) (turn x)
 
--- src/change.rt:39:32
-part-front-end : tie.Need-part-front-end Inv-loop μ-loop
-part-front-end c = ?
-
--- src/change.rt:39:13
-front-requires : tie.Need-front-requires Inv-loop μ-loop
-front-requires c κs = ?
-
--- src/change.rt:42:13
-same-length : tie.Need-same-length Inv-loop μ-loop
-same-length c = ?
-
--- src/change.rt:42:13
 returns : tie.Need-returns Inv-loop μ-loop
-returns c = ?
+returns c =
+    let at-front = c .before in
+    let at-loop = at-front .before .before .before in
+    let S = at-loop .before .before in
+    let none = at-end _ (at-front .front .result) (at-front .front .ensures) (c .if1 .taken) in
+    (kept-length _ _ _ _ (S .pre) _ _ _ (at-loop .loop .inv) none, kept-over _ _ _ _ (S .pre) _ _ _ (at-loop .loop .inv) none)
 
--- src/change.rt:44:12
-stays-requires : tie.Need-stays-requires Inv-loop μ-loop
-stays-requires c κs = ?
-
--- src/change.rt:45:13
 move-down-requires : tie.Need-move-down-requires Inv-loop μ-loop
-move-down-requires c κs = ?
+move-down-requires c κs =
+    let at-else = c .before .before .before in
+    let at-loop = at-else .before .before .before .before in
+    let inv = at-loop .loop .inv in
+    (inv .below, omega (arith, room at-else, at-loop .before .before .pre, inv .long))
 
--- src/change.rt:46:13
 add-to : tie.Need-add-to Inv-loop μ-loop
-add-to c = ?
+add-to c =
+    let at-else = c .before .before .before .before .before .before in
+    let at-loop = at-else .before .before .before .before in
+    omega (arith, room at-else, at-loop .loop .inv .below)
 
--- src/change.rt:48:9
 add-at : tie.Need-add-at Inv-loop μ-loop
-add-at c = ?
+add-at c = omega (arith, room (c .before .before))
 
--- src/change.rt:38:5
 loop-less : tie.Need-loop-less Inv-loop μ-loop
-loop-less c = ?
+loop-less c = let here = turn (c .before .before) in omega (arith, room (c .before .before), here .long)
 
--- src/change.rt:38:5
 loop-again : tie.Need-loop-again Inv-loop μ-loop
-loop-again c = ?
+loop-again c =
+    let at-stays = c .before in
+    let at-else = at-stays .before in
+    let at-loop = at-else .before .before .before .before in
+    let at-entry = at-loop .before in
+    let S = at-entry .before in
+    let s₀ = now (S .args .shelf) in
+    let each : (k : ℕ) → getD s₀ k 0 < 256 = λ k. omega (arith, at-entry .slice-known .given k) in
+    let told = at-else .before .front .ensures in
+    ⊎-elim
+    (λ w.
+    stay-turn _ _ s₀ _ (S .pre) _ _ _ (at-loop .loop .inv) _ told (turn at-else) (below-each 256 s₀ each)
+    (sym (at-stays .stays .ensures) ∙ w .0 .taken) _ _ (w .5 ∙ w .2 .ensures) (w .6))
+    (λ w.
+    gone-turn _ _ s₀ _ (S .pre) _ _ _ (at-loop .loop .inv) _ told (turn at-else) (sym (at-stays .stays .ensures) ∙ w .0 .left) _ _ (w .1) (w .2))
+    (c .if2 .came)
 
 pub keep-spec : {M : Type 1} → statement M
-keep-spec =
-    tie.close
-    (tie.spec
-    Inv-loop
-    μ-loop
-    loop-holds
-    sub-front
-    part-front-start
-    part-front-end
-    front-requires
-    same-length
-    returns
-    stays-requires
-    move-down-requires
-    add-to
-    add-at
-    loop-less
-    loop-again)
+keep-spec = tie.close (tie.spec Inv-loop μ-loop loop-holds (λ c. omega arith) (λ c. omega arith) (λ c. omega arith) (λ c κs. search needs) (λ c. omega arith) returns (λ c κs. search needs) move-down-requires add-to add-at loop-less loop-again)

@@ -47,9 +47,11 @@ loop-again c =
     let at-loop = c .before .before in
     let S = at-loop .before in
     let a = S .args in
-    let inv = at-loop .loop .inv in
-    (omega arith, simp length-set (inv .1),
-      moved (now (a .shelf)) (at-loop .loop .shelf) (a .to) (a .from) (at-loop .loop .i) (omega arith) (omega arith) (inv .2))
+    let inv = at-loop .loop .inv in (
+      omega arith,
+      simp length-set (inv .1),
+      moved (now (a .shelf)) (at-loop .loop .shelf) (a .to) (a .from) (at-loop .loop .i) (omega arith) (omega arith) (inv .2),
+    )
 
 returns : tie.Need-returns Inv-loop μ-loop
 returns c =

@@ -62,11 +62,11 @@ loop-again c =
     let inv = at-loop .loop .inv in
     ⊎-elim
     (λ w.
-      let more = kept-more _ _ here (a .coming) (a .job) (sym (at-test .stays .ensures) ∙ w .0 .taken) in
-      (omega (arith, more, inv .0), omega (arith, l, here .within, inv .1)))
+    let more = kept-more _ _ here (a .coming) (a .job) (sym (at-test .stays .ensures) ∙ w .0 .taken) in
+    (omega (arith, more, inv .0), omega (arith, l, here .within, inv .1)))
     (λ w.
-      let same = ap length (kept-behind _ _ here (a .coming) (a .job) (sym (at-test .stays .ensures) ∙ w .0 .left)) in
-      (omega (arith, same, inv .0), omega (arith, l, here .within, inv .1)))
+    let same = ap length (kept-behind _ _ here (a .coming) (a .job) (sym (at-test .stays .ensures) ∙ w .0 .left)) in
+    (omega (arith, same, inv .0), omega (arith, l, here .within, inv .1)))
     (c .before .if2 .came)
 
 pub kept-size-spec : {M : Type 1} → statement M
