@@ -3,30 +3,42 @@
 -- Assumes nothing.
 use mathlib.Core.Path.{_≡_, refl, sym, ap, subst, _∙_}
 use mathlib.Core.Logic.{_≢_, inr}
-use mathlib.Core.Bool.{Bool, true, false, not, cond, _||_}
-use mathlib.Core.List.{List, [], _∷_}
-use Prim.Native.Nat.{ℕ, _+_, _^_, _≤_, _<_}
+use mathlib.Core.Bool.{Bool, true, false, not, cond, _&&_}
+use mathlib.Core.List.{List, [], _∷_, _++_, append-nil}
+use Prim.Native.Nat.{ℕ, _^_, _≤_, _<_}
 use native.Mathlib.Omega.{arith}
 use lib.Dec.{leb, ltb, eqb}
 use lib.ListN.{length, take, drop, length-append, length-drop}
-use lib.Seq.{drop-at}
-use borrow.Author.Tests.{ltb-false, leb-true, leb-false, eq-eqb}
-use Rattle.walk.specs.Walk.{over}
+use lib.Seq.{take-at, drop-at, drop-drop}
+use borrow.Author.Tests.{ltb-false, leb-true, leb-false, eqb-true, eq-eqb}
+use Rattle.block.specs.Below.{AreBytes}
+use Rattle.block.specs.BigEndian.{bytesOf}
+use Rattle.block.proofs.Convert.{length-bytesOf}
+use Rattle.block.proofs.Entries.{below-take}
+use Rattle.block.proofs.Same.{and-right}
 use Rattle.label.specs.Label.{labelOf}
+use Rattle.label.proofs.LabelTells.{length-label}
 use Rattle.cipher_mode.specs.declared.Direction.the-variants.{Decrypt}
 use Rattle.cipher_mode.specs.declared.Sm4Cipher.{Sm4Cipher}
 use Rattle.cipher_mode.specs.Calls.{modeCall}
-use Rattle.shelf.specs.Records.{Record, written, stored, records}
-use Rattle.shelf.specs.Shelf.{hasCurrent, notHigher, collected, fitted, badShelf}
-use Rattle.shelf.specs.Calls.{Outcome, Place, holding, refuse, putIn, nowhere, putCall, collectCall, findCall}
+use Rattle.shelf.specs.Records.{Record, AllProper, written, stored, records}
+use Rattle.shelf.specs.Shelf.{isCurrentOf, those, currentOf, hasCurrent, twoCurrent, placeOf, sizeOf, notHigher, collected, fitted, badShelf, InOrder}
+use Rattle.shelf.specs.Calls.{Outcome, Place, holding, refuse, newRecord, putIn, nowhere, putCall, collectCall, findCall, partOf}
+use Rattle.shelf.proofs.Walks.{or-left, or-right, none-current, alone}
+use Rattle.shelf.proofs.Sound.{in-order}
+use Rattle.shelf.proofs.Current.{collected-length}
+use Rattle.shelf.proofs.ReadsProper.{records-proper, those-proper}
+use Rattle.shelf.proofs.FoundPart.{stored-part, look-up}
+use Rattle.shelf.proofs.AfterPut.{put-passed, put-look-up}
 use Rattle.luossavin.specs.declared.shelves.LuossavinShelf.{LuossavinShelf}
 use Rattle.luossavin.specs.declared.shelves.LuossavinShelved.{LuossavinShelved}
 use Rattle.luossavin.specs.Shelves.{shelfReported, shelvedReported}
 use Rattle.demands.specs.Answered.{oneOf}
-use Rattle.demands.specs.Call.{Call, RefusedAs, inGcm}
+use Rattle.demands.specs.Call.{inGcm}
 use Rattle.demands.specs.OneBlockRefused.{MovesZero}
-use Rattle.demands.specs.WhichNumber.{Said, only, row, firstOf}
-use Rattle.demands.specs.OnTheShelf.{ShelfAnswered, PlaceAnswered, putNumbers, collectNumbers, putRows, collectRows, findRows, Each, NoRoughShown}
+use Rattle.demands.specs.WhichNumber.{only, row, firstOf}
+use Rattle.demands.specs.OnTheShelf.{ShelfAnswered, PlaceAnswered, putNumbers, collectNumbers, putRows, collectRows, findRows}
+use Rattle.demands.specs.OnTheShelf.{labelIn, fileIn, OneEditionOpens, NoRoughShown, OfEach}
 use Rattle.demands.proofs.OtherEdition.{other-edition-refused}
 
 -- Which number: putting says what the first condition says that holds.
@@ -124,3 +136,166 @@ exported-put-answers shelf used job edition sealed =
       let new = putIn shelf used job edition sealed in
       holds putNumbers shelf used (fitted (length shelf) new) refl
       (fitted-fits (length shelf) new (ltb-false (length shelf) (length (stored (collected new))) e))
+
+pub exported-collect-answers : (shelf : List ℕ) (used : ℕ) → ShelfAnswered collectNumbers shelf used (collectCall shelf used)
+unfolding collectCall
+exported-collect-answers shelf used = by-test (badShelf shelf used) refl where
+  by-test : (bad : Bool) → badShelf shelf used ≡ bad
+      → ShelfAnswered collectNumbers shelf used (refuse bad 19 shelf used (holding (collected (records (take used shelf))) shelf))
+  by-test true e = refuses collectNumbers shelf used 19 (omega arith) refl
+  by-test false e =
+      let order = in-order shelf used e in
+      let rs = records (take used shelf) in
+      holds collectNumbers shelf used (collected rs) refl (omega (arith, collected-length rs, order .fills, order .within))
+
+pub exported-find-answers : (shelf : List ℕ) (used job : ℕ) → PlaceAnswered shelf used (findCall shelf used job)
+unfolding findCall
+exported-find-answers shelf used job = by-tests (badShelf shelf used) (hasCurrent job (records (take used shelf))) refl where
+  none : (n : ℕ) → 0 < n → oneOf n (0 ∷ 19 ∷ 22 ∷ []) ≡ true → PlaceAnswered shelf used (nowhere n)
+  none n some within = record { numbered = within; refused = λ _. (refl, refl); inside = λ e. absurd (omega (arith, e, some)) }
+
+  by-tests : (bad has : Bool) → badShelf shelf used ≡ bad
+      → PlaceAnswered shelf used
+      (cond bad (nowhere 19)
+      (cond has (record { number = 0; start = placeOf job (records (take used shelf)); size = sizeOf job (records (take used shelf)) })
+      (nowhere 22)))
+  by-tests true has e = none 19 (omega arith) refl
+  by-tests false false e = none 22 (omega arith) refl
+  by-tests false true e =
+      let order = in-order shelf used e in
+      let inside = stored-part job (records (take used shelf)) (order .single) .0 in
+      record {
+        numbered = refl;
+        refused = λ some. absurd (some refl);
+        inside = λ _. (omega (arith, inside, order .fills), order .within);
+      }
+
+-- the label and the file of a record as it is written
+label-written : (r : Record) → labelIn (written r) ≡ labelOf (r .job) (r .edition)
+unfolding written
+label-written r = take-at (labelOf (r .job) (r .edition)) _ 6 (length-label (r .job) (r .edition))
+
+file-written : (r : Record) → fileIn (written r) ≡ r .sealed
+unfolding written
+file-written r =
+    let label = labelOf (r .job) (r .edition) in
+    let size = bytesOf 4 (length (r .sealed)) in
+    sym (drop-drop 4 6 (label ++ (size ++ r .sealed)))
+    ∙ ap (drop 4) (drop-at label (size ++ r .sealed) 6 (length-label (r .job) (r .edition)))
+    ∙ drop-at size (r .sealed) 4 (length-bytesOf 4 (length (r .sealed)))
+
+-- After a put that is done, looking up the job gives the new record: its label is that of the job and the edition, and its file the one put in.
+pub put-is-found : (shelf : List ℕ) (used job edition : ℕ) (sealed : List ℕ) → AreBytes shelf → job < 2 ^ 32 → edition < 2 ^ 16 → AreBytes sealed
+    → putCall shelf used job edition sealed .number ≡ 0
+    → let x = putCall shelf used job edition sealed in
+    let part = partOf (findCall (x .bytes) (x .used) job) (x .bytes) in
+    (labelIn part ≡ labelOf job edition) × (fileIn part ≡ sealed)
+put-is-found shelf used job edition sealed small job-fits edition-fits sealed-small done =
+    let new = newRecord job edition sealed in
+    let found = put-look-up shelf used job edition sealed small job-fits edition-fits sealed-small done in
+    (ap labelIn found ∙ label-written new, ap fileIn found ∙ file-written new)
+
+-- the one current record of a job
+abbrev TheCurrent : ℕ → List Record → Type 0
+TheCurrent job rs = (r : Record) × (currentOf job rs ≡ r ∷ []) × (isCurrentOf job r ≡ true)
+
+current-by : (job : ℕ) (r : Record) (rs : List Record) (t : Bool) → isCurrentOf job r ≡ t → twoCurrent (r ∷ rs) ≡ false
+    → (t ≡ false → TheCurrent job rs) → TheCurrent job (r ∷ rs)
+unfolding those
+current-by job r rs true e f more =
+    (r, rw e (ap {B = List Record} (λ (l : List Record). r ∷ l) (none-current job rs (alone job r rs f e))), e)
+current-by job r rs false e f more = let m = more refl in (m .0, rw e (m .1), m .2)
+
+the-current : (job : ℕ) (rs : List Record) → hasCurrent job rs ≡ true → twoCurrent rs ≡ false → TheCurrent job rs
+unfolding hasCurrent twoCurrent
+the-current job [] h f = let z : _≡_ {A = ℕ} 0 1 = cc in absurd (omega arith)
+the-current job (r ∷ rs) h f =
+    current-by job r rs (isCurrentOf job r) refl f (λ e.
+    the-current job rs (rw e at h) (or-right (r .current && hasCurrent (r .job) rs) (twoCurrent rs) f))
+
+-- what is found is there
+found-there : (shelf : List ℕ) (used job : ℕ) (bad has : Bool) → badShelf shelf used ≡ bad → hasCurrent job (records (take used shelf)) ≡ has
+    → findCall shelf used job .number ≡ 0 → (bad ≡ false) × (has ≡ true)
+unfolding findCall
+found-there shelf used job true has e f z = let n : _≡_ {A = ℕ} 19 0 = rw e at z in absurd (omega arith)
+found-there shelf used job false false e f z = let n : _≡_ {A = ℕ} 22 0 = rw (e, f) at z in absurd (omega arith)
+found-there shelf used job false true e f z = (refl, refl)
+
+module _ (shelf : List ℕ) (used job : ℕ) (small : AreBytes shelf) (found : findCall shelf used job .number ≡ 0) where
+  abbrev rs : List Record
+  rs = records (take used shelf)
+
+  there : (badShelf shelf used ≡ false) × (hasCurrent job rs ≡ true)
+  there = found-there shelf used job (badShelf shelf used) (hasCurrent job rs) refl refl found
+
+  order : InOrder shelf used
+  order = in-order shelf used (there .0)
+
+  current : TheCurrent job rs
+  current = the-current job rs (there .1) (order .single)
+
+  abbrev r : Record
+  r = current .0
+
+  part-written : partOf (findCall shelf used job) shelf ≡ written r
+  unfolding stored
+  part-written = look-up shelf used small order job ∙ ap stored (current .1) ∙ append-nil (written r)
+
+  its-job : r .job ≡ job
+  its-job = eqb-true (r .job) job (and-right (r .current) (eqb (r .job) job) (current .2))
+
+  edition-fits : r .edition < 2 ^ 16
+  edition-fits =
+      let all = those-proper (isCurrentOf job) rs (records-proper (take used shelf) (below-take 256 used shelf small)) in
+      subst AllProper (current .1) all .0 .edition
+
+  -- The current record of a job, where it opens under its own label, is refused as 4 under the label of every other edition, under a key that
+  -- does not encrypt the all-zero block to itself.
+  pub current-opens-alone : (c : Sm4Cipher) → MovesZero (c .rk) → job < 2 ^ 32 → (iv o : List ℕ)
+      → OneEditionOpens (modeCall Decrypt (inGcm c)) job (partOf (findCall shelf used job) shelf) iv o
+  current-opens-alone c moves job-fits iv o =
+      let part = partOf (findCall shelf used job) shelf in
+      let label : labelIn part ≡ labelOf job (r .edition) =
+      ap labelIn part-written ∙ label-written r ∙ ap (λ (j : ℕ). labelOf j (r .edition)) its-job in
+      record {
+        edition = r .edition;
+        label = label;
+        alone = λ opens e fits other.
+            other-edition-refused c moves job job (r .edition) e (fileIn part) iv o o job-fits job-fits edition-fits fits
+            (inr (λ same. other (sym same))) refl
+            (subst (λ (l : List ℕ). modeCall Decrypt (inGcm c) l (fileIn part) iv o .head .number ≡ 0) label opens);
+      }
+
+-- every edition of the job on the shelf is lower than one that is not refused as not higher
+module _ (c : Sm4Cipher) (moves : MovesZero (c .rk)) (job e : ℕ) (job-fits : job < 2 ^ 32) (fits : e < 2 ^ 16) (file iv o : List ℕ) where
+  abbrev shown : Record → Type 0
+  shown r = NoRoughShown (modeCall Decrypt (inGcm c)) job e file iv o r
+
+  lower : (r : Record) → eqb (r .job) job && leb e (r .edition) ≡ false → r .job ≡ job → r .edition < e
+  lower r f same =
+      let t : leb e (r .edition) ≡ false = rw (eq-eqb (r .job) job same) at f in
+      leb-false e (r .edition) t
+
+  not-shown : (r : Record) → r .edition < e → shown r
+  not-shown r h =
+      record {
+        higher = h;
+        new-under-old = λ opens.
+            other-edition-refused c moves job job e (r .edition) file iv o o job-fits job-fits fits (omega (arith, h, fits))
+            (inr (λ same. omega (arith, same, h))) refl opens;
+        old-under-new = λ opens.
+            other-edition-refused c moves job job (r .edition) e (r .sealed) iv o o job-fits job-fits (omega (arith, h, fits)) fits
+            (inr (λ same. omega (arith, same, h))) refl opens;
+      }
+
+  none-shown : (rs : List Record) → notHigher job e rs ≡ false → OfEach shown job rs
+  unfolding notHigher
+  none-shown [] f = tt
+  none-shown (r ∷ rs) f =
+      let here = eqb (r .job) job && leb e (r .edition) in
+      (λ same. not-shown r (lower r (or-left here (notHigher job e rs) f) same), none-shown rs (or-right here (notHigher job e rs) f))
+
+  -- No rough is shown for its final: after a put that is done, under a key that does not encrypt the all-zero block to itself, the file put in
+  -- does not open under the label of any edition of the job that was on the shelf, and none of their files opens under the new one's.
+  pub no-rough-shown : (shelf : List ℕ) (used : ℕ) → putCall shelf used job e file .number ≡ 0 → OfEach shown job (records (take used shelf))
+  no-rough-shown shelf used done = none-shown (records (take used shelf)) (put-passed shelf used job e file done .higher)

@@ -2,9 +2,9 @@
 -- what a shelf is for, that no rough is shown for its final.
 use mathlib.Core.Path.{_≡_}
 use mathlib.Core.Logic.{_≢_}
-use mathlib.Core.Bool.{Bool, true, not}
+use mathlib.Core.Bool.{true, not}
 use mathlib.Core.List.{List, [], _∷_}
-use Prim.Native.Nat.{ℕ, _+_, _≤_, _<_}
+use Prim.Native.Nat.{ℕ, _+_, _^_, _≤_, _<_}
 use lib.Dec.{ltb}
 use lib.ListN.{length, take, drop}
 use Rattle.label.specs.Label.{labelOf}
@@ -27,6 +27,12 @@ pub record ShelfAnswered (numbers : List ℕ) (shelf : List ℕ) (used : ℕ) (x
   pub past : drop (x .used) (x .bytes) ≡ drop (x .used) shelf
   -- the buffer is as long as it was
   pub kept : length (x .bytes) ≡ length shelf
+
+abbrev pub putNumbers : List ℕ
+putNumbers = 0 ∷ 19 ∷ 20 ∷ 21 ∷ []
+
+abbrev pub collectNumbers : List ℕ
+collectNumbers = 0 ∷ 19 ∷ []
 
 -- x is what looking up answers: a refusal has 0 in both, and what is found lies within the used bytes
 pub record PlaceAnswered (shelf : List ℕ) (used : ℕ) (x : Place) : Type 0 where
@@ -60,10 +66,23 @@ labelIn part = take 6 (drop 2 part)
 abbrev pub fileIn : List ℕ → List ℕ
 fileIn part = drop 12 part
 
--- The edition e of a job beside a record r of that job which was on the shelf before: it is higher; the file that was put in, where it opens
+-- Of what a look-up of a job gave: its label is that of the job and an edition; and where its file opens under it, that is refused as 4 under
+-- every other edition's label, earlier and later ones.
+pub record OneEditionOpens (opening : Call) (job : ℕ) (part iv o : List ℕ) : Type 0 where
+  pub edition : ℕ
+  pub label : labelIn part ≡ labelOf job edition
+  pub alone : opening (labelIn part) (fileIn part) iv o .head .number ≡ 0
+      → (e : ℕ) → e < 2 ^ 16 → e ≢ edition → RefusedAs 4 o (opening (labelOf job e) (fileIn part) iv o)
+
+-- The edition e of a job, newly put in, beside a record r of the job that was on the shelf before: it is higher; the new file, where it opens
 -- under its own label, is refused under the older edition's; and the older file, where it opens under its own, is refused under e's.
 pub record NoRoughShown (opening : Call) (job e : ℕ) (file iv o : List ℕ) (r : Record) : Type 0 where
   pub higher : r .edition < e
   pub new-under-old : opening (labelOf job e) file iv o .head .number ≡ 0 → RefusedAs 4 o (opening (labelOf job (r .edition)) file iv o)
   pub old-under-new : opening (labelOf job (r .edition)) (r .sealed) iv o .head .number ≡ 0
       → RefusedAs 4 o (opening (labelOf job e) (r .sealed) iv o)
+
+-- so of every record of the job in a list
+abbrev pub OfEach : (Record → Type 0) → ℕ → List Record → Type 0
+OfEach P job [] = Unit {0}
+OfEach P job (r ∷ rs) = (r .job ≡ job → P r) × OfEach P job rs
