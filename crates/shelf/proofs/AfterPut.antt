@@ -34,10 +34,14 @@ mark-byte false = omega arith
 
 written-bytes : (r : Record) → Proper r → AreBytes (written r)
 unfolding written
-written-bytes r p =
-    (lit< tt, (mark-byte (r .current),
-      below-append 256 (labelOf (r .job) (r .edition)) (bytesOf 4 (length (r .sealed)) ++ r .sealed) (label-bytes (r .job) (r .edition))
-      (below-append 256 (bytesOf 4 (length (r .sealed))) (r .sealed) (bytesOf-bytes 4 (length (r .sealed))) (p .bytes))))
+written-bytes r p = (
+  lit< tt,
+  (
+    mark-byte (r .current),
+    below-append 256 (labelOf (r .job) (r .edition)) (bytesOf 4 (length (r .sealed)) ++ r .sealed) (label-bytes (r .job) (r .edition))
+        (below-append 256 (bytesOf 4 (length (r .sealed))) (r .sealed) (bytesOf-bytes 4 (length (r .sealed))) (p .bytes)),
+  ),
+)
 
 all-bytes : (rs : List Record) → AllProper rs → AreBytes (stored rs)
 unfolding stored
@@ -63,7 +67,7 @@ module _ (rs : List Record) (shelf : List ℕ) (proper : AllProper rs) where
         size = omega arith;
         within = omega arith;
         fills = ap (λ (x : List Record). length (stored x)) reads-back;
-        single = ap twoCurrent reads-back ∙ no-two rs one
+        single = ap twoCurrent reads-back ∙ no-two rs one;
       }
 
   pub stored-bytes : AreBytes (stored rs)

@@ -36,7 +36,7 @@ at-most-one [] e job = omega arith
 at-most-one (r ∷ rs) e job =
     one-by job r rs (isCurrentOf job r) refl e (at-most-one rs (or-right (r .current && hasCurrent (r .job) rs) _ e) job)
 
-own-current : (r : Record) → r .current ≡ true → isCurrentOf (r .job) r ≡ true
+pub own-current : (r : Record) → r .current ≡ true → isCurrentOf (r .job) r ≡ true
 own-current r e = rw (e, eq-eqb (r .job) (r .job) refl)
 
 two-by : (r : Record) (rs : List Record) (t : Bool) → r .current ≡ t → ((job : ℕ) → length (currentOf job (r ∷ rs)) ≤ 1)

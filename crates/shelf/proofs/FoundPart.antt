@@ -28,14 +28,16 @@ part-by job r rs true e f more =
     let none = none-current job rs (alone job r rs f e) in
     let whole : stored (r ∷ currentOf job rs) ≡ written r = ap (λ (l : List Record). written r ++ stored l) none ∙ append-nil (written r) in
     let n = length-append (written r) (stored rs) in
-    rw e
-    (omega (arith, ap length whole),
-      ap (λ (l : List ℕ). take (length l) (written r ++ stored rs)) whole ∙ take-append-seam (written r) (stored rs) ∙ sym whole)
+    rw e (
+      omega (arith, ap length whole),
+      ap (λ (l : List ℕ). take (length l) (written r ++ stored rs)) whole ∙ take-append-seam (written r) (stored rs) ∙ sym whole,
+    )
 part-by job r rs false e f more =
     let n = length-append (written r) (stored rs) in
-    rw e
-    (omega (arith, more .0),
-      ap (take (sizeOf job rs)) (drop-append-add (written r) (stored rs) (placeOf job rs)) ∙ more .1)
+    rw e (
+      omega (arith, more .0),
+      ap (take (sizeOf job rs)) (drop-append-add (written r) (stored rs) (placeOf job rs)) ∙ more .1,
+    )
 
 pub stored-part : (job : ℕ) (rs : List Record) → twoCurrent rs ≡ false
     → (placeOf job rs + sizeOf job rs ≤ length (stored rs)) × (take (sizeOf job rs) (drop (placeOf job rs) (stored rs)) ≡ stored (currentOf job rs))

@@ -2,7 +2,7 @@
 -- Assumes nothing.
 use mathlib.Core.Path.{_≡_, refl, sym, ap, ap₂, _∙_}
 use mathlib.Core.Bool.{Bool, true, false, _||_, cond}
-use mathlib.Core.List.{List, [], _∷_, _++_}
+use mathlib.Core.List.{List, [], _∷_, _++_, append-assoc, append-nil}
 use Prim.Native.Nat.{ℕ, zero, suc, _+_, _-_, _≤_, _<_, _^_}
 use native.Mathlib.Nat.{mod-eq-of-lt}
 use native.Mathlib.Omega.{arith}
@@ -18,8 +18,8 @@ use Rattle.block.proofs.Entries.{below-at, below-drop}
 use Rattle.block.proofs.Same.{and-left, and-right}
 use Rattle.label.specs.Label.{labelOf}
 use Rattle.shelf.specs.declared.records.Head.{Head}
-use Rattle.shelf.specs.Records.{Record, Proper, AllProper, markOf, written, stored, marked, startsRecord, sizeAt, front, readUpTo, records, headAt}
-use Rattle.shelf.proofs.Reading.{length-written, starts-within, size-starts, stands, too-short, never, records-none, records-one, entry, entry-front, Turn}
+use Rattle.shelf.specs.Records.{Record, Proper, AllProper, markOf, written, stored, marked, startsRecord, sizeAt, front, records, headAt}
+use Rattle.shelf.proofs.Reading.{length-written, starts-within, size-starts, stands, too-short, never, records-empty, records-none, records-one, entry, entry-front, Turn}
 
 -- the first n entries, each by its place
 listed : ℕ → (ℕ → ℕ) → List ℕ
@@ -147,11 +147,22 @@ module _ (r : Record) (proper : Proper r) (rest : List ℕ) where
       records-one (written r ++ rest) written-starts
       ∙ ap₂ {C = List Record} (λ (x : Record) (l : List ℕ). x ∷ records l) written-front (ap (λ (k : ℕ). drop k (written r ++ rest)) written-size ∙ drop-at (written r) rest (length (written r)) refl)
 
+-- stored records are read, and then what is behind them
+pub records-behind : (rs : List Record) (b : List ℕ) → AllProper rs → records (stored rs ++ b) ≡ rs ++ records b
+unfolding stored
+records-behind [] b h = refl
+records-behind (r ∷ rs) b h =
+    ap records (append-assoc (written r) (stored rs) b)
+    ∙ written-reads r (h .0) (stored rs ++ b)
+    ∙ ap {B = List Record} (λ (l : List Record). r ∷ l) (records-behind rs b (h .1))
+
 -- what was stored is read
 pub records-stored : (rs : List Record) → AllProper rs → records (stored rs) ≡ rs
-unfolding stored records readUpTo
-records-stored [] h = refl
-records-stored (r ∷ rs) h = written-reads r (h .0) (stored rs) ∙ ap {B = List Record} (λ (l : List Record). r ∷ l) (records-stored rs (h .1))
+records-stored rs h =
+    ap records (sym (append-nil (stored rs)))
+    ∙ records-behind rs [] h
+    ∙ ap {B = List Record} (λ (l : List Record). rs ++ l) records-empty
+    ∙ append-nil rs
 
 -- the entry that a head tells of, written
 pub entry-written : (b : List ℕ) (h : Head) → h ≡ headAt b → Turn b h → AreBytes b → written (entry b h) ≡ take (h .size) b

@@ -98,6 +98,10 @@ enough (suc n) (suc m) b h k =
     let l = length-drop (sizeAt b) b in
     ap {B = List Record} (λ (rs : List Record). front b ∷ rs) (enough n m (drop (sizeAt b) b) (omega arith) (omega arith)))
 
+pub records-empty : records [] ≡ []
+unfolding records readUpTo
+records-empty = refl
+
 pub records-none : (b : List ℕ) → startsRecord b ≡ false → records b ≡ []
 unfolding records
 records-none b e = read-none b (length b) e

@@ -36,7 +36,7 @@ module _ (b : List ℕ) (small : AreBytes b) where
         job = word-small 2;
         edition = numberOf-lt (getD b 6 0 ∷ getD b 7 0 ∷ []) (byte 6, (byte 7, tt));
         size = rw l (word-small 8);
-        bytes = below-take 256 (wordAt b 8) (drop 12 b) (below-drop 256 12 b small)
+        bytes = below-take 256 (wordAt b 8) (drop 12 b) (below-drop 256 12 b small);
       }
 
 proper-by : (b : List ℕ) (rs : List Record) (s : Bool) → (s ≡ true → Proper (front b)) → AllProper rs → AllProper (cond s (front b ∷ rs) [])

@@ -14,6 +14,7 @@ use Rattle.shelf.specs.Records.{Record, written, stored, startsRecord, s
 use Rattle.shelf.specs.Shelf.{hasCurrent, twoCurrent, soundUpTo, badShelf, InOrder}
 use Rattle.shelf.proofs.Reading.{length-written, starts-within, size-starts, too-short, never, records-none, records-one}
 use Rattle.shelf.proofs.Walks.{or-left, or-right}
+use Rattle.shelf.proofs.BreaksOff.{sound-all, sound-less}
 
 pub length-front : (b : List ℕ) → startsRecord b ≡ true → length (written (front b)) ≡ sizeAt b
 unfolding front
@@ -50,26 +51,6 @@ within-by (suc n) b h =
 pub stored-within : (b : List ℕ) → length (stored (records b)) ≤ length b
 stored-within b = within-by (length b) b (omega arith)
 
--- all is in order where no job has two current records, and otherwise less
-pub sound-all : (rs : List Record) → twoCurrent rs ≡ false → soundUpTo rs ≡ length (stored rs)
-unfolding twoCurrent soundUpTo stored
-sound-all [] e = refl
-sound-all (r ∷ rs) e =
-    let here = or-left (r .current && hasCurrent (r .job) rs) _ e in
-    let rest = sound-all rs (or-right (r .current && hasCurrent (r .job) rs) _ e) in
-    rw (here, rest) (sym (length-append (written r) (stored rs)))
-
-less-by : (r : Record) (rs : List Record) (t : Bool) → r .current && hasCurrent (r .job) rs ≡ t → t || twoCurrent rs ≡ true
-    → (twoCurrent rs ≡ true → soundUpTo rs < length (stored rs)) → soundUpTo (r ∷ rs) < length (stored (r ∷ rs))
-unfolding soundUpTo stored
-less-by r rs true e f more = let l = length-written r in rw (e, length-append) (omega arith)
-less-by r rs false e f more = let m = more f in rw (e, length-append) (omega arith)
-
-pub sound-less : (rs : List Record) → twoCurrent rs ≡ true → soundUpTo rs < length (stored rs)
-unfolding twoCurrent
-sound-less [] e = let z : _≡_ {A = ℕ} 0 1 = cc in absurd (omega arith)
-sound-less (r ∷ rs) e = less-by r rs (r .current && hasCurrent (r .job) rs) refl e (sound-less rs)
-
 or-false : (t : Bool) → t ≡ t || false
 or-false true = refl
 or-false false = refl
@@ -78,11 +59,15 @@ or-true : (t : Bool) → true ≡ t || true
 or-true true = refl
 or-true false = refl
 
+none-two : twoCurrent [] ≡ false
+unfolding twoCurrent
+none-two = refl
+
 sound-test : (rs : List Record) (used : ℕ) (two : Bool) → twoCurrent rs ≡ two → length (stored rs) ≤ used
     → not (eqb (soundUpTo rs) used) ≡ not (eqb (length (stored rs)) used) || two
-sound-test rs used false e h = rw (sound-all rs e) (or-false (not (eqb (length (stored rs)) used)))
+sound-test rs used false e h = rw (sound-all [] rs e) (or-false (not (eqb (length (stored rs)) used)))
 sound-test rs used true e h =
-    let l = sound-less rs e in
+    let l = sound-less [] rs none-two e in
     rw (ne-eqb (soundUpTo rs) used (λ f. omega arith)) (or-true (not (eqb (length (stored rs)) used)))
 
 module _ (shelf : List ℕ) (used : ℕ) where

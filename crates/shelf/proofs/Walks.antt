@@ -12,7 +12,7 @@ use Rattle.block.proofs.Same.{and-left, and-right}
 use Rattle.walk.proofs.Loop.{tailed}
 use Rattle.shelf.specs.declared.records.Head.{Head}
 use Rattle.shelf.specs.Records.{Record, written, stored, records}
-use Rattle.shelf.specs.Shelf.{isCurrentOf, those, hasCurrent, twoCurrent, placeOf, sizeOf, stays, notHigher, soundUpTo}
+use Rattle.shelf.specs.Shelf.{isCurrentOf, those, hasCurrent, twoCurrent, placeOf, sizeOf, stays, notHigher}
 use Rattle.shelf.proofs.Reading.{Turn, entry}
 
 pub or-left : (a b : Bool) → a || b ≡ false → a ≡ false
@@ -96,12 +96,3 @@ module _ (b : List ℕ) (h : Head) (t : Turn b h) where
     pub size-behind : h .current && eqb (h .job) job ≡ false → sizeOf job (records b) ≡ sizeOf job (records (tailed (h .size) b))
     unfolding those
     size-behind e = ap (sizeOf job) (t .reads) ∙ rw e
-
-  pub sound-here : h .current && hasCurrent (h .job) (records (tailed (h .size) b)) ≡ true → soundUpTo (records b) ≡ 0
-  unfolding soundUpTo
-  sound-here e = ap soundUpTo (t .reads) ∙ rw e
-
-  pub sound-behind : h .current && hasCurrent (h .job) (records (tailed (h .size) b)) ≡ false
-      → soundUpTo (records b) ≡ h .size + soundUpTo (records (tailed (h .size) b))
-  unfolding soundUpTo
-  sound-behind e = ap soundUpTo (t .reads) ∙ rw (e, t .whole)
