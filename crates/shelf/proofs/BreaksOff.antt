@@ -7,13 +7,13 @@ use Prim.Native.Nat.{ℕ, _+_, _≤_, _<_}
 use native.Mathlib.Omega.{arith}
 use lib.ListN.{length, take, drop, length-append, length-drop}
 use lib.Seq.{drop-drop, take-add, length-take-le}
-use borrow.Author.Tests.{eqb-true, eq-eqb}
+use borrow.Author.Tests.{eqb-true}
 use Rattle.block.specs.Below.{AreBytes}
 use Rattle.block.proofs.Entries.{below-take, below-drop}
 use Rattle.block.proofs.Same.{and-left, and-right}
 use Rattle.walk.proofs.Loop.{tailed, tail-is}
 use Rattle.shelf.specs.declared.records.Head.{Head}
-use Rattle.shelf.specs.Records.{Record, Proper, AllProper, written, stored, records, headAt}
+use Rattle.shelf.specs.Records.{Record, Proper, written, stored, records, headAt}
 use Rattle.shelf.specs.Shelf.{isCurrentOf, those, currentOf, hasCurrent, twoCurrent, soundFrom, soundUpTo}
 use Rattle.shelf.proofs.Reading.{length-written, records-empty, Turn, entry, entry-front}
 use Rattle.shelf.proofs.Walks.{none-current}
@@ -93,7 +93,13 @@ pub record Passing (s t : List ℕ) (at : ℕ) : Type 0 where
 
 pub passing-starts : (s : List ℕ) → Passing s s 0
 unfolding stored
-passing-starts s = record { within = omega arith; rest = refl; whole = ap (λ (rs : List Record). length (stored rs)) records-empty; sum = ap (λ (rs : List Record). 0 + soundFrom rs (records s)) records-empty ∙ omega arith }
+passing-starts s =
+    record {
+      within = omega arith;
+      rest = refl;
+      whole = ap (λ (rs : List Record). length (stored rs)) records-empty;
+      sum = ap (λ (rs : List Record). 0 + soundFrom rs (records s)) records-empty ∙ omega arith;
+    }
 
 module _ (s t : List ℕ) (at : ℕ) (p : Passing s t at) where
   pub passed-all : records t ≡ [] → at ≡ soundUpTo (records s)

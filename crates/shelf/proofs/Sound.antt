@@ -1,8 +1,8 @@
 -- A shelf is bad exactly where it is not in order up to its used count.
 -- Assumes nothing.
 use mathlib.Core.Path.{_≡_, refl, sym, ap, _∙_}
-use mathlib.Core.Bool.{Bool, true, false, not, _&&_, _||_, cond}
-use mathlib.Core.List.{List, [], _∷_, _++_}
+use mathlib.Core.Bool.{Bool, true, false, not, _||_}
+use mathlib.Core.List.{List, []}
 use Prim.Native.Nat.{ℕ, zero, suc, _+_, _-_, _≤_, _<_}
 use native.Mathlib.Omega.{arith}
 use lib.Dec.{eqb, ltb}
@@ -11,12 +11,12 @@ use lib.Seq.{length-take-le}
 use borrow.Author.Tests.{lt-ltb, le-ltb, ltb-false, eqb-true, eq-eqb, ne-eqb, not-false}
 use Rattle.block.specs.Words.{wordAt}
 use Rattle.shelf.specs.Records.{Record, written, stored, startsRecord, sizeAt, front, records}
-use Rattle.shelf.specs.Shelf.{hasCurrent, twoCurrent, soundUpTo, badShelf, InOrder}
+use Rattle.shelf.specs.Shelf.{twoCurrent, soundUpTo, badShelf, InOrder}
 use Rattle.shelf.proofs.Reading.{length-written, starts-within, size-starts, too-short, never, records-none, records-one}
 use Rattle.shelf.proofs.Walks.{or-left, or-right}
 use Rattle.shelf.proofs.BreaksOff.{sound-all, sound-less}
 
-pub length-front : (b : List ℕ) → startsRecord b ≡ true → length (written (front b)) ≡ sizeAt b
+length-front : (b : List ℕ) → startsRecord b ≡ true → length (written (front b)) ≡ sizeAt b
 unfolding front
 length-front b f =
     let w = starts-within b f in
@@ -48,7 +48,7 @@ within-by (suc n) b h =
     let l = length-drop (sizeAt b) b in
     within-by n (drop (sizeAt b) b) (omega arith))
 
-pub stored-within : (b : List ℕ) → length (stored (records b)) ≤ length b
+stored-within : (b : List ℕ) → length (stored (records b)) ≤ length b
 stored-within b = within-by (length b) b (omega arith)
 
 or-false : (t : Bool) → t ≡ t || false
@@ -79,7 +79,8 @@ module _ (shelf : List ℕ) (used : ℕ) where
   unfolding badShelf
   bad-used h k = rw (le-ltb 65536 (length shelf) h, lt-ltb (length shelf) used k)
 
-  pub bad-records : length shelf ≤ 65536 → used ≤ length shelf → not (eqb (soundUpTo (records (take used shelf))) used) ≡ badShelf shelf used
+  pub bad-records : length shelf ≤ 65536 → used ≤ length shelf
+      → not (eqb (soundUpTo (records (take used shelf))) used) ≡ badShelf shelf used
   unfolding badShelf
   bad-records h k =
       let n = stored-within (take used shelf) in
@@ -94,12 +95,13 @@ module _ (shelf : List ℕ) (used : ℕ) where
       let e₁ = or-right (ltb 65536 (length shelf)) _ e in
       let second = or-left (ltb (length shelf) used) _ e₁ in
       let e₂ = or-right (ltb (length shelf) used) _ e₁ in
-      let filled = or-left (not (eqb (length (stored (records (take used shelf)))) used)) _ e₂ in
+      let n = length (stored (records (take used shelf))) in
+      let filled = or-left (not (eqb n used)) _ e₂ in
       record {
         size = ltb-false 65536 (length shelf) first;
         within = ltb-false (length shelf) used second;
-        fills = eqb-true (length (stored (records (take used shelf)))) used (not-false (eqb (length (stored (records (take used shelf)))) used) filled);
-        single = or-right (not (eqb (length (stored (records (take used shelf)))) used)) _ e₂;
+        fills = eqb-true n used (not-false (eqb n used) filled);
+        single = or-right (not (eqb n used)) _ e₂;
       }
 
   -- and the other way round

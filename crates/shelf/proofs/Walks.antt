@@ -1,7 +1,7 @@
 -- What the definitions over a shelf's records say at one record, and after the last.
 -- Assumes nothing.
 use mathlib.Core.Path.{_≡_, refl, sym, ap, _∙_}
-use mathlib.Core.Bool.{Bool, true, false, not, _&&_, _||_, cond}
+use mathlib.Core.Bool.{Bool, true, false, not, _&&_, _||_}
 use mathlib.Core.List.{List, [], _∷_, _++_, append-nil}
 use Prim.Native.Nat.{ℕ, _+_}
 use native.Mathlib.Omega.{arith}
@@ -58,7 +58,8 @@ module _ (b : List ℕ) (h : Head) (t : Turn b h) where
   -- what stays, in bytes
   module _ (coming : Bool) (job : ℕ) where
     pub kept-here : h .current && not (coming && eqb (h .job) job) ≡ true
-        → stored (those (stays coming job) (records b)) ≡ written (entry b h) ++ stored (those (stays coming job) (records (tailed (h .size) b)))
+        → stored (those (stays coming job) (records b))
+        ≡ written (entry b h) ++ stored (those (stays coming job) (records (tailed (h .size) b)))
     unfolding those stored
     kept-here e = ap (λ (rs : List Record). stored (those (stays coming job) rs)) (t .reads) ∙ rw e
 
@@ -89,7 +90,8 @@ module _ (b : List ℕ) (h : Head) (t : Turn b h) where
         let one = alone job (entry b h) _ (sym (ap twoCurrent (t .reads)) ∙ f) e in
         ap (sizeOf job) (t .reads) ∙ rw (e, none-current job _ one, append-nil) (t .whole)
 
-    pub place-behind : h .current && eqb (h .job) job ≡ false → placeOf job (records b) ≡ h .size + placeOf job (records (tailed (h .size) b))
+    pub place-behind : h .current && eqb (h .job) job ≡ false
+        → placeOf job (records b) ≡ h .size + placeOf job (records (tailed (h .size) b))
     unfolding placeOf
     place-behind e = ap (placeOf job) (t .reads) ∙ rw (e, t .whole)
 

@@ -7,10 +7,10 @@ use native.Mathlib.Omega.{arith}
 use denote.Ref.{now}
 use lib.ListN.{length, getD, take}
 use Rattle.block.proofs.Entries.{below-each}
-use Rattle.walk.proofs.Loop.{tailed, length-tailed}
+use Rattle.walk.proofs.Loop.{tailed}
 use Rattle.shelf.specs.Records.{records}
 use Rattle.shelf.specs.Shelf.{hasCurrent}
-use Rattle.shelf.proofs.Reading.{Turn, at-end, on}
+use Rattle.shelf.proofs.Reading.{Turn, at-end, on, shrinks}
 use Rattle.shelf.proofs.BreaksOff.{Passing, passing-starts, passed-all, second, passing-on}
 use borrow.Author.Needs.{needs}
 use Rattle.shelf.proofs.lookup.sound_up_to.Statement.{statement}
@@ -52,12 +52,6 @@ returns-2 c =
     let at-loop = at-else .before .before in
     second _ _ _ (at-loop .loop .inv) _ (at-else .before .front .ensures) (turn at-else) (sym (told (c .before)) ∙ c .if2 .taken)
 
-sub-t : tie.Need-sub-t Inv-loop μ-loop
-sub-t c = omega (arith, turn (c .before .before .before) .within)
-
-part-t-start : tie.Need-part-t-start Inv-loop μ-loop
-part-t-start c = omega (arith, turn (c .before .before .before) .within)
-
 on-from : (x : tie.Else2 Inv-loop μ-loop)
     → let at-front = x .before .before .before .before in
     let at-loop = at-front .before in
@@ -74,15 +68,14 @@ on-from x =
 add-at : tie.Need-add-at Inv-loop μ-loop
 add-at c = omega (arith, on-from (c .before) .within)
 
-loop-less : tie.Need-loop-less Inv-loop μ-loop
-loop-less c =
-    let at-else = c .before .before .before .before in
-    let here = turn at-else in
-    let l = length-tailed (now (at-else .before .before .loop .t)) (at-else .before .front .result .size) in
-    omega (arith, here .within, here .long, l)
-
 loop-again : tie.Need-loop-again Inv-loop μ-loop
 loop-again c = on-from (c .before)
 
 pub sound-up-to-spec : {M : Type 1} → statement M
-sound-up-to-spec = tie.close (tie.spec Inv-loop μ-loop (λ c. passing-starts (now (c .before .args .s))) (λ c κs. search needs) returns (λ c. omega arith) (λ c. omega arith) (λ c. omega arith) (λ c κs. search needs) returns-2 sub-t part-t-start (λ c. omega arith) add-at loop-less loop-again)
+sound-up-to-spec =
+    tie.close
+    (tie.spec
+    Inv-loop μ-loop (λ c. passing-starts (now (c .before .args .s))) (λ c κs. search needs) returns (λ c. omega arith)
+    (λ c. omega arith) (λ c. omega arith) (λ c κs. search needs) returns-2
+    (λ c. omega (arith, turn (c .before .before .before) .within)) (λ c. omega (arith, turn (c .before .before .before) .within))
+    (λ c. omega arith) add-at (λ c. shrinks _ _ (turn (c .before .before .before .before))) loop-again)
