@@ -1,8 +1,8 @@
 -- What stands after a put that is done, and after a collection: a shelf in order, the new record under its job, and every other job's
 -- current record as it was.
 -- Assumes nothing.
-use mathlib.Core.Path.{_≡_, refl, sym, ap, ap₂, _∙_}
-use mathlib.Core.Bool.{Bool, true, false, cond}
+use mathlib.Core.Path.{_≡_, refl, sym, ap, _∙_}
+use mathlib.Core.Bool.{Bool, true, false}
 use mathlib.Core.List.{List, [], _∷_, _++_, append-nil}
 use Prim.Native.Nat.{ℕ, _+_, _-_, _≤_, _<_, _^_}
 use native.Mathlib.Omega.{arith}
@@ -19,12 +19,13 @@ use Rattle.label.specs.Label.{labelOf}
 use Rattle.label.proofs.LabelTells.{label-bytes}
 use Rattle.shelf.specs.Records.{Record, Proper, AllProper, markOf, written, stored, records}
 use Rattle.shelf.specs.Shelf.{currentOf, collected, twoCurrent, notHigher, fitted, badShelf, InOrder}
-use Rattle.shelf.specs.Calls.{Outcome, newRecord, putIn, putCall, collectCall, findCall, partOf, holding}
+use Rattle.shelf.specs.Calls.{newRecord, putIn, putCall, collectCall, lookedUp, holding}
 use Rattle.shelf.proofs.Inverse.{records-stored}
 use Rattle.shelf.proofs.Sound.{in-order, not-bad}
 use Rattle.shelf.proofs.Putting.{length-made, enough}
 use Rattle.shelf.proofs.Outcomes.{collect-done}
-use Rattle.shelf.proofs.Current.{collected-length, at-most-one, no-two, current-collected, collected-again, current-fitted, current-new, current-kept}
+use Rattle.shelf.proofs.Current.{at-most-one, no-two, collected-length, collected-again}
+use Rattle.shelf.proofs.Current.{current-collected, current-fitted, current-new, current-kept}
 use Rattle.shelf.proofs.ReadsProper.{records-proper, those-proper, put-proper}
 use Rattle.shelf.proofs.FoundPart.{look-up}
 
@@ -34,10 +35,14 @@ mark-byte false = omega arith
 
 written-bytes : (r : Record) → Proper r → AreBytes (written r)
 unfolding written
-written-bytes r p =
-    (lit< tt, (mark-byte (r .current),
-      below-append 256 (labelOf (r .job) (r .edition)) (bytesOf 4 (length (r .sealed)) ++ r .sealed) (label-bytes (r .job) (r .edition))
-      (below-append 256 (bytesOf 4 (length (r .sealed))) (r .sealed) (bytesOf-bytes 4 (length (r .sealed))) (p .bytes))))
+written-bytes r p = (
+  lit< tt,
+  (
+    mark-byte (r .current),
+    below-append 256 (labelOf (r .job) (r .edition)) (bytesOf 4 (length (r .sealed)) ++ r .sealed) (label-bytes (r .job) (r .edition))
+        (below-append 256 (bytesOf 4 (length (r .sealed))) (r .sealed) (bytesOf-bytes 4 (length (r .sealed))) (p .bytes)),
+  ),
+)
 
 all-bytes : (rs : List Record) → AllProper rs → AreBytes (stored rs)
 unfolding stored
@@ -46,7 +51,7 @@ all-bytes (r ∷ rs) h = below-append 256 (written r) (stored rs) (written-bytes
 
 -- proper records of a shelf, no two of them current of one job, over a buffer that has room for them
 module _ (rs : List Record) (shelf : List ℕ) (proper : AllProper rs) where
-  pub reads-back : records (take (length (stored rs)) (over (stored rs) shelf)) ≡ rs
+  reads-back : records (take (length (stored rs)) (over (stored rs) shelf)) ≡ rs
   reads-back =
       ap records (take-at (stored rs) (drop (length (stored rs)) shelf) (length (stored rs)) refl) ∙ records-stored rs proper
 
@@ -55,7 +60,7 @@ module _ (rs : List Record) (shelf : List ℕ) (proper : AllProper rs) where
       let d = length-drop (length (stored rs)) shelf in
       length-append (stored rs) (drop (length (stored rs)) shelf) ∙ omega arith
 
-  pub holds-in-order : length shelf ≤ 65536 → length (stored rs) ≤ length shelf → ((job : ℕ) → length (currentOf job rs) ≤ 1)
+  holds-in-order : length shelf ≤ 65536 → length (stored rs) ≤ length shelf → ((job : ℕ) → length (currentOf job rs) ≤ 1)
       → InOrder (over (stored rs) shelf) (length (stored rs))
   holds-in-order h k one =
       let l = length-over k in
@@ -63,19 +68,16 @@ module _ (rs : List Record) (shelf : List ℕ) (proper : AllProper rs) where
         size = omega arith;
         within = omega arith;
         fills = ap (λ (x : List Record). length (stored x)) reads-back;
-        single = ap twoCurrent reads-back ∙ no-two rs one
+        single = ap twoCurrent reads-back ∙ no-two rs one;
       }
 
-  pub stored-bytes : AreBytes (stored rs)
-  stored-bytes = all-bytes rs proper
-
-  pub holds-bytes : AreBytes shelf → AreBytes (over (stored rs) shelf)
+  holds-bytes : AreBytes shelf → AreBytes (over (stored rs) shelf)
   holds-bytes small =
-      below-append 256 (stored rs) (drop (length (stored rs)) shelf) stored-bytes (below-drop 256 (length (stored rs)) shelf small)
+      below-append 256 (stored rs) (drop (length (stored rs)) shelf) (all-bytes rs proper) (below-drop 256 (length (stored rs)) shelf small)
 
   -- looking up a job there gives its current record
-  pub looks-up : AreBytes shelf → InOrder (over (stored rs) shelf) (length (stored rs)) → (job : ℕ)
-      → partOf (findCall (over (stored rs) shelf) (length (stored rs)) job) (over (stored rs) shelf) ≡ stored (currentOf job rs)
+  looks-up : AreBytes shelf → InOrder (over (stored rs) shelf) (length (stored rs)) → (job : ℕ)
+      → lookedUp (over (stored rs) shelf) (length (stored rs)) job ≡ stored (currentOf job rs)
   looks-up small order job =
       look-up (over (stored rs) shelf) (length (stored rs)) (holds-bytes small) order job
       ∙ ap (λ (x : List Record). stored (currentOf job x)) reads-back
@@ -87,20 +89,20 @@ module _ (shelf : List ℕ) (used : ℕ) (small : AreBytes shelf) (order : InOrd
   collect-is = rw (not-bad shelf used order)
 
   collect-proper : AllProper (collected (records (take used shelf)))
-  collect-proper = those-proper (λ r. r .current) (records (take used shelf)) (records-proper (take used shelf) (below-take 256 used shelf small))
+  collect-proper =
+      those-proper (λ r. r .current) (records (take used shelf)) (records-proper (take used shelf) (below-take 256 used shelf small))
 
-  collect-holds : InOrder (over (stored (collected (records (take used shelf)))) shelf) (length (stored (collected (records (take used shelf)))))
+  collect-holds : let p = stored (collected (records (take used shelf))) in InOrder (over p shelf) (length p)
   collect-holds =
       let rs = records (take used shelf) in
       let n = collected-length rs in
       holds-in-order (collected rs) shelf collect-proper (order .size) (omega (arith, n, order .fills, order .within))
       (λ job. rw (current-collected job rs) (at-most-one rs (order .single) job))
 
-  pub collect-in-order : InOrder (collectCall shelf used .bytes) (collectCall shelf used .used)
+  pub collect-in-order : let o = collectCall shelf used in InOrder (o .bytes) (o .used)
   collect-in-order = rw collect-is collect-holds
 
-  pub collect-look-up : (job : ℕ) → partOf (findCall (collectCall shelf used .bytes) (collectCall shelf used .used) job) (collectCall shelf used .bytes)
-      ≡ partOf (findCall shelf used job) shelf
+  pub collect-look-up : (job : ℕ) → let o = collectCall shelf used in lookedUp (o .bytes) (o .used) job ≡ lookedUp shelf used job
   collect-look-up job =
       let rs = records (take used shelf) in
       rw collect-is
@@ -108,7 +110,7 @@ module _ (shelf : List ℕ) (used : ℕ) (small : AreBytes shelf) (order : InOrd
       ∙ ap stored (current-collected job rs)
       ∙ sym (look-up shelf used small order job))
 
-  pub collect-again : collectCall (collectCall shelf used .bytes) (collectCall shelf used .used) ≡ collectCall shelf used
+  pub collect-again : let o = collectCall shelf used in collectCall (o .bytes) (o .used) ≡ o
   collect-again =
       let rs = records (take used shelf) in
       let p = stored (collected rs) in
@@ -206,25 +208,21 @@ module _ (shelf : List ℕ) (used job edition : ℕ) (sealed : List ℕ) (small 
   holds = holds-in-order final shelf final-proper (order .size) (final-fits .0) (λ other. one-by other (eqb other job) refl)
 
   -- the shelf is in order, so no call refuses it with 19, and the used count is within the buffer, which is as long as it was
-  pub put-in-order : InOrder (putCall shelf used job edition sealed .bytes) (putCall shelf used job edition sealed .used)
+  pub put-in-order : let o = putCall shelf used job edition sealed in InOrder (o .bytes) (o .used)
   put-in-order = rw put-is holds
 
   pub put-length : length (putCall shelf used job edition sealed .bytes) ≡ length shelf
   put-length = rw put-is (length-over final shelf final-proper (final-fits .0))
 
   -- looking up the job gives exactly the new record
-  pub put-look-up : partOf (findCall (putCall shelf used job edition sealed .bytes) (putCall shelf used job edition sealed .used) job)
-      (putCall shelf used job edition sealed .bytes)
-      ≡ written new
+  pub put-look-up : let o = putCall shelf used job edition sealed in lookedUp (o .bytes) (o .used) job ≡ written new
   unfolding stored
   put-look-up =
       rw put-is (looks-up final shelf final-proper small holds job ∙ ap stored current-here ∙ append-nil (written new))
 
   -- and looking up another gives what it gave
   pub put-others : (other : ℕ) → (other ≡ job → ⊥)
-      → partOf (findCall (putCall shelf used job edition sealed .bytes) (putCall shelf used job edition sealed .used) other)
-      (putCall shelf used job edition sealed .bytes)
-      ≡ partOf (findCall shelf used other) shelf
+      → let o = putCall shelf used job edition sealed in lookedUp (o .bytes) (o .used) other ≡ lookedUp shelf used other
   put-others other d =
       rw put-is
       (looks-up final shelf final-proper small holds other ∙ ap stored (current-there other d) ∙ sym (look-up shelf used small order other))

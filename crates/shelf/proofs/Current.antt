@@ -1,20 +1,22 @@
 -- The current records of a job, after each change to a list of records. No job has two exactly where each has at most one.
 -- Assumes nothing.
-use mathlib.Core.Path.{_≡_, refl, sym, ap, _∙_}
+use mathlib.Core.Path.{_≡_, refl, sym, _∙_}
 use mathlib.Core.Bool.{Bool, true, false, _&&_, _||_, cond}
-use mathlib.Core.List.{List, [], _∷_, _++_, append-nil}
-use Prim.Native.Nat.{ℕ, _+_, _≤_}
+use mathlib.Core.List.{List, [], _∷_, append-nil}
+use Prim.Native.Nat.{ℕ, _≤_}
 use native.Mathlib.Omega.{arith}
-use lib.Dec.{leb, eqb}
+use lib.Dec.{leb}
 use lib.ListN.{length, length-append}
 use borrow.Author.Tests.{eqb-true, eq-eqb, ne-eqb}
-use Rattle.block.proofs.Same.{and-left, and-right}
+use Rattle.block.proofs.Same.{and-right}
 use Rattle.shelf.specs.Records.{Record, written, stored}
-use Rattle.shelf.specs.Shelf.{isCurrentOf, those, currentOf, collected, hasCurrent, twoCurrent, superseded, supersede, withNew, fitted}
-use Rattle.shelf.proofs.Walks.{or-left, or-right, none-current, alone}
+use Rattle.shelf.specs.Shelf.{isCurrentOf, those, currentOf, collected, hasCurrent, twoCurrent}
+use Rattle.shelf.specs.Shelf.{superseded, supersede, withNew, fitted}
+use Rattle.shelf.proofs.Walks.{or-right, none-current, alone}
 use Rattle.shelf.proofs.Putting.{those-append}
 
-none-by : (job : ℕ) (r : Record) (rs : List Record) (t : Bool) → isCurrentOf job r ≡ t → length (cond t (r ∷ currentOf job rs) (currentOf job rs)) ≤ 0
+none-by : (job : ℕ) (r : Record) (rs : List Record) (t : Bool) → isCurrentOf job r ≡ t
+    → length (cond t (r ∷ currentOf job rs) (currentOf job rs)) ≤ 0
     → (length (currentOf job rs) ≤ 0 → hasCurrent job rs ≡ false) → t || hasCurrent job rs ≡ false
 none-by job r rs true e h more = absurd (omega arith)
 none-by job r rs false e h more = more h
@@ -36,7 +38,7 @@ at-most-one [] e job = omega arith
 at-most-one (r ∷ rs) e job =
     one-by job r rs (isCurrentOf job r) refl e (at-most-one rs (or-right (r .current && hasCurrent (r .job) rs) _ e) job)
 
-own-current : (r : Record) → r .current ≡ true → isCurrentOf (r .job) r ≡ true
+pub own-current : (r : Record) → r .current ≡ true → isCurrentOf (r .job) r ≡ true
 own-current r e = rw (e, eq-eqb (r .job) (r .job) refl)
 
 two-by : (r : Record) (rs : List Record) (t : Bool) → r .current ≡ t → ((job : ℕ) → length (currentOf job (r ∷ rs)) ≤ 1)
@@ -113,7 +115,7 @@ marked-by : (job other : ℕ) (r : Record) (a b : List Record) (t : Bool) → is
 marked-by job other r a b true e f g = marked-out other r a b (isCurrentOf other r) refl f g
 marked-by job other r a b false e f g = rw g
 
-pub current-others : (job other : ℕ) (rs : List Record) → (other ≡ job → ⊥) → currentOf other (supersede job rs) ≡ currentOf other rs
+current-others : (job other : ℕ) (rs : List Record) → (other ≡ job → ⊥) → currentOf other (supersede job rs) ≡ currentOf other rs
 unfolding those supersede
 current-others job other [] d = refl
 current-others job other (r ∷ rs) d =
@@ -124,7 +126,7 @@ gone-by : (job : ℕ) (r : Record) (a : List Record) (t : Bool) → isCurrentOf 
 gone-by job r a true e f = f
 gone-by job r a false e f = rw e f
 
-pub current-gone : (job : ℕ) (rs : List Record) → currentOf job (supersede job rs) ≡ []
+current-gone : (job : ℕ) (rs : List Record) → currentOf job (supersede job rs) ≡ []
 unfolding those supersede
 current-gone job [] = refl
 current-gone job (r ∷ rs) = gone-by job r _ (isCurrentOf job r) refl (current-gone job rs)

@@ -1,9 +1,9 @@
 -- Reading and writing a shelf are each other's inverse.
 -- Assumes nothing.
 use mathlib.Core.Path.{_≡_, refl, sym, ap, ap₂, _∙_}
-use mathlib.Core.Bool.{Bool, true, false, _||_, cond}
-use mathlib.Core.List.{List, [], _∷_, _++_}
-use Prim.Native.Nat.{ℕ, zero, suc, _+_, _-_, _≤_, _<_, _^_}
+use mathlib.Core.Bool.{Bool, true, false, _||_}
+use mathlib.Core.List.{List, [], _∷_, _++_, append-assoc, append-nil}
+use Prim.Native.Nat.{ℕ, zero, suc, _+_, _-_, _≤_, _<_}
 use native.Mathlib.Nat.{mod-eq-of-lt}
 use native.Mathlib.Omega.{arith}
 use lib.Dec.{eqb, lit<}
@@ -18,8 +18,10 @@ use Rattle.block.proofs.Entries.{below-at, below-drop}
 use Rattle.block.proofs.Same.{and-left, and-right}
 use Rattle.label.specs.Label.{labelOf}
 use Rattle.shelf.specs.declared.records.Head.{Head}
-use Rattle.shelf.specs.Records.{Record, Proper, AllProper, markOf, written, stored, marked, startsRecord, sizeAt, front, readUpTo, records, headAt}
-use Rattle.shelf.proofs.Reading.{length-written, starts-within, size-starts, stands, too-short, never, records-none, records-one, entry, entry-front, Turn}
+use Rattle.shelf.specs.Records.{Record, Proper, AllProper, markOf, written, stored}
+use Rattle.shelf.specs.Records.{marked, startsRecord, sizeAt, front, records, headAt}
+use Rattle.shelf.proofs.Reading.{length-written, starts-within, size-starts, stands, too-short, never}
+use Rattle.shelf.proofs.Reading.{records-empty, records-none, records-one, Turn, entry, entry-front}
 
 -- the first n entries, each by its place
 listed : ℕ → (ℕ → ℕ) → List ℕ
@@ -42,7 +44,9 @@ module _ (b : List ℕ) (small : AreBytes b) where
   at i = below-at 256 b (lit< tt) small i
 
   four-back : (i : ℕ) → bytesOf 4 (wordAt b i) ≡ getD b i 0 ∷ getD b (i + 1) 0 ∷ getD b (i + 2) 0 ∷ getD b (i + 3) 0 ∷ []
-  four-back i = bytesOf-numberOf (getD b i 0 ∷ getD b (i + 1) 0 ∷ getD b (i + 2) 0 ∷ getD b (i + 3) 0 ∷ []) (at i, (at (i + 1), (at (i + 2), (at (i + 3), tt))))
+  four-back i =
+      bytesOf-numberOf (getD b i 0 ∷ getD b (i + 1) 0 ∷ getD b (i + 2) 0 ∷ getD b (i + 3) 0 ∷ [])
+      (at i, (at (i + 1), (at (i + 2), (at (i + 3), tt))))
 
   two-back : bytesOf 2 (numberOf (getD b 6 0 ∷ getD b 7 0 ∷ [])) ≡ getD b 6 0 ∷ getD b 7 0 ∷ []
   two-back = bytesOf-numberOf (getD b 6 0 ∷ getD b 7 0 ∷ []) (at 6, (at 7, tt))
@@ -55,15 +59,16 @@ module _ (b : List ℕ) (small : AreBytes b) where
   )
 
   -- the record that is read, written, is the bytes that it was read from
-  pub front-written : startsRecord b ≡ true → written (front b) ≡ take (sizeAt b) b
+  front-written : startsRecord b ≡ true → written (front b) ≡ take (sizeAt b) b
   unfolding written front labelOf listed
   front-written f =
       let w = starts-within b f in
       let d = length-drop 12 b in
       let m = marked-back (w .1) in
       let l : length (take (wordAt b 8) (drop 12 b)) ≡ wordAt b 8 = length-take-le (wordAt b 8) (drop 12 b) (omega arith) in
-      let head = ap₂ (λ (x y : ℕ). x ∷ y ∷ ((bytesOf 4 (wordAt b 2) ++ bytesOf 2 (numberOf (getD b 6 0 ∷ getD b 7 0 ∷ []))) ++ (bytesOf 4 (length (take (wordAt b 8) (drop 12 b))) ++ take (wordAt b 8) (drop 12 b)))) (m .0) (m .1) in
-      head
+      let sealed = take (wordAt b 8) (drop 12 b) in
+      let label = bytesOf 4 (wordAt b 2) ++ bytesOf 2 (numberOf (getD b 6 0 ∷ getD b 7 0 ∷ [])) in
+      ap₂ (λ (x y : ℕ). x ∷ y ∷ (label ++ (bytesOf 4 (length sealed) ++ sealed))) (m .0) (m .1)
       ∙ rw (four-back 2, two-back, l, four-back 8)
       (ap (λ (x : List ℕ). x ++ take (wordAt b 8) (drop 12 b)) (listed-take 12 b (w .0))
       ∙ sym (take-add 12 (wordAt b 8) b)
@@ -100,7 +105,7 @@ stored-by (suc n) b h small =
     let l = length-drop (sizeAt b) b in
     stored-by n (drop (sizeAt b) b) (omega arith) (below-drop 256 (sizeAt b) b small))
 
-pub stored-front : (b : List ℕ) → AreBytes b → stored (records b) ≡ take (length (stored (records b))) b
+stored-front : (b : List ℕ) → AreBytes b → stored (records b) ≡ take (length (stored (records b))) b
 stored-front b small = stored-by (length b) b (omega arith) small
 
 -- records that fill the bytes are the bytes
@@ -117,7 +122,8 @@ mark-current true = refl
 mark-current false = refl
 
 same-record : {c c′ : Bool} {j j′ e e′ : ℕ} {s s′ : List ℕ} → c ≡ c′ → j ≡ j′ → e ≡ e′ → s ≡ s′
-    → _≡_ {A = Record} (record { current = c; job = j; edition = e; sealed = s }) (record { current = c′; job = j′; edition = e′; sealed = s′ })
+    → _≡_ {A = Record} (record { current = c; job = j; edition = e; sealed = s })
+    (record { current = c′; job = j′; edition = e′; sealed = s′ })
 same-record p q u v = rw (p, q, u, v)
 
 module _ (r : Record) (proper : Proper r) (rest : List ℕ) where
@@ -125,17 +131,17 @@ module _ (r : Record) (proper : Proper r) (rest : List ℕ) where
   unfolding written labelOf bytesOf
   size-field = numberOf-bytesOf 4 (length (r .sealed)) ∙ mod-eq-of-lt (proper .size)
 
-  pub written-starts : startsRecord (written r ++ rest) ≡ true
+  written-starts : startsRecord (written r ++ rest) ≡ true
   unfolding written labelOf bytesOf marked
   written-starts =
       let l = length-append (written r) rest in
       let w = length-written r in
       stands (written r ++ rest) (omega arith) (mark-cases (r .current)) (omega (arith, size-field))
 
-  pub written-size : sizeAt (written r ++ rest) ≡ length (written r)
+  written-size : sizeAt (written r ++ rest) ≡ length (written r)
   written-size = size-starts (written r ++ rest) written-starts ∙ rw size-field (sym (length-written r))
 
-  pub written-front : front (written r ++ rest) ≡ r
+  written-front : front (written r ++ rest) ≡ r
   unfolding written labelOf bytesOf front
   written-front =
       same-record (mark-current (r .current)) (numberOf-bytesOf 4 (r .job) ∙ mod-eq-of-lt (proper .job))
@@ -145,13 +151,25 @@ module _ (r : Record) (proper : Proper r) (rest : List ℕ) where
   pub written-reads : records (written r ++ rest) ≡ r ∷ records rest
   written-reads =
       records-one (written r ++ rest) written-starts
-      ∙ ap₂ {C = List Record} (λ (x : Record) (l : List ℕ). x ∷ records l) written-front (ap (λ (k : ℕ). drop k (written r ++ rest)) written-size ∙ drop-at (written r) rest (length (written r)) refl)
+      ∙ ap₂ {C = List Record} (λ (x : Record) (l : List ℕ). x ∷ records l) written-front
+      (ap (λ (k : ℕ). drop k (written r ++ rest)) written-size ∙ drop-at (written r) rest (length (written r)) refl)
+
+-- stored records are read, and then what is behind them
+pub records-behind : (rs : List Record) (b : List ℕ) → AllProper rs → records (stored rs ++ b) ≡ rs ++ records b
+unfolding stored
+records-behind [] b h = refl
+records-behind (r ∷ rs) b h =
+    ap records (append-assoc (written r) (stored rs) b)
+    ∙ written-reads r (h .0) (stored rs ++ b)
+    ∙ ap {B = List Record} (λ (l : List Record). r ∷ l) (records-behind rs b (h .1))
 
 -- what was stored is read
 pub records-stored : (rs : List Record) → AllProper rs → records (stored rs) ≡ rs
-unfolding stored records readUpTo
-records-stored [] h = refl
-records-stored (r ∷ rs) h = written-reads r (h .0) (stored rs) ∙ ap {B = List Record} (λ (l : List Record). r ∷ l) (records-stored rs (h .1))
+records-stored rs h =
+    ap records (sym (append-nil (stored rs)))
+    ∙ records-behind rs [] h
+    ∙ ap {B = List Record} (λ (l : List Record). rs ++ l) records-empty
+    ∙ append-nil rs
 
 -- the entry that a head tells of, written
 pub entry-written : (b : List ℕ) (h : Head) → h ≡ headAt b → Turn b h → AreBytes b → written (entry b h) ≡ take (h .size) b

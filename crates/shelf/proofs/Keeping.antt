@@ -6,7 +6,7 @@ use mathlib.Core.List.{List, [], _∷_, _++_, append-assoc, append-nil}
 use Prim.Native.Nat.{ℕ, zero, suc, _+_, _-_, _≤_}
 use native.Mathlib.Omega.{arith}
 use lib.Dec.{eqb}
-use lib.ListN.{length, take, drop, length-append, length-take, length-drop, take-append-drop}
+use lib.ListN.{length, take, drop, length-drop, take-append-drop}
 use lib.Seq.{paste, take-paste, drop-paste, length-paste, drop-drop, take-take, take-nil, length-take-le}
 use Rattle.block.specs.Below.{AreBytes}
 use Rattle.block.proofs.Entries.{below-take, below-drop}
@@ -34,13 +34,13 @@ drop-take (suc n) (suc k) [] = sym (take-nil (suc k - suc n))
 drop-take (suc n) (suc k) (x ∷ l) = let e : suc k - suc n ≡ k - n = omega arith in rw e (drop-take n k l)
 
 -- behind the record at the front of what is to come
-pub between-on : (at used n : ℕ) (s : List ℕ) → tailed n (between at used s) ≡ between (at + n) used s
+between-on : (at used n : ℕ) (s : List ℕ) → tailed n (between at used s) ≡ between (at + n) used s
 between-on at used n s =
     let e : used - at - n ≡ used - (at + n) = omega arith in
     tail-is (between at used s) n ∙ drop-take n (used - at) (drop at s) ∙ rw (e, drop-drop)
 
 -- what is behind `to` is as it was, and so is what is to come
-pub between-same : (to at used : ℕ) (s s₀ : List ℕ) → to ≤ at → drop to s ≡ drop to s₀ → between at used s ≡ between at used s₀
+between-same : (to at used : ℕ) (s s₀ : List ℕ) → to ≤ at → drop to s ≡ drop to s₀ → between at used s ≡ between at used s₀
 between-same to at used s s₀ h e =
     let k : at ≡ to + (at - to) = omega arith in
     let f : (l : List ℕ) → drop (at - to) (drop to l) ≡ drop at l = λ l. drop-drop (at - to) to l ∙ ap (λ (n : ℕ). drop n l) (sym k) in

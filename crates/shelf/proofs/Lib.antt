@@ -2,12 +2,13 @@ pub mod Reading
 pub mod Walks
 pub mod Inverse
 pub mod Superseding
+pub mod Putting
+pub mod Current
+pub mod ReadsProper
+pub mod BreaksOff
 pub mod Sound
 pub mod Keeping
 pub mod Marking
-pub mod Putting
 pub mod Outcomes
-pub mod Current
-pub mod ReadsProper
 pub mod FoundPart
 pub mod AfterPut

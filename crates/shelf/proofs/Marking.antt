@@ -1,7 +1,7 @@
 -- One byte is marked in the buffer, and the records in it are those with the job's current one superseded.
 -- Assumes nothing.
-use mathlib.Core.Path.{_≡_, refl, sym, ap, ap₂, _∙_}
-use mathlib.Core.Bool.{Bool, true, false, _||_}
+use mathlib.Core.Path.{_≡_, refl, sym, ap, _∙_}
+use mathlib.Core.Bool.{Bool, true, false}
 use mathlib.Core.List.{List, [], _∷_, _++_}
 use Prim.Native.Nat.{ℕ, _+_, _≤_, _<_}
 use native.Mathlib.Omega.{arith}
@@ -10,7 +10,7 @@ use lib.Seq.{set-append-left, length-take-le}
 use Rattle.block.specs.Below.{AreBytes}
 use Rattle.block.proofs.Entries.{below-take}
 use Rattle.walk.specs.Walk.{over}
-use Rattle.shelf.specs.Records.{Record, written, stored, records}
+use Rattle.shelf.specs.Records.{Record, stored, records}
 use Rattle.shelf.specs.Shelf.{isCurrentOf, hasCurrent, placeOf, sizeOf, supersede, InOrder}
 use Rattle.shelf.proofs.Reading.{length-written}
 use Rattle.shelf.proofs.Inverse.{stored-records}
@@ -30,7 +30,8 @@ none-by job rs true e h = let z = current-size job rs e in absurd (omega arith)
 pub size-zero : (job : ℕ) (rs : List Record) → sizeOf job rs ≡ 0 → hasCurrent job rs ≡ false
 size-zero job rs = none-by job rs (hasCurrent job rs) refl
 
-place-by : (job : ℕ) (r : Record) (rs : List Record) (t : Bool) → isCurrentOf job r ≡ t → (t ≡ false → placeOf job rs + 12 ≤ length (stored rs))
+place-by : (job : ℕ) (r : Record) (rs : List Record) (t : Bool) → isCurrentOf job r ≡ t
+    → (t ≡ false → placeOf job rs + 12 ≤ length (stored rs))
     → placeOf job (r ∷ rs) + 12 ≤ length (stored (r ∷ rs))
 unfolding placeOf stored
 place-by job r rs true e more = let l = length-written r in rw (e, length-append) (omega arith)

@@ -1,11 +1,11 @@
 -- Where a new record goes, and what it takes to find room for it.
 -- Assumes nothing.
-use mathlib.Core.Path.{_≡_, refl, sym, ap, ap₂, _∙_}
-use mathlib.Core.Bool.{Bool, true, false, not, _&&_, cond}
+use mathlib.Core.Path.{_≡_, refl, sym, ap, _∙_}
+use mathlib.Core.Bool.{Bool, true, false, _&&_, cond}
 use mathlib.Core.List.{List, [], _∷_, _++_, append-nil, append-assoc}
-use Prim.Native.Nat.{ℕ, _+_, _≤_, _<_}
+use Prim.Native.Nat.{ℕ, _+_, _≤_}
 use native.Mathlib.Omega.{arith}
-use lib.Dec.{leb, ltb, eqb}
+use lib.Dec.{ltb, eqb}
 use lib.ListN.{length, take, drop, length-append}
 use lib.Seq.{take-length}
 use borrow.Author.Tests.{ltb-true, ltb-false, le-leb, lt-leb}
@@ -37,7 +37,8 @@ those-append test (r ∷ a) b = rw (those-append test a b) (cons-where (test r) 
 
 -- a record is kept as it is, or superseded and not kept
 one-coming : (job : ℕ) (current same : Bool) (r : Record) → r .current ≡ current → eqb (r .job) job ≡ same → (a b : List Record) → a ≡ b
-    → cond (stays true job r) (r ∷ a) a ≡ cond (cond (isCurrentOf job r) (superseded r) r .current) (cond (isCurrentOf job r) (superseded r) r ∷ b) b
+    → cond (stays true job r) (r ∷ a) a
+    ≡ cond (cond (isCurrentOf job r) (superseded r) r .current) (cond (isCurrentOf job r) (superseded r) r ∷ b) b
 one-coming job true true r e f a b g = rw (e, f) g
 one-coming job true false r e f a b g =
     rw (e, f)
@@ -45,7 +46,7 @@ one-coming job true false r e f a b g =
 one-coming job false same r e f a b g = rw e g
 
 -- what stays where a job's new record is coming
-pub those-coming : (job : ℕ) (rs : List Record) → those (stays true job) rs ≡ collected (supersede job rs)
+those-coming : (job : ℕ) (rs : List Record) → those (stays true job) rs ≡ collected (supersede job rs)
 unfolding those supersede
 those-coming job [] = refl
 those-coming job (r ∷ rs) = one-coming job (r .current) (eqb (r .job) job) r refl refl _ _ (those-coming job rs)
@@ -65,7 +66,8 @@ module _ (new : Record) (rs : List Record) where
   stored-new a = stored-append a (new ∷ []) ∙ ap (λ (l : List ℕ). stored a ++ l) (append-nil (written new))
 
   length-new : (a : List Record) → length (stored (a ++ (new ∷ []))) ≡ length (stored a) + (12 + length (new .sealed))
-  length-new a = ap length (stored-new a) ∙ length-append (stored a) (written new) ∙ ap (λ (k : ℕ). length (stored a) + k) (length-written new)
+  length-new a =
+      ap length (stored-new a) ∙ length-append (stored a) (written new) ∙ ap (λ (k : ℕ). length (stored a) + k) (length-written new)
 
   collected-new : new .current ≡ true → collected (withNew new rs) ≡ collected (supersede (new .job) rs) ++ (new ∷ [])
   unfolding withNew those
@@ -94,7 +96,7 @@ module _ (new : Record) (rs : List Record) where
         let short = ltb-false room (length (stored rs) + (12 + length (new .sealed))) f in
         rw (f, le-leb (length (stored (withNew new rs))) room (omega arith))
 
-    pub fitted-made : fitted room (withNew new rs) ≡ roomMade room (length (new .sealed)) (new .job) rs ++ (new ∷ [])
+    fitted-made : fitted room (withNew new rs) ≡ roomMade room (length (new .sealed)) (new .job) rs ++ (new ∷ [])
     fitted-made = fitted-by (ltb room (length (stored rs) + (12 + length (new .sealed)))) refl
 
     pub stored-made : stored (fitted room (withNew new rs)) ≡ stored (roomMade room (length (new .sealed)) (new .job) rs) ++ written new
@@ -122,7 +124,8 @@ module _ (new : Record) (rs : List Record) where
     enough = enough-by (ltb room (length (stored rs) + (12 + length (new .sealed)))) refl
 
 -- head and sealed bytes written one behind the other
-pub record-written : (job edition : ℕ) (sealed head o o₁ t : List ℕ) → head ≡ 0x52 ∷ 0x44 ∷ (labelOf job edition ++ bytesOf 4 (length sealed))
+pub record-written : (job edition : ℕ) (sealed head o o₁ t : List ℕ)
+    → head ≡ 0x52 ∷ 0x44 ∷ (labelOf job edition ++ bytesOf 4 (length sealed))
     → o₁ ≡ take (length head) head ++ drop (length head) o → t ≡ take (length sealed) sealed ++ drop (length sealed) (tailed 12 o₁)
     → returned 12 o₁ t ≡ over (written (newRecord job edition sealed)) o
 unfolding written

@@ -1,19 +1,19 @@
 -- Records are read one at a time: where one stands whole at the front, it and then what is behind it; otherwise none.
 -- Assumes nothing.
 use mathlib.Core.Path.{_≡_, refl, sym, ap, _∙_}
-use mathlib.Core.Bool.{Bool, true, false, _&&_, cond}
-use mathlib.Core.List.{List, [], _∷_, _++_}
+use mathlib.Core.Bool.{Bool, true, false, cond}
+use mathlib.Core.List.{List, [], _∷_}
 use Prim.Native.Nat.{ℕ, zero, suc, _+_, _-_, _≤_, _<_}
 use native.Mathlib.Omega.{arith}
 use lib.Dec.{leb}
-use lib.ListN.{length, getD, take, drop, length-append, length-drop}
+use lib.ListN.{length, take, drop, length-append, length-drop}
 use lib.Seq.{length-take-le}
 use borrow.Author.Tests.{leb-true, le-leb, lt-leb}
 use Rattle.block.specs.BigEndian.{bytesOf}
 use Rattle.block.specs.Words.{wordAt}
 use Rattle.block.proofs.Convert.{length-bytesOf}
 use Rattle.block.proofs.Same.{and-left, and-right}
-use Rattle.walk.proofs.Loop.{tailed, tail-is}
+use Rattle.walk.proofs.Loop.{tailed, tail-is, length-tailed}
 use Rattle.label.proofs.LabelTells.{length-label}
 use Rattle.shelf.specs.declared.records.Head.{Head}
 use Rattle.shelf.specs.Records.{Record, written, marked, startsRecord, sizeAt, front, readUpTo, records, headAt}
@@ -98,11 +98,16 @@ enough (suc n) (suc m) b h k =
     let l = length-drop (sizeAt b) b in
     ap {B = List Record} (λ (rs : List Record). front b ∷ rs) (enough n m (drop (sizeAt b) b) (omega arith) (omega arith)))
 
+pub records-empty : records [] ≡ []
+unfolding records readUpTo
+records-empty = refl
+
 pub records-none : (b : List ℕ) → startsRecord b ≡ false → records b ≡ []
 unfolding records
 records-none b e = read-none b (length b) e
 
-read-one : (n : ℕ) (b : List ℕ) → length b ≡ suc n → startsRecord b ≡ true → readUpTo (length b) b ≡ front b ∷ readUpTo n (drop (sizeAt b) b)
+read-one : (n : ℕ) (b : List ℕ) → length b ≡ suc n → startsRecord b ≡ true
+    → readUpTo (length b) b ≡ front b ∷ readUpTo n (drop (sizeAt b) b)
 unfolding readUpTo
 read-one n b l e = rw (l, e)
 
@@ -113,7 +118,8 @@ records-one b e =
     let s = size-starts b e in
     let l = length-drop (sizeAt b) b in
     read-one (length b - 1) b (omega arith) e
-    ∙ ap {B = List Record} (λ (rs : List Record). front b ∷ rs) (enough (length b - 1) (length (drop (sizeAt b) b)) (drop (sizeAt b) b) (omega arith) (omega arith))
+    ∙ ap {B = List Record} (λ (rs : List Record). front b ∷ rs)
+    (enough (length b - 1) (length (drop (sizeAt b) b)) (drop (sizeAt b) b) (omega arith) (omega arith))
 
 -- the record that a head tells of
 abbrev pub entry : List ℕ → Head → Record
@@ -179,3 +185,7 @@ module _ (b : List ℕ) (h : Head) (e : h ≡ headAt b) where
 
   pub on : (h .size ≡ 0 → ⊥) → Turn b h
   on z = turn-by (startsRecord b) refl z
+
+-- what is behind a record is shorter
+pub shrinks : (b : List ℕ) (h : Head) → Turn b h → length (tailed (h .size) b) < length b
+shrinks b h t = let l = length-tailed b (h .size) in omega (arith, t .long, t .within)

@@ -1,15 +1,14 @@
 -- What is read of bytes is proper, and so is what putting and collecting make of it.
 -- Assumes nothing.
-use mathlib.Core.Path.{_≡_, refl, ap, _∙_}
+use mathlib.Core.Path.{_≡_, refl}
 use mathlib.Core.Bool.{Bool, true, false, cond}
 use mathlib.Core.List.{List, [], _∷_, _++_}
-use Prim.Native.Nat.{ℕ, zero, suc, _+_, _≤_, _<_, _^_}
+use Prim.Native.Nat.{ℕ, zero, suc, _+_, _<_, _^_}
 use native.Mathlib.Omega.{arith}
 use lib.Dec.{leb, lit<}
 use lib.ListN.{length, getD, take, drop, length-drop}
 use lib.Seq.{length-take-le}
 use Rattle.block.specs.Below.{AreBytes}
-use Rattle.block.specs.BigEndian.{numberOf}
 use Rattle.block.specs.Words.{wordAt}
 use Rattle.block.proofs.Convert.{numberOf-lt}
 use Rattle.block.proofs.Entries.{below-at, below-take, below-drop}
@@ -36,7 +35,7 @@ module _ (b : List ℕ) (small : AreBytes b) where
         job = word-small 2;
         edition = numberOf-lt (getD b 6 0 ∷ getD b 7 0 ∷ []) (byte 6, (byte 7, tt));
         size = rw l (word-small 8);
-        bytes = below-take 256 (wordAt b 8) (drop 12 b) (below-drop 256 12 b small)
+        bytes = below-take 256 (wordAt b 8) (drop 12 b) (below-drop 256 12 b small);
       }
 
 proper-by : (b : List ℕ) (rs : List Record) (s : Bool) → (s ≡ true → Proper (front b)) → AllProper rs → AllProper (cond s (front b ∷ rs) [])

@@ -1,8 +1,8 @@
 -- A shelf is bad exactly where it is not in order up to its used count.
 -- Assumes nothing.
 use mathlib.Core.Path.{_≡_, refl, sym, ap, _∙_}
-use mathlib.Core.Bool.{Bool, true, false, not, _&&_, _||_, cond}
-use mathlib.Core.List.{List, [], _∷_, _++_}
+use mathlib.Core.Bool.{Bool, true, false, not, _||_}
+use mathlib.Core.List.{List, []}
 use Prim.Native.Nat.{ℕ, zero, suc, _+_, _-_, _≤_, _<_}
 use native.Mathlib.Omega.{arith}
 use lib.Dec.{eqb, ltb}
@@ -11,11 +11,12 @@ use lib.Seq.{length-take-le}
 use borrow.Author.Tests.{lt-ltb, le-ltb, ltb-false, eqb-true, eq-eqb, ne-eqb, not-false}
 use Rattle.block.specs.Words.{wordAt}
 use Rattle.shelf.specs.Records.{Record, written, stored, startsRecord, sizeAt, front, records}
-use Rattle.shelf.specs.Shelf.{hasCurrent, twoCurrent, soundUpTo, badShelf, InOrder}
+use Rattle.shelf.specs.Shelf.{twoCurrent, soundUpTo, badShelf, InOrder}
 use Rattle.shelf.proofs.Reading.{length-written, starts-within, size-starts, too-short, never, records-none, records-one}
 use Rattle.shelf.proofs.Walks.{or-left, or-right}
+use Rattle.shelf.proofs.BreaksOff.{sound-all, sound-less}
 
-pub length-front : (b : List ℕ) → startsRecord b ≡ true → length (written (front b)) ≡ sizeAt b
+length-front : (b : List ℕ) → startsRecord b ≡ true → length (written (front b)) ≡ sizeAt b
 unfolding front
 length-front b f =
     let w = starts-within b f in
@@ -47,28 +48,8 @@ within-by (suc n) b h =
     let l = length-drop (sizeAt b) b in
     within-by n (drop (sizeAt b) b) (omega arith))
 
-pub stored-within : (b : List ℕ) → length (stored (records b)) ≤ length b
+stored-within : (b : List ℕ) → length (stored (records b)) ≤ length b
 stored-within b = within-by (length b) b (omega arith)
-
--- all is in order where no job has two current records, and otherwise less
-pub sound-all : (rs : List Record) → twoCurrent rs ≡ false → soundUpTo rs ≡ length (stored rs)
-unfolding twoCurrent soundUpTo stored
-sound-all [] e = refl
-sound-all (r ∷ rs) e =
-    let here = or-left (r .current && hasCurrent (r .job) rs) _ e in
-    let rest = sound-all rs (or-right (r .current && hasCurrent (r .job) rs) _ e) in
-    rw (here, rest) (sym (length-append (written r) (stored rs)))
-
-less-by : (r : Record) (rs : List Record) (t : Bool) → r .current && hasCurrent (r .job) rs ≡ t → t || twoCurrent rs ≡ true
-    → (twoCurrent rs ≡ true → soundUpTo rs < length (stored rs)) → soundUpTo (r ∷ rs) < length (stored (r ∷ rs))
-unfolding soundUpTo stored
-less-by r rs true e f more = let l = length-written r in rw (e, length-append) (omega arith)
-less-by r rs false e f more = let m = more f in rw (e, length-append) (omega arith)
-
-pub sound-less : (rs : List Record) → twoCurrent rs ≡ true → soundUpTo rs < length (stored rs)
-unfolding twoCurrent
-sound-less [] e = let z : _≡_ {A = ℕ} 0 1 = cc in absurd (omega arith)
-sound-less (r ∷ rs) e = less-by r rs (r .current && hasCurrent (r .job) rs) refl e (sound-less rs)
 
 or-false : (t : Bool) → t ≡ t || false
 or-false true = refl
@@ -78,11 +59,15 @@ or-true : (t : Bool) → true ≡ t || true
 or-true true = refl
 or-true false = refl
 
+none-two : twoCurrent [] ≡ false
+unfolding twoCurrent
+none-two = refl
+
 sound-test : (rs : List Record) (used : ℕ) (two : Bool) → twoCurrent rs ≡ two → length (stored rs) ≤ used
     → not (eqb (soundUpTo rs) used) ≡ not (eqb (length (stored rs)) used) || two
-sound-test rs used false e h = rw (sound-all rs e) (or-false (not (eqb (length (stored rs)) used)))
+sound-test rs used false e h = rw (sound-all [] rs e) (or-false (not (eqb (length (stored rs)) used)))
 sound-test rs used true e h =
-    let l = sound-less rs e in
+    let l = sound-less [] rs none-two e in
     rw (ne-eqb (soundUpTo rs) used (λ f. omega arith)) (or-true (not (eqb (length (stored rs)) used)))
 
 module _ (shelf : List ℕ) (used : ℕ) where
@@ -94,7 +79,8 @@ module _ (shelf : List ℕ) (used : ℕ) where
   unfolding badShelf
   bad-used h k = rw (le-ltb 65536 (length shelf) h, lt-ltb (length shelf) used k)
 
-  pub bad-records : length shelf ≤ 65536 → used ≤ length shelf → not (eqb (soundUpTo (records (take used shelf))) used) ≡ badShelf shelf used
+  pub bad-records : length shelf ≤ 65536 → used ≤ length shelf
+      → not (eqb (soundUpTo (records (take used shelf))) used) ≡ badShelf shelf used
   unfolding badShelf
   bad-records h k =
       let n = stored-within (take used shelf) in
@@ -109,12 +95,13 @@ module _ (shelf : List ℕ) (used : ℕ) where
       let e₁ = or-right (ltb 65536 (length shelf)) _ e in
       let second = or-left (ltb (length shelf) used) _ e₁ in
       let e₂ = or-right (ltb (length shelf) used) _ e₁ in
-      let filled = or-left (not (eqb (length (stored (records (take used shelf)))) used)) _ e₂ in
+      let n = length (stored (records (take used shelf))) in
+      let filled = or-left (not (eqb n used)) _ e₂ in
       record {
         size = ltb-false 65536 (length shelf) first;
         within = ltb-false (length shelf) used second;
-        fills = eqb-true (length (stored (records (take used shelf)))) used (not-false (eqb (length (stored (records (take used shelf)))) used) filled);
-        single = or-right (not (eqb (length (stored (records (take used shelf)))) used)) _ e₂;
+        fills = eqb-true n used (not-false (eqb n used) filled);
+        single = or-right (not (eqb n used)) _ e₂;
       }
 
   -- and the other way round

@@ -1,13 +1,13 @@
 -- Marking the current record of a job changes one byte.
 -- Assumes nothing.
 use mathlib.Core.Path.{_≡_, refl, sym, ap, _∙_}
-use mathlib.Core.Bool.{Bool, true, false, _&&_, _||_, not, cond}
+use mathlib.Core.Bool.{Bool, true, false, _&&_, _||_, cond}
 use mathlib.Core.List.{List, [], _∷_, _++_}
 use Prim.Native.Nat.{ℕ, _+_, _<_}
 use native.Mathlib.Nat.{zero-add, suc-add}
 use native.Mathlib.Omega.{arith}
 use lib.ListN.{length, set, length-append}
-use Rattle.shelf.specs.Records.{Record, markOf, written, stored}
+use Rattle.shelf.specs.Records.{Record, written, stored}
 use Rattle.shelf.specs.Shelf.{isCurrentOf, those, hasCurrent, twoCurrent, placeOf, sizeOf, superseded, supersede}
 use Rattle.shelf.proofs.Reading.{length-written}
 use Rattle.shelf.proofs.Walks.{or-left, or-right, none-current, alone}
@@ -64,7 +64,8 @@ mark-one job (r ∷ rs) f e =
     mark-by job r rs (isCurrentOf job r) refl f
     (λ no. mark-one job rs (two-rest r rs f) (or-rest (isCurrentOf job r) (hasCurrent job rs) e no))
 
-size-by : (job : ℕ) (r : Record) (rs : List Record) (t : Bool) → isCurrentOf job r ≡ t → (t ≡ false → 0 < sizeOf job rs) → 0 < sizeOf job (r ∷ rs)
+size-by : (job : ℕ) (r : Record) (rs : List Record) (t : Bool) → isCurrentOf job r ≡ t
+    → (t ≡ false → 0 < sizeOf job rs) → 0 < sizeOf job (r ∷ rs)
 unfolding those stored
 size-by job r rs true e more = let l = length-written r in rw e (simp length-append (omega arith))
 size-by job r rs false e more = rw e (more refl)

@@ -1,7 +1,7 @@
 -- What the definitions over a shelf's records say at one record, and after the last.
 -- Assumes nothing.
 use mathlib.Core.Path.{_≡_, refl, sym, ap, _∙_}
-use mathlib.Core.Bool.{Bool, true, false, not, _&&_, _||_, cond}
+use mathlib.Core.Bool.{Bool, true, false, not, _&&_, _||_}
 use mathlib.Core.List.{List, [], _∷_, _++_, append-nil}
 use Prim.Native.Nat.{ℕ, _+_}
 use native.Mathlib.Omega.{arith}
@@ -12,7 +12,7 @@ use Rattle.block.proofs.Same.{and-left, and-right}
 use Rattle.walk.proofs.Loop.{tailed}
 use Rattle.shelf.specs.declared.records.Head.{Head}
 use Rattle.shelf.specs.Records.{Record, written, stored, records}
-use Rattle.shelf.specs.Shelf.{isCurrentOf, those, hasCurrent, twoCurrent, placeOf, sizeOf, stays, notHigher, soundUpTo}
+use Rattle.shelf.specs.Shelf.{isCurrentOf, those, hasCurrent, twoCurrent, placeOf, sizeOf, stays, notHigher}
 use Rattle.shelf.proofs.Reading.{Turn, entry}
 
 pub or-left : (a b : Bool) → a || b ≡ false → a ≡ false
@@ -58,7 +58,8 @@ module _ (b : List ℕ) (h : Head) (t : Turn b h) where
   -- what stays, in bytes
   module _ (coming : Bool) (job : ℕ) where
     pub kept-here : h .current && not (coming && eqb (h .job) job) ≡ true
-        → stored (those (stays coming job) (records b)) ≡ written (entry b h) ++ stored (those (stays coming job) (records (tailed (h .size) b)))
+        → stored (those (stays coming job) (records b))
+        ≡ written (entry b h) ++ stored (those (stays coming job) (records (tailed (h .size) b)))
     unfolding those stored
     kept-here e = ap (λ (rs : List Record). stored (those (stays coming job) rs)) (t .reads) ∙ rw e
 
@@ -89,19 +90,11 @@ module _ (b : List ℕ) (h : Head) (t : Turn b h) where
         let one = alone job (entry b h) _ (sym (ap twoCurrent (t .reads)) ∙ f) e in
         ap (sizeOf job) (t .reads) ∙ rw (e, none-current job _ one, append-nil) (t .whole)
 
-    pub place-behind : h .current && eqb (h .job) job ≡ false → placeOf job (records b) ≡ h .size + placeOf job (records (tailed (h .size) b))
+    pub place-behind : h .current && eqb (h .job) job ≡ false
+        → placeOf job (records b) ≡ h .size + placeOf job (records (tailed (h .size) b))
     unfolding placeOf
     place-behind e = ap (placeOf job) (t .reads) ∙ rw (e, t .whole)
 
     pub size-behind : h .current && eqb (h .job) job ≡ false → sizeOf job (records b) ≡ sizeOf job (records (tailed (h .size) b))
     unfolding those
     size-behind e = ap (sizeOf job) (t .reads) ∙ rw e
-
-  pub sound-here : h .current && hasCurrent (h .job) (records (tailed (h .size) b)) ≡ true → soundUpTo (records b) ≡ 0
-  unfolding soundUpTo
-  sound-here e = ap soundUpTo (t .reads) ∙ rw e
-
-  pub sound-behind : h .current && hasCurrent (h .job) (records (tailed (h .size) b)) ≡ false
-      → soundUpTo (records b) ≡ h .size + soundUpTo (records (tailed (h .size) b))
-  unfolding soundUpTo
-  sound-behind e = ap soundUpTo (t .reads) ∙ rw (e, t .whole)

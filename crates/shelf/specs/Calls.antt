@@ -1,7 +1,7 @@
 -- What the three calls leave, from the inputs alone. The numbers are the request's.
 use Prim.Native.Nat.{ℕ, _+_}
-use mathlib.Core.Bool.{Bool, true, false, not, cond}
-use mathlib.Core.List.{List, [], _∷_}
+use mathlib.Core.Bool.{Bool, true, cond}
+use mathlib.Core.List.{List, []}
 use lib.Dec.{ltb}
 use lib.ListN.{length, take, drop}
 use Rattle.walk.specs.Walk.{over}
@@ -68,6 +68,11 @@ findCall shelf used job =
 unfoldable pub partOf : Place → List ℕ → List ℕ
 partOf p shelf = cond (ltb (length shelf) (p .start + p .size)) [] (take (p .size) (drop (p .start) shelf))
 
+-- what looking up hands back
+abbrev pub lookedUp : List ℕ → ℕ → ℕ → List ℕ
+lookedUp shelf used job = partOf (findCall shelf used job) shelf
+
+-- the request's number of an ending
 abbrev pub numberOfEnd : Ended → ℕ
 numberOfEnd Done = 0
 numberOfEnd BadShelf = 19

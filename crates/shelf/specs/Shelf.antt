@@ -1,7 +1,7 @@
 -- What a shelf says of its jobs, and what putting and collecting make of its records.
 use Prim.Native.Nat.{ℕ, _+_, _≤_}
 use mathlib.Core.Path.{_≡_}
-use mathlib.Core.Bool.{Bool, true, false, not, _&&_, _||_, cond}
+use mathlib.Core.Bool.{Bool, false, not, _&&_, _||_, cond}
 use mathlib.Core.List.{List, [], _∷_, _++_}
 use lib.Dec.{leb, ltb, eqb}
 use lib.ListN.{length, take}
@@ -72,11 +72,16 @@ unfoldable pub roomMade : ℕ → ℕ → ℕ → List Record → List Record
 roomMade room n job rs =
     cond (ltb room (length (stored rs) + (12 + n))) (collected (supersede job rs)) (supersede job rs)
 
--- the bytes up to where a shelf of these records breaks off: at a current one with another current one of its job behind it, or
--- else behind the last that reads
-unfoldable pub soundUpTo : List Record → ℕ
-soundUpTo [] = 0
-soundUpTo (r ∷ rs) = cond (r .current && hasCurrent (r .job) rs) 0 (length (written r) + soundUpTo rs)
+-- the bytes up to where a shelf of these records breaks off: at the second current record of a job, or else behind the last that
+-- reads; `passed` are the records before them
+unfoldable pub soundFrom : List Record → List Record → ℕ
+soundFrom passed [] = 0
+soundFrom passed (r ∷ rs) =
+    cond (r .current && hasCurrent (r .job) passed) 0
+    (length (written r) + soundFrom (passed ++ (r ∷ [])) rs)
+
+abbrev pub soundUpTo : List Record → ℕ
+soundUpTo rs = soundFrom [] rs
 
 -- a buffer over 65,536 bytes, a used count that passes it, records that do not fill that count exactly, or two current ones
 -- of one job

@@ -30,18 +30,18 @@ pub(crate) fn has_current(s: &[u8], job: u32) -> bool
     }
 }
 
-// Whether a record is current and has another current one of its job behind it, in `rest`.
-fn is_doubled(rest: &[u8], h: Head) -> bool
-    ensures { λ r. ⌜ r ≡ h .current && hasCurrent (h .job) (records (now (rest .entry))) ⌝ }
+// Whether a record is current, and another one of its job among those passed.
+fn is_second(passed: &[u8], h: Head) -> bool
+    ensures { λ r. ⌜ r ≡ h .current && hasCurrent (h .job) (records (now (passed .entry))) ⌝ }
 {
     if h.current {
-        return has_current(rest, h.job);
+        return has_current(passed, h.job);
     }
     false
 }
 
 // How many bytes are in order. A shelf whose used bytes are not all in order breaks off there: at a record that does not stand
-// whole or has no known mark, or at a current one with another current one of its job behind it.
+// whole or has no known mark, or at the second current record of a job.
 pub fn sound_up_to(s: &[u8]) -> usize
     ensures { λ r. ⌜ r ≡ soundUpTo (records (now (s .entry))) ⌝ }
 {
@@ -53,10 +53,10 @@ pub fn sound_up_to(s: &[u8]) -> usize
         if n == 0 {
             return at;
         }
-        t = &t[n..];
-        if is_doubled(t, h) {
+        if is_second(&s[0..at], h) {
             return at;
         }
+        t = &t[n..];
         at += n;
     }
 }

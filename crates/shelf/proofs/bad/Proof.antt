@@ -28,4 +28,7 @@ returns-3 c =
     ap (λ (k : ℕ). not (eqb k (a .used))) told ∙ bad-records (now (a .shelf)) (a .used) (omega arith) (omega arith)
 
 pub bad-spec : {M : Type 1} → statement M
-bad-spec = tie.close (tie.spec returns returns-2 (λ c. search needs) (λ c. search needs) (λ c. search needs) (λ c κs. search needs) returns-3)
+bad-spec =
+    tie.close
+    (tie.spec
+    returns returns-2 (λ c. search needs) (λ c. search needs) (λ c. search needs) (λ c κs. search needs) returns-3)

@@ -1,8 +1,7 @@
 -- `shelf::find` meets its contract: each return is the definition, by the tests that led there.
 -- Assumes nothing.
 use mathlib.Core.Path.{_≡_, sym, ap, _∙_}
-use mathlib.Core.Bool.{true, false}
-use Prim.Native.Nat.{ℕ, _-_, _<_}
+use Prim.Native.Nat.{ℕ, _-_}
 use native.Mathlib.Omega.{arith}
 use denote.Ref.{now}
 use lib.ListN.{take}
@@ -63,4 +62,7 @@ returns-3 c =
     rw (sym (good .before .bad .ensures) ∙ good .if1 .left, there .0, there .1, has)
 
 pub find-spec : {M : Type 1} → statement M
-find-spec = tie.close (tie.spec (λ c κs. search needs) returns (λ c. search needs) (λ c. search needs) part-seek-end seek-requires returns-2 returns-3)
+find-spec =
+    tie.close
+    (tie.spec
+    (λ c κs. search needs) returns (λ c. search needs) (λ c. search needs) part-seek-end seek-requires returns-2 returns-3)

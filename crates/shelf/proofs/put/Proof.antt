@@ -70,7 +70,8 @@ returns-3 c =
 
 -- the new record finds room
 room : (x : tie.After-make-room)
-    → let a = x .before .before .before .before .before .before .before .before .before .before .before .before .before .before .before .before .args in
+    → let at-bad = x .before .before .before .before .before .before .before .before .before .before .before .before in
+    let a = at-bad .before .before .before .before .args in
     (x .make-room .result + (12 + length (now (a .sealed))) ≤ length (now (a .shelf)))
     × (length (x .make-room .last .0) ≡ length (now (a .shelf)))
     × (length (now (a .shelf)) ≤ 65536)
@@ -129,6 +130,9 @@ pub put-spec : {M : Type 1} → statement M
 put-spec =
     tie.close
     (tie.spec
-    (λ c κs. search needs) (λ c. search needs) returns (λ c. search needs) (λ c. search needs) (λ c. omega (arith, order (c .before) .within)) (λ c κs. search needs) (λ c. search needs) returns-2 (λ c. search needs) (λ c. search needs)
-    (λ c. omega (arith, order (c .before .before .before .before .before) .within)) (λ c κs. search needs) (λ c κs. search needs) (λ c. search needs) returns-3
-    (λ c κs. order (c .before .before .before .before .before .before .before .before .before .before)) sub-write part-write-start (λ c. search needs) write-requires (λ c. search needs) add-t31 (λ c. search needs) returns-4)
+    (λ c κs. search needs) (λ c. search needs) returns (λ c. search needs) (λ c. search needs)
+    (λ c. omega (arith, order (c .before) .within)) (λ c κs. search needs) (λ c. search needs) returns-2 (λ c. search needs)
+    (λ c. search needs) (λ c. omega (arith, order (c .before .before .before .before .before) .within)) (λ c κs. search needs)
+    (λ c κs. search needs) (λ c. search needs) returns-3
+    (λ c κs. order (c .before .before .before .before .before .before .before .before .before .before)) sub-write part-write-start
+    (λ c. search needs) write-requires (λ c. search needs) add-t31 (λ c. search needs) returns-4)

@@ -1,12 +1,11 @@
 -- `change::keep` meets its contract. The loop's invariant is how far the collection has come, and the measure how many bytes are to come.
 -- Assumes nothing.
-use mathlib.Core.Path.{_≡_, sym, _∙_}
+use mathlib.Core.Path.{sym, _∙_}
 use mathlib.Core.Logic.{⊎-elim}
 use Prim.Native.Nat.{ℕ, _+_, _-_, _≤_, _<_}
 use native.Mathlib.Omega.{arith}
 use denote.Ref.{now}
-use lib.ListN.{length, getD}
-use Rattle.block.specs.Below.{AreBytes}
+use lib.ListN.{getD}
 use Rattle.block.proofs.Entries.{below-each}
 use Rattle.shelf.proofs.Reading.{Turn, at-end, on}
 use Rattle.shelf.proofs.Keeping.{between, Collecting, collecting-starts, kept-length, kept-over, fits, stay-turn, gone-turn}
@@ -77,8 +76,13 @@ loop-again c =
     stay-turn _ _ s₀ _ (S .pre) _ _ _ (at-loop .loop .inv) _ told (turn at-else) (below-each 256 s₀ each)
     (sym (at-stays .stays .ensures) ∙ w .0 .taken) _ _ (w .5 ∙ w .2 .ensures) (w .6))
     (λ w.
-    gone-turn _ _ s₀ _ (S .pre) _ _ _ (at-loop .loop .inv) _ told (turn at-else) (sym (at-stays .stays .ensures) ∙ w .0 .left) _ _ (w .1) (w .2))
+    gone-turn _ _ s₀ _ (S .pre) _ _ _ (at-loop .loop .inv) _ told (turn at-else)
+    (sym (at-stays .stays .ensures) ∙ w .0 .left) _ _ (w .1) (w .2))
     (c .if2 .came)
 
 pub keep-spec : {M : Type 1} → statement M
-keep-spec = tie.close (tie.spec Inv-loop μ-loop loop-holds (λ c. omega arith) (λ c. omega arith) (λ c. omega arith) (λ c κs. search needs) (λ c. omega arith) returns (λ c κs. search needs) move-down-requires add-to add-at loop-less loop-again)
+keep-spec =
+    tie.close
+    (tie.spec
+    Inv-loop μ-loop loop-holds (λ c. omega arith) (λ c. omega arith) (λ c. omega arith) (λ c κs. search needs) (λ c. omega arith)
+    returns (λ c κs. search needs) move-down-requires add-to add-at loop-less loop-again)

@@ -1,8 +1,7 @@
 -- `change::mark` meets its contract: the byte that is marked is the second of the record that `seek` found.
 -- Assumes nothing.
 use mathlib.Core.Path.{_≡_, ap, _∙_}
-use mathlib.Core.Bool.{true, false}
-use mathlib.Core.List.{List}
+use mathlib.Core.Bool.{true}
 use Prim.Native.Nat.{ℕ, _+_, _-_, _≤_, _<_}
 use native.Mathlib.Omega.{arith}
 use denote.Ref.{now}
@@ -10,7 +9,7 @@ use lib.ListN.{length, getD, take, set}
 use Rattle.block.specs.Below.{AreBytes}
 use Rattle.block.proofs.Entries.{below-each}
 use Rattle.shelf.specs.declared.lookup.Span.{Span}
-use Rattle.shelf.specs.Records.{stored, records}
+use Rattle.shelf.specs.Records.{records}
 use Rattle.shelf.specs.Shelf.{hasCurrent, twoCurrent, placeOf, sizeOf}
 use Rattle.shelf.proofs.Marking.{size-has, size-zero, place-within, marked-over, unmarked-over}
 use borrow.Author.Needs.{needs}
@@ -45,7 +44,8 @@ has x =
     let there = found at-seek in
     size-has (a .job) (records (take (a .used) (now (a .shelf)))) (omega arith)
 
-inside : (x : tie.Then1) → x .before .before .seek .result .start + 12 ≤ length (now (x .before .before .before .before .before .before .args .shelf))
+inside : (x : tie.Then1)
+    → x .before .before .seek .result .start + 12 ≤ length (now (x .before .before .before .before .before .before .args .shelf))
 inside x =
     let at-seek = x .before .before in
     let S = at-seek .before .before .before .before in
@@ -78,4 +78,8 @@ returns-2 c =
     unmarked-over (now (a .shelf)) (a .used) (small (at-seek .before .before .before)) (S .pre) (a .job) none
 
 pub mark-spec : {M : Type 1} → statement M
-mark-spec = tie.close (tie.spec (λ c. omega arith) (λ c. omega arith) (λ c. omega (arith, c .before .before .pre .within)) seek-requires (λ c. omega (arith, inside c)) (λ c. omega (arith, inside c)) (λ c. search needs) returns (λ c. search needs) returns-2)
+mark-spec =
+    tie.close
+    (tie.spec
+    (λ c. omega arith) (λ c. omega arith) (λ c. omega (arith, c .before .before .pre .within)) seek-requires
+    (λ c. omega (arith, inside c)) (λ c. omega (arith, inside c)) (λ c. search needs) returns (λ c. search needs) returns-2)

@@ -3,13 +3,12 @@
 -- Assumes nothing.
 use mathlib.Core.Path.{_≡_, refl, sym, ap, _∙_}
 use mathlib.Core.List.{List}
-use Prim.Native.Nat.{ℕ, suc, _+_, _-_, _≤_, _<_}
+use Prim.Native.Nat.{ℕ, _+_, _-_, _≤_, _<_}
 use native.Mathlib.Numerals.{add-one}
 use native.Mathlib.Omega.{arith}
 use denote.Ref.{now}
-use lib.ListN.{length, take, drop, getD, set, length-drop, length-set}
-use lib.Seq.{paste, paste-zero, paste-suc, length-paste, drop-paste, getD-drop}
-use borrow.Author.Needs.{needs}
+use lib.ListN.{length, drop, getD, set, length-drop, length-set}
+use lib.Seq.{paste, paste-zero, paste-suc, drop-paste, getD-drop}
 use Rattle.shelf.proofs.change.move_down.Statement.{statement}
 use Rattle.shelf.proofs.change.move_down.Tie as tie
 
@@ -61,4 +60,8 @@ returns c =
     at-loop .loop .inv .2 ∙ ap (λ (k : ℕ). paste (now (a .shelf)) (a .to) (drop (a .from) (now (a .shelf))) k) end
 
 pub move-down-spec : {M : Type 1} → statement M
-move-down-spec = tie.close (tie.spec Inv-loop μ-loop loop-holds (λ c. omega arith) (λ c. omega arith) (λ c. omega arith) (λ c. omega arith) (λ c. omega arith) (λ c. omega arith) loop-again (λ c. omega arith) returns)
+move-down-spec =
+    tie.close
+    (tie.spec
+    Inv-loop μ-loop loop-holds (λ c. omega arith) (λ c. omega arith) (λ c. omega arith) (λ c. omega arith) (λ c. omega arith)
+    (λ c. omega arith) loop-again (λ c. omega arith) returns)

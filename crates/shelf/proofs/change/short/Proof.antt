@@ -6,7 +6,6 @@ use native.Mathlib.Omega.{arith}
 use lib.Dec.{ltb}
 use borrow.Author.Tests.{lt-ltb, ltb-true}
 use Rattle.block.proofs.Same.{test-iff}
-use borrow.Author.Needs.{needs}
 use Rattle.shelf.proofs.change.short.Statement.{statement}
 use Rattle.shelf.proofs.change.short.Tie as tie
 

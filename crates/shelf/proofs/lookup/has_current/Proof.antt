@@ -2,14 +2,12 @@
 -- bytes are to come.
 -- Assumes nothing.
 use mathlib.Core.Path.{_≡_, refl, sym, ap, _∙_}
-use Prim.Native.Nat.{_≤_}
 use native.Mathlib.Omega.{arith}
 use denote.Ref.{now}
 use lib.ListN.{length}
-use Rattle.walk.proofs.Loop.{length-tailed}
 use Rattle.shelf.specs.Records.{records}
 use Rattle.shelf.specs.Shelf.{hasCurrent}
-use Rattle.shelf.proofs.Reading.{Turn, at-end, on}
+use Rattle.shelf.proofs.Reading.{Turn, at-end, on, shrinks}
 use Rattle.shelf.proofs.Walks.{current-here, current-behind}
 use borrow.Author.Needs.{needs}
 use Rattle.shelf.proofs.lookup.has_current.Statement.{statement}
@@ -38,18 +36,6 @@ returns-2 c =
     let at-loop = at-test .before .before .before in
     sym (current-here _ _ (turn (at-test .before)) _ (sym (at-test .is-current-of .ensures) ∙ c .if2 .taken)) ∙ at-loop .loop .inv
 
-sub-t : tie.Need-sub-t Inv-loop μ-loop
-sub-t c = omega (arith, turn (c .before .before) .within)
-
-part-t-start : tie.Need-part-t-start Inv-loop μ-loop
-part-t-start c = omega (arith, turn (c .before .before) .within)
-
-loop-less : tie.Need-loop-less Inv-loop μ-loop
-loop-less c =
-    let here = turn (c .before .before .before) in
-    let l = length-tailed (now (c .before .before .before .before .before .loop .t)) (c .before .before .before .before .front .result .size) in
-    omega (arith, here .within, here .long, l)
-
 loop-again : tie.Need-loop-again Inv-loop μ-loop
 loop-again c =
     let at-test = c .before .before in
@@ -57,4 +43,9 @@ loop-again c =
     sym (current-behind _ _ (turn (at-test .before)) _ (sym (at-test .is-current-of .ensures) ∙ c .before .if2 .left)) ∙ at-loop .loop .inv
 
 pub has-current-spec : {M : Type 1} → statement M
-has-current-spec = tie.close (tie.spec Inv-loop μ-loop (λ c. refl) (λ c κs. search needs) returns (λ c κs. search needs) returns-2 sub-t part-t-start (λ c. omega arith) loop-less loop-again)
+has-current-spec =
+    tie.close
+    (tie.spec
+    Inv-loop μ-loop (λ c. refl) (λ c κs. search needs) returns (λ c κs. search needs) returns-2
+    (λ c. omega (arith, turn (c .before .before) .within)) (λ c. omega (arith, turn (c .before .before) .within))
+    (λ c. omega arith) (λ c. shrinks _ _ (turn (c .before .before .before))) loop-again)

@@ -1,7 +1,7 @@
 -- `lookup::kept_size` meets its contract. The loop's invariant: what is counted and what is to be kept of the records to come are together
 -- what is to be kept of all, and no more is counted than was passed. The measure is how many bytes are to come.
 -- Assumes nothing.
-use mathlib.Core.Path.{_≡_, refl, sym, ap, _∙_}
+use mathlib.Core.Path.{_≡_, sym, ap, _∙_}
 use mathlib.Core.Logic.{⊎-elim}
 use Prim.Native.Nat.{_+_, _≤_}
 use native.Mathlib.Omega.{arith}
@@ -10,7 +10,7 @@ use lib.ListN.{length}
 use Rattle.walk.proofs.Loop.{length-tailed}
 use Rattle.shelf.specs.Records.{stored, records}
 use Rattle.shelf.specs.Shelf.{those, stays}
-use Rattle.shelf.proofs.Reading.{Turn, at-end, on}
+use Rattle.shelf.proofs.Reading.{Turn, at-end, on, shrinks}
 use Rattle.shelf.proofs.Walks.{kept-more, kept-behind}
 use borrow.Author.Needs.{needs}
 use Rattle.shelf.proofs.lookup.kept_size.Statement.{statement}
@@ -40,18 +40,6 @@ returns c =
 add-kept : tie.Need-add-kept Inv-loop μ-loop
 add-kept c = let here = turn (c .before .before) in omega (arith, here .within, c .before .before .before .before .loop .inv .1)
 
-sub-t : tie.Need-sub-t Inv-loop μ-loop
-sub-t c = omega (arith, turn (c .before .before) .within)
-
-part-t-start : tie.Need-part-t-start Inv-loop μ-loop
-part-t-start c = omega (arith, turn (c .before .before) .within)
-
-loop-less : tie.Need-loop-less Inv-loop μ-loop
-loop-less c =
-    let here = turn (c .before .before .before) in
-    let l = length-tailed (now (c .before .before .before .before .before .loop .t)) (c .before .before .before .before .front .result .size) in
-    omega (arith, here .within, here .long, l)
-
 loop-again : tie.Need-loop-again Inv-loop μ-loop
 loop-again c =
     let at-test = c .before .before in
@@ -70,4 +58,9 @@ loop-again c =
     (c .before .if2 .came)
 
 pub kept-size-spec : {M : Type 1} → statement M
-kept-size-spec = tie.close (tie.spec Inv-loop μ-loop (λ c. (omega arith, omega arith)) (λ c κs. search needs) returns (λ c κs. search needs) add-kept sub-t part-t-start (λ c. omega arith) loop-less loop-again)
+kept-size-spec =
+    tie.close
+    (tie.spec
+    Inv-loop μ-loop (λ c. (omega arith, omega arith)) (λ c κs. search needs) returns (λ c κs. search needs) add-kept
+    (λ c. omega (arith, turn (c .before .before) .within)) (λ c. omega (arith, turn (c .before .before) .within))
+    (λ c. omega arith) (λ c. shrinks _ _ (turn (c .before .before .before))) loop-again)

@@ -11,7 +11,7 @@ use Rattle.walk.proofs.Loop.{length-tailed}
 use Rattle.shelf.specs.declared.lookup.Span.{Span}
 use Rattle.shelf.specs.Records.{stored, records}
 use Rattle.shelf.specs.Shelf.{those, twoCurrent, placeOf, sizeOf}
-use Rattle.shelf.proofs.Reading.{Turn, at-end, on}
+use Rattle.shelf.proofs.Reading.{Turn, at-end, on, shrinks}
 use Rattle.shelf.proofs.Walks.{two-behind, place-here, size-here, place-behind, size-behind}
 use borrow.Author.Needs.{needs}
 use Rattle.shelf.proofs.lookup.seek.Statement.{statement}
@@ -58,22 +58,10 @@ returns-2 c =
     let place = place-here _ _ here job yes in
     same-span (omega (arith, place, inv .1)) (sym (size-here _ _ here job (inv .0) yes) ∙ inv .2)
 
-sub-t : tie.Need-sub-t Inv-loop μ-loop
-sub-t c = omega (arith, turn (c .before .before) .within)
-
-part-t-start : tie.Need-part-t-start Inv-loop μ-loop
-part-t-start c = omega (arith, turn (c .before .before) .within)
-
 add-at : tie.Need-add-at Inv-loop μ-loop
 add-at c =
     let here = turn (c .before .before .before) in
     omega (arith, here .within, c .before .before .before .before .before .loop .inv .3)
-
-loop-less : tie.Need-loop-less Inv-loop μ-loop
-loop-less c =
-    let here = turn (c .before .before .before) in
-    let l = length-tailed (now (c .before .before .before .before .before .loop .t)) (c .before .before .before .before .front .result .size) in
-    omega (arith, here .within, here .long, l)
 
 loop-again : tie.Need-loop-again Inv-loop μ-loop
 loop-again c =
@@ -92,4 +80,9 @@ loop-again c =
     )
 
 pub seek-spec : {M : Type 1} → statement M
-seek-spec = tie.close (tie.spec Inv-loop μ-loop loop-holds (λ c κs. search needs) returns (λ c κs. search needs) returns-2 sub-t part-t-start (λ c. omega arith) add-at loop-less loop-again)
+seek-spec =
+    tie.close
+    (tie.spec
+    Inv-loop μ-loop loop-holds (λ c κs. search needs) returns (λ c κs. search needs) returns-2
+    (λ c. omega (arith, turn (c .before .before) .within)) (λ c. omega (arith, turn (c .before .before) .within))
+    (λ c. omega arith) add-at (λ c. shrinks _ _ (turn (c .before .before .before))) loop-again)

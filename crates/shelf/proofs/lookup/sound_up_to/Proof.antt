@@ -1,22 +1,23 @@
--- `lookup::sound_up_to` meets its contract. The loop's invariant: what was passed and what is in order of the records to come are together
--- what is in order of all. The measure is how many bytes are to come.
+-- `lookup::sound_up_to` meets its contract. The loop's invariant is how far the walk has come, and the measure how many bytes are to come.
 -- Assumes nothing.
-use mathlib.Core.Path.{_≡_, refl, sym, ap, _∙_}
-use Prim.Native.Nat.{_+_, _≤_}
+use mathlib.Core.Path.{_≡_, sym, ap, _∙_}
+use mathlib.Core.Bool.{_&&_}
+use Prim.Native.Nat.{ℕ, _+_, _-_, _<_}
 use native.Mathlib.Omega.{arith}
 use denote.Ref.{now}
-use lib.ListN.{length}
-use Rattle.walk.proofs.Loop.{length-tailed}
+use lib.ListN.{length, getD, take}
+use Rattle.block.proofs.Entries.{below-each}
+use Rattle.walk.proofs.Loop.{tailed}
 use Rattle.shelf.specs.Records.{records}
-use Rattle.shelf.specs.Shelf.{soundUpTo}
-use Rattle.shelf.proofs.Reading.{Turn, at-end, on}
-use Rattle.shelf.proofs.Walks.{sound-here, sound-behind}
+use Rattle.shelf.specs.Shelf.{hasCurrent}
+use Rattle.shelf.proofs.Reading.{Turn, at-end, on, shrinks}
+use Rattle.shelf.proofs.BreaksOff.{Passing, passing-starts, passed-all, second, passing-on}
 use borrow.Author.Needs.{needs}
 use Rattle.shelf.proofs.lookup.sound_up_to.Statement.{statement}
 use Rattle.shelf.proofs.lookup.sound_up_to.Tie as tie
 
 abbrev Inv-loop : tie.InvT-loop
-Inv-loop s t₀ at₀ t at = (at + soundUpTo (records t) ≡ soundUpTo (records s)) × (at + length t ≤ length s)
+Inv-loop s t₀ at₀ t at = Passing s t at
 
 abbrev μ-loop : tie.MeasureT-loop
 μ-loop s t₀ at₀ t at = length t
@@ -25,47 +26,56 @@ turn : (x : tie.Else1 Inv-loop μ-loop) → Turn (now (x .before .before .loop .
 turn x = on _ _ (x .before .front .ensures) (x .if1 .left)
 
 returns : tie.Need-returns Inv-loop μ-loop
-unfolding soundUpTo
 returns c =
     let at-front = c .before in
     let at-loop = at-front .before in
-    let end = ap soundUpTo (at-end (now (at-loop .loop .t)) (at-front .front .result) (at-front .front .ensures) (c .if1 .taken)) in
-    omega (arith, end, at-loop .loop .inv .0)
+    passed-all _ _ _ (at-loop .loop .inv) (at-end _ (at-front .front .result) (at-front .front .ensures) (c .if1 .taken))
 
-sub-t : tie.Need-sub-t Inv-loop μ-loop
-sub-t c = omega (arith, turn c .within)
-
-part-t-start : tie.Need-part-t-start Inv-loop μ-loop
-part-t-start c = omega (arith, turn c .within)
+-- whether it is the second, asked of all that was passed
+told : (x : tie.After-is-second Inv-loop μ-loop)
+    → let at-front = x .before .before .before in
+    let at-loop = at-front .before in
+    let h = at-front .front .result in
+    x .is-second .result ≡ h .current && hasCurrent (h .job) (records (take (at-loop .loop .at) (now (at-loop .before .before .args .s))))
+told x =
+    let at-front = x .before .before .before in
+    let at-loop = at-front .before in
+    let h = at-front .front .result in
+    let at = at-loop .loop .at in
+    let whole : at - 0 ≡ at = omega arith in
+    x .is-second .ensures
+    ∙ ap (λ (k : ℕ). h .current && hasCurrent (h .job) (records (take k (now (at-loop .before .before .args .s))))) whole
 
 returns-2 : tie.Need-returns-2 Inv-loop μ-loop
 returns-2 c =
-    let at-test = c .before in
-    let at-loop = at-test .before .before .before .before in
-    let here = sound-here _ _ (turn (at-test .before .before)) (sym (at-test .is-doubled .ensures) ∙ c .if2 .taken) in
-    omega (arith, here, at-loop .loop .inv .0)
+    let at-else = c .before .before .before in
+    let at-loop = at-else .before .before in
+    second _ _ _ (at-loop .loop .inv) _ (at-else .before .front .ensures) (turn at-else) (sym (told (c .before)) ∙ c .if2 .taken)
+
+on-from : (x : tie.Else2 Inv-loop μ-loop)
+    → let at-front = x .before .before .before .before in
+    let at-loop = at-front .before in
+    let n = at-front .front .result .size in
+    Passing (now (at-loop .before .before .args .s)) (tailed n (now (at-loop .loop .t))) (at-loop .loop .at + n)
+on-from x =
+    let at-else = x .before .before .before in
+    let at-loop = at-else .before .before in
+    let s = now (at-loop .before .before .args .s) in
+    let each : (k : ℕ) → getD s k 0 < 256 = λ k. omega (arith, at-loop .before .shared-slice-known .given k) in
+    passing-on s _ _ (at-loop .loop .inv) _ (at-else .before .front .ensures) (turn at-else) (below-each 256 s each)
+    (sym (told (x .before)) ∙ x .if2 .left)
 
 add-at : tie.Need-add-at Inv-loop μ-loop
-add-at c =
-    let at-test = c .before in
-    omega (arith, turn (at-test .before .before) .within, at-test .before .before .before .before .loop .inv .1)
-
-loop-less : tie.Need-loop-less Inv-loop μ-loop
-loop-less c =
-    let at-else = c .before .before .before in
-    let here = turn at-else in
-    let l = length-tailed (now (at-else .before .before .loop .t)) (at-else .before .front .result .size) in
-    omega (arith, here .within, here .long, l)
+add-at c = omega (arith, on-from (c .before) .within)
 
 loop-again : tie.Need-loop-again Inv-loop μ-loop
-loop-again c =
-    let at-test = c .before in
-    let at-else = at-test .before .before in
-    let at-loop = at-else .before .before in
-    let here = turn at-else in
-    let l = length-tailed (now (at-loop .loop .t)) (at-else .before .front .result .size) in
-    let behind = sound-behind _ _ here (sym (at-test .is-doubled .ensures) ∙ c .if2 .left) in
-    (omega (arith, behind, at-loop .loop .inv .0), omega (arith, l, here .within, at-loop .loop .inv .1))
+loop-again c = on-from (c .before)
 
 pub sound-up-to-spec : {M : Type 1} → statement M
-sound-up-to-spec = tie.close (tie.spec Inv-loop μ-loop (λ c. (omega arith, omega arith)) (λ c κs. search needs) returns sub-t part-t-start (λ c. omega arith) (λ c κs. search needs) returns-2 add-at loop-less loop-again)
+sound-up-to-spec =
+    tie.close
+    (tie.spec
+    Inv-loop μ-loop (λ c. passing-starts (now (c .before .args .s))) (λ c κs. search needs) returns (λ c. omega arith)
+    (λ c. omega arith) (λ c. omega arith) (λ c κs. search needs) returns-2
+    (λ c. omega (arith, turn (c .before .before .before) .within)) (λ c. omega (arith, turn (c .before .before .before) .within))
+    (λ c. omega arith) add-at (λ c. shrinks _ _ (turn (c .before .before .before .before))) loop-again)

@@ -44,4 +44,8 @@ returns-2 c =
     rw (starts at-else, at-else .before .size .ensures, at-word .word-at .ensures, c .number .ensures)
 
 pub front-spec : {M : Type 1} → statement M
-front-spec = tie.close (tie.spec (λ c κs. search needs) returns shared-slice-read-current word-at-requires shared-slice-read-number shared-slice-read-number-2 (λ c κs. search needs) returns-2)
+front-spec =
+    tie.close
+    (tie.spec
+    (λ c κs. search needs) returns shared-slice-read-current word-at-requires shared-slice-read-number shared-slice-read-number-2
+    (λ c κs. search needs) returns-2)

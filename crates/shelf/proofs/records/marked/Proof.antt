@@ -19,4 +19,7 @@ unfolding marked
 returns-3 c = rw (eq-eqb _ _ (c .before .before .before .if1 .left), ne-eqb _ _ (c .before .if2 .left))
 
 pub marked-spec : {M : Type 1} → statement M
-marked-spec = tie.close (tie.spec (λ c. search needs) returns (λ c. search needs) returns-2 (λ c. search needs) returns-3)
+marked-spec =
+    tie.close
+    (tie.spec
+    (λ c. search needs) returns (λ c. search needs) returns-2 (λ c. search needs) returns-3)

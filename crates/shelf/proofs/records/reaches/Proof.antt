@@ -1,7 +1,6 @@
 -- `records::reaches` meets its contract.
 -- Assumes nothing.
 use borrow.Author.Tests.{eq-eqb, ne-eqb}
-use borrow.Author.Needs.{needs}
 use Rattle.shelf.proofs.records.reaches.Statement.{statement}
 use Rattle.shelf.proofs.records.reaches.Tie as tie
 

@@ -38,4 +38,8 @@ returns-4 c =
     ap (λ (n : ℕ). 12 + n) told ∙ sym (size-starts b (stands b (omega arith) (is-marked (at-word .before)) (omega (arith, told))))
 
 pub size-spec : {M : Type 1} → statement M
-size-spec = tie.close (tie.spec returns (λ c κs. search needs) returns-2 (λ c κs. search needs) (λ c. search needs) (λ c. search needs) returns-3 (λ c. search needs) returns-4)
+size-spec =
+    tie.close
+    (tie.spec
+    returns (λ c κs. search needs) returns-2 (λ c κs. search needs) (λ c. search needs) (λ c. search needs) returns-3
+    (λ c. search needs) returns-4)

@@ -1,7 +1,6 @@
 -- `records::stays` meets its contract.
 -- Assumes nothing.
 use borrow.Author.Tests.{not-true, not-false}
-use borrow.Author.Needs.{needs}
 use Rattle.shelf.proofs.records.stays.Statement.{statement}
 use Rattle.shelf.proofs.records.stays.Tie as tie
 
