@@ -30,16 +30,19 @@ use Rattle.shelf.proofs.Current.{collected-length}
 use Rattle.shelf.proofs.ReadsProper.{records-proper, those-proper}
 use Rattle.shelf.proofs.FoundPart.{stored-part, look-up}
 use Rattle.shelf.proofs.AfterPut.{put-passed, put-look-up}
+use Rattle.luossavin.specs.declared.key.LuossavinKey.{LuossavinKey}
+use Rattle.luossavin.specs.Host.{hostModeCall}
 use Rattle.luossavin.specs.declared.shelves.LuossavinShelf.{LuossavinShelf}
 use Rattle.luossavin.specs.declared.shelves.LuossavinShelved.{LuossavinShelved}
 use Rattle.luossavin.specs.Shelves.{shelfReported, shelvedReported}
 use Rattle.demands.specs.Answered.{oneOf}
-use Rattle.demands.specs.Call.{inGcm}
+use Rattle.demands.specs.Call.{Call, inGcm}
 use Rattle.demands.specs.OneBlockRefused.{MovesZero}
+use Rattle.demands.specs.OtherEdition.{OtherEditionRefused}
 use Rattle.demands.specs.WhichNumber.{only, row, firstOf}
 use Rattle.demands.specs.OnTheShelf.{ShelfAnswered, PlaceAnswered, putNumbers, collectNumbers, putRows, collectRows, findRows}
 use Rattle.demands.specs.OnTheShelf.{labelIn, fileIn, OneEditionOpens, NoRoughShown, OfEach}
-use Rattle.demands.proofs.OtherEdition.{other-edition-refused}
+use Rattle.demands.proofs.OtherEdition.{other-edition-refused, exported-other-edition-refused}
 
 -- Which number: putting says what the first condition says that holds.
 pub exported-put-number : (shelf : List ℕ) (used job edition : ℕ) (sealed : List ℕ)
@@ -48,16 +51,16 @@ unfolding putCall
 exported-put-number shelf used job edition sealed =
     by-tests (badShelf shelf used) (notHigher job edition (records (take used shelf)))
     (ltb (length shelf) (length (stored (collected (putIn shelf used job edition sealed))))) where
-  by-tests : (bad low full : Bool)
-      → only
-      (refuse bad 19 shelf used
-      (refuse low 20 shelf used
-      (refuse full 21 shelf used (holding (fitted (length shelf) (putIn shelf used job edition sealed)) shelf))) .number)
-      ≡ firstOf (row bad 19 ∷ row low 20 ∷ row full 21 ∷ [])
-  by-tests true low full = refl
-  by-tests false true full = refl
-  by-tests false false true = refl
-  by-tests false false false = refl
+      by-tests : (bad low full : Bool)
+          → only
+          (refuse bad 19 shelf used
+          (refuse low 20 shelf used
+          (refuse full 21 shelf used (holding (fitted (length shelf) (putIn shelf used job edition sealed)) shelf))) .number)
+          ≡ firstOf (row bad 19 ∷ row low 20 ∷ row full 21 ∷ [])
+      by-tests true low full = refl
+      by-tests false true full = refl
+      by-tests false false true = refl
+      by-tests false false false = refl
 
 pub exported-collect-number : (shelf : List ℕ) (used : ℕ) → only (collectCall shelf used .number) ≡ firstOf (collectRows shelf used)
 unfolding collectCall
@@ -124,18 +127,18 @@ unfolding putCall
 exported-put-answers shelf used job edition sealed =
     by-tests (badShelf shelf used) (notHigher job edition (records (take used shelf)))
     (ltb (length shelf) (length (stored (collected (putIn shelf used job edition sealed))))) refl where
-  by-tests : (bad low full : Bool) → ltb (length shelf) (length (stored (collected (putIn shelf used job edition sealed)))) ≡ full
-      → ShelfAnswered putNumbers shelf used
-      (refuse bad 19 shelf used
-      (refuse low 20 shelf used
-      (refuse full 21 shelf used (holding (fitted (length shelf) (putIn shelf used job edition sealed)) shelf))))
-  by-tests true low full e = refuses putNumbers shelf used 19 (omega arith) refl
-  by-tests false true full e = refuses putNumbers shelf used 20 (omega arith) refl
-  by-tests false false true e = refuses putNumbers shelf used 21 (omega arith) refl
-  by-tests false false false e =
-      let new = putIn shelf used job edition sealed in
-      holds putNumbers shelf used (fitted (length shelf) new) refl
-      (fitted-fits (length shelf) new (ltb-false (length shelf) (length (stored (collected new))) e))
+      by-tests : (bad low full : Bool) → ltb (length shelf) (length (stored (collected (putIn shelf used job edition sealed)))) ≡ full
+          → ShelfAnswered putNumbers shelf used
+          (refuse bad 19 shelf used
+          (refuse low 20 shelf used
+          (refuse full 21 shelf used (holding (fitted (length shelf) (putIn shelf used job edition sealed)) shelf))))
+      by-tests true low full e = refuses putNumbers shelf used 19 (omega arith) refl
+      by-tests false true full e = refuses putNumbers shelf used 20 (omega arith) refl
+      by-tests false false true e = refuses putNumbers shelf used 21 (omega arith) refl
+      by-tests false false false e =
+          let new = putIn shelf used job edition sealed in
+          holds putNumbers shelf used (fitted (length shelf) new) refl
+          (fitted-fits (length shelf) new (ltb-false (length shelf) (length (stored (collected new))) e))
 
 pub exported-collect-answers : (shelf : List ℕ) (used : ℕ) → ShelfAnswered collectNumbers shelf used (collectCall shelf used)
 unfolding collectCall
@@ -249,11 +252,10 @@ module _ (shelf : List ℕ) (used job : ℕ) (small : AreBytes shelf) (found : f
       let all = those-proper (isCurrentOf job) rs (records-proper (take used shelf) (below-take 256 used shelf small)) in
       subst AllProper (current .1) all .0 .edition
 
-  -- The current record of a job, where it opens under its own label, is refused as 4 under the label of every other edition, under a key that
-  -- does not encrypt the all-zero block to itself.
-  pub current-opens-alone : (c : Sm4Cipher) → MovesZero (c .rk) → job < 2 ^ 32 → (iv o : List ℕ)
-      → OneEditionOpens (modeCall Decrypt (inGcm c)) job (partOf (findCall shelf used job) shelf) iv o
-  current-opens-alone c moves job-fits iv o =
+  -- by any call under which other editions are refused
+  alone-under : (opening : Call) → OtherEditionRefused opening → job < 2 ^ 32 → (iv o : List ℕ)
+      → OneEditionOpens opening job (partOf (findCall shelf used job) shelf) iv o
+  alone-under opening others job-fits iv o =
       let part = partOf (findCall shelf used job) shelf in
       let label : labelIn part ≡ labelOf job (r .edition) =
       ap labelIn part-written ∙ label-written r ∙ ap (λ (j : ℕ). labelOf j (r .edition)) its-job in
@@ -261,15 +263,25 @@ module _ (shelf : List ℕ) (used job : ℕ) (small : AreBytes shelf) (found : f
         edition = r .edition;
         label = label;
         alone = λ opens e fits other.
-            other-edition-refused c moves job job (r .edition) e (fileIn part) iv o o job-fits job-fits edition-fits fits
-            (inr (λ same. other (sym same))) refl
-            (subst (λ (l : List ℕ). modeCall Decrypt (inGcm c) l (fileIn part) iv o .head .number ≡ 0) label opens);
+            others job job (r .edition) e (fileIn part) iv o o job-fits job-fits edition-fits fits (inr (λ same. other (sym same))) refl
+            (subst (λ (l : List ℕ). opening l (fileIn part) iv o .head .number ≡ 0) label opens);
       }
 
+  -- Under a key that does not encrypt the all-zero block to itself, the current record of a job, where it opens under its own label, is refused
+  -- as 4 under the label of every other edition.
+  pub current-opens-alone : (c : Sm4Cipher) → MovesZero (c .rk) → job < 2 ^ 32 → (iv o : List ℕ)
+      → OneEditionOpens (modeCall Decrypt (inGcm c)) job (partOf (findCall shelf used job) shelf) iv o
+  current-opens-alone c moves = alone-under (modeCall Decrypt (inGcm c)) (other-edition-refused c moves)
+
+  pub exported-current-opens-alone : (k : LuossavinKey) → MovesZero (k .«round_keys») → job < 2 ^ 32 → (iv o : List ℕ)
+      → OneEditionOpens (hostModeCall Decrypt 4 k) job (partOf (findCall shelf used job) shelf) iv o
+  exported-current-opens-alone k moves = alone-under (hostModeCall Decrypt 4 k) (exported-other-edition-refused k moves)
+
 -- every edition of the job on the shelf is lower than one that is not refused as not higher
-module _ (c : Sm4Cipher) (moves : MovesZero (c .rk)) (job e : ℕ) (job-fits : job < 2 ^ 32) (fits : e < 2 ^ 16) (file iv o : List ℕ) where
+module _ (opening : Call) (others : OtherEditionRefused opening) (job e : ℕ) (job-fits : job < 2 ^ 32) (fits : e < 2 ^ 16)
+    (file iv o : List ℕ) where
   abbrev shown : Record → Type 0
-  shown r = NoRoughShown (modeCall Decrypt (inGcm c)) job e file iv o r
+  shown r = NoRoughShown opening job e file iv o r
 
   lower : (r : Record) → eqb (r .job) job && leb e (r .edition) ≡ false → r .job ≡ job → r .edition < e
   lower r f same =
@@ -281,10 +293,10 @@ module _ (c : Sm4Cipher) (moves : MovesZero (c .rk)) (job e : ℕ) (job-fits : j
       record {
         higher = h;
         new-under-old = λ opens.
-            other-edition-refused c moves job job e (r .edition) file iv o o job-fits job-fits fits (omega (arith, h, fits))
-            (inr (λ same. omega (arith, same, h))) refl opens;
+            others job job e (r .edition) file iv o o job-fits job-fits fits (omega (arith, h, fits)) (inr (λ same. omega (arith, same, h)))
+            refl opens;
         old-under-new = λ opens.
-            other-edition-refused c moves job job (r .edition) e (r .sealed) iv o o job-fits job-fits (omega (arith, h, fits)) fits
+            others job job (r .edition) e (r .sealed) iv o o job-fits job-fits (omega (arith, h, fits)) fits
             (inr (λ same. omega (arith, same, h))) refl opens;
       }
 
@@ -295,7 +307,19 @@ module _ (c : Sm4Cipher) (moves : MovesZero (c .rk)) (job e : ℕ) (job-fits : j
       let here = eqb (r .job) job && leb e (r .edition) in
       (λ same. not-shown r (lower r (or-left here (notHigher job e rs) f) same), none-shown rs (or-right here (notHigher job e rs) f))
 
-  -- No rough is shown for its final: after a put that is done, under a key that does not encrypt the all-zero block to itself, the file put in
-  -- does not open under the label of any edition of the job that was on the shelf, and none of their files opens under the new one's.
-  pub no-rough-shown : (shelf : List ℕ) (used : ℕ) → putCall shelf used job e file .number ≡ 0 → OfEach shown job (records (take used shelf))
-  no-rough-shown shelf used done = none-shown (records (take used shelf)) (put-passed shelf used job e file done .higher)
+  after-put : (shelf : List ℕ) (used : ℕ) → putCall shelf used job e file .number ≡ 0 → OfEach shown job (records (take used shelf))
+  after-put shelf used done = none-shown (records (take used shelf)) (put-passed shelf used job e file done .higher)
+
+-- No rough is shown for its final. After a put that is done, under a key that does not encrypt the all-zero block to itself, the file put in
+-- does not open under the label of any edition of the job that was on the shelf, and none of their files opens under the new one's.
+module _ (job e : ℕ) (job-fits : job < 2 ^ 32) (fits : e < 2 ^ 16) (file iv o shelf : List ℕ) (used : ℕ)
+    (done : putCall shelf used job e file .number ≡ 0) where
+  pub no-rough-shown : (c : Sm4Cipher) → MovesZero (c .rk)
+      → OfEach (NoRoughShown (modeCall Decrypt (inGcm c)) job e file iv o) job (records (take used shelf))
+  no-rough-shown c moves =
+      after-put (modeCall Decrypt (inGcm c)) (other-edition-refused c moves) job e job-fits fits file iv o shelf used done
+
+  pub exported-no-rough-shown : (k : LuossavinKey) → MovesZero (k .«round_keys»)
+      → OfEach (NoRoughShown (hostModeCall Decrypt 4 k) job e file iv o) job (records (take used shelf))
+  exported-no-rough-shown k moves =
+      after-put (hostModeCall Decrypt 4 k) (exported-other-edition-refused k moves) job e job-fits fits file iv o shelf used done

@@ -41,7 +41,7 @@ part-by job r rs false e f more =
       ap (take (sizeOf job rs)) (drop-append-add (written r) (stored rs) (placeOf job rs)) ∙ more .1,
     )
 
-stored-part : (job : ℕ) (rs : List Record) → twoCurrent rs ≡ false
+pub stored-part : (job : ℕ) (rs : List Record) → twoCurrent rs ≡ false
     → StandsThere job rs
 unfolding twoCurrent placeOf stored those
 stored-part job [] f = (omega arith, refl)
