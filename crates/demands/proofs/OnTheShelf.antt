@@ -1,8 +1,8 @@
--- A shelf, as a host is handed it: demand 1 of its calls, which number each answers, that one answer is allowed alone; and that a rough is not
--- shown for its final.
+-- A shelf, as a host is handed it: demand 1 of its calls, which number each answers, that one answer is allowed alone; and that a rough is
+-- not shown for its final.
 -- Assumes nothing.
 use mathlib.Core.Path.{_≡_, refl, sym, ap, subst, _∙_}
-use mathlib.Core.Logic.{_≢_, inr}
+use mathlib.Core.Logic.{inr}
 use mathlib.Core.Bool.{Bool, true, false, not, cond, _&&_}
 use mathlib.Core.List.{List, [], _∷_, _++_, append-nil}
 use Prim.Native.Nat.{ℕ, _^_, _≤_, _<_}
@@ -65,14 +65,19 @@ exported-put-number shelf used job edition sealed =
 pub exported-collect-number : (shelf : List ℕ) (used : ℕ) → only (collectCall shelf used .number) ≡ firstOf (collectRows shelf used)
 unfolding collectCall
 exported-collect-number shelf used = by-test (badShelf shelf used) where
-  by-test : (bad : Bool) → only (refuse bad 19 shelf used (holding (collected (records (take used shelf))) shelf) .number) ≡ firstOf (row bad 19 ∷ [])
+  by-test : (bad : Bool)
+      → only (refuse bad 19 shelf used (holding (collected (records (take used shelf))) shelf) .number) ≡ firstOf (row bad 19 ∷ [])
   by-test true = refl
   by-test false = refl
 
 pub exported-find-number : (shelf : List ℕ) (used job : ℕ) → only (findCall shelf used job .number) ≡ firstOf (findRows shelf used job)
 unfolding findCall
 exported-find-number shelf used job = by-tests (badShelf shelf used) (hasCurrent job (records (take used shelf))) where
-  by-tests : (bad has : Bool) → only (cond bad (nowhere 19) (cond has (record { number = 0; start = placeOf job (records (take used shelf)); size = sizeOf job (records (take used shelf)) }) (nowhere 22)) .number)
+  by-tests : (bad has : Bool)
+      → only
+      (cond bad (nowhere 19)
+      (cond has (record { number = 0; start = placeOf job (records (take used shelf)); size = sizeOf job (records (take used shelf)) })
+      (nowhere 22)) .number)
       ≡ firstOf (row bad 19 ∷ row (not has) 22 ∷ [])
   by-tests true has = refl
   by-tests false true = refl
@@ -103,7 +108,8 @@ module _ (numbers : List ℕ) (shelf : List ℕ) (used : ℕ) where
         kept = refl;
       }
 
-  holds : (rs : List Record) → oneOf 0 numbers ≡ true → length (stored rs) ≤ length shelf → ShelfAnswered numbers shelf used (holding rs shelf)
+  holds : (rs : List Record) → oneOf 0 numbers ≡ true → length (stored rs) ≤ length shelf
+      → ShelfAnswered numbers shelf used (holding rs shelf)
   holds rs within h =
       record {
         numbered = within;
@@ -187,8 +193,10 @@ file-written r =
     ∙ ap (drop 4) (drop-at label (size ++ r .sealed) 6 (length-label (r .job) (r .edition)))
     ∙ drop-at size (r .sealed) 4 (length-bytesOf 4 (length (r .sealed)))
 
--- After a put that is done, looking up the job gives the new record: its label is that of the job and the edition, and its file the one put in.
-pub put-is-found : (shelf : List ℕ) (used job edition : ℕ) (sealed : List ℕ) → AreBytes shelf → job < 2 ^ 32 → edition < 2 ^ 16 → AreBytes sealed
+-- After a put that is done, looking up the job gives the new record: its label is that of the job and the edition, and its file the one
+-- put in.
+pub put-is-found : (shelf : List ℕ) (used job edition : ℕ) (sealed : List ℕ) → AreBytes shelf → job < 2 ^ 32 → edition < 2 ^ 16
+    → AreBytes sealed
     → putCall shelf used job edition sealed .number ≡ 0
     → let x = putCall shelf used job edition sealed in
     let part = partOf (findCall (x .bytes) (x .used) job) (x .bytes) in
@@ -267,8 +275,8 @@ module _ (shelf : List ℕ) (used job : ℕ) (small : AreBytes shelf) (found : f
             (subst (λ (l : List ℕ). opening l (fileIn part) iv o .head .number ≡ 0) label opens);
       }
 
-  -- Under a key that does not encrypt the all-zero block to itself, the current record of a job, where it opens under its own label, is refused
-  -- as 4 under the label of every other edition.
+  -- Under a key that does not encrypt the all-zero block to itself, the current record of a job, where it opens under its own label, is
+  -- refused as 4 under the label of every other edition.
   pub current-opens-alone : (c : Sm4Cipher) → MovesZero (c .rk) → job < 2 ^ 32 → (iv o : List ℕ)
       → OneEditionOpens (modeCall Decrypt (inGcm c)) job (partOf (findCall shelf used job) shelf) iv o
   current-opens-alone c moves = alone-under (modeCall Decrypt (inGcm c)) (other-edition-refused c moves)
@@ -310,8 +318,8 @@ module _ (opening : Call) (others : OtherEditionRefused opening) (job e : ℕ) (
   after-put : (shelf : List ℕ) (used : ℕ) → putCall shelf used job e file .number ≡ 0 → OfEach shown job (records (take used shelf))
   after-put shelf used done = none-shown (records (take used shelf)) (put-passed shelf used job e file done .higher)
 
--- No rough is shown for its final. After a put that is done, under a key that does not encrypt the all-zero block to itself, the file put in
--- does not open under the label of any edition of the job that was on the shelf, and none of their files opens under the new one's.
+-- No rough is shown for its final. After a put that is done, under a key that does not encrypt the all-zero block to itself, the file put
+-- in does not open under the label of any edition of the job that was on the shelf, and none of their files opens under the new one's.
 module _ (job e : ℕ) (job-fits : job < 2 ^ 32) (fits : e < 2 ^ 16) (file iv o shelf : List ℕ) (used : ℕ)
     (done : putCall shelf used job e file .number ≡ 0) where
   pub no-rough-shown : (c : Sm4Cipher) → MovesZero (c .rk)

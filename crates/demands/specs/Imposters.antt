@@ -1,5 +1,5 @@
--- Calls that look like encryption, decryption, setting up a key, retiring one, asking for a file's label, a range, work by a plan or putting
--- on a shelf to a careless test, and are not.
+-- Calls that look like encryption, decryption, setting up a key, retiring one, asking for a file's label, a range, work by a plan or
+-- putting on a shelf to a careless test, and are not.
 use mathlib.Core.Bool.{true, false, not}
 use mathlib.Core.List.{List, [], _∷_, _++_}
 use Prim.Native.Nat.{ℕ, _+_, _*_, _/_}

@@ -66,16 +66,16 @@ labelIn part = take 6 (drop 2 part)
 abbrev pub fileIn : List ℕ → List ℕ
 fileIn part = drop 12 part
 
--- Of what a look-up of a job gave: its label is that of the job and an edition; and where its file opens under it, that is refused as 4 under
--- every other edition's label, earlier and later ones.
+-- Of what a look-up of a job gave: its label is that of the job and an edition; and where its file opens under it, that is refused as 4
+-- under every other edition's label, earlier and later ones.
 pub record OneEditionOpens (opening : Call) (job : ℕ) (part iv o : List ℕ) : Type 0 where
   pub edition : ℕ
   pub label : labelIn part ≡ labelOf job edition
   pub alone : opening (labelIn part) (fileIn part) iv o .head .number ≡ 0
       → (e : ℕ) → e < 2 ^ 16 → e ≢ edition → RefusedAs 4 o (opening (labelOf job e) (fileIn part) iv o)
 
--- The edition e of a job, newly put in, beside a record r of the job that was on the shelf before: it is higher; the new file, where it opens
--- under its own label, is refused under the older edition's; and the older file, where it opens under its own, is refused under e's.
+-- The edition e of a job, newly put in, beside a record r of the job that was on the shelf before: it is higher; the new file, where it
+-- opens under its own label, is refused under the older edition's; and the older file, where it opens under its own, is refused under e's.
 pub record NoRoughShown (opening : Call) (job e : ℕ) (file iv o : List ℕ) (r : Record) : Type 0 where
   pub higher : r .edition < e
   pub new-under-old : opening (labelOf job e) file iv o .head .number ≡ 0 → RefusedAs 4 o (opening (labelOf job (r .edition)) file iv o)
