@@ -156,25 +156,22 @@ static void counts(void)
     }
 }
 
-/* Plans of which every entry is wild. */
+/* Plans of which every entry is wild: pieces of one length and one way from start to start, whose sums come round. */
 static void wild(void)
 {
     static const size_t values[] = {0, 1, 16, (size_t)1 << 63, SIZE_MAX - 15, SIZE_MAX};
-    static const size_t counts[] = {0, 1, 2, WORKERS, WORKERS + 1, (size_t)1 << 32, SIZE_MAX};
-    for (int i = 0; i < 6; i++) {
-        for (int j = 0; j < 6; j++) {
-            for (size_t k = 0; k < WORKERS; k++) {
-                plan.starts[k] = values[i];
-                plan.lengths[k] = values[j];
-            }
-            for (int k = 0; k < 7; k++) {
-                for (size_t n = 0; n <= 32; n += 16) {
-                    struct stretch s = in_order(0, n);
-                    s.plan = &plan;
-                    plan.count = counts[k];
-                    try(s);
-                }
-            }
+    static const size_t how_many[] = {0, 1, 2, WORKERS, WORKERS + 1, (size_t)1 << 32, SIZE_MAX};
+    static const size_t sizes[] = {0, 16, 32, 16 * WORKERS};
+    for (int i = 0; i < 6 * 6; i++) {
+        for (size_t k = 0; k < WORKERS; k++) {
+            plan.starts[k] = k * values[i / 6];
+            plan.lengths[k] = values[i % 6];
+        }
+        for (int j = 0; j < 7 * 4; j++) {
+            struct stretch s = in_order(0, sizes[j % 4]);
+            s.plan = &plan;
+            plan.count = how_many[j / 4];
+            try(s);
         }
     }
 }
