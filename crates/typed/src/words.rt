@@ -179,7 +179,17 @@ pub fn takes(command: Command, thing: usize) -> bool
         Command::Opens => is_one_of(thing, &[KEY, NUMBER, RETIRED, IV, JOB, EDITION, IN]),
         Command::Which => is_one_of(
             thing,
-            &[KEY, NUMBER, RETIRED, IV, JOB, EDITIONS, EDITION, CANDIDATES, IN],
+            &[
+                KEY,
+                NUMBER,
+                RETIRED,
+                IV,
+                JOB,
+                EDITIONS,
+                EDITION,
+                CANDIDATES,
+                IN,
+            ],
         ),
         Command::Encrypt => is_one_of(thing, &[MODE, KEY, NUMBER, RETIRED, IV, FORCE, IN, OUT]),
         Command::Decrypt => is_one_of(thing, &[MODE, KEY, NUMBER, RETIRED, IV, IN, OUT]),
