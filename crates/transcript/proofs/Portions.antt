@@ -48,15 +48,20 @@ done-within dir c iv offset d o o′ a n e f =
     let all : rangeCheck (c .answer) (c .retired) dir (length iv) offset (length d) (length o) ≡ Passed = passed _ o _ number in
     let reached = both _ (refuse (ltb (length o) (length d)) NoRoom Passed) all .0 in
     ltb-false limit (offset + length d)
-    (let-through (ltb limit (offset + length d)) TooLong Passed (both (keyAndIv (c .answer) (c .retired) dir Ctr (length iv)) end reached .1) .fails)
+    (let-through (ltb limit (offset + length d)) TooLong Passed
+    (both (keyAndIv (c .answer) (c .retired) dir Ctr (length iv)) end reached .1) .fails)
 
-pub moved : (e : Ending) (n : ℕ) (r : Range) (d : List ℕ) → e ≡ Done n → rangeFrom (r .direction) (r .cipher) (r .offset + length d) ≡ movedOn e r d
+-- the range behind a portion that was done, and one that was refused
+pub moved : (e : Ending) (n : ℕ) (r : Range) (d : List ℕ) → e ≡ Done n
+    → rangeFrom (r .direction) (r .cipher) (r .offset + length d) ≡ movedOn e r d
 moved e n r d p = rw p
 
 pub stayed : (e : Ending) (x : Refusal) (r : Range) (d : List ℕ) → e ≡ Refused·ending x → r ≡ movedOn e r d
 stayed e x r d p = rw p
 
-portions : (rk iv : List ℕ) (offset : ℕ) (a b : List ℕ) → stretch rk iv offset (a ++ b) ≡ stretch rk iv offset a ++ stretch rk iv (offset + length a) b
+-- two portions, the second where the first ends, are the stretch of both
+portions : (rk iv : List ℕ) (offset : ℕ) (a b : List ℕ)
+    → stretch rk iv offset (a ++ b) ≡ stretch rk iv offset a ++ stretch rk iv (offset + length a) b
 portions rk iv offset a b =
     let j = offset + length a + length b in
     let p = drop offset (pads rk j iv) in
