@@ -1,3 +1,4 @@
 mod Within
 mod Portions
 mod FewPieces
+mod OutOfRange

@@ -316,7 +316,7 @@ fn with_cipher(asked: Asked, list: &[u8], file: &[u8], key: &[u8], iv: &[u8]) ->
     with_input(asked, file, source, work)
 }
 
-// The longest text.
+// The longest IN that begins at byte 0 of its text.
 fn limit(asked: Asked) -> usize {
     let mode = asked.mode;
     checks::limit_of(direction_of(asked), mode)
@@ -479,13 +479,14 @@ fn refuse(refusal: Refusal, asked: Asked, key: usize, iv: usize, data: usize) ->
     }
 }
 
+// Says that IN is too long, and of a range where it begins.
 fn too_long(asked: Asked) -> u8 {
     let command = asked.command;
     let places = asked.places;
     if let Command::Range = command {
         return say::past_end(places[OFFSET], limit(asked));
     }
-    say::too_long(most(asked))
+    say::too_long(limit(asked))
 }
 
 fn direction_of(asked: Asked) -> Direction
