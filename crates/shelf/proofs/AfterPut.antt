@@ -18,7 +18,8 @@ use Rattle.walk.specs.Walk.{over}
 use Rattle.label.specs.Label.{labelOf}
 use Rattle.label.proofs.LabelTells.{label-bytes}
 use Rattle.shelf.specs.Records.{Record, Proper, AllProper, markOf, written, stored, records}
-use Rattle.shelf.specs.Shelf.{currentOf, collected, twoCurrent, notHigher, fitted, badShelf, InOrder}
+use Rattle.shelf.specs.Shelf.{currentOf, collected, twoCurrent, notHigher, fitted, badShelf}
+use Rattle.shelf.specs.Steps.{InOrder}
 use Rattle.shelf.specs.Calls.{newRecord, putIn, putCall, collectCall, lookedUp, holding}
 use Rattle.shelf.proofs.Inverse.{records-stored}
 use Rattle.shelf.proofs.Sound.{in-order, not-bad}

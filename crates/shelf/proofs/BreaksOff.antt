@@ -14,7 +14,8 @@ use Rattle.block.proofs.Same.{and-left, and-right}
 use Rattle.walk.proofs.Loop.{tailed, tail-is}
 use Rattle.shelf.specs.declared.records.Head.{Head}
 use Rattle.shelf.specs.Records.{Record, Proper, written, stored, records, headAt}
-use Rattle.shelf.specs.Shelf.{isCurrentOf, those, currentOf, hasCurrent, twoCurrent, soundFrom, soundUpTo}
+use Rattle.shelf.specs.Shelf.{isCurrentOf, those, currentOf, hasCurrent, twoCurrent}
+use Rattle.shelf.specs.Steps.{soundFrom, soundUpTo}
 use Rattle.shelf.proofs.Reading.{length-written, records-empty, Turn, entry, entry-front}
 use Rattle.shelf.proofs.Walks.{none-current}
 use Rattle.shelf.proofs.Inverse.{entry-written, stored-records, written-reads, records-behind}

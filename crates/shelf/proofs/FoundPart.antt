@@ -10,7 +10,8 @@ use lib.Seq.{take-append-le, take-append-seam, drop-append-le, drop-append-add}
 use borrow.Author.Tests.{le-ltb}
 use Rattle.block.specs.Below.{AreBytes}
 use Rattle.shelf.specs.Records.{Record, written, stored, records}
-use Rattle.shelf.specs.Shelf.{isCurrentOf, those, currentOf, hasCurrent, twoCurrent, placeOf, sizeOf, InOrder}
+use Rattle.shelf.specs.Shelf.{isCurrentOf, those, currentOf, hasCurrent, twoCurrent, placeOf, sizeOf}
+use Rattle.shelf.specs.Steps.{InOrder}
 use Rattle.shelf.specs.Calls.{findCall, partOf, lookedUp}
 use Rattle.shelf.proofs.Walks.{or-right, none-current, alone}
 use Rattle.shelf.proofs.Sound.{not-bad}

@@ -14,7 +14,8 @@ use Rattle.walk.specs.Walk.{over}
 use Rattle.walk.proofs.Loop.{tailed, tail-is}
 use Rattle.shelf.specs.declared.records.Head.{Head}
 use Rattle.shelf.specs.Records.{Record, written, stored, records, headAt}
-use Rattle.shelf.specs.Shelf.{those, stays}
+use Rattle.shelf.specs.Shelf.{those}
+use Rattle.shelf.specs.Steps.{stays}
 use Rattle.shelf.proofs.Reading.{Turn, entry}
 use Rattle.shelf.proofs.Walks.{kept-here, kept-behind}
 use Rattle.shelf.proofs.Inverse.{entry-written}

@@ -11,7 +11,8 @@ use Rattle.block.specs.Below.{AreBytes}
 use Rattle.block.proofs.Entries.{below-take}
 use Rattle.walk.specs.Walk.{over}
 use Rattle.shelf.specs.Records.{Record, stored, records}
-use Rattle.shelf.specs.Shelf.{isCurrentOf, hasCurrent, placeOf, sizeOf, supersede, InOrder}
+use Rattle.shelf.specs.Shelf.{isCurrentOf, hasCurrent, placeOf, sizeOf, supersede}
+use Rattle.shelf.specs.Steps.{InOrder}
 use Rattle.shelf.proofs.Reading.{length-written}
 use Rattle.shelf.proofs.Inverse.{stored-records}
 use Rattle.shelf.proofs.Superseding.{or-rest, supersede-none, length-supersede, mark-one, current-size, none-size}

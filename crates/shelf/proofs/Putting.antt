@@ -16,7 +16,8 @@ use Rattle.walk.proofs.Loop.{tailed, returned, over-behind}
 use Rattle.label.specs.Label.{labelOf}
 use Rattle.label.proofs.LabelTells.{length-label}
 use Rattle.shelf.specs.Records.{Record, written, stored}
-use Rattle.shelf.specs.Shelf.{isCurrentOf, those, stays, collected, superseded, supersede, withNew, fitted, roomMade}
+use Rattle.shelf.specs.Shelf.{isCurrentOf, those, collected, superseded, supersede, withNew, fitted}
+use Rattle.shelf.specs.Steps.{stays, roomMade}
 use Rattle.shelf.specs.Calls.{newRecord}
 use Rattle.shelf.proofs.Reading.{length-written}
 use Rattle.shelf.proofs.Superseding.{length-supersede}

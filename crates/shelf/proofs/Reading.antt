@@ -14,6 +14,7 @@ use Rattle.block.specs.Words.{wordAt}
 use Rattle.block.proofs.Convert.{length-bytesOf}
 use Rattle.block.proofs.Same.{and-left, and-right}
 use Rattle.walk.proofs.Loop.{tailed, tail-is, length-tailed}
+use Rattle.label.specs.Label.{labelOf}
 use Rattle.label.proofs.LabelTells.{length-label}
 use Rattle.shelf.specs.declared.records.Head.{Head}
 use Rattle.shelf.specs.Records.{Record, written, marked, startsRecord, sizeAt, front, readUpTo, records, headAt}
@@ -25,6 +26,15 @@ length-written r =
     let m = length-bytesOf 4 (length (r .sealed)) in
     let l = length-label (r .job) (r .edition) in
     rw length-append (omega (arith, n, m, l))
+
+-- what a record says of its file: the label that it is sealed under, and behind the head the sealed bytes
+pub written-label : (r : Record) → take 6 (drop 2 (written r)) ≡ labelOf (r .job) (r .edition)
+unfolding written labelOf bytesOf
+written-label r = refl
+
+pub written-sealed : (r : Record) → drop 12 (written r) ≡ r .sealed
+unfolding written labelOf bytesOf
+written-sealed r = refl
 
 pub never : false ≡ true → ⊥
 never e = let z : _≡_ {A = ℕ} 0 1 = cc in omega arith

@@ -11,7 +11,8 @@ use lib.Seq.{length-take-le}
 use borrow.Author.Tests.{lt-ltb, le-ltb, ltb-false, eqb-true, eq-eqb, ne-eqb, not-false}
 use Rattle.block.specs.Words.{wordAt}
 use Rattle.shelf.specs.Records.{Record, written, stored, startsRecord, sizeAt, front, records}
-use Rattle.shelf.specs.Shelf.{twoCurrent, soundUpTo, badShelf, InOrder}
+use Rattle.shelf.specs.Shelf.{twoCurrent, badShelf}
+use Rattle.shelf.specs.Steps.{soundUpTo, InOrder}
 use Rattle.shelf.proofs.Reading.{length-written, starts-within, size-starts, too-short, never, records-none, records-one}
 use Rattle.shelf.proofs.Walks.{or-left, or-right}
 use Rattle.shelf.proofs.BreaksOff.{sound-all, sound-less}

@@ -12,7 +12,8 @@ use Rattle.block.proofs.Same.{and-left, and-right}
 use Rattle.walk.proofs.Loop.{tailed}
 use Rattle.shelf.specs.declared.records.Head.{Head}
 use Rattle.shelf.specs.Records.{Record, written, stored, records}
-use Rattle.shelf.specs.Shelf.{isCurrentOf, those, hasCurrent, twoCurrent, placeOf, sizeOf, stays, notHigher}
+use Rattle.shelf.specs.Shelf.{isCurrentOf, those, hasCurrent, twoCurrent, placeOf, sizeOf, notHigher}
+use Rattle.shelf.specs.Steps.{stays}
 use Rattle.shelf.proofs.Reading.{Turn, entry}
 
 pub or-left : (a b : Bool) → a || b ≡ false → a ≡ false

@@ -1,6 +1,5 @@
 -- What a shelf says of its jobs, and what putting and collecting make of its records.
-use Prim.Native.Nat.{ℕ, _+_, _≤_}
-use mathlib.Core.Path.{_≡_}
+use Prim.Native.Nat.{ℕ, _+_}
 use mathlib.Core.Bool.{Bool, false, not, _&&_, _||_, cond}
 use mathlib.Core.List.{List, [], _∷_, _++_}
 use lib.Dec.{leb, ltb, eqb}
@@ -42,10 +41,6 @@ placeOf job (r ∷ rs) = cond (isCurrentOf job r) 0 (length (written r) + placeO
 abbrev pub sizeOf : ℕ → List Record → ℕ
 sizeOf job rs = length (stored (currentOf job rs))
 
--- what a collection keeps: the current records, but not that of a job whose new record is coming
-abbrev pub stays : Bool → ℕ → Record → Bool
-stays coming job r = r .current && not (coming && eqb (r .job) job)
-
 -- an edition is refused unless it is higher than every one of its job, superseded ones too
 unfoldable pub notHigher : ℕ → ℕ → List Record → Bool
 notHigher job edition [] = false
@@ -67,24 +62,8 @@ withNew new rs = supersede (new .job) rs ++ (new ∷ [])
 unfoldable pub fitted : ℕ → List Record → List Record
 fitted room rs = cond (leb (length (stored rs)) room) rs (collected rs)
 
--- what stands before a new record with so many sealed bytes
-unfoldable pub roomMade : ℕ → ℕ → ℕ → List Record → List Record
-roomMade room n job rs =
-    cond (ltb room (length (stored rs) + (12 + n))) (collected (supersede job rs)) (supersede job rs)
-
--- the bytes up to where a shelf of these records breaks off: at the second current record of a job, or else behind the last that
--- reads; `passed` are the records before them
-unfoldable pub soundFrom : List Record → List Record → ℕ
-soundFrom passed [] = 0
-soundFrom passed (r ∷ rs) =
-    cond (r .current && hasCurrent (r .job) passed) 0
-    (length (written r) + soundFrom (passed ++ (r ∷ [])) rs)
-
-abbrev pub soundUpTo : List Record → ℕ
-soundUpTo rs = soundFrom [] rs
-
--- a buffer over 65,536 bytes, a used count that passes it, records that do not fill that count exactly, or two current ones
--- of one job
+-- a buffer over 65,536 bytes, a used count that passes it, records that do not fill that count exactly, as where one is cut or has
+-- an unknown mark, or two current ones of one job
 unfoldable pub badShelf : List ℕ → ℕ → Bool
 badShelf shelf used =
     let rs = records (take used shelf) in
@@ -92,10 +71,3 @@ badShelf shelf used =
     || (ltb (length shelf) used
     || (not (eqb (length (stored rs)) used)
     || twoCurrent rs))
-
--- a shelf that is not bad
-pub record InOrder (shelf : List ℕ) (used : ℕ) : Type 0 where
-  pub size : length shelf ≤ 65536
-  pub within : used ≤ length shelf
-  pub fills : length (stored (records (take used shelf))) ≡ used
-  pub single : twoCurrent (records (take used shelf)) ≡ false

@@ -3,7 +3,8 @@ ghost use mathlib.Core.Path.{_≡_};
 ghost use mathlib.Core.Bool.{false, _&&_};
 ghost use lib.ListN.{length};
 ghost use Rattle.shelf.specs.Records.{stored, records};
-ghost use Rattle.shelf.specs.Shelf.{hasCurrent, twoCurrent, soundUpTo, notHigher, those, stays, placeOf, sizeOf};
+ghost use Rattle.shelf.specs.Shelf.{hasCurrent, twoCurrent, notHigher, those, placeOf, sizeOf};
+ghost use Rattle.shelf.specs.Steps.{soundUpTo, stays};
 use crate::records;
 use crate::records::Head;
 

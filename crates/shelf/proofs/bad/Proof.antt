@@ -8,7 +8,7 @@ use denote.Ref.{now}
 use lib.Dec.{eqb}
 use lib.ListN.{take}
 use Rattle.shelf.specs.Records.{records}
-use Rattle.shelf.specs.Shelf.{soundUpTo}
+use Rattle.shelf.specs.Steps.{soundUpTo}
 use Rattle.shelf.proofs.Sound.{bad-size, bad-used, bad-records}
 use borrow.Author.Needs.{needs}
 use Rattle.shelf.proofs.bad.Statement.{statement}

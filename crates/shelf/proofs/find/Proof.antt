@@ -7,7 +7,8 @@ use denote.Ref.{now}
 use lib.ListN.{take}
 use Rattle.shelf.specs.declared.lookup.Span.{Span}
 use Rattle.shelf.specs.Records.{records}
-use Rattle.shelf.specs.Shelf.{twoCurrent, placeOf, sizeOf, InOrder}
+use Rattle.shelf.specs.Shelf.{twoCurrent, placeOf, sizeOf}
+use Rattle.shelf.specs.Steps.{InOrder}
 use Rattle.shelf.specs.Calls.{findCall}
 use Rattle.shelf.proofs.Sound.{in-order}
 use Rattle.shelf.proofs.Marking.{size-has, size-zero}

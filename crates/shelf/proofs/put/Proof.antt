@@ -12,7 +12,8 @@ use borrow.Author.Tests.{ltb-false}
 use Rattle.walk.specs.Walk.{over}
 use Rattle.walk.proofs.Loop.{length-tailed, over-behind}
 use Rattle.shelf.specs.Records.{written, stored, records}
-use Rattle.shelf.specs.Shelf.{those, stays, collected, notHigher, badShelf, roomMade, InOrder}
+use Rattle.shelf.specs.Shelf.{those, collected, notHigher, badShelf}
+use Rattle.shelf.specs.Steps.{stays, roomMade, InOrder}
 use Rattle.shelf.specs.Calls.{newRecord, putIn}
 use Rattle.shelf.proofs.Sound.{in-order}
 use Rattle.shelf.proofs.Putting.{length-current, stored-made, length-made, enough}

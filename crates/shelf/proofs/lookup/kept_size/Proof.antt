@@ -9,7 +9,8 @@ use denote.Ref.{now}
 use lib.ListN.{length}
 use Rattle.walk.proofs.Loop.{length-tailed}
 use Rattle.shelf.specs.Records.{stored, records}
-use Rattle.shelf.specs.Shelf.{those, stays}
+use Rattle.shelf.specs.Shelf.{those}
+use Rattle.shelf.specs.Steps.{stays}
 use Rattle.shelf.proofs.Reading.{Turn, at-end, on, shrinks}
 use Rattle.shelf.proofs.Walks.{kept-more, kept-behind}
 use borrow.Author.Needs.{needs}
