@@ -22,7 +22,8 @@ use Rattle.cipher_mode.specs.declared.Direction.the-variants.{Decrypt}
 use Rattle.cipher_mode.specs.declared.Sm4Cipher.{Sm4Cipher}
 use Rattle.cipher_mode.specs.Calls.{modeCall}
 use Rattle.shelf.specs.Records.{Record, AllProper, written, stored, records}
-use Rattle.shelf.specs.Shelf.{isCurrentOf, those, currentOf, hasCurrent, twoCurrent, placeOf, sizeOf, notHigher, collected, fitted, badShelf, InOrder}
+use Rattle.shelf.specs.Shelf.{isCurrentOf, those, currentOf, hasCurrent, twoCurrent, placeOf, sizeOf, notHigher, collected, fitted, badShelf}
+use Rattle.shelf.specs.Steps.{InOrder}
 use Rattle.shelf.specs.Calls.{Outcome, Place, holding, refuse, newRecord, putIn, nowhere, putCall, collectCall, findCall, partOf}
 use Rattle.shelf.proofs.Walks.{or-left, or-right, none-current, alone}
 use Rattle.shelf.proofs.Sound.{in-order}
