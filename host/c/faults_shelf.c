@@ -1,15 +1,11 @@
-/* Shelves, with bad input: used counts, marks, lengths, bytes that are others, files and buffers of any length, with the
- * buffer and the sealed bytes lent as in faults.c. What the header says is in shelf_model.c. */
-#define _DEFAULT_SOURCE
-
+/* Shelves, with bad input: used counts, marks, lengths, bytes that are others, files and buffers of any length, with
+ * the buffer and the sealed bytes lent as in faults.c. What the header says is in shelf_model.c. */
 #include "faults.h"
 
 #include "calls.h"
 
 #include <stdio.h>
-#include <stdlib.h>
 #include <string.h>
-#include <sys/mman.h>
 
 /* What runs. */
 static struct shelf_call now;
@@ -88,8 +84,8 @@ static size_t make_shelf(size_t length)
 /* Every used count about buffers that are full, and those that are wild. */
 static void used_counts(void)
 {
-    static const size_t wild[] = {SHELF, SHELF + 1, (size_t)1 << 32, ((size_t)1 << 32) + 42, SIZE_MAX / 2 + 1, SIZE_MAX - 11,
-        SIZE_MAX - 1, SIZE_MAX};
+    static const size_t wild[] = {SHELF, SHELF + 1, (size_t)1 << 32, ((size_t)1 << 32) + 42, SIZE_MAX / 2 + 1,
+        SIZE_MAX - 11, SIZE_MAX - 1, SIZE_MAX};
     for (size_t length = 0; length <= 4; length++) {
         size_t full = make_shelf(length);
         for (size_t size = 0; size <= full + 1; size += heap ? 7 : 1) {
@@ -177,26 +173,6 @@ static void limits(void)
     try_all(SHELF, RECORDS * HEAD);
 }
 
-/* Lengths that are small in 32 bits: 19 of the buffer, and 21 of a file. Nothing is written. */
-static void over_32_bits(void)
-{
-    size_t over = (size_t)1 << 32, most = over + 60;
-    uint8_t *pages = mmap(NULL, most, PROT_READ, MAP_PRIVATE | MAP_ANONYMOUS | MAP_NORESERVE, -1, 0), small[60] = {0};
-    if (pages == MAP_FAILED) {
-        perror("a long buffer");
-        exit(2);
-    }
-    for (int does = PUT; does <= FIND; does++) {
-        now = (struct shelf_call){.does = (enum shelving)does, .size = most};
-        judged(19, difference_shelf(call_shelf(&now, pages), (struct shelf_answer){.number = 19}));
-    }
-    for (size_t n = over - 12; n <= most; n += 12) {
-        now = (struct shelf_call){.size = 60, .sealed = pages, .sealed_len = n};
-        judged(21, difference_shelf(call_shelf(&now, small), (struct shelf_answer){.number = 21}));
-    }
-    munmap(pages, most);
-}
-
 void shelves(int with_limits)
 {
     print_now = print_trial;
@@ -206,6 +182,5 @@ void shelves(int with_limits)
     files();
     if (with_limits) {
         limits();
-        over_32_bits();
     }
 }

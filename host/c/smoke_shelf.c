@@ -2,17 +2,21 @@
  * every refusal with every later one there as well; all short sequences of calls on small buffers; shelves that are
  * drawn, in order and damaged; and as many records as fit, on which each call has its time. All but the first two are
  * held to shelf_model.c, the whole buffer among them. */
+#define _DEFAULT_SOURCE
+
 #include "smoke.h"
 
 #include "random.h"
 
 #include <signal.h>
 #include <stdio.h>
+#include <stdlib.h>
 #include <string.h>
+#include <sys/mman.h>
 #include <time.h>
 #include <unistd.h>
 
-/* The longest buffer that is lent, and the seconds after which a call that has not ended is given up. */
+/* The longest buffer that is lent, and the seconds after which a call that does not end is given up. */
 enum { LONGEST = SHELF + 100, PATIENCE = 200 };
 
 static void layout(void)
@@ -91,25 +95,33 @@ static void by_hand_room(void)
     is_now(luossavin_shelf_put(shelf, 30, 15, 2, 0, sealed, 3), shelf, due, 30, 30, "to the last byte");
 }
 
-/* The header's example: what is found opens under its own label, and under that of no edition before. */
+/* The header's example: the record that is found opens under its own label, and under that of no edition before. */
+static void opens(const uint8_t *record, size_t length, uint8_t edition)
+{
+    uint8_t out[ROOM], under[6] = {0, 0, 0, 7, 0, 0};
+    struct luossavin_answer a = luossavin_decrypt(4, key, record + 2, 6, record + 12, length - 12, iv, 16, out, ROOM);
+    check(done(a, length - 28), "it opens", "the header's example", a.number);
+    check(memcmp(out, rfc_text + edition, length - 28) == 0, "its text", "the header's example", edition);
+    for (; under[5] < edition; under[5]++) {
+        a = luossavin_decrypt(4, key, under, 6, record + 12, length - 12, iv, 16, out, ROOM);
+        check(a.number == 4, "an earlier edition's label", "the header's example", a.number);
+    }
+}
+
 static void example(void)
 {
-    enum { TEXT = 20 };
-    uint8_t shelf[200], sealed[TEXT + 16], out[TEXT], under[6] = {0, 0, 0, 7, 0, 0};
+    uint8_t shelf[200], sealed[20 + 16], under[6] = {0, 0, 0, 7, 0, 0};
     size_t used = 0;
     memset(shelf, LENT, sizeof shelf);
-    for (uint8_t e = 1; e <= 9; e++) {
-        under[5] = e;
-        luossavin_encrypt(4, key, under, 6, rfc_text + e, TEXT, iv, 16, sealed, sizeof sealed);
-        used = luossavin_shelf_put(shelf, sizeof shelf, used, 7, e, sealed, sizeof sealed).used;
+    for (uint8_t edition = 1; edition <= 9; edition++) {
+        under[5] = edition;
+        luossavin_encrypt(4, key, under, 6, rfc_text + edition, 20, iv, 16, sealed, sizeof sealed);
+        used = luossavin_shelf_put(shelf, sizeof shelf, used, 7, edition, sealed, sizeof sealed).used;
         struct luossavin_shelved r = luossavin_shelf_find(shelf, sizeof shelf, used, 7);
-        const uint8_t *record = shelf + r.start;
-        check(r.number == 0 && r.length == HEAD + TEXT + 16, "it is found", "the header's example", r.length);
-        struct luossavin_answer a = luossavin_decrypt(4, key, record + 2, 6, record + 12, r.length - 12, iv, 16, out, TEXT);
-        check(done(a, TEXT) && memcmp(out, rfc_text + e, TEXT) == 0, "it opens", "the header's example", a.number);
-        for (under[5] = 0; under[5] < e; under[5]++) {
-            a = luossavin_decrypt(4, key, under, 6, record + 12, r.length - 12, iv, 16, out, TEXT);
-            check(a.number == 4, "an earlier edition's label", "the header's example", a.number);
+        int whole = r.number == 0 && r.start < sizeof shelf - sizeof sealed - HEAD && r.length == HEAD + sizeof sealed;
+        check(whole, "it is found", "the header's example", r.start);
+        if (whole) {
+            opens(shelf + r.start, r.length, edition);
         }
     }
 }
@@ -156,12 +168,12 @@ static struct shelf_answer ask(struct shelf_call c, const uint8_t *before, const
     return due;
 }
 
-static void on_alarm(int signal)
+/* A call that does not end, or that touches what there is not, has no other way to be named. */
+static void on_signal(int signal)
 {
     char where[400];
-    (void)signal;
+    describe(lent_room + EDGE, signal == SIGALRM ? "it does not end" : "it faults", where, sizeof where);
     /* the program is lost, so what printf needs is not missed */
-    describe(lent_room + EDGE, "it does not end", where, sizeof where);
     printf("wrong: a shelf, %s\n", where);
     fflush(stdout);
     _exit(1);
@@ -308,6 +320,7 @@ static void sizes(void)
         is_shelf(&s, size <= SHELF, "a long buffer");
         for (size_t less = 0; less < 3 && size <= SHELF; less++) {
             ask(put(&s, 1, 0, size - HEAD + 1 - less), s.bytes, "a file as long as may be");
+            ask(put(&s, 1, 0, SHELF + less), s.bytes, "a file that is longer than a buffer");
         }
         add(&s, 1, 2, 1, size - HEAD);
         is_shelf(&s, size <= SHELF, "a long record");
@@ -315,6 +328,28 @@ static void sizes(void)
         ask(put(&s, 2, 2, size - HEAD), s.bytes, "a long record in the place of another");
         ask(put(&s, 2, 2, size - HEAD + 1), s.bytes, "a longer record in the place of another");
     }
+}
+
+/* Buffers and files whose lengths are small in 32 bits. They are pages that may be read, and not written. */
+static void long_ones(void)
+{
+    size_t over = (size_t)1 << 32, most = over + 60;
+    uint8_t *pages = mmap(NULL, most, PROT_READ, MAP_PRIVATE | MAP_ANONYMOUS | MAP_NORESERVE, -1, 0), small[60] = {0};
+    if (pages == MAP_FAILED) {
+        perror("a long buffer");
+        exit(2);
+    }
+    now = (struct shelf_call){.size = most};
+    check(call_shelf(&now, pages).number == 19, "19", "putting on a buffer of over 4 GiB", most);
+    now.does = COLLECT;
+    check(call_shelf(&now, pages).number == 19, "19", "collecting a buffer of over 4 GiB", most);
+    now.does = FIND;
+    check(call_shelf(&now, pages).number == 19, "19", "looking up in a buffer of over 4 GiB", most);
+    for (size_t n = over - 12; n <= most; n += 12) {
+        now = (struct shelf_call){.size = 60, .sealed = pages, .sealed_len = n};
+        check(call_shelf(&now, small).number == 21, "21", "a file of 4 GiB", n);
+    }
+    munmap(pages, most);
 }
 
 /* What stands on a shelf. */
@@ -573,7 +608,8 @@ void shelves(void)
     by_hand();
     by_hand_room();
     example();
-    signal(SIGALRM, on_alarm);
+    signal(SIGALRM, on_signal);
+    signal(SIGSEGV, on_signal);
     alarm(PATIENCE);
     seed = 20261115;
     draw_bytes(plenty, sizeof plenty);
@@ -582,6 +618,7 @@ void shelves(void)
     sums();
     used_counts();
     sizes();
+    long_ones();
     repeated();
     editions();
     refusals();
@@ -589,4 +626,5 @@ void shelves(void)
     drawn();
     crowded();
     alarm(0);
+    signal(SIGSEGV, SIG_DFL);
 }
