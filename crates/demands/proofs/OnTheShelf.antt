@@ -4,27 +4,25 @@
 use mathlib.Core.Path.{_≡_, refl, sym, ap, subst, _∙_}
 use mathlib.Core.Logic.{inr}
 use mathlib.Core.Bool.{Bool, true, false, not, cond, _&&_}
-use mathlib.Core.List.{List, [], _∷_, _++_, append-nil}
+use mathlib.Core.List.{List, [], _∷_, append-nil}
 use Prim.Native.Nat.{ℕ, _^_, _≤_, _<_}
 use native.Mathlib.Omega.{arith}
 use lib.Dec.{leb, ltb, eqb}
 use lib.ListN.{length, take, drop, length-append, length-drop}
-use lib.Seq.{take-at, drop-at, drop-drop}
+use lib.Seq.{drop-at}
 use borrow.Author.Tests.{ltb-false, leb-true, leb-false, eqb-true, eq-eqb}
 use Rattle.block.specs.Below.{AreBytes}
-use Rattle.block.specs.BigEndian.{bytesOf}
-use Rattle.block.proofs.Convert.{length-bytesOf}
 use Rattle.block.proofs.Entries.{below-take}
 use Rattle.block.proofs.Same.{and-right}
 use Rattle.label.specs.Label.{labelOf}
-use Rattle.label.proofs.LabelTells.{length-label}
 use Rattle.cipher_mode.specs.declared.Direction.the-variants.{Decrypt}
 use Rattle.cipher_mode.specs.declared.Sm4Cipher.{Sm4Cipher}
 use Rattle.cipher_mode.specs.Calls.{modeCall}
 use Rattle.shelf.specs.Records.{Record, AllProper, written, stored, records}
 use Rattle.shelf.specs.Shelf.{isCurrentOf, those, currentOf, hasCurrent, twoCurrent, placeOf, sizeOf, notHigher, collected, fitted, badShelf}
 use Rattle.shelf.specs.Steps.{InOrder}
-use Rattle.shelf.specs.Calls.{Outcome, Place, holding, refuse, newRecord, putIn, nowhere, putCall, collectCall, findCall, partOf}
+use Rattle.shelf.specs.Calls.{Outcome, Place, holding, refuse, newRecord, putIn, nowhere, putCall, collectCall, findCall, lookedUp}
+use Rattle.shelf.proofs.Reading.{written-label, written-sealed}
 use Rattle.shelf.proofs.Walks.{or-left, or-right, none-current, alone}
 use Rattle.shelf.proofs.Sound.{in-order}
 use Rattle.shelf.proofs.Current.{collected-length}
@@ -180,32 +178,18 @@ exported-find-answers shelf used job = by-tests (badShelf shelf used) (hasCurren
         inside = λ _. (omega (arith, inside, order .fills), order .within);
       }
 
--- the label and the file of a record as it is written
-label-written : (r : Record) → labelIn (written r) ≡ labelOf (r .job) (r .edition)
-unfolding written
-label-written r = take-at (labelOf (r .job) (r .edition)) _ 6 (length-label (r .job) (r .edition))
-
-file-written : (r : Record) → fileIn (written r) ≡ r .sealed
-unfolding written
-file-written r =
-    let label = labelOf (r .job) (r .edition) in
-    let size = bytesOf 4 (length (r .sealed)) in
-    sym (drop-drop 4 6 (label ++ (size ++ r .sealed)))
-    ∙ ap (drop 4) (drop-at label (size ++ r .sealed) 6 (length-label (r .job) (r .edition)))
-    ∙ drop-at size (r .sealed) 4 (length-bytesOf 4 (length (r .sealed)))
-
 -- After a put that is done, looking up the job gives the new record: its label is that of the job and the edition, and its file the one
 -- put in.
 pub put-is-found : (shelf : List ℕ) (used job edition : ℕ) (sealed : List ℕ) → AreBytes shelf → job < 2 ^ 32 → edition < 2 ^ 16
     → AreBytes sealed
     → putCall shelf used job edition sealed .number ≡ 0
     → let x = putCall shelf used job edition sealed in
-    let part = partOf (findCall (x .bytes) (x .used) job) (x .bytes) in
+    let part = lookedUp (x .bytes) (x .used) job in
     (labelIn part ≡ labelOf job edition) × (fileIn part ≡ sealed)
 put-is-found shelf used job edition sealed small job-fits edition-fits sealed-small done =
     let new = newRecord job edition sealed in
     let found = put-look-up shelf used job edition sealed small job-fits edition-fits sealed-small done in
-    (ap labelIn found ∙ label-written new, ap fileIn found ∙ file-written new)
+    (ap labelIn found ∙ written-label new, ap fileIn found ∙ written-sealed new)
 
 -- the one current record of a job
 abbrev TheCurrent : ℕ → List Record → Type 0
@@ -226,8 +210,8 @@ the-current job (r ∷ rs) h f =
     the-current job rs (rw e at h) (or-right (r .current && hasCurrent (r .job) rs) (twoCurrent rs) f))
 
 -- what is found is there
-found-there : (shelf : List ℕ) (used job : ℕ) (bad has : Bool) → badShelf shelf used ≡ bad → hasCurrent job (records (take used shelf)) ≡ has
-    → findCall shelf used job .number ≡ 0 → (bad ≡ false) × (has ≡ true)
+found-there : (shelf : List ℕ) (used job : ℕ) (bad has : Bool) → badShelf shelf used ≡ bad
+    → hasCurrent job (records (take used shelf)) ≡ has → findCall shelf used job .number ≡ 0 → (bad ≡ false) × (has ≡ true)
 unfolding findCall
 found-there shelf used job true has e f z = let n : _≡_ {A = ℕ} 19 0 = rw e at z in absurd (omega arith)
 found-there shelf used job false false e f z = let n : _≡_ {A = ℕ} 22 0 = rw (e, f) at z in absurd (omega arith)
@@ -249,7 +233,7 @@ module _ (shelf : List ℕ) (used job : ℕ) (small : AreBytes shelf) (found : f
   abbrev r : Record
   r = current .0
 
-  part-written : partOf (findCall shelf used job) shelf ≡ written r
+  part-written : lookedUp shelf used job ≡ written r
   unfolding stored
   part-written = look-up shelf used small order job ∙ ap stored (current .1) ∙ append-nil (written r)
 
@@ -263,11 +247,11 @@ module _ (shelf : List ℕ) (used job : ℕ) (small : AreBytes shelf) (found : f
 
   -- by any call under which other editions are refused
   alone-under : (opening : Call) → OtherEditionRefused opening → job < 2 ^ 32 → (iv o : List ℕ)
-      → OneEditionOpens opening job (partOf (findCall shelf used job) shelf) iv o
+      → OneEditionOpens opening job (lookedUp shelf used job) iv o
   alone-under opening others job-fits iv o =
-      let part = partOf (findCall shelf used job) shelf in
+      let part = lookedUp shelf used job in
       let label : labelIn part ≡ labelOf job (r .edition) =
-      ap labelIn part-written ∙ label-written r ∙ ap (λ (j : ℕ). labelOf j (r .edition)) its-job in
+      ap labelIn part-written ∙ written-label r ∙ ap (λ (j : ℕ). labelOf j (r .edition)) its-job in
       record {
         edition = r .edition;
         label = label;
@@ -279,11 +263,11 @@ module _ (shelf : List ℕ) (used job : ℕ) (small : AreBytes shelf) (found : f
   -- Under a key that does not encrypt the all-zero block to itself, the current record of a job, where it opens under its own label, is
   -- refused as 4 under the label of every other edition.
   pub current-opens-alone : (c : Sm4Cipher) → MovesZero (c .rk) → job < 2 ^ 32 → (iv o : List ℕ)
-      → OneEditionOpens (modeCall Decrypt (inGcm c)) job (partOf (findCall shelf used job) shelf) iv o
+      → OneEditionOpens (modeCall Decrypt (inGcm c)) job (lookedUp shelf used job) iv o
   current-opens-alone c moves = alone-under (modeCall Decrypt (inGcm c)) (other-edition-refused c moves)
 
   pub exported-current-opens-alone : (k : LuossavinKey) → MovesZero (k .«round_keys») → job < 2 ^ 32 → (iv o : List ℕ)
-      → OneEditionOpens (hostModeCall Decrypt 4 k) job (partOf (findCall shelf used job) shelf) iv o
+      → OneEditionOpens (hostModeCall Decrypt 4 k) job (lookedUp shelf used job) iv o
   exported-current-opens-alone k moves = alone-under (hostModeCall Decrypt 4 k) (exported-other-edition-refused k moves)
 
 -- every edition of the job on the shelf is lower than one that is not refused as not higher
