@@ -73,7 +73,10 @@ static size_t make_shelf(size_t length)
 {
     static struct shelf_records rs;
     static uint8_t sealed[SHELF];
-    memset(before, 0x3c, sizeof before);
+    for (size_t i = 0; i < SHELF; i++) {
+        before[i] = (uint8_t)(i * 29 + 3);
+        sealed[i] = (uint8_t)(i * 7 + i / 256 + 1);
+    }
     rs.count = 3;
     for (uint16_t i = 0; i < 3; i++) {
         rs.at[i] = (struct shelf_record){i != 0, i == 1 ? 2 : 1, i, sealed + i, length};

@@ -16,7 +16,7 @@
 #include <time.h>
 #include <unistd.h>
 
-/* The longest buffer that is lent, and the seconds after which a call that does not end is given up. */
+/* The longest buffer that is lent, and the seconds after which the call that runs is taken not to end. */
 enum { LONGEST = SHELF + 100, PATIENCE = 200 };
 
 static void layout(void)
@@ -143,7 +143,7 @@ static void describe(const uint8_t *before, const char *what, char *where, size_
     }
 }
 
-/* The answer is the model's, and so is every byte of the buffer. */
+/* The answer is the model's, which is handed back, and so is every byte of the buffer. */
 static struct shelf_answer ask(struct shelf_call c, const uint8_t *before, const char *what)
 {
     size_t all = EDGE + c.size + EDGE;
@@ -235,6 +235,7 @@ static void is_shelf(const struct shelf *s, int yes, const char *what)
     check((ask(find(s, 1), s->bytes, what).number != 19) == yes, what, "in looking up", s->used);
 }
 
+/* The shelf that the calls below are on. */
 static struct shelf s;
 
 /* What a record's bytes may be. */
