@@ -3,7 +3,7 @@ _luossavin() {
     local word=${COMP_WORDS[COMP_CWORD]} before=${COMP_WORDS[COMP_CWORD - 1]} options=''
     COMPREPLY=()
     if [ "$COMP_CWORD" -eq 1 ]; then
-        mapfile -t COMPREPLY < <(compgen -W 'seal open opens which encrypt decrypt demo help --help --version' -- "$word")
+        mapfile -t COMPREPLY < <(compgen -W 'seal open opens which encrypt decrypt plan range demo help --help --version' -- "$word")
         return
     fi
     case ${COMP_WORDS[1]} in
@@ -12,11 +12,13 @@ _luossavin() {
     which) options='--key --number --retired --iv --job --editions --edition --candidates' ;;
     encrypt) options='--mode --key --number --retired --iv --force' ;;
     decrypt) options='--mode --key --number --retired --iv' ;;
-    help | --help) options='seal open opens which encrypt decrypt' ;;
+    plan) options='--workers' ;;
+    range) options='--key --number --retired --iv --offset --decrypt --force' ;;
+    help | --help) options='seal open opens which encrypt decrypt plan range' ;;
     esac
     case $before in
     --mode) options='cfb ofb ctr cbc' ;;
-    --number | --iv | --job | --edition | --editions) options='' ;;
+    --number | --iv | --job | --edition | --editions | --workers | --offset) options='' ;;
     help | --help) ;;
     *) case $word in -*) ;; *) options='' ;; esac ;;
     esac

@@ -47,6 +47,9 @@ static void try(struct stretch s)
     fill(data);
     shut(data);
     now = s;
+    if (s.plan != NULL && luossavin_plan_accepts(*s.plan, s.data) != is_accepted(s.plan, s.data)) {
+        print_trial("whether the plan is accepted");
+    }
     if (judge(call_stretch(&s, record(s.key), lent(b.iv), lent(data), lent(out)), due)) {
         if (!untouched(out, due.length)) {
             print_trial("it writes past its length");
@@ -153,6 +156,26 @@ static void counts(void)
     }
 }
 
+/* Plans of which every entry is wild: pieces of one length and one way from start to start, whose sums come round. */
+static void wild(void)
+{
+    static const size_t values[] = {0, 1, 16, (size_t)1 << 63, SIZE_MAX - 15, SIZE_MAX};
+    static const size_t how_many[] = {0, 1, 2, WORKERS, WORKERS + 1, (size_t)1 << 32, SIZE_MAX};
+    static const size_t sizes[] = {0, 16, 32, 16 * WORKERS};
+    for (int i = 0; i < 6 * 6; i++) {
+        for (size_t k = 0; k < WORKERS; k++) {
+            plan.starts[k] = k * values[i / 6];
+            plan.lengths[k] = values[i % 6];
+        }
+        for (int j = 0; j < 7 * 4; j++) {
+            struct stretch s = in_order(0, sizes[j % 4]);
+            s.plan = &plan;
+            plan.count = how_many[j / 4];
+            try(s);
+        }
+    }
+}
+
 /* Every record and IV, by a range, by a plan that is accepted and by one that is not. */
 static void records(void)
 {
@@ -203,6 +226,7 @@ void workers(int with_limits)
     far_away();
     plans();
     counts();
+    wild();
     records();
     if (with_limits) {
         limits();

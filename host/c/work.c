@@ -2,11 +2,13 @@
  *
  *   work archive|once|libgcrypt|OpenSSL MODE encrypt|decrypt SIZE TIMES
  *   work pieces MODE encrypt|decrypt SIZE TIMES PIECE
+ *   work range 2 encrypt|decrypt SIZE TIMES OFFSET
  *   work version libgcrypt|OpenSSL
  *
  * Each message has its key set up anew; of `once`, which is the archive too, one set-up serves all of them. MODE is
- * 0 to 4. In pieces of PIECE bytes, by the archive, it is 2, or 4: sealing, or opening without the text. Exit
- * status 3 where the library does not have the mode.
+ * 0 to 4. In pieces of PIECE bytes, by the archive, it is 2, or 4: sealing, or opening without the text. A range of
+ * a message, from OFFSET on, is Ctr's alone, and one set-up serves all. Exit status 3 where the library does not have
+ * the mode.
  */
 #include "calls.h"
 #include "peers.h"
@@ -18,10 +20,10 @@
 static const uint8_t key[16] = {1, 35, 69, 103, 137, 171, 205, 239, 254, 220, 186, 152, 118, 84, 50, 16};
 static const uint8_t iv[16] = {7};
 
-/* What runs, of the words after the first. */
+/* What runs, of the words after the first. The last of them is the length of a piece, or where a range starts. */
 struct task {
     int mode, direction, times;
-    size_t size, by;
+    size_t size, last;
 };
 
 /* A message's work. Whether it is done. */
@@ -51,7 +53,7 @@ static int in_pieces(const struct task *t, struct field data, uint8_t *out, size
 {
     const struct given given = {.key = luossavin_key_new(key, sizeof key, 1), .iv = iv, .iv_len = sizeof iv};
     enum kind kind = t->mode == CTR ? COUNTING : t->direction == ENCRYPT ? SEALING : OPENING;
-    size_t text = kind == OPENING ? data.length - 16 : data.length, by = t->by;
+    size_t text = kind == OPENING ? data.length - 16 : data.length, by = t->last;
     struct state s;
     struct luossavin_answer a = call_start(kind, &s, &given);
     for (size_t i = 0; a.number == 0 && i < text; i += by) {
@@ -61,6 +63,12 @@ static int in_pieces(const struct task *t, struct field data, uint8_t *out, size
         a = kind == OPENING ? call_end(&s, (uint8_t *)data.bytes + text, 16) : call_end(&s, out + text, room - text);
     }
     return a.number == 0;
+}
+
+static int range(const struct task *t, struct field data, uint8_t *out, size_t room)
+{
+    return luossavin_ctr_range(
+        record, t->direction == DECRYPT, iv, 16, t->last, data.bytes, data.length, out, room).number == 0;
 }
 
 static const struct peer *peer;
@@ -94,6 +102,9 @@ static work *work_of(const char *who)
     if (strcmp(who, "pieces") == 0) {
         return in_pieces;
     }
+    if (strcmp(who, "range") == 0) {
+        return range;
+    }
     peer = peer_named(who);
     return by_peer;
 }
@@ -125,25 +136,37 @@ static int run(work *one, const struct task *t)
     return 0;
 }
 
+/* Whether the words after the first make a task. */
+static int is_task(const char *who, const struct task *t)
+{
+    if (t->times == 0 || t->mode < CFB || t->mode > GCM) {
+        return 0;
+    }
+    if (strcmp(who, "pieces") == 0) {
+        return t->last != 0 && (t->mode == CTR || t->mode == GCM);
+    }
+    return strcmp(who, "range") != 0 || t->mode == CTR;
+}
+
 int main(int argc, char **argv)
 {
     struct task t = {0};
-    int pieces = argc == 7 && strcmp(argv[1], "pieces") == 0;
     start_peers();
     if (argc == 3 && strcmp(argv[1], "version") == 0) {
         puts(peer_named(argv[2])->version());
         return 0;
     }
-    if (argc == 6 || pieces) {
+    if (argc == 6 || argc == 7) {
         t.mode = atoi(argv[2]);
         t.direction = strcmp(argv[3], "decrypt") == 0 ? DECRYPT : ENCRYPT;
         t.size = strtoul(argv[4], NULL, 10);
         t.times = atoi(argv[5]);
-        t.by = pieces ? strtoul(argv[6], NULL, 10) : 0;
+        t.last = argc == 7 ? strtoul(argv[6], NULL, 10) : 0;
     }
-    if (t.times == 0 || t.mode < CFB || t.mode > GCM || (pieces && (t.by == 0 || (t.mode != CTR && t.mode != GCM)))) {
+    if (!is_task(argv[1], &t)) {
         fprintf(stderr, "usage: work archive|once|libgcrypt|OpenSSL MODE encrypt|decrypt SIZE TIMES, or work pieces 2|4 "
-            "encrypt|decrypt SIZE TIMES PIECE, or work version libgcrypt|OpenSSL\n");
+            "encrypt|decrypt SIZE TIMES PIECE, or work range 2 encrypt|decrypt SIZE TIMES OFFSET, or work version "
+            "libgcrypt|OpenSSL\n");
         return 64;
     }
     return run(work_of(argv[1]), &t);

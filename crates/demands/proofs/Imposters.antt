@@ -15,8 +15,10 @@ use Rattle.block.specs.BigEndian.{numberOf, bytesOf}
 use Rattle.cipher.specs.Sm4.{roundKeys}
 use Rattle.counter.specs.Counter.{ctrNext}
 use Rattle.counter.proofs.Edges.{ctr-one-block, ctr-two-blocks}
-use Rattle.walk.specs.Walk.{walk, chain}
+use Rattle.walk.specs.Walk.{walk, chain, over}
 use Rattle.walk.specs.Outcome.{Head, Outcome, keyed, reporting, done}
+use Rattle.stream.specs.Stream.{streamMode}
+use Rattle.stream.specs.declared.Kind.the-variants.{Ctr as Ctr·kind}
 use Rattle.cipher_mode.specs.declared.CipherMode.{CipherMode}
 use Rattle.cipher_mode.specs.declared.CipherMode.the-variants.{Cfb, Ofb, Ctr, Cbc, Gcm}
 use Rattle.cipher_mode.specs.declared.Direction.the-variants.{Encrypt, Decrypt}
@@ -34,6 +36,10 @@ use Rattle.editions.specs.Candidates.{sum, badList, anyTooLong, labelAt}
 use Rattle.editions.specs.Which.{Verdict, searchCheck, opensWith, which}
 use Rattle.editions.proofs.FirstOpening.{IsFirst}
 use Rattle.editions.proofs.WhichOpens.{Asked, first-opens}
+use Rattle.ranges.specs.declared.plan.Plan.{Plan}
+use Rattle.ranges.specs.Plan.{follows, accepts, noPieces}
+use Rattle.ranges.specs.Range.{stretch, reachCheck, rangeCheck, rangeCall}
+use Rattle.ranges.specs.ByPlan.{planCall}
 use Rattle.demands.specs.Call.{Call, result, inGcm}
 use Rattle.demands.specs.CameRound.{roundOf, Says}
 use Rattle.demands.specs.Answered.{singleNumbers, Answered, KeyAnswered, lengthOf}
@@ -41,7 +47,7 @@ use Rattle.demands.specs.Served.{Asks, Served}
 use Rattle.demands.specs.ThereAndBack.{ThereAndBack}
 use Rattle.demands.specs.OneBlockRefused.{OneBlockRefused}
 use Rattle.demands.specs.Imposters.{zeros, zeroKey, ones, refusesAll, constant, copies, firstBlockOnly, inventsLength, countsEveryStep, saysItRefused}
-use Rattle.demands.specs.Imposters.{forgetsNumber, takesAnyNumber, copiesAnew, throwsAway, countsFromOne, fileFirst}
+use Rattle.demands.specs.Imposters.{forgetsNumber, takesAnyNumber, copiesAnew, throwsAway, countsFromOne, fileFirst, fromTheBlock, planFirst}
 use Rattle.demands.specs.Retired.{StaysRetired, DecryptsAlike}
 use Rattle.demands.specs.Which.{Tells}
 use Rattle.demands.proofs.Through.{through, leaves}
@@ -254,3 +260,47 @@ module _ (c : Sm4Cipher) (k : c .answer ≡ Key) (n : ℕ) (past : n ≡ limit +
 pub file-first-contradicts : (c : Sm4Cipher) → c .answer ≡ Key
     → ¬ ((file iv labels lengths : List ℕ) → fileFirst c file iv labels lengths ≡ which c file iv labels lengths)
 file-first-contradicts c k = told-apart c k (limit + 1) refl
+
+-- A range from the block's start is wrong at the second byte under the key of sixteen zero bytes: a zero byte becomes 1f there, and 9f at the
+-- first.
+two-bytes : chain (streamMode Ctr·kind (roundKeys zeros)) zeros (0 ∷ 0 ∷ []) ≡ 0x9f ∷ 0x1f ∷ []
+unfolding chain walk
+two-bytes = rw zero-block
+
+second-byte : rangeCall Encrypt (zeroKey .cipher) zeros 1 (0 ∷ []) (0 ∷ []) .bytes ≡ 0x1f ∷ []
+unfolding rangeCall rangeCheck reachCheck keyAndIv stretch newCipherMode newCipher
+second-byte = ap (λ (l : List ℕ). over (drop 1 l) (0 ∷ [])) two-bytes
+
+first-byte : rangeCall Encrypt (zeroKey .cipher) zeros 0 (0 ∷ []) (0 ∷ []) .bytes ≡ 0x9f ∷ []
+unfolding rangeCall rangeCheck reachCheck keyAndIv stretch newCipherMode newCipher
+first-byte = ap (λ (l : List ℕ). over l (0 ∷ [])) one-byte
+
+pub from-the-block-contradicts :
+    fromTheBlock Encrypt (zeroKey .cipher) zeros 1 (0 ∷ []) (0 ∷ []) ≢ rangeCall Encrypt (zeroKey .cipher) zeros 1 (0 ∷ []) (0 ∷ [])
+from-the-block-contradicts e =
+    let z : _≡_ {A = ℕ} 0x9f 0x1f =
+    ap (λ (l : List ℕ). getD l 0 0) (sym first-byte ∙ ap (λ (x : Outcome). x .bytes) e ∙ second-byte) in
+    absurd (omega arith)
+
+-- Looking at the plan before the length is told by one byte past the limit and a plan of no pieces, which is 5, with any usable and
+-- unretired key: the imposter answers 18.
+module _ (c : Sm4Cipher) (k : c .answer ≡ Key) (u : c .retired ≡ false) (n : ℕ) (past : n ≡ limit + 1) where
+  length-first : (d : List ℕ) → length d ≡ n → planCall Encrypt c zeros noPieces d [] .head .number ≡ 5
+  unfolding planCall reachCheck keyAndIv
+  length-first d e = rw (e, past, k, u)
+
+  plan-first : (d : List ℕ) → length d ≡ n → planFirst Encrypt c zeros noPieces d [] .head .number ≡ 18
+  unfolding keyAndIv accepts follows
+  plan-first d e = rw (e, past, k, u)
+
+  plan-told : ¬ ((iv : List ℕ) (plan : Plan) (d o : List ℕ) → planFirst Encrypt c iv plan d o ≡ planCall Encrypt c iv plan d o)
+  plan-told claim =
+      let d : List ℕ = replicate n 0 in
+      let m : length d ≡ n = length-replicate n 0 in
+      let z : _≡_ {A = ℕ} 18 5 =
+      sym (plan-first d m) ∙ ap (λ (x : Outcome). x .head .number) (claim zeros noPieces d []) ∙ length-first d m in
+      absurd (omega arith)
+
+pub plan-first-contradicts : (c : Sm4Cipher) → c .answer ≡ Key → c .retired ≡ false
+    → ¬ ((iv : List ℕ) (plan : Plan) (d o : List ℕ) → planFirst Encrypt c iv plan d o ≡ planCall Encrypt c iv plan d o)
+plan-first-contradicts c k u = plan-told c k u (limit + 1) refl

@@ -25,6 +25,8 @@ pub mod ZeroKey
 pub mod OtherEdition
 pub mod Which
 pub mod Workers
+pub mod WorkersAnswer
+pub mod ByShares
 pub mod TrailingZero
 -- the worked table and the imposters
 pub mod Worked

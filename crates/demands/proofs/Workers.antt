@@ -1,11 +1,10 @@
 -- Ranges and plans, as a host is handed them: which number each call answers, that one answer is allowed alone, that nothing is said of a
--- counter, and that the bytes are the single call's.
+-- counter, and that a range is its stretch of the whole.
 -- Assumes nothing.
 use mathlib.Core.Path.{_≡_, refl, sym, ap, _∙_}
 use mathlib.Core.Bool.{Bool, true, false, not, cond, _||_}
 use mathlib.Core.List.{List, [], _∷_, _++_}
-use Prim.Native.Nat.{ℕ, _+_, _<_}
-use native.Mathlib.Omega.{arith}
+use Prim.Native.Nat.{ℕ, _+_}
 use lib.Dec.{eqb, ltb}
 use lib.ListN.{length, drop}
 use Rattle.block.specs.Below.{AreBytes}
@@ -20,7 +19,7 @@ use Rattle.cipher_mode.specs.declared.answer.Refusal.the-variants.{TooLong, NoR
 use Rattle.cipher_mode.specs.declared.checks.Checked.the-variants.{Passed}
 use Rattle.cipher_mode.specs.Tables.{limit}
 use Rattle.cipher_mode.specs.Key.{keyNumber}
-use Rattle.cipher_mode.specs.Checks.{keyAndIv, checked}
+use Rattle.cipher_mode.specs.Checks.{keyAndIv}
 use Rattle.cipher_mode.proofs.Ends.{went-on}
 use Rattle.ranges.specs.declared.plan.Plan.{Plan}
 use Rattle.ranges.specs.declared.plan.Making.the-variants.{Made, BadWorkers, TooLong as TooLong·made}
@@ -173,24 +172,3 @@ exported-range-of-whole k decrypt iv pre d o bytes e =
     ap result (l .1)
     ∙ result-of-done (stretch (k .«round_keys») iv (length pre) d) o
     ∙ sym (stretch-of-whole (k .«round_keys») iv pre d (l .0) bytes)
-
--- Work by a plan that is done gives what the single call gives of the whole.
-done-behind : (t : Bool) (n : ℕ) (o : List ℕ) (next : Outcome) → 0 < n → refuseAs t n o next .head .number ≡ 0 → refuseAs t n o next ≡ next
-done-behind true n o next h e = absurd (omega arith)
-done-behind false n o next h e = refl
-
-pub exported-plan-of-whole : (k : LuossavinKey) (decrypt : Bool) (iv : List ℕ) (plan : Plan) (d o : List ℕ)
-    → hostCtrByPlan k decrypt iv plan d o .head .number ≡ 0
-    → result (hostCtrByPlan k decrypt iv plan d o) ≡ chain (streamMode Ctr·kind (k .«round_keys»)) iv d
-unfolding hostCtrByPlan planCall cipherIn
-exported-plan-of-whole k decrypt iv plan d o e =
-    let c = cipherIn k in
-    let check = reachCheck (c .answer) (c .retired) (directionOf decrypt) (length iv) (length d) in
-    let p = chain (streamMode Ctr·kind (c .rk)) iv d in
-    let short = refuseAs (ltb (length o) (length d)) 6 o (done p o) in
-    let next = refuseAs (not (accepts plan (length d))) 18 o short in
-    let passed = zero-passed check o next e in
-    let on : checked check o next ≡ next = sym (went-on check o next next passed refl) in
-    let accepted = done-behind (not (accepts plan (length d))) 18 o short (omega arith) (rw on at e) in
-    let roomy = done-behind (ltb (length o) (length d)) 6 o (done p o) (omega arith) (rw accepted at (rw on at e)) in
-    ap {A = Outcome} (λ (x : Outcome). result (keyed (keyNumber c) x)) (on ∙ accepted ∙ roomy) ∙ result-of-done p o

@@ -1,24 +1,29 @@
--- Calls that look like encryption, decryption, setting up a key, retiring one or asking for a file's label to a careless test, and are
--- not.
-use mathlib.Core.Bool.{true, false}
+-- Calls that look like encryption, decryption, setting up a key, retiring one, asking for a file's label, a range or work by a plan to a
+-- careless test, and are not.
+use mathlib.Core.Bool.{true, false, not}
 use mathlib.Core.List.{List, _++_}
-use Prim.Native.Nat.{ℕ, _+_}
+use Prim.Native.Nat.{ℕ, _+_, _*_, _/_}
 use lib.ListN.{length, take, drop, replicate}
 use Rattle.cipher.specs.Sm4.{roundKeys}
 use Rattle.counter.specs.CameRound.{blocksOf, ctrCameRound}
-use Rattle.walk.specs.Outcome.{Outcome, leaving, telling, refused, done}
+use Rattle.walk.specs.Outcome.{Outcome, leaving, telling, refused, refuse as refuseAs, done}
 use Rattle.cipher_mode.specs.declared.KeyAnswer.the-variants.{Key, ErrorBlockSize}
 use Rattle.cipher_mode.specs.declared.CipherMode.the-variants.{Ctr, Gcm}
+use Rattle.cipher_mode.specs.declared.Direction.{Direction}
 use Rattle.cipher_mode.specs.declared.Direction.the-variants.{Encrypt, Decrypt}
 use Rattle.cipher_mode.specs.declared.answer.Refusal.the-variants.{TooLong}
 use Rattle.cipher_mode.specs.declared.checks.Checked.the-variants.{Passed}
 use Rattle.cipher_mode.specs.declared.Sm4Cipher.{Sm4Cipher}
 use Rattle.cipher_mode.specs.declared.Sm4CipherMode.{Sm4CipherMode}
 use Rattle.cipher_mode.specs.Key.{keyNumber, newCipher, newCipherMode}
-use Rattle.cipher_mode.specs.Checks.{refuse, andThen, keyAndIv, dataCheck}
+use Rattle.cipher_mode.specs.Checks.{refuse, andThen, keyAndIv, dataCheck, checked}
 use Rattle.cipher_mode.specs.Calls.{modeCall}
 use Rattle.editions.specs.Candidates.{anyTooLong}
 use Rattle.editions.specs.Which.{Verdict, onKey, firstOpening, checkedVerdict, opensWith, which}
+use Rattle.ranges.specs.declared.plan.Plan.{Plan}
+use Rattle.ranges.specs.Plan.{accepts}
+use Rattle.ranges.specs.Range.{rangeCall}
+use Rattle.ranges.specs.ByPlan.{planCall}
 use Rattle.demands.specs.Call.{Call, result}
 
 -- refuses everything
@@ -87,6 +92,17 @@ fileFirst c file iv labels lengths =
     (andThen (keyAndIv (c .answer) (c .retired) Decrypt Gcm (length iv))
     (andThen (dataCheck Decrypt Gcm (length file)) (refuse (anyTooLong lengths) TooLong Passed)))
     (firstOpening (opensWith c iv file) labels lengths 0 0))
+
+-- does a range from the start of the block that its offset lies in
+abbrev pub fromTheBlock : Direction → Sm4Cipher → List ℕ → ℕ → List ℕ → List ℕ → Outcome
+fromTheBlock dir c iv offset d o = rangeCall dir c iv (16 * (offset / 16)) d o
+
+-- works by a plan, and looks at the plan before the length
+abbrev pub planFirst : Direction → Sm4Cipher → List ℕ → Plan → List ℕ → List ℕ → Outcome
+planFirst dir c iv plan d o =
+    checked (keyAndIv (c .answer) (c .retired) dir Ctr (length iv)) o
+    (refuseAs (not (accepts plan (length d))) 18 o
+    (planCall dir c iv plan d o))
 
 -- what the others are held against: encryption in Ctr under the key of number 1, and the IV, of sixteen zero bytes
 abbrev pub zeros : List ℕ

@@ -6,7 +6,7 @@ mod which;
 mod workers;
 
 ghost use mathlib.Core.Path.{_≡_};
-ghost use Rattle.walk.specs.Outcome.{refusal as refused};
+ghost use Rattle.walk.specs.Outcome.{under, refusal};
 ghost use Rattle.cipher_mode.specs.Answer.{headOf};
 ghost use Rattle.luossavin.specs.Host.{headIn, reported, modeOf, modeIn, hostBlockCall, hostModeCall};
 use cipher_mode::CipherMode;
@@ -32,14 +32,15 @@ pub struct LuossavinAnswer {
 // The one refusal that is the boundary's own.
 const BAD_MODE: u32 = 7;
 
-fn refusal(number: u32) -> LuossavinAnswer
-    ensures { λ r. ⌜ headIn r ≡ refused number ⌝ }
+// An answer that is a number alone, on a key with this number.
+pub(crate) fn numbered(number: u32, key: u16) -> LuossavinAnswer
+    ensures { λ r. ⌜ headIn r ≡ under key (refusal number) ⌝ }
 {
     LuossavinAnswer {
         number,
         missing: 0,
         came_round: 0,
-        key: 0,
+        key,
         length: 0,
     }
 }
@@ -115,7 +116,7 @@ fn mode_call(
 {
     match mode {
         0..=4 => report(mode_in(key, mode).call(direction, aad, data, iv, out)),
-        _ => refusal(BAD_MODE),
+        _ => numbered(BAD_MODE, 0),
     }
 }
 

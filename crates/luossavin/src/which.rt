@@ -8,6 +8,8 @@ ghost use Rattle.luossavin.specs.Which.{foundReported, hostWhich};
 use crate::LuossavinAnswer;
 use crate::key::LuossavinKey;
 use crate::key::cipher_of;
+use crate::numbered;
+use crate::report;
 use cipher_mode::answer;
 use editions::Ended;
 
@@ -28,34 +30,10 @@ fn report_ended(ended: Ended, key: u16) -> LuossavinAnswer
     ensures { λ r. ⌜ headIn r ≡ under key (endedHead ended) ⌝ }
 {
     match ended {
-        Ended::Candidate => LuossavinAnswer {
-            number: 0,
-            missing: 0,
-            came_round: 0,
-            key,
-            length: 0,
-        },
-        Ended::None => LuossavinAnswer {
-            number: 0,
-            missing: 0,
-            came_round: 0,
-            key,
-            length: 0,
-        },
-        Ended::BadList => LuossavinAnswer {
-            number: BAD_LIST,
-            missing: 0,
-            came_round: 0,
-            key,
-            length: 0,
-        },
-        Ended::Refused(reason) => LuossavinAnswer {
-            number: answer::number(reason),
-            missing: answer::missing(reason),
-            came_round: 0,
-            key,
-            length: 0,
-        },
+        Ended::Candidate => numbered(0, key),
+        Ended::None => numbered(0, key),
+        Ended::BadList => numbered(BAD_LIST, key),
+        Ended::Refused(reason) => report(answer::refused(key, reason)),
     }
 }
 

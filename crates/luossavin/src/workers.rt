@@ -9,6 +9,7 @@ use crate::LuossavinAnswer;
 use crate::in_pieces::direction_of;
 use crate::key::LuossavinKey;
 use crate::key::cipher_of;
+use crate::numbered;
 use crate::report;
 use cipher_mode::answer;
 use ranges::by_plan;
@@ -32,26 +33,13 @@ const NOT_ACCEPTED: u32 = 18;
 
 const TOO_LONG: u32 = 5;
 
-// An answer without bytes, on no key.
-fn numbered(number: u32) -> LuossavinAnswer
-    ensures { λ r. ⌜ headIn r ≡ record { number = number; size = 0; missing = 0; cameRound = 0; key = 0 } ⌝ }
-{
-    LuossavinAnswer {
-        number,
-        missing: 0,
-        came_round: 0,
-        key: 0,
-        length: 0,
-    }
-}
-
 fn report_making(making: Making) -> LuossavinAnswer
     ensures { λ r. ⌜ headIn r ≡ makingHead making ⌝ }
 {
     match making {
-        Making::Made => numbered(0),
-        Making::BadWorkers => numbered(BAD_WORKERS),
-        Making::TooLong => numbered(TOO_LONG),
+        Making::Made => numbered(0, 0),
+        Making::BadWorkers => numbered(BAD_WORKERS, 0),
+        Making::TooLong => numbered(TOO_LONG, 0),
     }
 }
 
@@ -93,27 +81,9 @@ fn report_ended(ended: Ended, key: u16) -> LuossavinAnswer
     ensures { λ r. ⌜ headIn r ≡ under key (endedHead ended) ⌝ }
 {
     match ended {
-        Ended::Done(n) => LuossavinAnswer {
-            number: 0,
-            missing: 0,
-            came_round: 0,
-            key,
-            length: n,
-        },
-        Ended::NotAccepted => LuossavinAnswer {
-            number: NOT_ACCEPTED,
-            missing: 0,
-            came_round: 0,
-            key,
-            length: 0,
-        },
-        Ended::Refused(reason) => LuossavinAnswer {
-            number: answer::number(reason),
-            missing: answer::missing(reason),
-            came_round: 0,
-            key,
-            length: 0,
-        },
+        Ended::Done(n) => report(answer::done(key, n)),
+        Ended::NotAccepted => numbered(NOT_ACCEPTED, key),
+        Ended::Refused(reason) => report(answer::refused(key, reason)),
     }
 }
 

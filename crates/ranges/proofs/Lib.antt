@@ -11,3 +11,5 @@ pub mod Jumped
 pub mod KeyStream
 pub mod Applied
 pub mod Joined
+pub mod Copied
+pub mod AnyOrder

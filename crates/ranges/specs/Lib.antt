@@ -1,3 +1,4 @@
 pub mod Plan
 pub mod Range
 pub mod ByPlan
+pub mod Shares

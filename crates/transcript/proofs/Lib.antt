@@ -1,1 +1,4 @@
 mod Within
+mod Portions
+mod FewPieces
+mod OutOfRange

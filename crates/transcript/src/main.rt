@@ -1,8 +1,10 @@
 // The program that `./luossavin` runs: it reads a person's words, does what they ask, and ends with a status line for
-// the launcher. What the words mean is settled by the crate `typed`, what becomes of the bytes by `cipher_mode`.
+// the launcher. What the words mean is settled by the crate `typed`, what becomes of the bytes by `cipher_mode` and `ranges`.
 mod files;
 mod output;
 mod passes;
+mod plan;
+mod range;
 mod say;
 mod which;
 mod work;
@@ -24,6 +26,7 @@ use typed::hex::Hex;
 use typed::line::Fault;
 use typed::line::Line;
 use typed::things::CANDIDATES;
+use typed::things::DECRYPT;
 use typed::things::EDITION;
 use typed::things::IN;
 use typed::things::IV;
@@ -32,11 +35,13 @@ use typed::things::KEY;
 use typed::things::MODE;
 use typed::things::NOTHING;
 use typed::things::NUMBER;
+use typed::things::OFFSET;
 use typed::things::RETIRED;
 use typed::words::Command;
 use typed::words::ModeName;
 use work::Starts;
 use work::Step;
+use work::Task;
 use work::Work;
 
 // How a run ends, besides the cipher's refusals.
@@ -68,15 +73,17 @@ const KEPT: usize = 4;
 const COMMAND: usize = 5;
 
 // What is asked for: the words are in order, but for the files and the sizes of key and IV. Of what is read later
-// `places` has the places of the words. Of `which`: the edition that the caller asked for, where one was said; how many candidates
-// there are; and of a range the last edition, of which `edition` is the first. `launcher` is the process that waits for the status
-// line.
+// `places` has the places of the words. Of `range`: whether it decrypts, and where IN stands in its text. Of `which`: the edition that
+// the caller asked for, where one was said; how many candidates there are; and of a range of editions the last, of which `edition` is
+// the first. `launcher` is the process that waits for the status line.
 pub struct Asked {
     pub command: Command,
     pub places: [usize; NOTHING],
     pub number: u32,
     pub retired: bool,
     pub mode: CipherMode,
+    pub decrypt: bool,
+    pub offset: usize,
     pub job: u32,
     pub edition: u16,
     pub wanted: u16,
@@ -113,18 +120,10 @@ fn run() -> u8 {
     if thing < NOTHING {
         return say::missing(thing);
     }
-    let places = line.places;
-    let read = key_number(places[NUMBER]);
-    let Number::Is(number) = read else {
-        return say::wrong(NUMBER, places[NUMBER]);
-    };
-    if typed::words::wants(command, MODE) {
-        return with_mode(line, number);
+    if let Command::Plan = command {
+        return plan::run(line);
     }
-    if places[CANDIDATES] != 0 {
-        return which::with_list(asked_for(line, number, CipherMode::Gcm, 0, 0));
-    }
-    with_label(line, number)
+    with_number(line)
 }
 
 // The line with the word at a place read too.
@@ -150,14 +149,38 @@ fn read_line(command: Command) -> Line {
 // The number of a key for which none was said.
 const UNNUMBERED: u32 = 1;
 
-// The key's number, which a word at this place says or none does. What does not fit is out of range as it is.
+// The key's number, which a word at this place says or none does.
 fn key_number(at: usize) -> Number {
     if at == 0 {
         return Number::Is(UNNUMBERED);
     }
+    capped_at(at)
+}
+
+// The number that the word at a place spells. What does not fit is out of range as it is.
+fn capped_at(at: usize) -> Number {
     let mut word = word_room();
     let n = os::arg(at, &mut word);
     typed::decimal::read_capped(typed::words::value(&word[..n]), u32::MAX)
+}
+
+fn with_number(line: Line) -> u8 {
+    let command = line.command;
+    let places = line.places;
+    let read = key_number(places[NUMBER]);
+    let Number::Is(number) = read else {
+        return say::wrong(NUMBER, places[NUMBER]);
+    };
+    if typed::words::wants(command, MODE) {
+        return with_mode(line, number);
+    }
+    if let Command::Range = command {
+        return range::with_offset(line, number);
+    }
+    if places[CANDIDATES] != 0 {
+        return which::with_list(asked_for(line, number, CipherMode::Gcm, 0, 0));
+    }
+    with_label(line, number)
 }
 
 // What a line asks for that has no candidates, or none yet.
@@ -170,6 +193,8 @@ fn asked_for(line: Line, number: u32, mode: CipherMode, job: u32, edition: u16) 
         number,
         retired: places[RETIRED] != 0,
         mode,
+        decrypt: places[DECRYPT] != 0,
+        offset: 0,
         job,
         edition,
         wanted: 0,
@@ -281,7 +306,7 @@ fn with_cipher(asked: Asked, list: &[u8], file: &[u8], key: &[u8], iv: &[u8]) ->
     if source.fd < 0 {
         return FILES;
     }
-    if source.size > most(asked) as u64 {
+    if is_too_long(asked, source.size) {
         return refuse(Refusal::TooLong, asked, 0, 0, 0);
     }
     if let Command::Which = command {
@@ -291,11 +316,27 @@ fn with_cipher(asked: Asked, list: &[u8], file: &[u8], key: &[u8], iv: &[u8]) ->
     with_input(asked, file, source, work)
 }
 
-// The longest IN.
-fn most(asked: Asked) -> usize {
-    let command = asked.command;
+// The longest IN that begins at byte 0 of its text.
+fn limit(asked: Asked) -> usize {
     let mode = asked.mode;
-    checks::limit_of(direction_of(command), mode)
+    checks::limit_of(direction_of(asked), mode)
+}
+
+// The longest IN: as much as a text has behind the place where IN stands.
+fn most(asked: Asked) -> usize {
+    let limit = limit(asked);
+    if asked.offset > limit {
+        return 0;
+    }
+    limit - asked.offset
+}
+
+// Whether a text ends past its limit, by so many bytes of IN or by the place where they stand.
+fn is_too_long(asked: Asked, size: u64) -> bool {
+    if asked.offset > limit(asked) {
+        return true;
+    }
+    size > most(asked) as u64
 }
 
 fn with_input(asked: Asked, file: &[u8], source: Source, work: Work) -> u8 {
@@ -425,7 +466,7 @@ fn refuse(refusal: Refusal, asked: Asked, key: usize, iv: usize, data: usize) ->
         Refusal::ErrorDataLen => say::uneven(data),
         Refusal::InvalidLastU8 => say::last_byte(named(asked)),
         Refusal::InvalidTag => say::tag(named(asked), asked.job, asked.edition),
-        Refusal::TooLong => say::too_long(most(asked)),
+        Refusal::TooLong => too_long(asked),
         Refusal::NoRoom => say::no_room(),
         Refusal::EmptyCbc => say::empty(),
         Refusal::ShortGcm(missing) => say::short(data, missing),
@@ -438,9 +479,20 @@ fn refuse(refusal: Refusal, asked: Asked, key: usize, iv: usize, data: usize) ->
     }
 }
 
-fn direction_of(command: Command) -> Direction
-    ensures { λ r. ⌜ r ≡ directionOf command ⌝ }
+// Says that IN is too long, and of a range where it begins.
+fn too_long(asked: Asked) -> u8 {
+    let command = asked.command;
+    let places = asked.places;
+    if let Command::Range = command {
+        return say::past_end(places[OFFSET], limit(asked));
+    }
+    say::too_long(limit(asked))
+}
+
+fn direction_of(asked: Asked) -> Direction
+    ensures { λ r. ⌜ r ≡ directionOf (asked .command) (asked .decrypt) ⌝ }
 {
+    let command = asked.command;
     match command {
         Command::Seal => Direction::Encrypt,
         Command::Open => Direction::Decrypt,
@@ -448,6 +500,14 @@ fn direction_of(command: Command) -> Direction
         Command::Which => Direction::Decrypt,
         Command::Encrypt => Direction::Encrypt,
         Command::Decrypt => Direction::Decrypt,
+        Command::Range => {
+            if asked.decrypt {
+                Direction::Decrypt
+            } else {
+                Direction::Encrypt
+            }
+        }
+        Command::Plan => Direction::Decrypt,
         Command::Unknown => Direction::Decrypt,
     }
 }
@@ -463,23 +523,38 @@ fn cipher_of(asked: Asked, key: &[u8]) -> Sm4Cipher
     cipher
 }
 
-// The messages in pieces, at their start, under the key, the IV and the label of job and edition.
+// The messages in pieces, and the range, at their start: under the key, the IV and the label of job and edition, and from the offset on.
 fn labelled(asked: Asked, key: &[u8], iv: &[u8]) -> Starts
-    ensures { λ r. ⌜ StartsOf (directionOf (asked .command)) (cipherOf (now (key .entry)) (asked .number) (asked .retired)) (labelOf (asked .job) (asked .edition)) (now (iv .entry)) r ⌝ }
+    ensures { λ r. ⌜ StartsOf (directionOf (asked .command) (asked .decrypt)) (cipherOf (now (key .entry)) (asked .number) (asked .retired)) (labelOf (asked .job) (asked .edition)) (now (iv .entry)) (asked .offset) r ⌝ }
 {
-    let command = asked.command;
     let label = label::label(asked.job, asked.edition);
-    work::start_all(direction_of(command), cipher_of(asked, key), &label, iv)
+    work::start_all(
+        direction_of(asked),
+        cipher_of(asked, key),
+        &label,
+        iv,
+        asked.offset,
+    )
+}
+
+// What is done with the bytes, in the first pass or the only one.
+fn task_of(asked: Asked) -> Task {
+    let command = asked.command;
+    let mode = asked.mode;
+    if let Command::Range = command {
+        return Task::Range;
+    }
+    work::task_of(direction_of(asked), mode)
 }
 
 // The pass that was asked for, before its first byte.
 fn begin(asked: Asked, key: &[u8], iv: &[u8]) -> Step {
-    let command = asked.command;
     let mode = asked.mode;
     let starts = labelled(asked, key, iv);
     work::start(
+        task_of(asked),
         cipher_of(asked, key),
-        direction_of(command),
+        direction_of(asked),
         mode,
         starts,
         iv,

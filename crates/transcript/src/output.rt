@@ -122,14 +122,17 @@ fn kept_of(at: usize) -> Kept {
     read_kept(&word[from..from + 24])
 }
 
-// Whether a terminal is spared what the command writes.
+// Whether a terminal is spared what is written: `--force` is for the commands that write what is no text, unless it is decrypted.
 fn is_shy(asked: Asked) -> bool {
     let command = asked.command;
     let places = asked.places;
     if places[FORCE] != 0 {
         return false;
     }
-    typed::words::writes_sealed(command)
+    if asked.decrypt {
+        return false;
+    }
+    typed::words::takes(command, FORCE)
 }
 
 // All that there is to settle before the first byte. A file is replaced; a pipe, a terminal or a device is written straight:

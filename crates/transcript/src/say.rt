@@ -1,4 +1,4 @@
-// What the tool says to a person, on standard error but for the answers to `opens` and `which`. What is said of a failure
+// What the tool says to a person, on standard error but for the answers to `opens`, `which` and `plan`. What is said of a failure
 // answers the status that the run ends with.
 use crate::COMMAND;
 use crate::DONE;
@@ -21,8 +21,11 @@ use typed::things::IN;
 use typed::things::IV;
 use typed::things::JOB;
 use typed::things::KEY;
+use typed::things::LENGTH;
 use typed::things::MODE;
 use typed::things::NUMBER;
+use typed::things::OFFSET;
+use typed::things::WORKERS;
 use typed::words::Command;
 
 fn text(s: &[u8]) {
@@ -145,7 +148,9 @@ fn end() -> u8 {
 }
 
 pub fn no_command() -> u8 {
-    text(b"luossavin: expected seal, open, opens, which, encrypt, decrypt, demo or help, not ");
+    text(
+        b"luossavin: expected seal, open, opens, which, encrypt, decrypt, plan, range, demo or help, not ",
+    );
     quoted(COMMAND);
     tool();
     text(b" help\n");
@@ -166,6 +171,9 @@ fn expected(thing: usize) {
             b"--editions with a range as 1-3, of whole numbers from 0 to 65535, or one number",
         ),
         CANDIDATES => text(b"--candidates with a file that has a job and an edition to a line"),
+        OFFSET => text(b"--offset with a whole number, the place in the text where IN begins"),
+        WORKERS => text(b"--workers with a whole number from 1 to 64"),
+        LENGTH => text(b"LENGTH, a whole number, how many bytes the text has"),
         IN => text(b"IN, a file to read, or - for standard input"),
         _ => text(b"OUT, a file to write, or - for standard output"),
     }
@@ -261,6 +269,11 @@ fn no_option(line: Line) -> u8 {
         Command::Decrypt => {
             unexpected(b"--mode, --key, --number, --retired or --iv, not ", line.at)
         }
+        Command::Plan => unexpected(b"--workers, not ", line.at),
+        Command::Range => unexpected(
+            b"--key, --number, --retired, --iv, --offset, --decrypt or --force, not ",
+            line.at,
+        ),
         _ => unexpected(
             b"--key, --number, --retired, --iv, --job or --edition, not ",
             line.at,
@@ -467,6 +480,14 @@ pub fn none_of_list(at: usize, key: u32, list: usize) -> u8 {
     none(key)
 }
 
+// A line of the answer to `plan`.
+pub fn piece(start: usize, length: usize) -> u8 {
+    answer_number(start as u64);
+    answer(b" ");
+    answer_number(length as u64);
+    answered(DONE)
+}
+
 // Ends an answer that no candidate opens.
 fn none(key: u32) -> u8 {
     answer(b", with ");
@@ -475,7 +496,7 @@ fn none(key: u32) -> u8 {
     answered(NONE)
 }
 
-// The refusals: the tool and the file that each is about, and then by number what it says.
+// The refusals: the tool and the file that each is about, if it is about one, and then by number what it says.
 
 pub fn refusal(at: usize) {
     start();
@@ -530,6 +551,25 @@ pub fn too_long(most: usize) -> u8 {
     text(b"5 TooLong: this file is longer than the ");
     number(most as u64);
     text(b" bytes that the cipher takes\n");
+    5
+}
+
+// Of a range: `at` is the place of the word that says where it stands in its text.
+pub fn past_end(at: usize, most: usize) -> u8 {
+    text(b"5 TooLong: a text has at most ");
+    number(most as u64);
+    text(b" bytes, and this file, which begins at byte ");
+    value(at);
+    text(b" of its text, ends past that: look at --offset\n");
+    5
+}
+
+// Of a plan: `at` is the place of LENGTH.
+pub fn too_long_text(at: usize) -> u8 {
+    start();
+    text(b"5 TooLong: a text has at most 16777216 bytes, not ");
+    value(at);
+    text(b"\n");
     5
 }
 
@@ -624,4 +664,12 @@ pub fn too_long_list(at: usize) -> u8 {
     value_file(STDERR_FILENO, at);
     text(b" has 65536 bytes or more of candidates");
     too_many()
+}
+
+pub fn bad_workers(at: usize) -> u8 {
+    start();
+    text(b"17 BadWorkers: a plan is for 1 to 64 workers, not ");
+    value(at);
+    text(b"\n");
+    17
 }

@@ -10,6 +10,8 @@ ghost use Rattle.counter.specs.Counter.{gcmNext};
 ghost use Rattle.gcm.specs.Gcm.{J0};
 ghost use Rattle.cipher_mode.specs.Checks.{wrongIv};
 ghost use Rattle.transcript.specs.Starts.{stateOf, StartsOf};
+use crate::range;
+use crate::range::Range;
 use cbc::Opened;
 use cipher_mode::CipherMode;
 use cipher_mode::Direction;
@@ -27,27 +29,29 @@ use pieces::seal::Seal;
 use pieces::seal::SealStep;
 use stream::Kind;
 
-// What is done with the bytes: sealed; asked whether they open; opened; xored with key stream; encrypted or decrypted with
-// Cfb or Ofb; and of Cbc encrypted, asked for their padding, decrypted.
+// What is done with the bytes: sealed; asked whether they open; opened; xored with key stream, from its front or from anywhere; encrypted
+// or decrypted with Cfb or Ofb; and of Cbc encrypted, asked for their padding, decrypted.
 pub enum Task {
     Seal,
     GcmSettle,
     GcmText,
     Ctr,
+    Range,
     Stream(Kind),
     CbcSeal,
     CbcSettle,
     CbcText,
 }
 
-// A pass on its way, with the state of each task: a message that is sealed, one that is asked whether it opens, one in Ctr; and
-// the chaining state of Cfb, Ofb and Cbc, which in Gcm is the counter that the text is opened with.
+// A pass on its way, with the state of each task: a message that is sealed, one that is asked whether it opens, one in Ctr; a range; and
+// the chaining state of Cfb, Ofb and Cbc, which in Gcm is the counter that the text is opened with, and of a range the IV.
 pub struct Work {
     pub task: Task,
     pub rk: [u32; 32],
     pub seal: Seal,
     pub opens: Opens,
     pub ctr: Ctr,
+    pub range: Range,
     pub chain: [u32; 4],
 }
 
@@ -84,6 +88,7 @@ pub fn taken(task: Task, n: usize) -> usize
         Task::GcmSettle => but_last(n, 16),
         Task::GcmText => full(but_last(n, 16)),
         Task::Ctr => n,
+        Task::Range => n,
         Task::Stream(_) => full(n),
         Task::CbcSeal => full(n),
         Task::CbcSettle => full(but_last(n, 17)),
@@ -158,6 +163,19 @@ fn ctr_piece(mut work: Work, data: &[u8], out: &mut [u8]) -> Step
     answered(work, answer, data.len())
 }
 
+fn range_piece(mut work: Work, data: &[u8], out: &mut [u8]) -> Step
+    ensures { λ r. ⌜ r .length ≤ length (now («data» .entry)) ⌝ }
+{
+    let range = work.range;
+    let chain = work.chain;
+    let iv = block::combine_block(chain);
+    let step = range::portion(range, &iv, data, out);
+    let next = step.range;
+    work.range = next;
+    let answer = step.answer;
+    answered(work, answer, data.len())
+}
+
 // A piece that is asked whether it opens, and of which so many bytes were written.
 fn gcm_piece(mut work: Work, data: &[u8], length: usize) -> Step
     ensures { λ r. ⌜ r .length ≤ «length» ⌝ }
@@ -227,6 +245,7 @@ pub fn piece(t: &[u32], work: Work, data: &[u8], out: &mut [u8]) -> Step
         Task::GcmSettle => gcm_piece(work, data, 0),
         Task::GcmText => gcm_text_piece(t, work, data, out),
         Task::Ctr => ctr_piece(work, data, out),
+        Task::Range => range_piece(work, data, out),
         Task::Stream(kind) => stream_piece(t, work, kind, data, out),
         Task::CbcSeal => cbc_seal_piece(t, work, data, out),
         Task::CbcSettle => done(work, 0),
@@ -328,6 +347,7 @@ pub fn end(t: &[u32], work: Work, rest: &[u8], out: &mut [u8]) -> Step
         Task::GcmSettle => gcm_end(work, rest, 0),
         Task::GcmText => gcm_text_end(t, work, rest, out),
         Task::Ctr => ctr_end(work),
+        Task::Range => done(work, 0),
         Task::Stream(kind) => stream_piece(t, work, kind, rest, out),
         Task::CbcSeal => cbc_seal_end(t, work, rest, out),
         Task::CbcSettle => silent(cbc_text_end(t, work, rest, out)),
@@ -336,7 +356,7 @@ pub fn end(t: &[u32], work: Work, rest: &[u8], out: &mut [u8]) -> Step
 }
 
 // What is done with the bytes in a mode, one way or the other, in the first pass or the only one.
-fn task_of(direction: Direction, mode: CipherMode) -> Task {
+pub fn task_of(direction: Direction, mode: CipherMode) -> Task {
     match direction {
         Direction::Encrypt => encryption(mode),
         Direction::Decrypt => decryption(mode),
@@ -395,24 +415,42 @@ fn first_state(mode: CipherMode, rk: [u32; 32], iv: &[u8]) -> [u32; 4]
     }
 }
 
-// The starts of the messages in pieces that a pass may be of.
+// The starts of the messages in pieces, and of the range, that a pass may be of.
 pub struct Starts {
     pub seal: SealStep,
     pub opens: OpensStep,
     pub ctr: CtrStep,
+    pub range: Range,
 }
 
-pub fn start_all(direction: Direction, cipher: Sm4Cipher, label: &[u8], iv: &[u8]) -> Starts
-    ensures { λ r. ⌜ StartsOf direction cipher (now (label .entry)) (now (iv .entry)) r ⌝ }
+pub fn start_all(
+    direction: Direction,
+    cipher: Sm4Cipher,
+    label: &[u8],
+    iv: &[u8],
+    offset: usize,
+) -> Starts
+    ensures { λ r. ⌜ StartsOf direction cipher (now (label .entry)) (now (iv .entry)) offset r ⌝ }
 {
     let seal = pieces::seal::start(cipher, label, iv);
     let opens = pieces::opens::start(cipher, label, iv);
     let ctr = pieces::ctr::start(direction, cipher, iv);
-    Starts { seal, opens, ctr }
+    let range = Range {
+        cipher,
+        direction,
+        offset,
+    };
+    Starts {
+        seal,
+        opens,
+        ctr,
+        range,
+    }
 }
 
 // A pass before its first byte. What is refused of key and IV, and of a retired key, is refused here.
 pub fn start(
+    task: Task,
     cipher: Sm4Cipher,
     direction: Direction,
     mode: CipherMode,
@@ -427,12 +465,14 @@ pub fn start(
     let opens = opening.state;
     let counting = starts.ctr;
     let ctr = counting.state;
+    let range = starts.range;
     let work = Work {
-        task: task_of(direction, mode),
+        task,
         rk,
         seal,
         opens,
         ctr,
+        range,
         chain: [0u32; 4],
     };
     let checked = checks::key_and_iv(key, cipher.retired, direction, mode, iv.len());
@@ -467,6 +507,7 @@ pub fn writing(work: Work) -> Work {
     let seal = work.seal;
     let opens = work.opens;
     let ctr = work.ctr;
+    let range = work.range;
     let chain = work.chain;
     Work {
         task: writing_task(task),
@@ -474,6 +515,7 @@ pub fn writing(work: Work) -> Work {
         seal,
         opens,
         ctr,
+        range,
         chain,
     }
 }

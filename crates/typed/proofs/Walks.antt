@@ -1,8 +1,8 @@
--- A walk that tests every byte of a word, or compares two words byte by byte: what is left decides, and so where the
--- walk stops, goes on and ends.
+-- A walk that tests every byte of a word, compares two words byte by byte, or looks for a thing among some: what is left decides,
+-- and so where the walk stops, goes on and ends.
 -- Assumes nothing.
 use mathlib.Core.Path.{_≡_, ap, sym, _∙_}
-use mathlib.Core.Bool.{Bool, true, false, _&&_}
+use mathlib.Core.Bool.{Bool, true, false, _&&_, _||_}
 use mathlib.Core.List.{List}
 use Prim.Native.Nat.{ℕ, _+_, _<_, _≤_}
 use native.Mathlib.Numerals.{add-one}
@@ -10,6 +10,7 @@ use lib.Dec.{eqb}
 use lib.ListN.{length, drop, getD, drop-of-length-le}
 use lib.Seq.{drop-cons}
 use Rattle.typed.specs.Tests.{every}
+use Rattle.typed.specs.Words.{isOneOf}
 use Rattle.block.specs.Same.{same}
 use Rattle.block.proofs.Same.{same-not}
 
@@ -45,3 +46,18 @@ module _ (a b : List ℕ) (i : ℕ) {v : Bool} (e : same (drop i a) (drop i b) �
 -- words of different lengths are not the same
 pub same-length : (a b : List ℕ) → (length a ≡ length b → ⊥) → false ≡ same a b
 same-length a b h = sym (same-not a b (λ e. h (ap length e)))
+
+module _ (k : ℕ) (s : List ℕ) (i : ℕ) {v : Bool} (e : isOneOf k (drop i s) ≡ v) where
+  one-turn : i < length s → isOneOf k (drop i s) ≡ (eqb k (getD s i 0) || isOneOf k (drop (i + 1) s))
+  unfolding isOneOf
+  one-turn h = rw (add-one, drop-cons s i 0)
+
+  pub one-here : i < length s → eqb k (getD s i 0) ≡ true → true ≡ v
+  one-here h t = sym (one-turn h ∙ rw t) ∙ e
+
+  pub one-on : i < length s → eqb k (getD s i 0) ≡ false → isOneOf k (drop (i + 1) s) ≡ v
+  one-on h t = sym (one-turn h ∙ rw t) ∙ e
+
+  pub one-end : length s ≤ i → false ≡ v
+  unfolding isOneOf
+  one-end h = sym (rw (drop-of-length-le s h)) ∙ e

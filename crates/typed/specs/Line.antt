@@ -4,7 +4,7 @@ use mathlib.Core.Bool.{Bool, true, false, cond, not, _&&_, _||_}
 use mathlib.Core.List.{List}
 use lib.Dec.{ltb, eqb}
 use lib.ListN.{getD, set, replicate}
-use Rattle.typed.specs.Things.{JOB, EDITION, EDITIONS, CANDIDATES, IN, OUT, NOTHING}
+use Rattle.typed.specs.Things.{JOB, EDITION, EDITIONS, CANDIDATES, LENGTH, IN, OUT, NOTHING}
 use Rattle.typed.specs.Words.{isFlag, saysLabel, optionOf, isOption, endsOptions, hasValue, takesOf, wantsOf}
 use Rattle.typed.specs.declared.words.Command.{Command}
 use Rattle.typed.specs.declared.line.Fault.{Fault}
@@ -37,6 +37,10 @@ unlabelled l = unsaid l JOB && (unsaid l EDITION && unsaid l EDITIONS)
 abbrev pub clashes : Line → ℕ → Bool
 clashes l k = cond (eqb k CANDIDATES) (not (unlabelled l)) (saysLabel k && not (unsaid l CANDIDATES))
 
+-- a thing that the command wants, and that has not been said, nor another in its place
+abbrev pub lacks : Line → ℕ → Bool
+lacks l k = wantsOf (l .command) k && (unsaid l k && not (clashes l k))
+
 -- the word at place i says thing k
 abbrev pub said : Line → ℕ → ℕ → Line
 said l k i = record { command = l .command; places = set (l .places) k i; next = NOTHING; files = l .files; fault = l .fault; at = l .at }
@@ -49,7 +53,7 @@ await l k = record { command = l .command; places = l .places; next = k; files =
 abbrev pub faulty : Line → Fault → ℕ → Line
 faulty l f i = record { command = l .command; places = l .places; next = l .next; files = l .files; fault = f; at = i }
 
--- every word from here on is a file
+-- no word from here on is an option
 abbrev pub filesFrom : Line → Line
 filesFrom l = record { command = l .command; places = l .places; next = l .next; files = true; fault = l .fault; at = l .at }
 
@@ -65,38 +69,35 @@ afterOption l k v i =
     (faulty l NotOfThisCommand i))
     (faulty l NoSuchOption i)
 
--- any other word is IN, and after that OUT where the command wants one
-unfoldable pub afterFile : Line → ℕ → Line
-afterFile l i =
-    cond (unsaid l IN) (said l IN i)
-    (cond (wantsOf (l .command) OUT && unsaid l OUT) (said l OUT i) (faulty l OneTooMany i))
+-- any other word is the first of these that the line lacks
+unfoldable pub afterOther : Line → ℕ → Line
+afterOther l i =
+    cond (lacks l LENGTH) (said l LENGTH i)
+    (cond (lacks l IN) (said l IN i)
+    (cond (lacks l OUT) (said l OUT i) (faulty l OneTooMany i)))
 
 -- a word where no value is awaited
 unfoldable pub afterFree : Line → List ℕ → ℕ → Line
 afterFree l w i =
     cond (isOption w)
     (cond (endsOptions w) (filesFrom l) (afterOption l (optionOf w) (hasValue w) i))
-    (afterFile l i)
+    (afterOther l i)
 
 -- the line after the word w, at place i, has been read: the first fault stays
 unfoldable pub afterWord : Line → List ℕ → ℕ → Line
 afterWord l w i =
     cond (sound (l .fault))
-    (cond (l .files) (afterFile l i)
+    (cond (l .files) (afterOther l i)
     (cond (ltb (l .next) NOTHING)
     (cond (isOption w) (faulty l NoValue i) (said l (l .next) i))
     (afterFree l w i)))
     l
 
--- a thing that the command wants, and that has not been said, nor another in its place
-abbrev pub lacks : Line → ℕ → Bool
-lacks l k = wantsOf (l .command) k && (unsaid l k && not (clashes l k))
-
--- the first such thing of the n from k on, or NOTHING
+-- the first thing that a line lacks, of the n from k on, or NOTHING
 unfoldable pub lackingFrom : Line → ℕ → ℕ → ℕ
 lackingFrom l zero k = NOTHING
 lackingFrom l (suc n) k = cond (lacks l k) k (lackingFrom l n (suc k))
 
--- what a line lacks: the value that is still awaited, or the first such thing
+-- what a line lacks: the value that is still awaited, or the first such thing of all
 unfoldable pub lackingIn : Line → ℕ
 lackingIn l = cond (ltb (l .next) NOTHING) (l .next) (lackingFrom l NOTHING 0)

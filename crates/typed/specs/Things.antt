@@ -1,4 +1,4 @@
--- The things that a line of words says, by number: those that an option names, then the files.
+-- The things that a line of words says, by number: those that an option names, then the words that are no options.
 use Prim.Native.Nat.{ℕ}
 
 abbrev pub MODE : ℕ
@@ -27,19 +27,33 @@ EDITIONS = 6
 abbrev pub CANDIDATES : ℕ
 CANDIDATES = 7
 
+-- where the stretch of `range` stands in its text
+abbrev pub OFFSET : ℕ
+OFFSET = 8
+
+abbrev pub WORKERS : ℕ
+WORKERS = 9
+
 -- the options that are said without a value
 abbrev pub FORCE : ℕ
-FORCE = 8
+FORCE = 10
 
 abbrev pub RETIRED : ℕ
-RETIRED = 9
+RETIRED = 11
+
+abbrev pub DECRYPT : ℕ
+DECRYPT = 12
+
+-- how long the text of `plan` is
+abbrev pub LENGTH : ℕ
+LENGTH = 13
 
 abbrev pub IN : ℕ
-IN = 10
+IN = 14
 
 abbrev pub OUT : ℕ
-OUT = 11
+OUT = 15
 
 -- none of them, and so how many there are
 abbrev pub NOTHING : ℕ
-NOTHING = 12
+NOTHING = 16

@@ -1,13 +1,14 @@
 // What a line of words says.
 ghost use mathlib.Core.Path.{_≡_};
 ghost use Prim.Native.Nat.{_<_};
-ghost use Rattle.typed.specs.Line.{lineOf, sound, unsaid, unlabelled, clashes, said, await, faulty, filesFrom, afterOption, afterFile, afterFree, afterWord, lacks, lackingIn};
+ghost use Rattle.typed.specs.Line.{lineOf, sound, unsaid, unlabelled, clashes, said, await, faulty, filesFrom, afterOption, afterOther, afterFree, afterWord, lacks, lackingIn};
 ghost use Rattle.typed.specs.Things.{NOTHING};
 use crate::things::CANDIDATES;
 use crate::things::EDITION;
 use crate::things::EDITIONS;
 use crate::things::IN;
 use crate::things::JOB;
+use crate::things::LENGTH;
 use crate::things::NOTHING;
 use crate::things::OUT;
 use crate::words;
@@ -24,7 +25,7 @@ pub enum Fault {
 }
 
 // What has been read of a line: for each thing the place of the word that says it, 0 where none has; the thing that the
-// next word says, if it is the value of an option; whether all words from here on are files; and the first fault, with
+// next word says, if it is the value of an option; whether no word from here on is an option; and the first fault, with
 // the place of its word.
 pub struct Line {
     pub command: Command,
@@ -98,6 +99,21 @@ fn does_clash(line: Line, thing: usize) -> bool
     false
 }
 
+// Whether the command wants a thing that no word has said, nor another thing in its place.
+fn is_lacking(line: Line, thing: usize) -> bool
+    requires { ⌜ thing < NOTHING ⌝ }
+    ensures { λ r. ⌜ r ≡ lacks line thing ⌝ }
+{
+    let command = line.command;
+    if !words::wants(command, thing) {
+        return false;
+    }
+    if !is_unsaid(line, thing) {
+        return false;
+    }
+    !does_clash(line, thing)
+}
+
 // The word at a place says a thing.
 fn say(mut line: Line, thing: usize, at: usize) -> Line
     requires { ⌜ thing < NOTHING ⌝ }
@@ -132,7 +148,7 @@ fn blame(line: Line, fault: Fault, at: usize) -> Line
     }
 }
 
-// Every word from here on is a file.
+// No word from here on is an option.
 fn files_from(mut line: Line) -> Line
     ensures { λ r. ⌜ r ≡ filesFrom line ⌝ }
 {
@@ -167,21 +183,20 @@ fn read_option(line: Line, thing: usize, valued: bool, at: usize) -> Line
     wait_for(line, thing)
 }
 
-// A file is IN, or after that OUT, where the command wants one.
-fn read_file(line: Line, at: usize) -> Line
-    ensures { λ r. ⌜ r ≡ afterFile line at ⌝ }
+// A word that is no option is the first of these that the line lacks.
+fn read_other(line: Line, at: usize) -> Line
+    ensures { λ r. ⌜ r ≡ afterOther line at ⌝ }
 {
-    if is_unsaid(line, IN) {
+    if is_lacking(line, LENGTH) {
+        return say(line, LENGTH, at);
+    }
+    if is_lacking(line, IN) {
         return say(line, IN, at);
     }
-    let command = line.command;
-    if !words::wants(command, OUT) {
-        return blame(line, Fault::OneTooMany, at);
+    if is_lacking(line, OUT) {
+        return say(line, OUT, at);
     }
-    if !is_unsaid(line, OUT) {
-        return blame(line, Fault::OneTooMany, at);
-    }
-    say(line, OUT, at)
+    blame(line, Fault::OneTooMany, at)
 }
 
 // A word where no value is awaited.
@@ -189,7 +204,7 @@ fn read_free(line: Line, word: &[u8], at: usize) -> Line
     ensures { λ r. ⌜ r ≡ afterFree line (now (word .entry)) at ⌝ }
 {
     if !words::is_option(word) {
-        return read_file(line, at);
+        return read_other(line, at);
     }
     if words::ends_options(word) {
         return files_from(line);
@@ -206,7 +221,7 @@ pub fn read_word(line: Line, word: &[u8], at: usize) -> Line
         return line;
     }
     if line.files {
-        return read_file(line, at);
+        return read_other(line, at);
     }
     let next = line.next;
     if next >= NOTHING {
@@ -216,21 +231,6 @@ pub fn read_word(line: Line, word: &[u8], at: usize) -> Line
         return blame(line, Fault::NoValue, at);
     }
     say(line, next, at)
-}
-
-// Whether the command wants a thing that no word has said, nor another thing in its place.
-fn is_lacking(line: Line, thing: usize) -> bool
-    requires { ⌜ thing < NOTHING ⌝ }
-    ensures { λ r. ⌜ r ≡ lacks line thing ⌝ }
-{
-    let command = line.command;
-    if !words::wants(command, thing) {
-        return false;
-    }
-    if !is_unsaid(line, thing) {
-        return false;
-    }
-    !does_clash(line, thing)
 }
 
 // The thing whose value is still awaited, or the first that the command wants and no word has said, or `NOTHING`.

@@ -1,4 +1,4 @@
-// The things that a line of words says, by number: those that an option names, then the files.
+// The things that a line of words says, by number: those that an option names, then the words that are no options.
 pub const MODE: usize = 0;
 
 pub const KEY: usize = 1;
@@ -17,14 +17,24 @@ pub const EDITIONS: usize = 6;
 
 pub const CANDIDATES: usize = 7;
 
+// Where the stretch of `range` stands in its text.
+pub const OFFSET: usize = 8;
+
+pub const WORKERS: usize = 9;
+
 // The options that are said without a value.
-pub const FORCE: usize = 8;
+pub const FORCE: usize = 10;
 
-pub const RETIRED: usize = 9;
+pub const RETIRED: usize = 11;
 
-pub const IN: usize = 10;
+pub const DECRYPT: usize = 12;
 
-pub const OUT: usize = 11;
+// How long the text of `plan` is.
+pub const LENGTH: usize = 13;
+
+pub const IN: usize = 14;
+
+pub const OUT: usize = 15;
 
 // None of them, and so how many there are.
-pub const NOTHING: usize = 12;
+pub const NOTHING: usize = 16;

@@ -3,21 +3,26 @@ ghost use mathlib.Core.Path.{_≡_};
 ghost use Prim.Native.Nat.{_≤_};
 ghost use lib.ListN.{length};
 ghost use Rattle.bytes.specs.Bytes.{indexOf};
-ghost use Rattle.typed.specs.Words.{commandOf, modeOf, flagOf, optionOf, isOption, endsOptions, hasValue, valueOf, isFlag, saysSeveral, saysLabel, ofOneLabel, asksWhich, isOptional, belongsTo, writesSealed, takesOf, wantsOf};
+ghost use Rattle.typed.specs.Words.{commandOf, modeOf, flagOf, optionOf, isOption, endsOptions, hasValue, valueOf, isFlag, isOneOf, takesOf, saysLabel, asksWhich, isOptional, wantsOf};
 use crate::names::alike;
 use crate::names::find;
 use crate::things::CANDIDATES;
+use crate::things::DECRYPT;
 use crate::things::EDITION;
 use crate::things::EDITIONS;
 use crate::things::FORCE;
+use crate::things::IN;
 use crate::things::IV;
 use crate::things::JOB;
 use crate::things::KEY;
+use crate::things::LENGTH;
 use crate::things::MODE;
 use crate::things::NOTHING;
 use crate::things::NUMBER;
+use crate::things::OFFSET;
 use crate::things::OUT;
 use crate::things::RETIRED;
+use crate::things::WORKERS;
 
 pub enum Command {
     Seal,
@@ -26,6 +31,8 @@ pub enum Command {
     Which,
     Encrypt,
     Decrypt,
+    Plan,
+    Range,
     Unknown,
 }
 
@@ -40,13 +47,15 @@ pub enum ModeName {
 pub fn read_command(word: &[u8]) -> Command
     ensures { λ r. ⌜ r ≡ commandOf (now (word .entry)) ⌝ }
 {
-    match find(b"seal open opens which encrypt decrypt", word) {
+    match find(b"seal open opens which encrypt decrypt plan range", word) {
         0 => Command::Seal,
         1 => Command::Open,
         2 => Command::Opens,
         3 => Command::Which,
         4 => Command::Encrypt,
         5 => Command::Decrypt,
+        6 => Command::Plan,
+        7 => Command::Range,
         _ => Command::Unknown,
     }
 }
@@ -95,9 +104,10 @@ pub fn value(word: &[u8]) -> &[u8]
 fn read_flag(word: &[u8]) -> usize
     ensures { λ r. ⌜ r ≡ flagOf (now (word .entry)) ⌝ }
 {
-    match find(b"--force --retired", word) {
+    match find(b"--force --retired --decrypt", word) {
         0 => FORCE,
         1 => RETIRED,
+        2 => DECRYPT,
         _ => NOTHING,
     }
 }
@@ -108,7 +118,7 @@ pub(crate) fn read_option(word: &[u8]) -> usize
 {
     let n = equals_sign(word);
     match find(
-        b"--mode --key --number --iv --job --edition --editions --candidates",
+        b"--mode --key --number --iv --job --edition --editions --candidates --offset --workers",
         &word[0..n],
     ) {
         0 => MODE,
@@ -119,6 +129,8 @@ pub(crate) fn read_option(word: &[u8]) -> usize
         5 => EDITION,
         6 => EDITIONS,
         7 => CANDIDATES,
+        8 => OFFSET,
+        9 => WORKERS,
         _ => read_flag(word),
     }
 }
@@ -133,88 +145,75 @@ pub(crate) fn is_option(word: &[u8]) -> bool
     word[0] == b'-'
 }
 
-// Whether a word says that only files follow.
+// Whether a word says that no option follows.
 pub(crate) fn ends_options(word: &[u8]) -> bool
     ensures { λ r. ⌜ r ≡ endsOptions (now (word .entry)) ⌝ }
 {
     alike(word, b"--")
 }
 
-// Whether a thing says more labels than one.
-fn says_several(thing: usize) -> bool
-    ensures { λ r. ⌜ r ≡ saysSeveral thing ⌝ }
+// Whether a thing is one of some.
+fn is_one_of(thing: usize, things: &[usize]) -> bool
+    ensures { λ r. ⌜ r ≡ isOneOf thing (now (things .entry)) ⌝ }
 {
-    thing == EDITIONS || thing == CANDIDATES
-}
-
-// Whether a thing says a label, or a part of one.
-pub(crate) fn says_label(thing: usize) -> bool
-    ensures { λ r. ⌜ r ≡ saysLabel thing ⌝ }
-{
-    if thing == JOB {
-        return true;
+    let mut i = 0;
+    while i < things.len() {
+        if thing == things[i] {
+            return true;
+        }
+        i += 1;
     }
-    if thing == EDITION {
-        return true;
-    }
-    says_several(thing)
-}
-
-// Whether a thing is of a command that has one label.
-fn of_one_label(thing: usize) -> bool
-    ensures { λ r. ⌜ r ≡ ofOneLabel thing ⌝ }
-{
-    if thing == MODE {
-        return false;
-    }
-    !says_several(thing)
-}
-
-// Whether a thing other than `FORCE` belongs to a command.
-fn belongs(command: Command, thing: usize) -> bool
-    ensures { λ r. ⌜ r ≡ belongsTo command thing ⌝ }
-{
-    match command {
-        Command::Seal => of_one_label(thing),
-        Command::Open => of_one_label(thing),
-        Command::Opens => thing != OUT && of_one_label(thing),
-        Command::Which => thing != MODE && thing != OUT,
-        Command::Encrypt => !says_label(thing),
-        Command::Decrypt => !says_label(thing),
-        Command::Unknown => false,
-    }
-}
-
-// Whether a command writes what is no text, which a terminal is spared.
-pub fn writes_sealed(command: Command) -> bool
-    ensures { λ r. ⌜ r ≡ writesSealed command ⌝ }
-{
-    match command {
-        Command::Seal => true,
-        Command::Open => false,
-        Command::Opens => false,
-        Command::Which => false,
-        Command::Encrypt => true,
-        Command::Decrypt => false,
-        Command::Unknown => false,
-    }
+    false
 }
 
 // Whether a command takes a thing.
-pub(crate) fn takes(command: Command, thing: usize) -> bool
+pub fn takes(command: Command, thing: usize) -> bool
     ensures { λ r. ⌜ r ≡ takesOf command thing ⌝ }
 {
-    if thing == FORCE {
-        return writes_sealed(command);
+    match command {
+        Command::Seal => is_one_of(
+            thing,
+            &[KEY, NUMBER, RETIRED, IV, JOB, EDITION, FORCE, IN, OUT],
+        ),
+        Command::Open => is_one_of(thing, &[KEY, NUMBER, RETIRED, IV, JOB, EDITION, IN, OUT]),
+        Command::Opens => is_one_of(thing, &[KEY, NUMBER, RETIRED, IV, JOB, EDITION, IN]),
+        Command::Which => is_one_of(
+            thing,
+            &[
+                KEY,
+                NUMBER,
+                RETIRED,
+                IV,
+                JOB,
+                EDITIONS,
+                EDITION,
+                CANDIDATES,
+                IN,
+            ],
+        ),
+        Command::Encrypt => is_one_of(thing, &[MODE, KEY, NUMBER, RETIRED, IV, FORCE, IN, OUT]),
+        Command::Decrypt => is_one_of(thing, &[MODE, KEY, NUMBER, RETIRED, IV, IN, OUT]),
+        Command::Plan => is_one_of(thing, &[WORKERS, LENGTH]),
+        Command::Range => is_one_of(
+            thing,
+            &[KEY, NUMBER, RETIRED, IV, OFFSET, DECRYPT, FORCE, IN, OUT],
+        ),
+        Command::Unknown => false,
     }
-    belongs(command, thing)
+}
+
+// Whether a thing says a label, or a part of one, where no file of candidates does.
+pub(crate) fn says_label(thing: usize) -> bool
+    ensures { λ r. ⌜ r ≡ saysLabel thing ⌝ }
+{
+    is_one_of(thing, &[JOB, EDITION, EDITIONS])
 }
 
 // Whether a thing is said without a value.
 pub(crate) fn is_flag(thing: usize) -> bool
     ensures { λ r. ⌜ r ≡ isFlag thing ⌝ }
 {
-    thing == FORCE || thing == RETIRED
+    is_one_of(thing, &[FORCE, RETIRED, DECRYPT])
 }
 
 // Whether a command asks which label a file opens under.
@@ -228,6 +227,8 @@ fn asks_which(command: Command) -> bool
         Command::Which => true,
         Command::Encrypt => false,
         Command::Decrypt => false,
+        Command::Plan => false,
+        Command::Range => false,
         Command::Unknown => false,
     }
 }
@@ -256,5 +257,5 @@ pub fn wants(command: Command, thing: usize) -> bool
     if is_optional(command, thing) {
         return false;
     }
-    belongs(command, thing)
+    takes(command, thing)
 }

@@ -29,7 +29,7 @@ returns-2 : tie.Need-returns-2
 unfolding hostModeCall
 returns-2 c =
     let a = c .before .before .before .before .before .before .args in
-    rw (lt-ltb 4 (a .mode) (omega arith)) (ap {B = Outcome} (λ (h : Head). leaving h (now (a .out))) (c .refusal .ensures))
+    rw (lt-ltb 4 (a .mode) (omega arith)) (ap {B = Outcome} (λ (h : Head). leaving h (now (a .out))) (c .numbered .ensures))
 
 pub mode-call-spec : {M : Type 1} → statement M
 mode-call-spec =

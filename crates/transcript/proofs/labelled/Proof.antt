@@ -12,17 +12,17 @@ use borrow.Author.Needs.{needs}
 use Rattle.transcript.proofs.labelled.Statement.{statement}
 use Rattle.transcript.proofs.labelled.Tie as tie
 
-same-starts : (a b : Direction) (c d : Sm4Cipher) (l m iv : List ℕ) (s : Starts)
-    → a ≡ b → c ≡ d → l ≡ m → StartsOf a c l iv s → StartsOf b d m iv s
-same-starts a b c d l m iv s e f g h =
-    subst (λ (x : Direction). StartsOf x d m iv s) e
-    (subst (λ (x : Sm4Cipher). StartsOf a x m iv s) f (subst (λ (x : List ℕ). StartsOf a c x iv s) g h))
+same-starts : (a b : Direction) (c d : Sm4Cipher) (l m iv : List ℕ) (offset : ℕ) (s : Starts)
+    → a ≡ b → c ≡ d → l ≡ m → StartsOf a c l iv offset s → StartsOf b d m iv offset s
+same-starts a b c d l m iv offset s e f g h =
+    subst (λ (x : Direction). StartsOf x d m iv offset s) e
+    (subst (λ (x : Sm4Cipher). StartsOf a x m iv offset s) f (subst (λ (x : List ℕ). StartsOf a c x iv offset s) g h))
 
 returns : tie.Need-returns
 returns c =
     let at-cipher = c .before .before in
     let at-direction = at-cipher .before in
-    same-starts _ _ _ _ _ _ _ (c .start-all .result) (at-direction .direction-of .ensures) (at-cipher .cipher-of .ensures)
+    same-starts _ _ _ _ _ _ _ _ (c .start-all .result) (at-direction .direction-of .ensures) (at-cipher .cipher-of .ensures)
     (at-direction .before .label .ensures) (c .start-all .ensures)
 
 pub labelled-spec : {M : Type 1} → statement M

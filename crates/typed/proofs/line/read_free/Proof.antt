@@ -14,7 +14,7 @@ use Rattle.typed.proofs.line.read_free.Tie as tie
 
 returns : tie.Need-returns
 unfolding afterFree
-returns c = c .read-file .ensures ∙ rw (told (c .before .before .is-option .ensures) (not-true _ (c .before .if1 .taken)))
+returns c = c .read-other .ensures ∙ rw (told (c .before .before .is-option .ensures) (not-true _ (c .before .if1 .taken)))
 
 -- past the first test the word is an option
 option : (c : tie.Else1) → isOption (now (c .before .before .before .args .word)) ≡ true

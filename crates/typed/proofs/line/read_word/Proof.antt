@@ -1,5 +1,5 @@
 -- `line::read_word` meets its contract. A line at fault stays as it is. Otherwise the tests are those of the
--- definition: whether only files follow, whether a value is awaited, and whether the word is an option. Each return is
+-- definition: whether no option follows, whether a value is awaited, and whether the word is an option. Each return is
 -- what the last call made of the line.
 -- Assumes nothing.
 use mathlib.Core.Path.{_≡_, _∙_}
@@ -22,7 +22,7 @@ line-sound c = told (c .before .is-sound .ensures) (not-false _ (c .if1 .left))
 
 returns-2 : tie.Need-returns-2
 unfolding afterWord
-returns-2 c = c .read-file .ensures ∙ rw (line-sound (c .before .before), c .before .if2 .taken)
+returns-2 c = c .read-other .ensures ∙ rw (line-sound (c .before .before), c .before .if2 .taken)
 
 returns-3 : tie.Need-returns-3
 unfolding afterWord

@@ -18,4 +18,6 @@ read-command-spec =
     (λ c. rw (told (c .before .find .ensures) (c .match .keys4)))
     (λ c. rw (told (c .before .find .ensures) (c .match .keys5)))
     (λ c. rw (told (c .before .find .ensures) (c .match .keys6)))
+    (λ c. rw (told (c .before .find .ensures) (c .match .keys7)))
+    (λ c. rw (told (c .before .find .ensures) (c .match .keys8)))
     (λ c. told-none commands Unknown (c .before .find .ensures) (c .match .rest)))

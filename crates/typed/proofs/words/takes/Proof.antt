@@ -1,15 +1,29 @@
--- `words::takes` meets its contract. `--force` is taken by the commands that write what is no text, any other thing where it
--- belongs.
+-- `words::takes` meets its contract. In each arm the command is known, and so the things that it takes.
 -- Assumes nothing.
 use mathlib.Core.Path.{_∙_}
-use borrow.Author.Tests.{eq-eqb, ne-eqb}
+use Rattle.typed.specs.Words.{isOneOf}
 use borrow.Author.Needs.{needs}
 use Rattle.typed.proofs.words.takes.Statement.{statement}
 use Rattle.typed.proofs.words.takes.Tie as tie
+
+none : tie.Need-returns-9
+unfolding isOneOf
+none c = rw (c .enum-told9 .given .1)
 
 pub takes-spec : {M : Type 1} → statement M
 takes-spec =
     tie.close
     (tie.spec
-    (λ c κs. search needs) (λ c. c .writes-sealed .ensures ∙ rw (eq-eqb _ _ (c .before .if1 .taken)))
-    (λ c κs. search needs) (λ c. c .belongs .ensures ∙ rw (ne-eqb _ _ (c .before .if1 .left))))
+    (λ c. search needs) (λ c. search needs) (λ c κs. search needs) (λ c. search needs) (λ c. search needs)
+    (λ c κs. search needs) (λ c. search needs) (λ c. search needs) (λ c κs. search needs) (λ c. search needs)
+    (λ c. search needs) (λ c κs. search needs) (λ c. search needs) (λ c. search needs) (λ c κs. search needs)
+    (λ c. search needs) (λ c. search needs) (λ c κs. search needs) (λ c. search needs) (λ c. search needs)
+    (λ c κs. search needs) (λ c. search needs) (λ c. search needs) (λ c κs. search needs) (λ c. search needs)
+    (λ c. c .is-one-of .ensures ∙ rw (c .before .before .enum-told .given .1))
+    (λ c. c .is-one-of2 .ensures ∙ rw (c .before .before .enum-told2 .given .1))
+    (λ c. c .is-one-of3 .ensures ∙ rw (c .before .before .enum-told3 .given .1))
+    (λ c. c .is-one-of4 .ensures ∙ rw (c .before .before .enum-told4 .given .1))
+    (λ c. c .is-one-of5 .ensures ∙ rw (c .before .before .enum-told5 .given .1))
+    (λ c. c .is-one-of6 .ensures ∙ rw (c .before .before .enum-told6 .given .1))
+    (λ c. c .is-one-of7 .ensures ∙ rw (c .before .before .enum-told7 .given .1))
+    (λ c. c .is-one-of8 .ensures ∙ rw (c .before .before .enum-told8 .given .1)) none)

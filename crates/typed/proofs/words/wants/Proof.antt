@@ -1,4 +1,4 @@
--- `words::wants` meets its contract. What may be left unsaid is wanted by no command; any other thing is wanted where it belongs.
+-- `words::wants` meets its contract. What may be left unsaid is wanted by no command; any other thing is wanted where it is taken.
 -- Assumes nothing.
 use mathlib.Core.Path.{_∙_}
 use Rattle.typed.proofs.Verdicts.{told}
@@ -11,4 +11,4 @@ wants-spec =
     tie.close
     (tie.spec
     (λ c κs. search needs) (λ c. rw (told (c .before .is-optional .ensures) (c .if1 .taken))) (λ c κs. search needs)
-    (λ c. c .belongs .ensures ∙ rw (told (c .before .before .is-optional .ensures) (c .before .if1 .left))))
+    (λ c. c .takes .ensures ∙ rw (told (c .before .before .is-optional .ensures) (c .before .if1 .left))))

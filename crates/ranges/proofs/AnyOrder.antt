@@ -1,0 +1,119 @@
+-- The shares of a text may be done in any order: what stands in the output is the same. Those of an accepted plan give the single call's
+-- bytes.
+-- Assumes nothing.
+use mathlib.Core.Path.{_≡_, refl, sym, ap, _∙_}
+use mathlib.Core.HLevel.{hedberg}
+use mathlib.Core.Bool.{true}
+use mathlib.Core.List.{List, [], _∷_, foldr, Perm, Perm·foldr-eq, List·isSet}
+use Prim.Native.Nat.{ℕ, zero, suc, _+_, _-_, _≤_, min}
+use native.Mathlib.Decide.{ℕ-discrete}
+use native.Mathlib.Omega.{arith}
+use lib.ListN.{length, take, drop, length-take, length-drop}
+use borrow.Author.Tests.{eqb-true}
+use Rattle.block.specs.Xor.{_⊕_, xors}
+use Rattle.walk.specs.Walk.{chain, over}
+use Rattle.stream.specs.Stream.{streamMode}
+use Rattle.stream.specs.declared.Kind.the-variants.{Ctr as Ctr·kind}
+use Rattle.stream.proofs.RoundTrip.{length-stream}
+use Rattle.ranges.specs.declared.plan.Plan.{Plan}
+use Rattle.ranges.specs.Plan.{follows, accepts}
+use Rattle.ranges.specs.Range.{stretch}
+use Rattle.ranges.specs.Shares.{Share, shares, sharesOf, shareOf, laidAt, worked, allWorked}
+use Rattle.ranges.proofs.Accepted.{first-piece, from-0-to-n}
+use Rattle.ranges.proofs.KeyStream.{pads, chain-pads, stretch-pads}
+use Rattle.ranges.proofs.Copied.{copied, length-copied, none-copied, copies-commute, copies-join, all-copied, laid-copied}
+
+-- a part of what is xored is that part of both
+xors-nothing : (a : List ℕ) → xors a [] ≡ []
+xors-nothing [] = refl
+xors-nothing (x ∷ a) = refl
+
+take-xors : (n : ℕ) (a p : List ℕ) → take n (xors a p) ≡ xors (take n a) p
+take-xors zero a p = refl
+take-xors (suc n) [] p = refl
+take-xors (suc n) (x ∷ a) [] = refl
+take-xors (suc n) (x ∷ a) (y ∷ p) = ap {B = List ℕ} (λ l. (x ⊕ y) ∷ l) (take-xors n a p)
+
+drop-xors : (n : ℕ) (a p : List ℕ) → drop n (xors a p) ≡ xors (drop n a) (drop n p)
+drop-xors zero a p = refl
+drop-xors (suc n) [] p = refl
+drop-xors (suc n) (x ∷ a) [] = sym (xors-nothing (drop n a))
+drop-xors (suc n) (x ∷ a) (y ∷ p) = drop-xors n a p
+
+module _ (rk iv d : List ℕ) where
+  abbrev whole : List ℕ
+  whole = chain (streamMode Ctr·kind rk) iv d
+
+  -- what Ctr gives of a share is that share of the whole
+  share-of-whole : (p : Share) → stretch rk iv (p .start) (shareOf p d) ≡ shareOf p whole
+  share-of-whole p =
+      let j = p .start + length d in
+      let k = pads rk j iv in
+      let size = length-take (p .size) (drop (p .start) d) ∙ ap (λ (n : ℕ). min (p .size) n) (length-drop (p .start) d) in
+      stretch-pads rk iv (p .start) (shareOf p d) j (omega (arith, size))
+      ∙ sym (take-xors (p .size) (drop (p .start) d) (drop (p .start) k))
+      ∙ ap (take (p .size)) (sym (drop-xors (p .start) d k))
+      ∙ ap (λ (l : List ℕ). take (p .size) (drop (p .start) l)) (sym (chain-pads rk j iv d (omega arith)))
+
+  length-whole : length whole ≡ length d
+  length-whole = length-stream Ctr·kind rk iv d
+
+  -- a worker copies its share of the whole
+  abbrev copies : Share → List ℕ → List ℕ
+  copies p o = copied (p .start) (p .size) whole o
+
+  worker-copies : (p : Share) (o : List ℕ) → length d ≤ length o → worked rk iv d p o ≡ copies p o
+  worker-copies p o h =
+      ap (λ (s : List ℕ). laidAt (p .start) s o) (share-of-whole p)
+      ∙ laid-copied (p .start) (p .size) whole o (omega (arith, h, length-whole))
+
+  all-copy : (ps : List Share) (o : List ℕ) → length d ≤ length o
+      → (allWorked rk iv d ps o ≡ foldr copies o ps) × (length (foldr copies o ps) ≡ length o)
+  all-copy [] o h = (refl, refl)
+  all-copy (p ∷ ps) o h =
+      let rest = all-copy ps o h in
+      let u = foldr copies o ps in (
+        ap (worked rk iv d p) (rest .0) ∙ worker-copies p u (omega (arith, h, rest .1)),
+        length-copied (p .start) (p .size) whole u ∙ rest .1,
+      )
+
+  pub length-worked : (ps : List Share) (o : List ℕ) → length d ≤ length o → length (allWorked rk iv d ps o) ≡ length o
+  length-worked ps o h = let all = all-copy ps o h in ap length (all .0) ∙ all .1
+
+  -- Shares done in any order leave the same, overlapping or not, inside the text or not.
+  pub any-order : (o : List ℕ) → length d ≤ length o → (ps qs : List Share) → Perm ps qs → allWorked rk iv d ps o ≡ allWorked rk iv d qs o
+  any-order o h ps qs e =
+      all-copy ps o h .0
+      ∙ Perm·foldr-eq (List·isSet (hedberg ℕ-discrete)) copies
+      (λ p q u. copies-commute (p .start) (p .size) (q .start) (q .size) whole u) e o
+      ∙ sym (all-copy qs o h .0)
+
+  -- shares that follow one another from `at` to the text's end copy all that is from there on
+  following : (at : ℕ) (ss ls o : List ℕ) → follows at (length d) ss ls ≡ true
+      → foldr copies o (shares ss ls) ≡ copied at (length d - at) whole o
+  unfolding follows
+  following at [] ls o e =
+      let end = eqb-true at (length d) e in
+      let none : length d - at ≡ 0 = omega (arith, end) in
+      sym (ap (λ (n : ℕ). copied at n whole o) none ∙ none-copied at whole o)
+  following at (s ∷ ss) [] o e = let z : _≡_ {A = ℕ} 0 1 = cc in absurd (omega arith)
+  following at (s ∷ ss) (l ∷ ls) o e =
+      let f = first-piece at (length d) s l ss ls e in
+      let inside = f .inside in
+      let sum : l + (length d - (at + l)) ≡ length d - at = omega (arith, inside) in
+      ap (λ (k : ℕ). copied k l whole (foldr copies o (shares ss ls))) (f .starts-here)
+      ∙ ap (copied at l whole) (following (at + l) ss ls o (f .rest))
+      ∙ copies-join at l (length d - (at + l)) (at + l) whole o refl
+      ∙ ap (λ (n : ℕ). copied at n whole o) sum
+
+  -- The shares of an accepted plan, whoever made it, done in any order, leave the single call's bytes in the output, and what is past them
+  -- as it was.
+  pub plan-in-any-order : (o : List ℕ) → length d ≤ length o → (plan : Plan) → accepts plan (length d) ≡ true
+      → (ps : List Share) → Perm (sharesOf plan) ps → allWorked rk iv d ps o ≡ over whole o
+  plan-in-any-order o h plan accepted ps e =
+      let size : length d - 0 ≡ length whole = omega (arith, length-whole) in
+      sym (any-order o h (sharesOf plan) ps e)
+      ∙ all-copy (sharesOf plan) o h .0
+      ∙ following 0 (take (plan .count) (plan .starts)) (take (plan .count) (plan .lengths)) o (from-0-to-n plan (length d) accepted)
+      ∙ ap (λ (n : ℕ). copied 0 n whole o) size
+      ∙ all-copied whole o (omega (arith, h, length-whole))
