@@ -1,0 +1,3 @@
+// A journal of recorded calls.
+pub mod keys;
+pub mod records;
