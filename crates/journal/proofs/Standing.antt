@@ -28,7 +28,7 @@ pub end-of-end : (t u b : List ℕ) → IsEnd t u → IsEnd u b → IsEnd t b
 end-of-end t u b x y =
     let h = x .shorter in
     let k = y .shorter in
-    let n : length u - length t + (length b - length u) ≡ length b - length t = omega arith in
+    let n : length b - length u + (length u - length t) ≡ length b - length t = omega arith in
     record {
       shorter = omega arith;
       behind =
@@ -164,3 +164,14 @@ module _ (b : List ℕ) where
 
   pub size-some : (sizeAt b ≡ 0 → ⊥) → startsRecord b ≡ true
   size-some = some-by (startsRecord b) refl
+
+  none-stands : (s : Bool) → startsRecord b ≡ s → (Stands b → ⊥) → 0 ≡ sizeAt b
+  none-stands true f z = absurd (z (stands f))
+  none-stands false f z = sym (size-none f)
+
+  pub not-standing : (Stands b → ⊥) → 0 ≡ sizeAt b
+  not-standing = none-stands (startsRecord b) refl
+
+-- a test that holds and does not
+pub clash : (t : Bool) → t ≡ true → t ≡ false → ⊥
+clash t e f = let z : _≡_ {A = ℕ} 0 1 = cc in omega arith

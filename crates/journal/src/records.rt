@@ -1,8 +1,10 @@
 // The record at the front of a part of a journal.
 ghost use mathlib.Core.Path.{_≡_};
 ghost use mathlib.Core.Bool.{true};
+ghost use mathlib.Core.List.{[], _∷_};
 ghost use Prim.Native.Nat.{_≤_};
 ghost use lib.ListN.{length, drop};
+ghost use Rattle.block.specs.BigEndian.{numberOf};
 ghost use Rattle.journal.specs.Format.{startsPart, partAt, behind, fromData, fromIv, fromRoom, fromOutput, marked, startsRecord, sizeAt, front, tooLong};
 use cipher_mode::Direction;
 
@@ -138,11 +140,17 @@ pub(crate) fn mode(s: &[u8]) -> u8
     s[3]
 }
 
+fn pair(high: u8, low: u8) -> u16
+    ensures { λ r. ⌜ r ≡ numberOf (high ∷ low ∷ []) ⌝ }
+{
+    high as u16 * 256 + low as u16
+}
+
 pub(crate) fn key_number(s: &[u8]) -> u16
     requires { ⌜ startsRecord (now s) ≡ true ⌝ }
     ensures { λ r. ⌜ r ≡ front (now (s .entry)) .key ⌝ }
 {
-    s[4] as u16 * 256 + s[5] as u16
+    pair(s[4], s[5])
 }
 
 pub(crate) fn label(s: &[u8]) -> &[u8]
