@@ -1,3 +1,4 @@
 // A journal of recorded calls.
+mod again;
 pub mod keys;
 pub mod records;

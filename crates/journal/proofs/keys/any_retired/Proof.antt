@@ -4,7 +4,7 @@ use mathlib.Core.Path.{_≡_, refl, sym, ap, _∙_}
 use mathlib.Core.Bool.{Bool}
 use Prim.Native.Nat.{ℕ, _-_, _≤_, _<_}
 use native.Mathlib.Omega.{arith}
-use lib.ListN.{length, drop}
+use lib.ListN.{length, drop, length-map}
 use Rattle.cipher_mode.specs.declared.Sm4Cipher.{Sm4Cipher}
 use Rattle.journal.specs.KeyList.{keysIn, anyRetired}
 use Rattle.journal.proofs.KeyTurns.{count-keys, retired-turn, retired-end}
@@ -20,7 +20,7 @@ abbrev μ-loop : tie.MeasureT-loop
 μ-loop keys i₀ i = keys .count - i
 
 loop-holds : tie.Need-loop-holds Inv-loop μ-loop
-loop-holds c = (search needs, c .pre, omega arith, refl)
+loop-holds c = (sym (length-map (c .args .keys .keys) _) ∙ c .good .0 .1 .1 .1 .0 .1 .0 .1, c .pre, omega arith, refl)
 
 inside : (x : tie.Then1 Inv-loop μ-loop) → let at-loop = x .before .before in at-loop .loop .i < length (keysIn (at-loop .before .args .keys))
 inside x =

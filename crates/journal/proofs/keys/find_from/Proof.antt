@@ -4,7 +4,7 @@
 use mathlib.Core.Path.{_≡_, refl, sym, ap, _∙_}
 use Prim.Native.Nat.{ℕ, _+_, _-_, _≤_, _<_}
 use native.Mathlib.Omega.{arith}
-use lib.ListN.{length, drop}
+use lib.ListN.{length, drop, length-map}
 use borrow.Author.Tests.{eq-eqb, ne-eqb}
 use Rattle.cipher_mode.specs.Key.{keyNumber}
 use Rattle.journal.specs.KeyList.{keysIn, placeOf, keyAt}
@@ -24,7 +24,7 @@ abbrev μ-loop : tie.MeasureT-loop
 μ-loop keys from number i₀ i = keys .count - i
 
 loop-holds : tie.Need-loop-holds Inv-loop μ-loop
-loop-holds c = (search needs, c .pre .1, c .pre .0, refl)
+loop-holds c = (sym (length-map (c .args .keys .keys) _) ∙ c .good .0 .1 .1 .1 .0 .1 .0 .1, c .pre .1, c .pre .0, refl)
 
 inside : (x : tie.Then1 Inv-loop μ-loop) → let at-loop = x .before .before in at-loop .loop .i < length (keysIn (at-loop .before .args .keys))
 inside x =
