@@ -10,9 +10,11 @@ use lib.Dec.{eqb, ltb}
 use lib.ListN.{length, take, drop}
 use lib.Seq.{length-take-le}
 use borrow.Author.Tests.{eqb-true, not-false}
-use Rattle.walk.specs.Outcome.{Head, Outcome, finished, refusal, under, telling, leaving, keyed, reporting, refused, written, done}
+use Rattle.counter.specs.CameRound.{blocksOf, ctrCameRound}
+use Rattle.walk.specs.Outcome.{Head, Outcome, finished, refusal, under, telling, leaving, keyed, reporting, refuse, written, done}
 use Rattle.walk.specs.Walk.{chain, over}
 use Rattle.stream.specs.Stream.{streamMode}
+use Rattle.stream.specs.declared.Kind.{Kind}
 use Rattle.stream.specs.declared.Kind.the-variants.{Ofb as Ofb·kind, Ctr as Ctr·kind}
 use Rattle.stream.proofs.RoundTrip.{length-stream}
 use Rattle.cbc.specs.Cbc.{cbcSeal}
@@ -24,6 +26,7 @@ use Rattle.cbc.proofs.RoundTrip.{length-cbcSeal}
 use Rattle.cbc.proofs.Unpadded.{unpadded-le}
 use Rattle.gcm.specs.Gcm.{hashKey, J0, sealed, textPart, textOf, opensUnder}
 use Rattle.gcm.specs.Open.{headOf as gcmHead, settled, gcmOpen}
+use Rattle.gcm.specs.declared.Opened.the-variants.{Done as Gcm·Done, InvalidTag as Gcm·InvalidTag}
 use Rattle.gcm.proofs.Parts.{length-sealed}
 use Rattle.gcm.proofs.Settled.{text-size}
 use Rattle.cipher_mode.specs.declared.CipherMode.{CipherMode}
@@ -112,10 +115,58 @@ cbc-opened most p InvalidPadding e h = gives-written most (refusal 15) p (omega 
 
 -- an opened Gcm message, by what its tag says
 gcm-opened : (most : ℕ) (p : List ℕ) (n : ℕ) (t : Bool) → length p ≡ n → n ≤ most
-    → Gives most (λ o. written (cond t (finished n) (refusal 4)) p o)
+    → Gives most (λ o. written (gcmHead (cond t (Gcm·Done n) Gcm·InvalidTag)) p o)
 gcm-opened most p n true e h = gives-written most (finished n) p (omega arith) (omega arith) h
 gcm-opened most p n false e h = gives-written most (refusal 4) p (omega arith) (omega arith) (omega arith)
 
-settled-head : (n : ℕ) (t : Bool) → _≡_ {A = Head} (cond t (finished n) (refusal 4)) (gcmHead (cond t (Rattle.gcm.specs.declared.Opened.the-variants.Done n) Rattle.gcm.specs.declared.Opened.the-variants.InvalidTag))
-settled-head n true = refl
-settled-head n false = refl
+streams : (k : Kind) (rk s d : List ℕ) → Gives (length d) (λ o. done (chain (streamMode k rk) s d) o)
+streams k rk s d = let l = length-stream k rk s d in gives-done (length d) (chain (streamMode k rk) s d) (omega arith)
+
+-- what is in order gives no more than document 01's table says
+mode-gives : (m : CipherMode) (dir : Direction) (rk aad d iv : List ℕ) → wrongIv m (length iv) ≡ false → dataCheck dir m (length d) ≡ Passed
+    → Gives (roomOf m dir (length d)) (λ o. modeResult m dir rk aad d iv o)
+unfolding cbcOpen gcmOpen settled
+mode-gives Cfb dir rk aad d iv i e = streams (cfbKind dir) rk iv d
+mode-gives Ofb dir rk aad d iv i e = streams Ofb·kind rk iv d
+mode-gives Ctr dir rk aad d iv i e = gives-reporting (length d) (ctrCameRound iv (blocksOf (length d))) _ (streams Ctr·kind rk iv d)
+mode-gives Cbc Encrypt rk aad d iv i e = let l = length-cbcSeal rk iv d in gives-done _ (cbcSeal rk iv d) (omega arith)
+mode-gives Cbc Decrypt rk aad d iv i e =
+    let l = length-decrypt rk iv d (sixteen (length iv) i) (whole-blocks-passed (length d) e .1) in
+    cbc-opened (length d) (cbcText rk iv d) (unpadded (cbcText rk iv d)) refl (omega arith)
+mode-gives Gcm Encrypt rk aad d iv i e =
+    let l = length-sealed rk (hashKey rk) (J0 rk iv) aad d in
+    gives-reporting _ (gcmRound rk iv (length d)) _ (gives-done _ (sealed rk (hashKey rk) (J0 rk iv) aad d) (omega arith))
+mode-gives Gcm Decrypt rk aad d iv i e =
+    let h = hashKey rk in
+    let j = J0 rk iv in
+    gives-reporting _ (gcmRound rk iv (length d - 16)) _
+    (gcm-opened _ (textOf rk j (textPart d)) (length d - 16) (opensUnder rk h j aad d) (text-size rk h j aad d [] (with-tag-passed (length d) e)) (omega arith))
+
+-- the table asks for at most 16 bytes more than there are
+pub room-16 : (m : CipherMode) (dir : Direction) (n : ℕ) → roomOf m dir n ≤ 16 + n
+room-16 Cfb dir n = omega arith
+room-16 Ofb dir n = omega arith
+room-16 Ctr dir n = omega arith
+room-16 Cbc Encrypt n = omega arith
+room-16 Cbc Decrypt n = omega arith
+room-16 Gcm Encrypt n = omega arith
+room-16 Gcm Decrypt n = omega arith
+
+gives-more : (n most : ℕ) (f : List ℕ → Outcome) → n ≤ most → Gives n f → Gives most f
+gives-more n most f h g =
+    let l = g .fits in
+    record { head = g .head; front = g .front; known = g .known; sized = g .sized; fits = omega arith; leaves = g .leaves }
+
+-- a call by what its checks say
+pub call-gives : (most k : ℕ) (x : Checked) (m : CipherMode) (dir : Direction) (rk aad d iv : List ℕ)
+    → (x ≡ Passed → (wrongIv m (length iv) ≡ false) × (dataCheck dir m (length d) ≡ Passed) × (roomOf m dir (length d) ≤ most))
+    → Gives most (λ o. keyed k (checked x o (modeResult m dir rk aad d iv o)))
+call-gives most k Passed m dir rk aad d iv p =
+    let in-order = p refl in
+    gives-keyed most k _ (gives-more _ most _ (in-order .2) (mode-gives m dir rk aad d iv (in-order .0) (in-order .1)))
+call-gives most k (Refused r) m dir rk aad d iv p =
+    gives-keyed most k _ (gives-none most (refusalHead r) (refusal-known r) (refuses r .no-size))
+
+pub bad-gives : (most : ℕ) (t : Bool) (f : List ℕ → Outcome) → (t ≡ false → Gives most f) → Gives most (λ o. refuse t 7 o (f o))
+bad-gives most true f g = gives-none most (refusal 7) (omega arith) refl
+bad-gives most false f g = g refl

@@ -1,3 +1,5 @@
 pub mod Standing
 pub mod KeyTurns
 pub mod Given
+pub mod Limits
+pub mod Lent

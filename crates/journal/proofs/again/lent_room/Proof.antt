@@ -1,25 +1,21 @@
+-- `again::lent_room` meets its contract, by the test that led there.
+-- Assumes nothing.
+use borrow.Author.Tests.{lt-ltb, le-ltb}
+use Rattle.journal.specs.Recomputed.{lentRoom}
 use borrow.Author.Needs.{needs}
 use Rattle.journal.proofs.again.lent_room.Statement.{statement}
 use Rattle.journal.proofs.again.lent_room.Tie as tie
-use Rattle.journal.proofs.again.lent_room.Reads as reads
-use Rattle.journal.proofs.again.lent_room.Lts as lts
-use Rattle.journal.proofs.records.room.Reads as room-reads
 
--- src/again.rt:96:16
-room-requires : tie.Need-room-requires
-room-requires c κs = search needs
-
--- src/again.rt:96:16
-cast-room : tie.Need-cast-room
-cast-room c = search needs
-
--- src/again.rt:98:9
 returns : tie.Need-returns
-returns c = ?
+unfolding lentRoom
+returns c = rw (← c .before .room .ensures, lt-ltb _ _ (c .if1 .taken))
 
--- src/again.rt:92:1
 returns-2 : tie.Need-returns-2
-returns-2 c = ?
+unfolding lentRoom
+returns-2 c = rw (← c .before .room .ensures, le-ltb _ _ (c .if1 .left))
 
 pub lent-room-spec : {M : Type 1} → statement M
-lent-room-spec = tie.close (tie.spec room-requires cast-room returns returns-2)
+lent-room-spec =
+    tie.close
+    (tie.spec
+    (λ c κs. search needs) (λ c. search needs) returns returns-2)
