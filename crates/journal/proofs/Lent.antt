@@ -1,12 +1,12 @@
 -- A call within the limits gives the same whether it is lent the recorded room or no more than the longest output.
 -- Assumes nothing.
 use mathlib.Core.Path.{_≡_, refl, sym, ap, _∙_}
-use mathlib.Core.Bool.{Bool, true, false}
+use mathlib.Core.Bool.{Bool, true, false, cond}
 use mathlib.Core.List.{List, [], _++_, append-assoc, append-nil}
 use Prim.Native.Nat.{ℕ, _+_, _≤_, _<_}
 use native.Mathlib.Omega.{arith}
 use lib.Dec.{ltb}
-use lib.ListN.{length, take, drop, replicate, length-replicate}
+use lib.ListN.{length, take, drop, replicate, length-replicate, length-append, length-drop}
 use lib.Seq.{take-at}
 use borrow.Author.Tests.{ltb-false, ltb-true, lt-ltb, le-ltb}
 use Rattle.walk.specs.Outcome.{Head, Outcome, leaving, keyed, refuse}
@@ -142,3 +142,19 @@ module _ (c : Sm4Cipher) (e : Entry) where
           let l : a .length ≡ recomputed c e .head .size = x .size ∙ ap (λ (h : Head). h .size) lent-head in
           let r : take (a .length) (p ++ rest) ≡ result (recomputed c e) = rw (x .size, x .bytes) (lent-result rest) in
           rw (y, r, n, l)
+
+      pub lent-length : length (callInto c e o .bytes) ≡ length o
+      lent-length =
+          let g = gives (length o) (length o) (λ h. h) in
+          let h = g .fits in
+          let k = g .sized in
+          let d = length-drop (length (g .front)) o in
+          rw (into-is o, g .leaves o, length-append) (omega arith)
+
+pub lent-most : (e : Entry) → lentRoom e ≤ outputLimit
+unfolding lentRoom
+lent-most e = by-test (ltb outputLimit (e .room)) refl
+  where
+    by-test : (t : Bool) → ltb outputLimit (e .room) ≡ t → cond t outputLimit (e .room) ≤ outputLimit
+    by-test true x = omega arith
+    by-test false x = omega (arith, ltb-false outputLimit (e .room) x)

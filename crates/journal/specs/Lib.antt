@@ -1,3 +1,4 @@
 pub mod Format
 pub mod KeyList
 pub mod Recomputed
+pub mod Reports

@@ -2,3 +2,4 @@
 mod again;
 pub mod keys;
 pub mod records;
+pub mod report;
