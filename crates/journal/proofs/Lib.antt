@@ -3,3 +3,5 @@ pub mod KeyTurns
 pub mod Given
 pub mod Limits
 pub mod Lent
+pub mod Counting
+pub mod Replaying

@@ -150,6 +150,10 @@ module _ (b : List ℕ) where
         let n = size-is in
         omega arith
 
+    pub data-within : 27 + length (front b .«data») ≤ sizeAt b
+    unfolding front
+    data-within = omega (arith, size-sum)
+
   -- a size of 0 tells that none stands, and another that one does
   none-by : (s : Bool) → startsRecord b ≡ s → sizeAt b ≡ 0 → startsRecord b ≡ false
   none-by true f z = let n = size-sum (stands f) in absurd (omega arith)

@@ -2,3 +2,4 @@ pub mod Format
 pub mod KeyList
 pub mod Recomputed
 pub mod Reports
+pub mod Replay

@@ -1,6 +1,6 @@
 -- The report of a replay, and what one more record makes of it.
 use Prim.Native.Nat.{ℕ, suc, _+_, _≤_}
-use mathlib.Core.Bool.{Bool, true, false, not, _&&_, cond}
+use mathlib.Core.Bool.{Bool, true, false, cond}
 use mathlib.Core.List.{List}
 use lib.Dec.{ltb}
 use lib.ListN.{length, getD, set, replicate}
@@ -32,7 +32,7 @@ modePlace mode = cond (ltb 4 mode) 5 mode
 
 -- the first difference, where the record at a place, with so many before it, differs or does not
 abbrev pub firstOf : Bool → ℕ → ℕ → Difference → Difference
-firstOf differs records place d = cond (differs && not (d .found)) (record { found = true; index = records; place = place }) d
+firstOf differs records place d = cond (d .found) d (cond differs (record { found = true; index = records; place = place }) d)
 
 -- one more record at a place: the entry e, which was judged x
 unfoldable pub counted : Entry → Recomputed → ℕ → Report → Report

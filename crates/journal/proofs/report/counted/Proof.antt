@@ -1,80 +1,89 @@
+-- `report::counted` meets its contract, field by field. No sum wraps, since every count is at most the place.
+-- Assumes nothing.
+use mathlib.Core.Path.{_≡_, refl, ap, _∙_}
+use mathlib.Core.List.{List}
+use Prim.Native.Nat.{ℕ, suc, _+_, _≤_, _<_, _^_}
+use native.Mathlib.Omega.{arith}
+use denote.Ref.{now}
+use lib.ListN.{length, getD}
+use Rattle.block.proofs.Entries.{below-at}
+use Rattle.journal.specs.Format.{front, sizeAt}
+use Rattle.journal.specs.Reports.{oneMore, modePlace, counted}
+use Rattle.journal.specs.declared.report.Difference.{Difference}
+use Rattle.journal.specs.declared.report.Report.{Report}
+use Rattle.journal.proofs.Standing.{stands, size-within, data-within}
+use Rattle.journal.proofs.Counting.{mode-below-6}
 use borrow.Author.Needs.{needs}
 use Rattle.journal.proofs.report.counted.Statement.{statement}
 use Rattle.journal.proofs.report.counted.Tie as tie
-use Rattle.journal.proofs.report.counted.Reads as reads
-use Rattle.journal.proofs.report.counted.Lts as lts
-use Rattle.journal.proofs.records.data.Reads as data-reads
-use Rattle.journal.proofs.records.mode.Reads as mode-reads
-use Rattle.journal.proofs.report.first_of.Reads as first-of-reads
-use Rattle.journal.proofs.report.mode_place.Reads as mode-place-reads
-use Rattle.journal.proofs.report.one_more.Reads as one-more-reads
 
--- src/report.rt:90:14
-slice-aggregate-one-more : tie.Need-slice-aggregate-one-more
-slice-aggregate-one-more c = search needs
+same-report : {n n′ i i′ o o′ : ℕ} {m m′ a a′ : List ℕ} {d d′ : Difference} → n ≡ n′ → m ≡ m′ → a ≡ a′ → i ≡ i′ → o ≡ o′ → d ≡ d′
+    → _≡_ {A = Report} (record { records = n; «by_mode» = m; «by_answer» = a; «bytes_in» = i; «bytes_out» = o; first = d })
+    (record { records = n′; «by_mode» = m′; «by_answer» = a′; «bytes_in» = i′; «bytes_out» = o′; first = d′ })
+same-report p q u v w x = rw (p, q, u, v, w, x)
 
--- src/report.rt:90:39
-mode-requires : tie.Need-mode-requires
-mode-requires c κs = search needs
+-- the place behind the record fits
+room : (S : tie.Start) → S .args .place + (27 + length (front (now (S .args .s)) .«data»)) < 2 ^ 64
+room S =
+    let b = now (S .args .s) in
+    let s = stands b (S .pre .0) in
+    let w = size-within b s in
+    let d = data-within b s in
+    omega (arith, S .pre .1 .1 .1 .1)
 
--- src/report.rt:90:28
-mode-place-requires : tie.Need-mode-place-requires
-mode-place-requires c κs = search needs
-
--- src/report.rt:90:5
 one-more-requires : tie.Need-one-more-requires
-one-more-requires c κs = ?
+one-more-requires c κs =
+    let S = c .before .before .before .before .before in
+    let r = S .args .r in
+    let i = c .mode-place .result in
+    let six : length (r .«by_mode») ≡ 6 = search needs in
+    let inside : i < 6 = rw (c .mode-place .ensures) (mode-below-6 (c .before .mode .result)) in
+    let small = below-at (suc (S .args .place)) (r .«by_mode») (omega arith) (S .pre .1 .1 .1 .0 .byMode) i in
+    let fits = room S in
+    (omega arith, omega arith)
 
--- src/report.rt:92:14
-slice-aggregate-one-more-2 : tie.Need-slice-aggregate-one-more-2
-slice-aggregate-one-more-2 c = search needs
-
--- src/report.rt:92:30
-cast-one-more : tie.Need-cast-one-more
-cast-one-more c = search needs
-
--- src/report.rt:92:5
 one-more-requires-2 : tie.Need-one-more-requires-2
-one-more-requires-2 c κs = ?
+one-more-requires-2 c κs =
+    let S = c .before .before .before .before .before .before .before .before .before .before in
+    let r = S .args .r in
+    let n : length (r .«by_answer») ≡ 27 = search needs in
+    let inside = S .pre .1 .0 in
+    let small = below-at (suc (S .args .place)) (r .«by_answer») (omega arith) (S .pre .1 .1 .1 .0 .byAnswer) (S .args .x .number) in
+    let fits = room S in
+    (omega arith, omega arith)
 
--- src/report.rt:95:18
 add-t15 : tie.Need-add-t15
-add-t15 c = ?
+add-t15 c =
+    let S = c .before .before .before .before .before .before .before .before .before .before .before .before .before .before in
+    omega (arith, room S, S .pre .1 .1 .1 .0 .records)
 
--- src/report.rt:98:32
-data-requires : tie.Need-data-requires
-data-requires c κs = search needs
-
--- src/report.rt:98:19
 add-t20 : tie.Need-add-t20
-add-t20 c = ?
+add-t20 c =
+    let at-data = c .before in
+    let S = at-data .before .before .before .before .before .before .before .before .before .before .before .before .before .before .before in
+    omega (arith, room S, S .pre .1 .1 .1 .0 .bytesIn, ap length (at-data .«data» .ensures))
 
--- src/report.rt:99:20
 add-t22 : tie.Need-add-t22
-add-t22 c = ?
+add-t22 c =
+    let at-data = c .before .before in
+    let S = at-data .before .before .before .before .before .before .before .before .before .before .before .before .before .before .before in
+    omega (arith, room S, S .pre .1 .1 .1 .0 .bytesOut, S .pre .1 .1 .0)
 
--- src/report.rt:100:16
-first-of-requires : tie.Need-first-of-requires
-first-of-requires c κs = search needs
-
--- src/report.rt:81:1
 returns : tie.Need-returns
-returns c = ?
+unfolding counted
+returns c =
+    let at-data = c .before .before .before in
+    let at-answer = at-data .before .before .before .before in
+    let at-mode-count = at-answer .before .before .before .before .before in
+    let at-place = at-mode-count .before in
+    let r = at-place .before .before .before .before .before .args .r in
+    same-report refl
+    (at-mode-count .one-more .ensures
+    ∙ ap (λ (i : ℕ). oneMore i (r .«by_mode»)) (at-place .mode-place .ensures ∙ ap modePlace (at-place .before .mode .ensures)))
+    (at-answer .one-more2 .ensures) (ap (λ (l : List ℕ). r .«bytes_in» + length l) (at-data .«data» .ensures)) refl (c .first-of .ensures)
 
 pub counted-spec : {M : Type 1} → statement M
 counted-spec =
     tie.close
     (tie.spec
-    slice-aggregate-one-more
-    mode-requires
-    mode-place-requires
-    one-more-requires
-    slice-aggregate-one-more-2
-    cast-one-more
-    one-more-requires-2
-    add-t15
-    data-requires
-    add-t20
-    add-t22
-    first-of-requires
-    returns)
+    (λ c. search needs) (λ c κs. search needs) (λ c κs. search needs) one-more-requires (λ c. search needs) (λ c. search needs) one-more-requires-2 add-t15 (λ c κs. search needs) (λ c. search needs) add-t20 (λ c. search needs) add-t22 (λ c κs. search needs) returns)

@@ -1,20 +1,21 @@
+-- `report::first_of` meets its contract, by the tests that led there.
+-- Assumes nothing.
+use Rattle.journal.specs.Reports.{firstOf}
 use borrow.Author.Needs.{needs}
 use Rattle.journal.proofs.report.first_of.Statement.{statement}
 use Rattle.journal.proofs.report.first_of.Tie as tie
-use Rattle.journal.proofs.report.first_of.Reads as reads
-use Rattle.journal.proofs.report.first_of.Lts as lts
 
--- src/report.rt:68:9
 returns : tie.Need-returns
-returns c = ?
+returns c = rw (c .if1 .taken)
 
--- src/report.rt:71:9
 returns-2 : tie.Need-returns-2
-returns-2 c = ?
+returns-2 c = rw (c .before .if1 .left, c .if2 .taken)
 
--- src/report.rt:64:1
 returns-3 : tie.Need-returns-3
-returns-3 c = search needs
+returns-3 c = rw (c .before .if1 .left, c .if2 .left)
 
 pub first-of-spec : {M : Type 1} → statement M
-first-of-spec = tie.close (tie.spec returns returns-2 returns-3)
+first-of-spec =
+    tie.close
+    (tie.spec
+    returns returns-2 returns-3)

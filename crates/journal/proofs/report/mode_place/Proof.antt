@@ -1,15 +1,19 @@
+-- `report::mode_place` meets its contract, by the test that led there.
+-- Assumes nothing.
+use borrow.Author.Tests.{lt-ltb, le-ltb}
+use Rattle.journal.specs.Reports.{modePlace}
+use borrow.Author.Needs.{needs}
 use Rattle.journal.proofs.report.mode_place.Statement.{statement}
 use Rattle.journal.proofs.report.mode_place.Tie as tie
-use Rattle.journal.proofs.report.mode_place.Reads as reads
-use Rattle.journal.proofs.report.mode_place.Lts as lts
 
--- src/report.rt:51:9
 returns : tie.Need-returns
-returns c = ?
+returns c = rw (lt-ltb _ _ (c .if1 .taken))
 
--- src/report.rt:47:1
 returns-2 : tie.Need-returns-2
-returns-2 c = ?
+returns-2 c = rw (le-ltb _ _ (c .if1 .left))
 
 pub mode-place-spec : {M : Type 1} → statement M
-mode-place-spec = tie.close (tie.spec returns returns-2)
+mode-place-spec =
+    tie.close
+    (tie.spec
+    returns returns-2)
