@@ -9,10 +9,12 @@ use native.Mathlib.Numerals.{add-one}
 use lib.Dec.{eqb, ltb}
 use lib.ListN.{length, getD, take, drop, drop-of-length-le, length-drop}
 use lib.Seq.{drop-cons, getD-take, length-take-le}
+use borrow.Author.Tests.{ltb-false}
 use Rattle.cipher_mode.specs.declared.KeyAnswer.the-variants.{ErrorBlockSize}
 use Rattle.cipher_mode.specs.declared.Sm4Cipher.{Sm4Cipher}
 use Rattle.cipher_mode.specs.Key.{noCipher, keyNumber}
 use Rattle.journal.specs.declared.keys.Keys.{Keys}
+use Rattle.journal.proofs.Limits.{neither}
 use Rattle.journal.specs.KeyList.{keysIn, placeOf, hasNumber, keyAt, anyRetired, numberTwice, badKeys}
 
 -- inside a list no default counts
@@ -57,3 +59,7 @@ module _ (cs : List Sm4Cipher) (i : ℕ) where
     pub twice-end : numberTwice (drop i cs) ≡ false
     unfolding numberTwice
     twice-end = rw (drop-of-length-le cs past)
+
+pub few-keys : (k : Keys) → badKeys k ≡ false → k .count ≤ 8
+unfolding badKeys
+few-keys k e = ltb-false 8 (k .count) (neither (ltb 8 (k .count)) _ e .0)

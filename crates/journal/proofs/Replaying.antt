@@ -8,6 +8,7 @@ use native.Mathlib.Omega.{arith}
 use lib.Dec.{eqb, ltb}
 use lib.ListN.{length, drop, length-drop}
 use borrow.Author.Tests.{eqb-true, eq-eqb, ne-eqb}
+use Rattle.walk.proofs.Loop.{tailed, tail-is}
 use Rattle.cipher_mode.specs.declared.Sm4Cipher.{Sm4Cipher}
 use Rattle.journal.specs.Format.{startsRecord, sizeAt, front, tooLong}
 use Rattle.journal.specs.KeyList.{hasNumber, keyOf}
@@ -116,3 +117,13 @@ module _ (ks : List Sm4Cipher) (b : List ℕ) (place : ℕ) (r : Report) where
       one-step (length b - 1) (omega arith) ∙ rw (eq-eqb _ 0 e)
       (enough (length b - 1) (length (drop (sizeAt b) b)) ks (drop (sizeAt b) b) (place + sizeAt b) (replayOne ks b place r .report)
       (omega arith) (omega arith))
+
+  -- a turn: the record in front was measured and replayed
+  module _ (n : ℕ) (one : Replayed) (size : n ≡ sizeAt b) (replayed : one ≡ replayOne ks b place r)
+      (counted-there : numberOfEnd (replayOne ks b place r .ended) ≡ 0) where
+    pub turn-within : Within place r → Within (place + n) (one .report)
+    turn-within w = rw (size, replayed) (one-within ks b place r counted-there w)
+
+    -- what is to come is written as the borrow checker has it
+    pub turn-from : 0 < length b → replayFrom ks (tailed n b) (place + n) (one .report) ≡ replayFrom ks b place r
+    turn-from h = rw (tail-is b n, size, replayed) (sym (from-on h counted-there))
