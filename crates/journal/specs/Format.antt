@@ -132,7 +132,7 @@ front b =
       iv = partAt (fromIv b);
       room = wordAt (fromRoom b) 0;
       number = getD (fromRoom b) 4 0;
-      output = partAt (fromOutput b)
+      output = partAt (fromOutput b);
     }
 
 -- label, data and IV have at most 16,384 bytes, and an output 16,400; the room may be any

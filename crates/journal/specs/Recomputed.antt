@@ -50,7 +50,7 @@ judged e x =
     record {
       number = x .head .number;
       length = x .head .size;
-      differs = differsFrom e (x .head .number) (x .head .size) (result x)
+      differs = differsFrom e (x .head .number) (x .head .size) (result x);
     }
 
 -- what the code lends in place of the recorded room, since no call within the limits needs more

@@ -19,7 +19,7 @@ nothing =
       «by_answer» = replicate 27 0;
       «bytes_in» = 0;
       «bytes_out» = 0;
-      first = record { found = false; index = 0; place = 0 }
+      first = record { found = false; index = 0; place = 0 };
     }
 
 -- one more at place i
@@ -43,7 +43,7 @@ counted e x place r =
       «by_answer» = oneMore (x .number) (r .«by_answer»);
       «bytes_in» = r .«bytes_in» + length (e .«data»);
       «bytes_out» = r .«bytes_out» + x .length;
-      first = firstOf (x .differs) (r .records) place (r .first)
+      first = firstOf (x .differs) (r .records) place (r .first);
     }
 
 -- no count is above n

@@ -10,6 +10,7 @@ use cipher_mode::Direction;
 
 // Mark, direction, mode and key number; then, behind the IV, room and number.
 pub(crate) const HEAD: usize = 6;
+
 pub(crate) const MIDDLE: usize = 5;
 
 // The bytes of a length.
@@ -17,6 +18,7 @@ pub(crate) const LENGTH: usize = 4;
 
 // The most bytes of a label, of data or of an IV, and of an output.
 pub(crate) const PART_LIMIT: usize = 16384;
+
 pub(crate) const OUTPUT_LIMIT: usize = 16400;
 
 // Whether a part stands whole at the front of `s`. What its length says is compared with what is left, so no sum wraps.
