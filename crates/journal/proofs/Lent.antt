@@ -72,8 +72,8 @@ module _ (c : Sm4Cipher) (e : Entry) where
   gives room most h =
       bad-gives most (ltb 4 (e .mode)) _
       (λ z.
-        call-gives most (keyNumber c) (told room) mode (e .direction) (c .rk) (e .label) (e .«data») (e .iv)
-        (λ p. let q = message-passed _ _ _ _ _ p in (q .iv-size, q .content, h (q .room))))
+      call-gives most (keyNumber c) (told room) mode (e .direction) (c .rk) (e .label) (e .«data») (e .iv)
+      (λ p. let q = message-passed _ _ _ _ _ p in (q .iv-size, q .content, h (q .room))))
 
   -- of any room
   pub recomputed-known : recomputed c e .head .number < 27
@@ -85,6 +85,14 @@ module _ (c : Sm4Cipher) (e : Entry) where
   recomputed-size =
       rw (into-is (replicate (e .room) 0))
       (given-size _ _ (gives (length (replicate (e .room) 0)) (16 + length (e .«data»)) (λ h. room-16 mode (e .direction) (length (e .«data»)))) (replicate (e .room) 0))
+
+  pub result-size : length (result (recomputed c e)) ≡ recomputed c e .head .size
+  result-size =
+      let o : List ℕ = replicate (e .room) 0 in
+      let g = gives (length o) (16 + length (e .«data»)) (λ h. room-16 mode (e .direction) (length (e .«data»))) in
+      let r = given-result _ _ g o [] in
+      rw (into-is o)
+      (rw (← append-nil (called (length o) o .bytes)) (ap length r ∙ g .sized) ∙ sym (ap (λ (x : Outcome). x .head .size) (g .leaves o)))
 
   module _ (short : tooLong e ≡ false) where
     needs-little : needed ≤ outputLimit
@@ -111,7 +119,7 @@ module _ (c : Sm4Cipher) (e : Entry) where
           into-is o
           ∙ ap {B = Outcome}
           (λ (x : Checked). refuse (ltb 4 (e .mode)) 7 o
-            (keyed (keyNumber c) (checked x o (modeResult mode (e .direction) (c .rk) (e .label) (e .«data») (e .iv) o))))
+          (keyed (keyNumber c) (checked x o (modeResult mode (e .direction) (c .rk) (e .label) (e .«data») (e .iv) o))))
           (same-told (length o) (e .room) (ap (λ (n : ℕ). ltb n needed) size ∙ lent-enough))
 
       room-called : recomputed c e ≡ called (e .room) (replicate (e .room) 0)

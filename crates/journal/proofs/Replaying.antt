@@ -87,11 +87,11 @@ enough (suc n) (suc m) ks b place r h k =
     ap {B = Replayed} (λ (x : Replayed). cond (eqb (length b) 0) (done r) x)
     (same-where (eqb (numberOfEnd (replayOne ks b place r .ended)) 0) _ _ (replayOne ks b place r)
     (λ e.
-      let s = one-stands ks b place r (eqb-true (numberOfEnd (replayOne ks b place r .ended)) 0 e) in
-      let w = size-within b s in
-      let d = data-within b s in
-      let l = length-drop (sizeAt b) b in
-      enough n m ks (drop (sizeAt b) b) (place + sizeAt b) (replayOne ks b place r .report) (omega arith) (omega arith)))
+    let s = one-stands ks b place r (eqb-true (numberOfEnd (replayOne ks b place r .ended)) 0 e) in
+    let w = size-within b s in
+    let d = data-within b s in
+    let l = length-drop (sizeAt b) b in
+    enough n m ks (drop (sizeAt b) b) (place + sizeAt b) (replayOne ks b place r .report) (omega arith) (omega arith)))
 
 module _ (ks : List Sm4Cipher) (b : List ℕ) (place : ℕ) (r : Report) where
   pub from-end : length b ≡ 0 → replayFrom ks b place r ≡ done r

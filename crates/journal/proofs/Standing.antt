@@ -32,8 +32,8 @@ end-of-end t u b x y =
     record {
       shorter = omega arith;
       behind =
-        x .behind ∙ ap (drop (length u - length t)) (y .behind) ∙ drop-drop (length u - length t) (length b - length u) b
-        ∙ ap (λ (i : ℕ). drop i b) n;
+          x .behind ∙ ap (drop (length u - length t)) (y .behind) ∙ drop-drop (length u - length t) (length b - length u) b
+          ∙ ap (λ (i : ℕ). drop i b) n;
     }
 
 -- a part

@@ -71,7 +71,13 @@ fn call_into(cipher: Sm4Cipher, s: &[u8], out: &mut [u8]) -> Answered
     let mode = mode_of(number);
     let under = Sm4CipherMode { cipher, mode };
     let direction = records::direction(s);
-    told(under.call(direction, records::label(s), records::data(s), records::iv(s), out))
+    told(under.call(
+        direction,
+        records::label(s),
+        records::data(s),
+        records::iv(s),
+        out,
+    ))
 }
 
 fn differs(s: &[u8], answered: Answered, result: &[u8]) -> bool

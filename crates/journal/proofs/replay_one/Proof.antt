@@ -89,11 +89,16 @@ counted-requires c κs =
     let S = start x in
     let else2 = x .before .before in
     let e = front (now (S .args .s)) in
-    let cipher = c .before .at .result in
-    (starts (else2 .before .before),
-      (rw (c .recompute .ensures) (recomputed-known cipher e),
-      (rw (c .recompute .ensures) (recomputed-size cipher e),
-      (S .pre .1 .0, S .pre .1 .1))))
+    let cipher = c .before .at .result in (
+      starts (else2 .before .before),
+      (
+        rw (c .recompute .ensures) (recomputed-known cipher e),
+        (
+          rw (c .recompute .ensures) (recomputed-size cipher e),
+          (S .pre .1 .0, S .pre .1 .1),
+        ),
+      ),
+    )
 
 returns-4 : tie.Need-returns-4
 returns-4 c =

@@ -28,7 +28,7 @@ returns-3 c =
       eq-eqb _ _ (equal .if1 .left),
       ← at-output .output .ensures,
       eq-eqb _ _ (long .if2 .left),
-      ← c .alike .ensures
+      ← c .alike .ensures,
     )
 
 pub differs-spec : {M : Type 1} → statement M

@@ -77,8 +77,8 @@ returns-7 c =
     let at-output = c .before .before in
     not-standing _
     (λ s.
-      clash _ (rw (tail-is (now (at-output .before .before .behind3 .result)) 5, output-is at-output) (s .output))
-      (sym (c .before .starts-part4 .ensures) ∙ not-true _ (c .if7 .taken)))
+    clash _ (rw (tail-is (now (at-output .before .before .behind3 .result)) 5, output-is at-output) (s .output))
+    (sym (c .before .starts-part4 .ensures) ∙ not-true _ (c .if7 .taken)))
 
 behind-requires-4 : tie.Need-behind-requires-4
 behind-requires-4 c κs = sym (c .before .starts-part4 .ensures) ∙ not-false _ (c .if7 .left)
@@ -101,8 +101,8 @@ whole x =
       iv = rw (← iv-is (else5 .before .before)) (sym (else5 .before .starts-part3 .ensures) ∙ not-false _ (else5 .if5 .left));
       middle = rw (← room-is at-room) (omega arith);
       output =
-        rw (← output-is at-output, ← tail-is (now (at-room .behind3 .result)) 5)
-        (sym (x .before .starts-part4 .ensures) ∙ not-false _ (x .if7 .left));
+          rw (← output-is at-output, ← tail-is (now (at-room .behind3 .result)) 5)
+          (sym (x .before .starts-part4 .ensures) ∙ not-false _ (x .if7 .left));
     }
 
 after-is : (x : tie.After-behind4)
