@@ -86,6 +86,14 @@ module _ (c : Sm4Cipher) (e : Entry) where
       rw (into-is (replicate (e .room) 0))
       (given-size _ _ (gives (length (replicate (e .room) 0)) (16 + length (e .«data»)) (λ h. room-16 mode (e .direction) (length (e .«data»)))) (replicate (e .room) 0))
 
+  pub result-size : length (result (recomputed c e)) ≡ recomputed c e .head .size
+  result-size =
+      let o : List ℕ = replicate (e .room) 0 in
+      let g = gives (length o) (16 + length (e .«data»)) (λ h. room-16 mode (e .direction) (length (e .«data»))) in
+      let r = given-result _ _ g o [] in
+      rw (into-is o)
+      (rw (← append-nil (called (length o) o .bytes)) (ap length r ∙ g .sized) ∙ sym (ap (λ (x : Outcome). x .head .size) (g .leaves o)))
+
   module _ (short : tooLong e ≡ false) where
     needs-little : needed ≤ outputLimit
     needs-little =

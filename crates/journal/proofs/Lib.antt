@@ -5,3 +5,6 @@ pub mod Given
 pub mod Lent
 pub mod Counting
 pub mod Replaying
+pub mod BothWays
+pub mod Sums
+pub mod Agrees

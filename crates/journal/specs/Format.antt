@@ -142,9 +142,13 @@ partLimit = 16384
 abbrev pub outputLimit : ℕ
 outputLimit = 16400
 
-unfoldable pub tooLong : Entry → Bool
-tooLong e =
-    ltb partLimit (length (e .label))
-    || (ltb partLimit (length (e .«data»))
-    || (ltb partLimit (length (e .iv))
-    || ltb outputLimit (length (e .output))))
+-- whether so many bytes of label, data, IV and output are too many
+unfoldable pub pastLimit : ℕ → ℕ → ℕ → ℕ → Bool
+pastLimit label d iv output =
+    ltb partLimit label
+    || (ltb partLimit d
+    || (ltb partLimit iv
+    || ltb outputLimit output))
+
+abbrev pub tooLong : Entry → Bool
+tooLong e = pastLimit (length (e .label)) (length (e .«data»)) (length (e .iv)) (length (e .output))

@@ -53,6 +53,21 @@ judged e x =
       differs = differsFrom e (x .head .number) (x .head .size) (result x);
     }
 
+-- the entry of the same call with the answer x
+abbrev pub answeredBy : Outcome → Entry → Entry
+answeredBy x e =
+    record {
+      direction = e .direction;
+      mode = e .mode;
+      key = e .key;
+      label = e .label;
+      «data» = e .«data»;
+      iv = e .iv;
+      room = e .room;
+      number = x .head .number;
+      output = result x;
+    }
+
 -- what the code lends in place of the recorded room, since no call within the limits needs more
 unfoldable pub lentRoom : Entry → ℕ
 lentRoom e = cond (ltb outputLimit (e .room)) outputLimit (e .room)

@@ -1,7 +1,8 @@
 -- The report of a replay, and what one more record makes of it.
 use Prim.Native.Nat.{ℕ, suc, _+_, _≤_}
+use mathlib.Core.Path.{_≡_}
 use mathlib.Core.Bool.{Bool, true, false, cond}
-use mathlib.Core.List.{List}
+use mathlib.Core.List.{List, [], _∷_}
 use lib.Dec.{ltb}
 use lib.ListN.{length, getD, set, replicate}
 use Rattle.block.specs.Below.{Below}
@@ -53,3 +54,14 @@ pub record Within (n : ℕ) (r : Report) : Type 0 where
   pub byAnswer : Below (suc n) (r .«by_answer»)
   pub bytesIn : r .«bytes_in» ≤ n
   pub bytesOut : r .«bytes_out» ≤ n
+
+unfoldable pub total : List ℕ → ℕ
+total [] = 0
+total (n ∷ ns) = n + total ns
+
+-- the calls by mode, and those by answer, sum to the records
+pub record AddsUp (r : Report) : Type 0 where
+  pub modes : length (r .«by_mode») ≡ 6
+  pub answers : length (r .«by_answer») ≡ 27
+  pub byMode : total (r .«by_mode») ≡ r .records
+  pub byAnswer : total (r .«by_answer») ≡ r .records

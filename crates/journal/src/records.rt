@@ -5,7 +5,7 @@ ghost use mathlib.Core.List.{[], _∷_};
 ghost use Prim.Native.Nat.{_≤_};
 ghost use lib.ListN.{length, drop};
 ghost use Rattle.block.specs.BigEndian.{numberOf};
-ghost use Rattle.journal.specs.Format.{startsPart, partAt, behind, fromData, fromIv, fromRoom, fromOutput, marked, startsRecord, sizeAt, front, tooLong};
+ghost use Rattle.journal.specs.Format.{startsPart, partAt, behind, fromData, fromIv, fromRoom, fromOutput, marked, startsRecord, sizeAt, front, pastLimit, tooLong};
 use cipher_mode::Direction;
 
 // Mark, direction, mode and key number; then, behind the IV, room and number.
@@ -198,19 +198,26 @@ pub(crate) fn output(s: &[u8]) -> &[u8]
     part_at(from_output(s))
 }
 
+// Whether so many bytes of label, data, IV and output are too many.
+pub(crate) fn past_limit(label: usize, data: usize, iv: usize, output: usize) -> bool
+    ensures { λ r. ⌜ r ≡ pastLimit label «data» iv output ⌝ }
+{
+    if label > PART_LIMIT {
+        return true;
+    }
+    if data > PART_LIMIT {
+        return true;
+    }
+    if iv > PART_LIMIT {
+        return true;
+    }
+    output > OUTPUT_LIMIT
+}
+
 // Whether a part or the output is past its limit.
 pub(crate) fn too_long(s: &[u8]) -> bool
     requires { ⌜ startsRecord (now s) ≡ true ⌝ }
     ensures { λ r. ⌜ r ≡ tooLong (front (now (s .entry))) ⌝ }
 {
-    if label(s).len() > PART_LIMIT {
-        return true;
-    }
-    if data(s).len() > PART_LIMIT {
-        return true;
-    }
-    if iv(s).len() > PART_LIMIT {
-        return true;
-    }
-    output(s).len() > OUTPUT_LIMIT
+    past_limit(label(s).len(), data(s).len(), iv(s).len(), output(s).len())
 }
