@@ -1,19 +1,19 @@
 -- A call that is recorded as it was answered agrees when it is replayed.
 -- Assumes nothing.
 use mathlib.Core.Path.{_≡_, refl, sym, ap, _∙_}
-use mathlib.Core.Bool.{Bool, true, false}
-use mathlib.Core.List.{List, [], _++_, append-nil}
-use Prim.Native.Nat.{ℕ, _+_, _≤_, _<_}
+use mathlib.Core.Bool.{true, false}
+use mathlib.Core.List.{[], _++_, append-nil}
+use Prim.Native.Nat.{_+_}
 use native.Mathlib.Omega.{arith}
-use lib.ListN.{length, drop, take}
+use lib.ListN.{length, drop}
 use borrow.Author.Tests.{eq-eqb}
 use Rattle.block.proofs.Same.{same-refl}
 use Rattle.cipher_mode.specs.declared.Sm4Cipher.{Sm4Cipher}
-use Rattle.journal.specs.Format.{Entry, Proper, written, afterRecord, startsRecord, sizeAt, front, tooLong}
+use Rattle.journal.specs.Format.{Entry, Proper, written, sizeAt, tooLong}
 use Rattle.journal.specs.KeyList.{keysIn, hasNumber, keyOf, badKeys}
 use Rattle.journal.specs.Recomputed.{callInto, recomputed, result, differsFrom, judged, answeredBy}
 use Rattle.journal.specs.Reports.{nothing, counted}
-use Rattle.journal.specs.Replay.{numberOfEnd, done, countedUnder, replayOne, replayFrom, replay}
+use Rattle.journal.specs.Replay.{done, countedUnder, replayOne, replayFrom, replay}
 use Rattle.journal.specs.declared.keys.Keys.{Keys}
 use Rattle.journal.specs.declared.Replayed.{Replayed}
 use Rattle.journal.proofs.Standing.{stands, size-sum, size-within, behind-size}

@@ -1,9 +1,9 @@
 -- Reading and writing a record are each other's inverse.
 -- Assumes nothing.
 use mathlib.Core.Path.{_≡_, refl, sym, ap, ap₂, _∙_}
-use mathlib.Core.Bool.{Bool, true, false}
+use mathlib.Core.Bool.{true}
 use mathlib.Core.List.{List, [], _∷_, _++_, append-assoc}
-use Prim.Native.Nat.{ℕ, zero, suc, _+_, _-_, _≤_, _<_, _^_}
+use Prim.Native.Nat.{ℕ, zero, suc, _+_, _≤_, _<_}
 use native.Mathlib.Nat.{mod-eq-of-lt}
 use native.Mathlib.Omega.{arith}
 use lib.Dec.{eqb, leb, lit<}
@@ -11,7 +11,7 @@ use lib.ListN.{length, getD, take, drop, length-append, take-append-drop}
 use lib.Seq.{take-at, drop-at, take-add, drop-drop}
 use borrow.Author.Tests.{eqb-true, leb-true}
 use Rattle.block.specs.Below.{AreBytes}
-use Rattle.block.specs.BigEndian.{numberOf, bytesOf}
+use Rattle.block.specs.BigEndian.{bytesOf}
 use Rattle.block.specs.Words.{wordAt}
 use Rattle.block.proofs.Convert.{length-bytesOf, numberOf-bytesOf, bytesOf-numberOf}
 use Rattle.block.proofs.Entries.{below-at, below-drop}
@@ -20,7 +20,7 @@ use Rattle.cipher_mode.specs.declared.Direction.{Direction}
 use Rattle.cipher_mode.specs.declared.Direction.the-variants.{Encrypt, Decrypt}
 use Rattle.journal.specs.Format.{Entry, ProperPart, Proper, directionByte, part, head, middle, written, startsPart, partAt, behind}
 use Rattle.journal.specs.Format.{fromLabel, fromData, fromIv, fromRoom, fromOutput, afterRecord, marked, startsRecord, sizeAt, directionOf, front}
-use Rattle.journal.proofs.Standing.{part-starts, part-fits, part-long, length-part, Stands, stands, starts, size-is, after-end}
+use Rattle.journal.proofs.Standing.{part-starts, part-long, length-part, Stands, stands, starts, size-is}
 
 -- a part that was written is read
 module _ (p rest : List ℕ) (proper : ProperPart p) where

@@ -8,19 +8,17 @@ use native.Mathlib.Omega.{arith}
 use lib.Dec.{ltb}
 use lib.ListN.{length, take, drop, replicate, length-replicate, length-append, length-drop}
 use lib.Seq.{take-at}
-use borrow.Author.Tests.{ltb-false, ltb-true, lt-ltb, le-ltb}
-use Rattle.walk.specs.Outcome.{Head, Outcome, leaving, keyed, refuse}
-use Rattle.walk.specs.Walk.{over}
+use borrow.Author.Tests.{ltb-false, ltb-true, le-ltb}
+use Rattle.walk.specs.Outcome.{Head, Outcome, keyed, refuse}
 use Rattle.cipher_mode.specs.declared.CipherMode.{CipherMode}
 use Rattle.cipher_mode.specs.declared.Sm4Cipher.{Sm4Cipher}
 use Rattle.cipher_mode.specs.declared.checks.Checked.{Checked}
-use Rattle.cipher_mode.specs.declared.checks.Checked.the-variants.{Passed}
 use Rattle.cipher_mode.specs.Key.{keyNumber}
 use Rattle.cipher_mode.specs.Tables.{roomOf}
 use Rattle.cipher_mode.specs.Checks.{roomCheck, messageCheck, checked}
 use Rattle.cipher_mode.specs.Calls.{modeResult, modeCall}
 use Rattle.cipher_mode.proofs.Passed.{message-passed}
-use Rattle.journal.specs.Format.{Entry, partLimit, outputLimit, tooLong}
+use Rattle.journal.specs.Format.{Entry, outputLimit, tooLong}
 use Rattle.journal.specs.Recomputed.{modeOf, callInto, recomputed, result, differsFrom, judged, lentRoom, Answers}
 use Rattle.journal.specs.declared.again.Answered.{Answered}
 use Rattle.journal.specs.declared.again.Recomputed.{Recomputed}

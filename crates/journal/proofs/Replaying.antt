@@ -2,22 +2,20 @@
 -- Assumes nothing.
 use mathlib.Core.Path.{_≡_, refl, sym, ap, _∙_}
 use mathlib.Core.Bool.{Bool, true, false, not, cond}
-use mathlib.Core.List.{List, []}
+use mathlib.Core.List.{List}
 use Prim.Native.Nat.{ℕ, zero, suc, _+_, _-_, _≤_, _<_}
 use native.Mathlib.Omega.{arith}
-use lib.Dec.{eqb, ltb}
+use lib.Dec.{eqb}
 use lib.ListN.{length, drop, length-drop}
 use borrow.Author.Tests.{eqb-true, eq-eqb, ne-eqb}
 use Rattle.walk.proofs.Loop.{tailed, tail-is}
 use Rattle.cipher_mode.specs.declared.Sm4Cipher.{Sm4Cipher}
 use Rattle.journal.specs.Format.{startsRecord, sizeAt, front, tooLong}
 use Rattle.journal.specs.KeyList.{hasNumber, keyOf}
-use Rattle.journal.specs.Recomputed.{recomputed, judged}
-use Rattle.journal.specs.Reports.{counted, Within}
+use Rattle.journal.specs.Reports.{Within}
 use Rattle.journal.specs.Replay.{numberOfEnd, done, refuse, countedUnder, replayOne, replayUpTo, replayFrom}
 use Rattle.journal.specs.declared.report.Report.{Report}
-use Rattle.journal.specs.declared.Ended.{Ended}
-use Rattle.journal.specs.declared.Ended.the-variants.{Done, BadRecord, TooLong, UnknownKey, BadKeys}
+use Rattle.journal.specs.declared.Ended.the-variants.{BadRecord, TooLong, UnknownKey}
 use Rattle.journal.specs.declared.Replayed.{Replayed}
 use Rattle.journal.proofs.Standing.{Stands, stands, size-within, data-within}
 use Rattle.journal.proofs.Lent.{recomputed-size}

@@ -10,7 +10,6 @@ use denote.Ref.{now}
 use lib.ListN.{length}
 use Rattle.cipher_mode.specs.declared.Sm4Cipher.{Sm4Cipher}
 use Rattle.walk.proofs.Loop.{length-tailed}
-use Rattle.journal.specs.Format.{sizeAt}
 use Rattle.journal.specs.KeyList.{keysIn, badKeys}
 use Rattle.journal.specs.Reports.{nothing, Within}
 use Rattle.journal.specs.Replay.{numberOfEnd, replayOne, replayFrom, replay}

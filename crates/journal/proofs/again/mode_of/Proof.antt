@@ -4,7 +4,6 @@ use mathlib.Core.Path.{_≡_, refl}
 use Prim.Native.Nat.{ℕ, zero, suc}
 use Rattle.cipher_mode.specs.declared.CipherMode.the-variants.{Gcm}
 use Rattle.journal.specs.Recomputed.{modeOf}
-use borrow.Author.Needs.{needs}
 use Rattle.journal.proofs.again.mode_of.Statement.{statement}
 use Rattle.journal.proofs.again.mode_of.Tie as tie
 

@@ -1,14 +1,12 @@
 -- `keys::any_retired` meets its contract. The loop's invariant: the keys to come decide. The measure is how many they are.
 -- Assumes nothing.
 use mathlib.Core.Path.{_≡_, refl, sym, ap, _∙_}
-use mathlib.Core.Bool.{Bool}
-use Prim.Native.Nat.{ℕ, _-_, _≤_, _<_}
+use Prim.Native.Nat.{_-_, _≤_, _<_}
 use native.Mathlib.Omega.{arith}
 use lib.ListN.{length, drop, length-map}
 use Rattle.cipher_mode.specs.declared.Sm4Cipher.{Sm4Cipher}
 use Rattle.journal.specs.KeyList.{keysIn, anyRetired}
 use Rattle.journal.proofs.KeyTurns.{count-keys, retired-turn, retired-end}
-use borrow.Author.Needs.{needs}
 use Rattle.journal.proofs.keys.any_retired.Statement.{statement}
 use Rattle.journal.proofs.keys.any_retired.Tie as tie
 

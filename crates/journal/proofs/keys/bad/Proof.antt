@@ -1,7 +1,6 @@
 -- `keys::bad` meets its contract: each return is the definition, by the tests that led there.
 -- Assumes nothing.
-use mathlib.Core.Path.{_≡_, sym, _∙_}
-use native.Mathlib.Omega.{arith}
+use mathlib.Core.Path.{sym, _∙_}
 use borrow.Author.Tests.{lt-ltb, le-ltb}
 use Rattle.journal.specs.KeyList.{badKeys}
 use borrow.Author.Needs.{needs}

@@ -8,7 +8,6 @@ use Rattle.cipher_mode.specs.declared.Direction.{Direction}
 use Rattle.cipher_mode.specs.declared.Direction.the-variants.{Decrypt}
 use Rattle.journal.specs.Format.{directionOf, front}
 use Rattle.journal.proofs.Standing.{stands}
-use borrow.Author.Needs.{needs}
 use Rattle.journal.proofs.records.direction.Statement.{statement}
 use Rattle.journal.proofs.records.direction.Tie as tie
 

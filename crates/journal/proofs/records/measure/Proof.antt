@@ -1,15 +1,15 @@
 -- `records::measure` meets its contract. Each early return is by the test that failed; where none did, the record stands whole.
 -- Assumes nothing.
 use mathlib.Core.Path.{_≡_, sym, ap, _∙_}
-use mathlib.Core.Bool.{true, false}
-use Prim.Native.Nat.{ℕ, _-_, _≤_, _<_}
+use mathlib.Core.Bool.{true}
+use Prim.Native.Nat.{_≤_}
 use native.Mathlib.Omega.{arith}
 use denote.Ref.{now}
 use lib.ListN.{length, drop}
 use borrow.Author.Tests.{not-true, not-false}
 use Rattle.walk.proofs.Loop.{tail-is}
 use Rattle.journal.specs.Format.{startsPart, behind, fromLabel, fromData, fromIv, fromRoom, fromOutput, afterRecord, marked}
-use Rattle.journal.proofs.Standing.{Stands, clash, not-standing, size-is, after-end, IsEnd}
+use Rattle.journal.proofs.Standing.{Stands, clash, not-standing, size-is, after-end}
 use borrow.Author.Needs.{needs}
 use Rattle.journal.proofs.records.measure.Statement.{statement}
 use Rattle.journal.proofs.records.measure.Tie as tie

@@ -5,7 +5,6 @@ use native.Mathlib.Omega.{arith}
 use denote.Ref.{now}
 use Rattle.journal.specs.Format.{front}
 use Rattle.journal.proofs.Standing.{stands}
-use borrow.Author.Needs.{needs}
 use Rattle.journal.proofs.records.mode.Statement.{statement}
 use Rattle.journal.proofs.records.mode.Tie as tie
 

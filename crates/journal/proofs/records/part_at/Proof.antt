@@ -1,11 +1,10 @@
 -- `records::part_at` meets its contract: the part is what stands behind its length.
 -- Assumes nothing.
 use mathlib.Core.Path.{_≡_, ap}
-use mathlib.Core.List.{List}
-use Prim.Native.Nat.{ℕ, _+_, _-_, _≤_}
+use Prim.Native.Nat.{ℕ, _+_, _-_}
 use native.Mathlib.Omega.{arith}
 use denote.Ref.{now}
-use lib.ListN.{length, take, drop}
+use lib.ListN.{take, drop}
 use Rattle.block.specs.Words.{wordAt}
 use Rattle.journal.specs.Format.{partAt}
 use Rattle.journal.proofs.Standing.{part-long, part-fits}

@@ -2,7 +2,6 @@
 -- Assumes nothing.
 use borrow.Author.Tests.{lt-ltb, le-ltb}
 use Rattle.journal.specs.Format.{pastLimit}
-use borrow.Author.Needs.{needs}
 use Rattle.journal.proofs.records.past_limit.Statement.{statement}
 use Rattle.journal.proofs.records.past_limit.Tie as tie
 

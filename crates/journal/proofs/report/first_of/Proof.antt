@@ -1,7 +1,5 @@
 -- `report::first_of` meets its contract, by the tests that led there.
 -- Assumes nothing.
-use Rattle.journal.specs.Reports.{firstOf}
-use borrow.Author.Needs.{needs}
 use Rattle.journal.proofs.report.first_of.Statement.{statement}
 use Rattle.journal.proofs.report.first_of.Tie as tie
 

@@ -1,8 +1,6 @@
 -- `report::mode_place` meets its contract, by the test that led there.
 -- Assumes nothing.
 use borrow.Author.Tests.{lt-ltb, le-ltb}
-use Rattle.journal.specs.Reports.{modePlace}
-use borrow.Author.Needs.{needs}
 use Rattle.journal.proofs.report.mode_place.Statement.{statement}
 use Rattle.journal.proofs.report.mode_place.Tie as tie
 
