@@ -1,0 +1,63 @@
+-- No count passes the place that a replay has come to, so no sum wraps.
+-- Assumes nothing.
+use mathlib.Core.Path.{_≡_, refl}
+use mathlib.Core.Bool.{Bool, true, false, cond}
+use mathlib.Core.List.{List, [], _∷_}
+use Prim.Native.Nat.{ℕ, zero, suc, _+_, _≤_, _<_}
+use native.Mathlib.Omega.{arith}
+use lib.Dec.{ltb, lit<}
+use lib.ListN.{length, getD, set}
+use borrow.Author.Tests.{ltb-false}
+use Rattle.block.specs.Below.{Below}
+use Rattle.block.proofs.Entries.{below-at, below-replicate}
+use Rattle.journal.specs.Format.{Entry}
+use Rattle.journal.specs.Reports.{nothing, oneMore, modePlace, counted, Within}
+use Rattle.journal.specs.declared.again.Recomputed.{Recomputed}
+use Rattle.journal.specs.declared.report.Report.{Report}
+
+below-more : (n m : ℕ) (l : List ℕ) → n ≤ m → Below n l → Below m l
+below-more n m [] h b = tt
+below-more n m (x ∷ l) h (s, b) = (omega arith, below-more n m l h b)
+
+below-set : (n i v : ℕ) (l : List ℕ) → v < n → Below n l → Below n (set l i v)
+below-set n i v [] h b = tt
+below-set n zero v (x ∷ l) h (s, b) = (h, b)
+below-set n (suc i) v (x ∷ l) h (s, b) = (s, below-set n i v l h b)
+
+one-more-below : (n m i : ℕ) (l : List ℕ) → n < m → Below (suc n) l → Below (suc m) (oneMore i l)
+one-more-below n m i l h b =
+    let x = below-at (suc n) l (omega arith) b i in
+    below-set (suc m) i (getD l i 0 + 1) l (omega arith) (below-more (suc n) (suc m) l (omega arith) b)
+
+mode-by : (n : ℕ) (t : Bool) → ltb 4 n ≡ t → cond t 5 n < 6
+mode-by n true e = omega arith
+mode-by n false e = omega (arith, ltb-false 4 n e)
+
+pub mode-below-6 : (n : ℕ) → modePlace n < 6
+mode-below-6 n = mode-by n (ltb 4 n) refl
+
+pub within-nothing : Within 0 nothing
+within-nothing =
+    record {
+      records = omega arith;
+      byMode = below-replicate 1 6 0 (lit< tt);
+      byAnswer = below-replicate 1 27 0 (lit< tt);
+      bytesIn = omega arith;
+      bytesOut = omega arith;
+    }
+
+-- one more record, of so many bytes
+pub within-counted : (e : Entry) (x : Recomputed) (place size : ℕ) (r : Report) → Within place r → 27 + length (e .«data») ≤ size
+    → x .length ≤ 16 + length (e .«data») → Within (place + size) (counted e x place r)
+unfolding counted
+within-counted e x place size r w h k =
+    let a = w .records in
+    let b = w .bytesIn in
+    let c = w .bytesOut in
+    record {
+      records = omega arith;
+      byMode = one-more-below place (place + size) (modePlace (e .mode)) (r .«by_mode») (omega arith) (w .byMode);
+      byAnswer = one-more-below place (place + size) (x .number) (r .«by_answer») (omega arith) (w .byAnswer);
+      bytesIn = omega arith;
+      bytesOut = omega arith;
+    }

@@ -1,0 +1,171 @@
+-- What a call gives does not depend on the output that it is lent: a report, and bytes that stand over the output's front. Of data
+-- within the limits these are at most 16 bytes more than the data has.
+-- Assumes nothing.
+use mathlib.Core.Path.{_≡_, refl, sym, ap}
+use mathlib.Core.Bool.{Bool, true, false, _&&_, cond}
+use mathlib.Core.List.{List, []}
+use Prim.Native.Nat.{ℕ, _+_, _-_, _≤_, _<_}
+use native.Mathlib.Omega.{arith}
+use lib.Dec.{eqb}
+use lib.ListN.{length, take}
+use lib.Seq.{length-take-le}
+use Rattle.counter.specs.CameRound.{blocksOf, ctrCameRound}
+use Rattle.walk.specs.Outcome.{Head, Outcome, finished, refusal, under, telling, leaving, keyed, reporting, refuse, written, done}
+use Rattle.walk.specs.Walk.{chain, over}
+use Rattle.stream.specs.Stream.{streamMode}
+use Rattle.stream.specs.declared.Kind.{Kind}
+use Rattle.stream.specs.declared.Kind.the-variants.{Ofb as Ofb·kind, Ctr as Ctr·kind}
+use Rattle.stream.proofs.RoundTrip.{length-stream}
+use Rattle.cbc.specs.Cbc.{cbcSeal}
+use Rattle.cbc.specs.Open.{headOf as cbcHead, unpadded, cbcText, cbcOpen}
+use Rattle.cbc.specs.declared.Opened.{Opened as Cbc·Opened}
+use Rattle.cbc.specs.declared.Opened.the-variants.{Done as Cbc·Done, InvalidLastU8, InvalidPadding}
+use Rattle.cbc.proofs.Blocks.{length-decrypt}
+use Rattle.cbc.proofs.RoundTrip.{length-cbcSeal}
+use Rattle.cbc.proofs.Unpadded.{unpadded-le}
+use Rattle.gcm.specs.Gcm.{hashKey, J0, sealed, textPart, textOf, opensUnder}
+use Rattle.gcm.specs.Open.{headOf as gcmHead, settled, gcmOpen}
+use Rattle.gcm.specs.declared.Opened.the-variants.{Done as Gcm·Done, InvalidTag as Gcm·InvalidTag}
+use Rattle.gcm.proofs.Parts.{length-sealed}
+use Rattle.gcm.proofs.Settled.{text-size}
+use Rattle.cipher_mode.specs.declared.CipherMode.{CipherMode}
+use Rattle.cipher_mode.specs.declared.CipherMode.the-variants.{Cfb, Ofb, Ctr, Cbc, Gcm}
+use Rattle.cipher_mode.specs.declared.Direction.{Direction}
+use Rattle.cipher_mode.specs.declared.Direction.the-variants.{Encrypt, Decrypt}
+use Rattle.cipher_mode.specs.declared.answer.Refusal.{Refusal}
+use Rattle.cipher_mode.specs.declared.answer.Refusal.the-variants.{ErrorBlockSize, ErrorDataLen, InvalidLastU8 as BadLast, InvalidTag}
+use Rattle.cipher_mode.specs.declared.answer.Refusal.the-variants.{TooLong, NoRoom, EmptyCbc, ShortGcm, WrongIv, WrongBlock, Ended, WrongNumber, Retired, InvalidPadding as BadPadding}
+use Rattle.cipher_mode.specs.declared.checks.Checked.{Checked}
+use Rattle.cipher_mode.specs.declared.checks.Checked.the-variants.{Passed, Refused}
+use Rattle.cipher_mode.specs.Answer.{refusalHead}
+use Rattle.cipher_mode.specs.Tables.{roomOf}
+use Rattle.cipher_mode.specs.Checks.{wrongIv, dataCheck, checked}
+use Rattle.cipher_mode.specs.Calls.{cfbKind, gcmRound, modeResult}
+use Rattle.cipher_mode.proofs.Passed.{sixteen, whole-blocks-passed, with-tag-passed}
+use Rattle.cipher_mode.proofs.Refusals.{refuses}
+
+-- one report and one result, of at most so many bytes, whatever output is lent; the number has a place among the counts
+pub record Gives (most : ℕ) (f : List ℕ → Outcome) : Type 0 where
+  pub head : Head
+  pub front : List ℕ
+  pub known : head .number < 27
+  pub sized : length front ≡ head .size
+  pub fits : head .size ≤ most
+  pub leaves : (o : List ℕ) → f o ≡ leaving head (over front o)
+
+gives-done : (most : ℕ) (p : List ℕ) → length p ≤ most → Gives most (λ o. done p o)
+gives-done most p h =
+    record { head = finished (length p); front = p; known = omega arith; sized = refl; fits = h; leaves = λ o. refl }
+
+-- a report with no bytes
+gives-none : (most : ℕ) (h : Head) → h .number < 27 → h .size ≡ 0 → Gives most (λ o. leaving h o)
+gives-none most h k z =
+    record { head = h; front = []; known = k; sized = sym z; fits = omega arith; leaves = λ o. refl }
+
+gives-written : (most : ℕ) (h : Head) (p : List ℕ) → h .number < 27 → h .size ≤ length p → h .size ≤ most → Gives most (λ o. written h p o)
+gives-written most h p k l m =
+    record { head = h; front = take (h .size) p; known = k; sized = length-take-le (h .size) p l; fits = m; leaves = λ o. refl }
+
+gives-reporting : (most : ℕ) (b : Bool) (f : List ℕ → Outcome) → Gives most f → Gives most (λ o. reporting b (f o))
+gives-reporting most b f g =
+    record {
+      head = telling (eqb (g .head .number) 0 && b) (g .head);
+      front = g .front;
+      known = g .known;
+      sized = g .sized;
+      fits = g .fits;
+      leaves = λ o. ap {B = Outcome} (reporting b) (g .leaves o);
+    }
+
+gives-keyed : (most k : ℕ) (f : List ℕ → Outcome) → Gives most f → Gives most (λ o. keyed k (f o))
+gives-keyed most k f g =
+    record {
+      head = under k (g .head);
+      front = g .front;
+      known = g .known;
+      sized = g .sized;
+      fits = g .fits;
+      leaves = λ o. ap {B = Outcome} (keyed k) (g .leaves o);
+    }
+
+refusal-known : (r : Refusal) → refusalHead r .number < 27
+refusal-known ErrorBlockSize = omega arith
+refusal-known ErrorDataLen = omega arith
+refusal-known BadLast = omega arith
+refusal-known InvalidTag = omega arith
+refusal-known TooLong = omega arith
+refusal-known NoRoom = omega arith
+refusal-known EmptyCbc = omega arith
+refusal-known (ShortGcm n) = omega arith
+refusal-known WrongIv = omega arith
+refusal-known WrongBlock = omega arith
+refusal-known Ended = omega arith
+refusal-known WrongNumber = omega arith
+refusal-known Retired = omega arith
+refusal-known BadPadding = omega arith
+
+-- an opened Cbc message: its padding is no longer than it
+cbc-opened : (most : ℕ) (p : List ℕ) (u : Cbc·Opened) → unpadded p ≡ u → length p ≤ most → Gives most (λ o. written (cbcHead u) p o)
+cbc-opened most p (Cbc·Done k) e h =
+    let l = unpadded-le p k e in
+    gives-written most (finished k) p (omega arith) l (omega arith)
+cbc-opened most p InvalidLastU8 e h = gives-written most (refusal 3) p (omega arith) (omega arith) (omega arith)
+cbc-opened most p InvalidPadding e h = gives-written most (refusal 15) p (omega arith) (omega arith) (omega arith)
+
+-- an opened Gcm message, by what its tag says
+gcm-opened : (most : ℕ) (p : List ℕ) (n : ℕ) (t : Bool) → length p ≡ n → n ≤ most
+    → Gives most (λ o. written (gcmHead (cond t (Gcm·Done n) Gcm·InvalidTag)) p o)
+gcm-opened most p n true e h = gives-written most (finished n) p (omega arith) (omega arith) h
+gcm-opened most p n false e h = gives-written most (refusal 4) p (omega arith) (omega arith) (omega arith)
+
+streams : (k : Kind) (rk s d : List ℕ) → Gives (length d) (λ o. done (chain (streamMode k rk) s d) o)
+streams k rk s d = let l = length-stream k rk s d in gives-done (length d) (chain (streamMode k rk) s d) (omega arith)
+
+-- what is in order gives no more than document 01's table says
+mode-gives : (m : CipherMode) (dir : Direction) (rk aad d iv : List ℕ) → wrongIv m (length iv) ≡ false → dataCheck dir m (length d) ≡ Passed
+    → Gives (roomOf m dir (length d)) (λ o. modeResult m dir rk aad d iv o)
+unfolding cbcOpen gcmOpen settled
+mode-gives Cfb dir rk aad d iv i e = streams (cfbKind dir) rk iv d
+mode-gives Ofb dir rk aad d iv i e = streams Ofb·kind rk iv d
+mode-gives Ctr dir rk aad d iv i e = gives-reporting (length d) (ctrCameRound iv (blocksOf (length d))) _ (streams Ctr·kind rk iv d)
+mode-gives Cbc Encrypt rk aad d iv i e = let l = length-cbcSeal rk iv d in gives-done _ (cbcSeal rk iv d) (omega arith)
+mode-gives Cbc Decrypt rk aad d iv i e =
+    let l = length-decrypt rk iv d (sixteen (length iv) i) (whole-blocks-passed (length d) e .1) in
+    cbc-opened (length d) (cbcText rk iv d) (unpadded (cbcText rk iv d)) refl (omega arith)
+mode-gives Gcm Encrypt rk aad d iv i e =
+    let l = length-sealed rk (hashKey rk) (J0 rk iv) aad d in
+    gives-reporting _ (gcmRound rk iv (length d)) _ (gives-done _ (sealed rk (hashKey rk) (J0 rk iv) aad d) (omega arith))
+mode-gives Gcm Decrypt rk aad d iv i e =
+    let h = hashKey rk in
+    let j = J0 rk iv in
+    gives-reporting _ (gcmRound rk iv (length d - 16)) _
+    (gcm-opened _ (textOf rk j (textPart d)) (length d - 16) (opensUnder rk h j aad d) (text-size rk h j aad d [] (with-tag-passed (length d) e)) (omega arith))
+
+-- the table asks for at most 16 bytes more than there are
+pub room-16 : (m : CipherMode) (dir : Direction) (n : ℕ) → roomOf m dir n ≤ 16 + n
+room-16 Cfb dir n = omega arith
+room-16 Ofb dir n = omega arith
+room-16 Ctr dir n = omega arith
+room-16 Cbc Encrypt n = omega arith
+room-16 Cbc Decrypt n = omega arith
+room-16 Gcm Encrypt n = omega arith
+room-16 Gcm Decrypt n = omega arith
+
+gives-more : (n most : ℕ) (f : List ℕ → Outcome) → n ≤ most → Gives n f → Gives most f
+gives-more n most f h g =
+    let l = g .fits in
+    record { head = g .head; front = g .front; known = g .known; sized = g .sized; fits = omega arith; leaves = g .leaves }
+
+-- a call by what its checks say
+pub call-gives : (most k : ℕ) (x : Checked) (m : CipherMode) (dir : Direction) (rk aad d iv : List ℕ)
+    → (x ≡ Passed → (wrongIv m (length iv) ≡ false) × (dataCheck dir m (length d) ≡ Passed) × (roomOf m dir (length d) ≤ most))
+    → Gives most (λ o. keyed k (checked x o (modeResult m dir rk aad d iv o)))
+call-gives most k Passed m dir rk aad d iv p =
+    let in-order = p refl in
+    gives-keyed most k _ (gives-more _ most _ (in-order .2) (mode-gives m dir rk aad d iv (in-order .0) (in-order .1)))
+call-gives most k (Refused r) m dir rk aad d iv p =
+    gives-keyed most k _ (gives-none most (refusalHead r) (refusal-known r) (refuses r .no-size))
+
+pub bad-gives : (most : ℕ) (t : Bool) (f : List ℕ → Outcome) → (t ≡ false → Gives most f) → Gives most (λ o. refuse t 7 o (f o))
+bad-gives most true f g = gives-none most (refusal 7) (omega arith) refl
+bad-gives most false f g = g refl

@@ -1,0 +1,166 @@
+-- A call within the limits gives the same whether it is lent the recorded room or no more than the longest output.
+-- Assumes nothing.
+use mathlib.Core.Path.{_≡_, refl, sym, ap, _∙_}
+use mathlib.Core.Bool.{Bool, true, false, cond}
+use mathlib.Core.List.{List, [], _++_, append-assoc, append-nil}
+use Prim.Native.Nat.{ℕ, _+_, _≤_, _<_}
+use native.Mathlib.Omega.{arith}
+use lib.Dec.{ltb}
+use lib.ListN.{length, take, drop, replicate, length-replicate, length-append, length-drop}
+use lib.Seq.{take-at}
+use borrow.Author.Tests.{ltb-false, ltb-true, le-ltb}
+use Rattle.walk.specs.Outcome.{Head, Outcome, keyed, refuse}
+use Rattle.cipher_mode.specs.declared.CipherMode.{CipherMode}
+use Rattle.cipher_mode.specs.declared.Sm4Cipher.{Sm4Cipher}
+use Rattle.cipher_mode.specs.declared.checks.Checked.{Checked}
+use Rattle.cipher_mode.specs.Key.{keyNumber}
+use Rattle.cipher_mode.specs.Tables.{roomOf}
+use Rattle.cipher_mode.specs.Checks.{roomCheck, messageCheck, checked}
+use Rattle.cipher_mode.specs.Calls.{modeResult, modeCall}
+use Rattle.cipher_mode.proofs.Passed.{message-passed}
+use Rattle.journal.specs.Format.{Entry, outputLimit, tooLong}
+use Rattle.journal.specs.Recomputed.{modeOf, callInto, recomputed, result, differsFrom, judged, lentRoom, Answers}
+use Rattle.journal.specs.declared.again.Answered.{Answered}
+use Rattle.journal.specs.declared.again.Recomputed.{Recomputed}
+use Rattle.journal.proofs.Given.{Gives, room-16, call-gives, bad-gives}
+use Rattle.journal.proofs.Limits.{data-short}
+
+-- the size that an outcome reports, and its number
+module _ (most : ℕ) (f : List ℕ → Outcome) (g : Gives most f) (o : List ℕ) where
+  pub given-size : f o .head .size ≤ most
+  given-size = rw (g .leaves o) (g .fits)
+
+  pub given-number : f o .head .number < 27
+  given-number = rw (g .leaves o) (g .known)
+
+  -- its result stands at the front, whatever is behind the output
+  pub given-result : (rest : List ℕ) → take (f o .head .size) (f o .bytes ++ rest) ≡ g .front
+  given-result rest =
+      rw (g .leaves o, append-assoc (g .front) (drop (length (g .front)) o) rest)
+      (take-at (g .front) (drop (length (g .front)) o ++ rest) (g .head .size) (g .sized))
+
+module _ (c : Sm4Cipher) (e : Entry) where
+  abbrev mode : CipherMode
+  mode = modeOf (e .mode)
+
+  abbrev needed : ℕ
+  needed = roomOf mode (e .direction) (length (e .«data»))
+
+  -- what is refused with so much room
+  abbrev told : ℕ → Checked
+  told room =
+      messageCheck (c .answer) (c .retired) (e .direction) mode
+      (record { iv = length (e .iv); label = length (e .label); «data» = length (e .«data»); room = room })
+
+  abbrev called : ℕ → List ℕ → Outcome
+  called room o =
+      refuse (ltb 4 (e .mode)) 7 o
+      (keyed (keyNumber c) (checked (told room) o (modeResult mode (e .direction) (c .rk) (e .label) (e .«data») (e .iv) o)))
+
+  into-is : (o : List ℕ) → callInto c e o ≡ called (length o) o
+  unfolding callInto modeCall
+  into-is o = refl
+
+  -- a room that is enough exactly where the other is
+  same-told : (r s : ℕ) → ltb r needed ≡ ltb s needed → told r ≡ told s
+  unfolding messageCheck roomCheck
+  same-told r s x = rw x
+
+  gives : (room most : ℕ) → (needed ≤ room → needed ≤ most) → Gives most (called room)
+  gives room most h =
+      bad-gives most (ltb 4 (e .mode)) _
+      (λ z.
+      call-gives most (keyNumber c) (told room) mode (e .direction) (c .rk) (e .label) (e .«data») (e .iv)
+      (λ p. let q = message-passed _ _ _ _ _ p in (q .iv-size, q .content, h (q .room))))
+
+  -- of any room
+  pub recomputed-known : recomputed c e .head .number < 27
+  recomputed-known =
+      rw (into-is (replicate (e .room) 0))
+      (given-number _ _ (gives (length (replicate (e .room) 0)) (16 + length (e .«data»)) (λ h. room-16 mode (e .direction) (length (e .«data»)))) (replicate (e .room) 0))
+
+  pub recomputed-size : recomputed c e .head .size ≤ 16 + length (e .«data»)
+  recomputed-size =
+      rw (into-is (replicate (e .room) 0))
+      (given-size _ _ (gives (length (replicate (e .room) 0)) (16 + length (e .«data»)) (λ h. room-16 mode (e .direction) (length (e .«data»)))) (replicate (e .room) 0))
+
+  pub result-size : length (result (recomputed c e)) ≡ recomputed c e .head .size
+  result-size =
+      let o : List ℕ = replicate (e .room) 0 in
+      let g = gives (length o) (16 + length (e .«data»)) (λ h. room-16 mode (e .direction) (length (e .«data»))) in
+      let r = given-result _ _ g o [] in
+      rw (into-is o)
+      (rw (← append-nil (called (length o) o .bytes)) (ap length r ∙ g .sized) ∙ sym (ap (λ (x : Outcome). x .head .size) (g .leaves o)))
+
+  module _ (short : tooLong e ≡ false) where
+    needs-little : needed ≤ outputLimit
+    needs-little =
+        let h = room-16 mode (e .direction) (length (e .«data»)) in
+        let k = data-short e short in
+        omega arith
+
+    lent-by : (t : Bool) → ltb outputLimit (e .room) ≡ t → ltb (lentRoom e) needed ≡ ltb (e .room) needed
+    unfolding lentRoom
+    lent-by true x =
+        let h = ltb-true outputLimit (e .room) x in
+        let k = needs-little in
+        rw x (le-ltb outputLimit needed k ∙ sym (le-ltb (e .room) needed (omega arith)))
+    lent-by false x = rw x
+
+    lent-enough : ltb (lentRoom e) needed ≡ ltb (e .room) needed
+    lent-enough = lent-by (ltb outputLimit (e .room)) refl
+
+    module _ (o : List ℕ) (size : length o ≡ lentRoom e) where
+      -- the two are one function of the output
+      lent-called : callInto c e o ≡ called (e .room) o
+      lent-called =
+          into-is o
+          ∙ ap {B = Outcome}
+          (λ (x : Checked). refuse (ltb 4 (e .mode)) 7 o
+          (keyed (keyNumber c) (checked x o (modeResult mode (e .direction) (c .rk) (e .label) (e .«data») (e .iv) o))))
+          (same-told (length o) (e .room) (ap (λ (n : ℕ). ltb n needed) size ∙ lent-enough))
+
+      room-called : recomputed c e ≡ called (e .room) (replicate (e .room) 0)
+      room-called = into-is (replicate (e .room) 0) ∙ ap {B = Outcome} (λ (n : ℕ). called n (replicate (e .room) 0)) (length-replicate (e .room) 0)
+
+      same-gives : Gives (16 + length (e .«data»)) (called (e .room))
+      same-gives = gives (e .room) (16 + length (e .«data»)) (λ h. room-16 mode (e .direction) (length (e .«data»)))
+
+      -- Lending no more than the longest output changes neither the report nor the result.
+      pub lent-head : callInto c e o .head ≡ recomputed c e .head
+      lent-head = rw (lent-called, room-called, same-gives .leaves o, same-gives .leaves (replicate (e .room) 0))
+
+      pub lent-result : (rest : List ℕ) → take (callInto c e o .head .size) (callInto c e o .bytes ++ rest) ≡ result (recomputed c e)
+      lent-result rest =
+          rw (lent-called, room-called)
+          (given-result _ _ same-gives o rest
+          ∙ sym (rw (← append-nil (called (e .room) (replicate (e .room) 0) .bytes)) (given-result _ _ same-gives (replicate (e .room) 0) [])))
+
+      pub lent-fits : callInto c e o .head .size ≤ lentRoom e
+      lent-fits = rw (into-is o) (given-size _ _ (gives (length o) (lentRoom e) (λ h. omega arith)) o)
+
+      -- so it is judged as with the recorded room
+      pub lent-judged : (a : Answered) (p rest : List ℕ) (d : Bool) → Answers a p (callInto c e o)
+          → d ≡ differsFrom e (a .number) (a .length) (take (a .length) (p ++ rest))
+          → _≡_ {A = Recomputed} (record { number = a .number; length = a .length; differs = d }) (judged e (recomputed c e))
+      lent-judged a p rest d x y =
+          let n : a .number ≡ recomputed c e .head .number = x .number ∙ ap (λ (h : Head). h .number) lent-head in
+          let l : a .length ≡ recomputed c e .head .size = x .size ∙ ap (λ (h : Head). h .size) lent-head in
+          let r : take (a .length) (p ++ rest) ≡ result (recomputed c e) = rw (x .size, x .bytes) (lent-result rest) in
+          rw (y, r, n, l)
+
+      pub lent-length : length (callInto c e o .bytes) ≡ length o
+      lent-length =
+          let g = gives (length o) (length o) (λ h. h) in
+          let h = g .fits in
+          let k = g .sized in
+          let d = length-drop (length (g .front)) o in
+          rw (into-is o, g .leaves o, length-append) (omega arith)
+
+pub lent-most : (e : Entry) → lentRoom e ≤ outputLimit
+unfolding lentRoom
+lent-most e = by-test (ltb outputLimit (e .room)) refl
+  where
+    by-test : (t : Bool) → ltb outputLimit (e .room) ≡ t → cond t outputLimit (e .room) ≤ outputLimit
+    by-test true x = omega arith
+    by-test false x = omega (arith, ltb-false outputLimit (e .room) x)

@@ -1,0 +1,10 @@
+pub mod Limits
+pub mod Standing
+pub mod KeyTurns
+pub mod Given
+pub mod Lent
+pub mod Counting
+pub mod Replaying
+pub mod BothWays
+pub mod Sums
+pub mod Agrees

@@ -1,0 +1,76 @@
+-- `again::call_into` meets its contract: a mode above 4 is refused, and otherwise the call answers.
+-- Assumes nothing.
+use mathlib.Core.Path.{_≡_, ap, _∙_}
+use mathlib.Core.List.{List}
+use Prim.Native.Nat.{ℕ, _≤_, _<_}
+use native.Mathlib.Omega.{arith}
+use denote.Ref.{now}
+use borrow.Author.Tests.{lt-ltb, le-ltb}
+use Rattle.walk.specs.Outcome.{Outcome}
+use Rattle.cipher_mode.specs.declared.CipherMode.{CipherMode}
+use Rattle.cipher_mode.specs.declared.Direction.{Direction}
+use Rattle.cipher_mode.specs.declared.Sm4Cipher.{Sm4Cipher}
+use Rattle.cipher_mode.specs.declared.answer.Answer.{Answer}
+use Rattle.cipher_mode.specs.Answer.{headOf, outcome}
+use Rattle.cipher_mode.specs.Calls.{modeCall}
+use Rattle.journal.specs.Format.{Entry, front}
+use Rattle.journal.specs.Recomputed.{modeOf, callInto, Answers}
+use Rattle.journal.specs.declared.again.Answered.{Answered}
+use borrow.Author.Needs.{needs}
+use Rattle.journal.proofs.again.call_into.Statement.{statement}
+use Rattle.journal.proofs.again.call_into.Tie as tie
+
+bad-mode : (c : Sm4Cipher) (e : Entry) (o : List ℕ) → 4 < e .mode → Answers (record { number = 7; length = 0 }) o (callInto c e o)
+unfolding callInto
+bad-mode c e o h =
+    let t = lt-ltb 4 (e .mode) h in
+    record { number = rw t; size = rw t; bytes = rw t }
+
+-- an outcome is told by its answer
+told-outcome : (a : Answer) (t : Answered) (o : List ℕ) (x : Outcome) → outcome a o ≡ x
+    → t ≡ record { number = headOf a .number; length = headOf a .size } → Answers t o x
+told-outcome a t o x e f =
+    record {
+      number = ap (λ (u : Answered). u .number) f ∙ ap (λ (y : Outcome). y .head .number) e;
+      size = ap (λ (u : Answered). u .length) f ∙ ap (λ (y : Outcome). y .head .size) e;
+      bytes = ap (λ (y : Outcome). y .bytes) e;
+    }
+
+-- the call with the record's fields is the entry's
+called : (c : Sm4Cipher) (e : Entry) (o : List ℕ) (x : Outcome) (dir : Direction) (mode : CipherMode) (l d iv : List ℕ) (n : ℕ) → n ≤ 4
+    → n ≡ e .mode → mode ≡ modeOf n → dir ≡ e .direction → l ≡ e .label → d ≡ e .«data» → iv ≡ e .iv
+    → x ≡ modeCall dir (record { cipher = c; mode = mode }) l d iv o → x ≡ callInto c e o
+unfolding callInto
+called c e o x dir mode l d iv n h en em edir el ed eiv ex =
+    let t : _ = le-ltb 4 n h in
+    rw (← en, t, ← em, ← edir, ← el, ← ed, ← eiv) ex
+
+returns : tie.Need-returns
+returns c =
+    let at-mode = c .before in
+    let a = at-mode .before .before .before .args in
+    bad-mode (a .cipher) (front (now (a .s))) (now (a .out)) (rw (← at-mode .mode .ensures) (c .if1 .taken))
+
+returns-2 : tie.Need-returns-2
+returns-2 c =
+    let at-call = c .before .before .before in
+    let at-iv = at-call .before .before in
+    let at-data = at-iv .before in
+    let at-label = at-data .before in
+    let at-direction = at-label .before in
+    let at-mode-of = at-direction .before in
+    let small = at-mode-of .before in
+    let at-mode = small .before in
+    let a = at-mode .before .before .before .args in
+    told-outcome (at-call .call .result) (c .told .result) _ _
+    (called (a .cipher) (front (now (a .s))) (now (a .out)) _ (at-direction .direction .result) (at-mode-of .mode-of .result)
+    (now (at-label .label .result)) (now (at-data .«data» .result)) (now (at-iv .iv .result)) (at-mode .mode .result) (omega arith)
+    (at-mode .mode .ensures) (at-mode-of .mode-of .ensures) (at-direction .direction .ensures) (at-label .label .ensures)
+    (at-data .«data» .ensures) (at-iv .iv .ensures) (at-call .call .ensures))
+    (c .told .ensures)
+
+pub call-into-spec : {M : Type 1} → statement M
+call-into-spec =
+    tie.close
+    (tie.spec
+    (λ c κs. search needs) returns (λ c κs. search needs) (λ c κs. search needs) (λ c κs. search needs) (λ c κs. search needs) (λ c κs. search needs) (λ c κs. search needs) (λ c κs. search needs) (λ c. search needs) returns-2)

@@ -1,0 +1,28 @@
+-- `keys::bad` meets its contract: each return is the definition, by the tests that led there.
+-- Assumes nothing.
+use mathlib.Core.Path.{sym, _∙_}
+use borrow.Author.Tests.{lt-ltb, le-ltb}
+use Rattle.journal.specs.KeyList.{badKeys}
+use borrow.Author.Needs.{needs}
+use Rattle.journal.proofs.keys.bad.Statement.{statement}
+use Rattle.journal.proofs.keys.bad.Tie as tie
+
+returns : tie.Need-returns
+unfolding badKeys
+returns c = rw (lt-ltb _ _ (c .if1 .taken))
+
+returns-2 : tie.Need-returns-2
+unfolding badKeys
+returns-2 c = rw (le-ltb _ _ (c .before .before .if1 .left), sym (c .before .any-retired .ensures) ∙ c .if2 .taken)
+
+returns-3 : tie.Need-returns-3
+unfolding badKeys
+returns-3 c =
+    let at-else = c .before in
+    rw (le-ltb _ _ (at-else .before .before .if1 .left), sym (at-else .before .any-retired .ensures) ∙ at-else .if2 .left) (c .number-twice .ensures)
+
+pub bad-spec : {M : Type 1} → statement M
+bad-spec =
+    tie.close
+    (tie.spec
+    returns (λ c κs. search needs) returns-2 (λ c κs. search needs) returns-3)

@@ -1,0 +1,5 @@
+pub mod Format
+pub mod KeyList
+pub mod Recomputed
+pub mod Reports
+pub mod Replay
