@@ -45,7 +45,7 @@ fn put_in(asked: Asked, buf: &mut [u8], used: usize, sealed: &[u8]) -> u8
     requires { ⌜ length (now buf) ≡ 65537 ⌝ }
 {
     let n = lent(used);
-    let kept = shelf::put(&mut buf[..n], used, asked.job, asked.edition, sealed);
+    let kept = shelf::put(&mut buf[0..n], used, asked.job, asked.edition, sealed);
     finish(asked, kept, buf, used)
 }
 
@@ -57,10 +57,15 @@ pub fn collect(asked: Asked) -> u8 {
     if read.status != DONE {
         return read.status;
     }
-    let used = read.length;
+    collect_in(asked, &mut buf, read.length)
+}
+
+fn collect_in(asked: Asked, buf: &mut [u8], used: usize) -> u8
+    requires { ⌜ length (now buf) ≡ 65537 ⌝ }
+{
     let n = lent(used);
-    let kept = shelf::collect(&mut buf[..n], used);
-    finish(asked, kept, &buf, used)
+    let kept = shelf::collect(&mut buf[0..n], used);
+    finish(asked, kept, buf, used)
 }
 
 // Writes the shelf where the change was done, and else says why not; `used` is how many bytes the file has.

@@ -170,27 +170,29 @@ pub fn list(asked: Asked) -> u8 {
         return read.status;
     }
     let used = read.length;
-    let n = lent(used);
-    let ended = shelf::find(&buf[0..n], used, 0).ended;
+    let ended = shelf::find(filed::first(&buf, lent(used)), used, 0).ended;
     if let Ended::BadShelf = ended {
         return tell::refused(asked, ended, filed::first(&buf, used));
+    }
+    let status = tell::heading();
+    if status != DONE {
+        return status;
     }
     rows(filed::first(&buf, used))
 }
 
 fn rows(s: &[u8]) -> u8 {
     let mut t = s;
-    let mut status = tell::heading();
     loop {
         let h = records::front(t);
         let n = h.size;
         if n == 0 {
-            return status;
+            return DONE;
         }
+        let status = tell::row(h);
         if status != DONE {
             return status;
         }
-        status = tell::row(h);
         t = &t[n..];
     }
 }

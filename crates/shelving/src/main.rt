@@ -95,7 +95,8 @@ fn with_job(line: Line) -> u8 {
     let asked = Asked {
         places,
         job,
-        edition: edition as u16,
+        // no more than 65535, by which it was read
+        edition: (edition % 65536) as u16,
         launcher: libc::getppid(),
     };
     match command {

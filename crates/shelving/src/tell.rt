@@ -66,7 +66,9 @@ pub fn refused(asked: Asked, ended: Ended, bytes: &[u8]) -> u8 {
 
 fn bad_shelf(bytes: &[u8]) -> u8 {
     if bytes.len() > 65536 {
-        say::text(b"19 BadShelf: this file has more than 65536 bytes, which no shelf has: is it one?\n");
+        say::text(
+            b"19 BadShelf: this file has more than 65536 bytes, which no shelf has: is it one?\n",
+        );
         return 19;
     }
     say::text(b"19 BadShelf: this shelf breaks off at byte ");
@@ -134,42 +136,64 @@ fn file_length(head: Head) -> usize {
     head.size - 12
 }
 
-// The table of `shelf list`: job, edition, state and bytes, of a width that holds any.
+// The table of `shelf list`: job, edition, state and bytes, each in a column that holds any.
 pub fn heading() -> u8 {
-    line(b"       job  edition  state       bytes\n")
-}
-
-fn line(s: &[u8]) -> u8 {
-    if !io::write_all(STDOUT_FILENO, s) {
-        return say::cannot_write(b"-");
-    }
-    DONE
+    say::answer(b"       job   edition  state          bytes");
+    say::answered(DONE)
 }
 
 pub fn row(head: Head) -> u8 {
-    let mut s = [b' '; 39];
-    put_number(head.job as usize, &mut s[0..10]);
-    put_number(head.edition as usize, &mut s[12..19]);
+    column(head.job as u64);
+    column(head.edition as u64);
     if head.current {
-        bytes::copy(b"current", &mut s[21..31]);
+        say::answer(b"  current   ");
     } else {
-        bytes::copy(b"superseded", &mut s[21..31]);
+        say::answer(b"  superseded");
     }
-    put_number(file_length(head), &mut s[33..38]);
-    s[38] = b'\n';
-    line(&s)
+    column(file_length(head) as u64);
+    say::answered(DONE)
 }
 
-// Writes a number in decimal to the end of `out`, which has blanks before it.
-fn put_number(n: usize, out: &mut [u8]) {
-    let mut left = n;
-    let mut i = out.len();
-    while i > 0 {
-        i -= 1;
-        out[i] = 48 + (left % 10) as u8;
-        left = left / 10;
-        if left == 0 {
-            return;
-        }
+// A number at the right of a column of ten.
+fn column(n: u64) {
+    blanks(n);
+    say::answer_number(n);
+}
+
+fn blanks(n: u64) {
+    if n < 10 {
+        say::answer(b"         ");
+        return;
+    }
+    if n < 100 {
+        say::answer(b"        ");
+        return;
+    }
+    if n < 1000 {
+        say::answer(b"       ");
+        return;
+    }
+    if n < 10000 {
+        say::answer(b"      ");
+        return;
+    }
+    if n < 100000 {
+        say::answer(b"     ");
+        return;
+    }
+    if n < 1000000 {
+        say::answer(b"    ");
+        return;
+    }
+    if n < 10000000 {
+        say::answer(b"   ");
+        return;
+    }
+    if n < 100000000 {
+        say::answer(b"  ");
+        return;
+    }
+    if n < 1000000000 {
+        say::answer(b" ");
     }
 }

@@ -16,5 +16,5 @@ pub read-line-spec : {M : Type 1} → statement M
 read-line-spec =
     tie.close
     (tie.spec
-    Inv-loop μ-loop (λ c κs. tt) (λ c κs. tt) (λ c. omega arith) (λ c. tt) (λ c κs. tt) (λ c. omega arith)
+    Inv-loop μ-loop (λ c κs. tt) (λ c κs. tt) (λ c. tt) (λ c κs. tt) (λ c. omega arith)
     (λ c. omega arith) (λ c. tt) (λ c. tt))
