@@ -34,13 +34,18 @@
  *  16  BadList         more than 64 candidate labels, or lengths that do not add up to the labels' buffer
  *  17  BadWorkers      a plan for no workers, or for more than 64
  *  18  NotAccepted     work by a plan that is none for so many bytes
+ *  19  BadShelf        the buffer has more than 65,536 bytes, or its used bytes are no shelf
+ *  20  NotHigher       the shelf has that edition of the job already, or a higher one
+ *  21  NoShelfRoom     the records that would be current do not fit in the buffer
+ *  22  NoCurrent       the shelf has no current record of the job
  *
  * Where several apply, the first of the call's order is the answer: of setting up a key 1, 13, which the calls
  * on that record then answer again where it stands in theirs; of a single block 1, 13, 11, 14, 6; of a message
  * 7, 1, 13, 10, 14, 5, then in Cbc 8, 2 or in Gcm 9, then 6, then in Cbc 3, 15 or in Gcm 4; of a message in
  * pieces 1, 13, 10, 14, 5 at the start, and from there on what the start was refused with, then 12, 5, 9, 6, 4;
  * of the question which label a file opens under 16, 1, 13, 10, 5, 9; of making a plan 17, 5; of a range 1, 13,
- * 10, 14, 5, 6; and of work by a plan 1, 13, 10, 14, 5, 18, 6.
+ * 10, 14, 5, 6; of work by a plan 1, 13, 10, 14, 5, 18, 6; of putting on a shelf 19, 20, 21; of collecting 19; and
+ * of looking up 19, 22.
  * Every number but 0 is a refusal: it reports length 0 and changes no byte of the output buffer.
  *
  * In refusal 9 `missing` is how many bytes were missing: 16 - n for n bytes of data, or for a tag of n bytes,
@@ -102,15 +107,15 @@
  * file's. To decrypt there is nothing to do: the text is right.
  *
  * A message may also come in pieces, in Ctr and Gcm: what holds for these is said where they are declared.
- * There it is also said how to ask which of up to 64 labels a Gcm message opens under, and how several workers
- * share one Ctr message.
+ * There it is also said how to ask which of up to 64 labels a Gcm message opens under, how several workers share
+ * one Ctr message, and how the editions of jobs are kept on a shelf.
  *
  * What no proof can see stays the host's duty, and a call that breaks it has no defined outcome:
  *
  *   - each pointer leads to as many bytes as the length beside it says, which nothing else writes
  *     during the call; that to the lengths of labels leads to as many of these as the count beside it
  *     says. Only an empty buffer may be NULL with length 0;
- *   - the output buffer overlaps no input. Inputs may overlap one another;
+ *   - the output buffer overlaps no input, nor does a shelf that is put into. Inputs may overlap one another;
  *   - a bool is 0 or 1.
  *
  * The library remembers no IV: that no two messages are encrypted under the same key and IV, whatever its
@@ -540,6 +545,67 @@ struct luossavin_answer luossavin_ctr_range(struct luossavin_key key, bool decry
  * the plan is not accepted for data_len bytes, or 6. */
 struct luossavin_answer luossavin_ctr_by_plan(struct luossavin_key key, bool decrypt, const uint8_t *iv, size_t iv_len,
     struct luossavin_plan plan, const uint8_t *data, size_t data_len, uint8_t *out, size_t room);
+
+/* A shelf: sealed files in one buffer, of which the newest edition of each job is current.
+ *
+ * The buffer has at most 65,536 bytes. Its first `used` bytes, a count that the caller keeps, are records, one behind
+ * another; what is behind them is the caller's. An empty shelf has used 0. A record is, all numbers big-endian:
+ *
+ *   bytes 0 and 1      52 44 for current, 52 58 for superseded
+ *   bytes 2 to 5       the job
+ *   bytes 6 and 7      the edition
+ *   bytes 8 to 11      how many sealed bytes follow
+ *   from byte 12 on    the sealed bytes, as luossavin_encrypt gave them in mode 4; they are not looked at
+ *
+ * Bytes 2 to 7 are the label of the job and the edition, so that a record that is found is opened under its own label:
+ *
+ *     struct luossavin_shelved r = luossavin_shelf_find(shelf, size, used, job);
+ *     if (r.number == 0) {
+ *         const uint8_t *record = shelf + r.start;
+ *         a = luossavin_decrypt(4, key, record + 2, 6, record + 12, r.length - 12, iv, iv_len, out, room);
+ *     }
+ *
+ * A job has one current record or none. Putting in an edition makes its record the current one, and marks the one that
+ * was current superseded; it must be higher than every edition of that job on the shelf, superseded ones too, while a
+ * new job may begin at edition 0. Where the new record does not fit behind the last one, putting collects first, and
+ * that throws out every superseded record, the one just superseded with it, and keeps the rest in order and byte for
+ * byte. So it is refused for room exactly when the records that would then be current do not fit in the buffer, the
+ * new one among them.
+ *
+ *   19   the buffer has more than 65,536 bytes, even where few are used; `used` is above the buffer's length; the
+ *        records do not end exactly there; a mark is unknown; or two records of one job are current. Superseded ones
+ *        may repeat, and may be higher than the current one. What a length says is held against what is left, so that
+ *        no sum comes round
+ *   20   of putting: the edition is not higher than every one of its job on the shelf
+ *   21   of putting: no room, against the buffer's length and not against 65,536
+ *   22   of looking up: the job has no current record
+ *
+ * In a refusal no byte of the buffer is changed, `used` is the count that came, and start and length are 0. When a call
+ * is done, the bytes from the used count on, the one that is handed back, are as they were before it.
+ *
+ * A call reads the records as they stand, and remembers nothing: a caller who hands in an older buffer, or an older used
+ * count, is answered by it. That two calls on one buffer do not run at once, that it is kept with its used count, and
+ * that nobody else writes to it, is the host's to see to. A shelf is not sealed as a whole: who can write to it can take
+ * a record away, and what is then found is another one, which opens under its own label and no other. */
+struct luossavin_shelf {
+    uint32_t number;
+    size_t used;
+};
+struct luossavin_shelved {
+    uint32_t number;
+    size_t start;
+    size_t length;
+};
+
+/* Puts in an edition of a job. It answers 0, 19, 20 or 21, with the used count after the call. */
+struct luossavin_shelf luossavin_shelf_put(uint8_t *shelf, size_t size, size_t used, uint32_t job, uint16_t edition,
+    const uint8_t *sealed, size_t sealed_len);
+
+/* Throws out every superseded record. It answers 0 or 19, with the used count after the call. */
+struct luossavin_shelf luossavin_shelf_collect(uint8_t *shelf, size_t size, size_t used);
+
+/* Looks up a job's current record, all of it: `length` bytes of the buffer from `start` on. It answers 0, 19 or 22. */
+struct luossavin_shelved luossavin_shelf_find(const uint8_t *shelf, size_t size, size_t used, uint32_t job);
 
 #ifdef __cplusplus
 }

@@ -3,7 +3,7 @@ _luossavin() {
     local word=${COMP_WORDS[COMP_CWORD]} before=${COMP_WORDS[COMP_CWORD - 1]} options=''
     COMPREPLY=()
     if [ "$COMP_CWORD" -eq 1 ]; then
-        mapfile -t COMPREPLY < <(compgen -W 'seal open opens which encrypt decrypt plan range demo help --help --version' -- "$word")
+        mapfile -t COMPREPLY < <(compgen -W 'seal open opens which encrypt decrypt plan range shelf demo help --help --version' -- "$word")
         return
     fi
     case ${COMP_WORDS[1]} in
@@ -14,12 +14,20 @@ _luossavin() {
     decrypt) options='--mode --key --number --retired --iv' ;;
     plan) options='--workers' ;;
     range) options='--key --number --retired --iv --offset --decrypt --force' ;;
-    help | --help) options='seal open opens which encrypt decrypt plan range' ;;
+    shelf)
+        case ${COMP_WORDS[2]} in
+        put) options='--job --edition' ;;
+        find) options='--job --force' ;;
+        open) options='--job --key --number --retired --iv' ;;
+        esac
+        ;;
+    help | --help) options='seal open opens which encrypt decrypt plan range shelf' ;;
     esac
     case $before in
     --mode) options='cfb ofb ctr cbc' ;;
     --number | --iv | --job | --edition | --editions | --workers | --offset) options='' ;;
     help | --help) ;;
+    shelf) options='put find open collect list' ;;
     *) case $word in -*) ;; *) options='' ;; esac ;;
     esac
     # with none of these bash completes the names of files

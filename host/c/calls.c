@@ -41,6 +41,18 @@ struct luossavin_answer call_stretch(const struct stretch *s, struct luossavin_k
     return luossavin_ctr_range(key, s->decrypt, iv, s->iv, s->offset, data, s->data, out, s->room);
 }
 
+struct shelf_answer call_shelf(const struct shelf_call *c, uint8_t *shelf)
+{
+    if (c->does == FIND) {
+        struct luossavin_shelved found = luossavin_shelf_find(shelf, c->size, c->used, c->job);
+        return (struct shelf_answer){found.number, c->used, found.start, found.length};
+    }
+    struct luossavin_shelf now = c->does == COLLECT
+        ? luossavin_shelf_collect(shelf, c->size, c->used)
+        : luossavin_shelf_put(shelf, c->size, c->used, c->job, c->edition, c->sealed, c->sealed_len);
+    return (struct shelf_answer){.number = now.number, .used = now.used};
+}
+
 struct luossavin_answer call_start(enum kind kind, struct state *s, const struct given *g)
 {
     memset(s, 0, sizeof *s);

@@ -1,10 +1,11 @@
 /* The library's calls as the rules see them, for the tests: those on blocks and whole messages behind one shape, and
- * the three kinds of messages in pieces behind another; the question which label a file opens under; and ranges and
- * work by a plan. */
+ * the three kinds of messages in pieces behind another; the question which label a file opens under; ranges and work by
+ * a plan; and the three calls on a shelf, as shelf_model.h sees them. */
 #ifndef CALLS_H
 #define CALLS_H
 
 #include "rules.h"
+#include "shelf_model.h"
 
 /* The call of `w`, which has the lengths, on a record, whatever the fields of the key in `w` are. */
 struct luossavin_answer call_whole(const struct whole *w, struct luossavin_key key, const uint8_t *iv,
@@ -21,6 +22,9 @@ struct luossavin_found call_search(const struct search *s, struct luossavin_key 
 /* The range of `s`, or the work by its plan, on a record. */
 struct luossavin_answer call_stretch(const struct stretch *s, struct luossavin_key key, const uint8_t *iv,
     const uint8_t *data, uint8_t *out);
+
+/* The call of `c` on a buffer. */
+struct shelf_answer call_shelf(const struct shelf_call *c, uint8_t *shelf);
 
 /* In pieces, a call puts the next state in the place of the one before. */
 

@@ -33,16 +33,20 @@ int is_printed(void)
     return wrong <= 20;
 }
 
+int judged(uint32_t due, const char *wrong)
+{
+    calls++;
+    calls_for[due]++;
+    if (wrong != NULL) {
+        print_now(wrong);
+    }
+    return wrong == NULL;
+}
+
 int judge(struct luossavin_answer got, struct luossavin_answer due)
 {
-    const char *what = difference(got, due);
-    calls++;
-    calls_for[due.number]++;
     came_round += due.came_round;
-    if (what != NULL) {
-        print_now(what);
-    }
-    return what == NULL;
+    return judged(due.number, difference(got, due));
 }
 
 struct luossavin_key record(struct holder fields)
@@ -451,6 +455,7 @@ static void all(int with_limits)
     pieces(with_limits);
     which(with_limits);
     workers(with_limits);
+    shelves(with_limits);
 }
 
 int main(int argc, char **argv)

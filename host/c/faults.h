@@ -1,5 +1,5 @@
 /* What the files of the program `faults` share: single calls, keys, messages in pieces, which label a file opens
- * under, and ranges and plans for several workers. */
+ * under, ranges and plans for several workers, and shelves. */
 #ifndef FAULTS_H
 #define FAULTS_H
 
@@ -16,7 +16,10 @@ extern void (*print_now)(const char *what);
 /* Whether there is still room to print one more that is wrong. */
 int is_printed(void);
 
-/* Counts a call, and prints it where its answer is not the one that is due. Whether it is. */
+/* Counts a call to which that number is due, and prints it where something is wrong. Whether nothing is. */
+int judged(uint32_t due, const char *wrong);
+
+/* The same, where its answer is not the one that is due. */
 int judge(struct luossavin_answer got, struct luossavin_answer due);
 
 /* The key that calls are on, with these fields in its record. */
@@ -46,11 +49,12 @@ void take_back(struct beside b);
  * allow it, one that was sealed, whether or not the record of the call could seal it. */
 struct buffer message(const struct whole *w, struct beside b);
 
-/* Keys; messages in pieces, which label a file opens under, and ranges and plans, with or without those at the
- * limits. */
+/* Keys; messages in pieces, which label a file opens under, ranges and plans, and shelves, with or without those at
+ * the limits. */
 void keys(void);
 void pieces(int with_limits);
 void which(int with_limits);
 void workers(int with_limits);
+void shelves(int with_limits);
 
 #endif

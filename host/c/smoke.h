@@ -1,5 +1,5 @@
 /* What the files of the smoke test share: single calls, Cbc's padding, keys, messages in pieces, the question which
- * label a file opens under, counters that come round, and ranges and plans for several workers. */
+ * label a file opens under, counters that come round, ranges and plans for several workers, and shelves. */
 #ifndef SMOKE_H
 #define SMOKE_H
 
@@ -70,5 +70,8 @@ void rounds(void);
 
 /* Ranges, plans and work by a plan. */
 void workers(void);
+
+/* Putting on a shelf, collecting and looking up. */
+void shelves(void);
 
 #endif

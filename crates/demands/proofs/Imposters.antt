@@ -40,6 +40,10 @@ use Rattle.ranges.specs.declared.plan.Plan.{Plan}
 use Rattle.ranges.specs.Plan.{follows, accepts, noPieces}
 use Rattle.ranges.specs.Range.{stretch, reachCheck, rangeCheck, rangeCall}
 use Rattle.ranges.specs.ByPlan.{planCall}
+use Rattle.label.specs.Label.{labelOf}
+use Rattle.shelf.specs.Records.{Record, written, stored, marked, startsRecord, sizeAt, front, readUpTo, records}
+use Rattle.shelf.specs.Shelf.{those, hasCurrent, twoCurrent, notHigher, supersede, withNew, fitted, badShelf}
+use Rattle.shelf.specs.Calls.{Outcome as Shelf·Outcome, putCall}
 use Rattle.demands.specs.Call.{Call, result, inGcm}
 use Rattle.demands.specs.CameRound.{roundOf, Says}
 use Rattle.demands.specs.Answered.{singleNumbers, Answered, KeyAnswered, lengthOf}
@@ -48,6 +52,7 @@ use Rattle.demands.specs.ThereAndBack.{ThereAndBack}
 use Rattle.demands.specs.OneBlockRefused.{OneBlockRefused}
 use Rattle.demands.specs.Imposters.{zeros, zeroKey, ones, refusesAll, constant, copies, firstBlockOnly, inventsLength, countsEveryStep, saysItRefused}
 use Rattle.demands.specs.Imposters.{forgetsNumber, takesAnyNumber, copiesAnew, throwsAway, countsFromOne, fileFirst, fromTheBlock, planFirst}
+use Rattle.demands.specs.Imposters.{againstCurrent, marksFirst, twoEditions}
 use Rattle.demands.specs.Retired.{StaysRetired, DecryptsAlike}
 use Rattle.demands.specs.Which.{Tells}
 use Rattle.demands.proofs.Through.{through, leaves}
@@ -304,3 +309,41 @@ module _ (c : Sm4Cipher) (k : c .answer ≡ Key) (u : c .retired ≡ false) (n :
 pub plan-first-contradicts : (c : Sm4Cipher) → c .answer ≡ Key → c .retired ≡ false
     → ¬ ((iv : List ℕ) (plan : Plan) (d o : List ℕ) → planFirst Encrypt c iv plan d o ≡ planCall Encrypt c iv plan d o)
 plan-first-contradicts c k u = plan-told c k u (limit + 1) refl
+
+-- what the shelf of two editions reads
+abbrev emptied : ℕ → Bool → Record
+emptied n current = record { current = current; job = 0; edition = n; sealed = [] }
+
+two-read : records twoEditions ≡ emptied 1 false ∷ emptied 0 true ∷ []
+unfolding records readUpTo startsRecord marked sizeAt front numberOf
+two-read = refl
+
+-- Holding an edition against the current record alone is told by edition 1 of a job whose edition 1 is superseded and whose edition 0 is
+-- current: that is 20, and the imposter puts it in.
+put-refused : putCall twoEditions 24 0 1 [] .number ≡ 20
+unfolding putCall badShelf stored written labelOf bytesOf hasCurrent twoCurrent notHigher
+put-refused = rw two-read
+
+taken-in : againstCurrent twoEditions 24 0 1 [] .number ≡ 0
+unfolding badShelf stored written labelOf bytesOf hasCurrent twoCurrent notHigher those
+taken-in = rw two-read
+
+pub against-current-contradicts : againstCurrent twoEditions 24 0 1 [] ≢ putCall twoEditions 24 0 1 []
+against-current-contradicts e =
+    let z : _≡_ {A = ℕ} 0 20 = sym taken-in ∙ ap (λ (x : Shelf·Outcome). x .number) e ∙ put-refused in
+    absurd (omega arith)
+
+-- Marking before collecting is told by edition 2 of that job in a buffer that is full: the mark stands behind the used bytes, at byte 13,
+-- which is to be as it was.
+byte-kept : getD (putCall twoEditions 24 0 2 [] .bytes) 13 0 ≡ 0x44
+unfolding putCall badShelf stored written labelOf bytesOf hasCurrent twoCurrent notHigher those supersede withNew fitted
+byte-kept = rw two-read
+
+byte-marked : getD (marksFirst twoEditions 24 0 2 [] .bytes) 13 0 ≡ 0x58
+unfolding stored written labelOf bytesOf those supersede withNew fitted
+byte-marked = rw two-read
+
+pub marks-first-contradicts : marksFirst twoEditions 24 0 2 [] ≢ putCall twoEditions 24 0 2 []
+marks-first-contradicts e =
+    let z : _≡_ {A = ℕ} 0x58 0x44 = sym byte-marked ∙ ap (λ (x : Shelf·Outcome). getD (x .bytes) 13 0) e ∙ byte-kept in
+    absurd (omega arith)

@@ -27,6 +27,7 @@ pub mod Which
 pub mod Workers
 pub mod WorkersAnswer
 pub mod ByShares
+pub mod OnTheShelf
 pub mod TrailingZero
 -- the worked table and the imposters
 pub mod Worked

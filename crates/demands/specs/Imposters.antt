@@ -1,11 +1,12 @@
--- Calls that look like encryption, decryption, setting up a key, retiring one, asking for a file's label, a range or work by a plan to a
--- careless test, and are not.
+-- Calls that look like encryption, decryption, setting up a key, retiring one, asking for a file's label, a range, work by a plan or
+-- putting on a shelf to a careless test, and are not.
 use mathlib.Core.Bool.{true, false, not}
-use mathlib.Core.List.{List, _++_}
+use mathlib.Core.List.{List, [], _∷_, _++_}
 use Prim.Native.Nat.{ℕ, _+_, _*_, _/_}
 use lib.ListN.{length, take, drop, replicate}
 use Rattle.cipher.specs.Sm4.{roundKeys}
 use Rattle.counter.specs.CameRound.{blocksOf, ctrCameRound}
+use Rattle.walk.specs.Walk.{over}
 use Rattle.walk.specs.Outcome.{Outcome, leaving, telling, refused, refuse as refuseAs, done}
 use Rattle.cipher_mode.specs.declared.KeyAnswer.the-variants.{Key, ErrorBlockSize}
 use Rattle.cipher_mode.specs.declared.CipherMode.the-variants.{Ctr, Gcm}
@@ -24,6 +25,9 @@ use Rattle.ranges.specs.declared.plan.Plan.{Plan}
 use Rattle.ranges.specs.Plan.{accepts}
 use Rattle.ranges.specs.Range.{rangeCall}
 use Rattle.ranges.specs.ByPlan.{planCall}
+use Rattle.shelf.specs.Records.{stored, records}
+use Rattle.shelf.specs.Shelf.{currentOf, notHigher, supersede, fitted, badShelf}
+use Rattle.shelf.specs.Calls.{Outcome as Shelf·Outcome, refuse as shelfRefuse, holding, putIn}
 use Rattle.demands.specs.Call.{Call, result}
 
 -- refuses everything
@@ -103,6 +107,23 @@ planFirst dir c iv plan d o =
     checked (keyAndIv (c .answer) (c .retired) dir Ctr (length iv)) o
     (refuseAs (not (accepts plan (length d))) 18 o
     (planCall dir c iv plan d o))
+
+-- puts on a shelf, and holds the edition against the job's current record alone
+abbrev pub againstCurrent : List ℕ → ℕ → ℕ → ℕ → List ℕ → Shelf·Outcome
+againstCurrent shelf used job edition sealed =
+    shelfRefuse (badShelf shelf used) 19 shelf used
+    (shelfRefuse (notHigher job edition (currentOf job (records (take used shelf)))) 20 shelf used
+    (holding (fitted (length shelf) (putIn shelf used job edition sealed)) shelf))
+
+-- puts on a shelf, and marks what is superseded before it collects
+abbrev pub marksFirst : List ℕ → ℕ → ℕ → ℕ → List ℕ → Shelf·Outcome
+marksFirst shelf used job edition sealed =
+    holding (fitted (length shelf) (putIn shelf used job edition sealed)) (over (stored (supersede job (records (take used shelf)))) shelf)
+
+-- two records without sealed bytes: of job 0 the edition 1, superseded, and then the edition 0, current
+abbrev pub twoEditions : List ℕ
+twoEditions =
+    0x52 ∷ 0x58 ∷ 0 ∷ 0 ∷ 0 ∷ 0 ∷ 0 ∷ 1 ∷ 0 ∷ 0 ∷ 0 ∷ 0 ∷ 0x52 ∷ 0x44 ∷ 0 ∷ 0 ∷ 0 ∷ 0 ∷ 0 ∷ 0 ∷ 0 ∷ 0 ∷ 0 ∷ 0 ∷ []
 
 -- what the others are held against: encryption in Ctr under the key of number 1, and the IV, of sixteen zero bytes
 abbrev pub zeros : List ℕ

@@ -18,6 +18,7 @@ pub mod OneBlockRefused
 pub mod OtherEdition
 pub mod Which
 pub mod Workers
+pub mod OnTheShelf
 pub mod TrailingZero
 -- the worked table and the imposters
 pub mod Worked

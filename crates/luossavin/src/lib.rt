@@ -2,6 +2,7 @@
 // none has a `requires`: a host that breaks one could not be told.
 mod in_pieces;
 pub mod key;
+mod shelves;
 mod which;
 mod workers;
 

@@ -1,4 +1,2 @@
-mod Within
-mod Portions
 mod FewPieces
 mod OutOfRange

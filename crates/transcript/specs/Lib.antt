@@ -1,2 +1,1 @@
-pub mod AtMost
-pub mod Starts
+pub mod Asked

@@ -1,26 +1,36 @@
 // The program that `./luossavin` runs: it reads a person's words, does what they ask, and ends with a status line for
 // the launcher. What the words mean is settled by the crate `typed`, what becomes of the bytes by `cipher_mode` and `ranges`.
-mod files;
-mod output;
 mod passes;
 mod plan;
 mod range;
-mod say;
 mod which;
-mod work;
 
 ghost use mathlib.Core.Path.{_≡_};
 ghost use Rattle.label.specs.Label.{labelOf};
-ghost use Rattle.transcript.specs.AtMost.{AtMost};
-ghost use Rattle.transcript.specs.Starts.{directionOf, cipherOf, StartsOf};
+ghost use Rattle.portions.specs.Starts.{StartsOf};
+ghost use Rattle.transcript.specs.Asked.{directionOf, cipherOf};
 use cipher_mode::CipherMode;
 use cipher_mode::Direction;
 use cipher_mode::Sm4Cipher;
 use cipher_mode::answer::Ending;
 use cipher_mode::answer::Refusal;
 use cipher_mode::checks;
-use files::Source;
+use cli::DONE;
+use cli::FILES;
+use cli::arguments;
+use cli::arguments::COMMAND;
+use cli::arguments::word_room;
+use cli::files;
+use cli::files::Source;
+use cli::output;
+use cli::output::Output;
+use cli::say;
 use passes::Pass;
+use portions::work;
+use portions::work::Starts;
+use portions::work::Step;
+use portions::work::Task;
+use portions::work::Work;
 use typed::decimal::Number;
 use typed::hex::Hex;
 use typed::line::Fault;
@@ -28,6 +38,7 @@ use typed::line::Line;
 use typed::things::CANDIDATES;
 use typed::things::DECRYPT;
 use typed::things::EDITION;
+use typed::things::FORCE;
 use typed::things::IN;
 use typed::things::IV;
 use typed::things::JOB;
@@ -36,41 +47,10 @@ use typed::things::MODE;
 use typed::things::NOTHING;
 use typed::things::NUMBER;
 use typed::things::OFFSET;
+use typed::things::OUT;
 use typed::things::RETIRED;
 use typed::words::Command;
 use typed::words::ModeName;
-use work::Starts;
-use work::Step;
-use work::Task;
-use work::Work;
-
-// How a run ends, besides the cipher's refusals.
-const DONE: u8 = 0;
-
-const USAGE: u8 = 64;
-
-// Of `which`: IN opens under none of the candidates.
-const NONE: u8 = 65;
-
-const FILES: u8 = 66;
-
-// The descriptor on which the launcher waits for the status line.
-const REPORT: i32 = 9;
-
-// The arguments: the name by which the tool was called; what the launcher adds to OUT's name while OUT is being written;
-// the name of a file in which IN is kept where it cannot be read twice; the permissions of a new file, as a number; of each
-// of the person's words what the file has that it names; and then these words, of which the first is the command.
-const TOOL: usize = 0;
-
-const BESIDE: usize = 1;
-
-const ASIDE: usize = 2;
-
-const FRESH: usize = 3;
-
-const KEPT: usize = 4;
-
-const COMMAND: usize = 5;
 
 // What is asked for: the words are in order, but for the files and the sizes of key and IV. Of what is read later
 // `places` has the places of the words. Of `range`: whether it decrypts, and where IN stands in its text. Of `which`: the edition that
@@ -93,15 +73,7 @@ pub struct Asked {
 }
 
 fn main() {
-    let status = run();
-    io::write_all(REPORT, &typed::status::line(status));
-}
-
-// Room for any argument: the system hands over none that is longer.
-const WORD_ROOM: usize = 131072;
-
-fn word_room() -> [u8; WORD_ROOM] {
-    [0u8; WORD_ROOM]
+    cli::report(run());
 }
 
 fn run() -> u8 {
@@ -111,7 +83,7 @@ fn run() -> u8 {
     if let Command::Unknown = command {
         return say::no_command();
     }
-    let line = read_line(command);
+    let line = arguments::read_line(command, COMMAND + 1);
     let fault = line.fault;
     let Fault::NoFault = fault else {
         return say::fault(line);
@@ -126,48 +98,10 @@ fn run() -> u8 {
     with_number(line)
 }
 
-// The line with the word at a place read too.
-fn read_at(line: Line, at: usize) -> Line {
-    let mut word = word_room();
-    let n = os::arg(at, &mut word);
-    typed::line::read_word(line, &word[..n], at)
-}
-
-// Reads the words after the command.
-fn read_line(command: Command) -> Line {
-    let mut line = typed::line::start(command);
-    let count = os::arg_count();
-    let mut at = COMMAND + 1;
-    while at < count {
-        let next = read_at(line, at);
-        line = next;
-        at += 1;
-    }
-    line
-}
-
-// The number of a key for which none was said.
-const UNNUMBERED: u32 = 1;
-
-// The key's number, which a word at this place says or none does.
-fn key_number(at: usize) -> Number {
-    if at == 0 {
-        return Number::Is(UNNUMBERED);
-    }
-    capped_at(at)
-}
-
-// The number that the word at a place spells. What does not fit is out of range as it is.
-fn capped_at(at: usize) -> Number {
-    let mut word = word_room();
-    let n = os::arg(at, &mut word);
-    typed::decimal::read_capped(typed::words::value(&word[..n]), u32::MAX)
-}
-
 fn with_number(line: Line) -> u8 {
     let command = line.command;
     let places = line.places;
-    let read = key_number(places[NUMBER]);
+    let read = arguments::key_number(places[NUMBER]);
     let Number::Is(number) = read else {
         return say::wrong(NUMBER, places[NUMBER]);
     };
@@ -224,33 +158,14 @@ fn mode_named(name: ModeName) -> CipherMode {
     }
 }
 
-// The number that the word at a place spells.
-fn number_at(at: usize, most: u32) -> Number
-    ensures { λ r. ⌜ AtMost most r ⌝ }
-{
-    let mut word = word_room();
-    let n = os::arg(at, &mut word);
-    typed::decimal::read(typed::words::value(&word[..n]), most)
-}
-
-// The edition that a word at this place says, and 0 where none does.
-fn edition_at(at: usize) -> Number
-    ensures { λ r. ⌜ AtMost 65535 r ⌝ }
-{
-    if at == 0 {
-        return Number::Is(0);
-    }
-    number_at(at, 65535)
-}
-
 fn with_label(line: Line, number: u32) -> u8 {
     let command = line.command;
     let places = line.places;
-    let read = number_at(places[JOB], u32::MAX);
+    let read = arguments::number_at(places[JOB], u32::MAX);
     let Number::Is(job) = read else {
         return say::wrong(JOB, places[JOB]);
     };
-    let read = edition_at(places[EDITION]);
+    let read = arguments::edition_at(places[EDITION]);
     let Number::Is(edition) = read else {
         return say::wrong(EDITION, places[EDITION]);
     };
@@ -389,7 +304,7 @@ fn opens(asked: Asked, source: Source, work: Work) -> u8 {
     if status != DONE {
         return status;
     }
-    if output::is_alone(asked) {
+    if output::is_alone(asked.launcher) {
         return FILES;
     }
     warn(asked, pass);
@@ -405,9 +320,28 @@ fn warn(asked: Asked, pass: Pass) {
     }
 }
 
+// Whether a terminal is spared what is written: `--force` is for the commands that write what is no text, unless it is decrypted.
+fn is_shy(asked: Asked) -> bool {
+    let command = asked.command;
+    let places = asked.places;
+    if places[FORCE] != 0 {
+        return false;
+    }
+    if asked.decrypt {
+        return false;
+    }
+    typed::words::takes(command, FORCE)
+}
+
+// OUT, before its first byte.
+fn start_output(asked: Asked, file: &[u8]) -> Output {
+    let places = asked.places;
+    output::start(places[OUT], is_shy(asked), asked.launcher, file)
+}
+
 // A pass that writes. `settled`: how long IN was when a pass before this one settled it, 0 where none was needed.
 fn deliver(asked: Asked, file: &[u8], source: Source, work: Work, settled: usize) -> u8 {
-    let output = output::start(asked, file);
+    let output = start_output(asked, file);
     if output.status != DONE {
         return output.status;
     }
@@ -415,9 +349,9 @@ fn deliver(asked: Asked, file: &[u8], source: Source, work: Work, settled: usize
     let written = pass.output;
     let status = judge(asked, pass, settled);
     if status != DONE {
-        return output::undo(asked, written, status);
+        return output::undo(written, status);
     }
-    let status = output::finish(asked, written);
+    let status = output::finish(written);
     if status == DONE {
         warn(asked, pass);
     }
@@ -508,6 +442,11 @@ fn direction_of(asked: Asked) -> Direction
             }
         }
         Command::Plan => Direction::Decrypt,
+        Command::ShelfPut => Direction::Decrypt,
+        Command::ShelfFind => Direction::Decrypt,
+        Command::ShelfOpen => Direction::Decrypt,
+        Command::ShelfCollect => Direction::Decrypt,
+        Command::ShelfList => Direction::Decrypt,
         Command::Unknown => Direction::Decrypt,
     }
 }
@@ -523,15 +462,15 @@ fn cipher_of(asked: Asked, key: &[u8]) -> Sm4Cipher
     cipher
 }
 
-// The messages in pieces, and the range, at their start: under the key, the IV and the label of job and edition, and from the offset on.
-fn labelled(asked: Asked, key: &[u8], iv: &[u8]) -> Starts
+// What the pass that was asked for may begin with.
+fn starts_of(asked: Asked, key: &[u8], iv: &[u8]) -> Starts
     ensures { λ r. ⌜ StartsOf (directionOf (asked .command) (asked .decrypt)) (cipherOf (now (key .entry)) (asked .number) (asked .retired)) (labelOf (asked .job) (asked .edition)) (now (iv .entry)) (asked .offset) r ⌝ }
 {
-    let label = label::label(asked.job, asked.edition);
-    work::start_all(
+    work::labelled(
         direction_of(asked),
         cipher_of(asked, key),
-        &label,
+        asked.job,
+        asked.edition,
         iv,
         asked.offset,
     )
@@ -550,7 +489,7 @@ fn task_of(asked: Asked) -> Task {
 // The pass that was asked for, before its first byte.
 fn begin(asked: Asked, key: &[u8], iv: &[u8]) -> Step {
     let mode = asked.mode;
-    let starts = labelled(asked, key, iv);
+    let starts = starts_of(asked, key, iv);
     work::start(
         task_of(asked),
         cipher_of(asked, key),

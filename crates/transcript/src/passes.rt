@@ -4,18 +4,18 @@ ghost use Prim.Native.Nat.{_+_, _≤_};
 ghost use lib.ListN.{length};
 ghost use Rattle.cipher.specs.Engine.{Engine};
 use crate::Asked;
-use crate::DONE;
-use crate::FILES;
-use crate::files;
-use crate::files::Source;
-use crate::output;
-use crate::output::Output;
-use crate::say;
-use crate::word_room;
-use crate::work;
-use crate::work::Work;
 use cipher_mode::answer::Ending;
 use cipher_mode::answer::Refusal;
+use cli::DONE;
+use cli::FILES;
+use cli::arguments::word_room;
+use cli::files;
+use cli::files::Source;
+use cli::output;
+use cli::output::Output;
+use cli::say;
+use portions::work;
+use portions::work::Work;
 use typed::things::IN;
 
 // A pass on its way: how many bytes have been read, and how many of them wait at the front of the buffer for what follows. It
@@ -99,7 +99,7 @@ fn write(asked: Asked, mut pass: Pass, step: work::Step, out: &[u8]) -> Pass
     };
     let before = pass.output;
     let n = step.length;
-    let after = output::put(asked, before, &out[0..n]);
+    let after = output::put(before, &out[0..n]);
     let work = step.work;
     pass.work = work;
     pass.output = after;

@@ -1,8 +1,8 @@
 // A plan for several workers, a line for each piece: where it starts in the text, and how long it is.
 ghost use Prim.Native.Nat.{_≤_};
-use crate::DONE;
-use crate::capped_at;
-use crate::say;
+use cli::DONE;
+use cli::arguments::capped_at;
+use cli::say;
 use ranges::plan;
 use ranges::plan::Making;
 use ranges::plan::Plan;

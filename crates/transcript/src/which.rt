@@ -2,20 +2,20 @@
 // that opens is the answer.
 ghost use Prim.Native.Nat.{_<_};
 use crate::Asked;
-use crate::DONE;
-use crate::FILES;
 use crate::begin;
-use crate::files;
-use crate::files::Source;
 use crate::named;
-use crate::output;
 use crate::refuse;
-use crate::say;
 use crate::silent_pass;
 use crate::with_iv;
-use crate::word_room;
 use cipher_mode::answer::Ending;
 use cipher_mode::answer::Refusal;
+use cli::DONE;
+use cli::FILES;
+use cli::arguments::word_room;
+use cli::files;
+use cli::files::Source;
+use cli::output;
+use cli::say;
 use typed::candidates;
 use typed::candidates::Candidate;
 use typed::range::Range;
@@ -172,7 +172,7 @@ fn over(mut search: Search, status: u8) -> Search {
 // Says under which label IN opens, unless nobody waits for it any more.
 fn found(asked: Asked, job: u32, edition: u16) -> u8 {
     let places = asked.places;
-    if output::is_alone(asked) {
+    if output::is_alone(asked.launcher) {
         return FILES;
     }
     if places[EDITION] == 0 {
@@ -260,7 +260,7 @@ fn none(asked: Asked, search: Search, key: &[u8], iv: &[u8]) -> u8 {
             return status;
         }
     }
-    if output::is_alone(asked) {
+    if output::is_alone(asked.launcher) {
         return FILES;
     }
     if places[CANDIDATES] != 0 {

@@ -4,7 +4,7 @@ use mathlib.Core.Bool.{Bool, true, false, cond, not, _&&_, _||_}
 use mathlib.Core.List.{List}
 use lib.Dec.{ltb, eqb}
 use lib.ListN.{getD, set, replicate}
-use Rattle.typed.specs.Things.{JOB, EDITION, EDITIONS, CANDIDATES, LENGTH, IN, OUT, NOTHING}
+use Rattle.typed.specs.Things.{JOB, EDITION, EDITIONS, CANDIDATES, LENGTH, SHELF, IN, OUT, NOTHING}
 use Rattle.typed.specs.Words.{isFlag, saysLabel, optionOf, isOption, endsOptions, hasValue, takesOf, wantsOf}
 use Rattle.typed.specs.declared.words.Command.{Command}
 use Rattle.typed.specs.declared.line.Fault.{Fault}
@@ -41,6 +41,10 @@ clashes l k = cond (eqb k CANDIDATES) (not (unlabelled l)) (saysLabel k && not (
 abbrev pub lacks : Line → ℕ → Bool
 lacks l k = wantsOf (l .command) k && (unsaid l k && not (clashes l k))
 
+-- a thing that the command takes, and that has not been said
+abbrev pub awaits : Line → ℕ → Bool
+awaits l k = takesOf (l .command) k && unsaid l k
+
 -- the word at place i says thing k
 abbrev pub said : Line → ℕ → ℕ → Line
 said l k i = record { command = l .command; places = set (l .places) k i; next = NOTHING; files = l .files; fault = l .fault; at = l .at }
@@ -69,12 +73,13 @@ afterOption l k v i =
     (faulty l NotOfThisCommand i))
     (faulty l NoSuchOption i)
 
--- any other word is the first of these that the line lacks
+-- any other word is the first of these that the command takes, and that has not been said
 unfoldable pub afterOther : Line → ℕ → Line
 afterOther l i =
-    cond (lacks l LENGTH) (said l LENGTH i)
-    (cond (lacks l IN) (said l IN i)
-    (cond (lacks l OUT) (said l OUT i) (faulty l OneTooMany i)))
+    cond (awaits l LENGTH) (said l LENGTH i)
+    (cond (awaits l SHELF) (said l SHELF i)
+    (cond (awaits l IN) (said l IN i)
+    (cond (awaits l OUT) (said l OUT i) (faulty l OneTooMany i))))
 
 -- a word where no value is awaited
 unfoldable pub afterFree : Line → List ℕ → ℕ → Line

@@ -48,12 +48,16 @@ DECRYPT = 12
 abbrev pub LENGTH : ℕ
 LENGTH = 13
 
+-- the file of a shelf
+abbrev pub SHELF : ℕ
+SHELF = 14
+
 abbrev pub IN : ℕ
-IN = 14
+IN = 15
 
 abbrev pub OUT : ℕ
-OUT = 15
+OUT = 16
 
 -- none of them, and so how many there are
 abbrev pub NOTHING : ℕ
-NOTHING = 16
+NOTHING = 17

@@ -9,9 +9,10 @@ use Rattle.block.specs.Same.{same}
 use Rattle.typed.specs.Ascii.{bytes}
 use Rattle.typed.specs.Names.{placeIn}
 use Rattle.typed.specs.Things.{MODE, KEY, NUMBER, IV, JOB, EDITION, EDITIONS, CANDIDATES, OFFSET, WORKERS}
-use Rattle.typed.specs.Things.{FORCE, RETIRED, DECRYPT, LENGTH, IN, OUT, NOTHING}
+use Rattle.typed.specs.Things.{FORCE, RETIRED, DECRYPT, LENGTH, SHELF, IN, OUT, NOTHING}
 use Rattle.typed.specs.declared.words.Command.{Command}
 use Rattle.typed.specs.declared.words.Command.the-variants.{Seal, Open, Opens, Which, Encrypt, Decrypt, Plan, Range, Unknown}
+use Rattle.typed.specs.declared.words.Command.the-variants.{ShelfPut, ShelfFind, ShelfOpen, ShelfCollect, ShelfList}
 use Rattle.typed.specs.declared.words.ModeName.{ModeName}
 use Rattle.typed.specs.declared.words.ModeName.the-variants.{Cfb, Ofb, Ctr, Cbc, Unknown as NoMode}
 
@@ -22,6 +23,13 @@ commands = Seal ∷ Open ∷ Opens ∷ Which ∷ Encrypt ∷ Decrypt ∷ Plan �
 
 abbrev pub commandOf : List ℕ → Command
 commandOf w = getD commands (placeIn (bytes "seal open opens which encrypt decrypt plan range") w) Unknown
+
+-- the words behind `shelf`
+abbrev pub shelfCommands : List Command
+shelfCommands = ShelfPut ∷ ShelfFind ∷ ShelfOpen ∷ ShelfCollect ∷ ShelfList ∷ []
+
+abbrev pub shelfCommandOf : List ℕ → Command
+shelfCommandOf w = getD shelfCommands (placeIn (bytes "put find open collect list") w) Unknown
 
 abbrev pub modes : List ModeName
 modes = Cfb ∷ Ofb ∷ Ctr ∷ Cbc ∷ []
@@ -84,6 +92,11 @@ thingsOf Encrypt = MODE ∷ KEY ∷ NUMBER ∷ RETIRED ∷ IV ∷ FORCE ∷ IN �
 thingsOf Decrypt = MODE ∷ KEY ∷ NUMBER ∷ RETIRED ∷ IV ∷ IN ∷ OUT ∷ []
 thingsOf Plan = WORKERS ∷ LENGTH ∷ []
 thingsOf Range = KEY ∷ NUMBER ∷ RETIRED ∷ IV ∷ OFFSET ∷ DECRYPT ∷ FORCE ∷ IN ∷ OUT ∷ []
+thingsOf ShelfPut = JOB ∷ EDITION ∷ SHELF ∷ IN ∷ []
+thingsOf ShelfFind = JOB ∷ FORCE ∷ SHELF ∷ OUT ∷ []
+thingsOf ShelfOpen = KEY ∷ NUMBER ∷ RETIRED ∷ IV ∷ JOB ∷ SHELF ∷ OUT ∷ []
+thingsOf ShelfCollect = SHELF ∷ []
+thingsOf ShelfList = SHELF ∷ []
 thingsOf Unknown = []
 
 abbrev pub takesOf : Command → ℕ → Bool
@@ -103,12 +116,36 @@ asksWhich Encrypt = false
 asksWhich Decrypt = false
 asksWhich Plan = false
 asksWhich Range = false
+asksWhich ShelfPut = false
+asksWhich ShelfFind = false
+asksWhich ShelfOpen = false
+asksWhich ShelfCollect = false
+asksWhich ShelfList = false
 asksWhich Unknown = false
 
--- the things that a command lets be unsaid: the key's number, a file of candidates, and what is said without a value; and of
--- `which` the edition, which there is the one that the caller asked for
+-- the command that says which edition is current
+abbrev pub asksCurrent : Command → Bool
+asksCurrent Seal = false
+asksCurrent Open = false
+asksCurrent Opens = false
+asksCurrent Which = false
+asksCurrent Encrypt = false
+asksCurrent Decrypt = false
+asksCurrent Plan = false
+asksCurrent Range = false
+asksCurrent ShelfPut = false
+asksCurrent ShelfFind = true
+asksCurrent ShelfOpen = false
+asksCurrent ShelfCollect = false
+asksCurrent ShelfList = false
+asksCurrent Unknown = false
+
+-- the things that a command lets be unsaid: the key's number, a file of candidates, and what is said without a value; of `which` the
+-- edition, which there is the one that the caller asked for; and of `shelf find` OUT
 abbrev pub isOptional : Command → ℕ → Bool
-isOptional c k = cond (eqb k EDITION) (asksWhich c) (eqb k NUMBER || (eqb k CANDIDATES || isFlag k))
+isOptional c k =
+    cond (eqb k EDITION) (asksWhich c)
+    (cond (eqb k OUT) (asksCurrent c) (eqb k NUMBER || (eqb k CANDIDATES || isFlag k)))
 
 -- whether a command wants a thing to be said: all that it takes but these
 abbrev pub wantsOf : Command → ℕ → Bool

@@ -1,7 +1,7 @@
 // What a line of words says.
 ghost use mathlib.Core.Path.{_≡_};
 ghost use Prim.Native.Nat.{_<_};
-ghost use Rattle.typed.specs.Line.{lineOf, sound, unsaid, unlabelled, clashes, said, await, faulty, filesFrom, afterOption, afterOther, afterFree, afterWord, lacks, lackingIn};
+ghost use Rattle.typed.specs.Line.{lineOf, sound, unsaid, unlabelled, clashes, said, await, faulty, filesFrom, afterOption, afterOther, afterFree, afterWord, lacks, awaits, lackingIn};
 ghost use Rattle.typed.specs.Things.{NOTHING};
 use crate::things::CANDIDATES;
 use crate::things::EDITION;
@@ -11,6 +11,7 @@ use crate::things::JOB;
 use crate::things::LENGTH;
 use crate::things::NOTHING;
 use crate::things::OUT;
+use crate::things::SHELF;
 use crate::words;
 use crate::words::Command;
 
@@ -114,6 +115,18 @@ fn is_lacking(line: Line, thing: usize) -> bool
     !does_clash(line, thing)
 }
 
+// Whether the command takes a thing that no word has said.
+fn is_awaited(line: Line, thing: usize) -> bool
+    requires { ⌜ thing < NOTHING ⌝ }
+    ensures { λ r. ⌜ r ≡ awaits line thing ⌝ }
+{
+    let command = line.command;
+    if !words::takes(command, thing) {
+        return false;
+    }
+    is_unsaid(line, thing)
+}
+
 // The word at a place says a thing.
 fn say(mut line: Line, thing: usize, at: usize) -> Line
     requires { ⌜ thing < NOTHING ⌝ }
@@ -183,17 +196,20 @@ fn read_option(line: Line, thing: usize, valued: bool, at: usize) -> Line
     wait_for(line, thing)
 }
 
-// A word that is no option is the first of these that the line lacks.
+// A word that is no option is the first of these that the command takes, and that no word has said.
 fn read_other(line: Line, at: usize) -> Line
     ensures { λ r. ⌜ r ≡ afterOther line at ⌝ }
 {
-    if is_lacking(line, LENGTH) {
+    if is_awaited(line, LENGTH) {
         return say(line, LENGTH, at);
     }
-    if is_lacking(line, IN) {
+    if is_awaited(line, SHELF) {
+        return say(line, SHELF, at);
+    }
+    if is_awaited(line, IN) {
         return say(line, IN, at);
     }
-    if is_lacking(line, OUT) {
+    if is_awaited(line, OUT) {
         return say(line, OUT, at);
     }
     blame(line, Fault::OneTooMany, at)

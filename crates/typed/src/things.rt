@@ -32,9 +32,12 @@ pub const DECRYPT: usize = 12;
 // How long the text of `plan` is.
 pub const LENGTH: usize = 13;
 
-pub const IN: usize = 14;
+// The file of a shelf.
+pub const SHELF: usize = 14;
 
-pub const OUT: usize = 15;
+pub const IN: usize = 15;
+
+pub const OUT: usize = 16;
 
 // None of them, and so how many there are.
-pub const NOTHING: usize = 16;
+pub const NOTHING: usize = 17;

@@ -3,7 +3,7 @@ ghost use mathlib.Core.Path.{_≡_};
 ghost use Prim.Native.Nat.{_≤_};
 ghost use lib.ListN.{length};
 ghost use Rattle.bytes.specs.Bytes.{indexOf};
-ghost use Rattle.typed.specs.Words.{commandOf, modeOf, flagOf, optionOf, isOption, endsOptions, hasValue, valueOf, isFlag, isOneOf, takesOf, saysLabel, asksWhich, isOptional, wantsOf};
+ghost use Rattle.typed.specs.Words.{commandOf, shelfCommandOf, modeOf, flagOf, optionOf, isOption, endsOptions, hasValue, valueOf, isFlag, isOneOf, takesOf, saysLabel, asksWhich, asksCurrent, isOptional, wantsOf};
 use crate::names::alike;
 use crate::names::find;
 use crate::things::CANDIDATES;
@@ -22,6 +22,7 @@ use crate::things::NUMBER;
 use crate::things::OFFSET;
 use crate::things::OUT;
 use crate::things::RETIRED;
+use crate::things::SHELF;
 use crate::things::WORKERS;
 
 pub enum Command {
@@ -33,6 +34,11 @@ pub enum Command {
     Decrypt,
     Plan,
     Range,
+    ShelfPut,
+    ShelfFind,
+    ShelfOpen,
+    ShelfCollect,
+    ShelfList,
     Unknown,
 }
 
@@ -56,6 +62,20 @@ pub fn read_command(word: &[u8]) -> Command
         5 => Command::Decrypt,
         6 => Command::Plan,
         7 => Command::Range,
+        _ => Command::Unknown,
+    }
+}
+
+// The command that the word behind `shelf` is.
+pub fn read_shelf_command(word: &[u8]) -> Command
+    ensures { λ r. ⌜ r ≡ shelfCommandOf (now (word .entry)) ⌝ }
+{
+    match find(b"put find open collect list", word) {
+        0 => Command::ShelfPut,
+        1 => Command::ShelfFind,
+        2 => Command::ShelfOpen,
+        3 => Command::ShelfCollect,
+        4 => Command::ShelfList,
         _ => Command::Unknown,
     }
 }
@@ -198,6 +218,11 @@ pub fn takes(command: Command, thing: usize) -> bool
             thing,
             &[KEY, NUMBER, RETIRED, IV, OFFSET, DECRYPT, FORCE, IN, OUT],
         ),
+        Command::ShelfPut => is_one_of(thing, &[JOB, EDITION, SHELF, IN]),
+        Command::ShelfFind => is_one_of(thing, &[JOB, FORCE, SHELF, OUT]),
+        Command::ShelfOpen => is_one_of(thing, &[KEY, NUMBER, RETIRED, IV, JOB, SHELF, OUT]),
+        Command::ShelfCollect => is_one_of(thing, &[SHELF]),
+        Command::ShelfList => is_one_of(thing, &[SHELF]),
         Command::Unknown => false,
     }
 }
@@ -229,17 +254,47 @@ fn asks_which(command: Command) -> bool
         Command::Decrypt => false,
         Command::Plan => false,
         Command::Range => false,
+        Command::ShelfPut => false,
+        Command::ShelfFind => false,
+        Command::ShelfOpen => false,
+        Command::ShelfCollect => false,
+        Command::ShelfList => false,
         Command::Unknown => false,
     }
 }
 
-// Whether a command lets a thing be unsaid: the key's number, a file of candidates, and what is said without a value; and of
-// `which` the edition, which there is the one that the caller asked for.
+// Whether a command says which edition is current.
+fn asks_current(command: Command) -> bool
+    ensures { λ r. ⌜ r ≡ asksCurrent command ⌝ }
+{
+    match command {
+        Command::Seal => false,
+        Command::Open => false,
+        Command::Opens => false,
+        Command::Which => false,
+        Command::Encrypt => false,
+        Command::Decrypt => false,
+        Command::Plan => false,
+        Command::Range => false,
+        Command::ShelfPut => false,
+        Command::ShelfFind => true,
+        Command::ShelfOpen => false,
+        Command::ShelfCollect => false,
+        Command::ShelfList => false,
+        Command::Unknown => false,
+    }
+}
+
+// Whether a command lets a thing be unsaid: the key's number, a file of candidates, and what is said without a value; of `which` the
+// edition, which there is the one that the caller asked for; and of `shelf find` OUT.
 fn is_optional(command: Command, thing: usize) -> bool
     ensures { λ r. ⌜ r ≡ isOptional command thing ⌝ }
 {
     if thing == EDITION {
         return asks_which(command);
+    }
+    if thing == OUT {
+        return asks_current(command);
     }
     if thing == NUMBER {
         return true;

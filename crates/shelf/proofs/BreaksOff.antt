@@ -1,0 +1,157 @@
+-- Where a shelf breaks off: all is in order where no job has two current records, and otherwise less than all.
+-- Assumes nothing.
+use mathlib.Core.Path.{_≡_, refl, sym, ap, ap₂, _∙_}
+use mathlib.Core.Bool.{Bool, true, false, _&&_, cond}
+use mathlib.Core.List.{List, [], _∷_, _++_, append-assoc, append-nil}
+use Prim.Native.Nat.{ℕ, _+_, _≤_, _<_}
+use native.Mathlib.Omega.{arith}
+use lib.ListN.{length, take, drop, length-append, length-drop}
+use lib.Seq.{drop-drop, take-add, length-take-le}
+use borrow.Author.Tests.{eqb-true}
+use Rattle.block.specs.Below.{AreBytes}
+use Rattle.block.proofs.Entries.{below-take, below-drop}
+use Rattle.block.proofs.Same.{and-left, and-right}
+use Rattle.walk.proofs.Loop.{tailed, tail-is}
+use Rattle.shelf.specs.declared.records.Head.{Head}
+use Rattle.shelf.specs.Records.{Record, Proper, written, stored, records, headAt}
+use Rattle.shelf.specs.Shelf.{isCurrentOf, those, currentOf, hasCurrent, twoCurrent}
+use Rattle.shelf.specs.Steps.{soundFrom, soundUpTo}
+use Rattle.shelf.proofs.Reading.{length-written, records-empty, Turn, entry, entry-front}
+use Rattle.shelf.proofs.Walks.{none-current}
+use Rattle.shelf.proofs.Inverse.{entry-written, stored-records, written-reads, records-behind}
+use Rattle.shelf.proofs.Putting.{stored-append, those-append}
+use Rattle.shelf.proofs.Current.{current-none, own-current, at-most-one, no-two}
+use Rattle.shelf.proofs.ReadsProper.{front-proper, records-proper}
+
+shifted : (passed : List Record) (r : Record) (rs : List Record) → (passed ++ (r ∷ [])) ++ rs ≡ passed ++ (r ∷ rs)
+shifted passed r rs = append-assoc passed (r ∷ []) rs
+
+-- how many current records of a job there are, with one more
+length-more : (job : ℕ) (passed : List Record) (r : Record) (rs : List Record)
+    → length (currentOf job (passed ++ (r ∷ rs)))
+    ≡ length (currentOf job passed) + length (cond (isCurrentOf job r) (r ∷ currentOf job rs) (currentOf job rs))
+unfolding those
+length-more job passed r rs = ap length (those-append (isCurrentOf job) passed (r ∷ rs)) ∙ length-append (currentOf job passed) _
+
+first-by : (passed : List Record) (r : Record) (rs : List Record) (t : Bool) → r .current ≡ t → twoCurrent (passed ++ (r ∷ rs)) ≡ false
+    → t && hasCurrent (r .job) passed ≡ false
+first-by passed r rs false e f = refl
+first-by passed r rs true e f =
+    let all = at-most-one (passed ++ (r ∷ rs)) f (r .job) in
+    let n = length-more (r .job) passed r rs in
+    let m = rw (own-current r e) at n in
+    current-none (r .job) passed (omega arith)
+
+-- it is no second one
+first : (passed : List Record) (r : Record) (rs : List Record) → twoCurrent (passed ++ (r ∷ rs)) ≡ false
+    → r .current && hasCurrent (r .job) passed ≡ false
+first passed r rs = first-by passed r rs (r .current) refl
+
+pub sound-all : (passed rs : List Record) → twoCurrent (passed ++ rs) ≡ false → soundFrom passed rs ≡ length (stored rs)
+unfolding soundFrom stored
+sound-all passed [] e = refl
+sound-all passed (r ∷ rs) e =
+    rw (first passed r rs e, sound-all (passed ++ (r ∷ [])) rs (ap twoCurrent (shifted passed r rs) ∙ e))
+    (sym (length-append (written r) (stored rs)))
+
+more-by : (job : ℕ) (passed : List Record) (r : Record) (t : Bool) → isCurrentOf job r ≡ t → length (currentOf job passed) ≤ 1
+    → r .current && hasCurrent (r .job) passed ≡ false → length (currentOf job passed) + length (cond t (r ∷ []) []) ≤ 1
+more-by job passed r true e h f =
+    let same : r .job ≡ job = eqb-true (r .job) job (and-right (r .current) _ e) in
+    let none : hasCurrent job passed ≡ false = rw (and-left (r .current) _ e, same) at f in
+    rw (none-current job passed none) (omega arith)
+more-by job passed r false e h f = omega arith
+
+-- one more, that is no second one
+still-single : (passed : List Record) (r : Record) → twoCurrent passed ≡ false → r .current && hasCurrent (r .job) passed ≡ false
+    → twoCurrent (passed ++ (r ∷ [])) ≡ false
+unfolding those
+still-single passed r e f =
+    no-two (passed ++ (r ∷ []))
+    (λ job. rw (length-more job passed r []) (more-by job passed r (isCurrentOf job r) refl (at-most-one passed e job) f))
+
+less-by : (passed : List Record) (r : Record) (rs : List Record) (t : Bool) → r .current && hasCurrent (r .job) passed ≡ t
+    → (t ≡ false → soundFrom (passed ++ (r ∷ [])) rs < length (stored rs)) → soundFrom passed (r ∷ rs) < length (stored (r ∷ rs))
+unfolding soundFrom stored
+less-by passed r rs true e more = let l = length-written r in rw (e, length-append) (omega arith)
+less-by passed r rs false e more = let m = more refl in rw (e, length-append) (omega arith)
+
+pub sound-less : (passed rs : List Record) → twoCurrent passed ≡ false → twoCurrent (passed ++ rs) ≡ true
+    → soundFrom passed rs < length (stored rs)
+sound-less passed [] e f =
+    let g : twoCurrent passed ≡ true = sym (ap twoCurrent (append-nil passed)) ∙ f in
+    let z : _≡_ {A = ℕ} 0 1 = cc in absurd (omega arith)
+sound-less passed (r ∷ rs) e f =
+    less-by passed r rs (r .current && hasCurrent (r .job) passed) refl
+    (λ g. sound-less (passed ++ (r ∷ [])) rs (still-single passed r e g) (ap twoCurrent (shifted passed r rs) ∙ f))
+
+-- how far a walk that looks back has come: `at` bytes are passed, all of them records, and t is to come
+pub record Passing (s t : List ℕ) (at : ℕ) : Type 0 where
+  pub within : at ≤ length s
+  pub rest : t ≡ drop at s
+  pub whole : length (stored (records (take at s))) ≡ at
+  pub sum : at + soundFrom (records (take at s)) (records t) ≡ soundUpTo (records s)
+
+pub passing-starts : (s : List ℕ) → Passing s s 0
+unfolding stored
+passing-starts s =
+    record {
+      within = omega arith;
+      rest = refl;
+      whole = ap (λ (rs : List Record). length (stored rs)) records-empty;
+      sum = ap (λ (rs : List Record). 0 + soundFrom rs (records s)) records-empty ∙ omega arith;
+    }
+
+module _ (s t : List ℕ) (at : ℕ) (p : Passing s t at) where
+  pub passed-all : records t ≡ [] → at ≡ soundUpTo (records s)
+  unfolding soundFrom
+  passed-all e = let z = ap (soundFrom (records (take at s))) e in omega (arith, z, p .sum)
+
+  module _ (h : Head) (told : h ≡ headAt t) (turn : Turn t h) where
+    pub second : h .current && hasCurrent (h .job) (records (take at s)) ≡ true → at ≡ soundUpTo (records s)
+    unfolding soundFrom
+    second e =
+        let z : soundFrom (records (take at s)) (records t) ≡ 0 = ap (soundFrom (records (take at s))) (turn .reads) ∙ rw e in
+        omega (arith, z, p .sum)
+
+    module _ (small : AreBytes s) where
+      small-rest : AreBytes t
+      small-rest = rw (p .rest) (below-drop 256 at s small)
+
+      entry-proper : Proper (entry t h)
+      entry-proper = rw (entry-front t h told (turn .starts)) at (front-proper t small-rest (turn .starts))
+
+      -- the records passed, with this one
+      passed-more : records (take (at + h .size) s) ≡ records (take at s) ++ (entry t h ∷ [])
+      passed-more =
+          let P = records (take at s) in
+          let e = entry t h in
+          let small-passed = below-take 256 at s small in
+          let before : take at s ≡ stored P =
+          sym (stored-records (take at s) small-passed (p .whole ∙ sym (length-take-le at s (p .within)))) in
+          let here : take (h .size) (drop at s) ≡ written e =
+          ap (take (h .size)) (sym (p .rest)) ∙ sym (entry-written t h told turn small-rest) in
+          ap records (take-add at (h .size) s ∙ ap₂ _++_ before (here ∙ sym (append-nil (written e))))
+          ∙ records-behind P (written e ++ []) (records-proper (take at s) small-passed)
+          ∙ ap {B = List Record} (λ (x : List Record). P ++ x)
+          (written-reads e entry-proper [] ∙ ap {B = List Record} (λ (x : List Record). e ∷ x) records-empty)
+
+      pub passing-on : h .current && hasCurrent (h .job) (records (take at s)) ≡ false → Passing s (tailed (h .size) t) (at + h .size)
+      unfolding soundFrom stored
+      passing-on f =
+          let P = records (take at s) in
+          let e = entry t h in
+          let n = h .size in
+          let l = ap length (p .rest) ∙ length-drop at s in
+          let more : length (stored (P ++ (e ∷ []))) ≡ at + n =
+          ap length (stored-append P (e ∷ []) ∙ ap (λ (x : List ℕ). stored P ++ x) (append-nil (written e)))
+          ∙ length-append (stored P) (written e) ∙ ap₂ _+_ (p .whole) (turn .whole) in
+          let z : soundFrom P (records t) ≡ n + soundFrom (P ++ (e ∷ [])) (records (tailed n t)) =
+          ap (soundFrom P) (turn .reads) ∙ rw (f, turn .whole) in
+          let sum : at + n + soundFrom (P ++ (e ∷ [])) (records (tailed n t)) ≡ soundUpTo (records s) = omega (arith, z, p .sum) in
+          record {
+            within = omega (arith, turn .within);
+            rest = tail-is t n ∙ ap (drop n) (p .rest) ∙ drop-drop n at s;
+            whole = ap (λ (x : List Record). length (stored x)) passed-more ∙ more;
+            sum = ap (λ (x : List Record). at + n + soundFrom x (records (tailed n t))) passed-more ∙ sum;
+          }

@@ -1,0 +1,48 @@
+-- `shelf::part` meets its contract. The start is tested before the difference is taken, and the two tests are the definition's one.
+-- Assumes nothing.
+use mathlib.Core.Path.{_≡_}
+use mathlib.Core.List.{List, []}
+use Prim.Native.Nat.{ℕ, _+_, _-_, _≤_, _<_}
+use native.Mathlib.Omega.{arith}
+use denote.Ref.{now}
+use lib.ListN.{length, take, drop}
+use borrow.Author.Tests.{lt-ltb, le-ltb}
+use Rattle.shelf.specs.Calls.{Place, placeIn, partOf}
+use borrow.Author.Needs.{needs}
+use Rattle.shelf.proofs.part.Statement.{statement}
+use Rattle.shelf.proofs.part.Tie as tie
+
+module _ (p : Place) (shelf : List ℕ) where
+  outside : length shelf < p .start + p .size → [] ≡ partOf p shelf
+  unfolding partOf
+  outside past = rw (lt-ltb _ _ past)
+
+  -- as the borrow checker writes a part
+  inside : p .start + p .size ≤ length shelf → take (p .start + p .size - p .start) (drop (p .start) shelf) ≡ partOf p shelf
+  unfolding partOf
+  inside within =
+      let same : p .start + p .size - p .start ≡ p .size = omega arith in
+      rw (same, le-ltb _ _ within)
+
+returns : tie.Need-returns
+returns c =
+    let a = c .before .before .args in
+    outside (placeIn (a .found)) (now (a .shelf)) (omega arith)
+
+returns-2 : tie.Need-returns-2
+returns-2 c =
+    let a = c .before .before .before .args in
+    outside (placeIn (a .found)) (now (a .shelf)) (omega arith)
+
+returns-3 : tie.Need-returns-3
+returns-3 c =
+    let a = c .before .before .before .args in
+    inside (placeIn (a .found)) (now (a .shelf)) (omega arith)
+
+pub part-spec : {M : Type 1} → statement M
+part-spec =
+    tie.close
+    (tie.spec
+    (λ c. search needs) (λ c. search needs) (λ c. search needs) returns (λ c. search needs) (λ c. search needs)
+    (λ c. search needs) (λ c. search needs) returns-2 (λ c. search needs) (λ c. search needs) (λ c. search needs)
+    (λ c. search needs) returns-3)

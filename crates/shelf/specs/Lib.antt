@@ -1,0 +1,4 @@
+pub mod Records
+pub mod Shelf
+pub mod Calls
+pub mod Steps
