@@ -47,7 +47,7 @@ fn read_all(fd: i32, buf: &mut [u8]) -> Read
 
 // Whether a name stands for standard input or output.
 pub fn is_dash(name: &[u8]) -> bool {
-    typed::names::alike(name, b"-")
+    block::alike(name, b"-")
 }
 
 // Whether IN, at this place, is standard input.
@@ -127,7 +127,7 @@ pub fn holds(name: &[u8], bytes: &[u8]) -> bool {
     let read = read_all(fd, &mut file);
     libc::close(fd);
     let n = read.length;
-    typed::names::alike(&file[..n], bytes)
+    block::alike(&file[..n], bytes)
 }
 
 // IN: the descriptor that is read, -1 where it could not be opened; where it stands, -1 for what cannot be read twice; how

@@ -128,7 +128,7 @@ fn value_file(fd: i32, at: usize) {
 fn is_word(at: usize, s: &[u8]) -> bool {
     let mut room = word_room();
     let n = os::arg(at, &mut room);
-    typed::names::alike(&room[..n], s)
+    block::alike(&room[..n], s)
 }
 
 // "luossavin seal: ", or "luossavin shelf put: "

@@ -14,12 +14,12 @@ use Rattle.cipher_mode.specs.declared.CipherMode.{CipherMode}
 use Rattle.cipher_mode.specs.declared.Sm4Cipher.{Sm4Cipher}
 use Rattle.cipher_mode.specs.declared.checks.Checked.{Checked}
 use Rattle.cipher_mode.specs.Key.{keyNumber}
-use Rattle.cipher_mode.specs.Tables.{roomOf}
+use Rattle.cipher_mode.specs.Tables.{modeOf, roomOf}
 use Rattle.cipher_mode.specs.Checks.{roomCheck, messageCheck, checked}
 use Rattle.cipher_mode.specs.Calls.{modeResult, modeCall}
 use Rattle.cipher_mode.proofs.Passed.{message-passed}
 use Rattle.journal.specs.Format.{Entry, outputLimit, tooLong}
-use Rattle.journal.specs.Recomputed.{modeOf, callInto, recomputed, result, differsFrom, judged, lentRoom, Answers}
+use Rattle.journal.specs.Recomputed.{callInto, recomputed, result, differsFrom, judged, lentRoom, Answers}
 use Rattle.journal.specs.declared.again.Answered.{Answered}
 use Rattle.journal.specs.declared.again.Recomputed.{Recomputed}
 use Rattle.journal.proofs.Given.{Gives, room-16, call-gives, bad-gives}

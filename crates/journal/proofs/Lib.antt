@@ -8,3 +8,6 @@ pub mod Replaying
 pub mod BothWays
 pub mod Sums
 pub mod Agrees
+pub mod Appended
+pub mod Adding
+pub mod Joined

@@ -30,7 +30,7 @@ total-set (x ∷ l) (suc i) v h = omega (arith, total-set l i v (omega arith))
 total-one-more : (l : List ℕ) (i : ℕ) → i < length l → total (oneMore i l) ≡ total l + 1
 total-one-more l i h = omega (arith, total-set l i (getD l i 0 + 1) h)
 
-adds-nothing : AddsUp nothing
+pub adds-nothing : AddsUp nothing
 unfolding total
 adds-nothing = record { modes = refl; answers = refl; byMode = refl; byAnswer = refl }
 
@@ -56,7 +56,7 @@ adds-refused true e place r next a n = a
 adds-refused false e place r next a n = n
 
 module _ (ks : List Sm4Cipher) where
-  adds-one : (b : List ℕ) (place : ℕ) (r : Report) → AddsUp r → AddsUp (replayOne ks b place r .report)
+  pub adds-one : (b : List ℕ) (place : ℕ) (r : Report) → AddsUp r → AddsUp (replayOne ks b place r .report)
   unfolding replayOne
   adds-one b place r a =
       adds-refused (not (startsRecord b)) BadRecord place r _ a

@@ -3,3 +3,4 @@ pub mod KeyList
 pub mod Recomputed
 pub mod Reports
 pub mod Replay
+pub mod Joined

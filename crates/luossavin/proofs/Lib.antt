@@ -1,4 +1,3 @@
 pub mod Marks
-pub mod Modes
 pub mod Refusals
 pub mod Steps

@@ -4,7 +4,6 @@ ghost use Prim.Native.Nat.{_≤_};
 ghost use lib.ListN.{length};
 ghost use Rattle.bytes.specs.Bytes.{indexOf};
 ghost use Rattle.typed.specs.Words.{commandOf, shelfCommandOf, modeOf, flagOf, optionOf, isOption, endsOptions, hasValue, valueOf, isFlag, isOneOf, takesOf, saysLabel, asksWhich, asksCurrent, isOptional, wantsOf};
-use crate::names::alike;
 use crate::names::find;
 use crate::things::CANDIDATES;
 use crate::things::DECRYPT;
@@ -169,7 +168,7 @@ pub(crate) fn is_option(word: &[u8]) -> bool
 pub(crate) fn ends_options(word: &[u8]) -> bool
     ensures { λ r. ⌜ r ≡ endsOptions (now (word .entry)) ⌝ }
 {
-    alike(word, b"--")
+    block::alike(word, b"--")
 }
 
 // Whether a thing is one of some.

@@ -1,9 +1,9 @@
--- `luossavin::mode_of` meets its contract: each number up to 3 by its arm, and the others by `gcm-above`.
+-- `cipher_mode::mode_of` meets its contract: each number up to 3 by its arm, and the others by `gcm-above`.
 -- Assumes nothing.
-use Rattle.luossavin.specs.Host.{modeOf}
-use Rattle.luossavin.proofs.Modes.{gcm-above}
-use Rattle.luossavin.proofs.mode_of.Statement.{statement}
-use Rattle.luossavin.proofs.mode_of.Tie as tie
+use Rattle.cipher_mode.specs.Tables.{modeOf}
+use Rattle.cipher_mode.proofs.Modes.{gcm-above}
+use Rattle.cipher_mode.proofs.mode_of.Statement.{statement}
+use Rattle.cipher_mode.proofs.mode_of.Tie as tie
 
 returns : tie.Need-returns
 unfolding modeOf

@@ -2,8 +2,8 @@
 -- Assumes nothing.
 use mathlib.Core.Path.{_≡_, refl}
 use Prim.Native.Nat.{ℕ, zero, suc}
 use Rattle.cipher_mode.specs.declared.CipherMode.the-variants.{Gcm}
-use Rattle.luossavin.specs.Host.{modeOf}
+use Rattle.cipher_mode.specs.Tables.{modeOf}
 
 pub gcm-above : (n : ℕ) → (n ≡ 0 → ⊥) → (n ≡ 1 → ⊥) → (n ≡ 2 → ⊥) → (n ≡ 3 → ⊥) → Gcm ≡ modeOf n
 unfolding modeOf
