@@ -186,12 +186,12 @@ byte-back (suc zero) h = refl
 byte-back (suc (suc n)) h = absurd (omega arith)
 
 module _ (b : List ℕ) (small : AreBytes b) where
-  at : (i : ℕ) → getD b i 0 < 256
-  at i = below-at 256 b (lit< tt) small i
+  pub byte-at : (i : ℕ) → getD b i 0 < 256
+  byte-at i = below-at 256 b (lit< tt) small i
 
   word-back : 4 ≤ length b → bytesOf 4 (wordAt b 0) ≡ take 4 b
   word-back h =
-      bytesOf-numberOf (getD b 0 0 ∷ getD b 1 0 ∷ getD b 2 0 ∷ getD b 3 0 ∷ []) (at 0, (at 1, (at 2, (at 3, tt)))) ∙ front-four b h
+      bytesOf-numberOf (getD b 0 0 ∷ getD b 1 0 ∷ getD b 2 0 ∷ getD b 3 0 ∷ []) (byte-at 0, (byte-at 1, (byte-at 2, (byte-at 3, tt)))) ∙ front-four b h
 
   -- a part that was read, written again, is what it was read from
   part-written : startsPart b ≡ true → part (partAt b) ++ behind b ≡ b
@@ -215,12 +215,12 @@ module _ (b : List ℕ) (small : AreBytes b) where
       let m₂ = and-right (eqb (getD b 0 0) 0x54) _ m in
       let second = eqb-true (getD b 1 0) 0x52 (and-left _ _ m₂) in
       let third = byte-back (getD b 2 0) (leb-true (getD b 2 0) 1 (and-right (eqb (getD b 1 0) 0x52) _ m₂)) in
-      let two = bytesOf-numberOf (getD b 4 0 ∷ getD b 5 0 ∷ []) (at 4, (at 5, tt)) in
+      let two = bytesOf-numberOf (getD b 4 0 ∷ getD b 5 0 ∷ []) (byte-at 4, (byte-at 5, tt)) in
       rw (third, two)
       (ap₂ (λ (x y : ℕ). (x ∷ y ∷ getD b 2 0 ∷ getD b 3 0 ∷ getD b 4 0 ∷ getD b 5 0 ∷ []) ++ drop 6 b) (sym first) (sym second)
       ∙ ap (λ (l : List ℕ). l ++ drop 6 b) (front-six b h) ∙ take-append-drop 6 b)
 
-  behind-bytes : AreBytes (behind b)
+  pub behind-bytes : AreBytes (behind b)
   unfolding behind
   behind-bytes = below-drop 256 (4 + wordAt b 0) b small
 

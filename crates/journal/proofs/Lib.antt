@@ -11,3 +11,5 @@ pub mod Agrees
 pub mod Appended
 pub mod Adding
 pub mod Joined
+pub mod ReadsProper
+pub mod Ending

@@ -50,7 +50,7 @@ module _ (ks : List Sm4Cipher) (b : List ℕ) (place : ℕ) (r : Report) where
   counted-by true false false e = absurd (omega arith)
   counted-by true false true e = (refl, refl, refl)
 
-  passed : numberOfEnd (replayOne ks b place r .ended) ≡ 0
+  pub passed : numberOfEnd (replayOne ks b place r .ended) ≡ 0
       → (startsRecord b ≡ true) × (tooLong (front b) ≡ false) × (hasNumber (front b .key) ks ≡ true)
   unfolding replayOne
   passed e = counted-by (startsRecord b) (tooLong (front b)) (hasNumber (front b .key) ks) e

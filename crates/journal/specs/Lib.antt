@@ -4,3 +4,4 @@ pub mod Recomputed
 pub mod Reports
 pub mod Replay
 pub mod Joined
+pub mod Ends
