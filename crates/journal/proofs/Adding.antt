@@ -44,7 +44,7 @@ first-by false true t d e n m p place df eg = rw (df, eg)
 first-by false false true d e n m p place df eg = rw (df, eg)
 first-by false false false d e n m p place df eg = rw (df, eg)
 
-either-way : (t : Bool) (d : Difference) → cond t d d ≡ d
+pub either-way : (t : Bool) (d : Difference) → cond t d d ≡ d
 either-way true d = refl
 either-way false d = refl
 

@@ -23,7 +23,7 @@ use Rattle.journal.specs.Recomputed.{callInto, recomputed, result, diffe
 use Rattle.journal.specs.declared.again.Answered.{Answered}
 use Rattle.journal.specs.declared.again.Recomputed.{Recomputed}
 use Rattle.journal.proofs.Given.{Gives, room-16, call-gives, bad-gives}
-use Rattle.journal.proofs.Limits.{data-short}
+use Rattle.journal.proofs.Limits.{short as within}
 
 -- the size that an outcome reports, and its number
 module _ (most : ℕ) (f : List ℕ → Outcome) (g : Gives most f) (o : List ℕ) where
@@ -38,6 +38,9 @@ module _ (most : ℕ) (f : List ℕ → Outcome) (g : Gives most f) (o : List �
   given-result rest =
       rw (g .leaves o, append-assoc (g .front) (drop (length (g .front)) o) rest)
       (take-at (g .front) (drop (length (g .front)) o ++ rest) (g .head .size) (g .sized))
+
+  given-front : take (f o .head .size) (f o .bytes) ≡ g .front
+  given-front = rw (← append-nil (f o .bytes)) (given-result [])
 
 module _ (c : Sm4Cipher) (e : Entry) where
   abbrev mode : CipherMode
@@ -88,15 +91,31 @@ module _ (c : Sm4Cipher) (e : Entry) where
   result-size =
       let o : List ℕ = replicate (e .room) 0 in
       let g = gives (length o) (16 + length (e .«data»)) (λ h. room-16 mode (e .direction) (length (e .«data»))) in
-      let r = given-result _ _ g o [] in
-      rw (into-is o)
-      (rw (← append-nil (called (length o) o .bytes)) (ap length r ∙ g .sized) ∙ sym (ap (λ (x : Outcome). x .head .size) (g .leaves o)))
+      rw (into-is o) (ap length (given-front _ _ g o) ∙ g .sized ∙ sym (ap (λ (x : Outcome). x .head .size) (g .leaves o)))
+
+  same-gives : Gives (16 + length (e .«data»)) (called (e .room))
+  same-gives = gives (e .room) (16 + length (e .«data»)) (λ h. room-16 mode (e .direction) (length (e .«data»)))
+
+  room-called : recomputed c e ≡ called (e .room) (replicate (e .room) 0)
+  room-called = into-is (replicate (e .room) 0) ∙ ap {B = Outcome} (λ (n : ℕ). called n (replicate (e .room) 0)) (length-replicate (e .room) 0)
+
+  -- the same report and result, whatever the output held that was lent
+  module _ (o : List ℕ) (size : length o ≡ e .room) where
+    any-into : callInto c e o ≡ called (e .room) o
+    any-into = into-is o ∙ ap {B = Outcome} (λ (n : ℕ). called n o) size
+
+    pub any-output-head : callInto c e o .head ≡ recomputed c e .head
+    any-output-head = rw (any-into, room-called, same-gives .leaves o, same-gives .leaves (replicate (e .room) 0))
+
+    pub any-output-result : result (callInto c e o) ≡ result (recomputed c e)
+    any-output-result =
+        rw (any-into, room-called) (given-front _ _ same-gives o ∙ sym (given-front _ _ same-gives (replicate (e .room) 0)))
 
   module _ (short : tooLong e ≡ false) where
     needs-little : needed ≤ outputLimit
     needs-little =
         let h = room-16 mode (e .direction) (length (e .«data»)) in
-        let k = data-short e short in
+        let k = within e short .«data» in
         omega arith
 
     lent-by : (t : Bool) → ltb outputLimit (e .room) ≡ t → ltb (lentRoom e) needed ≡ ltb (e .room) needed
@@ -120,12 +139,6 @@ module _ (c : Sm4Cipher) (e : Entry) where
           (keyed (keyNumber c) (checked x o (modeResult mode (e .direction) (c .rk) (e .label) (e .«data») (e .iv) o))))
           (same-told (length o) (e .room) (ap (λ (n : ℕ). ltb n needed) size ∙ lent-enough))
 
-      room-called : recomputed c e ≡ called (e .room) (replicate (e .room) 0)
-      room-called = into-is (replicate (e .room) 0) ∙ ap {B = Outcome} (λ (n : ℕ). called n (replicate (e .room) 0)) (length-replicate (e .room) 0)
-
-      same-gives : Gives (16 + length (e .«data»)) (called (e .room))
-      same-gives = gives (e .room) (16 + length (e .«data»)) (λ h. room-16 mode (e .direction) (length (e .«data»)))
-
       -- Lending no more than the longest output changes neither the report nor the result.
       pub lent-head : callInto c e o .head ≡ recomputed c e .head
       lent-head = rw (lent-called, room-called, same-gives .leaves o, same-gives .leaves (replicate (e .room) 0))
@@ -134,7 +147,7 @@ module _ (c : Sm4Cipher) (e : Entry) where
       lent-result rest =
           rw (lent-called, room-called)
           (given-result _ _ same-gives o rest
-          ∙ sym (rw (← append-nil (called (e .room) (replicate (e .room) 0) .bytes)) (given-result _ _ same-gives (replicate (e .room) 0) [])))
+          ∙ sym (given-front _ _ same-gives (replicate (e .room) 0)))
 
       pub lent-fits : callInto c e o .head .size ≤ lentRoom e
       lent-fits = rw (into-is o) (given-size _ _ (gives (length o) (lentRoom e) (λ h. omega arith)) o)

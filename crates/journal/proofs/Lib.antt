@@ -7,9 +7,10 @@ pub mod Counting
 pub mod Replaying
 pub mod BothWays
 pub mod Sums
-pub mod Agrees
 pub mod Appended
 pub mod Adding
 pub mod Joined
 pub mod ReadsProper
 pub mod Ending
+pub mod Agrees
+pub mod Writing

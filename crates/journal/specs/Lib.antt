@@ -5,3 +5,4 @@ pub mod Reports
 pub mod Replay
 pub mod Joined
 pub mod Ends
+pub mod Writer

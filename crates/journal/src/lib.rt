@@ -4,6 +4,7 @@ mod again;
 pub mod keys;
 pub mod records;
 pub mod report;
+pub mod writer;
 
 ghost use mathlib.Core.Path.{_≡_};
 ghost use Prim.Native.Nat.{_+_, _≤_, _<_, _^_};
