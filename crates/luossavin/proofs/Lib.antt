@@ -1,3 +1,4 @@
+pub mod Ciphers
 pub mod Marks
 pub mod Refusals
 pub mod Steps
