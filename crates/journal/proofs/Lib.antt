@@ -6,6 +6,7 @@ pub mod Lent
 pub mod Counting
 pub mod Replaying
 pub mod BothWays
+pub mod EveryReport
 pub mod Sums
 pub mod Appended
 pub mod Adding
