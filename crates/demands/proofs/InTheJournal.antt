@@ -43,7 +43,8 @@ use Rattle.demands.specs.Answered.{oneOf}
 use Rattle.demands.specs.InTheJournal.{ReplayAnswered, ReplayEnds, Added, Recorded, AllRecorded}
 
 -- One answer is allowed alone.
-pub unique-exported-replay : (k : LuossavinKeys) (journal : List ℕ) (r₁ r₂ : LuossavinReplayed) → r₁ ≡ hostReplay k journal → r₂ ≡ hostReplay k journal
+pub unique-exported-replay : (k : LuossavinKeys) (journal : List ℕ) (r₁ r₂ : LuossavinReplayed) → r₁ ≡ hostReplay k journal
+    → r₂ ≡ hostReplay k journal
     → r₁ ≡ r₂
 unique-exported-replay k journal r₁ r₂ e₁ e₂ = e₁ ∙ sym e₂
 
@@ -104,7 +105,8 @@ module _ (keys : LuossavinKeys) (good : badKeys (keysOf keys) ≡ false) (es : L
   exported-night-agrees = rw (none-told (keysOf keys) good es (all-replayable keys es all) (all-agree keys es all))
 
 -- so is what the writer wrote of one
-module _ (keys : LuossavinKeys) (good : badKeys (keysOf keys) ≡ false) (e : Entry) (r : Recorded keys e) (o : List ℕ) (fits : length (written e) ≤ length o) where
+module _ (keys : LuossavinKeys) (good : badKeys (keysOf keys) ≡ false) (e : Entry) (r : Recorded keys e) (o : List ℕ)
+    (fits : length (written e) ≤ length o) where
   wrote-it : write e o ≡ record { wrote = Done·wrote (length (written e)); bytes = over (written e) o }
   unfolding write
   wrote-it = rw (r .replayable .short, le-ltb (length o) (length (written e)) fits)
@@ -119,7 +121,8 @@ module _ (keys : LuossavinKeys) (good : badKeys (keysOf keys) ≡ false) (e : En
       rw is-journal (exported-night-replayed keys good (e ∷ []) (r, tt), exported-night-agrees keys good (e ∷ []) (r, tt))
 
 -- The writer's contract leaves one answer and one output alone.
-pub unique-written : (x : Leaves) (r₁ r₂ : Wrote) (o₁ o₂ : List ℕ) → record { wrote = r₁; bytes = o₁ } ≡ x → record { wrote = r₂; bytes = o₂ } ≡ x
+pub unique-written : (x : Leaves) (r₁ r₂ : Wrote) (o₁ o₂ : List ℕ) → record { wrote = r₁; bytes = o₁ } ≡ x
+    → record { wrote = r₂; bytes = o₂ } ≡ x
     → (r₁ ≡ r₂) × (o₁ ≡ o₂)
 unique-written x r₁ r₂ o₁ o₂ e₁ e₂ =
     let e = e₁ ∙ sym e₂ in

@@ -57,8 +57,10 @@ module _ (p : ℕ) (r : Report) (adds : AddsUp r) where
   pub added-none : added p r nothing ≡ r
   unfolding added
   added-none =
-      let m : sums (r .«by_mode») (replicate 6 0) ≡ r .«by_mode» = ap (λ (n : ℕ). sums (r .«by_mode») (replicate n 0)) (sym (adds .modes)) ∙ sums-none (r .«by_mode») in
-      let a : sums (r .«by_answer») (replicate 27 0) ≡ r .«by_answer» = ap (λ (n : ℕ). sums (r .«by_answer») (replicate n 0)) (sym (adds .answers)) ∙ sums-none (r .«by_answer») in
+      let m : sums (r .«by_mode») (replicate 6 0) ≡ r .«by_mode» = ap (λ (n : ℕ). sums (r .«by_mode») (replicate n 0)) (sym (adds .modes))
+      ∙ sums-none (r .«by_mode») in
+      let a : sums (r .«by_answer») (replicate 27 0) ≡ r .«by_answer» = ap (λ (n : ℕ). sums (r .«by_answer») (replicate n 0))
+      (sym (adds .answers)) ∙ sums-none (r .«by_answer») in
       same-report (omega arith) m a (omega arith) (omega arith) (either-way (r .first .found) (r .first))
 
   added-counted : (e : Entry) (x : Recomputed) (place : ℕ) (s : Report) → AddsUp s → x .number < 27
@@ -92,7 +94,8 @@ module _ (p : ℕ) (r : Report) (adds : AddsUp r) where
     one-behind false false true b place s like = refl
     one-behind false false false b place s like =
         ap {B = Replayed} done
-        (added-counted (front b) (judged (front b) (recomputed (keyOf (front b .key) ks) (front b))) place s like (recomputed-known (keyOf (front b .key) ks) (front b)))
+        (added-counted (front b) (judged (front b) (recomputed (keyOf (front b .key) ks) (front b))) place s like
+        (recomputed-known (keyOf (front b .key) ks) (front b)))
 
     one-added : (b : List ℕ) (place : ℕ) (s : Report) → AddsUp s
         → replayOne ks b (p + place) (added p r s) ≡ behindReport p r (replayOne ks b place s)
@@ -111,5 +114,11 @@ module _ (p : ℕ) (r : Report) (adds : AddsUp r) where
     upto-added (suc n) b place s like =
         let y = replayOne ks b place s in
         let e : p + place + sizeAt b ≡ p + (place + sizeAt b) = omega arith in
-        rw (one-added b place s like, e, upto-added n (drop (sizeAt b) b) (place + sizeAt b) (y .report) (adds-one ks b place s like), which-behind)
+        rw (
+          one-added b place s like,
+          e,
+          upto-added n (drop (sizeAt b) b) (place + sizeAt b) (y .report)
+              (adds-one ks b place s like),
+          which-behind,
+        )
         (which-behind (eqb (length b) 0) (done s) _)

@@ -37,7 +37,13 @@ module _ (ks : List Sm4Cipher) (e : Entry) where
   answered-agrees =
       let c = keyOf (e .key) ks in
       let x = recomputed c e in
-      rw (same-call, eq-eqb (x .head .number) (x .head .number) refl, eq-eqb (length (result x)) (x .head .size) (result-size c e), same-refl (result x))
+      rw (
+        same-call,
+        eq-eqb (x .head .number) (x .head .number) refl,
+        eq-eqb (length (result x)) (x .head .size)
+            (result-size c e),
+        same-refl (result x),
+      )
 
 -- the first difference, after one more call
 still : (t : Bool) (n p : ℕ) (d : Difference) → d .found ≡ true → firstOf t n p d ≡ d
@@ -69,12 +75,14 @@ module _ (ks : List Sm4Cipher) where
   none (e ∷ es) place r (n, ns) = none es (place + length (written e)) (countedUnder ks e place r) ns ∙ one-agrees e place r n
 
   first : (es fs : List Entry) (e : Entry) (place : ℕ) (r : Report) → r .first .found ≡ false → NoneDiffers ks es → differs ks e ≡ true
-      → countedAll ks (es ++ e ∷ fs) place r .first ≡ record { found = true; index = r .records + length es; place = place + length (stored es) }
+      → countedAll ks (es ++ e ∷ fs) place r .first
+      ≡ record { found = true; index = r .records + length es; place = place + length (stored es) }
   unfolding countedAll stored
   first [] fs e place r f n d =
       let i : r .records + 0 ≡ r .records = omega arith in
       let p : place + 0 ≡ place = omega arith in
-      let s : countedUnder ks e place r .first ≡ record { found = true; index = r .records; place = place } = one-first e place r ∙ rw (f, d) in
+      let s : countedUnder ks e place r .first ≡ record { found = true; index = r .records; place = place } = one-first e place r ∙ rw
+      (f, d) in
       kept fs (place + length (written e)) (countedUnder ks e place r) (ap (λ (x : Difference). x .found) s) ∙ s ∙ rw (i, p)
   first (g ∷ es) fs e place r f (n, ns) d =
       let s = one-agrees g place r n in
@@ -95,7 +103,8 @@ module _ (k : Keys) (good : badKeys k ≡ false) where
       → replay k (stored es) .report .first ≡ record { found = false; index = 0; place = 0 }
   none-told es all n = rw (replayed-whole es all) (none (keysIn k) es 0 nothing n)
 
-  pub first-told : (es fs : List Entry) (e : Entry) → AllReplayable (keysIn k) (es ++ e ∷ fs) → NoneDiffers (keysIn k) es → differs (keysIn k) e ≡ true
+  pub first-told : (es fs : List Entry) (e : Entry) → AllReplayable (keysIn k) (es ++ e ∷ fs) → NoneDiffers (keysIn k) es
+      → differs (keysIn k) e ≡ true
       → replay k (stored (es ++ e ∷ fs)) .report .first ≡ record { found = true; index = length es; place = length (stored es) }
   first-told es fs e all n d =
       let i : 0 + length es ≡ length es = omega arith in

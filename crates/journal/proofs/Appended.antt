@@ -9,7 +9,8 @@ use lib.ListN.{length, getD, take, drop, length-append, length-drop, List·getD-
 use lib.Seq.{take-append-le, drop-append-le}
 use Rattle.block.specs.BigEndian.{numberOf}
 use Rattle.block.specs.Words.{wordAt}
-use Rattle.journal.specs.Format.{startsPart, partAt, behind, fromLabel, fromData, fromIv, fromRoom, fromOutput, afterRecord, marked, startsRecord, sizeAt, directionOf, front}
+use Rattle.journal.specs.Format.{startsPart, partAt, behind, fromLabel, fromData, fromIv, fromRoom, fromOutput, afterRecord}
+use Rattle.journal.specs.Format.{marked, startsRecord, sizeAt, directionOf, front}
 use Rattle.journal.proofs.Standing.{part-starts, part-long, part-fits, Stands, stands, starts, size-is}
 
 module _ (c : List ℕ) where
@@ -96,8 +97,10 @@ module _ (c : List ℕ) where
         let l : partAt (fromLabel (b ++ c)) ≡ partAt (fromLabel b) = ap partAt label-on ∙ part-on (fromLabel b) (s .label) in
         let d : partAt (fromData (b ++ c)) ≡ partAt (fromData b) = ap partAt data-on ∙ part-on (fromData b) (s .«data») in
         let i : partAt (fromIv (b ++ c)) ≡ partAt (fromIv b) = ap partAt iv-on ∙ part-on (fromIv b) (s .iv) in
-        let w : wordAt (fromRoom (b ++ c)) 0 ≡ wordAt (fromRoom b) 0 = ap (λ (t : List ℕ). wordAt t 0) room-on ∙ word-on (fromRoom b) (omega arith) in
-        let n : getD (fromRoom (b ++ c)) 4 0 ≡ getD (fromRoom b) 4 0 = ap (λ (t : List ℕ). getD t 4 0) room-on ∙ read-on (fromRoom b) 4 (omega arith) in
+        let w : wordAt (fromRoom (b ++ c)) 0 ≡ wordAt (fromRoom b) 0 = ap (λ (t : List ℕ). wordAt t 0) room-on ∙ word-on (fromRoom b)
+        (omega arith) in
+        let n : getD (fromRoom (b ++ c)) 4 0 ≡ getD (fromRoom b) 4 0 = ap (λ (t : List ℕ). getD t 4 0) room-on ∙ read-on (fromRoom b) 4
+        (omega arith) in
         let o : partAt (fromOutput (b ++ c)) ≡ partAt (fromOutput b) = ap partAt output-on ∙ part-on (fromOutput b) (s .output) in
         rw (r₂, r₃, r₄, r₅, l, d, i, w, n, o)
 

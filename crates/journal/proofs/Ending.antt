@@ -22,13 +22,15 @@ use Rattle.journal.specs.declared.Ended.{Ended}
 use Rattle.journal.specs.declared.Ended.the-variants.{Done, BadRecord, TooLong, UnknownKey, BadKeys}
 use Rattle.journal.specs.declared.Replayed.{Replayed}
 use Rattle.journal.proofs.Standing.{Stands, stands, size-sum, size-within, data-within, behind-size}
-use Rattle.journal.proofs.Replaying.{bad-record, too-long, no-key, counts, passed, one-stands, one-counted, from-end, from-stop, from-on}
+use Rattle.journal.proofs.Replaying.{bad-record, too-long, no-key, counts, passed, one-stands, one-counted, from-end, from-stop}
+use Rattle.journal.proofs.Replaying.{from-on}
 use Rattle.journal.proofs.BothWays.{written-starts, written-front, written-behind, written-size, front-written}
 use Rattle.journal.proofs.ReadsProper.{front-proper}
 
 module _ (ks : List Sm4Cipher) where
   -- nothing was replayed, and here it ends
-  ends-here : (b : List ℕ) (place : ℕ) (r : Report) (x : Replayed) → Why ks b (x .ended) → x .place ≡ toldPlace (x .ended) (place + 0) → x .report ≡ r
+  ends-here : (b : List ℕ) (place : ℕ) (r : Report) (x : Replayed) → Why ks b (x .ended) → x .place ≡ toldPlace (x .ended) (place + 0)
+      → x .report ≡ r
       → Ends ks b place r x
   unfolding stored countedAll
   ends-here b place r x why told report =
@@ -37,8 +39,10 @@ module _ (ks : List Sm4Cipher) where
   -- the record in front was refused
   stops : (s t n : Bool) (b : List ℕ) (place : ℕ) (r : Report) → 0 < length b → startsRecord b ≡ s → tooLong (front b) ≡ t
       → hasNumber (front b .key) ks ≡ n
-      → (numberOfEnd (refuse (not s) BadRecord place r (refuse t TooLong place r (refuse (not n) UnknownKey place r (done (countedUnder ks (front b) place r)))) .ended) ≡ 0 → ⊥)
-      → Ends ks b place r (refuse (not s) BadRecord place r (refuse t TooLong place r (refuse (not n) UnknownKey place r (done (countedUnder ks (front b) place r)))))
+      → (numberOfEnd (refuse (not s) BadRecord place r (refuse t TooLong place r
+      (refuse (not n) UnknownKey place r (done (countedUnder ks (front b) place r)))) .ended) ≡ 0 → ⊥)
+      → Ends ks b place r (refuse (not s) BadRecord place r (refuse t TooLong place r
+      (refuse (not n) UnknownKey place r (done (countedUnder ks (front b) place r)))))
   stops false t n b place r some es et en z = ends-here b place r _ (some, es) (omega arith) refl
   stops true true n b place r some es et en z = ends-here b place r _ (es, et) (omega arith) refl
   stops true false false b place r some es et en z = ends-here b place r _ (es, et, en) (omega arith) refl
@@ -55,7 +59,8 @@ module _ (ks : List Sm4Cipher) where
   unfolding stored countedAll
   one-before e b place r x good ends =
       let l = length-append (written e) (stored (ends .calls)) in
-      let n : place + length (written e) + length (stored (ends .calls)) ≡ place + length (written e ++ stored (ends .calls)) = omega arith in
+      let n : place + length (written e) + length (stored (ends .calls)) ≡ place + length
+      (written e ++ stored (ends .calls)) = omega arith in
       record {
         calls = e ∷ ends .calls;
         rest = ends .rest;
@@ -84,8 +89,10 @@ module _ (ks : List Sm4Cipher) where
 
     goes-before : (x : Replayed) → Ends ks (drop (sizeAt b) b) (place + sizeAt b) (replayOne ks b place r .report) x → Ends ks b place r x
     goes-before x ends =
-        let c : replayOne ks b place r .report ≡ countedUnder ks (front b) place r = ap {B = Report} (λ (y : Replayed). y .report) (one-counted ks b place r z) in
-        let f : Ends ks (drop (sizeAt b) b) (place + length (written (front b))) (countedUnder ks (front b) place r) x = rw (← size-there, ← c) ends in
+        let c : replayOne ks b place r .report ≡ countedUnder ks (front b) place r = ap {B = Report} (λ (y : Replayed). y .report)
+        (one-counted ks b place r z) in
+        let f : Ends ks (drop (sizeAt b) b) (place + length (written (front b))) (countedUnder ks (front b) place r) x = rw
+        (← size-there, ← c) ends in
         rw (whole-there) at (one-before (front b) (drop (sizeAt b) b) place r x replayable-there f)
 
   abbrev EndsFrom : List ℕ → ℕ → Report → Type 0
@@ -104,7 +111,8 @@ module _ (ks : List Sm4Cipher) where
       let s = one-stands ks b place r z in
       let d = data-within b s in
       let l = length-drop (sizeAt b) b in
-      let ends = before (drop (sizeAt b) b) (place + sizeAt b) (replayOne ks b place r .report) (below-drop 256 (sizeAt b) b small) (omega arith) in
+      let ends = before (drop (sizeAt b) b) (place + sizeAt b) (replayOne ks b place r .report) (below-drop 256 (sizeAt b) b small)
+      (omega arith) in
       rw (from-on ks b place r some z) (goes-before b small place r z _ ends)
   goes-by false n b place r before small some h e =
       let f = eqb-false (numberOfEnd (replayOne ks b place r .ended)) 0 e in
@@ -115,7 +123,8 @@ module _ (ks : List Sm4Cipher) where
   ends-from zero (x ∷ b) place r small h = absurd (omega arith)
   ends-from (suc n) [] place r small h = nothing-left place r
   ends-from (suc n) (x ∷ b) place r small h =
-      goes-by (eqb (numberOfEnd (replayOne ks (x ∷ b) place r .ended)) 0) n (x ∷ b) place r (λ b place r small h. ends-from n b place r small h) small (omega arith) h refl
+      goes-by (eqb (numberOfEnd (replayOne ks (x ∷ b) place r .ended)) 0) n (x ∷ b) place r
+      (λ b place r small h. ends-from n b place r small h) small (omega arith) h refl
 
   -- the other way: what ends so is what replay ends with
   same-end : {e e′ : Ended} {p p′ : ℕ} {r r′ : Report} → e ≡ e′ → p ≡ p′ → r ≡ r′
@@ -123,7 +132,8 @@ module _ (ks : List Sm4Cipher) where
   same-end a b c = rw (a, b, c)
 
   module _ (b : List ℕ) (place : ℕ) (r : Report) where
-    stopped : (e : Ended) → (numberOfEnd e ≡ 0 → ⊥) → 0 < length b → record { ended = e; place = place; report = r } ≡ replayOne ks b place r
+    stopped : (e : Ended) → (numberOfEnd e ≡ 0 → ⊥) → 0 < length b
+        → record { ended = e; place = place; report = r } ≡ replayOne ks b place r
         → record { ended = e; place = place + 0; report = r } ≡ replayFrom ks b place r
     stopped e n some x =
         let p : place + 0 ≡ place = omega arith in

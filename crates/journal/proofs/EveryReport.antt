@@ -16,8 +16,10 @@ use Rattle.journal.specs.declared.Ended.{Ended}
 use Rattle.journal.specs.declared.Ended.the-variants.{BadRecord, TooLong, UnknownKey, BadKeys}
 use Rattle.journal.specs.declared.Replayed.{Replayed}
 
-module _ (P : Report → Type 0) (counts : (ks : List Sm4Cipher) (b : List ℕ) (place : ℕ) (r : Report) → P r → P (countedUnder ks (front b) place r)) where
-  refused-keeps : (t : Bool) (e : Ended) (place : ℕ) (r : Report) (next : Replayed) → P r → P (next .report) → P (refuse t e place r next .report)
+module _ (P : Report → Type 0)
+    (counts : (ks : List Sm4Cipher) (b : List ℕ) (place : ℕ) (r : Report) → P r → P (countedUnder ks (front b) place r)) where
+  refused-keeps : (t : Bool) (e : Ended) (place : ℕ) (r : Report) (next : Replayed) → P r → P (next .report)
+      → P (refuse t e place r next .report)
   refused-keeps true e place r next p n = p
   refused-keeps false e place r next p n = n
 

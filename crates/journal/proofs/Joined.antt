@@ -74,7 +74,8 @@ module _ (ks : List Sm4Cipher) (b : List ℕ) where
   goes-by true n a place r before some h w e =
       let z = eqb-true (numberOfEnd (replayOne ks a place r .ended)) 0 e in
       first-on a place r some z
-      ∙ before (drop (sizeAt a) a) (place + sizeAt a) (replayOne ks a place r .report) (shorter a place r some z n h) (ends-alike a place r some z w)
+      ∙ before (drop (sizeAt a) a) (place + sizeAt a) (replayOne ks a place r .report) (shorter a place r some z n h)
+      (ends-alike a place r some z w)
       ∙ rest-on a place r some z
   goes-by false n a place r before some h w e =
       let f : numberOfEnd (replayOne ks a place r .ended) ≡ 0 → ⊥ = eqb-false (numberOfEnd (replayOne ks a place r .ended)) 0 e in
@@ -86,12 +87,14 @@ module _ (ks : List Sm4Cipher) (b : List ℕ) where
       ap {B = Replayed} (λ (i : ℕ). replayFrom ks b i r) e
       ∙ sym (ap {B = Replayed} (λ (x : Replayed). replayFrom ks b (place + 0) (x .report)) (from-end ks [] place r refl))
 
-  goes-on : (n : ℕ) (a : List ℕ) (place : ℕ) (r : Report) → length a ≤ n → numberOfEnd (replayFrom ks a place r .ended) ≡ 0 → GoesOn a place r
+  goes-on : (n : ℕ) (a : List ℕ) (place : ℕ) (r : Report) → length a ≤ n → numberOfEnd (replayFrom ks a place r .ended) ≡ 0
+      → GoesOn a place r
   goes-on zero [] place r h w = nothing-left place r
   goes-on zero (x ∷ a) place r h w = absurd (omega arith)
   goes-on (suc n) [] place r h w = nothing-left place r
   goes-on (suc n) (x ∷ a) place r h w =
-      goes-by (eqb (numberOfEnd (replayOne ks (x ∷ a) place r .ended)) 0) n (x ∷ a) place r (λ a place r h w. goes-on n a place r h w) (omega arith) h w refl
+      goes-by (eqb (numberOfEnd (replayOne ks (x ∷ a) place r .ended)) 0) n (x ∷ a) place r (λ a place r h w. goes-on n a place r h w)
+      (omega arith) h w refl
 
 -- where it ends with 0 the keys are good
 good-by : (t : Bool) (k : Keys) (x : Replayed) → numberOfEnd (refuse t BadKeys 0 nothing x .ended) ≡ 0 → t ≡ false

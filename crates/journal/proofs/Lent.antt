@@ -80,12 +80,14 @@ module _ (c : Sm4Cipher) (e : Entry) where
   pub recomputed-known : recomputed c e .head .number < 27
   recomputed-known =
       rw (into-is (replicate (e .room) 0))
-      (given-number _ _ (gives (length (replicate (e .room) 0)) (16 + length (e .«data»)) (λ h. room-16 mode (e .direction) (length (e .«data»)))) (replicate (e .room) 0))
+      (given-number _ _ (gives (length (replicate (e .room) 0)) (16 + length (e .«data»))
+      (λ h. room-16 mode (e .direction) (length (e .«data»)))) (replicate (e .room) 0))
 
   pub recomputed-size : recomputed c e .head .size ≤ 16 + length (e .«data»)
   recomputed-size =
       rw (into-is (replicate (e .room) 0))
-      (given-size _ _ (gives (length (replicate (e .room) 0)) (16 + length (e .«data»)) (λ h. room-16 mode (e .direction) (length (e .«data»)))) (replicate (e .room) 0))
+      (given-size _ _ (gives (length (replicate (e .room) 0)) (16 + length (e .«data»))
+      (λ h. room-16 mode (e .direction) (length (e .«data»)))) (replicate (e .room) 0))
 
   pub result-size : length (result (recomputed c e)) ≡ recomputed c e .head .size
   result-size =
@@ -97,7 +99,8 @@ module _ (c : Sm4Cipher) (e : Entry) where
   same-gives = gives (e .room) (16 + length (e .«data»)) (λ h. room-16 mode (e .direction) (length (e .«data»)))
 
   room-called : recomputed c e ≡ called (e .room) (replicate (e .room) 0)
-  room-called = into-is (replicate (e .room) 0) ∙ ap {B = Outcome} (λ (n : ℕ). called n (replicate (e .room) 0)) (length-replicate (e .room) 0)
+  room-called = into-is (replicate (e .room) 0) ∙ ap {B = Outcome} (λ (n : ℕ). called n (replicate (e .room) 0))
+      (length-replicate (e .room) 0)
 
   -- the same report and result, whatever the output held that was lent
   module _ (o : List ℕ) (size : length o ≡ e .room) where

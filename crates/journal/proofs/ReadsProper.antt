@@ -17,7 +17,8 @@ use Rattle.journal.proofs.BothWays.{byte-at, behind-bytes}
 
 module _ (b : List ℕ) (small : AreBytes b) where
   word-fits : wordAt b 0 < 2 ^ 32
-  word-fits = numberOf-lt (getD b 0 0 ∷ getD b 1 0 ∷ getD b 2 0 ∷ getD b 3 0 ∷ []) (byte-at b small 0, (byte-at b small 1, (byte-at b small 2, (byte-at b small 3, tt))))
+  word-fits = numberOf-lt (getD b 0 0 ∷ getD b 1 0 ∷ getD b 2 0 ∷ getD b 3 0 ∷ [])
+      (byte-at b small 0, (byte-at b small 1, (byte-at b small 2, (byte-at b small 3, tt))))
 
   part-proper : startsPart b ≡ true → ProperPart (partAt b)
   unfolding partAt

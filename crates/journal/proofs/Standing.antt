@@ -11,7 +11,8 @@ use lib.Seq.{drop-drop, length-take-le}
 use borrow.Author.Tests.{leb-true, le-leb, lt-leb}
 use Rattle.block.specs.Words.{wordAt}
 use Rattle.block.proofs.Same.{and-left, and-right}
-use Rattle.journal.specs.Format.{startsPart, partAt, behind, fromLabel, fromData, fromIv, fromRoom, fromOutput, afterRecord, marked, startsRecord, sizeAt, front}
+use Rattle.journal.specs.Format.{startsPart, partAt, behind, fromLabel, fromData, fromIv, fromRoom, fromOutput, afterRecord}
+use Rattle.journal.specs.Format.{marked, startsRecord, sizeAt, front}
 
 -- t is the end of b
 pub record IsEnd (t b : List ℕ) : Type 0 where
@@ -137,7 +138,8 @@ module _ (b : List ℕ) where
     size-within = omega (arith, size-is)
 
     -- its bytes but for the parts are 27
-    pub size-sum : length (partAt (fromLabel b)) + length (partAt (fromData b)) + length (partAt (fromIv b)) + length (partAt (fromOutput b)) + 27 ≡ sizeAt b
+    pub size-sum : length (partAt (fromLabel b)) + length (partAt (fromData b)) + length (partAt (fromIv b)) + length
+        (partAt (fromOutput b)) + 27 ≡ sizeAt b
     size-sum =
         let l₁ = part-and-behind (fromLabel b) (s .label) in
         let l₂ = part-and-behind (fromData b) (s .«data») in

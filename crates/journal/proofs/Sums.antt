@@ -65,9 +65,11 @@ none-of-them : (n : ℕ) (d : Difference) → d .found ≡ false → (d .index �
 none-of-them n d e h = record { inside = λ z. absurd (clash (d .found) z e); nowhere = λ z. h }
 
 first-counted : (t f : Bool) (n place : ℕ) (d : Difference) → d .found ≡ f → OfRecords n d → OfRecords (n + 1) (firstOf t n place d)
-first-counted t true n place d e a = let h = a .inside e in rw e (one-of-them (n + 1) (record { found = true; index = d .index; place = d .place }) refl (omega arith))
+first-counted t true n place d e a = let h = a .inside e in rw e
+    (one-of-them (n + 1) (record { found = true; index = d .index; place = d .place }) refl (omega arith))
 first-counted true false n place d e a = rw e (one-of-them (n + 1) (record { found = true; index = n; place = place }) refl (omega arith))
-first-counted false false n place d e a = rw e (none-of-them (n + 1) (record { found = false; index = d .index; place = d .place }) refl (a .nowhere e))
+first-counted false false n place d e a = rw e
+    (none-of-them (n + 1) (record { found = false; index = d .index; place = d .place }) refl (a .nowhere e))
 
 difference-counted : (ks : List Sm4Cipher) (b : List ℕ) (place : ℕ) (r : Report) → OfRecords (r .records) (r .first)
     → OfRecords (countedUnder ks (front b) place r .records) (countedUnder ks (front b) place r .first)

@@ -102,7 +102,8 @@ module _ (call : Call) (label d iv output : List ℕ) where
   pub asked-put : (h o o₁ t₁ t₂ t₃ : List ℕ) → h ≡ headOf call → o₁ ≡ take (length h) h ++ drop (length h) o
       → t₁ ≡ over (part label) (tailed 6 o₁) → t₂ ≡ over (part d) (tailed (10 + length label) (returned 6 o₁ t₁))
       → t₃ ≡ over (part iv) (tailed (10 + length label + 4 + length d) (returned (10 + length label) (returned 6 o₁ t₁) t₂))
-      → returned (10 + length label + 4 + length d) (returned (10 + length label) (returned 6 o₁ t₁) t₂) t₃ ≡ over (askedOf call label d iv) o
+      → returned (10 + length label + 4 + length d) (returned (10 + length label) (returned 6 o₁ t₁) t₂) t₃
+      ≡ over (askedOf call label d iv) o
   asked-put h o o₁ t₁ t₂ t₃ e f f₁ f₂ f₃ =
       let a = length-part-of label in
       let b = length-part-of d in

@@ -16,10 +16,14 @@ returns c =
     let at-head = at-copy .before .before .before in
     let a = at-head .before .before .before .before .before .args in
     asked-put (a .call) (now (a .label)) (now (a .«data»)) (now (a .iv)) [] (at-head .head .result) (now (a .out)) _ _ _ _
-    (at-head .head .ensures) (at-copy .copy .ensures .1) (at-label .put-part .ensures) (at-data .put-part2 .ensures) (at-iv .put-part3 .ensures)
+    (at-head .head .ensures) (at-copy .copy .ensures .1) (at-label .put-part .ensures) (at-data .put-part2 .ensures)
+    (at-iv .put-part3 .ensures)
 
 pub put-asked-spec : {M : Type 1} → statement M
 put-asked-spec =
     tie.close
     (tie.spec
-    (λ c κs. search needs) (λ c. search needs) (λ c κs. search needs) (λ c. search needs) (λ c. search needs) (λ c. search needs) (λ c κs. search needs) (λ c. search needs) (λ c. search needs) (λ c. search needs) (λ c. search needs) (λ c. search needs) (λ c κs. search needs) (λ c. search needs) (λ c. search needs) (λ c. search needs) (λ c. search needs) (λ c. search needs) (λ c κs. search needs) (λ c. search needs) returns)
+    (λ c κs. search needs) (λ c. search needs) (λ c κs. search needs) (λ c. search needs) (λ c. search needs) (λ c. search needs)
+    (λ c κs. search needs) (λ c. search needs) (λ c. search needs) (λ c. search needs) (λ c. search needs) (λ c. search needs)
+    (λ c κs. search needs) (λ c. search needs) (λ c. search needs) (λ c. search needs) (λ c. search needs) (λ c. search needs)
+    (λ c κs. search needs) (λ c. search needs) returns)

@@ -1,4 +1,5 @@
--- `writer::write` meets its contract: what is within the limits fits sixteen bits and a few, and no sum wraps; each return is the definition.
+-- `writer::write` meets its contract: what is within the limits fits sixteen bits and a few, and no sum wraps; each return is the
+-- definition.
 -- Assumes nothing.
 use mathlib.Core.Path.{_≡_, sym, _∙_}
 use mathlib.Core.List.{List}
@@ -79,5 +80,10 @@ pub write-spec : {M : Type 1} → statement M
 write-spec =
     tie.close
     (tie.spec
-    (λ c κs. search needs) returns (λ c. search needs) (λ c. search needs) (λ c. search needs) (λ c. let s = short-there c in omega (arith, s .label, s .«data», s .iv, s .output))
-    (λ c. let s = short-there c in omega (arith, s .label, s .«data», s .iv, s .output)) (λ c. let s = short-there c in omega (arith, s .label, s .«data», s .iv, s .output)) (λ c. let s = short-there c in omega (arith, s .label, s .«data», s .iv, s .output)) (λ c. let s = short-there c in omega (arith, s .label, s .«data», s .iv, s .output)) returns-2 put-asked-requires (λ c. search needs) (λ c. search needs) (λ c. search needs) put-answered-requires (λ c. search needs) returns-3)
+    (λ c κs. search needs) returns (λ c. search needs) (λ c. search needs) (λ c. search needs)
+    (λ c. let s = short-there c in omega (arith, s .label, s .«data», s .iv, s .output))
+    (λ c. let s = short-there c in omega (arith, s .label, s .«data», s .iv, s .output))
+    (λ c. let s = short-there c in omega (arith, s .label, s .«data», s .iv, s .output))
+    (λ c. let s = short-there c in omega (arith, s .label, s .«data», s .iv, s .output))
+    (λ c. let s = short-there c in omega (arith, s .label, s .«data», s .iv, s .output)) returns-2 put-asked-requires (λ c. search needs)
+    (λ c. search needs) (λ c. search needs) put-answered-requires (λ c. search needs) returns-3)
