@@ -3,13 +3,13 @@
 -- Assumes nothing.
 use mathlib.Core.Path.{_≡_, sym, _∙_}
 use mathlib.Core.Logic.{_≢_}
-use mathlib.Core.List.{List}
 use Prim.Native.Nat.{ℕ, _-_, _≤_, max}
 use native.Mathlib.Nat.{le-max-left, le-max-right}
+use lib.ListN.{length}
 use Rattle.ghash.specs.Ghash.{ghash}
 use Rattle.ghash.proofs.ZeroKey.{ghash-zero-key}
 use Rattle.roots.specs.AtMost.{AtMost}
-use Rattle.roots.specs.Confused.{Pair, Sound, hashed, blockCount, Confuses}
+use Rattle.roots.specs.Confused.{Pair, Sound, hashed, blockCount, pairHash, Confuses}
 use Rattle.roots.proofs.OneHash.{having-too, few-agree, zeros-hash}
 use Rattle.roots.proofs.Told.{filled, filled-length, filled-elements, told}
 
@@ -17,16 +17,17 @@ filled-hash : (h n : ℕ) (p : Pair) → ghash h (filled n p) ≡ ghash h (hashe
 unfolding filled
 filled-hash h n p = zeros-hash h (n - blockCount p) (hashed p)
 
-pub few-confuse : (p q : Pair) → Sound p → Sound q → p ≢ q → AtMost (max (blockCount p) (blockCount q)) (Confuses p q)
+pub few-confuse : (p q : Pair) → Sound p → Sound q → p ≢ q → AtMost (max (blockCount p) (blockCount q)) (Confuses pairHash p q)
 few-confuse p q sp sq ne hs g =
     let n = max (blockCount p) (blockCount q) in
     let lp : blockCount p ≤ n = le-max-left (blockCount p) (blockCount q) in
     let lq : blockCount q ≤ n = le-max-right (blockCount p) (blockCount q) in
-    let few = few-agree (filled n p) (filled n q) (filled-length n p lp ∙ sym (filled-length n q lq)) (filled-elements n p sp) (filled-elements n q sq)
-    (λ e. ne (told n p q sp sq e)) hs
+    let long : length (filled n p) ≡ length (filled n q) = filled-length n p lp ∙ sym (filled-length n q lq) in
+    let few =
+    few-agree (filled n p) (filled n q) long (filled-elements n p sp) (filled-elements n q sq) (λ e. ne (told n p q sp sq e)) hs
     (having-too _ _ hs (λ h e. filled-hash h n p ∙ e ∙ sym (filled-hash h n q)) g) in
     rw (filled-length n p lp) at few
 
 -- 0 is always one of them: every hash is 0 there
-pub zero-confuses : (p q : Pair) → Confuses p q 0
+pub zero-confuses : (p q : Pair) → Confuses pairHash p q 0
 zero-confuses p q = ghash-zero-key (hashed p) ∙ sym (ghash-zero-key (hashed q))

@@ -11,7 +11,7 @@ use Rattle.block.specs.Xor.{_⊕_}
 use Rattle.block.proofs.Xor.{xor-swap, xor-meet}
 use Rattle.field.specs.Field.{Element, gmul}
 use Rattle.field.proofs.Bounded.{gmul-lt}
-use Rattle.field.proofs.Distributes.{gmul-xor, xor-gmul, zero-gmul}
+use Rattle.field.proofs.Distributes.{gmul-xor, xor-gmul}
 use Rattle.field.proofs.Commutes.{gmul-comm, gmul-assoc}
 
 abbrev pub Elements : List ℕ → Type 0

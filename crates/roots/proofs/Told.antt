@@ -3,18 +3,17 @@
 -- Assumes nothing.
 use mathlib.Core.Path.{_≡_, refl, sym, ap, ap₂, _∙_}
 use mathlib.Core.List.{List, [], _∷_, _++_, append-assoc}
-use Prim.Native.Nat.{ℕ, zero, suc, _+_, _-_, _*_, _/_, _≤_}
+use Prim.Native.Nat.{ℕ, _+_, _-_, _/_, _≤_}
 use native.Mathlib.Omega.{arith}
 use lib.Dec.{lit<}
-use lib.ListN.{length, take, drop, replicate, length-append, length-replicate, length-drop, take-append-drop}
+use lib.ListN.{length, take, drop, replicate, length-append, length-replicate}
 use lib.Seq.{take-at, drop-at}
-use Rattle.block.specs.Below.{AreBytes}
-use Rattle.block.proofs.Entries.{below-drop, below-append, below-replicate}
-use Rattle.ghash.specs.Ghash.{blocksFrom, blocks, lengthBlock, authBlocks}
-use Rattle.ghash.proofs.Blocks.{blockOf-lt, blockOf-same}
+use Rattle.block.proofs.Entries.{below-append, below-replicate}
+use Rattle.ghash.specs.Ghash.{blocks, lengthBlock, authBlocks}
 use Rattle.ghash.proofs.Lengths.{lengthBlock-lt, lengthBlock-same}
 use Rattle.roots.specs.Confused.{Pair, Sound, hashed, blockCount}
 use Rattle.roots.proofs.Horner.{Elements}
+use Rattle.roots.proofs.BlocksTell.{blocks-length, blocks-elements, blocks-same}
 
 -- lists that are the same have the same parts, where their fronts have one length
 fronts-same : (p s q t : List ℕ) → length p ≡ length q → p ++ s ≡ q ++ t → p ≡ q
@@ -28,50 +27,18 @@ lasts-same p q x y e =
     let long : length p ≡ length q = omega (arith, length-append p (x ∷ []), length-append q (y ∷ []), ap length e) in
     cc (ends-same p (x ∷ []) q (y ∷ []) long e)
 
-blocksFrom-length : (k : ℕ) (bs : List ℕ) → length (blocksFrom k bs) ≡ k
-unfolding blocksFrom
-blocksFrom-length zero bs = refl
-blocksFrom-length (suc k) bs = ap suc (blocksFrom-length k (drop 16 bs))
-
-blocks-length : (bs : List ℕ) → length (blocks bs) ≡ (length bs + 15) / 16
-unfolding blocks
-blocks-length bs = blocksFrom-length ((length bs + 15) / 16) bs
-
-blocksFrom-elements : (k : ℕ) (bs : List ℕ) → AreBytes bs → Elements (blocksFrom k bs)
-unfolding blocksFrom
-blocksFrom-elements zero bs h = tt
-blocksFrom-elements (suc k) bs h = (blockOf-lt bs h, blocksFrom-elements k (drop 16 bs) (below-drop 256 16 bs h))
-
-blocksFrom-same : (k : ℕ) (a b : List ℕ) → length a ≤ 16 * k → length a ≡ length b → AreBytes a → AreBytes b
-    → blocksFrom k a ≡ blocksFrom k b → a ≡ b
-unfolding blocksFrom
-blocksFrom-same zero [] [] h l ha hb e = refl
-blocksFrom-same zero [] (y ∷ b) h l ha hb e = absurd (omega arith)
-blocksFrom-same zero (x ∷ a) b h l ha hb e = absurd (omega arith)
-blocksFrom-same (suc k) a b h l ha hb e =
-    let rest =
-    blocksFrom-same k (drop 16 a) (drop 16 b) (simp length-drop (omega arith)) (simp length-drop (ap (λ (n : ℕ). n - 16) l))
-    (below-drop 256 16 a ha) (below-drop 256 16 b hb) (cc) in
-    sym (take-append-drop 16 a) ∙ ap₂ _++_ (blockOf-same a b l ha hb (cc)) rest ∙ take-append-drop 16 b
-
--- lists of one length that make the same blocks are the same
-blocks-same : (a b : List ℕ) → length a ≡ length b → AreBytes a → AreBytes b → blocks a ≡ blocks b → a ≡ b
-unfolding blocks
-blocks-same a b l ha hb e =
-    blocksFrom-same ((length a + 15) / 16) a b (omega arith) l ha hb (e ∙ ap (λ (n : ℕ). blocksFrom ((n + 15) / 16) b) (sym l))
-
-pub hashed-length : (p : Pair) → length (hashed p) ≡ blockCount p
+hashed-length : (p : Pair) → length (hashed p) ≡ blockCount p
 unfolding authBlocks
 hashed-length p =
     let la = blocks-length (p .label) in
     let lt = blocks-length (p .ciphertext) in
     simp length-append (omega arith)
 
-pub hashed-elements : (p : Pair) → Sound p → Elements (hashed p)
-unfolding authBlocks blocks
+hashed-elements : (p : Pair) → Sound p → Elements (hashed p)
+unfolding authBlocks
 hashed-elements p s =
-    below-append _ (blocks (p .label)) _ (blocksFrom-elements _ (p .label) (s .label-bytes))
-    (below-append _ (blocks (p .ciphertext)) _ (blocksFrom-elements _ (p .ciphertext) (s .ciphertext-bytes))
+    below-append _ (blocks (p .label)) _ (blocks-elements (p .label) (s .label-bytes))
+    (below-append _ (blocks (p .ciphertext)) _ (blocks-elements (p .ciphertext) (s .ciphertext-bytes))
     (lengthBlock-lt (length (p .label)) (length (p .ciphertext)), tt))
 
 -- what is hashed of a pair, with blocks of zeros in front, to n blocks in all

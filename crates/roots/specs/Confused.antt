@@ -1,4 +1,4 @@
--- Labels with their ciphertexts, and the H that give two of them one hash: the hash of GCM's tag, before it is masked.
+-- Pairs of a label and a ciphertext, their hash before it is masked, and which H confuse two of them.
 use mathlib.Core.Path.{_≡_}
 use mathlib.Core.List.{List}
 use Prim.Native.Nat.{ℕ, _+_, _/_}
@@ -6,12 +6,11 @@ use lib.ListN.{length}
 use Rattle.block.specs.Below.{AreBytes}
 use Rattle.ghash.specs.Ghash.{Hashable, authBlocks, ghash}
 
--- a label and a ciphertext
 pub record Pair : Type 0 where
   pub label : List ℕ
   pub ciphertext : List ℕ
 
--- they are bytes, and have lengths that can be hashed
+-- label and ciphertext are bytes, and so many that they can be hashed
 pub record Sound (p : Pair) : Type 0 where
   pub label-bytes : AreBytes (p .label)
   pub ciphertext-bytes : AreBytes (p .ciphertext)
@@ -26,6 +25,14 @@ hashed p = authBlocks (p .label) (p .ciphertext)
 abbrev pub blockCount : Pair → ℕ
 blockCount p = (length (p .label) + 15) / 16 + (length (p .ciphertext) + 15) / 16 + 1
 
--- under h the two pairs have the same hash
-abbrev pub Confuses : Pair → Pair → ℕ → Type 0
-Confuses p q h = ghash h (hashed p) ≡ ghash h (hashed q)
+-- any hash of pairs, by its H
+abbrev pub PairHash : Type 0
+PairHash = ℕ → Pair → ℕ
+
+-- GCM's, which the cipher of J0 masks to make the tag
+abbrev pub pairHash : PairHash
+pairHash h p = ghash h (hashed p)
+
+-- h gives the two pairs the same hash
+abbrev pub Confuses : PairHash → Pair → Pair → ℕ → Type 0
+Confuses hash p q h = hash h p ≡ hash h q
