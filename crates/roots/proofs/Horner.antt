@@ -1,5 +1,5 @@
--- The value of a polynomial over the field by Horner's rule, its highest coefficient first, and what is left of it when it is
--- divided by x + r: the values on the way to its value at r.
+-- The value of a polynomial over the field by Horner's rule, its highest coefficient first, and its quotient by x + r, whose
+-- coefficients are the values on the way to its value at r.
 -- Assumes nothing.
 use mathlib.Core.Path.{_≡_, refl, sym, ap, ap₂, _∙_}
 use mathlib.Core.List.{List, [], _∷_}
@@ -17,11 +17,12 @@ use Rattle.field.proofs.Commutes.{gmul-comm, gmul-assoc}
 abbrev pub Elements : List ℕ → Type 0
 Elements = Below (2 ^ 128)
 
--- from the value y of the coefficients before on
+-- the value at h, where the coefficients before these have the value y
 unfoldable pub horner : ℕ → ℕ → List ℕ → ℕ
 horner h y [] = y
 horner h y (d ∷ ds) = horner h (gmul y h ⊕ d) ds
 
+-- the quotient by x + r, where the coefficients before these have the value y at r
 unfoldable pub quotient : ℕ → ℕ → List ℕ → List ℕ
 quotient r y [] = []
 quotient r y (d ∷ ds) = y ∷ quotient r (gmul y r ⊕ d) ds
@@ -46,7 +47,7 @@ horner-lt h y [] hh hy hd = hy
 horner-lt h y (d ∷ ds) hh hy hd = horner-lt h (gmul y h ⊕ d) ds hh (step-lt y h d hh (hd .0)) (hd .1)
 
 module _ (h r : ℕ) (hh : Element h) (hr : Element r) where
-  -- values at h and r that differ by h + r times c differ so once more after a step
+  -- where a and b differ by h + r times c, one step on they differ by h + r times what the same step makes of c
   carried : (a b c : ℕ) → Element b → Element c → a ⊕ b ≡ gmul (h ⊕ r) c → gmul a h ⊕ gmul b r ≡ gmul (h ⊕ r) (gmul c h ⊕ b)
   carried a b c hb hc e =
       let hs = xor-lt 128 h r hh hr in

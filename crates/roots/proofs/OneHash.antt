@@ -22,12 +22,13 @@ use Rattle.roots.specs.AtMost.{Having, AtMost}
 use Rattle.roots.proofs.Horner.{Elements, horner}
 use Rattle.roots.proofs.Roots.{Zeros, Root, fewer-roots}
 
--- a last coefficient 0 is a factor h
+-- one coefficient more, which is 0, is a factor h
 horner-last : (h y : ℕ) (ds : List ℕ) → horner h y (ds ++ (0 ∷ [])) ≡ gmul (horner h y ds) h
 unfolding horner
 horner-last h y [] = xor-zero-r (gmul y h)
 horner-last h y (d ∷ ds) = horner-last h (gmul y h ⊕ d) ds
 
+-- every block is multiplied by h once more than it is as a coefficient
 hash-horner : (h y : ℕ) (bs : List ℕ) → hashFrom h (gmul y h) bs ≡ gmul (horner h y bs) h
 unfolding hashFrom horner
 hash-horner h y [] = refl
@@ -56,11 +57,13 @@ zeros-front : (xs ys : List ℕ) → Zeros (xs ++ ys) → Zeros xs
 zeros-front [] ys z = tt
 zeros-front (x ∷ xs) ys z = (z .0, zeros-front xs ys (z .1))
 
+-- what follows from a property is had by the same elements
 pub having-too : (P Q : ℕ → Type 0) (hs : List ℕ) → ((h : ℕ) → P h → Q h) → Having P hs → Having Q hs
 having-too P Q hs f g =
     record { different = g .different; each = λ h m. let (e, p) = g .each h m in (e, f h p) }
 
 module _ (xs ys : List ℕ) (same : length xs ≡ length ys) where
+  -- the polynomial that is 0 where the hashes agree
   difference : List ℕ
   difference = xors xs ys ++ (0 ∷ [])
 
