@@ -27,6 +27,18 @@ lasts-same p q x y e =
     let long : length p ≡ length q = omega (arith, length-append p (x ∷ []), length-append q (y ∷ []), ap length e) in
     cc (ends-same p (x ∷ []) q (y ∷ []) long e)
 
+-- what is hashed of a pair, with blocks of zeros in front, to n blocks in all
+unfoldable pub filled : ℕ → Pair → List ℕ
+filled n p = replicate (n - blockCount p) 0 ++ hashed p
+
+-- the blocks before the length block, which is the last
+before : ℕ → Pair → List ℕ
+before n p = replicate (n - blockCount p) 0 ++ (blocks (p .label) ++ blocks (p .ciphertext))
+
+filled-ends : (n : ℕ) (p : Pair) → filled n p ≡ before n p ++ (lengthBlock (length (p .label)) (length (p .ciphertext)) ∷ [])
+unfolding filled before authBlocks
+filled-ends n p = simp append-assoc
+
 hashed-length : (p : Pair) → length (hashed p) ≡ blockCount p
 unfolding authBlocks
 hashed-length p =
@@ -41,10 +53,6 @@ hashed-elements p s =
     (below-append _ (blocks (p .ciphertext)) _ (blocks-elements (p .ciphertext) (s .ciphertext-bytes))
     (lengthBlock-lt (length (p .label)) (length (p .ciphertext)), tt))
 
--- what is hashed of a pair, with blocks of zeros in front, to n blocks in all
-unfoldable pub filled : ℕ → Pair → List ℕ
-filled n p = replicate (n - blockCount p) 0 ++ hashed p
-
 pub filled-length : (n : ℕ) (p : Pair) → blockCount p ≤ n → length (filled n p) ≡ n
 unfolding filled
 filled-length n p l =
@@ -57,14 +65,6 @@ unfolding filled
 filled-elements n p s =
     let k = n - blockCount p in
     below-append _ (replicate k 0) (hashed p) (below-replicate _ k 0 (lit< tt)) (hashed-elements p s)
-
--- the blocks before the length block, which is the last
-before : ℕ → Pair → List ℕ
-before n p = replicate (n - blockCount p) 0 ++ (blocks (p .label) ++ blocks (p .ciphertext))
-
-filled-ends : (n : ℕ) (p : Pair) → filled n p ≡ before n p ++ (lengthBlock (length (p .label)) (length (p .ciphertext)) ∷ [])
-unfolding filled before authBlocks
-filled-ends n p = simp append-assoc
 
 module _ (n : ℕ) (p q : Pair) (sp : Sound p) (sq : Sound q) (same : filled n p ≡ filled n q) where
   lengths : (length (p .label) ≡ length (q .label)) × (length (p .ciphertext) ≡ length (q .ciphertext))
