@@ -14,7 +14,7 @@ use Rattle.block.specs.Below.{AreBytes}
 use Rattle.field.specs.Field.{Element, timesX, mulFrom, gmul}
 use Rattle.ghash.specs.Ghash.{blockOf, blocksFrom, blocks, lengthBlock, authBlocks, hashFrom}
 use Rattle.roots.specs.AtMost.{AtMost}
-use Rattle.roots.specs.Confused.{Pair, Sound, blockCount, pairHash, Confuses}
+use Rattle.roots.specs.Confused.{Pair, Sound, hashedCount, pairHash, Confuses}
 use Rattle.roots.proofs.FewConfuse.{few-confuse, zero-confuses}
 use Rattle.roots.proofs.EveryElement.{more-have}
 use Rattle.gcm.specs.Gcm.{hashKey}
@@ -48,7 +48,7 @@ pub zero-key-confuses : ZeroKeyConfuses pairHash
 zero-key-confuses = zero-confuses
 
 -- 1,048,576 blocks of label, as many of ciphertext, and the length block
-most-blocks : (p : Pair) → WithinLimits p → blockCount p ≤ 2097153
+most-blocks : (p : Pair) → WithinLimits p → hashedCount p ≤ 2097153
 most-blocks p w = omega (arith, w .label-limit, w .ciphertext-limit)
 
 pub rarely-confused : RarelyConfused pairHash
@@ -75,7 +75,7 @@ few-confuse-editions job₁ job₂ edition₁ edition₂ n c₁ c₂ hj₁ hj₂
         }
 
     -- a label is one block
-    count : (job edition : ℕ) (c : List ℕ) → length c ≤ n → blockCount (under job edition c) ≤ (n + 15) / 16 + 2
+    count : (job edition : ℕ) (c : List ℕ) → length c ≤ n → hashedCount (under job edition c) ≤ (n + 15) / 16 + 2
     count job edition c k = omega (arith, length-label job edition)
 
     different : under job₁ edition₁ c₁ ≢ under job₂ edition₂ c₂

@@ -8,7 +8,7 @@ use lib.ListN.{length, replicate}
 use Rattle.block.specs.Below.{AreBytes}
 use Rattle.ghash.specs.Ghash.{blocks, ghash}
 use Rattle.roots.specs.AtMost.{Having, AtMost, FewerThanOneIn}
-use Rattle.roots.specs.Confused.{Pair, blockCount, PairHash, pairHash, Confuses}
+use Rattle.roots.specs.Confused.{Pair, hashedCount, PairHash, pairHash, Confuses}
 use Rattle.cipher_mode.specs.Tables.{limit}
 use Rattle.label.specs.Label.{labelOf}
 use Rattle.demands.specs.Call.{Call, RefusedAs}
@@ -23,7 +23,7 @@ pub record WithinLimits (p : Pair) : Type 0 where
 -- Two different pairs within the limits are confused by no more H than the larger of their block counts.
 abbrev pub FewKeysConfuse : PairHash → Type 0
 FewKeysConfuse hash =
-    (p q : Pair) → WithinLimits p → WithinLimits q → p ≢ q → AtMost (max (blockCount p) (blockCount q)) (Confuses hash p q)
+    (p q : Pair) → WithinLimits p → WithinLimits q → p ≢ q → AtMost (max (hashedCount p) (hashedCount q)) (Confuses hash p q)
 
 -- Zero is always among them.
 abbrev pub ZeroKeyConfuses : PairHash → Type 0
@@ -58,7 +58,7 @@ nothing = record { label = []; ciphertext = [] }
 -- The larger block count is reached: these two have 2 and 1, and two H confuse them, 0 and 128, which is fifteen 00 and 80.
 pub record BoundReached (hash : PairHash) : Type 0 where
   pub confused : Having (Confuses hash oneBlock nothing) (0 ∷ 128 ∷ [])
-  pub count : max (blockCount oneBlock) (blockCount nothing) ≡ 2
+  pub count : max (hashedCount oneBlock) (hashedCount nothing) ≡ 2
 
 -- What that says of a call that opens sealed messages under h: if a pair opens with a tag t, then another that h does not confuse
 -- with it, with the same tag, under the same IV and given room, is refused as 4.

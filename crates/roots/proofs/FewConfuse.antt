@@ -9,19 +9,19 @@ use lib.ListN.{length}
 use Rattle.ghash.specs.Ghash.{ghash}
 use Rattle.ghash.proofs.ZeroKey.{ghash-zero-key}
 use Rattle.roots.specs.AtMost.{AtMost}
-use Rattle.roots.specs.Confused.{Pair, Sound, hashed, blockCount, pairHash, Confuses}
+use Rattle.roots.specs.Confused.{Pair, Sound, hashed, hashedCount, pairHash, Confuses}
 use Rattle.roots.proofs.OneHash.{having-too, few-agree, zeros-hash}
 use Rattle.roots.proofs.Told.{filled, filled-length, filled-elements, told}
 
 filled-hash : (h n : ℕ) (p : Pair) → ghash h (filled n p) ≡ ghash h (hashed p)
 unfolding filled
-filled-hash h n p = zeros-hash h (n - blockCount p) (hashed p)
+filled-hash h n p = zeros-hash h (n - hashedCount p) (hashed p)
 
-pub few-confuse : (p q : Pair) → Sound p → Sound q → p ≢ q → AtMost (max (blockCount p) (blockCount q)) (Confuses pairHash p q)
+pub few-confuse : (p q : Pair) → Sound p → Sound q → p ≢ q → AtMost (max (hashedCount p) (hashedCount q)) (Confuses pairHash p q)
 few-confuse p q sp sq ne hs g =
-    let n = max (blockCount p) (blockCount q) in
-    let lp : blockCount p ≤ n = le-max-left (blockCount p) (blockCount q) in
-    let lq : blockCount q ≤ n = le-max-right (blockCount p) (blockCount q) in
+    let n = max (hashedCount p) (hashedCount q) in
+    let lp : hashedCount p ≤ n = le-max-left (hashedCount p) (hashedCount q) in
+    let lq : hashedCount q ≤ n = le-max-right (hashedCount p) (hashedCount q) in
     let long : length (filled n p) ≡ length (filled n q) = filled-length n p lp ∙ sym (filled-length n q lq) in
     let few =
     few-agree (filled n p) (filled n q) long (filled-elements n p sp) (filled-elements n q sq) (λ e. ne (told n p q sp sq e)) hs

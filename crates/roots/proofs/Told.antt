@@ -11,7 +11,7 @@ use lib.Seq.{take-at, drop-at}
 use Rattle.block.proofs.Entries.{below-append, below-replicate}
 use Rattle.ghash.specs.Ghash.{blocks, lengthBlock, authBlocks}
 use Rattle.ghash.proofs.Lengths.{lengthBlock-lt, lengthBlock-same}
-use Rattle.roots.specs.Confused.{Pair, Sound, hashed, blockCount}
+use Rattle.roots.specs.Confused.{Pair, Sound, hashed, hashedCount}
 use Rattle.roots.proofs.Horner.{Elements}
 use Rattle.roots.proofs.BlocksTell.{blocks-length, blocks-elements, blocks-same}
 
@@ -29,17 +29,17 @@ lasts-same p q x y e =
 
 -- what is hashed of a pair, with blocks of zeros in front, to n blocks in all
 unfoldable pub filled : ℕ → Pair → List ℕ
-filled n p = replicate (n - blockCount p) 0 ++ hashed p
+filled n p = replicate (n - hashedCount p) 0 ++ hashed p
 
 -- the blocks before the length block, which is the last
 before : ℕ → Pair → List ℕ
-before n p = replicate (n - blockCount p) 0 ++ (blocks (p .label) ++ blocks (p .ciphertext))
+before n p = replicate (n - hashedCount p) 0 ++ (blocks (p .label) ++ blocks (p .ciphertext))
 
 filled-ends : (n : ℕ) (p : Pair) → filled n p ≡ before n p ++ (lengthBlock (length (p .label)) (length (p .ciphertext)) ∷ [])
 unfolding filled before authBlocks
 filled-ends n p = simp append-assoc
 
-hashed-length : (p : Pair) → length (hashed p) ≡ blockCount p
+hashed-length : (p : Pair) → length (hashed p) ≡ hashedCount p
 unfolding authBlocks
 hashed-length p =
     let la = blocks-length (p .label) in
@@ -53,17 +53,17 @@ hashed-elements p s =
     (below-append _ (blocks (p .ciphertext)) _ (blocks-elements (p .ciphertext) (s .ciphertext-bytes))
     (lengthBlock-lt (length (p .label)) (length (p .ciphertext)), tt))
 
-pub filled-length : (n : ℕ) (p : Pair) → blockCount p ≤ n → length (filled n p) ≡ n
+pub filled-length : (n : ℕ) (p : Pair) → hashedCount p ≤ n → length (filled n p) ≡ n
 unfolding filled
 filled-length n p l =
-    length-append (replicate (n - blockCount p) 0) (hashed p)
-    ∙ ap₂ _+_ (length-replicate (n - blockCount p) 0) (hashed-length p)
+    length-append (replicate (n - hashedCount p) 0) (hashed p)
+    ∙ ap₂ _+_ (length-replicate (n - hashedCount p) 0) (hashed-length p)
     ∙ omega arith
 
 pub filled-elements : (n : ℕ) (p : Pair) → Sound p → Elements (filled n p)
 unfolding filled
 filled-elements n p s =
-    let k = n - blockCount p in
+    let k = n - hashedCount p in
     below-append _ (replicate k 0) (hashed p) (below-replicate _ k 0 (lit< tt)) (hashed-elements p s)
 
 module _ (n : ℕ) (p q : Pair) (sp : Sound p) (sq : Sound q) (same : filled n p ≡ filled n q) where
@@ -75,8 +75,8 @@ module _ (n : ℕ) (p q : Pair) (sp : Sound p) (sq : Sound q) (same : filled n p
   hashed-same : hashed p ≡ hashed q
   unfolding filled
   hashed-same =
-      let zeros : List ℕ = replicate (n - blockCount p) 0 in
-      let counts : blockCount p ≡ blockCount q = ap₂ (λ (a t : ℕ). (a + 15) / 16 + (t + 15) / 16 + 1) (lengths .0) (lengths .1) in
+      let zeros : List ℕ = replicate (n - hashedCount p) 0 in
+      let counts : hashedCount p ≡ hashedCount q = ap₂ (λ (a t : ℕ). (a + 15) / 16 + (t + 15) / 16 + 1) (lengths .0) (lengths .1) in
       ends-same zeros (hashed p) zeros (hashed q) refl
       (same ∙ ap (λ (k : ℕ). replicate (n - k) 0 ++ hashed q) (sym counts))
 

@@ -22,8 +22,8 @@ abbrev pub hashed : Pair → List ℕ
 hashed p = authBlocks (p .label) (p .ciphertext)
 
 -- how many blocks that are: the label's and the ciphertext's, each rounded up, and the length block
-abbrev pub blockCount : Pair → ℕ
-blockCount p = (length (p .label) + 15) / 16 + (length (p .ciphertext) + 15) / 16 + 1
+abbrev pub hashedCount : Pair → ℕ
+hashedCount p = (length (p .label) + 15) / 16 + (length (p .ciphertext) + 15) / 16 + 1
 
 -- any hash of pairs, by its H
 abbrev pub PairHash : Type 0
