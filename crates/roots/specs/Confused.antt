@@ -10,7 +10,7 @@ pub record Pair : Type 0 where
   pub label : List ℕ
   pub ciphertext : List ℕ
 
--- label and ciphertext are bytes, and so many that they can be hashed
+-- label and ciphertext are bytes, and not too many to be hashed
 pub record Sound (p : Pair) : Type 0 where
   pub label-bytes : AreBytes (p .label)
   pub ciphertext-bytes : AreBytes (p .ciphertext)
