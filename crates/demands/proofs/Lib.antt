@@ -30,6 +30,7 @@ pub mod ByShares
 pub mod OnTheShelf
 pub mod InTheJournal
 pub mod TrailingZero
+pub mod HashKeys
 -- the worked table and the imposters
 pub mod Worked
 pub mod Edges

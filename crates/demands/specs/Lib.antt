@@ -21,6 +21,7 @@ pub mod Workers
 pub mod OnTheShelf
 pub mod InTheJournal
 pub mod TrailingZero
+pub mod HashKeys
 -- the worked table and the imposters
 pub mod Worked
 pub mod Edges
