@@ -10,7 +10,7 @@ use native.Mathlib.Nat.{div-add-mod'}
 use native.Mathlib.Omega.{arith}
 use lib.Dec.{lit<, eqb}
 use lib.ListN.{length, length-append, replicate}
-use borrow.Author.Tests.{eq-eqb, ne-eqb}
+use borrow.Author.Tests.{eq-eqb}
 use Rattle.block.specs.BigEndian.{numberOf, bytesOf}
 use Rattle.block.specs.Xor.{xors}
 use Rattle.block.proofs.Convert.{length-bytesOf}
@@ -41,6 +41,7 @@ use Rattle.demands.specs.Call.{inGcm, result}
 use Rattle.demands.specs.Halves.{IsValue, WholeBlocks, JoinsHalves, enciphered, keyOfHash, bytesIn, pair}
 use Rattle.demands.specs.Halves.{counterOf, hashOfAll, tagOfHalves, TagsByHalves}
 use Rattle.demands.specs.TwelveBytes.{followedBy}
+use Rattle.demands.proofs.TwelveBytes.{length-counter}
 use Rattle.demands.proofs.Through.{result-of-done, through, leaves, block-leaves}
 
 -- a value that a number is is that number
@@ -131,14 +132,6 @@ module _ (h : ℕ) (element : Element h) where
       (λ n. ap (cond (eqb (length iv) 12) (followedBy 1 iv)) (hashed-counter iv n))
       (iv-twelve-or-sixteen (length iv) e)
 
-  counter-length : (iv : List ℕ) → wrongIv Gcm (length iv) ≡ false → length (firstCounter h iv) ≡ 16
-  unfolding firstCounter
-  counter-length iv e =
-      ⊎-elim
-      (λ n. rw (eq-eqb (length iv) 12 n) (length-append iv (0 ∷ 0 ∷ 0 ∷ 1 ∷ []) ∙ ap (λ (m : ℕ). m + 4) n))
-      (λ n. rw (ne-eqb (length iv) 12 (λ z. omega arith)) (length-bytesOf 16 (ghash h (numberOf iv ∷ 128 ∷ []))))
-      (iv-twelve-or-sixteen (length iv) e)
-
 -- a usable and unretired key encrypts a block
 module _ (k : LuossavinKey) (usable : cipherIn k .answer ≡ Key) (may : retiredCheck Encrypt (cipherIn k .retired) ≡ Passed) where
   enciphers : (b : List ℕ) → length b ≡ 16 → enciphered k b ≡ encryptBlock (cipherIn k .rk) b
@@ -159,7 +152,7 @@ module _ (k : LuossavinKey) (usable : cipherIn k .answer ≡ Key) (may : retired
       let rk = cipherIn k .rk in
       let h = hashKey rk in
       let counter = ap (λ (x : LuossavinHash). counterOf x iv) key-is ∙ counter-is h (hashKey-lt rk) iv e in
-      let mask = ap (enciphered k) counter ∙ enciphers (J0 rk iv) (counter-length h (hashKey-lt rk) iv e) in
+      let mask = ap (enciphered k) counter ∙ enciphers (J0 rk iv) (length-counter h iv) in
       let all = ap {B = LuossavinHash} (λ (x : LuossavinHash). hashOfAll x label a b) key-is ∙ all-joined h (hashKey-lt rk) label a b whole in
       ap₂ xors mask (ap bytesIn all ∙ ap (bytesOf 16) (value-back (ghash h (authBlocks label (a ++ b)))))
 
