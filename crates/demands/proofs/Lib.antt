@@ -29,6 +29,7 @@ pub mod WorkersAnswer
 pub mod ByShares
 pub mod OnTheShelf
 pub mod InTheJournal
+pub mod Halves
 pub mod TrailingZero
 pub mod HashKeys
 -- the worked table and the imposters
