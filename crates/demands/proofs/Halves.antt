@@ -36,7 +36,8 @@ use Rattle.luossavin.specs.declared.halves.LuossavinHash.{LuossavinHash}
 use Rattle.luossavin.specs.declared.key.LuossavinKey.{LuossavinKey}
 use Rattle.luossavin.specs.Key.{cipherIn}
 use Rattle.luossavin.specs.Halves.{hashIn, hashOf, hostHashBlocks, hostHashJoin}
-use Rattle.luossavin.specs.Host.{modeOf, hostBlockCall, hostModeCall}
+use Rattle.cipher_mode.specs.Tables.{modeOf}
+use Rattle.luossavin.specs.Host.{hostBlockCall, hostModeCall}
 use Rattle.demands.specs.Call.{inGcm, result}
 use Rattle.demands.specs.Halves.{IsValue, WholeBlocks, JoinsHalves, enciphered, keyOfHash, bytesIn, pair}
 use Rattle.demands.specs.Halves.{counterOf, hashOfAll, tagOfHalves, TagsByHalves}
