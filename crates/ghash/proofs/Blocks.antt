@@ -16,7 +16,7 @@ use Rattle.block.proofs.Entries.{below-take, below-append, below-replicate}
 use Rattle.block.proofs.Convert.{numberOf-lt, numberOf-same}
 use Rattle.block.proofs.WordsBack.{words-same, words-take, unwords-words}
 use Rattle.field.specs.Field.{Element}
-use Rattle.ghash.specs.Ghash.{blockOf, blocksFrom, blocks}
+use Rattle.ghash.specs.Ghash.{blockOf, blocksFrom, blockCount, blocks}
 
 -- the sixteen bytes of a block
 padded : List ℕ → List ℕ
@@ -86,6 +86,15 @@ blocks-cons bs h = ap (λ (n : ℕ). blocksFrom n bs) e
   where
     e : (length bs + 15) / 16 ≡ suc ((length (drop 16 bs) + 15) / 16)
     e = simp length-drop (omega arith)
+
+length-blocksFrom : (k : ℕ) (bs : List ℕ) → length (blocksFrom k bs) ≡ k
+unfolding blocksFrom
+length-blocksFrom zero bs = refl
+length-blocksFrom (suc k) bs = ap suc (length-blocksFrom k (drop 16 bs))
+
+pub length-blocks : (bs : List ℕ) → length (blocks bs) ≡ blockCount (length bs)
+unfolding blocks
+length-blocks bs = length-blocksFrom (blockCount (length bs)) bs
 
 pub blocks-append : (k : ℕ) (p q : List ℕ) → length p ≡ 16 * k → blocks (p ++ q) ≡ blocks p ++ blocks q
 blocks-append zero [] q h = ap (λ (l : List ℕ). l ++ blocks q) (sym blocks-nil)
