@@ -28,6 +28,7 @@ pub mod Workers
 pub mod WorkersAnswer
 pub mod ByShares
 pub mod OnTheShelf
+pub mod Halves
 pub mod TrailingZero
 pub mod HashKeys
 -- the worked table and the imposters

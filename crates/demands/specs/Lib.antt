@@ -19,6 +19,7 @@ pub mod OtherEdition
 pub mod Which
 pub mod Workers
 pub mod OnTheShelf
+pub mod Halves
 pub mod TrailingZero
 pub mod HashKeys
 -- the worked table and the imposters

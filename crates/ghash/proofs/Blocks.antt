@@ -4,7 +4,7 @@ use mathlib.Core.Path.{_≡_, refl, sym, ap, ap₂, _∙_}
 use mathlib.Core.Logic.{_≢_, ⊎-elim}
 use mathlib.Core.List.{List, [], _∷_, _++_, append-assoc}
 use Prim.Native.Nat.{ℕ, zero, suc, _+_, _-_, _*_, _/_, _%_, _^_, _<_, _≤_}
-use native.Mathlib.Nat.{eq-zero-or-pos}
+use native.Mathlib.Nat.{le-of-eq, eq-zero-or-pos}
 use native.Mathlib.Omega.{arith}
 use lib.Dec.{lit<}
 use lib.ListN.{length, take, drop, getD, replicate, length-append, length-drop, drop-of-length-le}
@@ -86,6 +86,11 @@ blocks-cons bs h = ap (λ (n : ℕ). blocksFrom n bs) e
   where
     e : (length bs + 15) / 16 ≡ suc ((length (drop 16 bs) + 15) / 16)
     e = simp length-drop (omega arith)
+
+pub blocks-full : (bs : List ℕ) → length bs ≡ 16 → blocks bs ≡ numberOf bs ∷ []
+blocks-full bs e =
+    blocks-cons bs (omega arith)
+    ∙ ap₂ _∷_ (blockOf-full bs e) (ap blocks (drop-of-length-le bs (le-of-eq e)) ∙ blocks-nil)
 
 length-blocksFrom : (k : ℕ) (bs : List ℕ) → length (blocksFrom k bs) ≡ k
 unfolding blocksFrom
