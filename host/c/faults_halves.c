@@ -26,7 +26,7 @@ static struct luossavin_hash value_of(element e)
     return (struct luossavin_hash){(uint64_t)(e >> 64), (uint64_t)e};
 }
 
-static const char *difference(struct luossavin_hash got, element due)
+static const char *difference_hash(struct luossavin_hash got, element due)
 {
     return ((element)got.high << 64 | got.low) == due ? NULL : "its value";
 }
@@ -39,7 +39,7 @@ static void try_blocks(element h, size_t length)
     now.call = "blocks";
     now.length = length;
     now.h = h;
-    judged(0, difference(luossavin_hash_blocks(value_of(h), lent(bytes), length), hash_of(h, bytes.bytes, length)));
+    judged(0, difference_hash(luossavin_hash_blocks(value_of(h), lent(bytes), length), hash_of(h, bytes.bytes, length)));
     if (!holds_fill(bytes)) {
         print_trial("it changes an input");
     }
@@ -52,7 +52,7 @@ static void try_join(element h, element first, element second, unsigned bit)
     now.length = 0;
     now.h = h;
     now.count = (uint64_t)1 << bit;
-    judged(0, difference(luossavin_hash_join(value_of(h), value_of(first), value_of(second), now.count),
+    judged(0, difference_hash(luossavin_hash_join(value_of(h), value_of(first), value_of(second), now.count),
                   product(first, power_by_squares(h, bit)) ^ second));
 }
 
