@@ -619,7 +619,7 @@ struct luossavin_shelved luossavin_shelf_find(const uint8_t *shelf, size_t size,
  *   bytes 0 and 1   54 52
  *   byte 2          the direction: 0 encrypt, 1 decrypt
  *   byte 3          the mode
- *   bytes 4 and 5   the key's number
+ *   bytes 4 and 5   the number of the key that the call was on, in refusal 7 too, where the answer has 0 for it
  *   then            the label, the data and the IV, each behind its length in four bytes
  *   then            the room in four bytes, and the number that was answered in one
  *   then            the output behind its length in four bytes: the result of a call that was done, and of one that
@@ -630,10 +630,10 @@ struct luossavin_shelved luossavin_shelf_find(const uint8_t *shelf, size_t size,
  * room of 2^32 bytes or more as 2^32 - 1: the answers are the same. The rest of an answer is not recorded: the missing
  * count, the key's number and whether a counter came round.
  *
- * A replay is given up to eight keys, the first `count` of `keys`; what is behind these is not looked at. A record is
- * made again on the key that has its number. The number of a record that is no key is 0, whatever it holds, and so is
- * that of a call on it, which answers as its set-up did: it may be among the keys as any other. A key that was retired
- * since is given as it was before; calls that were refused with 14 then differ, since no key here is retired.
+ * A replay is given up to eight keys, the first `count` of `keys`; what is behind these is not looked at. A call is
+ * made again on the key that has its number. One that is no key, `answer` not 0, may be among them. Its number is 0,
+ * whatever it holds, and calls that were on none are recorded with 0 as well. A key that was retired since is given as
+ * it was before; calls that were refused with 14 then differ, since no key here is retired.
  *
  *     struct luossavin_keys keys = {.count = 2, .keys = {old, current}};
  *     struct luossavin_replayed r = luossavin_replay(keys, file, file_len);
@@ -673,9 +673,10 @@ struct luossavin_shelved luossavin_shelf_find(const uint8_t *shelf, size_t size,
  * otherwise both are 0. They do not say whether there is one: the first record has 0 and 0.
  *
  * The file is read and nothing is written. It has no limit. Whatever room was recorded, a call is made again into at
- * most 16,400 bytes, which is enough. They are on the stack, of which a replay takes less than 32 KiB. A journal has the
- * texts of its calls in it, what they were given and what they gave, and is as secret as these. It is not sealed: who
- * can write to it can make a record agree. */
+ * most 16,400 bytes, which is enough. They are on the stack, of which a replay takes less than 32 KiB.
+ *
+ * A journal has the texts of its calls in it, what they were given and what they gave, and is as secret as these. It is
+ * not sealed: who can write to it can make a record agree. */
 struct luossavin_keys {
     size_t count;
     struct luossavin_key keys[8];
