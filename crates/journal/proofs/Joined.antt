@@ -26,7 +26,8 @@ use Rattle.journal.proofs.Sums.{replay-adds-up, adds-nothing}
 use Rattle.journal.proofs.Adding.{added-none, upto-added}
 
 module _ (ks : List Sm4Cipher) (b : List ℕ) where
-  one-appended : (a : List ℕ) (place : ℕ) (r : Report) → Stands a → replayOne ks (a ++ b) place r ≡ replayOne ks a place r
+  -- a record that stands whole is replayed the same, whatever is behind it
+  pub one-appended : (a : List ℕ) (place : ℕ) (r : Report) → Stands a → replayOne ks (a ++ b) place r ≡ replayOne ks a place r
   unfolding replayOne
   one-appended a place r s = rw (starts-on b a s, front-on b a s, starts a s)
 
@@ -38,7 +39,8 @@ module _ (ks : List Sm4Cipher) (b : List ℕ) where
     abbrev so-far : Report
     so-far = replayOne ks a place r .report
 
-    first-on : replayFrom ks (a ++ b) place r ≡ replayFrom ks (behind ++ b) (place + sizeAt a) so-far
+    -- a journal can be replayed a part at a time
+    pub first-on : replayFrom ks (a ++ b) place r ≡ replayFrom ks (behind ++ b) (place + sizeAt a) so-far
     first-on =
         let s = one-stands ks a place r z in
         let l = length-append a b in
