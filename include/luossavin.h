@@ -650,7 +650,7 @@ struct luossavin_shelved luossavin_shelf_find(const uint8_t *shelf, size_t size,
  *
  *   records      how many there are
  *   by_mode      how many in each mode from 0 to 4, and at place 5 those of every mode above, which answer 7
- *   by_answer    how many with each number. Those of 5, 14 and all that no call on a message answers stay 0
+ *   by_answer    how many with each number
  *   bytes_in     the bytes of their data, of refused calls too; labels and IVs are not counted
  *   bytes_out    the lengths that they answer
  *

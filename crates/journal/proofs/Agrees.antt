@@ -1,8 +1,8 @@
 -- Calls that were recorded as they were answered agree, and only they do; of those that differ the first is told.
 -- Assumes nothing.
 use mathlib.Core.Path.{_≡_, refl, sym, ap, _∙_}
-use mathlib.Core.Bool.{Bool, true, false, not, _||_}
-use mathlib.Core.List.{List, [], _∷_, _++_, append-nil}
+use mathlib.Core.Bool.{Bool, true, false, not}
+use mathlib.Core.List.{List, [], _∷_, _++_}
 use Prim.Native.Nat.{ℕ, _+_}
 use native.Mathlib.Omega.{arith}
 use lib.Dec.{eqb}
@@ -13,7 +13,7 @@ use Rattle.block.proofs.Same.{same-refl, same-equal}
 use Rattle.cipher_mode.specs.declared.Sm4Cipher.{Sm4Cipher}
 use Rattle.journal.specs.Format.{Entry, written, stored}
 use Rattle.journal.specs.KeyList.{keyOf}
-use Rattle.journal.specs.Recomputed.{callInto, recomputed, result, differsFrom, answeredBy}
+use Rattle.journal.specs.Recomputed.{callInto, result, differsFrom, answeredBy}
 use Rattle.journal.specs.Reports.{nothing, firstOf, counted}
 use Rattle.journal.specs.Replay.{countedUnder}
 use Rattle.journal.specs.Ends.{countedAll, Ends, answerNow, differs, NoneDiffers}

@@ -1,7 +1,7 @@
 -- The report of two journals joined is their reports added, where the first is replayed to its end.
 -- Assumes nothing.
 use mathlib.Core.Path.{_≡_, refl, sym, ap, _∙_}
-use mathlib.Core.Bool.{Bool, true, false, cond}
+use mathlib.Core.Bool.{Bool, true, false}
 use mathlib.Core.List.{List, [], _∷_, _++_}
 use Prim.Native.Nat.{ℕ, zero, suc, _+_, _≤_, _<_}
 use native.Mathlib.Omega.{arith}
@@ -10,11 +10,11 @@ use lib.ListN.{length, drop, length-drop, length-append}
 use lib.Seq.{drop-append-le}
 use borrow.Author.Tests.{eqb-true, eqb-false}
 use Rattle.cipher_mode.specs.declared.Sm4Cipher.{Sm4Cipher}
-use Rattle.journal.specs.Format.{startsRecord, sizeAt, front}
+use Rattle.journal.specs.Format.{sizeAt}
 use Rattle.journal.specs.KeyList.{keysIn, badKeys}
 use Rattle.journal.specs.Reports.{nothing}
 use Rattle.journal.specs.Replay.{numberOfEnd, refuse, replayOne, replayFrom, replay}
-use Rattle.journal.specs.Joined.{added, behindReport}
+use Rattle.journal.specs.Joined.{behindReport}
 use Rattle.journal.specs.declared.keys.Keys.{Keys}
 use Rattle.journal.specs.declared.report.Report.{Report}
 use Rattle.journal.specs.declared.Ended.the-variants.{BadKeys}
