@@ -38,7 +38,7 @@ pub fn number(n: u64) {
     io::print_decimal(STDERR_FILENO, n);
 }
 
-fn bytes(n: usize) {
+pub fn bytes(n: usize) {
     number(n as u64);
     if n == 1 {
         text(b" byte");
@@ -77,7 +77,7 @@ pub fn quoted(at: usize) {
 }
 
 // The value that the word at a place says.
-fn value(at: usize) {
+pub fn value(at: usize) {
     let mut room = word_room();
     let n = os::arg(at, &mut room);
     name(STDERR_FILENO, typed::words::value(&room[..n]));
