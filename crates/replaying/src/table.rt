@@ -195,7 +195,9 @@ pub fn show(report: Report) -> u8 {
     if status != DONE {
         return status;
     }
-    say::answer(b"\n");
+    if report.records != 0 {
+        say::answer(b"\n");
+    }
     let status = answers(false, by_answer);
     if status != DONE {
         return status;

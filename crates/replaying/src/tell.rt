@@ -269,5 +269,5 @@ fn refused(at: usize, pass: Pass) -> u8 {
 fn unknown_key(glance: Glance) {
     say::text(b", is of key ");
     say::number(glance.key as u64);
-    say::text(b", which is not among the keys: add it to the list\n");
+    say::text(b", which is not among the keys that were given\n");
 }
