@@ -1,4 +1,4 @@
--- `candidates::line` meets its contract. The loop's invariant: the line that is sought is the one behind as many more as are left.
+-- `lists::line` meets its contract. The loop's invariant: the line that is sought is the one behind as many more as are left.
 -- The measure is what is left of the list.
 -- Assumes nothing.
 use mathlib.Core.Path.{_≡_, refl}
@@ -7,10 +7,10 @@ use Prim.Native.Nat.{_-_}
 use native.Mathlib.Omega.{arith}
 use denote.Ref.{now}
 use lib.ListN.{length, getD, drop}
-use Rattle.typed.specs.Candidates.{linesIn}
+use Rattle.typed.specs.Lists.{linesIn}
 use Rattle.typed.proofs.ByLine.{line-here, line-on, line-end}
-use Rattle.typed.proofs.candidates.line.Statement.{statement}
-use Rattle.typed.proofs.candidates.line.Tie as tie
+use Rattle.typed.proofs.lists.line.Statement.{statement}
+use Rattle.typed.proofs.lists.line.Tie as tie
 
 abbrev Inv-loop : tie.InvT-loop
 Inv-loop list place left₀ at₀ left at = getD (linesIn (drop at list)) left [] ≡ getD (linesIn list) place []

@@ -1,11 +1,11 @@
--- `passes::bring_forward` is safe and ends. The buffer keeps its length, and what is left to bring is the measure.
+-- `files::bring_forward` is safe and ends. The buffer keeps its length, and what is left to bring is the measure.
 -- Assumes nothing.
 use mathlib.Core.Path.{_≡_, refl}
 use Prim.Native.Nat.{_≤_, _-_}
 use native.Mathlib.Omega.{arith}
 use lib.ListN.{length, length-set}
-use Rattle.transcript.proofs.passes.bring_forward.Statement.{statement}
-use Rattle.transcript.proofs.passes.bring_forward.Tie as tie
+use Rattle.cli.proofs.files.bring_forward.Statement.{statement}
+use Rattle.cli.proofs.files.bring_forward.Tie as tie
 
 abbrev Inv-loop : tie.InvT-loop
 Inv-loop buf₀ from to n i₀ buf i = (i ≤ n) × (length buf ≡ length buf₀)

@@ -1,4 +1,4 @@
--- `candidates::lines` meets its contract. The loop's invariant: the lines from `at` on are added to those that were passed. The
+-- `lists::lines` meets its contract. The loop's invariant: the lines from `at` on are added to those that were passed. The
 -- measure is what is left of the list.
 -- Assumes nothing.
 use mathlib.Core.Path.{_≡_}
@@ -6,10 +6,10 @@ use Prim.Native.Nat.{_≤_, _+_, _-_}
 use native.Mathlib.Omega.{arith}
 use denote.Ref.{now}
 use lib.ListN.{length, drop}
-use Rattle.typed.specs.Candidates.{linesIn}
+use Rattle.typed.specs.Lists.{linesIn}
 use Rattle.typed.proofs.ByLine.{count-on, count-end}
-use Rattle.typed.proofs.candidates.lines.Statement.{statement}
-use Rattle.typed.proofs.candidates.lines.Tie as tie
+use Rattle.typed.proofs.lists.lines.Statement.{statement}
+use Rattle.typed.proofs.lists.lines.Tie as tie
 
 abbrev Inv-loop : tie.InvT-loop
 Inv-loop list n₀ at₀ n at = (n ≤ at) × (n + length (linesIn (drop at list)) ≡ length (linesIn list))

@@ -1,4 +1,4 @@
--- `candidates::without_end` meets its contract. An empty line ends with nothing; of any other the last byte decides.
+-- `lists::without_end` meets its contract. An empty line ends with nothing; of any other the last byte decides.
 -- Assumes nothing.
 use mathlib.Core.Path.{_≡_, refl}
 use mathlib.Core.List.{List, [], _∷_}
@@ -7,10 +7,10 @@ use native.Mathlib.Omega.{arith}
 use denote.Ref.{now}
 use lib.ListN.{length, getD, take, drop}
 use borrow.Author.Tests.{eq-eqb, ne-eqb}
-use Rattle.typed.specs.Candidates.{unended}
+use Rattle.typed.specs.Lists.{unended}
 use borrow.Author.Needs.{needs}
-use Rattle.typed.proofs.candidates.without_end.Statement.{statement}
-use Rattle.typed.proofs.candidates.without_end.Tie as tie
+use Rattle.typed.proofs.lists.without_end.Statement.{statement}
+use Rattle.typed.proofs.lists.without_end.Tie as tie
 
 none : (l : List ℕ) → length l ≡ 0 → l ≡ unended l
 unfolding unended

@@ -1,0 +1,2 @@
+mod ListedKeys
+mod Over
