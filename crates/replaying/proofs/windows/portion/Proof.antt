@@ -1,8 +1,8 @@
 -- `windows::portion` meets its contract. The loop's invariant: no count passes the place, what has been replayed and what is to come are all
--- the bytes, and replay from here gives what replay of all of them gives. What is to come is the measure.
+-- the bytes, and replay from here gives what replay of all of them gives, whatever follows. What is to come is the measure.
 -- Assumes nothing.
 use mathlib.Core.Path.{_≡_, refl, sym, ap, _∙_}
-use mathlib.Core.List.{List}
+use mathlib.Core.List.{List, _++_}
 use Prim.Native.Nat.{ℕ, _+_, _-_, _≤_, _<_}
 use native.Mathlib.Omega.{arith}
 use denote.Ref.{now}
@@ -15,7 +15,8 @@ use Rattle.journal.specs.Replay.{numberOfEnd, replayOne, replayFrom}
 use Rattle.journal.specs.declared.Ended.{Ended}
 use Rattle.journal.specs.declared.Replayed.{Replayed}
 use Rattle.journal.proofs.Standing.{size-within, data-within}
-use Rattle.journal.proofs.Replaying.{one-stands, turn-within, turn-from}
+use Rattle.journal.proofs.Followed.{turn-followed}
+use Rattle.journal.proofs.Replaying.{one-stands, turn-within}
 use borrow.Author.Needs.{needs}
 use Rattle.replaying.proofs.windows.portion.Statement.{statement}
 use Rattle.replaying.proofs.windows.portion.Tie as tie
@@ -26,7 +27,7 @@ Inv-loop keys s least t₀ place₀ report₀ first₀ none t place report first
     × (place₀ ≤ place)
     × (place + length t ≡ place₀ + length s)
     × (t ≡ drop (place - place₀) s)
-    × (replayFrom (keysIn keys) t place report ≡ replayFrom (keysIn keys) s place₀ report₀)
+    × ((z : List ℕ) → replayFrom (keysIn keys) (t ++ z) place report ≡ replayFrom (keysIn keys) (s ++ z) place₀ report₀)
 
 abbrev μ-loop : tie.MeasureT-loop
 μ-loop keys s least t₀ place₀ report₀ first₀ none t place report first = length t
@@ -36,7 +37,7 @@ none-yet : (s : List ℕ) (p : ℕ) → s ≡ drop (p - p) s
 none-yet s p = let z : p - p ≡ 0 = omega arith in sym (ap (λ (i : ℕ). drop i s) z)
 
 loop-holds : tie.Need-loop-holds Inv-loop μ-loop
-loop-holds c = let S = c .before .before .before .before in (S .pre .1 .0, omega arith, omega arith, none-yet (now (S .args .s)) (S .args .before .place), refl)
+loop-holds c = let S = c .before .before .before .before in (S .pre .1 .0, omega arith, omega arith, none-yet (now (S .args .s)) (S .args .before .place), λ z. refl)
 
 replay-one-requires : tie.Need-replay-one-requires Inv-loop μ-loop
 replay-one-requires c κs =
@@ -72,7 +73,7 @@ returns c =
       from = inv .1;
       to = omega (arith, inv .2);
       counted = inv .0;
-      same = ap {B = Replayed} (λ (t : List ℕ). replayFrom (ks x) t (l .place) (l .report)) (sym (inv .3)) ∙ inv .4;
+      same = λ z. ap {B = Replayed} (λ (t : List ℕ). replayFrom (ks x) (t ++ z) (l .place) (l .report)) (sym (inv .3)) ∙ inv .4 z;
       left = λ z. absurd (at-if .if1 .taken (x .number .ensures ∙ z));
       refused = λ z. answer ∙ ap {B = Ended} (λ (t : List ℕ). replayOne (ks x) t (l .place) (l .report) .ended) (inv .3);
     }
@@ -125,7 +126,9 @@ loop-again c =
       omega (arith, l .inv .1),
       omega (arith, within m, to-come (here x) (m .measure .result) (within m), l .inv .2),
       further _ (here x) _ (l .place) (m .measure .result) (l .inv .1) (l .inv .3),
-      turn-from (ks x) (here x) (l .place) (l .report) _ _ (m .measure .ensures) (x .before .replay-one .ensures) (counted-there m) (omega (arith, within m, some m)) ∙ l .inv .4,
+      λ z.
+          turn-followed (ks x) (here x) z (l .place) (l .report) (counted-there m) _ _ (m .measure .ensures) (x .before .replay-one .ensures)
+          ∙ l .inv .4 z,
     )
 
 returns-2 : tie.Need-returns-2 Inv-loop μ-loop
@@ -138,7 +141,7 @@ returns-2 c =
       from = inv .1;
       to = omega (arith, inv .2);
       counted = inv .0;
-      same = ap {B = Replayed} (λ (t : List ℕ). replayFrom (keysIn keys) t (l .place) (l .report)) (sym (inv .3)) ∙ inv .4;
+      same = λ z. ap {B = Replayed} (λ (t : List ℕ). replayFrom (keysIn keys) (t ++ z) (l .place) (l .report)) (sym (inv .3)) ∙ inv .4 z;
       left = λ z. omega (arith, inv .2);
       refused = λ z. absurd (z refl);
     }
