@@ -1,2 +1,1 @@
 mod ListedKeys
-mod Over

@@ -4,6 +4,7 @@ ghost use mathlib.Core.Path.{_≡_};
 ghost use mathlib.Core.Bool.{true, false};
 ghost use Prim.Native.Nat.{_+_, _≤_, _<_, _^_};
 ghost use lib.ListN.{length};
+ghost use Rattle.journal.specs.KeyList.{keysIn};
 ghost use Rattle.journal.specs.Reports.{Within};
 ghost use Rattle.replaying.specs.Passing.{Portion, OnItsWay, Onward};
 use crate::long;
@@ -36,7 +37,7 @@ fn room() -> [u8; ROOM]
     [0u8; ROOM]
 }
 
-// What a person is told of the first record that differs, or of the one that was refused: what it says, and what it is answered now.
+// What a person is told of the first record that differs: what it says, and what it is answered now.
 pub struct Told {
     pub glance: Glance,
     pub number: usize,
@@ -105,7 +106,7 @@ fn portion(keys: Keys, s: &[u8], before: Pass, least: usize) -> Pass
     requires { ⌜ Within (before .place) (before .report) ⌝ }
     requires { ⌜ before .place + length (now s) < 2 ^ 64 ⌝ }
     requires { ⌜ 1 ≤ least ⌝ }
-    ensures { λ r. ⌜ Portion before r (length (now (s .entry))) least ⌝ }
+    ensures { λ r. ⌜ Portion (keysIn keys) (now (s .entry)) before r least ⌝ }
 {
     let mut t = s;
     let mut place = before.place;

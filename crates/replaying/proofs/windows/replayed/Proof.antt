@@ -9,7 +9,7 @@ use denote.Ref.{now}
 use lib.ListN.{length, take}
 use lib.Seq.{length-take-le}
 use borrow.Author.Tests.{ltb-false}
-use Rattle.replaying.proofs.Over.{over-not}
+use Rattle.journal.proofs.Standing.{clash}
 use borrow.Author.Needs.{needs}
 use Rattle.replaying.proofs.windows.replayed.Statement.{statement}
 use Rattle.replaying.proofs.windows.replayed.Tie as tie
@@ -68,4 +68,4 @@ replayed-spec =
     (tie.spec
     (λ c. search needs) (λ c. search needs) (λ c. search needs) (λ c κs. search needs) portion-requires
     (λ c. c .before .before .portion .ensures .from) (λ c κs. search needs) refused-requires (λ c. search needs)
-    (λ c z. absurd (over-not _ (c .before .before .refused .ensures) z)) bring-forward-requires sub-t10 (λ c. search needs) returns-2)
+    (λ c z. absurd (clash _ (c .before .before .refused .ensures) z)) bring-forward-requires sub-t10 (λ c. search needs) returns-2)

@@ -1,7 +1,7 @@
 -- `windows::turn` meets its contract: it stops, or goes on as its window was replayed.
 -- Assumes nothing.
 use native.Mathlib.Omega.{arith}
-use Rattle.replaying.proofs.Over.{over-not}
+use Rattle.journal.proofs.Standing.{clash}
 use borrow.Author.Needs.{needs}
 use Rattle.replaying.proofs.windows.turn.Statement.{statement}
 use Rattle.replaying.proofs.windows.turn.Tie as tie
@@ -19,6 +19,6 @@ pub turn-spec : {M : Type 1} → statement M
 turn-spec =
     tie.close
     (tie.spec
-    (λ c κs. search needs) (λ c z. absurd (over-not _ (c .stopped .ensures) z)) fill-requires (λ c κs. search needs)
-    (λ c. search needs) (λ c z. absurd (over-not _ (c .stopped2 .ensures) z)) replayed-requires (λ c. search needs)
+    (λ c κs. search needs) (λ c z. absurd (clash _ (c .stopped .ensures) z)) fill-requires (λ c κs. search needs)
+    (λ c. search needs) (λ c z. absurd (clash _ (c .stopped2 .ensures) z)) replayed-requires (λ c. search needs)
     (λ c. c .before .before .replayed .ensures))
