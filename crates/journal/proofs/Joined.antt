@@ -9,6 +9,7 @@ use lib.Dec.{eqb}
 use lib.ListN.{length, drop, length-drop, length-append}
 use lib.Seq.{drop-append-le}
 use borrow.Author.Tests.{eqb-true, eqb-false}
+use Rattle.walk.proofs.Loop.{tailed, tail-is}
 use Rattle.cipher_mode.specs.declared.Sm4Cipher.{Sm4Cipher}
 use Rattle.journal.specs.Format.{sizeAt}
 use Rattle.journal.specs.KeyList.{keysIn, badKeys}
@@ -40,12 +41,17 @@ module _ (ks : List Sm4Cipher) (b : List ℕ) where
     so-far = replayOne ks a place r .report
 
     -- a journal can be replayed a part at a time
-    pub first-on : replayFrom ks (a ++ b) place r ≡ replayFrom ks (behind ++ b) (place + sizeAt a) so-far
+    first-on : replayFrom ks (a ++ b) place r ≡ replayFrom ks (behind ++ b) (place + sizeAt a) so-far
     first-on =
         let s = one-stands ks a place r z in
         let l = length-append a b in
         from-on ks (a ++ b) place r (omega arith) (rw (one-appended a place r s) z)
         ∙ rw (one-appended a place r s, size-on b a s, drop-append-le (sizeAt a) a b (size-within a s))
+
+    -- a turn: the record was measured and replayed; what is to come is written as the borrow checker has it
+    pub turn-followed : (n : ℕ) (one : Replayed) → n ≡ sizeAt a → one ≡ replayOne ks a place r
+        → replayFrom ks (tailed n a ++ b) (place + n) (one .report) ≡ replayFrom ks (a ++ b) place r
+    turn-followed n one size replayed = rw (tail-is a n, size, replayed) (sym first-on)
 
     rest-on : replayFrom ks b (place + sizeAt a + length behind) (replayFrom ks behind (place + sizeAt a) so-far .report)
         ≡ replayFrom ks b (place + length a) (replayFrom ks a place r .report)

@@ -5,7 +5,6 @@ pub mod Given
 pub mod Lent
 pub mod Counting
 pub mod Replaying
-pub mod Followed
 pub mod BothWays
 pub mod EveryReport
 pub mod Sums

@@ -1,4 +1,5 @@
--- `windows::portion` meets its contract. The loop's invariant: no count passes the place, what has been replayed and what is to come are all
+-- `windows::portion` meets its contract. The loop's invariant: no count passes the place, what has been replayed and what is to come are
+-- all
 -- the bytes, and replay from here gives what replay of all of them gives, whatever follows. What is to come is the measure.
 -- Assumes nothing.
 use mathlib.Core.Path.{_≡_, refl, sym, ap, _∙_}
@@ -15,7 +16,7 @@ use Rattle.journal.specs.Replay.{numberOfEnd, replayOne, replayFrom}
 use Rattle.journal.specs.declared.Ended.{Ended}
 use Rattle.journal.specs.declared.Replayed.{Replayed}
 use Rattle.journal.proofs.Standing.{size-within, data-within}
-use Rattle.journal.proofs.Followed.{turn-followed}
+use Rattle.journal.proofs.Joined.{turn-followed}
 use Rattle.journal.proofs.Replaying.{one-stands, turn-within}
 use borrow.Author.Needs.{needs}
 use Rattle.replaying.proofs.windows.portion.Statement.{statement}
@@ -37,7 +38,8 @@ none-yet : (s : List ℕ) (p : ℕ) → s ≡ drop (p - p) s
 none-yet s p = let z : p - p ≡ 0 = omega arith in sym (ap (λ (i : ℕ). drop i s) z)
 
 loop-holds : tie.Need-loop-holds Inv-loop μ-loop
-loop-holds c = let S = c .before .before .before .before in (S .pre .1 .0, omega arith, omega arith, none-yet (now (S .args .s)) (S .args .before .place), λ z. refl)
+loop-holds c = let S = c .before .before .before .before in
+    (S .pre .1 .0, omega arith, omega arith, none-yet (now (S .args .s)) (S .args .before .place), λ z. refl)
 
 replay-one-requires : tie.Need-replay-one-requires Inv-loop μ-loop
 replay-one-requires c κs =
@@ -122,12 +124,14 @@ loop-again c =
     let m = c .before in
     let x = numbered m in
     let l = at-loop x .loop in (
-      turn-within (ks x) (here x) (l .place) (l .report) _ _ (m .measure .ensures) (x .before .replay-one .ensures) (counted-there m) (l .inv .0),
+      turn-within (ks x) (here x) (l .place) (l .report) _ _ (m .measure .ensures) (x .before .replay-one .ensures) (counted-there m)
+          (l .inv .0),
       omega (arith, l .inv .1),
       omega (arith, within m, to-come (here x) (m .measure .result) (within m), l .inv .2),
       further _ (here x) _ (l .place) (m .measure .result) (l .inv .1) (l .inv .3),
       λ z.
-          turn-followed (ks x) (here x) z (l .place) (l .report) (counted-there m) _ _ (m .measure .ensures) (x .before .replay-one .ensures)
+          turn-followed (ks x) z (here x) (l .place) (l .report) (omega (arith, within m, some m)) (counted-there m) _ _
+          (m .measure .ensures) (x .before .replay-one .ensures)
           ∙ l .inv .4 z,
     )
 
