@@ -1,5 +1,5 @@
 /* What the files of the smoke test share: single calls, Cbc's padding, keys, messages in pieces, the question which
- * label a file opens under, counters that come round, ranges and plans for several workers, and shelves. */
+ * label a file opens under, counters that come round, ranges and plans for several workers, shelves, and journals. */
 #ifndef SMOKE_H
 #define SMOKE_H
 
@@ -73,5 +73,8 @@ void workers(void);
 
 /* Putting on a shelf, collecting and looking up. */
 void shelves(void);
+
+/* Replay of recorded calls. */
+void journals(void);
 
 #endif

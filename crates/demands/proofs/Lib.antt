@@ -28,9 +28,11 @@ pub mod Workers
 pub mod WorkersAnswer
 pub mod ByShares
 pub mod OnTheShelf
+pub mod InTheJournal
 pub mod TrailingZero
 -- the worked table and the imposters
 pub mod Worked
 pub mod Edges
 pub mod ZeroCipher
 pub mod Imposters
+pub mod JournalImposters
