@@ -28,6 +28,7 @@ pub mod Workers
 pub mod WorkersAnswer
 pub mod ByShares
 pub mod OnTheShelf
+pub mod InTheJournal
 pub mod Halves
 pub mod TrailingZero
 -- the worked table and the imposters
@@ -35,3 +36,4 @@ pub mod Worked
 pub mod Edges
 pub mod ZeroCipher
 pub mod Imposters
+pub mod JournalImposters

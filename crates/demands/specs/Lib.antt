@@ -19,9 +19,11 @@ pub mod OtherEdition
 pub mod Which
 pub mod Workers
 pub mod OnTheShelf
+pub mod InTheJournal
 pub mod Halves
 pub mod TrailingZero
 -- the worked table and the imposters
 pub mod Worked
 pub mod Edges
 pub mod Imposters
+pub mod JournalImposters

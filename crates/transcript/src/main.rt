@@ -447,6 +447,7 @@ fn direction_of(asked: Asked) -> Direction
         Command::ShelfOpen => Direction::Decrypt,
         Command::ShelfCollect => Direction::Decrypt,
         Command::ShelfList => Direction::Decrypt,
+        Command::Replay => Direction::Decrypt,
         Command::Unknown => Direction::Decrypt,
     }
 }

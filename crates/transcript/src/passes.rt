@@ -75,19 +75,6 @@ fn ended(pass: Pass, ending: Ending, came_round: bool) -> Pass
     }
 }
 
-// Brings the bytes from a place on, up to another, to the front of the buffer.
-fn bring_forward(buf: &mut [u8], from: usize, to: usize)
-    requires { ⌜ from ≤ to ⌝ }
-    requires { ⌜ to ≤ length (now buf) ⌝ }
-{
-    let n = to - from;
-    let mut i = 0;
-    while i < n {
-        buf[i] = buf[from + i];
-        i += 1;
-    }
-}
-
 // Writes what a step made of a piece.
 fn write(asked: Asked, mut pass: Pass, step: work::Step, out: &[u8]) -> Pass
     requires { ⌜ step .length ≤ length (now out) ⌝ }
@@ -170,7 +157,7 @@ fn turn(asked: Asked, t: &[u32], pass: Pass, n: usize, data: &mut [u8], out: &mu
     let k = work::taken(task, n);
     let step = work::piece(t, work, &data[0..k], out);
     let mut next = write(asked, pass, step, out);
-    bring_forward(data, k, n);
+    files::bring_forward(data, k, n);
     next.waiting = n - k;
     next
 }

@@ -21,6 +21,7 @@ use portions::work;
 use portions::work::Work;
 use typed::candidates;
 use typed::candidates::Candidate;
+use typed::lists;
 use typed::range::Range;
 use typed::things::CANDIDATES;
 use typed::things::EDITION;
@@ -75,10 +76,10 @@ pub fn with_list(asked: Asked) -> u8 {
 // `cut`: the list may go on behind what was read of it.
 fn with_lines(mut asked: Asked, list: &[u8], cut: bool) -> u8 {
     let places = asked.places;
-    let count = candidates::lines(list);
+    let count = lists::lines(list);
     let wrong = candidates::wrong_line(list);
     if wrong > 0 && wrong <= MOST {
-        return say::wrong_line(places[CANDIDATES], wrong, candidates::line(list, wrong - 1));
+        return say::wrong_line(places[CANDIDATES], wrong, lists::line(list, wrong - 1));
     }
     if cut {
         say::refusal(places[IN]);
@@ -98,7 +99,7 @@ fn candidate(asked: Asked, list: &[u8], place: usize) -> Candidate
 {
     let places = asked.places;
     if places[CANDIDATES] != 0 {
-        return candidates::read(candidates::line(list, place));
+        return candidates::read(lists::line(list, place));
     }
     // no more than the last edition of the range
     let edition = (asked.edition as usize + place) % 65536;
