@@ -38,14 +38,18 @@
  *  20  NotHigher       the shelf has that edition of the job already, or a higher one
  *  21  NoShelfRoom     the records that would be current do not fit in the buffer
  *  22  NoCurrent       the shelf has no current record of the job
+ *  23  BadRecord       a recorded call is cut or not marked, or its direction is neither 0 nor 1
+ *  24  PartTooLong     a recorded label, data or IV has more than 16,384 bytes, or an output more than 16,400
+ *  25  UnknownKey      a recorded call has the number of no key
+ *  26  BadKeys         a replay with more than eight keys, with a retired one, or with a number twice
  *
  * Where several apply, the first of the call's order is the answer: of setting up a key 1, 13, which the calls
  * on that record then answer again where it stands in theirs; of a single block 1, 13, 11, 14, 6; of a message
  * 7, 1, 13, 10, 14, 5, then in Cbc 8, 2 or in Gcm 9, then 6, then in Cbc 3, 15 or in Gcm 4; of a message in
  * pieces 1, 13, 10, 14, 5 at the start, and from there on what the start was refused with, then 12, 5, 9, 6, 4;
  * of the question which label a file opens under 16, 1, 13, 10, 5, 9; of making a plan 17, 5; of a range 1, 13,
- * 10, 14, 5, 6; of work by a plan 1, 13, 10, 14, 5, 18, 6; of putting on a shelf 19, 20, 21; of collecting 19; and
- * of looking up 19, 22.
+ * 10, 14, 5, 6; of work by a plan 1, 13, 10, 14, 5, 18, 6; of putting on a shelf 19, 20, 21; of collecting 19;
+ * of looking up 19, 22; and of a replay 26, and then, record by record, 23, 24, 25.
  * Every number but 0 is a refusal: it reports length 0 and changes no byte of the output buffer.
  *
  * In refusal 9 `missing` is how many bytes were missing: 16 - n for n bytes of data, or for a tag of n bytes,
@@ -108,7 +112,8 @@
  *
  * A message may also come in pieces, in Ctr and Gcm: what holds for these is said where they are declared.
  * There it is also said how to ask which of up to 64 labels a Gcm message opens under, how several workers share
- * one Ctr message, and how the editions of jobs are kept on a shelf.
+ * one Ctr message, how the editions of jobs are kept on a shelf, how recorded calls are replayed, and how the hashes of
+ * two halves are joined.
  *
  * What no proof can see stays the host's duty, and a call that breaks it has no defined outcome:
  *
@@ -606,6 +611,137 @@ struct luossavin_shelf luossavin_shelf_collect(uint8_t *shelf, size_t size, size
 
 /* Looks up a job's current record, all of it: `length` bytes of the buffer from `start` on. It answers 0, 19 or 22. */
 struct luossavin_shelved luossavin_shelf_find(const uint8_t *shelf, size_t size, size_t used, uint32_t job);
+
+/* A journal: recorded calls of luossavin_encrypt and luossavin_decrypt, which are made again and added up.
+ *
+ * A journal is records, one behind another, with nothing between them and nothing at the end; one of 0 bytes has none.
+ * Two journals joined are a journal. A record is, all numbers big-endian:
+ *
+ *   bytes 0 and 1   54 52
+ *   byte 2          the direction: 0 encrypt, 1 decrypt
+ *   byte 3          the mode
+ *   bytes 4 and 5   the number of the key that the call was on, in refusal 7 too, where the answer has 0 for it
+ *   then            the label, the data and the IV, each behind its length in four bytes
+ *   then            the room in four bytes, and the number that was answered in one
+ *   then            the output behind its length in four bytes: the result of a call that was done, and of one that
+ *                   was refused nothing
+ *
+ * so that an empty call has 27 bytes. Label, data and IV have at most 16,384 bytes each, and an output 16,400, which no
+ * call on such data passes; longer calls cannot be recorded. A mode above 255 is recorded as any that is above 4, and a
+ * room of 2^32 bytes or more as 2^32 - 1: the answers are the same. The rest of an answer is not recorded: the missing
+ * count, the key's number and whether a counter came round.
+ *
+ * A replay is given up to eight keys, the first `count` of `keys`; what is behind these is not looked at. A call is
+ * made again on the key that has its number. One that is no key, `answer` not 0, may be among them. Its number is 0,
+ * whatever it holds, and calls that were on none are recorded with 0 as well. A key that was retired since is given as
+ * it was before; calls that were refused with 14 then differ, since no key here is retired.
+ *
+ *     struct luossavin_keys keys = {.count = 2, .keys = {old, current}};
+ *     struct luossavin_replayed r = luossavin_replay(keys, file, file_len);
+ *     if (r.number != 0) {
+ *         say_refused(r.number, r.place);
+ *     }
+ *     if (r.differs == 1) {
+ *         say_differs(r.first_record, r.first_place);
+ *     }
+ *
+ * A record differs where the call's number, its length or any byte of its output is another now than was recorded. The
+ * first one that differs is kept, and the replay goes on: the records behind it are counted, and so is it. The totals
+ * are exact, and all of them are of the calls as they answer now:
+ *
+ *   records      how many there are
+ *   by_mode      how many in each mode from 0 to 4, and at place 5 those of every mode above, which answer 7
+ *   by_answer    how many with each number
+ *   bytes_in     the bytes of their data, of refused calls too; labels and IVs are not counted
+ *   bytes_out    the lengths that they answer
+ *
+ * by_mode and by_answer each add up to `records`.
+ *
+ * The refusals, in their order:
+ *
+ *   26   before any record: `count` is above 8, `retired` of one of the keys is not 0, or two of them have one number,
+ *        two that are no keys among these. Everything else is 0 then
+ *   23   the bytes to come are not a whole record by the lengths that it states, do not begin with the mark, or have
+ *        another direction than 0 or 1. What a length says is held against what is left, so that no sum comes round. A
+ *        record with a part that is too long is 23 where it is cut
+ *   24   a part or the output of the record is too long; its room is none of these, and may be any
+ *   25   none of the keys has its number; that is asked before its mode
+ *
+ * In 23, 24 and 25 `place` is where the record's first byte stands in the file, counted from 0, and the report is that
+ * of the records before it, the first difference too. In every other answer `place` is 0.
+ *
+ * `differs` is 1 or 0. Where it is 1, `first_record` counts from 0 and `first_place` is where its first byte stands;
+ * otherwise both are 0. They do not say whether there is one: the first record has 0 and 0.
+ *
+ * The file is read and nothing is written. It has no limit. Whatever room was recorded, a call is made again into at
+ * most 16,400 bytes, which is enough. They are on the stack, of which a replay takes less than 32 KiB.
+ *
+ * A journal has the texts of its calls in it, what they were given and what they gave, and is as secret as these. It is
+ * not sealed: who can write to it can make a record agree. */
+struct luossavin_keys {
+    size_t count;
+    struct luossavin_key keys[8];
+};
+struct luossavin_replayed {
+    uint32_t number;
+    uint32_t differs;
+    size_t place;
+    uint64_t first_record;
+    size_t first_place;
+    uint64_t records;
+    uint64_t by_mode[6];
+    uint64_t by_answer[27];
+    uint64_t bytes_in;
+    uint64_t bytes_out;
+};
+
+/* Replays the journal `file`. It answers 0, 23, 24, 25 or 26. */
+struct luossavin_replayed luossavin_replay(struct luossavin_keys keys, const uint8_t *file, size_t file_len);
+
+/* Hash the halves and join them.
+ *
+ * Two servers each hold half a long ciphertext, and its tag is wanted. Gcm's hash of a whole can be made of the
+ * hashes of its halves: each is hashed by itself, from 0 on, and the two are joined,
+ *
+ *     whole = first x H^n xor second
+ *
+ * where n is how many blocks the second half has, the last one of which may be short. The multiplication is Gcm's,
+ * and 80 followed by zeros is its one, so that either half may be empty: the hash of nothing is 0, and with n = 0 the
+ * first comes back. Several halves are joined one after another, in either grouping.
+ *
+ * The first half is whole blocks: its length divides by 16. Bytes that end inside a block are filled up with zeros to
+ * its end, as Gcm does at the end of a label and of a text; what follows then begins a block of its own, and what is
+ * joined is the hash of that and of no text that was cut there. The count is of blocks, not of bytes: n bytes are
+ * n / 16, rounded up. A host that miscounts is answered as it asked.
+ *
+ * A hash is the big-endian number of its 16 bytes, in two halves of 64 bits. Every value is one, and has an answer;
+ * nothing is refused, and there is no limit. These calls are on no key. H is what a key encrypts sixteen zero bytes to,
+ * by luossavin_block_encrypt, and it is as secret as the key: with it tags are forged. A tag by these calls, of a label
+ * and a ciphertext of n bytes, of which the first `cut` are one half:
+ *
+ *     h       = the hash that the sixteen encrypted zero bytes are
+ *     j0      = the IV followed by 00000001, where it has 12 bytes; otherwise the sixteen bytes of
+ *               luossavin_hash_blocks(h, the IV and then the number 128 in 16 bytes, 32)
+ *     lengths = 8 * label_len and then 8 * n, in 8 bytes each
+ *
+ *     y = luossavin_hash_blocks(h, label, label_len);
+ *     y = luossavin_hash_join(h, y, luossavin_hash_blocks(h, text, cut), cut / 16);
+ *     y = luossavin_hash_join(h, y, luossavin_hash_blocks(h, text + cut, n - cut), (n - cut + 15) / 16);
+ *     y = luossavin_hash_join(h, y, luossavin_hash_blocks(h, lengths, 16), 1);
+ *
+ * The tag is the encrypted j0, xored with the sixteen bytes of y: the one that luossavin_encrypt makes of that text. */
+struct luossavin_hash {
+    uint64_t high;
+    uint64_t low;
+};
+
+/* The hash of `bytes` in blocks under the key h, zeros to the last block's end. */
+struct luossavin_hash luossavin_hash_blocks(struct luossavin_hash h, const uint8_t *bytes, size_t bytes_len);
+
+/* Two hashes under the key h joined, the second of so many blocks. H is raised to that by squaring, so that the
+ * largest count takes 64 squarings. */
+struct luossavin_hash luossavin_hash_join(struct luossavin_hash h, struct luossavin_hash first,
+    struct luossavin_hash second, uint64_t second_blocks);
 
 #ifdef __cplusplus
 }

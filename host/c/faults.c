@@ -456,6 +456,8 @@ static void all(int with_limits)
     which(with_limits);
     workers(with_limits);
     shelves(with_limits);
+    journals(with_limits);
+    halves();
 }
 
 int main(int argc, char **argv)

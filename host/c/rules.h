@@ -8,7 +8,7 @@
 #include "luossavin.h"
 
 /* The most bytes of a text or a label, the most labels of a question, and how many numbers there are. */
-enum { LIMIT = 16777216, CANDIDATES = 64, NUMBERS = 23 };
+enum { LIMIT = 16777216, CANDIDATES = 64, NUMBERS = 27 };
 enum { CFB, OFB, CTR, CBC, GCM };
 enum { ENCRYPT, DECRYPT };
 

@@ -1,5 +1,6 @@
 /* What the files of the smoke test share: single calls, Cbc's padding, keys, messages in pieces, the question which
- * label a file opens under, counters that come round, ranges and plans for several workers, and shelves. */
+ * label a file opens under, counters that come round, ranges and plans for several workers, shelves, journals, and
+ * hashes of halves. */
 #ifndef SMOKE_H
 #define SMOKE_H
 
@@ -73,5 +74,11 @@ void workers(void);
 
 /* Putting on a shelf, collecting and looking up. */
 void shelves(void);
+
+/* Replay of recorded calls. */
+void journals(void);
+
+/* Hashes of halves, joined. */
+void halves(void);
 
 #endif

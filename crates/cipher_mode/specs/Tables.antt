@@ -1,9 +1,17 @@
--- Document 01's tables: the length limits, and the room needed.
-use Prim.Native.Nat.{ℕ, _+_, _-_, _*_, _/_}
+-- Document 01's tables: the modes by number, the length limits, and the room needed.
+use Prim.Native.Nat.{ℕ, zero, suc, _+_, _-_, _*_, _/_}
 use Rattle.cipher_mode.specs.declared.CipherMode.{CipherMode}
 use Rattle.cipher_mode.specs.declared.CipherMode.the-variants.{Cfb, Ofb, Ctr, Cbc, Gcm}
 use Rattle.cipher_mode.specs.declared.Direction.{Direction}
 use Rattle.cipher_mode.specs.declared.Direction.the-variants.{Encrypt, Decrypt}
+
+-- 0 Cfb, 1 Ofb, 2 Ctr, 3 Cbc, 4 Gcm; a number above 4 is refused before this is asked
+unfoldable pub modeOf : ℕ → CipherMode
+modeOf zero = Cfb
+modeOf (suc zero) = Ofb
+modeOf (suc (suc zero)) = Ctr
+modeOf (suc (suc (suc zero))) = Cbc
+modeOf (suc (suc (suc (suc n)))) = Gcm
 
 -- data to encrypt, in every mode, and Gcm's label
 abbrev pub limit : ℕ

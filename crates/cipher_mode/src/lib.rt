@@ -7,6 +7,7 @@ mod work;
 ghost use mathlib.Core.Path.{_≡_};
 ghost use Rattle.cipher_mode.specs.Answer.{outcome};
 ghost use Rattle.cipher_mode.specs.Key.{noCipher, wrongNumber, newCipher, retire, numberIn, newCipherMode};
+ghost use Rattle.cipher_mode.specs.Tables.{modeOf};
 ghost use Rattle.cipher_mode.specs.Calls.{blockCall, modeCall};
 use answer::Answer;
 use checks::Checked;
@@ -54,6 +55,19 @@ pub fn number_in(answer: KeyAnswer, number: u16) -> u16
         KeyAnswer::Key => number,
         KeyAnswer::ErrorBlockSize => 0,
         KeyAnswer::WrongNumber => 0,
+    }
+}
+
+// The mode of a number; 4 and above are Gcm, and who has a number refuses what is above.
+pub fn mode_of(mode: u32) -> CipherMode
+    ensures { λ r. ⌜ r ≡ modeOf mode ⌝ }
+{
+    match mode {
+        0 => CipherMode::Cfb,
+        1 => CipherMode::Ofb,
+        2 => CipherMode::Ctr,
+        3 => CipherMode::Cbc,
+        _ => CipherMode::Gcm,
     }
 }
 

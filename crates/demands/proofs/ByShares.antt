@@ -22,7 +22,7 @@ use Rattle.cipher_mode.specs.declared.answer.Refusal.the-variants.{TooLong, NoR
 use Rattle.cipher_mode.specs.declared.answer.Ending.the-variants.{Refused as Refused·ending}
 use Rattle.cipher_mode.specs.declared.checks.Checked.{Checked}
 use Rattle.cipher_mode.specs.declared.checks.Checked.the-variants.{Passed, Refused}
-use Rattle.cipher_mode.specs.Tables.{limit}
+use Rattle.cipher_mode.specs.Tables.{limit, modeOf}
 use Rattle.cipher_mode.specs.Key.{keyNumber}
 use Rattle.cipher_mode.specs.Checks.{refuse, andThen, keyAndIv, dataCheck, roomCheck, messageCheck, checked}
 use Rattle.cipher_mode.specs.Calls.{lengthsOf, modeResult, modeCall}
@@ -39,7 +39,7 @@ use Rattle.ranges.proofs.AnyOrder.{length-worked, plan-in-any-order}
 use Rattle.luossavin.specs.declared.key.LuossavinKey.{LuossavinKey}
 use Rattle.luossavin.specs.Key.{cipherIn}
 use Rattle.luossavin.specs.InPieces.{directionOf}
-use Rattle.luossavin.specs.Host.{modeOf, modeIn, hostModeCall}
+use Rattle.luossavin.specs.Host.{modeIn, hostModeCall}
 use Rattle.luossavin.specs.Ranges.{hostCtrRange, hostCtrByPlan}
 use Rattle.demands.specs.Call.{result}
 use Rattle.demands.specs.CameRound.{roundOf}

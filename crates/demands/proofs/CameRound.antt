@@ -37,7 +37,7 @@ use Rattle.cipher_mode.specs.declared.checks.Checked.{Checked}
 use Rattle.cipher_mode.specs.declared.checks.Checked.the-variants.{Passed, Refused}
 use Rattle.cipher_mode.specs.Answer.{refusalHead}
 use Rattle.cipher_mode.specs.Key.{keyNumber}
-use Rattle.cipher_mode.specs.Tables.{sealedLimit, limitOf}
+use Rattle.cipher_mode.specs.Tables.{sealedLimit, limitOf, modeOf}
 use Rattle.cipher_mode.specs.Checks.{keyAndIv, checked, blockCheck, messageCheck}
 use Rattle.cipher_mode.specs.Calls.{blockCall, modeResult, lengthsOf, modeCall}
 use Rattle.cipher_mode.proofs.Passed.{data-within}
@@ -55,7 +55,7 @@ use Rattle.editions.specs.Which.{Verdict, noneWith, onKey, searchCheck, checked
 use Rattle.editions.proofs.FirstOpening.{search-number}
 use Rattle.luossavin.specs.declared.key.LuossavinKey.{LuossavinKey}
 use Rattle.luossavin.specs.Key.{cipherIn}
-use Rattle.luossavin.specs.Host.{modeOf, modeIn, hostBlockCall, hostModeCall}
+use Rattle.luossavin.specs.Host.{modeIn, hostBlockCall, hostModeCall}
 use Rattle.demands.specs.Call.{inGcm}
 use Rattle.demands.specs.CameRound.{roundOf, Says}
 use Rattle.demands.proofs.Through.{through}

@@ -40,7 +40,7 @@ use Rattle.cipher_mode.specs.declared.checks.Lengths.{Lengths}
 use Rattle.cipher_mode.specs.declared.Sm4Cipher.{Sm4Cipher}
 use Rattle.cipher_mode.specs.declared.Sm4CipherMode.{Sm4CipherMode}
 use Rattle.cipher_mode.specs.Key.{noCipher, wrongNumber, newCipher, keyNumber, newCipherMode}
-use Rattle.cipher_mode.specs.Tables.{limit, limitOf, roomOf}
+use Rattle.cipher_mode.specs.Tables.{limit, limitOf, roomOf, modeOf}
 use Rattle.cipher_mode.specs.Checks.{keyCheck, wrongIv, retiredCheck, keyAndIv, labelCheck, shapeCheck, dataCheck}
 use Rattle.cipher_mode.specs.Checks.{roomCheck, blockCheck, messageCheck}
 use Rattle.cipher_mode.specs.Calls.{blockOf, blockCall, cfbKind, modeResult, lengthsOf, modeCall}
@@ -48,7 +48,7 @@ use Rattle.cipher_mode.proofs.Passed.{sixteen, message-passed, block-passed, wh
 use Rattle.cipher_mode.proofs.Ends.{length-block}
 use Rattle.luossavin.specs.declared.key.LuossavinKey.{LuossavinKey}
 use Rattle.luossavin.specs.Key.{cipherIn, hostKeyNew}
-use Rattle.luossavin.specs.Host.{modeOf, modeIn, hostBlockCall, hostModeCall}
+use Rattle.luossavin.specs.Host.{modeIn, hostBlockCall, hostModeCall}
 use Rattle.demands.specs.CameRound.{roundOf}
 use Rattle.demands.specs.Answered.{oneOf, singleNumbers, Answered, KeyAnswered, lengthOf}
 use Rattle.demands.proofs.Answering.{refuses, does, writes, behind, Within, within-refuse, within-then, checks, told-length, on-key, reports}

@@ -14,9 +14,9 @@ use Rattle.cipher_mode.specs.declared.CipherMode.{CipherMode}
 use Rattle.cipher_mode.specs.declared.CipherMode.the-variants.{Cfb, Ofb, Ctr, Cbc, Gcm}
 use Rattle.cipher_mode.specs.declared.Sm4Cipher.{Sm4Cipher}
 use Rattle.cipher_mode.specs.Key.{keyHead, newCipher, retire}
+use Rattle.cipher_mode.specs.Tables.{modeOf}
 use Rattle.luossavin.specs.declared.key.LuossavinKey.{LuossavinKey}
 use Rattle.luossavin.specs.Key.{keyAnswerOf, cipherIn, keyOf, hostKeyNew, hostKeyRetire}
-use Rattle.luossavin.specs.Host.{modeOf}
 
 answer-back : (a : KeyAnswer) → keyAnswerOf (keyHead a .number) ≡ a
 unfolding keyAnswerOf

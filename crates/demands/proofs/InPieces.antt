@@ -28,7 +28,7 @@ use Rattle.cipher_mode.specs.declared.Sm4Cipher.{Sm4Cipher}
 use Rattle.cipher_mode.specs.declared.Sm4CipherMode.{Sm4CipherMode}
 use Rattle.cipher_mode.specs.declared.checks.Checked.the-variants.{Passed}
 use Rattle.cipher_mode.specs.Key.{keyNumber}
-use Rattle.cipher_mode.specs.Tables.{limit}
+use Rattle.cipher_mode.specs.Tables.{limit, modeOf}
 use Rattle.cipher_mode.specs.Checks.{wrongIv, retiredCheck, keyAndIv, labelCheck, dataCheck}
 use Rattle.cipher_mode.specs.Calls.{gcmRound, modeCall}
 use Rattle.cipher_mode.proofs.Passed.{both, key-and-iv-passed, label-passed, data-within}
@@ -44,7 +44,7 @@ use Rattle.pieces.proofs.SealInPieces.{seal-started, seal-joined, seal-goes-on,
 use Rattle.pieces.proofs.OpensInPieces.{opens-started, opens-goes-on, opens-ended}
 use Rattle.luossavin.specs.declared.key.LuossavinKey.{LuossavinKey}
 use Rattle.luossavin.specs.Key.{cipherIn}
-use Rattle.luossavin.specs.Host.{modeOf, hostModeCall}
+use Rattle.luossavin.specs.Host.{hostModeCall}
 use Rattle.luossavin.specs.InPieces.{directionOf, hostCtrStart, hostSealStart, hostOpensStart}
 use Rattle.demands.specs.Call.{inGcm, result}
 use Rattle.demands.specs.CameRound.{tellingDone}

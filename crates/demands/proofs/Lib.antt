@@ -28,6 +28,7 @@ pub mod Workers
 pub mod WorkersAnswer
 pub mod ByShares
 pub mod OnTheShelf
+pub mod InTheJournal
 pub mod Halves
 pub mod TrailingZero
 pub mod HashKeys
@@ -36,3 +37,4 @@ pub mod Worked
 pub mod Edges
 pub mod ZeroCipher
 pub mod Imposters
+pub mod JournalImposters

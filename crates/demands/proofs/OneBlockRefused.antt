@@ -11,13 +11,14 @@ use Rattle.gcm.specs.Gcm.{hashKey}
 use Rattle.gcm.proofs.HashKey.{hashKey-lt}
 use Rattle.cipher_mode.specs.declared.Direction.the-variants.{Decrypt}
 use Rattle.cipher_mode.specs.declared.Sm4Cipher.{Sm4Cipher}
+use Rattle.cipher_mode.specs.Tables.{modeOf}
 use Rattle.cipher_mode.specs.Calls.{modeCall}
 use Rattle.demands.specs.Call.{inGcm, RefusedAs}
 use Rattle.demands.specs.OneBlockRefused.{MovesZero, OneBlockRefused}
 use Rattle.demands.proofs.OtherHash.{hash-key-nonzero, Fits, gcm-fits, other-hash-refused}
 use Rattle.luossavin.specs.declared.key.LuossavinKey.{LuossavinKey}
 use Rattle.luossavin.specs.Key.{cipherIn}
-use Rattle.luossavin.specs.Host.{modeOf, hostModeCall}
+use Rattle.luossavin.specs.Host.{hostModeCall}
 
 -- a list of another label and ciphertext of the same lengths passes where the first does
 same-lengths : (a₁ a₂ c₁ c₂ t o₁ o₂ : List ℕ) → length a₁ ≡ length a₂ → length c₁ ≡ length c₂ → length o₁ ≡ length o₂

@@ -13,6 +13,7 @@ use Rattle.gcm.specs.Gcm.{hashKey, textPart}
 use Rattle.gcm.proofs.HashKey.{hashKey-lt}
 use Rattle.cipher_mode.specs.declared.Direction.the-variants.{Decrypt}
 use Rattle.cipher_mode.specs.declared.Sm4Cipher.{Sm4Cipher}
+use Rattle.cipher_mode.specs.Tables.{modeOf}
 use Rattle.cipher_mode.specs.Calls.{modeCall}
 use Rattle.label.specs.Label.{labelOf}
 use Rattle.label.proofs.LabelTells.{length-label, label-bytes, label-job, label-edition}
@@ -22,7 +23,7 @@ use Rattle.demands.specs.OtherEdition.{OtherEditionRefused}
 use Rattle.demands.proofs.OtherHash.{hash-key-nonzero, other-label-refused}
 use Rattle.luossavin.specs.declared.key.LuossavinKey.{LuossavinKey}
 use Rattle.luossavin.specs.Key.{cipherIn}
-use Rattle.luossavin.specs.Host.{modeOf, hostModeCall}
+use Rattle.luossavin.specs.Host.{hostModeCall}
 
 -- two lists of a block or less that differ do so inside one block
 one-block : (a b : List ℕ) → a ≢ b → length a ≡ length b → length a ≤ 16 → OneBlock a b

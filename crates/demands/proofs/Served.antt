@@ -19,14 +19,14 @@ use Rattle.cipher_mode.specs.declared.checks.Checked.the-variants.{Passed}
 use Rattle.cipher_mode.specs.declared.Sm4Cipher.{Sm4Cipher}
 use Rattle.cipher_mode.specs.declared.Sm4CipherMode.{Sm4CipherMode}
 use Rattle.cipher_mode.specs.Key.{keyNumber}
-use Rattle.cipher_mode.specs.Tables.{limit, roomOf}
+use Rattle.cipher_mode.specs.Tables.{limit, roomOf, modeOf}
 use Rattle.cipher_mode.specs.Checks.{wrongIv, retiredCheck, labelCheck, dataCheck}
 use Rattle.cipher_mode.specs.Calls.{blockOf, blockCall, lengthsOf, modeCall}
 use Rattle.cipher_mode.proofs.Passed.{InOrder}
 use Rattle.cipher_mode.proofs.Ends.{length-block}
 use Rattle.luossavin.specs.declared.key.LuossavinKey.{LuossavinKey}
 use Rattle.luossavin.specs.Key.{keyAnswerOf, cipherIn}
-use Rattle.luossavin.specs.Host.{modeOf, modeIn, hostBlockCall, hostModeCall}
+use Rattle.luossavin.specs.Host.{modeIn, hostBlockCall, hostModeCall}
 use Rattle.demands.specs.Call.{Call, single}
 use Rattle.demands.specs.ThereAndBack.{AtAnyTime, HostAtAnyTime}
 use Rattle.demands.specs.CameRound.{roundOf}

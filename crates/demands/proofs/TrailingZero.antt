@@ -11,6 +11,7 @@ use Rattle.gcm.specs.Gcm.{hashKey, textPart}
 use Rattle.gcm.proofs.HashKey.{hashKey-lt}
 use Rattle.cipher_mode.specs.declared.Direction.the-variants.{Decrypt}
 use Rattle.cipher_mode.specs.declared.Sm4Cipher.{Sm4Cipher}
+use Rattle.cipher_mode.specs.Tables.{modeOf}
 use Rattle.cipher_mode.specs.Calls.{modeCall}
 use Rattle.demands.specs.Call.{inGcm}
 use Rattle.demands.specs.OneBlockRefused.{MovesZero}
@@ -18,7 +19,7 @@ use Rattle.demands.specs.TrailingZero.{LabelZeroRefused, TextZeroRefused
 use Rattle.demands.proofs.OtherHash.{hash-key-nonzero, gcm-fits, other-hash-refused, other-label-refused}
 use Rattle.luossavin.specs.declared.key.LuossavinKey.{LuossavinKey}
 use Rattle.luossavin.specs.Key.{cipherIn}
-use Rattle.luossavin.specs.Host.{modeOf, hostModeCall}
+use Rattle.luossavin.specs.Host.{hostModeCall}
 
 -- Under a key that does not encrypt the all-zero block to itself: a file that opens in Gcm under a label whose length is not
 -- divisible by 16 is refused as 4 under that label with one zero byte more.

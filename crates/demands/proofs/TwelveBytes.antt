@@ -15,10 +15,11 @@ use Rattle.ghash.specs.Ghash.{ghash}
 use Rattle.gcm.specs.Gcm.{hashKey, nonceCounter, hashedCounter, firstCounter, J0, textOf, tagOf, sealed}
 use Rattle.cipher_mode.specs.declared.Direction.the-variants.{Encrypt}
 use Rattle.cipher_mode.specs.declared.Sm4Cipher.{Sm4Cipher}
+use Rattle.cipher_mode.specs.Tables.{modeOf}
 use Rattle.cipher_mode.specs.Calls.{modeCall}
 use Rattle.luossavin.specs.declared.key.LuossavinKey.{LuossavinKey}
 use Rattle.luossavin.specs.Key.{cipherIn}
-use Rattle.luossavin.specs.Host.{modeOf, hostModeCall}
+use Rattle.luossavin.specs.Host.{hostModeCall}
 use Rattle.demands.specs.Call.{inGcm, result}
 use Rattle.demands.specs.TwelveBytes.{followedBy, textFromTwo, CountsFromTwo}
 use Rattle.demands.proofs.Through.{result-of-done, through, leaves}

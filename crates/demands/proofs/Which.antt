@@ -16,7 +16,7 @@ use Rattle.gcm.specs.declared.Opened.the-variants.{Done as Gcm·Done, InvalidTa
 use Rattle.cipher_mode.specs.declared.Direction.the-variants.{Decrypt}
 use Rattle.cipher_mode.specs.declared.Sm4Cipher.{Sm4Cipher}
 use Rattle.cipher_mode.specs.declared.CipherMode.the-variants.{Gcm}
-use Rattle.cipher_mode.specs.Tables.{limit}
+use Rattle.cipher_mode.specs.Tables.{limit, modeOf}
 use Rattle.cipher_mode.specs.Calls.{modeCall}
 use Rattle.cipher_mode.proofs.Passed.{data-within, with-tag-passed}
 use Rattle.editions.specs.Candidates.{anyTooLong, labelAt}
@@ -28,7 +28,7 @@ use Rattle.editions.proofs.WhichOpens.{Asked, first-opens, none-opens, found-op
 use Rattle.label.specs.Label.{labelOf}
 use Rattle.luossavin.specs.declared.key.LuossavinKey.{LuossavinKey}
 use Rattle.luossavin.specs.Key.{cipherIn}
-use Rattle.luossavin.specs.Host.{modeOf, hostModeCall}
+use Rattle.luossavin.specs.Host.{hostModeCall}
 use Rattle.demands.specs.Call.{inGcm, RefusedAs}
 use Rattle.demands.specs.OneBlockRefused.{MovesZero}
 use Rattle.demands.specs.Which.{FirstThatOpens, Tells}

@@ -26,13 +26,13 @@ use Rattle.cipher_mode.specs.declared.checks.Checked.{Checked}
 use Rattle.cipher_mode.specs.declared.checks.Checked.the-variants.{Passed, Refused}
 use Rattle.cipher_mode.specs.Answer.{refusalHead}
 use Rattle.cipher_mode.specs.Key.{keyHead, noCipher, wrongNumber, newCipher, keyNumber}
-use Rattle.cipher_mode.specs.Tables.{limit, sealedLimit, limitOf, roomOf}
+use Rattle.cipher_mode.specs.Tables.{limit, sealedLimit, limitOf, roomOf, modeOf}
 use Rattle.cipher_mode.specs.Checks.{refuse, andThen, keyCheck, wrongIv, retiredCheck, keyAndIv, labelCheck, shapeCheck, dataCheck}
 use Rattle.cipher_mode.specs.Checks.{roomCheck, messageCheck, blockCheck, checked}
 use Rattle.cipher_mode.specs.Calls.{blockCall, modeResult, lengthsOf, modeCall}
 use Rattle.luossavin.specs.declared.key.LuossavinKey.{LuossavinKey}
 use Rattle.luossavin.specs.Key.{keyAnswerOf, cipherIn, keyOf, hostKeyNew}
-use Rattle.luossavin.specs.Host.{modeOf, hostBlockCall, hostModeCall}
+use Rattle.luossavin.specs.Host.{hostBlockCall, hostModeCall}
 use Rattle.luossavin.specs.Which.{hostWhich}
 use Rattle.editions.specs.Candidates.{badList, anyTooLong}
 use Rattle.editions.specs.Which.{Verdict, noneWith, onKey, firstOpening, searchCheck, checkedVerdict, opensWith, which}

@@ -14,11 +14,11 @@ use Rattle.gcm.proofs.TagTells.{opens-alike}
 use Rattle.gcm.specs.Open.{settled, gcmOpen}
 use Rattle.cipher_mode.specs.declared.Direction.the-variants.{Decrypt}
 use Rattle.cipher_mode.specs.declared.Sm4Cipher.{Sm4Cipher}
-use Rattle.cipher_mode.specs.Tables.{limit}
+use Rattle.cipher_mode.specs.Tables.{limit, modeOf}
 use Rattle.cipher_mode.specs.Calls.{modeCall}
 use Rattle.luossavin.specs.declared.key.LuossavinKey.{LuossavinKey}
 use Rattle.luossavin.specs.Key.{cipherIn}
-use Rattle.luossavin.specs.Host.{modeOf, hostModeCall}
+use Rattle.luossavin.specs.Host.{hostModeCall}
 use Rattle.demands.specs.Call.{inGcm}
 use Rattle.demands.proofs.Through.{through, leaves}
 use Rattle.demands.proofs.OtherHash.{Fits, gcm-fits, gcm-in-order}

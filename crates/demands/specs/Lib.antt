@@ -19,6 +19,7 @@ pub mod OtherEdition
 pub mod Which
 pub mod Workers
 pub mod OnTheShelf
+pub mod InTheJournal
 pub mod Halves
 pub mod TrailingZero
 pub mod HashKeys
@@ -26,3 +27,4 @@ pub mod HashKeys
 pub mod Worked
 pub mod Edges
 pub mod Imposters
+pub mod JournalImposters

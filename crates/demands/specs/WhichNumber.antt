@@ -13,10 +13,9 @@ use Rattle.cipher_mode.specs.declared.CipherMode.{CipherMode}
 use Rattle.cipher_mode.specs.declared.CipherMode.the-variants.{Cfb, Ofb, Ctr, Cbc, Gcm}
 use Rattle.cipher_mode.specs.declared.Direction.{Direction}
 use Rattle.cipher_mode.specs.declared.Direction.the-variants.{Encrypt, Decrypt}
-use Rattle.cipher_mode.specs.Tables.{limit, sealedLimit, limitOf, roomOf}
+use Rattle.cipher_mode.specs.Tables.{limit, sealedLimit, limitOf, roomOf, modeOf}
 use Rattle.editions.specs.Candidates.{badList, anyTooLong}
 use Rattle.luossavin.specs.declared.key.LuossavinKey.{LuossavinKey}
-use Rattle.luossavin.specs.Host.{modeOf}
 
 -- what a call says of a refusal: its number, and how many bytes were missing
 pub record Said : Type 0 where

@@ -1,67 +1,145 @@
--- A call that is recorded as it was answered agrees when it is replayed.
+-- Calls that were recorded as they were answered agree, and only they do; of those that differ the first is told.
 -- Assumes nothing.
 use mathlib.Core.Path.{_≡_, refl, sym, ap, _∙_}
-use mathlib.Core.Bool.{true, false}
-use mathlib.Core.List.{[], _++_, append-nil}
-use Prim.Native.Nat.{_+_}
+use mathlib.Core.Bool.{Bool, true, false, not}
+use mathlib.Core.List.{List, [], _∷_, _++_}
+use Prim.Native.Nat.{ℕ, _+_}
 use native.Mathlib.Omega.{arith}
-use lib.ListN.{length, drop}
-use borrow.Author.Tests.{eq-eqb}
-use Rattle.block.proofs.Same.{same-refl}
+use lib.Dec.{eqb}
+use lib.ListN.{length, length-append}
+use borrow.Author.Tests.{eqb-true, eq-eqb}
+use Rattle.block.specs.Same.{same}
+use Rattle.block.proofs.Same.{same-refl, same-equal}
 use Rattle.cipher_mode.specs.declared.Sm4Cipher.{Sm4Cipher}
-use Rattle.journal.specs.Format.{Entry, Proper, written, sizeAt, tooLong}
-use Rattle.journal.specs.KeyList.{keysIn, hasNumber, keyOf, badKeys}
-use Rattle.journal.specs.Recomputed.{callInto, recomputed, result, differsFrom, judged, answeredBy}
-use Rattle.journal.specs.Reports.{nothing, counted}
-use Rattle.journal.specs.Replay.{done, countedUnder, replayOne, replayFrom, replay}
-use Rattle.journal.specs.declared.keys.Keys.{Keys}
+use Rattle.journal.specs.Format.{Entry, written, stored}
+use Rattle.journal.specs.KeyList.{keyOf}
+use Rattle.journal.specs.Recomputed.{callInto, result, differsFrom, answeredBy}
+use Rattle.journal.specs.Reports.{nothing, firstOf, counted}
+use Rattle.journal.specs.Replay.{countedUnder}
+use Rattle.journal.specs.Ends.{countedAll, Ends, answerNow, differs, NoneDiffers}
+use Rattle.journal.specs.declared.report.Difference.{Difference}
+use Rattle.journal.specs.declared.report.Report.{Report}
 use Rattle.journal.specs.declared.Replayed.{Replayed}
-use Rattle.journal.proofs.Standing.{stands, size-sum, size-within, behind-size}
+use Rattle.journal.proofs.Limits.{neither}
+use Rattle.journal.proofs.Standing.{clash}
 use Rattle.journal.proofs.Lent.{result-size}
-use Rattle.journal.proofs.Replaying.{counts, from-end, from-on}
-use Rattle.journal.proofs.BothWays.{written-starts, written-front, written-behind}
+use Rattle.journal.proofs.Adding.{either-way}
 
-module _ (c : Sm4Cipher) (e : Entry) where
-  abbrev own : Entry
-  own = answeredBy (recomputed c e) e
+module _ (ks : List Sm4Cipher) (e : Entry) where
+  abbrev again : Entry
+  again = answeredBy (answerNow ks e) e
 
   -- what was recorded changes nothing of the call
-  same-call : recomputed c own ≡ recomputed c e
+  same-call : answerNow ks again ≡ answerNow ks e
   unfolding callInto
   same-call = refl
 
-  pub own-agrees : judged own (recomputed c own) .differs ≡ false
+  pub answered-agrees : differs ks again ≡ false
   unfolding differsFrom
-  own-agrees =
-      rw (same-call, eq-eqb (recomputed c e .head .number) (recomputed c e .head .number) refl, eq-eqb (length (result (recomputed c e))) (recomputed c e .head .size) (result-size c e), same-refl (result (recomputed c e)))
+  answered-agrees =
+      let x = answerNow ks e in
+      rw (
+        same-call,
+        eq-eqb (x .head .number) (x .head .number) refl,
+        eq-eqb (length (result x)) (x .head .size)
+            (result-size (keyOf (e .key) ks) e),
+        same-refl (result x),
+      )
 
--- A journal of one call, recorded as it was answered on a key that is lent, is replayed to its end, and nothing differs.
-module _ (k : Keys) (e : Entry) (good : badKeys k ≡ false) (known : hasNumber (e .key) (keysIn k) ≡ true) where
-  abbrev kept : Entry
-  kept = answeredBy (recomputed (keyOf (e .key) (keysIn k)) e) e
+  yes : (t : Bool) → not t ≡ false → t ≡ true
+  yes true z = refl
+  yes false z = sym z
 
-  module _ (proper : Proper kept) (short : tooLong kept ≡ false) where
-    one : replayOne (keysIn k) (written kept ++ []) 0 nothing ≡ done (countedUnder (keysIn k) kept 0 nothing)
-    one =
-        let s = written-starts kept proper [] in
-        let f = written-front kept proper [] in
-        sym (counts (keysIn k) (written kept ++ []) 0 nothing s (rw f short) (rw f known))
-        ∙ ap {B = Replayed} (λ (x : Entry). done (countedUnder (keysIn k) x 0 nothing)) f
+  -- A call that agrees is answered now as it was recorded.
+  pub agrees-so : differs ks e ≡ false → (e .number ≡ answerNow ks e .head .number) × (e .output ≡ result (answerNow ks e))
+  unfolding differsFrom
+  agrees-so d =
+      let x = answerNow ks e in
+      let number = neither (not (eqb (e .number) (x .head .number))) _ d in
+      let output = neither (not (eqb (length (e .output)) (x .head .size))) _ (number .1) .1 in (
+        eqb-true (e .number) (x .head .number) (yes (eqb (e .number) (x .head .number)) (number .0)),
+        same-equal (e .output) (result x) (yes (same (e .output) (result x)) output),
+      )
 
-    whole : replayFrom (keysIn k) (written kept ++ []) 0 nothing ≡ done (countedUnder (keysIn k) kept 0 nothing)
-    whole =
-        let b = written kept ++ [] in
-        let s = stands b (written-starts kept proper []) in
-        let n = size-sum b s in
-        let w = size-within b s in
-        let end : drop (sizeAt b) b ≡ [] = behind-size b s ∙ written-behind kept proper [] in
-        from-on (keysIn k) b 0 nothing (omega arith) (rw one refl)
-        ∙ rw (end, one) (from-end (keysIn k) [] (0 + sizeAt b) (countedUnder (keysIn k) kept 0 nothing) refl)
+-- the first difference, after one more call
+still : (t : Bool) (n p : ℕ) (d : Difference) → d .found ≡ true → firstOf t n p d ≡ d
+still t n p d f = rw f
 
-    pub own-journal : replay k (written kept) ≡ done (countedUnder (keysIn k) kept 0 nothing)
-    unfolding replay
-    own-journal = rw good (rw (← append-nil (written kept)) whole)
+found-now : (f : Bool) (n p : ℕ) (d : Difference) → d .found ≡ f → firstOf true n p d .found ≡ true
+found-now true n p d e = rw e
+found-now false n p d e = rw e
 
-    pub own-journal-agrees : replay k (written kept) .report .first .found ≡ false
-    unfolding counted
-    own-journal-agrees = rw (own-journal, own-agrees (keyOf (e .key) (keysIn k)) e)
+-- The first difference over calls that stand one behind the other.
+module _ (ks : List Sm4Cipher) where
+  one-first : (e : Entry) (place : ℕ) (r : Report) → countedUnder ks e place r .first ≡ firstOf (differs ks e) (r .records) place (r .first)
+  unfolding counted
+  one-first e place r = refl
+
+  one-more : (e : Entry) (place : ℕ) (r : Report) → countedUnder ks e place r .records ≡ r .records + 1
+  unfolding counted
+  one-more e place r = refl
+
+  one-agrees : (e : Entry) (place : ℕ) (r : Report) → differs ks e ≡ false → countedUnder ks e place r .first ≡ r .first
+  one-agrees e place r n = one-first e place r ∙ rw n (either-way (r .first .found) (r .first))
+
+  kept : (es : List Entry) (place : ℕ) (r : Report) → r .first .found ≡ true → countedAll ks es place r .first ≡ r .first
+  unfolding countedAll
+  kept [] place r f = refl
+  kept (e ∷ es) place r f =
+      let s = one-first e place r ∙ still (differs ks e) (r .records) place (r .first) f in
+      kept es (place + length (written e)) (countedUnder ks e place r) (ap (λ (d : Difference). d .found) s ∙ f) ∙ s
+
+  none : (es : List Entry) (place : ℕ) (r : Report) → NoneDiffers ks es → countedAll ks es place r .first ≡ r .first
+  unfolding countedAll
+  none [] place r n = refl
+  none (e ∷ es) place r (n, ns) = none es (place + length (written e)) (countedUnder ks e place r) ns ∙ one-agrees e place r n
+
+  first : (es fs : List Entry) (e : Entry) (place : ℕ) (r : Report) → r .first .found ≡ false → NoneDiffers ks es → differs ks e ≡ true
+      → countedAll ks (es ++ e ∷ fs) place r .first
+      ≡ record { found = true; index = r .records + length es; place = place + length (stored es) }
+  unfolding countedAll stored
+  first [] fs e place r f n d =
+      let i : r .records + 0 ≡ r .records = omega arith in
+      let p : place + 0 ≡ place = omega arith in
+      let s : countedUnder ks e place r .first ≡ record { found = true; index = r .records; place = place } = one-first e place r ∙ rw
+      (f, d) in
+      kept fs (place + length (written e)) (countedUnder ks e place r) (ap (λ (x : Difference). x .found) s) ∙ s ∙ rw (i, p)
+  first (g ∷ es) fs e place r f (n, ns) d =
+      let s = one-agrees g place r n in
+      let m = one-more g place r in
+      let l = length-append (written g) (stored es) in
+      let i : countedUnder ks g place r .records + length es ≡ r .records + length (g ∷ es) = omega arith in
+      let p : place + length (written g) + length (stored es) ≡ place + length (written g ++ stored es) = omega arith in
+      first es fs e (place + length (written g)) (countedUnder ks g place r) (ap (λ (x : Difference). x .found) s ∙ f) ns d ∙ rw (i, p)
+
+  none-by : (t : Bool) (e : Entry) (es : List Entry) (place : ℕ) (r : Report)
+      → (countedAll ks es (place + length (written e)) (countedUnder ks e place r) .first .found ≡ false → NoneDiffers ks es)
+      → differs ks e ≡ t → countedAll ks (e ∷ es) place r .first .found ≡ false → (differs ks e ≡ false) × NoneDiffers ks es
+  unfolding countedAll
+  none-by true e es place r behind d f =
+      let s : countedUnder ks e place r .first .found ≡ true =
+      ap (λ (x : Difference). x .found) (one-first e place r) ∙ rw d (found-now (r .first .found) (r .records) place (r .first) refl) in
+      let k = kept es (place + length (written e)) (countedUnder ks e place r) s in
+      absurd (clash _ (ap (λ (x : Difference). x .found) k ∙ s) f)
+  none-by false e es place r behind d f = (d, behind f)
+
+  none-differs : (es : List Entry) (place : ℕ) (r : Report) → countedAll ks es place r .first .found ≡ false → NoneDiffers ks es
+  none-differs [] place r f = tt
+  none-differs (e ∷ es) place r f =
+      none-by (differs ks e) e es place r (none-differs es (place + length (written e)) (countedUnder ks e place r)) refl f
+
+-- What is told of the first difference, however the replay ends, by the calls that were replayed.
+module _ (ks : List Sm4Cipher) (b : List ℕ) (x : Replayed) (ends : Ends ks b 0 nothing x) where
+  pub none-told : NoneDiffers ks (ends .calls) → x .report .first ≡ record { found = false; index = 0; place = 0 }
+  none-told n = ap (λ (r : Report). r .first) (ends .report) ∙ none ks (ends .calls) 0 nothing n
+
+  pub all-agree : x .report .first .found ≡ false → NoneDiffers ks (ends .calls)
+  all-agree f = none-differs ks (ends .calls) 0 nothing (ap (λ (r : Report). r .first .found) (sym (ends .report)) ∙ f)
+
+  pub first-told : (es fs : List Entry) (e : Entry) → ends .calls ≡ es ++ e ∷ fs → NoneDiffers ks es → differs ks e ≡ true
+      → x .report .first ≡ record { found = true; index = length es; place = length (stored es) }
+  first-told es fs e c n d =
+      let i : 0 + length es ≡ length es = omega arith in
+      let p : 0 + length (stored es) ≡ length (stored es) = omega arith in
+      ap (λ (r : Report). r .first) (ends .report ∙ ap {B = Report} (λ (l : List Entry). countedAll ks l 0 nothing) c)
+      ∙ first ks es fs e 0 nothing refl n d ∙ rw (i, p)

@@ -19,7 +19,8 @@ use Rattle.block.proofs.Same.{and-left, and-right}
 use Rattle.cipher_mode.specs.declared.Direction.{Direction}
 use Rattle.cipher_mode.specs.declared.Direction.the-variants.{Encrypt, Decrypt}
 use Rattle.journal.specs.Format.{Entry, ProperPart, Proper, directionByte, part, head, middle, written, startsPart, partAt, behind}
-use Rattle.journal.specs.Format.{fromLabel, fromData, fromIv, fromRoom, fromOutput, afterRecord, marked, startsRecord, sizeAt, directionOf, front}
+use Rattle.journal.specs.Format.{fromLabel, fromData, fromIv, fromRoom, fromOutput, afterRecord, marked, startsRecord, sizeAt}
+use Rattle.journal.specs.Format.{directionOf, front}
 use Rattle.journal.proofs.Standing.{part-starts, part-long, length-part, Stands, stands, starts, size-is}
 
 -- a part that was written is read
@@ -48,7 +49,8 @@ module _ (p rest : List ℕ) (proper : ProperPart p) where
   unfolding behind part bytesOf
   behind-read = rw part-word (sym (drop-drop (length p) 4 (part p ++ rest)) ∙ drop-at p rest (length p) refl)
 
-same-entry : {dir dir′ : Direction} {m m′ k k′ r r′ n n′ : ℕ} {l l′ d d′ i i′ o o′ : List ℕ} → dir ≡ dir′ → m ≡ m′ → k ≡ k′ → l ≡ l′ → d ≡ d′
+same-entry : {dir dir′ : Direction} {m m′ k k′ r r′ n n′ : ℕ} {l l′ d d′ i i′ o o′ : List ℕ} → dir ≡ dir′ → m ≡ m′ → k ≡ k′ → l ≡ l′
+    → d ≡ d′
     → i ≡ i′ → r ≡ r′ → n ≡ n′ → o ≡ o′
     → _≡_ {A = Entry} (record { direction = dir; mode = m; key = k; label = l; «data» = d; iv = i; room = r; number = n; output = o })
     (record { direction = dir′; mode = m′; key = k′; label = l′; «data» = d′; iv = i′; room = r′; number = n′; output = o′ })
@@ -186,12 +188,13 @@ byte-back (suc zero) h = refl
 byte-back (suc (suc n)) h = absurd (omega arith)
 
 module _ (b : List ℕ) (small : AreBytes b) where
-  at : (i : ℕ) → getD b i 0 < 256
-  at i = below-at 256 b (lit< tt) small i
+  pub byte-at : (i : ℕ) → getD b i 0 < 256
+  byte-at i = below-at 256 b (lit< tt) small i
 
   word-back : 4 ≤ length b → bytesOf 4 (wordAt b 0) ≡ take 4 b
   word-back h =
-      bytesOf-numberOf (getD b 0 0 ∷ getD b 1 0 ∷ getD b 2 0 ∷ getD b 3 0 ∷ []) (at 0, (at 1, (at 2, (at 3, tt)))) ∙ front-four b h
+      bytesOf-numberOf (getD b 0 0 ∷ getD b 1 0 ∷ getD b 2 0 ∷ getD b 3 0 ∷ []) (byte-at 0, (byte-at 1, (byte-at 2, (byte-at 3, tt))))
+      ∙ front-four b h
 
   -- a part that was read, written again, is what it was read from
   part-written : startsPart b ≡ true → part (partAt b) ++ behind b ≡ b
@@ -215,12 +218,12 @@ module _ (b : List ℕ) (small : AreBytes b) where
       let m₂ = and-right (eqb (getD b 0 0) 0x54) _ m in
       let second = eqb-true (getD b 1 0) 0x52 (and-left _ _ m₂) in
       let third = byte-back (getD b 2 0) (leb-true (getD b 2 0) 1 (and-right (eqb (getD b 1 0) 0x52) _ m₂)) in
-      let two = bytesOf-numberOf (getD b 4 0 ∷ getD b 5 0 ∷ []) (at 4, (at 5, tt)) in
+      let two = bytesOf-numberOf (getD b 4 0 ∷ getD b 5 0 ∷ []) (byte-at 4, (byte-at 5, tt)) in
       rw (third, two)
       (ap₂ (λ (x y : ℕ). (x ∷ y ∷ getD b 2 0 ∷ getD b 3 0 ∷ getD b 4 0 ∷ getD b 5 0 ∷ []) ++ drop 6 b) (sym first) (sym second)
       ∙ ap (λ (l : List ℕ). l ++ drop 6 b) (front-six b h) ∙ take-append-drop 6 b)
 
-  behind-bytes : AreBytes (behind b)
+  pub behind-bytes : AreBytes (behind b)
   unfolding behind
   behind-bytes = below-drop 256 (4 + wordAt b 0) b small
 
@@ -234,12 +237,14 @@ front-written b small s =
     let room = behind-bytes (fromIv b) iv in
     let output = below-drop 256 5 (fromRoom b) room in
     let from-output = part-written (fromOutput b) output (s .output) in
-    let from-room = ap (λ (l : List ℕ). (bytesOf 4 (wordAt (fromRoom b) 0) ++ (getD (fromRoom b) 4 0 ∷ [])) ++ l) from-output ∙ middle-written (fromRoom b) room (s .middle) in
+    let from-room = ap (λ (l : List ℕ). (bytesOf 4 (wordAt (fromRoom b) 0) ++ (getD (fromRoom b) 4 0 ∷ [])) ++ l) from-output
+    ∙ middle-written (fromRoom b) room (s .middle) in
     let from-iv = ap (λ (l : List ℕ). part (partAt (fromIv b)) ++ l) from-room ∙ part-written (fromIv b) iv (s .iv) in
     let from-data = ap (λ (l : List ℕ). part (partAt (fromData b)) ++ l) from-iv ∙ part-written (fromData b) «data» (s .«data») in
     let from-label = ap (λ (l : List ℕ). part (partAt (fromLabel b)) ++ l) from-data ∙ part-written (fromLabel b) label (s .label) in
     joined from-label
   where
-    joined : part (front b .label) ++ (part (front b .«data») ++ (part (front b .iv) ++ (middle (front b) ++ (part (front b .output) ++ afterRecord b)))) ≡ fromLabel b
+    joined : part (front b .label) ++
+        (part (front b .«data») ++ (part (front b .iv) ++ (middle (front b) ++ (part (front b .output) ++ afterRecord b)))) ≡ fromLabel b
         → written (front b) ++ afterRecord b ≡ b
     joined e = simp append-assoc (ap (λ (l : List ℕ). head (front b) ++ l) e ∙ head-written b small (s .long) (s .mark))

@@ -34,7 +34,8 @@ use Rattle.cipher_mode.specs.declared.Direction.{Direction}
 use Rattle.cipher_mode.specs.declared.Direction.the-variants.{Encrypt, Decrypt}
 use Rattle.cipher_mode.specs.declared.answer.Refusal.{Refusal}
 use Rattle.cipher_mode.specs.declared.answer.Refusal.the-variants.{ErrorBlockSize, ErrorDataLen, InvalidLastU8 as BadLast, InvalidTag}
-use Rattle.cipher_mode.specs.declared.answer.Refusal.the-variants.{TooLong, NoRoom, EmptyCbc, ShortGcm, WrongIv, WrongBlock, Ended, WrongNumber, Retired, InvalidPadding as BadPadding}
+use Rattle.cipher_mode.specs.declared.answer.Refusal.the-variants.{TooLong, NoRoom, EmptyCbc, ShortGcm, WrongIv, WrongBlock, Ended}
+use Rattle.cipher_mode.specs.declared.answer.Refusal.the-variants.{WrongNumber, Retired, InvalidPadding as BadPadding}
 use Rattle.cipher_mode.specs.declared.checks.Checked.{Checked}
 use Rattle.cipher_mode.specs.declared.checks.Checked.the-variants.{Passed, Refused}
 use Rattle.cipher_mode.specs.Answer.{refusalHead}
@@ -139,7 +140,8 @@ mode-gives Gcm Decrypt rk aad d iv i e =
     let h = hashKey rk in
     let j = J0 rk iv in
     gives-reporting _ (gcmRound rk iv (length d - 16)) _
-    (gcm-opened _ (textOf rk j (textPart d)) (length d - 16) (opensUnder rk h j aad d) (text-size rk h j aad d [] (with-tag-passed (length d) e)) (omega arith))
+    (gcm-opened _ (textOf rk j (textPart d)) (length d - 16) (opensUnder rk h j aad d)
+    (text-size rk h j aad d [] (with-tag-passed (length d) e)) (omega arith))
 
 -- the table asks for at most 16 bytes more than there are
 pub room-16 : (m : CipherMode) (dir : Direction) (n : ℕ) → roomOf m dir n ≤ 16 + n

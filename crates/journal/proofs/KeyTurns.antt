@@ -23,7 +23,8 @@ same-inside [] i c d h = absurd (omega arith)
 same-inside (x ∷ cs) zero c d h = refl
 same-inside (x ∷ cs) (suc i) c d h = same-inside cs i c d (omega arith)
 
-pub key-lent : (k : Keys) (i : ℕ) (d : Sm4Cipher) → length (k .keys) ≡ 8 → i < k .count → k .count ≤ 8 → getD (k .keys) i d ≡ keyAt (keysIn k) i
+pub key-lent : (k : Keys) (i : ℕ) (d : Sm4Cipher) → length (k .keys) ≡ 8 → i < k .count → k .count ≤ 8
+    → getD (k .keys) i d ≡ keyAt (keysIn k) i
 key-lent k i d l h n =
     same-inside (k .keys) i d (noCipher ErrorBlockSize) (omega arith) ∙ sym (getD-take (k .count) (k .keys) i (noCipher ErrorBlockSize) h)
 

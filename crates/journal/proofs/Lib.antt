@@ -6,5 +6,14 @@ pub mod Lent
 pub mod Counting
 pub mod Replaying
 pub mod BothWays
+pub mod EveryReport
 pub mod Sums
+pub mod Appended
+pub mod Adding
+pub mod Joined
+pub mod ReadsProper
+pub mod Ending
 pub mod Agrees
+pub mod Writing
+pub mod Totals
+pub mod LongestRecord

@@ -7,14 +7,27 @@ use native.Mathlib.Omega.{arith}
 use lib.Dec.{ltb}
 use lib.ListN.{length}
 use borrow.Author.Tests.{ltb-false}
-use Rattle.journal.specs.Format.{Entry, partLimit, pastLimit, tooLong}
+use Rattle.journal.specs.Format.{Entry, partLimit, outputLimit, pastLimit, tooLong}
 
 pub neither : (a b : Bool) → (a || b) ≡ false → (a ≡ false) × (b ≡ false)
 neither true b e = let z : _≡_ {A = ℕ} 0 1 = cc in absurd (omega arith)
 neither false b e = (refl, e)
 
-pub data-short : (e : Entry) → tooLong e ≡ false → length (e .«data») ≤ partLimit
+pub record Short (e : Entry) : Type 0 where
+  pub label : length (e .label) ≤ partLimit
+  pub «data» : length (e .«data») ≤ partLimit
+  pub iv : length (e .iv) ≤ partLimit
+  pub output : length (e .output) ≤ outputLimit
+
+pub short : (e : Entry) → tooLong e ≡ false → Short e
 unfolding pastLimit
-data-short e t =
-    let behind-label = neither (ltb partLimit (length (e .label))) _ t .1 in
-    ltb-false partLimit (length (e .«data»)) (neither (ltb partLimit (length (e .«data»))) _ behind-label .0)
+short e t =
+    let a = neither (ltb partLimit (length (e .label))) _ t in
+    let b = neither (ltb partLimit (length (e .«data»))) _ (a .1) in
+    let c = neither (ltb partLimit (length (e .iv))) _ (b .1) in
+    record {
+      label = ltb-false partLimit (length (e .label)) (a .0);
+      «data» = ltb-false partLimit (length (e .«data»)) (b .0);
+      iv = ltb-false partLimit (length (e .iv)) (c .0);
+      output = ltb-false outputLimit (length (e .output)) (c .1);
+    }

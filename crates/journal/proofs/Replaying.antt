@@ -43,14 +43,15 @@ module _ (ks : List Sm4Cipher) (b : List ℕ) (place : ℕ) (r : Report) where
 
   -- a record that was not refused was counted
   counted-by : (s t n : Bool)
-      → numberOfEnd (refuse (not s) BadRecord place r (refuse t TooLong place r (refuse (not n) UnknownKey place r (done (countedUnder ks (front b) place r)))) .ended) ≡ 0
+      → numberOfEnd (refuse (not s) BadRecord place r (refuse t TooLong place r
+      (refuse (not n) UnknownKey place r (done (countedUnder ks (front b) place r)))) .ended) ≡ 0
       → (s ≡ true) × (t ≡ false) × (n ≡ true)
   counted-by false t n e = absurd (omega arith)
   counted-by true true n e = absurd (omega arith)
   counted-by true false false e = absurd (omega arith)
   counted-by true false true e = (refl, refl, refl)
 
-  passed : numberOfEnd (replayOne ks b place r .ended) ≡ 0
+  pub passed : numberOfEnd (replayOne ks b place r .ended) ≡ 0
       → (startsRecord b ≡ true) × (tooLong (front b) ≡ false) × (hasNumber (front b .key) ks ≡ true)
   unfolding replayOne
   passed e = counted-by (startsRecord b) (tooLong (front b)) (hasNumber (front b .key) ks) e
@@ -61,7 +62,8 @@ module _ (ks : List Sm4Cipher) (b : List ℕ) (place : ℕ) (r : Report) where
   pub one-counted : numberOfEnd (replayOne ks b place r .ended) ≡ 0 → replayOne ks b place r ≡ done (countedUnder ks (front b) place r)
   one-counted e = let p = passed e in sym (counts (p .0) (p .1) (p .2))
 
-  pub one-within : numberOfEnd (replayOne ks b place r .ended) ≡ 0 → Within place r → Within (place + sizeAt b) (replayOne ks b place r .report)
+  pub one-within : numberOfEnd (replayOne ks b place r .ended) ≡ 0 → Within place r
+      → Within (place + sizeAt b) (replayOne ks b place r .report)
   one-within e w =
       rw (one-counted e)
       (within-counted (front b) _ place (sizeAt b) r w (data-within b (one-stands e)) (recomputed-size (keyOf (front b .key) ks) (front b)))

@@ -11,20 +11,21 @@ use lib.Seq.{drop-drop, length-take-le}
 use borrow.Author.Tests.{leb-true, le-leb, lt-leb}
 use Rattle.block.specs.Words.{wordAt}
 use Rattle.block.proofs.Same.{and-left, and-right}
-use Rattle.journal.specs.Format.{startsPart, partAt, behind, fromLabel, fromData, fromIv, fromRoom, fromOutput, afterRecord, marked, startsRecord, sizeAt, front}
+use Rattle.journal.specs.Format.{startsPart, partAt, behind, fromLabel, fromData, fromIv, fromRoom, fromOutput, afterRecord}
+use Rattle.journal.specs.Format.{marked, startsRecord, sizeAt, front}
 
 -- t is the end of b
 pub record IsEnd (t b : List ℕ) : Type 0 where
   pub shorter : length t ≤ length b
   pub behind : t ≡ drop (length b - length t) b
 
-pub drop-end : (k : ℕ) (b : List ℕ) → k ≤ length b → IsEnd (drop k b) b
+drop-end : (k : ℕ) (b : List ℕ) → k ≤ length b → IsEnd (drop k b) b
 drop-end k b h =
     let l = length-drop k b in
     let n : k ≡ length b - length (drop k b) = omega arith in
     record { shorter = omega arith; behind = ap (λ (i : ℕ). drop i b) n }
 
-pub end-of-end : (t u b : List ℕ) → IsEnd t u → IsEnd u b → IsEnd t b
+end-of-end : (t u b : List ℕ) → IsEnd t u → IsEnd u b → IsEnd t b
 end-of-end t u b x y =
     let h = x .shorter in
     let k = y .shorter in
@@ -62,7 +63,7 @@ module _ (b : List ℕ) where
         let k = leb-true (wordAt b 0) (length b - 4) (and-right (leb 4 (length b)) _ e) in
         omega arith
 
-    pub behind-end : IsEnd (behind b) b
+    behind-end : IsEnd (behind b) b
     unfolding behind
     behind-end = drop-end (4 + wordAt b 0) b part-fits
 
@@ -73,7 +74,7 @@ module _ (b : List ℕ) where
         let l = length-drop 4 b in
         length-take-le (wordAt b 0) (drop 4 b) (omega arith)
 
-    pub part-and-behind : 4 + length (partAt b) + length (behind b) ≡ length b
+    part-and-behind : 4 + length (partAt b) + length (behind b) ≡ length b
     unfolding behind
     part-and-behind = let h = part-fits in omega (arith, length-part, length-drop (4 + wordAt b 0) b)
 
@@ -111,7 +112,7 @@ module _ (b : List ℕ) where
   starts s =
       rw (le-leb 6 (length b) (s .long), s .mark, s .label, s .«data», s .iv, le-leb 5 (length (fromRoom b)) (s .middle), s .output)
 
-  pub size-none : startsRecord b ≡ false → sizeAt b ≡ 0
+  size-none : startsRecord b ≡ false → sizeAt b ≡ 0
   unfolding sizeAt
   size-none e = rw e
 
@@ -137,7 +138,8 @@ module _ (b : List ℕ) where
     size-within = omega (arith, size-is)
 
     -- its bytes but for the parts are 27
-    pub size-sum : length (partAt (fromLabel b)) + length (partAt (fromData b)) + length (partAt (fromIv b)) + length (partAt (fromOutput b)) + 27 ≡ sizeAt b
+    pub size-sum : length (partAt (fromLabel b)) + length (partAt (fromData b)) + length (partAt (fromIv b)) + length
+        (partAt (fromOutput b)) + 27 ≡ sizeAt b
     size-sum =
         let l₁ = part-and-behind (fromLabel b) (s .label) in
         let l₂ = part-and-behind (fromData b) (s .«data») in

@@ -1,5 +1,5 @@
 -- A recorded call, made again, and whether it is answered as it was.
-use Prim.Native.Nat.{ℕ, zero, suc}
+use Prim.Native.Nat.{ℕ}
 use mathlib.Core.Path.{_≡_}
 use mathlib.Core.Bool.{Bool, not, _||_, cond}
 use mathlib.Core.List.{List}
@@ -7,21 +7,12 @@ use lib.Dec.{ltb, eqb}
 use lib.ListN.{length, take, replicate}
 use Rattle.block.specs.Same.{same}
 use Rattle.walk.specs.Outcome.{Outcome, refuse}
-use Rattle.cipher_mode.specs.declared.CipherMode.{CipherMode}
-use Rattle.cipher_mode.specs.declared.CipherMode.the-variants.{Cfb, Ofb, Ctr, Cbc, Gcm}
 use Rattle.cipher_mode.specs.declared.Sm4Cipher.{Sm4Cipher}
+use Rattle.cipher_mode.specs.Tables.{modeOf}
 use Rattle.cipher_mode.specs.Calls.{modeCall}
 use Rattle.journal.specs.Format.{Entry, outputLimit}
 use Rattle.journal.specs.declared.again.Answered.{Answered}
 use Rattle.journal.specs.declared.again.Recomputed.{Recomputed}
-
--- 0 Cfb, 1 Ofb, 2 Ctr, 3 Cbc, 4 Gcm; a number above 4 is refused before this is asked
-unfoldable pub modeOf : ℕ → CipherMode
-modeOf zero = Cfb
-modeOf (suc zero) = Ofb
-modeOf (suc (suc zero)) = Ctr
-modeOf (suc (suc (suc zero))) = Cbc
-modeOf (suc (suc (suc (suc n)))) = Gcm
 
 -- the call of an entry on a key's record, into the output o; a mode above 4 is BadMode, 7
 unfoldable pub callInto : Sm4Cipher → Entry → List ℕ → Outcome

@@ -1,5 +1,5 @@
 -- The report of a replay, and what one more record makes of it.
-use Prim.Native.Nat.{ℕ, suc, _+_, _≤_}
+use Prim.Native.Nat.{ℕ, suc, _+_, _≤_, _<_}
 use mathlib.Core.Path.{_≡_}
 use mathlib.Core.Bool.{Bool, true, false, cond}
 use mathlib.Core.List.{List, [], _∷_}
@@ -65,3 +65,8 @@ pub record AddsUp (r : Report) : Type 0 where
   pub answers : length (r .«by_answer») ≡ 27
   pub byMode : total (r .«by_mode») ≡ r .records
   pub byAnswer : total (r .«by_answer») ≡ r .records
+
+-- a first difference, of so many records: it is one of them, or there is none and nothing is said of it
+pub record OfRecords (n : ℕ) (d : Difference) : Type 0 where
+  pub inside : d .found ≡ true → d .index < n
+  pub nowhere : d .found ≡ false → (d .index ≡ 0) × (d .place ≡ 0)

@@ -3,9 +3,8 @@ ghost use mathlib.Core.Path.{_≡_};
 ghost use mathlib.Core.Bool.{true, false};
 ghost use Rattle.cipher_mode.specs.Answer.{headOf};
 ghost use Rattle.journal.specs.Format.{startsRecord, front, tooLong};
-ghost use Rattle.journal.specs.Recomputed.{modeOf, callInto, Answers, recomputed, differsFrom, lentRoom, judged};
+ghost use Rattle.journal.specs.Recomputed.{callInto, Answers, recomputed, differsFrom, lentRoom, judged};
 use crate::records;
-use cipher_mode::CipherMode;
 use cipher_mode::Sm4Cipher;
 use cipher_mode::Sm4CipherMode;
 use cipher_mode::answer;
@@ -44,19 +43,6 @@ fn told(answer: Answer) -> Answered
     }
 }
 
-// The mode of a number; 4 and above are Gcm, and what is above is refused before.
-fn mode_of(mode: u8) -> CipherMode
-    ensures { λ r. ⌜ r ≡ modeOf mode ⌝ }
-{
-    match mode {
-        0 => CipherMode::Cfb,
-        1 => CipherMode::Ofb,
-        2 => CipherMode::Ctr,
-        3 => CipherMode::Cbc,
-        _ => CipherMode::Gcm,
-    }
-}
-
 fn call_into(cipher: Sm4Cipher, s: &[u8], out: &mut [u8]) -> Answered
     requires { ⌜ startsRecord (now s) ≡ true ⌝ }
     ensures { λ r. ⌜ Answers r (now (out .exit)) (callInto cipher (front (now (s .entry))) (now (out .entry))) ⌝ }
@@ -68,7 +54,7 @@ fn call_into(cipher: Sm4Cipher, s: &[u8], out: &mut [u8]) -> Answered
             length: 0,
         };
     }
-    let mode = mode_of(number);
+    let mode = cipher_mode::mode_of(number as u32);
     let under = Sm4CipherMode { cipher, mode };
     let direction = records::direction(s);
     told(under.call(
@@ -91,7 +77,7 @@ fn differs(s: &[u8], answered: Answered, result: &[u8]) -> bool
     if recorded.len() != answered.length {
         return true;
     }
-    !typed::names::alike(recorded, result)
+    !block::alike(recorded, result)
 }
 
 // How much room the call is lent: never more than the longest output, whatever was recorded.

@@ -1,12 +1,11 @@
 -- The exported calls: what each one leaves, from the inputs alone.
-use Prim.Native.Nat.{ℕ, zero, suc}
+use Prim.Native.Nat.{ℕ}
 use mathlib.Core.List.{List}
 use lib.Dec.{ltb}
 use Rattle.walk.specs.Outcome.{Head, Outcome, leaving, refuse}
-use Rattle.cipher_mode.specs.declared.CipherMode.{CipherMode}
-use Rattle.cipher_mode.specs.declared.CipherMode.the-variants.{Cfb, Ofb, Ctr, Cbc, Gcm}
 use Rattle.cipher_mode.specs.declared.Direction.{Direction}
 use Rattle.cipher_mode.specs.declared.Sm4CipherMode.{Sm4CipherMode}
+use Rattle.cipher_mode.specs.Tables.{modeOf}
 use Rattle.cipher_mode.specs.Calls.{blockCall, modeCall}
 use Rattle.luossavin.specs.declared.LuossavinAnswer.{LuossavinAnswer}
 use Rattle.luossavin.specs.declared.key.LuossavinKey.{LuossavinKey}
@@ -19,14 +18,6 @@ headIn r = record { number = r .number; size = r .length; missing = r .missing; 
 -- the outcome of a host's answer with the output o
 abbrev pub reported : LuossavinAnswer → List ℕ → Outcome
 reported r o = leaving (headIn r) o
-
--- 0 Cfb, 1 Ofb, 2 Ctr, 3 Cbc, 4 Gcm; a number above 4 is refused before this is asked
-unfoldable pub modeOf : ℕ → CipherMode
-modeOf zero = Cfb
-modeOf (suc zero) = Ofb
-modeOf (suc (suc zero)) = Ctr
-modeOf (suc (suc (suc zero))) = Cbc
-modeOf (suc (suc (suc (suc n)))) = Gcm
 
 -- a host's record with the mode that it is used in
 abbrev pub modeIn : LuossavinKey → ℕ → Sm4CipherMode

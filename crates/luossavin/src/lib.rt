@@ -2,6 +2,7 @@
 // none has a `requires`: a host that breaks one could not be told.
 mod halves;
 mod in_pieces;
+mod journals;
 pub mod key;
 mod shelves;
 mod which;
@@ -10,8 +11,7 @@ mod workers;
 ghost use mathlib.Core.Path.{_≡_};
 ghost use Rattle.walk.specs.Outcome.{under, refusal};
 ghost use Rattle.cipher_mode.specs.Answer.{headOf};
-ghost use Rattle.luossavin.specs.Host.{headIn, reported, modeOf, modeIn, hostBlockCall, hostModeCall};
-use cipher_mode::CipherMode;
+ghost use Rattle.luossavin.specs.Host.{headIn, reported, modeIn, hostBlockCall, hostModeCall};
 use cipher_mode::Direction;
 use cipher_mode::Sm4CipherMode;
 use cipher_mode::answer;
@@ -71,26 +71,13 @@ pub(crate) fn report(answer: Answer) -> LuossavinAnswer
     }
 }
 
-// The mode of a number; 4 and above are Gcm, and the calls refuse what is above.
-fn mode_of(mode: u32) -> CipherMode
-    ensures { λ r. ⌜ r ≡ modeOf mode ⌝ }
-{
-    match mode {
-        0 => CipherMode::Cfb,
-        1 => CipherMode::Ofb,
-        2 => CipherMode::Ctr,
-        3 => CipherMode::Cbc,
-        _ => CipherMode::Gcm,
-    }
-}
-
 // The record with the mode that it is used in.
 fn mode_in(key: LuossavinKey, mode: u32) -> Sm4CipherMode
     ensures { λ r. ⌜ r ≡ modeIn key mode ⌝ }
 {
     Sm4CipherMode {
         cipher: cipher_of(key),
-        mode: mode_of(mode),
+        mode: cipher_mode::mode_of(mode),
     }
 }
 

@@ -1,7 +1,7 @@
--- A walk that tests every byte of a word, compares two words byte by byte, or looks for a thing among some: what is left decides,
--- and so where the walk stops, goes on and ends.
+-- A walk that tests every byte of a word, or looks for a thing among some: what is left decides, and so where the walk stops, goes on
+-- and ends.
 -- Assumes nothing.
-use mathlib.Core.Path.{_≡_, ap, sym, _∙_}
+use mathlib.Core.Path.{_≡_, sym, _∙_}
 use mathlib.Core.Bool.{Bool, true, false, _&&_, _||_}
 use mathlib.Core.List.{List}
 use Prim.Native.Nat.{ℕ, _+_, _<_, _≤_}
@@ -11,8 +11,6 @@ use lib.ListN.{length, drop, getD, drop-of-length-le}
 use lib.Seq.{drop-cons}
 use Rattle.typed.specs.Tests.{every}
 use Rattle.typed.specs.Words.{isOneOf}
-use Rattle.block.specs.Same.{same}
-use Rattle.block.proofs.Same.{same-not}
 
 module _ (f : ℕ → Bool) (s : List ℕ) (i : ℕ) {v : Bool} (e : every f (drop i s) ≡ v) where
   every-turn : i < length s → every f (drop i s) ≡ (f (getD s i 0) && every f (drop (i + 1) s))
@@ -26,26 +24,6 @@ module _ (f : ℕ → Bool) (s : List ℕ) (i : ℕ) {v : Bool} (e : every f (dr
 
   pub every-end : length s ≤ i → true ≡ v
   every-end h = sym (rw (drop-of-length-le s h)) ∙ e
-
-module _ (a b : List ℕ) (i : ℕ) {v : Bool} (e : same (drop i a) (drop i b) ≡ v) where
-  same-turn : i < length a → i < length b
-      → same (drop i a) (drop i b) ≡ (eqb (getD a i 0) (getD b i 0) && same (drop (i + 1) a) (drop (i + 1) b))
-  unfolding same
-  same-turn h k = rw (add-one, drop-cons a i 0, drop-cons b i 0)
-
-  pub same-stop : i < length a → i < length b → eqb (getD a i 0) (getD b i 0) ≡ false → false ≡ v
-  same-stop h k t = sym (same-turn h k ∙ rw t) ∙ e
-
-  pub same-go : i < length a → i < length b → eqb (getD a i 0) (getD b i 0) ≡ true → same (drop (i + 1) a) (drop (i + 1) b) ≡ v
-  same-go h k t = sym (same-turn h k ∙ rw t) ∙ e
-
-  pub same-end : length a ≤ i → length b ≤ i → true ≡ v
-  unfolding same
-  same-end h k = sym (rw (drop-of-length-le a h, drop-of-length-le b k)) ∙ e
-
--- words of different lengths are not the same
-pub same-length : (a b : List ℕ) → (length a ≡ length b → ⊥) → false ≡ same a b
-same-length a b h = sym (same-not a b (λ e. h (ap length e)))
 
 module _ (k : ℕ) (s : List ℕ) (i : ℕ) {v : Bool} (e : isOneOf k (drop i s) ≡ v) where
   one-turn : i < length s → isOneOf k (drop i s) ≡ (eqb k (getD s i 0) || isOneOf k (drop (i + 1) s))

@@ -1,24 +1,6 @@
 // Names in a list, with a blank after each but the last.
 ghost use mathlib.Core.Path.{_≡_};
-ghost use Rattle.block.specs.Same.{same};
 ghost use Rattle.typed.specs.Names.{placeIn};
-
-// Whether two words are the same.
-pub fn alike(a: &[u8], b: &[u8]) -> bool
-    ensures { λ r. ⌜ r ≡ same (now (a .entry)) (now (b .entry)) ⌝ }
-{
-    if a.len() != b.len() {
-        return false;
-    }
-    let mut i = 0;
-    while i < a.len() {
-        if a[i] != b[i] {
-            return false;
-        }
-        i += 1;
-    }
-    true
-}
 
 // Which of the names is the word, counted from 0; their number where none is.
 pub(crate) fn find(names: &[u8], word: &[u8]) -> usize
@@ -28,7 +10,7 @@ pub(crate) fn find(names: &[u8], word: &[u8]) -> usize
     let mut at = 0;
     while at < names.len() {
         let end = bytes::scan::find(names, at, names.len(), b' ');
-        if alike(&names[at..end], word) {
+        if block::alike(&names[at..end], word) {
             return place;
         }
         place += 1;

@@ -141,5 +141,6 @@ pub replay-spec : {M : Type 1} → statement M
 replay-spec =
     tie.close
     (tie.spec
-    Inv-loop μ-loop (λ c κs. search needs) (λ c κs. search needs) returns loop-holds replay-one-requires (λ c κs. search needs) returns-2 (λ c κs. search needs) sub-t part-t-start (λ c. omega arith) add-place loop-less
+    Inv-loop μ-loop (λ c κs. search needs) (λ c κs. search needs) returns loop-holds replay-one-requires (λ c κs. search needs) returns-2
+    (λ c κs. search needs) sub-t part-t-start (λ c. omega arith) add-place loop-less
     loop-again returns-3)

@@ -42,7 +42,8 @@ returns-2 : tie.Need-returns-2
 returns-2 c =
     let at-test = c .before in
     let a = at-test .before .before .before .before .args in
-    too-long (keysIn (a .keys)) (now (a .s)) (a .place) (a .report) (starts (at-test .before)) (sym (at-test .too-long .ensures) ∙ c .if2 .taken)
+    too-long (keysIn (a .keys)) (now (a .s)) (a .place) (a .report) (starts (at-test .before))
+    (sym (at-test .too-long .ensures) ∙ c .if2 .taken)
 
 short : (x : tie.Else2) → tooLong (front (now (x .before .before .before .before .before .args .s))) ≡ false
 short x = sym (x .before .too-long .ensures) ∙ x .if2 .left
@@ -65,7 +66,8 @@ module _ (x : tie.After-find) where
   place-is = x .find .ensures ∙ ap (λ (n : ℕ). placeOf n ks) (x .before .key-number .ensures)
 
   count : length ks ≡ start .args .keys .count
-  count = count-keys (start .args .keys) (sym (length-map (start .args .keys .keys) _) ∙ start .good .0 .1 .1 .1 .0 .1 .0 .1) (start .pre .0)
+  count = count-keys (start .args .keys) (sym (length-map (start .args .keys .keys) _) ∙ start .good .0 .1 .1 .1 .0 .1 .0 .1)
+      (start .pre .0)
 
 returns-3 : tie.Need-returns-3
 returns-3 c =
@@ -110,7 +112,8 @@ returns-4 c =
     let b = now (a .s) in
     let else2 = x .before .before in
     let the-key = at-key .at .ensures ∙ ap (keyAt (ks x)) (place-is x) in
-    let judging = at-again .recompute .ensures ∙ ap {B = Recomputed} (λ (k : Sm4Cipher). judged (front b) (recomputed k (front b))) the-key in
+    let judging = at-again .recompute .ensures ∙ ap {B = Recomputed}
+    (λ (k : Sm4Cipher). judged (front b) (recomputed k (front b))) the-key in
     ap {B = Replayed} done (c .counted .ensures ∙ ap {B = Report} (λ (j : Recomputed). counted (front b) j (a .place) (a .report)) judging)
     ∙ counts (ks x) b (a .place) (a .report) (starts (else2 .before .before)) (short else2) (known known-there)
 
@@ -118,4 +121,5 @@ pub replay-one-spec : {M : Type 1} → statement M
 replay-one-spec =
     tie.close
     (tie.spec
-    (λ c κs. search needs) returns too-long-requires returns-2 key-number-requires (λ c κs. search needs) returns-3 (λ c κs. search needs) recompute-requires counted-requires returns-4)
+    (λ c κs. search needs) returns too-long-requires returns-2 key-number-requires (λ c κs. search needs) returns-3
+    (λ c κs. search needs) recompute-requires counted-requires returns-4)

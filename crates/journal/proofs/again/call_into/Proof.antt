@@ -12,9 +12,10 @@ use Rattle.cipher_mode.specs.declared.Direction.{Direction}
 use Rattle.cipher_mode.specs.declared.Sm4Cipher.{Sm4Cipher}
 use Rattle.cipher_mode.specs.declared.answer.Answer.{Answer}
 use Rattle.cipher_mode.specs.Answer.{headOf, outcome}
+use Rattle.cipher_mode.specs.Tables.{modeOf}
 use Rattle.cipher_mode.specs.Calls.{modeCall}
 use Rattle.journal.specs.Format.{Entry, front}
-use Rattle.journal.specs.Recomputed.{modeOf, callInto, Answers}
+use Rattle.journal.specs.Recomputed.{callInto, Answers}
 use Rattle.journal.specs.declared.again.Answered.{Answered}
 use borrow.Author.Needs.{needs}
 use Rattle.journal.proofs.again.call_into.Statement.{statement}
@@ -73,4 +74,5 @@ pub call-into-spec : {M : Type 1} → statement M
 call-into-spec =
     tie.close
     (tie.spec
-    (λ c κs. search needs) returns (λ c κs. search needs) (λ c κs. search needs) (λ c κs. search needs) (λ c κs. search needs) (λ c κs. search needs) (λ c κs. search needs) (λ c κs. search needs) (λ c. search needs) returns-2)
+    (λ c κs. search needs) returns (λ c. search needs) (λ c κs. search needs) (λ c κs. search needs) (λ c κs. search needs)
+    (λ c κs. search needs) (λ c κs. search needs) (λ c κs. search needs) (λ c κs. search needs) (λ c. search needs) returns-2)

@@ -66,7 +66,8 @@ returns c =
     let a = at-call .call-into .result in
     let given = at-call .call-into .last .1 .1 .0 in
     let rest = drop (at-room .lent-room .result - 0) (buffer at-room) in
-    lent-judged (S .args .cipher) (entry at-room) (S .pre .1) _ (lent at-room) a given rest (c .differs .result) (at-call .call-into .ensures)
+    lent-judged (S .args .cipher) (entry at-room) (S .pre .1) _ (lent at-room) a given rest (c .differs .result)
+    (at-call .call-into .ensures)
     (c .differs .ensures
     ∙ ap (λ (k : ℕ). differsFrom (entry at-room) (a .number) (a .length) (take k (given ++ rest))) (sub-zero (a .length)))
 
@@ -74,4 +75,5 @@ pub recompute-spec : {M : Type 1} → statement M
 recompute-spec =
     tie.close
     (tie.spec
-    (λ c κs. search needs) (λ c κs. search needs) (λ c. search needs) (λ c. search needs) part-out-end (λ c κs. search needs) (λ c. search needs) (λ c. search needs) part-differs-end (λ c κs. search needs) returns)
+    (λ c κs. search needs) (λ c κs. search needs) (λ c. search needs) (λ c. search needs) part-out-end (λ c κs. search needs)
+    (λ c. search needs) (λ c. search needs) part-differs-end (λ c κs. search needs) returns)

@@ -20,7 +20,8 @@ abbrev μ-loop : tie.MeasureT-loop
 loop-holds : tie.Need-loop-holds Inv-loop μ-loop
 loop-holds c = (sym (length-map (c .args .keys .keys) _) ∙ c .good .0 .1 .1 .1 .0 .1 .0 .1, c .pre, omega arith, refl)
 
-inside : (x : tie.Then1 Inv-loop μ-loop) → let at-loop = x .before .before in at-loop .loop .i < length (keysIn (at-loop .before .args .keys))
+inside : (x : tie.Then1 Inv-loop μ-loop)
+    → let at-loop = x .before .before in at-loop .loop .i < length (keysIn (at-loop .before .args .keys))
 inside x =
     let at-loop = x .before .before in
     let n = count-keys (at-loop .before .args .keys) (at-loop .loop .inv .0) (at-loop .loop .inv .1) in
@@ -31,7 +32,8 @@ returns c =
     let at-key = c .before in
     let at-loop = at-key .before .before .before in
     let mark = ap (λ (k : Sm4Cipher). k .retired) (sym (at-key .at .ensures)) ∙ c .if2 .taken in
-    sym (sym (at-loop .loop .inv .3) ∙ retired-turn (keysIn (at-loop .before .args .keys)) (at-loop .loop .i) (inside (at-key .before)) ∙ rw mark)
+    sym (sym (at-loop .loop .inv .3) ∙ retired-turn (keysIn (at-loop .before .args .keys)) (at-loop .loop .i) (inside (at-key .before))
+    ∙ rw mark)
 
 loop-again : tie.Need-loop-again Inv-loop μ-loop
 loop-again c =
@@ -54,4 +56,5 @@ pub any-retired-spec : {M : Type 1} → statement M
 any-retired-spec =
     tie.close
     (tie.spec
-    Inv-loop μ-loop loop-holds (λ c κs. (omega arith, c .before .before .loop .inv .1)) returns (λ c. omega arith) (λ c. omega arith) loop-again returns-2)
+    Inv-loop μ-loop loop-holds (λ c κs. (omega arith, c .before .before .loop .inv .1)) returns (λ c. omega arith)
+    (λ c. omega arith) loop-again returns-2)

@@ -19,7 +19,8 @@ returns-3 : tie.Need-returns-3
 unfolding badKeys
 returns-3 c =
     let at-else = c .before in
-    rw (le-ltb _ _ (at-else .before .before .if1 .left), sym (at-else .before .any-retired .ensures) ∙ at-else .if2 .left) (c .number-twice .ensures)
+    rw (le-ltb _ _ (at-else .before .before .if1 .left), sym (at-else .before .any-retired .ensures) ∙ at-else .if2 .left)
+    (c .number-twice .ensures)
 
 pub bad-spec : {M : Type 1} → statement M
 bad-spec =

@@ -26,7 +26,8 @@ abbrev μ-loop : tie.MeasureT-loop
 loop-holds : tie.Need-loop-holds Inv-loop μ-loop
 loop-holds c = (sym (length-map (c .args .keys .keys) _) ∙ c .good .0 .1 .1 .1 .0 .1 .0 .1, c .pre .1, c .pre .0, refl)
 
-inside : (x : tie.Then1 Inv-loop μ-loop) → let at-loop = x .before .before in at-loop .loop .i < length (keysIn (at-loop .before .args .keys))
+inside : (x : tie.Then1 Inv-loop μ-loop)
+    → let at-loop = x .before .before in at-loop .loop .i < length (keysIn (at-loop .before .args .keys))
 inside x =
     let at-loop = x .before .before in
     let n = count-keys (at-loop .before .args .keys) (at-loop .loop .inv .0) (at-loop .loop .inv .1) in
@@ -73,4 +74,5 @@ pub find-from-spec : {M : Type 1} → statement M
 find-from-spec =
     tie.close
     (tie.spec
-    Inv-loop μ-loop loop-holds (λ c κs. (omega arith, c .before .before .loop .inv .1)) (λ c κs. search needs) returns (λ c. omega arith) (λ c. omega arith) loop-again returns-2)
+    Inv-loop μ-loop loop-holds (λ c κs. (omega arith, c .before .before .loop .inv .1)) (λ c κs. search needs) returns (λ c. omega arith)
+    (λ c. omega arith) loop-again returns-2)

@@ -47,7 +47,8 @@ behind-requires-2 : tie.Need-behind-requires-2
 behind-requires-2 c κs = sym (c .before .starts-part2 .ensures) ∙ not-false _ (c .if4 .left)
 
 iv-is : (x : tie.After-behind2)
-    → now (x .behind2 .result) ≡ fromIv (now (x .before .before .before .before .before .before .before .before .before .before .before .args .s))
+    → now (x .behind2 .result)
+    ≡ fromIv (now (x .before .before .before .before .before .before .before .before .before .before .before .args .s))
 iv-is x = x .behind2 .ensures ∙ ap behind (data-is (x .before .before .before))
 
 returns-5 : tie.Need-returns-5
@@ -64,7 +65,8 @@ room-is : (x : tie.After-behind3)
 room-is x = x .behind3 .ensures ∙ ap behind (iv-is (x .before .before .before))
 
 returns-6 : tie.Need-returns-6
-returns-6 c = not-standing _ (λ s. let h : 5 ≤ length (now (c .before .behind3 .result)) = rw (room-is (c .before)) (s .middle) in omega arith)
+returns-6 c = not-standing _
+    (λ s. let h : 5 ≤ length (now (c .before .behind3 .result)) = rw (room-is (c .before)) (s .middle) in omega arith)
 
 output-is : (x : tie.After-output)
     → let at-room = x .before .before in
@@ -123,5 +125,8 @@ pub measure-spec : {M : Type 1} → statement M
 measure-spec =
     tie.close
     (tie.spec
-    returns (λ c κs. search needs) returns-2 (λ c. search needs) (λ c. search needs) (λ c. search needs) (λ c κs. search needs) returns-3 behind-requires (λ c κs. search needs) returns-4 behind-requires-2 (λ c κs. search needs) returns-5 behind-requires-3
-    returns-6 (λ c. search needs) (λ c. search needs) (λ c. search needs) (λ c κs. search needs) returns-7 behind-requires-4 sub-result returns-8)
+    returns (λ c κs. search needs) returns-2 (λ c. search needs) (λ c. search needs) (λ c. search needs)
+    (λ c κs. search needs) returns-3 behind-requires (λ c κs. search needs) returns-4 behind-requires-2
+    (λ c κs. search needs) returns-5 behind-requires-3
+    returns-6 (λ c. search needs) (λ c. search needs) (λ c. search needs)
+    (λ c κs. search needs) returns-7 behind-requires-4 sub-result returns-8)

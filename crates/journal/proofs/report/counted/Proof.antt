@@ -86,4 +86,5 @@ pub counted-spec : {M : Type 1} → statement M
 counted-spec =
     tie.close
     (tie.spec
-    (λ c. search needs) (λ c κs. search needs) (λ c κs. search needs) one-more-requires (λ c. search needs) (λ c. search needs) one-more-requires-2 add-t15 (λ c κs. search needs) add-t20 add-t22 (λ c κs. search needs) returns)
+    (λ c. search needs) (λ c κs. search needs) (λ c κs. search needs) one-more-requires (λ c. search needs)
+    (λ c. search needs) one-more-requires-2 add-t15 (λ c κs. search needs) add-t20 add-t22 (λ c κs. search needs) returns)

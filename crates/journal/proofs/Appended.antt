@@ -1,0 +1,113 @@
+-- A record that stands whole is read the same, whatever is behind it.
+-- Assumes nothing.
+use mathlib.Core.Path.{_≡_, ap, _∙_}
+use mathlib.Core.Bool.{true}
+use mathlib.Core.List.{List, _++_}
+use Prim.Native.Nat.{ℕ, _+_, _≤_, _<_}
+use native.Mathlib.Omega.{arith}
+use lib.ListN.{length, getD, drop, length-append, length-drop, List·getD-append}
+use lib.Seq.{take-append-le, drop-append-le}
+use Rattle.block.specs.Words.{wordAt}
+use Rattle.journal.specs.Format.{startsPart, partAt, behind, fromLabel, fromData, fromIv, fromRoom, fromOutput, afterRecord}
+use Rattle.journal.specs.Format.{marked, startsRecord, sizeAt, front}
+use Rattle.journal.proofs.Standing.{part-starts, part-long, part-fits, Stands, starts, size-is}
+
+module _ (c : List ℕ) where
+  read-on : (b : List ℕ) (i : ℕ) → i < length b → getD (b ++ c) i 0 ≡ getD b i 0
+  read-on b i h = List·getD-append b c 0 i h
+
+  word-on : (b : List ℕ) → 4 ≤ length b → wordAt (b ++ c) 0 ≡ wordAt b 0
+  word-on b h =
+      let w = read-on b 0 (omega arith) in
+      let x = read-on b 1 (omega arith) in
+      let y = read-on b 2 (omega arith) in
+      let z = read-on b 3 (omega arith) in
+      rw (w, x, y, z)
+
+  module _ (b : List ℕ) (e : startsPart b ≡ true) where
+    part-starts-on : startsPart (b ++ c) ≡ true
+    part-starts-on =
+        let h = part-long b e in
+        let k = part-fits b e in
+        let w = word-on b h in
+        let l = length-append b c in
+        part-starts (b ++ c) (omega arith) (omega arith)
+
+    part-on : partAt (b ++ c) ≡ partAt b
+    unfolding partAt
+    part-on =
+        let h = part-long b e in
+        let k = part-fits b e in
+        let l = length-drop 4 b in
+        rw (word-on b h, drop-append-le 4 b c h) (take-append-le (wordAt b 0) (drop 4 b) c (omega arith))
+
+    behind-on : behind (b ++ c) ≡ behind b ++ c
+    unfolding behind
+    behind-on = rw (word-on b (part-long b e)) (drop-append-le (4 + wordAt b 0) b c (part-fits b e))
+
+  module _ (b : List ℕ) (s : Stands b) where
+    label-on : fromLabel (b ++ c) ≡ fromLabel b ++ c
+    label-on = drop-append-le 6 b c (s .long)
+
+    data-on : fromData (b ++ c) ≡ fromData b ++ c
+    data-on = ap behind label-on ∙ behind-on (fromLabel b) (s .label)
+
+    iv-on : fromIv (b ++ c) ≡ fromIv b ++ c
+    iv-on = ap behind data-on ∙ behind-on (fromData b) (s .«data»)
+
+    room-on : fromRoom (b ++ c) ≡ fromRoom b ++ c
+    room-on = ap behind iv-on ∙ behind-on (fromIv b) (s .iv)
+
+    output-on : fromOutput (b ++ c) ≡ fromOutput b ++ c
+    output-on = ap (drop 5) room-on ∙ drop-append-le 5 (fromRoom b) c (s .middle)
+
+    after-on : afterRecord (b ++ c) ≡ afterRecord b ++ c
+    after-on = ap behind output-on ∙ behind-on (fromOutput b) (s .output)
+
+    stands-on : Stands (b ++ c)
+    unfolding marked
+    stands-on =
+        let h = s .long in
+        let m = s .middle in
+        let l = length-append b c in
+        let k = length-append (fromRoom b) c in
+        record {
+          long = omega arith;
+          mark = rw (read-on b 0 (omega arith), read-on b 1 (omega arith), read-on b 2 (omega arith)) (s .mark);
+          label = rw label-on (part-starts-on (fromLabel b) (s .label));
+          «data» = rw data-on (part-starts-on (fromData b) (s .«data»));
+          iv = rw iv-on (part-starts-on (fromIv b) (s .iv));
+          middle = rw room-on (omega arith);
+          output = rw output-on (part-starts-on (fromOutput b) (s .output));
+        }
+
+    pub starts-on : startsRecord (b ++ c) ≡ true
+    starts-on = starts (b ++ c) stands-on
+
+    pub front-on : front (b ++ c) ≡ front b
+    unfolding front
+    front-on =
+        let h = s .long in
+        let m = s .middle in
+        let r₂ = read-on b 2 (omega arith) in
+        let r₃ = read-on b 3 (omega arith) in
+        let r₄ = read-on b 4 (omega arith) in
+        let r₅ = read-on b 5 (omega arith) in
+        let l : partAt (fromLabel (b ++ c)) ≡ partAt (fromLabel b) = ap partAt label-on ∙ part-on (fromLabel b) (s .label) in
+        let d : partAt (fromData (b ++ c)) ≡ partAt (fromData b) = ap partAt data-on ∙ part-on (fromData b) (s .«data») in
+        let i : partAt (fromIv (b ++ c)) ≡ partAt (fromIv b) = ap partAt iv-on ∙ part-on (fromIv b) (s .iv) in
+        let w : wordAt (fromRoom (b ++ c)) 0 ≡ wordAt (fromRoom b) 0 = ap (λ (t : List ℕ). wordAt t 0) room-on ∙ word-on (fromRoom b)
+        (omega arith) in
+        let n : getD (fromRoom (b ++ c)) 4 0 ≡ getD (fromRoom b) 4 0 = ap (λ (t : List ℕ). getD t 4 0) room-on ∙ read-on (fromRoom b) 4
+        (omega arith) in
+        let o : partAt (fromOutput (b ++ c)) ≡ partAt (fromOutput b) = ap partAt output-on ∙ part-on (fromOutput b) (s .output) in
+        rw (r₂, r₃, r₄, r₅, l, d, i, w, n, o)
+
+    pub size-on : sizeAt (b ++ c) ≡ sizeAt b
+    size-on =
+        let p = size-is (b ++ c) stands-on in
+        let q = size-is b s in
+        let a : length (afterRecord (b ++ c)) ≡ length (afterRecord b ++ c) = ap length after-on in
+        let l = length-append b c in
+        let k = length-append (afterRecord b) c in
+        omega arith
