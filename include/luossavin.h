@@ -112,7 +112,8 @@
  *
  * A message may also come in pieces, in Ctr and Gcm: what holds for these is said where they are declared.
  * There it is also said how to ask which of up to 64 labels a Gcm message opens under, how several workers share
- * one Ctr message, how the editions of jobs are kept on a shelf, and how recorded calls are replayed.
+ * one Ctr message, how the editions of jobs are kept on a shelf, how recorded calls are replayed, and how the hashes of
+ * two halves are joined.
  *
  * What no proof can see stays the host's duty, and a call that breaks it has no defined outcome:
  *
@@ -631,7 +632,7 @@ struct luossavin_shelved luossavin_shelf_find(const uint8_t *shelf, size_t size,
  *   bytes 0 and 1   54 52
  *   byte 2          the direction: 0 encrypt, 1 decrypt
  *   byte 3          the mode
- *   bytes 4 and 5   the key's number
+ *   bytes 4 and 5   the number of the key that the call was on, in refusal 7 too, where the answer has 0 for it
  *   then            the label, the data and the IV, each behind its length in four bytes
  *   then            the room in four bytes, and the number that was answered in one
  *   then            the output behind its length in four bytes: the result of a call that was done, and of one that
@@ -642,10 +643,10 @@ struct luossavin_shelved luossavin_shelf_find(const uint8_t *shelf, size_t size,
  * room of 2^32 bytes or more as 2^32 - 1: the answers are the same. The rest of an answer is not recorded: the missing
  * count, the key's number and whether a counter came round.
  *
- * A replay is given up to eight keys, the first `count` of `keys`; what is behind these is not looked at. A record is
- * made again on the key that has its number. The number of a record that is no key is 0, whatever it holds, and so is
- * that of a call on it, which answers as its set-up did: it may be among the keys as any other. A key that was retired
- * since is given as it was before; calls that were refused with 14 then differ, since no key here is retired.
+ * A replay is given up to eight keys, the first `count` of `keys`; what is behind these is not looked at. A call is
+ * made again on the key that has its number. One that is no key, `answer` not 0, may be among them. Its number is 0,
+ * whatever it holds, and calls that were on none are recorded with 0 as well. A key that was retired since is given as
+ * it was before; calls that were refused with 14 then differ, since no key here is retired.
  *
  *     struct luossavin_keys keys = {.count = 2, .keys = {old, current}};
  *     struct luossavin_replayed r = luossavin_replay(keys, file, file_len);
@@ -662,7 +663,7 @@ struct luossavin_shelved luossavin_shelf_find(const uint8_t *shelf, size_t size,
  *
  *   records      how many there are
  *   by_mode      how many in each mode from 0 to 4, and at place 5 those of every mode above, which answer 7
- *   by_answer    how many with each number. Those of 5, 14 and all that no call on a message answers stay 0
+ *   by_answer    how many with each number
  *   bytes_in     the bytes of their data, of refused calls too; labels and IVs are not counted
  *   bytes_out    the lengths that they answer
  *
@@ -685,9 +686,10 @@ struct luossavin_shelved luossavin_shelf_find(const uint8_t *shelf, size_t size,
  * otherwise both are 0. They do not say whether there is one: the first record has 0 and 0.
  *
  * The file is read and nothing is written. It has no limit. Whatever room was recorded, a call is made again into at
- * most 16,400 bytes, which is enough. They are on the stack, of which a replay takes less than 32 KiB. A journal has the
- * texts of its calls in it, what they were given and what they gave, and is as secret as these. It is not sealed: who
- * can write to it can make a record agree. */
+ * most 16,400 bytes, which is enough. They are on the stack, of which a replay takes less than 32 KiB.
+ *
+ * A journal has the texts of its calls in it, what they were given and what they gave, and is as secret as these. It is
+ * not sealed: who can write to it can make a record agree. */
 struct luossavin_keys {
     size_t count;
     struct luossavin_key keys[8];
@@ -707,6 +709,51 @@ struct luossavin_replayed {
 
 /* Replays the journal `file`. It answers 0, 23, 24, 25 or 26. */
 struct luossavin_replayed luossavin_replay(struct luossavin_keys keys, const uint8_t *file, size_t file_len);
+
+/* Hash the halves and join them.
+ *
+ * Two servers each hold half a long ciphertext, and its tag is wanted. Gcm's hash of a whole can be made of the
+ * hashes of its halves: each is hashed by itself, from 0 on, and the two are joined,
+ *
+ *     whole = first x H^n xor second
+ *
+ * where n is how many blocks the second half has, the last one of which may be short. The multiplication is Gcm's,
+ * and 80 followed by zeros is its one, so that either half may be empty: the hash of nothing is 0, and with n = 0 the
+ * first comes back. Several halves are joined one after another, in either grouping.
+ *
+ * The first half is whole blocks: its length divides by 16. Bytes that end inside a block are filled up with zeros to
+ * its end, as Gcm does at the end of a label and of a text; what follows then begins a block of its own, and what is
+ * joined is the hash of that and of no text that was cut there. The count is of blocks, not of bytes: n bytes are
+ * n / 16, rounded up. A host that miscounts is answered as it asked.
+ *
+ * A hash is the big-endian number of its 16 bytes, in two halves of 64 bits. Every value is one, and has an answer;
+ * nothing is refused, and there is no limit. These calls are on no key. H is what a key encrypts sixteen zero bytes to,
+ * by luossavin_block_encrypt, and it is as secret as the key: with it tags are forged. A tag by these calls, of a label
+ * and a ciphertext of n bytes, of which the first `cut` are one half:
+ *
+ *     h       = the hash that the sixteen encrypted zero bytes are
+ *     j0      = the IV followed by 00000001, where it has 12 bytes; otherwise the sixteen bytes of
+ *               luossavin_hash_blocks(h, the IV and then the number 128 in 16 bytes, 32)
+ *     lengths = 8 * label_len and then 8 * n, in 8 bytes each
+ *
+ *     y = luossavin_hash_blocks(h, label, label_len);
+ *     y = luossavin_hash_join(h, y, luossavin_hash_blocks(h, text, cut), cut / 16);
+ *     y = luossavin_hash_join(h, y, luossavin_hash_blocks(h, text + cut, n - cut), (n - cut + 15) / 16);
+ *     y = luossavin_hash_join(h, y, luossavin_hash_blocks(h, lengths, 16), 1);
+ *
+ * The tag is the encrypted j0, xored with the sixteen bytes of y: the one that luossavin_encrypt makes of that text. */
+struct luossavin_hash {
+    uint64_t high;
+    uint64_t low;
+};
+
+/* The hash of `bytes` in blocks under the key h, zeros to the last block's end. */
+struct luossavin_hash luossavin_hash_blocks(struct luossavin_hash h, const uint8_t *bytes, size_t bytes_len);
+
+/* Two hashes under the key h joined, the second of so many blocks. H is raised to that by squaring, so that the
+ * largest count takes 64 squarings. */
+struct luossavin_hash luossavin_hash_join(struct luossavin_hash h, struct luossavin_hash first,
+    struct luossavin_hash second, uint64_t second_blocks);
 
 #ifdef __cplusplus
 }

@@ -3,7 +3,7 @@ _luossavin() {
     local word=${COMP_WORDS[COMP_CWORD]} before=${COMP_WORDS[COMP_CWORD - 1]} options=''
     COMPREPLY=()
     if [ "$COMP_CWORD" -eq 1 ]; then
-        mapfile -t COMPREPLY < <(compgen -W 'seal open opens which encrypt decrypt plan range shelf demo help --help --version' -- "$word")
+        mapfile -t COMPREPLY < <(compgen -W 'seal open opens which encrypt decrypt plan range shelf replay demo help --help --version' -- "$word")
         return
     fi
     case ${COMP_WORDS[1]} in
@@ -21,7 +21,8 @@ _luossavin() {
         open) options='--job --key --number --retired --iv' ;;
         esac
         ;;
-    help | --help) options='seal open opens which encrypt decrypt plan range shelf' ;;
+    replay) options='--keys --key --number --plain' ;;
+    help | --help) options='seal open opens which encrypt decrypt plan range shelf replay' ;;
     esac
     case $before in
     --mode) options='cfb ofb ctr cbc' ;;

@@ -1,6 +1,6 @@
-/* Journals, with bad input: cuts, bytes that are others, lengths, rooms, parts at their limits, keys of every kind and of
- * any count, and some that are drawn; the journal is lent as in faults.c, to be read alone. What the header says is in
- * journal_model.c. */
+/* Journals, with bad input: cuts, bytes that are others, lengths, rooms, parts at their limits, keys of every kind and
+ * of any count, and some that are drawn; the journal is lent as in faults.c, to be read alone. What the header says is
+ * in journal_model.c. */
 #include "faults.h"
 
 #include "journal_model.h"

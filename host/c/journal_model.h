@@ -1,6 +1,6 @@
-/* A journal as a list of recorded calls, and what include/luossavin.h says that a replay makes of it, written down again
- * for the tests. A call is made again by luossavin_encrypt and luossavin_decrypt, into all of the room that was recorded;
- * nothing else of the library is called. */
+/* A journal as a list of recorded calls, and what include/luossavin.h says that a replay makes of it, written down
+ * again for the tests. A call is made again by luossavin_encrypt and luossavin_decrypt, into all of the room that was
+ * recorded; nothing else of the library is called. */
 #ifndef JOURNAL_MODEL_H
 #define JOURNAL_MODEL_H
 

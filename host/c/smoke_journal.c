@@ -1,8 +1,8 @@
 /* Journals: the layouts; one that is written down byte for byte, with RFC 8998's vector in it; every mode both ways and
- * every answer; each set of records that differ; every byte another; every cut; lengths and parts at their limits; rooms,
- * modes, directions and numbers of keys; what keys may be; every refusal with every later one there as well; journals
- * that are joined, that are drawn, in order and damaged, and one of more than 4 GiB. All are held to journal_model.c,
- * and most to what the test knows besides. */
+ * every answer; rooms, modes, directions and marks; each set of records that differ; every byte another; every cut;
+ * lengths, and parts at their limits; numbers of keys, and what keys may be; every refusal with every later one there
+ * as well; journals that are joined, that are drawn, in order and damaged, and one of more than 4 GiB. All but the one
+ * that is written down and the last are held to journal_model.c, and most to what the test knows besides. */
 #define _GNU_SOURCE
 
 #include "smoke.h"
@@ -17,7 +17,7 @@
 #include <sys/mman.h>
 #include <unistd.h>
 
-/* The longest journal but one, and the seconds after which the call that runs is taken not to end. */
+/* The most bytes of a journal but the last, and the seconds after which the call that runs is taken not to end. */
 enum { LONGEST = 1 << 20, PATIENCE = 200 };
 
 static void layout(void)
@@ -80,7 +80,7 @@ static struct luossavin_replayed replay(void)
 /* The answer is the model's, which is handed back. */
 static struct luossavin_replayed ask(const char *what)
 {
-    struct luossavin_replayed got = replay(), due = answer_to_replay(&ring, file, size);
+    struct luossavin_replayed due = answer_to_replay(&ring, file, size), got = replay();
     is_due(&got, &due, what);
     return due;
 }
@@ -132,7 +132,7 @@ static size_t add(struct entry e)
 /* As it answers on its key. */
 static size_t record(struct entry e)
 {
-    for (size_t i = 0; i < ring.count; i++) {
+    for (size_t i = 0; i < ring.count && i < MOST_KEYS; i++) {
         if (number_on(&ring.keys[i]) == e.key) {
             return add(answered_on(e, ring.keys[i]));
         }
@@ -165,8 +165,8 @@ static void append(const uint8_t *bytes, size_t n)
 
 #define APPEND(...) append((const uint8_t[]){__VA_ARGS__}, sizeof(const uint8_t[]){__VA_ARGS__})
 
-/* RFC 8998's message, sealed and opened; a mode that is none, with 4,000,000,000 bytes of room; and three bytes that are
- * no message. They stand at 0, 203, 406 and 433, and end at 475. */
+/* RFC 8998's message, sealed and opened; a mode that is none, with 4,000,000,000 bytes of room; and three bytes that
+ * are no message. They stand at 0, 203, 406 and 433, and end at 475. */
 static void write_by_hand(void)
 {
     size = 0;
@@ -248,7 +248,7 @@ static void every_mode(void)
     }
 }
 
-/* The calls that a message has an answer for: number i is that of the i-th, and it is recorded i + 1 times. */
+/* A call that is answered with this number; 1 and 13 are those of a record that is no key. */
 static struct entry answering(uint32_t number)
 {
     static uint8_t blocks[48];
@@ -270,6 +270,7 @@ static struct entry answering(uint32_t number)
     return e;
 }
 
+/* Every answer that there can be, each one once more than the one before. */
 static void every_answer(uint32_t none)
 {
     const uint32_t answers[] = {0, 2, 3, 4, 6, 7, 8, 9, 10, 15, none};
@@ -475,8 +476,8 @@ static void lengths(void)
     }
 }
 
-/* A record that is cut, of which a sum in 32 bits would lead back into its own label. There the rest of a record seems to
- * stand, and behind it another, which ends with the file. */
+/* A record that is cut, of which a sum in 32 bits would lead back into its own label. There the rest of a record seems
+ * to stand, and behind it another, which ends with the file. */
 static void sums(void)
 {
     size = 0;
@@ -642,7 +643,8 @@ static void bad_keys(void)
     }
 }
 
-/* What every record answers, as a key among others: by what it is, and not by the number that it holds. */
+/* What every record answers, as a key among others: by what it is, and not by the number that it holds. A mode that is
+ * none comes before. */
 static void one_record(struct holder fields)
 {
     struct luossavin_replayed r;
@@ -654,16 +656,20 @@ static void one_record(struct holder fields)
     size = 0;
     e.key = fields.answer == 0 ? fields.number : 0;
     record(e);
+    e.mode = 5;
+    record(e);
+    e.mode = OFB;
     e.key = 77;
     record(e);
     if (fields.retired != 0) {
         ask_for(26, 0, 0, "a made-up record");
         return;
     }
-    r = ask_for(0, 2, 0, "a made-up record");
+    r = ask_for(0, 3, 0, "a made-up record");
     check(r.differs == 0, "whether one differs", "a made-up record", r.first_record);
     check(r.by_answer[answer] == (answer ? 1 : 2), "its answer", "a made-up record", answer);
-    check(r.bytes_in == 14 && r.bytes_out == (answer ? 7 : 14), "its bytes", "a made-up record", r.bytes_out);
+    check(r.by_answer[7] == 1, "its answer in mode 5", "a made-up record", answer);
+    check(r.bytes_in == 21 && r.bytes_out == (answer ? 7 : 14), "its bytes", "a made-up record", r.bytes_out);
     e.key = fields.number;
     size = 0;
     record(e);
@@ -786,7 +792,7 @@ static struct entry draw_call(void)
     e.label = below(8) ? e.label : (struct bytes){rfc_sealed, below(81)};
     e.iv.length = below(8) ? 16 : below(18);
     e.room = (uint32_t)(below(4) ? 90 : below(2) ? below(90) : draw());
-    e.key = below(4) ? NUMBER : below(20) ? numbers[below(MOST_KEYS)] : (uint16_t)draw();
+    e.key = below(4) ? NUMBER : below(4) ? numbers[below(MOST_KEYS)] : below(2) ? 0 : (uint16_t)draw();
     return e;
 }
 
@@ -869,10 +875,11 @@ static void over_4_gib(void)
     uint8_t *pages = map_long(), *last = pages + (size_t)(MIBS - 1) * MIB;
     uint64_t before = (uint64_t)(MIBS - 1) * (MIB / EACH), records = before + 20;
     struct luossavin_replayed got, due = {.number = 23, .differs = 1, .place = records * EACH,
-        .first_record = before + 10, .first_place = (before + 10) * EACH, .records = records, .by_mode = {[5] = records},
-        .by_answer = {[7] = records}, .bytes_in = records * (EACH - BARE)};
+        .first_record = before + 10, .first_place = (before + 10) * EACH, .records = records,
+        .by_mode = {[5] = records}, .by_answer = {[7] = records}, .bytes_in = records * (EACH - BARE)};
     give_keys(1);
-    last[10 * EACH + 5 + 1 + 12 + (EACH - BARE) + 4] = 8;
+    /* its number stands before the length of an output that is empty */
+    last[11 * EACH - 4 - 1] = 8;
     last[20 * EACH + 2] = 2;
     got = luossavin_replay(ring, pages, (size_t)MIBS * MIB);
     is_due(&got, &due, "a journal of more than 4 GiB");

@@ -1,6 +1,8 @@
-// What is read: the key file and a list of candidates whole, and IN piece by piece: once, or twice where something is settled
+// What is read: the key file and a list of candidates or of keys whole, and IN piece by piece: once, or twice where something is settled
 // before the first byte is written, or once for each candidate.
 ghost use mathlib.Core.Path.{_≡_};
+ghost use Prim.Native.Nat.{_≤_};
+ghost use lib.ListN.{length};
 ghost use Rattle.io.specs.Counts.{Counts};
 use crate::DONE;
 use crate::FILES;
@@ -24,7 +26,7 @@ fn failed() -> Read
 }
 
 // Reads until the buffer is full or the input ends.
-fn read_all(fd: i32, buf: &mut [u8]) -> Read
+pub fn read_all(fd: i32, buf: &mut [u8]) -> Read
     ensures { λ r. ⌜ Counts (r .length) (now (buf .exit)) ⌝ }
 {
     let mut n = 0;
@@ -42,6 +44,19 @@ fn read_all(fd: i32, buf: &mut [u8]) -> Read
     Read {
         length: n,
         status: DONE,
+    }
+}
+
+// Brings the bytes from a place on, up to another, to the front of the buffer.
+pub fn bring_forward(buf: &mut [u8], from: usize, to: usize)
+    requires { ⌜ from ≤ to ⌝ }
+    requires { ⌜ to ≤ length (now buf) ⌝ }
+{
+    let n = to - from;
+    let mut i = 0;
+    while i < n {
+        buf[i] = buf[from + i];
+        i += 1;
     }
 }
 

@@ -15,6 +15,9 @@ pub const NONE: u8 = 65;
 
 pub const FILES: u8 = 66;
 
+// Of `replay`: a record differs.
+pub const DIFFERS: u8 = 67;
+
 // The descriptor on which the launcher waits for the status line.
 const REPORT: i32 = 9;
 

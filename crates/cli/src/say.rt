@@ -1,4 +1,4 @@
-// What the tool says to a person, on standard error but for the answers to `opens`, `which`, `plan` and `shelf`. What is said of a
+// What the tool says to a person, on standard error but for the answers to `opens`, `which`, `plan`, `shelf` and `replay`. What is said of a
 // failure answers the status that the run ends with.
 use crate::DONE;
 use crate::FILES;
@@ -21,6 +21,7 @@ use typed::things::IN;
 use typed::things::IV;
 use typed::things::JOB;
 use typed::things::KEY;
+use typed::things::KEYS;
 use typed::things::LENGTH;
 use typed::things::MODE;
 use typed::things::NUMBER;
@@ -37,7 +38,7 @@ pub fn number(n: u64) {
     io::print_decimal(STDERR_FILENO, n);
 }
 
-fn bytes(n: usize) {
+pub fn bytes(n: usize) {
     number(n as u64);
     if n == 1 {
         text(b" byte");
@@ -76,7 +77,7 @@ pub fn quoted(at: usize) {
 }
 
 // The value that the word at a place says.
-fn value(at: usize) {
+pub fn value(at: usize) {
     let mut room = word_room();
     let n = os::arg(at, &mut room);
     name(STDERR_FILENO, typed::words::value(&room[..n]));
@@ -161,7 +162,7 @@ pub fn end() -> u8 {
 
 pub fn no_command() -> u8 {
     text(
-        b"luossavin: expected seal, open, opens, which, encrypt, decrypt, plan, range, shelf, demo or help, not ",
+        b"luossavin: expected seal, open, opens, which, encrypt, decrypt, plan, range, shelf, replay, demo or help, not ",
     );
     quoted(COMMAND);
     tool();
@@ -185,6 +186,7 @@ fn expected(thing: usize) {
         CANDIDATES => text(b"--candidates with a file that has a job and an edition to a line"),
         OFFSET => text(b"--offset with a whole number, the place in the text where IN begins"),
         WORKERS => text(b"--workers with a whole number from 1 to 64"),
+        KEYS => text(b"--keys with a file that has a key's number and the key to a line"),
         LENGTH => text(b"LENGTH, a whole number, how many bytes the text has"),
         SHELF => text(b"SHELF, the file that is the shelf"),
         IN => text(b"IN, a file to read, or - for standard input"),
@@ -223,13 +225,19 @@ pub fn one_input(of: &[u8]) -> u8 {
     end()
 }
 
-// A line of a list of candidates that says nothing right; the list is named at this place.
-pub fn wrong_line(at: usize, place: usize, line: &[u8]) -> u8 {
+// "keys, line 3: ", of a list that is named at this place.
+pub fn line_of(at: usize, place: usize) {
     start();
     value_file(STDERR_FILENO, at);
     text(b", line ");
     number(place as u64);
-    text(b": expected a job and an edition with a blank between, as 4711 1, not \"");
+    text(b": ");
+}
+
+// A line of a list of candidates that says nothing right; the list is named at this place.
+pub fn wrong_line(at: usize, place: usize, line: &[u8]) -> u8 {
+    line_of(at, place);
+    text(b"expected a job and an edition with a blank between, as 4711 1, not \"");
     name(STDERR_FILENO, line);
     text(b"\"");
     end()
@@ -247,12 +255,20 @@ pub fn fault(line: Line) -> u8 {
     match fault {
         Fault::NoValue => no_value(line.next, line.at),
         Fault::SaidTwice => unexpected(b"only once ", line.at),
-        Fault::NotBoth => unexpected(
+        Fault::NotBoth => not_both(line),
+        Fault::OneTooMany => unexpected(b"no further word, not ", line.at),
+        _ => no_option(line),
+    }
+}
+
+fn not_both(line: Line) -> u8 {
+    let command = line.command;
+    match command {
+        Command::Replay => unexpected(b"--keys, or --key and --number, not both: ", line.at),
+        _ => unexpected(
             b"--candidates, or --job and --editions, not both: ",
             line.at,
         ),
-        Fault::OneTooMany => unexpected(b"no further word, not ", line.at),
-        _ => no_option(line),
     }
 }
 
@@ -294,6 +310,7 @@ fn no_option(line: Line) -> u8 {
         }
         Command::ShelfCollect => unexpected(b"no option, not ", line.at),
         Command::ShelfList => unexpected(b"no option, not ", line.at),
+        Command::Replay => unexpected(b"--keys, --key, --number or --plain, not ", line.at),
         _ => unexpected(
             b"--key, --number, --retired, --iv, --job or --edition, not ",
             line.at,

@@ -4,7 +4,7 @@
 use mathlib.Core.Path.{_≡_, refl, sym, ap, subst, _∙_}
 use mathlib.Core.Logic.{_≢_, ⊎-elim}
 use mathlib.Core.List.{List, [], _∷_, _++_, List·Mem, Pairwise·cons, pairwise-singleton, mem-of-ne-of-mem, mem-singleton}
-use Prim.Native.Nat.{ℕ, _+_, _/_, _^_, _<_, _≤_}
+use Prim.Native.Nat.{ℕ, _+_, _^_, _<_, _≤_}
 use native.Mathlib.Nat.{ℕ-set, eq-zero-or-pos, le-trans, lt-of-le-of-lt, max-le, mul-le-mul-right}
 use native.Mathlib.Omega.{arith}
 use lib.Dec.{lit<, lit≤}
@@ -12,7 +12,7 @@ use lib.ListN.{length, length-append}
 use Rattle.block.specs.BigEndian.{numberOf, bytesOf}
 use Rattle.block.specs.Below.{AreBytes}
 use Rattle.field.specs.Field.{Element, timesX, mulFrom, gmul}
-use Rattle.ghash.specs.Ghash.{blockOf, blocksFrom, blocks, lengthBlock, authBlocks, hashFrom}
+use Rattle.ghash.specs.Ghash.{blockOf, blocksFrom, blockCount, blocks, lengthBlock, authBlocks, hashFrom}
 use Rattle.roots.specs.AtMost.{AtMost}
 use Rattle.roots.specs.Confused.{Pair, Sound, hashedCount, pairHash, Confuses}
 use Rattle.roots.proofs.FewConfuse.{few-confuse, zero-confuses}
@@ -75,7 +75,7 @@ few-confuse-editions job₁ job₂ edition₁ edition₂ n c₁ c₂ hj₁ hj₂
         }
 
     -- a label is one block
-    count : (job edition : ℕ) (c : List ℕ) → length c ≤ n → hashedCount (under job edition c) ≤ (n + 15) / 16 + 2
+    count : (job edition : ℕ) (c : List ℕ) → length c ≤ n → hashedCount (under job edition c) ≤ blockCount n + 2
     count job edition c k = omega (arith, length-label job edition)
 
     different : under job₁ edition₁ c₁ ≢ under job₂ edition₂ c₂

@@ -2,15 +2,15 @@
 -- joined; and that calls which were recorded as they were answered agree.
 -- Assumes nothing.
 use mathlib.Core.Path.{_≡_, refl, sym, ap, _∙_}
-use mathlib.Core.Logic.{_⊎_, inl, inr}
+use mathlib.Core.Logic.{_⊎_, inl, inr, ⊎-elim}
 use mathlib.Core.Bool.{Bool, true, false, not, cond}
 use mathlib.Core.List.{List, [], _∷_, _++_, append-nil}
-use Prim.Native.Nat.{ℕ, zero, suc, _+_, _≤_, _<_}
+use Prim.Native.Nat.{ℕ, zero, suc, _+_, _<_}
 use native.Mathlib.Omega.{arith}
-use lib.Dec.{eqb}
+use lib.Dec.{ltb, eqb}
 use lib.ListN.{length, take, drop}
 use lib.Seq.{take-at}
-use borrow.Author.Tests.{le-ltb}
+use borrow.Author.Tests.{lt-ltb}
 use Rattle.block.specs.Below.{AreBytes}
 use Rattle.walk.specs.Walk.{over}
 use Rattle.walk.specs.Outcome.{Head, Outcome}
@@ -19,9 +19,9 @@ use Rattle.journal.specs.Format.{Entry, written, stored, startsRecord, sizeAt, 
 use Rattle.journal.specs.KeyList.{keysIn, hasNumber, keyOf, badKeys}
 use Rattle.journal.specs.Recomputed.{callInto, recomputed, result, answeredBy}
 use Rattle.journal.specs.Reports.{nothing}
-use Rattle.journal.specs.Replay.{numberOfEnd, refuse, replayOne, replayUpTo, replay}
+use Rattle.journal.specs.Replay.{numberOfEnd, done, refuse, replayOne, replayUpTo, replay}
 use Rattle.journal.specs.Joined.{added, behindReport}
-use Rattle.journal.specs.Ends.{AllReplayable, differs, NoneDiffers}
+use Rattle.journal.specs.Ends.{AllReplayable, countedAll, Ends, differs, NoneDiffers, Totals}
 use Rattle.journal.specs.Writer.{Leaves, write}
 use Rattle.journal.specs.declared.keys.Keys.{Keys}
 use Rattle.journal.specs.declared.report.Report.{Report}
@@ -29,18 +29,28 @@ use Rattle.journal.specs.declared.Ended.{Ended}
 use Rattle.journal.specs.declared.Ended.the-variants.{Done, BadRecord, TooLong, UnknownKey, BadKeys}
 use Rattle.journal.specs.declared.Replayed.{Replayed}
 use Rattle.journal.specs.declared.writer.Wrote.{Wrote}
-use Rattle.journal.specs.declared.writer.Wrote.the-variants.{Done as Done·wrote}
+use Rattle.journal.specs.declared.writer.Wrote.the-variants.{Done as Done·wrote, NoRoom}
 use Rattle.journal.proofs.Sums.{replay-adds-up, first-replayed}
 use Rattle.journal.proofs.Lent.{any-output-head, any-output-result}
 use Rattle.journal.proofs.Joined.{joined}
-use Rattle.journal.proofs.Ending.{bad-keys, ends-so, ends-alone}
-use Rattle.journal.proofs.Agrees.{answered-agrees, replayed-whole, none-told}
+use Rattle.journal.proofs.Ending.{bad-keys, ends-so, ends-alone, replayed-whole}
+use Rattle.journal.proofs.Totals.{totals-told}
+use Rattle.journal.proofs.Agrees.{answered-agrees, agrees-so, none-told, all-agree, first-told}
 use Rattle.luossavin.specs.declared.journals.LuossavinKeys.{LuossavinKeys}
 use Rattle.luossavin.specs.declared.journals.LuossavinReplayed.{LuossavinReplayed}
 use Rattle.luossavin.specs.Host.{hostModeCall}
 use Rattle.luossavin.specs.Journals.{keysOf, toldOf, hostReplay}
 use Rattle.demands.specs.Answered.{oneOf}
-use Rattle.demands.specs.InTheJournal.{ReplayAnswered, ReplayEnds, Added, Recorded, AllRecorded}
+use Rattle.demands.specs.InTheJournal.{ReplayAnswered, ReplayEnds, Added, Recorded, AllRecorded, AllAnswered}
+
+-- what 1 or 0 says
+found-by : (t : Bool) → _≡_ {A = ℕ} (cond t 1 0) 1 → t ≡ true
+found-by true e = refl
+found-by false e = absurd (omega arith)
+
+none-by : (t : Bool) → _≡_ {A = ℕ} (cond t 1 0) 0 → t ≡ false
+none-by true e = absurd (omega arith)
+none-by false e = refl
 
 -- One answer is allowed alone.
 pub unique-exported-replay : (k : LuossavinKeys) (journal : List ℕ) (r₁ r₂ : LuossavinReplayed) → r₁ ≡ hostReplay k journal
@@ -49,37 +59,87 @@ pub unique-exported-replay : (k : LuossavinKeys) (journal : List ℕ) (r₁ r₂
 unique-exported-replay k journal r₁ r₂ e₁ e₂ = e₁ ∙ sym e₂
 
 -- Which number exactly when: the replay ends as keys and journal say, and in no other way.
-module _ (k : LuossavinKeys) (journal : List ℕ) where
-  ends-by : (t : Bool) → badKeys (keysOf k) ≡ t → AreBytes journal → ReplayEnds k journal (replay (keysOf k) journal)
-  ends-by true e small = inl (e, bad-keys (keysOf k) journal e)
-  ends-by false e small = inr (e, ends-so (keysOf k) journal e small)
+end-back : ℕ → Ended
+end-back n = cond (eqb n 0) Done (cond (eqb n 23) BadRecord (cond (eqb n 24) TooLong (cond (eqb n 25) UnknownKey BadKeys)))
 
-  pub exported-replay-ends : AreBytes journal → ReplayEnds k journal (replay (keysOf k) journal)
-  exported-replay-ends small = ends-by (badKeys (keysOf k)) refl small
+end-of : (e : Ended) → end-back (numberOfEnd e) ≡ e
+unfolding end-back
+end-of Done = refl
+end-of BadRecord = refl
+end-of TooLong = refl
+end-of UnknownKey = refl
+end-of BadKeys = refl
+
+module _ (k : LuossavinKeys) (journal : List ℕ) (small : AreBytes journal) where
+  ends-by : (t : Bool) → badKeys (keysOf k) ≡ t → ReplayEnds k journal (replay (keysOf k) journal)
+  ends-by true e = inl (e, bad-keys (keysOf k) journal e)
+  ends-by false e = inr (e, ends-so (keysOf k) journal e small)
+
+  pub exported-replay-ends : ReplayEnds k journal (replay (keysOf k) journal)
+  exported-replay-ends = ends-by (badKeys (keysOf k)) refl
 
   pub exported-replay-alone : (x : Replayed) → ReplayEnds k journal x → hostReplay k journal ≡ toldOf x
   unfolding hostReplay
   exported-replay-alone x (inl (e, f)) = ap toldOf (bad-keys (keysOf k) journal e ∙ sym f)
-  exported-replay-alone x (inr (e, f)) = ap toldOf (sym (ends-alone (keysOf k) journal e x f))
+  exported-replay-alone x (inr (e, f)) = ap toldOf (sym (ends-alone (keysOf k) journal e x small f))
+
+  -- the number tells how it ended
+  pub exported-replay-number : (e : Ended) → hostReplay k journal .number ≡ numberOfEnd e → replay (keysOf k) journal .ended ≡ e
+  unfolding hostReplay toldOf
+  exported-replay-number e n = sym (end-of (replay (keysOf k) journal .ended)) ∙ ap end-back n ∙ end-of e
+
+-- What is told of the calls that were replayed, however it ended.
+module _ (k : LuossavinKeys) (journal : List ℕ) (small : AreBytes journal) (good : badKeys (keysOf k) ≡ false) (x : Replayed)
+    (ends : Ends (keysIn (keysOf k)) journal 0 nothing x) where
+  abbrev ks : List Sm4Cipher
+  ks = keysIn (keysOf k)
+
+  told-so : hostReplay k journal ≡ toldOf x
+  told-so = exported-replay-alone k journal small x (inr (good, ends))
+
+  -- the totals are theirs
+  pub exported-totals : Totals ks (ends .calls) (x .report)
+  exported-totals = totals-told ks journal x ends
+
+  -- the first that differs, by its count and its place
+  pub exported-first-told : (es fs : List Entry) (e : Entry) → ends .calls ≡ es ++ e ∷ fs → NoneDiffers ks es → differs ks e ≡ true
+      → (hostReplay k journal .differs ≡ 1) × (hostReplay k journal .«first_record» ≡ length es)
+      × (hostReplay k journal .«first_place» ≡ length (stored es))
+  unfolding toldOf
+  exported-first-told es fs e c n d = rw (told-so, first-told ks journal x ends es fs e c n d) (refl, refl, refl)
+
+  all-answered : (es : List Entry) → NoneDiffers ks es → AllAnswered k es
+  all-answered [] n = tt
+  all-answered (e ∷ es) (n, ns) = (agrees-so ks e n, all-answered es ns)
+
+  -- where none is told, every call answers now what was recorded of it
+  pub exported-none-told : hostReplay k journal .differs ≡ 0 → AllAnswered k (ends .calls)
+  unfolding toldOf
+  exported-none-told z =
+      all-answered (ends .calls) (all-agree ks journal x ends (none-by (x .report .first .found) (rw told-so at z)))
 
 -- Calls recorded as they were answered.
 module _ (keys : LuossavinKeys) (e : Entry) (r : Recorded keys e) where
   abbrev c : Sm4Cipher
   c = keyOf (e .key) (keysIn (keysOf keys))
 
+  abbrev asked : Outcome
+  asked = hostModeCall (e .direction) (r .mode) (r .key) (e .label) (e .«data») (e .iv) (r .out)
+
   -- the exported call on the record's fields is the journal's
-  host-is : hostModeCall (e .direction) (e .mode) (r .key) (e .label) (e .«data») (e .iv) (r .out) ≡ callInto c e (r .out)
+  host-is : asked ≡ callInto c e (r .out)
   unfolding hostModeCall callInto
-  host-is = rw (r .lent)
+  host-is =
+      ⊎-elim (λ (m : r .mode ≡ e .mode). rw (m, r .lent))
+      (λ (h : (4 < r .mode) × (4 < e .mode)). rw (lt-ltb 4 (r .mode) (h .0), lt-ltb 4 (e .mode) (h .1))) (r .same-mode)
 
   as-answered : answeredBy (recomputed c e) e ≡ e
   as-answered =
-      let h = any-output-head c e (r .out) (r .room) in
-      let o = any-output-result c e (r .out) (r .room) in
+      let h = any-output-head c e (r .replayable .short) (r .out) (r .room) in
+      let o = any-output-result c e (r .replayable .short) (r .out) (r .room) in
       let n : recomputed c e .head .number ≡ e .number =
       sym (r .number ∙ ap (λ (x : Outcome). x .head .number) host-is ∙ ap (λ (y : Head). y .number) h) in
-      let t : result (recomputed c e) ≡ e .output =
-      sym (r .output ∙ ap (λ (x : Outcome). take (x .head .size) (x .bytes)) host-is ∙ o) in
+      let t : result (recomputed c e) ≡ e .output = sym (r .output ∙ ap (λ (x : Outcome). result x) host-is ∙ o) in
       rw (n, t)
 
   recorded-agrees : differs (keysIn (keysOf keys)) e ≡ false
@@ -89,34 +149,63 @@ all-replayable : (keys : LuossavinKeys) (es : List Entry) → AllRecorded keys e
 all-replayable keys [] a = tt
 all-replayable keys (e ∷ es) (r, a) = (r .replayable, all-replayable keys es a)
 
-all-agree : (keys : LuossavinKeys) (es : List Entry) → AllRecorded keys es → NoneDiffers (keysIn (keysOf keys)) es
-all-agree keys [] a = tt
-all-agree keys (e ∷ es) (r, a) = (recorded-agrees keys e r, all-agree keys es a)
+none-differs : (keys : LuossavinKeys) (es : List Entry) → AllRecorded keys es → NoneDiffers (keysIn (keysOf keys)) es
+none-differs keys [] a = tt
+none-differs keys (e ∷ es) (r, a) = (recorded-agrees keys e r, none-differs keys es a)
 
 -- Calls that a host made under keys that are lent, recorded one behind the other as they were answered, are replayed to the end, and
 -- none differs.
 module _ (keys : LuossavinKeys) (good : badKeys (keysOf keys) ≡ false) (es : List Entry) (all : AllRecorded keys es) where
+  abbrev night : Replayed
+  night = done (countedAll (keysIn (keysOf keys)) es 0 nothing)
+
+  night-ends : Ends (keysIn (keysOf keys)) (stored es) 0 nothing night
+  night-ends =
+      record {
+        calls = es;
+        rest = [];
+        split = sym (append-nil (stored es));
+        replayable = all-replayable keys es all;
+        why = refl;
+        place = refl;
+        report = refl;
+      }
+
+  night-told : hostReplay keys (stored es) ≡ toldOf night
+  unfolding hostReplay
+  night-told = ap toldOf (replayed-whole (keysOf keys) good es (all-replayable keys es all))
+
   pub exported-night-replayed : hostReplay keys (stored es) .number ≡ 0
-  unfolding hostReplay toldOf
-  exported-night-replayed = rw (replayed-whole (keysOf keys) good es (all-replayable keys es all))
+  unfolding toldOf
+  exported-night-replayed = rw night-told
 
   pub exported-night-agrees : hostReplay keys (stored es) .differs ≡ 0
-  unfolding hostReplay toldOf
-  exported-night-agrees = rw (none-told (keysOf keys) good es (all-replayable keys es all) (all-agree keys es all))
+  unfolding toldOf night-ends
+  exported-night-agrees =
+      rw (night-told, none-told (keysIn (keysOf keys)) (stored es) night night-ends (none-differs keys es all))
 
 -- so is what the writer wrote of one
-module _ (keys : LuossavinKeys) (good : badKeys (keysOf keys) ≡ false) (e : Entry) (r : Recorded keys e) (o : List ℕ)
-    (fits : length (written e) ≤ length o) where
-  wrote-it : write e o ≡ record { wrote = Done·wrote (length (written e)); bytes = over (written e) o }
+module _ (keys : LuossavinKeys) (good : badKeys (keysOf keys) ≡ false) (e : Entry) (r : Recorded keys e) (o : List ℕ) (n : ℕ)
+    (wrote : write e o .wrote ≡ Done·wrote n) where
+  wrote-by : (t : Bool) → ltb (length o) (length (written e)) ≡ t
+      → (n ≡ length (written e)) × (write e o .bytes ≡ over (written e) o)
   unfolding write
-  wrote-it = rw (r .replayable .short, le-ltb (length o) (length (written e)) fits)
+  wrote-by true f =
+      let z : NoRoom ≡ Done·wrote n = rw (r .replayable .short, f) at wrote in
+      let y : _≡_ {A = ℕ} 0 1 = cc in
+      absurd (omega arith)
+  wrote-by false f =
+      let z : Done·wrote (length (written e)) ≡ Done·wrote n = rw (r .replayable .short, f) at wrote in
+      (cc, rw (r .replayable .short, f))
 
-  is-journal : take (length (written e)) (write e o .bytes) ≡ stored (e ∷ [])
+  is-journal : take n (write e o .bytes) ≡ stored (e ∷ [])
   unfolding stored
-  is-journal = rw wrote-it (take-at (written e) (drop (length (written e)) o) (length (written e)) refl ∙ sym (append-nil (written e)))
+  is-journal =
+      let w = wrote-by (ltb (length o) (length (written e))) refl in
+      rw (w .1, w .0) (take-at (written e) (drop (length (written e)) o) (length (written e)) refl ∙ sym (append-nil (written e)))
 
-  pub exported-written-agrees : (hostReplay keys (take (length (written e)) (write e o .bytes)) .number ≡ 0)
-      × (hostReplay keys (take (length (written e)) (write e o .bytes)) .differs ≡ 0)
+  pub exported-written-agrees : (hostReplay keys (take n (write e o .bytes)) .number ≡ 0)
+      × (hostReplay keys (take n (write e o .bytes)) .differs ≡ 0)
   exported-written-agrees =
       rw is-journal (exported-night-replayed keys good (e ∷ []) (r, tt), exported-night-agrees keys good (e ∷ []) (r, tt))
 
@@ -129,14 +218,6 @@ unique-written x r₁ r₂ o₁ o₂ e₁ e₂ =
     (ap {B = Wrote} (λ (y : Leaves). y .wrote) e, ap (λ (y : Leaves). y .bytes) e)
 
 -- Two journals joined.
-found-by : (t : Bool) → _≡_ {A = ℕ} (cond t 1 0) 1 → t ≡ true
-found-by true e = refl
-found-by false e = absurd (omega arith)
-
-none-by : (t : Bool) → _≡_ {A = ℕ} (cond t 1 0) 0 → t ≡ false
-none-by true e = absurd (omega arith)
-none-by false e = refl
-
 behind-added : (size : ℕ) (x y : Replayed) → Added size (toldOf x) (toldOf y) (toldOf (behindReport size (x .report) y))
 unfolding toldOf behindReport added
 behind-added size x y =

@@ -3,21 +3,22 @@
 use mathlib.Core.Path.{_≡_, refl, sym, ap, _∙_}
 use mathlib.Core.Logic.{_≢_}
 use mathlib.Core.Bool.{true, false}
-use mathlib.Core.List.{[], _∷_}
+use mathlib.Core.List.{List, [], _∷_, append-nil}
 use Prim.Native.Nat.{ℕ}
 use native.Mathlib.Omega.{arith}
 use lib.Dec.{lit<}
+use Rattle.block.specs.Below.{AreBytes}
 use Rattle.block.specs.BigEndian.{numberOf}
 use Rattle.journal.specs.Format.{stored, startsPart, marked, startsRecord, pastLimit}
 use Rattle.journal.specs.KeyList.{keysIn, placeOf, anyRetired, numberTwice, badKeys}
 use Rattle.journal.specs.Recomputed.{callInto, differsFrom}
 use Rattle.journal.specs.Reports.{nothing, counted}
-use Rattle.journal.specs.Replay.{numberOfEnd, replay}
+use Rattle.journal.specs.Replay.{numberOfEnd, done, replay}
 use Rattle.journal.specs.Ends.{Replayable, countedAll, differs}
 use Rattle.journal.specs.declared.Ended.the-variants.{BadRecord}
 use Rattle.journal.specs.declared.Replayed.{Replayed}
-use Rattle.journal.proofs.Ending.{ends-alone}
-use Rattle.journal.proofs.Agrees.{replayed-whole, first-told}
+use Rattle.journal.proofs.Ending.{nothing-there, ends-alone, replayed-whole}
+use Rattle.journal.proofs.Agrees.{first-told}
 use Rattle.demands.specs.JournalImposters.{stopsAtDifference, tooLongFirst, oneKey, unknownDone, cutOverlong}
 
 -- what the journals of the two imposters need: the key is good, the call can be replayed, and it is answered 7
@@ -48,15 +49,37 @@ unknown-differs : differs (keysIn oneKey) unknownDone ≡ true
 unfolding callInto differsFrom
 unknown-differs = refl
 
--- Counting up to the first difference is told by a journal of one record that differs: there is one record, and the imposter counts none.
-one-counted : replay oneKey (stored (unknownDone ∷ [])) .report .records ≡ 1
+-- Stopping at the first difference is told by a journal of one record that differs: there is one record, and the imposter counts none.
+abbrev oneWrong : List ℕ
+oneWrong = stored (unknownDone ∷ [])
+
+wrong-whole : replay oneKey oneWrong ≡ done (countedAll (keysIn oneKey) (unknownDone ∷ []) 0 nothing)
+wrong-whole = replayed-whole oneKey one-key-good (unknownDone ∷ []) (unknown-replayable, tt)
+
+one-counted : replay oneKey oneWrong .report .records ≡ 1
 unfolding countedAll counted
-one-counted = rw (replayed-whole oneKey one-key-good (unknownDone ∷ []) (unknown-replayable, tt))
+one-counted = rw wrong-whole
 
-none-counted : stopsAtDifference oneKey (stored (unknownDone ∷ [])) .report .records ≡ 0
-none-counted = rw (first-told oneKey one-key-good [] [] unknownDone (unknown-replayable, tt) tt unknown-differs)
+wrong-first : replay oneKey oneWrong .report .first ≡ record { found = true; index = 0; place = 0 }
+unfolding stored
+wrong-first =
+    first-told (keysIn oneKey) oneWrong (replay oneKey oneWrong)
+    (record {
+      calls = unknownDone ∷ [];
+      rest = [];
+      split = sym (append-nil oneWrong);
+      replayable = (unknown-replayable, tt);
+      why = rw wrong-whole refl;
+      place = rw wrong-whole refl;
+      report = rw wrong-whole refl;
+    })
+    [] [] unknownDone refl tt unknown-differs
 
-pub stops-at-difference-contradicts : stopsAtDifference oneKey (stored (unknownDone ∷ [])) ≢ replay oneKey (stored (unknownDone ∷ []))
+none-counted : stopsAtDifference oneKey oneWrong .report .records ≡ 0
+unfolding countedAll stored
+none-counted = rw wrong-first (rw (replayed-whole oneKey one-key-good [] tt))
+
+pub stops-at-difference-contradicts : stopsAtDifference oneKey oneWrong ≢ replay oneKey oneWrong
 stops-at-difference-contradicts e =
     let z : _≡_ {A = ℕ} 0 1 = sym none-counted ∙ ap (λ (x : Replayed). x .report .records) e ∙ one-counted in
     absurd (omega arith)
@@ -69,12 +92,23 @@ cut-there = refl
 cut-refused : record { ended = BadRecord; place = 0; report = nothing } ≡ replay oneKey cutOverlong
 unfolding stored countedAll
 cut-refused =
-    ends-alone oneKey cutOverlong one-key-good _
-    (record { calls = []; rest = cutOverlong; split = refl; replayable = tt; why = (lit< tt, cut-there); place = refl; report = refl })
+    ends-alone oneKey cutOverlong one-key-good _ small
+    (record {
+      calls = [];
+      rest = cutOverlong;
+      split = refl;
+      replayable = tt;
+      why = (lit< tt, λ e y. nothing-there e y cut-there);
+      place = refl;
+      report = refl;
+    })
+  where
+    small : AreBytes cutOverlong
+    small = (lit< tt, (lit< tt, (lit< tt, (lit< tt, (lit< tt, (lit< tt, (lit< tt, (lit< tt, (lit< tt, (lit< tt, tt))))))))))
 
 too-long-told : numberOfEnd (tooLongFirst oneKey cutOverlong .ended) ≡ 24
 unfolding numberOf
-too-long-told = refl
+too-long-told = rw one-key-good
 
 pub too-long-first-contradicts : tooLongFirst oneKey cutOverlong ≢ replay oneKey cutOverlong
 too-long-first-contradicts e =

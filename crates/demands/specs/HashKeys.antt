@@ -3,10 +3,10 @@
 use mathlib.Core.Path.{_≡_}
 use mathlib.Core.Logic.{_≢_}
 use mathlib.Core.List.{List, [], _∷_, _++_}
-use Prim.Native.Nat.{ℕ, _+_, _/_, _^_, _<_, _≤_, max}
+use Prim.Native.Nat.{ℕ, _+_, _^_, _<_, _≤_, max}
 use lib.ListN.{length, replicate}
 use Rattle.block.specs.Below.{AreBytes}
-use Rattle.ghash.specs.Ghash.{blocks, ghash}
+use Rattle.ghash.specs.Ghash.{blockCount, blocks, ghash}
 use Rattle.roots.specs.AtMost.{Having, AtMost, FewerThanOneIn}
 use Rattle.roots.specs.Confused.{Pair, hashedCount, PairHash, pairHash, Confuses}
 use Rattle.cipher_mode.specs.Tables.{limit}
@@ -46,7 +46,7 @@ FewConfuseEditions hash =
     → job₁ < 2 ^ 32 → job₂ < 2 ^ 32 → edition₁ < 2 ^ 16 → edition₂ < 2 ^ 16
     → AreBytes c₁ → AreBytes c₂ → length c₁ ≤ n → length c₂ ≤ n → n ≤ limit
     → ¬ ((job₁ ≡ job₂) × (edition₁ ≡ edition₂) × (c₁ ≡ c₂))
-    → AtMost ((n + 15) / 16 + 2) (Confuses hash (under job₁ edition₁ c₁) (under job₂ edition₂ c₂))
+    → AtMost (blockCount n + 2) (Confuses hash (under job₁ edition₁ c₁) (under job₂ edition₂ c₂))
 
 -- no label, and the ciphertext 80 and fifteen 00; no label and no ciphertext
 abbrev pub oneBlock : Pair

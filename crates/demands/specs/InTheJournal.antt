@@ -4,14 +4,15 @@ use mathlib.Core.Path.{_≡_}
 use mathlib.Core.Logic.{_⊎_}
 use mathlib.Core.Bool.{true, false, cond}
 use mathlib.Core.List.{List, [], _∷_}
-use Prim.Native.Nat.{ℕ, _+_, _<_}
+use Prim.Native.Nat.{ℕ, _+_, _≤_, _<_}
 use lib.Dec.{eqb}
-use lib.ListN.{length, take}
-use Rattle.journal.specs.Format.{Entry}
+use lib.ListN.{length}
+use Rattle.journal.specs.Format.{Entry, outputLimit}
 use Rattle.journal.specs.KeyList.{keysIn, keyOf, badKeys}
 use Rattle.journal.specs.Reports.{nothing, total}
 use Rattle.journal.specs.Joined.{sums}
-use Rattle.journal.specs.Ends.{Replayable, Ends}
+use Rattle.journal.specs.Recomputed.{result as resultOf}
+use Rattle.journal.specs.Ends.{Replayable, Ends, answerNow}
 use Rattle.journal.specs.declared.Ended.the-variants.{BadKeys}
 use Rattle.journal.specs.declared.Replayed.{Replayed}
 use Rattle.luossavin.specs.declared.key.LuossavinKey.{LuossavinKey}
@@ -63,18 +64,26 @@ pub record Added (size : ℕ) (x y z : LuossavinReplayed) : Type 0 where
       → (z .differs ≡ 1) × (z .«first_record» ≡ x .records + y .«first_record») × (z .«first_place» ≡ size + y .«first_place»)
   pub none : x .differs ≡ 0 → y .differs ≡ 0 → z .differs ≡ 0
 
--- e is a call that a host made under one of the keys, into an output that it lent, recorded with the answer that it was given
+-- e is a call that a host made under one of the keys, into an output that it lent, recorded with the answer that it was given. A mode above
+-- 4 may be recorded as any that is, and a room of 16,400 bytes or more, which no such call passes, as any that is.
 pub record Recorded (keys : LuossavinKeys) (e : Entry) : Type 0 where
   pub replayable : Replayable (keysIn (keysOf keys)) e
   pub key : LuossavinKey
   pub lent : cipherIn key ≡ keyOf (e .key) (keysIn (keysOf keys))
+  pub mode : ℕ
+  pub same-mode : (mode ≡ e .mode) ⊎ ((4 < mode) × (4 < e .mode))
   pub out : List ℕ
-  pub room : length out ≡ e .room
-  pub number : e .number ≡ hostModeCall (e .direction) (e .mode) key (e .label) (e .«data») (e .iv) out .head .number
-  pub output : e .output
-      ≡ take (hostModeCall (e .direction) (e .mode) key (e .label) (e .«data») (e .iv) out .head .size)
-      (hostModeCall (e .direction) (e .mode) key (e .label) (e .«data») (e .iv) out .bytes)
+  pub room : (length out ≡ e .room) ⊎ ((outputLimit ≤ length out) × (outputLimit ≤ e .room))
+  pub number : e .number ≡ hostModeCall (e .direction) mode key (e .label) (e .«data») (e .iv) out .head .number
+  pub output : e .output ≡ resultOf (hostModeCall (e .direction) mode key (e .label) (e .«data») (e .iv) out)
 
 abbrev pub AllRecorded : LuossavinKeys → List Entry → Type 0
 AllRecorded keys [] = Unit {0}
 AllRecorded keys (e ∷ es) = Recorded keys e × AllRecorded keys es
+
+-- each call answers now what was recorded of it
+abbrev pub AllAnswered : LuossavinKeys → List Entry → Type 0
+AllAnswered keys [] = Unit {0}
+AllAnswered keys (e ∷ es) =
+    ((e .number ≡ answerNow (keysIn (keysOf keys)) e .head .number) × (e .output ≡ resultOf (answerNow (keysIn (keysOf keys)) e)))
+    × AllAnswered keys es

@@ -3,42 +3,33 @@ use mathlib.Core.Bool.{false, cond}
 use mathlib.Core.List.{List, [], _∷_}
 use Prim.Native.Nat.{ℕ}
 use lib.Dec.{ltb}
-use lib.ListN.{replicate}
+use lib.ListN.{take, replicate}
 use Rattle.block.specs.Words.{wordAt}
 use Rattle.cipher_mode.specs.declared.Direction.the-variants.{Encrypt}
 use Rattle.cipher_mode.specs.declared.KeyAnswer.the-variants.{Key}
 use Rattle.journal.specs.Format.{Entry, fromLabel, partLimit}
+use Rattle.journal.specs.KeyList.{badKeys}
 use Rattle.journal.specs.Reports.{nothing}
 use Rattle.journal.specs.Replay.{refuse, replay}
 use Rattle.journal.specs.declared.keys.Keys.{Keys}
-use Rattle.journal.specs.declared.Ended.the-variants.{TooLong}
+use Rattle.journal.specs.declared.Ended.the-variants.{TooLong, BadKeys}
 use Rattle.journal.specs.declared.Replayed.{Replayed}
 
--- replays a journal, and counts the records up to the first that differs
+-- replays a journal up to the first record that differs, and stops there
 abbrev pub stopsAtDifference : Keys → List ℕ → Replayed
 stopsAtDifference k journal =
-    let x = replay k journal in
-    let r = x .report in
-    record {
-      ended = x .ended;
-      place = x .place;
-      report =
-          record {
-            records = cond (r .first .found) (r .first .index) (r .records);
-            «by_mode» = r .«by_mode»;
-            «by_answer» = r .«by_answer»;
-            «bytes_in» = r .«bytes_in»;
-            «bytes_out» = r .«bytes_out»;
-            first = r .first;
-          };
-    }
+    let first = replay k journal .report .first in
+    cond (first .found) (replay k (take (first .place) journal)) (replay k journal)
 
 -- replays a journal, and looks at the length of the first label before it looks whether the record is cut
 abbrev pub tooLongFirst : Keys → List ℕ → Replayed
-tooLongFirst k journal = refuse (ltb partLimit (wordAt (fromLabel journal) 0)) TooLong 0 nothing (replay k journal)
+tooLongFirst k journal =
+    refuse (badKeys k) BadKeys 0 nothing
+    (refuse (ltb partLimit (wordAt (fromLabel journal) 0)) TooLong 0 nothing
+    (replay k journal))
 
--- under the key of number 1: a call in the unknown mode 5, recorded as done; and a record that states a label of 16,385 bytes, and is
--- cut behind that
+-- what they are held to: the key of number 1; a call under it in the unknown mode 5, recorded as done; and a record that states a label of
+-- 16,385 bytes, and is cut behind that
 abbrev pub oneKey : Keys
 oneKey = record { count = 1; keys = replicate 8 (record { rk = replicate 32 0; answer = Key; number = 1; retired = false; engine = 0 }) }
 

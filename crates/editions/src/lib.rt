@@ -151,7 +151,7 @@ fn search(
     without(key, Ended::None)
 }
 
-// The search under a key's round keys: H and the cipher of J0 are made once, and the text is hashed once.
+// The search under a key's round keys: H and the cipher of J0 are made once, and the text is hashed once, unless nobody asks.
 fn under_key(
     rk: [u32; 32],
     key: u16,
@@ -166,6 +166,9 @@ fn under_key(
     requires { ⌜ anyTooLong (now lengths) ≡ false ⌝ }
     ensures { λ r. ⌜ verdictOf r ≡ onKey key (firstOpening (opensFile rk (hashKey rk) (J0 rk (now (iv .entry))) (now (file .entry))) (now (labels .entry)) (now (lengths .entry)) 0 0) ⌝ }
 {
+    if lengths.len() == 0 {
+        return without(key, Ended::None);
+    }
     let t = cipher::plain();
     let h = gcm::hash_key(&t, rk);
     let mask = cipher::encrypt(&t, rk, gcm::first_counter(h, iv));

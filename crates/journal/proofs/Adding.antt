@@ -3,7 +3,7 @@
 use mathlib.Core.Path.{_≡_, refl, sym, ap, _∙_}
 use mathlib.Core.Bool.{Bool, true, false, not, cond}
 use mathlib.Core.List.{List, [], _∷_}
-use Prim.Native.Nat.{ℕ, zero, suc, _+_, _≤_, _<_}
+use Prim.Native.Nat.{ℕ, zero, suc, _+_, _<_}
 use native.Mathlib.Omega.{arith}
 use lib.Dec.{eqb}
 use lib.ListN.{length, drop, replicate}
@@ -12,12 +12,11 @@ use Rattle.journal.specs.Format.{Entry, startsRecord, sizeAt, front, too
 use Rattle.journal.specs.KeyList.{hasNumber, keyOf}
 use Rattle.journal.specs.Recomputed.{recomputed, judged}
 use Rattle.journal.specs.Reports.{nothing, oneMore, modePlace, firstOf, counted, AddsUp}
-use Rattle.journal.specs.Replay.{numberOfEnd, done, refuse, countedUnder, replayOne, replayUpTo}
+use Rattle.journal.specs.Replay.{done, refuse, countedUnder, replayOne, replayUpTo}
 use Rattle.journal.specs.Joined.{sums, earlier, added, behindReport}
 use Rattle.journal.specs.declared.again.Recomputed.{Recomputed}
 use Rattle.journal.specs.declared.report.Difference.{Difference}
 use Rattle.journal.specs.declared.report.Report.{Report}
-use Rattle.journal.specs.declared.Ended.{Ended}
 use Rattle.journal.specs.declared.Ended.the-variants.{BadRecord, TooLong, UnknownKey}
 use Rattle.journal.specs.declared.Replayed.{Replayed}
 use Rattle.journal.proofs.Lent.{recomputed-known}

@@ -1,53 +1,73 @@
--- Replay of calls that were recorded as they were answered finds no difference; of any others it tells the first that differs.
+-- Calls that were recorded as they were answered agree, and only they do; of those that differ the first is told.
 -- Assumes nothing.
 use mathlib.Core.Path.{_≡_, refl, sym, ap, _∙_}
-use mathlib.Core.Bool.{Bool, true, false}
-use mathlib.Core.List.{List, [], _∷_, _++_, append-nil}
+use mathlib.Core.Bool.{Bool, true, false, not}
+use mathlib.Core.List.{List, [], _∷_, _++_}
 use Prim.Native.Nat.{ℕ, _+_}
 use native.Mathlib.Omega.{arith}
+use lib.Dec.{eqb}
 use lib.ListN.{length, length-append}
-use borrow.Author.Tests.{eq-eqb}
-use Rattle.block.proofs.Same.{same-refl}
+use borrow.Author.Tests.{eqb-true, eq-eqb}
+use Rattle.block.specs.Same.{same}
+use Rattle.block.proofs.Same.{same-refl, same-equal}
 use Rattle.cipher_mode.specs.declared.Sm4Cipher.{Sm4Cipher}
 use Rattle.journal.specs.Format.{Entry, written, stored}
-use Rattle.journal.specs.KeyList.{keysIn, keyOf, badKeys}
-use Rattle.journal.specs.Recomputed.{callInto, recomputed, result, differsFrom, answeredBy}
+use Rattle.journal.specs.KeyList.{keyOf}
+use Rattle.journal.specs.Recomputed.{callInto, result, differsFrom, answeredBy}
 use Rattle.journal.specs.Reports.{nothing, firstOf, counted}
-use Rattle.journal.specs.Replay.{done, countedUnder, replay}
-use Rattle.journal.specs.Ends.{AllReplayable, countedAll, differs, NoneDiffers}
-use Rattle.journal.specs.declared.keys.Keys.{Keys}
+use Rattle.journal.specs.Replay.{countedUnder}
+use Rattle.journal.specs.Ends.{countedAll, Ends, answerNow, differs, NoneDiffers}
 use Rattle.journal.specs.declared.report.Difference.{Difference}
 use Rattle.journal.specs.declared.report.Report.{Report}
+use Rattle.journal.specs.declared.Replayed.{Replayed}
+use Rattle.journal.proofs.Limits.{neither}
+use Rattle.journal.proofs.Standing.{clash}
 use Rattle.journal.proofs.Lent.{result-size}
 use Rattle.journal.proofs.Adding.{either-way}
-use Rattle.journal.proofs.Ending.{ends-alone}
 
--- A call that is recorded as it was answered agrees.
 module _ (ks : List Sm4Cipher) (e : Entry) where
   abbrev again : Entry
-  again = answeredBy (recomputed (keyOf (e .key) ks) e) e
+  again = answeredBy (answerNow ks e) e
 
   -- what was recorded changes nothing of the call
-  same-call : recomputed (keyOf (e .key) ks) again ≡ recomputed (keyOf (e .key) ks) e
+  same-call : answerNow ks again ≡ answerNow ks e
   unfolding callInto
   same-call = refl
 
   pub answered-agrees : differs ks again ≡ false
   unfolding differsFrom
   answered-agrees =
-      let c = keyOf (e .key) ks in
-      let x = recomputed c e in
+      let x = answerNow ks e in
       rw (
         same-call,
         eq-eqb (x .head .number) (x .head .number) refl,
         eq-eqb (length (result x)) (x .head .size)
-            (result-size c e),
+            (result-size (keyOf (e .key) ks) e),
         same-refl (result x),
+      )
+
+  yes : (t : Bool) → not t ≡ false → t ≡ true
+  yes true z = refl
+  yes false z = sym z
+
+  -- A call that agrees is answered now as it was recorded.
+  pub agrees-so : differs ks e ≡ false → (e .number ≡ answerNow ks e .head .number) × (e .output ≡ result (answerNow ks e))
+  unfolding differsFrom
+  agrees-so d =
+      let x = answerNow ks e in
+      let number = neither (not (eqb (e .number) (x .head .number))) _ d in
+      let output = neither (not (eqb (length (e .output)) (x .head .size))) _ (number .1) .1 in (
+        eqb-true (e .number) (x .head .number) (yes (eqb (e .number) (x .head .number)) (number .0)),
+        same-equal (e .output) (result x) (yes (same (e .output) (result x)) output),
       )
 
 -- the first difference, after one more call
 still : (t : Bool) (n p : ℕ) (d : Difference) → d .found ≡ true → firstOf t n p d ≡ d
 still t n p d f = rw f
+
+found-now : (f : Bool) (n p : ℕ) (d : Difference) → d .found ≡ f → firstOf true n p d .found ≡ true
+found-now true n p d e = rw e
+found-now false n p d e = rw e
 
 -- The first difference over calls that stand one behind the other.
 module _ (ks : List Sm4Cipher) where
@@ -92,21 +112,34 @@ module _ (ks : List Sm4Cipher) where
       let p : place + length (written g) + length (stored es) ≡ place + length (written g ++ stored es) = omega arith in
       first es fs e (place + length (written g)) (countedUnder ks g place r) (ap (λ (x : Difference). x .found) s ∙ f) ns d ∙ rw (i, p)
 
--- A journal of calls that can be replayed, as replay reads it.
-module _ (k : Keys) (good : badKeys k ≡ false) where
-  pub replayed-whole : (es : List Entry) → AllReplayable (keysIn k) es → replay k (stored es) ≡ done (countedAll (keysIn k) es 0 nothing)
-  replayed-whole es all =
-      sym (ends-alone k (stored es) good (done (countedAll (keysIn k) es 0 nothing))
-      (record { calls = es; rest = []; split = sym (append-nil (stored es)); replayable = all; why = refl; place = refl; report = refl }))
+  none-by : (t : Bool) (e : Entry) (es : List Entry) (place : ℕ) (r : Report)
+      → (countedAll ks es (place + length (written e)) (countedUnder ks e place r) .first .found ≡ false → NoneDiffers ks es)
+      → differs ks e ≡ t → countedAll ks (e ∷ es) place r .first .found ≡ false → (differs ks e ≡ false) × NoneDiffers ks es
+  unfolding countedAll
+  none-by true e es place r behind d f =
+      let s : countedUnder ks e place r .first .found ≡ true =
+      ap (λ (x : Difference). x .found) (one-first e place r) ∙ rw d (found-now (r .first .found) (r .records) place (r .first) refl) in
+      let k = kept es (place + length (written e)) (countedUnder ks e place r) s in
+      absurd (clash _ (ap (λ (x : Difference). x .found) k ∙ s) f)
+  none-by false e es place r behind d f = (d, behind f)
 
-  pub none-told : (es : List Entry) → AllReplayable (keysIn k) es → NoneDiffers (keysIn k) es
-      → replay k (stored es) .report .first ≡ record { found = false; index = 0; place = 0 }
-  none-told es all n = rw (replayed-whole es all) (none (keysIn k) es 0 nothing n)
+  none-differs : (es : List Entry) (place : ℕ) (r : Report) → countedAll ks es place r .first .found ≡ false → NoneDiffers ks es
+  none-differs [] place r f = tt
+  none-differs (e ∷ es) place r f =
+      none-by (differs ks e) e es place r (none-differs es (place + length (written e)) (countedUnder ks e place r)) refl f
 
-  pub first-told : (es fs : List Entry) (e : Entry) → AllReplayable (keysIn k) (es ++ e ∷ fs) → NoneDiffers (keysIn k) es
-      → differs (keysIn k) e ≡ true
-      → replay k (stored (es ++ e ∷ fs)) .report .first ≡ record { found = true; index = length es; place = length (stored es) }
-  first-told es fs e all n d =
+-- What is told of the first difference, however the replay ends, by the calls that were replayed.
+module _ (ks : List Sm4Cipher) (b : List ℕ) (x : Replayed) (ends : Ends ks b 0 nothing x) where
+  pub none-told : NoneDiffers ks (ends .calls) → x .report .first ≡ record { found = false; index = 0; place = 0 }
+  none-told n = ap (λ (r : Report). r .first) (ends .report) ∙ none ks (ends .calls) 0 nothing n
+
+  pub all-agree : x .report .first .found ≡ false → NoneDiffers ks (ends .calls)
+  all-agree f = none-differs ks (ends .calls) 0 nothing (ap (λ (r : Report). r .first .found) (sym (ends .report)) ∙ f)
+
+  pub first-told : (es fs : List Entry) (e : Entry) → ends .calls ≡ es ++ e ∷ fs → NoneDiffers ks es → differs ks e ≡ true
+      → x .report .first ≡ record { found = true; index = length es; place = length (stored es) }
+  first-told es fs e c n d =
       let i : 0 + length es ≡ length es = omega arith in
       let p : 0 + length (stored es) ≡ length (stored es) = omega arith in
-      rw (replayed-whole (es ++ e ∷ fs) all) (first (keysIn k) es fs e 0 nothing refl n d ∙ rw (i, p))
+      ap (λ (r : Report). r .first) (ends .report ∙ ap {B = Report} (λ (l : List Entry). countedAll ks l 0 nothing) c)
+      ∙ first ks es fs e 0 nothing refl n d ∙ rw (i, p)

@@ -1,17 +1,16 @@
 -- A record that stands whole is read the same, whatever is behind it.
 -- Assumes nothing.
-use mathlib.Core.Path.{_≡_, refl, sym, ap, _∙_}
+use mathlib.Core.Path.{_≡_, ap, _∙_}
 use mathlib.Core.Bool.{true}
-use mathlib.Core.List.{List, [], _∷_, _++_}
+use mathlib.Core.List.{List, _++_}
 use Prim.Native.Nat.{ℕ, _+_, _≤_, _<_}
 use native.Mathlib.Omega.{arith}
-use lib.ListN.{length, getD, take, drop, length-append, length-drop, List·getD-append}
+use lib.ListN.{length, getD, drop, length-append, length-drop, List·getD-append}
 use lib.Seq.{take-append-le, drop-append-le}
-use Rattle.block.specs.BigEndian.{numberOf}
 use Rattle.block.specs.Words.{wordAt}
 use Rattle.journal.specs.Format.{startsPart, partAt, behind, fromLabel, fromData, fromIv, fromRoom, fromOutput, afterRecord}
-use Rattle.journal.specs.Format.{marked, startsRecord, sizeAt, directionOf, front}
-use Rattle.journal.proofs.Standing.{part-starts, part-long, part-fits, Stands, stands, starts, size-is}
+use Rattle.journal.specs.Format.{marked, startsRecord, sizeAt, front}
+use Rattle.journal.proofs.Standing.{part-starts, part-long, part-fits, Stands, starts, size-is}
 
 module _ (c : List ℕ) where
   read-on : (b : List ℕ) (i : ℕ) → i < length b → getD (b ++ c) i 0 ≡ getD b i 0

@@ -1,12 +1,13 @@
 -- Which number a replay ends with exactly when: it ends as the bytes say that stand there, and in no other way.
 -- Assumes nothing.
 use mathlib.Core.Path.{_≡_, refl, sym, ap, _∙_}
-use mathlib.Core.Bool.{Bool, true, false, not, cond}
+use mathlib.Core.Bool.{Bool, true, false, not}
 use mathlib.Core.List.{List, [], _∷_, _++_, append-assoc, append-nil}
 use Prim.Native.Nat.{ℕ, zero, suc, _+_, _≤_, _<_}
 use native.Mathlib.Omega.{arith}
 use lib.Dec.{eqb}
 use lib.ListN.{length, drop, length-drop, length-append}
+use lib.Seq.{drop-at}
 use borrow.Author.Tests.{eqb-true, eqb-false}
 use Rattle.block.specs.Below.{AreBytes}
 use Rattle.block.proofs.Entries.{below-drop}
@@ -15,17 +16,31 @@ use Rattle.journal.specs.Format.{Entry, written, stored, startsRecord, s
 use Rattle.journal.specs.KeyList.{keysIn, hasNumber, badKeys}
 use Rattle.journal.specs.Reports.{nothing}
 use Rattle.journal.specs.Replay.{numberOfEnd, done, refuse, countedUnder, replayOne, replayFrom, replay}
-use Rattle.journal.specs.Ends.{Replayable, AllReplayable, countedAll, Why, toldPlace, Ends}
+use Rattle.journal.specs.Ends.{Replayable, AllReplayable, countedAll, Begins, Why, toldPlace, Ends}
 use Rattle.journal.specs.declared.keys.Keys.{Keys}
 use Rattle.journal.specs.declared.report.Report.{Report}
 use Rattle.journal.specs.declared.Ended.{Ended}
 use Rattle.journal.specs.declared.Ended.the-variants.{Done, BadRecord, TooLong, UnknownKey, BadKeys}
 use Rattle.journal.specs.declared.Replayed.{Replayed}
-use Rattle.journal.proofs.Standing.{Stands, stands, size-sum, size-within, data-within, behind-size}
+use Rattle.journal.proofs.Standing.{Stands, stands, clash, size-sum, size-within, data-within, behind-size}
 use Rattle.journal.proofs.Replaying.{bad-record, too-long, no-key, counts, passed, one-stands, one-counted, from-end, from-stop}
 use Rattle.journal.proofs.Replaying.{from-on}
 use Rattle.journal.proofs.BothWays.{written-starts, written-front, written-behind, written-size, front-written}
 use Rattle.journal.proofs.ReadsProper.{front-proper}
+
+rest-bytes : (a b : List ℕ) → AreBytes (a ++ b) → AreBytes b
+rest-bytes a b small = rw (drop-at a b (length a) refl) at (below-drop 256 (length a) (a ++ b) small)
+
+-- a call that stands written in front is read there
+module _ {b : List ℕ} (e : Entry) (y : Begins b e) where
+  starts-so : startsRecord b ≡ true
+  starts-so = rw (y .split) (written-starts e (y .proper) (y .rest))
+
+  front-so : front b ≡ e
+  front-so = rw (y .split) (written-front e (y .proper) (y .rest))
+
+pub nothing-there : {b : List ℕ} (e : Entry) → Begins b e → startsRecord b ≡ false → ⊥
+nothing-there {b} e y f = clash (startsRecord b) (starts-so e y) f
 
 module _ (ks : List Sm4Cipher) where
   -- nothing was replayed, and here it ends
@@ -37,21 +52,36 @@ module _ (ks : List Sm4Cipher) where
       record { calls = []; rest = b; split = refl; replayable = tt; why = why; place = told; report = report }
 
   -- the record in front was refused
-  stops : (s t n : Bool) (b : List ℕ) (place : ℕ) (r : Report) → 0 < length b → startsRecord b ≡ s → tooLong (front b) ≡ t
-      → hasNumber (front b .key) ks ≡ n
-      → (numberOfEnd (refuse (not s) BadRecord place r (refuse t TooLong place r
-      (refuse (not n) UnknownKey place r (done (countedUnder ks (front b) place r)))) .ended) ≡ 0 → ⊥)
-      → Ends ks b place r (refuse (not s) BadRecord place r (refuse t TooLong place r
-      (refuse (not n) UnknownKey place r (done (countedUnder ks (front b) place r)))))
-  stops false t n b place r some es et en z = ends-here b place r _ (some, es) (omega arith) refl
-  stops true true n b place r some es et en z = ends-here b place r _ (es, et) (omega arith) refl
-  stops true false false b place r some es et en z = ends-here b place r _ (es, et, en) (omega arith) refl
-  stops true false true b place r some es et en z = absurd (z refl)
+  module _ (b : List ℕ) (small : AreBytes b) where
+    -- what is read there is what stands there
+    begins-there : startsRecord b ≡ true → Begins b (front b)
+    begins-there e =
+        let s = stands b e in
+        record { proper = front-proper b small s; rest = afterRecord b; split = sym (front-written b small s) }
 
-  refused-here : (b : List ℕ) (place : ℕ) (r : Report) → 0 < length b → (numberOfEnd (replayOne ks b place r .ended) ≡ 0 → ⊥)
-      → Ends ks b place r (replayOne ks b place r)
-  unfolding replayOne
-  refused-here b place r some z = stops (startsRecord b) (tooLong (front b)) (hasNumber (front b .key) ks) b place r some refl refl refl z
+    stops : (s t n : Bool) (place : ℕ) (r : Report) → 0 < length b → startsRecord b ≡ s → tooLong (front b) ≡ t
+        → hasNumber (front b .key) ks ≡ n
+        → (numberOfEnd
+        (refuse (not s) BadRecord place r
+        (refuse t TooLong place r
+        (refuse (not n) UnknownKey place r (done (countedUnder ks (front b) place r)))) .ended) ≡ 0 → ⊥)
+        → Ends ks b place r
+        (refuse (not s) BadRecord place r
+        (refuse t TooLong place r
+        (refuse (not n) UnknownKey place r (done (countedUnder ks (front b) place r)))))
+    stops false t n place r some es et en z =
+        ends-here b place r _ (some, λ e y. nothing-there e y es) (omega arith) refl
+    stops true true n place r some es et en z =
+        ends-here b place r _ (record { entry = front b; begins = begins-there es; holds = et }) (omega arith) refl
+    stops true false false place r some es et en z =
+        ends-here b place r _ (record { entry = front b; begins = begins-there es; holds = (et, en) }) (omega arith) refl
+    stops true false true place r some es et en z = absurd (z refl)
+
+    refused-here : (place : ℕ) (r : Report) → 0 < length b → (numberOfEnd (replayOne ks b place r .ended) ≡ 0 → ⊥)
+        → Ends ks b place r (replayOne ks b place r)
+    unfolding replayOne
+    refused-here place r some z =
+        stops (startsRecord b) (tooLong (front b)) (hasNumber (front b .key) ks) place r some refl refl refl z
 
   -- one more call before it
   one-before : (e : Entry) (b : List ℕ) (place : ℕ) (r : Report) (x : Replayed) → Replayable ks e
@@ -116,7 +146,7 @@ module _ (ks : List Sm4Cipher) where
       rw (from-on ks b place r some z) (goes-before b small place r z _ ends)
   goes-by false n b place r before small some h e =
       let f = eqb-false (numberOfEnd (replayOne ks b place r .ended)) 0 e in
-      rw (from-stop ks b place r some f) (refused-here b place r some f)
+      rw (from-stop ks b place r some f) (refused-here b small place r some f)
 
   ends-from : (n : ℕ) (b : List ℕ) (place : ℕ) (r : Report) → AreBytes b → length b ≤ n → EndsFrom b place r
   ends-from zero [] place r small h = nothing-left place r
@@ -139,16 +169,26 @@ module _ (ks : List Sm4Cipher) where
         let p : place + 0 ≡ place = omega arith in
         rw p (x ∙ sym (from-stop ks b place r some (λ z. n (ap (λ (y : Replayed). numberOfEnd (y .ended)) x ∙ z))))
 
-    at-end : (e : Ended) → Why ks b e → record { ended = e; place = toldPlace e (place + 0); report = r } ≡ replayFrom ks b place r
-    at-end Done why = sym (from-end ks b place r why)
-    at-end BadRecord why = stopped BadRecord (λ z. omega arith) (why .0) (bad-record ks b place r (why .1))
-    at-end TooLong why =
-        let long = stands b (why .0) .long in
-        stopped TooLong (λ z. omega arith) (omega arith) (too-long ks b place r (why .0) (why .1))
-    at-end UnknownKey why =
-        let long = stands b (why .0) .long in
-        stopped UnknownKey (λ z. omega arith) (omega arith) (no-key ks b place r (why .0) (why .1) (why .2))
-    at-end BadKeys why = absurd why
+    none-by : (t : Bool) → AreBytes b → startsRecord b ≡ t → ((e : Entry) → Begins b e → ⊥) → startsRecord b ≡ false
+    none-by true small e none = absurd (none (front b) (begins-there b small e))
+    none-by false small e none = e
+
+    at-end : (e : Ended) → AreBytes b → Why ks b e
+        → record { ended = e; place = toldPlace e (place + 0); report = r } ≡ replayFrom ks b place r
+    at-end Done small why = sym (from-end ks b place r why)
+    at-end BadRecord small why =
+        stopped BadRecord (λ z. omega arith) (why .0) (bad-record ks b place r (none-by (startsRecord b) small refl (why .1)))
+    at-end TooLong small why =
+        let starts = starts-so (why .entry) (why .begins) in
+        let f = front-so (why .entry) (why .begins) in
+        let long = stands b starts .long in
+        stopped TooLong (λ z. omega arith) (omega arith) (too-long ks b place r starts (rw f (why .holds)))
+    at-end UnknownKey small why =
+        let starts = starts-so (why .entry) (why .begins) in
+        let f = front-so (why .entry) (why .begins) in
+        let long = stands b starts .long in
+        stopped UnknownKey (λ z. omega arith) (omega arith) (no-key ks b place r starts (rw f (why .holds .0)) (rw f (why .holds .1)))
+    at-end BadKeys small why = absurd why
 
   -- a call that stands in front is counted
   one-written : (e : Entry) (b : List ℕ) (place : ℕ) (r : Report) → Replayable ks e
@@ -166,7 +206,7 @@ module _ (ks : List Sm4Cipher) where
       let behind : drop (sizeAt w) w ≡ b = behind-size w s ∙ written-behind e (good .proper) b in
       from-on ks w place r (omega arith) (rw one refl) ∙ rw (behind, one, written-size e (good .proper) b)
 
-  pub all-written : (es : List Entry) (b : List ℕ) (place : ℕ) (r : Report) → AllReplayable ks es
+  all-written : (es : List Entry) (b : List ℕ) (place : ℕ) (r : Report) → AllReplayable ks es
       → replayFrom ks (stored es ++ b) place r ≡ replayFrom ks b (place + length (stored es)) (countedAll ks es place r)
   unfolding stored countedAll
   all-written [] b place r good = let e : place ≡ place + 0 = omega arith in ap {B = Replayed} (λ (i : ℕ). replayFrom ks b i r) e
@@ -177,12 +217,13 @@ module _ (ks : List Sm4Cipher) where
       (one-written e (stored es ++ b) place r good
       ∙ all-written es b (place + length (written e)) (countedUnder ks e place r) goods)
 
-  ends-alone-from : (b : List ℕ) (place : ℕ) (r : Report) (x : Replayed) → Ends ks b place r x → x ≡ replayFrom ks b place r
-  ends-alone-from b place r x ends =
+  ends-alone-from : (b : List ℕ) (place : ℕ) (r : Report) (x : Replayed) → AreBytes b → Ends ks b place r x → x ≡ replayFrom ks b place r
+  ends-alone-from b place r x small ends =
       let p = place + length (stored (ends .calls)) in
       let n : p ≡ p + 0 = omega arith in
       same-end {e = x .ended} refl (ends .place ∙ ap (λ (i : ℕ). toldPlace (x .ended) i) n) (ends .report)
-      ∙ at-end (ends .rest) p (countedAll ks (ends .calls) place r) (x .ended) (ends .why)
+      ∙ at-end (ends .rest) p (countedAll ks (ends .calls) place r) (x .ended)
+      (rest-bytes (stored (ends .calls)) (ends .rest) (rw (ends .split) at small)) (ends .why)
       ∙ sym (rw (ends .split) (all-written (ends .calls) (ends .rest) place r (ends .replayable)))
 
 module _ (k : Keys) (journal : List ℕ) where
@@ -198,5 +239,14 @@ module _ (k : Keys) (journal : List ℕ) where
     pub ends-so : AreBytes journal → Ends (keysIn k) journal 0 nothing (replay k journal)
     ends-so small = rw from-start (ends-from (keysIn k) (length journal) journal 0 nothing small (omega arith))
 
-    pub ends-alone : (x : Replayed) → Ends (keysIn k) journal 0 nothing x → x ≡ replay k journal
-    ends-alone x ends = ends-alone-from (keysIn k) journal 0 nothing x ends ∙ sym from-start
+    pub ends-alone : (x : Replayed) → AreBytes journal → Ends (keysIn k) journal 0 nothing x → x ≡ replay k journal
+    ends-alone x small ends = ends-alone-from (keysIn k) journal 0 nothing x small ends ∙ sym from-start
+
+-- calls that can be replayed, written one behind the other
+pub replayed-whole : (k : Keys) → badKeys k ≡ false → (es : List Entry) → AllReplayable (keysIn k) es
+    → replay k (stored es) ≡ done (countedAll (keysIn k) es 0 nothing)
+replayed-whole k good es all =
+    from-start k (stored es) good
+    ∙ ap {B = Replayed} (λ (b : List ℕ). replayFrom (keysIn k) b 0 nothing) (sym (append-nil (stored es)))
+    ∙ all-written (keysIn k) es [] 0 nothing all
+    ∙ from-end (keysIn k) [] (0 + length (stored es)) (countedAll (keysIn k) es 0 nothing) refl

@@ -6,7 +6,7 @@ use Prim.Native.Nat.{ℕ, zero, suc, _+_}
 use lib.Dec.{eqb}
 use lib.ListN.{length, drop}
 use Rattle.cipher_mode.specs.declared.Sm4Cipher.{Sm4Cipher}
-use Rattle.journal.specs.Format.{startsRecord, sizeAt, front, tooLong}
+use Rattle.journal.specs.Format.{Entry, startsRecord, sizeAt, front, tooLong}
 use Rattle.journal.specs.KeyList.{keysIn, hasNumber, badKeys}
 use Rattle.journal.specs.Reports.{nothing}
 use Rattle.journal.specs.Replay.{numberOfEnd, done, refuse, countedUnder, replayOne, replayUpTo, replay}
@@ -17,7 +17,7 @@ use Rattle.journal.specs.declared.Ended.the-variants.{BadRecord, TooLong
 use Rattle.journal.specs.declared.Replayed.{Replayed}
 
 module _ (P : Report → Type 0)
-    (counts : (ks : List Sm4Cipher) (b : List ℕ) (place : ℕ) (r : Report) → P r → P (countedUnder ks (front b) place r)) where
+    (counts : (ks : List Sm4Cipher) (e : Entry) (place : ℕ) (r : Report) → P r → P (countedUnder ks e place r)) where
   refused-keeps : (t : Bool) (e : Ended) (place : ℕ) (r : Report) (next : Replayed) → P r → P (next .report)
       → P (refuse t e place r next .report)
   refused-keeps true e place r next p n = p
@@ -29,7 +29,7 @@ module _ (P : Report → Type 0)
       refused-keeps (not (startsRecord b)) BadRecord place r _ p
       (refused-keeps (tooLong (front b)) TooLong place r _ p
       (refused-keeps (not (hasNumber (front b .key) ks)) UnknownKey place r _ p
-      (counts ks b place r p)))
+      (counts ks (front b) place r p)))
 
   either-keeps : (t : Bool) (x y : Replayed) → P (x .report) → P (y .report) → P (cond t x y .report)
   either-keeps true x y p q = p

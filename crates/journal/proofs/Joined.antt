@@ -1,7 +1,7 @@
 -- The report of two journals joined is their reports added, where the first is replayed to its end.
 -- Assumes nothing.
 use mathlib.Core.Path.{_≡_, refl, sym, ap, _∙_}
-use mathlib.Core.Bool.{Bool, true, false, cond}
+use mathlib.Core.Bool.{Bool, true, false}
 use mathlib.Core.List.{List, [], _∷_, _++_}
 use Prim.Native.Nat.{ℕ, zero, suc, _+_, _≤_, _<_}
 use native.Mathlib.Omega.{arith}
@@ -9,12 +9,13 @@ use lib.Dec.{eqb}
 use lib.ListN.{length, drop, length-drop, length-append}
 use lib.Seq.{drop-append-le}
 use borrow.Author.Tests.{eqb-true, eqb-false}
+use Rattle.walk.proofs.Loop.{tailed, tail-is}
 use Rattle.cipher_mode.specs.declared.Sm4Cipher.{Sm4Cipher}
-use Rattle.journal.specs.Format.{startsRecord, sizeAt, front}
+use Rattle.journal.specs.Format.{sizeAt}
 use Rattle.journal.specs.KeyList.{keysIn, badKeys}
 use Rattle.journal.specs.Reports.{nothing}
 use Rattle.journal.specs.Replay.{numberOfEnd, refuse, replayOne, replayFrom, replay}
-use Rattle.journal.specs.Joined.{added, behindReport}
+use Rattle.journal.specs.Joined.{behindReport}
 use Rattle.journal.specs.declared.keys.Keys.{Keys}
 use Rattle.journal.specs.declared.report.Report.{Report}
 use Rattle.journal.specs.declared.Ended.the-variants.{BadKeys}
@@ -26,7 +27,8 @@ use Rattle.journal.proofs.Sums.{replay-adds-up, adds-nothing}
 use Rattle.journal.proofs.Adding.{added-none, upto-added}
 
 module _ (ks : List Sm4Cipher) (b : List ℕ) where
-  one-appended : (a : List ℕ) (place : ℕ) (r : Report) → Stands a → replayOne ks (a ++ b) place r ≡ replayOne ks a place r
+  -- a record that stands whole is replayed the same, whatever is behind it
+  pub one-appended : (a : List ℕ) (place : ℕ) (r : Report) → Stands a → replayOne ks (a ++ b) place r ≡ replayOne ks a place r
   unfolding replayOne
   one-appended a place r s = rw (starts-on b a s, front-on b a s, starts a s)
 
@@ -38,12 +40,18 @@ module _ (ks : List Sm4Cipher) (b : List ℕ) where
     abbrev so-far : Report
     so-far = replayOne ks a place r .report
 
+    -- a journal can be replayed a part at a time
     first-on : replayFrom ks (a ++ b) place r ≡ replayFrom ks (behind ++ b) (place + sizeAt a) so-far
     first-on =
         let s = one-stands ks a place r z in
         let l = length-append a b in
         from-on ks (a ++ b) place r (omega arith) (rw (one-appended a place r s) z)
         ∙ rw (one-appended a place r s, size-on b a s, drop-append-le (sizeAt a) a b (size-within a s))
+
+    -- a turn: the record was measured and replayed; what is to come is written as the borrow checker has it
+    pub turn-followed : (n : ℕ) (one : Replayed) → n ≡ sizeAt a → one ≡ replayOne ks a place r
+        → replayFrom ks (tailed n a ++ b) (place + n) (one .report) ≡ replayFrom ks (a ++ b) place r
+    turn-followed n one size replayed = rw (tail-is a n, size, replayed) (sym first-on)
 
     rest-on : replayFrom ks b (place + sizeAt a + length behind) (replayFrom ks behind (place + sizeAt a) so-far .report)
         ≡ replayFrom ks b (place + length a) (replayFrom ks a place r .report)

@@ -1,6 +1,7 @@
 -- A call within the limits gives the same whether it is lent the recorded room or no more than the longest output.
 -- Assumes nothing.
 use mathlib.Core.Path.{_≡_, refl, sym, ap, _∙_}
+use mathlib.Core.Logic.{_⊎_, ⊎-elim}
 use mathlib.Core.Bool.{Bool, true, false, cond}
 use mathlib.Core.List.{List, [], _++_, append-assoc, append-nil}
 use Prim.Native.Nat.{ℕ, _+_, _≤_, _<_}
@@ -27,14 +28,14 @@ use Rattle.journal.proofs.Limits.{short as within}
 
 -- the size that an outcome reports, and its number
 module _ (most : ℕ) (f : List ℕ → Outcome) (g : Gives most f) (o : List ℕ) where
-  pub given-size : f o .head .size ≤ most
+  given-size : f o .head .size ≤ most
   given-size = rw (g .leaves o) (g .fits)
 
-  pub given-number : f o .head .number < 27
+  given-number : f o .head .number < 27
   given-number = rw (g .leaves o) (g .known)
 
   -- its result stands at the front, whatever is behind the output
-  pub given-result : (rest : List ℕ) → take (f o .head .size) (f o .bytes ++ rest) ≡ g .front
+  given-result : (rest : List ℕ) → take (f o .head .size) (f o .bytes ++ rest) ≡ g .front
   given-result rest =
       rw (g .leaves o, append-assoc (g .front) (drop (length (g .front)) o) rest)
       (take-at (g .front) (drop (length (g .front)) o ++ rest) (g .head .size) (g .sized))
@@ -102,17 +103,23 @@ module _ (c : Sm4Cipher) (e : Entry) where
   room-called = into-is (replicate (e .room) 0) ∙ ap {B = Outcome} (λ (n : ℕ). called n (replicate (e .room) 0))
       (length-replicate (e .room) 0)
 
-  -- the same report and result, whatever the output held that was lent
-  module _ (o : List ℕ) (size : length o ≡ e .room) where
-    any-into : callInto c e o ≡ called (e .room) o
-    any-into = into-is o ∙ ap {B = Outcome} (λ (n : ℕ). called n o) size
+  -- an output that is enough exactly where the recorded room is: the two are one function of the output, whatever it holds
+  module _ (o : List ℕ) (alike : ltb (length o) needed ≡ ltb (e .room) needed) where
+    alike-called : callInto c e o ≡ called (e .room) o
+    alike-called =
+        into-is o
+        ∙ ap {B = Outcome}
+        (λ (x : Checked). refuse (ltb 4 (e .mode)) 7 o
+        (keyed (keyNumber c) (checked x o (modeResult mode (e .direction) (c .rk) (e .label) (e .«data») (e .iv) o))))
+        (same-told (length o) (e .room) alike)
 
-    pub any-output-head : callInto c e o .head ≡ recomputed c e .head
-    any-output-head = rw (any-into, room-called, same-gives .leaves o, same-gives .leaves (replicate (e .room) 0))
+    alike-head : callInto c e o .head ≡ recomputed c e .head
+    alike-head = rw (alike-called, room-called, same-gives .leaves o, same-gives .leaves (replicate (e .room) 0))
 
-    pub any-output-result : result (callInto c e o) ≡ result (recomputed c e)
-    any-output-result =
-        rw (any-into, room-called) (given-front _ _ same-gives o ∙ sym (given-front _ _ same-gives (replicate (e .room) 0)))
+    alike-result : (rest : List ℕ) → take (callInto c e o .head .size) (callInto c e o .bytes ++ rest) ≡ result (recomputed c e)
+    alike-result rest =
+        rw (alike-called, room-called)
+        (given-result _ _ same-gives o rest ∙ sym (given-front _ _ same-gives (replicate (e .room) 0)))
 
   module _ (short : tooLong e ≡ false) where
     needs-little : needed ≤ outputLimit
@@ -121,36 +128,42 @@ module _ (c : Sm4Cipher) (e : Entry) where
         let k = within e short .«data» in
         omega arith
 
+    -- two rooms of at least the longest output
+    both-enough : (r s : ℕ) → outputLimit ≤ r → outputLimit ≤ s → ltb r needed ≡ ltb s needed
+    both-enough r s h k =
+        let n = needs-little in
+        le-ltb r needed (omega arith) ∙ sym (le-ltb s needed (omega arith))
+
     lent-by : (t : Bool) → ltb outputLimit (e .room) ≡ t → ltb (lentRoom e) needed ≡ ltb (e .room) needed
     unfolding lentRoom
     lent-by true x =
         let h = ltb-true outputLimit (e .room) x in
-        let k = needs-little in
-        rw x (le-ltb outputLimit needed k ∙ sym (le-ltb (e .room) needed (omega arith)))
+        rw x (both-enough outputLimit (e .room) (omega arith) (omega arith))
     lent-by false x = rw x
 
-    lent-enough : ltb (lentRoom e) needed ≡ ltb (e .room) needed
-    lent-enough = lent-by (ltb outputLimit (e .room)) refl
+    -- The room that was recorded, or both at least the longest output: report and result are the same, whatever the output held.
+    module _ (o : List ℕ) (like : (length o ≡ e .room) ⊎ ((outputLimit ≤ length o) × (outputLimit ≤ e .room))) where
+      room-alike : ltb (length o) needed ≡ ltb (e .room) needed
+      room-alike =
+          ⊎-elim (λ (h : length o ≡ e .room). ap (λ (n : ℕ). ltb n needed) h)
+          (λ (h : (outputLimit ≤ length o) × (outputLimit ≤ e .room)). both-enough (length o) (e .room) (h .0) (h .1)) like
+
+      pub any-output-head : callInto c e o .head ≡ recomputed c e .head
+      any-output-head = alike-head o room-alike
+
+      pub any-output-result : result (callInto c e o) ≡ result (recomputed c e)
+      any-output-result = rw (← append-nil (callInto c e o .bytes)) (alike-result o room-alike [])
 
     module _ (o : List ℕ) (size : length o ≡ lentRoom e) where
-      -- the two are one function of the output
-      lent-called : callInto c e o ≡ called (e .room) o
-      lent-called =
-          into-is o
-          ∙ ap {B = Outcome}
-          (λ (x : Checked). refuse (ltb 4 (e .mode)) 7 o
-          (keyed (keyNumber c) (checked x o (modeResult mode (e .direction) (c .rk) (e .label) (e .«data») (e .iv) o))))
-          (same-told (length o) (e .room) (ap (λ (n : ℕ). ltb n needed) size ∙ lent-enough))
+      lent-alike : ltb (length o) needed ≡ ltb (e .room) needed
+      lent-alike = ap (λ (n : ℕ). ltb n needed) size ∙ lent-by (ltb outputLimit (e .room)) refl
 
       -- Lending no more than the longest output changes neither the report nor the result.
       pub lent-head : callInto c e o .head ≡ recomputed c e .head
-      lent-head = rw (lent-called, room-called, same-gives .leaves o, same-gives .leaves (replicate (e .room) 0))
+      lent-head = alike-head o lent-alike
 
       pub lent-result : (rest : List ℕ) → take (callInto c e o .head .size) (callInto c e o .bytes ++ rest) ≡ result (recomputed c e)
-      lent-result rest =
-          rw (lent-called, room-called)
-          (given-result _ _ same-gives o rest
-          ∙ sym (given-front _ _ same-gives (replicate (e .room) 0)))
+      lent-result = alike-result o lent-alike
 
       pub lent-fits : callInto c e o .head .size ≤ lentRoom e
       lent-fits = rw (into-is o) (given-size _ _ (gives (length o) (lentRoom e) (λ h. omega arith)) o)

@@ -15,3 +15,5 @@ pub mod ReadsProper
 pub mod Ending
 pub mod Agrees
 pub mod Writing
+pub mod Totals
+pub mod LongestRecord

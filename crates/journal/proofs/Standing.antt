@@ -19,13 +19,13 @@ pub record IsEnd (t b : List ℕ) : Type 0 where
   pub shorter : length t ≤ length b
   pub behind : t ≡ drop (length b - length t) b
 
-pub drop-end : (k : ℕ) (b : List ℕ) → k ≤ length b → IsEnd (drop k b) b
+drop-end : (k : ℕ) (b : List ℕ) → k ≤ length b → IsEnd (drop k b) b
 drop-end k b h =
     let l = length-drop k b in
     let n : k ≡ length b - length (drop k b) = omega arith in
     record { shorter = omega arith; behind = ap (λ (i : ℕ). drop i b) n }
 
-pub end-of-end : (t u b : List ℕ) → IsEnd t u → IsEnd u b → IsEnd t b
+end-of-end : (t u b : List ℕ) → IsEnd t u → IsEnd u b → IsEnd t b
 end-of-end t u b x y =
     let h = x .shorter in
     let k = y .shorter in
@@ -63,7 +63,7 @@ module _ (b : List ℕ) where
         let k = leb-true (wordAt b 0) (length b - 4) (and-right (leb 4 (length b)) _ e) in
         omega arith
 
-    pub behind-end : IsEnd (behind b) b
+    behind-end : IsEnd (behind b) b
     unfolding behind
     behind-end = drop-end (4 + wordAt b 0) b part-fits
 
@@ -74,7 +74,7 @@ module _ (b : List ℕ) where
         let l = length-drop 4 b in
         length-take-le (wordAt b 0) (drop 4 b) (omega arith)
 
-    pub part-and-behind : 4 + length (partAt b) + length (behind b) ≡ length b
+    part-and-behind : 4 + length (partAt b) + length (behind b) ≡ length b
     unfolding behind
     part-and-behind = let h = part-fits in omega (arith, length-part, length-drop (4 + wordAt b 0) b)
 
@@ -112,7 +112,7 @@ module _ (b : List ℕ) where
   starts s =
       rw (le-leb 6 (length b) (s .long), s .mark, s .label, s .«data», s .iv, le-leb 5 (length (fromRoom b)) (s .middle), s .output)
 
-  pub size-none : startsRecord b ≡ false → sizeAt b ≡ 0
+  size-none : startsRecord b ≡ false → sizeAt b ≡ 0
   unfolding sizeAt
   size-none e = rw e
 

@@ -7,7 +7,7 @@ use Prim.Native.Nat.{ℕ, zero, suc, _+_, _<_}
 use native.Mathlib.Omega.{arith}
 use lib.ListN.{length, getD, set, length-set}
 use Rattle.cipher_mode.specs.declared.Sm4Cipher.{Sm4Cipher}
-use Rattle.journal.specs.Format.{front}
+use Rattle.journal.specs.Format.{Entry}
 use Rattle.journal.specs.KeyList.{keyOf}
 use Rattle.journal.specs.Recomputed.{recomputed}
 use Rattle.journal.specs.Reports.{nothing, oneMore, modePlace, firstOf, counted, total, AddsUp, OfRecords}
@@ -34,10 +34,9 @@ pub adds-nothing : AddsUp nothing
 unfolding total
 adds-nothing = record { modes = refl; answers = refl; byMode = refl; byAnswer = refl }
 
-adds-counted : (ks : List Sm4Cipher) (b : List ℕ) (place : ℕ) (r : Report) → AddsUp r → AddsUp (countedUnder ks (front b) place r)
+pub adds-counted : (ks : List Sm4Cipher) (e : Entry) (place : ℕ) (r : Report) → AddsUp r → AddsUp (countedUnder ks e place r)
 unfolding counted
-adds-counted ks b place r a =
-    let e = front b in
+adds-counted ks e place r a =
     let x = recomputed (keyOf (e .key) ks) e in
     let m = mode-below-6 (e .mode) in
     let n = recomputed-known (keyOf (e .key) ks) e in
@@ -71,10 +70,10 @@ first-counted true false n place d e a = rw e (one-of-them (n + 1) (record { fou
 first-counted false false n place d e a = rw e
     (none-of-them (n + 1) (record { found = false; index = d .index; place = d .place }) refl (a .nowhere e))
 
-difference-counted : (ks : List Sm4Cipher) (b : List ℕ) (place : ℕ) (r : Report) → OfRecords (r .records) (r .first)
-    → OfRecords (countedUnder ks (front b) place r .records) (countedUnder ks (front b) place r .first)
+difference-counted : (ks : List Sm4Cipher) (e : Entry) (place : ℕ) (r : Report) → OfRecords (r .records) (r .first)
+    → OfRecords (countedUnder ks e place r .records) (countedUnder ks e place r .first)
 unfolding counted
-difference-counted ks b place r a = first-counted (differs ks (front b)) (r .first .found) (r .records) place (r .first) refl a
+difference-counted ks e place r a = first-counted (differs ks e) (r .first .found) (r .records) place (r .first) refl a
 
 pub first-replayed : (k : Keys) (journal : List ℕ) → OfRecords (replay k journal .report .records) (replay k journal .report .first)
 first-replayed = every-report (λ r. OfRecords (r .records) (r .first)) difference-counted

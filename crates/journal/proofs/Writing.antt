@@ -1,8 +1,8 @@
 -- The parts of a record are written one behind the other.
 -- Assumes nothing.
-use mathlib.Core.Path.{_≡_, refl, sym, ap, _∙_}
+use mathlib.Core.Path.{_≡_, ap, _∙_}
 use mathlib.Core.Bool.{true, false}
-use mathlib.Core.List.{List, [], _∷_, _++_, append-assoc}
+use mathlib.Core.List.{List, _++_, append-assoc}
 use Prim.Native.Nat.{ℕ, _+_, _≤_, _<_}
 use native.Mathlib.Omega.{arith}
 use lib.ListN.{length, take, drop, length-append}
@@ -13,7 +13,7 @@ use Rattle.block.proofs.Convert.{length-bytesOf}
 use Rattle.walk.specs.Walk.{over}
 use Rattle.walk.proofs.Loop.{tailed, returned, over-behind}
 use Rattle.journal.specs.Format.{Entry, part, head, middle, written, tooLong}
-use Rattle.journal.specs.Writer.{headOf, middleOf, askedOf, answeredOf, entryOf, Leaves, write}
+use Rattle.journal.specs.Writer.{headOf, middleOf, askedOf, answeredOf, entryOf, write}
 use Rattle.journal.specs.declared.writer.Call.{Call}
 use Rattle.journal.specs.declared.writer.Wrote.the-variants.{Done, TooLong, NoRoom}
 

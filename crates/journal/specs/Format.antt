@@ -40,10 +40,6 @@ pub record Proper (e : Entry) : Type 0 where
   pub number : e .number < 2 ^ 8
   pub output : ProperPart (e .output)
 
-abbrev pub AllProper : List Entry → Type 0
-AllProper [] = Unit {0}
-AllProper (e ∷ es) = Proper e × AllProper es
-
 abbrev pub directionByte : Direction → ℕ
 directionByte Encrypt = 0
 directionByte Decrypt = 1

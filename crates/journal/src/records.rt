@@ -3,7 +3,7 @@ ghost use mathlib.Core.Path.{_≡_};
 ghost use mathlib.Core.Bool.{true};
 ghost use mathlib.Core.List.{[], _∷_};
 ghost use Prim.Native.Nat.{_≤_};
-ghost use lib.ListN.{length, drop};
+ghost use lib.ListN.{length};
 ghost use Rattle.block.specs.BigEndian.{numberOf};
 ghost use Rattle.journal.specs.Format.{startsPart, partAt, behind, fromData, fromIv, fromRoom, fromOutput, marked, startsRecord, sizeAt, front, pastLimit, tooLong};
 use cipher_mode::Direction;

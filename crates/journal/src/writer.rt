@@ -1,13 +1,10 @@
 // Writes a record.
 ghost use mathlib.Core.Path.{_≡_};
-ghost use mathlib.Core.Bool.{false};
-ghost use mathlib.Core.List.{[], _∷_, _++_};
 ghost use Prim.Native.Nat.{_+_, _≤_};
 ghost use lib.ListN.{length};
-ghost use Rattle.block.specs.BigEndian.{bytesOf};
 ghost use Rattle.walk.specs.Walk.{over};
 ghost use Rattle.journal.specs.Format.{directionByte, part};
-ghost use Rattle.journal.specs.Writer.{headOf, middleOf, askedOf, answeredOf, entryOf, Leaves, write};
+ghost use Rattle.journal.specs.Writer.{headOf, middleOf, askedOf, answeredOf, entryOf, write};
 use crate::records;
 use crate::records::HEAD;
 use crate::records::LENGTH;

@@ -1,25 +1,15 @@
--- The blocks of a list of bytes: how many there are, that they are elements of the field, and that with the list's length they
--- tell it.
+-- The blocks of a list of bytes are elements of the field, and with the list's length they tell it.
 -- Assumes nothing.
 use mathlib.Core.Path.{_≡_, refl, sym, ap, ap₂, _∙_}
 use mathlib.Core.List.{List, [], _∷_, _++_}
-use Prim.Native.Nat.{ℕ, zero, suc, _+_, _-_, _*_, _/_, _≤_}
+use Prim.Native.Nat.{ℕ, zero, suc, _-_, _*_, _≤_}
 use native.Mathlib.Omega.{arith}
 use lib.ListN.{length, drop, length-drop, take-append-drop}
 use Rattle.block.specs.Below.{AreBytes}
 use Rattle.block.proofs.Entries.{below-drop}
-use Rattle.ghash.specs.Ghash.{blocksFrom, blocks}
+use Rattle.ghash.specs.Ghash.{blocksFrom, blockCount, blocks}
 use Rattle.ghash.proofs.Blocks.{blockOf-lt, blockOf-same}
 use Rattle.roots.proofs.Horner.{Elements}
-
-blocksFrom-length : (k : ℕ) (bs : List ℕ) → length (blocksFrom k bs) ≡ k
-unfolding blocksFrom
-blocksFrom-length zero bs = refl
-blocksFrom-length (suc k) bs = ap suc (blocksFrom-length k (drop 16 bs))
-
-pub blocks-length : (bs : List ℕ) → length (blocks bs) ≡ (length bs + 15) / 16
-unfolding blocks
-blocks-length bs = blocksFrom-length ((length bs + 15) / 16) bs
 
 blocksFrom-elements : (k : ℕ) (bs : List ℕ) → AreBytes bs → Elements (blocksFrom k bs)
 unfolding blocksFrom
@@ -28,7 +18,7 @@ blocksFrom-elements (suc k) bs h = (blockOf-lt bs h, blocksFrom-elements k (drop
 
 pub blocks-elements : (bs : List ℕ) → AreBytes bs → Elements (blocks bs)
 unfolding blocks
-blocks-elements bs h = blocksFrom-elements ((length bs + 15) / 16) bs h
+blocks-elements bs h = blocksFrom-elements (blockCount (length bs)) bs h
 
 blocksFrom-same : (k : ℕ) (a b : List ℕ) → length a ≤ 16 * k → length a ≡ length b → AreBytes a → AreBytes b
     → blocksFrom k a ≡ blocksFrom k b → a ≡ b
@@ -46,4 +36,4 @@ blocksFrom-same (suc k) a b h l ha hb e =
 pub blocks-same : (a b : List ℕ) → length a ≡ length b → AreBytes a → AreBytes b → blocks a ≡ blocks b → a ≡ b
 unfolding blocks
 blocks-same a b l ha hb e =
-    blocksFrom-same ((length a + 15) / 16) a b (omega arith) l ha hb (e ∙ ap (λ (n : ℕ). blocksFrom ((n + 15) / 16) b) (sym l))
+    blocksFrom-same (blockCount (length a)) a b (omega arith) l ha hb (e ∙ ap (λ (n : ℕ). blocksFrom (blockCount n) b) (sym l))

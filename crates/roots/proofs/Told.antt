@@ -3,17 +3,18 @@
 -- Assumes nothing.
 use mathlib.Core.Path.{_≡_, refl, sym, ap, ap₂, _∙_}
 use mathlib.Core.List.{List, [], _∷_, _++_, append-assoc}
-use Prim.Native.Nat.{ℕ, _+_, _-_, _/_, _≤_}
+use Prim.Native.Nat.{ℕ, _+_, _-_, _≤_}
 use native.Mathlib.Omega.{arith}
 use lib.Dec.{lit<}
 use lib.ListN.{length, take, drop, replicate, length-append, length-replicate}
 use lib.Seq.{take-at, drop-at}
 use Rattle.block.proofs.Entries.{below-append, below-replicate}
-use Rattle.ghash.specs.Ghash.{blocks, lengthBlock, authBlocks}
+use Rattle.ghash.specs.Ghash.{blockCount, blocks, lengthBlock, authBlocks}
+use Rattle.ghash.proofs.Blocks.{length-blocks}
 use Rattle.ghash.proofs.Lengths.{lengthBlock-lt, lengthBlock-same}
 use Rattle.roots.specs.Confused.{Pair, Sound, hashed, hashedCount}
 use Rattle.roots.proofs.Horner.{Elements}
-use Rattle.roots.proofs.BlocksTell.{blocks-length, blocks-elements, blocks-same}
+use Rattle.roots.proofs.BlocksTell.{blocks-elements, blocks-same}
 
 -- lists that are the same have the same parts, where their fronts have one length
 fronts-same : (p s q t : List ℕ) → length p ≡ length q → p ++ s ≡ q ++ t → p ≡ q
@@ -42,8 +43,8 @@ filled-ends n p = simp append-assoc
 hashed-length : (p : Pair) → length (hashed p) ≡ hashedCount p
 unfolding authBlocks
 hashed-length p =
-    let la = blocks-length (p .label) in
-    let lt = blocks-length (p .ciphertext) in
+    let la = length-blocks (p .label) in
+    let lt = length-blocks (p .ciphertext) in
     simp length-append (omega arith)
 
 hashed-elements : (p : Pair) → Sound p → Elements (hashed p)
@@ -76,7 +77,7 @@ module _ (n : ℕ) (p q : Pair) (sp : Sound p) (sq : Sound q) (same : filled n p
   unfolding filled
   hashed-same =
       let zeros : List ℕ = replicate (n - hashedCount p) 0 in
-      let counts : hashedCount p ≡ hashedCount q = ap₂ (λ (a t : ℕ). (a + 15) / 16 + (t + 15) / 16 + 1) (lengths .0) (lengths .1) in
+      let counts : hashedCount p ≡ hashedCount q = ap₂ (λ (a t : ℕ). blockCount a + blockCount t + 1) (lengths .0) (lengths .1) in
       ends-same zeros (hashed p) zeros (hashed q) refl
       (same ∙ ap (λ (k : ℕ). replicate (n - k) 0 ++ hashed q) (sym counts))
 
@@ -84,7 +85,7 @@ module _ (n : ℕ) (p q : Pair) (sp : Sound p) (sq : Sound q) (same : filled n p
   unfolding authBlocks
   told =
       let long : (a b : List ℕ) → length a ≡ length b → length (blocks a) ≡ length (blocks b) =
-      λ a b e. blocks-length a ∙ ap (λ (k : ℕ). (k + 15) / 16) e ∙ sym (blocks-length b) in
+      λ a b e. length-blocks a ∙ ap blockCount e ∙ sym (length-blocks b) in
       let la = long (p .label) (q .label) (lengths .0) in
       let lt = long (p .ciphertext) (q .ciphertext) (lengths .1) in
       let labels = fronts-same (blocks (p .label)) _ (blocks (q .label)) _ la hashed-same in

@@ -1,10 +1,10 @@
 -- Pairs of a label and a ciphertext, their hash before it is masked, and which H confuse two of them.
 use mathlib.Core.Path.{_≡_}
 use mathlib.Core.List.{List}
-use Prim.Native.Nat.{ℕ, _+_, _/_}
+use Prim.Native.Nat.{ℕ, _+_}
 use lib.ListN.{length}
 use Rattle.block.specs.Below.{AreBytes}
-use Rattle.ghash.specs.Ghash.{Hashable, authBlocks, ghash}
+use Rattle.ghash.specs.Ghash.{blockCount, Hashable, authBlocks, ghash}
 
 pub record Pair : Type 0 where
   pub label : List ℕ
@@ -21,9 +21,9 @@ pub record Sound (p : Pair) : Type 0 where
 abbrev pub hashed : Pair → List ℕ
 hashed p = authBlocks (p .label) (p .ciphertext)
 
--- how many blocks that are: the label's and the ciphertext's, each rounded up, and the length block
+-- how many blocks that are: the label's, the ciphertext's and the length block
 abbrev pub hashedCount : Pair → ℕ
-hashedCount p = (length (p .label) + 15) / 16 + (length (p .ciphertext) + 15) / 16 + 1
+hashedCount p = blockCount (length (p .label)) + blockCount (length (p .ciphertext)) + 1
 
 -- any hash of pairs, by its H
 abbrev pub PairHash : Type 0

@@ -5,13 +5,14 @@ use Prim.Native.Nat.{ℕ}
 use Rattle.typed.specs.declared.words.Command.{Command}
 use Rattle.typed.specs.declared.words.Command.the-variants.{Seal, Open, Opens, Which, Plan, Unknown}
 use Rattle.typed.specs.declared.words.Command.the-variants.{Encrypt as Encrypt·command, Decrypt as Decrypt·command, Range as Range·command}
-use Rattle.typed.specs.declared.words.Command.the-variants.{ShelfPut, ShelfFind, ShelfOpen, ShelfCollect, ShelfList}
+use Rattle.typed.specs.declared.words.Command.the-variants.{ShelfPut, ShelfFind, ShelfOpen, ShelfCollect, ShelfList, Replay}
 use Rattle.cipher_mode.specs.declared.Direction.{Direction}
 use Rattle.cipher_mode.specs.declared.Direction.the-variants.{Encrypt, Decrypt}
 use Rattle.cipher_mode.specs.declared.Sm4Cipher.{Sm4Cipher}
 use Rattle.cipher_mode.specs.Key.{newCipher, retire, withEngine}
 
--- a range decrypts where that was said; no run with `plan`, a command of `shelf` or an unknown one comes as far as a pass
+-- a range decrypts where that was said; no run with `plan`, a command of `shelf`, `replay` or an unknown one comes as
+-- far as a pass
 abbrev pub directionOf : Command → Bool → Direction
 directionOf Seal decrypt = Encrypt
 directionOf Open decrypt = Decrypt
@@ -26,6 +27,7 @@ directionOf ShelfFind decrypt = Decrypt
 directionOf ShelfOpen decrypt = Decrypt
 directionOf ShelfCollect decrypt = Decrypt
 directionOf ShelfList decrypt = Decrypt
+directionOf Replay decrypt = Decrypt
 directionOf Unknown decrypt = Decrypt
 
 -- a key with the number that was said for it, on the four tables, and retired where that was said too

@@ -75,24 +75,13 @@ fn ended(pass: Pass, ending: Ending, came_round: bool) -> Pass
     }
 }
 
-// Brings the bytes from a place on, up to another, to the front of the buffer.
-fn bring_forward(buf: &mut [u8], from: usize, to: usize)
-    requires { ⌜ from ≤ to ⌝ }
-    requires { ⌜ to ≤ length (now buf) ⌝ }
-{
-    let n = to - from;
-    let mut i = 0;
-    while i < n {
-        buf[i] = buf[from + i];
-        i += 1;
-    }
-}
-
 // Writes what a step made of a piece.
 fn write(asked: Asked, mut pass: Pass, step: work::Step, out: &[u8]) -> Pass
     requires { ⌜ step .length ≤ length (now out) ⌝ }
     ensures { λ r. ⌜ r .waiting ≡ pass .waiting ⌝ }
 {
+    let work = step.work;
+    pass.work = work;
     let ending = step.ending;
     let Ending::Done(_) = ending else {
         return ended(pass, ending, false);
@@ -100,8 +89,6 @@ fn write(asked: Asked, mut pass: Pass, step: work::Step, out: &[u8]) -> Pass
     let before = pass.output;
     let n = step.length;
     let after = output::put(before, &out[0..n]);
-    let work = step.work;
-    pass.work = work;
     pass.output = after;
     if after.status != DONE {
         return over(pass, after.status);
@@ -170,7 +157,7 @@ fn turn(asked: Asked, t: &[u32], pass: Pass, n: usize, data: &mut [u8], out: &mu
     let k = work::taken(task, n);
     let step = work::piece(t, work, &data[0..k], out);
     let mut next = write(asked, pass, step, out);
-    bring_forward(data, k, n);
+    files::bring_forward(data, k, n);
     next.waiting = n - k;
     next
 }

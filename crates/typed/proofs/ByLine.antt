@@ -8,7 +8,8 @@ use native.Mathlib.Numerals.{add-one}
 use native.Mathlib.Omega.{arith}
 use lib.ListN.{length, getD, take, drop}
 use Rattle.bytes.specs.Bytes.{slice, indexOf}
-use Rattle.typed.specs.Candidates.{linesIn, candidateIn, isWrong, wrongFrom}
+use Rattle.typed.specs.Candidates.{candidateIn, isWrong, wrongFrom}
+use Rattle.typed.specs.Lists.{linesIn}
 use Rattle.typed.proofs.Parting.{part-turn, part-end}
 
 module _ (list : List ℕ) (at : ℕ) where

@@ -1,23 +1,16 @@
 -- A list of candidates: a job and an edition to a line.
-use Prim.Native.Nat.{ℕ, suc, _-_}
+use Prim.Native.Nat.{ℕ, suc}
 use mathlib.Core.Bool.{Bool, true, false, cond}
 use mathlib.Core.List.{List, [], _∷_}
 use lib.Dec.{eqb}
-use lib.ListN.{length, getD, take}
+use lib.ListN.{length}
 use Rattle.typed.specs.Decimal.{numberIn}
-use Rattle.typed.specs.Parts.{partsIn, before, behind}
+use Rattle.typed.specs.Lists.{unended}
+use Rattle.typed.specs.Parts.{before, behind}
 use Rattle.typed.specs.declared.decimal.Number.{Number}
 use Rattle.typed.specs.declared.decimal.Number.the-variants.{Is, Not}
 use Rattle.typed.specs.declared.candidates.Candidate.{Candidate}
 use Rattle.typed.specs.declared.candidates.Candidate.the-variants.{Label, Empty, Wrong}
-
--- the lines of a list
-abbrev pub linesIn : List ℕ → List (List ℕ)
-linesIn list = partsIn 10 list
-
--- a line without what another system's end of line leaves there
-unfoldable pub unended : List ℕ → List ℕ
-unended line = cond (eqb (getD line (length line - 1) 0) 13) (take (length line - 1) line) line
 
 abbrev pub labelIn : Number → Number → Candidate
 labelIn (Is job) (Is edition) = Label job edition

@@ -5,7 +5,9 @@ pub mod Hex
 pub mod Key
 pub mod Parts
 pub mod Range
+pub mod Lists
 pub mod Candidates
+pub mod Keys
 pub mod Names
 pub mod Things
 pub mod Words

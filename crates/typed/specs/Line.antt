@@ -4,8 +4,8 @@ use mathlib.Core.Bool.{Bool, true, false, cond, not, _&&_, _||_}
 use mathlib.Core.List.{List}
 use lib.Dec.{ltb, eqb}
 use lib.ListN.{getD, set, replicate}
-use Rattle.typed.specs.Things.{JOB, EDITION, EDITIONS, CANDIDATES, LENGTH, SHELF, IN, OUT, NOTHING}
-use Rattle.typed.specs.Words.{isFlag, saysLabel, optionOf, isOption, endsOptions, hasValue, takesOf, wantsOf}
+use Rattle.typed.specs.Things.{KEY, NUMBER, JOB, EDITION, EDITIONS, CANDIDATES, KEYS, LENGTH, SHELF, IN, OUT, NOTHING}
+use Rattle.typed.specs.Words.{isFlag, saysLabel, saysKey, optionOf, isOption, endsOptions, hasValue, takesOf, wantsOf}
 use Rattle.typed.specs.declared.words.Command.{Command}
 use Rattle.typed.specs.declared.line.Fault.{Fault}
 use Rattle.typed.specs.declared.line.Fault.the-variants.{NoFault, NoSuchOption, NotOfThisCommand, SaidTwice, NotBoth}
@@ -33,9 +33,18 @@ unsaid l k = eqb (getD (l .places) k 0) 0
 abbrev pub unlabelled : Line → Bool
 unlabelled l = unsaid l JOB && (unsaid l EDITION && unsaid l EDITIONS)
 
--- thing k cannot stand beside what has been said: a file of candidates says the labels, or the other things do
+-- no key has been said by a file of one key or by a number
+abbrev pub unkeyed : Line → Bool
+unkeyed l = unsaid l KEY && unsaid l NUMBER
+
+-- thing k cannot stand beside what has been said: a file of candidates says the labels, or the other things do; and so for a file of
+-- keys
 abbrev pub clashes : Line → ℕ → Bool
-clashes l k = cond (eqb k CANDIDATES) (not (unlabelled l)) (saysLabel k && not (unsaid l CANDIDATES))
+clashes l k =
+    cond (eqb k CANDIDATES) (not (unlabelled l))
+    (cond (saysLabel k) (not (unsaid l CANDIDATES))
+    (cond (eqb k KEYS) (not (unkeyed l))
+    (saysKey k && not (unsaid l KEYS))))
 
 -- a thing that the command wants, and that has not been said, nor another in its place
 abbrev pub lacks : Line → ℕ → Bool

@@ -34,30 +34,37 @@ OFFSET = 8
 abbrev pub WORKERS : ℕ
 WORKERS = 9
 
+-- the keys of `replay`: a file that lists them
+abbrev pub KEYS : ℕ
+KEYS = 10
+
 -- the options that are said without a value
 abbrev pub FORCE : ℕ
-FORCE = 10
+FORCE = 11
 
 abbrev pub RETIRED : ℕ
-RETIRED = 11
+RETIRED = 12
 
 abbrev pub DECRYPT : ℕ
-DECRYPT = 12
+DECRYPT = 13
+
+abbrev pub PLAIN : ℕ
+PLAIN = 14
 
 -- how long the text of `plan` is
 abbrev pub LENGTH : ℕ
-LENGTH = 13
+LENGTH = 15
 
 -- the file of a shelf
 abbrev pub SHELF : ℕ
-SHELF = 14
+SHELF = 16
 
 abbrev pub IN : ℕ
-IN = 15
+IN = 17
 
 abbrev pub OUT : ℕ
-OUT = 16
+OUT = 18
 
 -- none of them, and so how many there are
 abbrev pub NOTHING : ℕ
-NOTHING = 17
+NOTHING = 19

@@ -8,11 +8,11 @@ use Rattle.bytes.specs.Bytes.{indexOf}
 use Rattle.block.specs.Same.{same}
 use Rattle.typed.specs.Ascii.{bytes}
 use Rattle.typed.specs.Names.{placeIn}
-use Rattle.typed.specs.Things.{MODE, KEY, NUMBER, IV, JOB, EDITION, EDITIONS, CANDIDATES, OFFSET, WORKERS}
-use Rattle.typed.specs.Things.{FORCE, RETIRED, DECRYPT, LENGTH, SHELF, IN, OUT, NOTHING}
+use Rattle.typed.specs.Things.{MODE, KEY, NUMBER, IV, JOB, EDITION, EDITIONS, CANDIDATES, OFFSET, WORKERS, KEYS}
+use Rattle.typed.specs.Things.{FORCE, RETIRED, DECRYPT, PLAIN, LENGTH, SHELF, IN, OUT, NOTHING}
 use Rattle.typed.specs.declared.words.Command.{Command}
 use Rattle.typed.specs.declared.words.Command.the-variants.{Seal, Open, Opens, Which, Encrypt, Decrypt, Plan, Range, Unknown}
-use Rattle.typed.specs.declared.words.Command.the-variants.{ShelfPut, ShelfFind, ShelfOpen, ShelfCollect, ShelfList}
+use Rattle.typed.specs.declared.words.Command.the-variants.{ShelfPut, ShelfFind, ShelfOpen, ShelfCollect, ShelfList, Replay}
 use Rattle.typed.specs.declared.words.ModeName.{ModeName}
 use Rattle.typed.specs.declared.words.ModeName.the-variants.{Cfb, Ofb, Ctr, Cbc, Unknown as NoMode}
 
@@ -38,10 +38,10 @@ abbrev pub modeOf : List ℕ → ModeName
 modeOf w = getD modes (placeIn (bytes "cfb ofb ctr cbc") w) NoMode
 
 abbrev pub options : List ℕ
-options = MODE ∷ KEY ∷ NUMBER ∷ IV ∷ JOB ∷ EDITION ∷ EDITIONS ∷ CANDIDATES ∷ OFFSET ∷ WORKERS ∷ []
+options = MODE ∷ KEY ∷ NUMBER ∷ IV ∷ JOB ∷ EDITION ∷ EDITIONS ∷ CANDIDATES ∷ OFFSET ∷ WORKERS ∷ KEYS ∷ []
 
 abbrev pub flags : List ℕ
-flags = FORCE ∷ RETIRED ∷ DECRYPT ∷ []
+flags = FORCE ∷ RETIRED ∷ DECRYPT ∷ PLAIN ∷ []
 
 -- k is one of some things
 unfoldable pub isOneOf : ℕ → List ℕ → Bool
@@ -69,14 +69,14 @@ valueOf w = cond (isOption w && hasValue w) (drop (suc (indexOf 61 w)) w) w
 
 -- an option that is said without a value
 abbrev pub flagOf : List ℕ → ℕ
-flagOf w = getD flags (placeIn (bytes "--force --retired --decrypt") w) NOTHING
+flagOf w = getD flags (placeIn (bytes "--force --retired --decrypt --plain") w) NOTHING
 
 abbrev pub isFlag : ℕ → Bool
 isFlag k = isOneOf k flags
 
 -- the place of an option among those that take a value
 abbrev pub optionPlace : List ℕ → ℕ
-optionPlace w = placeIn (bytes "--mode --key --number --iv --job --edition --editions --candidates --offset --workers") (nameOf w)
+optionPlace w = placeIn (bytes "--mode --key --number --iv --job --edition --editions --candidates --offset --workers --keys") (nameOf w)
 
 -- the thing that an option says
 abbrev pub optionOf : List ℕ → ℕ
@@ -97,6 +97,7 @@ thingsOf ShelfFind = JOB ∷ FORCE ∷ SHELF ∷ OUT ∷ []
 thingsOf ShelfOpen = KEY ∷ NUMBER ∷ RETIRED ∷ IV ∷ JOB ∷ SHELF ∷ OUT ∷ []
 thingsOf ShelfCollect = SHELF ∷ []
 thingsOf ShelfList = SHELF ∷ []
+thingsOf Replay = KEY ∷ NUMBER ∷ KEYS ∷ PLAIN ∷ IN ∷ []
 thingsOf Unknown = []
 
 abbrev pub takesOf : Command → ℕ → Bool
@@ -105,6 +106,10 @@ takesOf c k = isOneOf k (thingsOf c)
 -- the things that say a label, or a part of one, where no file of candidates does
 abbrev pub saysLabel : ℕ → Bool
 saysLabel k = isOneOf k (JOB ∷ EDITION ∷ EDITIONS ∷ [])
+
+-- the things that say a key, or a part of one, where no file of keys does
+abbrev pub saysKey : ℕ → Bool
+saysKey k = isOneOf k (KEY ∷ NUMBER ∷ [])
 
 -- the command that asks which label a file opens under
 abbrev pub asksWhich : Command → Bool
@@ -121,6 +126,7 @@ asksWhich ShelfFind = false
 asksWhich ShelfOpen = false
 asksWhich ShelfCollect = false
 asksWhich ShelfList = false
+asksWhich Replay = false
 asksWhich Unknown = false
 
 -- the command that says which edition is current
@@ -138,14 +144,15 @@ asksCurrent ShelfFind = true
 asksCurrent ShelfOpen = false
 asksCurrent ShelfCollect = false
 asksCurrent ShelfList = false
+asksCurrent Replay = false
 asksCurrent Unknown = false
 
--- the things that a command lets be unsaid: the key's number, a file of candidates, and what is said without a value; of `which` the
--- edition, which there is the one that the caller asked for; and of `shelf find` OUT
+-- the things that a command lets be unsaid: the key's number, a file of candidates or of keys, and what is said without a value; of
+-- `which` the edition, which there is the one that the caller asked for; and of `shelf find` OUT
 abbrev pub isOptional : Command → ℕ → Bool
 isOptional c k =
     cond (eqb k EDITION) (asksWhich c)
-    (cond (eqb k OUT) (asksCurrent c) (eqb k NUMBER || (eqb k CANDIDATES || isFlag k)))
+    (cond (eqb k OUT) (asksCurrent c) (eqb k NUMBER || (eqb k CANDIDATES || (eqb k KEYS || isFlag k))))
 
 -- whether a command wants a thing to be said: all that it takes but these
 abbrev pub wantsOf : Command → ℕ → Bool

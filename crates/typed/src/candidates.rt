@@ -1,10 +1,10 @@
 // A list of candidates: a job and an edition to a line, with one blank between.
 ghost use mathlib.Core.Path.{_≡_};
-ghost use mathlib.Core.List.{[]};
-ghost use lib.ListN.{length, getD};
-ghost use Rattle.typed.specs.Candidates.{linesIn, unended, spelledIn, candidateIn, isWrong, wrongFrom};
+ghost use Rattle.typed.specs.Candidates.{spelledIn, candidateIn, isWrong, wrongFrom};
+ghost use Rattle.typed.specs.Lists.{linesIn};
 use crate::decimal;
 use crate::decimal::Number;
+use crate::lists;
 use crate::parts;
 
 // What a line says: a candidate, or nothing where it is empty, or nothing right.
@@ -12,20 +12,6 @@ pub enum Candidate {
     Label(u32, u16),
     Empty,
     Wrong,
-}
-
-// A line without what another system's end of line leaves there.
-fn without_end(line: &[u8]) -> &[u8]
-    ensures { λ r. ⌜ now r ≡ unended (now (line .entry)) ⌝ }
-{
-    let n = line.len();
-    if n == 0 {
-        return line;
-    }
-    if line[n - 1] == b'\r' {
-        return &line[0..n - 1];
-    }
-    line
 }
 
 fn spelled(text: &[u8]) -> Candidate
@@ -45,42 +31,11 @@ fn spelled(text: &[u8]) -> Candidate
 pub fn read(line: &[u8]) -> Candidate
     ensures { λ r. ⌜ r ≡ candidateIn (now (line .entry)) ⌝ }
 {
-    let text = without_end(line);
+    let text = lists::without_end(line);
     if text.len() == 0 {
         return Candidate::Empty;
     }
     spelled(text)
-}
-
-// How many lines a list has.
-pub fn lines(list: &[u8]) -> usize
-    ensures { λ r. ⌜ r ≡ length (linesIn (now (list .entry))) ⌝ }
-{
-    let mut n = 0;
-    let mut at = 0;
-    while at < list.len() {
-        let end = bytes::scan::find(list, at, list.len(), b'\n');
-        n += 1;
-        at = end + 1;
-    }
-    n
-}
-
-// A line of a list, counted from 0; an empty one where there are not so many.
-pub fn line(list: &[u8], place: usize) -> &[u8]
-    ensures { λ r. ⌜ now r ≡ getD (linesIn (now (list .entry))) place [] ⌝ }
-{
-    let mut left = place;
-    let mut at = 0;
-    while at < list.len() {
-        let end = bytes::scan::find(list, at, list.len(), b'\n');
-        if left == 0 {
-            return &list[at..end];
-        }
-        left -= 1;
-        at = end + 1;
-    }
-    &list[0..0]
 }
 
 fn is_wrong(candidate: Candidate) -> bool

@@ -1,15 +1,18 @@
 // What a line of words says.
 ghost use mathlib.Core.Path.{_≡_};
 ghost use Prim.Native.Nat.{_<_};
-ghost use Rattle.typed.specs.Line.{lineOf, sound, unsaid, unlabelled, clashes, said, await, faulty, filesFrom, afterOption, afterOther, afterFree, afterWord, lacks, awaits, lackingIn};
+ghost use Rattle.typed.specs.Line.{lineOf, sound, unsaid, unlabelled, unkeyed, clashes, said, await, faulty, filesFrom, afterOption, afterOther, afterFree, afterWord, lacks, awaits, lackingIn};
 ghost use Rattle.typed.specs.Things.{NOTHING};
 use crate::things::CANDIDATES;
 use crate::things::EDITION;
 use crate::things::EDITIONS;
 use crate::things::IN;
 use crate::things::JOB;
+use crate::things::KEY;
+use crate::things::KEYS;
 use crate::things::LENGTH;
 use crate::things::NOTHING;
+use crate::things::NUMBER;
 use crate::things::OUT;
 use crate::things::SHELF;
 use crate::words;
@@ -87,7 +90,18 @@ fn is_unlabelled(line: Line) -> bool
     is_unsaid(line, EDITIONS)
 }
 
-// Whether a thing cannot stand beside what has been said: a file of candidates says the labels, or the other things do.
+// Whether no key has been said by a file of one key or by a number.
+fn is_unkeyed(line: Line) -> bool
+    ensures { λ r. ⌜ r ≡ unkeyed line ⌝ }
+{
+    if !is_unsaid(line, KEY) {
+        return false;
+    }
+    is_unsaid(line, NUMBER)
+}
+
+// Whether a thing cannot stand beside what has been said: a file of candidates says the labels, or the other things do; and so for
+// a file of keys.
 fn does_clash(line: Line, thing: usize) -> bool
     ensures { λ r. ⌜ r ≡ clashes line thing ⌝ }
 {
@@ -96,6 +110,12 @@ fn does_clash(line: Line, thing: usize) -> bool
     }
     if words::says_label(thing) {
         return !is_unsaid(line, CANDIDATES);
+    }
+    if thing == KEYS {
+        return !is_unkeyed(line);
+    }
+    if words::says_key(thing) {
+        return !is_unsaid(line, KEYS);
     }
     false
 }

@@ -22,22 +22,27 @@ pub const OFFSET: usize = 8;
 
 pub const WORKERS: usize = 9;
 
+// The keys of `replay`: a file that lists them.
+pub const KEYS: usize = 10;
+
 // The options that are said without a value.
-pub const FORCE: usize = 10;
+pub const FORCE: usize = 11;
 
-pub const RETIRED: usize = 11;
+pub const RETIRED: usize = 12;
 
-pub const DECRYPT: usize = 12;
+pub const DECRYPT: usize = 13;
+
+pub const PLAIN: usize = 14;
 
 // How long the text of `plan` is.
-pub const LENGTH: usize = 13;
+pub const LENGTH: usize = 15;
 
 // The file of a shelf.
-pub const SHELF: usize = 14;
+pub const SHELF: usize = 16;
 
-pub const IN: usize = 15;
+pub const IN: usize = 17;
 
-pub const OUT: usize = 16;
+pub const OUT: usize = 18;
 
 // None of them, and so how many there are.
-pub const NOTHING: usize = 17;
+pub const NOTHING: usize = 19;

@@ -3,7 +3,7 @@ ghost use mathlib.Core.Path.{_≡_};
 ghost use Prim.Native.Nat.{_≤_};
 ghost use lib.ListN.{length};
 ghost use Rattle.bytes.specs.Bytes.{indexOf};
-ghost use Rattle.typed.specs.Words.{commandOf, shelfCommandOf, modeOf, flagOf, optionOf, isOption, endsOptions, hasValue, valueOf, isFlag, isOneOf, takesOf, saysLabel, asksWhich, asksCurrent, isOptional, wantsOf};
+ghost use Rattle.typed.specs.Words.{commandOf, shelfCommandOf, modeOf, flagOf, optionOf, isOption, endsOptions, hasValue, valueOf, isFlag, isOneOf, takesOf, saysLabel, saysKey, asksWhich, asksCurrent, isOptional, wantsOf};
 use crate::names::find;
 use crate::things::CANDIDATES;
 use crate::things::DECRYPT;
@@ -14,12 +14,14 @@ use crate::things::IN;
 use crate::things::IV;
 use crate::things::JOB;
 use crate::things::KEY;
+use crate::things::KEYS;
 use crate::things::LENGTH;
 use crate::things::MODE;
 use crate::things::NOTHING;
 use crate::things::NUMBER;
 use crate::things::OFFSET;
 use crate::things::OUT;
+use crate::things::PLAIN;
 use crate::things::RETIRED;
 use crate::things::SHELF;
 use crate::things::WORKERS;
@@ -38,6 +40,7 @@ pub enum Command {
     ShelfOpen,
     ShelfCollect,
     ShelfList,
+    Replay,
     Unknown,
 }
 
@@ -123,10 +126,11 @@ pub fn value(word: &[u8]) -> &[u8]
 fn read_flag(word: &[u8]) -> usize
     ensures { λ r. ⌜ r ≡ flagOf (now (word .entry)) ⌝ }
 {
-    match find(b"--force --retired --decrypt", word) {
+    match find(b"--force --retired --decrypt --plain", word) {
         0 => FORCE,
         1 => RETIRED,
         2 => DECRYPT,
+        3 => PLAIN,
         _ => NOTHING,
     }
 }
@@ -137,7 +141,7 @@ pub(crate) fn read_option(word: &[u8]) -> usize
 {
     let n = equals_sign(word);
     match find(
-        b"--mode --key --number --iv --job --edition --editions --candidates --offset --workers",
+        b"--mode --key --number --iv --job --edition --editions --candidates --offset --workers --keys",
         &word[0..n],
     ) {
         0 => MODE,
@@ -150,6 +154,7 @@ pub(crate) fn read_option(word: &[u8]) -> usize
         7 => CANDIDATES,
         8 => OFFSET,
         9 => WORKERS,
+        10 => KEYS,
         _ => read_flag(word),
     }
 }
@@ -222,6 +227,7 @@ pub fn takes(command: Command, thing: usize) -> bool
         Command::ShelfOpen => is_one_of(thing, &[KEY, NUMBER, RETIRED, IV, JOB, SHELF, OUT]),
         Command::ShelfCollect => is_one_of(thing, &[SHELF]),
         Command::ShelfList => is_one_of(thing, &[SHELF]),
+        Command::Replay => is_one_of(thing, &[KEY, NUMBER, KEYS, PLAIN, IN]),
         Command::Unknown => false,
     }
 }
@@ -233,11 +239,18 @@ pub(crate) fn says_label(thing: usize) -> bool
     is_one_of(thing, &[JOB, EDITION, EDITIONS])
 }
 
+// Whether a thing says a key, or a part of one, where no file of keys does.
+pub(crate) fn says_key(thing: usize) -> bool
+    ensures { λ r. ⌜ r ≡ saysKey thing ⌝ }
+{
+    is_one_of(thing, &[KEY, NUMBER])
+}
+
 // Whether a thing is said without a value.
 pub(crate) fn is_flag(thing: usize) -> bool
     ensures { λ r. ⌜ r ≡ isFlag thing ⌝ }
 {
-    is_one_of(thing, &[FORCE, RETIRED, DECRYPT])
+    is_one_of(thing, &[FORCE, RETIRED, DECRYPT, PLAIN])
 }
 
 // Whether a command asks which label a file opens under.
@@ -258,6 +271,7 @@ fn asks_which(command: Command) -> bool
         Command::ShelfOpen => false,
         Command::ShelfCollect => false,
         Command::ShelfList => false,
+        Command::Replay => false,
         Command::Unknown => false,
     }
 }
@@ -280,12 +294,13 @@ fn asks_current(command: Command) -> bool
         Command::ShelfOpen => false,
         Command::ShelfCollect => false,
         Command::ShelfList => false,
+        Command::Replay => false,
         Command::Unknown => false,
     }
 }
 
-// Whether a command lets a thing be unsaid: the key's number, a file of candidates, and what is said without a value; of `which` the
-// edition, which there is the one that the caller asked for; and of `shelf find` OUT.
+// Whether a command lets a thing be unsaid: the key's number, a file of candidates or of keys, and what is said without a value; of
+// `which` the edition, which there is the one that the caller asked for; and of `shelf find` OUT.
 fn is_optional(command: Command, thing: usize) -> bool
     ensures { λ r. ⌜ r ≡ isOptional command thing ⌝ }
 {
@@ -299,6 +314,9 @@ fn is_optional(command: Command, thing: usize) -> bool
         return true;
     }
     if thing == CANDIDATES {
+        return true;
+    }
+    if thing == KEYS {
         return true;
     }
     is_flag(thing)

@@ -1,12 +1,12 @@
 -- `writer::write` meets its contract: what is within the limits fits sixteen bits and a few, and no sum wraps; each return is the
 -- definition.
 -- Assumes nothing.
-use mathlib.Core.Path.{_≡_, sym, _∙_}
+use mathlib.Core.Path.{sym, _∙_}
 use mathlib.Core.List.{List}
 use Prim.Native.Nat.{ℕ}
 use native.Mathlib.Omega.{arith}
 use denote.Ref.{now}
-use lib.ListN.{length, length-take, length-drop}
+use lib.ListN.{length-take, length-drop}
 use Rattle.journal.specs.Format.{Entry}
 use Rattle.journal.specs.Writer.{entryOf}
 use Rattle.journal.proofs.Limits.{Short, short}

@@ -6,7 +6,8 @@ use Prim.Native.Nat.{ℕ}
 use denote.Ref.{now}
 use lib.ListN.{length}
 use borrow.Author.Tests.{eq-eqb, ne-eqb}
-use Rattle.typed.specs.Candidates.{unended, spelledIn, candidateIn}
+use Rattle.typed.specs.Candidates.{spelledIn, candidateIn}
+use Rattle.typed.specs.Lists.{unended}
 use Rattle.typed.specs.declared.candidates.Candidate.the-variants.{Empty}
 use borrow.Author.Needs.{needs}
 use Rattle.typed.proofs.candidates.read.Statement.{statement}

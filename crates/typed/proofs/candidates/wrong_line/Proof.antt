@@ -6,7 +6,8 @@ use Prim.Native.Nat.{_≤_, _+_, _-_}
 use native.Mathlib.Omega.{arith}
 use denote.Ref.{now}
 use lib.ListN.{length, drop}
-use Rattle.typed.specs.Candidates.{linesIn, isWrong, wrongFrom}
+use Rattle.typed.specs.Candidates.{isWrong, wrongFrom}
+use Rattle.typed.specs.Lists.{linesIn}
 use Rattle.typed.proofs.Verdicts.{told}
 use Rattle.typed.proofs.ByLine.{wrong-here, wrong-on, wrong-end}
 use Rattle.typed.proofs.candidates.wrong_line.Statement.{statement}

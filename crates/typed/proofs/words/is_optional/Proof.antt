@@ -15,12 +15,20 @@ candidates c =
     let at-if2 = c .before .before in
     rw (ne-eqb _ _ (at-if2 .before .if1 .left), ne-eqb _ _ (at-if2 .if2 .left), ne-eqb _ _ (c .before .if3 .left), eq-eqb _ _ (c .if4 .taken))
 
-flag : tie.Need-returns-5
+keys : tie.Need-returns-5
+keys c =
+    let at-if4 = c .before in
+    let at-if3 = at-if4 .before in
+    let at-if2 = at-if3 .before in
+    rw (ne-eqb _ _ (at-if2 .before .if1 .left), ne-eqb _ _ (at-if2 .if2 .left), ne-eqb _ _ (at-if3 .if3 .left), ne-eqb _ _ (at-if4 .if4 .left), eq-eqb _ _ (c .if5 .taken))
+
+flag : tie.Need-returns-6
 flag c =
-    let at-if3 = c .before .before in
+    let at-if4 = c .before .before in
+    let at-if3 = at-if4 .before in
     let at-if2 = at-if3 .before in
     c .is-flag .ensures
-    ∙ rw (ne-eqb _ _ (at-if2 .before .if1 .left), ne-eqb _ _ (at-if2 .if2 .left), ne-eqb _ _ (at-if3 .if3 .left), ne-eqb _ _ (c .before .if4 .left))
+    ∙ rw (ne-eqb _ _ (at-if2 .before .if1 .left), ne-eqb _ _ (at-if2 .if2 .left), ne-eqb _ _ (at-if3 .if3 .left), ne-eqb _ _ (at-if4 .if4 .left), ne-eqb _ _ (c .before .if5 .left))
 
 pub is-optional-spec : {M : Type 1} → statement M
 is-optional-spec =
@@ -29,4 +37,4 @@ is-optional-spec =
     (λ c κs. search needs) (λ c. c .asks-which .ensures ∙ rw (eq-eqb _ _ (c .before .if1 .taken)))
     (λ c κs. search needs)
     (λ c. c .asks-current .ensures ∙ rw (ne-eqb _ _ (c .before .before .if1 .left), eq-eqb _ _ (c .before .if2 .taken)))
-    number candidates (λ c κs. search needs) flag)
+    number candidates keys (λ c κs. search needs) flag)

@@ -15,4 +15,5 @@ read-flag-spec =
     (λ c. search needs) (λ c κs. search needs) (λ c. rw (told (c .before .find .ensures) (c .match .keys1)))
     (λ c. rw (told (c .before .find .ensures) (c .match .keys2)))
     (λ c. rw (told (c .before .find .ensures) (c .match .keys3)))
+    (λ c. rw (told (c .before .find .ensures) (c .match .keys4)))
     (λ c. told-none flags NOTHING (c .before .find .ensures) (c .match .rest)))

@@ -38,5 +38,5 @@ read-option-spec =
     (λ c. rw (told (place (c .before)) (c .match .keys4))) (λ c. rw (told (place (c .before)) (c .match .keys5)))
     (λ c. rw (told (place (c .before)) (c .match .keys6))) (λ c. rw (told (place (c .before)) (c .match .keys7)))
     (λ c. rw (told (place (c .before)) (c .match .keys8))) (λ c. rw (told (place (c .before)) (c .match .keys9)))
-    (λ c. rw (told (place (c .before)) (c .match .keys10)))
+    (λ c. rw (told (place (c .before)) (c .match .keys10))) (λ c. rw (told (place (c .before)) (c .match .keys11)))
     (λ c. c .read-flag .ensures ∙ told-none options (flagOf _) (place (c .before .before)) (c .before .match .rest)))

@@ -6,9 +6,9 @@ use borrow.Author.Needs.{needs}
 use Rattle.typed.proofs.words.takes.Statement.{statement}
 use Rattle.typed.proofs.words.takes.Tie as tie
 
-none : tie.Need-returns-14
+none : tie.Need-returns-15
 unfolding isOneOf
-none c = rw (c .enum-told14 .given .1)
+none c = rw (c .enum-told15 .given .1)
 
 pub takes-spec : {M : Type 1} → statement M
 takes-spec =
@@ -22,6 +22,7 @@ takes-spec =
     (λ c. search needs) (λ c κs. search needs) (λ c. search needs) (λ c. search needs) (λ c κs. search needs)
     (λ c. search needs) (λ c. search needs) (λ c κs. search needs) (λ c. search needs) (λ c. search needs)
     (λ c κs. search needs) (λ c. search needs) (λ c. search needs) (λ c κs. search needs) (λ c. search needs)
+    (λ c. search needs) (λ c κs. search needs) (λ c. search needs)
     (λ c. c .is-one-of .ensures ∙ rw (c .before .before .enum-told .given .1))
     (λ c. c .is-one-of2 .ensures ∙ rw (c .before .before .enum-told2 .given .1))
     (λ c. c .is-one-of3 .ensures ∙ rw (c .before .before .enum-told3 .given .1))
@@ -34,4 +35,5 @@ takes-spec =
     (λ c. c .is-one-of10 .ensures ∙ rw (c .before .before .enum-told10 .given .1))
     (λ c. c .is-one-of11 .ensures ∙ rw (c .before .before .enum-told11 .given .1))
     (λ c. c .is-one-of12 .ensures ∙ rw (c .before .before .enum-told12 .given .1))
-    (λ c. c .is-one-of13 .ensures ∙ rw (c .before .before .enum-told13 .given .1)) none)
+    (λ c. c .is-one-of13 .ensures ∙ rw (c .before .before .enum-told13 .given .1))
+    (λ c. c .is-one-of14 .ensures ∙ rw (c .before .before .enum-told14 .given .1)) none)
