@@ -182,9 +182,10 @@ struct luossavin_answer {
  *
  * `engine` says how the rounds of SM4 are made, and nothing else: every call answers with the same numbers, reports
  * and bytes whatever it is. The plain engine looks bytes up in a table of 1 KiB. The other has four tables, 4 KiB that
- * each call lays out on its stack, and takes about half the instructions for a long message (docs/SPEED.md). Both read
- * at places that depend on the key and the text, so neither is for a machine on which others may watch the caches. A
- * message in pieces keeps the engine that its start had. */
+ * each call lays out on its stack, and takes little more than half the instructions for a long message outside Gcm
+ * (docs/SPEED.md). Starts in pieces and luossavin_which, which encipher three blocks at most, take the plain one in any
+ * case. Both read at places that depend on the key and the text, so neither is for a machine on which others may watch
+ * the caches. A message in pieces keeps the engine that its start had. */
 struct luossavin_key {
     uint32_t round_keys[32];
     uint32_t answer;
