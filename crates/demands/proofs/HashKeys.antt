@@ -21,12 +21,12 @@ use Rattle.gcm.specs.Gcm.{hashKey}
 use Rattle.cipher_mode.specs.declared.Direction.the-variants.{Decrypt}
 use Rattle.cipher_mode.specs.declared.Sm4Cipher.{Sm4Cipher}
 use Rattle.cipher_mode.specs.Calls.{modeCall}
-use Rattle.cipher_mode.specs.Tables.{limit}
+use Rattle.cipher_mode.specs.Tables.{limit, modeOf}
 use Rattle.label.specs.Label.{labelOf}
 use Rattle.label.proofs.LabelTells.{length-label, label-bytes, label-job, label-edition}
 use Rattle.luossavin.specs.declared.key.LuossavinKey.{LuossavinKey}
 use Rattle.luossavin.specs.Key.{cipherIn}
-use Rattle.luossavin.specs.Host.{modeOf, hostModeCall}
+use Rattle.luossavin.specs.Host.{hostModeCall}
 use Rattle.demands.specs.Call.{inGcm}
 use Rattle.demands.specs.HashKeys.{WithinLimits, FewKeysConfuse, ZeroKeyConfuses, RarelyConfused}
 use Rattle.demands.specs.HashKeys.{under, FewConfuseEditions, oneBlock, nothing, BoundReached, UnconfusedRefused, withoutLengths}
