@@ -29,6 +29,7 @@ use Rattle.cipher_mode.specs.declared.CipherMode.the-variants.{Gcm}
 use Rattle.cipher_mode.specs.declared.Direction.the-variants.{Encrypt}
 use Rattle.cipher_mode.specs.declared.Sm4Cipher.{Sm4Cipher}
 use Rattle.cipher_mode.specs.declared.checks.Checked.the-variants.{Passed}
+use Rattle.cipher_mode.specs.Tables.{modeOf}
 use Rattle.cipher_mode.specs.Checks.{wrongIv, retiredCheck}
 use Rattle.cipher_mode.specs.Calls.{modeCall}
 use Rattle.cipher_mode.proofs.Passed.{iv-twelve-or-sixteen}
@@ -36,7 +37,6 @@ use Rattle.luossavin.specs.declared.halves.LuossavinHash.{LuossavinHash}
 use Rattle.luossavin.specs.declared.key.LuossavinKey.{LuossavinKey}
 use Rattle.luossavin.specs.Key.{cipherIn}
 use Rattle.luossavin.specs.Halves.{hashIn, hashOf, hostHashBlocks, hostHashJoin}
-use Rattle.cipher_mode.specs.Tables.{modeOf}
 use Rattle.luossavin.specs.Host.{hostBlockCall, hostModeCall}
 use Rattle.demands.specs.Call.{inGcm, result}
 use Rattle.demands.specs.Halves.{IsValue, WholeBlocks, JoinsHalves, enciphered, keyOfHash, bytesIn, pair}
