@@ -112,7 +112,8 @@
  *
  * A message may also come in pieces, in Ctr and Gcm: what holds for these is said where they are declared.
  * There it is also said how to ask which of up to 64 labels a Gcm message opens under, how several workers share
- * one Ctr message, how the editions of jobs are kept on a shelf, and how recorded calls are replayed.
+ * one Ctr message, how the editions of jobs are kept on a shelf, how recorded calls are replayed, and how the hashes of
+ * two halves are joined.
  *
  * What no proof can see stays the host's duty, and a call that breaks it has no defined outcome:
  *
@@ -696,6 +697,51 @@ struct luossavin_replayed {
 
 /* Replays the journal `file`. It answers 0, 23, 24, 25 or 26. */
 struct luossavin_replayed luossavin_replay(struct luossavin_keys keys, const uint8_t *file, size_t file_len);
+
+/* Hash the halves and join them.
+ *
+ * Two servers each hold half a long ciphertext, and its tag is wanted. Gcm's hash of a whole can be made of the
+ * hashes of its halves: each is hashed by itself, from 0 on, and the two are joined,
+ *
+ *     whole = first x H^n xor second
+ *
+ * where n is how many blocks the second half has, the last one of which may be short. The multiplication is Gcm's,
+ * and 80 followed by zeros is its one, so that either half may be empty: the hash of nothing is 0, and with n = 0 the
+ * first comes back. Several halves are joined one after another, in either grouping.
+ *
+ * The first half is whole blocks: its length divides by 16. Bytes that end inside a block are filled up with zeros to
+ * its end, as Gcm does at the end of a label and of a text; what follows then begins a block of its own, and what is
+ * joined is the hash of that and of no text that was cut there. The count is of blocks, not of bytes: n bytes are
+ * n / 16, rounded up. A host that miscounts is answered as it asked.
+ *
+ * A hash is the big-endian number of its 16 bytes, in two halves of 64 bits. Every value is one, and has an answer;
+ * nothing is refused, and there is no limit. These calls are on no key. H is what a key encrypts sixteen zero bytes to,
+ * by luossavin_block_encrypt, and it is as secret as the key: with it tags are forged. A tag by these calls, of a label
+ * and a ciphertext of n bytes, of which the first `cut` are one half:
+ *
+ *     h       = the hash that the sixteen encrypted zero bytes are
+ *     j0      = the IV followed by 00000001, where it has 12 bytes; otherwise the sixteen bytes of
+ *               luossavin_hash_blocks(h, the IV and then the number 128 in 16 bytes, 32)
+ *     lengths = 8 * label_len and then 8 * n, in 8 bytes each
+ *
+ *     y = luossavin_hash_blocks(h, label, label_len);
+ *     y = luossavin_hash_join(h, y, luossavin_hash_blocks(h, text, cut), cut / 16);
+ *     y = luossavin_hash_join(h, y, luossavin_hash_blocks(h, text + cut, n - cut), (n - cut + 15) / 16);
+ *     y = luossavin_hash_join(h, y, luossavin_hash_blocks(h, lengths, 16), 1);
+ *
+ * The tag is the encrypted j0, xored with the sixteen bytes of y: the one that luossavin_encrypt makes of that text. */
+struct luossavin_hash {
+    uint64_t high;
+    uint64_t low;
+};
+
+/* The hash of `bytes` in blocks under the key h, zeros to the last block's end. */
+struct luossavin_hash luossavin_hash_blocks(struct luossavin_hash h, const uint8_t *bytes, size_t bytes_len);
+
+/* Two hashes under the key h joined, the second of so many blocks. H is raised to that by squaring, so that the
+ * largest count takes 64 squarings. */
+struct luossavin_hash luossavin_hash_join(struct luossavin_hash h, struct luossavin_hash first,
+    struct luossavin_hash second, uint64_t second_blocks);
 
 #ifdef __cplusplus
 }

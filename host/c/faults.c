@@ -457,6 +457,7 @@ static void all(int with_limits)
     workers(with_limits);
     shelves(with_limits);
     journals(with_limits);
+    halves();
 }
 
 int main(int argc, char **argv)

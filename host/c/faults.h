@@ -1,5 +1,5 @@
 /* What the files of the program `faults` share: single calls, keys, messages in pieces, which label a file opens
- * under, ranges and plans for several workers, shelves, and journals. */
+ * under, ranges and plans for several workers, shelves, journals, and hashes of halves. */
 #ifndef FAULTS_H
 #define FAULTS_H
 
@@ -50,12 +50,13 @@ void take_back(struct beside b);
 struct buffer message(const struct whole *w, struct beside b);
 
 /* Keys; messages in pieces, which label a file opens under, ranges and plans, shelves, and journals, with or without
- * those at the limits. */
+ * those at the limits; and hashes of halves, which have none. */
 void keys(void);
 void pieces(int with_limits);
 void which(int with_limits);
 void workers(int with_limits);
 void shelves(int with_limits);
 void journals(int with_limits);
+void halves(void);
 
 #endif

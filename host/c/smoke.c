@@ -2,8 +2,9 @@
  * each refusal, what comes first where two things are wrong, and no byte written that is not part of a
  * result; Cbc's padding (smoke_padding.c); the same of keys, retired or not (smoke_keys.c), of messages in pieces
  * (smoke_pieces.c), and of which label a file opens under (smoke_which.c); counters that come round
- * (smoke_round.c); ranges and plans for several workers (smoke_workers.c); shelves (smoke_shelf.c); and replay of
- * recorded calls (smoke_journal.c). Prints what is wrong, and how much was checked; exit status 1 if anything is.
+ * (smoke_round.c); ranges and plans for several workers (smoke_workers.c); shelves (smoke_shelf.c); replay of recorded
+ * calls (smoke_journal.c); and hashes of halves (smoke_halves.c). Prints what is wrong, and how much was checked; exit
+ * status 1 if anything is.
  */
 #include "smoke.h"
 
@@ -322,6 +323,7 @@ int main(void)
     workers();
     shelves();
     journals();
+    halves();
     printf("%u checked, %u wrong\n", checked, wrong);
     return wrong != 0;
 }

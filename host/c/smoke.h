@@ -1,5 +1,6 @@
 /* What the files of the smoke test share: single calls, Cbc's padding, keys, messages in pieces, the question which
- * label a file opens under, counters that come round, ranges and plans for several workers, shelves, and journals. */
+ * label a file opens under, counters that come round, ranges and plans for several workers, shelves, journals, and
+ * hashes of halves. */
 #ifndef SMOKE_H
 #define SMOKE_H
 
@@ -76,5 +77,8 @@ void shelves(void);
 
 /* Replay of recorded calls. */
 void journals(void);
+
+/* Hashes of halves, joined. */
+void halves(void);
 
 #endif

@@ -3,12 +3,15 @@
  *   work archive|once|libgcrypt|OpenSSL MODE encrypt|decrypt SIZE TIMES
  *   work pieces MODE encrypt|decrypt SIZE TIMES PIECE
  *   work range 2 encrypt|decrypt SIZE TIMES OFFSET
+ *   work which 4 decrypt SIZE TIMES LABELS
+ *   work join 4 encrypt SIZE TIMES BLOCKS
  *   work version libgcrypt|OpenSSL
  *
  * Each message has its key set up anew; of `once`, which is the archive too, one set-up serves all of them. MODE is
  * 0 to 4. In pieces of PIECE bytes, by the archive, it is 2, or 4: sealing, or opening without the text. A range of
- * a message, from OFFSET on, is Ctr's alone, and one set-up serves all. Exit status 3 where the library does not have
- * the mode.
+ * a message, from OFFSET on, is Ctr's alone, and one set-up serves all. Of a file which label it opens under is asked with
+ * LABELS of six bytes, up to 64, of which none opens it. A join is of two hashes, the second of BLOCKS blocks, whatever
+ * SIZE is. Exit status 3 where the library does not have the mode.
  */
 #include "calls.h"
 #include "peers.h"
@@ -20,7 +23,8 @@
 static const uint8_t key[16] = {1, 35, 69, 103, 137, 171, 205, 239, 254, 220, 186, 152, 118, 84, 50, 16};
 static const uint8_t iv[16] = {7};
 
-/* What runs, of the words after the first. The last of them is the length of a piece, or where a range starts. */
+/* What runs, of the words after the first. The last of them is the length of a piece, where a range starts, how many
+ * labels are asked about, or how many blocks the second of two hashes is of. */
 struct task {
     int mode, direction, times;
     size_t size, last;
@@ -71,6 +75,27 @@ static int range(const struct task *t, struct field data, uint8_t *out, size_t r
         record, t->direction == DECRYPT, iv, 16, t->last, data.bytes, data.length, out, room).number == 0;
 }
 
+static int which(const struct task *t, struct field data, uint8_t *out, size_t room)
+{
+    static const uint8_t labels[64 * 6] = {1};
+    static const size_t lengths[64] = {[0 ... 63] = 6};
+    struct luossavin_found f = luossavin_which(
+        record, data.bytes, data.length, iv, 16, labels, 6 * t->last, lengths, t->last);
+    (void)out;
+    (void)room;
+    return f.answer.number == 0 && f.found == 0;
+}
+
+static int join(const struct task *t, struct field data, uint8_t *out, size_t room)
+{
+    static struct luossavin_hash y = {0x66e94bd4ef8a2c3b, 0x884cfa59ca342b2e};
+    (void)data;
+    (void)out;
+    (void)room;
+    y = luossavin_hash_join((struct luossavin_hash){1, 2}, y, (struct luossavin_hash){3, 4}, t->last);
+    return 1;
+}
+
 static const struct peer *peer;
 
 static int by_peer(const struct task *t, struct field data, uint8_t *out, size_t room)
@@ -104,6 +129,12 @@ static work *work_of(const char *who)
     }
     if (strcmp(who, "range") == 0) {
         return range;
+    }
+    if (strcmp(who, "which") == 0) {
+        return which;
+    }
+    if (strcmp(who, "join") == 0) {
+        return join;
     }
     peer = peer_named(who);
     return by_peer;
@@ -145,6 +176,9 @@ static int is_task(const char *who, const struct task *t)
     if (strcmp(who, "pieces") == 0) {
         return t->last != 0 && (t->mode == CTR || t->mode == GCM);
     }
+    if (strcmp(who, "which") == 0) {
+        return t->last <= 64 && t->mode == GCM && t->direction == DECRYPT;
+    }
     return strcmp(who, "range") != 0 || t->mode == CTR;
 }
 
@@ -165,8 +199,8 @@ int main(int argc, char **argv)
     }
     if (!is_task(argv[1], &t)) {
         fprintf(stderr, "usage: work archive|once|libgcrypt|OpenSSL MODE encrypt|decrypt SIZE TIMES, or work pieces 2|4 "
-            "encrypt|decrypt SIZE TIMES PIECE, or work range 2 encrypt|decrypt SIZE TIMES OFFSET, or work version "
-            "libgcrypt|OpenSSL\n");
+            "encrypt|decrypt SIZE TIMES PIECE, or work range 2 encrypt|decrypt SIZE TIMES OFFSET, or work which 4 decrypt "
+            "SIZE TIMES LABELS, or work join 4 encrypt SIZE TIMES BLOCKS, or work version libgcrypt|OpenSSL\n");
         return 64;
     }
     return run(work_of(argv[1]), &t);

@@ -1,51 +1,16 @@
 #include "wrap.h"
 
+#include "hash_model.h"
 #include "rules.h"
 
 #include <stdio.h>
 #include <stdlib.h>
 #include <string.h>
 
-typedef unsigned __int128 element;
-
-static element from_bytes(const uint8_t *bytes)
-{
-    element e = 0;
-    for (int i = 0; i < 16; i++) {
-        e = e << 8 | bytes[i];
-    }
-    return e;
-}
-
-static void to_bytes(element e, uint8_t *bytes)
-{
-    for (int i = 15; i >= 0; i--) {
-        bytes[i] = (uint8_t)e;
-        e >>= 8;
-    }
-}
-
-/* The product modulo x^128 + x^7 + x^2 + x + 1; the top bit is the coefficient of x^0. */
-static element product(element a, element b)
-{
-    element sum = 0;
-    for (int place = 0; place < 128; place++) {
-        int falls_out = (int)(b & 1);
-        if ((a << place) >> 127) {
-            sum ^= b;
-        }
-        b >>= 1;
-        if (falls_out) {
-            b ^= (element)0xe1 << 120;
-        }
-    }
-    return sum;
-}
-
 /* a^(2^128 - 2), which is 1 / a for every a but 0. */
 static element inverse(element a)
 {
-    element square = a, out = (element)1 << 127;
+    element square = a, out = ONE;
     for (int i = 1; i < 128; i++) {
         square = product(square, square);
         out = product(out, square);
@@ -69,7 +34,7 @@ static element hash_key(struct luossavin_key key)
     const uint8_t zeros[16] = {0};
     uint8_t h[16];
     luossavin_block_encrypt(holding(key, (struct holder){0, 1, 0}), zeros, 16, h, 16);
-    return from_bytes(h);
+    return element_of(h);
 }
 
 /* J0 of a 16-byte IV: (IV x H + 128) x H, where 128 is the length block. */
@@ -86,13 +51,13 @@ void iv_near_ctr_wrap(uint8_t iv[16], uint32_t before)
 
 void iv_for_j0(struct luossavin_key key, uint8_t iv[16])
 {
-    element j0 = from_bytes(iv), h = hash_key(key), back = inverse(h);
+    element j0 = element_of(iv), h = hash_key(key), back = inverse(h);
     element found = product(product(j0, back) ^ 128, back);
     if (j0_of(found, h) != j0) {
         fprintf(stderr, "no IV for a wanted J0\n");
         exit(2);
     }
-    to_bytes(found, iv);
+    put_element(found, iv);
 }
 
 void iv_near_gcm_wrap(struct luossavin_key key, uint8_t iv[16], uint32_t before)
@@ -111,6 +76,6 @@ void count_from(uint32_t mode, struct luossavin_key key, const uint8_t *iv, size
     if (iv_len == 12) {
         from[15] = 1;
     } else if (mode == GCM) {
-        to_bytes(j0_of(from_bytes(iv), hash_key(key)), from);
+        put_element(j0_of(element_of(iv), hash_key(key)), from);
     }
 }

@@ -7,7 +7,7 @@ use mathlib.Core.List.{List, [], _∷_}
 use Prim.Native.Nat.{ℕ, _+_, _-_, _/_, _%_, _^_, _≤_}
 use native.Mathlib.Omega.{arith}
 use lib.Dec.{eqb, ltb}
-use lib.ListN.{length, length-append}
+use lib.ListN.{length}
 use lib.Seq.{drop-at, length-take-le}
 use borrow.Author.Tests.{eq-eqb, ne-eqb, eqb-true, eqb-false, lt-leb}
 use Rattle.block.specs.Below.{AreBytes}
@@ -15,7 +15,7 @@ use Rattle.block.specs.BigEndian.{numberOf}
 use Rattle.block.specs.Same.{same}
 use Rattle.block.specs.Xor.{xors}
 use Rattle.block.proofs.Entries.{below-append}
-use Rattle.block.proofs.Convert.{length-bytesOf, bytesOf-bytes}
+use Rattle.block.proofs.Convert.{bytesOf-bytes}
 use Rattle.counter.specs.Counter.{lastFour}
 use Rattle.counter.specs.CameRound.{blocksOf, ctrCameRound, gcmCameRound}
 use Rattle.walk.specs.Outcome.{Head, Outcome, finished, refusal, under, telling, reporting, refuse}
@@ -59,6 +59,7 @@ use Rattle.luossavin.specs.Host.{modeIn, hostBlockCall, hostModeCall}
 use Rattle.demands.specs.Call.{inGcm}
 use Rattle.demands.specs.CameRound.{roundOf, Says}
 use Rattle.demands.proofs.Through.{through}
+use Rattle.demands.proofs.TwelveBytes.{length-counter}
 
 -- what says nothing of a counter says no
 pub quiet : (h : Head) → h .cameRound ≡ 0 → Says false h
@@ -208,14 +209,11 @@ opens-end-says s tag =
     let test = same tag (xors (s .mask) (hashEnd (s .hashing) (s .total % 16) (s .label) (s .total))) in
     step-says Opens b _ (tagged (s .stands) (s .label) (s .total) (length tag)) [] s _ (opened-says test b)
 
-j0-by : (rk iv : List ℕ) (t : Bool) → eqb (length iv) 12 ≡ t → AreBytes iv → (length (J0 rk iv) ≡ 16) × AreBytes (J0 rk iv)
+j0-by : (rk iv : List ℕ) (t : Bool) → eqb (length iv) 12 ≡ t → AreBytes iv → AreBytes (J0 rk iv)
 unfolding firstCounter
 j0-by rk iv true e a =
-    rw e (
-      length-append iv (0 ∷ 0 ∷ 0 ∷ 1 ∷ []) ∙ ap (λ (n : ℕ). n + 4) (eqb-true (length iv) 12 e),
-      below-append 256 iv (0 ∷ 0 ∷ 0 ∷ 1 ∷ []) a (omega arith, (omega arith, (omega arith, (omega arith, tt)))),
-    )
-j0-by rk iv false e a = rw e (length-bytesOf 16 _, bytesOf-bytes 16 _)
+    rw e (below-append 256 iv (0 ∷ 0 ∷ 0 ∷ 1 ∷ []) a (omega arith, (omega arith, (omega arith, (omega arith, tt)))))
+j0-by rk iv false e a = rw e (bytesOf-bytes 16 _)
 
 -- The formula is what the walk's own steps say: in Ctr those between the blocks, and not the one after the last;
 pub ctr-steps-say : (dir : Direction) (rk iv d : List ℕ) → length iv ≡ 16 → AreBytes iv
@@ -224,7 +222,8 @@ ctr-steps-say dir rk iv d n a = ctr-walk-says rk iv d n a
 
 -- in Gcm the one from J0 to the first block too, over the text alone.
 pub seal-steps-say : (rk iv d : List ℕ) → AreBytes iv → gcmWalkSays rk (J0 rk iv) d ≡ roundOf Gcm Encrypt rk iv (length d)
-seal-steps-say rk iv d a = let j = j0-by rk iv (eqb (length iv) 12) refl a in gcm-walk-says rk (J0 rk iv) d (j .0) (j .1)
+seal-steps-say rk iv d a =
+    gcm-walk-says rk (J0 rk iv) d (length-counter (hashKey rk) iv) (j0-by rk iv (eqb (length iv) 12) refl a)
 
 pub open-steps-say : (rk iv s : List ℕ) → AreBytes iv → gcmWalkSays rk (J0 rk iv) (textPart s) ≡ roundOf Gcm Decrypt rk iv (length s)
 open-steps-say rk iv s a =

@@ -4,7 +4,7 @@ use mathlib.Core.Path.{_≡_, refl, sym, ap, _∙_}
 use mathlib.Core.Logic.{_≢_, inl}
 use mathlib.Core.Bool.{Bool, true, false, cond}
 use mathlib.Core.List.{List, [], _∷_, _++_}
-use Prim.Native.Nat.{ℕ, _+_, _-_, _≤_}
+use Prim.Native.Nat.{ℕ, _+_, _-_, _^_, _≤_}
 use native.Mathlib.Nat.{le-of-eq}
 use native.Mathlib.Omega.{arith}
 use lib.Dec.{lit<}
@@ -13,6 +13,9 @@ use borrow.Author.Tests.{le-ltb}
 use Rattle.block.proofs.Entries.{below-replicate}
 use Rattle.block.specs.BigEndian.{numberOf, bytesOf}
 use Rattle.cipher.specs.Sm4.{roundKeys}
+use Rattle.field.specs.Field.{timesX, mulFrom, gmul, one, gpow}
+use Rattle.ghash.specs.Ghash.{blockOf, blocksFrom, blocks, hashFrom}
+use Rattle.ghash.specs.Joined.{joined}
 use Rattle.counter.specs.Counter.{ctrNext}
 use Rattle.counter.proofs.Edges.{ctr-one-block, ctr-two-blocks}
 use Rattle.walk.specs.Walk.{walk, chain, over}
@@ -44,6 +47,8 @@ use Rattle.label.specs.Label.{labelOf}
 use Rattle.shelf.specs.Records.{Record, written, stored, marked, startsRecord, sizeAt, front, readUpTo, records}
 use Rattle.shelf.specs.Shelf.{those, hasCurrent, twoCurrent, notHigher, supersede, withNew, fitted, badShelf}
 use Rattle.shelf.specs.Calls.{Outcome as Shelf·Outcome, putCall}
+use Rattle.luossavin.specs.declared.halves.LuossavinHash.{LuossavinHash}
+use Rattle.luossavin.specs.Halves.{hostHashBlocks, hostHashJoin}
 use Rattle.demands.specs.Call.{Call, result, inGcm}
 use Rattle.demands.specs.CameRound.{roundOf, Says}
 use Rattle.demands.specs.Answered.{singleNumbers, Answered, KeyAnswered, lengthOf}
@@ -52,7 +57,8 @@ use Rattle.demands.specs.ThereAndBack.{ThereAndBack}
 use Rattle.demands.specs.OneBlockRefused.{OneBlockRefused}
 use Rattle.demands.specs.Imposters.{zeros, zeroKey, ones, refusesAll, constant, copies, firstBlockOnly, inventsLength, countsEveryStep, saysItRefused}
 use Rattle.demands.specs.Imposters.{forgetsNumber, takesAnyNumber, copiesAnew, throwsAway, countsFromOne, fileFirst, fromTheBlock, planFirst}
-use Rattle.demands.specs.Imposters.{againstCurrent, marksFirst, twoEditions}
+use Rattle.demands.specs.Imposters.{againstCurrent, marksFirst, countsBytes, twoEditions}
+use Rattle.demands.specs.Halves.{IsValue, WholeBlocks, hashOfHalves}
 use Rattle.demands.specs.Retired.{StaysRetired, DecryptsAlike}
 use Rattle.demands.specs.Which.{Tells}
 use Rattle.demands.proofs.Through.{through, leaves}
@@ -346,4 +352,44 @@ byte-marked = rw two-read
 pub marks-first-contradicts : marksFirst twoEditions 24 0 2 [] ≢ putCall twoEditions 24 0 2 []
 marks-first-contradicts e =
     let z : _≡_ {A = ℕ} 0x58 0x44 = sym byte-marked ∙ ap (λ (x : Shelf·Outcome). getD (x .bytes) 13 0) e ∙ byte-kept in
+    absurd (omega arith)
+
+-- Counting bytes is told under H = x by a first half of the one, which hashes to x, and two zero bytes behind it: that is x^2, and the
+-- imposter gives x^3.
+abbrev x : LuossavinHash
+x = record { high = 2 ^ 62; low = 0 }
+
+abbrev oneBlock : List ℕ
+oneBlock = 0x80 ∷ replicate 15 0
+
+two-blocks : hostHashBlocks x (oneBlock ++ (0 ∷ 0 ∷ [])) .high ≡ 2 ^ 61
+unfolding hostHashBlocks hashFrom blocks blocksFrom blockOf numberOf gmul mulFrom timesX
+two-blocks = refl
+
+three-factors : countsBytes x oneBlock (0 ∷ 0 ∷ []) .high ≡ 2 ^ 60
+unfolding hostHashBlocks hostHashJoin joined hashFrom blocks blocksFrom blockOf numberOf gmul mulFrom timesX gpow one
+three-factors = refl
+
+pub counting-bytes-contradicts :
+    ¬ ((h : LuossavinHash) → IsValue h → (a b : List ℕ) → WholeBlocks a → countsBytes h a b ≡ hostHashBlocks h (a ++ b))
+counting-bytes-contradicts claim =
+    let same = claim x (record { high = lit< tt; low = lit< tt }) oneBlock (0 ∷ 0 ∷ []) refl in
+    let z : _≡_ {A = ℕ} (2 ^ 60) (2 ^ 61) = sym three-factors ∙ ap (λ (r : LuossavinHash). r .high) same ∙ two-blocks in
+    absurd (omega arith)
+
+-- A first half that ends inside a block does not join: under H = x two halves of one byte 80 are two blocks, x^2 + x, and both together are
+-- one block, x + x^9.
+cut-joined : hashOfHalves hostHashBlocks hostHashJoin x (0x80 ∷ []) (0x80 ∷ []) .high ≡ 2 ^ 62 + 2 ^ 61
+unfolding hostHashBlocks hostHashJoin joined hashFrom blocks blocksFrom blockOf numberOf gmul mulFrom timesX gpow one
+cut-joined = refl
+
+uncut : hostHashBlocks x (0x80 ∷ 0x80 ∷ []) .high ≡ 2 ^ 62 + 2 ^ 54
+unfolding hostHashBlocks hashFrom blocks blocksFrom blockOf numberOf gmul mulFrom timesX
+uncut = refl
+
+pub cut-inside-a-block-contradicts :
+    ¬ ((h : LuossavinHash) → IsValue h → (a b : List ℕ) → hashOfHalves hostHashBlocks hostHashJoin h a b ≡ hostHashBlocks h (a ++ b))
+cut-inside-a-block-contradicts claim =
+    let same = claim x (record { high = lit< tt; low = lit< tt }) (0x80 ∷ []) (0x80 ∷ []) in
+    let z : _≡_ {A = ℕ} (2 ^ 62 + 2 ^ 61) (2 ^ 62 + 2 ^ 54) = sym cut-joined ∙ ap (λ (r : LuossavinHash). r .high) same ∙ uncut in
     absurd (omega arith)

@@ -29,6 +29,7 @@ pub mod WorkersAnswer
 pub mod ByShares
 pub mod OnTheShelf
 pub mod InTheJournal
+pub mod Halves
 pub mod TrailingZero
 -- the worked table and the imposters
 pub mod Worked

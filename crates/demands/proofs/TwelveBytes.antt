@@ -1,14 +1,18 @@
--- A 12-byte IV in Gcm: its counters are SP 800-38D's.
+-- A 12-byte IV in Gcm: its counters are SP 800-38D's. J0 has sixteen bytes, whatever the IV has.
 -- Assumes nothing.
-use mathlib.Core.Path.{_≡_, ap, ap₂, _∙_}
+use mathlib.Core.Path.{_≡_, refl, ap, ap₂, _∙_}
+use mathlib.Core.Bool.{Bool, true, false, cond}
 use mathlib.Core.List.{List, [], _∷_, _++_}
 use Prim.Native.Nat.{ℕ, _+_, _%_, _^_}
-use lib.ListN.{length}
+use lib.Dec.{eqb}
+use lib.ListN.{length, length-append}
 use lib.Seq.{take-at, drop-at}
-use borrow.Author.Tests.{eq-eqb}
+use borrow.Author.Tests.{eq-eqb, eqb-true}
 use Rattle.block.specs.BigEndian.{numberOf, bytesOf}
+use Rattle.block.proofs.Convert.{length-bytesOf}
 use Rattle.counter.specs.Counter.{gcmNext}
-use Rattle.gcm.specs.Gcm.{hashKey, firstCounter, J0, textOf, tagOf, sealed}
+use Rattle.ghash.specs.Ghash.{ghash}
+use Rattle.gcm.specs.Gcm.{hashKey, nonceCounter, hashedCounter, firstCounter, J0, textOf, tagOf, sealed}
 use Rattle.cipher_mode.specs.declared.Direction.the-variants.{Encrypt}
 use Rattle.cipher_mode.specs.declared.Sm4Cipher.{Sm4Cipher}
 use Rattle.cipher_mode.specs.Tables.{modeOf}
@@ -19,6 +23,15 @@ use Rattle.luossavin.specs.Host.{hostModeCall}
 use Rattle.demands.specs.Call.{inGcm, result}
 use Rattle.demands.specs.TwelveBytes.{followedBy, textFromTwo, CountsFromTwo}
 use Rattle.demands.proofs.Through.{result-of-done, through, leaves}
+
+-- either form of J0 has sixteen bytes
+pub length-counter : (h : ℕ) (iv : List ℕ) → length (firstCounter h iv) ≡ 16
+unfolding firstCounter
+length-counter h iv = by (eqb (length iv) 12) refl
+  where
+    by : (t : Bool) → eqb (length iv) 12 ≡ t → length (cond t (nonceCounter iv) (hashedCounter h iv)) ≡ 16
+    by true e = length-append iv (0 ∷ 0 ∷ 0 ∷ 1 ∷ []) ∙ ap (λ (n : ℕ). n + 4) (eqb-true (length iv) 12 e)
+    by false e = length-bytesOf 16 (ghash h (numberOf iv ∷ 128 ∷ []))
 
 first-counter : (rk iv : List ℕ) → length iv ≡ 12 → J0 rk iv ≡ followedBy 1 iv
 unfolding firstCounter

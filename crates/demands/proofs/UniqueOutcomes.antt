@@ -29,8 +29,10 @@ use Rattle.luossavin.specs.declared.LuossavinAnswer.{LuossavinAnswer}
 use Rattle.luossavin.specs.declared.in_pieces.LuossavinCtrStep.{LuossavinCtrStep}
 use Rattle.luossavin.specs.declared.in_pieces.LuossavinOpensStep.{LuossavinOpensStep}
 use Rattle.luossavin.specs.declared.in_pieces.LuossavinSealStep.{LuossavinSealStep}
+use Rattle.luossavin.specs.declared.halves.LuossavinHash.{LuossavinHash}
 use Rattle.luossavin.specs.declared.key.LuossavinKey.{LuossavinKey}
 use Rattle.luossavin.specs.Key.{hostKeyNew, hostKeyRetire}
+use Rattle.luossavin.specs.Halves.{hostHashBlocks, hostHashJoin}
 use Rattle.luossavin.specs.Host.{headIn, reported, hostBlockCall, hostModeCall}
 use Rattle.luossavin.specs.declared.which.LuossavinFound.{LuossavinFound}
 use Rattle.luossavin.specs.Which.{Told, foundReported}
@@ -131,6 +133,14 @@ unique-exported-new key n r₁ r₂ e₁ e₂ = e₁ ∙ sym e₂
 
 pub unique-exported-retired : (k r₁ r₂ : LuossavinKey) → r₁ ≡ hostKeyRetire k → r₂ ≡ hostKeyRetire k → r₁ ≡ r₂
 unique-exported-retired k r₁ r₂ e₁ e₂ = e₁ ∙ sym e₂
+
+-- Any two values that hashing blocks, or joining two hashes, may give a host are the same.
+pub unique-exported-hash : (h r₁ r₂ : LuossavinHash) (bytes : List ℕ) → r₁ ≡ hostHashBlocks h bytes → r₂ ≡ hostHashBlocks h bytes → r₁ ≡ r₂
+unique-exported-hash h r₁ r₂ bytes e₁ e₂ = e₁ ∙ sym e₂
+
+pub unique-exported-join : (h first second r₁ r₂ : LuossavinHash) (n : ℕ)
+    → r₁ ≡ hostHashJoin h first second n → r₂ ≡ hostHashJoin h first second n → r₁ ≡ r₂
+unique-exported-join h first second r₁ r₂ n e₁ e₂ = e₁ ∙ sym e₂
 
 -- A call on one block, either way, has one outcome.
 pub unique-block : (dir : Direction) (c : Sm4Cipher) (b o : List ℕ) → OneOutcome (blockCall dir c b o)

@@ -1,5 +1,5 @@
--- Calls that look like encryption, decryption, setting up a key, retiring one, asking for a file's label, a range, work by a plan or
--- putting on a shelf to a careless test, and are not.
+-- Calls that look like encryption, decryption, setting up a key, retiring one, asking for a file's label, a range, work by a plan, putting
+-- on a shelf or joining two hashes to a careless test, and are not.
 use mathlib.Core.Bool.{true, false, not}
 use mathlib.Core.List.{List, [], _∷_, _++_}
 use Prim.Native.Nat.{ℕ, _+_, _*_, _/_}
@@ -28,6 +28,8 @@ use Rattle.ranges.specs.ByPlan.{planCall}
 use Rattle.shelf.specs.Records.{stored, records}
 use Rattle.shelf.specs.Shelf.{currentOf, notHigher, supersede, fitted, badShelf}
 use Rattle.shelf.specs.Calls.{Outcome as Shelf·Outcome, refuse as shelfRefuse, holding, putIn}
+use Rattle.luossavin.specs.declared.halves.LuossavinHash.{LuossavinHash}
+use Rattle.luossavin.specs.Halves.{hostHashBlocks, hostHashJoin}
 use Rattle.demands.specs.Call.{Call, result}
 
 -- refuses everything
@@ -119,6 +121,10 @@ againstCurrent shelf used job edition sealed =
 abbrev pub marksFirst : List ℕ → ℕ → ℕ → ℕ → List ℕ → Shelf·Outcome
 marksFirst shelf used job edition sealed =
     holding (fitted (length shelf) (putIn shelf used job edition sealed)) (over (stored (supersede job (records (take used shelf)))) shelf)
+
+-- joins two halves, and counts the second's bytes
+abbrev pub countsBytes : LuossavinHash → List ℕ → List ℕ → LuossavinHash
+countsBytes h a b = hostHashJoin h (hostHashBlocks h a) (hostHashBlocks h b) (length b)
 
 -- two records without sealed bytes: of job 0 the edition 1, superseded, and then the edition 0, current
 abbrev pub twoEditions : List ℕ

@@ -20,6 +20,7 @@ pub mod Which
 pub mod Workers
 pub mod OnTheShelf
 pub mod InTheJournal
+pub mod Halves
 pub mod TrailingZero
 -- the worked table and the imposters
 pub mod Worked

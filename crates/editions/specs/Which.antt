@@ -5,7 +5,8 @@ use mathlib.Core.List.{List, [], _∷_}
 use lib.Dec.{ltb}
 use lib.ListN.{length, take, drop}
 use Rattle.walk.specs.Outcome.{Head, finished, refusal, under}
-use Rattle.gcm.specs.Gcm.{hashKey, J0, opensUnder}
+use Rattle.block.specs.Same.{same}
+use Rattle.gcm.specs.Gcm.{hashKey, J0, maskedTag, textPart, tagPart, opensUnder}
 use Rattle.cipher_mode.specs.declared.KeyAnswer.{KeyAnswer}
 use Rattle.cipher_mode.specs.declared.CipherMode.the-variants.{Gcm}
 use Rattle.cipher_mode.specs.declared.Direction.the-variants.{Decrypt}
@@ -63,6 +64,10 @@ checkedVerdict (Refused r) next = noneWith (refusalHead r)
 -- the test: whether the file opens under a label, by round keys, H and J0
 abbrev pub opensFile : List ℕ → ℕ → List ℕ → List ℕ → List ℕ → Bool
 opensFile rk h j file label = opensUnder rk h j label file
+
+-- the same by the cipher of J0
+abbrev pub opensMasked : List ℕ → ℕ → List ℕ → List ℕ → Bool
+opensMasked mask h file label = same (tagPart file) (maskedTag mask h label (textPart file))
 
 -- and by a key's record and an IV
 abbrev pub opensWith : Sm4Cipher → List ℕ → List ℕ → List ℕ → Bool

@@ -5,11 +5,12 @@ ghost use lib.Dec.{eqb};
 ghost use lib.ListN.{length};
 ghost use Rattle.block.specs.Wide.{value};
 ghost use Rattle.block.specs.Words.{unwords};
-ghost use Rattle.cipher.specs.Engine.{Engine};
-ghost use Rattle.gcm.specs.Gcm.{hashKey, J0};
+ghost use Rattle.ghash.specs.Ghash.{blocks};
+ghost use Rattle.ghash.specs.Joined.{HalfOf};
+ghost use Rattle.gcm.specs.Gcm.{hashKey, J0, textPart};
 ghost use Rattle.cipher_mode.specs.Checks.{wrongIv, dataCheck};
 ghost use Rattle.editions.specs.Candidates.{sum, badList, anyTooLong};
-ghost use Rattle.editions.specs.Which.{onKey, firstOpening, searchCheck, opensFile, which, partOf, isFound, verdictOf};
+ghost use Rattle.editions.specs.Which.{onKey, firstOpening, searchCheck, opensFile, opensMasked, which, partOf, isFound, verdictOf};
 use block::U128;
 use cipher_mode::CipherMode;
 use cipher_mode::Direction;
@@ -18,6 +19,7 @@ use cipher_mode::Sm4Cipher;
 use cipher_mode::answer::Refusal;
 use cipher_mode::checks::Checked;
 use cipher_mode::checks::LIMIT;
+use ghash::halves::Half;
 
 // The most candidates of one question.
 const MOST: usize = 64;
@@ -113,29 +115,28 @@ fn check(answer: KeyAnswer, mark: bool, iv: usize, file: usize, lengths: &[usize
     cipher_mode::checks::data(Direction::Decrypt, CipherMode::Gcm, file)
 }
 
-// The first candidate that opens the file. Each one hashes the whole text again, until W12 joins a label's hash to the text's.
+// The first candidate that opens the file: each one's hash is joined to what is kept of the text.
 fn search(
-    t: &[u32],
-    rk: [u32; 32],
+    mask: [u32; 4],
     h: U128,
-    j0: [u32; 4],
+    half: Half,
     key: u16,
     file: &[u8],
     labels: &[u8],
     lengths: &[usize],
 ) -> Found
-    requires { ⌜ Engine (now t) ⌝ }
+    requires { ⌜ HalfOf (value h) (blocks (textPart (now file))) half ⌝ }
     requires { ⌜ dataCheck Direction.Decrypt CipherMode.Gcm (length (now file)) ≡ Checked.Passed ⌝ }
     requires { ⌜ sum (now lengths) ≡ length (now labels) ⌝ }
     requires { ⌜ anyTooLong (now lengths) ≡ false ⌝ }
-    ensures { λ r. ⌜ verdictOf r ≡ onKey key (firstOpening (opensFile rk (value h) (unwords j0) (now (file .entry))) (now (labels .entry)) (now (lengths .entry)) 0 0) ⌝ }
+    ensures { λ r. ⌜ verdictOf r ≡ onKey key (firstOpening (opensMasked (unwords mask) (value h) (now (file .entry))) (now (labels .entry)) (now (lengths .entry)) 0 0) ⌝ }
 {
     let mut start = 0;
     let mut i = 0;
     while i < lengths.len() {
         let length = lengths[i];
         let end = start + length;
-        if gcm::opens(t, rk, h, j0, &labels[start..end], file) {
+        if gcm::opens_after(mask, h, half, &labels[start..end], file) {
             return Found {
                 ended: Ended::Candidate,
                 key,
@@ -150,7 +151,7 @@ fn search(
     without(key, Ended::None)
 }
 
-// The search under a key's round keys: H and J0 are made once.
+// The search under a key's round keys: H and the cipher of J0 are made once, and the text is hashed once, unless nobody asks.
 fn under_key(
     rk: [u32; 32],
     key: u16,
@@ -165,10 +166,14 @@ fn under_key(
     requires { ⌜ anyTooLong (now lengths) ≡ false ⌝ }
     ensures { λ r. ⌜ verdictOf r ≡ onKey key (firstOpening (opensFile rk (hashKey rk) (J0 rk (now (iv .entry))) (now (file .entry))) (now (labels .entry)) (now (lengths .entry)) 0 0) ⌝ }
 {
+    if lengths.len() == 0 {
+        return without(key, Ended::None);
+    }
     let t = cipher::plain();
     let h = gcm::hash_key(&t, rk);
-    let j0 = gcm::first_counter(h, iv);
-    search(&t, rk, h, j0, key, file, labels, lengths)
+    let mask = cipher::encrypt(&t, rk, gcm::first_counter(h, iv));
+    let half = Half::of(h, gcm::text_part(file));
+    search(mask, h, half, key, file, labels, lengths)
 }
 
 // The first of the candidates that the sealed file opens under, with a key's record, retired or not. The candidates are lent one

@@ -1,6 +1,6 @@
 -- The code is the definitions: H, J0, the tag, and a sealed message written in two parts.
 -- Assumes nothing.
-use mathlib.Core.Path.{_≡_, refl, sym, ap, ap₂, _∙_}
+use mathlib.Core.Path.{_≡_, refl, sym, ap, _∙_}
 use mathlib.Core.List.{List, [], _∷_, _++_}
 use Prim.Native.Nat.{ℕ}
 use lib.Dec.{lit<}
@@ -20,7 +20,7 @@ use Rattle.walk.proofs.Loop.{tailed, returned, over-behind}
 use Rattle.stream.specs.Stream.{streamMode}
 use Rattle.stream.specs.declared.Kind.the-variants.{Gctr}
 use Rattle.counter.specs.Counter.{gcmNext}
-use Rattle.gcm.specs.Gcm.{hashKey, nonceCounter, hashedCounter, textOf, tagOf}
+use Rattle.gcm.specs.Gcm.{hashKey, nonceCounter, hashedCounter, textOf, maskedTag, tagOf}
 
 pub hash-key-words : (rk x : List ℕ) (n : ℕ) → x ≡ encryptWords rk (0 ∷ 0 ∷ 0 ∷ 0 ∷ []) → n ≡ numberOf (unwords x) → n ≡ hashKey rk
 unfolding hashKey unwords bytesOf
@@ -37,14 +37,19 @@ pub hashed-counter-words : (h n : ℕ) (iv r : List ℕ) → length iv ≡ 16 �
     → unwords r ≡ hashedCounter h iv
 hashed-counter-words h n iv r l e f = unwords-number r n f ∙ ap (bytesOf 16) (e ∙ ap (ghash h) (iv-blocks iv l))
 
+-- s has the words of the hash, and r those of the mask xored with them
+pub masked-words : (mask label text s r : List ℕ) (h n : ℕ) → length mask ≡ 4 → n ≡ ghash h (authBlocks label text)
+    → s ≡ words (bytesOf 16 n) → r ≡ xors mask s → unwords r ≡ maskedTag (unwords mask) h label text
+masked-words mask label text s r h n l en es er =
+    ap unwords er ∙ unwords-xors mask s l (ap length es ∙ length-words (bytesOf 16 n))
+    ∙ ap (xors (unwords mask)) (unwords-number s n es ∙ ap (bytesOf 16) en)
+
 pub tag-words : (rk j label text e s r : List ℕ) (h n : ℕ) → length j ≡ 4 → AreWords j → e ≡ encryptWords rk j
     → n ≡ ghash h (authBlocks label text) → s ≡ words (bytesOf 16 n) → r ≡ xors e s → unwords r ≡ tagOf rk h (unwords j) label text
 unfolding tagOf
 tag-words rk j label text e s r h n l b ee en es er =
-    let le : length e ≡ 4 = ap length ee ∙ encrypt-four rk j in
-    let ls : length s ≡ 4 = ap length es ∙ length-words (bytesOf 16 n) in
-    ap unwords er ∙ unwords-xors e s le ls
-    ∙ ap₂ xors (ap unwords ee ∙ encrypt-unwords rk j l b) (unwords-number s n es ∙ ap (bytesOf 16) en)
+    masked-words e label text s r h n (ap length ee ∙ encrypt-four rk j) en es er
+    ∙ ap (λ (mask : List ℕ). maskedTag mask h label text) (ap unwords ee ∙ encrypt-unwords rk j l b)
 
 -- the text at the front of the output, then the tag behind it
 pub sealed-written : (text tag o o₁ t : List ℕ) (n : ℕ) → length text ≡ n → length tag ≡ 16 → o₁ ≡ over text o

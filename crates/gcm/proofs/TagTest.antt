@@ -14,7 +14,7 @@ use Rattle.block.specs.Xor.{_⊕_, xors}
 use Rattle.block.proofs.Entries.{below-drop}
 use Rattle.block.proofs.Xor.{xor-same}
 use Rattle.block.proofs.WordsBack.{four-entries, xors-four, words-unwords, unwords-words, length-words, words-below}
-use Rattle.gcm.specs.Gcm.{tagOf, textPart, tagPart, opensUnder}
+use Rattle.gcm.specs.Gcm.{tagPart}
 use Rattle.block.specs.Same.{same}
 use Rattle.block.proofs.Same.{same-refl, same-equal, test-iff}
 
@@ -61,16 +61,14 @@ module _ (a b : List ℕ) (na : length a ≡ 4) (nb : length b ≡ 4) where
       let ab = back (same-equal (unwords a) (unwords b) e) in
       eq-eqb (anyBit (xors a b)) 0 (ap (λ (l : List ℕ). anyBit (xors a l)) (sym ab) ∙ none a na))
 
--- as `opens` has it: f the words of the message's tag part, e those of the recomputed tag, d the xor of the two
-pub opens-words : (rk j label s f e d p q : List ℕ) (h : ℕ) → 16 ≤ length s → AreBytes s → p ≡ tagPart s → f ≡ words p
-    → length e ≡ 4 → AreWords e → q ≡ textPart s → unwords e ≡ tagOf rk h j label q → d ≡ xors f e
-    → eqb (anyBit d) 0 ≡ opensUnder rk h j label s
-unfolding opensUnder
-opens-words rk j label s f e d p q h n b ep ef le we eq ee ed =
+-- as `has_tag` has it: f the words of the message's tag part, e those of the expected tag, d the xor of the two
+pub has-tag-words : (s f e d p : List ℕ) → 16 ≤ length s → AreBytes s → p ≡ tagPart s → f ≡ words p → length e ≡ 4 → AreWords e
+    → d ≡ xors f e → eqb (anyBit d) 0 ≡ same (tagPart s) (unwords e)
+has-tag-words s f e d p n b ep ef le we ed =
     let bt : AreBytes (tagPart s) = below-drop 256 (length s - 16) s b in
     let lt : length (tagPart s) ≡ 16 = length-drop (length s - 16) s ∙ omega arith in
     let g : f ≡ words (tagPart s) = ef ∙ ap words ep in
     let lf : length f ≡ 4 = ap length g ∙ length-words (tagPart s) in
     let wf : AreWords f = rw g (words-below (tagPart s) bt) in
     ap (λ (l : List ℕ). eqb (anyBit l) 0) ed ∙ tag-test f e lf le wf we
-    ∙ ap₂ same (ap unwords g ∙ unwords-words (tagPart s) lt bt) (ee ∙ ap (tagOf rk h j label) eq)
+    ∙ ap (λ (l : List ℕ). same l (unwords e)) (ap unwords g ∙ unwords-words (tagPart s) lt bt)

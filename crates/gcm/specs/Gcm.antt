@@ -38,9 +38,13 @@ J0 rk iv = firstCounter (hashKey rk) iv
 unfoldable pub textOf : List ℕ → List ℕ → List ℕ → List ℕ
 textOf rk j d = chain (streamMode Gctr rk) (gcmNext j) d
 
--- the tag of a label and a ciphertext: the cipher of J0, xored with the hash
+-- the hash of a label and a ciphertext under a mask
+abbrev pub maskedTag : List ℕ → ℕ → List ℕ → List ℕ → List ℕ
+maskedTag mask h label text = xors mask (bytesOf 16 (ghash h (authBlocks label text)))
+
+-- their tag: the mask is the cipher of J0
 unfoldable pub tagOf : List ℕ → ℕ → List ℕ → List ℕ → List ℕ → List ℕ
-tagOf rk h j label text = xors (encryptBlock rk j) (bytesOf 16 (ghash h (authBlocks label text)))
+tagOf rk h j label text = maskedTag (encryptBlock rk j) h label text
 
 -- the sealed message: ciphertext, then tag
 unfoldable pub sealed : List ℕ → ℕ → List ℕ → List ℕ → List ℕ → List ℕ

@@ -3,15 +3,19 @@ ghost use mathlib.Core.Path.{_≡_};
 ghost use mathlib.Core.Logic.{_⊎_};
 ghost use Prim.Native.Nat.{_+_, _-_, _≤_};
 ghost use lib.ListN.{length};
+ghost use Rattle.block.specs.Same.{same};
 ghost use Rattle.block.specs.Wide.{value};
 ghost use Rattle.block.specs.Words.{unwords};
 ghost use Rattle.cipher.specs.Engine.{Engine};
-ghost use Rattle.ghash.specs.Ghash.{Hashable};
+ghost use Rattle.ghash.specs.Ghash.{Hashable, blocks};
+ghost use Rattle.ghash.specs.Joined.{HalfOf};
 ghost use Rattle.walk.specs.Outcome.{leaving};
 ghost use Rattle.walk.specs.Walk.{over};
-ghost use Rattle.gcm.specs.Gcm.{hashKey, nonceCounter, hashedCounter, firstCounter, tagOf, sealed, textPart, tagPart, opensUnder};
+ghost use Rattle.gcm.specs.Gcm.{hashKey, nonceCounter, hashedCounter, firstCounter, maskedTag, tagOf, sealed, textPart, tagPart, opensUnder};
 ghost use Rattle.gcm.specs.Open.{headOf, gcmOpen};
 use block::U128;
+use ghash::halves;
+use ghash::halves::Half;
 use stream::Kind;
 
 // What opening answers: done, with the length of the text, or the tag is not the message's.
@@ -109,16 +113,34 @@ pub fn tag_part(data: &[u8]) -> &[u8]
     &data[n..]
 }
 
-// Whether a sealed message opens under a label. All sixteen bytes of the tag are looked at, whatever the first ones are.
+// Whether a sealed message has this tag. All sixteen bytes are looked at, whatever the first ones are.
+fn has_tag(data: &[u8], expected: [u32; 4]) -> bool
+    requires { ⌜ 16 ≤ length (now «data») ⌝ }
+    ensures { λ r. ⌜ r ≡ same (tagPart (now («data» .entry))) (unwords expected) ⌝ }
+{
+    let d = block::block_xor(block::split_block(tag_part(data)), expected);
+    d[0] | d[1] | d[2] | d[3] == 0
+}
+
+// Whether a sealed message opens under a label.
 pub fn opens(t: &[u32], rk: [u32; 32], h: U128, j0: [u32; 4], aad: &[u8], data: &[u8]) -> bool
     requires { ⌜ Engine (now t) ⌝ }
     requires { ⌜ Hashable (length (now aad)) × Hashable (length (now «data»)) ⌝ }
     requires { ⌜ 16 ≤ length (now «data») ⌝ }
     ensures { λ r. ⌜ r ≡ opensUnder rk (value h) (unwords j0) (now (aad .entry)) (now («data» .entry)) ⌝ }
 {
-    let expected = tag(t, rk, h, j0, aad, text_part(data));
-    let d = block::block_xor(block::split_block(tag_part(data)), expected);
-    d[0] | d[1] | d[2] | d[3] == 0
+    has_tag(data, tag(t, rk, h, j0, aad, text_part(data)))
+}
+
+// The same by the cipher of J0, where the text has been hashed before: for a message that is asked about under many labels.
+pub fn opens_after(mask: [u32; 4], h: U128, half: Half, aad: &[u8], data: &[u8]) -> bool
+    requires { ⌜ Hashable (length (now aad)) × Hashable (length (now «data»)) ⌝ }
+    requires { ⌜ 16 ≤ length (now «data») ⌝ }
+    requires { ⌜ HalfOf (value h) (blocks (textPart (now «data»))) half ⌝ }
+    ensures { λ r. ⌜ r ≡ same (tagPart (now («data» .entry))) (maskedTag (unwords mask) (value h) (now (aad .entry)) (textPart (now («data» .entry)))) ⌝ }
+{
+    let hash = halves::galois_hash_after(h, aad, text_part(data), half);
+    has_tag(data, block::block_xor(mask, block::from_u128(hash)))
 }
 
 // Opens a sealed message: the text, once the tag is settled; otherwise `out` stays as it is.

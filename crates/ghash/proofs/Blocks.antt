@@ -4,7 +4,7 @@ use mathlib.Core.Path.{_≡_, refl, sym, ap, ap₂, _∙_}
 use mathlib.Core.Logic.{_≢_, ⊎-elim}
 use mathlib.Core.List.{List, [], _∷_, _++_, append-assoc}
 use Prim.Native.Nat.{ℕ, zero, suc, _+_, _-_, _*_, _/_, _%_, _^_, _<_, _≤_}
-use native.Mathlib.Nat.{eq-zero-or-pos}
+use native.Mathlib.Nat.{le-of-eq, eq-zero-or-pos}
 use native.Mathlib.Omega.{arith}
 use lib.Dec.{lit<}
 use lib.ListN.{length, take, drop, getD, replicate, length-append, length-drop, drop-of-length-le}
@@ -16,7 +16,7 @@ use Rattle.block.proofs.Entries.{below-take, below-append, below-replicate}
 use Rattle.block.proofs.Convert.{numberOf-lt, numberOf-same}
 use Rattle.block.proofs.WordsBack.{words-same, words-take, unwords-words}
 use Rattle.field.specs.Field.{Element}
-use Rattle.ghash.specs.Ghash.{blockOf, blocksFrom, blocks}
+use Rattle.ghash.specs.Ghash.{blockOf, blocksFrom, blockCount, blocks}
 
 -- the sixteen bytes of a block
 padded : List ℕ → List ℕ
@@ -86,6 +86,20 @@ blocks-cons bs h = ap (λ (n : ℕ). blocksFrom n bs) e
   where
     e : (length bs + 15) / 16 ≡ suc ((length (drop 16 bs) + 15) / 16)
     e = simp length-drop (omega arith)
+
+pub blocks-full : (bs : List ℕ) → length bs ≡ 16 → blocks bs ≡ numberOf bs ∷ []
+blocks-full bs e =
+    blocks-cons bs (omega arith)
+    ∙ ap₂ _∷_ (blockOf-full bs e) (ap blocks (drop-of-length-le bs (le-of-eq e)) ∙ blocks-nil)
+
+length-blocksFrom : (k : ℕ) (bs : List ℕ) → length (blocksFrom k bs) ≡ k
+unfolding blocksFrom
+length-blocksFrom zero bs = refl
+length-blocksFrom (suc k) bs = ap suc (length-blocksFrom k (drop 16 bs))
+
+pub length-blocks : (bs : List ℕ) → length (blocks bs) ≡ blockCount (length bs)
+unfolding blocks
+length-blocks bs = length-blocksFrom (blockCount (length bs)) bs
 
 pub blocks-append : (k : ℕ) (p q : List ℕ) → length p ≡ 16 * k → blocks (p ++ q) ≡ blocks p ++ blocks q
 blocks-append zero [] q h = ap (λ (l : List ℕ). l ++ blocks q) (sym blocks-nil)

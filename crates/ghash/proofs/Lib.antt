@@ -1,6 +1,7 @@
 pub mod Blocks
 pub mod Lengths
 pub mod Join
+pub mod JoinedBytes
 pub mod OneChanged
 pub mod ZeroKey
 pub mod Changed

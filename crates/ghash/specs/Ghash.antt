@@ -15,9 +15,13 @@ unfoldable pub blocksFrom : ℕ → List ℕ → List ℕ
 blocksFrom zero bs = []
 blocksFrom (suc k) bs = blockOf bs ∷ blocksFrom k (drop 16 bs)
 
+-- how many blocks n bytes are, the last one of which may be short
+abbrev pub blockCount : ℕ → ℕ
+blockCount n = (n + 15) / 16
+
 -- the blocks of a list of bytes, zeros to the last one's end
 unfoldable pub blocks : List ℕ → List ℕ
-blocks bs = blocksFrom ((length bs + 15) / 16) bs
+blocks bs = blocksFrom (blockCount (length bs)) bs
 
 -- the lengths that can be hashed: in bits they fit 8 bytes, as SP 800-38D, section 5.2.1.1, asks of labels and IVs
 abbrev pub Hashable : ℕ → Type 0

@@ -1,3 +1,4 @@
 pub mod Ghash
 pub mod Absorbed
 pub mod OneBlock
+pub mod Joined

@@ -1,11 +1,13 @@
 // GCM's hash over bytes: `galois_hash` of libsm's `gcm.rs`, with the state by value and no padded copy.
+pub mod halves;
+
 ghost use mathlib.Core.Path.{_≡_};
 ghost use mathlib.Core.List.{[], _∷_};
 ghost use Prim.Native.Nat.{_≤_};
 ghost use lib.ListN.{length, getD};
 ghost use Rattle.block.specs.Words.{wordAt, words};
 ghost use Rattle.block.specs.Wide.{value};
-ghost use Rattle.ghash.specs.Ghash.{Hashable, blockOf, blocks, lengthBlock, authBlocks, ghash};
+ghost use Rattle.ghash.specs.Ghash.{Hashable, blockOf, blockCount, blocks, lengthBlock, authBlocks, ghash};
 ghost use Rattle.ghash.specs.Absorbed.{Absorbed};
 use block::U128;
 
@@ -45,6 +47,13 @@ fn load_block(rest: &[u8]) -> [u32; 4]
     ]
 }
 
+// How many blocks n bytes are, the last one of which may be short. Nothing is added to n, so nothing wraps.
+pub fn block_count(n: usize) -> usize
+    ensures { λ r. ⌜ r ≡ blockCount n ⌝ }
+{
+    if n % 16 == 0 { n / 16 } else { n / 16 + 1 }
+}
+
 // The hash on its way: the key H, and the hash of the blocks so far.
 pub struct Ghash {
     pub h: U128,
@@ -82,14 +91,15 @@ impl Ghash {
 
     // All of `bytes`, zeros to the last block's end.
     pub fn absorb_all(self, bytes: &[u8]) -> Ghash
-        requires { ⌜ Hashable (length (now bytes)) ⌝ }
         ensures { λ r. ⌜ Absorbed self (blocks (now (bytes .entry))) r ⌝ }
     {
+        let n = block_count(bytes.len());
         let mut state = self;
-        let mut at: usize = 0;
-        while at < bytes.len() {
+        let mut i = 0;
+        while i < n {
+            let at = 16 * i;
             state = state.absorb(&bytes[at..]);
-            at += 16;
+            i += 1;
         }
         state
     }

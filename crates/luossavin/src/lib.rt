@@ -1,5 +1,6 @@
 // The host boundary: what a host in C or Rust links, declared in `include/luossavin.h`. Every call ends with an answer, and
 // none has a `requires`: a host that breaks one could not be told.
+mod halves;
 mod in_pieces;
 mod journals;
 pub mod key;

@@ -23,7 +23,7 @@ use Rattle.pieces.proofs.Begun.{full-length, begun-length, both-parts, 
 respelled : (b : List ℕ) → length b ≡ 16 → AreBytes b → bytesOf 16 (numberOf b) ≡ b
 respelled b n small = ap (λ (k : ℕ). bytesOf k (numberOf b)) (sym n) ∙ bytesOf-numberOf b small
 
-spelled-back : (x : ℕ) → Element x → numberOf (bytesOf 16 x) ≡ x
+pub spelled-back : (x : ℕ) → Element x → numberOf (bytesOf 16 x) ≡ x
 spelled-back x h = numberOf-bytesOf 16 x ∙ mod-eq-of-lt h
 
 -- a text that fills no block is held

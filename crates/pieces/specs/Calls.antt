@@ -1,5 +1,5 @@
 -- The calls: what each one leaves, from the inputs alone, whatever the state's fields hold.
-use Prim.Native.Nat.{ℕ, _+_, _%_}
+use Prim.Native.Nat.{ℕ, _+_, _/_, _%_}
 use mathlib.Core.Bool.{cond}
 use mathlib.Core.List.{List, []}
 use lib.ListN.{length}
@@ -26,7 +26,7 @@ use Rattle.pieces.specs.declared.opens.OpensStep.{OpensStep}
 use Rattle.pieces.specs.declared.seal.Seal.{Seal}
 use Rattle.pieces.specs.declared.seal.SealStep.{SealStep}
 use Rattle.pieces.specs.Flow.{flowText, flowNext}
-use Rattle.pieces.specs.Hashing.{hashNext, hashEnd}
+use Rattle.pieces.specs.Hashing.{hashNext, hashBehind, hashEnd}
 use Rattle.pieces.specs.Checks.{gcmStarting, running, writing, tagged}
 use Rattle.pieces.specs.States.{ctrAfter, ctrShut, sealAfter, sealShut, opensAfter, opensShut}
 
@@ -165,6 +165,18 @@ opensPiece s e =
         key = s .key;
       };
     }))
+
+-- the same message under a label, where it was started under none
+unfoldable pub opensLabelled : Opens → List ℕ → Opens
+opensLabelled s label = record {
+  hashing = hashBehind (s .hashing) label (s .total / 16);
+  mask = s .mask;
+  label = length label;
+  total = s .total;
+  low = s .low;
+  stands = s .stands;
+  key = s .key;
+}
 
 -- yes or no, by all sixteen bytes of the tag, and with a yes whether the counter came round
 unfoldable pub opensEnd : Opens → List ℕ → Stepped Opens

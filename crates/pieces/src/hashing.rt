@@ -2,14 +2,15 @@
 ghost use mathlib.Core.Path.{_≡_};
 ghost use mathlib.Core.List.{[], _++_};
 ghost use Prim.Native.Nat.{_<_, _≤_};
-ghost use lib.ListN.{length, getD, take};
+ghost use lib.ListN.{getD, take};
 ghost use Rattle.block.specs.BigEndian.{numberOf, bytesOf};
 ghost use Rattle.block.specs.Wide.{value};
 ghost use Rattle.ghash.specs.Ghash.{Hashable};
 ghost use Rattle.pieces.specs.States.{noHashing};
-ghost use Rattle.pieces.specs.Hashing.{filledUp, hashAfter, hashNext, hashEnd, hashOf};
+ghost use Rattle.pieces.specs.Hashing.{filledUp, hashAfter, hashNext, hashBehind, hashEnd, hashOf};
 use block::U128;
 use ghash::Ghash;
+use ghash::halves;
 
 // The key H, the hash of the full blocks so far, and the block that is begun, each as sixteen bytes. How much is begun is the
 // caller's to know.
@@ -73,7 +74,6 @@ fn filled(held: [u8; 16], p: usize, data: &[u8]) -> [u8; 16]
 // they stand, and the last bytes are held.
 pub(crate) fn take_in(g: Hashing, p: usize, data: &[u8]) -> Hashing
     requires { ⌜ p < 16 ⌝ }
-    requires { ⌜ Hashable (length (now «data»)) ⌝ }
     ensures { λ r. ⌜ r ≡ hashNext g p (now («data» .entry)) ⌝ }
 {
     let h = g.h;
@@ -89,7 +89,6 @@ pub(crate) fn take_in(g: Hashing, p: usize, data: &[u8]) -> Hashing
 
 // A full block and then `rest`, of which the last bytes are held.
 fn full_blocks(h: [u8; 16], y: [u8; 16], first: [u8; 16], rest: &[u8]) -> Hashing
-    requires { ⌜ Hashable (length (now rest)) ⌝ }
     ensures { λ r. ⌜ r ≡ hashAfter h y (first ++ now (rest .entry)) ⌝ }
 {
     let n = rest.len() - rest.len() % 16;
@@ -125,9 +124,24 @@ pub(crate) fn end(g: Hashing, p: usize, label: usize, text: usize) -> [u8; 16]
     bytes_of(last.y)
 }
 
+// The hash behind a label, where g is that of a text alone, of which so many full blocks are hashed.
+pub(crate) fn behind(g: Hashing, label: &[u8], blocks: u64) -> Hashing
+    ensures { λ r. ⌜ r ≡ hashBehind g (now (label .entry)) «blocks» ⌝ }
+{
+    let h = g.h;
+    let y = g.y;
+    let held = g.held;
+    let first = halves::hash_blocks(number_of(h), label);
+    let both = halves::join(number_of(h), first, number_of(y), blocks);
+    Hashing {
+        h,
+        y: bytes_of(both),
+        held,
+    }
+}
+
 // The hash before the first byte of a text, under H: that of the label's blocks.
 pub(crate) fn begin(h: U128, label: &[u8]) -> Hashing
-    requires { ⌜ Hashable (length (now label)) ⌝ }
     ensures { λ r. ⌜ r ≡ hashOf (value h) (now (label .entry)) [] ⌝ }
 {
     let start = Ghash::new(h);

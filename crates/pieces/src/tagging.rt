@@ -2,14 +2,12 @@
 ghost use mathlib.Core.Path.{_≡_};
 ghost use mathlib.Core.Logic.{_⊎_};
 ghost use mathlib.Core.List.{[]};
-ghost use Prim.Native.Nat.{_≤_};
 ghost use lib.ListN.{length};
 ghost use Rattle.block.specs.Words.{unwords};
 ghost use Rattle.cipher.specs.Engine.{Engine};
 ghost use Rattle.cipher.specs.Sm4.{encryptBlock};
 ghost use Rattle.counter.specs.Counter.{lastFour};
 ghost use Rattle.gcm.specs.Gcm.{hashKey, J0};
-ghost use Rattle.cipher_mode.specs.Tables.{limit};
 ghost use Rattle.pieces.specs.Hashing.{hashOf};
 use crate::flow;
 use crate::hashing;
@@ -25,7 +23,6 @@ pub(crate) struct Begun {
 
 pub(crate) fn begin(t: &[u32], rk: [u32; 32], aad: &[u8], iv: &[u8]) -> Begun
     requires { ⌜ Engine (now t) ⌝ }
-    requires { ⌜ length (now aad) ≤ limit ⌝ }
     requires { ⌜ (length (now iv) ≡ 12) ⊎ (length (now iv) ≡ 16) ⌝ }
     ensures { λ r. ⌜ unwords (r .j0) ≡ J0 rk (now (iv .entry)) ⌝ }
     ensures { λ r. ⌜ r .hashing ≡ hashOf (hashKey rk) (now (aad .entry)) [] ⌝ }

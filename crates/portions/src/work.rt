@@ -2,14 +2,18 @@
 // before the first byte is written gives none.
 ghost use mathlib.Core.Path.{_≡_};
 ghost use mathlib.Core.Bool.{false};
+ghost use mathlib.Core.List.{[]};
 ghost use Prim.Native.Nat.{_+_, _≤_};
+ghost use lib.Dec.{eqb};
 ghost use lib.ListN.{length};
 ghost use Rattle.block.specs.Words.{unwords};
 ghost use Rattle.cipher.specs.Engine.{Engine};
 ghost use Rattle.counter.specs.Counter.{gcmNext};
 ghost use Rattle.gcm.specs.Gcm.{J0};
+ghost use Rattle.cipher_mode.specs.Answer.{headOf};
 ghost use Rattle.cipher_mode.specs.Checks.{wrongIv};
 ghost use Rattle.label.specs.Label.{labelOf};
+ghost use Rattle.pieces.specs.Calls.{opensLabelled, opensEnd};
 ghost use Rattle.portions.specs.Starts.{stateOf, StartsOf};
 use crate::range;
 use crate::range::Range;
@@ -44,13 +48,15 @@ pub enum Task {
     CbcText,
 }
 
-// A pass on its way, with the state of each task: a message that is sealed, one that is asked whether it opens, one in Ctr; a range; and
-// the chaining state of Cfb, Ofb and Cbc, which in Gcm is the counter that the text is opened with, and of a range the IV.
+// A pass on its way, with the state of each task: a message that is sealed, one that is asked whether it opens, and its tag once it has
+// come; one in Ctr; a range; and the chaining state of Cfb, Ofb and Cbc, which in Gcm is the counter that the text is opened with, and of a
+// range the IV.
 pub struct Work {
     pub task: Task,
     pub rk: [u32; 32],
     pub seal: Seal,
     pub opens: Opens,
+    pub tag: [u8; 16],
     pub ctr: Ctr,
     pub range: Range,
     pub chain: [u32; 4],
@@ -263,14 +269,40 @@ fn seal_end(work: Work, out: &mut [u8]) -> Step
     answered(work, answer, 16)
 }
 
-// The tag settles whether what came before it opens, of which so many bytes are written now.
-fn gcm_end(work: Work, tag: &[u8], length: usize) -> Step
+// The tag settles whether what came before it opens, of which so many bytes are written now. It is kept where it has its sixteen bytes.
+fn gcm_end(mut work: Work, tag: &[u8], length: usize) -> Step
     ensures { λ r. ⌜ r .length ≤ «length» ⌝ }
 {
     let opens = work.opens;
     let step = opens.end(tag);
     let answer = step.answer;
+    if tag.len() == 16 {
+        let kept = block::combine_block(block::split_block(tag));
+        work.tag = kept;
+    }
     answered(work, answer, length)
+}
+
+// Whether a message that was asked about under no label, and came to its end, opens under that of a job and an edition.
+pub fn opens_under(work: Work, job: u32, edition: u16) -> bool
+    ensures { λ r. ⌜ r ≡ eqb (opensEnd (opensLabelled (work .opens) (labelOf job edition)) (work .tag) .head .number) 0 ⌝ }
+{
+    let label = label::label(job, edition);
+    let opens = work.opens;
+    let tag = work.tag;
+    let step = opens.labelled(&label).end(&tag);
+    let answer = step.answer;
+    is_done(answer)
+}
+
+fn is_done(answer: Answer) -> bool
+    ensures { λ r. ⌜ r ≡ eqb (headOf answer .number) 0 ⌝ }
+{
+    let ending = answer.ending;
+    match ending {
+        Ending::Done(_) => true,
+        Ending::Refused(_) => false,
+    }
 }
 
 // The rest of the text, and the tag behind it.
@@ -464,6 +496,13 @@ pub fn labelled(
     start_all(direction, cipher, &label, iv, offset)
 }
 
+// The same under no label, for a message that is asked about under many.
+pub fn unlabelled(direction: Direction, cipher: Sm4Cipher, iv: &[u8]) -> Starts
+    ensures { λ r. ⌜ StartsOf direction cipher [] (now (iv .entry)) 0 r ⌝ }
+{
+    start_all(direction, cipher, &iv[0..0], iv, 0)
+}
+
 // A pass before its first byte. What is refused of key and IV, and of a retired key, is refused here.
 pub fn start(
     task: Task,
@@ -487,6 +526,7 @@ pub fn start(
         rk,
         seal,
         opens,
+        tag: [0u8; 16],
         ctr,
         range,
         chain: [0u32; 4],
@@ -522,6 +562,7 @@ pub fn writing(work: Work) -> Work {
     let rk = work.rk;
     let seal = work.seal;
     let opens = work.opens;
+    let tag = work.tag;
     let ctr = work.ctr;
     let range = work.range;
     let chain = work.chain;
@@ -530,6 +571,7 @@ pub fn writing(work: Work) -> Work {
         rk,
         seal,
         opens,
+        tag,
         ctr,
         range,
         chain,

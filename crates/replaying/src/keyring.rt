@@ -3,7 +3,6 @@
 ghost use mathlib.Core.Path.{_≡_};
 ghost use Prim.Native.Nat.{_+_, _≤_};
 use crate::tell;
-use cipher_mode::KeyAnswer;
 use cipher_mode::Sm4Cipher;
 use cli::DONE;
 use cli::arguments;

@@ -10,7 +10,6 @@ use cli::DONE;
 use cli::say;
 use journal::Ended;
 use journal::glance::Glance;
-use journal::report::Report;
 use libc::STDOUT_FILENO;
 use typed::things::IN;
 use typed::things::KEY;

@@ -489,8 +489,18 @@ fn task_of(asked: Asked) -> Task {
 
 // The pass that was asked for, before its first byte.
 fn begin(asked: Asked, key: &[u8], iv: &[u8]) -> Step {
-    let mode = asked.mode;
     let starts = starts_of(asked, key, iv);
+    begin_with(asked, starts, key, iv)
+}
+
+// The same under no label.
+fn begin_unlabelled(asked: Asked, key: &[u8], iv: &[u8]) -> Step {
+    let starts = work::unlabelled(direction_of(asked), cipher_of(asked, key), iv);
+    begin_with(asked, starts, key, iv)
+}
+
+fn begin_with(asked: Asked, starts: Starts, key: &[u8], iv: &[u8]) -> Step {
+    let mode = asked.mode;
     work::start(
         task_of(asked),
         cipher_of(asked, key),

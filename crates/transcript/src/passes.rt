@@ -80,6 +80,8 @@ fn write(asked: Asked, mut pass: Pass, step: work::Step, out: &[u8]) -> Pass
     requires { ⌜ step .length ≤ length (now out) ⌝ }
     ensures { λ r. ⌜ r .waiting ≡ pass .waiting ⌝ }
 {
+    let work = step.work;
+    pass.work = work;
     let ending = step.ending;
     let Ending::Done(_) = ending else {
         return ended(pass, ending, false);
@@ -87,8 +89,6 @@ fn write(asked: Asked, mut pass: Pass, step: work::Step, out: &[u8]) -> Pass
     let before = pass.output;
     let n = step.length;
     let after = output::put(before, &out[0..n]);
-    let work = step.work;
-    pass.work = work;
     pass.output = after;
     if after.status != DONE {
         return over(pass, after.status);

@@ -1,9 +1,10 @@
-// Which of the candidates a sealed file opens under. Each is asked about by a pass of its own over IN, in order, and the first
-// that opens is the answer.
+// Which of the candidates a sealed file opens under. One pass over IN hashes its text under no label; each candidate's hash is then joined
+// to that, in order, and the first that opens is the answer.
 ghost use Prim.Native.Nat.{_<_};
 use crate::Asked;
-use crate::begin;
+use crate::begin_unlabelled;
 use crate::named;
+use crate::passes::Pass;
 use crate::refuse;
 use crate::silent_pass;
 use crate::with_iv;
@@ -16,6 +17,8 @@ use cli::files;
 use cli::files::Source;
 use cli::output;
 use cli::say;
+use portions::work;
+use portions::work::Work;
 use typed::candidates;
 use typed::candidates::Candidate;
 use typed::lists;
@@ -103,71 +106,25 @@ fn candidate(asked: Asked, list: &[u8], place: usize) -> Candidate
     Candidate::Label(asked.job, edition as u16)
 }
 
-// What a pass tells: IN opens, or does not; or the run is over with a status, which has been said.
-pub enum Verdict {
-    Opens,
-    OpensNot,
-    Over(u8),
-}
-
-// What a pass told, and how many bytes it read.
-pub struct Asking {
-    pub verdict: Verdict,
-    pub read: usize,
-}
-
-fn told(verdict: Verdict, read: usize) -> Asking {
-    Asking { verdict, read }
-}
-
-fn refused(asked: Asked, refusal: Refusal, read: usize) -> Verdict {
-    match refusal {
-        Refusal::InvalidTag => Verdict::OpensNot,
-        _ => Verdict::Over(refuse(refusal, asked, 0, 0, read)),
-    }
-}
-
-// What the ending of a pass tells that read so many bytes.
-fn judge(asked: Asked, ending: Ending, read: usize) -> Verdict {
-    match ending {
-        Ending::Done(_) => Verdict::Opens,
-        Ending::Refused(refusal) => refused(asked, refusal, read),
-    }
-}
-
-// A pass over IN under the job and the edition that are asked for. `settled`: how long IN was in the pass before, 0 where there
-// was none.
-fn ask(asked: Asked, source: Source, settled: usize, key: &[u8], iv: &[u8]) -> Asking {
-    let begun = begin(asked, key, iv);
-    let work = begun.work;
-    let pass = silent_pass(asked, source, work);
-    let read = pass.read;
+// What stands against IN whatever its label is, once a pass has read it: the status, which has been said. `DONE` where nothing does.
+fn settled(asked: Asked, pass: Pass) -> u8 {
     if pass.status != DONE {
-        return told(Verdict::Over(pass.status), read);
-    }
-    if settled != 0 {
-        if read != settled {
-            let places = asked.places;
-            return told(Verdict::Over(say::changed(places[IN])), read);
-        }
+        return pass.status;
     }
     let ending = pass.ending;
-    told(judge(asked, ending, read), read)
+    let Ending::Refused(refusal) = ending else {
+        return DONE;
+    };
+    match refusal {
+        Refusal::InvalidTag => DONE,
+        _ => refuse(refusal, asked, 0, 0, pass.read),
+    }
 }
 
-// A search on its way: IN as it is read next, and how many bytes the last pass read. It is over with a status, which has been
-// said.
+// A search on its way. It is over with a status, which has been said.
 pub struct Search {
-    pub source: Source,
-    pub read: usize,
     pub over: bool,
     pub status: u8,
-}
-
-fn over(mut search: Search, status: u8) -> Search {
-    search.over = true;
-    search.status = status;
-    search
 }
 
 // Says under which label IN opens, unless nobody waits for it any more.
@@ -183,34 +140,18 @@ fn found(asked: Asked, job: u32, edition: u16) -> u8 {
 }
 
 // The search once a label has been asked about.
-fn ask_label(
-    asked: Asked,
-    search: Search,
-    job: u32,
-    edition: u16,
-    key: &[u8],
-    iv: &[u8],
-) -> Search {
-    let source = search.source;
-    let mut one = asked;
-    one.job = job;
-    one.edition = edition;
-    let asking = ask(one, source, search.read, key, iv);
-    let verdict = asking.verdict;
-    match verdict {
-        Verdict::Opens => over(search, found(asked, job, edition)),
-        Verdict::OpensNot => Search {
-            source: files::again(source),
-            read: asking.read,
-            over: false,
-            status: DONE,
-        },
-        Verdict::Over(status) => over(search, status),
+fn ask_label(asked: Asked, search: Search, read: Work, job: u32, edition: u16) -> Search {
+    if work::opens_under(read, job, edition) {
+        return Search {
+            over: true,
+            status: found(asked, job, edition),
+        };
     }
+    search
 }
 
 // The search once the candidate at a place has been asked about, if there is one.
-fn turn(asked: Asked, search: Search, list: &[u8], place: usize, key: &[u8], iv: &[u8]) -> Search
+fn turn(asked: Asked, search: Search, read: Work, list: &[u8], place: usize) -> Search
     requires { ⌜ place < 64 ⌝ }
 {
     if search.over {
@@ -221,46 +162,40 @@ fn turn(asked: Asked, search: Search, list: &[u8], place: usize, key: &[u8], iv:
     }
     let next = candidate(asked, list, place);
     match next {
-        Candidate::Label(job, edition) => ask_label(asked, search, job, edition, key, iv),
+        Candidate::Label(job, edition) => ask_label(asked, search, read, job, edition),
         _ => search,
     }
 }
 
-// Asks about one candidate after the other.
+// Reads IN, and asks about one candidate after the other.
 pub fn run(asked: Asked, source: Source, list: &[u8], key: &[u8], iv: &[u8]) -> u8 {
-    let first = files::to_be_read_twice(source);
-    if first.fd < 0 {
-        return FILES;
+    let begun = begin_unlabelled(asked, key, iv);
+    let work = begun.work;
+    let pass = silent_pass(asked, source, work);
+    let status = settled(asked, pass);
+    if status != DONE {
+        return status;
     }
+    let read = pass.work;
     let mut search = Search {
-        source: first,
-        read: 0,
         over: false,
         status: DONE,
     };
     let mut place = 0;
     while place < MOST {
-        let next = turn(asked, search, list, place, key, iv);
+        let next = turn(asked, search, read, list, place);
         search = next;
         place += 1;
     }
     if search.over {
         return search.status;
     }
-    none(asked, search, key, iv)
+    none(asked)
 }
 
-// Says that IN opens under no candidate. Where there was none to ask about, what else stands against IN is asked first.
-fn none(asked: Asked, search: Search, key: &[u8], iv: &[u8]) -> u8 {
+// Says that IN opens under no candidate.
+fn none(asked: Asked) -> u8 {
     let places = asked.places;
-    if search.read == 0 {
-        let source = search.source;
-        let asking = ask(asked, source, 0, key, iv);
-        let verdict = asking.verdict;
-        if let Verdict::Over(status) = verdict {
-            return status;
-        }
-    }
     if output::is_alone(asked.launcher) {
         return FILES;
     }

@@ -42,7 +42,7 @@ begin-requires c κs =
     let at-plain = c .before .before in
     let told = at-plain .before in
     let in-order = starting-passed _ _ _ _ _ (sym (told .before .before .gcm-start .ensures) ∙ told .enum-told .given .1) in
-    (at-plain .plain .ensures, (in-order .labelled, iv-twelve-or-sixteen _ (in-order .taken)))
+    (at-plain .plain .ensures, iv-twelve-or-sixteen _ (in-order .taken))
 
 returns-2 : tie.Need-returns-2
 unfolding sealStart sealAfter

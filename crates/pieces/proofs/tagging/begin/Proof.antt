@@ -19,10 +19,7 @@ use Rattle.pieces.proofs.tagging.begin.Statement.{statement}
 use Rattle.pieces.proofs.tagging.begin.Tie as tie
 
 first-counter-requires : tie.Need-first-counter-requires
-first-counter-requires c κs = c .before .before .before .before .pre .1 .1
-
-begin-requires : tie.Need-begin-requires
-begin-requires c κs = let within = c .before .before .before .before .before .pre .1 .0 in omega arith
+first-counter-requires c κs = c .before .before .before .before .pre .1
 
 returns : tie.Need-returns
 returns c =
@@ -45,4 +42,4 @@ pub begin-spec : {M : Type 1} → statement M
 begin-spec =
     tie.close
     (tie.spec
-    (λ c κs. search needs) first-counter-requires (λ c. search needs) begin-requires (λ c κs. search needs) returns)
+    (λ c κs. search needs) first-counter-requires (λ c. search needs) (λ c κs. search needs) (λ c κs. search needs) returns)

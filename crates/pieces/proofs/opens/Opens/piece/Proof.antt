@@ -28,9 +28,6 @@ passed : (x : tie.After-enum-told)
     Runs (a .self .stands) (a .self .label) (a .self .total) (length (now (a .«data»)))
 passed x = running-passed _ _ _ _ (sym (x .before .before .running .ensures) ∙ x .enum-told .given .1)
 
-take-in-requires : tie.Need-take-in-requires
-take-in-requires c κs = let within = passed (c .before .before) .within in (omega arith, omega arith)
-
 add-t15 : tie.Need-add-t15
 add-t15 c = let within = passed (c .before .before .before) .within in search needs
 
@@ -59,5 +56,5 @@ pub piece-spec : {M : Type 1} → statement M
 piece-spec =
     tie.close
     (tie.spec
-    (λ c κs. search needs) (λ c. search needs) (λ c κs. search needs) returns (λ c. search needs) take-in-requires add-t15
+    (λ c κs. search needs) (λ c. search needs) (λ c κs. search needs) returns (λ c. search needs) (λ c κs. search needs) add-t15
     (λ c κs. search needs) returns-2)

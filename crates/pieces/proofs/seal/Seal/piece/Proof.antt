@@ -6,7 +6,7 @@ use Prim.Native.Nat.{_+_, _-_, _%_, _≤_}
 use native.Mathlib.Nat.{sub-zero}
 use native.Mathlib.Omega.{arith}
 use denote.Ref.{now}
-use lib.ListN.{length, take, drop, length-take}
+use lib.ListN.{length, take, drop}
 use lib.Seq.{take-at}
 use Rattle.pieces.specs.declared.flow.Counting.the-variants.{Gcm as Gcm·counting}
 use Rattle.pieces.specs.declared.seal.Seal.{Seal}
@@ -48,12 +48,6 @@ part-take-in-end c =
     let room = passed told .1 in
     omega (arith, c .before .before .before .run .kept)
 
-take-in-requires : tie.Need-take-in-requires
-take-in-requires c κs =
-    let told = c .before .before .before .before .before .before .before .before .before .before .before .before in
-    let within = passed told .0 .within in
-    (omega arith, simp length-take (omega arith))
-
 add-t30 : tie.Need-add-t30
 add-t30 c =
     let told = c .before .before .before .before .before .before .before .before .before .before .before .before .before in
@@ -88,5 +82,5 @@ piece-spec =
     tie.close
     (tie.spec
     (λ c κs. search needs) (λ c. search needs) (λ c κs. search needs) returns (λ c. search needs) (λ c κs. search needs)
-    (λ c. search needs) run-requires (λ c. search needs) (λ c. search needs) part-take-in-end take-in-requires add-t30
+    (λ c. search needs) run-requires (λ c. search needs) (λ c. search needs) part-take-in-end (λ c κs. search needs) add-t30
     (λ c κs. search needs) (λ c. search needs) returns-2)

@@ -1,0 +1,44 @@
+-- `gcm::has_tag` meets its contract: the four words of the difference are all 0 exactly where the message's tag is the expected one
+-- (`has-tag-words`).
+-- Assumes nothing.
+use mathlib.Core.Path.{_≡_, ap, _∙_}
+use Prim.Native.Nat.{ℕ, _-_, _^_, _<_}
+use mir.Val.{Fits}
+use mir.Syntax.{w32}
+use denote.Ref.{now}
+use native.Mathlib.Omega.{arith}
+use lib.ListN.{length, getD, length-drop}
+use Rattle.block.proofs.Entries.{below-each}
+use Rattle.gcm.proofs.TagTest.{has-tag-words}
+use borrow.Author.Needs.{needs}
+use Rattle.gcm.proofs.has_tag.Statement.{statement}
+use Rattle.gcm.proofs.has_tag.Tie as tie
+
+split-block-requires : tie.Need-split-block-requires
+split-block-requires c κs =
+    let d = c .before .before .args .«data» .now in
+    let n : length (now (c .tag-part .result)) ≡ length d - (length d - 16) =
+    ap length (c .tag-part .ensures) ∙ length-drop (length d - 16) d in
+    omega arith
+
+returns : tie.Need-returns
+returns c =
+    let at-split = c .before in
+    let at-tag-part = at-split .before in
+    let at-data = at-tag-part .before in
+    let S = at-data .before in
+    let a = S .args in
+    let d = now (a .«data») in
+    let e = a .expected in
+    let four : length e ≡ 4 = search (needs, S .good .1 .0) in
+    let fits : (i : ℕ) → Fits w32 (getD e i 0) = λ i. search (needs, S .good .1 .0) in
+    let small : (i : ℕ) → getD d i 0 < 256 = λ i. omega (arith, at-data .shared-slice-known .given i) in
+    has-tag-words d _ e _ _ (S .pre) (below-each 256 d small) (at-tag-part .tag-part .ensures) (at-split .split-block .ensures)
+    four (below-each (2 ^ 32) e (λ i. fits i .fits)) (c .block-xor .ensures)
+
+pub has-tag-spec : {M : Type 1} → statement M
+has-tag-spec =
+    tie.close
+    (tie.spec
+    (λ c κs. search needs) split-block-requires (λ c κs. search needs)
+    (λ c. search needs) (λ c. search needs) (λ c. search needs) (λ c. search needs) returns)

@@ -1,0 +1,189 @@
+/* Hashes of halves: the layout, every kind of value and of count against a slow model (hash_model.c), and halves of
+ * real messages, whose hashes joined must make the tag that the single call makes. */
+#include "smoke.h"
+
+#include "hash_model.h"
+#include "random.h"
+
+#include <string.h>
+#include <time.h>
+
+enum { KINDS_OF_H = 12, TEXT = 100, LABEL = 20 };
+
+static struct luossavin_hash value_of(element e)
+{
+    return (struct luossavin_hash){(uint64_t)(e >> 64), (uint64_t)e};
+}
+
+static int is(struct luossavin_hash got, element due)
+{
+    return got.high == (uint64_t)(due >> 64) && got.low == (uint64_t)due;
+}
+
+static element drawn(void)
+{
+    return (element)draw() << 64 | draw();
+}
+
+static void layout(void)
+{
+    stands_at(sizeof(struct luossavin_hash), 16, "its size", "a hash");
+    stands_at(offsetof(struct luossavin_hash, high), 0, "where the high half stands", "a hash");
+    stands_at(offsetof(struct luossavin_hash, low), 8, "where the low half stands", "a hash");
+}
+
+/* Nothing, the one, the number 1, x, every bit, one half alone, and some that are drawn. */
+static element kind_of_h(size_t i)
+{
+    const element kinds[] = {0, ONE, 1, ONE >> 1, ~(element)0, ONE - 1, (element)UINT64_MAX, ~(element)UINT64_MAX};
+    return i < sizeof kinds / sizeof kinds[0] ? kinds[i] : drawn();
+}
+
+/* Every length up to some blocks, and a longer one. */
+static void blocks(element h)
+{
+    uint8_t bytes[1000];
+    draw_bytes(bytes, sizeof bytes);
+    for (size_t n = 0; n <= TEXT; n++) {
+        check(is(luossavin_hash_blocks(value_of(h), n ? bytes : NULL, n), hash_of(h, bytes, n)), "hash", "its value", n);
+    }
+    check(is(luossavin_hash_blocks(value_of(h), bytes, sizeof bytes), hash_of(h, bytes, sizeof bytes)), "hash",
+        "its value", sizeof bytes);
+}
+
+/* Small counts by as many products. The largest by squares: h times it is h to the 2^64, and so for others. */
+static void counts(element h)
+{
+    element first = drawn(), second = drawn();
+    for (uint64_t n = 0; n <= 70; n++) {
+        element due = product(first, power_by_products(h, n)) ^ second;
+        check(is(luossavin_hash_join(value_of(h), value_of(first), value_of(second), n), due), "join", "its value", n);
+    }
+    for (unsigned bit = 7; bit < 64; bit++) {
+        element power = power_by_squares(h, bit), due = product(first, power) ^ second;
+        struct luossavin_hash got =
+            luossavin_hash_join(value_of(h), value_of(first), value_of(second), (uint64_t)1 << bit);
+        check(is(got, due), "join", "its value at a power of two", bit);
+        got = luossavin_hash_join(value_of(h), value_of(ONE), value_of(0), ((uint64_t)1 << bit) - 1);
+        check(product(((element)got.high << 64) | got.low, h) == power, "join", "its value below a power of two", bit);
+    }
+    struct luossavin_hash most = luossavin_hash_join(value_of(h), value_of(first), value_of(0), UINT64_MAX);
+    check(product(((element)most.high << 64) | most.low, h) == product(first, power_by_squares(h, 64)), "join",
+        "its value at the largest count", 64);
+}
+
+/* Squarings, and not a product for each block: the largest count is done within a second, by far. */
+static void in_no_time(void)
+{
+    clock_t start = clock();
+    luossavin_hash_join(value_of(drawn()), value_of(drawn()), value_of(drawn()), UINT64_MAX);
+    check(clock() - start < CLOCKS_PER_SEC, "join", "a second for the largest count", 0);
+}
+
+/* What the header does with a message whose ciphertext is in two halves. */
+
+static struct luossavin_hash load(const uint8_t bytes[16])
+{
+    return value_of(element_of(bytes));
+}
+
+static void store(struct luossavin_hash e, uint8_t bytes[16])
+{
+    put_element((element)e.high << 64 | e.low, bytes);
+}
+
+static void put_lengths(uint64_t first, uint64_t second, uint8_t bytes[16])
+{
+    put_element((element)first << 64 | second, bytes);
+}
+
+static struct luossavin_hash behind(struct luossavin_hash h, struct luossavin_hash before, const uint8_t *bytes,
+    size_t n)
+{
+    return luossavin_hash_join(h, before, luossavin_hash_blocks(h, bytes, n), n / 16 + (n % 16 != 0));
+}
+
+/* The tag of label and ciphertext, of which the first `cut` bytes are one half. */
+static void tag_of_halves(size_t iv_len, const uint8_t *name, size_t name_len, const uint8_t *text, size_t n, size_t cut,
+    uint8_t tag[16])
+{
+    uint8_t block[32] = {0}, mask[16], lengths[16];
+    luossavin_block_encrypt(key, block, 16, mask, 16);
+    struct luossavin_hash h = load(mask);
+    memcpy(block, iv, iv_len);
+    if (iv_len == 12) {
+        block[15] = 1;
+    } else {
+        put_lengths(0, 128, block + 16);
+        store(luossavin_hash_blocks(h, block, 32), block);
+    }
+    luossavin_block_encrypt(key, block, 16, mask, 16);
+    put_lengths(8 * (uint64_t)name_len, 8 * (uint64_t)n, lengths);
+    struct luossavin_hash y = luossavin_hash_blocks(h, name, name_len);
+    y = behind(h, y, text, cut);
+    y = behind(h, y, text + cut, n - cut);
+    y = behind(h, y, lengths, 16);
+    store(y, tag);
+    for (int i = 0; i < 16; i++) {
+        tag[i] ^= mask[i];
+    }
+}
+
+/* A message sealed, and cut everywhere: at a block's end, or where nothing is behind the cut, the tag is the single
+ * call's, and inside a block it is another. */
+static void cut_message(size_t iv_len, size_t name_len, size_t n)
+{
+    uint8_t text[TEXT], sealed[TEXT + 16], name[LABEL], tag[16];
+    draw_bytes(text, n);
+    draw_bytes(name, name_len);
+    struct luossavin_answer a =
+        luossavin_encrypt(4, key, name, name_len, text, n, iv, iv_len, sealed, sizeof sealed);
+    check(done(a, n + 16), "halves", "the message is sealed", n);
+    for (size_t cut = 0; cut <= n; cut++) {
+        tag_of_halves(iv_len, name, name_len, sealed, n, cut, tag);
+        int same = memcmp(tag, sealed + n, 16) == 0;
+        if (cut % 16 == 0 || cut == n) {
+            check(same, "halves", "the tag of both", cut);
+        } else {
+            check(!same, "halves", "no tag for a cut inside a block", cut);
+        }
+    }
+}
+
+/* Parts joined in either grouping, or a part of nothing between them, are the same. */
+static void grouped(void)
+{
+    uint8_t bytes[TEXT];
+    struct luossavin_hash h = value_of(drawn());
+    draw_bytes(bytes, sizeof bytes);
+    for (size_t a = 0; a <= 96; a += 16) {
+        for (size_t b = a; b <= 96; b += 16) {
+            struct luossavin_hash first = luossavin_hash_blocks(h, bytes, a);
+            struct luossavin_hash from_left = behind(h, behind(h, first, bytes + a, b - a), bytes + b, TEXT - b);
+            struct luossavin_hash back = behind(h, luossavin_hash_blocks(h, bytes + a, b - a), bytes + b, TEXT - b);
+            struct luossavin_hash from_right = luossavin_hash_join(h, first, back, (TEXT - a + 15) / 16);
+            struct luossavin_hash whole = luossavin_hash_blocks(h, bytes, TEXT);
+            check(memcmp(&from_left, &whole, 16) == 0, "parts", "joined from the left", a);
+            check(memcmp(&from_right, &whole, 16) == 0, "parts", "joined from the right", a);
+        }
+    }
+}
+
+void halves(void)
+{
+    seed = 20261116;
+    layout();
+    for (size_t i = 0; i < KINDS_OF_H; i++) {
+        element h = kind_of_h(i);
+        blocks(h);
+        counts(h);
+    }
+    in_no_time();
+    for (size_t n = 0; n <= TEXT; n++) {
+        for (size_t name_len = 0; name_len <= LABEL; name_len += 5) {
+            cut_message(12, name_len, n);
+            cut_message(16, name_len, n);
+        }
+    }
+    grouped();
+}
