@@ -31,6 +31,7 @@ pub mod OnTheShelf
 pub mod InTheJournal
 pub mod Halves
 pub mod TrailingZero
+pub mod HashKeys
 -- the worked table and the imposters
 pub mod Worked
 pub mod Edges

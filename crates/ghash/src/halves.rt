@@ -1,4 +1,5 @@
-// The hash of two halves joined. Each half is hashed by itself, and a hash before the second counts for H to its block count times.
+// Hashes of halves, and how they join: each half is hashed by itself, and the first's hash is then multiplied by H to the second's block
+// count.
 ghost use mathlib.Core.Path.{_≡_};
 ghost use lib.ListN.{length};
 ghost use Rattle.block.specs.Wide.{value};

@@ -1,0 +1,39 @@
+-- The blocks of a list of bytes are elements of the field, and with the list's length they tell it.
+-- Assumes nothing.
+use mathlib.Core.Path.{_≡_, refl, sym, ap, ap₂, _∙_}
+use mathlib.Core.List.{List, [], _∷_, _++_}
+use Prim.Native.Nat.{ℕ, zero, suc, _-_, _*_, _≤_}
+use native.Mathlib.Omega.{arith}
+use lib.ListN.{length, drop, length-drop, take-append-drop}
+use Rattle.block.specs.Below.{AreBytes}
+use Rattle.block.proofs.Entries.{below-drop}
+use Rattle.ghash.specs.Ghash.{blocksFrom, blockCount, blocks}
+use Rattle.ghash.proofs.Blocks.{blockOf-lt, blockOf-same}
+use Rattle.roots.proofs.Horner.{Elements}
+
+blocksFrom-elements : (k : ℕ) (bs : List ℕ) → AreBytes bs → Elements (blocksFrom k bs)
+unfolding blocksFrom
+blocksFrom-elements zero bs h = tt
+blocksFrom-elements (suc k) bs h = (blockOf-lt bs h, blocksFrom-elements k (drop 16 bs) (below-drop 256 16 bs h))
+
+pub blocks-elements : (bs : List ℕ) → AreBytes bs → Elements (blocks bs)
+unfolding blocks
+blocks-elements bs h = blocksFrom-elements (blockCount (length bs)) bs h
+
+blocksFrom-same : (k : ℕ) (a b : List ℕ) → length a ≤ 16 * k → length a ≡ length b → AreBytes a → AreBytes b
+    → blocksFrom k a ≡ blocksFrom k b → a ≡ b
+unfolding blocksFrom
+blocksFrom-same zero [] [] h l ha hb e = refl
+blocksFrom-same zero [] (y ∷ b) h l ha hb e = absurd (omega arith)
+blocksFrom-same zero (x ∷ a) b h l ha hb e = absurd (omega arith)
+blocksFrom-same (suc k) a b h l ha hb e =
+    let rest =
+    blocksFrom-same k (drop 16 a) (drop 16 b) (simp length-drop (omega arith)) (simp length-drop (ap (λ (n : ℕ). n - 16) l))
+    (below-drop 256 16 a ha) (below-drop 256 16 b hb) (cc) in
+    sym (take-append-drop 16 a) ∙ ap₂ _++_ (blockOf-same a b l ha hb (cc)) rest ∙ take-append-drop 16 b
+
+-- lists of one length that make the same blocks are the same
+pub blocks-same : (a b : List ℕ) → length a ≡ length b → AreBytes a → AreBytes b → blocks a ≡ blocks b → a ≡ b
+unfolding blocks
+blocks-same a b l ha hb e =
+    blocksFrom-same (blockCount (length a)) a b (omega arith) l ha hb (e ∙ ap (λ (n : ℕ). blocksFrom (blockCount n) b) (sym l))
