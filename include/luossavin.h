@@ -178,22 +178,33 @@ struct luossavin_answer {
  *   answer       0 is a key, 13 answers 13, and all else 1
  *   number       any value is repeated as it stands, 0 too
  *   retired      0 is not retired, and all else is
+ *   engine       1 is the four tables, and all else the plain engine
  *
- * What is behind the last field, a byte, is no part of the record yet and may hold anything. */
+ * `engine` says how the rounds of SM4 are made, and nothing else: every call answers with the same numbers, reports
+ * and bytes whatever it is. The plain engine looks bytes up in a table of 1 KiB. The other has four tables, 4 KiB that
+ * each call lays out on its stack, and takes little more than half the instructions for a long message outside Gcm
+ * (docs/SPEED.md). Starts in pieces and luossavin_which, which encipher three blocks at most, take the plain one in any
+ * case. Both read at places that depend on the key and the text, so neither is for a machine on which others may watch
+ * the caches. A message in pieces keeps the engine that its start had. */
 struct luossavin_key {
     uint32_t round_keys[32];
     uint32_t answer;
     uint16_t number;
     uint8_t retired;
+    uint8_t engine;
 };
 
 /* Sets up a key of 16 bytes under a number from 1 to 65,535. The record's `answer` is 0, 1 or 13; a key is not
- * retired. */
+ * retired, and has the plain engine. */
 struct luossavin_key luossavin_key_new(const uint8_t *key, size_t key_len, uint32_t number);
 
 /* The same key with `retired` 1, whatever it was. A record that is no key, `answer` not 0, comes back with every
  * field as it was. */
 struct luossavin_key luossavin_key_retire(struct luossavin_key key);
+
+/* The same record with another engine: `engine` of it is 1 where 1 was asked for, and otherwise 0. Every other field
+ * is as it was, of a retired key and of a record that is no key too. */
+struct luossavin_key luossavin_key_engine(struct luossavin_key key, uint32_t engine);
 
 /* Encrypts one block of 16 bytes, as GB/T 32907-2016 has it. It answers 0 with length 16, or 1, 13, 11, 14
  * or 6. */
@@ -305,6 +316,7 @@ struct luossavin_ctr {
     size_t total;
     uint32_t stands;
     uint16_t key;
+    uint8_t engine;
 };
 struct luossavin_seal {
     uint32_t round_keys[32];
@@ -316,6 +328,7 @@ struct luossavin_seal {
     uint32_t low;
     uint32_t stands;
     uint16_t key;
+    uint8_t engine;
 };
 struct luossavin_opens {
     struct luossavin_hashing hashing;

@@ -118,10 +118,10 @@ void put_from(struct state *s, const uint8_t from[16])
 
 int same_state(const struct state *a, const struct state *b)
 {
-    size_t last = a->kind == COUNTING ? offsetof(struct luossavin_ctr, key)
-        : a->kind == SEALING          ? offsetof(struct luossavin_seal, key)
-                                      : offsetof(struct luossavin_opens, key);
-    return a->kind == b->kind && memcmp(&a->is, &b->is, last + sizeof(uint16_t)) == 0;
+    size_t end = a->kind == COUNTING ? offsetof(struct luossavin_ctr, engine) + 1
+        : a->kind == SEALING         ? offsetof(struct luossavin_seal, engine) + 1
+                                     : offsetof(struct luossavin_opens, key) + sizeof(uint16_t);
+    return a->kind == b->kind && memcmp(&a->is, &b->is, end) == 0;
 }
 
 int holds_only(const struct state *s, uint32_t stands, uint16_t number)

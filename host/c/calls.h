@@ -58,7 +58,7 @@ struct luossavin_answer call_end(struct state *s, uint8_t *bytes, size_t count);
 /* Whether every field is the same. */
 int same_state(const struct state *a, const struct state *b);
 
-/* Whether every field is zero but the last two: what it stands at, and its key's number. */
+/* Whether every field is zero but what it stands at, and its key's number. */
 int holds_only(const struct state *s, uint32_t stands, uint16_t number);
 
 /* Fields that a forged state is given; Ctr has no label, and gives NULL. */

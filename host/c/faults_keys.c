@@ -1,12 +1,15 @@
 /* Keys under bad input: every length about that of a key, and numbers about their limits, with the key's bytes
- * lent as in faults.c; and records of any value, which are retired. What the header says is in rules.c. */
+ * lent as in faults.c; and records of any value, which are retired and given an engine. What the header says is in
+ * rules.c. */
 #include "faults.h"
 
 #include <stdio.h>
 
-/* What runs: a key that is set up, or a record that is retired. */
+/* What runs: a key that is set up, or a record that is retired or given an engine. */
+enum does { SETS_UP, RETIRES, MARKS };
+static const char *const did[] = {"set up", "retired", "given an engine"};
 static struct {
-    int retires;
+    enum does does;
     size_t bytes;
     uint32_t number;
     struct holder fields;
@@ -17,9 +20,9 @@ static void print_trial(const char *what)
     if (!is_printed()) {
         return;
     }
-    if (now.retires) {
-        printf("wrong: %s: a record of %u, %u, %u, retired\n", what, now.fields.answer, now.fields.number,
-            now.fields.retired);
+    if (now.does != SETS_UP) {
+        printf("wrong: %s: a record of %u, %u, %u, %s\n", what, now.fields.answer, now.fields.number,
+            now.fields.retired, did[now.does]);
     } else {
         printf("wrong: %s: a key of %zu bytes with number %u\n", what, now.bytes, now.number);
     }
@@ -30,7 +33,7 @@ static void try_set_up(size_t bytes, uint32_t number)
 {
     struct buffer key = lend(bytes, 0);
     struct luossavin_key got, due = {0};
-    now.retires = 0;
+    now.does = SETS_UP;
     now.bytes = bytes;
     now.number = number;
     now.fields = set_up(bytes, number);
@@ -55,7 +58,7 @@ static void try_set_up(size_t bytes, uint32_t number)
 static void try_retire(struct holder fields)
 {
     struct luossavin_key due = holding(record(fields), retired(fields)), once, twice;
-    now.retires = 1;
+    now.does = RETIRES;
     now.fields = fields;
     once = luossavin_key_retire(record(fields));
     twice = luossavin_key_retire(once);
@@ -65,8 +68,24 @@ static void try_retire(struct holder fields)
     }
 }
 
+/* The engine alone is another: 1 where 1 was asked for, and otherwise 0. */
+static void try_engine(struct holder fields, uint32_t engine)
+{
+    struct luossavin_key before = record(fields), due = before, got;
+    now.does = MARKS;
+    now.fields = fields;
+    due.engine = engine == 1;
+    before.engine = (uint8_t)(engine >> 3);
+    got = luossavin_key_engine(before, engine);
+    calls++;
+    if (!same_key(&got, &due)) {
+        print_trial("its record");
+    }
+}
+
 void keys(void)
 {
+    static const uint32_t engines[] = {0, 1, 2, 3, 255, 256, 257, 65537, 0x1000001, 0x80000000, 0x80000001, 0xffffffff};
     static const uint32_t numbers[] = {0, 1, 2, 255, 256, 65534, 65535, 65536, 65537, 0x10000 + 1, 0x7fffffff,
         0x80000000, 0xffff0001, 0xffffffff};
     static const uint32_t answers[] = {0, 1, 13, 2, 12, 14, 255, 256, 13 << 8, 65536, 0x80000000, 0xffffffff};
@@ -79,7 +98,9 @@ void keys(void)
     for (size_t i = 0; i < sizeof answers / sizeof *answers; i++) {
         for (size_t k = 0; k < sizeof numbers / sizeof *numbers; k++) {
             for (int mark = 0; mark < 256; mark++) {
-                try_retire((struct holder){answers[i], (uint16_t)numbers[k], (uint8_t)mark});
+                struct holder fields = {answers[i], (uint16_t)numbers[k], (uint8_t)mark};
+                try_retire(fields);
+                try_engine(fields, engines[(unsigned)mark % (sizeof engines / sizeof *engines)]);
             }
         }
     }

@@ -54,9 +54,9 @@ struct luossavin_key holding(struct luossavin_key key, struct holder fields)
 
 int same_key(const struct luossavin_key *a, const struct luossavin_key *b)
 {
-    /* without a hole before the last field, the same fields are the same bytes up to its end */
-    _Static_assert(offsetof(struct luossavin_key, retired) == 32 * 4 + 4 + 2, "the record has a hole");
-    return memcmp(a, b, offsetof(struct luossavin_key, retired) + 1) == 0;
+    /* without a hole, the same fields are the same bytes */
+    _Static_assert(sizeof(struct luossavin_key) == 32 * 4 + 4 + 2 + 1 + 1, "the record has a hole");
+    return memcmp(a, b, sizeof *a) == 0;
 }
 
 /* What a record is to a call: 0 is a key, 13 is refused so, and all else is refused with 1. */

@@ -298,10 +298,9 @@ static void order(void)
     refused(decrypt(3, NULL, 0, NULL, 0), &l, 8, "empty Cbc, with no room");
 }
 
-int main(void)
+/* The calls on the key as it stands, with its engine. */
+static void on_the_key(void)
 {
-    layout();
-    key = luossavin_key_new(key_bytes, 16, NUMBER);
     for (uint32_t mode = 0; mode <= 4; mode++) {
         for (size_t n = 0; n <= 40; n++) {
             there_and_back(16, mode, n);
@@ -310,8 +309,6 @@ int main(void)
     for (size_t n = 0; n <= 40; n++) {
         there_and_back(12, 4, n);
     }
-    rfc_8998();
-    rfc_8998_otherwise();
     single_block();
     refusals();
     order();
@@ -321,9 +318,21 @@ int main(void)
     which();
     rounds();
     workers();
+}
+
+int main(void)
+{
+    layout();
+    key = luossavin_key_new(key_bytes, 16, NUMBER);
+    on_the_key();
+    rfc_8998();
+    rfc_8998_otherwise();
     shelves();
     journals();
     halves();
+    key = luossavin_key_engine(key, 1);
+    on_the_key();
+    engines();
     printf("%u checked, %u wrong\n", checked, wrong);
     return wrong != 0;
 }

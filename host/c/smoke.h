@@ -1,6 +1,6 @@
 /* What the files of the smoke test share: single calls, Cbc's padding, keys, messages in pieces, the question which
- * label a file opens under, counters that come round, ranges and plans for several workers, shelves, journals, and
- * hashes of halves. */
+ * label a file opens under, counters that come round, ranges and plans for several workers, shelves, journals, hashes of
+ * halves, and the two engines. */
 #ifndef SMOKE_H
 #define SMOKE_H
 
@@ -80,5 +80,8 @@ void journals(void);
 
 /* Hashes of halves, joined. */
 void halves(void);
+
+/* The two engines side by side. */
+void engines(void);
 
 #endif

@@ -16,6 +16,7 @@ static void layout(void)
     stands_at(offsetof(struct luossavin_key, answer), 128, "where its answer stands", "the record");
     stands_at(offsetof(struct luossavin_key, number), 132, "where its number stands", "the record");
     stands_at(offsetof(struct luossavin_key, retired), 134, "where the mark stands", "the record");
+    stands_at(offsetof(struct luossavin_key, engine), 135, "where the engine stands", "the record");
 }
 
 /* Setting up. */
@@ -37,12 +38,13 @@ static void one_set_up(size_t bytes, uint32_t number)
     struct luossavin_key k = luossavin_key_new(bytes ? front : NULL, bytes, number), due = {0};
     if (bytes == 16 && number >= 1 && number <= 65535) {
         due = key;
+        due.engine = 0;
     }
     due = holding(due, set_up(bytes, number));
     check(k.answer == due.answer, "its answer", "setting up a key", k.answer);
     check(k.number == due.number, "its number", "setting up a key", k.number);
     check(k.retired == 0, "it is not retired", "setting up a key", k.retired);
-    check(same_key(&k, &due), "its round keys", "setting up a key", bytes);
+    check(same_key(&k, &due), "its round keys and its engine", "setting up a key", bytes);
 }
 
 static void set_ups(void)

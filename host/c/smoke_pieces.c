@@ -14,6 +14,7 @@ static void layouts(void)
     stands_at(offsetof(struct luossavin_ctr, total), 176, "where the total stands", "Ctr's state");
     stands_at(offsetof(struct luossavin_ctr, stands), 184, "where its standing is", "Ctr's state");
     stands_at(offsetof(struct luossavin_ctr, key), 188, "where the key's number stands", "Ctr's state");
+    stands_at(offsetof(struct luossavin_ctr, engine), 190, "where the engine stands", "Ctr's state");
     stands_at(sizeof(struct luossavin_seal), 256, "its size", "sealing's state");
     stands_at(offsetof(struct luossavin_seal, flow), 128, "where the flow stands", "sealing's state");
     stands_at(offsetof(struct luossavin_seal, hashing), 160, "where the hash stands", "sealing's state");
@@ -23,6 +24,7 @@ static void layouts(void)
     stands_at(offsetof(struct luossavin_seal, low), 240, "where J0's last bytes stand", "sealing's state");
     stands_at(offsetof(struct luossavin_seal, stands), 244, "where its standing is", "sealing's state");
     stands_at(offsetof(struct luossavin_seal, key), 248, "where the key's number stands", "sealing's state");
+    stands_at(offsetof(struct luossavin_seal, engine), 250, "where the engine stands", "sealing's state");
     stands_at(sizeof(struct luossavin_opens), 96, "its size", "opening's state");
     stands_at(offsetof(struct luossavin_opens, mask), 48, "where the mask stands", "opening's state");
     stands_at(offsetof(struct luossavin_opens, label), 64, "where the label stands", "opening's state");

@@ -6,6 +6,7 @@
  *   work which 4 decrypt SIZE TIMES LABELS
  *   work join 4 encrypt SIZE TIMES BLOCKS
  *   work version libgcrypt|OpenSSL
+ *   work tables ..        the archive on the engine of four tables, in the first three
  *
  * Each message has its key set up anew; of `once`, which is the archive too, one set-up serves all of them. MODE is
  * 0 to 4. In pieces of PIECE bytes, by the archive, it is 2, or 4: sealing, or opening without the text. A range of
@@ -36,9 +37,11 @@ typedef int work(const struct task *t, struct field data, uint8_t *out, size_t r
 /* The key's record, which `once` keeps. */
 static struct luossavin_key record;
 
+static uint32_t engine;
+
 static void set_up_key(void)
 {
-    record = luossavin_key_new(key, sizeof key, 1);
+    record = luossavin_key_engine(luossavin_key_new(key, sizeof key, 1), engine);
 }
 
 static int once(const struct task *t, struct field data, uint8_t *out, size_t room)
@@ -55,11 +58,14 @@ static int archive(const struct task *t, struct field data, uint8_t *out, size_t
 
 static int in_pieces(const struct task *t, struct field data, uint8_t *out, size_t room)
 {
-    const struct given given = {.key = luossavin_key_new(key, sizeof key, 1), .iv = iv, .iv_len = sizeof iv};
+    struct given given = {.iv = iv, .iv_len = sizeof iv};
     enum kind kind = t->mode == CTR ? COUNTING : t->direction == ENCRYPT ? SEALING : OPENING;
     size_t text = kind == OPENING ? data.length - 16 : data.length, by = t->last;
     struct state s;
-    struct luossavin_answer a = call_start(kind, &s, &given);
+    struct luossavin_answer a;
+    set_up_key();
+    given.key = record;
+    a = call_start(kind, &s, &given);
     for (size_t i = 0; a.number == 0 && i < text; i += by) {
         a = call_piece(&s, data.bytes + i, text - i < by ? text - i : by, out + i, room - i);
     }
@@ -186,6 +192,11 @@ int main(int argc, char **argv)
 {
     struct task t = {0};
     start_peers();
+    if (argc > 2 && strcmp(argv[1], "tables") == 0) {
+        engine = 1;
+        argc--;
+        argv++;
+    }
     if (argc == 3 && strcmp(argv[1], "version") == 0) {
         puts(peer_named(argv[2])->version());
         return 0;
@@ -200,7 +211,8 @@ int main(int argc, char **argv)
     if (!is_task(argv[1], &t)) {
         fprintf(stderr, "usage: work archive|once|libgcrypt|OpenSSL MODE encrypt|decrypt SIZE TIMES, or work pieces 2|4 "
             "encrypt|decrypt SIZE TIMES PIECE, or work range 2 encrypt|decrypt SIZE TIMES OFFSET, or work which 4 decrypt "
-            "SIZE TIMES LABELS, or work join 4 encrypt SIZE TIMES BLOCKS, or work version libgcrypt|OpenSSL\n");
+            "SIZE TIMES LABELS, or work join 4 encrypt SIZE TIMES BLOCKS, or work version libgcrypt|OpenSSL; or work "
+            "tables and one of the first three\n");
         return 64;
     }
     return run(work_of(argv[1]), &t);

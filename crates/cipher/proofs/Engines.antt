@@ -1,25 +1,49 @@
--- The engine that is lent: the plain one is the S-box, whose bytes are laid out as words one by one.
+-- The engine that is lent: its length tells which it is. The plain one is the S-box, whose bytes are laid out as words one by
+-- one.
 -- Assumes nothing.
 use mathlib.Core.Path.{_≡_, refl, sym, ap, _∙_}
+use mathlib.Core.Logic.{inl, inr}
 use mathlib.Core.List.{List}
-use Prim.Native.Nat.{ℕ, _+_, _<_, _≤_}
+use Prim.Native.Nat.{ℕ, zero, suc, _+_, _<_, _≤_}
 use native.Mathlib.Numerals.{add-one}
+use native.Mathlib.Omega.{arith}
 use lib.ListN.{length, take, getD, set}
 use lib.Seq.{take-suc, take-suc-set, take-all}
 use Rattle.cipher.specs.Sm4.{sboxTable}
-use Rattle.cipher.specs.Engine.{Engine}
+use Rattle.cipher.specs.Engine.{mixedFrom, mixedTable, Engine}
 
 length-sbox : length sboxTable ≡ 256
 unfolding sboxTable
 length-sbox = refl
 
+length-from : (n k : ℕ) → length (mixedFrom n k) ≡ n
+unfolding mixedFrom
+length-from zero k = refl
+length-from (suc n) k = ap suc (length-from n (suc k))
+
+length-mixed : length mixedTable ≡ 1024
+unfolding mixedTable
+length-mixed = length-from 1024 0
+
 pub plain-length : (t : List ℕ) → t ≡ sboxTable → length t ≡ 256
 plain-length t e = ap length e ∙ length-sbox
 
--- what is lent is the S-box
-pub by-sbox : (t : List ℕ) → Engine t → t ≡ sboxTable
+pub mixed-length : (t : List ℕ) → t ≡ mixedTable → length t ≡ 1024
+mixed-length t e = ap length e ∙ length-mixed
+
+-- what is lent is the S-box where it has 256 words
+pub by-sbox : (t : List ℕ) → Engine t → length t ≡ 256 → t ≡ sboxTable
 unfolding Engine
-by-sbox t e = e
+by-sbox t (inl e) h = e
+by-sbox t (inr e) h =
+    let m = mixed-length t e in
+    absurd (omega arith)
+
+-- and otherwise the four tables
+pub by-four : (t : List ℕ) → Engine t → (length t ≡ 256 → ⊥) → t ≡ mixedTable
+unfolding Engine
+by-four t (inl e) h = absurd (h (plain-length t e))
+by-four t (inr e) h = e
 
 -- one more entry of t, stored in its place of w
 pub laid-more : (t w : List ℕ) (i : ℕ) → i < length t → i < length w → take i w ≡ take i t

@@ -1,4 +1,5 @@
--- The key's record: setting it up, from the bytes and the number alone; retiring it; the number that it answers with.
+-- The key's record: setting it up, from the bytes and the number alone; retiring it; marking its engine; the number that it answers
+-- with.
 use Prim.Native.Nat.{ℕ}
 use mathlib.Core.Bool.{Bool, true, false, not, _||_, cond}
 use mathlib.Core.List.{List}
@@ -20,27 +21,31 @@ keyHead WrongNumber = refusal 13
 
 -- a record of no usable key, with 32 zero words
 abbrev pub noCipher : KeyAnswer → Sm4Cipher
-noCipher a = record { rk = replicate 32 0; answer = a; number = 0; retired = false }
+noCipher a = record { rk = replicate 32 0; answer = a; number = 0; retired = false; engine = 0 }
 
 -- a key's number is 1 to 65,535
 abbrev pub wrongNumber : ℕ → Bool
 wrongNumber n = eqb n 0 || ltb 65535 n
 
--- a key has 16 bytes and a number in range; a new one is unretired
+-- a key has 16 bytes and a number in range; a new one is unretired, and its engine is the plain one
 unfoldable pub newCipher : List ℕ → ℕ → Sm4Cipher
 newCipher key number =
     cond (not (eqb (length key) 16)) (noCipher ErrorBlockSize)
     (cond (wrongNumber number) (noCipher WrongNumber)
-    (record { rk = roundKeys key; answer = Key; number = number; retired = false }))
+    (record { rk = roundKeys key; answer = Key; number = number; retired = false; engine = 0 }))
 
 -- the record retired; of no key the same no key
 abbrev pub retiredIf : KeyAnswer → Sm4Cipher → Sm4Cipher
-retiredIf Key c = record { rk = c .rk; answer = Key; number = c .number; retired = true }
+retiredIf Key c = record { rk = c .rk; answer = Key; number = c .number; retired = true; engine = c .engine }
 retiredIf ErrorBlockSize c = c
 retiredIf WrongNumber c = c
 
 unfoldable pub retire : Sm4Cipher → Sm4Cipher
 retire c = retiredIf (c .answer) c
+
+-- the record with the mark e of an engine
+unfoldable pub withEngine : ℕ → Sm4Cipher → Sm4Cipher
+withEngine e c = record { rk = c .rk; answer = c .answer; number = c .number; retired = c .retired; engine = e }
 
 -- the number that every answer of a call on the record repeats: 0 where no key stands
 abbrev pub numberIn : KeyAnswer → ℕ → ℕ

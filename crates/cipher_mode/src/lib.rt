@@ -6,7 +6,7 @@ mod work;
 
 ghost use mathlib.Core.Path.{_≡_};
 ghost use Rattle.cipher_mode.specs.Answer.{outcome};
-ghost use Rattle.cipher_mode.specs.Key.{noCipher, wrongNumber, newCipher, retire, numberIn, newCipherMode};
+ghost use Rattle.cipher_mode.specs.Key.{noCipher, wrongNumber, newCipher, retire, withEngine, numberIn, newCipherMode};
 ghost use Rattle.cipher_mode.specs.Tables.{modeOf};
 ghost use Rattle.cipher_mode.specs.Calls.{blockCall, modeCall};
 use answer::Answer;
@@ -20,12 +20,14 @@ pub enum KeyAnswer {
     WrongNumber,
 }
 
-// Round keys, beside the answer that says whether they are a key's; the key's number, and whether it is retired.
+// Round keys, beside the answer that says whether they are a key's; the key's number, whether it is retired, and the mark of the
+// engine that its rounds go by, which no outcome tells.
 pub struct Sm4Cipher {
     pub rk: [u32; 32],
     pub answer: KeyAnswer,
     pub number: u16,
     pub retired: bool,
+    pub engine: u8,
 }
 
 pub enum CipherMode {
@@ -87,6 +89,7 @@ fn no_cipher(answer: KeyAnswer) -> Sm4Cipher
         answer,
         number: 0,
         retired: false,
+        engine: 0,
     }
 }
 
@@ -107,6 +110,7 @@ impl Sm4Cipher {
             answer: KeyAnswer::Key,
             number: number as u16,
             retired: false,
+            engine: 0,
         }
     }
 
@@ -117,15 +121,32 @@ impl Sm4Cipher {
         let answer = self.answer;
         let rk = self.rk;
         let number = self.number;
+        let engine = self.engine;
         match answer {
             KeyAnswer::Key => Sm4Cipher {
                 rk,
                 answer: KeyAnswer::Key,
                 number,
                 retired: true,
+                engine,
             },
             KeyAnswer::ErrorBlockSize => self,
             KeyAnswer::WrongNumber => self,
+        }
+    }
+
+    // The record with the mark of an engine: `cipher::FOUR_TABLES`, and all else is the plain engine.
+    pub fn with_engine(self, engine: u8) -> Sm4Cipher
+        ensures { λ r. ⌜ r ≡ withEngine engine self ⌝ }
+    {
+        let rk = self.rk;
+        let answer = self.answer;
+        Sm4Cipher {
+            rk,
+            answer,
+            number: self.number,
+            retired: self.retired,
+            engine,
         }
     }
 
@@ -140,7 +161,7 @@ impl Sm4Cipher {
             return answer::refused(key, refusal);
         }
         let rk = self.rk;
-        work::block(rk, direction, block_in, out);
+        work::block(self.engine, rk, direction, block_in, out);
         answer::done(key, 16)
     }
 
@@ -193,9 +214,9 @@ impl Sm4CipherMode {
         if let Checked::Refused(refusal) = checked {
             return answer::refused(key, refusal);
         }
-        let t = cipher::plain();
         let rk = cipher.rk;
-        let worked = work::message(&t, rk, direction, mode, aad, data, iv, out);
+        let engine = cipher.engine;
+        let worked = work::message_by(engine, rk, direction, mode, aad, data, iv, out);
         let ending = worked.ending;
         Answer {
             ending,

@@ -51,14 +51,22 @@ fn keys_for(rk: [u32; 32], direction: Direction) -> [u32; 32]
 }
 
 // A single block.
-pub(crate) fn block(rk: [u32; 32], direction: Direction, block_in: &[u8], out: &mut [u8])
+pub(crate) fn block(
+    engine: u8,
+    rk: [u32; 32],
+    direction: Direction,
+    block_in: &[u8],
+    out: &mut [u8],
+)
     requires { ⌜ length (now «block_in») ≡ 16 ⌝ }
     requires { ⌜ 16 ≤ length (now out) ⌝ }
     ensures { λ _. ⌜ now (out .exit) ≡ blockOf direction rk (now («block_in» .entry)) ++ drop 16 (now (out .entry)) ⌝ }
 {
-    let t = cipher::plain();
     let keys = keys_for(rk, direction);
-    block::put_block(cipher::encrypt(&t, keys, block::split_block(block_in)), out);
+    block::put_block(
+        cipher::encrypt_by(engine, keys, block::split_block(block_in)),
+        out,
+    );
 }
 
 // Cfb has a kind for each direction; Ofb and Ctr are their own opposite.
@@ -181,7 +189,7 @@ fn by_gcm(
 }
 
 // A message. Only Gcm looks at the label.
-pub(crate) fn message(
+fn message(
     t: &[u32],
     rk: [u32; 32],
     direction: Direction,
@@ -205,4 +213,29 @@ pub(crate) fn message(
         CipherMode::Cbc => quiet(by_cbc(t, rk, direction, iv, data, out)),
         CipherMode::Gcm => by_gcm(t, rk, direction, aad, data, iv, out),
     }
+}
+
+// A message, by the engine of a mark: its tables are laid out here, and lent to every block.
+pub(crate) fn message_by(
+    engine: u8,
+    rk: [u32; 32],
+    direction: Direction,
+    mode: CipherMode,
+    aad: &[u8],
+    data: &[u8],
+    iv: &[u8],
+    out: &mut [u8],
+) -> Worked
+    requires { ⌜ wrongIv mode (length (now iv)) ≡ false ⌝ }
+    requires { ⌜ labelCheck mode (length (now aad)) ≡ Checked.Passed ⌝ }
+    requires { ⌜ dataCheck direction mode (length (now «data»)) ≡ Checked.Passed ⌝ }
+    requires { ⌜ roomOf mode direction (length (now «data»)) ≤ length (now out) ⌝ }
+    ensures { λ r. ⌜ worked r (now (out .exit)) ≡ modeResult mode direction rk (now (aad .entry)) (now («data» .entry)) (now (iv .entry)) (now (out .entry)) ⌝ }
+{
+    if engine == cipher::FOUR_TABLES {
+        let t = cipher::mixed::tables();
+        return message(&t, rk, direction, mode, aad, data, iv, out);
+    }
+    let t = cipher::plain();
+    message(&t, rk, direction, mode, aad, data, iv, out)
 }

@@ -157,13 +157,13 @@ pub ctr-start-says : (dir : Direction) (c : Sm4Cipher) (iv : List ℕ) → Says 
 unfolding ctrStart
 ctr-start-says dir c iv =
     let k = keyNumber c in
-    start-says Ctr·state k (keyAndIv (c .answer) (c .retired) dir Ctr (length iv)) (ctrShut k) (ctrAfter k (c .rk) iv [])
+    start-says Ctr·state k (keyAndIv (c .answer) (c .retired) dir Ctr (length iv)) (ctrShut k) (ctrAfter k (c .engine) (c .rk) iv [])
 
 pub seal-start-says : (c : Sm4Cipher) (label iv : List ℕ) → Says false (sealStart c label iv .head)
 unfolding sealStart
 seal-start-says c label iv =
     let k = keyNumber c in
-    start-says Seal k (gcmStarting (c .answer) (c .retired) Encrypt (length iv) (length label)) (sealShut k) (sealAfter k (c .rk) label iv [])
+    start-says Seal k (gcmStarting (c .answer) (c .retired) Encrypt (length iv) (length label)) (sealShut k) (sealAfter k (c .engine) (c .rk) label iv [])
 
 pub opens-start-says : (c : Sm4Cipher) (label iv : List ℕ) → Says false (opensStart c label iv .head)
 unfolding opensStart

@@ -131,7 +131,7 @@ new-cipher-answers key n =
   where
     fresh : (size range : Bool)
         → cond size (noCipher NoKey)
-        (cond range (noCipher NoNumber) (record { rk = roundKeys key; answer = Key; number = n; retired = false })) .retired ≡ false
+        (cond range (noCipher NoNumber) (record { rk = roundKeys key; answer = Key; number = n; retired = false; engine = 0 })) .retired ≡ false
     fresh true range = refl
     fresh false true = refl
     fresh false false = refl

@@ -32,7 +32,7 @@ mark-back false = refl
 pub handed-back : (c : Sm4Cipher) → cipherIn (keyOf c) ≡ c
 unfolding cipherIn keyOf
 handed-back c =
-    ap₂ {C = Sm4Cipher} (λ (a : KeyAnswer) (b : Bool). record { rk = c .rk; answer = a; number = c .number; retired = b })
+    ap₂ {C = Sm4Cipher} (λ (a : KeyAnswer) (b : Bool). record { rk = c .rk; answer = a; number = c .number; retired = b; engine = c .engine })
     (answer-back (c .answer)) (mark-back (c .retired))
 
 -- so what a host set up is the key's record

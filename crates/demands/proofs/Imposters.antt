@@ -30,7 +30,7 @@ use Rattle.cipher_mode.specs.declared.KeyAnswer.the-variants.{Key}
 use Rattle.cipher_mode.specs.declared.Sm4Cipher.{Sm4Cipher}
 use Rattle.cipher_mode.specs.declared.checks.Checked.the-variants.{Passed}
 use Rattle.cipher_mode.specs.declared.Sm4CipherMode.{Sm4CipherMode}
-use Rattle.cipher_mode.specs.Key.{newCipher, keyNumber, newCipherMode}
+use Rattle.cipher_mode.specs.Key.{newCipher, withEngine, keyNumber, newCipherMode}
 use Rattle.cipher_mode.specs.Tables.{limit}
 use Rattle.cipher_mode.specs.Checks.{keyAndIv, dataCheck, roomCheck, messageCheck}
 use Rattle.cipher_mode.specs.Calls.{lengthsOf, modeCall}
@@ -56,10 +56,11 @@ use Rattle.demands.specs.Served.{Asks, Served}
 use Rattle.demands.specs.ThereAndBack.{ThereAndBack}
 use Rattle.demands.specs.OneBlockRefused.{OneBlockRefused}
 use Rattle.demands.specs.Imposters.{zeros, zeroKey, ones, refusesAll, constant, copies, firstBlockOnly, inventsLength, countsEveryStep, saysItRefused}
-use Rattle.demands.specs.Imposters.{forgetsNumber, takesAnyNumber, copiesAnew, throwsAway, countsFromOne, fileFirst, fromTheBlock, planFirst}
+use Rattle.demands.specs.Imposters.{forgetsNumber, takesAnyNumber, copiesAnew, throwsAway, marksAnew, tellsEngine, countsFromOne, fileFirst, fromTheBlock, planFirst}
 use Rattle.demands.specs.Imposters.{againstCurrent, marksFirst, countsBytes, twoEditions}
 use Rattle.demands.specs.Halves.{IsValue, WholeBlocks, hashOfHalves}
 use Rattle.demands.specs.Retired.{StaysRetired, DecryptsAlike}
+use Rattle.demands.specs.EngineUnseen.{unmarked}
 use Rattle.demands.specs.Which.{Tells}
 use Rattle.demands.proofs.Through.{through, leaves}
 use Rattle.demands.proofs.ModesBack.{encrypted, encrypts, length-encrypted}
@@ -205,7 +206,7 @@ any-number-is-told claim =
 -- Retiring by a copy breaks that a retired record stays retired, at any that is.
 pub copy-anew-is-unretired : ¬ StaysRetired copiesAnew
 copy-anew-is-unretired claim =
-    let z : _≡_ {A = Bool} false true = claim (record { rk = []; answer = Key; number = 1; retired = true }) refl in
+    let z : _≡_ {A = Bool} false true = claim (record { rk = []; answer = Key; number = 1; retired = true; engine = 0 }) refl in
     let y : _≡_ {A = ℕ} 0 1 = ap (λ (b : Bool). cond b 1 0) z in
     absurd (omega arith)
 
@@ -215,6 +216,22 @@ pub thrown-away-opens-nothing : ¬ ((c : Sm4Cipher) → DecryptsAlike c (throwsA
 unfolding modeCall messageCheck keyAndIv newCipher
 thrown-away-opens-nothing claim =
     let z : _≡_ {A = ℕ} 1 10 = ap (λ (x : Outcome). x .head .number) (claim (newCipher zeros 1) .message Ctr [] [] [] []) in
+    absurd (omega arith)
+
+-- Marking by a copy breaks it too.
+pub mark-anew-is-unretired : (e : ℕ) → ¬ StaysRetired (marksAnew e)
+mark-anew-is-unretired e claim =
+    let z : _≡_ {A = Bool} false true = claim (record { rk = []; answer = Key; number = 1; retired = true; engine = 0 }) refl in
+    let y : _≡_ {A = ℕ} 0 1 = ap (λ (b : Bool). cond b 1 0) z in
+    absurd (omega arith)
+
+-- Telling the engine breaks that it is not seen, at the key of sixteen zero bytes and nothing to encrypt.
+pub told-engine-is-seen :
+    ¬ ((c d : Sm4Cipher) → unmarked c ≡ unmarked d → tellsEngine (inGcm c) [] [] [] [] ≡ tellsEngine (inGcm d) [] [] [] [])
+unfolding withEngine newCipher
+told-engine-is-seen claim =
+    let c = newCipher zeros 1 in
+    let z : _≡_ {A = ℕ} 0 1 = ap (λ (x : Outcome). x .head .cameRound) (claim c (withEngine 1 c) refl) in
     absurd (omega arith)
 
 -- one empty candidate and sixteen bytes of IV: what is left to pass is the file

@@ -134,13 +134,13 @@ ctr-within Decrypt n e = data-within Decrypt Ctr·mode n e
 -- the starts that pass
 ctr-starts : (dir : Direction) (c : Sm4Cipher) (iv : List ℕ) → c .answer ≡ Key → wrongIv Ctr·mode (length iv) ≡ false
     → retiredCheck dir (c .retired) ≡ Passed
-    → ctrStart dir c iv ≡ record { head = under (keyNumber c) (finished 0); bytes = []; state = ctrAfter (keyNumber c) (c .rk) iv [] }
+    → ctrStart dir c iv ≡ record { head = under (keyNumber c) (finished 0); bytes = []; state = ctrAfter (keyNumber c) (c .engine) (c .rk) iv [] }
 unfolding keyAndIv
 ctr-starts dir c iv k n u = ctr-started dir c iv (rw (k, n, u))
 
 seal-starts : (c : Sm4Cipher) (label iv : List ℕ) → c .answer ≡ Key → wrongIv Gcm (length iv) ≡ false
     → retiredCheck Encrypt (c .retired) ≡ Passed → length label ≤ limit
-    → sealStart c label iv ≡ record { head = under (keyNumber c) (finished 0); bytes = []; state = sealAfter (keyNumber c) (c .rk) label iv [] }
+    → sealStart c label iv ≡ record { head = under (keyNumber c) (finished 0); bytes = []; state = sealAfter (keyNumber c) (c .engine) (c .rk) label iv [] }
 unfolding gcmStarting keyAndIv
 seal-starts c label iv k n u h = seal-started c label iv (rw (k, n, u, le-ltb limit (length label) h))
 
@@ -148,20 +148,20 @@ seal-starts c label iv k n u h = seal-started c label iv (rw (k, n, u, le-ltb li
 chain-nothing : (rk iv : List ℕ) → chain (streamMode Ctr·kind rk) iv [] ≡ []
 chain-nothing rk iv = chain-rest (streamMode Ctr·kind rk) iv [] (omega arith)
 
-ctr-goes : (i : ℕ) (rk iv : List ℕ) → Goes Ctr i (chain (streamMode Ctr·kind rk) iv) (ctrAfter i rk iv) (onto Ctr ctrPiece)
-ctr-goes i rk iv =
+ctr-goes : (i mark : ℕ) (rk iv : List ℕ) → Goes Ctr i (chain (streamMode Ctr·kind rk) iv) (ctrAfter i mark rk iv) (onto Ctr ctrPiece)
+ctr-goes i mark rk iv =
     record {
       kept = length-stream Ctr·kind rk iv;
-      goes = λ d p h r. ctr-goes-on i rk iv d (p .text) (p .out) h r;
-      fronts = λ d e. sym (ctr-joined i rk iv d e);
+      goes = λ d p h r. ctr-goes-on i mark rk iv d (p .text) (p .out) h r;
+      fronts = λ d e. sym (ctr-joined rk iv d e);
     }
 
-seal-goes : (i : ℕ) (rk label iv : List ℕ) → length label ≤ limit
-    → Goes Seal i (textOf rk (J0 rk iv)) (sealAfter i rk label iv) (onto Seal sealPiece)
-seal-goes i rk label iv hl =
+seal-goes : (i mark : ℕ) (rk label iv : List ℕ) → length label ≤ limit
+    → Goes Seal i (textOf rk (J0 rk iv)) (sealAfter i mark rk label iv) (onto Seal sealPiece)
+seal-goes i mark rk label iv hl =
     record {
       kept = length-text rk (J0 rk iv);
-      goes = λ d p h r. seal-goes-on i rk label iv d hl (p .text) (p .out) h r;
+      goes = λ d p h r. seal-goes-on i mark rk label iv d hl (p .text) (p .out) h r;
       fronts = λ d e. sym (seal-joined rk (J0 rk iv) d e);
     }
 
@@ -171,22 +171,23 @@ pub ctr-in-pieces : (dir : Direction) (c : Sm4Cipher)
 ctr-in-pieces dir c ps label iv o r e =
     let rk = c .rk in
     let i = keyNumber c in
+    let mark = c .engine in
     let call = onto Ctr ctrPiece in
     let text = chain (streamMode Ctr·kind rk) iv in
     let m : Sm4CipherMode = record { cipher = c; mode = Ctr·mode } in
     let p = through dir m label (whole ps) iv o e in
     let fits : length (whole ps) ≤ limit = ctr-within dir (length (whole ps)) (p .content) in
-    let w = went Ctr text (ctrAfter i rk iv) call i (ctr-goes i rk iv) [] ps (omega arith) r in
+    let w = went Ctr text (ctrAfter i mark rk iv) call i (ctr-goes i mark rk iv) [] ps (omega arith) r in
     let left = leaves dir m label (whole ps) iv o p in
     let single : result (modeCall dir m label (whole ps) iv o) ≡ text (whole ps) = ap result left ∙ result-of-done (text (whole ps)) o in
-    let end = ap (λ (x : Stepped Ctr). x .head) (ap ctrEnd (w .state) ∙ ctr-ended i rk iv (whole ps) fits) in
+    let end = ap (λ (x : Stepped Ctr). x .head) (ap ctrEnd (w .state) ∙ ctr-ended i mark rk iv (whole ps) fits) in
     subst
     (λ (x : Stepped Ctr). AllDone Ctr call x ps 0 (ctrEnd (stateAfter Ctr Piece call (x .state) ps))
     × (wrote Ctr Piece call (x .state) ps ≡ result (modeCall dir m label (whole ps) iv o))
     × TellsAlike Ctr (ctrEnd (stateAfter Ctr Piece call (x .state) ps)) (modeCall dir m label (whole ps) iv o))
     (sym (ctr-starts dir c iv (p .key) (p .iv-size) (p .may))) (
       record { start = record { number = refl; size = refl }; pieces = w .all; end = did Ctr 0 i (ctrCameRound iv (blocksOf (length (whole ps)))) _ end },
-      ap (λ (l : List ℕ). l ++ wrote Ctr Piece call (ctrAfter i rk iv []) ps) (sym (chain-nothing rk iv)) ∙ w .bytes ∙ sym single,
+      ap (λ (l : List ℕ). l ++ wrote Ctr Piece call (ctrAfter i mark rk iv []) ps) (sym (chain-nothing rk iv)) ∙ w .bytes ∙ sym single,
       ap (λ (h : Head). h .cameRound) end ∙ sym (ap (λ (x : Outcome). x .head .cameRound) left),
     )
 
@@ -196,6 +197,7 @@ unfolding sealed
 seal-in-pieces c ps label iv t o r room e =
     let rk = c .rk in
     let i = keyNumber c in
+    let mark = c .engine in
     let j = J0 rk iv in
     let call = onto Seal sealPiece in
     let text = textOf rk j in
@@ -203,8 +205,8 @@ seal-in-pieces c ps label iv t o r room e =
     let p = through Encrypt (inGcm c) label (whole ps) iv o e in
     let hl = label-passed (length label) (p .label) in
     let fits : length (whole ps) ≤ limit = data-within Encrypt Gcm (length (whole ps)) (p .content) in
-    let w = went Seal text (sealAfter i rk label iv) call i (seal-goes i rk label iv hl) [] ps (omega arith) r in
-    let end = seal-ended i rk label iv (whole ps) hl t fits room in
+    let w = went Seal text (sealAfter i mark rk label iv) call i (seal-goes i mark rk label iv hl) [] ps (omega arith) r in
+    let end = seal-ended i mark rk label iv (whole ps) hl t fits room in
     let left = leaves Encrypt (inGcm c) label (whole ps) iv o p in
     let single : result (modeCall Encrypt (inGcm c) label (whole ps) iv o) ≡ text (whole ps) ++ tag =
     ap result left ∙ result-of-done (text (whole ps) ++ tag) o in
@@ -222,7 +224,7 @@ seal-in-pieces c ps label iv t o r room e =
     (sym (seal-starts c label iv (p .key) (p .iv-size) (p .may) hl)) (
       record { start = record { number = refl; size = refl }; pieces = w .all; end = last .0 },
       ap₂ _++_
-          (ap (λ (l : List ℕ). l ++ wrote Seal Piece call (sealAfter i rk label iv []) ps) (sym (no-text rk j)) ∙ w .bytes) (last .1)
+          (ap (λ (l : List ℕ). l ++ wrote Seal Piece call (sealAfter i mark rk label iv []) ps) (sym (no-text rk j)) ∙ w .bytes) (last .1)
           ∙ sym single,
       last .2 ∙ sym (ap (λ (x : Outcome). x .head .cameRound) left),
     )

@@ -32,6 +32,8 @@ pub mod InTheJournal
 pub mod Halves
 pub mod TrailingZero
 pub mod HashKeys
+pub mod EngineUnseen
+pub mod EngineUnseenInReplay
 -- the worked table and the imposters
 pub mod Worked
 pub mod Edges

@@ -14,7 +14,7 @@ use Rattle.cipher_mode.specs.declared.CipherMode.the-variants.{Ctr as Ctr·mode
 use Rattle.cipher_mode.specs.declared.Direction.the-variants.{Encrypt}
 use Rattle.cipher_mode.specs.declared.Sm4Cipher.{Sm4Cipher}
 use Rattle.cipher_mode.specs.declared.checks.Checked.the-variants.{Passed}
-use Rattle.cipher_mode.specs.Key.{retiredIf, retire}
+use Rattle.cipher_mode.specs.Key.{retiredIf, retire, withEngine}
 use Rattle.cipher_mode.specs.Checks.{retiredCheck, keyAndIv, blockCheck, messageCheck}
 use Rattle.cipher_mode.specs.Calls.{blockCall, modeCall}
 use Rattle.cipher_mode.proofs.Passed.{both, key-and-iv-passed}
@@ -24,13 +24,13 @@ use Rattle.pieces.specs.Checks.{gcmStarting}
 use Rattle.pieces.specs.Calls.{ctrStart, sealStart, opensStart}
 use Rattle.editions.specs.Which.{which, searchCheck}
 use Rattle.luossavin.specs.declared.key.LuossavinKey.{LuossavinKey}
-use Rattle.luossavin.specs.Key.{cipherIn, hostKeyRetire}
+use Rattle.luossavin.specs.Key.{cipherIn, hostKeyRetire, hostKeyEngine}
 use Rattle.demands.specs.Retired.{StaysRetired, DecryptsAlike, EncryptsNothing}
 use Rattle.demands.proofs.Through.{block-through, through, passed-start}
 use Rattle.demands.proofs.Exported.{retired-is-retired}
 
 -- A key that is retired keeps all but the mark;
-pub retired-key : (c : Sm4Cipher) → c .answer ≡ Key → retire c ≡ record { rk = c .rk; answer = Key; number = c .number; retired = true }
+pub retired-key : (c : Sm4Cipher) → c .answer ≡ Key → retire c ≡ record { rk = c .rk; answer = Key; number = c .number; retired = true; engine = c .engine }
 unfolding retire
 retired-key c k = rw k
 
@@ -65,9 +65,13 @@ pub stays-retired : StaysRetired retire
 unfolding retire
 stays-retired c r = marked c (c .answer) r
 
+pub engine-stays-retired : (e : ℕ) → StaysRetired (withEngine e)
+unfolding withEngine
+engine-stays-retired e c r = r
+
 -- The same of a host's records, whose mark is any byte but 0.
 pub exported-retired-key : (k : LuossavinKey) → k .answer ≡ 0
-    → hostKeyRetire k ≡ record { «round_keys» = k .«round_keys»; answer = 0; number = k .number; retired = 1 }
+    → hostKeyRetire k ≡ record { «round_keys» = k .«round_keys»; answer = 0; number = k .number; retired = 1; engine = k .engine }
 unfolding hostKeyRetire
 exported-retired-key k e = rw (eq-eqb (k .answer) 0 e)
 
@@ -90,6 +94,10 @@ host-marked k false e r = rw e r
 
 pub exported-stays-retired : (k : LuossavinKey) → k .retired ≢ 0 → hostKeyRetire k .retired ≢ 0
 exported-stays-retired k = host-marked k (eqb (k .answer) 0) refl
+
+pub exported-engine-stays-retired : (k : LuossavinKey) (e : ℕ) → k .retired ≢ 0 → hostKeyEngine k e .retired ≢ 0
+unfolding hostKeyEngine
+exported-engine-stays-retired k e r = r
 
 -- Decryption does not look at the mark.
 same : (c : Sm4Cipher) → DecryptsAlike c c

@@ -194,7 +194,7 @@ pub ctr-start-answers : (dir : Direction) (c : Sm4Cipher) (iv : List ℕ)
 unfolding ctrStart ctrAfter ctrShut
 ctr-start-answers dir c iv =
     let k = keyNumber c in
-    start-answers Ctr ctrKey k (keyAndIv (c .answer) (c .retired) dir Ctr·mode (length iv)) (ctrShut k) (ctrAfter k (c .rk) iv [])
+    start-answers Ctr ctrKey k (keyAndIv (c .answer) (c .retired) dir Ctr·mode (length iv)) (ctrShut k) (ctrAfter k (c .engine) (c .rk) iv [])
     (key-and-iv-within pieceNumbers refl refl refl refl (c .answer) (c .retired) dir Ctr·mode (length iv)) (λ _. refl) refl
 
 pub seal-start-answers : (c : Sm4Cipher) (label iv : List ℕ)
@@ -203,7 +203,7 @@ unfolding sealStart sealAfter sealShut
 seal-start-answers c label iv =
     let k = keyNumber c in
     start-answers Seal sealKey k (gcmStarting (c .answer) (c .retired) Encrypt (length iv) (length label)) (sealShut k)
-    (sealAfter k (c .rk) label iv []) (gcm-start-within (c .answer) (c .retired) Encrypt (length iv) (length label)) (λ _. refl) refl
+    (sealAfter k (c .engine) (c .rk) label iv []) (gcm-start-within (c .answer) (c .retired) Encrypt (length iv) (length label)) (λ _. refl) refl
 
 pub opens-start-answers : (c : Sm4Cipher) (label iv : List ℕ)
     → Answered pieceNumbers (keyNumber c) [] 0 (outcomeOf Opens (opensStart c label iv)) × (opensStart c label iv .state .key ≡ keyNumber c)
@@ -337,7 +337,7 @@ pub ctr-refused-start : (dir : Direction) (c : Sm4Cipher) (iv : List ℕ) → ct
 unfolding ctrStart
 ctr-refused-start dir c iv n =
     let i = keyNumber c in
-    let s = ctrAfter i (c .rk) iv [] in
+    let s = ctrAfter i (c .engine) (c .rk) iv [] in
     let k = keyAndIv (c .answer) (c .retired) dir Ctr·mode (length iv) in
     subst (NoCtr (ctrStart dir c iv .head .number)) (sym (start-shut Ctr k (ctrShut i) s n))
     (shut-ctr _ (refused-mark Ctr k (ctrShut i) s (start-marks (c .answer) (c .retired) dir Ctr·mode (length iv)) n) i)
@@ -347,7 +347,7 @@ pub seal-refused-start : (c : Sm4Cipher) (label iv : List ℕ) → sealStart c l
 unfolding sealStart
 seal-refused-start c label iv n =
     let i = keyNumber c in
-    let s = sealAfter i (c .rk) label iv [] in
+    let s = sealAfter i (c .engine) (c .rk) label iv [] in
     let k = gcmStarting (c .answer) (c .retired) Encrypt (length iv) (length label) in
     subst (NoSeal (sealStart c label iv .head .number)) (sym (start-shut Seal k (sealShut i) s n))
     (shut-seal _ (refused-mark Seal k (sealShut i) s (gcm-marks (c .answer) (c .retired) Encrypt (length iv) (length label)) n) i)

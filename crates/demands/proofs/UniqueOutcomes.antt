@@ -16,7 +16,7 @@ use Rattle.cipher_mode.specs.declared.Direction.{Direction}
 use Rattle.cipher_mode.specs.declared.Sm4Cipher.{Sm4Cipher}
 use Rattle.cipher_mode.specs.declared.Sm4CipherMode.{Sm4CipherMode}
 use Rattle.cipher_mode.specs.Answer.{endingHead, headOf, outcome}
-use Rattle.cipher_mode.specs.Key.{newCipher, retire, newCipherMode}
+use Rattle.cipher_mode.specs.Key.{newCipher, retire, withEngine, newCipherMode}
 use Rattle.cipher_mode.specs.Calls.{blockCall, modeCall}
 use Rattle.pieces.specs.declared.ctr.Ctr.{Ctr}
 use Rattle.pieces.specs.declared.ctr.CtrStep.{CtrStep}
@@ -31,7 +31,7 @@ use Rattle.luossavin.specs.declared.in_pieces.LuossavinOpensStep.{LuossavinOpen
 use Rattle.luossavin.specs.declared.in_pieces.LuossavinSealStep.{LuossavinSealStep}
 use Rattle.luossavin.specs.declared.halves.LuossavinHash.{LuossavinHash}
 use Rattle.luossavin.specs.declared.key.LuossavinKey.{LuossavinKey}
-use Rattle.luossavin.specs.Key.{hostKeyNew, hostKeyRetire}
+use Rattle.luossavin.specs.Key.{hostKeyNew, hostKeyRetire, hostKeyEngine}
 use Rattle.luossavin.specs.Halves.{hostHashBlocks, hostHashJoin}
 use Rattle.luossavin.specs.Host.{headIn, reported, hostBlockCall, hostModeCall}
 use Rattle.luossavin.specs.declared.which.LuossavinFound.{LuossavinFound}
@@ -127,12 +127,18 @@ unique-new-cipher-mode key n mode r₁ r₂ e₁ e₂ = e₁ ∙ sym e₂
 pub unique-retired : (c r₁ r₂ : Sm4Cipher) → r₁ ≡ retire c → r₂ ≡ retire c → r₁ ≡ r₂
 unique-retired c r₁ r₂ e₁ e₂ = e₁ ∙ sym e₂
 
+pub unique-with-engine : (e : ℕ) (c r₁ r₂ : Sm4Cipher) → r₁ ≡ withEngine e c → r₂ ≡ withEngine e c → r₁ ≡ r₂
+unique-with-engine e c r₁ r₂ e₁ e₂ = e₁ ∙ sym e₂
+
 -- The same of a host's records.
 pub unique-exported-new : (key : List ℕ) (n : ℕ) (r₁ r₂ : LuossavinKey) → r₁ ≡ hostKeyNew key n → r₂ ≡ hostKeyNew key n → r₁ ≡ r₂
 unique-exported-new key n r₁ r₂ e₁ e₂ = e₁ ∙ sym e₂
 
 pub unique-exported-retired : (k r₁ r₂ : LuossavinKey) → r₁ ≡ hostKeyRetire k → r₂ ≡ hostKeyRetire k → r₁ ≡ r₂
 unique-exported-retired k r₁ r₂ e₁ e₂ = e₁ ∙ sym e₂
+
+pub unique-exported-engine : (k : LuossavinKey) (e : ℕ) (r₁ r₂ : LuossavinKey) → r₁ ≡ hostKeyEngine k e → r₂ ≡ hostKeyEngine k e → r₁ ≡ r₂
+unique-exported-engine k e r₁ r₂ e₁ e₂ = e₁ ∙ sym e₂
 
 -- Any two values that hashing blocks, or joining two hashes, may give a host are the same.
 pub unique-exported-hash : (h r₁ r₂ : LuossavinHash) (bytes : List ℕ) → r₁ ≡ hostHashBlocks h bytes → r₂ ≡ hostHashBlocks h bytes → r₁ ≡ r₂

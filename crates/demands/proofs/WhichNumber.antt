@@ -216,7 +216,7 @@ exported-new-number key n = by-tests (not (eqb (length key) 16)) (wrongNumber n)
   where
     by-tests : (size range : Bool)
         → keyHead (cond size (noCipher NoKey)
-        (cond range (noCipher NoNumber) (record { rk = roundKeys key; answer = Key; number = n; retired = false })) .answer) .number
+        (cond range (noCipher NoNumber) (record { rk = roundKeys key; answer = Key; number = n; retired = false; engine = 0 })) .answer) .number
         ≡ cond size (only 1) (cond range (only 13) (only 0)) .number
     by-tests true range = refl
     by-tests false true = refl

@@ -3,6 +3,7 @@
 use mathlib.Core.Bool.{true, false, not}
 use mathlib.Core.List.{List, [], _∷_, _++_}
 use Prim.Native.Nat.{ℕ, _+_, _*_, _/_}
+use lib.Dec.{eqb}
 use lib.ListN.{length, take, drop, replicate}
 use Rattle.cipher.specs.Sm4.{roundKeys}
 use Rattle.counter.specs.CameRound.{blocksOf, ctrCameRound}
@@ -74,15 +75,25 @@ forgetsNumber key n = newCipher key 1
 
 -- takes any number
 abbrev pub takesAnyNumber : List ℕ → ℕ → Sm4Cipher
-takesAnyNumber key n = record { rk = roundKeys key; answer = Key; number = n; retired = false }
+takesAnyNumber key n = record { rk = roundKeys key; answer = Key; number = n; retired = false; engine = 0 }
 
 -- retires a record by copying it anew, without its mark
 abbrev pub copiesAnew : Sm4Cipher → Sm4Cipher
-copiesAnew c = record { rk = c .rk; answer = c .answer; number = c .number; retired = false }
+copiesAnew c = record { rk = c .rk; answer = c .answer; number = c .number; retired = false; engine = c .engine }
 
 -- retires a key by making it none
 abbrev pub throwsAway : Sm4Cipher → Sm4Cipher
-throwsAway c = record { rk = c .rk; answer = ErrorBlockSize; number = c .number; retired = true }
+throwsAway c = record { rk = c .rk; answer = ErrorBlockSize; number = c .number; retired = true; engine = c .engine }
+
+-- marks a record's engine by copying it anew, without the mark of retirement
+abbrev pub marksAnew : ℕ → Sm4Cipher → Sm4Cipher
+marksAnew e c = record { rk = c .rk; answer = c .answer; number = c .number; retired = false; engine = e }
+
+-- does what encryption does, and tells the engine where it should tell of the counter
+abbrev pub tellsEngine : Sm4CipherMode → Call
+tellsEngine m label d iv o =
+    let x = modeCall Encrypt m label d iv o in
+    leaving (telling (eqb (m .cipher .engine) 1) (x .head)) (x .bytes)
 
 -- asks which label a file opens under, and counts the places from 1
 abbrev pub countsFromOne : Sm4Cipher → List ℕ → List ℕ → List ℕ → List ℕ → Verdict

@@ -31,7 +31,7 @@ tooLongFirst k journal =
 -- what they are held to: the key of number 1; a call under it in the unknown mode 5, recorded as done; and a record that states a label of
 -- 16,385 bytes, and is cut behind that
 abbrev pub oneKey : Keys
-oneKey = record { count = 1; keys = replicate 8 (record { rk = replicate 32 0; answer = Key; number = 1; retired = false }) }
+oneKey = record { count = 1; keys = replicate 8 (record { rk = replicate 32 0; answer = Key; number = 1; retired = false; engine = 0 }) }
 
 abbrev pub unknownDone : Entry
 unknownDone =

@@ -23,6 +23,7 @@ pub mod InTheJournal
 pub mod Halves
 pub mod TrailingZero
 pub mod HashKeys
+pub mod EngineUnseen
 -- the worked table and the imposters
 pub mod Worked
 pub mod Edges

@@ -1,4 +1,4 @@
--- A key's record as a host holds it: what each value means, and the two calls that hand one back.
+-- A key's record as a host holds it: what each value means, and the three calls that hand one back.
 use Prim.Native.Nat.{ℕ}
 use mathlib.Core.Bool.{not, cond}
 use mathlib.Core.List.{List}
@@ -20,6 +20,7 @@ cipherIn k = record {
   answer = keyAnswerOf (k .answer);
   number = k .number;
   retired = not (eqb (k .retired) 0);
+  engine = k .engine;
 }
 
 -- the record that a host is handed
@@ -29,6 +30,7 @@ keyOf c = record {
   answer = keyHead (c .answer) .number;
   number = c .number;
   retired = cond (c .retired) 1 0;
+  engine = c .engine;
 }
 
 unfoldable pub hostKeyNew : List ℕ → ℕ → LuossavinKey
@@ -38,5 +40,15 @@ hostKeyNew key number = keyOf (newCipher key number)
 unfoldable pub hostKeyRetire : LuossavinKey → LuossavinKey
 hostKeyRetire k =
     cond (eqb (k .answer) 0)
-    (record { «round_keys» = k .«round_keys»; answer = 0; number = k .number; retired = 1 })
+    (record { «round_keys» = k .«round_keys»; answer = 0; number = k .number; retired = 1; engine = k .engine })
     k
+
+-- the record with an engine: 1 is the four tables, and all else the plain one
+unfoldable pub hostKeyEngine : LuossavinKey → ℕ → LuossavinKey
+hostKeyEngine k e = record {
+  «round_keys» = k .«round_keys»;
+  answer = k .answer;
+  number = k .number;
+  retired = k .retired;
+  engine = cond (eqb e 1) 1 0;
+}

@@ -1,7 +1,7 @@
 // A key's record, as a host holds it. A host can put anything into one, and each value has its answer.
 ghost use mathlib.Core.Path.{_≡_};
 ghost use Rattle.cipher_mode.specs.Key.{keyHead};
-ghost use Rattle.luossavin.specs.Key.{keyAnswerOf, cipherIn, hostKeyNew, hostKeyRetire};
+ghost use Rattle.luossavin.specs.Key.{keyAnswerOf, cipherIn, hostKeyNew, hostKeyRetire, hostKeyEngine};
 use cipher_mode::KeyAnswer;
 use cipher_mode::Sm4Cipher;
 
@@ -11,6 +11,7 @@ pub struct LuossavinKey {
     pub answer: u32,
     pub number: u16,
     pub retired: u8,
+    pub engine: u8,
 }
 
 fn key_answer_of(answer: u32) -> KeyAnswer
@@ -34,6 +35,7 @@ pub(crate) fn cipher_of(key: LuossavinKey) -> Sm4Cipher
         answer: key_answer_of(key.answer),
         number,
         retired: key.retired != 0,
+        engine: key.engine,
     }
 }
 
@@ -60,6 +62,7 @@ pub extern "C" fn luossavin_key_new(key: &[u8], number: u32) -> LuossavinKey
         answer: answer_number(answer),
         number: cipher.number,
         retired: cipher.retired as u8,
+        engine: cipher.engine,
     }
 }
 
@@ -73,10 +76,27 @@ pub extern "C" fn luossavin_key_retire(key: LuossavinKey) -> LuossavinKey
     }
     let round_keys = key.round_keys;
     let number = key.number;
+    let engine = key.engine;
     LuossavinKey {
         round_keys,
         answer: 0,
         number,
         retired: 1,
+        engine,
+    }
+}
+
+// The record with an engine: 1 is the four tables, and all else the plain engine. Nothing else of it changes.
+#[no_mangle]
+pub extern "C" fn luossavin_key_engine(key: LuossavinKey, engine: u32) -> LuossavinKey
+    ensures { λ r. ⌜ r ≡ hostKeyEngine key engine ⌝ }
+{
+    let round_keys = key.round_keys;
+    LuossavinKey {
+        round_keys,
+        answer: key.answer,
+        number: key.number,
+        retired: key.retired,
+        engine: (engine == 1) as u8,
     }
 }

@@ -31,19 +31,28 @@ use Rattle.pieces.proofs.Stepping.{step, same-step, went-on, begun-ther
 
 -- a start that passes stands before the first byte
 pub ctr-started : (dir : Direction) (c : Sm4Cipher) (iv : List ℕ) → keyAndIv (c .answer) (c .retired) dir Ctr·mode (length iv) ≡ Passed
-    → ctrStart dir c iv ≡ step Ctr (under (keyNumber c) (finished 0)) [] (ctrAfter (keyNumber c) (c .rk) iv [])
+    → ctrStart dir c iv ≡ step Ctr (under (keyNumber c) (finished 0)) [] (ctrAfter (keyNumber c) (c .engine) (c .rk) iv [])
 unfolding ctrStart
-ctr-started dir c iv e = sym (begun-there Ctr _ ctrShut (λ (k : ℕ). ctrAfter k (c .rk) iv []) _ _ refl _ _ e refl refl)
+ctr-started dir c iv e = sym (begun-there Ctr _ ctrShut (λ (k : ℕ). ctrAfter k (c .engine) (c .rk) iv []) _ _ refl _ _ e refl refl)
 
-module _ (k : ℕ) (rk iv d : List ℕ) where
+module _ (rk iv d : List ℕ) where
   -- what the single call gives of d and then e, from e's first byte on
   abbrev pub ctrStretch : List ℕ → List ℕ
   ctrStretch e = drop (length d) (chain (streamMode Ctr·kind rk) iv (d ++ e))
 
+  -- what d gave stands before it
+  pub ctr-joined : (e : List ℕ) → chain (streamMode Ctr·kind rk) iv d ++ ctrStretch e ≡ chain (streamMode Ctr·kind rk) iv (d ++ e)
+  ctr-joined e =
+      let m = streamMode Ctr·kind rk in
+      let text = text-on Ctr·counting rk iv d e in
+      ap (λ (l : List ℕ). chain m iv d ++ l) (ap (drop (length d)) text ∙ drop-at (chain m iv d) _ (length d) (length-stream Ctr·kind rk iv d))
+      ∙ sym text
+
+module _ (k mark : ℕ) (rk iv d : List ℕ) where
   -- a piece e behind d gives its stretch of the single call on both, and the state after both
   pub ctr-goes-on : (e o : List ℕ) → length d + length e ≤ limit → length e ≤ length o
-      → ctrPiece (ctrAfter k rk iv d) e o
-      ≡ step Ctr (under k (finished (length e))) (over (ctrStretch e) o) (ctrAfter k rk iv (d ++ e))
+      → ctrPiece (ctrAfter k mark rk iv d) e o
+      ≡ step Ctr (under k (finished (length e))) (over (ctrStretch rk iv d e) o) (ctrAfter k mark rk iv (d ++ e))
   unfolding ctrPiece ctrAfter
   ctr-goes-on e o within room =
       let m = streamMode Ctr·kind rk in
@@ -52,20 +61,12 @@ module _ (k : ℕ) (rk iv d : List ℕ) where
       sym
       (went-on Ctr _ _ o _ _ _ (writing-passes 0 (length d) (omega arith) (length e) (length e) (length o) within room)
       (same-step Ctr _ _ _ _ _ _ refl (ap (λ (l : List ℕ). over l o) (sym written))
-      (ap₂ {C = Ctr} (λ (f : Flow) (n : ℕ). record { rk = rk; flow = f; first = iv; total = n; stands = 0; key = k })
+      (ap₂ {C = Ctr} (λ (f : Flow) (n : ℕ). record { rk = rk; flow = f; first = iv; total = n; stands = 0; key = k; engine = mark })
       (sym (flow-on Ctr·counting rk iv d e)) (length-append d e))))
-
-  -- and what d gave stands before it
-  pub ctr-joined : (e : List ℕ) → chain (streamMode Ctr·kind rk) iv d ++ ctrStretch e ≡ chain (streamMode Ctr·kind rk) iv (d ++ e)
-  ctr-joined e =
-      let m = streamMode Ctr·kind rk in
-      let text = text-on Ctr·counting rk iv d e in
-      ap (λ (l : List ℕ). chain m iv d ++ l) (ap (drop (length d)) text ∙ drop-at (chain m iv d) _ (length d) (length-stream Ctr·kind rk iv d))
-      ∙ sym text
 
   -- the end is done, and tells of the counter what the single call does; then every call is refused by 12
   pub ctr-ended : length d ≤ limit
-      → ctrEnd (ctrAfter k rk iv d)
+      → ctrEnd (ctrAfter k mark rk iv d)
       ≡ step Ctr (under k (telling (ctrCameRound iv (blocksOf (length d))) (finished 0))) [] (ctrShut k ended)
   unfolding ctrEnd ctrAfter
   ctr-ended within = sym (went-on Ctr _ _ [] _ _ _ (running-passes 0 (length d) (omega arith) 0 (rw add-zero within)) refl)

@@ -35,9 +35,9 @@ use Rattle.pieces.proofs.Stepping.{step, same-step, went-on, begun-ther
 
 -- a start that passes stands before the first byte
 pub seal-started : (c : Sm4Cipher) (label iv : List ℕ) → gcmStarting (c .answer) (c .retired) Encrypt (length iv) (length label) ≡ Passed
-    → sealStart c label iv ≡ step Seal (under (keyNumber c) (finished 0)) [] (sealAfter (keyNumber c) (c .rk) label iv [])
+    → sealStart c label iv ≡ step Seal (under (keyNumber c) (finished 0)) [] (sealAfter (keyNumber c) (c .engine) (c .rk) label iv [])
 unfolding sealStart
-seal-started c label iv e = sym (begun-there Seal _ sealShut (λ (k : ℕ). sealAfter k (c .rk) label iv []) _ _ refl _ _ e refl refl)
+seal-started c label iv e = sym (begun-there Seal _ sealShut (λ (k : ℕ). sealAfter k (c .engine) (c .rk) label iv []) _ _ refl _ _ e refl refl)
 
 -- what a piece e gives behind d is its stretch of the single call's ciphertext
 module _ (rk j d e : List ℕ) where
@@ -55,11 +55,11 @@ module _ (rk j d e : List ℕ) where
   pub seal-joined : textOf rk j d ++ drop (length d) (textOf rk j (d ++ e)) ≡ textOf rk j (d ++ e)
   seal-joined = ap (λ (l : List ℕ). textOf rk j d ++ l) stretch ∙ sym text-goes-on
 
-module _ (k : ℕ) (rk label iv d : List ℕ) (labelled : length label ≤ limit) where
+module _ (k mark : ℕ) (rk label iv d : List ℕ) (labelled : length label ≤ limit) where
   -- a piece e behind d gives its stretch of the single call's ciphertext, and the state after both
   pub seal-goes-on : (e o : List ℕ) → length d + length e ≤ limit → length e ≤ length o
-      → sealPiece (sealAfter k rk label iv d) e o
-      ≡ step Seal (under k (finished (length e))) (over (drop (length d) (textOf rk (J0 rk iv) (d ++ e))) o) (sealAfter k rk label iv (d ++ e))
+      → sealPiece (sealAfter k mark rk label iv d) e o
+      ≡ step Seal (under k (finished (length e))) (over (drop (length d) (textOf rk (J0 rk iv) (d ++ e))) o) (sealAfter k mark rk label iv (d ++ e))
   unfolding sealPiece sealAfter
   seal-goes-on e o within room =
       let j = J0 rk iv in
@@ -82,13 +82,14 @@ module _ (k : ℕ) (rk label iv d : List ℕ) (labelled : length label ≤ limit
         low = lastFour j;
         stands = 0;
         key = k;
+        engine = mark;
       }) (length-append d e)
-      ∙ same-seal rk _ _ _ _ _ _ _ _ (length label) (length d + length e) k (sym (flow-on Gcm·counting rk (gcmNext j) d e)) (sym hashed) refl
+      ∙ same-seal rk _ _ _ _ _ _ _ _ (length label) (length d + length e) k mark (sym (flow-on Gcm·counting rk (gcmNext j) d e)) (sym hashed) refl
       refl)))
 
   -- the end gives the single call's tag, and tells of the counter what it does; then every call is refused by 12
   pub seal-ended : (o : List ℕ) → length d ≤ limit → 16 ≤ length o
-      → sealEnd (sealAfter k rk label iv d) o
+      → sealEnd (sealAfter k mark rk label iv d) o
       ≡ step Seal (under k (telling (gcmRound rk iv (length d)) (finished 16)))
       (over (tagOf rk (hashKey rk) (J0 rk iv) label (textOf rk (J0 rk iv) d)) o) (sealShut k ended)
   unfolding sealEnd sealAfter tagOf

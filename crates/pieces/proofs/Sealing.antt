@@ -18,8 +18,8 @@ unfolding textOf
 no-text rk j = chain-rest (streamMode Gctr rk) (gcmNext j) [] (omega arith)
 
 -- a state that runs is told by its parts
-pub same-seal : (rk m n : List ℕ) (f g : Flow) (h k : Hashing) (low low′ label total key : ℕ) → f ≡ g → h ≡ k → m ≡ n → low ≡ low′
+pub same-seal : (rk m n : List ℕ) (f g : Flow) (h k : Hashing) (low low′ label total key engine : ℕ) → f ≡ g → h ≡ k → m ≡ n → low ≡ low′
     → _≡_ {A = Seal}
-    (record { rk = rk; flow = f; hashing = h; mask = m; label = label; total = total; low = low; stands = 0; key = key })
-    (record { rk = rk; flow = g; hashing = k; mask = n; label = label; total = total; low = low′; stands = 0; key = key })
-same-seal rk m n f g h k low low′ label total key ef eh em el = rw (ef, eh, em, el)
+    (record { rk = rk; flow = f; hashing = h; mask = m; label = label; total = total; low = low; stands = 0; key = key; engine = engine })
+    (record { rk = rk; flow = g; hashing = k; mask = n; label = label; total = total; low = low′; stands = 0; key = key; engine = engine })
+same-seal rk m n f g h k low low′ label total key engine ef eh em el = rw (ef, eh, em, el)

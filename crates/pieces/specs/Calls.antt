@@ -70,7 +70,7 @@ unfoldable pub ctrStart : Direction → Sm4Cipher → List ℕ → Stepped Ctr
 ctrStart dir c iv =
     let k = keyNumber c in
     stepOn Ctr k
-    (begun Ctr (keyAndIv (c .answer) (c .retired) dir Ctr·mode (length iv)) (ctrShut k) (ctrAfter k (c .rk) iv []))
+    (begun Ctr (keyAndIv (c .answer) (c .retired) dir Ctr·mode (length iv)) (ctrShut k) (ctrAfter k (c .engine) (c .rk) iv []))
 
 -- the piece e, into the output o
 unfoldable pub ctrPiece : Ctr → List ℕ → List ℕ → Stepped Ctr
@@ -87,6 +87,7 @@ ctrPiece s e o =
         total = s .total + length e;
         stands = 0;
         key = s .key;
+        engine = s .engine;
       };
     }))
 
@@ -105,7 +106,7 @@ unfoldable pub sealStart : Sm4Cipher → List ℕ → List ℕ → Stepped Seal
 sealStart c label iv =
     let k = keyNumber c in
     stepOn Seal k
-    (begun Seal (gcmStarting (c .answer) (c .retired) Encrypt (length iv) (length label)) (sealShut k) (sealAfter k (c .rk) label iv []))
+    (begun Seal (gcmStarting (c .answer) (c .retired) Encrypt (length iv) (length label)) (sealShut k) (sealAfter k (c .engine) (c .rk) label iv []))
 
 -- the piece e, into the output o: what is written is hashed
 unfoldable pub sealPiece : Seal → List ℕ → List ℕ → Stepped Seal
@@ -127,6 +128,7 @@ sealPiece s e o =
         low = s .low;
         stands = 0;
         key = s .key;
+        engine = s .engine;
       };
     }))
 

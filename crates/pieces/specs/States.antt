@@ -1,4 +1,5 @@
--- The three states: after a text, and shut. Each carries the number k of its key.
+-- The three states: after a text, and shut. Each carries the number k of its key, and where blocks are still to come the mark m of
+-- its engine.
 use Prim.Native.Nat.{ℕ}
 use mathlib.Core.List.{List}
 use lib.ListN.{length, replicate}
@@ -15,12 +16,12 @@ use Rattle.pieces.specs.Flow.{flowAfter}
 use Rattle.pieces.specs.Hashing.{hashOf}
 
 -- Ctr under the round keys rk and the IV iv, after the text d
-unfoldable pub ctrAfter : ℕ → List ℕ → List ℕ → List ℕ → Ctr
-ctrAfter k rk iv d = record { rk = rk; flow = flowAfter Ctr·counting rk iv d; first = iv; total = length d; stands = 0; key = k }
+unfoldable pub ctrAfter : ℕ → ℕ → List ℕ → List ℕ → List ℕ → Ctr
+ctrAfter k m rk iv d = record { rk = rk; flow = flowAfter Ctr·counting rk iv d; first = iv; total = length d; stands = 0; key = k; engine = m }
 
 -- Gcm sealing under a label: counters from one after J0 on, the hash of what was written, and the cipher of J0 for the tag
-unfoldable pub sealAfter : ℕ → List ℕ → List ℕ → List ℕ → List ℕ → Seal
-sealAfter k rk label iv d = record {
+unfoldable pub sealAfter : ℕ → ℕ → List ℕ → List ℕ → List ℕ → List ℕ → Seal
+sealAfter k m rk label iv d = record {
   rk = rk;
   flow = flowAfter Gcm·counting rk (gcmNext (J0 rk iv)) d;
   hashing = hashOf (hashKey rk) label (textOf rk (J0 rk iv) d);
@@ -30,6 +31,7 @@ sealAfter k rk label iv d = record {
   low = lastFour (J0 rk iv);
   stands = 0;
   key = k;
+  engine = m;
 }
 
 -- Gcm opening under a label, after the ciphertext c
@@ -53,7 +55,7 @@ noHashing = record { h = replicate 16 0; y = replicate 16 0; held = replicate 16
 
 -- no message, with the number of the refusal that every call answers; nothing of a key is in it but its number
 unfoldable pub ctrShut : ℕ → ℕ → Ctr
-ctrShut k n = record { rk = replicate 32 0; flow = noFlow; first = replicate 16 0; total = 0; stands = n; key = k }
+ctrShut k n = record { rk = replicate 32 0; flow = noFlow; first = replicate 16 0; total = 0; stands = n; key = k; engine = 0 }
 
 unfoldable pub sealShut : ℕ → ℕ → Seal
 sealShut k n = record {
@@ -66,6 +68,7 @@ sealShut k n = record {
   low = 0;
   stands = n;
   key = k;
+  engine = 0;
 }
 
 unfoldable pub opensShut : ℕ → ℕ → Opens

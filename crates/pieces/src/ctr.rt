@@ -14,8 +14,8 @@ use cipher_mode::answer;
 use cipher_mode::answer::Answer;
 use cipher_mode::checks::Checked;
 
-// The round keys, the flow, the first counter, and how many bytes went through; 0, or what every call answers; the key's number. A
-// host in C hands it in and out.
+// The round keys, the flow, the first counter, and how many bytes went through; 0, or what every call answers; the key's number
+// and the mark of its engine. A host in C hands it in and out.
 #[repr(C)]
 pub struct Ctr {
     pub rk: [u32; 32],
@@ -24,6 +24,7 @@ pub struct Ctr {
     pub total: usize,
     pub stands: u32,
     pub key: u16,
+    pub engine: u8,
 }
 
 pub struct CtrStep {
@@ -42,6 +43,7 @@ fn shut(key: u16, stands: u32) -> Ctr
         total: 0,
         stands,
         key,
+        engine: 0,
     }
 }
 
@@ -76,6 +78,7 @@ pub fn start(direction: Direction, cipher: Sm4Cipher, iv: &[u8]) -> CtrStep
         total: 0,
         stands: 0,
         key,
+        engine: cipher.engine,
     };
     CtrStep {
         answer: answer::done(key, 0),
@@ -98,11 +101,11 @@ impl Ctr {
                 state: self,
             };
         }
-        let t = cipher::plain();
+        let engine = self.engine;
         let rk = self.rk;
         let flow = self.flow;
         let first = self.first;
-        let next = flow::run(&t, rk, Counting::Ctr, flow, total % 16, data, out);
+        let next = flow::run_by(engine, rk, Counting::Ctr, flow, total % 16, data, out);
         let state = Ctr {
             rk,
             flow: next,
@@ -110,6 +113,7 @@ impl Ctr {
             total: total + n,
             stands: 0,
             key,
+            engine,
         };
         CtrStep {
             answer: answer::done(key, n),

@@ -142,3 +142,26 @@ pub fn run(
     let counter = flow.counter;
     onward(t, rk, counting, counter, &data[m..], &mut out[m..])
 }
+
+// The same by the engine of a mark: its tables are laid out here, and lent to every block.
+pub(crate) fn run_by(
+    engine: u8,
+    rk: [u32; 32],
+    counting: Counting,
+    flow: Flow,
+    p: usize,
+    data: &[u8],
+    out: &mut [u8],
+) -> Flow
+    requires { ⌜ p < 16 ⌝ }
+    requires { ⌜ length (now «data») ≤ length (now out) ⌝ }
+    ensures { λ r. ⌜ r ≡ flowNext counting rk flow p (now («data» .entry)) ⌝ }
+    ensures { λ _. ⌜ now (out .exit) ≡ over (flowText counting rk flow p (now («data» .entry))) (now (out .entry)) ⌝ }
+{
+    if engine == cipher::FOUR_TABLES {
+        let t = cipher::mixed::tables();
+        return run(&t, rk, counting, flow, p, data, out);
+    }
+    let t = cipher::plain();
+    run(&t, rk, counting, flow, p, data, out)
+}

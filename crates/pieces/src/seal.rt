@@ -17,7 +17,7 @@ use cipher_mode::answer::Answer;
 use cipher_mode::checks::Checked;
 
 // The round keys, the flow, the hash of what was written, the cipher of J0, the lengths and the number in J0's last four bytes; 0, or
-// what every call answers; the key's number.
+// what every call answers; the key's number and the mark of its engine.
 #[repr(C)]
 pub struct Seal {
     pub rk: [u32; 32],
@@ -29,6 +29,7 @@ pub struct Seal {
     pub low: u32,
     pub stands: u32,
     pub key: u16,
+    pub engine: u8,
 }
 
 pub struct SealStep {
@@ -50,6 +51,7 @@ fn shut(key: u16, stands: u32) -> Seal
         low: 0,
         stands,
         key,
+        engine: 0,
     }
 }
 
@@ -84,6 +86,7 @@ pub fn start(cipher: Sm4Cipher, aad: &[u8], iv: &[u8]) -> SealStep
         low: begun.low,
         stands: 0,
         key,
+        engine: cipher.engine,
     };
     SealStep {
         answer: answer::done(key, 0),
@@ -107,12 +110,12 @@ impl Seal {
                 state: self,
             };
         }
-        let t = cipher::plain();
+        let engine = self.engine;
         let rk = self.rk;
         let flow = self.flow;
         let begun = self.hashing;
         let mask = self.mask;
-        let next = flow::run(&t, rk, Counting::Gcm, flow, total % 16, data, out);
+        let next = flow::run_by(engine, rk, Counting::Gcm, flow, total % 16, data, out);
         let state = Seal {
             rk,
             flow: next,
@@ -123,6 +126,7 @@ impl Seal {
             low: self.low,
             stands: 0,
             key,
+            engine,
         };
         SealStep {
             answer: answer::done(key, n),

@@ -33,7 +33,7 @@ module _ (rk iv : List ℕ) (sixteen : length iv ≡ 16) (bytes : AreBytes iv) w
       let k : length before ≡ at = length-take-le at d h in
       ap (λ (i : ℕ). chain m iv before ++ stretch rk iv i here) (sym k)
       ∙ ap (λ (l : List ℕ). chain m iv before ++ l) (sym (stretch-of-whole rk iv before here sixteen bytes))
-      ∙ ctr-joined 0 rk iv before here
+      ∙ ctr-joined rk iv before here
       ∙ ap (chain m iv) (sym (take-add at n d))
 
   pub joined : (d o o₁ t here : List ℕ) (at n : ℕ) → at ≤ length d → here ≡ take n (drop at d)

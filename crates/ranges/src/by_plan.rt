@@ -52,6 +52,22 @@ fn put_pieces(t: &[u32], rk: [u32; 32], iv: &[u8], plan: Plan, data: &[u8], out:
     }
 }
 
+// The same by the engine of a mark: its tables are laid out here, once for all pieces.
+fn pieces_by(engine: u8, rk: [u32; 32], iv: &[u8], plan: Plan, data: &[u8], out: &mut [u8])
+    requires { ⌜ length (now iv) ≡ 16 ⌝ }
+    requires { ⌜ accepts plan (length (now «data»)) ≡ true ⌝ }
+    requires { ⌜ length (now «data») ≤ length (now out) ⌝ }
+    ensures { λ _. ⌜ now (out .exit) ≡ over (chain (streamMode Kind.Ctr rk) (now (iv .entry)) (now («data» .entry))) (now (out .entry)) ⌝ }
+{
+    if engine == cipher::FOUR_TABLES {
+        let t = cipher::mixed::tables();
+        put_pieces(&t, rk, iv, plan, data, out);
+        return;
+    }
+    let t = cipher::plain();
+    put_pieces(&t, rk, iv, plan, data, out);
+}
+
 // A message in Ctr, either way, to the front of `out`, by a plan: the single call's bytes, whoever made the plan.
 pub fn by_plan(
     cipher: Sm4Cipher,
@@ -79,9 +95,8 @@ pub fn by_plan(
         let ended = Ended::Refused(Refusal::NoRoom);
         return ByPlan { ended, key };
     }
-    let t = cipher::plain();
     let rk = cipher.rk;
-    put_pieces(&t, rk, iv, plan, data, out);
+    pieces_by(cipher.engine, rk, iv, plan, data, out);
     let ended = Ended::Done(n);
     ByPlan { ended, key }
 }

@@ -61,6 +61,21 @@ pub(crate) fn put_stretch(
     flow::run(t, rk, Counting::Ctr, begun, offset % 16, data, out);
 }
 
+// The same by the engine of a mark: its tables are laid out here, and lent to every block.
+fn stretch_by(engine: u8, rk: [u32; 32], iv: &[u8], offset: usize, data: &[u8], out: &mut [u8])
+    requires { ⌜ length (now iv) ≡ 16 ⌝ }
+    requires { ⌜ length (now «data») ≤ length (now out) ⌝ }
+    ensures { λ _. ⌜ now (out .exit) ≡ over (stretch rk (now (iv .entry)) offset (now («data» .entry))) (now (out .entry)) ⌝ }
+{
+    if engine == cipher::FOUR_TABLES {
+        let t = cipher::mixed::tables();
+        put_stretch(&t, rk, iv, offset, data, out);
+        return;
+    }
+    let t = cipher::plain();
+    put_stretch(&t, rk, iv, offset, data, out);
+}
+
 // A stretch of a message in Ctr, either way, to the front of `out`: xored with that part of the key stream.
 pub fn range(
     cipher: Sm4Cipher,
@@ -82,8 +97,7 @@ pub fn range(
     if out.len() < n {
         return answer::refused(key, Refusal::NoRoom);
     }
-    let t = cipher::plain();
     let rk = cipher.rk;
-    put_stretch(&t, rk, iv, offset, data, out);
+    stretch_by(cipher.engine, rk, iv, offset, data, out);
     answer::done(key, n)
 }

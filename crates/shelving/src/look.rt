@@ -122,10 +122,10 @@ fn with_key(asked: Asked, number: u32, iv: &[u8]) -> u8 {
     with_cipher(asked, &file[..n], filed::first(&key, k), number, iv)
 }
 
-// The key with its number, retired where that was said.
+// The key with its number, on the four tables, and retired where that was said.
 fn cipher_of(asked: Asked, key: &[u8], number: u32) -> Sm4Cipher {
     let places = asked.places;
-    let cipher = Sm4Cipher::new(key, number);
+    let cipher = Sm4Cipher::new(key, number).with_engine(cipher::FOUR_TABLES);
     if places[RETIRED] != 0 {
         return cipher.retire();
     }

@@ -9,7 +9,7 @@ use Rattle.typed.specs.declared.words.Command.the-variants.{ShelfPut, ShelfFind
 use Rattle.cipher_mode.specs.declared.Direction.{Direction}
 use Rattle.cipher_mode.specs.declared.Direction.the-variants.{Encrypt, Decrypt}
 use Rattle.cipher_mode.specs.declared.Sm4Cipher.{Sm4Cipher}
-use Rattle.cipher_mode.specs.Key.{newCipher, retire}
+use Rattle.cipher_mode.specs.Key.{newCipher, retire, withEngine}
 
 -- a range decrypts where that was said; no run with `plan`, a command of `shelf`, `replay` or an unknown one comes as
 -- far as a pass
@@ -30,6 +30,8 @@ directionOf ShelfList decrypt = Decrypt
 directionOf Replay decrypt = Decrypt
 directionOf Unknown decrypt = Decrypt
 
--- a key with the number that was said for it, retired where that was said too
+-- a key with the number that was said for it, on the four tables, and retired where that was said too
 abbrev pub cipherOf : List ℕ → ℕ → Bool → Sm4Cipher
-cipherOf key number retired = cond retired (retire (newCipher key number)) (newCipher key number)
+cipherOf key number retired =
+    let c = withEngine 1 (newCipher key number) in
+    cond retired (retire c) c

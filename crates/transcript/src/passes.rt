@@ -185,7 +185,7 @@ fn close(asked: Asked, t: &[u32], pass: Pass, news: News, rest: &[u8], out: &mut
 fn walk(asked: Asked, source: Source, most: usize, first: Pass, seen: bool) -> Pass
     requires { ⌜ first .waiting ≡ 0 ⌝ }
 {
-    let t = cipher::plain();
+    let t = cipher::mixed::tables();
     let mut data = io::large_buffer();
     let mut out = io::large_buffer();
     let mut pass = first;

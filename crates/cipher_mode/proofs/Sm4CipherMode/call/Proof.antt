@@ -23,29 +23,28 @@ returns c =
     refused-there (c .refused .result) _ _ _ _ o next (c .refused .ensures) (at-number .number-in .ensures)
     (sym (at-check .message .ensures) ∙ told .checked .given .1)
 
-message-requires-2 : tie.Need-message-requires-2
-message-requires-2 c κs =
-    let at-plain = c .before .before .before in
-    let told = at-plain .before in
+message-by-requires : tie.Need-message-by-requires
+message-by-requires c κs =
+    let told = c .before .before in
     let in-order = message-passed _ _ _ _ _ (sym (told .before .before .message .ensures) ∙ told .enum-told .given .1) in
-    (at-plain .plain .ensures, (in-order .iv-size, (in-order .label, (in-order .content, in-order .room))))
+    (in-order .iv-size, (in-order .label, (in-order .content, in-order .room)))
 
 returns-2 : tie.Need-returns-2
 unfolding modeCall
 returns-2 c =
     let at-work = c .before .before in
-    let told = at-work .before .before .before .before .before in
+    let told = at-work .before .before .before in
     let at-check = told .before .before in
     let at-number = at-check .before in
     let a = at-number .before .before .before .before .before .before .args in
     let o = now (a .out) in
     let next = modeResult (a .self .mode) (a .direction) (a .self .cipher .rk) (now (a .aad)) (now (a .«data»)) (now (a .iv)) o in
     ap₂ {C = Outcome} keyed (at-number .number-in .ensures)
-    (went-on _ o _ next (sym (at-check .message .ensures) ∙ told .enum-told .given .1) (at-work .message2 .ensures))
+    (went-on _ o _ next (sym (at-check .message .ensures) ∙ told .enum-told .given .1) (at-work .message-by .ensures))
 
 pub call-spec : {M : Type 1} → statement M
 call-spec =
     tie.close
     (tie.spec
     (λ c κs. search needs) (λ c κs. search needs) (λ c. search needs) (λ c κs. search needs) returns
-    (λ c. search needs) (λ c κs. search needs) (λ c. search needs) message-requires-2 (λ c. search needs) returns-2)
+    (λ c. search needs) message-by-requires (λ c. search needs) returns-2)

@@ -15,7 +15,7 @@ returns c =
     let at-answer = c .before in
     let made = at-answer .before .before .new in
     let k = made .result in
-    ap₂ {C = LuossavinKey} (λ (n m : ℕ). record { «round_keys» = k .rk; answer = n; number = k .number; retired = m })
+    ap₂ {C = LuossavinKey} (λ (n m : ℕ). record { «round_keys» = k .rk; answer = n; number = k .number; retired = m; engine = k .engine })
     (at-answer .answer-number .ensures) (mark-byte (k .retired))
     ∙ ap keyOf (made .ensures)
 

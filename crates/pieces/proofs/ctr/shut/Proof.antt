@@ -19,6 +19,7 @@ returns c =
       total = 0;
       stands = c .before .args .stands;
       key = c .before .args .key;
+      engine = 0;
     }) (c .none .ensures)
 
 pub shut-spec : {M : Type 1} → statement M

@@ -29,7 +29,7 @@ returns c =
     let at-check = told .before .before in
     let at-number = at-check .before in
     let a = at-number .before .before .args in
-    refused-start Ctr _ ctrShut (λ (k : ℕ). ctrAfter k (a .cipher .rk) (now (a .iv)) []) _ _ (at-number .number-in .ensures) _ _ _ _
+    refused-start Ctr _ ctrShut (λ (k : ℕ). ctrAfter k (a .cipher .engine) (a .cipher .rk) (now (a .iv)) []) _ _ (at-number .number-in .ensures) _ _ _ _
     (sym (at-check .key-and-iv .ensures) ∙ told .checked .given .1) (at-refused .refused .ensures) (at-mark .number .ensures)
     (c .shut .ensures)
 
@@ -57,9 +57,9 @@ returns-2 c =
     let counter = spelled iv _ (passed told) small (at-split .split-block .ensures) in
     let flow = at-begin .begin .ensures ∙ ap {B = Flow} (flowAt rk) counter ∙ flow-start Ctr·counting rk iv in
     let first = ap (λ (f : Flow). f .counter) (at-begin .begin .ensures) ∙ counter in
-    begun-there Ctr _ ctrShut (λ (k : ℕ). ctrAfter k rk iv []) n _ (at-number .number-in .ensures) _ _
+    begun-there Ctr _ ctrShut (λ (k : ℕ). ctrAfter k (a .cipher .engine) rk iv []) n _ (at-number .number-in .ensures) _ _
     (sym (at-check .key-and-iv .ensures) ∙ told .enum-told .given .1) (c .done .ensures)
-    (ap₂ {C = Ctr} (λ (f : Flow) (v : List ℕ). record { rk = rk; flow = f; first = v; total = 0; stands = 0; key = n }) flow first)
+    (ap₂ {C = Ctr} (λ (f : Flow) (v : List ℕ). record { rk = rk; flow = f; first = v; total = 0; stands = 0; key = n; engine = a .cipher .engine }) flow first)
 
 pub start-spec : {M : Type 1} → statement M
 start-spec =

@@ -24,6 +24,7 @@ returns c =
       low = 0;
       stands = c .before .before .args .stands;
       key = c .before .before .args .key;
+      engine = 0;
     }) (c .before .none .ensures) (c .none2 .ensures)
 
 pub shut-spec : {M : Type 1} → statement M

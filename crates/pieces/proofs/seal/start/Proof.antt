@@ -33,7 +33,7 @@ returns c =
     let at-check = told .before .before in
     let at-number = at-check .before in
     let a = at-number .before .before .before .args in
-    refused-start Seal _ sealShut (λ (k : ℕ). sealAfter k (a .cipher .rk) (now (a .aad)) (now (a .iv)) []) _ _ (at-number .number-in .ensures)
+    refused-start Seal _ sealShut (λ (k : ℕ). sealAfter k (a .cipher .engine) (a .cipher .rk) (now (a .aad)) (now (a .iv)) []) _ _ (at-number .number-in .ensures)
     _ _ _ _ (sym (at-check .gcm-start .ensures) ∙ told .checked .given .1) (at-refused .refused .ensures) (at-mark .number .ensures)
     (c .shut .ensures)
 
@@ -63,9 +63,9 @@ returns-2 c =
     let next = at-next .gcm-block-add-one .ensures .0 ∙ ap gcmNext (begun .0) in
     let flow = at-flow .begin2 .ensures ∙ ap {B = Flow} (flowAt rk) next ∙ flow-start Gcm·counting rk (gcmNext j) in
     let hashing = begun .1 .0 ∙ sym (ap (hashOf (hashKey rk) label) (no-text rk j)) in
-    begun-there Seal _ sealShut (λ (k : ℕ). sealAfter k rk label iv []) n _ (at-number .number-in .ensures) _ _
+    begun-there Seal _ sealShut (λ (k : ℕ). sealAfter k (a .cipher .engine) rk label iv []) n _ (at-number .number-in .ensures) _ _
     (sym (at-check .gcm-start .ensures) ∙ told .enum-told .given .1) (c .done .ensures)
-    (same-seal rk _ _ _ _ _ _ _ _ (length label) 0 n flow hashing (begun .1 .1 .0) (begun .1 .1 .1))
+    (same-seal rk _ _ _ _ _ _ _ _ (length label) 0 n (a .cipher .engine) flow hashing (begun .1 .1 .0) (begun .1 .1 .1))
 
 pub start-spec : {M : Type 1} → statement M
 start-spec =

@@ -69,21 +69,20 @@ returns-3 c =
     (went-on _ o (refused 6 o) _ (from-zero _ _ _ _ _ _ (at-reach .reach .ensures) ∙ told .enum-told .given .1)
     (rw (yes, lt-ltb (length o) (length d) (c .if2 .taken))))
 
-put-pieces-requires : tie.Need-put-pieces-requires
-put-pieces-requires c κs =
-    let at-plain = c .before .before .before in
-    let at-room = at-plain .before in
+pieces-by-requires : tie.Need-pieces-by-requires
+pieces-by-requires c κs =
+    let at-room = c .before .before in
     let at-accepts = at-room .before .before in
     let told = at-accepts .before in
     let iv-size = reach-passed _ _ _ _ _ (sym (told .before .before .reach .ensures) ∙ told .enum-told .given .1) in
     let yes = sym (at-accepts .accepts .ensures) ∙ not-false (at-accepts .accepts .result) (at-room .before .if1 .left) in
-    (at-plain .plain .ensures, (iv-size, (yes, at-room .if2 .left)))
+    (iv-size, (yes, at-room .if2 .left))
 
 returns-4 : tie.Need-returns-4
 unfolding planCall
 returns-4 c =
     let at-work = c .before .before in
-    let at-room = at-work .before .before .before .before .before in
+    let at-room = at-work .before .before .before in
     let at-accepts = at-room .before .before in
     let told = at-accepts .before in
     let at-reach = told .before .before in
@@ -97,7 +96,7 @@ returns-4 c =
     sym (at-accepts .accepts .ensures) ∙ not-false (at-accepts .accepts .result) (at-room .before .if1 .left) in
     let next = refuse (not (accepts (a .plan) (length d))) 18 o (refuse (ltb (length o) (length d)) 6 o (done b o)) in
     let goes-on : next ≡ done b o = rw (yes, le-ltb (length o) (length d) (at-room .if2 .left)) in
-    let worked = reached b o _ (length d) (length-stream Ctr (a .cipher .rk) iv d) (at-work .put-pieces .ensures) in
+    let worked = reached b o _ (length d) (length-stream Ctr (a .cipher .rk) iv d) (at-work .pieces-by .ensures) in
     ap₂ {C = Outcome} keyed (at-number .number-in .ensures)
     (went-on _ o _ next (from-zero _ _ _ _ _ _ (at-reach .reach .ensures) ∙ told .enum-told .given .1) (worked ∙ sym goes-on))
 
@@ -106,4 +105,4 @@ by-plan-spec =
     tie.close
     (tie.spec
     (λ c κs. search needs) (λ c κs. search needs) (λ c. search needs) returns (λ c. search needs) (λ c κs. search needs) returns-2
-    returns-3 (λ c κs. search needs) (λ c. search needs) put-pieces-requires (λ c. search needs) returns-4)
+    returns-3 pieces-by-requires (λ c. search needs) returns-4)

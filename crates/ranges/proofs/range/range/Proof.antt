@@ -38,18 +38,18 @@ returns-2 c =
     (no-room _ _ _ _ (a .offset) (length (now (a .«data»))) (length o) (sym (at-reach .reach .ensures) ∙ told .enum-told .given .1)
     (c .before .if1 .taken))
 
-put-stretch-requires : tie.Need-put-stretch-requires
-put-stretch-requires c κs =
-    let at-plain = c .before .before .before in
-    let told = at-plain .before .before in
+stretch-by-requires : tie.Need-stretch-by-requires
+stretch-by-requires c κs =
+    let at-room = c .before .before in
+    let told = at-room .before in
     let iv-size = reach-passed _ _ _ _ _ (sym (told .before .before .reach .ensures) ∙ told .enum-told .given .1) in
-    (at-plain .plain .ensures, (iv-size, at-plain .before .if1 .left))
+    (iv-size, at-room .if1 .left)
 
 returns-3 : tie.Need-returns-3
 unfolding rangeCall
 returns-3 c =
     let at-work = c .before .before .before in
-    let at-room = at-work .before .before .before .before .before in
+    let at-room = at-work .before .before .before in
     let told = at-room .before in
     let at-reach = told .before .before in
     let at-number = at-reach .before in
@@ -60,12 +60,11 @@ returns-3 c =
     on-key (c .done .result) _ _ _ _ _ (c .done .ensures) (at-number .number-in .ensures)
     (went-on _ o _ (done b o)
     (has-room _ _ _ _ (a .offset) (length d) (length o) (sym (at-reach .reach .ensures) ∙ told .enum-told .given .1) (at-room .if1 .left))
-    (reached b o _ (length d) (length-stretch (a .cipher .rk) (now (a .iv)) (a .offset) d) (at-work .put-stretch .ensures)))
+    (reached b o _ (length d) (length-stretch (a .cipher .rk) (now (a .iv)) (a .offset) d) (at-work .stretch-by .ensures)))
 
 pub range-spec : {M : Type 1} → statement M
 range-spec =
     tie.close
     (tie.spec
     (λ c κs. search needs) (λ c κs. search needs) (λ c. search needs) (λ c κs. search needs) returns (λ c. search needs)
-    (λ c κs. search needs) returns-2 (λ c κs. search needs) (λ c. search needs) put-stretch-requires (λ c κs. search needs)
-    (λ c. search needs) returns-3)
+    (λ c κs. search needs) returns-2 stretch-by-requires (λ c κs. search needs) (λ c. search needs) returns-3)

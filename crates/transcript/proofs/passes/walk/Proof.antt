@@ -28,14 +28,14 @@ close-requires : tie.Need-close-requires Inv-loop μ-loop
 close-requires c κs =
     let at-fetch = c .before .before .before .before .before .before in
     let at-loop = at-fetch .before .before .before .before in
-    let at-plain = at-loop .before .before .before in
-    (at-plain .plain .ensures, (few (at-loop .loop .pass .waiting - 0) (at-fetch .fetch .last .1 .1 .1 .1 .0) (omega (arith, at-loop .loop .inv .0)), omega arith))
+    let at-tables = at-loop .before .before .before in
+    (at-tables .tables .ensures, (few (at-loop .loop .pass .waiting - 0) (at-fetch .fetch .last .1 .1 .1 .1 .0) (omega (arith, at-loop .loop .inv .0)), omega arith))
 
 turn-requires : tie.Need-turn-requires Inv-loop μ-loop
 turn-requires c κs =
     let at-fetch = c .before .before .before .before .before .before in
-    let at-plain = at-fetch .before .before .before .before .before .before .before in
-    (at-plain .plain .ensures, (at-fetch .fetch .ensures .0, omega arith))
+    let at-tables = at-fetch .before .before .before .before .before .before .before in
+    (at-tables .tables .ensures, (at-fetch .fetch .ensures .0, omega arith))
 
 loop-again : tie.Need-loop-again Inv-loop μ-loop
 loop-again c = (c .before .before .turn .ensures, omega arith, omega arith, omega arith)

@@ -27,25 +27,23 @@ passed : (x : tie.After-enum-told)
     Runs (a .self .stands) 0 (a .self .total) (length (now (a .«data»))) × (length (now (a .«data»)) ≤ length (now (a .out)))
 passed x = writing-passed _ _ _ _ _ _ (sym (x .before .before .writing .ensures) ∙ x .enum-told .given .1)
 
-run-requires : tie.Need-run-requires
-run-requires c κs =
-    let at-plain = c .before .before .before .before .before in
-    (at-plain .plain .ensures, (omega arith, passed (at-plain .before) .1))
+run-by-requires : tie.Need-run-by-requires
+run-by-requires c κs = (omega arith, passed (c .before .before .before .before) .1)
 
 add-t15 : tie.Need-add-t15
 add-t15 c =
-    let told = c .before .before .before .before .before .before .before .before .before in
+    let told = c .before .before .before .before .before .before .before in
     let within = passed told .0 .within in search needs
 
 returns-2 : tie.Need-returns-2
 unfolding ctrPiece
 returns-2 c =
     let at-run = c .before .before .before in
-    let told = at-run .before .before .before .before .before .before .before in
+    let told = at-run .before .before .before .before .before in
     let at-check = told .before .before in
     let a = at-check .before .before .before .args in
     let s = a .self in
-    let ran = at-run .run .ensures in
+    let ran = at-run .run-by .ensures in
     went-on Ctr _ _ (now (a .out)) s _ _ (sym (at-check .writing .ensures) ∙ told .enum-told .given .1)
     (same-step Ctr _ _ _ _ _ _ (c .done .ensures) (ran .1)
     (ap {B = Ctr} (λ (f : Flow). record {
@@ -55,11 +53,12 @@ returns-2 c =
       total = s .total + length (now (a .«data»));
       stands = 0;
       key = s .key;
+      engine = s .engine;
     }) (ran .0)))
 
 pub piece-spec : {M : Type 1} → statement M
 piece-spec =
     tie.close
     (tie.spec
-    (λ c κs. search needs) (λ c. search needs) (λ c κs. search needs) returns (λ c. search needs) (λ c κs. search needs)
-    (λ c. search needs) run-requires add-t15 (λ c κs. search needs) (λ c. search needs) returns-2)
+    (λ c κs. search needs) (λ c. search needs) (λ c κs. search needs) returns (λ c. search needs) run-by-requires add-t15
+    (λ c κs. search needs) (λ c. search needs) returns-2)

@@ -1,0 +1,46 @@
+-- L distributes over xor: each of its rotations does, since a rotation is two digits that change places.
+-- Assumes nothing.
+use mathlib.Core.Path.{_≡_, refl, sym, ap, ap₂, _∙_}
+use Prim.Native.Nat.{ℕ, _+_, _-_, _*_, _/_, _%_, _^_, _<_}
+use native.Mathlib.Omega.{arith}
+use lib.Pow.{shr-lt}
+use lib.Bits.{bitXor, xor-block, xor-mod, xor-shr}
+use Rattle.block.specs.Xor.{_⊕_}
+use Rattle.block.proofs.Xor.{xor-swap}
+use Rattle.cipher.specs.Sm4.{rotl, L}
+use Rattle.cipher.proofs.Rotation.{shl-mod}
+
+rotl-digits : (j n x : ℕ) → j + n ≡ 32 → rotl x n ≡ x % 2 ^ j * 2 ^ n + x / 2 ^ j
+unfolding rotl
+rotl-digits j n x h =
+    let e : 32 - n ≡ j = omega arith in
+    ap₂ _+_ (ap (λ (m : ℕ). x * 2 ^ n % 2 ^ m) (sym h) ∙ shl-mod x j n) (ap (λ (m : ℕ). x / 2 ^ m) e)
+
+module _ (a b : ℕ) (ha : a < 2 ^ 32) (hb : b < 2 ^ 32) where
+  rotl-xor : (j n : ℕ) → j + n ≡ 32 → rotl (a ⊕ b) n ≡ rotl a n ⊕ rotl b n
+  rotl-xor j n h =
+      let e : n + j ≡ 32 = omega arith in
+      let la : a < 2 ^ (n + j) = rw e ha in
+      let lb : b < 2 ^ (n + j) = rw e hb in
+      rotl-digits j n (a ⊕ b) h
+      ∙ ap₂ (λ (p q : ℕ). p * 2 ^ n + q) (xor-mod a b j) (xor-shr a b j)
+      ∙ sym (xor-block n (a % 2 ^ j) (b % 2 ^ j) (a / 2 ^ j) (b / 2 ^ j) (shr-lt n j la) (shr-lt n j lb))
+      ∙ ap₂ bitXor (sym (rotl-digits j n a h)) (sym (rotl-digits j n b h))
+
+  -- one rotation more
+  more : (s p q j n : ℕ) → j + n ≡ 32 → s ≡ p ⊕ q → s ⊕ rotl (a ⊕ b) n ≡ p ⊕ rotl a n ⊕ (q ⊕ rotl b n)
+  more s p q j n h e = ap₂ bitXor e (rotl-xor j n h) ∙ xor-swap p q (rotl a n) (rotl b n)
+
+  pub L-xor : L (a ⊕ b) ≡ L a ⊕ L b
+  unfolding L
+  L-xor =
+      let x1 = a ⊕ b ⊕ rotl (a ⊕ b) 2 in
+      let x2 = x1 ⊕ rotl (a ⊕ b) 10 in
+      let x3 = x2 ⊕ rotl (a ⊕ b) 18 in
+      let a1 = a ⊕ rotl a 2 in
+      let b1 = b ⊕ rotl b 2 in
+      let a2 = a1 ⊕ rotl a 10 in
+      let b2 = b1 ⊕ rotl b 10 in
+      let a3 = a2 ⊕ rotl a 18 in
+      let b3 = b2 ⊕ rotl b 18 in
+      more x3 a3 b3 8 24 refl (more x2 a2 b2 14 18 refl (more x1 a1 b1 22 10 refl (more (a ⊕ b) a b 30 2 refl refl)))
