@@ -557,7 +557,7 @@ mod tests {
             |layout| layout.align *= 2,
             |layout| layout.fields[0].offset += 1,
             |layout| layout.fields[1].size += 1,
-            |layout| drop(layout.fields.pop()),
+            |layout| layout.fields.truncate(1),
             |layout| layout.fields[1].name = "another",
         ];
         for (at, change) in wrong.iter().enumerate() {
