@@ -135,13 +135,15 @@ fn spoil(random: &mut Random, call: &mut Call) {
         2 => &mut call.label,
         _ => &mut call.data,
     };
-    match random.below(3) {
-        0 if !part.is_empty() => {
+    match random.below(6) {
+        0 | 1 if !part.is_empty() => {
             let bit = random.below(8 * part.len());
             part[bit / 8] ^= 1 << (bit % 8);
         }
-        1 => part.resize(random.below(34), 7),
-        _ => part.truncate(random.below(17)),
+        2 => part.resize(random.below(34), 7),
+        3 => part.truncate(random.below(17)),
+        4 => part.truncate(12),
+        _ => part.clear(),
     }
 }
 

@@ -34,13 +34,11 @@ const LONGEST_LABEL: usize = 16_777_216;
 /// It is refused with [`BadList`](Refusal::BadList) for more than 64 labels, and otherwise as decryption is, but for its tag: where none is
 /// right, it is none.
 pub fn which<L: AsRef<[u8]>>(key: &Key, sealed: &[u8], iv: &[u8], labels: &[L]) -> Result<Option<usize>, Refusal> {
-    // a label over the limit is refused at any length over it, so that no more is copied
+    // more than 64 are refused whatever they are, and so is a label at any length over the limit: no more than that is copied
     let lent = |label: &L| label.as_ref().len().min(LONGEST_LABEL + 1);
-    // 65 are too many, whatever they are
-    let asked = &labels[..labels.len().min(65)];
-    let lengths: Vec<usize> = asked.iter().map(lent).collect();
+    let lengths: Vec<usize> = if labels.len() > 64 { vec![0; 65] } else { labels.iter().map(lent).collect() };
     let mut joined = Vec::with_capacity(lengths.iter().sum());
-    for (label, length) in asked.iter().zip(&lengths) {
+    for (label, length) in labels.iter().zip(&lengths) {
         joined.extend_from_slice(&label.as_ref()[..*length]);
     }
     let found = ffi::which(key.record(), sealed, iv, &joined, &lengths);

@@ -29,10 +29,14 @@ use std::fmt;
 /// # What becomes of its bytes
 ///
 /// `Debug` shows number, mark and engine, and nothing else. The record is on the heap, so that moving a key copies nothing, and is
-/// overwritten there when the key is dropped. That does not cover the copies that a call is handed by value on the stack, the bytes that
-/// [`Key::new`] was given, which are the caller's to overwrite, or a key that is never dropped, as by
-/// [`std::mem::forget`] or where the process is killed. It holds for the states of messages in pieces, for a [`HashKey`](crate::halves::HashKey)
-/// and for a [`Half`](crate::halves::Half) as well.
+/// overwritten there when the key is dropped, by writes that the compiler may not leave out. That does not cover
+///
+/// - the copies on the stack: a call takes the record by value, and the compiler may make others;
+/// - the bytes that [`Key::new`] was given, which are the caller's to overwrite;
+/// - a key that is never dropped, as by [`std::mem::forget`], in a `static`, or where the process is killed.
+///
+/// All of it holds for the states of messages in pieces, for a [`HashKey`](crate::halves::HashKey) and for a
+/// [`Half`](crate::halves::Half) as well.
 pub struct Key(Secret<ffi::Key>);
 
 impl Key {

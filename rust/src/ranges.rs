@@ -115,7 +115,6 @@ impl fmt::Debug for Plan {
 }
 
 /// One worker's part of a message and of its output, which no other share has.
-#[derive(Debug)]
 pub struct Share<'a> {
     offset: usize,
     data: &'a [u8],
@@ -126,6 +125,13 @@ impl Share<'_> {
     /// Does the share, under the key and the IV of the message.
     pub fn work(self, key: &Key, direction: Direction, iv: &[u8]) -> Result<Done, Refusal> {
         ctr_range(key, direction, iv, self.offset, self.data, self.out)
+    }
+}
+
+impl fmt::Debug for Share<'_> {
+    fn fmt(&self, f: &mut fmt::Formatter<'_>) -> fmt::Result {
+        let piece = self.offset..self.offset + self.data.len();
+        f.debug_struct("Share").field("piece", &piece).finish_non_exhaustive()
     }
 }
 

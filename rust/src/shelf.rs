@@ -3,6 +3,7 @@
 use crate::editions::label;
 use crate::sm4::cipher_mode::CipherMode;
 use crate::{ffi, Key, Refusal};
+use std::fmt;
 
 /// The most bytes that a shelf has.
 pub const LARGEST: usize = 65_536;
@@ -31,7 +32,7 @@ const HEAD: usize = 12;
 /// assert_eq!(shelf.find(5).unwrap_err(), Refusal::NoCurrent);
 /// # Ok::<(), Refusal>(())
 /// ```
-#[derive(Clone, Debug, PartialEq, Eq)]
+#[derive(Clone, PartialEq, Eq)]
 pub struct Shelf {
     buffer: Vec<u8>,
     used: usize,
@@ -112,8 +113,14 @@ impl Default for Shelf {
     }
 }
 
+impl fmt::Debug for Shelf {
+    fn fmt(&self, f: &mut fmt::Formatter<'_>) -> fmt::Result {
+        f.debug_struct("Shelf").field("size", &self.buffer.len()).field("used", &self.used).finish_non_exhaustive()
+    }
+}
+
 /// A current record of a shelf.
-#[derive(Clone, Copy, Debug, PartialEq, Eq)]
+#[derive(Clone, Copy, PartialEq, Eq)]
 pub struct Record<'a> {
     bytes: &'a [u8],
 }
@@ -141,5 +148,16 @@ impl<'a> Record<'a> {
         let done = ffi::decrypt(gcm as u32, key.record(), &label, self.sealed(), iv, &mut text).result()?;
         text.truncate(done.length);
         Ok(text)
+    }
+}
+
+impl fmt::Debug for Record<'_> {
+    fn fmt(&self, f: &mut fmt::Formatter<'_>) -> fmt::Result {
+        let sealed = format_args!("{} bytes", self.sealed().len());
+        f.debug_struct("Record")
+            .field("job", &self.job())
+            .field("edition", &self.edition())
+            .field("sealed", &sealed)
+            .finish()
     }
 }

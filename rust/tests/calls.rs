@@ -61,6 +61,16 @@ fn debug_shows_nothing_secret() {
         format!("{cipher:?}"),
         "Sm4CipherMode { key: Key { number: 12, retired: true, engine: Plain, .. }, mode: Ofb }"
     );
+    let call = Call::of(&cipher, Direction::Decrypt, b"label", b"a text", &IV, 6);
+    assert_eq!(format!("{call:?}"), "Call { Decrypt in Ofb under key 12, .. }");
+    let shares = format!("{:?}", Plan::make(6, 1).unwrap().shares(b"a text", &mut [0; 6]).unwrap());
+    assert_eq!(shares, "[Share { piece: 0..6, .. }]");
+    let mut shelf = Shelf::new();
+    shelf.put(7, 1, b"sealed").unwrap();
+    assert_eq!(
+        format!("{shelf:?} {:?}", shelf.find(7).unwrap()),
+        "Shelf { size: 65536, used: 18, .. } Record { job: 7, edition: 1, sealed: 6 bytes }"
+    );
 }
 
 #[test]
@@ -223,7 +233,7 @@ fn which_finds_the_first_that_opens() {
     let unlabelled = gcm().encrypt(b"", b"a text", &IV).unwrap();
     assert_eq!(which(&key(1), &unlabelled, &IV, &[&b"x"[..], b"", b"xx", b""]), Ok(Some(1)));
     let long = vec![0; LIMIT + 5];
-    assert_eq!(which(&key(1), &sealed, &IV, &[&long[..]; 64]), Err(Refusal::TooLong));
+    assert_eq!(which(&key(1), &sealed, &IV, &[&candidates[39][..], &long]), Err(Refusal::TooLong));
     assert_eq!(which(&key(1), &sealed, &IV, &[&long[..]; 100]), Err(Refusal::BadList));
 }
 

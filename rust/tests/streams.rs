@@ -6,7 +6,7 @@ mod random;
 
 use luossavin::sm4::cipher_mode::{CipherMode, Sm4CipherMode};
 use luossavin::streams::{open_to, opens, SealWriter};
-use luossavin::{Key, Refusal};
+use luossavin::{Engine, Key, Refusal};
 use random::Random;
 use std::io::{self, ErrorKind, Read, Write};
 
@@ -15,7 +15,7 @@ const IV: [u8; 16] = [1; 16];
 const LIMIT: u64 = 16_777_216;
 
 fn key() -> Key {
-    Key::new(&[7; 16], 3).unwrap()
+    Key::new(&[7; 16], 3).unwrap().with_engine(Engine::Tables)
 }
 
 fn sealed(text: &[u8]) -> Vec<u8> {
@@ -173,8 +173,7 @@ fn a_short_message_says_what_is_missing() {
 }
 
 #[test]
-fn the_limits_are_those_of_the_single_call() {
-    assert!(!opens(&key(), LABEL, &IV, io::repeat(0).take(LIMIT + 16)).unwrap());
+fn a_reader_without_an_end_is_refused() {
     assert_eq!(refusal(opens(&key(), LABEL, &IV, io::repeat(0))), Some(Refusal::TooLong));
     assert_eq!(refusal(open_to(&key(), LABEL, &IV, io::repeat(0), io::sink())), Some(Refusal::TooLong));
 }
