@@ -87,7 +87,8 @@ find_rust() {
     local target=x86_64-unknown-linux-gnu
     if [ "$(uname -m)" = x86_64 ]; then return; fi
     if ! [ -d "$("${RUSTC:-rustc}" --print sysroot 2>/dev/null)/lib/rustlib/$target" ]; then fetch_rust; fi
-    rustc=("${RUSTC:-rustc}" --target $target -C linker=x86_64-linux-gnu-gcc -L "$work/lib")
+    rustc=("${RUSTC:-rustc}" --target $target -C linker=x86_64-linux-gnu-gcc -C relocation-model=static
+        -L "$work/lib")
     # the cross libm.a is a script that names a path of another machine
     mkdir "$work/lib" && ln -s /usr/x86_64-linux-gnu/lib/libm-2.36.a "$work/lib/libm.a"
 }

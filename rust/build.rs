@@ -1,5 +1,5 @@
-//! Finds the archive, `libluossavin.a`: where LUOSSAVIN_ARCHIVE says, where pkg-config says, or in the checkout that this package stands in,
-//! where `rt staticlib luossavin` proves and writes it.
+//! Finds the archive, `libluossavin.a`: where LUOSSAVIN_ARCHIVE says, where pkg-config says, or in the checkout that
+//! this package stands in, where `rt staticlib luossavin` proves and writes it.
 
 use std::env;
 use std::fs;
@@ -10,8 +10,9 @@ const ARCHIVE: &str = "libluossavin.a";
 
 fn main() {
     println!("cargo:rerun-if-changed=build.rs");
-    println!("cargo:rerun-if-env-changed=LUOSSAVIN_ARCHIVE");
-    println!("cargo:rerun-if-env-changed=PKG_CONFIG_PATH");
+    for variable in ["LUOSSAVIN_ARCHIVE", "PKG_CONFIG_PATH", "PKG_CONFIG_LIBDIR"] {
+        println!("cargo:rerun-if-env-changed={variable}");
+    }
     // elsewhere there is no archive to find, and src/lib.rs says so
     if env::var("CARGO_CFG_TARGET_ARCH").as_deref() != Ok("x86_64") {
         return;
@@ -38,7 +39,8 @@ fn find() -> Result<PathBuf, String> {
     }
 }
 
-/// The archive that LUOSSAVIN_ARCHIVE names, or the one in the folder that it names. What it names wrongly is not looked for elsewhere.
+/// The archive that LUOSSAVIN_ARCHIVE names, or the one in the folder that it names. What it names wrongly is not
+/// looked for elsewhere.
 fn named() -> Option<Result<PathBuf, String>> {
     let name = env::var_os("LUOSSAVIN_ARCHIVE").filter(|name| !name.is_empty())?;
     let path = PathBuf::from(name);

@@ -1,10 +1,10 @@
-//! A server's calls, written against libsm. `host/package` compiles it once with libsm and once with the package of this repository, by
-//! changing its imports, and compares what it writes: a line for each call.
+//! A server's calls, written against libsm. `host/package` compiles it once with libsm and once with the package of
+//! this repository, by changing its imports, and compares what it writes: a line for each call.
 //!
 //!   server SEED COUNT
 //!
-//! A call of which docs/DIFFERENCES.md says that the two answer otherwise is told by its inputs, and its line begins with the number there;
-//! every other line begins with "same".
+//! A call of which docs/DIFFERENCES.md says that the two answer otherwise is told by its inputs, and its line begins
+//! with the number there; every other line begins with "same".
 
 mod random;
 

@@ -1,6 +1,6 @@
 //! Which edition does this file open under?
 
-use crate::{ffi, Key, Refusal};
+use crate::{ffi, Key, Refusal, LONGEST_TEXT};
 
 /// The label of a job and an edition: six bytes, big-endian.
 ///
@@ -12,10 +12,8 @@ pub fn label(job: u32, edition: u16) -> [u8; 6] {
     [a, b, c, d, e, f]
 }
 
-/// The longest label.
-const LONGEST_LABEL: usize = 16_777_216;
-
-/// Which of up to 64 labels a sealed message opens under: the place of the first, counted from 0, or none. The key may be retired.
+/// Which of up to 64 labels a sealed message opens under: the place of the first, counted from 0, or none. The key
+/// may be retired.
 ///
 /// ```
 /// use luossavin::editions::{label, which};
@@ -31,11 +29,12 @@ const LONGEST_LABEL: usize = 16_777_216;
 /// # Ok::<(), luossavin::Refusal>(())
 /// ```
 ///
-/// It is refused with [`BadList`](Refusal::BadList) for more than 64 labels, and otherwise as decryption is, but for its tag: where none is
-/// right, it is none.
+/// It is refused with [`BadList`](Refusal::BadList) for more than 64 labels, and otherwise as decryption is, but for
+/// its tag: where none is right, it is none.
 pub fn which<L: AsRef<[u8]>>(key: &Key, sealed: &[u8], iv: &[u8], labels: &[L]) -> Result<Option<usize>, Refusal> {
-    // more than 64 are refused whatever they are, and so is a label at any length over the limit: no more than that is copied
-    let lent = |label: &L| label.as_ref().len().min(LONGEST_LABEL + 1);
+    // more than 64 are refused whatever they are, and so is a label at any length over the limit: no more than that
+    // is copied
+    let lent = |label: &L| label.as_ref().len().min(LONGEST_TEXT + 1);
     let lengths: Vec<usize> = if labels.len() > 64 { vec![0; 65] } else { labels.iter().map(lent).collect() };
     let mut joined = Vec::with_capacity(lengths.iter().sum());
     for (label, length) in labels.iter().zip(&lengths) {

@@ -2,9 +2,9 @@
 //!
 //! Each call stands here twice: as the header declares it, and as a safe function over slices. What the header leaves
 //! to a host, slices and borrows see to: a slice's pointer leads to as many bytes as its length says, an output is
-//! borrowed alone and so overlaps no input, and nobody writes to an input while it is lent. An empty slice has a pointer that leads
-//! nowhere, with length 0. Records go by value, and there is an answer for every value of every field. The library
-//! keeps nothing, and every call returns.
+//! borrowed alone and so overlaps no input, and nobody writes to an input while it is lent. An empty slice has a
+//! pointer that leads nowhere, with length 0. Records go by value, and there is an answer for every value of every
+//! field. The library keeps nothing, and every call returns.
 
 use std::ops::Deref;
 use std::sync::atomic::{compiler_fence, Ordering};
@@ -239,8 +239,8 @@ extern "C" {
     fn luossavin_hash_join(h: Hash, first: Hash, second: Hash, second_blocks: u64) -> Hash;
 }
 
-/// A record that is as secret as the key. It has a place on the heap, where it stays however its owner is moved, and where it is
-/// overwritten when the owner is dropped.
+/// A record that is as secret as the key. It has a place on the heap, where it stays however its owner is moved, and
+/// where it is overwritten when the owner is dropped.
 pub struct Secret<T: Record>(Box<T>);
 
 impl<T: Record> Secret<T> {
@@ -506,8 +506,8 @@ mod tests {
         pub size: usize,
     }
 
-    /// A C program that compiles where every record has this size and alignment, and these fields at these places. The initializer has an entry
-    /// for each field: where C has one more, or one fewer, it is an error too.
+    /// A C program that compiles where every record has this size and alignment, and these fields at these places.
+    /// The initializer has an entry for each field: where C has one more, or one fewer, it is an error too.
     fn program(layouts: &[Layout]) -> String {
         let mut text = String::from("#include <luossavin.h>\n");
         for Layout { name, size, align, fields } in layouts {

@@ -32,7 +32,8 @@ use crate::ffi::{self, Secret};
 use crate::{Key, Refusal};
 use std::fmt;
 
-/// The key of the hash, H: what a key encrypts sixteen zero bytes to. It is as secret as the key: with it tags are forged.
+/// The key of the hash, H: what a key encrypts sixteen zero bytes to. It is as secret as the key: with it tags are
+/// forged.
 pub struct HashKey(Secret<ffi::Hash>);
 
 impl HashKey {
@@ -58,11 +59,11 @@ impl HashKey {
         self.half(&[bits(label), bits(text)].concat())
     }
 
-    /// Two hashes joined: that of the first's blocks with the second's behind them. It is refused with [`TooLong`](Refusal::TooLong) where
-    /// both have 2^64 blocks or more.
+    /// Two hashes joined: that of the first's blocks with the second's behind them. It is refused with
+    /// [`TooLong`](Refusal::TooLong) where both have 2^64 blocks or more.
     ///
-    /// Bytes that end inside a block were filled up with zeros, so that only a half of whole blocks can be the first of a text that was
-    /// cut.
+    /// Bytes that end inside a block were filled up with zeros, so that only a half of whole blocks can be the first
+    /// of a text that was cut.
     pub fn join(&self, first: &Half, second: &Half) -> Result<Half, Refusal> {
         let blocks = first.blocks.checked_add(second.blocks).ok_or(Refusal::TooLong)?;
         Ok(Half { hash: ffi::hash_join(&self.0, &first.hash, &second.hash, second.blocks), blocks })
@@ -75,8 +76,8 @@ impl fmt::Debug for HashKey {
     }
 }
 
-/// A hash, with how many blocks it is of, so that no host has to count. Whoever has the bytes too can work out H from it: it
-/// is as secret as the key.
+/// A hash, with how many blocks it is of, so that no host has to count. Whoever has the bytes too can work out H from
+/// it: it is as secret as the key.
 pub struct Half {
     hash: Secret<ffi::Hash>,
     blocks: u64,

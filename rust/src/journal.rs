@@ -18,8 +18,8 @@
 //! # Ok::<(), Refusal>(())
 //! ```
 //!
-//! A journal has the texts of its calls in it, and is as secret as these. It is not sealed: who can write to it can make a record
-//! agree.
+//! A journal has the texts of its calls in it, and is as secret as these. It is not sealed: who can write to it can
+//! make a record agree.
 
 use crate::ffi::{self, Secret};
 use crate::sm4::cipher_mode::{CipherMode, Sm4CipherMode};
@@ -48,8 +48,9 @@ impl<'a> Call<'a> {
         Call { direction, mode: cipher.mode(), key: cipher.key().number(), parts: [aad, data, iv], room }
     }
 
-    /// Puts the record of the call and its answer at the end of a journal. It is refused with [`PartTooLong`](Refusal::PartTooLong) where label,
-    /// data, IV or output is longer than can be recorded, and the journal is as it was then.
+    /// Puts the record of the call and its answer at the end of a journal. It is refused with
+    /// [`PartTooLong`](Refusal::PartTooLong) where label, data, IV or output is longer than can be recorded, and the
+    /// journal is as it was then.
     pub fn record(&self, answer: Result<&[u8], Refusal>, journal: &mut Vec<u8>) -> Result<(), Refusal> {
         let (number, output) = match answer {
             Ok(output) => (0, output),
@@ -83,7 +84,8 @@ impl fmt::Debug for Call<'_> {
     }
 }
 
-/// Makes the calls of a journal again, each on the key with its number, of up to eight. A key that was retired since is given as it was before.
+/// Makes the calls of a journal again, each on the key with its number, of up to eight. A key that was retired since
+/// is given as it was before.
 ///
 /// A record that cannot be made again stops the replay; what was before it is in the error.
 pub fn replay(keys: &[&Key], journal: &[u8]) -> Result<Report, Stopped> {
@@ -147,8 +149,8 @@ pub struct Difference {
 #[derive(Clone, Debug, PartialEq, Eq)]
 #[non_exhaustive]
 pub struct Stopped {
-    /// [`BadKeys`](Refusal::BadKeys), before any record; or [`BadRecord`](Refusal::BadRecord), [`PartTooLong`](Refusal::PartTooLong) or
-    /// [`UnknownKey`](Refusal::UnknownKey) of a record.
+    /// [`BadKeys`](Refusal::BadKeys), before any record; or [`BadRecord`](Refusal::BadRecord),
+    /// [`PartTooLong`](Refusal::PartTooLong) or [`UnknownKey`](Refusal::UnknownKey) of a record.
     pub refusal: Refusal,
     /// Where the record's first byte stands in the journal.
     pub place: usize,

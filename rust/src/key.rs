@@ -6,7 +6,8 @@ use std::fmt;
 
 /// A key that was set up, with a number of its own.
 ///
-/// A key that another has taken the place of is retired: it opens and decrypts as before, and encryption under it is refused.
+/// A key that another has taken the place of is retired: it opens and decrypts as before, and encryption under it is
+/// refused.
 ///
 /// ```
 /// use luossavin::sm4::cipher_mode::{CipherMode, Sm4CipherMode};
@@ -22,14 +23,15 @@ use std::fmt;
 /// # Ok::<(), Refusal>(())
 /// ```
 ///
-/// There is no `Clone`, since a copy that was made before a key is retired would still encrypt: share a key by reference, or in
-/// an [`Arc`](std::sync::Arc). What no type can see is the host's to keep: which numbers are retired, since a key that is set up
-/// anew from its bytes is not, and that no two keys have one number.
+/// There is no `Clone`, since a copy that was made before a key is retired would still encrypt: share a key by
+/// reference, or in an [`Arc`](std::sync::Arc). What no type can see is the host's to keep: which numbers are
+/// retired, since a key that is set up anew from its bytes is not, and that no two keys have one number.
 ///
 /// # What becomes of its bytes
 ///
-/// `Debug` shows number, mark and engine, and nothing else. The record is on the heap, so that moving a key copies nothing, and is
-/// overwritten there when the key is dropped, by writes that the compiler may not leave out. That does not cover
+/// `Debug` shows number, mark and engine, and nothing else. The record is on the heap, so that moving a key copies
+/// nothing, and is overwritten there when the key is dropped, by writes that the compiler may not leave out. That
+/// does not cover
 ///
 /// - the copies on the stack: a call takes the record by value, and the compiler may make others;
 /// - the bytes that [`Key::new`] was given, which are the caller's to overwrite;
@@ -40,8 +42,8 @@ use std::fmt;
 pub struct Key(Secret<ffi::Key>);
 
 impl Key {
-    /// Sets up a key of 16 bytes under a number from 1 to 65,535, not retired, with the plain engine. It is refused with
-    /// [`ErrorBlockSize`](Refusal::ErrorBlockSize) or [`WrongNumber`](Refusal::WrongNumber).
+    /// Sets up a key of 16 bytes under a number from 1 to 65,535, not retired, with the plain engine. It is refused
+    /// with [`ErrorBlockSize`](Refusal::ErrorBlockSize) or [`WrongNumber`](Refusal::WrongNumber).
     ///
     /// ```
     /// use luossavin::{Key, Refusal};
@@ -115,14 +117,15 @@ impl fmt::Debug for Key {
     }
 }
 
-/// How the rounds of SM4 are made, and nothing else: `docs/SPEED.md` has what each takes. Both read at places that depend on the key and
-/// the text, so neither is for a machine on which others may watch the caches.
+/// How the rounds of SM4 are made, and nothing else: `docs/SPEED.md` has what each takes. Both read at places that
+/// depend on the key and the text, so neither is for a machine on which others may watch the caches.
 #[derive(Clone, Copy, Debug, PartialEq, Eq, Hash)]
 #[non_exhaustive]
 pub enum Engine {
     /// A table of 1 KiB. It is what a key has that is set up.
     Plain = 0,
-    /// Four tables, 4 KiB that each call lays out on its stack: little more than half the instructions for a long message outside Gcm.
+    /// Four tables, 4 KiB that each call lays out on its stack: little more than half the instructions for a long
+    /// message outside Gcm.
     Tables = 1,
 }
 

@@ -24,8 +24,9 @@
 //! | [`journal`] | recorded calls, made again and added up |
 //! | [`halves`] | hashes of halves of a message, joined to the whole's |
 //!
-//! What the archive promises is proved, and `include/luossavin.h` says it. This package is not proved: it hands slices over and takes
-//! answers apart, and its tests hold it to that. The library keeps nothing between calls, so that all of it may be used from any thread.
+//! What the archive promises is proved, and `include/luossavin.h` says it. This package is not proved: it hands
+//! slices over and takes answers apart, and its tests hold it to that. Package and archive are to be of one release.
+//! The library keeps nothing between calls, so that all of it may be used from any thread.
 
 #![deny(unsafe_code)]
 #![warn(missing_docs)]
@@ -49,3 +50,6 @@ pub mod streams;
 
 pub use key::{Direction, Engine, Key};
 pub use refusal::{Done, Refusal};
+
+/// The most bytes of a text, and in Gcm of a label. What Cbc and Gcm make of a text has up to 16 more.
+pub const LONGEST_TEXT: usize = 16_777_216;

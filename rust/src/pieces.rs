@@ -1,9 +1,9 @@
 //! Messages in pieces, cut anywhere: Ctr, Gcm sealing, and whether a Gcm message opens.
 //!
-//! A start that is refused gives no state, a piece takes the state by `&mut`, and an end consumes it, so that nothing comes after an end.
-//! A state has no `Clone`: two texts that go through copies of one state use one key stream twice. The pieces of a message
-//! have at most 16,777,216 bytes together; the one that would pass this is refused with [`TooLong`](Refusal::TooLong). A refused piece
-//! leaves the state as it was, and may come again.
+//! A start that is refused gives no state, a piece takes the state by `&mut`, and an end consumes it, so that nothing
+//! comes after an end. A state has no `Clone`: two texts that go through copies of one state use one key stream
+//! twice. The pieces of a message have at most 16,777,216 bytes together; the one that would pass this is refused
+//! with [`TooLong`](Refusal::TooLong). A refused piece leaves the state as it was, and may come again.
 //!
 //! A state that is dropped before its end ends nothing: what was sealed so far has no tag, and opens for nobody.
 //! [`streams`](crate::streams) has the same for whoever has a [`Write`](std::io::Write) or a [`Read`](std::io::Read).
@@ -50,7 +50,8 @@ impl Ctr {
     }
 }
 
-/// Gcm sealing in pieces. The pieces' outputs, joined, and the tag behind them are what the single call makes of the joined pieces.
+/// Gcm sealing in pieces. The pieces' outputs, joined, and the tag behind them are what the single call makes of the
+/// joined pieces.
 ///
 /// ```
 /// use luossavin::pieces::Seal;
@@ -132,8 +133,8 @@ impl Opens {
         Ok(())
     }
 
-    /// The end of the question, with the tag of 16 bytes: whether the message opens. A tag of another length is refused with
-    /// [`ShortGcm`](Refusal::ShortGcm), and the question is over then too.
+    /// The end of the question, with the tag of 16 bytes: whether the message opens. A tag of another length is
+    /// refused with [`ShortGcm`](Refusal::ShortGcm), and the question is over then too.
     pub fn end(mut self, tag: &[u8]) -> Result<bool, Refusal> {
         match ffi::opens_end(&mut self.0, tag).result() {
             Ok(_) => Ok(true),

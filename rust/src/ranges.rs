@@ -34,21 +34,22 @@ use std::ops::Range;
 /// How many pieces a plan may have.
 const MOST_PIECES: usize = 64;
 
-/// Who does what of a message: pieces one behind another, each but the last of whole blocks. A plan is always one that work may go by.
+/// Who does what of a message: pieces one behind another, each but the last of whole blocks. A plan is always one
+/// that work may go by.
 #[derive(Clone)]
 pub struct Plan(Box<ffi::Plan>);
 
 impl Plan {
-    /// A plan of `n` bytes for 1 to 64 workers, of up to as many pieces. It is refused with [`BadWorkers`](Refusal::BadWorkers) or
-    /// [`TooLong`](Refusal::TooLong).
+    /// A plan of `n` bytes for 1 to 64 workers, of up to as many pieces. It is refused with
+    /// [`BadWorkers`](Refusal::BadWorkers) or [`TooLong`](Refusal::TooLong).
     pub fn make(n: usize, workers: usize) -> Result<Plan, Refusal> {
         let planned = ffi::plan_make(n, workers);
         planned.answer.result()?;
         Ok(Plan(Box::new(planned.plan)))
     }
 
-    /// A plan of one's own, of pieces of these lengths. It is refused with [`NotAccepted`](Refusal::NotAccepted) where there are more than
-    /// 64, where one is empty, or where another than the last does not divide by 16.
+    /// A plan of one's own, of pieces of these lengths. It is refused with [`NotAccepted`](Refusal::NotAccepted)
+    /// where there are more than 64, where one is empty, or where another than the last does not divide by 16.
     ///
     /// ```
     /// use luossavin::ranges::Plan;
@@ -85,8 +86,9 @@ impl Plan {
         ffi::plan_accepts(&self.0, n)
     }
 
-    /// The message and its output shared out, a share for each piece. It is refused with [`NotAccepted`](Refusal::NotAccepted) where the
-    /// plan is for another length than the data's, and then with [`NoRoom`](Refusal::NoRoom) where `out` is shorter than the data.
+    /// The message and its output shared out, a share for each piece. It is refused with
+    /// [`NotAccepted`](Refusal::NotAccepted) where the plan is for another length than the data's, and then with
+    /// [`NoRoom`](Refusal::NoRoom) where `out` is shorter than the data.
     pub fn shares<'a>(&self, data: &'a [u8], out: &'a mut [u8]) -> Result<Vec<Share<'a>>, Refusal> {
         if !self.accepts(data.len()) {
             return Err(Refusal::NotAccepted);
@@ -135,8 +137,9 @@ impl fmt::Debug for Share<'_> {
     }
 }
 
-/// Ctr of `data`, which stands at `offset` of its message, under the message's IV of 16 bytes: that stretch of what the single call makes of
-/// the message. That no two texts have one stretch of a key and an IV is the caller's to see to.
+/// Ctr of `data`, which stands at `offset` of its message, under the message's IV of 16 bytes: that stretch of what
+/// the single call makes of the message. That no two texts have one stretch of a key and an IV is the caller's to see
+/// to.
 ///
 /// ```
 /// use luossavin::ranges::ctr_range;

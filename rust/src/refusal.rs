@@ -5,11 +5,11 @@ use std::fmt;
 use std::io;
 use std::mem::discriminant;
 
-/// Why a call was refused. Each has the number that `include/luossavin.h` gives it; nothing was written, and the state of a message in
-/// pieces is as it was.
+/// Why a call was refused. Each has the number that `include/luossavin.h` gives it; nothing was written, and the
+/// state of a message in pieces is as it was.
 ///
-/// The first four are libsm's names. libsm has `ErrorBlockSize` for a wrong IV and a wrong block too; these have names of
-/// their own here.
+/// The first four are libsm's names. libsm has `ErrorBlockSize` for a wrong IV and a wrong block too; these have
+/// names of their own here.
 ///
 /// ```
 /// use luossavin::sm4::cipher_mode::{CipherMode, Sm4CipherMode};
@@ -53,7 +53,8 @@ pub enum Refusal {
     WrongIv,
     /// 11: the single block is not 16 bytes.
     WrongBlock,
-    /// 12: the message in pieces has come to its end. A state that has ended is consumed here, so that it is never given.
+    /// 12: the message in pieces has come to its end. A state that has ended is consumed here, so that it is never
+    /// given.
     Ended,
     /// 13: the key's number is not from 1 to 65,535.
     WrongNumber,
@@ -215,8 +216,8 @@ pub struct Done {
     pub length: usize,
     /// The number of the key.
     pub key: u16,
-    /// Whether a counter came round within the message. The work is right all the same; whoever encrypted takes another IV for
-    /// the next message, and not one that is counted on from this one's.
+    /// Whether a counter came round within the message. The work is right all the same; whoever encrypted takes
+    /// another IV for the next message, and not one that is counted on from this one's.
     pub came_round: bool,
 }
 

@@ -1,7 +1,7 @@
 //! A shelf: sealed files in one buffer, of which the newest edition of each job is current.
 
 use crate::editions::label;
-use crate::sm4::cipher_mode::CipherMode;
+use crate::sm4::cipher_mode::{decrypted, CipherMode};
 use crate::{ffi, Key, Refusal};
 use std::fmt;
 
@@ -44,8 +44,9 @@ impl Shelf {
         Shelf { buffer: vec![0; LARGEST], used: 0 }
     }
 
-    /// The shelf that was kept as `bytes`, with room for `size` bytes in all. It is refused with [`BadShelf`](Refusal::BadShelf) where
-    /// `bytes` are no shelf, or where `size` is less than they are or more than the largest.
+    /// The shelf that was kept as `bytes`, with room for `size` bytes in all. It is refused with
+    /// [`BadShelf`](Refusal::BadShelf) where `bytes` are no shelf, or where `size` is less than they are or more than
+    /// the largest.
     ///
     /// ```
     /// use luossavin::shelf::{Shelf, LARGEST};
@@ -75,8 +76,9 @@ impl Shelf {
         &self.buffer[..self.used]
     }
 
-    /// Puts in an edition of a job, which is then the current one. Where it does not fit, what is superseded is thrown out first. It is refused
-    /// with [`NotHigher`](Refusal::NotHigher) or [`NoShelfRoom`](Refusal::NoShelfRoom).
+    /// Puts in an edition of a job, which is then the current one. Where it does not fit, what is superseded is
+    /// thrown out first. It is refused with [`NotHigher`](Refusal::NotHigher) or
+    /// [`NoShelfRoom`](Refusal::NoShelfRoom).
     pub fn put(&mut self, job: u32, edition: u16, sealed: &[u8]) -> Result<(), Refusal> {
         let answer = ffi::shelf_put(&mut self.buffer, self.used, job, edition, sealed);
         self.take_up(answer)
@@ -143,11 +145,8 @@ impl<'a> Record<'a> {
 
     /// Opens the sealed bytes under the label of the record's own job and edition.
     pub fn open(&self, key: &Key, iv: &[u8]) -> Result<Vec<u8>, Refusal> {
-        let (gcm, label) = (CipherMode::Gcm, label(self.job(), self.edition()));
-        let mut text = vec![0; gcm.room_to_decrypt(self.sealed().len())];
-        let done = ffi::decrypt(gcm as u32, key.record(), &label, self.sealed(), iv, &mut text).result()?;
-        text.truncate(done.length);
-        Ok(text)
+        let label = label(self.job(), self.edition());
+        Ok(decrypted(key, CipherMode::Gcm, &label, self.sealed(), iv)?.0)
     }
 }
 

@@ -3,8 +3,8 @@
 //! A refusal comes as an [`io::Error`] with the refusal in it: [`Refusal::in_error`] finds it.
 
 use crate::pieces::{Opens, Seal};
-use crate::sm4::cipher_mode::CipherMode;
-use crate::{ffi, Done, Key, Refusal};
+use crate::sm4::cipher_mode::{decrypted, CipherMode};
+use crate::{Done, Key, Refusal, LONGEST_TEXT};
 use std::fmt;
 use std::io::{self, ErrorKind, Read, Write};
 
@@ -33,9 +33,9 @@ const PORTION: usize = 65_536;
 /// # Ok::<(), std::io::Error>(())
 /// ```
 ///
-/// Only [`finish`](SealWriter::finish) makes a sealed message of it. A writer that is dropped before writes nothing more, not even what
-/// it has kept back, and what came out opens for nobody: a text that broke off is not to look whole. Nor does
-/// `finish` seal a message after a write that was refused, since some of its text is missing.
+/// Only [`finish`](SealWriter::finish) makes a sealed message of it. A writer that is dropped before writes nothing
+/// more, not even what it has kept back, and what came out opens for nobody: a text that broke off is not to look
+/// whole. Nor does `finish` seal a message after a write that was refused, since some of its text is missing.
 #[must_use = "without `finish` there is no tag, and what was written opens for nobody"]
 pub struct SealWriter<W: Write> {
     seal: Seal,
@@ -53,7 +53,8 @@ impl<W: Write> SealWriter<W> {
         Ok(SealWriter { seal, kept: Vec::with_capacity(PORTION), refused: None, to })
     }
 
-    /// Writes what is left and the tag, and gives back the writer below, with whether a counter came round. That writer is not flushed.
+    /// Writes what is left and the tag, and gives back the writer below, with whether a counter came round. That
+    /// writer is not flushed.
     pub fn finish(mut self) -> io::Result<(W, Done)> {
         self.go_on()?;
         self.pass_on()?;
@@ -113,8 +114,8 @@ impl<W: Write> fmt::Debug for SealWriter<W> {
 
 /// Whether a sealed message opens, which is read to its end, portion by portion. No text is made.
 ///
-/// It is `true` where the tag is right, `false` where it is not, and an error where the message cannot be asked about: one of fewer than 16
-/// bytes is refused with [`ShortGcm`](Refusal::ShortGcm).
+/// It is `true` where the tag is right, `false` where it is not, and an error where the message cannot be asked
+/// about: one of fewer than 16 bytes is refused with [`ShortGcm`](Refusal::ShortGcm).
 pub fn opens(key: &Key, label: &[u8], iv: &[u8], mut sealed: impl Read) -> io::Result<bool> {
     let mut question = Opens::start(key, label, iv)?;
     let mut held = vec![0; PORTION + 16];
@@ -135,20 +136,16 @@ pub fn opens(key: &Key, label: &[u8], iv: &[u8], mut sealed: impl Read) -> io::R
     Ok(question.end(&held[..filled])?)
 }
 
-/// Opens a sealed message, which is read to its end, and writes its text: all of it, once the tag is found to be right, and otherwise not
-/// a byte.
+/// Opens a sealed message, which is read to its end, and writes its text: all of it, once the tag is found to be
+/// right, and otherwise not a byte.
 ///
-/// The message is kept in memory, up to the 16,777,232 bytes that one may have; of a longer one no more is read. An error of `text` may leave some of
-/// the text written.
+/// The message is kept in memory, up to the 16,777,232 bytes that one may have; of a longer one no more is read. An
+/// error of `text` may leave some of the text written.
 pub fn open_to(key: &Key, label: &[u8], iv: &[u8], sealed: impl Read, mut text: impl Write) -> io::Result<Done> {
     let mut whole = Vec::new();
-    sealed.take(LONGEST_SEALED + 1).read_to_end(&mut whole)?;
-    let gcm = CipherMode::Gcm;
-    let mut opened = vec![0; gcm.room_to_decrypt(whole.len())];
-    let done = ffi::decrypt(gcm as u32, key.record(), label, &whole, iv, &mut opened).result()?;
-    text.write_all(&opened[..done.length])?;
+    // a byte more than a sealed message may have, so that a longer one is refused
+    sealed.take(LONGEST_TEXT as u64 + 17).read_to_end(&mut whole)?;
+    let (opened, done) = decrypted(key, CipherMode::Gcm, label, &whole, iv)?;
+    text.write_all(&opened)?;
     Ok(done)
 }
-
-/// The longest message to open, with its tag.
-const LONGEST_SEALED: u64 = 16_777_232;

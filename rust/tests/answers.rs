@@ -64,7 +64,8 @@ impl Case<'_> {
         Ok(block.to_vec())
     }
 
-    /// What is due here. ErrorBlockSize is told apart by sizes (docs/DIFFERENCES.md, 6), and part 7 has paddings whose inner bytes differ (8).
+    /// What is due here. ErrorBlockSize is told apart by sizes (docs/DIFFERENCES.md, 6), and part 7 has paddings
+    /// whose inner bytes differ (8).
     fn due(&self) -> Sm4Result<Vec<u8>> {
         match self.name {
             0 if self.part == 7 => Err(Sm4Error::InvalidPadding),

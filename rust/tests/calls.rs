@@ -13,13 +13,12 @@ use luossavin::shelf::{Shelf, LARGEST};
 use luossavin::sm4::cipher::Sm4Cipher;
 use luossavin::sm4::cipher_mode::{CipherMode, Sm4CipherMode};
 use luossavin::streams::SealWriter;
-use luossavin::{Direction, Engine, Key, Refusal};
+use luossavin::{Direction, Engine, Key, Refusal, LONGEST_TEXT};
 use random::Random;
 use std::sync::Arc;
 
 const MODES: [CipherMode; 5] = [CipherMode::Cfb, CipherMode::Ofb, CipherMode::Ctr, CipherMode::Cbc, CipherMode::Gcm];
 const IV: [u8; 16] = [0xa5; 16];
-const LIMIT: usize = 16_777_216;
 
 fn key(number: u32) -> Key {
     Key::new(b"\x01\x23\x45\x67\x89\xab\xcd\xef\xfe\xdc\xba\x98\x76\x54\x32\x10", number).unwrap()
@@ -144,13 +143,13 @@ fn a_lent_buffer_needs_its_room_and_is_left_alone_behind_it() {
 
 #[test]
 fn lengths_over_the_limit_are_refused_without_as_much_room() {
-    let over = vec![0; LIMIT + 17];
+    let over = vec![0; LONGEST_TEXT + 17];
     for mode in MODES {
         let cipher = Sm4CipherMode::with_key(key(1), mode);
-        assert_eq!(cipher.encrypt(b"", &over[..LIMIT + 1], &IV), Err(Refusal::TooLong));
+        assert_eq!(cipher.encrypt(b"", &over[..LONGEST_TEXT + 1], &IV), Err(Refusal::TooLong));
         assert_eq!(cipher.decrypt(b"", &over, &IV), Err(Refusal::TooLong));
     }
-    assert_eq!(gcm().encrypt(&over[..LIMIT + 1], b"", &IV), Err(Refusal::TooLong));
+    assert_eq!(gcm().encrypt(&over[..LONGEST_TEXT + 1], b"", &IV), Err(Refusal::TooLong));
 }
 
 #[test]
@@ -194,7 +193,7 @@ fn a_refused_piece_leaves_the_state_as_it_was() {
     let mut out = vec![0xee; 5];
     assert_eq!(seal.piece(b"a text", &mut out), Err(Refusal::NoRoom));
     assert_eq!(out, [0xee; 5]);
-    assert_eq!(seal.piece(&vec![0; LIMIT + 1], &mut out), Err(Refusal::TooLong));
+    assert_eq!(seal.piece(&vec![0; LONGEST_TEXT + 1], &mut out), Err(Refusal::TooLong));
     out.resize(6, 0);
     seal.piece(b"a text", &mut out).unwrap();
     out.extend(seal.end().unwrap().0);
@@ -232,7 +231,7 @@ fn which_finds_the_first_that_opens() {
     assert_eq!(which(&key(1), &sealed[..3], &IV, &candidates[..2]), Err(Refusal::ShortGcm { missing: 13 }));
     let unlabelled = gcm().encrypt(b"", b"a text", &IV).unwrap();
     assert_eq!(which(&key(1), &unlabelled, &IV, &[&b"x"[..], b"", b"xx", b""]), Ok(Some(1)));
-    let long = vec![0; LIMIT + 5];
+    let long = vec![0; LONGEST_TEXT + 5];
     assert_eq!(which(&key(1), &sealed, &IV, &[&candidates[39][..], &long]), Err(Refusal::TooLong));
     assert_eq!(which(&key(1), &sealed, &IV, &[&long[..]; 100]), Err(Refusal::BadList));
 }
@@ -265,7 +264,7 @@ fn shares_of_any_plan_are_the_single_call() {
 fn plans_that_are_none_are_refused() {
     assert_eq!(Plan::make(100, 0).unwrap_err(), Refusal::BadWorkers);
     assert_eq!(Plan::make(100, 65).unwrap_err(), Refusal::BadWorkers);
-    assert_eq!(Plan::make(LIMIT + 1, 4).unwrap_err(), Refusal::TooLong);
+    assert_eq!(Plan::make(LONGEST_TEXT + 1, 4).unwrap_err(), Refusal::TooLong);
     for lengths in [&[5, 16][..], &[16, 0], &[0], &[16; 65], &[usize::MAX - 15, 16, 1], &[1 << 63, 1 << 63]] {
         assert_eq!(Plan::of_lengths(lengths).unwrap_err(), Refusal::NotAccepted, "{lengths:?}");
     }
@@ -288,8 +287,8 @@ fn a_range_starts_at_any_byte() {
         assert_eq!(out, whole[start..], "from byte {start}");
     }
     let past = |offset| ctr_range(&key(1), Direction::Encrypt, &IV, offset, &[1], &mut [0]);
-    assert!(past(LIMIT - 1).is_ok());
-    assert_eq!(past(LIMIT), Err(Refusal::TooLong));
+    assert!(past(LONGEST_TEXT - 1).is_ok());
+    assert_eq!(past(LONGEST_TEXT), Err(Refusal::TooLong));
     assert_eq!(past(usize::MAX), Err(Refusal::TooLong));
 }
 

@@ -8,7 +8,8 @@ use std::sync::atomic::{AtomicUsize, Ordering};
 
 struct Watching;
 
-/// The size of the records that are watched for, and how many of that size were given back, with zeros throughout and with anything else.
+/// The size of the records that are watched for, and how many of that size were given back, with zeros throughout and
+/// with anything else.
 static SIZE: AtomicUsize = AtomicUsize::new(0);
 static CLEAN: AtomicUsize = AtomicUsize::new(0);
 static DIRTY: AtomicUsize = AtomicUsize::new(0);

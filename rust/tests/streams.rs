@@ -6,13 +6,12 @@ mod random;
 
 use luossavin::sm4::cipher_mode::{CipherMode, Sm4CipherMode};
 use luossavin::streams::{open_to, opens, SealWriter};
-use luossavin::{Engine, Key, Refusal};
+use luossavin::{Engine, Key, Refusal, LONGEST_TEXT};
 use random::Random;
 use std::io::{self, ErrorKind, Read, Write};
 
 const LABEL: &[u8] = b"job 4711";
 const IV: [u8; 16] = [1; 16];
-const LIMIT: u64 = 16_777_216;
 
 fn key() -> Key {
     Key::new(&[7; 16], 3).unwrap().with_engine(Engine::Tables)
@@ -122,7 +121,7 @@ fn without_finish_nothing_opens() {
 #[test]
 fn a_text_that_was_refused_is_not_sealed_without_its_end() {
     let mut writer = SealWriter::start(&key(), LABEL, &IV, io::sink()).unwrap();
-    io::copy(&mut io::repeat(9).take(LIMIT), &mut writer).unwrap();
+    io::copy(&mut io::repeat(9).take(LONGEST_TEXT as u64), &mut writer).unwrap();
     assert_eq!(refusal(writer.write(b"x")), Some(Refusal::TooLong));
     assert_eq!(refusal(writer.finish()), Some(Refusal::TooLong));
 }

@@ -1,7 +1,7 @@
 //! Messages in Cfb, Ofb, Ctr, Cbc and Gcm.
 
 use super::error::Sm4Result;
-use crate::{ffi, Done, Key};
+use crate::{ffi, Done, Key, LONGEST_TEXT};
 use std::sync::Arc;
 
 /// A mode of operation.
@@ -20,7 +20,7 @@ pub enum CipherMode {
 }
 
 /// The longest output of a call. One that needs more room is refused for its length, whatever room it has.
-const LONGEST: usize = 16_777_232;
+const LONGEST: usize = LONGEST_TEXT + 16;
 
 impl CipherMode {
     /// The room that `n` bytes to encrypt need, which is also how many they become.
@@ -72,8 +72,8 @@ impl Sm4CipherMode {
         Sm4CipherMode { key: key.into(), mode }
     }
 
-    /// Encrypts `data`, in Gcm together with the label `aad`, which the other modes ignore. The IV has 16 bytes, or in Gcm 12. That no
-    /// two messages have the same key and IV is the caller's to see to.
+    /// Encrypts `data`, in Gcm together with the label `aad`, which the other modes ignore. The IV has 16 bytes, or
+    /// in Gcm 12. That no two messages have the same key and IV is the caller's to see to.
     ///
     /// Whether a counter came round is told by [`encrypt_into`](Sm4CipherMode::encrypt_into).
     pub fn encrypt(&self, aad: &[u8], data: &[u8], iv: &[u8]) -> Sm4Result<Vec<u8>> {
@@ -83,17 +83,14 @@ impl Sm4CipherMode {
         Ok(out)
     }
 
-    /// Decrypts `data`, which was encrypted under the same label and IV. In Gcm there is no text before the tag is found to be right, and in
-    /// Cbc none before the padding is.
+    /// Decrypts `data`, which was encrypted under the same label and IV. In Gcm there is no text before the tag is
+    /// found to be right, and in Cbc none before the padding is.
     pub fn decrypt(&self, aad: &[u8], data: &[u8], iv: &[u8]) -> Sm4Result<Vec<u8>> {
-        let mut out = vec![0; self.mode.room_to_decrypt(data.len()).min(LONGEST)];
-        let done = self.decrypt_into(aad, data, iv, &mut out)?;
-        out.truncate(done.length);
-        Ok(out)
+        Ok(decrypted(&self.key, self.mode, aad, data, iv)?.0)
     }
 
-    /// Encrypts `data` into a buffer that is lent, which needs [`room_to_encrypt`](CipherMode::room_to_encrypt). Bytes behind the result are
-    /// as they were, and in a refusal all of them.
+    /// Encrypts `data` into a buffer that is lent, which needs [`room_to_encrypt`](CipherMode::room_to_encrypt).
+    /// Bytes behind the result are as they were, and in a refusal all of them.
     ///
     /// ```
     /// use luossavin::sm4::cipher_mode::{CipherMode, Sm4CipherMode};
@@ -109,8 +106,8 @@ impl Sm4CipherMode {
         ffi::encrypt(self.mode as u32, self.key.record(), aad, data, iv, out).result()
     }
 
-    /// Decrypts `data` into a buffer that is lent, which needs [`room_to_decrypt`](CipherMode::room_to_decrypt). Bytes behind the result are
-    /// as they were, and in a refusal all of them.
+    /// Decrypts `data` into a buffer that is lent, which needs [`room_to_decrypt`](CipherMode::room_to_decrypt).
+    /// Bytes behind the result are as they were, and in a refusal all of them.
     pub fn decrypt_into(&self, aad: &[u8], data: &[u8], iv: &[u8], out: &mut [u8]) -> Sm4Result<Done> {
         ffi::decrypt(self.mode as u32, self.key.record(), aad, data, iv, out).result()
     }
@@ -124,4 +121,12 @@ impl Sm4CipherMode {
     pub fn mode(&self) -> CipherMode {
         self.mode
     }
+}
+
+/// Decrypts `data` to a text of its own.
+pub(crate) fn decrypted(key: &Key, mode: CipherMode, aad: &[u8], data: &[u8], iv: &[u8]) -> Sm4Result<(Vec<u8>, Done)> {
+    let mut out = vec![0; mode.room_to_decrypt(data.len()).min(LONGEST)];
+    let done = ffi::decrypt(mode as u32, key.record(), aad, data, iv, &mut out).result()?;
+    out.truncate(done.length);
+    Ok((out, done))
 }

@@ -13,8 +13,9 @@
 //! # Ok::<(), luossavin::sm4::error::Sm4Error>(())
 //! ```
 //!
-//! Where the two answer otherwise, `docs/DIFFERENCES.md` says why: no input ends the caller's process, lengths have a limit, Cbc
-//! reads all of its padding, Gcm takes an IV of 12 bytes too, and wrong sizes of key, IV and block have a name each.
+//! Where the two answer otherwise, `docs/DIFFERENCES.md` says why: no input ends the caller's process, lengths have a
+//! limit, Cbc reads all of its padding, Gcm takes an IV of 12 bytes too, and wrong sizes of key, IV and block have a
+//! name each.
 
 pub mod cipher;
 pub mod cipher_mode;
