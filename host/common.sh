@@ -93,15 +93,22 @@ find_rust() {
     mkdir "$work/lib" && ln -s /usr/x86_64-linux-gnu/lib/libm-2.36.a "$work/lib/libm.a"
 }
 
+# depended PACKAGE NAME: the package that PACKAGE depends on and whose name begins so.
+depended() {
+    apt-cache depends "$1" | sed -n "s/^ *Depends: \($2[^ ]*\)$/\1/p"
+}
+
 # RUSTC and RUSTDOC, which cargo goes by too: those of Debian, with the standard libraries of both machines, in $work/rust.
 fetch_rust() {
-    local program
+    local program std llvm
     (
         mkdir "$work/rust" && cd "$work/rust"
         dpkg --add-architecture amd64
         apt-get update
-        apt-get download rustc-web libstd-rust-web-dev libstd-rust-web-1.96 libllvm22:arm64
-        apt-get download libstd-rust-web-dev:amd64 libstd-rust-web-1.96:amd64
+        # these two have a version in their names
+        std=$(depended libstd-rust-web-dev libstd-rust-web)
+        llvm=$(depended "$std" libllvm)
+        apt-get download rustc-web libstd-rust-web-dev "$std" "$llvm" libstd-rust-web-dev:amd64
         for package in ./*.deb; do dpkg -x "$package" .; done
     ) >"$work/apt.log" 2>&1 || { tail -5 "$work/apt.log" >&2; die "could not fetch a rustc for x86-64"; }
     for program in rustc rustdoc; do

@@ -152,7 +152,10 @@ fn hex(bytes: &[u8]) -> String {
 }
 
 fn main() {
-    let numbers: Vec<u64> = std::env::args().skip(1).map(|word| word.parse().unwrap()).collect();
+    let numbers: Vec<u64> = std::env::args()
+        .skip(1)
+        .map(|word| word.parse().unwrap())
+        .collect();
     let [seed, count] = numbers[..] else {
         panic!("usage: server SEED COUNT");
     };
@@ -164,7 +167,9 @@ fn main() {
         let result = catch_unwind(AssertUnwindSafe(|| call.result()));
         match (call.difference(), result) {
             (Some(entry), Ok(Ok(_))) => println!("{entry} done"),
-            (Some(entry), Ok(Err(error))) => println!("{entry} {}", error.to_string().split(':').next().unwrap()),
+            (Some(entry), Ok(Err(error))) => {
+                println!("{entry} {}", error.to_string().split(':').next().unwrap())
+            }
             (Some(entry), Err(_)) => println!("{entry} panicked"),
             (None, Ok(Ok(output))) => println!("same {:?} {}", call.mode, hex(&output)),
             (None, Ok(Err(error))) => println!("same {:?} {}", call.mode, name(&error)),

@@ -236,6 +236,7 @@ mod tests {
     use super::*;
 
     const HEADER: &str = concat!(env!("CARGO_MANIFEST_DIR"), "/../include/luossavin.h");
+    const CRATES: &str = concat!(env!("CARGO_MANIFEST_DIR"), "/../crates");
 
     /// The numbers and names of the header's table, 0 left out.
     fn table() -> Vec<(u32, String)> {
@@ -280,6 +281,41 @@ mod tests {
                 Ok(done) => assert_eq!((number, done), (0, Done { length: 3, key: 7, came_round: true })),
                 Err(refusal) => assert_eq!(refusal.number(), number),
             }
+        }
+    }
+
+    /// What the tool says of a file, as far as it speaks of no particular one.
+    const SAID: [(u32, &str); 20] = [
+        (2, ", or it was cut short"),
+        (3, ", or it was changed since"),
+        (4, ", or it was changed since"),
+        (5, " bytes that the cipher takes"),
+        (6, "what comes of this "),
+        (8, " is empty, and cbc writes at least 16 bytes: was it cut off?"),
+        (9, " missing: was it cut off?"),
+        (12, "this message has come to its end"),
+        (13, "the key's number is 1 to 65535"),
+        (14, " is retired: old files still open with it, and nothing new is sealed or encrypted under it; take the current key"),
+        (15, " is damaged: it was changed since, or not encrypted with cbc, "),
+        (16, " are asked about at once: ask about 64 at a time"),
+        (17, "a plan is for 1 to 64 workers"),
+        (20, " and takes only a higher one"),
+        (21, " and the current ones of the other jobs, with 12 bytes more for each, have more"),
+        (22, "this shelf has no current edition of "),
+        (23, " is cut off, or its mark or direction is bad: was the journal cut off, or changed there?"),
+        (24, " has a label, data or an IV of more than 16384 bytes, or an output of more than 16400"),
+        (25, " is not among the keys that were given"),
+        (26, "a replay takes up to 8 keys, "),
+    ];
+
+    #[test]
+    fn words_are_the_tools() {
+        let read = |path| std::fs::read_to_string(format!("{CRATES}/{path}")).expect("the tool's sentences");
+        let tool = ["cli/src/say.rt", "shelving/src/tell.rt", "replaying/src/tell.rt"].map(read).concat();
+        for (number, words) in SAID {
+            assert!(tool.contains(words), "the tool does not say '{words}'");
+            let refusal = Refusal::of(number, 7).to_string();
+            assert!(refusal.contains(words), "'{refusal}' does not say '{words}'");
         }
     }
 

@@ -152,11 +152,7 @@ impl<'a> Record<'a> {
 
 impl fmt::Debug for Record<'_> {
     fn fmt(&self, f: &mut fmt::Formatter<'_>) -> fmt::Result {
-        let sealed = format_args!("{} bytes", self.sealed().len());
-        f.debug_struct("Record")
-            .field("job", &self.job())
-            .field("edition", &self.edition())
-            .field("sealed", &sealed)
-            .finish()
+        let (job, edition, sealed) = (self.job(), self.edition(), self.sealed().len());
+        write!(f, "Record {{ job: {job}, edition: {edition}, sealed: {sealed} bytes }}")
     }
 }

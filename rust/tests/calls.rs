@@ -86,7 +86,7 @@ fn keys_have_numbers_from_1_to_65535() {
 #[test]
 fn a_retired_key_decrypts_alone() {
     for mode in MODES {
-        let (current, retired) = (key(5), key(5).with_engine(Engine::Tables).retire());
+        let (current, retired) = (key(5), key(5).retire().with_engine(Engine::Tables));
         assert!(!current.is_retired() && retired.is_retired() && retired.engine() == Engine::Tables);
         let made = Sm4CipherMode::with_key(current, mode).encrypt(b"label", b"a text", &IV).unwrap();
         let cipher = Sm4CipherMode::with_key(retired, mode);
