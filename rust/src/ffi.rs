@@ -18,9 +18,8 @@ pub unsafe trait Record: Copy {}
 
 /// Declares records as the header has them. The test of layouts goes by the same list, so that no field is left out.
 macro_rules! records {
-    ($($(#[$about:meta])* struct $name:ident as $c:literal { $($field:ident: $type:ty,)* })*) => {
+    ($(struct $name:ident as $c:literal { $($field:ident: $type:ty,)* })*) => {
         $(
-            $(#[$about])*
             #[repr(C)]
             #[derive(Clone, Copy)]
             // of a state every field is the library's own
@@ -283,7 +282,7 @@ pub fn overwrite<T: Record>(record: &mut T) {
 }
 
 pub fn key_new(bytes: &[u8], number: u32) -> Secret<Key> {
-    // SAFETY: the pointer is a slice's, and so is the length beside it.
+    // SAFETY: the pointer is a slice's, with its length beside it.
     let mut key = unsafe { luossavin_key_new(bytes.as_ptr(), bytes.len(), number) };
     Secret::take(&mut key)
 }

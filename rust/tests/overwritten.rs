@@ -4,15 +4,17 @@ use luossavin::halves::{Half, HashKey};
 use luossavin::pieces::{Ctr, Opens, Seal};
 use luossavin::{Direction, Key};
 use std::alloc::{GlobalAlloc, Layout, System};
-use std::sync::atomic::{AtomicUsize, Ordering};
+use std::cell::Cell;
 
 struct Watching;
 
-/// The size of the records that are watched for, and how many of that size were given back, with zeros throughout and
-/// with anything else.
-static SIZE: AtomicUsize = AtomicUsize::new(0);
-static CLEAN: AtomicUsize = AtomicUsize::new(0);
-static DIRTY: AtomicUsize = AtomicUsize::new(0);
+// Each thread looks at its own, since those of the test's surroundings give back memory too.
+thread_local! {
+    /// The size of the records that are watched for.
+    static SIZE: Cell<usize> = const { Cell::new(0) };
+    /// How many of that size were given back, with zeros throughout and with anything else.
+    static GIVEN_BACK: Cell<(usize, usize)> = const { Cell::new((0, 0)) };
+}
 
 // SAFETY: every call is the system's own; memory is looked at before it is given back.
 unsafe impl GlobalAlloc for Watching {
@@ -21,9 +23,10 @@ unsafe impl GlobalAlloc for Watching {
     }
 
     unsafe fn dealloc(&self, memory: *mut u8, layout: Layout) {
-        if layout.size() == SIZE.load(Ordering::SeqCst) {
+        if layout.size() == SIZE.get() {
             let is_clean = (0..layout.size()).all(|at| memory.add(at).read_volatile() == 0);
-            if is_clean { &CLEAN } else { &DIRTY }.fetch_add(1, Ordering::SeqCst);
+            let (clean, dirty) = GIVEN_BACK.get();
+            GIVEN_BACK.set(if is_clean { (clean + 1, dirty) } else { (clean, dirty + 1) });
         }
         System.dealloc(memory, layout);
     }
@@ -34,15 +37,13 @@ static WATCHING: Watching = Watching;
 
 /// Drops something that holds a record of this size, and says how many such records were given back clean and dirty.
 fn dropped<T>(size: usize, owner: T) -> (usize, usize) {
-    CLEAN.store(0, Ordering::SeqCst);
-    DIRTY.store(0, Ordering::SeqCst);
-    SIZE.store(size, Ordering::SeqCst);
+    GIVEN_BACK.set((0, 0));
+    SIZE.set(size);
     drop(owner);
-    SIZE.store(0, Ordering::SeqCst);
-    (CLEAN.load(Ordering::SeqCst), DIRTY.load(Ordering::SeqCst))
+    SIZE.set(0);
+    GIVEN_BACK.get()
 }
 
-// one test, since the counts are everyone's
 #[test]
 fn what_is_dropped_is_overwritten() {
     let key = || Key::new(&[7; 16], 9).unwrap();
