@@ -275,6 +275,9 @@ fn plans_that_are_none_are_refused() {
     assert_eq!(plan.shares(&[0; 99], &mut [0; 100]).unwrap_err(), Refusal::NotAccepted);
     assert_eq!(plan.shares(&[0; 100], &mut [0; 99]).unwrap_err(), Refusal::NoRoom);
     assert_eq!(plan.work(&key(1), Direction::Encrypt, &IV, &[0; 99], &mut [0; 99]), Err(Refusal::NotAccepted));
+    let by_retired = |direction| plan.work(&key(1).retire(), direction, &IV, &[0; 100], &mut [0; 100]);
+    assert_eq!(by_retired(Direction::Encrypt), Err(Refusal::Retired));
+    assert!(by_retired(Direction::Decrypt).is_ok());
 }
 
 #[test]
