@@ -120,10 +120,13 @@ fn without_finish_nothing_opens() {
 
 #[test]
 fn a_text_that_was_refused_is_not_sealed_without_its_end() {
-    let mut writer = SealWriter::start(&key(), LABEL, &IV, io::sink()).unwrap();
+    let mut out = Vec::new();
+    let mut writer = SealWriter::start(&key(), LABEL, &IV, &mut out).unwrap();
     io::copy(&mut io::repeat(9).take(LONGEST_TEXT as u64), &mut writer).unwrap();
     assert_eq!(refusal(writer.write(b"x")), Some(Refusal::TooLong));
+    writer.flush().unwrap();
     assert_eq!(refusal(writer.finish()), Some(Refusal::TooLong));
+    assert_eq!(out.len(), LONGEST_TEXT, "nothing comes of what was refused");
 }
 
 #[test]
