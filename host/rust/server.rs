@@ -136,9 +136,12 @@ fn spoil(random: &mut Random, call: &mut Call) {
         _ => &mut call.data,
     };
     match random.below(6) {
-        0 | 1 if !part.is_empty() => {
-            let bit = random.below(8 * part.len());
-            part[bit / 8] ^= 1 << (bit % 8);
+        // half of them near the end, where Cbc has its padding and Gcm its tag
+        choice @ (0 | 1) if !part.is_empty() => {
+            let among = part.len().min(if choice == 0 { 32 } else { part.len() });
+            let back = random.below(8 * among);
+            let at = part.len() - 1 - back / 8;
+            part[at] ^= 1 << (back % 8);
         }
         2 => part.resize(random.below(34), 7),
         3 => part.truncate(random.below(17)),

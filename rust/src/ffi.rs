@@ -6,6 +6,8 @@
 //! pointer that leads nowhere, with length 0. Records go by value, and there is an answer for every value of every
 //! field. The library keeps nothing, and every call returns.
 
+use crate::sm4::cipher_mode::CipherMode;
+use crate::Direction;
 use std::ops::Deref;
 use std::sync::atomic::{compiler_fence, Ordering};
 
@@ -299,59 +301,32 @@ pub fn key_engine(key: &mut Secret<Key>, engine: u32) {
     key.replace(&mut marked);
 }
 
-pub fn block_encrypt(key: &Key, block: &[u8], out: &mut [u8]) -> Answer {
+pub fn block(direction: Direction, key: &Key, block: &[u8], out: &mut [u8]) -> Answer {
+    let call = match direction {
+        Direction::Encrypt => luossavin_block_encrypt,
+        Direction::Decrypt => luossavin_block_decrypt,
+    };
     let (room, out) = (out.len(), out.as_mut_ptr());
     // SAFETY: each pointer is a slice's, with that slice's length beside it, and `out` is borrowed alone.
-    unsafe { luossavin_block_encrypt(*key, block.as_ptr(), block.len(), out, room) }
+    unsafe { call(*key, block.as_ptr(), block.len(), out, room) }
 }
 
-pub fn block_decrypt(key: &Key, block: &[u8], out: &mut [u8]) -> Answer {
-    let (room, out) = (out.len(), out.as_mut_ptr());
+pub fn message(
+    direction: Direction, mode: CipherMode, key: &Key, aad: &[u8], data: &[u8], iv: &[u8], out: &mut [u8],
+) -> Answer {
+    let call = match direction {
+        Direction::Encrypt => luossavin_encrypt,
+        Direction::Decrypt => luossavin_decrypt,
+    };
+    let (mode, room, out) = (mode as u32, out.len(), out.as_mut_ptr());
+    let ((aad_len, aad), (iv_len, iv)) = ((aad.len(), aad.as_ptr()), (iv.len(), iv.as_ptr()));
     // SAFETY: each pointer is a slice's, with that slice's length beside it, and `out` is borrowed alone.
-    unsafe { luossavin_block_decrypt(*key, block.as_ptr(), block.len(), out, room) }
+    unsafe { call(mode, *key, aad, aad_len, data.as_ptr(), data.len(), iv, iv_len, out, room) }
 }
 
-pub fn encrypt(mode: u32, key: &Key, aad: &[u8], data: &[u8], iv: &[u8], out: &mut [u8]) -> Answer {
-    let (room, out) = (out.len(), out.as_mut_ptr());
-    // SAFETY: each pointer is a slice's, with that slice's length beside it, and `out` is borrowed alone.
-    unsafe {
-        luossavin_encrypt(
-            mode,
-            *key,
-            aad.as_ptr(),
-            aad.len(),
-            data.as_ptr(),
-            data.len(),
-            iv.as_ptr(),
-            iv.len(),
-            out,
-            room,
-        )
-    }
-}
-
-pub fn decrypt(mode: u32, key: &Key, aad: &[u8], data: &[u8], iv: &[u8], out: &mut [u8]) -> Answer {
-    let (room, out) = (out.len(), out.as_mut_ptr());
-    // SAFETY: each pointer is a slice's, with that slice's length beside it, and `out` is borrowed alone.
-    unsafe {
-        luossavin_decrypt(
-            mode,
-            *key,
-            aad.as_ptr(),
-            aad.len(),
-            data.as_ptr(),
-            data.len(),
-            iv.as_ptr(),
-            iv.len(),
-            out,
-            room,
-        )
-    }
-}
-
-pub fn ctr_start(key: &Key, decrypt: bool, iv: &[u8]) -> (Answer, Secret<Ctr>) {
+pub fn ctr_start(key: &Key, direction: Direction, iv: &[u8]) -> (Answer, Secret<Ctr>) {
     // SAFETY: the pointer is a slice's, with its length beside it.
-    let mut step = unsafe { luossavin_ctr_start(*key, decrypt, iv.as_ptr(), iv.len()) };
+    let mut step = unsafe { luossavin_ctr_start(*key, direction.is_decrypt(), iv.as_ptr(), iv.len()) };
     (step.answer, Secret::take(&mut step.state))
 }
 
@@ -414,20 +389,10 @@ pub fn opens_end(state: &mut Secret<Opens>, tag: &[u8]) -> Answer {
 }
 
 pub fn which(key: &Key, sealed: &[u8], iv: &[u8], labels: &[u8], lengths: &[usize]) -> Found {
+    let ((iv_len, iv), (labels_len, labels)) = ((iv.len(), iv.as_ptr()), (labels.len(), labels.as_ptr()));
+    let (count, lengths) = (lengths.len(), lengths.as_ptr());
     // SAFETY: each pointer is a slice's, with that slice's length beside it; a count is a length in entries.
-    unsafe {
-        luossavin_which(
-            *key,
-            sealed.as_ptr(),
-            sealed.len(),
-            iv.as_ptr(),
-            iv.len(),
-            labels.as_ptr(),
-            labels.len(),
-            lengths.as_ptr(),
-            lengths.len(),
-        )
-    }
+    unsafe { luossavin_which(*key, sealed.as_ptr(), sealed.len(), iv, iv_len, labels, labels_len, lengths, count) }
 }
 
 pub fn plan_make(n: usize, workers: usize) -> Planned {
@@ -440,16 +405,18 @@ pub fn plan_accepts(plan: &Plan, n: usize) -> bool {
     unsafe { luossavin_plan_accepts(*plan, n) }
 }
 
-pub fn ctr_range(key: &Key, decrypt: bool, iv: &[u8], offset: usize, data: &[u8], out: &mut [u8]) -> Answer {
+pub fn ctr_range(key: &Key, direction: Direction, iv: &[u8], offset: usize, data: &[u8], out: &mut [u8]) -> Answer {
+    let (decrypt, iv_len, iv) = (direction.is_decrypt(), iv.len(), iv.as_ptr());
     let (room, out) = (out.len(), out.as_mut_ptr());
     // SAFETY: each pointer is a slice's, with that slice's length beside it, and `out` is borrowed alone.
-    unsafe { luossavin_ctr_range(*key, decrypt, iv.as_ptr(), iv.len(), offset, data.as_ptr(), data.len(), out, room) }
+    unsafe { luossavin_ctr_range(*key, decrypt, iv, iv_len, offset, data.as_ptr(), data.len(), out, room) }
 }
 
-pub fn ctr_by_plan(key: &Key, decrypt: bool, iv: &[u8], plan: &Plan, data: &[u8], out: &mut [u8]) -> Answer {
+pub fn ctr_by_plan(key: &Key, direction: Direction, iv: &[u8], plan: &Plan, data: &[u8], out: &mut [u8]) -> Answer {
+    let (decrypt, iv_len, iv) = (direction.is_decrypt(), iv.len(), iv.as_ptr());
     let (room, out) = (out.len(), out.as_mut_ptr());
     // SAFETY: each pointer is a slice's, with that slice's length beside it, and `out` is borrowed alone.
-    unsafe { luossavin_ctr_by_plan(*key, decrypt, iv.as_ptr(), iv.len(), *plan, data.as_ptr(), data.len(), out, room) }
+    unsafe { luossavin_ctr_by_plan(*key, decrypt, iv, iv_len, *plan, data.as_ptr(), data.len(), out, room) }
 }
 
 pub fn shelf_put(shelf: &mut [u8], used: usize, job: u32, edition: u16, sealed: &[u8]) -> Shelf {

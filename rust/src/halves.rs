@@ -29,7 +29,7 @@
 //! ```
 
 use crate::ffi::{self, Secret};
-use crate::{Key, Refusal};
+use crate::{Direction, Key, Refusal};
 use std::fmt;
 
 /// The key of the hash, H: what a key encrypts sixteen zero bytes to. It is as secret as the key: with it tags are
@@ -40,7 +40,7 @@ impl HashKey {
     /// The H of a key. A retired key encrypts nothing, and is refused with [`Retired`](Refusal::Retired).
     pub fn of(key: &Key) -> Result<HashKey, Refusal> {
         let mut block = [0; 16];
-        let answer = ffi::block_encrypt(key.record(), &[0; 16], &mut block);
+        let answer = ffi::block(Direction::Encrypt, key.record(), &[0; 16], &mut block);
         let h = hash_of(block);
         ffi::overwrite(&mut block);
         answer.result()?;

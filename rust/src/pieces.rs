@@ -34,7 +34,7 @@ pub struct Ctr(Secret<ffi::Ctr>);
 impl Ctr {
     /// Starts a message under an IV of 16 bytes. A retired key starts decryption alone.
     pub fn start(key: &Key, direction: Direction, iv: &[u8]) -> Result<Ctr, Refusal> {
-        let (answer, state) = ffi::ctr_start(key.record(), direction.is_decrypt(), iv);
+        let (answer, state) = ffi::ctr_start(key.record(), direction, iv);
         answer.result()?;
         Ok(Ctr(state))
     }

@@ -106,7 +106,7 @@ impl Plan {
     pub fn work(
         &self, key: &Key, direction: Direction, iv: &[u8], data: &[u8], out: &mut [u8],
     ) -> Result<Done, Refusal> {
-        ffi::ctr_by_plan(key.record(), direction.is_decrypt(), iv, &self.0, data, out).result()
+        ffi::ctr_by_plan(key.record(), direction, iv, &self.0, data, out).result()
     }
 }
 
@@ -156,5 +156,5 @@ impl fmt::Debug for Share<'_> {
 pub fn ctr_range(
     key: &Key, direction: Direction, iv: &[u8], offset: usize, data: &[u8], out: &mut [u8],
 ) -> Result<Done, Refusal> {
-    ffi::ctr_range(key.record(), direction.is_decrypt(), iv, offset, data, out).result()
+    ffi::ctr_range(key.record(), direction, iv, offset, data, out).result()
 }

@@ -1,7 +1,7 @@
 //! Single blocks.
 
 use super::error::Sm4Error;
-use crate::{ffi, Key};
+use crate::{ffi, Direction, Key};
 use std::sync::Arc;
 
 /// The block cipher under a key, as GB/T 32907-2016 has it.
@@ -23,15 +23,17 @@ impl Sm4Cipher {
 
     /// Encrypts one block of 16 bytes.
     pub fn encrypt(&self, block_in: &[u8]) -> Result<[u8; 16], Sm4Error> {
-        let mut out = [0; 16];
-        ffi::block_encrypt(self.key.record(), block_in, &mut out).result()?;
-        Ok(out)
+        self.call(Direction::Encrypt, block_in)
     }
 
     /// Decrypts one block of 16 bytes.
     pub fn decrypt(&self, block_in: &[u8]) -> Result<[u8; 16], Sm4Error> {
+        self.call(Direction::Decrypt, block_in)
+    }
+
+    fn call(&self, direction: Direction, block_in: &[u8]) -> Result<[u8; 16], Sm4Error> {
         let mut out = [0; 16];
-        ffi::block_decrypt(self.key.record(), block_in, &mut out).result()?;
+        ffi::block(direction, self.key.record(), block_in, &mut out).result()?;
         Ok(out)
     }
 }

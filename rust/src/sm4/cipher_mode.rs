@@ -1,7 +1,7 @@
 //! Messages in Cfb, Ofb, Ctr, Cbc and Gcm.
 
 use super::error::Sm4Result;
-use crate::{ffi, Done, Key, LONGEST_TEXT};
+use crate::{ffi, Direction, Done, Key, LONGEST_TEXT};
 use std::sync::Arc;
 
 /// A mode of operation.
@@ -103,13 +103,13 @@ impl Sm4CipherMode {
     /// # Ok::<(), luossavin::Refusal>(())
     /// ```
     pub fn encrypt_into(&self, aad: &[u8], data: &[u8], iv: &[u8], out: &mut [u8]) -> Sm4Result<Done> {
-        ffi::encrypt(self.mode as u32, self.key.record(), aad, data, iv, out).result()
+        ffi::message(Direction::Encrypt, self.mode, self.key.record(), aad, data, iv, out).result()
     }
 
     /// Decrypts `data` into a buffer that is lent, which needs [`room_to_decrypt`](CipherMode::room_to_decrypt).
     /// Bytes behind the result are as they were, and in a refusal all of them.
     pub fn decrypt_into(&self, aad: &[u8], data: &[u8], iv: &[u8], out: &mut [u8]) -> Sm4Result<Done> {
-        ffi::decrypt(self.mode as u32, self.key.record(), aad, data, iv, out).result()
+        ffi::message(Direction::Decrypt, self.mode, self.key.record(), aad, data, iv, out).result()
     }
 
     /// The key that it is under.
@@ -126,7 +126,7 @@ impl Sm4CipherMode {
 /// Decrypts `data` to a text of its own.
 pub(crate) fn decrypted(key: &Key, mode: CipherMode, aad: &[u8], data: &[u8], iv: &[u8]) -> Sm4Result<(Vec<u8>, Done)> {
     let mut out = vec![0; mode.room_to_decrypt(data.len()).min(LONGEST)];
-    let done = ffi::decrypt(mode as u32, key.record(), aad, data, iv, &mut out).result()?;
+    let done = ffi::message(Direction::Decrypt, mode, key.record(), aad, data, iv, &mut out).result()?;
     out.truncate(done.length);
     Ok((out, done))
 }
