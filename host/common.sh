@@ -82,6 +82,46 @@ build_rust() {
     "${rustc[@]}" --edition 2021 -O "$@" 2>"$work/rustc.log" || { cat "$work/rustc.log" >&2; die "rustc failed"; }
 }
 
+# A Rust for x86-64: the installed one where it has that standard library, and otherwise on Arm one from Debian's packages.
+find_rust() {
+    local target=x86_64-unknown-linux-gnu
+    if [ "$(uname -m)" = x86_64 ]; then return; fi
+    if ! [ -d "$("${RUSTC:-rustc}" --print sysroot 2>/dev/null)/lib/rustlib/$target" ]; then fetch_rust; fi
+    rustc=("${RUSTC:-rustc}" --target $target -C linker=x86_64-linux-gnu-gcc -C relocation-model=static
+        -L "$work/lib")
+    # the cross libm.a is a script that names a path of another machine
+    mkdir "$work/lib" && ln -s /usr/x86_64-linux-gnu/lib/libm-2.36.a "$work/lib/libm.a"
+}
+
+# depended PACKAGE NAME: the package that PACKAGE depends on and whose name begins so.
+depended() {
+    apt-cache depends "$1" | sed -n "s/^ *Depends: \($2[^ ]*\)$/\1/p"
+}
+
+# RUSTC and RUSTDOC, which cargo goes by too: those of Debian, with the standard libraries of both machines, in $work/rust.
+fetch_rust() {
+    local program std llvm
+    (
+        mkdir "$work/rust" && cd "$work/rust"
+        dpkg --add-architecture amd64
+        apt-get update
+        # these two have a version in their names
+        std=$(depended libstd-rust-web-dev libstd-rust-web)
+        llvm=$(depended "$std" libllvm)
+        apt-get download rustc-web libstd-rust-web-dev "$std" "$llvm" libstd-rust-web-dev:amd64
+        for package in ./*.deb; do dpkg -x "$package" .; done
+    ) >"$work/apt.log" 2>&1 || { tail -5 "$work/apt.log" >&2; die "could not fetch a rustc for x86-64"; }
+    for program in rustc rustdoc; do
+        cat >"$work/rust/$program" <<END
+#!/bin/sh
+export LD_LIBRARY_PATH='$work/rust/usr/lib:$work/rust/usr/lib/aarch64-linux-gnu'
+exec '$work/rust/usr/bin/$program' --sysroot '$work/rust/usr' "\$@"
+END
+        chmod +x "$work/rust/$program"
+    done
+    export RUSTC="$work/rust/rustc" RUSTDOC="$work/rust/rustdoc"
+}
+
 # archive: the static library, built where it is not there yet. LUOSSAVIN_ARCHIVE names another.
 find_archive() {
     archive=${LUOSSAVIN_ARCHIVE:-$repository/target/staticlib/libluossavin.a}

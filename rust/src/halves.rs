@@ -1,0 +1,114 @@
+//! Hash the halves and join them: Gcm's hash of a whole, made of the hashes of its halves.
+//!
+//! Two servers each hold half of a ciphertext. Each hashes its own, and what they tell each other is two [`Half`]s:
+//!
+//! ```
+//! use luossavin::halves::HashKey;
+//! use luossavin::sm4::cipher::Sm4Cipher;
+//! use luossavin::sm4::cipher_mode::{CipherMode, Sm4CipherMode};
+//! use luossavin::Key;
+//! use std::sync::Arc;
+//!
+//! let (key, label, iv) = (Arc::new(Key::new(&[7; 16], 1)?), b"label", [1; 12]);
+//! let sealed = Sm4CipherMode::with_key(key.clone(), CipherMode::Gcm).encrypt(label, &[9; 40], &iv)?;
+//! let (text, tag) = sealed.split_at(40);
+//!
+//! let h = HashKey::of(&key)?;
+//! // the first half is whole blocks
+//! let (first, second) = (h.half(&text[..16]), h.half(&text[16..]));
+//! let mut whole = h.join(&h.half(label), &h.join(&first, &second)?)?;
+//! whole = h.join(&whole, &h.lengths(label.len(), text.len()))?;
+//!
+//! let mut j0 = [0; 16];
+//! j0[..12].copy_from_slice(&iv);
+//! j0[15] = 1;
+//! let mask = Sm4Cipher::with_key(key).encrypt(&j0)?;
+//! let made: Vec<u8> = mask.iter().zip(whole.to_bytes()).map(|(a, b)| a ^ b).collect();
+//! assert_eq!(made, tag);
+//! # Ok::<(), luossavin::Refusal>(())
+//! ```
+
+use crate::ffi::{self, Secret};
+use crate::{Direction, Key, Refusal};
+use std::fmt;
+
+/// The key of the hash, H: what a key encrypts sixteen zero bytes to. It is as secret as the key: with it tags are
+/// forged.
+pub struct HashKey(Secret<ffi::Hash>);
+
+impl HashKey {
+    /// The H of a key. A retired key encrypts nothing, and is refused with [`Retired`](Refusal::Retired).
+    pub fn of(key: &Key) -> Result<HashKey, Refusal> {
+        let mut block = [0; 16];
+        let answer = ffi::block(Direction::Encrypt, key.record(), &[0; 16], &mut block);
+        let h = hash_of(block);
+        ffi::overwrite(&mut block);
+        answer.result()?;
+        Ok(HashKey(h))
+    }
+
+    /// The hash of bytes, in blocks of 16 with zeros to the last one's end.
+    pub fn half(&self, bytes: &[u8]) -> Half {
+        let blocks = bytes.len().div_ceil(16) as u64;
+        Half { hash: ffi::hash_blocks(&self.0, bytes), blocks }
+    }
+
+    /// The hash of the block with which a message ends: the lengths of label and ciphertext, in bits.
+    pub fn lengths(&self, label: usize, text: usize) -> Half {
+        let bits = |n: usize| (n as u64).wrapping_mul(8).to_be_bytes();
+        self.half(&[bits(label), bits(text)].concat())
+    }
+
+    /// Two hashes joined: that of the first's blocks with the second's behind them. It is refused with
+    /// [`TooLong`](Refusal::TooLong) where both have 2^64 blocks or more.
+    ///
+    /// Bytes that end inside a block were filled up with zeros, so that only a half of whole blocks can be the first
+    /// of a text that was cut.
+    pub fn join(&self, first: &Half, second: &Half) -> Result<Half, Refusal> {
+        let blocks = first.blocks.checked_add(second.blocks).ok_or(Refusal::TooLong)?;
+        Ok(Half { hash: ffi::hash_join(&self.0, &first.hash, &second.hash, second.blocks), blocks })
+    }
+}
+
+impl fmt::Debug for HashKey {
+    fn fmt(&self, f: &mut fmt::Formatter<'_>) -> fmt::Result {
+        f.write_str("HashKey { .. }")
+    }
+}
+
+/// A hash, with how many blocks it is of, so that no host has to count. Whoever has the bytes too can work out H from
+/// it: it is as secret as the key.
+pub struct Half {
+    hash: Secret<ffi::Hash>,
+    blocks: u64,
+}
+
+impl Half {
+    /// The hash that another host has told, of so many blocks.
+    pub fn from_parts(bytes: [u8; 16], blocks: u64) -> Half {
+        Half { hash: hash_of(bytes), blocks }
+    }
+
+    /// The sixteen bytes of the hash, to be told to another host.
+    pub fn to_bytes(&self) -> [u8; 16] {
+        (u128::from(self.hash.high) << 64 | u128::from(self.hash.low)).to_be_bytes()
+    }
+
+    /// How many blocks it is of.
+    pub fn blocks(&self) -> u64 {
+        self.blocks
+    }
+}
+
+impl fmt::Debug for Half {
+    fn fmt(&self, f: &mut fmt::Formatter<'_>) -> fmt::Result {
+        f.debug_struct("Half").field("blocks", &self.blocks).finish_non_exhaustive()
+    }
+}
+
+/// The hash that sixteen bytes are, as a big-endian number.
+fn hash_of(bytes: [u8; 16]) -> Secret<ffi::Hash> {
+    let number = u128::from_be_bytes(bytes);
+    let mut hash = ffi::Hash { high: (number >> 64) as u64, low: number as u64 };
+    Secret::take(&mut hash)
+}

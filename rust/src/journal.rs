@@ -1,0 +1,175 @@
+//! A journal: recorded calls, which are made again and added up.
+//!
+//! ```
+//! use luossavin::journal::{replay, Call};
+//! use luossavin::sm4::cipher_mode::{CipherMode, Sm4CipherMode};
+//! use luossavin::{Direction, Key, Refusal};
+//!
+//! let cipher = Sm4CipherMode::with_key(Key::new(&[7; 16], 12)?, CipherMode::Gcm);
+//! let mut journal = Vec::new();
+//! let (label, text, iv) = (b"label", b"a transcript", [1; 16]);
+//! let sealed = cipher.encrypt(label, text, &iv)?;
+//! let call = Call::of(&cipher, Direction::Encrypt, label, text, &iv, sealed.len());
+//! call.record(Ok(&sealed), &mut journal)?;
+//!
+//! let report = replay(&[cipher.key()], &journal).unwrap();
+//! assert_eq!((report.records, report.by_mode[4], report.by_answer[0]), (1, 1, 1));
+//! assert_eq!(report.first_difference, None);
+//! # Ok::<(), Refusal>(())
+//! ```
+//!
+//! A journal has the texts of its calls in it, and is as secret as these. It is not sealed: who can write to it can
+//! make a record agree.
+
+use crate::ffi::{self, Secret};
+use crate::sm4::cipher_mode::{CipherMode, Sm4CipherMode};
+use crate::{Direction, Key, Refusal};
+use std::fmt;
+
+/// The most bytes of a recorded label, data or IV, and of an output.
+const LONGEST_PART: usize = 16_384;
+const LONGEST_OUTPUT: usize = 16_400;
+
+/// A call as it was made, to be recorded with its answer.
+#[derive(Clone, Copy)]
+pub struct Call<'a> {
+    direction: Direction,
+    mode: CipherMode,
+    key: u16,
+    parts: [&'a [u8]; 3],
+    room: usize,
+}
+
+impl<'a> Call<'a> {
+    /// The call of encryption or decryption under `cipher` into an output of `room` bytes.
+    pub fn of(
+        cipher: &Sm4CipherMode, direction: Direction, aad: &'a [u8], data: &'a [u8], iv: &'a [u8], room: usize,
+    ) -> Call<'a> {
+        Call { direction, mode: cipher.mode(), key: cipher.key().number(), parts: [aad, data, iv], room }
+    }
+
+    /// Puts the record of the call and its answer at the end of a journal. It is refused with
+    /// [`PartTooLong`](Refusal::PartTooLong) where label, data, IV or output is longer than can be recorded, and the
+    /// journal is as it was then.
+    pub fn record(&self, answer: Result<&[u8], Refusal>, journal: &mut Vec<u8>) -> Result<(), Refusal> {
+        let (number, output) = match answer {
+            Ok(output) => (0, output),
+            Err(refusal) => (u8::try_from(refusal.number()).map_err(|_| Refusal::BadRecord)?, &[][..]),
+        };
+        if self.parts.iter().any(|part| part.len() > LONGEST_PART) || output.len() > LONGEST_OUTPUT {
+            return Err(Refusal::PartTooLong);
+        }
+        journal.extend(b"TR");
+        journal.extend([self.direction.is_decrypt() as u8, self.mode as u8]);
+        journal.extend(self.key.to_be_bytes());
+        self.parts.iter().for_each(|part| put(part, journal));
+        // a room that four bytes do not hold answers as the largest that they do
+        journal.extend(u32::try_from(self.room).unwrap_or(u32::MAX).to_be_bytes());
+        journal.push(number);
+        put(output, journal);
+        Ok(())
+    }
+}
+
+/// Bytes behind their length, which four bytes hold.
+fn put(part: &[u8], journal: &mut Vec<u8>) {
+    journal.extend((part.len() as u32).to_be_bytes());
+    journal.extend(part);
+}
+
+impl fmt::Debug for Call<'_> {
+    fn fmt(&self, f: &mut fmt::Formatter<'_>) -> fmt::Result {
+        let Call { direction, mode, key, .. } = self;
+        write!(f, "Call {{ {direction:?} in {mode:?} under key {key}, .. }}")
+    }
+}
+
+/// Makes the calls of a journal again, each on the key with its number, of up to eight. A key that was retired since
+/// is given as it was before.
+///
+/// A record that cannot be made again stops the replay; what was before it is in the error.
+pub fn replay(keys: &[&Key], journal: &[u8]) -> Result<Report, Stopped> {
+    let none = ffi::Key { round_keys: [0; 32], answer: 0, number: 0, retired: 0, engine: 0 };
+    // a count above eight is refused, so that the keys behind it are not missed
+    let mut given = ffi::Keys { count: keys.len(), keys: [none; 8] };
+    for (place, key) in given.keys.iter_mut().zip(keys) {
+        *place = *key.record();
+    }
+    let given = Secret::take(&mut given);
+    let replayed = ffi::replay(&given, journal);
+    let report = Report::of(&replayed);
+    match replayed.number {
+        0 => Ok(report),
+        number => Err(Stopped { refusal: Refusal::of(number, 0), place: replayed.place, report: Box::new(report) }),
+    }
+}
+
+/// What a replay adds up, all of it of the calls as they answer now.
+#[derive(Clone, Debug, PartialEq, Eq)]
+#[non_exhaustive]
+pub struct Report {
+    /// How many records there are.
+    pub records: u64,
+    /// How many in each mode, Cfb to Gcm, and at place 5 those of no known mode.
+    pub by_mode: [u64; 6],
+    /// How many with each number.
+    pub by_answer: [u64; 27],
+    /// The bytes of their data, of refused calls too.
+    pub bytes_in: u64,
+    /// The lengths that they answer.
+    pub bytes_out: u64,
+    /// The first record whose number, length or output is another now than was recorded.
+    pub first_difference: Option<Difference>,
+}
+
+impl Report {
+    fn of(replayed: &ffi::Replayed) -> Report {
+        let first = Difference { record: replayed.first_record, place: replayed.first_place };
+        Report {
+            records: replayed.records,
+            by_mode: replayed.by_mode,
+            by_answer: replayed.by_answer,
+            bytes_in: replayed.bytes_in,
+            bytes_out: replayed.bytes_out,
+            first_difference: (replayed.differs == 1).then_some(first),
+        }
+    }
+}
+
+/// A record that is answered otherwise than it was.
+#[derive(Clone, Copy, Debug, PartialEq, Eq)]
+pub struct Difference {
+    /// Which record it is, counted from 0.
+    pub record: u64,
+    /// Where its first byte stands in the journal.
+    pub place: usize,
+}
+
+/// Why a replay stopped.
+#[derive(Clone, Debug, PartialEq, Eq)]
+#[non_exhaustive]
+pub struct Stopped {
+    /// [`BadKeys`](Refusal::BadKeys), before any record; or [`BadRecord`](Refusal::BadRecord),
+    /// [`PartTooLong`](Refusal::PartTooLong) or [`UnknownKey`](Refusal::UnknownKey) of a record.
+    pub refusal: Refusal,
+    /// Where the record's first byte stands in the journal.
+    pub place: usize,
+    /// The report of the records before it.
+    pub report: Box<Report>,
+}
+
+impl fmt::Display for Stopped {
+    fn fmt(&self, f: &mut fmt::Formatter<'_>) -> fmt::Result {
+        let Stopped { refusal, place, report } = self;
+        match refusal {
+            Refusal::BadKeys => write!(f, "{refusal}"),
+            _ => write!(f, "record {}, which begins at byte {place}: {refusal}", report.records + 1),
+        }
+    }
+}
+
+impl std::error::Error for Stopped {
+    fn source(&self) -> Option<&(dyn std::error::Error + 'static)> {
+        Some(&self.refusal)
+    }
+}

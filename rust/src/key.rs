@@ -1,0 +1,145 @@
+//! Keys: their numbers, their retirement and their engines.
+
+use crate::ffi::{self, Secret};
+use crate::Refusal;
+use std::fmt;
+
+/// A key that was set up, with a number of its own.
+///
+/// A key that another has taken the place of is retired: it opens and decrypts as before, and encryption under it is
+/// refused.
+///
+/// ```
+/// use luossavin::sm4::cipher_mode::{CipherMode, Sm4CipherMode};
+/// use luossavin::{Key, Refusal};
+///
+/// let (label, iv) = (b"job 4711", [1; 16]);
+/// let current = Sm4CipherMode::with_key(Key::new(&[7; 16], 1)?, CipherMode::Gcm);
+/// let sealed = current.encrypt(label, b"a transcript", &iv)?;
+///
+/// let retired = Sm4CipherMode::with_key(Key::new(&[7; 16], 1)?.retire(), CipherMode::Gcm);
+/// assert_eq!(retired.decrypt(label, &sealed, &iv)?, b"a transcript");
+/// assert_eq!(retired.encrypt(label, b"another", &iv), Err(Refusal::Retired));
+/// # Ok::<(), Refusal>(())
+/// ```
+///
+/// There is no `Clone`, since a copy that was made before a key is retired would still encrypt: share a key by
+/// reference, or in an [`Arc`](std::sync::Arc). What no type can see is the host's to keep: which numbers are
+/// retired, since a key that is set up anew from its bytes is not, and that no two keys have one number.
+///
+/// # What becomes of its bytes
+///
+/// `Debug` shows number, mark and engine, and nothing else. The record is on the heap, so that moving a key copies
+/// nothing, and is overwritten there when the key is dropped, by writes that the compiler may not leave out. That
+/// does not cover
+///
+/// - the copies on the stack: a call takes the record by value, and the compiler may make others;
+/// - the bytes that [`Key::new`] was given, which are the caller's to overwrite;
+/// - a key that is never dropped, as by [`std::mem::forget`], in a `static`, or where the process is killed.
+///
+/// All of it holds for the states of messages in pieces, for a [`HashKey`](crate::halves::HashKey) and for a
+/// [`Half`](crate::halves::Half) as well.
+pub struct Key(Secret<ffi::Key>);
+
+impl Key {
+    /// Sets up a key of 16 bytes under a number from 1 to 65,535, not retired, with the plain engine. It is refused
+    /// with [`ErrorBlockSize`](Refusal::ErrorBlockSize) or [`WrongNumber`](Refusal::WrongNumber).
+    ///
+    /// ```
+    /// use luossavin::{Key, Refusal};
+    ///
+    /// assert_eq!(Key::new(&[7; 16], 12)?.number(), 12);
+    /// assert_eq!(Key::new(&[7; 15], 12).unwrap_err(), Refusal::ErrorBlockSize);
+    /// assert_eq!(Key::new(&[7; 16], 0).unwrap_err(), Refusal::WrongNumber);
+    /// # Ok::<(), Refusal>(())
+    /// ```
+    pub fn new(bytes: &[u8], number: u32) -> Result<Key, Refusal> {
+        let record = ffi::key_new(bytes, number);
+        match record.answer {
+            0 => Ok(Key(record)),
+            refused => Err(Refusal::of(refused, 0)),
+        }
+    }
+
+    /// The key retired. The one that was not is gone.
+    #[must_use = "the key that was not retired is gone"]
+    pub fn retire(mut self) -> Key {
+        ffi::key_retire(&mut self.0);
+        self
+    }
+
+    /// The key with another engine. No answer and no byte depends on it.
+    ///
+    /// ```
+    /// use luossavin::{Engine, Key};
+    ///
+    /// let key = Key::new(&[7; 16], 1)?.with_engine(Engine::Tables);
+    /// assert_eq!(key.engine(), Engine::Tables);
+    /// # Ok::<(), luossavin::Refusal>(())
+    /// ```
+    #[must_use = "the key with the engine that it had is gone"]
+    pub fn with_engine(mut self, engine: Engine) -> Key {
+        ffi::key_engine(&mut self.0, engine as u32);
+        self
+    }
+
+    /// The key's number, by which answers and journals name it.
+    pub fn number(&self) -> u16 {
+        self.0.number
+    }
+
+    /// Whether the key is retired.
+    pub fn is_retired(&self) -> bool {
+        self.0.retired != 0
+    }
+
+    /// The engine that the key has.
+    pub fn engine(&self) -> Engine {
+        match self.0.engine {
+            1 => Engine::Tables,
+            _ => Engine::Plain,
+        }
+    }
+
+    /// The record, for a call.
+    pub(crate) fn record(&self) -> &ffi::Key {
+        &self.0
+    }
+}
+
+impl fmt::Debug for Key {
+    fn fmt(&self, f: &mut fmt::Formatter<'_>) -> fmt::Result {
+        f.debug_struct("Key")
+            .field("number", &self.number())
+            .field("retired", &self.is_retired())
+            .field("engine", &self.engine())
+            .finish_non_exhaustive()
+    }
+}
+
+/// How the rounds of SM4 are made, and nothing else: `docs/SPEED.md` has what each takes. Both read at places that
+/// depend on the key and the text, so neither is for a machine on which others may watch the caches.
+#[derive(Clone, Copy, Debug, PartialEq, Eq, Hash)]
+#[non_exhaustive]
+pub enum Engine {
+    /// A table of 1 KiB. It is what a key has that is set up.
+    Plain = 0,
+    /// Four tables, 4 KiB that each call lays out on its stack: little more than half the instructions for a long
+    /// message outside Gcm.
+    Tables = 1,
+}
+
+/// Which way a call goes, where encryption and decryption are one call. A retired key decrypts alone.
+#[derive(Clone, Copy, Debug, PartialEq, Eq, Hash)]
+pub enum Direction {
+    /// From text to ciphertext.
+    Encrypt,
+    /// From ciphertext to text.
+    Decrypt,
+}
+
+impl Direction {
+    pub(crate) fn is_decrypt(self) -> bool {
+        self == Direction::Decrypt
+    }
+}

@@ -1,0 +1,160 @@
+//! One Ctr message among several workers.
+//!
+//! A [`Plan`] shares a message out, and each worker does its [`Share`], in any order and at the same time:
+//!
+//! ```
+//! use luossavin::ranges::Plan;
+//! use luossavin::{Direction, Key, Refusal};
+//! use std::thread;
+//!
+//! let key = Key::new(&[7; 16], 1)?;
+//! let (key, iv) = (&key, &[1; 16]);
+//! let text = vec![b'x'; 100_000];
+//! let mut out = vec![0; text.len()];
+//!
+//! let shares = Plan::make(text.len(), 4)?.shares(&text, &mut out)?;
+//! thread::scope(|scope| {
+//!     for share in shares {
+//!         scope.spawn(move || share.work(key, Direction::Encrypt, iv).expect("nothing stands against it"));
+//!     }
+//! });
+//!
+//! let mut whole = vec![0; text.len()];
+//! Plan::make(text.len(), 1)?.work(key, Direction::Encrypt, iv, &text, &mut whole)?;
+//! assert_eq!(out, whole);
+//! # Ok::<(), Refusal>(())
+//! ```
+//!
+//! None of these says that a counter came round: a range does not know the message's end.
+
+use crate::{ffi, Direction, Done, Key, Refusal};
+use std::fmt;
+use std::ops::Range;
+
+/// How many pieces a plan may have.
+const MOST_PIECES: usize = 64;
+
+/// Who does what of a message: pieces one behind another, each but the last of whole blocks. A plan is always one
+/// that work may go by.
+#[derive(Clone)]
+pub struct Plan(Box<ffi::Plan>);
+
+impl Plan {
+    /// A plan of `n` bytes for 1 to 64 workers, of up to as many pieces. It is refused with
+    /// [`BadWorkers`](Refusal::BadWorkers) or [`TooLong`](Refusal::TooLong).
+    pub fn make(n: usize, workers: usize) -> Result<Plan, Refusal> {
+        let planned = ffi::plan_make(n, workers);
+        planned.answer.result()?;
+        Ok(Plan(Box::new(planned.plan)))
+    }
+
+    /// A plan of one's own, of pieces of these lengths. It is refused with [`NotAccepted`](Refusal::NotAccepted)
+    /// where there are more than 64, where one is empty, or where another than the last does not divide by 16.
+    ///
+    /// ```
+    /// use luossavin::ranges::Plan;
+    /// use luossavin::Refusal;
+    ///
+    /// let plan = Plan::of_lengths(&[32, 16, 5])?;
+    /// assert_eq!(plan.pieces().collect::<Vec<_>>(), [0..32, 32..48, 48..53]);
+    /// assert_eq!(Plan::of_lengths(&[5, 16]).unwrap_err(), Refusal::NotAccepted);
+    /// # Ok::<(), Refusal>(())
+    /// ```
+    pub fn of_lengths(lengths: &[usize]) -> Result<Plan, Refusal> {
+        let mut plan =
+            Box::new(ffi::Plan { count: lengths.len(), starts: [0; MOST_PIECES], lengths: [0; MOST_PIECES] });
+        let mut end = 0usize;
+        for (at, length) in lengths.iter().enumerate().take(MOST_PIECES) {
+            plan.starts[at] = end;
+            plan.lengths[at] = *length;
+            end = end.checked_add(*length).ok_or(Refusal::NotAccepted)?;
+        }
+        if ffi::plan_accepts(&plan, end) {
+            Ok(Plan(plan))
+        } else {
+            Err(Refusal::NotAccepted)
+        }
+    }
+
+    /// Where each piece stands in the message.
+    pub fn pieces(&self) -> impl ExactSizeIterator<Item = Range<usize>> + '_ {
+        (0..self.0.count).map(|at| self.0.starts[at]..self.0.starts[at] + self.0.lengths[at])
+    }
+
+    /// Whether the plan is one for `n` bytes.
+    pub fn accepts(&self, n: usize) -> bool {
+        ffi::plan_accepts(&self.0, n)
+    }
+
+    /// The message and its output shared out, a share for each piece. It is refused with
+    /// [`NotAccepted`](Refusal::NotAccepted) where the plan is for another length than the data's, and then with
+    /// [`NoRoom`](Refusal::NoRoom) where `out` is shorter than the data.
+    pub fn shares<'a>(&self, data: &'a [u8], out: &'a mut [u8]) -> Result<Vec<Share<'a>>, Refusal> {
+        if !self.accepts(data.len()) {
+            return Err(Refusal::NotAccepted);
+        }
+        let mut rest = out.get_mut(..data.len()).ok_or(Refusal::NoRoom)?;
+        let share = |piece: Range<usize>| {
+            let (out, behind) = std::mem::take(&mut rest).split_at_mut(piece.len());
+            rest = behind;
+            Share { offset: piece.start, data: &data[piece], out }
+        };
+        Ok(self.pieces().map(share).collect())
+    }
+
+    /// The whole message by one worker, range by range.
+    pub fn work(
+        &self, key: &Key, direction: Direction, iv: &[u8], data: &[u8], out: &mut [u8],
+    ) -> Result<Done, Refusal> {
+        ffi::ctr_by_plan(key.record(), direction, iv, &self.0, data, out).result()
+    }
+}
+
+impl fmt::Debug for Plan {
+    fn fmt(&self, f: &mut fmt::Formatter<'_>) -> fmt::Result {
+        f.debug_list().entries(self.pieces()).finish()
+    }
+}
+
+/// One worker's part of a message and of its output, which no other share has.
+pub struct Share<'a> {
+    offset: usize,
+    data: &'a [u8],
+    out: &'a mut [u8],
+}
+
+impl Share<'_> {
+    /// Does the share, under the key and the IV of the message.
+    pub fn work(self, key: &Key, direction: Direction, iv: &[u8]) -> Result<Done, Refusal> {
+        ctr_range(key, direction, iv, self.offset, self.data, self.out)
+    }
+}
+
+impl fmt::Debug for Share<'_> {
+    fn fmt(&self, f: &mut fmt::Formatter<'_>) -> fmt::Result {
+        let piece = self.offset..self.offset + self.data.len();
+        f.debug_struct("Share").field("piece", &piece).finish_non_exhaustive()
+    }
+}
+
+/// Ctr of `data`, which stands at `offset` of its message, under the message's IV of 16 bytes: that stretch of what
+/// the single call makes of the message. That no two texts have one stretch of a key and an IV is the caller's to see
+/// to.
+///
+/// ```
+/// use luossavin::ranges::ctr_range;
+/// use luossavin::sm4::cipher_mode::{CipherMode, Sm4CipherMode};
+/// use luossavin::{Direction, Key};
+///
+/// let key = Key::new(&[7; 16], 1)?;
+/// let mut stretch = [0; 5];
+/// ctr_range(&key, Direction::Encrypt, &[1; 16], 7, b"cript", &mut stretch)?;
+/// let whole = Sm4CipherMode::with_key(key, CipherMode::Ctr).encrypt(b"", b"a transcript", &[1; 16])?;
+/// assert_eq!(stretch, whole[7..]);
+/// # Ok::<(), luossavin::Refusal>(())
+/// ```
+pub fn ctr_range(
+    key: &Key, direction: Direction, iv: &[u8], offset: usize, data: &[u8], out: &mut [u8],
+) -> Result<Done, Refusal> {
+    ffi::ctr_range(key.record(), direction, iv, offset, data, out).result()
+}

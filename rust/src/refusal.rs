@@ -1,0 +1,329 @@
+//! What a call answers: done, or a refusal by its number.
+
+use crate::ffi;
+use std::fmt;
+use std::io;
+use std::mem::discriminant;
+
+/// Why a call was refused. Each has the number that `include/luossavin.h` gives it; nothing was written, and the
+/// state of a message in pieces is as it was.
+///
+/// The first four are libsm's names. libsm has `ErrorBlockSize` for a wrong IV and a wrong block too; these have
+/// names of their own here.
+///
+/// ```
+/// use luossavin::sm4::cipher_mode::{CipherMode, Sm4CipherMode};
+/// use luossavin::Refusal;
+///
+/// let cipher = Sm4CipherMode::new(&[7; 16], CipherMode::Gcm)?;
+/// let refusal = cipher.decrypt(b"label", b"too short", &[1; 16]).unwrap_err();
+/// assert_eq!(refusal, Refusal::ShortGcm { missing: 7 });
+/// assert_eq!(refusal.number(), 9);
+/// assert_eq!(
+///     refusal.to_string(),
+///     "9 ShortGcm: a sealed message has at least 16 bytes, so 7 are missing: was it cut off?"
+/// );
+/// # Ok::<(), Refusal>(())
+/// ```
+#[derive(Clone, Copy, Debug, PartialEq, Eq, Hash)]
+#[non_exhaustive]
+pub enum Refusal {
+    /// 1: the key is not 16 bytes.
+    ErrorBlockSize,
+    /// 2: Cbc decryption of a length that does not divide by 16.
+    ErrorDataLen,
+    /// 3: Cbc decryption, and the last decrypted byte is 0 or above 16.
+    InvalidLastU8,
+    /// 4: Gcm decryption, and the 16 bytes at the end are not the tag.
+    InvalidTag,
+    /// 5: a length limit is passed.
+    TooLong,
+    /// 6: the output buffer is shorter than the room needed.
+    NoRoom,
+    /// 7: the mode is above 4. [`CipherMode`](crate::sm4::cipher_mode::CipherMode) has no such mode; a journal may.
+    BadMode,
+    /// 8: Cbc decryption of nothing.
+    EmptyCbc,
+    /// 9: Gcm decryption of fewer than 16 bytes, or a tag that does not have 16.
+    ShortGcm {
+        /// How many bytes are missing of 16; 0 for a tag of more than 16.
+        missing: u8,
+    },
+    /// 10: the IV is not 16 bytes; in Gcm, neither 12 nor 16.
+    WrongIv,
+    /// 11: the single block is not 16 bytes.
+    WrongBlock,
+    /// 12: the message in pieces has come to its end. A state that has ended is consumed here, so that it is never
+    /// given.
+    Ended,
+    /// 13: the key's number is not from 1 to 65,535.
+    WrongNumber,
+    /// 14: encryption under a retired key.
+    Retired,
+    /// 15: Cbc decryption, and the last byte names a padding that the bytes before it do not bear out.
+    InvalidPadding,
+    /// 16: more than 64 candidate labels.
+    BadList,
+    /// 17: a plan for no workers, or for more than 64.
+    BadWorkers,
+    /// 18: work by a plan that is none for so many bytes.
+    NotAccepted,
+    /// 19: the buffer has more than 65,536 bytes, or its used bytes are no shelf.
+    BadShelf,
+    /// 20: the shelf has that edition of the job already, or a higher one.
+    NotHigher,
+    /// 21: the records that would be current do not fit on the shelf.
+    NoShelfRoom,
+    /// 22: the shelf has no current record of the job.
+    NoCurrent,
+    /// 23: a recorded call is cut or not marked, or its direction is neither 0 nor 1.
+    BadRecord,
+    /// 24: a recorded label, data or IV has more than 16,384 bytes, or an output more than 16,400.
+    PartTooLong,
+    /// 25: a recorded call has the number of no key.
+    UnknownKey,
+    /// 26: a replay with more than eight keys, with a retired one, or with a number twice.
+    BadKeys,
+    /// A number that this package does not know, of an archive that is newer than it.
+    Unknown(u32),
+}
+
+use Refusal::*;
+
+/// The refusals by their numbers, from 1 on, with their names and the words of the tool.
+#[rustfmt::skip]
+const BY_NUMBER: [(Refusal, &str, &str); 26] = [
+    (ErrorBlockSize, "ErrorBlockSize", "the key does not have 16 bytes"),
+    (ErrorDataLen, "ErrorDataLen", "cbc writes 16 bytes or a multiple: cbc did not encrypt this message, or it was cut short"),
+    (InvalidLastU8, "InvalidLastU8", "this message was not encrypted with cbc, this key and IV, or it was changed since"),
+    (InvalidTag, "InvalidTag", "this message was not sealed under this label, with this key and IV, or it was changed since"),
+    (TooLong, "TooLong", "this message, or its label, is longer than the 16777216 bytes that the cipher takes"),
+    (NoRoom, "NoRoom", "what comes of this message is longer than there is room for"),
+    (BadMode, "BadMode", "there is no such mode"),
+    (EmptyCbc, "EmptyCbc", "this message is empty, and cbc writes at least 16 bytes: was it cut off?"),
+    (ShortGcm { missing: 0 }, "ShortGcm", "a tag has 16 bytes, and a sealed message at least 16"),
+    (WrongIv, "WrongIv", "the IV does not have 16 bytes, nor, in gcm, 12"),
+    (WrongBlock, "WrongBlock", "a single block has 16 bytes, and this does not"),
+    (Ended, "Ended", "this message has come to its end"),
+    (WrongNumber, "WrongNumber", "the key's number is 1 to 65535"),
+    (Retired, "Retired", "this key is retired: old files still open with it, and nothing new is sealed or encrypted under it; take the current key"),
+    (InvalidPadding, "InvalidPadding", "the end of this message is damaged: it was changed since, or not encrypted with cbc, this key and IV"),
+    (BadList, "BadList", "up to 64 candidates are asked about at once: ask about 64 at a time"),
+    (BadWorkers, "BadWorkers", "a plan is for 1 to 64 workers"),
+    (NotAccepted, "NotAccepted", "this is no plan for a message of so many bytes"),
+    (BadShelf, "BadShelf", "this is no shelf: it has more than 65536 bytes, no whole record somewhere, or a second current one of a job"),
+    (NotHigher, "NotHigher", "this shelf has that edition of the job already, or a higher one, and takes only a higher one"),
+    (NoShelfRoom, "NoShelfRoom", "this file and the current ones of the other jobs, with 12 bytes more for each, have more bytes than the shelf"),
+    (NoCurrent, "NoCurrent", "this shelf has no current edition of the job"),
+    (BadRecord, "BadRecord", "a record is cut off, or its mark or direction is bad: was the journal cut off, or changed there?"),
+    (PartTooLong, "PartTooLong", "a record has a label, data or an IV of more than 16384 bytes, or an output of more than 16400"),
+    (UnknownKey, "UnknownKey", "a record is of a key that is not among the keys that were given"),
+    (BadKeys, "BadKeys", "a replay takes up to 8 keys, none of them retired, and each number stands for one key"),
+];
+
+impl Refusal {
+    /// The number of the refusal, as the header has it and the tool ends with.
+    pub fn number(self) -> u32 {
+        match self {
+            Unknown(number) => number,
+            known => 1 + known.place() as u32,
+        }
+    }
+
+    /// How many bytes were missing, of [`Refusal::ShortGcm`]; of every other refusal 0.
+    pub fn missing(self) -> u8 {
+        match self {
+            ShortGcm { missing } => missing,
+            _ => 0,
+        }
+    }
+
+    /// The refusal that an error of [`io`] is about, where it is about one.
+    ///
+    /// ```
+    /// use luossavin::Refusal;
+    ///
+    /// let error = std::io::Error::from(Refusal::InvalidTag);
+    /// assert_eq!(Refusal::in_error(&error), Some(Refusal::InvalidTag));
+    /// ```
+    pub fn in_error(error: &io::Error) -> Option<Refusal> {
+        error.get_ref()?.downcast_ref().copied()
+    }
+
+    /// The refusal with this number, which is not 0.
+    pub(crate) fn of(number: u32, missing: u8) -> Refusal {
+        match (number as usize).checked_sub(1).and_then(|place| BY_NUMBER.get(place)) {
+            Some((ShortGcm { .. }, _, _)) => ShortGcm { missing },
+            Some((refusal, _, _)) => *refusal,
+            None => Unknown(number),
+        }
+    }
+
+    /// Where a refusal with a number that is known stands among them.
+    fn place(self) -> usize {
+        let here = |row: &(Refusal, &str, &str)| discriminant(&row.0) == discriminant(&self);
+        BY_NUMBER.iter().position(here).expect("every refusal but an unknown one has a row")
+    }
+}
+
+impl fmt::Display for Refusal {
+    fn fmt(&self, f: &mut fmt::Formatter<'_>) -> fmt::Result {
+        match *self {
+            Unknown(number) => write!(f, "{number}: a refusal that this package does not know"),
+            ShortGcm { missing } if missing > 0 => {
+                let are = if missing == 1 { "is" } else { "are" };
+                let sentence = "a sealed message has at least 16 bytes";
+                write!(f, "9 ShortGcm: {sentence}, so {missing} {are} missing: was it cut off?")
+            }
+            known => {
+                let (_, name, words) = BY_NUMBER[known.place()];
+                write!(f, "{} {name}: {words}", known.number())
+            }
+        }
+    }
+}
+
+impl std::error::Error for Refusal {}
+
+/// The words without the number, as libsm gives them.
+impl From<Refusal> for &str {
+    fn from(refusal: Refusal) -> Self {
+        match refusal {
+            Unknown(_) => "a refusal that this package does not know",
+            known => BY_NUMBER[known.place()].2,
+        }
+    }
+}
+
+/// Damaged messages are `InvalidData`, and all else that is refused `InvalidInput`.
+impl From<Refusal> for io::Error {
+    fn from(refusal: Refusal) -> Self {
+        let kind = match refusal {
+            ErrorDataLen | InvalidLastU8 | InvalidTag | EmptyCbc | ShortGcm { .. } | InvalidPadding => {
+                io::ErrorKind::InvalidData
+            }
+            _ => io::ErrorKind::InvalidInput,
+        };
+        io::Error::new(kind, refusal)
+    }
+}
+
+/// What is said of a call that was done.
+#[derive(Clone, Copy, Debug, PartialEq, Eq)]
+#[non_exhaustive]
+pub struct Done {
+    /// How many bytes at the front of the output are the result.
+    pub length: usize,
+    /// The number of the key.
+    pub key: u16,
+    /// Whether a counter came round within the message. The work is right all the same; whoever encrypted takes
+    /// another IV for the next message, and not one that is counted on from this one's.
+    pub came_round: bool,
+}
+
+impl ffi::Answer {
+    /// The answer as a result.
+    pub(crate) fn result(self) -> Result<Done, Refusal> {
+        match self.number {
+            0 => Ok(Done { length: self.length, key: self.key, came_round: self.came_round == 1 }),
+            number => Err(Refusal::of(number, self.missing)),
+        }
+    }
+}
+
+#[cfg(test)]
+mod tests {
+    use super::*;
+
+    const HEADER: &str = concat!(env!("CARGO_MANIFEST_DIR"), "/../include/luossavin.h");
+    const CRATES: &str = concat!(env!("CARGO_MANIFEST_DIR"), "/../crates");
+
+    /// The numbers and names of the header's table, 0 left out.
+    fn table() -> Vec<(u32, String)> {
+        let header = std::fs::read_to_string(HEADER).expect("the header of the checkout");
+        let row = |line: &str| {
+            let mut words = line.strip_prefix(" * ")?.split_whitespace();
+            let number = words.next()?.parse().ok()?;
+            let name = words.next()?;
+            name.starts_with(char::is_uppercase).then(|| (number, name.to_string()))
+        };
+        header.lines().map_while(|line| (line != "#ifndef LUOSSAVIN_H").then_some(line)).filter_map(row).collect()
+    }
+
+    #[test]
+    fn every_number_of_the_header_is_a_refusal_by_its_name() {
+        let table = table();
+        assert_eq!(table.len(), BY_NUMBER.len());
+        for (number, name) in table {
+            let refusal = Refusal::of(number, 5);
+            assert_eq!(refusal.number(), number);
+            assert!(format!("{refusal:?}").split(' ').next() == Some(&name), "{number} {name} is {refusal:?}");
+            assert!(refusal.to_string().starts_with(&format!("{number} {name}: ")), "{refusal}");
+            assert_eq!(refusal.missing(), if number == 9 { 5 } else { 0 });
+        }
+    }
+
+    #[test]
+    fn a_number_that_is_not_known_stays_itself() {
+        for number in [27, 28, 255, 65_536, u32::MAX] {
+            let refusal = Refusal::of(number, 0);
+            assert_eq!(refusal, Unknown(number));
+            assert_eq!(refusal.number(), number);
+            assert!(refusal.to_string().starts_with(&number.to_string()));
+        }
+    }
+
+    #[test]
+    fn only_number_0_is_done() {
+        for number in 0..300 {
+            let answer = ffi::Answer { number, missing: 0, came_round: 1, key: 7, length: 3 };
+            match answer.result() {
+                Ok(done) => assert_eq!((number, done), (0, Done { length: 3, key: 7, came_round: true })),
+                Err(refusal) => assert_eq!(refusal.number(), number),
+            }
+        }
+    }
+
+    /// What the tool says of a file, as far as it speaks of no particular one.
+    const SAID: [(u32, &str); 20] = [
+        (2, ", or it was cut short"),
+        (3, ", or it was changed since"),
+        (4, ", or it was changed since"),
+        (5, " bytes that the cipher takes"),
+        (6, "what comes of this "),
+        (8, " is empty, and cbc writes at least 16 bytes: was it cut off?"),
+        (9, " missing: was it cut off?"),
+        (12, "this message has come to its end"),
+        (13, "the key's number is 1 to 65535"),
+        (14, " is retired: old files still open with it, and nothing new is sealed or encrypted under it; take the current key"),
+        (15, " is damaged: it was changed since, or not encrypted with cbc, "),
+        (16, " are asked about at once: ask about 64 at a time"),
+        (17, "a plan is for 1 to 64 workers"),
+        (20, " and takes only a higher one"),
+        (21, " and the current ones of the other jobs, with 12 bytes more for each, have more"),
+        (22, "this shelf has no current edition of "),
+        (23, " is cut off, or its mark or direction is bad: was the journal cut off, or changed there?"),
+        (24, " has a label, data or an IV of more than 16384 bytes, or an output of more than 16400"),
+        (25, " is not among the keys that were given"),
+        (26, "a replay takes up to 8 keys, "),
+    ];
+
+    #[test]
+    fn words_are_the_tools() {
+        let read = |path| std::fs::read_to_string(format!("{CRATES}/{path}")).expect("the tool's sentences");
+        let tool = ["cli/src/say.rt", "shelving/src/tell.rt", "replaying/src/tell.rt"].map(read).concat();
+        for (number, words) in SAID {
+            assert!(tool.contains(words), "the tool does not say '{words}'");
+            let refusal = Refusal::of(number, 7).to_string();
+            assert!(refusal.contains(words), "'{refusal}' does not say '{words}'");
+        }
+    }
+
+    #[test]
+    fn one_missing_byte_is_said_as_one() {
+        let said = |missing| ShortGcm { missing }.to_string();
+        assert!(said(1).contains("so 1 is missing"));
+        assert!(said(16).contains("so 16 are missing"));
+        assert!(!said(0).contains("missing"), "a tag that is too long lacks nothing");
+    }
+}

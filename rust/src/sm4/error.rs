@@ -1,0 +1,7 @@
+//! The errors of [`sm4`](crate::sm4), by libsm's names.
+
+/// libsm's name for a [`Refusal`](crate::Refusal).
+pub use crate::Refusal as Sm4Error;
+
+/// What the calls of [`sm4`](crate::sm4) give back.
+pub type Sm4Result<T> = Result<T, Sm4Error>;
