@@ -6,20 +6,17 @@ use mathlib.Core.Bool.{Bool, cond, _||_}
 use mathlib.Core.List.{List, [], _∷_, map}
 use Prim.Native.Nat.{ℕ, zero, suc, _+_}
 use lib.Dec.{eqb, ltb}
-use lib.ListN.{length, take, drop, getD}
-use Rattle.cipher_mode.specs.declared.KeyAnswer.the-variants.{ErrorBlockSize}
+use lib.ListN.{length, take, drop}
 use Rattle.cipher_mode.specs.declared.Sm4Cipher.{Sm4Cipher}
-use Rattle.cipher_mode.specs.Key.{withEngine, keyNumber, noCipher}
+use Rattle.cipher_mode.specs.Key.{withEngine, keyNumber}
 use Rattle.cipher_mode.specs.Calls.{modeCall}
-use Rattle.journal.specs.Format.{Entry, startsRecord, sizeAt, front, tooLong}
-use Rattle.journal.specs.KeyList.{keysIn, placeOf, hasNumber, keyAt, keyOf, anyRetired, numberTwice, badKeys}
+use Rattle.journal.specs.Format.{Entry, sizeAt, front}
+use Rattle.journal.specs.KeyList.{placeOf, hasNumber, keyAt, keyOf, anyRetired, numberTwice, badKeys}
 use Rattle.journal.specs.Recomputed.{callInto, recomputed, judged}
 use Rattle.journal.specs.Reports.{counted, nothing}
-use Rattle.journal.specs.Replay.{done, refuse, countedUnder, replayOne, andThen, replayUpTo, replay}
-use Rattle.journal.specs.declared.keys.Keys.{Keys}
+use Rattle.journal.specs.Replay.{countedUnder, replayOne, replayUpTo, replay}
 use Rattle.journal.specs.declared.report.Report.{Report}
 use Rattle.journal.specs.declared.Replayed.{Replayed}
-use Rattle.journal.specs.declared.Ended.the-variants.{BadRecord, TooLong, UnknownKey, BadKeys}
 use Rattle.luossavin.specs.declared.key.LuossavinKey.{LuossavinKey}
 use Rattle.luossavin.specs.declared.journals.LuossavinKeys.{LuossavinKeys}
 use Rattle.luossavin.specs.Key.{cipherIn}

@@ -83,7 +83,7 @@ fn read_one(places: [usize; NOTHING]) -> Kept
     let n = read.length;
     let mut key = io::buffer();
     let k = typed::key::read(&file[..n], &mut key);
-    let cipher = Sm4Cipher::new(&key[0..k], number);
+    let cipher = Sm4Cipher::new(&key[0..k], number).with_engine(cipher::FOUR_TABLES);
     let answer = cipher.answer;
     let status = tell::key(places, answer, k);
     if status != DONE {
@@ -167,7 +167,7 @@ fn with_key(places: [usize; NOTHING], kept: Kept, place: usize, number: u32, key
     requires { ⌜ kept .keys .count ≤ 8 ⌝ }
     ensures { λ r. ⌜ r .keys .count ≤ 8 ⌝ }
 {
-    let cipher = Sm4Cipher::new(key, number);
+    let cipher = Sm4Cipher::new(key, number).with_engine(cipher::FOUR_TABLES);
     let answer = cipher.answer;
     let status = tell::listed_key(places, place, answer, number, key.len());
     if status != DONE {
