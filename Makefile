@@ -13,10 +13,10 @@ all:
 	@if [ -f SHA256SUMS ]; then sha256sum -c --quiet SHA256SUMS; else tool/build; fi
 
 install: all
-	@tool/install put "$(DESTDIR)" "$(PREFIX)" "$(LIBDIR)"
+	@tool/install put '$(DESTDIR)' '$(PREFIX)' '$(LIBDIR)'
 
 uninstall:
-	@tool/install take "$(DESTDIR)" "$(PREFIX)"
+	@tool/install take '$(DESTDIR)' '$(PREFIX)'
 
 dist: all
 	@tool/dist

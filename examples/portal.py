@@ -52,4 +52,7 @@ def main(shelf_name, job, key_name, iv):
 
 
 if __name__ == "__main__":
+    if len(sys.argv) != 5:
+        print("expected SHELF JOB KEY IV", file=sys.stderr)
+        sys.exit(64)
     sys.exit(main(*sys.argv[1:]))

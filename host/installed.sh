@@ -74,6 +74,13 @@ holds 'a package has the library where it is told' [ -s stage/usr/lib/x86_64-lin
 holds 'and says so' grep -qxF 'libdir=${prefix}/lib/x86_64-linux-gnu' stage/usr/lib/x86_64-linux-gnu/pkgconfig/luossavin.pc
 holds 'no file knows where it was made' sh -c '! grep -rF "$1" stage' sh "$here/stage"
 says 'a path that is not from the root on' 2 'expected a path from the root on for PREFIX' make -C "$made" install PREFIX=place
+says 'a path that luossavin.pc could not carry' 2 'expected a plain path for PREFIX, not /a$b' make -C "$made" install PREFIX='/a$$b'
+says 'a disk that is full' 2 "cannot write $here/full/" sh -c 'ulimit -f 40 && make -C "$1" install PREFIX="$2"' sh "$made" "$here/full"
+holds 'make uninstall of what it left' make -s -C "$made" uninstall PREFIX="$here/full"
+holds 'takes all of it away' [ ! -e "$here/full" ]
+cp "$here/other/libexec/luossavin/installed" kept
+holds 'make install once more' make -s -C "$made" install PREFIX="$here/other"
+holds 'puts the same' cmp kept "$here/other/libexec/luossavin/installed"
 
 echo '--- the tool'
 tool="$here/a place/bin/luossavin"
