@@ -113,6 +113,10 @@ if [ "$runs" = runs ]; then
     says 'wrong words name the tool as it was called' 64 "For an example: ./link help" ./link sael
     mv "$here/a place/libexec/luossavin/bin/transcript" gone
     says 'a program that is gone' 70 'the tool is not whole' "$tool" opens --key "$key" --iv $iv --job 1 --edition 1 1.sealed
+    echo text >"$here/a place/libexec/luossavin/bin/transcript"
+    chmod +x "$here/a place/libexec/luossavin/bin/transcript"
+    says 'a program that the system cannot start' 69 'it needs the GNU C library for x86-64, 2.34 or newer' \
+        "$tool" opens --key "$key" --iv $iv --job 1 --edition 1 1.sealed
     mv gone "$here/a place/libexec/luossavin/bin/transcript"
 else
     says 'it is for x86-64' 69 'this tool is for x86-64; this machine is ' "$tool" opens --key "$key" --iv $iv --job 1 --edition 1 "$rough"
@@ -134,12 +138,14 @@ line() { # EXAMPLE [SHELF JOB KEY IV]
 says 'seal.c, by its line' 0 'sealed as edition 1 of job 4711: 59 bytes are 75' sh -c "$(line seal.c)"
 says 'what it sealed opens as the rough' 0 'opens as edition 1: yes' $runner ./seal
 says 'and not as the final' 0 'opens as edition 2: no' $runner ./seal
+# the part of it that runs what is compiled
+again() { line "$@" | sed 's/.*&& //'; }
 ask() { # EXAMPLE
     says "$1: the final may be shown" 0 'job 4711: edition 2 may be shown, 6 bytes' sh -c "$(line "$1" team.shelf 4711 "$key" $iv)"
-    says "$1: another job has none" 22 'job 4712: nothing may be shown, refused with 22' sh -c "$(line "$1" team.shelf 4712 "$key" $iv)"
-    says "$1: another IV" 4 'refused with 4' sh -c "$(line "$1" team.shelf 4711 "$key" "${iv%1}2")"
-    says "$1: a short IV" 10 'refused with 10' sh -c "$(line "$1" team.shelf 4711 "$key" 00)"
-    says "$1: no shelf" 19 'refused with 19' sh -c "$(line "$1" final.txt 4711 "$key" $iv)"
+    says "$1: another job has none" 22 'job 4712: nothing may be shown, refused with 22' sh -c "$(again "$1" team.shelf 4712 "$key" $iv)"
+    says "$1: another IV" 4 'refused with 4' sh -c "$(again "$1" team.shelf 4711 "$key" "${iv%1}2")"
+    says "$1: a short IV" 10 'refused with 10' sh -c "$(again "$1" team.shelf 4711 "$key" 00)"
+    says "$1: no shelf" 19 'refused with 19' sh -c "$(again "$1" final.txt 4711 "$key" $iv)"
 }
 if [ "$runs" = runs ]; then ask portal.c; else skip portal.c 'the tool has made no shelf'; fi
 if [ "$runs" = runs ] && [ "$python" = here ]; then ask portal.py; else skip portal.py 'there is no Python for x86-64'; fi
