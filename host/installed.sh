@@ -122,7 +122,7 @@ else
     says 'it is for x86-64' 69 'this tool is for x86-64; this machine is ' "$tool" opens --key "$key" --iv $iv --job 1 --edition 1 "$rough"
     says 'also in the demo' 70 'this tool is for x86-64' "$tool" demo
 fi
-if [ "$runs" = refuses ] || [ "$(uname -m)" = x86_64 ]; then
+if ! grep -qs '^magic 7f454c4602.*3e00' /proc/sys/fs/binfmt_misc/*; then
     says 'another machine' 69 'this machine is riscv64, and no emulator' \
         env PATH="$here/other-machine:$PATH" "$tool" opens --key "$key" --iv $iv --job 1 --edition 1 "$rough"
 fi
