@@ -10,7 +10,8 @@
 #include <stdio.h>
 #include <stdlib.h>
 
-enum { GCM = 4, SHELF = 65536, LABEL = 2, LENGTH = 8, SEALED = 12 }; /* the last three: places in a record */
+enum { GCM = 4, SHELF = 65536 };
+enum { LABEL = 2, EDITION = 6, LENGTH = 8, SEALED = 12 }; /* places in a record, whose label ends where the length begins */
 
 /* Reads a file, or as much of it as there is room for. */
 static size_t read_file(const char *name, void *buffer, size_t room)
@@ -63,6 +64,6 @@ int main(int argc, char **argv)
     if (a.number != 0) {
         return refuse(argv[2], a.number);
     }
-    printf("job %s: edition %d may be shown, %zu bytes\n", argv[2], record[6] << 8 | record[7], a.length);
+    printf("job %s: edition %d may be shown, %zu bytes\n", argv[2], record[EDITION] << 8 | record[EDITION + 1], a.length);
     return 0;
 }

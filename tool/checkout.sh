@@ -23,7 +23,8 @@ gate() { # COMMIT
 }
 
 about() {
-    at=$(commit) passed=$(gate "$(commit)") kit=$(cat "$stamp" 2>/dev/null)
+    at=$(commit)
+    passed=$(gate "$at") kit=$(cat "$stamp" 2>/dev/null)
     printf 'luossavin %s\n' "$(cat "$here/VERSION")"
     printf 'proved by %s\n' "${kit:-no kit yet: the first use does that}"
     printf 'commit %s\ngate %s\n' "$at" "${passed:-not run on this commit}"
