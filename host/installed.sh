@@ -101,6 +101,7 @@ printf '#!/bin/sh\necho riscv64\n' >other-machine/uname
 chmod +x other-machine/uname
 if [ "$runs" = runs ]; then
     says 'the demo' 0 "It is not: the final's label is refused on the rough." "$tool" demo
+    says 'and where the tar file was unpacked' 0 'Nothing was left behind.' "$made/luossavin" demo
     printf 'FINAL\n' >final.txt
     for edition in 1 2; do
         if [ $edition = 1 ]; then text=$rough; else text=final.txt; fi
