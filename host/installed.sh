@@ -120,8 +120,8 @@ if [ "$runs" = runs ]; then
         "$tool" opens --key "$key" --iv $iv --job 1 --edition 1 1.sealed
     mv gone "$here/a place/libexec/luossavin/bin/transcript"
 else
-    says 'it is for x86-64' 69 'this tool is for x86-64; this machine is ' "$tool" opens --key "$key" --iv $iv --job 1 --edition 1 "$rough"
-    says 'also in the demo' 70 'this tool is for x86-64' "$tool" demo
+    says 'it is for x86-64' 69 'x86-64' "$tool" opens --key "$key" --iv $iv --job 1 --edition 1 "$rough"
+    says 'also in the demo' 70 'x86-64' "$tool" demo
 fi
 if ! grep -qs '^magic 7f454c4602.*3e00' /proc/sys/fs/binfmt_misc/*; then
     says 'another machine' 69 'this machine is riscv64, and no emulator' \
