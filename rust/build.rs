@@ -9,7 +9,7 @@ use std::process::{exit, Command};
 const ARCHIVE: &str = "libluossavin.a";
 
 fn main() {
-    println!("cargo:rerun-if-changed=build.rs");
+    watch(Path::new("build.rs"));
     for variable in ["LUOSSAVIN_ARCHIVE", "PKG_CONFIG_PATH", "PKG_CONFIG_LIBDIR"] {
         println!("cargo:rerun-if-env-changed={variable}");
     }
@@ -27,7 +27,6 @@ fn main() {
         eprintln!("luossavin: cannot read the archive '{}': {error}", archive.display());
         exit(1);
     }
-    println!("cargo:rerun-if-changed={}", archive.display());
     println!("cargo:rustc-link-search=native={}", out.display());
     println!("cargo:rustc-link-lib=static=luossavin");
 }
@@ -39,12 +38,18 @@ fn find() -> Result<PathBuf, String> {
     }
 }
 
+/// Has cargo come back when the file or the folder changes.
+fn watch(path: &Path) {
+    println!("cargo:rerun-if-changed={}", path.display());
+}
+
 /// The archive that LUOSSAVIN_ARCHIVE names, or the one in the folder that it names. What it names wrongly is not
 /// looked for elsewhere.
 fn named() -> Option<Result<PathBuf, String>> {
     let name = env::var_os("LUOSSAVIN_ARCHIVE").filter(|name| !name.is_empty())?;
     let path = PathBuf::from(name);
     let archive = if path.is_dir() { path.join(ARCHIVE) } else { path };
+    watch(&archive);
     Some(if archive.is_file() {
         Ok(archive)
     } else {
@@ -57,7 +62,11 @@ fn installed() -> Option<PathBuf> {
     let said = Command::new("pkg-config").args(["--variable=libdir", "luossavin"]).output().ok()?;
     let folder = String::from_utf8(said.stdout).ok()?;
     let archive = Path::new(folder.trim()).join(ARCHIVE);
-    (said.status.success() && archive.is_absolute() && archive.is_file()).then_some(archive)
+    let is_there = said.status.success() && archive.is_absolute() && archive.is_file();
+    is_there.then(|| {
+        watch(&archive);
+        archive
+    })
 }
 
 /// The archive of the checkout, proved and written where the kit is there and it is not up to date.
@@ -69,18 +78,25 @@ fn in_checkout() -> Result<PathBuf, String> {
         Some(folder) if folder.join("crates/luossavin").is_dir() => folder,
         _ => return Err(format!("{missing}, or build from a checkout of Luossavin")),
     };
-    println!("cargo:rerun-if-changed={}", checkout.join("crates").display());
-    println!("cargo:rerun-if-changed={}", checkout.join("crates.txt").display());
     let archive = checkout.join("target/staticlib").join(ARCHIVE);
     match Command::new("rt").args(["staticlib", "luossavin"]).current_dir(checkout).output() {
-        Ok(said) if !said.status.success() => {
+        // what it is made of is watched, and not the archive, which is new each time
+        Ok(said) if said.status.success() => {
+            watch(&checkout.join("crates"));
+            watch(&checkout.join("crates.txt"));
+            Ok(archive)
+        }
+        Ok(said) => {
             let said = String::from_utf8_lossy(&[said.stdout, said.stderr].concat()).into_owned();
             Err(format!("'rt staticlib luossavin' failed in {}:\n{said}", checkout.display()))
         }
-        Err(_) if !archive.is_file() => Err(format!(
+        Err(_) if archive.is_file() => {
+            watch(&archive);
+            Ok(archive)
+        }
+        Err(_) => Err(format!(
             "{missing}, or put the Rattle kit's rt on the PATH, so that 'rt staticlib luossavin' writes {}",
             archive.display()
         )),
-        _ => Ok(archive),
     }
 }

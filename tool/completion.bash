@@ -1,4 +1,5 @@
-# Completion for bash. Put a line `. PATH/tool/completion.bash` into ~/.bashrc, with the path to this file.
+# Completion for bash, which finds it by itself where the tool is installed. For a checkout put a line `. PATH/tool/completion.bash` into
+# ~/.bashrc, with the path to this file.
 _luossavin() {
     local word=${COMP_WORDS[COMP_CWORD]} before=${COMP_WORDS[COMP_CWORD - 1]} options=''
     COMPREPLY=()

@@ -1,0 +1,180 @@
+# The part of host/installed that runs where neither the kit nor the checkout is, in a folder with the tar file; not run by itself.
+# Its words: whether the tool `runs` here or `refuses` to, what runs a program for x86-64, and whether a Python for it is `here`.
+# A line for each check, and a summary; status 0 if all of them passed.
+# shellcheck shell=sh
+set -u
+runs=$1 runner=$2 python=$3
+cd "$(dirname "$0")" || exit 1
+here=$PWD
+said=$here/said
+: >"$said"
+
+passed=0 failed=0
+pass() { passed=$((passed + 1)); printf 'ok      %s\n' "$1"; }
+miss() { failed=$((failed + 1)); printf 'NOT OK  %s: %s\n' "$1" "$2"; sed 's/^/        | /' "$said"; }
+skip() { printf 'skipped %s: %s\n' "$1" "$2"; }
+# Holds whatever a command tests.
+holds() { # NAME COMMAND..
+    about=$1
+    shift
+    if "$@" >"$said" 2>&1; then pass "$about"; else miss "$about" "$*"; fi
+}
+# Holds the status of a command, and what it writes, to what is expected of them.
+says() { # NAME STATUS TEXT COMMAND..
+    about=$1 wanted=$2 text=$3
+    shift 3
+    "$@" >"$said" 2>&1
+    status=$?
+    if [ $status -ne "$wanted" ]; then
+        miss "$about" "status $status, not $wanted"
+    elif [ -z "$text" ] && [ -s "$said" ]; then
+        miss "$about" 'it said something'
+    elif [ -n "$text" ] && ! grep -qF -e "$text" "$said"; then
+        miss "$about" "it did not say: $text"
+    else
+        pass "$about"
+    fi
+}
+# What stands below a folder, with permissions and what links say.
+shape() { # FOLDER
+    find "$1" -printf '%P %y %m %l\n' | sort
+}
+
+echo '--- the tar file'
+holds 'there is no kit here' sh -c '! command -v rt'
+tar xzf luossavin-*.tar.gz || exit 1
+made=$(echo luossavin-*-linux)
+version=$(cat "$made/VERSION")
+holds 'the sums are right' sh -c 'cd "$1" && sha256sum -c --quiet SHA256SUMS' sh "$made"
+holds 'and are of every file' sh -c 'cd "$1" && [ "$(find . -type f ! -name SHA256SUMS | wc -l)" -eq "$(wc -l <SHA256SUMS)" ]' sh "$made"
+for line in "luossavin $version" 'proved by rattle-kit-' 'commit ' 'gate '; do
+    holds "it says: $line" grep -q "^$line" "$made/about"
+done
+cp "$made/README.md" kept
+echo >>"$made/README.md"
+says 'a file that is another is not installed' 2 'README.md: FAILED' make -C "$made" install PREFIX="$here/a"
+holds 'nor is anything else' [ ! -e "$here/a" ]
+cp kept "$made/README.md"
+
+echo '--- installed'
+mkdir "$here/other" "$here/other/bin"
+shape "$here/other" >before
+(umask 077 && make -s -C "$made" install PREFIX="$here/a place") >"$said" 2>&1 || miss 'make install, to a path with a blank' "$?"
+(umask 077 && make -s -j 4 -C "$made" all install PREFIX="$here/other/") >"$said" 2>&1 || miss 'make install, to a folder that was there' "$?"
+holds 'two are alike, but for where they are' sh -c 'diff -r -x installed -x luossavin.pc "$1" "$2"' sh "$here/a place" "$here/other"
+holds 'everyone may read them' sh -c '! find "$1" ! -type l ! -perm -a=r | grep .' sh "$here/a place"
+holds 'and nobody else write' sh -c '! find "$1" ! -type l -perm /go=w | grep .' sh "$here/a place"
+for file in bin/luossavin include/luossavin.h lib/libluossavin.a lib/libluossavin.so lib/pkgconfig/luossavin.pc \
+    share/man/man1/luossavin.1 share/bash-completion/completions/luossavin share/doc/luossavin/NOTICE \
+    share/doc/luossavin/README.md share/doc/luossavin/CHANGES.md share/doc/luossavin/docs/PROMISES.md; do
+    holds "there is $file" [ -s "$here/a place/$file" ]
+done
+make -s -C "$made" install DESTDIR="$here/stage" PREFIX=/usr LIBDIR=/usr/lib/x86_64-linux-gnu >"$said" 2>&1 || miss 'a package' "$?"
+holds 'a package has the library where it is told' [ -s stage/usr/lib/x86_64-linux-gnu/libluossavin.a ]
+holds 'and says so' grep -qxF 'libdir=${prefix}/lib/x86_64-linux-gnu' stage/usr/lib/x86_64-linux-gnu/pkgconfig/luossavin.pc
+holds 'no file knows where it was made' sh -c '! grep -rF "$1" stage' sh "$here/stage"
+says 'a path that is not from the root on' 2 'expected a path from the root on for PREFIX' make -C "$made" install PREFIX=place
+says 'a path that luossavin.pc could not carry' 2 'expected a plain path for PREFIX, not /a$b' make -C "$made" install PREFIX='/a$$b'
+says 'a disk that is full' 2 "cannot write $here/full/" sh -c 'ulimit -f 40 && make -C "$1" install PREFIX="$2"' sh "$made" "$here/full"
+holds 'make uninstall of what it left' make -s -C "$made" uninstall PREFIX="$here/full"
+holds 'takes all of it away' [ ! -e "$here/full" ]
+cp "$here/other/libexec/luossavin/installed" kept
+holds 'make install once more' make -s -C "$made" install PREFIX="$here/other"
+holds 'puts the same' cmp kept "$here/other/libexec/luossavin/installed"
+
+echo '--- the tool'
+tool="$here/a place/bin/luossavin"
+iv=4c756f73736176696e20746573742121
+key="$here/a place/libexec/luossavin/sample/key"
+rough="$here/a place/libexec/luossavin/sample/rough.txt"
+"$tool" --version >told 2>&1
+holds 'it says what it is' cmp told "$made/about"
+says 'help says the sample that is here' 0 "'$here/a place/libexec/luossavin/sample'/key" "$tool" help seal
+ln -s "$tool" link
+says 'through a link' 0 "luossavin $version" ./link --version
+says 'by its name alone' 0 '  luossavin seal    --key FILE' env PATH="$here/a place/bin:$PATH" luossavin help
+holds 'the page of the manual is the help'"'"'s' cmp "$here/a place/share/man/man1/luossavin.1" "$made/tool/luossavin.1"
+says 'bash completes its words' 0 'complete -o default -F _luossavin luossavin' \
+    bash -c '. "$1"; complete -p luossavin' bash "$here/a place/share/bash-completion/completions/luossavin"
+mkdir other-machine
+printf '#!/bin/sh\necho riscv64\n' >other-machine/uname
+chmod +x other-machine/uname
+if [ "$runs" = runs ]; then
+    says 'the demo' 0 "It is not: the final's label is refused on the rough." "$tool" demo
+    says 'and where the tar file was unpacked' 0 'Nothing was left behind.' "$made/luossavin" demo
+    printf 'FINAL\n' >final.txt
+    for edition in 1 2; do
+        if [ $edition = 1 ]; then text=$rough; else text=final.txt; fi
+        says "edition $edition is sealed" 0 '' "$tool" seal --key "$key" --iv $iv --job 4711 --edition $edition "$text" $edition.sealed
+        says 'and put on the shelf' 0 '' "$tool" shelf put --job 4711 --edition $edition team.shelf $edition.sealed
+    done
+    says 'the final is opened from it' 0 'edition 2' "$tool" shelf open --job 4711 --key "$key" --iv $iv team.shelf opened.txt
+    holds 'as it was' cmp final.txt opened.txt
+    says 'a journal is replayed' 0 'all 5 records agree' "$tool" replay --key "$key" "$here/a place/libexec/luossavin/sample/journal"
+    says 'wrong words name the tool as it was called' 64 "For an example: ./link help" ./link sael
+    mv "$here/a place/libexec/luossavin/bin/transcript" gone
+    says 'a program that is gone' 70 'the tool is not whole' "$tool" opens --key "$key" --iv $iv --job 1 --edition 1 1.sealed
+    echo text >"$here/a place/libexec/luossavin/bin/transcript"
+    chmod +x "$here/a place/libexec/luossavin/bin/transcript"
+    says 'a program that the system cannot start' 69 'it needs the GNU C library for x86-64, 2.34 or newer' \
+        "$tool" opens --key "$key" --iv $iv --job 1 --edition 1 1.sealed
+    mv gone "$here/a place/libexec/luossavin/bin/transcript"
+else
+    says 'it is for x86-64' 69 'x86-64' "$tool" opens --key "$key" --iv $iv --job 1 --edition 1 "$rough"
+    says 'also in the demo' 70 'x86-64' "$tool" demo
+fi
+if ! grep -qs '^magic 7f454c4602.*3e00' /proc/sys/fs/binfmt_misc/*; then
+    says 'another machine' 69 'this machine is riscv64, and no emulator' \
+        env PATH="$here/other-machine:$PATH" "$tool" opens --key "$key" --iv $iv --job 1 --edition 1 "$rough"
+fi
+
+echo '--- the library'
+export PKG_CONFIG_PATH="$here/other/lib/pkgconfig"
+cp "$here"/other/share/doc/luossavin/examples/* .
+says 'pkg-config knows it' 0 "$version" pkg-config --modversion luossavin
+# the line by which an example says that it is compiled and run, with words in the place of those that it names
+line() { # EXAMPLE [SHELF JOB KEY IV]
+    sed -n '/pkg-config/{s/^[ *]*//;p;q;}' "$1" | sed "s|&& \./|\&\& $runner ./|; s|SHELF|${2-}|; s|JOB|${3-}|; s|KEY|'${4-}'|; s|IV|${5-}|"
+}
+says 'seal.c, by its line' 0 'sealed as edition 1 of job 4711: 59 bytes are 75' sh -c "$(line seal.c)"
+says 'what it sealed opens as the rough' 0 'opens as edition 1: yes' $runner ./seal
+says 'and not as the final' 0 'opens as edition 2: no' $runner ./seal
+# the part of it that runs what is compiled
+again() { line "$@" | sed 's/.*&& //'; }
+ask() { # EXAMPLE
+    says "$1: the final may be shown" 0 'job 4711: edition 2 may be shown, 6 bytes' sh -c "$(line "$1" team.shelf 4711 "$key" $iv)"
+    says "$1: another job has none" 22 'job 4712: nothing may be shown, refused with 22' sh -c "$(again "$1" team.shelf 4712 "$key" $iv)"
+    says "$1: another IV" 4 'refused with 4' sh -c "$(again "$1" team.shelf 4711 "$key" "${iv%1}2")"
+    says "$1: a short IV" 10 'refused with 10' sh -c "$(again "$1" team.shelf 4711 "$key" 00)"
+    says "$1: no shelf" 19 'refused with 19' sh -c "$(again "$1" final.txt 4711 "$key" $iv)"
+}
+if [ "$runs" = runs ]; then ask portal.c; else skip portal.c 'the tool has made no shelf'; fi
+if [ "$runs" = runs ] && [ "$python" = here ]; then ask portal.py; else skip portal.py 'there is no Python for x86-64'; fi
+says 'linked with the archive alone' 0 'opens as edition 2: no' \
+    sh -c 'cc seal.c -o seal $(pkg-config --cflags luossavin) "$(pkg-config --variable=libdir luossavin)/libluossavin.a" && '"$runner"' ./seal'
+PKG_CONFIG_PATH="$here/a place/lib/pkgconfig"
+says 'with a blank in the path' 0 'opens as edition 2: no' \
+    sh -c 'eval "cc seal.c -o seal $(pkg-config --cflags --libs luossavin)" && '"$runner"' ./seal'
+readelf -dW "$here/other/lib/libluossavin.so" >dynamic
+holds 'the shared library has its name and number' grep -q "SONAME.*\[libluossavin\.so\.${version%%.*}\]" dynamic
+holds 'and needs no text to be rewritten' sh -c '! grep -q TEXTREL dynamic'
+nm -D --defined-only "$here/other/lib/libluossavin.so" | sed 's/.* //' | sort >exported
+sed -n 's/^\(struct [a-z_]*\|bool\) \(luossavin_[a-z_]*\)(.*/\2/p' "$here/other/include/luossavin.h" | sort >declared
+holds 'it exports what the header declares' [ -s declared ]
+holds 'and no other name' cmp declared exported
+
+echo '--- uninstalled'
+echo mine >"$here/a place/lib/mine"
+holds 'make uninstall' make -s -C "$made" uninstall PREFIX="$here/a place"
+holds 'what others put there is left' [ "$(find "$here/a place" ! -type d)" = "$here/a place/lib/mine" ]
+holds 'in its folder, and no other' [ "$(find "$here/a place" -type d | wc -l)" -eq 2 ]
+says 'the other one runs on' 0 "luossavin $version" "$here/other/bin/luossavin" --version
+holds 'make uninstall of that' make -s -C "$made" uninstall PREFIX="$here/other"
+shape "$here/other" >after
+holds 'the folder is as it was before' cmp before after
+holds 'make uninstall of a package' make -s -C "$made" uninstall DESTDIR="$here/stage" PREFIX=/usr
+holds 'nothing is left of it' [ -z "$(ls -A stage)" ]
+says 'what is not there' 2 'nothing of luossavin is installed' make -C "$made" uninstall PREFIX="$here/other"
+
+printf '%s checks passed, %s did not\n' "$passed" "$failed"
+[ "$failed" -eq 0 ]
