@@ -186,3 +186,38 @@ compile_shared() {
 run() {
     "${runner[@]}" "$@"
 }
+
+# build_plugin NAME: a plugin of qemu-user, as $work/NAME.so.
+build_plugin() {
+    local version=1
+    need qemu-x86_64 qemu-user
+    # from qemu 9 on the interface is version 2 or later
+    if [ "$(qemu-x86_64 --version | sed -n '1s/.*version \([0-9]*\).*/\1/p')" -ge 9 ]; then version=2; fi
+    need gcc gcc libc6-dev
+    gcc -O2 -Wall -Wextra -shared -fPIC -DPLUGIN_VERSION=$version "$c/$1.c" -o "$work/$1.so" ||
+        die "could not build the plugin"
+}
+
+# Valgrind's memcheck for programs of x86-64, and where its header is. On Arm it is Debian's for x86-64, which the emulator runs.
+find_memcheck() {
+    case $(uname -m) in
+    x86_64)
+        need valgrind valgrind
+        need /usr/include/valgrind/memcheck.h valgrind
+        memcheck=(valgrind)
+        memcheck_header=()
+        ;;
+    aarch64)
+        (
+            mkdir "$work/memcheck" && cd "$work/memcheck"
+            dpkg --add-architecture amd64
+            apt-get update
+            apt-get download valgrind:amd64
+            dpkg -x ./*.deb .
+        ) >"$work/apt.log" 2>&1 || { tail -5 "$work/apt.log" >&2; die "could not fetch valgrind for x86-64"; }
+        export VALGRIND_LIB="$work/memcheck/usr/libexec/valgrind" VALGRIND_LAUNCHER="$work/memcheck/usr/bin/valgrind"
+        memcheck=("${runner[@]}" "$VALGRIND_LIB/memcheck-amd64-linux")
+        memcheck_header=(-I"$work/memcheck/usr/include")
+        ;;
+    esac
+}

@@ -178,14 +178,27 @@ struct luossavin_answer {
  *   answer       0 is a key, 13 answers 13, and all else 1
  *   number       any value is repeated as it stands, 0 too
  *   retired      0 is not retired, and all else is
- *   engine       1 is the four tables, and all else the plain engine
+ *   engine       1 is the four tables, 2 the gates, and all else the plain engine
  *
  * `engine` says how the rounds of SM4 are made, and nothing else: every call answers with the same numbers, reports
- * and bytes whatever it is. The plain engine looks bytes up in a table of 1 KiB. The other has four tables, 4 KiB that
- * each call lays out on its stack, and takes little more than half the instructions for a long message outside Gcm
- * (docs/SPEED.md). Starts in pieces and luossavin_which, which encipher three blocks at most, take the plain one in any
- * case. Both read at places that depend on the key and the text, so neither is for a machine on which others may watch
- * the caches. A message in pieces keeps the engine that its start had. */
+ * and bytes whatever it is (docs/SPEED.md has what each takes):
+ *
+ *   0  plain        looks bytes up in a table of 1 KiB
+ *   1  four tables  4 KiB that each call lays out on its stack. It takes little more than half the instructions for a long
+ *                   message outside Gcm. Starts in pieces and luossavin_which, which encipher three blocks at most, take
+ *                   the plain one in any case
+ *   2  gates        makes every byte by ands and exclusive ors, up to 512 blocks at once. It is written so that no place
+ *                   that is read and no branch that is taken depends on the key, the text, the label or what comes of
+ *                   them, but for the answer, whether a tag or a padding is right; the compiled library is looked at for
+ *                   that (host/secrets), and nothing is claimed about time. It is the fastest for long messages in Ctr
+ *                   and Gcm and for decryption in Cfb and Cbc. Ofb and encryption in Cfb and Cbc go block by block, and
+ *                   so do short messages: there it is several times slower than either of the others
+ *
+ * The first two read at places that depend on the key and the text, so neither is for a machine on which others may watch
+ * the caches. On the third, starts and luossavin_which go by gates as well, and a key is set up by gates whatever engine
+ * it then has. A message in pieces keeps the engine that its start had.
+ *
+ * A call takes less than 48 KiB of the stack, on any engine, and luossavin_replay less than 64 KiB. */
 struct luossavin_key {
     uint32_t round_keys[32];
     uint32_t answer;
@@ -202,8 +215,8 @@ struct luossavin_key luossavin_key_new(const uint8_t *key, size_t key_len, uint3
  * field as it was. */
 struct luossavin_key luossavin_key_retire(struct luossavin_key key);
 
-/* The same record with another engine: `engine` of it is 1 where 1 was asked for, and otherwise 0. Every other field
- * is as it was, of a retired key and of a record that is no key too. */
+/* The same record with another engine: `engine` of it is 1 or 2 where that was asked for, and otherwise 0. Every other
+ * field is as it was, of a retired key and of a record that is no key too. */
 struct luossavin_key luossavin_key_engine(struct luossavin_key key, uint32_t engine);
 
 /* Encrypts one block of 16 bytes, as GB/T 32907-2016 has it. It answers 0 with length 16, or 1, 13, 11, 14
@@ -687,7 +700,7 @@ struct luossavin_shelved luossavin_shelf_find(const uint8_t *shelf, size_t size,
  * otherwise both are 0. They do not say whether there is one: the first record has 0 and 0.
  *
  * The file is read and nothing is written. It has no limit. Whatever room was recorded, a call is made again into at
- * most 16,400 bytes, which is enough. They are on the stack, of which a replay takes less than 32 KiB.
+ * most 16,400 bytes, which is enough. They are on the stack, of which a replay takes less than 64 KiB.
  *
  * A journal has the texts of its calls in it, what they were given and what they gave, and is as secret as these. It is
  * not sealed: who can write to it can make a record agree. */

@@ -106,6 +106,11 @@ uint16_t *number_of(struct state *s)
     return s->kind == COUNTING ? &s->is.ctr.key : s->kind == SEALING ? &s->is.seal.key : &s->is.opens.key;
 }
 
+uint8_t *engine_of(struct state *s)
+{
+    return s->kind == COUNTING ? &s->is.ctr.engine : s->kind == SEALING ? &s->is.seal.engine : NULL;
+}
+
 void put_from(struct state *s, const uint8_t from[16])
 {
     uint32_t low = (uint32_t)from[12] << 24 | (uint32_t)from[13] << 16 | (uint32_t)from[14] << 8 | from[15];

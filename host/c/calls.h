@@ -67,6 +67,9 @@ size_t *label_of(struct state *s);
 uint32_t *stands_of(struct state *s);
 uint16_t *number_of(struct state *s);
 
+/* The mark of the engine; opening has none, and gives NULL. */
+uint8_t *engine_of(struct state *s);
+
 /* What the message's counters are counted from, put into a state: Ctr keeps all of it, Gcm's two the last four bytes
  * as a number. */
 void put_from(struct state *s, const uint8_t from[16]);

@@ -56,8 +56,8 @@ struct luossavin_key record(struct holder fields)
     if (key.number == 0) {
         key = luossavin_key_new(bytes, 16, 1);
     }
-    /* on either engine in turn, which no answer and no byte shows */
-    return holding(luossavin_key_engine(key, calls % 2), fields);
+    /* on each engine in turn, which no answer and no byte shows */
+    return holding(luossavin_key_engine(key, calls % 3), fields);
 }
 
 void near_wrap(uint32_t mode, uint8_t iv[16])

@@ -11,7 +11,8 @@
  * label or ciphertext changed. Then each way of cutting it must give the same, with refused calls in between. The
  * key has any number, which every answer must repeat; half of Ctr's decryptions and of the openings are under it
  * once it is retired, and what would encrypt under it then must be refused at the start. Half of the IVs of 16 bytes
- * lead to where the counter comes round, or almost: the single call and the end must say whether it did.
+ * lead to where the counter comes round, or almost: the single call and the end must say whether it did. The single calls are
+ * on the plain engine, and each piece is on the next of the three.
  * Prints what is wrong and how much was done; exit status 1 if anything is wrong.
  */
 #include "pieces.h"
@@ -219,10 +220,11 @@ static void make(size_t length, size_t iv_len, enum spoil spoil)
 
 /* Holding it in pieces. */
 
-/* Starts a message under the key, or, where it is retired, under the record that says so. */
+/* Starts a message under the key, or, where it is retired, under the record that says so, on each engine in turn. */
 static struct luossavin_answer begin(struct state *s, bool decrypt, int is_retired)
 {
     struct given given = {is_retired ? m.old : m.key, decrypt, m.iv, m.label, m.iv_len, m.label_len};
+    given.key = luossavin_key_engine(given.key, runs % 3);
     if (now == OPENING) {
         given.label = m.other_label;
         given.label_len = m.other_len;
@@ -343,6 +345,14 @@ static int hold_ended(const struct state *s)
         && refused(call_end(&after, NULL, 0), 12, 0, s, &after, 0);
 }
 
+/* Turns a state to an engine. */
+static void turn(struct state *s, size_t engine)
+{
+    if (engine_of(s) != NULL) {
+        *engine_of(s) = (uint8_t)(engine % 3);
+    }
+}
+
 /* One kind, cut as it is; then on from an older state, with all that was left in one piece. */
 static void hold(enum kind kind)
 {
@@ -360,6 +370,7 @@ static void hold(enum kind kind)
             older = s;
             older_from = from;
         }
+        turn(&s, runs + i);
         if (!hold_piece(&s, from, to)) {
             return;
         }

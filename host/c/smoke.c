@@ -3,7 +3,8 @@
  * result; Cbc's padding (smoke_padding.c); the same of keys, retired or not (smoke_keys.c), of messages in pieces
  * (smoke_pieces.c), and of which label a file opens under (smoke_which.c); counters that come round
  * (smoke_round.c); ranges and plans for several workers (smoke_workers.c); shelves (smoke_shelf.c); replay of recorded
- * calls (smoke_journal.c); and hashes of halves (smoke_halves.c). Prints what is wrong, and how much was checked; exit
+ * calls (smoke_journal.c); hashes of halves (smoke_halves.c); the engines side by side (smoke_engine.c), and on long messages
+ * (smoke_long.c); and how much of the stack a call takes (smoke_stack.c). Prints what is wrong, and how much was checked; exit
  * status 1 if anything is.
  */
 #include "smoke.h"
@@ -330,9 +331,13 @@ int main(void)
     shelves();
     journals();
     halves();
-    key = luossavin_key_engine(key, 1);
-    on_the_key();
+    for (uint32_t engine = 1; engine <= 2; engine++) {
+        key = luossavin_key_engine(key, engine);
+        on_the_key();
+    }
     engines();
+    long_messages();
+    stack();
     printf("%u checked, %u wrong\n", checked, wrong);
     return wrong != 0;
 }

@@ -1,6 +1,6 @@
 /* What the files of the smoke test share: single calls, Cbc's padding, keys, messages in pieces, the question which
  * label a file opens under, counters that come round, ranges and plans for several workers, shelves, journals, hashes of
- * halves, and the two engines. */
+ * halves, the engines, long messages, and the stack. */
 #ifndef SMOKE_H
 #define SMOKE_H
 
@@ -81,7 +81,13 @@ void journals(void);
 /* Hashes of halves, joined. */
 void halves(void);
 
-/* The two engines side by side. */
+/* The engines side by side. */
 void engines(void);
+
+/* Messages of many blocks, on the engine that does many at once. */
+void long_messages(void);
+
+/* How much of the stack a call takes, at most. */
+void stack(void);
 
 #endif

@@ -1,4 +1,4 @@
-/* The two engines side by side, with the same key: what a call leaves on one it leaves on the other, to the byte. */
+/* The three engines side by side, with the same key: what a call leaves on one it leaves on the others, to the byte. */
 #include "smoke.h"
 
 #include "journal_model.h"
@@ -9,7 +9,8 @@
 
 enum { LONG = 600, BLOCKS = 3000 };
 
-static struct luossavin_key plain, tables;
+/* The key on the plain engine, and on the one that is held to it. */
+static struct luossavin_key plain, other;
 static uint8_t text[LONG], one[LONG + 16], two[LONG + 16];
 
 /* The answers, and all that was lent for the output. */
@@ -26,14 +27,14 @@ static void lend_both(void)
     memset(two, LENT, sizeof two);
 }
 
-/* Marking: 1 alone is the second engine, and no other field is touched. */
+/* Marking: 1 and 2 are kept, all else is 0, and no other field is touched. */
 static void one_mark(struct holder fields)
 {
-    static const uint32_t engines[] = {0, 1, 2, 255, 256, 257, 0xffffffff};
+    static const uint32_t engines[] = {0, 1, 2, 3, 255, 256, 257, 258, 0xffffffff};
     for (size_t i = 0; i < sizeof engines / sizeof *engines; i++) {
         struct luossavin_key k = holding(plain, fields), due = k, got;
         k.engine = (uint8_t)(3 * i);
-        due.engine = engines[i] == 1;
+        due.engine = engines[i] <= 2 ? (uint8_t)engines[i] : 0;
         got = luossavin_key_engine(k, engines[i]);
         check(same_key(&got, &due), "the record", "an engine", engines[i]);
     }
@@ -46,9 +47,9 @@ static void blocks(void)
         uint8_t block[16];
         draw_bytes(block, 16);
         lend_both();
-        compare(luossavin_block_encrypt(plain, block, 16, one, 16), luossavin_block_encrypt(tables, block, 16, two, 16),
+        compare(luossavin_block_encrypt(plain, block, 16, one, 16), luossavin_block_encrypt(other, block, 16, two, 16),
             "a block, encrypted", i);
-        compare(luossavin_block_decrypt(plain, block, 16, one, 16), luossavin_block_decrypt(tables, block, 16, two, 16),
+        compare(luossavin_block_decrypt(plain, block, 16, one, 16), luossavin_block_decrypt(other, block, 16, two, 16),
             "a block, decrypted", i);
     }
 }
@@ -60,31 +61,12 @@ static void messages(size_t n)
         size_t iv_len = n % 5 == 0 ? 12 : n % 7 == 0 ? 13 : 16, room = n % 11 == 0 ? n / 2 : n + 16;
         lend_both();
         compare(luossavin_encrypt(mode, plain, label, sizeof label, text, n, iv, iv_len, one, room),
-            luossavin_encrypt(mode, tables, label, sizeof label, text, n, iv, iv_len, two, room), "encryption", n);
+            luossavin_encrypt(mode, other, label, sizeof label, text, n, iv, iv_len, two, room), "encryption", n);
         memcpy(text, one, n);
         lend_both();
         compare(luossavin_decrypt(mode, plain, label, sizeof label, text, n, iv, iv_len, one, room),
-            luossavin_decrypt(mode, tables, label, sizeof label, text, n, iv, iv_len, two, room), "decryption", n);
+            luossavin_decrypt(mode, other, label, sizeof label, text, n, iv, iv_len, two, room), "decryption", n);
     }
-}
-
-/* A message in pieces, of which every second one is on the other engine: the state is a value, and its mark is not seen. */
-static void turned_about(enum kind kind, size_t n, size_t by)
-{
-    const struct given g = {.key = plain, .iv = iv, .label = label, .iv_len = 16, .label_len = sizeof label};
-    struct state s;
-    struct luossavin_answer a = call_start(kind, &s, &g);
-    size_t tag = kind == SEALING ? 16 : 0;
-    lend_both();
-    for (size_t i = 0; a.number == 0 && i < n; i += by) {
-        uint8_t *mark = kind == SEALING ? &s.is.seal.engine : &s.is.ctr.engine;
-        *mark = (uint8_t)(i / by % 2);
-        a = call_piece(&s, text + i, n - i < by ? n - i : by, one + i, n - i);
-    }
-    a = call_end(&s, one + n, tag);
-    check(a.number == 0, "its end", "pieces on either engine", n);
-    luossavin_encrypt(kind == SEALING ? GCM : CTR, plain, label, sizeof label, text, n, iv, 16, two, n + tag);
-    check(memcmp(one, two, sizeof one) == 0, "its bytes", "pieces on either engine", n);
 }
 
 static void ranges(size_t n)
@@ -92,9 +74,9 @@ static void ranges(size_t n)
     struct luossavin_plan plan = luossavin_plan_make(n, 5).plan;
     lend_both();
     compare(luossavin_ctr_range(plain, false, iv, 16, 3 * n, text, n, one, n),
-        luossavin_ctr_range(tables, false, iv, 16, 3 * n, text, n, two, n), "a range", n);
+        luossavin_ctr_range(other, false, iv, 16, 3 * n, text, n, two, n), "a range", n);
     compare(luossavin_ctr_by_plan(plain, true, iv, 16, plan, text, n, one, n),
-        luossavin_ctr_by_plan(tables, true, iv, 16, plan, text, n, two, n), "work by a plan", n);
+        luossavin_ctr_by_plan(other, true, iv, 16, plan, text, n, two, n), "work by a plan", n);
 }
 
 /* A file that opens under its second label. */
@@ -103,9 +85,9 @@ static void questions(size_t n)
     const uint8_t labels[] = {1, 2, 3, 4, 5, 6, 7};
     const size_t lengths[] = {3, 4};
     struct luossavin_found a, b;
-    luossavin_encrypt(GCM, tables, labels + 3, 4, text, n, iv, 16, one, n + 16);
+    luossavin_encrypt(GCM, other, labels + 3, 4, text, n, iv, 16, one, n + 16);
     a = luossavin_which(plain, one, n + 16, iv, 16, labels, sizeof labels, lengths, 2);
-    b = luossavin_which(tables, one, n + 16, iv, 16, labels, sizeof labels, lengths, 2);
+    b = luossavin_which(other, one, n + 16, iv, 16, labels, sizeof labels, lengths, 2);
     check(a.found == 1 && a.place == 1, "it is found", "which, on the plain engine", n);
     check(memcmp(&a.answer, &b.answer, sizeof a.answer) == 0 && a.found == b.found && a.place == b.place
         && a.start == b.start && a.length == b.length, "its answer on either engine", "which", n);
@@ -125,25 +107,30 @@ static void journal(void)
         size += write_entry(&e, file + size);
     }
     a = luossavin_replay(keys, file, size);
-    keys.keys[0] = tables;
+    keys.keys[0] = other;
     b = luossavin_replay(keys, file, size);
     check(a.records == 20 && a.differs == 0, "it agrees", "a journal, on the plain engine", size);
     check(difference_replayed(&b, &a) == NULL, "its report on either engine", "a journal", size);
 }
 
-void engines(void)
+/* One engine beside the plain one. */
+static void beside_plain(uint32_t engine)
 {
-    plain = luossavin_key_new(key_bytes, 16, NUMBER);
-    tables = luossavin_key_engine(plain, 1);
-    every_record(one_mark);
+    other = luossavin_key_engine(plain, engine);
     blocks();
     draw_bytes(text, sizeof text);
     for (size_t n = 0; n <= LONG; n += n < 70 ? 1 : 53) {
         messages(n);
         ranges(n);
         questions(n);
-        turned_about(COUNTING, n, 1 + n / 9);
-        turned_about(SEALING, n, 1 + n / 9);
     }
     journal();
+}
+
+void engines(void)
+{
+    plain = luossavin_key_new(key_bytes, 16, NUMBER);
+    every_record(one_mark);
+    beside_plain(1);
+    beside_plain(2);
 }

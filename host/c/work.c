@@ -7,6 +7,8 @@
  *   work join 4 encrypt SIZE TIMES BLOCKS
  *   work version libgcrypt|OpenSSL
  *   work tables ..        the archive on the engine of four tables, in the first three
+ *   work gates ..         on that of gates
+ *   work timed ..         prints how many million bytes a second it is, the best of some runs
  *
  * Each message has its key set up anew; of `once`, which is the archive too, one set-up serves all of them. MODE is
  * 0 to 4. In pieces of PIECE bytes, by the archive, it is 2, or 4: sealing, or opening without the text. A range of
@@ -14,12 +16,15 @@
  * LABELS of six bytes, up to 64, of which none opens it. A join is of two hashes, the second of BLOCKS blocks, whatever
  * SIZE is. Exit status 3 where the library does not have the mode.
  */
+#define _POSIX_C_SOURCE 200809L
+
 #include "calls.h"
 #include "peers.h"
 
 #include <stdio.h>
 #include <stdlib.h>
 #include <string.h>
+#include <time.h>
 
 static const uint8_t key[16] = {1, 35, 69, 103, 137, 171, 205, 239, 254, 220, 186, 152, 118, 84, 50, 16};
 static const uint8_t iv[16] = {7};
@@ -146,7 +151,37 @@ static work *work_of(const char *who)
     return by_peer;
 }
 
-static int run(work *one, const struct task *t)
+static int times(work *one, const struct task *t, struct field data, uint8_t *out, size_t room)
+{
+    for (int i = 0; i < t->times; i++) {
+        if (!one(t, data, out, room)) {
+            return 3;
+        }
+    }
+    return 0;
+}
+
+/* The same some times over, and the best of their times. */
+static int timed(work *one, const struct task *t, struct field data, uint8_t *out, size_t room)
+{
+    double best = 0;
+    int status = 0;
+    for (int i = 0; i < 9 && status == 0; i++) {
+        struct timespec from, to;
+        double seconds;
+        clock_gettime(CLOCK_MONOTONIC, &from);
+        status = times(one, t, data, out, room);
+        clock_gettime(CLOCK_MONOTONIC, &to);
+        seconds = (double)(to.tv_sec - from.tv_sec) + 1e-9 * (double)(to.tv_nsec - from.tv_nsec);
+        best = i == 0 || seconds < best ? seconds : best;
+    }
+    if (status == 0) {
+        printf("%.1f\n", 1e-6 * (double)t->size * t->times / best);
+    }
+    return status;
+}
+
+static int run(work *one, const struct task *t, int is_timed)
 {
     size_t room = t->size + 16;
     uint8_t *text = calloc(1, room), *out = malloc(room);
@@ -165,12 +200,7 @@ static int run(work *one, const struct task *t)
         memcpy(text, out, room);
         data.length = t->mode == CBC || t->mode == GCM ? room : t->size;
     }
-    for (int i = 0; i < t->times; i++) {
-        if (!one(t, data, out, room)) {
-            return 3;
-        }
-    }
-    return 0;
+    return (is_timed ? timed : times)(one, t, data, out, room);
 }
 
 /* Whether the words after the first make a task. */
@@ -188,15 +218,21 @@ static int is_task(const char *who, const struct task *t)
     return strcmp(who, "range") != 0 || t->mode == CTR;
 }
 
+/* Whether the first word is that. It is then passed over. */
+static int first_word(int *argc, char ***argv, const char *word)
+{
+    int is = *argc > 2 && strcmp((*argv)[1], word) == 0;
+    *argc -= is;
+    *argv += is;
+    return is;
+}
+
 int main(int argc, char **argv)
 {
     struct task t = {0};
+    int is_timed = first_word(&argc, &argv, "timed");
     start_peers();
-    if (argc > 2 && strcmp(argv[1], "tables") == 0) {
-        engine = 1;
-        argc--;
-        argv++;
-    }
+    engine = first_word(&argc, &argv, "tables") ? 1 : first_word(&argc, &argv, "gates") ? 2 : 0;
     if (argc == 3 && strcmp(argv[1], "version") == 0) {
         puts(peer_named(argv[2])->version());
         return 0;
@@ -212,8 +248,8 @@ int main(int argc, char **argv)
         fprintf(stderr, "usage: work archive|once|libgcrypt|OpenSSL MODE encrypt|decrypt SIZE TIMES, or work pieces 2|4 "
             "encrypt|decrypt SIZE TIMES PIECE, or work range 2 encrypt|decrypt SIZE TIMES OFFSET, or work which 4 decrypt "
             "SIZE TIMES LABELS, or work join 4 encrypt SIZE TIMES BLOCKS, or work version libgcrypt|OpenSSL; or work "
-            "tables and one of the first three\n");
+            "tables or gates and one of the first three, or work timed and any but the last\n");
         return 64;
     }
-    return run(work_of(argv[1]), &t);
+    return run(work_of(argv[1]), &t, is_timed);
 }

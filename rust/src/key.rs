@@ -97,6 +97,7 @@ impl Key {
     pub fn engine(&self) -> Engine {
         match self.0.engine {
             1 => Engine::Tables,
+            2 => Engine::Gates,
             _ => Engine::Plain,
         }
     }
@@ -117,8 +118,8 @@ impl fmt::Debug for Key {
     }
 }
 
-/// How the rounds of SM4 are made, and nothing else: `docs/SPEED.md` has what each takes. Both read at places that
-/// depend on the key and the text, so neither is for a machine on which others may watch the caches.
+/// How the rounds of SM4 are made, and nothing else: `docs/SPEED.md` has what each takes. Those with tables read at places
+/// that depend on the key and the text, so neither is for a machine on which others may watch the caches; that of gates is.
 #[derive(Clone, Copy, Debug, PartialEq, Eq, Hash)]
 #[non_exhaustive]
 pub enum Engine {
@@ -127,6 +128,10 @@ pub enum Engine {
     /// Four tables, 4 KiB that each call lays out on its stack: little more than half the instructions for a long
     /// message outside Gcm.
     Tables = 1,
+    /// Gates alone, with neither a look-up nor a branch by key or text. Up to 512 blocks are done at once, so it is the
+    /// fastest for long messages in Ctr and Gcm, and for decryption in Cfb and Cbc; elsewhere, and for short ones, it is
+    /// many times slower than the others.
+    Gates = 2,
 }
 
 /// Which way a call goes, where encryption and decryption are one call. A retired key decrypts alone.

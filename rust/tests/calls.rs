@@ -105,13 +105,16 @@ fn a_retired_key_decrypts_alone() {
 fn engines_give_the_same_bytes() {
     let mut random = Random::new(1);
     for mode in MODES {
-        for length in [0, 1, 16, 100, 5000] {
+        for length in [0, 1, 16, 100, 5000, 20000] {
             let (bytes, text, label) = (random.bytes(16), random.bytes(length), random.bytes(length % 40));
             let made = |engine| {
                 let key = Key::new(&bytes, 1).unwrap().with_engine(engine);
                 Sm4CipherMode::with_key(key, mode).encrypt(&label, &text, &IV).unwrap()
             };
-            assert_eq!(made(Engine::Plain), made(Engine::Tables), "{mode:?}, {length} bytes");
+            for engine in [Engine::Tables, Engine::Gates] {
+                assert_eq!(key(1).with_engine(engine).engine(), engine);
+                assert_eq!(made(Engine::Plain), made(engine), "{mode:?}, {length} bytes, {engine:?}");
+            }
         }
     }
 }
@@ -240,7 +243,7 @@ fn which_finds_the_first_that_opens() {
 fn shares_of_any_plan_are_the_single_call() {
     let text = Random::new(3).bytes(5000);
     let whole = Sm4CipherMode::with_key(key(1), CipherMode::Ctr).encrypt(b"", &text, &IV).unwrap();
-    let key = key(1).with_engine(Engine::Tables);
+    let key = key(1).with_engine(Engine::Gates);
     let uneven = Plan::of_lengths(&[16, 4096, 32, 856]).unwrap();
     for plan in [Plan::make(5000, 1), Plan::make(5000, 7), Plan::make(5000, 64), Ok(uneven)] {
         let plan = plan.unwrap();

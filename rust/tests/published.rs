@@ -47,7 +47,7 @@ fn results_are_the_published_ones() {
     let without_comment = |line| str::split(line, '#').next().unwrap_or("");
     let words: Vec<&str> = file.lines().map(without_comment).flat_map(str::split_whitespace).collect();
     let kept = |kind| file.lines().filter(|line| *line == kind).count();
-    for engine in [Engine::Plain, Engine::Tables] {
+    for engine in [Engine::Plain, Engine::Tables, Engine::Gates] {
         let held = |vector: &&[&str]| {
             let parts: Vec<_> = vector[1..].iter().map(|word| bytes(word)).collect();
             is_held(engine, vector[0], &parts)

@@ -1,6 +1,6 @@
 -- Cbc decryption of full blocks: its front is the decrypted front, and its last block takes the last two blocks alone.
 -- Assumes nothing.
-use mathlib.Core.Path.{_≡_, refl, sym, _∙_}
+use mathlib.Core.Path.{_≡_, refl, sym, ap, _∙_}
 use Prim.Native.Nat.{ℕ, zero, suc, _+_, _*_, _-_, _/_, _%_, _≤_, _<_}
 use mathlib.Core.List.{List, [], _∷_, _++_, append-nil}
 use native.Mathlib.Omega.{arith}
@@ -122,16 +122,21 @@ decrypt-last rk s d hs h k =
     let e : 16 * n ≡ length d - 16 = omega arith in
     rw e at (last-by rk n s d hs (omega arith))
 
--- in the code's words: the block before the last, where there are two
-pub before-words : (s d r : List ℕ) → length s ≡ 16 → AreBytes d → 16 ≤ length d → length d % 16 ≡ 0 → (length d ≡ 16 → ⊥)
-    → r ≡ words (tailed (length d - 32) d) → unwords r ≡ take 16 (drop (length d - 16) (s ++ d))
-before-words s d r hs b h k n e =
-    let g : 32 ≤ length d = omega (arith, n) in
-    let f = length d - 32 in
-    let m : length d - 16 ≡ 16 + f = omega arith in
-    let l : 16 ≤ length (drop f d) = rw length-drop (omega arith) in
+-- of the IV s and the data d together, the block that ends where place `at` of d begins
+pub block-before : (s d : List ℕ) (at : ℕ) → length s ≡ 16 → 16 ≤ at → take 16 (drop at (s ++ d)) ≡ take 16 (drop (at - 16) d)
+block-before s d at hs h =
+    let f = at - 16 in
+    let m : at ≡ 16 + f = omega arith in
     let x : drop (16 + f) (s ++ d) ≡ drop f d = rw hs at (drop-append-add s d f) in
-    rw (e, tail-is d f, m, x) (unwords-front (drop f d) l (below-drop 256 f d b))
+    ap (λ (n : ℕ). take 16 (drop n (s ++ d))) m ∙ ap (take 16) x
+
+-- in the code's words
+pub before-words : (s d r : List ℕ) (at : ℕ) → length s ≡ 16 → AreBytes d → 16 ≤ at → at ≤ length d
+    → r ≡ words (tailed (at - 16) d) → unwords r ≡ take 16 (drop at (s ++ d))
+before-words s d r at hs b h k e =
+    let f = at - 16 in
+    let l : 16 ≤ length (drop f d) = rw length-drop (omega arith) in
+    rw (e, tail-is d f) (unwords-front (drop f d) l (below-drop 256 f d b) ∙ sym (block-before s d at hs h))
 
 -- the last block
 pub last-words : (rk s d r : List ℕ) → length s ≡ 16 → AreBytes d → 16 ≤ length d → length d % 16 ≡ 0 → length r ≡ 4

@@ -7,3 +7,4 @@ pub mod Opens
 pub mod RoundTrip
 pub mod SealsBack
 pub mod Goes
+pub mod Batches

@@ -7,9 +7,11 @@ ghost use Rattle.block.specs.Same.{same};
 ghost use Rattle.block.specs.Words.{unwords};
 ghost use Rattle.cipher.specs.Engine.{Engine};
 ghost use Rattle.walk.specs.Outcome.{leaving};
+ghost use Rattle.walk.specs.Reached.{Reached};
 ghost use Rattle.walk.specs.Walk.{chain, endState, over};
 ghost use Rattle.cbc.specs.Cbc.{padded, cbcEncrypt, cbcDecrypt, cbcSeal};
 ghost use Rattle.cbc.specs.Open.{headOf, unpadded, cbcOpen};
+use sliced::LEAST;
 
 // A rest shorter than a block, with its padding.
 fn pad(rest: &[u8]) -> [u8; 16]
@@ -127,6 +129,43 @@ fn decrypt_step(t: &[u32], back: [u32; 32], s: [u32; 4], data: &[u8], out: &mut 
     block::split_block(data)
 }
 
+// The ciphertext block before place `at`, which is the IV at the start.
+fn block_before(iv: [u32; 4], data: &[u8], at: usize) -> [u32; 4]
+    requires { ⌜ (at ≤ length (now «data»)) × (at % 16 ≡ 0) ⌝ }
+    ensures { λ r. ⌜ unwords r ≡ take 16 (drop at (unwords iv ++ now («data» .entry))) ⌝ }
+{
+    if at == 0 {
+        return iv;
+    }
+    let before = at - 16;
+    block::split_block(&data[before..])
+}
+
+// Full blocks of `data` from the front on, decrypted in batches, where the gates are lent. Returns how many bytes. The block before the
+// first is no part of the message, so the first goes by itself.
+fn decrypt_batches(t: &[u32], back: [u32; 32], iv: [u32; 4], data: &[u8], out: &mut [u8]) -> usize
+    requires { ⌜ Engine (now t) ⌝ }
+    requires { ⌜ length (now «data») ≤ length (now out) ⌝ }
+    ensures { λ r. ⌜ r % 16 ≡ 0 ⌝ }
+    ensures { λ r. ⌜ Reached (cbcDecrypt (reverse back)) (unwords iv) (now («data» .entry)) (now (out .entry)) (take 16 (drop r (unwords iv ++ now («data» .entry)))) (now (out .exit)) r ⌝ }
+{
+    if !cipher::by_gates(t) {
+        return 0;
+    }
+    if data.len() < LEAST {
+        return 0;
+    }
+    decrypt_step(t, back, iv, data, out);
+    let mut at: usize = 16;
+    while LEAST <= data.len() - at {
+        let m = sliced::next_batch(data.len() - at);
+        let before = at - 16;
+        sliced::encrypt_xored(back, m, &data[at..], &data[before..], &mut out[at..]);
+        at += 16 * m;
+    }
+    at
+}
+
 // The full blocks of `data`, decrypted to the front of `out` by the round keys turned round. Returns the state after them,
 // with which a message goes on.
 pub fn decrypt_blocks(
@@ -141,28 +180,15 @@ pub fn decrypt_blocks(
     ensures { λ r. ⌜ unwords r ≡ endState (cbcDecrypt (reverse back)) (unwords iv) (now («data» .entry)) ⌝ }
     ensures { λ _. ⌜ now (out .exit) ≡ over (chain (cbcDecrypt (reverse back)) (unwords iv) (now («data» .entry))) (now (out .entry)) ⌝ }
 {
-    let mut s = iv;
-    let mut at: usize = 0;
+    let begun = decrypt_batches(t, back, iv, data, out);
+    let mut s = block_before(iv, data, begun);
+    let mut at = begun;
     while 16 <= data.len() - at {
         let next = decrypt_step(t, back, s, &data[at..], &mut out[at..]);
         s = next;
         at += 16;
     }
     s
-}
-
-// The block before the last one, which is the IV where there is one only.
-fn before_last(iv: [u32; 4], data: &[u8]) -> [u32; 4]
-    requires { ⌜ 16 ≤ length (now «data») ⌝ }
-    requires { ⌜ length (now «data») % 16 ≡ 0 ⌝ }
-    ensures { λ r. ⌜ unwords r ≡ take 16 (drop (length (now («data» .entry)) - 16) (unwords iv ++ now («data» .entry))) ⌝ }
-{
-    let n = data.len();
-    if n == 16 {
-        return iv;
-    }
-    let at = n - 32;
-    block::split_block(&data[at..])
 }
 
 // The last block of `data`, decrypted.
@@ -174,7 +200,7 @@ fn last_block(t: &[u32], back: [u32; 32], iv: [u32; 4], data: &[u8]) -> [u8; 16]
 {
     let at = data.len() - 16;
     let p = cipher::encrypt(t, back, block::split_block(&data[at..]));
-    block::combine_block(block::block_xor(p, before_last(iv, data)))
+    block::combine_block(block::block_xor(p, block_before(iv, data, at)))
 }
 
 // The first `n` bytes of a block, to the front of `out`.

@@ -31,19 +31,30 @@ plain-length t e = ap length e ∙ length-sbox
 pub mixed-length : (t : List ℕ) → t ≡ mixedTable → length t ≡ 1024
 mixed-length t e = ap length e ∙ length-mixed
 
--- what is lent is the S-box where it has 256 words
-pub by-sbox : (t : List ℕ) → Engine t → length t ≡ 256 → t ≡ sboxTable
+-- what is lent is the four tables where it has 1,024 words
+pub by-four : (t : List ℕ) → Engine t → length t ≡ 1024 → t ≡ mixedTable
 unfolding Engine
-by-sbox t (inl e) h = e
-by-sbox t (inr e) h =
-    let m = mixed-length t e in
+by-four t (inl e) h =
+    let m = plain-length t e in
+    absurd (omega arith)
+by-four t (inr (inl e)) h = e
+by-four t (inr (inr e)) h =
+    let m = ap length e in
     absurd (omega arith)
 
--- and otherwise the four tables
-pub by-four : (t : List ℕ) → Engine t → (length t ≡ 256 → ⊥) → t ≡ mixedTable
+-- where it has another number, but some, the S-box
+pub by-sbox : (t : List ℕ) → Engine t → (length t ≡ 1024 → ⊥) → 0 < length t → t ≡ sboxTable
 unfolding Engine
-by-four t (inl e) h = absurd (h (plain-length t e))
-by-four t (inr e) h = e
+by-sbox t (inl e) h g = e
+by-sbox t (inr (inl e)) h g = absurd (h (mixed-length t e))
+by-sbox t (inr (inr e)) h g =
+    let m = ap length e in
+    absurd (omega arith)
+
+-- and nothing at all is the engine of gates
+pub none-lent : (t : List ℕ) → Engine (take 0 t)
+unfolding Engine
+none-lent t = inr (inr refl)
 
 -- one more entry of t, stored in its place of w
 pub laid-more : (t w : List ℕ) (i : ℕ) → i < length t → i < length w → take i w ≡ take i t

@@ -51,7 +51,7 @@ L-bytes a b c d ha hb hc hd =
     (ap L (sym e2) ∙ L-xor (p + q) r (omega arith) (omega arith)
     ∙ ap (λ (x : ℕ). x ⊕ L r) (ap L (sym e1) ∙ L-xor p q (omega arith) (omega arith)))
 
-tau-bytes : (w : ℕ) → w < 2 ^ 32
+pub tau-bytes : (w : ℕ) → w < 2 ^ 32
     → tau w ≡ Sbox (w / 2 ^ 24) * 2 ^ 24 + Sbox (w / 2 ^ 16 % 256) * 2 ^ 16 + Sbox (w / 2 ^ 8 % 256) * 2 ^ 8 + Sbox (w % 256)
 unfolding tau numberOf bytesOf
 tau-bytes w h =

@@ -10,7 +10,8 @@ use Rattle.block.proofs.Xor.{xor-swap}
 use Rattle.cipher.specs.Sm4.{rotl, L}
 use Rattle.cipher.proofs.Rotation.{shl-mod}
 
-rotl-digits : (j n x : ℕ) → j + n ≡ 32 → rotl x n ≡ x % 2 ^ j * 2 ^ n + x / 2 ^ j
+-- what stands below bit 32 - n goes up by n, the rest comes down
+pub rotl-digits : (j n x : ℕ) → j + n ≡ 32 → rotl x n ≡ x % 2 ^ j * 2 ^ n + x / 2 ^ j
 unfolding rotl
 rotl-digits j n x h =
     let e : 32 - n ≡ j = omega arith in

@@ -1,5 +1,5 @@
 -- What is lent to the cipher: the table of an engine, which is told by its length. It is the S-box, or four tables of 256 words
--- that hold byte substitution and L together.
+-- that hold byte substitution and L together, or nothing, where the rounds go by gates.
 use mathlib.Core.Path.{_≡_}
 use mathlib.Core.Logic.{_⊎_}
 use mathlib.Core.List.{List, [], _∷_}
@@ -19,6 +19,6 @@ mixedFrom (suc n) k = mixed k ∷ mixedFrom n (suc k)
 unfoldable pub mixedTable : List ℕ
 mixedTable = mixedFrom 1024 0
 
--- the plain engine, or the four tables
+-- the plain engine, the four tables, or the engine of gates
 unfoldable pub Engine : List ℕ → Type 0
-Engine t = (t ≡ sboxTable) ⊎ (t ≡ mixedTable)
+Engine t = (t ≡ sboxTable) ⊎ ((t ≡ mixedTable) ⊎ (t ≡ []))

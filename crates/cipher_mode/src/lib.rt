@@ -135,7 +135,7 @@ impl Sm4Cipher {
         }
     }
 
-    // The record with the mark of an engine: `cipher::FOUR_TABLES`, and all else is the plain engine.
+    // The record with the mark of an engine: `cipher::FOUR_TABLES` or `cipher::GATES`, and all else is the plain engine.
     pub fn with_engine(self, engine: u8) -> Sm4Cipher
         ensures { λ r. ⌜ r ≡ withEngine engine self ⌝ }
     {

@@ -237,5 +237,14 @@ pub(crate) fn message_by(
         return message(&t, rk, direction, mode, aad, data, iv, out);
     }
     let t = cipher::plain();
-    message(&t, rk, direction, mode, aad, data, iv, out)
+    message(
+        cipher::lent(engine, &t),
+        rk,
+        direction,
+        mode,
+        aad,
+        data,
+        iv,
+        out,
+    )
 }

@@ -12,7 +12,7 @@ use Rattle.block.specs.Wide.{whole}
 use Rattle.block.specs.Words.{words, unwords}
 use Rattle.block.proofs.Convert.{numberOf-bytesOf, numberOf-lt}
 use Rattle.block.proofs.WordsBack.{unwords-number, unwords-bytes, length-unwords}
-use Rattle.counter.specs.Counter.{lastFour, ctrJump, ctrNext, ctrPasses, gcmNext, gcmPasses}
+use Rattle.counter.specs.Counter.{lastFour, ctrJump, ctrNext, ctrPasses, gcmJump, gcmNext, gcmPasses}
 use Rattle.counter.proofs.Round.{zero-tells, no-bit}
 
 -- Ctr's counter k blocks on, over the number of four words
@@ -42,12 +42,18 @@ pub last-four : (x : List ℕ) → getD x 3 0 < 2 ^ 32 → lastFour (unwords x) 
 unfolding unwords bytesOf
 last-four x h = last-word x h
 
--- GCM's step over the last of four words
+-- GCM's counter k blocks on, over the last of four words
+pub gcm-jump-words : (x : List ℕ) (w k : ℕ) → getD x 3 0 < 2 ^ 32 → w ≡ (getD x 3 0 + k) % 2 ^ 32
+    → unwords (getD x 0 0 ∷ getD x 1 0 ∷ getD x 2 0 ∷ w ∷ []) ≡ gcmJump (unwords x) k
+unfolding gcmJump unwords bytesOf
+gcm-jump-words x w k h e =
+    ap (λ (v : ℕ). unwords (getD x 0 0 ∷ getD x 1 0 ∷ getD x 2 0 ∷ v ∷ [])) (e ∙ ap (λ (v : ℕ). (v + k) % 2 ^ 32) (sym (last-word x h)))
+
+-- and its step, which is one block on
 pub gcm-words : (x : List ℕ) (w : ℕ) → getD x 3 0 < 2 ^ 32 → w ≡ (getD x 3 0 + 1) % 2 ^ 32
     → unwords (getD x 0 0 ∷ getD x 1 0 ∷ getD x 2 0 ∷ w ∷ []) ≡ gcmNext (unwords x)
-unfolding gcmNext unwords bytesOf
-gcm-words x w h e =
-    ap (λ (v : ℕ). unwords (getD x 0 0 ∷ getD x 1 0 ∷ getD x 2 0 ∷ v ∷ [])) (e ∙ ap (λ (v : ℕ). (v + 1) % 2 ^ 32) (sym (last-word x h)))
+unfolding gcmNext gcmJump
+gcm-words x w h e = gcm-jump-words x w 1 h e
 
 pub gcm-words-pass : (x : List ℕ) (w : ℕ) → getD x 3 0 < 2 ^ 32 → w ≡ (getD x 3 0 + 1) % 2 ^ 32 → eqb w 0 ≡ gcmPasses (unwords x)
 unfolding gcmPasses unwords bytesOf

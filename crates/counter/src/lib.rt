@@ -4,7 +4,7 @@ ghost use mathlib.Core.Path.{_≡_};
 ghost use Prim.Native.Nat.{_+_, _%_, _^_};
 ghost use Rattle.block.specs.Wide.{value};
 ghost use Rattle.block.specs.Words.{unwords};
-ghost use Rattle.counter.specs.Counter.{ctrJump, ctrNext, ctrPasses, gcmNext, gcmPasses};
+ghost use Rattle.counter.specs.Counter.{ctrJump, ctrNext, ctrPasses, gcmJump, gcmNext, gcmPasses};
 ghost use Rattle.counter.specs.CameRound.{blocksOf, ctrCameRound, gcmCameRound};
 
 // The next counter, and whether the step to it passed from all ones to zero.
@@ -56,6 +56,13 @@ pub fn gcm_block_add_one(a: [u32; 4]) -> Next
         counter: [a[0], a[1], a[2], low],
         came_round: low == 0,
     }
+}
+
+// GCM's counter so many blocks on.
+pub fn gcm_jump(a: [u32; 4], blocks: u32) -> [u32; 4]
+    ensures { λ r. ⌜ unwords r ≡ gcmJump (unwords a) blocks ⌝ }
+{
+    [a[0], a[1], a[2], std::num::wrapping_add_u32(a[3], blocks)]
 }
 
 // The blocks of n bytes, a rest counted as one.

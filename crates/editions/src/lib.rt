@@ -153,6 +153,7 @@ fn search(
 
 // The search under a key's round keys: H and the cipher of J0 are made once, and the text is hashed once, unless nobody asks.
 fn under_key(
+    engine: u8,
     rk: [u32; 32],
     key: u16,
     file: &[u8],
@@ -170,9 +171,10 @@ fn under_key(
         return without(key, Ended::None);
     }
     let t = cipher::plain();
-    let h = gcm::hash_key(&t, rk);
-    let mask = cipher::encrypt(&t, rk, gcm::first_counter(h, iv));
-    let half = Half::of(h, gcm::text_part(file));
+    let lent = cipher::lent(engine, &t);
+    let h = gcm::hash_key(lent, rk);
+    let mask = cipher::encrypt(lent, rk, gcm::first_counter(h, iv));
+    let half = Half::of(h, cipher::by_gates(lent), gcm::text_part(file));
     search(mask, h, half, key, file, labels, lengths)
 }
 
@@ -191,7 +193,7 @@ pub fn which(cipher: Sm4Cipher, file: &[u8], iv: &[u8], labels: &[u8], lengths: 
         return without(key, Ended::Refused(refusal));
     }
     let rk = cipher.rk;
-    under_key(rk, key, file, iv, labels, lengths)
+    under_key(cipher.engine, rk, key, file, iv, labels, lengths)
 }
 
 // Whether a question ended with a candidate.

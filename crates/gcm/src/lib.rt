@@ -50,7 +50,7 @@ fn hashed_counter(h: U128, iv: &[u8]) -> [u32; 4]
     requires { ⌜ length (now iv) ≡ 16 ⌝ }
     ensures { λ r. ⌜ unwords r ≡ hashedCounter (value h) (now (iv .entry)) ⌝ }
 {
-    block::from_u128(ghash::galois_hash(h, &iv[0..0], iv))
+    block::from_u128(ghash::galois_hash(h, false, &iv[0..0], iv))
 }
 
 // J0 of an IV of twelve or of sixteen bytes.
@@ -69,7 +69,8 @@ fn tag(t: &[u32], rk: [u32; 32], h: U128, j0: [u32; 4], aad: &[u8], text: &[u8])
     requires { ⌜ Hashable (length (now aad)) × Hashable (length (now text)) ⌝ }
     ensures { λ r. ⌜ unwords r ≡ tagOf rk (value h) (unwords j0) (now (aad .entry)) (now (text .entry)) ⌝ }
 {
-    let hash = block::from_u128(ghash::galois_hash(h, aad, text));
+    let lanes = cipher::by_gates(t);
+    let hash = block::from_u128(ghash::galois_hash(h, lanes, aad, text));
     block::block_xor(cipher::encrypt(t, rk, j0), hash)
 }
 

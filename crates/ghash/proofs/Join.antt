@@ -29,7 +29,7 @@ module _ (h : ℕ) (hh : Element h) where
   ghash-lt bs = hashFrom-lt 0 bs (lit< tt)
 
   -- a start from y adds y times H to the block count
-  hashFrom-start : (bs : List ℕ) (y z : ℕ) → Element y → hashFrom h (y ⊕ z) bs ≡ gmul y (gpow h (length bs)) ⊕ hashFrom h z bs
+  pub hashFrom-start : (bs : List ℕ) (y z : ℕ) → Element y → hashFrom h (y ⊕ z) bs ≡ gmul y (gpow h (length bs)) ⊕ hashFrom h z bs
   unfolding hashFrom gpow
   hashFrom-start [] y z k = ap (λ (w : ℕ). w ⊕ z) (sym (gmul-one y k))
   hashFrom-start (b ∷ bs) y z k =

@@ -1,5 +1,6 @@
 // GCM's hash over bytes: `galois_hash` of libsm's `gcm.rs`, with the state by value and no padded copy.
 pub mod halves;
+mod interleaved;
 
 ghost use mathlib.Core.Path.{_≡_};
 ghost use mathlib.Core.List.{[], _∷_};
@@ -89,8 +90,8 @@ impl Ghash {
         self.step(b)
     }
 
-    // All of `bytes`, zeros to the last block's end.
-    pub fn absorb_all(self, bytes: &[u8]) -> Ghash
+    // All of `bytes`, zeros to the last block's end, block by block.
+    fn absorb_each(self, bytes: &[u8]) -> Ghash
         ensures { λ r. ⌜ Absorbed self (blocks (now (bytes .entry))) r ⌝ }
     {
         let n = block_count(bytes.len());
@@ -102,6 +103,22 @@ impl Ghash {
             i += 1;
         }
         state
+    }
+
+    // All of `bytes`, zeros to the last block's end. Where `lanes` is true, the full sets of 128 blocks of a text of two and more go
+    // in lanes, which pays from there on.
+    pub fn absorb_all(self, lanes: bool, bytes: &[u8]) -> Ghash
+        ensures { λ r. ⌜ Absorbed self (blocks (now (bytes .entry))) r ⌝ }
+    {
+        if !lanes {
+            return self.absorb_each(bytes);
+        }
+        if bytes.len() < 4096 {
+            return self.absorb_each(bytes);
+        }
+        let full = bytes.len() / 2048 * 2048;
+        let state = interleaved::absorb_lanes(self, &bytes[0..full]);
+        state.absorb_each(&bytes[full..])
     }
 
     // The length block: both lengths in bits, the label's first.
@@ -117,14 +134,14 @@ impl Ghash {
     }
 }
 
-// The hash of a label and a text, with their lengths.
-pub fn galois_hash(h: U128, label: &[u8], text: &[u8]) -> U128
+// The hash of a label and a text, with their lengths. `lanes` says whether long ones are hashed in lanes.
+pub fn galois_hash(h: U128, lanes: bool, label: &[u8], text: &[u8]) -> U128
     requires { ⌜ Hashable (length (now label)) × Hashable (length (now text)) ⌝ }
     ensures { λ r. ⌜ value r ≡ ghash (value h) (authBlocks (now (label .entry)) (now (text .entry))) ⌝ }
 {
     let start = Ghash::new(h);
-    let labelled = start.absorb_all(label);
-    let texted = labelled.absorb_all(text);
+    let labelled = start.absorb_all(lanes, label);
+    let texted = labelled.absorb_all(lanes, text);
     let end = texted.absorb_lengths(label.len(), text.len());
     end.y
 }

@@ -43,12 +43,16 @@ hostKeyRetire k =
     (record { «round_keys» = k .«round_keys»; answer = 0; number = k .number; retired = 1; engine = k .engine })
     k
 
--- the record with an engine: 1 is the four tables, and all else the plain one
+-- the mark of an engine: 1 is the four tables, 2 the gates, and all else the plain one
+abbrev pub engineMark : ℕ → ℕ
+engineMark e = cond (eqb e 1) 1 (cond (eqb e 2) 2 0)
+
+-- the record with an engine
 unfoldable pub hostKeyEngine : LuossavinKey → ℕ → LuossavinKey
 hostKeyEngine k e = record {
   «round_keys» = k .«round_keys»;
   answer = k .answer;
   number = k .number;
   retired = k .retired;
-  engine = cond (eqb e 1) 1 0;
+  engine = engineMark e;
 }

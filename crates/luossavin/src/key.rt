@@ -1,7 +1,7 @@
 // A key's record, as a host holds it. A host can put anything into one, and each value has its answer.
 ghost use mathlib.Core.Path.{_≡_};
 ghost use Rattle.cipher_mode.specs.Key.{keyHead};
-ghost use Rattle.luossavin.specs.Key.{keyAnswerOf, cipherIn, hostKeyNew, hostKeyRetire, hostKeyEngine};
+ghost use Rattle.luossavin.specs.Key.{keyAnswerOf, cipherIn, hostKeyNew, hostKeyRetire, engineMark, hostKeyEngine};
 use cipher_mode::KeyAnswer;
 use cipher_mode::Sm4Cipher;
 
@@ -86,7 +86,20 @@ pub extern "C" fn luossavin_key_retire(key: LuossavinKey) -> LuossavinKey
     }
 }
 
-// The record with an engine: 1 is the four tables, and all else the plain engine. Nothing else of it changes.
+// The mark of an engine: 1 is the four tables, 2 the gates, and all else the plain engine.
+fn mark_of(engine: u32) -> u8
+    ensures { λ r. ⌜ r ≡ engineMark engine ⌝ }
+{
+    if engine == 1 {
+        return 1;
+    }
+    if engine == 2 {
+        return 2;
+    }
+    0
+}
+
+// The record with an engine. Nothing else of it changes.
 #[no_mangle]
 pub extern "C" fn luossavin_key_engine(key: LuossavinKey, engine: u32) -> LuossavinKey
     ensures { λ r. ⌜ r ≡ hostKeyEngine key engine ⌝ }
@@ -97,6 +110,6 @@ pub extern "C" fn luossavin_key_engine(key: LuossavinKey, engine: u32) -> Luossa
         answer: key.answer,
         number: key.number,
         retired: key.retired,
-        engine: (engine == 1) as u8,
+        engine: mark_of(engine),
     }
 }

@@ -69,7 +69,7 @@ pub fn start(direction: Direction, cipher: Sm4Cipher, iv: &[u8]) -> CtrStep
     }
     let t = cipher::plain();
     let rk = cipher.rk;
-    let flow = flow::begin(&t, rk, block::split_block(iv));
+    let flow = flow::begin(cipher::lent(cipher.engine, &t), rk, block::split_block(iv));
     let first = flow.counter;
     let state = Ctr {
         rk,

@@ -163,5 +163,5 @@ pub(crate) fn run_by(
         return run(&t, rk, counting, flow, p, data, out);
     }
     let t = cipher::plain();
-    run(&t, rk, counting, flow, p, data, out)
+    run(cipher::lent(engine, &t), rk, counting, flow, p, data, out)
 }

@@ -71,8 +71,8 @@ fn filled(held: [u8; 16], p: usize, data: &[u8]) -> [u8; 16]
 }
 
 // `data` behind the p bytes that are held. The first block is theirs both; the full blocks behind it go through the hash as
-// they stand, and the last bytes are held.
-pub(crate) fn take_in(g: Hashing, p: usize, data: &[u8]) -> Hashing
+// they stand, where there are many in lanes if that is asked for, and the last bytes are held.
+pub(crate) fn take_in(g: Hashing, lanes: bool, p: usize, data: &[u8]) -> Hashing
     requires { ⌜ p < 16 ⌝ }
     ensures { λ r. ⌜ r ≡ hashNext g p (now («data» .entry)) ⌝ }
 {
@@ -84,11 +84,11 @@ pub(crate) fn take_in(g: Hashing, p: usize, data: &[u8]) -> Hashing
     if data.len() < m {
         return Hashing { h, y, held: first };
     }
-    full_blocks(h, y, first, &data[m..])
+    full_blocks(h, y, lanes, first, &data[m..])
 }
 
 // A full block and then `rest`, of which the last bytes are held.
-fn full_blocks(h: [u8; 16], y: [u8; 16], first: [u8; 16], rest: &[u8]) -> Hashing
+fn full_blocks(h: [u8; 16], y: [u8; 16], lanes: bool, first: [u8; 16], rest: &[u8]) -> Hashing
     ensures { λ r. ⌜ r ≡ hashAfter h y (first ++ now (rest .entry)) ⌝ }
 {
     let n = rest.len() - rest.len() % 16;
@@ -96,8 +96,8 @@ fn full_blocks(h: [u8; 16], y: [u8; 16], first: [u8; 16], rest: &[u8]) -> Hashin
         h: number_of(h),
         y: number_of(y),
     };
-    let begun = start.absorb_all(&first);
-    let end = begun.absorb_all(&rest[0..n]);
+    let begun = start.absorb_all(false, &first);
+    let end = begun.absorb_all(lanes, &rest[0..n]);
     let last = end.y;
     Hashing {
         h,
@@ -119,19 +119,20 @@ pub(crate) fn end(g: Hashing, p: usize, label: usize, text: usize) -> [u8; 16]
         h: number_of(h),
         y: number_of(y),
     };
-    let all = start.absorb_all(&held[0..p]);
+    let all = start.absorb_all(false, &held[0..p]);
     let last = all.absorb_lengths(label, text);
     bytes_of(last.y)
 }
 
-// The hash behind a label, where g is that of a text alone, of which so many full blocks are hashed.
+// The hash behind a label, where g is that of a text alone, of which so many full blocks are hashed. A state of this kind has no mark
+// of an engine, so a long label goes in lanes in any case.
 pub(crate) fn behind(g: Hashing, label: &[u8], blocks: u64) -> Hashing
     ensures { λ r. ⌜ r ≡ hashBehind g (now (label .entry)) «blocks» ⌝ }
 {
     let h = g.h;
     let y = g.y;
     let held = g.held;
-    let first = halves::hash_blocks(number_of(h), label);
+    let first = halves::hash_blocks(number_of(h), true, label);
     let both = halves::join(number_of(h), first, number_of(y), blocks);
     Hashing {
         h,
@@ -141,11 +142,11 @@ pub(crate) fn behind(g: Hashing, label: &[u8], blocks: u64) -> Hashing
 }
 
 // The hash before the first byte of a text, under H: that of the label's blocks.
-pub(crate) fn begin(h: U128, label: &[u8]) -> Hashing
+pub(crate) fn begin(h: U128, lanes: bool, label: &[u8]) -> Hashing
     ensures { λ r. ⌜ r ≡ hashOf (value h) (now (label .entry)) [] ⌝ }
 {
     let start = Ghash::new(h);
-    let labelled = start.absorb_all(label);
+    let labelled = start.absorb_all(lanes, label);
     let y = labelled.y;
     Hashing {
         h: bytes_of(h),

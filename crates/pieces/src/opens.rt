@@ -66,7 +66,7 @@ pub fn start(cipher: Sm4Cipher, aad: &[u8], iv: &[u8]) -> OpensStep
     }
     let t = cipher::plain();
     let rk = cipher.rk;
-    let begun = tagging::begin(&t, rk, aad, iv);
+    let begun = tagging::begin(cipher::lent(cipher.engine, &t), rk, aad, iv);
     let hashing = begun.hashing;
     let mask = begun.mask;
     let state = Opens {
@@ -95,7 +95,7 @@ fn same_tag(tag: &[u8], mask: [u8; 16], hash: [u8; 16]) -> bool
 }
 
 impl Opens {
-    // A piece of the ciphertext.
+    // A piece of the ciphertext. The state has no mark of an engine, so a long piece is hashed in lanes in any case.
     pub fn piece(self, data: &[u8]) -> OpensStep
         ensures { λ r. ⌜ opensStepped r [] ≡ opensPiece self (now («data» .entry)) ⌝ }
     {
@@ -113,7 +113,7 @@ impl Opens {
         let begun = self.hashing;
         let mask = self.mask;
         let state = Opens {
-            hashing: hashing::take_in(begun, total % 16, data),
+            hashing: hashing::take_in(begun, true, total % 16, data),
             mask,
             label,
             total: total + n,

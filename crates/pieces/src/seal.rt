@@ -70,15 +70,16 @@ pub fn start(cipher: Sm4Cipher, aad: &[u8], iv: &[u8]) -> SealStep
         };
     }
     let t = cipher::plain();
+    let lent = cipher::lent(cipher.engine, &t);
     let rk = cipher.rk;
-    let begun = tagging::begin(&t, rk, aad, iv);
+    let begun = tagging::begin(lent, rk, aad, iv);
     let j0 = begun.j0;
     let hashing = begun.hashing;
     let mask = begun.mask;
     let first = counter::gcm_block_add_one(j0).counter;
     let state = Seal {
         rk,
-        flow: flow::begin(&t, rk, first),
+        flow: flow::begin(lent, rk, first),
         hashing,
         mask,
         label: aad.len(),
@@ -119,7 +120,7 @@ impl Seal {
         let state = Seal {
             rk,
             flow: next,
-            hashing: hashing::take_in(begun, total % 16, &out[0..n]),
+            hashing: hashing::take_in(begun, engine == cipher::GATES, total % 16, &out[0..n]),
             mask,
             label,
             total: total + n,

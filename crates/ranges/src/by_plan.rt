@@ -65,7 +65,7 @@ fn pieces_by(engine: u8, rk: [u32; 32], iv: &[u8], plan: Plan, data: &[u8], out:
         return;
     }
     let t = cipher::plain();
-    put_pieces(&t, rk, iv, plan, data, out);
+    put_pieces(cipher::lent(engine, &t), rk, iv, plan, data, out);
 }
 
 // A message in Ctr, either way, to the front of `out`, by a plan: the single call's bytes, whoever made the plan.

@@ -73,7 +73,7 @@ fn stretch_by(engine: u8, rk: [u32; 32], iv: &[u8], offset: usize, data: &[u8], 
         return;
     }
     let t = cipher::plain();
-    put_stretch(&t, rk, iv, offset, data, out);
+    put_stretch(cipher::lent(engine, &t), rk, iv, offset, data, out);
 }
 
 // A stretch of a message in Ctr, either way, to the front of `out`: xored with that part of the key stream.

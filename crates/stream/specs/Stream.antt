@@ -2,6 +2,7 @@
 -- SP 800-38A, and GCTR of SP 800-38D. A short rest is xored with the front of the cipher's output; SP 800-38A leaves Cfb
 -- open there, and libsm does it so.
 use Prim.Native.Nat.{ℕ}
+use mathlib.Core.Bool.{Bool, true, false}
 use mathlib.Core.List.{List}
 use Rattle.block.specs.Xor.{xors}
 use Rattle.cipher.specs.Sm4.{encryptBlock}
@@ -33,3 +34,8 @@ opener CfbDecrypt = CfbEncrypt
 opener Ofb = Ofb
 opener Ctr = Ctr
 opener Gctr = Gctr
+
+-- the kinds whose states are counters: of all sixteen bytes, or of the last four
+abbrev pub counting : Bool → Kind
+counting true = Ctr
+counting false = Gctr

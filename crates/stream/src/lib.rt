@@ -1,5 +1,7 @@
 // The modes of libsm's `cipher_mode.rs` that xor a message with the cipher of a state: `cfb_encrypt`, `cfb_decrypt`,
 // `ofb_encrypt`, `ctr_encrypt`, and `galois_ctr` of Gcm. They differ in the next state alone, so one loop serves all.
+mod batches;
+
 ghost use mathlib.Core.Path.{_≡_};
 ghost use mathlib.Core.List.{_++_};
 ghost use Prim.Native.Nat.{_<_, _≤_};
@@ -34,7 +36,14 @@ fn state_after(kind: Kind, s: [u32; 4], e: [u32; 4], b: [u32; 4], c: [u32; 4]) -
 }
 
 // The block at the front of `data`, to the front of `out`. Returns the next state.
-fn step(t: &[u32], rk: [u32; 32], kind: Kind, s: [u32; 4], data: &[u8], out: &mut [u8]) -> [u32; 4]
+pub(crate) fn step(
+    t: &[u32],
+    rk: [u32; 32],
+    kind: Kind,
+    s: [u32; 4],
+    data: &[u8],
+    out: &mut [u8],
+) -> [u32; 4]
     requires { ⌜ Engine (now t) ⌝ }
     requires { ⌜ 16 ≤ length (now «data») ⌝ }
     requires { ⌜ 16 ≤ length (now out) ⌝ }
@@ -87,8 +96,9 @@ pub fn stream(
     ensures { λ r. ⌜ r .pad ≡ encryptBlock rk (endState (streamMode kind rk) (unwords iv) (now («data» .entry))) ⌝ }
     ensures { λ _. ⌜ now (out .exit) ≡ over (chain (streamMode kind rk) (unwords iv) (now («data» .entry))) (now (out .entry)) ⌝ }
 {
-    let mut s = iv;
-    let mut at: usize = 0;
+    let begun = batches::run(t, rk, kind, iv, data, out);
+    let mut s = begun.state;
+    let mut at = begun.at;
     while 16 <= data.len() - at {
         let next = step(t, rk, kind, s, &data[at..], &mut out[at..]);
         s = next;

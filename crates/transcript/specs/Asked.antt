@@ -30,8 +30,8 @@ directionOf ShelfList decrypt = Decrypt
 directionOf Replay decrypt = Decrypt
 directionOf Unknown decrypt = Decrypt
 
--- a key with the number that was said for it, on the four tables, and retired where that was said too
+-- a key with the number that was said for it, on the gates, and retired where that was said too
 abbrev pub cipherOf : List ℕ → ℕ → Bool → Sm4Cipher
 cipherOf key number retired =
-    let c = withEngine 1 (newCipher key number) in
+    let c = withEngine 2 (newCipher key number) in
     cond retired (retire c) c

@@ -452,11 +452,11 @@ fn direction_of(asked: Asked) -> Direction
     }
 }
 
-// The key with its number, on the four tables, and retired where that was said.
+// The key with its number, on the gates, and retired where that was said.
 fn cipher_of(asked: Asked, key: &[u8]) -> Sm4Cipher
     ensures { λ r. ⌜ r ≡ cipherOf (now (key .entry)) (asked .number) (asked .retired) ⌝ }
 {
-    let cipher = Sm4Cipher::new(key, asked.number).with_engine(cipher::FOUR_TABLES);
+    let cipher = Sm4Cipher::new(key, asked.number).with_engine(cipher::GATES);
     if asked.retired {
         return cipher.retire();
     }

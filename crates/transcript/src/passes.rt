@@ -15,7 +15,9 @@ use cli::output;
 use cli::output::Output;
 use cli::say;
 use portions::work;
+use portions::work::Task;
 use portions::work::Work;
+use stream::Kind;
 use typed::things::IN;
 
 // A pass on its way: how many bytes have been read, and how many of them wait at the front of the buffer for what follows. It
@@ -181,11 +183,33 @@ fn close(asked: Asked, t: &[u32], pass: Pass, news: News, rest: &[u8], out: &mut
     }
 }
 
-// A pass over IN, of `most` bytes at most.
-fn walk(asked: Asked, source: Source, most: usize, first: Pass, seen: bool) -> Pass
+// The engine that takes the fewest instructions: the gates where the blocks of a portion do not wait for one another, and otherwise the
+// four tables.
+fn engine_of(task: Task) -> u8 {
+    match task {
+        Task::Seal => cipher::GATES,
+        Task::GcmSettle => cipher::GATES,
+        Task::GcmText => cipher::GATES,
+        Task::Ctr => cipher::GATES,
+        Task::Range => cipher::GATES,
+        Task::Stream(kind) => match kind {
+            Kind::CfbEncrypt => cipher::FOUR_TABLES,
+            Kind::CfbDecrypt => cipher::GATES,
+            Kind::Ofb => cipher::FOUR_TABLES,
+            Kind::Ctr => cipher::GATES,
+            Kind::Gctr => cipher::GATES,
+        },
+        Task::CbcSeal => cipher::FOUR_TABLES,
+        Task::CbcSettle => cipher::GATES,
+        Task::CbcText => cipher::GATES,
+    }
+}
+
+// A pass over IN, of `most` bytes at most, on the engine that is lent.
+fn walk_by(asked: Asked, t: &[u32], source: Source, most: usize, first: Pass, seen: bool) -> Pass
+    requires { ⌜ Engine (now t) ⌝ }
     requires { ⌜ first .waiting ≡ 0 ⌝ }
 {
-    let t = cipher::mixed::tables();
     let mut data = io::large_buffer();
     let mut out = io::large_buffer();
     let mut pass = first;
@@ -197,16 +221,27 @@ fn walk(asked: Asked, source: Source, most: usize, first: Pass, seen: bool) -> P
         let news = fetched.news;
         if n == 0 {
             pass.read = read;
-            return close(asked, &t, pass, news, &data[0..waiting], &mut out);
+            return close(asked, t, pass, news, &data[0..waiting], &mut out);
         }
         if seen {
             show(read, read + n, source.size);
         }
         read += n;
-        let next = turn(asked, &t, pass, waiting + n, &mut data, &mut out);
+        let next = turn(asked, t, pass, waiting + n, &mut data, &mut out);
         pass = next;
     }
     pass
+}
+
+// The same on the engine of its task.
+fn walk(asked: Asked, source: Source, most: usize, first: Pass, seen: bool) -> Pass
+    requires { ⌜ first .waiting ≡ 0 ⌝ }
+{
+    let tables = cipher::mixed::tables();
+    let work = first.work;
+    let task = work.task;
+    let t = cipher::lent(engine_of(task), &tables);
+    walk_by(asked, t, source, most, first, seen)
 }
 
 const MIB: usize = 1048576;

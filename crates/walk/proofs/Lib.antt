@@ -3,3 +3,4 @@ pub mod Cut
 pub mod Undo
 pub mod Loop
 pub mod Fill
+pub mod Batch

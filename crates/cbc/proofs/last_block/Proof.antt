@@ -20,14 +20,14 @@ use Rattle.cbc.proofs.last_block.Tie as tie
 returns : tie.Need-returns
 returns c =
     let at-xor = c .before in
-    let at-before-last = at-xor .before in
-    let at-encrypt = at-before-last .before in
+    let at-before = at-xor .before in
+    let at-encrypt = at-before .before in
     let at-split = at-encrypt .before in
     let at-data = at-split .before .before in
     let S = at-data .before .before in
     let a = S .args in
     let d = now (a .«data») in
-    let chained = at-before-last .before-last in
+    let chained = at-before .block-before in
     let four : length (chained .result) ≡ 4 = search (needs, chained) in
     let small : (i : ℕ) → getD d i 0 < 256 = λ i. omega (arith, at-data .shared-slice-known2 .given i) in
     let words-of-last = words (tailed (length d - 16) d) in

@@ -18,7 +18,7 @@ returns c =
     let at-encrypt = c .before in
     let at-words = at-encrypt .before in
     let at-hash = at-words .before in
-    let S = at-hash .before .before .before .before in
+    let S = at-hash .before .before .before .before .before in
     let a = S .args in
     let counter = S .good .1 .1 .1 .0 in
     let four : length (a .j0) ≡ 4 = search (needs, counter) in
@@ -29,4 +29,4 @@ returns c =
 pub tag-spec : {M : Type 1} → statement M
 tag-spec =
     tie.close
-    (tie.spec (λ c κs. search needs) (λ c κs. search needs) (λ c κs. search needs) (λ c κs. search needs) returns)
+    (tie.spec (λ c κs. search needs) (λ c κs. search needs) (λ c κs. search needs) (λ c κs. search needs) (λ c κs. search needs) returns)

@@ -1,37 +1,26 @@
--- `ghash::Ghash::absorb_all` meets its contract. The loop's invariant: to go on from `state` over the blocks behind the first i gives
--- what all blocks give from the start (`Walked`). A turn takes in the block that comes next (`walk-on`), and after the last none is left
--- (`walk-end`). The measure is how many are to come.
+-- `ghash::Ghash::absorb_all` meets its contract: the full sets of 128 blocks, taken in in lanes, and the rest, block by block, are all
+-- blocks (`absorbed-cut`).
 -- Assumes nothing.
-use mathlib.Core.Path.{_≡_}
-use Prim.Native.Nat.{_≤_, _+_, _-_, _*_}
-use native.Mathlib.Omega.{arith}
 use borrow.Author.Needs.{needs}
+use Prim.Native.Nat.{_*_, _/_}
+use native.Mathlib.Omega.{arith}
 use lib.ListN.{length}
-use Rattle.ghash.proofs.Absorbing.{Walked, walk-start, walk-on, walk-end}
+use Rattle.ghash.proofs.Absorbing.{absorbed-cut}
 use Rattle.ghash.proofs.Ghash.absorb_all.Statement.{statement}
 use Rattle.ghash.proofs.Ghash.absorb_all.Tie as tie
 
-abbrev Inv-loop : tie.InvT-loop
-Inv-loop bytes n state₀ i₀ state i = (i ≤ n) × Walked state₀ bytes state (16 * i)
-
-abbrev μ-loop : tie.MeasureT-loop
-μ-loop bytes n state₀ i₀ state i = n - i
-
-loop-holds : tie.Need-loop-holds Inv-loop μ-loop
-loop-holds c = (omega arith, walk-start _ _)
-
-loop-again : tie.Need-loop-again Inv-loop μ-loop
-loop-again c =
-    let turn = c .before .before .before .loop in
-    let next : 16 * (turn .i + 1) ≡ 16 * turn .i + 16 = omega arith in
-    (omega arith, rw next (walk-on _ _ _ _ (turn .inv .1) (omega arith) _ (c .absorb .ensures)))
-
-returns : tie.Need-returns Inv-loop μ-loop
-returns c = walk-end _ _ _ _ (c .before .loop .inv .1) (omega arith)
+returns-3 : tie.Need-returns-3
+returns-3 c =
+    let at-lanes = c .before .before in
+    let S = at-lanes .before .before .before .before .before in
+    let n = length (S .args .bytes .now) in
+    absorbed-cut _ _ _ (S .args .bytes .now) (n / 2048 * 2048) (n / 2048 * 128) (omega arith) (omega arith)
+    (at-lanes .absorb-lanes .ensures) (c .absorb-each3 .ensures)
 
 pub absorb-all-spec : {M : Type 1} → statement M
 absorb-all-spec =
     tie.close
     (tie.spec
-    Inv-loop μ-loop (λ c κs. search needs) loop-holds (λ c. search needs) (λ c. search needs) (λ c. search needs) (λ c. search needs)
-    (λ c κs. search needs) (λ c. search needs) (λ c. search needs) loop-again returns)
+    (λ c κs. search needs) (λ c. search needs) (λ c κs. search needs) (λ c. search needs) (λ c. search needs) (λ c. search needs)
+    (λ c. search needs) (λ c. search needs) (λ c κs. search needs) (λ c. search needs) (λ c. search needs) (λ c. search needs)
+    (λ c κs. search needs) returns-3)

@@ -39,18 +39,18 @@ returns c =
 
 begin-requires : tie.Need-begin-requires
 begin-requires c κs =
-    let at-plain = c .before .before in
-    let told = at-plain .before in
+    let at-lent = c .before in
+    let told = at-lent .before .before .before in
     let in-order = starting-passed _ _ _ _ _ (sym (told .before .before .gcm-start .ensures) ∙ told .enum-told .given .1) in
-    (at-plain .plain .ensures, iv-twelve-or-sixteen _ (in-order .taken))
+    (at-lent .lent .ensures, iv-twelve-or-sixteen _ (in-order .taken))
 
 returns-2 : tie.Need-returns-2
 unfolding sealStart sealAfter
 returns-2 c =
     let at-flow = c .before in
-    let at-next = at-flow .before .before .before in
+    let at-next = at-flow .before .before in
     let at-begin = at-next .before .before .before .before in
-    let told = at-begin .before .before .before .before in
+    let told = at-begin .before .before .before .before .before in
     let at-check = told .before .before in
     let at-number = at-check .before in
     let a = at-number .before .before .before .args in
@@ -72,5 +72,5 @@ start-spec =
     tie.close
     (tie.spec
     (λ c κs. search needs) (λ c κs. search needs) (λ c. search needs) (λ c κs. search needs) (λ c κs. search needs)
-    (λ c κs. search needs) returns (λ c. search needs) (λ c κs. search needs) (λ c. search needs) begin-requires
-    (λ c κs. search needs) (λ c. search needs) (λ c κs. search needs) (λ c κs. search needs) returns-2)
+    (λ c κs. search needs) returns (λ c. search needs) (λ c κs. search needs) (λ c. search needs) (λ c κs. search needs) begin-requires
+    (λ c κs. search needs) (λ c κs. search needs) (λ c κs. search needs) returns-2)

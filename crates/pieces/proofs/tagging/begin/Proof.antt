@@ -4,7 +4,6 @@
 use mathlib.Core.Path.{sym, ap, _∙_}
 use mathlib.Core.List.{[]}
 use Prim.Native.Nat.{ℕ}
-use native.Mathlib.Omega.{arith}
 use mir.Val.{Fits}
 use mir.Syntax.{w32}
 use denote.Ref.{now}
@@ -24,7 +23,7 @@ first-counter-requires c κs = c .before .before .before .before .pre .1
 returns : tie.Need-returns
 returns c =
     let at-begin = c .before in
-    let at-counter = at-begin .before in
+    let at-counter = at-begin .before .before in
     let at-key = at-counter .before in
     let a = at-key .before .before .before .before .args in
     let h = at-key .hash-key .ensures in
@@ -42,4 +41,5 @@ pub begin-spec : {M : Type 1} → statement M
 begin-spec =
     tie.close
     (tie.spec
-    (λ c κs. search needs) first-counter-requires (λ c. search needs) (λ c κs. search needs) (λ c κs. search needs) returns)
+    (λ c κs. search needs) first-counter-requires (λ c. search needs) (λ c κs. search needs) (λ c κs. search needs)
+    (λ c κs. search needs) returns)

@@ -1,0 +1,93 @@
+-- The four bytes of a word in lanes 0, 8, 16 and 24 of eight words: how they are laid there, and how they are read off.
+-- Assumes nothing.
+use mathlib.Core.Path.{_≡_, refl, sym, ap, _∙_}
+use mathlib.Core.List.{List, [], _∷_}
+use Prim.Native.Nat.{ℕ, zero, suc, _+_, _*_, _/_, _%_, _^_, _<_}
+use native.Mathlib.Nat.{div-one, mod-lt, mod-eq-of-lt, add-comm}
+use native.Mathlib.Omega.{arith}
+use lib.Dec.{lit<}
+use lib.Pow.{split, pow-pos, shr-shr}
+use lib.Bits.{bitAnd, and-block, and-mask, and-le-r, and-zero-r}
+use lib.ListN.{getD}
+use Rattle.lanes.specs.Bits.{bit, pack, byteLane}
+use Rattle.lanes.proofs.Bits.{bit-small, bit-mod, bit-shr, pack-lt, pack-is}
+use Rattle.cipher.specs.Sm4.{Sbox, tau}
+use Rattle.cipher.specs.Gates.{SboxLanes, fourLanes, fourBytes}
+use Rattle.cipher.proofs.FourTables.{tau-bytes}
+
+-- a mask whose lowest byte is 1
+mask-byte : (x m : ℕ) → bitAnd x (m * 2 ^ 8 + 1) ≡ bitAnd (x / 2 ^ 8) m * 2 ^ 8 + x % 2
+mask-byte x m =
+    let low : bitAnd (x % 2 ^ 8) 1 ≡ x % 2 = and-mask (x % 2 ^ 8) 1 ∙ omega arith in
+    ap (λ (y : ℕ). bitAnd y (m * 2 ^ 8 + 1)) (sym (split x 8))
+    ∙ and-block 8 (x / 2 ^ 8) m (x % 2 ^ 8) 1 (mod-lt x (pow-pos 8)) (lit< tt)
+    ∙ ap (λ (y : ℕ). bitAnd (x / 2 ^ 8) m * 2 ^ 8 + y) low
+
+mask-more : (x m k : ℕ) → bitAnd (x / 2 ^ k) (m * 2 ^ 8 + 1) ≡ bitAnd (x / 2 ^ (k + 8)) m * 2 ^ 8 + bit k x
+unfolding bit
+mask-more x m k = mask-byte (x / 2 ^ k) m ∙ ap (λ (y : ℕ). bitAnd y m * 2 ^ 8 + x / 2 ^ k % 2) (shr-shr x k 8)
+
+pub masked-lanes : (x : ℕ) → bitAnd x 0x01010101 ≡ fourLanes x
+masked-lanes x =
+    let e0 = mask-more x 0x010101 0 in
+    let e1 = mask-more x 0x0101 8 in
+    let e2 = mask-more x 1 16 in
+    let e3 = mask-more x 0 24 in
+    let e4 = and-zero-r (x / 2 ^ 32) in
+    ap (λ (y : ℕ). bitAnd y 0x01010101) (sym (div-one x)) ∙ omega arith
+
+pub masked-lt : (x : ℕ) → bitAnd x 0x01010101 < 2 ^ 25
+masked-lt x = omega (arith, and-le-r x 0x01010101)
+
+lane-lt : (o : List ℕ) (n : ℕ) → byteLane o n < 2 ^ 8
+unfolding byteLane
+lane-lt o n = pack-lt 8 _ (λ i. bit-small n (getD o i 0))
+
+-- eight words, each doubled onto the one before
+abbrev pub doubled : (ℕ → ℕ) → ℕ
+doubled f = ((((((f 7 * 2 + f 6) * 2 + f 5) * 2 + f 4) * 2 + f 3) * 2 + f 2) * 2 + f 1) * 2 + f 0
+
+-- masked, they are the four bytes of their lanes
+joined : (o : List ℕ) → doubled (λ i. fourLanes (getD o i 0)) ≡ fourBytes o
+unfolding pack byteLane
+joined o = omega arith
+
+pub lanes-joined : (o : List ℕ) → doubled (λ i. fourLanes (getD o i 0)) % 2 ^ 32 ≡ fourBytes o
+lanes-joined o =
+    let h0 = lane-lt o 0 in
+    let h1 = lane-lt o 8 in
+    let h2 = lane-lt o 16 in
+    let h3 = lane-lt o 24 in
+    ap (λ (x : ℕ). x % 2 ^ 32) (joined o) ∙ mod-eq-of-lt (omega arith)
+
+-- a word shifted by 0 to 7
+abbrev pub shifted : ℕ → List ℕ
+shifted w = w ∷ w / 2 ^ 1 ∷ w / 2 ^ 2 ∷ w / 2 ^ 3 ∷ w / 2 ^ 4 ∷ w / 2 ^ 5 ∷ w / 2 ^ 6 ∷ w / 2 ^ 7 ∷ []
+
+shifted-at : (w i : ℕ) → i < 8 → getD (shifted w) i 0 ≡ w / 2 ^ i
+shifted-at w zero h = sym (div-one w)
+shifted-at w (suc zero) h = refl
+shifted-at w (suc (suc zero)) h = refl
+shifted-at w (suc (suc (suc zero))) h = refl
+shifted-at w (suc (suc (suc (suc zero)))) h = refl
+shifted-at w (suc (suc (suc (suc (suc zero))))) h = refl
+shifted-at w (suc (suc (suc (suc (suc (suc zero)))))) h = refl
+shifted-at w (suc (suc (suc (suc (suc (suc (suc zero))))))) h = refl
+shifted-at w (suc (suc (suc (suc (suc (suc (suc (suc i)))))))) h = absurd (omega arith)
+
+-- has in lane n the byte that starts at bit n
+shifted-lane : (w n : ℕ) → byteLane (shifted w) n ≡ w / 2 ^ n % 2 ^ 8
+unfolding byteLane
+shifted-lane w n =
+    pack-is 8 (λ i. bit n (getD (shifted w) i 0)) (w / 2 ^ n % 2 ^ 8) (λ i. bit-small n (getD (shifted w) i 0)) (mod-lt _ (pow-pos 8))
+    (λ i h.
+    ap (bit n) (shifted-at w i h) ∙ bit-shr i n w ∙ ap (λ (k : ℕ). bit k w) (add-comm i n)
+    ∙ sym (bit-mod 8 i (w / 2 ^ n) h ∙ bit-shr n i w))
+
+-- tau by the S-box in lanes
+pub tau-lanes : (w : ℕ) (r : List ℕ) → w < 2 ^ 32 → SboxLanes (shifted w) r → fourBytes r ≡ tau w
+tau-lanes w r h s =
+    let e : (n : ℕ) → n < 64 → byteLane r n ≡ Sbox (w / 2 ^ n % 2 ^ 8) = λ n g. s n g ∙ ap Sbox (shifted-lane w n) in
+    let top : w / 2 ^ 24 % 2 ^ 8 ≡ w / 2 ^ 24 = omega arith in
+    let first : w / 2 ^ 0 % 2 ^ 8 ≡ w % 2 ^ 8 = omega arith in
+    rw (e 24 (lit< tt), e 16 (lit< tt), e 8 (lit< tt), e 0 (lit< tt), top, first) (sym (tau-bytes w h))

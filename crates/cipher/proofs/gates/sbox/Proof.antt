@@ -1,0 +1,18 @@
+-- `cipher::gates::sbox` meets its contract: the code's gates are the circuit's, by computing, and the circuit is the S-box in every
+-- lane (`circuit-lanes`).
+-- Assumes nothing.
+use borrow.Author.Needs.{needs}
+use Rattle.cipher.proofs.Circuit.{circuit, circuit-lanes}
+use Rattle.cipher.proofs.gates.sbox.Statement.{statement}
+use Rattle.cipher.proofs.gates.sbox.Tie as tie
+
+returns : tie.Need-returns
+unfolding circuit
+returns c = circuit-lanes (c .args .t1)
+
+pub sbox-spec : {M : Type 1} → statement M
+sbox-spec =
+    tie.close
+    (tie.spec
+    (λ c. search needs) (λ c. search needs) (λ c. search needs) (λ c. search needs) (λ c. search needs)
+    (λ c. search needs) (λ c. search needs) (λ c. search needs) returns)

@@ -1,0 +1,5 @@
+pub mod Turns
+pub mod Digits
+pub mod Six
+pub mod Standing
+pub mod Storing

@@ -1,0 +1,131 @@
+-- The bytes of blocks in rows, stored one after the other.
+-- Assumes nothing.
+use mathlib.Core.Path.{_≡_, refl, sym, ap, ap₂, _∙_}
+use mathlib.Core.List.{List, [], _∷_, _++_, append-assoc}
+use Prim.Native.Nat.{ℕ, suc, _+_, _*_, _/_, _%_, _^_, _<_, _≤_}
+use native.Mathlib.Nat.{add-zero, div-one}
+use native.Mathlib.Omega.{arith}
+use lib.Dec.{lit<}
+use lib.ListN.{length, getD, set, take, drop, length-append, length-drop}
+use lib.Seq.{sets, sets-eq, take-at, drop-at, drop-drop, length-take-le}
+use Rattle.block.specs.Below.{AreBytes}
+use Rattle.block.specs.BigEndian.{bytesOf}
+use Rattle.block.specs.Blocks.{blockAt, cat}
+use Rattle.block.specs.Words.{words, unwords}
+use Rattle.block.specs.Xor.{_⊕_, xors}
+use Rattle.block.proofs.Cat.{cat-same, cat-next, length-cat}
+use Rattle.block.proofs.Convert.{length-bytesOf, bytesOf-append, bytesOf-xor}
+use Rattle.block.proofs.Entries.{below-at}
+use Rattle.block.proofs.WordsBack.{unwords-front}
+use Rattle.block.proofs.Xors.{length-xors, xors-append}
+use Rattle.rows.specs.Rows.{place, Row, Rows, xoredBlocks}
+
+-- stores at p + k, p + k + 1 and so on, as the code writes them
+abbrev storesFrom : List ℕ → ℕ → ℕ → List ℕ → List ℕ
+storesFrom s p k [] = s
+storesFrom s p k (v ∷ vs) = storesFrom (set s (p + k) v) p (k + 1) vs
+
+stores-sets : (vs s : List ℕ) (p k : ℕ) → storesFrom s p k vs ≡ sets s (p + k) vs
+stores-sets [] s p k = refl
+stores-sets (v ∷ vs) s p k =
+    let e : p + (k + 1) ≡ suc (p + k) = omega arith in
+    stores-sets vs (set s (p + k) v) p (k + 1) ∙ ap (λ (x : ℕ). sets (set s (p + k) v) x vs) e
+
+-- the bytes of a half behind its first one, as the code takes them out
+abbrev bytesBehind : ℕ → List ℕ
+bytesBehind x =
+    x / 2 ^ 48 % 256 ∷ x / 2 ^ 40 % 256 ∷ x / 2 ^ 32 % 256 ∷ x / 2 ^ 24 % 256 ∷ x / 2 ^ 16 % 256 ∷ x / 2 ^ 8 % 256 ∷ x % 256 ∷ []
+
+eight-bytes : (x : ℕ) → x / 2 ^ 56 % 256 ∷ bytesBehind x ≡ bytesOf 8 x
+unfolding bytesOf
+eight-bytes x = simp div-one
+
+pub half-stored : (o : List ℕ) (p x : ℕ) → p + 8 ≤ length o
+    → storesFrom (set o p (x / 2 ^ 56 % 256)) p 1 (bytesBehind x) ≡ take p o ++ (bytesOf 8 x ++ drop (p + 8) o)
+half-stored o p x h =
+    let z : p + 0 ≡ p = add-zero p in
+    let v = x / 2 ^ 56 % 256 ∷ bytesBehind x in
+    ap (λ (q : ℕ). storesFrom (set o q (x / 2 ^ 56 % 256)) p 1 (bytesBehind x)) (sym z)
+    ∙ stores-sets v o p 0
+    ∙ ap (λ (q : ℕ). sets o q v) z
+    ∙ sets-eq v o p h
+    ∙ append-assoc (take p o) v (drop (p + 8) o)
+    ∙ ap (λ (l : List ℕ). take p o ++ (l ++ drop (p + 8) o)) (eight-bytes x)
+
+-- the halves of a block have its bytes
+row-bytes : (x : List ℕ) (hi lo : ℕ) → Row x hi lo → bytesOf 8 hi ++ bytesOf 8 lo ≡ unwords x
+unfolding unwords
+row-bytes x hi lo r =
+    let b = below-at (2 ^ 32) x (lit< tt) (r .small) in
+    let two : (i k : ℕ) → bytesOf 8 (getD x i 0 * 2 ^ 32 + getD x k 0) ≡ bytesOf 4 (getD x i 0) ++ bytesOf 4 (getD x k 0) =
+    λ i k. bytesOf-append 4 4 (getD x i 0) (getD x k 0) (b k) in
+    ap₂ (λ (u v : ℕ). bytesOf 8 u ++ bytesOf 8 v) (r .high) (r .low)
+    ∙ ap₂ (λ (u v : List ℕ). u ++ v) (two 0 1) (two 2 3)
+    ∙ append-assoc (bytesOf 4 (getD x 0 0)) (bytesOf 4 (getD x 1 0)) (bytesOf 4 (getD x 2 0) ++ bytesOf 4 (getD x 3 0))
+
+-- halves xored with those of the block at the front of d
+pub xored-halves : (d : List ℕ) (hi lo u v : ℕ) → Row (words d) hi lo → 16 ≤ length d → AreBytes d
+    → bytesOf 8 (hi ⊕ u) ++ bytesOf 8 (lo ⊕ v) ≡ xors (take 16 d) (bytesOf 8 u ++ bytesOf 8 v)
+xored-halves d hi lo u v r full small =
+    ap₂ (λ (x y : List ℕ). x ++ y) (bytesOf-xor 8 hi u) (bytesOf-xor 8 lo v)
+    ∙ sym (xors-append (bytesOf 8 hi) (bytesOf 8 lo) (bytesOf 8 u) (bytesOf 8 v) (length-bytesOf 8 hi ∙ sym (length-bytesOf 8 u)))
+    ∙ ap (λ (x : List ℕ). xors x (bytesOf 8 u ++ bytesOf 8 v)) (row-bytes (words d) hi lo r ∙ unwords-front d full small)
+
+-- what is stored for block i
+abbrev pub xoredRow : List ℕ → List ℕ → List ℕ → ℕ → List ℕ
+xoredRow a b d i = xors (blockAt d i) (bytesOf 8 (getD a (place i) 0) ++ bytesOf 8 (getD b (place i) 0))
+
+-- two stores of eight bytes behind e blocks
+module _ (o₀ o o1 o2 x y : List ℕ) (f : ℕ → List ℕ) (e : ℕ) (full : (i : ℕ) → i < e → length (f i) ≡ 16)
+    (hx : length x ≡ 8) (xy : x ++ y ≡ f e) (ho : o ≡ cat e f ++ drop (16 * e) o₀)
+    (h1 : o1 ≡ take (16 * e) o ++ (x ++ drop (16 * e + 8) o))
+    (h2 : o2 ≡ take (16 * e + 8) o1 ++ (y ++ drop (16 * e + 8 + 8) o1)) where
+  pub block-stored : o2 ≡ cat (e + 1) f ++ drop (16 * (e + 1)) o₀
+  block-stored =
+      let C = cat e f in
+      let lc : length C ≡ 16 * e = length-cat e f full in
+      let lx : length (C ++ x) ≡ 16 * e + 8 = length-append C x ∙ omega arith in
+      let t : take (16 * e) o ≡ C = ap (take (16 * e)) ho ∙ take-at C (drop (16 * e) o₀) (16 * e) lc in
+      let k1 : o1 ≡ (C ++ x) ++ drop (16 * e + 8) o =
+      h1 ∙ ap (λ (l : List ℕ). l ++ (x ++ drop (16 * e + 8) o)) t ∙ sym (append-assoc C x (drop (16 * e + 8) o)) in
+      let t1 : take (16 * e + 8) o1 ≡ C ++ x = ap (take (16 * e + 8)) k1 ∙ take-at (C ++ x) (drop (16 * e + 8) o) (16 * e + 8) lx in
+      let d1 : drop (16 * e + 8) o1 ≡ drop (16 * e + 8) o =
+      ap (drop (16 * e + 8)) k1 ∙ drop-at (C ++ x) (drop (16 * e + 8) o) (16 * e + 8) lx in
+      let d2 : drop (16 * e + 8 + 8) o1 ≡ drop (16 * e + 8 + 8) o =
+      sym (drop-drop 8 (16 * e + 8) o1) ∙ ap (drop 8) d1 ∙ drop-drop 8 (16 * e + 8) o in
+      let q : 16 * e + 8 + 8 ≡ 16 * e + 16 = omega arith in
+      let q' : 16 * e + 16 ≡ 16 * (e + 1) = omega arith in
+      let d3 : drop (16 * e + 16) o ≡ drop (16 * e + 16) o₀ =
+      sym (drop-drop 16 (16 * e) o)
+      ∙ ap (drop 16) (ap (drop (16 * e)) ho ∙ drop-at C (drop (16 * e) o₀) (16 * e) lc)
+      ∙ drop-drop 16 (16 * e) o₀ in
+      let D = drop (16 * (e + 1)) o₀ in
+      let d : drop (16 * e + 8 + 8) o1 ≡ D = d2 ∙ ap (λ (n : ℕ). drop n o) q ∙ d3 ∙ ap (λ (n : ℕ). drop n o₀) q' in
+      h2
+      ∙ ap₂ (λ (l r : List ℕ). l ++ (y ++ r)) t1 d
+      ∙ sym (append-assoc (C ++ x) y D)
+      ∙ ap (λ (l : List ℕ). l ++ D) (append-assoc C x y ∙ ap (λ (l : List ℕ). C ++ l) xy ∙ sym (cat-next e f))
+
+-- each block that is stored has sixteen bytes
+module _ (d : List ℕ) (m : ℕ) (h : 16 * m ≤ length d) where
+  length-blockAt : (i : ℕ) → i < m → length (blockAt d i) ≡ 16
+  length-blockAt i g = let n = length-drop (16 * i) d in length-take-le 16 (drop (16 * i) d) (omega arith)
+
+  pub length-xoredRow : (a b : List ℕ) (i : ℕ) → i < m → length (xoredRow a b d i) ≡ 16
+  length-xoredRow a b i g =
+      let u = bytesOf 8 (getD a (place i) 0) in
+      let v = bytesOf 8 (getD b (place i) 0) in
+      let k = length-blockAt i g in
+      let n : length (u ++ v) ≡ 16 =
+      length-append u v ∙ ap₂ (λ (x y : ℕ). x + y) (length-bytesOf 8 (getD a (place i) 0)) (length-bytesOf 8 (getD b (place i) 0)) in
+      length-xors (blockAt d i) (u ++ v) (omega arith) ∙ k
+
+  -- rows stored are their blocks stored
+  pub all-stored : (a b o₀ o : List ℕ) (f : ℕ → List ℕ) → Rows m f a b → o ≡ cat m (xoredRow a b d) ++ drop (16 * m) o₀
+      → o ≡ xoredBlocks m d f ++ drop (length (xoredBlocks m d f)) o₀
+  all-stored a b o₀ o f R e =
+      let s : cat m (xoredRow a b d) ≡ xoredBlocks m d f =
+      cat-same m (xoredRow a b d) (λ i. xors (blockAt d i) (unwords (f i)))
+      (λ i g. ap (xors (blockAt d i)) (row-bytes (f i) (getD a (place i) 0) (getD b (place i) 0) (R .row i g))) in
+      let n : 16 * m ≡ length (xoredBlocks m d f) = sym (length-cat m (xoredRow a b d) (length-xoredRow a b)) ∙ ap length s in
+      e ∙ ap₂ (λ (l : List ℕ) (k : ℕ). l ++ drop k o₀) s n

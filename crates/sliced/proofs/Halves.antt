@@ -1,0 +1,152 @@
+-- Transposed halves of blocks are lanes, and lanes transposed are halves of blocks.
+-- Assumes nothing.
+use mathlib.Core.Path.{_≡_, refl, sym, ap, ap₂, subst, _∙_}
+use mathlib.Core.Logic.{⊎-elim}
+use mathlib.Core.List.{List, _∷_}
+use Prim.Native.Nat.{ℕ, _+_, _*_, _/_, _%_, _^_, _<_, _≤_}
+use native.Mathlib.Nat.{mod-lt}
+use native.Mathlib.Omega.{arith}
+use lib.Dec.{lit<}
+use lib.Pow.{pow-pos}
+use lib.ListN.{length, getD, set, length-set}
+use lib.Seq.{getD-set-same, getD-set-other}
+use Rattle.block.proofs.Entries.{below-at}
+use Rattle.block.proofs.WordsBack.{four-entries}
+use Rattle.lanes.specs.Bits.{bit}
+use Rattle.lanes.proofs.Bits.{bit-mod, bit-shr, bit-ext, lt-or-le}
+use Rattle.cipher.specs.Sm4.{rounds, turned, encryptWords}
+use Rattle.rows.specs.Rows.{place, Row, Rows}
+use Rattle.rows.specs.Transposed.{at, Turned}
+use Rattle.sliced.specs.Lanes.{lane, lanes, Parted, Halved}
+use Rattle.sliced.proofs.Held.{lane-lt, lane-bit}
+
+pub none-parted : (a upper lower : List ℕ) → Parted 0 a upper lower
+none-parted a upper lower = record { up = λ m h. absurd (omega arith); low = λ m h. absurd (omega arith) }
+
+-- an entry more that is the same in two lists
+same-next : (f g : ℕ → ℕ) (i : ℕ) → f i ≡ g i → ((m : ℕ) → m < i → f m ≡ g m) → (m : ℕ) → m < i + 1 → f m ≡ g m
+same-next f g i e h m hm =
+    ⊎-elim (h m) (λ (k : i ≤ m). let q : i ≡ m = omega arith in subst (λ (z : ℕ). f z ≡ g z) q e) (lt-or-le m i)
+
+pub parted-next : (a upper lower : List ℕ) (i : ℕ) → i < 256 → length upper ≡ 256 → length lower ≡ 256 → Parted i a upper lower
+    → Parted (i + 1) a (set upper i (getD a (i + 256) 0)) (set lower i (getD a i 0))
+parted-next a upper lower i h hu hl P =
+    let x = getD a (i + 256) 0 in
+    let y = getD a i 0 in
+    record {
+      up = same-next (λ m. getD a (m + 256) 0) (λ m. getD (set upper i x) m 0) i (sym (getD-set-same upper i x 0 (omega arith)))
+          (λ m g. P .up m g ∙ sym (getD-set-other upper i m x 0 (λ q. omega arith)));
+      low = same-next (λ m. getD a m 0) (λ m. getD (set lower i y) m 0) i (sym (getD-set-same lower i y 0 (omega arith)))
+          (λ m g. P .low m g ∙ sym (getD-set-other lower i m y 0 (λ q. omega arith)));
+    }
+
+pub joined-next : (a upper lower : List ℕ) (i : ℕ) → i < 256 → length a ≡ 512 → Parted i a upper lower
+    → Parted (i + 1) (set (set a i (getD lower i 0)) (i + 256) (getD upper i 0)) upper lower
+joined-next a upper lower i h ha P =
+    let x = getD lower i 0 in
+    let y = getD upper i 0 in
+    let b = set a i x in
+    let n = length-set a i x in
+    record {
+      up = same-next (λ m. getD (set b (i + 256) y) (m + 256) 0) (λ m. getD upper m 0) i (getD-set-same b (i + 256) y 0 (omega arith))
+          (λ m g. getD-set-other b (i + 256) (m + 256) y 0 (λ q. omega arith)
+          ∙ getD-set-other a i (m + 256) x 0 (λ q. omega arith)
+          ∙ P .up m g);
+      low = same-next (λ m. getD (set b (i + 256) y) m 0) (λ m. getD lower m 0) i
+          (getD-set-other b (i + 256) i y 0 (λ q. omega arith) ∙ getD-set-same a i x 0 (omega arith))
+          (λ m g. getD-set-other b (i + 256) m y 0 (λ q. omega arith)
+          ∙ getD-set-other a i m x 0 (λ q. omega arith)
+          ∙ P .low m g);
+    }
+
+-- what is transposed is transposed back
+pub turned-back : (a₀ a : List ℕ) → Turned a₀ a → Turned a a₀
+turned-back a₀ a t j r c hj hr hc = sym (t j c r hj hc hr)
+
+-- the lanes of two planes that are joined and transposed
+module _ (a a′ high low : List ℕ) (t : Turned a a′) (P : Parted 256 a high low) where
+  row-bit : (e i : ℕ) → e < 512 → i < 64 → bit i (getD a′ e 0) ≡ bit (e / 8) (getD a (8 * i + e % 8) 0)
+  unfolding at
+  row-bit e i he hi =
+      let q : e ≡ 8 * (e / 8) + e % 8 = omega arith in
+      ap (λ (z : ℕ). bit i (getD a′ z 0)) q ∙ t (e % 8) (e / 8) i (omega arith) (omega arith) hi
+
+  pub halved : Halved a′ high low
+  halved e he =
+      let x = getD a′ e 0 in (
+        bit-ext 32 (x / 2 ^ 32 % 2 ^ 32) (lane high e) (mod-lt (x / 2 ^ 32) (pow-pos 32)) (lane-lt high e)
+            (λ i h.
+            let q : 8 * (32 + i) + e % 8 ≡ 8 * i + e % 8 + 256 = omega arith in
+            bit-mod 32 i (x / 2 ^ 32) h
+            ∙ bit-shr 32 i x
+            ∙ row-bit e (32 + i) he (omega arith)
+            ∙ ap (λ (z : ℕ). bit (e / 8) (getD a z 0)) q
+            ∙ ap (bit (e / 8)) (P .up (8 * i + e % 8) (omega arith))
+            ∙ lane-bit high e i h),
+        bit-ext 32 (x % 2 ^ 32) (lane low e) (mod-lt x (pow-pos 32)) (lane-lt low e)
+            (λ i h.
+            bit-mod 32 i x h
+            ∙ row-bit e i he (omega arith)
+            ∙ ap (bit (e / 8)) (P .low (8 * i + e % 8) (omega arith))
+            ∙ lane-bit low e i h),
+      )
+
+-- the words of a half
+high-word : (x u v : ℕ) → u < 2 ^ 32 → v < 2 ^ 32 → x ≡ u * 2 ^ 32 + v → x / 2 ^ 32 % 2 ^ 32 ≡ u
+high-word x u v hu hv e = omega arith
+
+low-word : (x u v : ℕ) → v < 2 ^ 32 → x ≡ u * 2 ^ 32 + v → x % 2 ^ 32 ≡ v
+low-word x u v hv e = omega arith
+
+two-words : (x u v : ℕ) → x < 2 ^ 64 → x / 2 ^ 32 % 2 ^ 32 ≡ u → x % 2 ^ 32 ≡ v → x ≡ u * 2 ^ 32 + v
+two-words x u v h e f = omega arith
+
+-- a block in a row is the block in its lane
+lanes-of : (a b x0 x1 x2 x3 : List ℕ) → Halved a x0 x1 → Halved b x2 x3
+    → (e : ℕ) → e < 512 → (x : List ℕ) → Row x (getD a e 0) (getD b e 0) → lanes x0 x1 x2 x3 e ≡ x
+lanes-of a b x0 x1 x2 x3 ha hb e he x r =
+    let w = below-at (2 ^ 32) x (lit< tt) (r .small) in
+    ap₂ _∷_ (sym (ha e he .0) ∙ high-word (getD a e 0) (getD x 0 0) (getD x 1 0) (w 0) (w 1) (r .high))
+    (ap₂ _∷_ (sym (ha e he .1) ∙ low-word (getD a e 0) (getD x 0 0) (getD x 1 0) (w 1) (r .high))
+    (ap₂ _∷_ (sym (hb e he .0) ∙ high-word (getD b e 0) (getD x 2 0) (getD x 3 0) (w 2) (w 3) (r .low))
+    (ap₂ _∷_ (sym (hb e he .1) ∙ low-word (getD b e 0) (getD x 2 0) (getD x 3 0) (w 3) (r .low)) refl)))
+    ∙ four-entries x (r .four)
+
+-- and back
+row-of : (a b x0 x1 x2 x3 : List ℕ) → Halved a x0 x1 → Halved b x2 x3
+    → ((p : ℕ) → getD a p 0 < 2 ^ 64) → ((p : ℕ) → getD b p 0 < 2 ^ 64)
+    → (e : ℕ) → e < 512 → Row (lanes x0 x1 x2 x3 e) (getD a e 0) (getD b e 0)
+row-of a b x0 x1 x2 x3 ha hb sa sb e he =
+    record {
+      four = refl;
+      small = (lane-lt x0 e, (lane-lt x1 e, (lane-lt x2 e, (lane-lt x3 e, tt))));
+      high = two-words (getD a e 0) (lane x0 e) (lane x1 e) (sa e) (ha e he .0) (ha e he .1);
+      low = two-words (getD b e 0) (lane x2 e) (lane x3 e) (sb e) (hb e he .0) (hb e he .1);
+    }
+
+-- rows in lanes
+pub rows-in-lanes : (a b x0 x1 x2 x3 : List ℕ) → Halved a x0 x1 → Halved b x2 x3 → (m : ℕ) (f : ℕ → List ℕ) → m ≤ 512 → Rows m f a b
+    → (i : ℕ) → i < m → lanes x0 x1 x2 x3 (place i) ≡ f i
+rows-in-lanes a b x0 x1 x2 x3 ha hb m f hm R i hi =
+    let he : place i < 512 = omega arith in
+    lanes-of a b x0 x1 x2 x3 ha hb (place i) he (f i) (R .row i hi)
+
+-- lanes, 32 rounds, and into rows
+module _ (rk a b x0 x1 x2 x3 y0 y1 y2 y3 : List ℕ) (n : ℕ) (hn : n ≤ 8) (ha : Halved a y3 y2) (hb : Halved b y1 y0)
+    (sa : (p : ℕ) → getD a p 0 < 2 ^ 64) (sb : (p : ℕ) → getD b p 0 < 2 ^ 64)
+    (h : (e : ℕ) → e < 512 → e % 8 < n → lanes y0 y1 y2 y3 e ≡ rounds rk (lanes x0 x1 x2 x3 e)) where
+  pub rows-encrypted : length a ≡ 512 → length b ≡ 512 → (m : ℕ) (f : ℕ → List ℕ) → m ≤ 64 * n
+      → ((i : ℕ) → i < m → lanes x0 x1 x2 x3 (place i) ≡ f i) → Rows m (λ i. encryptWords rk (f i)) a b
+  unfolding encryptWords
+  rows-encrypted la lb m f hm F =
+      record {
+        size-a = la;
+        size-b = lb;
+        row = λ i hi.
+            let e = place i in
+            let j : i / 64 < n = omega arith in
+            let k : e % 8 ≡ i / 64 = omega arith in
+            let he : e < 512 = omega arith in
+            let q : lanes y0 y1 y2 y3 e ≡ rounds rk (f i) = h e he (omega arith) ∙ ap (rounds rk) (F i hi) in
+            subst (λ (x : List ℕ). Row (turned x) (getD a e 0) (getD b e 0)) q (row-of a b y3 y2 y1 y0 ha hb sa sb e he);
+      }

@@ -1,0 +1,93 @@
+-- The plane of lane numbers: six rows that are the same in every column, three that are all ones or zero, and zeros.
+-- Assumes nothing.
+use mathlib.Core.Path.{_≡_, sym, ap, ap₂, subst, _∙_}
+use mathlib.Core.Logic.{⊎-elim}
+use mathlib.Core.List.{List, [], _∷_}
+use Prim.Native.Nat.{ℕ, _+_, _-_, _*_, _/_, _%_, _^_, _<_, _≤_}
+use native.Mathlib.Omega.{arith}
+use lib.Dec.{eqb, eqb→eq}
+use lib.ListN.{length, getD, set, replicate, List·getD-eq-default}
+use lib.Seq.{getD-set-same, getD-set-other}
+use Rattle.block.proofs.Table.{rule-at}
+use Rattle.lanes.specs.Bits.{bit}
+use Rattle.lanes.proofs.Bits.{bit-zero, bit-low, bit-high, bit-past, lt-or-le}
+use Rattle.rows.specs.Rows.{place}
+use Rattle.sliced.specs.Lanes.{lane, Held}
+use Rattle.sliced.specs.Counting.{numberAt}
+use Rattle.sliced.proofs.Held.{lane-held}
+
+-- the six rows: bit k of row q is bit q of k
+abbrev patterns : List ℕ
+patterns =
+    0xaaaaaaaaaaaaaaaa ∷ 0xcccccccccccccccc ∷ 0xf0f0f0f0f0f0f0f0 ∷ 0xff00ff00ff00ff00 ∷ 0xffff0000ffff0000 ∷ 0xffffffff00000000 ∷ []
+
+pattern-bit : (q k : ℕ) → q < 6 → k < 64 → bit k (getD patterns q 0) ≡ bit q k
+unfolding bit
+pattern-bit q k hq hk =
+    let t = rule-at (λ i x. eqb (bit (i % 64) (getD patterns (i / 64) 0)) (bit (i / 64) (i % 64))) (replicate 384 0) tt (64 * q + k)
+    (omega arith) in
+    let a : (64 * q + k) / 64 ≡ q = omega arith in
+    let b : (64 * q + k) % 64 ≡ k = omega arith in
+    subst (λ (r : ℕ). bit k (getD patterns r 0) ≡ bit r k) a
+    (subst (λ (r : ℕ). bit r (getD patterns ((64 * q + k) / 64) 0) ≡ bit ((64 * q + k) / 64) r) b (eqb→eq _ _ t))
+
+in-parts : (p k : ℕ) → p % 8 * 2 ^ 6 + k ≡ numberAt (8 * k + p % 8)
+in-parts p k = omega arith
+
+pub low-rows : (p : ℕ) → p < 48 → (k : ℕ) → k < 64 → bit k (getD patterns (p / 8) 0) ≡ bit (p / 8) (numberAt (8 * k + p % 8))
+low-rows p hp k hk =
+    pattern-bit (p / 8) k (omega arith) hk
+    ∙ sym (bit-low 6 (p / 8) (p % 8) k (omega arith) (omega arith))
+    ∙ ap (bit (p / 8)) (in-parts p k)
+
+pub high-rows : (p r : ℕ) → 48 ≤ p → ((k : ℕ) → k < 64 → bit k r ≡ bit (p / 8 - 6) (p % 8))
+    → (k : ℕ) → k < 64 → bit k r ≡ bit (p / 8) (numberAt (8 * k + p % 8))
+high-rows p r hp h k hk =
+    let e : 6 + (p / 8 - 6) ≡ p / 8 = omega arith in
+    h k hk
+    ∙ sym (bit-high 6 (p / 8 - 6) (p % 8) k (omega arith))
+    ∙ ap₂ bit e (in-parts p k)
+
+-- one word more
+pub numbered-next : (f : ℕ → ℕ) (p v : ℕ) (x : List ℕ) → p < 256 → length x ≡ 256
+    → ((k : ℕ) → k < 64 → bit k v ≡ bit (p / 8) (f (8 * k + p % 8))) → Held f 8 p x → Held f 8 (p + 1) (set x p v)
+numbered-next f p v x hp hx hv H q k hq hc hk =
+    ⊎-elim
+    (λ (g : q < p). ap (bit k) (getD-set-other x p q v 0 (λ e. omega arith)) ∙ H q k g hc hk)
+    (λ (g : p ≤ q).
+    let e : p ≡ q = omega arith in
+    let r : p / 8 ≡ p / 8 % 32 = omega arith in
+    subst (λ (z : ℕ). bit k (getD (set x p v) z 0) ≡ bit (z / 8 % 32) (f (8 * k + z % 8))) e
+    (ap (bit k) (getD-set-same x p v 0 (omega arith)) ∙ hv k hk ∙ ap (λ (z : ℕ). bit z (f (8 * k + p % 8))) r))
+    (lt-or-le q p)
+
+-- the rows that are left hold nothing
+pub numbered : (x : List ℕ) (p : ℕ) → 72 ≤ p → Held numberAt 8 p x → ((q : ℕ) → p ≤ q → getD x q 0 ≡ 0)
+    → (e : ℕ) → e < 512 → lane x e ≡ numberAt e
+numbered x p hp H Z e he =
+    lane-held numberAt 8 x
+    (λ q k hq hc hk.
+    ⊎-elim
+    (λ (g : q < p). H q k g hc hk)
+    (λ (g : p ≤ q).
+    let small : numberAt (8 * k + q % 8) < 2 ^ 9 = omega arith in
+    ap (bit k) (Z q g) ∙ bit-zero k ∙ sym (bit-past 9 (q / 8 % 32) (numberAt (8 * k + q % 8)) small (omega arith)))
+    (lt-or-le q p))
+    e he (omega arith) (omega arith)
+
+-- no carries
+pub zeros-next : (y : List ℕ) (j : ℕ) → j < length y → ((q : ℕ) → q < j → getD y q 0 ≡ 0) → (q : ℕ) → q < j + 1 → getD (set y j 0) q 0 ≡ 0
+zeros-next y j hj h q hq =
+    ⊎-elim
+    (λ (g : q < j). getD-set-other y j q 0 0 (λ e. omega arith) ∙ h q g)
+    (λ (g : j ≤ q).
+    let e : j ≡ q = omega arith in
+    subst (λ (z : ℕ). getD (set y j 0) z 0 ≡ 0) e (getD-set-same y j 0 0 hj))
+    (lt-or-le q j)
+
+pub zeros-all : (y : List ℕ) (j : ℕ) → length y ≤ j → ((q : ℕ) → q < j → getD y q 0 ≡ 0) → (q : ℕ) → getD y q 0 ≡ 0
+zeros-all y j h z q = ⊎-elim (z q) (λ (g : j ≤ q). List·getD-eq-default y 0 (omega arith)) (lt-or-le q j)
+
+-- the lane of block i
+pub number-place : (i : ℕ) → i < 512 → (place i < 512) × (place i % 8 ≡ i / 64) × (numberAt (place i) ≡ i)
+number-place i h = (omega arith, omega arith, omega arith)

@@ -1,0 +1,117 @@
+-- L in every lane; a round, and four.
+-- Assumes nothing.
+use mathlib.Core.Path.{_≡_, refl, sym, ap, ap₂, _∙_}
+use mathlib.Core.Logic.{⊎-elim}
+use mathlib.Core.List.{List, [], _∷_}
+use Prim.Native.Nat.{ℕ, _+_, _*_, _/_, _%_, _^_, _<_, _≤_}
+use native.Mathlib.Omega.{arith}
+use lib.ListN.{getD, length, set}
+use lib.Seq.{getD-set-same, getD-set-other}
+use lib.Bits.{differ, xor-lt}
+use Rattle.block.specs.Xor.{_⊕_}
+use Rattle.lanes.specs.Bits.{bit}
+use Rattle.lanes.proofs.Bits.{bit-xor, lt-or-le}
+use Rattle.cipher.specs.Sm4.{L, T, rounds}
+use Rattle.cipher.proofs.Bounds.{tau-lt, L-lt}
+use Rattle.cipher.proofs.Rounds.{four-by-hand}
+use Rattle.cipher.proofs.WordBits.{L-bit}
+use Rattle.sliced.specs.Lanes.{lane, lanes, Held}
+use Rattle.sliced.specs.Round.{keyed, subbed, mixed}
+use Rattle.sliced.proofs.Held.{lane-lt, held-lane, lane-held}
+
+pub doubled-next : (f : ℕ → ℕ) (n i : ℕ) (s : List ℕ) → i < 256 → length s ≡ 512 → Held f n (256 + i) s
+    → Held f n (256 + (i + 1)) (set s (i + 256) (getD s i 0))
+doubled-next f n i s hi hs h p k hp hc hk =
+    ⊎-elim
+    (λ (g : p < 256 + i). ap (bit k) (getD-set-other s (i + 256) p (getD s i 0) 0 (λ e. omega arith)) ∙ h p k g hc hk)
+    (λ (g : 256 + i ≤ p).
+    let e : p ≡ i + 256 = omega arith in
+    let u : i / 8 % 32 ≡ p / 8 % 32 = omega arith in
+    let v : 8 * k + i % 8 ≡ 8 * k + p % 8 = omega arith in
+    ap (λ (q : ℕ). bit k (getD (set s (i + 256) (getD s i 0)) q 0)) e
+    ∙ ap (bit k) (getD-set-same s (i + 256) (getD s i 0) 0 (omega arith))
+    ∙ h i k (omega arith) (omega arith) hk
+    ∙ ap₂ (λ (a c : ℕ). bit a (f c)) u v)
+    (lt-or-le p (256 + i))
+
+-- the first i words done, the others as they were
+abbrev pub Mixed : (ℕ → ℕ) → ℕ → List ℕ → ℕ → List ℕ → Type 0
+Mixed f n a₀ i a = Held (mixed f a₀) n i a × ((p : ℕ) → i ≤ p → getD a p 0 ≡ getD a₀ p 0)
+
+-- what is added to word i: five words of s, 30, 22, 14 and 8 bits apart
+abbrev five : List ℕ → ℕ → ℕ
+five s i = getD s (i + 256) 0 ⊕ getD s (i + 240) 0 ⊕ getD s (i + 176) 0 ⊕ getD s (i + 112) 0 ⊕ getD s (i + 64) 0
+
+module _ (f : ℕ → ℕ) (n : ℕ) (a₀ s : List ℕ) (hf : (e : ℕ) → f e < 2 ^ 32) (hs : Held f n 512 s) where
+  mixed-bit : (i k : ℕ) → i < 256 → i % 8 < n → k < 64
+      → bit k (getD a₀ i 0 ⊕ five s i) ≡ bit (i / 8 % 32) (mixed f a₀ (8 * k + i % 8))
+  unfolding mixed
+  mixed-bit i k hi hc hk =
+      let e = 8 * k + i % 8 in
+      let r = i / 8 % 32 in
+      let g : (d t : ℕ) → d < 33 → d * 8 ≡ t → bit k (getD s (i + t) 0) ≡ bit ((r + d) % 32) (f e) =
+      λ d t hd et.
+      let u : (i + t) / 8 % 32 ≡ (r + d) % 32 = omega arith in
+      let v : 8 * k + (i + t) % 8 ≡ e = omega arith in
+      hs (i + t) k (omega arith) (omega arith) hk ∙ ap₂ (λ (a c : ℕ). bit a (f c)) u v in
+      let z : (r + 32) % 32 ≡ r = omega arith in
+      let g0 : bit k (getD s (i + 256) 0) ≡ bit r (f e) = g 32 256 (omega arith) refl ∙ ap (λ (a : ℕ). bit a (f e)) z in
+      let x1 = getD s (i + 256) 0 in
+      let x2 = getD s (i + 240) 0 in
+      let x3 = getD s (i + 176) 0 in
+      let x4 = getD s (i + 112) 0 in
+      let x5 = getD s (i + 64) 0 in
+      let q : bit k (x1 ⊕ x2 ⊕ x3 ⊕ x4 ⊕ x5) ≡ bit r (L (f e)) =
+      bit-xor k (x1 ⊕ x2 ⊕ x3 ⊕ x4) x5
+      ∙ rw (
+        bit-xor k (x1 ⊕ x2 ⊕ x3) x4,
+        bit-xor k (x1 ⊕ x2) x3,
+        bit-xor k x1 x2,
+        g0,
+        g 30 240 (omega arith) refl,
+        g 22 176 (omega arith) refl,
+        g 14 112 (omega arith) refl,
+        g 8 64 (omega arith) refl,
+      ) (L-bit (f e) r (hf e) (omega arith)) in
+      bit-xor k (getD a₀ i 0) (x1 ⊕ x2 ⊕ x3 ⊕ x4 ⊕ x5)
+      ∙ ap₂ differ (held-lane a₀ n i k hi hc hk) q
+      ∙ sym (bit-xor r (lane a₀ e) (L (f e)))
+
+  pub mixed-next : (i : ℕ) (a : List ℕ) → i < 256 → length a ≡ 256 → Mixed f n a₀ i a
+      → Mixed f n a₀ (i + 1) (set a i (getD a i 0 ⊕ five s i))
+  mixed-next i a hi ha h =
+      let v : ℕ → ℕ = λ u. u ⊕ five s i in (
+        λ p k hp hc hk.
+            ⊎-elim
+            (λ (g : p < i). ap (bit k) (getD-set-other a i p (v (getD a i 0)) 0 (λ e. omega arith)) ∙ h .0 p k g hc hk)
+            (λ (g : i ≤ p).
+            let e : p ≡ i = omega arith in
+            ap (λ (q : ℕ). bit k (getD (set a i (v (getD a i 0))) q 0)) e
+            ∙ ap (bit k) (getD-set-same a i (v (getD a i 0)) 0 (omega arith) ∙ ap v (h .1 i (omega arith)))
+            ∙ mixed-bit i k hi (omega arith) hk
+            ∙ ap (λ (q : ℕ). bit (q / 8 % 32) (mixed f a₀ (8 * k + q % 8))) (sym e))
+            (lt-or-le p i),
+        λ p hp. getD-set-other a i p (v (getD a i 0)) 0 (λ e. omega arith) ∙ h .1 p (omega arith),
+      )
+
+pub round-done : (a b c d a′ : List ℕ) (k n : ℕ) → Held (mixed (subbed b c d k) a) n 256 a′
+    → (e : ℕ) → e < 512 → e % 8 < n → lane a′ e ≡ lane a e ⊕ T (keyed b c d k e)
+unfolding mixed T
+round-done a b c d a′ k n h e he hc =
+    lane-held (mixed (subbed b c d k) a) n a′ h e he hc
+    (xor-lt 32 (lane a e) (L (subbed b c d k e)) (lane-lt a e) (L-lt _ (tau-lt (keyed b c d k e))))
+
+pub four-done : (a b c d a′ b′ c′ d′ : List ℕ) (k l m n e : ℕ)
+    → lane a′ e ≡ lane a e ⊕ T (keyed b c d k e) → lane b′ e ≡ lane b e ⊕ T (keyed c d a′ l e)
+    → lane c′ e ≡ lane c e ⊕ T (keyed d a′ b′ m e) → lane d′ e ≡ lane d e ⊕ T (keyed a′ b′ c′ n e)
+    → lanes a′ b′ c′ d′ e ≡ rounds (k ∷ l ∷ m ∷ n ∷ []) (lanes a b c d e)
+unfolding keyed
+four-done a b c d a′ b′ c′ d′ k l m n e ha hb hc hd =
+    ap₂ _∷_ ha (ap₂ _∷_ hb (ap₂ _∷_ hc (ap₂ _∷_ hd refl)))
+    ∙ four-by-hand (k ∷ l ∷ m ∷ n ∷ []) (lanes a b c d e)
+    (T (keyed b c d k e)) (T (keyed c d a′ l e)) (T (keyed d a′ b′ m e)) (T (keyed a′ b′ c′ n e)) refl
+    refl
+    (ap (λ (x : ℕ). T (lane c e ⊕ lane d e ⊕ x ⊕ l)) ha)
+    (ap₂ (λ (x y : ℕ). T (lane d e ⊕ x ⊕ y ⊕ m)) ha hb)
+    (ap₂ (λ (x y : ℕ). T (x ⊕ y ⊕ lane c′ e ⊕ n)) ha hb
+    ∙ ap (λ (x : ℕ). T (lane a e ⊕ T (keyed b c d k e) ⊕ (lane b e ⊕ T (keyed c d a′ l e)) ⊕ x ⊕ n)) hc)

@@ -1,0 +1,59 @@
+-- `sliced::sub_byte` meets its contract. The loop's invariant: byte b is done in the first j columns (`Columns`). In each lane of a column
+-- the gates give the S-box's entry for what goes in, and eight stores put it at its place (`columns-next`).
+-- Assumes nothing.
+use borrow.Author.Needs.{needs}
+use Prim.Native.Nat.{_<_, _+_, _-_, _*_}
+use mathlib.Core.Path.{_≡_, _∙_}
+use native.Mathlib.Omega.{arith}
+use lib.ListN.{length}
+use Rattle.cipher.specs.Gates.{SboxLanes}
+use Rattle.sliced.specs.Round.{subbed, Mask, column}
+use Rattle.sliced.proofs.Columns.{Columns, columns-first, columns-next, columns-last, length-columnPut}
+use Rattle.sliced.proofs.sub_byte.Statement.{statement}
+use Rattle.sliced.proofs.sub_byte.Tie as tie
+
+abbrev Inv-loop : tie.InvT-loop
+Inv-loop s₀ x y z k b n m j₀ s j = (length s ≡ 512) × (Mask k b m) × Columns (subbed x y z k) n b j s
+
+abbrev μ-loop : tie.MeasureT-loop
+μ-loop s₀ x y z k b n m j₀ s j = n - j
+
+loop-holds : tie.Need-loop-holds Inv-loop μ-loop
+loop-holds c =
+    let a = c .before .args in
+    let p = c .before .pre in
+    (p .1 .0 .0, c .masks .ensures, columns-first (subbed (a .x .now) (a .y .now) (a .z .now) (a .k)) (a .n) (a .b) (a .s .now) (p .1 .1))
+
+loop-again : tie.Need-loop-again Inv-loop μ-loop
+loop-again c =
+    let l = c .before .before .before .loop in
+    let S = c .before .before .before .before .before in
+    let a = S .args in
+    let m = c .before .before .before .before .masks .result in
+    let o = c .sbox .result in
+    let g : SboxLanes (column (a .x .now) (a .y .now) (a .z .now) m (64 * a .b + l .j)) o =
+    rw (c .before .column-at .ensures) at (c .sbox .ensures) in
+    let hj : l .j < 8 = omega (arith, S .pre .0) in (
+      length-columnPut (l .s) o (64 * a .b + l .j) ∙ l .inv .0,
+      l .inv .1,
+      columns-next (a .x .now) (a .y .now) (a .z .now) m (a .k) (a .n) (a .b) (l .j) (l .s) o (S .pre .0 .0) hj (l .inv .1) (l .inv .0) g
+          (l .inv .2),
+    )
+
+returns : tie.Need-returns Inv-loop μ-loop
+returns c =
+    let l = c .before .loop in
+    let a = c .before .before .before .args in
+    (columns-last (subbed (a .x .now) (a .y .now) (a .z .now) (a .k)) (a .n) (a .b) (l .j) (l .s) (omega arith) (l .inv .2), l .inv .0)
+
+pub sub-byte-spec : {M : Type 1} → statement M
+sub-byte-spec =
+    tie.close
+    (tie.spec
+    Inv-loop μ-loop (λ c κs. search needs) loop-holds (λ c. search needs) (λ c. search needs) (λ c κs. search needs)
+    (λ c κs. search needs) (λ c. search needs) (λ c. search needs) (λ c. search needs) (λ c. search needs)
+    (λ c. search needs) (λ c. search needs) (λ c. search needs) (λ c. search needs) (λ c. search needs) (λ c. search needs)
+    (λ c. search needs) (λ c. search needs) (λ c. search needs) (λ c. search needs) (λ c. search needs) (λ c. search needs)
+    (λ c. search needs) (λ c. search needs) (λ c. search needs) (λ c. search needs) (λ c. search needs) (λ c. search needs)
+    (λ c. search needs) (λ c. search needs) (λ c. search needs) (λ c. search needs) (λ c. search needs) (λ c. search needs)
+    (λ c. search needs) (λ c. search needs) (λ c. search needs) (λ c. search needs) (λ c. search needs) loop-again returns)

@@ -1,0 +1,3 @@
+pub mod Lanes
+pub mod Round
+pub mod Counting

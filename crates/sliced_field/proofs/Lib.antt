@@ -1,0 +1,5 @@
+pub mod Elements
+pub mod TimesX
+pub mod Copies
+pub mod Sums
+pub mod EightBits
