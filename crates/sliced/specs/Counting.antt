@@ -23,10 +23,6 @@ Clear x = (length x ≡ 256) × Blank x
 unfoldable pub carryAt : List ℕ → ℕ → ℕ
 carryAt y e = bit (e / 8) (getD y (e % 8) 0)
 
--- word i of m is all ones or all zeros, by bit i of k
-abbrev pub Masks : ℕ → ℕ → List ℕ → Type 0
-Masks w k m = (i n : ℕ) → i < w → n < 64 → bit n (getD m i 0) ≡ bit i k
-
 -- the bit d, added to the first j words of row i and to their carries; the other words stand as they were
 pub record RowAdded (d i j : ℕ) (x₀ y₀ x y : List ℕ) : Type 0 where
   pub size-x : length x ≡ 256

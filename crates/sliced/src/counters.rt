@@ -6,15 +6,14 @@ ghost use lib.ListN.{length};
 ghost use Rattle.block.specs.Blocks.{blockAt, cat};
 ghost use Rattle.block.specs.Words.{words, unwords};
 ghost use Rattle.block.specs.Xor.{xors};
-ghost use Rattle.lanes.specs.Bits.{bit};
+ghost use Rattle.lanes.specs.Bits.{bit, Masks};
 ghost use Rattle.cipher.specs.Sm4.{encryptBlock};
 ghost use Rattle.counter.specs.Counter.{jumped};
 ghost use Rattle.walk.specs.Walk.{over};
 ghost use Rattle.sliced.specs.Lanes.{lane, lanes};
-ghost use Rattle.sliced.specs.Counting.{numberAt, Blank, Clear, Kept, Masks, RowAdded, Added};
+ghost use Rattle.sliced.specs.Counting.{numberAt, Blank, Clear, Kept, RowAdded, Added};
 use crate::columns_of;
 use crate::rounds_to_rows;
-use crate::spread;
 
 // Word p of the plane of lane numbers. Block i stands at bit i % 64 of column i / 64, so that the low six bits of its number are the same in
 // every column, and the other three in every row.
@@ -33,7 +32,7 @@ fn number_word(p: usize) -> u64
     if p < 48 {
         return low[p / 8];
     }
-    spread((p % 8) as u32, p / 8 - 6)
+    lanes::spread((p % 8) as u64, p / 8 - 6)
 }
 
 // The number of its block into every lane: a row for each of its nine bits.
@@ -52,12 +51,12 @@ fn numbers(x: &mut [u64; 256])
 // The masks of all bits of k. They are kept in memory, so that the back end makes no branches of them.
 fn word_masks(k: u32, m: &mut [u64; 32])
     requires { ⌜ length (now m) ≡ 32 ⌝ }
-    ensures { λ _. ⌜ Masks 32 k (now (m .exit)) ⌝ }
+    ensures { λ _. ⌜ Masks 32 (λ i. bit i k) (now (m .exit)) ⌝ }
     ensures { λ _. ⌜ length (now (m .exit)) ≡ 32 ⌝ }
 {
     let mut i: usize = 0;
     while i < 32 {
-        m[i] = spread(k, i);
+        m[i] = lanes::spread(k as u64, i);
         i += 1;
     }
 }

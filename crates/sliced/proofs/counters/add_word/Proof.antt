@@ -6,13 +6,13 @@ use Prim.Native.Nat.{_≤_, _<_, _-_, _^_}
 use mathlib.Core.Path.{_≡_}
 use native.Mathlib.Omega.{arith}
 use lib.ListN.{length}
-use Rattle.sliced.specs.Counting.{Masks}
+use Rattle.lanes.specs.Bits.{bit, Masks}
 use Rattle.sliced.proofs.Ripple.{Rippled, rippled-first, rippled-next, rippled-last}
 use Rattle.sliced.proofs.counters.add_word.Statement.{statement}
 use Rattle.sliced.proofs.counters.add_word.Tie as tie
 
 abbrev Inv-loop : tie.InvT-loop
-Inv-loop x₀ y₀ w n m i₀ x y i = (i ≤ 32) × (length x ≡ 256) × (length y ≡ 8) × Masks 32 w m × Rippled w i n x₀ y₀ x y
+Inv-loop x₀ y₀ w n m i₀ x y i = (i ≤ 32) × (length x ≡ 256) × (length y ≡ 8) × Masks 32 (λ k. bit k w) m × Rippled w i n x₀ y₀ x y
 
 abbrev μ-loop : tie.MeasureT-loop
 μ-loop x₀ y₀ w n m i₀ x y i = 32 - i

@@ -16,5 +16,4 @@ returns-2 c = high-rows (c .before .before .args .p) _ (omega arith) (c .spread 
 pub number-word-spec : {M : Type 1} → statement M
 number-word-spec =
     tie.close
-    (tie.spec
-    (λ c. search needs) (λ c. search needs) returns (λ c. search needs) (λ c. search needs) (λ c. search needs) returns-2)
+    (tie.spec (λ c. search needs) (λ c. search needs) returns (λ c. search needs) (λ c. search needs) returns-2)
