@@ -112,13 +112,13 @@ module _ (c : List ℕ) (k w0 w1 w2 w3 : ℕ) (hc : AreWords c) (h0 : w0 < 2 ^ 3
         ∙ gcm-jump-words c w3 k (b 3) (sym (last-digit (2 ^ 32) (getD c 3 0) k w3 y3 h3 e3))
 
 -- a word added to a number alone, and to a carry alone
-pub added-number : (w n : ℕ) (x₀ y₀ x y : List ℕ) (k e : ℕ) → Added w n x₀ y₀ x y → e < 512 → e % 8 < n → lane x₀ e ≡ k → Blank y₀
+pub added-number : (w : ℕ) (x₀ y₀ x y : List ℕ) (k e : ℕ) → Added w x₀ y₀ x y → e < 512 → lane x₀ e ≡ k → Blank y₀
     → lane x e + 2 ^ 32 * carryAt y e ≡ w + k
-added-number w n x₀ y₀ x y k e h he hc f b = let z = no-carry y₀ b e in h e he hc ∙ omega arith
+added-number w x₀ y₀ x y k e h he f b = let z = no-carry y₀ b e in h e he ∙ omega arith
 
-pub added-carry : (w n : ℕ) (x₀ y₀ x y : List ℕ) (e : ℕ) → Added w n x₀ y₀ x y → e < 512 → e % 8 < n → Blank x₀
+pub added-carry : (w : ℕ) (x₀ y₀ x y : List ℕ) (e : ℕ) → Added w x₀ y₀ x y → e < 512 → Blank x₀
     → lane x e + 2 ^ 32 * carryAt y e ≡ w + carryAt y₀ e
-added-carry w n x₀ y₀ x y e h he hc b = let z = blank-lane x₀ b e in h e he hc ∙ omega arith
+added-carry w x₀ y₀ x y e h he b = let z = blank-lane x₀ b e in h e he ∙ omega arith
 
 -- y′ is carried out of the last word of four planes
 pub lanes-count : (wide : Bool) (c x0 x1 x2 x3 y y′ : List ℕ) (k e : ℕ) → AreWords c → Kept wide y y′ → (y0 y1 y2 : ℕ)

@@ -23,18 +23,25 @@ Clear x = (length x ≡ 256) × Blank x
 unfoldable pub carryAt : List ℕ → ℕ → ℕ
 carryAt y e = bit (e / 8) (getD y (e % 8) 0)
 
--- the bit d, added to the first j words of row i and to their carries; the other words stand as they were
-pub record RowAdded (d i j : ℕ) (x₀ y₀ x y : List ℕ) : Type 0 where
+-- the bits of m, added to those of word p and of the carries b: their sums stand in word p and the carries are c; the other words stand as
+-- they were
+pub record WordAdded (p b m : ℕ) (x₀ x : List ℕ) (c : ℕ) : Type 0 where
+  pub size : length x ≡ 256
+  pub sum : (k : ℕ) → bit k (getD x p 0) + 2 * bit k c ≡ bit k m + bit k (getD x₀ p 0) + bit k b
+  pub same : (q : ℕ) → (q ≡ p → ⊥) → getD x q 0 ≡ getD x₀ q 0
+
+-- the bits of m, added to those of the first j words of row i and of their carries; the other words stand as they were
+pub record RowAdded (m i j : ℕ) (x₀ y₀ x y : List ℕ) : Type 0 where
   pub size-x : length x ≡ 256
   pub size-y : length y ≡ 8
-  pub sum : (q k : ℕ) → q < j → k < 64
-      → bit k (getD x (8 * i + q) 0) + 2 * bit k (getD y q 0) ≡ d + bit k (getD x₀ (8 * i + q) 0) + bit k (getD y₀ q 0)
+  pub sum : (q k : ℕ) → q < j
+      → bit k (getD x (8 * i + q) 0) + 2 * bit k (getD y q 0) ≡ bit k m + bit k (getD x₀ (8 * i + q) 0) + bit k (getD y₀ q 0)
   pub same-x : (p : ℕ) → ((q : ℕ) → q < j → p ≡ 8 * i + q → ⊥) → getD x p 0 ≡ getD x₀ p 0
   pub same-y : (q : ℕ) → j ≤ q → getD y q 0 ≡ getD y₀ q 0
 
--- the word w, added in the lanes of the first n columns
-abbrev pub Added : ℕ → ℕ → List ℕ → List ℕ → List ℕ → List ℕ → Type 0
-Added w n x₀ y₀ x y = (e : ℕ) → e < 512 → e % 8 < n → lane x e + 2 ^ 32 * carryAt y e ≡ w + lane x₀ e + carryAt y₀ e
+-- the word w, added in every lane
+abbrev pub Added : ℕ → List ℕ → List ℕ → List ℕ → List ℕ → Type 0
+Added w x₀ y₀ x y = (e : ℕ) → e < 512 → lane x e + 2 ^ 32 * carryAt y e ≡ w + lane x₀ e + carryAt y₀ e
 
 -- the carries out of the last word: kept where all words count, else none
 abbrev pub Kept : Bool → List ℕ → List ℕ → Type 0

@@ -1,8 +1,8 @@
 // SM4 on up to 512 blocks side by side, bit by bit: word 8 i + j of a plane holds bit i of one word of 64 blocks, those of column j.
 // Neither an index nor a branch depends on a block or a key.
 //
-// The gates work on the first n columns alone. n is a parameter all the way down, since a loop whose count the back end knows is not
-// vectorized here.
+// The gates of the rounds work on the first n columns alone. n is a parameter all the way down, since a loop whose count the back end knows
+// is not vectorized here.
 pub mod counters;
 
 ghost use mathlib.Core.Path.{_≡_};
