@@ -26,8 +26,8 @@ use Rattle.lanes.specs.Bits.{bit}
 use Rattle.lanes.proofs.Bits.{bit-small, bit-xor, bit-zero, bit-low, bit-high, bit-past, bit-ext, lt-or-le}
 use Rattle.rows.specs.Rows.{place, Row, Rows}
 use Rattle.rows.specs.Transposed.{at, Turned}
-use Rattle.sliced_field.specs.Elements.{Masks}
-use Rattle.sliced_field.proofs.Elements.{element-lt, element-bit, element-is}
+use Rattle.sliced_field.specs.Elements.{Masked}
+use Rattle.sliced_field.proofs.Elements.{element-lt, element-bit, element-is, masked-bit}
 use Rattle.ghash.specs.Ghash.{blockOf}
 use Rattle.ghash.specs.Sets.{blockNumber, rowNumber, InLane, lane, Starts}
 use Rattle.ghash.proofs.Blocks.{blockOf-words}
@@ -301,8 +301,8 @@ started-next y i m z hi n e h c hc =
     ))
     (lt-or-le c i)
 
-pub mask-odd : (y i : ℕ) (m : List ℕ) → i < 128 → Masks y 128 m → getD m i 0 % 2 ≡ bit i y
-mask-odd y i m hi M = sym (lowest (getD m i 0)) ∙ M .1 i 0 hi (omega arith)
+pub mask-odd : (y i : ℕ) (m : List ℕ) → i < 128 → Masked y m → getD m i 0 % 2 ≡ bit i y
+mask-odd y i m hi M = sym (lowest (getD m i 0)) ∙ masked-bit y i 0 m M hi (omega arith)
   where
     lowest : (w : ℕ) → bit 0 w ≡ w % 2
     lowest w = unfold bit in ap (λ (x : ℕ). x % 2) (div-one w)

@@ -4,8 +4,8 @@
 use mathlib.Core.Path.{_≡_, refl, sym, ap, ap₂, subst, _∙_}
 use mathlib.Core.Logic.{⊎-elim}
 use mathlib.Core.List.{List}
-use Prim.Native.Nat.{ℕ, zero, suc, _+_, _*_, _/_, _%_, _^_, _<_, _≤_, min}
-use native.Mathlib.Nat.{zero-mul, one-mul, lt-of-le-of-lt}
+use Prim.Native.Nat.{ℕ, zero, suc, _+_, _-_, _*_, _/_, _%_, _^_, _<_, _≤_, min}
+use native.Mathlib.Nat.{zero-add, zero-mul, one-mul, lt-of-le-of-lt}
 use native.Mathlib.Omega.{arith}
 use lib.Dec.{lit<}
 use lib.Pow.{shr-le, high, low}
@@ -17,7 +17,7 @@ use Rattle.block.specs.Xor.{_⊕_}
 use Rattle.block.proofs.Bit.{bit-cases}
 use Rattle.field.specs.Field.{Element}
 use Rattle.lanes.specs.Bits.{bit, Masks}
-use Rattle.lanes.proofs.Bits.{bit-small, bit-zero, bit-shr, bit-past, bit-pack, pack-lt, pack-is, lt-or-le}
+use Rattle.lanes.proofs.Bits.{bit-small, bit-zero, bit-shr, bit-mod, bit-past, bit-pack, pack-lt, pack-is, lt-or-le}
 use Rattle.sliced_field.specs.Elements.{element, HalfMasks, Masked}
 
 -- bit i of element e, where it stands
@@ -114,3 +114,20 @@ masked-is up lo m l n a b c =
       high = subst (λ (g : ℕ). HalfMasks g 64 m) x b;
       both = subst (λ (g : ℕ). HalfMasks g 128 m) (ap₂ _⊕_ x y) c;
     }
+
+pub masked-bit : (h i n : ℕ) (m : List ℕ) → Masked h m → i < 128 → n < 64 → bit n (getD m i 0) ≡ bit i h
+masked-bit h i n m M hi hn =
+    ⊎-elim
+    (λ (g : i < 64).
+    ap (λ (x : ℕ). bit n (getD m x 0)) (sym (zero-add i))
+    ∙ ap (bit n) (sym (getD-drop 0 m i 0))
+    ∙ M .low i n g hn
+    ∙ bit-mod 64 i h g)
+    (λ (g : 64 ≤ i).
+    let q : 64 + (i - 64) ≡ i = omega arith in
+    ap (λ (x : ℕ). bit n (getD m x 0)) (sym q)
+    ∙ ap (bit n) (sym (getD-drop 64 m (i - 64) 0))
+    ∙ M .high (i - 64) n (omega arith) hn
+    ∙ bit-shr 64 (i - 64) h
+    ∙ ap (λ (x : ℕ). bit x h) q)
+    (lt-or-le i 64)

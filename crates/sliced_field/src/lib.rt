@@ -176,7 +176,7 @@ fn add_around(w: &mut [u64; 512], o: usize, m: &[u64; 192], s: usize, p: &[u64; 
 // the products a of the upper and b of the lower halves, and c of the sums, a + x^64 (a + b + c) + x^128 b is what is wanted.
 pub fn multiply(m: &[u64; 192], z: &mut [u64; 256])
     requires { ⌜ (length (now m) ≡ 192) × (length (now z) ≡ 256) ⌝ }
-    ensures { λ _. ⌜ ((h e : ℕ) → Masked h (now (m .entry)) → e < 128 → element (now (z .exit)) 0 e ≡ gmul h (element (now (z .entry)) 0 e)) × (length (now (z .exit)) ≡ 256) ⌝ }
+    ensures { λ _. ⌜ ((h : ℕ) → Masked h (now (m .entry)) → (e : ℕ) → e < 128 → element (now (z .exit)) 0 e ≡ gmul h (element (now (z .entry)) 0 e)) × (length (now (z .exit)) ≡ 256) ⌝ }
 {
     let mut p = [0u64; 272];
     let mut w = [0u64; 512];

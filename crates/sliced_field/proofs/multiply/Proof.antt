@@ -33,7 +33,7 @@ returns c =
     let S = at-half .before .before .before in
     let z = S .args .z .now in
     let past : (p : ℕ) → 256 ≤ p → getD z p 0 ≡ 0 = λ p q. List·getD-eq-default z 0 (let n = S .pre .1 in omega arith) in (
-      λ h e k g.
+      λ h k e g.
           let v = element z 0 e in
           let low = half v in
           let up = half (v / 2 ^ 64) in
