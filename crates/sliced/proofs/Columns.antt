@@ -12,8 +12,7 @@ use lib.Seq.{getD-set-same, getD-set-other}
 use Rattle.block.specs.Xor.{_⊕_}
 use Rattle.lanes.specs.Bits.{bit, pack, byteLane, Masks}
 use Rattle.lanes.proofs.Bits.{bit-small, bit-xor, bit-mod, bit-shr, bit-pack, pack-is, lt-or-le}
-use Rattle.cipher.specs.Sm4.{Sbox}
-use Rattle.cipher.specs.Gates.{SboxLanes}
+use Rattle.circuit.specs.Sbox.{Sbox, SboxLanes}
 use Rattle.cipher.proofs.WordBits.{tau-bit}
 use Rattle.sliced.specs.Lanes.{lane, Held}
 use Rattle.sliced.specs.Round.{keyed, subbed, summed, column}

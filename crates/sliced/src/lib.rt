@@ -83,7 +83,7 @@ fn sub_byte(
     let mut j: usize = 0;
     while j < n {
         let p = 64 * b + j;
-        let o = cipher::gates::sbox(column_at(x, y, z, m, p));
+        let o = circuit::sbox(column_at(x, y, z, m, p));
         s[p] = o[0];
         s[p + 8] = o[1];
         s[p + 16] = o[2];

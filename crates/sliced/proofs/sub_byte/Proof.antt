@@ -6,7 +6,7 @@ use Prim.Native.Nat.{_<_, _+_, _-_, _*_}
 use mathlib.Core.Path.{_≡_, _∙_}
 use native.Mathlib.Omega.{arith}
 use lib.ListN.{length}
-use Rattle.cipher.specs.Gates.{SboxLanes}
+use Rattle.circuit.specs.Sbox.{SboxLanes}
 use Rattle.lanes.specs.Bits.{bit, Masks}
 use Rattle.sliced.specs.Round.{subbed, column}
 use Rattle.sliced.proofs.Columns.{Columns, columns-first, columns-next, columns-last, length-columnPut}
