@@ -18,9 +18,9 @@ use Rattle.block.proofs.WordsBack.{length-unwords, unwords-bytes, numberOf-unwo
 use Rattle.counter.specs.Counter.{ctrJump, gcmJump, jumped}
 use Rattle.counter.proofs.Steps.{gcm-jump-words}
 use Rattle.lanes.proofs.Bits.{bit-zero, bit-small, pack-is}
-use Rattle.lanes.specs.Bits.{bit}
+use Rattle.lanes.specs.Bits.{bit, Blank}
 use Rattle.sliced.specs.Lanes.{lane, lanes}
-use Rattle.sliced.specs.Counting.{Blank, carryAt, Added, Kept}
+use Rattle.sliced.specs.Counting.{carryAt, Added, Kept}
 use Rattle.sliced.proofs.Held.{lane-lt}
 
 -- nothing in a lane, and no carry
@@ -138,8 +138,3 @@ lanes-count false c x0 x1 x2 x3 y y′ k e hc h y0 y1 y2 e3 e2 e1 e0 =
 pub in-words : (x0 x1 x2 x3 b : List ℕ) (e : ℕ) → unwords (lanes x0 x1 x2 x3 e) ≡ b → lanes x0 x1 x2 x3 e ≡ words b
 in-words x0 x1 x2 x3 b e h =
     sym (words-unwords (lanes x0 x1 x2 x3 e) refl (lane-lt x0 e, (lane-lt x1 e, (lane-lt x2 e, (lane-lt x3 e, tt))))) ∙ ap words h
-
-pub blank-room : (n : ℕ) → Blank (replicate n 0)
-blank-room zero p = refl
-blank-room (suc n) zero = refl
-blank-room (suc n) (suc p) = blank-room n p

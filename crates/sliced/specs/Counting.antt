@@ -4,16 +4,12 @@ use mathlib.Core.Bool.{Bool, true, false}
 use mathlib.Core.List.{List}
 use Prim.Native.Nat.{ℕ, _+_, _*_, _/_, _%_, _^_, _<_, _≤_}
 use lib.ListN.{length, getD}
-use Rattle.lanes.specs.Bits.{bit}
+use Rattle.lanes.specs.Bits.{bit, Blank}
 use Rattle.sliced.specs.Lanes.{lane}
 
 -- the block that stands in lane e
 abbrev pub numberAt : ℕ → ℕ
 numberAt e = 64 * (e % 8) + e / 8
-
--- every word is 0
-abbrev pub Blank : List ℕ → Type 0
-Blank x = (p : ℕ) → getD x p 0 ≡ 0
 
 -- a plane that holds nothing
 abbrev pub Clear : List ℕ → Type 0

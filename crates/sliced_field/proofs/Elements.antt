@@ -10,7 +10,7 @@ use native.Mathlib.Omega.{arith}
 use lib.Dec.{lit<}
 use lib.Pow.{shr-le, high, low}
 use lib.Bits.{differ}
-use lib.ListN.{drop, getD, length, set, replicate, getD-replicate}
+use lib.ListN.{drop, getD, length, set, replicate}
 use lib.Seq.{getD-drop, getD-set-same, getD-set-other}
 use Rattle.block.specs.Wide.{whole}
 use Rattle.block.specs.Xor.{_⊕_}
@@ -18,6 +18,7 @@ use Rattle.block.proofs.Bit.{bit-cases}
 use Rattle.field.specs.Field.{Element}
 use Rattle.lanes.specs.Bits.{bit, Masks}
 use Rattle.lanes.proofs.Bits.{bit-small, bit-zero, bit-shr, bit-mod, bit-past, bit-pack, pack-lt, pack-is, lt-or-le}
+use Rattle.lanes.proofs.Masks.{blank-room}
 use Rattle.sliced_field.specs.Elements.{element, HalfMasks, Masked}
 
 -- bit i of element e, where it stands
@@ -40,11 +41,10 @@ unfolding element
 element-is x o e w l h = pack-is 128 (row x o e) w (row-small x o e) l h
 
 -- words of 0 hold elements that are 0
-pub element-zeros : (n e : ℕ) → e < 128 → 256 ≤ n → element (replicate n 0) 0 e ≡ 0
-element-zeros n e he hn =
+pub element-zeros : (n e : ℕ) → element (replicate n 0) 0 e ≡ 0
+element-zeros n e =
     element-is (replicate n 0) 0 e 0 (lit< tt)
-    (λ i hi.
-    ap (bit (e / 2)) (getD-replicate n (2 * (0 + i) + e % 2) 0 0 (omega arith)) ∙ bit-zero (e / 2) ∙ sym (bit-zero i))
+    (λ i hi. ap (bit (e / 2)) (blank-room n (2 * (0 + i) + e % 2)) ∙ bit-zero (e / 2) ∙ sym (bit-zero i))
 
 pub bit-times : (b w i : ℕ) → bit i (b % 2 * w) ≡ min (bit i w) (b % 2)
 bit-times b w i =

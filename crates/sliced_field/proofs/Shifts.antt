@@ -14,6 +14,7 @@ use Rattle.field.specs.Field.{Element, gcmR, timesX, timesXs}
 use Rattle.field.proofs.Bounded.{timesX-lt}
 use Rattle.lanes.specs.Bits.{bit}
 use Rattle.lanes.proofs.Bits.{bit-zero, bit-shr}
+use Rattle.lanes.proofs.Masks.{blank-room}
 use Rattle.sliced_field.specs.Elements.{element}
 use Rattle.sliced_field.specs.Halves.{Short}
 use Rattle.sliced_field.proofs.Elements.{element-bit, element-on}
@@ -50,11 +51,6 @@ module _ (p : List ℕ) (s : Short p) (e : ℕ) (he : e < 128) where
   pub short-multiple : (k : ℕ) → k ≤ 64 → element p k e ≡ timesXs k (element p 0 e)
   short-multiple k h = element-on p k e he (s .behind) ∙ sym (timesXs-shr k 64 (element p 0 e) h short-bits)
 
-zeros-at : (n i : ℕ) → _≡_ {A = ℕ} (getD (replicate n 0) i 0) 0
-zeros-at zero i = refl
-zeros-at (suc n) zero = refl
-zeros-at (suc n) (suc i) = zeros-at n i
-
 -- words of 0
 pub short-zeros : Short (replicate 272 0)
-short-zeros = record { size = refl; before = λ i h. zeros-at 272 i; behind = λ i h. zeros-at 272 i }
+short-zeros = record { size = refl; before = λ i h. blank-room 272 i; behind = λ i h. blank-room 272 i }

@@ -3,7 +3,6 @@
 use borrow.Author.Needs.{needs}
 use Prim.Native.Nat.{ℕ}
 use mathlib.Core.Path.{_≡_, ap, ap₂, _∙_}
-use native.Mathlib.Omega.{arith}
 use Rattle.block.specs.Xor.{_⊕_}
 use Rattle.field.specs.Field.{timesXs, mulFrom}
 use Rattle.sliced_field.specs.Elements.{element}
@@ -22,7 +21,7 @@ returns c =
       λ g e k h.
           let M = mulFrom 64 g (element (x .p .now) 0 e) in
           let a : element (A .last .0) 0 e ≡ M =
-          A .ensures .0 g e k h ∙ ap (λ (u : ℕ). u ⊕ M) (element-zeros 512 e h (omega arith)) in
+          A .ensures .0 g e k h ∙ ap (λ (u : ℕ). u ⊕ M) (element-zeros 512 e) in
           after .ensures .0 e h
           ∙ ap₂ _⊕_
           (at-x .times-x64 .ensures .0 e h

@@ -38,7 +38,7 @@ returns c =
           let low = half v in
           let up = half (v / 2 ^ 64) in
           let p₁ : element (at-half .add-half .last .0) 0 e ≡ low =
-          at-half .add-half .ensures .1 e g ∙ ap (λ (x : ℕ). x ⊕ low) (element-zeros 272 e g (omega arith)) in
+          at-half .add-half .ensures .1 e g ∙ ap (λ (x : ℕ). x ⊕ low) (element-zeros 272 e) in
           let p₂ : element (at-half2 .add-half2 .last .0) 0 e ≡ low ⊕ up =
           at-half2 .add-half2 .ensures .1 e g ∙ ap₂ (λ (x y : ℕ). x ⊕ half y) p₁ (element-on z 64 e g past) in
           let p₃ : element (at-half3 .add-half3 .last .0) 0 e ≡ up =
@@ -49,7 +49,7 @@ returns c =
           ∙ karatsuba h v (mulFrom 64 (h % 2 ^ 64) low) (mulFrom 64 (h / 2 ^ 64) up) w₁ w₂ (element (at-upper .add-around2 .last .0) 128 e)
           (element-lt z 0 e) refl refl
           (at-lower .add-around .ensures .0 (h % 2 ^ 64) e (k .low) g
-          ∙ ap₂ around (ap (mulFrom 64 (h % 2 ^ 64)) p₁) (element-zeros 512 e g (omega arith)))
+          ∙ ap₂ around (ap (mulFrom 64 (h % 2 ^ 64)) p₁) (element-zeros 512 e))
           (at-both .add-product .ensures .0 (h / 2 ^ 64 ⊕ h % 2 ^ 64) e (k .both) g
           ∙ ap (λ (x : ℕ). w₁ ⊕ mulFrom 64 (h / 2 ^ 64 ⊕ h % 2 ^ 64) x) p₂)
           (at-upper .add-around2 .ensures .0 (h / 2 ^ 64) e (k .high) g ∙ ap (λ (x : ℕ). around (mulFrom 64 (h / 2 ^ 64) x) w₂) p₃),

@@ -7,8 +7,9 @@ use mir.Syntax.{w32}
 use lib.ListN.{getD, replicate}
 use Rattle.block.specs.Below.{AreWords}
 use Rattle.block.proofs.Entries.{below-each}
+use Rattle.lanes.proofs.Masks.{blank-room}
 use Rattle.sliced.specs.Counting.{numberAt, carryAt}
-use Rattle.sliced.proofs.CounterDigits.{blank-room, added-number, added-carry, lanes-count, in-words}
+use Rattle.sliced.proofs.CounterDigits.{added-number, added-carry, lanes-count, in-words}
 use borrow.Author.Needs.{needs}
 use Rattle.sliced.proofs.counters.count.Statement.{statement}
 use Rattle.sliced.proofs.counters.count.Tie as tie

@@ -9,7 +9,7 @@ use Rattle.block.specs.Words.{words, unwords}
 use Rattle.cipher.specs.Sm4.{encryptBlock}
 use Rattle.counter.specs.Counter.{jumped}
 use Rattle.rows.specs.Rows.{place}
-use Rattle.sliced.proofs.CounterDigits.{blank-room}
+use Rattle.lanes.proofs.Masks.{blank-room}
 use Rattle.sliced.proofs.LaneNumbers.{number-place}
 use borrow.Author.Needs.{needs}
 use Rattle.sliced.proofs.counters.encrypt_counters.Statement.{statement}

@@ -1,7 +1,7 @@
 -- `sliced::counters::keep_carries` meets its contract: what is not kept is 0.
 -- Assumes nothing.
 use mathlib.Core.Path.{refl}
-use Rattle.sliced.proofs.CounterDigits.{blank-room}
+use Rattle.lanes.proofs.Masks.{blank-room}
 use Rattle.sliced.proofs.counters.keep_carries.Statement.{statement}
 use Rattle.sliced.proofs.counters.keep_carries.Tie as tie
 
