@@ -42,19 +42,20 @@ fn load_lanes(src: &[u8], a: &mut [u64; 512], b: &mut [u64; 512])
     rows::transpose(b);
 }
 
-// To each hash its block of set q.
+// To each hash its block of set q. A turn adds both words of a row of each half, which the back end joins.
 fn add_set(z: &mut [u64; 256], a: &[u64; 512], b: &[u64; 512], q: usize)
     requires { ⌜ (length (now z) ≡ 256) × (q < 4) × Sized (now a) (now b) ⌝ }
     ensures { λ _. ⌜ ((f : ℕ → ℕ) → ((k : ℕ) → k < 128 → InLane (f k) (now (a .entry)) (now (b .entry)) (128 * q + k)) → ((k : ℕ) → Element (f k)) → (k : ℕ) → k < 128 → lane (now (z .exit)) k ≡ lane (now (z .entry)) k ⊕ f k) × (length (now (z .exit)) ≡ 256) ⌝ }
 {
-    let mut p: usize = 0;
-    while p < 128 {
-        let from = 8 * (p / 2) + 2 * q + p % 2;
-        let low = z[p] ^ b[from];
-        let high = z[p + 128] ^ a[from];
-        z[p] = low;
-        z[p + 128] = high;
-        p += 1;
+    let mut i: usize = 0;
+    while i < 64 {
+        let to = 2 * i;
+        let from = 8 * i + 2 * q;
+        z[to] = z[to] ^ b[from];
+        z[to + 1] = z[to + 1] ^ b[from + 1];
+        z[to + 128] = z[to + 128] ^ a[from];
+        z[to + 129] = z[to + 129] ^ a[from + 1];
+        i += 1;
     }
 }
 
