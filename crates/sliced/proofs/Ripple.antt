@@ -2,9 +2,9 @@
 -- Assumes nothing.
 use mathlib.Core.Path.{_≡_, refl, sym, ap, ap₂, subst, _∙_}
 use mathlib.Core.Logic.{_⊎_, ⊎-elim}
-use mathlib.Core.List.{List}
+use mathlib.Core.List.{List, [], _∷_}
 use Prim.Native.Nat.{ℕ, zero, suc, _+_, _*_, _/_, _%_, _^_, _<_, _≤_, min}
-use native.Mathlib.Nat.{mul-add, mul-assoc, mul-comm, pow-suc}
+use native.Mathlib.Nat.{add-zero, mul-add, mul-assoc, mul-comm, pow-suc}
 use native.Mathlib.Numerals.{add-one}
 use native.Mathlib.Omega.{arith}
 use lib.ListN.{length, getD, set, length-set}
@@ -41,10 +41,9 @@ word-adder k a b m =
     (adder (bit k a) (bit k b) (bit k m) (bit-small k a) (bit-small k b) (bit-small k m))
 
 -- as the code stores it
-pub word-added : (p b m : ℕ) (x : List ℕ) → p < 256 → length x ≡ 256
-    → (let a = getD x p 0 in WordAdded p b m x (set x p (a ⊕ b ⊕ m)) (bitAnd a b ⊕ bitAnd (a ⊕ b) m))
-word-added p b m x hp hx =
-    let a = getD x p 0 in
+pub word-added : (p a b m : ℕ) (x : List ℕ) → p < 256 → length x ≡ 256
+    → WordAdded p a b m x (set x p (a ⊕ b ⊕ m)) (bitAnd a b ⊕ bitAnd (a ⊕ b) m)
+word-added p a b m x hp hx =
     let u = a ⊕ b ⊕ m in
     let v = bitAnd a b ⊕ bitAnd (a ⊕ b) m in
     record {
@@ -53,18 +52,31 @@ word-added p b m x hp hx =
       same = λ q h. getD-set-other x p q u 0 h;
     }
 
+-- eight words from p on
+pub eight-words : (x : List ℕ) (p q : ℕ) → q < 8
+    → getD (getD x p 0 ∷ getD x (p + 1) 0 ∷ getD x (p + 2) 0 ∷ getD x (p + 3) 0
+    ∷ getD x (p + 4) 0 ∷ getD x (p + 5) 0 ∷ getD x (p + 6) 0 ∷ getD x (p + 7) 0 ∷ []) q 0
+    ≡ getD x (p + q) 0
+eight-words x p zero h = ap (λ (z : ℕ). getD x z 0) (sym (add-zero p))
+eight-words x p (suc zero) h = refl
+eight-words x p (suc (suc zero)) h = refl
+eight-words x p (suc (suc (suc zero))) h = refl
+eight-words x p (suc (suc (suc (suc zero)))) h = refl
+eight-words x p (suc (suc (suc (suc (suc zero))))) h = refl
+eight-words x p (suc (suc (suc (suc (suc (suc zero)))))) h = refl
+eight-words x p (suc (suc (suc (suc (suc (suc (suc zero))))))) h = refl
+eight-words x p (suc (suc (suc (suc (suc (suc (suc (suc q)))))))) h = absurd (omega arith)
+
 -- a row of which j words are added
-pub added-first : (m i : ℕ) (x y : List ℕ) → length x ≡ 256 → length y ≡ 8 → RowAdded m i 0 x y x y
-added-first m i x y hx hy =
+pub added-first : (m i : ℕ) (a x y : List ℕ) → length x ≡ 256 → length y ≡ 8 → RowAdded m i 0 a x y x y
+added-first m i a x y hx hy =
     record { size-x = hx; size-y = hy; sum = λ q k hq. absurd (omega arith); same-x = λ p h. refl; same-y = λ q h. refl }
 
-pub added-next : (m i j c : ℕ) (x₀ y₀ x y x′ : List ℕ) → j < 8 → WordAdded (8 * i + j) (getD y j 0) m x x′ c → RowAdded m i j x₀ y₀ x y
-    → RowAdded m i (j + 1) x₀ y₀ x′ (set y j c)
-added-next m i j c x₀ y₀ x y x′ hj W R =
+pub added-next : (m i j c : ℕ) (a x₀ y₀ x y x′ : List ℕ) → j < 8 → WordAdded (8 * i + j) (getD a j 0) (getD y j 0) m x x′ c
+    → RowAdded m i j a x₀ y₀ x y → RowAdded m i (j + 1) a x₀ y₀ x′ (set y j c)
+added-next m i j c a x₀ y₀ x y x′ hj W R =
     let p = 8 * i + j in
     let ly = R .size-y in
-    let oa : getD x p 0 ≡ getD x₀ p 0 = R .same-x p (λ q h e. omega arith) in
-    let ob : getD y j 0 ≡ getD y₀ j 0 = R .same-y j (omega arith) in
     record {
       size-x = W .size;
       size-y = length-set y j c ∙ ly;
@@ -76,10 +88,10 @@ added-next m i j c x₀ y₀ x y x′ hj W R =
           (λ (h : j ≤ q).
           let e : j ≡ q = omega arith in
           subst (λ (z : ℕ). bit k (getD x′ (8 * i + z) 0) + 2 * bit k (getD (set y j c) z 0)
-          ≡ bit k m + bit k (getD x₀ (8 * i + z) 0) + bit k (getD y₀ z 0)) e
+          ≡ bit k m + bit k (getD a z 0) + bit k (getD y₀ z 0)) e
           (ap (λ (t : ℕ). bit k (getD x′ p 0) + 2 * bit k t) (getD-set-same y j c 0 (omega arith))
           ∙ W .sum k
-          ∙ ap₂ (λ (s t : ℕ). bit k m + bit k s + bit k t) oa ob))
+          ∙ ap (λ (t : ℕ). bit k m + bit k (getD a j 0) + bit k t) (R .same-y j (omega arith))))
           (lt-or-le q j);
       same-x = λ z h. W .same z (λ e. h j (omega arith) e) ∙ R .same-x z (λ q g e. h q (omega arith) e);
       same-y = λ q h. getD-set-other y j q c 0 (λ e. omega arith) ∙ R .same-y q (omega arith);
@@ -130,17 +142,19 @@ pub rippled-first : (w : ℕ) (x y : List ℕ) → Rippled w 0 x y x y
 unfolding low pack
 rippled-first w x y = record { sum = λ e he. omega arith; rest = λ p h. refl }
 
-pub rippled-next : (w i m : ℕ) (x₀ y₀ x y x′ y′ : List ℕ) → ((k : ℕ) → k < 64 → bit k m ≡ bit i w) → Rippled w i x₀ y₀ x y
-    → RowAdded m i 8 x y x′ y′ → Rippled w (i + 1) x₀ y₀ x′ y′
+pub rippled-next : (w i m : ℕ) (a x₀ y₀ x y x′ y′ : List ℕ) → ((k : ℕ) → k < 64 → bit k m ≡ bit i w)
+    → ((q : ℕ) → q < 8 → getD a q 0 ≡ getD x (8 * i + q) 0) → Rippled w i x₀ y₀ x y → RowAdded m i 8 a x y x′ y′
+    → Rippled w (i + 1) x₀ y₀ x′ y′
 unfolding low carryAt
-rippled-next w i m x₀ y₀ x y x′ y′ hm P R =
+rippled-next w i m a x₀ y₀ x y x′ y′ hm ha P R =
     record {
       sum = λ e he.
           let p = 8 * i + e % 8 in
           let f : List ℕ → ℕ → ℕ = λ l k. bit (e / 8) (getD l (8 * k + e % 8) 0) in
           let kept : low x′ e i ≡ low x e i =
           pack-below i (f x′) (f x) (λ k h. ap (bit (e / 8)) (R .same-x (8 * k + e % 8) (λ q g z. omega arith))) in
-          let was : bit (e / 8) (getD x p 0) ≡ bit (e / 8) (getD x₀ p 0) = ap (bit (e / 8)) (P .rest p (omega arith)) in
+          let was : bit (e / 8) (getD a (e % 8) 0) ≡ bit (e / 8) (getD x₀ p 0) =
+          ap (bit (e / 8)) (ha (e % 8) (omega arith) ∙ P .rest p (omega arith)) in
           let row : bit (e / 8) (getD x′ p 0) + 2 * carryAt y′ e ≡ bit i w + bit (e / 8) (getD x₀ p 0) + carryAt y e =
           R .sum (e % 8) (e / 8) (omega arith) ∙ ap₂ (λ (u v : ℕ). u + v + carryAt y e) (hm (e / 8) (omega arith)) was in
           let words : pack (i + 1) (λ k. bit k w) ≡ pack i (λ k. bit k w) + 2 ^ i * bit i w =

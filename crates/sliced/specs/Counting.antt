@@ -19,19 +19,19 @@ Clear x = (length x ≡ 256) × Blank x
 unfoldable pub carryAt : List ℕ → ℕ → ℕ
 carryAt y e = bit (e / 8) (getD y (e % 8) 0)
 
--- the bits of m, added to those of word p and of the carries b: their sums stand in word p and the carries are c; the other words stand as
--- they were
-pub record WordAdded (p b m : ℕ) (x₀ x : List ℕ) (c : ℕ) : Type 0 where
+-- the bits of m, a and the carries b, added: their sums stand in word p of x and the carries are c; the other words stand as they were
+pub record WordAdded (p a b m : ℕ) (x₀ x : List ℕ) (c : ℕ) : Type 0 where
   pub size : length x ≡ 256
-  pub sum : (k : ℕ) → bit k (getD x p 0) + 2 * bit k c ≡ bit k m + bit k (getD x₀ p 0) + bit k b
+  pub sum : (k : ℕ) → bit k (getD x p 0) + 2 * bit k c ≡ bit k m + bit k a + bit k b
   pub same : (q : ℕ) → (q ≡ p → ⊥) → getD x q 0 ≡ getD x₀ q 0
 
--- the bits of m, added to those of the first j words of row i and of their carries; the other words stand as they were
-pub record RowAdded (m i j : ℕ) (x₀ y₀ x y : List ℕ) : Type 0 where
+-- the bits of m, added to those of the first j words of a and of their carries: the sums stand in row i of x; the other words stand as they
+-- were
+pub record RowAdded (m i j : ℕ) (a x₀ y₀ x y : List ℕ) : Type 0 where
   pub size-x : length x ≡ 256
   pub size-y : length y ≡ 8
   pub sum : (q k : ℕ) → q < j
-      → bit k (getD x (8 * i + q) 0) + 2 * bit k (getD y q 0) ≡ bit k m + bit k (getD x₀ (8 * i + q) 0) + bit k (getD y₀ q 0)
+      → bit k (getD x (8 * i + q) 0) + 2 * bit k (getD y q 0) ≡ bit k m + bit k (getD a q 0) + bit k (getD y₀ q 0)
   pub same-x : (p : ℕ) → ((q : ℕ) → q < j → p ≡ 8 * i + q → ⊥) → getD x p 0 ≡ getD x₀ p 0
   pub same-y : (q : ℕ) → j ≤ q → getD y q 0 ≡ getD y₀ q 0
 

@@ -2,8 +2,8 @@
 // blocks. All eight columns are made, however few are needed: the carries of a whole row then stay in registers, which takes no more
 // than a loop over two columns does.
 ghost use mathlib.Core.Path.{_≡_};
-ghost use Prim.Native.Nat.{ℕ, _*_, _<_, _≤_};
-ghost use lib.ListN.{length};
+ghost use Prim.Native.Nat.{ℕ, _+_, _*_, _<_, _≤_};
+ghost use lib.ListN.{length, getD};
 ghost use Rattle.block.specs.Blocks.{blockAt, cat};
 ghost use Rattle.block.specs.Words.{words, unwords};
 ghost use Rattle.block.specs.Xor.{xors};
@@ -21,7 +21,7 @@ use crate::rounds_to_rows;
 fn numbers(x: &mut [u64; 256])
     requires { ⌜ Clear (now x) ⌝ }
     ensures { λ _. ⌜ ((e : ℕ) → e < 512 → lane (now (x .exit)) e ≡ numberAt e) ⌝ }
-    ensures { λ _. ⌜ length (now (x .exit)) ≡ 256 ⌝ }
+    ensures { λ _. ⌜ (length (now (x .exit)) ≡ 256) × ((p : ℕ) → 72 ≤ p → getD (now (x .exit)) p 0 ≡ 0) ⌝ }
 {
     let low: [u64; 6] = [
         0xaaaa_aaaa_aaaa_aaaa,
@@ -55,44 +55,66 @@ fn word_masks(k: u32, m: &mut [u64; 32])
     }
 }
 
-// Word p of x, the carries b and the bit of the mask m, added in every lane: the sums into word p, and the carries back.
-fn add_at(x: &mut [u64; 256], p: usize, b: u64, m: u64) -> u64
-    requires { ⌜ (p < 256) × (length (now x) ≡ 256) ⌝ }
-    ensures { λ r. ⌜ WordAdded p b m (now (x .entry)) (now (x .exit)) r ⌝ }
+// Row i of x.
+fn row(x: &[u64; 256], i: usize) -> [u64; 8]
+    requires { ⌜ (i < 32) × (length (now x) ≡ 256) ⌝ }
+    ensures { λ r. ⌜ ((q : ℕ) → q < 8 → getD r q 0 ≡ getD (now (x .entry)) (8 * i + q) 0) ⌝ }
 {
-    let a = x[p];
+    let p = 8 * i;
+    [
+        x[p],
+        x[p + 1],
+        x[p + 2],
+        x[p + 3],
+        x[p + 4],
+        x[p + 5],
+        x[p + 6],
+        x[p + 7],
+    ]
+}
+
+// The bits of a, the carries b and the bit of the mask m, added in every lane: the sums into word p of x, and the carries back.
+fn add_at(x: &mut [u64; 256], p: usize, a: u64, b: u64, m: u64) -> u64
+    requires { ⌜ (p < 256) × (length (now x) ≡ 256) ⌝ }
+    ensures { λ r. ⌜ WordAdded p a b m (now (x .entry)) (now (x .exit)) r ⌝ }
+{
     let t = a ^ b;
     x[p] = t ^ m;
     (a & b) ^ (t & m)
 }
 
-// Row i of x, the carries y and the bit of the mask m: the sums into row i, the carries into y.
-fn add_row(x: &mut [u64; 256], y: &mut [u64; 8], m: u64, i: usize)
+// The bits of eight words a, the carries y and the bit of the mask m: the sums into row i of x, the carries into y.
+fn add_row(x: &mut [u64; 256], a: [u64; 8], y: &mut [u64; 8], m: u64, i: usize)
     requires { ⌜ (i < 32) × (length (now x) ≡ 256) × (length (now y) ≡ 8) ⌝ }
-    ensures { λ _. ⌜ RowAdded m i 8 (now (x .entry)) (now (y .entry)) (now (x .exit)) (now (y .exit)) ⌝ }
+    ensures { λ _. ⌜ RowAdded m i 8 a (now (x .entry)) (now (y .entry)) (now (x .exit)) (now (y .exit)) ⌝ }
 {
     let p = 8 * i;
-    y[0] = add_at(x, p, y[0], m);
-    y[1] = add_at(x, p + 1, y[1], m);
-    y[2] = add_at(x, p + 2, y[2], m);
-    y[3] = add_at(x, p + 3, y[3], m);
-    y[4] = add_at(x, p + 4, y[4], m);
-    y[5] = add_at(x, p + 5, y[5], m);
-    y[6] = add_at(x, p + 6, y[6], m);
-    y[7] = add_at(x, p + 7, y[7], m);
+    y[0] = add_at(x, p, a[0], y[0], m);
+    y[1] = add_at(x, p + 1, a[1], y[1], m);
+    y[2] = add_at(x, p + 2, a[2], y[2], m);
+    y[3] = add_at(x, p + 3, a[3], y[3], m);
+    y[4] = add_at(x, p + 4, a[4], y[4], m);
+    y[5] = add_at(x, p + 5, a[5], y[5], m);
+    y[6] = add_at(x, p + 6, a[6], y[6], m);
+    y[7] = add_at(x, p + 7, a[7], y[7], m);
 }
 
-// The word w, added in every lane to the words of x and the carries y: the sums into x, and the carries back.
-fn add_word(x: &mut [u64; 256], y: [u64; 8], w: u32) -> [u64; 8]
-    requires { ⌜ length (now x) ≡ 256 ⌝ }
+// The word w, added in every lane to the words of x and the carries y: the sums into x, and the carries back. Only the first n rows of x hold
+// anything, and only they are read.
+fn add_word(x: &mut [u64; 256], n: usize, y: [u64; 8], w: u32) -> [u64; 8]
+    requires { ⌜ (n ≤ 32) × (length (now x) ≡ 256) × ((p : ℕ) → 8 * n ≤ p → getD (now x) p 0 ≡ 0) ⌝ }
     ensures { λ r. ⌜ Added w (now (x .entry)) y (now (x .exit)) r × (length (now (x .exit)) ≡ 256) ⌝ }
 {
     let mut m = [0u64; 32];
     word_masks(w, &mut m);
     let mut carries = y;
     let mut i: usize = 0;
+    while i < n {
+        add_row(x, row(x, i), &mut carries, m[i], i);
+        i += 1;
+    }
     while i < 32 {
-        add_row(x, &mut carries, m[i], i);
+        add_row(x, [0u64; 8], &mut carries, m[i], i);
         i += 1;
     }
     carries
@@ -122,10 +144,10 @@ fn count(
     ensures { λ _. ⌜ (length (now (x0 .exit)) ≡ 256) × (length (now (x1 .exit)) ≡ 256) × (length (now (x2 .exit)) ≡ 256) × (length (now (x3 .exit)) ≡ 256) ⌝ }
 {
     numbers(x3);
-    let y3 = add_word(x3, [0u64; 8], c[3]);
-    let y2 = add_word(x2, keep_carries(wide, y3), c[2]);
-    let y1 = add_word(x1, y2, c[1]);
-    add_word(x0, y1, c[0]);
+    let y3 = add_word(x3, 9, [0u64; 8], c[3]);
+    let y2 = add_word(x2, 0, keep_carries(wide, y3), c[2]);
+    let y1 = add_word(x1, 0, y2, c[1]);
+    add_word(x0, 0, y1, c[0]);
 }
 
 // The first m blocks of `with`, xored with the ciphers of as many counters from c on, to the front of `out`. All four words of c count where

@@ -7,9 +7,8 @@ use Rattle.sliced.proofs.counters.add_at.Tie as tie
 
 returns : tie.Need-returns
 returns c =
-    let S = c .before in
-    let a = S .args in
-    word-added (a .p) (a .b) (a .m) (a .x .now) (S .pre .0) (S .pre .1)
+    let a = c .args in
+    word-added (a .p) (a .a) (a .b) (a .m) (a .x .now) (c .pre .0) (c .pre .1)
 
 pub add-at-spec : {M : Type 1} → statement M
-add-at-spec = tie.close (tie.spec (λ c. search needs) (λ c. search needs) (λ c. search needs) (λ c. search needs) returns)
+add-at-spec = tie.close (tie.spec (λ c. search needs) (λ c. search needs) returns)

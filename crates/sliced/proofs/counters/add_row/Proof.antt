@@ -1,4 +1,4 @@
--- `sliced::counters::add_row` meets its contract: the eight words of the row are added one after the other (`added-next`).
+-- `sliced::counters::add_row` meets its contract: the eight words are added one after the other (`added-next`).
 -- Assumes nothing.
 use borrow.Author.Needs.{needs}
 use Prim.Native.Nat.{ℕ, _*_}
@@ -11,6 +11,14 @@ use Rattle.sliced.proofs.Ripple.{added-first, added-next}
 use Rattle.sliced.proofs.counters.add_row.Statement.{statement}
 use Rattle.sliced.proofs.counters.add_row.Tie as tie
 
+add-at-requires-8 : tie.Need-add-at-requires-8
+add-at-requires-8 c κs =
+    let at7 = c .before .before in
+    let at4 = at7 .before .before .before .before .before .before .before .before .before in
+    let at1 = at4 .before .before .before .before .before .before .before .before .before in
+    let i = at1 .before .before .before .pre .0 in
+    (omega arith, at7 .add-at7 .ensures .size)
+
 returns : tie.Need-returns
 returns c =
     let at7 = c .before .before .before in
@@ -21,32 +29,33 @@ returns c =
     let at2 = at3 .before .before .before in
     let at1 = at2 .before .before .before in
     let S = at1 .before .before .before in
-    let a = S .args in
-    let x = a .x .now in
-    let y = a .y .now in
-    let next = added-next (a .m) (a .i) in
-    next 7 _ x y _ _ _ (omega arith) (c .add-at8 .ensures)
-    (next 6 _ x y _ _ _ (omega arith) (at7 .add-at7 .ensures)
-    (next 5 _ x y _ _ _ (omega arith) (at6 .add-at6 .ensures)
-    (next 4 _ x y _ _ _ (omega arith) (at5 .add-at5 .ensures)
-    (next 3 _ x y _ _ _ (omega arith) (at4 .add-at4 .ensures)
-    (next 2 _ x y _ _ _ (omega arith) (at3 .add-at3 .ensures)
-    (next 1 _ x y _ _ _ (omega arith) (at2 .add-at2 .ensures)
-    (next 0 _ x y _ _ _ (omega arith)
-    (subst (λ (p : ℕ). WordAdded p (getD y 0 0) (a .m) x (at1 .add-at .last .0) (at1 .add-at .result)) (sym (add-zero (8 * a .i)))
-    (at1 .add-at .ensures))
-    (added-first (a .m) (a .i) x y (S .pre .1) (S .pre .2)))))))))
+    let g = S .args in
+    let a = g .t2 in
+    let x = g .x .now in
+    let y = g .y .now in
+    let next = added-next (g .m) (g .i) in
+    next 7 _ a x y _ _ _ (omega arith) (c .add-at8 .ensures)
+    (next 6 _ a x y _ _ _ (omega arith) (at7 .add-at7 .ensures)
+    (next 5 _ a x y _ _ _ (omega arith) (at6 .add-at6 .ensures)
+    (next 4 _ a x y _ _ _ (omega arith) (at5 .add-at5 .ensures)
+    (next 3 _ a x y _ _ _ (omega arith) (at4 .add-at4 .ensures)
+    (next 2 _ a x y _ _ _ (omega arith) (at3 .add-at3 .ensures)
+    (next 1 _ a x y _ _ _ (omega arith) (at2 .add-at2 .ensures)
+    (next 0 _ a x y _ _ _ (omega arith)
+    (subst (λ (p : ℕ). WordAdded p (getD a 0 0) (getD y 0 0) (g .m) x (at1 .add-at .last .0) (at1 .add-at .result))
+    (sym (add-zero (8 * g .i))) (at1 .add-at .ensures))
+    (added-first (g .m) (g .i) a x y (S .pre .1) (S .pre .2)))))))))
 
 pub add-row-spec : {M : Type 1} → statement M
 add-row-spec =
     tie.close
     (tie.spec
-    (λ c. search needs) (λ c. search needs) (λ c κs. search needs) (λ c. search needs)
-    (λ c. search needs) (λ c. search needs) (λ c κs. search needs) (λ c. search needs)
-    (λ c. search needs) (λ c. search needs) (λ c κs. search needs) (λ c. search needs)
-    (λ c. search needs) (λ c. search needs) (λ c κs. search needs) (λ c. search needs)
-    (λ c. search needs) (λ c. search needs) (λ c κs. search needs) (λ c. search needs)
-    (λ c. search needs) (λ c. search needs) (λ c κs. search needs) (λ c. search needs)
-    (λ c. search needs) (λ c. search needs) (λ c κs. search needs) (λ c. search needs)
-    (λ c. search needs) (λ c. search needs) (λ c κs. search needs) (λ c. search needs)
+    (λ c. search needs) (λ c. search needs) (λ c. search needs) (λ c κs. search needs) (λ c. search needs)
+    (λ c. search needs) (λ c. search needs) (λ c. search needs) (λ c κs. search needs) (λ c. search needs)
+    (λ c. search needs) (λ c. search needs) (λ c. search needs) (λ c κs. search needs) (λ c. search needs)
+    (λ c. search needs) (λ c. search needs) (λ c. search needs) (λ c κs. search needs) (λ c. search needs)
+    (λ c. search needs) (λ c. search needs) (λ c. search needs) (λ c κs. search needs) (λ c. search needs)
+    (λ c. search needs) (λ c. search needs) (λ c. search needs) (λ c κs. search needs) (λ c. search needs)
+    (λ c. search needs) (λ c. search needs) (λ c. search needs) (λ c κs. search needs) (λ c. search needs)
+    (λ c. search needs) (λ c. search needs) (λ c. search needs) add-at-requires-8 (λ c. search needs)
     returns)

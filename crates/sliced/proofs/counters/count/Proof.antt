@@ -14,6 +14,22 @@ use borrow.Author.Needs.{needs}
 use Rattle.sliced.proofs.counters.count.Statement.{statement}
 use Rattle.sliced.proofs.counters.count.Tie as tie
 
+add-word-requires : tie.Need-add-word-requires
+add-word-requires c κs = let N = c .before .numbers .ensures .1 in (search needs, N .0, N .1)
+
+add-word-requires-2 : tie.Need-add-word-requires-2
+add-word-requires-2 c κs = let x = c .before .before .before .before .before .before .pre .2 in (search needs, x .0, λ p h. x .1 p)
+
+add-word-requires-3 : tie.Need-add-word-requires-3
+add-word-requires-3 c κs =
+    let x = c .before .before .before .before .before .before .before .before .pre .1 in
+    (search needs, x .0, λ p h. x .1 p)
+
+add-word-requires-4 : tie.Need-add-word-requires-4
+add-word-requires-4 c κs =
+    let x = c .before .before .before .before .before .before .before .before .before .before .pre .0 in
+    (search needs, x .0, λ p h. x .1 p)
+
 returns : tie.Need-returns
 returns c =
     let W0 = c .add-word4 in
@@ -48,5 +64,5 @@ pub count-spec : {M : Type 1} → statement M
 count-spec =
     tie.close
     (tie.spec
-    (λ c κs. search needs) (λ c. search needs) (λ c κs. search needs) (λ c κs. search needs) (λ c. search needs) (λ c κs. search needs)
-    (λ c. search needs) (λ c κs. search needs) (λ c. search needs) (λ c κs. search needs) returns)
+    (λ c κs. search needs) (λ c. search needs) add-word-requires (λ c κs. search needs) (λ c. search needs) add-word-requires-2
+    (λ c. search needs) add-word-requires-3 (λ c. search needs) add-word-requires-4 returns)

@@ -42,7 +42,7 @@ loop2-again c =
 returns : tie.Need-returns Inv-loop μ-loop Inv-loop2 μ-loop2
 returns c =
     let l = c .before .loop2 in
-    (numbered-last (l .x) (l .p) (omega arith) (l .inv .2), l .inv .2 .0)
+    (numbered-last (l .x) (l .p) (omega arith) (l .inv .2), (l .inv .2 .0, λ q h. l .inv .2 .2 q (omega arith)))
 
 pub numbers-spec : {M : Type 1} → statement M
 numbers-spec =
