@@ -19,7 +19,7 @@ abbrev pub returned : ℕ → List ℕ → List ℕ → List ℕ
 returned at o t = take at o ++ (t ++ drop (length o - at) (drop at o))
 
 -- what stands in the output o at the end, if the walk goes on at `at` from the state s
-abbrev pub onward : Mode → List ℕ → List ℕ → List ℕ → ℕ → List ℕ
+abbrev onward : Mode → List ℕ → List ℕ → List ℕ → ℕ → List ℕ
 onward m s d o at = take at o ++ over (chain m s (drop at d)) (drop at o)
 
 pub tail-is : (d : List ℕ) (at : ℕ) → tailed at d ≡ drop at d
