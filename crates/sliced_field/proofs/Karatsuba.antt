@@ -1,7 +1,7 @@
 -- Two elements cut into halves: the product by three products of halves (Karatsuba).
 -- Assumes nothing.
 use mathlib.Core.Path.{_≡_, sym, ap, ap₂, _∙_}
-use Prim.Native.Nat.{ℕ, _+_, _*_, _/_, _%_, _^_, _<_}
+use Prim.Native.Nat.{ℕ, _*_, _/_, _%_, _^_, _<_}
 use native.Mathlib.Nat.{zero-add, add-zero, mod-lt}
 use native.Mathlib.Omega.{arith}
 use lib.Dec.{lit<}

@@ -3,7 +3,7 @@
 //
 // Both factors are cut into halves of 64 coefficients, so that three products of halves make the four that are wanted (Karatsuba).
 ghost use mathlib.Core.Path.{_≡_};
-ghost use mathlib.Core.List.{List, [], _∷_};
+ghost use mathlib.Core.List.{[], _∷_};
 ghost use Prim.Native.Nat.{ℕ, _+_, _-_, _*_, _%_, _^_, _<_, _≤_};
 ghost use lib.ListN.{length, getD};
 ghost use Rattle.block.specs.Xor.{_⊕_};

@@ -1,11 +1,9 @@
 -- `sliced_field::masks` meets its contract: each half is written behind the one before, which stays as it was (`half-masks-kept`).
 -- Assumes nothing.
 use borrow.Author.Needs.{needs}
-use mathlib.Core.Path.{_∙_}
 use mir.Val.{Fits}
 use mir.Syntax.{w64}
 use native.Mathlib.Omega.{arith}
-use Rattle.block.specs.Xor.{_⊕_}
 use Rattle.sliced_field.proofs.Elements.{half-masks-kept, masked-is}
 use Rattle.sliced_field.proofs.masks.Statement.{statement}
 use Rattle.sliced_field.proofs.masks.Tie as tie

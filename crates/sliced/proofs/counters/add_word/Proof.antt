@@ -8,7 +8,7 @@ use mathlib.Core.List.{List}
 use native.Mathlib.Omega.{arith}
 use lib.ListN.{length}
 use Rattle.lanes.specs.Bits.{bit, Masks}
-use Rattle.sliced.proofs.CounterDigits.{blank-room}
+use Rattle.lanes.proofs.Masks.{blank-room}
 use Rattle.sliced.proofs.Ripple.{Rippled, rippled-first, rippled-next, rippled-last}
 use Rattle.sliced.proofs.counters.add_word.Statement.{statement}
 use Rattle.sliced.proofs.counters.add_word.Tie as tie
