@@ -1,6 +1,6 @@
 -- Words added to words: what it does to the elements in their lanes, where the words are rows, rows of half an element, or multiples under masks.
 -- Assumes nothing.
-use mathlib.Core.Path.{_≡_, refl, sym, ap, ap₂, _∙_}
+use mathlib.Core.Path.{_≡_, refl, sym, ap, ap₂, subst, _∙_}
 use mathlib.Core.Logic.{_⊎_, inl, inr, ⊎-elim}
 use mathlib.Core.List.{List}
 use Prim.Native.Nat.{ℕ, zero, suc, _+_, _-_, _*_, _/_, _%_, _^_, _<_, _≤_, min}
@@ -50,6 +50,95 @@ summed-next f z₀ a i z l h =
           (lt-or-le k i);
       below = λ p g. getD-set-other z (a + i) p t 0 (λ q. omega arith) ∙ h .below p g;
       above = λ p g. getD-set-other z (a + i) p t 0 (λ q. omega arith) ∙ h .above p (omega arith);
+    }
+
+-- f added to two runs of m words, from word a on and from n words further on
+pub record SummedTwice (f : ℕ → ℕ) (z₀ : List ℕ) (a n m : ℕ) (z : List ℕ) : Type 0 where
+  -- after the first run
+  pub midst : List ℕ
+  pub first : Summed f z₀ a m midst
+  pub second : Summed (λ i. f (n + i)) midst (a + n) m z
+
+pub twice-first : (f : ℕ → ℕ) (z : List ℕ) (a n : ℕ) → SummedTwice f z a n 0 z
+twice-first f z a n = record { midst = z; first = summed-first f z a; second = summed-first (λ i. f (n + i)) z (a + n) }
+
+module _ (f : ℕ → ℕ) (z₀ : List ℕ) (a n i : ℕ) (z : List ℕ) (S : SummedTwice f z₀ a n i z) (hi : i < n) (l : a + n + i < length z) where
+  abbrev pub v : ℕ
+  v = getD z (a + i) 0 ⊕ f i
+
+  abbrev pub z₁ : List ℕ
+  z₁ = set z (a + i) v
+
+  abbrev y : List ℕ
+  y = S .midst
+
+  abbrev y₁ : List ℕ
+  y₁ = set y (a + i) v
+
+  first-on : Summed f z₀ a (i + 1) y₁
+  first-on =
+      let k = S .second .size in
+      subst (λ (u : ℕ). Summed f z₀ a (i + 1) (set y (a + i) (u ⊕ f i))) (sym (S .second .below (a + i) (omega arith)))
+      (summed-next f z₀ a i y (omega arith) (S .first))
+
+  alike : (p : ℕ) → getD z p 0 ≡ getD y p 0 → getD z₁ p 0 ≡ getD y₁ p 0
+  alike p e =
+      let k = S .second .size in
+      let other : (p ≡ a + i → ⊥) → getD z₁ p 0 ≡ getD y₁ p 0 =
+      λ h. getD-set-other z (a + i) p v 0 h ∙ e ∙ sym (getD-set-other y (a + i) p v 0 h) in
+      ⊎-elim (λ (g : p < a + i). other (λ q. omega arith))
+      (λ (g : a + i ≤ p).
+      ⊎-elim
+      (λ (h : p < a + i + 1).
+      let q : p ≡ a + i = omega arith in
+      ap (λ (x : ℕ). getD z₁ x 0) q
+      ∙ getD-set-same z (a + i) v 0 (omega arith)
+      ∙ sym (getD-set-same y (a + i) v 0 (omega arith))
+      ∙ ap (λ (x : ℕ). getD y₁ x 0) (sym q))
+      (λ (h : a + i + 1 ≤ p). other (λ q. omega arith))
+      (lt-or-le p (a + i + 1)))
+      (lt-or-le p (a + i))
+
+  second-stays : Summed (λ k. f (n + k)) y₁ (a + n) i z₁
+  second-stays =
+      let T = S .second in
+      record {
+        size = length-set z (a + i) v ∙ T .size ∙ sym (length-set y (a + i) v);
+        sum = λ k g.
+            getD-set-other z (a + i) (a + n + k) v 0 (λ q. omega arith)
+            ∙ T .sum k g
+            ∙ ap (λ (x : ℕ). x ⊕ f (n + k)) (sym (getD-set-other y (a + i) (a + n + k) v 0 (λ q. omega arith)));
+        below = λ p g. alike p (T .below p g);
+        above = λ p g. alike p (T .above p g);
+      }
+
+  pub twice-next : SummedTwice f z₀ a n (i + 1) (set z₁ (a + n + i) (getD z₁ (a + n + i) 0 ⊕ f (n + i)))
+  twice-next =
+      record {
+        midst = y₁;
+        first = first-on;
+        second = summed-next (λ k. f (n + k)) y₁ (a + n) i z₁ (rw (length-set z (a + i) v) l) second-stays;
+      }
+
+-- two runs, the second of which begins where the first ends, are one
+pub twice-last : (f : ℕ → ℕ) (z₀ : List ℕ) (a n : ℕ) (z : List ℕ) → SummedTwice f z₀ a n n z → Summed f z₀ a (n + n) z
+twice-last f z₀ a n z S =
+    let F = S .first in
+    let T = S .second in
+    record {
+      size = T .size ∙ F .size;
+      sum = λ i h.
+          ⊎-elim
+          (λ (g : i < n). T .below (a + i) (omega arith) ∙ F .sum i g)
+          (λ (g : n ≤ i).
+          let q : a + n + (i - n) ≡ a + i = omega arith in
+          let r : n + (i - n) ≡ i = omega arith in
+          ap (λ (x : ℕ). getD z x 0) (sym q)
+          ∙ T .sum (i - n) (omega arith)
+          ∙ ap₂ _⊕_ (F .above (a + n + (i - n)) (omega arith) ∙ ap (λ (x : ℕ). getD z₀ x 0) q) (ap f r))
+          (lt-or-le i n);
+      below = λ p h. T .below p (omega arith) ∙ F .below p h;
+      above = λ p h. T .above p (omega arith) ∙ F .above p (omega arith);
     }
 
 -- the words that are added hold w in lane e: then w is added to element e

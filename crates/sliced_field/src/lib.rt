@@ -123,7 +123,8 @@ fn eight_masks(m: &[u64; 192], i: usize) -> [u64; 8]
 }
 
 // The elements of p times x^0 to x^7, each under its mask, onto the rows of z from row o on: 72 of them, since the first 56 are 0. To
-// the elements of z that begin i rows before row o they are added times x^(56 - i).
+// the elements of z that begin i rows before row o they are added times x^(56 - i). A turn does a word of the first 36 rows and one of the
+// others, which spares every other step of the loop.
 fn add8(z: &mut [u64; 512], o: usize, p: &[u64; 272], m: [u64; 8])
     requires { ⌜ (length (now z) ≡ 512) × (o + 72 ≤ 256) × Short (now p) ⌝ }
     ensures { λ _. ⌜ ((b : ℕ → ℕ) (q i e : ℕ) → Masks 8 (λ k. b k % 2) m → o ≡ q + i → i ≤ 56 → e < 128 → element (now (z .exit)) q e ≡ element (now (z .entry)) q e ⊕ timesXs (56 - i) (chosen 8 b (λ k. timesXs k (element (now (p .entry)) 0 e)))) × (length (now (z .exit)) ≡ 512) ⌝ }
@@ -137,12 +138,18 @@ fn add8(z: &mut [u64; 512], o: usize, p: &[u64; 272], m: [u64; 8])
     let m6 = m[6];
     let m7 = m[7];
     let mut t: usize = 0;
-    while t < 144 {
+    while t < 72 {
         let at = 2 * o + t;
         let low = (p[112 + t] & m0) ^ ((p[114 + t] & m1) ^ ((p[116 + t] & m2) ^ (p[118 + t] & m3)));
         let high = (p[120 + t] & m4)
             ^ ((p[122 + t] & m5) ^ ((p[124 + t] & m6) ^ (p[126 + t] & m7)));
         z[at] = z[at] ^ (low ^ high);
+        let on = 72 + t;
+        let low_on = (p[112 + on] & m0)
+            ^ ((p[114 + on] & m1) ^ ((p[116 + on] & m2) ^ (p[118 + on] & m3)));
+        let high_on = (p[120 + on] & m4)
+            ^ ((p[122 + on] & m5) ^ ((p[124 + on] & m6) ^ (p[126 + on] & m7)));
+        z[2 * o + 72 + t] = z[2 * o + 72 + t] ^ (low_on ^ high_on);
         t += 1;
     }
 }
