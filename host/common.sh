@@ -1,6 +1,6 @@
 # Shared by the scripts of this folder; not run by itself. It finds the repository and the archive,
 # makes a temporary folder that is removed at the end, builds libsm and our Rust over it, and
-# compiles C for x86-64, on an x86-64 machine or on an Arm one.
+# compiles C for x86-64, on an x86-64 machine or on an Arm one, or for the machine itself.
 
 repository=$(cd "$(dirname "${BASH_SOURCE[0]}")/.." && pwd)
 rust="$repository/host/rust"
@@ -132,14 +132,17 @@ find_archive() {
     [ -r "$archive" ] || die "no archive at '$archive': run 'rt staticlib luossavin' first"
 }
 
+# The C compiler of this machine, whose programs nothing else runs.
+find_own_compiler() {
+    need gcc gcc libc6-dev
+    compiler=(gcc)
+    runner=()
+}
+
 # The C compiler for x86-64, and what runs its programs.
 find_compiler() {
     case $(uname -m) in
-    x86_64)
-        need gcc gcc libc6-dev
-        compiler=(gcc)
-        runner=()
-        ;;
+    x86_64) find_own_compiler ;;
     aarch64)
         need x86_64-linux-gnu-gcc gcc-x86-64-linux-gnu libc6-dev-amd64-cross
         need qemu-x86_64 qemu-user
@@ -150,14 +153,17 @@ find_compiler() {
     esac
 }
 
+# The peers' headers and static libraries, for this machine.
+find_own_peers() {
+    need /usr/include/gcrypt.h libgcrypt20-dev
+    need /usr/include/openssl/evp.h libssl-dev
+    peers=()
+}
+
 # The peers' headers and static libraries, for x86-64.
 find_peers() {
     case $(uname -m) in
-    x86_64)
-        need /usr/include/gcrypt.h libgcrypt20-dev
-        need /usr/include/openssl/evp.h libssl-dev
-        peers=()
-        ;;
+    x86_64) find_own_peers ;;
     aarch64)
         (
             cd "$work"
@@ -172,7 +178,7 @@ find_peers() {
     esac
 }
 
-# compile WORDS..: a static program for x86-64, which needs nothing of x86-64 on the machine that runs it.
+# compile WORDS..: a static program, which needs nothing of x86-64 on the machine that runs it.
 compile() {
     compile_shared -static -no-pie "$@"
 }
@@ -181,6 +187,12 @@ compile() {
 compile_shared() {
     "${compiler[@]}" -std=c11 -O2 -g -Wall -Wextra -I"$repository/include" -I"$c" "$@" 2>"$work/cc.log" ||
         { cat "$work/cc.log" >&2; die "the C compiler failed"; }
+}
+
+# compile_smoke: the smoke test over the archive, as $work/smoke.
+compile_smoke() {
+    compile "$c"/smoke*.c "$c/calls.c" "$c/rules.c" "$c/shelf_model.c" "$c/journal_model.c" "$c/wrap.c" \
+        "$c/hash_model.c" "$c/random.c" "$archive" -o "$work/smoke"
 }
 
 run() {

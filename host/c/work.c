@@ -8,7 +8,7 @@
  *   work version libgcrypt|OpenSSL
  *   work tables ..        the archive on the engine of four tables, in the first three
  *   work gates ..         on that of gates
- *   work timed ..         prints how many million bytes a second it is, the best of some runs
+ *   work timed ..         prints how many million bytes a second of the processor's time it is, the best of some runs
  *
  * Each message has its key set up anew; of `once`, which is the archive too, one set-up serves all of them. MODE is
  * 0 to 4. In pieces of PIECE bytes, by the archive, it is 2, or 4: sealing, or opening without the text. A range of
@@ -161,7 +161,7 @@ static int times(work *one, const struct task *t, struct field data, uint8_t *ou
     return 0;
 }
 
-/* The same some times over, and the best of their times. */
+/* The same some times over, and the best of their times, of which what other programs take is no part. */
 static int timed(work *one, const struct task *t, struct field data, uint8_t *out, size_t room)
 {
     double best = 0;
@@ -169,9 +169,9 @@ static int timed(work *one, const struct task *t, struct field data, uint8_t *ou
     for (int i = 0; i < 9 && status == 0; i++) {
         struct timespec from, to;
         double seconds;
-        clock_gettime(CLOCK_MONOTONIC, &from);
+        clock_gettime(CLOCK_PROCESS_CPUTIME_ID, &from);
         status = times(one, t, data, out, room);
-        clock_gettime(CLOCK_MONOTONIC, &to);
+        clock_gettime(CLOCK_PROCESS_CPUTIME_ID, &to);
         seconds = (double)(to.tv_sec - from.tv_sec) + 1e-9 * (double)(to.tv_nsec - from.tv_nsec);
         best = i == 0 || seconds < best ? seconds : best;
     }

@@ -2,20 +2,17 @@
 -- round is decryption.
 -- Assumes nothing.
 use mathlib.Core.Path.{_≡_, refl, sym, ap, _∙_}
-use Prim.Native.Nat.{ℕ, _-_, _*_, _≤_, _<_}
+use Prim.Native.Nat.{ℕ}
 use mathlib.Core.List.{List, reverse}
-use native.Mathlib.Omega.{arith}
-use lib.ListN.{length, take, drop, length-drop}
-use Rattle.block.specs.Blocks.{blockAt, cat}
+use Rattle.block.specs.Blocks.{cat}
 use Rattle.block.specs.Words.{words, unwords}
 use Rattle.block.specs.Xor.{xors}
 use Rattle.block.proofs.Cat.{cat-same}
 use Rattle.block.proofs.Xors.{xors-comm}
 use Rattle.cipher.specs.Sm4.{encryptBlock, decryptBlock}
 use Rattle.cipher.proofs.Blocks.{decrypt-turned}
-use Rattle.walk.specs.Walk.{stepped}
-use Rattle.walk.proofs.Batch.{gives, length-blockAt, fed-stepped}
-use Rattle.walk.proofs.Loop.{tailed, tail-is}
+use Rattle.walk.specs.Walk.{over}
+use Rattle.walk.proofs.Batch.{FedBack}
 use Rattle.cbc.specs.Cbc.{cbcDecrypt}
 use Rattle.cbc.proofs.Blocks.{decrypt-block}
 
@@ -23,26 +20,15 @@ turned-block : (back s : List ℕ) → encryptBlock back s ≡ decryptBlock (rev
 unfolding encryptBlock decryptBlock
 turned-block back s = ap unwords (sym (decrypt-turned back (words s)))
 
-module _ (back d : List ℕ) (at n : ℕ) (h : 16 ≤ at) where
-  -- the blocks one before, xored with what the ciphertext blocks are decrypted to, are what the walk gives
-  pub decrypted-gives : cat n (λ i. xors (blockAt (tailed (at - 16) d) i) (encryptBlock back (blockAt (tailed at d) i)))
-      ≡ cat n (gives (cbcDecrypt (reverse back)) (take 16 (drop (at - 16) d)) (drop at d))
-  decrypted-gives =
-      cat-same n (λ i. xors (blockAt (tailed (at - 16) d) i) (encryptBlock back (blockAt (tailed at d) i)))
-      (gives (cbcDecrypt (reverse back)) (take 16 (drop (at - 16) d)) (drop at d))
-      (λ i g.
-      let x = blockAt (drop at d) i in
-      let y = blockAt (drop (at - 16) d) i in
-      rw (tail-is d at, tail-is d (at - 16), turned-block back x)
-      (xors-comm y (decryptBlock (reverse back) x)
-      ∙ ap (xors (decryptBlock (reverse back) x)) (sym (fed-stepped (cbcDecrypt (reverse back)) (λ s b. refl) d at h i))))
+module _ (back : List ℕ) where
+  pub decrypt-fed : FedBack (cbcDecrypt (reverse back))
+  decrypt-fed = record { state = λ s b. refl; full = λ s b hs hb. decrypt-block (reverse back) s b hs }
 
-  -- each a block
-  pub decrypted-full : 16 * n ≤ length (drop at d) → at ≤ length d → (i : ℕ) → i < n
-      → length (gives (cbcDecrypt (reverse back)) (take 16 (drop (at - 16) d)) (drop at d) i) ≡ 16
-  decrypted-full room within i g =
-      let m = cbcDecrypt (reverse back) in
-      let l : length (drop at d) ≡ length d - at = length-drop at d in
-      let k : 16 * n ≤ length (drop (at - 16) d) = rw length-drop (omega arith) in
-      decrypt-block (reverse back) (stepped m i (take 16 (drop (at - 16) d)) (drop at d)) (blockAt (drop at d) i)
-      (rw (fed-stepped m (λ s b. refl) d at h i) (length-blockAt (drop (at - 16) d) i n g k))
+  -- n states, each xored with what its ciphertext block is decrypted to, are what the blocks give
+  pub decrypted : (n : ℕ) (s c : ℕ → List ℕ) (o t : List ℕ) → t ≡ over (cat n (λ i. xors (s i) (encryptBlock back (c i)))) o
+      → t ≡ over (cat n (λ i. cbcDecrypt (reverse back) .block (s i) (c i))) o
+  decrypted n s c o t e =
+      let f : ℕ → List ℕ = λ i. xors (s i) (encryptBlock back (c i)) in
+      let g : ℕ → List ℕ = λ i. cbcDecrypt (reverse back) .block (s i) (c i) in
+      e ∙ ap (λ (x : List ℕ). over x o)
+      (cat-same n f g (λ i h. rw (turned-block back (c i)) (xors-comm (s i) (decryptBlock (reverse back) (c i)))))

@@ -11,8 +11,9 @@ use lib.Bits.{bitAnd, and-block, and-mask, and-le-r, and-zero-r}
 use lib.ListN.{getD}
 use Rattle.lanes.specs.Bits.{bit, pack, byteLane}
 use Rattle.lanes.proofs.Bits.{bit-small, bit-mod, bit-shr, pack-lt, pack-is}
+use Rattle.circuit.specs.Sbox.{SboxLanes}
 use Rattle.cipher.specs.Sm4.{Sbox, tau}
-use Rattle.cipher.specs.Gates.{SboxLanes, fourLanes, fourBytes}
+use Rattle.cipher.specs.Gates.{fourLanes, fourBytes}
 use Rattle.cipher.proofs.FourTables.{tau-bytes}
 
 -- a mask whose lowest byte is 1

@@ -34,7 +34,7 @@ rotl-bit-at w m n i e hw hi =
     ∙ ap (λ (x : ℕ). bit x w) r)
     (lt-or-le i n)
 
-pub rotl-bit : (w n i : ℕ) → n ≤ 32 → w < 2 ^ 32 → i < 32 → bit i (rotl w n) ≡ bit ((i + (32 - n)) % 32) w
+rotl-bit : (w n i : ℕ) → n ≤ 32 → w < 2 ^ 32 → i < 32 → bit i (rotl w n) ≡ bit ((i + (32 - n)) % 32) w
 rotl-bit w n i h hw hi = rotl-bit-at w (32 - n) n i (omega arith) hw hi
 
 -- a bit of L from five bits, as they stand

@@ -1,13 +1,7 @@
--- The S-box in the lanes of words.
-use Prim.Native.Nat.{ℕ, _+_, _*_, _^_, _<_}
-use mathlib.Core.Path.{_≡_}
+-- What stands in four lanes of words.
+use Prim.Native.Nat.{ℕ, _+_, _*_, _^_}
 use mathlib.Core.List.{List}
 use Rattle.lanes.specs.Bits.{bit, byteLane}
-use Rattle.cipher.specs.Sm4.{Sbox}
-
--- in each of 64 lanes r has the S-box's entry for what x has there
-abbrev pub SboxLanes : List ℕ → List ℕ → Type 0
-SboxLanes x r = (n : ℕ) → n < 64 → byteLane r n ≡ Sbox (byteLane x n)
 
 -- lanes 0, 8, 16 and 24 of a word, and of eight words
 abbrev pub fourLanes : ℕ → ℕ

@@ -1,7 +1,7 @@
 -- Blocks in lanes and back: loaded and transposed, a block stands in a lane; a set added is added to every hash; hashes transposed stand
 -- in rows; and the hashes at the start.
 -- Assumes nothing.
-use mathlib.Core.Path.{_≡_, sym, ap, ap₂, _∙_}
+use mathlib.Core.Path.{_≡_, refl, sym, ap, ap₂, subst, _∙_}
 use mathlib.Core.Logic.{⊎-elim}
 use mathlib.Core.List.{List}
 use Prim.Native.Nat.{ℕ, suc, _+_, _-_, _*_, _/_, _%_, _^_, _<_, _≤_}
@@ -26,8 +26,8 @@ use Rattle.lanes.specs.Bits.{bit}
 use Rattle.lanes.proofs.Bits.{bit-small, bit-xor, bit-zero, bit-low, bit-high, bit-past, bit-ext, lt-or-le}
 use Rattle.rows.specs.Rows.{place, Row, Rows}
 use Rattle.rows.specs.Transposed.{at, Turned}
-use Rattle.sliced_field.specs.Elements.{Masks}
-use Rattle.sliced_field.proofs.Elements.{element-lt, element-bit, element-is}
+use Rattle.sliced_field.specs.Elements.{Masked}
+use Rattle.sliced_field.proofs.Elements.{element-lt, element-bit, element-is, masked-bit}
 use Rattle.ghash.specs.Ghash.{blockOf}
 use Rattle.ghash.specs.Sets.{blockNumber, rowNumber, InLane, lane, Starts}
 use Rattle.ghash.proofs.Blocks.{blockOf-words}
@@ -93,50 +93,72 @@ from-lane q k r h =
     let m : (2 * r + k / 64) % 2 ≡ k / 64 = omega arith in
     omega arith
 
--- the words below i of both halves have their set's words added
-abbrev pub Added : List ℕ → List ℕ → List ℕ → ℕ → ℕ → List ℕ → Type 0
-Added z₀ a b q i z = (p : ℕ) → p < 128
-    → (p < i → (getD z p 0 ≡ getD z₀ p 0 ⊕ getD b (from q p) 0) × (getD z (p + 128) 0 ≡ getD z₀ (p + 128) 0 ⊕ getD a (from q p) 0))
-    × (i ≤ p → (getD z p 0 ≡ getD z₀ p 0) × (getD z (p + 128) 0 ≡ getD z₀ (p + 128) 0))
+-- of the half of z that starts at word o, the words below i have the words of set q in w added, and the others stand as they were
+abbrev HalfAdded : List ℕ → List ℕ → ℕ → ℕ → ℕ → List ℕ → Type 0
+HalfAdded z₀ w o q i z = (p : ℕ) → p < 128
+    → (p < i → getD z (p + o) 0 ≡ getD z₀ (p + o) 0 ⊕ getD w (from q p) 0) × (i ≤ p → getD z (p + o) 0 ≡ getD z₀ (p + o) 0)
 
-module _ (z₀ a b : List ℕ) (q i : ℕ) (z : List ℕ) (hi : i < 128) (n : length z ≡ 256) (h : Added z₀ a b q i z) where
-  abbrev stored : List ℕ
-  stored = set (set z i (getD z i 0 ⊕ getD b (from q i) 0)) (i + 128) (getD z (i + 128) 0 ⊕ getD a (from q i) 0)
+-- v added to word y
+abbrev plus : List ℕ → ℕ → ℕ → List ℕ
+plus z y v = set z y (getD z y 0 ⊕ v)
 
-  off : (p : ℕ) → (p ≡ i → ⊥) → (p ≡ i + 128 → ⊥) → getD stored p 0 ≡ getD z p 0
-  off p d e =
-      let u = getD z i 0 ⊕ getD b (from q i) 0 in
-      let v = getD z (i + 128) 0 ⊕ getD a (from q i) 0 in
-      getD-set-other (set z i u) (i + 128) p v 0 e ∙ getD-set-other z i p u 0 d
+module _ (z₀ w : List ℕ) (o q i : ℕ) (z : List ℕ) (h : HalfAdded z₀ w o q i z) where
+  half-kept : (y v : ℕ) → ((p : ℕ) → p < 128 → p + o ≡ y → ⊥) → HalfAdded z₀ w o q i (plus z y v)
+  half-kept y v d p hp =
+      let e = getD-set-other z y (p + o) (getD z y 0 ⊕ v) 0 (d p hp) in
+      (λ k. e ∙ h p hp .0 k, λ k. e ∙ h p hp .1 k)
 
-  pub added-next : Added z₀ a b q (i + 1) stored
-  added-next p hp =
-      let was = h i hi .1 (omega arith) in
-      let u = getD z i 0 ⊕ getD b (from q i) 0 in
-      let v = getD z (i + 128) 0 ⊕ getD a (from q i) 0 in
-      let l : length (set z i u) ≡ 256 = length-set z i u ∙ n in (
+  half-next : (x y : ℕ) → x ≡ from q i → y ≡ i + o → y < length z → HalfAdded z₀ w o q (i + 1) (plus z y (getD w x 0))
+  half-next x y ex ey hy p hp =
+      let v = getD z y 0 ⊕ getD w x 0 in (
         λ k.
             ⊎-elim
-            (λ (g : p < i).
-            let o = h p hp .0 g in
-            (off p (λ e. omega arith) (λ e. omega arith) ∙ o .0, off (p + 128) (λ e. omega arith) (λ e. omega arith) ∙ o .1))
+            (λ (g : p < i). getD-set-other z y (p + o) v 0 (λ e. omega arith) ∙ h p hp .0 g)
             (λ (g : i ≤ p).
-            let e : p ≡ i = omega arith in (
-              ap (λ (x : ℕ). getD stored x 0) e
-                  ∙ getD-set-other (set z i u) (i + 128) i v 0 (λ x. omega arith)
-                  ∙ getD-set-same z i u 0 (omega arith)
-                  ∙ ap (λ (x : ℕ). x ⊕ getD b (from q i) 0) (was .0)
-                  ∙ ap (λ (x : ℕ). getD z₀ x 0 ⊕ getD b (from q x) 0) (sym e),
-              ap (λ (x : ℕ). getD stored (x + 128) 0) e
-                  ∙ getD-set-same (set z i u) (i + 128) v 0 (omega arith)
-                  ∙ ap (λ (x : ℕ). x ⊕ getD a (from q i) 0) (was .1)
-                  ∙ ap (λ (x : ℕ). getD z₀ (x + 128) 0 ⊕ getD a (from q x) 0) (sym e),
-            ))
+            let e : i ≡ p = omega arith in
+            let ep : y ≡ p + o = omega arith in
+            ap (λ (u : ℕ). getD (set z y v) u 0) (sym ep)
+            ∙ getD-set-same z y v 0 hy
+            ∙ ap₂ (λ (s t : ℕ). s ⊕ getD w t 0) (ap (λ (u : ℕ). getD z u 0) ep ∙ h p hp .1 g) (ex ∙ ap (from q) e))
             (lt-or-le p i),
-        λ k.
-            let o = h p hp .1 (omega arith) in
-            (off p (λ e. omega arith) (λ e. omega arith) ∙ o .0, off (p + 128) (λ e. omega arith) (λ e. omega arith) ∙ o .1),
+        λ k. getD-set-other z y (p + o) v 0 (λ e. omega arith) ∙ h p hp .1 (omega arith),
       )
+
+-- the same of both halves of 128 hashes
+abbrev pub Added : List ℕ → List ℕ → List ℕ → ℕ → ℕ → List ℕ → Type 0
+Added z₀ a b q i z = (length z ≡ 256) × HalfAdded z₀ b 0 q i z × HalfAdded z₀ a 128 q i z
+
+pub added-first : (z a b : List ℕ) (q : ℕ) → length z ≡ 256 → Added z a b q 0 z
+added-first z a b q n = (n, λ p h. (λ k. absurd (omega arith), λ k. refl), λ p h. (λ k. absurd (omega arith), λ k. refl))
+
+-- one row more, as the code adds it
+module _ (z₀ a b : List ℕ) (q i : ℕ) (z : List ℕ) (hi : i < 64) (h : Added z₀ a b q (2 * i) z) where
+  pub added-next : (let x = 8 * i + 2 * q in let y = 2 * i in
+      Added z₀ a b q (2 * (i + 1))
+      (plus (plus (plus (plus z y (getD b x 0)) (y + 1) (getD b (x + 1) 0)) (y + 128) (getD a x 0)) (y + 129) (getD a (x + 1) 0)))
+  added-next =
+      let x = 8 * i + 2 * q in
+      let y = 2 * i in
+      let z1 = plus z y (getD b x 0) in
+      let z2 = plus z1 (y + 1) (getD b (x + 1) 0) in
+      let z3 = plus z2 (y + 128) (getD a x 0) in
+      let z4 = plus z3 (y + 129) (getD a (x + 1) 0) in
+      let n = h .0 in
+      let n1 : length z1 ≡ 256 = length-set z y _ ∙ n in
+      let n2 : length z2 ≡ 256 = length-set z1 (y + 1) _ ∙ n1 in
+      let n3 : length z3 ≡ 256 = length-set z2 (y + 128) _ ∙ n2 in
+      let e : y + 1 + 1 ≡ 2 * (i + 1) = omega arith in
+      let fx : x ≡ from q y = omega arith in
+      let fx1 : x + 1 ≡ from q (y + 1) = omega arith in
+      let l1 = half-next z₀ b 0 q y z (h .1) x y fx (omega arith) (omega arith) in
+      let l2 = half-next z₀ b 0 q (y + 1) z1 l1 (x + 1) (y + 1) fx1 (omega arith) (omega arith) in
+      let l3 = half-kept z₀ b 0 q (y + 1 + 1) z2 l2 (y + 128) (getD a x 0) (λ p k d. omega arith) in
+      let l4 = half-kept z₀ b 0 q (y + 1 + 1) z3 l3 (y + 129) (getD a (x + 1) 0) (λ p k d. omega arith) in
+      let u1 = half-kept z₀ a 128 q y z (h .2) y (getD b x 0) (λ p k d. omega arith) in
+      let u2 = half-kept z₀ a 128 q y z1 u1 (y + 1) (getD b (x + 1) 0) (λ p k d. omega arith) in
+      let u3 = half-next z₀ a 128 q y z2 u2 x (y + 128) fx (omega arith) (omega arith) in
+      let u4 = half-next z₀ a 128 q (y + 1) z3 u3 (x + 1) (y + 129) fx1 (omega arith) (omega arith) in
+      (length-set z3 (y + 129) _ ∙ n3, subst (λ (m : ℕ). HalfAdded z₀ b 0 q m z4) e l4, subst (λ (m : ℕ). HalfAdded z₀ a 128 q m z4) e u4)
 
 module _ (z₀ a b : List ℕ) (q i : ℕ) (z : List ℕ) (hq : q < 4) (hi : 128 ≤ i) (h : Added z₀ a b q i z) where
   -- one row of one hash
@@ -159,7 +181,9 @@ module _ (z₀ a b : List ℕ) (q i : ℕ) (z : List ℕ) (hq : q < 4) (hi : 128
       (λ (g : r < 64).
       let p = 2 * r + k / 64 in
       let x = from-lane q k r hk in
-      row-added k r (from q p) (f k) b hk hr (l k) (h p (omega arith) .0 (omega arith) .0)
+      let y : p + 0 ≡ p = omega arith in
+      row-added k r (from q p) (f k) b hk hr (l k)
+      (subst (λ (u : ℕ). getD z u 0 ≡ getD z₀ u 0 ⊕ getD b (from q p) 0) y (h .1 p (omega arith) .0 (omega arith)))
       (ap₂ (λ (u v : ℕ). bit u (getD b v 0)) (sym n) (sym x) ∙ s k hk .low r g))
       (λ (g : 64 ≤ r).
       let p = 2 * (r - 64) + k / 64 in
@@ -167,9 +191,7 @@ module _ (z₀ a b : List ℕ) (q i : ℕ) (z : List ℕ) (hq : q < 4) (hi : 128
       let x = from-lane q k (r - 64) hk in
       let c : 64 + (r - 64) ≡ r = omega arith in
       row-added k r (from q p) (f k) a hk hr (l k)
-      (ap (λ (u : ℕ). getD z u 0) y
-      ∙ h p (omega arith) .0 (omega arith) .1
-      ∙ ap (λ (u : ℕ). getD z₀ u 0 ⊕ getD a (from q p) 0) (sym y))
+      (subst (λ (u : ℕ). getD z u 0 ≡ getD z₀ u 0 ⊕ getD a (from q p) 0) (sym y) (h .2 p (omega arith) .0 (omega arith)))
       (ap₂ (λ (u v : ℕ). bit u (getD a v 0)) (sym n) (sym x) ∙ s k hk .high (r - 64) (omega arith) ∙ ap (λ (u : ℕ). bit u (f k)) c))
       (lt-or-le r 64))
 
@@ -301,8 +323,8 @@ started-next y i m z hi n e h c hc =
     ))
     (lt-or-le c i)
 
-pub mask-odd : (y i : ℕ) (m : List ℕ) → i < 128 → Masks y 128 m → getD m i 0 % 2 ≡ bit i y
-mask-odd y i m hi M = sym (lowest (getD m i 0)) ∙ M .1 i 0 hi (omega arith)
+pub mask-odd : (y i : ℕ) (m : List ℕ) → i < 128 → Masked y m → getD m i 0 % 2 ≡ bit i y
+mask-odd y i m hi M = sym (lowest (getD m i 0)) ∙ masked-bit y i 0 m M hi (omega arith)
   where
     lowest : (w : ℕ) → bit 0 w ≡ w % 2
     lowest w = unfold bit in ap (λ (x : ℕ). x % 2) (div-one w)

@@ -11,7 +11,7 @@ use Rattle.block.specs.Below.{AreBytes}
 use Rattle.block.specs.Xor.{_⊕_}
 use Rattle.block.proofs.Entries.{below-drop}
 use Rattle.field.specs.Field.{Element, gmul, gpow}
-use Rattle.sliced_field.specs.Elements.{element, Masks}
+use Rattle.sliced_field.specs.Elements.{element, Masked}
 use Rattle.ghash.specs.Ghash.{blockOf, hashFrom}
 use Rattle.ghash.specs.Sets.{upTo, blockNumber, InLane, lane, Starts, Hashed, Ready}
 use Rattle.ghash.proofs.Blocks.{blockOf-lt}
@@ -57,11 +57,11 @@ blockNumber-lt bytes h i = blockOf-lt (drop (16 * i) bytes) (below-drop 256 (16 
 module _ (m bytes z₀ : List ℕ) where
   -- the hashes z wait for set s
   abbrev pub Waiting : ℕ → List ℕ → Type 0
-  Waiting s z = (h y : ℕ) → Element h → Masks (gpow h 128) 128 m → Starts y z₀ → Ready h y (upTo (128 * s) (blockNumber bytes)) z
+  Waiting s z = (h y : ℕ) → Element h → Masked (gpow h 128) m → Starts y z₀ → Ready h y (upTo (128 * s) (blockNumber bytes)) z
 
   -- the sets before s are hashed, of which there is one
   abbrev pub Done : ℕ → List ℕ → Type 0
-  Done s z = 0 < s → (h y : ℕ) → Element h → Masks (gpow h 128) 128 m → Starts y z₀ → Hashed h y (upTo (128 * s) (blockNumber bytes)) z
+  Done s z = 0 < s → (h y : ℕ) → Element h → Masked (gpow h 128) m → Starts y z₀ → Hashed h y (upTo (128 * s) (blockNumber bytes)) z
 
   pub waiting-first : (s : ℕ) → s ≤ 0 → Waiting s z₀
   unfolding upTo
@@ -70,7 +70,7 @@ module _ (m bytes z₀ : List ℕ) where
       subst (λ (x : ℕ). Ready h y (upTo (128 * x) (blockNumber bytes)) z₀) e (ready-first h y z₀ first)
 
   pub waiting-next : (s : ℕ) (z z′ : List ℕ) → 0 < s → Done s z
-      → ((h : ℕ) → Masks h 128 m → (e : ℕ) → e < 128 → element z′ 0 e ≡ gmul h (element z 0 e)) → Waiting s z′
+      → ((h : ℕ) → Masked h m → (e : ℕ) → e < 128 → element z′ 0 e ≡ gmul h (element z 0 e)) → Waiting s z′
   waiting-next s z z′ l done times h y hh M first =
       ready-next h hh y (upTo (128 * s) (blockNumber bytes)) z z′ (done l h y hh M first)
       (λ k g. times (gpow h 128) M (2 * (k % 64) + k / 64) (omega arith))

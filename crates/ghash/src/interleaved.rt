@@ -8,7 +8,7 @@ ghost use Rattle.block.specs.Xor.{_⊕_};
 ghost use Rattle.field.specs.Field.{Element, gmul, gpow};
 ghost use Rattle.lanes.specs.Bits.{bit};
 ghost use Rattle.rows.specs.Rows.{Sized};
-ghost use Rattle.sliced_field.specs.Elements.{Masks};
+ghost use Rattle.sliced_field.specs.Elements.{Masked};
 ghost use Rattle.ghash.specs.Absorbed.{Absorbed};
 ghost use Rattle.ghash.specs.Ghash.{blocks, ghash};
 ghost use Rattle.ghash.specs.Sets.{upTo, blockNumber, rowNumber, InLane, lane, Starts, Hashed};
@@ -20,7 +20,7 @@ fn start(y: U128, z: &mut [u64; 256])
     requires { ⌜ length (now z) ≡ 256 ⌝ }
     ensures { λ _. ⌜ Starts (value y) (now (z .exit)) × (length (now (z .exit)) ≡ 256) ⌝ }
 {
-    let mut m = [0u64; 128];
+    let mut m = [0u64; 192];
     sliced_field::masks(y, &mut m);
     let mut i: usize = 0;
     while i < 128 {
@@ -42,26 +42,27 @@ fn load_lanes(src: &[u8], a: &mut [u64; 512], b: &mut [u64; 512])
     rows::transpose(b);
 }
 
-// To each hash its block of set q.
+// To each hash its block of set q. A turn adds both words of a row of each half, which the back end joins.
 fn add_set(z: &mut [u64; 256], a: &[u64; 512], b: &[u64; 512], q: usize)
     requires { ⌜ (length (now z) ≡ 256) × (q < 4) × Sized (now a) (now b) ⌝ }
     ensures { λ _. ⌜ ((f : ℕ → ℕ) → ((k : ℕ) → k < 128 → InLane (f k) (now (a .entry)) (now (b .entry)) (128 * q + k)) → ((k : ℕ) → Element (f k)) → (k : ℕ) → k < 128 → lane (now (z .exit)) k ≡ lane (now (z .entry)) k ⊕ f k) × (length (now (z .exit)) ≡ 256) ⌝ }
 {
-    let mut p: usize = 0;
-    while p < 128 {
-        let from = 8 * (p / 2) + 2 * q + p % 2;
-        let low = z[p] ^ b[from];
-        let high = z[p + 128] ^ a[from];
-        z[p] = low;
-        z[p + 128] = high;
-        p += 1;
+    let mut i: usize = 0;
+    while i < 64 {
+        let to = 2 * i;
+        let from = 8 * i + 2 * q;
+        z[to] = z[to] ^ b[from];
+        z[to + 1] = z[to + 1] ^ b[from + 1];
+        z[to + 128] = z[to + 128] ^ a[from];
+        z[to + 129] = z[to + 129] ^ a[from + 1];
+        i += 1;
     }
 }
 
 // All sets of 128 blocks of `bytes`, for the masks m of H to the 128.
-fn absorb_sets(m: &[u64; 128], z: &mut [u64; 256], room: &mut [u64; 2048], bytes: &[u8])
-    requires { ⌜ (length (now m) ≡ 128) × (length (now z) ≡ 256) × (length (now room) ≡ 2048) × (2048 ≤ length (now bytes)) ⌝ }
-    ensures { λ _. ⌜ ((h y : ℕ) → Element h → Masks (gpow h 128) 128 (now (m .entry)) → Starts y (now (z .entry)) → Hashed h y (upTo (128 * (length (now (bytes .entry)) / 2048)) (blockNumber (now (bytes .entry)))) (now (z .exit))) × (length (now (z .exit)) ≡ 256) × (length (now (room .exit)) ≡ 2048) ⌝ }
+fn absorb_sets(m: &[u64; 192], z: &mut [u64; 256], bytes: &[u8])
+    requires { ⌜ (length (now m) ≡ 192) × (length (now z) ≡ 256) × (2048 ≤ length (now bytes)) ⌝ }
+    ensures { λ _. ⌜ ((h y : ℕ) → Element h → Masked (gpow h 128) (now (m .entry)) → Starts y (now (z .entry)) → Hashed h y (upTo (128 * (length (now (bytes .entry)) / 2048)) (blockNumber (now (bytes .entry)))) (now (z .exit))) × (length (now (z .exit)) ≡ 256) ⌝ }
 {
     let mut a = [0u64; 512];
     let mut b = [0u64; 512];
@@ -73,7 +74,7 @@ fn absorb_sets(m: &[u64; 128], z: &mut [u64; 256], room: &mut [u64; 2048], bytes
             load_lanes(&bytes[at..], &mut a, &mut b);
         }
         if s > 0 {
-            sliced_field::multiply(m, z, room);
+            sliced_field::multiply(m, z);
         }
         add_set(z, &a, &b, s % 4);
         s += 1;
@@ -95,12 +96,12 @@ fn second_half(z: &[u64; 256]) -> [u64; 128]
 }
 
 // Folds 128 hashes to 64: the first 64 times the h of the masks m, with the second 64 added.
-fn fold(m: &[u64; 128], z: &mut [u64; 256], room: &mut [u64; 2048])
-    requires { ⌜ (length (now m) ≡ 128) × (length (now z) ≡ 256) × (length (now room) ≡ 2048) ⌝ }
-    ensures { λ _. ⌜ ((h : ℕ) → Masks h 128 (now (m .entry)) → (k : ℕ) → k < 64 → lane (now (z .exit)) k ≡ gmul h (lane (now (z .entry)) k) ⊕ lane (now (z .entry)) (64 + k)) × (length (now (z .exit)) ≡ 256) ⌝ }
+fn fold(m: &[u64; 192], z: &mut [u64; 256])
+    requires { ⌜ (length (now m) ≡ 192) × (length (now z) ≡ 256) ⌝ }
+    ensures { λ _. ⌜ ((h : ℕ) → Masked h (now (m .entry)) → (k : ℕ) → k < 64 → lane (now (z .exit)) k ≡ gmul h (lane (now (z .entry)) k) ⊕ lane (now (z .entry)) (64 + k)) × (length (now (z .exit)) ≡ 256) ⌝ }
 {
     let t = second_half(z);
-    sliced_field::multiply(m, z, room);
+    sliced_field::multiply(m, z);
     let mut i: usize = 0;
     while i < 128 {
         z[2 * i] = z[2 * i] ^ t[i];
@@ -157,13 +158,12 @@ pub fn absorb_lanes(g: Ghash, bytes: &[u8]) -> Ghash
 {
     let h = g.h;
     let to64 = field::power(h, 64);
-    let mut m = [0u64; 128];
+    let mut m = [0u64; 192];
     sliced_field::masks(field::galois_mul(to64, to64), &mut m);
     let mut z = [0u64; 256];
     start(g.y, &mut z);
-    let mut room = [0u64; 2048];
-    absorb_sets(&m, &mut z, &mut room, bytes);
+    absorb_sets(&m, &mut z, bytes);
     sliced_field::masks(to64, &mut m);
-    fold(&m, &mut z, &mut room);
+    fold(&m, &mut z);
     joined_lanes(h, &z)
 }

@@ -10,13 +10,12 @@ use lib.Dec.{lit<}
 use lib.ListN.{getD, length, set, length-set}
 use lib.Seq.{getD-set-same, getD-set-other}
 use Rattle.block.specs.Xor.{_⊕_}
-use Rattle.lanes.specs.Bits.{bit, pack, byteLane}
+use Rattle.lanes.specs.Bits.{bit, pack, byteLane, Masks}
 use Rattle.lanes.proofs.Bits.{bit-small, bit-xor, bit-mod, bit-shr, bit-pack, pack-is, lt-or-le}
-use Rattle.cipher.specs.Sm4.{Sbox}
-use Rattle.cipher.specs.Gates.{SboxLanes}
+use Rattle.circuit.specs.Sbox.{Sbox, SboxLanes}
 use Rattle.cipher.proofs.WordBits.{tau-bit}
 use Rattle.sliced.specs.Lanes.{lane, Held}
-use Rattle.sliced.specs.Round.{keyed, subbed, Mask, summed, column}
+use Rattle.sliced.specs.Round.{keyed, subbed, summed, column}
 use Rattle.sliced.proofs.Held.{held-lane}
 
 -- stores at p + k, p + k + 8 and so on
@@ -67,7 +66,7 @@ pub length-columnPut : (s o : List ℕ) (p : ℕ) → length (columnPut s p o) �
 length-columnPut s o p = ap length (column-puts s o p) ∙ length-puts (eight o) s p 0
 
 -- the bits of byte b in lane n of column j
-module _ (x y z m : List ℕ) (k b j n : ℕ) (hb : b < 4) (hj : j < 8) (hn : n < 64) (hm : Mask k b m) where
+module _ (x y z m : List ℕ) (k b j n : ℕ) (hb : b < 4) (hj : j < 8) (hn : n < 64) (hm : Masks 8 (λ i. bit (8 * b + i) k) m) where
   sum-bit : (q i : ℕ) → i < 8 → q ≡ 64 * b + j + 8 * i → bit n (summed x y z m q i) ≡ bit (8 * b + i) (keyed x y z k (8 * n + j))
   unfolding keyed
   sum-bit q i hi e =
@@ -118,7 +117,7 @@ columns-first f n b s h p k hp hc hk w = ⊎-elim (λ g. h p k g hc hk) (λ g. a
 pub columns-last : (f : ℕ → ℕ) (n b j : ℕ) (s : List ℕ) → n ≤ j → Columns f n b j s → Held f n (64 * b + 64) s
 columns-last f n b j s h c p k hp hc hk = c p k hp hc hk (inr (omega arith))
 
-module _ (x y z m : List ℕ) (key n b j : ℕ) (s o : List ℕ) (hb : b < 4) (hj : j < 8) (hm : Mask key b m) (hs : length s ≡ 512)
+module _ (x y z m : List ℕ) (key n b j : ℕ) (s o : List ℕ) (hb : b < 4) (hj : j < 8) (hm : Masks 8 (λ i. bit (8 * b + i) key) m) (hs : length s ≡ 512)
     (ho : SboxLanes (column x y z m (64 * b + j)) o) where
   pub columns-next : Columns (subbed x y z key) n b j s → Columns (subbed x y z key) n b (j + 1) (columnPut s (64 * b + j) o)
   columns-next c p k hp hc hk w =

@@ -3,12 +3,12 @@
 use mathlib.Core.Path.{_≡_, refl, sym, ap, ap₂, _∙_}
 use mathlib.Core.Bool.{Bool, true, false}
 use mathlib.Core.List.{List, [], _∷_}
-use Prim.Native.Nat.{ℕ, zero, suc, _+_, _*_, _/_, _%_, _^_, _<_}
+use Prim.Native.Nat.{ℕ, _+_, _*_, _/_, _%_, _^_, _<_}
 use native.Mathlib.Nat.{add-mul, mul-assoc, mul-comm}
 use native.Mathlib.Omega.{arith}
 use lib.Arith.{mod-mul, digits-div, digits-mod}
 use lib.Dec.{lit<}
-use lib.ListN.{getD, replicate}
+use lib.ListN.{getD}
 use Rattle.block.specs.Below.{AreWords}
 use Rattle.block.specs.BigEndian.{numberOf, bytesOf}
 use Rattle.block.specs.Words.{words, unwords}
@@ -18,9 +18,9 @@ use Rattle.block.proofs.WordsBack.{length-unwords, unwords-bytes, numberOf-unwo
 use Rattle.counter.specs.Counter.{ctrJump, gcmJump, jumped}
 use Rattle.counter.proofs.Steps.{gcm-jump-words}
 use Rattle.lanes.proofs.Bits.{bit-zero, bit-small, pack-is}
-use Rattle.lanes.specs.Bits.{bit}
+use Rattle.lanes.specs.Bits.{bit, Blank}
 use Rattle.sliced.specs.Lanes.{lane, lanes}
-use Rattle.sliced.specs.Counting.{Blank, carryAt, Added, Kept}
+use Rattle.sliced.specs.Counting.{carryAt, Added, Kept}
 use Rattle.sliced.proofs.Held.{lane-lt}
 
 -- nothing in a lane, and no carry
@@ -112,13 +112,13 @@ module _ (c : List ℕ) (k w0 w1 w2 w3 : ℕ) (hc : AreWords c) (h0 : w0 < 2 ^ 3
         ∙ gcm-jump-words c w3 k (b 3) (sym (last-digit (2 ^ 32) (getD c 3 0) k w3 y3 h3 e3))
 
 -- a word added to a number alone, and to a carry alone
-pub added-number : (w n : ℕ) (x₀ y₀ x y : List ℕ) (k e : ℕ) → Added w n x₀ y₀ x y → e < 512 → e % 8 < n → lane x₀ e ≡ k → Blank y₀
+pub added-number : (w : ℕ) (x₀ y₀ x y : List ℕ) (k e : ℕ) → Added w x₀ y₀ x y → e < 512 → lane x₀ e ≡ k → Blank y₀
     → lane x e + 2 ^ 32 * carryAt y e ≡ w + k
-added-number w n x₀ y₀ x y k e h he hc f b = let z = no-carry y₀ b e in h e he hc ∙ omega arith
+added-number w x₀ y₀ x y k e h he f b = let z = no-carry y₀ b e in h e he ∙ omega arith
 
-pub added-carry : (w n : ℕ) (x₀ y₀ x y : List ℕ) (e : ℕ) → Added w n x₀ y₀ x y → e < 512 → e % 8 < n → Blank x₀
+pub added-carry : (w : ℕ) (x₀ y₀ x y : List ℕ) (e : ℕ) → Added w x₀ y₀ x y → e < 512 → Blank x₀
     → lane x e + 2 ^ 32 * carryAt y e ≡ w + carryAt y₀ e
-added-carry w n x₀ y₀ x y e h he hc b = let z = blank-lane x₀ b e in h e he hc ∙ omega arith
+added-carry w x₀ y₀ x y e h he b = let z = blank-lane x₀ b e in h e he ∙ omega arith
 
 -- y′ is carried out of the last word of four planes
 pub lanes-count : (wide : Bool) (c x0 x1 x2 x3 y y′ : List ℕ) (k e : ℕ) → AreWords c → Kept wide y y′ → (y0 y1 y2 : ℕ)
@@ -138,8 +138,3 @@ lanes-count false c x0 x1 x2 x3 y y′ k e hc h y0 y1 y2 e3 e2 e1 e0 =
 pub in-words : (x0 x1 x2 x3 b : List ℕ) (e : ℕ) → unwords (lanes x0 x1 x2 x3 e) ≡ b → lanes x0 x1 x2 x3 e ≡ words b
 in-words x0 x1 x2 x3 b e h =
     sym (words-unwords (lanes x0 x1 x2 x3 e) refl (lane-lt x0 e, (lane-lt x1 e, (lane-lt x2 e, (lane-lt x3 e, tt))))) ∙ ap words h
-
-pub blank-room : (n : ℕ) → Blank (replicate n 0)
-blank-room zero p = refl
-blank-room (suc n) zero = refl
-blank-room (suc n) (suc p) = blank-room n p

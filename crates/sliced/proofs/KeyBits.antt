@@ -1,24 +1,14 @@
 -- The masks of a round key's bits, and a column with them.
 -- Assumes nothing.
-use mathlib.Core.Path.{_≡_, refl, sym, ap, ap₂, subst, _∙_}
-use mathlib.Core.Logic.{⊎-elim}
+use mathlib.Core.Path.{_≡_, refl, sym, ap, ap₂, _∙_}
 use mathlib.Core.List.{List, [], _∷_}
-use Prim.Native.Nat.{ℕ, zero, suc, _+_, _*_, _/_, _%_, _^_, _<_, _≤_}
+use Prim.Native.Nat.{ℕ, zero, suc, _+_, _*_, _<_}
 use native.Mathlib.Nat.{add-zero}
 use native.Mathlib.Omega.{arith}
-use lib.ListN.{getD, length, set}
-use lib.Seq.{getD-set-same, getD-set-other}
+use lib.ListN.{getD}
 use Rattle.block.specs.Xor.{_⊕_}
-use Rattle.block.proofs.Bit.{bit-cases}
-use Rattle.lanes.specs.Bits.{bit}
-use Rattle.lanes.proofs.Bits.{bit-zero, lt-or-le}
-use Rattle.lanes.proofs.Gates.{ones-bit}
-use Rattle.sliced.specs.Round.{Mask, column}
-use Rattle.sliced.specs.Counting.{Masks}
-
-pub spread-bit : (k i n : ℕ) → n < 64 → bit n (k / 2 ^ i % 2 * 0xffffffffffffffff) ≡ bit i k
-unfolding bit
-spread-bit k i n h = bit-cases (λ x. bit n (x * 0xffffffffffffffff) ≡ x) (bit-zero n) (ones-bit n h) (k / 2 ^ i)
+use Rattle.lanes.specs.Bits.{bit, Masks}
+use Rattle.sliced.specs.Round.{column}
 
 -- in every lane the bit i of k
 abbrev Spread : ℕ → ℕ → ℕ → Type 0
@@ -27,7 +17,7 @@ Spread k i r = (n : ℕ) → n < 64 → bit n r ≡ bit i k
 pub eight-masks : (k q a b c d e f g h : ℕ)
     → Spread k (8 * q) a → Spread k (8 * q + 1) b → Spread k (8 * q + 2) c → Spread k (8 * q + 3) d
     → Spread k (8 * q + 4) e → Spread k (8 * q + 5) f → Spread k (8 * q + 6) g → Spread k (8 * q + 7) h
-    → Mask k q (a ∷ b ∷ c ∷ d ∷ e ∷ f ∷ g ∷ h ∷ [])
+    → Masks 8 (λ i. bit (8 * q + i) k) (a ∷ b ∷ c ∷ d ∷ e ∷ f ∷ g ∷ h ∷ [])
 eight-masks k q a b c d e f g h ha hb hc hd he hf hg hh zero n hi hn = ha n hn ∙ ap (λ (x : ℕ). bit x k) (sym (add-zero (8 * q)))
 eight-masks k q a b c d e f g h ha hb hc hd he hf hg hh (suc zero) n hi hn = hb n hn
 eight-masks k q a b c d e f g h ha hb hc hd he hf hg hh (suc (suc zero)) n hi hn = hc n hn
@@ -49,13 +39,3 @@ eight-sums x y z m p a b c d e f g h ha hb hc hd he hf hg hh =
     let k : (i u v : ℕ) → u ≡ v → u ⊕ getD m i 0 ≡ v ⊕ getD m i 0 = λ i u v q. ap (λ (w : ℕ). w ⊕ getD m i 0) q in
     ap₂ _∷_ (k 0 _ _ ha) (ap₂ _∷_ (k 1 _ _ hb) (ap₂ _∷_ (k 2 _ _ hc) (ap₂ _∷_ (k 3 _ _ hd)
     (ap₂ _∷_ (k 4 _ _ he) (ap₂ _∷_ (k 5 _ _ hf) (ap₂ _∷_ (k 6 _ _ hg) (ap₂ _∷_ (k 7 _ _ hh) refl)))))))
-
--- one mask more
-pub masks-next : (k i r : ℕ) (m : List ℕ) → i < length m → Spread k i r → Masks i k m → Masks (i + 1) k (set m i r)
-masks-next k i r m h s M j n hj hn =
-    ⊎-elim
-    (λ (g : j < i). ap (bit n) (getD-set-other m i j r 0 (λ e. omega arith)) ∙ M j n g hn)
-    (λ (g : i ≤ j).
-    let e : i ≡ j = omega arith in
-    subst (λ (z : ℕ). bit n (getD (set m i r) z 0) ≡ bit z k) e (ap (bit n) (getD-set-same m i r 0 h) ∙ s n hn))
-    (lt-or-le j i)

@@ -6,14 +6,14 @@ use mathlib.Core.List.{List, [], _∷_}
 use Prim.Native.Nat.{ℕ, _+_, _-_, _*_, _/_, _%_, _^_, _<_, _≤_}
 use native.Mathlib.Omega.{arith}
 use lib.Dec.{eqb, eqb→eq}
-use lib.ListN.{length, getD, set, replicate, List·getD-eq-default}
+use lib.ListN.{length, getD, set, length-set, replicate}
 use lib.Seq.{getD-set-same, getD-set-other}
 use Rattle.block.proofs.Table.{rule-at}
 use Rattle.lanes.specs.Bits.{bit}
 use Rattle.lanes.proofs.Bits.{bit-zero, bit-low, bit-high, bit-past, lt-or-le}
 use Rattle.rows.specs.Rows.{place}
 use Rattle.sliced.specs.Lanes.{lane, Held}
-use Rattle.sliced.specs.Counting.{numberAt}
+use Rattle.sliced.specs.Counting.{numberAt, Clear}
 use Rattle.sliced.proofs.Held.{lane-held}
 
 -- the six rows: bit k of row q is bit q of k
@@ -48,46 +48,43 @@ high-rows p r hp h k hk =
     ∙ sym (bit-high 6 (p / 8 - 6) (p % 8) k (omega arith))
     ∙ ap₂ bit e (in-parts p k)
 
--- one word more
-pub numbered-next : (f : ℕ → ℕ) (p v : ℕ) (x : List ℕ) → p < 256 → length x ≡ 256
-    → ((k : ℕ) → k < 64 → bit k v ≡ bit (p / 8) (f (8 * k + p % 8))) → Held f 8 p x → Held f 8 (p + 1) (set x p v)
-numbered-next f p v x hp hx hv H q k hq hc hk =
-    ⊎-elim
-    (λ (g : q < p). ap (bit k) (getD-set-other x p q v 0 (λ e. omega arith)) ∙ H q k g hc hk)
-    (λ (g : p ≤ q).
-    let e : p ≡ q = omega arith in
-    let r : p / 8 ≡ p / 8 % 32 = omega arith in
-    subst (λ (z : ℕ). bit k (getD (set x p v) z 0) ≡ bit (z / 8 % 32) (f (8 * k + z % 8))) e
-    (ap (bit k) (getD-set-same x p v 0 (omega arith)) ∙ hv k hk ∙ ap (λ (z : ℕ). bit z (f (8 * k + p % 8))) r))
-    (lt-or-le q p)
+-- the first p words hold the lanes' numbers, the others nothing
+abbrev pub Numbered : ℕ → List ℕ → Type 0
+Numbered p x = (length x ≡ 256) × Held numberAt 8 p x × ((q : ℕ) → p ≤ q → getD x q 0 ≡ 0)
+
+pub numbered-first : (x : List ℕ) → Clear x → Numbered 0 x
+numbered-first x h = (h .0, λ q k hq hc hk. absurd (omega arith), λ q g. h .1 q)
+
+pub numbered-next : (p v : ℕ) (x : List ℕ) → p < 256 → ((k : ℕ) → k < 64 → bit k v ≡ bit (p / 8) (numberAt (8 * k + p % 8)))
+    → Numbered p x → Numbered (p + 1) (set x p v)
+numbered-next p v x hp hv N =
+    let l = N .0 in (
+      length-set x p v ∙ l,
+      λ q k hq hc hk.
+          ⊎-elim
+          (λ (g : q < p). ap (bit k) (getD-set-other x p q v 0 (λ e. omega arith)) ∙ N .1 q k g hc hk)
+          (λ (g : p ≤ q).
+          let e : p ≡ q = omega arith in
+          let r : p / 8 ≡ p / 8 % 32 = omega arith in
+          subst (λ (z : ℕ). bit k (getD (set x p v) z 0) ≡ bit (z / 8 % 32) (numberAt (8 * k + z % 8))) e
+          (ap (bit k) (getD-set-same x p v 0 (omega arith)) ∙ hv k hk ∙ ap (λ (z : ℕ). bit z (numberAt (8 * k + p % 8))) r))
+          (lt-or-le q p),
+      λ q h. getD-set-other x p q v 0 (λ e. omega arith) ∙ N .2 q (omega arith),
+    )
 
 -- the rows that are left hold nothing
-pub numbered : (x : List ℕ) (p : ℕ) → 72 ≤ p → Held numberAt 8 p x → ((q : ℕ) → p ≤ q → getD x q 0 ≡ 0)
-    → (e : ℕ) → e < 512 → lane x e ≡ numberAt e
-numbered x p hp H Z e he =
+pub numbered-last : (x : List ℕ) (p : ℕ) → 72 ≤ p → Numbered p x → (e : ℕ) → e < 512 → lane x e ≡ numberAt e
+numbered-last x p hp N e he =
     lane-held numberAt 8 x
     (λ q k hq hc hk.
     ⊎-elim
-    (λ (g : q < p). H q k g hc hk)
+    (λ (g : q < p). N .1 q k g hc hk)
     (λ (g : p ≤ q).
     let small : numberAt (8 * k + q % 8) < 2 ^ 9 = omega arith in
-    ap (bit k) (Z q g) ∙ bit-zero k ∙ sym (bit-past 9 (q / 8 % 32) (numberAt (8 * k + q % 8)) small (omega arith)))
+    ap (bit k) (N .2 q g) ∙ bit-zero k ∙ sym (bit-past 9 (q / 8 % 32) (numberAt (8 * k + q % 8)) small (omega arith)))
     (lt-or-le q p))
     e he (omega arith) (omega arith)
 
--- no carries
-pub zeros-next : (y : List ℕ) (j : ℕ) → j < length y → ((q : ℕ) → q < j → getD y q 0 ≡ 0) → (q : ℕ) → q < j + 1 → getD (set y j 0) q 0 ≡ 0
-zeros-next y j hj h q hq =
-    ⊎-elim
-    (λ (g : q < j). getD-set-other y j q 0 0 (λ e. omega arith) ∙ h q g)
-    (λ (g : j ≤ q).
-    let e : j ≡ q = omega arith in
-    subst (λ (z : ℕ). getD (set y j 0) z 0 ≡ 0) e (getD-set-same y j 0 0 hj))
-    (lt-or-le q j)
-
-pub zeros-all : (y : List ℕ) (j : ℕ) → length y ≤ j → ((q : ℕ) → q < j → getD y q 0 ≡ 0) → (q : ℕ) → getD y q 0 ≡ 0
-zeros-all y j h z q = ⊎-elim (z q) (λ (g : j ≤ q). List·getD-eq-default y 0 (omega arith)) (lt-or-le q j)
-
 -- the lane of block i
-pub number-place : (i : ℕ) → i < 512 → (place i < 512) × (place i % 8 ≡ i / 64) × (numberAt (place i) ≡ i)
-number-place i h = (omega arith, omega arith, omega arith)
+pub number-place : (i : ℕ) → i < 512 → (place i < 512) × (numberAt (place i) ≡ i)
+number-place i h = (omega arith, omega arith)

@@ -2,9 +2,9 @@
 -- Assumes nothing.
 use mathlib.Core.Path.{_≡_, refl, sym, ap, ap₂, subst, _∙_}
 use mathlib.Core.Logic.{_⊎_, ⊎-elim}
-use mathlib.Core.List.{List}
+use mathlib.Core.List.{List, [], _∷_}
 use Prim.Native.Nat.{ℕ, zero, suc, _+_, _*_, _/_, _%_, _^_, _<_, _≤_, min}
-use native.Mathlib.Nat.{mul-add, mul-assoc, mul-comm, pow-suc}
+use native.Mathlib.Nat.{add-zero, mul-add, mul-assoc, mul-comm, pow-suc}
 use native.Mathlib.Numerals.{add-one}
 use native.Mathlib.Omega.{arith}
 use lib.ListN.{length, getD, set, length-set}
@@ -14,7 +14,7 @@ use Rattle.block.specs.Xor.{_⊕_}
 use Rattle.lanes.specs.Bits.{bit, pack}
 use Rattle.lanes.proofs.Bits.{bit-small, bit-xor, bit-and, pack-is, lt-or-le}
 use Rattle.sliced.specs.Lanes.{lane}
-use Rattle.sliced.specs.Counting.{carryAt, RowAdded, Added}
+use Rattle.sliced.specs.Counting.{carryAt, WordAdded, RowAdded, Added}
 
 -- three bits: their sum and its carry
 adder : (a b d : ℕ) → a < 2 → b < 2 → d < 2 → differ (differ a b) d + 2 * differ (min a b) (min (differ a b) d) ≡ d + a + b
@@ -40,45 +40,62 @@ word-adder k a b m =
     rw (bit-xor k (a ⊕ b) m, bit-xor k (bitAnd a b) (bitAnd (a ⊕ b) m), bit-and k a b, bit-and k (a ⊕ b) m, bit-xor k a b)
     (adder (bit k a) (bit k b) (bit k m) (bit-small k a) (bit-small k b) (bit-small k m))
 
--- a row of which j words are added
-pub added-first : (d i : ℕ) (x y : List ℕ) → length x ≡ 256 → length y ≡ 8 → RowAdded d i 0 x y x y
-added-first d i x y hx hy =
-    record { size-x = hx; size-y = hy; sum = λ q k hq hk. absurd (omega arith); same-x = λ p h. refl; same-y = λ q h. refl }
+-- as the code stores it
+pub word-added : (p a b m : ℕ) (x : List ℕ) → p < 256 → length x ≡ 256
+    → WordAdded p a b m x (set x p (a ⊕ b ⊕ m)) (bitAnd a b ⊕ bitAnd (a ⊕ b) m)
+word-added p a b m x hp hx =
+    let u = a ⊕ b ⊕ m in
+    let v = bitAnd a b ⊕ bitAnd (a ⊕ b) m in
+    record {
+      size = length-set x p u ∙ hx;
+      sum = λ k. ap (λ (s : ℕ). bit k s + 2 * bit k v) (getD-set-same x p u 0 (omega arith)) ∙ word-adder k a b m;
+      same = λ q h. getD-set-other x p q u 0 h;
+    }
 
-module _ (d i j m : ℕ) (x₀ y₀ x y : List ℕ) (hm : (k : ℕ) → k < 64 → bit k m ≡ d) (hi : i < 32) (hj : j < 8)
-    (R : RowAdded d i j x₀ y₀ x y) where
-  pub added-next : (a b : ℕ) → a ≡ getD x (8 * i + j) 0 → b ≡ getD y j 0
-      → RowAdded d i (j + 1) x₀ y₀ (set x (8 * i + j) (a ⊕ b ⊕ m)) (set y j (bitAnd a b ⊕ bitAnd (a ⊕ b) m))
-  added-next a b ea eb =
-      let u = a ⊕ b ⊕ m in
-      let v = bitAnd a b ⊕ bitAnd (a ⊕ b) m in
-      let p = 8 * i + j in
-      let lx = R .size-x in
-      let ly = R .size-y in
-      let oa : a ≡ getD x₀ p 0 = ea ∙ R .same-x p (λ q h e. omega arith) in
-      let ob : b ≡ getD y₀ j 0 = eb ∙ R .same-y j (omega arith) in
-      record {
-        size-x = length-set x p u ∙ lx;
-        size-y = length-set y j v ∙ ly;
-        sum = λ q k hq hk.
-            ⊎-elim
-            (λ (h : q < j).
-            ap₂ (λ (s t : ℕ). bit k s + 2 * bit k t) (getD-set-other x p (8 * i + q) u 0 (λ e. omega arith))
-            (getD-set-other y j q v 0 (λ e. omega arith))
-            ∙ R .sum q k h hk)
-            (λ (h : j ≤ q).
-            let e : j ≡ q = omega arith in
-            subst (λ (z : ℕ). bit k (getD (set x p u) (8 * i + z) 0) + 2 * bit k (getD (set y j v) z 0)
-            ≡ d + bit k (getD x₀ (8 * i + z) 0) + bit k (getD y₀ z 0)) e
-            (ap₂ (λ (s t : ℕ). bit k s + 2 * bit k t) (getD-set-same x p u 0 (omega arith)) (getD-set-same y j v 0 (omega arith))
-            ∙ word-adder k a b m
-            ∙ ap₂ (λ (s t : ℕ). s + bit k t + bit k b) (hm k hk) oa
-            ∙ ap (λ (t : ℕ). d + bit k (getD x₀ p 0) + bit k t) ob))
-            (lt-or-le q j);
-        same-x = λ z h.
-            getD-set-other x p z u 0 (λ e. h j (omega arith) e) ∙ R .same-x z (λ q g e. h q (omega arith) e);
-        same-y = λ q h. getD-set-other y j q v 0 (λ e. omega arith) ∙ R .same-y q (omega arith);
-      }
+-- eight words from p on
+pub eight-words : (x : List ℕ) (p q : ℕ) → q < 8
+    → getD (getD x p 0 ∷ getD x (p + 1) 0 ∷ getD x (p + 2) 0 ∷ getD x (p + 3) 0
+    ∷ getD x (p + 4) 0 ∷ getD x (p + 5) 0 ∷ getD x (p + 6) 0 ∷ getD x (p + 7) 0 ∷ []) q 0
+    ≡ getD x (p + q) 0
+eight-words x p zero h = ap (λ (z : ℕ). getD x z 0) (sym (add-zero p))
+eight-words x p (suc zero) h = refl
+eight-words x p (suc (suc zero)) h = refl
+eight-words x p (suc (suc (suc zero))) h = refl
+eight-words x p (suc (suc (suc (suc zero)))) h = refl
+eight-words x p (suc (suc (suc (suc (suc zero))))) h = refl
+eight-words x p (suc (suc (suc (suc (suc (suc zero)))))) h = refl
+eight-words x p (suc (suc (suc (suc (suc (suc (suc zero))))))) h = refl
+eight-words x p (suc (suc (suc (suc (suc (suc (suc (suc q)))))))) h = absurd (omega arith)
+
+-- a row of which j words are added
+pub added-first : (m i : ℕ) (a x y : List ℕ) → length x ≡ 256 → length y ≡ 8 → RowAdded m i 0 a x y x y
+added-first m i a x y hx hy =
+    record { size-x = hx; size-y = hy; sum = λ q k hq. absurd (omega arith); same-x = λ p h. refl; same-y = λ q h. refl }
+
+pub added-next : (m i j c : ℕ) (a x₀ y₀ x y x′ : List ℕ) → j < 8 → WordAdded (8 * i + j) (getD a j 0) (getD y j 0) m x x′ c
+    → RowAdded m i j a x₀ y₀ x y → RowAdded m i (j + 1) a x₀ y₀ x′ (set y j c)
+added-next m i j c a x₀ y₀ x y x′ hj W R =
+    let p = 8 * i + j in
+    let ly = R .size-y in
+    record {
+      size-x = W .size;
+      size-y = length-set y j c ∙ ly;
+      sum = λ q k hq.
+          ⊎-elim
+          (λ (h : q < j).
+          ap₂ (λ (s t : ℕ). bit k s + 2 * bit k t) (W .same (8 * i + q) (λ e. omega arith)) (getD-set-other y j q c 0 (λ e. omega arith))
+          ∙ R .sum q k h)
+          (λ (h : j ≤ q).
+          let e : j ≡ q = omega arith in
+          subst (λ (z : ℕ). bit k (getD x′ (8 * i + z) 0) + 2 * bit k (getD (set y j c) z 0)
+          ≡ bit k m + bit k (getD a z 0) + bit k (getD y₀ z 0)) e
+          (ap (λ (t : ℕ). bit k (getD x′ p 0) + 2 * bit k t) (getD-set-same y j c 0 (omega arith))
+          ∙ W .sum k
+          ∙ ap (λ (t : ℕ). bit k m + bit k (getD a j 0) + bit k t) (R .same-y j (omega arith))))
+          (lt-or-le q j);
+      same-x = λ z h. W .same z (λ e. h j (omega arith) e) ∙ R .same-x z (λ q g e. h q (omega arith) e);
+      same-y = λ q h. getD-set-other y j q c 0 (λ e. omega arith) ∙ R .same-y q (omega arith);
+    }
 
 -- the number of one bit more, and of bits that are the same
 pack-next : (k : ℕ) (f : ℕ → ℕ) → pack (suc k) f ≡ pack k f + 2 ^ k * f k
@@ -116,41 +133,43 @@ ripple B C P Q A y₀ y z d a s hC hP hs =
     let c : C * z ≡ B * (2 * z) = ap (λ (v : ℕ). v * z) hC ∙ mul-assoc B 2 z in
     omega arith
 
--- the low i bits of w, added in the lanes of the first n columns; the rows from i on stand as they were
-pub record Rippled (w i n : ℕ) (x₀ y₀ x y : List ℕ) : Type 0 where
-  pub sum : (e : ℕ) → e < 512 → e % 8 < n → low x e i + 2 ^ i * carryAt y e ≡ pack i (λ k. bit k w) + low x₀ e i + carryAt y₀ e
+-- the low i bits of w, added in every lane; the rows from i on stand as they were
+pub record Rippled (w i : ℕ) (x₀ y₀ x y : List ℕ) : Type 0 where
+  pub sum : (e : ℕ) → e < 512 → low x e i + 2 ^ i * carryAt y e ≡ pack i (λ k. bit k w) + low x₀ e i + carryAt y₀ e
   pub rest : (p : ℕ) → 8 * i ≤ p → getD x p 0 ≡ getD x₀ p 0
 
-pub rippled-first : (w n : ℕ) (x y : List ℕ) → Rippled w 0 n x y x y
+pub rippled-first : (w : ℕ) (x y : List ℕ) → Rippled w 0 x y x y
 unfolding low pack
-rippled-first w n x y = record { sum = λ e he hc. omega arith; rest = λ p h. refl }
+rippled-first w x y = record { sum = λ e he. omega arith; rest = λ p h. refl }
 
-pub rippled-next : (w i n : ℕ) (x₀ y₀ x y x′ y′ : List ℕ) → Rippled w i n x₀ y₀ x y → RowAdded (bit i w) i n x y x′ y′
-    → n ≤ 8 → Rippled w (i + 1) n x₀ y₀ x′ y′
+pub rippled-next : (w i m : ℕ) (a x₀ y₀ x y x′ y′ : List ℕ) → ((k : ℕ) → k < 64 → bit k m ≡ bit i w)
+    → ((q : ℕ) → q < 8 → getD a q 0 ≡ getD x (8 * i + q) 0) → Rippled w i x₀ y₀ x y → RowAdded m i 8 a x y x′ y′
+    → Rippled w (i + 1) x₀ y₀ x′ y′
 unfolding low carryAt
-rippled-next w i n x₀ y₀ x y x′ y′ P R hn =
+rippled-next w i m a x₀ y₀ x y x′ y′ hm ha P R =
     record {
-      sum = λ e he hc.
+      sum = λ e he.
           let p = 8 * i + e % 8 in
           let f : List ℕ → ℕ → ℕ = λ l k. bit (e / 8) (getD l (8 * k + e % 8) 0) in
           let kept : low x′ e i ≡ low x e i =
           pack-below i (f x′) (f x) (λ k h. ap (bit (e / 8)) (R .same-x (8 * k + e % 8) (λ q g z. omega arith))) in
-          let was : bit (e / 8) (getD x p 0) ≡ bit (e / 8) (getD x₀ p 0) = ap (bit (e / 8)) (P .rest p (omega arith)) in
+          let was : bit (e / 8) (getD a (e % 8) 0) ≡ bit (e / 8) (getD x₀ p 0) =
+          ap (bit (e / 8)) (ha (e % 8) (omega arith) ∙ P .rest p (omega arith)) in
           let row : bit (e / 8) (getD x′ p 0) + 2 * carryAt y′ e ≡ bit i w + bit (e / 8) (getD x₀ p 0) + carryAt y e =
-          R .sum (e % 8) (e / 8) hc (omega arith) ∙ ap (λ (v : ℕ). bit i w + v + carryAt y e) was in
+          R .sum (e % 8) (e / 8) (omega arith) ∙ ap₂ (λ (u v : ℕ). u + v + carryAt y e) (hm (e / 8) (omega arith)) was in
           let words : pack (i + 1) (λ k. bit k w) ≡ pack i (λ k. bit k w) + 2 ^ i * bit i w =
           ap (λ (k : ℕ). pack k (λ j. bit j w)) (add-one i) ∙ pack-next i (λ k. bit k w) in
           let double : 2 ^ (i + 1) ≡ 2 ^ i * 2 = ap (λ (k : ℕ). 2 ^ k) (add-one i) ∙ pow-suc 2 i in
           rw (low-next x′ e i, low-next x₀ e i, words, kept)
           (ripple (2 ^ i) (2 ^ (i + 1)) (low x e i) (pack i (λ k. bit k w)) (low x₀ e i) (carryAt y₀ e) (carryAt y e) (carryAt y′ e)
-          (bit i w) (bit (e / 8) (getD x₀ p 0)) (bit (e / 8) (getD x′ p 0)) double (P .sum e he hc) row);
+          (bit i w) (bit (e / 8) (getD x₀ p 0)) (bit (e / 8) (getD x′ p 0)) double (P .sum e he) row);
       rest = λ p h. R .same-x p (λ q g e. omega arith) ∙ P .rest p (omega arith);
     }
 
-pub rippled-last : (w i n : ℕ) (x₀ y₀ x y : List ℕ) → i ≡ 32 → w < 2 ^ 32 → Rippled w i n x₀ y₀ x y → Added w n x₀ y₀ x y
+pub rippled-last : (w i : ℕ) (x₀ y₀ x y : List ℕ) → i ≡ 32 → w < 2 ^ 32 → Rippled w i x₀ y₀ x y → Added w x₀ y₀ x y
 unfolding low lane
-rippled-last w i n x₀ y₀ x y h hw P e he hc =
+rippled-last w i x₀ y₀ x y h hw P e he =
     let whole : pack 32 (λ k. bit k w) ≡ w = pack-is 32 (λ k. bit k w) w (λ k. bit-small k w) hw (λ k g. refl) in
     let s : low x e 32 + 2 ^ 32 * carryAt y e ≡ pack 32 (λ k. bit k w) + low x₀ e 32 + carryAt y₀ e =
-    rw h at (P .sum e he hc) in
+    rw h at (P .sum e he) in
     s ∙ ap (λ (v : ℕ). v + low x₀ e 32 + carryAt y₀ e) whole

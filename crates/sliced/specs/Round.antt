@@ -1,10 +1,8 @@
 -- A round in every lane.
-use mathlib.Core.Path.{_≡_}
 use mathlib.Core.List.{List, [], _∷_}
-use Prim.Native.Nat.{ℕ, _+_, _*_, _<_}
+use Prim.Native.Nat.{ℕ, _+_}
 use lib.ListN.{getD}
 use Rattle.block.specs.Xor.{_⊕_}
-use Rattle.lanes.specs.Bits.{bit}
 use Rattle.cipher.specs.Sm4.{tau, L}
 use Rattle.sliced.specs.Lanes.{lane}
 
@@ -19,10 +17,6 @@ subbed x y z k e = tau (keyed x y z k e)
 -- L of the words f, added to those of a
 unfoldable pub mixed : (ℕ → ℕ) → List ℕ → ℕ → ℕ
 mixed f a e = lane a e ⊕ L (f e)
-
--- word i of m is all ones or all zeros, by bit 8 b + i of k
-abbrev pub Mask : ℕ → ℕ → List ℕ → Type 0
-Mask k b m = (i n : ℕ) → i < 8 → n < 64 → bit n (getD m i 0) ≡ bit (8 * b + i) k
 
 -- three planes and a mask, added at one place
 abbrev pub summed : List ℕ → List ℕ → List ℕ → List ℕ → ℕ → ℕ → ℕ

@@ -1,8 +1,8 @@
 // SM4 on up to 512 blocks side by side, bit by bit: word 8 i + j of a plane holds bit i of one word of 64 blocks, those of column j.
 // Neither an index nor a branch depends on a block or a key.
 //
-// The gates work on the first n columns alone. n is a parameter all the way down, since a loop whose count the back end knows is not
-// vectorized here.
+// The gates of the rounds work on the first n columns alone. n is a parameter all the way down, since a loop whose count the back end knows
+// is not vectorized here.
 pub mod counters;
 
 ghost use mathlib.Core.Path.{_≡_};
@@ -11,35 +11,28 @@ ghost use Prim.Native.Nat.{ℕ, _+_, _*_, _%_, _^_, _<_, _≤_};
 ghost use lib.ListN.{length, getD};
 ghost use Rattle.block.specs.Blocks.{blockAt, cat};
 ghost use Rattle.block.specs.Xor.{_⊕_, xors};
-ghost use Rattle.lanes.specs.Bits.{bit};
+ghost use Rattle.lanes.specs.Bits.{bit, Masks};
 ghost use Rattle.cipher.specs.Sm4.{T, rounds, encryptWords, encryptBlock};
 ghost use Rattle.rows.specs.Rows.{place, Sized, Rows};
 ghost use Rattle.walk.specs.Walk.{over};
 ghost use Rattle.sliced.specs.Lanes.{lane, lanes, Held, Planes, Parted, Halved};
-ghost use Rattle.sliced.specs.Round.{keyed, subbed, mixed, Mask, column};
-
-// All ones where bit i of k is 1, else 0.
-pub(crate) fn spread(k: u32, i: usize) -> u64
-    requires { ⌜ i < 32 ⌝ }
-    ensures { λ r. ⌜ ((n : ℕ) → n < 64 → bit n r ≡ bit i k) ⌝ }
-{
-    ((k >> i) % 2) as u64 * 0xffff_ffff_ffff_ffff
-}
+ghost use Rattle.sliced.specs.Round.{keyed, subbed, mixed, column};
 
 // The masks of byte b of k.
 fn masks(k: u32, b: usize) -> [u64; 8]
     requires { ⌜ b < 4 ⌝ }
-    ensures { λ r. ⌜ Mask k b r ⌝ }
+    ensures { λ r. ⌜ Masks 8 (λ i. bit (8 * b + i) k) r ⌝ }
 {
+    let w = k as u64;
     [
-        spread(k, 8 * b),
-        spread(k, 8 * b + 1),
-        spread(k, 8 * b + 2),
-        spread(k, 8 * b + 3),
-        spread(k, 8 * b + 4),
-        spread(k, 8 * b + 5),
-        spread(k, 8 * b + 6),
-        spread(k, 8 * b + 7),
+        lanes::spread(w, 8 * b),
+        lanes::spread(w, 8 * b + 1),
+        lanes::spread(w, 8 * b + 2),
+        lanes::spread(w, 8 * b + 3),
+        lanes::spread(w, 8 * b + 4),
+        lanes::spread(w, 8 * b + 5),
+        lanes::spread(w, 8 * b + 6),
+        lanes::spread(w, 8 * b + 7),
     ]
 }
 
@@ -90,7 +83,7 @@ fn sub_byte(
     let mut j: usize = 0;
     while j < n {
         let p = 64 * b + j;
-        let o = cipher::gates::sbox(column_at(x, y, z, m, p));
+        let o = circuit::sbox(column_at(x, y, z, m, p));
         s[p] = o[0];
         s[p + 8] = o[1];
         s[p + 16] = o[2];

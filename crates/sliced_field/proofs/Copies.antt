@@ -38,15 +38,3 @@ copied-last s f w o t i d hi es ef h e he =
     ap (λ (y : ℕ). bit (e / 2) (getD d y 0)) (x ∙ sym (es p))
     ∙ ap (bit (e / 2)) (h p (omega arith) ∙ ef p ∙ ap (λ (y : ℕ). getD w y 0) q)
     ∙ sym (element-bit w o e r hr))
-
--- the words below n are as they were
-abbrev pub Kept : ℕ → List ℕ → List ℕ → Type 0
-Kept n d₀ d = (p : ℕ) → p < n → getD d p 0 ≡ getD d₀ p 0
-
-pub kept-next : (n x v : ℕ) (d₀ d : List ℕ) → n ≤ x → Kept n d₀ d → Kept n d₀ (set d x v)
-kept-next n x v d₀ d l h p hp = getD-set-other d x p v 0 (λ q. omega arith) ∙ h p hp
-
-pub kept-last : (n t : ℕ) (d₀ d : List ℕ) → 2 * t + 256 ≤ n → Kept n d₀ d → (e : ℕ) → e < 128 → element d t e ≡ element d₀ t e
-kept-last n t d₀ d l h e he =
-    element-is d t e (element d₀ t e) (element-lt d₀ t e)
-    (λ r hr. ap (bit (e / 2)) (h (2 * (t + r) + e % 2) (omega arith)) ∙ sym (element-bit d₀ t e r hr))

@@ -16,7 +16,7 @@ use Rattle.field.proofs.Bounded.{timesX-lt}
 use Rattle.lanes.specs.Bits.{bit}
 use Rattle.lanes.proofs.Bits.{bit-xor, bit-zero, bit-shr, bit-low, bit-past, lt-or-le}
 use Rattle.sliced_field.specs.Elements.{element}
-use Rattle.sliced_field.proofs.Elements.{row, element-lt, element-bit, element-is, bit-times}
+use Rattle.sliced_field.proofs.Elements.{row, element-lt, element-bit, element-is, bit-times, differ-none}
 
 -- the four stores for the word at q, as the code has them
 abbrev step1 : List ℕ → ℕ → ℕ → List ℕ
@@ -174,10 +174,6 @@ first-bit w = ap (λ (x : ℕ). x % 2) (sym (div-one w))
 
 low-row : (i : ℕ) → i < 120 → bit i gcmR ≡ 0
 low-row i h = ap (bit i) (sym (add-zero (0xe1 * 2 ^ 120))) ∙ bit-low 120 i 0xe1 0 h (pow-pos 120) ∙ bit-zero i
-
-differ-none : (x : ℕ) → differ x 0 ≡ x
-differ-none zero = refl
-differ-none (suc x) = refl
 
 min-one : (u : ℕ) → u < 2 → u ≡ min 1 u
 min-one u h = omega arith

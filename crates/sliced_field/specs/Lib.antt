@@ -1,2 +1,2 @@
 pub mod Elements
-pub mod Multiples
+pub mod Halves

@@ -1,4 +1,3 @@
 pub mod RoundTrip
 pub mod CounterSteps
 pub mod Counters
-pub mod Feedback

@@ -1,7 +1,8 @@
--- Many blocks at once: what n full blocks give, each from the state that the walk has there, is what the walk gives.
+-- Many blocks at once: what n full blocks give, each from the state that the walk has there, is what the walk gives. So a loop that writes
+-- one block a turn, or many, goes on where the walk had come to.
 -- Assumes nothing.
 use mathlib.Core.Path.{_≡_, refl, sym, ap, ap₂, _∙_}
-use Prim.Native.Nat.{ℕ, zero, suc, _+_, _-_, _*_, _≤_, _<_}
+use Prim.Native.Nat.{ℕ, zero, suc, _+_, _-_, _*_, _%_, _≤_, _<_}
 use mathlib.Core.List.{List, _++_, append-assoc}
 use native.Mathlib.Omega.{arith}
 use lib.ListN.{length, take, drop, length-append, length-drop}
@@ -28,7 +29,7 @@ tail-on d i =
     let e : 16 + 16 * i ≡ 16 * suc i = omega arith in
     drop-drop (16 * i) 16 d ∙ ap (λ (n : ℕ). drop n d) e
 
-pub chain-blocks : (m : Mode) (n : ℕ) (s d : List ℕ) → 16 * n ≤ length d
+chain-blocks : (m : Mode) (n : ℕ) (s d : List ℕ) → 16 * n ≤ length d
     → chain m s d ≡ cat n (gives m s d) ++ chain m (stepped m n s d) (drop (16 * n) d)
 unfolding stepped cat
 chain-blocks m zero s d h = refl
@@ -47,7 +48,7 @@ chain-blocks m (suc n) s d h =
     ∙ ap₂ (λ (x y : List ℕ). x ++ chain m (stepped m n t e) y)
     (ap (λ (x : List ℕ). F ++ x) same ∙ sym (cat-first n (gives m s d))) (tail-on d n)
 
-pub end-blocks : (m : Mode) (n : ℕ) (s d : List ℕ) → 16 * n ≤ length d → endState m s d ≡ endState m (stepped m n s d) (drop (16 * n) d)
+end-blocks : (m : Mode) (n : ℕ) (s d : List ℕ) → 16 * n ≤ length d → endState m s d ≡ endState m (stepped m n s d) (drop (16 * n) d)
 unfolding stepped
 end-blocks m zero s d h = refl
 end-blocks m (suc n) s d h =
@@ -56,48 +57,9 @@ end-blocks m (suc n) s d h =
     let l : length e ≡ length d - 16 = length-drop 16 d in
     end-block m s d (omega arith) ∙ end-blocks m n t e (omega arith) ∙ ap (endState m (stepped m n t e)) (tail-on d n)
 
--- where a block is the state after it, the states from a block on are the blocks from there on
-module _ (m : Mode) (f : (s b : List ℕ) → m .next s b ≡ b) where
-  fed-back : (i : ℕ) (d : List ℕ) → stepped m i (take 16 d) (drop 16 d) ≡ blockAt d i
-  unfolding stepped
-  fed-back zero d = refl
-  fed-back (suc i) d =
-      let e = drop 16 d in
-      ap (λ (s : List ℕ). stepped m i s (drop 16 e)) (f (take 16 d) (take 16 e)) ∙ fed-back i e ∙ ap (take 16) (tail-on d i)
-
-  -- in the midst of a message, behind its first block
-  module _ (d : List ℕ) (at : ℕ) (h : 16 ≤ at) where
-    pub fed-stepped : (n : ℕ) → stepped m n (take 16 (drop (at - 16) d)) (drop at d) ≡ blockAt (drop (at - 16) d) n
-    fed-stepped n =
-        let e : at - 16 + 16 ≡ at = omega arith in
-        ap (stepped m n (take 16 (drop (at - 16) d))) (sym (drop-drop 16 (at - 16) d ∙ ap (λ (i : ℕ). drop i d) e))
-        ∙ fed-back n (drop (at - 16) d)
-
-    -- the state behind n blocks is the last of them
-    pub fed-state : (n : ℕ) → take 16 (drop (at + 16 * n - 16) d) ≡ stepped m n (take 16 (drop (at - 16) d)) (drop at d)
-    fed-state n =
-        let e : at - 16 + 16 * n ≡ at + 16 * n - 16 = omega arith in
-        sym (fed-stepped n ∙ ap (take 16) (drop-drop (16 * n) (at - 16) d ∙ ap (λ (i : ℕ). drop i d) e))
-
 -- before the first block
 pub reached-first : (m : Mode) (s d o : List ℕ) → Reached m s d o s o 0
 reached-first m s d o = record { within = omega arith; size = refl; ends = refl; leaves = refl }
-
--- behind it, where it was written by itself
-pub reached-one : (m : Mode) (s d o s′ o′ : List ℕ) → 16 ≤ length d → 16 ≤ length o → length (m .block s (take 16 d)) ≡ 16
-    → s′ ≡ m .next s (take 16 d) → o′ ≡ m .block s (take 16 d) ++ drop 16 o → Reached m s d o s′ o′ 16
-reached-one m s d o s′ o′ hd ho full fs fo =
-    let q = m .block s (take 16 d) in
-    let C = chain m s′ (drop 16 d) in
-    let x : take 16 o′ ≡ q = rw fo (take-at q (drop 16 o) 16 full) in
-    let y : drop 16 o′ ≡ drop 16 o = rw fo (drop-at q (drop 16 o) 16 full) in
-    let z : chain m s d ≡ q ++ C = chain-block m s d hd ∙ ap (λ (u : List ℕ). q ++ chain m u (drop 16 d)) (sym fs) in
-    record {
-      within = hd;
-      size = ap length fo ∙ length-append q (drop 16 o) ∙ rw (full, length-drop 16 o) (omega arith);
-      ends = ap (λ (u : List ℕ). endState m u (drop 16 d)) fs ∙ sym (end-block m s d hd);
-      leaves = rw (x, y) (sym (rw z (over-append q C o ∙ rw full)));
-    }
 
 -- n blocks more were written where the walk had come to
 module _ (m : Mode) (s d o r p : List ℕ) (at : ℕ) (R : Reached m s d o r p at) where
@@ -127,3 +89,85 @@ module _ (m : Mode) (s d o r p : List ℕ) (at : ℕ) (R : Reached m s d o r p a
         ends = ap₂ (endState m) fr (sym behind) ∙ sym (end-blocks m n r (drop at d) room) ∙ R .ends;
         leaves = rw (x, y) (append-assoc (take at p) q (over C D) ∙ ap (λ (u : List ℕ). take at p ++ u) (sym w)) ∙ R .leaves;
       }
+
+  -- one block more was written there
+  pub reached-next : (r′ t : List ℕ) → at + 16 ≤ length d → at + 16 ≤ length p → length (m .block r (take 16 (tailed at d))) ≡ 16
+      → r′ ≡ m .next r (take 16 (tailed at d)) → t ≡ m .block r (take 16 (tailed at d)) ++ drop 16 (tailed at p)
+      → Reached m s d o r′ (returned at p t) (at + 16)
+  unfolding stepped cat
+  reached-next r′ t hd hp full fr ft =
+      let e = tail-is d at in
+      let l = rw e at full in
+      reached-on 1 r′ t hd hp (λ i h. let z : i ≡ 0 = omega arith in rw z l) (rw e at fr)
+      (rw e at ft ∙ ap (λ (k : ℕ). m .block r (take 16 (drop at d)) ++ drop k (tailed at p)) (sym l))
+
+-- a mode whose state is the block before, and whose full blocks give full blocks
+pub record FedBack (m : Mode) : Type 0 where
+  pub state : (s b : List ℕ) → m .next s b ≡ b
+  pub full : (s b : List ℕ) → length s ≡ 16 → length b ≡ 16 → length (m .block s b) ≡ 16
+
+-- in such a mode: whatever walk has come behind the first block, to the output p, has come to `at`, and to the output o
+pub record Fed (m : Mode) (d p o : List ℕ) (at : ℕ) : Type 0 where
+  pub behind : 16 ≤ at
+  pub whole : at % 16 ≡ 0
+  pub within : at ≤ length d
+  pub size : length o ≡ length p
+  pub room : length d ≤ length o
+  pub reached : (s o₀ : List ℕ) → Reached m s d o₀ (take 16 d) p 16 → Reached m s d o₀ (take 16 (drop (at - 16) d)) o at
+
+pub fed-first : (m : Mode) (d p : List ℕ) → 16 ≤ length d → length d ≤ length p → Fed m d p p 16
+fed-first m d p h r = record { behind = omega arith; whole = refl; within = h; size = refl; room = r; reached = λ s o R. R }
+
+module _ (m : Mode) (F : FedBack m) where
+  -- the states from a block on are the blocks from there on
+  fed-back : (i : ℕ) (d : List ℕ) → stepped m i (take 16 d) (drop 16 d) ≡ blockAt d i
+  unfolding stepped
+  fed-back zero d = refl
+  fed-back (suc i) d =
+      let e = drop 16 d in
+      ap (λ (s : List ℕ). stepped m i s (drop 16 e)) (F .state (take 16 d) (take 16 e)) ∙ fed-back i e ∙ ap (take 16) (tail-on d i)
+
+  module _ (d p : List ℕ) where
+    -- n blocks more were written, each from the block before it
+    pub fed-on : (o t : List ℕ) (at n : ℕ) → Fed m d p o at → at + 16 * n ≤ length d → length (returned at o t) ≡ length o
+        → t ≡ over (cat n (λ i. m .block (blockAt (tailed (at - 16) d) i) (blockAt (tailed at d) i))) (tailed at o)
+        → Fed m d p (returned at o t) (at + 16 * n)
+    fed-on o t at n R h l e =
+        let b = drop (at - 16) d in
+        let c = drop at d in
+        let s = take 16 b in
+        let next : at - 16 + 16 ≡ at = omega (arith, R) in
+        let states : (i : ℕ) → stepped m i s c ≡ blockAt b i =
+        λ i. ap (stepped m i s) (sym (drop-drop 16 (at - 16) d ∙ ap (λ (k : ℕ). drop k d) next)) ∙ fed-back i b in
+        let last : at - 16 + 16 * n ≡ at + 16 * n - 16 = omega (arith, R) in
+        let state : take 16 (drop (at + 16 * n - 16) d) ≡ stepped m n s c =
+        sym (states n ∙ ap (take 16) (drop-drop (16 * n) (at - 16) d ∙ ap (λ (k : ℕ). drop k d) last)) in
+        let wide : 16 * n ≤ length b = rw length-drop (omega (arith, R)) in
+        let here : 16 * n ≤ length c = rw length-drop (omega arith) in
+        let full : (i : ℕ) → i < n → length (gives m s c i) ≡ 16 =
+        λ i g. F .full (stepped m i s c) (blockAt c i) (rw (states i) (length-blockAt b i n g wide)) (length-blockAt c i n g here) in
+        let same : cat n (λ i. m .block (blockAt (tailed (at - 16) d) i) (blockAt (tailed at d) i)) ≡ cat n (gives m s c) =
+        cat-same n (λ i. m .block (blockAt (tailed (at - 16) d) i) (blockAt (tailed at d) i)) (gives m s c)
+        (λ i g. rw (tail-is d at, tail-is d (at - 16)) (ap (λ (u : List ℕ). m .block u (blockAt c i)) (sym (states i)))) in
+        record {
+          behind = omega (arith, R);
+          whole = omega (arith, R);
+          within = h;
+          size = omega (arith, R);
+          room = omega (arith, R);
+          reached = λ u o₀ Q.
+              reached-on m u d o₀ s o at (R .reached u o₀ Q) n (take 16 (drop (at + 16 * n - 16) d)) t h (omega (arith, R)) full state
+              (e ∙ ap (λ (x : List ℕ). over x (tailed at o)) same);
+        }
+
+    -- the first block was written by itself, from the state s
+    pub fed-reached : (s o₀ o : List ℕ) (at : ℕ) → Fed m d p o at → length s ≡ 16 → 16 ≤ length d → 16 ≤ length o₀
+        → p ≡ m .block s (take 16 d) ++ drop 16 o₀ → Reached m s d o₀ (take 16 (drop (at - 16) d)) o at
+    fed-reached s o₀ o at R hs hd ho e =
+        let x = tail-is d 0 in
+        let y = tail-is o₀ 0 in
+        let b = take 16 d in
+        R .reached s o₀
+        (rw (returned-is o₀ p 0) at
+        (reached-next m s d o₀ s o₀ 0 (reached-first m s d o₀) b p hd ho (rw x (F .full s b hs (length-take-le 16 d hd))) (rw x (sym (F .state s b)))
+        (rw (x, y) e)))

@@ -6,19 +6,21 @@ use Prim.Native.Nat.{_+_, _≤_, _-_, _%_}
 use native.Mathlib.Nat.{sub-zero}
 use native.Mathlib.Omega.{arith}
 use denote.Ref.{now}
-use lib.ListN.{length, take, drop}
+use lib.ListN.{length, take}
 use Rattle.block.specs.Words.{unwords}
 use Rattle.block.specs.Xor.{xors}
 use Rattle.cipher.proofs.Blocks.{length-encryptBlock}
-use Rattle.walk.proofs.Loop.{turn, nothing-left}
-use Rattle.cbc.specs.Cbc.{padded, cbcEncrypt}
-use Rattle.cbc.proofs.Goes.{blocks-onward}
+use Rattle.walk.proofs.Batch.{reached-next}
+use Rattle.walk.proofs.Loop.{tailed, tail-is, nothing-left}
+use Rattle.cbc.specs.Cbc.{padded, cbcEncrypt, cbcSeal}
+use Rattle.cbc.proofs.Goes.{blocks-reached}
 use Rattle.cbc.proofs.Padding.{length-padded, rest-padded}
 use borrow.Author.Needs.{needs}
 use Rattle.cbc.proofs.encrypt.Statement.{statement}
 use Rattle.cbc.proofs.encrypt.Tie as tie
 
 returns : tie.Need-returns
+unfolding cbcSeal
 returns c =
     let at-step = c .before .before in
     let at-pad = at-step .before .before .before in
@@ -31,17 +33,18 @@ returns c =
     let front = rw sub-zero at (at-blocks .encrypt-blocks .ensures) in
     let o = at-blocks .encrypt-blocks .last .1 .1 .1 .1 .0 in
     let s = unwords (at-blocks .encrypt-blocks .result) in
-    let b = take 16 (at-pad .pad .result) in
-    let block : b ≡ take 16 (drop at (padded d)) =
-    rw (at-pad .pad .ensures) (rest-padded d at (omega arith) (omega arith) (omega arith)) in
-    let full = length-encryptBlock (a .rk) (xors b s) in
+    let b = take 16 (tailed at (padded d)) in
+    let block : take 16 (at-pad .pad .result) ≡ b =
+    rw (at-pad .pad .ensures, tail-is (padded d) at) (rest-padded d at (omega arith) (omega arith) (omega arith)) in
+    let stepped = rw block at (at-step .encrypt-step .ensures) in
     let inside : at + 16 ≤ length (padded d) = omega (arith, length-padded d) in
     let room : at + 16 ≤ length o = omega (arith, S .pre, at-pad .before .before .before .out, at-blocks .encrypt-blocks) in
-    let stepped = at-step .encrypt-step .ensures in
-    let written = at-step .encrypt-step .last .1 .1 .1 .1 .0 in
-    nothing-left m (unwords (at-step .encrypt-step .result)) (padded d) _ (at + 16) (omega (arith, length-padded d)) refl
-    ∙ turn m s _ (padded d) o written b at inside room block full (stepped .0) (stepped .1)
-    ∙ blocks-onward (a .rk) (unwords (a .iv)) s d (now (a .out)) o at (omega arith) (omega arith) (front .0) (front .1)
+    let begun =
+    blocks-reached (a .rk) (unwords (a .iv)) s d (now (a .out)) o at (omega arith) (omega (arith, S .pre)) (omega arith) (front .0) (front .1) in
+    let done =
+    reached-next m (unwords (a .iv)) (padded d) (now (a .out)) s o at begun (unwords (at-step .encrypt-step .result)) _ inside room
+    (length-encryptBlock (a .rk) (xors b s)) (stepped .0) (stepped .1) in
+    nothing-left m (unwords (at-step .encrypt-step .result)) (padded d) _ (at + 16) (omega (arith, length-padded d)) refl ∙ done .leaves
 
 pub encrypt-spec : {M : Type 1} → statement M
 encrypt-spec =

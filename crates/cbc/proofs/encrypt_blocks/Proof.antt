@@ -1,54 +1,44 @@
--- `cbc::encrypt_blocks` meets its contract. The loop's invariant says what will stand in the output, and in which state the
--- walk will end, if it goes on from here; at the end no full block is left, and a rest gives nothing.
+-- `cbc::encrypt_blocks` meets its contract. A turn of the loop goes one block on (`reached-next`); at the end no full block is left, and a
+-- rest gives nothing.
 -- Assumes nothing.
-use mathlib.Core.Path.{_≡_, refl, _∙_}
-use Prim.Native.Nat.{_≤_, _-_}
+use mathlib.Core.Path.{refl, _∙_}
+use Prim.Native.Nat.{_-_}
 use native.Mathlib.Omega.{arith}
 use denote.Ref.{now}
-use lib.ListN.{length, take, drop}
+use lib.ListN.{length, take}
 use Rattle.block.specs.Words.{unwords}
 use Rattle.block.specs.Xor.{xors}
 use Rattle.cipher.proofs.Blocks.{length-encryptBlock}
-use Rattle.walk.specs.Walk.{chain, endState, over}
-use Rattle.walk.proofs.Loop.{tailed, tail-is, onward, turn, turn-state, last-state, nothing-left}
+use Rattle.walk.specs.Reached.{Reached}
+use Rattle.walk.proofs.Batch.{reached-first, reached-next}
+use Rattle.walk.proofs.Loop.{tailed, last-state, nothing-left}
 use Rattle.cbc.specs.Cbc.{cbcEncrypt}
 use borrow.Author.Needs.{needs}
 use Rattle.cbc.proofs.encrypt_blocks.Statement.{statement}
 use Rattle.cbc.proofs.encrypt_blocks.Tie as tie
 
 abbrev Inv-loop : tie.InvT-loop
-Inv-loop t rk d out₀ s₀ at₀ out s at =
-    (at ≤ length d) × (length out ≡ length out₀)
-    × (endState (cbcEncrypt rk) (unwords s) (drop at d) ≡ endState (cbcEncrypt rk) (unwords s₀) d)
-    × (onward (cbcEncrypt rk) (unwords s) d out at ≡ over (chain (cbcEncrypt rk) (unwords s₀) d) out₀)
+Inv-loop t rk d out₀ s₀ at₀ out s at = Reached (cbcEncrypt rk) (unwords s₀) d out₀ (unwords s) out at
 
 abbrev μ-loop : tie.MeasureT-loop
 μ-loop t rk d out₀ s₀ at₀ out s at = length d - at
 
 loop-holds : tie.Need-loop-holds Inv-loop μ-loop
-loop-holds c = (omega arith, refl, refl, refl)
+loop-holds c =
+    let a = c .before .before .before .args in
+    reached-first (cbcEncrypt (a .rk)) (unwords (a .iv)) (now (a .«data»)) (now (a .out))
 
 loop-again : tie.Need-loop-again Inv-loop μ-loop
 loop-again c =
     let at-step = c .before .before in
     let at-loop = at-step .before .before .before .before in
     let a = at-loop .before .before .before .before .args in
-    let rk = a .rk in
     let d = now (a .«data») in
-    let s = at-loop .loop .s in
-    let at = at-loop .loop .at in
-    let b = take 16 (tailed at d) in
-    let front : b ≡ take 16 (drop at d) = rw (tail-is d at) in
-    let full = length-encryptBlock rk (xors b (unwords s)) in
+    let l = at-loop .loop in
+    let full = length-encryptBlock (a .rk) (xors (take 16 (tailed (l .at) d)) (unwords (l .s))) in
     let stepped = at-step .encrypt-step .ensures in
-    let written = at-step .encrypt-step .last .1 .1 .1 .1 .0 in (
-      omega arith,
-      omega arith,
-      turn-state (cbcEncrypt rk) (unwords s) _ d b at (omega arith) front (stepped .0) ∙ at-loop .loop .inv .2,
-      turn (cbcEncrypt rk) (unwords s) _ d (at-loop .loop .out) written b at (omega arith) (omega arith) front full
-          (stepped .0) (stepped .1)
-          ∙ at-loop .loop .inv .3,
-    )
+    reached-next (cbcEncrypt (a .rk)) (unwords (a .iv)) d (now (a .out)) (unwords (l .s)) (l .out) (l .at) (l .inv) _ _ (omega arith)
+    (omega arith) full (stepped .0) (stepped .1)
 
 returns : tie.Need-returns Inv-loop μ-loop
 returns c =
@@ -57,8 +47,8 @@ returns c =
     let m = cbcEncrypt (a .rk) in
     let d = now (a .«data») in
     let l = at-loop .loop in (
-      last-state m (unwords (l .s)) d (l .at) (omega arith) ∙ l .inv .2,
-      nothing-left m (unwords (l .s)) d (l .out) (l .at) (omega arith) refl ∙ l .inv .3,
+      last-state m (unwords (l .s)) d (l .at) (omega arith) ∙ l .inv .ends,
+      nothing-left m (unwords (l .s)) d (l .out) (l .at) (omega arith) refl ∙ l .inv .leaves,
     )
 
 pub encrypt-blocks-spec : {M : Type 1} → statement M

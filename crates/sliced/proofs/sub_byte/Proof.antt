@@ -6,14 +6,15 @@ use Prim.Native.Nat.{_<_, _+_, _-_, _*_}
 use mathlib.Core.Path.{_≡_, _∙_}
 use native.Mathlib.Omega.{arith}
 use lib.ListN.{length}
-use Rattle.cipher.specs.Gates.{SboxLanes}
-use Rattle.sliced.specs.Round.{subbed, Mask, column}
+use Rattle.circuit.specs.Sbox.{SboxLanes}
+use Rattle.lanes.specs.Bits.{bit, Masks}
+use Rattle.sliced.specs.Round.{subbed, column}
 use Rattle.sliced.proofs.Columns.{Columns, columns-first, columns-next, columns-last, length-columnPut}
 use Rattle.sliced.proofs.sub_byte.Statement.{statement}
 use Rattle.sliced.proofs.sub_byte.Tie as tie
 
 abbrev Inv-loop : tie.InvT-loop
-Inv-loop s₀ x y z k b n m j₀ s j = (length s ≡ 512) × (Mask k b m) × Columns (subbed x y z k) n b j s
+Inv-loop s₀ x y z k b n m j₀ s j = (length s ≡ 512) × Masks 8 (λ i. bit (8 * b + i) k) m × Columns (subbed x y z k) n b j s
 
 abbrev μ-loop : tie.MeasureT-loop
 μ-loop s₀ x y z k b n m j₀ s j = n - j

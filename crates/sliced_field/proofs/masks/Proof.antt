@@ -1,38 +1,34 @@
--- `sliced_field::masks` meets its contract. The loop's invariant: the first i masks are those of h's first i bits. A turn stores one
--- more (`masks-next`).
+-- `sliced_field::masks` meets its contract: each half is written behind the one before, which stays as it was (`half-masks-kept`).
 -- Assumes nothing.
 use borrow.Author.Needs.{needs}
-use Prim.Native.Nat.{_≤_, _<_, _-_}
+use mir.Val.{Fits}
+use mir.Syntax.{w64}
 use native.Mathlib.Omega.{arith}
-use Rattle.block.specs.Wide.{whole}
-use Rattle.sliced_field.specs.Elements.{Masks}
-use Rattle.sliced_field.proofs.Elements.{masks-next}
+use Rattle.sliced_field.proofs.Elements.{half-masks-kept, masked-is}
 use Rattle.sliced_field.proofs.masks.Statement.{statement}
 use Rattle.sliced_field.proofs.masks.Tie as tie
 
-abbrev Inv-loop : tie.InvT-loop
-Inv-loop m₀ high low i₀ m i = (i ≤ 128) × Masks (whole high low) i m
-
-abbrev μ-loop : tie.MeasureT-loop
-μ-loop m₀ high low i₀ m i = 128 - i
-
-loop-holds : tie.Need-loop-holds Inv-loop μ-loop
-loop-holds c = (search needs, (c .pre, λ i l h. absurd (omega arith)))
-
-loop-again : tie.Need-loop-again Inv-loop μ-loop
-loop-again c =
-    let turn = c .before .before .loop in
-    let h : turn .i < 128 = search needs in
-    (omega (arith, h), masks-next _ (turn .i) (c .spread .result) (turn .m) h (c .spread .ensures) (turn .inv .1))
-
-returns : tie.Need-returns Inv-loop μ-loop
+returns : tie.Need-returns
 returns c =
-    let end = c .before .loop in
-    (end .inv .1 .0, λ i n h. end .inv .1 .1 i n (omega arith))
+    let third = c .half-masks3 in
+    let at-second = c .before .before in
+    let second = at-second .half-masks2 in
+    let at-first = at-second .before .before in
+    let first = at-first .half-masks in
+    let S = at-first .before .before in
+    let h = S .args .h in
+    let f : Fits w64 (h .low) = search (needs, S .good .0) in
+    let m₁ = first .last .1 .1 .0 in
+    let m₂ = second .last .1 .1 .0 in
+    let m₃ = third .last .1 .1 .0 in
+    masked-is (h .high) (h .low) m₃ (f .fits) (third .ensures .1)
+    (half-masks-kept (h .low) 0 128 m₂ m₃ (omega arith) (third .ensures .2)
+    (half-masks-kept (h .low) 0 64 m₁ m₂ (omega arith) (second .ensures .2) (first .ensures .0)))
+    (half-masks-kept (h .high) 64 128 m₂ m₃ (omega arith) (third .ensures .2) (second .ensures .0))
+    (third .ensures .0)
 
 pub masks-spec : {M : Type 1} → statement M
 masks-spec =
     tie.close
     (tie.spec
-    Inv-loop μ-loop loop-holds (λ c κs. search needs) (λ c. search needs) (λ c. search needs) (λ c. search needs) (λ c. search needs)
-    loop-again returns)
+    (λ c κs. search needs) (λ c κs. search needs) (λ c κs. search needs) returns)

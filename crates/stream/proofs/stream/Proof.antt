@@ -1,17 +1,19 @@
--- `stream::stream` meets its contract. It goes on from where the batches have come to. The loop's invariant says what will stand in the
--- output, and in which state the walk will end, if it goes on from here; so nothing is said about the past.
+-- `stream::stream` meets its contract. It goes on from where the batches have come to: whatever walk has come there, a turn of the loop
+-- goes one block on (`reached-next`), and at the end the rest is written.
 -- Assumes nothing.
 use mathlib.Core.Path.{_≡_, refl, ap, _∙_}
-use Prim.Native.Nat.{_≤_, _-_}
+use mathlib.Core.List.{List}
+use Prim.Native.Nat.{ℕ, _≤_, _-_}
 use native.Mathlib.Omega.{arith}
 use denote.Ref.{now}
-use lib.ListN.{length, take, drop}
+use lib.ListN.{length, take}
 use lib.Seq.{length-take-le}
 use Rattle.block.specs.Words.{unwords}
 use Rattle.cipher.specs.Sm4.{encryptBlock}
-use Rattle.walk.specs.Walk.{endState}
+use Rattle.walk.specs.Reached.{Reached}
+use Rattle.walk.proofs.Batch.{reached-next}
+use Rattle.walk.proofs.Loop.{tailed, length-tailed, last-state, rest-written}
 use Rattle.stream.specs.Stream.{streamMode}
-use Rattle.walk.proofs.Loop.{tailed, tail-is, length-tailed, onward, turn, turn-state, last-state, rest-written}
 use Rattle.stream.proofs.RoundTrip.{stream-block}
 use borrow.Author.Needs.{needs}
 use Rattle.stream.proofs.stream.Statement.{statement}
@@ -20,14 +22,13 @@ use Rattle.stream.proofs.stream.Tie as tie
 abbrev Inv-loop : tie.InvT-loop
 Inv-loop t rk kind d out₀ s₀ at₀ out s at =
     (at ≤ length d) × (length out ≡ length out₀)
-    × (endState (streamMode kind rk) (unwords s) (drop at d) ≡ endState (streamMode kind rk) (unwords s₀) (drop at₀ d))
-    × (onward (streamMode kind rk) (unwords s) d out at ≡ onward (streamMode kind rk) (unwords s₀) d out₀ at₀)
+    × ((u o : List ℕ) → Reached (streamMode kind rk) u d o (unwords s₀) out₀ at₀ → Reached (streamMode kind rk) u d o (unwords s) out at)
 
 abbrev μ-loop : tie.MeasureT-loop
 μ-loop t rk kind d out₀ s₀ at₀ out s at = length d - at
 
 loop-holds : tie.Need-loop-holds Inv-loop μ-loop
-loop-holds c = (c .before .before .before .run .ensures .within, refl, refl, refl)
+loop-holds c = (c .before .before .before .run .ensures .within, refl, λ u o R. R)
 
 loop-again : tie.Need-loop-again Inv-loop μ-loop
 loop-again c =
@@ -36,20 +37,17 @@ loop-again c =
     let at-run = at-loop .before .before .before .before in
     let a = at-run .before .before .before .before .before .args in
     let begun = at-run .run .ensures in
-    let m = streamMode (a .kind) (a .rk) in
     let d = now (a .«data») in
-    let s = unwords (at-loop .loop .s) in
-    let at = at-loop .loop .at in
-    let b = take 16 (tailed at d) in
-    let front : b ≡ take 16 (drop at d) = rw (tail-is d at) in
-    let full = stream-block (a .kind) (a .rk) s b (length-take-le 16 (tailed at d) (omega (arith, length-tailed d at))) in
-    let stepped = at-step .step .ensures in
-    let written = at-step .step .last .1 .1 .1 .1 .1 .0 in (
+    let l = at-loop .loop in
+    let s = unwords (l .s) in
+    let b = tailed (l .at) d in
+    let full = stream-block (a .kind) (a .rk) s (take 16 b) (length-take-le 16 b (omega (arith, length-tailed d (l .at)))) in
+    let stepped = at-step .step .ensures in (
       omega arith,
       omega arith,
-      turn-state m s _ d b at (omega arith) front (stepped .0) ∙ at-loop .loop .inv .2,
-      turn m s _ d (at-loop .loop .out) written b at (omega arith) (omega arith) front full (stepped .0) (stepped .1)
-          ∙ at-loop .loop .inv .3,
+      λ u o R.
+          reached-next (streamMode (a .kind) (a .rk)) u d o s (l .out) (l .at) (l .inv .2 u o R) _ _ (omega arith) (omega arith) full
+          (stepped .0) (stepped .1),
     )
 
 returns : tie.Need-returns Inv-loop μ-loop
@@ -61,16 +59,15 @@ returns c =
     let begun = at-run .run .ensures in
     let m = streamMode (a .kind) (a .rk) in
     let d = now (a .«data») in
-    let s = unwords (at-loop .loop .s) in
-    let at = at-loop .loop .at in
-    let written = at-rest .xor-rest .last .1 .1 .1 .1 .0 in
-    let ended = last-state m s d at (omega arith) ∙ at-loop .loop .inv .2 ∙ begun .ends in
+    let l = at-loop .loop in
+    let s = unwords (l .s) in
+    let done = l .inv .2 (unwords (a .iv)) (now (a .out)) begun in
+    let ended = last-state m s d (l .at) (omega arith) ∙ done .ends in
     let rested = at-rest .xor-rest .ensures in (
       ended,
       (
         rested .0 ∙ ap (encryptBlock (a .rk)) ended,
-        rest-written m s d (at-loop .loop .out) written at (omega arith) (rested .1) ∙ at-loop .loop .inv .3
-            ∙ begun .leaves,
+        rest-written m s d (l .out) _ (l .at) (omega arith) (rested .1) ∙ done .leaves,
       ),
     )
 

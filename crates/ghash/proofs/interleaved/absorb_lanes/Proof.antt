@@ -9,7 +9,7 @@ use Rattle.block.specs.Wide.{value}
 use Rattle.field.specs.Field.{gmul, gpow}
 use Rattle.field.proofs.Bounded.{whole-lt}
 use Rattle.field.proofs.Powers.{gpow-add}
-use Rattle.sliced_field.specs.Elements.{Masks}
+use Rattle.sliced_field.specs.Elements.{Masked}
 use Rattle.ghash.specs.Ghash.{hashFrom}
 use Rattle.ghash.proofs.Sets.{sets-blocks, hash-folded}
 use Rattle.ghash.proofs.interleaved.absorb_lanes.Statement.{statement}
@@ -18,9 +18,9 @@ use Rattle.ghash.proofs.interleaved.absorb_lanes.Tie as tie
 returns : tie.Need-returns
 returns c =
     let at-fold = c .before .before in
-    let at-half = at-fold .before .before .before .before in
+    let at-half = at-fold .before .before .before in
     let at-sets = at-half .before .before in
-    let at-start = at-sets .before .before .before .before in
+    let at-start = at-sets .before .before .before in
     let at-masks = at-start .before .before in
     let at-square = at-masks .before .before in
     let at-power = at-square .before in
@@ -31,8 +31,8 @@ returns c =
     let element = whole-lt (g .h .high) (g .h .low) (omega (arith, S .good .0)) (omega (arith, S .good .0)) in
     let to64 = at-power .power .ensures in
     let to128 = at-square .galois-mul .ensures ∙ ap₂ gmul to64 to64 ∙ gpow-add h element 64 64 in
-    let masks = subst (λ (k : ℕ). Masks k 128 (at-masks .masks .last .1 .0)) to128 (at-masks .masks .ensures) in
-    let half = subst (λ (k : ℕ). Masks k 128 (at-half .masks2 .last .1 .0)) to64 (at-half .masks2 .ensures) in
+    let masks = subst (λ (k : ℕ). Masked k (at-masks .masks .last .1 .0)) to128 (at-masks .masks .ensures) in
+    let half = subst (λ (k : ℕ). Masked k (at-half .masks2 .last .1 .0)) to64 (at-half .masks2 .ensures) in
     record {
       key = c .joined-lanes .ensures .0;
       hash =

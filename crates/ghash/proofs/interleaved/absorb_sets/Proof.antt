@@ -17,12 +17,11 @@ use Rattle.ghash.proofs.interleaved.absorb_sets.Statement.{statement}
 use Rattle.ghash.proofs.interleaved.absorb_sets.Tie as tie
 
 abbrev Inv-loop : tie.InvT-loop
-Inv-loop m z₀ room₀ bytes a₀ b₀ sets s₀ z room a b s =
+Inv-loop m z₀ bytes a₀ b₀ sets s₀ z a b s =
     (s ≤ sets) × (length z ≡ 256) × Sized a b × ((s % 4 ≡ 0 → ⊥) → Standing bytes s a b) × (s ≡ 0 → z ≡ z₀) × Done m bytes z₀ s z
-    × (length room ≡ 2048)
 
 abbrev μ-loop : tie.MeasureT-loop
-μ-loop m z₀ room₀ bytes a₀ b₀ sets s₀ z room a b s = sets - s
+μ-loop m z₀ bytes a₀ b₀ sets s₀ z a b s = sets - s
 
 loop-holds : tie.Need-loop-holds Inv-loop μ-loop
 loop-holds c = (
@@ -32,7 +31,6 @@ loop-holds c = (
   λ n. absurd (n refl),
   λ e. refl,
   λ l. absurd (omega arith),
-  c .before .pre .2,
 )
 
 add-set-requires : tie.Need-add-set-requires Inv-loop μ-loop
@@ -41,7 +39,7 @@ add-set-requires c κs =
     let at-if1 = at-if2 .before in
     let turn = at-if1 .before .before .loop in
     let long : length (at-if2 .if2 .z) ≡ 256 =
-    ⊎-elim (λ w. rw (w .4) (w .3 .ensures .1)) (λ w. rw (w .1) (turn .inv .1)) (at-if2 .if2 .came) in
+    ⊎-elim (λ w. rw (w .3) (w .2 .ensures .1)) (λ w. rw (w .1) (turn .inv .1)) (at-if2 .if2 .came) in
     let sized : Sized (at-if1 .if1 .a) (at-if1 .if1 .b) =
     ⊎-elim (λ w. rw (w .5, w .6) (w .4 .ensures .1)) (λ w. rw (w .1, w .2) (turn .inv .2)) (at-if1 .if1 .came) in
     (long, omega arith, sized)
@@ -70,11 +68,9 @@ loop-again c =
     (at-if1 .if1 .came) in
     let waiting : Waiting m bytes z₀ s (at-if2 .if2 .z) =
     ⊎-elim
-    (λ w. rw (w .4) (waiting-next m bytes z₀ s (turn .z) _ (w .0 .taken) (turn .inv .5) (w .3 .ensures .0)))
+    (λ w. rw (w .3) (waiting-next m bytes z₀ s (turn .z) _ (w .0 .taken) (turn .inv .5) (w .2 .ensures .0)))
     (λ w. rw (w .1 ∙ turn .inv .4 (omega arith)) (waiting-first m bytes z₀ s (w .0 .left)))
     (at-if2 .if2 .came) in
-    let room : length (at-if2 .if2 .room) ≡ 2048 =
-    ⊎-elim (λ w. rw (w .5) (w .3 .ensures .2)) (λ w. rw (w .2) (turn .inv .6)) (at-if2 .if2 .came) in
     let number = below-each 256 bytes (λ i. known .shared-slice-known .given i .fits) in
     let added = c .add-set .ensures in (
       omega arith,
@@ -85,7 +81,6 @@ loop-again c =
       done-next m bytes z₀ s (at-if2 .if2 .z) _ waiting
           (added .0 (λ k. f (128 * s + k)) (standing-set bytes s a b standing (omega arith))
           (λ k. blockNumber-lt bytes number (128 * s + k))),
-      room,
     )
 
 returns : tie.Need-returns Inv-loop μ-loop
@@ -95,7 +90,6 @@ returns c =
     let e : end .s ≡ length (x .bytes .now) / 2048 = omega arith in (
       subst (λ (n : ℕ). Done (x .m .now) (x .bytes .now) (x .z .now) n (end .z)) e (end .inv .5) (omega arith),
       end .inv .1,
-      end .inv .6,
     )
 
 pub absorb-sets-spec : {M : Type 1} → statement M

@@ -13,10 +13,10 @@ use Rattle.ghash.proofs.interleaved.fold.Statement.{statement}
 use Rattle.ghash.proofs.interleaved.fold.Tie as tie
 
 abbrev Inv-loop : tie.InvT-loop
-Inv-loop m z₁ room t i₀ z i = (i ≤ 128) × (length z ≡ 256) × Folded z₁ t i z
+Inv-loop m z₁ t i₀ z i = (i ≤ 128) × (length z ≡ 256) × Folded z₁ t i z
 
 abbrev μ-loop : tie.MeasureT-loop
-μ-loop m z₁ room t i₀ z i = 128 - i
+μ-loop m z₁ t i₀ z i = 128 - i
 
 loop-holds : tie.Need-loop-holds Inv-loop μ-loop
 loop-holds c = (search needs, c .multiply .ensures .1, λ p. (λ h. absurd (omega arith), λ h. refl))
@@ -27,7 +27,7 @@ loop-again c =
     let turn = at-loop .loop in
     let at-multiply = at-loop .before in
     let z₁ = at-multiply .multiply .last .1 .0 in
-    let t = at-multiply .before .before .before .second-half .result in
+    let t = at-multiply .before .before .second-half .result in
     let h : turn .i < 128 = search needs in
     let l : 2 * turn .i < length (turn .z) = omega (arith, h, turn .inv .1) in
     (omega (arith, h), search needs, folded-next z₁ t (turn .i) (turn .z) l (turn .inv .2))
@@ -37,7 +37,7 @@ returns c =
     let end = c .before .loop in
     let at-multiply = c .before .before in
     let z₁ = at-multiply .multiply .last .1 .0 in
-    let at-half = at-multiply .before .before .before in
+    let at-half = at-multiply .before .before in
     let t = at-half .second-half .result in
     let z₀ = at-half .before .before .args .z .now in (
       λ h M k g.

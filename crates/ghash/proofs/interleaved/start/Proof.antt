@@ -8,13 +8,13 @@ use native.Mathlib.Omega.{arith}
 use lib.ListN.{length, getD}
 use Rattle.block.specs.Wide.{value}
 use Rattle.field.proofs.Bounded.{whole-lt}
-use Rattle.sliced_field.specs.Elements.{Masks}
+use Rattle.sliced_field.specs.Elements.{Masked}
 use Rattle.ghash.proofs.Columns.{Started, started-next, started-last, mask-odd}
 use Rattle.ghash.proofs.interleaved.start.Statement.{statement}
 use Rattle.ghash.proofs.interleaved.start.Tie as tie
 
 abbrev Inv-loop : tie.InvT-loop
-Inv-loop z₀ m i₀ z i = (i ≤ 128) × (length z ≡ 256) × ((y : ℕ) → Masks y 128 m → Started y i z)
+Inv-loop z₀ m i₀ z i = (i ≤ 128) × (length z ≡ 256) × ((y : ℕ) → Masked y m → Started y i z)
 
 abbrev μ-loop : tie.MeasureT-loop
 μ-loop z₀ m i₀ z i = 128 - i

@@ -1,53 +1,61 @@
--- `sliced::counters::add_row` meets its contract. The loop's invariant: the first j words of the row are added; a turn adds one more
--- (`added-next`).
+-- `sliced::counters::add_row` meets its contract: the eight words are added one after the other (`added-next`).
 -- Assumes nothing.
 use borrow.Author.Needs.{needs}
-use Prim.Native.Nat.{ℕ, _≤_, _<_, _-_}
-use mathlib.Core.Path.{_≡_, refl, subst}
+use Prim.Native.Nat.{ℕ, _*_}
+use mathlib.Core.Path.{sym, subst}
+use native.Mathlib.Nat.{add-zero}
 use native.Mathlib.Omega.{arith}
-use lib.ListN.{length}
-use Rattle.lanes.specs.Bits.{bit}
-use Rattle.sliced.specs.Counting.{RowAdded}
+use lib.ListN.{getD}
+use Rattle.sliced.specs.Counting.{WordAdded}
 use Rattle.sliced.proofs.Ripple.{added-first, added-next}
 use Rattle.sliced.proofs.counters.add_row.Statement.{statement}
 use Rattle.sliced.proofs.counters.add_row.Tie as tie
 
-abbrev Inv-loop : tie.InvT-loop
-Inv-loop x₀ y₀ m i n j₀ x y j =
-    (j ≤ n) × (length x ≡ 256) × (length y ≡ 8) × ((d : ℕ) → ((k : ℕ) → k < 64 → bit k m ≡ d) → RowAdded d i j x₀ y₀ x y)
+add-at-requires-8 : tie.Need-add-at-requires-8
+add-at-requires-8 c κs =
+    let at7 = c .before .before in
+    let at4 = at7 .before .before .before .before .before .before .before .before .before in
+    let at1 = at4 .before .before .before .before .before .before .before .before .before in
+    let i = at1 .before .before .before .pre .0 in
+    (omega arith, at7 .add-at7 .ensures .size)
 
-abbrev μ-loop : tie.MeasureT-loop
-μ-loop x₀ y₀ m i n j₀ x y j = n - j
-
-loop-holds : tie.Need-loop-holds Inv-loop μ-loop
-loop-holds c =
-    let a = c .args in
-    let P = c .pre in
-    (search needs, P .2, P .3, λ d h. added-first d (a .i) (a .x .now) (a .y .now) (P .2) (P .3))
-
-loop-again : tie.Need-loop-again Inv-loop μ-loop
-loop-again c =
-    let at-loop = c .before .before .before in
-    let l = at-loop .loop in
-    let S = at-loop .before in
-    let a = S .args in (
-      omega arith,
-      search needs,
-      search needs,
-      λ d h. added-next d (a .i) (l .j) (a .m) (a .x .now) (a .y .now) (l .x) (l .y) h (S .pre .0) (omega arith) (l .inv .3 d h) _ _ refl refl,
-    )
-
-returns : tie.Need-returns Inv-loop μ-loop
+returns : tie.Need-returns
 returns c =
-    let l = c .before .loop in
-    let a = c .before .before .args in
-    let e : l .j ≡ a .n = omega arith in
-    (λ d h. subst (λ (j : ℕ). RowAdded d (a .i) j (a .x .now) (a .y .now) (l .x) (l .y)) e (l .inv .3 d h), (l .inv .1, l .inv .2))
+    let at7 = c .before .before .before in
+    let at6 = at7 .before .before .before in
+    let at5 = at6 .before .before .before in
+    let at4 = at5 .before .before .before in
+    let at3 = at4 .before .before .before in
+    let at2 = at3 .before .before .before in
+    let at1 = at2 .before .before .before in
+    let S = at1 .before .before .before in
+    let g = S .args in
+    let a = g .t2 in
+    let x = g .x .now in
+    let y = g .y .now in
+    let next = added-next (g .m) (g .i) in
+    next 7 _ a x y _ _ _ (omega arith) (c .add-at8 .ensures)
+    (next 6 _ a x y _ _ _ (omega arith) (at7 .add-at7 .ensures)
+    (next 5 _ a x y _ _ _ (omega arith) (at6 .add-at6 .ensures)
+    (next 4 _ a x y _ _ _ (omega arith) (at5 .add-at5 .ensures)
+    (next 3 _ a x y _ _ _ (omega arith) (at4 .add-at4 .ensures)
+    (next 2 _ a x y _ _ _ (omega arith) (at3 .add-at3 .ensures)
+    (next 1 _ a x y _ _ _ (omega arith) (at2 .add-at2 .ensures)
+    (next 0 _ a x y _ _ _ (omega arith)
+    (subst (λ (p : ℕ). WordAdded p (getD a 0 0) (getD y 0 0) (g .m) x (at1 .add-at .last .0) (at1 .add-at .result))
+    (sym (add-zero (8 * g .i))) (at1 .add-at .ensures))
+    (added-first (g .m) (g .i) a x y (S .pre .1) (S .pre .2)))))))))
 
 pub add-row-spec : {M : Type 1} → statement M
 add-row-spec =
     tie.close
     (tie.spec
-    Inv-loop μ-loop loop-holds (λ c. search needs) (λ c. search needs) (λ c. search needs) (λ c. search needs) (λ c. search needs)
-    (λ c. search needs) (λ c. search needs) (λ c. search needs) (λ c. search needs) (λ c. search needs) (λ c. search needs)
-    (λ c. search needs) loop-again returns)
+    (λ c. search needs) (λ c. search needs) (λ c. search needs) (λ c κs. search needs) (λ c. search needs)
+    (λ c. search needs) (λ c. search needs) (λ c. search needs) (λ c κs. search needs) (λ c. search needs)
+    (λ c. search needs) (λ c. search needs) (λ c. search needs) (λ c κs. search needs) (λ c. search needs)
+    (λ c. search needs) (λ c. search needs) (λ c. search needs) (λ c κs. search needs) (λ c. search needs)
+    (λ c. search needs) (λ c. search needs) (λ c. search needs) (λ c κs. search needs) (λ c. search needs)
+    (λ c. search needs) (λ c. search needs) (λ c. search needs) (λ c κs. search needs) (λ c. search needs)
+    (λ c. search needs) (λ c. search needs) (λ c. search needs) (λ c κs. search needs) (λ c. search needs)
+    (λ c. search needs) (λ c. search needs) (λ c. search needs) add-at-requires-8 (λ c. search needs)
+    returns)

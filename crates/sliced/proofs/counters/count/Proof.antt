@@ -7,48 +7,62 @@ use mir.Syntax.{w32}
 use lib.ListN.{getD, replicate}
 use Rattle.block.specs.Below.{AreWords}
 use Rattle.block.proofs.Entries.{below-each}
+use Rattle.lanes.proofs.Masks.{blank-room}
 use Rattle.sliced.specs.Counting.{numberAt, carryAt}
-use Rattle.sliced.proofs.CounterDigits.{blank-room, added-number, added-carry, lanes-count, in-words}
+use Rattle.sliced.proofs.CounterDigits.{added-number, added-carry, lanes-count, in-words}
 use borrow.Author.Needs.{needs}
 use Rattle.sliced.proofs.counters.count.Statement.{statement}
 use Rattle.sliced.proofs.counters.count.Tie as tie
 
+add-word-requires : tie.Need-add-word-requires
+add-word-requires c κs = let N = c .before .numbers .ensures .1 in (search needs, N .0, N .1)
+
+add-word-requires-2 : tie.Need-add-word-requires-2
+add-word-requires-2 c κs = let x = c .before .before .before .before .before .before .pre .2 in (search needs, x .0, λ p h. x .1 p)
+
+add-word-requires-3 : tie.Need-add-word-requires-3
+add-word-requires-3 c κs =
+    let x = c .before .before .before .before .before .before .before .before .pre .1 in
+    (search needs, x .0, λ p h. x .1 p)
+
+add-word-requires-4 : tie.Need-add-word-requires-4
+add-word-requires-4 c κs =
+    let x = c .before .before .before .before .before .before .before .before .before .before .pre .0 in
+    (search needs, x .0, λ p h. x .1 p)
+
 returns : tie.Need-returns
 returns c =
     let W0 = c .add-word4 in
-    let at1 = c .before .before .before in
+    let at1 = c .before .before in
     let W1 = at1 .add-word3 in
-    let at2 = at1 .before .before .before in
+    let at2 = at1 .before .before in
     let W2 = at2 .add-word2 in
-    let at-keep = at2 .before .before .before in
+    let at-keep = at2 .before in
     let K = at-keep .keep-carries in
     let at3 = at-keep .before .before in
     let W3 = at3 .add-word in
-    let at-numbers = at3 .before .before .before in
+    let at-numbers = at3 .before .before in
     let N = at-numbers .numbers in
     let S = at-numbers .before .before in
     let a = S .args in
     let x = a .t2 in
     let fits : (i : ℕ) → Fits w32 (getD x i 0) = λ i. search (needs, S .good .1 .0) in
     let small : AreWords x = below-each (2 ^ 32) x (λ i. fits i .fits) in (
-      λ e he hc.
+      λ e he.
           in-words _ _ _ _ _ e
-          (lanes-count (a .wide) x (W0 .last .0) (W1 .last .0) (W2 .last .0) (W3 .last .0) (W3 .last .1 .0) (K .last .1 .0)
-          (numberAt e) e small (K .ensures .0) (carryAt (W0 .last .1 .0) e) (carryAt (W1 .last .1 .0) e) (carryAt (W2 .last .1 .0) e)
-          (added-number (getD x 3 0) (a .n) (N .last .0) (replicate 8 0) (W3 .last .0) (W3 .last .1 .0) (numberAt e) e (W3 .ensures .0) he hc
+          (lanes-count (a .wide) x (W0 .last .0) (W1 .last .0) (W2 .last .0) (W3 .last .0) (W3 .result) (K .result)
+          (numberAt e) e small (K .ensures) (carryAt (W0 .result) e) (carryAt (W1 .result) e) (carryAt (W2 .result) e)
+          (added-number (getD x 3 0) (N .last .0) (replicate 8 0) (W3 .last .0) (W3 .result) (numberAt e) e (W3 .ensures .0) he
           (N .ensures .0 e he) (blank-room 8))
-          (added-carry (getD x 2 0) (a .n) (a .x2 .now) (K .last .1 .0) (W2 .last .0) (W2 .last .1 .0) e (W2 .ensures .0) he hc
-          (S .pre .3 .1))
-          (added-carry (getD x 1 0) (a .n) (a .x1 .now) (W2 .last .1 .0) (W1 .last .0) (W1 .last .1 .0) e (W1 .ensures .0) he hc
-          (S .pre .2 .1))
-          (added-carry (getD x 0 0) (a .n) (a .x0 .now) (W1 .last .1 .0) (W0 .last .0) (W0 .last .1 .0) e (W0 .ensures .0) he hc
-          (S .pre .1 .1))),
-      (W0 .ensures .1 .0, W1 .ensures .1 .0, W2 .ensures .1 .0, W3 .ensures .1 .0),
+          (added-carry (getD x 2 0) (a .x2 .now) (K .result) (W2 .last .0) (W2 .result) e (W2 .ensures .0) he (S .pre .2 .1))
+          (added-carry (getD x 1 0) (a .x1 .now) (W2 .result) (W1 .last .0) (W1 .result) e (W1 .ensures .0) he (S .pre .1 .1))
+          (added-carry (getD x 0 0) (a .x0 .now) (W1 .result) (W0 .last .0) (W0 .result) e (W0 .ensures .0) he (S .pre .0 .1))),
+      (W0 .ensures .1, W1 .ensures .1, W2 .ensures .1, W3 .ensures .1),
     )
 
 pub count-spec : {M : Type 1} → statement M
 count-spec =
     tie.close
     (tie.spec
-    (λ c κs. search needs) (λ c. search needs) (λ c κs. search needs) (λ c κs. search needs) (λ c. search needs) (λ c κs. search needs)
-    (λ c. search needs) (λ c κs. search needs) (λ c. search needs) (λ c κs. search needs) returns)
+    (λ c κs. search needs) (λ c. search needs) add-word-requires (λ c κs. search needs) (λ c. search needs) add-word-requires-2
+    (λ c. search needs) add-word-requires-3 (λ c. search needs) add-word-requires-4 returns)

@@ -9,7 +9,7 @@ use Rattle.block.specs.Words.{words, unwords}
 use Rattle.cipher.specs.Sm4.{encryptBlock}
 use Rattle.counter.specs.Counter.{jumped}
 use Rattle.rows.specs.Rows.{place}
-use Rattle.sliced.proofs.CounterDigits.{blank-room}
+use Rattle.lanes.proofs.Masks.{blank-room}
 use Rattle.sliced.proofs.LaneNumbers.{number-place}
 use borrow.Author.Needs.{needs}
 use Rattle.sliced.proofs.counters.encrypt_counters.Statement.{statement}
@@ -17,7 +17,7 @@ use Rattle.sliced.proofs.counters.encrypt_counters.Tie as tie
 
 count-requires : tie.Need-count-requires
 count-requires c κs =
-    (search needs, (search needs, blank-room 256), (search needs, blank-room 256), (search needs, blank-room 256), (search needs, blank-room 256))
+    ((search needs, blank-room 256), (search needs, blank-room 256), (search needs, blank-room 256), (search needs, blank-room 256))
 
 returns : tie.Need-returns
 unfolding encryptBlock
@@ -34,7 +34,7 @@ returns c =
     (at-rounds .rounds-to-rows .ensures .0 (a .m) f (omega arith)
     (λ i h.
     let p = number-place i (omega (arith, S .pre .0)) in
-    at-count .count .ensures .0 (place i) (p .0) (omega arith) ∙ ap f (p .2)))
+    at-count .count .ensures .0 (place i) (p .0) ∙ ap f (p .1)))
 
 pub encrypt-counters-spec : {M : Type 1} → statement M
 encrypt-counters-spec =

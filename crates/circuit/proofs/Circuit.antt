@@ -11,8 +11,7 @@ use Rattle.block.proofs.Table.{rule-at}
 use Rattle.lanes.specs.Bits.{bit, pack, byteLane}
 use Rattle.lanes.proofs.Bits.{bit-small, pack-lt, bit-pack, pack-same}
 use Rattle.lanes.proofs.Gates.{Gate, X, A, run, lane-at, lane-run, ones-bit}
-use Rattle.cipher.specs.Sm4.{Sbox, sboxTable}
-use Rattle.cipher.specs.Gates.{SboxLanes}
+use Rattle.circuit.specs.Sbox.{Sbox, sboxTable, SboxLanes}
 
 -- the gates of the code, in its order
 unfoldable pub circuit : List Gate

@@ -1,10 +1,10 @@
--- `cipher::gates::sbox` meets its contract: the code's gates are the circuit's, by computing, and the circuit is the S-box in every
+-- `circuit::sbox` meets its contract: the code's gates are the circuit's, by computing, and the circuit is the S-box in every
 -- lane (`circuit-lanes`).
 -- Assumes nothing.
 use borrow.Author.Needs.{needs}
-use Rattle.cipher.proofs.Circuit.{circuit, circuit-lanes}
-use Rattle.cipher.proofs.gates.sbox.Statement.{statement}
-use Rattle.cipher.proofs.gates.sbox.Tie as tie
+use Rattle.circuit.proofs.Circuit.{circuit, circuit-lanes}
+use Rattle.circuit.proofs.sbox.Statement.{statement}
+use Rattle.circuit.proofs.sbox.Tie as tie
 
 returns : tie.Need-returns
 unfolding circuit
