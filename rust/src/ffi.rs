@@ -184,6 +184,18 @@ records! {
     }
 }
 
+// The library itself, as the kit's compiler wrote it (proved/ in the repository), for the machine that this is compiled for. On x86-64
+// it is there for every processor and for those with AVX2, and the first call chooses.
+#[cfg(target_arch = "x86_64")]
+std::arch::global_asm!(
+    include_str!("../asm/x86_64.s"),
+    include_str!("../asm/x86_64-v3.s"),
+    include_str!("../asm/choose-x86_64.s"),
+    options(att_syntax, raw)
+);
+#[cfg(target_arch = "aarch64")]
+std::arch::global_asm!(include_str!("../asm/aarch64.s"), options(raw));
+
 extern "C" {
     fn luossavin_key_new(key: *const u8, key_len: usize, number: u32) -> Key;
     fn luossavin_key_retire(key: Key) -> Key;
