@@ -31,7 +31,11 @@
 #![deny(unsafe_code)]
 #![warn(missing_docs)]
 
-#[cfg(not(all(target_os = "linux", target_pointer_width = "64", any(target_arch = "x86_64", target_arch = "aarch64"))))]
+#[cfg(not(all(
+    target_os = "linux",
+    target_pointer_width = "64",
+    any(target_arch = "x86_64", target_arch = "aarch64")
+)))]
 compile_error!("Luossavin's library is there as assembly for Linux on x86-64 and on aarch64");
 
 pub mod editions;
