@@ -20,6 +20,7 @@
 #include "calls.h"
 #include "peers.h"
 #include "random.h"
+#include "variant.h"
 #include "wrap.h"
 
 #include <stdio.h>
@@ -474,6 +475,6 @@ int main(int argc, char **argv)
         printf("  cut %lu times, %lu of them under a retired key; %lu ends say that a counter came round\n", runs,
             retired_runs, ends_round);
     }
-    printf("  %lu calls, %lu wrong\n", calls, wrong);
+    printf("  %lu calls, %lu wrong, on %s\n", calls, wrong, variant_name());
     return wrong != 0;
 }

@@ -9,6 +9,8 @@
  */
 #include "smoke.h"
 
+#include "variant.h"
+
 #include <stddef.h>
 #include <stdio.h>
 #include <string.h>
@@ -338,6 +340,6 @@ int main(void)
     engines();
     long_messages();
     stack();
-    printf("%u checked, %u wrong\n", checked, wrong);
+    printf("%u checked, %u wrong, on %s\n", checked, wrong, variant_name());
     return wrong != 0;
 }
