@@ -147,7 +147,7 @@ static void choose_iv(void)
     came_round += m.round[0] || m.round[1];
 }
 
-/* What libgcrypt makes of `data`, in `out`, against the archive's `ours`. */
+/* What libgcrypt makes of `data`, in `out`, against the library's `ours`. */
 static void hold_peer(int mode, struct field data, const uint8_t *ours, size_t length)
 {
     const struct field iv = {m.iv, m.iv_len}, label = {m.label, m.label_len};

@@ -6,12 +6,12 @@
  *   work which 4 decrypt SIZE TIMES LABELS
  *   work join 4 encrypt SIZE TIMES BLOCKS
  *   work version libgcrypt|OpenSSL
- *   work tables ..        the archive on the engine of four tables, in the first three
+ *   work tables ..        the library on the engine of four tables, in the first three
  *   work gates ..         on that of gates
  *   work timed ..         prints how many million bytes a second of the processor's time it is, the best of some runs
  *
- * Each message has its key set up anew; of `once`, which is the archive too, one set-up serves all of them. MODE is
- * 0 to 4. In pieces of PIECE bytes, by the archive, it is 2, or 4: sealing, or opening without the text. A range of
+ * Each message has its key set up anew; of `once`, which is the library too, one set-up serves all of them. MODE is
+ * 0 to 4. In pieces of PIECE bytes, by the library, it is 2, or 4: sealing, or opening without the text. A range of
  * a message, from OFFSET on, is Ctr's alone, and one set-up serves all. Of a file which label it opens under is asked with
  * LABELS of six bytes, up to 64, of which none opens it. A join is of two hashes, the second of BLOCKS blocks, whatever
  * SIZE is. Exit status 3 where the library does not have the mode.
@@ -191,7 +191,7 @@ static int run(work *one, const struct task *t, int is_timed)
     }
     set_up_key();
     if (t->direction == DECRYPT) {
-        /* something to open, made by the archive, whoever opens it */
+        /* something to open, made by the library, whoever opens it */
         struct task sealing = *t;
         sealing.direction = ENCRYPT;
         if (!once(&sealing, data, out, room)) {
