@@ -94,14 +94,15 @@ build_rust() {
 take_target() {
     target=${LUOSSAVIN_TARGET:-}
     words=()
+    target_named=no
+    if [ -n "$target" ]; then target_named=yes; fi
     while [ $# -gt 0 ]; do
         case $1 in
         --target)
             [ $# -gt 1 ] || die "--target takes a name: aarch64, x86_64 or x86_64-v3"
-            target=$2
+            target=$2 target_named=yes
             shift
             ;;
-        --target=*) target=${1#--target=} ;;
         *) words+=("$1") ;;
         esac
         shift
@@ -238,7 +239,7 @@ compile() {
 
 # compile_shared WORDS..: one that uses the machine's own C library.
 compile_shared() {
-    "${compiler[@]}" -std=c11 -O2 -g -Wall -Wextra -I"$repository/include" -I"$c" -DEXPECTED_VARIANT=$variant "$c/variant.c" "${library[@]}" \
+    "${compiler[@]}" -std=c11 -O2 -g -Wall -Wextra -I"$repository/include" -I"$c" -DEXPECTED_VARIANT="$variant" "$c/variant.c" "${library[@]}" \
         "$@" 2>"$work/cc.log" || { cat "$work/cc.log" >&2; die "the C compiler failed"; }
 }
 
@@ -268,7 +269,7 @@ find_rust() {
     rustc=("${RUSTC:-rustc}" --target "$triple" -C "linker=${compiler[0]}" -C relocation-model=static
         -L "$work/lib")
     # the cross libm.a is a script that names a path of another machine
-    mkdir -p "$work/lib" && ln -sf /usr/$architecture-linux-gnu/lib/libm-2.36.a "$work/lib/libm.a"
+    mkdir -p "$work/lib" && ln -sf "/usr/$architecture-linux-gnu/lib/libm-2.36.a" "$work/lib/libm.a"
 }
 
 # depended PACKAGE NAME: the package that PACKAGE depends on and whose name begins so.
