@@ -163,7 +163,7 @@ find_emulator() {
 
 # The C compiler and the binary tools for the target, and what runs its programs.
 find_compiler() {
-    if [ -z "${target:-}" ]; then find_target; fi
+    if [ -z "${architecture:-}" ]; then find_target; fi
     prefix=''
     if [ "$machine" = "$architecture" ]; then
         need gcc gcc libc6-dev
