@@ -24,9 +24,9 @@ gate() { # COMMIT
 
 about() {
     at=$(commit)
-    passed=$(gate "$at") kit=$(cat "$stamp" 2>/dev/null)
+    passed=$(gate "$at")
     printf 'luossavin %s\n' "$(cat "$here/VERSION")"
-    printf 'proved by %s\n' "${kit:-no kit yet: the first use does that}"
+    printf 'proved by %s\n' "$(sed -n 's/^kit *//p' "$here/proved/made")"
     printf 'commit %s\ngate %s\n' "$at" "${passed:-not run on this commit}"
 }
 

@@ -1,4 +1,4 @@
-//! SM4 (GB/T 32907-2016) with Cfb, Ofb, Ctr, Cbc and Gcm, by libsm's names, over the proved archive of Luossavin.
+//! SM4 (GB/T 32907-2016) with Cfb, Ofb, Ctr, Cbc and Gcm, by libsm's names, over the proved library of Luossavin.
 //!
 //! A server that seals with libsm goes over by changing an import:
 //!
@@ -24,16 +24,20 @@
 //! | [`journal`] | recorded calls, made again and added up |
 //! | [`halves`] | hashes of halves of a message, joined to the whole's |
 //!
-//! What the archive promises is proved, and `include/luossavin.h` says it. This package is not proved: it hands
-//! slices over and takes answers apart, and its tests hold it to that. Package and archive are to be of one release.
-//! The library keeps nothing between calls, so that all of it may be used from any thread.
+//! What the library promises is proved, and `include/luossavin.h` says it. It is included as the assembly that was made of
+//! the proved code, for Linux on x86-64 and aarch64. This package is not proved: it hands slices over and takes answers
+//! apart, and its tests hold it to that. The library keeps nothing between calls, so that all of it may be used from any
+//! thread. Its names are C's, so that a program has one copy of it: link either this package or the C library.
 
 #![deny(unsafe_code)]
 #![warn(missing_docs)]
 
-// The archive is for x86-64. Elsewhere the documentation is made, and the lints are run.
-#[cfg(not(any(all(target_arch = "x86_64", target_os = "linux", target_pointer_width = "64"), doc, clippy)))]
-compile_error!("the archive of Luossavin is for x86-64 Linux: build with --target x86_64-unknown-linux-gnu");
+#[cfg(not(all(
+    target_os = "linux",
+    target_pointer_width = "64",
+    any(target_arch = "x86_64", target_arch = "aarch64")
+)))]
+compile_error!("Luossavin's library is there as assembly for Linux on x86-64 and on aarch64");
 
 pub mod editions;
 #[allow(unsafe_code)]
