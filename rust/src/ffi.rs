@@ -8,6 +8,7 @@
 
 use crate::sm4::cipher_mode::CipherMode;
 use crate::Direction;
+use std::mem::size_of;
 use std::ops::Deref;
 use std::sync::atomic::{compiler_fence, Ordering};
 
@@ -36,16 +37,20 @@ macro_rules! records {
 
         #[cfg(test)]
         fn layouts() -> Vec<tests::Layout> {
-            vec![$(tests::Layout {
-                name: $c,
-                size: size_of::<$name>(),
-                align: align_of::<$name>(),
-                fields: vec![$(tests::Field {
-                    name: stringify!($field),
-                    kind: stringify!($type),
-                    offset: std::mem::offset_of!($name, $field),
-                    size: size_of::<$type>(),
-                },)*],
+            vec![$({
+                // SAFETY: it is a record, of which zeros throughout are a value.
+                let one: $name = unsafe { std::mem::zeroed() };
+                tests::Layout {
+                    name: $c,
+                    size: size_of::<$name>(),
+                    align: std::mem::align_of::<$name>(),
+                    fields: vec![$(tests::Field {
+                        name: stringify!($field),
+                        kind: stringify!($type),
+                        offset: std::ptr::addr_of!(one.$field) as usize - std::ptr::addr_of!(one) as usize,
+                        size: size_of::<$type>(),
+                    },)*],
+                }
             },)*]
         }
     };
@@ -184,6 +189,18 @@ records! {
     }
 }
 
+// The library itself, as the kit's compiler wrote it (proved/ in the repository), for the machine that this is compiled for. On x86-64
+// it is there for every processor and for those with AVX2, and the first call chooses.
+#[cfg(target_arch = "x86_64")]
+std::arch::global_asm!(
+    include_str!("../asm/x86_64.s"),
+    include_str!("../asm/x86_64-v3.s"),
+    include_str!("../asm/choose-x86_64.s"),
+    options(att_syntax, raw)
+);
+#[cfg(target_arch = "aarch64")]
+std::arch::global_asm!(include_str!("../asm/aarch64.s"), options(raw));
+
 extern "C" {
     fn luossavin_key_new(key: *const u8, key_len: usize, number: u32) -> Key;
     fn luossavin_key_retire(key: Key) -> Key;
@@ -275,7 +292,7 @@ impl<T: Record> Drop for Secret<T> {
 
 /// Zeros in every byte of a record, padding among them, by writes that the compiler may not leave out.
 pub fn overwrite<T: Record>(record: &mut T) {
-    let first: *mut u8 = std::ptr::from_mut(record).cast();
+    let first: *mut u8 = (record as *mut T).cast();
     for at in 0..size_of::<T>() {
         // SAFETY: the byte is one of the record, which is borrowed alone, and for which zeros are a value.
         unsafe { first.add(at).write_volatile(0) };
@@ -497,11 +514,14 @@ mod tests {
     fn compiles(program: &str) -> (bool, String) {
         let named = std::env::var("CC").ok();
         let include = concat!("-I", env!("CARGO_MANIFEST_DIR"), "/../include");
-        for compiler in named.as_deref().into_iter().chain(["x86_64-linux-gnu-gcc", "cc"]) {
+        for compiler in named.as_deref().into_iter().chain(["cc", "x86_64-linux-gnu-gcc"]) {
             let words = ["-std=c11", "-Wextra", "-Werror", include, "-fsyntax-only", "-x", "c", "-"];
             let mut command = Command::new(compiler);
             command.args(words).stdin(Stdio::piped()).stdout(Stdio::null()).stderr(Stdio::piped());
-            let Ok(mut running) = command.spawn() else { continue };
+            let mut running = match command.spawn() {
+                Ok(running) => running,
+                Err(_) => continue,
+            };
             running.stdin.take().unwrap().write_all(program.as_bytes()).unwrap();
             let ended = running.wait_with_output().unwrap();
             return (ended.status.success(), String::from_utf8_lossy(&ended.stderr).into_owned());

@@ -49,7 +49,7 @@ impl HashKey {
 
     /// The hash of bytes, in blocks of 16 with zeros to the last one's end.
     pub fn half(&self, bytes: &[u8]) -> Half {
-        let blocks = bytes.len().div_ceil(16) as u64;
+        let blocks = (bytes.len() / 16 + usize::from(bytes.len() % 16 != 0)) as u64;
         Half { hash: ffi::hash_blocks(&self.0, bytes), blocks }
     }
 

@@ -31,9 +31,12 @@
 #![deny(unsafe_code)]
 #![warn(missing_docs)]
 
-// The archive is for x86-64. Elsewhere the documentation is made, and the lints are run.
-#[cfg(not(any(all(target_arch = "x86_64", target_os = "linux", target_pointer_width = "64"), doc, clippy)))]
-compile_error!("the archive of Luossavin is for x86-64 Linux: build with --target x86_64-unknown-linux-gnu");
+#[cfg(not(all(
+    target_os = "linux",
+    target_pointer_width = "64",
+    any(target_arch = "x86_64", target_arch = "aarch64")
+)))]
+compile_error!("Luossavin's library is there as assembly for Linux on x86-64 and on aarch64");
 
 pub mod editions;
 #[allow(unsafe_code)]

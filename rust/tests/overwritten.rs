@@ -23,10 +23,10 @@ unsafe impl GlobalAlloc for Watching {
     }
 
     unsafe fn dealloc(&self, memory: *mut u8, layout: Layout) {
-        if layout.size() == SIZE.get() {
+        if layout.size() == SIZE.with(|cell| cell.get()) {
             let is_clean = (0..layout.size()).all(|at| memory.add(at).read_volatile() == 0);
-            let (clean, dirty) = GIVEN_BACK.get();
-            GIVEN_BACK.set(if is_clean { (clean + 1, dirty) } else { (clean, dirty + 1) });
+            let (clean, dirty) = GIVEN_BACK.with(|cell| cell.get());
+            GIVEN_BACK.with(|cell| cell.set(if is_clean { (clean + 1, dirty) } else { (clean, dirty + 1) }));
         }
         System.dealloc(memory, layout);
     }
@@ -37,11 +37,11 @@ static WATCHING: Watching = Watching;
 
 /// Drops something that holds a record of this size, and says how many such records were given back clean and dirty.
 fn dropped<T>(size: usize, owner: T) -> (usize, usize) {
-    GIVEN_BACK.set((0, 0));
-    SIZE.set(size);
+    GIVEN_BACK.with(|cell| cell.set((0, 0)));
+    SIZE.with(|cell| cell.set(size));
     drop(owner);
-    SIZE.set(0);
-    GIVEN_BACK.get()
+    SIZE.with(|cell| cell.set(0));
+    GIVEN_BACK.with(|cell| cell.get())
 }
 
 #[test]

@@ -14,7 +14,10 @@ fn bytes(word: &str) -> Vec<u8> {
 
 /// Whether a vector of a kind that has a call here was held to its result.
 fn is_held(engine: Engine, kind: &str, words: &[Vec<u8>]) -> bool {
-    let [key, iv, label, text, result] = words else { panic!("a vector has six words") };
+    let (key, iv, label, text, result) = match words {
+        [key, iv, label, text, result] => (key, iv, label, text, result),
+        _ => panic!("a vector has six words"),
+    };
     let key = || Key::new(key, 1).unwrap().with_engine(engine);
     let mode = match kind {
         "cfb" => CipherMode::Cfb,

@@ -1,0 +1,1 @@
+../../proved/aarch64.s
