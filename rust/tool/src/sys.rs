@@ -30,7 +30,6 @@ const SIGXFSZ: c_int = 25;
 const SIG_IGN: usize = 1;
 pub const ENOENT: i32 = 2;
 pub const EEXIST: i32 = 17;
-pub const EISDIR: i32 = 21;
 pub const EWOULDBLOCK: i32 = 11;
 
 /// Flags of `open`, of which two differ between Arm and the other machines.
