@@ -99,7 +99,7 @@ impl Source {
 
     /// How many bytes the file has, where the system tells.
     pub fn size(&self) -> Option<u64> {
-        self.about.is_file().then(|| self.about.len())
+        self.about.is_file().then_some(self.about.len())
     }
 
     /// Some of the next bytes; none at the end.
@@ -145,7 +145,8 @@ fn are_one(a: &Metadata, b: &Metadata) -> bool {
 }
 
 /// The words of a line that name files which are read.
-const READ: [Thing; 7] = [Thing::Key, Thing::IvFile, Thing::Candidates, Thing::Keys, Thing::Ivs, Thing::Shelf, Thing::In];
+const READ: [Thing; 7] =
+    [Thing::Key, Thing::IvFile, Thing::Candidates, Thing::Keys, Thing::Ivs, Thing::Shelf, Thing::In];
 
 /// Sees to it that standard input is for one word alone, that a shelf is named once, and that what goes to standard
 /// output does not go to a file that is read.
@@ -157,8 +158,11 @@ pub fn mind(line: &Line) -> Result<(), Fail> {
         return Err(line.fault(&format!("expected standard input for one of {both}, not for both")));
     }
     let about = |word: &OsStr| if word == "-" { sys::about(0) } else { fs::metadata(word) };
-    let out = line.value(Thing::Out).filter(|word| *word != "-");
-    let files: Vec<(Thing, Metadata)> = said.iter().copied().chain(out.map(|word| (Thing::Out, word)))
+    let out = line.value(Thing::Out).filter(|word| descriptor(word).is_none());
+    let files: Vec<(Thing, Metadata)> = said
+        .iter()
+        .copied()
+        .chain(out.map(|word| (Thing::Out, word)))
         .filter_map(|(thing, word)| Some((thing, about(word).ok().filter(Metadata::is_file)?)))
         .collect();
     if let Some((_, shelf)) = files.iter().find(|file| file.0 == Thing::Shelf) {
@@ -221,7 +225,10 @@ impl Output {
         };
         let is_terminal = match target {
             Target::Descriptor(fd) => sys::is_terminal(fd),
-            Target::Device => OpenOptions::new().write(true).custom_flags(sys::O_NONBLOCK).open(&word)
+            Target::Device => OpenOptions::new()
+                .write(true)
+                .custom_flags(sys::O_NONBLOCK)
+                .open(&word)
                 .map_or(false, |file| sys::is_terminal(file.as_raw_fd())),
             _ => false,
         };
@@ -379,7 +386,9 @@ pub fn replace(path: &Path, called: &str, bytes: &[u8], old: Option<&Metadata>) 
     let made = new.file.metadata().map_err(cannot_write)?;
     if let Some(old) = old.filter(|old| (old.uid(), old.gid()) != (made.uid(), made.gid())) {
         let (owner, group) = (old.uid(), old.gid());
-        let whose = format!("{called}, which belongs to user {owner} and group {group}, and a new file cannot be given to them");
+        let whose = format!(
+            "{called}, which belongs to user {owner} and group {group}, and a new file cannot be given to them"
+        );
         sys::give(&new.file, owner, group).map_err(|error| cannot("write", &whose, &error))?;
     }
     let mode = old.map_or(0o666 & !sys::umask(), |old| old.mode() & 0o7777);
@@ -388,9 +397,9 @@ pub fn replace(path: &Path, called: &str, bytes: &[u8], old: Option<&Metadata>) 
     match old {
         Some(_) => new.put_over(path).map_err(cannot_write)?,
         None => new.link(path).map_err(|error| match error.raw_os_error() {
-            Some(sys::EEXIST) => {
-                Fail::files(format!("cannot write {called}: another run has written it meanwhile, and it is left as it is"))
-            }
+            Some(sys::EEXIST) => Fail::files(format!(
+                "cannot write {called}: another run has written it meanwhile, and it is left as it is"
+            )),
             _ => cannot_write(error),
         })?,
     }

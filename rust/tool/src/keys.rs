@@ -103,7 +103,9 @@ pub fn iv(line: &Line) -> Result<(Vec<u8>, Secret), Fail> {
 pub fn warn(line: &Line, held: &Held, iv: &[u8]) {
     let start = line.start();
     if !iv.is_empty() && iv.iter().all(|byte| *byte == 0) {
-        say(&format!("{start}warning: the IV is all zeros: take a random one for each file, as `openssl rand -hex 16` makes"));
+        say(&format!(
+            "{start}warning: the IV is all zeros: take a random one for each file, as `openssl rand -hex 16` makes"
+        ));
     }
     if *iv == *held.bytes {
         say(&format!("{start}warning: the IV is the key, and an IV is no secret: take another IV, and another key"));

@@ -15,7 +15,9 @@ mod progress;
 mod replay;
 mod say;
 mod shelf;
+// a test starts by itself
 #[allow(unsafe_code)]
+#[cfg_attr(test, allow(dead_code, unused_imports))]
 mod sys;
 mod which;
 mod words;

@@ -203,7 +203,8 @@ impl<'a> Asked<'a> {
             (false, true) => "have the file encrypted anew",
         };
         if done.came_round {
-            let what = "under this IV the counter came round to 0, where it may meet another file's; take another IV and";
+            let what =
+                "under this IV the counter came round to 0, where it may meet another file's; take another IV and";
             say(&format!("{}warning: {what} {next}", self.line.about(&self.name)));
         }
     }
@@ -322,7 +323,8 @@ pub fn opened(line: &Line, status: u8, job: u32, edition: u16, more: &str) -> St
     let key = key_named(line);
     if line.says(Thing::Json) {
         let (file, key) = (json(line.word(Thing::In)), key.map_or("null".to_string(), |key| key.to_string()));
-        let start = format!("{{\"command\":\"{}\",\"file\":{file},\"status\":{status},\"refusal\":null", line.command.name);
+        let start =
+            format!("{{\"command\":\"{}\",\"file\":{file},\"status\":{status},\"refusal\":null", line.command.name);
         return format!("{start},\"opens\":true,\"job\":{job},\"edition\":{edition},\"key\":{key}{more}}}\n");
     }
     let with = key.map_or(String::new(), |key| format!(", with key {key}"));
@@ -331,7 +333,8 @@ pub fn opened(line: &Line, status: u8, job: u32, edition: u16, more: &str) -> St
 
 /// Prints who does what of a text.
 pub fn plan(line: &Line) -> Result<u8, Fail> {
-    let number = |thing| line.number(thing, u64::MAX).map(|n| n.and_then(|n| usize::try_from(n).ok()).unwrap_or(usize::MAX));
+    let number =
+        |thing| line.number(thing, u64::MAX).map(|n| n.and_then(|n| usize::try_from(n).ok()).unwrap_or(usize::MAX));
     let (workers, length) = (number(Thing::Workers)?, number(Thing::Length)?);
     let plan = Plan::make(length, workers).map_err(|refusal| {
         let text = match refusal {
@@ -379,7 +382,8 @@ mod tests {
             "luossavin open: a.sealed: 9 ShortGcm: this file has 15 bytes; a sealed file has at least 16, so 1 is \
              missing: was it cut off?"
         );
-        assert!(told(Refusal::WrongIv, 0).ends_with("10 WrongIv: the IV has 1 byte, not 12 or 16: it takes 24 or 32 hex digits"));
+        assert!(told(Refusal::WrongIv, 0)
+            .ends_with("10 WrongIv: the IV has 1 byte, not 12 or 16: it takes 24 or 32 hex digits"));
         assert!(told(Refusal::TooLong, 0).contains("this file is longer than the 16777232 bytes"));
         let decrypt = "--mode cbc --key k --number 7 --iv 00 a b";
         assert!(refused("decrypt", decrypt, Refusal::InvalidPadding, 32).ends_with("with cbc, key 7 and this IV"));

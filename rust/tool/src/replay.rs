@@ -110,9 +110,8 @@ fn different(keys: &[&Key], record: &[u8]) -> String {
         None => return String::new(),
     };
     let now = record.get(..was.size).and_then(|record| replay(keys, record).ok());
-    let (number, length) = now.map_or((0, 0), |report| {
-        (report.by_answer.iter().position(|count| *count > 0).unwrap_or(0), report.bytes_out)
-    });
+    let (number, length) = now
+        .map_or((0, 0), |report| (report.by_answer.iter().position(|count| *count > 0).unwrap_or(0), report.bytes_out));
     let then = answered(usize::from(was.number), u64::from(was.length));
     let is_alike = (usize::from(was.number), u64::from(was.length)) == (number, length);
     let now = if is_alike { "with other bytes".to_string() } else { answered(number, length) };
@@ -233,8 +232,7 @@ pub fn run(line: &Line) -> Result<u8, Fail> {
     let source = Source::open(word, "")?;
     let progress = Progress::new(line.start(), source.size(), true);
     let window = Secret::of_zeros(WINDOW);
-    let mut journal =
-        Journal { source, progress, window, filled: 0, place: 0, is_at_end: false, keys: &keys };
+    let mut journal = Journal { source, progress, window, filled: 0, place: 0, is_at_end: false, keys: &keys };
     let sum = journal.run()?;
     drop(journal);
     let refused = sum.stopped.as_ref().map(|(refusal, place, key)| {
@@ -297,7 +295,7 @@ fn grouped(n: u64) -> String {
     let digits = n.to_string();
     let comma = |(at, digit): (usize, char)| {
         let is_after = at > 0 && (digits.len() - at) % 3 == 0;
-        is_after.then(|| ',').into_iter().chain([digit])
+        is_after.then_some(',').into_iter().chain([digit])
     };
     digits.chars().enumerate().flat_map(comma).collect()
 }

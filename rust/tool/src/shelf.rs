@@ -36,7 +36,7 @@ fn front(bytes: &[u8]) -> Option<Record> {
     let length = usize::try_from(u32::from_be_bytes([g, h, i, j])).ok()?;
     let is_whole = r == b'R' && (mark == b'D' || mark == b'X') && length <= bytes.len() - HEAD;
     let (job, edition) = (u32::from_be_bytes([a, b, c, d]), u16::from_be_bytes([e, f]));
-    is_whole.then(|| Record { job, edition, is_current: mark == b'D', length })
+    is_whole.then_some(Record { job, edition, is_current: mark == b'D', length })
 }
 
 /// The records of a shelf, up to where it breaks off, and that place.
@@ -180,7 +180,9 @@ pub fn verify(line: &Line) -> Result<u8, Fail> {
                 match asked.work(&held.key, sealed) {
                     Ok(_) => format!("{what}: opens\n"),
                     Err(fail) => {
-                        let words = fail.refusal.map_or(String::new(), |refusal| format!("{} {}", refusal.number(), refusal.name()));
+                        let words = fail
+                            .refusal
+                            .map_or(String::new(), |refusal| format!("{} {}", refusal.number(), refusal.name()));
                         first = first.or(Some(fail));
                         format!("{what}: {words}\n")
                     }
@@ -216,7 +218,9 @@ impl Turn {
         let began = Instant::now();
         let mut is_told = false;
         loop {
-            if let Some(file) = Turn::try_take(word.as_ref(), &path).map_err(|error| cannot("write", &shown(word), &error))? {
+            if let Some(file) =
+                Turn::try_take(word.as_ref(), &path).map_err(|error| cannot("write", &shown(word), &error))?
+            {
                 return Ok(Turn { path, _file: file });
             }
             let name = line.about(&shown(word));

@@ -1,5 +1,4 @@
 //! The few calls of the C library that std does not have, and nothing else: all `unsafe` of the tool is here.
-#![allow(unsafe_code)]
 
 use std::ffi::{CStr, CString, OsStr, OsString};
 use std::fs::{File, Metadata, OpenOptions};
@@ -60,7 +59,6 @@ pub extern "C" fn main(count: c_int, words: *const *const c_char) -> c_int {
 
 /// Puts a file that nothing can be read from, or written to, in the place of a closed standard input or output, so that
 /// the first file that is opened is not taken for it.
-#[cfg_attr(test, allow(dead_code))]
 fn stand_in() {
     for fd in 0..3 {
         // SAFETY: it asks for a descriptor's flags.

@@ -32,7 +32,7 @@ fn range(text: &OsStr) -> Option<(u16, u16)> {
     let number = |word: &[u8]| decimal(OsStr::from_bytes(word)).and_then(|n| u16::try_from(n).ok());
     let first = number(ends.next()?)?;
     let last = ends.next().map_or(Some(first), number)?;
-    (first <= last).then(|| (first, last))
+    (first <= last).then_some((first, last))
 }
 
 fn of_range(line: &Line) -> Result<Candidates, Fail> {
@@ -91,7 +91,8 @@ pub fn run(line: &Line) -> Result<u8, Fail> {
     let sealed = source.read(LONGEST_TEXT + 16, &mut progress)?;
     drop(progress);
     let labels: Vec<[u8; 6]> = candidates.labels.iter().map(|(job, edition)| label(*job, *edition)).collect();
-    let found = which(&held.key, &sealed, asked.iv(), &labels).map_err(|refusal| asked.refuse(refusal, sealed.len()))?;
+    let found =
+        which(&held.key, &sealed, asked.iv(), &labels).map_err(|refusal| asked.refuse(refusal, sealed.len()))?;
     match found.and_then(|place| candidates.labels.get(place)) {
         Some((job, edition)) => found_one(line, *job, *edition, wanted),
         None => found_none(line, &candidates.told),
