@@ -17,17 +17,9 @@ pub const PORTION: usize = 65_536;
 
 /// Bytes that are overwritten when they are dropped: keys, and texts.
 #[derive(Default)]
-pub struct Secret(Vec<u8>);
+pub struct Secret(pub Vec<u8>);
 
 impl Secret {
-    pub fn of_zeros(n: usize) -> Secret {
-        Secret(vec![0; n])
-    }
-
-    pub fn of(bytes: Vec<u8>) -> Secret {
-        Secret(bytes)
-    }
-
     /// The bytes, of which there are no more than `n` from now on.
     pub fn shorten(&mut self, n: usize) {
         if let Some(rest) = self.0.get_mut(n..) {
@@ -90,7 +82,7 @@ impl Source {
 
     /// Opens a shelf, which is a file and nothing that could keep us waiting.
     pub fn open_shelf(word: &OsStr) -> Result<Source, Fail> {
-        let source = Source::of(sys::open_at_once(Path::new(word)), shown(word))?;
+        let source = Source::of(OpenOptions::new().read(true).custom_flags(sys::O_NONBLOCK).open(word), shown(word))?;
         if !source.about.is_file() && !source.about.is_dir() {
             return Err(Fail::files(format!("cannot read {}: expected a file", source.called)));
         }
@@ -115,7 +107,7 @@ impl Source {
     /// All of it, but no more than `most` bytes and one, so that what is longer is seen to be.
     pub fn read(&mut self, most: usize, progress: &mut Progress) -> Result<Secret, Fail> {
         let expected = self.size().and_then(|size| usize::try_from(size).ok()).unwrap_or(PORTION);
-        let mut held = Secret::of_zeros(expected.min(most) + 1);
+        let mut held = Secret(vec![0; expected.min(most) + 1]);
         let mut filled = 0;
         while filled <= most {
             if filled == held.len() {
@@ -157,7 +149,8 @@ pub fn mind(line: &Line) -> Result<(), Fail> {
         let both = format!("{} and {}", name(a.0), name(b.0));
         return Err(line.fault(&format!("expected standard input for one of {both}, not for both")));
     }
-    let about = |word: &OsStr| if word == "-" { sys::about(0) } else { fs::metadata(word) };
+    let about =
+        |word: &OsStr| if word == "-" { sys::copy_of(0).and_then(|file| file.metadata()) } else { fs::metadata(word) };
     let out = line.value(Thing::Out).filter(|word| descriptor(word).is_none());
     let files: Vec<(Thing, Metadata)> = said
         .iter()
@@ -170,7 +163,7 @@ pub fn mind(line: &Line) -> Result<(), Fail> {
             return Err(Fail::files("the shelf is a file that the words name twice; expected another".to_string()));
         }
     }
-    match sys::about(1) {
+    match sys::copy_of(1).and_then(|file| file.metadata()) {
         Ok(output) if output.is_file() && files.iter().any(|file| are_one(&file.1, &output)) => {
             Err(Fail::files("standard output is a file that the words name too; expected another".to_string()))
         }
@@ -180,9 +173,10 @@ pub fn mind(line: &Line) -> Result<(), Fail> {
 
 /// Where OUT goes.
 enum Target {
-    /// A descriptor, a device or a pipe, which is written straight.
+    /// A descriptor, a device or a pipe with a name, all of which are written straight.
     Descriptor(RawFd),
     Device,
+    Pipe,
     /// A file that is there, and one that is not.
     Old(Metadata),
     New,
@@ -193,6 +187,7 @@ pub struct Output {
     word: OsString,
     called: String,
     target: Target,
+    pub is_terminal: bool,
 }
 
 /// The descriptor that a name stands for, such as /dev/stdout.
@@ -219,17 +214,14 @@ impl Output {
             }
             (None, Ok(about)) if about.is_dir() => return refuse("Is a directory"),
             (None, Ok(about)) if about.is_file() => Target::Old(about),
+            (None, Ok(about)) if about.file_type().is_fifo() => Target::Pipe,
             (None, Ok(_)) => Target::Device,
             (None, Err(error)) if error.raw_os_error() == Some(sys::ENOENT) && !word.is_empty() => Target::New,
             (None, Err(error)) => return refuse(&why(&error)),
         };
         let is_terminal = match target {
             Target::Descriptor(fd) => sys::is_terminal(fd),
-            Target::Device => OpenOptions::new()
-                .write(true)
-                .custom_flags(sys::O_NONBLOCK)
-                .open(&word)
-                .map_or(false, |file| sys::is_terminal(file.as_raw_fd())),
+            Target::Device => File::open(&word).map_or(false, |file| sys::is_terminal(file.as_raw_fd())),
             _ => false,
         };
         if is_terminal && !is_text && !line.says(Thing::Force) {
@@ -242,61 +234,26 @@ impl Output {
                 return refuse(&format!("it holds the {what}; expected another file"));
             }
         }
-        Ok(Output { word, called, target })
+        Ok(Output { word, called, target, is_terminal })
     }
 
     /// Whether what is written goes on at once, and cannot be taken back.
     pub fn is_straight(&self) -> bool {
-        matches!(self.target, Target::Descriptor(_) | Target::Device)
-    }
-
-    pub fn is_on_terminal(&self) -> bool {
-        matches!(self.target, Target::Descriptor(fd) if sys::is_terminal(fd))
+        !matches!(self.target, Target::Old(_) | Target::New)
     }
 
     /// Opens what is written straight.
-    pub fn straight(&self) -> Result<Straight, Fail> {
+    pub fn straight(&self) -> Result<File, Fail> {
         let opened = match self.target {
             Target::Descriptor(fd) => sys::copy_of(fd),
             _ => OpenOptions::new().write(true).custom_flags(sys::O_NOFOLLOW).open(&self.word),
         };
-        let file = opened.map_err(|error| cannot("write", &self.called, &error))?;
-        Ok(Straight { file, called: self.called.clone() })
+        opened.map_err(|error| cannot("write", &self.called, &error))
     }
 
-    /// Writes all of OUT.
-    pub fn write(&self, bytes: &[u8]) -> Result<(), Fail> {
-        match &self.target {
-            Target::Old(about) => replace(Path::new(&self.word), &self.called, bytes, Some(about)),
-            Target::New => replace(Path::new(&self.word), &self.called, bytes, None),
-            _ => self.straight()?.write(bytes),
-        }
-    }
-}
-
-/// Whether a file is there that has just these bytes.
-fn holds(path: &Path, bytes: &[u8]) -> bool {
-    let is_alike = || -> io::Result<bool> {
-        let about = fs::metadata(path)?;
-        if bytes.is_empty() || !about.is_file() || about.len() != bytes.len() as u64 {
-            return Ok(false);
-        }
-        let mut here = Secret::of_zeros(bytes.len());
-        File::open(path)?.read_exact(&mut here)?;
-        Ok(*here == *bytes)
-    };
-    is_alike().unwrap_or(false)
-}
-
-/// An OUT that is written straight.
-pub struct Straight {
-    file: File,
-    called: String,
-}
-
-impl Straight {
-    pub fn write(&mut self, bytes: &[u8]) -> Result<(), Fail> {
-        self.file.write_all(bytes).map_err(|error| cannot("write", &self.called, &error))
+    /// Writes some of what is written straight.
+    pub fn put(&self, to: &mut File, bytes: &[u8]) -> Result<(), Fail> {
+        to.write_all(bytes).map_err(|error| cannot("write", &self.called, &error))
     }
 
     /// The sentence for a run that fails after some of OUT went on.
@@ -304,6 +261,25 @@ impl Straight {
         let text = format!("{}\nluossavin: what was written to {} is not whole", fail.text, self.called);
         Fail { text, ..fail }
     }
+
+    /// Writes all of OUT.
+    pub fn write(&self, bytes: &[u8]) -> Result<(), Fail> {
+        match &self.target {
+            Target::Old(about) => replace(Path::new(&self.word), &self.called, bytes, Some(about)),
+            Target::New => replace(Path::new(&self.word), &self.called, bytes, None),
+            _ => self.put(&mut self.straight()?, bytes),
+        }
+    }
+}
+
+/// Whether a file is there that has just these bytes.
+fn holds(path: &Path, bytes: &[u8]) -> bool {
+    let is_as_long = |about: Metadata| about.is_file() && about.len() == bytes.len() as u64;
+    let mut here = Secret(vec![0; bytes.len()]);
+    !bytes.is_empty()
+        && fs::metadata(path).map_or(false, is_as_long)
+        && File::open(path).and_then(|mut file| file.read_exact(&mut here)).is_ok()
+        && *here == *bytes
 }
 
 /// A name in a folder that nobody guesses.
@@ -359,12 +335,8 @@ impl Unfinished {
             sys::link(&self.file, &name)?;
             self.name = Some(name);
         }
-        self.name.take().map_or(Ok(()), |name| {
-            fs::rename(&name, path).map_err(|error| {
-                let _ = fs::remove_file(&name);
-                error
-            })
-        })
+        // what no rename took away is taken away when this is dropped
+        self.name.as_ref().map_or(Ok(()), |name| fs::rename(name, path))
     }
 }
 
@@ -491,7 +463,7 @@ mod tests {
 
     #[test]
     fn a_secret_grows_and_shortens() {
-        let mut secret = Secret::of(vec![1, 2, 3]);
+        let mut secret = Secret(vec![1, 2, 3]);
         secret.grow(5);
         assert_eq!(*secret, [1, 2, 3, 0, 0]);
         secret.shorten(2);

@@ -18,15 +18,10 @@ macro_rules! pages {
 const PAGES: [(&str, &str); 11] =
     pages!["luossavin" "seal" "open" "opens" "which" "encrypt" "decrypt" "plan" "range" "shelf" "replay"];
 
-/// What a person can type first.
-fn commands() -> Vec<&'static str> {
-    let pages = PAGES.iter().map(|page| page.0).filter(|name| *name != "luossavin");
-    pages.chain(["demo", "help"]).collect()
-}
-
 /// There is no such command.
 pub fn no_command(word: &OsStr, called: &str) -> Fail {
-    let expected = listed(&commands(), "or");
+    let pages = PAGES.iter().map(|page| page.0).filter(|name| *name != "luossavin");
+    let expected = listed(&pages.chain(["demo", "help"]).collect::<Vec<_>>(), "or");
     let text = format!("luossavin: expected {expected}, not \"{}\"\nFor an example: {called} help", shown(word));
     Fail::new(USAGE, text)
 }
@@ -63,58 +58,54 @@ pub fn demo(called: &str) -> Result<u8, Fail> {
     let cipher = Sm4CipherMode::with_key(key()?, CipherMode::Gcm);
 
     let words = |command: &str, words: &str| format!("{command} --key key --iv {digits} --job 4711 {words}");
-    let show = |command: &str, more: &str| answer(&format!("\n  {called} {}\n", words(command, more)));
+    let show =
+        |why: &str, command: &str, more: &str| answer(&format!("\n{why}\n\n  {called} {}\n", words(command, more)));
     // a refusal, as the command that is shown would say it
-    let say = |command: &str, more: &str, refusal: Refusal| -> Result<(), Fail> {
+    let refuse = |command: &str, more: &str, refusal: Refusal| -> Result<u8, Fail> {
         let words: Vec<OsString> = words(command, more).split(' ').skip(1).map(OsString::from).collect();
         let command = COMMANDS.iter().find(|known| known.name == command).ok_or_else(|| broke("no such command"))?;
         let line = Line::read(command, &words, called)?;
-        let asked = Asked::with_iv(&line, shown(line.word(crate::words::Thing::In)), (4711, 2), iv.to_vec());
-        answer(&format!("{}\n", asked.refuse(refusal, TEXT.len() + 16).text))
+        answer(&format!("{}\n", Asked::read(&line, Direction::Decrypt)?.refuse(refusal, 0).text))
     };
 
-    answer("\nThe rough of job 4711 is its edition 1. It is sealed as that, under an IV that was made for it:\n")?;
-    show("seal", "--edition 1 rough.txt rough.sealed")?;
+    let why = "The rough of job 4711 is its edition 1. It is sealed as that, under an IV that was made for it:";
+    show(why, "seal", "--edition 1 rough.txt rough.sealed")?;
     let sealed = cipher.encrypt(&label(4711, 1), TEXT, &iv).map_err(refused)?;
     let (before, after) = (TEXT.len(), sealed.len());
     answer(&format!("\nDone: {before} bytes of text are {after} bytes that cannot be read without the key.\n"))?;
-    answer("\nOpened as edition 1, it is the same text again:\n")?;
-    show("open", "--edition 1 rough.sealed -")?;
-    let text = cipher.decrypt(&label(4711, 1), &sealed, &iv).map_err(refused)?;
-    if text != TEXT {
+    show("Opened as edition 1, it is the same text again:", "open", "--edition 1 rough.sealed -")?;
+    if cipher.decrypt(&label(4711, 1), &sealed, &iv).map_err(refused)? != TEXT {
         return Err(broke("the text is another"));
     }
     let part: Vec<&str> = std::str::from_utf8(TEXT).unwrap_or_default().lines().skip(17).take(6).collect();
     answer(&format!("{}\n", part.join("\n")))?;
 
-    answer("\nThe final of job 4711 will be edition 2. Is this the final?\n")?;
-    show("opens", "--edition 2 rough.sealed")?;
+    let question = "--edition 2 rough.sealed";
+    show("The final of job 4711 will be edition 2. Is this the final?", "opens", question)?;
     match cipher.decrypt(&label(4711, 2), &sealed, &iv) {
-        Err(refusal @ Refusal::InvalidTag) => say("opens", "--edition 2 rough.sealed", refusal)?,
+        Err(refusal @ Refusal::InvalidTag) => refuse("opens", question, refusal)?,
         _ => return Err(broke("the rough opened as the final")),
-    }
-    answer("\nIt is not: the final's label is refused on the rough. Which edition is it?\n")?;
-    show("which", "--editions 1-2 --edition 2 rough.sealed")?;
+    };
+    let why = "It is not: the final's label is refused on the rough. Which edition is it?";
+    show(why, "which", "--editions 1-2 --edition 2 rough.sealed")?;
     if which(cipher.key(), &sealed, &iv, &[label(4711, 1), label(4711, 2)]).map_err(refused)? != Some(0) {
         return Err(broke("it is another edition"));
     }
     let found = "opens under job 4711, edition 1: the edition you asked for, 2, is not in this file";
     answer(&format!("rough.sealed {found}\n"))?;
 
-    answer("\nNext quarter there is a new key, and this one is retired. What it sealed still opens with it:\n")?;
+    let why = "Next quarter there is a new key, and this one is retired. What it sealed still opens with it:";
+    show(why, "opens", "--retired --edition 1 rough.sealed")?;
     let retired = Sm4CipherMode::with_key(key()?.retire(), CipherMode::Gcm);
-    show("opens", "--retired --edition 1 rough.sealed")?;
     retired.decrypt(&label(4711, 1), &sealed, &iv).map_err(refused)?;
-    answer("rough.sealed opens under job 4711, edition 1\n\nAnd nothing new is sealed under it:\n")?;
+    answer("rough.sealed opens under job 4711, edition 1\n")?;
     let words = "--retired --edition 2 final.txt final.sealed";
-    show("seal", words)?;
+    show("And nothing new is sealed under it:", "seal", words)?;
     match retired.encrypt(&label(4711, 2), TEXT, &iv) {
-        Err(refusal @ Refusal::Retired) => say("seal", words, refusal)?,
+        Err(refusal @ Refusal::Retired) => refuse("seal", words, refusal)?,
         _ => return Err(broke("a retired key sealed")),
-    }
-    answer(&format!("\nNothing was left behind. {called} help says how to use it on files of your own.\n"))?;
-    let _ = Direction::Decrypt;
-    Ok(0)
+    };
+    answer(&format!("\nNothing was left behind. {called} help says how to use it on files of your own.\n"))
 }
 
 /// The tool as it was called, for a person to paste.

@@ -1,6 +1,6 @@
 //! Keys and IVs, as files and words have them.
 
-use crate::files::{lines, Secret, Source};
+use crate::files::{lines, read_small, Secret, Source};
 use crate::progress::Progress;
 use crate::say::{bytes, input, say, shown, told, Fail};
 use crate::words::{decimal, hex, Line, Thing};
@@ -26,8 +26,8 @@ fn trimmed(text: &[u8]) -> &[u8] {
 /// What a key file holds: 32 hex digits and after them at most blanks, or the key's own bytes.
 fn spelled(file: &[u8]) -> Secret {
     match Some(trimmed(file)).filter(|digits| digits.len() == 32).and_then(hex) {
-        Some(key) => Secret::of(key),
-        None => Secret::of(file.to_vec()),
+        Some(key) => Secret(key),
+        None => Secret(file.to_vec()),
     }
 }
 
@@ -45,7 +45,7 @@ fn size_of(file: &[u8], size: Option<u64>) -> String {
 
 /// The number of the key: 1 where none is said. One that is out of range is refused where the key is set up.
 pub fn number(line: &Line) -> Result<u32, Fail> {
-    let number = line.number(Thing::Number, u64::MAX)?.unwrap_or(1);
+    let number: u64 = line.number(Thing::Number)?.unwrap_or(1);
     Ok(u32::try_from(number).unwrap_or(u32::MAX))
 }
 
@@ -88,8 +88,11 @@ pub fn iv(line: &Line) -> Result<(Vec<u8>, Secret), Fail> {
         let iv = hex(word.as_bytes()).ok_or_else(|| line.wrong(Thing::Iv, word))?;
         return Ok((iv, Secret::default()));
     }
-    let word = line.word(Thing::IvFile);
-    let file = Source::open(word, "the IV ")?.read(MOST, &mut Progress::none())?;
+    let word = match line.value(Thing::IvFile) {
+        Some(word) => word,
+        None => return Ok(Default::default()),
+    };
+    let file = read_small(word, "the IV ", MOST)?;
     match hex(trimmed(&file)) {
         Some(iv) => Ok((iv, file)),
         None => {
@@ -123,7 +126,7 @@ pub fn listed(line: &Line, about: &str) -> Result<Vec<Key>, Fail> {
     let word = line.word(Thing::Keys);
     let name = input(word);
     let most = 4096;
-    let list = Source::open(word, "the keys ")?.read(most - 1, &mut Progress::none())?;
+    let list = read_small(word, "the keys ", most - 1)?;
     let bad = |start: String, words: String| {
         let text = format!("{start}26 {}: {words}", Refusal::BadKeys.name());
         Err(Fail::refused(Refusal::BadKeys, text))
@@ -159,7 +162,7 @@ pub fn listed(line: &Line, about: &str) -> Result<Vec<Key>, Fail> {
 fn numbered(text: &OsStr) -> Option<(u64, Secret)> {
     let (number, digits) = split(text.as_bytes())?;
     let digits = hex(digits).filter(|bytes| !bytes.is_empty())?;
-    Some((decimal(OsStr::from_bytes(number))?, Secret::of(digits)))
+    Some((decimal(number)?, Secret(digits)))
 }
 
 /// A text before and after its first blank.
@@ -171,7 +174,10 @@ pub fn split(text: &[u8]) -> Option<(&[u8], &[u8])> {
 /// The IVs of a list: a job, an edition and hex digits to a line, with comments from # on.
 pub fn ivs(line: &Line) -> Result<Vec<(u32, u16, Vec<u8>)>, Fail> {
     let word = line.word(Thing::Ivs);
-    let list = Source::open(word, "the IVs ")?.read(16 * MOST, &mut Progress::none())?;
+    let list = read_small(word, "the IVs ", 16 * MOST)?;
+    if list.len() > 16 * MOST {
+        return Err(Fail::files(format!("cannot read the IVs {}: no list is that long", input(word))));
+    }
     let wrong = |at: usize, text: &OsStr| {
         let expected = "expected a job, an edition and an IV in hex digits, as 4711 1 000102030405060708090a0b";
         line.fault(&format!("{}, line {at}: {expected}, not \"{}\"", input(word), shown(text)))
@@ -184,15 +190,11 @@ pub fn ivs(line: &Line) -> Result<Vec<(u32, u16, Vec<u8>)>, Fail> {
         }
         let words: Vec<&[u8]> = said.split(is_blank).filter(|word| !word.is_empty()).collect();
         let read = match words[..] {
-            [job, edition, iv] => {
-                let number = |word| decimal(OsStr::from_bytes(word));
-                let job = number(job).and_then(|n| u32::try_from(n).ok());
-                let edition = number(edition).and_then(|n| u16::try_from(n).ok());
-                job.zip(edition).zip(hex(iv)).map(|((job, edition), iv)| (job, edition, iv))
-            }
+            [job, edition, iv] => decimal(job).zip(decimal(edition)).zip(hex(iv)),
             _ => None,
         };
-        ivs.push(read.ok_or_else(|| wrong(at, text))?);
+        let ((job, edition), iv) = read.ok_or_else(|| wrong(at, text))?;
+        ivs.push((job, edition, iv));
     }
     Ok(ivs)
 }

@@ -22,7 +22,7 @@ mod sys;
 mod which;
 mod words;
 
-use say::{answer, json, say, Fail, BROKE, USAGE};
+use say::{answer, say, Fail, BROKE, USAGE};
 use std::ffi::OsString;
 use words::{Line, Thing, COMMANDS};
 
@@ -48,23 +48,16 @@ fn dispatch(words: &[OsString], called: &str) -> Result<u8, Fail> {
     };
     let rest = words.get(1..).unwrap_or_default();
     match first.to_str() {
-        Some("help" | "--help" | "-h") => {
-            answer(&help::page(rest.first(), called)?)?;
-            return Ok(0);
-        }
+        Some("help" | "--help" | "-h") => return answer(&help::page(rest.first(), called)?),
         Some("--version" | "demo") if !rest.is_empty() => {
             return Err(Fail::new(USAGE, format!("luossavin: expected no further word after {}", say::shown(first))));
         }
-        Some("--version") => {
-            answer(&help::version())?;
-            return Ok(0);
-        }
+        Some("--version") => return answer(&help::version()),
         Some("demo") => return help::demo(called),
         _ => {}
     }
     if rest.iter().take_while(|word| *word != "--").any(|word| word == "--help" || word == "-h") {
-        answer(&help::page(Some(first), called)?)?;
-        return Ok(0);
+        return answer(&help::page(Some(first), called)?);
     }
     let (name, rest) = match (first.to_str(), rest.split_first()) {
         (Some("shelf"), Some((second, rest))) => (format!("shelf {}", second.to_string_lossy()), rest),
@@ -87,16 +80,9 @@ fn dispatch(words: &[OsString], called: &str) -> Result<u8, Fail> {
 
 /// A refusal as an object too, where that was asked for.
 fn told_as_json(line: &Line, fail: Fail) -> Fail {
-    let refusal = match fail.refusal.filter(|_| line.says(Thing::Json)) {
-        Some(refusal) => refusal,
-        None => return fail,
-    };
-    let file = json(line.value(Thing::Shelf).unwrap_or_else(|| line.word(Thing::In)));
-    let (name, status) = (line.command.name, fail.status);
-    let opens = if name.starts_with("shelf") { "" } else { ",\"opens\":false" };
-    let start = format!("{{\"command\":\"{name}\",\"file\":{file},\"status\":{status}");
-    match answer(&format!("{start},\"refusal\":\"{}\"{opens}}}\n", refusal.name())) {
-        Ok(()) => fail,
-        Err(unwritten) => unwritten,
+    if fail.refusal.is_none() || !line.says(Thing::Json) {
+        return fail;
     }
+    let more = if line.says(Thing::Shelf) { "" } else { ",\"opens\":false" };
+    answer(&line.object(fail.status, fail.refusal, more)).map_or_else(|unwritten| unwritten, |_| fail)
 }

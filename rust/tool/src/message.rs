@@ -3,7 +3,7 @@
 use crate::files::{Output, Secret, Source, PORTION};
 use crate::keys::{self, Held};
 use crate::progress::Progress;
-use crate::say::{answer, bytes, input, json, say, shown, told, Fail};
+use crate::say::{answer, bytes, input, say, shown, told, Fail};
 use crate::words::{Line, Thing};
 use luossavin::editions::label;
 use luossavin::pieces::{Ctr, Seal};
@@ -19,9 +19,10 @@ pub struct Asked<'a> {
     pub name: String,
     mode: CipherMode,
     direction: Direction,
-    label: Option<(u32, u16)>,
-    iv: Vec<u8>,
-    iv_file: Secret,
+    /// Of Gcm.
+    pub label: (u32, u16),
+    pub iv: Vec<u8>,
+    pub iv_file: Secret,
     offset: Option<u64>,
 }
 
@@ -32,18 +33,6 @@ fn engine(mode: CipherMode, direction: Direction) -> Engine {
         (CipherMode::Cfb | CipherMode::Cbc, Direction::Decrypt) => Engine::Gates,
         _ => Engine::Tables,
     }
-}
-
-/// A job that a line says.
-pub fn job(line: &Line) -> Result<u32, Fail> {
-    let job = line.number(Thing::Job, u64::from(u32::MAX))?.unwrap_or(0);
-    Ok(u32::try_from(job).unwrap_or(u32::MAX))
-}
-
-/// An edition that a line says.
-pub fn edition(line: &Line) -> Result<Option<u16>, Fail> {
-    let edition = line.number(Thing::Edition, u64::from(u16::MAX))?;
-    Ok(edition.and_then(|edition| u16::try_from(edition).ok()))
 }
 
 /// The key as answers name it: by its number where that was said.
@@ -57,69 +46,31 @@ pub fn key_and_iv(line: &Line) -> String {
 }
 
 impl<'a> Asked<'a> {
-    /// A message in Gcm under the job and the edition that a line says.
-    fn labelled(line: &'a Line, direction: Direction) -> Result<Asked<'a>, Fail> {
+    /// What a line asks for: a stretch in Ctr where it has an offset, the mode that it says, or else Gcm.
+    pub fn read(line: &'a Line, direction: Direction) -> Result<Asked<'a>, Fail> {
         keys::number(line)?;
-        let label = (job(line)?, edition(line)?.unwrap_or(0));
-        Asked::sealed(line, input(line.word(Thing::In)), direction, label)
-    }
-
-    /// A message in Gcm under a label.
-    pub fn sealed(line: &'a Line, name: String, direction: Direction, label: (u32, u16)) -> Result<Asked<'a>, Fail> {
-        let (iv, iv_file) = keys::iv(line)?;
-        Ok(Asked { line, name, mode: CipherMode::Gcm, direction, label: Some(label), iv, iv_file, offset: None })
-    }
-
-    /// The same, under an IV of its own.
-    pub fn with_iv(line: &'a Line, name: String, label: (u32, u16), iv: Vec<u8>) -> Asked<'a> {
-        let (mode, direction) = (CipherMode::Gcm, Direction::Decrypt);
-        Asked { line, name, mode, direction, label: Some(label), iv, iv_file: Secret::default(), offset: None }
-    }
-
-    /// A message in the mode that a line says.
-    fn in_mode(line: &'a Line, direction: Direction) -> Result<Asked<'a>, Fail> {
-        keys::number(line)?;
-        let word = line.word(Thing::Mode);
-        let mode = match word.to_str() {
-            Some("cfb") => CipherMode::Cfb,
-            Some("ofb") => CipherMode::Ofb,
-            Some("ctr") => CipherMode::Ctr,
-            Some("cbc") => CipherMode::Cbc,
-            _ => return Err(line.wrong(Thing::Mode, word)),
+        let mode = match line.value(Thing::Mode).map(|word| (word, word.to_str())) {
+            None if line.says(Thing::Offset) => CipherMode::Ctr,
+            None => CipherMode::Gcm,
+            Some((_, Some("cfb"))) => CipherMode::Cfb,
+            Some((_, Some("ofb"))) => CipherMode::Ofb,
+            Some((_, Some("ctr"))) => CipherMode::Ctr,
+            Some((_, Some("cbc"))) => CipherMode::Cbc,
+            Some((word, _)) => return Err(line.wrong(Thing::Mode, word)),
         };
-        let (name, (iv, iv_file)) = (input(line.word(Thing::In)), keys::iv(line)?);
-        Ok(Asked { line, name, mode, direction, label: None, iv, iv_file, offset: None })
-    }
-
-    /// A stretch of a text in Ctr.
-    fn in_range(line: &'a Line) -> Result<Asked<'a>, Fail> {
-        keys::number(line)?;
-        let direction = if line.says(Thing::Decrypt) { Direction::Decrypt } else { Direction::Encrypt };
-        let offset = line.number(Thing::Offset, u64::MAX)?;
-        let (name, (iv, iv_file)) = (input(line.word(Thing::In)), keys::iv(line)?);
-        Ok(Asked { line, name, mode: CipherMode::Ctr, direction, label: None, iv, iv_file, offset })
-    }
-
-    /// Which file it is after all, and its label.
-    pub fn is_of(&mut self, name: String, label: (u32, u16)) {
-        self.name = name;
-        self.label = Some(label);
-    }
-
-    pub fn iv(&self) -> &[u8] {
-        &self.iv
-    }
-
-    pub fn iv_file(&self) -> &[u8] {
-        &self.iv_file
-    }
-
-    fn is_decrypt(&self) -> bool {
-        self.direction == Direction::Decrypt
+        let label = (line.number(Thing::Job)?.unwrap_or(0), line.number(Thing::Edition)?.unwrap_or(0));
+        let offset = line.number(Thing::Offset)?;
+        let (iv, iv_file) = keys::iv(line)?;
+        let name = line.value(Thing::In).map_or_else(|| shown(line.word(Thing::Shelf)), input);
+        Ok(Asked { line, name, mode, direction, label, iv, iv_file, offset })
     }
 
     fn label_bytes(&self) -> Vec<u8> {
-        self.label.map_or(Vec::new(), |(job, edition)| label(job, edition).to_vec())
+        if self.mode == CipherMode::Gcm {
+            label(self.label.0, self.label.1).to_vec()
+        } else {
+            Vec::new()
+        }
     }
 
     /// The most bytes that IN may have.
@@ -159,7 +110,7 @@ impl<'a> Asked<'a> {
             Direction::Encrypt => self.mode.room_to_encrypt(data.len()),
             Direction::Decrypt => self.mode.room_to_decrypt(data.len()),
         };
-        let mut out = Secret::of_zeros(room.min(LONGEST_TEXT + 16));
+        let mut out = Secret(vec![0; room.min(LONGEST_TEXT + 16)]);
         let done = self.call(key, data, &mut out).map_err(|refusal| self.refuse(refusal, data.len()))?;
         out.shorten(done.length);
         Ok((out, done))
@@ -168,39 +119,32 @@ impl<'a> Asked<'a> {
     /// What a refusal says of a file of so many bytes.
     pub fn refuse(&self, refusal: Refusal, size: usize) -> Fail {
         let size = bytes(size as u64);
-        let (job, edition) = self.label.unwrap_or((0, 0));
-        let text = match (refusal, self.offset) {
-            (Refusal::TooLong, Some(_)) => format!(
-                "5 {}: a text has at most {LONGEST_TEXT} bytes, and this file, which begins at byte {} of its text, ends past that: look at --offset",
-                refusal.name(),
-                shown(self.line.word(Thing::Offset))
-            ),
-            _ => {
-                let retired = key_named(self.line).map_or("this key".to_string(), |number| format!("key {number}"));
-                let facts = [
-                    ("a sealed message has at least 16 bytes", format!("this file has {size}; a sealed file has at least 16")),
-                    ("this message has another length", format!("this file has {size}")),
-                    ("this message, or its label,", "this file".to_string()),
-                    ("16777216", self.most().to_string()),
-                    ("this message", "this file".to_string()),
-                    ("this key is retired", format!("{retired} is retired")),
-                    ("this key and IV", key_and_iv(self.line)),
-                    ("this label", format!("job {job}, edition {edition}")),
-                    keys::iv_size(&self.iv, self.mode == CipherMode::Gcm),
-                ];
-                told(refusal, &facts)
-            }
-        };
-        Fail::refused(refusal, format!("{}{text}", self.line.about(&self.name)))
+        let begins = format!("this file, which begins at byte {} of its text,", shown(self.line.word(Thing::Offset)));
+        let too_long =
+            format!("a text has at most {LONGEST_TEXT} bytes, and {begins} ends past that: look at --offset");
+        let of_range = self.offset.map(|_| (Refusal::TooLong.sentence(), too_long));
+        let retired = key_named(self.line).map_or("this key".to_string(), |number| format!("key {number}"));
+        let facts = [
+            ("a sealed message has at least 16 bytes", format!("this file has {size}; a sealed file has at least 16")),
+            ("this message has another length", format!("this file has {size}")),
+            of_range.unwrap_or(("this message, or its label,", "this file".to_string())),
+            ("16777216", self.most().to_string()),
+            ("this message", "this file".to_string()),
+            ("this key is retired", format!("{retired} is retired")),
+            ("this key and IV", key_and_iv(self.line)),
+            ("this label", format!("job {}, edition {}", self.label.0, self.label.1)),
+            keys::iv_size(&self.iv, self.mode == CipherMode::Gcm),
+        ];
+        Fail::refused(refusal, format!("{}{}", self.line.about(&self.name), told(refusal, &facts)))
     }
 
     /// Says where a counter came round. The work is done all the same.
     pub fn warn(&self, done: Done) {
-        let next = match (self.label.is_some(), self.is_decrypt()) {
-            (true, false) => "seal the file anew",
-            (true, true) => "have the file sealed anew",
-            (false, false) => "encrypt the file anew",
-            (false, true) => "have the file encrypted anew",
+        let next = match (self.mode, self.direction) {
+            (CipherMode::Gcm, Direction::Encrypt) => "seal the file anew",
+            (CipherMode::Gcm, Direction::Decrypt) => "have the file sealed anew",
+            (_, Direction::Encrypt) => "encrypt the file anew",
+            (_, Direction::Decrypt) => "have the file encrypted anew",
         };
         if done.came_round {
             let what =
@@ -209,19 +153,14 @@ impl<'a> Asked<'a> {
         }
     }
 
-    /// Whether what is written is text, which a terminal may have.
-    fn is_text(&self) -> bool {
-        self.is_decrypt()
-    }
-
     /// Does the work: IN is read, one call is made, and OUT is written once nothing stands against it. Only what is
     /// sealed, or goes through Ctr, from a pipe to a pipe goes on piece by piece.
     fn run(&self) -> Result<u8, Fail> {
         let held = self.key()?;
         let mut source = Source::open(self.line.word(Thing::In), "")?;
-        let output = Output::look(self.line, self.is_text(), &[("key", &held.file), ("IV", &self.iv_file)])?;
-        let is_seen = self.is_text() && output.is_on_terminal();
-        let mut progress = Progress::new(self.line.start(), source.size(), !is_seen);
+        let is_text = self.direction == Direction::Decrypt;
+        let output = Output::look(self.line, is_text, &[("key", &held.file), ("IV", &self.iv_file)])?;
+        let mut progress = Progress::new(self.line.start(), source.size(), !(is_text && output.is_terminal));
         let has_pieces = self.offset.is_none()
             && matches!((self.mode, self.direction), (CipherMode::Ctr, _) | (CipherMode::Gcm, Direction::Encrypt));
         let done = if has_pieces && source.size().is_none() && output.is_straight() {
@@ -237,6 +176,21 @@ impl<'a> Asked<'a> {
         Ok(0)
     }
 
+    /// Reads IN, all of it, and shows how far that is.
+    pub fn data(&self) -> Result<Secret, Fail> {
+        let mut source = Source::open(self.line.word(Thing::In), "")?;
+        let mut progress = Progress::new(self.line.start(), source.size(), true);
+        source.read(self.most(), &mut progress)
+    }
+
+    /// Asks whether IN opens, and hands its sealed bytes back. The text is made, and dropped.
+    pub fn ask(&self, held: &Held) -> Result<Secret, Fail> {
+        let sealed = self.data()?;
+        let (_, done) = self.work(&held.key, &sealed)?;
+        self.warn(done);
+        Ok(sealed)
+    }
+
     /// Piece by piece, each passed on as it comes.
     fn stream(&self, key: &Key, source: &mut Source, output: &Output, progress: &mut Progress) -> Result<Done, Fail> {
         let mut pieces = match self.mode {
@@ -245,10 +199,9 @@ impl<'a> Asked<'a> {
         }
         .map_err(|refusal| self.refuse(refusal, 0))?;
         let mut to = output.straight()?;
-        let mut held = Secret::of_zeros(PORTION);
-        let mut made = Secret::of_zeros(PORTION);
+        let (mut held, mut made) = (Secret(vec![0; PORTION]), Secret(vec![0; PORTION]));
         let mut total: u64 = 0;
-        let mut step = |to: &mut crate::files::Straight| -> Result<usize, Fail> {
+        let mut step = || -> Result<usize, Fail> {
             let n = source.some(&mut held)?;
             let (data, out) = (held.get(..n).unwrap_or_default(), made.get_mut(..n).unwrap_or_default());
             match &mut pieces {
@@ -256,25 +209,23 @@ impl<'a> Asked<'a> {
                 Pieces::Ctr(ctr) => ctr.piece(data, out),
             }
             .map_err(|refusal| self.refuse(refusal, 0))?;
-            to.write(out)?;
+            output.put(&mut to, out)?;
             Ok(n)
         };
         loop {
-            match step(&mut to) {
+            match step() {
                 Ok(0) => break,
                 Ok(n) => total += n as u64,
-                Err(fail) => return Err(if total > 0 { to.not_whole(fail) } else { fail }),
+                Err(fail) => return Err(if total > 0 { output.not_whole(fail) } else { fail }),
             }
             progress.at(total);
         }
-        match pieces {
-            Pieces::Seal(seal) => {
-                let (tag, done) = seal.end().map_err(|refusal| to.not_whole(self.refuse(refusal, 0)))?;
-                to.write(&tag)?;
-                Ok(done)
-            }
-            Pieces::Ctr(ctr) => ctr.end().map_err(|refusal| self.refuse(refusal, 0)),
-        }
+        let ended = match pieces {
+            Pieces::Seal(seal) => seal.end().map(|(tag, done)| (tag.to_vec(), done)),
+            Pieces::Ctr(ctr) => ctr.end().map(|done| (Vec::new(), done)),
+        };
+        let (tag, done) = ended.map_err(|refusal| output.not_whole(self.refuse(refusal, 0)))?;
+        output.put(&mut to, &tag).map(|()| done)
     }
 }
 
@@ -283,49 +234,36 @@ enum Pieces {
     Ctr(Ctr),
 }
 
-pub fn seal(line: &Line) -> Result<u8, Fail> {
-    Asked::labelled(line, Direction::Encrypt)?.run()
-}
-
-pub fn open(line: &Line) -> Result<u8, Fail> {
-    Asked::labelled(line, Direction::Decrypt)?.run()
-}
-
+/// The commands seal and encrypt.
 pub fn encrypt(line: &Line) -> Result<u8, Fail> {
-    Asked::in_mode(line, Direction::Encrypt)?.run()
+    Asked::read(line, Direction::Encrypt)?.run()
 }
 
+/// The commands open and decrypt.
 pub fn decrypt(line: &Line) -> Result<u8, Fail> {
-    Asked::in_mode(line, Direction::Decrypt)?.run()
+    Asked::read(line, Direction::Decrypt)?.run()
 }
 
 pub fn range(line: &Line) -> Result<u8, Fail> {
-    Asked::in_range(line)?.run()
+    let act = if line.says(Thing::Decrypt) { decrypt } else { encrypt };
+    act(line)
 }
 
-/// Says whether IN opens. The text is made, and dropped.
+/// Says whether IN opens.
 pub fn opens(line: &Line) -> Result<u8, Fail> {
-    let asked = Asked::labelled(line, Direction::Decrypt)?;
+    let asked = Asked::read(line, Direction::Decrypt)?;
     let held = asked.key()?;
-    let mut source = Source::open(line.word(Thing::In), "")?;
-    let mut progress = Progress::new(line.start(), source.size(), true);
-    let data = source.read(asked.most(), &mut progress)?;
-    drop(progress);
-    let (_, done) = asked.work(&held.key, &data)?;
-    asked.warn(done);
-    let (job, edition) = asked.label.unwrap_or((0, 0));
-    answer(&opened(line, 0, job, edition, ""))?;
-    Ok(0)
+    asked.ask(&held)?;
+    answer(&opened(line, 0, asked.label.0, asked.label.1, ""))
 }
 
 /// The answer that IN opens under a job and an edition, with more behind it.
 pub fn opened(line: &Line, status: u8, job: u32, edition: u16, more: &str) -> String {
     let key = key_named(line);
     if line.says(Thing::Json) {
-        let (file, key) = (json(line.word(Thing::In)), key.map_or("null".to_string(), |key| key.to_string()));
-        let start =
-            format!("{{\"command\":\"{}\",\"file\":{file},\"status\":{status},\"refusal\":null", line.command.name);
-        return format!("{start},\"opens\":true,\"job\":{job},\"edition\":{edition},\"key\":{key}{more}}}\n");
+        let key = key.map_or("null".to_string(), |key| key.to_string());
+        let more = format!(",\"opens\":true,\"job\":{job},\"edition\":{edition},\"key\":{key}{more}");
+        return line.object(status, None, &more);
     }
     let with = key.map_or(String::new(), |key| format!(", with key {key}"));
     format!("{} opens under job {job}, edition {edition}{with}{more}\n", input(line.word(Thing::In)))
@@ -333,22 +271,15 @@ pub fn opened(line: &Line, status: u8, job: u32, edition: u16, more: &str) -> St
 
 /// Prints who does what of a text.
 pub fn plan(line: &Line) -> Result<u8, Fail> {
-    let number =
-        |thing| line.number(thing, u64::MAX).map(|n| n.and_then(|n| usize::try_from(n).ok()).unwrap_or(usize::MAX));
-    let (workers, length) = (number(Thing::Workers)?, number(Thing::Length)?);
-    let plan = Plan::make(length, workers).map_err(|refusal| {
-        let text = match refusal {
-            Refusal::TooLong => {
-                let length = shown(line.word(Thing::Length));
-                format!("5 {}: a text has at most {LONGEST_TEXT} bytes, not {length}", refusal.name())
-            }
-            _ => told(refusal, &[("64 workers", format!("64 workers, not {}", shown(line.word(Thing::Workers))))]),
-        };
-        Fail::refused(refusal, format!("{}{text}", line.start()))
+    let (workers, length) = (line.number(Thing::Workers)?, line.number(Thing::Length)?);
+    let plan = Plan::make(length.unwrap_or(0), workers.unwrap_or(0)).map_err(|refusal| {
+        let length = format!("a text has at most {LONGEST_TEXT} bytes, not {}", shown(line.word(Thing::Length)));
+        let workers = format!("64 workers, not {}", shown(line.word(Thing::Workers)));
+        let facts = [(Refusal::TooLong.sentence(), length), ("64 workers", workers)];
+        Fail::refused(refusal, format!("{}{}", line.start(), told(refusal, &facts)))
     })?;
     let piece = |piece: std::ops::Range<usize>| format!("{} {}\n", piece.start, piece.len());
-    answer(&plan.pieces().map(piece).collect::<String>())?;
-    Ok(0)
+    answer(&plan.pieces().map(piece).collect::<String>())
 }
 
 #[cfg(test)]
@@ -360,12 +291,7 @@ mod tests {
         let command = COMMANDS.iter().find(|known| known.name == command).unwrap();
         let words: Vec<_> = words.split(' ').map(Into::into).collect();
         let line = Line::read(command, &words, "luossavin").map_err(|fail| fail.text).unwrap();
-        let asked = match command.name {
-            "open" => Asked::labelled(&line, Direction::Decrypt),
-            "range" => Asked::in_range(&line),
-            _ => Asked::in_mode(&line, Direction::Decrypt),
-        };
-        asked.map_err(|fail| fail.text).unwrap().refuse(refusal, size).text
+        Asked::read(&line, Direction::Decrypt).map_err(|fail| fail.text).unwrap().refuse(refusal, size).text
     }
 
     #[test]

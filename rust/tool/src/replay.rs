@@ -3,7 +3,7 @@
 use crate::files::{Secret, Source};
 use crate::keys;
 use crate::progress::Progress;
-use crate::say::{answer, bytes, input, json, told, Fail, DIFFERS};
+use crate::say::{answer, bytes, input, told, Fail, DIFFERS};
 use crate::words::{Line, Thing};
 use luossavin::journal::{replay, Report};
 use luossavin::{Engine, Key, Refusal};
@@ -66,22 +66,11 @@ fn answer_name(number: usize) -> String {
     }
 }
 
-/// The first record that differs: which it is, where it begins, and what is different.
-struct Difference {
-    record: u64,
-    place: u64,
-    told: String,
-}
-
 /// What has been added up of a journal.
-#[derive(Default)]
 struct Sum {
-    records: u64,
-    by_mode: [u64; 6],
-    by_answer: [u64; 27],
-    bytes_in: u64,
-    bytes_out: u64,
-    first: Option<Difference>,
+    report: Report,
+    /// The first record that differs: which it is, where it begins, and what is different.
+    first: Option<(u64, u64, String)>,
     /// The refusal of a record, where it begins, and whose key it has.
     stopped: Option<(Refusal, u64, u16)>,
 }
@@ -89,17 +78,17 @@ struct Sum {
 impl Sum {
     /// Adds the report of a portion that begins at a place of the journal.
     fn add(&mut self, report: &Report, keys: &[&Key], portion: &[u8], place: u64) {
+        let sum = &mut self.report;
         if let (None, Some(first)) = (&self.first, report.first_difference) {
             let told = portion.get(first.place..).map_or(String::new(), |record| different(keys, record));
-            let record = self.records.saturating_add(first.record).saturating_add(1);
-            self.first = Some(Difference { record, place: place.saturating_add(first.place as u64), told });
+            let record = sum.records.saturating_add(first.record).saturating_add(1);
+            self.first = Some((record, place.saturating_add(first.place as u64), told));
         }
-        let add = |to: &mut u64, n: &u64| *to = to.saturating_add(*n);
-        add(&mut self.records, &report.records);
-        add(&mut self.bytes_in, &report.bytes_in);
-        add(&mut self.bytes_out, &report.bytes_out);
-        self.by_mode.iter_mut().zip(&report.by_mode).for_each(|(to, n)| add(to, n));
-        self.by_answer.iter_mut().zip(&report.by_answer).for_each(|(to, n)| add(to, n));
+        let counts = [&mut sum.records, &mut sum.bytes_in, &mut sum.bytes_out].into_iter();
+        let counts = counts.chain(&mut sum.by_mode).chain(&mut sum.by_answer);
+        let more = [&report.records, &report.bytes_in, &report.bytes_out].into_iter();
+        let more = more.chain(&report.by_mode).chain(&report.by_answer);
+        counts.zip(more).for_each(|(to, n)| *to = to.saturating_add(*n));
     }
 }
 
@@ -150,57 +139,44 @@ impl Journal<'_> {
         self.place = self.place.saturating_add(at as u64);
     }
 
-    fn run(&mut self) -> Result<Sum, Fail> {
-        let mut sum = Sum::default();
+    /// The bytes of the window.
+    fn held(&self) -> &[u8] {
+        self.window.get(..self.filled).unwrap_or_default()
+    }
+
+    /// Replays all of it, and adds to the sum of nothing.
+    fn run(&mut self, mut sum: Sum) -> Result<Sum, Fail> {
         loop {
             self.fill()?;
-            let portion = self.window.get(..self.filled).unwrap_or_default();
-            let stopped = match replay(self.keys, portion) {
-                Ok(report) => {
-                    sum.add(&report, self.keys, portion, self.place);
-                    if self.is_at_end {
-                        return Ok(sum);
-                    }
-                    self.go_on(self.filled);
-                    continue;
-                }
-                Err(stopped) => stopped,
+            let (report, at, refusal) = match replay(self.keys, self.held()) {
+                Ok(report) => (report, self.filled, None),
+                Err(stopped) => (*stopped.report, stopped.place, Some(stopped.refusal)),
             };
-            sum.add(&stopped.report, self.keys, portion, self.place);
-            self.go_on(stopped.place);
-            let front = self.window.get(..self.filled).unwrap_or_default();
-            let is_cut = stopped.refusal == Refusal::BadRecord && !self.is_at_end;
-            if is_cut && self.filled < LONGEST_RECORD {
-                continue;
-            }
-            let key = recorded(front).map_or(0, |record| record.key);
-            let place = self.place;
+            sum.add(&report, self.keys, self.held(), self.place);
+            self.go_on(at);
+            let is_cut = refusal.map_or(true, |refusal| refusal == Refusal::BadRecord) && !self.is_at_end;
+            let refusal = match refusal {
+                _ if is_cut && self.filled < LONGEST_RECORD => continue,
+                None => return Ok(sum),
+                Some(refusal) => refusal,
+            };
+            let (place, key) = (self.place, recorded(self.held()).map_or(0, |record| record.key));
             // a record that is whole in no window is too long, if it is whole in the journal
-            let is_long = is_cut && matches!(front.get(..3), Some(b"TR\0" | b"TR\x01")) && self.passes_over()?;
-            let refusal = if is_long { Refusal::PartTooLong } else { stopped.refusal };
-            sum.stopped = Some((refusal, place, key));
+            let is_long = is_cut && matches!(self.held().get(..3), Some(b"TR\0" | b"TR\x01")) && self.passes_over()?;
+            sum.stopped = Some((if is_long { Refusal::PartTooLong } else { refusal }, place, key));
             return Ok(sum);
         }
     }
 
     /// Whether the record in front is whole, by the lengths that its parts state. It is passed over.
     fn passes_over(&mut self) -> Result<bool, Fail> {
-        // head and then each part's length, before each of which so much stands
+        // what stands before each part's length
         for before in [6, 0, 0, 5] {
-            if !self.passes(before)? {
-                return Ok(false);
-            }
-            let mut length: u64 = 0;
-            for _ in 0..4 {
-                self.fill()?;
-                let byte = self.window.first().copied().filter(|_| self.filled > 0);
-                if !self.passes(1)? {
-                    return Ok(false);
-                }
-                length = length * 256 + u64::from(byte.unwrap_or(0));
-            }
-            if !self.passes(length)? {
-                return Ok(false);
+            let is_there = self.passes(before)?;
+            self.fill()?;
+            match length_at(self.held(), 0).filter(|_| is_there) {
+                Some(length) if self.passes(4 + u64::from(length))? => {}
+                _ => return Ok(false),
             }
         }
         Ok(true)
@@ -231,12 +207,14 @@ pub fn run(line: &Line) -> Result<u8, Fail> {
     let keys: Vec<&Key> = keys.iter().map(AsRef::as_ref).collect();
     let source = Source::open(word, "")?;
     let progress = Progress::new(line.start(), source.size(), true);
-    let window = Secret::of_zeros(WINDOW);
+    let window = Secret(vec![0; WINDOW]);
     let mut journal = Journal { source, progress, window, filled: 0, place: 0, is_at_end: false, keys: &keys };
-    let sum = journal.run()?;
+    // the report of no record, to which the others are added
+    let none = replay(&[], &[]).map_err(|stopped| Fail::refused(stopped.refusal, stopped.to_string()))?;
+    let sum = journal.run(Sum { report: none, first: None, stopped: None })?;
     drop(journal);
     let refused = sum.stopped.as_ref().map(|(refusal, place, key)| {
-        let record = format!("record {}, which begins at byte {place},", sum.records + 1);
+        let record = format!("record {}, which begins at byte {place},", sum.report.records + 1);
         let of_key = format!("{record} is of key {key}, which is not");
         let facts = [("a record is of a key that is not", of_key), ("a record", record)];
         Fail::refused(*refusal, format!("{}{}", line.about(&name), told(*refusal, &facts)))
@@ -247,9 +225,9 @@ pub fn run(line: &Line) -> Result<u8, Fail> {
         (None, None) => 0,
     };
     answer(&if line.says(Thing::Json) {
-        as_json(&sum, status, &json(word))
+        as_json(line, &sum, status)
     } else if line.says(Thing::Plain) {
-        plain(&sum)
+        counts(&sum).iter().map(|(name, n)| format!("{name} {n}\n")).collect()
     } else {
         page(&sum, &name)
     })?;
@@ -260,34 +238,26 @@ pub fn run(line: &Line) -> Result<u8, Fail> {
     }
 }
 
-/// All counts by their names, in a fixed order.
+/// All counts by their names, always all of them and in one order.
 fn counts(sum: &Sum) -> Vec<(String, u64)> {
     let (refusal, place) = sum.stopped.as_ref().map_or((0, 0), |stopped| (stopped.0.number(), stopped.1));
-    let (record, byte) = sum.first.as_ref().map_or((0, 0), |first| (first.record, first.place));
+    let (record, byte) = sum.first.as_ref().map_or((0, 0), |first| (first.0, first.1));
+    let sum = &sum.report;
+    let refused = if refusal == 0 { 0 } else { sum.records.saturating_add(1) };
     let mut counts = vec![("records".to_string(), sum.records)];
     counts.extend(MODES.iter().zip(sum.by_mode).map(|(name, n)| (format!("mode-{name}"), n)));
     counts.extend(sum.by_answer.iter().enumerate().map(|(number, n)| (format!("answer-{number}"), *n)));
-    let refused = if refusal == 0 { 0 } else { sum.records.saturating_add(1) };
-    let last = [("bytes-in", sum.bytes_in), ("bytes-out", sum.bytes_out), ("different-record", record)];
-    counts.extend(last.map(|(name, n)| (name.to_string(), n)));
-    let last = [("different-byte", byte), ("refusal", u64::from(refusal)), ("refused-record", refused)];
-    counts.extend(last.map(|(name, n)| (name.to_string(), n)));
-    counts.push(("refused-byte".to_string(), place));
+    let names = "bytes-in bytes-out different-record different-byte refusal refused-record refused-byte";
+    let last = [sum.bytes_in, sum.bytes_out, record, byte, u64::from(refusal), refused, place];
+    counts.extend(names.split(' ').map(String::from).zip(last));
     counts
 }
 
-/// Lines for a script: always all of them, and in one order.
-fn plain(sum: &Sum) -> String {
-    counts(sum).iter().map(|(name, n)| format!("{name} {n}\n")).collect()
-}
-
 /// The same as one object, whose names have _ for the dash.
-fn as_json(sum: &Sum, status: u8, file: &str) -> String {
-    let start = format!("{{\"command\":\"replay\",\"file\":{file},\"status\":{status}");
-    let refusal = sum.stopped.as_ref().map_or("null".to_string(), |stopped| format!("\"{}\"", stopped.0.name()));
+fn as_json(line: &Line, sum: &Sum, status: u8) -> String {
     let field = |(name, n): &(String, u64)| format!(",\"{}\":{n}", name.replace('-', "_"));
     let fields: String = counts(sum).iter().filter(|count| count.0 != "refusal").map(field).collect();
-    format!("{start},\"refusal\":{refusal}{fields}}}\n")
+    line.object(status, sum.stopped.as_ref().map(|stopped| stopped.0), &fields)
 }
 
 /// A number with a comma after each third digit from the right.
@@ -301,7 +271,7 @@ fn grouped(n: u64) -> String {
 }
 
 /// A page for a person: a table, and whether the records agree.
-fn page(sum: &Sum, name: &str) -> String {
+fn page(Sum { report: sum, first, stopped }: &Sum, name: &str) -> String {
     let row = |n: u64, name: &str| format!("{:>16}  {name}\n", grouped(n));
     let mut page = format!("Replay of {name}\n\n{}\n", row(sum.records, "records"));
     page.extend(MODES.iter().zip(sum.by_mode).map(|(name, n)| row(n, name)));
@@ -311,12 +281,12 @@ fn page(sum: &Sum, name: &str) -> String {
     let answers = sum.by_answer.iter().enumerate().filter(|answer| *answer.1 > 0);
     page.extend(answers.map(|(number, n)| row(*n, &answer_name(number))));
     page += &format!("\n{}{}\n", row(sum.bytes_in, "bytes in"), row(sum.bytes_out, "bytes out"));
-    let before = if sum.stopped.is_some() { " before the one that was refused" } else { "" };
-    page += &match (&sum.first, sum.records) {
-        (Some(first), _) => format!(
-            "record {}, at byte {}, is the first that differs: {}\nrecords are counted from 1, and bytes from 0\n",
-            first.record, first.place, first.told
-        ),
+    let before = if stopped.is_some() { " before the one that was refused" } else { "" };
+    page += &match (first, sum.records) {
+        (Some((record, byte, told)), _) => {
+            let counted = "records are counted from 1, and bytes from 0";
+            format!("record {record}, at byte {byte}, is the first that differs: {told}\n{counted}\n")
+        }
         (None, 0) => "no record was replayed\n".to_string(),
         (None, 1) => format!("the one record{before} agrees\n"),
         (None, n) => format!("all {n} records{before} agree\n"),

@@ -58,10 +58,10 @@ pub fn say(text: &str) {
     }
 }
 
-/// Writes an answer to standard output.
-pub fn answer(text: &str) -> Result<(), Fail> {
+/// Writes an answer to standard output; the status is 0 then.
+pub fn answer(text: &str) -> Result<u8, Fail> {
     let written = sys::copy_of(1).and_then(|mut out| out.write_all(text.as_bytes()));
-    written.map_err(|error| cannot("write", "standard output", &error))
+    written.map(|()| 0).map_err(|error| cannot("write", "standard output", &error))
 }
 
 /// Whether a character is kept from a terminal: it would move the cursor, hide, or turn the text round.

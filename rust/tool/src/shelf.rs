@@ -2,15 +2,16 @@
 
 use crate::files::{look_at_shelf, replace, Output, Secret, Source};
 use crate::keys;
-use crate::message::{edition, job, Asked};
+use crate::message::Asked;
 use crate::progress::Progress;
-use crate::say::{answer, cannot, input, json, say, shown, told, Fail, FILES};
+use crate::say::{answer, cannot, input, say, shown, told, Fail, FILES};
 use crate::sys;
 use crate::words::{Line, Thing};
 use luossavin::shelf::{Shelf, LARGEST};
-use luossavin::{Direction, Refusal, LONGEST_TEXT};
-use std::ffi::OsString;
+use luossavin::{Direction, Engine, Refusal};
+use std::ffi::{OsStr, OsString};
 use std::fs::{self, File, OpenOptions, Permissions};
+use std::io::ErrorKind;
 use std::os::unix::fs::{MetadataExt, OpenOptionsExt, PermissionsExt};
 use std::path::{Path, PathBuf};
 use std::thread::sleep;
@@ -54,20 +55,15 @@ fn records(bytes: &[u8]) -> (Vec<Record>, usize) {
     (records, at)
 }
 
-/// A shelf, as it was read.
-struct Read {
-    bytes: Secret,
-    shelf: Shelf,
-}
-
 fn refuse(line: &Line, refusal: Refusal, facts: &[(&str, String)]) -> Fail {
     let words = told(refusal, facts);
     Fail::refused(refusal, format!("{}{words}", line.about(&shown(line.word(Thing::Shelf)))))
 }
 
-fn load(line: &Line, bytes: Secret) -> Result<Read, Fail> {
+/// The shelf that some bytes are, and these bytes.
+fn load(line: &Line, bytes: Secret) -> Result<(Secret, Shelf), Fail> {
     match Shelf::load(&bytes, LARGEST) {
-        Ok(shelf) => Ok(Read { bytes, shelf }),
+        Ok(shelf) => Ok((bytes, shelf)),
         Err(refusal) => {
             let general = "this shelf breaks off: there is no whole record, or a second current one of its job, or it has more than 65536 bytes";
             let fact = if bytes.len() > LARGEST {
@@ -82,7 +78,7 @@ fn load(line: &Line, bytes: Secret) -> Result<Read, Fail> {
 }
 
 /// Reads the shelf that a line names.
-fn read(line: &Line) -> Result<Read, Fail> {
+fn read(line: &Line) -> Result<(Secret, Shelf), Fail> {
     let word = line.word(Thing::Shelf);
     if word == "-" {
         return Err(line.wrong(Thing::Shelf, word));
@@ -97,8 +93,7 @@ fn current<'a>(line: &Line, shelf: &'a Shelf, job: u32) -> Result<luossavin::she
 }
 
 pub fn list(line: &Line) -> Result<u8, Fail> {
-    let read = read(line)?;
-    let (records, _) = records(&read.bytes);
+    let (records, _) = records(&read(line)?.0);
     let state = |record: &Record| if record.is_current { "current" } else { "superseded" };
     if line.says(Thing::Json) {
         let row = |record: &Record| {
@@ -106,23 +101,20 @@ pub fn list(line: &Line) -> Result<u8, Fail> {
             format!("{{\"job\":{job},\"edition\":{edition},\"state\":\"{state}\",\"bytes\":{length}}}")
         };
         let rows: Vec<String> = records.iter().map(row).collect();
-        let start = format!("{{\"command\":\"shelf list\",\"file\":{}", json(line.word(Thing::Shelf)));
-        answer(&format!("{start},\"status\":0,\"refusal\":null,\"records\":[{}]}}\n", rows.join(",")))?;
-        return Ok(0);
+        return answer(&line.object(0, None, &format!(",\"records\":[{}]", rows.join(","))));
     }
     let mut table = "       job   edition  state          bytes\n".to_string();
     for record in &records {
         let (job, edition, length) = (record.job, record.edition, record.length);
         table += &format!("{job:>10}{edition:>10}  {:<10}{length:>10}\n", state(record));
     }
-    answer(&table)?;
-    Ok(0)
+    answer(&table)
 }
 
 pub fn find(line: &Line) -> Result<u8, Fail> {
-    let job = job(line)?;
-    let read = read(line)?;
-    let record = current(line, &read.shelf, job)?;
+    let job = line.number(Thing::Job)?.unwrap_or(0);
+    let (_, shelf) = read(line)?;
+    let record = current(line, &shelf, job)?;
     let (edition, length) = (record.edition(), record.sealed().len());
     let word = line.word(Thing::Shelf);
     if line.says(Thing::Out) {
@@ -130,8 +122,7 @@ pub fn find(line: &Line) -> Result<u8, Fail> {
         say(&format!("{}wrote edition {edition} of job {job}", line.about(&shown(word))));
     }
     if line.says(Thing::Json) && line.value(Thing::Out).map_or(true, |out| out != "-") {
-        let start = format!("{{\"command\":\"shelf find\",\"file\":{},\"status\":0,\"refusal\":null", json(word));
-        answer(&format!("{start},\"job\":{job},\"edition\":{edition},\"bytes\":{length}}}\n"))?;
+        answer(&line.object(0, None, &format!(",\"job\":{job},\"edition\":{edition},\"bytes\":{length}")))?;
     } else if !line.says(Thing::Out) {
         let what = format!("has edition {edition} of job {job} as the current one, a sealed file of {length} bytes");
         answer(&format!("{} {what}\n", shown(word)))?;
@@ -140,32 +131,32 @@ pub fn find(line: &Line) -> Result<u8, Fail> {
 }
 
 pub fn open(line: &Line) -> Result<u8, Fail> {
-    keys::number(line)?;
-    let job = job(line)?;
-    let word = line.word(Thing::Shelf);
-    let mut asked = Asked::sealed(line, shown(word), Direction::Decrypt, (job, 0))?;
-    let read = read(line)?;
-    let record = current(line, &read.shelf, job)?;
+    let mut asked = Asked::read(line, Direction::Decrypt)?;
+    let job = asked.label.0;
+    let (_, shelf) = read(line)?;
+    let record = current(line, &shelf, job)?;
     let edition = record.edition();
-    asked.is_of(format!("{}, edition {edition} of job {job}", shown(word)), (job, edition));
+    let name = std::mem::take(&mut asked.name);
+    asked.name = format!("{name}, edition {edition} of job {job}");
+    asked.label = (job, edition);
     let held = asked.key()?;
-    let output = Output::look(line, true, &[("key", &held.file), ("IV", asked.iv_file())])?;
+    let output = Output::look(line, true, &[("key", &held.file), ("IV", &asked.iv_file)])?;
     let (text, done) = asked.work(&held.key, record.sealed())?;
     output.write(&text)?;
     asked.warn(done);
-    say(&format!("{}opened edition {edition} of job {job}", line.about(&shown(word))));
+    say(&format!("{}opened edition {edition} of job {job}", line.about(&name)));
     Ok(0)
 }
 
 /// Asks of every current record whether it opens under its own label, with the IV that the list has for it.
 pub fn verify(line: &Line) -> Result<u8, Fail> {
-    keys::number(line)?;
+    let mut asked = Asked::read(line, Direction::Decrypt)?;
     let ivs = keys::ivs(line)?;
-    let read = read(line)?;
+    let (bytes, shelf) = read(line)?;
     let name = shown(line.word(Thing::Shelf));
-    let held = keys::read(line, &name, luossavin::Engine::Gates)?;
+    let held = keys::read(line, &name, Engine::Gates)?;
     let (mut first, mut missing, mut lines) = (None, 0, String::new());
-    for record in records(&read.bytes).0.iter().filter(|record| record.is_current) {
+    for record in records(&bytes).0.iter().filter(|record| record.is_current) {
         let (job, edition) = (record.job, record.edition);
         let what = format!("edition {edition} of job {job}");
         let iv = ivs.iter().find(|iv| (iv.0, iv.1) == (job, edition));
@@ -175,16 +166,13 @@ pub fn verify(line: &Line) -> Result<u8, Fail> {
                 format!("{what}: not asked, since the list has no IV for it\n")
             }
             Some((_, _, iv)) => {
-                let asked = Asked::with_iv(line, format!("{name}, {what}"), (job, edition), iv.clone());
-                let sealed = current(line, &read.shelf, job)?.sealed();
-                match asked.work(&held.key, sealed) {
+                (asked.name, asked.label, asked.iv) = (format!("{name}, {what}"), (job, edition), iv.clone());
+                match asked.work(&held.key, current(line, &shelf, job)?.sealed()) {
                     Ok(_) => format!("{what}: opens\n"),
                     Err(fail) => {
-                        let words = fail
-                            .refusal
-                            .map_or(String::new(), |refusal| format!("{} {}", refusal.number(), refusal.name()));
+                        let words = format!("{what}: {} {}\n", fail.status, fail.refusal.map_or("", Refusal::name));
                         first = first.or(Some(fail));
-                        format!("{what}: {words}\n")
+                        words
                     }
                 }
             }
@@ -211,16 +199,13 @@ struct Turn {
 impl Turn {
     fn take(line: &Line) -> Result<Turn, Fail> {
         let word = line.word(Thing::Shelf);
-        let mut path = OsString::from(word);
-        path.push(".lock");
-        let path = PathBuf::from(path);
-        let seconds = line.number(Thing::Wait, 1_000_000)?.unwrap_or(30);
+        let path = PathBuf::from([word, OsStr::new(".lock")].into_iter().collect::<OsString>());
+        let seconds = line.number::<u32>(Thing::Wait)?.map_or(30, u64::from);
         let began = Instant::now();
         let mut is_told = false;
         loop {
-            if let Some(file) =
-                Turn::try_take(word.as_ref(), &path).map_err(|error| cannot("write", &shown(word), &error))?
-            {
+            let taken = Turn::try_take(word.as_ref(), &path).map_err(|error| cannot("write", &shown(word), &error))?;
+            if let Some(file) = taken {
                 return Ok(Turn { path, _file: file });
             }
             let name = line.about(&shown(word));
@@ -240,7 +225,11 @@ impl Turn {
     fn try_take(shelf: &Path, path: &Path) -> std::io::Result<Option<File>> {
         let mode = fs::metadata(shelf).map_or(0o666 & !sys::umask(), |about| about.mode()) & 0o222;
         let flags = sys::O_NOFOLLOW | sys::O_NONBLOCK;
-        let file = OpenOptions::new().write(true).create(true).mode(mode | 0o200).custom_flags(flags).open(path)?;
+        let file = match OpenOptions::new().write(true).create(true).mode(mode | 0o200).custom_flags(flags).open(path) {
+            // of someone else, whose run is about to let us
+            Err(error) if error.kind() == ErrorKind::PermissionDenied && path.exists() => return Ok(None),
+            opened => opened?,
+        };
         if !sys::lock(&file)? {
             return Ok(None);
         }
@@ -271,21 +260,17 @@ fn change(line: &Line, is_new: bool, act: impl Fn(&mut Shelf, &[Record]) -> Resu
         return Err(line.wrong(Thing::Shelf, word));
     }
     if look_at_shelf(word)?.is_none() && !is_new {
-        return Err(cannot("read", &shown(word), &std::io::Error::from_raw_os_error(sys::ENOENT)));
+        read(line)?;
     }
     let turn = Turn::take(line)?;
     let old = look_at_shelf(word)?;
-    let mut read = match old {
-        Some(_) => read(line)?,
-        None if is_new => load(line, Secret::default())?,
-        None => return Err(cannot("read", &shown(word), &std::io::Error::from_raw_os_error(sys::ENOENT))),
-    };
-    let (before, _) = records(&read.bytes);
-    act(&mut read.shelf, &before)?;
-    if old.is_none() || read.shelf.as_bytes() != &*read.bytes {
-        replace(Path::new(word), &shown(word), read.shelf.as_bytes(), old.as_ref())?;
+    let (bytes, mut shelf) = if old.is_none() && is_new { load(line, Secret::default())? } else { read(line)? };
+    let (before, _) = records(&bytes);
+    act(&mut shelf, &before)?;
+    if old.is_none() || shelf.as_bytes() != &*bytes {
+        replace(Path::new(word), &shown(word), shelf.as_bytes(), old.as_ref())?;
     }
-    let (after, _) = records(read.shelf.as_bytes());
+    let (after, _) = records(shelf.as_bytes());
     let is_gone = |record: &&Record| !after.iter().any(|left| (left.job, left.edition) == (record.job, record.edition));
     for record in before.iter().filter(is_gone).filter(|_| is_new) {
         let what = format!("dropped edition {} of job {}, which is superseded, for room", record.edition, record.job);
@@ -303,26 +288,15 @@ pub fn collect(line: &Line) -> Result<u8, Fail> {
 
 /// Puts a sealed file on the shelf: one that opens under its label, or, unchecked, any.
 pub fn put(line: &Line) -> Result<u8, Fail> {
-    keys::number(line)?;
-    let (job, edition) = (job(line)?, edition(line)?.unwrap_or(0));
+    let asked = Asked::read(line, Direction::Decrypt)?;
+    let (job, edition) = asked.label;
     let is_checked = line.says(Thing::Key) && (line.says(Thing::Iv) || line.says(Thing::IvFile));
     if !is_checked && !line.says(Thing::Unchecked) {
         let text = "expected --key FILE and --iv HEX, by which it is seen that IN opens as this edition, or --unchecked, which puts any file on the shelf";
         return Err(line.fault(text));
     }
     look_at_shelf(line.word(Thing::Shelf))?;
-    let in_word = line.word(Thing::In);
-    let sealed = if is_checked {
-        let asked = Asked::sealed(line, input(in_word), Direction::Decrypt, (job, edition))?;
-        let held = asked.key()?;
-        let sealed = Source::open(in_word, "")?.read(LONGEST_TEXT + 16, &mut Progress::none())?;
-        let (_, done) = asked.work(&held.key, &sealed)?;
-        asked.warn(done);
-        sealed
-    } else {
-        // what is longer finds no room, as this much does
-        Source::open(in_word, "")?.read(LARGEST, &mut Progress::none())?
-    };
+    let sealed = if is_checked { asked.ask(&asked.key()?)? } else { asked.data()? };
     change(line, true, |shelf, before| {
         shelf.put(job, edition, &sealed).map_err(|refusal| {
             let highest = before.iter().filter(|record| record.job == job).map(|record| record.edition).max();
@@ -341,6 +315,22 @@ mod tests {
 
     fn record(mark: u8, job: u8, edition: u8, sealed: &[u8]) -> Vec<u8> {
         [&[b'R', mark, 0, 0, 0, job, 0, edition, 0, 0, 0, sealed.len() as u8], sealed].concat()
+    }
+
+    #[test]
+    fn a_turn_is_one_runs_and_its_lock_cannot_be_read() {
+        let shelf = std::env::temp_dir().join(format!("luossavin-turn-{}", std::process::id()));
+        let path = shelf.with_extension("lock");
+        for mode in [0o644, 0o664, 0o600] {
+            fs::write(&shelf, b"").unwrap();
+            fs::set_permissions(&shelf, Permissions::from_mode(mode)).unwrap();
+            let file = Turn::try_take(&shelf, &path).unwrap().unwrap();
+            assert_eq!(fs::metadata(&path).unwrap().mode() & 0o777, mode & 0o222);
+            assert!(Turn::try_take(&shelf, &path).unwrap().is_none());
+            drop(Turn { path: path.clone(), _file: file });
+            assert!(!path.exists());
+        }
+        fs::remove_file(shelf).unwrap();
     }
 
     #[test]

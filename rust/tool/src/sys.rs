@@ -1,11 +1,10 @@
 //! The few calls of the C library that std does not have, and nothing else: all `unsafe` of the tool is here.
 
-use std::ffi::{CStr, CString, OsStr, OsString};
-use std::fs::{File, Metadata, OpenOptions};
+use std::ffi::{CStr, CString, OsString};
+use std::fs::{File, OpenOptions};
 use std::io;
 use std::os::raw::{c_char, c_int, c_uint};
 use std::os::unix::ffi::{OsStrExt, OsStringExt};
-use std::os::unix::fs::OpenOptionsExt;
 use std::os::unix::io::{AsRawFd, FromRawFd, RawFd};
 use std::path::Path;
 
@@ -78,14 +77,10 @@ fn done(answer: c_int) -> io::Result<()> {
     }
 }
 
-fn c_string(path: &OsStr) -> io::Result<CString> {
-    Ok(CString::new(path.as_bytes())?)
-}
-
 /// Gives an open file, which may have no name yet, a new name. It never replaces a file.
 pub fn link(file: &File, to: &Path) -> io::Result<()> {
     let from = CString::new(format!("/proc/self/fd/{}", file.as_raw_fd()))?;
-    let to = c_string(to.as_os_str())?;
+    let to = CString::new(to.as_os_str().as_bytes())?;
     // SAFETY: both are strings that end with 0, and live as long as the call.
     done(unsafe { linkat(AT_FDCWD, from.as_ptr(), AT_FDCWD, to.as_ptr(), AT_SYMLINK_FOLLOW) })
 }
@@ -127,16 +122,6 @@ pub fn umask() -> u32 {
         set_umask(mask);
         mask
     }
-}
-
-/// What is known of a descriptor.
-pub fn about(fd: RawFd) -> io::Result<Metadata> {
-    copy_of(fd)?.metadata()
-}
-
-/// Opens a file to be read, without waiting for a writer where it is a pipe.
-pub fn open_at_once(path: &Path) -> io::Result<File> {
-    OpenOptions::new().read(true).custom_flags(O_NONBLOCK).open(path)
 }
 
 /// Overwrites bytes, by writes that the compiler may not leave out.

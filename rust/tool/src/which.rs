@@ -1,13 +1,12 @@
 //! Which edition does this file open under?
 
-use crate::files::{lines, read_small, Source};
+use crate::files::{lines, read_small};
 use crate::keys;
-use crate::message::{edition, job, key_and_iv, opened, Asked};
-use crate::progress::Progress;
-use crate::say::{answer, input, json, shown, told, Fail, ANOTHER, NONE};
+use crate::message::{key_and_iv, opened, Asked};
+use crate::say::{answer, input, shown, told, Fail, ANOTHER, NONE};
 use crate::words::{decimal, Line, Thing};
 use luossavin::editions::{label, which};
-use luossavin::{Direction, Refusal, LONGEST_TEXT};
+use luossavin::{Direction, Refusal};
 use std::ffi::OsStr;
 use std::os::unix::ffi::OsStrExt;
 
@@ -15,10 +14,7 @@ use std::os::unix::ffi::OsStrExt;
 const LIST: usize = 65_536;
 
 /// The candidates, and how they are told where none opens: "none of editions 1 to 2 of job 4711".
-struct Candidates {
-    labels: Vec<(u32, u16)>,
-    told: String,
-}
+type Candidates = (Vec<(u32, u16)>, String);
 
 /// Says that there are too many candidates.
 fn too_many(line: &Line, how_many: String) -> Fail {
@@ -29,14 +25,13 @@ fn too_many(line: &Line, how_many: String) -> Fail {
 /// A range of editions, as 1-3 or 2.
 fn range(text: &OsStr) -> Option<(u16, u16)> {
     let mut ends = text.as_bytes().splitn(2, |byte| *byte == b'-');
-    let number = |word: &[u8]| decimal(OsStr::from_bytes(word)).and_then(|n| u16::try_from(n).ok());
-    let first = number(ends.next()?)?;
-    let last = ends.next().map_or(Some(first), number)?;
+    let first = decimal(ends.next()?)?;
+    let last = ends.next().map_or(Some(first), decimal)?;
     (first <= last).then_some((first, last))
 }
 
 fn of_range(line: &Line) -> Result<Candidates, Fail> {
-    let job = job(line)?;
+    let job = line.number(Thing::Job)?.unwrap_or(0);
     let word = line.word(Thing::Editions);
     let (first, last) = range(word).ok_or_else(|| line.wrong(Thing::Editions, word))?;
     if last - first >= 64 {
@@ -47,14 +42,13 @@ fn of_range(line: &Line) -> Result<Candidates, Fail> {
     } else {
         format!("opens under none of editions {first} to {last} of job {job}")
     };
-    Ok(Candidates { labels: (first..=last).map(|edition| (job, edition)).collect(), told })
+    Ok(((first..=last).map(|edition| (job, edition)).collect(), told))
 }
 
 /// A line of a list: a job and an edition with one blank between.
 fn candidate(text: &OsStr) -> Option<(u32, u16)> {
     let (job, edition) = keys::split(text.as_bytes())?;
-    let number = |word| decimal(OsStr::from_bytes(word));
-    Some((u32::try_from(number(job)?).ok()?, u16::try_from(number(edition)?).ok()?))
+    Some((decimal(job)?, decimal(edition)?))
 }
 
 fn of_list(line: &Line, word: &OsStr) -> Result<Candidates, Fail> {
@@ -71,7 +65,7 @@ fn of_list(line: &Line, word: &OsStr) -> Result<Candidates, Fail> {
         })?);
     }
     match lines(&list).count() {
-        0..=64 => Ok(Candidates { labels, told: format!("opens under none of the candidates in {name}") }),
+        0..=64 => Ok((labels, format!("opens under none of the candidates in {name}"))),
         count => Err(too_many(line, format!("{name} has {count} lines"))),
     }
 }
@@ -79,23 +73,19 @@ fn of_list(line: &Line, word: &OsStr) -> Result<Candidates, Fail> {
 /// The command: status 0 where a candidate opens, 68 where that is another edition than the one asked for, 65 for none.
 pub fn run(line: &Line) -> Result<u8, Fail> {
     keys::number(line)?;
-    let candidates = match line.value(Thing::Candidates) {
+    let (candidates, told) = match line.value(Thing::Candidates) {
         Some(word) => of_list(line, word)?,
         None => of_range(line)?,
     };
-    let wanted = edition(line)?;
-    let asked = Asked::sealed(line, input(line.word(Thing::In)), Direction::Decrypt, (0, 0))?;
+    let wanted = line.number(Thing::Edition)?;
+    let asked = Asked::read(line, Direction::Decrypt)?;
     let held = asked.key()?;
-    let mut source = Source::open(line.word(Thing::In), "")?;
-    let mut progress = Progress::new(line.start(), source.size(), true);
-    let sealed = source.read(LONGEST_TEXT + 16, &mut progress)?;
-    drop(progress);
-    let labels: Vec<[u8; 6]> = candidates.labels.iter().map(|(job, edition)| label(*job, *edition)).collect();
-    let found =
-        which(&held.key, &sealed, asked.iv(), &labels).map_err(|refusal| asked.refuse(refusal, sealed.len()))?;
-    match found.and_then(|place| candidates.labels.get(place)) {
+    let sealed = asked.data()?;
+    let labels: Vec<[u8; 6]> = candidates.iter().map(|(job, edition)| label(*job, *edition)).collect();
+    let found = which(&held.key, &sealed, &asked.iv, &labels).map_err(|refusal| asked.refuse(refusal, sealed.len()))?;
+    match found.and_then(|place| candidates.get(place)) {
         Some((job, edition)) => found_one(line, *job, *edition, wanted),
-        None => found_none(line, &candidates.told),
+        None => found_none(line, &told),
     }
 }
 
@@ -103,8 +93,7 @@ fn found_one(line: &Line, job: u32, edition: u16, wanted: Option<u16>) -> Result
     let is_wanted = wanted.map_or(true, |wanted| wanted == edition);
     let status = if is_wanted { 0 } else { ANOTHER };
     let more = match (line.says(Thing::Json), wanted) {
-        (true, None) => ",\"asked\":null".to_string(),
-        (true, Some(wanted)) => format!(",\"asked\":{wanted}"),
+        (true, wanted) => format!(",\"asked\":{}", wanted.map_or("null".to_string(), |wanted| wanted.to_string())),
         (false, None) => String::new(),
         (false, Some(_)) if is_wanted => ": the edition you asked for".to_string(),
         (false, Some(wanted)) => format!(": the edition you asked for, {wanted}, is not in this file"),
@@ -116,8 +105,7 @@ fn found_one(line: &Line, job: u32, edition: u16, wanted: Option<u16>) -> Result
 fn found_none(line: &Line, told: &str) -> Result<u8, Fail> {
     let word = line.word(Thing::In);
     if line.says(Thing::Json) {
-        let start = format!("{{\"command\":\"which\",\"file\":{},\"status\":{NONE},\"refusal\":null", json(word));
-        answer(&format!("{start},\"opens\":false}}\n"))?;
+        answer(&line.object(NONE, None, ",\"opens\":false"))?;
         return Ok(NONE);
     }
     let next = "look for another key, another IV or another job, unless the file was changed since";

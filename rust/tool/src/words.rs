@@ -1,37 +1,17 @@
 //! The command line: one table of commands, one of options, and what a line of words says by them.
 
-use crate::say::{shown, Fail, USAGE};
+use crate::say::{json, shown, Fail, USAGE};
 use crate::{message, replay, shelf, which};
+use luossavin::Refusal;
 use std::ffi::{OsStr, OsString};
 use std::os::unix::ffi::OsStrExt;
 
 /// What a word can say.
+#[rustfmt::skip]
 #[derive(Clone, Copy, Debug, PartialEq, Eq)]
 pub enum Thing {
-    Mode,
-    Key,
-    Number,
-    Retired,
-    Iv,
-    IvFile,
-    Job,
-    Edition,
-    Editions,
-    Candidates,
-    Workers,
-    Offset,
-    Decrypt,
-    Keys,
-    Ivs,
-    Wait,
-    Unchecked,
-    Plain,
-    Json,
-    Force,
-    Length,
-    Shelf,
-    In,
-    Out,
+    Mode, Key, Number, Retired, Iv, IvFile, Job, Edition, Editions, Candidates, Workers, Offset, Decrypt, Keys, Ivs, Wait,
+    Unchecked, Plain, Json, Force, Length, Shelf, In, Out,
 }
 
 use Thing::*;
@@ -61,11 +41,11 @@ const OPTIONS: [(Thing, &str, &str); 20] = [
 ];
 
 /// The words that are no options, in the order in which they are said.
-const OTHERS: [(Thing, &str); 4] = [
-    (Length, "LENGTH, a whole number, how many bytes the text has"),
-    (Shelf, "SHELF, the file that is the shelf"),
-    (In, "IN, a file to read, or - for standard input"),
-    (Out, "OUT, a file to write, or - for standard output"),
+const OTHERS: [(Thing, &str, &str); 4] = [
+    (Length, "LENGTH", "a whole number, how many bytes the text has"),
+    (Shelf, "SHELF", "the file that is the shelf"),
+    (In, "IN", "a file to read, or - for standard input"),
+    (Out, "OUT", "a file to write, or - for standard output"),
 ];
 
 /// Things that do not stand beside each other, and what is expected.
@@ -87,9 +67,9 @@ pub struct Command {
 
 #[rustfmt::skip]
 pub const COMMANDS: [Command; 15] = [
-    Command { name: "seal", run: message::seal, may_lack: &[],
+    Command { name: "seal", run: message::encrypt, may_lack: &[],
         takes: &[Key, Number, Retired, Iv, IvFile, Job, Edition, Force, In, Out] },
-    Command { name: "open", run: message::open, may_lack: &[],
+    Command { name: "open", run: message::decrypt, may_lack: &[],
         takes: &[Key, Number, Retired, Iv, IvFile, Job, Edition, In, Out] },
     Command { name: "opens", run: message::opens, may_lack: &[],
         takes: &[Key, Number, Retired, Iv, IvFile, Job, Edition, Json, In] },
@@ -122,12 +102,7 @@ fn option(thing: Thing) -> Option<&'static (Thing, &'static str, &'static str)> 
 
 /// An option's name, or that of a word.
 pub fn name(thing: Thing) -> &'static str {
-    match thing {
-        In => "IN",
-        Out => "OUT",
-        Shelf => "SHELF",
-        _ => option(thing).map_or("LENGTH", |row| row.1),
-    }
+    OPTIONS.iter().chain(&OTHERS).find(|row| row.0 == thing).map_or("", |row| row.1)
 }
 
 /// "--key, --number or --iv"
@@ -171,7 +146,7 @@ impl<'a> Line<'a> {
                 line.read_option(word, &mut words)?;
             } else {
                 let awaited = OTHERS.iter().find(|row| command.takes.contains(&row.0) && !line.says(row.0));
-                let (thing, _) = awaited.ok_or_else(|| line.unexpected("no further word, not", word))?;
+                let (thing, ..) = awaited.ok_or_else(|| line.unexpected("no further word, not", word))?;
                 line.said.push((*thing, word.clone()));
             }
         }
@@ -191,12 +166,8 @@ impl<'a> Line<'a> {
         if self.says(thing) {
             return Err(self.unexpected("only once", word));
         }
-        let clash = |row: &&(&[Thing], &[Thing], &str)| {
-            let says = |things: &[Thing]| things.iter().any(|thing| self.says(*thing));
-            (row.0.contains(&thing) && says(row.1)) || (row.1.contains(&thing) && says(row.0))
-        };
-        if let Some(row) = NOT_BOTH.iter().find(clash) {
-            return Err(self.unexpected(&format!("{}, not both:", row.2), word));
+        if let Some(either) = self.clash(thing) {
+            return Err(self.unexpected(&format!("{either}, not both:"), word));
         }
         let value = match (Command::is_flag(thing), value) {
             (true, _) => OsStr::new(""),
@@ -213,18 +184,19 @@ impl<'a> Line<'a> {
         Ok(())
     }
 
+    /// What is expected where a thing cannot stand beside what has been said.
+    fn clash(&self, thing: Thing) -> Option<&'static str> {
+        let says = |things: &[Thing]| things.iter().any(|thing| self.says(*thing));
+        let is_clash = |row: &&(&[Thing], &[Thing], &str)| {
+            (row.0.contains(&thing) && says(row.1)) || (row.1.contains(&thing) && says(row.0))
+        };
+        NOT_BOTH.iter().find(is_clash).map(|row| row.2)
+    }
+
     /// Whether the command wants a thing that no word has said, nor another in its place.
     fn lacks(&self, thing: Thing) -> bool {
-        let instead = |other: &[Thing]| other.iter().any(|thing| self.says(*thing));
         let is_optional = OPTIONAL.contains(&thing) || self.command.may_lack.contains(&thing);
-        let replaced = match thing {
-            Iv => instead(&[IvFile]),
-            Job | Editions => instead(&[Candidates]),
-            Keys => instead(&[Key, Number]),
-            Key => instead(&[Keys]),
-            _ => false,
-        };
-        !Command::is_flag(thing) && !is_optional && !self.says(thing) && !replaced
+        !(is_optional || Command::is_flag(thing) || self.says(thing) || self.clash(thing).is_some())
     }
 
     pub fn says(&self, thing: Thing) -> bool {
@@ -240,9 +212,9 @@ impl<'a> Line<'a> {
         self.value(thing).unwrap_or_default()
     }
 
-    /// A value in digits that is at most `most`.
-    pub fn number(&self, thing: Thing, most: u64) -> Result<Option<u64>, Fail> {
-        let read = |word| decimal(word).filter(|n| *n <= most).ok_or_else(|| self.wrong(thing, word));
+    /// A value in digits that is not too large for its type.
+    pub fn number<N: TryFrom<u64>>(&self, thing: Thing) -> Result<Option<N>, Fail> {
+        let read = |word: &OsStr| decimal(word.as_bytes()).ok_or_else(|| self.wrong(thing, word));
         self.value(thing).map(read).transpose()
     }
 
@@ -254,6 +226,14 @@ impl<'a> Line<'a> {
     /// "luossavin open: rough.sealed: "
     pub fn about(&self, name: &str) -> String {
         format!("luossavin {}: {name}: ", self.command.name)
+    }
+
+    /// An answer for a program: one object on one line, with these fields and then more.
+    pub fn object(&self, status: u8, refusal: Option<Refusal>, more: &str) -> String {
+        let file = json(self.value(Shelf).unwrap_or_else(|| self.word(In)));
+        let refusal = refusal.map_or("null".to_string(), |refusal| format!("\"{}\"", refusal.name()));
+        let command = self.command.name;
+        format!("{{\"command\":\"{command}\",\"file\":{file},\"status\":{status},\"refusal\":{refusal}{more}}}\n")
     }
 
     /// A fault of the words.
@@ -272,11 +252,9 @@ impl<'a> Line<'a> {
     }
 
     fn expected(&self, thing: Thing) -> String {
-        match (option(thing), OTHERS.iter().find(|row| row.0 == thing)) {
-            (Some((_, name, value)), _) => format!("expected {name} with {value}"),
-            (None, Some((_, other))) => format!("expected {other}"),
-            (None, None) => "expected another word".to_string(),
-        }
+        let other = OTHERS.iter().find(|row| row.0 == thing).map(|row| format!("expected {}, {}", row.1, row.2));
+        let of_option = || option(thing).map(|row| format!("expected {} with {}", row.1, row.2));
+        other.or_else(of_option).unwrap_or_default()
     }
 
     pub fn missing(&self, thing: Thing) -> Fail {
@@ -288,12 +266,11 @@ impl<'a> Line<'a> {
     }
 }
 
-/// A whole number in digits, however many; a number that is too large for us is the largest that there is.
-pub fn decimal(word: &OsStr) -> Option<u64> {
-    let digits = word.as_bytes();
+/// A whole number in digits, however many, where its type holds it; one of 2^64 or more is taken for the largest below.
+pub fn decimal<N: TryFrom<u64>>(digits: &[u8]) -> Option<N> {
     let add = |n: u64, digit: &u8| n.saturating_mul(10).saturating_add(u64::from(digit - b'0'));
     let is_number = !digits.is_empty() && digits.iter().all(u8::is_ascii_digit);
-    is_number.then(|| digits.iter().fold(0, add))
+    is_number.then(|| digits.iter().fold(0, add)).and_then(|n| N::try_from(n).ok())
 }
 
 /// The bytes that hex digits spell, two to a byte.
@@ -342,9 +319,9 @@ mod tests {
 
     #[test]
     fn numbers_and_hex_are_read() {
-        let decimal = |word: &str| super::decimal(OsStr::new(word));
-        assert_eq!((decimal("0012"), decimal(""), decimal("1x"), decimal("-1")), (Some(12), None, None, None));
-        assert_eq!(decimal("99999999999999999999999"), Some(u64::MAX));
+        assert_eq!(["0012", "", "1x", "-1"].map(|word| decimal(word.as_bytes())), [Some(12u64), None, None, None]);
+        assert_eq!(decimal(b"99999999999999999999999"), Some(u64::MAX));
+        assert_eq!((decimal::<u16>(b"65535"), decimal::<u16>(b"65536")), (Some(65535), None));
         assert_eq!(hex(b"00fFa1"), Some(vec![0, 255, 161]));
         assert_eq!((hex(b""), hex(b"0"), hex(b"0g")), (Some(vec![]), None, None));
     }
