@@ -1,10 +1,12 @@
-# Shared by the scripts of this folder; not run by itself. It finds the repository and the archive,
-# makes a temporary folder that is removed at the end, builds libsm and our Rust over it, and
-# compiles C for x86-64, on an x86-64 machine or on an Arm one, or for the machine itself.
+# Shared by the scripts of this folder; not run by itself. It finds the repository and the target that a script is run for, makes a
+# temporary folder that is removed at the end, builds libsm and our Rust over it, and compiles C over the assembly in proved/.
+# shellcheck shell=bash
 
 repository=$(cd "$(dirname "${BASH_SOURCE[0]}")/.." && pwd)
 rust="$repository/host/rust"
 c="$repository/host/c"
+# scripts that run side by side install one at a time
+lock="${TMPDIR:-/tmp}/luossavin-install.lock"
 
 die() {
     echo "$(basename "$0"): $*" >&2
@@ -33,8 +35,11 @@ need() {
     echo "installing $*" >&2
     command -v apt-get >/dev/null || die "no $wanted, and no apt-get to install $* with"
     # where the lists of packages are missing or old, they are fetched once
-    apt-get install -y --no-install-recommends "$@" >"$work/apt.log" 2>&1 ||
-        { apt-get update && apt-get install -y --no-install-recommends "$@"; } >"$work/apt.log" 2>&1 ||
+    (
+        flock 9
+        apt-get install -y --no-install-recommends "$@" ||
+            { apt-get update && apt-get install -y --no-install-recommends "$@"; }
+    ) 9>"$lock" >"$work/apt.log" 2>&1 ||
         { tail -5 "$work/apt.log" >&2; die "could not install $*: see above (root may be needed)"; }
 }
 
@@ -82,117 +87,160 @@ build_rust() {
     "${rustc[@]}" --edition 2021 -O "$@" 2>"$work/rustc.log" || { cat "$work/rustc.log" >&2; die "rustc failed"; }
 }
 
-# A Rust for x86-64: the installed one where it has that standard library, and otherwise on Arm one from Debian's packages.
-find_rust() {
-    local target=x86_64-unknown-linux-gnu
-    if [ "$(uname -m)" = x86_64 ]; then return; fi
-    if ! [ -d "$("${RUSTC:-rustc}" --print sysroot 2>/dev/null)/lib/rustlib/$target" ]; then fetch_rust; fi
-    rustc=("${RUSTC:-rustc}" --target $target -C linker=x86_64-linux-gnu-gcc -C relocation-model=static
-        -L "$work/lib")
-    # the cross libm.a is a script that names a path of another machine
-    mkdir "$work/lib" && ln -s /usr/x86_64-linux-gnu/lib/libm-2.36.a "$work/lib/libm.a"
-}
+# ---- targets
 
-# depended PACKAGE NAME: the package that PACKAGE depends on and whose name begins so.
-depended() {
-    apt-cache depends "$1" | sed -n "s/^ *Depends: \($2[^ ]*\)$/\1/p"
-}
-
-# RUSTC and RUSTDOC, which cargo goes by too: those of Debian, with the standard libraries of both machines, in $work/rust.
-fetch_rust() {
-    local program std llvm
-    (
-        mkdir "$work/rust" && cd "$work/rust"
-        dpkg --add-architecture amd64
-        apt-get update
-        # these two have a version in their names
-        std=$(depended libstd-rust-web-dev libstd-rust-web)
-        llvm=$(depended "$std" libllvm)
-        apt-get download rustc-web libstd-rust-web-dev "$std" "$llvm" libstd-rust-web-dev:amd64
-        for package in ./*.deb; do dpkg -x "$package" .; done
-    ) >"$work/apt.log" 2>&1 || { tail -5 "$work/apt.log" >&2; die "could not fetch a rustc for x86-64"; }
-    for program in rustc rustdoc; do
-        cat >"$work/rust/$program" <<END
-#!/bin/sh
-export LD_LIBRARY_PATH='$work/rust/usr/lib:$work/rust/usr/lib/aarch64-linux-gnu'
-exec '$work/rust/usr/bin/$program' --sysroot '$work/rust/usr' "\$@"
-END
-        chmod +x "$work/rust/$program"
+# take_target WORDS..: takes `--target NAME` off a script's words, which are then `words`, and finds the target: aarch64, x86_64 or
+# x86_64-v3. LUOSSAVIN_TARGET says the same. Without either it is the best one that this machine runs by itself.
+take_target() {
+    target=${LUOSSAVIN_TARGET:-}
+    words=()
+    target_named=no
+    if [ -n "$target" ]; then target_named=yes; fi
+    while [ $# -gt 0 ]; do
+        case $1 in
+        --target)
+            [ $# -gt 1 ] || die "--target takes a name: aarch64, x86_64 or x86_64-v3"
+            target=$2 target_named=yes
+            shift
+            ;;
+        *) words+=("$1") ;;
+        esac
+        shift
     done
-    export RUSTC="$work/rust/rustc" RUSTDOC="$work/rust/rustdoc"
+    find_target
 }
 
-# archive: the static library, built where it is not there yet. LUOSSAVIN_ARCHIVE names another.
-find_archive() {
-    archive=${LUOSSAVIN_ARCHIVE:-$repository/target/staticlib/libluossavin.a}
-    if [ -z "${LUOSSAVIN_ARCHIVE:-}" ] && command -v rt >/dev/null; then
-        (cd "$repository" && rt staticlib luossavin >"$work/rt.log" 2>&1) ||
-            { tail -5 "$work/rt.log" >&2; die "rt staticlib luossavin failed"; }
-    fi
-    [ -r "$archive" ] || die "no archive at '$archive': run 'rt staticlib luossavin' first"
+# The variant that the target is, as host/c/variant.c counts them; the sources of the library; and what the machine is.
+find_target() {
+    machine=$(uname -m)
+    [ -n "${target:-}" ] || target=$(best_target)
+    case $target in
+    aarch64) architecture=aarch64 variant=3 library=("$repository/proved/aarch64.s") ;;
+    x86_64 | x86_64-v3)
+        architecture=x86_64 variant=1
+        if [ "$target" = x86_64-v3 ]; then variant=2; fi
+        library=("$repository"/proved/x86_64{,-v3}.s "$repository/lib/choose-x86_64.s")
+        ;;
+    *) die "no target '$target': it is aarch64, x86_64 or x86_64-v3" ;;
+    esac
+    # what the processor has chooses the variant; only where a better one is there must the plain one be asked for
+    unset LUOSSAVIN_VARIANT
+    if [ "$target" = x86_64 ] && is_native; then export LUOSSAVIN_VARIANT=x86_64; fi
 }
 
-# The C compiler of this machine, whose programs nothing else runs.
-find_own_compiler() {
-    need gcc gcc libc6-dev
-    compiler=(gcc)
-    runner=()
+best_target() {
+    case $(uname -m) in
+    aarch64) echo aarch64 ;;
+    x86_64) if has_v3; then echo x86_64-v3; else echo x86_64; fi ;;
+    *) die "the library is there for x86-64 and aarch64: this machine is $(uname -m)" ;;
+    esac
 }
 
-# The C compiler for x86-64, and what runs its programs.
+# Whether this machine is an x86-64-v3, by what Linux says that it has.
+has_v3() {
+    local flags flag
+    flags=$(sed -n 's/^flags[^:]*: //p' /proc/cpuinfo | head -1)
+    for flag in avx avx2 bmi1 bmi2 f16c fma movbe abm xsave; do
+        [[ " $flags " == *" $flag "* ]] || return 1
+    done
+}
+
+# Whether this machine runs the target by itself.
+is_native() {
+    [ "$machine" = "$architecture" ] && { [ "$target" != x86_64-v3 ] || has_v3; }
+}
+
+# What emulates the target's machine, wherever it runs.
+find_emulator() {
+    need "qemu-$architecture" qemu-user
+    case $target in
+    aarch64) emulator=(qemu-aarch64) ;;
+    x86_64) emulator=(qemu-x86_64 -cpu qemu64) ;;
+    # its vector instructions that the emulator has from 7.2 on
+    x86_64-v3) emulator=(qemu-x86_64 -cpu max) ;;
+    esac
+}
+
+# The C compiler and the binary tools for the target, and what runs its programs.
 find_compiler() {
-    case $(uname -m) in
-    x86_64) find_own_compiler ;;
-    aarch64)
-        need x86_64-linux-gnu-gcc gcc-x86-64-linux-gnu libc6-dev-amd64-cross
-        need qemu-x86_64 qemu-user
-        compiler=(x86_64-linux-gnu-gcc)
-        runner=(qemu-x86_64 -cpu qemu64)
-        ;;
-    *) die "the archive is for x86-64: this machine is $(uname -m)" ;;
-    esac
+    if [ -z "${architecture:-}" ]; then find_target; fi
+    prefix=''
+    if [ "$machine" = "$architecture" ]; then
+        need gcc gcc libc6-dev
+    elif [ "$architecture" = x86_64 ]; then
+        prefix=x86_64-linux-gnu-
+        need "${prefix}gcc" gcc-x86-64-linux-gnu libc6-dev-amd64-cross
+    else
+        prefix=aarch64-linux-gnu-
+        need "${prefix}gcc" gcc-aarch64-linux-gnu libc6-dev-arm64-cross
+    fi
+    compiler=("${prefix}gcc")
+    runner=()
+    if ! is_native; then
+        find_emulator
+        runner=("${emulator[@]}")
+    fi
 }
 
-# The peers' headers and static libraries, for this machine.
-find_own_peers() {
-    need /usr/include/gcrypt.h libgcrypt20-dev
-    need /usr/include/openssl/evp.h libssl-dev
-    peers=()
+# how_it_runs: in words.
+how_it_runs() {
+    if is_native; then
+        echo "natively on this machine${LUOSSAVIN_VARIANT:+, with LUOSSAVIN_VARIANT=$LUOSSAVIN_VARIANT}"
+    else
+        echo "under ${emulator[*]} $("${emulator[0]}" --version | sed -n '1s/.*version \([0-9.]*\).*/\1/p'), not natively"
+    fi
 }
 
-# The peers' headers and static libraries, for x86-64.
+# Says what is run, and how: the first line of every script's output.
+say_target() {
+    echo "target $target, run $(how_it_runs)"
+}
+
+# fetch ARCHITECTURE FOLDER PACKAGE..: unpacks Debian's packages for another architecture (its name for it) below FOLDER.
+fetch() {
+    local debian=$1 folder=$2
+    shift 2
+    mkdir -p "$folder"
+    (
+        set -- "${@/%/:$debian}"
+        # where the lists of packages are missing or old, they are fetched once
+        flock 9 && cd "$folder" && dpkg --add-architecture "$debian" &&
+            { apt-get download "$@" || { apt-get update && apt-get download "$@"; }; } || exit
+        for package in ./*.deb; do dpkg -x "$package" . && rm "$package" || exit; done
+    ) 9>"$lock" >"$work/apt.log" 2>&1 || { tail -5 "$work/apt.log" >&2; die "could not fetch $* for $debian"; }
+}
+
+# Debian's name for the target's architecture.
+debian_name() {
+    if [ "$architecture" = x86_64 ]; then echo amd64; else echo arm64; fi
+}
+
+# The peers' headers and static libraries, for the target.
 find_peers() {
-    case $(uname -m) in
-    x86_64) find_own_peers ;;
-    aarch64)
-        (
-            cd "$work"
-            dpkg --add-architecture amd64
-            apt-get update
-            apt-get download libgcrypt20-dev:amd64 libgpg-error-dev:amd64 libssl-dev:amd64
-            for package in ./*.deb; do dpkg -x "$package" peers; done
-        ) >"$work/apt.log" 2>&1 || { tail -5 "$work/apt.log" >&2; die "could not fetch the peers for x86-64"; }
-        peers=(-I"$work/peers/usr/include" -I"$work/peers/usr/include/x86_64-linux-gnu"
-            -L"$work/peers/usr/lib/x86_64-linux-gnu")
-        ;;
-    esac
+    local folder="$work/peers"
+    if [ "$machine" = "$architecture" ]; then
+        need /usr/include/gcrypt.h libgcrypt20-dev
+        need /usr/include/openssl/evp.h libssl-dev
+        peers=()
+        return
+    fi
+    fetch "$(debian_name)" "$folder" libgcrypt20-dev libgpg-error-dev libssl-dev
+    peers=(-I"$folder/usr/include" -I"$folder/usr/include/$architecture-linux-gnu" -L"$folder/usr/lib/$architecture-linux-gnu")
 }
 
-# compile WORDS..: a static program, which needs nothing of x86-64 on the machine that runs it.
+# What a program with peers in it is linked with, last.
+peer_libraries=(-l:libgcrypt.a -l:libgpg-error.a -l:libcrypto.a)
+
+# compile WORDS..: a program over the library, which is linked in whole and so needs nothing of the target on the machine that runs it. It
+# stops before its first line where another variant was chosen than the target's.
 compile() {
     compile_shared -static -no-pie "$@"
 }
 
 # compile_shared WORDS..: one that uses the machine's own C library.
 compile_shared() {
-    "${compiler[@]}" -std=c11 -O2 -g -Wall -Wextra -I"$repository/include" -I"$c" "$@" 2>"$work/cc.log" ||
-        { cat "$work/cc.log" >&2; die "the C compiler failed"; }
-}
-
-# compile_smoke: the smoke test over the archive, as $work/smoke.
-compile_smoke() {
-    compile "$c"/smoke*.c "$c/calls.c" "$c/rules.c" "$c/shelf_model.c" "$c/journal_model.c" "$c/wrap.c" \
-        "$c/hash_model.c" "$c/random.c" "$archive" -o "$work/smoke"
+    "${compiler[@]}" -std=c11 -O2 -g -Wall -Wextra -I"$repository/include" -I"$c" -DEXPECTED_VARIANT="$variant" "$c/variant.c" "${library[@]}" \
+        "$@" 2>"$work/cc.log" || { cat "$work/cc.log" >&2; die "the C compiler failed"; }
 }
 
 run() {
@@ -202,34 +250,50 @@ run() {
 # build_plugin NAME: a plugin of qemu-user, as $work/NAME.so.
 build_plugin() {
     local version=1
-    need qemu-x86_64 qemu-user
+    find_emulator
     # from qemu 9 on the interface is version 2 or later
-    if [ "$(qemu-x86_64 --version | sed -n '1s/.*version \([0-9]*\).*/\1/p')" -ge 9 ]; then version=2; fi
+    if [ "$("${emulator[0]}" --version | sed -n '1s/.*version \([0-9]*\).*/\1/p')" -ge 9 ]; then version=2; fi
     need gcc gcc libc6-dev
     gcc -O2 -Wall -Wextra -shared -fPIC -DPLUGIN_VERSION=$version "$c/$1.c" -o "$work/$1.so" ||
         die "could not build the plugin"
 }
 
-# Valgrind's memcheck for programs of x86-64, and where its header is. On Arm it is Debian's for x86-64, which the emulator runs.
-find_memcheck() {
-    case $(uname -m) in
-    x86_64)
-        need valgrind valgrind
-        need /usr/include/valgrind/memcheck.h valgrind
-        memcheck=(valgrind)
-        memcheck_header=()
-        ;;
-    aarch64)
-        (
-            mkdir "$work/memcheck" && cd "$work/memcheck"
-            dpkg --add-architecture amd64
-            apt-get update
-            apt-get download valgrind:amd64
-            dpkg -x ./*.deb .
-        ) >"$work/apt.log" 2>&1 || { tail -5 "$work/apt.log" >&2; die "could not fetch valgrind for x86-64"; }
-        export VALGRIND_LIB="$work/memcheck/usr/libexec/valgrind" VALGRIND_LAUNCHER="$work/memcheck/usr/bin/valgrind"
-        memcheck=("${runner[@]}" "$VALGRIND_LIB/memcheck-amd64-linux")
-        memcheck_header=(-I"$work/memcheck/usr/include")
-        ;;
-    esac
+# ---- Rust for another machine
+
+# A Rust for the target: the installed one on the machine itself or where it has that standard library, and otherwise one from Debian's
+# packages.
+find_rust() {
+    local triple=$architecture-unknown-linux-gnu
+    if [ "$machine" = "$architecture" ]; then return; fi
+    if ! [ -d "$("${RUSTC:-rustc}" --print sysroot 2>/dev/null)/lib/rustlib/$triple" ]; then fetch_rust; fi
+    rustc=("${RUSTC:-rustc}" --target "$triple" -C "linker=${compiler[0]}" -C relocation-model=static
+        -L "$work/lib")
+    # the cross libm.a is a script that names a path of another machine
+    mkdir -p "$work/lib" && ln -sf "/usr/$architecture-linux-gnu/lib/libm-2.36.a" "$work/lib/libm.a"
+}
+
+# depended PACKAGE NAME: the package that PACKAGE depends on and whose name begins so.
+depended() {
+    apt-cache depends "$1" | sed -n "s/^ *Depends: \($2[^ ]*\)$/\1/p"
+}
+
+# RUSTC and RUSTDOC, which cargo goes by too: those of Debian, with the standard libraries of both machines, in $work/rust.
+fetch_rust() {
+    local program std llvm own
+    own=$(dpkg --print-architecture)
+    apt-cache show libstd-rust-web-dev >/dev/null 2>&1 || apt-get update >"$work/apt.log" 2>&1 || die "could not fetch the lists of packages"
+    # these two have a version in their names
+    std=$(depended libstd-rust-web-dev libstd-rust-web)
+    llvm=$(depended "$std" libllvm)
+    fetch "$own" "$work/rust" rustc-web libstd-rust-web-dev "$std" "$llvm"
+    fetch "$(debian_name)" "$work/rust" libstd-rust-web-dev
+    for program in rustc rustdoc; do
+        cat >"$work/rust/$program" <<END
+#!/bin/sh
+export LD_LIBRARY_PATH='$work/rust/usr/lib:$work/rust/usr/lib/$machine-linux-gnu'
+exec '$work/rust/usr/bin/$program' --sysroot '$work/rust/usr' "\$@"
+END
+        chmod +x "$work/rust/$program"
+    done
+    export RUSTC="$work/rust/rustc" RUSTDOC="$work/rust/rustdoc"
 }

@@ -1,7 +1,8 @@
 /* Luossavin: SM4 (GB/T 32907-2016) with Cfb, Ofb, Ctr, Cbc and Gcm, over buffers that the caller lends.
  *
- * Link with libluossavin.a. The library keeps nothing between calls, allocates nothing, reads and
- * writes only the buffers of the call, and every call returns.
+ * Link with libluossavin.a or libluossavin.so, which `make` builds for x86-64 and aarch64 Linux. The library keeps nothing
+ * between calls (but which of its two variants it takes on x86-64), allocates nothing, reads and writes only the buffers of the
+ * call, and every call returns.
  *
  * A key is set up once, with a number of its own, into a record that every other call takes by value:
  *

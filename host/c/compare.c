@@ -1,12 +1,12 @@
-/* Holds the archive, libgcrypt and OpenSSL to recorded answers of libsm. Where docs/DIFFERENCES.md lists another
- * answer, both sides are held to just that. Where libsm refuses a 12-byte IV in Gcm, the archive is held to
- * libgcrypt instead; where a Cbc padding is not borne out, libsm is to go by its last byte, and the archive to refuse
- * it. The archive is also held to OpenSSL's own check of the padding (compare_padding.c).
+/* Holds the library, libgcrypt and OpenSSL to recorded answers of libsm. Where docs/DIFFERENCES.md lists another
+ * answer, both sides are held to just that. Where libsm refuses a 12-byte IV in Gcm, the library is held to
+ * libgcrypt instead; where a Cbc padding is not borne out, libsm is to go by its last byte, and the library to refuse
+ * it. The library is also held to OpenSSL's own check of the padding (compare_padding.c).
  *
  *   compare < LIST
  *
- * The archive makes each call under the key with number 1. Every third call it makes once more with the key
- * retired, under another number: decryption must then be what it was, and encryption the refusal that the rules
+ * The library makes each call under the key with number 1, on each of the three engines. Every third call it makes once more with the
+ * key retired, under another number: decryption must then be what it was, and encryption the refusal that the rules
  * (rules.c) say. They also say whether a counter came round, of which libsm has no report. Prints, for each of the
  * three, how many records were compared and how many differ; the same of paddings; how many had a 12-byte IV in Gcm;
  * what came of those that were retired; in how many answers a counter came round; and the smallest record that
@@ -18,6 +18,7 @@
 
 #include "calls.h"
 #include "peers.h"
+#include "variant.h"
 #include "wrap.h"
 
 #include <stdio.h>
@@ -28,7 +29,7 @@ enum { LENT = 0xa5, SLACK = 40 };
 
 struct tally tally[SIDES];
 
-/* Of the records with a 12-byte IV in Gcm, how many the archive is to seal, to open and to refuse. */
+/* Of the records with a 12-byte IV in Gcm, how many the library is to seal, to open and to refuse. */
 static struct {
     unsigned long sealed, opened, refused;
 } twelve;
@@ -39,10 +40,14 @@ static struct {
     unsigned long stopped, decrypted, refused;
 } again;
 
-/* In how many answers of the archive a counter came round; libsm has no such report. */
+/* In how many answers of the library a counter came round; libsm has no such report. */
 static unsigned long came_round;
 
-/* The number that the archive must answer: that of libsm's name, or, of the inputs that
+/* How many engines there are; from how many bytes on the engine of gates does many blocks at once; and how many records have so many. */
+enum { ENGINES = 3, BATCH = 288 };
+static unsigned long batches;
+
+/* The number that the library must answer: that of libsm's name, or, of the inputs that
  * docs/DIFFERENCES.md lists, what is said there. */
 static uint32_t number_for(const struct record *r)
 {
@@ -93,7 +98,7 @@ static int is_as_recorded(const struct record *r, const struct whole *w, struct 
     }
 }
 
-/* Whether a record has an IV that libsm refuses and the archive takes. */
+/* Whether a record has an IV that libsm refuses and the library takes. */
 static int has_twelve(const struct record *r)
 {
     return r->mode == GCM && r->iv.length == 12;
@@ -211,31 +216,38 @@ static uint32_t compare_under(const struct record *r, struct luossavin_key key, 
         differs(ARCHIVE, "the rules", r, "what they say is not what is recorded", got);
     } else if (!same_key(&key, &due_key)) {
         snprintf(what, sizeof what, "its key's record is %u, %u, %u", key.answer, key.number, key.retired);
-        differs(ARCHIVE, "the archive", r, what, got);
+        differs(ARCHIVE, "the library", r, what, got);
     } else if (difference(a, due) != NULL) {
         snprintf(what, sizeof what, "number %u, missing %u, key %u, length %zu, round %u, expected %u, %u, %u, %zu, %u",
             a.number, a.missing, a.key, a.length, a.came_round, due.number, due.missing, due.key, due.length,
             due.came_round);
-        differs(ARCHIVE, "the archive", r, what, got);
+        differs(ARCHIVE, "the library", r, what, got);
     } else if (memcmp(out, r->output.bytes, due.length) != 0) {
-        differs(ARCHIVE, "the archive", r, "the output is another", got);
+        differs(ARCHIVE, "the library", r, "the output is another", got);
     } else if (!is_filled(out + due.length, w.room + SLACK - due.length)) {
-        differs(ARCHIVE, "the archive", r, "a byte past the length is written", got);
+        differs(ARCHIVE, "the library", r, "a byte past the length is written", got);
     }
     came_round += due.came_round;
     return due.number;
 }
 
-/* Once under the key; every third time then under the key retired. */
+/* Under the key, on each engine; every third time then under the key retired, on one of them in turn. */
 static void compare_archive(const struct record *r, uint32_t index)
 {
     /* the least room and more than that, by turns; what lies past the room must stay as it is too */
     size_t slack = index % 2 ? SLACK / 2 : 0;
     uint32_t number = 1 + index % 65535;
+    struct luossavin_key key = luossavin_key_new(r->key.bytes, r->key.length, 1);
     tally[ARCHIVE].compared++;
-    compare_under(r, luossavin_key_new(r->key.bytes, r->key.length, 1), set_up(r->key.length, 1), slack);
+    for (uint32_t engine = 0; engine < ENGINES; engine++) {
+        compare_under(r, luossavin_key_engine(key, engine), set_up(r->key.length, 1), slack);
+    }
+    if (r->data.length >= BATCH) {
+        batches++;
+    }
     if (index % 3 == 2) {
         struct luossavin_key old = luossavin_key_retire(luossavin_key_new(r->key.bytes, r->key.length, number));
+        old = luossavin_key_engine(old, index / 3 % ENGINES);
         uint32_t answer = compare_under(r, old, retired(set_up(r->key.length, number)), slack);
         *(answer == 14 ? &again.stopped : answer == 0 ? &again.decrypted : &again.refused) += 1;
     }
@@ -320,17 +332,18 @@ int main(void)
             compare_peer(PEERS + p, &peers[p], &r);
         }
     }
-    printf("  the archive: %lu compared %lu differ\n", tally[ARCHIVE].compared, tally[ARCHIVE].differ);
+    printf("  the library, %s, on each of the three engines: %lu compared %lu differ; %lu of them of 288 bytes and more\n", variant_name(),
+        tally[ARCHIVE].compared, tally[ARCHIVE].differ, batches);
     for (int p = 0; p < 2; p++) {
         printf("  %s %s: %lu compared %lu differ\n", peers[p].name, peers[p].version(), tally[PEERS + p].compared,
             tally[PEERS + p].differ);
     }
     print_paddings();
-    printf("  12-byte IVs, the archive against libgcrypt: %lu of those, %lu sealed %lu opened %lu refused\n",
+    printf("  12-byte IVs, the library against libgcrypt: %lu of those, %lu sealed %lu opened %lu refused\n",
         twelve.sealed + twelve.opened + twelve.refused, twelve.sealed, twelve.opened, twelve.refused);
     printf("  asked again with the key retired: %lu of those, %lu not encrypted %lu decrypted %lu refused as before\n",
         again.stopped + again.decrypted + again.refused, again.stopped, again.decrypted, again.refused);
-    printf("  a counter came round in %lu answers of the archive\n", came_round);
+    printf("  a counter came round in %lu answers of the library\n", came_round);
     for (int side = 0; side < SIDES; side++) {
         differ += tally[side].differ;
     }

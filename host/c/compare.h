@@ -4,7 +4,7 @@
 
 #include "records.h"
 
-/* Who is compared: the archive, two peers, and the archive with OpenSSL's check of the padding. */
+/* Who is compared: the library, two peers, and the library with OpenSSL's check of the padding. */
 enum { ARCHIVE, PEERS = 1, PADDING = 3, SIDES };
 
 struct tally {
@@ -27,7 +27,7 @@ uint8_t *buffer(int which, size_t count);
 /* The last block as libgcrypt decrypts it; zeros where nothing is to be decrypted in Cbc. */
 void last_block(const struct record *r, uint8_t last[16]);
 
-/* Holds the archive and OpenSSL's own check of the padding to each other, where there is a padding to check. */
+/* Holds the library and OpenSSL's own check of the padding to each other, where there is a padding to check. */
 void compare_padding(const struct record *r);
 
 /* Prints what came of that. */

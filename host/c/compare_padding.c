@@ -1,6 +1,6 @@
-/* Cbc's padding, of which libsm looks at the last byte and the archive at all. The last block, by which the rules
- * say what is due, is libgcrypt's. OpenSSL checks paddings itself: it must decrypt exactly where the archive is
- * done, to the same bytes, and refuse exactly where the archive answers 3 or 15. */
+/* Cbc's padding, of which libsm looks at the last byte and the library at all. The last block, by which the rules
+ * say what is due, is libgcrypt's. OpenSSL checks paddings itself: it must decrypt exactly where the library is
+ * done, to the same bytes, and refuse exactly where the library answers 3 or 15. */
 #include "compare.h"
 #include "peers.h"
 
@@ -8,7 +8,7 @@
 #include <stdlib.h>
 #include <string.h>
 
-/* Of the records compared, how many the archive opens and how many it refuses with 3; and with 15, by the count that
+/* Of the records compared, how many the library opens and how many it refuses with 3; and with 15, by the count that
  * the last byte names. */
 static unsigned long opened, named_none, not_borne_out[17];
 
@@ -44,7 +44,7 @@ static void count(const struct record *r, uint32_t number)
     not_borne_out[last[15] <= 16 ? last[15] : 0] += number == 15;
 }
 
-/* Whether OpenSSL's verdict is the archive's answer; both have written their text. */
+/* Whether OpenSSL's verdict is the library's answer; both have written their text. */
 static int agree(struct luossavin_answer a, const uint8_t *out, enum verdict verdict, struct field theirs)
 {
     if (verdict == DONE) {
@@ -61,14 +61,16 @@ void compare_padding(const struct record *r)
     }
     uint8_t *out = buffer(GOT, n + 16), *beside = buffer(BESIDE, n + 16);
     struct field theirs = {beside, 0};
-    struct luossavin_answer a = luossavin_decrypt(CBC, luossavin_key_new(r->key.bytes, r->key.length, 1), NULL, 0,
-        r->data.bytes, n, r->iv.bytes, r->iv.length, out, n);
+    struct luossavin_key key = luossavin_key_new(r->key.bytes, r->key.length, 1);
+    /* on the engines in turn */
+    struct luossavin_answer a = luossavin_decrypt(CBC, luossavin_key_engine(key, tally[PADDING].compared % 3), NULL, 0, r->data.bytes, n,
+        r->iv.bytes, r->iv.length, out, n);
     enum verdict verdict = openssl_unpadded(r->key.bytes, r->iv, r->data, beside, &theirs.length);
     tally[PADDING].compared++;
     count(r, a.number);
     if (!agree(a, out, verdict, theirs)) {
         char what[120];
-        snprintf(what, sizeof what, "it %s, and the archive answers %u with length %zu",
+        snprintf(what, sizeof what, "it %s, and the library answers %u with length %zu",
             verdict == DONE ? "decrypts" : verdict == BAD_PADDING ? "refuses" : "reports an error", a.number, a.length);
         differs(PADDING, "OpenSSL's check of the padding", r, what, theirs);
     }
@@ -80,7 +82,7 @@ void print_paddings(void)
     for (int i = 2; i <= 16; i++) {
         all += not_borne_out[i];
     }
-    printf("  OpenSSL's check of the padding, against the archive: %lu compared %lu differ, ", tally[PADDING].compared,
+    printf("  OpenSSL's check of the padding, against the library: %lu compared %lu differ, ", tally[PADDING].compared,
         tally[PADDING].differ);
     printf("%lu opened %lu refused with 3 %lu with 15\n", opened, named_none, all);
     printf("  refused with 15, where libsm goes by the last byte, by that byte:");

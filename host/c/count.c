@@ -3,7 +3,7 @@
  *   gcc -O2 -shared -fPIC -DPLUGIN_VERSION=1 count.c -o count.so
  *   qemu-x86_64 -cpu qemu64 -plugin ./count.so,to=FILE PROGRAM ..       writes the counts to FILE
  *
- * The counts are of all instructions, of the ands, ors and exclusive ors on sixteen bytes at once, and of those on
+ * The counts are of all instructions, of the ands, ors and exclusive ors on sixteen bytes or more at once, and of those on
  * fewer. The emulator cuts a program into straight pieces and runs them over and over. Each piece is asked for
  * its counts once, when it is translated, and these are added whenever it runs. Debian has no header for
  * the interface, so the part of it that is used is declared here; it is the same in versions 1 and 2.
@@ -49,12 +49,32 @@ static void runs(unsigned cpu, void *piece)
     all.narrow += c->narrow;
 }
 
+/* AVX's, which have the prefix c5 and a byte, or c4 and two: the same eight; and andn, on words. */
+static void count_vex(const uint8_t *b, size_t n, struct counts *c)
+{
+    size_t at = b[0] == 0xc5 ? 2 : 3;
+    unsigned map = b[0] == 0xc5 ? 1 : b[1] & 0x1f;
+    if (n <= at) {
+        return;
+    }
+    uint8_t next = b[at];
+    if (map == 1) {
+        c->wide += (next >= 0x54 && next <= 0x57) || next == 0xdb || next == 0xdf || next == 0xeb || next == 0xef;
+    } else if (map == 2) {
+        c->narrow += next == 0xf2;
+    }
+}
+
 /* An instruction by its bytes: behind the prefixes 66 and 40 to 4f, SSE's pand, pandn, por, pxor and their like for floats are
  * 0f and one of eight; ands, ors and exclusive ors are 08 to 0d, 20 to 25 and 30 to 35, or 80 to 83 with the word in the next
  * byte. A register that is xored with itself is 0, and nothing of the kind. */
 static void count_logical(const uint8_t *b, size_t n, struct counts *c)
 {
     size_t i = 0;
+    if (n > 2 && (b[0] == 0xc4 || b[0] == 0xc5)) {
+        count_vex(b, n, c);
+        return;
+    }
     while (i + 2 < n && (b[i] == 0x66 || b[i] >> 4 == 4)) {
         i++;
     }

@@ -12,6 +12,7 @@
 #include "faults.h"
 
 #include "calls.h"
+#include "variant.h"
 #include "wrap.h"
 
 #include <signal.h>
@@ -475,7 +476,7 @@ int main(int argc, char **argv)
         fence_after = 0;
         all(1);
     }
-    printf("%lu calls, %lu wrong; in %lu a counter comes round\n", calls, wrong, came_round);
+    printf("%lu calls, %lu wrong, on %s; in %lu a counter comes round\n", calls, wrong, variant_name(), came_round);
     printf("by number:");
     for (int number = 0; number < NUMBERS; number++) {
         printf(" %d: %lu%s", number, calls_for[number], number == NUMBERS - 1 ? "\n" : ",");

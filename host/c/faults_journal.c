@@ -1,13 +1,18 @@
 /* Journals, with bad input: cuts, bytes that are others, lengths, rooms, parts at their limits, keys of every kind and
  * of any count, and some that are drawn; the journal is lent as in faults.c, to be read alone. What the header says is
- * in journal_model.c. */
+ * in journal_model.c. And one of more than 4 GiB, whose report is written down here. */
+#define _GNU_SOURCE
+
 #include "faults.h"
 
 #include "journal_model.h"
 #include "random.h"
 
 #include <stdio.h>
+#include <stdlib.h>
 #include <string.h>
+#include <sys/mman.h>
+#include <unistd.h>
 
 /* The keys of the replay that runs, the bytes that the next journal is lent with, and how many these are. */
 static struct luossavin_keys ring;
@@ -181,6 +186,56 @@ static void drawn(void)
     }
 }
 
+/* One of more than 4 GiB: a megabyte of records, over and over, which each have 16 KiB. Behind them one differs, and
+ * then one has no direction. */
+enum { MIB = 1 << 20, MIBS = 4200, EACH = 16384 };
+
+static uint8_t *map(uint8_t *at, size_t length, int flags, int from)
+{
+    uint8_t *pages = mmap(at, length, PROT_READ | PROT_WRITE, flags, from, 0);
+    if (pages == MAP_FAILED) {
+        perror("a long journal");
+        exit(2);
+    }
+    return pages;
+}
+
+static uint8_t *map_long(void)
+{
+    size_t all = (size_t)MIBS * MIB;
+    uint8_t *pages = map(NULL, all, MAP_PRIVATE | MAP_ANONYMOUS | MAP_NORESERVE, -1);
+    int megabyte = memfd_create("journal", 0);
+    struct entry e = {.direction = ENCRYPT, .mode = 200, .key = 1, .data = {parts, EACH - BARE}, .number = 7};
+    size = write_entry(&e, before);
+    for (size_t at = 0; at < MIB; at += EACH) {
+        if (megabyte < 0 || size != EACH || write(megabyte, before, EACH) != EACH) {
+            perror("a long journal");
+            exit(2);
+        }
+    }
+    for (size_t at = 0; at < all; at += MIB) {
+        map(pages + at, MIB, MAP_PRIVATE | MAP_FIXED, megabyte);
+    }
+    close(megabyte);
+    return pages;
+}
+
+static void over_4_gib(void)
+{
+    uint8_t *pages = map_long(), *last = pages + (size_t)(MIBS - 1) * MIB;
+    uint64_t in_front = (uint64_t)(MIBS - 1) * (MIB / EACH), records = in_front + 20;
+    struct luossavin_replayed got, due = {.number = 23, .differs = 1, .place = records * EACH,
+        .first_record = in_front + 10, .first_place = (in_front + 10) * EACH, .records = records,
+        .by_mode = {[5] = records}, .by_answer = {[7] = records}, .bytes_in = records * (EACH - BARE)};
+    give_keys(1);
+    /* its number stands before the length of an output that is empty */
+    last[11 * EACH - 4 - 1] = 8;
+    last[20 * EACH + 2] = 2;
+    got = luossavin_replay(ring, pages, (size_t)MIBS * MIB);
+    judged(due.number, difference_replayed(&got, &due));
+    munmap(pages, (size_t)MIBS * MIB);
+}
+
 void journals(int with_limits)
 {
     print_now = print_trial;
@@ -191,5 +246,9 @@ void journals(int with_limits)
     drawn();
     if (with_limits) {
         limits();
+    }
+    /* its pages are its own: no need of it for either side of the fence */
+    if (with_limits && fence_after) {
+        over_4_gib();
     }
 }

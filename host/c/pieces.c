@@ -20,6 +20,7 @@
 #include "calls.h"
 #include "peers.h"
 #include "random.h"
+#include "variant.h"
 #include "wrap.h"
 
 #include <stdio.h>
@@ -146,7 +147,7 @@ static void choose_iv(void)
     came_round += m.round[0] || m.round[1];
 }
 
-/* What libgcrypt makes of `data`, in `out`, against the archive's `ours`. */
+/* What libgcrypt makes of `data`, in `out`, against the library's `ours`. */
 static void hold_peer(int mode, struct field data, const uint8_t *ours, size_t length)
 {
     const struct field iv = {m.iv, m.iv_len}, label = {m.label, m.label_len};
@@ -474,6 +475,6 @@ int main(int argc, char **argv)
         printf("  cut %lu times, %lu of them under a retired key; %lu ends say that a counter came round\n", runs,
             retired_runs, ends_round);
     }
-    printf("  %lu calls, %lu wrong\n", calls, wrong);
+    printf("  %lu calls, %lu wrong, on %s\n", calls, wrong, variant_name());
     return wrong != 0;
 }

@@ -1,4 +1,4 @@
-/* The archive called from C: the answer's layout, every mode there and back, Gcm under both lengths of IV,
+/* The library called from C: the answer's layout, every mode there and back, Gcm under both lengths of IV,
  * each refusal, what comes first where two things are wrong, and no byte written that is not part of a
  * result; Cbc's padding (smoke_padding.c); the same of keys, retired or not (smoke_keys.c), of messages in pieces
  * (smoke_pieces.c), and of which label a file opens under (smoke_which.c); counters that come round
@@ -8,6 +8,8 @@
  * status 1 if anything is.
  */
 #include "smoke.h"
+
+#include "variant.h"
 
 #include <stddef.h>
 #include <stdio.h>
@@ -338,6 +340,6 @@ int main(void)
     engines();
     long_messages();
     stack();
-    printf("%u checked, %u wrong\n", checked, wrong);
+    printf("%u checked, %u wrong, on %s\n", checked, wrong, variant_name());
     return wrong != 0;
 }

@@ -1,8 +1,8 @@
 /* Journals: the layouts; one that is written down byte for byte, with RFC 8998's vector in it; every mode both ways and
  * every answer; rooms, modes, directions and marks; each set of records that differ; every byte another; every cut;
  * lengths, and parts at their limits; numbers of keys, and what keys may be; every refusal with every later one there
- * as well; journals that are joined, that are drawn, in order and damaged, and one of more than 4 GiB. All but the one
- * that is written down and the last are held to journal_model.c, and most to what the test knows besides. */
+ * as well; journals that are joined, and that are drawn, in order and damaged. All but the one that is written down are
+ * held to journal_model.c, and most to what the test knows besides. */
 #define _GNU_SOURCE
 
 #include "smoke.h"
@@ -14,10 +14,9 @@
 #include <stdio.h>
 #include <stdlib.h>
 #include <string.h>
-#include <sys/mman.h>
 #include <unistd.h>
 
-/* The most bytes of a journal but the last, and the seconds after which the call that runs is taken not to end. */
+/* The most bytes of a journal, and the seconds after which the call that runs is taken not to end. */
 enum { LONGEST = 1 << 20, PATIENCE = 200 };
 
 static void layout(void)
@@ -834,58 +833,6 @@ static void drawn(void)
         && differ > 99, "every answer", "journals that are drawn", answers[24]);
 }
 
-/* One of more than 4 GiB: a megabyte of records, over and over, which each have 16 KiB. Behind them one differs, and
- * then one has no direction. */
-enum { MIB = 1 << 20, MIBS = 4200, EACH = 16384 };
-
-static uint8_t *map(uint8_t *at, size_t length, int flags, int from)
-{
-    uint8_t *pages = mmap(at, length, PROT_READ | PROT_WRITE, flags, from, 0);
-    if (pages == MAP_FAILED) {
-        perror("a long journal");
-        exit(2);
-    }
-    return pages;
-}
-
-static uint8_t *map_long(void)
-{
-    size_t all = (size_t)MIBS * MIB;
-    uint8_t *pages = map(NULL, all, MAP_PRIVATE | MAP_ANONYMOUS | MAP_NORESERVE, -1);
-    int megabyte = memfd_create("journal", 0);
-    struct entry e = long_call(0, EACH - BARE, 0, 0);
-    e.number = 7;
-    size = 0;
-    while (size < MIB) {
-        add(e);
-    }
-    if (megabyte < 0 || write(megabyte, file, MIB) != MIB) {
-        perror("a long journal");
-        exit(2);
-    }
-    for (size_t at = 0; at < all; at += MIB) {
-        map(pages + at, MIB, MAP_PRIVATE | MAP_FIXED, megabyte);
-    }
-    close(megabyte);
-    return pages;
-}
-
-static void over_4_gib(void)
-{
-    uint8_t *pages = map_long(), *last = pages + (size_t)(MIBS - 1) * MIB;
-    uint64_t before = (uint64_t)(MIBS - 1) * (MIB / EACH), records = before + 20;
-    struct luossavin_replayed got, due = {.number = 23, .differs = 1, .place = records * EACH,
-        .first_record = before + 10, .first_place = (before + 10) * EACH, .records = records,
-        .by_mode = {[5] = records}, .by_answer = {[7] = records}, .bytes_in = records * (EACH - BARE)};
-    give_keys(1);
-    /* its number stands before the length of an output that is empty */
-    last[11 * EACH - 4 - 1] = 8;
-    last[20 * EACH + 2] = 2;
-    got = luossavin_replay(ring, pages, (size_t)MIBS * MIB);
-    is_due(&got, &due, "a journal of more than 4 GiB");
-    munmap(pages, (size_t)MIBS * MIB);
-}
-
 static void set_up_eight(void)
 {
     uint8_t other[16];
@@ -929,7 +876,6 @@ void journals(void)
     refusals();
     joined();
     drawn();
-    over_4_gib();
     alarm(0);
     signal(SIGSEGV, SIG_DFL);
 }

@@ -1,17 +1,18 @@
 /* The work that is counted: a message of SIZE bytes, encrypted or decrypted TIMES times.
  *
- *   work archive|once|libgcrypt|OpenSSL MODE encrypt|decrypt SIZE TIMES
+ *   work library|once|libgcrypt|OpenSSL MODE encrypt|decrypt SIZE TIMES
  *   work pieces MODE encrypt|decrypt SIZE TIMES PIECE
  *   work range 2 encrypt|decrypt SIZE TIMES OFFSET
  *   work which 4 decrypt SIZE TIMES LABELS
  *   work join 4 encrypt SIZE TIMES BLOCKS
  *   work version libgcrypt|OpenSSL
- *   work tables ..        the archive on the engine of four tables, in the first three
+ *   work tables ..        the library on the engine of four tables, in the first three
  *   work gates ..         on that of gates
- *   work timed ..         prints how many million bytes a second of the processor's time it is, the best of some runs
+ *   work timed ..         prints how many million bytes a second of the processor's time it is, the best of some runs; what the library
+ *                         makes is compared before that, and exit status 1 says that it is another
  *
- * Each message has its key set up anew; of `once`, which is the archive too, one set-up serves all of them. MODE is
- * 0 to 4. In pieces of PIECE bytes, by the archive, it is 2, or 4: sealing, or opening without the text. A range of
+ * Each message has its key set up anew; of `once`, which is the library too, one set-up serves all of them. MODE is
+ * 0 to 4. In pieces of PIECE bytes, by the library, it is 2, or 4: sealing, or opening without the text. A range of
  * a message, from OFFSET on, is Ctr's alone, and one set-up serves all. Of a file which label it opens under is asked with
  * LABELS of six bytes, up to 64, of which none opens it. A join is of two hashes, the second of BLOCKS blocks, whatever
  * SIZE is. Exit status 3 where the library does not have the mode.
@@ -55,7 +56,7 @@ static int once(const struct task *t, struct field data, uint8_t *out, size_t ro
         t->mode, record, NULL, 0, data.bytes, data.length, iv, 16, out, room).number == 0;
 }
 
-static int archive(const struct task *t, struct field data, uint8_t *out, size_t room)
+static int library(const struct task *t, struct field data, uint8_t *out, size_t room)
 {
     set_up_key();
     return once(t, data, out, room);
@@ -129,8 +130,8 @@ static const struct peer *peer_named(const char *who)
 
 static work *work_of(const char *who)
 {
-    if (strcmp(who, "archive") == 0) {
-        return archive;
+    if (strcmp(who, "library") == 0) {
+        return library;
     }
     if (strcmp(who, "once") == 0) {
         return once;
@@ -181,6 +182,26 @@ static int timed(work *one, const struct task *t, struct field data, uint8_t *ou
     return status;
 }
 
+/* Whether the library's result is right: what it encrypts is what libgcrypt does, and what it decrypts is the text, all zeros. */
+static int is_right(const struct task *t, struct field data, uint8_t *out, size_t room)
+{
+    const struct field the_iv = {iv, sizeof iv}, no_label = {NULL, 0};
+    uint8_t *zeros = calloc(1, room), *beside = malloc(room + 16);
+    size_t n = t->mode == GCM ? t->size + 16 : t->mode == CBC ? t->size / 16 * 16 + 16 : t->size;
+    struct field text = {zeros, t->mode == CBC ? n : t->size};
+    int right = zeros != NULL && beside != NULL && once(t, data, out, room);
+    if (right && t->direction == ENCRYPT) {
+        /* libgcrypt leaves Cbc's padding to its caller */
+        memset(zeros + t->size, t->mode == CBC ? (int)(n - t->size) : 0, room - t->size);
+        right = peers[0].run(t->mode, ENCRYPT, key, the_iv, no_label, text, beside) == DONE && memcmp(out, beside, n) == 0;
+    } else if (right) {
+        right = memcmp(out, zeros, t->size) == 0;
+    }
+    free(zeros);
+    free(beside);
+    return right;
+}
+
 static int run(work *one, const struct task *t, int is_timed)
 {
     size_t room = t->size + 16;
@@ -191,7 +212,7 @@ static int run(work *one, const struct task *t, int is_timed)
     }
     set_up_key();
     if (t->direction == DECRYPT) {
-        /* something to open, made by the archive, whoever opens it */
+        /* something to open, made by the library, whoever opens it */
         struct task sealing = *t;
         sealing.direction = ENCRYPT;
         if (!once(&sealing, data, out, room)) {
@@ -199,6 +220,9 @@ static int run(work *one, const struct task *t, int is_timed)
         }
         memcpy(text, out, room);
         data.length = t->mode == CBC || t->mode == GCM ? room : t->size;
+    }
+    if (is_timed && (one == library || one == once) && !is_right(t, data, out, room)) {
+        return 1;
     }
     return (is_timed ? timed : times)(one, t, data, out, room);
 }
@@ -245,7 +269,7 @@ int main(int argc, char **argv)
         t.last = argc == 7 ? strtoul(argv[6], NULL, 10) : 0;
     }
     if (!is_task(argv[1], &t)) {
-        fprintf(stderr, "usage: work archive|once|libgcrypt|OpenSSL MODE encrypt|decrypt SIZE TIMES, or work pieces 2|4 "
+        fprintf(stderr, "usage: work library|once|libgcrypt|OpenSSL MODE encrypt|decrypt SIZE TIMES, or work pieces 2|4 "
             "encrypt|decrypt SIZE TIMES PIECE, or work range 2 encrypt|decrypt SIZE TIMES OFFSET, or work which 4 decrypt "
             "SIZE TIMES LABELS, or work join 4 encrypt SIZE TIMES BLOCKS, or work version libgcrypt|OpenSSL; or work "
             "tables or gates and one of the first three, or work timed and any but the last\n");

@@ -12,6 +12,7 @@
 
 #include "calls.h"
 #include "random.h"
+#include "variant.h"
 #include "wrap.h"
 
 #include <pthread.h>
@@ -243,7 +244,7 @@ int main(int argc, char **argv)
     }
     both_ways(plain, LIMIT, cores);
     both_ways(halfway, LIMIT - 5, cores);
-    printf("%zu pieces in threads, %zu wrong\n", pieces_done, wrong);
+    printf("%zu pieces in threads, %zu wrong, on %s\n", pieces_done, wrong, variant_name());
     if (wrong == 0) {
         print_times(plain, cores, 0);
         print_times(plain, cores, GATES);

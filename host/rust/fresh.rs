@@ -76,9 +76,9 @@ fn short(random: &mut Random) -> Call {
         16
     };
     let iv = iv_for(random, mode, iv, &key);
-    let label = length(random);
+    let label = label_length(random);
     let label = random.bytes(label);
-    let text = length(random);
+    let text = text_length(random);
     let text = random.bytes(text);
     let mut call = there_or_back(direction, mode, key, iv, label, text);
     if direction == Direction::Decrypt {
@@ -91,14 +91,45 @@ fn short(random: &mut Random) -> Call {
     call
 }
 
-/// Mostly a few blocks, and now and then some hundred bytes or some thousand.
-fn length(random: &mut Random) -> usize {
+/// Mostly a few blocks, and now and then some hundred bytes or some thousand. One in ten is about a length where the engine of gates
+/// begins or ends a batch of blocks, and three in a thousand are of many batches.
+fn text_length(random: &mut Random) -> usize {
+    match random.below(1000) {
+        0..=2 => MANY_BATCHES - 17 + random.below(LONGEST_FRESH - MANY_BATCHES + 18),
+        3..=99 => about_a_batch(random),
+        _ => short_length(random),
+    }
+}
+
+/// The same without the longest: Gcm hashes a label as it hashes a text.
+fn label_length(random: &mut Random) -> usize {
+    match random.below(100) {
+        0..=2 => about_a_batch(random),
+        _ => short_length(random),
+    }
+}
+
+fn short_length(random: &mut Random) -> usize {
     match random.below(20) {
         0 => random.below(5000),
         1 | 2 => (16 * random.below(40) + 17).saturating_sub(random.below(3)),
         3..=6 => random.below(300),
         _ => random.below(49),
     }
+}
+
+/// Where the gates begin to do many blocks at once, 18 of them; a set of the hash, 128 blocks; two sets, from which on it hashes in
+/// lanes; and a whole batch, 512 blocks. Up to 17 bytes more or fewer.
+const BATCHES: [usize; 4] = [288, 2048, 4096, 8192];
+
+/// From where on there are many batches, and the longest text among the short cases.
+const MANY_BATCHES: usize = 65_536;
+const LONGEST_FRESH: usize = 140_000;
+
+fn about_a_batch(random: &mut Random) -> usize {
+    // as many of the first as of the others together
+    let which = random.below(6);
+    BATCHES[which.saturating_sub(2)] - 17 + random.below(35)
 }
 
 fn key(random: &mut Random) -> Vec<u8> {

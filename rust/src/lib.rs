@@ -1,4 +1,4 @@
-//! SM4 (GB/T 32907-2016) with Cfb, Ofb, Ctr, Cbc and Gcm, by libsm's names, over the proved archive of Luossavin.
+//! SM4 (GB/T 32907-2016) with Cfb, Ofb, Ctr, Cbc and Gcm, by libsm's names, over the proved library of Luossavin.
 //!
 //! A server that seals with libsm goes over by changing an import:
 //!
@@ -24,9 +24,10 @@
 //! | [`journal`] | recorded calls, made again and added up |
 //! | [`halves`] | hashes of halves of a message, joined to the whole's |
 //!
-//! What the archive promises is proved, and `include/luossavin.h` says it. This package is not proved: it hands
-//! slices over and takes answers apart, and its tests hold it to that. Package and archive are to be of one release.
-//! The library keeps nothing between calls, so that all of it may be used from any thread.
+//! What the library promises is proved, and `include/luossavin.h` says it. It is included as the assembly that was made of
+//! the proved code, for Linux on x86-64 and aarch64. This package is not proved: it hands slices over and takes answers
+//! apart, and its tests hold it to that. The library keeps nothing between calls, so that all of it may be used from any
+//! thread. Its names are C's, so that a program has one copy of it: link either this package or the C library.
 
 #![deny(unsafe_code)]
 #![warn(missing_docs)]

@@ -1,0 +1,180 @@
+/* Holds the library to published vectors, on each of the three engines and both ways.
+ *
+ *   vectors < crates/vectors/data/vectors
+ *
+ * The file says what is in it: six words for each vector, which are its kind, then key, IV, label, text and result in hex, and - where
+ * there is none. The block that is encrypted a million times over is left to the plain engine and that of four tables: on the gates,
+ * which do many blocks at once, one by one takes too long. Exit status 1 if a result is another, or nothing was compared; 2 if
+ * the list cannot be read.
+ */
+#include "luossavin.h"
+#include "variant.h"
+
+#include <stdio.h>
+#include <stdlib.h>
+#include <string.h>
+
+enum { MOST = 4096, KEY = 0, IV, LABEL, TEXT, RESULT, WORDS };
+
+struct bytes {
+    uint8_t bytes[MOST];
+    size_t length;
+};
+
+static struct bytes of[WORDS];
+static unsigned compared, differ;
+
+static void unreadable(const char *what)
+{
+    fprintf(stderr, "vectors: %s\n", what);
+    exit(2);
+}
+
+static void is_same(const char *kind, const char *what, uint32_t engine, struct luossavin_answer a, const uint8_t *got, const struct bytes *due,
+    size_t length)
+{
+    compared++;
+    if (a.number != 0 || a.length != length || memcmp(got, due->bytes, due->length) != 0) {
+        differ++;
+        printf("differs: %s, %s, on engine %u (answer %u)\n", kind, what, engine, a.number);
+    }
+}
+
+static void block(struct luossavin_key key, uint32_t engine)
+{
+    uint8_t out[16];
+    struct luossavin_answer a = luossavin_block_encrypt(key, of[TEXT].bytes, of[TEXT].length, out, 16);
+    is_same("block", "encrypted", engine, a, out, &of[RESULT], 16);
+    a = luossavin_block_decrypt(key, of[RESULT].bytes, of[RESULT].length, out, 16);
+    is_same("block", "decrypted", engine, a, out, &of[TEXT], 16);
+}
+
+static void million(struct luossavin_key key, uint32_t engine)
+{
+    struct luossavin_answer a = {0};
+    uint8_t here[16], next[16];
+    if (engine == 2 || of[TEXT].length != 16) {
+        return;
+    }
+    memcpy(here, of[TEXT].bytes, 16);
+    for (int i = 0; i < 1000000; i++) {
+        a = luossavin_block_encrypt(key, here, 16, next, 16);
+        memcpy(here, next, 16);
+    }
+    is_same("million", "encrypted", engine, a, here, &of[RESULT], 16);
+}
+
+static void message(uint32_t mode, const char *kind, struct luossavin_key key, uint32_t engine)
+{
+    static uint8_t there[MOST + 16], back[MOST + 16];
+    /* a vector of Cbc has no padding block */
+    size_t length = of[RESULT].length + (mode == 3 ? 16 : 0);
+    struct luossavin_answer a = luossavin_encrypt(mode, key, of[LABEL].bytes, of[LABEL].length, of[TEXT].bytes, of[TEXT].length, of[IV].bytes,
+        of[IV].length, there, sizeof there);
+    is_same(kind, "encrypted", engine, a, there, &of[RESULT], length);
+    a = luossavin_decrypt(mode, key, of[LABEL].bytes, of[LABEL].length, there, length, of[IV].bytes, of[IV].length, back, sizeof back);
+    is_same(kind, "decrypted", engine, a, back, &of[TEXT], of[TEXT].length);
+}
+
+static uint64_t big_endian(const uint8_t *b)
+{
+    uint64_t word = 0;
+    for (int i = 0; i < 8; i++) {
+        word = word << 8 | b[i];
+    }
+    return word;
+}
+
+/* The hash of label and text, each with zeros to its last block's end, and of the block of their lengths. */
+static void ghash(void)
+{
+    static uint8_t all[2 * MOST + 48];
+    size_t at = 0;
+    struct luossavin_hash y, h = {big_endian(of[KEY].bytes), big_endian(of[KEY].bytes + 8)};
+    memset(all, 0, sizeof all);
+    memcpy(all, of[LABEL].bytes, of[LABEL].length);
+    at = (of[LABEL].length + 15) / 16 * 16;
+    memcpy(all + at, of[TEXT].bytes, of[TEXT].length);
+    at += (of[TEXT].length + 15) / 16 * 16;
+    for (int i = 0; i < 8; i++) {
+        all[at + i] = (uint8_t)((uint64_t)(8 * of[LABEL].length) >> (56 - 8 * i));
+        all[at + 8 + i] = (uint8_t)((uint64_t)(8 * of[TEXT].length) >> (56 - 8 * i));
+    }
+    y = luossavin_hash_blocks(h, all, at + 16);
+    compared++;
+    if (of[RESULT].length != 16 || y.high != big_endian(of[RESULT].bytes) || y.low != big_endian(of[RESULT].bytes + 8)) {
+        differ++;
+        printf("differs: ghash\n");
+    }
+}
+
+static void on_engine(const char *kind, uint32_t engine)
+{
+    static const char *const modes[] = {"cfb", "ofb", "ctr", "cbc", "gcm"};
+    struct luossavin_key key = luossavin_key_engine(luossavin_key_new(of[KEY].bytes, of[KEY].length, 1), engine);
+    if (strcmp(kind, "block") == 0) {
+        block(key, engine);
+        return;
+    }
+    if (strcmp(kind, "million") == 0) {
+        million(key, engine);
+        return;
+    }
+    for (uint32_t mode = 0; mode <= 4; mode++) {
+        if (strcmp(kind, modes[mode]) == 0) {
+            message(mode, kind, key, engine);
+            return;
+        }
+    }
+    unreadable("a vector of no kind that is known");
+}
+
+/* The next word, behind comments. Whether there is one. */
+static int next_word(char *word)
+{
+    int ch;
+    while (scanf(" %9000s", word) == 1) {
+        if (word[0] != '#') {
+            return 1;
+        }
+        while ((ch = getchar()) != '\n' && ch != EOF) {
+        }
+    }
+    return 0;
+}
+
+static void read_bytes(const char *word, struct bytes *to)
+{
+    unsigned byte;
+    to->length = 0;
+    for (; strcmp(word, "-") != 0 && *word != '\0'; word += 2) {
+        if (to->length == MOST || sscanf(word, "%2x", &byte) != 1) {
+            unreadable("a word that is not hex, or too long");
+        }
+        to->bytes[to->length++] = (uint8_t)byte;
+    }
+}
+
+int main(void)
+{
+    static char kind[9001], word[9001];
+    unsigned vectors = 0;
+    while (next_word(kind)) {
+        for (int i = 0; i < WORDS; i++) {
+            if (!next_word(word)) {
+                unreadable("the list ends inside a vector");
+            }
+            read_bytes(word, &of[i]);
+        }
+        vectors++;
+        if (strcmp(kind, "ghash") == 0) {
+            ghash();
+            continue;
+        }
+        for (uint32_t engine = 0; engine <= 2; engine++) {
+            on_engine(kind, engine);
+        }
+    }
+    printf("%u vectors, %u results compared, %u differ, on %s\n", vectors, compared, differ, variant_name());
+    return vectors == 0 || compared < vectors || differ != 0;
+}
