@@ -132,6 +132,16 @@ mod tests {
     }
 
     #[test]
+    fn every_refusal_stands_in_the_table_of_statuses() {
+        for number in 1..=26 {
+            let name = Refusal::with_number(number).expect("a refusal").name();
+            let row = format!("\n{number:>4}  {name} ");
+            assert!(PAGES[0].1.contains(&row), "help does not say what {number} {name} is");
+        }
+        assert_eq!(Refusal::with_number(27), None);
+    }
+
+    #[test]
     fn the_version_is_the_checkouts() {
         assert_eq!(version().lines().next(), Some(&*format!("luossavin {}", include_str!("../../../VERSION").trim())));
     }

@@ -273,14 +273,14 @@ pub fn decimal<N: TryFrom<u64>>(digits: &[u8]) -> Option<N> {
     is_number.then(|| digits.iter().fold(0, add)).and_then(|n| N::try_from(n).ok())
 }
 
-/// The bytes that hex digits spell, two to a byte.
+/// The bytes that hex digits spell, two to a byte. They may be a key: no copy is left behind by growing.
 pub fn hex(digits: &[u8]) -> Option<Vec<u8>> {
     let digit = |byte: u8| char::from(byte).to_digit(16);
-    let byte = |pair: &[u8]| match pair {
-        [high, low] => u8::try_from(digit(*high)? * 16 + digit(*low)?).ok(),
-        _ => None,
-    };
-    digits.chunks(2).map(byte).collect()
+    let mut bytes = Vec::with_capacity(digits.len() / 2 + 1);
+    for pair in digits.chunks(2) {
+        bytes.push(u8::try_from(digit(*pair.first()?)? * 16 + digit(*pair.get(1)?)?).ok()?);
+    }
+    Some(bytes)
 }
 
 #[cfg(test)]
