@@ -139,7 +139,7 @@ best_target() {
 # Whether this machine is an x86-64-v3, by what Linux says that it has.
 has_v3() {
     local flags flag
-    flags=$(sed -n 's/^flags[^:]*: //p' /proc/cpuinfo | head -1)
+    flags=$(sed -n '/^flags/{s/^[^:]*: //p;q}' /proc/cpuinfo)
     for flag in avx avx2 bmi1 bmi2 f16c fma movbe abm xsave; do
         [[ " $flags " == *" $flag "* ]] || return 1
     done

@@ -182,7 +182,8 @@ static int timed(work *one, const struct task *t, struct field data, uint8_t *ou
     return status;
 }
 
-/* Whether the library's result is right: what it encrypts is what libgcrypt does, and what it decrypts is the text, all zeros. */
+/* Whether the library's result is right: what it encrypts, or has encrypted to be decrypted, is what libgcrypt encrypts; and what it
+ * decrypts is the text, all zeros. */
 static int is_right(const struct task *t, struct field data, uint8_t *out, size_t room)
 {
     const struct field the_iv = {iv, sizeof iv}, no_label = {NULL, 0};
@@ -190,12 +191,14 @@ static int is_right(const struct task *t, struct field data, uint8_t *out, size_
     size_t n = t->mode == GCM ? t->size + 16 : t->mode == CBC ? t->size / 16 * 16 + 16 : t->size;
     struct field text = {zeros, t->mode == CBC ? n : t->size};
     int right = zeros != NULL && beside != NULL && once(t, data, out, room);
-    if (right && t->direction == ENCRYPT) {
+    if (right && t->direction == DECRYPT) {
+        right = memcmp(out, zeros, t->size) == 0;
+    }
+    if (right) {
         /* libgcrypt leaves Cbc's padding to its caller */
         memset(zeros + t->size, t->mode == CBC ? (int)(n - t->size) : 0, room - t->size);
-        right = peers[0].run(t->mode, ENCRYPT, key, the_iv, no_label, text, beside) == DONE && memcmp(out, beside, n) == 0;
-    } else if (right) {
-        right = memcmp(out, zeros, t->size) == 0;
+        right = peers[0].run(t->mode, ENCRYPT, key, the_iv, no_label, text, beside) == DONE
+            && memcmp(t->direction == ENCRYPT ? out : data.bytes, beside, n) == 0;
     }
     free(zeros);
     free(beside);
