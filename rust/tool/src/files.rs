@@ -308,6 +308,7 @@ impl Unfinished {
             Err(error) if matches!(error.kind(), ErrorKind::NotFound | ErrorKind::PermissionDenied) => Err(error),
             // a file system that has no files without names
             _ => {
+                sys::hold_signals();
                 let name = unguessed(folder)?;
                 let file = OpenOptions::new().write(true).create_new(true).mode(0o600).open(&name)?;
                 Ok(Unfinished { file, name: Some(name) })
@@ -357,23 +358,19 @@ pub fn replace(path: &Path, called: &str, bytes: &[u8], old: Option<&Metadata>) 
     new.file.write_all(bytes).map_err(cannot_write)?;
     let made = new.file.metadata().map_err(cannot_write)?;
     if let Some(old) = old.filter(|old| (old.uid(), old.gid()) != (made.uid(), made.gid())) {
-        let (owner, group) = (old.uid(), old.gid());
-        let whose = format!(
-            "{called}, which belongs to user {owner} and group {group}, and a new file cannot be given to them"
-        );
-        sys::give(&new.file, owner, group).map_err(|error| cannot("write", &whose, &error))?;
+        let whose = format!("{called}, which belongs to user {} and group {}", old.uid(), old.gid());
+        let whose = format!("{whose}, and a new file cannot be given to them");
+        sys::give(&new.file, old.uid(), old.gid()).map_err(|error| cannot("write", &whose, &error))?;
     }
     let mode = old.map_or(0o666 & !sys::umask(), |old| old.mode() & 0o7777);
     new.file.set_permissions(Permissions::from_mode(mode)).map_err(cannot_write)?;
     new.file.sync_all().map_err(cannot_write)?;
-    match old {
-        Some(_) => new.put_over(path).map_err(cannot_write)?,
-        None => new.link(path).map_err(|error| match error.raw_os_error() {
-            Some(sys::EEXIST) => Fail::files(format!(
-                "cannot write {called}: another run has written it meanwhile, and it is left as it is"
-            )),
-            _ => cannot_write(error),
-        })?,
+    let lost = "another run has written it meanwhile, and it is left as it is";
+    match if old.is_some() { new.put_over(path) } else { new.link(path) } {
+        Err(error) if old.is_none() && error.raw_os_error() == Some(sys::EEXIST) => {
+            return Err(Fail::files(format!("cannot write {called}: {lost}")));
+        }
+        put => put.map_err(cannot_write)?,
     }
     // a folder that cannot be read cannot be synced either
     if let Ok(folder) = File::open(folder) {

@@ -15,6 +15,7 @@ extern "C" {
     fn fchown(fd: c_int, owner: c_uint, group: c_uint) -> c_int;
     fn isatty(fd: c_int) -> c_int;
     fn signal(number: c_int, handler: usize) -> usize;
+    fn sigprocmask(how: c_int, set: *const [u64; 16], old: *mut [u64; 16]) -> c_int;
     #[link_name = "umask"]
     fn set_umask(mask: c_uint) -> c_uint;
 }
@@ -122,6 +123,13 @@ pub fn umask() -> u32 {
         set_umask(mask);
         mask
     }
+}
+
+/// Has HUP, INT and TERM wait from now on: what is left to be done is short, and would leave a file behind.
+pub fn hold_signals() {
+    let set = [1 | 1 << 1 | 1 << 14, 0, 0, 0, 0, 0, 0, 0, 0, 0, 0, 0, 0, 0, 0, 0];
+    // SAFETY: a set of signals has 128 bytes, of which a bit stands for each signal from 1 on; nothing is handed back.
+    unsafe { sigprocmask(0, &set, std::ptr::null_mut()) };
 }
 
 /// Overwrites bytes, by writes that the compiler may not leave out.
