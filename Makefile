@@ -1,41 +1,45 @@
 # make             builds libluossavin.a and libluossavin.so of the assembly in proved/, by a C compiler and ar alone
+# make tool        builds the tool, by cargo
 # make install     puts library, header and tool below PREFIX; DESTDIR stands in front of every path, for who makes a package
 # make uninstall   takes away what `make install` put there
 # make dist        writes target/luossavin-VERSION-ARCH-linux.tar.gz for x86_64 and aarch64, each of which installs by the two above
 # make proved      writes proved/ anew; it takes the Rattle kit, and minutes, since the proof comes first
 #
-# CC=x86_64-linux-gnu-gcc builds for another machine; what is built stands in target/ARCH. In a folder that `make dist` wrote all is
-# built: there `make` holds the files to their sums.
+# CC=x86_64-linux-gnu-gcc AR=x86_64-linux-gnu-ar builds for another machine; what is built stands in target/ARCH. In a folder that
+# `make dist` wrote all is built: there `make` holds the files to their sums.
 
 PREFIX = /usr/local
 LIBDIR = $(PREFIX)/lib
 DESTDIR =
 
 CC = cc
-ARCH := $(shell $(CC) -dumpmachine | cut -d - -f 1)
+CARGO = cargo
 VERSION := $(shell cat VERSION)
+
+ifneq ($(wildcard SHA256SUMS),)
+
+ARCH := $(firstword $(wildcard x86_64 aarch64))
+
+all tool:
+	@sha256sum -c --quiet SHA256SUMS
+
+else
+
+ARCH := $(shell $(CC) -dumpmachine | cut -d - -f 1)
 
 assembly_x86_64 = proved/x86_64.s proved/x86_64-v3.s lib/choose-x86_64.s
 assembly_aarch64 = proved/aarch64.s
 assembly = $(assembly_$(ARCH))
+ifeq ($(assembly),)
+$(error there is no assembly for '$(ARCH)' in proved/: the library is for x86_64 and aarch64)
+endif
 
 built = target/$(ARCH)
 objects = $(patsubst %.s,$(built)/%.o,$(notdir $(assembly)))
 # the first number of the version is that of the calls and layouts
 soname = libluossavin.so.$(firstword $(subst ., ,$(VERSION)))
 
-ifneq ($(wildcard SHA256SUMS),)
-
-all:
-	@sha256sum -c --quiet SHA256SUMS
-
-else
-
 all: $(built)/libluossavin.a $(built)/libluossavin.so
-
-ifeq ($(assembly),)
-$(error there is no assembly for '$(ARCH)' in proved/: the library is for x86_64 and aarch64)
-endif
 
 vpath %.s proved lib
 
@@ -52,19 +56,25 @@ $(built)/libluossavin.so: $(objects) VERSION
 $(built):
 	mkdir -p $@
 
+# cargo knows by itself what has changed. The tool says what tool/about says of it.
+rust_target = $(ARCH)-unknown-linux-gnu
+cargo_linker = CARGO_TARGET_$(shell echo $(rust_target) | tr a-z- A-Z_)_LINKER
+
+tool: | $(built)
+	@command -v $(CARGO) >/dev/null || { echo "cargo is needed to build the tool: Debian has it as the package cargo" >&2; exit 1; }
+	LUOSSAVIN_ABOUT="$$(tool/about)" $(cargo_linker)=$(CC) $(CARGO) build --quiet --release --offline --locked \
+	    --manifest-path rust/Cargo.toml -p luossavin-tool --target $(rust_target) --target-dir $(built)/cargo
+	cp $(built)/cargo/$(rust_target)/release/luossavin $(built)/luossavin
+
 endif
 
-# The tool is three proved programs, for x86-64, which the kit builds.
-programs:
-	@[ -f SHA256SUMS ] || tool/build
-
-install: all programs
+install: all tool
 	@tool/install put '$(DESTDIR)' '$(PREFIX)' '$(LIBDIR)' '$(ARCH)'
 
 uninstall:
 	@tool/install take '$(DESTDIR)' '$(PREFIX)'
 
-dist: programs
+dist:
 	@tool/dist
 
 proved:
@@ -73,4 +83,4 @@ proved:
 clean:
 	rm -rf $(built)
 
-.PHONY: all programs install uninstall dist proved clean
+.PHONY: all tool install uninstall dist proved clean

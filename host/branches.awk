@@ -229,7 +229,6 @@ function list_arguments() {
     listed["sliced::encrypt_xored argument 2"]          # m: how many blocks
     listed["ghash::Ghash::absorb_all argument 3"]       # lanes: whether the engine hashes many blocks at once
     listed["stream::batches::counters argument 3"]      # wide: whether all of the counter counts, Ctr, or its last word, Gcm
-    listed["ghash::Ghash::absorb_each argument 4"]      # how many bytes
 }
 
 # Whether the last instruction before i that changes what is asked is one that loops and questions of addresses go by. Each rule is

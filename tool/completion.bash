@@ -8,28 +8,32 @@ _luossavin() {
         return
     fi
     case ${COMP_WORDS[1]} in
-    seal) options='--key --number --retired --iv --job --edition --force' ;;
-    open | opens) options='--key --number --retired --iv --job --edition' ;;
-    which) options='--key --number --retired --iv --job --editions --edition --candidates' ;;
-    encrypt) options='--mode --key --number --retired --iv --force' ;;
-    decrypt) options='--mode --key --number --retired --iv' ;;
+    seal) options='--key --number --retired --iv --iv-file --job --edition --force' ;;
+    open) options='--key --number --retired --iv --iv-file --job --edition' ;;
+    opens) options='--key --number --retired --iv --iv-file --job --edition --json' ;;
+    which) options='--key --number --retired --iv --iv-file --job --editions --edition --candidates --json' ;;
+    encrypt) options='--mode --key --number --retired --iv --iv-file --force' ;;
+    decrypt) options='--mode --key --number --retired --iv --iv-file' ;;
     plan) options='--workers' ;;
-    range) options='--key --number --retired --iv --offset --decrypt --force' ;;
+    range) options='--key --number --retired --iv --iv-file --offset --decrypt --force' ;;
     shelf)
         case ${COMP_WORDS[2]} in
-        put) options='--job --edition' ;;
-        find) options='--job --force' ;;
-        open) options='--job --key --number --retired --iv' ;;
+        put) options='--key --number --retired --iv --iv-file --job --edition --unchecked --wait' ;;
+        find) options='--job --json --force' ;;
+        open) options='--job --key --number --retired --iv --iv-file' ;;
+        verify) options='--key --number --retired --ivs' ;;
+        collect) options='--wait' ;;
+        list) options='--json' ;;
         esac
         ;;
-    replay) options='--keys --key --number --plain' ;;
+    replay) options='--keys --key --number --plain --json' ;;
     help | --help) options='seal open opens which encrypt decrypt plan range shelf replay' ;;
     esac
     case $before in
     --mode) options='cfb ofb ctr cbc' ;;
-    --number | --iv | --job | --edition | --editions | --workers | --offset) options='' ;;
+    --number | --iv | --job | --edition | --editions | --workers | --offset | --wait) options='' ;;
     help | --help) ;;
-    shelf) options='put find open collect list' ;;
+    shelf) options='put find open verify collect list' ;;
     *) case $word in -*) ;; *) options='' ;; esac ;;
     esac
     # with none of these bash completes the names of files

@@ -90,35 +90,37 @@ pub enum Refusal {
 
 use Refusal::*;
 
-/// The refusals by their numbers, from 1 on, with their names and the words of the tool.
+/// The one table of refusals, by their numbers from 1 on: name, sentence, and what to do next where that helps. This
+/// package's `Display`, the tool and the documents take their words from here; the tool puts what it knows of a file in
+/// the place of a sentence's general words.
 #[rustfmt::skip]
-const BY_NUMBER: [(Refusal, &str, &str); 26] = [
-    (ErrorBlockSize, "ErrorBlockSize", "the key does not have 16 bytes"),
-    (ErrorDataLen, "ErrorDataLen", "cbc writes 16 bytes or a multiple: cbc did not encrypt this message, or it was cut short"),
-    (InvalidLastU8, "InvalidLastU8", "this message was not encrypted with cbc, this key and IV, or it was changed since"),
-    (InvalidTag, "InvalidTag", "this message was not sealed under this label, with this key and IV, or it was changed since"),
-    (TooLong, "TooLong", "this message, or its label, is longer than the 16777216 bytes that the cipher takes"),
-    (NoRoom, "NoRoom", "what comes of this message is longer than there is room for"),
-    (BadMode, "BadMode", "there is no such mode"),
-    (EmptyCbc, "EmptyCbc", "this message is empty, and cbc writes at least 16 bytes: was it cut off?"),
-    (ShortGcm { missing: 0 }, "ShortGcm", "a tag has 16 bytes, and a sealed message at least 16"),
-    (WrongIv, "WrongIv", "the IV does not have 16 bytes, nor, in gcm, 12"),
-    (WrongBlock, "WrongBlock", "a single block has 16 bytes, and this does not"),
-    (Ended, "Ended", "this message has come to its end"),
-    (WrongNumber, "WrongNumber", "the key's number is 1 to 65535"),
-    (Retired, "Retired", "this key is retired: old files still open with it, and nothing new is sealed or encrypted under it; take the current key"),
-    (InvalidPadding, "InvalidPadding", "the end of this message is damaged: it was changed since, or not encrypted with cbc, this key and IV"),
-    (BadList, "BadList", "up to 64 candidates are asked about at once: ask about 64 at a time"),
-    (BadWorkers, "BadWorkers", "a plan is for 1 to 64 workers"),
-    (NotAccepted, "NotAccepted", "this is no plan for a message of so many bytes"),
-    (BadShelf, "BadShelf", "this is no shelf: it has more than 65536 bytes, no whole record somewhere, or a second current one of a job"),
-    (NotHigher, "NotHigher", "this shelf has that edition of the job already, or a higher one, and takes only a higher one"),
-    (NoShelfRoom, "NoShelfRoom", "this file and the current ones of the other jobs, with 12 bytes more for each, have more bytes than the shelf"),
-    (NoCurrent, "NoCurrent", "this shelf has no current edition of the job"),
-    (BadRecord, "BadRecord", "a record is cut off, or its mark or direction is bad: was the journal cut off, or changed there?"),
-    (PartTooLong, "PartTooLong", "a record has a label, data or an IV of more than 16384 bytes, or an output of more than 16400"),
-    (UnknownKey, "UnknownKey", "a record is of a key that is not among the keys that were given"),
-    (BadKeys, "BadKeys", "a replay takes up to 8 keys, none of them retired, and each number stands for one key"),
+const BY_NUMBER: [(Refusal, &str, &str, &str); 26] = [
+    (ErrorBlockSize, "ErrorBlockSize", "the key has another size, and neither 16 raw bytes nor 32 hex digits", ""),
+    (ErrorDataLen, "ErrorDataLen", "this message has another length, and cbc writes 16 or a multiple: cbc did not encrypt it, or it was cut short", ""),
+    (InvalidLastU8, "InvalidLastU8", "this message was not encrypted with cbc, this key and IV, or it was changed since", ""),
+    (InvalidTag, "InvalidTag", "this message was not sealed under this label, with this key and IV, or it was changed since", "`luossavin which` says which edition it is"),
+    (TooLong, "TooLong", "this message, or its label, is longer than the 16777216 bytes that the cipher takes", "split the text, and give each part an IV of its own"),
+    (NoRoom, "NoRoom", "what comes of this message is longer than there is room for", ""),
+    (BadMode, "BadMode", "there is no such mode", ""),
+    (EmptyCbc, "EmptyCbc", "this message is empty, and cbc writes at least 16 bytes: was it cut off?", ""),
+    (ShortGcm { missing: 0 }, "ShortGcm", "a tag has 16 bytes, and a sealed message at least 16", ""),
+    (WrongIv, "WrongIv", "the IV has another size, not 16 bytes, nor 12 in gcm", ""),
+    (WrongBlock, "WrongBlock", "a single block has 16 bytes, and this does not", ""),
+    (Ended, "Ended", "this message has come to its end", ""),
+    (WrongNumber, "WrongNumber", "the key's number is 1 to 65535", ""),
+    (Retired, "Retired", "this key is retired: old files still open with it, and nothing new is sealed or encrypted under it; take the current key", ""),
+    (InvalidPadding, "InvalidPadding", "the end of this message is damaged: it was changed since, or not encrypted with cbc, this key and IV", ""),
+    (BadList, "BadList", "there are more than 64 candidates, and up to 64 are asked about at once: ask about 64 at a time", ""),
+    (BadWorkers, "BadWorkers", "a plan is for 1 to 64 workers", ""),
+    (NotAccepted, "NotAccepted", "this is no plan for a message of so many bytes", ""),
+    (BadShelf, "BadShelf", "this shelf breaks off: there is no whole record, or a second current one of its job, or it has more than 65536 bytes; it was changed or cut off, or is no shelf", "take the shelf from a backup, or put the sealed files on a new one"),
+    (NotHigher, "NotHigher", "this shelf has that edition of the job already, or a higher one, and takes only a higher one", "`luossavin shelf list` shows what it has"),
+    (NoShelfRoom, "NoShelfRoom", "a shelf has 65536 bytes, and this file and the current ones of the other jobs, with 12 bytes more for each, have more", "begin another shelf"),
+    (NoCurrent, "NoCurrent", "this shelf has no current edition of the job", "`luossavin shelf list` shows what it has"),
+    (BadRecord, "BadRecord", "a record is cut off, or its mark or direction is bad: was the journal cut off, or changed there?", ""),
+    (PartTooLong, "PartTooLong", "a record has a label, data or an IV of more than 16384 bytes, or an output of more than 16400", "leave such calls out where the journal is made"),
+    (UnknownKey, "UnknownKey", "a record is of a key that is not among the keys that were given", "give that key too"),
+    (BadKeys, "BadKeys", "a replay takes up to 8 keys, none of them retired, and each number stands for one key", ""),
 ];
 
 impl Refusal {
@@ -126,7 +128,35 @@ impl Refusal {
     pub fn number(self) -> u32 {
         match self {
             Unknown(number) => number,
-            known => 1 + known.place() as u32,
+            known => 1 + known.place().unwrap_or_default() as u32,
+        }
+    }
+
+    /// The name of the refusal, as the header has it.
+    ///
+    /// ```
+    /// assert_eq!(luossavin::Refusal::NoShelfRoom.name(), "NoShelfRoom");
+    /// ```
+    pub fn name(self) -> &'static str {
+        self.row().map_or("Unknown", |row| row.1)
+    }
+
+    /// What the refusal says, in one sentence, of a message in general.
+    pub fn sentence(self) -> &'static str {
+        self.row().map_or("a refusal that this package does not know", |row| row.2)
+    }
+
+    /// What to do next, where there is something that helps.
+    pub fn next(self) -> Option<&'static str> {
+        self.row().map(|row| row.3).filter(|next| !next.is_empty())
+    }
+
+    /// The refusal with a number, as a journal has it: none for 0, which is no refusal, and for a number that is not
+    /// known.
+    pub fn with_number(number: u32) -> Option<Refusal> {
+        match Refusal::of(number, 0) {
+            Unknown(_) => None,
+            known => Some(known),
         }
     }
 
@@ -150,34 +180,37 @@ impl Refusal {
         error.get_ref()?.downcast_ref().copied()
     }
 
-    /// The refusal with this number, which is not 0.
+    /// The refusal with this number; 0 is none, and unknown.
     pub(crate) fn of(number: u32, missing: u8) -> Refusal {
         match (number as usize).checked_sub(1).and_then(|place| BY_NUMBER.get(place)) {
-            Some((ShortGcm { .. }, _, _)) => ShortGcm { missing },
-            Some((refusal, _, _)) => *refusal,
+            Some((ShortGcm { .. }, ..)) => ShortGcm { missing },
+            Some((refusal, ..)) => *refusal,
             None => Unknown(number),
         }
     }
 
     /// Where a refusal with a number that is known stands among them.
-    fn place(self) -> usize {
-        let here = |row: &(Refusal, &str, &str)| discriminant(&row.0) == discriminant(&self);
-        BY_NUMBER.iter().position(here).expect("every refusal but an unknown one has a row")
+    fn place(self) -> Option<usize> {
+        BY_NUMBER.iter().position(|row| discriminant(&row.0) == discriminant(&self))
+    }
+
+    fn row(self) -> Option<&'static (Refusal, &'static str, &'static str, &'static str)> {
+        self.place().and_then(|place| BY_NUMBER.get(place))
     }
 }
 
 impl fmt::Display for Refusal {
     fn fmt(&self, f: &mut fmt::Formatter<'_>) -> fmt::Result {
         match *self {
-            Unknown(number) => write!(f, "{number}: a refusal that this package does not know"),
+            Unknown(number) => write!(f, "{number}: {}", self.sentence()),
             ShortGcm { missing } if missing > 0 => {
                 let are = if missing == 1 { "is" } else { "are" };
                 let sentence = "a sealed message has at least 16 bytes";
                 write!(f, "9 ShortGcm: {sentence}, so {missing} {are} missing: was it cut off?")
             }
             known => {
-                let (_, name, words) = BY_NUMBER[known.place()];
-                write!(f, "{} {name}: {words}", known.number())
+                write!(f, "{} {}: {}", known.number(), known.name(), known.sentence())?;
+                known.next().map_or(Ok(()), |next| write!(f, "; {next}"))
             }
         }
     }
@@ -188,10 +221,7 @@ impl std::error::Error for Refusal {}
 /// The words without the number, as libsm gives them.
 impl From<Refusal> for &str {
     fn from(refusal: Refusal) -> Self {
-        match refusal {
-            Unknown(_) => "a refusal that this package does not know",
-            known => BY_NUMBER[known.place()].2,
-        }
+        refusal.sentence()
     }
 }
 
@@ -236,7 +266,6 @@ mod tests {
     use super::*;
 
     const HEADER: &str = concat!(env!("CARGO_MANIFEST_DIR"), "/../include/luossavin.h");
-    const CRATES: &str = concat!(env!("CARGO_MANIFEST_DIR"), "/../crates");
 
     /// The numbers and names of the header's table, 0 left out.
     fn table() -> Vec<(u32, String)> {
@@ -284,39 +313,14 @@ mod tests {
         }
     }
 
-    /// What the tool says of a file, as far as it speaks of no particular one.
-    const SAID: [(u32, &str); 20] = [
-        (2, ", or it was cut short"),
-        (3, ", or it was changed since"),
-        (4, ", or it was changed since"),
-        (5, " bytes that the cipher takes"),
-        (6, "what comes of this "),
-        (8, " is empty, and cbc writes at least 16 bytes: was it cut off?"),
-        (9, " missing: was it cut off?"),
-        (12, "this message has come to its end"),
-        (13, "the key's number is 1 to 65535"),
-        (14, " is retired: old files still open with it, and nothing new is sealed or encrypted under it; take the current key"),
-        (15, " is damaged: it was changed since, or not encrypted with cbc, "),
-        (16, " are asked about at once: ask about 64 at a time"),
-        (17, "a plan is for 1 to 64 workers"),
-        (20, " and takes only a higher one"),
-        (21, " and the current ones of the other jobs, with 12 bytes more for each, have more"),
-        (22, "this shelf has no current edition of "),
-        (23, " is cut off, or its mark or direction is bad: was the journal cut off, or changed there?"),
-        (24, " has a label, data or an IV of more than 16384 bytes, or an output of more than 16400"),
-        (25, " is not among the keys that were given"),
-        (26, "a replay takes up to 8 keys, "),
-    ];
-
     #[test]
-    fn words_are_the_tools() {
-        let read = |path| std::fs::read_to_string(format!("{CRATES}/{path}")).expect("the tool's sentences");
-        let tool = ["cli/src/say.rt", "shelving/src/tell.rt", "replaying/src/tell.rt"].map(read).concat();
-        for (number, words) in SAID {
-            assert!(tool.contains(words), "the tool does not say '{words}'");
-            let refusal = Refusal::of(number, 7).to_string();
-            assert!(refusal.contains(words), "'{refusal}' does not say '{words}'");
+    fn what_to_do_next_is_said() {
+        for number in [4, 5, 19, 20, 21, 22, 24, 25] {
+            let refusal = Refusal::of(number, 0);
+            let next = refusal.next().unwrap_or_else(|| panic!("{refusal} does not say what to do"));
+            assert!(refusal.to_string().ends_with(next), "{refusal}");
         }
+        assert!(InvalidTag.to_string().contains("which"));
     }
 
     #[test]

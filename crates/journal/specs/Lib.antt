@@ -1,5 +1,4 @@
 pub mod Format
-pub mod Glances
 pub mod KeyList
 pub mod Recomputed
 pub mod Reports

@@ -1,7 +1,6 @@
 // A journal of recorded calls, one after another, is replayed: each call is made again and held against what was recorded, and
 // the report adds them up.
 mod again;
-pub mod glance;
 pub mod keys;
 pub mod records;
 pub mod report;

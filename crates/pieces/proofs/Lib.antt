@@ -3,7 +3,6 @@ pub mod Pads
 pub mod KeyStream
 pub mod Filling
 pub mod HashOn
-pub mod Labelled
 pub mod Passing
 pub mod Stepping
 pub mod TagWords

@@ -4,7 +4,6 @@ use mathlib.Core.List.{List, [], _∷_, _++_}
 use lib.ListN.{length, take, drop, replicate}
 use Rattle.block.specs.BigEndian.{numberOf, bytesOf}
 use Rattle.ghash.specs.Ghash.{blocks, lengthBlock, hashFrom, ghash}
-use Rattle.ghash.specs.Joined.{joined}
 use Rattle.pieces.specs.declared.hashing.Hashing.{Hashing}
 
 -- the full blocks of a list of bytes, and the bytes behind them
@@ -33,14 +32,6 @@ hashOf h label c = hashAfter (bytesOf 16 h) (bytesOf 16 (ghash h (blocks label))
 -- after the text e, where p bytes of a block were held
 unfoldable pub hashNext : Hashing → ℕ → List ℕ → Hashing
 hashNext g p e = hashAfter (g .h) (g .y) (take p (g .held) ++ e)
-
--- behind a label, where g is the hash of a text alone, of which n blocks are hashed
-unfoldable pub hashBehind : Hashing → List ℕ → ℕ → Hashing
-hashBehind g label n = record {
-  h = g .h;
-  y = bytesOf 16 (joined (numberOf (g .h)) (ghash (numberOf (g .h)) (blocks label)) (numberOf (g .y)) n);
-  held = g .held;
-}
 
 -- at the end of a text, where p bytes of a block are held: that block and then the length block, for these two lengths
 unfoldable pub hashEnd : Hashing → ℕ → ℕ → ℕ → List ℕ

@@ -7,10 +7,9 @@ ghost use Rattle.block.specs.BigEndian.{numberOf, bytesOf};
 ghost use Rattle.block.specs.Wide.{value};
 ghost use Rattle.ghash.specs.Ghash.{Hashable};
 ghost use Rattle.pieces.specs.States.{noHashing};
-ghost use Rattle.pieces.specs.Hashing.{filledUp, hashAfter, hashNext, hashBehind, hashEnd, hashOf};
+ghost use Rattle.pieces.specs.Hashing.{filledUp, hashAfter, hashNext, hashEnd, hashOf};
 use block::U128;
 use ghash::Ghash;
-use ghash::halves;
 
 // The key H, the hash of the full blocks so far, and the block that is begun, each as sixteen bytes. How much is begun is the
 // caller's to know.
@@ -122,23 +121,6 @@ pub(crate) fn end(g: Hashing, p: usize, label: usize, text: usize) -> [u8; 16]
     let all = start.absorb_all(false, &held[0..p]);
     let last = all.absorb_lengths(label, text);
     bytes_of(last.y)
-}
-
-// The hash behind a label, where g is that of a text alone, of which so many full blocks are hashed. A state of this kind has no mark
-// of an engine, so a long label goes in lanes in any case.
-pub(crate) fn behind(g: Hashing, label: &[u8], blocks: u64) -> Hashing
-    ensures { λ r. ⌜ r ≡ hashBehind g (now (label .entry)) «blocks» ⌝ }
-{
-    let h = g.h;
-    let y = g.y;
-    let held = g.held;
-    let first = halves::hash_blocks(number_of(h), true, label);
-    let both = halves::join(number_of(h), first, number_of(y), blocks);
-    Hashing {
-        h,
-        y: bytes_of(both),
-        held,
-    }
 }
 
 // The hash before the first byte of a text, under H: that of the label's blocks.

@@ -5,7 +5,7 @@ ghost use lib.ListN.{length};
 ghost use Rattle.block.specs.Same.{same};
 ghost use Rattle.block.specs.Xor.{xors};
 ghost use Rattle.pieces.specs.States.{opensShut};
-ghost use Rattle.pieces.specs.Calls.{opensStepped, opensStart, opensPiece, opensLabelled, opensEnd};
+ghost use Rattle.pieces.specs.Calls.{opensStepped, opensStart, opensPiece, opensEnd};
 use crate::checks;
 use crate::hashing;
 use crate::hashing::Hashing;
@@ -124,25 +124,6 @@ impl Opens {
         OpensStep {
             answer: answer::done(key, 0),
             state,
-        }
-    }
-
-    // The same message under a label, where it was started under none: so a ciphertext that is asked about under many labels goes
-    // by once.
-    pub fn labelled(self, aad: &[u8]) -> Opens
-        ensures { λ r. ⌜ r ≡ opensLabelled self (now (aad .entry)) ⌝ }
-    {
-        let unlabelled = self.hashing;
-        let mask = self.mask;
-        let total = self.total;
-        Opens {
-            hashing: hashing::behind(unlabelled, aad, (total / 16) as u64),
-            mask,
-            label: aad.len(),
-            total,
-            low: self.low,
-            stands: self.stands,
-            key: self.key,
         }
     }
 

@@ -1,2 +1,0 @@
-mod FewPieces
-mod OutOfRange
