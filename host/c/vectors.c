@@ -2,26 +2,28 @@
  *
  *   vectors < crates/vectors/data/vectors
  *
- * The file says what is in it: six words for each vector, which are its kind, then key, IV, label, text and result in hex, and - where
- * there is none. The block that is encrypted a million times over is left to the plain engine and that of four tables: on the gates,
+ * The file says what is in it: six fields for each vector, in hex, each with its length in front. The block that is encrypted a million times over is left to the plain engine and that of four tables: on the gates,
  * which do many blocks at once, one by one takes too long. Exit status 1 if a result is another, or nothing was compared; 2 if
  * the list cannot be read.
  */
 #include "luossavin.h"
 #include "variant.h"
 
+#include <ctype.h>
 #include <stdio.h>
 #include <stdlib.h>
 #include <string.h>
 
-enum { MOST = 4096, KEY = 0, IV, LABEL, TEXT, RESULT, WORDS };
+/* The fields, and the kinds behind those that are modes. */
+enum { MOST = 255, KIND = 0, KEY, IV, LABEL, TEXT, RESULT, FIELDS };
+enum { BLOCK = 5, MILLION = 6, GHASH = 7 };
 
 struct bytes {
     uint8_t bytes[MOST];
     size_t length;
 };
 
-static struct bytes of[WORDS];
+static struct bytes of[FIELDS];
 static unsigned compared, differ;
 
 static void unreadable(const char *what)
@@ -108,71 +110,76 @@ static void ghash(void)
     }
 }
 
-static void on_engine(const char *kind, uint32_t engine)
+static void on_engine(uint8_t kind, uint32_t engine)
 {
     static const char *const modes[] = {"cfb", "ofb", "ctr", "cbc", "gcm"};
     struct luossavin_key key = luossavin_key_engine(luossavin_key_new(of[KEY].bytes, of[KEY].length, 1), engine);
-    if (strcmp(kind, "block") == 0) {
+    if (kind == BLOCK) {
         block(key, engine);
-        return;
-    }
-    if (strcmp(kind, "million") == 0) {
+    } else if (kind == MILLION) {
         million(key, engine);
-        return;
+    } else if (kind < BLOCK) {
+        message(kind, modes[kind], key, engine);
+    } else {
+        unreadable("a vector of no kind that is known");
     }
-    for (uint32_t mode = 0; mode <= 4; mode++) {
-        if (strcmp(kind, modes[mode]) == 0) {
-            message(mode, kind, key, engine);
-            return;
-        }
-    }
-    unreadable("a vector of no kind that is known");
 }
 
-/* The next word, behind comments. Whether there is one. */
-static int next_word(char *word)
+/* The next byte, behind white space and comments. Whether there is one. */
+static int next_byte(uint8_t *byte)
 {
+    unsigned read;
     int ch;
-    while (scanf(" %9000s", word) == 1) {
-        if (word[0] != '#') {
+    while ((ch = getchar()) != EOF) {
+        if (ch == '#') {
+            while ((ch = getchar()) != '\n' && ch != EOF) {
+            }
+        } else if (!isspace(ch)) {
+            ungetc(ch, stdin);
+            if (scanf("%2x", &read) != 1) {
+                unreadable("a field that is not hex");
+            }
+            *byte = (uint8_t)read;
             return 1;
-        }
-        while ((ch = getchar()) != '\n' && ch != EOF) {
         }
     }
     return 0;
 }
 
-static void read_bytes(const char *word, struct bytes *to)
+/* A field: a byte that says how many follow, and then these. Whether there is one. */
+static int next_field(struct bytes *to)
 {
-    unsigned byte;
-    to->length = 0;
-    for (; strcmp(word, "-") != 0 && *word != '\0'; word += 2) {
-        if (to->length == MOST || sscanf(word, "%2x", &byte) != 1) {
-            unreadable("a word that is not hex, or too long");
-        }
-        to->bytes[to->length++] = (uint8_t)byte;
+    uint8_t length;
+    if (!next_byte(&length)) {
+        return 0;
     }
+    for (to->length = 0; to->length < length; to->length++) {
+        if (!next_byte(&to->bytes[to->length])) {
+            unreadable("the list ends inside a field");
+        }
+    }
+    return 1;
 }
 
 int main(void)
 {
-    static char kind[9001], word[9001];
     unsigned vectors = 0;
-    while (next_word(kind)) {
-        for (int i = 0; i < WORDS; i++) {
-            if (!next_word(word)) {
+    while (next_field(&of[KIND])) {
+        for (int i = KEY; i < FIELDS; i++) {
+            if (!next_field(&of[i])) {
                 unreadable("the list ends inside a vector");
             }
-            read_bytes(word, &of[i]);
+        }
+        if (of[KIND].length != 1) {
+            unreadable("a kind that is not one byte");
         }
         vectors++;
-        if (strcmp(kind, "ghash") == 0) {
+        if (of[KIND].bytes[0] == GHASH) {
             ghash();
             continue;
         }
         for (uint32_t engine = 0; engine <= 2; engine++) {
-            on_engine(kind, engine);
+            on_engine(of[KIND].bytes[0], engine);
         }
     }
     printf("%u vectors, %u results compared, %u differ, on %s\n", vectors, compared, differ, variant_name());

@@ -1,16 +1,13 @@
-// The list of recorded answers: its head, its records and the names of its parts.
-ghost use Prim.Native.Nat.{_+_, _<_, _≤_, _^_};
+// The list of recorded answers: its head and its records.
+ghost use Prim.Native.Nat.{_<_, _≤_};
 ghost use lib.ListN.{length};
-use libc::STDOUT_FILENO;
-
-// The bytes that a record has before its five fields.
-pub const FIXED: usize = 24;
 
 // The bytes before the first record: the mark and the count.
 pub const HEAD: usize = 24;
 
-// The part of paddings that libsm takes by their last byte alone.
-pub const INNER_PADDING: u8 = 7;
+// The bytes that a record has before its five fields: part, direction, mode and name in a byte each, and the lengths of key, IV,
+// label, data and output in four bytes each.
+const FIXED: usize = 24;
 
 pub fn wide(x: u8) -> usize
     ensures { λ r. ⌜ r < 256 ⌝ }
@@ -18,15 +15,22 @@ pub fn wide(x: u8) -> usize
     x as usize
 }
 
-// The big-endian number in four bytes.
-pub fn number(s: &[u8], at: usize) -> usize
-    requires { ⌜ at + 4 ≤ length (now s) ⌝ }
-    ensures { λ r. ⌜ r < 2 ^ 32 ⌝ }
+// What stands at `i`, 0 past the end.
+pub fn byte(s: &[u8], i: usize) -> usize
+    ensures { λ r. ⌜ r < 256 ⌝ }
 {
-    wide(s[at]) * 0x100_0000
-        + wide(s[at + 1]) * 0x1_0000
-        + wide(s[at + 2]) * 0x100
-        + wide(s[at + 3])
+    if i < s.len() { wide(s[i]) } else { 0 }
+}
+
+// The big-endian number in four bytes near the front.
+fn number(s: &[u8], at: usize) -> usize
+    requires { ⌜ at < 256 ⌝ }
+    ensures { λ r. ⌜ r < 4294967296 ⌝ }
+{
+    byte(s, at) * 0x100_0000
+        + byte(s, at + 1) * 0x1_0000
+        + byte(s, at + 2) * 0x100
+        + byte(s, at + 3)
 }
 
 // How many records the list says it has; 0 where it is no list.
@@ -40,25 +44,36 @@ pub fn count(list: &[u8]) -> u64 {
     number(list, 20) as u64
 }
 
-// Writes what a part of the list is about.
-pub fn write_part(part: usize) {
-    match part {
-        1 => said(b"messages"),
-        2 => said(b"labels"),
-        3 => said(b"Ctr counters that come round"),
-        4 => said(b"Gcm counters that come round"),
-        5 => said(b"damaged Gcm messages"),
-        6 => said(b"last padding bytes"),
-        7 => said(b"inner padding bytes, taken by libsm and refused here"),
-        8 => said(b"Cbc lengths"),
-        9 => said(b"single blocks"),
-        10 => said(b"wrong sizes"),
-        11 => said(b"twelve-byte IVs, refused by libsm and taken here"),
-        _ => said(b"unknown part"),
+// Where field i of the record in front starts; the record ends where the sixth would.
+fn start(rest: &[u8], i: usize) -> usize
+    requires { ⌜ i < 6 ⌝ }
+{
+    let mut at = FIXED;
+    for before in 0..i {
+        at += number(rest, 4 + 4 * before);
     }
+    at
 }
 
-// Writes some words.
-fn said(words: &[u8]) {
-    io::write_all(STDOUT_FILENO, words);
+// How many bytes the record in front has; 0 where it is cut.
+pub fn size(rest: &[u8]) -> usize
+    ensures { λ r. ⌜ r ≤ length (now (rest .entry)) ⌝ }
+{
+    let size = start(rest, 5);
+    if rest.len() < size { 0 } else { size }
+}
+
+// Field i of the record in front: 0 key, 1 IV, 2 label, 3 data, 4 output.
+pub fn field(rest: &[u8], i: usize) -> &[u8]
+    requires { ⌜ i < 5 ⌝ }
+{
+    let from = start(rest, i);
+    let to = start(rest, i + 1);
+    if rest.len() < to {
+        return &rest[0..0];
+    }
+    if to < from {
+        return &rest[0..0];
+    }
+    &rest[from..to]
 }

@@ -1,156 +1,84 @@
-// Runs the published vectors of the file that its argument names. A vector is the same where the
-// published value, ours and that of an independent SM4 agree, both ways where there are two.
-mod by_independent;
+// Runs the published vectors of the file that its argument names. A vector is the same where ours, both
+// ways where there are two, and an independent SM4 give the published result.
+mod fields;
 mod independent;
 mod ours;
-mod words;
 
+ghost use Prim.Native.Nat.{_<_};
 use libc::STDOUT_FILENO;
-use words::Kind;
-use words::Word;
 
-// How the vector at a place of the file went. One of whose words there is no room for is not run.
-pub enum Went {
-    Same,
-    Differ,
-    TooLong(Word),
-    NoVector,
+// The kind of a vector.
+fn kind_of(field: &[u8]) -> u32 {
+    if field.len() == 1 {
+        return wide(field[0]);
+    }
+    8
 }
 
-// Whether ours and the independent one both give the published value.
-fn agree(
-    kind: Kind,
-    table: &[u8; 256],
-    key: &[u8],
-    iv: &[u8],
-    label: &[u8],
-    text: &[u8],
-    result: &[u8],
-) -> bool {
+fn wide(x: u8) -> u32 {
+    x as u32
+}
+
+// Whether ours and the independent one both give the result of the vector at a place.
+fn agree(t: &[u32; 512], bytes: &[u8], at: usize) -> bool {
+    let kind = kind_of(fields::field(bytes, at, 0));
+    let key = fields::field(bytes, at, 1);
+    let iv = fields::field(bytes, at, 2);
+    let label = fields::field(bytes, at, 3);
+    let text = fields::field(bytes, at, 4);
+    let result = fields::field(bytes, at, 5);
     ours::gives(kind, key, iv, label, text, result)
-        && by_independent::gives(kind, table, key, iv, label, text, result)
+        && independent::gives(t, kind, key, iv, label, text, result)
 }
 
-// Reads text and result of a vector and runs it.
-fn compared(
-    kind: Kind,
-    table: &[u8; 256],
-    key: &[u8],
-    iv: &[u8],
-    label: &[u8],
-    file: &[u8],
-    from: usize,
-) -> Went {
-    let mut text = [0u8; 128];
-    let t = words::read_hex(file, from, &mut text);
-    let a = t.count;
-    if a > text.len() {
-        return Went::TooLong(Word::Text);
-    }
-    let mut result = [0u8; 128];
-    let r = words::read_hex(file, t.end, &mut result);
-    let b = r.count;
-    if b > result.len() {
-        return Went::TooLong(Word::Result);
-    }
-    if agree(kind, table, key, iv, label, &text[0..a], &result[0..b]) {
-        return Went::Same;
-    }
-    Went::Differ
+// Writes some words.
+fn said(words: &[u8]) {
+    io::write_all(STDOUT_FILENO, words);
 }
 
-// Reads one vector and runs it.
-fn one(table: &[u8; 256], file: &[u8], from: usize) -> Went {
-    let start = words::word_start(file, from);
-    if start == file.len() {
-        return Went::NoVector;
-    }
-    let end = words::word_end(file, start);
-    let kind = words::kind_of(&file[start..end]);
-    let mut key = [0u8; 16];
-    let k = words::read_hex(file, end, &mut key);
-    let a = k.count;
-    if a > key.len() {
-        return Went::TooLong(Word::Key);
-    }
-    let mut iv = [0u8; 16];
-    let v = words::read_hex(file, k.end, &mut iv);
-    let b = v.count;
-    if b > iv.len() {
-        return Went::TooLong(Word::Iv);
-    }
-    let mut label = [0u8; 64];
-    let l = words::read_hex(file, v.end, &mut label);
-    let c = l.count;
-    if c > label.len() {
-        return Went::TooLong(Word::Label);
-    }
-    compared(
-        kind,
-        table,
-        &key[0..a],
-        &iv[0..b],
-        &label[0..c],
-        file,
-        l.end,
-    )
-}
-
-// Writes how one vector went.
-fn line(number: u64, word: &[u8]) {
-    io::write_all(STDOUT_FILENO, b"vector ");
+// Writes how one vector went, and counts it where it differs.
+fn told(number: u64, same: bool) -> u64
+    ensures { λ r. ⌜ r < 2 ⌝ }
+{
+    said(b"vector ");
     io::print_decimal(STDOUT_FILENO, number);
-    io::write_all(STDOUT_FILENO, word);
-}
-
-// Writes which word of a vector there is no room for.
-fn too_long(number: u64, word: Word) {
-    match word {
-        Word::Key => line(number, b": its key is too long\n"),
-        Word::Iv => line(number, b": its IV is too long\n"),
-        Word::Label => line(number, b": its label is too long\n"),
-        Word::Text => line(number, b": its text is too long\n"),
-        Word::Result => line(number, b": its result is too long\n"),
+    if same {
+        said(b" same\n");
+        return 0;
     }
+    said(b" differ\n");
+    1
 }
 
 // Writes how all of them went.
 fn summary(all: u64, differ: u64) {
     io::print_decimal(STDOUT_FILENO, all);
-    io::write_all(STDOUT_FILENO, b" compared ");
+    said(b" compared ");
     io::print_decimal(STDOUT_FILENO, differ);
-    io::write_all(STDOUT_FILENO, b" differ\n");
+    said(b" differ\n");
 }
 
-// Runs every vector of the file. One that is not run counts with those that differ.
-fn run_all(file: &[u8]) {
-    let table = independent::substitution();
+// Runs every vector of the file.
+fn run_all(bytes: &[u8]) {
+    let t = independent::tables();
     let mut at: usize = 0;
     let mut all: u64 = 0;
     let mut differ: u64 = 0;
     while all < 1000 {
-        match one(&table, file, at) {
-            Went::Same => {
-                all += 1;
-                line(all, b" same\n");
-            }
-            Went::Differ => {
-                all += 1;
-                differ += 1;
-                line(all, b" differ\n");
-            }
-            Went::TooLong(word) => {
-                all += 1;
-                differ += 1;
-                too_long(all, word);
-            }
-            Went::NoVector => {
-                summary(all, differ);
-                return;
-            }
+        if bytes.len() <= at {
+            summary(all, differ);
+            return;
         }
-        at = words::past(file, at, 6);
+        all += 1;
+        differ += told(all, agree(&t, bytes, at));
+        at = fields::after(bytes, at, 6);
     }
+}
+
+// Reads the file's hex and runs its vectors.
+fn read(file: &mut [u8]) {
+    let n = fields::spelled(file);
+    run_all(&file[0..n]);
 }
 
 fn main() {
@@ -164,9 +92,5 @@ fn main() {
     let mut file = io::large_buffer();
     let length = io::read_full(fd, &mut file);
     libc::close(fd);
-    if length == file.len() {
-        io::write_all(STDOUT_FILENO, b"the file is too long\n");
-        return;
-    }
-    run_all(&file[..length]);
+    read(&mut file[..length]);
 }

@@ -1,7 +1,4 @@
 // Whether the product's crates give a published vector, both ways where there are two.
-use crate::words;
-use crate::words::Kind;
-use cipher_mode::CipherMode;
 use cipher_mode::Direction;
 use cipher_mode::Sm4Cipher;
 use cipher_mode::Sm4CipherMode;
@@ -10,18 +7,6 @@ use cipher_mode::answer::Ending;
 
 // The number of every key here: a vector's key has none, and a record wants one.
 const NUMBER: u32 = 1;
-
-// Room for the longest result, and more than any length that a call here reports.
-const ROOM: usize = 256;
-
-// The length of a call that is done; more than there is room for where it is refused.
-fn length_of(answer: Answer) -> usize {
-    let ending = answer.ending;
-    match ending {
-        Ending::Done(n) => n,
-        Ending::Refused(_) => ROOM + 1,
-    }
-}
 
 // A block put through the cipher so many times. A refusal leaves `x`, which then differs.
 fn over(cipher: Sm4Cipher, direction: Direction, times: u32, block_in: &[u8]) -> [u8; 16] {
@@ -42,35 +27,42 @@ fn block_vector(times: u32, key: &[u8], text: &[u8], result: &[u8]) -> bool {
     check::same(&there, result) && check::same(&back, text)
 }
 
-// A mode, there and back by the public calls. The output is the published result and `extra` bytes more, which are Cbc's
-// padding block; in Gcm the result is ciphertext and tag.
-fn mode_vector(
-    mode: CipherMode,
-    extra: usize,
-    key: &[u8],
-    iv: &[u8],
-    label: &[u8],
-    text: &[u8],
-    result: &[u8],
-) -> bool {
-    let keyed = Sm4CipherMode::new(key, NUMBER, mode);
-    let mut there = [0u8; ROOM];
-    let n = length_of(keyed.encrypt(label, text, iv, &mut there));
-    if n > ROOM {
-        return false;
+// What a call wrote; nothing where it was refused.
+fn written(answer: Answer, out: &[u8]) -> &[u8] {
+    let ending = answer.ending;
+    match ending {
+        Ending::Done(n) => front(out, n),
+        Ending::Refused(_) => front(out, 0),
     }
-    if n < extra {
-        return false;
+}
+
+// The first `n` bytes; all where there are no more.
+fn front(s: &[u8], n: usize) -> &[u8] {
+    if n < s.len() {
+        return &s[0..n];
     }
-    if n - extra != result.len() {
-        return false;
+    s
+}
+
+// A mode, there and back by the public calls. In Gcm the result is ciphertext and tag. In Cbc it has no padding block,
+// and that is what is left out of what was sealed.
+fn mode_vector(mode: u32, key: &[u8], iv: &[u8], label: &[u8], text: &[u8], result: &[u8]) -> bool {
+    let keyed = Sm4CipherMode::new(key, NUMBER, cipher_mode::mode_of(mode));
+    let mut there = [0u8; 512];
+    let sealed = keyed.encrypt(label, text, iv, &mut there);
+    let made = written(sealed, &there);
+    let mut back = [0u8; 512];
+    let opened = keyed.decrypt(label, made, iv, &mut back);
+    is_result(mode, made, result) && check::same(written(opened, &back), text)
+}
+
+// Whether what was sealed is the published result, in Cbc with a padding block after it.
+fn is_result(mode: u32, made: &[u8], result: &[u8]) -> bool {
+    if mode == 3 {
+        return made.len() == result.len() / 16 * 16 + 16
+            && check::same(front(made, result.len()), result);
     }
-    if !words::starts(&there, result) {
-        return false;
-    }
-    let mut back = [0u8; ROOM];
-    let m = length_of(keyed.decrypt(label, &there[0..n], iv, &mut back));
-    m == text.len() && words::starts(&back, text)
+    check::same(made, result)
 }
 
 // The hash of label and text with the length block.
@@ -78,10 +70,10 @@ fn ghash_vector(h: &[u8], label: &[u8], text: &[u8], result: &[u8]) -> bool {
     if h.len() != 16 {
         return false;
     }
-    if label.len() > ROOM {
+    if label.len() > 255 {
         return false;
     }
-    if text.len() > ROOM {
+    if text.len() > 255 {
         return false;
     }
     let hash = ghash::galois_hash(block::to_u128(block::split_block(h)), false, label, text);
@@ -90,16 +82,11 @@ fn ghash_vector(h: &[u8], label: &[u8], text: &[u8], result: &[u8]) -> bool {
 }
 
 // Whether ours gives the published result of a vector.
-pub fn gives(kind: Kind, key: &[u8], iv: &[u8], label: &[u8], text: &[u8], result: &[u8]) -> bool {
+pub fn gives(kind: u32, key: &[u8], iv: &[u8], label: &[u8], text: &[u8], result: &[u8]) -> bool {
     match kind {
-        Kind::Block => block_vector(1, key, text, result),
-        Kind::Million => block_vector(1_000_000, key, text, result),
-        Kind::Cbc => mode_vector(CipherMode::Cbc, 16, key, iv, label, text, result),
-        Kind::Cfb => mode_vector(CipherMode::Cfb, 0, key, iv, label, text, result),
-        Kind::Ofb => mode_vector(CipherMode::Ofb, 0, key, iv, label, text, result),
-        Kind::Ctr => mode_vector(CipherMode::Ctr, 0, key, iv, label, text, result),
-        Kind::Ghash => ghash_vector(key, label, text, result),
-        Kind::Gcm => mode_vector(CipherMode::Gcm, 0, key, iv, label, text, result),
-        Kind::Unknown => false,
+        5 => block_vector(1, key, text, result),
+        6 => block_vector(1_000_000, key, text, result),
+        7 => ghash_vector(key, label, text, result),
+        _ => mode_vector(kind, key, iv, label, text, result),
     }
 }

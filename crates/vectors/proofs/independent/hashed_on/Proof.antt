@@ -1,23 +1,21 @@
--- `vectors::independent::hashed_on` is safe and ends. The loop's invariant: `at` is no further than the end of `s`, and the
--- hash is a block. The measure is what is left of `s`, since a block's end is past its start (`block_end`).
+-- `vectors::independent::hashed_on` is safe and ends. The loop's invariant: at most as many blocks were hashed as `n` bytes fill, so
+-- that each has its number. The measure is the number of blocks left.
 -- Assumes nothing.
-use mathlib.Core.Path.{_≡_}
-use Prim.Native.Nat.{_≤_, _-_}
+use Prim.Native.Nat.{_≤_, _-_, _+_, _/_}
 use borrow.Author.Needs.{needs}
-use lib.ListN.{length}
 use Rattle.vectors.proofs.independent.hashed_on.Statement.{statement}
 use Rattle.vectors.proofs.independent.hashed_on.Tie as tie
 
 abbrev Inv-loop : tie.InvT-loop
-Inv-loop h s hash₀ at₀ hash at = (at ≤ length s) × (length hash ≡ 16)
+Inv-loop h s n hash₀ i₀ i-end hash i = (i ≤ i-end) × (i-end ≤ n / 16 + 1)
 
 abbrev μ-loop : tie.MeasureT-loop
-μ-loop h s hash₀ at₀ hash at = length s - at
+μ-loop h s n hash₀ i₀ i-end hash i = i-end - i
 
 pub hashed-on-spec : {M : Type 1} → statement M
 hashed-on-spec =
     tie.close
     (tie.spec
-    Inv-loop μ-loop (λ c. search needs) (λ c κs. search needs) (λ c. search needs) (λ c. search needs)
-    (λ c. search needs) (λ c κs. search needs) (λ c κs. search needs) (λ c κs. search needs) (λ c. search needs)
-    (λ c. search needs) (λ c. search needs))
+    Inv-loop μ-loop (λ c. search needs) (λ c. search needs) (λ c. search needs) (λ c κs. search needs)
+    (λ c κs. search needs) (λ c κs. search needs) (λ c. search needs) (λ c. search needs) (λ c. search needs)
+    (λ c. search needs))

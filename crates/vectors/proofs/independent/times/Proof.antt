@@ -1,4 +1,4 @@
--- `vectors::independent::times` is safe and ends. The loop's invariant is that at most 8 turns have gone by, and the measure
+-- `vectors::independent::times` is safe and ends. The loop's invariant is that at most 128 turns have gone by, and the measure
 -- is the number of turns left.
 -- Assumes nothing.
 use Prim.Native.Nat.{_≤_, _-_}
@@ -7,14 +7,15 @@ use Rattle.vectors.proofs.independent.times.Statement.{statement}
 use Rattle.vectors.proofs.independent.times.Tie as tie
 
 abbrev Inv-loop : tie.InvT-loop
-Inv-loop a b modulus sum₀ shifted₀ rest₀ counter₀ sum shifted rest counter = counter ≤ 8
+Inv-loop b rest₀ sum₀ counter₀ rest sum counter = counter ≤ 128
 
 abbrev μ-loop : tie.MeasureT-loop
-μ-loop a b modulus sum₀ shifted₀ rest₀ counter₀ sum shifted rest counter = 8 - counter
+μ-loop b rest₀ sum₀ counter₀ rest sum counter = 128 - counter
 
 pub times-spec : {M : Type 1} → statement M
 times-spec =
     tie.close
     (tie.spec
-    Inv-loop μ-loop (λ c. search needs) (λ c κs. search needs) (λ c κs. search needs) (λ c. search needs)
-    (λ c. search needs) (λ c. search needs) (λ c. search needs) (λ c. search needs))
+    Inv-loop μ-loop (λ c κs. search needs) (λ c. search needs) (λ c κs. search needs) (λ c κs. search needs)
+    (λ c κs. search needs) (λ c κs. search needs) (λ c. search needs) (λ c. search needs) (λ c. search needs)
+    (λ c. search needs))
