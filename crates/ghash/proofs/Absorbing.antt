@@ -10,12 +10,17 @@ use lib.Seq.{take-all, drop-drop, length-take-le}
 use Rattle.block.specs.declared.U128.{U128}
 use Rattle.block.specs.Wide.{value}
 use Rattle.block.specs.Xor.{_⊕_}
+use Rattle.carryless.specs.Lent.{PartsOf}
 use Rattle.field.specs.Field.{gmul}
 use Rattle.ghash.specs.declared.Ghash.{Ghash}
 use Rattle.ghash.specs.Ghash.{blockOf, blocks, lengthBlock, authBlocks, hashFrom, ghash}
 use Rattle.ghash.specs.Absorbed.{Absorbed}
 use Rattle.ghash.proofs.Blocks.{blocks-nil, blocks-cons, blocks-append}
 use Rattle.ghash.proofs.Join.{hash-append}
+
+-- H stays the same, and so do its parts
+pub parts-same : {h k : U128} {m : List ℕ} → k ≡ h → PartsOf h m → PartsOf k m
+parts-same {m = m} e p = subst (λ (v : U128). PartsOf v m) (sym e) p
 
 -- one block
 pub absorbed-one : (s r : Ghash) (b m : ℕ) → r .h ≡ s .h → m ≡ value (s .y) ⊕ b → value (r .y) ≡ gmul m (value (s .h))

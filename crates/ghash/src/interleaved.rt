@@ -127,12 +127,13 @@ fn absorb_rows(g: Ghash, a: &[u64; 512], b: &[u64; 512]) -> Ghash
     requires { ⌜ Sized (now a) (now b) ⌝ }
     ensures { λ r. ⌜ Absorbed g (upTo 64 (rowNumber (now (a .entry)) (now (b .entry)))) r ⌝ }
 {
+    let m = carryless::parts(g.h);
     let mut state = g;
     let mut k: usize = 0;
     while k < 64 {
         let high = a[8 * k];
         let low = b[8 * k];
-        state = state.step(U128 { high, low });
+        state = state.step(&m, U128 { high, low });
         k += 1;
     }
     state
@@ -159,7 +160,7 @@ pub fn absorb_lanes(g: Ghash, bytes: &[u8]) -> Ghash
     let h = g.h;
     let to64 = field::power(h, 64);
     let mut m = [0u64; 192];
-    sliced_field::masks(field::galois_mul(to64, to64), &mut m);
+    sliced_field::masks(field::squared(to64), &mut m);
     let mut z = [0u64; 256];
     start(g.y, &mut z);
     absorb_sets(&m, &mut z, bytes);

@@ -8,6 +8,7 @@ ghost use Prim.Native.Nat.{_≤_};
 ghost use lib.ListN.{length, getD};
 ghost use Rattle.block.specs.Words.{wordAt, words};
 ghost use Rattle.block.specs.Wide.{value};
+ghost use Rattle.carryless.specs.Lent.{PartsOf};
 ghost use Rattle.ghash.specs.Ghash.{Hashable, blockOf, blockCount, blocks, lengthBlock, authBlocks, ghash};
 ghost use Rattle.ghash.specs.Absorbed.{Absorbed};
 use block::U128;
@@ -72,22 +73,24 @@ impl Ghash {
         }
     }
 
-    // One block: (hash xor b) times H.
-    fn step(self, b: U128) -> Ghash
+    // One block: (hash xor b) times H, whose parts are lent as m.
+    fn step(self, m: &[u32; 36], b: U128) -> Ghash
+        requires { ⌜ PartsOf (self .h) (now m) ⌝ }
         ensures { λ r. ⌜ Absorbed self (value b ∷ []) r ⌝ }
     {
         let h = self.h;
         let sum = field::add(self.y, b);
-        let y = field::galois_mul(sum, h);
+        let y = field::times(sum, h, m);
         Ghash { h, y }
     }
 
     // The block at the front of `rest`, zeros where `rest` ends.
-    pub fn absorb(self, rest: &[u8]) -> Ghash
+    fn absorb(self, m: &[u32; 36], rest: &[u8]) -> Ghash
+        requires { ⌜ PartsOf (self .h) (now m) ⌝ }
         ensures { λ r. ⌜ Absorbed self (blockOf (now (rest .entry)) ∷ []) r ⌝ }
     {
         let b = block::to_u128(load_block(rest));
-        self.step(b)
+        self.step(m, b)
     }
 
     // All of `bytes`, zeros to the last block's end, block by block.
@@ -95,17 +98,18 @@ impl Ghash {
         ensures { λ r. ⌜ Absorbed self (blocks (now (bytes .entry))) r ⌝ }
     {
         let n = block_count(bytes.len());
+        let m = carryless::parts(self.h);
         let mut state = self;
         let mut i = 0;
         while i < n {
             let at = 16 * i;
-            state = state.absorb(&bytes[at..]);
+            state = state.absorb(&m, &bytes[at..]);
             i += 1;
         }
         state
     }
 
-    // All of `bytes`, zeros to the last block's end. Where `lanes` is true, the full sets of 128 blocks of a text of two and more go
+    // All of `bytes`, zeros to the last block's end. Where `lanes` is true, the full sets of 128 blocks of a text of three and more go
     // in lanes, which pays from there on.
     pub fn absorb_all(self, lanes: bool, bytes: &[u8]) -> Ghash
         ensures { λ r. ⌜ Absorbed self (blocks (now (bytes .entry))) r ⌝ }
@@ -113,7 +117,7 @@ impl Ghash {
         if !lanes {
             return self.absorb_each(bytes);
         }
-        if bytes.len() < 4096 {
+        if bytes.len() < 6144 {
             return self.absorb_each(bytes);
         }
         let full = bytes.len() / 2048 * 2048;
@@ -130,7 +134,8 @@ impl Ghash {
             high: 8 * label as u64,
             low: 8 * text as u64,
         };
-        self.step(b)
+        let m = carryless::parts(self.h);
+        self.step(&m, b)
     }
 }
 

@@ -10,9 +10,9 @@ use lib.Bits.{xor-comm, xor-zero-r, xor-zero-l}
 use Rattle.block.specs.Xor.{_⊕_}
 use Rattle.block.specs.Wide.{whole}
 use Rattle.block.proofs.Xor.{xor-assoc, xor-cancel, xor-turn, xor-meet}
+use Rattle.carryless.proofs.Joins.{xor-whole}
 use Rattle.field.specs.Field.{Element, timesX, timesXs, mulFrom, gmul}
 use Rattle.field.proofs.Distributes.{timesX-xor, mulFrom-series}
-use Rattle.field.proofs.Halves.{xor-whole}
 use Rattle.field.proofs.Series.{series-xor, series-additive}
 use Rattle.field.proofs.Turns.{gmul-halves}
 use Rattle.sliced_field.specs.Halves.{half, around}

@@ -1,8 +1,10 @@
 // The modes of libsm's `cipher_mode.rs` that xor a message with the cipher of a state: `cfb_encrypt`, `cfb_decrypt`,
 // `ofb_encrypt`, `ctr_encrypt`, and `galois_ctr` of Gcm. They differ in the next state alone, so one loop serves all.
 mod batches;
+pub mod few;
 
 ghost use mathlib.Core.Path.{_≡_};
+ghost use mathlib.Core.Bool.{true};
 ghost use mathlib.Core.List.{_++_};
 ghost use Prim.Native.Nat.{_<_, _≤_};
 ghost use lib.ListN.{length, take, drop};
@@ -11,7 +13,7 @@ ghost use Rattle.block.specs.Xor.{xors};
 ghost use Rattle.cipher.specs.Engine.{Engine};
 ghost use Rattle.cipher.specs.Sm4.{encryptBlock};
 ghost use Rattle.walk.specs.Walk.{chain, endState, over};
-ghost use Rattle.stream.specs.Stream.{stateAfter, streamMode};
+ghost use Rattle.stream.specs.Stream.{stateAfter, streamMode, ahead};
 
 // The mode and, where they differ, the direction.
 pub enum Kind {
@@ -66,11 +68,7 @@ fn xor_rest(t: &[u32], rk: [u32; 32], s: [u32; 4], data: &[u8], out: &mut [u8]) 
     ensures { λ _. ⌜ now (out .exit) ≡ over (xors (now («data» .entry)) (encryptBlock rk (unwords s))) (now (out .entry)) ⌝ }
 {
     let pad = block::combine_block(cipher::encrypt(t, rk, s));
-    let mut i: usize = 0;
-    while i < data.len() {
-        out[i] = data[i] ^ pad[i];
-        i += 1;
-    }
+    sixteen::xor_bytes(&pad, data, out);
     pad
 }
 
@@ -79,6 +77,65 @@ fn xor_rest(t: &[u32], rk: [u32; 32], s: [u32; 4], data: &[u8], out: &mut [u8]) 
 pub struct End {
     pub state: [u32; 4],
     pub pad: [u8; 16],
+}
+
+// A message, one block after the other.
+fn one_by_one(
+    t: &[u32],
+    rk: [u32; 32],
+    kind: Kind,
+    iv: [u32; 4],
+    data: &[u8],
+    out: &mut [u8],
+) -> End
+    requires { ⌜ Engine (now t) ⌝ }
+    requires { ⌜ length (now «data») ≤ length (now out) ⌝ }
+    ensures { λ r. ⌜ unwords (r .state) ≡ endState (streamMode kind rk) (unwords iv) (now («data» .entry)) ⌝ }
+    ensures { λ r. ⌜ r .pad ≡ encryptBlock rk (endState (streamMode kind rk) (unwords iv) (now («data» .entry))) ⌝ }
+    ensures { λ _. ⌜ now (out .exit) ≡ over (chain (streamMode kind rk) (unwords iv) (now («data» .entry))) (now (out .entry)) ⌝ }
+{
+    let mut s = iv;
+    let mut at: usize = 0;
+    while 16 <= data.len() - at {
+        let next = step(t, rk, kind, s, &data[at..], &mut out[at..]);
+        s = next;
+        at += 16;
+    }
+    let pad = xor_rest(t, rk, s, &data[at..], &mut out[at..]);
+    End { state: s, pad }
+}
+
+// Whether a message of `n` bytes goes side by side: where the gates are lent, if it has a full block, and its states are known ahead.
+fn side_by_side(t: &[u32], kind: Kind, n: usize) -> bool
+    ensures { λ r. ⌜ (r ≡ true → ahead kind ≡ true) ⌝ }
+{
+    if !cipher::by_gates(t) {
+        return false;
+    }
+    if n < 16 {
+        return false;
+    }
+    match kind {
+        Kind::CfbEncrypt => false,
+        Kind::CfbDecrypt => true,
+        Kind::Ofb => false,
+        Kind::Ctr => true,
+        Kind::Gctr => true,
+    }
+}
+
+// What the batches left of a message.
+fn finish(t: &[u32], rk: [u32; 32], kind: Kind, iv: [u32; 4], data: &[u8], out: &mut [u8]) -> End
+    requires { ⌜ Engine (now t) ⌝ }
+    requires { ⌜ length (now «data») ≤ length (now out) ⌝ }
+    ensures { λ r. ⌜ unwords (r .state) ≡ endState (streamMode kind rk) (unwords iv) (now («data» .entry)) ⌝ }
+    ensures { λ r. ⌜ r .pad ≡ encryptBlock rk (endState (streamMode kind rk) (unwords iv) (now («data» .entry))) ⌝ }
+    ensures { λ _. ⌜ now (out .exit) ≡ over (chain (streamMode kind rk) (unwords iv) (now («data» .entry))) (now (out .entry)) ⌝ }
+{
+    if side_by_side(t, kind, data.len()) {
+        return few::fifteens(rk, kind, iv, data, out);
+    }
+    one_by_one(t, rk, kind, iv, data, out)
 }
 
 // The whole message `data`, to the front of `out`. Returns where the walk ends.
@@ -97,13 +154,7 @@ pub fn stream(
     ensures { λ _. ⌜ now (out .exit) ≡ over (chain (streamMode kind rk) (unwords iv) (now («data» .entry))) (now (out .entry)) ⌝ }
 {
     let begun = batches::run(t, rk, kind, iv, data, out);
-    let mut s = begun.state;
-    let mut at = begun.at;
-    while 16 <= data.len() - at {
-        let next = step(t, rk, kind, s, &data[at..], &mut out[at..]);
-        s = next;
-        at += 16;
-    }
-    let pad = xor_rest(t, rk, s, &data[at..], &mut out[at..]);
-    End { state: s, pad }
+    let at = begun.at;
+    let s = begun.state;
+    finish(t, rk, kind, s, &data[at..], &mut out[at..])
 }

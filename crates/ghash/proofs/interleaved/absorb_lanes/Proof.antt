@@ -30,7 +30,7 @@ returns c =
     let bytes = S .args .bytes .now in
     let element = whole-lt (g .h .high) (g .h .low) (omega (arith, S .good .0)) (omega (arith, S .good .0)) in
     let to64 = at-power .power .ensures in
-    let to128 = at-square .galois-mul .ensures ∙ ap₂ gmul to64 to64 ∙ gpow-add h element 64 64 in
+    let to128 = at-square .squared .ensures ∙ ap₂ gmul to64 to64 ∙ gpow-add h element 64 64 in
     let masks = subst (λ (k : ℕ). Masked k (at-masks .masks .last .1 .0)) to128 (at-masks .masks .ensures) in
     let half = subst (λ (k : ℕ). Masked k (at-half .masks2 .last .1 .0)) to64 (at-half .masks2 .ensures) in
     record {

@@ -1,44 +1,51 @@
--- `ghash::interleaved::absorb_rows` meets its contract. The loop's invariant: the first k numbers are taken in. A turn takes in the one
--- that comes next (`absorbed-both`).
+-- `ghash::interleaved::absorb_rows` meets its contract. The loop's invariant: the first k numbers are taken in, and m is the parts of H. A turn
+-- takes in the one that comes next (`absorbed-both`).
 -- Assumes nothing.
 use borrow.Author.Needs.{needs}
 use Prim.Native.Nat.{ℕ, _≤_, _-_}
 use mathlib.Core.Path.{_≡_, refl, subst}
 use mathlib.Core.List.{List, [], _∷_}
 use native.Mathlib.Omega.{arith}
+use Rattle.carryless.specs.Lent.{PartsOf}
 use Rattle.ghash.specs.Absorbed.{Absorbed}
 use Rattle.ghash.specs.Ghash.{hashFrom}
 use Rattle.ghash.specs.Sets.{upTo, rowNumber}
-use Rattle.ghash.proofs.Absorbing.{absorbed-both}
+use Rattle.ghash.proofs.Absorbing.{parts-same, absorbed-both}
 use Rattle.ghash.proofs.Sets.{upTo-next}
 use Rattle.ghash.proofs.interleaved.absorb_rows.Statement.{statement}
 use Rattle.ghash.proofs.interleaved.absorb_rows.Tie as tie
 
 abbrev Inv-loop : tie.InvT-loop
-Inv-loop a b state₀ k₀ state k = (k ≤ 64) × Absorbed state₀ (upTo k (rowNumber a b)) state
+Inv-loop a b m state₀ k₀ state k = (k ≤ 64) × Absorbed state₀ (upTo k (rowNumber a b)) state × PartsOf (state₀ .h) m
 
 abbrev μ-loop : tie.MeasureT-loop
-μ-loop a b state₀ k₀ state k = 64 - k
+μ-loop a b m state₀ k₀ state k = 64 - k
 
 loop-holds : tie.Need-loop-holds Inv-loop μ-loop
 unfolding upTo hashFrom
-loop-holds c = (search needs, record { key = refl; hash = refl })
+loop-holds c = (search needs, record { key = refl; hash = refl }, c .parts .ensures)
+
+step-requires : tie.Need-step-requires Inv-loop μ-loop
+step-requires c κs =
+    let inv = c .before .before .before .before .loop .inv in
+    parts-same (inv .1 .key) (inv .2)
 
 loop-again : tie.Need-loop-again Inv-loop μ-loop
 loop-again c =
-    let at-loop = c .before .before .before .before in
+    let at-loop = c .before .before .before .before .before in
     let turn = at-loop .loop in
-    let x = at-loop .before .args in
+    let x = at-loop .before .before .args in
     let f = rowNumber (x .a .now) (x .b .now) in (
       omega arith,
       subst (λ (l : List ℕ). Absorbed (x .g) l (c .step .result)) (upTo-next (turn .k) f)
           (absorbed-both _ _ _ (upTo (turn .k) f) (f (turn .k) ∷ []) (turn .inv .1) (c .step .ensures)),
+      turn .inv .2,
     )
 
 returns : tie.Need-returns Inv-loop μ-loop
 returns c =
     let end = c .before .loop in
-    let x = c .before .before .args in
+    let x = c .before .before .before .args in
     let e : end .k ≡ 64 = omega arith in
     subst (λ (n : ℕ). Absorbed (x .g) (upTo n (rowNumber (x .a .now) (x .b .now))) (end .state)) e (end .inv .1)
 
@@ -46,5 +53,5 @@ pub absorb-rows-spec : {M : Type 1} → statement M
 absorb-rows-spec =
     tie.close
     (tie.spec
-    Inv-loop μ-loop loop-holds (λ c. search needs) (λ c. search needs) (λ c. search needs) (λ c. search needs) (λ c. search needs)
-    (λ c. search needs) (λ c κs. search needs) (λ c. search needs) (λ c. search needs) loop-again returns)
+    Inv-loop μ-loop (λ c κs. search needs) loop-holds (λ c. search needs) (λ c. search needs) (λ c. search needs) (λ c. search needs)
+    (λ c. search needs) (λ c. search needs) step-requires (λ c. search needs) (λ c. search needs) loop-again returns)

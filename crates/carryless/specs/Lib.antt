@@ -1,0 +1,3 @@
+pub mod Carryless
+pub mod Lent
+pub mod Product

@@ -1,0 +1,29 @@
+-- `sixteen::encrypt` meets its contract: the words that are loaded are those of the blocks, those that are stored their ciphers.
+-- Assumes nothing.
+use borrow.Author.Needs.{needs}
+use mathlib.Core.Path.{_≡_, ap, _∙_}
+use native.Mathlib.Nat.{lt-of-lt-of-le}
+use denote.Ref.{now}
+use Rattle.block.specs.Blocks.{blockAt}
+use Rattle.block.specs.Words.{words}
+use Rattle.cipher.specs.Sm4.{encryptWords, encryptBlock}
+use Rattle.sixteen.proofs.encrypt.Statement.{statement}
+use Rattle.sixteen.proofs.encrypt.Tie as tie
+
+returns : tie.Need-returns
+unfolding encryptBlock
+returns c =
+    let at-encrypt = c .before .before .before .before .before .before .before .before in
+    let at-fours = c .before .before .before .before .before .before .before .before .before .before .before .before .before in
+    let at-load = c .before .before .before .before .before .before .before .before .before .before .before .before .before .before in
+    let a = c .before .before .before .before .before .before .before .before .before .before .before .before .before .before .before .before .before .before .before .before .before .args in
+    c .before .before .store .ensures (λ i. encryptWords (a .rk) (words (blockAt (now (a .src)) i)))
+    (λ j h.
+    at-encrypt .encrypt16 .ensures .0 j (lt-of-lt-of-le h (at-fours .whole-fours .ensures .0))
+    ∙ ap (encryptWords (a .rk)) (at-load .load .ensures .0 j h))
+
+pub encrypt-spec : {M : Type 1} → statement M
+encrypt-spec =
+    tie.close
+    (tie.spec
+    (λ c κs. search needs) (λ c κs. search needs) (λ c κs. search needs) (λ c κs. search needs) (λ c. search needs) returns)

@@ -1,0 +1,37 @@
+-- Sixteen blocks side by side: word j of each of four arrays.
+use mathlib.Core.Path.{_≡_}
+use mathlib.Core.List.{List, [], _∷_}
+use Prim.Native.Nat.{ℕ, _+_, _*_, _^_, _<_}
+use lib.ListN.{getD, length}
+use Rattle.block.specs.Xor.{_⊕_}
+
+-- the first n words of a are those of f
+abbrev pub Each : (ℕ → ℕ) → ℕ → List ℕ → Type 0
+Each f n a = (j : ℕ) → j < n → getD a j 0 ≡ f j
+
+-- words 2 i and 2 i + 1 as one
+abbrev pub pairAt : List ℕ → ℕ → ℕ
+pairAt t i = getD t (2 * i + 1) 0 * 2 ^ 32 + getD t (2 * i) 0
+
+-- sixteen words, two by two
+abbrev pub Paired : List ℕ → List ℕ → Type 0
+Paired t r = (i : ℕ) → i < 8 → (getD r i 0 ≡ pairAt t i) × (getD t (2 * i) 0 < 2 ^ 32)
+
+-- what goes into the S-boxes of block j
+abbrev pub keyed : List ℕ → List ℕ → List ℕ → ℕ → ℕ → ℕ
+keyed b c d k j = getD b j 0 ⊕ getD c j 0 ⊕ getD d j 0 ⊕ k
+
+-- block j
+abbrev pub block : List ℕ → List ℕ → List ℕ → List ℕ → ℕ → List ℕ
+block a b c d j = getD a j 0 ∷ getD b j 0 ∷ getD c j 0 ∷ getD d j 0 ∷ []
+
+-- the first m blocks are those of f
+abbrev pub Held : ℕ → (ℕ → List ℕ) → List ℕ → List ℕ → List ℕ → List ℕ → Type 0
+Held m f a b c d = (j : ℕ) → j < m → block a b c d j ≡ f j
+
+-- four arrays of sixteen words
+pub record Sixteen (a b c d : List ℕ) : Type 0 where
+  pub la : length a ≡ 16
+  pub lb : length b ≡ 16
+  pub lc : length c ≡ 16
+  pub ld : length d ≡ 16

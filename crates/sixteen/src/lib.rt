@@ -1,0 +1,136 @@
+// SM4 on up to sixteen blocks side by side: for messages, and rests, that are too short for the batches of `sliced`. Neither an index nor a
+// branch depends on a block or a key.
+mod rounds;
+
+ghost use mathlib.Core.Path.{_≡_};
+ghost use mathlib.Core.List.{List, _++_};
+ghost use Prim.Native.Nat.{ℕ, _+_, _*_, _%_, _<_, _≤_};
+ghost use lib.ListN.{length, take, drop};
+ghost use Rattle.block.specs.Blocks.{blockAt, cat};
+ghost use Rattle.block.specs.Words.{words, unwords};
+ghost use Rattle.block.specs.Xor.{xors};
+ghost use Rattle.cipher.specs.Sm4.{encryptBlock};
+ghost use Rattle.walk.specs.Walk.{over};
+ghost use Rattle.sixteen.specs.Blocks.{block, Held, Sixteen};
+
+// The block x as block i.
+fn put(
+    x0: &mut [u32; 16],
+    x1: &mut [u32; 16],
+    x2: &mut [u32; 16],
+    x3: &mut [u32; 16],
+    i: usize,
+    x: [u32; 4],
+)
+    requires { ⌜ i < 16 ⌝ }
+    requires { ⌜ Sixteen (now x0) (now x1) (now x2) (now x3) ⌝ }
+    ensures { λ _. ⌜ ((f : ℕ → List ℕ) → Held i f (now (x0 .entry)) (now (x1 .entry)) (now (x2 .entry)) (now (x3 .entry)) → f i ≡ x → Held (i + 1) f (now (x0 .exit)) (now (x1 .exit)) (now (x2 .exit)) (now (x3 .exit))) ⌝ }
+    ensures { λ _. ⌜ Sixteen (now (x0 .exit)) (now (x1 .exit)) (now (x2 .exit)) (now (x3 .exit)) ⌝ }
+{
+    x0[i] = x[0];
+    x1[i] = x[1];
+    x2[i] = x[2];
+    x3[i] = x[3];
+}
+
+// The first m blocks of `src`.
+fn load(
+    src: &[u8],
+    m: usize,
+    x0: &mut [u32; 16],
+    x1: &mut [u32; 16],
+    x2: &mut [u32; 16],
+    x3: &mut [u32; 16],
+)
+    requires { ⌜ (m ≤ 16) × (16 * m ≤ length (now src)) ⌝ }
+    requires { ⌜ Sixteen (now x0) (now x1) (now x2) (now x3) ⌝ }
+    ensures { λ _. ⌜ Held m (λ j. words (blockAt (now (src .entry)) j)) (now (x0 .exit)) (now (x1 .exit)) (now (x2 .exit)) (now (x3 .exit)) ⌝ }
+    ensures { λ _. ⌜ Sixteen (now (x0 .exit)) (now (x1 .exit)) (now (x2 .exit)) (now (x3 .exit)) ⌝ }
+{
+    let mut i: usize = 0;
+    while i < m {
+        put(x0, x1, x2, x3, i, block::split_block(&src[16 * i..]));
+        i += 1;
+    }
+}
+
+// Block i.
+fn taken(x0: &[u32; 16], x1: &[u32; 16], x2: &[u32; 16], x3: &[u32; 16], i: usize) -> [u32; 4]
+    requires { ⌜ i < 16 ⌝ }
+    requires { ⌜ Sixteen (now x0) (now x1) (now x2) (now x3) ⌝ }
+    ensures { λ r. ⌜ r ≡ block (now (x0 .entry)) (now (x1 .entry)) (now (x2 .entry)) (now (x3 .entry)) i ⌝ }
+{
+    [x0[i], x1[i], x2[i], x3[i]]
+}
+
+// The first m blocks, to the front of `out`.
+fn store(x0: &[u32; 16], x1: &[u32; 16], x2: &[u32; 16], x3: &[u32; 16], m: usize, out: &mut [u8])
+    requires { ⌜ (m ≤ 16) × (16 * m ≤ length (now out)) ⌝ }
+    requires { ⌜ Sixteen (now x0) (now x1) (now x2) (now x3) ⌝ }
+    ensures { λ _. ⌜ ((f : ℕ → List ℕ) → Held m f (now (x0 .entry)) (now (x1 .entry)) (now (x2 .entry)) (now (x3 .entry)) → now (out .exit) ≡ over (cat m (λ i. unwords (f i))) (now (out .entry))) ⌝ }
+{
+    let mut i: usize = 0;
+    while i < m {
+        block::put_block(taken(x0, x1, x2, x3, i), &mut out[16 * i..]);
+        i += 1;
+    }
+}
+
+// How many blocks are worked on: four at a time.
+fn whole_fours(m: usize) -> usize
+    requires { ⌜ m ≤ 16 ⌝ }
+    ensures { λ r. ⌜ (m ≤ r) × (r ≤ 16) ⌝ }
+{
+    (m + 3) / 4 * 4
+}
+
+// The first m blocks of `src`, encrypted to the front of `out`.
+pub fn encrypt(rk: [u32; 32], m: usize, src: &[u8], out: &mut [u8])
+    requires { ⌜ (m ≤ 16) × (16 * m ≤ length (now src)) × (16 * m ≤ length (now out)) ⌝ }
+    ensures { λ _. ⌜ now (out .exit) ≡ over (cat m (λ i. encryptBlock rk (blockAt (now (src .entry)) i))) (now (out .entry)) ⌝ }
+{
+    let mut x0 = [0u32; 16];
+    let mut x1 = [0u32; 16];
+    let mut x2 = [0u32; 16];
+    let mut x3 = [0u32; 16];
+    load(src, m, &mut x0, &mut x1, &mut x2, &mut x3);
+    let n = whole_fours(m);
+    rounds::encrypt16(rk, n, &mut x0, &mut x1, &mut x2, &mut x3);
+    store(&x3, &x2, &x1, &x0, m, out);
+}
+
+// The block before place `at` of a message, which is the IV at the start.
+pub fn block_before(iv: [u32; 4], data: &[u8], at: usize) -> [u32; 4]
+    requires { ⌜ (at ≤ length (now «data»)) × (at % 16 ≡ 0) ⌝ }
+    ensures { λ r. ⌜ unwords r ≡ take 16 (drop at (unwords iv ++ now («data» .entry))) ⌝ }
+{
+    if at == 0 {
+        return iv;
+    }
+    let before = at - 16;
+    block::split_block(&data[before..])
+}
+
+// The blocks before the first n places of a message, to the front of `out`.
+pub fn lay_before(iv: [u32; 4], data: &[u8], n: usize, out: &mut [u8])
+    requires { ⌜ (16 * n ≤ length (now «data») + 16) × (16 * n ≤ length (now out)) ⌝ }
+    ensures { λ _. ⌜ now (out .exit) ≡ over (cat n (λ i. blockAt (unwords iv ++ now («data» .entry)) i)) (now (out .entry)) ⌝ }
+{
+    let mut i: usize = 0;
+    while i < n {
+        block::put_block(block_before(iv, data, 16 * i), &mut out[16 * i..]);
+        i += 1;
+    }
+}
+
+// The bytes of `data`, each xored with its byte of `pads`, to the front of `out`.
+pub fn xor_bytes(pads: &[u8], data: &[u8], out: &mut [u8])
+    requires { ⌜ (length (now «data») ≤ length (now pads)) × (length (now «data») ≤ length (now out)) ⌝ }
+    ensures { λ _. ⌜ now (out .exit) ≡ over (xors (now («data» .entry)) (now (pads .entry))) (now (out .entry)) ⌝ }
+{
+    let mut i: usize = 0;
+    while i < data.len() {
+        out[i] = data[i] ^ pads[i];
+        i += 1;
+    }
+}
