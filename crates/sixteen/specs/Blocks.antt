@@ -1,7 +1,7 @@
--- Sixteen blocks side by side: word j of each of four arrays.
+-- Up to 64 blocks side by side: block j is word j of each of four arrays. Sixteen words, from a multiple of sixteen on, are a group.
 use mathlib.Core.Path.{_≡_}
 use mathlib.Core.List.{List, [], _∷_}
-use Prim.Native.Nat.{ℕ, _+_, _*_, _^_, _<_}
+use Prim.Native.Nat.{ℕ, _+_, _*_, _/_, _%_, _^_, _<_}
 use lib.ListN.{getD, length}
 use Rattle.block.specs.Xor.{_⊕_}
 
@@ -13,9 +13,14 @@ Each f n a = (j : ℕ) → j < n → getD a j 0 ≡ f j
 abbrev pub pairAt : List ℕ → ℕ → ℕ
 pairAt t i = getD t (2 * i + 1) 0 * 2 ^ 32 + getD t (2 * i) 0
 
--- sixteen words, two by two
-abbrev pub Paired : List ℕ → List ℕ → Type 0
-Paired t r = (i : ℕ) → i < 8 → (getD r i 0 ≡ pairAt t i) × (getD t (2 * i) 0 < 2 ^ 32)
+-- the words of group g, two by two
+abbrev pub Paired : List ℕ → ℕ → List ℕ → Type 0
+Paired t g r = (i : ℕ) → i < 8 → (getD r i 0 ≡ pairAt t (8 * g + i)) × (getD t (2 * (8 * g + i)) 0 < 2 ^ 32)
+
+-- the halves of eight words are the words of f in group g
+abbrev pub Halves : (ℕ → ℕ) → ℕ → List ℕ → Type 0
+Halves f g z =
+    (i : ℕ) → i < 8 → (f (16 * g + 2 * i) ≡ getD z i 0 % 2 ^ 32) × (f (16 * g + 2 * i + 1) ≡ getD z i 0 / 2 ^ 32 % 2 ^ 32)
 
 -- what goes into the S-boxes of block j
 abbrev pub keyed : List ℕ → List ℕ → List ℕ → ℕ → ℕ → ℕ
@@ -29,9 +34,18 @@ block a b c d j = getD a j 0 ∷ getD b j 0 ∷ getD c j 0 ∷ getD d j 0 ∷ []
 abbrev pub Held : ℕ → (ℕ → List ℕ) → List ℕ → List ℕ → List ℕ → List ℕ → Type 0
 Held m f a b c d = (j : ℕ) → j < m → block a b c d j ≡ f j
 
--- four arrays of sixteen words
-pub record Sixteen (a b c d : List ℕ) : Type 0 where
-  pub la : length a ≡ 16
-  pub lb : length b ≡ 16
-  pub lc : length c ≡ 16
-  pub ld : length d ≡ 16
+-- four arrays for blocks, and two to work in
+pub record Sized (a b c d t s : List ℕ) : Type 0 where
+  pub la : length a ≡ 64
+  pub lb : length b ≡ 64
+  pub lc : length c ≡ 64
+  pub ld : length d ≡ 64
+  pub lt : length t ≡ 64
+  pub ls : length s ≡ 64
+
+-- the four arrays alone
+pub record Arrays (a b c d : List ℕ) : Type 0 where
+  pub la : length a ≡ 64
+  pub lb : length b ≡ 64
+  pub lc : length c ≡ 64
+  pub ld : length d ≡ 64

@@ -1,31 +1,31 @@
-// SM4 on up to sixteen blocks side by side: for messages, and rests, that are too short for the batches of `sliced`. Neither an index nor a
-// branch depends on a block or a key.
+// SM4 on up to 64 blocks side by side, in groups of sixteen: for messages, and rests, that are too short for the batches of `sliced`. Neither
+// an index nor a branch depends on a block or a key.
 mod rounds;
 
 ghost use mathlib.Core.Path.{_≡_};
 ghost use mathlib.Core.List.{List, _++_};
-ghost use Prim.Native.Nat.{ℕ, _+_, _*_, _%_, _<_, _≤_};
+ghost use Prim.Native.Nat.{ℕ, _+_, _*_, _/_, _%_, _<_, _≤_};
 ghost use lib.ListN.{length, take, drop};
 ghost use Rattle.block.specs.Blocks.{blockAt, cat};
 ghost use Rattle.block.specs.Words.{words, unwords};
 ghost use Rattle.block.specs.Xor.{xors};
 ghost use Rattle.cipher.specs.Sm4.{encryptBlock};
 ghost use Rattle.walk.specs.Walk.{over};
-ghost use Rattle.sixteen.specs.Blocks.{block, Held, Sixteen};
+ghost use Rattle.sixteen.specs.Blocks.{block, Held, Arrays};
 
 // The block x as block i.
 fn put(
-    x0: &mut [u32; 16],
-    x1: &mut [u32; 16],
-    x2: &mut [u32; 16],
-    x3: &mut [u32; 16],
+    x0: &mut [u32; 64],
+    x1: &mut [u32; 64],
+    x2: &mut [u32; 64],
+    x3: &mut [u32; 64],
     i: usize,
     x: [u32; 4],
 )
-    requires { ⌜ i < 16 ⌝ }
-    requires { ⌜ Sixteen (now x0) (now x1) (now x2) (now x3) ⌝ }
+    requires { ⌜ i < 64 ⌝ }
+    requires { ⌜ Arrays (now x0) (now x1) (now x2) (now x3) ⌝ }
     ensures { λ _. ⌜ ((f : ℕ → List ℕ) → Held i f (now (x0 .entry)) (now (x1 .entry)) (now (x2 .entry)) (now (x3 .entry)) → f i ≡ x → Held (i + 1) f (now (x0 .exit)) (now (x1 .exit)) (now (x2 .exit)) (now (x3 .exit))) ⌝ }
-    ensures { λ _. ⌜ Sixteen (now (x0 .exit)) (now (x1 .exit)) (now (x2 .exit)) (now (x3 .exit)) ⌝ }
+    ensures { λ _. ⌜ Arrays (now (x0 .exit)) (now (x1 .exit)) (now (x2 .exit)) (now (x3 .exit)) ⌝ }
 {
     x0[i] = x[0];
     x1[i] = x[1];
@@ -37,15 +37,15 @@ fn put(
 fn load(
     src: &[u8],
     m: usize,
-    x0: &mut [u32; 16],
-    x1: &mut [u32; 16],
-    x2: &mut [u32; 16],
-    x3: &mut [u32; 16],
+    x0: &mut [u32; 64],
+    x1: &mut [u32; 64],
+    x2: &mut [u32; 64],
+    x3: &mut [u32; 64],
 )
-    requires { ⌜ (m ≤ 16) × (16 * m ≤ length (now src)) ⌝ }
-    requires { ⌜ Sixteen (now x0) (now x1) (now x2) (now x3) ⌝ }
+    requires { ⌜ (m ≤ 64) × (16 * m ≤ length (now src)) ⌝ }
+    requires { ⌜ Arrays (now x0) (now x1) (now x2) (now x3) ⌝ }
     ensures { λ _. ⌜ Held m (λ j. words (blockAt (now (src .entry)) j)) (now (x0 .exit)) (now (x1 .exit)) (now (x2 .exit)) (now (x3 .exit)) ⌝ }
-    ensures { λ _. ⌜ Sixteen (now (x0 .exit)) (now (x1 .exit)) (now (x2 .exit)) (now (x3 .exit)) ⌝ }
+    ensures { λ _. ⌜ Arrays (now (x0 .exit)) (now (x1 .exit)) (now (x2 .exit)) (now (x3 .exit)) ⌝ }
 {
     let mut i: usize = 0;
     while i < m {
@@ -55,18 +55,18 @@ fn load(
 }
 
 // Block i.
-fn taken(x0: &[u32; 16], x1: &[u32; 16], x2: &[u32; 16], x3: &[u32; 16], i: usize) -> [u32; 4]
-    requires { ⌜ i < 16 ⌝ }
-    requires { ⌜ Sixteen (now x0) (now x1) (now x2) (now x3) ⌝ }
+fn taken(x0: &[u32; 64], x1: &[u32; 64], x2: &[u32; 64], x3: &[u32; 64], i: usize) -> [u32; 4]
+    requires { ⌜ i < 64 ⌝ }
+    requires { ⌜ Arrays (now x0) (now x1) (now x2) (now x3) ⌝ }
     ensures { λ r. ⌜ r ≡ block (now (x0 .entry)) (now (x1 .entry)) (now (x2 .entry)) (now (x3 .entry)) i ⌝ }
 {
     [x0[i], x1[i], x2[i], x3[i]]
 }
 
 // The first m blocks, to the front of `out`.
-fn store(x0: &[u32; 16], x1: &[u32; 16], x2: &[u32; 16], x3: &[u32; 16], m: usize, out: &mut [u8])
-    requires { ⌜ (m ≤ 16) × (16 * m ≤ length (now out)) ⌝ }
-    requires { ⌜ Sixteen (now x0) (now x1) (now x2) (now x3) ⌝ }
+fn store(x0: &[u32; 64], x1: &[u32; 64], x2: &[u32; 64], x3: &[u32; 64], m: usize, out: &mut [u8])
+    requires { ⌜ (m ≤ 64) × (16 * m ≤ length (now out)) ⌝ }
+    requires { ⌜ Arrays (now x0) (now x1) (now x2) (now x3) ⌝ }
     ensures { λ _. ⌜ ((f : ℕ → List ℕ) → Held m f (now (x0 .entry)) (now (x1 .entry)) (now (x2 .entry)) (now (x3 .entry)) → now (out .exit) ≡ over (cat m (λ i. unwords (f i))) (now (out .entry))) ⌝ }
 {
     let mut i: usize = 0;
@@ -78,24 +78,40 @@ fn store(x0: &[u32; 16], x1: &[u32; 16], x2: &[u32; 16], x3: &[u32; 16], m: usiz
 
 // How many blocks are worked on: four at a time.
 fn whole_fours(m: usize) -> usize
-    requires { ⌜ m ≤ 16 ⌝ }
-    ensures { λ r. ⌜ (m ≤ r) × (r ≤ 16) ⌝ }
+    requires { ⌜ m ≤ 64 ⌝ }
+    ensures { λ r. ⌜ (m ≤ r) × (r ≤ 16 * ((m + 15) / 16)) ⌝ }
 {
     (m + 3) / 4 * 4
 }
 
+// In how many groups so many full ones or begun ones are worked on: one, or an even number, since two are worked on at once.
+const GROUPS: [usize; 5] = [0, 1, 2, 4, 4];
+
+// In how many groups m blocks are worked on. It is looked up, by a length, and not reckoned: where the back end works out that a count is small,
+// it does not vectorize the loop over it.
+fn groups_of(m: usize) -> usize
+    requires { ⌜ m ≤ 64 ⌝ }
+    ensures { λ r. ⌜ ((m + 15) / 16 ≤ r) × (r ≤ 4) ⌝ }
+{
+    let counts = GROUPS;
+    counts[(m + 15) / 16]
+}
+
 // The first m blocks of `src`, encrypted to the front of `out`.
 pub fn encrypt(rk: [u32; 32], m: usize, src: &[u8], out: &mut [u8])
-    requires { ⌜ (m ≤ 16) × (16 * m ≤ length (now src)) × (16 * m ≤ length (now out)) ⌝ }
+    requires { ⌜ (m ≤ 64) × (16 * m ≤ length (now src)) × (16 * m ≤ length (now out)) ⌝ }
     ensures { λ _. ⌜ now (out .exit) ≡ over (cat m (λ i. encryptBlock rk (blockAt (now (src .entry)) i))) (now (out .entry)) ⌝ }
 {
-    let mut x0 = [0u32; 16];
-    let mut x1 = [0u32; 16];
-    let mut x2 = [0u32; 16];
-    let mut x3 = [0u32; 16];
+    let mut x0 = [0u32; 64];
+    let mut x1 = [0u32; 64];
+    let mut x2 = [0u32; 64];
+    let mut x3 = [0u32; 64];
+    let mut t = [0u32; 64];
+    let mut s = [0u32; 64];
     load(src, m, &mut x0, &mut x1, &mut x2, &mut x3);
     let n = whole_fours(m);
-    rounds::encrypt16(rk, n, &mut x0, &mut x1, &mut x2, &mut x3);
+    let groups = groups_of(m);
+    rounds::all_rounds(rk, n, groups, &mut x0, &mut x1, &mut x2, &mut x3, &mut t, &mut s);
     store(&x3, &x2, &x1, &x0, m, out);
 }
 

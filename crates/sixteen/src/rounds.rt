@@ -1,15 +1,16 @@
-// The rounds of sixteen blocks, of which block j is word j of each of four arrays. The 64 bytes of sixteen words are the 64 lanes of one
-// evaluation of the S-box's gates.
+// The rounds of up to 64 blocks, of which block j is word j of each of four arrays. The 64 bytes of sixteen words are the 64 lanes of one
+// evaluation of the S-box's gates, and up to four such groups are evaluated side by side.
 //
-// How many blocks are worked on is a parameter all the way down, since a loop whose count the back end knows is not vectorized here.
+// How many blocks and groups are worked on are parameters all the way down, since a loop whose count the back end knows is not vectorized
+// here.
 ghost use mathlib.Core.Path.{_≡_};
 ghost use mathlib.Core.List.{List, [], _∷_};
 ghost use Prim.Native.Nat.{ℕ, _+_, _*_, _^_, _<_, _≤_};
 ghost use lib.ListN.{length, getD};
 ghost use Rattle.block.specs.Xor.{_⊕_};
-ghost use Rattle.cipher.specs.Sm4.{tau, rotl, L, T, rounds, encryptWords};
+ghost use Rattle.cipher.specs.Sm4.{tau, L, T, rounds, encryptWords};
 ghost use Rattle.sixteen.specs.Bytes.{Transposed, Subbed};
-ghost use Rattle.sixteen.specs.Blocks.{Each, pairAt, Paired, keyed, block, Sixteen};
+ghost use Rattle.sixteen.specs.Blocks.{Each, pairAt, Paired, Halves, keyed, block, Sized};
 
 // The bytes of eight words, transposed bit by bit, so that word i has bit i of all 64 bytes: three stages of masked swaps. It is its own
 // inverse.
@@ -82,142 +83,158 @@ fn half(high: u32, low: u32) -> u64
 }
 
 // Words 2 i and 2 i + 1 as one.
-fn pair(t: &[u32; 16], i: usize) -> u64
-    requires { ⌜ (i < 8) × (length (now t) ≡ 16) ⌝ }
+fn pair(t: &[u32; 64], i: usize) -> u64
+    requires { ⌜ (i < 32) × (length (now t) ≡ 64) ⌝ }
     ensures { λ r. ⌜ (r ≡ pairAt (now (t .entry)) i) × (getD (now (t .entry)) (2 * i) 0 < 2 ^ 32) ⌝ }
 {
     half(t[2 * i + 1], t[2 * i])
 }
 
-// Sixteen words as eight.
-fn paired(t: &[u32; 16]) -> [u64; 8]
-    requires { ⌜ length (now t) ≡ 16 ⌝ }
-    ensures { λ r. ⌜ Paired (now (t .entry)) r ⌝ }
+// The sixteen words of group g as eight.
+fn paired(t: &[u32; 64], g: usize) -> [u64; 8]
+    requires { ⌜ (g < 4) × (length (now t) ≡ 64) ⌝ }
+    ensures { λ r. ⌜ Paired (now (t .entry)) g r ⌝ }
 {
+    let p = 8 * g;
     [
-        pair(t, 0),
-        pair(t, 1),
-        pair(t, 2),
-        pair(t, 3),
-        pair(t, 4),
-        pair(t, 5),
-        pair(t, 6),
-        pair(t, 7),
+        pair(t, p),
+        pair(t, p + 1),
+        pair(t, p + 2),
+        pair(t, p + 3),
+        pair(t, p + 4),
+        pair(t, p + 5),
+        pair(t, p + 6),
+        pair(t, p + 7),
     ]
 }
 
-// Each of sixteen words by tau: its four bytes by the S-box.
-fn sub_words(t: &mut [u32; 16])
-    requires { ⌜ length (now t) ≡ 16 ⌝ }
-    ensures { λ _. ⌜ Each (λ j. tau (getD (now (t .entry)) j 0)) 16 (now (t .exit)) ⌝ }
-    ensures { λ _. ⌜ length (now (t .exit)) ≡ 16 ⌝ }
+// Eight words as the sixteen of group g.
+fn put_group(z: [u64; 8], g: usize, s: &mut [u32; 64])
+    requires { ⌜ (g < 4) × (length (now s) ≡ 64) ⌝ }
+    ensures { λ _. ⌜ ((f : ℕ → ℕ) → Each f (16 * g) (now (s .entry)) → Halves f g z → Each f (16 * g + 16) (now (s .exit))) ⌝ }
+    ensures { λ _. ⌜ length (now (s .exit)) ≡ 64 ⌝ }
 {
-    let z = sub_bytes(paired(t));
     let mut i: usize = 0;
     while i < 8 {
         let x = z[i];
-        t[2 * i] = (x % 0x1_0000_0000) as u32;
-        t[2 * i + 1] = ((x >> 32) % 0x1_0000_0000) as u32;
+        let at = 16 * g + 2 * i;
+        s[at] = (x % 0x1_0000_0000) as u32;
+        s[at + 1] = ((x >> 32) % 0x1_0000_0000) as u32;
         i += 1;
     }
 }
 
-// A word rotated left.
-fn rotated(x: u32, i: u32) -> u32
-    requires { ⌜ (0 < i) × (i < 32) ⌝ }
-    ensures { λ r. ⌜ r ≡ rotl x i ⌝ }
+// Each word of the first `groups` groups by tau: its four bytes by the S-box.
+fn sub_groups(t: &[u32; 64], s: &mut [u32; 64], groups: usize)
+    requires { ⌜ (groups ≤ 4) × (length (now t) ≡ 64) × (length (now s) ≡ 64) ⌝ }
+    ensures { λ _. ⌜ Each (λ j. tau (getD (now (t .entry)) j 0)) (16 * groups) (now (s .exit)) ⌝ }
+    ensures { λ _. ⌜ length (now (s .exit)) ≡ 64 ⌝ }
 {
-    x << i | x >> (32 - i)
-}
-
-// The linear map L.
-fn linear(x: u32) -> u32
-    ensures { λ r. ⌜ r ≡ L x ⌝ }
-{
-    x ^ rotated(x, 2) ^ rotated(x, 10) ^ rotated(x, 18) ^ rotated(x, 24)
+    let mut g: usize = 0;
+    while g < groups {
+        let z = sub_bytes(paired(t, g));
+        put_group(z, g, s);
+        g += 1;
+    }
 }
 
 // What goes into the S-boxes of the first n blocks.
-fn keyed_words(b: &[u32; 16], c: &[u32; 16], d: &[u32; 16], k: u32, n: usize) -> [u32; 16]
-    requires { ⌜ n ≤ 16 ⌝ }
-    requires { ⌜ (length (now b) ≡ 16) × (length (now c) ≡ 16) × (length (now d) ≡ 16) ⌝ }
-    ensures { λ r. ⌜ Each (keyed (now (b .entry)) (now (c .entry)) (now (d .entry)) k) n r ⌝ }
+fn keyed_words(t: &mut [u32; 64], b: &[u32; 64], c: &[u32; 64], d: &[u32; 64], k: u32, n: usize)
+    requires { ⌜ n ≤ 64 ⌝ }
+    requires { ⌜ (length (now t) ≡ 64) × (length (now b) ≡ 64) × (length (now c) ≡ 64) × (length (now d) ≡ 64) ⌝ }
+    ensures { λ _. ⌜ Each (keyed (now (b .entry)) (now (c .entry)) (now (d .entry)) k) n (now (t .exit)) ⌝ }
+    ensures { λ _. ⌜ length (now (t .exit)) ≡ 64 ⌝ }
 {
-    let mut t = [0u32; 16];
     let mut j: usize = 0;
     while j < n {
         t[j] = b[j] ^ c[j] ^ d[j] ^ k;
         j += 1;
     }
-    t
 }
 
 // L of n words, added to a.
-fn mix(a: &mut [u32; 16], t: &[u32; 16], n: usize)
-    requires { ⌜ n ≤ 16 ⌝ }
-    requires { ⌜ (length (now a) ≡ 16) × (length (now t) ≡ 16) ⌝ }
-    ensures { λ _. ⌜ Each (λ j. getD (now (a .entry)) j 0 ⊕ L (getD (now (t .entry)) j 0)) n (now (a .exit)) ⌝ }
-    ensures { λ _. ⌜ length (now (a .exit)) ≡ 16 ⌝ }
+fn mix(a: &mut [u32; 64], s: &[u32; 64], n: usize)
+    requires { ⌜ n ≤ 64 ⌝ }
+    requires { ⌜ (length (now a) ≡ 64) × (length (now s) ≡ 64) ⌝ }
+    ensures { λ _. ⌜ Each (λ j. getD (now (a .entry)) j 0 ⊕ L (getD (now (s .entry)) j 0)) n (now (a .exit)) ⌝ }
+    ensures { λ _. ⌜ length (now (a .exit)) ≡ 64 ⌝ }
 {
     let mut j: usize = 0;
     while j < n {
-        a[j] = a[j] ^ linear(t[j]);
+        a[j] = a[j] ^ cipher::l_trans(s[j]);
         j += 1;
     }
 }
 
-// One round of the first n blocks: onto a.
-fn round(a: &mut [u32; 16], b: &[u32; 16], c: &[u32; 16], d: &[u32; 16], k: u32, n: usize)
-    requires { ⌜ n ≤ 16 ⌝ }
-    requires { ⌜ Sixteen (now a) (now b) (now c) (now d) ⌝ }
+// One round of the first n blocks, which are in the first `groups` groups: onto a. What t and s hold is not said.
+fn round(
+    a: &mut [u32; 64],
+    b: &[u32; 64],
+    c: &[u32; 64],
+    d: &[u32; 64],
+    t: &mut [u32; 64],
+    s: &mut [u32; 64],
+    k: u32,
+    n: usize,
+    groups: usize,
+)
+    requires { ⌜ (n ≤ 16 * groups) × (groups ≤ 4) ⌝ }
+    requires { ⌜ Sized (now a) (now b) (now c) (now d) (now t) (now s) ⌝ }
     ensures { λ _. ⌜ ((j : ℕ) → j < n → getD (now (a .exit)) j 0 ≡ getD (now (a .entry)) j 0 ⊕ T (getD (now (b .entry)) j 0 ⊕ getD (now (c .entry)) j 0 ⊕ getD (now (d .entry)) j 0 ⊕ k)) ⌝ }
-    ensures { λ _. ⌜ length (now (a .exit)) ≡ 16 ⌝ }
+    ensures { λ _. ⌜ (length (now (a .exit)) ≡ 64) × (length (now (t .exit)) ≡ 64) × (length (now (s .exit)) ≡ 64) ⌝ }
 {
-    let mut t = keyed_words(b, c, d, k, n);
-    sub_words(&mut t);
-    mix(a, &t, n);
+    keyed_words(t, b, c, d, k, n);
+    sub_groups(t, s, groups);
+    mix(a, s, n);
 }
 
 // Four rounds, by k, l, m and o.
 fn four(
-    a: &mut [u32; 16],
-    b: &mut [u32; 16],
-    c: &mut [u32; 16],
-    d: &mut [u32; 16],
+    a: &mut [u32; 64],
+    b: &mut [u32; 64],
+    c: &mut [u32; 64],
+    d: &mut [u32; 64],
+    t: &mut [u32; 64],
+    s: &mut [u32; 64],
     k: u32,
     l: u32,
     m: u32,
     o: u32,
     n: usize,
+    groups: usize,
 )
-    requires { ⌜ n ≤ 16 ⌝ }
-    requires { ⌜ Sixteen (now a) (now b) (now c) (now d) ⌝ }
+    requires { ⌜ (n ≤ 16 * groups) × (groups ≤ 4) ⌝ }
+    requires { ⌜ Sized (now a) (now b) (now c) (now d) (now t) (now s) ⌝ }
     ensures { λ _. ⌜ ((j : ℕ) → j < n → block (now (a .exit)) (now (b .exit)) (now (c .exit)) (now (d .exit)) j ≡ rounds (k ∷ l ∷ m ∷ o ∷ []) (block (now (a .entry)) (now (b .entry)) (now (c .entry)) (now (d .entry)) j)) ⌝ }
-    ensures { λ _. ⌜ Sixteen (now (a .exit)) (now (b .exit)) (now (c .exit)) (now (d .exit)) ⌝ }
+    ensures { λ _. ⌜ Sized (now (a .exit)) (now (b .exit)) (now (c .exit)) (now (d .exit)) (now (t .exit)) (now (s .exit)) ⌝ }
 {
-    round(a, b, c, d, k, n);
-    round(b, c, d, a, l, n);
-    round(c, d, a, b, m, n);
-    round(d, a, b, c, o, n);
+    round(a, b, c, d, t, s, k, n, groups);
+    round(b, c, d, a, t, s, l, n, groups);
+    round(c, d, a, b, t, s, m, n, groups);
+    round(d, a, b, c, t, s, o, n, groups);
 }
 
-// The first n of sixteen blocks, encrypted. Block j is word j of each array, and of the arrays taken from the last to the first once it is encrypted.
-pub(crate) fn encrypt16(
+// The first n blocks, encrypted. Block j is word j of each array, and of the arrays taken from the last to the first once it is encrypted. t and s
+// are room to work in.
+pub(crate) fn all_rounds(
     rk: [u32; 32],
     n: usize,
-    x0: &mut [u32; 16],
-    x1: &mut [u32; 16],
-    x2: &mut [u32; 16],
-    x3: &mut [u32; 16],
+    groups: usize,
+    x0: &mut [u32; 64],
+    x1: &mut [u32; 64],
+    x2: &mut [u32; 64],
+    x3: &mut [u32; 64],
+    t: &mut [u32; 64],
+    s: &mut [u32; 64],
 )
-    requires { ⌜ n ≤ 16 ⌝ }
-    requires { ⌜ Sixteen (now x0) (now x1) (now x2) (now x3) ⌝ }
+    requires { ⌜ (n ≤ 16 * groups) × (groups ≤ 4) ⌝ }
+    requires { ⌜ Sized (now x0) (now x1) (now x2) (now x3) (now t) (now s) ⌝ }
     ensures { λ _. ⌜ ((j : ℕ) → j < n → block (now (x3 .exit)) (now (x2 .exit)) (now (x1 .exit)) (now (x0 .exit)) j ≡ encryptWords rk (block (now (x0 .entry)) (now (x1 .entry)) (now (x2 .entry)) (now (x3 .entry)) j)) ⌝ }
-    ensures { λ _. ⌜ Sixteen (now (x0 .exit)) (now (x1 .exit)) (now (x2 .exit)) (now (x3 .exit)) ⌝ }
+    ensures { λ _. ⌜ Sized (now (x0 .exit)) (now (x1 .exit)) (now (x2 .exit)) (now (x3 .exit)) (now (t .exit)) (now (s .exit)) ⌝ }
 {
     let mut i: usize = 0;
     while i < 32 {
-        four(x0, x1, x2, x3, rk[i], rk[i + 1], rk[i + 2], rk[i + 3], n);
+        four(x0, x1, x2, x3, t, s, rk[i], rk[i + 1], rk[i + 2], rk[i + 3], n, groups);
         i += 4;
     }
 }

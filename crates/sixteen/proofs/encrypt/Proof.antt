@@ -13,17 +13,18 @@ use Rattle.sixteen.proofs.encrypt.Tie as tie
 returns : tie.Need-returns
 unfolding encryptBlock
 returns c =
-    let at-encrypt = c .before .before .before .before .before .before .before .before in
-    let at-fours = c .before .before .before .before .before .before .before .before .before .before .before .before .before in
-    let at-load = c .before .before .before .before .before .before .before .before .before .before .before .before .before .before in
-    let a = c .before .before .before .before .before .before .before .before .before .before .before .before .before .before .before .before .before .before .before .before .before .args in
+    let at-rounds = c .before .before .before .before .before .before .before .before in
+    let at-fours = at-rounds .before .before .before .before .before .before .before .before in
+    let at-load = at-fours .before in
+    let a = at-load .before .before .before .before .before .before .before .args in
     c .before .before .store .ensures (λ i. encryptWords (a .rk) (words (blockAt (now (a .src)) i)))
     (λ j h.
-    at-encrypt .encrypt16 .ensures .0 j (lt-of-lt-of-le h (at-fours .whole-fours .ensures .0))
+    at-rounds .all-rounds .ensures .0 j (lt-of-lt-of-le h (at-fours .whole-fours .ensures .0))
     ∙ ap (encryptWords (a .rk)) (at-load .load .ensures .0 j h))
 
 pub encrypt-spec : {M : Type 1} → statement M
 encrypt-spec =
     tie.close
     (tie.spec
-    (λ c κs. search needs) (λ c κs. search needs) (λ c κs. search needs) (λ c κs. search needs) (λ c. search needs) returns)
+    (λ c κs. search needs) (λ c κs. search needs) (λ c κs. search needs) (λ c κs. search needs) (λ c κs. search needs) (λ c. search needs)
+    returns)

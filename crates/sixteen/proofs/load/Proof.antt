@@ -9,12 +9,12 @@ use lib.Seq.{take-all}
 use Rattle.block.specs.Blocks.{blockAt}
 use Rattle.block.specs.Words.{words}
 use Rattle.block.proofs.WordsBack.{words-take}
-use Rattle.sixteen.specs.Blocks.{Held, Sixteen}
+use Rattle.sixteen.specs.Blocks.{Held, Arrays}
 use Rattle.sixteen.proofs.load.Statement.{statement}
 use Rattle.sixteen.proofs.load.Tie as tie
 
 abbrev Inv-loop : tie.InvT-loop
-Inv-loop src m x0₀ x1₀ x2₀ x3₀ i₀ x0 x1 x2 x3 i = (i ≤ m) × Held i (λ k. words (blockAt src k)) x0 x1 x2 x3 × Sixteen x0 x1 x2 x3
+Inv-loop src m x0₀ x1₀ x2₀ x3₀ i₀ x0 x1 x2 x3 i = (i ≤ m) × Held i (λ k. words (blockAt src k)) x0 x1 x2 x3 × Arrays x0 x1 x2 x3
 
 abbrev μ-loop : tie.MeasureT-loop
 μ-loop src m x0₀ x1₀ x2₀ x3₀ i₀ x0 x1 x2 x3 i = m - i

@@ -11,10 +11,10 @@ use Rattle.sixteen.proofs.rounds.keyed_words.Statement.{statement}
 use Rattle.sixteen.proofs.rounds.keyed_words.Tie as tie
 
 abbrev Inv-loop : tie.InvT-loop
-Inv-loop b c d k n t₀ j₀ t j = (j ≤ n) × (length t ≡ 16) × Each (keyed b c d k) j t
+Inv-loop t₀ b c d k n j₀ t j = (j ≤ n) × (length t ≡ 64) × Each (keyed b c d k) j t
 
 abbrev μ-loop : tie.MeasureT-loop
-μ-loop b c d k n t₀ j₀ t j = n - j
+μ-loop t₀ b c d k n j₀ t j = n - j
 
 loop-holds : tie.Need-loop-holds Inv-loop μ-loop
 loop-holds c = (search needs, search needs, λ j h. absurd (omega arith))
@@ -30,7 +30,7 @@ loop-again c =
     )
 
 returns : tie.Need-returns Inv-loop μ-loop
-returns c = λ j h. c .before .loop .inv .2 j (omega arith)
+returns c = let l = c .before .loop in (λ j h. l .inv .2 j (omega arith), l .inv .1)
 
 pub keyed-words-spec : {M : Type 1} → statement M
 keyed-words-spec =

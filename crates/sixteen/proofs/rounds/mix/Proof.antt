@@ -14,11 +14,11 @@ use Rattle.sixteen.proofs.rounds.mix.Statement.{statement}
 use Rattle.sixteen.proofs.rounds.mix.Tie as tie
 
 abbrev Inv-loop : tie.InvT-loop
-Inv-loop a₀ t n j₀ a j =
-    (j ≤ n) × (length a ≡ 16) × Each (λ i. getD a₀ i 0 ⊕ L (getD t i 0)) j a × ((i : ℕ) → j ≤ i → getD a i 0 ≡ getD a₀ i 0)
+Inv-loop a₀ s n j₀ a j =
+    (j ≤ n) × (length a ≡ 64) × Each (λ i. getD a₀ i 0 ⊕ L (getD s i 0)) j a × ((i : ℕ) → j ≤ i → getD a i 0 ≡ getD a₀ i 0)
 
 abbrev μ-loop : tie.MeasureT-loop
-μ-loop a₀ t n j₀ a j = n - j
+μ-loop a₀ s n j₀ a j = n - j
 
 loop-holds : tie.Need-loop-holds Inv-loop μ-loop
 loop-holds c = (search needs, search needs, λ j h. absurd (omega arith), λ j h. refl)
@@ -27,11 +27,11 @@ loop-again : tie.Need-loop-again Inv-loop μ-loop
 loop-again c =
     let l = c .before .before .before .before .loop in
     let a = c .before .before .before .before .before .args in
-    let v = getD (l .a) (l .j) 0 ⊕ c .linear .result in (
+    let v = getD (l .a) (l .j) 0 ⊕ c .l-trans .result in (
       omega arith,
       search needs,
-      each-next (λ i. getD (a .a .now) i 0 ⊕ L (getD (a .t .now) i 0)) (l .j) v (l .a) (omega arith)
-          (ap₂ (λ (x y : ℕ). x ⊕ y) (l .inv .3 (l .j) (omega arith)) (c .linear .ensures)) (l .inv .2),
+      each-next (λ i. getD (a .a .now) i 0 ⊕ L (getD (a .s .now) i 0)) (l .j) v (l .a) (omega arith)
+          (ap₂ (λ (x y : ℕ). x ⊕ y) (l .inv .3 (l .j) (omega arith)) (c .l-trans .ensures)) (l .inv .2),
       λ i h. getD-set-other (l .a) (l .j) i v 0 (λ e. omega arith) ∙ l .inv .3 i (omega arith),
     )
 

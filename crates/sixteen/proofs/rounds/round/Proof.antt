@@ -8,12 +8,14 @@ use Rattle.sixteen.proofs.rounds.round.Tie as tie
 
 returns : tie.Need-returns
 returns c =
-    let a = c .before .before .before .before .before .before .args in
-    let t = c .before .before .before .before .before in
-    let s = c .before .before .before in (
-      round-done (a .a .now) (t .keyed-words .result) (s .sub-words .last .0) (c .mix .last .0)
-          (keyed (a .b .now) (a .c .now) (a .d .now) (a .k)) (a .n) (c .before .before .before .before .before .before .pre .0) (t .keyed-words .ensures) (s .sub-words .ensures .0) (c .mix .ensures .0),
-      c .mix .ensures .1,
+    let at-sub = c .before .before .before in
+    let at-keyed = at-sub .before .before .before in
+    let S = at-keyed .before .before in
+    let a = S .args in (
+      round-done (a .a .now) (at-keyed .keyed-words .last .0) (at-sub .sub-groups .last .1 .0) (c .mix .last .0)
+          (keyed (a .b .now) (a .c .now) (a .d .now) (a .k)) (a .n) (a .groups) (S .pre .0 .0) (at-keyed .keyed-words .ensures .0)
+          (at-sub .sub-groups .ensures .0) (c .mix .ensures .0),
+      (c .mix .ensures .1, at-keyed .keyed-words .ensures .1, at-sub .sub-groups .ensures .1),
     )
 
 pub round-spec : {M : Type 1} → statement M
