@@ -102,6 +102,9 @@ pub fn encrypt(rk: [u32; 32], m: usize, src: &[u8], out: &mut [u8])
     requires { ⌜ (m ≤ 64) × (16 * m ≤ length (now src)) × (16 * m ≤ length (now out)) ⌝ }
     ensures { λ _. ⌜ now (out .exit) ≡ over (cat m (λ i. encryptBlock rk (blockAt (now (src .entry)) i))) (now (out .entry)) ⌝ }
 {
+    if m == 0 {
+        return;
+    }
     let mut x0 = [0u32; 64];
     let mut x1 = [0u32; 64];
     let mut x2 = [0u32; 64];

@@ -2,9 +2,10 @@
 -- ciphers of all of them, xored with the message, are what the walk gives.
 -- Assumes nothing.
 use mathlib.Core.Path.{_≡_, refl, sym, ap, ap₂, subst, _∙_}
+use mathlib.Core.Logic.{_⊎_, inl, inr}
 use mathlib.Core.Bool.{Bool, true, false}
 use Prim.Native.Nat.{ℕ, zero, suc, _+_, _*_, _/_, _%_, _^_, _<_, _≤_}
-use mathlib.Core.List.{List, _++_, append-assoc}
+use mathlib.Core.List.{List, [], _∷_, _++_, append-assoc}
 use native.Mathlib.Omega.{arith}
 use lib.ListN.{length, take, drop, length-append}
 use lib.Seq.{length-take-le}
@@ -36,9 +37,9 @@ never-ahead k j h e f =
     let z : _≡_ {A = ℕ} 0 1 = cc in
     omega arith
 
--- and where it was not told that they are
-pub not-told : (k : Kind) → false ≡ true → ahead k ≡ true
-not-told k e =
+-- what is false is not true
+pub untrue : {A : Type 0} → false ≡ true → A
+untrue e =
     let z : _≡_ {A = ℕ} 0 1 = cc in
     absurd (omega arith)
 
@@ -74,29 +75,44 @@ module _ (k : Kind) (rk s d : List ℕ) (m : ℕ) (h : 16 * m ≤ length d) wher
   given : ℕ → List ℕ
   given i = streamMode k rk .block (stepped (streamMode k rk) i s d) (blockAt d i)
 
-  -- the ciphers of the states behind one another
-  module _ (states pads z : List ℕ) (hs : (i : ℕ) → i < m + 1 → blockAt states i ≡ stepped (streamMode k rk) i s d)
-      (hp : pads ≡ over (cat (m + 1) (λ i. encryptBlock rk (blockAt states i))) z) where
-    pub few-written : (o t : List ℕ) → t ≡ over (xors (take (16 * m) d) pads) o
+  -- the ciphers of the states behind one another, of one more than there are blocks or as many
+  module _ (n : ℕ) (states pads z : List ℕ) (hs : (i : ℕ) → i < m + 1 → blockAt states i ≡ stepped (streamMode k rk) i s d)
+      (hp : pads ≡ over (cat n (λ i. encryptBlock rk (blockAt states i))) z) where
+    ciphers : ℕ → List ℕ
+    ciphers i = encryptBlock rk (blockAt states i)
+
+    -- at the front those of the blocks, and behind them
+    behind : (n ≡ m) ⊎ (n ≡ m + 1) → List ℕ
+    behind (inl e) = drop (length (cat n ciphers)) z
+    behind (inr e) = ciphers m ++ drop (length (cat n ciphers)) z
+
+    front : (hn : (n ≡ m) ⊎ (n ≡ m + 1)) → pads ≡ cat m ciphers ++ behind hn
+    unfolding ciphers behind
+    front (inl e) = hp ∙ ap (λ (j : ℕ). cat j ciphers ++ drop (length (cat n ciphers)) z) e
+    front (inr e) =
+        let Z = drop (length (cat n ciphers)) z in
+        hp
+        ∙ ap (λ (j : ℕ). cat j ciphers ++ Z) e
+        ∙ ap (λ (x : List ℕ). x ++ Z) (cat-next m ciphers)
+        ∙ append-assoc (cat m ciphers) (ciphers m) Z
+
+    pub few-written : (n ≡ m) ⊎ (n ≡ m + 1) → (o t : List ℕ) → t ≡ over (xors (take (16 * m) d) pads) o
         → t ≡ over (cat m (λ i. streamMode k rk .block (stepped (streamMode k rk) i s d) (blockAt d i))) o
-    unfolding given
-    few-written o t e =
-        let f : ℕ → List ℕ = λ i. encryptBlock rk (blockAt states i) in
-        let Z = drop (length (cat (m + 1) f)) z in
-        let full : (i : ℕ) → i < m → length (f i) ≡ 16 = λ i l. length-encryptBlock rk (blockAt states i) in
-        let split : pads ≡ cat m f ++ (f m ++ Z) = hp ∙ ap (λ (x : List ℕ). x ++ Z) (cat-next m f) ∙ append-assoc (cat m f) (f m) Z in
+    unfolding given ciphers
+    few-written hn o t e =
+        let full : (i : ℕ) → i < m → length (ciphers i) ≡ 16 = λ i l. length-encryptBlock rk (blockAt states i) in
         let xored : xors (take (16 * m) d) pads ≡ cat m given =
-        ap (xors (take (16 * m) d)) split
-        ∙ xored-blocks m d (f m ++ Z) f h full
-        ∙ cat-same m (λ i. xors (blockAt d i) (f i)) given
+        ap (xors (take (16 * m) d)) (front hn)
+        ∙ xored-blocks m d (behind hn) ciphers h full
+        ∙ cat-same m (λ i. xors (blockAt d i) (ciphers i)) given
         (λ i l. ap (λ (x : List ℕ). xors (blockAt d i) (encryptBlock rk x)) (hs i (omega arith))) in
         e ∙ ap (λ (x : List ℕ). over x o) xored
 
-    pub few-pad : blockAt pads m ≡ encryptBlock rk (stepped (streamMode k rk) m s d)
-    few-pad =
-        let f : ℕ → List ℕ = λ i. encryptBlock rk (blockAt states i) in
+    pub few-pad : n ≡ m + 1 → blockAt pads m ≡ encryptBlock rk (stepped (streamMode k rk) m s d)
+    unfolding ciphers
+    few-pad hn =
         ap (λ (x : List ℕ). blockAt x m) hp
-        ∙ block-of (m + 1) f (drop (length (cat (m + 1) f)) z) (λ i l. length-encryptBlock rk (blockAt states i)) m (omega arith)
+        ∙ block-of n ciphers (drop (length (cat n ciphers)) z) (λ i l. length-encryptBlock rk (blockAt states i)) m (omega arith)
         ∙ ap (encryptBlock rk) (hs m (omega arith))
 
   -- the walk has come behind m blocks
@@ -112,8 +128,33 @@ module _ (k : Kind) (rk s d : List ℕ) (m : ℕ) (h : 16 * m ≤ length d) wher
       (λ i g. stream-block k rk (stepped M i s d) (blockAt d i) (length-blockAt d i m g h)) fr (rw (tail-is o 0) ft)))
 
   -- and the rest behind them was xored with the cipher of the state there
-  pub few-ended : (o t r p u : List ℕ) → length d < 16 * m + 16 → Reached (streamMode k rk) s d o r t (16 * m) → p ≡ encryptBlock rk r
-      → u ≡ over (xors (tailed (16 * m) d) p) (tailed (16 * m) t) → returned (16 * m) t u ≡ over (chain (streamMode k rk) s d) o
+  pub few-ended : (o t r p u : List ℕ) → length d < 16 * m + 16 → Reached (streamMode k rk) s d o r t (16 * m)
+      → xors (tailed (16 * m) d) p ≡ xors (tailed (16 * m) d) (encryptBlock rk r) → u ≡ over (xors (tailed (16 * m) d) p) (tailed (16 * m) t)
+      → returned (16 * m) t u ≡ over (chain (streamMode k rk) s d) o
   few-ended o t r p u l R ep eu =
-      rest-written (streamMode k rk) r d t u (16 * m) l (eu ∙ ap (λ (q : List ℕ). over (xors (tailed (16 * m) d) q) (tailed (16 * m) t)) ep)
+      rest-written (streamMode k rk) r d t u (16 * m) l (eu ∙ ap (λ (x : List ℕ). over x (tailed (16 * m) t)) ep)
       ∙ R .leaves
+
+-- where nothing is left, it does not matter with what
+nothing-xored : (d p q : List ℕ) → length d ≡ 0 → xors d p ≡ xors d q
+nothing-xored [] p q h = refl
+nothing-xored (x ∷ d) p q h = absurd (omega arith)
+
+pub nothing-written : (d p o : List ℕ) → length d ≡ 0 → o ≡ over (xors d p) o
+nothing-written [] p o h = refl
+nothing-written (x ∷ d) p o h = absurd (omega arith)
+
+-- a rest, with a pad if there is one
+pub rest-xored : (b : Bool) (d p q : List ℕ) → (b ≡ true → p ≡ q) → (b ≡ false → length d ≡ 0) → xors d p ≡ xors d q
+rest-xored true d p q f g = ap (xors d) (f refl)
+rest-xored false d p q f g = nothing-xored d p q (g refl)
+
+-- so many states are ciphered at most
+pub at-most : (b : Bool) (m r : ℕ) → m ≤ 64 → (b ≡ true → m ≤ 63) → (b ≡ true → r ≡ m + 1) → (b ≡ false → r ≡ m) → r ≤ 64
+at-most true m r h f g k =
+    let x = f refl in
+    let y = g refl in
+    omega arith
+at-most false m r h f g k =
+    let y = k refl in
+    omega arith

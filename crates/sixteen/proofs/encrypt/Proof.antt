@@ -1,22 +1,26 @@
 -- `sixteen::encrypt` meets its contract: the words that are loaded are those of the blocks, those that are stored their ciphers.
 -- Assumes nothing.
 use borrow.Author.Needs.{needs}
-use mathlib.Core.Path.{_≡_, ap, _∙_}
+use mathlib.Core.Path.{_≡_, refl, ap, _∙_}
 use native.Mathlib.Nat.{lt-of-lt-of-le}
 use denote.Ref.{now}
-use Rattle.block.specs.Blocks.{blockAt}
+use Rattle.block.specs.Blocks.{blockAt, cat}
 use Rattle.block.specs.Words.{words}
 use Rattle.cipher.specs.Sm4.{encryptWords, encryptBlock}
 use Rattle.sixteen.proofs.encrypt.Statement.{statement}
 use Rattle.sixteen.proofs.encrypt.Tie as tie
 
 returns : tie.Need-returns
+unfolding cat
+returns c = rw (c .if1 .taken) refl
+
+returns-2 : tie.Need-returns-2
 unfolding encryptBlock
-returns c =
+returns-2 c =
     let at-rounds = c .before .before .before .before .before .before .before .before in
     let at-fours = at-rounds .before .before .before .before .before .before .before .before in
     let at-load = at-fours .before in
-    let a = at-load .before .before .before .before .before .before .before .args in
+    let a = at-load .before .before .before .before .before .before .before .before .args in
     c .before .before .store .ensures (λ i. encryptWords (a .rk) (words (blockAt (now (a .src)) i)))
     (λ j h.
     at-rounds .all-rounds .ensures .0 j (lt-of-lt-of-le h (at-fours .whole-fours .ensures .0))
@@ -26,5 +30,5 @@ pub encrypt-spec : {M : Type 1} → statement M
 encrypt-spec =
     tie.close
     (tie.spec
-    (λ c κs. search needs) (λ c κs. search needs) (λ c κs. search needs) (λ c κs. search needs) (λ c κs. search needs) (λ c. search needs)
-    returns)
+    returns (λ c κs. search needs) (λ c κs. search needs) (λ c κs. search needs) (λ c κs. search needs) (λ c κs. search needs) (λ c. search needs)
+    returns-2)

@@ -18,10 +18,10 @@ use Rattle.stream.proofs.one_by_one.Statement.{statement}
 use Rattle.stream.proofs.one_by_one.Tie as tie
 
 abbrev Inv-loop : tie.InvT-loop
-Inv-loop t rk kind d out₀ s₀ at₀ out s at = Reached (streamMode kind rk) (unwords s₀) d out₀ (unwords s) out at
+Inv-loop t rk kind on d out₀ s₀ at₀ out s at = Reached (streamMode kind rk) (unwords s₀) d out₀ (unwords s) out at
 
 abbrev μ-loop : tie.MeasureT-loop
-μ-loop t rk kind d out₀ s₀ at₀ out s at = length d - at
+μ-loop t rk kind on d out₀ s₀ at₀ out s at = length d - at
 
 loop-holds : tie.Need-loop-holds Inv-loop μ-loop
 loop-holds c =
@@ -51,7 +51,7 @@ returns c =
     let rested = c .before .before .xor-rest .ensures in (
       ended,
       (
-        rested .0 ∙ ap (encryptBlock (a .rk)) ended,
+        λ e. rested .0 e ∙ ap (encryptBlock (a .rk)) ended,
         rest-written m s d (l .out) _ (l .at) (omega arith) (rested .1) ∙ l .inv .leaves,
       ),
     )

@@ -2,25 +2,25 @@
 -- Assumes nothing.
 use mathlib.Core.Path.{_≡_, ap}
 use Rattle.stream.specs.Stream.{ahead}
-use Rattle.stream.proofs.Ahead.{not-told}
+use Rattle.stream.proofs.Ahead.{untrue}
 use borrow.Author.Needs.{needs}
 use Rattle.stream.proofs.side_by_side.Statement.{statement}
 use Rattle.stream.proofs.side_by_side.Tie as tie
 
 returns : tie.Need-returns
-returns c = not-told (c .before .before .before .args .kind)
+returns c = λ e. untrue e
 
 returns-2 : tie.Need-returns-2
-returns-2 c = not-told (c .before .before .before .before .args .kind)
+returns-2 c = λ e. untrue e
 
 returns-3 : tie.Need-returns-3
-returns-3 c = not-told (c .before .before .before .before .before .before .args .kind)
+returns-3 c = λ e. untrue e
 
 returns-4 : tie.Need-returns-4
 returns-4 c = λ e. ap ahead (c .enum-told2 .given .1)
 
 returns-5 : tie.Need-returns-5
-returns-5 c = not-told (c .before .before .before .before .before .before .args .kind)
+returns-5 c = λ e. untrue e
 
 returns-6 : tie.Need-returns-6
 returns-6 c = λ e. ap ahead (c .enum-told4 .given .1)

@@ -20,7 +20,7 @@ returns c =
     let x = c .before .before .finish .ensures in
     let ended = reached-end M (unwords (a .iv)) d (now (a .out)) _ _ _ begun in (
       x .0 ∙ ended,
-      (x .1 .0 ∙ ap (encryptBlock (a .rk)) ended, reached-over M (unwords (a .iv)) d (now (a .out)) _ _ _ begun _ (x .1 .1)),
+      (λ e. x .1 .0 e ∙ ap (encryptBlock (a .rk)) ended, reached-over M (unwords (a .iv)) d (now (a .out)) _ _ _ begun _ (x .1 .1)),
     )
 
 pub stream-spec : {M : Type 1} → statement M
