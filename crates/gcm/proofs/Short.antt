@@ -71,7 +71,7 @@ module _ (rk j : List ℕ) (hj : length j ≡ 16) (bj : AreBytes j) (m : ℕ) (s
   pub mask-pad : 0 < m → take 16 pads ≡ encryptBlock rk j
   mask-pad h = pad-at 0 h ∙ ap (encryptBlock rk) (no-gcm-jump j hj bj)
 
-  pub text-pad : (d : List ℕ) → length d / 16 + 2 ≤ m → length pads ≡ 256 → length d < 240 → xors d (drop 16 pads) ≡ textOf rk j d
+  pub text-pad : (d : List ℕ) → length d / 16 + 2 ≤ m → length pads ≡ 512 → length d < 496 → xors d (drop 16 pads) ≡ textOf rk j d
   unfolding textOf
   text-pad d h l g =
       let n = length d / 16 in

@@ -54,7 +54,7 @@ fn hashed_counter(h: U128, iv: &[u8]) -> [u32; 4]
     requires { ⌜ length (now iv) ≡ 16 ⌝ }
     ensures { λ r. ⌜ unwords r ≡ hashedCounter (value h) (now (iv .entry)) ⌝ }
 {
-    block::from_u128(ghash::galois_hash(h, false, &iv[0..0], iv))
+    block::from_u128(ghash::galois_hash(h, &iv[0..0], iv))
 }
 
 // J0 of an IV of twelve or of sixteen bytes.
@@ -69,11 +69,11 @@ pub fn first_counter(h: U128, iv: &[u8]) -> [u32; 4]
 }
 
 // The tag of a label and a text under a mask.
-fn masked_tag(mask: [u32; 4], h: U128, lanes: bool, aad: &[u8], text: &[u8]) -> [u32; 4]
+fn masked_tag(mask: [u32; 4], h: U128, aad: &[u8], text: &[u8]) -> [u32; 4]
     requires { ⌜ Hashable (length (now aad)) × Hashable (length (now text)) ⌝ }
     ensures { λ r. ⌜ unwords r ≡ maskedTag (unwords mask) (value h) (now (aad .entry)) (now (text .entry)) ⌝ }
 {
-    let hash = block::from_u128(ghash::galois_hash(h, lanes, aad, text));
+    let hash = block::from_u128(ghash::galois_hash(h, aad, text));
     block::block_xor(mask, hash)
 }
 
@@ -83,36 +83,36 @@ fn tag(t: &[u32], rk: [u32; 32], h: U128, j0: [u32; 4], aad: &[u8], text: &[u8])
     ensures { λ r. ⌜ unwords r ≡ tagOf rk (value h) (unwords j0) (now (aad .entry)) (now (text .entry)) ⌝ }
 {
     let mask = cipher::encrypt(t, rk, j0);
-    masked_tag(mask, h, cipher::by_gates(t), aad, text)
+    masked_tag(mask, h, aad, text)
 }
 
-// Whether a text of n bytes goes in one batch with J0: where the gates are lent and it is short.
+// Whether a text of n bytes goes in one batch with J0: where the gates are lent, and both are at most 32 blocks.
 fn in_one_batch(t: &[u32], n: usize) -> bool
-    ensures { λ r. ⌜ (r ≡ true → n < 240) ⌝ }
+    ensures { λ r. ⌜ (r ≡ true → n < 496) ⌝ }
 {
     if !cipher::by_gates(t) {
         return false;
     }
-    n < 240
+    n < 496
 }
 
 // The ciphers of J0 and of the counters behind it, for a text of n bytes: the mask of its tag, and what it is xored with.
-fn pads_from(rk: [u32; 32], j0: [u32; 4], n: usize) -> [u8; 256]
-    requires { ⌜ n < 240 ⌝ }
+fn pads_from(rk: [u32; 32], j0: [u32; 4], n: usize) -> [u8; 512]
+    requires { ⌜ n < 496 ⌝ }
     ensures { λ r. ⌜ take 16 r ≡ encryptBlock rk (unwords j0) ⌝ }
     ensures { λ r. ⌜ ((d : List ℕ) → length d ≡ n → xors d (drop 16 r) ≡ textOf rk (unwords j0) d) ⌝ }
 {
     let m = n / 16 + 2;
-    let mut states = [0u8; 256];
+    let mut states = [0u8; 512];
     stream::few::lay_counters(false, j0, m, &mut states);
-    let mut pads = [0u8; 256];
+    let mut pads = [0u8; 512];
     sixteen::encrypt(rk, m, &states, &mut pads);
     pads
 }
 
 // Seals a short text.
 fn encrypt_short(rk: [u32; 32], h: U128, j0: [u32; 4], aad: &[u8], data: &[u8], out: &mut [u8])
-    requires { ⌜ length (now «data») < 240 ⌝ }
+    requires { ⌜ length (now «data») < 496 ⌝ }
     requires { ⌜ Hashable (length (now aad)) × Hashable (length (now «data»)) ⌝ }
     requires { ⌜ length (now «data») + 16 ≤ length (now out) ⌝ }
     ensures { λ _. ⌜ now (out .exit) ≡ over (sealed rk (value h) (unwords j0) (now (aad .entry)) (now («data» .entry))) (now (out .entry)) ⌝ }
@@ -121,7 +121,7 @@ fn encrypt_short(rk: [u32; 32], h: U128, j0: [u32; 4], aad: &[u8], data: &[u8], 
     let pads = pads_from(rk, j0, n);
     let mask = block::split_block(&pads);
     sixteen::xor_bytes(&pads[16..], data, out);
-    let mac = masked_tag(mask, h, true, aad, &out[0..n]);
+    let mac = masked_tag(mask, h, aad, &out[0..n]);
     block::put_block(mac, &mut out[n..]);
 }
 
@@ -146,7 +146,7 @@ pub fn encrypt(
         return;
     }
     let first = counter::gcm_block_add_one(j0).counter;
-    stream::stream(t, rk, Kind::Gctr, first, data, out);
+    stream::stream(t, rk, Kind::Gctr, first, false, data, out);
     let mac = tag(t, rk, h, j0, aad, &out[0..n]);
     block::put_block(mac, &mut out[n..]);
 }
@@ -209,13 +209,13 @@ fn decrypt_short(
     out: &mut [u8],
 ) -> Opened
     requires { ⌜ Hashable (length (now aad)) × Hashable (length (now «data»)) ⌝ }
-    requires { ⌜ (16 ≤ length (now «data»)) × (length (now «data») < 256) × (length (now «data») - 16 ≤ length (now out)) ⌝ }
+    requires { ⌜ (16 ≤ length (now «data»)) × (length (now «data») < 512) × (length (now «data») - 16 ≤ length (now out)) ⌝ }
     ensures { λ r. ⌜ leaving (headOf r) (now (out .exit)) ≡ gcmOpen rk (value h) (unwords j0) (now (aad .entry)) (now («data» .entry)) (now (out .entry)) ⌝ }
 {
     let text = text_part(data);
     let pads = pads_from(rk, j0, text.len());
     let mask = block::split_block(&pads);
-    if has_tag(data, masked_tag(mask, h, true, aad, text)) {
+    if has_tag(data, masked_tag(mask, h, aad, text)) {
         sixteen::xor_bytes(&pads[16..], text, out);
         return Opened::Done(text.len());
     }
@@ -243,7 +243,7 @@ pub fn decrypt(
     if opens(t, rk, h, j0, aad, data) {
         let text = text_part(data);
         let first = counter::gcm_block_add_one(j0).counter;
-        stream::stream(t, rk, Kind::Gctr, first, text, out);
+        stream::stream(t, rk, Kind::Gctr, first, false, text, out);
         return Opened::Done(text.len());
     }
     Opened::InvalidTag

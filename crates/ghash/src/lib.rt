@@ -111,12 +111,9 @@ impl Ghash {
 
     // All of `bytes`, zeros to the last block's end. Where `lanes` is true, the full sets of 128 blocks of a text of three and more go
     // in lanes, which pays from there on.
-    pub fn absorb_all(self, lanes: bool, bytes: &[u8]) -> Ghash
+    pub fn absorb_all(self, bytes: &[u8]) -> Ghash
         ensures { λ r. ⌜ Absorbed self (blocks (now (bytes .entry))) r ⌝ }
     {
-        if !lanes {
-            return self.absorb_each(bytes);
-        }
         if bytes.len() < 6144 {
             return self.absorb_each(bytes);
         }
@@ -140,13 +137,13 @@ impl Ghash {
 }
 
 // The hash of a label and a text, with their lengths. `lanes` says whether long ones are hashed in lanes.
-pub fn galois_hash(h: U128, lanes: bool, label: &[u8], text: &[u8]) -> U128
+pub fn galois_hash(h: U128, label: &[u8], text: &[u8]) -> U128
     requires { ⌜ Hashable (length (now label)) × Hashable (length (now text)) ⌝ }
     ensures { λ r. ⌜ value r ≡ ghash (value h) (authBlocks (now (label .entry)) (now (text .entry))) ⌝ }
 {
     let start = Ghash::new(h);
-    let labelled = start.absorb_all(lanes, label);
-    let texted = labelled.absorb_all(lanes, text);
+    let labelled = start.absorb_all(label);
+    let texted = labelled.absorb_all(text);
     let end = texted.absorb_lengths(label.len(), text.len());
     end.y
 }

@@ -44,7 +44,7 @@ xor-bytes-requires c κs =
     let t = c .before .before .before .before .before .before .before .before .before .text-part in
     let d = c .before .before .before .before .before .before .before .before .before .before .before .before .before .args .«data» .now in
     let n : length (now (t .result)) ≡ length d - 16 = ap length (t .ensures) ∙ length-take-le (length d - 16) d (omega arith) in
-    let size : length (c .before .before .before .before .before .before .before .before .pads-from .result) ≡ 256 = search (needs, c .before .before .before .before .before .before .before .before .pads-from) in
+    let size : length (c .before .before .before .before .before .before .before .before .pads-from .result) ≡ 512 = search (needs, c .before .before .before .before .before .before .before .before .pads-from) in
     (omega arith, omega arith)
 
 returns : tie.Need-returns
@@ -60,18 +60,18 @@ returns c =
     let part = c .before .before .before .before .before .before .before .before .before .before .before .before .text-part .ensures in
     let pads = c .before .before .before .before .before .before .before .before .before .before .before .pads-from in
     let fits : (i : ℕ) → Fits w8 (getD (pads .result) i 0) = λ i. search (needs, pads) in
-    let size : length (pads .result) ≡ 256 = search (needs, pads) in
+    let size : length (pads .result) ≡ 512 = search (needs, pads) in
     let mask : unwords (c .before .before .before .before .before .before .before .before .before .split-block .result) ≡ encryptBlock (a .rk) j =
     ap unwords (c .before .before .before .before .before .before .before .before .before .split-block .ensures)
     ∙ unwords-front (pads .result) (omega arith) (below-each 256 (pads .result) (λ i. fits i .fits))
     ∙ pads .ensures .0 in
-    let tail : take 240 (drop 16 (pads .result)) ≡ drop 16 (pads .result) =
-    take-all 240 (drop 16 (pads .result)) (rw length-drop (omega arith)) in
+    let tail : take 496 (drop 16 (pads .result)) ≡ drop 16 (pads .result) =
+    take-all 496 (drop 16 (pads .result)) (rw length-drop (omega arith)) in
     let told : c .before .before .before .before .before .before .before .has-tag .result ≡ opensUnder (a .rk) h j label d =
     c .before .before .before .before .before .before .before .has-tag .ensures
     ∙ ap (same (tagPart d)) (c .before .before .before .before .before .before .before .before .masked-tag .ensures ∙ ap₂ (λ (x y : List ℕ). maskedTag x h label y) mask part) in
     let size : length text ≡ length (textOf (a .rk) j (textPart d)) = ap length part ∙ sym (length-text (a .rk) j (textPart d)) in
-    let is-text : xors text (take 240 (drop 16 (pads .result))) ≡ textOf (a .rk) j (textPart d) =
+    let is-text : xors text (take 496 (drop 16 (pads .result))) ≡ textOf (a .rk) j (textPart d) =
     ap (xors text) tail ∙ pads .ensures .1 text refl ∙ ap (textOf (a .rk) j) part in
     ap₂ {C = Outcome} (λ (n : ℕ) (q : List ℕ). leaving (finished n) q) size
     (c .before .before .xor-bytes .ensures ∙ ap (λ (p : List ℕ). over p o) is-text)
@@ -90,13 +90,13 @@ returns-2 c =
     let part = c .before .before .before .before .before .before .text-part .ensures in
     let pads = c .before .before .before .before .before .pads-from in
     let fits : (i : ℕ) → Fits w8 (getD (pads .result) i 0) = λ i. search (needs, pads) in
-    let size : length (pads .result) ≡ 256 = search (needs, pads) in
+    let size : length (pads .result) ≡ 512 = search (needs, pads) in
     let mask : unwords (c .before .before .before .split-block .result) ≡ encryptBlock (a .rk) j =
     ap unwords (c .before .before .before .split-block .ensures)
     ∙ unwords-front (pads .result) (omega arith) (below-each 256 (pads .result) (λ i. fits i .fits))
     ∙ pads .ensures .0 in
-    let tail : take 240 (drop 16 (pads .result)) ≡ drop 16 (pads .result) =
-    take-all 240 (drop 16 (pads .result)) (rw length-drop (omega arith)) in
+    let tail : take 496 (drop 16 (pads .result)) ≡ drop 16 (pads .result) =
+    take-all 496 (drop 16 (pads .result)) (rw length-drop (omega arith)) in
     let told : c .before .has-tag .result ≡ opensUnder (a .rk) h j label d =
     c .before .has-tag .ensures
     ∙ ap (same (tagPart d)) (c .before .before .masked-tag .ensures ∙ ap₂ (λ (x y : List ℕ). maskedTag x h label y) mask part) in

@@ -33,7 +33,7 @@ returns-2 c =
     let o = now (a .out) in
     let j = unwords (a .j0) in
     let text = textOf (a .rk) j d in
-    let o₁ = c .before .before .before .before .before .before .before .before .before .stream .last .1 .1 .1 .1 .1 .0 in
+    let o₁ = c .before .before .before .before .before .before .before .before .before .stream .last .1 .1 .1 .1 .1 .1 .0 in
     let e : o₁ ≡ over text o =
     c .before .before .before .before .before .before .before .before .before .stream .ensures .1 .1
     ∙ ap (λ (q : List ℕ). over q o) (text-words (a .rk) j _ d (c .before .before .before .before .before .before .before .before .before .before .before .before .gcm-block-add-one .ensures .0)) in

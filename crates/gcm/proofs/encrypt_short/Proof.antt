@@ -37,13 +37,13 @@ returns c =
     let text = textOf (a .rk) j d in
     let pads = c .before .before .before .before .before .before .before .before .before .before .before .before .before .before .before .pads-from in
     let fits : (i : ℕ) → Fits w8 (getD (pads .result) i 0) = λ i. search (needs, pads) in
-    let size : length (pads .result) ≡ 256 = search (needs, pads) in
+    let size : length (pads .result) ≡ 512 = search (needs, pads) in
     let mask : unwords (c .before .before .before .before .before .before .before .before .before .before .before .before .before .split-block .result) ≡ encryptBlock (a .rk) j =
     ap unwords (c .before .before .before .before .before .before .before .before .before .before .before .before .before .split-block .ensures)
     ∙ unwords-front (pads .result) (omega arith) (below-each 256 (pads .result) (λ i. fits i .fits))
     ∙ pads .ensures .0 in
-    let tail : take 240 (drop 16 (pads .result)) ≡ drop 16 (pads .result) =
-    take-all 240 (drop 16 (pads .result)) (rw length-drop (omega arith)) in
+    let tail : take 496 (drop 16 (pads .result)) ≡ drop 16 (pads .result) =
+    take-all 496 (drop 16 (pads .result)) (rw length-drop (omega arith)) in
     let o₁ = c .before .before .before .before .before .before .before .before .before .xor-bytes .last .1 .1 .0 in
     let e : o₁ ≡ over text o =
     c .before .before .before .before .before .before .before .before .before .xor-bytes .ensures

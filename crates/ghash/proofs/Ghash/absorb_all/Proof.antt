@@ -9,18 +9,18 @@ use Rattle.ghash.proofs.Absorbing.{absorbed-cut}
 use Rattle.ghash.proofs.Ghash.absorb_all.Statement.{statement}
 use Rattle.ghash.proofs.Ghash.absorb_all.Tie as tie
 
-returns-3 : tie.Need-returns-3
-returns-3 c =
+returns-2 : tie.Need-returns-2
+returns-2 c =
     let at-lanes = c .before .before in
-    let S = at-lanes .before .before .before .before .before in
+    let S = at-lanes .before .before .before .before in
     let n = length (S .args .bytes .now) in
     absorbed-cut _ _ _ (S .args .bytes .now) (n / 2048 * 2048) (n / 2048 * 128) (omega arith) (omega arith)
-    (at-lanes .absorb-lanes .ensures) (c .absorb-each3 .ensures)
+    (at-lanes .absorb-lanes .ensures) (c .absorb-each2 .ensures)
 
 pub absorb-all-spec : {M : Type 1} → statement M
 absorb-all-spec =
     tie.close
     (tie.spec
-    (λ c κs. search needs) (λ c. search needs) (λ c κs. search needs) (λ c. search needs) (λ c. search needs) (λ c. search needs)
+    (λ c κs. search needs) (λ c. search needs) (λ c. search needs) (λ c. search needs)
     (λ c. search needs) (λ c. search needs) (λ c κs. search needs) (λ c. search needs) (λ c. search needs) (λ c. search needs)
-    (λ c κs. search needs) returns-3)
+    (λ c κs. search needs) returns-2)
