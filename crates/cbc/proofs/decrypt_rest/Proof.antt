@@ -6,7 +6,7 @@ use Rattle.cbc.proofs.decrypt_rest.Statement.{statement}
 use Rattle.cbc.proofs.decrypt_rest.Tie as tie
 
 returns : tie.Need-returns
-returns c = c .before .before .decrypt-sixteens .ensures
+returns c = c .before .before .decrypt-side-by-side .ensures
 
 returns-2 : tie.Need-returns-2
 returns-2 c = c .before .before .decrypt-one-by-one .ensures

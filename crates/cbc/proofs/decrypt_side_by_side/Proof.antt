@@ -1,4 +1,4 @@
--- `cbc::decrypt_sixteens` meets its contract. A turn of the loop goes as many blocks on as go side by side (`reached-on`); at the end no full
+-- `cbc::decrypt_side_by_side` meets its contract. A turn of the loop goes as many blocks on as go side by side (`reached-on`); at the end no full
 -- block is left, and a rest gives nothing.
 -- Assumes nothing.
 use mathlib.Core.Path.{_≡_, refl, _∙_}
@@ -18,8 +18,8 @@ use Rattle.cbc.specs.Cbc.{cbcDecrypt}
 use Rattle.cbc.proofs.Batches.{fed-next, full-state}
 use Rattle.cbc.proofs.Blocks.{decrypt-block}
 use borrow.Author.Needs.{needs}
-use Rattle.cbc.proofs.decrypt_sixteens.Statement.{statement}
-use Rattle.cbc.proofs.decrypt_sixteens.Tie as tie
+use Rattle.cbc.proofs.decrypt_side_by_side.Statement.{statement}
+use Rattle.cbc.proofs.decrypt_side_by_side.Tie as tie
 
 abbrev Inv-loop : tie.InvT-loop
 Inv-loop back iv d out₀ s₀ at₀ out s at =
@@ -63,8 +63,8 @@ returns c =
       nothing-left m (unwords (l .s)) d (l .out) (l .at) (omega arith) refl ∙ done .leaves,
     )
 
-pub decrypt-sixteens-spec : {M : Type 1} → statement M
-decrypt-sixteens-spec =
+pub decrypt-side-by-side-spec : {M : Type 1} → statement M
+decrypt-side-by-side-spec =
     tie.close
     (tie.spec
     Inv-loop μ-loop loop-holds (λ c. omega arith) (λ c. omega arith) (λ c κs. omega arith) (λ c. omega arith) (λ c. omega arith)
