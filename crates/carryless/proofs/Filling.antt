@@ -21,6 +21,16 @@ each-next f i v a h e E j hj =
     subst (λ (z : ℕ). getD (set a i v) z 0 ≡ f z) q (getD-set-same a i v 0 h ∙ e))
     (lt-or-le j i)
 
+-- one entry more below a bound
+pub below-next : (f : ℕ → ℕ) (i b : ℕ) → f i < b → ((j : ℕ) → j < i → f j < b) → (j : ℕ) → j < i + 1 → f j < b
+below-next f i b l h j hj =
+    ⊎-elim
+    (λ (g : j < i). h j g)
+    (λ (g : i ≤ j).
+    let q : i ≡ j = omega arith in
+    subst (λ (z : ℕ). f z < b) q l)
+    (lt-or-le j i)
+
 -- one number more, in two words
 module _ (f : ℕ → ℕ) (i u v : ℕ) (a b : List ℕ) (ha : i < length a) (hb : i < length b) where
   pub lane-same : lane (set a i u) (set b i v) i ≡ whole u v
