@@ -2,24 +2,31 @@
 -- hashes, and the hash of multiples the multiple of the hash. So blocks Z times H to the n, with blocks C added, hash as C does from the
 -- hash of Z on.
 -- Assumes nothing.
-use mathlib.Core.Path.{_≡_, refl, sym, ap, ap₂, _∙_}
+use mathlib.Core.Path.{_≡_, refl, sym, ap, ap₂, subst, _∙_}
+use mathlib.Core.Logic.{⊎-elim}
 use mathlib.Core.List.{List, [], _∷_, _++_}
-use Prim.Native.Nat.{ℕ, zero, suc, _+_, _-_, _*_, _<_, _≤_}
+use Prim.Native.Nat.{ℕ, zero, suc, _+_, _-_, _*_, _/_, _<_, _≤_}
 use native.Mathlib.Nat.{add-zero, zero-add, suc-add, le-of-eq}
 use native.Mathlib.Omega.{arith}
 use lib.Dec.{lit<}
-use lib.ListN.{length, take, drop, length-drop}
+use lib.ListN.{length, take, drop, set, replicate, length-drop}
 use lib.Seq.{take-all, drop-drop}
 use lib.Bits.{xor-lt, xor-zero-r}
+use Rattle.block.specs.Below.{AreBytes}
+use Rattle.block.specs.BigEndian.{numberOf}
+use Rattle.block.specs.Wide.{whole}
+use Rattle.block.specs.Words.{words, unwords}
 use Rattle.block.specs.Xor.{_⊕_}
+use Rattle.block.proofs.Entries.{below-drop}
 use Rattle.block.proofs.Xor.{xor-swap}
+use Rattle.carryless.specs.Lanes.{lane}
 use Rattle.field.specs.Field.{Element, gmul, gpow}
 use Rattle.field.proofs.Bounded.{gmul-lt, gpow-lt}
 use Rattle.field.proofs.Distributes.{xor-gmul, zero-gmul}
 use Rattle.field.proofs.Commutes.{gmul-comm, gmul-assoc}
 use Rattle.ghash.specs.Ghash.{blockOf, blocks, hashFrom, ghash}
-use Rattle.ghash.specs.Sets.{upTo, blockNumber, Starts, Hashed}
-use Rattle.ghash.proofs.Blocks.{blocks-cons}
+use Rattle.ghash.specs.Sets.{LaneCount, upTo, blockNumber, Starts, Hashed}
+use Rattle.ghash.proofs.Blocks.{blocks-cons, getD-zeros, blockOf-words}
 use Rattle.ghash.proofs.Join.{hash-append, ghash-lt, hashFrom-start}
 
 pub upTo-same : (n : ℕ) (f g : ℕ → ℕ) → ((i : ℕ) → i < n → f i ≡ g i) → upTo n f ≡ upTo n g
@@ -65,6 +72,27 @@ lent-block bs b k =
     let e : 16 * b + 16 * k ≡ 16 * (b + k) = omega arith in
     ap (λ (d : List ℕ). blockNumber d k) (take-all (length bs - 16 * b) (drop (16 * b) bs) (le-of-eq (length-drop (16 * b) bs)))
     ∙ ap blockOf (drop-drop (16 * k) (16 * b) bs ∙ ap (λ (n : ℕ). drop n bs) e)
+
+-- it has n blocks
+pub lent-room : (bs : List ℕ) (b n : ℕ) → n ≤ length bs / 16 - b → 16 * n ≤ length (take (length bs - 16 * b) (drop (16 * b) bs))
+lent-room bs b n h =
+    let d = drop (16 * b) bs in
+    subst (λ (l : List ℕ). 16 * n ≤ length l) (sym (take-all (length bs - 16 * b) d (le-of-eq (length-drop (16 * b) bs)))) (simp length-drop (omega arith))
+
+-- and the number of block k by its words
+pub lent-number : (bs : List ℕ) (k : ℕ) (w : List ℕ) → AreBytes bs → w ≡ words (take (length bs - 16 * k) (drop (16 * k) bs))
+    → numberOf (unwords w) ≡ blockNumber bs k
+lent-number bs k w h e =
+    ap (λ (x : List ℕ). numberOf (unwords x))
+    (e ∙ ap words (take-all (length bs - 16 * k) (drop (16 * k) bs) (le-of-eq (length-drop (16 * k) bs))))
+    ∙ blockOf-words (drop (16 * k) bs) (below-drop 256 (16 * k) bs h)
+
+-- y in the first of two arrays of zeros each
+pub starts-first : (n a b : ℕ) → Starts n (whole a b) (lane (set (replicate 16 0) 0 a) (set (replicate 16 0) 0 b))
+starts-first n a b = record { first = refl; others = λ k h. ap₂ whole (getD-zeros 15 k) (getD-zeros 15 k) }
+
+pub lanes-few : (n : ℕ) → LaneCount n → (1 ≤ n) × (n ≤ 16)
+lanes-few n h = ⊎-elim (λ (e : n ≡ 8). (omega arith, omega arith)) (λ (e : n ≡ 16). (omega arith, omega arith)) h
 
 module _ (h : ℕ) where
   hash-sum : (n y w : ℕ) (f g : ℕ → ℕ)
@@ -117,12 +145,13 @@ module _ (h : ℕ) where
         ∙ ap (λ (x : ℕ). hashFrom h x (upTo n c)) (xor-zero-r y)
 
     -- hashes that are multiplied, and to which the next set is added
-    pub hashed-next : (n y b p : ℕ) (a f g q : ℕ → ℕ) → p ≡ gpow h n → ((k : ℕ) → k < n → Element (f k)) → Hashed h y (upTo b a) n f
-        → ((k : ℕ) → k < n → g k ≡ gmul (f k) p) → ((k : ℕ) → k < n → q k ≡ g k ⊕ a (b + k)) → Hashed h y (upTo (b + n) a) n q
-    hashed-next n y b p a f g q power hf done times added =
+    pub hashed-next : (n y b p : ℕ) (a c f g q : ℕ → ℕ) → p ≡ gpow h n → ((k : ℕ) → c k ≡ a (b + k)) → ((k : ℕ) → k < n → Element (f k))
+        → Hashed h y (upTo b a) n f → ((k : ℕ) → k < n → g k ≡ gmul (f k) p) → ((k : ℕ) → k < n → q k ≡ g k ⊕ c k)
+        → Hashed h y (upTo (b + n) a) n q
+    hashed-next n y b p a c f g q power from hf done times added =
         ap (ghash h)
         (upTo-same n q (λ k. gmul (f k) (gpow h n) ⊕ a (b + k))
-        (λ k l. added k l ∙ ap (λ (x : ℕ). x ⊕ a (b + k)) (times k l ∙ ap (gmul (f k)) power)))
+        (λ k l. added k l ∙ ap₂ _⊕_ (times k l ∙ ap (gmul (f k)) power) (from k)))
         ∙ interleaved n f (λ k. a (b + k)) hf
         ∙ ap (λ (x : ℕ). hashFrom h x (upTo n (λ k. a (b + k)))) done
         ∙ sym (hash-append h y (upTo b a) (upTo n (λ k. a (b + k))))

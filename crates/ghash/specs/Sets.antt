@@ -1,5 +1,6 @@
 -- Hashes side by side: sets of n blocks, and what the state of n such hashes stands for.
 use mathlib.Core.Path.{_≡_}
+use mathlib.Core.Logic.{_⊎_}
 use mathlib.Core.List.{List, [], _∷_}
 use Prim.Native.Nat.{ℕ, zero, suc, _*_, _<_}
 use lib.ListN.{drop}

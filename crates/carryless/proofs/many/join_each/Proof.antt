@@ -29,8 +29,8 @@ loop-again c =
       omega arith,
       search needs,
       search needs,
-      both-next (λ i. joining (getD (a .p .now) i 0) (getD (a .q .now) i 0) (getD (a .r .now) i 0)) (l .g) _ _ (l .high) (l .low)
-          (omega arith) (omega arith) (c .joined .ensures) (l .inv .3),
+      both-next (l .g) _ _ (l .high) (l .low) (omega arith) (omega arith)
+          (λ i. joining (getD (a .p .now) i 0) (getD (a .q .now) i 0) (getD (a .r .now) i 0)) (c .joined .ensures) (l .inv .3),
     )
 
 returns : tie.Need-returns Inv-loop μ-loop

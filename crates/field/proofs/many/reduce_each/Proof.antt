@@ -39,10 +39,9 @@ loop-again c =
       omega arith,
       search needs,
       search needs,
-      both-next
+      both-next (l .g) _ _ (l .high) (l .low) (omega arith) (omega arith)
           (λ i. timesXs 127 (joining128 (lane (a .h1 .now) (a .h0 .now) i) (lane (a .l1 .now) (a .l0 .now) i) (lane (a .b1 .now) (a .b0 .now) i)))
-          (l .g) _ _ (l .high) (l .low)
-          (omega arith) (omega arith) (c .reduced .ensures) (l .inv .3),
+          (c .reduced .ensures) (l .inv .3),
     )
 
 returns : tie.Need-returns Inv-loop μ-loop

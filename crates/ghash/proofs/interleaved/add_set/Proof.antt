@@ -1,120 +1,74 @@
+-- `ghash::interleaved::add_set` meets its contract. The loop's invariant: to the first k hashes their blocks are added, and these are elements; the
+-- others are as they were.
+-- Assumes nothing.
+use borrow.Author.Needs.{needs}
+use mathlib.Core.Path.{_≡_, refl, sym, ap₂, subst, _∙_}
+use Prim.Native.Nat.{ℕ, _^_, _<_, _≤_, _-_}
+use native.Mathlib.Omega.{arith}
+use lib.ListN.{length, set}
+use Rattle.block.specs.Xor.{_⊕_}
+use Rattle.block.proofs.Entries.{below-each}
+use Rattle.carryless.specs.Lanes.{lane, Both}
+use Rattle.carryless.proofs.Filling.{below-next, lane-same, lane-other, both-next}
+use Rattle.field.specs.Field.{Element}
+use Rattle.field.proofs.Bounded.{whole-lt}
+use Rattle.ghash.specs.Sets.{blockNumber}
+use Rattle.ghash.proofs.Sets.{lent-number}
 use Rattle.ghash.proofs.interleaved.add_set.Statement.{statement}
 use Rattle.ghash.proofs.interleaved.add_set.Tie as tie
-use Rattle.ghash.proofs.interleaved.add_set.Reads as reads
-use Rattle.ghash.proofs.interleaved.add_set.Lts as lts
-use Rattle.block.proofs.split_block.Reads as split-block-reads
-use Rattle.block.proofs.to_u128.Reads as to-u128-reads
-use Rattle.field.proofs.add.Reads as add-reads
 
 abbrev Inv-loop : tie.InvT-loop
-Inv-loop bytes n high₀ low₀ k₀ high low k = ?
+Inv-loop bytes n high₀ low₀ k₀ high low k =
+    (k ≤ n) × (length high ≡ 16) × (length low ≡ 16)
+    × Both (λ j. lane high₀ low₀ j ⊕ blockNumber bytes j) k high low
+    × ((j : ℕ) → j < k → Element (lane high low j))
+    × ((j : ℕ) → k ≤ j → lane high low j ≡ lane high₀ low₀ j)
 
 abbrev μ-loop : tie.MeasureT-loop
-μ-loop bytes n high₀ low₀ k₀ high low k = ?
+μ-loop bytes n high₀ low₀ k₀ high low k = n - k
 
--- src/interleaved.rt:49:5
 loop-holds : tie.Need-loop-holds Inv-loop μ-loop
-loop-holds c = ?
+loop-holds c = (search needs, search needs, search needs, λ j h. absurd (omega arith), λ j h. absurd (omega arith), λ j h. refl)
 
--- src/interleaved.rt:50:18
-mul-at : tie.Need-mul-at Inv-loop μ-loop
-mul-at c = ?
-
--- src/interleaved.rt:51:51
-sub-split-block : tie.Need-sub-split-block Inv-loop μ-loop
-sub-split-block c = ?
-
--- src/interleaved.rt:51:51
-part-split-block-start : tie.Need-part-split-block-start Inv-loop μ-loop
-part-split-block-start c = ?
-
--- src/interleaved.rt:51:51
-part-split-block-end : tie.Need-part-split-block-end Inv-loop μ-loop
-part-split-block-end c = ?
-
--- src/interleaved.rt:51:32
-split-block-requires : tie.Need-split-block-requires Inv-loop μ-loop
-split-block-requires c κs = ?
-
--- src/interleaved.rt:51:13
-to-u128-requires : tie.Need-to-u128-requires Inv-loop μ-loop
-to-u128-requires c κs = ?
-
--- src/interleaved.rt:52:41
-mul-t12 : tie.Need-mul-t12 Inv-loop μ-loop
-mul-t12 c = ?
-
--- src/interleaved.rt:52:41
-element-copy-out-t17 : tie.Need-element-copy-out-t17 Inv-loop μ-loop
-element-copy-out-t17 c = ?
-
--- src/interleaved.rt:52:55
-mul-t18 : tie.Need-mul-t18 Inv-loop μ-loop
-mul-t18 c = ?
-
--- src/interleaved.rt:52:55
-element-copy-out-t21 : tie.Need-element-copy-out-t21 Inv-loop μ-loop
-element-copy-out-t21 c = ?
-
--- src/interleaved.rt:52:13
-add-requires : tie.Need-add-requires Inv-loop μ-loop
-add-requires c κs = ?
-
--- src/interleaved.rt:53:9
-mul-high : tie.Need-mul-high Inv-loop μ-loop
-mul-high c = ?
-
--- src/interleaved.rt:53:9
-element-write-high : tie.Need-element-write-high Inv-loop μ-loop
-element-write-high c = ?
-
--- src/interleaved.rt:54:9
-mul-low : tie.Need-mul-low Inv-loop μ-loop
-mul-low c = ?
-
--- src/interleaved.rt:54:9
-element-write-low : tie.Need-element-write-low Inv-loop μ-loop
-element-write-low c = ?
-
--- src/interleaved.rt:55:9
-add-k : tie.Need-add-k Inv-loop μ-loop
-add-k c = ?
-
--- src/interleaved.rt:49:5
-loop-less : tie.Need-loop-less Inv-loop μ-loop
-loop-less c = ?
-
--- src/interleaved.rt:49:5
 loop-again : tie.Need-loop-again Inv-loop μ-loop
-loop-again c = ?
+loop-again c =
+    let at-number = c .before .before .before in
+    let at-split = at-number .before in
+    let at-loop = at-split .before .before .before in
+    let l = at-loop .loop in
+    let known = at-loop .before in
+    let a = known .before .args in
+    let bytes = a .bytes .now in
+    let k = l .k in
+    let u = c .add .result .high in
+    let v = c .add .result .low in
+    let ha : k < length (l .high) = omega arith in
+    let hb : k < length (l .low) = omega arith in
+    let high = set (l .high) k u in
+    let low = set (l .low) k v in
+    let number = below-each 256 bytes (λ i. known .shared-slice-known .given i .fits) in (
+      omega arith,
+      search needs,
+      search needs,
+      both-next k u v (l .high) (l .low) ha hb (λ j. lane (a .high .now) (a .low .now) j ⊕ blockNumber bytes j)
+          (c .add .ensures
+          ∙ ap₂ _⊕_ (l .inv .5 k (omega arith)) (at-number .to-u128 .ensures ∙ lent-number bytes k _ number (at-split .split-block .ensures)))
+          (l .inv .3),
+      below-next (lane high low) k (2 ^ 128)
+          (subst (λ (x : ℕ). x < 2 ^ 128) (sym (lane-same k u v (l .high) (l .low) ha hb)) (whole-lt u v (omega (arith, c .add .ok)) (omega (arith, c .add .ok))))
+          (λ j h. subst (λ (x : ℕ). x < 2 ^ 128) (sym (lane-other k u v (l .high) (l .low) ha hb j (λ e. omega arith))) (l .inv .4 j h)),
+      λ j h. lane-other k u v (l .high) (l .low) ha hb j (λ e. omega arith) ∙ l .inv .5 j (omega arith),
+    )
 
--- src/interleaved.rt:44:1
 returns : tie.Need-returns Inv-loop μ-loop
-returns c = ?
+returns c =
+    let l = c .before .loop in
+    (λ j h. l .inv .3 j (omega arith), λ j h. l .inv .4 j (omega arith), l .inv .1, l .inv .2)
 
 pub add-set-spec : {M : Type 1} → statement M
 add-set-spec =
     tie.close
     (tie.spec
-    Inv-loop
-    μ-loop
-    loop-holds
-    mul-at
-    sub-split-block
-    part-split-block-start
-    part-split-block-end
-    split-block-requires
-    to-u128-requires
-    mul-t12
-    element-copy-out-t17
-    mul-t18
-    element-copy-out-t21
-    add-requires
-    mul-high
-    element-write-high
-    mul-low
-    element-write-low
-    add-k
-    loop-less
-    loop-again
-    returns)
+    Inv-loop μ-loop loop-holds (λ c. search needs) (λ c. search needs) (λ c. search needs) (λ c. search needs) (λ c κs. search needs) (λ c κs. search needs)
+    (λ c. search needs) (λ c. search needs) (λ c. search needs) (λ c. search needs) (λ c κs. search needs)
+    (λ c. search needs) (λ c. search needs) (λ c. search needs) (λ c. search needs) (λ c. search needs) (λ c. search needs) loop-again returns)
