@@ -57,7 +57,14 @@ fn products(x: &[u32; 16], y: u32, m: &[u32; 36], at: usize, n: usize) -> [u64; 
 }
 
 // n times three products of halves of 32 bits, put together.
-fn join_each(p: &[u64; 16], q: &[u64; 16], r: &[u64; 16], n: usize, high: &mut [u64; 16], low: &mut [u64; 16])
+fn join_each(
+    p: &[u64; 16],
+    q: &[u64; 16],
+    r: &[u64; 16],
+    n: usize,
+    high: &mut [u64; 16],
+    low: &mut [u64; 16],
+)
     requires { ⌜ (n ≤ 16) × (length (now p) ≡ 16) × (length (now q) ≡ 16) × (length (now r) ≡ 16) × (length (now high) ≡ 16) × (length (now low) ≡ 16) ⌝ }
     ensures { λ _. ⌜ Both (λ g. joining (getD (now (p .entry)) g 0) (getD (now (q .entry)) g 0) (getD (now (r .entry)) g 0)) n (now (high .exit)) (now (low .exit)) × (length (now (high .exit)) ≡ 16) × (length (now (low .exit)) ≡ 16) ⌝ }
 {
@@ -71,7 +78,15 @@ fn join_each(p: &[u64; 16], q: &[u64; 16], r: &[u64; 16], n: usize, high: &mut [
 }
 
 // The products of n numbers of 64 bits by y, whose parts stand in m from `at` on, in two words each.
-pub fn products64(x: &[u64; 16], y: u64, m: &[u32; 36], at: usize, n: usize, high: &mut [u64; 16], low: &mut [u64; 16])
+pub fn products64(
+    x: &[u64; 16],
+    y: u64,
+    m: &[u32; 36],
+    at: usize,
+    n: usize,
+    high: &mut [u64; 16],
+    low: &mut [u64; 16],
+)
     requires { ⌜ (n ≤ 16) × (length (now x) ≡ 16) × Lends64 y (now m) at × (length (now high) ≡ 16) × (length (now low) ≡ 16) ⌝ }
     ensures { λ _. ⌜ Both (λ g. clmul 64 (getD (now (x .entry)) g 0) y) n (now (high .exit)) (now (low .exit)) × (length (now (high .exit)) ≡ 16) × (length (now (low .exit)) ≡ 16) ⌝ }
 {

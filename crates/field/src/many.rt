@@ -59,9 +59,18 @@ fn reduce_each(
 {
     let mut g: usize = 0;
     while g < n {
-        let h = U128 { high: h1[g], low: h0[g] };
-        let l = U128 { high: l1[g], low: l0[g] };
-        let b = U128 { high: b1[g], low: b0[g] };
+        let h = U128 {
+            high: h1[g],
+            low: h0[g],
+        };
+        let l = U128 {
+            high: l1[g],
+            low: l0[g],
+        };
+        let b = U128 {
+            high: b1[g],
+            low: b0[g],
+        };
         let z = reduced(h, l, b);
         high[g] = z.high;
         low[g] = z.low;

@@ -49,7 +49,13 @@ fn add_set(bytes: &[u8], n: usize, high: &mut [u64; 16], low: &mut [u64; 16])
     while k < n {
         let at = 16 * k;
         let b = block::to_u128(block::split_block(&bytes[at..]));
-        let z = field::add(U128 { high: high[k], low: low[k] }, b);
+        let z = field::add(
+            U128 {
+                high: high[k],
+                low: low[k],
+            },
+            b,
+        );
         high[k] = z.high;
         low[k] = z.low;
         k += 1;
@@ -58,7 +64,14 @@ fn add_set(bytes: &[u8], n: usize, high: &mut [u64; 16], low: &mut [u64; 16])
 
 // As many sets of n blocks as `bytes` has, of which there is one, for the n-th power p of H, whose parts are lent as m. How many blocks were taken is
 // returned.
-fn absorb_sets(p: U128, m: &[u32; 36], n: usize, bytes: &[u8], high: &mut [u64; 16], low: &mut [u64; 16]) -> usize
+fn absorb_sets(
+    p: U128,
+    m: &[u32; 36],
+    n: usize,
+    bytes: &[u8],
+    high: &mut [u64; 16],
+    low: &mut [u64; 16],
+) -> usize
     requires { ⌜ PartsOf p (now m) × (1 ≤ n) × (n ≤ 16) × (16 * n ≤ length (now bytes)) × (length (now high) ≡ 16) × (length (now low) ≡ 16) ⌝ }
     ensures { λ r. ⌜ ((h y : ℕ) → Element h → value p ≡ gpow h n → Starts n y (lane (now (high .entry)) (now (low .entry))) → Hashed h y (upTo r (blockNumber (now (bytes .entry)))) n (lane (now (high .exit)) (now (low .exit)))) × (16 * r ≤ length (now (bytes .entry))) × (length (now (high .exit)) ≡ 16) × (length (now (low .exit)) ≡ 16) ⌝ }
 {
@@ -83,7 +96,10 @@ fn absorb_hashes(g: Ghash, n: usize, high: &[u64; 16], low: &[u64; 16]) -> Ghash
     let mut state = g;
     let mut k: usize = 0;
     while k < n {
-        let b = U128 { high: high[k], low: low[k] };
+        let b = U128 {
+            high: high[k],
+            low: low[k],
+        };
         state = state.step(&m, b);
         k += 1;
     }
