@@ -37,9 +37,6 @@ pub xor-whole : (a b c d : ℕ) → b < 2 ^ 64 → d < 2 ^ 64 → whole (a ⊕ c
 xor-whole a b c d hb hd = sym (xor-block 64 a c b d hb hd)
 
 -- numbers of 64 bits
-pub parts-lt : (x : ℕ) → x < 2 ^ 64 → (x % 2 ^ 32 ⊕ x / 2 ^ 32) < 2 ^ 32
-parts-lt x h = xor-lt 32 (x % 2 ^ 32) (x / 2 ^ 32) (omega arith) (omega arith)
-
 pub high-lt : (x y : ℕ) → x < 2 ^ 64 → y < 2 ^ 64 → (x ⊕ y) / 2 ^ 32 < 2 ^ 32
 high-lt x y hx hy = shr-lt 32 32 (xor-lt 64 x y hx hy)
 

@@ -1,7 +1,7 @@
 // Products without carry of up to sixteen numbers by one. Every step is one loop over the n numbers, of which the back end makes vectors. n is a
 // parameter all the way down, since a loop whose count the back end knows is not vectorized here.
 ghost use mathlib.Core.Path.{_≡_};
-ghost use Prim.Native.Nat.{ℕ, _/_, _%_, _^_, _≤_};
+ghost use Prim.Native.Nat.{_/_, _%_, _^_, _≤_};
 ghost use lib.ListN.{length, getD};
 ghost use Rattle.block.specs.Xor.{_⊕_};
 ghost use Rattle.carryless.specs.Carryless.{clmul, joining};

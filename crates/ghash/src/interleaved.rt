@@ -1,7 +1,7 @@
 // The hash of long texts: 8 or 16 interleaved hashes side by side, each of which takes every 8th or 16th block and is multiplied by H to the 8th
 // or 16th. At the end they are hashed like blocks, which joins them. Neither an index nor a branch depends on a secret.
 ghost use mathlib.Core.Path.{_≡_};
-ghost use Prim.Native.Nat.{ℕ, _+_, _*_, _/_, _<_, _≤_};
+ghost use Prim.Native.Nat.{ℕ, _*_, _<_, _≤_};
 ghost use lib.ListN.{length};
 ghost use Rattle.block.specs.Wide.{value};
 ghost use Rattle.block.specs.Xor.{_⊕_};
@@ -15,7 +15,7 @@ use crate::Ghash;
 use block::U128;
 
 // From how many bytes on sixteen hashes are fewer instructions than eight.
-const SIXTEEN_FROM: usize = 2048;
+const SIXTEEN_FROM: usize = 1536;
 
 // How many hashes n bytes are worth. That it is not always the same is also what keeps the back end from knowing it: a loop whose count it
 // knows is not vectorized here.

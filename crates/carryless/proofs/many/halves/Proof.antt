@@ -1,7 +1,7 @@
 -- `carryless::many::halves` meets its contract. The loop's invariant: the first g words are there.
 -- Assumes nothing.
 use borrow.Author.Needs.{needs}
-use Prim.Native.Nat.{ℕ, _/_, _%_, _^_, _≤_, _-_}
+use Prim.Native.Nat.{_/_, _%_, _^_, _≤_, _-_}
 use mathlib.Core.Path.{_≡_, refl}
 use native.Mathlib.Omega.{arith}
 use lib.ListN.{length, getD}

@@ -1,7 +1,7 @@
 -- `carryless::many::products` meets its contract. The loop's invariant: the first g products are there, and p, q, r and s are y's parts.
 -- Assumes nothing.
 use borrow.Author.Needs.{needs}
-use Prim.Native.Nat.{ℕ, _+_, _≤_, _-_}
+use Prim.Native.Nat.{_≤_, _-_}
 use mathlib.Core.Path.{_≡_}
 use native.Mathlib.Omega.{arith}
 use lib.ListN.{length, getD}
