@@ -2,7 +2,7 @@
 -- Assumes nothing.
 use mathlib.Core.Path.{_≡_, sym, ap, ap₂, subst, _∙_}
 use Prim.Native.Nat.{ℕ, _+_, _*_, _/_, _%_, _^_, _<_}
-use native.Mathlib.Nat.{add-zero, zero-add, add-mul, mul-assoc, mod-lt, lt-trans}
+use native.Mathlib.Nat.{add-zero, zero-add, add-mul, mul-assoc, div-one, mod-lt, lt-trans, le-refl}
 use native.Mathlib.Omega.{arith}
 use lib.Arith.{digits-lt}
 use lib.Dec.{lit<}
@@ -11,8 +11,8 @@ use lib.Bits.{xor-block, xor-comm, xor-shifted, xor-zero-r, xor-lt}
 use Rattle.block.specs.Wide.{whole}
 use Rattle.block.specs.Xor.{_⊕_}
 use Rattle.block.proofs.Xor.{xor-assoc}
-use Rattle.carryless.specs.Carryless.{clmul, joining}
-use Rattle.carryless.proofs.Laws.{clmul-lt, karatsuba, square-halves}
+use Rattle.carryless.specs.Carryless.{clmul, joining, joining128}
+use Rattle.carryless.proofs.Laws.{xor-clmul, clmul-mod, clmul-lt, karatsuba, square-halves}
 
 -- a shift to the left in two words
 pub spill : (j k z : ℕ) → z / 2 ^ j * 2 ^ (k + j) + z * 2 ^ k % 2 ^ (k + j) ≡ z * 2 ^ k
@@ -37,9 +37,6 @@ pub xor-whole : (a b c d : ℕ) → b < 2 ^ 64 → d < 2 ^ 64 → whole (a ⊕ c
 xor-whole a b c d hb hd = sym (xor-block 64 a c b d hb hd)
 
 -- numbers of 64 bits
-pub parts-lt : (x : ℕ) → x < 2 ^ 64 → (x % 2 ^ 32 ⊕ x / 2 ^ 32) < 2 ^ 32
-parts-lt x h = xor-lt 32 (x % 2 ^ 32) (x / 2 ^ 32) (omega arith) (omega arith)
-
 pub high-lt : (x y : ℕ) → x < 2 ^ 64 → y < 2 ^ 64 → (x ⊕ y) / 2 ^ 32 < 2 ^ 32
 high-lt x y hx hy = shr-lt 32 32 (xor-lt 64 x y hx hy)
 
@@ -55,6 +52,21 @@ module _ (x y h l b : ℕ)
       ∙ (cc)
       ∙ sym (karatsuba 32 (x / 2 ^ 32) (x % 2 ^ 32) (y / 2 ^ 32) (y % 2 ^ 32) (mod-lt x (pow-pos 32)) (mod-lt y (pow-pos 32)))
       ∙ ap₂ (clmul 64) (split x 32) (split y 32)
+
+-- where the halves are taken as 32 bits from a place on
+pub join-halves : (x y a b s h l m : ℕ) → a ≡ x / 2 ^ 32 % 2 ^ 32 → b ≡ x / 2 ^ 0 % 2 ^ 32 → s ≡ b ⊕ a
+    → h ≡ clmul 32 a (y / 2 ^ 32) → l ≡ clmul 32 b (y % 2 ^ 32) → m ≡ clmul 32 s (y % 2 ^ 32 ⊕ y / 2 ^ 32) → joining h l m ≡ clmul 64 x y
+join-halves x y a b s h l m ea eb es eh el em =
+    let t = y % 2 ^ 32 ⊕ y / 2 ^ 32 in
+    let low-is : b ≡ x % 2 ^ 32 = eb ∙ ap (λ (v : ℕ). v % 2 ^ 32) (div-one x) in
+    let high-is : (z : ℕ) → clmul 32 a z ≡ clmul 32 (x / 2 ^ 32) z =
+    λ z. ap (λ (v : ℕ). clmul 32 v z) ea ∙ clmul-mod 32 32 (x / 2 ^ 32) z (le-refl 32) in
+    join-64 x y h l m (eh ∙ high-is (y / 2 ^ 32)) (el ∙ ap (λ (v : ℕ). clmul 32 v (y % 2 ^ 32)) low-is)
+    (em
+    ∙ ap (λ (v : ℕ). clmul 32 v t) es
+    ∙ xor-clmul 32 b a t
+    ∙ ap₂ _⊕_ (ap (λ (v : ℕ). clmul 32 v t) low-is) (high-is t)
+    ∙ sym (xor-clmul 32 (x % 2 ^ 32) (x / 2 ^ 32) t))
 
 -- numbers of 128 bits
 module _ (h1 h0 m1 m0 l1 l0 : ℕ) (p : h0 < 2 ^ 64) (q : m1 < 2 ^ 64) (r : m0 < 2 ^ 64) (s : l1 < 2 ^ 64) (t : l0 < 2 ^ 64) where
@@ -78,15 +90,14 @@ module _ (h1 h0 m1 m0 l1 l0 : ℕ) (p : h0 < 2 ^ 64) (q : m1 < 2 ^ 64) (r : m0 <
       ap₂ (λ (u v : ℕ). u * 2 ^ 128 + v) upper lower ∙ join 64 (whole h1 h0) (whole m1 m0) (whole l1 l0) (digits-lt {m = 2 ^ 64} {c = 2 ^ 64} s t)
 
   pub join-sums : (b g : ℕ) → g ≡ b ⊕ whole l1 l0 → whole m1 m0 ≡ g ⊕ whole h1 h0
-      → whole h1 (h0 ⊕ m1) * 2 ^ 128 + whole (l1 ⊕ m0) l0
-      ≡ whole h1 h0 * 2 ^ 64 * 2 ^ 64 ⊕ (b ⊕ whole l1 l0 ⊕ whole h1 h0) * 2 ^ 64 ⊕ whole l1 l0
+      → whole h1 (h0 ⊕ m1) * 2 ^ 128 + whole (l1 ⊕ m0) l0 ≡ joining128 (whole h1 h0) (whole l1 l0) b
   join-sums b g eg em =
       join-words
       ∙ ap (λ (v : ℕ). whole h1 h0 * 2 ^ 64 * 2 ^ 64 ⊕ v * 2 ^ 64 ⊕ whole l1 l0) (em ∙ ap (λ (v : ℕ). v ⊕ whole h1 h0) eg)
 
 pub join-128 : (h l b x1 x0 y1 y0 : ℕ) → x0 < 2 ^ 64 → y0 < 2 ^ 64
     → h ≡ clmul 64 x1 y1 → l ≡ clmul 64 x0 y0 → b ≡ clmul 64 (x0 ⊕ x1) (y0 ⊕ y1)
-    → h * 2 ^ 64 * 2 ^ 64 ⊕ (b ⊕ l ⊕ h) * 2 ^ 64 ⊕ l ≡ clmul 128 (whole x1 x0) (whole y1 y0)
+    → joining128 h l b ≡ clmul 128 (whole x1 x0) (whole y1 y0)
 join-128 h l b x1 x0 y1 y0 hx hy eh el eb =
     ap₂ _⊕_ (ap₂ (λ (u v : ℕ). u * 2 ^ 64 * 2 ^ 64 ⊕ v * 2 ^ 64) eh (ap₂ _⊕_ (ap₂ _⊕_ eb el) eh)) el
     ∙ sym (karatsuba 64 x1 x0 y1 y0 hx hy)

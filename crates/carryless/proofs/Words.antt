@@ -7,8 +7,7 @@ use Prim.Native.Nat.{ℕ, zero, suc, _+_, _-_, _*_, _/_, _%_, _^_, _<_, _≤_, m
 use native.Mathlib.Nat.{add-zero, mul-assoc, mul-mul-mul-comm, mul-le-mul, mod-lt, mod-eq-of-lt, lt-of-le-of-lt, lt-trans}
 use native.Mathlib.Omega.{arith}
 use lib.Dec.{lit<}
-use lib.ListN.{length, getD, take, drop}
-use lib.Seq.{getD-take, getD-drop}
+use lib.ListN.{length, getD}
 use lib.Pow.{pow-pos, pow-add, split, shl-shr}
 use lib.Bits.{differ, bitAnd, and-block, and-mask, and-lt, and-le-l, and-comm, and-zero-r, xor-lt}
 use Rattle.block.specs.declared.U128.{U128}
@@ -17,7 +16,7 @@ use Rattle.block.proofs.Xor.{xor-assoc, xor-swap}
 use Rattle.lanes.specs.Bits.{bit}
 use Rattle.lanes.proofs.Bits.{bit-small, bit-and, bit-xor, bit-ext}
 use Rattle.carryless.specs.Carryless.{clmul}
-use Rattle.carryless.specs.Lent.{quarters, parts128, PartsOf, Lends}
+use Rattle.carryless.specs.Lent.{parts128, PartsOf, Quarters, Lends, Lends64}
 use Rattle.carryless.proofs.Laws.{clmul-xor, xor-clmul, clmul-up, up-clmul, square-xor}
 use Rattle.carryless.proofs.Holes.{ones, Few, few-pick, pick-more, pick-up, hole-product}
 
@@ -126,6 +125,9 @@ mul-lt a b ha hb =
 pub part-times : (x m y : ℕ) → x < 2 ^ 32 → y < 2 ^ 32 → bitAnd x m * y < 2 ^ 64
 part-times x m y hx hy = mul-lt (bitAnd x m) y (lt-of-le-of-lt (and-le-l x m) hx) hy
 
+pub part-fits : (x m : ℕ) → x < 2 ^ 32 → bitAnd x m < 2 ^ 64
+part-fits x m h = lt-trans (lt-of-le-of-lt (and-le-l x m) h) (lit< tt)
+
 pub parts-fit : (x m y n : ℕ) → x < 2 ^ 32 → y < 2 ^ 32 → bitAnd x m * bitAnd y n < 2 ^ 64
 parts-fit x m y n hx hy = part-times x m (bitAnd y n) hx (lt-of-le-of-lt (and-le-l y n) hy)
 
@@ -223,42 +225,37 @@ four-times a b c d p q r s p' q' r' s' ep eq er es =
     ap₂ _⊕_ (ap₂ _⊕_ (ap₂ _⊕_ (ap (λ (v : ℕ). a * v) ep) (ap (λ (v : ℕ). b * v) eq)) (ap (λ (v : ℕ). c * v) er)) (ap (λ (v : ℕ). d * v) es)
 
 -- parts that are lent: nine times four are the parts of a number of 128 bits
-pub lends : (y : U128) → (m : List ℕ) → PartsOf y m → (at v : ℕ) → at ≤ 32 → take 4 (drop at (parts128 y)) ≡ quarters v → Lends v m at
+lends : (y : U128) → (m : List ℕ) → PartsOf y m → (at v : ℕ) → at ≤ 32
+    → Quarters v (getD (parts128 y) at 0) (getD (parts128 y) (at + 1) 0) (getD (parts128 y) (at + 2) 0) (getD (parts128 y) (at + 3) 0)
+    → Lends v m at
 lends y m p at v h e = record {
   size = ap length (p .words);
   place = h;
-  words = ap (λ (l : List ℕ). take 4 (drop at l)) (p .words) ∙ e;
+  words = subst (λ (l : List ℕ). Quarters v (getD l at 0) (getD l (at + 1) 0) (getD l (at + 2) 0) (getD l (at + 3) 0)) (sym (p .words)) e;
 }
 
-quarter-at : (m : List ℕ) → (at y i : ℕ) → take 4 (drop at m) ≡ quarters y → i < 4 → getD m (at + i) 0 ≡ getD (quarters y) i 0
-quarter-at m at y i e h = sym (getD-drop at m i 0) ∙ sym (getD-take 4 (drop at m) i 0 h) ∙ ap (λ (l : List ℕ). getD l i 0) e
+pub lends-high : (y : U128) → (m : List ℕ) → PartsOf y m → Lends64 (y .high) m 0
+lends-high y m p = record {
+  high = lends y m p 0 _ (omega arith) (record { first = refl; second = refl; third = refl; fourth = refl });
+  low = lends y m p 4 _ (omega arith) (record { first = refl; second = refl; third = refl; fourth = refl });
+  both = lends y m p 8 _ (omega arith) (record { first = refl; second = refl; third = refl; fourth = refl });
+}
 
--- p, q, r and s are the parts of y
-pub record Quarters (y p q r s : ℕ) : Type 0 where
-  pub first : p ≡ bitAnd y 0x1111_1111
-  pub second : q ≡ bitAnd y 0x2222_2222
-  pub third : r ≡ bitAnd y 0x4444_4444
-  pub fourth : s ≡ bitAnd y 0x8888_8888
+pub lends-low : (y : U128) → (m : List ℕ) → PartsOf y m → Lends64 (y .low) m 12
+lends-low y m p = record {
+  high = lends y m p 12 _ (omega arith) (record { first = refl; second = refl; third = refl; fourth = refl });
+  low = lends y m p 16 _ (omega arith) (record { first = refl; second = refl; third = refl; fourth = refl });
+  both = lends y m p 20 _ (omega arith) (record { first = refl; second = refl; third = refl; fourth = refl });
+}
 
-pub lent : (m : List ℕ) → (at y : ℕ) → Lends y m at
-    → Quarters y (getD m at 0) (getD m (at + 1) 0) (getD m (at + 2) 0) (getD m (at + 3) 0)
-lent m at y l =
-    let e = l .words in
-    record {
-      first = ap (λ (k : ℕ). getD m k 0) (sym (add-zero at)) ∙ quarter-at m at y 0 e (lit< tt);
-      second = quarter-at m at y 1 e (lit< tt);
-      third = quarter-at m at y 2 e (lit< tt);
-      fourth = quarter-at m at y 3 e (lit< tt);
-    }
+pub lends-both : (y : U128) → (m : List ℕ) → PartsOf y m → Lends64 (y .low ⊕ y .high) m 24
+lends-both y m p = record {
+  high = lends y m p 24 _ (omega arith) (record { first = refl; second = refl; third = refl; fourth = refl });
+  low = lends y m p 28 _ (omega arith) (record { first = refl; second = refl; third = refl; fourth = refl });
+  both = lends y m p 32 _ (omega arith) (record { first = refl; second = refl; third = refl; fourth = refl });
+}
 
 module _ (x y p q r s : ℕ) (hx : x < 2 ^ 32) (hy : y < 2 ^ 32) (l : Quarters y p q r s) where
-  -- they are of 32 bits
-  below-32 : (v m : ℕ) → v ≡ bitAnd y m → v < 2 ^ 32
-  below-32 v m e = subst (λ (u : ℕ). u < 2 ^ 32) (sym e) (lt-of-le-of-lt (and-le-l y m) hy)
-
-  pub quarters-lt : (p < 2 ^ 32) × (q < 2 ^ 32) × (r < 2 ^ 32) × (s < 2 ^ 32)
-  quarters-lt = (below-32 p _ (l .first), below-32 q _ (l .second), below-32 r _ (l .third), below-32 s _ (l .fourth))
-
   pub by-quarters : (z0 z1 z2 z3 : ℕ)
       → z0 ≡ part x 0 * p ⊕ part x 1 * s ⊕ part x 2 * r ⊕ part x 3 * q
       → z1 ≡ part x 0 * q ⊕ part x 1 * p ⊕ part x 2 * s ⊕ part x 3 * r

@@ -17,7 +17,7 @@ pub struct Half {
     pub power: U128,
 }
 
-// The hash of `bytes` in blocks, zeros to the last one's end. `lanes` says whether long ones are hashed in lanes.
+// The hash of `bytes` in blocks, zeros to the last one's end.
 pub fn hash_blocks(h: U128, bytes: &[u8]) -> U128
     ensures { λ r. ⌜ value r ≡ ghash (value h) (blocks (now (bytes .entry))) ⌝ }
 {

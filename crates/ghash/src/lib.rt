@@ -56,6 +56,9 @@ pub fn block_count(n: usize) -> usize
     if n % 16 == 0 { n / 16 } else { n / 16 + 1 }
 }
 
+// From how many bytes on hashes side by side are fewer instructions than one.
+const LANES_FROM: usize = 256;
+
 // The hash on its way: the key H, and the hash of the blocks so far.
 pub struct Ghash {
     pub h: U128,
@@ -109,17 +112,14 @@ impl Ghash {
         state
     }
 
-    // All of `bytes`, zeros to the last block's end. Where `lanes` is true, the full sets of 128 blocks of a text of three and more go
-    // in lanes, which pays from there on.
+    // All of `bytes`, zeros to the last block's end.
     pub fn absorb_all(self, bytes: &[u8]) -> Ghash
         ensures { λ r. ⌜ Absorbed self (blocks (now (bytes .entry))) r ⌝ }
     {
-        if bytes.len() < 6144 {
+        if bytes.len() < LANES_FROM {
             return self.absorb_each(bytes);
         }
-        let full = bytes.len() / 2048 * 2048;
-        let state = interleaved::absorb_lanes(self, &bytes[0..full]);
-        state.absorb_each(&bytes[full..])
+        interleaved::absorb_lanes(self, bytes)
     }
 
     // The length block: both lengths in bits, the label's first.
@@ -136,7 +136,7 @@ impl Ghash {
     }
 }
 
-// The hash of a label and a text, with their lengths. `lanes` says whether long ones are hashed in lanes.
+// The hash of a label and a text, with their lengths.
 pub fn galois_hash(h: U128, label: &[u8], text: &[u8]) -> U128
     requires { ⌜ Hashable (length (now label)) × Hashable (length (now text)) ⌝ }
     ensures { λ r. ⌜ value r ≡ ghash (value h) (authBlocks (now (label .entry)) (now (text .entry))) ⌝ }
