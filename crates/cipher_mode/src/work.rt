@@ -52,13 +52,7 @@ fn keys_for(rk: [u32; 32], direction: Direction) -> [u32; 32]
 }
 
 // A single block, which has none beside it.
-pub(crate) fn block(
-    mark: u8,
-    rk: [u32; 32],
-    direction: Direction,
-    block_in: &[u8],
-    out: &mut [u8],
-)
+pub(crate) fn block(mark: u8, rk: [u32; 32], direction: Direction, block_in: &[u8], out: &mut [u8])
     requires { ⌜ length (now «block_in») ≡ 16 ⌝ }
     requires { ⌜ 16 ≤ length (now out) ⌝ }
     ensures { λ _. ⌜ now (out .exit) ≡ blockOf direction rk (now («block_in» .entry)) ++ drop 16 (now (out .entry)) ⌝ }

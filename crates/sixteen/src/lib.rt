@@ -114,7 +114,17 @@ pub fn encrypt(rk: [u32; 32], m: usize, src: &[u8], out: &mut [u8])
     load(src, m, &mut x0, &mut x1, &mut x2, &mut x3);
     let n = whole_fours(m);
     let groups = groups_of(m);
-    rounds::all_rounds(rk, n, groups, &mut x0, &mut x1, &mut x2, &mut x3, &mut t, &mut s);
+    rounds::all_rounds(
+        rk,
+        n,
+        groups,
+        &mut x0,
+        &mut x1,
+        &mut x2,
+        &mut x3,
+        &mut t,
+        &mut s,
+    );
     store(&x3, &x2, &x1, &x0, m, out);
 }
 

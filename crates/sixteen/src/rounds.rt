@@ -234,7 +234,20 @@ pub(crate) fn all_rounds(
 {
     let mut i: usize = 0;
     while i < 32 {
-        four(x0, x1, x2, x3, t, s, rk[i], rk[i + 1], rk[i + 2], rk[i + 3], n, groups);
+        four(
+            x0,
+            x1,
+            x2,
+            x3,
+            t,
+            s,
+            rk[i],
+            rk[i + 1],
+            rk[i + 2],
+            rk[i + 3],
+            n,
+            groups,
+        );
         i += 4;
     }
 }

@@ -73,7 +73,14 @@ pub(crate) fn pad_needed(on: bool, rest: usize) -> bool
 }
 
 // A rest shorter than a block, to the front of `out`: xored with the front of the cipher's output, which is returned where the message goes on.
-fn xor_rest(t: &[u32], rk: [u32; 32], s: [u32; 4], on: bool, data: &[u8], out: &mut [u8]) -> [u8; 16]
+fn xor_rest(
+    t: &[u32],
+    rk: [u32; 32],
+    s: [u32; 4],
+    on: bool,
+    data: &[u8],
+    out: &mut [u8],
+) -> [u8; 16]
     requires { ⌜ Engine (now t) ⌝ }
     requires { ⌜ length (now «data») < 16 ⌝ }
     requires { ⌜ length (now «data») ≤ length (now out) ⌝ }

@@ -28,7 +28,6 @@ returns c =
       },
     )
 
-
 round-requires-4 : tie.Need-round-requires-4
 round-requires-4 c κs =
     let at-third = c .before .before .before .before .before .before in
