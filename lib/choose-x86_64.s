@@ -1,10 +1,11 @@
 # On x86-64 the library stands twice in a program: as proved/x86_64.s, for every processor, and as proved/x86_64-v3.s, for those that
 # have AVX2 and what came with it. Each name of the header stands here, and jumps to one of the two.
 #
-# The first call chooses; every call after it takes one comparison and a jump. The better one is taken where the processor has all of
-# x86-64-v3 and the operating system keeps the wide registers (CPUID and XGETBV, as Intel's manual has it). LUOSSAVIN_VARIANT=x86_64 in
-# the environment of the process takes the plain one in any case; it is for tests. Any other value is ignored, and so is the variable in
-# a program that runs with more rights than its caller (set-user-ID): secure_getenv says that there is none.
+# The choice is made where the program starts or loads the library, before it has a thread that could change the environment, and by the
+# first call where that comes earlier still. Every call after it takes one comparison and a jump. The better one is taken where the
+# processor has all of x86-64-v3 and the operating system keeps the wide registers (CPUID and XGETBV, as Intel's manual has it).
+# LUOSSAVIN_VARIANT=x86_64 in the environment of the process takes the plain one in any case; it is for tests. Any other value is ignored,
+# and so is the variable in a program that runs with more rights than its caller (set-user-ID): secure_getenv says that there is none.
 #
 # Nothing here is proved: it is tested (host/variants). All arguments are passed on as they came, in registers and on the stack.
 
@@ -103,6 +104,10 @@ luossavin_choose:
 	popq	%rbp
 	ret
 	.size	luossavin_choose, .-luossavin_choose
+
+	.section	.init_array,"aw",@init_array
+	.p2align	3
+	.quad	luossavin_choose
 
 	.macro	luossavin_exported name
 	.section	.text.luossavin_\name,"ax",@progbits

@@ -2,8 +2,8 @@
  *
  *   chosen LIBRARY DISTANCE      DISTANCE: of luossavin_variant from luossavin_key_new, in bytes, as nm has it
  *
- * The library does not export the variant, so its place is told. A call is made, and the number that stands there is printed:
- * 1: x86_64, 2: x86_64-v3. Exit status 1 where that cannot be done.
+ * The library does not export the variant, so its place is told. The number that stands there is printed: 1: x86_64, 2: x86_64-v3. Exit
+ * status 1 where that cannot be done, or where it is not there before the first call, and as it was after it.
  */
 #include "luossavin.h"
 
@@ -25,7 +25,8 @@ int main(int count, char **words)
         return 1;
     }
     memcpy(&key_new, &place, sizeof key_new);
-    if (key_new(bytes, sizeof bytes, 1).answer != 0) return 1;
-    printf("%u\n", *(volatile uint32_t *)((char *)place + strtol(words[2], NULL, 0)));
-    return 0;
+    const volatile uint32_t *variant = (uint32_t *)((char *)place + strtol(words[2], NULL, 0));
+    uint32_t before = *variant;
+    printf("%u\n", before);
+    return !(before != 0 && key_new(bytes, sizeof bytes, 1).answer == 0 && *variant == before);
 }

@@ -9,11 +9,11 @@ const PLAIN: u32 = 1;
 const V3: u32 = 2;
 
 extern "C" {
-    /// What was chosen; 0 before the first call (lib/choose-x86_64.s).
+    /// What was chosen, before `main`; where it is 0, the next call chooses (lib/choose-x86_64.s).
     static mut luossavin_variant: u32;
 }
 
-/// The variant that a first call takes, with that value of LUOSSAVIN_VARIANT.
+/// The variant that is chosen with that value of LUOSSAVIN_VARIANT.
 fn chosen(value: Option<&str>) -> u32 {
     match value {
         Some(value) => env::set_var("LUOSSAVIN_VARIANT", value),
@@ -28,6 +28,8 @@ fn chosen(value: Option<&str>) -> u32 {
 
 #[test]
 fn the_best_variant_is_taken_unless_the_plain_one_is_asked_for() {
+    // SAFETY: as above. The choice was made before the first call, and so before any thread could change the environment.
+    assert_ne!(unsafe { luossavin_variant }, 0);
     // the standard library asks processor and system by itself
     let has_v3 = is_x86_feature_detected!("sse3")
         && is_x86_feature_detected!("ssse3")
