@@ -1,7 +1,7 @@
 //! Help, the version, and the demo.
 
 use crate::message::Asked;
-use crate::say::{answer, quoted, shown, Fail, USAGE};
+use crate::say::{answer, does_harm, quoted, shown, Fail, USAGE};
 use crate::words::{listed, Line, COMMANDS};
 use luossavin::editions::{label, which};
 use luossavin::sm4::cipher_mode::{CipherMode, Sm4CipherMode};
@@ -112,7 +112,7 @@ pub fn demo(called: &str) -> Result<u8, Fail> {
 pub fn called(word: Option<&OsString>) -> String {
     let launcher = std::env::var_os("LUOSSAVIN_CALLED");
     let word = launcher.as_ref().or(word).and_then(|word| word.to_str()).unwrap_or("luossavin");
-    let is_plain = !word.chars().any(char::is_control);
+    let is_plain = !word.chars().any(does_harm);
     quoted(if is_plain { word } else { "luossavin" })
 }
 

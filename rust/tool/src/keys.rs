@@ -161,8 +161,8 @@ pub fn listed(line: &Line, about: &str) -> Result<Vec<Key>, Fail> {
 /// "7 0123..": a number and bytes.
 fn numbered(text: &OsStr) -> Option<(u64, Secret)> {
     let (number, digits) = split(text.as_bytes())?;
-    let digits = hex(digits).filter(|bytes| !bytes.is_empty())?;
-    Some((decimal(number)?, Secret(digits)))
+    let digits = hex(digits).map(Secret).filter(|bytes| !bytes.is_empty())?;
+    Some((decimal(number)?, digits))
 }
 
 /// A text before and after its first blank.
