@@ -144,7 +144,10 @@ const READ: [Thing; 7] =
 /// output, or to a descriptor, does not go to a file that is read.
 pub fn mind(line: &Line) -> Result<(), Fail> {
     let said: Vec<(Thing, &OsStr)> = READ.iter().filter_map(|thing| Some((*thing, line.value(*thing)?))).collect();
-    let mut from_input = said.iter().filter(|said| said.1 == "-" && said.0 != Thing::Shelf);
+    let mut from_input = said.iter().filter(|said| said.1 == "-");
+    if line.word(Thing::Shelf) == "-" {
+        return Err(line.wrong(Thing::Shelf, line.word(Thing::Shelf)));
+    }
     if let (Some(a), Some(b)) = (from_input.next(), from_input.next()) {
         let both = format!("{} and {}", name(a.0), name(b.0));
         return Err(line.fault(&format!("expected standard input for one of {both}, not for both")));
@@ -193,7 +196,7 @@ pub struct Output {
 }
 
 /// The descriptor that a name stands for, such as /dev/stdout.
-fn descriptor(word: &OsStr) -> Option<RawFd> {
+pub fn descriptor(word: &OsStr) -> Option<RawFd> {
     match word.to_str()? {
         "-" | "/dev/stdout" => Some(1),
         "/dev/stderr" => Some(2),
@@ -284,11 +287,16 @@ fn holds(path: &Path, bytes: &[u8]) -> bool {
         && *here == *bytes
 }
 
+/// Random bytes in hex digits.
+pub fn random(n: usize) -> io::Result<String> {
+    let mut random = vec![0; n];
+    File::open("/dev/urandom")?.read_exact(&mut random)?;
+    Ok(random.iter().map(|byte| format!("{byte:02x}")).collect())
+}
+
 /// A name in a folder that nobody guesses.
 fn unguessed(folder: &Path) -> io::Result<PathBuf> {
-    let mut random = [0; 8];
-    File::open("/dev/urandom")?.read_exact(&mut random)?;
-    Ok(folder.join(format!(".luossavin-{:016x}", u64::from_be_bytes(random))))
+    Ok(folder.join(format!(".luossavin-{}", random(8)?)))
 }
 
 /// The folder that a file is in.

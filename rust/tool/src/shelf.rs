@@ -1,6 +1,6 @@
 //! The commands of a shelf: put, find, open, verify, collect and list.
 
-use crate::files::{are_one, look_at_shelf, replace, Output, Secret, Source};
+use crate::files::{are_one, descriptor, look_at_shelf, replace, Output, Secret, Source};
 use crate::keys;
 use crate::message::Asked;
 use crate::progress::Progress;
@@ -79,12 +79,7 @@ fn load(line: &Line, bytes: Secret) -> Result<(Secret, Shelf), Fail> {
 
 /// Reads the shelf that a line names.
 fn read(line: &Line) -> Result<(Secret, Shelf), Fail> {
-    let word = line.word(Thing::Shelf);
-    if word == "-" {
-        return Err(line.wrong(Thing::Shelf, word));
-    }
-    let bytes = Source::open_shelf(word)?.read(LARGEST, &mut Progress::none())?;
-    load(line, bytes)
+    load(line, Source::open_shelf(line.word(Thing::Shelf))?.read(LARGEST, &mut Progress::none())?)
 }
 
 /// The current record of a job.
@@ -121,7 +116,7 @@ pub fn find(line: &Line) -> Result<u8, Fail> {
         Output::look(line, false, &[])?.write(record.sealed())?;
         say(&format!("{}wrote edition {edition} of job {job}", line.about(&shown(word))));
     }
-    if line.says(Thing::Json) && line.value(Thing::Out).map_or(true, |out| out != "-") {
+    if line.says(Thing::Json) && line.value(Thing::Out).and_then(descriptor) != Some(1) {
         answer(&line.object(0, None, &format!(",\"job\":{job},\"edition\":{edition},\"bytes\":{length}")))?;
     } else if !line.says(Thing::Out) {
         let what = format!("has edition {edition} of job {job} as the current one, a sealed file of {length} bytes");
@@ -261,9 +256,6 @@ impl Drop for Turn {
 /// Changes a shelf, one run at a time. `is_new`: it may not be there yet.
 fn change(line: &Line, is_new: bool, act: impl Fn(&mut Shelf, &[Record]) -> Result<(), Fail>) -> Result<(), Fail> {
     let word = line.word(Thing::Shelf);
-    if word == "-" {
-        return Err(line.wrong(Thing::Shelf, word));
-    }
     if look_at_shelf(word)?.is_none() && !is_new {
         read(line)?;
     }
