@@ -26,7 +26,7 @@ struct luossavin_key key;
 /* On the gates one group of sixteen blocks up to 256 bytes, two to four up to 1,024, and from 3,072 on large batches; hashes are interleaved from 256 bytes
  * on, and more of them from 1,536 on. */
 static const size_t all_lengths[] = {
-    0, 1, 16, 17, 64, 100, 256, 300, 495, 1000, 1024, 1536 + 3, 2048 + 31, 3072 + 5, 4096 + 5, 8192, 16384 + 16, MOST};
+    0, 1, 16, 17, 64, 100, 256, 300, 495, 1000, 1024, 1536 + 9, 2048 + 31, 3072 + 5, 4096 + 5, 8192, 16384 + 16, MOST};
 const size_t *lengths = all_lengths;
 size_t lengths_count = sizeof all_lengths / sizeof *all_lengths;
 
