@@ -52,6 +52,7 @@ $(built)/libluossavin.a: $(objects)
 
 $(built)/libluossavin.so: $(objects) VERSION
 	$(CC) -shared -Wl,-soname,$(soname) -Wl,-z,now -Wl,-z,text -Wl,--no-undefined -Wl,--build-id=none $(objects) -o $@
+	ln -sf $(@F) $(built)/$(soname)
 
 $(built):
 	mkdir -p $@

@@ -140,7 +140,7 @@ best_target() {
 has_v3() {
     local flags flag
     flags=$(sed -n '/^flags/{s/^[^:]*: //p;q}' /proc/cpuinfo)
-    for flag in avx avx2 bmi1 bmi2 f16c fma movbe abm xsave; do
+    for flag in cx16 lahf_lm popcnt pni ssse3 sse4_1 sse4_2 avx avx2 bmi1 bmi2 f16c fma movbe abm xsave; do
         [[ " $flags " == *" $flag "* ]] || return 1
     done
 }

@@ -1,9 +1,11 @@
 # On x86-64 the library stands twice in a program: as proved/x86_64.s, for every processor, and as proved/x86_64-v3.s, for those that
 # have AVX2 and what came with it. Each name of the header stands here, and jumps to one of the two.
 #
-# The first call chooses; every call after it takes one comparison and a jump. The better one is taken where the processor has all of
-# x86-64-v3 and the operating system keeps the wide registers (CPUID and XGETBV, as Intel's manual has it). LUOSSAVIN_VARIANT=x86_64 in
-# the environment of the process takes the plain one in any case; it is for tests.
+# The choice is made where the program starts or loads the library, before it has a thread that could change the environment, and by the
+# first call where that comes earlier still. Every call after it takes one comparison and a jump. The better one is taken where the
+# processor has all of x86-64-v3 and the operating system keeps the wide registers (CPUID and XGETBV, as Intel's manual has it).
+# LUOSSAVIN_VARIANT=x86_64 in the environment of the process takes the plain one in any case; it is for tests. Any other value is ignored,
+# and so is the variable in a program that runs with more rights than its caller (set-user-ID): secure_getenv says that there is none.
 #
 # Nothing here is proved: it is tested (host/variants). All arguments are passed on as they came, in registers and on the stack.
 
@@ -44,7 +46,7 @@ luossavin_choose:
 
 	# the variable, where there is one
 	leaq	.Lluossavin_choose.name(%rip), %rdi
-	call	getenv@PLT
+	call	secure_getenv@PLT
 	testq	%rax, %rax
 	je	1f
 	movq	%rax, %rdi
@@ -53,7 +55,7 @@ luossavin_choose:
 	testl	%eax, %eax
 	je	9f
 
-1:	# leaf 1, ECX: FMA 12, MOVBE 22, OSXSAVE 27, AVX 28, F16C 29
+1:	# leaf 1, ECX: SSE3 0, SSSE3 9, FMA 12, CMPXCHG16B 13, SSE4.1 19, SSE4.2 20, MOVBE 22, POPCNT 23, OSXSAVE 27, AVX 28, F16C 29
 	xorl	%eax, %eax
 	cpuid
 	cmpl	$7, %eax
@@ -61,8 +63,8 @@ luossavin_choose:
 	movl	$1, %eax
 	xorl	%ecx, %ecx
 	cpuid
-	andl	$0x38401000, %ecx
-	cmpl	$0x38401000, %ecx
+	andl	$0x38d83201, %ecx
+	cmpl	$0x38d83201, %ecx
 	jne	9f
 	# XCR0: the system keeps the registers of SSE (1) and of AVX (2)
 	xorl	%ecx, %ecx
@@ -77,15 +79,16 @@ luossavin_choose:
 	andl	$0x128, %ebx
 	cmpl	$0x128, %ebx
 	jne	9f
-	# leaf 0x80000001, ECX: LZCNT 5
+	# leaf 0x80000001, ECX: LAHF 0, LZCNT 5
 	movl	$0x80000000, %eax
 	cpuid
 	cmpl	$0x80000001, %eax
 	jb	9f
 	movl	$0x80000001, %eax
 	cpuid
-	testl	$0x20, %ecx
-	je	9f
+	andl	$0x21, %ecx
+	cmpl	$0x21, %ecx
+	jne	9f
 	movl	$2, 12(%rsp)
 
 9:	movl	12(%rsp), %eax
@@ -101,6 +104,10 @@ luossavin_choose:
 	popq	%rbp
 	ret
 	.size	luossavin_choose, .-luossavin_choose
+
+	.section	.init_array,"aw",@init_array
+	.p2align	3
+	.quad	luossavin_choose
 
 	.macro	luossavin_exported name
 	.section	.text.luossavin_\name,"ax",@progbits

@@ -25942,5 +25942,4 @@ luossavin_seal_start:
 	.word	15
 	.size	.Lluossavin.switch.table.luossavin_replay, 56
 
-	.ident	"rattle logic=064da1ca440f63e7502b45d89e7a7af6f35f329843886d4ee3931549ff4b3b79"
 	.section	".note.GNU-stack","",@progbits

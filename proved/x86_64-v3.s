@@ -24302,5 +24302,4 @@ luossavin_seal_start_x86_64_v3:
 	.long	15
 	.size	.Lluossavin_x86_64_v3.switch.table.luossavin_replay_x86_64_v3, 56
 
-	.ident	"rattle logic=064da1ca440f63e7502b45d89e7a7af6f35f329843886d4ee3931549ff4b3b79"
 	.section	".note.GNU-stack","",@progbits

@@ -2,8 +2,9 @@
  *
  *   cc -DEXPECTED_VARIANT=N .. variant.c ..       1: x86_64, 2: x86_64-v3, 3: aarch64
  *
- * On x86-64 the library chooses at its first call (lib/choose-x86_64.s). That call is made here, before `main`. Where another variant was
- * chosen than the expected one, the program says so and ends with exit status 70: a test of one variant cannot pass by running another.
+ * On x86-64 the library chooses when the program starts, or at a call that comes earlier (lib/choose-x86_64.s). A call is made here, before
+ * `main`. Where another variant was chosen than the expected one, the program says so and ends with exit status 70: a test of one variant
+ * cannot pass by running another.
  * Without EXPECTED_VARIANT any variant will do.
  */
 #include "variant.h"

@@ -190,7 +190,7 @@ records! {
 }
 
 // The library itself, as the kit's compiler wrote it (proved/ in the repository), for the machine that this is compiled for. On x86-64
-// it is there for every processor and for those with AVX2, and the first call chooses.
+// it is there for every processor and for those with AVX2, and the program chooses when it starts.
 #[cfg(target_arch = "x86_64")]
 std::arch::global_asm!(
     include_str!("../asm/x86_64.s"),

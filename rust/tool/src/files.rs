@@ -132,7 +132,7 @@ pub fn read_small(word: &OsStr, what: &str, most: usize) -> Result<Secret, Fail>
 }
 
 /// Whether two are one file.
-fn are_one(a: &Metadata, b: &Metadata) -> bool {
+pub fn are_one(a: &Metadata, b: &Metadata) -> bool {
     (a.dev(), a.ino()) == (b.dev(), b.ino())
 }
 
@@ -141,10 +141,13 @@ const READ: [Thing; 7] =
     [Thing::Key, Thing::IvFile, Thing::Candidates, Thing::Keys, Thing::Ivs, Thing::Shelf, Thing::In];
 
 /// Sees to it that standard input is for one word alone, that a shelf is named once, and that what goes to standard
-/// output does not go to a file that is read.
+/// output, or to a descriptor, does not go to a file that is read.
 pub fn mind(line: &Line) -> Result<(), Fail> {
     let said: Vec<(Thing, &OsStr)> = READ.iter().filter_map(|thing| Some((*thing, line.value(*thing)?))).collect();
-    let mut from_input = said.iter().filter(|said| said.1 == "-" && said.0 != Thing::Shelf);
+    let mut from_input = said.iter().filter(|said| said.1 == "-");
+    if line.word(Thing::Shelf) == "-" {
+        return Err(line.wrong(Thing::Shelf, line.word(Thing::Shelf)));
+    }
     if let (Some(a), Some(b)) = (from_input.next(), from_input.next()) {
         let both = format!("{} and {}", name(a.0), name(b.0));
         return Err(line.fault(&format!("expected standard input for one of {both}, not for both")));
@@ -163,12 +166,14 @@ pub fn mind(line: &Line) -> Result<(), Fail> {
             return Err(Fail::files("the shelf is a file that the words name twice; expected another".to_string()));
         }
     }
-    match sys::copy_of(1).and_then(|file| file.metadata()) {
-        Ok(output) if output.is_file() && files.iter().any(|file| are_one(&file.1, &output)) => {
-            Err(Fail::files("standard output is a file that the words name too; expected another".to_string()))
+    let out = line.value(Thing::Out).and_then(descriptor).unwrap_or(1);
+    for (fd, what) in [(1, "standard output"), (out, "OUT")] {
+        let about = sys::copy_of(fd).and_then(|file| file.metadata());
+        if about.map_or(false, |about| about.is_file() && files.iter().any(|file| are_one(&file.1, &about))) {
+            return Err(Fail::files(format!("{what} is a file that the words name too; expected another")));
         }
-        _ => Ok(()),
     }
+    Ok(())
 }
 
 /// Where OUT goes.
@@ -191,7 +196,7 @@ pub struct Output {
 }
 
 /// The descriptor that a name stands for, such as /dev/stdout.
-fn descriptor(word: &OsStr) -> Option<RawFd> {
+pub fn descriptor(word: &OsStr) -> Option<RawFd> {
     match word.to_str()? {
         "-" | "/dev/stdout" => Some(1),
         "/dev/stderr" => Some(2),
@@ -282,11 +287,16 @@ fn holds(path: &Path, bytes: &[u8]) -> bool {
         && *here == *bytes
 }
 
+/// Random bytes in hex digits.
+pub fn random(n: usize) -> io::Result<String> {
+    let mut random = vec![0; n];
+    File::open("/dev/urandom")?.read_exact(&mut random)?;
+    Ok(random.iter().map(|byte| format!("{byte:02x}")).collect())
+}
+
 /// A name in a folder that nobody guesses.
 fn unguessed(folder: &Path) -> io::Result<PathBuf> {
-    let mut random = [0; 8];
-    File::open("/dev/urandom")?.read_exact(&mut random)?;
-    Ok(folder.join(format!(".luossavin-{:016x}", u64::from_be_bytes(random))))
+    Ok(folder.join(format!(".luossavin-{}", random(8)?)))
 }
 
 /// The folder that a file is in.
@@ -333,6 +343,7 @@ impl Unfinished {
     fn put_over(&mut self, path: &Path) -> io::Result<()> {
         if self.name.is_none() {
             let name = unguessed(folder_of(path))?;
+            sys::hold_signals();
             sys::link(&self.file, &name)?;
             self.name = Some(name);
         }
@@ -443,6 +454,22 @@ mod tests {
         assert_eq!(start("again").link(&room.join("new")).unwrap_err().raw_os_error(), Some(sys::EEXIST));
         start("over").put_over(&room.join("new")).unwrap();
         assert_eq!(fs::read_dir(&room).unwrap().count(), 1);
+        fs::remove_dir_all(room).unwrap();
+    }
+
+    #[test]
+    fn signals_wait_while_a_file_has_a_name_that_is_not_its_own() {
+        let room = room("signals");
+        // bits for HUP, INT and TERM, of the thread that asks
+        let held = || {
+            let status = fs::read_to_string("/proc/thread-self/status").unwrap();
+            let set = status.lines().find_map(|line| line.strip_prefix("SigBlk:\t")).unwrap();
+            u64::from_str_radix(set, 16).unwrap() & 0x4003
+        };
+        let mut new = Unfinished::start(&room).unwrap();
+        assert_eq!(held() == 0, new.name.is_none());
+        new.put_over(&room.join("out")).unwrap();
+        assert_eq!(held(), 0x4003);
         fs::remove_dir_all(room).unwrap();
     }
 

@@ -1,14 +1,13 @@
 //! Help, the version, and the demo.
 
+use crate::files::random;
 use crate::message::Asked;
-use crate::say::{answer, quoted, shown, Fail, USAGE};
-use crate::words::{listed, Line, COMMANDS};
+use crate::say::{answer, cannot, does_harm, quoted, shown, Fail, BROKE, USAGE};
+use crate::words::{hex, listed, Line, COMMANDS};
 use luossavin::editions::{label, which};
 use luossavin::sm4::cipher_mode::{CipherMode, Sm4CipherMode};
 use luossavin::{Direction, Key, Refusal};
 use std::ffi::{OsStr, OsString};
-use std::fs::File;
-use std::io::Read;
 
 macro_rules! pages {
     ($($name:literal)*) => { [$(($name, include_str!(concat!("../help/", $name, ".txt")))),*] };
@@ -47,13 +46,11 @@ const KEY: &str = include_str!("../../../sample/key");
 /// Seals the sample, opens it again, and shows that the final's label is refused on the rough, which edition it is, and
 /// that a retired key opens and does not seal. All of it is in memory, so that nothing is left behind.
 pub fn demo(called: &str) -> Result<u8, Fail> {
-    let broke = |what: &str| Fail::new(crate::say::BROKE, format!("luossavin demo: {what}"));
+    let broke = |what: &str| Fail::new(BROKE, format!("luossavin demo: {what}"));
     let refused = |refusal: Refusal| Fail::refused(refusal, format!("luossavin demo: {refusal}"));
-    let mut iv = [0; 16];
-    let random = File::open("/dev/urandom").and_then(|mut random| random.read_exact(&mut iv));
-    random.map_err(|error| crate::say::cannot("read", "/dev/urandom", &error))?;
-    let digits: String = iv.iter().map(|byte| format!("{byte:02x}")).collect();
-    let bytes = crate::words::hex(KEY.trim().as_bytes()).unwrap_or_default();
+    let digits = random(16).map_err(|error| cannot("read", "/dev/urandom", &error))?;
+    let spelled = |digits: &str| hex(digits.trim().as_bytes()).unwrap_or_default();
+    let (iv, bytes) = (spelled(&digits), spelled(KEY));
     let key = || Key::new(&bytes, 1).map_err(refused);
     let cipher = Sm4CipherMode::with_key(key()?, CipherMode::Gcm);
 
@@ -112,7 +109,7 @@ pub fn demo(called: &str) -> Result<u8, Fail> {
 pub fn called(word: Option<&OsString>) -> String {
     let launcher = std::env::var_os("LUOSSAVIN_CALLED");
     let word = launcher.as_ref().or(word).and_then(|word| word.to_str()).unwrap_or("luossavin");
-    let is_plain = !word.chars().any(char::is_control);
+    let is_plain = !word.chars().any(does_harm);
     quoted(if is_plain { word } else { "luossavin" })
 }
 

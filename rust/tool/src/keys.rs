@@ -2,7 +2,7 @@
 
 use crate::files::{lines, read_small, Secret, Source};
 use crate::progress::Progress;
-use crate::say::{bytes, input, say, shown, told, Fail};
+use crate::say::{bytes, input, quoted, say, shown, told, Fail};
 use crate::words::{decimal, hex, Line, Thing};
 use luossavin::{Engine, Key, Refusal};
 use std::ffi::OsStr;
@@ -65,10 +65,7 @@ pub fn read(line: &Line, about: &str, engine: Engine) -> Result<Held, Fail> {
     let bytes = spelled(&file);
     match Key::new(&bytes, number) {
         Ok(key) => {
-            if source.about.is_file() && source.about.mode() & 0o044 != 0 {
-                let name = shown(word);
-                say(&format!("{}warning: others can read the key file {name}: chmod 600 {name}", line.start()));
-            }
+            warn_of_readers(line, word, &source);
             let key = key.with_engine(engine);
             let key = if line.says(Thing::Retired) { key.retire() } else { key };
             Ok(Held { key: Arc::new(key), file, bytes })
@@ -79,6 +76,14 @@ pub fn read(line: &Line, about: &str, engine: Engine) -> Result<Held, Fail> {
             let facts = [("the key has another size", size), ("1 to 65535", not)];
             Err(Fail::refused(refusal, format!("{}{}", line.about(about), told(refusal, &facts))))
         }
+    }
+}
+
+/// Warns of a file of keys that others can read.
+fn warn_of_readers(line: &Line, word: &OsStr, source: &Source) {
+    if source.about.is_file() && source.about.mode() & 0o044 != 0 {
+        let next = if word == "-" { String::new() } else { format!(": chmod 600 {}", quoted(&shown(word))) };
+        say(&format!("{}warning: others can read the key file {}{next}", line.start(), input(word)));
     }
 }
 
@@ -126,7 +131,8 @@ pub fn listed(line: &Line, about: &str) -> Result<Vec<Key>, Fail> {
     let word = line.word(Thing::Keys);
     let name = input(word);
     let most = 4096;
-    let list = read_small(word, "the keys ", most - 1)?;
+    let mut source = Source::open(word, "the keys ")?;
+    let list = source.read(most - 1, &mut Progress::none())?;
     let bad = |start: String, words: String| {
         let text = format!("{start}26 {}: {words}", Refusal::BadKeys.name());
         Err(Fail::refused(Refusal::BadKeys, text))
@@ -155,14 +161,17 @@ pub fn listed(line: &Line, about: &str) -> Result<Vec<Key>, Fail> {
         }
         keys.push(key.with_engine(Engine::Tables));
     }
+    if !keys.is_empty() {
+        warn_of_readers(line, word, &source);
+    }
     Ok(keys)
 }
 
 /// "7 0123..": a number and bytes.
 fn numbered(text: &OsStr) -> Option<(u64, Secret)> {
     let (number, digits) = split(text.as_bytes())?;
-    let digits = hex(digits).filter(|bytes| !bytes.is_empty())?;
-    Some((decimal(number)?, Secret(digits)))
+    let digits = hex(digits).map(Secret).filter(|bytes| !bytes.is_empty())?;
+    Some((decimal(number)?, digits))
 }
 
 /// A text before and after its first blank.

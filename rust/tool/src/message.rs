@@ -19,7 +19,7 @@ pub struct Asked<'a> {
     pub name: String,
     mode: CipherMode,
     direction: Direction,
-    /// Of Gcm.
+    /// Job and edition, of Gcm.
     pub label: (u32, u16),
     pub iv: Vec<u8>,
     pub iv_file: Secret,
@@ -65,12 +65,9 @@ impl<'a> Asked<'a> {
         Ok(Asked { line, name, mode, direction, label, iv, iv_file, offset })
     }
 
-    fn label_bytes(&self) -> Vec<u8> {
-        if self.mode == CipherMode::Gcm {
-            label(self.label.0, self.label.1).to_vec()
-        } else {
-            Vec::new()
-        }
+    /// The label, of which the other modes take no notice.
+    fn label_bytes(&self) -> [u8; 6] {
+        label(self.label.0, self.label.1)
     }
 
     /// The most bytes that IN may have.

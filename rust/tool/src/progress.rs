@@ -21,7 +21,7 @@ impl Progress {
     }
 
     pub fn none() -> Progress {
-        Progress { start: String::new(), size: None, next: None, is_shown: false }
+        Progress::new(String::new(), None, false)
     }
 
     /// So many bytes are done.

@@ -64,11 +64,14 @@ pub fn answer(text: &str) -> Result<u8, Fail> {
     written.map(|()| 0).map_err(|error| cannot("write", "standard output", &error))
 }
 
-/// Whether a character is kept from a terminal: it would move the cursor, hide, or turn the text round.
-fn does_harm(c: char) -> bool {
+/// Whether a character is kept from a terminal: it would move the cursor, turn the text round, or is not seen. Those
+/// that are not seen are Unicode's default ignorable ones.
+pub fn does_harm(c: char) -> bool {
     c.is_control()
-        || matches!(u32::from(c), 0xad | 0x61c | 0x180e | 0x200b..=0x200f | 0x2028..=0x202e | 0x2060..=0x206f)
-        || matches!(u32::from(c), 0xfeff | 0xfff9..=0xfffb | 0xe0000..=0xe007f)
+        || matches!(u32::from(c), 0xad | 0x34f | 0x61c | 0x115f..=0x1160 | 0x17b4..=0x17b5 | 0x180b..=0x180f)
+        || matches!(u32::from(c), 0x200b..=0x200f | 0x2028..=0x202e | 0x2060..=0x206f | 0x3164 | 0xfe00..=0xfe0f)
+        || matches!(u32::from(c), 0xfeff | 0xffa0 | 0xfff0..=0xfffb | 0x1bca0..=0x1bca3 | 0x1d173..=0x1d17a)
+        || matches!(u32::from(c), 0xe0000..=0xe0fff)
 }
 
 /// A name as it is shown: bytes that could do harm, or are no UTF-8, are spelled out.
@@ -157,6 +160,8 @@ mod tests {
         assert_eq!(shown_bytes("ä€😀".as_bytes()), "ä€😀");
         assert_eq!(shown_bytes("a\u{202e}b".as_bytes()), "a\\xe2\\x80\\xaeb");
         assert_eq!(shown_bytes("\u{9b}\u{feff}\u{2066}\u{200f}".as_bytes()).matches("\\x").count(), 11);
+        let unseen = ['\u{34f}', '\u{3164}', '\u{fe0f}', '\u{ffa0}', '\u{1d173}', '\u{e01ef}'];
+        assert!(unseen.iter().all(|c| shown_bytes(c.to_string().as_bytes()).is_ascii()));
         assert_eq!(shown_bytes(b"\xff\xc3"), "\\xff\\xc3");
         assert_eq!(shown_bytes(b"x\xe2\x82y"), "x\\xe2\\x82y");
     }

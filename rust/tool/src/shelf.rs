@@ -1,6 +1,6 @@
 //! The commands of a shelf: put, find, open, verify, collect and list.
 
-use crate::files::{look_at_shelf, replace, Output, Secret, Source};
+use crate::files::{are_one, descriptor, look_at_shelf, replace, Output, Secret, Source};
 use crate::keys;
 use crate::message::Asked;
 use crate::progress::Progress;
@@ -11,7 +11,7 @@ use luossavin::shelf::{Shelf, LARGEST};
 use luossavin::{Direction, Engine, Refusal};
 use std::ffi::{OsStr, OsString};
 use std::fs::{self, File, OpenOptions, Permissions};
-use std::io::ErrorKind;
+use std::io::{self, ErrorKind};
 use std::os::unix::fs::{MetadataExt, OpenOptionsExt, PermissionsExt};
 use std::path::{Path, PathBuf};
 use std::thread::sleep;
@@ -79,12 +79,7 @@ fn load(line: &Line, bytes: Secret) -> Result<(Secret, Shelf), Fail> {
 
 /// Reads the shelf that a line names.
 fn read(line: &Line) -> Result<(Secret, Shelf), Fail> {
-    let word = line.word(Thing::Shelf);
-    if word == "-" {
-        return Err(line.wrong(Thing::Shelf, word));
-    }
-    let bytes = Source::open_shelf(word)?.read(LARGEST, &mut Progress::none())?;
-    load(line, bytes)
+    load(line, Source::open_shelf(line.word(Thing::Shelf))?.read(LARGEST, &mut Progress::none())?)
 }
 
 /// The current record of a job.
@@ -121,7 +116,7 @@ pub fn find(line: &Line) -> Result<u8, Fail> {
         Output::look(line, false, &[])?.write(record.sealed())?;
         say(&format!("{}wrote edition {edition} of job {job}", line.about(&shown(word))));
     }
-    if line.says(Thing::Json) && line.value(Thing::Out).map_or(true, |out| out != "-") {
+    if line.says(Thing::Json) && line.value(Thing::Out).and_then(descriptor) != Some(1) {
         answer(&line.object(0, None, &format!(",\"job\":{job},\"edition\":{edition},\"bytes\":{length}")))?;
     } else if !line.says(Thing::Out) {
         let what = format!("has edition {edition} of job {job} as the current one, a sealed file of {length} bytes");
@@ -222,7 +217,12 @@ impl Turn {
         }
     }
 
-    fn try_take(shelf: &Path, path: &Path) -> std::io::Result<Option<File>> {
+    fn try_take(shelf: &Path, path: &Path) -> io::Result<Option<File>> {
+        // a lock is an empty file; anything else of that name is somebody's, and is left alone
+        if fs::symlink_metadata(path).map_or(false, |there| !there.is_file() || there.len() > 0) {
+            let text = format!("{} is there, and is no lock of a shelf", shown(path.as_os_str()));
+            return Err(io::Error::new(ErrorKind::AlreadyExists, text));
+        }
         let mode = fs::metadata(shelf).map_or(0o666 & !sys::umask(), |about| about.mode()) & 0o222;
         let flags = sys::O_NOFOLLOW | sys::O_NONBLOCK;
         let file = match OpenOptions::new().write(true).create(true).mode(mode | 0o200).custom_flags(flags).open(path) {
@@ -233,9 +233,9 @@ impl Turn {
         if !sys::lock(&file)? {
             return Ok(None);
         }
-        // whoever had it before may have removed it
+        // whoever had it before may have removed it, and another file may have its name
         let (ours, there) = (file.metadata()?, fs::symlink_metadata(path));
-        if !there.map_or(false, |there| (there.dev(), there.ino()) == (ours.dev(), ours.ino())) {
+        if ours.len() > 0 || !there.map_or(false, |there| are_one(&there, &ours)) {
             return Ok(None);
         }
         // for the others who may write to the shelf; that it cannot be done keeps nobody from it
@@ -256,9 +256,6 @@ impl Drop for Turn {
 /// Changes a shelf, one run at a time. `is_new`: it may not be there yet.
 fn change(line: &Line, is_new: bool, act: impl Fn(&mut Shelf, &[Record]) -> Result<(), Fail>) -> Result<(), Fail> {
     let word = line.word(Thing::Shelf);
-    if word == "-" {
-        return Err(line.wrong(Thing::Shelf, word));
-    }
     if look_at_shelf(word)?.is_none() && !is_new {
         read(line)?;
     }

@@ -132,19 +132,11 @@ pub fn hold_signals() {
     unsafe { sigprocmask(0, &set, std::ptr::null_mut()) };
 }
 
-/// Overwrites bytes, by writes that the compiler may not leave out.
+/// Overwrites bytes. The compiler cannot leave that out, since for all that it knows the empty assembly reads them.
 pub fn wipe(bytes: &mut [u8]) {
-    // SAFETY: any eight bytes are a number, and back.
-    let (front, words, rest) = unsafe { bytes.align_to_mut::<u64>() };
-    for byte in front.iter_mut().chain(rest) {
-        // SAFETY: the byte is borrowed alone.
-        unsafe { std::ptr::write_volatile(byte, 0) };
-    }
-    for word in words {
-        // SAFETY: the word is borrowed alone.
-        unsafe { std::ptr::write_volatile(word, 0) };
-    }
-    std::sync::atomic::compiler_fence(std::sync::atomic::Ordering::SeqCst);
+    bytes.fill(0);
+    // SAFETY: there is no instruction in it.
+    unsafe { std::arch::asm!("/* {0} */", in(reg) bytes.as_ptr(), options(nostack, preserves_flags)) };
 }
 
 #[cfg(test)]

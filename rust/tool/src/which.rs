@@ -103,13 +103,11 @@ fn found_one(line: &Line, job: u32, edition: u16, wanted: Option<u16>) -> Result
 }
 
 fn found_none(line: &Line, told: &str) -> Result<u8, Fail> {
-    let word = line.word(Thing::In);
-    if line.says(Thing::Json) {
-        answer(&line.object(NONE, None, ",\"opens\":false"))?;
-        return Ok(NONE);
-    }
     let next = "look for another key, another IV or another job, unless the file was changed since";
-    answer(&format!("{} {told}, with {}: {next}\n", input(word), key_and_iv(line)))?;
+    answer(&match line.says(Thing::Json) {
+        true => line.object(NONE, None, ",\"opens\":false"),
+        false => format!("{} {told}, with {}: {next}\n", input(line.word(Thing::In)), key_and_iv(line)),
+    })?;
     Ok(NONE)
 }
 

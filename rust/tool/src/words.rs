@@ -1,5 +1,6 @@
 //! The command line: one table of commands, one of options, and what a line of words says by them.
 
+use crate::files::Secret;
 use crate::say::{json, shown, Fail, USAGE};
 use crate::{message, replay, shelf, which};
 use luossavin::Refusal;
@@ -273,14 +274,15 @@ pub fn decimal<N: TryFrom<u64>>(digits: &[u8]) -> Option<N> {
     is_number.then(|| digits.iter().fold(0, add)).and_then(|n| N::try_from(n).ok())
 }
 
-/// The bytes that hex digits spell, two to a byte. They may be a key: no copy is left behind by growing.
+/// The bytes that hex digits spell, two to a byte. They may be a key: no copy is left behind by growing, nor what was
+/// read before a wrong digit.
 pub fn hex(digits: &[u8]) -> Option<Vec<u8>> {
     let digit = |byte: u8| char::from(byte).to_digit(16);
-    let mut bytes = Vec::with_capacity(digits.len() / 2 + 1);
+    let mut bytes = Secret(Vec::with_capacity(digits.len() / 2 + 1));
     for pair in digits.chunks(2) {
-        bytes.push(u8::try_from(digit(*pair.first()?)? * 16 + digit(*pair.get(1)?)?).ok()?);
+        bytes.0.push(u8::try_from(digit(*pair.first()?)? * 16 + digit(*pair.get(1)?)?).ok()?);
     }
-    Some(bytes)
+    Some(std::mem::take(&mut bytes.0))
 }
 
 #[cfg(test)]
