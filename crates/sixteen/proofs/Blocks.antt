@@ -17,14 +17,14 @@ use Rattle.sixteen.specs.Blocks.{block, Held, Arrays}
 use Rattle.sixteen.proofs.Padded.{over-stored}
 
 -- one block more
-module _ (f : ℕ → List ℕ) (i : ℕ) (x a b c d : List ℕ) (hi : i < 64) (S : Arrays a b c d) (four : length x ≡ 4) (e : f i ≡ x) where
+module _ (f : ℕ → List ℕ) (i : ℕ) (x a b c d : List ℕ) (hi : i < 128) (S : Arrays a b c d) (four : length x ≡ 4) (e : f i ≡ x) where
   pub held-next : Held i f a b c d → Held (i + 1) f (set a i (getD x 0 0)) (set b i (getD x 1 0)) (set c i (getD x 2 0)) (set d i (getD x 3 0))
   held-next H j hj =
       let la = S .la in
       let lb = S .lb in
       let lc = S .lc in
       let ld = S .ld in
-      let same : (y : List ℕ) (v : ℕ) → length y ≡ 64 → getD (set y i v) i 0 ≡ v = λ y v l. getD-set-same y i v 0 (omega arith) in
+      let same : (y : List ℕ) (v : ℕ) → length y ≡ 128 → getD (set y i v) i 0 ≡ v = λ y v l. getD-set-same y i v 0 (omega arith) in
       let here : block (set a i (getD x 0 0)) (set b i (getD x 1 0)) (set c i (getD x 2 0)) (set d i (getD x 3 0)) i ≡ f i =
       ap₂ _∷_ (same a (getD x 0 0) la) (ap₂ _∷_ (same b (getD x 1 0) lb) (ap₂ _∷_ (same c (getD x 2 0) lc) (ap₂ _∷_ (same d (getD x 3 0) ld) refl)))
       ∙ four-entries x four

@@ -1,7 +1,7 @@
--- Up to 64 blocks side by side: block j is word j of each of four arrays. Sixteen words, from a multiple of sixteen on, are a group.
+-- Up to 128 blocks side by side: block j is word j of each of four arrays. Sixteen words, from a multiple of sixteen on, are a group.
 use mathlib.Core.Path.{_≡_}
 use mathlib.Core.List.{List, [], _∷_}
-use Prim.Native.Nat.{ℕ, _+_, _*_, _/_, _%_, _^_, _<_}
+use Prim.Native.Nat.{ℕ, _+_, _-_, _*_, _/_, _%_, _^_, _<_, _≤_}
 use lib.ListN.{getD, length}
 use Rattle.block.specs.Xor.{_⊕_}
 
@@ -22,6 +22,16 @@ abbrev pub Halves : (ℕ → ℕ) → ℕ → List ℕ → Type 0
 Halves f g z =
     (i : ℕ) → i < 8 → (f (16 * g + 2 * i) ≡ getD z i 0 % 2 ^ 32) × (f (16 * g + 2 * i + 1) ≡ getD z i 0 / 2 ^ 32 % 2 ^ 32)
 
+-- how many words are worked on in so many passes of so many groups, of which all but the last have four
+abbrev pub worked : ℕ → ℕ → ℕ
+worked passes groups = 64 * (passes - 1) + 16 * groups
+
+pub record Passes (passes groups : ℕ) : Type 0 where
+  pub some : 1 ≤ passes
+  pub most : passes ≤ 2
+  pub full : groups ≤ 4
+  pub two : 1 < passes → groups ≡ 4
+
 -- what goes into the S-boxes of block j
 abbrev pub keyed : List ℕ → List ℕ → List ℕ → ℕ → ℕ → ℕ
 keyed b c d k j = getD b j 0 ⊕ getD c j 0 ⊕ getD d j 0 ⊕ k
@@ -36,16 +46,16 @@ Held m f a b c d = (j : ℕ) → j < m → block a b c d j ≡ f j
 
 -- four arrays for blocks, and two to work in
 pub record Sized (a b c d t s : List ℕ) : Type 0 where
-  pub la : length a ≡ 64
-  pub lb : length b ≡ 64
-  pub lc : length c ≡ 64
-  pub ld : length d ≡ 64
-  pub lt : length t ≡ 64
-  pub ls : length s ≡ 64
+  pub la : length a ≡ 128
+  pub lb : length b ≡ 128
+  pub lc : length c ≡ 128
+  pub ld : length d ≡ 128
+  pub lt : length t ≡ 128
+  pub ls : length s ≡ 128
 
 -- the four arrays alone
 pub record Arrays (a b c d : List ℕ) : Type 0 where
-  pub la : length a ≡ 64
-  pub lb : length b ≡ 64
-  pub lc : length c ≡ 64
-  pub ld : length d ≡ 64
+  pub la : length a ≡ 128
+  pub lb : length b ≡ 128
+  pub lc : length c ≡ 128
+  pub ld : length d ≡ 128

@@ -1,4 +1,4 @@
-// SM4 on up to 64 blocks side by side, in groups of sixteen: for messages, and rests, that are too short for the batches of `sliced`. Neither
+// SM4 on up to 128 blocks side by side, in groups of sixteen: for messages, and rests, that are too short for the batches of `sliced`. Neither
 // an index nor a branch depends on a block or a key.
 mod rounds;
 
@@ -15,14 +15,14 @@ ghost use Rattle.sixteen.specs.Blocks.{block, Held, Arrays};
 
 // The block x as block i.
 fn put(
-    x0: &mut [u32; 64],
-    x1: &mut [u32; 64],
-    x2: &mut [u32; 64],
-    x3: &mut [u32; 64],
+    x0: &mut [u32; 128],
+    x1: &mut [u32; 128],
+    x2: &mut [u32; 128],
+    x3: &mut [u32; 128],
     i: usize,
     x: [u32; 4],
 )
-    requires { ⌜ i < 64 ⌝ }
+    requires { ⌜ i < 128 ⌝ }
     requires { ⌜ Arrays (now x0) (now x1) (now x2) (now x3) ⌝ }
     ensures { λ _. ⌜ ((f : ℕ → List ℕ) → Held i f (now (x0 .entry)) (now (x1 .entry)) (now (x2 .entry)) (now (x3 .entry)) → f i ≡ x → Held (i + 1) f (now (x0 .exit)) (now (x1 .exit)) (now (x2 .exit)) (now (x3 .exit))) ⌝ }
     ensures { λ _. ⌜ Arrays (now (x0 .exit)) (now (x1 .exit)) (now (x2 .exit)) (now (x3 .exit)) ⌝ }
@@ -37,12 +37,12 @@ fn put(
 fn load(
     src: &[u8],
     m: usize,
-    x0: &mut [u32; 64],
-    x1: &mut [u32; 64],
-    x2: &mut [u32; 64],
-    x3: &mut [u32; 64],
+    x0: &mut [u32; 128],
+    x1: &mut [u32; 128],
+    x2: &mut [u32; 128],
+    x3: &mut [u32; 128],
 )
-    requires { ⌜ (m ≤ 64) × (16 * m ≤ length (now src)) ⌝ }
+    requires { ⌜ (m ≤ 128) × (16 * m ≤ length (now src)) ⌝ }
     requires { ⌜ Arrays (now x0) (now x1) (now x2) (now x3) ⌝ }
     ensures { λ _. ⌜ Held m (λ j. words (blockAt (now (src .entry)) j)) (now (x0 .exit)) (now (x1 .exit)) (now (x2 .exit)) (now (x3 .exit)) ⌝ }
     ensures { λ _. ⌜ Arrays (now (x0 .exit)) (now (x1 .exit)) (now (x2 .exit)) (now (x3 .exit)) ⌝ }
@@ -55,8 +55,8 @@ fn load(
 }
 
 // Block i.
-fn taken(x0: &[u32; 64], x1: &[u32; 64], x2: &[u32; 64], x3: &[u32; 64], i: usize) -> [u32; 4]
-    requires { ⌜ i < 64 ⌝ }
+fn taken(x0: &[u32; 128], x1: &[u32; 128], x2: &[u32; 128], x3: &[u32; 128], i: usize) -> [u32; 4]
+    requires { ⌜ i < 128 ⌝ }
     requires { ⌜ Arrays (now x0) (now x1) (now x2) (now x3) ⌝ }
     ensures { λ r. ⌜ r ≡ block (now (x0 .entry)) (now (x1 .entry)) (now (x2 .entry)) (now (x3 .entry)) i ⌝ }
 {
@@ -64,8 +64,15 @@ fn taken(x0: &[u32; 64], x1: &[u32; 64], x2: &[u32; 64], x3: &[u32; 64], i: usiz
 }
 
 // The first m blocks, to the front of `out`.
-fn store(x0: &[u32; 64], x1: &[u32; 64], x2: &[u32; 64], x3: &[u32; 64], m: usize, out: &mut [u8])
-    requires { ⌜ (m ≤ 64) × (16 * m ≤ length (now out)) ⌝ }
+fn store(
+    x0: &[u32; 128],
+    x1: &[u32; 128],
+    x2: &[u32; 128],
+    x3: &[u32; 128],
+    m: usize,
+    out: &mut [u8],
+)
+    requires { ⌜ (m ≤ 128) × (16 * m ≤ length (now out)) ⌝ }
     requires { ⌜ Arrays (now x0) (now x1) (now x2) (now x3) ⌝ }
     ensures { λ _. ⌜ ((f : ℕ → List ℕ) → Held m f (now (x0 .entry)) (now (x1 .entry)) (now (x2 .entry)) (now (x3 .entry)) → now (out .exit) ≡ over (cat m (λ i. unwords (f i))) (now (out .entry))) ⌝ }
 {
@@ -78,45 +85,54 @@ fn store(x0: &[u32; 64], x1: &[u32; 64], x2: &[u32; 64], x3: &[u32; 64], m: usiz
 
 // How many blocks are worked on: four at a time.
 fn whole_fours(m: usize) -> usize
-    requires { ⌜ m ≤ 64 ⌝ }
-    ensures { λ r. ⌜ (m ≤ r) × (r ≤ 16 * ((m + 15) / 16)) ⌝ }
+    requires { ⌜ m ≤ 128 ⌝ }
+    ensures { λ r. ⌜ (m ≤ r) × (r ≤ m + 3) × (r % 4 ≡ 0) ⌝ }
 {
     (m + 3) / 4 * 4
 }
 
-// In how many groups so many full ones or begun ones are worked on: one, or an even number, since two are worked on at once.
-const GROUPS: [usize; 5] = [0, 1, 2, 4, 4];
+// In how many groups a pass works on so many full ones or begun ones: in one, or in an even number, since two are worked on at once.
+const GROUPS: [usize; 9] = [1, 1, 2, 4, 4, 4, 4, 4, 4];
 
-// In how many groups m blocks are worked on. It is looked up, by a length, and not reckoned: where the back end works out that a count is small,
-// it does not vectorize the loop over it.
+// In how many groups a pass works on m blocks. It is looked up, by a length, and not reckoned: where the back end works out that a count is
+// small, it does not vectorize the loop over it.
 fn groups_of(m: usize) -> usize
-    requires { ⌜ m ≤ 64 ⌝ }
-    ensures { λ r. ⌜ ((m + 15) / 16 ≤ r) × (r ≤ 4) ⌝ }
+    requires { ⌜ m ≤ 128 ⌝ }
+    ensures { λ r. ⌜ (m ≤ 64 → m ≤ 16 * r) × (64 < m → r ≡ 4) × (r ≤ 4) ⌝ }
 {
     let counts = GROUPS;
     counts[(m + 15) / 16]
 }
 
+// In how many passes.
+fn passes_of(m: usize) -> usize
+    ensures { λ r. ⌜ (m ≤ 64 → r ≡ 1) × (64 < m → r ≡ 2) ⌝ }
+{
+    if m > 64 { 2 } else { 1 }
+}
+
 // The first m blocks of `src`, encrypted to the front of `out`.
 pub fn encrypt(rk: [u32; 32], m: usize, src: &[u8], out: &mut [u8])
-    requires { ⌜ (m ≤ 64) × (16 * m ≤ length (now src)) × (16 * m ≤ length (now out)) ⌝ }
+    requires { ⌜ (m ≤ 128) × (16 * m ≤ length (now src)) × (16 * m ≤ length (now out)) ⌝ }
     ensures { λ _. ⌜ now (out .exit) ≡ over (cat m (λ i. encryptBlock rk (blockAt (now (src .entry)) i))) (now (out .entry)) ⌝ }
 {
     if m == 0 {
         return;
     }
-    let mut x0 = [0u32; 64];
-    let mut x1 = [0u32; 64];
-    let mut x2 = [0u32; 64];
-    let mut x3 = [0u32; 64];
-    let mut t = [0u32; 64];
-    let mut s = [0u32; 64];
+    let mut x0 = [0u32; 128];
+    let mut x1 = [0u32; 128];
+    let mut x2 = [0u32; 128];
+    let mut x3 = [0u32; 128];
+    let mut t = [0u32; 128];
+    let mut s = [0u32; 128];
     load(src, m, &mut x0, &mut x1, &mut x2, &mut x3);
     let n = whole_fours(m);
+    let passes = passes_of(m);
     let groups = groups_of(m);
     rounds::all_rounds(
         rk,
         n,
+        passes,
         groups,
         &mut x0,
         &mut x1,

@@ -1,5 +1,5 @@
-// The rounds of up to 64 blocks, of which block j is word j of each of four arrays. The 64 bytes of sixteen words are the 64 lanes of one
-// evaluation of the S-box's gates, and up to four such groups are evaluated side by side.
+// The rounds of up to 128 blocks, of which block j is word j of each of four arrays. The 64 bytes of sixteen words are the 64 lanes of one
+// evaluation of the S-box's gates. Up to four such groups are evaluated side by side, in one pass or two.
 //
 // How many blocks and groups are worked on are parameters all the way down, since a loop whose count the back end knows is not vectorized
 // here.
@@ -10,7 +10,7 @@ ghost use lib.ListN.{length, getD};
 ghost use Rattle.block.specs.Xor.{_⊕_};
 ghost use Rattle.cipher.specs.Sm4.{tau, L, T, rounds, encryptWords};
 ghost use Rattle.sixteen.specs.Bytes.{Transposed, Subbed};
-ghost use Rattle.sixteen.specs.Blocks.{Each, pairAt, Paired, Halves, keyed, block, Sized};
+ghost use Rattle.sixteen.specs.Blocks.{Each, pairAt, Paired, Halves, Passes, worked, keyed, block, Sized};
 
 // The bytes of eight words, transposed bit by bit, so that word i has bit i of all 64 bytes: three stages of masked swaps. It is its own
 // inverse.
@@ -83,16 +83,16 @@ fn half(high: u32, low: u32) -> u64
 }
 
 // Words 2 i and 2 i + 1 as one.
-fn pair(t: &[u32; 64], i: usize) -> u64
-    requires { ⌜ (i < 32) × (length (now t) ≡ 64) ⌝ }
+fn pair(t: &[u32; 128], i: usize) -> u64
+    requires { ⌜ (i < 64) × (length (now t) ≡ 128) ⌝ }
     ensures { λ r. ⌜ (r ≡ pairAt (now (t .entry)) i) × (getD (now (t .entry)) (2 * i) 0 < 2 ^ 32) ⌝ }
 {
     half(t[2 * i + 1], t[2 * i])
 }
 
 // The sixteen words of group g as eight.
-fn paired(t: &[u32; 64], g: usize) -> [u64; 8]
-    requires { ⌜ (g < 4) × (length (now t) ≡ 64) ⌝ }
+fn paired(t: &[u32; 128], g: usize) -> [u64; 8]
+    requires { ⌜ (g < 8) × (length (now t) ≡ 128) ⌝ }
     ensures { λ r. ⌜ Paired (now (t .entry)) g r ⌝ }
 {
     let p = 8 * g;
@@ -109,10 +109,10 @@ fn paired(t: &[u32; 64], g: usize) -> [u64; 8]
 }
 
 // Eight words as the sixteen of group g.
-fn put_group(z: [u64; 8], g: usize, s: &mut [u32; 64])
-    requires { ⌜ (g < 4) × (length (now s) ≡ 64) ⌝ }
+fn put_group(z: [u64; 8], g: usize, s: &mut [u32; 128])
+    requires { ⌜ (g < 8) × (length (now s) ≡ 128) ⌝ }
     ensures { λ _. ⌜ ((f : ℕ → ℕ) → Each f (16 * g) (now (s .entry)) → Halves f g z → Each f (16 * g + 16) (now (s .exit))) ⌝ }
-    ensures { λ _. ⌜ length (now (s .exit)) ≡ 64 ⌝ }
+    ensures { λ _. ⌜ length (now (s .exit)) ≡ 128 ⌝ }
 {
     let mut i: usize = 0;
     while i < 8 {
@@ -124,26 +124,40 @@ fn put_group(z: [u64; 8], g: usize, s: &mut [u32; 64])
     }
 }
 
-// Each word of the first `groups` groups by tau: its four bytes by the S-box.
-fn sub_groups(t: &[u32; 64], s: &mut [u32; 64], groups: usize)
-    requires { ⌜ (groups ≤ 4) × (length (now t) ≡ 64) × (length (now s) ≡ 64) ⌝ }
-    ensures { λ _. ⌜ Each (λ j. tau (getD (now (t .entry)) j 0)) (16 * groups) (now (s .exit)) ⌝ }
-    ensures { λ _. ⌜ length (now (s .exit)) ≡ 64 ⌝ }
+// Each word of so many groups, from group `from` on, by tau: its four bytes by the S-box.
+fn sub_groups(t: &[u32; 128], s: &mut [u32; 128], from: usize, groups: usize)
+    requires { ⌜ (from + groups ≤ 8) × (length (now t) ≡ 128) × (length (now s) ≡ 128) ⌝ }
+    ensures { λ _. ⌜ (Each (λ j. tau (getD (now (t .entry)) j 0)) (16 * from) (now (s .entry)) → Each (λ j. tau (getD (now (t .entry)) j 0)) (16 * (from + groups)) (now (s .exit))) ⌝ }
+    ensures { λ _. ⌜ length (now (s .exit)) ≡ 128 ⌝ }
 {
     let mut g: usize = 0;
     while g < groups {
-        let z = sub_bytes(paired(t, g));
-        put_group(z, g, s);
+        let z = sub_bytes(paired(t, from + g));
+        put_group(z, from + g, s);
         g += 1;
     }
 }
 
+// The same in passes of so many groups. A pass that another follows has four.
+fn sub_words(t: &[u32; 128], s: &mut [u32; 128], passes: usize, groups: usize)
+    requires { ⌜ Passes passes groups ⌝ }
+    requires { ⌜ (length (now t) ≡ 128) × (length (now s) ≡ 128) ⌝ }
+    ensures { λ _. ⌜ Each (λ j. tau (getD (now (t .entry)) j 0)) (worked passes groups) (now (s .exit)) ⌝ }
+    ensures { λ _. ⌜ length (now (s .exit)) ≡ 128 ⌝ }
+{
+    let mut h: usize = 0;
+    while h < passes {
+        sub_groups(t, s, 4 * h, groups);
+        h += 1;
+    }
+}
+
 // What goes into the S-boxes of the first n blocks.
-fn keyed_words(t: &mut [u32; 64], b: &[u32; 64], c: &[u32; 64], d: &[u32; 64], k: u32, n: usize)
-    requires { ⌜ n ≤ 64 ⌝ }
-    requires { ⌜ (length (now t) ≡ 64) × (length (now b) ≡ 64) × (length (now c) ≡ 64) × (length (now d) ≡ 64) ⌝ }
+fn keyed_words(t: &mut [u32; 128], b: &[u32; 128], c: &[u32; 128], d: &[u32; 128], k: u32, n: usize)
+    requires { ⌜ n ≤ 128 ⌝ }
+    requires { ⌜ (length (now t) ≡ 128) × (length (now b) ≡ 128) × (length (now c) ≡ 128) × (length (now d) ≡ 128) ⌝ }
     ensures { λ _. ⌜ Each (keyed (now (b .entry)) (now (c .entry)) (now (d .entry)) k) n (now (t .exit)) ⌝ }
-    ensures { λ _. ⌜ length (now (t .exit)) ≡ 64 ⌝ }
+    ensures { λ _. ⌜ length (now (t .exit)) ≡ 128 ⌝ }
 {
     let mut j: usize = 0;
     while j < n {
@@ -153,11 +167,11 @@ fn keyed_words(t: &mut [u32; 64], b: &[u32; 64], c: &[u32; 64], d: &[u32; 64], k
 }
 
 // L of n words, added to a.
-fn mix(a: &mut [u32; 64], s: &[u32; 64], n: usize)
-    requires { ⌜ n ≤ 64 ⌝ }
-    requires { ⌜ (length (now a) ≡ 64) × (length (now s) ≡ 64) ⌝ }
+fn mix(a: &mut [u32; 128], s: &[u32; 128], n: usize)
+    requires { ⌜ n ≤ 128 ⌝ }
+    requires { ⌜ (length (now a) ≡ 128) × (length (now s) ≡ 128) ⌝ }
     ensures { λ _. ⌜ Each (λ j. getD (now (a .entry)) j 0 ⊕ L (getD (now (s .entry)) j 0)) n (now (a .exit)) ⌝ }
-    ensures { λ _. ⌜ length (now (a .exit)) ≡ 64 ⌝ }
+    ensures { λ _. ⌜ length (now (a .exit)) ≡ 128 ⌝ }
 {
     let mut j: usize = 0;
     while j < n {
@@ -166,52 +180,54 @@ fn mix(a: &mut [u32; 64], s: &[u32; 64], n: usize)
     }
 }
 
-// One round of the first n blocks, which are in the first `groups` groups: onto a. What t and s hold is not said.
+// One round of the first n blocks, which are in so many passes of so many groups: onto a. What t and s hold is not said.
 fn round(
-    a: &mut [u32; 64],
-    b: &[u32; 64],
-    c: &[u32; 64],
-    d: &[u32; 64],
-    t: &mut [u32; 64],
-    s: &mut [u32; 64],
+    a: &mut [u32; 128],
+    b: &[u32; 128],
+    c: &[u32; 128],
+    d: &[u32; 128],
+    t: &mut [u32; 128],
+    s: &mut [u32; 128],
     k: u32,
     n: usize,
+    passes: usize,
     groups: usize,
 )
-    requires { ⌜ (n ≤ 16 * groups) × (groups ≤ 4) ⌝ }
+    requires { ⌜ (n ≤ worked passes groups) × Passes passes groups ⌝ }
     requires { ⌜ Sized (now a) (now b) (now c) (now d) (now t) (now s) ⌝ }
     ensures { λ _. ⌜ ((j : ℕ) → j < n → getD (now (a .exit)) j 0 ≡ getD (now (a .entry)) j 0 ⊕ T (getD (now (b .entry)) j 0 ⊕ getD (now (c .entry)) j 0 ⊕ getD (now (d .entry)) j 0 ⊕ k)) ⌝ }
-    ensures { λ _. ⌜ (length (now (a .exit)) ≡ 64) × (length (now (t .exit)) ≡ 64) × (length (now (s .exit)) ≡ 64) ⌝ }
+    ensures { λ _. ⌜ (length (now (a .exit)) ≡ 128) × (length (now (t .exit)) ≡ 128) × (length (now (s .exit)) ≡ 128) ⌝ }
 {
     keyed_words(t, b, c, d, k, n);
-    sub_groups(t, s, groups);
+    sub_words(t, s, passes, groups);
     mix(a, s, n);
 }
 
 // Four rounds, by k, l, m and o.
 fn four(
-    a: &mut [u32; 64],
-    b: &mut [u32; 64],
-    c: &mut [u32; 64],
-    d: &mut [u32; 64],
-    t: &mut [u32; 64],
-    s: &mut [u32; 64],
+    a: &mut [u32; 128],
+    b: &mut [u32; 128],
+    c: &mut [u32; 128],
+    d: &mut [u32; 128],
+    t: &mut [u32; 128],
+    s: &mut [u32; 128],
     k: u32,
     l: u32,
     m: u32,
     o: u32,
     n: usize,
+    passes: usize,
     groups: usize,
 )
-    requires { ⌜ (n ≤ 16 * groups) × (groups ≤ 4) ⌝ }
+    requires { ⌜ (n ≤ worked passes groups) × Passes passes groups ⌝ }
     requires { ⌜ Sized (now a) (now b) (now c) (now d) (now t) (now s) ⌝ }
     ensures { λ _. ⌜ ((j : ℕ) → j < n → block (now (a .exit)) (now (b .exit)) (now (c .exit)) (now (d .exit)) j ≡ rounds (k ∷ l ∷ m ∷ o ∷ []) (block (now (a .entry)) (now (b .entry)) (now (c .entry)) (now (d .entry)) j)) ⌝ }
     ensures { λ _. ⌜ Sized (now (a .exit)) (now (b .exit)) (now (c .exit)) (now (d .exit)) (now (t .exit)) (now (s .exit)) ⌝ }
 {
-    round(a, b, c, d, t, s, k, n, groups);
-    round(b, c, d, a, t, s, l, n, groups);
-    round(c, d, a, b, t, s, m, n, groups);
-    round(d, a, b, c, t, s, o, n, groups);
+    round(a, b, c, d, t, s, k, n, passes, groups);
+    round(b, c, d, a, t, s, l, n, passes, groups);
+    round(c, d, a, b, t, s, m, n, passes, groups);
+    round(d, a, b, c, t, s, o, n, passes, groups);
 }
 
 // The first n blocks, encrypted. Block j is word j of each array, and of the arrays taken from the last to the first once it is encrypted. t and s
@@ -219,15 +235,16 @@ fn four(
 pub(crate) fn all_rounds(
     rk: [u32; 32],
     n: usize,
+    passes: usize,
     groups: usize,
-    x0: &mut [u32; 64],
-    x1: &mut [u32; 64],
-    x2: &mut [u32; 64],
-    x3: &mut [u32; 64],
-    t: &mut [u32; 64],
-    s: &mut [u32; 64],
+    x0: &mut [u32; 128],
+    x1: &mut [u32; 128],
+    x2: &mut [u32; 128],
+    x3: &mut [u32; 128],
+    t: &mut [u32; 128],
+    s: &mut [u32; 128],
 )
-    requires { ⌜ (n ≤ 16 * groups) × (groups ≤ 4) ⌝ }
+    requires { ⌜ (n ≤ worked passes groups) × Passes passes groups ⌝ }
     requires { ⌜ Sized (now x0) (now x1) (now x2) (now x3) (now t) (now s) ⌝ }
     ensures { λ _. ⌜ ((j : ℕ) → j < n → block (now (x3 .exit)) (now (x2 .exit)) (now (x1 .exit)) (now (x0 .exit)) j ≡ encryptWords rk (block (now (x0 .entry)) (now (x1 .entry)) (now (x2 .entry)) (now (x3 .entry)) j)) ⌝ }
     ensures { λ _. ⌜ Sized (now (x0 .exit)) (now (x1 .exit)) (now (x2 .exit)) (now (x3 .exit)) (now (t .exit)) (now (s .exit)) ⌝ }
@@ -246,6 +263,7 @@ pub(crate) fn all_rounds(
             rk[i + 2],
             rk[i + 3],
             n,
+            passes,
             groups,
         );
         i += 4;

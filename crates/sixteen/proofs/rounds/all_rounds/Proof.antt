@@ -13,12 +13,12 @@ use Rattle.sixteen.proofs.rounds.all_rounds.Statement.{statement}
 use Rattle.sixteen.proofs.rounds.all_rounds.Tie as tie
 
 abbrev Inv-loop : tie.InvT-loop
-Inv-loop n groups x0₀ x1₀ x2₀ x3₀ t₀ s₀ rk i₀ x0 x1 x2 x3 t s i =
+Inv-loop n passes groups x0₀ x1₀ x2₀ x3₀ t₀ s₀ rk i₀ x0 x1 x2 x3 t s i =
     (i ≤ 32) × (i % 4 ≡ 0) × Sized x0 x1 x2 x3 t s
     × ((j : ℕ) → j < n → rounds (drop i rk) (block x0 x1 x2 x3 j) ≡ rounds rk (block x0₀ x1₀ x2₀ x3₀ j))
 
 abbrev μ-loop : tie.MeasureT-loop
-μ-loop n groups x0₀ x1₀ x2₀ x3₀ t₀ s₀ rk i₀ x0 x1 x2 x3 t s i = 32 - i
+μ-loop n passes groups x0₀ x1₀ x2₀ x3₀ t₀ s₀ rk i₀ x0 x1 x2 x3 t s i = 32 - i
 
 loop-holds : tie.Need-loop-holds Inv-loop μ-loop
 loop-holds c = (search needs, refl, c .pre .1, λ j h. refl)

@@ -28,6 +28,15 @@ returns c =
       },
     )
 
+round-requires-3 : tie.Need-round-requires-3
+round-requires-3 c κs =
+    let at-second = c .before .before .before .before .before .before in
+    let at-first = at-second .before .before .before .before .before .before .before in
+    let S = at-first .before .before .before .before .before .before .before in
+    let r = at-first .round .ensures .1 in
+    let q = at-second .round2 .ensures .1 in
+    (S .pre .0, record { la = S .pre .1 .lc; lb = S .pre .1 .ld; lc = r .0; ld = q .0; lt = q .1; ls = q .2 })
+
 round-requires-4 : tie.Need-round-requires-4
 round-requires-4 c κs =
     let at-third = c .before .before .before .before .before .before in
@@ -43,4 +52,4 @@ pub four-spec : {M : Type 1} → statement M
 four-spec =
     tie.close
     (tie.spec
-    (λ c κs. search needs) (λ c κs. search needs) (λ c κs. search needs) round-requires-4 returns)
+    (λ c κs. search needs) (λ c κs. search needs) round-requires-3 round-requires-4 returns)

@@ -11,7 +11,7 @@ use Rattle.sixteen.proofs.rounds.keyed_words.Statement.{statement}
 use Rattle.sixteen.proofs.rounds.keyed_words.Tie as tie
 
 abbrev Inv-loop : tie.InvT-loop
-Inv-loop t₀ b c d k n j₀ t j = (j ≤ n) × (length t ≡ 64) × Each (keyed b c d k) j t
+Inv-loop t₀ b c d k n j₀ t j = (j ≤ n) × (length t ≡ 128) × Each (keyed b c d k) j t
 
 abbrev μ-loop : tie.MeasureT-loop
 μ-loop t₀ b c d k n j₀ t j = n - j

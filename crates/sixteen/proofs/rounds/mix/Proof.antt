@@ -15,7 +15,7 @@ use Rattle.sixteen.proofs.rounds.mix.Tie as tie
 
 abbrev Inv-loop : tie.InvT-loop
 Inv-loop a₀ s n j₀ a j =
-    (j ≤ n) × (length a ≡ 64) × Each (λ i. getD a₀ i 0 ⊕ L (getD s i 0)) j a × ((i : ℕ) → j ≤ i → getD a i 0 ≡ getD a₀ i 0)
+    (j ≤ n) × (length a ≡ 128) × Each (λ i. getD a₀ i 0 ⊕ L (getD s i 0)) j a × ((i : ℕ) → j ≤ i → getD a i 0 ≡ getD a₀ i 0)
 
 abbrev μ-loop : tie.MeasureT-loop
 μ-loop a₀ s n j₀ a j = n - j
