@@ -51,50 +51,13 @@ function split_operands(i, text,    k, ch, depth, one) {
 
 function is_conditional(i) { return arm ? word[i] ~ /^(b\.|cbn?z$|tbn?z$)/ : word[i] ~ /^j/ && word[i] != "jmp" }
 function is_jump(i) { return is_conditional(i) || word[i] == (arm ? "b" : "jmp") }
+# A jump to where a register says: a table of places, by which of some cases it is.
+function is_indirect(i) { return arm ? word[i] == "br" : word[i] == "jmp" && text_of[i] ~ /\*/ }
+# Whether the next instruction never comes behind this one.
+function ends_here(i) { return word[i] == (arm ? "b" : "jmp") || is_indirect(i) || word[i] ~ /^(ret|ud2|udf)/ }
 function is_call(i) { return arm ? word[i] ~ /^blr?$/ : word[i] ~ /^call/ }
 function target(i) { return goes_to[i] }
 function shown(i) { return sprintf("%x: %s", place[i], text_of[i]) }
-
-# ---- the multiplication
-
-# Whether instruction i works with R: a register is used again for other things, and R is what something is masked or xored with.
-function holds_r(i,    k) {
-    if (arm && word[i] !~ /^(and|ands|eor|tst|csel|bic)$/) return 0
-    if (!arm && word[i] !~ /^(and|xor|test|cmov)/) return 0
-    for (k = 1; k <= count[i]; k++) if (operand[i, k] in with_r && (arm ? k > 1 : k == 1 && operand[i, k] != operand[i, 2])) return 1
-    return 0
-}
-
-# The innermost loop from instruction `first` to the jump `last`: whether it is a multiplication, and what jumps in it.
-function multiplication(first, last,    i, uses) {
-    for (i = first; i <= last; i++) {
-        if (i != last && is_jump(i) && place[i] >= target(i) && target(i) >= place[first]) return
-        if (holds_r(i)) uses = 1
-    }
-    if (!uses) return
-    products++
-    for (i = first; i < last; i++)
-        if (is_conditional(i) || is_call(i)) {
-            printf "%s: in a multiplication: %s\n", name, shown(i)
-            bad++
-        }
-}
-
-function look_at_multiplications(    i, k, before) {
-    for (i = 1; i <= n; i++) {
-        if (!arm && text_of[i] ~ /^movabs +\$0xe100000000000000,/) with_r[operand[i, 2]]
-        if (arm && text_of[i] ~ /^mov +x[0-9]+, #0xe100000000000000$/) with_r[operand[i, 1]]
-    }
-    k = 0
-    for (i in with_r) k = 1
-    if (k == 0) return
-    with_products++
-    before = products
-    for (i = 1; i <= n; i++)
-        if (is_jump(i) && target(i) <= place[i])
-            for (k = i; k >= 1; k--) if (place[k] == target(i)) { multiplication(k, i); break }
-    if (products == before) { printf "%s: has R and no loop that works with it\n", name; bad++ }
-}
 
 # ---- what a register was worked out from
 
@@ -107,8 +70,13 @@ function argument(r,    k, list, count_of) {
 function is_lost_in_calls(r) { return arm ? r ~ /^x([0-9]|1[0-8]|30)$/ : r ~ /^(rax|rcx|rdx|rsi|rdi|r8|r9|r10|r11)$/ }
 
 function offset(slot) { return substr(slot, 2, length(slot) - 2) + 0 }
-# How many bytes an operand has, as far as a store is concerned.
-function width(o) { return o ~ /^(%ymm|\$)/ ? 32 : o ~ /^(%xmm|q)/ ? 16 : o ~ /^w/ ? 4 : 8 }
+# How many bytes an operand has, as far as a store is concerned. A number's are not said.
+function width(o) {
+    if (o ~ /^(%ymm|\$)/) return 32
+    if (o ~ /^(%xmm|q)/) return 16
+    if (o ~ /^(w|%e[a-z]+$|%r[0-9]+d$)/) return 4
+    return o ~ /^%([abcd][lh]|[sd]il|[sb]pl|r[0-9]+b)$/ ? 1 : 8
+}
 
 # How instruction i writes r, a register or a place on the stack: 0 not, 1 as its destination, 2 otherwise or in part.
 function writes(i, r,    w, k, at, size) {
@@ -124,7 +92,7 @@ function writes(i, r,    w, k, at, size) {
         if (operand[i, k] == r) return 1
         at = offset(operand[i, k])
         size = width(raw[i, 1]) * (w ~ /^stn?p/ ? 2 : 1)
-        if (at >= offset(r) + (r in narrow ? 4 : 8) || at + size <= offset(r)) return 0
+        if (at >= offset(r) + (r in narrow ? narrow[r] : 8) || at + size <= offset(r)) return 0
         return arm && w == "stp" && at + width(raw[i, 1]) == offset(r) ? 1 : 2
     }
     if (is_call(i)) return is_lost_in_calls(r) ? 2 : 0
@@ -156,11 +124,24 @@ function trace_one(    i, r, k) {
     r = wait_for[waiting]
     waiting--
     if (i == 1) reach_entry(r)
-    else if (!(word[i - 1] == (arm ? "b" : "jmp") || word[i - 1] ~ /^(ret|ud2|udf)/)) reach(i - 1, r)
-    for (k = 1; k <= n; k++) if (is_jump(k) && target(k) == place[i]) reach(k, r)
+    else if (!ends_here(i - 1)) reach(i - 1, r)
+    # behind an end it is reached by a jump, and any table may have its place
+    for (k = 1; k <= n; k++) if ((is_jump(k) && target(k) == place[i]) || (is_indirect(k) && i > 1 && ends_here(i - 1))) reach(k, r)
 }
-function reach_entry(r) { if (argument(r)) found["argument " argument(r)]; else found["unknown, from before " name] }
+# On x86-64 arguments from the seventh on are on the stack, behind the place to return to.
+function reach_entry(r) {
+    if (argument(r)) found["argument " argument(r)]
+    else if (!arm && r ~ /^\[/ && offset(r) >= 8) found["argument " (6 + offset(r) / 8)]
+    else found["unknown, from before " name]
+}
+# By how many bytes the stack moves at a function's front.
+function moves_stack(i) {
+    if (arm) return 0
+    if (word[i] ~ /^push/) return 8
+    return word[i] ~ /^sub/ && operand[i, 2] == "rsp" && raw[i, 1] ~ /^\$0x/ ? number(substr(raw[i, 1], 4)) : 0
+}
 function reach(i, r,    how) {
+    if (r ~ /^\[/ && moves_stack(i) && offset(r) >= moves_stack(i)) { trace(i, "[" (offset(r) - moves_stack(i)) "]"); return }
     how = writes(i, r)
     if (how == 0) trace(i, r)
     else if (how == 2) found["unknown, by " shown(i)]
@@ -174,6 +155,8 @@ function other(i, o) {
 }
 function made_on_x86(i, r,    w, k, list, parts) {
     w = word[i]
+    # what is read of the stack is as wide as the register that it goes to
+    if (count[i] == 2 && operand[i, 1] ~ /^\[/ && w !~ /^(mov[sz]|lea)/) narrow[operand[i, 1]] = width(raw[i, 2])
     if (w ~ /^set/) found["answer"]
     else if (w ~ /^xor/ && operand[i, 1] == operand[i, 2]) found["constant"]
     else if (w ~ /^mov/ && w !~ /^movbe/ && count[i] == 2) other(i, operand[i, 1])
@@ -181,7 +164,7 @@ function made_on_x86(i, r,    w, k, list, parts) {
     else if (w ~ /^lea/) {
         parts = operand[i, 1]; sub(/^[^(]*\(/, "", parts); sub(/\).*/, "", parts)
         split(parts, list, ",")
-        for (k = 1; k <= 2; k++) if (list[k] != "") other(i, named(list[k]))
+        for (k = 1; k <= 2; k++) if (list[k] == "%rip") found["constant"]; else if (list[k] != "") other(i, named(list[k]))
     } else if (w ~ /^(neg|not|inc|dec|bswap|shl|shr|sar|sal)/ && count[i] == 1) trace(i, r)
     else if (w ~ /^(and|add|sub|or|xor|shl|shr|sar|sal|cmov|imul)/ && count[i] == 2) { trace(i, r); other(i, operand[i, 1]) }
     else found["unknown, by " shown(i)]
@@ -193,7 +176,7 @@ function made_on_arm(i, r,    w, k, last) {
     else if (w == "stp") other(i, operand[i, operand[i, 3] == r ? 1 : 2])
     else if (w ~ /^ldn?p$/ && operand[i, 3] ~ /^\[-?[0-9]+\]$/)
         other(i, operand[i, 1] == r ? operand[i, 3] : "[" (offset(operand[i, 3]) + width(raw[i, 1])) "]")
-    else if (w == "ldr" && raw[i, 1] ~ /^w/) { narrow[operand[i, 2]]; other(i, operand[i, 2]) }
+    else if (w == "ldr" && raw[i, 1] ~ /^w/) { narrow[operand[i, 2]] = 4; other(i, operand[i, 2]) }
     else if (w ~ /^ldu?r$/) other(i, operand[i, 2])
     else if (w ~ /^(mov|neg|mvn|and|ands|orr|eor|add|adds|sub|subs|lsl|lsr|asr|ubfx|sbfx|csel|csinc|cinc|mul|madd)$/) {
         # a condition at the end is none of what it is made of, nor is a shift
@@ -220,14 +203,18 @@ function is_public(i, r,    what, ok) {
     return ok && why == ""
 }
 
-# ---- the functions of the engine of gates
+# ---- the functions that work with secrets
 
 # Arguments that are no secret, by their place: how many blocks or rows there are, and which kind of work it is. An array or a large
 # result goes by a pointer, which is an argument too.
 function list_arguments() {
+    listed["sixteen::rounds::round argument 8"]         # n: how many blocks
+    listed["sixteen::rounds::round argument 9"]         # groups: of sixteen blocks, how many
+    listed["stream::few::few argument 5"]               # m: how many blocks
+    listed["carryless::many::products64 argument 4"]    # n: how many hashes, the factor being left out, of which the parts are lent
+    listed["field::power argument 3"]                   # n: to which power, a count of blocks
     listed["sliced::counters::add_word argument 3"]     # n: how many rows hold anything, 0 or 9, a constant of the callers
     listed["sliced::encrypt_xored argument 2"]          # m: how many blocks
-    listed["ghash::Ghash::absorb_all argument 3"]       # lanes: whether the engine hashes many blocks at once
     listed["stream::batches::counters argument 3"]      # wide: whether all of the counter counts, Ctr, or its last word, Gcm
 }
 
@@ -244,6 +231,7 @@ function is_allowed(i, by,    w, r) {
         return w ~ /^(tst|ands)$/ && is_public(by, operand[by, w == "tst" ? 1 : 2]) && rule("bits of counts and flags")
     }
     if (w ~ /^(add|sub|inc|dec)/ && text_of[by] !~ /\(/) return rule("counter")
+    if (w ~ /^shr/ && count[by] == 1 && is_public(by, operand[by, 1])) return rule("counter")
     if (w ~ /^cmp/ && (text_of[by] !~ /\(/ || text_of[by] ~ /\(%rsp\)/)) return rule("comparison")
     if (w ~ /^test/ && raw[by, 1] == raw[by, 2] && raw[by, 1] ~ /^%/) return rule("zero")
     if (w ~ /^(test|or|and|xor)$/ && text_of[by] ~ /,%([abcd]l|[sd]il|[sb]pl|r[0-9]+b)$/ && text_of[by] !~ /\$/) return rule("answers")
@@ -258,8 +246,23 @@ function changes_flags(i,    w) {
     return w !~ /^(mov|lea|push|pop|nop|data16|cs$|set|cmov|bswap|not|v[a-z]|p[a-z]+|[a-z]*p[sd]$|jmp|j|call|ret|rorx|sarx|shlx|shrx|mulx)/
 }
 
-function look_at_gates(    i, by) {
-    if (name !~ /^(circuit|sliced|sliced_field|rows|ghash)::/ && name !~ /^(cipher::gates|stream::batches)::/) return
+# The gates, what the modes do with many blocks at once, the products and the hash over them.
+function is_looked_at() {
+    return name ~ /^(circuit|sixteen|sliced|rows|carryless|field|ghash)::/ || name ~ /^(cipher::gates|stream::batches|stream::few)::/ || name == "cipher::encrypt"
+}
+
+# A product is known by the mask of every fourth bit of 64.
+function has_products(    i) {
+    for (i = 1; i <= n; i++) if (text_of[i] ~ /[$#]0x1111111111111111(,|$)/) return 1
+    return 0
+}
+
+function look_at_jumps(    i, by) {
+    if (has_products()) {
+        with_products++
+        if (!is_looked_at()) { printf "%s: has products, and is not looked at\n", name; bad++ }
+    }
+    if (!is_looked_at()) return
     functions++
     by = 0
     for (i = 1; i <= n; i++) {
@@ -277,12 +280,8 @@ function look_at_gates(    i, by) {
 # ---- the disassembly
 
 function finish() {
-    if (n > 0) {
-        look_at_multiplications()
-        look_at_gates()
-    }
+    if (n > 0) look_at_jumps()
     n = 0
-    delete with_r
 }
 
 BEGIN { arm = machine == "aarch64"; list_arguments() }
@@ -308,14 +307,13 @@ BEGIN { arm = machine == "aarch64"; list_arguments() }
     word[n] = text; sub(/ .*/, "", word[n])
     sub(/^[^ ]* */, "", text)
     split_operands(n, text)
-    if (is_jump(n)) { text = raw[n, count[n]]; sub(/^.* /, "", text); goes_to[n] = number(text) }
+    if (is_jump(n)) { text = raw[n, count[n]]; sub(/^.* /, "", text); goes_to[n] = is_indirect(n) ? -1 : number(text) }
 }
 END {
     finish()
-    printf "%d loops of multiplications in %d functions, and no jump in them but their own, where none is named above\n", products, with_products
-    printf "%d functions of the engine of gates, %d conditional jumps", functions, jumps
+    printf "%d functions of the gates, of the products and of the hash, %d of them with products, %d conditional jumps", functions, with_products, jumps
     separator = ": by "
     for (what in by_rule) { printf "%s%s %d", separator, what, by_rule[what]; separator = ", " }
     printf "; %d by anything else\n", bad
-    exit !(products > 0 && functions > 0 && jumps > 0 && bad == 0)
+    exit !(with_products > 0 && functions > 0 && jumps > 0 && bad == 0)
 }

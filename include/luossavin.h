@@ -179,25 +179,27 @@ struct luossavin_answer {
  *   answer       0 is a key, 13 answers 13, and all else 1
  *   number       any value is repeated as it stands, 0 too
  *   retired      0 is not retired, and all else is
- *   engine       1 is the four tables, 2 the gates, and all else the plain engine
+ *   engine       1 is the four tables, 2 the gates, 3 the plain engine, and with all else the library chooses
  *
  * `engine` says how the rounds of SM4 are made, and nothing else: every call answers with the same numbers, reports
  * and bytes whatever it is (docs/SPEED.md has what each takes):
  *
- *   0  plain        looks bytes up in a table of 1 KiB
- *   1  four tables  4 KiB that each call lays out on its stack. It takes little more than half the instructions for a long
- *                   message outside Gcm. Starts in pieces and luossavin_which, which encipher three blocks at most, take
- *                   the plain one in any case
- *   2  gates        makes every byte by ands and exclusive ors, up to 512 blocks at once. It is written so that no place
- *                   that is read and no branch that is taken depends on the key, the text, the label or what comes of
- *                   them, but for the answer, whether a tag or a padding is right; the compiled library is looked at for
- *                   that (host/secrets), and nothing is claimed about time. It is the fastest for long messages in Ctr
- *                   and Gcm and for decryption in Cfb and Cbc. Ofb and encryption in Cfb and Cbc go block by block, and
- *                   so do short messages: there it is several times slower than either of the others
+ *   0  chosen       the library chooses, and it is what a key has that is set up: gates where blocks do not wait for one
+ *                   another, which is Ctr, Gcm, and decryption in Cfb and Cbc, of any length, in pieces, ranges and
+ *                   luossavin_which too; and four tables elsewhere, which is Ofb, encryption in Cfb and Cbc, and single
+ *                   blocks
+ *   1  tables       looks bytes up in 4 KiB that each call lays out on its stack. A block takes the fewest instructions
+ *   2  gates        makes every byte by ands and exclusive ors, up to 512 blocks at once. It looks nothing up by a secret.
+ *                   Where a block waits for the one before it, it is some ten times slower than the tables
+ *   3  plain        looks bytes up in a table of 1 KiB
  *
- * The first two read at places that depend on the key and the text, so neither is for a machine on which others may watch
- * the caches. On the third, starts and luossavin_which go by gates as well, and a key is set up by gates whatever engine
- * it then has. A message in pieces keeps the engine that its start had.
+ * Tables are read at places that depend on the key and the text, and so are not for a machine on which others may watch
+ * the caches. The gates, and the hash of Gcm under every engine, are written to be constant-time: no place that is read
+ * and no branch that is taken depends on the key, the text, the label or what comes of them. The exceptions are the
+ * answer, which is whether a tag or a padding is right and how long the text then is, or which label it is; and
+ * luossavin_replay, which compares outputs byte by byte and stops where one differs. The compiled library is looked at for
+ * that (host/secrets); nothing is claimed about time. A key is set up by gates whatever engine it then has. A message in
+ * pieces keeps the engine that its start had.
  *
  * A call takes less than 48 KiB of the stack, on any engine, and luossavin_replay less than 64 KiB. */
 struct luossavin_key {
@@ -209,14 +211,14 @@ struct luossavin_key {
 };
 
 /* Sets up a key of 16 bytes under a number from 1 to 65,535. The record's `answer` is 0, 1 or 13; a key is not
- * retired, and has the plain engine. */
+ * retired, and its engine is chosen. */
 struct luossavin_key luossavin_key_new(const uint8_t *key, size_t key_len, uint32_t number);
 
 /* The same key with `retired` 1, whatever it was. A record that is no key, `answer` not 0, comes back with every
  * field as it was. */
 struct luossavin_key luossavin_key_retire(struct luossavin_key key);
 
-/* The same record with another engine: `engine` of it is 1 or 2 where that was asked for, and otherwise 0. Every other
+/* The same record with another engine: `engine` of it is 1, 2 or 3 where that was asked for, and otherwise 0. Every other
  * field is as it was, of a retired key and of a record that is no key too. */
 struct luossavin_key luossavin_key_engine(struct luossavin_key key, uint32_t engine);
 

@@ -5,7 +5,7 @@
  *
  *   compare < LIST
  *
- * The library makes each call under the key with number 1, on each of the three engines. Every third call it makes once more with the
+ * The library makes each call under the key with number 1, on each of its engines. Every third call it makes once more with the
  * key retired, under another number: decryption must then be what it was, and encryption the refusal that the rules
  * (rules.c) say. They also say whether a counter came round, of which libsm has no report. Prints, for each of the
  * three, how many records were compared and how many differ; the same of paddings; how many had a 12-byte IV in Gcm;
@@ -43,8 +43,8 @@ static struct {
 /* In how many answers of the library a counter came round; libsm has no such report. */
 static unsigned long came_round;
 
-/* How many engines there are; from how many bytes on the engine of gates does many blocks at once; and how many records have so many. */
-enum { ENGINES = 3, BATCH = 288 };
+/* From how many bytes on texts are hashed in several hashes, and the gates do more than one group of blocks; and how many records have so many. */
+enum { BATCH = 257 };
 static unsigned long batches;
 
 /* The number that the library must answer: that of libsm's name, or, of the inputs that
@@ -332,8 +332,8 @@ int main(void)
             compare_peer(PEERS + p, &peers[p], &r);
         }
     }
-    printf("  the library, %s, on each of the three engines: %lu compared %lu differ; %lu of them of 288 bytes and more\n", variant_name(),
-        tally[ARCHIVE].compared, tally[ARCHIVE].differ, batches);
+    printf("  the library, %s, on each of its engines: %lu compared %lu differ; %lu of them of %d bytes and more\n", variant_name(),
+        tally[ARCHIVE].compared, tally[ARCHIVE].differ, batches, BATCH);
     for (int p = 0; p < 2; p++) {
         printf("  %s %s: %lu compared %lu differ\n", peers[p].name, peers[p].version(), tally[PEERS + p].compared,
             tally[PEERS + p].differ);

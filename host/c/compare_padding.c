@@ -63,7 +63,7 @@ void compare_padding(const struct record *r)
     struct field theirs = {beside, 0};
     struct luossavin_key key = luossavin_key_new(r->key.bytes, r->key.length, 1);
     /* on the engines in turn */
-    struct luossavin_answer a = luossavin_decrypt(CBC, luossavin_key_engine(key, tally[PADDING].compared % 3), NULL, 0, r->data.bytes, n,
+    struct luossavin_answer a = luossavin_decrypt(CBC, luossavin_key_engine(key, tally[PADDING].compared % ENGINES), NULL, 0, r->data.bytes, n,
         r->iv.bytes, r->iv.length, out, n);
     enum verdict verdict = openssl_unpadded(r->key.bytes, r->iv, r->data, beside, &theirs.length);
     tally[PADDING].compared++;

@@ -58,7 +58,7 @@ struct luossavin_key record(struct holder fields)
         key = luossavin_key_new(bytes, 16, 1);
     }
     /* on each engine in turn, which no answer and no byte shows */
-    return holding(luossavin_key_engine(key, calls % 3), fields);
+    return holding(luossavin_key_engine(key, calls % ENGINES), fields);
 }
 
 void near_wrap(uint32_t mode, uint8_t iv[16])

@@ -68,13 +68,13 @@ static void try_retire(struct holder fields)
     }
 }
 
-/* The engine alone is another: 1 or 2 where that was asked for, and otherwise 0. */
+/* The engine alone is another: 1, 2 or 3 where that was asked for, and otherwise 0. */
 static void try_engine(struct holder fields, uint32_t engine)
 {
     struct luossavin_key before = record(fields), due = before, got;
     now.does = MARKS;
     now.fields = fields;
-    due.engine = engine <= 2 ? (uint8_t)engine : 0;
+    due.engine = engine < ENGINES ? (uint8_t)engine : 0;
     before.engine = (uint8_t)(engine >> 3);
     got = luossavin_key_engine(before, engine);
     calls++;
@@ -85,7 +85,7 @@ static void try_engine(struct holder fields, uint32_t engine)
 
 void keys(void)
 {
-    static const uint32_t engines[] = {0, 1, 2, 3, 255, 256, 257, 258, 65537, 0x1000002, 0x80000000, 0x80000001, 0xffffffff};
+    static const uint32_t engines[] = {0, 1, 2, 3, 4, 255, 256, 257, 258, 259, 65537, 0x1000002, 0x80000000, 0x80000001, 0xffffffff};
     static const uint32_t numbers[] = {0, 1, 2, 255, 256, 65534, 65535, 65536, 65537, 0x10000 + 1, 0x7fffffff,
         0x80000000, 0xffff0001, 0xffffffff};
     static const uint32_t answers[] = {0, 1, 13, 2, 12, 14, 255, 256, 13 << 8, 65536, 0x80000000, 0xffffffff};

@@ -12,7 +12,7 @@
  * key has any number, which every answer must repeat; half of Ctr's decryptions and of the openings are under it
  * once it is retired, and what would encrypt under it then must be refused at the start. Half of the IVs of 16 bytes
  * lead to where the counter comes round, or almost: the single call and the end must say whether it did. The single calls are
- * on the plain engine, and each piece is on the next of the three.
+ * on the plain engine, and each piece is on the next of the four.
  * Prints what is wrong and how much was done; exit status 1 if anything is wrong.
  */
 #include "pieces.h"
@@ -205,7 +205,7 @@ static void make(size_t length, size_t iv_len, enum spoil spoil)
     m.label_len = m.other_len = below(LABELS);
     draw_bytes(m.bytes, 16);
     m.number = (uint16_t)(1 + below(65535));
-    m.key = luossavin_key_new(m.bytes, 16, m.number);
+    m.key = luossavin_key_engine(luossavin_key_new(m.bytes, 16, m.number), PLAIN);
     m.old = luossavin_key_retire(m.key);
     draw_bytes(m.label, m.label_len);
     memcpy(m.other_label, m.label, LABELS);
@@ -225,7 +225,7 @@ static void make(size_t length, size_t iv_len, enum spoil spoil)
 static struct luossavin_answer begin(struct state *s, bool decrypt, int is_retired)
 {
     struct given given = {is_retired ? m.old : m.key, decrypt, m.iv, m.label, m.iv_len, m.label_len};
-    given.key = luossavin_key_engine(given.key, runs % 3);
+    given.key = luossavin_key_engine(given.key, runs % ENGINES);
     if (now == OPENING) {
         given.label = m.other_label;
         given.label_len = m.other_len;
@@ -350,7 +350,7 @@ static int hold_ended(const struct state *s)
 static void turn(struct state *s, size_t engine)
 {
     if (engine_of(s) != NULL) {
-        *engine_of(s) = (uint8_t)(engine % 3);
+        *engine_of(s) = (uint8_t)(engine % ENGINES);
     }
 }
 

@@ -12,6 +12,9 @@ enum { LIMIT = 16777216, CANDIDATES = 64, NUMBERS = 27 };
 enum { CFB, OFB, CTR, CBC, GCM };
 enum { ENCRYPT, DECRYPT };
 
+/* The engines: the library chooses, the four tables, the gates and the plain one. */
+enum { CHOSEN, TABLES, GATES, PLAIN, ENGINES };
+
 /* The fields of a key's record that an answer goes by. */
 struct holder {
     uint32_t answer;

@@ -23,7 +23,10 @@ uint8_t key_bytes[16], label[LABEL], text[MOST], out[MOST + 16], back[MOST + 16]
 const uint8_t iv[16] = "sixteen bytes!!";
 struct luossavin_key key;
 
-static const size_t all_lengths[] = {0, 1, 16, 17, 64, 100, 1000, 1024, 2048 + 31, 4096 + 5, 8192, 16384 + 16, MOST};
+/* On the gates one group of sixteen blocks up to 256 bytes, two to four up to 1,024, and from 3,072 on large batches; hashes are interleaved from 256 bytes
+ * on, and more of them from 1,536 on. */
+static const size_t all_lengths[] = {
+    0, 1, 16, 17, 64, 100, 256, 300, 495, 1000, 1024, 1536 + 9, 2048 + 31, 3072 + 5, 4096 + 5, 8192, 16384 + 16, MOST};
 const size_t *lengths = all_lengths;
 size_t lengths_count = sizeof all_lengths / sizeof *all_lengths;
 
@@ -50,7 +53,13 @@ __attribute__((noinline)) void to_here(void)
 }
 
 static char name[200];
-static unsigned reports;
+static unsigned reports, now_does;
+
+/* Whether tables are looked up in the part that is watched. */
+static int looks_up(void)
+{
+    return key.engine == TABLES || key.engine == PLAIN || (key.engine == CHOSEN && now_does & WAITS);
+}
 
 void watch(unsigned does, const char *format, ...)
 {
@@ -58,6 +67,7 @@ void watch(unsigned does, const char *format, ...)
     va_start(words, format);
     vsnprintf(name, sizeof name, format, words);
     va_end(words);
+    now_does = does;
     printf("%u %s\n", does, name);
     VALGRIND_PRINTF("part: %u %s\n", does, name);
     reports = (unsigned)VALGRIND_COUNT_ERRORS;
@@ -83,7 +93,7 @@ void is_answered(struct luossavin_answer *a, uint32_t due)
 void stays_secret(const uint8_t *bytes, size_t count)
 {
     uint8_t marks[MOST + 16];
-    if (key.engine != GATES || VALGRIND_GET_VBITS(bytes, marks, count) != 1) {
+    if (looks_up() || VALGRIND_GET_VBITS(bytes, marks, count) != 1) {
         return;
     }
     for (size_t i = 0; i < count; i++) {
@@ -116,25 +126,28 @@ static void make_key(uint32_t engine)
 static void blocks(void)
 {
     struct luossavin_answer a;
-    watch(ROUNDS, "a block, encrypted");
+    watch(ROUNDS | WAITS, "a block, encrypted");
     a = luossavin_block_encrypt(key, text, 16, out, 16);
     is_answered(&a, 0);
-    watch(ROUNDS, "a block, decrypted");
+    watch(ROUNDS | WAITS, "a block, decrypted");
     a = luossavin_block_decrypt(key, text, 16, out, 16);
     is_answered(&a, 0);
 }
 
-/* Both ways. That Gcm and Cbc come back is an answer: the tag is right, or the padding is. */
+/* Both ways. That Gcm and Cbc come back is an answer: the tag is right, or the padding is. What comes back is secret, also where a table was looked up for
+ * it. */
 static void message(uint32_t mode, size_t iv_len, size_t n)
 {
     static const char *const modes[] = {"Cfb", "Ofb", "Ctr", "Cbc", "Gcm"};
     unsigned answers = mode == CBC || mode == GCM ? ANSWERS : 0, rounds = n > 0 || answers ? ROUNDS : PERHAPS_ROUNDS;
+    unsigned there = mode == CFB || mode == OFB || mode == CBC ? WAITS : 0, back_again = mode == OFB ? WAITS : 0;
     struct luossavin_answer a;
-    watch(rounds, "%s, %zu bytes, an IV of %zu, encrypted", modes[mode], n, iv_len);
+    watch(rounds | there, "%s, %zu bytes, an IV of %zu, encrypted", modes[mode], n, iv_len);
     a = luossavin_encrypt(mode, key, label, sizeof label, text, n, iv, iv_len, out, sizeof out);
     is_answered(&a, 0);
     stays_secret(out, a.length);
-    watch(rounds | answers, "%s, %zu bytes, an IV of %zu, decrypted", modes[mode], n, iv_len);
+    make_secret(out, a.length);
+    watch(rounds | answers | back_again, "%s, %zu bytes, an IV of %zu, decrypted", modes[mode], n, iv_len);
     a = luossavin_decrypt(mode, key, label, sizeof label, out, a.length, iv, iv_len, back, sizeof back);
     is_answered(&a, 0);
 }

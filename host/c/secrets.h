@@ -4,12 +4,12 @@
 
 #include "calls.h"
 
-/* What a part does with secrets: SM4's rounds, which two of the three engines look up for, or rounds of nothing, which need not
- * be made; and a question whose answer is yes or no, or a place, and is shown. A part that does none of these shows nothing whatever
- * the engine is. */
-enum { NEITHER = 0, ROUNDS = 1, ANSWERS = 2, PERHAPS_ROUNDS = 4 };
+/* What a part does with secrets: SM4's rounds, which the four tables and the plain engine look up for, or rounds of nothing, which need not be made; and
+ * a question whose answer is yes or no, or a place, and is shown. Where blocks wait for one another, the library chooses the four tables. A part that
+ * does none of these shows nothing whatever the engine is. */
+enum { NEITHER = 0, ROUNDS = 1, ANSWERS = 2, PERHAPS_ROUNDS = 4, WAITS = 8 };
 
-enum { MOST = 20000, LABEL = 37, NUMBER = 7, GATES = 2 };
+enum { MOST = 20000, LABEL = 37, NUMBER = 7 };
 
 /* Which secrets these are, from 0 to 9. */
 extern unsigned which_secrets;
@@ -30,8 +30,8 @@ extern uint8_t out[MOST + 16], back[MOST + 16];
 void make_secret(void *bytes, size_t count);
 void make_known(void *bytes, size_t count);
 
-/* That bytes which come of secrets are still marked as such: what was lost on the way would be overlooked from there on. Not
- * on the engines that look up, where what is found in a table counts as known. */
+/* That bytes which come of secrets in the part that was last watched are still marked as such: what was lost on the way would be overlooked from there on.
+ * Not where something is looked up: what is found in a table counts as known. */
 void stays_secret(const uint8_t *bytes, size_t count);
 
 /* A part of the run is watched from here on; and up to here, where what it answered is known, and has the number that is

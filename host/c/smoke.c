@@ -333,7 +333,7 @@ int main(void)
     shelves();
     journals();
     halves();
-    for (uint32_t engine = 1; engine <= 2; engine++) {
+    for (uint32_t engine = TABLES; engine < ENGINES; engine++) {
         key = luossavin_key_engine(key, engine);
         on_the_key();
     }

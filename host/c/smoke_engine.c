@@ -1,4 +1,4 @@
-/* The three engines side by side, with the same key: what a call leaves on one it leaves on the others, to the byte. */
+/* The engines side by side, with the same key: what a call leaves on one it leaves on the others, to the byte. */
 #include "smoke.h"
 
 #include "journal_model.h"
@@ -27,14 +27,14 @@ static void lend_both(void)
     memset(two, LENT, sizeof two);
 }
 
-/* Marking: 1 and 2 are kept, all else is 0, and no other field is touched. */
+/* Marking: 1, 2 and 3 are kept, all else is 0, and no other field is touched. */
 static void one_mark(struct holder fields)
 {
-    static const uint32_t engines[] = {0, 1, 2, 3, 255, 256, 257, 258, 0xffffffff};
+    static const uint32_t engines[] = {0, 1, 2, 3, 4, 255, 256, 257, 258, 259, 0xffffffff};
     for (size_t i = 0; i < sizeof engines / sizeof *engines; i++) {
         struct luossavin_key k = holding(plain, fields), due = k, got;
         k.engine = (uint8_t)(3 * i);
-        due.engine = engines[i] <= 2 ? (uint8_t)engines[i] : 0;
+        due.engine = engines[i] < ENGINES ? (uint8_t)engines[i] : 0;
         got = luossavin_key_engine(k, engines[i]);
         check(same_key(&got, &due), "the record", "an engine", engines[i]);
     }
@@ -113,13 +113,14 @@ static void journal(void)
     check(difference_replayed(&b, &a) == NULL, "its report on either engine", "a journal", size);
 }
 
-/* One engine beside the plain one. */
-static void beside_plain(uint32_t engine)
+/* One engine beside the plain one. A host can put any byte into a record. */
+static void beside_plain(uint8_t engine)
 {
-    other = luossavin_key_engine(plain, engine);
+    other = plain;
+    other.engine = engine;
     blocks();
     draw_bytes(text, sizeof text);
-    for (size_t n = 0; n <= LONG; n += n < 70 ? 1 : 53) {
+    for (size_t n = 0; n <= LONG; n += n < 100 ? 1 : 53) {
         messages(n);
         ranges(n);
         questions(n);
@@ -129,8 +130,10 @@ static void beside_plain(uint32_t engine)
 
 void engines(void)
 {
-    plain = luossavin_key_new(key_bytes, 16, NUMBER);
+    static const uint8_t others[] = {CHOSEN, TABLES, GATES, 4, 255};
+    plain = luossavin_key_engine(luossavin_key_new(key_bytes, 16, NUMBER), PLAIN);
     every_record(one_mark);
-    beside_plain(1);
-    beside_plain(2);
+    for (size_t i = 0; i < sizeof others / sizeof *others; i++) {
+        beside_plain(others[i]);
+    }
 }

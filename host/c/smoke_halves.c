@@ -39,16 +39,32 @@ static element kind_of_h(size_t i)
     return i < sizeof kinds / sizeof kinds[0] ? kinds[i] : drawn();
 }
 
-/* Every length up to some blocks, and a longer one. */
+static void blocks_of(element h, const uint8_t *bytes, size_t n)
+{
+    check(is(luossavin_hash_blocks(value_of(h), n ? bytes : NULL, n), hash_of(h, bytes, n)), "hash", "its value", n);
+}
+
+/* Every length up to some blocks; about those from which on eight hashes are interleaved and then sixteen, with every rest of blocks behind their
+ * sets; and a long one. */
 static void blocks(element h)
 {
-    uint8_t bytes[1000];
+    static const size_t edges[] = {256, 1536};
+    static const int offsets[] = {-17, -16, -1, 0, 1, 15, 16};
+    uint8_t bytes[5000];
     draw_bytes(bytes, sizeof bytes);
     for (size_t n = 0; n <= TEXT; n++) {
-        check(is(luossavin_hash_blocks(value_of(h), n ? bytes : NULL, n), hash_of(h, bytes, n)), "hash", "its value", n);
+        blocks_of(h, bytes, n);
     }
-    check(is(luossavin_hash_blocks(value_of(h), bytes, sizeof bytes), hash_of(h, bytes, sizeof bytes)), "hash",
-        "its value", sizeof bytes);
+    for (size_t i = 0; i < sizeof edges / sizeof *edges; i++) {
+        for (size_t k = 0; k < sizeof offsets / sizeof *offsets; k++) {
+            blocks_of(h, bytes, edges[i] + (size_t)offsets[k]);
+        }
+        for (size_t rest = 0; rest <= 17; rest++) {
+            blocks_of(h, bytes, edges[i] + 16 * rest);
+            blocks_of(h, bytes, edges[i] + 16 * rest + 5);
+        }
+    }
+    blocks_of(h, bytes, sizeof bytes);
 }
 
 /* Small counts by as many products. The largest by squares: h times it is h to the 2^64, and so for others. */

@@ -102,7 +102,7 @@ static void on_engine(uint32_t engine)
 
 void stack(void)
 {
-    for (uint32_t engine = 0; engine <= 2; engine++) {
+    for (uint32_t engine = CHOSEN; engine < ENGINES; engine++) {
         on_engine(engine);
     }
 }

@@ -1,12 +1,12 @@
-/* Holds the library to published vectors, on each of the three engines and both ways.
+/* Holds the library to published vectors, on each of the engines and both ways.
  *
  *   vectors < crates/vectors/data/vectors
  *
- * The file says what is in it: six fields for each vector, in hex, each with its length in front. The block that is encrypted a million times over is left to the plain engine and that of four tables: on the gates,
- * which do many blocks at once, one by one takes too long. Exit status 1 if a result is another, or nothing was compared; 2 if
+ * The file says what is in it: six fields for each vector, in hex, each with its length in front. The block that is encrypted a million times over is left out on the
+ * gates, which do many blocks at once: one by one takes too long there. Exit status 1 if a result is another, or nothing was compared; 2 if
  * the list cannot be read.
  */
-#include "luossavin.h"
+#include "rules.h"
 #include "variant.h"
 
 #include <ctype.h>
@@ -55,7 +55,7 @@ static void million(struct luossavin_key key, uint32_t engine)
 {
     struct luossavin_answer a = {0};
     uint8_t here[16], next[16];
-    if (engine == 2 || of[TEXT].length != 16) {
+    if (engine == GATES || of[TEXT].length != 16) {
         return;
     }
     memcpy(here, of[TEXT].bytes, 16);
@@ -70,7 +70,7 @@ static void message(uint32_t mode, const char *kind, struct luossavin_key key, u
 {
     static uint8_t there[MOST + 16], back[MOST + 16];
     /* a vector of Cbc has no padding block */
-    size_t length = of[RESULT].length + (mode == 3 ? 16 : 0);
+    size_t length = of[RESULT].length + (mode == CBC ? 16 : 0);
     struct luossavin_answer a = luossavin_encrypt(mode, key, of[LABEL].bytes, of[LABEL].length, of[TEXT].bytes, of[TEXT].length, of[IV].bytes,
         of[IV].length, there, sizeof there);
     is_same(kind, "encrypted", engine, a, there, &of[RESULT], length);
@@ -178,7 +178,7 @@ int main(void)
             ghash();
             continue;
         }
-        for (uint32_t engine = 0; engine <= 2; engine++) {
+        for (uint32_t engine = CHOSEN; engine < ENGINES; engine++) {
             on_engine(of[KIND].bytes[0], engine);
         }
     }

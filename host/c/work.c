@@ -4,10 +4,13 @@
  *   work pieces MODE encrypt|decrypt SIZE TIMES PIECE
  *   work range 2 encrypt|decrypt SIZE TIMES OFFSET
  *   work which 4 decrypt SIZE TIMES LABELS
+ *   work block 0 encrypt|decrypt 16 TIMES
  *   work join 4 encrypt SIZE TIMES BLOCKS
+ *   work hash 4 encrypt SIZE TIMES
  *   work version libgcrypt|OpenSSL
- *   work tables ..        the library on the engine of four tables, in the first three
+ *   work tables ..        the library on the engine of four tables, in all but the last three
  *   work gates ..         on that of gates
+ *   work plain ..         on the plain one; without any of these words the library chooses
  *   work timed ..         prints how many million bytes a second of the processor's time it is, the best of some runs; what the library
  *                         makes is compared before that, and exit status 1 says that it is another
  *
@@ -15,7 +18,7 @@
  * 0 to 4. In pieces of PIECE bytes, by the library, it is 2, or 4: sealing, or opening without the text. A range of
  * a message, from OFFSET on, is Ctr's alone, and one set-up serves all. Of a file which label it opens under is asked with
  * LABELS of six bytes, up to 64, of which none opens it. A join is of two hashes, the second of BLOCKS blocks, whatever
- * SIZE is. Exit status 3 where the library does not have the mode.
+ * SIZE is; a hash is of SIZE bytes. A single block is of no mode. Exit status 3 where the library does not have the mode.
  */
 #define _POSIX_C_SOURCE 200809L
 
@@ -98,6 +101,11 @@ static int which(const struct task *t, struct field data, uint8_t *out, size_t r
     return f.answer.number == 0 && f.found == 0;
 }
 
+static int block(const struct task *t, struct field data, uint8_t *out, size_t room)
+{
+    return (t->direction == ENCRYPT ? luossavin_block_encrypt : luossavin_block_decrypt)(record, data.bytes, data.length, out, room).number == 0;
+}
+
 static int join(const struct task *t, struct field data, uint8_t *out, size_t room)
 {
     static struct luossavin_hash y = {0x66e94bd4ef8a2c3b, 0x884cfa59ca342b2e};
@@ -105,6 +113,16 @@ static int join(const struct task *t, struct field data, uint8_t *out, size_t ro
     (void)out;
     (void)room;
     y = luossavin_hash_join((struct luossavin_hash){1, 2}, y, (struct luossavin_hash){3, 4}, t->last);
+    return 1;
+}
+
+static int hash(const struct task *t, struct field data, uint8_t *out, size_t room)
+{
+    static struct luossavin_hash y = {0x66e94bd4ef8a2c3b, 0x884cfa59ca342b2e};
+    (void)t;
+    (void)out;
+    (void)room;
+    y = luossavin_hash_blocks(y, data.bytes, data.length);
     return 1;
 }
 
@@ -145,8 +163,14 @@ static work *work_of(const char *who)
     if (strcmp(who, "which") == 0) {
         return which;
     }
+    if (strcmp(who, "block") == 0) {
+        return block;
+    }
     if (strcmp(who, "join") == 0) {
         return join;
+    }
+    if (strcmp(who, "hash") == 0) {
+        return hash;
     }
     peer = peer_named(who);
     return by_peer;
@@ -254,12 +278,24 @@ static int first_word(int *argc, char ***argv, const char *word)
     return is;
 }
 
+/* The engine that the first word asks for, which is then passed over. Without such a word the library chooses. */
+static uint32_t take_engine(int *argc, char ***argv)
+{
+    static const char *const words[] = {[1] = "tables", "gates", "plain"};
+    for (uint32_t i = 1; i <= 3; i++) {
+        if (first_word(argc, argv, words[i])) {
+            return i;
+        }
+    }
+    return 0;
+}
+
 int main(int argc, char **argv)
 {
     struct task t = {0};
     int is_timed = first_word(&argc, &argv, "timed");
     start_peers();
-    engine = first_word(&argc, &argv, "tables") ? 1 : first_word(&argc, &argv, "gates") ? 2 : 0;
+    engine = take_engine(&argc, &argv);
     if (argc == 3 && strcmp(argv[1], "version") == 0) {
         puts(peer_named(argv[2])->version());
         return 0;
@@ -274,8 +310,8 @@ int main(int argc, char **argv)
     if (!is_task(argv[1], &t)) {
         fprintf(stderr, "usage: work library|once|libgcrypt|OpenSSL MODE encrypt|decrypt SIZE TIMES, or work pieces 2|4 "
             "encrypt|decrypt SIZE TIMES PIECE, or work range 2 encrypt|decrypt SIZE TIMES OFFSET, or work which 4 decrypt "
-            "SIZE TIMES LABELS, or work join 4 encrypt SIZE TIMES BLOCKS, or work version libgcrypt|OpenSSL; or work "
-            "tables or gates and one of the first three, or work timed and any but the last\n");
+            "SIZE TIMES LABELS, or work block 0 encrypt|decrypt 16 TIMES, or work join 4 encrypt SIZE TIMES BLOCKS, or work hash 4 encrypt SIZE TIMES, or work version "
+            "libgcrypt|OpenSSL; or work tables, gates or plain and any but the last three, or work timed and any but the last\n");
         return 64;
     }
     return run(work_of(argv[1]), &t, is_timed);

@@ -91,8 +91,8 @@ fn short(random: &mut Random) -> Call {
     call
 }
 
-/// Mostly a few blocks, and now and then some hundred bytes or some thousand. One in ten is about a length where the engine of gates
-/// begins or ends a batch of blocks, and three in a thousand are of many batches.
+/// Mostly a few blocks, and now and then some hundred bytes or some thousand. One in ten is about a length where the gates
+/// begin or end a batch of blocks, and three in a thousand are of many batches.
 fn text_length(random: &mut Random) -> usize {
     match random.below(1000) {
         0..=2 => MANY_BATCHES - 17 + random.below(LONGEST_FRESH - MANY_BATCHES + 18),
@@ -118,18 +118,16 @@ fn short_length(random: &mut Random) -> usize {
     }
 }
 
-/// Where the gates begin to do many blocks at once, 18 of them; a set of the hash, 128 blocks; two sets, from which on it hashes in
-/// lanes; and a whole batch, 512 blocks. Up to 17 bytes more or fewer.
-const BATCHES: [usize; 4] = [288, 2048, 4096, 8192];
+/// A group of 16 blocks on the gates, from which on eight hashes are interleaved too; two groups; four, which are the most; where sixteen hashes begin,
+/// large batches, and where one of these ends, 512 blocks. Up to 17 bytes more or fewer.
+const BATCHES: [usize; 6] = [256, 512, 1024, 1536, 3072, 8192];
 
 /// From where on there are many batches, and the longest text among the short cases.
 const MANY_BATCHES: usize = 65_536;
 const LONGEST_FRESH: usize = 140_000;
 
 fn about_a_batch(random: &mut Random) -> usize {
-    // as many of the first as of the others together
-    let which = random.below(6);
-    BATCHES[which.saturating_sub(2)] - 17 + random.below(35)
+    BATCHES[random.below(BATCHES.len())] - 17 + random.below(35)
 }
 
 fn key(random: &mut Random) -> Vec<u8> {

@@ -29,6 +29,7 @@
 //! ```
 
 use crate::ffi::{self, Secret};
+use crate::sm4::cipher_mode::CipherMode;
 use crate::{Direction, Key, Refusal};
 use std::fmt;
 
@@ -40,7 +41,9 @@ impl HashKey {
     /// The H of a key. A retired key encrypts nothing, and is refused with [`Retired`](Refusal::Retired).
     pub fn of(key: &Key) -> Result<HashKey, Refusal> {
         let mut block = [0; 16];
-        let answer = ffi::block(Direction::Encrypt, key.record(), &[0; 16], &mut block);
+        // zeros in Ctr, and not a single block: that looks nothing up by the key where the library chooses the engine
+        let answer =
+            ffi::message(Direction::Encrypt, CipherMode::Ctr, key.record(), &[], &[0; 16], &[0; 16], &mut block);
         let h = hash_of(block);
         ffi::overwrite(&mut block);
         answer.result()?;

@@ -42,8 +42,8 @@ use std::fmt;
 pub struct Key(Secret<ffi::Key>);
 
 impl Key {
-    /// Sets up a key of 16 bytes under a number from 1 to 65,535, not retired, with the plain engine. It is refused
-    /// with [`ErrorBlockSize`](Refusal::ErrorBlockSize) or [`WrongNumber`](Refusal::WrongNumber).
+    /// Sets up a key of 16 bytes under a number from 1 to 65,535, not retired, with the engine that the library chooses. It is
+    /// refused with [`ErrorBlockSize`](Refusal::ErrorBlockSize) or [`WrongNumber`](Refusal::WrongNumber).
     ///
     /// ```
     /// use luossavin::{Key, Refusal};
@@ -98,7 +98,8 @@ impl Key {
         match self.0.engine {
             1 => Engine::Tables,
             2 => Engine::Gates,
-            _ => Engine::Plain,
+            3 => Engine::Plain,
+            _ => Engine::Chosen,
         }
     }
 
@@ -118,20 +119,22 @@ impl fmt::Debug for Key {
     }
 }
 
-/// How the rounds of SM4 are made, and nothing else: `docs/SPEED.md` has what each takes. Those with tables read at places
-/// that depend on the key and the text, so neither is for a machine on which others may watch the caches; that of gates is.
-#[derive(Clone, Copy, Debug, PartialEq, Eq, Hash)]
+/// How the rounds of SM4 are made, and nothing else: `docs/SPEED.md` has what each takes. Tables are read at places that
+/// depend on the key and the text, and so are not for a machine on which others may watch the caches; the gates are.
+#[derive(Clone, Copy, Debug, Default, PartialEq, Eq, Hash)]
 #[non_exhaustive]
 pub enum Engine {
-    /// A table of 1 KiB. It is what a key has that is set up.
-    Plain = 0,
-    /// Four tables, 4 KiB that each call lays out on its stack: little more than half the instructions for a long
-    /// message outside Gcm.
+    /// The library chooses: the gates in Ctr and Gcm and for decryption in Cfb and Cbc, at every length, and the four
+    /// tables in Ofb, for encryption in Cfb and Cbc, and for single blocks. It is what a key has that is set up.
+    #[default]
+    Chosen = 0,
+    /// Four tables, 4 KiB that each call lays out on its stack. A block takes the fewest instructions of all.
     Tables = 1,
-    /// Gates alone, with neither a look-up nor a branch by key or text. Up to 512 blocks are done at once, so it is the
-    /// fastest for long messages in Ctr and Gcm, and for decryption in Cfb and Cbc; elsewhere, and for short ones, it is
-    /// many times slower than the others.
+    /// Gates alone, with neither a look-up nor a branch by key or text, but for the answer. Up to 512 blocks are done at
+    /// once; where each block waits for the one before it, it is some ten times slower than the tables.
     Gates = 2,
+    /// A table of 1 KiB.
+    Plain = 3,
 }
 
 /// Which way a call goes, where encryption and decryption are one call. A retired key decrypts alone.

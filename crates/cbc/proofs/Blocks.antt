@@ -122,22 +122,6 @@ decrypt-last rk s d hs h k =
     let e : 16 * n ≡ length d - 16 = omega arith in
     rw e at (last-by rk n s d hs (omega arith))
 
--- of the IV s and the data d together, the block that ends where place `at` of d begins
-pub block-before : (s d : List ℕ) (at : ℕ) → length s ≡ 16 → 16 ≤ at → take 16 (drop at (s ++ d)) ≡ take 16 (drop (at - 16) d)
-block-before s d at hs h =
-    let f = at - 16 in
-    let m : at ≡ 16 + f = omega arith in
-    let x : drop (16 + f) (s ++ d) ≡ drop f d = rw hs at (drop-append-add s d f) in
-    ap (λ (n : ℕ). take 16 (drop n (s ++ d))) m ∙ ap (take 16) x
-
--- in the code's words
-pub before-words : (s d r : List ℕ) (at : ℕ) → length s ≡ 16 → AreBytes d → 16 ≤ at → at ≤ length d
-    → r ≡ words (tailed (at - 16) d) → unwords r ≡ take 16 (drop at (s ++ d))
-before-words s d r at hs b h k e =
-    let f = at - 16 in
-    let l : 16 ≤ length (drop f d) = rw length-drop (omega arith) in
-    rw (e, tail-is d f) (unwords-front (drop f d) l (below-drop 256 f d b) ∙ sym (block-before s d at hs h))
-
 -- the last block
 pub last-words : (rk s d r : List ℕ) → length s ≡ 16 → AreBytes d → 16 ≤ length d → length d % 16 ≡ 0 → length r ≡ 4
     → unwords r ≡ take 16 (drop (length d - 16) (s ++ d))

@@ -3,12 +3,13 @@ ghost use mathlib.Core.Path.{_≡_};
 ghost use mathlib.Core.List.{_++_, reverse};
 ghost use Prim.Native.Nat.{_+_, _-_, _*_, _/_, _%_, _<_, _≤_};
 ghost use lib.ListN.{length, take, drop, replicate};
+ghost use Rattle.block.specs.Blocks.{blockAt, cat};
 ghost use Rattle.block.specs.Same.{same};
 ghost use Rattle.block.specs.Words.{unwords};
 ghost use Rattle.cipher.specs.Engine.{Engine};
 ghost use Rattle.walk.specs.Outcome.{leaving};
 ghost use Rattle.walk.specs.Reached.{Reached};
-ghost use Rattle.walk.specs.Walk.{chain, endState, over};
+ghost use Rattle.walk.specs.Walk.{chain, stepped, endState, over};
 ghost use Rattle.cbc.specs.Cbc.{padded, cbcEncrypt, cbcDecrypt, cbcSeal};
 ghost use Rattle.cbc.specs.Open.{headOf, unpadded, cbcOpen};
 use sliced::LEAST;
@@ -129,18 +130,6 @@ fn decrypt_step(t: &[u32], back: [u32; 32], s: [u32; 4], data: &[u8], out: &mut 
     block::split_block(data)
 }
 
-// The ciphertext block before place `at`, which is the IV at the start.
-fn block_before(iv: [u32; 4], data: &[u8], at: usize) -> [u32; 4]
-    requires { ⌜ (at ≤ length (now «data»)) × (at % 16 ≡ 0) ⌝ }
-    ensures { λ r. ⌜ unwords r ≡ take 16 (drop at (unwords iv ++ now («data» .entry))) ⌝ }
-{
-    if at == 0 {
-        return iv;
-    }
-    let before = at - 16;
-    block::split_block(&data[before..])
-}
-
 // Full blocks of `data` from the front on, decrypted in batches, where the gates are lent. Returns how many bytes. The block before the
 // first is no part of the message, so the first goes by itself.
 fn decrypt_batches(t: &[u32], back: [u32; 32], iv: [u32; 4], data: &[u8], out: &mut [u8]) -> usize
@@ -166,6 +155,82 @@ fn decrypt_batches(t: &[u32], back: [u32; 32], iv: [u32; 4], data: &[u8], out: &
     at
 }
 
+// The first m blocks of `data`, decrypted side by side to the front of `out`.
+fn decrypt_few(back: [u32; 32], iv: [u32; 4], m: usize, data: &[u8], out: &mut [u8])
+    requires { ⌜ (m ≤ 128) × (16 * m ≤ length (now «data»)) × (16 * m ≤ length (now out)) ⌝ }
+    ensures { λ _. ⌜ now (out .exit) ≡ over (cat m (λ i. cbcDecrypt (reverse back) .block (stepped (cbcDecrypt (reverse back)) i (unwords iv) (now («data» .entry))) (blockAt (now («data» .entry)) i))) (now (out .entry)) ⌝ }
+{
+    let mut before = [0u8; 2048];
+    sixteen::lay_before(iv, data, m, &mut before);
+    let mut pads = [0u8; 2048];
+    sixteen::encrypt(back, m, data, &mut pads);
+    let n = 16 * m;
+    sixteen::xor_bytes(&pads, &before[0..n], out);
+}
+
+// How many of the blocks of `n` bytes go side by side next.
+fn next_few(n: usize) -> usize
+    requires { ⌜ 16 ≤ n ⌝ }
+    ensures { λ r. ⌜ (1 ≤ r) × (r ≤ 128) × (16 * r ≤ n) ⌝ }
+{
+    let m = n / 16;
+    if m < 128 { m } else { 128 }
+}
+
+// The full blocks of `data`, decrypted 128 at a time to the front of `out`. Returns the state after them.
+fn decrypt_side_by_side(back: [u32; 32], iv: [u32; 4], data: &[u8], out: &mut [u8]) -> [u32; 4]
+    requires { ⌜ length (now «data») ≤ length (now out) ⌝ }
+    ensures { λ r. ⌜ unwords r ≡ endState (cbcDecrypt (reverse back)) (unwords iv) (now («data» .entry)) ⌝ }
+    ensures { λ _. ⌜ now (out .exit) ≡ over (chain (cbcDecrypt (reverse back)) (unwords iv) (now («data» .entry))) (now (out .entry)) ⌝ }
+{
+    let mut s = iv;
+    let mut at: usize = 0;
+    while 16 <= data.len() - at {
+        let m = next_few(data.len() - at);
+        decrypt_few(back, s, m, &data[at..], &mut out[at..]);
+        at += 16 * m;
+        let next = sixteen::block_before(iv, data, at);
+        s = next;
+    }
+    s
+}
+
+// The same, one block after the other.
+fn decrypt_one_by_one(
+    t: &[u32],
+    back: [u32; 32],
+    iv: [u32; 4],
+    data: &[u8],
+    out: &mut [u8],
+) -> [u32; 4]
+    requires { ⌜ Engine (now t) ⌝ }
+    requires { ⌜ length (now «data») ≤ length (now out) ⌝ }
+    ensures { λ r. ⌜ unwords r ≡ endState (cbcDecrypt (reverse back)) (unwords iv) (now («data» .entry)) ⌝ }
+    ensures { λ _. ⌜ now (out .exit) ≡ over (chain (cbcDecrypt (reverse back)) (unwords iv) (now («data» .entry))) (now (out .entry)) ⌝ }
+{
+    let mut s = iv;
+    let mut at: usize = 0;
+    while 16 <= data.len() - at {
+        let next = decrypt_step(t, back, s, &data[at..], &mut out[at..]);
+        s = next;
+        at += 16;
+    }
+    s
+}
+
+// What the batches left of a message.
+fn decrypt_rest(t: &[u32], back: [u32; 32], iv: [u32; 4], data: &[u8], out: &mut [u8]) -> [u32; 4]
+    requires { ⌜ Engine (now t) ⌝ }
+    requires { ⌜ length (now «data») ≤ length (now out) ⌝ }
+    ensures { λ r. ⌜ unwords r ≡ endState (cbcDecrypt (reverse back)) (unwords iv) (now («data» .entry)) ⌝ }
+    ensures { λ _. ⌜ now (out .exit) ≡ over (chain (cbcDecrypt (reverse back)) (unwords iv) (now («data» .entry))) (now (out .entry)) ⌝ }
+{
+    if cipher::by_gates(t) {
+        return decrypt_side_by_side(back, iv, data, out);
+    }
+    decrypt_one_by_one(t, back, iv, data, out)
+}
+
 // The full blocks of `data`, decrypted to the front of `out` by the round keys turned round. Returns the state after them,
 // with which a message goes on.
 pub fn decrypt_blocks(
@@ -180,15 +245,9 @@ pub fn decrypt_blocks(
     ensures { λ r. ⌜ unwords r ≡ endState (cbcDecrypt (reverse back)) (unwords iv) (now («data» .entry)) ⌝ }
     ensures { λ _. ⌜ now (out .exit) ≡ over (chain (cbcDecrypt (reverse back)) (unwords iv) (now («data» .entry))) (now (out .entry)) ⌝ }
 {
-    let begun = decrypt_batches(t, back, iv, data, out);
-    let mut s = block_before(iv, data, begun);
-    let mut at = begun;
-    while 16 <= data.len() - at {
-        let next = decrypt_step(t, back, s, &data[at..], &mut out[at..]);
-        s = next;
-        at += 16;
-    }
-    s
+    let at = decrypt_batches(t, back, iv, data, out);
+    let s = sixteen::block_before(iv, data, at);
+    decrypt_rest(t, back, s, &data[at..], &mut out[at..])
 }
 
 // The last block of `data`, decrypted.
@@ -200,7 +259,7 @@ fn last_block(t: &[u32], back: [u32; 32], iv: [u32; 4], data: &[u8]) -> [u8; 16]
 {
     let at = data.len() - 16;
     let p = cipher::encrypt(t, back, block::split_block(&data[at..]));
-    block::combine_block(block::block_xor(p, block_before(iv, data, at)))
+    block::combine_block(block::block_xor(p, sixteen::block_before(iv, data, at)))
 }
 
 // The first `n` bytes of a block, to the front of `out`.

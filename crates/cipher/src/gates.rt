@@ -1,7 +1,7 @@
 // The engine of gates: the S-box by the circuit, with neither a look-up nor a branch.
 ghost use mathlib.Core.Path.{_≡_};
 ghost use Prim.Native.Nat.{_^_, _<_};
-ghost use Rattle.cipher.specs.Sm4.{tau, T, rounds, encryptWords};
+ghost use Rattle.cipher.specs.Sm4.{tau, T, roundBy, encryptWords};
 ghost use Rattle.cipher.specs.Gates.{fourLanes, fourBytes};
 use super::l_trans;
 
@@ -42,25 +42,26 @@ fn t_trans(input: u32) -> u32
     l_trans(tau_trans(input))
 }
 
-// Four rounds, with four round keys.
-fn four_rounds(rk: [u32; 4], x: [u32; 4]) -> [u32; 4]
-    ensures { λ r. ⌜ r ≡ rounds rk x ⌝ }
+// One round, with its round key.
+fn round(k: u32, x: [u32; 4]) -> [u32; 4]
+    ensures { λ r. ⌜ r ≡ roundBy T x k ⌝ }
 {
-    let a = x[0] ^ t_trans(x[1] ^ x[2] ^ x[3] ^ rk[0]);
-    let b = x[1] ^ t_trans(x[2] ^ x[3] ^ a ^ rk[1]);
-    let c = x[2] ^ t_trans(x[3] ^ a ^ b ^ rk[2]);
-    let d = x[3] ^ t_trans(a ^ b ^ c ^ rk[3]);
-    [a, b, c, d]
+    [x[1], x[2], x[3], x[0] ^ t_trans(x[1] ^ x[2] ^ x[3] ^ k)]
 }
 
-// One block, encrypted. The loop is this engine's own, so that the others need not save the registers that its calls overwrite.
+// One block, encrypted. The loop is this engine's own, so that the others need not save the registers that it uses. It is two loops, since the
+// back end puts the gates in place where loops are nested, and calls them elsewhere.
 pub(crate) fn encrypt(rk: [u32; 32], block_in: [u32; 4]) -> [u32; 4]
     ensures { λ r. ⌜ r ≡ encryptWords rk «block_in» ⌝ }
 {
     let mut x = block_in;
-    for i in 0..8 {
-        let k = 4 * i;
-        x = four_rounds([rk[k], rk[k + 1], rk[k + 2], rk[k + 3]], x);
+    let mut i: usize = 0;
+    while i < 32 {
+        let end = i + 4;
+        while i < end {
+            x = round(rk[i], x);
+            i += 1;
+        }
     }
     [x[3], x[2], x[1], x[0]]
 }

@@ -2,7 +2,7 @@
 // of a word is one entry of each table, xored.
 ghost use mathlib.Core.Path.{_≡_};
 ghost use Rattle.cipher.specs.Sm4.{T, rounds};
-ghost use Rattle.cipher.specs.Engine.{mixedTable, Engine};
+ghost use Rattle.cipher.specs.Engine.{mixedTable};
 
 // Entry b of table j: byte b by the S-box, at place j of a word, through L. The four stand one after the other.
 const MIXED: [u32; 1024] = [
@@ -1032,9 +1032,9 @@ const MIXED: [u32; 1024] = [
     0x4921_2168,
 ];
 
-// The engine of four tables, to be lent.
-pub fn tables() -> [u32; 1024]
-    ensures { λ r. ⌜ Engine r ⌝ }
+// The four tables, to be lent.
+pub(crate) fn tables() -> [u32; 1024]
+    ensures { λ r. ⌜ r ≡ mixedTable ⌝ }
 {
     MIXED
 }

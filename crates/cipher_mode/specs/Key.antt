@@ -27,7 +27,7 @@ noCipher a = record { rk = replicate 32 0; answer = a; number = 0; retired = fal
 abbrev pub wrongNumber : ℕ → Bool
 wrongNumber n = eqb n 0 || ltb 65535 n
 
--- a key has 16 bytes and a number in range; a new one is unretired, and its engine is the plain one
+-- a key has 16 bytes and a number in range; a new one is unretired, and its engine is for the library to choose
 unfoldable pub newCipher : List ℕ → ℕ → Sm4Cipher
 newCipher key number =
     cond (not (eqb (length key) 16)) (noCipher ErrorBlockSize)

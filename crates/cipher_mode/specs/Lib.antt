@@ -1,4 +1,5 @@
 pub mod Answer
+pub mod Engines
 pub mod Key
 pub mod Tables
 pub mod Checks

@@ -7,6 +7,7 @@ mod work;
 ghost use mathlib.Core.Path.{_≡_};
 ghost use Rattle.cipher_mode.specs.Answer.{outcome};
 ghost use Rattle.cipher_mode.specs.Key.{noCipher, wrongNumber, newCipher, retire, withEngine, numberIn, newCipherMode};
+ghost use Rattle.cipher_mode.specs.Engines.{forwards, waits, engineFor};
 ghost use Rattle.cipher_mode.specs.Tables.{modeOf};
 ghost use Rattle.cipher_mode.specs.Calls.{blockCall, modeCall};
 use answer::Answer;
@@ -73,6 +74,35 @@ pub fn mode_of(mode: u32) -> CipherMode
     }
 }
 
+fn forwards(direction: Direction) -> bool
+    ensures { λ r. ⌜ r ≡ forwards direction ⌝ }
+{
+    match direction {
+        Direction::Encrypt => true,
+        Direction::Decrypt => false,
+    }
+}
+
+// Whether each block of a message waits for the one before it.
+fn waits(mode: CipherMode, direction: Direction) -> bool
+    ensures { λ r. ⌜ r ≡ waits mode direction ⌝ }
+{
+    match mode {
+        CipherMode::Cfb => forwards(direction),
+        CipherMode::Ofb => true,
+        CipherMode::Ctr => false,
+        CipherMode::Cbc => forwards(direction),
+        CipherMode::Gcm => false,
+    }
+}
+
+// The engine that a message goes by under a mark.
+pub fn engine_for(mark: u8, mode: CipherMode, direction: Direction) -> u8
+    ensures { λ r. ⌜ r ≡ engineFor mark mode direction ⌝ }
+{
+    cipher::engine_of(mark, waits(mode, direction))
+}
+
 // A key's number is 1 to 65,535.
 fn wrong_number(n: u32) -> bool
     ensures { λ r. ⌜ r ≡ wrongNumber n ⌝ }
@@ -135,7 +165,8 @@ impl Sm4Cipher {
         }
     }
 
-    // The record with the mark of an engine: `cipher::FOUR_TABLES` or `cipher::GATES`, and all else is the plain engine.
+    // The record with the mark of an engine: `cipher::FOUR_TABLES`, `cipher::GATES` or `cipher::PLAIN`, and under all else the library
+    // chooses.
     pub fn with_engine(self, engine: u8) -> Sm4Cipher
         ensures { λ r. ⌜ r ≡ withEngine engine self ⌝ }
     {

@@ -22,6 +22,7 @@ use crate::answer::Ending;
 use crate::answer::Refusal;
 use crate::checks;
 use crate::checks::Checked;
+use crate::engine_for;
 use stream::Kind;
 
 // How work ended, and whether the counter of the message came round.
@@ -50,19 +51,14 @@ fn keys_for(rk: [u32; 32], direction: Direction) -> [u32; 32]
     }
 }
 
-// A single block.
-pub(crate) fn block(
-    engine: u8,
-    rk: [u32; 32],
-    direction: Direction,
-    block_in: &[u8],
-    out: &mut [u8],
-)
+// A single block, which has none beside it.
+pub(crate) fn block(mark: u8, rk: [u32; 32], direction: Direction, block_in: &[u8], out: &mut [u8])
     requires { ⌜ length (now «block_in») ≡ 16 ⌝ }
     requires { ⌜ 16 ≤ length (now out) ⌝ }
     ensures { λ _. ⌜ now (out .exit) ≡ blockOf direction rk (now («block_in» .entry)) ++ drop 16 (now (out .entry)) ⌝ }
 {
     let keys = keys_for(rk, direction);
+    let engine = cipher::engine_of(mark, true);
     block::put_block(
         cipher::encrypt_by(engine, keys, block::split_block(block_in)),
         out,
@@ -86,7 +82,7 @@ fn by_stream(t: &[u32], rk: [u32; 32], kind: Kind, iv: &[u8], data: &[u8], out: 
     requires { ⌜ length (now «data») ≤ length (now out) ⌝ }
     ensures { λ r. ⌜ ended r (now (out .exit)) ≡ done (chain (streamMode kind rk) (now (iv .entry)) (now («data» .entry))) (now (out .entry)) ⌝ }
 {
-    stream::stream(t, rk, kind, block::split_block(iv), data, out);
+    stream::stream(t, rk, kind, block::split_block(iv), false, data, out);
     Ending::Done(data.len())
 }
 
@@ -215,9 +211,9 @@ fn message(
     }
 }
 
-// A message, by the engine of a mark: its tables are laid out here, and lent to every block.
+// A message, by the engine of a mark: its table is laid out here, and lent to every block.
 pub(crate) fn message_by(
-    engine: u8,
+    mark: u8,
     rk: [u32; 32],
     direction: Direction,
     mode: CipherMode,
@@ -232,11 +228,8 @@ pub(crate) fn message_by(
     requires { ⌜ roomOf mode direction (length (now «data»)) ≤ length (now out) ⌝ }
     ensures { λ r. ⌜ worked r (now (out .exit)) ≡ modeResult mode direction rk (now (aad .entry)) (now («data» .entry)) (now (iv .entry)) (now (out .entry)) ⌝ }
 {
-    if engine == cipher::FOUR_TABLES {
-        let t = cipher::mixed::tables();
-        return message(&t, rk, direction, mode, aad, data, iv, out);
-    }
-    let t = cipher::plain();
+    let engine = engine_for(mark, mode, direction);
+    let t = cipher::laid_out(engine);
     message(
         cipher::lent(engine, &t),
         rk,

@@ -24,7 +24,7 @@ use Rattle.luossavin.specs.InPieces.{hostCtrStart, hostSealStart, hostOpensStar
 use Rattle.luossavin.specs.Which.{hostWhich}
 use Rattle.luossavin.specs.Ranges.{hostCtrRange, hostCtrByPlan}
 
--- a record with the plain engine's mark, and all else as it was
+-- a record whose engine the library chooses, and all else as it was
 abbrev pub unmarked : Sm4Cipher → Sm4Cipher
 unmarked c = withEngine 0 c
 
@@ -79,7 +79,7 @@ pub record SealAlike (s t : Seal) : Type 0 where
   pub piece : (e o : List ℕ) → seen Seal unmarkedSeal (sealPiece s e o) ≡ seen Seal unmarkedSeal (sealPiece t e o)
   pub end : (o : List ℕ) → seen Seal unmarkedSeal (sealEnd s o) ≡ seen Seal unmarkedSeal (sealEnd t o)
 
--- a host's record with the plain engine, and so each of the keys of a journal
+-- a host's record whose engine the library chooses, and so each of the keys of a journal
 abbrev pub unmarkedHost : LuossavinKey → LuossavinKey
 unmarkedHost k = hostKeyEngine k 0
 

@@ -153,7 +153,7 @@ fn search(
 
 // The search under a key's round keys: H and the cipher of J0 are made once, and the text is hashed once, unless nobody asks.
 fn under_key(
-    engine: u8,
+    mark: u8,
     rk: [u32; 32],
     key: u16,
     file: &[u8],
@@ -170,11 +170,12 @@ fn under_key(
     if lengths.len() == 0 {
         return without(key, Ended::None);
     }
-    let t = cipher::plain();
+    let engine = cipher_mode::engine_for(mark, CipherMode::Gcm, Direction::Decrypt);
+    let t = cipher::laid_out(engine);
     let lent = cipher::lent(engine, &t);
     let h = gcm::hash_key(lent, rk);
     let mask = cipher::encrypt(lent, rk, gcm::first_counter(h, iv));
-    let half = Half::of(h, cipher::by_gates(lent), gcm::text_part(file));
+    let half = Half::of(h, gcm::text_part(file));
     search(mask, h, half, key, file, labels, lengths)
 }
 

@@ -5,14 +5,13 @@ use mathlib.Core.List.{List, [], _∷_, _++_}
 use Prim.Native.Nat.{ℕ}
 use lib.Dec.{lit<}
 use lib.ListN.{length, drop}
-use Rattle.block.specs.Below.{AreBytes, AreWords}
+use Rattle.block.specs.Below.{AreBytes}
 use Rattle.block.specs.BigEndian.{numberOf, bytesOf}
 use Rattle.block.specs.Words.{wordAt, words, unwords}
 use Rattle.block.specs.Xor.{xors}
 use Rattle.block.proofs.WordsBack.{length-words, unwords-twelve, unwords-number, unwords-xors}
 use Rattle.cipher.specs.Sm4.{encryptWords}
 use Rattle.cipher.proofs.Blocks.{encrypt-unwords}
-use Rattle.cipher.proofs.Bounds.{encrypt-four}
 use Rattle.ghash.specs.Ghash.{ghash, authBlocks}
 use Rattle.ghash.proofs.IvBlocks.{iv-blocks}
 use Rattle.walk.specs.Walk.{chain, over}
@@ -20,7 +19,7 @@ use Rattle.walk.proofs.Loop.{tailed, returned, over-behind}
 use Rattle.stream.specs.Stream.{streamMode}
 use Rattle.stream.specs.declared.Kind.the-variants.{Gctr}
 use Rattle.counter.specs.Counter.{gcmNext}
-use Rattle.gcm.specs.Gcm.{hashKey, nonceCounter, hashedCounter, textOf, maskedTag, tagOf}
+use Rattle.gcm.specs.Gcm.{hashKey, nonceCounter, hashedCounter, textOf, maskedTag}
 
 pub hash-key-words : (rk x : List ℕ) (n : ℕ) → x ≡ encryptWords rk (0 ∷ 0 ∷ 0 ∷ 0 ∷ []) → n ≡ numberOf (unwords x) → n ≡ hashKey rk
 unfolding hashKey unwords bytesOf
@@ -43,13 +42,6 @@ pub masked-words : (mask label text s r : List ℕ) (h n : ℕ) → length mask 
 masked-words mask label text s r h n l en es er =
     ap unwords er ∙ unwords-xors mask s l (ap length es ∙ length-words (bytesOf 16 n))
     ∙ ap (xors (unwords mask)) (unwords-number s n es ∙ ap (bytesOf 16) en)
-
-pub tag-words : (rk j label text e s r : List ℕ) (h n : ℕ) → length j ≡ 4 → AreWords j → e ≡ encryptWords rk j
-    → n ≡ ghash h (authBlocks label text) → s ≡ words (bytesOf 16 n) → r ≡ xors e s → unwords r ≡ tagOf rk h (unwords j) label text
-unfolding tagOf
-tag-words rk j label text e s r h n l b ee en es er =
-    masked-words e label text s r h n (ap length ee ∙ encrypt-four rk j) en es er
-    ∙ ap (λ (mask : List ℕ). maskedTag mask h label text) (ap unwords ee ∙ encrypt-unwords rk j l b)
 
 -- the text at the front of the output, then the tag behind it
 pub sealed-written : (text tag o o₁ t : List ℕ) (n : ℕ) → length text ≡ n → length tag ≡ 16 → o₁ ≡ over text o

@@ -5,3 +5,4 @@ pub mod TagTells
 pub mod HashKey
 pub mod InWords
 pub mod Settled
+pub mod Short

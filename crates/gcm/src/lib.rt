@@ -1,17 +1,21 @@
 // GCM: libsm's `gcm_encrypt` and `gcm_decrypt`, over round keys, H and J0. The IV is the caller's: J0 is made of it once.
 ghost use mathlib.Core.Path.{_≡_};
 ghost use mathlib.Core.Logic.{_⊎_};
-ghost use Prim.Native.Nat.{_+_, _-_, _≤_};
-ghost use lib.ListN.{length};
+ghost use mathlib.Core.Bool.{true};
+ghost use mathlib.Core.List.{List};
+ghost use Prim.Native.Nat.{ℕ, _+_, _-_, _<_, _≤_};
+ghost use lib.ListN.{length, take, drop};
 ghost use Rattle.block.specs.Same.{same};
 ghost use Rattle.block.specs.Wide.{value};
 ghost use Rattle.block.specs.Words.{unwords};
+ghost use Rattle.block.specs.Xor.{xors};
 ghost use Rattle.cipher.specs.Engine.{Engine};
+ghost use Rattle.cipher.specs.Sm4.{encryptBlock};
 ghost use Rattle.ghash.specs.Ghash.{Hashable, blocks};
 ghost use Rattle.ghash.specs.Joined.{HalfOf};
 ghost use Rattle.walk.specs.Outcome.{leaving};
 ghost use Rattle.walk.specs.Walk.{over};
-ghost use Rattle.gcm.specs.Gcm.{hashKey, nonceCounter, hashedCounter, firstCounter, maskedTag, tagOf, sealed, textPart, tagPart, opensUnder};
+ghost use Rattle.gcm.specs.Gcm.{hashKey, nonceCounter, hashedCounter, firstCounter, textOf, maskedTag, tagOf, sealed, textPart, tagPart, opensUnder};
 ghost use Rattle.gcm.specs.Open.{headOf, gcmOpen};
 use block::U128;
 use ghash::halves;
@@ -50,7 +54,7 @@ fn hashed_counter(h: U128, iv: &[u8]) -> [u32; 4]
     requires { ⌜ length (now iv) ≡ 16 ⌝ }
     ensures { λ r. ⌜ unwords r ≡ hashedCounter (value h) (now (iv .entry)) ⌝ }
 {
-    block::from_u128(ghash::galois_hash(h, false, &iv[0..0], iv))
+    block::from_u128(ghash::galois_hash(h, &iv[0..0], iv))
 }
 
 // J0 of an IV of twelve or of sixteen bytes.
@@ -64,14 +68,61 @@ pub fn first_counter(h: U128, iv: &[u8]) -> [u32; 4]
     hashed_counter(h, iv)
 }
 
+// The tag of a label and a text under a mask.
+fn masked_tag(mask: [u32; 4], h: U128, aad: &[u8], text: &[u8]) -> [u32; 4]
+    requires { ⌜ Hashable (length (now aad)) × Hashable (length (now text)) ⌝ }
+    ensures { λ r. ⌜ unwords r ≡ maskedTag (unwords mask) (value h) (now (aad .entry)) (now (text .entry)) ⌝ }
+{
+    let hash = block::from_u128(ghash::galois_hash(h, aad, text));
+    block::block_xor(mask, hash)
+}
+
 fn tag(t: &[u32], rk: [u32; 32], h: U128, j0: [u32; 4], aad: &[u8], text: &[u8]) -> [u32; 4]
     requires { ⌜ Engine (now t) ⌝ }
     requires { ⌜ Hashable (length (now aad)) × Hashable (length (now text)) ⌝ }
     ensures { λ r. ⌜ unwords r ≡ tagOf rk (value h) (unwords j0) (now (aad .entry)) (now (text .entry)) ⌝ }
 {
-    let lanes = cipher::by_gates(t);
-    let hash = block::from_u128(ghash::galois_hash(h, lanes, aad, text));
-    block::block_xor(cipher::encrypt(t, rk, j0), hash)
+    let mask = cipher::encrypt(t, rk, j0);
+    masked_tag(mask, h, aad, text)
+}
+
+// Whether a text of n bytes goes in one batch with J0: where the gates are lent, and both are at most 32 blocks.
+fn in_one_batch(t: &[u32], n: usize) -> bool
+    ensures { λ r. ⌜ (r ≡ true → n < 496) ⌝ }
+{
+    if !cipher::by_gates(t) {
+        return false;
+    }
+    n < 496
+}
+
+// The ciphers of J0 and of the counters behind it, for a text of n bytes: the mask of its tag, and what it is xored with.
+fn pads_from(rk: [u32; 32], j0: [u32; 4], n: usize) -> [u8; 512]
+    requires { ⌜ n < 496 ⌝ }
+    ensures { λ r. ⌜ take 16 r ≡ encryptBlock rk (unwords j0) ⌝ }
+    ensures { λ r. ⌜ ((d : List ℕ) → length d ≡ n → xors d (drop 16 r) ≡ textOf rk (unwords j0) d) ⌝ }
+{
+    let m = n / 16 + 2;
+    let mut states = [0u8; 512];
+    stream::few::lay_counters(false, j0, m, &mut states);
+    let mut pads = [0u8; 512];
+    sixteen::encrypt(rk, m, &states, &mut pads);
+    pads
+}
+
+// Seals a short text.
+fn encrypt_short(rk: [u32; 32], h: U128, j0: [u32; 4], aad: &[u8], data: &[u8], out: &mut [u8])
+    requires { ⌜ length (now «data») < 496 ⌝ }
+    requires { ⌜ Hashable (length (now aad)) × Hashable (length (now «data»)) ⌝ }
+    requires { ⌜ length (now «data») + 16 ≤ length (now out) ⌝ }
+    ensures { λ _. ⌜ now (out .exit) ≡ over (sealed rk (value h) (unwords j0) (now (aad .entry)) (now («data» .entry))) (now (out .entry)) ⌝ }
+{
+    let n = data.len();
+    let pads = pads_from(rk, j0, n);
+    let mask = block::split_block(&pads);
+    sixteen::xor_bytes(&pads[16..], data, out);
+    let mac = masked_tag(mask, h, aad, &out[0..n]);
+    block::put_block(mac, &mut out[n..]);
 }
 
 // Seals `data` under the label `aad`: ciphertext, then tag.
@@ -90,8 +141,12 @@ pub fn encrypt(
     ensures { λ _. ⌜ now (out .exit) ≡ over (sealed rk (value h) (unwords j0) (now (aad .entry)) (now («data» .entry))) (now (out .entry)) ⌝ }
 {
     let n = data.len();
+    if in_one_batch(t, n) {
+        encrypt_short(rk, h, j0, aad, data, out);
+        return;
+    }
     let first = counter::gcm_block_add_one(j0).counter;
-    stream::stream(t, rk, Kind::Gctr, first, data, out);
+    stream::stream(t, rk, Kind::Gctr, first, false, data, out);
     let mac = tag(t, rk, h, j0, aad, &out[0..n]);
     block::put_block(mac, &mut out[n..]);
 }
@@ -144,6 +199,29 @@ pub fn opens_after(mask: [u32; 4], h: U128, half: Half, aad: &[u8], data: &[u8])
     has_tag(data, block::block_xor(mask, block::from_u128(hash)))
 }
 
+// Opens a sealed message with a short text.
+fn decrypt_short(
+    rk: [u32; 32],
+    h: U128,
+    j0: [u32; 4],
+    aad: &[u8],
+    data: &[u8],
+    out: &mut [u8],
+) -> Opened
+    requires { ⌜ Hashable (length (now aad)) × Hashable (length (now «data»)) ⌝ }
+    requires { ⌜ (16 ≤ length (now «data»)) × (length (now «data») < 512) × (length (now «data») - 16 ≤ length (now out)) ⌝ }
+    ensures { λ r. ⌜ leaving (headOf r) (now (out .exit)) ≡ gcmOpen rk (value h) (unwords j0) (now (aad .entry)) (now («data» .entry)) (now (out .entry)) ⌝ }
+{
+    let text = text_part(data);
+    let pads = pads_from(rk, j0, text.len());
+    let mask = block::split_block(&pads);
+    if has_tag(data, masked_tag(mask, h, aad, text)) {
+        sixteen::xor_bytes(&pads[16..], text, out);
+        return Opened::Done(text.len());
+    }
+    Opened::InvalidTag
+}
+
 // Opens a sealed message: the text, once the tag is settled; otherwise `out` stays as it is.
 pub fn decrypt(
     t: &[u32],
@@ -159,10 +237,13 @@ pub fn decrypt(
     requires { ⌜ (16 ≤ length (now «data»)) × (length (now «data») - 16 ≤ length (now out)) ⌝ }
     ensures { λ r. ⌜ leaving (headOf r) (now (out .exit)) ≡ gcmOpen rk (value h) (unwords j0) (now (aad .entry)) (now («data» .entry)) (now (out .entry)) ⌝ }
 {
+    if in_one_batch(t, data.len() - 16) {
+        return decrypt_short(rk, h, j0, aad, data, out);
+    }
     if opens(t, rk, h, j0, aad, data) {
         let text = text_part(data);
         let first = counter::gcm_block_add_one(j0).counter;
-        stream::stream(t, rk, Kind::Gctr, first, text, out);
+        stream::stream(t, rk, Kind::Gctr, first, false, text, out);
         return Opened::Done(text.len());
     }
     Opened::InvalidTag

@@ -5,17 +5,24 @@ use mathlib.Core.List.{List, [], _∷_, _++_}
 use Prim.Native.Nat.{ℕ, _+_, _-_, _*_, _<_, _≤_}
 use native.Mathlib.Nat.{le-of-eq}
 use native.Mathlib.Omega.{arith}
-use lib.ListN.{length, take, drop, length-drop, take-append-drop, drop-of-length-le}
-use lib.Seq.{take-all, drop-drop, length-take-le}
+use lib.ListN.{length, take, drop, length-drop, drop-of-length-le}
+use lib.Seq.{take-all, drop-drop}
 use Rattle.block.specs.declared.U128.{U128}
 use Rattle.block.specs.Wide.{value}
 use Rattle.block.specs.Xor.{_⊕_}
+use Rattle.carryless.specs.Lent.{PartsOf}
 use Rattle.field.specs.Field.{gmul}
 use Rattle.ghash.specs.declared.Ghash.{Ghash}
 use Rattle.ghash.specs.Ghash.{blockOf, blocks, lengthBlock, authBlocks, hashFrom, ghash}
 use Rattle.ghash.specs.Absorbed.{Absorbed}
-use Rattle.ghash.proofs.Blocks.{blocks-nil, blocks-cons, blocks-append}
+use Rattle.ghash.specs.Sets.{upTo, blockNumber}
+use Rattle.ghash.proofs.Blocks.{blocks-nil, blocks-cons}
 use Rattle.ghash.proofs.Join.{hash-append}
+use Rattle.ghash.proofs.Sets.{blocks-cut}
+
+-- H stays the same, and so do its parts
+pub parts-same : {h k : U128} {m : List ℕ} → k ≡ h → PartsOf h m → PartsOf k m
+parts-same {m = m} e p = subst (λ (v : U128). PartsOf v m) (sym e) p
 
 -- one block
 pub absorbed-one : (s r : Ghash) (b m : ℕ) → r .h ≡ s .h → m ≡ value (s .y) ⊕ b → value (r .y) ≡ gmul m (value (s .h))
@@ -32,19 +39,15 @@ absorbed-both s r q xs ys a b = record {
   hash = b .hash ∙ ap₂ (λ (k y : ℕ). hashFrom k y ys) (ap value (a .key)) (a .hash) ∙ sym (hash-append (value (s .h)) (value (s .y)) xs ys);
 }
 
--- k full blocks and the rest, as `&bs[0..n]` and `&bs[n..]` are lent
-pub absorbed-cut : (s r q : Ghash) (bs : List ℕ) (n k : ℕ) → n ≡ 16 * k → n ≤ length bs → Absorbed s (blocks (take (n - 0) bs)) r
-    → Absorbed r (blocks (take (length bs - n) (drop n bs))) q → Absorbed s (blocks bs) q
-absorbed-cut s r q bs n k e l a b =
-    let f : n - 0 ≡ n = omega arith in
-    let d = drop n bs in
-    let rest : take (length bs - n) d ≡ d = take-all (length bs - n) d (le-of-eq (length-drop n bs)) in
-    let both : blocks (take (n - 0) bs) ++ blocks (take (length bs - n) d) ≡ blocks bs =
-    ap₂ (λ (x y : List ℕ). blocks x ++ blocks y) (ap (λ (i : ℕ). take i bs) f) rest
-    ∙ sym (blocks-append k (take n bs) d (length-take-le n bs l ∙ e))
-    ∙ ap blocks (take-append-drop n bs) in
-    subst (λ (x : List ℕ). Absorbed s x q) both
-    (absorbed-both s r q (blocks (take (n - 0) bs)) (blocks (take (length bs - n) d)) a b)
+-- the first k blocks and the rest, as `&bs[16 * k..]` is lent
+pub absorbed-cut : (s r q : Ghash) (bs : List ℕ) (k : ℕ) → 16 * k ≤ length bs → Absorbed s (upTo k (blockNumber bs)) r
+    → Absorbed r (blocks (take (length bs - 16 * k) (drop (16 * k) bs))) q → Absorbed s (blocks bs) q
+absorbed-cut s r q bs k l a b =
+    let d = drop (16 * k) bs in
+    let rest : take (length bs - 16 * k) d ≡ d = take-all (length bs - 16 * k) d (le-of-eq (length-drop (16 * k) bs)) in
+    subst (λ (x : List ℕ). Absorbed s x q)
+    (ap (λ (x : List ℕ). upTo k (blockNumber bs) ++ blocks x) rest ∙ blocks-cut k bs l)
+    (absorbed-both s r q (upTo k (blockNumber bs)) (blocks (take (length bs - 16 * k) d)) a b)
 
 -- what is left to take in from place i on
 pub record Walked (s₀ : Ghash) (bs : List ℕ) (s : Ghash) (i : ℕ) : Type 0 where

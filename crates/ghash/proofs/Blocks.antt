@@ -128,7 +128,7 @@ blocks-zero bs n =
     let e : (length (bs ++ (0 ∷ [])) + 15) / 16 ≡ (length bs + 15) / 16 = simp length-append (omega (arith, n)) in
     ap (λ (k : ℕ). blocksFrom k (bs ++ (0 ∷ []))) e ∙ blocksFrom-zero ((length bs + 15) / 16) bs
 
-getD-zeros : (n i : ℕ) → _≡_ {A = ℕ} (getD (replicate n 0) i 0) 0
+pub getD-zeros : (n i : ℕ) → _≡_ {A = ℕ} (getD (replicate n 0) i 0) 0
 getD-zeros zero i = refl
 getD-zeros (suc n) zero = refl
 getD-zeros (suc n) (suc i) = getD-zeros n i

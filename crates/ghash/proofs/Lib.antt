@@ -3,8 +3,6 @@ pub mod Lengths
 pub mod Join
 pub mod JoinedBytes
 pub mod Sets
-pub mod Columns
-pub mod SetBySet
 pub mod OneChanged
 pub mod ZeroKey
 pub mod Changed

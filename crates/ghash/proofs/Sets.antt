@@ -1,25 +1,32 @@
--- 128 interleaved hashes, joined at the end, are one hash. For lists of one length n, and from 0 on: the hash of sums is the sum of the
+-- Interleaved hashes, joined at the end, are one hash. For lists of one length n, and from 0 on: the hash of sums is the sum of the
 -- hashes, and the hash of multiples the multiple of the hash. So blocks Z times H to the n, with blocks C added, hash as C does from the
 -- hash of Z on.
 -- Assumes nothing.
-use mathlib.Core.Path.{_≡_, refl, sym, ap, ap₂, _∙_}
+use mathlib.Core.Path.{_≡_, refl, sym, ap, ap₂, subst, _∙_}
+use mathlib.Core.Logic.{⊎-elim}
 use mathlib.Core.List.{List, [], _∷_, _++_}
-use Prim.Native.Nat.{ℕ, zero, suc, _+_, _*_, _/_, _%_, _<_}
-use native.Mathlib.Nat.{add-zero, zero-add, suc-add}
+use Prim.Native.Nat.{ℕ, zero, suc, _+_, _-_, _*_, _/_, _<_, _≤_}
+use native.Mathlib.Nat.{add-zero, zero-add, suc-add, le-of-eq}
 use native.Mathlib.Omega.{arith}
 use lib.Dec.{lit<}
-use lib.ListN.{length, drop}
-use lib.Seq.{drop-drop}
+use lib.ListN.{length, take, drop, set, replicate, length-drop}
+use lib.Seq.{take-all, drop-drop}
 use lib.Bits.{xor-lt, xor-zero-r}
+use Rattle.block.specs.Below.{AreBytes}
+use Rattle.block.specs.BigEndian.{numberOf}
+use Rattle.block.specs.Wide.{whole}
+use Rattle.block.specs.Words.{words, unwords}
 use Rattle.block.specs.Xor.{_⊕_}
+use Rattle.block.proofs.Entries.{below-drop}
 use Rattle.block.proofs.Xor.{xor-swap}
+use Rattle.carryless.specs.Lanes.{lane}
 use Rattle.field.specs.Field.{Element, gmul, gpow}
 use Rattle.field.proofs.Bounded.{gmul-lt, gpow-lt}
-use Rattle.field.proofs.Distributes.{gmul-xor, xor-gmul, gmul-zero}
+use Rattle.field.proofs.Distributes.{xor-gmul, zero-gmul}
 use Rattle.field.proofs.Commutes.{gmul-comm, gmul-assoc}
-use Rattle.sliced_field.proofs.Elements.{element-lt}
-use Rattle.ghash.specs.Ghash.{blockOf, blocksFrom, blocks, hashFrom, ghash}
-use Rattle.ghash.specs.Sets.{upTo, blockNumber, lane, Starts, Hashed, Ready}
+use Rattle.ghash.specs.Ghash.{blockOf, blocks, hashFrom, ghash}
+use Rattle.ghash.specs.Sets.{LaneCount, upTo, blockNumber, Starts, Hashed}
+use Rattle.ghash.proofs.Blocks.{blocks-cons, getD-zeros, blockOf-words}
 use Rattle.ghash.proofs.Join.{hash-append, ghash-lt, hashFrom-start}
 
 pub upTo-same : (n : ℕ) (f g : ℕ → ℕ) → ((i : ℕ) → i < n → f i ≡ g i) → upTo n f ≡ upTo n g
@@ -46,23 +53,46 @@ pub upTo-next : (n : ℕ) (f : ℕ → ℕ) → upTo n f ++ (f n ∷ []) ≡ upT
 unfolding upTo
 upTo-next n f = ap (λ (x : ℕ). upTo n f ++ (f x ∷ [])) (sym (add-zero n)) ∙ upTo-append n 1 f
 
--- the blocks of bytes, one by one
-blocksFrom-upTo : (k : ℕ) (bs : List ℕ) → blocksFrom k bs ≡ upTo k (blockNumber bs)
-unfolding blocksFrom upTo
-blocksFrom-upTo zero bs = refl
-blocksFrom-upTo (suc k) bs =
-    ap (λ (l : List ℕ). blockOf bs ∷ l)
-    (blocksFrom-upTo k (drop 16 bs)
-    ∙ upTo-same k (blockNumber (drop 16 bs)) (λ i. blockNumber bs (suc i))
-    (λ i h. let e : 16 + 16 * i ≡ 16 * suc i = omega arith in
-    ap blockOf (drop-drop (16 * i) 16 bs ∙ ap (λ (n : ℕ). drop n bs) e)))
+-- the first k blocks of bytes, one by one, and the rest
+pub blocks-cut : (k : ℕ) (bs : List ℕ) → 16 * k ≤ length bs → upTo k (blockNumber bs) ++ blocks (drop (16 * k) bs) ≡ blocks bs
+unfolding upTo
+blocks-cut zero bs h = refl
+blocks-cut (suc k) bs h =
+    let next : (i : ℕ) → drop (16 * suc i) bs ≡ drop (16 * i) (drop 16 bs) =
+    λ i. let e : 16 + 16 * i ≡ 16 * suc i = omega arith in sym (drop-drop (16 * i) 16 bs ∙ ap (λ (n : ℕ). drop n bs) e) in
+    ap₂ (λ (l d : List ℕ). blockOf bs ∷ (l ++ blocks d))
+    (upTo-same k (λ i. blockNumber bs (suc i)) (blockNumber (drop 16 bs)) (λ i g. ap blockOf (next i)))
+    (next k)
+    ∙ ap (λ (l : List ℕ). blockOf bs ∷ l) (blocks-cut k (drop 16 bs) (simp length-drop (omega arith)))
+    ∙ sym (blocks-cons bs (omega arith))
 
--- full sets of them
-pub sets-blocks : (bs : List ℕ) → length bs % 2048 ≡ 0 → upTo (128 * (length bs / 2048)) (blockNumber bs) ≡ blocks bs
-unfolding blocks
-sets-blocks bs h =
-    let e : 128 * (length bs / 2048) ≡ (length bs + 15) / 16 = omega arith in
-    ap (λ (n : ℕ). upTo n (blockNumber bs)) e ∙ sym (blocksFrom-upTo ((length bs + 15) / 16) bs)
+-- block k of the bytes from block b on, as `&bs[16 * b..]` is lent
+pub lent-block : (bs : List ℕ) (b k : ℕ) → blockNumber (take (length bs - 16 * b) (drop (16 * b) bs)) k ≡ blockNumber bs (b + k)
+lent-block bs b k =
+    let e : 16 * b + 16 * k ≡ 16 * (b + k) = omega arith in
+    ap (λ (d : List ℕ). blockNumber d k) (take-all (length bs - 16 * b) (drop (16 * b) bs) (le-of-eq (length-drop (16 * b) bs)))
+    ∙ ap blockOf (drop-drop (16 * k) (16 * b) bs ∙ ap (λ (n : ℕ). drop n bs) e)
+
+-- it has n blocks
+pub lent-room : (bs : List ℕ) (b n : ℕ) → n ≤ length bs / 16 - b → 16 * n ≤ length (take (length bs - 16 * b) (drop (16 * b) bs))
+lent-room bs b n h =
+    let d = drop (16 * b) bs in
+    subst (λ (l : List ℕ). 16 * n ≤ length l) (sym (take-all (length bs - 16 * b) d (le-of-eq (length-drop (16 * b) bs)))) (simp length-drop (omega arith))
+
+-- and the number of block k by its words
+pub lent-number : (bs : List ℕ) (k : ℕ) (w : List ℕ) → AreBytes bs → w ≡ words (take (length bs - 16 * k) (drop (16 * k) bs))
+    → numberOf (unwords w) ≡ blockNumber bs k
+lent-number bs k w h e =
+    ap (λ (x : List ℕ). numberOf (unwords x))
+    (e ∙ ap words (take-all (length bs - 16 * k) (drop (16 * k) bs) (le-of-eq (length-drop (16 * k) bs))))
+    ∙ blockOf-words (drop (16 * k) bs) (below-drop 256 (16 * k) bs h)
+
+-- y in the first of two arrays of zeros each
+pub starts-first : (n a b : ℕ) → Starts n (whole a b) (lane (set (replicate 16 0) 0 a) (set (replicate 16 0) 0 b))
+starts-first n a b = record { first = refl; others = λ k h. ap₂ whole (getD-zeros 15 k) (getD-zeros 15 k) }
+
+pub lanes-few : (n : ℕ) → LaneCount n → (1 ≤ n) × (n ≤ 16)
+lanes-few n h = ⊎-elim (λ (e : n ≡ 8). (omega arith, omega arith)) (λ (e : n ≡ 16). (omega arith, omega arith)) h
 
 module _ (h : ℕ) where
   hash-sum : (n y w : ℕ) (f g : ℕ → ℕ)
@@ -74,63 +104,55 @@ module _ (h : ℕ) where
       (ap (λ (x : ℕ). gmul x h) (xor-swap y w (f 0) (g 0)) ∙ xor-gmul (y ⊕ f 0) (w ⊕ g 0) h)
       ∙ hash-sum n (gmul (y ⊕ f 0) h) (gmul (w ⊕ g 0) h) (λ i. f (suc i)) (λ i. g (suc i))
 
+  -- at first y waits
+  first-hash : (n y : ℕ) (f c : ℕ → ℕ) → Starts (suc n) y f → ghash h (upTo (suc n) (λ k. f k ⊕ c k)) ≡ hashFrom h y (upTo (suc n) c)
+  unfolding upTo hashFrom
+  first-hash n y f c s =
+      ap₂ (λ (x : ℕ) (l : List ℕ). hashFrom h (gmul (0 ⊕ (x ⊕ c 0)) h) l) (s .first)
+      (upTo-same n (λ k. f (suc k) ⊕ c (suc k)) (λ k. c (suc k)) (λ k g. ap (λ (x : ℕ). x ⊕ c (suc k)) (s .others k (omega arith))))
+
+  -- a first set added is hashed
+  pub hashed-first : (n y : ℕ) (f g c : ℕ → ℕ) → 1 ≤ n → Starts n y f → ((k : ℕ) → k < n → g k ≡ f k ⊕ c k) → Hashed h y (upTo n c) n g
+  hashed-first zero y f g c l s e = absurd (omega arith)
+  hashed-first (suc n) y f g c l s e = ap (ghash h) (upTo-same (suc n) g (λ k. f k ⊕ c k) e) ∙ first-hash n y f c s
+
   module _ (hh : Element h) where
-    hash-times : (k : ℕ) → Element k → (n y : ℕ) (f : ℕ → ℕ) → Element y → ((i : ℕ) → Element (f i))
-        → hashFrom h (gmul k y) (upTo n (λ i. gmul k (f i))) ≡ gmul k (hashFrom h y (upTo n f))
+    hash-times : (k : ℕ) → Element k → (n y : ℕ) (f : ℕ → ℕ) → Element y → ((i : ℕ) → i < n → Element (f i))
+        → hashFrom h (gmul y k) (upTo n (λ i. gmul (f i) k)) ≡ gmul (hashFrom h y (upTo n f)) k
     unfolding upTo hashFrom
     hash-times k hk zero y f hy hf = refl
     hash-times k hk (suc n) y f hy hf =
-        ap (λ (x : ℕ). hashFrom h x (upTo n (λ i. gmul k (f (suc i)))))
-        (ap (λ (x : ℕ). gmul x h) (sym (gmul-xor k y (f 0))) ∙ gmul-assoc k (y ⊕ f 0) h hk (xor-lt 128 y (f 0) hy (hf 0)) hh)
-        ∙ hash-times k hk n (gmul (y ⊕ f 0) h) (λ i. f (suc i)) (gmul-lt (y ⊕ f 0) h hh) (λ i. hf (suc i))
+        let v = y ⊕ f 0 in
+        let hv = xor-lt 128 y (f 0) hy (hf 0 (omega arith)) in
+        ap (λ (x : ℕ). hashFrom h x (upTo n (λ i. gmul (f (suc i)) k)))
+        (ap (λ (x : ℕ). gmul x h) (sym (xor-gmul y (f 0) k))
+        ∙ gmul-assoc v k h hv hk hh
+        ∙ ap (gmul v) (gmul-comm k h hk hh)
+        ∙ sym (gmul-assoc v h k hv hh hk))
+        ∙ hash-times k hk n (gmul v h) (λ i. f (suc i)) (gmul-lt v h hh) (λ i g. hf (suc i) (omega arith))
 
-    interleaved : (n : ℕ) (f c : ℕ → ℕ) → ((i : ℕ) → Element (f i))
-        → ghash h (upTo n (λ i. gmul (gpow h n) (f i) ⊕ c i)) ≡ hashFrom h (ghash h (upTo n f)) (upTo n c)
+    interleaved : (n : ℕ) (f c : ℕ → ℕ) → ((i : ℕ) → i < n → Element (f i))
+        → ghash h (upTo n (λ i. gmul (f i) (gpow h n) ⊕ c i)) ≡ hashFrom h (ghash h (upTo n f)) (upTo n c)
     interleaved n f c hf =
         let k = gpow h n in
-        let hk = gpow-lt h n in
         let y = ghash h (upTo n f) in
-        let hy = ghash-lt h hh (upTo n f) in
-        hash-sum n 0 0 (λ i. gmul k (f i)) c
+        hash-sum n 0 0 (λ i. gmul (f i) k) c
         ∙ ap (λ (x : ℕ). x ⊕ ghash h (upTo n c))
-        (ap (λ (x : ℕ). hashFrom h x (upTo n (λ i. gmul k (f i)))) (sym (gmul-zero k))
-        ∙ hash-times k hk n 0 f (lit< tt) hf
-        ∙ gmul-comm k y hk hy
+        (ap (λ (x : ℕ). hashFrom h x (upTo n (λ i. gmul (f i) k))) (sym (zero-gmul k))
+        ∙ hash-times k (gpow-lt h n) n 0 f (lit< tt) hf
         ∙ ap (λ (m : ℕ). gmul y (gpow h m)) (sym (length-upTo n c)))
-        ∙ sym (hashFrom-start h hh (upTo n c) y 0 hy)
+        ∙ sym (hashFrom-start h hh (upTo n c) y 0 (ghash-lt h hh (upTo n f)))
         ∙ ap (λ (x : ℕ). hashFrom h x (upTo n c)) (xor-zero-r y)
 
-    -- the hashes of a set, multiplied, wait for the next one
-    pub ready-next : (y : ℕ) (bs z z′ : List ℕ) → Hashed h y bs z → ((k : ℕ) → k < 128 → lane z′ k ≡ gmul (gpow h 128) (lane z k))
-        → Ready h y bs z′
-    ready-next y bs z z′ done e c =
+    -- hashes that are multiplied, and to which the next set is added
+    pub hashed-next : (n y b p : ℕ) (a c f g q : ℕ → ℕ) → p ≡ gpow h n → ((k : ℕ) → c k ≡ a (b + k)) → ((k : ℕ) → k < n → Element (f k))
+        → Hashed h y (upTo b a) n f → ((k : ℕ) → k < n → g k ≡ gmul (f k) p) → ((k : ℕ) → k < n → q k ≡ g k ⊕ c k)
+        → Hashed h y (upTo (b + n) a) n q
+    hashed-next n y b p a c f g q power from hf done times added =
         ap (ghash h)
-        (upTo-same 128 (λ k. lane z′ k ⊕ c k) (λ k. gmul (gpow h 128) (lane z k) ⊕ c k) (λ k g. ap (λ (x : ℕ). x ⊕ c k) (e k g)))
-        ∙ interleaved 128 (lane z) c (λ k. element-lt z 0 _)
-        ∙ ap (λ (x : ℕ). hashFrom h x (upTo 128 c)) done
-        ∙ sym (hash-append h y bs (upTo 128 c))
-
-    -- 128 hashes folded to 64 hash as they do
-    pub hash-folded : (z z′ : List ℕ) → ((k : ℕ) → k < 64 → lane z′ k ≡ gmul (gpow h 64) (lane z k) ⊕ lane z (64 + k))
-        → ghash h (upTo 64 (lane z′)) ≡ ghash h (upTo 128 (lane z))
-    hash-folded z z′ e =
-        ap (ghash h) (upTo-same 64 (lane z′) (λ k. gmul (gpow h 64) (lane z k) ⊕ lane z (64 + k)) e)
-        ∙ interleaved 64 (lane z) (λ k. lane z (64 + k)) (λ k. element-lt z 0 _)
-        ∙ sym (hash-append h 0 (upTo 64 (lane z)) (upTo 64 (λ k. lane z (64 + k))))
-        ∙ ap (ghash h) (upTo-append 64 64 (lane z))
-
-  -- at first y waits
-  first-hash : (n y : ℕ) (f c : ℕ → ℕ) → f 0 ≡ y → ((k : ℕ) → k < n → f (suc k) ≡ 0)
-      → ghash h (upTo (suc n) (λ k. f k ⊕ c k)) ≡ hashFrom h y (upTo (suc n) c)
-  unfolding upTo hashFrom
-  first-hash n y f c e z =
-      ap₂ (λ (x : ℕ) (l : List ℕ). hashFrom h (gmul (0 ⊕ (x ⊕ c 0)) h) l) e
-      (upTo-same n (λ k. f (suc k) ⊕ c (suc k)) (λ k. c (suc k)) (λ k g. ap (λ (x : ℕ). x ⊕ c (suc k)) (z k g)))
-
-  pub ready-first : (y : ℕ) (z : List ℕ) → Starts y z → Ready h y [] z
-  ready-first y z s c = first-hash 127 y (lane z) c (s .first) (s .others)
-
-  -- a set added is hashed
-  pub hashed-next : (y : ℕ) (bs z z′ : List ℕ) (c : ℕ → ℕ) → Ready h y bs z → ((k : ℕ) → k < 128 → lane z′ k ≡ lane z k ⊕ c k)
-      → Hashed h y (bs ++ upTo 128 c) z′
-  hashed-next y bs z z′ c ready e = ap (ghash h) (upTo-same 128 (lane z′) (λ k. lane z k ⊕ c k) e) ∙ ready c
+        (upTo-same n q (λ k. gmul (f k) (gpow h n) ⊕ a (b + k))
+        (λ k l. added k l ∙ ap₂ _⊕_ (times k l ∙ ap (gmul (f k)) power) (from k)))
+        ∙ interleaved n f (λ k. a (b + k)) hf
+        ∙ ap (λ (x : ℕ). hashFrom h x (upTo n (λ k. a (b + k)))) done
+        ∙ sym (hash-append h y (upTo b a) (upTo n (λ k. a (b + k))))
+        ∙ ap (hashFrom h y) (upTo-append b n a)

@@ -17,23 +17,23 @@ pub struct Half {
     pub power: U128,
 }
 
-// The hash of `bytes` in blocks, zeros to the last one's end. `lanes` says whether long ones are hashed in lanes.
-pub fn hash_blocks(h: U128, lanes: bool, bytes: &[u8]) -> U128
+// The hash of `bytes` in blocks, zeros to the last one's end.
+pub fn hash_blocks(h: U128, bytes: &[u8]) -> U128
     ensures { λ r. ⌜ value r ≡ ghash (value h) (blocks (now (bytes .entry))) ⌝ }
 {
     let start = Ghash::new(h);
-    let end = start.absorb_all(lanes, bytes);
+    let end = start.absorb_all(bytes);
     end.y
 }
 
 impl Half {
     // What is kept of the blocks of `bytes`.
-    pub fn of(h: U128, lanes: bool, bytes: &[u8]) -> Half
+    pub fn of(h: U128, bytes: &[u8]) -> Half
         ensures { λ r. ⌜ HalfOf (value h) (blocks (now (bytes .entry))) r ⌝ }
     {
         let count = block_count(bytes.len());
         Half {
-            hash: hash_blocks(h, lanes, bytes),
+            hash: hash_blocks(h, bytes),
             power: field::power(h, count as u64),
         }
     }
@@ -63,7 +63,7 @@ pub fn galois_hash_after(h: U128, label: &[u8], text: &[u8], half: Half) -> U128
     requires { ⌜ HalfOf (value h) (blocks (now text)) half ⌝ }
     ensures { λ r. ⌜ value r ≡ ghash (value h) (authBlocks (now (label .entry)) (now (text .entry))) ⌝ }
 {
-    let y = half.after(hash_blocks(h, false, label));
+    let y = half.after(hash_blocks(h, label));
     let texted = Ghash { h, y };
     let end = texted.absorb_lengths(label.len(), text.len());
     end.y

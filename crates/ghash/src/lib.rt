@@ -8,6 +8,7 @@ ghost use Prim.Native.Nat.{_≤_};
 ghost use lib.ListN.{length, getD};
 ghost use Rattle.block.specs.Words.{wordAt, words};
 ghost use Rattle.block.specs.Wide.{value};
+ghost use Rattle.carryless.specs.Lent.{PartsOf};
 ghost use Rattle.ghash.specs.Ghash.{Hashable, blockOf, blockCount, blocks, lengthBlock, authBlocks, ghash};
 ghost use Rattle.ghash.specs.Absorbed.{Absorbed};
 use block::U128;
@@ -55,6 +56,9 @@ pub fn block_count(n: usize) -> usize
     if n % 16 == 0 { n / 16 } else { n / 16 + 1 }
 }
 
+// From how many bytes on hashes side by side are fewer instructions than one.
+const LANES_FROM: usize = 256;
+
 // The hash on its way: the key H, and the hash of the blocks so far.
 pub struct Ghash {
     pub h: U128,
@@ -72,22 +76,24 @@ impl Ghash {
         }
     }
 
-    // One block: (hash xor b) times H.
-    fn step(self, b: U128) -> Ghash
+    // One block: (hash xor b) times H, whose parts are lent as m.
+    fn step(self, m: &[u32; 36], b: U128) -> Ghash
+        requires { ⌜ PartsOf (self .h) (now m) ⌝ }
         ensures { λ r. ⌜ Absorbed self (value b ∷ []) r ⌝ }
     {
         let h = self.h;
         let sum = field::add(self.y, b);
-        let y = field::galois_mul(sum, h);
+        let y = field::times(sum, h, m);
         Ghash { h, y }
     }
 
     // The block at the front of `rest`, zeros where `rest` ends.
-    pub fn absorb(self, rest: &[u8]) -> Ghash
+    fn absorb(self, m: &[u32; 36], rest: &[u8]) -> Ghash
+        requires { ⌜ PartsOf (self .h) (now m) ⌝ }
         ensures { λ r. ⌜ Absorbed self (blockOf (now (rest .entry)) ∷ []) r ⌝ }
     {
         let b = block::to_u128(load_block(rest));
-        self.step(b)
+        self.step(m, b)
     }
 
     // All of `bytes`, zeros to the last block's end, block by block.
@@ -95,30 +101,25 @@ impl Ghash {
         ensures { λ r. ⌜ Absorbed self (blocks (now (bytes .entry))) r ⌝ }
     {
         let n = block_count(bytes.len());
+        let m = carryless::parts(self.h);
         let mut state = self;
         let mut i = 0;
         while i < n {
             let at = 16 * i;
-            state = state.absorb(&bytes[at..]);
+            state = state.absorb(&m, &bytes[at..]);
             i += 1;
         }
         state
     }
 
-    // All of `bytes`, zeros to the last block's end. Where `lanes` is true, the full sets of 128 blocks of a text of two and more go
-    // in lanes, which pays from there on.
-    pub fn absorb_all(self, lanes: bool, bytes: &[u8]) -> Ghash
+    // All of `bytes`, zeros to the last block's end.
+    pub fn absorb_all(self, bytes: &[u8]) -> Ghash
         ensures { λ r. ⌜ Absorbed self (blocks (now (bytes .entry))) r ⌝ }
     {
-        if !lanes {
+        if bytes.len() < LANES_FROM {
             return self.absorb_each(bytes);
         }
-        if bytes.len() < 4096 {
-            return self.absorb_each(bytes);
-        }
-        let full = bytes.len() / 2048 * 2048;
-        let state = interleaved::absorb_lanes(self, &bytes[0..full]);
-        state.absorb_each(&bytes[full..])
+        interleaved::absorb_lanes(self, bytes)
     }
 
     // The length block: both lengths in bits, the label's first.
@@ -130,18 +131,19 @@ impl Ghash {
             high: 8 * label as u64,
             low: 8 * text as u64,
         };
-        self.step(b)
+        let m = carryless::parts(self.h);
+        self.step(&m, b)
     }
 }
 
-// The hash of a label and a text, with their lengths. `lanes` says whether long ones are hashed in lanes.
-pub fn galois_hash(h: U128, lanes: bool, label: &[u8], text: &[u8]) -> U128
+// The hash of a label and a text, with their lengths.
+pub fn galois_hash(h: U128, label: &[u8], text: &[u8]) -> U128
     requires { ⌜ Hashable (length (now label)) × Hashable (length (now text)) ⌝ }
     ensures { λ r. ⌜ value r ≡ ghash (value h) (authBlocks (now (label .entry)) (now (text .entry))) ⌝ }
 {
     let start = Ghash::new(h);
-    let labelled = start.absorb_all(lanes, label);
-    let texted = labelled.absorb_all(lanes, text);
+    let labelled = start.absorb_all(label);
+    let texted = labelled.absorb_all(text);
     let end = texted.absorb_lengths(label.len(), text.len());
     end.y
 }

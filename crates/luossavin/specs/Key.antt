@@ -43,9 +43,9 @@ hostKeyRetire k =
     (record { «round_keys» = k .«round_keys»; answer = 0; number = k .number; retired = 1; engine = k .engine })
     k
 
--- the mark of an engine: 1 is the four tables, 2 the gates, and all else the plain one
+-- the mark of an engine: 1 is the four tables, 2 the gates, 3 the plain engine, and all else leaves the choice to the library
 abbrev pub engineMark : ℕ → ℕ
-engineMark e = cond (eqb e 1) 1 (cond (eqb e 2) 2 0)
+engineMark e = cond (eqb e 1) 1 (cond (eqb e 2) 2 (cond (eqb e 3) 3 0))
 
 -- the record with an engine
 unfoldable pub hostKeyEngine : LuossavinKey → ℕ → LuossavinKey

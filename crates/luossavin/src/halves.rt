@@ -34,8 +34,7 @@ fn hash_of(n: U128) -> LuossavinHash
 pub extern "C" fn luossavin_hash_blocks(h: LuossavinHash, bytes: &[u8]) -> LuossavinHash
     ensures { λ r. ⌜ r ≡ hostHashBlocks h (now (bytes .entry)) ⌝ }
 {
-    // no key is here, and no mark of an engine, so many blocks go in lanes in any case
-    hash_of(halves::hash_blocks(element(h), true, bytes))
+    hash_of(halves::hash_blocks(element(h), bytes))
 }
 
 #[no_mangle]

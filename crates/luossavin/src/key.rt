@@ -86,7 +86,7 @@ pub extern "C" fn luossavin_key_retire(key: LuossavinKey) -> LuossavinKey
     }
 }
 
-// The mark of an engine: 1 is the four tables, 2 the gates, and all else the plain engine.
+// The mark of an engine: 1 is the four tables, 2 the gates, 3 the plain engine, and all else leaves the choice to the library.
 fn mark_of(engine: u32) -> u8
     ensures { λ r. ⌜ r ≡ engineMark engine ⌝ }
 {
@@ -95,6 +95,9 @@ fn mark_of(engine: u32) -> u8
     }
     if engine == 2 {
         return 2;
+    }
+    if engine == 3 {
+        return 3;
     }
     0
 }

@@ -67,9 +67,10 @@ pub fn start(direction: Direction, cipher: Sm4Cipher, iv: &[u8]) -> CtrStep
             state: shut(key, answer::number(refusal)),
         };
     }
-    let t = cipher::plain();
+    let engine = cipher_mode::engine_for(cipher.engine, CipherMode::Ctr, direction);
+    let t = cipher::laid_out(engine);
     let rk = cipher.rk;
-    let flow = flow::begin(cipher::lent(cipher.engine, &t), rk, block::split_block(iv));
+    let flow = flow::begin(cipher::lent(engine, &t), rk, block::split_block(iv));
     let first = flow.counter;
     let state = Ctr {
         rk,
@@ -101,11 +102,11 @@ impl Ctr {
                 state: self,
             };
         }
-        let engine = self.engine;
+        let mark = self.engine;
         let rk = self.rk;
         let flow = self.flow;
         let first = self.first;
-        let next = flow::run_by(engine, rk, Counting::Ctr, flow, total % 16, data, out);
+        let next = flow::run_by(mark, rk, Counting::Ctr, flow, total % 16, data, out);
         let state = Ctr {
             rk,
             flow: next,
@@ -113,7 +114,7 @@ impl Ctr {
             total: total + n,
             stands: 0,
             key,
-            engine,
+            engine: mark,
         };
         CtrStep {
             answer: answer::done(key, n),

@@ -108,7 +108,7 @@ fn onward(
     ensures { λ _. ⌜ now (out .exit) ≡ over (chain (flowMode counting rk) (nextCounter counting counter) (now («data» .entry))) (now (out .entry)) ⌝ }
 {
     let next = next_counter(counting, block::split_block(&counter));
-    let end = stream::stream(t, rk, kind_of(counting), next, data, out);
+    let end = stream::stream(t, rk, kind_of(counting), next, true, data, out);
     let state = end.state;
     let pad = end.pad;
     Flow {
@@ -143,9 +143,9 @@ pub fn run(
     onward(t, rk, counting, counter, &data[m..], &mut out[m..])
 }
 
-// The same by the engine of a mark: its tables are laid out here, and lent to every block.
+// The same by the engine of a mark, whose table is laid out here, and lent to every block. Counters do not wait for one another.
 pub(crate) fn run_by(
-    engine: u8,
+    mark: u8,
     rk: [u32; 32],
     counting: Counting,
     flow: Flow,
@@ -158,10 +158,7 @@ pub(crate) fn run_by(
     ensures { λ r. ⌜ r ≡ flowNext counting rk flow p (now («data» .entry)) ⌝ }
     ensures { λ _. ⌜ now (out .exit) ≡ over (flowText counting rk flow p (now («data» .entry))) (now (out .entry)) ⌝ }
 {
-    if engine == cipher::FOUR_TABLES {
-        let t = cipher::mixed::tables();
-        return run(&t, rk, counting, flow, p, data, out);
-    }
-    let t = cipher::plain();
+    let engine = cipher::engine_of(mark, false);
+    let t = cipher::laid_out(engine);
     run(cipher::lent(engine, &t), rk, counting, flow, p, data, out)
 }

@@ -70,8 +70,8 @@ fn filled(held: [u8; 16], p: usize, data: &[u8]) -> [u8; 16]
 }
 
 // `data` behind the p bytes that are held. The first block is theirs both; the full blocks behind it go through the hash as
-// they stand, where there are many in lanes if that is asked for, and the last bytes are held.
-pub(crate) fn take_in(g: Hashing, lanes: bool, p: usize, data: &[u8]) -> Hashing
+// they stand, and the last bytes are held.
+pub(crate) fn take_in(g: Hashing, p: usize, data: &[u8]) -> Hashing
     requires { ⌜ p < 16 ⌝ }
     ensures { λ r. ⌜ r ≡ hashNext g p (now («data» .entry)) ⌝ }
 {
@@ -83,11 +83,11 @@ pub(crate) fn take_in(g: Hashing, lanes: bool, p: usize, data: &[u8]) -> Hashing
     if data.len() < m {
         return Hashing { h, y, held: first };
     }
-    full_blocks(h, y, lanes, first, &data[m..])
+    full_blocks(h, y, first, &data[m..])
 }
 
 // A full block and then `rest`, of which the last bytes are held.
-fn full_blocks(h: [u8; 16], y: [u8; 16], lanes: bool, first: [u8; 16], rest: &[u8]) -> Hashing
+fn full_blocks(h: [u8; 16], y: [u8; 16], first: [u8; 16], rest: &[u8]) -> Hashing
     ensures { λ r. ⌜ r ≡ hashAfter h y (first ++ now (rest .entry)) ⌝ }
 {
     let n = rest.len() - rest.len() % 16;
@@ -95,8 +95,8 @@ fn full_blocks(h: [u8; 16], y: [u8; 16], lanes: bool, first: [u8; 16], rest: &[u
         h: number_of(h),
         y: number_of(y),
     };
-    let begun = start.absorb_all(false, &first);
-    let end = begun.absorb_all(lanes, &rest[0..n]);
+    let begun = start.absorb_all(&first);
+    let end = begun.absorb_all(&rest[0..n]);
     let last = end.y;
     Hashing {
         h,
@@ -118,17 +118,17 @@ pub(crate) fn end(g: Hashing, p: usize, label: usize, text: usize) -> [u8; 16]
         h: number_of(h),
         y: number_of(y),
     };
-    let all = start.absorb_all(false, &held[0..p]);
+    let all = start.absorb_all(&held[0..p]);
     let last = all.absorb_lengths(label, text);
     bytes_of(last.y)
 }
 
 // The hash before the first byte of a text, under H: that of the label's blocks.
-pub(crate) fn begin(h: U128, lanes: bool, label: &[u8]) -> Hashing
+pub(crate) fn begin(h: U128, label: &[u8]) -> Hashing
     ensures { λ r. ⌜ r ≡ hashOf (value h) (now (label .entry)) [] ⌝ }
 {
     let start = Ghash::new(h);
-    let labelled = start.absorb_all(lanes, label);
+    let labelled = start.absorb_all(label);
     let y = labelled.y;
     Hashing {
         h: bytes_of(h),

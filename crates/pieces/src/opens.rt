@@ -10,6 +10,7 @@ use crate::checks;
 use crate::hashing;
 use crate::hashing::Hashing;
 use crate::tagging;
+use cipher_mode::CipherMode;
 use cipher_mode::Direction;
 use cipher_mode::Sm4Cipher;
 use cipher_mode::answer;
@@ -64,9 +65,10 @@ pub fn start(cipher: Sm4Cipher, aad: &[u8], iv: &[u8]) -> OpensStep
             state: shut(key, answer::number(refusal)),
         };
     }
-    let t = cipher::plain();
+    let engine = cipher_mode::engine_for(cipher.engine, CipherMode::Gcm, Direction::Decrypt);
+    let t = cipher::laid_out(engine);
     let rk = cipher.rk;
-    let begun = tagging::begin(cipher::lent(cipher.engine, &t), rk, aad, iv);
+    let begun = tagging::begin(cipher::lent(engine, &t), rk, aad, iv);
     let hashing = begun.hashing;
     let mask = begun.mask;
     let state = Opens {
@@ -95,7 +97,7 @@ fn same_tag(tag: &[u8], mask: [u8; 16], hash: [u8; 16]) -> bool
 }
 
 impl Opens {
-    // A piece of the ciphertext. The state has no mark of an engine, so a long piece is hashed in lanes in any case.
+    // A piece of the ciphertext.
     pub fn piece(self, data: &[u8]) -> OpensStep
         ensures { λ r. ⌜ opensStepped r [] ≡ opensPiece self (now («data» .entry)) ⌝ }
     {
@@ -113,7 +115,7 @@ impl Opens {
         let begun = self.hashing;
         let mask = self.mask;
         let state = Opens {
-            hashing: hashing::take_in(begun, true, total % 16, data),
+            hashing: hashing::take_in(begun, total % 16, data),
             mask,
             label,
             total: total + n,

@@ -10,6 +10,7 @@ use crate::flow::Flow;
 use crate::hashing;
 use crate::hashing::Hashing;
 use crate::tagging;
+use cipher_mode::CipherMode;
 use cipher_mode::Direction;
 use cipher_mode::Sm4Cipher;
 use cipher_mode::answer;
@@ -69,8 +70,9 @@ pub fn start(cipher: Sm4Cipher, aad: &[u8], iv: &[u8]) -> SealStep
             state: shut(key, answer::number(refusal)),
         };
     }
-    let t = cipher::plain();
-    let lent = cipher::lent(cipher.engine, &t);
+    let engine = cipher_mode::engine_for(cipher.engine, CipherMode::Gcm, Direction::Encrypt);
+    let t = cipher::laid_out(engine);
+    let lent = cipher::lent(engine, &t);
     let rk = cipher.rk;
     let begun = tagging::begin(lent, rk, aad, iv);
     let j0 = begun.j0;
@@ -111,23 +113,23 @@ impl Seal {
                 state: self,
             };
         }
-        let engine = self.engine;
+        let mark = self.engine;
         let rk = self.rk;
         let flow = self.flow;
         let begun = self.hashing;
         let mask = self.mask;
-        let next = flow::run_by(engine, rk, Counting::Gcm, flow, total % 16, data, out);
+        let next = flow::run_by(mark, rk, Counting::Gcm, flow, total % 16, data, out);
         let state = Seal {
             rk,
             flow: next,
-            hashing: hashing::take_in(begun, engine == cipher::GATES, total % 16, &out[0..n]),
+            hashing: hashing::take_in(begun, total % 16, &out[0..n]),
             mask,
             label,
             total: total + n,
             low: self.low,
             stands: 0,
             key,
-            engine,
+            engine: mark,
         };
         SealStep {
             answer: answer::done(key, n),

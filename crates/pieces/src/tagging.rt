@@ -34,7 +34,7 @@ pub(crate) fn begin(t: &[u32], rk: [u32; 32], aad: &[u8], iv: &[u8]) -> Begun
     Begun {
         j0,
         low: j0[3],
-        hashing: hashing::begin(h, cipher::by_gates(t), aad),
+        hashing: hashing::begin(h, aad),
         mask: flow::ciphered(t, rk, j0),
     }
 }

@@ -52,19 +52,15 @@ fn put_pieces(t: &[u32], rk: [u32; 32], iv: &[u8], plan: Plan, data: &[u8], out:
     }
 }
 
-// The same by the engine of a mark: its tables are laid out here, once for all pieces.
-fn pieces_by(engine: u8, rk: [u32; 32], iv: &[u8], plan: Plan, data: &[u8], out: &mut [u8])
+// The same by the engine of a mark, whose table is laid out here, once for all pieces. Counters do not wait for one another.
+fn pieces_by(mark: u8, rk: [u32; 32], iv: &[u8], plan: Plan, data: &[u8], out: &mut [u8])
     requires { ⌜ length (now iv) ≡ 16 ⌝ }
     requires { ⌜ accepts plan (length (now «data»)) ≡ true ⌝ }
     requires { ⌜ length (now «data») ≤ length (now out) ⌝ }
     ensures { λ _. ⌜ now (out .exit) ≡ over (chain (streamMode Kind.Ctr rk) (now (iv .entry)) (now («data» .entry))) (now (out .entry)) ⌝ }
 {
-    if engine == cipher::FOUR_TABLES {
-        let t = cipher::mixed::tables();
-        put_pieces(&t, rk, iv, plan, data, out);
-        return;
-    }
-    let t = cipher::plain();
+    let engine = cipher::engine_of(mark, false);
+    let t = cipher::laid_out(engine);
     put_pieces(cipher::lent(engine, &t), rk, iv, plan, data, out);
 }
 

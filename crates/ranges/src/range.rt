@@ -61,18 +61,14 @@ pub(crate) fn put_stretch(
     flow::run(t, rk, Counting::Ctr, begun, offset % 16, data, out);
 }
 
-// The same by the engine of a mark: its tables are laid out here, and lent to every block.
-fn stretch_by(engine: u8, rk: [u32; 32], iv: &[u8], offset: usize, data: &[u8], out: &mut [u8])
+// The same by the engine of a mark, whose table is laid out here, and lent to every block. Counters do not wait for one another.
+fn stretch_by(mark: u8, rk: [u32; 32], iv: &[u8], offset: usize, data: &[u8], out: &mut [u8])
     requires { ⌜ length (now iv) ≡ 16 ⌝ }
     requires { ⌜ length (now «data») ≤ length (now out) ⌝ }
     ensures { λ _. ⌜ now (out .exit) ≡ over (stretch rk (now (iv .entry)) offset (now («data» .entry))) (now (out .entry)) ⌝ }
 {
-    if engine == cipher::FOUR_TABLES {
-        let t = cipher::mixed::tables();
-        put_stretch(&t, rk, iv, offset, data, out);
-        return;
-    }
-    let t = cipher::plain();
+    let engine = cipher::engine_of(mark, false);
+    let t = cipher::laid_out(engine);
     put_stretch(cipher::lent(engine, &t), rk, iv, offset, data, out);
 }
 

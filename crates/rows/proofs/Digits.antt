@@ -1,121 +1,14 @@
 -- A stage changes one binary digit of a row's number with that of a bit's number.
 -- Assumes nothing.
-use mathlib.Core.Path.{_≡_, refl, sym, ap, ap₂, subst₂, _∙_}
-use mathlib.Core.Logic.{_⊎_, inl, inr, ⊎-elim}
+use mathlib.Core.Path.{_≡_, sym, ap, ap₂, subst₂, _∙_}
+use mathlib.Core.Logic.{⊎-elim}
 use mathlib.Core.List.{List}
-use Prim.Native.Nat.{ℕ, zero, suc, _+_, _-_, _*_, _/_, _%_, _^_, _<_, _≤_, min}
-use native.Mathlib.Nat.{add-zero, add-div-right, div-eq-of-lt}
+use Prim.Native.Nat.{ℕ, _+_, _-_, _*_, _/_, _%_, _<_}
 use native.Mathlib.Omega.{arith}
 use lib.ListN.{getD}
-use lib.Pow.{pow-pos}
-use lib.Bits.{differ}
-use Rattle.block.specs.Xor.{_⊕_}
 use Rattle.lanes.specs.Bits.{bit}
-use Rattle.lanes.proofs.Bits.{bit-small, bit-xor, bit-and, bit-zero, bit-shr, bit-mod, bit-low, bit-high, lt-or-le}
-use Rattle.rows.specs.Transposed.{differing, firstSwapped, secondSwapped, Pair, Staged, at}
-
-differ-in : (x y : ℕ) → x < 2 → y < 2 → differ y (differ x y) ≡ x
-differ-in zero zero h k = refl
-differ-in zero (suc zero) h k = refl
-differ-in (suc zero) zero h k = refl
-differ-in (suc zero) (suc zero) h k = refl
-differ-in (suc (suc x)) y h k = absurd (omega arith)
-differ-in zero (suc (suc y)) h k = absurd (omega arith)
-differ-in (suc zero) (suc (suc y)) h k = absurd (omega arith)
-
-differ-out : (x y : ℕ) → x < 2 → y < 2 → differ x (differ x y) ≡ y
-differ-out zero y h k = refl
-differ-out (suc zero) zero h k = refl
-differ-out (suc zero) (suc zero) h k = refl
-differ-out (suc zero) (suc (suc y)) h k = absurd (omega arith)
-differ-out (suc (suc x)) y h k = absurd (omega arith)
-
-differ-none : (x : ℕ) → differ x 0 ≡ x
-differ-none zero = refl
-differ-none (suc x) = refl
-
--- digit d of c, d a power of two
-abbrev pub digit : ℕ → ℕ → ℕ
-digit d c = c / d % 2
-
-zero-or-one : (x : ℕ) → (x % 2 ≡ 0) ⊎ (x % 2 ≡ 1)
-zero-or-one x = ⊎-elim (λ (h : x % 2 < 1). inl (omega arith)) (λ (h : 1 ≤ x % 2). inr (omega arith)) (lt-or-le (x % 2) 1)
-
--- the mask has the bits whose digit d is 0
-abbrev pub MaskOf : ℕ → ℕ → Type 0
-MaskOf d m = (c : ℕ) → c < 64 → bit c m ≡ 1 - digit d c
-
-module _ (d m : ℕ) (hd : 0 < d) (hm : MaskOf d m) where
-  below : (c : ℕ) → d ≤ c → c / d ≡ (c - d) / d + 1
-  below c h = let e : c ≡ c - d + d = omega arith in ap (λ (x : ℕ). x / d) e ∙ add-div-right (c - d) hd
-
-  one-le : (c : ℕ) → digit d c ≡ 1 → d ≤ c
-  one-le c h =
-      ⊎-elim
-      (λ (g : c < d). let f : c / d % 2 ≡ 0 = ap (λ (x : ℕ). x % 2) (div-eq-of-lt g) in absurd (omega arith))
-      (λ g. g)
-      (lt-or-le c d)
-
-  module _ (x y c : ℕ) (hc : c < 64) where
-    masked : (b : ℕ) → 1 - digit d c ≡ b → bit c (differing d m x y) ≡ min (bit c (x / 2 ^ d ⊕ y)) b
-    masked b h = bit-and c (x / 2 ^ d ⊕ y) m ∙ ap (min (bit c (x / 2 ^ d ⊕ y))) (hm c hc ∙ h)
-
-    differing-0 : digit d c ≡ 0 → bit c (differing d m x y) ≡ differ (bit (d + c) x) (bit c y)
-    differing-0 h =
-        let l = bit-small c (x / 2 ^ d ⊕ y) in
-        let least : min (bit c (x / 2 ^ d ⊕ y)) 1 ≡ bit c (x / 2 ^ d ⊕ y) = omega arith in
-        masked 1 (omega arith) ∙ least ∙ bit-xor c (x / 2 ^ d) y ∙ ap (λ (u : ℕ). differ u (bit c y)) (bit-shr d c x)
-
-    differing-1 : digit d c ≡ 1 → bit c (differing d m x y) ≡ 0
-    differing-1 h = masked 0 (omega arith) ∙ omega arith
-
-    second-0 : digit d c ≡ 0 → bit c (secondSwapped d m x y) ≡ bit (d + c) x
-    unfolding secondSwapped
-    second-0 h =
-        bit-xor c y (differing d m x y)
-        ∙ ap (differ (bit c y)) (differing-0 h)
-        ∙ differ-in (bit (d + c) x) (bit c y) (bit-small (d + c) x) (bit-small c y)
-
-    second-1 : digit d c ≡ 1 → bit c (secondSwapped d m x y) ≡ bit c y
-    unfolding secondSwapped
-    second-1 h = bit-xor c y (differing d m x y) ∙ ap (differ (bit c y)) (differing-1 h) ∙ differ-none (bit c y)
-
-  shl-low : (t c : ℕ) → c < 64 → c < d → bit c (t * 2 ^ d % 2 ^ 64) ≡ 0
-  shl-low t c hc h =
-      bit-mod 64 c (t * 2 ^ d) hc ∙ ap (bit c) (sym (add-zero (t * 2 ^ d))) ∙ bit-low d c t 0 h (pow-pos d) ∙ bit-zero c
-
-  shl-high : (t c : ℕ) → c < 64 → d ≤ c → bit c (t * 2 ^ d % 2 ^ 64) ≡ bit (c - d) t
-  shl-high t c hc h =
-      let e : c ≡ d + (c - d) = omega arith in
-      bit-mod 64 c (t * 2 ^ d) hc ∙ ap₂ bit e (sym (add-zero (t * 2 ^ d))) ∙ bit-high d (c - d) t 0 (pow-pos d)
-
-  module _ (x y c : ℕ) (hc : c < 64) where
-    first-0 : digit d c ≡ 0 → bit c (firstSwapped d m x y) ≡ bit c x
-    unfolding firstSwapped
-    first-0 h =
-        bit-xor c x (differing d m x y * 2 ^ d % 2 ^ 64)
-        ∙ ap (differ (bit c x))
-        (⊎-elim (λ (g : c < d). shl-low (differing d m x y) c hc g)
-        (λ (g : d ≤ c).
-        let b = below c g in
-        let o : digit d (c - d) ≡ 1 = omega arith in
-        shl-high (differing d m x y) c hc g ∙ differing-1 x y (c - d) (omega arith) o)
-        (lt-or-le c d))
-        ∙ differ-none (bit c x)
-
-    first-1 : digit d c ≡ 1 → bit c (firstSwapped d m x y) ≡ bit (c - d) y
-    unfolding firstSwapped
-    first-1 h =
-        let g = one-le c h in
-        let b = below c g in
-        let o : digit d (c - d) ≡ 0 = omega arith in
-        let e : d + (c - d) ≡ c = omega arith in
-        bit-xor c x (differing d m x y * 2 ^ d % 2 ^ 64)
-        ∙ ap (differ (bit c x))
-        (shl-high (differing d m x y) c hc g
-        ∙ differing-0 x y (c - d) (omega arith) o
-        ∙ ap (λ (u : ℕ). differ (bit u x) (bit (c - d) y)) e)
-        ∙ differ-out (bit c x) (bit (c - d) y) (bit-small c x) (bit-small (c - d) y)
+use Rattle.lanes.proofs.Swaps.{digit, MaskOf, dig, zero-or-one, one-le, first-0, first-1, second-0, second-1}
+use Rattle.rows.specs.Transposed.{Pair, Staged, at}
 
 -- row r of matrix j, whose digit d is 0, and the row whose digit d is 1, are a pair of a stage
 pub record Paired (d w n j r : ℕ) : Type 0 where
@@ -123,10 +16,6 @@ pub record Paired (d w n j r : ℕ) : Type 0 where
   pub within : 8 * (r % d) + j < w
   pub this : 8 * r + j ≡ 2 * w * (r / (2 * d)) + (8 * (r % d) + j)
   pub that : 8 * (r + d) + j ≡ 2 * w * (r / (2 * d)) + (8 * (r % d) + j) + w
-
--- r with the digit d of c
-abbrev pub dig : ℕ → ℕ → ℕ → ℕ
-dig d r c = r - d * digit d r + d * digit d c
 
 -- what a stage of distance d takes
 pub record Stage (d m w n : ℕ) : Type 0 where

@@ -11,7 +11,8 @@ use Rattle.block.proofs.Table.{rule-at, passes}
 use Rattle.lanes.specs.Bits.{bit}
 use Rattle.lanes.proofs.Bits.{lt-or-le}
 use Rattle.rows.specs.Transposed.{Staged, at, Turned}
-use Rattle.rows.proofs.Digits.{digit, dig, MaskOf, Stage, stage-law}
+use Rattle.lanes.proofs.Swaps.{digit, dig, MaskOf}
+use Rattle.rows.proofs.Digits.{Stage, stage-law}
 
 mask-of : (d m : ℕ) → T (passes (λ k x. eqb (bit k m) (1 - digit d k)) 0 (replicate 64 0)) → MaskOf d m
 mask-of d m t c h = eqb→eq _ _ (rule-at (λ k x. eqb (bit k m) (1 - digit d k)) (replicate 64 0) t c h)

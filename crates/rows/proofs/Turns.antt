@@ -10,7 +10,8 @@ use native.Mathlib.Omega.{arith}
 use lib.ListN.{getD, length, set, length-set}
 use lib.Seq.{getD-set-same, getD-set-other}
 use Rattle.lanes.proofs.Bits.{lt-or-le}
-use Rattle.rows.specs.Transposed.{firstSwapped, secondSwapped, Pair, Swapped, Staged}
+use Rattle.lanes.specs.Swaps.{firstSwapped, secondSwapped}
+use Rattle.rows.specs.Transposed.{Pair, Swapped, Staged}
 
 module _ (d m p q : ℕ) (a₀ a a′ : List ℕ) where
   -- a pair that is left alone

@@ -3,9 +3,8 @@ use mathlib.Core.Path.{_≡_}
 use mathlib.Core.List.{List}
 use Prim.Native.Nat.{ℕ, _+_, _*_, _/_, _%_, _^_, _<_, _≤_}
 use lib.ListN.{getD, length}
-use lib.Bits.{bitAnd}
-use Rattle.block.specs.Xor.{_⊕_}
 use Rattle.lanes.specs.Bits.{bit}
+use Rattle.lanes.specs.Swaps.{firstSwapped, secondSwapped}
 
 -- bit c of row r of matrix j
 unfoldable pub at : List ℕ → ℕ → ℕ → ℕ → ℕ
@@ -15,18 +14,7 @@ at a j r c = bit c (getD a (8 * r + j) 0)
 abbrev pub Turned : List ℕ → List ℕ → Type 0
 Turned a₀ a = (j r c : ℕ) → j < 8 → r < 64 → c < 64 → at a j r c ≡ at a₀ j c r
 
--- where bit c + d of x and bit c of y differ, for each bit c of the mask m
-abbrev pub differing : ℕ → ℕ → ℕ → ℕ → ℕ
-differing d m x y = bitAnd (x / 2 ^ d ⊕ y) m
-
--- x and y once these bits have changed places
-unfoldable pub firstSwapped : ℕ → ℕ → ℕ → ℕ → ℕ
-firstSwapped d m x y = x ⊕ differing d m x y * 2 ^ d % 2 ^ 64
-
-unfoldable pub secondSwapped : ℕ → ℕ → ℕ → ℕ → ℕ
-secondSwapped d m x y = y ⊕ differing d m x y
-
--- so it is with the words at p and q of a list
+-- the words at p and q of a list have changed places under a mask
 pub record Pair (d m p q : ℕ) (a₀ a : List ℕ) : Type 0 where
   pub first : getD a p 0 ≡ firstSwapped d m (getD a₀ p 0) (getD a₀ q 0)
   pub second : getD a q 0 ≡ secondSwapped d m (getD a₀ p 0) (getD a₀ q 0)

@@ -10,7 +10,8 @@ ghost use Rattle.block.specs.Blocks.{blockAt};
 ghost use Rattle.block.specs.Words.{words};
 ghost use Rattle.walk.specs.Walk.{over};
 ghost use Rattle.rows.specs.Rows.{place, Sized, Rows, xoredBlocks};
-ghost use Rattle.rows.specs.Transposed.{firstSwapped, secondSwapped, Swapped, Staged, Turned};
+ghost use Rattle.lanes.specs.Swaps.{firstSwapped, secondSwapped};
+ghost use Rattle.rows.specs.Transposed.{Swapped, Staged, Turned};
 
 // x, once its bits have changed places with those of y that stand d lower, where the mask m has them.
 fn first_swapped(x: u64, y: u64, d: usize, m: u64) -> u64

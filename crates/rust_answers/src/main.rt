@@ -6,7 +6,7 @@
 // README.md beside this crate's folders has the form of the file and what its parts are.
 mod list;
 
-ghost use Prim.Native.Nat.{_<_, _≤_};
+ghost use Prim.Native.Nat.{_<_};
 use cipher_mode::Direction;
 use cipher_mode::Sm4Cipher;
 use cipher_mode::Sm4CipherMode;
@@ -85,6 +85,15 @@ fn lacks(number: u32, data: usize) -> usize {
 // The key's number in an answer: refusal 1 has no key, and every other answer repeats its number.
 fn key_in(number: u32) -> u16 {
     if number == 1 { 0 } else { NUMBER }
+}
+
+// Whether an answer has a number that it may have, and missing count and key's number go with it.
+fn is_due(row: usize, told: Told, data: usize) -> bool
+    requires { ⌜ row < 10 ⌝ }
+{
+    may(row, told.number)
+        && list::wide(told.missing) == lacks(told.number, data)
+        && told.key == key_in(told.number)
 }
 
 // An answer by its numbers.
@@ -197,13 +206,7 @@ fn agrees(record: &[u8]) -> bool {
         data,
         &mut out,
     );
-    if !may(row, told.number) {
-        return false;
-    }
-    if list::wide(told.missing) != lacks(told.number, data.len()) {
-        return false;
-    }
-    if told.key != key_in(told.number) {
+    if !is_due(row, told, data.len()) {
         return false;
     }
     if row == SEALED {

@@ -281,12 +281,12 @@ fn encrypt(rk: [u32; 32], n: usize, a: &mut [u64; 512], b: &mut [u64; 512])
 // The most blocks of a batch.
 const MOST: usize = 512;
 
-// From so many bytes on a batch takes fewer instructions than single blocks do.
-pub const LEAST: usize = 288;
+// From so many bytes on, 192 blocks, a batch takes fewer instructions than those of `sixteen` that would take its place.
+pub const LEAST: usize = 3072;
 
 // How many of the blocks of `n` bytes the next batch takes.
 pub fn next_batch(n: usize) -> usize
-    requires { ⌜ 288 ≤ n ⌝ }
+    requires { ⌜ 3072 ≤ n ⌝ }
     ensures { λ r. ⌜ (1 ≤ r) × (r ≤ 512) × (16 * r ≤ n) ⌝ }
 {
     let m = n / 16;

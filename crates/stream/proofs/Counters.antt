@@ -31,13 +31,13 @@ ctrNext-bytes : (s : List ℕ) → AreBytes (ctrNext s)
 unfolding ctrNext
 ctrNext-bytes s = bytesOf-bytes 16 ((numberOf s + 1) % 2 ^ 128)
 
-length-gcmNext : (s : List ℕ) → length s ≡ 16 → length (gcmNext s) ≡ 16
+pub length-gcmNext : (s : List ℕ) → length s ≡ 16 → length (gcmNext s) ≡ 16
 unfolding gcmNext
 length-gcmNext s n =
     let t = (numberOf (drop 12 s) + 1) % 2 ^ 32 in
     length-append (take 12 s) (bytesOf 4 t) ∙ rw (length-take-le 12 s (omega arith), length-bytesOf 4 t)
 
-gcmNext-bytes : (s : List ℕ) → AreBytes s → AreBytes (gcmNext s)
+pub gcmNext-bytes : (s : List ℕ) → AreBytes s → AreBytes (gcmNext s)
 unfolding gcmNext
 gcmNext-bytes s a =
     let t = (numberOf (drop 12 s) + 1) % 2 ^ 32 in

@@ -1,3 +1,4 @@
 pub mod RoundTrip
 pub mod CounterSteps
 pub mod Counters
+pub mod Ahead

@@ -35,6 +35,14 @@ opener Ofb = Ofb
 opener Ctr = Ctr
 opener Gctr = Gctr
 
+-- whether the states of a kind are known before a block is ciphered
+abbrev pub ahead : Kind → Bool
+ahead CfbEncrypt = false
+ahead CfbDecrypt = true
+ahead Ofb = false
+ahead Ctr = true
+ahead Gctr = true
+
 -- the kinds whose states are counters: of all sixteen bytes, or of the last four
 abbrev pub counting : Bool → Kind
 counting true = Ctr

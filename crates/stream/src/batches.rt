@@ -18,7 +18,7 @@ pub(crate) struct Place {
 }
 
 // The counter `m` blocks on.
-fn counter_after(wide: bool, s: [u32; 4], m: usize) -> [u32; 4]
+pub(crate) fn counter_after(wide: bool, s: [u32; 4], m: usize) -> [u32; 4]
     requires { ⌜ m ≤ 512 ⌝ }
     ensures { λ r. ⌜ unwords r ≡ jumped wide (unwords s) m ⌝ }
 {

@@ -4,7 +4,7 @@ use crate::files::{lines, read_small, Secret, Source};
 use crate::progress::Progress;
 use crate::say::{bytes, input, quoted, say, shown, told, Fail};
 use crate::words::{decimal, hex, Line, Thing};
-use luossavin::{Engine, Key, Refusal};
+use luossavin::{Key, Refusal};
 use std::ffi::OsStr;
 use std::os::unix::ffi::OsStrExt;
 use std::os::unix::fs::MetadataExt;
@@ -57,7 +57,7 @@ pub struct Held {
 }
 
 /// Reads the key that a line names. `about` is what a refusal is about.
-pub fn read(line: &Line, about: &str, engine: Engine) -> Result<Held, Fail> {
+pub fn read(line: &Line, about: &str) -> Result<Held, Fail> {
     let number = number(line)?;
     let word = line.word(Thing::Key);
     let mut source = Source::open(word, "the key ")?;
@@ -66,7 +66,6 @@ pub fn read(line: &Line, about: &str, engine: Engine) -> Result<Held, Fail> {
     match Key::new(&bytes, number) {
         Ok(key) => {
             warn_of_readers(line, word, &source);
-            let key = key.with_engine(engine);
             let key = if line.says(Thing::Retired) { key.retire() } else { key };
             Ok(Held { key: Arc::new(key), file, bytes })
         }
@@ -159,7 +158,7 @@ pub fn listed(line: &Line, about: &str) -> Result<Vec<Key>, Fail> {
         if keys.len() == 8 {
             return bad(start, "a replay takes up to 8 keys, and this is one more".to_string());
         }
-        keys.push(key.with_engine(Engine::Tables));
+        keys.push(key);
     }
     if !keys.is_empty() {
         warn_of_readers(line, word, &source);

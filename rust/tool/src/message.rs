@@ -9,7 +9,7 @@ use luossavin::editions::label;
 use luossavin::pieces::{Ctr, Seal};
 use luossavin::ranges::{ctr_range, Plan};
 use luossavin::sm4::cipher_mode::{CipherMode, Sm4CipherMode};
-use luossavin::{Direction, Done, Engine, Key, Refusal, LONGEST_TEXT};
+use luossavin::{Direction, Done, Key, Refusal, LONGEST_TEXT};
 use std::sync::Arc;
 
 /// A message that is asked for: everything but its bytes.
@@ -24,15 +24,6 @@ pub struct Asked<'a> {
     pub iv: Vec<u8>,
     pub iv_file: Secret,
     offset: Option<u64>,
-}
-
-/// The engine for a task: gates where blocks do not wait for one another, and tables elsewhere.
-fn engine(mode: CipherMode, direction: Direction) -> Engine {
-    match (mode, direction) {
-        (CipherMode::Gcm | CipherMode::Ctr, _) => Engine::Gates,
-        (CipherMode::Cfb | CipherMode::Cbc, Direction::Decrypt) => Engine::Gates,
-        _ => Engine::Tables,
-    }
 }
 
 /// The key as answers name it: by its number where that was said.
@@ -93,7 +84,7 @@ impl<'a> Asked<'a> {
 
     /// Reads the key. What stands against it, or against the IV, is said before IN is looked at.
     pub fn key(&self) -> Result<Held, Fail> {
-        let held = keys::read(self.line, &self.name, engine(self.mode, self.direction))?;
+        let held = keys::read(self.line, &self.name)?;
         keys::warn(self.line, &held, &self.iv);
         match self.call(&held.key, &[], &mut [0; 16]) {
             Err(refusal @ (Refusal::WrongIv | Refusal::Retired | Refusal::TooLong)) => Err(self.refuse(refusal, 0)),

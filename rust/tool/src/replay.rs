@@ -6,7 +6,7 @@ use crate::progress::Progress;
 use crate::say::{answer, bytes, input, told, Fail, DIFFERS};
 use crate::words::{Line, Thing};
 use luossavin::journal::{replay, Report};
-use luossavin::{Engine, Key, Refusal};
+use luossavin::{Key, Refusal};
 
 /// How much of a journal is held at once; more than the longest record that can be replayed.
 const WINDOW: usize = 1 << 20;
@@ -202,7 +202,7 @@ pub fn run(line: &Line) -> Result<u8, Fail> {
     let name = input(word);
     let keys = match line.value(Thing::Keys) {
         Some(_) => keys::listed(line, &name)?.into_iter().map(Into::into).collect(),
-        None => vec![keys::read(line, &name, Engine::Tables)?.key],
+        None => vec![keys::read(line, &name)?.key],
     };
     let keys: Vec<&Key> = keys.iter().map(AsRef::as_ref).collect();
     let source = Source::open(word, "")?;

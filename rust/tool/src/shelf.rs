@@ -8,7 +8,7 @@ use crate::say::{answer, cannot, input, say, shown, told, Fail, FILES};
 use crate::sys;
 use crate::words::{Line, Thing};
 use luossavin::shelf::{Shelf, LARGEST};
-use luossavin::{Direction, Engine, Refusal};
+use luossavin::{Direction, Refusal};
 use std::ffi::{OsStr, OsString};
 use std::fs::{self, File, OpenOptions, Permissions};
 use std::io::{self, ErrorKind};
@@ -149,7 +149,7 @@ pub fn verify(line: &Line) -> Result<u8, Fail> {
     let ivs = keys::ivs(line)?;
     let (bytes, shelf) = read(line)?;
     let name = shown(line.word(Thing::Shelf));
-    let held = keys::read(line, &name, Engine::Gates)?;
+    let held = keys::read(line, &name)?;
     let (mut first, mut missing, mut lines) = (None, 0, String::new());
     for record in records(&bytes).0.iter().filter(|record| record.is_current) {
         let (job, edition) = (record.job, record.edition);

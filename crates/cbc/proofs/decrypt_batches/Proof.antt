@@ -17,7 +17,7 @@ use Rattle.walk.proofs.Batch.{Fed, reached-first, fed-first, fed-on, fed-reache
 use Rattle.walk.proofs.Loop.{tailed}
 use Rattle.cbc.specs.Cbc.{cbcDecrypt}
 use Rattle.cbc.proofs.Batches.{decrypt-fed, decrypted}
-use Rattle.cbc.proofs.Blocks.{block-before}
+use Rattle.sixteen.proofs.Before.{block-before}
 use borrow.Author.Needs.{needs}
 use Rattle.cbc.proofs.decrypt_batches.Statement.{statement}
 use Rattle.cbc.proofs.decrypt_batches.Tie as tie

@@ -1,21 +1,19 @@
 -- `cipher::plain` meets its contract. The code's table is the definition's, by one computed test; the loop lays its
 -- entries out, and its invariant says that the first i words are the table's first i bytes.
 -- Assumes nothing.
-use mathlib.Core.Path.{_≡_, refl, _∙_}
-use mathlib.Core.Logic.{inl}
+use mathlib.Core.Path.{_≡_, refl}
 use Prim.Native.Nat.{_≤_, _-_}
 use native.Mathlib.Omega.{arith}
 use lib.ListN.{length, take}
 use Rattle.cipher.specs.Sm4.{sboxTable}
-use Rattle.cipher.specs.Engine.{Engine}
 use Rattle.cipher.proofs.Tables.{sbox-byte}
-use Rattle.cipher.proofs.Engines.{plain-length, laid-more, laid-out}
+use Rattle.cipher.proofs.Engines.{plain-length, laid-more, laid-front}
 use borrow.Author.Needs.{needs}
 use Rattle.cipher.proofs.plain.Statement.{statement}
 use Rattle.cipher.proofs.plain.Tie as tie
 
 abbrev Inv-loop : tie.InvT-loop
-Inv-loop t wide₀ i₀ wide i = (t ≡ sboxTable) × (i ≤ 256) × (length wide ≡ 256) × (take i wide ≡ take i t)
+Inv-loop t wide₀ i₀ wide i = (t ≡ sboxTable) × (i ≤ 256) × (length wide ≡ 1024) × (take i wide ≡ take i t)
 
 abbrev μ-loop : tie.MeasureT-loop
 μ-loop t wide₀ i₀ wide i = 256 - i
@@ -35,11 +33,9 @@ loop-again c =
     (l .inv .0, omega arith, search needs, laid-more _ (l .wide) (l .i) (omega arith) (omega arith) (l .inv .3))
 
 returns : tie.Need-returns Inv-loop μ-loop
-unfolding Engine
 returns c =
     let l = c .before .loop in
-    let n = plain-length _ (l .inv .0) in
-    inl (laid-out _ (l .wide) (l .i) (omega arith) (omega arith) (l .inv .3) ∙ l .inv .0)
+    laid-front _ (l .wide) (l .i) (l .inv .0) (omega arith) (l .inv .3)
 
 pub plain-spec : {M : Type 1} → statement M
 plain-spec =

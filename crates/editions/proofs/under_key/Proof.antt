@@ -26,7 +26,7 @@ use Rattle.editions.proofs.under_key.Tie as tie
 
 first-counter-requires : tie.Need-first-counter-requires
 first-counter-requires c κs =
-    let S = c .before .before .before .before .before .before .before .before .before in
+    let S = c .before .before .before .before .before .before .before .before .before .before in
     iv-twelve-or-sixteen (length (now (S .args .iv))) (S .pre .0)
 
 text-part-requires : tie.Need-text-part-requires
@@ -37,8 +37,8 @@ text-part-requires c κs =
 search-requires : tie.Need-search-requires
 search-requires c κs =
     let at-part = c .before in
-    let at-key = at-part .before .before .before .before in
-    let S = at-key .before .before .before .before .before .before .before .before .before in
+    let at-key = at-part .before .before .before in
+    let S = at-key .before .before .before .before .before .before .before .before .before .before in
     let h = value (at-key .hash-key .result) in
     (subst (λ (text : List ℕ). HalfOf h (blocks text) (c .of .result)) (at-part .text-part .ensures) (c .of .ensures), S .pre .1)
 
@@ -51,10 +51,10 @@ returns c =
 returns-2 : tie.Need-returns-2
 unfolding opensUnder tagOf
 returns-2 c =
-    let at-mask = c .before .before .before .before in
+    let at-mask = c .before .before .before in
     let at-counter = at-mask .before in
     let at-key = at-counter .before in
-    let a = at-key .before .before .before .before .before .before .before .before .before .args in
+    let a = at-key .before .before .before .before .before .before .before .before .before .before .args in
     let j = at-counter .first-counter .result in
     let four : length j ≡ 4 = search needs in
     let fits : (i : ℕ) → Fits w32 (getD j i 0) = λ i. search needs in
@@ -72,6 +72,4 @@ pub under-key-spec : {M : Type 1} → statement M
 under-key-spec =
     tie.close
     (tie.spec
-    (λ c κs. search needs) returns (λ c κs. search needs) (λ c. search needs) (λ c κs. search needs) (λ c κs. search needs)
-    first-counter-requires (λ c κs. search needs) (λ c κs. search needs) text-part-requires (λ c κs. search needs)
-    search-requires returns-2)
+    (λ c κs. search needs) returns (λ c κs. search needs) (λ c κs. search needs) (λ c. search needs) (λ c κs. search needs) (λ c κs. search needs) first-counter-requires (λ c κs. search needs) text-part-requires (λ c κs. search needs) search-requires returns-2)

@@ -1,5 +1,5 @@
--- `gcm::decrypt` meets its contract. Where the tag is the message's, the stream writes its text and the definition is done
--- (`open-done`); otherwise nothing is written, and it refuses (`open-refused`).
+-- `gcm::decrypt` meets its contract. A short text goes in one batch. Else, where the tag is the message's, the stream writes its text and the
+-- definition is done (`open-done`); otherwise nothing is written, and it refuses (`open-refused`).
 -- Assumes nothing.
 use mathlib.Core.Path.{_≡_, sym, ap, ap₂, _∙_}
 use mathlib.Core.List.{List}
@@ -20,44 +20,43 @@ use borrow.Author.Needs.{needs}
 use Rattle.gcm.proofs.decrypt.Statement.{statement}
 use Rattle.gcm.proofs.decrypt.Tie as tie
 
-stream-requires : tie.Need-stream-requires
-stream-requires c κs =
-    let at-text = c .before .before .before in
-    let d = at-text .before .before .before .before .before .before .before .args .«data» .now in
-    let n : length (now (at-text .text-part .result)) ≡ length d - 16 =
-    ap length (at-text .text-part .ensures) ∙ length-take-le (length d - 16) d (omega arith) in
-    (search needs, omega arith)
+decrypt-short-requires : tie.Need-decrypt-short-requires
+decrypt-short-requires c κs = let low = c .before .before .in-one-batch .ensures (c .before .if1 .taken) in (search needs, (omega arith, omega arith, omega arith))
 
 returns : tie.Need-returns
-returns c =
-    let at-stream = c .before .before in
-    let at-counter = at-stream .before .before .before in
-    let at-text = at-counter .before in
-    let at-opens = at-text .before .before in
-    let S = at-opens .before .before .before .before .before in
-    let a = S .args in
-    let d = now (a .«data») in
-    let j = unwords (a .j0) in
-    let text = now (at-text .text-part .result) in
-    let part = at-text .text-part .ensures in
-    let opens = sym (at-opens .opens .ensures) ∙ at-text .before .if1 .taken in
-    let is-text = text-words (a .rk) j _ text (at-counter .gcm-block-add-one .ensures .0) ∙ ap (textOf (a .rk) j) part in
-    let size : length text ≡ length (textOf (a .rk) j (textPart d)) =
-    ap length part ∙ sym (length-text (a .rk) j (textPart d)) in
-    ap₂ {C = Outcome} (λ (n : ℕ) (o : List ℕ). leaving (finished n) o) size
-    (at-stream .stream .ensures .1 .1 ∙ ap (λ (p : List ℕ). over p (now (a .out))) is-text)
-    ∙ open-done (a .rk) (value (a .h)) j (now (a .aad)) d (now (a .out)) (S .pre .1 .1 .0) opens
+returns c = c .before .before .decrypt-short .ensures
+
+stream-requires : tie.Need-stream-requires
+stream-requires c κs =
+    let t = c .before .before .before .text-part in
+    let d = c .before .before .before .before .before .before .before .before .before .before .before .before .args .«data» .now in
+    let n : length (now (t .result)) ≡ length d - 16 = ap length (t .ensures) ∙ length-take-le (length d - 16) d (omega arith) in
+    (search needs, omega arith)
 
 returns-2 : tie.Need-returns-2
 returns-2 c =
-    let S = c .before .before .before .before .before .before in
-    let a = S .args in
+    let a = c .before .before .before .before .before .before .before .before .before .before .before .before .before .before .before .args in
+    let d = now (a .«data») in
+    let j = unwords (a .j0) in
+    let text = now (c .before .before .before .before .before .before .text-part .result) in
+    let part = c .before .before .before .before .before .before .text-part .ensures in
+    let opens = sym (c .before .before .before .before .before .before .before .before .opens .ensures) ∙ c .before .before .before .before .before .before .before .if2 .taken in
+    let is-text = text-words (a .rk) j _ text (c .before .before .before .before .before .gcm-block-add-one .ensures .0) ∙ ap (textOf (a .rk) j) part in
+    let size : length text ≡ length (textOf (a .rk) j (textPart d)) =
+    ap length part ∙ sym (length-text (a .rk) j (textPart d)) in
+    ap₂ {C = Outcome} (λ (n : ℕ) (o : List ℕ). leaving (finished n) o) size
+    (c .before .before .stream .ensures .1 .1 ∙ ap (λ (p : List ℕ). over p (now (a .out))) is-text)
+    ∙ open-done (a .rk) (value (a .h)) j (now (a .aad)) d (now (a .out)) (c .before .before .before .before .before .before .before .before .before .before .before .before .before .before .before .pre .1 .1 .0) opens
+
+returns-3 : tie.Need-returns-3
+returns-3 c =
+    let a = c .before .before .before .before .before .before .before .before .args in
     open-refused (a .rk) (value (a .h)) (unwords (a .j0)) (now (a .aad)) (now (a .«data»)) (now (a .out))
-    (sym (c .before .opens .ensures) ∙ c .if1 .left)
+    (sym (c .before .opens .ensures) ∙ c .if2 .left)
 
 pub decrypt-spec : {M : Type 1} → statement M
 decrypt-spec =
     tie.close
     (tie.spec
-    (λ c κs. search needs) (λ c κs. search needs) (λ c κs. search needs) stream-requires (λ c. search needs) returns
-    returns-2)
+    (λ c. search needs) (λ c κs. search needs) decrypt-short-requires (λ c. search needs) returns (λ c κs. search needs)
+    (λ c κs. search needs) (λ c κs. search needs) stream-requires (λ c. search needs) returns-2 returns-3)

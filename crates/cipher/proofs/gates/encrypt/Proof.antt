@@ -1,46 +1,59 @@
--- `cipher::gates::encrypt` meets its contract. The loop's invariant: the rounds that are left after 4 i give what all rounds give from
--- the start.
+-- `cipher::gates::encrypt` meets its contract. The invariant of either loop: the rounds that are left give what they gave where it
+-- began (`rounds-next`).
 -- Assumes nothing.
 use borrow.Author.Needs.{needs}
 use mathlib.Core.Path.{_≡_, refl, ap, _∙_}
-use Prim.Native.Nat.{_≤_, _+_, _-_, _*_}
+use Prim.Native.Nat.{_≤_, _+_, _-_, _%_}
 use native.Mathlib.Omega.{arith}
 use lib.ListN.{length, drop}
 use Rattle.cipher.specs.Sm4.{rounds}
-use Rattle.cipher.proofs.Rounds.{rounds-front, rounds-done}
+use Rattle.cipher.proofs.Rounds.{rounds-next, rounds-done}
 use Rattle.cipher.proofs.gates.encrypt.Statement.{statement}
 use Rattle.cipher.proofs.gates.encrypt.Tie as tie
 
+abbrev Inv-loop2 : tie.InvT-loop2
+Inv-loop2 rk x₀ i₀ end x i = (i ≤ end) × (rounds (drop i rk) x ≡ rounds (drop i₀ rk) x₀)
+
+abbrev μ-loop2 : tie.MeasureT-loop2
+μ-loop2 rk x₀ i₀ end x i = end - i
+
 abbrev Inv-loop : tie.InvT-loop
-Inv-loop rk x₀ i₀ x i = (i ≤ 8) × (rounds (drop (4 * i) rk) x ≡ rounds rk x₀)
+Inv-loop rk x₀ i₀ x i = (i ≤ 32) × (i % 4 ≡ 0) × (rounds (drop i rk) x ≡ rounds rk x₀)
 
 abbrev μ-loop : tie.MeasureT-loop
-μ-loop rk x₀ i₀ x i = 8 - i
+μ-loop rk x₀ i₀ x i = 32 - i
 
-loop-holds : tie.Need-loop-holds Inv-loop μ-loop
-loop-holds c = (search needs, refl)
+loop-holds : tie.Need-loop-holds Inv-loop2 μ-loop2 Inv-loop μ-loop
+loop-holds c = (search needs, refl, refl)
 
-loop-again : tie.Need-loop-again Inv-loop μ-loop
+loop2-holds : tie.Need-loop2-holds Inv-loop2 μ-loop2 Inv-loop μ-loop
+loop2-holds c = (omega arith, refl)
+
+loop-again : tie.Need-loop-again Inv-loop2 μ-loop2 Inv-loop μ-loop
 loop-again c =
-    let l = c .before .before .loop in
-    let rk = c .before .before .before .args .t1 in
-    let n : length rk ≡ 32 = search needs in
-    let e : 4 * (l .i + 1) ≡ 4 * l .i + 4 = omega arith in
-    let next = ap (rounds (drop (4 * l .i + 4) rk)) (c .four-rounds .ensures) in
-    (omega arith, rw (e) (next ∙ rounds-front rk (l .x) (4 * l .i) (omega arith) ∙ l .inv .1))
+    let m = c .before .loop2 in
+    let l = c .before .before .before .loop in
+    (omega arith, omega arith, m .inv .1 ∙ l .inv .2)
 
-returns : tie.Need-returns Inv-loop μ-loop
+loop2-again : tie.Need-loop2-again Inv-loop2 μ-loop2 Inv-loop μ-loop
+loop2-again c =
+    let at-loop2 = c .before .before in
+    let m = at-loop2 .loop2 in
+    let rk = at-loop2 .before .before .before .args .t1 in
+    let n : length rk ≡ 32 = search needs in
+    (omega arith, ap (rounds (drop (m .i + 1) rk)) (c .round .ensures) ∙ rounds-next rk (m .x) (m .i) (omega arith) ∙ m .inv .1)
+
+returns : tie.Need-returns Inv-loop2 μ-loop2 Inv-loop μ-loop
 returns c =
     let l = c .before .loop in
     let rk = c .before .before .args .t1 in
     let n : length rk ≡ 32 = search needs in
-    rounds-done rk (l .x) _ (4 * l .i) (omega arith) (l .inv .1)
+    rounds-done rk (l .x) _ (l .i) (omega arith) (l .inv .2)
 
 pub encrypt-spec : {M : Type 1} → statement M
 encrypt-spec =
     tie.close
     (tie.spec
-    Inv-loop μ-loop loop-holds (λ c. search needs) (λ c. search needs) (λ c. search needs) (λ c. search needs)
-    (λ c. search needs) (λ c. search needs) (λ c. search needs) (λ c. search needs) (λ c. search needs)
-    (λ c. search needs) (λ c. search needs) (λ c. search needs) (λ c κs. search needs) (λ c. search needs)
-    (λ c. search needs) loop-again (λ c. search needs) (λ c. search needs) (λ c. search needs) (λ c. search needs) returns)
+    Inv-loop2 μ-loop2 Inv-loop μ-loop loop-holds (λ c. omega arith) loop2-holds (λ c. omega arith) loop-again (λ c. search needs) (λ c. search needs)
+    (λ c κs. search needs) (λ c. omega arith) (λ c. omega arith) loop2-again (λ c. search needs) (λ c. search needs) (λ c. search needs)
+    (λ c. search needs) returns)

@@ -1,15 +1,14 @@
 -- `cipher::mixed::tables` meets its contract: all 1,024 entries are the rule's, by one computed test.
 -- Assumes nothing.
 use mathlib.Core.Path.{refl}
-use mathlib.Core.Logic.{inl, inr}
 use Rattle.cipher.specs.Sm4.{sboxTable, rotl, L}
-use Rattle.cipher.specs.Engine.{mixedFrom, mixedTable, Engine}
+use Rattle.cipher.specs.Engine.{mixedFrom, mixedTable}
 use Rattle.cipher.proofs.mixed.tables.Statement.{statement}
 use Rattle.cipher.proofs.mixed.tables.Tie as tie
 
 returns : tie.Need-returns
-unfolding sboxTable rotl L mixedFrom mixedTable Engine
-returns c = inr (inl refl)
+unfolding sboxTable rotl L mixedFrom mixedTable
+returns c = refl
 
 pub tables-spec : {M : Type 1} → statement M
 tables-spec = tie.close (tie.spec returns)

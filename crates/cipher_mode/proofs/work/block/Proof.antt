@@ -16,7 +16,7 @@ returns c =
     let at-put = c .before .before in
     let at-encrypt = at-put .before .before in
     let at-split = at-encrypt .before in
-    let at-keys = at-split .before in
+    let at-keys = at-split .before .before in
     let a = at-keys .before .before .before .args in
     let words-of = rw (at-keys .keys-for .ensures, at-split .split-block .ensures) at (at-encrypt .encrypt-by .ensures) in
     at-put .put-block .ensures
@@ -26,5 +26,5 @@ pub block-spec : {M : Type 1} → statement M
 block-spec =
     tie.close
     (tie.spec
-    (λ c κs. search needs) (λ c κs. search needs) (λ c κs. search needs) (λ c κs. search needs) (λ c. search needs)
+    (λ c κs. search needs) (λ c κs. search needs) (λ c κs. search needs) (λ c κs. search needs) (λ c κs. search needs) (λ c. search needs)
     returns)

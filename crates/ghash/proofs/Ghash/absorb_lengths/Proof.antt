@@ -10,9 +10,9 @@ use Rattle.ghash.proofs.Ghash.absorb_lengths.Tie as tie
 
 returns : tie.Need-returns
 returns c =
-    let at-start = c .before in
+    let at-start = c .before .before .before in
     let a = at-start .args in
     absorbed-same (c .step .ensures) (sym (lengthBlock-whole (a .label) (a .text) (at-start .pre .0) (at-start .pre .1)))
 
 pub absorb-lengths-spec : {M : Type 1} → statement M
-absorb-lengths-spec = tie.close (tie.spec (λ c. search needs) (λ c. search needs) (λ c κs. search needs) returns)
+absorb-lengths-spec = tie.close (tie.spec (λ c. search needs) (λ c. search needs) (λ c κs. search needs) (λ c κs. search needs) returns)

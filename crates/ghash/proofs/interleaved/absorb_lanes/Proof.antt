@@ -1,50 +1,64 @@
--- `ghash::interleaved::absorb_lanes` meets its contract: once all sets are taken in, the hashes, folded, join to the hash of their blocks
--- (`hash-folded`), which are all blocks of the bytes (`sets-blocks`).
+-- `ghash::interleaved::absorb_lanes` meets its contract: once the sets are taken in, the hashes join to the hash of their blocks, and the rest is
+-- taken in block by block (`absorbed-cut`).
 -- Assumes nothing.
 use borrow.Author.Needs.{needs}
-use mathlib.Core.Path.{ap, ap₂, subst, _∙_}
-use Prim.Native.Nat.{ℕ}
+use mathlib.Core.Path.{_∙_}
+use Prim.Native.Nat.{_*_, _≤_}
+use native.Mathlib.Nat.{lt-of-le-of-lt}
 use native.Mathlib.Omega.{arith}
+use lib.ListN.{length}
 use Rattle.block.specs.Wide.{value}
-use Rattle.field.specs.Field.{gmul, gpow}
 use Rattle.field.proofs.Bounded.{whole-lt}
-use Rattle.field.proofs.Powers.{gpow-add}
-use Rattle.sliced_field.specs.Elements.{Masked}
-use Rattle.ghash.specs.Ghash.{hashFrom}
-use Rattle.ghash.proofs.Sets.{sets-blocks, hash-folded}
+use Rattle.ghash.proofs.Absorbing.{absorbed-cut}
+use Rattle.ghash.proofs.JoinedBytes.{hash-of}
+use Rattle.ghash.proofs.Sets.{lanes-few, starts-first}
 use Rattle.ghash.proofs.interleaved.absorb_lanes.Statement.{statement}
 use Rattle.ghash.proofs.interleaved.absorb_lanes.Tie as tie
 
+absorb-sets-requires : tie.Need-absorb-sets-requires
+absorb-sets-requires c κs =
+    let at-parts = c .before .before .before in
+    let count = at-parts .before .before .lanes-for .ensures in
+    let few = lanes-few _ (count .0) in
+    (at-parts .parts .ensures, few .0, few .1, count .1, search needs, search needs)
+
+absorb-hashes-requires : tie.Need-absorb-hashes-requires
+absorb-hashes-requires c κs =
+    let at-sets = c .before .before .before in
+    let at-parts = at-sets .before .before .before .before in
+    let count = at-parts .before .before .lanes-for .ensures in
+    (lanes-few _ (count .0) .1, at-sets .absorb-sets .ensures .2, at-sets .absorb-sets .ensures .3)
+
+mul-at : tie.Need-mul-at
+mul-at c =
+    let at-sets = c .before .before .before .before in
+    let S = at-sets .before .before .before .before .before .before .before .before in
+    let room : 16 * at-sets .absorb-sets .result ≤ length (S .args .bytes .now) = at-sets .absorb-sets .ensures .1 in
+    record { fits = lt-of-le-of-lt room (omega (arith, S .good .1)) }
+
 returns : tie.Need-returns
 returns c =
-    let at-fold = c .before .before in
-    let at-half = at-fold .before .before .before in
-    let at-sets = at-half .before .before in
-    let at-start = at-sets .before .before .before in
-    let at-masks = at-start .before .before in
-    let at-square = at-masks .before .before in
-    let at-power = at-square .before in
+    let at-hashes = c .before .before in
+    let at-new = at-hashes .before .before .before in
+    let at-sets = at-new .before in
+    let at-power = at-sets .before .before .before .before .before in
     let S = at-power .before .before .before in
     let g = S .args .g in
-    let h = value (g .h) in
     let bytes = S .args .bytes .now in
     let element = whole-lt (g .h .high) (g .h .low) (omega (arith, S .good .0)) (omega (arith, S .good .0)) in
-    let to64 = at-power .power .ensures in
-    let to128 = at-square .galois-mul .ensures ∙ ap₂ gmul to64 to64 ∙ gpow-add h element 64 64 in
-    let masks = subst (λ (k : ℕ). Masked k (at-masks .masks .last .1 .0)) to128 (at-masks .masks .ensures) in
-    let half = subst (λ (k : ℕ). Masked k (at-half .masks2 .last .1 .0)) to64 (at-half .masks2 .ensures) in
-    record {
-      key = c .joined-lanes .ensures .0;
+    let sets = at-sets .absorb-sets .ensures in
+    absorbed-cut g _ _ bytes (at-sets .absorb-sets .result) (sets .1)
+    (record {
+      key = at-hashes .absorb-hashes .ensures .key ∙ at-new .new .ensures .0;
       hash =
-          c .joined-lanes .ensures .1
-          ∙ hash-folded h element _ _ (at-fold .fold .ensures .0 (gpow h 64) half)
-          ∙ at-sets .absorb-sets .ensures .0 h (value (g .y)) element masks (at-start .start .ensures .0)
-          ∙ ap (hashFrom h (value (g .y))) (sets-blocks bytes (S .pre .1));
-    }
+          hash-of _ _ _ _ (at-new .new .ensures) (at-hashes .absorb-hashes .ensures)
+          ∙ sets .0 (value (g .h)) (value (g .y)) element (at-power .lane-power .ensures) (starts-first _ (g .y .high) (g .y .low));
+    })
+    (c .absorb-each .ensures)
 
 pub absorb-lanes-spec : {M : Type 1} → statement M
 absorb-lanes-spec =
     tie.close
     (tie.spec
-    (λ c κs. search needs) (λ c κs. search needs) (λ c κs. search needs) (λ c κs. search needs) (λ c κs. search needs)
-    (λ c κs. search needs) (λ c κs. search needs) (λ c κs. search needs) returns)
+    (λ c κs. search needs) (λ c κs. search needs) (λ c κs. search needs) (λ c. search needs) (λ c. search needs)
+    absorb-sets-requires (λ c κs. search needs) absorb-hashes-requires mul-at (λ c. search needs) (λ c. search needs) (λ c. search needs) (λ c κs. search needs) returns)

@@ -1,49 +1,74 @@
--- `ghash::interleaved::add_set` meets its contract. The loop's invariant: the words of the rows below i of both halves have the set's words
--- added. A turn does one more row of each half (`added-next`), and all of them are a block added to every hash (`added-last`).
+-- `ghash::interleaved::add_set` meets its contract. The loop's invariant: to the first k hashes their blocks are added, and these are elements; the
+-- others are as they were.
 -- Assumes nothing.
 use borrow.Author.Needs.{needs}
-use Prim.Native.Nat.{_≤_, _<_, _-_, _*_}
+use mathlib.Core.Path.{_≡_, refl, sym, ap₂, subst, _∙_}
+use Prim.Native.Nat.{ℕ, _^_, _<_, _≤_, _-_}
 use native.Mathlib.Omega.{arith}
-use Rattle.ghash.proofs.Columns.{Added, added-first, added-next, added-last}
+use lib.ListN.{length, set}
+use Rattle.block.specs.Xor.{_⊕_}
+use Rattle.block.proofs.Entries.{below-each}
+use Rattle.carryless.specs.Lanes.{lane, Both}
+use Rattle.carryless.proofs.Filling.{below-next, lane-same, lane-other, both-next}
+use Rattle.field.specs.Field.{Element}
+use Rattle.field.proofs.Bounded.{whole-lt}
+use Rattle.ghash.specs.Sets.{blockNumber}
+use Rattle.ghash.proofs.Sets.{lent-number}
 use Rattle.ghash.proofs.interleaved.add_set.Statement.{statement}
 use Rattle.ghash.proofs.interleaved.add_set.Tie as tie
 
 abbrev Inv-loop : tie.InvT-loop
-Inv-loop z₀ a b q i₀ z i = (i ≤ 64) × Added z₀ a b q (2 * i) z
+Inv-loop bytes n high₀ low₀ k₀ high low k =
+    (k ≤ n) × (length high ≡ 16) × (length low ≡ 16)
+    × Both (λ j. lane high₀ low₀ j ⊕ blockNumber bytes j) k high low
+    × ((j : ℕ) → j < k → Element (lane high low j))
+    × ((j : ℕ) → k ≤ j → lane high low j ≡ lane high₀ low₀ j)
 
 abbrev μ-loop : tie.MeasureT-loop
-μ-loop z₀ a b q i₀ z i = 64 - i
+μ-loop bytes n high₀ low₀ k₀ high low k = n - k
 
 loop-holds : tie.Need-loop-holds Inv-loop μ-loop
-loop-holds c = (search needs, added-first (c .args .z .now) (c .args .a .now) (c .args .b .now) (c .args .q) (c .pre .0))
+loop-holds c = (search needs, search needs, search needs, λ j h. absurd (omega arith), λ j h. absurd (omega arith), λ j h. refl)
 
 loop-again : tie.Need-loop-again Inv-loop μ-loop
 loop-again c =
-    let at-loop = c .before .before .before .before .before .before .before .before .before in
-    let turn = at-loop .loop in
-    let a = at-loop .before .args in
-    let h : turn .i < 64 = search needs in (
-      omega (arith, h),
-      added-next (a .z .now) (a .a .now) (a .b .now) (a .q) (turn .i) (turn .z) h (turn .inv .1),
+    let at-number = c .before .before .before in
+    let at-split = at-number .before in
+    let at-loop = at-split .before .before .before in
+    let l = at-loop .loop in
+    let known = at-loop .before in
+    let a = known .before .args in
+    let bytes = a .bytes .now in
+    let k = l .k in
+    let u = c .add .result .high in
+    let v = c .add .result .low in
+    let ha : k < length (l .high) = omega arith in
+    let hb : k < length (l .low) = omega arith in
+    let high = set (l .high) k u in
+    let low = set (l .low) k v in
+    let number = below-each 256 bytes (λ i. known .shared-slice-known .given i .fits) in (
+      omega arith,
+      search needs,
+      search needs,
+      both-next k u v (l .high) (l .low) ha hb (λ j. lane (a .high .now) (a .low .now) j ⊕ blockNumber bytes j)
+          (c .add .ensures
+          ∙ ap₂ _⊕_ (l .inv .5 k (omega arith)) (at-number .to-u128 .ensures ∙ lent-number bytes k _ number (at-split .split-block .ensures)))
+          (l .inv .3),
+      below-next (lane high low) k (2 ^ 128)
+          (subst (λ (x : ℕ). x < 2 ^ 128) (sym (lane-same k u v (l .high) (l .low) ha hb)) (whole-lt u v (omega (arith, c .add .ok)) (omega (arith, c .add .ok))))
+          (λ j h. subst (λ (x : ℕ). x < 2 ^ 128) (sym (lane-other k u v (l .high) (l .low) ha hb j (λ e. omega arith))) (l .inv .4 j h)),
+      λ j h. lane-other k u v (l .high) (l .low) ha hb j (λ e. omega arith) ∙ l .inv .5 j (omega arith),
     )
 
 returns : tie.Need-returns Inv-loop μ-loop
 returns c =
-    let end = c .before .loop in
-    let S = c .before .before in
-    let a = S .args in (
-      added-last (a .z .now) (a .a .now) (a .b .now) (a .q) (2 * end .i) (end .z) (S .pre .1) (omega arith) (end .inv .1),
-      end .inv .1 .0,
-    )
+    let l = c .before .loop in
+    (λ j h. l .inv .3 j (omega arith), λ j h. l .inv .4 j (omega arith), l .inv .1, l .inv .2)
 
 pub add-set-spec : {M : Type 1} → statement M
 add-set-spec =
     tie.close
     (tie.spec
-    Inv-loop μ-loop loop-holds (λ c. search needs) (λ c. search needs) (λ c. search needs) (λ c. search needs) (λ c. search needs)
-    (λ c. search needs) (λ c. search needs) (λ c. search needs) (λ c. search needs) (λ c. search needs) (λ c. search needs)
-    (λ c. search needs) (λ c. search needs) (λ c. search needs) (λ c. search needs) (λ c. search needs) (λ c. search needs)
-    (λ c. search needs) (λ c. search needs) (λ c. search needs) (λ c. search needs) (λ c. search needs) (λ c. search needs)
-    (λ c. search needs) (λ c. search needs) (λ c. search needs) (λ c. search needs) (λ c. search needs) (λ c. search needs)
-    (λ c. search needs) (λ c. search needs) (λ c. search needs) (λ c. search needs) (λ c. search needs) (λ c. search needs)
-    (λ c. search needs) (λ c. search needs) (λ c. search needs) loop-again returns)
+    Inv-loop μ-loop loop-holds (λ c. search needs) (λ c. search needs) (λ c. search needs) (λ c. search needs) (λ c κs. search needs) (λ c κs. search needs)
+    (λ c. search needs) (λ c. search needs) (λ c. search needs) (λ c. search needs) (λ c κs. search needs)
+    (λ c. search needs) (λ c. search needs) (λ c. search needs) (λ c. search needs) (λ c. search needs) (λ c. search needs) loop-again returns)

@@ -38,14 +38,14 @@ passed x =
     sixteen _ (key-and-iv-passed _ _ _ _ _ (sym (x .before .before .key-and-iv .ensures) ∙ x .enum-told .given .1) .iv-size)
 
 split-block-requires : tie.Need-split-block-requires
-split-block-requires c κs = let n = passed (c .before .before .before .before) in omega arith
+split-block-requires c κs = let n = passed (c .before .before .before .before .before) in omega arith
 
 returns-2 : tie.Need-returns-2
 unfolding ctrStart ctrAfter
 returns-2 c =
     let at-begin = c .before .before in
     let at-split = at-begin .before in
-    let told = at-split .before .before .before .before .before in
+    let told = at-split .before .before .before .before .before .before in
     let at-check = told .before .before in
     let at-number = at-check .before in
     let at-iv = at-number .before in
@@ -65,6 +65,4 @@ pub start-spec : {M : Type 1} → statement M
 start-spec =
     tie.close
     (tie.spec
-    (λ c κs. search needs) (λ c κs. search needs) (λ c. search needs) (λ c κs. search needs) (λ c κs. search needs)
-    (λ c κs. search needs) returns (λ c. search needs) (λ c κs. search needs) (λ c. search needs) (λ c κs. search needs)
-    split-block-requires (λ c κs. search needs) (λ c κs. search needs) returns-2)
+    (λ c κs. search needs) (λ c κs. search needs) (λ c. search needs) (λ c κs. search needs) (λ c κs. search needs) (λ c κs. search needs) returns (λ c. search needs) (λ c κs. search needs) (λ c κs. search needs) (λ c. search needs) (λ c κs. search needs) split-block-requires (λ c κs. search needs) (λ c κs. search needs) returns-2)

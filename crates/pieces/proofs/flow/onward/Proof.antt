@@ -1,6 +1,6 @@
 -- `pieces::flow::onward` meets its contract: the stream starts at the next counter, and its end is the flow's.
 -- Assumes nothing.
-use mathlib.Core.Path.{_≡_, ap, ap₂, _∙_}
+use mathlib.Core.Path.{_≡_, refl, ap, ap₂, _∙_}
 use mathlib.Core.List.{List}
 use Prim.Native.Nat.{ℕ}
 use mir.Val.{Fits}
@@ -43,7 +43,7 @@ returns c =
     ap₂ (λ (k : Kind) (s : List ℕ). endState (streamMode k (a .rk)) s d) kind next in
     let streamed = at-stream .stream .ensures in (
       ap₂ {C = Flow} (λ (s p : List ℕ). record { counter = s; pad = p }) (c .combine-block .ensures ∙ streamed .0 ∙ end)
-          (streamed .1 .0 ∙ ap (encryptBlock (a .rk)) end),
+          (streamed .1 .0 refl ∙ ap (encryptBlock (a .rk)) end),
       streamed .1 .1 ∙ ap₂ (λ (k : Kind) (s : List ℕ). over (chain (streamMode k (a .rk)) s d) (now (a .out))) kind next,
     )
 

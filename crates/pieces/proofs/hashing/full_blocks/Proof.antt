@@ -21,7 +21,7 @@ use borrow.Author.Needs.{needs}
 use Rattle.pieces.proofs.hashing.full_blocks.Statement.{statement}
 use Rattle.pieces.proofs.hashing.full_blocks.Tie as tie
 
-first-length : (s : tie.Start) → length (s .args .t4) ≡ 16
+first-length : (s : tie.Start) → length (s .args .t3) ≡ 16
 first-length s = search needs
 
 returns : tie.Need-returns
@@ -34,7 +34,7 @@ returns c =
     let at-h = at-y .before in
     let S = at-h .before .before in
     let a = S .args in
-    let b = a .t4 in
+    let b = a .t3 in
     let d = now (a .rest) in
     let n = first-length S in
     let cut : length d - length d % 16 ≡ 16 * (length d / 16) = omega arith in

@@ -32,15 +32,15 @@ returns c =
 
 begin-requires : tie.Need-begin-requires
 begin-requires c κs =
-    let told = c .before .before .before .before in
+    let told = c .before .before .before .before .before in
     let in-order = starting-passed _ _ _ _ _ (sym (told .before .before .gcm-start .ensures) ∙ told .enum-told .given .1) in
-    (c .lent .ensures, iv-twelve-or-sixteen _ (in-order .taken))
+    (c .lent .ensures .0, iv-twelve-or-sixteen _ (in-order .taken))
 
 returns-2 : tie.Need-returns-2
 unfolding opensStart opensAfter
 returns-2 c =
     let at-begin = c .before .before .before in
-    let told = at-begin .before .before .before .before .before in
+    let told = at-begin .before .before .before .before .before .before in
     let at-check = told .before .before in
     let at-number = at-check .before in
     let a = at-number .before .before .before .args in
@@ -56,6 +56,4 @@ pub start-spec : {M : Type 1} → statement M
 start-spec =
     tie.close
     (tie.spec
-    (λ c κs. search needs) (λ c κs. search needs) (λ c. search needs) (λ c κs. search needs) (λ c κs. search needs)
-    (λ c κs. search needs) returns (λ c. search needs) (λ c κs. search needs) (λ c. search needs) (λ c κs. search needs)
-    begin-requires (λ c κs. search needs) returns-2)
+    (λ c κs. search needs) (λ c κs. search needs) (λ c. search needs) (λ c κs. search needs) (λ c κs. search needs) (λ c κs. search needs) returns (λ c. search needs) (λ c κs. search needs) (λ c κs. search needs) (λ c. search needs) (λ c κs. search needs) begin-requires (λ c κs. search needs) returns-2)

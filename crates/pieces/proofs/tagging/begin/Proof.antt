@@ -23,7 +23,7 @@ first-counter-requires c κs = c .before .before .before .before .pre .1
 returns : tie.Need-returns
 returns c =
     let at-begin = c .before in
-    let at-counter = at-begin .before .before in
+    let at-counter = at-begin .before in
     let at-key = at-counter .before in
     let a = at-key .before .before .before .before .args in
     let h = at-key .hash-key .ensures in
@@ -41,5 +41,4 @@ pub begin-spec : {M : Type 1} → statement M
 begin-spec =
     tie.close
     (tie.spec
-    (λ c κs. search needs) first-counter-requires (λ c. search needs) (λ c κs. search needs) (λ c κs. search needs)
-    (λ c κs. search needs) returns)
+    (λ c κs. search needs) first-counter-requires (λ c. search needs) (λ c κs. search needs) (λ c κs. search needs) returns)

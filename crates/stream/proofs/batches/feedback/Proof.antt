@@ -1,7 +1,7 @@
 -- `stream::batches::feedback` meets its contract. The first block goes by itself (`fed-reached`), and a turn of the loop goes as many
 -- blocks on as the batch has (`fed-on`), each from the block before it.
 -- Assumes nothing.
-use mathlib.Core.Path.{_≡_, refl, ap, _∙_}
+use mathlib.Core.Path.{_≡_, ap, _∙_}
 use mathlib.Core.List.{List}
 use Prim.Native.Nat.{ℕ, _-_, _<_}
 use native.Mathlib.Omega.{arith}
@@ -10,17 +10,14 @@ use lib.ListN.{length, getD, take, drop, length-drop}
 use Rattle.block.specs.Words.{unwords}
 use Rattle.block.proofs.Entries.{below-each, below-drop}
 use Rattle.block.proofs.WordsBack.{length-unwords, unwords-front}
-use Rattle.walk.proofs.Batch.{FedBack, Fed, reached-first, fed-first, fed-on, fed-reached}
+use Rattle.walk.proofs.Batch.{Fed, reached-first, fed-first, fed-on, fed-reached}
 use Rattle.walk.proofs.Loop.{tail-is}
 use Rattle.stream.specs.declared.Kind.the-variants.{CfbDecrypt}
 use Rattle.stream.specs.Stream.{streamMode}
-use Rattle.stream.proofs.RoundTrip.{stream-block}
+use Rattle.stream.proofs.Ahead.{cfb-fed}
 use borrow.Author.Needs.{needs}
 use Rattle.stream.proofs.batches.feedback.Statement.{statement}
 use Rattle.stream.proofs.batches.feedback.Tie as tie
-
-cfb-fed : (rk : List ℕ) → FedBack (streamMode CfbDecrypt rk)
-cfb-fed rk = record { state = λ s b. refl; full = λ s b hs hb. stream-block CfbDecrypt rk s b hb }
 
 abbrev Inv-loop : tie.InvT-loop
 Inv-loop t rk d out₀ at₀ out at = Fed (streamMode CfbDecrypt rk) d out₀ out at

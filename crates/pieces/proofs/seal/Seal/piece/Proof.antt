@@ -46,8 +46,8 @@ part-take-in-end c =
     let room = passed told .1 in
     omega (arith, c .before .before .before .run-by .kept)
 
-add-t28 : tie.Need-add-t28
-add-t28 c =
+add-t27 : tie.Need-add-t27
+add-t27 c =
     let told = c .before .before .before .before .before .before .before .before .before .before .before in
     let within = passed told .0 .within in search needs
 
@@ -80,5 +80,5 @@ piece-spec =
     tie.close
     (tie.spec
     (λ c κs. search needs) (λ c. search needs) (λ c κs. search needs) returns (λ c. search needs) run-by-requires
-    (λ c. search needs) (λ c. search needs) part-take-in-end (λ c κs. search needs) add-t28 (λ c κs. search needs)
+    (λ c. search needs) (λ c. search needs) part-take-in-end (λ c κs. search needs) add-t27 (λ c κs. search needs)
     (λ c. search needs) returns-2)

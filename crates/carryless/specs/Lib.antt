@@ -1,0 +1,4 @@
+pub mod Carryless
+pub mod Lanes
+pub mod Lent
+pub mod Product

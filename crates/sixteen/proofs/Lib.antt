@@ -1,0 +1,8 @@
+pub mod Swap
+pub mod Stages
+pub mod Bytes
+pub mod Filling
+pub mod Padded
+pub mod Blocks
+pub mod Before
+pub mod Onward

@@ -1,0 +1,43 @@
+-- `sixteen::load` meets its contract. The loop's invariant: the first i blocks stand in the arrays.
+-- Assumes nothing.
+use borrow.Author.Needs.{needs}
+use mathlib.Core.Path.{_≡_, sym, ap, _∙_}
+use Prim.Native.Nat.{ℕ, _≤_, _*_, _-_}
+use native.Mathlib.Omega.{arith}
+use lib.ListN.{length, take, drop, length-drop}
+use lib.Seq.{take-all}
+use Rattle.block.specs.Blocks.{blockAt}
+use Rattle.block.specs.Words.{words}
+use Rattle.block.proofs.WordsBack.{words-take}
+use Rattle.sixteen.specs.Blocks.{Held, Arrays}
+use Rattle.sixteen.proofs.load.Statement.{statement}
+use Rattle.sixteen.proofs.load.Tie as tie
+
+abbrev Inv-loop : tie.InvT-loop
+Inv-loop src m x0₀ x1₀ x2₀ x3₀ i₀ x0 x1 x2 x3 i = (i ≤ m) × Held i (λ k. words (blockAt src k)) x0 x1 x2 x3 × Arrays x0 x1 x2 x3
+
+abbrev μ-loop : tie.MeasureT-loop
+μ-loop src m x0₀ x1₀ x2₀ x3₀ i₀ x0 x1 x2 x3 i = m - i
+
+loop-holds : tie.Need-loop-holds Inv-loop μ-loop
+loop-holds c = (search needs, λ j h. absurd (omega arith), c .before .pre .1)
+
+loop-again : tie.Need-loop-again Inv-loop μ-loop
+loop-again c =
+    let at-loop = c .before .before .before .before .before .before .before .before in
+    let l = at-loop .loop in
+    let src = at-loop .before .before .args .src .now in
+    let d = drop (16 * l .i) src in
+    let k : length d ≤ length src - 16 * l .i = omega (arith, length-drop (16 * l .i) src) in
+    let e : c .before .split-block .result ≡ words (take 16 d) =
+    c .before .split-block .ensures ∙ ap words (take-all (length src - 16 * l .i) d k) ∙ sym (words-take d) in
+    (omega arith, c .put .ensures .0 (λ j. words (blockAt src j)) (l .inv .1) (sym e), c .put .ensures .1)
+
+returns : tie.Need-returns Inv-loop μ-loop
+returns c = let l = c .before .loop in (λ j h. l .inv .1 j (omega arith), l .inv .2)
+
+pub load-spec : {M : Type 1} → statement M
+load-spec =
+    tie.close
+    (tie.spec
+    Inv-loop μ-loop loop-holds (λ c. search needs) (λ c. search needs) (λ c. search needs) (λ c. search needs) (λ c κs. search needs) (λ c κs. search needs) (λ c. search needs) (λ c. search needs) loop-again returns)

@@ -1,0 +1,25 @@
+-- `sixteen::rounds::round` meets its contract: the three steps, put together by `round-done`.
+-- Assumes nothing.
+use borrow.Author.Needs.{needs}
+use Rattle.sixteen.specs.Blocks.{worked, keyed}
+use Rattle.sixteen.proofs.Filling.{round-done}
+use Rattle.sixteen.proofs.rounds.round.Statement.{statement}
+use Rattle.sixteen.proofs.rounds.round.Tie as tie
+
+returns : tie.Need-returns
+returns c =
+    let at-sub = c .before .before .before in
+    let at-keyed = at-sub .before .before .before in
+    let S = at-keyed .before .before in
+    let a = S .args in (
+      round-done (a .a .now) (at-keyed .keyed-words .last .0) (at-sub .sub-words .last .1 .0) (c .mix .last .0)
+          (keyed (a .b .now) (a .c .now) (a .d .now) (a .k)) (a .n) (worked (a .passes) (a .groups)) (S .pre .0 .0) (at-keyed .keyed-words .ensures .0)
+          (at-sub .sub-words .ensures .0) (c .mix .ensures .0),
+      (c .mix .ensures .1, at-keyed .keyed-words .ensures .1, at-sub .sub-words .ensures .1),
+    )
+
+pub round-spec : {M : Type 1} → statement M
+round-spec =
+    tie.close
+    (tie.spec
+    (λ c κs. search needs) (λ c κs. search needs) (λ c κs. search needs) returns)
