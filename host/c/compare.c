@@ -5,8 +5,8 @@
  *
  *   compare < LIST
  *
- * The library makes each call under the key with number 1, on each of the three engines. Every third call it makes once more with the
- * key retired, under another number: decryption must then be what it was, and encryption the refusal that the rules
+ * The library makes each call under the key with number 1, with each of the marks 0 to 3 of an engine. Every third call it makes once more
+ * with the key retired, under another number: decryption must then be what it was, and encryption the refusal that the rules
  * (rules.c) say. They also say whether a counter came round, of which libsm has no report. Prints, for each of the
  * three, how many records were compared and how many differ; the same of paddings; how many had a 12-byte IV in Gcm;
  * what came of those that were retired; in how many answers a counter came round; and the smallest record that
@@ -43,8 +43,8 @@ static struct {
 /* In how many answers of the library a counter came round; libsm has no such report. */
 static unsigned long came_round;
 
-/* How many engines there are; from how many bytes on the engine of gates does many blocks at once; and how many records have so many. */
-enum { ENGINES = 3, BATCH = 288 };
+/* From how many bytes on the engine of gates does many blocks at once, and how many records have so many. */
+enum { BATCH = 288 };
 static unsigned long batches;
 
 /* The number that the library must answer: that of libsm's name, or, of the inputs that
@@ -231,7 +231,7 @@ static uint32_t compare_under(const struct record *r, struct luossavin_key key, 
     return due.number;
 }
 
-/* Under the key, on each engine; every third time then under the key retired, on one of them in turn. */
+/* Under the key, with each mark of an engine; every third time then under the key retired, with one of them in turn. */
 static void compare_archive(const struct record *r, uint32_t index)
 {
     /* the least room and more than that, by turns; what lies past the room must stay as it is too */
@@ -239,15 +239,15 @@ static void compare_archive(const struct record *r, uint32_t index)
     uint32_t number = 1 + index % 65535;
     struct luossavin_key key = luossavin_key_new(r->key.bytes, r->key.length, 1);
     tally[ARCHIVE].compared++;
-    for (uint32_t engine = 0; engine < ENGINES; engine++) {
-        compare_under(r, luossavin_key_engine(key, engine), set_up(r->key.length, 1), slack);
+    for (uint32_t mark = 0; mark < MARKS; mark++) {
+        compare_under(r, luossavin_key_engine(key, mark), set_up(r->key.length, 1), slack);
     }
     if (r->data.length >= BATCH) {
         batches++;
     }
     if (index % 3 == 2) {
         struct luossavin_key old = luossavin_key_retire(luossavin_key_new(r->key.bytes, r->key.length, number));
-        old = luossavin_key_engine(old, index / 3 % ENGINES);
+        old = luossavin_key_engine(old, index / 3 % MARKS);
         uint32_t answer = compare_under(r, old, retired(set_up(r->key.length, number)), slack);
         *(answer == 14 ? &again.stopped : answer == 0 ? &again.decrypted : &again.refused) += 1;
     }
@@ -332,8 +332,8 @@ int main(void)
             compare_peer(PEERS + p, &peers[p], &r);
         }
     }
-    printf("  the library, %s, on each of the three engines: %lu compared %lu differ; %lu of them of 288 bytes and more\n", variant_name(),
-        tally[ARCHIVE].compared, tally[ARCHIVE].differ, batches);
+    printf("  the library, %s, with the marks 0 to 3 of an engine: %lu compared %lu differ; %lu of them of 288 bytes and more\n",
+        variant_name(), tally[ARCHIVE].compared, tally[ARCHIVE].differ, batches);
     for (int p = 0; p < 2; p++) {
         printf("  %s %s: %lu compared %lu differ\n", peers[p].name, peers[p].version(), tally[PEERS + p].compared,
             tally[PEERS + p].differ);

@@ -7,6 +7,9 @@
 /* Who is compared: the library, two peers, and the library with OpenSSL's check of the padding. */
 enum { ARCHIVE, PEERS = 1, PADDING = 3, SIDES };
 
+/* How many marks of an engine are tried, from 0 on. */
+enum { MARKS = 4 };
+
 struct tally {
     unsigned long compared, differ;
 };

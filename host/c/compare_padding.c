@@ -62,9 +62,9 @@ void compare_padding(const struct record *r)
     uint8_t *out = buffer(GOT, n + 16), *beside = buffer(BESIDE, n + 16);
     struct field theirs = {beside, 0};
     struct luossavin_key key = luossavin_key_new(r->key.bytes, r->key.length, 1);
-    /* on the engines in turn */
-    struct luossavin_answer a = luossavin_decrypt(CBC, luossavin_key_engine(key, tally[PADDING].compared % 3), NULL, 0, r->data.bytes, n,
-        r->iv.bytes, r->iv.length, out, n);
+    /* with the marks in turn */
+    struct luossavin_answer a = luossavin_decrypt(CBC, luossavin_key_engine(key, tally[PADDING].compared % MARKS), NULL, 0,
+        r->data.bytes, n, r->iv.bytes, r->iv.length, out, n);
     enum verdict verdict = openssl_unpadded(r->key.bytes, r->iv, r->data, beside, &theirs.length);
     tally[PADDING].compared++;
     count(r, a.number);
