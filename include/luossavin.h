@@ -191,9 +191,10 @@ struct luossavin_answer {
  *   2  gates        makes every byte by ands and exclusive ors, up to 512 blocks at once. It is written so that no place
  *                   that is read and no branch that is taken depends on the key, the text, the label or what comes of
  *                   them, but for the answer, whether a tag or a padding is right; the compiled library is looked at for
- *                   that (host/secrets), and nothing is claimed about time. It is the fastest for long messages in Ctr
- *                   and Gcm and for decryption in Cfb and Cbc. Ofb and encryption in Cfb and Cbc go block by block, and
- *                   so do short messages: there it is several times slower than either of the others
+ *                   that (host/secrets), and nothing is claimed about time. Where that was measured (docs/SPEED.md says on
+ *                   which machines), it is the fastest of the three for long messages in Ctr and Gcm and for decryption
+ *                   in Cfb and Cbc. Ofb and encryption in Cfb and Cbc go block by block, and so do short messages: there
+ *                   it is several times slower than either of the others
  *
  * The first two read at places that depend on the key and the text, so neither is for a machine on which others may watch
  * the caches. On the third, starts and luossavin_which go by gates as well, and a key is set up by gates whatever engine

@@ -119,7 +119,8 @@ impl fmt::Debug for Key {
 }
 
 /// How the rounds of SM4 are made, and nothing else: `docs/SPEED.md` has what each takes. Those with tables read at places
-/// that depend on the key and the text, so neither is for a machine on which others may watch the caches; that of gates is.
+/// that depend on the key and the text, so neither is for a machine on which others may watch the caches. That of gates is
+/// written so that it does not, which is looked at in the compiled library (`host/secrets`) and proved by nothing.
 #[derive(Clone, Copy, Debug, PartialEq, Eq, Hash)]
 #[non_exhaustive]
 pub enum Engine {
@@ -128,9 +129,9 @@ pub enum Engine {
     /// Four tables, 4 KiB that each call lays out on its stack: little more than half the instructions for a long
     /// message outside Gcm.
     Tables = 1,
-    /// Gates alone, with neither a look-up nor a branch by key or text. Up to 512 blocks are done at once, so it is the
-    /// fastest for long messages in Ctr and Gcm, and for decryption in Cfb and Cbc; elsewhere, and for short ones, it is
-    /// many times slower than the others.
+    /// Gates alone, with neither a look-up nor a branch by key or text. Up to 512 blocks are done at once, so that where it
+    /// was measured (`docs/SPEED.md`) it is the fastest of the three for long messages in Ctr and Gcm, and for decryption
+    /// in Cfb and Cbc; elsewhere, and for short ones, it is many times slower than the others.
     Gates = 2,
 }
 
