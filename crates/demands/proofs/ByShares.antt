@@ -162,8 +162,9 @@ range-passed k decrypt iv offset d o e =
     let dir = directionOf decrypt in
     let end = offset + length d in
     let first = keyAndIv (c .answer) (c .retired) dir Ctr (length iv) in
-    let all = both (andThen first (refuse (ltb limit end) TooLong Passed)) (refuse (ltb (length o) (length d)) NoRoom Passed) (zero-passed _ o _ e) in
-    let reach = both first (refuse (ltb limit end) TooLong Passed) (all .0) in (
+    let long = refuse (ltb limit end) TooLong Passed in
+    let all = both (andThen first long) (refuse (ltb (length o) (length d)) NoRoom Passed) (zero-passed _ o _ e) in
+    let reach = both first long (all .0) in (
       key-and-iv-passed (c .answer) (c .retired) dir Ctr (length iv) (reach .0),
       ltb-false limit end (let-through (ltb limit end) TooLong Passed (reach .1) .fails),
     )

@@ -19,10 +19,8 @@ use Rattle.ghash.specs.Ghash.{blockOf, blocksFrom, blocks, hashFrom}
 use Rattle.ghash.specs.Joined.{joined}
 use Rattle.counter.specs.Counter.{ctrNext}
 use Rattle.counter.proofs.Edges.{ctr-one-block, ctr-two-blocks}
-use Rattle.walk.specs.Walk.{walk, chain, over}
+use Rattle.walk.specs.Walk.{walk, chain}
 use Rattle.walk.specs.Outcome.{Head, Outcome, keyed, reporting, done}
-use Rattle.stream.specs.Stream.{streamMode}
-use Rattle.stream.specs.declared.Kind.the-variants.{Ctr as Ctr·kind}
 use Rattle.cipher_mode.specs.declared.CipherMode.{CipherMode}
 use Rattle.cipher_mode.specs.declared.CipherMode.the-variants.{Cfb, Ofb, Ctr, Cbc, Gcm}
 use Rattle.cipher_mode.specs.declared.Direction.the-variants.{Encrypt, Decrypt}
@@ -61,10 +59,11 @@ use Rattle.demands.specs.Served.{Asks, Served}
 use Rattle.demands.specs.ThereAndBack.{SameKey, Decryptable, ThereAndBack}
 use Rattle.demands.specs.InPieces.{CheckedAlike}
 use Rattle.demands.specs.OneBlockRefused.{OneBlockRefused}
-use Rattle.demands.specs.Imposters.{zeros, zeroKey, ones, ctr, refusesAll, constant, copies, firstBlockOnly, inventsLength, countsEveryStep}
-use Rattle.demands.specs.Imposters.{saysItRefused, tellsEngine, bindsNumber, forgetsNumber, takesAnyNumber, copiesAnew, throwsAway, marksAnew}
-use Rattle.demands.specs.Imposters.{labelUnseen, countsFromOne, leavesPart, fileFirst, fromTheBlock, streamAlone, markUnseen, planFirst}
-use Rattle.demands.specs.Imposters.{againstCurrent, marksFirst, countsBytes, twoEditions}
+use Rattle.demands.specs.Imposters.{zeros, zeroKey, ones, ctr, refusesAll, constant, copies, firstBlockOnly, inventsLength}
+use Rattle.demands.specs.Imposters.{countsEveryStep, saysItRefused, tellsEngine, bindsNumber, forgetsNumber, takesAnyNumber}
+use Rattle.demands.specs.Imposters.{copiesAnew, throwsAway, marksAnew, labelUnseen, countsFromOne, leavesPart, fileFirst}
+use Rattle.demands.specs.Imposters.{fromTheBlock, streamAlone, markUnseen, planFirst, againstCurrent, marksFirst, countsBytes}
+use Rattle.demands.specs.Imposters.{twoEditions}
 use Rattle.demands.specs.Halves.{IsValue, WholeBlocks, hashOfHalves}
 use Rattle.demands.specs.Retired.{StaysRetired, DecryptsAlike}
 use Rattle.demands.specs.EngineUnseen.{unmarkedHost}
@@ -103,8 +102,8 @@ nothing-asked m =
 pub refusing-all-serves-nobody : (m : CipherMode) (decryption : Call) → ¬ Served m refusesAll decryption
 refusing-all-serves-nobody m decryption s = absurd (omega (arith, s .sealing [] [] zeros zeros (nothing-asked m) .number))
 
--- And as decryption it breaks demand 2, with any usable and unretired key, in any mode and whatever room it is given: it does not give back the empty
--- message, encrypted without a label under an IV of zeros.
+-- And as decryption it breaks demand 2, with any usable and unretired key, in any mode and whatever room it is given: it does not give back
+-- the empty message, encrypted without a label under an IV of zeros.
 pub refusing-all-breaks-demand-2 : (mode : ℕ) (k : LuossavinKey) → mode ≤ 4 → k .answer ≡ 0 → k .retired ≡ 0 → (room : ℕ → ℕ)
     → ¬ ThereAndBack (λ (n : ℕ) (o : List ℕ). room n ≤ length o) (hostModeCall Encrypt mode k) refusesAll
 refusing-all-breaks-demand-2 mode k h a u room back =
@@ -128,6 +127,11 @@ ctr-leaves iv d o i l r =
     leaves Encrypt (modeIn zeroKey 2) [] d iv o
     (record { key = refl; iv-size = i; may = refl; label = refl; content = rw (le-ltb limit (length d) l); room = r })
 
+-- what encryption leaves of d, by its result
+given : (d o p : List ℕ) → length d ≤ limit → length d ≤ length o → encrypted Ctr (roundKeys zeros) [] d zeros ≡ p
+    → ctr zeroKey [] d zeros o ≡ left zeros d p o
+given d o p l r e = ctr-leaves zeros d o refl l r ∙ ap {B = Outcome} (λ (p : List ℕ). left zeros d p o) e
+
 one-byte : encrypted Ctr (roundKeys zeros) [] (0 ∷ []) zeros ≡ 0x9f ∷ []
 unfolding chain walk
 one-byte = rw zero-block
@@ -147,8 +151,8 @@ pub constant-contradicts : (x : Outcome) → constant x [] (0 ∷ []) zeros (0 �
     → constant x [] (1 ∷ []) zeros (0 ∷ []) ≢ ctr zeroKey [] (1 ∷ []) zeros (0 ∷ [])
 constant-contradicts x e f =
     let o : List ℕ = 0 ∷ [] in
-    let g = ctr-leaves zeros (0 ∷ []) o refl (omega arith) (omega arith) ∙ ap {B = Outcome} (λ (p : List ℕ). left zeros (0 ∷ []) p o) one-byte in
-    let h = ctr-leaves zeros (1 ∷ []) o refl (omega arith) (omega arith) ∙ ap {B = Outcome} (λ (p : List ℕ). left zeros (1 ∷ []) p o) another-byte in
+    let g = given (0 ∷ []) o (0x9f ∷ []) (omega arith) (omega arith) one-byte in
+    let h = given (1 ∷ []) o (0x9e ∷ []) (omega arith) (omega arith) another-byte in
     let z : _≡_ {A = ℕ} 0x9f 0x9e = ap (λ (y : Outcome). getD (y .bytes) 0 0) (sym (e ∙ g) ∙ f ∙ h) in
     absurd (omega arith)
 
@@ -156,7 +160,7 @@ constant-contradicts x e f =
 pub copy-contradicts : copies [] (0 ∷ []) zeros (0 ∷ []) ≢ ctr zeroKey [] (0 ∷ []) zeros (0 ∷ [])
 copy-contradicts e =
     let o : List ℕ = 0 ∷ [] in
-    let f = ctr-leaves zeros o o refl (omega arith) (omega arith) ∙ ap {B = Outcome} (λ (p : List ℕ). left zeros o p o) one-byte in
+    let f = given o o (0x9f ∷ []) (omega arith) (omega arith) one-byte in
     let g : _≡_ {A = ℕ} 0 0x9f = ap (λ (x : Outcome). getD (x .bytes) 0 0) (e ∙ f) in
     absurd (omega arith)
 
@@ -166,7 +170,7 @@ pub first-block-only-contradicts :
     firstBlockOnly zeroKey [] (replicate 17 0) zeros (replicate 17 0) ≢ ctr zeroKey [] (replicate 17 0) zeros (replicate 17 0)
 first-block-only-contradicts e =
     let d : List ℕ = replicate 17 0 in
-    let g = ctr-leaves zeros d d refl (omega arith) (omega arith) ∙ ap {B = Outcome} (λ (p : List ℕ). left zeros d p d) seventeen-bytes in
+    let g = given d d _ (omega arith) (omega arith) seventeen-bytes in
     let f = ap {B = Outcome} (λ (x : Outcome). done (take 16 (result x) ++ drop 16 d) d) g in
     let z : _≡_ {A = ℕ} 0 0x23 = ap (λ (x : Outcome). getD (x .bytes) 16 0) (sym f ∙ e ∙ g) in
     absurd (omega arith)
@@ -174,14 +178,16 @@ first-block-only-contradicts e =
 -- A length of its own invention, the output's, breaks the table of lengths at no data with an output of one byte: the table
 -- says 0.
 pub invented-length-breaks-the-table :
-    ¬ ((label d iv o : List ℕ) → Answered singleNumbers 1 o (lengthOf Ctr Encrypt (zeroKey .«round_keys») iv d) (inventsLength zeroKey label d iv o))
+    ¬ ((label d iv o : List ℕ)
+    → Answered singleNumbers 1 o (lengthOf Ctr Encrypt (zeroKey .«round_keys») iv d) (inventsLength zeroKey label d iv o))
 invented-length-breaks-the-table claim =
     let done-there = ap (λ (x : Outcome). x .head .number) (ctr-leaves zeros [] (0 ∷ []) refl (omega arith) (omega arith)) in
     absurd (omega (arith, claim [] [] zeros (0 ∷ []) .reported done-there))
 
 -- Counting the step after the last block is told by one byte under the IV of sixteen bytes ff: its one block has no step after it.
 pub every-step-is-told :
-    ¬ ((label d iv o : List ℕ) → Says (roundOf Ctr Encrypt (zeroKey .«round_keys») iv (length d)) (countsEveryStep zeroKey label d iv o .head))
+    ¬ ((label d iv o : List ℕ)
+    → Says (roundOf Ctr Encrypt (zeroKey .«round_keys») iv (length d)) (countsEveryStep zeroKey label d iv o .head))
 every-step-is-told claim =
     let o : List ℕ = 0 ∷ [] in
     let left = ctr-leaves ones o o refl (omega arith) (omega arith) in
@@ -192,7 +198,8 @@ every-step-is-told claim =
 
 -- A yes beside a refusal is told by seventeen bytes under that IV and an output of none: 6 says nothing of a counter.
 pub yes-refused-is-told :
-    ¬ ((label d iv o : List ℕ) → Says (roundOf Ctr Encrypt (zeroKey .«round_keys») iv (length d)) (saysItRefused zeroKey label d iv o .head))
+    ¬ ((label d iv o : List ℕ)
+    → Says (roundOf Ctr Encrypt (zeroKey .«round_keys») iv (length d)) (saysItRefused zeroKey label d iv o .head))
 unfolding hostModeCall modeOf modeCall messageCheck keyAndIv dataCheck roomCheck hostKeyNew keyOf cipherIn keyAnswerOf newCipher
 yes-refused-is-told claim =
     let d : List ℕ = replicate 17 0 in
@@ -280,7 +287,8 @@ module _ (k : LuossavinKey) (a : k .answer ≡ 0) (u : k .retired ≡ 0) (n : �
   unfolding keyAndIv cipherIn keyAnswerOf
   starts-anyway label = rw (a, u)
 
-  label-told : ¬ ((label iv : List ℕ) → CheckedAlike Seal [] 16 (0 ∷ []) (labelUnseen k label iv) (λ d o. hostModeCall Encrypt 4 k label d iv o))
+  label-told : ¬ ((label iv : List ℕ)
+      → CheckedAlike Seal [] 16 (0 ∷ []) (labelUnseen k label iv) (λ d o. hostModeCall Encrypt 4 k label d iv o))
   label-told claim =
       let label : List ℕ = replicate n 0 in
       let z : _≡_ {A = Bool} false true =
@@ -317,7 +325,8 @@ counting-from-one-is-told k a u claim =
     let c = cipherIn k in
     let same : SameKey k k = record { keys = refl; answer = refl } in
     let file = result (hostModeCall Encrypt 4 k [] [] zeros zeros) in
-    let back = exported-served 4 k k (omega arith) a u same .opening [] [] zeros zeros zeros (nothing-asked Gcm) tt zeros-bytes (omega arith) .number in
+    let s = exported-served 4 k k (omega arith) a u same in
+    let back = s .opening [] [] zeros zeros zeros (nothing-asked Gcm) tt zeros-bytes (omega arith) .number in
     let p = through Decrypt (inGcm c) [] file zeros zeros back in
     let asked : Asked c file zeros [] (0 ∷ []) =
     record { list = refl; checks = one-candidate-passes (c .answer) (c .retired) (length file) (p .key) (p .content) } in
@@ -350,8 +359,8 @@ pub file-first-contradicts : (k : LuossavinKey) → k .answer ≡ 0
     → ¬ ((file iv labels lengths : List ℕ) → fileFirst k file iv labels lengths ≡ hostWhich k file iv labels lengths)
 file-first-contradicts k a = told-apart k a (limit + 1) refl
 
--- A range from the block's start is no stretch of the whole, at the second of two zero bytes under the key of sixteen zero bytes: it becomes
--- 1f, and 9f at the block's start.
+-- A range from the block's start is no stretch of the whole, at the second of two zero bytes under the key of sixteen zero bytes: it
+-- becomes 1f, and 9f at the block's start.
 two-bytes : encrypted Ctr (roundKeys zeros) [] (0 ∷ 0 ∷ []) zeros ≡ 0x9f ∷ 0x1f ∷ []
 unfolding chain walk
 two-bytes = rw zero-block
@@ -369,15 +378,16 @@ first-byte iv b i e = rw (i, e)
 pub from-the-block-contradicts : ¬ StretchOfWhole fromTheBlock ctrCall
 from-the-block-contradicts claim =
     let o : List ℕ = 0 ∷ 0 ∷ [] in
-    let single = ctr-leaves zeros o o refl (omega arith) (omega arith) ∙ ap {B = Outcome} (λ (p : List ℕ). left zeros o p o) two-bytes in
-    let e = claim .stretch zeroKey false [] zeros (0 ∷ []) (0 ∷ []) [] (0 ∷ []) o (omega arith) (ap (λ (x : Outcome). x .head .number) single) .1 in
+    let single = given o o (0x9f ∷ 0x1f ∷ []) (omega arith) (omega arith) two-bytes in
+    let done-there = ap (λ (x : Outcome). x .head .number) single in
+    let e = claim .stretch zeroKey false [] zeros (0 ∷ []) (0 ∷ []) [] (0 ∷ []) o (omega arith) done-there .1 in
     let z : _≡_ {A = ℕ} 0x9f 0x1f =
     ap (λ (l : List ℕ). getD l 0 0)
     (sym (first-byte zeros 0x9f refl one-byte) ∙ e ∙ ap (λ (x : Outcome). take 1 (drop 1 (result x))) single) in
     absurd (omega arith)
 
--- The key stream alone does not commute, at one zero byte under the IVs of zeros and of the number 1: the last of the two stands there, 9f or
--- 23.
+-- The key stream alone does not commute, at one zero byte under the IVs of zeros and of the number 1: the last of the two stands there, 9f
+-- or 23.
 abbrev firstOf : List ℕ → Applying
 firstOf iv = record { key = zeroKey; decrypt = false; iv = iv; share = record { start = 0; size = 1 }; out = 0 ∷ [] }
 

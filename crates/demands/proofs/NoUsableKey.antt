@@ -14,7 +14,7 @@ use Rattle.cipher_mode.specs.declared.answer.Refusal.{Refusal}
 use Rattle.cipher_mode.specs.declared.answer.Refusal.the-variants.{ErrorBlockSize, WrongNumber}
 use Rattle.cipher_mode.specs.declared.checks.Checked.the-variants.{Refused}
 use Rattle.cipher_mode.specs.Answer.{refusalHead}
-use Rattle.cipher_mode.specs.Key.{keyNumber, newCipher}
+use Rattle.cipher_mode.specs.Key.{keyNumber}
 use Rattle.cipher_mode.specs.Checks.{keyCheck, keyAndIv, blockCheck, messageCheck}
 use Rattle.cipher_mode.specs.Calls.{blockCall, modeCall}
 use Rattle.pieces.specs.Checks.{gcmStarting}
@@ -30,26 +30,25 @@ use Rattle.luossavin.specs.InPieces.{hostCtrStart, hostSealStart, hostOpensStar
 use Rattle.luossavin.specs.Which.{hostWhich}
 use Rattle.luossavin.specs.Ranges.{hostCtrRange, hostCtrByPlan}
 use Rattle.demands.specs.NoUsableKey.{NoUsableKey}
-use Rattle.demands.proofs.Through.{refused-as}
 use Rattle.demands.proofs.EveryCallAnswers.{new-cipher-answers}
 
 -- by what the check of the key says
 module _ (k : LuossavinKey) (n : ℕ) (r : Refusal) (check : keyCheck (cipherIn k .answer) ≡ Refused r) (head : refusalHead r ≡ refusal n)
     (none : keyNumber (cipherIn k) ≡ 0) where
   turned-away : NoUsableKey n k
-  unfolding hostBlockCall blockCall blockCheck hostModeCall modeCall messageCheck keyAndIv hostCtrStart ctrStart hostSealStart sealStart gcmStarting
-      hostOpensStart opensStart hostWhich which searchCheck hostCtrRange rangeCall rangeCheck reachCheck hostCtrByPlan planCall callInto
+  unfolding hostBlockCall blockCall blockCheck hostModeCall modeCall messageCheck keyAndIv hostCtrStart ctrStart hostSealStart sealStart
+      gcmStarting hostOpensStart opensStart hostWhich which searchCheck hostCtrRange rangeCall rangeCheck reachCheck hostCtrByPlan planCall callInto
   turned-away =
       record {
-        block = λ dir b o. refused-as 0 n o _ (rw (check, head, none));
-        message = λ dir mode h label d iv o. refused-as 0 n o _ (rw (le-ltb 4 mode h, check, head, none));
+        block = λ dir b o. rw (check, head, none);
+        message = λ dir mode h label d iv o. rw (le-ltb 4 mode h, check, head, none);
         ctr = λ decrypt iv. rw (check, head, none);
         sealing = λ label iv. rw (check, head, none);
         opening = λ label iv. rw (check, head, none);
         which = λ file iv labels lengths good. rw (good, check, head, none);
-        range = λ decrypt iv offset d o. refused-as 0 n o _ (rw (check, head, none));
-        by-plan = λ decrypt iv plan d o. refused-as 0 n o _ (rw (check, head, none));
-        replay = λ keys e named h. refused-as 0 n _ _ (rw (le-ltb 4 (e .mode) h, named, check, head, none));
+        range = λ decrypt iv offset d o. rw (check, head, none);
+        by-plan = λ decrypt iv plan d o. rw (check, head, none);
+        replay = λ keys e named h. rw (le-ltb 4 (e .mode) h, named, check, head, none);
       }
 
 -- Whatever else a host's record holds: where its answer is not 0, every call on it answers 13 if that is 13, and otherwise 1.

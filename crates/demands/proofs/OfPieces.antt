@@ -34,7 +34,8 @@ use Rattle.pieces.specs.declared.opens.Opens.{Opens}
 use Rattle.pieces.specs.declared.seal.Seal.{Seal}
 use Rattle.pieces.specs.Checks.{gcmStarting}
 use Rattle.pieces.specs.States.{ctrAfter, ctrShut, sealAfter, sealShut, opensAfter, opensShut}
-use Rattle.pieces.specs.Calls.{Stepped, stepOn, begun, goesOn, ctrStart, ctrPiece, ctrEnd, sealStart, sealPiece, sealEnd, opensStart, opensPiece, opensEnd}
+use Rattle.pieces.specs.Calls.{Stepped, stepOn, begun, goesOn, ctrStart, ctrPiece, ctrEnd, sealStart, sealPiece, sealEnd}
+use Rattle.pieces.specs.Calls.{opensStart, opensPiece, opensEnd}
 use Rattle.pieces.proofs.Passing.{starting-passed, running-passed, writing-passed, tagged-passed}
 use Rattle.pieces.proofs.CtrInPieces.{ctr-started}
 use Rattle.pieces.proofs.SealInPieces.{seal-started}
@@ -45,10 +46,12 @@ use Rattle.luossavin.specs.Host.{hostModeCall}
 use Rattle.luossavin.specs.InPieces.{directionOf, hostCtrStart, hostSealStart, hostOpensStart}
 use Rattle.demands.specs.Answered.{oneOf}
 use Rattle.demands.specs.Call.{inGcm}
-use Rattle.demands.specs.InPieces.{stateAfter, AllZero, Piece, onto, whole, Roomy, joined, CtrOfPieces, SealOfPieces, OpensOfPieces, CheckedAlike}
-use Rattle.demands.proofs.Through.{passed-start, through, leaves}
-use Rattle.demands.proofs.OtherHash.{Fits, gcm-in-order}
-use Rattle.demands.proofs.InPieces.{Goes, went, ctr-goes, seal-goes, took, started, opens-starts, ctr-in-pieces, seal-in-pieces, opens-in-pieces}
+use Rattle.demands.specs.InPieces.{stateAfter, AllZero, Piece, onto, whole, Roomy, joined}
+use Rattle.demands.specs.InPieces.{CtrOfPieces, SealOfPieces, OpensOfPieces, CheckedAlike}
+use Rattle.demands.proofs.Through.{passed-start, leaves}
+use Rattle.demands.proofs.OtherHash.{gcm-in-order}
+use Rattle.demands.proofs.InPieces.{Goes, went, ctr-goes, seal-goes, took, started, opens-starts}
+use Rattle.demands.proofs.InPieces.{ctr-in-pieces, seal-in-pieces, opens-in-pieces}
 
 -- a piece or an end that answered 0 has passed
 passed-on : (S : Type 0) (k : Checked) (o : List ℕ) (s : S) (next : Stepped S) → goesOn S k o s next .head .number ≡ 0 → k ≡ Passed
@@ -207,7 +210,8 @@ opens-of c cs label iv tag o room e z last =
     let zs = subst (λ (x : Stepped Opens). AllZero Opens (List ℕ) opensPiece (x .state) cs) start z in
     let within = all-taken i rk label iv (s .label-fits) [] cs (omega arith) zs in
     let k = took i rk label iv (s .label-fits) [] cs (omega arith) in
-    let end = subst (λ (x : Stepped Opens). opensEnd (stateAfter Opens (List ℕ) opensPiece (x .state) cs) tag .head .number ≡ 0) start last in
+    let end =
+    subst (λ (x : Stepped Opens). opensEnd (stateAfter Opens (List ℕ) opensPiece (x .state) cs) tag .head .number ≡ 0) start last in
     let sixteen = tag-size i rk label iv (joined cs) tag (subst (λ (s : Opens). opensEnd s tag .head .number ≡ 0) (k .state) end) in
     sym (opens-in-pieces c cs label iv tag o (omega arith) room sixteen e .1) ∙ last
 

@@ -24,7 +24,7 @@ use Rattle.pieces.specs.Calls.{ctrStart, sealStart, opensStart}
 use Rattle.editions.specs.Which.{which, searchCheck}
 use Rattle.ranges.specs.Range.{reachCheck, rangeCheck, rangeCall}
 use Rattle.ranges.specs.ByPlan.{planCall}
-use Rattle.journal.specs.KeyList.{anyRetired, numberTwice, badKeys}
+use Rattle.journal.specs.KeyList.{anyRetired, badKeys}
 use Rattle.journal.specs.Replay.{replay}
 use Rattle.luossavin.specs.declared.key.LuossavinKey.{LuossavinKey}
 use Rattle.luossavin.specs.declared.journals.LuossavinKeys.{LuossavinKeys}
@@ -34,7 +34,6 @@ use Rattle.luossavin.specs.InPieces.{hostCtrStart, hostSealStart, hostOpensStar
 use Rattle.luossavin.specs.Which.{hostWhich}
 use Rattle.luossavin.specs.Ranges.{hostCtrRange, hostCtrByPlan}
 use Rattle.luossavin.specs.Journals.{keysOf, hostReplay}
-use Rattle.demands.specs.InTheJournal.{badKeysTold}
 use Rattle.demands.specs.Retired.{StaysRetired, DecryptsAlike, EncryptsNothing}
 use Rattle.demands.proofs.Through.{zero-passed, block-through, through, passed-start}
 
@@ -52,7 +51,8 @@ unfolding hostKeyRetire
 retired-no-key k n = rw (ne-eqb (k .answer) 0 n)
 
 -- so what holds of either holds of what is retired;
-pub retired-by : (P : LuossavinKey → Type 0) (k : LuossavinKey) → (k .answer ≡ 0 → P (retiredOf k)) → (k .answer ≢ 0 → P k) → P (hostKeyRetire k)
+pub retired-by : (P : LuossavinKey → Type 0) (k : LuossavinKey) → (k .answer ≡ 0 → P (retiredOf k)) → (k .answer ≢ 0 → P k)
+    → P (hostKeyRetire k)
 retired-by P k of-key of-none = by (eqb (k .answer) 0) refl
   where
     by : (t : Bool) → eqb (k .answer) 0 ≡ t → P (hostKeyRetire k)
@@ -158,7 +158,8 @@ unfolding cipherIn
 marked k n = rw (ne-eqb (k .retired) 0 n)
 
 pub retired-encrypts-nothing : (k : LuossavinKey) → k .retired ≢ 0 → EncryptsNothing k
-unfolding hostBlockCall hostModeCall hostCtrStart ctrStart hostSealStart sealStart hostCtrRange rangeCall hostCtrByPlan planCall hostReplay replay
+unfolding hostBlockCall hostModeCall hostCtrStart ctrStart hostSealStart sealStart hostCtrRange rangeCall hostCtrByPlan planCall hostReplay
+    replay
 retired-encrypts-nothing k n =
     let c = cipherIn k in
     let r = marked k n in

@@ -167,7 +167,8 @@ by-found : (t : Bool) (a b : Verdict) → a .head ≡ finished 0 → b .head ≡
 by-found true a b e f = e
 by-found false a b e f = f
 
-searched : (test : List ℕ → Bool) (labels lengths : List ℕ) (place start : ℕ) → firstOpening test labels lengths place start .head ≡ finished 0
+searched : (test : List ℕ → Bool) (labels lengths : List ℕ) (place start : ℕ)
+    → firstOpening test labels lengths place start .head ≡ finished 0
 unfolding firstOpening
 searched test labels [] place start = refl
 searched test labels (n ∷ ns) place start =

@@ -1,7 +1,6 @@
--- Ranges and plans, as a host is handed them: which number each call answers, that one answer is allowed alone, and that nothing is said of
--- a counter.
+-- Ranges and plans, as a host is handed them: which number each call answers, and that nothing is said of a counter.
 -- Assumes nothing.
-use mathlib.Core.Path.{_≡_, refl, sym, ap, _∙_}
+use mathlib.Core.Path.{_≡_, refl, ap, _∙_}
 use mathlib.Core.Bool.{Bool, true, false, not, cond, _||_}
 use mathlib.Core.List.{List, [], _∷_}
 use Prim.Native.Nat.{ℕ, _+_}
@@ -25,16 +24,13 @@ use Rattle.ranges.specs.Plan.{accepts, planOf, without, planned}
 use Rattle.ranges.specs.Range.{stretch, reachCheck, rangeCheck, rangeCall}
 use Rattle.ranges.specs.ByPlan.{planCall}
 use Rattle.luossavin.specs.declared.key.LuossavinKey.{LuossavinKey}
-use Rattle.luossavin.specs.declared.workers.LuossavinPlanned.{LuossavinPlanned}
 use Rattle.luossavin.specs.Key.{cipherIn}
 use Rattle.luossavin.specs.InPieces.{directionOf}
-use Rattle.luossavin.specs.Ranges.{Handed, makingHead, plannedReported, hostPlanMake, hostCtrRange, hostCtrByPlan}
+use Rattle.luossavin.specs.Ranges.{makingHead, hostPlanMake, hostCtrRange, hostCtrByPlan}
 use Rattle.demands.specs.CameRound.{Says}
-use Rattle.demands.specs.OneOutcome.{OneReport}
 use Rattle.demands.specs.WhichNumber.{Said, saidIn, only, row, firstOf, keyRows, retiredRows}
 use Rattle.demands.specs.Workers.{rangeRows, planRows, makeRows}
 use Rattle.demands.proofs.CameRound.{quiet, on-key, behind as says-behind}
-use Rattle.demands.proofs.UniqueOutcomes.{one-report, one-host-answer}
 use Rattle.demands.proofs.WhichNumber.{orElse, first-append, behind, from-key}
 use Rattle.demands.proofs.WhichNumber.{number-checked, number-front, number-refuse, number-then}
 
@@ -102,23 +98,6 @@ pub exported-make-number : (n workers : ℕ) → saidIn (hostPlanMake n workers 
 unfolding hostPlanMake planned
 exported-make-number n workers =
     made-said (eqb workers 0 || ltb 64 workers) (ltb limit n) (record { making = Made; plan = planOf n workers }) refl
-
--- Any two answers and outputs that the contracts allow coincide, and so do any two plans that are handed out.
-pub unique-exported-range : (k : LuossavinKey) (decrypt : Bool) (iv : List ℕ) (offset : ℕ) (d o : List ℕ)
-    → OneReport (hostCtrRange k decrypt iv offset d o)
-unique-exported-range k decrypt iv offset d o = one-report (hostCtrRange k decrypt iv offset d o)
-
-pub unique-exported-by-plan : (k : LuossavinKey) (decrypt : Bool) (iv : List ℕ) (plan : Plan) (d o : List ℕ)
-    → OneReport (hostCtrByPlan k decrypt iv plan d o)
-unique-exported-by-plan k decrypt iv plan d o = one-report (hostCtrByPlan k decrypt iv plan d o)
-
-pub unique-exported-plan : (x : Handed) (r₁ r₂ : LuossavinPlanned)
-    → plannedReported r₁ ≡ x → plannedReported r₂ ≡ x → r₁ ≡ r₂
-unique-exported-plan x r₁ r₂ e₁ e₂ =
-    let e = e₁ ∙ sym e₂ in
-    ap {B = LuossavinPlanned} (λ a. record { answer = a; plan = r₁ .plan })
-    (one-host-answer (r₁ .answer) (r₂ .answer) (ap (λ (h : Handed). h .head) e))
-    ∙ ap {B = LuossavinPlanned} (λ (p : Plan). record { answer = r₂ .answer; plan = p }) (ap (λ (h : Handed). h .plan) e)
 
 -- Nothing is said of a counter.
 gated : (t : Bool) (n : ℕ) (o : List ℕ) (next : Outcome) → next .head .cameRound ≡ 0 → refuseAs t n o next .head .cameRound ≡ 0

@@ -138,7 +138,8 @@ OpensInPieces S start piece end single =
     × TellsAlike S (end (stateAfter S (List ℕ) piece (start label iv .state) cs) tag) (single label (joined cs ++ tag) iv o)
 
 -- The other way about: where start, pieces and end all answer 0, so does the single call, given room.
-abbrev pub OpensOfPieces : (S : Type 0) → (List ℕ → List ℕ → Stepped S) → (S → List ℕ → Stepped S) → (S → List ℕ → Stepped S) → Call → Type 0
+abbrev pub OpensOfPieces : (S : Type 0) → (List ℕ → List ℕ → Stepped S) → (S → List ℕ → Stepped S) → (S → List ℕ → Stepped S) → Call
+    → Type 0
 OpensOfPieces S start piece end single =
     (cs : List (List ℕ)) (label iv tag o : List ℕ) → length (joined cs) ≤ length o
     → start label iv .head .number ≡ 0 → AllZero S (List ℕ) piece (start label iv .state) cs

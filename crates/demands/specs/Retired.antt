@@ -1,4 +1,5 @@
--- Retired keys, as properties of any function that hands back a host's record and of any record that is retired. Its mark is any byte but 0.
+-- Retired keys, as properties of any function that hands back a host's record and of any record that is retired. Its mark is any byte but
+-- 0.
 use mathlib.Core.Path.{_≡_}
 use mathlib.Core.Logic.{_≢_}
 use mathlib.Core.Bool.{true, false}

@@ -113,7 +113,8 @@ module _ (c : Sm4Cipher) (file iv labels lengths : List ℕ) where
       record {
         asked = asked;
         first = rw whole (found .0);
-        inside = rw whole (rw (found .1) (candidate-inside lengths _ (length labels) (found .0 .inside) (adds-up labels lengths (asked .list))));
+        inside = rw whole
+            (rw (found .1) (candidate-inside lengths _ (length labels) (found .0 .inside) (adds-up labels lengths (asked .list))));
         there = rw whole (rw (found .1));
         part = rw whole (rw (found .1) (part-of _ (found .0 .inside) (asked .list)));
       }
