@@ -5,7 +5,7 @@ use mathlib.Core.Path.{_≡_, refl, sym, ap, subst, _∙_}
 use mathlib.Core.Logic.{_≢_, _⊎_, inl, inr}
 use mathlib.Core.Bool.{Bool, true, false, cond}
 use mathlib.Core.List.{List, [], _∷_}
-use Prim.Native.Nat.{ℕ, zero, suc, _+_, _-_, _^_, _≤_, _<_}
+use Prim.Native.Nat.{ℕ, zero, suc, _-_, _^_, _≤_, _<_}
 use native.Mathlib.Omega.{arith}
 use lib.Dec.{ltb}
 use lib.ListN.{length, getD, take, drop, length-take}
@@ -24,10 +24,10 @@ use Rattle.cipher_mode.specs.Calls.{modeCall}
 use Rattle.cipher_mode.proofs.Passed.{data-within, with-tag-passed}
 use Rattle.cipher_mode.proofs.Refusals.{refuses}
 use Rattle.editions.specs.Candidates.{badList, anyTooLong, labelAt}
-use Rattle.editions.specs.Which.{Verdict, foundAt, noneWith, onKey, firstOpening, searchCheck, checkedVerdict, opensWith, which}
+use Rattle.editions.specs.Which.{Verdict, noneWith, onKey, firstOpening, searchCheck, checkedVerdict, opensWith, which}
 use Rattle.editions.proofs.Turns.{or-false}
 use Rattle.editions.proofs.Passed.{search-passed}
-use Rattle.editions.proofs.FirstOpening.{IsFirst}
+use Rattle.editions.proofs.FirstOpening.{IsFirst, search-number}
 use Rattle.editions.proofs.WhichOpens.{Asked, first-opens, none-opens, found-opens, none-found, zero-unless-found, done-asked}
 use Rattle.label.specs.Label.{labelOf}
 use Rattle.luossavin.specs.declared.key.LuossavinKey.{LuossavinKey}
@@ -162,18 +162,7 @@ the-edition k file iv labels lengths o room moves e j₁ j₂ e₁ e₂ hj₁ hj
     exported-other-edition-refused k moves j₁ j₂ e₁ e₂ file iv o o hj₁ hj₂ he₁ he₂ other refl
     (subst (λ (l : List ℕ). hostModeCall Decrypt 4 k l file iv o .head .number ≡ 0) label (t .found e .opens))
 
--- a search reports nothing but that it is done
-by-found : (t : Bool) (a b : Verdict) → a .head ≡ finished 0 → b .head ≡ finished 0 → cond t a b .head ≡ finished 0
-by-found true a b e f = e
-by-found false a b e f = f
-
-searched : (test : List ℕ → Bool) (labels lengths : List ℕ) (place start : ℕ)
-    → firstOpening test labels lengths place start .head ≡ finished 0
-unfolding firstOpening
-searched test labels [] place start = refl
-searched test labels (n ∷ ns) place start =
-    by-found (test (take n labels)) (foundAt place start n) _ refl (searched test (drop n labels) ns (place + 1) (start + n))
-
+-- a search reports nothing but that it is done, and a refusal no candidate
 no-size : (k : Checked) (v : Verdict) → v .head ≡ finished 0 → checkedVerdict k v .head .size ≡ 0
 no-size Passed v e = ap (λ (h : Head). h .size) e
 no-size (Refused r) v e = refuses r .no-size
@@ -190,16 +179,13 @@ module _ (c : Sm4Cipher) (file iv labels lengths : List ℕ) where
       (checkedVerdict (searchCheck (c .answer) (c .retired) (length iv) (length file) lengths)
       (firstOpening (opensWith c iv file) labels lengths 0 0)))
 
-  abbrev done-searching : firstOpening (opensWith c iv file) labels lengths 0 0 .head ≡ finished 0
-  done-searching = searched (opensWith c iv file) labels lengths 0 0
-
   told-size : (bad : Bool) → told bad .head .size ≡ 0
   told-size true = refl
-  told-size false = no-size (searchCheck (c .answer) (c .retired) (length iv) (length file) lengths) _ done-searching
+  told-size false = no-size (searchCheck (c .answer) (c .retired) (length iv) (length file) lengths) _ (search-number (opensWith c iv file) labels lengths)
 
   told-refused : (bad : Bool) → told bad .head .number ≢ 0 → told bad .found ≡ false
   told-refused true n = refl
-  told-refused false n = some-place (searchCheck (c .answer) (c .retired) (length iv) (length file) lengths) _ done-searching n
+  told-refused false n = some-place (searchCheck (c .answer) (c .retired) (length iv) (length file) lengths) _ (search-number (opensWith c iv file) labels lengths) n
 
   answered : WhichAnswered (keyNumber c) labels lengths (toldOf (which c file iv labels lengths))
   unfolding which
