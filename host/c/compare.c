@@ -231,7 +231,7 @@ static uint32_t compare_under(const struct record *r, struct luossavin_key key, 
     return due.number;
 }
 
-/* Under the key, on each engine; every third time then under the key retired, on one of them in turn. */
+/* Under the key, with each mark of an engine; every third time then under the key retired, with one of them in turn. */
 static void compare_archive(const struct record *r, uint32_t index)
 {
     /* the least room and more than that, by turns; what lies past the room must stay as it is too */
@@ -239,8 +239,8 @@ static void compare_archive(const struct record *r, uint32_t index)
     uint32_t number = 1 + index % 65535;
     struct luossavin_key key = luossavin_key_new(r->key.bytes, r->key.length, 1);
     tally[ARCHIVE].compared++;
-    for (uint32_t engine = 0; engine < ENGINES; engine++) {
-        compare_under(r, luossavin_key_engine(key, engine), set_up(r->key.length, 1), slack);
+    for (uint32_t mark = 0; mark < ENGINES; mark++) {
+        compare_under(r, luossavin_key_engine(key, mark), set_up(r->key.length, 1), slack);
     }
     if (r->data.length >= BATCH) {
         batches++;

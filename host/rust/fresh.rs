@@ -91,14 +91,22 @@ fn short(random: &mut Random) -> Call {
     call
 }
 
-/// Mostly a few blocks, and now and then some hundred bytes or some thousand. One in ten is about a length where the gates
-/// begin or end a batch of blocks, and three in a thousand are of many batches.
+/// Mostly a few blocks, and now and then some hundred bytes or some thousand. One in twelve is about a length where the engine of gates
+/// begins or ends a batch of blocks, one in fifty is spread over all lengths, with any rest behind any number of batches, and three in a
+/// thousand are of many batches.
 fn text_length(random: &mut Random) -> usize {
     match random.below(1000) {
         0..=2 => MANY_BATCHES - 17 + random.below(LONGEST_FRESH - MANY_BATCHES + 18),
-        3..=99 => about_a_batch(random),
+        3..=82 => about_a_batch(random),
+        83..=102 => spread(random),
         _ => short_length(random),
     }
+}
+
+/// Up to 256, 512, and so on to 131,072 bytes, one of these as often as another.
+fn spread(random: &mut Random) -> usize {
+    let most = 256 << random.below(10);
+    random.below(most + 1)
 }
 
 /// The same without the longest: Gcm hashes a label as it hashes a text.

@@ -120,7 +120,8 @@ impl fmt::Debug for Key {
 }
 
 /// How the rounds of SM4 are made, and nothing else: `docs/SPEED.md` has what each takes. Tables are read at places that
-/// depend on the key and the text, and so are not for a machine on which others may watch the caches; the gates are.
+/// depend on the key and the text, and so are not for a machine on which others may watch the caches. The gates are
+/// written so that they are not, which is looked at in the compiled library (`host/secrets`) and proved by nothing.
 #[derive(Clone, Copy, Debug, Default, PartialEq, Eq, Hash)]
 #[non_exhaustive]
 pub enum Engine {

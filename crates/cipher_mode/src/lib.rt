@@ -144,24 +144,23 @@ impl Sm4Cipher {
         }
     }
 
-    // The record retired: it decrypts and encrypts no more. There is no way back.
+    // The record retired: it decrypts and encrypts no more. There is no way back. What is no key stays what it was.
     pub fn retire(self) -> Sm4Cipher
         ensures { λ r. ⌜ r ≡ retire self ⌝ }
     {
         let answer = self.answer;
+        let KeyAnswer::Key = answer else {
+            return self;
+        };
         let rk = self.rk;
         let number = self.number;
         let engine = self.engine;
-        match answer {
-            KeyAnswer::Key => Sm4Cipher {
-                rk,
-                answer: KeyAnswer::Key,
-                number,
-                retired: true,
-                engine,
-            },
-            KeyAnswer::ErrorBlockSize => self,
-            KeyAnswer::WrongNumber => self,
+        Sm4Cipher {
+            rk,
+            answer: KeyAnswer::Key,
+            number,
+            retired: true,
+            engine,
         }
     }
 

@@ -1,5 +1,6 @@
 -- Ranges and plans beside the single call: work by an accepted plan has its outcome, but for the report of a counter; a range is its
--- stretch of what the single call gives; and workers who each do their share of an accepted plan, in any order, leave its bytes.
+-- stretch of what the single call gives; two ranges applied to one text give the same in either order; and workers who each do their
+-- share of an accepted plan, in any order, leave the single call's bytes.
 -- Assumes nothing.
 use mathlib.Core.Path.{_≡_, refl, sym, ap, _∙_}
 use mathlib.Core.Bool.{Bool, true, false}
@@ -8,9 +9,8 @@ use Prim.Native.Nat.{ℕ, zero, suc, _+_, _-_, _≤_, min}
 use native.Mathlib.Omega.{arith}
 use lib.Dec.{ltb}
 use lib.ListN.{length, take, drop, length-append, length-take, length-drop}
-use lib.Seq.{drop-append-le, drop-drop}
+use lib.Seq.{take-at, drop-at, drop-append-le, drop-drop}
 use borrow.Author.Tests.{ltb-true, ltb-false, le-ltb}
-use Rattle.block.specs.Below.{AreBytes}
 use Rattle.walk.specs.Outcome.{Head, Outcome, leaving, under, keyed, reporting, refuse as refuseAs, done}
 use Rattle.walk.specs.Walk.{chain, over}
 use Rattle.stream.specs.Stream.{streamMode}
@@ -26,16 +26,18 @@ use Rattle.cipher_mode.specs.Tables.{limit, modeOf}
 use Rattle.cipher_mode.specs.Key.{keyNumber}
 use Rattle.cipher_mode.specs.Checks.{refuse, andThen, keyAndIv, dataCheck, roomCheck, messageCheck, checked}
 use Rattle.cipher_mode.specs.Calls.{lengthsOf, modeResult, modeCall}
-use Rattle.cipher_mode.proofs.Passed.{InOrder, data-within}
-use Rattle.cipher_mode.proofs.Refusals.{quiet-ending}
+use Rattle.cipher_mode.proofs.Passed.{InOrder, KeyInOrder, let-through, both, key-and-iv-passed, data-within}
+use Rattle.cipher_mode.proofs.Refusals.{refuses, quiet-ending}
 use Rattle.ranges.specs.declared.plan.Plan.{Plan}
 use Rattle.ranges.specs.Plan.{accepts}
 use Rattle.ranges.specs.Range.{stretch, reachCheck, rangeCheck, rangeCall}
 use Rattle.ranges.specs.ByPlan.{planCall}
-use Rattle.ranges.specs.Shares.{Share, sharesOf, shareOf, laidAt, worked, allWorked}
+use Rattle.ranges.specs.Shares.{Share, sharesOf, shareOf, laidAt, worked, allWorked, applied}
 use Rattle.ranges.proofs.Passed.{has-room}
 use Rattle.ranges.proofs.Jumped.{length-stretch}
-use Rattle.ranges.proofs.AnyOrder.{length-worked, plan-in-any-order}
+use Rattle.ranges.proofs.Applied.{length-applied, ranges-commute}
+use Rattle.ranges.proofs.Copied.{nothing-laid}
+use Rattle.ranges.proofs.AnyOrder.{share-of-whole, length-worked, plan-in-any-order}
 use Rattle.luossavin.specs.declared.key.LuossavinKey.{LuossavinKey}
 use Rattle.luossavin.specs.Key.{cipherIn}
 use Rattle.luossavin.specs.InPieces.{directionOf}
@@ -43,9 +45,8 @@ use Rattle.luossavin.specs.Host.{modeIn, hostModeCall}
 use Rattle.luossavin.specs.Ranges.{hostCtrRange, hostCtrByPlan}
 use Rattle.demands.specs.Call.{result}
 use Rattle.demands.specs.CameRound.{roundOf}
-use Rattle.demands.specs.Workers.{unsaid, workedBy, allWorkedBy}
-use Rattle.demands.proofs.Through.{through, leaves, result-of-done}
-use Rattle.demands.proofs.Workers.{exported-range-of-whole}
+use Rattle.demands.specs.Workers.{unsaid, ctrCall, StretchOfWhole, Applying, appliedBy, RangesCommute, workedBy, allWorkedBy}
+use Rattle.demands.proofs.Through.{zero-passed, through, leaves, result-of-done}
 
 -- Ctr's data has a limit and no shape
 data-limit : (dir : Direction) (n : ℕ) → dataCheck dir Ctr n ≡ refuse (ltb limit n) TooLong Passed
@@ -77,6 +78,10 @@ accepted-plan-is-the-call k decrypt label iv plan d o e =
     (alike (keyNumber c) (chain (streamMode Ctr·kind (c .rk)) iv d) o (roundOf Ctr dir (c .rk) iv (length d))
     (keyAndIv (c .answer) (c .retired) dir Ctr (length iv)) (ltb limit (length d)) (ltb (length o) (length d)))
 
+data-within-ctr : (dir : Direction) (n : ℕ) → dataCheck dir Ctr n ≡ Passed → n ≤ limit
+data-within-ctr Encrypt n h = data-within Encrypt Ctr n h
+data-within-ctr Decrypt n h = data-within Decrypt Ctr n h
+
 -- what the single call gives where it is done
 module _ (k : LuossavinKey) (decrypt : Bool) (label d iv o : List ℕ) where
   abbrev dir : Direction
@@ -100,14 +105,154 @@ module _ (k : LuossavinKey) (decrypt : Bool) (label d iv o : List ℕ) where
     call-bytes : hostModeCall dir 2 k label d iv o .bytes ≡ over whole o
     call-bytes = ap (λ (x : Outcome). x .bytes) call-gives
 
--- A range that is done is its stretch of what the single call gives of the whole, whatever is before it.
-pub range-of-the-call : (k : LuossavinKey) (decrypt : Bool) (label iv pre d o o′ : List ℕ) → AreBytes iv
+    within : length d ≤ limit
+    within = data-within-ctr dir (length d) (in-order .content)
+
+    -- so every stretch of the text is reached
+    reached : (end : ℕ) → end ≤ length d → reachCheck (cipherIn k .answer) (cipherIn k .retired) dir (length iv) end ≡ Passed
+    unfolding reachCheck keyAndIv
+    reached end h =
+        let q = in-order in
+        let small = within in
+        rw (q .key, q .iv-size, q .may, le-ltb limit end (omega (arith, h, small)))
+
+-- a range that passes is done with its stretch
+range-done : (k : LuossavinKey) (decrypt : Bool) (iv : List ℕ) (offset : ℕ) (d o : List ℕ)
+    → rangeCheck (cipherIn k .answer) (cipherIn k .retired) (directionOf decrypt) (length iv) offset (length d) (length o) ≡ Passed
+    → hostCtrRange k decrypt iv offset d o ≡ keyed (keyNumber (cipherIn k)) (done (stretch (k .«round_keys») iv offset d) o)
+unfolding hostCtrRange rangeCall cipherIn
+range-done k decrypt iv offset d o passed = rw passed
+
+-- a stretch of the whole is that stretch of what Ctr gives of it
+stretched : (rk iv pre d post : List ℕ)
+    → stretch rk iv (length pre) d ≡ take (length d) (drop (length pre) (chain (streamMode Ctr·kind rk) iv (pre ++ (d ++ post))))
+stretched rk iv pre d post =
+    let here : take (length d) (drop (length pre) (pre ++ (d ++ post))) ≡ d =
+    ap (take (length d)) (drop-at pre (d ++ post) (length pre) refl) ∙ take-at d post (length d) refl in
+    ap (stretch rk iv (length pre)) (sym here)
+    ∙ share-of-whole rk iv (pre ++ (d ++ post)) (record { start = length pre; size = length d })
+
+stretch-in : (k : LuossavinKey) (decrypt : Bool) (label iv pre d post o o′ : List ℕ) → length d ≤ length o
+    → ctrCall k decrypt label (pre ++ (d ++ post)) iv o′ .head .number ≡ 0
+    → (hostCtrRange k decrypt iv (length pre) d o .head .number ≡ 0)
+    × (result (hostCtrRange k decrypt iv (length pre) d o)
+    ≡ take (length d) (drop (length pre) (result (ctrCall k decrypt label (pre ++ (d ++ post)) iv o′))))
+stretch-in k decrypt label iv pre d post o o′ room e =
+    let text = pre ++ (d ++ post) in
+    let n : length text ≡ length pre + (length d + length post) =
+    length-append pre (d ++ post) ∙ ap (λ (m : ℕ). length pre + m) (length-append d post) in
+    let reach = reached k decrypt label text iv o′ e (length pre + length d) (omega (arith, n)) in
+    let passed =
+    has-room (cipherIn k .answer) (cipherIn k .retired) (directionOf decrypt) (length iv) (length pre) (length d) (length o) reach room in
+    let left = range-done k decrypt iv (length pre) d o passed in (
+      ap (λ (x : Outcome). x .head .number) left,
+      ap result left
+          ∙ result-of-done (stretch (k .«round_keys») iv (length pre) d) o
+          ∙ stretched (k .«round_keys») iv pre d post
+          ∙ ap (λ (l : List ℕ). take (length d) (drop (length pre) l)) (sym (call-result k decrypt label text iv o′ e)),
+    )
+
+-- what a range that is done had in order
+range-passed : (k : LuossavinKey) (decrypt : Bool) (iv : List ℕ) (offset : ℕ) (d o : List ℕ)
+    → hostCtrRange k decrypt iv offset d o .head .number ≡ 0
+    → KeyInOrder (cipherIn k .answer) (cipherIn k .retired) (directionOf decrypt) Ctr (length iv) × (offset + length d ≤ limit)
+unfolding hostCtrRange rangeCall rangeCheck reachCheck
+range-passed k decrypt iv offset d o e =
+    let c = cipherIn k in
+    let dir = directionOf decrypt in
+    let end = offset + length d in
+    let first = keyAndIv (c .answer) (c .retired) dir Ctr (length iv) in
+    let long = refuse (ltb limit end) TooLong Passed in
+    let all = both (andThen first long) (refuse (ltb (length o) (length d)) NoRoom Passed) (zero-passed _ o _ e) in
+    let reach = both first long (all .0) in (
+      key-and-iv-passed (c .answer) (c .retired) dir Ctr (length iv) (reach .0),
+      ltb-false limit end (let-through (ltb limit end) TooLong Passed (reach .1) .fails),
+    )
+
+whole-of : (k : LuossavinKey) (decrypt : Bool) (label iv pre d o o′ : List ℕ) → length (pre ++ d) ≤ length o′
     → hostCtrRange k decrypt iv (length pre) d o .head .number ≡ 0
-    → hostModeCall (directionOf decrypt) 2 k label (pre ++ d) iv o′ .head .number ≡ 0
-    → result (hostCtrRange k decrypt iv (length pre) d o)
-    ≡ drop (length pre) (result (hostModeCall (directionOf decrypt) 2 k label (pre ++ d) iv o′))
-range-of-the-call k decrypt label iv pre d o o′ bytes e f =
-    exported-range-of-whole k decrypt iv pre d o bytes e ∙ ap (drop (length pre)) (sym (call-result k decrypt label (pre ++ d) iv o′ f))
+    → ctrCall k decrypt label (pre ++ d) iv o′ .head .number ≡ 0
+unfolding hostModeCall modeOf
+whole-of k decrypt label iv pre d o o′ room e =
+    let dir = directionOf decrypt in
+    let (p, reach) = range-passed k decrypt iv (length pre) d o e in
+    let n = length-append pre d in
+    let short = le-ltb limit (length (pre ++ d)) (omega (arith, n, reach)) in
+    ap (λ (x : Outcome). x .head .number)
+    (leaves dir (modeIn k 2) label (pre ++ d) iv o′
+    (record {
+      key = p .key;
+      iv-size = p .iv-size;
+      may = p .may;
+      label = refl;
+      content = data-limit dir (length (pre ++ d)) ∙ rw short;
+      room = room;
+    }))
+
+-- The exported range is its stretch of what the exported single call gives of the whole, whatever is before and behind it.
+pub stretch-of-the-call : StretchOfWhole hostCtrRange ctrCall
+stretch-of-the-call = record { stretch = stretch-in; whole = whole-of }
+
+-- by what the check says: the text with the range in it, or the text
+abbrev pick : Checked → List ℕ → List ℕ → List ℕ
+pick Passed a b = a
+pick (Refused r) a b = b
+
+laid-by : (check : Checked) (k at : ℕ) (s o t : List ℕ)
+    → laidAt at (result (keyed k (checked check o (done s o)))) t ≡ pick check (laidAt at s t) t
+laid-by Passed k at s o t = ap (λ (l : List ℕ). laidAt at l t) (result-of-done s o)
+laid-by (Refused r) k at s o t =
+    ap (λ (n : ℕ). laidAt at (take n o) t) (refuses r .no-size) ∙ nothing-laid at t
+
+module _ (a : Applying) where
+  -- the check of the range depends on the text's length alone
+  abbrev checkOf : ℕ → Checked
+  checkOf n =
+      rangeCheck (cipherIn (a .key) .answer) (cipherIn (a .key) .retired) (directionOf (a .decrypt)) (length (a .iv)) (a .share .start)
+      (min (a .share .size) (n - a .share .start)) (length (a .out))
+
+  abbrev into : List ℕ → List ℕ
+  into t = applied (a .key .«round_keys») (a .iv) (a .share) t
+
+  applies : (t : List ℕ) → appliedBy hostCtrRange a t ≡ pick (checkOf (length t)) (into t) t
+  unfolding hostCtrRange rangeCall cipherIn
+  applies t =
+      let n = length-take (a .share .size) (drop (a .share .start) t) ∙ ap (min (a .share .size)) (length-drop (a .share .start) t) in
+      let s = stretch (a .key .«round_keys») (a .iv) (a .share .start) (shareOf (a .share) t) in
+      ap (λ (m : ℕ). laidAt (a .share .start)
+      (result
+      (keyed (keyNumber (cipherIn (a .key)))
+      (checked
+      (rangeCheck (cipherIn (a .key) .answer) (cipherIn (a .key) .retired) (directionOf (a .decrypt)) (length (a .iv)) (a .share .start) m
+      (length (a .out))) (a .out) (done s (a .out))))) t) n
+      ∙ laid-by (checkOf (length t)) (keyNumber (cipherIn (a .key))) (a .share .start) s (a .out) t
+
+  length-pick : (check : Checked) (t : List ℕ) → length (pick check (into t) t) ≡ length t
+  length-pick Passed t = length-applied (a .key .«round_keys») (a .iv) (a .share) t
+  length-pick (Refused r) t = refl
+
+-- one behind the other
+apply-both : (a b : Applying) (t : List ℕ)
+    → appliedBy hostCtrRange a (appliedBy hostCtrRange b t)
+    ≡ pick (checkOf a (length t)) (into a (pick (checkOf b (length t)) (into b t) t)) (pick (checkOf b (length t)) (into b t) t)
+apply-both a b t =
+    let u = pick (checkOf b (length t)) (into b t) t in
+    ap (appliedBy hostCtrRange a) (applies b t)
+    ∙ applies a u
+    ∙ ap (λ (n : ℕ). pick (checkOf a n) (into a u) u) (length-pick b (checkOf b (length t)) t)
+
+either-way : (a b : Applying) (x y : Checked) (t : List ℕ)
+    → pick x (into a (pick y (into b t) t)) (pick y (into b t) t) ≡ pick y (into b (pick x (into a t) t)) (pick x (into a t) t)
+either-way a b Passed Passed t =
+    ranges-commute (a .key .«round_keys») (a .iv) (b .key .«round_keys») (b .iv) (a .share) (b .share) t
+either-way a b Passed (Refused r) t = refl
+either-way a b (Refused q) Passed t = refl
+either-way a b (Refused q) (Refused r) t = refl
+
+-- Two ranges applied to one text through the exported call leave the same bytes in either order.
+pub exported-ranges-commute : RangesCommute hostCtrRange
+exported-ranges-commute a b t =
+    apply-both a b t ∙ either-way a b (checkOf a (length t)) (checkOf b (length t)) t ∙ sym (apply-both b a t)
 
 -- what is laid over a part of the output is laid into the output
 front-and-rest : (n : ℕ) (w : List ℕ) → take n w ++ drop (length (take n w)) w ≡ w
@@ -146,10 +291,6 @@ module _ (k : LuossavinKey) (decrypt : Bool) (label d iv o₀ : List ℕ)
   abbrev rk : List ℕ
   rk = k .«round_keys»
 
-  within : (dir : Direction) → dataCheck dir Ctr (length d) ≡ Passed → length d ≤ limit
-  within Encrypt h = data-within Encrypt Ctr (length d) h
-  within Decrypt h = data-within Decrypt Ctr (length d) h
-
   -- the call on a share: one that starts within the text is in order, and of another there is nothing
   module _ (p : Share) (o : List ℕ) (room : length d ≤ length o) where
     abbrev here : List ℕ
@@ -161,15 +302,12 @@ module _ (k : LuossavinKey) (decrypt : Bool) (label d iv o₀ : List ℕ)
         (length (shareOf p o))
 
     passes : p .start ≤ length d → check ≡ Passed
-    unfolding reachCheck keyAndIv
     passes h =
-        let q = in-order k decrypt label d iv o₀ e in
-        let small = within (directionOf decrypt) (q .content) in
         let n = length-share p d in
         let m = length-share p o in
         has-room (cipherIn k .answer) (cipherIn k .retired) (directionOf decrypt) (length iv) (p .start) (length (shareOf p d))
         (length (shareOf p o))
-        (rw (q .key, q .iv-size, q .may, le-ltb limit (p .start + length (shareOf p d)) (omega (arith, n, h, small))))
+        (reached k decrypt label d iv o₀ e (p .start + length (shareOf p d)) (omega (arith, n, h)))
         (omega (arith, n, m, room))
 
     by-start : (t : Bool) → ltb (length d) (p .start) ≡ t

@@ -56,6 +56,7 @@ use Rattle.editions.proofs.FirstOpening.{search-number}
 use Rattle.luossavin.specs.declared.key.LuossavinKey.{LuossavinKey}
 use Rattle.luossavin.specs.Key.{cipherIn}
 use Rattle.luossavin.specs.Host.{modeIn, hostBlockCall, hostModeCall}
+use Rattle.luossavin.specs.Which.{hostWhich}
 use Rattle.demands.specs.Call.{inGcm}
 use Rattle.demands.specs.CameRound.{roundOf, Says}
 use Rattle.demands.proofs.Through.{through}
@@ -137,9 +138,10 @@ verdict-says true n k next e = quiet _ refl
 verdict-says false n Passed next e = quiet _ (ap (λ (h : Head). h .cameRound) e)
 verdict-says false n (Refused r) next e = on-key false n _ (refusal-says r false)
 
-pub which-says : (c : Sm4Cipher) (file iv labels lengths : List ℕ) → Says false (which c file iv labels lengths .head)
-unfolding which
-which-says c file iv labels lengths =
+pub which-says : (k : LuossavinKey) (file iv labels lengths : List ℕ) → Says false (hostWhich k file iv labels lengths .head)
+unfolding hostWhich which
+which-says k file iv labels lengths =
+    let c = cipherIn k in
     verdict-says (badList labels lengths) (keyNumber c) (searchCheck (c .answer) (c .retired) (length iv) (length file) lengths) _
     (search-number (opensWith c iv file) labels lengths)
 

@@ -10,6 +10,7 @@ use native.Mathlib.Omega.{arith}
 use lib.Dec.{lit<}
 use lib.ListN.{length, take, drop, getD, replicate, length-replicate}
 use borrow.Author.Tests.{le-ltb}
+use Rattle.block.specs.Below.{AreBytes}
 use Rattle.block.proofs.Entries.{below-replicate}
 use Rattle.block.specs.BigEndian.{numberOf, bytesOf}
 use Rattle.cipher.specs.Sm4.{roundKeys}
@@ -18,23 +19,19 @@ use Rattle.ghash.specs.Ghash.{blockOf, blocksFrom, blocks, hashFrom}
 use Rattle.ghash.specs.Joined.{joined}
 use Rattle.counter.specs.Counter.{ctrNext}
 use Rattle.counter.proofs.Edges.{ctr-one-block, ctr-two-blocks}
-use Rattle.walk.specs.Walk.{walk, chain, over}
+use Rattle.walk.specs.Walk.{walk, chain}
 use Rattle.walk.specs.Outcome.{Head, Outcome, keyed, reporting, done}
-use Rattle.stream.specs.Stream.{streamMode}
-use Rattle.stream.specs.declared.Kind.the-variants.{Ctr as Ctr·kind}
 use Rattle.cipher_mode.specs.declared.CipherMode.{CipherMode}
 use Rattle.cipher_mode.specs.declared.CipherMode.the-variants.{Cfb, Ofb, Ctr, Cbc, Gcm}
 use Rattle.cipher_mode.specs.declared.Direction.the-variants.{Encrypt, Decrypt}
 use Rattle.cipher_mode.specs.declared.KeyAnswer.{KeyAnswer}
 use Rattle.cipher_mode.specs.declared.KeyAnswer.the-variants.{Key}
-use Rattle.cipher_mode.specs.declared.Sm4Cipher.{Sm4Cipher}
 use Rattle.cipher_mode.specs.declared.checks.Checked.the-variants.{Passed}
-use Rattle.cipher_mode.specs.declared.Sm4CipherMode.{Sm4CipherMode}
-use Rattle.cipher_mode.specs.Key.{newCipher, withEngine, keyNumber, newCipherMode}
-use Rattle.cipher_mode.specs.Tables.{limit}
-use Rattle.cipher_mode.specs.Checks.{keyAndIv, dataCheck, roomCheck, messageCheck}
-use Rattle.cipher_mode.specs.Calls.{lengthsOf, modeCall}
-use Rattle.cipher_mode.proofs.Passed.{InOrder}
+use Rattle.cipher_mode.specs.Key.{keyNumber, newCipher}
+use Rattle.cipher_mode.specs.Tables.{limit, roomOf, modeOf}
+use Rattle.cipher_mode.specs.Checks.{wrongIv, keyAndIv, dataCheck, roomCheck, messageCheck}
+use Rattle.cipher_mode.specs.Calls.{modeCall}
+use Rattle.pieces.specs.declared.seal.Seal.{Seal}
 use Rattle.editions.specs.Candidates.{sum, badList, anyTooLong, labelAt}
 use Rattle.editions.specs.Which.{Verdict, searchCheck, opensWith, which}
 use Rattle.editions.proofs.FirstOpening.{IsFirst}
@@ -43,80 +40,97 @@ use Rattle.ranges.specs.declared.plan.Plan.{Plan}
 use Rattle.ranges.specs.Plan.{follows, accepts, noPieces}
 use Rattle.ranges.specs.Range.{stretch, reachCheck, rangeCheck, rangeCall}
 use Rattle.ranges.specs.ByPlan.{planCall}
+use Rattle.ranges.specs.Shares.{laidAt}
 use Rattle.label.specs.Label.{labelOf}
 use Rattle.shelf.specs.Records.{Record, written, stored, marked, startsRecord, sizeAt, front, readUpTo, records}
 use Rattle.shelf.specs.Shelf.{those, hasCurrent, twoCurrent, notHigher, supersede, withNew, fitted, badShelf}
 use Rattle.shelf.specs.Calls.{Outcome as Shelf·Outcome, putCall}
 use Rattle.luossavin.specs.declared.halves.LuossavinHash.{LuossavinHash}
+use Rattle.luossavin.specs.declared.key.LuossavinKey.{LuossavinKey}
+use Rattle.luossavin.specs.Key.{keyAnswerOf, cipherIn, keyOf, hostKeyNew, hostKeyEngine}
 use Rattle.luossavin.specs.Halves.{hostHashBlocks, hostHashJoin}
+use Rattle.luossavin.specs.Host.{modeIn, hostModeCall}
+use Rattle.luossavin.specs.Which.{Told, hostWhich}
+use Rattle.luossavin.specs.Ranges.{hostCtrRange, hostCtrByPlan}
 use Rattle.demands.specs.Call.{Call, result, inGcm}
 use Rattle.demands.specs.CameRound.{roundOf, Says}
-use Rattle.demands.specs.Answered.{singleNumbers, Answered, KeyAnswered, lengthOf}
+use Rattle.demands.specs.Answered.{oneOf, singleNumbers, Answered, KeyAnswered, lengthOf}
 use Rattle.demands.specs.Served.{Asks, Served}
-use Rattle.demands.specs.ThereAndBack.{ThereAndBack}
+use Rattle.demands.specs.ThereAndBack.{SameKey, Decryptable, ThereAndBack}
+use Rattle.demands.specs.InPieces.{CheckedAlike}
 use Rattle.demands.specs.OneBlockRefused.{OneBlockRefused}
-use Rattle.demands.specs.Imposters.{zeros, zeroKey, ones, refusesAll, constant, copies, firstBlockOnly, inventsLength, countsEveryStep, saysItRefused}
-use Rattle.demands.specs.Imposters.{forgetsNumber, takesAnyNumber, copiesAnew, throwsAway, marksAnew, tellsEngine, countsFromOne, fileFirst, fromTheBlock, planFirst}
-use Rattle.demands.specs.Imposters.{againstCurrent, marksFirst, countsBytes, twoEditions}
+use Rattle.demands.specs.Imposters.{zeros, zeroKey, ones, ctr, refusesAll, constant, copies, firstBlockOnly, inventsLength}
+use Rattle.demands.specs.Imposters.{countsEveryStep, saysItRefused, tellsEngine, bindsNumber, forgetsNumber, takesAnyNumber}
+use Rattle.demands.specs.Imposters.{copiesAnew, throwsAway, marksAnew, labelUnseen, countsFromOne, leavesPart, fileFirst}
+use Rattle.demands.specs.Imposters.{fromTheBlock, streamAlone, markUnseen, planFirst, againstCurrent, marksFirst, countsBytes}
+use Rattle.demands.specs.Imposters.{twoEditions}
 use Rattle.demands.specs.Halves.{IsValue, WholeBlocks, hashOfHalves}
 use Rattle.demands.specs.Retired.{StaysRetired, DecryptsAlike}
-use Rattle.demands.specs.EngineUnseen.{unmarked}
-use Rattle.demands.specs.Which.{Tells}
+use Rattle.demands.specs.EngineUnseen.{unmarkedHost}
+use Rattle.demands.specs.Which.{Tells, WhichAnswered}
+use Rattle.demands.specs.Workers.{ctrCall, StretchOfWhole, Applying, appliedBy, RangesCommute}
 use Rattle.demands.proofs.Through.{through, leaves}
-use Rattle.demands.proofs.ModesBack.{encrypted, encrypts, length-encrypted}
-use Rattle.demands.proofs.ThereAndBack.{decryption-takes-back}
+use Rattle.demands.proofs.ModesBack.{encrypted}
+use Rattle.demands.proofs.ThereAndBack.{set-up-same-key}
+use Rattle.demands.proofs.Served.{exported-served}
 use Rattle.demands.proofs.OtherHash.{gcm-opens}
-use Rattle.demands.proofs.ZeroCipher.{zero-block, block-of-one}
+use Rattle.demands.proofs.OtherEdition.{short-label-refused}
+use Rattle.demands.proofs.ZeroCipher.{zero-block, block-of-one, zero-key-moves}
 
 -- The call that refuses everything meets demand 3: nothing opens, so there is nothing to refuse.
 pub refusing-all-meets-demand-3 : OneBlockRefused refusesAll
 refusing-all-meets-demand-3 a₁ a₂ c₁ c₂ t iv o₁ o₂ ba₁ ba₂ bc₁ bc₂ n eo change opens = absurd (omega arith)
 
--- no data and no label are in order, and an output of sixteen bytes has room for what they give
-nothing-in-order : (a : KeyAnswer) (r : Bool) → a ≡ Key → r ≡ false → (m : CipherMode) → InOrder a r Encrypt m (lengthsOf [] [] zeros zeros)
-unfolding dataCheck
-nothing-in-order a r k u Cfb = record { key = k; iv-size = refl; may = rw u; label = refl; content = refl; room = omega arith }
-nothing-in-order a r k u Ofb = record { key = k; iv-size = refl; may = rw u; label = refl; content = refl; room = omega arith }
-nothing-in-order a r k u Ctr = record { key = k; iv-size = refl; may = rw u; label = refl; content = refl; room = omega arith }
-nothing-in-order a r k u Cbc = record { key = k; iv-size = refl; may = rw u; label = refl; content = refl; room = omega arith }
-nothing-in-order a r k u Gcm = record { key = k; iv-size = refl; may = rw u; label = refl; content = refl; room = omega arith }
+-- an output of sixteen bytes has room for what no data gives
+room-for-nothing : (m : CipherMode) → roomOf m Encrypt 0 ≤ 16
+room-for-nothing Cfb = omega arith
+room-for-nothing Ofb = omega arith
+room-for-nothing Ctr = omega arith
+room-for-nothing Cbc = omega arith
+room-for-nothing Gcm = omega arith
+
+zeros-bytes : AreBytes zeros
+zeros-bytes = below-replicate 256 16 0 (lit< tt)
 
 -- the empty message is asked for in order in every mode
 nothing-asked : (m : CipherMode) → Asks m [] [] zeros zeros
 nothing-asked m =
-    record { iv-size = inl refl; label-fits = λ _. omega arith; data-fits = omega arith; room = nothing-in-order Key false refl refl m .room }
+    record { iv-size = inl refl; label-fits = λ _. omega arith; data-fits = omega arith; room = room-for-nothing m }
 
 -- But it does not serve: nobody's empty message, without a label and under an IV of zeros, is encrypted, in any mode and whatever
 -- stands beside it for decryption.
 pub refusing-all-serves-nobody : (m : CipherMode) (decryption : Call) → ¬ Served m refusesAll decryption
 refusing-all-serves-nobody m decryption s = absurd (omega (arith, s .sealing [] [] zeros zeros (nothing-asked m) .number))
 
--- And as decryption it breaks demand 2, with any usable and unretired key, in any mode and whatever room it is given: it does not give back the empty
--- message, encrypted without a label under an IV of zeros.
-pub refusing-all-breaks-demand-2 : (m : Sm4CipherMode) → m .cipher .answer ≡ Key → m .cipher .retired ≡ false → (room : ℕ → ℕ)
-    → ¬ ThereAndBack (λ (n : ℕ) (o : List ℕ). room n ≤ length o) (modeCall Encrypt m) refusesAll
-refusing-all-breaks-demand-2 m k u room back =
-    let x =
-    leaves Encrypt m [] [] zeros zeros (nothing-in-order (m .cipher .answer) (m .cipher .retired) k u (m .mode))
-    ∙ ap {B = Outcome} (keyed (keyNumber (m .cipher))) (encrypts (m .mode) (m .cipher .rk) [] [] zeros zeros) in
-    let e : modeCall Encrypt m [] [] zeros zeros .head .number ≡ 0 = ap (λ (x : Outcome). x .head .number) x in
-    let n = room (modeCall Encrypt m [] [] zeros zeros .head .size) in
-    let r = back [] [] zeros zeros (replicate n 0) tt (below-replicate 256 16 0 (lit< tt)) e (le-of-eq (sym (length-replicate n 0))) in
+-- And as decryption it breaks demand 2, with any usable and unretired key, in any mode and whatever room it is given: it does not give back
+-- the empty message, encrypted without a label under an IV of zeros.
+pub refusing-all-breaks-demand-2 : (mode : ℕ) (k : LuossavinKey) → mode ≤ 4 → k .answer ≡ 0 → k .retired ≡ 0 → (room : ℕ → ℕ)
+    → ¬ ThereAndBack (λ (n : ℕ) (o : List ℕ). room n ≤ length o) (hostModeCall Encrypt mode k) refusesAll
+refusing-all-breaks-demand-2 mode k h a u room back =
+    let same : SameKey k k = record { keys = refl; answer = refl } in
+    let e = exported-served mode k k h a u same .sealing [] [] zeros zeros (nothing-asked (modeOf mode)) .number in
+    let n = room (hostModeCall Encrypt mode k [] [] zeros zeros .head .size) in
+    let r = back [] [] zeros zeros (replicate n 0) tt zeros-bytes e (le-of-eq (sym (length-replicate n 0))) in
     absurd (omega (arith, r .number))
 
 -- The others are held against encryption in Ctr under the key and the IV of sixteen zero bytes.
 
--- what Ctr leaves of d under the zero key and IV, where p is the result
-abbrev left : List ℕ → List ℕ → List ℕ → Outcome
-left d p o = keyed 1 (reporting (roundOf Ctr Encrypt (roundKeys zeros) zeros (length d)) (done p o))
+-- what Ctr leaves of d under the zero key, where p is the result
+abbrev left : List ℕ → List ℕ → List ℕ → List ℕ → Outcome
+left iv d p o = keyed 1 (reporting (roundOf Ctr Encrypt (roundKeys zeros) iv (length d)) (done p o))
 
 -- and it leaves that, given room
-ctr-leaves : (d o : List ℕ) → length d ≤ limit → length d ≤ length o
-    → modeCall Encrypt zeroKey [] d zeros o ≡ left d (encrypted Ctr (roundKeys zeros) [] d zeros) o
-unfolding newCipherMode newCipher dataCheck
-ctr-leaves d o l r =
-    leaves Encrypt zeroKey [] d zeros o
-    (record { key = refl; iv-size = refl; may = refl; label = refl; content = rw (le-ltb limit (length d) l); room = r })
+ctr-leaves : (iv d o : List ℕ) → wrongIv Ctr (length iv) ≡ false → length d ≤ limit → length d ≤ length o
+    → ctr zeroKey [] d iv o ≡ left iv d (encrypted Ctr (roundKeys zeros) [] d iv) o
+unfolding hostModeCall modeOf hostKeyNew keyOf cipherIn keyAnswerOf newCipher dataCheck
+ctr-leaves iv d o i l r =
+    leaves Encrypt (modeIn zeroKey 2) [] d iv o
+    (record { key = refl; iv-size = i; may = refl; label = refl; content = rw (le-ltb limit (length d) l); room = r })
+
+-- what encryption leaves of d, by its result
+given : (d o p : List ℕ) → length d ≤ limit → length d ≤ length o → encrypted Ctr (roundKeys zeros) [] d zeros ≡ p
+    → ctr zeroKey [] d zeros o ≡ left zeros d p o
+given d o p l r e = ctr-leaves zeros d o refl l r ∙ ap {B = Outcome} (λ (p : List ℕ). left zeros d p o) e
 
 one-byte : encrypted Ctr (roundKeys zeros) [] (0 ∷ []) zeros ≡ 0x9f ∷ []
 unfolding chain walk
@@ -133,30 +147,30 @@ another-byte = rw zero-block
 
 -- A constant answer, whatever it is, is wrong at one of two inputs that are both in order: a byte 0 becomes 9f and a byte 1
 -- becomes 9e.
-pub constant-contradicts : (x : Outcome) → constant x [] (0 ∷ []) zeros (0 ∷ []) ≡ modeCall Encrypt zeroKey [] (0 ∷ []) zeros (0 ∷ [])
-    → constant x [] (1 ∷ []) zeros (0 ∷ []) ≢ modeCall Encrypt zeroKey [] (1 ∷ []) zeros (0 ∷ [])
+pub constant-contradicts : (x : Outcome) → constant x [] (0 ∷ []) zeros (0 ∷ []) ≡ ctr zeroKey [] (0 ∷ []) zeros (0 ∷ [])
+    → constant x [] (1 ∷ []) zeros (0 ∷ []) ≢ ctr zeroKey [] (1 ∷ []) zeros (0 ∷ [])
 constant-contradicts x e f =
     let o : List ℕ = 0 ∷ [] in
-    let g = ctr-leaves (0 ∷ []) o (omega arith) (omega arith) ∙ ap {B = Outcome} (λ (p : List ℕ). left (0 ∷ []) p o) one-byte in
-    let h = ctr-leaves (1 ∷ []) o (omega arith) (omega arith) ∙ ap {B = Outcome} (λ (p : List ℕ). left (1 ∷ []) p o) another-byte in
+    let g = given (0 ∷ []) o (0x9f ∷ []) (omega arith) (omega arith) one-byte in
+    let h = given (1 ∷ []) o (0x9e ∷ []) (omega arith) (omega arith) another-byte in
     let z : _≡_ {A = ℕ} 0x9f 0x9e = ap (λ (y : Outcome). getD (y .bytes) 0 0) (sym (e ∙ g) ∙ f ∙ h) in
     absurd (omega arith)
 
 -- A copy is wrong at one zero byte, which becomes 9f. (Of no data there is no other result.)
-pub copy-contradicts : copies [] (0 ∷ []) zeros (0 ∷ []) ≢ modeCall Encrypt zeroKey [] (0 ∷ []) zeros (0 ∷ [])
+pub copy-contradicts : copies [] (0 ∷ []) zeros (0 ∷ []) ≢ ctr zeroKey [] (0 ∷ []) zeros (0 ∷ [])
 copy-contradicts e =
     let o : List ℕ = 0 ∷ [] in
-    let f = ctr-leaves o o (omega arith) (omega arith) ∙ ap {B = Outcome} (λ (p : List ℕ). left o p o) one-byte in
+    let f = given o o (0x9f ∷ []) (omega arith) (omega arith) one-byte in
     let g : _≡_ {A = ℕ} 0 0x9f = ap (λ (x : Outcome). getD (x .bytes) 0 0) (e ∙ f) in
     absurd (omega arith)
 
 -- Ciphering the first block and copying the rest is wrong at seventeen zero bytes: byte 16 becomes 23. (Up to sixteen bytes
 -- there is no rest.)
 pub first-block-only-contradicts :
-    firstBlockOnly zeroKey [] (replicate 17 0) zeros (replicate 17 0) ≢ modeCall Encrypt zeroKey [] (replicate 17 0) zeros (replicate 17 0)
+    firstBlockOnly zeroKey [] (replicate 17 0) zeros (replicate 17 0) ≢ ctr zeroKey [] (replicate 17 0) zeros (replicate 17 0)
 first-block-only-contradicts e =
     let d : List ℕ = replicate 17 0 in
-    let g = ctr-leaves d d (omega arith) (omega arith) ∙ ap {B = Outcome} (λ (p : List ℕ). left d p d) seventeen-bytes in
+    let g = given d d _ (omega arith) (omega arith) seventeen-bytes in
     let f = ap {B = Outcome} (λ (x : Outcome). done (take 16 (result x) ++ drop 16 d) d) g in
     let z : _≡_ {A = ℕ} 0 0x23 = ap (λ (x : Outcome). getD (x .bytes) 16 0) (sym f ∙ e ∙ g) in
     absurd (omega arith)
@@ -164,20 +178,19 @@ first-block-only-contradicts e =
 -- A length of its own invention, the output's, breaks the table of lengths at no data with an output of one byte: the table
 -- says 0.
 pub invented-length-breaks-the-table :
-    ¬ ((label d iv o : List ℕ) → Answered singleNumbers 1 o (lengthOf Ctr Encrypt (zeroKey .cipher .rk) iv d) (inventsLength zeroKey label d iv o))
+    ¬ ((label d iv o : List ℕ)
+    → Answered singleNumbers 1 o (lengthOf Ctr Encrypt (zeroKey .«round_keys») iv d) (inventsLength zeroKey label d iv o))
 invented-length-breaks-the-table claim =
-    let done-there = ap (λ (x : Outcome). x .head .number) (ctr-leaves [] (0 ∷ []) (omega arith) (omega arith)) in
+    let done-there = ap (λ (x : Outcome). x .head .number) (ctr-leaves zeros [] (0 ∷ []) refl (omega arith) (omega arith)) in
     absurd (omega (arith, claim [] [] zeros (0 ∷ []) .reported done-there))
 
 -- Counting the step after the last block is told by one byte under the IV of sixteen bytes ff: its one block has no step after it.
 pub every-step-is-told :
-    ¬ ((label d iv o : List ℕ) → Says (roundOf Ctr Encrypt (zeroKey .cipher .rk) iv (length d)) (countsEveryStep zeroKey label d iv o .head))
-unfolding newCipherMode newCipher dataCheck
+    ¬ ((label d iv o : List ℕ)
+    → Says (roundOf Ctr Encrypt (zeroKey .«round_keys») iv (length d)) (countsEveryStep zeroKey label d iv o .head))
 every-step-is-told claim =
     let o : List ℕ = 0 ∷ [] in
-    let left =
-    leaves Encrypt zeroKey [] o ones o
-    (record { key = refl; iv-size = refl; may = refl; label = refl; content = refl; room = omega arith }) in
+    let left = ctr-leaves ones o o refl (omega arith) (omega arith) in
     let number : countsEveryStep zeroKey [] o ones o .head .number ≡ 0 = ap (λ (x : Outcome). x .head .number) left in
     let z : _≡_ {A = ℕ} 1 0 =
     sym (ap (λ (b : Bool). cond b 1 0) ctr-two-blocks) ∙ claim [] o ones o .done number ∙ ap (λ (b : Bool). cond b 1 0) ctr-one-block in
@@ -185,8 +198,9 @@ every-step-is-told claim =
 
 -- A yes beside a refusal is told by seventeen bytes under that IV and an output of none: 6 says nothing of a counter.
 pub yes-refused-is-told :
-    ¬ ((label d iv o : List ℕ) → Says (roundOf Ctr Encrypt (zeroKey .cipher .rk) iv (length d)) (saysItRefused zeroKey label d iv o .head))
-unfolding modeCall messageCheck keyAndIv dataCheck roomCheck newCipherMode newCipher
+    ¬ ((label d iv o : List ℕ)
+    → Says (roundOf Ctr Encrypt (zeroKey .«round_keys») iv (length d)) (saysItRefused zeroKey label d iv o .head))
+unfolding hostModeCall modeOf modeCall messageCheck keyAndIv dataCheck roomCheck hostKeyNew keyOf cipherIn keyAnswerOf newCipher
 yes-refused-is-told claim =
     let d : List ℕ = replicate 17 0 in
     let z : _≡_ {A = ℕ} 1 0 = sym (ap (λ (b : Bool). cond b 1 0) ctr-two-blocks) ∙ claim [] d ones [] .refused (λ e. omega arith) in
@@ -203,35 +217,96 @@ pub any-number-is-told : ¬ ((key : List ℕ) (n : ℕ) → KeyAnswered key n (t
 any-number-is-told claim =
     let z : _≡_ {A = ℕ} 0 13 = ap (λ (h : Head). h .number) (claim zeros 0 .out-of-range refl (inl refl)) in absurd (omega arith)
 
+-- any record that is retired
+abbrev retiredKey : LuossavinKey
+retiredKey = record { «round_keys» = []; answer = 0; number = 1; retired = 1; engine = 0 }
+
 -- Retiring by a copy breaks that a retired record stays retired, at any that is.
 pub copy-anew-is-unretired : ¬ StaysRetired copiesAnew
-copy-anew-is-unretired claim =
-    let z : _≡_ {A = Bool} false true = claim (record { rk = []; answer = Key; number = 1; retired = true; engine = 0 }) refl in
-    let y : _≡_ {A = ℕ} 0 1 = ap (λ (b : Bool). cond b 1 0) z in
-    absurd (omega arith)
-
--- Retiring a key by making it none breaks that old files open, at the key of sixteen zero bytes in Ctr and an IV of none: the key
--- answers 10, and the imposter 1.
-pub thrown-away-opens-nothing : ¬ ((c : Sm4Cipher) → DecryptsAlike c (throwsAway c))
-unfolding modeCall messageCheck keyAndIv newCipher
-thrown-away-opens-nothing claim =
-    let z : _≡_ {A = ℕ} 1 10 = ap (λ (x : Outcome). x .head .number) (claim (newCipher zeros 1) .message Ctr [] [] [] []) in
-    absurd (omega arith)
+copy-anew-is-unretired claim = claim retiredKey (λ z. omega arith) refl
 
 -- Marking by a copy breaks it too.
 pub mark-anew-is-unretired : (e : ℕ) → ¬ StaysRetired (marksAnew e)
-mark-anew-is-unretired e claim =
-    let z : _≡_ {A = Bool} false true = claim (record { rk = []; answer = Key; number = 1; retired = true; engine = 0 }) refl in
-    let y : _≡_ {A = ℕ} 0 1 = ap (λ (b : Bool). cond b 1 0) z in
+mark-anew-is-unretired e claim = claim retiredKey (λ z. omega arith) refl
+
+-- Retiring a key by making it none breaks that old files open, at the key of sixteen zero bytes in Ctr and an IV of none: the key
+-- answers 10, and the imposter 1.
+pub thrown-away-opens-nothing : ¬ ((k : LuossavinKey) → DecryptsAlike k (throwsAway k))
+unfolding hostModeCall modeOf modeCall messageCheck keyAndIv hostKeyNew keyOf cipherIn keyAnswerOf newCipher
+thrown-away-opens-nothing claim =
+    let z : _≡_ {A = ℕ} 1 10 = ap (λ (x : Outcome). x .head .number) (claim zeroKey .message 2 [] [] [] []) in
     absurd (omega arith)
+
+-- Ranges that do not look at the mark are done under a retired key, at no data: there every other call that encrypts is refused.
+pub unseen-mark-encrypts :
+    ¬ ((k : LuossavinKey) → k .retired ≢ 0 → (iv : List ℕ) (offset : ℕ) (d o : List ℕ) → markUnseen k false iv offset d o .head .number ≢ 0)
+unfolding hostCtrRange rangeCall rangeCheck reachCheck keyAndIv cipherIn keyAnswerOf
+unseen-mark-encrypts claim = claim retiredKey (λ z. omega arith) zeros 0 [] [] refl
 
 -- Telling the engine breaks that it is not seen, at the key of sixteen zero bytes and nothing to encrypt.
 pub told-engine-is-seen :
-    ¬ ((c d : Sm4Cipher) → unmarked c ≡ unmarked d → tellsEngine (inGcm c) [] [] [] [] ≡ tellsEngine (inGcm d) [] [] [] [])
-unfolding withEngine newCipher
+    ¬ ((k l : LuossavinKey) → unmarkedHost k ≡ unmarkedHost l → tellsEngine k [] [] [] [] ≡ tellsEngine l [] [] [] [])
+unfolding hostKeyEngine hostKeyNew keyOf newCipher
 told-engine-is-seen claim =
-    let c = newCipher zeros 1 in
-    let z : _≡_ {A = ℕ} 0 1 = ap (λ (x : Outcome). x .head .cameRound) (claim c (withEngine 1 c) refl) in
+    let z : _≡_ {A = ℕ} 0 1 = ap (λ (x : Outcome). x .head .cameRound) (claim zeroKey (hostKeyEngine zeroKey 1) refl) in
+    absurd (omega arith)
+
+-- Putting the number in front of the label takes back what it did under one record, retired or not, and breaks that under the same key with
+-- another number, at the empty message under the key of sixteen zero bytes, sealed under the number 1 and opened under 2.
+other-number : (file : List ℕ) → hostModeCall Decrypt 4 (hostKeyNew zeros 2) (1 ∷ []) file zeros zeros .head .number ≡ 0
+    → hostModeCall Decrypt 4 (hostKeyNew zeros 2) (2 ∷ []) file zeros zeros .head .number ≡ 4
+unfolding hostModeCall modeOf hostKeyNew keyOf cipherIn keyAnswerOf newCipher
+other-number file opens =
+    short-label-refused (cipherIn (hostKeyNew zeros 2)) zero-key-moves (1 ∷ []) (2 ∷ []) file zeros zeros zeros (lit< tt, tt) (lit< tt, tt)
+    (λ e. let z : _≡_ {A = ℕ} 1 2 = ap (λ (l : List ℕ). getD l 0 0) e in absurd (omega arith)) refl (omega arith) refl opens .number
+
+pub number-in-label-contradicts :
+    ¬ ((k later : LuossavinKey) → SameKey k later → ThereAndBack (Decryptable Gcm) (bindsNumber Encrypt k) (bindsNumber Decrypt later))
+unfolding modeOf hostKeyNew keyOf newCipher
+number-in-label-contradicts claim =
+    let later = hostKeyNew zeros 2 in
+    let same = set-up-same-key zeros 1 2 refl (omega arith) (omega arith) (omega arith) (omega arith) in
+    let s = exported-served 4 zeroKey later (omega arith) refl refl same in
+    let asked : Asks Gcm (1 ∷ []) [] zeros zeros =
+    record { iv-size = inl refl; label-fits = λ _. omega arith; data-fits = omega arith; room = omega arith } in
+    let sealed = s .sealing (1 ∷ []) [] zeros zeros asked in
+    let file = result (hostModeCall Encrypt 4 zeroKey (1 ∷ []) [] zeros zeros) in
+    let opened = s .opening (1 ∷ []) [] zeros zeros zeros asked tt zeros-bytes (omega arith) .number in
+    let back = claim zeroKey later same [] [] zeros zeros zeros tt zeros-bytes (sealed .number) (rw (sealed .size) (omega arith)) .number in
+    let z : _≡_ {A = ℕ} 4 0 = sym (other-number file opened) ∙ back in
+    absurd (omega arith)
+
+-- Not looking at the label's length is told by a label past the limit, with any usable and unretired key: the start answers 0, and the
+-- single call of no data 5.
+module _ (k : LuossavinKey) (a : k .answer ≡ 0) (u : k .retired ≡ 0) (n : ℕ) (past : n ≡ limit + 1) where
+  label-too-long : (label : List ℕ) → length label ≡ n → hostModeCall Encrypt 4 k label [] zeros zeros .head .number ≡ 5
+  unfolding hostModeCall modeOf modeCall messageCheck keyAndIv cipherIn keyAnswerOf
+  label-too-long label e = rw (e, past, a, u)
+
+  starts-anyway : (label : List ℕ) → labelUnseen k label zeros .head .number ≡ 0
+  unfolding keyAndIv cipherIn keyAnswerOf
+  starts-anyway label = rw (a, u)
+
+  label-told : ¬ ((label iv : List ℕ)
+      → CheckedAlike Seal [] 16 (0 ∷ []) (labelUnseen k label iv) (λ d o. hostModeCall Encrypt 4 k label d iv o))
+  label-told claim =
+      let label : List ℕ = replicate n 0 in
+      let z : _≡_ {A = Bool} false true =
+      sym (ap (λ (m : ℕ). oneOf m (0 ∷ [])) (label-too-long label (length-replicate n 0)))
+      ∙ claim label zeros .begun (starts-anyway label) zeros (omega arith) in
+      let y : _≡_ {A = ℕ} 0 1 = ap (λ (b : Bool). cond b 1 0) z in
+      absurd (omega arith)
+
+pub unseen-label-contradicts : (k : LuossavinKey) → k .answer ≡ 0 → k .retired ≡ 0
+    → ¬ ((label iv : List ℕ) → CheckedAlike Seal [] 16 (0 ∷ []) (labelUnseen k label iv) (λ d o. hostModeCall Encrypt 4 k label d iv o))
+unseen-label-contradicts k a u = label-told k a u (limit + 1) refl
+
+-- A part that is told where none is found is told by a bad list, one byte of labels and no candidate.
+pub left-part-is-told : (k : LuossavinKey)
+    → ¬ ((file iv labels lengths : List ℕ) → WhichAnswered (keyNumber (cipherIn k)) labels lengths (leavesPart k file iv labels lengths))
+unfolding hostWhich which badList sum
+left-part-is-told k claim =
+    let z : _≡_ {A = ℕ} 1 0 = claim [] [] (0 ∷ []) [] .empty refl .2 in
     absurd (omega arith)
 
 -- one empty candidate and sixteen bytes of IV: what is left to pass is the file
@@ -242,86 +317,108 @@ one-candidate-passes a retired file k e = rw (k, e)
 
 -- Counting places from 1 is told by the empty message, sealed under the empty label with any usable and unretired key: it opens under the
 -- only candidate, which is at place 0.
-pub counting-from-one-is-told : (c : Sm4Cipher) → c .answer ≡ Key → c .retired ≡ false
+pub counting-from-one-is-told : (k : LuossavinKey) → k .answer ≡ 0 → k .retired ≡ 0
     → ¬ ((file iv labels lengths o : List ℕ) → length file - 16 ≤ length o
-    → Tells (modeCall Decrypt (inGcm c)) file iv labels lengths o (countsFromOne c file iv labels lengths))
-unfolding labelAt badList sum
-counting-from-one-is-told c k u claim =
-    let file = result (modeCall Encrypt (inGcm c) [] [] zeros zeros) in
-    let sealed : modeCall Encrypt (inGcm c) [] [] zeros zeros
-    ≡ keyed (keyNumber c) (reporting (roundOf Gcm Encrypt (c .rk) zeros 0) (done (encrypted Gcm (c .rk) [] [] zeros) zeros)) =
-    leaves Encrypt (inGcm c) [] [] zeros zeros (nothing-in-order (c .answer) (c .retired) k u Gcm)
-    ∙ ap {B = Outcome} (keyed (keyNumber c)) (encrypts Gcm (c .rk) [] [] zeros zeros) in
-    let done-there : modeCall Encrypt (inGcm c) [] [] zeros zeros .head .number ≡ 0 = ap (λ (x : Outcome). x .head .number) sealed in
-    let room : modeCall Encrypt (inGcm c) [] [] zeros zeros .head .size - 16 ≤ length zeros =
-    rw sealed (simp (length-encrypted Gcm (c .rk) [] [] zeros) (omega arith)) in
-    let bytes = below-replicate 256 16 0 (lit< tt) in
-    let back = decryption-takes-back Gcm c c (inl refl) [] [] zeros zeros zeros tt bytes done-there room .number in
+    → Tells (hostModeCall Decrypt 4 k) file iv labels lengths o (countsFromOne k file iv labels lengths))
+unfolding hostModeCall modeOf hostWhich labelAt badList sum
+counting-from-one-is-told k a u claim =
+    let c = cipherIn k in
+    let same : SameKey k k = record { keys = refl; answer = refl } in
+    let file = result (hostModeCall Encrypt 4 k [] [] zeros zeros) in
+    let s = exported-served 4 k k (omega arith) a u same in
+    let back = s .opening [] [] zeros zeros zeros (nothing-asked Gcm) tt zeros-bytes (omega arith) .number in
     let p = through Decrypt (inGcm c) [] file zeros zeros back in
     let asked : Asked c file zeros [] (0 ∷ []) =
-    record { list = refl; checks = one-candidate-passes (c .answer) (c .retired) (length file) k (p .content) } in
+    record { list = refl; checks = one-candidate-passes (c .answer) (c .retired) (length file) (p .key) (p .content) } in
     let first : IsFirst (opensWith c zeros file) [] (0 ∷ []) 0 =
     record { inside = omega arith; passes = gcm-opens c [] file zeros zeros back; none-before = λ j h. absurd (omega arith) } in
     let found = first-opens c file zeros [] (0 ∷ []) asked 0 first in
-    let told = claim file zeros [] (0 ∷ []) zeros (p .room) .found (ap (λ (v : Verdict). v .found) found) .inside in
+    let told = claim file zeros [] (0 ∷ []) zeros (p .room) .found (ap (λ (v : Verdict). cond (v .found) 1 0) found) .inside in
     absurd (omega (arith, told))
 
 -- Looking at the file's length before the labels' is told by a file of no bytes and one label past the limit, which is 5, with any usable
 -- key: the imposter answers 9.
-module _ (c : Sm4Cipher) (k : c .answer ≡ Key) (n : ℕ) (past : n ≡ limit + 1) where
-  too-long : (labels : List ℕ) → length labels ≡ n → which c [] zeros labels (n ∷ []) .head .number ≡ 5
-  unfolding which badList sum searchCheck keyAndIv anyTooLong
-  too-long labels e = rw (e, past, k)
+module _ (k : LuossavinKey) (a : k .answer ≡ 0) (n : ℕ) (past : n ≡ limit + 1) where
+  too-long : (labels : List ℕ) → length labels ≡ n → hostWhich k [] zeros labels (n ∷ []) .head .number ≡ 5
+  unfolding hostWhich which badList sum searchCheck keyAndIv anyTooLong cipherIn keyAnswerOf
+  too-long labels e = rw (e, past, a)
 
-  short-first : (labels : List ℕ) → fileFirst c [] zeros labels (n ∷ []) .head .number ≡ 9
-  unfolding keyAndIv dataCheck
-  short-first labels = rw k
+  short-first : (labels : List ℕ) → fileFirst k [] zeros labels (n ∷ []) .head .number ≡ 9
+  unfolding keyAndIv dataCheck cipherIn keyAnswerOf
+  short-first labels = rw a
 
-  told-apart : ¬ ((file iv labels lengths : List ℕ) → fileFirst c file iv labels lengths ≡ which c file iv labels lengths)
+  told-apart : ¬ ((file iv labels lengths : List ℕ) → fileFirst k file iv labels lengths ≡ hostWhich k file iv labels lengths)
   told-apart claim =
       let labels : List ℕ = replicate n 0 in
       let z : _≡_ {A = ℕ} 9 5 =
-      sym (short-first labels) ∙ ap (λ (v : Verdict). v .head .number) (claim [] zeros labels (n ∷ []))
+      sym (short-first labels) ∙ ap (λ (v : Told). v .head .number) (claim [] zeros labels (n ∷ []))
       ∙ too-long labels (length-replicate n 0) in
       absurd (omega arith)
 
-pub file-first-contradicts : (c : Sm4Cipher) → c .answer ≡ Key
-    → ¬ ((file iv labels lengths : List ℕ) → fileFirst c file iv labels lengths ≡ which c file iv labels lengths)
-file-first-contradicts c k = told-apart c k (limit + 1) refl
+pub file-first-contradicts : (k : LuossavinKey) → k .answer ≡ 0
+    → ¬ ((file iv labels lengths : List ℕ) → fileFirst k file iv labels lengths ≡ hostWhich k file iv labels lengths)
+file-first-contradicts k a = told-apart k a (limit + 1) refl
 
--- A range from the block's start is wrong at the second byte under the key of sixteen zero bytes: a zero byte becomes 1f there, and 9f at the
--- first.
-two-bytes : chain (streamMode Ctr·kind (roundKeys zeros)) zeros (0 ∷ 0 ∷ []) ≡ 0x9f ∷ 0x1f ∷ []
+-- A range from the block's start is no stretch of the whole, at the second of two zero bytes under the key of sixteen zero bytes: it
+-- becomes 1f, and 9f at the block's start.
+two-bytes : encrypted Ctr (roundKeys zeros) [] (0 ∷ 0 ∷ []) zeros ≡ 0x9f ∷ 0x1f ∷ []
 unfolding chain walk
 two-bytes = rw zero-block
 
-second-byte : rangeCall Encrypt (zeroKey .cipher) zeros 1 (0 ∷ []) (0 ∷ []) .bytes ≡ 0x1f ∷ []
-unfolding rangeCall rangeCheck reachCheck keyAndIv stretch newCipherMode newCipher
-second-byte = ap (λ (l : List ℕ). over (drop 1 l) (0 ∷ [])) two-bytes
+under-one : encrypted Ctr (roundKeys zeros) [] (0 ∷ []) (replicate 15 0 ++ (1 ∷ [])) ≡ 0x23 ∷ []
+unfolding chain walk
+under-one = rw block-of-one
 
-first-byte : rangeCall Encrypt (zeroKey .cipher) zeros 0 (0 ∷ []) (0 ∷ []) .bytes ≡ 0x9f ∷ []
-unfolding rangeCall rangeCheck reachCheck keyAndIv stretch newCipherMode newCipher
-first-byte = ap (λ (l : List ℕ). over l (0 ∷ [])) one-byte
+-- what a range of one zero byte at the text's start gives
+first-byte : (iv : List ℕ) (b : ℕ) → wrongIv Ctr (length iv) ≡ false → encrypted Ctr (roundKeys zeros) [] (0 ∷ []) iv ≡ b ∷ []
+    → result (hostCtrRange zeroKey false iv 0 (0 ∷ []) (0 ∷ [])) ≡ b ∷ []
+unfolding hostCtrRange rangeCall rangeCheck reachCheck keyAndIv stretch hostKeyNew keyOf cipherIn keyAnswerOf newCipher
+first-byte iv b i e = rw (i, e)
 
-pub from-the-block-contradicts :
-    fromTheBlock Encrypt (zeroKey .cipher) zeros 1 (0 ∷ []) (0 ∷ []) ≢ rangeCall Encrypt (zeroKey .cipher) zeros 1 (0 ∷ []) (0 ∷ [])
-from-the-block-contradicts e =
+pub from-the-block-contradicts : ¬ StretchOfWhole fromTheBlock ctrCall
+from-the-block-contradicts claim =
+    let o : List ℕ = 0 ∷ 0 ∷ [] in
+    let single = given o o (0x9f ∷ 0x1f ∷ []) (omega arith) (omega arith) two-bytes in
+    let done-there = ap (λ (x : Outcome). x .head .number) single in
+    let e = claim .stretch zeroKey false [] zeros (0 ∷ []) (0 ∷ []) [] (0 ∷ []) o (omega arith) done-there .1 in
     let z : _≡_ {A = ℕ} 0x9f 0x1f =
-    ap (λ (l : List ℕ). getD l 0 0) (sym first-byte ∙ ap (λ (x : Outcome). x .bytes) e ∙ second-byte) in
+    ap (λ (l : List ℕ). getD l 0 0)
+    (sym (first-byte zeros 0x9f refl one-byte) ∙ e ∙ ap (λ (x : Outcome). take 1 (drop 1 (result x))) single) in
+    absurd (omega arith)
+
+-- The key stream alone does not commute, at one zero byte under the IVs of zeros and of the number 1: the last of the two stands there, 9f
+-- or 23.
+abbrev firstOf : List ℕ → Applying
+firstOf iv = record { key = zeroKey; decrypt = false; iv = iv; share = record { start = 0; size = 1 }; out = 0 ∷ [] }
+
+stream-stands : (iv : List ℕ) (b x : ℕ) → wrongIv Ctr (length iv) ≡ false → encrypted Ctr (roundKeys zeros) [] (0 ∷ []) iv ≡ b ∷ []
+    → appliedBy streamAlone (firstOf iv) (x ∷ []) ≡ b ∷ []
+stream-stands iv b x i e = ap (λ (l : List ℕ). laidAt 0 l (x ∷ [])) (first-byte iv b i e)
+
+pub stream-alone-contradicts : ¬ RangesCommute streamAlone
+stream-alone-contradicts claim =
+    let one : List ℕ = replicate 15 0 ++ (1 ∷ []) in
+    let a = firstOf zeros in
+    let b = firstOf one in
+    let zeros-last : appliedBy streamAlone a (appliedBy streamAlone b (0 ∷ [])) ≡ 0x9f ∷ [] =
+    ap (appliedBy streamAlone a) (stream-stands one 0x23 0 refl under-one) ∙ stream-stands zeros 0x9f 0x23 refl one-byte in
+    let one-last : appliedBy streamAlone b (appliedBy streamAlone a (0 ∷ [])) ≡ 0x23 ∷ [] =
+    ap (appliedBy streamAlone b) (stream-stands zeros 0x9f 0 refl one-byte) ∙ stream-stands one 0x23 0x9f refl under-one in
+    let z : _≡_ {A = ℕ} 0x9f 0x23 = ap (λ (l : List ℕ). getD l 0 0) (sym zeros-last ∙ claim a b (0 ∷ []) ∙ one-last) in
     absurd (omega arith)
 
 -- Looking at the plan before the length is told by one byte past the limit and a plan of no pieces, which is 5, with any usable and
 -- unretired key: the imposter answers 18.
-module _ (c : Sm4Cipher) (k : c .answer ≡ Key) (u : c .retired ≡ false) (n : ℕ) (past : n ≡ limit + 1) where
-  length-first : (d : List ℕ) → length d ≡ n → planCall Encrypt c zeros noPieces d [] .head .number ≡ 5
-  unfolding planCall reachCheck keyAndIv
-  length-first d e = rw (e, past, k, u)
+module _ (k : LuossavinKey) (a : k .answer ≡ 0) (u : k .retired ≡ 0) (n : ℕ) (past : n ≡ limit + 1) where
+  length-first : (d : List ℕ) → length d ≡ n → hostCtrByPlan k false zeros noPieces d [] .head .number ≡ 5
+  unfolding hostCtrByPlan planCall reachCheck keyAndIv cipherIn keyAnswerOf
+  length-first d e = rw (e, past, a, u)
 
-  plan-first : (d : List ℕ) → length d ≡ n → planFirst Encrypt c zeros noPieces d [] .head .number ≡ 18
-  unfolding keyAndIv accepts follows
-  plan-first d e = rw (e, past, k, u)
+  plan-first : (d : List ℕ) → length d ≡ n → planFirst k false zeros noPieces d [] .head .number ≡ 18
+  unfolding keyAndIv accepts follows cipherIn keyAnswerOf
+  plan-first d e = rw (e, past, a, u)
 
-  plan-told : ¬ ((iv : List ℕ) (plan : Plan) (d o : List ℕ) → planFirst Encrypt c iv plan d o ≡ planCall Encrypt c iv plan d o)
+  plan-told : ¬ ((iv : List ℕ) (plan : Plan) (d o : List ℕ) → planFirst k false iv plan d o ≡ hostCtrByPlan k false iv plan d o)
   plan-told claim =
       let d : List ℕ = replicate n 0 in
       let m : length d ≡ n = length-replicate n 0 in
@@ -329,9 +426,9 @@ module _ (c : Sm4Cipher) (k : c .answer ≡ Key) (u : c .retired ≡ false) (n :
       sym (plan-first d m) ∙ ap (λ (x : Outcome). x .head .number) (claim zeros noPieces d []) ∙ length-first d m in
       absurd (omega arith)
 
-pub plan-first-contradicts : (c : Sm4Cipher) → c .answer ≡ Key → c .retired ≡ false
-    → ¬ ((iv : List ℕ) (plan : Plan) (d o : List ℕ) → planFirst Encrypt c iv plan d o ≡ planCall Encrypt c iv plan d o)
-plan-first-contradicts c k u = plan-told c k u (limit + 1) refl
+pub plan-first-contradicts : (k : LuossavinKey) → k .answer ≡ 0 → k .retired ≡ 0
+    → ¬ ((iv : List ℕ) (plan : Plan) (d o : List ℕ) → planFirst k false iv plan d o ≡ hostCtrByPlan k false iv plan d o)
+plan-first-contradicts k a u = plan-told k a u (limit + 1) refl
 
 -- what the shelf of two editions reads
 abbrev emptied : ℕ → Bool → Record

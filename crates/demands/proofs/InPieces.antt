@@ -127,7 +127,7 @@ module _ (S : Type 0) (text : List ℕ → List ℕ) (after : List ℕ → S) (c
       let x = one-more d p ps (call (after d) p) (g .goes d p (omega arith) r) (went (d ++ p .text) ps (omega arith) rs) in
       record { all = (x .did, x .all); state = x .state; bytes = x .bytes }
 
-ctr-within : (dir : Direction) (n : ℕ) → dataCheck dir Ctr·mode n ≡ Passed → n ≤ limit
+pub ctr-within : (dir : Direction) (n : ℕ) → dataCheck dir Ctr·mode n ≡ Passed → n ≤ limit
 ctr-within Encrypt n e = data-within Encrypt Ctr·mode n e
 ctr-within Decrypt n e = data-within Decrypt Ctr·mode n e
 
@@ -148,7 +148,7 @@ seal-starts c label iv k n u h = seal-started c label iv (rw (k, n, u, le-ltb li
 chain-nothing : (rk iv : List ℕ) → chain (streamMode Ctr·kind rk) iv [] ≡ []
 chain-nothing rk iv = chain-rest (streamMode Ctr·kind rk) iv [] (omega arith)
 
-ctr-goes : (i mark : ℕ) (rk iv : List ℕ) → Goes Ctr i (chain (streamMode Ctr·kind rk) iv) (ctrAfter i mark rk iv) (onto Ctr ctrPiece)
+pub ctr-goes : (i mark : ℕ) (rk iv : List ℕ) → Goes Ctr i (chain (streamMode Ctr·kind rk) iv) (ctrAfter i mark rk iv) (onto Ctr ctrPiece)
 ctr-goes i mark rk iv =
     record {
       kept = length-stream Ctr·kind rk iv;
@@ -156,7 +156,7 @@ ctr-goes i mark rk iv =
       fronts = λ d e. sym (ctr-joined rk iv d e);
     }
 
-seal-goes : (i mark : ℕ) (rk label iv : List ℕ) → length label ≤ limit
+pub seal-goes : (i mark : ℕ) (rk label iv : List ℕ) → length label ≤ limit
     → Goes Seal i (textOf rk (J0 rk iv)) (sealAfter i mark rk label iv) (onto Seal sealPiece)
 seal-goes i mark rk label iv hl =
     record {
@@ -234,7 +234,7 @@ pub record Took (i : ℕ) (rk label iv c : List ℕ) (cs : List (List ℕ)) : Ty
   pub all : AllDid Opens (List ℕ) opensPiece none (opensAfter i rk label iv c) cs
   pub state : stateAfter Opens (List ℕ) opensPiece (opensAfter i rk label iv c) cs ≡ opensAfter i rk label iv (c ++ joined cs)
 
-took : (i : ℕ) (rk label iv : List ℕ) → length label ≤ limit → (c : List ℕ) (cs : List (List ℕ)) → length c + length (joined cs) ≤ limit
+pub took : (i : ℕ) (rk label iv : List ℕ) → length label ≤ limit → (c : List ℕ) (cs : List (List ℕ)) → length c + length (joined cs) ≤ limit
     → Took i rk label iv c cs
 took i rk label iv hl c [] h = record { all = tt; state = ap (opensAfter i rk label iv) (sym (append-nil c)) }
 took i rk label iv hl c (e ∷ cs) h =
@@ -253,12 +253,12 @@ took i rk label iv hl c (e ∷ cs) h =
     }
 
 -- what a start that answered 0 had in order
-record Starts (c : Sm4Cipher) (label iv : List ℕ) : Type 0 where
+pub record Starts (c : Sm4Cipher) (label iv : List ℕ) : Type 0 where
   pub key : c .answer ≡ Key
   pub iv-size : wrongIv Gcm (length iv) ≡ false
   pub label-fits : length label ≤ limit
 
-started : (c : Sm4Cipher) (label iv : List ℕ) → gcmStarting (c .answer) (c .retired) Decrypt (length iv) (length label) ≡ Passed
+pub started : (c : Sm4Cipher) (label iv : List ℕ) → gcmStarting (c .answer) (c .retired) Decrypt (length iv) (length label) ≡ Passed
     → Starts c label iv
 unfolding gcmStarting
 started c label iv e =
@@ -266,7 +266,7 @@ started c label iv e =
     let first = key-and-iv-passed (c .answer) (c .retired) Decrypt Gcm (length iv) (b .0) in
     record { key = first .key; iv-size = first .iv-size; label-fits = label-passed (length label) (b .1) }
 
-opens-starts : (c : Sm4Cipher) (label iv : List ℕ) → opensStart c label iv .head .number ≡ 0
+pub opens-starts : (c : Sm4Cipher) (label iv : List ℕ) → opensStart c label iv .head .number ≡ 0
     → gcmStarting (c .answer) (c .retired) Decrypt (length iv) (length label) ≡ Passed
 unfolding opensStart
 opens-starts c label iv e =

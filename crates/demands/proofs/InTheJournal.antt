@@ -1,5 +1,5 @@
--- The replay of a journal, as a host is told of it: demand 1, which number it ends with, that one answer is allowed alone; two journals
--- joined; and that calls which were recorded as they were answered agree.
+-- The replay of a journal, as a host is told of it: demand 1, which number it ends with; two journals joined; and that calls which were
+-- recorded as they were answered agree.
 -- Assumes nothing.
 use mathlib.Core.Path.{_≡_, refl, sym, ap, _∙_}
 use mathlib.Core.Logic.{_⊎_, inl, inr, ⊎-elim}
@@ -22,13 +22,12 @@ use Rattle.journal.specs.Reports.{nothing}
 use Rattle.journal.specs.Replay.{numberOfEnd, done, refuse, replayOne, replayUpTo, replay}
 use Rattle.journal.specs.Joined.{added, behindReport}
 use Rattle.journal.specs.Ends.{AllReplayable, countedAll, Ends, differs, NoneDiffers, Totals}
-use Rattle.journal.specs.Writer.{Leaves, write}
+use Rattle.journal.specs.Writer.{write}
 use Rattle.journal.specs.declared.keys.Keys.{Keys}
 use Rattle.journal.specs.declared.report.Report.{Report}
 use Rattle.journal.specs.declared.Ended.{Ended}
 use Rattle.journal.specs.declared.Ended.the-variants.{Done, BadRecord, TooLong, UnknownKey, BadKeys}
 use Rattle.journal.specs.declared.Replayed.{Replayed}
-use Rattle.journal.specs.declared.writer.Wrote.{Wrote}
 use Rattle.journal.specs.declared.writer.Wrote.the-variants.{Done as Done·wrote, NoRoom}
 use Rattle.journal.proofs.Sums.{replay-adds-up, first-replayed}
 use Rattle.journal.proofs.Lent.{any-output-head, any-output-result}
@@ -37,7 +36,6 @@ use Rattle.journal.proofs.Ending.{bad-keys, ends-so, ends-alone, replayed-whole
 use Rattle.journal.proofs.Totals.{totals-told}
 use Rattle.journal.proofs.Agrees.{answered-agrees, agrees-so, none-told, all-agree, first-told}
 use Rattle.luossavin.specs.declared.journals.LuossavinKeys.{LuossavinKeys}
-use Rattle.luossavin.specs.declared.journals.LuossavinReplayed.{LuossavinReplayed}
 use Rattle.luossavin.specs.Host.{hostModeCall}
 use Rattle.luossavin.specs.Journals.{keysOf, toldOf, hostReplay}
 use Rattle.demands.specs.Answered.{oneOf}
@@ -51,12 +49,6 @@ found-by false e = absurd (omega arith)
 none-by : (t : Bool) → _≡_ {A = ℕ} (cond t 1 0) 0 → t ≡ false
 none-by true e = absurd (omega arith)
 none-by false e = refl
-
--- One answer is allowed alone.
-pub unique-exported-replay : (k : LuossavinKeys) (journal : List ℕ) (r₁ r₂ : LuossavinReplayed) → r₁ ≡ hostReplay k journal
-    → r₂ ≡ hostReplay k journal
-    → r₁ ≡ r₂
-unique-exported-replay k journal r₁ r₂ e₁ e₂ = e₁ ∙ sym e₂
 
 -- Which number exactly when: the replay ends as keys and journal say, and in no other way.
 end-back : ℕ → Ended
@@ -208,14 +200,6 @@ module _ (keys : LuossavinKeys) (good : badKeys (keysOf keys) ≡ false) (e : En
       × (hostReplay keys (take n (write e o .bytes)) .differs ≡ 0)
   exported-written-agrees =
       rw is-journal (exported-night-replayed keys good (e ∷ []) (r, tt), exported-night-agrees keys good (e ∷ []) (r, tt))
-
--- The writer's contract leaves one answer and one output alone.
-pub unique-written : (x : Leaves) (r₁ r₂ : Wrote) (o₁ o₂ : List ℕ) → record { wrote = r₁; bytes = o₁ } ≡ x
-    → record { wrote = r₂; bytes = o₂ } ≡ x
-    → (r₁ ≡ r₂) × (o₁ ≡ o₂)
-unique-written x r₁ r₂ o₁ o₂ e₁ e₂ =
-    let e = e₁ ∙ sym e₂ in
-    (ap {B = Wrote} (λ (y : Leaves). y .wrote) e, ap (λ (y : Leaves). y .bytes) e)
 
 -- Two journals joined.
 behind-added : (size : ℕ) (x y : Replayed) → Added size (toldOf x) (toldOf y) (toldOf (behindReport size (x .report) y))

@@ -20,6 +20,7 @@ pub mod Served
 -- demand 3, and what the demands were for
 pub mod OtherHash
 pub mod InPieces
+pub mod OfPieces
 pub mod OneBlockRefused
 pub mod ZeroKey
 pub mod OtherEdition

@@ -1,5 +1,4 @@
--- A shelf, as a host is handed it: demand 1 of its calls, which number each answers, that one answer is allowed alone; and that a rough is
--- not shown for its final.
+-- A shelf, as a host is handed it: demand 1 of its calls, which number each answers; and that a rough is not shown for its final.
 -- Assumes nothing.
 use mathlib.Core.Path.{_≡_, refl, sym, ap, subst, _∙_}
 use mathlib.Core.Logic.{inr}
@@ -21,7 +20,7 @@ use Rattle.cipher_mode.specs.Calls.{modeCall}
 use Rattle.shelf.specs.Records.{Record, AllProper, written, stored, records}
 use Rattle.shelf.specs.Shelf.{isCurrentOf, those, currentOf, hasCurrent, twoCurrent, placeOf, sizeOf, notHigher, collected, fitted, badShelf}
 use Rattle.shelf.specs.Steps.{InOrder}
-use Rattle.shelf.specs.Calls.{Outcome, Place, holding, refuse, newRecord, putIn, nowhere, putCall, collectCall, findCall, lookedUp}
+use Rattle.shelf.specs.Calls.{holding, refuse, newRecord, putIn, nowhere, putCall, collectCall, findCall, lookedUp}
 use Rattle.shelf.proofs.Reading.{written-label, written-sealed}
 use Rattle.shelf.proofs.Walks.{or-left, or-right, none-current, alone}
 use Rattle.shelf.proofs.Sound.{in-order}
@@ -31,9 +30,6 @@ use Rattle.shelf.proofs.FoundPart.{stored-part, look-up}
 use Rattle.shelf.proofs.AfterPut.{put-passed, put-look-up}
 use Rattle.luossavin.specs.declared.key.LuossavinKey.{LuossavinKey}
 use Rattle.luossavin.specs.Host.{hostModeCall}
-use Rattle.luossavin.specs.declared.shelves.LuossavinShelf.{LuossavinShelf}
-use Rattle.luossavin.specs.declared.shelves.LuossavinShelved.{LuossavinShelved}
-use Rattle.luossavin.specs.Shelves.{shelfReported, shelvedReported}
 use Rattle.demands.specs.Answered.{oneOf}
 use Rattle.demands.specs.Call.{Call, inGcm}
 use Rattle.demands.specs.OneBlockRefused.{MovesZero}
@@ -81,19 +77,6 @@ exported-find-number shelf used job = by-tests (badShelf shelf used) (hasCurrent
   by-tests true has = refl
   by-tests false true = refl
   by-tests false false = refl
-
--- Any two answers and buffers that the contracts allow coincide.
-pub unique-exported-shelf : (x : Outcome) (r₁ r₂ : LuossavinShelf) (s₁ s₂ : List ℕ) → shelfReported r₁ s₁ ≡ x → shelfReported r₂ s₂ ≡ x
-    → (r₁ ≡ r₂) × (s₁ ≡ s₂)
-unique-exported-shelf x r₁ r₂ s₁ s₂ e₁ e₂ =
-    let e = e₁ ∙ sym e₂ in (
-      ap {B = LuossavinShelf} (λ (y : Outcome). record { number = y .number; used = y .used }) e,
-      ap (λ (y : Outcome). y .bytes) e,
-    )
-
-pub unique-exported-shelved : (x : Place) (r₁ r₂ : LuossavinShelved) → shelvedReported r₁ ≡ x → shelvedReported r₂ ≡ x → r₁ ≡ r₂
-unique-exported-shelved x r₁ r₂ e₁ e₂ =
-    ap {B = LuossavinShelved} (λ (y : Place). record { number = y .number; start = y .start; length = y .size }) (e₁ ∙ sym e₂)
 
 -- Demand 1.
 module _ (numbers : List ℕ) (shelf : List ℕ) (used : ℕ) where

@@ -38,7 +38,7 @@ one-block a b ne e l =
     }
 
 -- a file under another label of a block or less
-short-label-refused : (c : Sm4Cipher) → MovesZero (c .rk) → (a₁ a₂ file iv o₁ o₂ : List ℕ) → AreBytes a₁ → AreBytes a₂
+pub short-label-refused : (c : Sm4Cipher) → MovesZero (c .rk) → (a₁ a₂ file iv o₁ o₂ : List ℕ) → AreBytes a₁ → AreBytes a₂
     → a₁ ≢ a₂ → length a₁ ≡ length a₂ → length a₁ ≤ 16 → length o₁ ≡ length o₂
     → modeCall Decrypt (inGcm c) a₁ file iv o₁ .head .number ≡ 0 → RefusedAs 4 o₂ (modeCall Decrypt (inGcm c) a₂ file iv o₂)
 short-label-refused c moves a₁ a₂ file iv o₁ o₂ b₁ b₂ ne e l eo opens =

@@ -1,20 +1,19 @@
 -- Keys that open and no longer seal: a retired key encrypts nothing and decrypts as it did, and there is no way back.
 -- Assumes nothing.
-use mathlib.Core.Path.{_≡_, refl, sym, subst}
+use mathlib.Core.Path.{_≡_, refl, sym, ap, subst, _∙_}
 use mathlib.Core.Logic.{_≢_}
-use mathlib.Core.Bool.{Bool, true, false}
-use Prim.Native.Nat.{ℕ}
+use mathlib.Core.Bool.{Bool, true, false, _||_}
+use mathlib.Core.List.{List, [], _∷_, _++_, map}
+use Prim.Native.Nat.{ℕ, zero, suc}
 use native.Mathlib.Omega.{arith}
-use lib.Dec.{eqb}
-use lib.ListN.{length}
-use borrow.Author.Tests.{eq-eqb, ne-eqb}
-use Rattle.cipher_mode.specs.declared.KeyAnswer.{KeyAnswer}
-use Rattle.cipher_mode.specs.declared.KeyAnswer.the-variants.{Key, ErrorBlockSize as NoKey, WrongNumber as NoNumber}
+use lib.Dec.{eqb, ltb}
+use lib.ListN.{length, take}
+use borrow.Author.Tests.{eq-eqb, ne-eqb, eqb-true, eqb-false}
+use Rattle.walk.specs.Outcome.{Outcome, refuse}
 use Rattle.cipher_mode.specs.declared.CipherMode.the-variants.{Ctr as Ctr·mode, Gcm}
 use Rattle.cipher_mode.specs.declared.Direction.the-variants.{Encrypt}
 use Rattle.cipher_mode.specs.declared.Sm4Cipher.{Sm4Cipher}
 use Rattle.cipher_mode.specs.declared.checks.Checked.the-variants.{Passed}
-use Rattle.cipher_mode.specs.Key.{retiredIf, retire, withEngine}
 use Rattle.cipher_mode.specs.Checks.{retiredCheck, keyAndIv, blockCheck, messageCheck}
 use Rattle.cipher_mode.specs.Calls.{blockCall, modeCall}
 use Rattle.cipher_mode.proofs.Passed.{both, key-and-iv-passed}
@@ -23,135 +22,154 @@ use Rattle.pieces.specs.declared.seal.Seal.{Seal}
 use Rattle.pieces.specs.Checks.{gcmStarting}
 use Rattle.pieces.specs.Calls.{ctrStart, sealStart, opensStart}
 use Rattle.editions.specs.Which.{which, searchCheck}
+use Rattle.ranges.specs.Range.{reachCheck, rangeCheck, rangeCall}
+use Rattle.ranges.specs.ByPlan.{planCall}
+use Rattle.journal.specs.KeyList.{anyRetired, badKeys}
+use Rattle.journal.specs.Replay.{replay}
 use Rattle.luossavin.specs.declared.key.LuossavinKey.{LuossavinKey}
-use Rattle.luossavin.specs.Key.{cipherIn, hostKeyRetire, hostKeyEngine}
+use Rattle.luossavin.specs.declared.journals.LuossavinKeys.{LuossavinKeys}
+use Rattle.luossavin.specs.Key.{keyAnswerOf, cipherIn, hostKeyRetire, hostKeyEngine}
+use Rattle.luossavin.specs.Host.{modeIn, hostBlockCall, hostModeCall}
+use Rattle.luossavin.specs.InPieces.{hostCtrStart, hostSealStart, hostOpensStart}
+use Rattle.luossavin.specs.Which.{hostWhich}
+use Rattle.luossavin.specs.Ranges.{hostCtrRange, hostCtrByPlan}
+use Rattle.luossavin.specs.Journals.{keysOf, hostReplay}
 use Rattle.demands.specs.Retired.{StaysRetired, DecryptsAlike, EncryptsNothing}
-use Rattle.demands.proofs.Through.{block-through, through, passed-start}
-use Rattle.demands.proofs.Exported.{retired-is-retired}
+use Rattle.demands.proofs.Through.{zero-passed, block-through, through, passed-start}
 
 -- A key that is retired keeps all but the mark;
-pub retired-key : (c : Sm4Cipher) → c .answer ≡ Key → retire c ≡ record { rk = c .rk; answer = Key; number = c .number; retired = true; engine = c .engine }
-unfolding retire
-retired-key c k = rw k
+abbrev pub retiredOf : LuossavinKey → LuossavinKey
+retiredOf k = record { «round_keys» = k .«round_keys»; answer = 0; number = k .number; retired = 1; engine = k .engine }
+
+pub retired-key : (k : LuossavinKey) → k .answer ≡ 0 → hostKeyRetire k ≡ retiredOf k
+unfolding hostKeyRetire
+retired-key k e = rw (eq-eqb (k .answer) 0 e)
 
 -- of no key it is the same no key;
-by-answer : (c : Sm4Cipher) (a : KeyAnswer) → a ≢ Key → retiredIf a c ≡ c
-by-answer c Key n = absurd (n refl)
-by-answer c NoKey n = refl
-by-answer c NoNumber n = refl
+pub retired-no-key : (k : LuossavinKey) → k .answer ≢ 0 → hostKeyRetire k ≡ k
+unfolding hostKeyRetire
+retired-no-key k n = rw (ne-eqb (k .answer) 0 n)
 
-pub retired-no-key : (c : Sm4Cipher) → c .answer ≢ Key → retire c ≡ c
-unfolding retire
-retired-no-key c n = by-answer c (c .answer) n
+-- so what holds of either holds of what is retired;
+pub retired-by : (P : LuossavinKey → Type 0) (k : LuossavinKey) → (k .answer ≡ 0 → P (retiredOf k)) → (k .answer ≢ 0 → P k)
+    → P (hostKeyRetire k)
+retired-by P k of-key of-none = by (eqb (k .answer) 0) refl
+  where
+    by : (t : Bool) → eqb (k .answer) 0 ≡ t → P (hostKeyRetire k)
+    by true e = let z = eqb-true (k .answer) 0 e in subst P (sym (retired-key k z)) (of-key z)
+    by false e = let n = eqb-false (k .answer) 0 e in subst P (sym (retired-no-key k n)) (of-none n)
 
 -- twice is once;
-once : (c : Sm4Cipher) (a : KeyAnswer) → c .answer ≡ a → retire (retiredIf a c) ≡ retiredIf a c
-unfolding retire
-once c Key e = refl
-once c NoKey e = rw e
-once c NoNumber e = rw e
-
-pub retired-twice : (c : Sm4Cipher) → retire (retire c) ≡ retire c
-unfolding retire
-retired-twice c = once c (c .answer) refl
+pub retired-twice : (k : LuossavinKey) → hostKeyRetire (hostKeyRetire k) ≡ hostKeyRetire k
+retired-twice k = retired-by (λ l. hostKeyRetire l ≡ l) k (λ _. retired-key (retiredOf k) refl) (retired-no-key k)
 
 -- and there is no way back: no call hands back an unretired record for a retired one. Setting up a key makes a new one.
-marked : (c : Sm4Cipher) (a : KeyAnswer) → c .retired ≡ true → retiredIf a c .retired ≡ true
-marked c Key r = refl
-marked c NoKey r = r
-marked c NoNumber r = r
+pub stays-retired : StaysRetired hostKeyRetire
+stays-retired k r = retired-by (λ l. l .retired ≢ 0) k (λ _ z. omega arith) (λ _. r)
 
-pub stays-retired : StaysRetired retire
-unfolding retire
-stays-retired c r = marked c (c .answer) r
-
-pub engine-stays-retired : (e : ℕ) → StaysRetired (withEngine e)
-unfolding withEngine
-engine-stays-retired e c r = r
-
--- The same of a host's records, whose mark is any byte but 0.
-pub exported-retired-key : (k : LuossavinKey) → k .answer ≡ 0
-    → hostKeyRetire k ≡ record { «round_keys» = k .«round_keys»; answer = 0; number = k .number; retired = 1; engine = k .engine }
-unfolding hostKeyRetire
-exported-retired-key k e = rw (eq-eqb (k .answer) 0 e)
-
-pub exported-retired-no-key : (k : LuossavinKey) → k .answer ≢ 0 → hostKeyRetire k ≡ k
-unfolding hostKeyRetire
-exported-retired-no-key k n = rw (ne-eqb (k .answer) 0 n)
-
-host-once : (k : LuossavinKey) (t : Bool) → eqb (k .answer) 0 ≡ t → hostKeyRetire (hostKeyRetire k) ≡ hostKeyRetire k
-unfolding hostKeyRetire
-host-once k true e = rw e
-host-once k false e = rw e (rw e)
-
-pub exported-retired-twice : (k : LuossavinKey) → hostKeyRetire (hostKeyRetire k) ≡ hostKeyRetire k
-exported-retired-twice k = host-once k (eqb (k .answer) 0) refl
-
-host-marked : (k : LuossavinKey) (t : Bool) → eqb (k .answer) 0 ≡ t → k .retired ≢ 0 → hostKeyRetire k .retired ≢ 0
-unfolding hostKeyRetire
-host-marked k true e r = rw e (λ z. omega arith)
-host-marked k false e r = rw e r
-
-pub exported-stays-retired : (k : LuossavinKey) → k .retired ≢ 0 → hostKeyRetire k .retired ≢ 0
-exported-stays-retired k = host-marked k (eqb (k .answer) 0) refl
-
-pub exported-engine-stays-retired : (k : LuossavinKey) (e : ℕ) → k .retired ≢ 0 → hostKeyEngine k e .retired ≢ 0
+pub engine-stays-retired : (e : ℕ) → StaysRetired (λ k. hostKeyEngine k e)
 unfolding hostKeyEngine
-exported-engine-stays-retired k e r = r
+engine-stays-retired e k r = r
 
 -- Decryption does not look at the mark.
-same : (c : Sm4Cipher) → DecryptsAlike c c
-same c =
+same : (k : LuossavinKey) → DecryptsAlike k k
+same k =
     record {
       block = λ b o. refl;
       message = λ mode label s iv o. refl;
       ctr = λ iv. refl;
       opens = λ label iv. refl;
       which = λ file iv labels lengths. refl;
+      range = λ iv offset d o. refl;
+      by-plan = λ iv plan d o. refl;
     }
 
-alike : (c : Sm4Cipher) (a : KeyAnswer) → c .answer ≡ a → DecryptsAlike c (retiredIf a c)
-unfolding blockCall blockCheck modeCall messageCheck keyAndIv ctrStart opensStart gcmStarting which searchCheck
-alike c Key e =
+alike : (k : LuossavinKey) → k .answer ≡ 0 → DecryptsAlike k (retiredOf k)
+unfolding cipherIn keyAnswerOf hostBlockCall blockCall blockCheck hostModeCall modeCall messageCheck keyAndIv hostCtrStart ctrStart
+    hostOpensStart opensStart gcmStarting hostWhich which searchCheck hostCtrRange rangeCall rangeCheck reachCheck hostCtrByPlan planCall
+alike k e =
     record {
       block = λ b o. rw e;
       message = λ mode label s iv o. rw e;
       ctr = λ iv. rw e;
       opens = λ label iv. rw e;
       which = λ file iv labels lengths. rw e;
+      range = λ iv offset d o. rw e;
+      by-plan = λ iv plan d o. rw e;
     }
-alike c NoKey e = same c
-alike c NoNumber e = same c
 
-pub retired-decrypts-alike : (c : Sm4Cipher) → DecryptsAlike c (retire c)
-unfolding retire
-retired-decrypts-alike c = alike c (c .answer) refl
+pub retired-decrypts-alike : (k : LuossavinKey) → DecryptsAlike k (hostKeyRetire k)
+retired-decrypts-alike k = retired-by (DecryptsAlike k) k (alike k) (λ _. same k)
 
 -- And nothing is encrypted under a retired record, whatever else it holds.
 not-allowed : (r : Bool) → r ≡ true → retiredCheck Encrypt r ≡ Passed → ⊥
 not-allowed true e p = let z : _≡_ {A = ℕ} 0 1 = cc in absurd (omega arith)
 not-allowed false e p = let z : _≡_ {A = ℕ} 0 1 = cc in absurd (omega arith)
 
-pub retired-encrypts-nothing : (c : Sm4Cipher) → c .retired ≡ true → EncryptsNothing c
-unfolding ctrStart sealStart gcmStarting
-retired-encrypts-nothing c r =
+module _ (c : Sm4Cipher) (r : c .retired ≡ true) where
+  no-start : (n : ℕ) → keyAndIv (c .answer) (c .retired) Encrypt Ctr·mode n ≡ Passed → ⊥
+  no-start n p = not-allowed (c .retired) r (key-and-iv-passed (c .answer) (c .retired) Encrypt Ctr·mode n p .may)
+
+  no-reach : (n end : ℕ) → reachCheck (c .answer) (c .retired) Encrypt n end ≡ Passed → ⊥
+  unfolding reachCheck
+  no-reach n end p = no-start n (both (keyAndIv (c .answer) (c .retired) Encrypt Ctr·mode n) _ p .0)
+
+  no-range : (n offset size room : ℕ) → rangeCheck (c .answer) (c .retired) Encrypt n offset size room ≡ Passed → ⊥
+  unfolding rangeCheck
+  no-range n offset size room p = no-reach n _ (both (reachCheck (c .answer) (c .retired) Encrypt n _) _ p .0)
+
+  no-seal : (n label : ℕ) → gcmStarting (c .answer) (c .retired) Encrypt n label ≡ Passed → ⊥
+  unfolding gcmStarting
+  no-seal n label p =
+      not-allowed (c .retired) r
+      (key-and-iv-passed (c .answer) (c .retired) Encrypt Gcm n (both (keyAndIv (c .answer) (c .retired) Encrypt Gcm n) _ p .0) .may)
+
+-- a retired key among those of a replay
+taken : (n : ℕ) (ks : List LuossavinKey) → take n (map cipherIn ks) ≡ map cipherIn (take n ks)
+taken zero ks = refl
+taken (suc n) [] = refl
+taken (suc n) (k ∷ ks) = ap {B = List Sm4Cipher} (λ l. cipherIn k ∷ l) (taken n ks)
+
+or-true : (b : Bool) → b || true ≡ true
+or-true true = refl
+or-true false = refl
+
+among : (before : List LuossavinKey) (k : LuossavinKey) (after : List LuossavinKey) → cipherIn k .retired ≡ true
+    → anyRetired (map cipherIn (before ++ (k ∷ after))) ≡ true
+unfolding anyRetired
+among [] k after r = rw r
+among (j ∷ before) k after r = rw (among before k after r) (or-true (cipherIn j .retired))
+
+bad-keys : (keys : LuossavinKeys) (before after : List LuossavinKey) (k : LuossavinKey) → cipherIn k .retired ≡ true
+    → take (keys .count) (keys .keys) ≡ before ++ (k ∷ after) → badKeys (keysOf keys) ≡ true
+unfolding badKeys keysOf
+bad-keys keys before after k r e =
+    let retired : anyRetired (take (keys .count) (map cipherIn (keys .keys))) ≡ true =
+    ap anyRetired (taken (keys .count) (keys .keys) ∙ ap (map cipherIn) e) ∙ among before k after r in
+    rw retired (or-true (ltb 8 (keys .count)))
+
+-- behind a refusal by number 7
+not-seven : (b : Bool) (o : List ℕ) (x : Outcome) → refuse b 7 o x .head .number ≡ 0 → x .head .number ≡ 0
+not-seven true o x e = absurd (omega arith)
+not-seven false o x e = e
+
+marked : (k : LuossavinKey) → k .retired ≢ 0 → cipherIn k .retired ≡ true
+unfolding cipherIn
+marked k n = rw (ne-eqb (k .retired) 0 n)
+
+pub retired-encrypts-nothing : (k : LuossavinKey) → k .retired ≢ 0 → EncryptsNothing k
+unfolding hostBlockCall hostModeCall hostCtrStart ctrStart hostSealStart sealStart hostCtrRange rangeCall hostCtrByPlan planCall hostReplay
+    replay
+retired-encrypts-nothing k n =
+    let c = cipherIn k in
+    let r = marked k n in
     record {
       block = λ b o e. not-allowed (c .retired) r (block-through Encrypt c b o e .may);
       message = λ mode label d iv o e.
-          not-allowed (c .retired) r (through Encrypt (record { cipher = c; mode = mode }) label d iv o e .may);
-      ctr = λ iv e.
-          not-allowed (c .retired) r
-          (key-and-iv-passed (c .answer) (c .retired) Encrypt Ctr·mode (length iv) (passed-start Ctr _ _ _ e) .may);
-      seal = λ label iv e.
-          not-allowed (c .retired) r
-          (key-and-iv-passed (c .answer) (c .retired) Encrypt Gcm (length iv)
-          (both (keyAndIv (c .answer) (c .retired) Encrypt Gcm (length iv)) _ (passed-start Seal _ _ _ e) .0) .may);
+          not-allowed (c .retired) r (through Encrypt (modeIn k mode) label d iv o (not-seven (ltb 4 mode) o _ e) .may);
+      ctr = λ iv e. no-start c r (length iv) (passed-start Ctr _ _ _ e);
+      seal = λ label iv e. no-seal c r (length iv) (length label) (passed-start Seal _ _ _ e);
+      range = λ iv offset d o e. no-range c r (length iv) offset (length d) (length o) (zero-passed _ o _ e);
+      by-plan = λ iv plan d o e. no-reach c r (length iv) (length d) (zero-passed _ o _ e);
+      replay = λ keys before after journal e. rw (bad-keys keys before after k r e);
     }
-
--- So a host's key that was retired encrypts nothing, and decrypts what the key does.
-pub exported-retired : (k : LuossavinKey) → DecryptsAlike (cipherIn k) (cipherIn (hostKeyRetire k))
-exported-retired k = subst (DecryptsAlike (cipherIn k)) (sym (retired-is-retired k)) (retired-decrypts-alike (cipherIn k))
-
-pub exported-retired-encrypts-nothing : (k : LuossavinKey) → k .retired ≢ 0 → EncryptsNothing (cipherIn k)
-unfolding cipherIn
-exported-retired-encrypts-nothing k n = retired-encrypts-nothing (cipherIn k) (rw (ne-eqb (k .retired) 0 n))

@@ -28,12 +28,12 @@ use Rattle.luossavin.specs.declared.key.LuossavinKey.{LuossavinKey}
 use Rattle.luossavin.specs.Key.{keyAnswerOf, cipherIn}
 use Rattle.luossavin.specs.Host.{modeIn, hostBlockCall, hostModeCall}
 use Rattle.demands.specs.Call.{Call, single}
-use Rattle.demands.specs.ThereAndBack.{AtAnyTime, HostAtAnyTime}
+use Rattle.demands.specs.ThereAndBack.{SameKey}
 use Rattle.demands.specs.CameRound.{roundOf}
 use Rattle.demands.specs.Served.{Serves, Asks, Served, BlockServed}
 use Rattle.demands.proofs.Through.{block-leaves, leaves}
 use Rattle.demands.proofs.ModesBack.{encrypted, encrypts, length-encrypted}
-use Rattle.demands.proofs.ThereAndBack.{decryption-takes-back, host-at-any-time}
+use Rattle.demands.proofs.ThereAndBack.{SameRecord, same-record, decryption-takes-back}
 
 -- done with p, on whichever key
 serves : (p o : List ℕ) (n i : ℕ) (b : Bool) (x : Outcome) → x ≡ keyed i (reporting b (done p o)) → length p ≡ n → Serves n x
@@ -84,8 +84,8 @@ module _ (mode : CipherMode) (c : Sm4Cipher) (k : c .answer ≡ Key) (u : c .ret
       (length-encrypted mode (c .rk) label d iv)
 
   -- With a usable and unretired key, in every mode: encryption that is asked for in order is done with the table's length, and so is
-  -- decryption of what it gave, now or when the key is retired, with the message's.
-  pub served : (later : Sm4Cipher) → AtAnyTime c later
+  -- decryption of what it gave, under any record of the key, with the message's.
+  pub served : (later : Sm4Cipher) → SameRecord c later
       → Served mode (modeCall Encrypt m) (modeCall Decrypt (record { cipher = later; mode = mode }))
   served later t =
       record {
@@ -114,12 +114,12 @@ ungated true mode f g e s = let z : _≡_ {A = ℕ} 0 1 = cc in absurd (omega ar
 ungated false mode f g e s = s
 
 -- The exported calls serve every record of a key that is not retired, in every mode, and open for it when it is.
-pub exported-served : (mode : ℕ) (k later : LuossavinKey) → mode ≤ 4 → k .answer ≡ 0 → k .retired ≡ 0 → HostAtAnyTime k later
+pub exported-served : (mode : ℕ) (k later : LuossavinKey) → mode ≤ 4 → k .answer ≡ 0 → k .retired ≡ 0 → SameKey k later
     → Served (modeOf mode) (hostModeCall Encrypt mode k) (hostModeCall Decrypt mode later)
 unfolding hostModeCall cipherIn keyAnswerOf
 exported-served mode k later h a u t =
     ungated (ltb 4 mode) (modeOf mode) (modeCall Encrypt (modeIn k mode)) (modeCall Decrypt (modeIn later mode)) (le-ltb 4 mode h)
-    (served (modeOf mode) (cipherIn k) (rw a) (rw u) (cipherIn later) (host-at-any-time k later t))
+    (served (modeOf mode) (cipherIn k) (rw a) (rw u) (cipherIn later) (same-record k later t))
 
 -- The exported calls on one block serve every record of a key, encryption where it is not retired.
 pub exported-block-served : (dir : Direction) (k : LuossavinKey) → k .answer ≡ 0 → (dir ≡ Encrypt → k .retired ≡ 0)

@@ -1,34 +1,32 @@
 -- Demand 2, there and back: what a call did, its counterpart takes back.
 -- Assumes nothing.
-use mathlib.Core.Path.{_≡_, refl, sym, ap, subst, _∙_}
-use mathlib.Core.Logic.{inl, inr, ⊎-elim}
+use mathlib.Core.Path.{_≡_, refl, sym, ap, _∙_}
 use mathlib.Core.Bool.{Bool, true, false}
 use mathlib.Core.List.{List}
-use Prim.Native.Nat.{ℕ}
+use Prim.Native.Nat.{ℕ, _≤_}
 use native.Mathlib.Omega.{arith}
 use lib.Dec.{ltb}
 use lib.ListN.{length}
 use Rattle.cipher.proofs.Blocks.{block-decrypt-encrypt, block-encrypt-decrypt}
-use Rattle.walk.specs.Outcome.{Outcome, keyed, reporting, done, refuse}
-use Rattle.cipher_mode.specs.declared.KeyAnswer.{KeyAnswer}
-use Rattle.cipher_mode.specs.declared.KeyAnswer.the-variants.{Key, ErrorBlockSize as NoKey, WrongNumber as NoNumber}
+use Rattle.walk.specs.Outcome.{Head, Outcome, keyed, reporting, done, refuse}
 use Rattle.cipher_mode.specs.declared.CipherMode.{CipherMode}
 use Rattle.cipher_mode.specs.declared.Direction.the-variants.{Encrypt, Decrypt}
 use Rattle.cipher_mode.specs.declared.Sm4Cipher.{Sm4Cipher}
 use Rattle.cipher_mode.specs.declared.Sm4CipherMode.{Sm4CipherMode}
-use Rattle.cipher_mode.specs.Key.{retiredIf, retire, keyNumber}
+use Rattle.cipher_mode.specs.Key.{keyNumber}
 use Rattle.cipher_mode.specs.Tables.{modeOf}
 use Rattle.cipher_mode.specs.Calls.{blockOf, blockCall, modeResult, lengthsOf, modeCall}
 use Rattle.cipher_mode.proofs.Passed.{InOrder}
 use Rattle.cipher_mode.proofs.Ends.{length-block}
 use Rattle.luossavin.specs.declared.key.LuossavinKey.{LuossavinKey}
-use Rattle.luossavin.specs.Key.{cipherIn}
+use Rattle.luossavin.specs.Key.{keyAnswerOf, cipherIn, keyOf, hostKeyNew, hostKeyRetire, hostKeyEngine}
 use Rattle.luossavin.specs.Host.{modeIn, hostBlockCall, hostModeCall}
 use Rattle.demands.specs.Call.{single, result, Call}
 use Rattle.demands.specs.CameRound.{roundOf}
-use Rattle.demands.specs.ThereAndBack.{AtAnyTime, HostAtAnyTime, Returns, Decryptable, Encryptable, Sixteen, ThereAndBack}
+use Rattle.demands.specs.ThereAndBack.{SameKey, Returns, Decryptable, Encryptable, Sixteen, ThereAndBack}
 use Rattle.demands.proofs.Through.{result-of-done, block-through, block-leaves, through, leaves}
-use Rattle.demands.proofs.Exported.{retired-is-retired}
+use Rattle.demands.proofs.EveryCallAnswers.{new-cipher-answers}
+use Rattle.demands.proofs.Retired.{retired-by}
 use Rattle.demands.proofs.ModesBack.{encrypted, encrypts, back, forth}
 
 -- the second call answered 0 with d; it was given the result c of the first
@@ -43,32 +41,20 @@ returns back label c d iv o o′ i j a b x e f =
       message = ap result y ∙ result-of-done d o′;
     }
 
--- a retired record is a key where the record is, with its round keys
-pub record SameKey (c d : Sm4Cipher) : Type 0 where
+-- two records of one key
+pub record SameRecord (c d : Sm4Cipher) : Type 0 where
   pub keys : d .rk ≡ c .rk
   pub answer : d .answer ≡ c .answer
 
-retired-same : (c : Sm4Cipher) (a : KeyAnswer) → c .answer ≡ a → SameKey c (retiredIf a c)
-retired-same c Key e = record { keys = refl; answer = sym e }
-retired-same c NoKey e = record { keys = refl; answer = refl }
-retired-same c NoNumber e = record { keys = refl; answer = refl }
-
-pub at-any-time : (c d : Sm4Cipher) → AtAnyTime c d → SameKey c d
-unfolding retire
-at-any-time c d t =
-    ⊎-elim (λ e. subst (SameKey c) (sym e) (record { keys = refl; answer = refl }))
-    (λ e. subst (SameKey c) (sym e) (retired-same c (c .answer) refl)) t
-
--- If encryption answers 0, decryption of its result under the same key, now or when it is retired, with the same IV and label, given
--- room, answers 0 with the message and its length: in all five modes.
-pub decryption-takes-back : (mode : CipherMode) (c later : Sm4Cipher) → AtAnyTime c later
+-- If encryption answers 0, decryption of its result under the same key, with the same IV and label, given room, answers 0 with the
+-- message and its length: in all five modes.
+pub decryption-takes-back : (mode : CipherMode) (c later : Sm4Cipher) → SameRecord c later
     → ThereAndBack (Decryptable mode) (modeCall Encrypt (record { cipher = c; mode = mode }))
     (modeCall Decrypt (record { cipher = later; mode = mode }))
-decryption-takes-back mode c later t label d iv o o′ db ib e r =
+decryption-takes-back mode c later s label d iv o o′ db ib e r =
     let rk = c .rk in
     let m : Sm4CipherMode = record { cipher = c; mode = mode } in
     let n : Sm4CipherMode = record { cipher = later; mode = mode } in
-    let s = at-any-time c later t in
     let p = through Encrypt m label d iv o e in
     let text = encrypted mode rk label d iv in
     let x : modeCall Encrypt m label d iv o ≡ keyed (keyNumber c) (reporting (roundOf mode Encrypt rk iv (length d)) (done text o)) =
@@ -89,16 +75,15 @@ decryption-takes-back mode c later t label d iv o o′ db ib e r =
     ∙ ap {B = Outcome} (λ (rk : List ℕ). keyed (keyNumber later) (modeResult mode Decrypt rk label text iv o′)) (s .keys)
     ∙ ap {B = Outcome} (keyed (keyNumber later)) (k .opened o′))
 
--- If decryption under a key, now or when it is retired, answers 0, encryption of its result under the key, where that is not retired,
--- with the same IV and label, given room and in Cbc no more than may be encrypted, answers 0 with the same bytes: in all five modes.
-pub encryption-takes-back : (mode : CipherMode) (c later : Sm4Cipher) → AtAnyTime c later → c .retired ≡ false
+-- If decryption answers 0, encryption of its result under the same key, where that is not retired, with the same IV and label, given
+-- room and in Cbc no more than may be encrypted, answers 0 with the same bytes: in all five modes.
+pub encryption-takes-back : (mode : CipherMode) (c later : Sm4Cipher) → SameRecord c later → c .retired ≡ false
     → ThereAndBack (Encryptable mode) (modeCall Decrypt (record { cipher = later; mode = mode }))
     (modeCall Encrypt (record { cipher = c; mode = mode }))
-encryption-takes-back mode c later t u label text iv o o′ cb ib e r =
+encryption-takes-back mode c later s u label text iv o o′ cb ib e r =
     let rk = c .rk in
     let m : Sm4CipherMode = record { cipher = c; mode = mode } in
     let l : Sm4CipherMode = record { cipher = later; mode = mode } in
-    let s = at-any-time c later t in
     let p = through Decrypt l label text iv o e in
     let y : modeCall Decrypt l label text iv o ≡ keyed (keyNumber later) (modeResult mode Decrypt rk label text iv o) =
     leaves Decrypt l label text iv o p
@@ -123,12 +108,10 @@ encryption-takes-back mode c later t u label text iv o o′ cb ib e r =
     (encrypts mode rk label d iv o′
     ∙ ap {B = Outcome} (λ (s : List ℕ). reporting (roundOf mode Encrypt rk iv (length d)) (done s o′)) (k .again)))
 
--- If encryption of one block answers 0, decryption of the result under the same key, now or when it is retired, given room, answers 0
--- with the block;
-pub block-decryption-takes-back : (c later : Sm4Cipher) → AtAnyTime c later
+-- If encryption of one block answers 0, decryption of the result under the same key, given room, answers 0 with the block;
+pub block-decryption-takes-back : (c later : Sm4Cipher) → SameRecord c later
     → ThereAndBack Sixteen (single (blockCall Encrypt c)) (single (blockCall Decrypt later))
-block-decryption-takes-back c later t label b iv o o′ bb ib e r =
-    let s = at-any-time c later t in
+block-decryption-takes-back c later s label b iv o o′ bb ib e r =
     let p = block-through Encrypt c b o e in
     let a = blockOf Encrypt (c .rk) b in
     let n = length-block Encrypt (c .rk) b in
@@ -138,10 +121,9 @@ block-decryption-takes-back c later t label b iv o o′ bb ib e r =
     (ap (λ (rk : List ℕ). blockOf Decrypt rk a) (s .keys) ∙ block-decrypt-encrypt (c .rk) b (p .size) bb))
 
 -- and the other way about, where the key is not retired.
-pub block-encryption-takes-back : (c later : Sm4Cipher) → AtAnyTime c later → c .retired ≡ false
+pub block-encryption-takes-back : (c later : Sm4Cipher) → SameRecord c later → c .retired ≡ false
     → ThereAndBack Sixteen (single (blockCall Decrypt later)) (single (blockCall Encrypt c))
-block-encryption-takes-back c later t u label b iv o o′ bb ib e r =
-    let s = at-any-time c later t in
+block-encryption-takes-back c later s u label b iv o o′ bb ib e r =
     let p = block-through Decrypt later b o e in
     let a = blockOf Decrypt (c .rk) b in
     let n = length-block Decrypt (c .rk) b in
@@ -158,36 +140,56 @@ gated : (b : Bool) (Asks : ℕ → List ℕ → Type 0) (f g : Call) → (b ≡ 
 gated true Asks f g t = λ label d iv o o′ db ib e r. absurd (omega arith)
 gated false Asks f g t = t refl
 
--- a host's record, now or when it is retired
-pub host-at-any-time : (k later : LuossavinKey) → HostAtAnyTime k later → AtAnyTime (cipherIn k) (cipherIn later)
-host-at-any-time k later t =
-    ⊎-elim (λ e. inl (ap cipherIn e)) (λ e. inr (ap cipherIn e ∙ retired-is-retired k)) t
+pub same-record : (k later : LuossavinKey) → SameKey k later → SameRecord (cipherIn k) (cipherIn later)
+unfolding cipherIn
+same-record k later s = record { keys = s .keys; answer = ap keyAnswerOf (s .answer) }
 
--- The exported decryption takes back the exported encryption, for every mode number and every record, now or when it is retired.
-pub exported-decryption-takes-back : (mode : ℕ) (k later : LuossavinKey) → HostAtAnyTime k later
+-- One key: a record that is retired, one that is marked with another engine, and the same 16 bytes set up under another number.
+pub retired-same-key : (k : LuossavinKey) → SameKey k (hostKeyRetire k)
+retired-same-key k =
+    retired-by (SameKey k) k (λ e. record { keys = refl; answer = sym e }) (λ _. record { keys = refl; answer = refl })
+
+pub engine-same-key : (k : LuossavinKey) (e : ℕ) → SameKey k (hostKeyEngine k e)
+unfolding hostKeyEngine
+engine-same-key k e = record { keys = refl; answer = refl }
+
+pub set-up-same-key : (key : List ℕ) (n m : ℕ) → length key ≡ 16 → 1 ≤ n → n ≤ 65535 → 1 ≤ m → m ≤ 65535
+    → SameKey (hostKeyNew key n) (hostKeyNew key m)
+unfolding hostKeyNew keyOf
+set-up-same-key key n m size n₁ n₂ m₁ m₂ =
+    let first = new-cipher-answers key n .done size n₁ n₂ in
+    let other = new-cipher-answers key m .done size m₁ m₂ in
+    record {
+      keys = other .2 ∙ sym (first .2);
+      answer = ap (λ (h : Head). h .number) (other .0 ∙ sym (first .0));
+    }
+
+-- The exported decryption takes back the exported encryption, for every mode number and every two records of one key.
+pub exported-decryption-takes-back : (mode : ℕ) (k later : LuossavinKey) → SameKey k later
     → ThereAndBack (Decryptable (modeOf mode)) (hostModeCall Encrypt mode k) (hostModeCall Decrypt mode later)
 unfolding hostModeCall
-exported-decryption-takes-back mode k later t =
+exported-decryption-takes-back mode k later s =
     gated (ltb 4 mode) (Decryptable (modeOf mode)) (modeCall Encrypt (modeIn k mode)) (modeCall Decrypt (modeIn later mode))
-    (λ _. decryption-takes-back (modeOf mode) (cipherIn k) (cipherIn later) (host-at-any-time k later t))
+    (λ _. decryption-takes-back (modeOf mode) (cipherIn k) (cipherIn later) (same-record k later s))
 
--- The exported encryption takes back the exported decryption, for every record that is not retired and every mode number.
-pub exported-encryption-takes-back : (mode : ℕ) (k later : LuossavinKey) → HostAtAnyTime k later → k .retired ≡ 0
+-- The exported encryption takes back the exported decryption, for every mode number and every two records of one key, where the one that
+-- encrypts is not retired.
+pub exported-encryption-takes-back : (mode : ℕ) (k later : LuossavinKey) → SameKey k later → k .retired ≡ 0
     → ThereAndBack (Encryptable (modeOf mode)) (hostModeCall Decrypt mode later) (hostModeCall Encrypt mode k)
 unfolding hostModeCall cipherIn
-exported-encryption-takes-back mode k later t u =
+exported-encryption-takes-back mode k later s u =
     gated (ltb 4 mode) (Encryptable (modeOf mode)) (modeCall Decrypt (modeIn later mode)) (modeCall Encrypt (modeIn k mode))
-    (λ _. encryption-takes-back (modeOf mode) (cipherIn k) (cipherIn later) (host-at-any-time k later t) (rw u))
+    (λ _. encryption-takes-back (modeOf mode) (cipherIn k) (cipherIn later) (same-record k later s) (rw u))
 
 -- The exported calls on one block, likewise.
-pub exported-block-decryption-takes-back : (k later : LuossavinKey) → HostAtAnyTime k later
+pub exported-block-decryption-takes-back : (k later : LuossavinKey) → SameKey k later
     → ThereAndBack Sixteen (single (hostBlockCall Encrypt k)) (single (hostBlockCall Decrypt later))
 unfolding hostBlockCall
-exported-block-decryption-takes-back k later t =
-    block-decryption-takes-back (cipherIn k) (cipherIn later) (host-at-any-time k later t)
+exported-block-decryption-takes-back k later s =
+    block-decryption-takes-back (cipherIn k) (cipherIn later) (same-record k later s)
 
-pub exported-block-encryption-takes-back : (k later : LuossavinKey) → HostAtAnyTime k later → k .retired ≡ 0
+pub exported-block-encryption-takes-back : (k later : LuossavinKey) → SameKey k later → k .retired ≡ 0
     → ThereAndBack Sixteen (single (hostBlockCall Decrypt later)) (single (hostBlockCall Encrypt k))
 unfolding hostBlockCall cipherIn
-exported-block-encryption-takes-back k later t u =
-    block-encryption-takes-back (cipherIn k) (cipherIn later) (host-at-any-time k later t) (rw u)
+exported-block-encryption-takes-back k later s u =
+    block-encryption-takes-back (cipherIn k) (cipherIn later) (same-record k later s) (rw u)

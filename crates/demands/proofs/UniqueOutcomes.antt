@@ -1,23 +1,23 @@
--- Demand 1, that outcomes can be predicted: any two outcomes that a contract allows coincide.
+-- Demand 1, that outcomes can be predicted: any two answers, outputs and states that a contract allows coincide. One theorem for each form
+-- that a public call's contract has, whatever the definition in it gives.
 -- Assumes nothing.
 use mathlib.Core.Path.{_≡_, refl, sym, ap, ap₂, _∙_}
 use mathlib.Core.Bool.{Bool, true, false, cond}
-use mathlib.Core.List.{List}
-use Prim.Native.Nat.{ℕ, zero, suc}
+use mathlib.Core.List.{List, [], _∷_}
+use Prim.Native.Nat.{ℕ, _-_, _≤_, _<_}
 use native.Mathlib.Omega.{arith}
+use lib.Dec.{eqb}
+use lib.ListN.{getD}
+use borrow.Author.Tests.{ne-eqb}
 use Rattle.walk.specs.Outcome.{Head, Outcome}
 use Rattle.cipher_mode.specs.declared.answer.Answer.{Answer}
 use Rattle.cipher_mode.specs.declared.answer.Ending.{Ending}
 use Rattle.cipher_mode.specs.declared.answer.Ending.the-variants.{Done, Refused}
+use Rattle.cipher_mode.specs.declared.answer.Refusal.{Refusal}
 use Rattle.cipher_mode.specs.declared.answer.Refusal.the-variants.{ErrorBlockSize, ErrorDataLen, InvalidLastU8, InvalidTag, TooLong, NoRoom}
-use Rattle.cipher_mode.specs.declared.answer.Refusal.the-variants.{EmptyCbc, ShortGcm, WrongIv, WrongBlock, Ended, WrongNumber, Retired, InvalidPadding}
-use Rattle.cipher_mode.specs.declared.CipherMode.{CipherMode}
-use Rattle.cipher_mode.specs.declared.Direction.{Direction}
-use Rattle.cipher_mode.specs.declared.Sm4Cipher.{Sm4Cipher}
-use Rattle.cipher_mode.specs.declared.Sm4CipherMode.{Sm4CipherMode}
-use Rattle.cipher_mode.specs.Answer.{endingHead, headOf, outcome}
-use Rattle.cipher_mode.specs.Key.{newCipher, retire, withEngine, newCipherMode}
-use Rattle.cipher_mode.specs.Calls.{blockCall, modeCall}
+use Rattle.cipher_mode.specs.declared.answer.Refusal.the-variants.{EmptyCbc, ShortGcm, WrongIv, WrongBlock, Ended, WrongNumber, Retired}
+use Rattle.cipher_mode.specs.declared.answer.Refusal.the-variants.{InvalidPadding}
+use Rattle.cipher_mode.specs.Answer.{refusalHead, endingHead, headOf, outcome}
 use Rattle.pieces.specs.declared.ctr.Ctr.{Ctr}
 use Rattle.pieces.specs.declared.ctr.CtrStep.{CtrStep}
 use Rattle.pieces.specs.declared.opens.Opens.{Opens}
@@ -25,215 +25,247 @@ use Rattle.pieces.specs.declared.opens.OpensStep.{OpensStep}
 use Rattle.pieces.specs.declared.seal.Seal.{Seal}
 use Rattle.pieces.specs.declared.seal.SealStep.{SealStep}
 use Rattle.pieces.specs.Calls.{Stepped, ctrStepped, sealStepped, opensStepped}
+use Rattle.editions.specs.declared.Ended.{Ended as Asked}
+use Rattle.editions.specs.declared.Ended.the-variants.{Candidate, None, BadList, Refused as Refused·asked}
+use Rattle.editions.specs.declared.Found.{Found}
+use Rattle.editions.specs.Which.{Verdict, endedHead as askedHead, isFound, verdictOf}
+use Rattle.ranges.specs.declared.by_plan.Ended.{Ended as Planned·end}
+use Rattle.ranges.specs.declared.by_plan.Ended.the-variants.{Done as Done·plan, NotAccepted, Refused as Refused·plan}
+use Rattle.ranges.specs.declared.by_plan.ByPlan.{ByPlan}
+use Rattle.ranges.specs.ByPlan.{endedHead as planHead, planned·outcome}
+use Rattle.shelf.specs.declared.Ended.{Ended as Shelf·end}
+use Rattle.shelf.specs.declared.Ended.the-variants.{Done as Done·shelf, BadShelf, NotHigher, NoRoom as NoRoom·shelf, NoCurrent}
+use Rattle.shelf.specs.declared.Found.{Found as Shelf·found}
+use Rattle.shelf.specs.declared.Kept.{Kept}
+use Rattle.shelf.specs.Calls.{Outcome as Shelf·Outcome, Place, numberOfEnd, outcomeOf, placeIn}
+use Rattle.journal.specs.declared.writer.Wrote.{Wrote}
+use Rattle.journal.specs.Writer.{Leaves}
 use Rattle.luossavin.specs.declared.LuossavinAnswer.{LuossavinAnswer}
 use Rattle.luossavin.specs.declared.in_pieces.LuossavinCtrStep.{LuossavinCtrStep}
 use Rattle.luossavin.specs.declared.in_pieces.LuossavinOpensStep.{LuossavinOpensStep}
 use Rattle.luossavin.specs.declared.in_pieces.LuossavinSealStep.{LuossavinSealStep}
-use Rattle.luossavin.specs.declared.halves.LuossavinHash.{LuossavinHash}
-use Rattle.luossavin.specs.declared.key.LuossavinKey.{LuossavinKey}
-use Rattle.luossavin.specs.Key.{hostKeyNew, hostKeyRetire, hostKeyEngine}
-use Rattle.luossavin.specs.Halves.{hostHashBlocks, hostHashJoin}
-use Rattle.luossavin.specs.Host.{headIn, reported, hostBlockCall, hostModeCall}
+use Rattle.luossavin.specs.declared.shelves.LuossavinShelf.{LuossavinShelf}
+use Rattle.luossavin.specs.declared.shelves.LuossavinShelved.{LuossavinShelved}
 use Rattle.luossavin.specs.declared.which.LuossavinFound.{LuossavinFound}
-use Rattle.luossavin.specs.Which.{Told, foundReported}
+use Rattle.luossavin.specs.declared.workers.LuossavinPlanned.{LuossavinPlanned}
+use Rattle.luossavin.specs.Host.{reported}
 use Rattle.luossavin.specs.InPieces.{ctrReported, sealReported, opensReported}
-use Rattle.demands.specs.OneOutcome.{OneOutcome, OneReport, OneStep}
+use Rattle.luossavin.specs.Ranges.{Handed, plannedReported}
+use Rattle.luossavin.specs.Shelves.{shelfReported, shelvedReported}
+use Rattle.luossavin.specs.Which.{Told, foundReported}
+use Rattle.demands.specs.OneOutcome.{One, OneValue}
 
--- the ending of a head
-endingOf : ℕ → ℕ → ℕ → Ending
-endingOf zero n k = Done n
-endingOf (suc zero) n k = Refused ErrorBlockSize
-endingOf (suc (suc zero)) n k = Refused ErrorDataLen
-endingOf (suc (suc (suc zero))) n k = Refused InvalidLastU8
-endingOf (suc (suc (suc (suc zero)))) n k = Refused InvalidTag
-endingOf (suc (suc (suc (suc (suc zero))))) n k = Refused TooLong
-endingOf (suc (suc (suc (suc (suc (suc zero)))))) n k = Refused NoRoom
-endingOf (suc (suc (suc (suc (suc (suc (suc zero))))))) n k = Refused NoRoom
-endingOf (suc (suc (suc (suc (suc (suc (suc (suc zero)))))))) n k = Refused EmptyCbc
-endingOf (suc (suc (suc (suc (suc (suc (suc (suc (suc zero))))))))) n k = Refused (ShortGcm k)
-endingOf (suc (suc (suc (suc (suc (suc (suc (suc (suc (suc zero)))))))))) n k = Refused WrongIv
-endingOf (suc (suc (suc (suc (suc (suc (suc (suc (suc (suc (suc zero))))))))))) n k = Refused WrongBlock
-endingOf (suc (suc (suc (suc (suc (suc (suc (suc (suc (suc (suc (suc zero)))))))))))) n k = Refused Ended
-endingOf (suc (suc (suc (suc (suc (suc (suc (suc (suc (suc (suc (suc (suc zero))))))))))))) n k = Refused WrongNumber
-endingOf (suc (suc (suc (suc (suc (suc (suc (suc (suc (suc (suc (suc (suc (suc zero)))))))))))))) n k = Refused Retired
-endingOf (suc (suc (suc (suc (suc (suc (suc (suc (suc (suc (suc (suc (suc (suc (suc m))))))))))))))) n k = Refused InvalidPadding
+-- an answer that can be told back from what it spells is one alone
+module _ (R X : Type 0) where
+  one-value : (of : R → X) (back : X → R) → ((r : R) → back (of r) ≡ r) → (x : X) → OneValue R X of x
+  one-value of back told x r₁ r₂ e₁ e₂ = sym (told r₁) ∙ ap {B = R} back (e₁ ∙ sym e₂) ∙ told r₂
 
--- an ending is told by its head
-told : (e : Ending) → endingOf (endingHead e .number) (endingHead e .size) (endingHead e .missing) ≡ e
-unfolding endingOf
-told (Done n) = refl
-told (Refused ErrorBlockSize) = refl
-told (Refused ErrorDataLen) = refl
-told (Refused InvalidLastU8) = refl
-told (Refused InvalidTag) = refl
-told (Refused TooLong) = refl
-told (Refused NoRoom) = refl
-told (Refused EmptyCbc) = refl
-told (Refused (ShortGcm n)) = refl
-told (Refused WrongIv) = refl
-told (Refused WrongBlock) = refl
-told (Refused Ended) = refl
-told (Refused WrongNumber) = refl
-told (Refused Retired) = refl
-told (Refused InvalidPadding) = refl
+  one : (of : R → List ℕ → X) (back : X → R) (bytes : X → List ℕ) → ((r : R) (o : List ℕ) → back (of r o) ≡ r)
+      → ((r : R) (o : List ℕ) → bytes (of r o) ≡ o) → (x : X) → One R X of x
+  one of back bytes told kept x r₁ r₂ o₁ o₂ e₁ e₂ =
+      let e = e₁ ∙ sym e₂ in
+      (sym (told r₁ o₁) ∙ ap {B = R} back e ∙ told r₂ o₂, sym (kept r₁ o₁) ∙ ap bytes e ∙ kept r₂ o₂)
 
--- and a yes or no by the number that it is reported as
-told-round : (b c : Bool) → _≡_ {A = ℕ} (cond b 1 0) (cond c 1 0) → b ≡ c
-told-round true true e = refl
-told-round true false e = absurd (omega arith)
-told-round false true e = absurd (omega arith)
-told-round false false e = refl
+-- the ending of a head, by its number: 7 is none of an ending
+abbrev endings : ℕ → ℕ → List Ending
+endings n k =
+    Done n ∷ Refused ErrorBlockSize ∷ Refused ErrorDataLen ∷ Refused InvalidLastU8 ∷ Refused InvalidTag ∷ Refused TooLong
+    ∷ Refused NoRoom ∷ Done n ∷ Refused EmptyCbc ∷ Refused (ShortGcm k) ∷ Refused WrongIv ∷ Refused WrongBlock ∷ Refused Ended
+    ∷ Refused WrongNumber ∷ Refused Retired ∷ Refused InvalidPadding ∷ []
 
--- so two answers with one head are the same
-one-answer : (a₁ a₂ : Answer) → headOf a₁ ≡ headOf a₂ → a₁ ≡ a₂
-one-answer a₁ a₂ e =
-    let same = ap (λ (h : Head). endingOf (h .number) (h .size) (h .missing)) e in
-    let round = told-round (a₁ .«came_round») (a₂ .«came_round») (ap (λ (h : Head). h .cameRound) e) in
-    ap₂ {C = Answer} (λ (e : Ending) (k : ℕ). record { ending = e; «came_round» = a₁ .«came_round»; key = k })
-    (sym (told (a₁ .ending)) ∙ same ∙ told (a₂ .ending)) (ap (λ (h : Head). h .key) e)
-    ∙ ap {B = Answer} (λ (b : Bool). record { ending = a₂ .ending; «came_round» = b; key = a₂ .key }) round
+abbrev endingOf : Head → Ending
+endingOf h = getD (endings (h .size) (h .missing)) (h .number) (Done 0)
 
--- and two of a host's are
-pub one-host-answer : (a₁ a₂ : LuossavinAnswer) → headIn a₁ ≡ headIn a₂ → a₁ ≡ a₂
-one-host-answer a₁ a₂ e =
-    ap (λ (h : Head). record {
-      number = h .number;
-      missing = h .missing;
-      «came_round» = h .cameRound;
-      key = h .key;
-      length = h .size;
-    }) e
+refusal-told : (r : Refusal) → endingOf (refusalHead r) ≡ Refused r
+refusal-told ErrorBlockSize = refl
+refusal-told ErrorDataLen = refl
+refusal-told InvalidLastU8 = refl
+refusal-told InvalidTag = refl
+refusal-told TooLong = refl
+refusal-told NoRoom = refl
+refusal-told EmptyCbc = refl
+refusal-told (ShortGcm n) = refl
+refusal-told WrongIv = refl
+refusal-told WrongBlock = refl
+refusal-told Ended = refl
+refusal-told WrongNumber = refl
+refusal-told Retired = refl
+refusal-told InvalidPadding = refl
 
-one : (x : Outcome) → OneOutcome x
-one x a₁ a₂ o₁ o₂ e₁ e₂ =
-    let e : outcome a₁ o₁ ≡ outcome a₂ o₂ = e₁ ∙ sym e₂ in
-    (one-answer a₁ a₂ (ap (λ (y : Outcome). y .head) e), ap (λ (y : Outcome). y .bytes) e)
+ending-told : (e : Ending) → endingOf (endingHead e) ≡ e
+ending-told (Done n) = refl
+ending-told (Refused r) = refusal-told r
 
-pub one-report : (x : Outcome) → OneReport x
-one-report x a₁ a₂ o₁ o₂ e₁ e₂ =
-    let e : reported a₁ o₁ ≡ reported a₂ o₂ = e₁ ∙ sym e₂ in
-    (one-host-answer a₁ a₂ (ap (λ (y : Outcome). y .head) e), ap (λ (y : Outcome). y .bytes) e)
+-- a yes or no by the number that it is reported as
+round-told : (b : Bool) → eqb (cond b 1 0) 1 ≡ b
+round-told true = refl
+round-told false = refl
 
--- Any two records that setting up a key may give are the same.
-pub unique-new-cipher : (key : List ℕ) (n : ℕ) (r₁ r₂ : Sm4Cipher) → r₁ ≡ newCipher key n → r₂ ≡ newCipher key n → r₁ ≡ r₂
-unique-new-cipher key n r₁ r₂ e₁ e₂ = e₁ ∙ sym e₂
+-- and so an answer
+abbrev answerOf : Head → Answer
+answerOf h = record { ending = endingOf h; «came_round» = eqb (h .cameRound) 1; key = h .key }
 
--- Any two records that setting up a key with a mode may give are the same.
-pub unique-new-cipher-mode : (key : List ℕ) (n : ℕ) (mode : CipherMode) (r₁ r₂ : Sm4CipherMode)
-    → r₁ ≡ newCipherMode key n mode → r₂ ≡ newCipherMode key n mode → r₁ ≡ r₂
-unique-new-cipher-mode key n mode r₁ r₂ e₁ e₂ = e₁ ∙ sym e₂
+answer-told : (a : Answer) → answerOf (headOf a) ≡ a
+answer-told a =
+    ap₂ {C = Answer} (λ (e : Ending) (b : Bool). record { ending = e; «came_round» = b; key = a .key })
+    (ending-told (a .ending)) (round-told (a .«came_round»))
 
--- Any two records that retiring one may give are the same.
-pub unique-retired : (c r₁ r₂ : Sm4Cipher) → r₁ ≡ retire c → r₂ ≡ retire c → r₁ ≡ r₂
-unique-retired c r₁ r₂ e₁ e₂ = e₁ ∙ sym e₂
+-- a host's is told field by field
+abbrev hostAnswerOf : Head → LuossavinAnswer
+hostAnswerOf h = record { number = h .number; missing = h .missing; «came_round» = h .cameRound; key = h .key; length = h .size }
 
-pub unique-with-engine : (e : ℕ) (c r₁ r₂ : Sm4Cipher) → r₁ ≡ withEngine e c → r₂ ≡ withEngine e c → r₁ ≡ r₂
-unique-with-engine e c r₁ r₂ e₁ e₂ = e₁ ∙ sym e₂
+-- Contracts that say what the result is: a key's record set up, retired or marked, a host's too, a plan that is accepted or made, hashes, a
+-- replay, a part of a buffer, and every number or place.
+pub unique-value : (A : Type 0) (x : A) → OneValue A A (λ r. r) x
+unique-value A x = one-value A A (λ r. r) (λ r. r) (λ r. refl) x
 
--- The same of a host's records.
-pub unique-exported-new : (key : List ℕ) (n : ℕ) (r₁ r₂ : LuossavinKey) → r₁ ≡ hostKeyNew key n → r₂ ≡ hostKeyNew key n → r₁ ≡ r₂
-unique-exported-new key n r₁ r₂ e₁ e₂ = e₁ ∙ sym e₂
+-- Blocks, messages and ranges: the library's own, and the exported ones, work by a plan among them.
+pub unique-outcome : (x : Outcome) → One Answer Outcome outcome x
+unique-outcome x = one Answer Outcome outcome (λ y. answerOf (y .head)) (λ y. y .bytes) (λ a o. answer-told a) (λ a o. refl) x
 
-pub unique-exported-retired : (k r₁ r₂ : LuossavinKey) → r₁ ≡ hostKeyRetire k → r₂ ≡ hostKeyRetire k → r₁ ≡ r₂
-unique-exported-retired k r₁ r₂ e₁ e₂ = e₁ ∙ sym e₂
+pub unique-report : (x : Outcome) → One LuossavinAnswer Outcome reported x
+unique-report x = one LuossavinAnswer Outcome reported (λ y. hostAnswerOf (y .head)) (λ y. y .bytes) (λ a o. refl) (λ a o. refl) x
 
-pub unique-exported-engine : (k : LuossavinKey) (e : ℕ) (r₁ r₂ : LuossavinKey) → r₁ ≡ hostKeyEngine k e → r₂ ≡ hostKeyEngine k e → r₁ ≡ r₂
-unique-exported-engine k e r₁ r₂ e₁ e₂ = e₁ ∙ sym e₂
+-- Messages in pieces, be it a start, a piece or an end: the next state too.
+pub unique-ctr-step : (x : Stepped Ctr) → One CtrStep (Stepped Ctr) ctrStepped x
+unique-ctr-step x =
+    one CtrStep (Stepped Ctr) ctrStepped (λ y. record { answer = answerOf (y .head); state = y .state }) (λ y. y .bytes)
+    (λ r o. ap {B = CtrStep} (λ (a : Answer). record { answer = a; state = r .state }) (answer-told (r .answer))) (λ r o. refl) x
 
--- Any two values that hashing blocks, or joining two hashes, may give a host are the same.
-pub unique-exported-hash : (h r₁ r₂ : LuossavinHash) (bytes : List ℕ) → r₁ ≡ hostHashBlocks h bytes → r₂ ≡ hostHashBlocks h bytes → r₁ ≡ r₂
-unique-exported-hash h r₁ r₂ bytes e₁ e₂ = e₁ ∙ sym e₂
+pub unique-seal-step : (x : Stepped Seal) → One SealStep (Stepped Seal) sealStepped x
+unique-seal-step x =
+    one SealStep (Stepped Seal) sealStepped (λ y. record { answer = answerOf (y .head); state = y .state }) (λ y. y .bytes)
+    (λ r o. ap {B = SealStep} (λ (a : Answer). record { answer = a; state = r .state }) (answer-told (r .answer))) (λ r o. refl) x
 
-pub unique-exported-join : (h first second r₁ r₂ : LuossavinHash) (n : ℕ)
-    → r₁ ≡ hostHashJoin h first second n → r₂ ≡ hostHashJoin h first second n → r₁ ≡ r₂
-unique-exported-join h first second r₁ r₂ n e₁ e₂ = e₁ ∙ sym e₂
+pub unique-opens-step : (x : Stepped Opens) → One OpensStep (Stepped Opens) opensStepped x
+unique-opens-step x =
+    one OpensStep (Stepped Opens) opensStepped (λ y. record { answer = answerOf (y .head); state = y .state }) (λ y. y .bytes)
+    (λ r o. ap {B = OpensStep} (λ (a : Answer). record { answer = a; state = r .state }) (answer-told (r .answer))) (λ r o. refl) x
 
--- A call on one block, either way, has one outcome.
-pub unique-block : (dir : Direction) (c : Sm4Cipher) (b o : List ℕ) → OneOutcome (blockCall dir c b o)
-unique-block dir c b o = one (blockCall dir c b o)
+pub unique-exported-ctr-step : (x : Stepped Ctr) → One LuossavinCtrStep (Stepped Ctr) ctrReported x
+unique-exported-ctr-step x =
+    one LuossavinCtrStep (Stepped Ctr) ctrReported (λ y. record { answer = hostAnswerOf (y .head); state = y .state }) (λ y. y .bytes)
+    (λ r o. refl) (λ r o. refl) x
 
--- A call on a message, either way, has one outcome.
-pub unique-message : (dir : Direction) (m : Sm4CipherMode) (label d iv o : List ℕ) → OneOutcome (modeCall dir m label d iv o)
-unique-message dir m label d iv o = one (modeCall dir m label d iv o)
+pub unique-exported-seal-step : (x : Stepped Seal) → One LuossavinSealStep (Stepped Seal) sealReported x
+unique-exported-seal-step x =
+    one LuossavinSealStep (Stepped Seal) sealReported (λ y. record { answer = hostAnswerOf (y .head); state = y .state }) (λ y. y .bytes)
+    (λ r o. refl) (λ r o. refl) x
 
--- The exported call on one block, either way, has one outcome.
-pub unique-exported-block : (dir : Direction) (k : LuossavinKey) (b o : List ℕ) → OneReport (hostBlockCall dir k b o)
-unique-exported-block dir k b o = one-report (hostBlockCall dir k b o)
+pub unique-exported-opens-step : (x : Stepped Opens) → One LuossavinOpensStep (Stepped Opens) opensReported x
+unique-exported-opens-step x =
+    one LuossavinOpensStep (Stepped Opens) opensReported (λ y. record { answer = hostAnswerOf (y .head); state = y .state }) (λ y. y .bytes)
+    (λ r o. refl) (λ r o. refl) x
 
--- The exported call on a message, either way, has one outcome.
-pub unique-exported-message : (dir : Direction) (mode : ℕ) (k : LuossavinKey) (label d iv o : List ℕ)
-    → OneReport (hostModeCall dir mode k label d iv o)
-unique-exported-message dir mode k label d iv o = one-report (hostModeCall dir mode k label d iv o)
+-- Which label a file opens under.
+abbrev whenAsked : Ending → Asked
+whenAsked (Done n) = None
+whenAsked (Refused r) = Refused·asked r
 
--- What is told of the candidates is told by one answer alone.
-pub unique-exported-which : (x : Told) (r₁ r₂ : LuossavinFound) → foundReported r₁ ≡ x → foundReported r₂ ≡ x → r₁ ≡ r₂
-unique-exported-which x r₁ r₂ e₁ e₂ =
-    let e : foundReported r₁ ≡ foundReported r₂ = e₁ ∙ sym e₂ in
-    let answer = one-host-answer (r₁ .answer) (r₂ .answer) (ap (λ (t : Told). t .head) e) in
-    ap {B = LuossavinFound} (λ (a : LuossavinAnswer). record {
-      answer = a;
-      found = r₁ .found;
-      place = r₁ .place;
-      start = r₁ .start;
-      length = r₁ .length;
-    }) answer
-    ∙ ap {B = LuossavinFound} (λ (t : Told). record {
-      answer = r₂ .answer;
+abbrev askedOf : Head → Bool → Asked
+askedOf h found = cond found Candidate (cond (eqb (h .number) 16) BadList (whenAsked (endingOf h)))
+
+-- no refusal of a message has the number 16 or 18
+small : (r : Refusal) → refusalHead r .number < 16
+small ErrorBlockSize = omega arith
+small ErrorDataLen = omega arith
+small InvalidLastU8 = omega arith
+small InvalidTag = omega arith
+small TooLong = omega arith
+small NoRoom = omega arith
+small EmptyCbc = omega arith
+small (ShortGcm n) = omega arith
+small WrongIv = omega arith
+small WrongBlock = omega arith
+small Ended = omega arith
+small WrongNumber = omega arith
+small Retired = omega arith
+small InvalidPadding = omega arith
+
+not-of-these : (r : Refusal) (n : ℕ) → 16 ≤ n → eqb (refusalHead r .number) n ≡ false
+not-of-these r n h = ne-eqb (refusalHead r .number) n (λ e. omega (arith, small r, h, e))
+
+asked-told : (e : Asked) → askedOf (askedHead e) (isFound e) ≡ e
+asked-told Candidate = refl
+asked-told None = refl
+asked-told BadList = refl
+asked-told (Refused·asked r) = rw (not-of-these r 16 (omega arith)) (ap {B = Asked} whenAsked (refusal-told r))
+
+pub unique-which : (x : Verdict) → OneValue Found Verdict verdictOf x
+unique-which x =
+    one-value Found Verdict verdictOf (λ v. record {
+      ended = askedOf (v .head) (v .found);
+      key = v .head .key;
+      place = v .place;
+      start = v .start;
+      length = v .size;
+    })
+    (λ f. ap {B = Found} (λ (e : Asked). record { ended = e; key = f .key; place = f .place; start = f .start; length = f .length })
+    (asked-told (f .ended)))
+    x
+
+pub unique-exported-which : (x : Told) → OneValue LuossavinFound Told foundReported x
+unique-exported-which x =
+    one-value LuossavinFound Told foundReported (λ t. record {
+      answer = hostAnswerOf (t .head);
       found = t .found;
       place = t .place;
       start = t .start;
       length = t .size;
-    }) e
+    }) (λ r. refl) x
 
--- A call on a message in pieces, be it a start, a piece or an end, has one answer, one output and one state.
-pub unique-ctr-step : (x : Stepped Ctr) → OneStep Ctr CtrStep ctrStepped x
-unique-ctr-step x r₁ r₂ o₁ o₂ e₁ e₂ =
-    let e : ctrStepped r₁ o₁ ≡ ctrStepped r₂ o₂ = e₁ ∙ sym e₂ in
-    let answer = one-answer (r₁ .answer) (r₂ .answer) (ap (λ (y : Stepped Ctr). y .head) e) in (
-      ap₂ {C = CtrStep} (λ (a : Answer) (s : Ctr). record { answer = a; state = s }) answer (ap (λ (y : Stepped Ctr). y .state) e),
-      ap (λ (y : Stepped Ctr). y .bytes) e,
-    )
+-- Plans.
+abbrev whenPlanned : Ending → Planned·end
+whenPlanned (Done n) = Done·plan n
+whenPlanned (Refused r) = Refused·plan r
 
-pub unique-seal-step : (x : Stepped Seal) → OneStep Seal SealStep sealStepped x
-unique-seal-step x r₁ r₂ o₁ o₂ e₁ e₂ =
-    let e : sealStepped r₁ o₁ ≡ sealStepped r₂ o₂ = e₁ ∙ sym e₂ in
-    let answer = one-answer (r₁ .answer) (r₂ .answer) (ap (λ (y : Stepped Seal). y .head) e) in (
-      ap₂ {C = SealStep} (λ (a : Answer) (s : Seal). record { answer = a; state = s }) answer (ap (λ (y : Stepped Seal). y .state) e),
-      ap (λ (y : Stepped Seal). y .bytes) e,
-    )
+abbrev plannedOf : Head → Planned·end
+plannedOf h = cond (eqb (h .number) 18) NotAccepted (whenPlanned (endingOf h))
 
-pub unique-opens-step : (x : Stepped Opens) → OneStep Opens OpensStep opensStepped x
-unique-opens-step x r₁ r₂ o₁ o₂ e₁ e₂ =
-    let e : opensStepped r₁ o₁ ≡ opensStepped r₂ o₂ = e₁ ∙ sym e₂ in
-    let answer = one-answer (r₁ .answer) (r₂ .answer) (ap (λ (y : Stepped Opens). y .head) e) in (
-      ap₂ {C = OpensStep} (λ (a : Answer) (s : Opens). record { answer = a; state = s }) answer (ap (λ (y : Stepped Opens). y .state) e),
-      ap (λ (y : Stepped Opens). y .bytes) e,
-    )
+planned-told : (e : Planned·end) → plannedOf (planHead e) ≡ e
+planned-told (Done·plan n) = refl
+planned-told NotAccepted = refl
+planned-told (Refused·plan r) = rw (not-of-these r 18 (omega arith)) (ap {B = Planned·end} whenPlanned (refusal-told r))
 
--- The same of the exported calls.
-pub unique-exported-ctr-step : (x : Stepped Ctr) → OneStep Ctr LuossavinCtrStep ctrReported x
-unique-exported-ctr-step x r₁ r₂ o₁ o₂ e₁ e₂ =
-    let e : ctrReported r₁ o₁ ≡ ctrReported r₂ o₂ = e₁ ∙ sym e₂ in
-    let answer = one-host-answer (r₁ .answer) (r₂ .answer) (ap (λ (y : Stepped Ctr). y .head) e) in (
-      ap₂ {C = LuossavinCtrStep} (λ (a : LuossavinAnswer) (s : Ctr). record { answer = a; state = s }) answer
-          (ap (λ (y : Stepped Ctr). y .state) e),
-      ap (λ (y : Stepped Ctr). y .bytes) e,
-    )
+pub unique-by-plan : (x : Outcome) → One ByPlan Outcome planned·outcome x
+unique-by-plan x =
+    one ByPlan Outcome planned·outcome (λ y. record { ended = plannedOf (y .head); key = y .head .key }) (λ y. y .bytes)
+    (λ a o. ap {B = ByPlan} (λ (e : Planned·end). record { ended = e; key = a .key }) (planned-told (a .ended))) (λ a o. refl) x
 
-pub unique-exported-seal-step : (x : Stepped Seal) → OneStep Seal LuossavinSealStep sealReported x
-unique-exported-seal-step x r₁ r₂ o₁ o₂ e₁ e₂ =
-    let e : sealReported r₁ o₁ ≡ sealReported r₂ o₂ = e₁ ∙ sym e₂ in
-    let answer = one-host-answer (r₁ .answer) (r₂ .answer) (ap (λ (y : Stepped Seal). y .head) e) in (
-      ap₂ {C = LuossavinSealStep} (λ (a : LuossavinAnswer) (s : Seal). record { answer = a; state = s }) answer
-          (ap (λ (y : Stepped Seal). y .state) e),
-      ap (λ (y : Stepped Seal). y .bytes) e,
-    )
+pub unique-exported-plan : (x : Handed) → OneValue LuossavinPlanned Handed plannedReported x
+unique-exported-plan x =
+    one-value LuossavinPlanned Handed plannedReported (λ h. record { answer = hostAnswerOf (h .head); plan = h .plan }) (λ r. refl) x
 
-pub unique-exported-opens-step : (x : Stepped Opens) → OneStep Opens LuossavinOpensStep opensReported x
-unique-exported-opens-step x r₁ r₂ o₁ o₂ e₁ e₂ =
-    let e : opensReported r₁ o₁ ≡ opensReported r₂ o₂ = e₁ ∙ sym e₂ in
-    let answer = one-host-answer (r₁ .answer) (r₂ .answer) (ap (λ (y : Stepped Opens). y .head) e) in (
-      ap₂ {C = LuossavinOpensStep} (λ (a : LuossavinAnswer) (s : Opens). record { answer = a; state = s }) answer
-          (ap (λ (y : Stepped Opens). y .state) e),
-      ap (λ (y : Stepped Opens). y .bytes) e,
-    )
+-- A shelf: what putting, collecting and looking up answer.
+abbrev shelfEnd : ℕ → Shelf·end
+shelfEnd n = getD (Done·shelf ∷ BadShelf ∷ NotHigher ∷ NoRoom·shelf ∷ NoCurrent ∷ []) (n - 18) Done·shelf
+
+shelf-told : (e : Shelf·end) → shelfEnd (numberOfEnd e) ≡ e
+shelf-told Done·shelf = refl
+shelf-told BadShelf = refl
+shelf-told NotHigher = refl
+shelf-told NoRoom·shelf = refl
+shelf-told NoCurrent = refl
+
+pub unique-kept : (x : Shelf·Outcome) → One Kept Shelf·Outcome outcomeOf x
+unique-kept x =
+    one Kept Shelf·Outcome outcomeOf (λ y. record { ended = shelfEnd (y .number); used = y .used }) (λ y. y .bytes)
+    (λ k o. ap {B = Kept} (λ (e : Shelf·end). record { ended = e; used = k .used }) (shelf-told (k .ended))) (λ k o. refl) x
+
+pub unique-found : (x : Place) → OneValue Shelf·found Place placeIn x
+unique-found x =
+    one-value Shelf·found Place placeIn (λ p. record { ended = shelfEnd (p .number); start = p .start; length = p .size })
+    (λ f. ap {B = Shelf·found} (λ (e : Shelf·end). record { ended = e; start = f .start; length = f .length }) (shelf-told (f .ended))) x
+
+pub unique-exported-shelf : (x : Shelf·Outcome) → One LuossavinShelf Shelf·Outcome shelfReported x
+unique-exported-shelf x =
+    one LuossavinShelf Shelf·Outcome shelfReported (λ y. record { number = y .number; used = y .used }) (λ y. y .bytes)
+    (λ r o. refl) (λ r o. refl) x
+
+pub unique-exported-shelved : (x : Place) → OneValue LuossavinShelved Place shelvedReported x
+unique-exported-shelved x =
+    one-value LuossavinShelved Place shelvedReported (λ p. record { number = p .number; start = p .start; length = p .size }) (λ r. refl) x
+
+-- The writer of a journal.
+pub unique-written : (x : Leaves) → One Wrote Leaves (λ r o. record { wrote = r; bytes = o }) x
+unique-written x = one Wrote Leaves (λ r o. record { wrote = r; bytes = o }) (λ y. y .wrote) (λ y. y .bytes) (λ r o. refl) (λ r o. refl) x

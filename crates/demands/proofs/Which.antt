@@ -1,40 +1,45 @@
--- Which of many labels a file opens under: the verdict is what the single call answers to each candidate, and among labels of jobs and
--- editions it is the one.
+-- Which of many labels a file opens under: what is told is what the single call answers to each candidate, and among labels of jobs and
+-- editions it is the one; and demand 1 of the question.
 -- Assumes nothing.
 use mathlib.Core.Path.{_≡_, refl, sym, ap, subst, _∙_}
-use mathlib.Core.Logic.{_≢_, _⊎_}
+use mathlib.Core.Logic.{_≢_, _⊎_, inl, inr}
 use mathlib.Core.Bool.{Bool, true, false, cond}
 use mathlib.Core.List.{List, [], _∷_}
 use Prim.Native.Nat.{ℕ, zero, suc, _-_, _^_, _≤_, _<_}
 use native.Mathlib.Omega.{arith}
 use lib.Dec.{ltb}
-use lib.ListN.{length, getD, length-take}
+use lib.ListN.{length, getD, take, drop, length-take}
 use borrow.Author.Tests.{ltb-false}
-use Rattle.walk.specs.Outcome.{Outcome}
+use Rattle.walk.specs.Outcome.{Head, Outcome, finished, refusal}
 use Rattle.gcm.specs.Open.{headOf as gcmHead, settled, gcmOpen}
 use Rattle.gcm.specs.declared.Opened.the-variants.{Done as Gcm·Done, InvalidTag}
 use Rattle.cipher_mode.specs.declared.Direction.the-variants.{Decrypt}
 use Rattle.cipher_mode.specs.declared.Sm4Cipher.{Sm4Cipher}
 use Rattle.cipher_mode.specs.declared.CipherMode.the-variants.{Gcm}
+use Rattle.cipher_mode.specs.declared.checks.Checked.{Checked}
+use Rattle.cipher_mode.specs.declared.checks.Checked.the-variants.{Passed, Refused}
+use Rattle.cipher_mode.specs.Key.{keyNumber}
 use Rattle.cipher_mode.specs.Tables.{limit, modeOf}
 use Rattle.cipher_mode.specs.Calls.{modeCall}
 use Rattle.cipher_mode.proofs.Passed.{data-within, with-tag-passed}
-use Rattle.editions.specs.Candidates.{anyTooLong, labelAt}
-use Rattle.editions.specs.Which.{Verdict, opensWith, which, partOf}
+use Rattle.cipher_mode.proofs.Refusals.{refuses}
+use Rattle.editions.specs.Candidates.{badList, anyTooLong, labelAt}
+use Rattle.editions.specs.Which.{Verdict, noneWith, onKey, firstOpening, searchCheck, checkedVerdict, opensWith, which}
 use Rattle.editions.proofs.Turns.{or-false}
 use Rattle.editions.proofs.Passed.{search-passed}
-use Rattle.editions.proofs.FirstOpening.{IsFirst}
-use Rattle.editions.proofs.WhichOpens.{Asked, first-opens, none-opens, found-opens, none-found, done-asked}
+use Rattle.editions.proofs.FirstOpening.{IsFirst, search-number}
+use Rattle.editions.proofs.WhichOpens.{Asked, first-opens, none-opens, found-opens, none-found, zero-unless-found, done-asked}
 use Rattle.label.specs.Label.{labelOf}
 use Rattle.luossavin.specs.declared.key.LuossavinKey.{LuossavinKey}
 use Rattle.luossavin.specs.Key.{cipherIn}
 use Rattle.luossavin.specs.Host.{hostModeCall}
+use Rattle.luossavin.specs.Which.{toldOf, hostWhich}
 use Rattle.demands.specs.Call.{inGcm, RefusedAs}
 use Rattle.demands.specs.OneBlockRefused.{MovesZero}
-use Rattle.demands.specs.Which.{FirstThatOpens, Tells}
+use Rattle.demands.specs.Which.{FirstThatOpens, Tells, WhichAnswered}
 use Rattle.demands.proofs.Through.{leaves}
 use Rattle.demands.proofs.OtherHash.{Fits, gcm-in-order}
-use Rattle.demands.proofs.OtherEdition.{other-edition-refused}
+use Rattle.demands.proofs.OtherEdition.{exported-other-edition-refused}
 
 -- where no label is too long, no candidate is
 short-at : (ns : List ℕ) (i : ℕ) → anyTooLong ns ≡ false → getD ns i 0 ≤ limit
@@ -51,6 +56,19 @@ short-candidate labels lengths i e = let n = short-at lengths i e in simp length
 by-test : (t : Bool) (n : ℕ) → gcmHead (cond t (Gcm·Done n) InvalidTag) .number ≡ cond t 0 4
 by-test true n = refl
 by-test false n = refl
+
+-- a yes or no that is told as 1 or 0
+is-one : (t : Bool) → _≡_ {A = ℕ} (cond t 1 0) 1 → t ≡ true
+is-one true e = refl
+is-one false e = absurd (omega arith)
+
+is-zero : (t : Bool) → _≡_ {A = ℕ} (cond t 1 0) 0 → t ≡ false
+is-zero true e = absurd (omega arith)
+is-zero false e = refl
+
+one-or-none : (t : Bool) → (_≡_ {A = ℕ} (cond t 1 0) 1) ⊎ (_≡_ {A = ℕ} (cond t 1 0) 0)
+one-or-none true = inl refl
+one-or-none false = inr refl
 
 module _ (c : Sm4Cipher) (file iv labels lengths o : List ℕ) (room : length file - 16 ≤ length o) where
   abbrev test : ℕ → Bool
@@ -99,13 +117,11 @@ module _ (c : Sm4Cipher) (file iv labels lengths o : List ℕ) (room : length fi
         none-before = λ j h. fails (test j) (sym (answers a j) ∙ f .before j h);
       }
 
-  -- The verdict on a key's record tells what the single call, given room, answers to each candidate: found at i exactly when it is 0 to
-  -- candidate i and 4 to each before it, none exactly when it is 4 to all.
-  pub which-tells : Tells (modeCall Decrypt (inGcm c)) file iv labels lengths o (which c file iv labels lengths)
-  which-tells =
+  tells : Tells (modeCall Decrypt (inGcm c)) file iv labels lengths o (toldOf (which c file iv labels lengths))
+  tells =
       record {
         found = λ e.
-            let f = found-opens c file iv labels lengths e in
+            let f = found-opens c file iv labels lengths (is-one _ e) in
             record {
               inside = f .first .inside;
               opens = yes (f .asked) _ (f .first .passes);
@@ -114,32 +130,80 @@ module _ (c : Sm4Cipher) (file iv labels lengths o : List ℕ) (room : length fi
         is-found = λ d i f.
             let a = done-asked c file iv labels lengths d in
             let v = first-opens c file iv labels lengths a i (first a i f) in
-            (ap (λ (v : Verdict). v .found) v, ap (λ (v : Verdict). v .place) v);
+            (ap (λ (v : Verdict). toldOf v .found) v, ap (λ (v : Verdict). v .place) v);
         none = λ d e i h.
-            let n = none-found c file iv labels lengths e d in
+            let n = none-found c file iv labels lengths (is-zero _ e) d in
             no (n .asked) i (n .none i h);
         is-none = λ d f.
             let a = done-asked c file iv labels lengths d in
             let v = none-opens c file iv labels lengths a (λ i h. fails (test i) (sym (answers a i) ∙ f i h)) in
-            ap (λ (v : Verdict). v .found) v;
-        part = λ e. found-opens c file iv labels lengths e .part;
+            ap (λ (v : Verdict). toldOf v .found) v;
+        part = λ e. found-opens c file iv labels lengths (is-one _ e) .there;
       }
 
-  -- Under a key that does not encrypt the all-zero block to itself, a label of a job and an edition that is found is the only one that
-  -- the file opens under.
-  pub the-edition : MovesZero (c .rk) → which c file iv labels lengths .found ≡ true
-      → (job₁ job₂ edition₁ edition₂ : ℕ) → job₁ < 2 ^ 32 → job₂ < 2 ^ 32 → edition₁ < 2 ^ 16 → edition₂ < 2 ^ 16
-      → partOf (which c file iv labels lengths) labels ≡ labelOf job₁ edition₁
-      → (job₁ ≢ job₂) ⊎ (edition₁ ≢ edition₂)
-      → RefusedAs 4 o (modeCall Decrypt (inGcm c) (labelOf job₂ edition₂) file iv o)
-  the-edition moves e j₁ j₂ e₁ e₂ hj₁ hj₂ he₁ he₂ part other =
-      let t = which-tells in
-      let label : labelAt labels lengths (which c file iv labels lengths .place) ≡ labelOf j₁ e₁ = sym (t .part e) ∙ part in
-      other-edition-refused c moves j₁ j₂ e₁ e₂ file iv o o hj₁ hj₂ he₁ he₂ other refl
-      (subst (λ (l : List ℕ). modeCall Decrypt (inGcm c) l file iv o .head .number ≡ 0) label (t .found e .opens))
+-- What the exported question tells is what the exported single call of mode 4, given room, answers to each candidate: found at i exactly
+-- when it is 0 to candidate i and 4 to each before it, none exactly when it is 4 to all.
+pub which-tells : (k : LuossavinKey) (file iv labels lengths o : List ℕ) → length file - 16 ≤ length o
+    → Tells (hostModeCall Decrypt 4 k) file iv labels lengths o (hostWhich k file iv labels lengths)
+unfolding hostModeCall modeOf hostWhich
+which-tells k file iv labels lengths o room = tells (cipherIn k) file iv labels lengths o room
 
--- The same of the exported calls: `luossavin_which` tells this verdict, and the single call is that of mode 4.
-pub exported-which-tells : (k : LuossavinKey) (file iv labels lengths o : List ℕ) → length file - 16 ≤ length o
-    → Tells (hostModeCall Decrypt 4 k) file iv labels lengths o (which (cipherIn k) file iv labels lengths)
-unfolding hostModeCall modeOf
-exported-which-tells k file iv labels lengths o room = which-tells (cipherIn k) file iv labels lengths o room
+-- Under a key that does not encrypt the all-zero block to itself, a label of a job and an edition that is found is the only one that
+-- the file opens under.
+pub the-edition : (k : LuossavinKey) (file iv labels lengths o : List ℕ) → length file - 16 ≤ length o → MovesZero (k .«round_keys»)
+    → hostWhich k file iv labels lengths .found ≡ 1
+    → (job₁ job₂ edition₁ edition₂ : ℕ) → job₁ < 2 ^ 32 → job₂ < 2 ^ 32 → edition₁ < 2 ^ 16 → edition₂ < 2 ^ 16
+    → take (hostWhich k file iv labels lengths .size) (drop (hostWhich k file iv labels lengths .start) labels) ≡ labelOf job₁ edition₁
+    → (job₁ ≢ job₂) ⊎ (edition₁ ≢ edition₂)
+    → RefusedAs 4 o (hostModeCall Decrypt 4 k (labelOf job₂ edition₂) file iv o)
+the-edition k file iv labels lengths o room moves e j₁ j₂ e₁ e₂ hj₁ hj₂ he₁ he₂ part other =
+    let t = which-tells k file iv labels lengths o room in
+    let label : labelAt labels lengths (hostWhich k file iv labels lengths .place) ≡ labelOf j₁ e₁ = sym (t .part e) ∙ part in
+    exported-other-edition-refused k moves j₁ j₂ e₁ e₂ file iv o o hj₁ hj₂ he₁ he₂ other refl
+    (subst (λ (l : List ℕ). hostModeCall Decrypt 4 k l file iv o .head .number ≡ 0) label (t .found e .opens))
+
+-- a search reports nothing but that it is done, and a refusal no candidate
+no-size : (k : Checked) (v : Verdict) → v .head ≡ finished 0 → checkedVerdict k v .head .size ≡ 0
+no-size Passed v e = ap (λ (h : Head). h .size) e
+no-size (Refused r) v e = refuses r .no-size
+
+some-place : (k : Checked) (v : Verdict) → v .head ≡ finished 0 → checkedVerdict k v .head .number ≢ 0 → checkedVerdict k v .found ≡ false
+some-place Passed v e n = absurd (n (ap (λ (h : Head). h .number) e))
+some-place (Refused r) v e n = refl
+
+module _ (c : Sm4Cipher) (file iv labels lengths : List ℕ) where
+  abbrev told : Bool → Verdict
+  told bad =
+      cond bad (noneWith (refusal 16))
+      (onKey (keyNumber c)
+      (checkedVerdict (searchCheck (c .answer) (c .retired) (length iv) (length file) lengths)
+      (firstOpening (opensWith c iv file) labels lengths 0 0)))
+
+  told-size : (bad : Bool) → told bad .head .size ≡ 0
+  told-size true = refl
+  told-size false = no-size (searchCheck (c .answer) (c .retired) (length iv) (length file) lengths) _ (search-number (opensWith c iv file) labels lengths)
+
+  told-refused : (bad : Bool) → told bad .head .number ≢ 0 → told bad .found ≡ false
+  told-refused true n = refl
+  told-refused false n = some-place (searchCheck (c .answer) (c .retired) (length iv) (length file) lengths) _ (search-number (opensWith c iv file) labels lengths) n
+
+  answered : WhichAnswered (keyNumber c) labels lengths (toldOf (which c file iv labels lengths))
+  unfolding which
+  answered =
+      record {
+        key = λ e. rw e;
+        bad = λ e. rw e;
+        size = told-size (badList labels lengths);
+        either = one-or-none (told (badList labels lengths) .found);
+        refused = λ n. ap (λ (t : Bool). cond t 1 0) (told-refused (badList labels lengths) n);
+        inside = λ e. found-opens c file iv labels lengths (is-one _ e) .inside;
+        empty = λ e.
+            let v = zero-unless-found c file iv labels lengths (is-zero _ e) in
+            (ap (λ (v : Verdict). v .place) v, ap (λ (v : Verdict). v .start) v, ap (λ (v : Verdict). v .size) v);
+      }
+
+-- Demand 1 of the exported question: length 0, the key's number, a part inside the lent buffer where one is found, and none otherwise.
+pub which-answers : (k : LuossavinKey) (file iv labels lengths : List ℕ)
+    → WhichAnswered (keyNumber (cipherIn k)) labels lengths (hostWhich k file iv labels lengths)
+unfolding hostWhich
+which-answers k file iv labels lengths = answered (cipherIn k) file iv labels lengths

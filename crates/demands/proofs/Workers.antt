@@ -1,47 +1,36 @@
--- Ranges and plans, as a host is handed them: which number each call answers, that one answer is allowed alone, that nothing is said of a
--- counter, and that a range is its stretch of the whole.
+-- Ranges and plans, as a host is handed them: which number each call answers, and that nothing is said of a counter.
 -- Assumes nothing.
-use mathlib.Core.Path.{_≡_, refl, sym, ap, _∙_}
+use mathlib.Core.Path.{_≡_, refl, ap, _∙_}
 use mathlib.Core.Bool.{Bool, true, false, not, cond, _||_}
-use mathlib.Core.List.{List, [], _∷_, _++_}
+use mathlib.Core.List.{List, [], _∷_}
 use Prim.Native.Nat.{ℕ, _+_}
 use lib.Dec.{eqb, ltb}
-use lib.ListN.{length, drop}
-use Rattle.block.specs.Below.{AreBytes}
-use Rattle.walk.specs.Outcome.{Outcome, keyed, refuse as refuseAs, done}
+use lib.ListN.{length}
+use Rattle.walk.specs.Outcome.{Outcome, refuse as refuseAs, done}
 use Rattle.walk.specs.Walk.{chain}
 use Rattle.stream.specs.Stream.{streamMode}
 use Rattle.stream.specs.declared.Kind.the-variants.{Ctr as Ctr·kind}
 use Rattle.cipher_mode.specs.declared.CipherMode.the-variants.{Ctr}
 use Rattle.cipher_mode.specs.declared.Direction.{Direction}
-use Rattle.cipher_mode.specs.declared.Sm4Cipher.{Sm4Cipher}
 use Rattle.cipher_mode.specs.declared.answer.Refusal.the-variants.{TooLong, NoRoom, WrongIv}
 use Rattle.cipher_mode.specs.declared.checks.Checked.the-variants.{Passed}
 use Rattle.cipher_mode.specs.Tables.{limit}
 use Rattle.cipher_mode.specs.Key.{keyNumber}
 use Rattle.cipher_mode.specs.Checks.{keyAndIv}
-use Rattle.cipher_mode.proofs.Ends.{went-on}
 use Rattle.ranges.specs.declared.plan.Plan.{Plan}
 use Rattle.ranges.specs.declared.plan.Making.the-variants.{Made, BadWorkers, TooLong as TooLong·made}
 use Rattle.ranges.specs.declared.plan.Planned.{Planned}
 use Rattle.ranges.specs.Plan.{accepts, planOf, without, planned}
 use Rattle.ranges.specs.Range.{stretch, reachCheck, rangeCheck, rangeCall}
 use Rattle.ranges.specs.ByPlan.{planCall}
-use Rattle.ranges.proofs.Passed.{range-reached}
-use Rattle.ranges.proofs.Jumped.{stretch-of-whole}
 use Rattle.luossavin.specs.declared.key.LuossavinKey.{LuossavinKey}
-use Rattle.luossavin.specs.declared.workers.LuossavinPlanned.{LuossavinPlanned}
 use Rattle.luossavin.specs.Key.{cipherIn}
 use Rattle.luossavin.specs.InPieces.{directionOf}
-use Rattle.luossavin.specs.Ranges.{Handed, makingHead, plannedReported, hostPlanMake, hostCtrRange, hostCtrByPlan}
-use Rattle.demands.specs.Call.{result}
+use Rattle.luossavin.specs.Ranges.{makingHead, hostPlanMake, hostCtrRange, hostCtrByPlan}
 use Rattle.demands.specs.CameRound.{Says}
-use Rattle.demands.specs.OneOutcome.{OneReport}
 use Rattle.demands.specs.WhichNumber.{Said, saidIn, only, row, firstOf, keyRows, retiredRows}
 use Rattle.demands.specs.Workers.{rangeRows, planRows, makeRows}
-use Rattle.demands.proofs.Through.{result-of-done, zero-passed}
 use Rattle.demands.proofs.CameRound.{quiet, on-key, behind as says-behind}
-use Rattle.demands.proofs.UniqueOutcomes.{one-report, one-host-answer}
 use Rattle.demands.proofs.WhichNumber.{orElse, first-append, behind, from-key}
 use Rattle.demands.proofs.WhichNumber.{number-checked, number-front, number-refuse, number-then}
 
@@ -110,23 +99,6 @@ unfolding hostPlanMake planned
 exported-make-number n workers =
     made-said (eqb workers 0 || ltb 64 workers) (ltb limit n) (record { making = Made; plan = planOf n workers }) refl
 
--- Any two answers and outputs that the contracts allow coincide, and so do any two plans that are handed out.
-pub unique-exported-range : (k : LuossavinKey) (decrypt : Bool) (iv : List ℕ) (offset : ℕ) (d o : List ℕ)
-    → OneReport (hostCtrRange k decrypt iv offset d o)
-unique-exported-range k decrypt iv offset d o = one-report (hostCtrRange k decrypt iv offset d o)
-
-pub unique-exported-by-plan : (k : LuossavinKey) (decrypt : Bool) (iv : List ℕ) (plan : Plan) (d o : List ℕ)
-    → OneReport (hostCtrByPlan k decrypt iv plan d o)
-unique-exported-by-plan k decrypt iv plan d o = one-report (hostCtrByPlan k decrypt iv plan d o)
-
-pub unique-exported-plan : (x : Handed) (r₁ r₂ : LuossavinPlanned)
-    → plannedReported r₁ ≡ x → plannedReported r₂ ≡ x → r₁ ≡ r₂
-unique-exported-plan x r₁ r₂ e₁ e₂ =
-    let e = e₁ ∙ sym e₂ in
-    ap {B = LuossavinPlanned} (λ a. record { answer = a; plan = r₁ .plan })
-    (one-host-answer (r₁ .answer) (r₂ .answer) (ap (λ (h : Handed). h .head) e))
-    ∙ ap {B = LuossavinPlanned} (λ (p : Plan). record { answer = r₂ .answer; plan = p }) (ap (λ (h : Handed). h .plan) e)
-
 -- Nothing is said of a counter.
 gated : (t : Bool) (n : ℕ) (o : List ℕ) (next : Outcome) → next .head .cameRound ≡ 0 → refuseAs t n o next .head .cameRound ≡ 0
 gated true n o next e = refl
@@ -150,25 +122,3 @@ exported-plan-says k decrypt iv plan d o =
     on-key false (keyNumber c) _
     (says-behind false (reachCheck (c .answer) (c .retired) (directionOf decrypt) (length iv) (length d)) o _
     (quiet _ (gated (not (accepts plan (length d))) 18 o _ (gated (ltb (length o) (length d)) 6 o result refl))))
-
--- A range that is done gives its stretch of what the single call gives of the whole, whatever is before it.
-range-leaves : (dir : Direction) (c : Sm4Cipher) (iv : List ℕ) (offset : ℕ) (d o : List ℕ) → rangeCall dir c iv offset d o .head .number ≡ 0
-    → (length iv ≡ 16) × (rangeCall dir c iv offset d o ≡ keyed (keyNumber c) (done (stretch (c .rk) iv offset d) o))
-unfolding rangeCall
-range-leaves dir c iv offset d o e =
-    let check = rangeCheck (c .answer) (c .retired) dir (length iv) offset (length d) (length o) in
-    let next = done (stretch (c .rk) iv offset d) o in
-    let passed = zero-passed check o next e in (
-      range-reached (c .answer) (c .retired) dir (length iv) offset (length d) (length o) passed,
-      ap {B = Outcome} (keyed (keyNumber c)) (sym (went-on check o next next passed refl)),
-    )
-
-pub exported-range-of-whole : (k : LuossavinKey) (decrypt : Bool) (iv pre d o : List ℕ) → AreBytes iv
-    → hostCtrRange k decrypt iv (length pre) d o .head .number ≡ 0
-    → result (hostCtrRange k decrypt iv (length pre) d o) ≡ drop (length pre) (chain (streamMode Ctr·kind (k .«round_keys»)) iv (pre ++ d))
-unfolding hostCtrRange cipherIn
-exported-range-of-whole k decrypt iv pre d o bytes e =
-    let l = range-leaves (directionOf decrypt) (cipherIn k) iv (length pre) d o e in
-    ap result (l .1)
-    ∙ result-of-done (stretch (k .«round_keys») iv (length pre) d) o
-    ∙ sym (stretch-of-whole (k .«round_keys») iv pre d (l .0) bytes)

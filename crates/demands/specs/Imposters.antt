@@ -1,37 +1,43 @@
--- Calls that look like encryption, decryption, setting up a key, retiring one, asking for a file's label, a range, work by a plan, putting
--- on a shelf or joining two hashes to a careless test, and are not.
-use mathlib.Core.Bool.{true, false, not}
+-- Calls that look to a careless test like an exported call, and are not: encryption, decryption, setting up a key, retiring one, a start in
+-- pieces, asking for a file's label, a range, work by a plan, putting on a shelf, joining two hashes.
+use mathlib.Core.Bool.{Bool, true, false, not}
 use mathlib.Core.List.{List, [], _∷_, _++_}
-use Prim.Native.Nat.{ℕ, _+_, _*_, _/_}
+use Prim.Native.Nat.{ℕ, _+_, _-_, _*_, _/_}
 use lib.Dec.{eqb}
 use lib.ListN.{length, take, drop, replicate}
 use Rattle.cipher.specs.Sm4.{roundKeys}
 use Rattle.counter.specs.CameRound.{blocksOf, ctrCameRound}
 use Rattle.walk.specs.Walk.{over}
 use Rattle.walk.specs.Outcome.{Outcome, leaving, telling, refused, refuse as refuseAs, done}
-use Rattle.cipher_mode.specs.declared.KeyAnswer.the-variants.{Key, ErrorBlockSize}
+use Rattle.cipher_mode.specs.declared.KeyAnswer.the-variants.{Key}
 use Rattle.cipher_mode.specs.declared.CipherMode.the-variants.{Ctr, Gcm}
 use Rattle.cipher_mode.specs.declared.Direction.{Direction}
 use Rattle.cipher_mode.specs.declared.Direction.the-variants.{Encrypt, Decrypt}
 use Rattle.cipher_mode.specs.declared.answer.Refusal.the-variants.{TooLong}
 use Rattle.cipher_mode.specs.declared.checks.Checked.the-variants.{Passed}
 use Rattle.cipher_mode.specs.declared.Sm4Cipher.{Sm4Cipher}
-use Rattle.cipher_mode.specs.declared.Sm4CipherMode.{Sm4CipherMode}
-use Rattle.cipher_mode.specs.Key.{keyNumber, newCipher, newCipherMode}
+use Rattle.cipher_mode.specs.Key.{keyNumber, newCipher}
 use Rattle.cipher_mode.specs.Checks.{refuse, andThen, keyAndIv, dataCheck, checked}
-use Rattle.cipher_mode.specs.Calls.{modeCall}
+use Rattle.pieces.specs.declared.seal.Seal.{Seal}
+use Rattle.pieces.specs.States.{sealAfter, sealShut}
+use Rattle.pieces.specs.Calls.{Stepped, stepOn, begun}
 use Rattle.editions.specs.Candidates.{anyTooLong}
-use Rattle.editions.specs.Which.{Verdict, onKey, firstOpening, checkedVerdict, opensWith, which}
+use Rattle.editions.specs.Which.{onKey, firstOpening, checkedVerdict, opensWith}
 use Rattle.ranges.specs.declared.plan.Plan.{Plan}
 use Rattle.ranges.specs.Plan.{accepts}
-use Rattle.ranges.specs.Range.{rangeCall}
-use Rattle.ranges.specs.ByPlan.{planCall}
 use Rattle.shelf.specs.Records.{stored, records}
 use Rattle.shelf.specs.Shelf.{currentOf, notHigher, supersede, fitted, badShelf}
 use Rattle.shelf.specs.Calls.{Outcome as Shelf·Outcome, refuse as shelfRefuse, holding, putIn}
 use Rattle.luossavin.specs.declared.halves.LuossavinHash.{LuossavinHash}
+use Rattle.luossavin.specs.declared.key.LuossavinKey.{LuossavinKey}
+use Rattle.luossavin.specs.Key.{cipherIn, hostKeyNew}
 use Rattle.luossavin.specs.Halves.{hostHashBlocks, hostHashJoin}
+use Rattle.luossavin.specs.Host.{hostModeCall}
+use Rattle.luossavin.specs.InPieces.{directionOf}
+use Rattle.luossavin.specs.Which.{Told, toldOf, hostWhich}
+use Rattle.luossavin.specs.Ranges.{hostCtrRange, hostCtrByPlan}
 use Rattle.demands.specs.Call.{Call, result}
+use Rattle.demands.specs.Workers.{RangeCall}
 
 -- refuses everything
 abbrev pub refusesAll : Call
@@ -45,29 +51,43 @@ constant x label d iv o = x
 abbrev pub copies : Call
 copies label d iv o = done d o
 
+-- encryption in Ctr, which the next five pretend to be
+abbrev pub ctr : LuossavinKey → Call
+ctr k = hostModeCall Encrypt 2 k
+
 -- ciphers the first block and copies the rest
-abbrev pub firstBlockOnly : Sm4CipherMode → Call
-firstBlockOnly m label d iv o = done (take 16 (result (modeCall Encrypt m label d iv o)) ++ drop 16 d) o
+abbrev pub firstBlockOnly : LuossavinKey → Call
+firstBlockOnly k label d iv o = done (take 16 (result (ctr k label d iv o)) ++ drop 16 d) o
 
 -- does what encryption does, and reports the output's length
-abbrev pub inventsLength : Sm4CipherMode → Call
-inventsLength m label d iv o =
+abbrev pub inventsLength : LuossavinKey → Call
+inventsLength k label d iv o =
     record {
-      head = record { number = modeCall Encrypt m label d iv o .head .number; size = length o; missing = 0; cameRound = 0; key = 1 };
-      bytes = modeCall Encrypt m label d iv o .bytes;
+      head = record { number = ctr k label d iv o .head .number; size = length o; missing = 0; cameRound = 0; key = 1 };
+      bytes = ctr k label d iv o .bytes;
     }
 
 -- does what encryption does, and says of the counter what the step after the last block says too
-abbrev pub countsEveryStep : Sm4CipherMode → Call
-countsEveryStep m label d iv o =
-    let x = modeCall Encrypt m label d iv o in
+abbrev pub countsEveryStep : LuossavinKey → Call
+countsEveryStep k label d iv o =
+    let x = ctr k label d iv o in
     leaving (telling (ctrCameRound iv (blocksOf (length d) + 1)) (x .head)) (x .bytes)
 
 -- does what encryption does, and says of the counter what the formula says, also where it is refused
-abbrev pub saysItRefused : Sm4CipherMode → Call
-saysItRefused m label d iv o =
-    let x = modeCall Encrypt m label d iv o in
+abbrev pub saysItRefused : LuossavinKey → Call
+saysItRefused k label d iv o =
+    let x = ctr k label d iv o in
     leaving (telling (ctrCameRound iv (blocksOf (length d))) (x .head)) (x .bytes)
+
+-- does what encryption does, and tells the engine where it should tell of the counter
+abbrev pub tellsEngine : LuossavinKey → Call
+tellsEngine k label d iv o =
+    let x = ctr k label d iv o in
+    leaving (telling (eqb (k .engine) 1) (x .head)) (x .bytes)
+
+-- seals and opens in Gcm, and puts the key's number in front of the label
+abbrev pub bindsNumber : Direction → LuossavinKey → Call
+bindsNumber dir k label d iv o = hostModeCall dir 4 k (k .number ∷ label) d iv o
 
 -- sets up a key, and forgets its number
 abbrev pub forgetsNumber : List ℕ → ℕ → Sm4Cipher
@@ -78,48 +98,67 @@ abbrev pub takesAnyNumber : List ℕ → ℕ → Sm4Cipher
 takesAnyNumber key n = record { rk = roundKeys key; answer = Key; number = n; retired = false; engine = 0 }
 
 -- retires a record by copying it anew, without its mark
-abbrev pub copiesAnew : Sm4Cipher → Sm4Cipher
-copiesAnew c = record { rk = c .rk; answer = c .answer; number = c .number; retired = false; engine = c .engine }
+abbrev pub copiesAnew : LuossavinKey → LuossavinKey
+copiesAnew k = record { «round_keys» = k .«round_keys»; answer = k .answer; number = k .number; retired = 0; engine = k .engine }
 
 -- retires a key by making it none
-abbrev pub throwsAway : Sm4Cipher → Sm4Cipher
-throwsAway c = record { rk = c .rk; answer = ErrorBlockSize; number = c .number; retired = true; engine = c .engine }
+abbrev pub throwsAway : LuossavinKey → LuossavinKey
+throwsAway k = record { «round_keys» = k .«round_keys»; answer = 1; number = k .number; retired = 1; engine = k .engine }
 
 -- marks a record's engine by copying it anew, without the mark of retirement
-abbrev pub marksAnew : ℕ → Sm4Cipher → Sm4Cipher
-marksAnew e c = record { rk = c .rk; answer = c .answer; number = c .number; retired = false; engine = e }
+abbrev pub marksAnew : ℕ → LuossavinKey → LuossavinKey
+marksAnew e k = record { «round_keys» = k .«round_keys»; answer = k .answer; number = k .number; retired = 0; engine = e }
 
--- does what encryption does, and tells the engine where it should tell of the counter
-abbrev pub tellsEngine : Sm4CipherMode → Call
-tellsEngine m label d iv o =
-    let x = modeCall Encrypt m label d iv o in
-    leaving (telling (eqb (m .cipher .engine) 1) (x .head)) (x .bytes)
+-- starts sealing in pieces, and does not look at the label's length
+abbrev pub labelUnseen : LuossavinKey → List ℕ → List ℕ → Stepped Seal
+labelUnseen k label iv =
+    let c = cipherIn k in
+    let n = keyNumber c in
+    stepOn Seal n
+    (begun Seal (keyAndIv (c .answer) (c .retired) Encrypt Gcm (length iv)) (sealShut n) (sealAfter n (c .engine) (c .rk) label iv []))
 
 -- asks which label a file opens under, and counts the places from 1
-abbrev pub countsFromOne : Sm4Cipher → List ℕ → List ℕ → List ℕ → List ℕ → Verdict
-countsFromOne c file iv labels lengths =
-    let v = which c file iv labels lengths in
+abbrev pub countsFromOne : LuossavinKey → List ℕ → List ℕ → List ℕ → List ℕ → Told
+countsFromOne k file iv labels lengths =
+    let v = hostWhich k file iv labels lengths in
     record { head = v .head; found = v .found; place = v .place + 1; start = v .start; size = v .size }
 
+-- asks it, and tells a part of one byte where none is found
+abbrev pub leavesPart : LuossavinKey → List ℕ → List ℕ → List ℕ → List ℕ → Told
+leavesPart k file iv labels lengths =
+    let v = hostWhich k file iv labels lengths in
+    record { head = v .head; found = v .found; place = v .place; start = v .start; size = v .size + (1 - v .found) }
+
 -- asks it, and looks at the file's length before the labels'
-abbrev pub fileFirst : Sm4Cipher → List ℕ → List ℕ → List ℕ → List ℕ → Verdict
-fileFirst c file iv labels lengths =
-    onKey (keyNumber c)
+abbrev pub fileFirst : LuossavinKey → List ℕ → List ℕ → List ℕ → List ℕ → Told
+fileFirst k file iv labels lengths =
+    let c = cipherIn k in
+    toldOf
+    (onKey (keyNumber c)
     (checkedVerdict
     (andThen (keyAndIv (c .answer) (c .retired) Decrypt Gcm (length iv))
     (andThen (dataCheck Decrypt Gcm (length file)) (refuse (anyTooLong lengths) TooLong Passed)))
-    (firstOpening (opensWith c iv file) labels lengths 0 0))
+    (firstOpening (opensWith c iv file) labels lengths 0 0)))
 
 -- does a range from the start of the block that its offset lies in
-abbrev pub fromTheBlock : Direction → Sm4Cipher → List ℕ → ℕ → List ℕ → List ℕ → Outcome
-fromTheBlock dir c iv offset d o = rangeCall dir c iv (16 * (offset / 16)) d o
+abbrev pub fromTheBlock : RangeCall
+fromTheBlock k decrypt iv offset d o = hostCtrRange k decrypt iv (16 * (offset / 16)) d o
+
+-- gives the key stream of a range in place of the text xored with it
+abbrev pub streamAlone : RangeCall
+streamAlone k decrypt iv offset d o = hostCtrRange k decrypt iv offset (replicate (length d) 0) o
+
+-- does a range either way, whether the key is retired or not
+abbrev pub markUnseen : RangeCall
+markUnseen k decrypt iv offset d o = hostCtrRange k true iv offset d o
 
 -- works by a plan, and looks at the plan before the length
-abbrev pub planFirst : Direction → Sm4Cipher → List ℕ → Plan → List ℕ → List ℕ → Outcome
-planFirst dir c iv plan d o =
-    checked (keyAndIv (c .answer) (c .retired) dir Ctr (length iv)) o
+abbrev pub planFirst : LuossavinKey → Bool → List ℕ → Plan → List ℕ → List ℕ → Outcome
+planFirst k decrypt iv plan d o =
+    let c = cipherIn k in
+    checked (keyAndIv (c .answer) (c .retired) (directionOf decrypt) Ctr (length iv)) o
     (refuseAs (not (accepts plan (length d))) 18 o
-    (planCall dir c iv plan d o))
+    (hostCtrByPlan k decrypt iv plan d o))
 
 -- puts on a shelf, and holds the edition against the job's current record alone
 abbrev pub againstCurrent : List ℕ → ℕ → ℕ → ℕ → List ℕ → Shelf·Outcome
@@ -146,8 +185,8 @@ twoEditions =
 abbrev pub zeros : List ℕ
 zeros = replicate 16 0
 
-abbrev pub zeroKey : Sm4CipherMode
-zeroKey = newCipherMode zeros 1 Ctr
+abbrev pub zeroKey : LuossavinKey
+zeroKey = hostKeyNew zeros 1
 
 -- the IV of sixteen bytes ff, which the counter comes round from at once
 abbrev pub ones : List ℕ

@@ -1,12 +1,15 @@
 -- A message in pieces, as properties of any calls on states of a kind S: whatever the cuts are, empty ones too, the pieces give
 -- what the single call gives.
 use mathlib.Core.Path.{_≡_}
+use mathlib.Core.Logic.{_≢_}
+use mathlib.Core.Bool.{true}
 use mathlib.Core.List.{List, [], _∷_, _++_}
-use Prim.Native.Nat.{ℕ, _≤_}
+use Prim.Native.Nat.{ℕ, _+_, _≤_}
 use lib.ListN.{length, take}
-use Rattle.walk.specs.Outcome.{Outcome}
+use Rattle.walk.specs.Outcome.{Outcome, leaving}
 use Rattle.cipher_mode.specs.Tables.{limit}
 use Rattle.pieces.specs.Calls.{Stepped}
+use Rattle.demands.specs.Answered.{oneOf}
 use Rattle.demands.specs.Call.{Call, result}
 
 -- a call answered 0 with n bytes
@@ -32,6 +35,11 @@ wrote S P call s (p ∷ ps) = written S (call s p) ++ wrote S P call (call s p .
 abbrev pub AllDid : (S P : Type 0) → (S → P → Stepped S) → (P → ℕ) → S → List P → Type 0
 AllDid S P call size s [] = Unit {0}
 AllDid S P call size s (p ∷ ps) = Did S (size p) (call s p) × AllDid S P call size (call s p .state) ps
+
+-- or that each answered 0
+abbrev pub AllZero : (S P : Type 0) → (S → P → Stepped S) → S → List P → Type 0
+AllZero S P call s [] = Unit {0}
+AllZero S P call s (p ∷ ps) = (call s p .head .number ≡ 0) × AllZero S P call (call s p .state) ps
 
 -- a piece of a message, and the output that is lent for it
 pub record Piece : Type 0 where
@@ -87,6 +95,29 @@ SealInPieces S start piece end single =
     ≡ result (single label (whole ps) iv o))
     × TellsAlike S (end (stateAfter S Piece (onto S piece) (start label iv .state) ps) t) (single label (whole ps) iv o)
 
+-- And the other way about: where start, pieces and end all answer 0, so does the single call, given room for the whole, with the bytes
+-- that they wrote, and it tells of the counter what the end tells.
+abbrev pub CtrOfPieces : (S : Type 0) → (List ℕ → Stepped S) → (S → List ℕ → List ℕ → Stepped S) → (S → Stepped S) → Call → Type 0
+CtrOfPieces S start piece end single =
+    (ps : List Piece) (label iv o : List ℕ) → length (whole ps) ≤ length o
+    → start iv .head .number ≡ 0 → AllZero S Piece (onto S piece) (start iv .state) ps
+    → end (stateAfter S Piece (onto S piece) (start iv .state) ps) .head .number ≡ 0
+    → (single label (whole ps) iv o .head .number ≡ 0)
+    × (wrote S Piece (onto S piece) (start iv .state) ps ≡ result (single label (whole ps) iv o))
+    × TellsAlike S (end (stateAfter S Piece (onto S piece) (start iv .state) ps)) (single label (whole ps) iv o)
+
+abbrev pub SealOfPieces : (S : Type 0) → (List ℕ → List ℕ → Stepped S) → (S → List ℕ → List ℕ → Stepped S)
+    → (S → List ℕ → Stepped S) → Call → Type 0
+SealOfPieces S start piece end single =
+    (ps : List Piece) (label iv t o : List ℕ) → length (whole ps) + 16 ≤ length o
+    → start label iv .head .number ≡ 0 → AllZero S Piece (onto S piece) (start label iv .state) ps
+    → end (stateAfter S Piece (onto S piece) (start label iv .state) ps) t .head .number ≡ 0
+    → (single label (whole ps) iv o .head .number ≡ 0)
+    × (wrote S Piece (onto S piece) (start label iv .state) ps
+    ++ written S (end (stateAfter S Piece (onto S piece) (start label iv .state) ps) t)
+    ≡ result (single label (whole ps) iv o))
+    × TellsAlike S (end (stateAfter S Piece (onto S piece) (start label iv .state) ps) t) (single label (whole ps) iv o)
+
 -- the ciphertext that the pieces make which an opening takes; they lend no output
 abbrev pub joined : List (List ℕ) → List ℕ
 joined [] = []
@@ -105,3 +136,19 @@ OpensInPieces S start piece end single =
     → AllDid S (List ℕ) piece none (start label iv .state) cs
     × (end (stateAfter S (List ℕ) piece (start label iv .state) cs) tag .head .number ≡ single label (joined cs ++ tag) iv o .head .number)
     × TellsAlike S (end (stateAfter S (List ℕ) piece (start label iv .state) cs) tag) (single label (joined cs ++ tag) iv o)
+
+-- The other way about: where start, pieces and end all answer 0, so does the single call, given room.
+abbrev pub OpensOfPieces : (S : Type 0) → (List ℕ → List ℕ → Stepped S) → (S → List ℕ → Stepped S) → (S → List ℕ → Stepped S) → Call
+    → Type 0
+OpensOfPieces S start piece end single =
+    (cs : List (List ℕ)) (label iv tag o : List ℕ) → length (joined cs) ≤ length o
+    → start label iv .head .number ≡ 0 → AllZero S (List ℕ) piece (start label iv .state) cs
+    → end (stateAfter S (List ℕ) piece (start label iv .state) cs) tag .head .number ≡ 0
+    → single label (joined cs ++ tag) iv o .head .number ≡ 0
+
+-- A start is checked as the single call is. Where it is refused, the single call of any data is refused with its report and leaves the
+-- output as it was lent; where it answers 0, the single call of the least data that there is, given room for it, gives one of `answers`.
+pub record CheckedAlike (S : Type 0) (least : List ℕ) (room : ℕ) (answers : List ℕ) (started : Stepped S)
+    (single : List ℕ → List ℕ → Outcome) : Type 0 where
+  pub refused : started .head .number ≢ 0 → (d o : List ℕ) → single d o ≡ leaving (started .head) o
+  pub begun : started .head .number ≡ 0 → (o : List ℕ) → room ≤ length o → oneOf (single least o .head .number) answers ≡ true

@@ -1,33 +1,43 @@
--- Retired keys, as properties of any function that retires a record and of any record that is retired.
+-- Retired keys, as properties of any function that hands back a host's record and of any record that is retired. Its mark is any byte but
+-- 0.
 use mathlib.Core.Path.{_≡_}
 use mathlib.Core.Logic.{_≢_}
-use mathlib.Core.Bool.{true}
-use mathlib.Core.List.{List}
+use mathlib.Core.Bool.{true, false}
+use mathlib.Core.List.{List, _∷_, _++_}
 use Prim.Native.Nat.{ℕ}
-use Rattle.cipher_mode.specs.declared.CipherMode.{CipherMode}
+use lib.ListN.{take}
 use Rattle.cipher_mode.specs.declared.Direction.the-variants.{Encrypt, Decrypt}
-use Rattle.cipher_mode.specs.declared.Sm4Cipher.{Sm4Cipher}
-use Rattle.cipher_mode.specs.Calls.{blockCall, modeCall}
-use Rattle.pieces.specs.Calls.{ctrStart, sealStart, opensStart}
-use Rattle.editions.specs.Which.{which as asks}
+use Rattle.ranges.specs.declared.plan.Plan.{Plan}
+use Rattle.luossavin.specs.declared.key.LuossavinKey.{LuossavinKey}
+use Rattle.luossavin.specs.declared.journals.LuossavinKeys.{LuossavinKeys}
+use Rattle.luossavin.specs.Host.{hostBlockCall, hostModeCall}
+use Rattle.luossavin.specs.InPieces.{hostCtrStart, hostSealStart, hostOpensStart}
+use Rattle.luossavin.specs.Which.{hostWhich}
+use Rattle.luossavin.specs.Ranges.{hostCtrRange, hostCtrByPlan}
+use Rattle.luossavin.specs.Journals.{hostReplay}
+use Rattle.demands.specs.InTheJournal.{badKeysTold}
 
 -- a retired record does not come back unretired
-abbrev pub StaysRetired : (Sm4Cipher → Sm4Cipher) → Type 0
-StaysRetired f = (c : Sm4Cipher) → c .retired ≡ true → f c .retired ≡ true
+abbrev pub StaysRetired : (LuossavinKey → LuossavinKey) → Type 0
+StaysRetired f = (k : LuossavinKey) → k .retired ≢ 0 → f k .retired ≢ 0
 
--- whatever was to be decrypted under the record is decrypted, or refused, as before, with the same bytes and the same report
-pub record DecryptsAlike (c d : Sm4Cipher) : Type 0 where
-  pub block : (b o : List ℕ) → blockCall Decrypt d b o ≡ blockCall Decrypt c b o
-  pub message : (mode : CipherMode) (label s iv o : List ℕ)
-      → modeCall Decrypt (record { cipher = d; mode = mode }) label s iv o ≡ modeCall Decrypt (record { cipher = c; mode = mode }) label s iv o
-  pub ctr : (iv : List ℕ) → ctrStart Decrypt d iv ≡ ctrStart Decrypt c iv
-  pub opens : (label iv : List ℕ) → opensStart d label iv ≡ opensStart c label iv
-  pub which : (file iv labels lengths : List ℕ) → asks d file iv labels lengths ≡ asks c file iv labels lengths
+-- whatever was to be decrypted under the record k is decrypted, or refused, under l as before, with the same bytes and the same report
+pub record DecryptsAlike (k l : LuossavinKey) : Type 0 where
+  pub block : (b o : List ℕ) → hostBlockCall Decrypt l b o ≡ hostBlockCall Decrypt k b o
+  pub message : (mode : ℕ) (label s iv o : List ℕ) → hostModeCall Decrypt mode l label s iv o ≡ hostModeCall Decrypt mode k label s iv o
+  pub ctr : (iv : List ℕ) → hostCtrStart l true iv ≡ hostCtrStart k true iv
+  pub opens : (label iv : List ℕ) → hostOpensStart l label iv ≡ hostOpensStart k label iv
+  pub which : (file iv labels lengths : List ℕ) → hostWhich l file iv labels lengths ≡ hostWhich k file iv labels lengths
+  pub range : (iv : List ℕ) (offset : ℕ) (d o : List ℕ) → hostCtrRange l true iv offset d o ≡ hostCtrRange k true iv offset d o
+  pub by-plan : (iv : List ℕ) (plan : Plan) (d o : List ℕ) → hostCtrByPlan l true iv plan d o ≡ hostCtrByPlan k true iv plan d o
 
--- nothing is encrypted under the record
-pub record EncryptsNothing (c : Sm4Cipher) : Type 0 where
-  pub block : (b o : List ℕ) → blockCall Encrypt c b o .head .number ≢ 0
-  pub message : (mode : CipherMode) (label d iv o : List ℕ)
-      → modeCall Encrypt (record { cipher = c; mode = mode }) label d iv o .head .number ≢ 0
-  pub ctr : (iv : List ℕ) → ctrStart Encrypt c iv .head .number ≢ 0
-  pub seal : (label iv : List ℕ) → sealStart c label iv .head .number ≢ 0
+-- nothing is encrypted under the record k, and no journal is replayed with it
+pub record EncryptsNothing (k : LuossavinKey) : Type 0 where
+  pub block : (b o : List ℕ) → hostBlockCall Encrypt k b o .head .number ≢ 0
+  pub message : (mode : ℕ) (label d iv o : List ℕ) → hostModeCall Encrypt mode k label d iv o .head .number ≢ 0
+  pub ctr : (iv : List ℕ) → hostCtrStart k false iv .head .number ≢ 0
+  pub seal : (label iv : List ℕ) → hostSealStart k label iv .head .number ≢ 0
+  pub range : (iv : List ℕ) (offset : ℕ) (d o : List ℕ) → hostCtrRange k false iv offset d o .head .number ≢ 0
+  pub by-plan : (iv : List ℕ) (plan : Plan) (d o : List ℕ) → hostCtrByPlan k false iv plan d o .head .number ≢ 0
+  pub replay : (keys : LuossavinKeys) (before after : List LuossavinKey) (journal : List ℕ)
+      → take (keys .count) (keys .keys) ≡ before ++ (k ∷ after) → hostReplay keys journal ≡ badKeysTold

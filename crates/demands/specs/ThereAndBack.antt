@@ -1,6 +1,5 @@
 -- Demand 2 as a property of any two calls: the second takes back what the first did.
 use mathlib.Core.Path.{_≡_}
-use mathlib.Core.Logic.{_⊎_}
 use mathlib.Core.List.{List}
 use Prim.Native.Nat.{ℕ, _≤_}
 use lib.ListN.{length}
@@ -9,20 +8,14 @@ use Rattle.walk.specs.Outcome.{Outcome}
 use Rattle.cipher_mode.specs.declared.CipherMode.{CipherMode}
 use Rattle.cipher_mode.specs.declared.CipherMode.the-variants.{Cbc}
 use Rattle.cipher_mode.specs.declared.Direction.the-variants.{Encrypt, Decrypt}
-use Rattle.cipher_mode.specs.declared.Sm4Cipher.{Sm4Cipher}
-use Rattle.cipher_mode.specs.Key.{retire}
 use Rattle.cipher_mode.specs.Tables.{limit, roomOf}
 use Rattle.luossavin.specs.declared.key.LuossavinKey.{LuossavinKey}
-use Rattle.luossavin.specs.Key.{hostKeyRetire}
 use Rattle.demands.specs.Call.{Call, result}
 
--- the record c, now or when it is retired
-abbrev pub AtAnyTime : Sm4Cipher → Sm4Cipher → Type 0
-AtAnyTime c later = (later ≡ c) ⊎ (later ≡ retire c)
-
--- a host's
-abbrev pub HostAtAnyTime : LuossavinKey → LuossavinKey → Type 0
-HostAtAnyTime k later = (later ≡ k) ⊎ (later ≡ hostKeyRetire k)
+-- the same key: the same round keys, and set up with the same answer. Its number, its engine and whether it is retired may be others.
+pub record SameKey (k later : LuossavinKey) : Type 0 where
+  pub keys : later .«round_keys» ≡ k .«round_keys»
+  pub answer : later .answer ≡ k .answer
 
 -- the call answered 0, with the message d and its length
 pub record Returns (d : List ℕ) (x : Outcome) : Type 0 where

@@ -1,11 +1,14 @@
--- Which of many labels a file opens under, as a property of any verdict beside any call that opens sealed messages.
+-- Which of many labels a file opens under, as a property of what a host is told beside any call that opens sealed messages.
 use mathlib.Core.Path.{_≡_}
+use mathlib.Core.Logic.{_≢_, _⊎_}
 use mathlib.Core.Bool.{true, false}
 use mathlib.Core.List.{List}
-use Prim.Native.Nat.{ℕ, _<_}
-use lib.ListN.{length}
-use Rattle.editions.specs.Candidates.{labelAt}
-use Rattle.editions.specs.Which.{Verdict, partOf}
+use Prim.Native.Nat.{ℕ, _+_, _≤_, _<_}
+use lib.ListN.{length, take, drop}
+use Rattle.walk.specs.Outcome.{refusal}
+use Rattle.editions.specs.Candidates.{badList, labelAt}
+use Rattle.editions.specs.Which.{noneWith}
+use Rattle.luossavin.specs.Which.{Told, toldOf}
 use Rattle.demands.specs.Call.{Call}
 
 -- the call answers n to candidate i
@@ -22,11 +25,25 @@ pub record FirstThatOpens (opening : Call) (file iv labels lengths o : List ℕ)
 abbrev pub NoneOpens : Call → List ℕ → List ℕ → List ℕ → List ℕ → List ℕ → Type 0
 NoneOpens opening file iv labels lengths o = (i : ℕ) → i < length lengths → AnswersTo opening file iv labels lengths o i 4
 
--- The verdict v, where it is no refusal, is found at i exactly when candidate i is the first that opens the file, and none exactly
--- when none opens it; and the part handed back is the candidate. The call is lent the output o.
-pub record Tells (opening : Call) (file iv labels lengths o : List ℕ) (v : Verdict) : Type 0 where
-  pub found : v .found ≡ true → FirstThatOpens opening file iv labels lengths o (v .place)
-  pub is-found : v .head .number ≡ 0 → (i : ℕ) → FirstThatOpens opening file iv labels lengths o i → (v .found ≡ true) × (v .place ≡ i)
-  pub none : v .head .number ≡ 0 → v .found ≡ false → NoneOpens opening file iv labels lengths o
-  pub is-none : v .head .number ≡ 0 → NoneOpens opening file iv labels lengths o → v .found ≡ false
-  pub part : v .found ≡ true → partOf v labels ≡ labelAt labels lengths (v .place)
+-- What is told, where it is no refusal, is found at i exactly when candidate i is the first that opens the file, and none exactly when none
+-- opens it; and the part of the buffer that is told is the candidate. The call is lent the output o.
+pub record Tells (opening : Call) (file iv labels lengths o : List ℕ) (v : Told) : Type 0 where
+  pub found : v .found ≡ 1 → FirstThatOpens opening file iv labels lengths o (v .place)
+  pub is-found : v .head .number ≡ 0 → (i : ℕ) → FirstThatOpens opening file iv labels lengths o i → (v .found ≡ 1) × (v .place ≡ i)
+  pub none : v .head .number ≡ 0 → v .found ≡ 0 → NoneOpens opening file iv labels lengths o
+  pub is-none : v .head .number ≡ 0 → NoneOpens opening file iv labels lengths o → v .found ≡ 0
+  pub part : v .found ≡ 1 → take (v .size) (drop (v .start) labels) ≡ labelAt labels lengths (v .place)
+
+-- Demand 1 of the question, on the key of number k: what is told besides its number and how many bytes were missing.
+pub record WhichAnswered (k : ℕ) (labels lengths : List ℕ) (v : Told) : Type 0 where
+  -- refused or done, the key's number is repeated; a bad list is told before any key is looked at, and nothing beside it
+  pub key : badList labels lengths ≡ false → v .head .key ≡ k
+  pub bad : badList labels lengths ≡ true → v ≡ toldOf (noneWith (refusal 16))
+  -- nothing is written
+  pub size : v .head .size ≡ 0
+  -- found is 1 or 0, and 1 in no refusal
+  pub either : (v .found ≡ 1) ⊎ (v .found ≡ 0)
+  pub refused : v .head .number ≢ 0 → v .found ≡ 0
+  -- what is found lies inside the lent buffer; in every other answer the part is empty, and place and start are 0
+  pub inside : v .found ≡ 1 → v .start + v .size ≤ length labels
+  pub empty : v .found ≡ 0 → (v .place ≡ 0) × (v .start ≡ 0) × (v .size ≡ 0)

@@ -6,7 +6,7 @@ use mathlib.Core.Bool.{Bool, true, false, not, _||_}
 use mathlib.Core.List.{List, [], _∷_, _++_, foldr}
 use Prim.Native.Nat.{ℕ, _+_, _≤_}
 use lib.Dec.{eqb, ltb}
-use lib.ListN.{length, getD}
+use lib.ListN.{length, take, drop, getD}
 use Rattle.walk.specs.Outcome.{Outcome, leaving, telling, finished, refusal}
 use Rattle.cipher_mode.specs.Tables.{limit}
 use Rattle.ranges.specs.declared.plan.Plan.{Plan}
@@ -14,7 +14,9 @@ use Rattle.ranges.specs.Plan.{accepts, pieceSize, noPieces}
 use Rattle.ranges.specs.Shares.{Share, shareOf, laidAt}
 use Rattle.luossavin.specs.declared.key.LuossavinKey.{LuossavinKey}
 use Rattle.luossavin.specs.InPieces.{directionOf}
+use Rattle.luossavin.specs.Host.{hostModeCall}
 use Rattle.luossavin.specs.Ranges.{Handed, hostCtrRange}
+use Rattle.demands.specs.Call.{Call, result}
 use Rattle.demands.specs.WhichNumber.{Row, row, keyRows, retiredRows}
 
 -- the stretch d at `offset`
@@ -65,6 +67,43 @@ pub record PlanHanded (n workers : ℕ) (x : Handed) : Type 0 where
 -- an outcome without its word of a counter
 abbrev pub unsaid : Outcome → Outcome
 unsaid x = leaving (telling false (x .head)) (x .bytes)
+
+-- a call on ranges: a key's record, whether it decrypts, the IV, the offset, the data and the output as it was lent
+abbrev pub RangeCall : Type 0
+RangeCall = LuossavinKey → Bool → List ℕ → ℕ → List ℕ → List ℕ → Outcome
+
+-- the exported single call in Ctr
+abbrev pub ctrCall : LuossavinKey → Bool → Call
+ctrCall k decrypt = hostModeCall (directionOf decrypt) 2 k
+
+-- Whenever the single call answers 0 to a text, the range of a stretch d of it, given room, answers 0 with that stretch of its result,
+-- whatever is before and behind it; and whenever a range answers 0, the single call, given room, answers 0 to a text that ends with it.
+pub record StretchOfWhole (range : RangeCall) (single : LuossavinKey → Bool → Call) : Type 0 where
+  pub stretch : (k : LuossavinKey) (decrypt : Bool) (label iv pre d post o o′ : List ℕ) → length d ≤ length o
+      → single k decrypt label (pre ++ (d ++ post)) iv o′ .head .number ≡ 0
+      → (range k decrypt iv (length pre) d o .head .number ≡ 0)
+      × (result (range k decrypt iv (length pre) d o)
+      ≡ take (length d) (drop (length pre) (result (single k decrypt label (pre ++ (d ++ post)) iv o′))))
+  pub whole : (k : LuossavinKey) (decrypt : Bool) (label iv pre d o o′ : List ℕ) → length (pre ++ d) ≤ length o′
+      → range k decrypt iv (length pre) d o .head .number ≡ 0
+      → single k decrypt label (pre ++ d) iv o′ .head .number ≡ 0
+
+-- a range to apply to a text, with the output that is lent for it
+pub record Applying : Type 0 where
+  pub key : LuossavinKey
+  pub decrypt : Bool
+  pub iv : List ℕ
+  pub share : Share
+  pub out : List ℕ
+
+-- the text t after it: what the call gives of the range stands in its place, and where it is refused nothing does
+abbrev pub appliedBy : RangeCall → Applying → List ℕ → List ℕ
+appliedBy range a t =
+    laidAt (a .share .start) (result (range (a .key) (a .decrypt) (a .iv) (a .share .start) (shareOf (a .share) t) (a .out))) t
+
+-- Two ranges applied to one text through the call leave the same bytes in either order, overlapping or not, done or refused.
+abbrev pub RangesCommute : RangeCall → Type 0
+RangesCommute range = (a b : Applying) (t : List ℕ) → appliedBy range a (appliedBy range b t) ≡ appliedBy range b (appliedBy range a t)
 
 -- the output o after a worker's call on its share of the text d, which is lent that share of the output and nothing else of it
 abbrev pub workedBy : LuossavinKey → Bool → List ℕ → List ℕ → Share → List ℕ → List ℕ

@@ -35,10 +35,12 @@ pub record Asked (c : Sm4Cipher) (file iv labels lengths : List ℕ) : Type 0 wh
   pub list : badList labels lengths ≡ false
   pub checks : searchCheck (c .answer) (c .retired) (length iv) (length file) lengths ≡ Passed
 
--- a candidate was found: the first that opens the file; start and size point to it, and the part handed back is that candidate
+-- a candidate was found: the first that opens the file; start and size point to it inside the buffer, and the part handed back is that
+-- candidate
 pub record FoundThere (c : Sm4Cipher) (file iv labels lengths : List ℕ) (v : Verdict) : Type 0 where
   pub asked : Asked c file iv labels lengths
   pub first : IsFirst (opensWith c iv file) labels lengths (v .place)
+  pub inside : v .start + v .size ≤ length labels
   pub there : take (v .size) (drop (v .start) labels) ≡ labelAt labels lengths (v .place)
   pub part : partOf v labels ≡ labelAt labels lengths (v .place)
 
@@ -111,6 +113,8 @@ module _ (c : Sm4Cipher) (file iv labels lengths : List ℕ) where
       record {
         asked = asked;
         first = rw whole (found .0);
+        inside = rw whole
+            (rw (found .1) (candidate-inside lengths _ (length labels) (found .0 .inside) (adds-up labels lengths (asked .list))));
         there = rw whole (rw (found .1));
         part = rw whole (rw (found .1) (part-of _ (found .0 .inside) (asked .list)));
       }

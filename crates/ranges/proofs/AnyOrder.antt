@@ -45,7 +45,7 @@ module _ (rk iv d : List ℕ) where
   whole = chain (streamMode Ctr·kind rk) iv d
 
   -- what Ctr gives of a share is that share of the whole
-  share-of-whole : (p : Share) → stretch rk iv (p .start) (shareOf p d) ≡ shareOf p whole
+  pub share-of-whole : (p : Share) → stretch rk iv (p .start) (shareOf p d) ≡ shareOf p whole
   share-of-whole p =
       let j = p .start + length d in
       let k = pads rk j iv in

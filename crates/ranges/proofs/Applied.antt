@@ -2,16 +2,22 @@
 -- give the same in either order, overlapping or not.
 -- Assumes nothing.
 use mathlib.Core.Path.{_≡_, refl, sym, ap, ap₂, _∙_}
+use mathlib.Core.Bool.{Bool, true, false}
 use mathlib.Core.List.{List, [], _∷_, _++_}
 use Prim.Native.Nat.{ℕ, _+_, _-_, _≤_, min}
 use native.Mathlib.Omega.{arith}
 use lib.Bits.{xor-zero-r}
+use lib.Dec.{ltb}
 use lib.ListN.{length, take, drop, replicate, length-append, length-take, length-drop, length-replicate, take-append-drop}
+use lib.ListN.{drop-of-length-le}
 use lib.Seq.{drop-drop, length-take-le}
+use borrow.Author.Tests.{ltb-true, ltb-false}
 use Rattle.block.specs.Xor.{xors}
 use Rattle.block.proofs.Xors.{length-xors, xors-assoc, xors-comm, xors-append}
 use Rattle.pieces.proofs.Pads.{xors-front}
-use Rattle.ranges.specs.Range.{stretch, applied}
+use Rattle.ranges.specs.Range.{stretch}
+use Rattle.ranges.specs.Shares.{Share, laidAt, applied}
+use Rattle.ranges.proofs.Jumped.{length-stretch}
 use Rattle.ranges.proofs.KeyStream.{pads, length-pads, stretch-pads}
 
 -- zeros leave a text as it is
@@ -74,9 +80,25 @@ module _ (rk iv : List ℕ) (offset n : ℕ) (t : List ℕ) where
       ∙ xors-comm s here
       ∙ sym (stretch-pads rk iv offset here (offset + length t) (omega arith))
 
+  -- what is behind the range, and behind what it gives
+  behind : drop (offset + length (stretch rk iv offset here)) t ≡ past
+  behind = by (ltb (length t) (offset + n)) refl
+    where
+      by : (past-end : Bool) → ltb (length t) (offset + n) ≡ past-end → drop (offset + length (stretch rk iv offset here)) t ≡ past
+      by true e =
+          let far = ltb-true (length t) (offset + n) e in
+          let size = length-stretch rk iv offset here ∙ length-here in
+          let given : length t ≤ offset + length (stretch rk iv offset here) = omega (arith, far, size) in
+          let asked : length t ≤ offset + n = omega (arith, far) in
+          drop-of-length-le t given ∙ sym (drop-of-length-le t asked)
+      by false e =
+          let near = ltb-false (length t) (offset + n) e in
+          let size = length-stretch rk iv offset here ∙ length-here in
+          let same : offset + length (stretch rk iv offset here) ≡ offset + n = omega (arith, near, size) in
+          ap (λ (m : ℕ). drop m t) same
+
   -- applying is xoring with the mask
-  masked : applied rk iv offset n t ≡ xors t (mask rk iv offset n (length t))
-  unfolding applied
+  masked : laidAt offset (stretch rk iv offset here) t ≡ xors t (mask rk iv offset n (length t))
   masked =
       let k = inside rk iv offset n (length t) in
       let s = stream rk iv offset n (length t) in
@@ -88,31 +110,35 @@ module _ (rk iv : List ℕ) (offset n : ℕ) (t : List ℕ) where
       let last : xors past rest ≡ past = ap (λ (m : ℕ). xors past (replicate m 0)) (sym back) ∙ zeros-leave past in
       let middle : length here ≡ length (take k s) =
       length-here ∙ sym (length-take-le k s (enough rk iv offset n (length t))) in
-      sym
+      ap (λ (l : List ℕ). before ++ (stretch rk iv offset here ++ l)) behind
+      ∙ sym
       (ap (λ (l : List ℕ). xors l (zeros ++ (take k s ++ rest))) (sym parts)
       ∙ xors-append before (here ++ past) zeros (take k s ++ rest) (front ∙ sym (length-replicate (min offset (length t)) 0))
       ∙ ap₂ _++_ first (xors-append here past (take k s) rest middle ∙ ap₂ _++_ in-range last))
 
-  pub length-applied : length (applied rk iv offset n t) ≡ length t
-  length-applied =
-      let m = length-mask rk iv offset n (length t) in
-      ap length masked ∙ length-xors t (mask rk iv offset n (length t)) (omega arith)
+module _ (rk iv : List ℕ) (p : Share) (t : List ℕ) where
+  abbrev masking : List ℕ
+  masking = mask rk iv (p .start) (p .size) (length t)
 
--- a range applied to what is as long as t
-alike : (rk iv : List ℕ) (offset n : ℕ) (u t : List ℕ) → length u ≡ length t
-    → applied rk iv offset n u ≡ xors u (mask rk iv offset n (length t))
-alike rk iv offset n u t e = masked rk iv offset n u ∙ ap (λ (k : ℕ). xors u (mask rk iv offset n k)) e
+  pub length-applied : length (applied rk iv p t) ≡ length t
+  length-applied =
+      let m = length-mask rk iv (p .start) (p .size) (length t) in
+      ap length (masked rk iv (p .start) (p .size) t) ∙ length-xors t masking (omega arith)
+
+  -- a range applied to what is as long as t
+  alike : (u : List ℕ) → length u ≡ length t → applied rk iv p u ≡ xors u masking
+  alike u e = masked rk iv (p .start) (p .size) u ∙ ap (λ (k : ℕ). xors u (mask rk iv (p .start) (p .size) k)) e
 
 -- Two ranges applied to one text give the same bytes in either order, overlapping or not, under any keys and IVs.
-pub ranges-commute : (rk₁ iv₁ rk₂ iv₂ : List ℕ) (offset₁ n₁ offset₂ n₂ : ℕ) (t : List ℕ)
-    → applied rk₁ iv₁ offset₁ n₁ (applied rk₂ iv₂ offset₂ n₂ t) ≡ applied rk₂ iv₂ offset₂ n₂ (applied rk₁ iv₁ offset₁ n₁ t)
-ranges-commute rk₁ iv₁ rk₂ iv₂ offset₁ n₁ offset₂ n₂ t =
-    let m₁ = mask rk₁ iv₁ offset₁ n₁ (length t) in
-    let m₂ = mask rk₂ iv₂ offset₂ n₂ (length t) in
-    alike rk₁ iv₁ offset₁ n₁ (applied rk₂ iv₂ offset₂ n₂ t) t (length-applied rk₂ iv₂ offset₂ n₂ t)
-    ∙ ap (λ (l : List ℕ). xors l m₁) (masked rk₂ iv₂ offset₂ n₂ t)
+pub ranges-commute : (rk₁ iv₁ rk₂ iv₂ : List ℕ) (p q : Share) (t : List ℕ)
+    → applied rk₁ iv₁ p (applied rk₂ iv₂ q t) ≡ applied rk₂ iv₂ q (applied rk₁ iv₁ p t)
+ranges-commute rk₁ iv₁ rk₂ iv₂ p q t =
+    let m₁ = masking rk₁ iv₁ p t in
+    let m₂ = masking rk₂ iv₂ q t in
+    alike rk₁ iv₁ p t (applied rk₂ iv₂ q t) (length-applied rk₂ iv₂ q t)
+    ∙ ap (λ (l : List ℕ). xors l m₁) (alike rk₂ iv₂ q t t refl)
     ∙ xors-assoc t m₂ m₁
     ∙ ap (xors t) (xors-comm m₂ m₁)
     ∙ sym (xors-assoc t m₁ m₂)
-    ∙ ap (λ (l : List ℕ). xors l m₂) (sym (masked rk₁ iv₁ offset₁ n₁ t))
-    ∙ sym (alike rk₂ iv₂ offset₂ n₂ (applied rk₁ iv₁ offset₁ n₁ t) t (length-applied rk₁ iv₁ offset₁ n₁ t))
+    ∙ ap (λ (l : List ℕ). xors l m₂) (sym (alike rk₁ iv₁ p t t refl))
+    ∙ sym (alike rk₂ iv₂ q t (applied rk₁ iv₁ p t) (length-applied rk₁ iv₁ p t))

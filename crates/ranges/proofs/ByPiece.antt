@@ -1,10 +1,9 @@
--- The check read piece by piece: it accepts a plan exactly when the pieces are at most 64, the first starts at 0, each starts where
--- the one before ends, the last ends at n, none is empty, each length but the last divides by 16, and no pieces are for no bytes.
+-- The check accepts a plan exactly when the plan reads, piece by piece, as it should.
 -- Assumes nothing.
 use mathlib.Core.Path.{_≡_, refl, sym, _∙_}
 use mathlib.Core.Bool.{true, _||_}
 use mathlib.Core.List.{List, [], _∷_}
-use mathlib.Core.Logic.{_≢_, _⊎_, inl, inr}
+use mathlib.Core.Logic.{_⊎_, inl, inr}
 use Prim.Native.Nat.{ℕ, zero, suc, _+_, _%_, _≤_, _<_}
 use native.Mathlib.Omega.{arith}
 use lib.Dec.{eqb}
@@ -12,21 +11,9 @@ use lib.ListN.{length, getD, take}
 use lib.Seq.{getD-take, length-take-le}
 use borrow.Author.Tests.{eqb-true, eq-eqb, ne-eqb, le-leb}
 use Rattle.ranges.specs.Plan.{isLast, follows, accepts}
+use Rattle.ranges.specs.Reading.{Piece, Reading}
 use Rattle.ranges.specs.declared.plan.Plan.{Plan}
 use Rattle.ranges.proofs.Accepted.{first-piece, at-most-64, from-0-to-n, no-pieces}
-
--- piece i of `count`
-pub record Piece (starts lengths : List ℕ) (count n i : ℕ) : Type 0 where
-  pub not-empty : getD lengths i 0 ≢ 0
-  pub goes-on : suc i < count → (getD lengths i 0 % 16 ≡ 0) × (getD starts (suc i) 0 ≡ getD starts i 0 + getD lengths i 0)
-  pub ends : suc i ≡ count → getD starts i 0 + getD lengths i 0 ≡ n
-
--- all that the check asks
-pub record Reading (p : Plan) (n : ℕ) : Type 0 where
-  pub few : p .count ≤ 64
-  pub none : p .count ≡ 0 → n ≡ 0
-  pub first : 0 < p .count → getD (p .starts) 0 0 ≡ 0
-  pub piece : (i : ℕ) → i < p .count → Piece (p .starts) (p .lengths) (p .count) n i
 
 starts-at : (at n : ℕ) (ss ls : List ℕ) → follows at n ss ls ≡ true → 0 < length ss → getD ss 0 0 ≡ at
 unfolding follows

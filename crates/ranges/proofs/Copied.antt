@@ -73,7 +73,7 @@ all-copied [] u h = refl
 all-copied (c ∷ t) [] h = absurd (omega (arith, h))
 all-copied (c ∷ t) (x ∷ u) h = ap {B = List ℕ} (λ l. c ∷ l) (all-copied t u (omega (arith, h)))
 
-nothing-laid : (at : ℕ) (u : List ℕ) → laidAt at [] u ≡ u
+pub nothing-laid : (at : ℕ) (u : List ℕ) → laidAt at [] u ≡ u
 nothing-laid at u = ap (λ (k : ℕ). take at u ++ drop k u) (add-zero at) ∙ take-append-drop at u
 
 -- a stretch that is laid is copied

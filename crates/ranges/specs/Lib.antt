@@ -1,4 +1,5 @@
 pub mod Plan
+pub mod Reading
 pub mod Range
 pub mod ByPlan
 pub mod Shares

@@ -1,9 +1,9 @@
--- Ctr from any byte on: what a range gives, what is refused of it, and what becomes of a text that it is applied to.
+-- Ctr from any byte on: what a range gives, and what is refused of it.
 use Prim.Native.Nat.{ℕ, _+_}
 use mathlib.Core.Bool.{Bool}
 use mathlib.Core.List.{List, _++_}
 use lib.Dec.{ltb}
-use lib.ListN.{length, take, drop, replicate}
+use lib.ListN.{length, drop, replicate}
 use Rattle.walk.specs.Outcome.{Outcome, keyed, done}
 use Rattle.walk.specs.Walk.{chain}
 use Rattle.stream.specs.Stream.{streamMode}
@@ -37,8 +37,3 @@ rangeCall dir c iv offset d o =
     keyed (keyNumber c)
     (checked (rangeCheck (c .answer) (c .retired) dir (length iv) offset (length d) (length o)) o
     (done (stretch (c .rk) iv offset d) o))
-
--- a range of n bytes at `offset` applied to a text: what is outside stays, and so does what is past the text's end
-unfoldable pub applied : List ℕ → List ℕ → ℕ → ℕ → List ℕ → List ℕ
-applied rk iv offset n text =
-    take offset text ++ (stretch rk iv offset (take n (drop offset text)) ++ drop (offset + n) text)

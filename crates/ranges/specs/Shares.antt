@@ -34,3 +34,7 @@ worked rk iv d p o = laidAt (p .start) (stretch rk iv (p .start) (shareOf p d)) 
 -- and after all workers, one after the other: the last of the list is the first to work
 abbrev pub allWorked : List ℕ → List ℕ → List ℕ → List Share → List ℕ → List ℕ
 allWorked rk iv d ps o = foldr (worked rk iv d) o ps
+
+-- a text after a range that was applied to it: what Ctr gives of the range stands in its place
+abbrev pub applied : List ℕ → List ℕ → Share → List ℕ → List ℕ
+applied rk iv p t = worked rk iv t p t

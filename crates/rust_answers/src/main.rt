@@ -1,5 +1,6 @@
 // Replays libsm's recorded answers, read from the file that its first argument names, and says how many
-// agree, part by part; the other arguments are the parts' names. A record agrees where number, length and
+// agree, part by part; the other arguments are the parts' names. Each is replayed under the marks 0 to 3 of
+// an engine, and agrees where it does under all. A record agrees where number, length and
 // every byte of the output are as recorded, the missing count and the key's number go with them, and
 // every byte past the length is as it was lent; and, of a 12-byte IV in Gcm, which libsm refuses and ours
 // takes, and of a padding that libsm takes by its last byte alone and ours refuses, where ours does just that.
@@ -116,8 +117,9 @@ fn told_of(answer: Answer) -> Told {
     }
 }
 
-// Makes a call: mode 5 is a single block, direction 0 is encryption.
+// Makes a call on a record with the mark of an engine: mode 5 is a single block, direction 0 is encryption.
 fn called(
+    mark: u8,
     direction: usize,
     mode: usize,
     key: &[u8],
@@ -127,15 +129,15 @@ fn called(
     out: &mut [u8],
 ) -> Told {
     let way = way(direction);
+    let plain = Sm4Cipher::new(key, NUMBER as u32);
+    let cipher = plain.with_engine(mark);
     if mode == 5 {
-        let cipher = Sm4Cipher::new(key, NUMBER as u32);
         return told_of(cipher.call(way, data, out));
     }
-    let keyed = Sm4CipherMode::new(
-        key,
-        NUMBER as u32,
-        cipher_mode::mode_of((mode % 256) as u32),
-    );
+    let keyed = Sm4CipherMode {
+        cipher,
+        mode: cipher_mode::mode_of((mode % 256) as u32),
+    };
     told_of(keyed.call(way, label, data, iv, out))
 }
 
@@ -178,18 +180,26 @@ fn wrote(told: Told, out: &[u8], expected: &[u8]) -> bool {
 
 // Whether a text that was sealed under a 12-byte IV, for which libsm has no bytes to compare, is 16 bytes longer than the text,
 // and opens to it.
-fn opens(told: Told, sealed: &[u8], key: &[u8], iv: &[u8], label: &[u8], text: &[u8]) -> bool {
+fn opens(
+    mark: u8,
+    told: Told,
+    sealed: &[u8],
+    key: &[u8],
+    iv: &[u8],
+    label: &[u8],
+    text: &[u8],
+) -> bool {
     let n = told.length;
     let mut out = [LENT; 8192];
-    let back = called(1, 4, key, iv, label, front(sealed, n), &mut out);
+    let back = called(mark, 1, 4, key, iv, label, front(sealed, n), &mut out);
     if n < 16 {
         return false;
     }
     n - 16 == text.len() && untouched(sealed, n) && wrote(back, &out, text)
 }
 
-// Whether a call answers as recorded.
-fn agrees(record: &[u8]) -> bool {
+// Whether a call answers as recorded on the engine that a mark names.
+fn agrees_on(mark: u8, record: &[u8]) -> bool {
     let direction = list::byte(record, 1);
     let row = row(list::byte(record, 0), direction, list::byte(record, 3));
     let key = list::field(record, 0);
@@ -198,6 +208,7 @@ fn agrees(record: &[u8]) -> bool {
     let data = list::field(record, 3);
     let mut out = [LENT; 8192];
     let told = called(
+        mark,
         direction,
         list::byte(record, 2),
         key,
@@ -210,9 +221,14 @@ fn agrees(record: &[u8]) -> bool {
         return false;
     }
     if row == SEALED {
-        return opens(told, &out, key, iv, label, data);
+        return opens(mark, told, &out, key, iv, label, data);
     }
     wrote(told, &out, list::field(record, 4))
+}
+
+// Whether it does under every mark: each engine has one of these, and what is left names none.
+fn agrees(record: &[u8]) -> bool {
+    agrees_on(0, record) && agrees_on(1, record) && agrees_on(2, record) && agrees_on(3, record)
 }
 
 // Writes some words.

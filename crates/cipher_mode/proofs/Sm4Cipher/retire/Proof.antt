@@ -1,22 +1,32 @@
--- `cipher_mode::Sm4Cipher::retire` meets its contract: in each arm the answer is known, and the definition gives that arm.
+-- `cipher_mode::Sm4Cipher::retire` meets its contract: what is no key comes back, and of a key the definition gives the record.
 -- Assumes nothing.
-use Rattle.cipher_mode.specs.Key.{retire}
+use mathlib.Core.Path.{_≡_, refl}
+use mathlib.Core.Logic.{⊎-elim}
+use mathlib.Core.List.{[], _∷_}
+use native.Mathlib.Omega.{arith}
+use denote.Enum.Declared.{tagOf}
+use types.Run.{OneOf}
 use borrow.Author.Needs.{needs}
+use Rattle.cipher_mode.specs.declared.KeyAnswer.{KeyAnswer}
+use Rattle.cipher_mode.specs.declared.KeyAnswer.the-variants.{Key, ErrorBlockSize, WrongNumber}
+use Rattle.cipher_mode.specs.declared.Sm4Cipher.{Sm4Cipher}
+use Rattle.cipher_mode.specs.Key.{retiredIf, retire}
+use Rattle.cipher_mode.proofs.KeyAnswer.{the-type}
 use Rattle.cipher_mode.proofs.Sm4Cipher.retire.Statement.{statement}
 use Rattle.cipher_mode.proofs.Sm4Cipher.retire.Tie as tie
 
+no-key : (c : Sm4Cipher) (a : KeyAnswer) → OneOf (1 ∷ 2 ∷ []) (tagOf the-type a) → retiredIf a c ≡ c
+no-key c Key told = absurd (⊎-elim (λ t. omega arith) (λ t. omega arith) told)
+no-key c ErrorBlockSize told = refl
+no-key c WrongNumber told = refl
+
 returns : tie.Need-returns
 unfolding retire
-returns c = rw (c .enum-told .given .1)
+returns c = rw (no-key _ _ (c .match .keys2))
 
 returns-2 : tie.Need-returns-2
 unfolding retire
-returns-2 c = rw (c .enum-told2 .given .1)
-
-returns-3 : tie.Need-returns-3
-unfolding retire
-returns-3 c = rw (c .enum-told3 .given .1)
+returns-2 c = rw (c .before .enum-told .given .1)
 
 pub retire-spec : {M : Type 1} → statement M
-retire-spec =
-    tie.close (tie.spec (λ c. search needs) (λ c. search needs) (λ c. search needs) returns returns-2 returns-3)
+retire-spec = tie.close (tie.spec (λ c. search needs) returns returns-2)
