@@ -1,4 +1,4 @@
-# make             builds libluossavin.a and libluossavin.so of the assembly in proved/, by a C compiler and ar alone
+# make             builds libluossavin.a and libluossavin.so of the assembly in proved/ and of lib/, by a C compiler and ar alone
 # make tool        builds the tool, by cargo
 # make install     puts library, header and tool below PREFIX; DESTDIR stands in front of every path, for who makes a package
 # make uninstall   takes away what `make install` put there
@@ -35,7 +35,7 @@ $(error there is no assembly for '$(ARCH)' in proved/: the library is for x86_64
 endif
 
 built = target/$(ARCH)
-objects = $(patsubst %.s,$(built)/%.o,$(notdir $(assembly)))
+objects = $(patsubst %.s,$(built)/%.o,$(notdir $(assembly))) $(built)/luossavin.o
 # the first number of the version is that of the calls and layouts
 soname = libluossavin.so.$(firstword $(subst ., ,$(VERSION)))
 
@@ -45,6 +45,9 @@ vpath %.s proved lib
 
 $(built)/%.o: %.s | $(built)
 	$(CC) -c $< -o $@
+
+$(built)/luossavin.o: lib/luossavin.c include/luossavin.h | $(built)
+	$(CC) -std=c11 -O2 -Wall -Wextra -fPIC -Iinclude -c $< -o $@
 
 $(built)/libluossavin.a: $(objects)
 	rm -f $@

@@ -2,6 +2,8 @@
  * label a file opens under. Where they are wrong goes by the secrets; that they are, and what is answered, does not. */
 #include "secrets.h"
 
+#include "prepared.h"
+
 #include <stdio.h>
 #include <stdlib.h>
 #include <string.h>
@@ -47,7 +49,7 @@ static void which_label(size_t iv_len, size_t n, uint32_t opens)
 {
     static const size_t sizes[4] = {3, 0, 20, 14};
     struct luossavin_found f;
-    luossavin_encrypt(GCM, key, label + 3, opens ? 20 : 21, text, n, iv, iv_len, out, sizeof out);
+    prepared(luossavin_encrypt(GCM, key, label + 3, opens ? 20 : 21, text, n, iv, iv_len, out, sizeof out));
     watch(ROUNDS | ANSWERS, "which label, %zu bytes, an IV of %zu, %s", n, iv_len, opens ? "the third" : "none");
     f = luossavin_which(key, out, n + 16, iv, iv_len, label, sizeof label, sizes, 4);
     is_answered(&f.answer, 0);

@@ -4,7 +4,7 @@
  * (smoke_pieces.c), and of which label a file opens under (smoke_which.c); counters that come round
  * (smoke_round.c); ranges and plans for several workers (smoke_workers.c); shelves (smoke_shelf.c); replay of recorded
  * calls (smoke_journal.c); hashes of halves (smoke_halves.c); the engines side by side (smoke_engine.c), and on long messages
- * (smoke_long.c); and how much of the stack a call takes (smoke_stack.c). Prints what is wrong, and how much was checked; exit
+ * (smoke_long.c); how much of the stack a call takes (smoke_stack.c); and what of a key is left there (smoke_wipe.c). Prints what is wrong, and how much was checked; exit
  * status 1 if anything is.
  */
 #include "smoke.h"
@@ -340,6 +340,7 @@ int main(void)
     engines();
     long_messages();
     stack();
+    wiping();
     printf("%u checked, %u wrong, on %s\n", checked, wrong, variant_name());
     return wrong != 0;
 }

@@ -42,7 +42,7 @@ use std::fmt;
 pub struct Key(Secret<ffi::Key>);
 
 impl Key {
-    /// Sets up a key of 16 bytes under a number from 1 to 65,535, not retired, with the plain engine. It is refused
+    /// Sets up a key of 16 bytes under a number from 1 to 65,535, not retired, with the engine chosen. It is refused
     /// with [`ErrorBlockSize`](Refusal::ErrorBlockSize) or [`WrongNumber`](Refusal::WrongNumber).
     ///
     /// ```
@@ -98,7 +98,8 @@ impl Key {
         match self.0.engine {
             1 => Engine::Tables,
             2 => Engine::Gates,
-            _ => Engine::Plain,
+            3 => Engine::Plain,
+            _ => Engine::Chosen,
         }
     }
 
@@ -118,20 +119,24 @@ impl fmt::Debug for Key {
     }
 }
 
-/// How the rounds of SM4 are made, and nothing else: `docs/SPEED.md` has what each takes. Those with tables read at places
-/// that depend on the key and the text, so neither is for a machine on which others may watch the caches; that of gates is.
+/// How the rounds of SM4 are made, and nothing else: no answer and no byte depends on it, and `docs/SPEED.md` has what
+/// each takes. Those with tables read at places that depend on the key and the text, so neither is for a machine on which
+/// others may watch the caches (a side channel); that of gates is. It does up to 512 blocks at once where blocks do not
+/// wait for one another: in Ctr, Gcm, and decryption in Cfb and Cbc. Elsewhere, and for short messages, it is many times
+/// slower than the others.
 #[derive(Clone, Copy, Debug, PartialEq, Eq, Hash)]
 #[non_exhaustive]
 pub enum Engine {
-    /// A table of 1 KiB. It is what a key has that is set up.
-    Plain = 0,
-    /// Four tables, 4 KiB that each call lays out on its stack: little more than half the instructions for a long
-    /// message outside Gcm.
+    // numbers.txt: engines of Rust
+    /// The library chooses: gates where blocks do not wait for one another, four tables elsewhere.
+    Chosen = 0,
+    /// Four tables of 1 KiB, which are looked up by key and text.
     Tables = 1,
-    /// Gates alone, with neither a look-up nor a branch by key or text. Up to 512 blocks are done at once, so it is the
-    /// fastest for long messages in Ctr and Gcm, and for decryption in Cfb and Cbc; elsewhere, and for short ones, it is
-    /// many times slower than the others.
+    /// Gates alone: no look-up and no branch by key or text.
     Gates = 2,
+    /// One table of 1 KiB, which is looked up by key and text.
+    Plain = 3,
+    // numbers.txt: end
 }
 
 /// Which way a call goes, where encryption and decryption are one call. A retired key decrypts alone.

@@ -9,7 +9,8 @@ use std::mem::discriminant;
 /// state of a message in pieces is as it was.
 ///
 /// The first four are libsm's names. libsm has `ErrorBlockSize` for a wrong IV and a wrong block too; these have
-/// names of their own here.
+/// names of their own here. Some are of the library alone: [`CipherMode`](crate::sm4::cipher_mode::CipherMode) has no
+/// [`BadMode`](Refusal::BadMode), though a journal may, and a state that has [`Ended`](Refusal::Ended) is consumed.
 ///
 /// ```
 /// use luossavin::sm4::cipher_mode::{CipherMode, Sm4CipherMode};
@@ -28,23 +29,24 @@ use std::mem::discriminant;
 #[derive(Clone, Copy, Debug, PartialEq, Eq, Hash)]
 #[non_exhaustive]
 pub enum Refusal {
+    // numbers.txt: refusals of Rust
     /// 1: the key is not 16 bytes.
     ErrorBlockSize,
     /// 2: Cbc decryption of a length that does not divide by 16.
     ErrorDataLen,
-    /// 3: Cbc decryption, and the last decrypted byte is 0 or above 16.
+    /// 3: Cbc decryption: the last decrypted byte is 0 or above 16.
     InvalidLastU8,
-    /// 4: Gcm decryption, and the 16 bytes at the end are not the tag.
+    /// 4: Gcm decryption: the 16 bytes at the end are not the tag.
     InvalidTag,
     /// 5: a length limit is passed.
     TooLong,
     /// 6: the output buffer is shorter than the room needed.
     NoRoom,
-    /// 7: the mode is above 4. [`CipherMode`](crate::sm4::cipher_mode::CipherMode) has no such mode; a journal may.
+    /// 7: the mode is above 4.
     BadMode,
-    /// 8: Cbc decryption of nothing.
+    /// 8: Cbc decryption of 0 bytes.
     EmptyCbc,
-    /// 9: Gcm decryption of fewer than 16 bytes, or a tag that does not have 16.
+    /// 9: Gcm decryption of fewer than 16 bytes; in pieces, a tag that has not 16.
     ShortGcm {
         /// How many bytes are missing of 16; 0 for a tag of more than 16.
         missing: u8,
@@ -53,16 +55,15 @@ pub enum Refusal {
     WrongIv,
     /// 11: the single block is not 16 bytes.
     WrongBlock,
-    /// 12: the message in pieces has come to its end. A state that has ended is consumed here, so that it is never
-    /// given.
+    /// 12: the message in pieces has come to its end.
     Ended,
     /// 13: the key's number is not from 1 to 65,535.
     WrongNumber,
     /// 14: encryption under a retired key.
     Retired,
-    /// 15: Cbc decryption, and the last byte names a padding that the bytes before it do not bear out.
+    /// 15: Cbc decryption: the last decrypted byte p is 1 to 16, and not all p last bytes are p.
     InvalidPadding,
-    /// 16: more than 64 candidate labels.
+    /// 16: more than 64 candidate labels, or lengths that do not add up to the labels' buffer.
     BadList,
     /// 17: a plan for no workers, or for more than 64.
     BadWorkers,
@@ -72,7 +73,7 @@ pub enum Refusal {
     BadShelf,
     /// 20: the shelf has that edition of the job already, or a higher one.
     NotHigher,
-    /// 21: the records that would be current do not fit on the shelf.
+    /// 21: the records that would be current do not fit in the buffer.
     NoShelfRoom,
     /// 22: the shelf has no current record of the job.
     NoCurrent,
@@ -84,17 +85,18 @@ pub enum Refusal {
     UnknownKey,
     /// 26: a replay with more than eight keys, with a retired one, or with a number twice.
     BadKeys,
+    // numbers.txt: end
     /// A number that this package does not know, of an archive that is newer than it.
     Unknown(u32),
 }
 
 use Refusal::*;
 
-/// The one table of refusals, by their numbers from 1 on: name, sentence, and what to do next where that helps. This
-/// package's `Display`, the tool and the documents take their words from here; the tool puts what it knows of a file in
-/// the place of a sentence's general words.
+/// The refusals by their numbers from 1 on: name, sentence, and what to do next where that helps. `Display` and the tool
+/// take their words from here; the tool puts what it knows of a file in the place of a sentence's general words.
 #[rustfmt::skip]
 const BY_NUMBER: [(Refusal, &str, &str, &str); 26] = [
+    // numbers.txt: texts of Rust
     (ErrorBlockSize, "ErrorBlockSize", "the key has another size, and neither 16 raw bytes nor 32 hex digits", ""),
     (ErrorDataLen, "ErrorDataLen", "this message has another length, and cbc writes 16 or a multiple: cbc did not encrypt it, or it was cut short", ""),
     (InvalidLastU8, "InvalidLastU8", "this message was not encrypted with cbc, this key and IV, or it was changed since", ""),
@@ -121,6 +123,7 @@ const BY_NUMBER: [(Refusal, &str, &str, &str); 26] = [
     (PartTooLong, "PartTooLong", "a record has a label, data or an IV of more than 16384 bytes, or an output of more than 16400", "leave such calls out where the journal is made"),
     (UnknownKey, "UnknownKey", "a record is of a key that is not among the keys that were given", "give that key too"),
     (BadKeys, "BadKeys", "a replay takes up to 8 keys, none of them retired, and each number stands for one key", ""),
+    // numbers.txt: end
 ];
 
 impl Refusal {

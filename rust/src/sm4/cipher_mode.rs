@@ -7,6 +7,7 @@ use std::sync::Arc;
 /// A mode of operation.
 #[derive(Clone, Copy, Debug, PartialEq, Eq, Hash)]
 pub enum CipherMode {
+    // numbers.txt: modes of Rust
     /// Cipher feedback, in segments of 16 bytes.
     Cfb = 0,
     /// Output feedback.
@@ -15,8 +16,9 @@ pub enum CipherMode {
     Ctr = 2,
     /// Cipher block chaining, with a padding of 1 to 16 bytes.
     Cbc = 3,
-    /// Galois/counter mode: the one that seals, with a label and a tag.
+    /// Galois/counter mode: the one that seals, with a label (AAD) and a tag.
     Gcm = 4,
+    // numbers.txt: end
 }
 
 /// The longest output of a call. One that needs more room is refused for its length, whatever room it has.
