@@ -1,12 +1,16 @@
 //! Which edition does this file open under?
 
+use crate::sizes::MOST_LABELS;
 use crate::{ffi, Key, Refusal, LONGEST_TEXT};
+use alloc::vec;
+use alloc::vec::Vec;
 
 /// The label of a job and an edition: six bytes, big-endian.
 ///
 /// ```
 /// assert_eq!(luossavin::editions::label(4711, 2), [0, 0, 0x12, 0x67, 0, 2]);
 /// ```
+#[must_use]
 pub fn label(job: u32, edition: u16) -> [u8; 6] {
     let ([a, b, c, d], [e, f]) = (job.to_be_bytes(), edition.to_be_bytes());
     [a, b, c, d, e, f]
@@ -35,7 +39,8 @@ pub fn which<L: AsRef<[u8]>>(key: &Key, sealed: &[u8], iv: &[u8], labels: &[L]) 
     // more than 64 are refused whatever they are, and so is a label at any length over the limit: no more than that
     // is copied
     let lent = |label: &L| label.as_ref().len().min(LONGEST_TEXT + 1);
-    let lengths: Vec<usize> = if labels.len() > 64 { vec![0; 65] } else { labels.iter().map(lent).collect() };
+    let lengths: Vec<usize> =
+        if labels.len() > MOST_LABELS { vec![0; MOST_LABELS + 1] } else { labels.iter().map(lent).collect() };
     let mut joined = Vec::with_capacity(lengths.iter().sum());
     for (label, length) in labels.iter().zip(&lengths) {
         joined.extend_from_slice(&label.as_ref()[..*length]);

@@ -8,9 +8,10 @@
 
 use crate::sm4::cipher_mode::CipherMode;
 use crate::Direction;
-use std::mem::size_of;
-use std::ops::Deref;
-use std::sync::atomic::{compiler_fence, Ordering};
+use alloc::boxed::Box;
+use core::mem::size_of;
+use core::ops::Deref;
+use core::sync::atomic::{compiler_fence, Ordering};
 
 /// A record that is made of integers alone, so that zeros throughout are a value of it.
 ///
@@ -192,14 +193,14 @@ records! {
 // The library itself, as the kit's compiler wrote it (proved/ in the repository), for the machine that this is compiled for. On x86-64
 // it is there for every processor and for those with AVX2, and the first call chooses.
 #[cfg(target_arch = "x86_64")]
-std::arch::global_asm!(
+core::arch::global_asm!(
     include_str!("../asm/x86_64.s"),
     include_str!("../asm/x86_64-v3.s"),
     include_str!("../asm/choose-x86_64.s"),
     options(att_syntax, raw)
 );
 #[cfg(target_arch = "aarch64")]
-std::arch::global_asm!(include_str!("../asm/aarch64.s"), options(raw));
+core::arch::global_asm!(include_str!("../asm/aarch64.s"), options(raw));
 
 extern "C" {
     fn luossavin_key_new(key: *const u8, key_len: usize, number: u32) -> Key;
@@ -292,9 +293,22 @@ impl<T: Record> Drop for Secret<T> {
 
 /// Zeros in every byte of a record, padding among them, by writes that the compiler may not leave out.
 pub fn overwrite<T: Record>(record: &mut T) {
-    let first: *mut u8 = (record as *mut T).cast();
-    for at in 0..size_of::<T>() {
-        // SAFETY: the byte is one of the record, which is borrowed alone, and for which zeros are a value.
+    // SAFETY: the bytes are those of the record, which is borrowed alone, and for which zeros are a value.
+    unsafe { write_zeros((record as *mut T).cast(), size_of::<T>()) };
+}
+
+/// The same of bytes.
+pub fn overwrite_bytes(bytes: &mut [u8]) {
+    // SAFETY: the bytes are the slice's, which is borrowed alone.
+    unsafe { write_zeros(bytes.as_mut_ptr(), bytes.len()) };
+}
+
+/// # Safety
+///
+/// `count` bytes from `first` on may be written, and zeros are a value of what stands there.
+unsafe fn write_zeros(first: *mut u8, count: usize) {
+    for at in 0..count {
+        // SAFETY: the caller sees to it.
         unsafe { first.add(at).write_volatile(0) };
     }
     compiler_fence(Ordering::SeqCst);

@@ -22,13 +22,12 @@
 //! make a record agree.
 
 use crate::ffi::{self, Secret};
+use crate::sizes::{LONGEST_OUTPUT, LONGEST_PART, MOST_KEYS};
 use crate::sm4::cipher_mode::{CipherMode, Sm4CipherMode};
 use crate::{Direction, Key, Refusal};
-use std::fmt;
-
-/// The most bytes of a recorded label, data or IV, and of an output.
-const LONGEST_PART: usize = 16_384;
-const LONGEST_OUTPUT: usize = 16_400;
+use alloc::boxed::Box;
+use alloc::vec::Vec;
+use core::fmt;
 
 /// A call as it was made, to be recorded with its answer.
 #[derive(Clone, Copy)]
@@ -42,6 +41,7 @@ pub struct Call<'a> {
 
 impl<'a> Call<'a> {
     /// The call of encryption or decryption under `cipher` into an output of `room` bytes.
+    #[must_use]
     pub fn of(
         cipher: &Sm4CipherMode, direction: Direction, aad: &'a [u8], data: &'a [u8], iv: &'a [u8], room: usize,
     ) -> Call<'a> {
@@ -91,7 +91,7 @@ impl fmt::Debug for Call<'_> {
 pub fn replay(keys: &[&Key], journal: &[u8]) -> Result<Report, Stopped> {
     let none = ffi::Key { round_keys: [0; 32], answer: 0, number: 0, retired: 0, engine: 0 };
     // a count above eight is refused, so that the keys behind it are not missed
-    let mut given = ffi::Keys { count: keys.len(), keys: [none; 8] };
+    let mut given = ffi::Keys { count: keys.len(), keys: [none; MOST_KEYS] };
     for (place, key) in given.keys.iter_mut().zip(keys) {
         *place = *key.record();
     }
@@ -168,6 +168,7 @@ impl fmt::Display for Stopped {
     }
 }
 
+#[cfg(feature = "std")]
 impl std::error::Error for Stopped {
     fn source(&self) -> Option<&(dyn std::error::Error + 'static)> {
         Some(&self.refusal)

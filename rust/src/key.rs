@@ -2,7 +2,7 @@
 
 use crate::ffi::{self, Secret};
 use crate::Refusal;
-use std::fmt;
+use core::fmt;
 
 /// A key that was set up, with a number of its own.
 ///
@@ -24,7 +24,7 @@ use std::fmt;
 /// ```
 ///
 /// There is no `Clone`, since a copy that was made before a key is retired would still encrypt: share a key by
-/// reference, or in an [`Arc`](std::sync::Arc). What no type can see is the host's to keep: which numbers are
+/// reference, in an [`Arc`](alloc::sync::Arc), or in a `Keyring`, in which one can be retired while others use it. What no type can see is the host's to keep: which numbers are
 /// retired, since a key that is set up anew from its bytes is not, and that no two keys have one number.
 ///
 /// # What becomes of its bytes
@@ -33,9 +33,10 @@ use std::fmt;
 /// nothing, and is overwritten there when the key is dropped, by writes that the compiler may not leave out. That
 /// does not cover
 ///
-/// - the copies on the stack: a call takes the record by value, and the compiler may make others;
-/// - the bytes that [`Key::new`] was given, which are the caller's to overwrite;
-/// - a key that is never dropped, as by [`std::mem::forget`], in a `static`, or where the process is killed.
+/// - the copies on the stack: a call takes the record by value, and the compiler may make others. [`wipe_stack`](crate::wipe_stack)
+///   overwrites them;
+/// - the bytes that [`Key::new`] was given, which are the caller's to [`wipe`](crate::wipe);
+/// - a key that is never dropped, as by [`core::mem::forget`], in a `static`, or where the process is killed.
 ///
 /// All of it holds for the states of messages in pieces, for a [`HashKey`](crate::halves::HashKey) and for a
 /// [`Half`](crate::halves::Half) as well.
@@ -68,6 +69,13 @@ impl Key {
         self
     }
 
+    /// Another record of the key, retired.
+    #[cfg(feature = "std")]
+    pub(crate) fn retired(&self) -> Key {
+        let mut record = *self.record();
+        Key(Secret::take(&mut record)).retire()
+    }
+
     /// The key with another engine. No answer and no byte depends on it.
     ///
     /// ```
@@ -84,16 +92,19 @@ impl Key {
     }
 
     /// The key's number, by which answers and journals name it.
+    #[must_use]
     pub fn number(&self) -> u16 {
         self.0.number
     }
 
     /// Whether the key is retired.
+    #[must_use]
     pub fn is_retired(&self) -> bool {
         self.0.retired != 0
     }
 
     /// The engine that the key has.
+    #[must_use]
     pub fn engine(&self) -> Engine {
         match self.0.engine {
             1 => Engine::Tables,

@@ -29,8 +29,11 @@
 //! apart, and its tests hold it to that. The library keeps nothing between calls, so that all of it may be used from any
 //! thread. Its names are C's, so that a program has one copy of it: link either this package or the C library.
 
-#![deny(unsafe_code)]
+#![cfg_attr(not(feature = "std"), no_std)]
+#![deny(unsafe_code, unsafe_op_in_unsafe_fn)]
 #![warn(missing_docs)]
+
+extern crate alloc;
 
 #[cfg(not(all(
     target_os = "linux",
@@ -39,21 +42,29 @@
 )))]
 compile_error!("Luossavin's library is there as assembly for Linux on x86-64 and on aarch64");
 
+pub mod detached;
 pub mod editions;
 #[allow(unsafe_code)]
 mod ffi;
 pub mod halves;
 pub mod journal;
 mod key;
+#[cfg(feature = "std")]
+pub mod keyring;
 pub mod pieces;
 pub mod ranges;
 mod refusal;
 pub mod shelf;
+pub mod sizes;
 pub mod sm4;
+#[cfg(feature = "std")]
 pub mod streams;
+mod wiping;
 
 pub use key::{Direction, Engine, Key};
 pub use refusal::{Done, Refusal};
+pub use sizes::LONGEST_TEXT;
+pub use wiping::{wipe, wipe_stack, WipedOnDrop};
 
-/// The most bytes of a text, and in Gcm of a label. What Cbc and Gcm make of a text has up to 16 more.
-pub const LONGEST_TEXT: usize = 16_777_216;
+/// The version of this package, and of the library in it.
+pub const VERSION: &str = env!("CARGO_PKG_VERSION");

@@ -1,9 +1,10 @@
 //! What a call answers: done, or a refusal by its number.
 
 use crate::ffi;
-use std::fmt;
+use core::fmt;
+use core::mem::discriminant;
+#[cfg(feature = "std")]
 use std::io;
-use std::mem::discriminant;
 
 /// Why a call was refused. Each has the number that `include/luossavin.h` gives it; nothing was written, and the
 /// state of a message in pieces is as it was.
@@ -128,6 +129,7 @@ const BY_NUMBER: [(Refusal, &str, &str, &str); 26] = [
 
 impl Refusal {
     /// The number of the refusal, as the header has it and the tool ends with.
+    #[must_use]
     pub fn number(self) -> u32 {
         match self {
             Unknown(number) => number,
@@ -140,22 +142,26 @@ impl Refusal {
     /// ```
     /// assert_eq!(luossavin::Refusal::NoShelfRoom.name(), "NoShelfRoom");
     /// ```
+    #[must_use]
     pub fn name(self) -> &'static str {
         self.row().map_or("Unknown", |row| row.1)
     }
 
     /// What the refusal says, in one sentence, of a message in general.
+    #[must_use]
     pub fn sentence(self) -> &'static str {
         self.row().map_or("a refusal that this package does not know", |row| row.2)
     }
 
     /// What to do next, where there is something that helps.
+    #[must_use]
     pub fn next(self) -> Option<&'static str> {
         self.row().map(|row| row.3).filter(|next| !next.is_empty())
     }
 
     /// The refusal with a number, as a journal has it: none for 0, which is no refusal, and for a number that is not
     /// known.
+    #[must_use]
     pub fn with_number(number: u32) -> Option<Refusal> {
         match Refusal::of(number, 0) {
             Unknown(_) => None,
@@ -164,6 +170,7 @@ impl Refusal {
     }
 
     /// How many bytes were missing, of [`Refusal::ShortGcm`]; of every other refusal 0.
+    #[must_use]
     pub fn missing(self) -> u8 {
         match self {
             ShortGcm { missing } => missing,
@@ -171,7 +178,7 @@ impl Refusal {
         }
     }
 
-    /// The refusal that an error of [`io`] is about, where it is about one.
+    /// The refusal that an error of [`std::io`] is about, where it is about one.
     ///
     /// ```
     /// use luossavin::Refusal;
@@ -179,6 +186,8 @@ impl Refusal {
     /// let error = std::io::Error::from(Refusal::InvalidTag);
     /// assert_eq!(Refusal::in_error(&error), Some(Refusal::InvalidTag));
     /// ```
+    #[cfg(feature = "std")]
+    #[must_use]
     pub fn in_error(error: &io::Error) -> Option<Refusal> {
         error.get_ref()?.downcast_ref().copied()
     }
@@ -219,6 +228,7 @@ impl fmt::Display for Refusal {
     }
 }
 
+#[cfg(feature = "std")]
 impl std::error::Error for Refusal {}
 
 /// The words without the number, as libsm gives them.
@@ -229,6 +239,7 @@ impl From<Refusal> for &str {
 }
 
 /// Damaged messages are `InvalidData`, and all else that is refused `InvalidInput`.
+#[cfg(feature = "std")]
 impl From<Refusal> for io::Error {
     fn from(refusal: Refusal) -> Self {
         let kind = match refusal {
@@ -268,28 +279,55 @@ impl ffi::Answer {
 mod tests {
     use super::*;
 
-    const HEADER: &str = concat!(env!("CARGO_MANIFEST_DIR"), "/../include/luossavin.h");
-
-    /// The numbers and names of the header's table, 0 left out.
-    fn table() -> Vec<(u32, String)> {
-        let header = std::fs::read_to_string(HEADER).expect("the header of the checkout");
-        let row = |line: &str| {
-            let mut words = line.strip_prefix(" * ")?.split_whitespace();
-            let number = words.next()?.parse().ok()?;
-            let name = words.next()?;
-            name.starts_with(char::is_uppercase).then(|| (number, name.to_string()))
-        };
-        header.lines().map_while(|line| (line != "#ifndef LUOSSAVIN_H").then_some(line)).filter_map(row).collect()
+    /// What `include/numbers` says of the files that are written from `include/numbers.txt`, in a copy of them that was
+    /// changed.
+    fn numbers(change: &str) -> std::process::Output {
+        let script =
+            "set -e; cp -r --parents VERSION include lib rust/src docs/NUMBERS.md \"$1\"; cd \"$1\"; eval \"$2\"; \
+                      include/numbers --check";
+        let folder = std::env::temp_dir().join(format!("luossavin-numbers-{}-{}", std::process::id(), change.len()));
+        std::fs::create_dir_all(&folder).unwrap();
+        let output = std::process::Command::new("sh")
+            .args(["-c", script, "sh"])
+            .arg(&folder)
+            .arg(change)
+            .current_dir(concat!(env!("CARGO_MANIFEST_DIR"), "/.."))
+            .output()
+            .unwrap();
+        std::fs::remove_dir_all(&folder).unwrap();
+        output
     }
 
     #[test]
-    fn every_number_of_the_header_is_a_refusal_by_its_name() {
-        let table = table();
-        assert_eq!(table.len(), BY_NUMBER.len());
-        for (number, name) in table {
-            let refusal = Refusal::of(number, 5);
+    fn header_package_and_document_are_what_the_one_table_says() {
+        let output = numbers(":");
+        assert!(output.status.success(), "{}", String::from_utf8_lossy(&output.stderr));
+    }
+
+    /// That the test above can fail: each file, changed by a word, and the table itself.
+    #[test]
+    fn another_word_anywhere_is_told() {
+        for change in [
+            "sed -i 's/LUOSSAVIN_INVALID_TAG = 4/LUOSSAVIN_INVALID_TAG = 5/' include/luossavin.h",
+            "sed -i 's/\"InvalidTag\",/\"BadTag\",/' lib/luossavin.c",
+            "sed -i 's/was it cut off/has it been cut off/' rust/src/refusal.rs",
+            "sed -i 's/Gates = 2/Gates = 3/' rust/src/key.rs",
+            "sed -i 's/    Cbc = 3/    Cbc = 4/' rust/src/sm4/cipher_mode.rs",
+            "sed -i 's/16_777_216/16_777_217/' rust/src/sizes.rs",
+            "sed -i 's/begin another shelf/begin a second shelf/' docs/NUMBERS.md",
+            "sed -i 's/^refusal 26 /refusal 27 /' include/numbers.txt",
+            "echo 0.0.1 >VERSION",
+        ] {
+            assert!(!numbers(change).status.success(), "unseen: {change}");
+        }
+    }
+
+    #[test]
+    fn every_number_is_a_refusal_by_its_name() {
+        for (number, row) in (1..).zip(BY_NUMBER) {
+            let (refusal, name) = (Refusal::of(number, 5), row.1);
             assert_eq!(refusal.number(), number);
-            assert!(format!("{refusal:?}").split(' ').next() == Some(&name), "{number} {name} is {refusal:?}");
+            assert!(format!("{refusal:?}").split(' ').next() == Some(name), "{number} {name} is {refusal:?}");
             assert!(refusal.to_string().starts_with(&format!("{number} {name}: ")), "{refusal}");
             assert_eq!(refusal.missing(), if number == 9 { 5 } else { 0 });
         }

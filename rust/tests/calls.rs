@@ -4,9 +4,11 @@
 #[path = "../../host/rust/random.rs"]
 mod random;
 
+use luossavin::detached;
 use luossavin::editions::{label, which};
 use luossavin::halves::{Half, HashKey};
 use luossavin::journal::{replay, Call, Difference};
+use luossavin::keyring::Keyring;
 use luossavin::pieces::{Ctr, Opens, Seal};
 use luossavin::ranges::{ctr_range, Plan, Share};
 use luossavin::shelf::{Shelf, LARGEST};
@@ -44,6 +46,7 @@ fn keys_and_states_go_between_threads() {
     is_sent::<HashKey>();
     is_sent::<Half>();
     is_sent::<Refusal>();
+    is_sent::<Keyring>();
 }
 
 #[test]
@@ -51,14 +54,14 @@ fn debug_shows_nothing_secret() {
     let (ctr, seal) =
         (Ctr::start(&key(12), Direction::Encrypt, &IV).unwrap(), Seal::start(&key(12), b"", &IV).unwrap());
     let h = HashKey::of(&key(12)).unwrap();
-    assert_eq!(format!("{:?}", key(12)), "Key { number: 12, retired: false, engine: Plain, .. }");
+    assert_eq!(format!("{:?}", key(12)), "Key { number: 12, retired: false, engine: Chosen, .. }");
     assert_eq!(format!("{ctr:?} {seal:?}"), "Ctr { key: 12, .. } Seal { key: 12, .. }");
     assert_eq!(format!("{:?}", Opens::start(&key(12), b"", &IV).unwrap()), "Opens { key: 12, .. }");
     assert_eq!(format!("{h:?} {:?}", h.half(&[1; 20])), "HashKey { .. } Half { blocks: 2, .. }");
     let cipher = Sm4CipherMode::with_key(key(12).retire(), CipherMode::Ofb);
     assert_eq!(
         format!("{cipher:?}"),
-        "Sm4CipherMode { key: Key { number: 12, retired: true, engine: Plain, .. }, mode: Ofb }"
+        "Sm4CipherMode { key: Key { number: 12, retired: true, engine: Chosen, .. }, mode: Ofb }"
     );
     let call = Call::of(&cipher, Direction::Decrypt, b"label", b"a text", &IV, 6);
     assert_eq!(format!("{call:?}"), "Call { Decrypt in Ofb under key 12, .. }");
@@ -102,6 +105,14 @@ fn a_retired_key_decrypts_alone() {
 }
 
 #[test]
+fn a_key_has_the_engine_that_it_was_given() {
+    assert_eq!(key(1).engine(), Engine::Chosen);
+    for engine in [Engine::Chosen, Engine::Tables, Engine::Gates] {
+        assert_eq!(key(1).with_engine(engine).engine(), engine);
+    }
+}
+
+#[test]
 fn engines_give_the_same_bytes() {
     let mut random = Random::new(1);
     for mode in MODES {
@@ -111,9 +122,8 @@ fn engines_give_the_same_bytes() {
                 let key = Key::new(&bytes, 1).unwrap().with_engine(engine);
                 Sm4CipherMode::with_key(key, mode).encrypt(&label, &text, &IV).unwrap()
             };
-            for engine in [Engine::Tables, Engine::Gates] {
-                assert_eq!(key(1).with_engine(engine).engine(), engine);
-                assert_eq!(made(Engine::Plain), made(engine), "{mode:?}, {length} bytes, {engine:?}");
+            for engine in [Engine::Tables, Engine::Gates, Engine::Plain] {
+                assert_eq!(made(Engine::Chosen), made(engine), "{mode:?}, {length} bytes, {engine:?}");
             }
         }
     }
@@ -201,6 +211,47 @@ fn a_refused_piece_leaves_the_state_as_it_was() {
     seal.piece(b"a text", &mut out).unwrap();
     out.extend(seal.end().unwrap().0);
     assert_eq!(out, gcm().encrypt(b"label", b"a text", &IV).unwrap());
+}
+
+#[test]
+fn in_place_is_the_same_as_apart() {
+    let mut random = Random::new(7);
+    for length in [0, 1, 16, 100, 8191, 8192, 8193, 30_000] {
+        let (text, label) = (random.bytes(length), random.bytes(length % 19));
+        let sealed = gcm().encrypt(&label, &text, &IV).unwrap();
+        let mut place = text.clone();
+        let tag = detached::seal_in_place(&key(1), &label, &IV, &mut place).unwrap();
+        assert_eq!((&place[..], &tag[..]), sealed.split_at(length));
+        assert!(detached::opens(&key(1), &label, &IV, &place, &tag).unwrap());
+        assert_eq!(detached::open(&key(1).retire(), &label, &IV, &place, &tag).unwrap(), text);
+        let mut ctr = Ctr::start(&key(1), Direction::Encrypt, &IV).unwrap();
+        let (front, back) = place.split_at_mut(length / 3);
+        front.copy_from_slice(&text[..length / 3]);
+        back.copy_from_slice(&text[length / 3..]);
+        ctr.piece_in_place(front).unwrap();
+        ctr.piece_in_place(back).unwrap();
+        ctr.end().unwrap();
+        assert_eq!(place, Sm4CipherMode::with_key(key(1), CipherMode::Ctr).encrypt(b"", &text, &IV).unwrap());
+    }
+}
+
+#[test]
+fn what_is_refused_in_place_is_as_it_was() {
+    let mut long = vec![9; LONGEST_TEXT + 1];
+    assert_eq!(detached::seal_in_place(&key(1), b"", &IV, &mut long), Err(Refusal::TooLong));
+    assert_eq!(detached::seal_in_place(&key(1), b"", &IV[..13], &mut long), Err(Refusal::WrongIv));
+    assert_eq!(detached::seal_in_place(&key(1).retire(), b"", &IV, &mut long), Err(Refusal::Retired));
+    let mut seal = Seal::start(&key(1), b"", &IV).unwrap();
+    seal.piece_in_place(&mut [9; 10]).unwrap();
+    assert_eq!(seal.piece_in_place(&mut long[..LONGEST_TEXT - 9]), Err(Refusal::TooLong));
+    assert!(long.iter().all(|byte| *byte == 9));
+    assert_eq!(detached::open(&key(1), b"", &IV, &long, &[0; 16]), Err(Refusal::TooLong));
+    for (length, missing) in [(0, 16), (15, 1), (17, 0), (300, 0)] {
+        let tag = vec![0; length];
+        assert_eq!(detached::open(&key(1), b"", &IV, &long[..3], &tag), Err(Refusal::ShortGcm { missing }));
+        assert_eq!(detached::opens(&key(1), b"", &IV, &long[..3], &tag), Err(Refusal::ShortGcm { missing }));
+    }
+    assert_eq!(detached::open(&key(1), b"", &IV, &long[..3], &[0; 16]), Err(Refusal::InvalidTag));
 }
 
 #[test]

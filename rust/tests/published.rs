@@ -62,7 +62,7 @@ fn results_are_the_published_ones() {
     let fields = fields(&bytes);
     let vectors: Vec<&[&[u8]]> = fields.chunks(6).collect();
     let kept = vectors.iter().filter(|vector| matches!(vector[0], [6] | [7])).count();
-    for engine in [Engine::Plain, Engine::Tables, Engine::Gates] {
+    for engine in [Engine::Chosen, Engine::Plain, Engine::Tables, Engine::Gates] {
         let count = vectors.iter().filter(|vector| is_held(engine, vector)).count();
         assert_eq!(count, vectors.len() - kept);
         assert!(count >= 10);
