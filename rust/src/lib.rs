@@ -16,8 +16,10 @@
 //! |---|---|
 //! | [`sm4`] | libsm's names and shapes, and messages into a buffer that is lent |
 //! | [`Key`], [`Engine`] | keys with numbers, retired or not, and how their rounds are made |
-//! | [`streams`] | sealing through `Write`, asking whether a `Read` opens, opening to a `Write` |
+//! | `keyring` | the keys of a server, by their numbers, which any thread may retire |
+//! | `streams` | sealing through `Write`, asking whether a `Read` opens, opening to a `Write` |
 //! | [`pieces`] | messages in pieces, cut anywhere |
+//! | [`detached`] | tags apart from the ciphertext, and sealing in place |
 //! | [`editions`] | which of up to 64 labels a file opens under |
 //! | [`ranges`] | one Ctr message among several workers |
 //! | [`shelf`] | sealed files in one buffer, of which the newest edition of each job is current |
@@ -65,6 +67,11 @@ pub use key::{Direction, Engine, Key};
 pub use refusal::{Done, Refusal};
 pub use sizes::LONGEST_TEXT;
 pub use wiping::{wipe, wipe_stack, WipedOnDrop};
+
+// the examples of the README are run with the others
+#[cfg(all(doctest, feature = "std"))]
+#[doc = include_str!("../README.md")]
+mod readme {}
 
 /// The version of this package, and of the library in it.
 pub const VERSION: &str = env!("CARGO_PKG_VERSION");
