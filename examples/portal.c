@@ -1,9 +1,9 @@
-/* A portal's question: which edition of a job may I show? The one that is current on the shelf, once it has opened under its own label.
+/* A portal's question: which edition of a job may I show? The one that is current on the shelf, where its file opens under that edition.
  *
  *   cc portal.c -o portal $(pkg-config --cflags --libs luossavin) && ./portal SHELF JOB KEY IV
  *
  * SHELF is a file of `luossavin shelf`, JOB a number, KEY a file of 32 hex digits, and IV the hex digits that the current edition was sealed under.
- * It ends with 0, with the number of the refusal, with 64 where a word is wrong, or with 66 where a file cannot be read.
+ * It ends with 0, with the number of the refusal, with 64 where a word is wrong, or with 66 where a file cannot be read. No text is made.
  */
 #include <luossavin.h>
 #include <stdio.h>
@@ -11,7 +11,7 @@
 #include <string.h>
 
 enum { WRONG_WORDS = 64, NO_FILE = 66 };
-enum { LABEL = 2, EDITION = 6 }; /* places in a record */
+enum { EDITION = 6 }; /* where a shelf's record has it, big-endian */
 
 static _Noreturn void stop(int status, const char *what, const char *word)
 {
@@ -89,25 +89,27 @@ static int refuse(const char *job, uint32_t number)
 static int ask(const char *shelf_name, const char *job, const char *key_name, const char *iv_digits)
 {
     /* a byte more than a shelf may have: a longer file is refused */
-    static uint8_t shelf[LUOSSAVIN_LARGEST_SHELF + 1], text[LUOSSAVIN_LARGEST_SHELF];
+    static uint8_t shelf[LUOSSAVIN_LARGEST_SHELF + 1];
     uint8_t iv[32];
-    size_t used = read_file(shelf_name, shelf, sizeof shelf), iv_len = read_hex("the IV", iv_digits, iv, sizeof iv);
-    struct luossavin_shelved found = luossavin_shelf_find(shelf, used, used, read_job(job));
+    size_t used = read_file(shelf_name, shelf, sizeof shelf), iv_len = read_hex("the IV", iv_digits, iv, sizeof iv), sealed_len;
+    uint32_t number = read_job(job);
+    struct luossavin_shelved found = luossavin_shelf_find(shelf, used, used, number);
     const uint8_t *record = shelf + found.start;
     struct luossavin_key key;
     struct luossavin_answer a;
+    uint16_t edition;
     if (found.number != LUOSSAVIN_DONE) {
         return refuse(job, found.number);
     }
+    edition = (uint16_t)(record[EDITION] << 8 | record[EDITION + 1]);
+    sealed_len = found.length - LUOSSAVIN_SHELF_HEAD;
     key = read_key(key_name);
-    a = luossavin_decrypt(LUOSSAVIN_GCM, key, record + LABEL, LUOSSAVIN_LABEL_SIZE, record + LUOSSAVIN_SHELF_HEAD,
-        found.length - LUOSSAVIN_SHELF_HEAD, iv, iv_len, text, sizeof text);
+    a = luossavin_edition_opens(key, number, edition, record + LUOSSAVIN_SHELF_HEAD, sealed_len, iv, iv_len);
     luossavin_wipe(&key, sizeof key);
     if (a.number != LUOSSAVIN_DONE) {
         return refuse(job, a.number);
     }
-    printf("job %s: edition %d may be shown, %zu bytes\n", job, record[EDITION] << 8 | record[EDITION + 1], a.length);
-    luossavin_wipe(text, a.length);
+    printf("job %s: edition %u may be shown, %zu bytes\n", job, (unsigned)edition, sealed_len - LUOSSAVIN_TAG_SIZE);
     return 0;
 }
 

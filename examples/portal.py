@@ -6,9 +6,9 @@ It ends as portal.c does. Python keeps copies of what it reads: of the key only 
 """
 import re
 import sys
-from ctypes import CDLL, Structure, byref, c_char_p, c_size_t, c_uint8, c_uint16, c_uint32, c_void_p, create_string_buffer, sizeof
+from ctypes import CDLL, Structure, byref, c_char_p, c_size_t, c_uint8, c_uint16, c_uint32, c_void_p, sizeof
 
-DONE, GCM, SHELF_HEAD = 0, 4, 12  # LUOSSAVIN_DONE and so on
+DONE, TAG_SIZE, SHELF_HEAD = 0, 16, 12  # LUOSSAVIN_DONE and so on
 WRONG_WORDS, NO_FILE = 64, 66
 
 
@@ -36,7 +36,7 @@ def declare(name, result, *arguments):
 
 key_new = declare("key_new", Key, *LENT, c_uint32)
 shelf_find = declare("shelf_find", Shelved, *LENT, c_size_t, c_uint32)
-decrypt = declare("decrypt", Answer, c_uint32, Key, *LENT * 4)
+edition_opens = declare("edition_opens", Answer, Key, c_uint32, c_uint16, *LENT * 2)
 refusal_name = declare("refusal_name", c_char_p, c_uint32)
 wipe = declare("wipe", None, c_void_p, c_size_t)
 wipe_stack = declare("wipe_stack", None)
@@ -74,22 +74,20 @@ def refuse(job, number):
 
 
 def main(shelf_name, job, key_name, iv):
-    shelf, iv = read_file(shelf_name), read_hex("the IV", iv)
-    found = shelf_find(shelf, len(shelf), len(shelf), read_job(job))
+    shelf, iv, number = read_file(shelf_name), read_hex("the IV", iv), read_job(job)
+    found = shelf_find(shelf, len(shelf), len(shelf), number)
     if found.number != DONE:
         return refuse(job, found.number)
     record = shelf[found.start:found.start + found.length]
     key_bytes = read_hex(key_name, read_file(key_name).decode("latin-1").rstrip("\r\n"))
     key = key_new(key_bytes, len(key_bytes), 1)
-    text = create_string_buffer(len(record))
-    sealed, label = record[SHELF_HEAD:], record[2:8]
-    answer = decrypt(GCM, key, label, len(label), sealed, len(sealed), iv, len(iv), text, len(text))
+    edition, sealed = int.from_bytes(record[6:8], "big"), record[SHELF_HEAD:]
+    answer = edition_opens(key, number, edition, sealed, len(sealed), iv, len(iv))
     wipe(byref(key), sizeof(key))
-    wipe(text, sizeof(text))
     wipe_stack()
     if answer.number != DONE:
         return refuse(job, answer.number)
-    print(f"job {job}: edition {int.from_bytes(record[6:8], 'big')} may be shown, {answer.length} bytes")
+    print(f"job {job}: edition {edition} may be shown, {len(sealed) - TAG_SIZE} bytes")
     return 0
 
 

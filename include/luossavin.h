@@ -4,8 +4,9 @@
  * In a hurry: seal, ask, open.
  *
  *     struct luossavin_key key = luossavin_key_new(bytes, LUOSSAVIN_KEY_SIZE, 7);
- *     a = luossavin_encrypt(LUOSSAVIN_GCM, key, label, label_len, text, n, iv, LUOSSAVIN_IV_SIZE, sealed, n + LUOSSAVIN_TAG_SIZE);
- *     a = luossavin_decrypt(LUOSSAVIN_GCM, key, label, label_len, sealed, m, iv, LUOSSAVIN_IV_SIZE, text, m - LUOSSAVIN_TAG_SIZE);
+ *     a = luossavin_edition_seal(key, job, edition, text, n, iv, LUOSSAVIN_IV_SIZE, sealed, n + LUOSSAVIN_TAG_SIZE);
+ *     a = luossavin_edition_opens(key, job, edition, sealed, m, iv, LUOSSAVIN_IV_SIZE);
+ *     a = luossavin_edition_open(key, job, edition, sealed, m, iv, LUOSSAVIN_IV_SIZE, text, m - LUOSSAVIN_TAG_SIZE);
  *     if (a.number != LUOSSAVIN_DONE)
  *         say(luossavin_refusal_name(a.number));
  *     luossavin_wipe(&key, sizeof key);
@@ -18,7 +19,7 @@
  *   4. A key's record, a state and H are as secret as the key: wipe them (luossavin_wipe), and what calls have left on the stack
  *      (luossavin_wipe_stack).
  *
- * The reference follows: numbers and names, answers, keys, messages, pieces, which edition, workers, shelf, journal, halves, wiping.
+ * The reference follows: numbers and names, answers, keys, editions, messages, pieces, which edition, workers, shelf, journal, halves, wiping.
  *
  * The library keeps nothing between calls (but which of its two variants it takes on x86-64), allocates nothing, reads and writes only the
  * buffers of the call, and every call returns. Any thread may make any call. Functions from luossavin_key_new to luossavin_hash_join are proved;
@@ -116,6 +117,7 @@ enum luossavin_size {
     LUOSSAVIN_MOST_WORKERS = 64,          /* the most workers of a plan */
     LUOSSAVIN_LARGEST_SHELF = 65536,      /* the most bytes of a shelf */
     LUOSSAVIN_SHELF_HEAD = 12,            /* the bytes of a shelf's record before the sealed ones */
+    LUOSSAVIN_NUMBERS = 32,               /* the numbers that a replay has room to count, those to come among them */
     LUOSSAVIN_MOST_KEYS = 8,              /* the most keys of a replay */
     LUOSSAVIN_LONGEST_PART = 16384,       /* the most bytes of a recorded label, data or IV */
     LUOSSAVIN_LONGEST_OUTPUT = 16400,     /* the most bytes of a recorded output */
@@ -129,7 +131,7 @@ enum luossavin_size {
  *   number      0, or the refusal: the first that applies, in the order below
  *   missing     in refusal 9, how many bytes are missing of 16 (0 for a tag of more than 16); otherwise 0
  *   came_round  1 where the counter of a Ctr or Gcm message came round (see below); otherwise 0
- *   key         the key's number, done or refused; 0 where no key stands: in refusals 7, 16, 1, 13, and of a plan
+ *   key         the key's number, done or refused; 0 where no key stands: in refusals 7, 16, 1, 13, of a plan and of a record
  *   length      how many bytes at the front of `out` are the result. Every byte behind them is as it was. In a refusal it is 0, and no byte of
  *               `out` is changed
  *
@@ -139,10 +141,12 @@ enum luossavin_size {
  *   a message                   7, 1, 13, 10, 14, 5, then in Cbc 8, 2 or in Gcm 9, then 6, then in Cbc 3, 15 or in Gcm 4
  *   a start of pieces           1, 13, 10, 14, 5
  *   a piece, an end             what the start was refused with, then 12, 5, 9, 6, 4
+ *   luossavin_edition_opens     1, 13, 10, 5, 9, 4; sealing and opening an edition are those of a message
  *   luossavin_which             16, 1, 13, 10, 5, 9
  *   a plan; a range             17, 5; 1, 13, 10, 14, 5, 6
  *   work by a plan              1, 13, 10, 14, 5, 18, 6
  *   shelf: put, collect, find   19, 20, 21; 19; 19, 22
+ *   luossavin_record            24, 6
  *   luossavin_replay            26, and then, record by record, 23, 24, 25
  *
  *   n bytes of data             room needed           length when done
@@ -247,6 +251,36 @@ struct luossavin_key luossavin_key_retire(struct luossavin_key key);
  * field is as it was, of a retired key and of a record that is no key too. */
 LUOSSAVIN_MUST_USE
 struct luossavin_key luossavin_key_engine(struct luossavin_key key, uint32_t engine);
+
+/* ---- Editions ----
+ *
+ * Does this file open under this edition? A transcript is sealed in Gcm under the label of its job and its edition, six bytes: the job in four and
+ * the edition in two, big-endian. A file that opens under one edition opens under no other: where luossavin_edition_opens answers 0 for one, it
+ * answers 4 for every other job or edition. That is proved, for every key that does not encrypt the all-zero block to itself. */
+struct luossavin_label {
+    uint8_t bytes[6];
+};
+
+/* The label of a job and an edition. It has no refusals. */
+LUOSSAVIN_MUST_USE
+struct luossavin_label luossavin_label(uint32_t job, uint16_t edition);
+
+/* Whether a sealed file opens under a job and an edition: 0 exactly where luossavin_edition_open, given room, answers 0, and otherwise its refusal,
+ * 1, 4, 5, 9, 10 or 13. It is never 6: no text is made, and nothing is written. `length` and `came_round` are 0. The file is read once. The key
+ * may be retired. */
+LUOSSAVIN_MUST_USE
+struct luossavin_answer luossavin_edition_opens(struct luossavin_key key, uint32_t job, uint16_t edition,
+    const uint8_t *sealed, size_t sealed_len, const uint8_t *iv, size_t iv_len);
+
+/* luossavin_encrypt in Gcm under the label of the job and the edition. It answers 0, 1, 5, 6, 10, 13 or 14. */
+LUOSSAVIN_MUST_USE
+struct luossavin_answer luossavin_edition_seal(struct luossavin_key key, uint32_t job, uint16_t edition,
+    const uint8_t *text, size_t text_len, const uint8_t *iv, size_t iv_len, uint8_t *out, size_t room);
+
+/* luossavin_decrypt in Gcm under the label of the job and the edition. It answers 0, 1, 4, 5, 6, 9, 10 or 13. */
+LUOSSAVIN_MUST_USE
+struct luossavin_answer luossavin_edition_open(struct luossavin_key key, uint32_t job, uint16_t edition,
+    const uint8_t *sealed, size_t sealed_len, const uint8_t *iv, size_t iv_len, uint8_t *out, size_t room);
 
 /* ---- Messages ----
  *
@@ -648,7 +682,7 @@ struct luossavin_shelved luossavin_shelf_find(const uint8_t *shelf, size_t size,
  *
  *   records      how many there are
  *   by_mode      how many in each mode from 0 to 4, and at place 5 those of every mode above, which answer 7
- *   by_answer    how many with each number
+ *   by_answer    how many with each number; those that no refusal has yet are 0
  *   bytes_in     the bytes of their data, of refused calls too; labels and IVs are not counted
  *   bytes_out    the lengths that they answer
  *
@@ -687,10 +721,25 @@ struct luossavin_replayed {
     size_t first_place;
     uint64_t records;
     uint64_t by_mode[6];
-    uint64_t by_answer[27];
+    uint64_t by_answer[LUOSSAVIN_NUMBERS];
     uint64_t bytes_in;
     uint64_t bytes_out;
 };
+
+/* Writes the record of a call: whether it was decryption, its mode, the number of the key that it was on, its label, data and IV, its room, the
+ * number that it answered, and its output, which of a refusal is empty. It answers 0 with the length of the record; 24 where a part or the output
+ * has more bytes than can be recorded; or 6. The room needed is 27 bytes and those of the four parts. A mode or an answer above 255 is recorded as
+ * 255, and a room above 2^32 - 1 as that: the calls answer alike.
+ *
+ *     a = luossavin_encrypt(mode, key, aad, aad_len, data, data_len, iv, iv_len, out, room);
+ *     r = luossavin_record(false, mode, key.number, aad, aad_len, data, data_len, iv, iv_len, room, a.number, out, a.length,
+ *         journal + used, sizeof journal - used);
+ *     used += r.length;
+ */
+LUOSSAVIN_MUST_USE
+struct luossavin_answer luossavin_record(bool decrypt, uint32_t mode, uint16_t key, const uint8_t *aad, size_t aad_len,
+    const uint8_t *data, size_t data_len, const uint8_t *iv, size_t iv_len, size_t room, uint32_t number,
+    const uint8_t *output, size_t output_len, uint8_t *out, size_t out_room);
 
 /* Replays the journal `file`. It answers 0, 23, 24, 25 or 26. */
 LUOSSAVIN_MUST_USE

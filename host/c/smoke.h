@@ -66,6 +66,9 @@ struct luossavin_answer go_by(size_t by, struct luossavin_answer a, struct state
 /* Which of many labels a file opens under. */
 void which(void);
 
+/* Editions: labels, sealing, opening, asking; and records of calls. */
+void asked_editions(void);
+
 /* Counters that come round. */
 void rounds(void);
 

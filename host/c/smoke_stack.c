@@ -74,6 +74,10 @@ static void others(void)
     prepared(luossavin_which(on, out, LONG, iv, 16, label, length, &length, 1).answer);
     check(luossavin_hash_blocks((struct luossavin_hash){0, 0}, text, LONG).high == 0, "a hash under 0", "on a stack of its own", 0);
     prepared(luossavin_block_encrypt(on, text, 16, out, 16));
+    prepared(luossavin_edition_seal(on, 7, 2, text, LONG, iv, 16, out, sizeof out));
+    prepared(luossavin_edition_opens(on, 7, 2, out, sizeof out, iv, 16));
+    prepared(luossavin_edition_open(on, 7, 2, out, sizeof out, iv, 16, text, sizeof text));
+    prepared(luossavin_record(false, GCM, NUMBER, label, length, text, 4096, iv, 16, 4096, 0, NULL, 0, out, sizeof out));
 }
 
 static void replay(void)

@@ -64,6 +64,9 @@ static __attribute__((noinline)) void calls_by_value(void)
     prepared(luossavin_ctr_range(marked, false, iv, 16, 5, text, TEXT, sealed, TEXT));
     prepared(luossavin_ctr_by_plan(marked, true, iv, 16, luossavin_plan_make(TEXT, 4).plan, text, TEXT, sealed, TEXT));
     prepared(luossavin_which(marked, text, TEXT, iv, 16, label, length, &length, 1).answer);
+    prepared(luossavin_edition_seal(marked, 7, 2, text, LONG_TEXT, iv, 16, sealed, sizeof sealed));
+    prepared(luossavin_edition_opens(marked, 7, 2, sealed, sizeof sealed, iv, 16));
+    prepared(luossavin_edition_open(marked, 7, 2, sealed, sizeof sealed, iv, 16, text, sizeof text));
     check(luossavin_replay(keys, NULL, 0).number == 0, "a replay", "of a marked key", 0);
     marked = luossavin_key_engine(luossavin_key_retire(marked), engine);
     luossavin_wipe(&marked, sizeof marked);

@@ -1,8 +1,7 @@
 //! The keys of a server, by their numbers: every one of them opens, the current one seals, and any thread may retire one
 //! while others work.
 
-use crate::sm4::cipher_mode::{CipherMode, Sm4CipherMode};
-use crate::{Key, Refusal};
+use crate::{Edition, Key, Refusal};
 use std::collections::BTreeMap;
 use std::fmt;
 use std::sync::{Arc, RwLock, RwLockReadGuard, RwLockWriteGuard};
@@ -10,19 +9,18 @@ use std::sync::{Arc, RwLock, RwLockReadGuard, RwLockWriteGuard};
 /// Keys by their numbers, of which one may be current. It is shared by reference, or in an [`Arc`].
 ///
 /// ```
-/// use luossavin::editions::label;
 /// use luossavin::keyring::Keyring;
-/// use luossavin::{Key, Refusal};
+/// use luossavin::{Edition, Key, Refusal};
 ///
 /// let keys = Keyring::new();
 /// keys.add_current(Key::new(&[7; 16], 1)?)?;
-/// let (number, sealed) = keys.seal(&label(4711, 1), b"a transcript", &[1; 16])?;
+/// let (number, sealed) = keys.seal(4711, Edition(1), b"a transcript", &[1; 16])?;
 ///
 /// // another takes its place: old files still open, and new ones are sealed under the new key
 /// keys.add_current(Key::new(&[8; 16], 2)?)?;
 /// keys.retire(1)?;
-/// assert_eq!(keys.open(number, &label(4711, 1), &sealed, &[1; 16])?, b"a transcript");
-/// assert_eq!(keys.seal(&label(4711, 2), b"another", &[2; 16])?.0, 2);
+/// assert_eq!(keys.open(number, 4711, Edition(1), &sealed, &[1; 16])?, b"a transcript");
+/// assert_eq!(keys.seal(4711, Edition(2), b"another", &[2; 16])?.0, 2);
 /// # Ok::<(), Refusal>(())
 /// ```
 ///
@@ -117,21 +115,24 @@ impl Keyring {
         Ok(work(&key))
     }
 
-    /// Seals a text with the current key, and says which that is: the number is to be kept beside the sealed bytes.
-    pub fn seal(&self, label: &[u8], text: &[u8], iv: &[u8]) -> Result<(u16, Vec<u8>), Refusal> {
-        let number = self.current().ok_or(Refusal::UnknownKey)?;
-        let key = self.key(number)?;
-        Ok((number, Sm4CipherMode::with_key(key, CipherMode::Gcm).encrypt(label, text, iv)?))
+    /// Seals a text under an edition with the current key, and says which that is: the number is to be kept beside the sealed bytes.
+    pub fn seal(&self, job: u32, edition: Edition, text: &[u8], iv: &[u8]) -> Result<(u16, Vec<u8>), Refusal> {
+        self.with_current(|key| Ok((key.number(), key.seal(job, edition, text, iv)?)))?
     }
 
     /// Opens a sealed message with the key that it was sealed under, retired or not.
-    pub fn open(&self, number: u16, label: &[u8], sealed: &[u8], iv: &[u8]) -> Result<Vec<u8>, Refusal> {
-        Sm4CipherMode::with_key(self.key(number)?, CipherMode::Gcm).decrypt(label, sealed, iv)
+    pub fn open(&self, number: u16, job: u32, edition: Edition, sealed: &[u8], iv: &[u8]) -> Result<Vec<u8>, Refusal> {
+        self.with(number, |key| key.open(job, edition, sealed, iv))?
+    }
+
+    /// Whether a sealed message opens under an edition, with the key that it was sealed under, retired or not.
+    pub fn opens(&self, number: u16, job: u32, edition: Edition, sealed: &[u8], iv: &[u8]) -> Result<bool, Refusal> {
+        self.with(number, |key| key.opens(job, edition, sealed, iv))?
     }
 
     /// Which of the keys opens a sealed message, where its number was not kept: each is asked, in the order of their
     /// numbers, the current one first. No text is made.
-    pub fn which(&self, label: &[u8], sealed: &[u8], iv: &[u8]) -> Result<Option<u16>, Refusal> {
+    pub fn which(&self, job: u32, edition: Edition, sealed: &[u8], iv: &[u8]) -> Result<Option<u16>, Refusal> {
         let keys: Vec<Arc<Key>> = {
             let keys = self.keys();
             let first = keys.current.and_then(|number| keys.by_number.get(&number));
@@ -139,7 +140,7 @@ impl Keyring {
             first.into_iter().chain(keys.by_number.values().filter(is_other)).cloned().collect()
         };
         for key in keys {
-            if crate::editions::which(&key, sealed, iv, &[label])?.is_some() {
+            if key.opens(job, edition, sealed, iv)? {
                 return Ok(Some(key.number()));
             }
         }

@@ -1,6 +1,19 @@
 //! SM4 (GB/T 32907-2016) with Cfb, Ofb, Ctr, Cbc and Gcm, by libsm's names, over the proved library of Luossavin.
 //!
-//! A server that seals with libsm goes over by changing an import:
+//! Does this file open under this edition?
+//!
+//! ```
+//! use luossavin::{Edition, Key};
+//!
+//! let (key, iv) = (Key::new(&[7; 16], 1)?, [1; 16]);
+//! let sealed = key.seal(4711, Edition(1), b"a transcript", &iv)?;
+//! assert!(key.opens(4711, Edition(1), &sealed, &iv)?);
+//! assert!(!key.opens(4711, Edition(2), &sealed, &iv)?);
+//! # Ok::<(), luossavin::Refusal>(())
+//! ```
+//!
+//! A server that seals with libsm goes over by changing an import. A message has at most 16 MiB here, and a `match` on the
+//! errors that names libsm's four needs a fifth arm.
 //!
 //! ```
 //! // before: use libsm::sm4::cipher_mode::{CipherMode, Sm4CipherMode};
@@ -20,7 +33,7 @@
 //! | `streams` | sealing through `Write`, asking whether a `Read` opens, opening to a `Write` |
 //! | [`pieces`] | messages in pieces, cut anywhere |
 //! | [`detached`] | tags apart from the ciphertext, and sealing in place |
-//! | [`editions`] | which of up to 64 labels a file opens under |
+//! | [`editions`] | [`Edition`], with [`Key::opens`], [`Key::seal`] and [`Key::open`]; which of up to 64 labels a file opens under |
 //! | [`ranges`] | one Ctr message among several workers |
 //! | [`shelf`] | sealed files in one buffer, of which the newest edition of each job is current |
 //! | [`journal`] | recorded calls, made again and added up |
@@ -63,6 +76,7 @@ pub mod sm4;
 pub mod streams;
 mod wiping;
 
+pub use editions::Edition;
 pub use key::{Direction, Engine, Key};
 pub use refusal::{Done, Refusal};
 pub use sizes::LONGEST_TEXT;

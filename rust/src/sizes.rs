@@ -23,6 +23,8 @@ pub const MOST_WORKERS: usize = 64;
 pub const LARGEST_SHELF: usize = 65_536;
 /// The bytes of a shelf's record before the sealed ones.
 pub const SHELF_HEAD: usize = 12;
+/// The numbers that a replay has room to count, those to come among them.
+pub const NUMBERS: usize = 32;
 /// The most keys of a replay.
 pub const MOST_KEYS: usize = 8;
 /// The most bytes of a recorded label, data or IV.

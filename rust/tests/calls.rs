@@ -15,7 +15,7 @@ use luossavin::shelf::{Shelf, LARGEST};
 use luossavin::sm4::cipher::Sm4Cipher;
 use luossavin::sm4::cipher_mode::{CipherMode, Sm4CipherMode};
 use luossavin::streams::SealWriter;
-use luossavin::{Direction, Engine, Key, Refusal, LONGEST_TEXT};
+use luossavin::{Direction, Edition, Engine, Key, Refusal, LONGEST_TEXT};
 use random::Random;
 use std::sync::Arc;
 
@@ -288,6 +288,37 @@ fn which_finds_the_first_that_opens() {
     let long = vec![0; LONGEST_TEXT + 5];
     assert_eq!(which(&key(1), &sealed, &IV, &[&candidates[39][..], &long]), Err(Refusal::TooLong));
     assert_eq!(which(&key(1), &sealed, &IV, &[&long[..]; 100]), Err(Refusal::BadList));
+}
+
+#[test]
+fn an_edition_is_sealed_asked_and_opened_as_the_single_calls_do() {
+    let mut random = Random::new(9);
+    for length in [0, 1, 15, 16, 17, 100, 9000] {
+        let (text, job, edition) = (random.bytes(length), length as u32 * 65_537, Edition(length as u16 + 1));
+        for iv in [&IV[..], &IV[..12]] {
+            let sealed = key(1).seal(job, edition, &text, iv).unwrap();
+            assert_eq!(sealed, gcm().encrypt(&edition.label_of(job), &text, iv).unwrap());
+            assert_eq!(key(1).retire().open(job, edition, &sealed, iv).unwrap(), text);
+            assert_eq!(key(1).retire().opens(job, edition, &sealed, iv), Ok(true));
+            for (job, edition) in [(job, Edition(0)), (job ^ 1, edition)] {
+                assert_eq!(key(1).opens(job, edition, &sealed, iv), Ok(false));
+                assert_eq!(key(1).open(job, edition, &sealed, iv), Err(Refusal::InvalidTag));
+            }
+            let mut damaged = sealed.clone();
+            damaged[length / 2] ^= 0x10;
+            assert_eq!(key(1).opens(job, edition, &damaged, iv), Ok(false));
+            let missing = 16 - (length % 16) as u8;
+            let short = key(1).opens(job, edition, &sealed[..length % 16], iv);
+            assert_eq!(short, Err(Refusal::ShortGcm { missing }));
+        }
+    }
+    let (job, edition, over) = (1, Edition(1), vec![0; LONGEST_TEXT + 17]);
+    assert_eq!(key(1).opens(job, edition, &over, &IV), Err(Refusal::TooLong));
+    assert_eq!(key(1).open(job, edition, &over, &IV), Err(Refusal::TooLong));
+    assert_eq!(key(1).seal(job, edition, &over, &IV), Err(Refusal::TooLong));
+    assert_eq!(key(1).opens(job, edition, &over[..16], &IV[..13]), Err(Refusal::WrongIv));
+    assert_eq!(key(1).seal(job, edition, b"", &[]), Err(Refusal::WrongIv));
+    assert_eq!(key(1).retire().seal(job, edition, b"", &IV), Err(Refusal::Retired));
 }
 
 #[test]

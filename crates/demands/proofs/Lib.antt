@@ -23,6 +23,7 @@ pub mod InPieces
 pub mod OneBlockRefused
 pub mod ZeroKey
 pub mod OtherEdition
+pub mod EditionOpens
 pub mod Which
 pub mod Workers
 pub mod WorkersAnswer
