@@ -6,6 +6,7 @@ use mathlib.Core.Bool.{Bool, true, false, cond}
 use mathlib.Core.List.{List}
 use Prim.Native.Nat.{ℕ, _-_, _≤_}
 use native.Mathlib.Omega.{arith}
+use lib.Dec.{ltb}
 use lib.ListN.{length}
 use borrow.Author.Tests.{le-ltb}
 use Rattle.walk.specs.Outcome.{Head, Outcome, leaving, finished, refusal, under, keyed, reporting, written}
@@ -33,7 +34,7 @@ use Rattle.label.proofs.LabelTells.{length-label}
 use Rattle.luossavin.specs.declared.LuossavinAnswer.{LuossavinAnswer}
 use Rattle.luossavin.specs.declared.edition.LuossavinLabel.{LuossavinLabel}
 use Rattle.luossavin.specs.declared.key.LuossavinKey.{LuossavinKey}
-use Rattle.luossavin.specs.Key.{cipherIn}
+use Rattle.luossavin.specs.Key.{cipherIn, hostKeyEngine}
 use Rattle.luossavin.specs.Host.{headIn, hostModeCall}
 use Rattle.luossavin.specs.Edition.{checkedHead, opensHead, hostEditionOpens}
 use Rattle.luossavin.specs.Recording.{hostRecord}
@@ -117,7 +118,9 @@ no-six Key false false false false n e = omega arith
 -- It is never refused for room.
 pub edition-never-no-room : (c : Sm4Cipher) → NeverNoRoom (asks c)
 unfolding opensHead keyAndIv dataCheck
-edition-never-no-room c job edition file iv e = no-six (c .answer) _ _ _ (opensWith c iv file (labelOf job edition)) _ e
+edition-never-no-room c job edition file iv e =
+    no-six (c .answer) (wrongIv Gcm (length iv)) (ltb sealedLimit (length file)) (ltb (length file) 16)
+    (opensWith c iv file (labelOf job edition)) (16 - length file) e
 
 -- Under a key that does not encrypt the all-zero block to itself, a file that opens under one job and edition is answered 4 for every
 -- other.
@@ -141,6 +144,12 @@ module _ (k : LuossavinKey) where
   pub exported-edition-alone : MovesZero (k .«round_keys») → OneEditionAlone (hostEditionOpens k)
   unfolding hostEditionOpens cipherIn
   exported-edition-alone moves = edition-alone (cipherIn k) moves
+
+  -- The engine is not seen.
+  pub exported-edition-engine-unseen : (e job edition : ℕ) (file iv : List ℕ)
+      → hostEditionOpens (hostKeyEngine k e) job edition file iv ≡ hostEditionOpens k job edition file iv
+  unfolding hostEditionOpens opensHead hostKeyEngine cipherIn
+  exported-edition-engine-unseen e job edition file iv = refl
 
   -- It has one answer.
   pub unique-exported-edition-opens : (job edition : ℕ) (file iv : List ℕ) (r₁ r₂ : LuossavinAnswer)
