@@ -513,10 +513,10 @@ pub fn shelf_find(shelf: &[u8], used: usize, job: u32) -> Shelved {
 }
 
 pub fn record(
-    direction: Direction, mode: CipherMode, key: u16, parts: [&[u8]; 3], room: usize, number: u32, output: &[u8],
+    direction: Direction, mode: CipherMode, key: u16, parts: [&[u8]; 3], room: usize, answered: (u32, &[u8]),
     out: &mut [u8],
 ) -> Answer {
-    let [aad, data, iv] = parts;
+    let ([aad, data, iv], (number, output)) = (parts, answered);
     let (decrypt, mode) = (direction.is_decrypt(), mode as u32);
     let ((aad_len, aad), (data_len, data)) = ((aad.len(), aad.as_ptr()), (data.len(), data.as_ptr()));
     let ((iv_len, iv), (output_len, output)) = ((iv.len(), iv.as_ptr()), (output.len(), output.as_ptr()));

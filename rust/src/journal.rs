@@ -62,7 +62,7 @@ impl<'a> Call<'a> {
         let before = journal.len();
         journal.resize(before + room, 0);
         let (key, parts, out) = (self.key, self.parts, &mut journal[before..]);
-        let written = ffi::record(self.direction, self.mode, key, parts, self.room, number, output, out).result();
+        let written = ffi::record(self.direction, self.mode, key, parts, self.room, (number, output), out).result();
         journal.truncate(before + written.map_or(0, |done| done.length));
         written.map(drop)
     }
