@@ -75,7 +75,7 @@ crate:
 	rm -rf target/rust
 	mkdir -p target/rust
 	cp -RL rust/src rust/asm rust/README.md rust/LICENSE rust/NOTICE target/rust
-	sed '/^# The tool, one program/,$$d' rust/Cargo.toml >target/rust/Cargo.toml
+	sed '/^# The tool/,$$d' rust/Cargo.toml >target/rust/Cargo.toml
 	echo '{"files":{}}' >target/rust/.cargo-checksum.json
 
 endif

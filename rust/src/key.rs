@@ -132,9 +132,10 @@ impl fmt::Debug for Key {
 
 /// How the rounds of SM4 are made, and nothing else: no answer and no byte depends on it, and `docs/SPEED.md` has what
 /// each takes. Those with tables read at places that depend on the key and the text, so neither is for a machine on which
-/// others may watch the caches (a side channel); that of gates is. It does up to 512 blocks at once where blocks do not
-/// wait for one another: in Ctr, Gcm, and decryption in Cfb and Cbc. Elsewhere, and for short messages, it is many times
-/// slower than the others.
+/// others may watch the caches (a side channel). That of gates is written so that it does not, which is looked at in the
+/// compiled library (`host/secrets`) and proved by nothing. It does up to 512 blocks at once where blocks do not wait for
+/// one another: in Ctr, Gcm, and decryption in Cfb and Cbc. Elsewhere, and for short messages, it is many times slower than
+/// the others.
 #[derive(Clone, Copy, Debug, PartialEq, Eq, Hash)]
 #[non_exhaustive]
 pub enum Engine {

@@ -56,3 +56,6 @@ impl WipedOnDrop for crate::halves::HashKey {}
 impl WipedOnDrop for crate::halves::Half {}
 #[cfg(feature = "std")]
 impl WipedOnDrop for crate::keyring::Keyring {}
+/// The state and the text that is buffered; the ciphertext that is still to be written is no secret.
+#[cfg(feature = "std")]
+impl<W: std::io::Write> WipedOnDrop for crate::streams::SealWriter<W> {}
