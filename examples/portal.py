@@ -24,7 +24,7 @@ class Shelved(Structure):
     _fields_ = [("number", c_uint32), ("start", c_size_t), ("length", c_size_t)]
 
 
-library = CDLL("libluossavin.so.0")
+library = CDLL("libluossavin.so.1")
 LENT = [c_char_p, c_size_t]  # a buffer and its length
 
 
