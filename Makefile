@@ -1,6 +1,7 @@
-# make             builds libluossavin.a and libluossavin.so of the assembly in proved/, by a C compiler and ar alone
+# make             builds libluossavin.a and libluossavin.so of the assembly in proved/ and of lib/, by a C compiler and ar alone
 # make tool        builds the tool, by cargo
-# make install     puts library, header and tool below PREFIX; DESTDIR stands in front of every path, for who makes a package
+# make crate       puts the cargo package together, in target/rust: what it takes of the repository, and nothing else
+# make install     puts library, header, tool and package below PREFIX; DESTDIR stands in front of every path, for who makes a package
 # make uninstall   takes away what `make install` put there
 # make dist        writes target/luossavin-VERSION-ARCH-linux.tar.gz for x86_64 and aarch64, each of which installs by the two above
 # make proved      writes proved/ anew; it takes the Rattle kit, and minutes, since the proof comes first
@@ -20,7 +21,7 @@ ifneq ($(wildcard SHA256SUMS),)
 
 ARCH := $(firstword $(wildcard x86_64 aarch64))
 
-all tool:
+all tool crate:
 	@sha256sum -c --quiet SHA256SUMS
 
 else
@@ -35,7 +36,7 @@ $(error there is no assembly for '$(ARCH)' in proved/: the library is for x86_64
 endif
 
 built = target/$(ARCH)
-objects = $(patsubst %.s,$(built)/%.o,$(notdir $(assembly)))
+objects = $(patsubst %.s,$(built)/%.o,$(notdir $(assembly))) $(built)/luossavin.o
 # the first number of the version is that of the calls and layouts
 soname = libluossavin.so.$(firstword $(subst ., ,$(VERSION)))
 
@@ -45,6 +46,9 @@ vpath %.s proved lib
 
 $(built)/%.o: %.s | $(built)
 	$(CC) -c $< -o $@
+
+$(built)/luossavin.o: lib/luossavin.c include/luossavin.h | $(built)
+	$(CC) -std=c11 -O2 -Wall -Wextra -fPIC -Iinclude -c $< -o $@
 
 $(built)/libluossavin.a: $(objects)
 	rm -f $@
@@ -67,9 +71,17 @@ tool: | $(built)
 	    --manifest-path rust/Cargo.toml -p luossavin-tool --target $(rust_target) --target-dir $(built)/cargo
 	cp $(built)/cargo/$(rust_target)/release/luossavin $(built)/luossavin
 
+# Without the tool, which is a member of its workspace; with what cargo asks of a folder of packages.
+crate:
+	rm -rf target/rust
+	mkdir -p target/rust
+	cp -RL rust/src rust/asm rust/README.md rust/LICENSE rust/NOTICE target/rust
+	sed '/^# The tool/,$$d' rust/Cargo.toml >target/rust/Cargo.toml
+	echo '{"files":{}}' >target/rust/.cargo-checksum.json
+
 endif
 
-install: all tool
+install: all tool crate
 	@tool/install put '$(DESTDIR)' '$(PREFIX)' '$(LIBDIR)' '$(ARCH)'
 
 uninstall:
@@ -84,4 +96,4 @@ proved:
 clean:
 	rm -rf $(built)
 
-.PHONY: all tool install uninstall dist proved clean
+.PHONY: all tool crate install uninstall dist proved clean

@@ -6,51 +6,49 @@
 #include <stdio.h>
 #include <sys/random.h>
 
-enum { GCM = 4, TAG = 16, LABEL = 6, IV = 16 };
 enum { JOB = 4711, ROUGH = 1, FINAL = 2 };
 
 static const uint8_t page[] = "Q. Would you state your name for the record?\nA. Of course.\n";
-enum { PAGE = sizeof page - 1, SEALED = PAGE + TAG };
+enum { PAGE = sizeof page - 1, SEALED = PAGE + LUOSSAVIN_TAG_SIZE };
 
-/* The label of a job and an edition is the two numbers, big-endian. */
-static void make_label(uint8_t label[LABEL], uint32_t job, uint16_t edition)
+/* What is neither yes nor no is an error. */
+static int say(uint16_t edition, struct luossavin_answer a)
 {
-    for (int i = 0; i < 4; i++) {
-        label[i] = (uint8_t)(job >> (24 - 8 * i));
+    if (a.number != LUOSSAVIN_DONE && a.number != LUOSSAVIN_INVALID_TAG) {
+        fprintf(stderr, "refused: %u %s\n", a.number, luossavin_refusal_name(a.number));
+        return 1;
     }
-    label[4] = (uint8_t)(edition >> 8);
-    label[5] = (uint8_t)edition;
+    printf("opens as edition %d: %s\n", edition, a.number == LUOSSAVIN_DONE ? "yes" : "no");
+    return 0;
 }
 
-/* Whether the sealed page opens under an edition of the job. No text is made. */
-static bool opens(struct luossavin_key key, uint16_t edition, const uint8_t iv[IV], const uint8_t sealed[SEALED])
+static int seal_and_ask(const struct luossavin_key *key, const uint8_t iv[LUOSSAVIN_IV_SIZE])
 {
-    uint8_t label[LABEL];
-    make_label(label, JOB, edition);
-    struct luossavin_opens_step start = luossavin_opens_start(key, label, LABEL, iv, IV);
-    luossavin_opens_add(&start.state, sealed, PAGE);
-    return luossavin_opens_finish(&start.state, sealed + PAGE, TAG).number == 0;
+    uint8_t sealed[SEALED];
+    struct luossavin_answer a = luossavin_edition_seal(*key, JOB, ROUGH, page, PAGE, iv, LUOSSAVIN_IV_SIZE, sealed, SEALED);
+    if (a.number != LUOSSAVIN_DONE) {
+        fprintf(stderr, "refused: %u %s\n", a.number, luossavin_refusal_name(a.number));
+        return 1;
+    }
+    printf("sealed as edition %d of job %d: %d bytes are %zu\n", ROUGH, JOB, PAGE, a.length);
+    return say(ROUGH, luossavin_edition_opens(*key, JOB, ROUGH, sealed, SEALED, iv, LUOSSAVIN_IV_SIZE))
+        || say(FINAL, luossavin_edition_opens(*key, JOB, FINAL, sealed, SEALED, iv, LUOSSAVIN_IV_SIZE));
 }
 
 int main(void)
 {
     /* A key is made once and kept; an IV is made anew for each page, and kept beside it. */
-    uint8_t bytes[16], iv[IV];
-    if (getrandom(bytes, sizeof bytes, 0) != sizeof bytes || getrandom(iv, IV, 0) != IV) {
+    uint8_t bytes[LUOSSAVIN_KEY_SIZE], iv[LUOSSAVIN_IV_SIZE];
+    struct luossavin_key key;
+    int failed;
+    if (getrandom(bytes, sizeof bytes, 0) != sizeof bytes || getrandom(iv, sizeof iv, 0) != sizeof iv) {
         perror("getrandom");
         return 1;
     }
-    struct luossavin_key key = luossavin_key_new(bytes, sizeof bytes, 1);
-
-    uint8_t label[LABEL], sealed[SEALED];
-    make_label(label, JOB, ROUGH);
-    struct luossavin_answer a = luossavin_encrypt(GCM, key, label, LABEL, page, PAGE, iv, IV, sealed, SEALED);
-    if (a.number != 0) {
-        fprintf(stderr, "refused: %u\n", a.number);
-        return 1;
-    }
-    printf("sealed as edition %d of job %d: %d bytes are %zu\n", ROUGH, JOB, PAGE, a.length);
-    printf("opens as edition %d: %s\n", ROUGH, opens(key, ROUGH, iv, sealed) ? "yes" : "no");
-    printf("opens as edition %d: %s\n", FINAL, opens(key, FINAL, iv, sealed) ? "yes" : "no");
-    return 0;
+    key = luossavin_key_new(bytes, sizeof bytes, 1);
+    failed = seal_and_ask(&key, iv);
+    luossavin_wipe(&key, sizeof key);
+    luossavin_wipe(bytes, sizeof bytes);
+    luossavin_wipe_stack();
+    return failed;
 }

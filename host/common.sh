@@ -115,11 +115,11 @@ find_target() {
     machine=$(uname -m)
     [ -n "${target:-}" ] || target=$(best_target)
     case $target in
-    aarch64) architecture=aarch64 variant=3 library=("$repository/proved/aarch64.s") ;;
+    aarch64) architecture=aarch64 variant=3 library=("$repository/proved/aarch64.s" "$repository/lib/luossavin.c") ;;
     x86_64 | x86_64-v3)
         architecture=x86_64 variant=1
         if [ "$target" = x86_64-v3 ]; then variant=2; fi
-        library=("$repository"/proved/x86_64{,-v3}.s "$repository/lib/choose-x86_64.s")
+        library=("$repository"/proved/x86_64{,-v3}.s "$repository"/lib/{choose-x86_64.s,luossavin.c})
         ;;
     *) die "no target '$target': it is aarch64, x86_64 or x86_64-v3" ;;
     esac

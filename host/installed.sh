@@ -67,9 +67,12 @@ holds 'everyone may read them' sh -c '! find "$1" ! -type l ! -perm -a=r | grep 
 holds 'and nobody else write' sh -c '! find "$1" ! -type l -perm /go=w | grep .' sh "$here/a place"
 for file in bin/luossavin include/luossavin.h lib/libluossavin.a lib/libluossavin.so lib/pkgconfig/luossavin.pc \
     share/man/man1/luossavin.1 share/bash-completion/completions/luossavin share/zsh/site-functions/_luossavin \
-    share/fish/vendor_completions.d/luossavin.fish share/doc/luossavin/NOTICE \
+    share/fish/vendor_completions.d/luossavin.fish share/doc/luossavin/NOTICE share/doc/luossavin/LICENSE \
     share/doc/luossavin/README.md share/doc/luossavin/CHANGES.md share/doc/luossavin/docs/PROMISES.md; do
     holds "there is $file" [ -s "$here/a place/$file" ]
+done
+for file in Cargo.toml README.md LICENSE NOTICE .cargo-checksum.json src/lib.rs asm/x86_64.s asm/x86_64-v3.s asm/aarch64.s asm/choose-x86_64.s; do
+    holds "the cargo package has $file" [ -s "$here/a place/share/cargo/registry/luossavin-$version/$file" ]
 done
 make -s -C "$made" install DESTDIR="$here/stage" PREFIX=/usr LIBDIR=/usr/lib/multi-arch >"$said" 2>&1 || miss 'a package' "$?"
 holds 'a package has the library where it is told' [ -s stage/usr/lib/multi-arch/libluossavin.a ]
@@ -131,9 +134,20 @@ ask() { # EXAMPLE
     says "$1: another job has none" 22 'job 4712: nothing may be shown, refused with 22' sh -c "$(again "$1" team.shelf 4712 "$key" $iv)"
     says "$1: another IV" 4 'refused with 4' sh -c "$(again "$1" team.shelf 4711 "$key" "${iv%1}2")"
     says "$1: a short IV" 10 'refused with 10' sh -c "$(again "$1" team.shelf 4711 "$key" 00)"
+    says "$1: an IV of 18 bytes" 10 'refused with 10' sh -c "$(again "$1" team.shelf 4711 "$key" ${iv}0000)"
+    for word in 4294972007 4711abc Smith -1 +4711 '' ' 4711' 4711.0 0x1267; do
+        says "$1: '$word' is no job" 64 'no job' sh -c "$(again "$1" team.shelf "'$word'" "$key" $iv)"
+    done
+    for word in ${iv}0 ${iv%1}g "x$iv" "'$iv '"; do
+        says "$1: an IV that is no hex" 64 'expected hex digits' sh -c "$(again "$1" team.shelf 4711 "$key" "$word")"
+    done
+    says "$1: a key that is no hex" 64 'expected hex digits' sh -c "$(again "$1" team.shelf 4711 final.txt $iv)"
+    says "$1: a key of 15 bytes" 1 'refused with 1 ErrorBlockSize' sh -c "$(again "$1" team.shelf 4711 short.key $iv)"
+    says "$1: no key" 66 '' sh -c "$(again "$1" team.shelf 4711 missing $iv) 2>/dev/null"
     says "$1: no shelf" 19 'refused with 19' sh -c "$(again "$1" final.txt 4711 "$key" $iv)"
 }
 key=$here/key
+echo 0123456789abcdeffedcba98765432 >short.key
 ask portal.c
 if [ -z "$runner" ]; then ask portal.py; else skip portal.py 'there is no Python for that machine'; fi
 says 'linked with the archive alone' 0 'opens as edition 2: no' \
@@ -145,7 +159,7 @@ readelf -dW "$here/other/lib/libluossavin.so" >dynamic
 holds 'the shared library has its name and number' grep -q "SONAME.*\[libluossavin\.so\.${version%%.*}\]" dynamic
 holds 'and needs no text to be rewritten' sh -c '! grep -q TEXTREL dynamic'
 nm -D --defined-only "$here/other/lib/libluossavin.so" | sed 's/.* //' | sort >exported
-sed -n 's/^\(struct [a-z_]*\|bool\) \(luossavin_[a-z_]*\)(.*/\2/p' "$here/other/include/luossavin.h" | sort >declared
+sed -n 's/^\(struct [a-z_]* \|bool \|void \|const char \*\)\(luossavin_[a-z_]*\)(.*/\2/p' "$here/other/include/luossavin.h" | sort >declared
 holds 'it exports what the header declares' [ -s declared ]
 holds 'and no other name' cmp declared exported
 

@@ -1,131 +1,29 @@
-/* Luossavin: SM4 (GB/T 32907-2016) with Cfb, Ofb, Ctr, Cbc and Gcm, over buffers that the caller lends.
+/* Luossavin: SM4 (GB/T 32907-2016) with Cfb, Ofb, Ctr, Cbc and Gcm, over buffers that the caller lends. Transcripts are sealed with SM4-GCM
+ * under their job and edition. Link with -lluossavin (pkg-config luossavin), on x86-64 or aarch64 Linux.
  *
- * Link with libluossavin.a or libluossavin.so, which `make` builds for x86-64 and aarch64 Linux. The library keeps nothing
- * between calls (but which of its two variants it takes on x86-64), allocates nothing, reads and writes only the buffers of the
- * call, and every call returns.
+ * In a hurry: seal, ask, open.
  *
- * A key is set up once, with a number of its own, into a record that every other call takes by value:
+ *     struct luossavin_key key = luossavin_key_new(bytes, LUOSSAVIN_KEY_SIZE, 7);
+ *     a = luossavin_edition_seal(key, job, edition, text, n, iv, LUOSSAVIN_IV_SIZE, sealed, n + LUOSSAVIN_TAG_SIZE);
+ *     a = luossavin_edition_opens(key, job, edition, sealed, m, iv, LUOSSAVIN_IV_SIZE);
+ *     a = luossavin_edition_open(key, job, edition, sealed, m, iv, LUOSSAVIN_IV_SIZE, text, m - LUOSSAVIN_TAG_SIZE);
+ *     if (a.number != LUOSSAVIN_DONE)
+ *         say(luossavin_refusal_name(a.number));
+ *     luossavin_wipe(&key, sizeof key);
  *
- *     struct luossavin_key key = luossavin_key_new(bytes, 16, 7);
- *     struct luossavin_answer a = luossavin_encrypt(4, key, label, label_len, text, n, iv, iv_len, out, room);
+ * Four duties are the caller's:
  *
- * A key that is no longer to encrypt is retired, and decrypts as before; what holds for records is said where
- * they are declared.
+ *   1. A new IV (nonce) for every message under a key. Two messages under one key and IV give each other's text away, and the means to forge.
+ *   2. Look at `number`. Anything but 0 is a refusal: nothing was written, and nothing may be shown.
+ *   3. A pointer leads to as many bytes as the length beside it says, and `out` overlaps no input.
+ *   4. A key's record, a state and H are as secret as the key: wipe them (luossavin_wipe), and what calls have left on the stack
+ *      (luossavin_wipe_stack).
  *
- * Every call on a record answers a number, a length, a count of missing bytes, the key's number and whether a
- * counter came round. The outcome, which is these five and every byte of the output buffer, follows from the
- * call's inputs alone:
+ * The reference follows: numbers and names, answers, keys, editions, messages, pieces, which edition, workers, shelf, journal, halves, wiping.
  *
- *   0  done            nothing below applies
- *   1  ErrorBlockSize  the key is not 16 bytes
- *   2  ErrorDataLen    Cbc decryption of a length that does not divide by 16
- *   3  InvalidLastU8   Cbc decryption: the last decrypted byte is 0 or above 16
- *   4  InvalidTag      Gcm decryption: the 16 bytes at the end are not the tag
- *   5  TooLong         a length limit is passed
- *   6  NoRoom          the output buffer is shorter than the room needed
- *   7  BadMode         the mode is above 4
- *   8  EmptyCbc        Cbc decryption of 0 bytes
- *   9  ShortGcm        Gcm decryption of fewer than 16 bytes; in pieces, a tag that has not 16
- *  10  WrongIv         the IV is not 16 bytes; in Gcm, neither 12 nor 16
- *  11  WrongBlock      the single block is not 16 bytes
- *  12  Ended           the message in pieces has come to its end
- *  13  WrongNumber     the key's number is not from 1 to 65,535
- *  14  Retired         encryption under a retired key
- *  15  InvalidPadding  Cbc decryption: the last decrypted byte p is 1 to 16, and not all p last bytes are p
- *  16  BadList         more than 64 candidate labels, or lengths that do not add up to the labels' buffer
- *  17  BadWorkers      a plan for no workers, or for more than 64
- *  18  NotAccepted     work by a plan that is none for so many bytes
- *  19  BadShelf        the buffer has more than 65,536 bytes, or its used bytes are no shelf
- *  20  NotHigher       the shelf has that edition of the job already, or a higher one
- *  21  NoShelfRoom     the records that would be current do not fit in the buffer
- *  22  NoCurrent       the shelf has no current record of the job
- *  23  BadRecord       a recorded call is cut or not marked, or its direction is neither 0 nor 1
- *  24  PartTooLong     a recorded label, data or IV has more than 16,384 bytes, or an output more than 16,400
- *  25  UnknownKey      a recorded call has the number of no key
- *  26  BadKeys         a replay with more than eight keys, with a retired one, or with a number twice
- *
- * Where several apply, the first of the call's order is the answer: of setting up a key 1, 13, which the calls
- * on that record then answer again where it stands in theirs; of a single block 1, 13, 11, 14, 6; of a message
- * 7, 1, 13, 10, 14, 5, then in Cbc 8, 2 or in Gcm 9, then 6, then in Cbc 3, 15 or in Gcm 4; of a message in
- * pieces 1, 13, 10, 14, 5 at the start, and from there on what the start was refused with, then 12, 5, 9, 6, 4;
- * of the question which label a file opens under 16, 1, 13, 10, 5, 9; of making a plan 17, 5; of a range 1, 13,
- * 10, 14, 5, 6; of work by a plan 1, 13, 10, 14, 5, 18, 6; of putting on a shelf 19, 20, 21; of collecting 19;
- * of looking up 19, 22; and of a replay 26, and then, record by record, 23, 24, 25.
- * Every number but 0 is a refusal: it reports length 0 and changes no byte of the output buffer.
- *
- * In refusal 9 `missing` is how many bytes were missing: 16 - n for n bytes of data, or for a tag of n bytes,
- * so 16 where there was none and 1 where there were 15 bytes; 0 for a tag of more than 16. In every other
- * answer, done or refused, it is 0.
- *
- * `key` is the number of the key that the call was on, whether it is done or refused; 0 where no key stands,
- * which is in refusals 7, 16, 1 and 13, and in every answer of making a plan, which is on no key.
- *
- * `came_round` is 1 where a counter came round within the message, from all ones to zero, and 0 otherwise; what
- * that means and what to do then is said below.
- *
- * When a call is done, the first `length` bytes of the output buffer are the result, and every byte
- * after them is as it was. For n bytes of data:
- *
- *                                room needed              length when done
- *   single block, either way     16                       16
- *   Cfb, Ofb, Ctr, either way    n                        n
- *   Cbc encryption               16 x (n / 16 + 1)        the same (n / 16 rounded down)
- *   Cbc decryption               n                        n less the last decrypted byte
- *   Gcm encryption               n + 16                   n + 16: the ciphertext and then the tag
- *   Gcm decryption               n - 16                   n - 16
- *
- * The limits: data to encrypt has at most 16,777,216 bytes; data to decrypt the same in Cfb, Ofb and
- * Ctr, and 16,777,232 in Cbc and Gcm. The label has at most 16,777,216 bytes in Gcm; the other modes
- * ignore it, whatever its length.
- *
- * The IV has 16 bytes in Cfb, Ofb, Ctr and Cbc, and 12 or 16 in Gcm. There its length says how J0, the
- * counter before those of the text, is made of it, as SP 800-38D has it:
- *
- *   12 bytes   the form that SP 800-38D recommends and RFC 8998 uses, for messages that are exchanged with
- *              a partner who follows either. J0 is the IV followed by 00000001, so that the text's counters
- *              start at 00000002; the IV is neither padded nor hashed;
- *   16 bytes   the form that the company's own files have. J0 is the hash of the IV.
- *
- * The output holds no IV: a message is decrypted under the bytes that it was encrypted under, and as many.
- * Nothing is claimed between a 12-byte IV and the 16-byte IV that extends it with 00000001.
- *
- * Ctr and Gcm number the blocks of a text by a counter: Ctr in all 16 bytes, from the IV on, and Gcm in the last
- * four, from the one after J0 on. After all ones it goes on at zero, and then it has come round. For n bytes of
- * text, which are b blocks of 16 with the last one rounded up, `came_round` is 1
- *
- *   in Ctr    exactly when b is at least 1 and the IV as a number, big-endian, plus b - 1 reaches 2^128: from an
- *             IV of all ones one block says 0, and two say 1;
- *   in Gcm    exactly when J0's last four bytes, as a number, plus b reach 2^32: where they are ffffffff a text
- *             of 0 bytes says 0, and one of 1 byte says 1. In decryption the text is the data without its tag.
- *             Under a 12-byte IV it is never 1 within the limits: that would take a text of almost 64 GiB.
- *
- * It is no refusal. The work is done all the same, either way, and bytes and length are what they would be without
- * the report. Only luossavin_encrypt and luossavin_decrypt in modes 2 and 4 can say 1, and in pieces the three
- * ends, of the whole message; they do so with number 0 alone. Every refusal says 0, 4 among them, and so do the
- * other modes, single blocks, starts, pieces, luossavin_which, plans, ranges and work by a plan.
- *
- * Within one message no counter is used twice, come round or not: the limits are far below that. But behind all
- * ones its counters start again at zero, where those of another message may stand: the second block under a Ctr IV
- * of all ones has the counter that the first has under an IV of zeros. Two blocks that have one counter under one
- * key have one key stream: who has both outputs learns how the texts differ, and who knows one text reads the
- * other. So a host that is told 1 takes another IV for the next file, and not one that it counts on from this
- * file's. To decrypt there is nothing to do: the text is right.
- *
- * A message may also come in pieces, in Ctr and Gcm: what holds for these is said where they are declared.
- * There it is also said how to ask which of up to 64 labels a Gcm message opens under, how several workers share
- * one Ctr message, how the editions of jobs are kept on a shelf, how recorded calls are replayed, and how the hashes of
- * two halves are joined.
- *
- * What no proof can see stays the host's duty, and a call that breaks it has no defined outcome:
- *
- *   - each pointer leads to as many bytes as the length beside it says, which nothing else writes
- *     during the call; that to the lengths of labels leads to as many of these as the count beside it
- *     says. Only an empty buffer may be NULL with length 0;
- *   - the output buffer overlaps no input, nor does a shelf that is put into. Inputs may overlap one another;
- *   - a bool is 0 or 1.
- *
- * The library remembers no IV: that no two messages are encrypted under the same key and IV, whatever its
- * length, is the host's to see to as well.
+ * The library keeps nothing between calls (but which of its two variants it takes on x86-64), allocates nothing, reads and writes only the
+ * buffers of the call, and every call returns. Any thread may make any call. Functions from luossavin_key_new to luossavin_hash_join are proved;
+ * those in _add and _finish, and the ones for names and wiping at the end, are not, and are tested.
  */
 #ifndef LUOSSAVIN_H
 #define LUOSSAVIN_H
@@ -138,8 +36,157 @@
 extern "C" {
 #endif
 
-/* 16 bytes, which come back in two registers. `missing`, `came_round` and `key` fill the hole that was between the
- * other two, which stand where they stood before these came. */
+/* On every call whose result must be looked at: a key that is not taken back is not retired, and a state that is dropped uses key stream twice. */
+#if defined(__GNUC__)
+#define LUOSSAVIN_MUST_USE __attribute__((warn_unused_result))
+#else
+#define LUOSSAVIN_MUST_USE
+#endif
+
+/* ---- Numbers and names ----
+ *
+ * The version of this header; luossavin_version() says that of the library. */
+/* numbers.txt: version */
+#define LUOSSAVIN_VERSION "1.0.0"
+/* numbers.txt: end */
+
+/* What an answer's `number` is. A later version may have more, up to 31: take what is not known for a refusal. */
+/* numbers.txt: refusals of C */
+enum luossavin_number {
+    LUOSSAVIN_DONE = 0,                   /* the call is done */
+    LUOSSAVIN_ERROR_BLOCK_SIZE = 1,       /* the key is not 16 bytes */
+    LUOSSAVIN_ERROR_DATA_LEN = 2,         /* Cbc decryption of a length that does not divide by 16 */
+    LUOSSAVIN_INVALID_LAST_U8 = 3,        /* Cbc decryption: the last decrypted byte is 0 or above 16 */
+    LUOSSAVIN_INVALID_TAG = 4,            /* Gcm decryption: the 16 bytes at the end are not the tag */
+    LUOSSAVIN_TOO_LONG = 5,               /* a length limit is passed */
+    LUOSSAVIN_NO_ROOM = 6,                /* the output buffer is shorter than the room needed */
+    LUOSSAVIN_BAD_MODE = 7,               /* the mode is above 4 */
+    LUOSSAVIN_EMPTY_CBC = 8,              /* Cbc decryption of 0 bytes */
+    LUOSSAVIN_SHORT_GCM = 9,              /* Gcm decryption of fewer than 16 bytes; in pieces, a tag that has not 16 */
+    LUOSSAVIN_WRONG_IV = 10,              /* the IV is not 16 bytes; in Gcm, neither 12 nor 16 */
+    LUOSSAVIN_WRONG_BLOCK = 11,           /* the single block is not 16 bytes */
+    LUOSSAVIN_ENDED = 12,                 /* the message in pieces has come to its end */
+    LUOSSAVIN_WRONG_NUMBER = 13,          /* the key's number is not from 1 to 65,535 */
+    LUOSSAVIN_RETIRED = 14,               /* encryption under a retired key */
+    LUOSSAVIN_INVALID_PADDING = 15,       /* Cbc decryption: the last decrypted byte p is 1 to 16, and not all p last bytes are p */
+    LUOSSAVIN_BAD_LIST = 16,              /* more than 64 candidate labels, or lengths that do not add up to the labels' buffer */
+    LUOSSAVIN_BAD_WORKERS = 17,           /* a plan for no workers, or for more than 64 */
+    LUOSSAVIN_NOT_ACCEPTED = 18,          /* work by a plan that is none for so many bytes */
+    LUOSSAVIN_BAD_SHELF = 19,             /* the buffer has more than 65,536 bytes, or its used bytes are no shelf */
+    LUOSSAVIN_NOT_HIGHER = 20,            /* the shelf has that edition of the job already, or a higher one */
+    LUOSSAVIN_NO_SHELF_ROOM = 21,         /* the records that would be current do not fit in the buffer */
+    LUOSSAVIN_NO_CURRENT = 22,            /* the shelf has no current record of the job */
+    LUOSSAVIN_BAD_RECORD = 23,            /* a recorded call is cut or not marked, or its direction is neither 0 nor 1 */
+    LUOSSAVIN_PART_TOO_LONG = 24,         /* a recorded label, data or IV has more than 16,384 bytes, or an output more than 16,400 */
+    LUOSSAVIN_UNKNOWN_KEY = 25,           /* a recorded call has the number of no key */
+    LUOSSAVIN_BAD_KEYS = 26,              /* a replay with more than eight keys, with a retired one, or with a number twice */
+};
+/* numbers.txt: end */
+
+/* numbers.txt: modes of C */
+enum luossavin_mode {
+    LUOSSAVIN_CFB = 0,                    /* cipher feedback, in segments of 16 bytes */
+    LUOSSAVIN_OFB = 1,                    /* output feedback */
+    LUOSSAVIN_CTR = 2,                    /* a counter of 16 bytes, which starts at the IV */
+    LUOSSAVIN_CBC = 3,                    /* cipher block chaining, with a padding of 1 to 16 bytes */
+    LUOSSAVIN_GCM = 4,                    /* Galois/counter mode: the one that seals, with a label (AAD) and a tag */
+};
+/* numbers.txt: end */
+
+/* How the rounds of SM4 are made. No answer and no byte depends on it. */
+/* numbers.txt: engines of C */
+enum luossavin_engine {
+    LUOSSAVIN_ENGINE_CHOSEN = 0,          /* the library chooses: gates where blocks do not wait for one another, four tables elsewhere */
+    LUOSSAVIN_ENGINE_TABLES = 1,          /* four tables of 1 KiB, which are looked up by key and text */
+    LUOSSAVIN_ENGINE_GATES = 2,           /* gates alone: no look-up and no branch by key or text */
+    LUOSSAVIN_ENGINE_PLAIN = 3,           /* one table of 1 KiB, which is looked up by key and text */
+};
+/* numbers.txt: end */
+
+/* Sizes in bytes, and counts. */
+/* numbers.txt: sizes of C */
+enum luossavin_size {
+    LUOSSAVIN_KEY_SIZE = 16,              /* a key, and a single block */
+    LUOSSAVIN_IV_SIZE = 16,               /* an IV in every mode */
+    LUOSSAVIN_SHORT_IV_SIZE = 12,         /* an IV in Gcm, as RFC 8998 has it */
+    LUOSSAVIN_TAG_SIZE = 16,              /* the tag at the end of a sealed message */
+    LUOSSAVIN_LABEL_SIZE = 6,             /* the label of a job and an edition */
+    LUOSSAVIN_LONGEST_TEXT = 16777216,    /* the most bytes of a text, and in Gcm of a label */
+    LUOSSAVIN_LONGEST_SEALED = 16777232,  /* the most bytes of a sealed message, and of one in Cbc */
+    LUOSSAVIN_MOST_LABELS = 64,           /* the most candidate labels of one question */
+    LUOSSAVIN_MOST_WORKERS = 64,          /* the most workers of a plan */
+    LUOSSAVIN_LARGEST_SHELF = 65536,      /* the most bytes of a shelf */
+    LUOSSAVIN_SHELF_HEAD = 12,            /* the bytes of a shelf's record before the sealed ones */
+    LUOSSAVIN_NUMBERS = 32,               /* the numbers that a replay has room to count, those to come among them */
+    LUOSSAVIN_MOST_KEYS = 8,              /* the most keys of a replay */
+    LUOSSAVIN_LONGEST_PART = 16384,       /* the most bytes of a recorded label, data or IV */
+    LUOSSAVIN_LONGEST_OUTPUT = 16400,     /* the most bytes of a recorded output */
+};
+/* numbers.txt: end */
+
+/* ---- Answers ----
+ *
+ * Every call on a key answers with these five, and they and every byte of the output follow from the call's inputs alone:
+ *
+ *   number      0, or the refusal: the first that applies, in the order below
+ *   missing     in refusal 9, how many bytes are missing of 16 (0 for a tag of more than 16); otherwise 0
+ *   came_round  1 where the counter of a Ctr or Gcm message came round (see below); otherwise 0
+ *   key         the key's number, done or refused; 0 where no key stands: in refusals 7, 16, 1, 13, of a plan and of a record
+ *   length      how many bytes at the front of `out` are the result. Every byte behind them is as it was. In a refusal it is 0, and no byte of
+ *               `out` is changed
+ *
+ *   of                          the order of its refusals
+ *   luossavin_key_new           1, 13; calls on that record answer them again
+ *   a single block              1, 13, 11, 14, 6
+ *   a message                   7, 1, 13, 10, 14, 5, then in Cbc 8, 2 or in Gcm 9, then 6, then in Cbc 3, 15 or in Gcm 4
+ *   a start of pieces           1, 13, 10, 14, 5
+ *   a piece, an end             what the start was refused with, then 12, 5, 9, 6, 4
+ *   luossavin_edition_opens     1, 13, 10, 5, 9, 4; sealing and opening an edition are those of a message
+ *   luossavin_which             16, 1, 13, 10, 5, 9
+ *   a plan; a range             17, 5; 1, 13, 10, 14, 5, 6
+ *   work by a plan              1, 13, 10, 14, 5, 18, 6
+ *   shelf: put, collect, find   19, 20, 21; 19; 19, 22
+ *   luossavin_record            24, 6
+ *   luossavin_replay            26, and then, record by record, 23, 24, 25
+ *
+ *   n bytes of data             room needed           length when done
+ *   single block, either way    16                    16
+ *   Cfb, Ofb, Ctr, either way   n                     n
+ *   Cbc encryption              16 x (n / 16 + 1)     the same (n / 16 rounded down)
+ *   Cbc decryption              n                     n less the padding
+ *   Gcm encryption              n + 16                n + 16: the ciphertext and then the tag
+ *   Gcm decryption              n - 16                n - 16
+ *
+ *   limits                      to encrypt            to decrypt            label (AAD)
+ *   Cfb, Ofb, Ctr               16,777,216            16,777,216            ignored, whatever its length
+ *   Cbc                         16,777,216            16,777,232            ignored, whatever its length
+ *   Gcm                         16,777,216            16,777,232            16,777,216
+ *
+ *   the IV (nonce)
+ *   Cfb, Ofb, Ctr, Cbc          16 bytes
+ *   Gcm, 12 bytes               as SP 800-38D recommends and RFC 8998 has it: J0 is the IV and then 00000001
+ *   Gcm, 16 bytes               as the company's own files have it: J0 is the GHASH of the IV, as SP 800-38D has it
+ *
+ * The output holds no IV: a message is decrypted under the bytes that it was encrypted under, and as many. Nothing is claimed between a 12-byte
+ * IV and the 16-byte IV that extends it with 00000001. The library remembers no IV.
+ *
+ * `came_round`: Ctr counts the blocks of a text in all 16 bytes, from the IV on, and Gcm in the last four, from the one after J0 on. Behind all
+ * ones a counter goes on at zero. For b blocks of text, the last one rounded up, it is 1
+ *
+ *   in Ctr   exactly where b is at least 1 and the IV as a big-endian number plus b - 1 reaches 2^128
+ *   in Gcm   exactly where J0's last four bytes as a number plus b reach 2^32; under a 12-byte IV never, within the limits
+ *
+ * It is no refusal: bytes and length are what they are without it, and to decrypt there is nothing to do. Who encrypts takes another IV for the
+ * next message, and not one that is counted on from this one's: behind all ones the counters start at zero, where those of another message may
+ * stand, and two blocks with one counter under one key have one key stream. Only luossavin_encrypt and luossavin_decrypt in Ctr and Gcm say 1,
+ * and in pieces the ends, of the whole message, each with number 0 alone.
+ *
+ * What breaks a duty has no defined outcome: a pointer that does not lead to as many bytes (or lengths of labels) as stand beside it, where only an
+ * empty buffer may be NULL with length 0; bytes that another thread writes during the call; an output, or a shelf that is put into, that overlaps
+ * an input (inputs may overlap one another); and a bool that is neither 0 nor 1.
+ *
+ * Layouts: every struct here stays as it is while the first number of the version does, the states among them. `by_answer` of a replay has room
+ * for 32 numbers, so that a new refusal changes no layout. */
 struct luossavin_answer {
     uint32_t number;
     uint8_t missing;
@@ -148,58 +195,41 @@ struct luossavin_answer {
     size_t length;
 };
 
-/* A key's record.
+/* ---- Keys ----
  *
- * `answer` is 0 for a key. Otherwise setting it up was refused, with that number, and the record is no key: its
- * other fields are 0, and the calls on it are refused with the same number. It need not be looked at, since
- * every call says so again.
- *
- * When a key is changed for another, the old one's files are still to open, and nothing new is to be sealed
- * under it. It is then retired, which is done to a copy of the record that takes its place:
+ * A key is set up once, under a number of its own, into a record that calls take by value. When another takes its place, it is retired, which is
+ * done to a copy that takes the place of the record:
  *
  *     key = luossavin_key_retire(key);
  *
- * A retired key decrypts and opens as before, in all five modes, Ofb and Ctr among them, and in pieces. Every
- * encryption under it is refusal 14, also that of a block and the start of sealing or of Ctr's encryption in
- * pieces. What was sealed before opens at any time, under the record as it was and under the retired one.
+ * A retired key decrypts and opens as before. Every encryption under it is refusal 14. The record is a value, and the host is to see to this:
  *
- * No call takes the mark back, but the record is a value, and the host is to see to this:
- *
- *   - a copy that was made before is not retired, and still encrypts;
- *   - a record that is set up anew from the same bytes is not retired: which numbers are is the host's to keep;
- *   - a message in pieces that was started before goes on to its end, since its state has all that it needs;
+ *   - a copy that was made before is not retired, nor is a record that is set up anew from the same bytes: which numbers are is the host's to keep;
+ *   - a message in pieces that was started before goes on to its end;
  *   - two keys with one number are not told apart by an answer;
- *   - a record is as secret as the key, retired or not: whoever has the round keys has the key. When it is no
- *     longer used it is the host's to overwrite, and so are copies of it, those on the stack of the caller among
- *     them.
+ *   - a record is as secret as the key, retired or not, and so are copies of it.
  *
- * A host can put anything into a record, and every call has an answer for every value:
+ * There is an answer for every value of every field:
  *
  *   round_keys   are used as they stand
- *   answer       0 is a key, 13 answers 13, and all else 1
+ *   answer       0 is a key; 13 answers 13, and all else 1: setting it up was refused, and every call on it says so again
  *   number       any value is repeated as it stands, 0 too
  *   retired      0 is not retired, and all else is
- *   engine       1 is the four tables, 2 the gates, 3 the plain engine, and with all else the library chooses
+ *   engine       LUOSSAVIN_ENGINE_TABLES, _GATES or _PLAIN; with all else the library chooses
  *
- * `engine` says how the rounds of SM4 are made, and nothing else: every call answers with the same numbers, reports
- * and bytes whatever it is (docs/SPEED.md has what each takes):
+ *   engine   it looks up by a secret     it is for
+ *   chosen   where it takes the tables   every use: gates in Ctr, Gcm, and decryption in Cfb and Cbc, at every length, in pieces, ranges and
+ *                                        luossavin_which too; four tables in Ofb, in encryption in Cfb and Cbc, and for single blocks
+ *   tables   4 KiB                       Ofb, and encryption in Cfb and Cbc, where a block waits for the one before it
+ *   gates    nothing                     Ctr, Gcm, and decryption in Cfb and Cbc, where up to 512 blocks go at once; where a block waits for the
+ *                                        one before it, it is some ten times slower than the tables
+ *   plain    1 KiB                       comparing
  *
- *   0  chosen       the library chooses, and it is what a key has that is set up: gates where blocks do not wait for one
- *                   another, which is Ctr, Gcm, and decryption in Cfb and Cbc, of any length, in pieces, ranges and
- *                   luossavin_which too; and four tables elsewhere, which is Ofb, encryption in Cfb and Cbc, and single
- *                   blocks
- *   1  tables       looks bytes up in 4 KiB that each call lays out on its stack. A block takes the fewest instructions
- *   2  gates        makes every byte by ands and exclusive ors, up to 512 blocks at once. It looks nothing up by a secret.
- *                   Where a block waits for the one before it, it is some ten times slower than the tables
- *   3  plain        looks bytes up in a table of 1 KiB
- *
- * Tables are read at places that depend on the key and the text, and so are not for a machine on which others may watch
- * the caches. The gates, and the hash of Gcm under every engine, are written to be constant-time: no place that is read
- * and no branch that is taken depends on the key, the text, the label or what comes of them. The exceptions are the
- * answer, which is whether a tag or a padding is right and how long the text then is, or which label it is; and
- * luossavin_replay, which compares outputs byte by byte and stops where one differs. The compiled library is looked at for
- * that (host/secrets); nothing is claimed about time. A key is set up by gates whatever engine it then has. A message in
- * pieces keeps the engine that its start had.
+ * What looks up by a secret is not for a machine on which others may watch the caches (a side channel). The gates, and GHASH under every engine,
+ * are written to be constant-time: no place that is read and no branch that is taken depends on key, text or label. The exceptions are the answer,
+ * which is whether a tag or a padding is right and how long the text then is, or which label it is; and luossavin_replay, which compares outputs
+ * byte by byte and stops where one differs. The compiled library is looked at for that (host/secrets); nothing is claimed about time. A key is set
+ * up by gates whatever engine it then has; a message in pieces keeps the engine of its start. docs/SPEED.md has what each takes.
  *
  * A call takes less than 48 KiB of the stack, on any engine, and luossavin_replay less than 64 KiB. */
 struct luossavin_key {
@@ -210,112 +240,122 @@ struct luossavin_key {
     uint8_t engine;
 };
 
-/* Sets up a key of 16 bytes under a number from 1 to 65,535. The record's `answer` is 0, 1 or 13; a key is not
+/* Sets up a key of 16 bytes under a number from 1 to 65,535. The record's `answer` is 0, 1 or 13, and need not be looked at; a key is not
  * retired, and its engine is chosen. */
+LUOSSAVIN_MUST_USE
 struct luossavin_key luossavin_key_new(const uint8_t *key, size_t key_len, uint32_t number);
 
-/* The same key with `retired` 1, whatever it was. A record that is no key, `answer` not 0, comes back with every
- * field as it was. */
+/* The same key with `retired` 1, whatever it was. A record that is no key, `answer` not 0, comes back with every field as it was. */
+LUOSSAVIN_MUST_USE
 struct luossavin_key luossavin_key_retire(struct luossavin_key key);
 
-/* The same record with another engine: `engine` of it is 1, 2 or 3 where that was asked for, and otherwise 0. Every other
+/* The same record with another engine: LUOSSAVIN_ENGINE_TABLES, _GATES or _PLAIN where that was asked for, and otherwise chosen. Every other
  * field is as it was, of a retired key and of a record that is no key too. */
+LUOSSAVIN_MUST_USE
 struct luossavin_key luossavin_key_engine(struct luossavin_key key, uint32_t engine);
 
-/* Encrypts one block of 16 bytes, as GB/T 32907-2016 has it. It answers 0 with length 16, or 1, 13, 11, 14
- * or 6. */
+/* ---- Editions ----
+ *
+ * Does this file open under this edition? A transcript is sealed in Gcm under the label of its job and its edition, six bytes: the job in four and
+ * the edition in two, big-endian. A file that opens under one edition opens under no other: where luossavin_edition_opens answers 0 for one, it
+ * answers 4 for every other job or edition. That is proved, for every key that does not encrypt the all-zero block to itself. */
+struct luossavin_label {
+    uint8_t bytes[6];
+};
+
+/* The label of a job and an edition. It has no refusals. */
+LUOSSAVIN_MUST_USE
+struct luossavin_label luossavin_label(uint32_t job, uint16_t edition);
+
+/* Whether a sealed file opens under a job and an edition: 0 exactly where luossavin_edition_open, given room, answers 0, and otherwise its refusal,
+ * 1, 4, 5, 9, 10 or 13. It is never 6: no text is made, and nothing is written. `length` and `came_round` are 0. The file is read once. The key
+ * may be retired. */
+LUOSSAVIN_MUST_USE
+struct luossavin_answer luossavin_edition_opens(struct luossavin_key key, uint32_t job, uint16_t edition,
+    const uint8_t *sealed, size_t sealed_len, const uint8_t *iv, size_t iv_len);
+
+/* luossavin_encrypt in Gcm under the label of the job and the edition. It answers 0, 1, 5, 6, 10, 13 or 14. */
+LUOSSAVIN_MUST_USE
+struct luossavin_answer luossavin_edition_seal(struct luossavin_key key, uint32_t job, uint16_t edition,
+    const uint8_t *text, size_t text_len, const uint8_t *iv, size_t iv_len, uint8_t *out, size_t room);
+
+/* luossavin_decrypt in Gcm under the label of the job and the edition. It answers 0, 1, 4, 5, 6, 9, 10 or 13. */
+LUOSSAVIN_MUST_USE
+struct luossavin_answer luossavin_edition_open(struct luossavin_key key, uint32_t job, uint16_t edition,
+    const uint8_t *sealed, size_t sealed_len, const uint8_t *iv, size_t iv_len, uint8_t *out, size_t room);
+
+/* ---- Messages ----
+ *
+ * One block of 16 bytes, as GB/T 32907-2016 has it. */
+LUOSSAVIN_MUST_USE
 struct luossavin_answer luossavin_block_encrypt(struct luossavin_key key,
     const uint8_t *block, size_t block_len, uint8_t *out, size_t room);
-
-/* Decrypts one block: what luossavin_block_encrypt made of a block under the same key gives that
- * block back. It answers 0 with length 16, or 1, 13, 11 or 6. */
+LUOSSAVIN_MUST_USE
 struct luossavin_answer luossavin_block_decrypt(struct luossavin_key key,
     const uint8_t *block, size_t block_len, uint8_t *out, size_t room);
 
-/* Encrypts `data`. The mode is 0 Cfb, 1 Ofb, 2 Ctr, 3 Cbc or 4 Gcm. The IV has 16 bytes; in Gcm it may have
- * 12. Cbc always adds 1 to 16 bytes of padding, each holding their count. Gcm seals `data` together with the
- * label `aad`, which is not part of the output, and puts a tag of 16 bytes at the end. Data of 0 bytes is
- * encrypted as any other. It answers 0, 1, 5, 6, 7, 10, 13 or 14. */
+/* Encrypts `data` in a mode. Cbc always adds 1 to 16 bytes of padding, each holding their count. Gcm seals `data` together with the label `aad`,
+ * which is not part of the output, and puts a tag of 16 bytes at the end. Data of 0 bytes is encrypted as any other. It answers 0, 1, 5, 6, 7, 10,
+ * 13 or 14. */
+LUOSSAVIN_MUST_USE
 struct luossavin_answer luossavin_encrypt(uint32_t mode, struct luossavin_key key,
     const uint8_t *aad, size_t aad_len, const uint8_t *data, size_t data_len,
     const uint8_t *iv, size_t iv_len, uint8_t *out, size_t room);
 
-/* Decrypts `data`: what luossavin_encrypt made of a message under the same mode, key, label and IV gives that
- * message back, and what is given back encrypts to `data` again, where it is within the limit and the key is not
- * retired. Whether it is retired makes no difference here. Gcm writes nothing before the tag is found to be
- * right, and Cbc nothing before the padding is. It answers 0 to 10, 13 or 15: 2, 3, 8 and 15 in Cbc alone, 4 and
- * 9 in Gcm alone.
+/* Decrypts `data`: what luossavin_encrypt made of a message under the same mode, key, label and IV gives that message back, and what is given back
+ * encrypts to `data` again, where it is within the limit. The key may be retired. Gcm writes nothing before the tag is found to be right, and Cbc
+ * nothing before the padding is. It answers 0 to 10, 13 or 15: 2, 3, 8 and 15 in Cbc alone, 4 and 9 in Gcm alone.
  *
- * Cbc reads all of the padding, as RFC 5652 has it. The last decrypted byte names how many bytes to drop; 3 says
- * that it names no padding, and 15 that it names one which the bytes before it do not bear out. In either case the
- * file is damaged near its end, or cut, or it was opened under a wrong key; a wrong IV shows so in a file of one
- * block alone. That a padding is right vouches for no more than the padding: only Gcm has a tag over all of the
- * text. And whoever may have messages of their own choice decrypted, and learns which were refused for their
- * padding, can work out a Cbc text from that: to others the answer is not to be shown. */
+ * Cbc reads all of the padding (RFC 5652). 3 says that the last byte names no padding, and 15 that the bytes before do not bear out the one that it
+ * names: the file is damaged near its end, or cut, or under another key. That a padding is right vouches for no more than the padding: only Gcm has
+ * a tag over all of the text. And 3, 15 and 0 told apart are a padding oracle: who may have messages of their own choice decrypted, and learns
+ * which were refused for their padding, can work out a Cbc text. Do not show the answer to others. */
+LUOSSAVIN_MUST_USE
 struct luossavin_answer luossavin_decrypt(uint32_t mode, struct luossavin_key key,
     const uint8_t *aad, size_t aad_len, const uint8_t *data, size_t data_len,
     const uint8_t *iv, size_t iv_len, uint8_t *out, size_t room);
 
-/* Messages in pieces.
+/* ---- Messages in pieces (streaming) ----
  *
- * A text that is still being written goes in as it comes, cut anywhere, also with nothing in a piece. There
- * are three kinds: Ctr, either way; Gcm sealing; and Gcm opening, which answers whether a message opens and
- * writes no text. Each has a start, pieces and an end. Whatever the cuts, the outputs of the pieces joined,
- * and sealing's tag behind them, are what the single call makes of the joined pieces; and opening answers 0
- * exactly when luossavin_decrypt, given room, opens the joined pieces with the tag behind them, and else 4.
+ * A text that is still being written goes in as it comes, cut anywhere, also with nothing in a piece: Ctr, either way; Gcm sealing; and Gcm opening,
+ * which answers whether a message opens and writes no text. Whatever the cuts, the outputs joined, and sealing's tag behind them, are what the
+ * single call makes of the joined pieces; and opening ends with 0 exactly where luossavin_decrypt, given room, opens the joined pieces with the tag
+ * behind them, and else with 4. Sealing:
  *
- * Each call takes a state by value and gives an answer beside the next state. A loop over pieces:
- *
- *     struct luossavin_seal_step start = luossavin_seal_start(key, label, label_len, iv, iv_len);
- *     struct luossavin_answer a = start.answer;
- *     while (a.number == 0 && (n = next_lines(text, sizeof text)) != 0) {
- *         a = luossavin_seal_add(&start.state, text, n, out, sizeof out);
+ *     struct luossavin_seal_step s = luossavin_seal_start(key, label, label_len, iv, iv_len);
+ *     struct luossavin_answer a = s.answer;
+ *     while (a.number == LUOSSAVIN_DONE && (n = next_lines(text, sizeof text)) != 0) {
+ *         a = luossavin_seal_add(&s.state, text, n, out, sizeof out);
  *         send(out, a.length);
  *     }
- *     if (a.number == 0) {
- *         a = luossavin_seal_finish(&start.state, out, sizeof out);
+ *     if (a.number == LUOSSAVIN_DONE) {
+ *         a = luossavin_seal_finish(&s.state, out, sizeof out);
  *         send(out, a.length);
  *     }
+ *     luossavin_wipe(&s, sizeof s);
  *
- * A refusal sends nothing here, since its length is 0. luossavin_seal_add, and the others in _add and _finish,
- * make the call and put the next state in the place of the one before. For a piece of n bytes:
+ * A refusal sends nothing here, since its length is 0. Use luossavin_seal_add, and the others in _add and _finish, on a state that stays in its
+ * place: they make the call and put the next state there. Calls in _piece and _end take a state by value, and give an answer beside the next one.
  *
- *                             room needed   length when done
- *   any start                 none          0
- *   a piece, Ctr or sealing   n             n
- *   a piece, opening          none          0
- *   Ctr's end                 none          0
- *   sealing's end             16            16: the tag
- *   opening's end             none          0
+ *   n bytes of a piece          room needed   length when done   answers
+ *   a start                     none          0                  0, 1, 13, 10, 14 for encryption, 5 for the label
+ *   a piece, Ctr or sealing     n             n                  0, 5, 6, 12
+ *   a piece, opening            none          0                  0, 5, 12
+ *   Ctr's end                   none          0                  0, 12
+ *   sealing's end               16            16: the tag        0, 6, 12
+ *   opening's end               none          0                  0 for yes, 4 for no, 9, 12
  *
- * The pieces of a message have at most 16,777,216 bytes together. The piece that would pass this is refused
- * with 5, so that an empty one is done where they have just as many.
+ * The pieces of a message have at most 16,777,216 bytes together; the one that would pass this is refusal 5. Only an end that answers 0, or 4 in
+ * opening, brings a message to its end, and all calls after it answer 12. Every other refusal gives back the state as it was: a piece that found no
+ * room may come again with more. A start that is refused gives a record of the refusal, and every call on that answers the same number. An end
+ * that answers 0 says whether a counter came round, of all pieces together.
  *
- * Only an end that answers 0, or 4 in opening, brings a message to its end, and all calls after it answer 12.
- * Every other refusal gives back the state as it was, and the message may go on: a piece that found no room
- * may come again with more, and so may an end that was refused for its room or for its tag's length. A start
- * that is refused gives no state but a record of the refusal, and every call on that answers the same number.
- * Every answer has the key's number, as the start's had it: those of refusals, and those after an end, too.
+ * What is in a state is the library's own: a host copies a state and hands it on, and neither looks into it nor keeps it in a file. Every call has an
+ * answer for whatever stands there. The host is to see to this:
  *
- * Whether a counter came round is said once, by the end that answers 0, of all pieces together, as the single call
- * says it. Starts and pieces say 0, also the piece in which it came round, and so does every refusal: an end that
- * was refused says it when it is done.
- *
- * What is in a state is the library's own, and another release may have it otherwise: a host copies a state
- * and hands it on, and neither looks into it nor keeps it in a file. Whatever a host may put into one, every
- * call has an answer, in the order above, and touches nothing that was not lent; a count over its limit there
- * is refusal 5, and `came_round` is 0 or 1. The host is to see to this:
- *
- *   - an older copy of a state still works, as the state that it was. Two texts that go through copies of one
- *     state, of Ctr or of sealing, use one key stream twice, as two messages under one key and IV do: who has
- *     both outputs learns how the texts differ, and from two tags may come to forge others. A copy may go on
- *     with the same text only;
- *   - a state is as secret as the key: those of Ctr and sealing encrypt and decrypt, and that of opening makes
- *     tags. After an end that answered 0 or 4 it holds nothing more. Until then, and where no end comes, it is
- *     the host's to overwrite, and so are copies of it, those on the stack of the caller among them;
- *   - a piece of opening is done whatever it holds. No text may be shown, or acted on, before opening's end
- *     has answered 0 for all of it.
- */
+ *   - an older copy of a state still works, as the state that it was: two texts that go through copies of one state use one key stream twice;
+ *   - a state is as secret as the key until an end has answered 0 or 4; after that it holds nothing more;
+ *   - no text may be shown, or acted on, before opening's end has answered 0 for all of it. */
 struct luossavin_flow {
     uint8_t counter[16];
     uint8_t pad[16];
@@ -370,93 +410,64 @@ struct luossavin_opens_step {
     struct luossavin_opens state;
 };
 
-/* Ctr under an IV of 16 bytes. Encryption and decryption give the same bytes; which of them it is the start
- * takes, since a retired key starts decryption alone. The start answers 0, 1, 13, 10, or 14 for encryption, a
- * piece 0, 5, 6 or 12, and the end, which writes nothing, 0 or 12. */
+/* Ctr under an IV of 16 bytes. Encryption and decryption give the same bytes; a retired key starts decryption alone. */
+LUOSSAVIN_MUST_USE
 struct luossavin_ctr_step luossavin_ctr_start(struct luossavin_key key, bool decrypt,
     const uint8_t *iv, size_t iv_len);
+LUOSSAVIN_MUST_USE
 struct luossavin_ctr_step luossavin_ctr_piece(struct luossavin_ctr state,
     const uint8_t *data, size_t data_len, uint8_t *out, size_t room);
+LUOSSAVIN_MUST_USE
 struct luossavin_ctr_step luossavin_ctr_end(struct luossavin_ctr state);
 
-/* Gcm encryption under an IV of 12 or 16 bytes and the whole label. The start answers 0, 1, 13, 10, 14, or 5
- * for the label, a piece 0, 5, 6 or 12, and the end, which writes the tag, 0, 6 or 12. */
+/* Gcm encryption under an IV of 12 or 16 bytes and the whole label. The end writes the tag. */
+LUOSSAVIN_MUST_USE
 struct luossavin_seal_step luossavin_seal_start(struct luossavin_key key,
     const uint8_t *aad, size_t aad_len, const uint8_t *iv, size_t iv_len);
+LUOSSAVIN_MUST_USE
 struct luossavin_seal_step luossavin_seal_piece(struct luossavin_seal state,
     const uint8_t *data, size_t data_len, uint8_t *out, size_t room);
+LUOSSAVIN_MUST_USE
 struct luossavin_seal_step luossavin_seal_end(struct luossavin_seal state, uint8_t *out, size_t room);
 
-/* Whether a Gcm message opens, under the key, label and IV that it was sealed under. The pieces are those of
- * the ciphertext; the tag of 16 bytes comes with the end. The key may be retired. The start answers 0, 1, 13,
- * 10, or 5 for the label, a piece 0, 5 or 12, and the end 0 for yes, 4 for no, 9 or 12. */
+/* Whether a Gcm message opens, under the key, label and IV that it was sealed under. The pieces are those of the ciphertext; the tag of 16 bytes
+ * comes with the end. The key may be retired. */
+LUOSSAVIN_MUST_USE
 struct luossavin_opens_step luossavin_opens_start(struct luossavin_key key,
     const uint8_t *aad, size_t aad_len, const uint8_t *iv, size_t iv_len);
+LUOSSAVIN_MUST_USE
 struct luossavin_opens_step luossavin_opens_piece(struct luossavin_opens state,
     const uint8_t *data, size_t data_len);
+LUOSSAVIN_MUST_USE
 struct luossavin_opens_step luossavin_opens_end(struct luossavin_opens state,
     const uint8_t *tag, size_t tag_len);
 
-/* Pieces and ends on a state that stays in its place: the one before cannot be gone on with by mistake. */
+/* Pieces and ends on a state that stays in its place: the one before cannot be gone on with by mistake, and no copy of it is left in the caller's
+ * own part of the stack. */
+LUOSSAVIN_MUST_USE
+struct luossavin_answer luossavin_ctr_add(struct luossavin_ctr *state,
+    const uint8_t *data, size_t data_len, uint8_t *out, size_t room);
+LUOSSAVIN_MUST_USE
+struct luossavin_answer luossavin_ctr_finish(struct luossavin_ctr *state);
+LUOSSAVIN_MUST_USE
+struct luossavin_answer luossavin_seal_add(struct luossavin_seal *state,
+    const uint8_t *data, size_t data_len, uint8_t *out, size_t room);
+LUOSSAVIN_MUST_USE
+struct luossavin_answer luossavin_seal_finish(struct luossavin_seal *state, uint8_t *out, size_t room);
+LUOSSAVIN_MUST_USE
+struct luossavin_answer luossavin_opens_add(struct luossavin_opens *state, const uint8_t *data, size_t data_len);
+LUOSSAVIN_MUST_USE
+struct luossavin_answer luossavin_opens_finish(struct luossavin_opens *state, const uint8_t *tag, size_t tag_len);
 
-static inline struct luossavin_answer luossavin_ctr_add(struct luossavin_ctr *state,
-    const uint8_t *data, size_t data_len, uint8_t *out, size_t room)
-{
-    struct luossavin_ctr_step step = luossavin_ctr_piece(*state, data, data_len, out, room);
-    *state = step.state;
-    return step.answer;
-}
-
-static inline struct luossavin_answer luossavin_ctr_finish(struct luossavin_ctr *state)
-{
-    struct luossavin_ctr_step step = luossavin_ctr_end(*state);
-    *state = step.state;
-    return step.answer;
-}
-
-static inline struct luossavin_answer luossavin_seal_add(struct luossavin_seal *state,
-    const uint8_t *data, size_t data_len, uint8_t *out, size_t room)
-{
-    struct luossavin_seal_step step = luossavin_seal_piece(*state, data, data_len, out, room);
-    *state = step.state;
-    return step.answer;
-}
-
-static inline struct luossavin_answer luossavin_seal_finish(struct luossavin_seal *state,
-    uint8_t *out, size_t room)
-{
-    struct luossavin_seal_step step = luossavin_seal_end(*state, out, room);
-    *state = step.state;
-    return step.answer;
-}
-
-static inline struct luossavin_answer luossavin_opens_add(struct luossavin_opens *state,
-    const uint8_t *data, size_t data_len)
-{
-    struct luossavin_opens_step step = luossavin_opens_piece(*state, data, data_len);
-    *state = step.state;
-    return step.answer;
-}
-
-static inline struct luossavin_answer luossavin_opens_finish(struct luossavin_opens *state,
-    const uint8_t *tag, size_t tag_len)
-{
-    struct luossavin_opens_step step = luossavin_opens_end(*state, tag, tag_len);
-    *state = step.state;
-    return step.answer;
-}
-
-/* Which edition does this file open under?
+/* ---- Which edition does this file open under? ----
  *
- * It is asked of a Gcm message, the file, with up to 64 candidate labels. These lie one after another in one
- * buffer, with nothing between them; their lengths are in an array beside it, in the same order, and add up to
- * the buffer's. A candidate may be empty, and may come more than once. The limit of a label holds for each of
- * them, and not for the buffer. With two labels of six bytes:
+ * Asked of a Gcm message with up to 64 candidate labels. These lie one after another in one buffer, with nothing between them; their lengths are
+ * in an array beside it, and add up to the buffer's. A candidate may be empty, and may come more than once.
  *
  *     const uint8_t labels[12] = {0, 0, 0, 7, 0, 1, 0, 0, 0, 7, 0, 2};
- *     const size_t lengths[2] = {6, 6};
+ *     const size_t lengths[2] = {LUOSSAVIN_LABEL_SIZE, LUOSSAVIN_LABEL_SIZE};
  *     struct luossavin_found f = luossavin_which(key, file, file_len, iv, iv_len, labels, 12, lengths, 2);
- *     if (f.answer.number != 0) {
+ *     if (f.answer.number != LUOSSAVIN_DONE) {
  *         say_refused(f.answer.number);
  *     } else if (f.found == 1) {
  *         say_opens_under(labels + f.start, f.length);
@@ -464,35 +475,20 @@ static inline struct luossavin_answer luossavin_opens_finish(struct luossavin_op
  *         say_none_opens();
  *     }
  *
- * There are three ways for it to end:
+ *   it ends      number    found
+ *   found        0         1       the candidate at `place`, counted from 0, is the first that opens the file: luossavin_decrypt, given room,
+ *                                  answers 0 under it, and 4 under each before it. It is the `length` bytes of the buffer from `start` on
+ *   none         0         0       luossavin_decrypt answers 4 under every candidate: another label, key or IV, or a damaged file
+ *   refused      not 0     0       nothing is said of any candidate
  *
- *   found     number 0 and `found` 1. The candidate at `place`, counted from 0, is the first that opens the
- *             file, and is the `length` bytes of the buffer from `start` on: luossavin_decrypt, given room,
- *             answers 0 under it, and 4 under each candidate before it. Of equal labels it is the first. Of
- *             those after it nothing is said;
- *   none      number 0 and `found` 0. That is no refusal: luossavin_decrypt answers 4 under every candidate.
- *             The file was sealed under a label that is not among them, or under another key or IV, or it is
- *             damaged; which of these is not told. Without candidates, where nothing is refused, it is none;
- *   refused   the number is not 0, and nothing is said of any candidate.
- *
- * `place`, `start` and `length` are 0 unless `found` is 1. They do not say whether there is one: the first
- * candidate has place and start 0, and an empty one that is found has length 0. Callers go by `found`.
- *
- * The refusals, in their order:
- *
- *   16      the count is above 64, or the lengths do not add up to labels_len. The sum does not come round:
- *           2^64 - 1 and 2 are not 1. Without candidates the buffer is empty as well
+ *   16      the count is above 64, or the lengths do not add up to labels_len; the sum does not come round
  *    1, 13  the record is no key
  *   10      the IV has neither 12 nor 16 bytes
- *    5      the file has more than 16,777,232 bytes, or any one label more than 16,777,216, also one that
- *           comes after a candidate which would open the file
+ *    5      the file has more than 16,777,232 bytes, or any one label more than 16,777,216
  *    9      the file has fewer than 16 bytes, and `missing` says how many it lacks
  *
- * A retired key is asked as any other. Refusal 4 is not given here: where no tag is right, it is none.
- *
- * No text is made and nothing is written: there is no output buffer, and `answer.length` is always 0. The answer
- * speaks of labels and shows nothing of the file's text. A text may be shown, or acted on, only once
- * luossavin_decrypt has opened the file under the label found. */
+ * `place`, `start` and `length` are 0 unless `found` is 1: go by `found`. A retired key is asked as any other. No text is made and nothing is
+ * written. A text may be shown only once luossavin_decrypt has opened the file under the label found. */
 struct luossavin_found {
     struct luossavin_answer answer;
     uint32_t found;
@@ -501,12 +497,12 @@ struct luossavin_found {
     size_t length;
 };
 
-/* Asks it of the file `sealed`. It answers 0, 1, 5, 9, 10, 13 or 16. */
+LUOSSAVIN_MUST_USE
 struct luossavin_found luossavin_which(struct luossavin_key key, const uint8_t *sealed, size_t sealed_len,
     const uint8_t *iv, size_t iv_len, const uint8_t *labels, size_t labels_len,
     const size_t *lengths, size_t count);
 
-/* One Ctr message among several workers.
+/* ---- One Ctr message among several workers ----
  *
  * Ctr can start at any byte. A range is a stretch of a message, so many bytes from an offset on: its output is that
  * stretch of what the single call makes of the whole message, whatever is before and after it, and offset 0 with all
@@ -563,24 +559,28 @@ struct luossavin_planned {
 
 /* A plan of n bytes for 1 to 64 workers. It answers 0; 17 for another number of workers; or 5 where n is over
  * 16,777,216. Its key's number and length are 0. */
+LUOSSAVIN_MUST_USE
 struct luossavin_planned luossavin_plan_make(size_t n, size_t workers);
 
 /* Whether a plan is accepted for n bytes. It has no refusals, and n no limit. */
+LUOSSAVIN_MUST_USE
 bool luossavin_plan_accepts(struct luossavin_plan plan, size_t n);
 
 /* Ctr of `data`, which stands at `offset` of its message, under the message's IV of 16 bytes. Encryption and
  * decryption give the same bytes; a retired key decrypts alone. It answers 0, 1, 13, 10, 14 for encryption, 5 where
  * the range ends behind byte 16,777,216, or 6. The sum does not come round: an offset may be 2^64 - 1, which is 5
  * whatever the length, and nothing at offset 16,777,216 is done. */
+LUOSSAVIN_MUST_USE
 struct luossavin_answer luossavin_ctr_range(struct luossavin_key key, bool decrypt, const uint8_t *iv, size_t iv_len,
     size_t offset, const uint8_t *data, size_t data_len, uint8_t *out, size_t room);
 
 /* Ctr of a whole message, range by range as a plan has it. It answers 0, 1, 13, 10, 14 for encryption, 5, 18 where
  * the plan is not accepted for data_len bytes, or 6. */
+LUOSSAVIN_MUST_USE
 struct luossavin_answer luossavin_ctr_by_plan(struct luossavin_key key, bool decrypt, const uint8_t *iv, size_t iv_len,
     struct luossavin_plan plan, const uint8_t *data, size_t data_len, uint8_t *out, size_t room);
 
-/* A shelf: sealed files in one buffer, of which the newest edition of each job is current.
+/* ---- A shelf: sealed files in one buffer, of which the newest edition of each job is current ----
  *
  * The buffer has at most 65,536 bytes. Its first `used` bytes, a count that the caller keeps, are records, one behind
  * another; what is behind them is the caller's. An empty shelf has used 0. A record is, all numbers big-endian:
@@ -589,14 +589,15 @@ struct luossavin_answer luossavin_ctr_by_plan(struct luossavin_key key, bool dec
  *   bytes 2 to 5       the job
  *   bytes 6 and 7      the edition
  *   bytes 8 to 11      how many sealed bytes follow
- *   from byte 12 on    the sealed bytes, as luossavin_encrypt gave them in mode 4; they are not looked at
+ *   from byte 12 on    the sealed bytes, as luossavin_encrypt gave them in Gcm; they are not looked at
  *
  * Bytes 2 to 7 are the label of the job and the edition, so that a record that is found is opened under its own label:
  *
  *     struct luossavin_shelved r = luossavin_shelf_find(shelf, size, used, job);
- *     if (r.number == 0) {
+ *     if (r.number == LUOSSAVIN_DONE) {
  *         const uint8_t *record = shelf + r.start;
- *         a = luossavin_decrypt(4, key, record + 2, 6, record + 12, r.length - 12, iv, iv_len, out, room);
+ *         a = luossavin_decrypt(LUOSSAVIN_GCM, key, record + 2, LUOSSAVIN_LABEL_SIZE, record + LUOSSAVIN_SHELF_HEAD,
+ *             r.length - LUOSSAVIN_SHELF_HEAD, iv, iv_len, out, room);
  *     }
  *
  * A job has one current record or none. Putting in an edition makes its record the current one, and marks the one that
@@ -632,16 +633,19 @@ struct luossavin_shelved {
 };
 
 /* Puts in an edition of a job. It answers 0, 19, 20 or 21, with the used count after the call. */
+LUOSSAVIN_MUST_USE
 struct luossavin_shelf luossavin_shelf_put(uint8_t *shelf, size_t size, size_t used, uint32_t job, uint16_t edition,
     const uint8_t *sealed, size_t sealed_len);
 
 /* Throws out every superseded record. It answers 0 or 19, with the used count after the call. */
+LUOSSAVIN_MUST_USE
 struct luossavin_shelf luossavin_shelf_collect(uint8_t *shelf, size_t size, size_t used);
 
 /* Looks up a job's current record, all of it: `length` bytes of the buffer from `start` on. It answers 0, 19 or 22. */
+LUOSSAVIN_MUST_USE
 struct luossavin_shelved luossavin_shelf_find(const uint8_t *shelf, size_t size, size_t used, uint32_t job);
 
-/* A journal: recorded calls of luossavin_encrypt and luossavin_decrypt, which are made again and added up.
+/* ---- A journal: recorded calls of luossavin_encrypt and luossavin_decrypt, which are made again and added up ----
  *
  * A journal is records, one behind another, with nothing between them and nothing at the end; one of 0 bytes has none.
  * Two journals joined are a journal. A record is, all numbers big-endian:
@@ -667,7 +671,7 @@ struct luossavin_shelved luossavin_shelf_find(const uint8_t *shelf, size_t size,
  *
  *     struct luossavin_keys keys = {.count = 2, .keys = {old, current}};
  *     struct luossavin_replayed r = luossavin_replay(keys, file, file_len);
- *     if (r.number != 0) {
+ *     if (r.number != LUOSSAVIN_DONE) {
  *         say_refused(r.number, r.place);
  *     }
  *     if (r.differs == 1) {
@@ -680,7 +684,7 @@ struct luossavin_shelved luossavin_shelf_find(const uint8_t *shelf, size_t size,
  *
  *   records      how many there are
  *   by_mode      how many in each mode from 0 to 4, and at place 5 those of every mode above, which answer 7
- *   by_answer    how many with each number
+ *   by_answer    how many with each number; those that no refusal has yet are 0
  *   bytes_in     the bytes of their data, of refused calls too; labels and IVs are not counted
  *   bytes_out    the lengths that they answer
  *
@@ -719,15 +723,31 @@ struct luossavin_replayed {
     size_t first_place;
     uint64_t records;
     uint64_t by_mode[6];
-    uint64_t by_answer[27];
+    uint64_t by_answer[LUOSSAVIN_NUMBERS];
     uint64_t bytes_in;
     uint64_t bytes_out;
 };
 
+/* Writes the record of a call: whether it was decryption, its mode, the number of the key that it was on, its label, data and IV, its room, the
+ * number that it answered, and its output, which of a refusal is empty. It answers 0 with the length of the record; 24 where a part or the output
+ * has more bytes than can be recorded; or 6. The room needed is 27 bytes and those of the four parts. A mode or an answer above 255 is recorded as
+ * 255, and a room above 2^32 - 1 as that: the calls answer alike.
+ *
+ *     a = luossavin_encrypt(mode, key, aad, aad_len, data, data_len, iv, iv_len, out, room);
+ *     r = luossavin_record(false, mode, key.number, aad, aad_len, data, data_len, iv, iv_len, room, a.number, out, a.length,
+ *         journal + used, sizeof journal - used);
+ *     used += r.length;
+ */
+LUOSSAVIN_MUST_USE
+struct luossavin_answer luossavin_record(bool decrypt, uint32_t mode, uint16_t key, const uint8_t *aad, size_t aad_len,
+    const uint8_t *data, size_t data_len, const uint8_t *iv, size_t iv_len, size_t room, uint32_t number,
+    const uint8_t *output, size_t output_len, uint8_t *out, size_t out_room);
+
 /* Replays the journal `file`. It answers 0, 23, 24, 25 or 26. */
+LUOSSAVIN_MUST_USE
 struct luossavin_replayed luossavin_replay(struct luossavin_keys keys, const uint8_t *file, size_t file_len);
 
-/* Hash the halves and join them.
+/* ---- Hash the halves and join them (GHASH) ----
  *
  * Two servers each hold half a long ciphertext, and its tag is wanted. Gcm's hash of a whole can be made of the
  * hashes of its halves: each is hashed by itself, from 0 on, and the two are joined,
@@ -765,12 +785,39 @@ struct luossavin_hash {
 };
 
 /* The hash of `bytes` in blocks under the key h, zeros to the last block's end. */
+LUOSSAVIN_MUST_USE
 struct luossavin_hash luossavin_hash_blocks(struct luossavin_hash h, const uint8_t *bytes, size_t bytes_len);
 
 /* Two hashes under the key h joined, the second of so many blocks. H is raised to that by squaring, so that the
  * largest count takes 64 squarings. */
+LUOSSAVIN_MUST_USE
 struct luossavin_hash luossavin_hash_join(struct luossavin_hash h, struct luossavin_hash first,
     struct luossavin_hash second, uint64_t second_blocks);
+
+/* ---- Wiping, and names ----
+ *
+ * Not proved: a few lines of C, which are tested.
+ *
+ * luossavin_wipe overwrites `size` bytes with zeros, by writes that no compiler leaves out. Wipe a key's bytes, its record, a state, H and hashes
+ * made with it, a text and a journal.
+ *
+ * luossavin_wipe_stack overwrites what the calls before it have left below the caller's own part of the stack, 64 KiB of it: copies of round keys,
+ * states, H, key stream. A call takes records by value, and a compiler may keep the copies that it hands over in the function that makes the call:
+ * so wipe records and states in the function that holds them, return from it, and call this from the one above:
+ *
+ *     static int serve(..) { .. luossavin_wipe(&key, sizeof key); return status; }
+ *     status = serve(..);
+ *     luossavin_wipe_stack();
+ *
+ * Neither reaches what is in registers, in pages that were swapped out, or in copies that the host itself has made. */
+void luossavin_wipe(void *bytes, size_t size);
+void luossavin_wipe_stack(void);
+
+/* The version of the library, as LUOSSAVIN_VERSION has it. */
+const char *luossavin_version(void);
+
+/* The name of a number, "InvalidTag" of 4 and "Done" of 0; "Unknown" where it is none. */
+const char *luossavin_refusal_name(uint32_t number);
 
 #ifdef __cplusplus
 }

@@ -130,6 +130,10 @@ luossavin_\name:
 	luossavin_exported	block_decrypt
 	luossavin_exported	encrypt
 	luossavin_exported	decrypt
+	luossavin_exported	label
+	luossavin_exported	edition_seal
+	luossavin_exported	edition_open
+	luossavin_exported	edition_opens
 	luossavin_exported	ctr_start
 	luossavin_exported	ctr_piece
 	luossavin_exported	ctr_end
@@ -147,6 +151,7 @@ luossavin_\name:
 	luossavin_exported	shelf_put
 	luossavin_exported	shelf_find
 	luossavin_exported	shelf_collect
+	luossavin_exported	record
 	luossavin_exported	replay
 	luossavin_exported	hash_blocks
 	luossavin_exported	hash_join

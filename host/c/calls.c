@@ -1,5 +1,7 @@
 #include "calls.h"
 
+#include "prepared.h"
+
 #include <stddef.h>
 #include <string.h>
 
@@ -23,7 +25,7 @@ struct luossavin_answer call_whole(const struct whole *w, struct luossavin_key k
 
 void seal_blocks(struct luossavin_key key, const uint8_t *iv, const uint8_t *text, size_t length, uint8_t *out)
 {
-    luossavin_encrypt(CBC, key, NULL, 0, text, length, iv, 16, out, length + 16);
+    prepared(luossavin_encrypt(CBC, key, NULL, 0, text, length, iv, 16, out, length + 16));
 }
 
 struct luossavin_found call_search(const struct search *s, struct luossavin_key key, const uint8_t *file,

@@ -456,6 +456,7 @@ static void all(int with_limits)
     keys();
     pieces(with_limits);
     which(with_limits);
+    asked_editions(with_limits);
     workers(with_limits);
     shelves(with_limits);
     journals(with_limits);

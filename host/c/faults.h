@@ -54,6 +54,7 @@ struct buffer message(const struct whole *w, struct beside b);
 void keys(void);
 void pieces(int with_limits);
 void which(int with_limits);
+void asked_editions(int with_limits);
 void workers(int with_limits);
 void shelves(int with_limits);
 void journals(int with_limits);

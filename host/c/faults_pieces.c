@@ -4,6 +4,7 @@
  */
 #include "faults.h"
 #include "calls.h"
+#include "prepared.h"
 #include "wrap.h"
 
 #include <stdio.h>
@@ -56,7 +57,7 @@ static void begin(enum kind kind, size_t before, struct state *s)
     const struct given given = {.key = record(holders[0]), .iv = iv, .iv_len = 16};
     static uint8_t out[LIMIT];
     near_wrap(kind == COUNTING ? CTR : GCM, iv);
-    luossavin_encrypt(GCM, given.key, NULL, 0, text, before, iv, 16, sealed, sizeof sealed);
+    prepared(luossavin_encrypt(GCM, given.key, NULL, 0, text, before, iv, 16, sealed, sizeof sealed));
     if (call_start(kind, s, &given).number != 0
         || call_piece(s, kind == OPENING ? sealed : text, before, out, sizeof out).number != 0) {
         fprintf(stderr, "no message to begin with\n");

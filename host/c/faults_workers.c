@@ -3,6 +3,7 @@
 #include "faults.h"
 
 #include "calls.h"
+#include "prepared.h"
 
 #include <stdio.h>
 #include <stdlib.h>
@@ -33,7 +34,7 @@ static int result_is(const struct stretch *s, struct buffer iv, struct buffer da
         exit(2);
     }
     memcpy(text + front, data.bytes, s->data);
-    luossavin_decrypt(CTR, record(s->key), NULL, 0, text, n, iv.bytes, 16, single, n);
+    prepared(luossavin_decrypt(CTR, record(s->key), NULL, 0, text, n, iv.bytes, 16, single, n));
     same = memcmp(single + front, out.bytes, s->data) == 0;
     free(text);
     return same;

@@ -1,6 +1,8 @@
-/* What is answered with yes or no, or with a place, under secrets: tags and paddings that are wrong, and the question which
- * label a file opens under. Where they are wrong goes by the secrets; that they are, and what is answered, does not. */
+/* What is answered with yes or no, or with a place, under secrets: tags and paddings that are wrong, and the questions which
+ * label a file opens under, and whether it does under an edition. Where they are wrong goes by the secrets; that they are, and what is answered, does not. */
 #include "secrets.h"
+
+#include "prepared.h"
 
 #include <stdio.h>
 #include <stdlib.h>
@@ -47,7 +49,7 @@ static void which_label(size_t iv_len, size_t n, uint32_t opens)
 {
     static const size_t sizes[4] = {3, 0, 20, 14};
     struct luossavin_found f;
-    luossavin_encrypt(GCM, key, label + 3, opens ? 20 : 21, text, n, iv, iv_len, out, sizeof out);
+    prepared(luossavin_encrypt(GCM, key, label + 3, opens ? 20 : 21, text, n, iv, iv_len, out, sizeof out));
     watch(ROUNDS | ANSWERS, "which label, %zu bytes, an IV of %zu, %s", n, iv_len, opens ? "the third" : "none");
     f = luossavin_which(key, out, n + 16, iv, iv_len, label, sizeof label, sizes, 4);
     is_answered(&f.answer, 0);
@@ -58,12 +60,25 @@ static void which_label(size_t iv_len, size_t n, uint32_t opens)
     }
 }
 
+/* A file that was sealed as edition 2 of a job, and is asked about as that and as edition 3. */
+static void edition(size_t iv_len, size_t n)
+{
+    struct luossavin_answer a = luossavin_edition_seal(key, 7, 2, text, n, iv, iv_len, out, sizeof out);
+    is_answered(&a, 0);
+    for (uint16_t edition = 2; edition <= 3; edition++) {
+        watch(ROUNDS | ANSWERS, "whether edition %u opens, %zu bytes, an IV of %zu", edition, n, iv_len);
+        a = luossavin_edition_opens(key, 7, edition, out, n + 16, iv, iv_len);
+        is_answered(&a, edition == 2 ? 0 : 4);
+    }
+}
+
 void answers(void)
 {
     for (size_t i = 0; i < lengths_count; i++) {
         wrong_tag(lengths[i]);
         which_label(16, lengths[i], 1);
         which_label(16, lengths[i], 0);
+        edition(16, lengths[i]);
         wrong_paddings(lengths[i] / 16 * 16 + 16 <= MOST - 16 ? lengths[i] / 16 * 16 : MOST - 32);
     }
     which_label(12, 100, 1);

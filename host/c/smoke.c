@@ -1,10 +1,10 @@
 /* The library called from C: the answer's layout, every mode there and back, Gcm under both lengths of IV,
  * each refusal, what comes first where two things are wrong, and no byte written that is not part of a
  * result; Cbc's padding (smoke_padding.c); the same of keys, retired or not (smoke_keys.c), of messages in pieces
- * (smoke_pieces.c), and of which label a file opens under (smoke_which.c); counters that come round
+ * (smoke_pieces.c), of which label a file opens under (smoke_which.c), and of editions (smoke_edition.c); counters that come round
  * (smoke_round.c); ranges and plans for several workers (smoke_workers.c); shelves (smoke_shelf.c); replay of recorded
  * calls (smoke_journal.c); hashes of halves (smoke_halves.c); the engines side by side (smoke_engine.c), and on long messages
- * (smoke_long.c); and how much of the stack a call takes (smoke_stack.c). Prints what is wrong, and how much was checked; exit
+ * (smoke_long.c); how much of the stack a call takes (smoke_stack.c); and what of a key is left there (smoke_wipe.c). Prints what is wrong, and how much was checked; exit
  * status 1 if anything is.
  */
 #include "smoke.h"
@@ -319,6 +319,7 @@ static void on_the_key(void)
     keys();
     pieces();
     which();
+    asked_editions();
     rounds();
     workers();
 }
@@ -340,6 +341,7 @@ int main(void)
     engines();
     long_messages();
     stack();
+    wiping();
     printf("%u checked, %u wrong, on %s\n", checked, wrong, variant_name());
     return wrong != 0;
 }

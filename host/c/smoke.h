@@ -66,6 +66,9 @@ struct luossavin_answer go_by(size_t by, struct luossavin_answer a, struct state
 /* Which of many labels a file opens under. */
 void which(void);
 
+/* Editions: labels, sealing, opening, asking; and records of calls. */
+void asked_editions(void);
+
 /* Counters that come round. */
 void rounds(void);
 
@@ -89,5 +92,13 @@ void long_messages(void);
 
 /* How much of the stack a call takes, at most. */
 void stack(void);
+
+/* Runs a call on a stack of its own, all of which holds LENT before. */
+enum { OWN_STACK = 1 << 18 };
+extern uint8_t own_stack[OWN_STACK];
+void on_own_stack(void (*call)(void));
+
+/* What is left of a key on the stack, and wiped from it; versions and names. */
+void wiping(void);
 
 #endif

@@ -2,6 +2,7 @@
 #include "smoke.h"
 
 #include "journal_model.h"
+#include "prepared.h"
 #include "random.h"
 
 #include <stdio.h>
@@ -85,7 +86,7 @@ static void questions(size_t n)
     const uint8_t labels[] = {1, 2, 3, 4, 5, 6, 7};
     const size_t lengths[] = {3, 4};
     struct luossavin_found a, b;
-    luossavin_encrypt(GCM, other, labels + 3, 4, text, n, iv, 16, one, n + 16);
+    prepared(luossavin_encrypt(GCM, other, labels + 3, 4, text, n, iv, 16, one, n + 16));
     a = luossavin_which(plain, one, n + 16, iv, 16, labels, sizeof labels, lengths, 2);
     b = luossavin_which(other, one, n + 16, iv, 16, labels, sizeof labels, lengths, 2);
     check(a.found == 1 && a.place == 1, "it is found", "which, on the plain engine", n);

@@ -25,7 +25,7 @@ static void layout(void)
     stands_at(sizeof(struct luossavin_keys), 8 + 8 * 136, "their size", keys);
     stands_at(offsetof(struct luossavin_keys, count), 0, "where the count stands", keys);
     stands_at(offsetof(struct luossavin_keys, keys), 8, "where the records stand", keys);
-    stands_at(sizeof(struct luossavin_replayed), 320, "its size", report);
+    stands_at(sizeof(struct luossavin_replayed), 360, "its size", report);
     stands_at(offsetof(struct luossavin_replayed, number), 0, "where the number stands", report);
     stands_at(offsetof(struct luossavin_replayed, differs), 4, "where it stands whether one differs", report);
     stands_at(offsetof(struct luossavin_replayed, place), 8, "where the place stands", report);
@@ -34,8 +34,8 @@ static void layout(void)
     stands_at(offsetof(struct luossavin_replayed, records), 32, "where the records stand", report);
     stands_at(offsetof(struct luossavin_replayed, by_mode), 40, "where the modes stand", report);
     stands_at(offsetof(struct luossavin_replayed, by_answer), 88, "where the answers stand", report);
-    stands_at(offsetof(struct luossavin_replayed, bytes_in), 304, "where the bytes in stand", report);
-    stands_at(offsetof(struct luossavin_replayed, bytes_out), 312, "where the bytes out stand", report);
+    stands_at(offsetof(struct luossavin_replayed, bytes_in), 344, "where the bytes in stand", report);
+    stands_at(offsetof(struct luossavin_replayed, bytes_out), 352, "where the bytes out stand", report);
 }
 
 /* The journal that is replayed, and the keys. */

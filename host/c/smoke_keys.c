@@ -2,6 +2,7 @@
  * refusal 14 stands among the others, and messages from before a retirement. */
 #include "smoke.h"
 
+#include "prepared.h"
 #include "wrap.h"
 
 #include <stdio.h>
@@ -303,7 +304,7 @@ static void block_before(void)
 {
     struct luossavin_key old = luossavin_key_retire(key);
     uint8_t there[16], back[16];
-    luossavin_block_encrypt(key, rfc_text, 16, there, 16);
+    prepared(luossavin_block_encrypt(key, rfc_text, 16, there, 16));
     check(done(luossavin_block_decrypt(old, there, 16, back, 16), 16), "it is decrypted", "a block, retired since", 16);
     check(memcmp(back, rfc_text, 16) == 0, "the block", "a block, retired since", 16);
 }
@@ -319,7 +320,8 @@ static void started_before(enum kind kind)
     struct state s;
     struct lent l;
     uint8_t *out = lend(&l);
-    luossavin_encrypt(kind == COUNTING ? CTR : GCM, key, label, sizeof label, rfc_text, 40, iv, 16, whole, ROOM);
+    prepared(luossavin_encrypt(kind == COUNTING ? CTR : GCM, key, label, sizeof label, rfc_text, 40, iv, 16,
+        whole, ROOM));
     call_start(kind, &s, &g);
     check(done(call_piece(&s, data, 20, out, 20), step), "a piece before it is retired", where, 20);
     g.key = luossavin_key_retire(g.key);
@@ -336,10 +338,10 @@ static void opened_in_pieces(void)
     struct luossavin_ctr ctr = luossavin_ctr_start(old, true, iv, 16).state;
     struct luossavin_opens opens = luossavin_opens_start(old, label, sizeof label, iv, 16).state;
     uint8_t sealed[ROOM], text[40];
-    luossavin_encrypt(CTR, key, NULL, 0, rfc_text, 40, iv, 16, sealed, ROOM);
+    prepared(luossavin_encrypt(CTR, key, NULL, 0, rfc_text, 40, iv, 16, sealed, ROOM));
     check(done(luossavin_ctr_add(&ctr, sealed, 40, text, 40), 40), "Ctr's piece", "retired, in pieces", 40);
     check(done(luossavin_ctr_finish(&ctr), 0) && memcmp(text, rfc_text, 40) == 0, "Ctr", "retired, in pieces", 40);
-    luossavin_encrypt(GCM, key, label, sizeof label, rfc_text, 40, iv, 16, sealed, ROOM);
+    prepared(luossavin_encrypt(GCM, key, label, sizeof label, rfc_text, 40, iv, 16, sealed, ROOM));
     check(done(luossavin_opens_add(&opens, sealed, 40), 0), "opening's piece", "retired, in pieces", 40);
     check(done(luossavin_opens_finish(&opens, sealed + 40, 16), 0), "it opens", "retired, in pieces", 40);
 }

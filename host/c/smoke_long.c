@@ -4,6 +4,7 @@
 #include "smoke.h"
 
 #include "random.h"
+#include "prepared.h"
 #include "wrap.h"
 
 #include <string.h>
@@ -56,7 +57,7 @@ static void refused_long(size_t n)
 {
     static uint8_t sealed[LONG + BEHIND];
     lend_both();
-    luossavin_encrypt(GCM, plain, label, sizeof label, text, n, iv, 16, sealed, n + 16);
+    prepared(luossavin_encrypt(GCM, plain, label, sizeof label, text, n, iv, 16, sealed, n + 16));
     sealed[n / 2] ^= 1;
     compare(luossavin_decrypt(GCM, plain, label, sizeof label, sealed, n + 16, iv, 16, one, n),
         luossavin_decrypt(GCM, other, label, sizeof label, sealed, n + 16, iv, 16, two, n), "a damaged text", n);
@@ -118,7 +119,7 @@ static void turned_about(enum kind kind, size_t n, size_t by)
     }
     a = call_end(&s, one + n, tag);
     check(a.number == 0, "its end", "pieces on every engine", n);
-    luossavin_encrypt(kind == SEALING ? GCM : CTR, plain, label, sizeof label, text, n, iv, 16, two, n + tag);
+    prepared(luossavin_encrypt(kind == SEALING ? GCM : CTR, plain, label, sizeof label, text, n, iv, 16, two, n + tag));
     check(memcmp(one, two, sizeof one) == 0, "its bytes", "pieces on every engine", n);
 }
 

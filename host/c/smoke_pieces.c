@@ -2,6 +2,8 @@
  * call, each refusal and which comes first, and states that stay as they were. */
 #include "smoke.h"
 
+#include "prepared.h"
+
 #include <stddef.h>
 #include <stdio.h>
 #include <string.h>
@@ -68,7 +70,8 @@ static void written_by(enum kind kind, size_t iv_len, size_t by, const uint8_t *
     struct lent l;
     uint8_t *out = lend(&l);
     struct luossavin_answer a = start(kind, iv_len, &s);
-    luossavin_encrypt(kind == COUNTING ? CTR : GCM, key, label, sizeof label, text, n, iv, iv_len, whole, ROOM);
+    prepared(luossavin_encrypt(kind == COUNTING ? CTR : GCM, key, label, sizeof label, text, n, iv, iv_len,
+        whole, ROOM));
     check(done(go_by(by, a, &s, text, n, out, ROOM), tag), "the end of pieces is done", kind_names[kind], n);
     check(untouched(&l, n + tag), "pieces keep to their length", kind_names[kind], n);
     check(memcmp(out, whole, n + tag) == 0, "pieces are the single call's", kind_names[kind], n);
@@ -80,7 +83,7 @@ static void opened_by(size_t iv_len, size_t by, const uint8_t *text, size_t n)
     static const uint8_t changes[] = {0, 1, 1};
     uint8_t whole[ROOM];
     struct state s;
-    luossavin_encrypt(GCM, key, label, sizeof label, text, n, iv, iv_len, whole, ROOM);
+    prepared(luossavin_encrypt(GCM, key, label, sizeof label, text, n, iv, iv_len, whole, ROOM));
     for (int i = 0; i < 3; i++) {
         size_t place = i == 1 ? n + 15 : n / 2;
         struct luossavin_answer a = start(OPENING, iv_len, &s), due = {.number = changes[i] ? 4 : 0, .key = NUMBER};
@@ -215,7 +218,7 @@ static void with_refusals(enum kind kind, uint32_t verdict)
     uint8_t sealed[ROOM], out[32];
     struct state s;
     struct luossavin_answer a;
-    luossavin_encrypt(GCM, key, label, sizeof label, too_long, 19, iv, 16, sealed, ROOM);
+    prepared(luossavin_encrypt(GCM, key, label, sizeof label, too_long, 19, iv, 16, sealed, ROOM));
     sealed[34] ^= verdict == 4;
     start(kind, 16, &s);
     a = call_piece(&s, kind == OPENING ? sealed : too_long, 19, out, 19);
@@ -231,10 +234,10 @@ static void older_copy(void)
 {
     struct luossavin_seal state = luossavin_seal_start(key, label, sizeof label, iv, 16).state, copy;
     uint8_t first[32], again[32];
-    luossavin_seal_add(&state, rfc_text, 5, first, 32);
+    prepared(luossavin_seal_add(&state, rfc_text, 5, first, 32));
     copy = state;
-    luossavin_seal_add(&state, rfc_text + 5, 12, first, 32);
-    luossavin_seal_finish(&state, first + 12, 16);
+    prepared(luossavin_seal_add(&state, rfc_text + 5, 12, first, 32));
+    prepared(luossavin_seal_finish(&state, first + 12, 16));
     check(done(luossavin_seal_add(&copy, rfc_text + 5, 12, again, 32), 12), "it is done", "an older copy", 12);
     check(done(luossavin_seal_finish(&copy, again + 12, 16), 16), "its end is done", "an older copy", 16);
     check(memcmp(first, again, 28) == 0, "the bytes are the same", "an older copy", 28);
@@ -245,7 +248,7 @@ static void one_variable(void)
 {
     uint8_t whole[ROOM], out[ROOM];
     struct luossavin_seal_step step = luossavin_seal_start(key, label, sizeof label, iv, 12);
-    luossavin_encrypt(GCM, key, label, sizeof label, rfc_text, 40, iv, 12, whole, ROOM);
+    prepared(luossavin_encrypt(GCM, key, label, sizeof label, rfc_text, 40, iv, 12, whole, ROOM));
     step = luossavin_seal_piece(step.state, rfc_text, 23, out, ROOM);
     check(done(step.answer, 23), "a piece is done", "one variable", 23);
     step = luossavin_seal_piece(step.state, rfc_text + 23, 17, out + 23, ROOM - 23);

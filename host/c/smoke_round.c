@@ -3,6 +3,7 @@
  * refusals and calls that never say it; and J0 by two ways. */
 #include "smoke.h"
 
+#include "prepared.h"
 #include "wrap.h"
 
 #include <stdio.h>
@@ -154,16 +155,16 @@ static void behind(void)
     uint8_t under[16], out[ROOM], counter[16] = {0}, stream[16];
     int same = 1;
     iv_near(CTR, 0, under);
-    luossavin_encrypt(CTR, key, NULL, 0, rfc_text, 32, under, 16, out, ROOM);
-    luossavin_block_encrypt(key, counter, 16, stream, 16);
+    prepared(luossavin_encrypt(CTR, key, NULL, 0, rfc_text, 32, under, 16, out, ROOM));
+    prepared(luossavin_block_encrypt(key, counter, 16, stream, 16));
     for (int i = 0; i < 16; i++) {
         same &= out[16 + i] == (rfc_text[16 + i] ^ stream[i]);
     }
     check(same, "the bytes behind the round", "Ctr", 32);
     iv_near(GCM, 0, under);
-    luossavin_encrypt(GCM, key, NULL, 0, rfc_text, 16, under, 16, out, ROOM);
+    prepared(luossavin_encrypt(GCM, key, NULL, 0, rfc_text, 16, under, 16, out, ROOM));
     memcpy(counter, iv, 12);
-    luossavin_block_encrypt(key, counter, 16, stream, 16);
+    prepared(luossavin_block_encrypt(key, counter, 16, stream, 16));
     for (int i = 0; i < 16; i++) {
         same &= out[i] == (rfc_text[i] ^ stream[i]);
     }
@@ -247,7 +248,7 @@ static void refusals_in_pieces(enum kind kind)
     struct state s;
     struct lent l;
     iv_near(mode, 0, under);
-    luossavin_encrypt(mode, key, label, sizeof label, rfc_text, 40, under, 16, sealed, ROOM);
+    prepared(luossavin_encrypt(mode, key, label, sizeof label, rfc_text, 40, under, 16, sealed, ROOM));
     out = lend(&l);
     check(says(call_start(kind, &s, &g), 0, 0), "a start says no", kind_names[kind], 0);
     check(says(call_piece(&s, kind == OPENING ? sealed : rfc_text, 40, out, ROOM), kind == OPENING ? 0 : 40, 0),
@@ -292,7 +293,7 @@ static void others(void)
     check(done(luossavin_block_encrypt(key, ones, 16, out, 16), 16), "encryption says no", "a block of all ones", 16);
     check(done(luossavin_block_decrypt(key, ones, 16, out, 16), 16), "decryption says no", "a block of all ones", 16);
     iv_near(GCM, 0, under);
-    luossavin_encrypt(GCM, key, label, sizeof label, rfc_text, 48, under, 16, file, ROOM);
+    prepared(luossavin_encrypt(GCM, key, label, sizeof label, rfc_text, 48, under, 16, file, ROOM));
     f = luossavin_which(key, file, 64, under, 16, label, sizeof label, &length, 1);
     check(done(f.answer, 0) && f.found == 1, "it says no", "which label, found", 64);
     file[63] ^= 1;
@@ -314,8 +315,8 @@ static void j0_by_two_ways(void)
         if (i % 2) {
             iv_near_gcm_wrap(key, under, i);
         }
-        luossavin_encrypt(GCM, key, NULL, 0, NULL, 0, under, iv_len, tag, 16);
-        luossavin_block_decrypt(key, tag, 16, block, 16);
+        prepared(luossavin_encrypt(GCM, key, NULL, 0, NULL, 0, under, iv_len, tag, 16));
+        prepared(luossavin_block_decrypt(key, tag, 16, block, 16));
         count_from(GCM, key, under, iv_len, from);
         check(memcmp(block, from, 16) == 0, "the tag of nothing", "J0 by two ways", i);
         check(i % 2 == 0 || (from[12] == 0xff && from[15] == 255 - i % 256), "the wanted one", "J0 by two ways", i);

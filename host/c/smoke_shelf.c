@@ -6,6 +6,7 @@
 
 #include "smoke.h"
 
+#include "prepared.h"
 #include "random.h"
 
 #include <signal.h>
@@ -115,7 +116,7 @@ static void example(void)
     memset(shelf, LENT, sizeof shelf);
     for (uint8_t edition = 1; edition <= 9; edition++) {
         under[5] = edition;
-        luossavin_encrypt(4, key, under, 6, rfc_text + edition, 20, iv, 16, sealed, sizeof sealed);
+        prepared(luossavin_encrypt(4, key, under, 6, rfc_text + edition, 20, iv, 16, sealed, sizeof sealed));
         used = luossavin_shelf_put(shelf, sizeof shelf, used, 7, edition, sealed, sizeof sealed).used;
         struct luossavin_shelved r = luossavin_shelf_find(shelf, sizeof shelf, used, 7);
         int whole = r.number == 0 && r.start < sizeof shelf - sizeof sealed - HEAD && r.length == HEAD + sizeof sealed;

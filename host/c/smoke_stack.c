@@ -5,35 +5,41 @@
 #include "smoke.h"
 
 #include "journal_model.h"
+#include "prepared.h"
 
 #include <stdio.h>
 #include <string.h>
 #include <ucontext.h>
 
-enum { STACK = 1 << 18, LONG = 16384, PER_CALL = 48 << 10, PER_REPLAY = 64 << 10 };
+enum { LONG = 16384, PER_CALL = 48 << 10, PER_REPLAY = 64 << 10 };
 
-static _Alignas(16) uint8_t stack_bytes[STACK];
+_Alignas(16) uint8_t own_stack[OWN_STACK];
 static ucontext_t here, there;
 static struct luossavin_key on;
 static uint32_t mode;
 static uint8_t text[LONG], out[LONG + 16], journal[2 * LONG + 100];
 static size_t journal_size;
 
+void on_own_stack(void (*call)(void))
+{
+    memset(own_stack, LENT, OWN_STACK);
+    getcontext(&there);
+    there.uc_stack.ss_sp = own_stack;
+    there.uc_stack.ss_size = OWN_STACK;
+    there.uc_link = &here;
+    makecontext(&there, call, 0);
+    swapcontext(&here, &there);
+}
+
 /* What the caller puts there is among it: the record, which goes by value. */
 static size_t taken_by(void (*call)(void))
 {
     size_t free = 0;
-    memset(stack_bytes, LENT, STACK);
-    getcontext(&there);
-    there.uc_stack.ss_sp = stack_bytes;
-    there.uc_stack.ss_size = STACK;
-    there.uc_link = &here;
-    makecontext(&there, call, 0);
-    swapcontext(&here, &there);
-    while (free < STACK && stack_bytes[free] == LENT) {
+    on_own_stack(call);
+    while (free < OWN_STACK && own_stack[free] == LENT) {
         free++;
     }
-    return STACK - free;
+    return OWN_STACK - free;
 }
 
 static void set_up_key(void)
@@ -63,11 +69,15 @@ static void in_pieces(void)
 static void others(void)
 {
     const size_t length = sizeof label;
-    luossavin_ctr_range(on, false, iv, 16, 5, text, LONG, out, LONG);
-    luossavin_ctr_by_plan(on, false, iv, 16, luossavin_plan_make(LONG, 64).plan, text, LONG, out, LONG);
-    luossavin_which(on, out, LONG, iv, 16, label, length, &length, 1);
-    luossavin_hash_blocks((struct luossavin_hash){1, 2}, text, LONG);
-    luossavin_block_encrypt(on, text, 16, out, 16);
+    prepared(luossavin_ctr_range(on, false, iv, 16, 5, text, LONG, out, LONG));
+    prepared(luossavin_ctr_by_plan(on, false, iv, 16, luossavin_plan_make(LONG, 64).plan, text, LONG, out, LONG));
+    prepared(luossavin_which(on, out, LONG, iv, 16, label, length, &length, 1).answer);
+    check(luossavin_hash_blocks((struct luossavin_hash){0, 0}, text, LONG).high == 0, "a hash under 0", "on a stack of its own", 0);
+    prepared(luossavin_block_encrypt(on, text, 16, out, 16));
+    prepared(luossavin_edition_seal(on, 7, 2, text, LONG, iv, 16, out, sizeof out));
+    prepared(luossavin_edition_opens(on, 7, 2, out, sizeof out, iv, 16));
+    prepared(luossavin_edition_open(on, 7, 2, out, sizeof out, iv, 16, text, sizeof text));
+    prepared(luossavin_record(false, GCM, NUMBER, label, length, text, 4096, iv, 16, 4096, 0, NULL, 0, out, sizeof out));
 }
 
 static void replay(void)

@@ -2,6 +2,8 @@
  * empty and equal labels, every refusal with every later one there as well, and answers against the single call. */
 #include "smoke.h"
 
+#include "prepared.h"
+
 #include <stdio.h>
 #include <string.h>
 
@@ -58,7 +60,7 @@ static void add_editions(struct search *s, size_t first, size_t last)
 /* Seals a text as long as the question's file has it, under a label that the file then opens under. */
 static void seal_under(struct search *s, const uint8_t *under, size_t length, uint8_t *file)
 {
-    luossavin_encrypt(GCM, key, under, length, rfc_text, s->file - 16, iv, s->iv, file, s->file);
+    prepared(luossavin_encrypt(GCM, key, under, length, rfc_text, s->file - 16, iv, s->iv, file, s->file));
     s->under = under;
     s->under_len = length;
     s->spoiled = 0;
@@ -236,11 +238,11 @@ static void others(void)
     struct search s = question(16);
     uint8_t file[SEALED];
     add_editions(&s, 1, 3);
-    luossavin_encrypt(GCM, other, label, sizeof label, rfc_text, TEXT, iv, 16, file, SEALED);
+    prepared(luossavin_encrypt(GCM, other, label, sizeof label, rfc_text, TEXT, iv, 16, file, SEALED));
     ask_both(&s, file, "another key's file");
-    luossavin_encrypt(GCM, key, label, sizeof label, rfc_text, TEXT, iv, 12, file, SEALED);
+    prepared(luossavin_encrypt(GCM, key, label, sizeof label, rfc_text, TEXT, iv, 12, file, SEALED));
     ask_both(&s, file, "a file under a shorter IV");
-    luossavin_encrypt(GCM, key, label, sizeof label, rfc_text, TEXT, iv + 1, 16, file, SEALED);
+    prepared(luossavin_encrypt(GCM, key, label, sizeof label, rfc_text, TEXT, iv + 1, 16, file, SEALED));
     ask_both(&s, file, "a file under another IV");
 }
 

@@ -1,6 +1,7 @@
 #include "wrap.h"
 
 #include "hash_model.h"
+#include "prepared.h"
 #include "rules.h"
 
 #include <stdio.h>
@@ -33,7 +34,7 @@ static element hash_key(struct luossavin_key key)
 {
     const uint8_t zeros[16] = {0};
     uint8_t h[16];
-    luossavin_block_encrypt(holding(key, (struct holder){0, 1, 0}), zeros, 16, h, 16);
+    prepared(luossavin_block_encrypt(holding(key, (struct holder){0, 1, 0}), zeros, 16, h, 16));
     return element_of(h);
 }
 

@@ -8,9 +8,10 @@
 
 use crate::sm4::cipher_mode::CipherMode;
 use crate::Direction;
-use std::mem::size_of;
-use std::ops::Deref;
-use std::sync::atomic::{compiler_fence, Ordering};
+use alloc::boxed::Box;
+use core::mem::size_of;
+use core::ops::Deref;
+use core::sync::atomic::{compiler_fence, Ordering};
 
 /// A record that is made of integers alone, so that zeros throughout are a value of it.
 ///
@@ -74,6 +75,10 @@ records! {
         number: u16,
         retired: u8,
         engine: u8,
+    }
+
+    struct Label as "luossavin_label" {
+        bytes: [u8; 6],
     }
 
     struct Flow as "luossavin_flow" {
@@ -178,7 +183,7 @@ records! {
         first_place: usize,
         records: u64,
         by_mode: [u64; 6],
-        by_answer: [u64; 27],
+        by_answer: [u64; 32],
         bytes_in: u64,
         bytes_out: u64,
     }
@@ -192,14 +197,14 @@ records! {
 // The library itself, as the kit's compiler wrote it (proved/ in the repository), for the machine that this is compiled for. On x86-64
 // it is there for every processor and for those with AVX2, and the program chooses when it starts.
 #[cfg(target_arch = "x86_64")]
-std::arch::global_asm!(
+core::arch::global_asm!(
     include_str!("../asm/x86_64.s"),
     include_str!("../asm/x86_64-v3.s"),
     include_str!("../asm/choose-x86_64.s"),
     options(att_syntax, raw)
 );
 #[cfg(target_arch = "aarch64")]
-std::arch::global_asm!(include_str!("../asm/aarch64.s"), options(raw));
+core::arch::global_asm!(include_str!("../asm/aarch64.s"), options(raw));
 
 extern "C" {
     fn luossavin_key_new(key: *const u8, key_len: usize, number: u32) -> Key;
@@ -215,6 +220,19 @@ extern "C" {
     fn luossavin_decrypt(
         mode: u32, key: Key, aad: *const u8, aad_len: usize, data: *const u8, data_len: usize, iv: *const u8,
         iv_len: usize, out: *mut u8, room: usize,
+    ) -> Answer;
+
+    fn luossavin_label(job: u32, edition: u16) -> Label;
+    fn luossavin_edition_opens(
+        key: Key, job: u32, edition: u16, sealed: *const u8, sealed_len: usize, iv: *const u8, iv_len: usize,
+    ) -> Answer;
+    fn luossavin_edition_seal(
+        key: Key, job: u32, edition: u16, text: *const u8, text_len: usize, iv: *const u8, iv_len: usize, out: *mut u8,
+        room: usize,
+    ) -> Answer;
+    fn luossavin_edition_open(
+        key: Key, job: u32, edition: u16, sealed: *const u8, sealed_len: usize, iv: *const u8, iv_len: usize,
+        out: *mut u8, room: usize,
     ) -> Answer;
 
     fn luossavin_ctr_start(key: Key, decrypt: bool, iv: *const u8, iv_len: usize) -> CtrStep;
@@ -251,6 +269,11 @@ extern "C" {
     fn luossavin_shelf_collect(shelf: *mut u8, size: usize, used: usize) -> Shelf;
     fn luossavin_shelf_find(shelf: *const u8, size: usize, used: usize, job: u32) -> Shelved;
 
+    fn luossavin_record(
+        decrypt: bool, mode: u32, key: u16, aad: *const u8, aad_len: usize, data: *const u8, data_len: usize,
+        iv: *const u8, iv_len: usize, room: usize, number: u32, output: *const u8, output_len: usize, out: *mut u8,
+        out_room: usize,
+    ) -> Answer;
     fn luossavin_replay(keys: Keys, file: *const u8, file_len: usize) -> Replayed;
 
     fn luossavin_hash_blocks(h: Hash, bytes: *const u8, bytes_len: usize) -> Hash;
@@ -292,9 +315,22 @@ impl<T: Record> Drop for Secret<T> {
 
 /// Zeros in every byte of a record, padding among them, by writes that the compiler may not leave out.
 pub fn overwrite<T: Record>(record: &mut T) {
-    let first: *mut u8 = (record as *mut T).cast();
-    for at in 0..size_of::<T>() {
-        // SAFETY: the byte is one of the record, which is borrowed alone, and for which zeros are a value.
+    // SAFETY: the bytes are those of the record, which is borrowed alone, and for which zeros are a value.
+    unsafe { write_zeros((record as *mut T).cast(), size_of::<T>()) };
+}
+
+/// The same of bytes.
+pub fn overwrite_bytes(bytes: &mut [u8]) {
+    // SAFETY: the bytes are the slice's, which is borrowed alone.
+    unsafe { write_zeros(bytes.as_mut_ptr(), bytes.len()) };
+}
+
+/// # Safety
+///
+/// `count` bytes from `first` on may be written, and zeros are a value of what stands there.
+unsafe fn write_zeros(first: *mut u8, count: usize) {
+    for at in 0..count {
+        // SAFETY: the caller sees to it.
         unsafe { first.add(at).write_volatile(0) };
     }
     compiler_fence(Ordering::SeqCst);
@@ -339,6 +375,30 @@ pub fn message(
     let ((aad_len, aad), (iv_len, iv)) = ((aad.len(), aad.as_ptr()), (iv.len(), iv.as_ptr()));
     // SAFETY: each pointer is a slice's, with that slice's length beside it, and `out` is borrowed alone.
     unsafe { call(mode, *key, aad, aad_len, data.as_ptr(), data.len(), iv, iv_len, out, room) }
+}
+
+pub fn label(job: u32, edition: u16) -> [u8; 6] {
+    // SAFETY: nothing is lent.
+    unsafe { luossavin_label(job, edition) }.bytes
+}
+
+pub fn edition_opens(key: &Key, job: u32, edition: u16, sealed: &[u8], iv: &[u8]) -> Answer {
+    let (iv_len, iv) = (iv.len(), iv.as_ptr());
+    // SAFETY: each pointer is a slice's, with that slice's length beside it.
+    unsafe { luossavin_edition_opens(*key, job, edition, sealed.as_ptr(), sealed.len(), iv, iv_len) }
+}
+
+pub fn edition(
+    direction: Direction, key: &Key, job: u32, edition: u16, data: &[u8], iv: &[u8], out: &mut [u8],
+) -> Answer {
+    let call = match direction {
+        Direction::Encrypt => luossavin_edition_seal,
+        Direction::Decrypt => luossavin_edition_open,
+    };
+    let (iv_len, iv) = (iv.len(), iv.as_ptr());
+    let (room, out) = (out.len(), out.as_mut_ptr());
+    // SAFETY: each pointer is a slice's, with that slice's length beside it, and `out` is borrowed alone.
+    unsafe { call(*key, job, edition, data.as_ptr(), data.len(), iv, iv_len, out, room) }
 }
 
 pub fn ctr_start(key: &Key, direction: Direction, iv: &[u8]) -> (Answer, Secret<Ctr>) {
@@ -450,6 +510,24 @@ pub fn shelf_collect(shelf: &mut [u8], used: usize) -> Shelf {
 pub fn shelf_find(shelf: &[u8], used: usize, job: u32) -> Shelved {
     // SAFETY: the pointer is a slice's, with its length beside it.
     unsafe { luossavin_shelf_find(shelf.as_ptr(), shelf.len(), used, job) }
+}
+
+pub fn record(
+    direction: Direction, mode: CipherMode, key: u16, parts: [&[u8]; 3], room: usize, answered: (u32, &[u8]),
+    out: &mut [u8],
+) -> Answer {
+    let ([aad, data, iv], (number, output)) = (parts, answered);
+    let (decrypt, mode) = (direction.is_decrypt(), mode as u32);
+    let ((aad_len, aad), (data_len, data)) = ((aad.len(), aad.as_ptr()), (data.len(), data.as_ptr()));
+    let ((iv_len, iv), (output_len, output)) = ((iv.len(), iv.as_ptr()), (output.len(), output.as_ptr()));
+    let (out_room, out) = (out.len(), out.as_mut_ptr());
+    // SAFETY: each pointer is a slice's, with that slice's length beside it, and `out` is borrowed alone.
+    unsafe {
+        luossavin_record(
+            decrypt, mode, key, aad, aad_len, data, data_len, iv, iv_len, room, number, output, output_len, out,
+            out_room,
+        )
+    }
 }
 
 pub fn replay(keys: &Keys, file: &[u8]) -> Replayed {

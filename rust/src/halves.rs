@@ -31,7 +31,7 @@
 use crate::ffi::{self, Secret};
 use crate::sm4::cipher_mode::CipherMode;
 use crate::{Direction, Key, Refusal};
-use std::fmt;
+use core::fmt;
 
 /// The key of the hash, H: what a key encrypts sixteen zero bytes to. It is as secret as the key: with it tags are
 /// forged.
@@ -51,12 +51,14 @@ impl HashKey {
     }
 
     /// The hash of bytes, in blocks of 16 with zeros to the last one's end.
+    #[must_use]
     pub fn half(&self, bytes: &[u8]) -> Half {
         let blocks = (bytes.len() / 16 + usize::from(bytes.len() % 16 != 0)) as u64;
         Half { hash: ffi::hash_blocks(&self.0, bytes), blocks }
     }
 
     /// The hash of the block with which a message ends: the lengths of label and ciphertext, in bits.
+    #[must_use]
     pub fn lengths(&self, label: usize, text: usize) -> Half {
         let bits = |n: usize| (n as u64).wrapping_mul(8).to_be_bytes();
         self.half(&[bits(label), bits(text)].concat())
@@ -88,16 +90,19 @@ pub struct Half {
 
 impl Half {
     /// The hash that another host has told, of so many blocks.
+    #[must_use]
     pub fn from_parts(bytes: [u8; 16], blocks: u64) -> Half {
         Half { hash: hash_of(bytes), blocks }
     }
 
     /// The sixteen bytes of the hash, to be told to another host.
+    #[must_use]
     pub fn to_bytes(&self) -> [u8; 16] {
         (u128::from(self.hash.high) << 64 | u128::from(self.hash.low)).to_be_bytes()
     }
 
     /// How many blocks it is of.
+    #[must_use]
     pub fn blocks(&self) -> u64 {
         self.blocks
     }

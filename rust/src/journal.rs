@@ -22,13 +22,12 @@
 //! make a record agree.
 
 use crate::ffi::{self, Secret};
+use crate::sizes::{LONGEST_OUTPUT, LONGEST_PART, MOST_KEYS};
 use crate::sm4::cipher_mode::{CipherMode, Sm4CipherMode};
 use crate::{Direction, Key, Refusal};
-use std::fmt;
-
-/// The most bytes of a recorded label, data or IV, and of an output.
-const LONGEST_PART: usize = 16_384;
-const LONGEST_OUTPUT: usize = 16_400;
+use alloc::boxed::Box;
+use alloc::vec::Vec;
+use core::fmt;
 
 /// A call as it was made, to be recorded with its answer.
 #[derive(Clone, Copy)]
@@ -42,6 +41,7 @@ pub struct Call<'a> {
 
 impl<'a> Call<'a> {
     /// The call of encryption or decryption under `cipher` into an output of `room` bytes.
+    #[must_use]
     pub fn of(
         cipher: &Sm4CipherMode, direction: Direction, aad: &'a [u8], data: &'a [u8], iv: &'a [u8], room: usize,
     ) -> Call<'a> {
@@ -54,28 +54,22 @@ impl<'a> Call<'a> {
     pub fn record(&self, answer: Result<&[u8], Refusal>, journal: &mut Vec<u8>) -> Result<(), Refusal> {
         let (number, output) = match answer {
             Ok(output) => (0, output),
-            Err(refusal) => (u8::try_from(refusal.number()).map_err(|_| Refusal::BadRecord)?, &[][..]),
+            Err(refusal) => (refusal.number(), &[][..]),
         };
-        if self.parts.iter().any(|part| part.len() > LONGEST_PART) || output.len() > LONGEST_OUTPUT {
-            return Err(Refusal::PartTooLong);
-        }
-        journal.extend(b"TR");
-        journal.extend([self.direction.is_decrypt() as u8, self.mode as u8]);
-        journal.extend(self.key.to_be_bytes());
-        self.parts.iter().for_each(|part| put(part, journal));
-        // a room that four bytes do not hold answers as the largest that they do
-        journal.extend(u32::try_from(self.room).unwrap_or(u32::MAX).to_be_bytes());
-        journal.push(number);
-        put(output, journal);
-        Ok(())
+        // as many as the record takes, but no more than the longest one
+        let given = self.parts.iter().fold(output.len(), |sum, part| sum.saturating_add(part.len()));
+        let room = BARE + given.min(3 * LONGEST_PART + LONGEST_OUTPUT);
+        let before = journal.len();
+        journal.resize(before + room, 0);
+        let (key, parts, out) = (self.key, self.parts, &mut journal[before..]);
+        let written = ffi::record(self.direction, self.mode, key, parts, self.room, (number, output), out).result();
+        journal.truncate(before + written.map_or(0, |done| done.length));
+        written.map(drop)
     }
 }
 
-/// Bytes behind their length, which four bytes hold.
-fn put(part: &[u8], journal: &mut Vec<u8>) {
-    journal.extend((part.len() as u32).to_be_bytes());
-    journal.extend(part);
-}
+/// How many bytes a record has beside its label, data, IV and output.
+const BARE: usize = 27;
 
 impl fmt::Debug for Call<'_> {
     fn fmt(&self, f: &mut fmt::Formatter<'_>) -> fmt::Result {
@@ -91,7 +85,7 @@ impl fmt::Debug for Call<'_> {
 pub fn replay(keys: &[&Key], journal: &[u8]) -> Result<Report, Stopped> {
     let none = ffi::Key { round_keys: [0; 32], answer: 0, number: 0, retired: 0, engine: 0 };
     // a count above eight is refused, so that the keys behind it are not missed
-    let mut given = ffi::Keys { count: keys.len(), keys: [none; 8] };
+    let mut given = ffi::Keys { count: keys.len(), keys: [none; MOST_KEYS] };
     for (place, key) in given.keys.iter_mut().zip(keys) {
         *place = *key.record();
     }
@@ -113,7 +107,7 @@ pub struct Report {
     /// How many in each mode, Cfb to Gcm, and at place 5 those of no known mode.
     pub by_mode: [u64; 6],
     /// How many with each number.
-    pub by_answer: [u64; 27],
+    pub by_answer: [u64; 32],
     /// The bytes of their data, of refused calls too.
     pub bytes_in: u64,
     /// The lengths that they answer.
@@ -168,6 +162,7 @@ impl fmt::Display for Stopped {
     }
 }
 
+#[cfg(feature = "std")]
 impl std::error::Error for Stopped {
     fn source(&self) -> Option<&(dyn std::error::Error + 'static)> {
         Some(&self.refusal)

@@ -2,7 +2,7 @@
 
 use crate::ffi::{self, Secret};
 use crate::Refusal;
-use std::fmt;
+use core::fmt;
 
 /// A key that was set up, with a number of its own.
 ///
@@ -24,7 +24,7 @@ use std::fmt;
 /// ```
 ///
 /// There is no `Clone`, since a copy that was made before a key is retired would still encrypt: share a key by
-/// reference, or in an [`Arc`](std::sync::Arc). What no type can see is the host's to keep: which numbers are
+/// reference, in an [`Arc`](alloc::sync::Arc), or in a `Keyring`, in which one can be retired while others use it. What no type can see is the host's to keep: which numbers are
 /// retired, since a key that is set up anew from its bytes is not, and that no two keys have one number.
 ///
 /// # What becomes of its bytes
@@ -33,9 +33,10 @@ use std::fmt;
 /// nothing, and is overwritten there when the key is dropped, by writes that the compiler may not leave out. That
 /// does not cover
 ///
-/// - the copies on the stack: a call takes the record by value, and the compiler may make others;
-/// - the bytes that [`Key::new`] was given, which are the caller's to overwrite;
-/// - a key that is never dropped, as by [`std::mem::forget`], in a `static`, or where the process is killed.
+/// - the copies on the stack: a call takes the record by value, and the compiler may make others. [`wipe_stack`](crate::wipe_stack)
+///   overwrites them;
+/// - the bytes that [`Key::new`] was given, which are the caller's to [`wipe`](crate::wipe);
+/// - a key that is never dropped, as by [`core::mem::forget`], in a `static`, or where the process is killed.
 ///
 /// All of it holds for the states of messages in pieces, for a [`HashKey`](crate::halves::HashKey) and for a
 /// [`Half`](crate::halves::Half) as well.
@@ -68,6 +69,13 @@ impl Key {
         self
     }
 
+    /// Another record of the key, retired.
+    #[cfg(feature = "std")]
+    pub(crate) fn retired(&self) -> Key {
+        let mut record = *self.record();
+        Key(Secret::take(&mut record)).retire()
+    }
+
     /// The key with another engine. No answer and no byte depends on it.
     ///
     /// ```
@@ -84,16 +92,19 @@ impl Key {
     }
 
     /// The key's number, by which answers and journals name it.
+    #[must_use]
     pub fn number(&self) -> u16 {
         self.0.number
     }
 
     /// Whether the key is retired.
+    #[must_use]
     pub fn is_retired(&self) -> bool {
         self.0.retired != 0
     }
 
     /// The engine that the key has.
+    #[must_use]
     pub fn engine(&self) -> Engine {
         match self.0.engine {
             1 => Engine::Tables,
@@ -122,20 +133,19 @@ impl fmt::Debug for Key {
 /// How the rounds of SM4 are made, and nothing else: `docs/SPEED.md` has what each takes. Tables are read at places that
 /// depend on the key and the text, and so are not for a machine on which others may watch the caches. The gates are
 /// written so that they are not, which is looked at in the compiled library (`host/secrets`) and proved by nothing.
-#[derive(Clone, Copy, Debug, Default, PartialEq, Eq, Hash)]
+#[derive(Clone, Copy, Debug, PartialEq, Eq, Hash)]
 #[non_exhaustive]
 pub enum Engine {
-    /// The library chooses: the gates in Ctr and Gcm and for decryption in Cfb and Cbc, at every length, and the four
-    /// tables in Ofb, for encryption in Cfb and Cbc, and for single blocks. It is what a key has that is set up.
-    #[default]
+    // numbers.txt: engines of Rust
+    /// The library chooses: gates where blocks do not wait for one another, four tables elsewhere.
     Chosen = 0,
-    /// Four tables, 4 KiB that each call lays out on its stack. A block takes the fewest instructions of all.
+    /// Four tables of 1 KiB, which are looked up by key and text.
     Tables = 1,
-    /// Gates alone, with neither a look-up nor a branch by key or text, but for the answer. Up to 512 blocks are done at
-    /// once; where each block waits for the one before it, it is some ten times slower than the tables.
+    /// Gates alone: no look-up and no branch by key or text.
     Gates = 2,
-    /// A table of 1 KiB.
+    /// One table of 1 KiB, which is looked up by key and text.
     Plain = 3,
+    // numbers.txt: end
 }
 
 /// Which way a call goes, where encryption and decryption are one call. A retired key decrypts alone.

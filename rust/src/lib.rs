@@ -1,6 +1,19 @@
 //! SM4 (GB/T 32907-2016) with Cfb, Ofb, Ctr, Cbc and Gcm, by libsm's names, over the proved library of Luossavin.
 //!
-//! A server that seals with libsm goes over by changing an import:
+//! Does this file open under this edition?
+//!
+//! ```
+//! use luossavin::{Edition, Key};
+//!
+//! let (key, iv) = (Key::new(&[7; 16], 1)?, [1; 16]);
+//! let sealed = key.seal(4711, Edition(1), b"a transcript", &iv)?;
+//! assert!(key.opens(4711, Edition(1), &sealed, &iv)?);
+//! assert!(!key.opens(4711, Edition(2), &sealed, &iv)?);
+//! # Ok::<(), luossavin::Refusal>(())
+//! ```
+//!
+//! A server that seals with libsm goes over by changing an import. A message has at most 16 MiB here, and a `match` on the
+//! errors that names libsm's four needs a fifth arm.
 //!
 //! ```
 //! // before: use libsm::sm4::cipher_mode::{CipherMode, Sm4CipherMode};
@@ -16,9 +29,11 @@
 //! |---|---|
 //! | [`sm4`] | libsm's names and shapes, and messages into a buffer that is lent |
 //! | [`Key`], [`Engine`] | keys with numbers, retired or not, and how their rounds are made |
-//! | [`streams`] | sealing through `Write`, asking whether a `Read` opens, opening to a `Write` |
+//! | `keyring` | the keys of a server, by their numbers, which any thread may retire |
+//! | `streams` | sealing through `Write`, asking whether a `Read` opens, opening to a `Write` |
 //! | [`pieces`] | messages in pieces, cut anywhere |
-//! | [`editions`] | which of up to 64 labels a file opens under |
+//! | [`detached`] | tags apart from the ciphertext, and sealing in place |
+//! | [`editions`] | [`Edition`], with [`Key::opens`], [`Key::seal`] and [`Key::open`]; which of up to 64 labels a file opens under |
 //! | [`ranges`] | one Ctr message among several workers |
 //! | [`shelf`] | sealed files in one buffer, of which the newest edition of each job is current |
 //! | [`journal`] | recorded calls, made again and added up |
@@ -29,8 +44,11 @@
 //! apart, and its tests hold it to that. The library keeps nothing between calls, so that all of it may be used from any
 //! thread. Its names are C's, so that a program has one copy of it: link either this package or the C library.
 
-#![deny(unsafe_code)]
+#![cfg_attr(not(feature = "std"), no_std)]
+#![deny(unsafe_code, unsafe_op_in_unsafe_fn)]
 #![warn(missing_docs)]
+
+extern crate alloc;
 
 #[cfg(not(all(
     target_os = "linux",
@@ -40,21 +58,35 @@
 )))]
 compile_error!("Luossavin's library is there as assembly for Linux on x86-64 and on aarch64");
 
+pub mod detached;
 pub mod editions;
 #[allow(unsafe_code)]
 mod ffi;
 pub mod halves;
 pub mod journal;
 mod key;
+#[cfg(feature = "std")]
+pub mod keyring;
 pub mod pieces;
 pub mod ranges;
 mod refusal;
 pub mod shelf;
+pub mod sizes;
 pub mod sm4;
+#[cfg(feature = "std")]
 pub mod streams;
+mod wiping;
 
+pub use editions::Edition;
 pub use key::{Direction, Engine, Key};
 pub use refusal::{Done, Refusal};
+pub use sizes::LONGEST_TEXT;
+pub use wiping::{wipe, wipe_stack, WipedOnDrop};
 
-/// The most bytes of a text, and in Gcm of a label. What Cbc and Gcm make of a text has up to 16 more.
-pub const LONGEST_TEXT: usize = 16_777_216;
+// the examples of the README are run with the others
+#[cfg(all(doctest, feature = "std"))]
+#[doc = include_str!("../README.md")]
+mod readme {}
+
+/// The version of this package, and of the library in it.
+pub const VERSION: &str = env!("CARGO_PKG_VERSION");

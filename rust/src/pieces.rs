@@ -6,11 +6,11 @@
 //! with [`TooLong`](Refusal::TooLong). A refused piece leaves the state as it was, and may come again.
 //!
 //! A state that is dropped before its end ends nothing: what was sealed so far has no tag, and opens for nobody.
-//! [`streams`](crate::streams) has the same for whoever has a [`Write`](std::io::Write) or a [`Read`](std::io::Read).
+//! `streams` has the same for whoever has a `Write` or a `Read`.
 
 use crate::ffi::{self, Secret};
-use crate::{Direction, Done, Key, Refusal};
-use std::fmt;
+use crate::{Direction, Done, Key, Refusal, LONGEST_TEXT};
+use core::fmt;
 
 /// Ctr in pieces, either way. The pieces' outputs, joined, are what the single call makes of the joined pieces.
 ///
@@ -29,6 +29,7 @@ use std::fmt;
 /// assert_eq!(out[..], whole);
 /// # Ok::<(), luossavin::Refusal>(())
 /// ```
+#[must_use = "a message that is not gone on with is cut off"]
 pub struct Ctr(Secret<ffi::Ctr>);
 
 impl Ctr {
@@ -42,6 +43,12 @@ impl Ctr {
     /// The next piece, into as many bytes of `out`.
     pub fn piece(&mut self, data: &[u8], out: &mut [u8]) -> Result<Done, Refusal> {
         ffi::ctr_piece(&mut self.0, data, out).result()
+    }
+
+    /// The next piece, in its place, through a small buffer. In a refusal it is as it was.
+    pub fn piece_in_place(&mut self, data: &mut [u8]) -> Result<(), Refusal> {
+        fits(self.0.total, data)?;
+        in_place(data, |portion, out| self.piece(portion, out))
     }
 
     /// The end of the message, which says whether a counter came round in all of it.
@@ -79,6 +86,7 @@ impl Ctr {
 /// seal.piece(b"more", &mut [0; 4])?;
 /// # Ok::<(), luossavin::Refusal>(())
 /// ```
+#[must_use = "without `end` there is no tag, and what was sealed opens for nobody"]
 pub struct Seal(Secret<ffi::Seal>);
 
 impl Seal {
@@ -92,6 +100,24 @@ impl Seal {
     /// The next piece of the text, into as many bytes of `out`.
     pub fn piece(&mut self, text: &[u8], out: &mut [u8]) -> Result<Done, Refusal> {
         ffi::seal_piece(&mut self.0, text, out).result()
+    }
+
+    /// The next piece of the text, in its place, through a small buffer. In a refusal it is as it was.
+    ///
+    /// ```
+    /// use luossavin::pieces::Seal;
+    /// use luossavin::Key;
+    ///
+    /// let key = Key::new(&[7; 16], 1)?;
+    /// let (mut apart, mut in_place) = ([0; 12], *b"a transcript");
+    /// Seal::start(&key, b"label", &[1; 12])?.piece(b"a transcript", &mut apart)?;
+    /// Seal::start(&key, b"label", &[1; 12])?.piece_in_place(&mut in_place)?;
+    /// assert_eq!(in_place, apart);
+    /// # Ok::<(), luossavin::Refusal>(())
+    /// ```
+    pub fn piece_in_place(&mut self, text: &mut [u8]) -> Result<(), Refusal> {
+        fits(self.0.total, text)?;
+        in_place(text, |portion, out| self.piece(portion, out))
     }
 
     /// The end of the message: its tag, and whether a counter came round in all of it.
@@ -117,6 +143,7 @@ impl Seal {
 /// assert!(opens.end(&sealed[12..])?);
 /// # Ok::<(), luossavin::Refusal>(())
 /// ```
+#[must_use = "without `end` nothing is answered"]
 pub struct Opens(Secret<ffi::Opens>);
 
 impl Opens {
@@ -142,6 +169,29 @@ impl Opens {
             Err(refusal) => Err(refusal),
         }
     }
+}
+
+/// How many bytes go through the buffer at a time.
+const PORTION: usize = 8192;
+
+/// A refusal where a piece would pass the limit of a message that has `total` bytes so far: no part of it is then done.
+fn fits(total: usize, piece: &[u8]) -> Result<(), Refusal> {
+    match total.checked_add(piece.len()) {
+        Some(whole) if whole <= LONGEST_TEXT => Ok(()),
+        _ => Err(Refusal::TooLong),
+    }
+}
+
+/// Goes over bytes in their place, each portion from a copy, which is overwritten.
+fn in_place(bytes: &mut [u8], mut step: impl FnMut(&[u8], &mut [u8]) -> Result<Done, Refusal>) -> Result<(), Refusal> {
+    let mut copy = [0; PORTION];
+    let done = bytes.chunks_mut(PORTION).try_for_each(|portion| {
+        let copy = &mut copy[..portion.len()];
+        copy.copy_from_slice(portion);
+        step(copy, portion).map(drop)
+    });
+    crate::wipe(&mut copy);
+    done
 }
 
 /// Shows a state by its name and its key's number.

@@ -27,12 +27,12 @@
 //!
 //! None of these says that a counter came round: a range does not know the message's end.
 
+use crate::sizes::MOST_WORKERS;
 use crate::{ffi, Direction, Done, Key, Refusal};
-use std::fmt;
-use std::ops::Range;
-
-/// How many pieces a plan may have.
-const MOST_PIECES: usize = 64;
+use alloc::boxed::Box;
+use alloc::vec::Vec;
+use core::fmt;
+use core::ops::Range;
 
 /// Who does what of a message: pieces one behind another, each but the last of whole blocks. A plan is always one
 /// that work may go by.
@@ -62,9 +62,9 @@ impl Plan {
     /// ```
     pub fn of_lengths(lengths: &[usize]) -> Result<Plan, Refusal> {
         let mut plan =
-            Box::new(ffi::Plan { count: lengths.len(), starts: [0; MOST_PIECES], lengths: [0; MOST_PIECES] });
+            Box::new(ffi::Plan { count: lengths.len(), starts: [0; MOST_WORKERS], lengths: [0; MOST_WORKERS] });
         let mut end = 0usize;
-        for (at, length) in lengths.iter().enumerate().take(MOST_PIECES) {
+        for (at, length) in lengths.iter().enumerate().take(MOST_WORKERS) {
             plan.starts[at] = end;
             plan.lengths[at] = *length;
             end = end.checked_add(*length).ok_or(Refusal::NotAccepted)?;
@@ -77,11 +77,13 @@ impl Plan {
     }
 
     /// Where each piece stands in the message.
+    #[must_use]
     pub fn pieces(&self) -> impl ExactSizeIterator<Item = Range<usize>> + '_ {
         (0..self.0.count).map(|at| self.0.starts[at]..self.0.starts[at] + self.0.lengths[at])
     }
 
     /// Whether the plan is one for `n` bytes.
+    #[must_use]
     pub fn accepts(&self, n: usize) -> bool {
         ffi::plan_accepts(&self.0, n)
     }
@@ -95,7 +97,7 @@ impl Plan {
         }
         let mut rest = out.get_mut(..data.len()).ok_or(Refusal::NoRoom)?;
         let share = |piece: Range<usize>| {
-            let (out, behind) = std::mem::take(&mut rest).split_at_mut(piece.len());
+            let (out, behind) = core::mem::take(&mut rest).split_at_mut(piece.len());
             rest = behind;
             Share { offset: piece.start, data: &data[piece], out }
         };
@@ -117,6 +119,7 @@ impl fmt::Debug for Plan {
 }
 
 /// One worker's part of a message and of its output, which no other share has.
+#[must_use = "a share that nobody works on leaves its part of the output as it was"]
 pub struct Share<'a> {
     offset: usize,
     data: &'a [u8],

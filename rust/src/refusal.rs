@@ -1,15 +1,17 @@
 //! What a call answers: done, or a refusal by its number.
 
 use crate::ffi;
-use std::fmt;
+use core::fmt;
+use core::mem::discriminant;
+#[cfg(feature = "std")]
 use std::io;
-use std::mem::discriminant;
 
 /// Why a call was refused. Each has the number that `include/luossavin.h` gives it; nothing was written, and the
 /// state of a message in pieces is as it was.
 ///
 /// The first four are libsm's names. libsm has `ErrorBlockSize` for a wrong IV and a wrong block too; these have
-/// names of their own here.
+/// names of their own here. Some are of the library alone: [`CipherMode`](crate::sm4::cipher_mode::CipherMode) has no
+/// [`BadMode`](Refusal::BadMode), though a journal may, and a state that has [`Ended`](Refusal::Ended) is consumed.
 ///
 /// ```
 /// use luossavin::sm4::cipher_mode::{CipherMode, Sm4CipherMode};
@@ -28,23 +30,24 @@ use std::mem::discriminant;
 #[derive(Clone, Copy, Debug, PartialEq, Eq, Hash)]
 #[non_exhaustive]
 pub enum Refusal {
+    // numbers.txt: refusals of Rust
     /// 1: the key is not 16 bytes.
     ErrorBlockSize,
     /// 2: Cbc decryption of a length that does not divide by 16.
     ErrorDataLen,
-    /// 3: Cbc decryption, and the last decrypted byte is 0 or above 16.
+    /// 3: Cbc decryption: the last decrypted byte is 0 or above 16.
     InvalidLastU8,
-    /// 4: Gcm decryption, and the 16 bytes at the end are not the tag.
+    /// 4: Gcm decryption: the 16 bytes at the end are not the tag.
     InvalidTag,
     /// 5: a length limit is passed.
     TooLong,
     /// 6: the output buffer is shorter than the room needed.
     NoRoom,
-    /// 7: the mode is above 4. [`CipherMode`](crate::sm4::cipher_mode::CipherMode) has no such mode; a journal may.
+    /// 7: the mode is above 4.
     BadMode,
-    /// 8: Cbc decryption of nothing.
+    /// 8: Cbc decryption of 0 bytes.
     EmptyCbc,
-    /// 9: Gcm decryption of fewer than 16 bytes, or a tag that does not have 16.
+    /// 9: Gcm decryption of fewer than 16 bytes; in pieces, a tag that has not 16.
     ShortGcm {
         /// How many bytes are missing of 16; 0 for a tag of more than 16.
         missing: u8,
@@ -53,16 +56,15 @@ pub enum Refusal {
     WrongIv,
     /// 11: the single block is not 16 bytes.
     WrongBlock,
-    /// 12: the message in pieces has come to its end. A state that has ended is consumed here, so that it is never
-    /// given.
+    /// 12: the message in pieces has come to its end.
     Ended,
     /// 13: the key's number is not from 1 to 65,535.
     WrongNumber,
     /// 14: encryption under a retired key.
     Retired,
-    /// 15: Cbc decryption, and the last byte names a padding that the bytes before it do not bear out.
+    /// 15: Cbc decryption: the last decrypted byte p is 1 to 16, and not all p last bytes are p.
     InvalidPadding,
-    /// 16: more than 64 candidate labels.
+    /// 16: more than 64 candidate labels, or lengths that do not add up to the labels' buffer.
     BadList,
     /// 17: a plan for no workers, or for more than 64.
     BadWorkers,
@@ -72,7 +74,7 @@ pub enum Refusal {
     BadShelf,
     /// 20: the shelf has that edition of the job already, or a higher one.
     NotHigher,
-    /// 21: the records that would be current do not fit on the shelf.
+    /// 21: the records that would be current do not fit in the buffer.
     NoShelfRoom,
     /// 22: the shelf has no current record of the job.
     NoCurrent,
@@ -84,17 +86,18 @@ pub enum Refusal {
     UnknownKey,
     /// 26: a replay with more than eight keys, with a retired one, or with a number twice.
     BadKeys,
+    // numbers.txt: end
     /// A number that this package does not know, of an archive that is newer than it.
     Unknown(u32),
 }
 
 use Refusal::*;
 
-/// The one table of refusals, by their numbers from 1 on: name, sentence, and what to do next where that helps. This
-/// package's `Display`, the tool and the documents take their words from here; the tool puts what it knows of a file in
-/// the place of a sentence's general words.
+/// The refusals by their numbers from 1 on: name, sentence, and what to do next where that helps. `Display` and the tool
+/// take their words from here; the tool puts what it knows of a file in the place of a sentence's general words.
 #[rustfmt::skip]
 const BY_NUMBER: [(Refusal, &str, &str, &str); 26] = [
+    // numbers.txt: texts of Rust
     (ErrorBlockSize, "ErrorBlockSize", "the key has another size, and neither 16 raw bytes nor 32 hex digits", ""),
     (ErrorDataLen, "ErrorDataLen", "this message has another length, and cbc writes 16 or a multiple: cbc did not encrypt it, or it was cut short", ""),
     (InvalidLastU8, "InvalidLastU8", "this message was not encrypted with cbc, this key and IV, or it was changed since", ""),
@@ -121,10 +124,12 @@ const BY_NUMBER: [(Refusal, &str, &str, &str); 26] = [
     (PartTooLong, "PartTooLong", "a record has a label, data or an IV of more than 16384 bytes, or an output of more than 16400", "leave such calls out where the journal is made"),
     (UnknownKey, "UnknownKey", "a record is of a key that is not among the keys that were given", "give that key too"),
     (BadKeys, "BadKeys", "a replay takes up to 8 keys, none of them retired, and each number stands for one key", ""),
+    // numbers.txt: end
 ];
 
 impl Refusal {
     /// The number of the refusal, as the header has it and the tool ends with.
+    #[must_use]
     pub fn number(self) -> u32 {
         match self {
             Unknown(number) => number,
@@ -137,22 +142,26 @@ impl Refusal {
     /// ```
     /// assert_eq!(luossavin::Refusal::NoShelfRoom.name(), "NoShelfRoom");
     /// ```
+    #[must_use]
     pub fn name(self) -> &'static str {
         self.row().map_or("Unknown", |row| row.1)
     }
 
     /// What the refusal says, in one sentence, of a message in general.
+    #[must_use]
     pub fn sentence(self) -> &'static str {
         self.row().map_or("a refusal that this package does not know", |row| row.2)
     }
 
     /// What to do next, where there is something that helps.
+    #[must_use]
     pub fn next(self) -> Option<&'static str> {
         self.row().map(|row| row.3).filter(|next| !next.is_empty())
     }
 
     /// The refusal with a number, as a journal has it: none for 0, which is no refusal, and for a number that is not
     /// known.
+    #[must_use]
     pub fn with_number(number: u32) -> Option<Refusal> {
         match Refusal::of(number, 0) {
             Unknown(_) => None,
@@ -161,6 +170,7 @@ impl Refusal {
     }
 
     /// How many bytes were missing, of [`Refusal::ShortGcm`]; of every other refusal 0.
+    #[must_use]
     pub fn missing(self) -> u8 {
         match self {
             ShortGcm { missing } => missing,
@@ -168,7 +178,7 @@ impl Refusal {
         }
     }
 
-    /// The refusal that an error of [`io`] is about, where it is about one.
+    /// The refusal that an error of [`std::io`] is about, where it is about one.
     ///
     /// ```
     /// use luossavin::Refusal;
@@ -176,6 +186,8 @@ impl Refusal {
     /// let error = std::io::Error::from(Refusal::InvalidTag);
     /// assert_eq!(Refusal::in_error(&error), Some(Refusal::InvalidTag));
     /// ```
+    #[cfg(feature = "std")]
+    #[must_use]
     pub fn in_error(error: &io::Error) -> Option<Refusal> {
         error.get_ref()?.downcast_ref().copied()
     }
@@ -216,6 +228,7 @@ impl fmt::Display for Refusal {
     }
 }
 
+#[cfg(feature = "std")]
 impl std::error::Error for Refusal {}
 
 /// The words without the number, as libsm gives them.
@@ -226,6 +239,7 @@ impl From<Refusal> for &str {
 }
 
 /// Damaged messages are `InvalidData`, and all else that is refused `InvalidInput`.
+#[cfg(feature = "std")]
 impl From<Refusal> for io::Error {
     fn from(refusal: Refusal) -> Self {
         let kind = match refusal {
@@ -265,28 +279,55 @@ impl ffi::Answer {
 mod tests {
     use super::*;
 
-    const HEADER: &str = concat!(env!("CARGO_MANIFEST_DIR"), "/../include/luossavin.h");
-
-    /// The numbers and names of the header's table, 0 left out.
-    fn table() -> Vec<(u32, String)> {
-        let header = std::fs::read_to_string(HEADER).expect("the header of the checkout");
-        let row = |line: &str| {
-            let mut words = line.strip_prefix(" * ")?.split_whitespace();
-            let number = words.next()?.parse().ok()?;
-            let name = words.next()?;
-            name.starts_with(char::is_uppercase).then(|| (number, name.to_string()))
-        };
-        header.lines().map_while(|line| (line != "#ifndef LUOSSAVIN_H").then_some(line)).filter_map(row).collect()
+    /// What `include/numbers` says of the files that are written from `include/numbers.txt`, in a copy of them that was
+    /// changed.
+    fn numbers(change: &str) -> std::process::Output {
+        let script =
+            "set -e; cp -r --parents VERSION include lib rust/src docs/NUMBERS.md \"$1\"; cd \"$1\"; eval \"$2\"; \
+                      include/numbers --check";
+        let folder = std::env::temp_dir().join(format!("luossavin-numbers-{}-{}", std::process::id(), change.len()));
+        std::fs::create_dir_all(&folder).unwrap();
+        let output = std::process::Command::new("sh")
+            .args(["-c", script, "sh"])
+            .arg(&folder)
+            .arg(change)
+            .current_dir(concat!(env!("CARGO_MANIFEST_DIR"), "/.."))
+            .output()
+            .unwrap();
+        std::fs::remove_dir_all(&folder).unwrap();
+        output
     }
 
     #[test]
-    fn every_number_of_the_header_is_a_refusal_by_its_name() {
-        let table = table();
-        assert_eq!(table.len(), BY_NUMBER.len());
-        for (number, name) in table {
-            let refusal = Refusal::of(number, 5);
+    fn header_package_and_document_are_what_the_one_table_says() {
+        let output = numbers(":");
+        assert!(output.status.success(), "{}", String::from_utf8_lossy(&output.stderr));
+    }
+
+    /// That the test above can fail: each file, changed by a word, and the table itself.
+    #[test]
+    fn another_word_anywhere_is_told() {
+        for change in [
+            "sed -i 's/LUOSSAVIN_INVALID_TAG = 4/LUOSSAVIN_INVALID_TAG = 5/' include/luossavin.h",
+            "sed -i 's/\"InvalidTag\",/\"BadTag\",/' lib/luossavin.c",
+            "sed -i 's/was it cut off/has it been cut off/' rust/src/refusal.rs",
+            "sed -i 's/Gates = 2/Gates = 3/' rust/src/key.rs",
+            "sed -i 's/    Cbc = 3/    Cbc = 4/' rust/src/sm4/cipher_mode.rs",
+            "sed -i 's/16_777_216/16_777_217/' rust/src/sizes.rs",
+            "sed -i 's/begin another shelf/begin a second shelf/' docs/NUMBERS.md",
+            "sed -i 's/^refusal 26 /refusal 27 /' include/numbers.txt",
+            "echo 0.0.1 >VERSION",
+        ] {
+            assert!(!numbers(change).status.success(), "unseen: {change}");
+        }
+    }
+
+    #[test]
+    fn every_number_is_a_refusal_by_its_name() {
+        for (number, row) in (1..).zip(BY_NUMBER) {
+            let (refusal, name) = (Refusal::of(number, 5), row.1);
             assert_eq!(refusal.number(), number);
-            assert!(format!("{refusal:?}").split(' ').next() == Some(&name), "{number} {name} is {refusal:?}");
+            assert!(format!("{refusal:?}").split(' ').next() == Some(name), "{number} {name} is {refusal:?}");
             assert!(refusal.to_string().starts_with(&format!("{number} {name}: ")), "{refusal}");
             assert_eq!(refusal.missing(), if number == 9 { 5 } else { 0 });
         }

@@ -1,15 +1,15 @@
 //! A shelf: sealed files in one buffer, of which the newest edition of each job is current.
 
 use crate::editions::label;
+use crate::sizes::SHELF_HEAD;
 use crate::sm4::cipher_mode::{decrypted, CipherMode};
 use crate::{ffi, Key, Refusal};
-use std::fmt;
+use alloc::vec;
+use alloc::vec::Vec;
+use core::fmt;
 
 /// The most bytes that a shelf has.
-pub const LARGEST: usize = 65_536;
-
-/// How many bytes of a record stand before the sealed ones: mark, job, edition and length.
-const HEAD: usize = 12;
+pub const LARGEST: usize = crate::sizes::LARGEST_SHELF;
 
 /// A shelf with its buffer and the count of bytes that are used.
 ///
@@ -40,6 +40,7 @@ pub struct Shelf {
 
 impl Shelf {
     /// An empty shelf of the largest size.
+    #[must_use]
     pub fn new() -> Shelf {
         Shelf { buffer: vec![0; LARGEST], used: 0 }
     }
@@ -72,6 +73,7 @@ impl Shelf {
     }
 
     /// The bytes that are used: what is to be kept of a shelf.
+    #[must_use]
     pub fn as_bytes(&self) -> &[u8] {
         &self.buffer[..self.used]
     }
@@ -129,18 +131,21 @@ pub struct Record<'a> {
 
 impl<'a> Record<'a> {
     /// The job.
+    #[must_use]
     pub fn job(&self) -> u32 {
         u32::from_be_bytes([self.bytes[2], self.bytes[3], self.bytes[4], self.bytes[5]])
     }
 
     /// The edition.
+    #[must_use]
     pub fn edition(&self) -> u16 {
         u16::from_be_bytes([self.bytes[6], self.bytes[7]])
     }
 
     /// The sealed bytes.
+    #[must_use]
     pub fn sealed(&self) -> &'a [u8] {
-        &self.bytes[HEAD..]
+        &self.bytes[SHELF_HEAD..]
     }
 
     /// Opens the sealed bytes under the label of the record's own job and edition.

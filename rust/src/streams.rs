@@ -33,34 +33,94 @@ const PORTION: usize = 65_536;
 /// # Ok::<(), std::io::Error>(())
 /// ```
 ///
+/// It buffers by itself: lines may be written as they come, and no [`BufWriter`](std::io::BufWriter) is needed. What is
+/// buffered is sealed and passed on when there are 64 KiB of it, and by `flush`.
+///
 /// Only [`finish`](SealWriter::finish) makes a sealed message of it. A writer that is dropped before writes nothing
 /// more, not even what it has kept back, and what came out opens for nobody: a text that broke off is not to look
 /// whole. Nor does `finish` seal a message after a write that was refused, since some of its text is missing.
 #[must_use = "without `finish` there is no tag, and what was written opens for nobody"]
 pub struct SealWriter<W: Write> {
-    seal: Seal,
-    /// Ciphertext that is still to be written.
+    /// The state, until the tag is made.
+    seal: Option<Seal>,
+    /// What the end said, once the tag is made.
+    done: Option<Done>,
+    /// Text that is still to be sealed.
+    text: Buffered,
+    /// How many bytes of text were taken, those among them.
+    total: usize,
+    /// Ciphertext, and then the tag, that are still to be written.
     kept: Vec<u8>,
     /// The refusal of a write.
     refused: Option<Refusal>,
     to: W,
 }
 
+/// Text, which is overwritten when it is taken out and when it is dropped. It never grows past its first capacity, so that no
+/// copy is left behind.
+struct Buffered(Vec<u8>);
+
+impl Buffered {
+    fn clear(&mut self) {
+        crate::wipe(&mut self.0);
+        self.0.clear();
+    }
+}
+
+impl Drop for Buffered {
+    fn drop(&mut self) {
+        self.clear();
+    }
+}
+
 impl<W: Write> SealWriter<W> {
     /// Starts a message under the whole label and an IV of 12 or 16 bytes.
     pub fn start(key: &Key, label: &[u8], iv: &[u8], to: W) -> Result<SealWriter<W>, Refusal> {
-        let seal = Seal::start(key, label, iv)?;
-        Ok(SealWriter { seal, kept: Vec::with_capacity(PORTION), refused: None, to })
+        let seal = Some(Seal::start(key, label, iv)?);
+        let text = Buffered(Vec::with_capacity(PORTION));
+        Ok(SealWriter { seal, done: None, text, total: 0, kept: Vec::new(), refused: None, to })
     }
 
     /// Writes what is left and the tag, and gives back the writer below, with whether a counter came round. That
     /// writer is not flushed.
-    pub fn finish(mut self) -> io::Result<(W, Done)> {
+    ///
+    /// After an error of the writer below, as `WouldBlock`, it can be tried again: the error has the writer in it. `?`
+    /// takes it for an [`io::Error`].
+    ///
+    /// ```
+    /// # use luossavin::{streams::SealWriter, Key};
+    /// # let key = Key::new(&[7; 16], 1)?;
+    /// # let mut tries = 0;
+    /// let mut writer = SealWriter::start(&key, b"label", &[1; 16], Vec::new())?;
+    /// let (sealed, _) = loop {
+    ///     match writer.finish() {
+    ///         Ok(finished) => break finished,
+    ///         Err(unfinished) if unfinished.error().kind() == std::io::ErrorKind::WouldBlock => {
+    ///             writer = unfinished.into_writer();
+    ///         }
+    ///         Err(unfinished) => return Err(unfinished.into()),
+    ///     }
+    /// };
+    /// # assert_eq!(sealed.len(), 16);
+    /// # Ok::<(), std::io::Error>(())
+    /// ```
+    pub fn finish(mut self) -> Result<(W, Done), Unfinished<W>> {
+        match self.end() {
+            Ok(done) => Ok((self.to, done)),
+            Err(error) => Err(Unfinished { error, writer: Box::new(self) }),
+        }
+    }
+
+    fn end(&mut self) -> io::Result<Done> {
         self.go_on()?;
+        self.seal_text()?;
+        if let Some(seal) = self.seal.take() {
+            let (tag, done) = seal.end().map_err(|refusal| self.refuse(refusal))?;
+            self.kept.extend_from_slice(&tag);
+            self.done = Some(done);
+        }
         self.pass_on()?;
-        let (tag, done) = self.seal.end()?;
-        self.to.write_all(&tag)?;
-        Ok((self.to, done))
+        self.done.ok_or_else(|| Refusal::Ended.into())
     }
 
     /// An error where a write was refused before.
@@ -68,12 +128,37 @@ impl<W: Write> SealWriter<W> {
         self.refused.map_or(Ok(()), |refusal| Err(refusal.into()))
     }
 
+    fn refuse(&mut self, refusal: Refusal) -> io::Error {
+        self.refused = Some(refusal);
+        refusal.into()
+    }
+
+    /// Seals the text that is buffered, behind what is kept.
+    fn seal_text(&mut self) -> io::Result<()> {
+        if self.text.0.is_empty() {
+            return Ok(());
+        }
+        let before = self.kept.len();
+        self.kept.resize(before + self.text.0.len(), 0);
+        let sealed = match &mut self.seal {
+            Some(seal) => seal.piece(&self.text.0, &mut self.kept[before..]),
+            None => Err(Refusal::Ended),
+        };
+        self.text.clear();
+        if let Err(refusal) = sealed {
+            self.kept.truncate(before);
+            return Err(self.refuse(refusal));
+        }
+        Ok(())
+    }
+
     /// Writes the ciphertext that is kept. What an error leaves is still kept.
     fn pass_on(&mut self) -> io::Result<()> {
         while !self.kept.is_empty() {
             match self.to.write(&self.kept) {
                 Ok(0) => return Err(ErrorKind::WriteZero.into()),
-                Ok(n) => drop(self.kept.drain(..n)),
+                // no writer can have taken more than it was given
+                Ok(n) => drop(self.kept.drain(..n.min(self.kept.len()))),
                 Err(error) if error.kind() == ErrorKind::Interrupted => {}
                 Err(error) => return Err(error),
             }
@@ -86,21 +171,27 @@ impl<W: Write> Write for SealWriter<W> {
     /// Takes some of the text. After an error of the writer below none of it was taken, and it may come again.
     fn write(&mut self, text: &[u8]) -> io::Result<usize> {
         self.go_on()?;
-        if self.kept.len() == PORTION {
+        if self.text.0.len() == PORTION {
+            self.pass_on()?;
+            self.seal_text()?;
+        }
+        if self.kept.len() >= PORTION {
             self.pass_on()?;
         }
-        let before = self.kept.len();
-        let taken = text.len().min(PORTION - before);
-        self.kept.resize(before + taken, 0);
-        if let Err(refusal) = self.seal.piece(&text[..taken], &mut self.kept[before..]) {
-            self.kept.truncate(before);
-            self.refused = Some(refusal);
+        let taken = text.len().min(PORTION - self.text.0.len());
+        if self.seal.is_none() {
+            return Err(self.refuse(Refusal::Ended));
         }
-        self.go_on()?;
+        if taken > LONGEST_TEXT - self.total {
+            return Err(self.refuse(Refusal::TooLong));
+        }
+        self.text.0.extend_from_slice(&text[..taken]);
+        self.total += taken;
         Ok(taken)
     }
 
     fn flush(&mut self) -> io::Result<()> {
+        self.seal_text()?;
         self.pass_on()?;
         self.to.flush()
     }
@@ -109,6 +200,50 @@ impl<W: Write> Write for SealWriter<W> {
 impl<W: Write> fmt::Debug for SealWriter<W> {
     fn fmt(&self, f: &mut fmt::Formatter<'_>) -> fmt::Result {
         f.debug_struct("SealWriter").field("seal", &self.seal).finish_non_exhaustive()
+    }
+}
+
+/// What [`SealWriter::finish`] gives where the writer below has an error, or where a write was refused: the error, and the
+/// writer, with which it can be tried again.
+pub struct Unfinished<W: Write> {
+    error: io::Error,
+    writer: Box<SealWriter<W>>,
+}
+
+impl<W: Write> Unfinished<W> {
+    /// The error.
+    #[must_use]
+    pub fn error(&self) -> &io::Error {
+        &self.error
+    }
+
+    /// The writer as it is: what was written to the one below is not written again.
+    pub fn into_writer(self) -> SealWriter<W> {
+        *self.writer
+    }
+}
+
+impl<W: Write> From<Unfinished<W>> for io::Error {
+    fn from(unfinished: Unfinished<W>) -> io::Error {
+        unfinished.error
+    }
+}
+
+impl<W: Write> fmt::Debug for Unfinished<W> {
+    fn fmt(&self, f: &mut fmt::Formatter<'_>) -> fmt::Result {
+        f.debug_struct("Unfinished").field("error", &self.error).finish_non_exhaustive()
+    }
+}
+
+impl<W: Write> fmt::Display for Unfinished<W> {
+    fn fmt(&self, f: &mut fmt::Formatter<'_>) -> fmt::Result {
+        self.error.fmt(f)
+    }
+}
+
+impl<W: Write> std::error::Error for Unfinished<W> {
+    fn source(&self) -> Option<&(dyn std::error::Error + 'static)> {
+        Some(&self.error)
     }
 }
 
@@ -123,7 +258,8 @@ pub fn opens(key: &Key, label: &[u8], iv: &[u8], mut sealed: impl Read) -> io::R
     loop {
         match sealed.read(&mut held[filled..]) {
             Ok(0) => break,
-            Ok(n) => filled += n,
+            Ok(n) if n <= held.len() - filled => filled += n,
+            Ok(_) => return Err(io::Error::new(ErrorKind::Other, "a reader says that it read more than it was lent")),
             Err(error) if error.kind() == ErrorKind::Interrupted => {}
             Err(error) => return Err(error),
         }

@@ -4,16 +4,18 @@
 #[path = "../../host/rust/random.rs"]
 mod random;
 
+use luossavin::detached;
 use luossavin::editions::{label, which};
 use luossavin::halves::{Half, HashKey};
 use luossavin::journal::{replay, Call, Difference};
+use luossavin::keyring::Keyring;
 use luossavin::pieces::{Ctr, Opens, Seal};
 use luossavin::ranges::{ctr_range, Plan, Share};
 use luossavin::shelf::{Shelf, LARGEST};
 use luossavin::sm4::cipher::Sm4Cipher;
 use luossavin::sm4::cipher_mode::{CipherMode, Sm4CipherMode};
 use luossavin::streams::SealWriter;
-use luossavin::{Direction, Engine, Key, Refusal, LONGEST_TEXT};
+use luossavin::{Direction, Edition, Engine, Key, Refusal, LONGEST_TEXT};
 use random::Random;
 use std::sync::Arc;
 
@@ -44,6 +46,7 @@ fn keys_and_states_go_between_threads() {
     is_sent::<HashKey>();
     is_sent::<Half>();
     is_sent::<Refusal>();
+    is_sent::<Keyring>();
 }
 
 #[test]
@@ -102,6 +105,14 @@ fn a_retired_key_decrypts_alone() {
 }
 
 #[test]
+fn a_key_has_the_engine_that_it_was_given() {
+    assert_eq!(key(1).engine(), Engine::Chosen);
+    for engine in [Engine::Chosen, Engine::Tables, Engine::Gates] {
+        assert_eq!(key(1).with_engine(engine).engine(), engine);
+    }
+}
+
+#[test]
 fn engines_give_the_same_bytes() {
     let mut random = Random::new(1);
     for mode in MODES {
@@ -111,9 +122,9 @@ fn engines_give_the_same_bytes() {
                 let key = Key::new(&bytes, 1).unwrap().with_engine(engine);
                 Sm4CipherMode::with_key(key, mode).encrypt(&label, &text, &IV).unwrap()
             };
-            for engine in [Engine::Chosen, Engine::Tables, Engine::Gates] {
+            for engine in [Engine::Tables, Engine::Gates, Engine::Plain] {
                 assert_eq!(key(1).with_engine(engine).engine(), engine);
-                assert_eq!(made(Engine::Plain), made(engine), "{mode:?}, {length} bytes, {engine:?}");
+                assert_eq!(made(Engine::Chosen), made(engine), "{mode:?}, {length} bytes, {engine:?}");
             }
         }
     }
@@ -204,6 +215,47 @@ fn a_refused_piece_leaves_the_state_as_it_was() {
 }
 
 #[test]
+fn in_place_is_the_same_as_apart() {
+    let mut random = Random::new(7);
+    for length in [0, 1, 16, 100, 8191, 8192, 8193, 30_000] {
+        let (text, label) = (random.bytes(length), random.bytes(length % 19));
+        let sealed = gcm().encrypt(&label, &text, &IV).unwrap();
+        let mut place = text.clone();
+        let tag = detached::seal_in_place(&key(1), &label, &IV, &mut place).unwrap();
+        assert_eq!((&place[..], &tag[..]), sealed.split_at(length));
+        assert!(detached::opens(&key(1), &label, &IV, &place, &tag).unwrap());
+        assert_eq!(detached::open(&key(1).retire(), &label, &IV, &place, &tag).unwrap(), text);
+        let mut ctr = Ctr::start(&key(1), Direction::Encrypt, &IV).unwrap();
+        let (front, back) = place.split_at_mut(length / 3);
+        front.copy_from_slice(&text[..length / 3]);
+        back.copy_from_slice(&text[length / 3..]);
+        ctr.piece_in_place(front).unwrap();
+        ctr.piece_in_place(back).unwrap();
+        ctr.end().unwrap();
+        assert_eq!(place, Sm4CipherMode::with_key(key(1), CipherMode::Ctr).encrypt(b"", &text, &IV).unwrap());
+    }
+}
+
+#[test]
+fn what_is_refused_in_place_is_as_it_was() {
+    let mut long = vec![9; LONGEST_TEXT + 1];
+    assert_eq!(detached::seal_in_place(&key(1), b"", &IV, &mut long), Err(Refusal::TooLong));
+    assert_eq!(detached::seal_in_place(&key(1), b"", &IV[..13], &mut long), Err(Refusal::WrongIv));
+    assert_eq!(detached::seal_in_place(&key(1).retire(), b"", &IV, &mut long), Err(Refusal::Retired));
+    let mut seal = Seal::start(&key(1), b"", &IV).unwrap();
+    seal.piece_in_place(&mut [9; 10]).unwrap();
+    assert_eq!(seal.piece_in_place(&mut long[..LONGEST_TEXT - 9]), Err(Refusal::TooLong));
+    assert!(long.iter().all(|byte| *byte == 9));
+    assert_eq!(detached::open(&key(1), b"", &IV, &long, &[0; 16]), Err(Refusal::TooLong));
+    for (length, missing) in [(0, 16), (15, 1), (17, 0), (300, 0)] {
+        let tag = vec![0; length];
+        assert_eq!(detached::open(&key(1), b"", &IV, &long[..3], &tag), Err(Refusal::ShortGcm { missing }));
+        assert_eq!(detached::opens(&key(1), b"", &IV, &long[..3], &tag), Err(Refusal::ShortGcm { missing }));
+    }
+    assert_eq!(detached::open(&key(1), b"", &IV, &long[..3], &[0; 16]), Err(Refusal::InvalidTag));
+}
+
+#[test]
 fn a_question_is_answered_by_its_tag() {
     let sealed = gcm().encrypt(b"label", b"a text", &IV).unwrap();
     let asked = |tag: &[u8]| {
@@ -237,6 +289,37 @@ fn which_finds_the_first_that_opens() {
     let long = vec![0; LONGEST_TEXT + 5];
     assert_eq!(which(&key(1), &sealed, &IV, &[&candidates[39][..], &long]), Err(Refusal::TooLong));
     assert_eq!(which(&key(1), &sealed, &IV, &[&long[..]; 100]), Err(Refusal::BadList));
+}
+
+#[test]
+fn an_edition_is_sealed_asked_and_opened_as_the_single_calls_do() {
+    let mut random = Random::new(9);
+    for length in [0, 1, 15, 16, 17, 100, 9000] {
+        let (text, job, edition) = (random.bytes(length), length as u32 * 65_537, Edition(length as u16 + 1));
+        for iv in [&IV[..], &IV[..12]] {
+            let sealed = key(1).seal(job, edition, &text, iv).unwrap();
+            assert_eq!(sealed, gcm().encrypt(&edition.label_of(job), &text, iv).unwrap());
+            assert_eq!(key(1).retire().open(job, edition, &sealed, iv).unwrap(), text);
+            assert_eq!(key(1).retire().opens(job, edition, &sealed, iv), Ok(true));
+            for (job, edition) in [(job, Edition(0)), (job ^ 1, edition)] {
+                assert_eq!(key(1).opens(job, edition, &sealed, iv), Ok(false));
+                assert_eq!(key(1).open(job, edition, &sealed, iv), Err(Refusal::InvalidTag));
+            }
+            let mut damaged = sealed.clone();
+            damaged[length / 2] ^= 0x10;
+            assert_eq!(key(1).opens(job, edition, &damaged, iv), Ok(false));
+            let missing = 16 - (length % 16) as u8;
+            let short = key(1).opens(job, edition, &sealed[..length % 16], iv);
+            assert_eq!(short, Err(Refusal::ShortGcm { missing }));
+        }
+    }
+    let (job, edition, over) = (1, Edition(1), vec![0; LONGEST_TEXT + 17]);
+    assert_eq!(key(1).opens(job, edition, &over, &IV), Err(Refusal::TooLong));
+    assert_eq!(key(1).open(job, edition, &over, &IV), Err(Refusal::TooLong));
+    assert_eq!(key(1).seal(job, edition, &over, &IV), Err(Refusal::TooLong));
+    assert_eq!(key(1).opens(job, edition, &over[..16], &IV[..13]), Err(Refusal::WrongIv));
+    assert_eq!(key(1).seal(job, edition, b"", &[]), Err(Refusal::WrongIv));
+    assert_eq!(key(1).retire().seal(job, edition, b"", &IV), Err(Refusal::Retired));
 }
 
 #[test]

@@ -24,6 +24,7 @@ pub mod OfPieces
 pub mod OneBlockRefused
 pub mod ZeroKey
 pub mod OtherEdition
+pub mod EditionOpens
 pub mod Which
 pub mod Workers
 pub mod WorkersAnswer

@@ -16,6 +16,7 @@ pub mod InPieces
 -- demand 3, and what the demands were for
 pub mod OneBlockRefused
 pub mod OtherEdition
+pub mod EditionOpens
 pub mod Which
 pub mod Workers
 pub mod OnTheShelf

@@ -58,7 +58,7 @@ module _ (p : ℕ) (r : Report) (adds : AddsUp r) where
   added-none =
       let m : sums (r .«by_mode») (replicate 6 0) ≡ r .«by_mode» = ap (λ (n : ℕ). sums (r .«by_mode») (replicate n 0)) (sym (adds .modes))
       ∙ sums-none (r .«by_mode») in
-      let a : sums (r .«by_answer») (replicate 27 0) ≡ r .«by_answer» = ap (λ (n : ℕ). sums (r .«by_answer») (replicate n 0))
+      let a : sums (r .«by_answer») (replicate 32 0) ≡ r .«by_answer» = ap (λ (n : ℕ). sums (r .«by_answer») (replicate n 0))
       (sym (adds .answers)) ∙ sums-none (r .«by_answer») in
       same-report (omega arith) m a (omega arith) (omega arith) (either-way (r .first .found) (r .first))
 

@@ -41,7 +41,7 @@ within-nothing =
     record {
       records = omega arith;
       byMode = below-replicate 1 6 0 (lit< tt);
-      byAnswer = below-replicate 1 27 0 (lit< tt);
+      byAnswer = below-replicate 1 32 0 (lit< tt);
       bytesIn = omega arith;
       bytesOut = omega arith;
     }

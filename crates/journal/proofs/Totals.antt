@@ -80,7 +80,7 @@ totals-told ks b x ends =
     (record {
       records = omega (arith, t .records);
       byMode = λ i. omega (arith, t .byMode i, none-at 6 i);
-      byAnswer = λ i. omega (arith, t .byAnswer i, none-at 27 i);
+      byAnswer = λ i. omega (arith, t .byAnswer i, none-at 32 i);
       bytesIn = omega (arith, t .bytesIn);
       bytesOut = omega (arith, t .bytesOut);
     })

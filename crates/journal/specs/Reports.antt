@@ -17,7 +17,7 @@ nothing =
     record {
       records = 0;
       «by_mode» = replicate 6 0;
-      «by_answer» = replicate 27 0;
+      «by_answer» = replicate 32 0;
       «bytes_in» = 0;
       «bytes_out» = 0;
       first = record { found = false; index = 0; place = 0 };
@@ -62,7 +62,7 @@ total (n ∷ ns) = n + total ns
 -- the calls by mode, and those by answer, sum to the records
 pub record AddsUp (r : Report) : Type 0 where
   pub modes : length (r .«by_mode») ≡ 6
-  pub answers : length (r .«by_answer») ≡ 27
+  pub answers : length (r .«by_answer») ≡ 32
   pub byMode : total (r .«by_mode») ≡ r .records
   pub byAnswer : total (r .«by_answer») ≡ r .records
 

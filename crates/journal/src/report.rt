@@ -20,7 +20,7 @@ pub struct Difference {
 pub struct Report {
     pub records: u64,
     pub by_mode: [u64; 6],
-    pub by_answer: [u64; 27],
+    pub by_answer: [u64; 32],
     pub bytes_in: u64,
     pub bytes_out: u64,
     pub first: Difference,
@@ -33,7 +33,7 @@ pub fn nothing() -> Report
     Report {
         records: 0,
         by_mode: [0u64; 6],
-        by_answer: [0u64; 27],
+        by_answer: [0u64; 32],
         bytes_in: 0,
         bytes_out: 0,
         first: Difference {

@@ -1,4 +1,6 @@
+pub mod Asked
 pub mod Ciphers
 pub mod Marks
+pub mod Recorded
 pub mod Refusals
 pub mod Steps

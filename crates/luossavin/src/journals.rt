@@ -27,7 +27,7 @@ pub struct LuossavinReplayed {
     pub first_place: usize,
     pub records: u64,
     pub by_mode: [u64; 6],
-    pub by_answer: [u64; 27],
+    pub by_answer: [u64; 32],
     pub bytes_in: u64,
     pub bytes_out: u64,
 }

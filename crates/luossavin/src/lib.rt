@@ -1,9 +1,11 @@
 // The host boundary: what a host in C or Rust links, declared in `include/luossavin.h`. Every call ends with an answer, and
 // none has a `requires`: a host that breaks one could not be told.
+mod edition;
 mod halves;
 mod in_pieces;
 mod journals;
 pub mod key;
+mod recording;
 mod shelves;
 mod which;
 mod workers;
@@ -92,7 +94,7 @@ fn block_call(
     report(cipher_of(key).call(direction, block, out))
 }
 
-fn mode_call(
+pub(crate) fn mode_call(
     direction: Direction,
     mode: u32,
     key: LuossavinKey,

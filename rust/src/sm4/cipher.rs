@@ -2,7 +2,7 @@
 
 use super::error::Sm4Error;
 use crate::{ffi, Direction, Key};
-use std::sync::Arc;
+use alloc::sync::Arc;
 
 /// The block cipher under a key, as GB/T 32907-2016 has it.
 #[derive(Clone, Debug)]

@@ -1,12 +1,16 @@
 //! Messages in Cfb, Ofb, Ctr, Cbc and Gcm.
 
 use super::error::Sm4Result;
-use crate::{ffi, Direction, Done, Key, LONGEST_TEXT};
-use std::sync::Arc;
+use crate::sizes::LONGEST_SEALED;
+use crate::{ffi, Direction, Done, Key};
+use alloc::sync::Arc;
+use alloc::vec;
+use alloc::vec::Vec;
 
 /// A mode of operation.
 #[derive(Clone, Copy, Debug, PartialEq, Eq, Hash)]
 pub enum CipherMode {
+    // numbers.txt: modes of Rust
     /// Cipher feedback, in segments of 16 bytes.
     Cfb = 0,
     /// Output feedback.
@@ -15,15 +19,17 @@ pub enum CipherMode {
     Ctr = 2,
     /// Cipher block chaining, with a padding of 1 to 16 bytes.
     Cbc = 3,
-    /// Galois/counter mode: the one that seals, with a label and a tag.
+    /// Galois/counter mode: the one that seals, with a label (AAD) and a tag.
     Gcm = 4,
+    // numbers.txt: end
 }
 
 /// The longest output of a call. One that needs more room is refused for its length, whatever room it has.
-const LONGEST: usize = LONGEST_TEXT + 16;
+const LONGEST: usize = LONGEST_SEALED;
 
 impl CipherMode {
     /// The room that `n` bytes to encrypt need, which is also how many they become.
+    #[must_use]
     pub fn room_to_encrypt(self, n: usize) -> usize {
         match self {
             CipherMode::Cfb | CipherMode::Ofb | CipherMode::Ctr => n,
@@ -33,6 +39,7 @@ impl CipherMode {
     }
 
     /// The room that `n` bytes to decrypt need. In Cbc they become fewer.
+    #[must_use]
     pub fn room_to_decrypt(self, n: usize) -> usize {
         match self {
             CipherMode::Gcm => n.saturating_sub(16),
@@ -113,11 +120,13 @@ impl Sm4CipherMode {
     }
 
     /// The key that it is under.
+    #[must_use]
     pub fn key(&self) -> &Key {
         &self.key
     }
 
     /// The mode that it is in.
+    #[must_use]
     pub fn mode(&self) -> CipherMode {
         self.mode
     }

@@ -246,7 +246,9 @@ fn counts(sum: &Sum) -> Vec<(String, u64)> {
     let refused = if refusal == 0 { 0 } else { sum.records.saturating_add(1) };
     let mut counts = vec![("records".to_string(), sum.records)];
     counts.extend(MODES.iter().zip(sum.by_mode).map(|(name, n)| (format!("mode-{name}"), n)));
-    counts.extend(sum.by_answer.iter().enumerate().map(|(number, n)| (format!("answer-{number}"), *n)));
+    // those that no refusal has yet are left out
+    let known = (0..).zip(sum.by_answer).filter(|(number, _)| *number == 0 || Refusal::with_number(*number).is_some());
+    counts.extend(known.map(|(number, n)| (format!("answer-{number}"), n)));
     let names = "bytes-in bytes-out different-record different-byte refusal refused-record refused-byte";
     let last = [sum.bytes_in, sum.bytes_out, record, byte, u64::from(refusal), refused, place];
     counts.extend(names.split(' ').map(String::from).zip(last));

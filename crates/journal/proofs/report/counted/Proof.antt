@@ -46,7 +46,7 @@ one-more-requires-2 : tie.Need-one-more-requires-2
 one-more-requires-2 c κs =
     let S = c .before .before .before .before .before .before .before .before .before .before in
     let r = S .args .r in
-    let n : length (r .«by_answer») ≡ 27 = search needs in
+    let n : length (r .«by_answer») ≡ 32 = search needs in
     let inside = S .pre .1 .0 in
     let small = below-at (suc (S .args .place)) (r .«by_answer») (omega arith) (S .pre .1 .1 .1 .0 .byAnswer) (S .args .x .number) in
     let fits = room S in

@@ -1,0 +1,38 @@
+-- What a writer of records leaves, as a call's outcome.
+-- Assumes nothing.
+use mathlib.Core.Path.{_≡_, refl, ap, _∙_}
+use mathlib.Core.Bool.{Bool, true, false, cond}
+use mathlib.Core.List.{List}
+use Prim.Native.Nat.{ℕ}
+use lib.Dec.{ltb}
+use lib.ListN.{length}
+use Rattle.walk.specs.Outcome.{Outcome, leaving, refuse, done}
+use Rattle.walk.specs.Walk.{over}
+use Rattle.cipher_mode.specs.declared.Direction.{Direction}
+use Rattle.journal.specs.Format.{Entry, written, tooLong}
+use Rattle.journal.specs.Writer.{Leaves, write}
+use Rattle.journal.specs.declared.writer.Wrote.the-variants.{Done, TooLong, NoRoom}
+use Rattle.luossavin.specs.Recording.{recorded, wroteHead}
+
+abbrev pub leavesOutcome : Leaves → Outcome
+leavesOutcome l = leaving (wroteHead (l .wrote)) (l .bytes)
+
+by-tests : (long short : Bool) (p o : List ℕ)
+    → leavesOutcome (cond long (record { wrote = TooLong; bytes = o })
+    (cond short (record { wrote = NoRoom; bytes = o }) (record { wrote = Done (length p); bytes = over p o })))
+    ≡ refuse long 24 o (refuse short 6 o (done p o))
+by-tests true short p o = refl
+by-tests false true p o = refl
+by-tests false false p o = refl
+
+pub written-recorded : (e : Entry) (o : List ℕ) → leavesOutcome (write e o) ≡ recorded e o
+unfolding write recorded
+written-recorded e o = by-tests (tooLong e) (ltb (length o) (length (written e))) (written e) o
+
+-- entries whose fields are the same
+pub same-entry : {dir dir′ : Direction} {m m′ r r′ n n′ : ℕ} (key : ℕ) (label d iv output : List ℕ) → dir ≡ dir′ → m ≡ m′ → r ≡ r′
+    → n ≡ n′
+    → _≡_ {A = Entry}
+    (record { direction = dir; mode = m; key = key; label = label; «data» = d; iv = iv; room = r; number = n; output = output })
+    (record { direction = dir′; mode = m′; key = key; label = label; «data» = d; iv = iv; room = r′; number = n′; output = output })
+same-entry key label d iv output p q u v = rw (p, q, u, v)
