@@ -20,9 +20,10 @@ impl Keys {
     pub fn read(path: &Path) -> Result<Keys, String> {
         // room for all of it, so that no copy is left behind
         let mut file = Vec::with_capacity(LONGEST + 1);
-        let read = files::read_into(path, LONGEST, &mut file).and_then(|()| Keys::parse(&file));
+        let read = files::read_into(path, LONGEST, &mut file);
+        let keys = read.and_then(|()| Keys::parse(&file).map_err(|why| format!("{}, {why}", path.display())));
         sys::wipe(&mut file);
-        read.map_err(|why| if why.starts_with("cannot") { why } else { format!("{}: {why}", path.display()) })
+        keys
     }
 
     /// A number and 32 hex digits to a line and, behind those of a retired key, that word; from # on is a comment. What
@@ -51,23 +52,20 @@ impl Keys {
             keys.push(if is_retired { key.retire() } else { key });
         }
         if keys.len() > MOST {
-            return Err(format!("it has more than {MOST} keys"));
+            return Err(format!("there are more than {MOST} keys"));
         }
         keys.sort_by_key(Key::is_retired);
         Ok(Keys(keys.into_iter().map(|key| Sm4CipherMode::with_key(key, CipherMode::Gcm)).collect()))
     }
 
-    /// "1, 3 and, retired, 2"
+    /// "3, 1 retired"
     pub fn told(&self) -> String {
-        let numbers = |is_retired: bool| {
-            let keys = self.0.iter().map(Sm4CipherMode::key).filter(|key| key.is_retired() == is_retired);
-            keys.map(|key| key.number().to_string()).collect::<Vec<String>>().join(", ")
-        };
-        match (numbers(false), numbers(true)) {
-            (none, retired) if none.is_empty() && retired.is_empty() => "none".to_string(),
-            (all, retired) if retired.is_empty() => all,
-            (none, retired) if none.is_empty() => format!("retired, {retired}"),
-            (sealing, retired) => format!("{sealing} and, retired, {retired}"),
+        let word = |key: &Key| format!("{}{}", key.number(), if key.is_retired() { " retired" } else { "" });
+        let all: Vec<String> = self.0.iter().map(|gcm| word(gcm.key())).collect();
+        if all.is_empty() {
+            "none".to_string()
+        } else {
+            all.join(", ")
         }
     }
 
@@ -121,8 +119,8 @@ mod tests {
         let told = |file: &str| Keys::parse(file.as_bytes()).map(|keys| keys.told());
         assert_eq!(told("").unwrap(), "none");
         assert_eq!(told(&format!("# keys\n\n 7  {A} # this quarter's\r\n")).unwrap(), "7");
-        assert_eq!(told(&format!("1 {A} retired\n2 {B}")).unwrap(), "2 and, retired, 1");
-        assert_eq!(told(&format!("1 {A} retired\n2 {B} retired")).unwrap(), "retired, 1, 2");
+        assert_eq!(told(&format!("1 {A} retired\n2 {B}")).unwrap(), "2, 1 retired");
+        assert_eq!(told(&format!("1 {A} retired\n2 {B} retired")).unwrap(), "1 retired, 2 retired");
         let wrong =
             ["7", "7 00", "x y", &format!("0 {A}"), &format!("65536 {A}"), &format!("1 {A}0")].map(str::to_string);
         let more =
@@ -141,7 +139,7 @@ mod tests {
         let folder = Folder::new();
         assert!(Keys::read(&folder.0.join("keys")).map(|keys| keys.told()).unwrap_err().starts_with("cannot read"));
         let wrong = Keys::read(&folder.file("keys", b"1 2 3")).map(|keys| keys.told()).unwrap_err();
-        assert!(wrong.ends_with(&format!("keys: line 1: {EXPECTED}")), "{wrong}");
+        assert!(wrong.ends_with(&format!("keys, line 1: {EXPECTED}")), "{wrong}");
     }
 
     #[test]

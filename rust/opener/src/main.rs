@@ -40,6 +40,12 @@ use std::time::{Duration, Instant};
 const REQUEST: Duration = Duration::from_secs(2);
 const ANSWER: Duration = Duration::from_secs(10);
 
+/// How long a sealed file may take to come.
+const PATIENCE: Duration = Duration::from_secs(5);
+
+/// How many requests there are at a time. Others wait in the system's queue.
+const CONNECTIONS: usize = 128;
+
 /// How often the shelf is read where nobody asks.
 const WATCH: Duration = Duration::from_secs(1);
 
@@ -59,8 +65,7 @@ fn main() {
         Some("--version") => return println!("luossavin-opener {}", env!("CARGO_PKG_VERSION")),
         _ => {}
     }
-    let cores = thread::available_parallelism().map_or(1, usize::from);
-    let ended = match Options::read(&words, cores) {
+    let ended = match Options::read(&words) {
         Err(why) => Err((USAGE, format!("{why}\nFor an example: luossavin-opener --help"))),
         Ok(options) if options.is_check => check(&options).map_err(|why| (FILES, why)),
         Ok(options) => run(options).map_err(|why| (FILES, why)),
@@ -85,12 +90,14 @@ fn run(options: Options) -> Result<(), String> {
     if fs::metadata("/proc/self").map_or(false, |about| about.uid() == 0) {
         log("warning: it runs as root, and needs no more than to read the keys and the shelf, and to write what was seen");
     }
+    // each takes twice as much memory as its text, of up to 16 MiB
+    let openings = 2 * thread::available_parallelism().map_or(2, usize::from).max(2);
     let opener = Arc::new(Opener {
         current: Current::new(options.shelf, Seen::open(&options.seen)?),
         keys: RwLock::default(),
         upstream: options.upstream,
-        openings: Permits::new(options.openings),
-        patience: options.patience,
+        openings: Permits::new(openings),
+        patience: PATIENCE,
     });
     read_keys(&opener, &options.keys);
     match opener.current.watch() {
@@ -100,7 +107,7 @@ fn run(options: Options) -> Result<(), String> {
     let listener = listen(&options.listen)?;
     log(&format!("version {} listens at {}", env!("CARGO_PKG_VERSION"), options.listen.display()));
     let (serving, path) = (opener.clone(), options.keys);
-    let _pool = Pool::start(listener, options.connections, move |stream| serve(&serving, &stream));
+    let _pool = Pool::start(listener, CONNECTIONS, move |stream| serve(&serving, &stream));
     let reading = opener.clone();
     thread::spawn(move || {
         while sys::hang_up() {

@@ -10,8 +10,8 @@ use std::time::Instant;
 const LONGEST_HEAD: usize = 16_384;
 
 pub enum Upstream {
-    /// A socket, and the path in front of the job.
-    Cache(PathBuf, String),
+    /// The socket of a cache that has the files below /sealed/.
+    Cache(PathBuf),
     Folder(PathBuf),
 }
 
@@ -24,9 +24,9 @@ impl Upstream {
         into.clear();
         match self {
             Upstream::Folder(folder) => files::read_into(&folder.join(job.to_string()), most, into).map(|()| 0),
-            Upstream::Cache(socket, path) => {
+            Upstream::Cache(socket) => {
                 let cannot = |error: io::Error| format!("the cache {} does not answer: {error}", socket.display());
-                get(socket, &format!("{path}{job}"), again, until, LONGEST_HEAD + most, into).map_err(cannot)?;
+                get(socket, &format!("/sealed/{job}"), again, until, LONGEST_HEAD + most, into).map_err(cannot)?;
                 let start = body(into)?;
                 if into.len() - start > most {
                     return Err(format!("the cache's file has more than {most} bytes"));
@@ -90,7 +90,7 @@ mod tests {
         });
         let mut into = b"old".to_vec();
         let until = Instant::now() + Duration::from_secs(10);
-        let start = Upstream::Cache(socket, "/sealed/".to_string()).fetch(4711, again, until, most, &mut into);
+        let start = Upstream::Cache(socket).fetch(4711, again, until, most, &mut into);
         (start.map(|start| into[start..].to_vec()), cache.join().unwrap())
     }
 
@@ -122,7 +122,7 @@ mod tests {
     #[test]
     fn a_cache_that_is_down_or_silent_is_an_error() {
         let folder = Folder::new();
-        let upstream = Upstream::Cache(folder.0.join("cache"), "/".to_string());
+        let upstream = Upstream::Cache(folder.0.join("cache"));
         let until = Instant::now() + Duration::from_millis(30);
         let fetch = |upstream: &Upstream| upstream.fetch(1, false, until, 9, &mut Vec::new()).unwrap_err();
         assert!(fetch(&upstream).contains("does not answer: No such file"));
