@@ -85,7 +85,7 @@ pub fn is_named(entry: &[u8], iv: &[u8], sealed: &[u8]) -> bool {
 /// ```
 pub fn current(shelf: &Shelf) -> impl Iterator<Item = (u32, u16, &[u8])> {
     let mut rest = shelf.as_bytes();
-    let records = std::iter::from_fn(move || {
+    let records = core::iter::from_fn(move || {
         let (head, behind) = (rest.get(..12)?, rest.get(12..)?);
         let number =
             |from, to| head.get(from..to).unwrap_or_default().iter().fold(0, |n, byte| n << 8 | u32::from(*byte));

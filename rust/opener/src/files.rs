@@ -109,12 +109,13 @@ pub mod tests {
     #[test]
     fn a_stream_ends_at_its_deadline() {
         let (stream, mut other) = UnixStream::pair().unwrap();
+        let timed =
+            |milliseconds| Timed { stream: &stream, until: Instant::now() + Duration::from_millis(milliseconds) };
         let mut bytes = [0; 4];
-        let until = Instant::now() + Duration::from_millis(20);
         other.write_all(b"ab").unwrap();
-        assert_eq!(Timed { stream: &stream, until }.read(&mut bytes).unwrap(), 2);
-        assert!(Timed { stream: &stream, until }.read(&mut bytes).is_err());
-        assert!(Timed { stream: &stream, until }.write(&bytes).is_err());
-        assert!(Instant::now() >= until);
+        assert_eq!(timed(60_000).read(&mut bytes).unwrap(), 2);
+        assert!(timed(20).read(&mut bytes).is_err());
+        assert!(timed(0).read(&mut bytes).is_err() && timed(0).write(&bytes).is_err());
+        assert_eq!(timed(60_000).write(&bytes).unwrap(), 4);
     }
 }
