@@ -1,7 +1,8 @@
 //! Clients of a portal over a Unix socket, for host/morning.
 //!
 //!   morning load SOCKET PATH CLIENTS SECONDS [TAG]
-//!       how many requests a second are answered, and how many milliseconds one takes; with a TAG, of If-None-Match
+//!       how many requests a second are answered, how many milliseconds one takes, and how many there were; with a TAG, of
+//!       If-None-Match
 //!   morning publications SOCKET PATH CLIENTS COUNT COMMAND..
 //!       editions 2 to COUNT + 1 are published by COMMAND.. EDITION, while clients ask: is a response ever older than what was
 //!       current when it was asked for?
@@ -92,7 +93,7 @@ fn load(socket: &str, path: &str, clients: usize, seconds: u64, tag: Option<&str
     for count in counts {
         all += count?;
     }
-    println!("{:.0} {:.2}", all as f64 / took, clients as f64 * took * 1e3 / all as f64);
+    println!("{:.0} {:.2} {all}", all as f64 / took, clients as f64 * took * 1e3 / all as f64);
     Ok(())
 }
 
