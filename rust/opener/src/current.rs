@@ -4,7 +4,9 @@ use crate::seen::Seen;
 use crate::{files, log};
 use luossavin::reference;
 use luossavin::shelf::{Shelf, LARGEST};
+use luossavin::Refusal;
 use std::collections::HashMap;
+use std::fmt;
 use std::path::PathBuf;
 use std::sync::atomic::AtomicU16;
 use std::sync::{Arc, Mutex, PoisonError, RwLock};
@@ -22,8 +24,17 @@ pub struct Entry {
 #[derive(Debug, PartialEq, Eq)]
 pub enum Trouble {
     /// There is no such job, and never was.
-    NotThere(String),
+    NotThere,
     Closed(String),
+}
+
+impl fmt::Display for Trouble {
+    fn fmt(&self, f: &mut fmt::Formatter<'_>) -> fmt::Result {
+        match self {
+            Trouble::NotThere => Refusal::NoCurrent.fmt(f),
+            Trouble::Closed(why) => why.fmt(f),
+        }
+    }
 }
 
 /// The shelf as it was read last. Asking the library takes milliseconds on a full one, so what it says is kept for as long
@@ -62,7 +73,7 @@ impl Current {
             let entry = self.look(|held| held.jobs.get(&job).cloned()).map_err(Trouble::Closed)?;
             let mut seen = self.seen.lock().unwrap_or_else(PoisonError::into_inner);
             let why = match (entry, seen.highest(job)) {
-                (None, None) => return Err(Trouble::NotThere(luossavin::Refusal::NoCurrent.to_string())),
+                (None, None) => return Err(Trouble::NotThere),
                 (None, Some(highest)) => {
                     format!("{path} has no edition of it, and edition {highest} was current: is it an old one?")
                 }
@@ -146,7 +157,8 @@ mod tests {
         let (path, seen) = (folder.file("shelf", &shelf(&[(4711, 1), (12, 3)])), folder.file("seen", b""));
         let current = Current::new(path.clone(), Seen::open(&seen).unwrap());
         assert_eq!((edition(&current, 4711), edition(&current, 12)), (Ok(1), Ok(3)));
-        assert!(matches!(edition(&current, 13), Err(Trouble::NotThere(why)) if why.starts_with("22 NoCurrent")));
+        assert_eq!(edition(&current, 13), Err(Trouble::NotThere));
+        assert!(Trouble::NotThere.to_string().starts_with("22 NoCurrent"));
         folder.file("shelf", &shelf(&[(4711, 1), (12, 3), (4711, 2), (8, 9)]));
         assert_eq!(edition(&current, 4711), Ok(2));
         // job 8 was asked for by nobody

@@ -128,6 +128,9 @@ fn read_keys(opener: &Opener, path: &Path) {
         Keys::default()
     });
     log(&format!("keys: {}", keys.told()));
+    if fs::metadata(path).map_or(false, |about| about.mode() & 0o044 != 0) {
+        log(&format!("warning: others can read {0}: chmod 400 {0}", path.display()));
+    }
     *opener.keys.write().unwrap_or_else(PoisonError::into_inner) = Arc::new(keys);
 }
 

@@ -71,6 +71,13 @@ impl Answer {
         Answer::new(status, "Cache-Control: no-store\r\n".to_string(), Body::Words(words))
     }
 
+    /// An answer about the current edition of a job.
+    fn current(job: u32, entry: &Entry, status: &'static str, body: Body) -> Answer {
+        let (tag, edition) = (etag(job, entry), entry.edition);
+        let headers = format!("ETag: {tag}\r\nCache-Control: private, no-cache\r\nLuossavin-Edition: {edition}\r\n");
+        Answer::new(status, headers, body)
+    }
+
     /// What is said where nothing may be shown. The reason is in the log alone.
     fn closed() -> Answer {
         let headers = "Cache-Control: no-store\r\nRetry-After: 5\r\n".to_string();
@@ -91,54 +98,57 @@ impl Opener {
         };
         let entry = match self.current.find(job) {
             Ok(entry) => entry,
-            Err(Trouble::NotThere(why)) => {
-                log(&format!("job {job}: {why}"));
-                return Answer::words("404 Not Found", "There is no such transcript.\n");
-            }
-            Err(Trouble::Closed(why)) => {
-                log(&format!("job {job}: {why}"));
-                return Answer::closed();
+            Err(trouble) => {
+                log(&format!("job {job}: {trouble}"));
+                return match trouble {
+                    Trouble::NotThere => Answer::words("404 Not Found", "There is no such transcript.\n"),
+                    Trouble::Closed(_) => Answer::closed(),
+                };
             }
         };
-        let tag = etag(job, &entry);
-        let headers =
-            format!("ETag: {tag}\r\nCache-Control: private, no-cache\r\nLuossavin-Edition: {}\r\n", entry.edition);
         let is_post = request.method == Method::Post;
-        if !is_post && request.names(&tag) {
-            return Answer::new("304 Not Modified", headers, Body::None);
+        if !is_post && request.names(&etag(job, &entry)) {
+            return Answer::current(job, &entry, "304 Not Modified", Body::None);
         }
         if is_post && request.length > 0 {
             return match self.open(job, &entry, 0, room) {
-                Ok(_) => Answer::new("204 No Content", headers, Body::None),
+                Ok(_) => Answer::current(job, &entry, "204 No Content", Body::None),
                 Err(why) => {
                     log(&format!("job {job}, edition {}: what was sent: {why}", entry.edition));
                     Answer::words("409 Conflict", "This is not the current edition.\n")
                 }
             };
         }
-        match self.fetch_and_open(job, &entry, room) {
-            Some(_) if is_post => Answer::new("204 No Content", headers, Body::None),
-            Some(length) => Answer::new("200 OK", headers, Body::Text(length)),
+        match self.fetch_and_open(job, entry, room) {
+            Some((entry, _)) if is_post => Answer::current(job, &entry, "204 No Content", Body::None),
+            Some((entry, length)) => Answer::current(job, &entry, "200 OK", Body::Text(length)),
             None => Answer::closed(),
         }
     }
 
-    /// Fetches the file and opens it; where it does not open, the cache is to fetch it once more. How long the text is,
-    /// or none, where nothing may be shown.
-    fn fetch_and_open(&self, job: u32, entry: &Entry, room: &mut Room) -> Option<usize> {
-        let say = |why: &str| log(&format!("job {job}, edition {}: {why}", entry.edition));
+    /// Fetches the file and opens it; where it does not open, it is asked once more which edition is current, and the
+    /// cache is to fetch the file anew. The edition that opened and how long its text is, or none, where nothing may be
+    /// shown.
+    fn fetch_and_open(&self, job: u32, mut entry: Arc<Entry>, room: &mut Room) -> Option<(Arc<Entry>, usize)> {
         let until = Instant::now() + self.patience;
         let permit = self.openings.take(until);
         if permit.is_none() {
-            say("too many others are being opened");
+            log(&format!("job {job}, edition {}: too many others are being opened", entry.edition));
             return None;
         }
         for again in [false, true] {
             let fetched = self.upstream.fetch(job, again, until, LONGEST, &mut room.file);
-            match fetched.and_then(|start| self.open(job, entry, start, room)) {
-                Ok(length) => return Some(length),
-                Err(why) if again => say(&format!("{why}; nothing is shown")),
-                Err(why) => say(&format!("{why}; the cache is to fetch it once more")),
+            match fetched.and_then(|start| self.open(job, &entry, start, room)) {
+                Ok(length) => return Some((entry, length)),
+                Err(why) => {
+                    let next = if again { "nothing is shown" } else { "the cache is to fetch it once more" };
+                    log(&format!("job {job}, edition {}: {why}; {next}", entry.edition));
+                }
+            }
+            if !again {
+                // a new edition may have come since the shelf was read
+                let found = self.current.find(job).map_err(|trouble| log(&format!("job {job}: {trouble}")));
+                entry = found.ok()?;
             }
         }
         None
