@@ -21,7 +21,7 @@
 //! | [`editions`] | which of up to 64 labels a file opens under |
 //! | [`ranges`] | one Ctr message among several workers |
 //! | [`shelf`] | sealed files in one buffer, of which the newest edition of each job is current |
-//! | [`reference`] | an IV and a tag, which stand on a shelf for a sealed file in a store |
+//! | [`reference`](mod@reference) | an IV and a tag, which stand on a shelf for a sealed file in a store |
 //! | [`journal`] | recorded calls, made again and added up |
 //! | [`halves`] | hashes of halves of a message, joined to the whole's |
 //!

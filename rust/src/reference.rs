@@ -56,7 +56,7 @@ pub fn reference(iv: &[u8], sealed: &[u8]) -> Result<[u8; LENGTH], Refusal> {
     Ok(reference)
 }
 
-/// The IV and the sealed bytes of a file that has its IV in front. It is refused as [`reference`] is.
+/// The IV and the sealed bytes of a file that has its IV in front. It is refused as [`reference()`] is.
 pub fn split(stored: &[u8]) -> Result<(&[u8], &[u8]), Refusal> {
     if stored.len() < IV {
         return Err(Refusal::WrongIv);
