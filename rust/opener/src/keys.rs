@@ -40,8 +40,8 @@ impl Keys {
                 _ => return Err(format!("line {}: {EXPECTED}", at + 1)),
             };
             let number = std::str::from_utf8(number).ok().and_then(|number| number.parse().ok());
-            let mut bytes = hex(digits);
-            let key = number.and_then(|number| Key::new(&bytes, number).ok());
+            let mut bytes = [0; 16];
+            let key = hex(digits, &mut bytes).and(number).and_then(|number| Key::new(&bytes, number).ok());
             sys::wipe(&mut bytes);
             let key = key.ok_or_else(|| format!("line {}: {EXPECTED}", at + 1))?;
             if keys.iter().any(|other| other.number() == key.number()) {
@@ -95,14 +95,16 @@ impl Keys {
 const EXPECTED: &str =
     "expected a key's number, from 1 to 65535, and 32 hex digits, and of a retired key the word retired";
 
-/// The bytes that hex digits say; none where there is another character.
-fn hex(digits: &[u8]) -> Vec<u8> {
+/// The key that 32 hex digits say, into a buffer of the caller's, so that no copy is left behind.
+fn hex(digits: &[u8], key: &mut [u8; 16]) -> Option<()> {
     let digit = |byte: &u8| char::from(*byte).to_digit(16).map(|digit| digit as u8);
-    let pair = |pair: &[u8]| match pair {
-        [high, low] => Some(digit(high)? << 4 | digit(low)?),
-        _ => None,
-    };
-    digits.chunks(2).map(pair).collect::<Option<Vec<u8>>>().unwrap_or_default()
+    if digits.len() != 32 {
+        return None;
+    }
+    for (byte, pair) in key.iter_mut().zip(digits.chunks(2)) {
+        *byte = digit(pair.first()?)? << 4 | digit(pair.last()?)?;
+    }
+    Some(())
 }
 
 #[cfg(test)]
@@ -146,7 +148,8 @@ mod tests {
     fn each_key_opens_what_it_sealed() {
         let keys = Keys::parse(format!("1 {A} retired\n2 {B}\n").as_bytes()).unwrap();
         let mut text = Vec::new();
-        for (number, bytes) in [(1, hex(A.as_bytes())), (2, vec![255; 16])] {
+        let keyed: [(u16, Vec<u8>); 2] = [(1, (0..16).collect()), (2, vec![255; 16])];
+        for (number, bytes) in keyed {
             let gcm = Sm4CipherMode::new(&bytes, CipherMode::Gcm).unwrap();
             let sealed = gcm.encrypt(&label(4711, 2), b"the final", &[number as u8; 16]).unwrap();
             for first in 0..3 {
