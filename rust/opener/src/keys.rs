@@ -1,8 +1,8 @@
 //! The keys that are held, by their numbers. A retired one opens what it sealed, as before.
 
-use crate::{files, sys};
+use crate::files;
 use luossavin::sm4::cipher_mode::{CipherMode, Sm4CipherMode};
-use luossavin::{Engine, Key, Refusal};
+use luossavin::{Key, Refusal};
 use std::path::Path;
 
 /// The most keys that are held: each of them is asked about a file that opens under none.
@@ -22,7 +22,7 @@ impl Keys {
         let mut file = Vec::with_capacity(LONGEST + 1);
         let read = files::read_into(path, LONGEST, &mut file);
         let keys = read.and_then(|()| Keys::parse(&file).map_err(|why| format!("{}, {why}", path.display())));
-        sys::wipe(&mut file);
+        luossavin::wipe(&mut file);
         keys
     }
 
@@ -42,13 +42,11 @@ impl Keys {
             let number = std::str::from_utf8(number).ok().and_then(|number| number.parse().ok());
             let mut bytes = [0; 16];
             let key = hex(digits, &mut bytes).and(number).and_then(|number| Key::new(&bytes, number).ok());
-            sys::wipe(&mut bytes);
+            luossavin::wipe(&mut bytes);
             let key = key.ok_or_else(|| format!("line {}: {EXPECTED}", at + 1))?;
             if keys.iter().any(|other| other.number() == key.number()) {
                 return Err(format!("line {}: key {} is listed before", at + 1, key.number()));
             }
-            // the fastest engine for long texts
-            let key = key.with_engine(Engine::Gates);
             keys.push(if is_retired { key.retire() } else { key });
         }
         if keys.len() > MOST {

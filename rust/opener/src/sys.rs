@@ -43,12 +43,3 @@ pub fn hang_up() -> bool {
     // SAFETY: both live as long as the call.
     unsafe { sigwait(&HANG_UP, &mut signal) == 0 }
 }
-
-/// Overwrites bytes, by writes that the compiler may not leave out.
-pub fn wipe(bytes: &mut [u8]) {
-    for byte in bytes {
-        // SAFETY: the byte is borrowed alone.
-        unsafe { std::ptr::write_volatile(byte, 0) };
-    }
-    std::sync::atomic::compiler_fence(std::sync::atomic::Ordering::SeqCst);
-}
