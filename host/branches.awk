@@ -70,8 +70,13 @@ function argument(r,    k, list, count_of) {
 function is_lost_in_calls(r) { return arm ? r ~ /^x([0-9]|1[0-8]|30)$/ : r ~ /^(rax|rcx|rdx|rsi|rdi|r8|r9|r10|r11)$/ }
 
 function offset(slot) { return substr(slot, 2, length(slot) - 2) + 0 }
-# How many bytes an operand has, as far as a store is concerned.
-function width(o) { return o ~ /^(%ymm|\$)/ ? 32 : o ~ /^(%xmm|q)/ ? 16 : o ~ /^w/ ? 4 : 8 }
+# How many bytes an operand has, as far as a store is concerned. A number's are not said.
+function width(o) {
+    if (o ~ /^(%ymm|\$)/) return 32
+    if (o ~ /^(%xmm|q)/) return 16
+    if (o ~ /^(w|%e[a-z]+$|%r[0-9]+d$)/) return 4
+    return o ~ /^%([abcd][lh]|[sd]il|[sb]pl|r[0-9]+b)$/ ? 1 : 8
+}
 
 # How instruction i writes r, a register or a place on the stack: 0 not, 1 as its destination, 2 otherwise or in part.
 function writes(i, r,    w, k, at, size) {
@@ -87,7 +92,7 @@ function writes(i, r,    w, k, at, size) {
         if (operand[i, k] == r) return 1
         at = offset(operand[i, k])
         size = width(raw[i, 1]) * (w ~ /^stn?p/ ? 2 : 1)
-        if (at >= offset(r) + (r in narrow ? 4 : 8) || at + size <= offset(r)) return 0
+        if (at >= offset(r) + (r in narrow ? narrow[r] : 8) || at + size <= offset(r)) return 0
         return arm && w == "stp" && at + width(raw[i, 1]) == offset(r) ? 1 : 2
     }
     if (is_call(i)) return is_lost_in_calls(r) ? 2 : 0
@@ -150,6 +155,8 @@ function other(i, o) {
 }
 function made_on_x86(i, r,    w, k, list, parts) {
     w = word[i]
+    # what is read of the stack is as wide as the register that it goes to
+    if (count[i] == 2 && operand[i, 1] ~ /^\[/ && w !~ /^(mov[sz]|lea)/) narrow[operand[i, 1]] = width(raw[i, 2])
     if (w ~ /^set/) found["answer"]
     else if (w ~ /^xor/ && operand[i, 1] == operand[i, 2]) found["constant"]
     else if (w ~ /^mov/ && w !~ /^movbe/ && count[i] == 2) other(i, operand[i, 1])
@@ -169,7 +176,7 @@ function made_on_arm(i, r,    w, k, last) {
     else if (w == "stp") other(i, operand[i, operand[i, 3] == r ? 1 : 2])
     else if (w ~ /^ldn?p$/ && operand[i, 3] ~ /^\[-?[0-9]+\]$/)
         other(i, operand[i, 1] == r ? operand[i, 3] : "[" (offset(operand[i, 3]) + width(raw[i, 1])) "]")
-    else if (w == "ldr" && raw[i, 1] ~ /^w/) { narrow[operand[i, 2]]; other(i, operand[i, 2]) }
+    else if (w == "ldr" && raw[i, 1] ~ /^w/) { narrow[operand[i, 2]] = 4; other(i, operand[i, 2]) }
     else if (w ~ /^ldu?r$/) other(i, operand[i, 2])
     else if (w ~ /^(mov|neg|mvn|and|ands|orr|eor|add|adds|sub|subs|lsl|lsr|asr|ubfx|sbfx|csel|csinc|cinc|mul|madd)$/) {
         # a condition at the end is none of what it is made of, nor is a shift

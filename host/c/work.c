@@ -4,6 +4,7 @@
  *   work pieces MODE encrypt|decrypt SIZE TIMES PIECE
  *   work range 2 encrypt|decrypt SIZE TIMES OFFSET
  *   work which 4 decrypt SIZE TIMES LABELS
+ *   work block 0 encrypt|decrypt 16 TIMES
  *   work join 4 encrypt SIZE TIMES BLOCKS
  *   work hash 4 encrypt SIZE TIMES
  *   work version libgcrypt|OpenSSL
@@ -17,7 +18,7 @@
  * 0 to 4. In pieces of PIECE bytes, by the library, it is 2, or 4: sealing, or opening without the text. A range of
  * a message, from OFFSET on, is Ctr's alone, and one set-up serves all. Of a file which label it opens under is asked with
  * LABELS of six bytes, up to 64, of which none opens it. A join is of two hashes, the second of BLOCKS blocks, whatever
- * SIZE is; a hash is of SIZE bytes. Exit status 3 where the library does not have the mode.
+ * SIZE is; a hash is of SIZE bytes. A single block is of no mode. Exit status 3 where the library does not have the mode.
  */
 #define _POSIX_C_SOURCE 200809L
 
@@ -100,6 +101,11 @@ static int which(const struct task *t, struct field data, uint8_t *out, size_t r
     return f.answer.number == 0 && f.found == 0;
 }
 
+static int block(const struct task *t, struct field data, uint8_t *out, size_t room)
+{
+    return (t->direction == ENCRYPT ? luossavin_block_encrypt : luossavin_block_decrypt)(record, data.bytes, data.length, out, room).number == 0;
+}
+
 static int join(const struct task *t, struct field data, uint8_t *out, size_t room)
 {
     static struct luossavin_hash y = {0x66e94bd4ef8a2c3b, 0x884cfa59ca342b2e};
@@ -156,6 +162,9 @@ static work *work_of(const char *who)
     }
     if (strcmp(who, "which") == 0) {
         return which;
+    }
+    if (strcmp(who, "block") == 0) {
+        return block;
     }
     if (strcmp(who, "join") == 0) {
         return join;
@@ -301,7 +310,7 @@ int main(int argc, char **argv)
     if (!is_task(argv[1], &t)) {
         fprintf(stderr, "usage: work library|once|libgcrypt|OpenSSL MODE encrypt|decrypt SIZE TIMES, or work pieces 2|4 "
             "encrypt|decrypt SIZE TIMES PIECE, or work range 2 encrypt|decrypt SIZE TIMES OFFSET, or work which 4 decrypt "
-            "SIZE TIMES LABELS, or work join 4 encrypt SIZE TIMES BLOCKS, or work hash 4 encrypt SIZE TIMES, or work version "
+            "SIZE TIMES LABELS, or work block 0 encrypt|decrypt 16 TIMES, or work join 4 encrypt SIZE TIMES BLOCKS, or work hash 4 encrypt SIZE TIMES, or work version "
             "libgcrypt|OpenSSL; or work tables, gates or plain and any but the last three, or work timed and any but the last\n");
         return 64;
     }

@@ -31,19 +31,14 @@ use Rattle.cipher_mode.proofs.Refusals.{refuses}
 use Rattle.editions.specs.Which.{opensWith}
 use Rattle.label.specs.Label.{labelOf}
 use Rattle.label.proofs.LabelTells.{length-label}
-use Rattle.luossavin.specs.declared.LuossavinAnswer.{LuossavinAnswer}
-use Rattle.luossavin.specs.declared.edition.LuossavinLabel.{LuossavinLabel}
 use Rattle.luossavin.specs.declared.key.LuossavinKey.{LuossavinKey}
 use Rattle.luossavin.specs.Key.{cipherIn, hostKeyEngine}
-use Rattle.luossavin.specs.Host.{headIn, hostModeCall}
+use Rattle.luossavin.specs.Host.{hostModeCall}
 use Rattle.luossavin.specs.Edition.{checkedHead, opensHead, hostEditionOpens}
-use Rattle.luossavin.specs.Recording.{hostRecord}
 use Rattle.demands.specs.Call.{inGcm}
 use Rattle.demands.specs.OneBlockRefused.{MovesZero}
-use Rattle.demands.specs.OneOutcome.{OneReport}
 use Rattle.demands.specs.EditionOpens.{Question, WithoutText, AnswersAsOpening, NeverNoRoom, OneEditionAlone}
 use Rattle.demands.proofs.OtherEdition.{other-edition-refused}
-use Rattle.demands.proofs.UniqueOutcomes.{one-host-answer, one-report}
 
 -- what a key's record is asked
 abbrev asks : Sm4Cipher → Question
@@ -150,18 +145,3 @@ module _ (k : LuossavinKey) where
       → hostEditionOpens (hostKeyEngine k e) job edition file iv ≡ hostEditionOpens k job edition file iv
   unfolding hostEditionOpens opensHead hostKeyEngine cipherIn
   exported-edition-engine-unseen e job edition file iv = refl
-
-  -- It has one answer.
-  pub unique-exported-edition-opens : (job edition : ℕ) (file iv : List ℕ) (r₁ r₂ : LuossavinAnswer)
-      → headIn r₁ ≡ hostEditionOpens k job edition file iv → headIn r₂ ≡ hostEditionOpens k job edition file iv → r₁ ≡ r₂
-  unique-exported-edition-opens job edition file iv r₁ r₂ e₁ e₂ = one-host-answer r₁ r₂ (e₁ ∙ sym e₂)
-
--- And so have the label, and the record of a call.
-pub unique-exported-label : (job edition : ℕ) (r₁ r₂ : LuossavinLabel) → r₁ .bytes ≡ labelOf job edition → r₂ .bytes ≡ labelOf job edition
-    → r₁ ≡ r₂
-unique-exported-label job edition r₁ r₂ e₁ e₂ = ap {B = LuossavinLabel} (λ (l : List ℕ). record { bytes = l }) (e₁ ∙ sym e₂)
-
-pub unique-exported-record : (decrypt : Bool) (mode key : ℕ) (label d iv : List ℕ) (room number : ℕ) (output o : List ℕ)
-    → OneReport (hostRecord decrypt mode key label d iv room number output o)
-unique-exported-record decrypt mode key label d iv room number output o =
-    one-report (hostRecord decrypt mode key label d iv room number output o)

@@ -41,6 +41,7 @@ use Rattle.shelf.specs.Calls.{Outcome as Shelf·Outcome, Place, numberOfEnd, ou
 use Rattle.journal.specs.declared.writer.Wrote.{Wrote}
 use Rattle.journal.specs.Writer.{Leaves}
 use Rattle.luossavin.specs.declared.LuossavinAnswer.{LuossavinAnswer}
+use Rattle.luossavin.specs.declared.edition.LuossavinLabel.{LuossavinLabel}
 use Rattle.luossavin.specs.declared.in_pieces.LuossavinCtrStep.{LuossavinCtrStep}
 use Rattle.luossavin.specs.declared.in_pieces.LuossavinOpensStep.{LuossavinOpensStep}
 use Rattle.luossavin.specs.declared.in_pieces.LuossavinSealStep.{LuossavinSealStep}
@@ -48,7 +49,7 @@ use Rattle.luossavin.specs.declared.shelves.LuossavinShelf.{LuossavinShelf}
 use Rattle.luossavin.specs.declared.shelves.LuossavinShelved.{LuossavinShelved}
 use Rattle.luossavin.specs.declared.which.LuossavinFound.{LuossavinFound}
 use Rattle.luossavin.specs.declared.workers.LuossavinPlanned.{LuossavinPlanned}
-use Rattle.luossavin.specs.Host.{reported}
+use Rattle.luossavin.specs.Host.{headIn, reported}
 use Rattle.luossavin.specs.InPieces.{ctrReported, sealReported, opensReported}
 use Rattle.luossavin.specs.Ranges.{Handed, plannedReported}
 use Rattle.luossavin.specs.Shelves.{shelfReported, shelvedReported}
@@ -125,6 +126,13 @@ unique-outcome x = one Answer Outcome outcome (λ y. answerOf (y .head)) (λ y. 
 
 pub unique-report : (x : Outcome) → One LuossavinAnswer Outcome reported x
 unique-report x = one LuossavinAnswer Outcome reported (λ y. hostAnswerOf (y .head)) (λ y. y .bytes) (λ a o. refl) (λ a o. refl) x
+
+-- Whether a file opens under an edition, which writes nothing, and a label.
+pub unique-asked : (x : Head) → OneValue LuossavinAnswer Head headIn x
+unique-asked x = one-value LuossavinAnswer Head headIn hostAnswerOf (λ a. refl) x
+
+pub unique-label : (x : List ℕ) → OneValue LuossavinLabel (List ℕ) (λ l. l .bytes) x
+unique-label x = one-value LuossavinLabel (List ℕ) (λ l. l .bytes) (λ b. record { bytes = b }) (λ l. refl) x
 
 -- Messages in pieces, be it a start, a piece or an end: the next state too.
 pub unique-ctr-step : (x : Stepped Ctr) → One CtrStep (Stepped Ctr) ctrStepped x
