@@ -1,7 +1,7 @@
 # make             builds libluossavin.a and libluossavin.so of the assembly in proved/ and of lib/, by a C compiler and ar alone
-# make tool        builds the tool, by cargo
+# make tool        builds the tool and the opener, by cargo
 # make crate       puts the cargo package together, in target/rust: what it takes of the repository, and nothing else
-# make install     puts library, header, tool and package below PREFIX; DESTDIR stands in front of every path, for who makes a package
+# make install     puts library, header, tool, opener and package below PREFIX; DESTDIR stands in front of every path, for who makes a package
 # make uninstall   takes away what `make install` put there
 # make dist        writes target/luossavin-VERSION-ARCH-linux.tar.gz for x86_64 and aarch64, each of which installs by the two above
 # make proved      writes proved/ anew; it takes the Rattle kit, and minutes, since the proof comes first
@@ -68,8 +68,8 @@ cargo_linker = CARGO_TARGET_$(shell echo $(rust_target) | tr a-z- A-Z_)_LINKER
 tool: | $(built)
 	@command -v $(CARGO) >/dev/null || { echo "cargo is needed to build the tool: Debian has it as the package cargo" >&2; exit 1; }
 	LUOSSAVIN_ABOUT="$$(tool/about)" $(cargo_linker)=$(CC) $(CARGO) build --quiet --release --offline --locked \
-	    --manifest-path rust/Cargo.toml -p luossavin-tool --target $(rust_target) --target-dir $(built)/cargo
-	cp $(built)/cargo/$(rust_target)/release/luossavin $(built)/luossavin
+	    --manifest-path rust/Cargo.toml -p luossavin-tool -p luossavin-opener --target $(rust_target) --target-dir $(built)/cargo
+	cp $(built)/cargo/$(rust_target)/release/luossavin $(built)/cargo/$(rust_target)/release/luossavin-opener $(built)
 
 # Without the tool, which is a member of its workspace; with what cargo asks of a folder of packages.
 crate:

@@ -65,7 +65,7 @@ shape "$here/other" >before
 holds 'two are alike, but for where they are' sh -c 'diff -r -x installed -x luossavin.pc "$1" "$2"' sh "$here/a place" "$here/other"
 holds 'everyone may read them' sh -c '! find "$1" ! -type l ! -perm -a=r | grep .' sh "$here/a place"
 holds 'and nobody else write' sh -c '! find "$1" ! -type l -perm /go=w | grep .' sh "$here/a place"
-for file in bin/luossavin include/luossavin.h lib/libluossavin.a lib/libluossavin.so lib/pkgconfig/luossavin.pc \
+for file in bin/luossavin bin/luossavin-opener include/luossavin.h lib/libluossavin.a lib/libluossavin.so lib/pkgconfig/luossavin.pc \
     share/man/man1/luossavin.1 share/bash-completion/completions/luossavin share/zsh/site-functions/_luossavin \
     share/fish/vendor_completions.d/luossavin.fish share/doc/luossavin/NOTICE share/doc/luossavin/LICENSE \
     share/doc/luossavin/README.md share/doc/luossavin/CHANGES.md share/doc/luossavin/docs/PROMISES.md; do
@@ -103,6 +103,7 @@ fi
 holds 'the page of the manual is the one that is shipped' cmp "$here/a place/share/man/man1/luossavin.1" "$made/tool/luossavin.1"
 says 'bash completes its words' 0 'complete -o default -F _luossavin luossavin' \
     bash -c '. "$1"; complete -p luossavin' bash "$here/a place/share/bash-completion/completions/luossavin"
+says 'the opener says what it is too' 0 "luossavin-opener $version" $runner "$here/a place/bin/luossavin-opener" --version
 says 'the demo' 0 "It is not: the final's label is refused on the rough." $runner "$tool" demo
 says 'and where the tar file was unpacked' 0 'Nothing was left behind.' $runner "$made"/*/luossavin demo
 for edition in 1 2; do
@@ -118,7 +119,7 @@ says 'wrong words name the tool as it was called' 64 './link help' $runner ./lin
 
 echo '--- the library'
 export PKG_CONFIG_PATH="$here/other/lib/pkgconfig"
-cp "$here"/other/share/doc/luossavin/examples/* .
+cp "$here"/other/share/doc/luossavin/examples/*.* .
 says 'pkg-config knows it' 0 "$version" pkg-config --modversion luossavin
 # the line by which an example says that it is compiled and run, with words in the place of those that it names
 line() { # EXAMPLE [SHELF JOB KEY IV]

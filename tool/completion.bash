@@ -18,7 +18,7 @@ _luossavin() {
     range) options='--key --number --retired --iv --iv-file --offset --decrypt --force' ;;
     shelf)
         case ${COMP_WORDS[2]} in
-        put) options='--key --number --retired --iv --iv-file --job --edition --unchecked --wait' ;;
+        put) options='--key --number --retired --iv --iv-file --job --edition --unchecked --reference --wait' ;;
         find) options='--job --json --force' ;;
         open) options='--job --key --number --retired --iv --iv-file' ;;
         verify) options='--key --number --retired --ivs' ;;

@@ -23,5 +23,6 @@ complete -c luossavin -n '__fish_seen_subcommand_from range' -l decrypt -d 'decr
 complete -c luossavin -n '__fish_seen_subcommand_from replay' -l keys -r -d 'file of keys'
 complete -c luossavin -n '__fish_seen_subcommand_from replay' -l plain -d 'lines for a script'
 complete -c luossavin -n '__fish_seen_subcommand_from put' -l unchecked -d 'do not ask whether IN opens'
+complete -c luossavin -n '__fish_seen_subcommand_from put' -l reference -d 'put the IV and the tag of IN'
 complete -c luossavin -n '__fish_seen_subcommand_from put collect' -l wait -x -d 'seconds to wait'
 complete -c luossavin -n '__fish_seen_subcommand_from verify' -l ivs -r -d 'file of IVs'

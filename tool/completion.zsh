@@ -33,7 +33,7 @@ _luossavin() {
     plan) _arguments '--workers[number of workers]:number:' '1:LENGTH:' ;;
     range) _arguments $key $iv '--offset[where IN begins]:number:' '--decrypt[decrypt]' '--force[write to a terminal too]' \
         '1:IN:_files' '2:OUT:_files' ;;
-    'shelf put') _arguments $key $iv $label '--unchecked[do not ask whether IN opens]' '--wait[seconds to wait]:number:' \
+    'shelf put') _arguments $key $iv $label '--unchecked[do not ask whether IN opens]' '--reference[put the IV and the tag of IN]' '--wait[seconds to wait]:number:' \
         '1:SHELF:_files' '2:IN:_files' ;;
     'shelf find') _arguments '--job[job]:number:' '--json[answer with an object]' '--force[write to a terminal too]' \
         '1:SHELF:_files' '2:OUT:_files' ;;

@@ -36,6 +36,7 @@
 //! | [`editions`] | [`Edition`], with [`Key::opens`], [`Key::seal`] and [`Key::open`]; which of up to 64 labels a file opens under |
 //! | [`ranges`] | one Ctr message among several workers |
 //! | [`shelf`] | sealed files in one buffer, of which the newest edition of each job is current |
+//! | [`reference`](mod@reference) | an IV and a tag, which stand on a shelf for a sealed file in a store |
 //! | [`journal`] | recorded calls, made again and added up |
 //! | [`halves`] | hashes of halves of a message, joined to the whole's |
 //!
@@ -69,6 +70,7 @@ mod key;
 pub mod keyring;
 pub mod pieces;
 pub mod ranges;
+pub mod reference;
 mod refusal;
 pub mod shelf;
 pub mod sizes;

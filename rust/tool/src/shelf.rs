@@ -7,6 +7,7 @@ use crate::progress::Progress;
 use crate::say::{answer, cannot, input, say, shown, told, Fail, FILES};
 use crate::sys;
 use crate::words::{Line, Thing};
+use luossavin::reference::reference;
 use luossavin::shelf::{Shelf, LARGEST};
 use luossavin::{Direction, Refusal};
 use std::ffi::{OsStr, OsString};
@@ -283,7 +284,7 @@ pub fn collect(line: &Line) -> Result<u8, Fail> {
     Ok(0)
 }
 
-/// Puts a sealed file on the shelf: one that opens under its label, or, unchecked, any.
+/// Puts a sealed file on the shelf, or the reference to it: one that opens under its label, or, unchecked, any.
 pub fn put(line: &Line) -> Result<u8, Fail> {
     let asked = Asked::read(line, Direction::Decrypt)?;
     let (job, edition) = asked.label;
@@ -294,8 +295,10 @@ pub fn put(line: &Line) -> Result<u8, Fail> {
     }
     look_at_shelf(line.word(Thing::Shelf))?;
     let sealed = if is_checked { asked.ask(&asked.key()?)? } else { asked.data()? };
+    let named = if line.says(Thing::Reference) { Some(refer(line, &asked.iv, &sealed)?) } else { None };
+    let entry = named.as_ref().map_or(&*sealed, |reference| &reference[..]);
     change(line, true, |shelf, before| {
-        shelf.put(job, edition, &sealed).map_err(|refusal| {
+        shelf.put(job, edition, entry).map_err(|refusal| {
             let highest = before.iter().filter(|record| record.job == job).map(|record| record.edition).max();
             let has = format!("edition {} of job {job} already,", highest.unwrap_or(0));
             let not = format!("only a higher one, not {edition}");
@@ -304,6 +307,14 @@ pub fn put(line: &Line) -> Result<u8, Fail> {
         })
     })?;
     Ok(0)
+}
+
+/// The IV and the tag of a sealed file, in its place.
+fn refer(line: &Line, iv: &[u8], sealed: &[u8]) -> Result<[u8; luossavin::reference::LENGTH], Fail> {
+    reference(iv, sealed).map_err(|refusal| {
+        let size = format!("{} bytes, and a reference has one of 16", iv.len());
+        refuse(line, refusal, &[("another size, not 16 bytes, nor 12 in gcm", size)])
+    })
 }
 
 #[cfg(test)]

@@ -12,13 +12,13 @@ use std::os::unix::ffi::OsStrExt;
 #[derive(Clone, Copy, Debug, PartialEq, Eq)]
 pub enum Thing {
     Mode, Key, Number, Retired, Iv, IvFile, Job, Edition, Editions, Candidates, Workers, Offset, Decrypt, Keys, Ivs, Wait,
-    Unchecked, Plain, Json, Force, Length, Shelf, In, Out,
+    Unchecked, Reference, Plain, Json, Force, Length, Shelf, In, Out,
 }
 
 use Thing::*;
 
 /// The options, with what is expected of the value; those without one are said alone.
-const OPTIONS: [(Thing, &str, &str); 20] = [
+const OPTIONS: [(Thing, &str, &str); 21] = [
     (Mode, "--mode", "cfb, ofb, ctr or cbc"),
     (Key, "--key", "a file of 16 raw bytes or 32 hex digits"),
     (Number, "--number", "a whole number from 1 to 65535"),
@@ -36,6 +36,7 @@ const OPTIONS: [(Thing, &str, &str); 20] = [
     (Ivs, "--ivs", "a file that has a job, an edition and an IV to a line"),
     (Wait, "--wait", "a whole number of seconds"),
     (Unchecked, "--unchecked", ""),
+    (Reference, "--reference", ""),
     (Plain, "--plain", ""),
     (Json, "--json", ""),
     (Force, "--force", ""),
@@ -55,7 +56,7 @@ const NOT_BOTH: [(&[Thing], &[Thing], &str); 5] = [
     (&[Keys], &[Key, Number], "--keys, or --key and --number"),
     (&[Iv], &[IvFile], "--iv or --iv-file"),
     (&[Plain], &[Json], "--plain or --json"),
-    (&[Unchecked], &[Key, Number, Retired, Iv, IvFile], "--unchecked, or --key and --iv"),
+    (&[Unchecked], &[Key, Number, Retired, Iv, IvFile, Reference], "--unchecked, or --key and --iv"),
 ];
 
 /// A command: its name, what it takes in the order in which it is told, and which of that may be left out.
@@ -84,7 +85,7 @@ pub const COMMANDS: [Command; 15] = [
     Command { name: "range", run: message::range, may_lack: &[],
         takes: &[Key, Number, Retired, Iv, IvFile, Offset, Decrypt, Force, In, Out] },
     Command { name: "shelf put", run: shelf::put, may_lack: &[Key, Iv],
-        takes: &[Key, Number, Retired, Iv, IvFile, Job, Edition, Unchecked, Wait, Shelf, In] },
+        takes: &[Key, Number, Retired, Iv, IvFile, Job, Edition, Unchecked, Reference, Wait, Shelf, In] },
     Command { name: "shelf find", run: shelf::find, may_lack: &[Out], takes: &[Job, Json, Force, Shelf, Out] },
     Command { name: "shelf open", run: shelf::open, may_lack: &[],
         takes: &[Job, Key, Number, Retired, Iv, IvFile, Shelf, Out] },
