@@ -169,13 +169,14 @@ pub fn tag_part(data: &[u8]) -> &[u8]
     &data[n..]
 }
 
-// Whether a sealed message has this tag. All sixteen bytes are looked at, whatever the first ones are.
+// Whether a sealed message has this tag. All sixteen bytes are looked at, whatever the first ones are: the differences are added up, since of
+// an `|` of them the back end can make a jump for each.
 fn has_tag(data: &[u8], expected: [u32; 4]) -> bool
     requires { ⌜ 16 ≤ length (now «data») ⌝ }
     ensures { λ r. ⌜ r ≡ same (tagPart (now («data» .entry))) (unwords expected) ⌝ }
 {
     let d = block::block_xor(block::split_block(tag_part(data)), expected);
-    d[0] | d[1] | d[2] | d[3] == 0
+    d[0] as u64 + d[1] as u64 + d[2] as u64 + d[3] as u64 == 0
 }
 
 // Whether a sealed message opens under a label.
