@@ -22,19 +22,36 @@ pub struct Product {
     pub w0: u64,
 }
 
-// What a product takes of its second factor y: the four parts, of every fourth bit each, of nine numbers of 32 bits. These are of y's
-// high half the high half, the low half and their sum, and the same of y's low half and of the sum of both. They are made once
-// where y stays the same.
+// The nine numbers of 32 bits whose products make up one of 128 bits: of x's high half the high half, the low half and their sum, and the
+// same of x's low half and of the sum of both.
+fn words_of(x: U128) -> [u32; 9]
+    ensures { λ r. ⌜ (r ≡ words128 x) × (x .low < 2 ^ 64) ⌝ }
+{
+    let t = x.low ^ x.high;
+    let a = (x.high >> 32) as u32;
+    let b = (x.high % 0x1_0000_0000) as u32;
+    let c = (x.low >> 32) as u32;
+    let d = (x.low % 0x1_0000_0000) as u32;
+    let e = (t >> 32) as u32;
+    let f = (t % 0x1_0000_0000) as u32;
+    [a, b, b ^ a, c, d, d ^ c, e, f, f ^ e]
+}
+
+// What a product takes of its second factor y: the four parts, of every fourth bit each, of its nine words. They are made once where y
+// stays the same.
 pub fn parts(y: U128) -> [u32; 36]
     ensures { λ r. ⌜ PartsOf y r ⌝ }
 {
-    let t = y.low ^ y.high;
-    let a = (y.high >> 32) as u32;
-    let b = (y.high % 0x1_0000_0000) as u32;
-    let c = (y.low >> 32) as u32;
-    let d = (y.low % 0x1_0000_0000) as u32;
-    let e = (t >> 32) as u32;
-    let f = (t % 0x1_0000_0000) as u32;
+    let w = words_of(y);
+    let a = w[0];
+    let b = w[1];
+    let c = w[2];
+    let d = w[3];
+    let e = w[4];
+    let f = w[5];
+    let g = w[6];
+    let h = w[7];
+    let i = w[8];
     [
         a & 0x1111_1111,
         a & 0x2222_2222,
@@ -44,10 +61,6 @@ pub fn parts(y: U128) -> [u32; 36]
         b & 0x2222_2222,
         b & 0x4444_4444,
         b & 0x8888_8888,
-        (b ^ a) & 0x1111_1111,
-        (b ^ a) & 0x2222_2222,
-        (b ^ a) & 0x4444_4444,
-        (b ^ a) & 0x8888_8888,
         c & 0x1111_1111,
         c & 0x2222_2222,
         c & 0x4444_4444,
@@ -56,10 +69,6 @@ pub fn parts(y: U128) -> [u32; 36]
         d & 0x2222_2222,
         d & 0x4444_4444,
         d & 0x8888_8888,
-        (d ^ c) & 0x1111_1111,
-        (d ^ c) & 0x2222_2222,
-        (d ^ c) & 0x4444_4444,
-        (d ^ c) & 0x8888_8888,
         e & 0x1111_1111,
         e & 0x2222_2222,
         e & 0x4444_4444,
@@ -68,10 +77,18 @@ pub fn parts(y: U128) -> [u32; 36]
         f & 0x2222_2222,
         f & 0x4444_4444,
         f & 0x8888_8888,
-        (f ^ e) & 0x1111_1111,
-        (f ^ e) & 0x2222_2222,
-        (f ^ e) & 0x4444_4444,
-        (f ^ e) & 0x8888_8888,
+        g & 0x1111_1111,
+        g & 0x2222_2222,
+        g & 0x4444_4444,
+        g & 0x8888_8888,
+        h & 0x1111_1111,
+        h & 0x2222_2222,
+        h & 0x4444_4444,
+        h & 0x8888_8888,
+        i & 0x1111_1111,
+        i & 0x2222_2222,
+        i & 0x4444_4444,
+        i & 0x8888_8888,
     ]
 }
 
@@ -142,21 +159,6 @@ pub fn joined128(high: U128, low: U128, both: U128) -> Product
         w1: low.high ^ middle.low,
         w0: low.low,
     }
-}
-
-// The nine numbers of 32 bits whose products make up one of 128 bits: of x's high half the high half, the low half and their sum, and the
-// same of x's low half and of the sum of both.
-fn words_of(x: U128) -> [u32; 9]
-    ensures { λ r. ⌜ (r ≡ words128 x) × (x .low < 2 ^ 64) ⌝ }
-{
-    let t = x.low ^ x.high;
-    let a = (x.high >> 32) as u32;
-    let b = (x.high % 0x1_0000_0000) as u32;
-    let c = (x.low >> 32) as u32;
-    let d = (x.low % 0x1_0000_0000) as u32;
-    let e = (t >> 32) as u32;
-    let f = (t % 0x1_0000_0000) as u32;
-    [a, b, b ^ a, c, d, d ^ c, e, f, f ^ e]
 }
 
 // The products of x's nine words by y's, whose parts are lent as m. Of eight of them the back end makes vectors; nine it would leave
