@@ -47,7 +47,7 @@ extern "C" {
  *
  * The version of this header; luossavin_version() says that of the library. */
 /* numbers.txt: version */
-#define LUOSSAVIN_VERSION "1.1.0"
+#define LUOSSAVIN_VERSION "1.2.0"
 /* numbers.txt: end */
 
 /* What an answer's `number` is. A later version may have more, up to 31: take what is not known for a refusal. */

@@ -1,6 +1,6 @@
 /* The work that is counted: a message of SIZE bytes, encrypted or decrypted TIMES times.
  *
- *   work library|once|libgcrypt|OpenSSL MODE encrypt|decrypt SIZE TIMES
+ *   work library|once|twelve|libgcrypt|OpenSSL MODE encrypt|decrypt SIZE TIMES
  *   work pieces MODE encrypt|decrypt SIZE TIMES PIECE
  *   work range 2 encrypt|decrypt SIZE TIMES OFFSET
  *   work which 4 decrypt SIZE TIMES LABELS
@@ -14,7 +14,8 @@
  *   work timed ..         prints how many million bytes a second of the processor's time it is, the best of some runs; what the library
  *                         makes is compared before that, and exit status 1 says that it is another
  *
- * Each message has its key set up anew; of `once`, which is the library too, one set-up serves all of them. MODE is
+ * Each message has its key set up anew; of `once`, which is the library too, one set-up serves all of them, and of `twelve`, which is
+ * Gcm under an IV of 12 bytes. All others have one of 16. MODE is
  * 0 to 4. In pieces of PIECE bytes, by the library, it is 2, or 4: sealing, or opening without the text. A range of
  * a message, from OFFSET on, is Ctr's alone, and one set-up serves all. Of a file which label it opens under is asked with
  * LABELS of six bytes, up to 64, of which none opens it. A join is of two hashes, the second of BLOCKS blocks, whatever
@@ -48,6 +49,9 @@ static struct luossavin_key record;
 
 static uint32_t engine;
 
+/* How many bytes of the IV a message has. */
+static size_t iv_length = sizeof iv;
+
 static void set_up_key(void)
 {
     record = luossavin_key_engine(luossavin_key_new(key, sizeof key, 1), engine);
@@ -56,7 +60,7 @@ static void set_up_key(void)
 static int once(const struct task *t, struct field data, uint8_t *out, size_t room)
 {
     return (t->direction == ENCRYPT ? luossavin_encrypt : luossavin_decrypt)(
-        t->mode, record, NULL, 0, data.bytes, data.length, iv, 16, out, room).number == 0;
+        t->mode, record, NULL, 0, data.bytes, data.length, iv, iv_length, out, room).number == 0;
 }
 
 static int library(const struct task *t, struct field data, uint8_t *out, size_t room)
@@ -152,6 +156,10 @@ static work *work_of(const char *who)
         return library;
     }
     if (strcmp(who, "once") == 0) {
+        return once;
+    }
+    if (strcmp(who, "twelve") == 0) {
+        iv_length = 12;
         return once;
     }
     if (strcmp(who, "pieces") == 0) {

@@ -16,7 +16,7 @@ use Rattle.block.proofs.Xor.{xor-assoc, xor-swap}
 use Rattle.lanes.specs.Bits.{bit}
 use Rattle.lanes.proofs.Bits.{bit-small, bit-and, bit-xor, bit-ext}
 use Rattle.carryless.specs.Carryless.{clmul}
-use Rattle.carryless.specs.Lent.{parts128, PartsOf, Quarters, Lends, Lends64}
+use Rattle.carryless.specs.Lent.{parts128, words128, PartsOf, Quarters, Lends, Lends64}
 use Rattle.carryless.proofs.Laws.{clmul-xor, xor-clmul, clmul-up, up-clmul, square-xor}
 use Rattle.carryless.proofs.Holes.{ones, Few, few-pick, pick-more, pick-up, hole-product}
 
@@ -254,6 +254,19 @@ lends-both y m p = record {
   low = lends y m p 28 _ (omega arith) (record { first = refl; second = refl; third = refl; fourth = refl });
   both = lends y m p 32 _ (omega arith) (record { first = refl; second = refl; third = refl; fourth = refl });
 }
+
+-- word by word
+pub lends-word : (y : U128) → (m : List ℕ) → PartsOf y m → (k : ℕ) → k < 9 → Lends (getD (words128 y) k 0) m (4 * k)
+lends-word y m p zero h = lends-high y m p .high
+lends-word y m p (suc zero) h = lends-high y m p .low
+lends-word y m p (suc (suc zero)) h = lends-high y m p .both
+lends-word y m p (suc (suc (suc zero))) h = lends-low y m p .high
+lends-word y m p (suc (suc (suc (suc zero)))) h = lends-low y m p .low
+lends-word y m p (suc (suc (suc (suc (suc zero))))) h = lends-low y m p .both
+lends-word y m p (suc (suc (suc (suc (suc (suc zero)))))) h = lends-both y m p .high
+lends-word y m p (suc (suc (suc (suc (suc (suc (suc zero))))))) h = lends-both y m p .low
+lends-word y m p (suc (suc (suc (suc (suc (suc (suc (suc zero)))))))) h = lends-both y m p .both
+lends-word y m p (suc (suc (suc (suc (suc (suc (suc (suc (suc k))))))))) h = absurd (omega arith)
 
 module _ (x y p q r s : ℕ) (hx : x < 2 ^ 32) (hy : y < 2 ^ 32) (l : Quarters y p q r s) where
   pub by-quarters : (z0 z1 z2 z3 : ℕ)

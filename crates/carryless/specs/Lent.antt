@@ -19,6 +19,13 @@ parts64 y = quarters (y / 2 ^ 32) ++ (quarters (y % 2 ^ 32) ++ quarters (y % 2 ^
 abbrev pub parts128 : U128 → List ℕ
 parts128 y = parts64 (y .high) ++ (parts64 (y .low) ++ parts64 (y .low ⊕ y .high))
 
+-- the words whose parts these are, and whose products make up a product
+abbrev pub words64 : ℕ → List ℕ
+words64 y = y / 2 ^ 32 ∷ y % 2 ^ 32 ∷ (y % 2 ^ 32 ⊕ y / 2 ^ 32) ∷ []
+
+abbrev pub words128 : U128 → List ℕ
+words128 y = words64 (y .high) ++ (words64 (y .low) ++ words64 (y .low ⊕ y .high))
+
 -- m is the parts of y
 pub record PartsOf (y : U128) (m : List ℕ) : Type 0 where
   pub words : m ≡ parts128 y

@@ -5,11 +5,13 @@ pub mod many;
 ghost use mathlib.Core.Path.{_≡_};
 ghost use Prim.Native.Nat.{_*_, _^_, _<_};
 ghost use lib.Bits.{bitAnd};
+ghost use lib.ListN.{getD};
 ghost use Rattle.block.specs.Wide.{value};
 ghost use Rattle.block.specs.Xor.{_⊕_};
 ghost use Rattle.carryless.specs.Carryless.{clmul, joining, joining128};
 ghost use Rattle.carryless.specs.Product.{productValue};
-ghost use Rattle.carryless.specs.Lent.{Quarters, Lends, PartsOf};
+ghost use Rattle.carryless.specs.Lanes.{Each};
+ghost use Rattle.carryless.specs.Lent.{Quarters, Lends, PartsOf, words128};
 use block::U128;
 
 // A number of 256 bits in four words, w3 the highest.
@@ -20,19 +22,36 @@ pub struct Product {
     pub w0: u64,
 }
 
-// What a product takes of its second factor y: the four parts, of every fourth bit each, of nine numbers of 32 bits. These are of y's
-// high half the high half, the low half and their sum, and the same of y's low half and of the sum of both. They are made once
-// where y stays the same.
+// The nine numbers of 32 bits whose products make up one of 128 bits: of x's high half the high half, the low half and their sum, and the
+// same of x's low half and of the sum of both.
+fn words_of(x: U128) -> [u32; 9]
+    ensures { λ r. ⌜ (r ≡ words128 x) × (x .low < 2 ^ 64) ⌝ }
+{
+    let t = x.low ^ x.high;
+    let a = (x.high >> 32) as u32;
+    let b = (x.high % 0x1_0000_0000) as u32;
+    let c = (x.low >> 32) as u32;
+    let d = (x.low % 0x1_0000_0000) as u32;
+    let e = (t >> 32) as u32;
+    let f = (t % 0x1_0000_0000) as u32;
+    [a, b, b ^ a, c, d, d ^ c, e, f, f ^ e]
+}
+
+// What a product takes of its second factor y: the four parts, of every fourth bit each, of its nine words. They are made once where y
+// stays the same.
 pub fn parts(y: U128) -> [u32; 36]
     ensures { λ r. ⌜ PartsOf y r ⌝ }
 {
-    let t = y.low ^ y.high;
-    let a = (y.high >> 32) as u32;
-    let b = (y.high % 0x1_0000_0000) as u32;
-    let c = (y.low >> 32) as u32;
-    let d = (y.low % 0x1_0000_0000) as u32;
-    let e = (t >> 32) as u32;
-    let f = (t % 0x1_0000_0000) as u32;
+    let w = words_of(y);
+    let a = w[0];
+    let b = w[1];
+    let c = w[2];
+    let d = w[3];
+    let e = w[4];
+    let f = w[5];
+    let g = w[6];
+    let h = w[7];
+    let i = w[8];
     [
         a & 0x1111_1111,
         a & 0x2222_2222,
@@ -42,10 +61,6 @@ pub fn parts(y: U128) -> [u32; 36]
         b & 0x2222_2222,
         b & 0x4444_4444,
         b & 0x8888_8888,
-        (b ^ a) & 0x1111_1111,
-        (b ^ a) & 0x2222_2222,
-        (b ^ a) & 0x4444_4444,
-        (b ^ a) & 0x8888_8888,
         c & 0x1111_1111,
         c & 0x2222_2222,
         c & 0x4444_4444,
@@ -54,10 +69,6 @@ pub fn parts(y: U128) -> [u32; 36]
         d & 0x2222_2222,
         d & 0x4444_4444,
         d & 0x8888_8888,
-        (d ^ c) & 0x1111_1111,
-        (d ^ c) & 0x2222_2222,
-        (d ^ c) & 0x4444_4444,
-        (d ^ c) & 0x8888_8888,
         e & 0x1111_1111,
         e & 0x2222_2222,
         e & 0x4444_4444,
@@ -66,10 +77,18 @@ pub fn parts(y: U128) -> [u32; 36]
         f & 0x2222_2222,
         f & 0x4444_4444,
         f & 0x8888_8888,
-        (f ^ e) & 0x1111_1111,
-        (f ^ e) & 0x2222_2222,
-        (f ^ e) & 0x4444_4444,
-        (f ^ e) & 0x8888_8888,
+        g & 0x1111_1111,
+        g & 0x2222_2222,
+        g & 0x4444_4444,
+        g & 0x8888_8888,
+        h & 0x1111_1111,
+        h & 0x2222_2222,
+        h & 0x4444_4444,
+        h & 0x8888_8888,
+        i & 0x1111_1111,
+        i & 0x2222_2222,
+        i & 0x4444_4444,
+        i & 0x8888_8888,
     ]
 }
 
@@ -142,35 +161,35 @@ pub fn joined128(high: U128, low: U128, both: U128) -> Product
     }
 }
 
+// The products of x's nine words by y's, whose parts are lent as m. Of eight of them the back end makes vectors; nine it would leave
+// one by one.
+fn word_products(x: U128, y: U128, m: &[u32; 36]) -> [u64; 9]
+    requires { ⌜ PartsOf y (now m) ⌝ }
+    ensures { λ r. ⌜ Each (λ k. clmul 32 (getD (words128 x) k 0) (getD (words128 y) k 0)) 9 r × (x .low < 2 ^ 64) × (y .low < 2 ^ 64) ⌝ }
+{
+    let a = words_of(x);
+    let b = words_of(y);
+    let mut z = [0u64; 9];
+    let mut k: usize = 0;
+    while k < 8 {
+        z[k] = lent32(a[k], b[k], m, 4 * k);
+        k += 1;
+    }
+    z[8] = lent32(a[8], b[8], m, 32);
+    z
+}
+
 // The product of two numbers of 128 bits, from nine of 32. It is y's parts that are used, which are lent as m.
 pub fn clmul128(x: U128, y: U128, m: &[u32; 36]) -> Product
     requires { ⌜ PartsOf y (now m) ⌝ }
     ensures { λ r. ⌜ productValue r ≡ clmul 128 (value x) (value y) ⌝ }
 {
-    let a = (x.high >> 32) as u32;
-    let b = (x.high % 0x1_0000_0000) as u32;
-    let c = (y.high >> 32) as u32;
-    let d = (y.high % 0x1_0000_0000) as u32;
-    let p2 = lent32(a, c, m, 0);
-    let p1 = lent32(b, d, m, 4);
-    let p0 = lent32(b ^ a, d ^ c, m, 8);
-    let e = (x.low >> 32) as u32;
-    let f = (x.low % 0x1_0000_0000) as u32;
-    let g = (y.low >> 32) as u32;
-    let h = (y.low % 0x1_0000_0000) as u32;
-    let q2 = lent32(e, g, m, 12);
-    let q1 = lent32(f, h, m, 16);
-    let q0 = lent32(f ^ e, h ^ g, m, 20);
-    let s = x.low ^ x.high;
-    let t = y.low ^ y.high;
-    let i = (s >> 32) as u32;
-    let j = (s % 0x1_0000_0000) as u32;
-    let k = (t >> 32) as u32;
-    let l = (t % 0x1_0000_0000) as u32;
-    let r2 = lent32(i, k, m, 24);
-    let r1 = lent32(j, l, m, 28);
-    let r0 = lent32(j ^ i, l ^ k, m, 32);
-    joined128(joined(p2, p1, p0), joined(q2, q1, q0), joined(r2, r1, r0))
+    let z = word_products(x, y, m);
+    joined128(
+        joined(z[0], z[1], z[2]),
+        joined(z[3], z[4], z[5]),
+        joined(z[6], z[7], z[8]),
+    )
 }
 
 // The square of a number of 32 bits: the products of two different parts cancel.

@@ -3,7 +3,7 @@ ghost use mathlib.Core.Path.{_≡_};
 ghost use mathlib.Core.Bool.{false, _&&_};
 ghost use lib.Dec.{eqb};
 ghost use mathlib.Core.List.{_++_};
-ghost use Prim.Native.Nat.{_≤_};
+ghost use Prim.Native.Nat.{_-_, _≤_};
 ghost use lib.ListN.{length, drop};
 ghost use Rattle.cipher.specs.Engine.{Engine};
 ghost use Rattle.counter.specs.CameRound.{blocksOf, ctrCameRound};
@@ -150,6 +150,17 @@ fn gcm_answer(opened: gcm::Opened, came_round: bool) -> Worked
     }
 }
 
+// How many bytes of a Gcm message of n bytes are its text: a sealed one has its tag behind it.
+fn text_length(direction: Direction, n: usize) -> usize
+    requires { ⌜ (direction ≡ Direction.Decrypt → 16 ≤ n) ⌝ }
+    ensures { λ r. ⌜ (direction ≡ Direction.Encrypt → r ≡ n) × (direction ≡ Direction.Decrypt → r ≡ n - 16) ⌝ }
+{
+    match direction {
+        Direction::Encrypt => n,
+        Direction::Decrypt => n - 16,
+    }
+}
+
 fn by_gcm(
     t: &[u32],
     rk: [u32; 32],
@@ -166,20 +177,23 @@ fn by_gcm(
     requires { ⌜ roomOf CipherMode.Gcm direction (length (now «data»)) ≤ length (now out) ⌝ }
     ensures { λ r. ⌜ worked r (now (out .exit)) ≡ gcmResult direction rk (now (aad .entry)) (now («data» .entry)) (now (iv .entry)) (now (out .entry)) ⌝ }
 {
-    let h = gcm::hash_key(t, rk);
-    let j0 = gcm::first_counter(h, iv);
+    let n = text_length(direction, data.len());
+    let begun = gcm::start(t, rk, iv, n);
+    let h = begun.h;
+    let j0 = begun.j0;
+    let pads = begun.pads;
+    let ready = begun.ready;
     match direction {
         Direction::Encrypt => {
-            gcm::encrypt(t, rk, h, j0, aad, data, out);
-            let n = checks::encrypted_length(CipherMode::Gcm, data.len());
+            gcm::encrypt(t, rk, h, j0, ready, &pads, aad, data, out);
             Worked {
-                ending: Ending::Done(n),
-                came_round: counter::gcm_came_round(j0[3], data.len()),
+                ending: Ending::Done(checks::encrypted_length(CipherMode::Gcm, data.len())),
+                came_round: counter::gcm_came_round(j0[3], n),
             }
         }
         Direction::Decrypt => {
-            let opened = gcm::decrypt(t, rk, h, j0, aad, data, out);
-            gcm_answer(opened, counter::gcm_came_round(j0[3], data.len() - 16))
+            let opened = gcm::decrypt(t, rk, h, j0, ready, &pads, aad, data, out);
+            gcm_answer(opened, counter::gcm_came_round(j0[3], n))
         }
     }
 }

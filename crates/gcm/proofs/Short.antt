@@ -1,15 +1,20 @@
--- A short text in one batch with J0: the cipher of J0 is the mask of its tag, and those of the counters behind it are what it is xored with.
+-- A short text in one batch with the zero block and J0: H is the cipher of the one, that of the other is the mask of its tag, and those of the
+-- counters behind are what it is xored with.
 -- Assumes nothing.
 use mathlib.Core.Path.{_≡_, sym, ap, ap₂, _∙_}
 use mathlib.Core.Bool.{false}
 use mathlib.Core.List.{List, _++_}
 use Prim.Native.Nat.{ℕ, zero, suc, _+_, _-_, _*_, _/_, _<_, _≤_}
 use native.Mathlib.Omega.{arith}
-use lib.ListN.{length, take, drop, length-drop, take-append-drop}
-use lib.Seq.{drop-drop, length-take-le}
+use lib.ListN.{length, take, drop, replicate, length-drop, take-append-drop}
+use lib.Seq.{drop-drop, drop-at, take-at, length-take-le}
 use Rattle.block.specs.Below.{AreBytes}
 use Rattle.block.specs.Blocks.{blockAt, cat}
+use Rattle.block.specs.BigEndian.{numberOf}
+use Rattle.block.specs.Words.{words, unwords}
 use Rattle.block.specs.Xor.{xors}
+use Rattle.block.proofs.Entries.{below-drop}
+use Rattle.block.proofs.WordsBack.{unwords-front}
 use Rattle.block.proofs.Xors.{xors-append}
 use Rattle.cipher.specs.Sm4.{encryptBlock}
 use Rattle.cipher.proofs.Blocks.{length-encryptBlock}
@@ -22,7 +27,9 @@ use Rattle.stream.proofs.Ahead.{length-jumped}
 use Rattle.stream.proofs.Counters.{jumped-stepped, length-gcmNext, gcmNext-bytes}
 use Rattle.walk.specs.Walk.{chain, stepped, over}
 use Rattle.walk.proofs.Chain.{chain-rest, chain-block}
-use Rattle.gcm.specs.Gcm.{textOf}
+use Rattle.walk.proofs.Loop.{tailed, tail-is}
+use Rattle.gcm.specs.Gcm.{hashKey, textOf}
+use Rattle.gcm.specs.Pads.{PadsFor}
 
 -- the state of block i
 abbrev stateAt : List ℕ → List ℕ → List ℕ → ℕ → List ℕ
@@ -56,30 +63,74 @@ module _ (rk : List ℕ) where
       ∙ ap₂ _++_ (ap (xors b) (e 0 (omega arith))) (chain-pads n (M .next s b) d′ p′ (omega arith) (omega arith) (omega arith) on)
       ∙ sym (chain-block M s d (omega arith))
 
-module _ (rk j : List ℕ) (hj : length j ≡ 16) (bj : AreBytes j) (m : ℕ) (states pads y z : List ℕ)
-    (es : states ≡ over (cat m (jumped false j)) y) (ep : pads ≡ over (cat m (λ i. encryptBlock rk (blockAt states i))) z) where
-  -- pad i is the cipher of counter i
-  pad-at : (i : ℕ) → i < m → blockAt pads i ≡ encryptBlock rk (gcmJump j i)
+module _ (rk j : List ℕ) (hj : length j ≡ 16) (bj : AreBytes j) (m k : ℕ) (states pads y z : List ℕ)
+    (es : states ≡ take 16 y ++ over (cat m (jumped false j)) (drop 16 y))
+    (ep : pads ≡ over (cat k (λ i. encryptBlock rk (blockAt states i))) z) (ey : take 16 y ≡ replicate 16 0) (hk : m < k) where
+  -- pad i is the cipher of state i
+  pad-at : (i : ℕ) → i < k → blockAt pads i ≡ encryptBlock rk (blockAt states i)
   pad-at i h =
-      let f : ℕ → List ℕ = λ k. encryptBlock rk (blockAt states k) in
+      let f : ℕ → List ℕ = λ e. encryptBlock rk (blockAt states e) in
       ap (λ (x : List ℕ). blockAt x i) ep
-      ∙ block-of m f (drop (length (cat m f)) z) (λ k l. length-encryptBlock rk (blockAt states k)) i h
+      ∙ block-of k f (drop (length (cat k f)) z) (λ e l. length-encryptBlock rk (blockAt states e)) i h
+
+  -- the states are the zero block, and J0 and the counters behind it
+  counter-pad : (i : ℕ) → i < m → blockAt pads (suc i) ≡ encryptBlock rk (gcmJump j i)
+  counter-pad i h =
+      let f : ℕ → List ℕ = jumped false j in
+      let q : 16 + 16 * i ≡ 16 * suc i = omega arith in
+      let behind : drop 16 states ≡ over (cat m f) (drop 16 y) =
+      ap (drop 16) es ∙ drop-at (take 16 y) (over (cat m f) (drop 16 y)) 16 (ap length ey) in
+      pad-at (suc i) (omega arith)
       ∙ ap (encryptBlock rk)
-      (ap (λ (x : List ℕ). blockAt x i) es
-      ∙ block-of m (jumped false j) (drop (length (cat m (jumped false j))) y) (λ k l. length-jumped false j k hj) i h)
+      (sym (ap (take 16) (drop-drop (16 * i) 16 states ∙ ap (λ (x : ℕ). drop x states) q))
+      ∙ ap (λ (x : List ℕ). blockAt x i) behind
+      ∙ block-of m f (drop (length (cat m f)) (drop 16 y)) (λ e l. length-jumped false j e hj) i h)
 
-  pub mask-pad : 0 < m → take 16 pads ≡ encryptBlock rk j
-  mask-pad h = pad-at 0 h ∙ ap (encryptBlock rk) (no-gcm-jump j hj bj)
+  zeros-pad : take 16 pads ≡ encryptBlock rk (replicate 16 0)
+  zeros-pad = pad-at 0 (omega arith) ∙ ap (encryptBlock rk) (ap (take 16) es ∙ take-at (take 16 y) (over (cat m (jumped false j)) (drop 16 y)) 16 (ap length ey) ∙ ey)
 
-  pub text-pad : (d : List ℕ) → length d / 16 + 2 ≤ m → length pads ≡ 512 → length d < 496 → xors d (drop 16 pads) ≡ textOf rk j d
+  mask-pad : 0 < m → take 16 (drop 16 pads) ≡ encryptBlock rk j
+  mask-pad h = counter-pad 0 h ∙ ap (encryptBlock rk) (no-gcm-jump j hj bj)
+
+  text-pad : (d : List ℕ) → length d / 16 + 2 ≤ m → length d + 32 ≤ length pads → xors d (drop 32 pads) ≡ textOf rk j d
   unfolding textOf
-  text-pad d h l g =
+  text-pad d h l =
       let n = length d / 16 in
-      let lp : length (drop 16 pads) ≡ length pads - 16 = length-drop 16 pads in
-      chain-pads rk n (gcmNext j) d (drop 16 pads) (omega arith) (omega arith) (omega arith)
+      let lp : length (drop 32 pads) ≡ length pads - 32 = length-drop 32 pads in
+      chain-pads rk n (gcmNext j) d (drop 32 pads) (omega arith) (omega arith) (omega arith)
       (λ i q.
-      let k : 16 + 16 * i ≡ 16 * suc i = omega arith in
-      ap (take 16) (drop-drop (16 * i) 16 pads ∙ ap (λ (x : ℕ). drop x pads) k)
-      ∙ pad-at (suc i) (omega arith)
+      let e : 32 + 16 * i ≡ 16 * suc (suc i) = omega arith in
+      ap (take 16) (drop-drop (16 * i) 32 pads ∙ ap (λ (x : ℕ). drop x pads) e)
+      ∙ counter-pad (suc i) (omega arith)
       ∙ ap (encryptBlock rk)
       (sym (jumped-stepped rk false i (gcmNext j) d (length-gcmNext j hj) (gcmNext-bytes j bj) ∙ gcm-jump-on j i hj)))
+
+  pub pads-ready : (n : ℕ) → n / 16 + 2 ≤ m → length pads ≡ 512 → n < 480 → PadsFor rk j n pads
+  pads-ready n h l g =
+      record {
+        room = omega arith;
+        zeros = zeros-pad;
+        mask = mask-pad (omega arith);
+        text = λ d e. text-pad d (omega arith) (omega arith);
+      }
+
+-- H is the number of the first of them
+pub hash-key-front : (rk j pads x : List ℕ) (n h : ℕ) → PadsFor rk j n pads → AreBytes pads → x ≡ words pads → h ≡ numberOf (unwords x) → h ≡ hashKey rk
+unfolding hashKey
+hash-key-front rk j pads x n h p small e f =
+    let l = p .room in
+    f ∙ ap numberOf (ap unwords e ∙ unwords-front pads (omega arith) small ∙ p .zeros)
+
+module _ (rk j pads : List ℕ) (n : ℕ) (p : PadsFor rk j n pads) where
+  -- the words of the second are those of the mask
+  pub mask-front : (x : List ℕ) → AreBytes pads → x ≡ words (tailed 16 pads) → unwords x ≡ encryptBlock rk j
+  mask-front x small e =
+      let l = p .room in
+      let k = length-drop 16 pads in
+      ap unwords (e ∙ ap words (tail-is pads 16))
+      ∙ unwords-front (drop 16 pads) (omega arith) (below-drop 256 16 pads small)
+      ∙ p .mask
+
+  -- and the text is xored with those behind it
+  pub text-front : (d : List ℕ) → length d ≡ n → xors d (tailed 32 pads) ≡ textOf rk j d
+  text-front d e = ap (xors d) (tail-is pads 32) ∙ p .text d e

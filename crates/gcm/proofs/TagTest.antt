@@ -1,10 +1,10 @@
--- Two blocks of four words are the same where the `|` of their four xors is 0, and so the code settles a tag.
+-- Two blocks of four words are the same where the sum of their four xors is 0, and so the code settles a tag.
 -- Assumes nothing.
 use mathlib.Core.Path.{_≡_, refl, sym, ap, ap₂, _∙_}
 use mathlib.Core.List.{List, _∷_}
-use Prim.Native.Nat.{ℕ, _-_, _≤_}
+use Prim.Native.Nat.{ℕ, _+_, _-_, _≤_}
 use native.Mathlib.Omega.{arith}
-use lib.Bits.{bitOr, or-add-and, and-le-l, and-le-r, xor-self}
+use lib.Bits.{xor-self}
 use lib.Dec.{eqb}
 use lib.ListN.{length, getD, length-drop}
 use borrow.Author.Tests.{eq-eqb, eqb-true}
@@ -18,57 +18,49 @@ use Rattle.gcm.specs.Gcm.{tagPart}
 use Rattle.block.specs.Same.{same}
 use Rattle.block.proofs.Same.{same-refl, same-equal, test-iff}
 
-or-none-left : (a b : ℕ) → bitOr a b ≡ 0 → a ≡ 0
-or-none-left a b e = omega (arith, or-add-and a b, and-le-r a b)
-
-or-none-right : (a b : ℕ) → bitOr a b ≡ 0 → b ≡ 0
-or-none-right a b e = omega (arith, or-add-and a b, and-le-l a b)
-
 xor-none : (a b : ℕ) → a ⊕ b ≡ 0 → a ≡ b
 xor-none a b e = xor-same a b b (e ∙ sym (xor-self b))
 
 -- as the code has it, d being the xor of the two blocks
-abbrev pub anyBit : List ℕ → ℕ
-anyBit d = bitOr (bitOr (bitOr (getD d 0 0) (getD d 1 0)) (getD d 2 0)) (getD d 3 0)
+abbrev pub summed : List ℕ → ℕ
+summed d = getD d 0 0 + getD d 1 0 + getD d 2 0 + getD d 3 0
 
--- a block xored with itself has no bit
-none : (a : List ℕ) → length a ≡ 4 → anyBit (xors a a) ≡ 0
+-- a block xored with itself leaves nothing
+none : (a : List ℕ) → length a ≡ 4 → summed (xors a a) ≡ 0
 none a n =
-    ap anyBit (sym (xors-four a a n n))
+    ap summed (sym (xors-four a a n n))
     ∙ rw (xor-self (getD a 0 0), xor-self (getD a 1 0), xor-self (getD a 2 0), xor-self (getD a 3 0))
 
 module _ (a b : List ℕ) (na : length a ≡ 4) (nb : length b ≡ 4) where
-  -- no bit of the four is set: the words are the same
-  no-bit : anyBit (xors a b) ≡ 0 → a ≡ b
-  no-bit e =
+  -- the sum is 0: the words are the same
+  no-sum : summed (xors a b) ≡ 0 → a ≡ b
+  no-sum e =
       let s = xors-four a b na nb in
       let w : (i : ℕ) → ℕ = λ i. getD a i 0 ⊕ getD b i 0 in
-      let z : bitOr (bitOr (bitOr (w 0) (w 1)) (w 2)) (w 3) ≡ 0 = ap anyBit s ∙ e in
-      let z2 = or-none-left (bitOr (bitOr (w 0) (w 1)) (w 2)) (w 3) z in
-      let z1 = or-none-left (bitOr (w 0) (w 1)) (w 2) z2 in
-      let e0 = xor-none (getD a 0 0) (getD b 0 0) (or-none-left (w 0) (w 1) z1) in
-      let e1 = xor-none (getD a 1 0) (getD b 1 0) (or-none-right (w 0) (w 1) z1) in
-      let e2 = xor-none (getD a 2 0) (getD b 2 0) (or-none-right (bitOr (w 0) (w 1)) (w 2) z2) in
-      let e3 = xor-none (getD a 3 0) (getD b 3 0) (or-none-right (bitOr (bitOr (w 0) (w 1)) (w 2)) (w 3) z) in
+      let z : w 0 + w 1 + w 2 + w 3 ≡ 0 = ap summed s ∙ e in
+      let e0 = xor-none (getD a 0 0) (getD b 0 0) (omega arith) in
+      let e1 = xor-none (getD a 1 0) (getD b 1 0) (omega arith) in
+      let e2 = xor-none (getD a 2 0) (getD b 2 0) (omega arith) in
+      let e3 = xor-none (getD a 3 0) (getD b 3 0) (omega arith) in
       sym (four-entries a na) ∙ ap₂ _∷_ e0 (ap₂ _∷_ e1 (ap₂ _∷_ e2 (ap₂ _∷_ e3 refl))) ∙ four-entries b nb
 
-  pub tag-test : AreWords a → AreWords b → eqb (anyBit (xors a b)) 0 ≡ same (unwords a) (unwords b)
+  pub tag-test : AreWords a → AreWords b → eqb (summed (xors a b)) 0 ≡ same (unwords a) (unwords b)
   tag-test ha hb =
       let back : unwords a ≡ unwords b → a ≡ b = λ e. sym (words-unwords a na ha) ∙ ap words e ∙ words-unwords b nb hb in
-      test-iff (eqb (anyBit (xors a b)) 0) (same (unwords a) (unwords b))
-      (λ e. ap (λ (l : List ℕ). same (unwords a) (unwords l)) (sym (no-bit (eqb-true (anyBit (xors a b)) 0 e))) ∙ same-refl (unwords a))
+      test-iff (eqb (summed (xors a b)) 0) (same (unwords a) (unwords b))
+      (λ e. ap (λ (l : List ℕ). same (unwords a) (unwords l)) (sym (no-sum (eqb-true (summed (xors a b)) 0 e))) ∙ same-refl (unwords a))
       (λ e.
       let ab = back (same-equal (unwords a) (unwords b) e) in
-      eq-eqb (anyBit (xors a b)) 0 (ap (λ (l : List ℕ). anyBit (xors a l)) (sym ab) ∙ none a na))
+      eq-eqb (summed (xors a b)) 0 (ap (λ (l : List ℕ). summed (xors a l)) (sym ab) ∙ none a na))
 
 -- as `has_tag` has it: f the words of the message's tag part, e those of the expected tag, d the xor of the two
 pub has-tag-words : (s f e d p : List ℕ) → 16 ≤ length s → AreBytes s → p ≡ tagPart s → f ≡ words p → length e ≡ 4 → AreWords e
-    → d ≡ xors f e → eqb (anyBit d) 0 ≡ same (tagPart s) (unwords e)
+    → d ≡ xors f e → eqb (summed d) 0 ≡ same (tagPart s) (unwords e)
 has-tag-words s f e d p n b ep ef le we ed =
     let bt : AreBytes (tagPart s) = below-drop 256 (length s - 16) s b in
     let lt : length (tagPart s) ≡ 16 = length-drop (length s - 16) s ∙ omega arith in
     let g : f ≡ words (tagPart s) = ef ∙ ap words ep in
     let lf : length f ≡ 4 = ap length g ∙ length-words (tagPart s) in
     let wf : AreWords f = rw g (words-below (tagPart s) bt) in
-    ap (λ (l : List ℕ). eqb (anyBit l) 0) ed ∙ tag-test f e lf le wf we
+    ap (λ (l : List ℕ). eqb (summed l) 0) ed ∙ tag-test f e lf le wf we
     ∙ ap (λ (l : List ℕ). same l (unwords e)) (ap unwords g ∙ unwords-words (tagPart s) lt bt)

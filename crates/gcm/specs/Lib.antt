@@ -1,2 +1,3 @@
 pub mod Gcm
 pub mod Open
+pub mod Pads

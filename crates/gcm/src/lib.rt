@@ -1,22 +1,23 @@
 // GCM: libsm's `gcm_encrypt` and `gcm_decrypt`, over round keys, H and J0. The IV is the caller's: J0 is made of it once.
 ghost use mathlib.Core.Path.{_≡_};
 ghost use mathlib.Core.Logic.{_⊎_};
-ghost use mathlib.Core.Bool.{true};
-ghost use mathlib.Core.List.{List};
-ghost use Prim.Native.Nat.{ℕ, _+_, _-_, _<_, _≤_};
+ghost use mathlib.Core.Bool.{true, false};
+ghost use mathlib.Core.List.{List, _++_};
+ghost use Prim.Native.Nat.{ℕ, _+_, _-_, _*_, _<_, _≤_};
 ghost use lib.ListN.{length, take, drop};
+ghost use Rattle.block.specs.Blocks.{cat};
 ghost use Rattle.block.specs.Same.{same};
 ghost use Rattle.block.specs.Wide.{value};
 ghost use Rattle.block.specs.Words.{unwords};
-ghost use Rattle.block.specs.Xor.{xors};
 ghost use Rattle.cipher.specs.Engine.{Engine};
-ghost use Rattle.cipher.specs.Sm4.{encryptBlock};
+ghost use Rattle.counter.specs.Counter.{jumped};
 ghost use Rattle.ghash.specs.Ghash.{Hashable, blocks};
 ghost use Rattle.ghash.specs.Joined.{HalfOf};
 ghost use Rattle.walk.specs.Outcome.{leaving};
 ghost use Rattle.walk.specs.Walk.{over};
-ghost use Rattle.gcm.specs.Gcm.{hashKey, nonceCounter, hashedCounter, firstCounter, textOf, maskedTag, tagOf, sealed, textPart, tagPart, opensUnder};
+ghost use Rattle.gcm.specs.Gcm.{hashKey, nonceCounter, hashedCounter, firstCounter, J0, maskedTag, tagOf, sealed, textPart, tagPart, opensUnder};
 ghost use Rattle.gcm.specs.Open.{headOf, gcmOpen};
+ghost use Rattle.gcm.specs.Pads.{PadsFor};
 use block::U128;
 use ghash::halves;
 use ghash::halves::Half;
@@ -86,65 +87,119 @@ fn tag(t: &[u32], rk: [u32; 32], h: U128, j0: [u32; 4], aad: &[u8], text: &[u8])
     masked_tag(mask, h, aad, text)
 }
 
-// Whether a text of n bytes goes in one batch with J0: where the gates are lent, and both are at most 32 blocks.
+// Whether a text of n bytes goes in one batch with the zero block and J0: where the gates are lent, and all are at most 32 blocks.
 fn in_one_batch(t: &[u32], n: usize) -> bool
-    ensures { λ r. ⌜ (r ≡ true → n < 496) ⌝ }
+    ensures { λ r. ⌜ (r ≡ true → n < 480) ⌝ }
 {
     if !cipher::by_gates(t) {
         return false;
     }
-    n < 496
+    n < 480
 }
 
-// The ciphers of J0 and of the counters behind it, for a text of n bytes: the mask of its tag, and what it is xored with.
+// J0 and the counters behind it, m in all, behind the first block of `out`.
+fn lay_behind(j0: [u32; 4], m: usize, out: &mut [u8])
+    requires { ⌜ (m ≤ 129) × (16 * m + 16 ≤ length (now out)) ⌝ }
+    ensures { λ _. ⌜ now (out .exit) ≡ take 16 (now (out .entry)) ++ over (cat m (jumped false (unwords j0))) (drop 16 (now (out .entry))) ⌝ }
+{
+    stream::few::lay_counters(false, j0, m, &mut out[16..]);
+}
+
+// The ciphers of the zero block, of J0 and of the counters behind it, for a text of n bytes: H, the mask of its tag, and what it is xored with.
 fn pads_from(rk: [u32; 32], j0: [u32; 4], n: usize) -> [u8; 512]
-    requires { ⌜ n < 496 ⌝ }
-    ensures { λ r. ⌜ take 16 r ≡ encryptBlock rk (unwords j0) ⌝ }
-    ensures { λ r. ⌜ ((d : List ℕ) → length d ≡ n → xors d (drop 16 r) ≡ textOf rk (unwords j0) d) ⌝ }
+    requires { ⌜ n < 480 ⌝ }
+    ensures { λ r. ⌜ PadsFor rk (unwords j0) n r ⌝ }
 {
     let m = n / 16 + 2;
     let mut states = [0u8; 512];
-    stream::few::lay_counters(false, j0, m, &mut states);
+    lay_behind(j0, m, &mut states);
     let mut pads = [0u8; 512];
-    sixteen::encrypt(rk, m, &states, &mut pads);
+    sixteen::encrypt(rk, m + 1, &states, &mut pads);
     pads
 }
 
-// Seals a short text.
-fn encrypt_short(rk: [u32; 32], h: U128, j0: [u32; 4], aad: &[u8], data: &[u8], out: &mut [u8])
-    requires { ⌜ length (now «data») < 496 ⌝ }
+// What a message starts with: H, J0, and, where they are ready, the pads of its text.
+pub struct Begun {
+    pub h: U128,
+    pub j0: [u32; 4],
+    pub pads: [u8; 512],
+    pub ready: bool,
+}
+
+// The start of a message with a text of n bytes. J0 of a 12-byte IV does not wait for H: all blocks go in one batch.
+pub fn start(t: &[u32], rk: [u32; 32], iv: &[u8], n: usize) -> Begun
+    requires { ⌜ Engine (now t) ⌝ }
+    requires { ⌜ (length (now iv) ≡ 12) ⊎ (length (now iv) ≡ 16) ⌝ }
+    ensures { λ r. ⌜ value (r .h) ≡ hashKey rk ⌝ }
+    ensures { λ r. ⌜ unwords (r .j0) ≡ J0 rk (now (iv .entry)) ⌝ }
+    ensures { λ r. ⌜ (r .ready ≡ true → PadsFor rk (unwords (r .j0)) n (r .pads)) ⌝ }
+{
+    if !in_one_batch(t, n) {
+        let h = hash_key(t, rk);
+        return Begun {
+            h,
+            j0: first_counter(h, iv),
+            pads: [0u8; 512],
+            ready: false,
+        };
+    }
+    if iv.len() == 12 {
+        let j0 = nonce_counter(iv);
+        let pads = pads_from(rk, j0, n);
+        return Begun {
+            h: block::to_u128(block::split_block(&pads)),
+            j0,
+            pads,
+            ready: true,
+        };
+    }
+    let h = hash_key(t, rk);
+    let j0 = hashed_counter(h, iv);
+    Begun {
+        h,
+        j0,
+        pads: pads_from(rk, j0, n),
+        ready: true,
+    }
+}
+
+// Seals a short text by its pads.
+fn encrypt_short(h: U128, pads: &[u8], aad: &[u8], data: &[u8], out: &mut [u8])
+    requires { ⌜ length (now «data») + 32 ≤ length (now pads) ⌝ }
     requires { ⌜ Hashable (length (now aad)) × Hashable (length (now «data»)) ⌝ }
     requires { ⌜ length (now «data») + 16 ≤ length (now out) ⌝ }
-    ensures { λ _. ⌜ now (out .exit) ≡ over (sealed rk (value h) (unwords j0) (now (aad .entry)) (now («data» .entry))) (now (out .entry)) ⌝ }
+    ensures { λ _. ⌜ ((rk j : List ℕ) → PadsFor rk j (length (now («data» .entry))) (now (pads .entry)) → now (out .exit) ≡ over (sealed rk (value h) j (now (aad .entry)) (now («data» .entry))) (now (out .entry))) ⌝ }
 {
     let n = data.len();
-    let pads = pads_from(rk, j0, n);
-    let mask = block::split_block(&pads);
-    sixteen::xor_bytes(&pads[16..], data, out);
+    let mask = block::split_block(&pads[16..]);
+    sixteen::xor_bytes(&pads[32..], data, out);
     let mac = masked_tag(mask, h, aad, &out[0..n]);
     block::put_block(mac, &mut out[n..]);
 }
 
-// Seals `data` under the label `aad`: ciphertext, then tag.
+// Seals `data` under the label `aad`: ciphertext, then tag. The pads count where they are ready.
 pub fn encrypt(
     t: &[u32],
     rk: [u32; 32],
     h: U128,
     j0: [u32; 4],
+    ready: bool,
+    pads: &[u8],
     aad: &[u8],
     data: &[u8],
     out: &mut [u8],
 )
     requires { ⌜ Engine (now t) ⌝ }
+    requires { ⌜ (ready ≡ true → PadsFor rk (unwords j0) (length (now «data»)) (now pads)) ⌝ }
     requires { ⌜ Hashable (length (now aad)) × Hashable (length (now «data»)) ⌝ }
     requires { ⌜ length (now «data») + 16 ≤ length (now out) ⌝ }
     ensures { λ _. ⌜ now (out .exit) ≡ over (sealed rk (value h) (unwords j0) (now (aad .entry)) (now («data» .entry))) (now (out .entry)) ⌝ }
 {
-    let n = data.len();
-    if in_one_batch(t, n) {
-        encrypt_short(rk, h, j0, aad, data, out);
+    if ready {
+        encrypt_short(h, pads, aad, data, out);
         return;
     }
+    let n = data.len();
     let first = counter::gcm_block_add_one(j0).counter;
     stream::stream(t, rk, Kind::Gctr, first, false, data, out);
     let mac = tag(t, rk, h, j0, aad, &out[0..n]);
@@ -169,13 +224,14 @@ pub fn tag_part(data: &[u8]) -> &[u8]
     &data[n..]
 }
 
-// Whether a sealed message has this tag. All sixteen bytes are looked at, whatever the first ones are.
+// Whether a sealed message has this tag. All sixteen bytes are looked at, whatever the first ones are: the differences are added up, since of
+// an `|` of them the back end can make a jump for each.
 fn has_tag(data: &[u8], expected: [u32; 4]) -> bool
     requires { ⌜ 16 ≤ length (now «data») ⌝ }
     ensures { λ r. ⌜ r ≡ same (tagPart (now («data» .entry))) (unwords expected) ⌝ }
 {
     let d = block::block_xor(block::split_block(tag_part(data)), expected);
-    d[0] | d[1] | d[2] | d[3] == 0
+    d[0] as u64 + d[1] as u64 + d[2] as u64 + d[3] as u64 == 0
 }
 
 // Whether a sealed message opens under a label.
@@ -199,46 +255,41 @@ pub fn opens_after(mask: [u32; 4], h: U128, half: Half, aad: &[u8], data: &[u8])
     has_tag(data, block::block_xor(mask, block::from_u128(hash)))
 }
 
-// Opens a sealed message with a short text.
-fn decrypt_short(
-    rk: [u32; 32],
-    h: U128,
-    j0: [u32; 4],
-    aad: &[u8],
-    data: &[u8],
-    out: &mut [u8],
-) -> Opened
+// Opens a sealed message with a short text, by its pads.
+fn decrypt_short(h: U128, pads: &[u8], aad: &[u8], data: &[u8], out: &mut [u8]) -> Opened
     requires { ⌜ Hashable (length (now aad)) × Hashable (length (now «data»)) ⌝ }
-    requires { ⌜ (16 ≤ length (now «data»)) × (length (now «data») < 512) × (length (now «data») - 16 ≤ length (now out)) ⌝ }
-    ensures { λ r. ⌜ leaving (headOf r) (now (out .exit)) ≡ gcmOpen rk (value h) (unwords j0) (now (aad .entry)) (now («data» .entry)) (now (out .entry)) ⌝ }
+    requires { ⌜ (16 ≤ length (now «data»)) × (length (now «data») + 16 ≤ length (now pads)) × (length (now «data») - 16 ≤ length (now out)) ⌝ }
+    ensures { λ r. ⌜ ((rk j : List ℕ) → PadsFor rk j (length (now («data» .entry)) - 16) (now (pads .entry)) → leaving (headOf r) (now (out .exit)) ≡ gcmOpen rk (value h) j (now (aad .entry)) (now («data» .entry)) (now (out .entry))) ⌝ }
 {
     let text = text_part(data);
-    let pads = pads_from(rk, j0, text.len());
-    let mask = block::split_block(&pads);
+    let mask = block::split_block(&pads[16..]);
     if has_tag(data, masked_tag(mask, h, aad, text)) {
-        sixteen::xor_bytes(&pads[16..], text, out);
+        sixteen::xor_bytes(&pads[32..], text, out);
         return Opened::Done(text.len());
     }
     Opened::InvalidTag
 }
 
-// Opens a sealed message: the text, once the tag is settled; otherwise `out` stays as it is.
+// Opens a sealed message: the text, once the tag is settled; otherwise `out` stays as it is. The pads count where they are ready.
 pub fn decrypt(
     t: &[u32],
     rk: [u32; 32],
     h: U128,
     j0: [u32; 4],
+    ready: bool,
+    pads: &[u8],
     aad: &[u8],
     data: &[u8],
     out: &mut [u8],
 ) -> Opened
     requires { ⌜ Engine (now t) ⌝ }
+    requires { ⌜ (ready ≡ true → PadsFor rk (unwords j0) (length (now «data») - 16) (now pads)) ⌝ }
     requires { ⌜ Hashable (length (now aad)) × Hashable (length (now «data»)) ⌝ }
     requires { ⌜ (16 ≤ length (now «data»)) × (length (now «data») - 16 ≤ length (now out)) ⌝ }
     ensures { λ r. ⌜ leaving (headOf r) (now (out .exit)) ≡ gcmOpen rk (value h) (unwords j0) (now (aad .entry)) (now («data» .entry)) (now (out .entry)) ⌝ }
 {
-    if in_one_batch(t, data.len() - 16) {
-        return decrypt_short(rk, h, j0, aad, data, out);
+    if ready {
+        return decrypt_short(h, pads, aad, data, out);
     }
     if opens(t, rk, h, j0, aad, data) {
         let text = text_part(data);

@@ -15,7 +15,7 @@ use crate::Ghash;
 use block::U128;
 
 // From how many bytes on sixteen hashes are fewer instructions than eight.
-const SIXTEEN_FROM: usize = 1536;
+const SIXTEEN_FROM: usize = 1024;
 
 // How many hashes n bytes are worth. That it is not always the same is also what keeps the back end from knowing it: a loop whose count it
 // knows is not vectorized here.

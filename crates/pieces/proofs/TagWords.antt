@@ -11,13 +11,13 @@ use Rattle.block.specs.Words.{words}
 use Rattle.block.specs.Xor.{xors}
 use Rattle.block.proofs.WordsBack.{length-words, words-below, unwords-words, unwords-xors}
 use Rattle.block.proofs.Xors.{length-xors, xors-below}
-use Rattle.gcm.proofs.TagTest.{anyBit, tag-test}
+use Rattle.gcm.proofs.TagTest.{summed, tag-test}
 use native.Mathlib.Omega.{arith}
 
 -- f and g the words of mask and hash, e those of the recomputed tag, w those of the tag handed in, d the xor of the two
 pub same-words : (tag mask hash f g e w d : List ℕ) → length tag ≡ 16 → AreBytes tag → length mask ≡ 16 → AreBytes mask
     → length hash ≡ 16 → AreBytes hash → f ≡ words mask → g ≡ words hash → e ≡ xors f g → w ≡ words tag → d ≡ xors w e
-    → eqb (anyBit d) 0 ≡ same tag (xors mask hash)
+    → eqb (summed d) 0 ≡ same tag (xors mask hash)
 same-words tag mask hash f g e w d nt bt nm bm nh bh ef eg ee ew ed =
     let lm = length-words mask in
     let lh = length-words hash in
@@ -26,6 +26,6 @@ same-words tag mask hash f g e w d nt bt nm bm nh bh ef eg ee ew ed =
     let small : AreWords (xors (words mask) (words hash)) =
     xors-below 32 (words mask) (words hash) (words-below mask bm) (words-below hash bh) in
     let back = unwords-xors (words mask) (words hash) lm lh ∙ ap₂ xors (unwords-words mask nm bm) (unwords-words hash nh bh) in
-    ap (λ (l : List ℕ). eqb (anyBit l) 0) (ed ∙ ap₂ xors ew x)
+    ap (λ (l : List ℕ). eqb (summed l) 0) (ed ∙ ap₂ xors ew x)
     ∙ tag-test (words tag) (xors (words mask) (words hash)) (length-words tag) n (words-below tag bt) small
     ∙ ap₂ same (unwords-words tag nt bt) back

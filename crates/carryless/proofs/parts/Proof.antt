@@ -1,21 +1,25 @@
--- `carryless::parts` meets its contract: the words are the parts as they are defined. What is cast has 32 bits (`high-lt`).
+-- `carryless::parts` meets its contract: the words are the parts as they are defined.
 -- Assumes nothing.
-use mathlib.Core.Path.{refl}
+use mathlib.Core.Path.{ap}
+use mathlib.Core.List.{List, _++_}
+use Prim.Native.Nat.{ℕ}
+use lib.ListN.{getD}
 use borrow.Author.Needs.{needs}
-use Rattle.carryless.proofs.Joins.{high-lt}
+use Rattle.carryless.specs.Lent.{quarters}
 use Rattle.carryless.proofs.parts.Statement.{statement}
 use Rattle.carryless.proofs.parts.Tie as tie
 
-cast-e : tie.Need-cast-e
-cast-e c =
-    let y = c .struct-known5 .given in
-    record { fits = high-lt _ _ (y .1 .0 .fits) (y .0 .fits) }
+abbrev of-three : List ℕ → ℕ → ℕ → ℕ → List ℕ
+of-three w i j k = quarters (getD w i 0) ++ (quarters (getD w j 0) ++ quarters (getD w k 0))
 
 returns : tie.Need-returns
-returns c = record { words = refl }
+returns c = record {
+  words = ap (λ (w : List ℕ). of-three w 0 1 2 ++ (of-three w 3 4 5 ++ of-three w 6 7 8)) (c .words-of .ensures .0);
+}
 
 pub parts-spec : {M : Type 1} → statement M
 parts-spec =
     tie.close
     (tie.spec
-    (λ c. search needs) (λ c. search needs) (λ c. search needs) (λ c. search needs) cast-e (λ c. search needs) returns)
+    (λ c κs. search needs) (λ c. search needs) (λ c. search needs) (λ c. search needs) (λ c. search needs) (λ c. search needs)
+    (λ c. search needs) (λ c. search needs) (λ c. search needs) (λ c. search needs) returns)

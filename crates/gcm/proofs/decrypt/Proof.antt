@@ -1,4 +1,4 @@
--- `gcm::decrypt` meets its contract. A short text goes in one batch. Else, where the tag is the message's, the stream writes its text and the
+-- `gcm::decrypt` meets its contract. A text whose pads are ready goes by them. Else, where the tag is the message's, the stream writes its text and the
 -- definition is done (`open-done`); otherwise nothing is written, and it refuses (`open-refused`).
 -- Assumes nothing.
 use mathlib.Core.Path.{_≡_, sym, ap, ap₂, _∙_}
@@ -21,10 +21,12 @@ use Rattle.gcm.proofs.decrypt.Statement.{statement}
 use Rattle.gcm.proofs.decrypt.Tie as tie
 
 decrypt-short-requires : tie.Need-decrypt-short-requires
-decrypt-short-requires c κs = let low = c .before .before .in-one-batch .ensures (c .before .if1 .taken) in (search needs, (omega arith, omega arith, omega arith))
+decrypt-short-requires c κs =
+    let room = c .before .before .before .before .before .before .before .pre .1 .0 (c .before .if1 .taken) .room in
+    (search needs, (omega arith, omega arith, omega arith))
 
 returns : tie.Need-returns
-returns c = c .before .before .decrypt-short .ensures
+returns c = c .before .before .decrypt-short .ensures _ _ (c .before .before .before .before .before .before .before .before .before .before .pre .1 .0 (c .before .before .before .before .if1 .taken))
 
 stream-requires : tie.Need-stream-requires
 stream-requires c κs =
@@ -46,7 +48,7 @@ returns-2 c =
     ap length part ∙ sym (length-text (a .rk) j (textPart d)) in
     ap₂ {C = Outcome} (λ (n : ℕ) (o : List ℕ). leaving (finished n) o) size
     (c .before .before .stream .ensures .1 .1 ∙ ap (λ (p : List ℕ). over p (now (a .out))) is-text)
-    ∙ open-done (a .rk) (value (a .h)) j (now (a .aad)) d (now (a .out)) (c .before .before .before .before .before .before .before .before .before .before .before .before .before .before .before .pre .1 .1 .0) opens
+    ∙ open-done (a .rk) (value (a .h)) j (now (a .aad)) d (now (a .out)) (c .before .before .before .before .before .before .before .before .before .before .before .before .before .before .before .pre .1 .1 .1 .0) opens
 
 returns-3 : tie.Need-returns-3
 returns-3 c =
@@ -58,5 +60,5 @@ pub decrypt-spec : {M : Type 1} → statement M
 decrypt-spec =
     tie.close
     (tie.spec
-    (λ c. search needs) (λ c κs. search needs) decrypt-short-requires (λ c. search needs) returns (λ c κs. search needs)
-    (λ c κs. search needs) (λ c κs. search needs) stream-requires (λ c. search needs) returns-2 returns-3)
+    decrypt-short-requires (λ c. search needs) returns (λ c κs. search needs) (λ c κs. search needs) (λ c κs. search needs)
+    stream-requires (λ c. search needs) returns-2 returns-3)

@@ -1,4 +1,4 @@
--- `gcm::encrypt` meets its contract. A short text goes in one batch; else the stream writes the text, the tag is that of what stands there
+-- `gcm::encrypt` meets its contract. A text whose pads are ready goes by them; else the stream writes the text, the tag is that of what stands there
 -- now, and it is put behind the text (`sealed-written`).
 -- Assumes nothing.
 use mathlib.Core.Path.{_≡_, ap, _∙_}
@@ -20,10 +20,10 @@ use Rattle.gcm.proofs.encrypt.Statement.{statement}
 use Rattle.gcm.proofs.encrypt.Tie as tie
 
 encrypt-short-requires : tie.Need-encrypt-short-requires
-encrypt-short-requires c κs = (c .before .before .in-one-batch .ensures (c .before .if1 .taken), (search needs, search needs))
+encrypt-short-requires c κs = (c .before .before .before .before .before .before .before .pre .1 .0 (c .before .if1 .taken) .room, (search needs, search needs))
 
 returns : tie.Need-returns
-returns c = c .before .before .encrypt-short .ensures
+returns c = c .before .before .encrypt-short .ensures _ _ (c .before .before .before .before .before .before .before .before .before .before .pre .1 .0 (c .before .before .before .before .if1 .taken))
 
 returns-2 : tie.Need-returns-2
 unfolding sealed
@@ -49,6 +49,6 @@ pub encrypt-spec : {M : Type 1} → statement M
 encrypt-spec =
     tie.close
     (tie.spec
-    (λ c κs. search needs) encrypt-short-requires (λ c. search needs) returns (λ c κs. search needs) (λ c κs. search needs)
-    (λ c. search needs) (λ c. search needs) (λ c. search needs) (λ c κs. search needs) (λ c. search needs) (λ c. search needs)
-    (λ c. search needs) (λ c κs. search needs) (λ c. search needs) returns-2)
+    encrypt-short-requires (λ c. search needs) returns (λ c κs. search needs) (λ c κs. search needs) (λ c. search needs)
+    (λ c. search needs) (λ c. search needs) (λ c κs. search needs) (λ c. search needs) (λ c. search needs) (λ c. search needs)
+    (λ c κs. search needs) (λ c. search needs) returns-2)

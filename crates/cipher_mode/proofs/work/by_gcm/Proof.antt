@@ -1,8 +1,8 @@
--- `cipher_mode::work::by_gcm` meets its contract: with H and J0 of keys and IV, as long as the table says or as `gcm::decrypt`.
+-- `cipher_mode::work::by_gcm` meets its contract: with the start of keys and IV, as long as the table says or as `gcm::decrypt`.
 -- Assumes nothing.
 use mir.Val.{Fits}
 use mir.Syntax.{w32}
-use mathlib.Core.Path.{_≡_, refl, sym, ap, ap₂, _∙_}
+use mathlib.Core.Path.{_≡_, refl, sym, ap, ap₂, subst, _∙_}
 use mathlib.Core.Bool.{Bool}
 use mathlib.Core.List.{List}
 use Prim.Native.Nat.{ℕ, _-_, _≤_}
@@ -15,8 +15,9 @@ use Rattle.counter.specs.CameRound.{blocksOf, gcmCameRound}
 use Rattle.counter.proofs.Steps.{last-four}
 use Rattle.walk.specs.Outcome.{Head, Outcome, leaving, reporting}
 use Rattle.walk.specs.Walk.{over}
-use Rattle.gcm.specs.Gcm.{hashKey, firstCounter, J0, sealed}
+use Rattle.gcm.specs.Gcm.{hashKey, J0, sealed}
 use Rattle.gcm.specs.Open.{gcmOpen}
+use Rattle.gcm.specs.Pads.{PadsFor}
 use Rattle.gcm.proofs.Parts.{length-sealed}
 use Rattle.cipher_mode.specs.Tables.{limit}
 use Rattle.cipher_mode.specs.Calls.{gcmRound}
@@ -26,100 +27,101 @@ use borrow.Author.Needs.{needs}
 use Rattle.cipher_mode.proofs.work.by_gcm.Statement.{statement}
 use Rattle.cipher_mode.proofs.work.by_gcm.Tie as tie
 
-is-j0 : (x : tie.After-first-counter)
-    → unwords (x .first-counter .result)
-    ≡ J0 (x .before .before .before .before .before .before .before .args .rk)
-    (now (x .before .before .before .before .before .before .before .args .iv))
-is-j0 x =
-    let a = x .before .before .before .before .before .before .before .args in
-    x .first-counter .ensures ∙ ap (λ (h : ℕ). firstCounter h (now (a .iv))) (x .before .hash-key .ensures)
+text-length-requires : tie.Need-text-length-requires
+text-length-requires c κs = λ e. with-tag-passed _ (rw e at (c .before .before .before .before .before .pre .1 .1 .1 .0))
 
-first-counter-requires : tie.Need-first-counter-requires
-first-counter-requires c κs =
+start-requires : tie.Need-start-requires
+start-requires c κs =
     let S = c .before .before .before .before .before .before in
-    iv-twelve-or-sixteen (length (now (S .args .iv))) (S .pre .1 .0)
+    (S .pre .0, iv-twelve-or-sixteen (length (now (S .args .iv))) (S .pre .1 .0))
 
 encrypt-requires : tie.Need-encrypt-requires
 encrypt-requires c κs =
-    let told = c .before in
-    let S = told .before .before .before .before .before .before .before .before .before in
-    let way = told .enum-told .given .1 in
+    let S = c .before .before .before .before .before .before .before .before .before .before .before .before .before .before in
+    let way = c .before .before .enum-told .given .1 in
+    let x = c .before .before .before .before .before .before .before .start in
     let label = label-passed (length (now (S .args .aad))) (S .pre .1 .1 .0) in
-    let within : length (now (S .args .«data»)) ≤ limit = rw way at (data-within _ _ _ (S .pre .1 .1 .1 .0)) in
-    (S .pre .0, ((omega (arith, label), omega (arith, within)), rw way at (S .pre .1 .1 .1 .1)))
+    let within : length (now (S .args .«data»)) ≤ limit = rw way at (data-within _ _ _ (S .pre .1 .1 .1 .0)) in (
+      S .pre .0,
+      (
+        λ e.
+            subst (λ (n : ℕ). PadsFor (S .args .rk) (unwords (x .result .j0)) n (x .result .pads)) (c .before .before .before .before .before .before .before .before .text-length .ensures .0 way)
+            (x .ensures .1 .1 e),
+        ((omega (arith, label), omega (arith, within)), rw way at (S .pre .1 .1 .1 .1)),
+      ),
+    )
 
 encrypted-length-requires : tie.Need-encrypted-length-requires
 encrypted-length-requires c κs =
-    let told = c .before .before .before .before in
-    let S = told .before .before .before .before .before .before .before .before .before in
-    rw (told .enum-told .given .1) at (data-within _ _ _ (S .pre .1 .1 .1 .0))
+    rw (c .before .before .before .before .before .enum-told .given .1) at (data-within _ _ _ (c .before .before .before .before .before .before .before .before .before .before .before .before .before .before .before .before .before .pre .1 .1 .1 .0))
 
 decrypt-requires : tie.Need-decrypt-requires
 decrypt-requires c κs =
-    let told = c .before in
-    let S = told .before .before .before .before .before .before .before .before .before in
-    let way = told .enum-told2 .given .1 in
+    let S = c .before .before .before .before .before .before .before .before .before .before .before .before .before .before in
+    let way = c .before .before .enum-told2 .given .1 in
+    let x = c .before .before .before .before .before .before .before .start in
     let label = label-passed (length (now (S .args .aad))) (S .pre .1 .1 .0) in
     let ordered = rw way at (S .pre .1 .1 .1 .0) in
-    let within = data-within _ _ _ ordered in
-    (S .pre .0, ((omega (arith, label), omega (arith, within)), (with-tag-passed _ ordered, rw way at (S .pre .1 .1 .1 .1))))
+    let within = data-within _ _ _ ordered in (
+      S .pre .0,
+      (
+        λ e.
+            subst (λ (n : ℕ). PadsFor (S .args .rk) (unwords (x .result .j0)) n (x .result .pads)) (c .before .before .before .before .before .before .before .before .text-length .ensures .1 way)
+            (x .ensures .1 .1 e),
+        ((omega (arith, label), omega (arith, within)), (with-tag-passed _ ordered, rw way at (S .pre .1 .1 .1 .1))),
+      ),
+    )
 
 -- what is told of the counter: J0's last word is the number in its last four bytes
-round : (x : tie.After-first-counter) (b : Bool) (n : ℕ) → b ≡ gcmCameRound (getD (x .first-counter .result) 3 0) (blocksOf n)
-    → b ≡ gcmRound (x .before .before .before .before .before .before .before .args .rk)
-    (now (x .before .before .before .before .before .before .before .args .iv)) n
-round x b n e =
-    let j = x .first-counter .result in
-    let h : Fits w32 (getD j 3 0) = search needs in
-    e ∙ ap (λ (low : ℕ). gcmCameRound low (blocksOf n)) (sym (last-four j (h .fits)) ∙ ap lastFour (is-j0 x))
-
-sub-gcm-came-round : tie.Need-sub-gcm-came-round
-sub-gcm-came-round c =
-    let told = c .before .before .before .before in
-    let S = told .before .before .before .before .before .before .before .before .before in
-    omega (arith, with-tag-passed _ (rw (told .enum-told2 .given .1) at (S .pre .1 .1 .1 .0)))
+round : (x : tie.After-start) (b : Bool) (m n : ℕ) → m ≡ n → b ≡ gcmCameRound (getD (x .start .result .j0) 3 0) (blocksOf m)
+    → b ≡ gcmRound (x .before .before .before .before .before .before .before .args .rk) (now (x .before .before .before .before .before .before .before .args .iv)) n
+round x b m n k e =
+    let j = x .start .result .j0 in
+    let h : Fits w32 (getD j 3 0) = search (needs, x .start) in
+    e ∙ ap₂ (λ (low size : ℕ). gcmCameRound low (blocksOf size)) (sym (last-four j (h .fits)) ∙ ap lastFour (x .start .ensures .1 .0)) k
 
 returns : tie.Need-returns
 returns c =
     let at-encrypt = c .before .before .before .before in
-    let told = at-encrypt .before .before in
-    let at-counter = told .before .before in
-    let a = at-counter .before .before .before .before .before .before .before .args in
+    let way = c .before .before .before .before .before .before .before .enum-told .given .1 in
+    let at-start = c .before .before .before .before .before .before .before .before .before .before .before .before in
+    let a = c .before .before .before .before .before .before .before .before .before .before .before .before .before .before .before .before .before .before .before .args in
     let aad = now (a .aad) in
     let d = now (a .«data») in
     let o = now (a .out) in
     let j = J0 (a .rk) (now (a .iv)) in
-    rw (told .enum-told .given .1)
-    (told-of _ _ _ _ _ (round at-counter (c .gcm-came-round .result) (length d) (c .gcm-came-round .ensures))
+    rw way
+    (told-of _ _ _ _ _
+    (round at-start (c .gcm-came-round .result) _ (length d) (c .before .before .before .before .before .before .before .before .before .before .before .before .before .text-length .ensures .0 way) (c .gcm-came-round .ensures))
     (reached (sealed (a .rk) (hashKey (a .rk)) j aad d) o _ _
     (length-sealed (a .rk) (hashKey (a .rk)) j aad d ∙ sym (c .before .encrypted-length .ensures))
     (at-encrypt .encrypt .ensures
-    ∙ ap₂ (λ (h : ℕ) (j : List ℕ). over (sealed (a .rk) h j aad d) o) (at-counter .before .hash-key .ensures) (is-j0 at-counter)))
+    ∙ ap₂ (λ (h : ℕ) (j : List ℕ). over (sealed (a .rk) h j aad d) o) (at-start .start .ensures .0) (at-start .start .ensures .1 .0)))
     refl)
 
 returns-2 : tie.Need-returns-2
 returns-2 c =
     let at-round = c .before in
-    let at-decrypt = at-round .before .before .before in
-    let told = at-decrypt .before .before in
-    let at-counter = told .before .before in
-    let a = at-counter .before .before .before .before .before .before .before .args in
+    let at-decrypt = c .before .before .before .before in
+    let way = c .before .before .before .before .before .before .before .enum-told2 .given .1 in
+    let at-start = c .before .before .before .before .before .before .before .before .before .before .before .before in
+    let a = c .before .before .before .before .before .before .before .before .before .before .before .before .before .before .before .before .before .before .before .args in
     let aad = now (a .aad) in
     let d = now (a .«data») in
     let o = now (a .out) in
     let b = at-round .gcm-came-round2 .result in
-    rw (told .enum-told2 .given .1)
-    (ap {B = Outcome} (λ (h : Head). leaving h (at-decrypt .decrypt .last .1 .1 .1 .1 .1 .1 .0)) (c .gcm-answer .ensures)
+    rw way
+    (ap {B = Outcome} (λ (h : Head). leaving h (at-decrypt .decrypt .last .1 .1 .1 .1 .1 .1 .1 .1 .0)) (c .gcm-answer .ensures)
     ∙ ap {B = Outcome} (reporting b)
     (at-decrypt .decrypt .ensures
-    ∙ ap₂ {C = Outcome} (λ (h : ℕ) (j : List ℕ). gcmOpen (a .rk) h j aad d o) (at-counter .before .hash-key .ensures) (is-j0 at-counter))
+    ∙ ap₂ {C = Outcome} (λ (h : ℕ) (j : List ℕ). gcmOpen (a .rk) h j aad d o) (at-start .start .ensures .0) (at-start .start .ensures .1 .0))
     ∙ ap {B = Outcome} (λ (t : Bool). reporting t (gcmOpen (a .rk) (hashKey (a .rk)) (J0 (a .rk) (now (a .iv))) aad d o))
-    (round at-counter b (length d - 16) (at-round .gcm-came-round2 .ensures)))
+    (round at-start b _ (length d - 16) (c .before .before .before .before .before .before .before .before .before .before .before .before .before .text-length .ensures .1 way) (at-round .gcm-came-round2 .ensures)))
 
 pub by-gcm-spec : {M : Type 1} → statement M
 by-gcm-spec =
     tie.close
     (tie.spec
-    (λ c κs. search needs) first-counter-requires (λ c. search needs) encrypt-requires encrypted-length-requires
-    (λ c. search needs) (λ c κs. search needs) (λ c. search needs) decrypt-requires (λ c. search needs) sub-gcm-came-round
+    text-length-requires start-requires (λ c. search needs) (λ c. search needs) encrypt-requires encrypted-length-requires
+    (λ c. search needs) (λ c κs. search needs) (λ c. search needs) (λ c. search needs) decrypt-requires (λ c. search needs)
     (λ c κs. search needs) (λ c κs. search needs) (λ c. search needs) returns (λ c. search needs) returns-2)

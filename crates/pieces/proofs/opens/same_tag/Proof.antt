@@ -5,7 +5,7 @@ use mathlib.Core.Path.{_≡_}
 use Prim.Native.Nat.{ℕ, _<_}
 use native.Mathlib.Omega.{arith}
 use mir.Val.{Fits}
-use mir.Syntax.{w8}
+use mir.Syntax.{w8, w32}
 use denote.Ref.{now}
 use lib.ListN.{length, getD}
 use Rattle.block.proofs.Entries.{below-each}
@@ -42,10 +42,23 @@ returns c =
     (at-mask .split-block .ensures) (at-hash .split-block2 .ensures) (at-xor .block-xor .ensures) (at-tag .split-block3 .ensures)
     (c .block-xor2 .ensures)
 
+small-words : (x : tie.After-block-xor2) (i : ℕ) → Fits w32 (getD (x .block-xor2 .result) i 0)
+small-words x i = search needs
+
+add-result : tie.Need-add-result
+add-result c = record { fits = omega (arith, small-words c 0 .fits, small-words c 1 .fits) }
+
+add-result-2 : tie.Need-add-result-2
+add-result-2 c = record { fits = omega (arith, small-words c 0 .fits, small-words c 1 .fits, small-words c 2 .fits) }
+
+add-result-3 : tie.Need-add-result-3
+add-result-3 c =
+    record { fits = omega (arith, small-words c 0 .fits, small-words c 1 .fits, small-words c 2 .fits, small-words c 3 .fits) }
+
 pub same-tag-spec : {M : Type 1} → statement M
 same-tag-spec =
     tie.close
     (tie.spec
     (λ c. search needs) (λ c κs. search needs) (λ c. search needs) (λ c κs. search needs) (λ c κs. search needs)
-    (λ c κs. search needs) (λ c κs. search needs) (λ c. search needs) (λ c. search needs) (λ c. search needs)
-    (λ c. search needs) returns)
+    (λ c κs. search needs) (λ c κs. search needs) (λ c. search needs) (λ c. search needs) (λ c. search needs) (λ c. search needs) add-result
+    (λ c. search needs) (λ c. search needs) add-result-2 (λ c. search needs) (λ c. search needs) add-result-3 returns)
