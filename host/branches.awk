@@ -208,8 +208,7 @@ function is_public(i, r,    what, ok) {
 # Arguments that are no secret, by their place: how many blocks or rows there are, and which kind of work it is. An array or a large
 # result goes by a pointer, which is an argument too.
 function list_arguments() {
-    listed["sixteen::rounds::round argument 8"]         # n: how many blocks
-    listed["sixteen::rounds::round argument 9"]         # groups: of sixteen blocks, how many
+    listed["sixteen::encrypt argument 2"]               # m: how many blocks
     listed["stream::few::few argument 5"]               # m: how many blocks
     listed["carryless::many::products64 argument 4"]    # n: how many hashes, the factor being left out, of which the parts are lent
     listed["field::power argument 3"]                   # n: to which power, a count of blocks

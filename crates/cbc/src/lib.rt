@@ -157,12 +157,12 @@ fn decrypt_batches(t: &[u32], back: [u32; 32], iv: [u32; 4], data: &[u8], out: &
 
 // The first m blocks of `data`, decrypted side by side to the front of `out`.
 fn decrypt_few(back: [u32; 32], iv: [u32; 4], m: usize, data: &[u8], out: &mut [u8])
-    requires { ⌜ (m ≤ 128) × (16 * m ≤ length (now «data»)) × (16 * m ≤ length (now out)) ⌝ }
+    requires { ⌜ (m ≤ 64) × (16 * m ≤ length (now «data»)) × (16 * m ≤ length (now out)) ⌝ }
     ensures { λ _. ⌜ now (out .exit) ≡ over (cat m (λ i. cbcDecrypt (reverse back) .block (stepped (cbcDecrypt (reverse back)) i (unwords iv) (now («data» .entry))) (blockAt (now («data» .entry)) i))) (now (out .entry)) ⌝ }
 {
-    let mut before = [0u8; 2048];
+    let mut before = [0u8; 1024];
     sixteen::lay_before(iv, data, m, &mut before);
-    let mut pads = [0u8; 2048];
+    let mut pads = [0u8; 1024];
     sixteen::encrypt(back, m, data, &mut pads);
     let n = 16 * m;
     sixteen::xor_bytes(&pads, &before[0..n], out);
@@ -171,13 +171,13 @@ fn decrypt_few(back: [u32; 32], iv: [u32; 4], m: usize, data: &[u8], out: &mut [
 // How many of the blocks of `n` bytes go side by side next.
 fn next_few(n: usize) -> usize
     requires { ⌜ 16 ≤ n ⌝ }
-    ensures { λ r. ⌜ (1 ≤ r) × (r ≤ 128) × (16 * r ≤ n) ⌝ }
+    ensures { λ r. ⌜ (1 ≤ r) × (r ≤ 64) × (16 * r ≤ n) ⌝ }
 {
     let m = n / 16;
-    if m < 128 { m } else { 128 }
+    if m < 64 { m } else { 64 }
 }
 
-// The full blocks of `data`, decrypted 128 at a time to the front of `out`. Returns the state after them.
+// The full blocks of `data`, decrypted 64 at a time to the front of `out`. Returns the state after them.
 fn decrypt_side_by_side(back: [u32; 32], iv: [u32; 4], data: &[u8], out: &mut [u8]) -> [u32; 4]
     requires { ⌜ length (now «data») ≤ length (now out) ⌝ }
     ensures { λ r. ⌜ unwords r ≡ endState (cbcDecrypt (reverse back)) (unwords iv) (now («data» .entry)) ⌝ }

@@ -99,7 +99,7 @@ fn in_one_batch(t: &[u32], n: usize) -> bool
 
 // J0 and the counters behind it, m in all, behind the first block of `out`.
 fn lay_behind(j0: [u32; 4], m: usize, out: &mut [u8])
-    requires { ⌜ (m ≤ 129) × (16 * m + 16 ≤ length (now out)) ⌝ }
+    requires { ⌜ (m ≤ 65) × (16 * m + 16 ≤ length (now out)) ⌝ }
     ensures { λ _. ⌜ now (out .exit) ≡ take 16 (now (out .entry)) ++ over (cat m (jumped false (unwords j0))) (drop 16 (now (out .entry))) ⌝ }
 {
     stream::few::lay_counters(false, j0, m, &mut out[16..]);

@@ -1,42 +1,76 @@
--- Blocks put into four arrays, and stored one after the other.
+-- Blocks put into four rows, and stored one after the other.
 -- Assumes nothing.
 use mathlib.Core.Path.{_≡_, refl, sym, ap, ap₂, subst, _∙_}
 use mathlib.Core.Logic.{⊎-elim}
 use mathlib.Core.List.{List, [], _∷_, _++_, append-assoc, append-nil}
 use Prim.Native.Nat.{ℕ, _+_, _-_, _*_, _<_, _≤_}
 use native.Mathlib.Omega.{arith}
-use lib.ListN.{getD, length, set, take, drop, length-drop, drop-of-length-le}
+use lib.ListN.{getD, length, set, take, drop, length-drop, length-set, drop-of-length-le}
 use lib.Seq.{getD-set-same, getD-set-other, take-at, take-all, drop-at, drop-drop}
 use Rattle.block.specs.Blocks.{cat}
-use Rattle.block.specs.Words.{unwords}
-use Rattle.block.proofs.Cat.{cat-same, cat-next, length-cat}
-use Rattle.block.proofs.WordsBack.{four-entries, length-unwords}
+use Rattle.block.proofs.Cat.{cat-next, length-cat}
+use Rattle.block.proofs.WordsBack.{four-entries}
 use Rattle.lanes.proofs.Bits.{lt-or-le}
-use Rattle.walk.specs.Walk.{over}
-use Rattle.sixteen.specs.Blocks.{block, Held, Arrays}
-use Rattle.sixteen.proofs.Padded.{over-stored}
+use Rattle.sixteen.specs.Blocks.{block, Held}
 
 -- one block more
-module _ (f : ℕ → List ℕ) (i : ℕ) (x a b c d : List ℕ) (hi : i < 128) (S : Arrays a b c d) (four : length x ≡ 4) (e : f i ≡ x) where
-  pub held-next : Held i f a b c d → Held (i + 1) f (set a i (getD x 0 0)) (set b i (getD x 1 0)) (set c i (getD x 2 0)) (set d i (getD x 3 0))
+module _ (f : ℕ → List ℕ) (i : ℕ) (w x : List ℕ) (hi : i < 64) (lx : length x ≡ 256) (four : length w ≡ 4) (e : f i ≡ w) where
+  x1 : List ℕ
+  x1 = set x i (getD w 0 0)
+
+  x2 : List ℕ
+  x2 = set x1 (64 + i) (getD w 1 0)
+
+  x3 : List ℕ
+  x3 = set x2 (128 + i) (getD w 2 0)
+
+  x4 : List ℕ
+  x4 = set x3 (192 + i) (getD w 3 0)
+
+  -- a word at another place
+  other : (r j : ℕ) → j < i → r < 4 → getD x4 (r * 64 + j) 0 ≡ getD x (r * 64 + j) 0
+  unfolding x1 x2 x3 x4
+  other r j h k =
+      let p = r * 64 + j in
+      getD-set-other x3 (192 + i) p (getD w 3 0) 0 (λ q. omega arith)
+      ∙ getD-set-other x2 (128 + i) p (getD w 2 0) 0 (λ q. omega arith)
+      ∙ getD-set-other x1 (64 + i) p (getD w 1 0) 0 (λ q. omega arith)
+      ∙ getD-set-other x i p (getD w 0 0) 0 (λ q. omega arith)
+
+  here : block x4 0 i ≡ f i
+  unfolding x1 x2 x3 x4
+  here =
+      let l1 : length x1 ≡ 256 = length-set x i (getD w 0 0) ∙ lx in
+      let l2 : length x2 ≡ 256 = length-set x1 (64 + i) (getD w 1 0) ∙ l1 in
+      let l3 : length x3 ≡ 256 = length-set x2 (128 + i) (getD w 2 0) ∙ l2 in
+      let z : 0 + i ≡ i = omega arith in
+      ap₂ _∷_
+      (ap (λ (p : ℕ). getD x4 p 0) z
+      ∙ getD-set-other x3 (192 + i) i (getD w 3 0) 0 (λ q. omega arith)
+      ∙ getD-set-other x2 (128 + i) i (getD w 2 0) 0 (λ q. omega arith)
+      ∙ getD-set-other x1 (64 + i) i (getD w 1 0) 0 (λ q. omega arith)
+      ∙ getD-set-same x i (getD w 0 0) 0 (omega arith))
+      (ap₂ _∷_
+      (getD-set-other x3 (192 + i) (64 + i) (getD w 3 0) 0 (λ q. omega arith)
+      ∙ getD-set-other x2 (128 + i) (64 + i) (getD w 2 0) 0 (λ q. omega arith)
+      ∙ getD-set-same x1 (64 + i) (getD w 1 0) 0 (omega arith))
+      (ap₂ _∷_
+      (getD-set-other x3 (192 + i) (128 + i) (getD w 3 0) 0 (λ q. omega arith)
+      ∙ getD-set-same x2 (128 + i) (getD w 2 0) 0 (omega arith))
+      (ap₂ _∷_ (getD-set-same x3 (192 + i) (getD w 3 0) 0 (omega arith)) refl)))
+      ∙ four-entries w four
+      ∙ sym e
+
+  pub held-next : Held i f x → Held (i + 1) f (set (set (set (set x i (getD w 0 0)) (64 + i) (getD w 1 0)) (128 + i) (getD w 2 0)) (192 + i) (getD w 3 0))
+  unfolding x1 x2 x3 x4
   held-next H j hj =
-      let la = S .la in
-      let lb = S .lb in
-      let lc = S .lc in
-      let ld = S .ld in
-      let same : (y : List ℕ) (v : ℕ) → length y ≡ 128 → getD (set y i v) i 0 ≡ v = λ y v l. getD-set-same y i v 0 (omega arith) in
-      let here : block (set a i (getD x 0 0)) (set b i (getD x 1 0)) (set c i (getD x 2 0)) (set d i (getD x 3 0)) i ≡ f i =
-      ap₂ _∷_ (same a (getD x 0 0) la) (ap₂ _∷_ (same b (getD x 1 0) lb) (ap₂ _∷_ (same c (getD x 2 0) lc) (ap₂ _∷_ (same d (getD x 3 0) ld) refl)))
-      ∙ four-entries x four
-      ∙ sym e in
       ⊎-elim
       (λ (g : j < i).
-      let other : (y : List ℕ) (v : ℕ) → getD (set y i v) j 0 ≡ getD y j 0 = λ y v. getD-set-other y i j v 0 (λ q. omega arith) in
-      ap₂ _∷_ (other a (getD x 0 0)) (ap₂ _∷_ (other b (getD x 1 0)) (ap₂ _∷_ (other c (getD x 2 0)) (ap₂ _∷_ (other d (getD x 3 0)) refl)))
+      ap₂ _∷_ (other 0 j g (omega arith)) (ap₂ _∷_ (other 1 j g (omega arith)) (ap₂ _∷_ (other 2 j g (omega arith)) (ap₂ _∷_ (other 3 j g (omega arith)) refl)))
       ∙ H j g)
       (λ (g : i ≤ j).
       let q : i ≡ j = omega arith in
-      subst (λ (z : ℕ). block (set a i (getD x 0 0)) (set b i (getD x 1 0)) (set c i (getD x 2 0)) (set d i (getD x 3 0)) z ≡ f z) q here)
+      subst (λ (z : ℕ). block x4 0 z ≡ f z) q here)
       (lt-or-le j i)
 
 -- one block more is stored, behind e blocks; t is what the part of the output from there on becomes
@@ -57,10 +91,3 @@ block-stored o₀ o t f e full ho ht =
     ∙ ap (λ (l : List ℕ). C ++ l) (append-nil t ∙ ht ∙ ap (λ (l : List ℕ). f e ++ l) rest)
     ∙ sym (append-assoc C (f e) (drop (16 * (e + 1)) o₀))
     ∙ ap (λ (l : List ℕ). l ++ drop (16 * (e + 1)) o₀) (sym (cat-next e f))
-
--- what stands in the arrays is stored
-pub all-stored : (a b c e : List ℕ) (m : ℕ) (o₀ o : List ℕ) (f : ℕ → List ℕ) → Held m f a b c e
-    → o ≡ cat m (λ i. unwords (block a b c e i)) ++ drop (16 * m) o₀ → o ≡ over (cat m (λ i. unwords (f i))) o₀
-all-stored a b c e m o₀ o f H q =
-    over-stored m (λ i. unwords (block a b c e i)) o₀ o (λ i g. length-unwords (block a b c e i)) q
-    ∙ ap (λ (l : List ℕ). over l o₀) (cat-same m (λ i. unwords (block a b c e i)) (λ i. unwords (f i)) (λ i g. ap unwords (H i g)))

@@ -1,7 +1,8 @@
--- Up to 128 blocks side by side: block j is word j of each of four arrays. Sixteen words, from a multiple of sixteen on, are a group.
+-- Up to 64 blocks side by side: the words of block j are word j of four rows of 64 words. Sixteen words, from a multiple of sixteen on, are a
+-- group.
 use mathlib.Core.Path.{_≡_}
 use mathlib.Core.List.{List, [], _∷_}
-use Prim.Native.Nat.{ℕ, _+_, _-_, _*_, _/_, _%_, _^_, _<_, _≤_}
+use Prim.Native.Nat.{ℕ, _+_, _*_, _/_, _%_, _^_, _<_, _≤_}
 use lib.ListN.{getD, length}
 use Rattle.block.specs.Xor.{_⊕_}
 
@@ -22,40 +23,30 @@ abbrev pub Halves : (ℕ → ℕ) → ℕ → List ℕ → Type 0
 Halves f g z =
     (i : ℕ) → i < 8 → (f (16 * g + 2 * i) ≡ getD z i 0 % 2 ^ 32) × (f (16 * g + 2 * i + 1) ≡ getD z i 0 / 2 ^ 32 % 2 ^ 32)
 
--- how many words are worked on in so many passes of so many groups, of which all but the last have four
-abbrev pub worked : ℕ → ℕ → ℕ
-worked passes groups = 64 * (passes - 1) + 16 * groups
+-- where row i begins, counted round
+abbrev pub row : ℕ → ℕ
+row i = i % 4 * 64
 
-pub record Passes (passes groups : ℕ) : Type 0 where
-  pub some : 1 ≤ passes
-  pub most : passes ≤ 2
-  pub full : groups ≤ 4
-  pub two : 1 < passes → groups ≡ 4
-
--- what goes into the S-boxes of block j
-abbrev pub keyed : List ℕ → List ℕ → List ℕ → ℕ → ℕ → ℕ
-keyed b c d k j = getD b j 0 ⊕ getD c j 0 ⊕ getD d j 0 ⊕ k
-
--- block j
-abbrev pub block : List ℕ → List ℕ → List ℕ → List ℕ → ℕ → List ℕ
-block a b c d j = getD a j 0 ∷ getD b j 0 ∷ getD c j 0 ∷ getD d j 0 ∷ []
+-- block j, its first word in row i
+abbrev pub block : List ℕ → ℕ → ℕ → List ℕ
+block x i j = getD x (row i + j) 0 ∷ getD x (row (i + 1) + j) 0 ∷ getD x (row (i + 2) + j) 0 ∷ getD x (row (i + 3) + j) 0 ∷ []
 
 -- the first m blocks are those of f
-abbrev pub Held : ℕ → (ℕ → List ℕ) → List ℕ → List ℕ → List ℕ → List ℕ → Type 0
-Held m f a b c d = (j : ℕ) → j < m → block a b c d j ≡ f j
+abbrev pub Held : ℕ → (ℕ → List ℕ) → List ℕ → Type 0
+Held m f x = (j : ℕ) → j < m → block x 0 j ≡ f j
 
--- four arrays for blocks, and two to work in
-pub record Sized (a b c d t s : List ℕ) : Type 0 where
-  pub la : length a ≡ 128
-  pub lb : length b ≡ 128
-  pub lc : length c ≡ 128
-  pub ld : length d ≡ 128
-  pub lt : length t ≡ 128
-  pub ls : length s ≡ 128
+-- what goes into the S-boxes of block j in round i, by k
+abbrev pub keyed : List ℕ → ℕ → ℕ → ℕ → ℕ
+keyed x i k j = getD x (row (i + 1) + j) 0 ⊕ getD x (row (i + 2) + j) 0 ⊕ getD x (row (i + 3) + j) 0 ⊕ k
 
--- the four arrays alone
-pub record Arrays (a b c d : List ℕ) : Type 0 where
-  pub la : length a ≡ 128
-  pub lb : length b ≡ 128
-  pub lc : length c ≡ 128
-  pub ld : length d ≡ 128
+-- y is x with n words from place a on that are those of f
+pub record Changed (a n : ℕ) (f : ℕ → ℕ) (x y : List ℕ) : Type 0 where
+  pub new : (j : ℕ) → j < n → getD y (a + j) 0 ≡ f j
+  pub below : (p : ℕ) → p < a → getD y p 0 ≡ getD x p 0
+  pub above : (p : ℕ) → a + n ≤ p → getD y p 0 ≡ getD x p 0
+
+-- the rows, and room to work in
+pub record Sized (x t s : List ℕ) : Type 0 where
+  pub lx : length x ≡ 256
+  pub lt : length t ≡ 64
+  pub ls : length s ≡ 64

@@ -1,16 +1,17 @@
-// The rounds of up to 128 blocks, of which block j is word j of each of four arrays. The 64 bytes of sixteen words are the 64 lanes of one
-// evaluation of the S-box's gates. Up to four such groups are evaluated side by side, in one pass or two.
+// The rounds of up to 64 blocks. The four words of block j are word j of four rows of 64 words, which stand one behind the other. Round i changes
+// row i, counted round: what was the first word of a block is then its last. The 64 bytes of sixteen words are the 64 lanes of one evaluation of
+// the S-box's gates.
 //
 // How many blocks and groups are worked on are parameters all the way down, since a loop whose count the back end knows is not vectorized
 // here.
 ghost use mathlib.Core.Path.{_≡_};
-ghost use mathlib.Core.List.{List, [], _∷_};
+ghost use mathlib.Core.List.{List};
 ghost use Prim.Native.Nat.{ℕ, _+_, _*_, _^_, _<_, _≤_};
 ghost use lib.ListN.{length, getD};
 ghost use Rattle.block.specs.Xor.{_⊕_};
-ghost use Rattle.cipher.specs.Sm4.{tau, L, T, rounds, encryptWords};
+ghost use Rattle.cipher.specs.Sm4.{tau, L, T, roundBy, turned, encryptWords};
 ghost use Rattle.sixteen.specs.Bytes.{Transposed, Subbed};
-ghost use Rattle.sixteen.specs.Blocks.{Each, pairAt, Paired, Halves, Passes, worked, keyed, block, Sized};
+ghost use Rattle.sixteen.specs.Blocks.{Each, pairAt, Paired, Halves, row, block, keyed, Changed, Sized};
 
 // The bytes of eight words, transposed bit by bit, so that word i has bit i of all 64 bytes: three stages of masked swaps. It is its own
 // inverse.
@@ -83,16 +84,16 @@ fn half(high: u32, low: u32) -> u64
 }
 
 // Words 2 i and 2 i + 1 as one.
-fn pair(t: &[u32; 128], i: usize) -> u64
-    requires { ⌜ (i < 64) × (length (now t) ≡ 128) ⌝ }
+fn pair(t: &[u32; 64], i: usize) -> u64
+    requires { ⌜ (i < 32) × (length (now t) ≡ 64) ⌝ }
     ensures { λ r. ⌜ (r ≡ pairAt (now (t .entry)) i) × (getD (now (t .entry)) (2 * i) 0 < 2 ^ 32) ⌝ }
 {
     half(t[2 * i + 1], t[2 * i])
 }
 
 // The sixteen words of group g as eight.
-fn paired(t: &[u32; 128], g: usize) -> [u64; 8]
-    requires { ⌜ (g < 8) × (length (now t) ≡ 128) ⌝ }
+fn paired(t: &[u32; 64], g: usize) -> [u64; 8]
+    requires { ⌜ (g < 4) × (length (now t) ≡ 64) ⌝ }
     ensures { λ r. ⌜ Paired (now (t .entry)) g r ⌝ }
 {
     let p = 8 * g;
@@ -109,10 +110,10 @@ fn paired(t: &[u32; 128], g: usize) -> [u64; 8]
 }
 
 // Eight words as the sixteen of group g.
-fn put_group(z: [u64; 8], g: usize, s: &mut [u32; 128])
-    requires { ⌜ (g < 8) × (length (now s) ≡ 128) ⌝ }
+fn put_group(z: [u64; 8], g: usize, s: &mut [u32; 64])
+    requires { ⌜ (g < 4) × (length (now s) ≡ 64) ⌝ }
     ensures { λ _. ⌜ ((f : ℕ → ℕ) → Each f (16 * g) (now (s .entry)) → Halves f g z → Each f (16 * g + 16) (now (s .exit))) ⌝ }
-    ensures { λ _. ⌜ length (now (s .exit)) ≡ 128 ⌝ }
+    ensures { λ _. ⌜ length (now (s .exit)) ≡ 64 ⌝ }
 {
     let mut i: usize = 0;
     while i < 8 {
@@ -124,148 +125,84 @@ fn put_group(z: [u64; 8], g: usize, s: &mut [u32; 128])
     }
 }
 
-// Each word of so many groups, from group `from` on, by tau: its four bytes by the S-box.
-fn sub_groups(t: &[u32; 128], s: &mut [u32; 128], from: usize, groups: usize)
-    requires { ⌜ (from + groups ≤ 8) × (length (now t) ≡ 128) × (length (now s) ≡ 128) ⌝ }
-    ensures { λ _. ⌜ (Each (λ j. tau (getD (now (t .entry)) j 0)) (16 * from) (now (s .entry)) → Each (λ j. tau (getD (now (t .entry)) j 0)) (16 * (from + groups)) (now (s .exit))) ⌝ }
-    ensures { λ _. ⌜ length (now (s .exit)) ≡ 128 ⌝ }
+// Each word of so many groups by tau: its four bytes by the S-box.
+fn sub_groups(t: &[u32; 64], s: &mut [u32; 64], groups: usize)
+    requires { ⌜ (groups ≤ 4) × (length (now t) ≡ 64) × (length (now s) ≡ 64) ⌝ }
+    ensures { λ _. ⌜ Each (λ j. tau (getD (now (t .entry)) j 0)) (16 * groups) (now (s .exit)) ⌝ }
+    ensures { λ _. ⌜ length (now (s .exit)) ≡ 64 ⌝ }
 {
     let mut g: usize = 0;
     while g < groups {
-        let z = sub_bytes(paired(t, from + g));
-        put_group(z, from + g, s);
+        let z = sub_bytes(paired(t, g));
+        put_group(z, g, s);
         g += 1;
     }
 }
 
-// The same in passes of so many groups. A pass that another follows has four.
-fn sub_words(t: &[u32; 128], s: &mut [u32; 128], passes: usize, groups: usize)
-    requires { ⌜ Passes passes groups ⌝ }
-    requires { ⌜ (length (now t) ≡ 128) × (length (now s) ≡ 128) ⌝ }
-    ensures { λ _. ⌜ Each (λ j. tau (getD (now (t .entry)) j 0)) (worked passes groups) (now (s .exit)) ⌝ }
-    ensures { λ _. ⌜ length (now (s .exit)) ≡ 128 ⌝ }
+// What goes into the S-boxes of the first n blocks in round i, by the round key k.
+fn keyed_words(t: &mut [u32; 64], x: &[u32; 256], i: usize, k: u32, n: usize)
+    requires { ⌜ (n ≤ 64) × (i < 32) ⌝ }
+    requires { ⌜ (length (now t) ≡ 64) × (length (now x) ≡ 256) ⌝ }
+    ensures { λ _. ⌜ Each (keyed (now (x .entry)) i k) n (now (t .exit)) ⌝ }
+    ensures { λ _. ⌜ length (now (t .exit)) ≡ 64 ⌝ }
 {
-    let mut h: usize = 0;
-    while h < passes {
-        sub_groups(t, s, 4 * h, groups);
-        h += 1;
-    }
-}
-
-// What goes into the S-boxes of the first n blocks.
-fn keyed_words(t: &mut [u32; 128], b: &[u32; 128], c: &[u32; 128], d: &[u32; 128], k: u32, n: usize)
-    requires { ⌜ n ≤ 128 ⌝ }
-    requires { ⌜ (length (now t) ≡ 128) × (length (now b) ≡ 128) × (length (now c) ≡ 128) × (length (now d) ≡ 128) ⌝ }
-    ensures { λ _. ⌜ Each (keyed (now (b .entry)) (now (c .entry)) (now (d .entry)) k) n (now (t .exit)) ⌝ }
-    ensures { λ _. ⌜ length (now (t .exit)) ≡ 128 ⌝ }
-{
+    let b = (i + 1) % 4 * 64;
+    let c = (i + 2) % 4 * 64;
+    let d = (i + 3) % 4 * 64;
     let mut j: usize = 0;
     while j < n {
-        t[j] = b[j] ^ c[j] ^ d[j] ^ k;
+        t[j] = x[b + j] ^ x[c + j] ^ x[d + j] ^ k;
         j += 1;
     }
 }
 
-// L of n words, added to a.
-fn mix(a: &mut [u32; 128], s: &[u32; 128], n: usize)
-    requires { ⌜ n ≤ 128 ⌝ }
-    requires { ⌜ (length (now a) ≡ 128) × (length (now s) ≡ 128) ⌝ }
-    ensures { λ _. ⌜ Each (λ j. getD (now (a .entry)) j 0 ⊕ L (getD (now (s .entry)) j 0)) n (now (a .exit)) ⌝ }
-    ensures { λ _. ⌜ length (now (a .exit)) ≡ 128 ⌝ }
+// L of n words, added to row i.
+fn mix(x: &mut [u32; 256], i: usize, s: &[u32; 64], n: usize)
+    requires { ⌜ n ≤ 64 ⌝ }
+    requires { ⌜ (length (now x) ≡ 256) × (length (now s) ≡ 64) ⌝ }
+    ensures { λ _. ⌜ Changed (row i) n (λ j. getD (now (x .entry)) (row i + j) 0 ⊕ L (getD (now (s .entry)) j 0)) (now (x .entry)) (now (x .exit)) ⌝ }
+    ensures { λ _. ⌜ length (now (x .exit)) ≡ 256 ⌝ }
 {
+    let a = i % 4 * 64;
     let mut j: usize = 0;
     while j < n {
-        a[j] = a[j] ^ cipher::l_trans(s[j]);
+        x[a + j] = x[a + j] ^ cipher::l_trans(s[j]);
         j += 1;
     }
 }
 
-// One round of the first n blocks, which are in so many passes of so many groups: onto a. What t and s hold is not said.
+// Round i of the first n blocks, which are in so many groups, by the round key k. t and s are room to work in.
 fn round(
-    a: &mut [u32; 128],
-    b: &[u32; 128],
-    c: &[u32; 128],
-    d: &[u32; 128],
-    t: &mut [u32; 128],
-    s: &mut [u32; 128],
+    x: &mut [u32; 256],
+    t: &mut [u32; 64],
+    s: &mut [u32; 64],
+    i: usize,
     k: u32,
     n: usize,
-    passes: usize,
     groups: usize,
 )
-    requires { ⌜ (n ≤ worked passes groups) × Passes passes groups ⌝ }
-    requires { ⌜ Sized (now a) (now b) (now c) (now d) (now t) (now s) ⌝ }
-    ensures { λ _. ⌜ ((j : ℕ) → j < n → getD (now (a .exit)) j 0 ≡ getD (now (a .entry)) j 0 ⊕ T (getD (now (b .entry)) j 0 ⊕ getD (now (c .entry)) j 0 ⊕ getD (now (d .entry)) j 0 ⊕ k)) ⌝ }
-    ensures { λ _. ⌜ (length (now (a .exit)) ≡ 128) × (length (now (t .exit)) ≡ 128) × (length (now (s .exit)) ≡ 128) ⌝ }
+    requires { ⌜ (n ≤ 16 * groups) × (groups ≤ 4) × (i < 32) ⌝ }
+    requires { ⌜ Sized (now x) (now t) (now s) ⌝ }
+    ensures { λ _. ⌜ ((j : ℕ) → j < n → block (now (x .exit)) (i + 1) j ≡ roundBy T (block (now (x .entry)) i j) k) ⌝ }
+    ensures { λ _. ⌜ Sized (now (x .exit)) (now (t .exit)) (now (s .exit)) ⌝ }
 {
-    keyed_words(t, b, c, d, k, n);
-    sub_words(t, s, passes, groups);
-    mix(a, s, n);
+    keyed_words(t, x, i, k, n);
+    sub_groups(t, s, groups);
+    mix(x, i, s, n);
 }
 
-// Four rounds, by k, l, m and o.
-fn four(
-    a: &mut [u32; 128],
-    b: &mut [u32; 128],
-    c: &mut [u32; 128],
-    d: &mut [u32; 128],
-    t: &mut [u32; 128],
-    s: &mut [u32; 128],
-    k: u32,
-    l: u32,
-    m: u32,
-    o: u32,
-    n: usize,
-    passes: usize,
-    groups: usize,
-)
-    requires { ⌜ (n ≤ worked passes groups) × Passes passes groups ⌝ }
-    requires { ⌜ Sized (now a) (now b) (now c) (now d) (now t) (now s) ⌝ }
-    ensures { λ _. ⌜ ((j : ℕ) → j < n → block (now (a .exit)) (now (b .exit)) (now (c .exit)) (now (d .exit)) j ≡ rounds (k ∷ l ∷ m ∷ o ∷ []) (block (now (a .entry)) (now (b .entry)) (now (c .entry)) (now (d .entry)) j)) ⌝ }
-    ensures { λ _. ⌜ Sized (now (a .exit)) (now (b .exit)) (now (c .exit)) (now (d .exit)) (now (t .exit)) (now (s .exit)) ⌝ }
+// The first n blocks, encrypted. The words of a block stand turned round then.
+pub(crate) fn all_rounds(rk: [u32; 32], x: &mut [u32; 256], n: usize, groups: usize)
+    requires { ⌜ (n ≤ 16 * groups) × (groups ≤ 4) ⌝ }
+    requires { ⌜ length (now x) ≡ 256 ⌝ }
+    ensures { λ _. ⌜ ((j : ℕ) → j < n → turned (block (now (x .exit)) 0 j) ≡ encryptWords rk (block (now (x .entry)) 0 j)) ⌝ }
+    ensures { λ _. ⌜ length (now (x .exit)) ≡ 256 ⌝ }
 {
-    round(a, b, c, d, t, s, k, n, passes, groups);
-    round(b, c, d, a, t, s, l, n, passes, groups);
-    round(c, d, a, b, t, s, m, n, passes, groups);
-    round(d, a, b, c, t, s, o, n, passes, groups);
-}
-
-// The first n blocks, encrypted. Block j is word j of each array, and of the arrays taken from the last to the first once it is encrypted. t and s
-// are room to work in.
-pub(crate) fn all_rounds(
-    rk: [u32; 32],
-    n: usize,
-    passes: usize,
-    groups: usize,
-    x0: &mut [u32; 128],
-    x1: &mut [u32; 128],
-    x2: &mut [u32; 128],
-    x3: &mut [u32; 128],
-    t: &mut [u32; 128],
-    s: &mut [u32; 128],
-)
-    requires { ⌜ (n ≤ worked passes groups) × Passes passes groups ⌝ }
-    requires { ⌜ Sized (now x0) (now x1) (now x2) (now x3) (now t) (now s) ⌝ }
-    ensures { λ _. ⌜ ((j : ℕ) → j < n → block (now (x3 .exit)) (now (x2 .exit)) (now (x1 .exit)) (now (x0 .exit)) j ≡ encryptWords rk (block (now (x0 .entry)) (now (x1 .entry)) (now (x2 .entry)) (now (x3 .entry)) j)) ⌝ }
-    ensures { λ _. ⌜ Sized (now (x0 .exit)) (now (x1 .exit)) (now (x2 .exit)) (now (x3 .exit)) (now (t .exit)) (now (s .exit)) ⌝ }
-{
+    let mut t = [0u32; 64];
+    let mut s = [0u32; 64];
     let mut i: usize = 0;
     while i < 32 {
-        four(
-            x0,
-            x1,
-            x2,
-            x3,
-            t,
-            s,
-            rk[i],
-            rk[i + 1],
-            rk[i + 2],
-            rk[i + 3],
-            n,
-            passes,
-            groups,
-        );
-        i += 4;
+        round(x, &mut t, &mut s, i, rk[i], n, groups);
+        i += 1;
     }
 }

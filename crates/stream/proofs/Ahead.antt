@@ -150,7 +150,7 @@ rest-xored true d p q f g = ap (xors d) (f refl)
 rest-xored false d p q f g = nothing-xored d p q (g refl)
 
 -- so many states are ciphered at most
-pub at-most : (b : Bool) (m r : ℕ) → m ≤ 128 → (b ≡ true → m ≤ 127) → (b ≡ true → r ≡ m + 1) → (b ≡ false → r ≡ m) → r ≤ 128
+pub at-most : (b : Bool) (m r : ℕ) → m ≤ 64 → (b ≡ true → m ≤ 63) → (b ≡ true → r ≡ m + 1) → (b ≡ false → r ≡ m) → r ≤ 64
 at-most true m r h f g k =
     let x = f refl in
     let y = g refl in

@@ -1,4 +1,4 @@
-// Up to 128 blocks of a message side by side, and with them the cipher of the state behind, where the gates are lent and the states are known
+// Up to 64 blocks of a message side by side, and with them the cipher of the state behind, where the gates are lent and the states are known
 // ahead: for what is too short for a batch.
 ghost use mathlib.Core.Path.{_≡_};
 ghost use mathlib.Core.Logic.{_⊎_};
@@ -19,7 +19,7 @@ use crate::pad_needed;
 
 // n counters from c on, to the front of `out`.
 pub fn lay_counters(wide: bool, c: [u32; 4], n: usize, out: &mut [u8])
-    requires { ⌜ (n ≤ 129) × (16 * n ≤ length (now out)) ⌝ }
+    requires { ⌜ (n ≤ 65) × (16 * n ≤ length (now out)) ⌝ }
     ensures { λ _. ⌜ now (out .exit) ≡ over (cat n (jumped wide (unwords c))) (now (out .entry)) ⌝ }
 {
     let mut i: usize = 0;
@@ -32,7 +32,7 @@ pub fn lay_counters(wide: bool, c: [u32; 4], n: usize, out: &mut [u8])
 // The states of n blocks, to the front of `out`.
 fn lay(kind: Kind, iv: [u32; 4], data: &[u8], n: usize, out: &mut [u8])
     requires { ⌜ ahead kind ≡ true ⌝ }
-    requires { ⌜ (n ≤ 129) × (16 * n ≤ length (now «data») + 16) × (16 * n ≤ length (now out)) ⌝ }
+    requires { ⌜ (n ≤ 65) × (16 * n ≤ length (now «data») + 16) × (16 * n ≤ length (now out)) ⌝ }
     ensures { λ _. ⌜ ((rk : List ℕ) (i : ℕ) → i < n → blockAt (now (out .exit)) i ≡ stepped (streamMode kind rk) i (unwords iv) (now («data» .entry))) ⌝ }
 {
     match kind {
@@ -54,7 +54,7 @@ fn block_at(s: &[u8], at: usize) -> [u32; 4]
 
 // How many states are ciphered for m blocks: one more where the pad behind them is needed.
 fn ciphered(m: usize, pad: bool) -> usize
-    requires { ⌜ m ≤ 128 ⌝ }
+    requires { ⌜ m ≤ 64 ⌝ }
     ensures { λ r. ⌜ ((r ≡ m) ⊎ (r ≡ m + 1)) × (pad ≡ true → r ≡ m + 1) × (pad ≡ false → r ≡ m) ⌝ }
 {
     if pad {
@@ -74,15 +74,15 @@ fn few(
     out: &mut [u8],
 ) -> End
     requires { ⌜ ahead kind ≡ true ⌝ }
-    requires { ⌜ (m ≤ 128) × (pad ≡ true → m ≤ 127) ⌝ }
+    requires { ⌜ (m ≤ 64) × (pad ≡ true → m ≤ 63) ⌝ }
     requires { ⌜ (16 * m ≤ length (now «data»)) × (16 * m ≤ length (now out)) ⌝ }
     ensures { λ r. ⌜ unwords (r .state) ≡ stepped (streamMode kind rk) m (unwords iv) (now («data» .entry)) ⌝ }
     ensures { λ r. ⌜ (pad ≡ true → r .pad ≡ encryptBlock rk (stepped (streamMode kind rk) m (unwords iv) (now («data» .entry)))) ⌝ }
     ensures { λ _. ⌜ now (out .exit) ≡ over (cat m (λ i. streamMode kind rk .block (stepped (streamMode kind rk) i (unwords iv) (now («data» .entry))) (blockAt (now («data» .entry)) i))) (now (out .entry)) ⌝ }
 {
-    let mut states = [0u8; 2064];
+    let mut states = [0u8; 1040];
     lay(kind, iv, data, m + 1, &mut states);
-    let mut pads = [0u8; 2064];
+    let mut pads = [0u8; 1040];
     sixteen::encrypt(rk, ciphered(m, pad), &states, &mut pads);
     let n = 16 * m;
     sixteen::xor_bytes(&pads, &data[0..n], out);
@@ -92,10 +92,10 @@ fn few(
     }
 }
 
-// A message of fewer than 128 blocks.
+// A message of fewer than 64 blocks.
 fn last(rk: [u32; 32], kind: Kind, iv: [u32; 4], on: bool, data: &[u8], out: &mut [u8]) -> End
     requires { ⌜ ahead kind ≡ true ⌝ }
-    requires { ⌜ (length (now «data») < 2048) × (length (now «data») ≤ length (now out)) ⌝ }
+    requires { ⌜ (length (now «data») < 1024) × (length (now «data») ≤ length (now out)) ⌝ }
     ensures { λ r. ⌜ unwords (r .state) ≡ endState (streamMode kind rk) (unwords iv) (now («data» .entry)) ⌝ }
     ensures { λ r. ⌜ (on ≡ true → r .pad ≡ encryptBlock rk (endState (streamMode kind rk) (unwords iv) (now («data» .entry)))) ⌝ }
     ensures { λ _. ⌜ now (out .exit) ≡ over (chain (streamMode kind rk) (unwords iv) (now («data» .entry))) (now (out .entry)) ⌝ }
@@ -108,7 +108,7 @@ fn last(rk: [u32; 32], kind: Kind, iv: [u32; 4], on: bool, data: &[u8], out: &mu
     end
 }
 
-// A message, 128 blocks at a time.
+// A message, 64 blocks at a time.
 pub(crate) fn run(
     rk: [u32; 32],
     kind: Kind,
@@ -125,11 +125,11 @@ pub(crate) fn run(
 {
     let mut s = iv;
     let mut at: usize = 0;
-    while 2048 <= data.len() - at {
-        let end = few(rk, kind, s, 128, false, &data[at..], &mut out[at..]);
+    while 1024 <= data.len() - at {
+        let end = few(rk, kind, s, 64, false, &data[at..], &mut out[at..]);
         let next = end.state;
         s = next;
-        at += 2048;
+        at += 1024;
     }
     last(rk, kind, s, on, &data[at..], &mut out[at..])
 }

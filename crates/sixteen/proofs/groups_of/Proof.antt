@@ -2,9 +2,9 @@
 -- Assumes nothing.
 use mathlib.Core.Path.{_≡_}
 use mathlib.Core.List.{List, [], _∷_}
-use Prim.Native.Nat.{ℕ, _+_, _/_, _≤_, _<_, min}
+use Prim.Native.Nat.{ℕ, _+_, _/_, _≤_}
 use native.Mathlib.Omega.{arith}
-use lib.Dec.{leb, leb→le, eqb, eqb→eq}
+use lib.Dec.{leb, leb→le}
 use lib.ListN.{getD}
 use Rattle.block.proofs.Table.{rule-at}
 use borrow.Author.Needs.{needs}
@@ -12,15 +12,15 @@ use Rattle.sixteen.proofs.groups_of.Statement.{statement}
 use Rattle.sixteen.proofs.groups_of.Tie as tie
 
 counts : List ℕ
-counts = 1 ∷ 1 ∷ 2 ∷ 4 ∷ 4 ∷ 4 ∷ 4 ∷ 4 ∷ 4 ∷ []
+counts = 1 ∷ 1 ∷ 2 ∷ 4 ∷ 4 ∷ []
 
 returns : tie.Need-returns
 unfolding counts
 returns c =
     let i = (c .args .m + 15) / 16 in
-    let up : min i 4 ≤ getD counts i 0 = leb→le _ _ (rule-at (λ k x. leb (min k 4) x) counts tt i (omega arith)) in
+    let up : i ≤ getD counts i 0 = leb→le _ _ (rule-at leb counts tt i (omega arith)) in
     let most : getD counts i 0 ≤ 4 = leb→le _ _ (rule-at (λ k x. leb x 4) counts tt i (omega arith)) in
-    (λ h. omega arith, λ h. omega arith, most)
+    (omega arith, most)
 
 pub groups-of-spec : {M : Type 1} → statement M
 groups-of-spec = tie.close (tie.spec (λ c. search needs) (λ c. search needs) (λ c. search needs) returns)

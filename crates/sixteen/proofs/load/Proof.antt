@@ -1,4 +1,4 @@
--- `sixteen::load` meets its contract. The loop's invariant: the first i blocks stand in the arrays.
+-- `sixteen::load` meets its contract. The loop's invariant: the first i blocks stand in the rows.
 -- Assumes nothing.
 use borrow.Author.Needs.{needs}
 use mathlib.Core.Path.{_≡_, sym, ap, _∙_}
@@ -9,22 +9,22 @@ use lib.Seq.{take-all}
 use Rattle.block.specs.Blocks.{blockAt}
 use Rattle.block.specs.Words.{words}
 use Rattle.block.proofs.WordsBack.{words-take}
-use Rattle.sixteen.specs.Blocks.{Held, Arrays}
+use Rattle.sixteen.specs.Blocks.{Held}
 use Rattle.sixteen.proofs.load.Statement.{statement}
 use Rattle.sixteen.proofs.load.Tie as tie
 
 abbrev Inv-loop : tie.InvT-loop
-Inv-loop src m x0₀ x1₀ x2₀ x3₀ i₀ x0 x1 x2 x3 i = (i ≤ m) × Held i (λ k. words (blockAt src k)) x0 x1 x2 x3 × Arrays x0 x1 x2 x3
+Inv-loop src m x₀ i₀ x i = (i ≤ m) × Held i (λ k. words (blockAt src k)) x × (length x ≡ 256)
 
 abbrev μ-loop : tie.MeasureT-loop
-μ-loop src m x0₀ x1₀ x2₀ x3₀ i₀ x0 x1 x2 x3 i = m - i
+μ-loop src m x₀ i₀ x i = m - i
 
 loop-holds : tie.Need-loop-holds Inv-loop μ-loop
 loop-holds c = (search needs, λ j h. absurd (omega arith), c .before .pre .1)
 
 loop-again : tie.Need-loop-again Inv-loop μ-loop
 loop-again c =
-    let at-loop = c .before .before .before .before .before .before .before .before in
+    let at-loop = c .before .before .before .before .before in
     let l = at-loop .loop in
     let src = at-loop .before .before .args .src .now in
     let d = drop (16 * l .i) src in

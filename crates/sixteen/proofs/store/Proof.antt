@@ -8,43 +8,46 @@ use lib.ListN.{length, take, drop}
 use Rattle.block.specs.Blocks.{cat}
 use Rattle.block.specs.Words.{unwords}
 use Rattle.block.proofs.WordsBack.{length-unwords}
+use Rattle.cipher.specs.Sm4.{turned}
 use Rattle.sixteen.specs.Blocks.{block}
-use Rattle.sixteen.proofs.Blocks.{block-stored, all-stored}
+use Rattle.sixteen.proofs.Blocks.{block-stored}
+use Rattle.sixteen.proofs.Padded.{over-stored}
 use borrow.Author.Needs.{needs}
 use Rattle.sixteen.proofs.store.Statement.{statement}
 use Rattle.sixteen.proofs.store.Tie as tie
 
 abbrev Inv-loop : tie.InvT-loop
-Inv-loop x0 x1 x2 x3 m out₀ i₀ out i =
-    (i ≤ m) × (length out ≡ length out₀) × (out ≡ cat i (λ k. unwords (block x0 x1 x2 x3 k)) ++ drop (16 * i) out₀)
+Inv-loop x m out₀ i₀ out i =
+    (i ≤ m) × (length out ≡ length out₀) × (out ≡ cat i (λ k. unwords (turned (block x 0 k))) ++ drop (16 * i) out₀)
 
 abbrev μ-loop : tie.MeasureT-loop
-μ-loop x0 x1 x2 x3 m out₀ i₀ out i = m - i
+μ-loop x m out₀ i₀ out i = m - i
 
 loop-holds : tie.Need-loop-holds Inv-loop μ-loop
 unfolding cat
 loop-holds c = (search needs, refl, refl)
 
 loop-again : tie.Need-loop-again Inv-loop μ-loop
-loop-again c = let l = c .before .before .before .before .before .before .loop in
-    let a = c .before .before .before .before .before .before .before .before .args in
-    let f : ℕ → List ℕ = λ k. unwords (block (a .x0 .now) (a .x1 .now) (a .x2 .now) (a .x3 .now) k) in (
+loop-again c =
+    let at-loop = c .before .before .before .before .before .before in
+    let l = at-loop .loop in
+    let a = at-loop .before .before .args in
+    let f : ℕ → List ℕ = λ k. unwords (turned (block (a .x .now) 0 k)) in (
       omega arith,
       search needs,
-      block-stored (a .out .now) (l .out) _ f (l .i) (λ k h. length-unwords (block (a .x0 .now) (a .x1 .now) (a .x2 .now) (a .x3 .now) k))
-          (l .inv .2)
+      block-stored (a .out .now) (l .out) _ f (l .i) (λ k h. length-unwords (turned (block (a .x .now) 0 k))) (l .inv .2)
           (c .before .before .put-block .ensures
           ∙ ap (λ (x : List ℕ). unwords x ++ drop 16 (take (length (l .out) - 16 * l .i) (drop (16 * l .i) (l .out)))) (c .before .before .before .before .taken .ensures)),
     )
 
 returns : tie.Need-returns Inv-loop μ-loop
-returns c = let l = c .before .loop in
+returns c =
+    let l = c .before .loop in
     let a = c .before .before .before .args in
+    let f : ℕ → List ℕ = λ k. unwords (turned (block (a .x .now) 0 k)) in
     let e : l .i ≡ a .m = omega arith in
-    λ f H.
-    all-stored (a .x0 .now) (a .x1 .now) (a .x2 .now) (a .x3 .now) (a .m) (a .out .now) (l .out) f H
-    (subst (λ (j : ℕ). l .out ≡ cat j (λ k. unwords (block (a .x0 .now) (a .x1 .now) (a .x2 .now) (a .x3 .now) k)) ++ drop (16 * j) (a .out .now)) e
-    (l .inv .2))
+    over-stored (a .m) f (a .out .now) (l .out) (λ k h. length-unwords (turned (block (a .x .now) 0 k)))
+    (subst (λ (j : ℕ). l .out ≡ cat j f ++ drop (16 * j) (a .out .now)) e (l .inv .2))
 
 pub store-spec : {M : Type 1} → statement M
 store-spec =

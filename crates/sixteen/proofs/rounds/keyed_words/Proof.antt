@@ -11,10 +11,10 @@ use Rattle.sixteen.proofs.rounds.keyed_words.Statement.{statement}
 use Rattle.sixteen.proofs.rounds.keyed_words.Tie as tie
 
 abbrev Inv-loop : tie.InvT-loop
-Inv-loop t₀ b c d k n j₀ t j = (j ≤ n) × (length t ≡ 128) × Each (keyed b c d k) j t
+Inv-loop t₀ x i k n b c d j₀ t j = (j ≤ n) × (length t ≡ 64) × Each (keyed x i k) j t
 
 abbrev μ-loop : tie.MeasureT-loop
-μ-loop t₀ b c d k n j₀ t j = n - j
+μ-loop t₀ x i k n b c d j₀ t j = n - j
 
 loop-holds : tie.Need-loop-holds Inv-loop μ-loop
 loop-holds c = (search needs, search needs, λ j h. absurd (omega arith))
@@ -25,7 +25,7 @@ loop-again c =
     let a = c .before .before .before .before .before .args in (
       omega arith,
       search needs,
-      each-next (keyed (a .b .now) (a .c .now) (a .d .now) (a .k)) (l .j) (keyed (a .b .now) (a .c .now) (a .d .now) (a .k) (l .j)) (l .t)
+      each-next (keyed (a .x .now) (a .i) (a .k)) (l .j) (keyed (a .x .now) (a .i) (a .k) (l .j)) (l .t)
           (omega arith) refl (l .inv .2),
     )
 
@@ -36,4 +36,4 @@ pub keyed-words-spec : {M : Type 1} → statement M
 keyed-words-spec =
     tie.close
     (tie.spec
-    Inv-loop μ-loop loop-holds (λ c. search needs) (λ c. search needs) (λ c. search needs) (λ c. search needs) (λ c. search needs) (λ c. search needs) (λ c. search needs) (λ c. search needs) (λ c. search needs) (λ c. search needs) loop-again returns)
+    Inv-loop μ-loop (λ c. search needs) (λ c. search needs) (λ c. search needs) (λ c. search needs) (λ c. search needs) (λ c. search needs) loop-holds (λ c. search needs) (λ c. search needs) (λ c. search needs) (λ c. search needs) (λ c. search needs) (λ c. search needs) (λ c. search needs) (λ c. search needs) (λ c. search needs) (λ c. search needs) (λ c. search needs) (λ c. search needs) (λ c. search needs) loop-again returns)

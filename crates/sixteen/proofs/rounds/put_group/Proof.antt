@@ -12,7 +12,7 @@ use Rattle.sixteen.proofs.rounds.put_group.Tie as tie
 
 abbrev Inv-loop : tie.InvT-loop
 Inv-loop g s₀ z i₀ s i =
-    (i ≤ 8) × (length s ≡ 128) × ((f : ℕ → ℕ) → Each f (16 * g) s₀ → Halves f g z → Each f (16 * g + 2 * i) s)
+    (i ≤ 8) × (length s ≡ 64) × ((f : ℕ → ℕ) → Each f (16 * g) s₀ → Halves f g z → Each f (16 * g + 2 * i) s)
 
 abbrev μ-loop : tie.MeasureT-loop
 μ-loop g s₀ z i₀ s i = 8 - i

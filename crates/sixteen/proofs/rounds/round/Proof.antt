@@ -1,7 +1,8 @@
 -- `sixteen::rounds::round` meets its contract: the three steps, put together by `round-done`.
 -- Assumes nothing.
 use borrow.Author.Needs.{needs}
-use Rattle.sixteen.specs.Blocks.{worked, keyed}
+use Prim.Native.Nat.{_*_}
+use native.Mathlib.Omega.{arith}
 use Rattle.sixteen.proofs.Filling.{round-done}
 use Rattle.sixteen.proofs.rounds.round.Statement.{statement}
 use Rattle.sixteen.proofs.rounds.round.Tie as tie
@@ -10,12 +11,11 @@ returns : tie.Need-returns
 returns c =
     let at-sub = c .before .before .before in
     let at-keyed = at-sub .before .before .before in
-    let S = at-keyed .before .before in
+    let S = at-keyed .before .before .before in
     let a = S .args in (
-      round-done (a .a .now) (at-keyed .keyed-words .last .0) (at-sub .sub-words .last .1 .0) (c .mix .last .0)
-          (keyed (a .b .now) (a .c .now) (a .d .now) (a .k)) (a .n) (worked (a .passes) (a .groups)) (S .pre .0 .0) (at-keyed .keyed-words .ensures .0)
-          (at-sub .sub-words .ensures .0) (c .mix .ensures .0),
-      (c .mix .ensures .1, at-keyed .keyed-words .ensures .1, at-sub .sub-words .ensures .1),
+      round-done (a .x .now) (c .mix .last .0) (at-keyed .keyed-words .last .0) (at-sub .sub-groups .last .1 .0) (a .i) (a .k) (a .n)
+          (16 * a .groups) (S .pre .0 .0) (omega arith) (at-keyed .keyed-words .ensures .0) (at-sub .sub-groups .ensures .0) (c .mix .ensures .0),
+      record { lx = c .mix .ensures .1; lt = at-keyed .keyed-words .ensures .1; ls = at-sub .sub-groups .ensures .1 },
     )
 
 pub round-spec : {M : Type 1} → statement M

@@ -14,14 +14,13 @@ use Rattle.sixteen.proofs.rounds.sub_groups.Statement.{statement}
 use Rattle.sixteen.proofs.rounds.sub_groups.Tie as tie
 
 abbrev Inv-loop : tie.InvT-loop
-Inv-loop t s₀ from groups g₀ s g =
-    (g ≤ groups) × (length s ≡ 128) × (Each (λ j. tau (getD t j 0)) (16 * from) s₀ → Each (λ j. tau (getD t j 0)) (16 * (from + g)) s)
+Inv-loop t s₀ groups g₀ s g = (g ≤ groups) × (length s ≡ 64) × Each (λ j. tau (getD t j 0)) (16 * g) s
 
 abbrev μ-loop : tie.MeasureT-loop
-μ-loop t s₀ from groups g₀ s g = groups - g
+μ-loop t s₀ groups g₀ s g = groups - g
 
 loop-holds : tie.Need-loop-holds Inv-loop μ-loop
-loop-holds c = (search needs, search needs, λ E j h. E j (omega arith))
+loop-holds c = (search needs, search needs, λ j h. absurd (omega arith))
 
 loop-again : tie.Need-loop-again Inv-loop μ-loop
 loop-again c =
@@ -31,7 +30,7 @@ loop-again c =
     let l = at-loop .loop in
     let a = at-loop .before .args in
     let t = a .t .now in
-    let g = a .«from» + l .g in
+    let g = l .g in
     let f : ℕ → ℕ = λ j. tau (getD t j 0) in
     let halves : Halves f g (at-sub .sub-bytes .result) =
     λ i h.
@@ -44,13 +43,13 @@ loop-again c =
     let e : 16 * g + 2 * i ≡ 2 * (8 * g + i) = omega arith in
     let e′ : 16 * g + 2 * i + 1 ≡ 2 * (8 * g + i) + 1 = omega arith in
     (ap f e ∙ sym (low-half z hi lo (p .1) b), ap f e′ ∙ sym (high-half z hi lo (p .1) b)) in
-    (omega arith, c .put-group .ensures .1, λ E j h. c .put-group .ensures .0 f (l .inv .2 E) halves j (omega arith))
+    (omega arith, c .put-group .ensures .1, λ j h. c .put-group .ensures .0 f (l .inv .2) halves j (omega arith))
 
 returns : tie.Need-returns Inv-loop μ-loop
-returns c = let l = c .before .loop in (λ E j h. l .inv .2 E j (omega arith), l .inv .1)
+returns c = let l = c .before .loop in (λ j h. l .inv .2 j (omega arith), l .inv .1)
 
 pub sub-groups-spec : {M : Type 1} → statement M
 sub-groups-spec =
     tie.close
     (tie.spec
-    Inv-loop μ-loop loop-holds (λ c. search needs) (λ c κs. search needs) (λ c κs. search needs) (λ c. search needs) (λ c κs. search needs) (λ c. search needs) (λ c. search needs) loop-again returns)
+    Inv-loop μ-loop loop-holds (λ c κs. search needs) (λ c κs. search needs) (λ c κs. search needs) (λ c. search needs) (λ c. search needs) loop-again returns)

@@ -1,4 +1,4 @@
--- `stream::few::run` meets its contract. A turn of the loop goes 128 blocks on (`reached-on`), and what is left ends the walk
+-- `stream::few::run` meets its contract. A turn of the loop goes 64 blocks on (`reached-on`), and what is left ends the walk
 -- (`reached-end`, `reached-over`).
 -- Assumes nothing.
 use mathlib.Core.Path.{_≡_, ap, _∙_}
@@ -40,10 +40,10 @@ loop-again c =
     let d = now (a .«data») in
     let e = drop (l .at) d in
     let s = unwords (l .s) in
-    let room : 16 * 128 ≤ length e = rw length-drop (omega arith) in
+    let room : 16 * 64 ≤ length e = rw length-drop (omega arith) in
     let x = rw (tail-is d (l .at)) at (c .before .before .before .few .ensures) in
-    reached-on M (unwords (a .iv)) d (now (a .out)) s (l .out) (l .at) (l .inv) 128 _ _ (omega arith) (omega arith)
-    (λ i h. stream-block (a .kind) (a .rk) (stepped M i s e) (blockAt e i) (length-blockAt e i 128 h room)) (x .0) (x .1 .1)
+    reached-on M (unwords (a .iv)) d (now (a .out)) s (l .out) (l .at) (l .inv) 64 _ _ (omega arith) (omega arith)
+    (λ i h. stream-block (a .kind) (a .rk) (stepped M i s e) (blockAt e i) (length-blockAt e i 64 h room)) (x .0) (x .1 .1)
 
 returns : tie.Need-returns Inv-loop μ-loop
 returns c =
