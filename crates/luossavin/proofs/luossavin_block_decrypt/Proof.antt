@@ -1,0 +1,11 @@
+-- `luossavin::luossavin_block_decrypt` meets its contract: it reports the call on the host's record.
+-- Assumes nothing.
+use Rattle.luossavin.specs.Host.{hostBlockCall}
+use borrow.Author.Needs.{needs}
+use Rattle.luossavin.proofs.luossavin_block_decrypt.Statement.{statement}
+use Rattle.luossavin.proofs.luossavin_block_decrypt.Tie as tie
+
+pub luossavin-block-decrypt-spec : {M : Type 1} → statement M
+unfolding hostBlockCall
+luossavin-block-decrypt-spec =
+    tie.close (tie.spec (λ c κs. search needs) (λ c κs. search needs) (λ c κs. search needs) (λ c. search needs) (λ c. cc))
