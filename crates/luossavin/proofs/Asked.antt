@@ -71,4 +71,7 @@ module _ (c : Sm4Cipher) (label file iv : List ℕ) (six : length label ≡ 6) w
 
   pub one-candidate : toOne (which c file iv label (6 ∷ [])) ≡ under (keyNumber c) (opensHead c label file iv)
   unfolding which opensHead
-  one-candidate = rw (no-bad-list, the-checks, the-search) (answered (andThen (keyAndIv (c .answer) (c .retired) Decrypt Gcm (length iv)) (dataCheck Decrypt Gcm (length file))) (opensWith c iv file label))
+  one-candidate =
+      rw (no-bad-list, the-checks, the-search)
+      (answered (andThen (keyAndIv (c .answer) (c .retired) Decrypt Gcm (length iv)) (dataCheck Decrypt Gcm (length file)))
+      (opensWith c iv file label))

@@ -1,5 +1,5 @@
--- The exported calls on hashes: what each one gives. A field element is the big-endian number of its 16 bytes, in two halves of 64 bits, and
--- every value is one.
+-- The exported calls on hashes: what each one gives. A field element is the big-endian number of its 16 bytes, in two halves of 64 bits,
+-- and every value is one.
 use Prim.Native.Nat.{ℕ, _/_, _%_, _^_}
 use mathlib.Core.List.{List}
 use Rattle.block.specs.Wide.{value}

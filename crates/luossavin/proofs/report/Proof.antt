@@ -1,4 +1,4 @@
--- `luossavin::report` meets its contract: done reports its length and what is said of a counter, and a refusal its number and what was missing.
+-- `luossavin::report` meets its contract: done reports its length and its counter, and a refusal its number and what is missing.
 -- Assumes nothing.
 use Rattle.cipher_mode.proofs.Refusals.{refuses}
 use Rattle.luossavin.proofs.Marks.{mark-byte}
@@ -10,7 +10,8 @@ returns-2 : tie.Need-returns-2
 returns-2 c =
     let at-ending = c .before .before .before in
     let a = at-ending .before .before .before .args .answer in
-    rw (at-ending .ending2 .given .1, mark-byte (a .«came_round»), refuses (at-ending .ending2 .given .0 .0) .no-size) (cc)
+    let r = at-ending .ending2 .given in
+    rw (r .1, mark-byte (a .«came_round»), c .before .number .ensures, c .missing .ensures, refuses (r .0 .0) .no-size)
 
 pub report-spec : {M : Type 1} → statement M
 report-spec =

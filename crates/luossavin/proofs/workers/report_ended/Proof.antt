@@ -1,5 +1,6 @@
 -- `luossavin::workers::report_ended` meets its contract: each case reports its own number, and a refusal as every call reports it.
 -- Assumes nothing.
+use mathlib.Core.Path.{_∙_}
 use borrow.Author.Needs.{needs}
 use Rattle.luossavin.proofs.workers.report_ended.Statement.{statement}
 use Rattle.luossavin.proofs.workers.report_ended.Tie as tie
@@ -8,5 +9,7 @@ pub report-ended-spec : {M : Type 1} → statement M
 report-ended-spec =
     tie.close
     (tie.spec (λ c. search needs) (λ c κs. search needs) (λ c κs. search needs) (λ c. search needs) (λ c κs. search needs)
-    (λ c. search needs) (λ c κs. search needs) (λ c κs. search needs) (λ c. rw (c .before .before .before .ended .given .1) (cc))
-    (λ c. rw (c .before .enum-told .given .1) (c .numbered .ensures)) (λ c. rw (c .before .before .before .ended2 .given .1) (cc)))
+    (λ c. search needs) (λ c κs. search needs) (λ c κs. search needs)
+    (λ c. rw (c .before .before .before .ended .given .1) (c .report .ensures ∙ c .before .done .ensures))
+    (λ c. rw (c .before .enum-told .given .1) (c .numbered .ensures))
+    (λ c. rw (c .before .before .before .ended2 .given .1) (c .report2 .ensures ∙ c .before .refused .ensures)))
