@@ -33,10 +33,11 @@ use Rattle.cipher_mode.specs.Tables.{modeOf}
 use Rattle.cipher_mode.specs.Checks.{wrongIv, retiredCheck}
 use Rattle.cipher_mode.specs.Calls.{modeCall}
 use Rattle.cipher_mode.proofs.Passed.{iv-twelve-or-sixteen}
-use Rattle.luossavin.specs.declared.halves.LuossavinHash.{LuossavinHash}
+use Rattle.block.specs.declared.U128.{U128 as LuossavinHash}
 use Rattle.luossavin.specs.declared.key.LuossavinKey.{LuossavinKey}
 use Rattle.luossavin.specs.Key.{cipherIn}
-use Rattle.luossavin.specs.Halves.{hashIn, hashOf, hostHashBlocks, hostHashJoin}
+use Rattle.block.specs.Wide.{value as hashIn}
+use Rattle.luossavin.specs.Halves.{hashOf, hostHashBlocks, hostHashJoin}
 use Rattle.luossavin.specs.Host.{hostBlockCall, hostModeCall}
 use Rattle.demands.specs.Call.{inGcm, result}
 use Rattle.demands.specs.Halves.{IsValue, WholeBlocks, JoinsHalves, enciphered, keyOfHash, bytesIn, pair}

@@ -45,7 +45,7 @@ use Rattle.label.specs.Label.{labelOf}
 use Rattle.shelf.specs.Records.{Record, written, stored, marked, startsRecord, sizeAt, front, readUpTo, records}
 use Rattle.shelf.specs.Shelf.{those, hasCurrent, twoCurrent, notHigher, supersede, withNew, fitted, badShelf}
 use Rattle.shelf.specs.Calls.{Outcome as Shelf·Outcome, putCall}
-use Rattle.luossavin.specs.declared.halves.LuossavinHash.{LuossavinHash}
+use Rattle.block.specs.declared.U128.{U128 as LuossavinHash}
 use Rattle.luossavin.specs.declared.key.LuossavinKey.{LuossavinKey}
 use Rattle.luossavin.specs.Key.{keyAnswerOf, cipherIn, keyOf, hostKeyNew, hostKeyEngine}
 use Rattle.luossavin.specs.Halves.{hostHashBlocks, hostHashJoin}

@@ -10,9 +10,10 @@ use Rattle.block.specs.BigEndian.{numberOf, bytesOf}
 use Rattle.block.specs.Xor.{xors}
 use Rattle.ghash.specs.Ghash.{blockCount}
 use Rattle.cipher_mode.specs.declared.Direction.the-variants.{Encrypt}
-use Rattle.luossavin.specs.declared.halves.LuossavinHash.{LuossavinHash}
+use Rattle.block.specs.declared.U128.{U128 as LuossavinHash}
 use Rattle.luossavin.specs.declared.key.LuossavinKey.{LuossavinKey}
-use Rattle.luossavin.specs.Halves.{hashIn, hashOf, hostHashBlocks, hostHashJoin}
+use Rattle.block.specs.Wide.{value as hashIn}
+use Rattle.luossavin.specs.Halves.{hashOf, hostHashBlocks, hostHashJoin}
 use Rattle.luossavin.specs.Host.{hostBlockCall, hostModeCall}
 use Rattle.demands.specs.Call.{result}
 use Rattle.demands.specs.TwelveBytes.{followedBy}

@@ -28,7 +28,7 @@ use Rattle.ranges.specs.Plan.{accepts}
 use Rattle.shelf.specs.Records.{stored, records}
 use Rattle.shelf.specs.Shelf.{currentOf, notHigher, supersede, fitted, badShelf}
 use Rattle.shelf.specs.Calls.{Outcome as Shelf·Outcome, refuse as shelfRefuse, holding, putIn}
-use Rattle.luossavin.specs.declared.halves.LuossavinHash.{LuossavinHash}
+use Rattle.block.specs.declared.U128.{U128 as LuossavinHash}
 use Rattle.luossavin.specs.declared.key.LuossavinKey.{LuossavinKey}
 use Rattle.luossavin.specs.Key.{cipherIn, hostKeyNew}
 use Rattle.luossavin.specs.Halves.{hostHashBlocks, hostHashJoin}

@@ -25,7 +25,7 @@ returns c =
     let a = at-label .before .before .before .args in
     let file = now (a .sealed) in
     let iv = now (a .iv) in
-    c .report-asked .ensures ∙ asked-ended (at-which .which .result) ∙ ap toOne (at-which .which .ensures)
+    c .report-ended .ensures ∙ asked-ended (at-which .which .result) ∙ ap toOne (at-which .which .ensures)
     ∙ ap₂ {C = Head} (λ (k : Sm4Cipher) (l : List ℕ). toOne (which k file iv l (6 ∷ []))) (at-key .cipher-of .ensures)
     (at-label .label .ensures)
     ∙ one-candidate (cipherIn (a .key)) (labelOf (a .job) (a .edition)) file iv (length-label (a .job) (a .edition))
@@ -33,6 +33,5 @@ returns c =
 pub luossavin-edition-opens-spec : {M : Type 1} → statement M
 luossavin-edition-opens-spec =
     tie.close
-    (tie.spec
-    (λ c κs. search needs) (λ c κs. search needs) (λ c. search needs) (λ c. search needs) (λ c κs. search needs)
+    (tie.spec (λ c κs. search needs) (λ c κs. search needs) (λ c. search needs) (λ c. search needs) (λ c κs. search needs)
     (λ c κs. search needs) returns)

@@ -2,7 +2,7 @@
 -- host's. The measure is how many are to come.
 -- Assumes nothing.
 use mathlib.Core.Path.{_≡_, refl, sym, ap, _∙_}
-use mathlib.Core.List.{List, [], _∷_, map}
+use mathlib.Core.List.{List, map}
 use Prim.Native.Nat.{_-_, _≤_}
 use native.Mathlib.Omega.{arith}
 use lib.ListN.{length, length-map, length-set}
@@ -26,11 +26,7 @@ eight : (S : tie.Start Inv-loop μ-loop) → length (S .args .keys .keys) ≡ 8
 eight S = sym (length-map (S .args .keys .keys) _) ∙ S .good .0 .1 .1 .1 .0 .1 .0 .1
 
 loop-holds : tie.Need-loop-holds Inv-loop μ-loop
-loop-holds c =
-    let S = c .before .before .before in
-    let k = c .cipher-of .result in
-    let made = one-made (S .args .keys .keys) (k ∷ []) 0 _ k (omega (arith, eight S)) (omega arith) (c .cipher-of .ensures) in
-    (omega arith, eight S, refl, made)
+loop-holds c = (omega arith, eight (c .before .before .before), refl, refl)
 
 loop-again : tie.Need-loop-again Inv-loop μ-loop
 loop-again c =

@@ -1,4 +1,4 @@
--- `luossavin::journals::report_replayed` meets its contract, field by field.
+-- `luossavin::journals::report_replayed` meets its contract: field by field.
 -- Assumes nothing.
 use Rattle.luossavin.specs.Journals.{toldOf}
 use Rattle.luossavin.proofs.Marks.{mark-byte}

@@ -1,4 +1,4 @@
--- `luossavin::recording::luossavin_record` meets its contract: the writer's record of the call, told as an answer.
+-- `luossavin::journals::luossavin_record` meets its contract: the writer's record of the call, told as an answer.
 -- Assumes nothing.
 use mathlib.Core.Path.{ap, _∙_}
 use denote.Ref.{now}
@@ -7,8 +7,8 @@ use Rattle.journal.specs.Format.{Entry}
 use Rattle.luossavin.specs.Recording.{recorded, hostRecord}
 use Rattle.luossavin.proofs.Recorded.{leavesOutcome, written-recorded, same-entry}
 use borrow.Author.Needs.{needs}
-use Rattle.luossavin.proofs.recording.luossavin_record.Statement.{statement}
-use Rattle.luossavin.proofs.recording.luossavin_record.Tie as tie
+use Rattle.luossavin.proofs.journals.luossavin_record.Statement.{statement}
+use Rattle.luossavin.proofs.journals.luossavin_record.Tie as tie
 
 returns : tie.Need-returns
 unfolding hostRecord
@@ -23,12 +23,11 @@ returns c =
     ap {B = Outcome} (λ (h : Head). leaving h (at-write .write .last .1 .1 .1 .1 .1 .0)) (c .report-wrote .ensures)
     ∙ ap leavesOutcome (at-write .write .ensures) ∙ written-recorded _ o
     ∙ ap {B = Outcome} (λ (e : Entry). recorded e o)
-    (same-entry (a .key) (now (a .aad)) (now (a .«data»)) (now (a .iv)) (now (a .output)) (at-direction .direction-in .ensures)
-    (at-mode .byte-of .ensures) (at-room .word-of .ensures) (at-number .byte-of2 .ensures))
+    (same-entry (a .key) (now (a .aad)) (now (a .«data»)) (now (a .iv)) (now (a .output)) (at-direction .direction-of .ensures)
+    (at-mode .at-most .ensures .0) (at-room .at-most2 .ensures .0) (at-number .at-most3 .ensures .0))
 
 pub luossavin-record-spec : {M : Type 1} → statement M
 luossavin-record-spec =
     tie.close
-    (tie.spec
-    (λ c κs. search needs) (λ c κs. search needs) (λ c κs. search needs) (λ c κs. search needs) (λ c κs. search needs)
-    (λ c κs. search needs) (λ c. search needs) returns)
+    (tie.spec (λ c κs. search needs) (λ c κs. search needs) (λ c. search needs) (λ c κs. search needs) (λ c. search needs)
+    (λ c κs. search needs) (λ c. search needs) (λ c κs. search needs) (λ c κs. search needs) (λ c. search needs) returns)
