@@ -1,22 +1,11 @@
 -- An outcome is answered as demand 1 asks: a refusal, or a success whose result has the table's length and fits.
 -- Assumes nothing.
-use mathlib.Core.Path.{_≡_, refl, ap, subst, _∙_}
-use mathlib.Core.Logic.{_≢_}
-use mathlib.Core.Bool.{Bool, true, false, cond}
-use mathlib.Core.List.{List}
-use Prim.Native.Nat.{ℕ, _≤_, _<_}
-use native.Mathlib.Omega.{arith}
-use lib.ListN.{length, take, drop, length-append, length-drop}
-use lib.Seq.{drop-at, length-take-le}
-use Rattle.walk.specs.Outcome.{Head, Outcome, finished, refusal, cutShort, leaving, keyed, reporting, refused, refuse, written, done}
-use Rattle.walk.specs.Walk.{over}
-use Rattle.cipher_mode.specs.declared.answer.Refusal.{Refusal}
-use Rattle.cipher_mode.specs.declared.answer.Refusal.the-variants.{ErrorBlockSize, ErrorDataLen, InvalidLastU8, InvalidTag, TooLong, NoRoom}
-use Rattle.cipher_mode.specs.declared.answer.Refusal.the-variants.{EmptyCbc, ShortGcm, WrongIv, WrongBlock, Ended, WrongNumber, Retired, InvalidPadding}
-use Rattle.cipher_mode.specs.declared.checks.Checked.{Checked}
-use Rattle.cipher_mode.specs.declared.checks.Checked.the-variants.{Passed, Refused}
-use Rattle.cipher_mode.specs.Answer.{refusalHead}
-use Rattle.cipher_mode.specs.Checks.{refuse as refuseBy, andThen, checked}
+use Rattle.demands.specs.Names as N
+use N.{Bool, cond, false, true, List, _≢_, _∙_, _≡_, ap, refl, subst, _<_, _≤_, ℕ, arith, drop, length, length-append, length-drop, take}
+use N.{drop-at, length-take-le, Head, Outcome, cutShort, done, finished, keyed, leaving, refusal, refuseAs as refuse, refused, reporting}
+use N.{written, over, refusalHead, andThen, checked, refuse as refuseBy, Refusal, EmptyCbc, Ended, ErrorBlockSize, ErrorDataLen}
+use N.{Refusal·LastU8 as InvalidLastU8, Refusal·Padding as InvalidPadding, Refusal·Tag as InvalidTag, NoRoom, Retired, ShortGcm, TooLong}
+use N.{WrongBlock, WrongIv, WrongNumber, Checked, Passed, Refused}
 use Rattle.demands.specs.Answered.{oneOf, Answered}
 
 module _ (numbers : List ℕ) where

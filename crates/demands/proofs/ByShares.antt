@@ -2,47 +2,21 @@
 -- stretch of what the single call gives; two ranges applied to one text give the same in either order; and workers who each do their
 -- share of an accepted plan, in any order, leave the single call's bytes.
 -- Assumes nothing.
-use mathlib.Core.Path.{_≡_, refl, sym, ap, _∙_}
-use mathlib.Core.Bool.{Bool, true, false}
-use mathlib.Core.List.{List, [], _∷_, _++_, append-assoc, Perm}
-use Prim.Native.Nat.{ℕ, zero, suc, _+_, _-_, _≤_, min}
-use native.Mathlib.Omega.{arith}
-use lib.Dec.{ltb}
-use lib.ListN.{length, take, drop, length-append, length-take, length-drop}
-use lib.Seq.{take-at, drop-at, drop-append-le, drop-drop}
-use borrow.Author.Tests.{ltb-true, ltb-false, le-ltb}
-use Rattle.walk.specs.Outcome.{Head, Outcome, leaving, under, keyed, reporting, refuse as refuseAs, done}
-use Rattle.walk.specs.Walk.{chain, over}
-use Rattle.stream.specs.Stream.{streamMode}
-use Rattle.stream.specs.declared.Kind.the-variants.{Ctr as Ctr·kind}
-use Rattle.cipher_mode.specs.declared.CipherMode.the-variants.{Ctr}
-use Rattle.cipher_mode.specs.declared.Direction.{Direction}
-use Rattle.cipher_mode.specs.declared.Direction.the-variants.{Encrypt, Decrypt}
-use Rattle.cipher_mode.specs.declared.answer.Refusal.the-variants.{TooLong, NoRoom}
-use Rattle.cipher_mode.specs.declared.answer.Ending.the-variants.{Refused as Refused·ending}
-use Rattle.cipher_mode.specs.declared.checks.Checked.{Checked}
-use Rattle.cipher_mode.specs.declared.checks.Checked.the-variants.{Passed, Refused}
-use Rattle.cipher_mode.specs.Tables.{limit, modeOf}
-use Rattle.cipher_mode.specs.Key.{keyNumber}
-use Rattle.cipher_mode.specs.Checks.{refuse, andThen, keyAndIv, dataCheck, roomCheck, messageCheck, checked}
-use Rattle.cipher_mode.specs.Calls.{lengthsOf, modeResult, modeCall}
+use Rattle.demands.specs.Names as N
+use N.{Bool, false, true, List, Perm, [], _++_, _∷_, append-assoc, _∙_, _≡_, ap, refl, sym, _+_, _-_, _≤_, min, suc, zero, ℕ, arith, ltb}
+use N.{drop, length, length-append, length-drop, length-take, take, drop-append-le, drop-at, drop-drop, take-at, le-ltb, ltb-false}
+use N.{ltb-true, Head, Outcome, done, keyed, leaving, refuseAs, reporting, under, chain, over, streamMode, Ctr·kind, lengthsOf, modeCall}
+use N.{modeResult, andThen, checked, dataCheck, keyAndIv, messageCheck, refuse, roomCheck, keyNumber, limit, modeOf, Ctr, Direction}
+use N.{Decrypt, Encrypt, Refused·ending, NoRoom, TooLong, Checked, Passed, Refused, planCall, accepts, rangeCall, rangeCheck, reachCheck}
+use N.{stretch, Share, allWorked, applied, laidAt, shareOf, sharesOf, worked, Plan, hostModeCall, modeIn, directionOf, cipherIn}
+use N.{hostCtrByPlan, hostCtrRange, LuossavinKey}
 use Rattle.cipher_mode.proofs.Passed.{InOrder, KeyInOrder, let-through, both, key-and-iv-passed, data-within}
 use Rattle.cipher_mode.proofs.Refusals.{refuses, quiet-ending}
-use Rattle.ranges.specs.declared.plan.Plan.{Plan}
-use Rattle.ranges.specs.Plan.{accepts}
-use Rattle.ranges.specs.Range.{stretch, reachCheck, rangeCheck, rangeCall}
-use Rattle.ranges.specs.ByPlan.{planCall}
-use Rattle.ranges.specs.Shares.{Share, sharesOf, shareOf, laidAt, worked, allWorked, applied}
 use Rattle.ranges.proofs.Passed.{has-room}
 use Rattle.ranges.proofs.Jumped.{length-stretch}
 use Rattle.ranges.proofs.Applied.{length-applied, ranges-commute}
 use Rattle.ranges.proofs.Copied.{nothing-laid}
 use Rattle.ranges.proofs.AnyOrder.{share-of-whole, length-worked, plan-in-any-order}
-use Rattle.luossavin.specs.declared.key.LuossavinKey.{LuossavinKey}
-use Rattle.luossavin.specs.Key.{cipherIn}
-use Rattle.luossavin.specs.InPieces.{directionOf}
-use Rattle.luossavin.specs.Host.{modeIn, hostModeCall}
-use Rattle.luossavin.specs.Ranges.{hostCtrRange, hostCtrByPlan}
 use Rattle.demands.specs.Call.{result}
 use Rattle.demands.specs.CameRound.{roundOf}
 use Rattle.demands.specs.Workers.{unsaid, ctrCall, StretchOfWhole, Applying, appliedBy, RangesCommute, workedBy, allWorkedBy}

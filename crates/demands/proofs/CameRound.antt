@@ -1,62 +1,23 @@
 -- What the answers say of a counter: where done, document 02's formula, which is what the walk's own steps say; no where refused, in the
 -- other modes, at starts and at pieces; and with a 12-byte IV never yes.
 -- Assumes nothing.
-use mathlib.Core.Path.{_≡_, refl, ap, _∙_}
-use mathlib.Core.Bool.{Bool, true, false, cond}
-use mathlib.Core.List.{List, [], _∷_}
-use Prim.Native.Nat.{ℕ, _+_, _-_, _/_, _%_, _^_, _≤_}
-use native.Mathlib.Omega.{arith}
-use lib.Dec.{eqb, ltb}
-use lib.ListN.{length}
-use lib.Seq.{drop-at, length-take-le}
-use borrow.Author.Tests.{eq-eqb, ne-eqb, eqb-true, eqb-false, lt-leb}
-use Rattle.block.specs.Below.{AreBytes}
-use Rattle.block.specs.BigEndian.{numberOf}
-use Rattle.block.specs.Same.{same}
-use Rattle.block.specs.Xor.{xors}
+use Rattle.demands.specs.Names as N
+use N.{Bool, cond, false, true, List, [], _∷_, _∙_, _≡_, ap, refl, _%_, _+_, _-_, _/_, _^_, _≤_, ℕ, arith, eqb, ltb, length, drop-at}
+use N.{length-take-le, eq-eqb, eqb-false, eqb-true, lt-leb, ne-eqb, AreBytes, numberOf, same, xors, blocksOf, ctrCameRound, gcmCameRound}
+use N.{lastFour, Head, Outcome, finished, refusal, refuseAs as refuse, reporting, telling, under, ctrWalkSays, gcmWalkSays, cbcOpen}
+use N.{cbcText, cbcHead, unpadded, Opened, Cbc·Done, InvalidLastU8, InvalidPadding, J0, firstCounter, hashKey, textPart, gcmOpen}
+use N.{refusalHead, blockCall, lengthsOf, modeCall, modeResult, blockCheck, checked, keyAndIv, messageCheck, keyNumber, limitOf, modeOf}
+use N.{sealedLimit, CipherMode, Cbc, Cfb, Ctr, Gcm, Ofb, Direction, Decrypt, Encrypt, Sm4Cipher, Sm4CipherMode, Refusal, Checked, Passed}
+use N.{Refused, Stepped, begun, ctrEnd, ctrPiece, ctrStart, goesOn, opensEnd, opensPiece, opensStart, sealEnd, sealPiece, sealStart, stepOn}
+use N.{gcmStarting, running, tagged, writing, hashEnd, ctrAfter, ctrShut, opensAfter, opensShut, sealAfter, sealShut, Ctr·state, Opens}
+use N.{Seal, badList, Verdict, checkedVerdict, noneWith, onKey, opensWith, searchCheck, which, hostBlockCall, hostModeCall, modeIn}
+use N.{cipherIn, hostWhich, LuossavinKey}
 use Rattle.block.proofs.Entries.{below-append}
 use Rattle.block.proofs.Convert.{bytesOf-bytes}
-use Rattle.counter.specs.Counter.{lastFour}
-use Rattle.counter.specs.CameRound.{blocksOf, ctrCameRound, gcmCameRound}
-use Rattle.walk.specs.Outcome.{Head, Outcome, finished, refusal, under, telling, reporting, refuse}
-use Rattle.stream.specs.Passes.{ctrWalkSays, gcmWalkSays}
 use Rattle.stream.proofs.CounterSteps.{ctr-walk-says, gcm-walk-says}
-use Rattle.cbc.specs.Open.{headOf as cbcHead, unpadded, cbcText, cbcOpen}
-use Rattle.cbc.specs.declared.Opened.{Opened}
-use Rattle.cbc.specs.declared.Opened.the-variants.{Done as Cbc·Done, InvalidLastU8, InvalidPadding}
-use Rattle.gcm.specs.Gcm.{hashKey, firstCounter, J0, textPart}
-use Rattle.gcm.specs.Open.{gcmOpen}
-use Rattle.cipher_mode.specs.declared.CipherMode.{CipherMode}
-use Rattle.cipher_mode.specs.declared.CipherMode.the-variants.{Cfb, Ofb, Ctr, Cbc, Gcm}
-use Rattle.cipher_mode.specs.declared.Direction.{Direction}
-use Rattle.cipher_mode.specs.declared.Direction.the-variants.{Encrypt, Decrypt}
-use Rattle.cipher_mode.specs.declared.Sm4Cipher.{Sm4Cipher}
-use Rattle.cipher_mode.specs.declared.Sm4CipherMode.{Sm4CipherMode}
-use Rattle.cipher_mode.specs.declared.answer.Refusal.{Refusal}
-use Rattle.cipher_mode.specs.declared.checks.Checked.{Checked}
-use Rattle.cipher_mode.specs.declared.checks.Checked.the-variants.{Passed, Refused}
-use Rattle.cipher_mode.specs.Answer.{refusalHead}
-use Rattle.cipher_mode.specs.Key.{keyNumber}
-use Rattle.cipher_mode.specs.Tables.{sealedLimit, limitOf, modeOf}
-use Rattle.cipher_mode.specs.Checks.{keyAndIv, checked, blockCheck, messageCheck}
-use Rattle.cipher_mode.specs.Calls.{blockCall, modeResult, lengthsOf, modeCall}
 use Rattle.cipher_mode.proofs.Passed.{data-within}
 use Rattle.cipher_mode.proofs.Refusals.{refuses}
-use Rattle.pieces.specs.declared.ctr.Ctr.{Ctr as Ctr·state}
-use Rattle.pieces.specs.declared.opens.Opens.{Opens}
-use Rattle.pieces.specs.declared.seal.Seal.{Seal}
-use Rattle.pieces.specs.Hashing.{hashEnd}
-use Rattle.pieces.specs.Checks.{gcmStarting, running, writing, tagged}
-use Rattle.pieces.specs.States.{ctrAfter, ctrShut, sealAfter, sealShut, opensAfter, opensShut}
-use Rattle.pieces.specs.Calls.{Stepped, stepOn, begun, goesOn, ctrStart, sealStart, opensStart}
-use Rattle.pieces.specs.Calls.{ctrPiece, ctrEnd, sealPiece, sealEnd, opensPiece, opensEnd}
-use Rattle.editions.specs.Candidates.{badList}
-use Rattle.editions.specs.Which.{Verdict, noneWith, onKey, searchCheck, checkedVerdict, opensWith, which}
 use Rattle.editions.proofs.FirstOpening.{search-number}
-use Rattle.luossavin.specs.declared.key.LuossavinKey.{LuossavinKey}
-use Rattle.luossavin.specs.Key.{cipherIn}
-use Rattle.luossavin.specs.Host.{modeIn, hostBlockCall, hostModeCall}
-use Rattle.luossavin.specs.Which.{hostWhich}
 use Rattle.demands.specs.Call.{inGcm}
 use Rattle.demands.specs.CameRound.{roundOf, Says}
 use Rattle.demands.proofs.Through.{through}

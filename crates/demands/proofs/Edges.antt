@@ -1,28 +1,9 @@
 -- Document 01's "At the edges" holds of the definitions, by computation, and what the checks say is what the calls answer.
 -- Assumes nothing.
-use mathlib.Core.Path.{_≡_, refl, sym, ap, _∙_}
-use mathlib.Core.Logic.{_≢_}
-use mathlib.Core.Bool.{Bool, true, false, _&&_}
-use mathlib.Core.List.{List, map}
-use Prim.Native.Nat.{ℕ}
-use lib.Dec.{eqb}
-use lib.ListN.{length}
-use borrow.Author.Tests.{ne-eqb}
-use Rattle.walk.specs.Outcome.{Outcome, finished, under, telling}
-use Rattle.block.specs.Same.{same}
-use Rattle.cbc.specs.Open.{namesPadding, allPadding, unpadded}
-use Rattle.cipher_mode.specs.declared.KeyAnswer.the-variants.{Key}
-use Rattle.cipher_mode.specs.declared.Direction.{Direction}
-use Rattle.cipher_mode.specs.declared.Direction.the-variants.{Encrypt}
-use Rattle.cipher_mode.specs.declared.answer.Refusal.{Refusal}
-use Rattle.cipher_mode.specs.declared.answer.Ending.the-variants.{Refused as Refused·ending}
-use Rattle.cipher_mode.specs.declared.checks.Checked.{Checked}
-use Rattle.cipher_mode.specs.declared.checks.Checked.the-variants.{Passed, Refused}
-use Rattle.cipher_mode.specs.declared.Sm4CipherMode.{Sm4CipherMode}
-use Rattle.cipher_mode.specs.Answer.{refusalHead}
-use Rattle.cipher_mode.specs.Key.{newCipher}
-use Rattle.cipher_mode.specs.Checks.{keyAndIv, dataCheck, roomCheck, messageCheck, blockCheck, checked}
-use Rattle.cipher_mode.specs.Calls.{modeResult, lengthsOf, modeCall}
+use Rattle.demands.specs.Names as N
+use N.{Bool, _&&_, false, true, List, map, _≢_, _∙_, _≡_, ap, refl, sym, ℕ, eqb, length, ne-eqb, same, Outcome, finished, telling, under}
+use N.{allPadding, namesPadding, unpadded, refusalHead, lengthsOf, modeCall, modeResult, blockCheck, checked, dataCheck, keyAndIv}
+use N.{messageCheck, roomCheck, newCipher, Direction, Encrypt, Key, Sm4CipherMode, Refused·ending, Refusal, Checked, Passed, Refused}
 use Rattle.cipher_mode.proofs.Refusals.{refuses, quiet-ending}
 use Rattle.demands.specs.CameRound.{roundOf, tellingDone}
 use Rattle.demands.specs.Edges.{Row, verdict, saidOf, edges}

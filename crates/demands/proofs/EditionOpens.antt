@@ -1,48 +1,18 @@
 -- Whether a file opens under a job and an edition: the question answers what the opening call does, given room, and a file that opens
 -- under one edition is refused as 4 under every other.
 -- Assumes nothing.
-use mathlib.Core.Path.{_≡_, refl, sym, ap, _∙_}
-use mathlib.Core.Bool.{Bool, true, false, cond}
-use mathlib.Core.List.{List}
-use Prim.Native.Nat.{ℕ, _-_, _≤_}
-use native.Mathlib.Omega.{arith}
-use lib.Dec.{ltb}
-use lib.ListN.{length}
-use borrow.Author.Tests.{le-ltb}
-use Rattle.walk.specs.Outcome.{Head, Outcome, leaving, finished, refusal, under, keyed, reporting, written}
-use Rattle.gcm.specs.Gcm.{hashKey, J0, textPart, textOf}
-use Rattle.gcm.specs.Open.{headOf as gcmHead, settled, gcmOpen}
-use Rattle.gcm.specs.declared.Opened.the-variants.{Done as Gcm·Done, InvalidTag}
-use Rattle.cipher_mode.specs.declared.KeyAnswer.{KeyAnswer}
-use Rattle.cipher_mode.specs.declared.KeyAnswer.the-variants.{Key, ErrorBlockSize as NoKey, WrongNumber as NoNumber}
-use Rattle.cipher_mode.specs.declared.CipherMode.the-variants.{Gcm}
-use Rattle.cipher_mode.specs.declared.Direction.the-variants.{Decrypt}
-use Rattle.cipher_mode.specs.declared.Sm4Cipher.{Sm4Cipher}
-use Rattle.cipher_mode.specs.declared.answer.Refusal.{Refusal}
-use Rattle.cipher_mode.specs.declared.answer.Refusal.the-variants.{TooLong, ShortGcm, WrongIv}
-use Rattle.cipher_mode.specs.declared.checks.Checked.{Checked}
-use Rattle.cipher_mode.specs.declared.checks.Checked.the-variants.{Passed, Refused}
-use Rattle.cipher_mode.specs.Answer.{refusalHead}
-use Rattle.cipher_mode.specs.Key.{keyNumber}
-use Rattle.cipher_mode.specs.Tables.{limit, sealedLimit, modeOf}
-use Rattle.cipher_mode.specs.Checks.{refuse, andThen, keyCheck, wrongIv, keyAndIv, dataCheck, roomCheck, messageCheck, checked}
-use Rattle.cipher_mode.specs.Calls.{lengthsOf, gcmRound, gcmResult, modeCall}
+use Rattle.demands.specs.Names as N
+use N.{Bool, cond, false, true, List, _∙_, _≡_, refl, sym, _-_, _≤_, ℕ, arith, ltb, length, le-ltb, Head, Outcome, finished, keyed, leaving}
+use N.{refusal, reporting, under, written, J0, textOf, textPart, gcmOpen, gcmHead, settled, Gcm·Done, InvalidTag, refusalHead, gcmResult}
+use N.{gcmRound, lengthsOf, modeCall, andThen, checked, dataCheck, keyAndIv, keyCheck, messageCheck, refuse, roomCheck, wrongIv, keyNumber}
+use N.{limit, modeOf, sealedLimit, Gcm, Decrypt, KeyAnswer, NoKey, Key, NoNumber, Sm4Cipher, Refusal, ShortGcm, TooLong, WrongIv, Checked}
+use N.{Passed, Refused, opensWith, labelOf, checkedHead, hostEditionOpens, opensHead, hostModeCall, cipherIn, hostKeyEngine, LuossavinKey}
 use Rattle.cipher_mode.proofs.Refusals.{refuses}
-use Rattle.editions.specs.Which.{opensWith}
-use Rattle.label.specs.Label.{labelOf}
 use Rattle.label.proofs.LabelTells.{length-label}
-use Rattle.luossavin.specs.declared.key.LuossavinKey.{LuossavinKey}
-use Rattle.luossavin.specs.Key.{cipherIn, hostKeyEngine}
-use Rattle.luossavin.specs.Host.{hostModeCall}
-use Rattle.luossavin.specs.Edition.{checkedHead, opensHead, hostEditionOpens}
 use Rattle.demands.specs.Call.{inGcm}
 use Rattle.demands.specs.OneBlockRefused.{MovesZero}
-use Rattle.demands.specs.EditionOpens.{Question, WithoutText, AnswersAsOpening, NeverNoRoom, OneEditionAlone}
+use Rattle.demands.specs.EditionOpens.{WithoutText, AnswersAsOpening, NeverNoRoom, OneEditionAlone}
 use Rattle.demands.proofs.OtherEdition.{other-edition-refused}
-
--- what a key's record is asked
-abbrev asks : Sm4Cipher → Question
-asks c job edition file iv = under (keyNumber c) (opensHead c (labelOf job edition) file iv)
 
 on-key : (k : ℕ) (h : Head) (x : Outcome) → WithoutText h x → WithoutText (under k h) (keyed k x)
 on-key k h x w = record { number = w .number; missing = w .missing; key = refl; size = w .size; cameRound = w .cameRound }
@@ -93,9 +63,10 @@ module _ (c : Sm4Cipher) (label file iv o : List ℕ) (short : length label ≤ 
       rw the-checks (on-key (keyNumber c) _ (checked (andThen first second) o next) w)
 
 -- The question answers what the single call answers in Gcm, given room: 0 exactly where that is 0, and otherwise its refusal.
-pub edition-opens : (c : Sm4Cipher) → AnswersAsOpening (asks c) (modeCall Decrypt (inGcm c))
-edition-opens c job edition file iv o room =
-    asked-as-opened c (labelOf job edition) file iv o (omega (arith, length-label job edition)) room
+pub edition-opens : (k : LuossavinKey) → AnswersAsOpening (hostEditionOpens k) (hostModeCall Decrypt 4 k)
+unfolding hostEditionOpens hostModeCall modeOf
+edition-opens k job edition file iv o room =
+    asked-as-opened (cipherIn k) (labelOf job edition) file iv o (omega (arith, length-label job edition)) room
 
 no-six : (a : KeyAnswer) (wrong long short t : Bool) (n : ℕ)
     → checkedHead
@@ -111,37 +82,24 @@ no-six Key false false false true n e = omega arith
 no-six Key false false false false n e = omega arith
 
 -- It is never refused for room.
-pub edition-never-no-room : (c : Sm4Cipher) → NeverNoRoom (asks c)
-unfolding opensHead keyAndIv dataCheck
-edition-never-no-room c job edition file iv e =
+pub edition-never-no-room : (k : LuossavinKey) → NeverNoRoom (hostEditionOpens k)
+unfolding hostEditionOpens opensHead keyAndIv dataCheck
+edition-never-no-room k job edition file iv e =
+    let c = cipherIn k in
     no-six (c .answer) (wrongIv Gcm (length iv)) (ltb sealedLimit (length file)) (ltb (length file) 16)
     (opensWith c iv file (labelOf job edition)) (16 - length file) e
 
 -- Under a key that does not encrypt the all-zero block to itself, a file that opens under one job and edition is answered 4 for every
 -- other.
-pub edition-alone : (c : Sm4Cipher) → MovesZero (c .rk) → OneEditionAlone (asks c)
-edition-alone c moves j₁ j₂ e₁ e₂ file iv hj₁ hj₂ he₁ he₂ other e =
-    let w₁ = edition-opens c j₁ e₁ file iv file (omega arith) in
-    let w₂ = edition-opens c j₂ e₂ file iv file (omega arith) in
-    let refused = other-edition-refused c moves j₁ j₂ e₁ e₂ file iv file file hj₁ hj₂ he₁ he₂ other refl (sym (w₁ .number) ∙ e) in
+pub edition-alone : (k : LuossavinKey) → MovesZero (k .«round_keys») → OneEditionAlone (hostEditionOpens k)
+edition-alone k moves j₁ j₂ e₁ e₂ file iv hj₁ hj₂ he₁ he₂ other e =
+    let w₁ = edition-opens k j₁ e₁ file iv file (omega arith) in
+    let w₂ = edition-opens k j₂ e₂ file iv file (omega arith) in
+    let refused = other-edition-refused k moves j₁ j₂ e₁ e₂ file iv file file hj₁ hj₂ he₁ he₂ other refl (sym (w₁ .number) ∙ e) in
     w₂ .number ∙ refused .number
 
--- The same of the exported calls: `luossavin_edition_opens` beside `luossavin_decrypt` with mode 4.
-module _ (k : LuossavinKey) where
-  pub exported-edition-opens : AnswersAsOpening (hostEditionOpens k) (hostModeCall Decrypt 4 k)
-  unfolding hostEditionOpens hostModeCall modeOf
-  exported-edition-opens = edition-opens (cipherIn k)
-
-  pub exported-edition-never-no-room : NeverNoRoom (hostEditionOpens k)
-  unfolding hostEditionOpens
-  exported-edition-never-no-room = edition-never-no-room (cipherIn k)
-
-  pub exported-edition-alone : MovesZero (k .«round_keys») → OneEditionAlone (hostEditionOpens k)
-  unfolding hostEditionOpens cipherIn
-  exported-edition-alone moves = edition-alone (cipherIn k) moves
-
-  -- The engine is not seen.
-  pub exported-edition-engine-unseen : (e job edition : ℕ) (file iv : List ℕ)
-      → hostEditionOpens (hostKeyEngine k e) job edition file iv ≡ hostEditionOpens k job edition file iv
-  unfolding hostEditionOpens opensHead hostKeyEngine cipherIn
-  exported-edition-engine-unseen e job edition file iv = refl
+-- The engine is not seen.
+pub exported-edition-engine-unseen : (k : LuossavinKey) (e job edition : ℕ) (file iv : List ℕ)
+    → hostEditionOpens (hostKeyEngine k e) job edition file iv ≡ hostEditionOpens k job edition file iv
+unfolding hostEditionOpens opensHead hostKeyEngine cipherIn
+exported-edition-engine-unseen k e job edition file iv = refl

@@ -1,39 +1,15 @@
 -- The engine is never seen: no definition of an outcome looks at its mark. Where a call leaves a state, the state's mark is all that
 -- differs, whether the call was refused or not.
 -- Assumes nothing.
-use mathlib.Core.Path.{_≡_, refl, sym, ap, _∙_}
-use mathlib.Core.List.{List, []}
-use Prim.Native.Nat.{ℕ}
-use lib.Dec.{ltb}
-use lib.ListN.{length}
-use Rattle.walk.specs.Outcome.{Outcome, under, refuse}
-use Rattle.cipher_mode.specs.declared.CipherMode.the-variants.{Ctr as Ctr·mode}
-use Rattle.cipher_mode.specs.declared.Direction.{Direction}
-use Rattle.cipher_mode.specs.declared.Direction.the-variants.{Encrypt}
-use Rattle.cipher_mode.specs.declared.Sm4Cipher.{Sm4Cipher}
-use Rattle.cipher_mode.specs.declared.checks.Checked.{Checked}
-use Rattle.cipher_mode.specs.declared.checks.Checked.the-variants.{Passed, Refused}
-use Rattle.cipher_mode.specs.Answer.{refusalHead}
-use Rattle.cipher_mode.specs.Key.{keyNumber, withEngine}
-use Rattle.cipher_mode.specs.Tables.{modeOf}
-use Rattle.cipher_mode.specs.Checks.{keyAndIv}
-use Rattle.cipher_mode.specs.Calls.{blockCall, modeCall}
-use Rattle.pieces.specs.declared.ctr.Ctr.{Ctr}
-use Rattle.pieces.specs.declared.opens.Opens.{Opens}
-use Rattle.pieces.specs.declared.seal.Seal.{Seal}
-use Rattle.pieces.specs.Checks.{gcmStarting, running, writing}
-use Rattle.pieces.specs.States.{ctrAfter, ctrShut, sealAfter, sealShut}
-use Rattle.pieces.specs.Calls.{Stepped, stepOn, begun, goesOn, ctrStart, ctrPiece, ctrEnd, sealStart, sealPiece, sealEnd, opensStart}
-use Rattle.editions.specs.Which.{Verdict, which as asks}
-use Rattle.ranges.specs.Range.{rangeCall}
-use Rattle.ranges.specs.ByPlan.{planCall}
-use Rattle.luossavin.specs.declared.key.LuossavinKey.{LuossavinKey}
-use Rattle.luossavin.specs.Key.{cipherIn, hostKeyEngine}
-use Rattle.luossavin.specs.Host.{hostBlockCall, hostModeCall}
-use Rattle.luossavin.specs.InPieces.{directionOf, hostCtrStart, hostSealStart, hostOpensStart}
-use Rattle.luossavin.specs.Which.{toldOf, hostWhich}
-use Rattle.luossavin.specs.Ranges.{hostCtrRange, hostCtrByPlan}
-use Rattle.demands.specs.EngineUnseen.{unmarked, unmarkedCtr, unmarkedSeal, seen, AnsweredAlike, CtrAlike, SealAlike, unmarkedHost, ReportedAlike}
+use Rattle.demands.specs.Names as N
+use N.{List, [], _∙_, _≡_, ap, refl, sym, ℕ, ltb, length, Outcome, refuseAs as refuse, under, refusalHead, blockCall, modeCall, keyAndIv}
+use N.{keyNumber, withEngine, modeOf, Ctr as Ctr·mode, Direction, Encrypt, Sm4Cipher, Checked, Passed, Refused, Stepped, begun, ctrEnd}
+use N.{ctrPiece, ctrStart, goesOn, opensStart, sealEnd, sealPiece, sealStart, stepOn, gcmStarting, running, writing, ctrAfter, ctrShut}
+use N.{sealAfter, sealShut, Ctr·state as Ctr, Opens, Seal, Verdict, which as asks, planCall, rangeCall, hostBlockCall, hostModeCall}
+use N.{directionOf, hostCtrStart, hostOpensStart, hostSealStart, cipherIn, hostKeyEngine, hostCtrByPlan, hostCtrRange, hostWhich, toldOf}
+use N.{LuossavinKey}
+use Rattle.demands.specs.EngineUnseen.{unmarked, unmarkedCtr, unmarkedSeal, seen, AnsweredAlike, CtrAlike, SealAlike, unmarkedHost}
+use Rattle.demands.specs.EngineUnseen.{ReportedAlike}
 
 -- a call that leaves a state, by what its check says
 module _ (S : Type 0) (without : S → S) (n : ℕ) (k : Checked) where

@@ -1,26 +1,11 @@
 -- Nor is the engine seen in a replay: the keys' numbers and marks of retirement are looked at, and every record is made again by a call
 -- that does not show it.
 -- Assumes nothing.
-use mathlib.Core.Path.{_≡_, refl, sym, ap, ap₂, _∙_}
-use mathlib.Core.Bool.{Bool, cond, _||_}
-use mathlib.Core.List.{List, [], _∷_, map}
-use Prim.Native.Nat.{ℕ, zero, suc, _+_}
-use lib.Dec.{eqb, ltb}
-use lib.ListN.{length, take, drop}
-use Rattle.cipher_mode.specs.declared.Sm4Cipher.{Sm4Cipher}
-use Rattle.cipher_mode.specs.Key.{withEngine, keyNumber}
-use Rattle.cipher_mode.specs.Calls.{modeCall}
-use Rattle.journal.specs.Format.{Entry, sizeAt, front}
-use Rattle.journal.specs.KeyList.{placeOf, hasNumber, keyAt, keyOf, anyRetired, numberTwice, badKeys}
-use Rattle.journal.specs.Recomputed.{callInto, recomputed, judged}
-use Rattle.journal.specs.Reports.{counted, nothing}
-use Rattle.journal.specs.Replay.{countedUnder, replayOne, replayUpTo, replay}
-use Rattle.journal.specs.declared.report.Report.{Report}
-use Rattle.journal.specs.declared.Replayed.{Replayed}
-use Rattle.luossavin.specs.declared.key.LuossavinKey.{LuossavinKey}
-use Rattle.luossavin.specs.declared.journals.LuossavinKeys.{LuossavinKeys}
-use Rattle.luossavin.specs.Key.{cipherIn}
-use Rattle.luossavin.specs.Journals.{keysOf, toldOf, hostReplay}
+use Rattle.demands.specs.Names as N
+use N.{Bool, _||_, cond, List, [], _∷_, map, _∙_, _≡_, ap, ap₂, refl, sym, _+_, suc, zero, ℕ, eqb, ltb, drop, length, take, modeCall}
+use N.{keyNumber, withEngine, Sm4Cipher, Entry, front·journal as front, sizeAt·journal as sizeAt, anyRetired, badKeys, hasNumber, keyAt}
+use N.{keyOf·journal as keyOf, numberTwice, placeOf, callInto, judged, recomputed, countedUnder, replay, replayOne, replayUpTo, counted}
+use N.{nothing, Replayed, Report, hostReplay, keysOf, toldOf·journal as toldOf, cipherIn, LuossavinKeys, LuossavinKey}
 use Rattle.demands.specs.EngineUnseen.{unmarked, unmarkedHost, unmarkedKeys}
 use Rattle.demands.proofs.EngineUnseen.{host-unmarked}
 

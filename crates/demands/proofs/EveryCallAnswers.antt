@@ -1,57 +1,25 @@
 -- Demand 1: every call ends with an answer. A refusal reports length 0 and leaves the output as it was lent; a success reports
 -- the length of document 01's table and leaves what lies past it as it was lent. For all inputs.
 -- Assumes nothing.
-use mathlib.Core.Path.{_≡_, refl, ap, _∙_}
-use mathlib.Core.Logic.{_⊎_, ⊎-elim}
-use mathlib.Core.Bool.{Bool, true, false, not, cond, _||_}
-use mathlib.Core.List.{List}
-use Prim.Native.Nat.{ℕ, _-_, _%_, _≤_, _<_}
-use native.Mathlib.Omega.{arith}
-use lib.Dec.{eqb, ltb}
-use lib.ListN.{length}
-use lib.Seq.{length-take-le}
-use borrow.Author.Tests.{eq-eqb, ne-eqb, lt-ltb, le-ltb}
-use Rattle.cipher.specs.Sm4.{roundKeys}
-use Rattle.walk.specs.Outcome.{written, done}
-use Rattle.walk.specs.Walk.{chain}
-use Rattle.stream.specs.Stream.{streamMode}
-use Rattle.stream.specs.declared.Kind.{Kind}
-use Rattle.stream.specs.declared.Kind.the-variants.{Ofb as Ofb·kind, Ctr as Ctr·kind}
+use Rattle.demands.specs.Names as N
+use N.{Bool, _||_, cond, false, not, true, List, _⊎_, ⊎-elim, _∙_, _≡_, ap, refl, _%_, _-_, _<_, _≤_, ℕ, arith, eqb, ltb, length}
+use N.{length-take-le, eq-eqb, le-ltb, lt-ltb, ne-eqb, done, written, chain, roundKeys, streamMode, Kind, Ctr·kind, Ofb·kind, cbcSeal}
+use N.{allPadding, cbcOpen, cbcText, cbcHead, lastByte, namesPadding, unpadded, Cbc·Done, InvalidLastU8, InvalidPadding, J0, hashKey}
+use N.{opensUnder, sealed, textOf, textPart, gcmOpen, gcmHead, settled, Gcm·Done, InvalidTag, blockCall, blockOf, cfbKind, lengthsOf}
+use N.{modeCall, modeResult, blockCheck, dataCheck, keyAndIv, keyCheck, labelCheck, messageCheck, retiredCheck, roomCheck, shapeCheck}
+use N.{wrongIv, keyNumber, newCipher, newCipherMode, noCipher, wrongNumber, limit, limitOf, modeOf, roomOf, CipherMode, Cbc, Cfb, Ctr, Gcm}
+use N.{Ofb, Direction, Decrypt, Encrypt, KeyAnswer, NoKey, Key, NoNumber, Sm4Cipher, Sm4CipherMode, EmptyCbc, ErrorDataLen, NoRoom, Retired}
+use N.{ShortGcm, TooLong, WrongBlock, WrongIv, Passed, Lengths, hostBlockCall, hostModeCall, modeIn, cipherIn, hostKeyNew, LuossavinKey}
 use Rattle.stream.proofs.RoundTrip.{length-stream}
-use Rattle.cbc.specs.Cbc.{cbcSeal}
-use Rattle.cbc.specs.Open.{headOf as cbcHead, lastByte, namesPadding, allPadding, unpadded, cbcText, cbcOpen}
-use Rattle.cbc.specs.declared.Opened.the-variants.{Done as Cbc·Done, InvalidLastU8, InvalidPadding}
 use Rattle.cbc.proofs.Blocks.{length-decrypt}
 use Rattle.cbc.proofs.RoundTrip.{length-cbcSeal}
-use Rattle.gcm.specs.Gcm.{hashKey, J0, sealed, textPart, textOf, opensUnder}
-use Rattle.gcm.specs.Open.{headOf as gcmHead, settled, gcmOpen}
-use Rattle.gcm.specs.declared.Opened.the-variants.{Done as Gcm·Done, InvalidTag}
 use Rattle.gcm.proofs.Parts.{length-sealed, length-text}
-use Rattle.cipher_mode.specs.declared.CipherMode.{CipherMode}
-use Rattle.cipher_mode.specs.declared.CipherMode.the-variants.{Cfb, Ofb, Ctr, Cbc, Gcm}
-use Rattle.cipher_mode.specs.declared.Direction.{Direction}
-use Rattle.cipher_mode.specs.declared.Direction.the-variants.{Encrypt, Decrypt}
-use Rattle.cipher_mode.specs.declared.KeyAnswer.{KeyAnswer}
-use Rattle.cipher_mode.specs.declared.KeyAnswer.the-variants.{Key, ErrorBlockSize as NoKey, WrongNumber as NoNumber}
-use Rattle.cipher_mode.specs.declared.answer.Refusal.the-variants.{ErrorDataLen, TooLong, NoRoom}
-use Rattle.cipher_mode.specs.declared.answer.Refusal.the-variants.{EmptyCbc, ShortGcm, WrongIv, WrongBlock, Retired}
-use Rattle.cipher_mode.specs.declared.checks.Checked.the-variants.{Passed}
-use Rattle.cipher_mode.specs.declared.checks.Lengths.{Lengths}
-use Rattle.cipher_mode.specs.declared.Sm4Cipher.{Sm4Cipher}
-use Rattle.cipher_mode.specs.declared.Sm4CipherMode.{Sm4CipherMode}
-use Rattle.cipher_mode.specs.Key.{noCipher, wrongNumber, newCipher, keyNumber, newCipherMode}
-use Rattle.cipher_mode.specs.Tables.{limit, limitOf, roomOf, modeOf}
-use Rattle.cipher_mode.specs.Checks.{keyCheck, wrongIv, retiredCheck, keyAndIv, labelCheck, shapeCheck, dataCheck}
-use Rattle.cipher_mode.specs.Checks.{roomCheck, blockCheck, messageCheck}
-use Rattle.cipher_mode.specs.Calls.{blockOf, blockCall, cfbKind, modeResult, lengthsOf, modeCall}
 use Rattle.cipher_mode.proofs.Passed.{sixteen, message-passed, block-passed, whole-blocks-passed}
 use Rattle.cipher_mode.proofs.Ends.{length-block}
-use Rattle.luossavin.specs.declared.key.LuossavinKey.{LuossavinKey}
-use Rattle.luossavin.specs.Key.{cipherIn, hostKeyNew}
-use Rattle.luossavin.specs.Host.{modeIn, hostBlockCall, hostModeCall}
 use Rattle.demands.specs.CameRound.{roundOf}
 use Rattle.demands.specs.Answered.{oneOf, singleNumbers, Answered, KeyAnswered, lengthOf}
-use Rattle.demands.proofs.Answering.{refuses, does, writes, behind, Within, within-refuse, within-then, checks, told-length, on-key, reports}
+use Rattle.demands.proofs.Answering.{refuses, does, writes, behind, Within, within-refuse, within-then, checks, told-length, on-key}
+use Rattle.demands.proofs.Answering.{reports}
 use Rattle.demands.proofs.Exported.{new-is-new}
 
 -- the refusals of a call, by the numbers that it may answer

@@ -1,22 +1,10 @@
 -- An exported call is the call on the record that the host holds, unless its mode number is refused. A record crosses the boundary
 -- and back as it is.
 -- Assumes nothing.
-use mathlib.Core.Path.{_≡_, refl, sym, ap, ap₂, _∙_}
-use mathlib.Core.Logic.{_≢_}
-use mathlib.Core.Bool.{Bool, true, false, not, cond}
-use mathlib.Core.List.{List}
-use Prim.Native.Nat.{ℕ, zero, suc, _≤_}
-use native.Mathlib.Omega.{arith}
-use lib.Dec.{eqb}
-use Rattle.cipher_mode.specs.declared.KeyAnswer.{KeyAnswer}
-use Rattle.cipher_mode.specs.declared.KeyAnswer.the-variants.{Key, ErrorBlockSize, WrongNumber}
-use Rattle.cipher_mode.specs.declared.CipherMode.{CipherMode}
-use Rattle.cipher_mode.specs.declared.CipherMode.the-variants.{Cfb, Ofb, Ctr, Cbc, Gcm}
-use Rattle.cipher_mode.specs.declared.Sm4Cipher.{Sm4Cipher}
-use Rattle.cipher_mode.specs.Key.{keyHead, newCipher, retire}
-use Rattle.cipher_mode.specs.Tables.{modeOf}
-use Rattle.luossavin.specs.declared.key.LuossavinKey.{LuossavinKey}
-use Rattle.luossavin.specs.Key.{keyAnswerOf, cipherIn, keyOf, hostKeyNew, hostKeyRetire}
+use Rattle.demands.specs.Names as N
+use N.{Bool, cond, false, not, true, List, _≢_, _∙_, _≡_, ap, ap₂, refl, sym, _≤_, suc, zero, ℕ, arith, eqb, keyHead, newCipher, retire}
+use N.{modeOf, CipherMode, Cbc, Cfb, Ctr, Gcm, Ofb, KeyAnswer, NoKey as ErrorBlockSize, Key, NoNumber as WrongNumber, Sm4Cipher, cipherIn}
+use N.{hostKeyNew, hostKeyRetire, keyAnswerOf, keyOf, LuossavinKey}
 
 answer-back : (a : KeyAnswer) → keyAnswerOf (keyHead a .number) ≡ a
 unfolding keyAnswerOf

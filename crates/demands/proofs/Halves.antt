@@ -1,46 +1,22 @@
 -- Hashes of halves, joined: over the exported calls they are the hash of the whole, and with two encrypted blocks they make the tag that
 -- the single call makes.
 -- Assumes nothing.
-use mathlib.Core.Path.{_≡_, refl, sym, ap, ap₂, _∙_}
-use mathlib.Core.Logic.{⊎-elim}
-use mathlib.Core.Bool.{false, cond}
-use mathlib.Core.List.{List, [], _∷_, _++_, append-assoc}
-use Prim.Native.Nat.{ℕ, _+_, _*_, _/_}
-use native.Mathlib.Nat.{div-add-mod'}
-use native.Mathlib.Omega.{arith}
-use lib.Dec.{lit<, eqb}
-use lib.ListN.{length, length-append, replicate}
-use borrow.Author.Tests.{eq-eqb}
-use Rattle.block.specs.BigEndian.{numberOf, bytesOf}
-use Rattle.block.specs.Xor.{xors}
+use Rattle.demands.specs.Names as N
+use N.{cond, false, List, [], _++_, _∷_, append-assoc, ⊎-elim, _∙_, _≡_, ap, ap₂, refl, sym, _*_, _+_, _/_, ℕ, div-add-mod', arith, eqb}
+use N.{length, length-append, replicate, eq-eqb, bytesOf, numberOf, xors, Element, encryptBlock, authBlocks, blockCount, blocks, ghash}
+use N.{lengthBlock, joined, J0, firstCounter, hashKey, hashedCounter, sealed, tagOf, tagPart, textOf, textPart, retiredCheck, wrongIv}
+use N.{modeOf, Gcm, Encrypt, Key, Passed, hashIn, hashOf, hostHashBlocks, hostHashJoin, hostBlockCall, hostModeCall, cipherIn}
+use N.{LuossavinHash, LuossavinKey}
 use Rattle.block.proofs.Convert.{length-bytesOf}
-use Rattle.cipher.specs.Sm4.{encryptBlock}
-use Rattle.field.specs.Field.{Element}
 use Rattle.field.proofs.Bounded.{whole-lt}
-use Rattle.ghash.specs.Ghash.{blockCount, blocks, lengthBlock, authBlocks, ghash}
-use Rattle.ghash.specs.Joined.{joined}
 use Rattle.ghash.proofs.Blocks.{blocks-full, blocks-append, length-blocks}
 use Rattle.ghash.proofs.JoinedBytes.{joins, joins-bytes}
-use Rattle.gcm.specs.Gcm.{hashKey, hashedCounter, firstCounter, J0, textOf, tagOf, sealed, textPart, tagPart}
 use Rattle.gcm.proofs.HashKey.{hashKey-lt}
 use Rattle.gcm.proofs.Parts.{parts-text, parts-tag, sealed-text, sealed-tag}
-use Rattle.cipher_mode.specs.declared.KeyAnswer.the-variants.{Key}
-use Rattle.cipher_mode.specs.declared.CipherMode.the-variants.{Gcm}
-use Rattle.cipher_mode.specs.declared.Direction.the-variants.{Encrypt}
-use Rattle.cipher_mode.specs.declared.Sm4Cipher.{Sm4Cipher}
-use Rattle.cipher_mode.specs.declared.checks.Checked.the-variants.{Passed}
-use Rattle.cipher_mode.specs.Tables.{modeOf}
-use Rattle.cipher_mode.specs.Checks.{wrongIv, retiredCheck}
-use Rattle.cipher_mode.specs.Calls.{modeCall}
 use Rattle.cipher_mode.proofs.Passed.{iv-twelve-or-sixteen}
-use Rattle.luossavin.specs.declared.halves.LuossavinHash.{LuossavinHash}
-use Rattle.luossavin.specs.declared.key.LuossavinKey.{LuossavinKey}
-use Rattle.luossavin.specs.Key.{cipherIn}
-use Rattle.luossavin.specs.Halves.{hashIn, hashOf, hostHashBlocks, hostHashJoin}
-use Rattle.luossavin.specs.Host.{hostBlockCall, hostModeCall}
 use Rattle.demands.specs.Call.{inGcm, result}
-use Rattle.demands.specs.Halves.{IsValue, WholeBlocks, JoinsHalves, enciphered, keyOfHash, bytesIn, pair}
-use Rattle.demands.specs.Halves.{counterOf, hashOfAll, tagOfHalves, TagsByHalves}
+use Rattle.demands.specs.Halves.{WholeBlocks, JoinsHalves, enciphered, keyOfHash, bytesIn, pair, counterOf, hashOfAll, tagOfHalves}
+use Rattle.demands.specs.Halves.{TagsByHalves}
 use Rattle.demands.specs.TwelveBytes.{followedBy}
 use Rattle.demands.proofs.TwelveBytes.{length-counter}
 use Rattle.demands.proofs.Through.{result-of-done, through, leaves, block-leaves}

@@ -1,57 +1,20 @@
 -- Imposters put in the place of a call: each breaks a demand or the definition, at an input that is named.
 -- Assumes nothing.
-use mathlib.Core.Path.{_≡_, refl, sym, ap, _∙_}
-use mathlib.Core.Logic.{_≢_, inl}
-use mathlib.Core.Bool.{Bool, true, false, cond}
-use mathlib.Core.List.{List, [], _∷_, _++_}
-use Prim.Native.Nat.{ℕ, _+_, _-_, _^_, _≤_}
-use native.Mathlib.Nat.{le-of-eq}
-use native.Mathlib.Omega.{arith}
-use lib.Dec.{lit<}
-use lib.ListN.{length, take, drop, getD, replicate, length-replicate}
-use borrow.Author.Tests.{le-ltb}
-use Rattle.block.specs.Below.{AreBytes}
+use Rattle.demands.specs.Names as N
+use N.{Bool, cond, false, true, List, [], _++_, _∷_, _≢_, inl, _∙_, _≡_, ap, refl, sym, _+_, _-_, _^_, _≤_, ℕ, le-of-eq, arith, lit<, drop}
+use N.{getD, length, length-replicate, replicate, take, le-ltb, AreBytes, bytesOf, numberOf, gmul, gpow, mulFrom, one, timesX, ctrNext}
+use N.{Head, Outcome, done, keyed, reporting, chain, walk, roundKeys, Ghash·block as blockOf, blocks, blocksFrom, hashFrom, joined}
+use N.{modeCall, dataCheck, keyAndIv, messageCheck, roomCheck, wrongIv, keyNumber, newCipher, limit, modeOf, roomOf, CipherMode, Cbc, Cfb}
+use N.{Ctr, Gcm, Ofb, Decrypt, Encrypt, KeyAnswer, Key, Passed, Seal, anyTooLong, badList, labelAt, sum, Verdict, opensWith, searchCheck}
+use N.{which, planCall, accepts, follows, noPieces, rangeCall, rangeCheck, reachCheck, stretch, laidAt, Plan, labelOf, Shelf·Outcome}
+use N.{putCall, Record, front·shelf as front, marked·shelf as marked, readUpTo, records, sizeAt·shelf as sizeAt}
+use N.{startsRecord·shelf as startsRecord, stored·shelf as stored, written·shelf as written, badShelf, fitted, hasCurrent, notHigher}
+use N.{supersede, those, twoCurrent, withNew, hostHashBlocks, hostHashJoin, hostModeCall, modeIn, cipherIn, hostKeyEngine, hostKeyNew}
+use N.{keyAnswerOf, keyOf, hostCtrByPlan, hostCtrRange, Told, hostWhich, LuossavinHash, LuossavinKey}
 use Rattle.block.proofs.Entries.{below-replicate}
-use Rattle.block.specs.BigEndian.{numberOf, bytesOf}
-use Rattle.cipher.specs.Sm4.{roundKeys}
-use Rattle.field.specs.Field.{timesX, mulFrom, gmul, one, gpow}
-use Rattle.ghash.specs.Ghash.{blockOf, blocksFrom, blocks, hashFrom}
-use Rattle.ghash.specs.Joined.{joined}
-use Rattle.counter.specs.Counter.{ctrNext}
 use Rattle.counter.proofs.Edges.{ctr-one-block, ctr-two-blocks}
-use Rattle.walk.specs.Walk.{walk, chain}
-use Rattle.walk.specs.Outcome.{Head, Outcome, keyed, reporting, done}
-use Rattle.cipher_mode.specs.declared.CipherMode.{CipherMode}
-use Rattle.cipher_mode.specs.declared.CipherMode.the-variants.{Cfb, Ofb, Ctr, Cbc, Gcm}
-use Rattle.cipher_mode.specs.declared.Direction.the-variants.{Encrypt, Decrypt}
-use Rattle.cipher_mode.specs.declared.KeyAnswer.{KeyAnswer}
-use Rattle.cipher_mode.specs.declared.KeyAnswer.the-variants.{Key}
-use Rattle.cipher_mode.specs.declared.checks.Checked.the-variants.{Passed}
-use Rattle.cipher_mode.specs.Key.{keyNumber, newCipher}
-use Rattle.cipher_mode.specs.Tables.{limit, roomOf, modeOf}
-use Rattle.cipher_mode.specs.Checks.{wrongIv, keyAndIv, dataCheck, roomCheck, messageCheck}
-use Rattle.cipher_mode.specs.Calls.{modeCall}
-use Rattle.pieces.specs.declared.seal.Seal.{Seal}
-use Rattle.editions.specs.Candidates.{sum, badList, anyTooLong, labelAt}
-use Rattle.editions.specs.Which.{Verdict, searchCheck, opensWith, which}
 use Rattle.editions.proofs.FirstOpening.{IsFirst}
 use Rattle.editions.proofs.WhichOpens.{Asked, first-opens}
-use Rattle.ranges.specs.declared.plan.Plan.{Plan}
-use Rattle.ranges.specs.Plan.{follows, accepts, noPieces}
-use Rattle.ranges.specs.Range.{stretch, reachCheck, rangeCheck, rangeCall}
-use Rattle.ranges.specs.ByPlan.{planCall}
-use Rattle.ranges.specs.Shares.{laidAt}
-use Rattle.label.specs.Label.{labelOf}
-use Rattle.shelf.specs.Records.{Record, written, stored, marked, startsRecord, sizeAt, front, readUpTo, records}
-use Rattle.shelf.specs.Shelf.{those, hasCurrent, twoCurrent, notHigher, supersede, withNew, fitted, badShelf}
-use Rattle.shelf.specs.Calls.{Outcome as Shelf·Outcome, putCall}
-use Rattle.luossavin.specs.declared.halves.LuossavinHash.{LuossavinHash}
-use Rattle.luossavin.specs.declared.key.LuossavinKey.{LuossavinKey}
-use Rattle.luossavin.specs.Key.{keyAnswerOf, cipherIn, keyOf, hostKeyNew, hostKeyEngine}
-use Rattle.luossavin.specs.Halves.{hostHashBlocks, hostHashJoin}
-use Rattle.luossavin.specs.Host.{modeIn, hostModeCall}
-use Rattle.luossavin.specs.Which.{Told, hostWhich}
-use Rattle.luossavin.specs.Ranges.{hostCtrRange, hostCtrByPlan}
 use Rattle.demands.specs.Call.{Call, result, inGcm}
 use Rattle.demands.specs.CameRound.{roundOf, Says}
 use Rattle.demands.specs.Answered.{oneOf, singleNumbers, Answered, KeyAnswered, lengthOf}

@@ -1,55 +1,26 @@
 -- A message in pieces: whatever the cuts are, the pieces give what the single call gives. One induction over the pieces, from
 -- any text that has gone before.
 -- Assumes nothing.
-use mathlib.Core.Path.{_≡_, refl, sym, ap, ap₂, subst, _∙_}
-use mathlib.Core.Bool.{Bool, true, false, cond}
-use mathlib.Core.List.{List, [], _∷_, _++_, append-assoc, append-nil}
-use Prim.Native.Nat.{ℕ, _+_, _-_, _≤_}
-use native.Mathlib.Omega.{arith}
-use lib.ListN.{length, take, drop, length-append, length-drop}
-use lib.Seq.{take-at}
-use borrow.Author.Tests.{le-ltb}
-use Rattle.counter.specs.CameRound.{blocksOf, ctrCameRound}
-use Rattle.walk.specs.Outcome.{Head, Outcome, finished, refusal, under, telling}
-use Rattle.walk.specs.Walk.{chain, over}
+use Rattle.demands.specs.Names as N
+use N.{Bool, cond, false, true, List, [], _++_, _∷_, append-assoc, append-nil, _∙_, _≡_, ap, ap₂, refl, subst, sym, _+_, _-_, _≤_, ℕ, arith}
+use N.{drop, length, length-append, length-drop, take, take-at, le-ltb, blocksOf, ctrCameRound, Head, Outcome, finished, refusal, telling}
+use N.{under, chain, over, streamMode, Ctr·kind, J0, hashKey, opensUnder, sealed, tagOf, textOf, gcmOpen, gcmHead, settled, Gcm·Done}
+use N.{InvalidTag, gcmRound, modeCall, dataCheck, keyAndIv, labelCheck, retiredCheck, wrongIv, keyNumber, limit, modeOf, Ctr as Ctr·mode}
+use N.{Gcm, Direction, Decrypt, Encrypt, Key, Sm4Cipher, Sm4CipherMode, Passed, Stepped, ctrEnd, ctrPiece, ctrStart, ended, opensEnd}
+use N.{opensPiece, opensStart, sealEnd, sealPiece, sealStart, gcmStarting, ctrAfter, opensAfter, opensShut, sealAfter, sealShut}
+use N.{Ctr·state as Ctr, Opens, Seal, hostModeCall, directionOf, hostCtrStart, hostOpensStart, hostSealStart, cipherIn, LuossavinKey}
 use Rattle.walk.proofs.Chain.{chain-rest}
-use Rattle.stream.specs.Stream.{streamMode}
-use Rattle.stream.specs.declared.Kind.the-variants.{Ctr as Ctr·kind}
 use Rattle.stream.proofs.RoundTrip.{length-stream}
-use Rattle.gcm.specs.Gcm.{hashKey, J0, textOf, tagOf, sealed, opensUnder}
-use Rattle.gcm.specs.Open.{headOf as gcmHead, settled, gcmOpen}
-use Rattle.gcm.specs.declared.Opened.the-variants.{Done as Gcm·Done, InvalidTag}
 use Rattle.gcm.proofs.Parts.{length-text, length-tag}
-use Rattle.cipher_mode.specs.declared.CipherMode.the-variants.{Ctr as Ctr·mode, Gcm}
-use Rattle.cipher_mode.specs.declared.Direction.{Direction}
-use Rattle.cipher_mode.specs.declared.Direction.the-variants.{Encrypt, Decrypt}
-use Rattle.cipher_mode.specs.declared.KeyAnswer.the-variants.{Key}
-use Rattle.cipher_mode.specs.declared.Sm4Cipher.{Sm4Cipher}
-use Rattle.cipher_mode.specs.declared.Sm4CipherMode.{Sm4CipherMode}
-use Rattle.cipher_mode.specs.declared.checks.Checked.the-variants.{Passed}
-use Rattle.cipher_mode.specs.Key.{keyNumber}
-use Rattle.cipher_mode.specs.Tables.{limit, modeOf}
-use Rattle.cipher_mode.specs.Checks.{wrongIv, retiredCheck, keyAndIv, labelCheck, dataCheck}
-use Rattle.cipher_mode.specs.Calls.{gcmRound, modeCall}
 use Rattle.cipher_mode.proofs.Passed.{both, key-and-iv-passed, label-passed, data-within}
-use Rattle.pieces.specs.declared.ctr.Ctr.{Ctr}
-use Rattle.pieces.specs.declared.opens.Opens.{Opens}
-use Rattle.pieces.specs.declared.seal.Seal.{Seal}
-use Rattle.pieces.specs.Checks.{gcmStarting}
-use Rattle.pieces.specs.States.{ctrAfter, sealAfter, sealShut, opensAfter, opensShut}
-use Rattle.pieces.specs.Calls.{Stepped, ended, ctrStart, ctrPiece, ctrEnd, sealStart, sealPiece, sealEnd, opensStart, opensPiece, opensEnd}
 use Rattle.pieces.proofs.CtrInPieces.{ctr-started, ctr-goes-on, ctr-joined, ctr-ended}
 use Rattle.pieces.proofs.Sealing.{no-text}
 use Rattle.pieces.proofs.SealInPieces.{seal-started, seal-joined, seal-goes-on, seal-ended}
 use Rattle.pieces.proofs.OpensInPieces.{opens-started, opens-goes-on, opens-ended}
-use Rattle.luossavin.specs.declared.key.LuossavinKey.{LuossavinKey}
-use Rattle.luossavin.specs.Key.{cipherIn}
-use Rattle.luossavin.specs.Host.{hostModeCall}
-use Rattle.luossavin.specs.InPieces.{directionOf, hostCtrStart, hostSealStart, hostOpensStart}
 use Rattle.demands.specs.Call.{inGcm, result}
 use Rattle.demands.specs.CameRound.{tellingDone}
-use Rattle.demands.specs.InPieces.{Did, written, stateAfter, wrote, AllDid, Piece, onto, sizeOf, whole, Roomy}
-use Rattle.demands.specs.InPieces.{AllDone, joined, none, TellsAlike, CtrInPieces, SealInPieces, OpensInPieces}
+use Rattle.demands.specs.InPieces.{Did, written, stateAfter, wrote, AllDid, Piece, onto, sizeOf, whole, Roomy, AllDone, joined, none}
+use Rattle.demands.specs.InPieces.{TellsAlike, CtrInPieces, SealInPieces, OpensInPieces}
 use Rattle.demands.proofs.Through.{result-of-done, passed-start, through, leaves}
 use Rattle.demands.proofs.OtherHash.{Fits, gcm-in-order}
 

@@ -1,43 +1,21 @@
 -- The replay of a journal, as a host is told of it: demand 1, which number it ends with; two journals joined; and that calls which were
 -- recorded as they were answered agree.
 -- Assumes nothing.
-use mathlib.Core.Path.{_≡_, refl, sym, ap, _∙_}
-use mathlib.Core.Logic.{_⊎_, inl, inr, ⊎-elim}
-use mathlib.Core.Bool.{Bool, true, false, not, cond}
-use mathlib.Core.List.{List, [], _∷_, _++_, append-nil}
-use Prim.Native.Nat.{ℕ, zero, suc, _+_, _<_}
-use native.Mathlib.Omega.{arith}
-use lib.Dec.{ltb, eqb}
-use lib.ListN.{length, take, drop}
-use lib.Seq.{take-at}
-use borrow.Author.Tests.{lt-ltb}
-use Rattle.block.specs.Below.{AreBytes}
-use Rattle.walk.specs.Walk.{over}
-use Rattle.walk.specs.Outcome.{Head, Outcome}
-use Rattle.cipher_mode.specs.declared.Sm4Cipher.{Sm4Cipher}
-use Rattle.journal.specs.Format.{Entry, written, stored, startsRecord, sizeAt, front, tooLong}
-use Rattle.journal.specs.KeyList.{keysIn, hasNumber, keyOf, badKeys}
-use Rattle.journal.specs.Recomputed.{callInto, recomputed, result, answeredBy}
-use Rattle.journal.specs.Reports.{nothing}
-use Rattle.journal.specs.Replay.{numberOfEnd, done, refuse, replayOne, replayUpTo, replay}
-use Rattle.journal.specs.Joined.{added, behindReport}
-use Rattle.journal.specs.Ends.{AllReplayable, countedAll, Ends, differs, NoneDiffers, Totals}
-use Rattle.journal.specs.Writer.{write}
-use Rattle.journal.specs.declared.keys.Keys.{Keys}
-use Rattle.journal.specs.declared.report.Report.{Report}
-use Rattle.journal.specs.declared.Ended.{Ended}
-use Rattle.journal.specs.declared.Ended.the-variants.{Done, BadRecord, TooLong, UnknownKey, BadKeys}
-use Rattle.journal.specs.declared.Replayed.{Replayed}
-use Rattle.journal.specs.declared.writer.Wrote.the-variants.{Done as Done·wrote, NoRoom}
+use Rattle.demands.specs.Names as N
+use N.{Bool, cond, false, not, true, List, [], _++_, _∷_, append-nil, _⊎_, inl, inr, ⊎-elim, _∙_, _≡_, ap, refl, sym, _+_, _<_, suc, zero}
+use N.{ℕ, arith, eqb, ltb, drop, length, take, take-at, lt-ltb, AreBytes, Head, Outcome, over, Sm4Cipher, AllReplayable, Ends, NoneDiffers}
+use N.{Totals, countedAll, differs, Entry, front·journal as front, sizeAt·journal as sizeAt, startsRecord·journal as startsRecord}
+use N.{stored·journal as stored, tooLong, written·journal as written, added, behindReport, badKeys, hasNumber, keyOf·journal as keyOf}
+use N.{keysIn, answeredBy, callInto, recomputed, resultOf as result, done·journal as done, numberOfEnd, journalRefuse as refuse, replay}
+use N.{replayOne, replayUpTo, nothing, write, Journal·end as Ended, BadKeys, BadRecord, Done·journal as Done, TooLong·journal as TooLong}
+use N.{UnknownKey, Replayed, Keys, Report, Done·wrote, NoRoom·wrote as NoRoom, hostModeCall, hostReplay, keysOf, toldOf·journal as toldOf}
+use N.{LuossavinKeys}
 use Rattle.journal.proofs.Sums.{replay-adds-up, first-replayed}
 use Rattle.journal.proofs.Lent.{any-output-head, any-output-result}
 use Rattle.journal.proofs.Joined.{joined}
 use Rattle.journal.proofs.Ending.{bad-keys, ends-so, ends-alone, replayed-whole}
 use Rattle.journal.proofs.Totals.{totals-told}
 use Rattle.journal.proofs.Agrees.{answered-agrees, agrees-so, none-told, all-agree, first-told}
-use Rattle.luossavin.specs.declared.journals.LuossavinKeys.{LuossavinKeys}
-use Rattle.luossavin.specs.Host.{hostModeCall}
-use Rattle.luossavin.specs.Journals.{keysOf, toldOf, hostReplay}
 use Rattle.demands.specs.Answered.{oneOf}
 use Rattle.demands.specs.InTheJournal.{ReplayAnswered, ReplayEnds, Added, Recorded, AllRecorded, AllAnswered}
 

@@ -1,22 +1,10 @@
 -- Imposters put in the place of a replay: each breaks the definition, at a journal that is named.
 -- Assumes nothing.
-use mathlib.Core.Path.{_≡_, refl, sym, ap, _∙_}
-use mathlib.Core.Logic.{_≢_}
-use mathlib.Core.Bool.{true, false}
-use mathlib.Core.List.{List, [], _∷_, append-nil}
-use Prim.Native.Nat.{ℕ}
-use native.Mathlib.Omega.{arith}
-use lib.Dec.{lit<}
-use Rattle.block.specs.Below.{AreBytes}
-use Rattle.block.specs.BigEndian.{numberOf}
-use Rattle.journal.specs.Format.{stored, startsPart, marked, startsRecord, pastLimit}
-use Rattle.journal.specs.KeyList.{keysIn, placeOf, anyRetired, numberTwice, badKeys}
-use Rattle.journal.specs.Recomputed.{callInto, differsFrom}
-use Rattle.journal.specs.Reports.{nothing, counted}
-use Rattle.journal.specs.Replay.{numberOfEnd, done, replay}
-use Rattle.journal.specs.Ends.{Replayable, countedAll, differs}
-use Rattle.journal.specs.declared.Ended.the-variants.{BadRecord}
-use Rattle.journal.specs.declared.Replayed.{Replayed}
+use Rattle.demands.specs.Names as N
+use N.{false, true, List, [], _∷_, append-nil, _≢_, _∙_, _≡_, ap, refl, sym, ℕ, arith, lit<, AreBytes, numberOf, Replayable, countedAll}
+use N.{differs, marked·journal as marked, pastLimit, startsPart, startsRecord·journal as startsRecord, stored·journal as stored, anyRetired}
+use N.{badKeys, keysIn, numberTwice, placeOf, callInto, differsFrom, done·journal as done, numberOfEnd, replay, counted, nothing, BadRecord}
+use N.{Replayed}
 use Rattle.journal.proofs.Ending.{nothing-there, ends-alone, replayed-whole}
 use Rattle.journal.proofs.Agrees.{first-told}
 use Rattle.demands.specs.JournalImposters.{stopsAtDifference, tooLongFirst, oneKey, unknownDone, cutOverlong}

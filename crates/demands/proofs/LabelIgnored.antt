@@ -1,22 +1,8 @@
 -- Demand 1, of labels: outside Gcm two calls that differ only in the label have the same outcome, however long it is.
 -- Assumes nothing.
-use mathlib.Core.Path.{_≡_, refl}
-use mathlib.Core.Logic.{_≢_}
-use mathlib.Core.Bool.{Bool, true, false}
-use mathlib.Core.List.{List}
-use Prim.Native.Nat.{ℕ}
-use lib.Dec.{ltb}
-use lib.ListN.{length}
-use borrow.Author.Tests.{ltb-false}
-use Rattle.walk.specs.Outcome.{Outcome, refuse}
-use Rattle.cipher_mode.specs.declared.CipherMode.{CipherMode}
-use Rattle.cipher_mode.specs.declared.CipherMode.the-variants.{Cfb, Ofb, Ctr, Cbc, Gcm}
-use Rattle.cipher_mode.specs.declared.Direction.{Direction}
-use Rattle.cipher_mode.specs.declared.Sm4CipherMode.{Sm4CipherMode}
-use Rattle.cipher_mode.specs.Checks.{labelCheck, messageCheck}
-use Rattle.cipher_mode.specs.Calls.{modeResult, modeCall}
-use Rattle.luossavin.specs.declared.key.LuossavinKey.{LuossavinKey}
-use Rattle.luossavin.specs.Host.{modeIn, hostModeCall}
+use Rattle.demands.specs.Names as N
+use N.{Bool, false, true, List, _≢_, _≡_, refl, ℕ, ltb, length, ltb-false, Outcome, refuseAs as refuse, modeCall, modeResult, labelCheck}
+use N.{messageCheck, CipherMode, Cbc, Cfb, Ctr, Gcm, Ofb, Direction, Sm4CipherMode, hostModeCall, modeIn, LuossavinKey}
 use Rattle.demands.proofs.Exported.{other-mode}
 
 -- the two places where a call looks at the label

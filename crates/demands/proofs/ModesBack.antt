@@ -1,38 +1,18 @@
 -- In each mode, what encrypting gave is in order for decrypting and decrypts to the message, and the other way about.
 -- Assumes nothing.
-use mathlib.Core.Path.{_≡_, refl, sym, ap, subst, _∙_}
-use mathlib.Core.Bool.{Bool, true, false}
-use mathlib.Core.List.{List}
-use Prim.Native.Nat.{ℕ, _%_, _≤_}
-use native.Mathlib.Omega.{arith}
-use lib.ListN.{length, take}
-use lib.Seq.{length-take-le}
-use borrow.Author.Tests.{eq-eqb, ne-eqb, le-ltb}
-use Rattle.block.specs.Below.{AreBytes}
-use Rattle.walk.specs.Outcome.{Outcome, finished, leaving, written, reporting, done}
-use Rattle.walk.specs.Walk.{chain, over}
-use Rattle.stream.specs.Stream.{streamMode}
-use Rattle.stream.specs.declared.Kind.the-variants.{CfbEncrypt, CfbDecrypt, Ofb as Ofb·kind, Ctr as Ctr·kind}
+use Rattle.demands.specs.Names as N
+use N.{Bool, false, true, List, _∙_, _≡_, ap, refl, subst, sym, _%_, _≤_, ℕ, arith, length, take, length-take-le, eq-eqb, le-ltb, ne-eqb}
+use N.{AreBytes, Outcome, done, finished, leaving, reporting, written, chain, over, streamMode, CfbDecrypt, CfbEncrypt, Ctr·kind, Ofb·kind}
+use N.{cbcSeal, cbcOpen, cbcText, cbcHead, unpadded, Opened, Cbc·Done, InvalidLastU8, InvalidPadding, J0, hashKey, opensUnder, sealed}
+use N.{textOf, textPart, gcmOpen, modeResult, dataCheck, wrongIv, limit, roomOf, sealedLimit, CipherMode, Cbc, Cfb, Ctr, Gcm, Ofb, Decrypt}
+use N.{Encrypt, Passed}
 use Rattle.stream.proofs.RoundTrip.{length-stream, stream-back, stream-forth}
-use Rattle.cbc.specs.Cbc.{cbcSeal}
-use Rattle.cbc.specs.Open.{headOf as cbcHead, unpadded, cbcText, cbcOpen}
-use Rattle.cbc.specs.declared.Opened.{Opened}
-use Rattle.cbc.specs.declared.Opened.the-variants.{Done as Cbc·Done, InvalidLastU8, InvalidPadding}
 use Rattle.cbc.proofs.RoundTrip.{length-cbcSeal, cbc-back}
 use Rattle.cbc.proofs.SealsBack.{cbc-seals-back}
 use Rattle.cbc.proofs.Unpadded.{unpadded-le}
-use Rattle.gcm.specs.Gcm.{hashKey, J0, sealed, textOf, textPart, opensUnder}
-use Rattle.gcm.specs.Open.{gcmOpen}
 use Rattle.gcm.proofs.Parts.{length-sealed}
 use Rattle.gcm.proofs.RoundTrip.{opens-sealed, text-of-sealed, sealed-of-opened}
 use Rattle.gcm.proofs.Settled.{text-size, open-refused, open-done}
-use Rattle.cipher_mode.specs.declared.CipherMode.{CipherMode}
-use Rattle.cipher_mode.specs.declared.CipherMode.the-variants.{Cfb, Ofb, Ctr, Cbc, Gcm}
-use Rattle.cipher_mode.specs.declared.Direction.the-variants.{Encrypt, Decrypt}
-use Rattle.cipher_mode.specs.declared.checks.Checked.the-variants.{Passed}
-use Rattle.cipher_mode.specs.Tables.{limit, sealedLimit, roomOf}
-use Rattle.cipher_mode.specs.Checks.{wrongIv, dataCheck}
-use Rattle.cipher_mode.specs.Calls.{modeResult}
 use Rattle.cipher_mode.proofs.Passed.{sixteen, data-within, whole-blocks-passed, with-tag-passed}
 use Rattle.demands.specs.CameRound.{roundOf}
 

@@ -1,34 +1,11 @@
 -- Demand 1, of keys: a key that was refused is no usable key.
 -- Assumes nothing.
-use mathlib.Core.Path.{_≡_, refl, sym, ap, subst, _∙_}
-use mathlib.Core.Logic.{_≢_, _⊎_}
-use mathlib.Core.Bool.{Bool, true, false, cond}
-use mathlib.Core.List.{List}
-use Prim.Native.Nat.{ℕ, _<_}
-use native.Mathlib.Omega.{arith}
-use lib.Dec.{eqb}
-use lib.ListN.{length}
-use borrow.Author.Tests.{le-ltb, ne-eqb}
-use Rattle.walk.specs.Outcome.{Head, refusal}
-use Rattle.cipher_mode.specs.declared.answer.Refusal.{Refusal}
-use Rattle.cipher_mode.specs.declared.answer.Refusal.the-variants.{ErrorBlockSize, WrongNumber}
-use Rattle.cipher_mode.specs.declared.checks.Checked.the-variants.{Refused}
-use Rattle.cipher_mode.specs.Answer.{refusalHead}
-use Rattle.cipher_mode.specs.Key.{keyNumber}
-use Rattle.cipher_mode.specs.Checks.{keyCheck, keyAndIv, blockCheck, messageCheck}
-use Rattle.cipher_mode.specs.Calls.{blockCall, modeCall}
-use Rattle.pieces.specs.Checks.{gcmStarting}
-use Rattle.pieces.specs.Calls.{ctrStart, sealStart, opensStart}
-use Rattle.editions.specs.Which.{searchCheck, which}
-use Rattle.ranges.specs.Range.{reachCheck, rangeCheck, rangeCall}
-use Rattle.ranges.specs.ByPlan.{planCall}
-use Rattle.journal.specs.Recomputed.{callInto}
-use Rattle.luossavin.specs.declared.key.LuossavinKey.{LuossavinKey}
-use Rattle.luossavin.specs.Key.{keyAnswerOf, cipherIn, keyOf, hostKeyNew}
-use Rattle.luossavin.specs.Host.{hostBlockCall, hostModeCall}
-use Rattle.luossavin.specs.InPieces.{hostCtrStart, hostSealStart, hostOpensStart}
-use Rattle.luossavin.specs.Which.{hostWhich}
-use Rattle.luossavin.specs.Ranges.{hostCtrRange, hostCtrByPlan}
+use Rattle.demands.specs.Names as N
+use N.{Bool, cond, false, true, List, _≢_, _⊎_, _∙_, _≡_, ap, refl, subst, sym, _<_, ℕ, arith, eqb, length, le-ltb, ne-eqb, Head, refusal}
+use N.{refusalHead, blockCall, modeCall, blockCheck, keyAndIv, keyCheck, messageCheck, keyNumber, Refusal, ErrorBlockSize, WrongNumber}
+use N.{Refused, ctrStart, opensStart, sealStart, gcmStarting, searchCheck, which, planCall, rangeCall, rangeCheck, reachCheck, callInto}
+use N.{hostBlockCall, hostModeCall, hostCtrStart, hostOpensStart, hostSealStart, cipherIn, hostKeyNew, keyAnswerOf, keyOf, hostCtrByPlan}
+use N.{hostCtrRange, hostWhich, LuossavinKey}
 use Rattle.demands.specs.NoUsableKey.{NoUsableKey}
 use Rattle.demands.proofs.EveryCallAnswers.{new-cipher-answers}
 

@@ -1,57 +1,27 @@
 -- What pieces say of the single call: where all of them answered 0 it does too, with their bytes; and a start is checked as it is.
 -- Assumes nothing.
-use mathlib.Core.Path.{_≡_, refl, sym, ap, subst, _∙_}
-use mathlib.Core.Logic.{_≢_}
-use mathlib.Core.Bool.{Bool, true, false, cond}
-use mathlib.Core.List.{List, [], _∷_, _++_}
-use Prim.Native.Nat.{ℕ, _+_, _-_, _≤_}
-use native.Mathlib.Omega.{arith}
-use lib.ListN.{length, length-append}
-use borrow.Author.Tests.{le-ltb}
-use Rattle.walk.specs.Outcome.{Outcome, leaving, keyed}
-use Rattle.walk.specs.Walk.{chain}
-use Rattle.stream.specs.Stream.{streamMode}
-use Rattle.stream.specs.declared.Kind.the-variants.{Ctr as Ctr·kind}
-use Rattle.gcm.specs.Gcm.{hashKey, J0, textOf, opensUnder}
-use Rattle.gcm.specs.Open.{headOf as gcmHead, settled, gcmOpen}
-use Rattle.gcm.specs.declared.Opened.the-variants.{Done as Gcm·Done, InvalidTag}
-use Rattle.cipher_mode.specs.declared.CipherMode.the-variants.{Ctr as Ctr·mode, Gcm}
-use Rattle.cipher_mode.specs.declared.Direction.{Direction}
-use Rattle.cipher_mode.specs.declared.Direction.the-variants.{Encrypt, Decrypt}
-use Rattle.cipher_mode.specs.declared.Sm4Cipher.{Sm4Cipher}
-use Rattle.cipher_mode.specs.declared.Sm4CipherMode.{Sm4CipherMode}
-use Rattle.cipher_mode.specs.declared.answer.Refusal.{Refusal}
-use Rattle.cipher_mode.specs.declared.checks.Checked.{Checked}
-use Rattle.cipher_mode.specs.declared.checks.Checked.the-variants.{Passed, Refused}
-use Rattle.cipher_mode.specs.Key.{keyNumber}
-use Rattle.cipher_mode.specs.Tables.{limit, modeOf}
-use Rattle.cipher_mode.specs.Checks.{andThen, keyAndIv, labelCheck, dataCheck, roomCheck, messageCheck, checked}
-use Rattle.cipher_mode.specs.Calls.{lengthsOf, modeResult, modeCall}
+use Rattle.demands.specs.Names as N
+use N.{Bool, cond, false, true, List, [], _++_, _∷_, _≢_, _∙_, _≡_, ap, refl, subst, sym, _+_, _-_, _≤_, ℕ, arith, length, length-append}
+use N.{le-ltb, Outcome, keyed, leaving, chain, streamMode, Ctr·kind, J0, hashKey, opensUnder, textOf, gcmOpen, gcmHead, settled, Gcm·Done}
+use N.{InvalidTag, lengthsOf, modeCall, modeResult, andThen, checked, dataCheck, keyAndIv, labelCheck, messageCheck, roomCheck, keyNumber}
+use N.{limit, modeOf, Ctr as Ctr·mode, Gcm, Direction, Decrypt, Encrypt, Sm4Cipher, Sm4CipherMode, Refusal, Checked, Passed, Refused}
+use N.{Stepped, begun, ctrEnd, ctrPiece, ctrStart, goesOn, opensEnd, opensPiece, opensStart, sealEnd, sealPiece, sealStart, stepOn}
+use N.{gcmStarting, ctrAfter, ctrShut, opensAfter, opensShut, sealAfter, sealShut, Ctr·state as Ctr, Opens, Seal, hostModeCall, directionOf}
+use N.{hostCtrStart, hostOpensStart, hostSealStart, cipherIn, LuossavinKey}
 use Rattle.cipher_mode.proofs.Passed.{InOrder, both, key-and-iv-passed}
 use Rattle.cipher_mode.proofs.Refusals.{refuses}
-use Rattle.pieces.specs.declared.ctr.Ctr.{Ctr}
-use Rattle.pieces.specs.declared.opens.Opens.{Opens}
-use Rattle.pieces.specs.declared.seal.Seal.{Seal}
-use Rattle.pieces.specs.Checks.{gcmStarting}
-use Rattle.pieces.specs.States.{ctrAfter, ctrShut, sealAfter, sealShut, opensAfter, opensShut}
-use Rattle.pieces.specs.Calls.{Stepped, stepOn, begun, goesOn, ctrStart, ctrPiece, ctrEnd, sealStart, sealPiece, sealEnd}
-use Rattle.pieces.specs.Calls.{opensStart, opensPiece, opensEnd}
 use Rattle.pieces.proofs.Passing.{starting-passed, running-passed, writing-passed, tagged-passed}
 use Rattle.pieces.proofs.CtrInPieces.{ctr-started}
 use Rattle.pieces.proofs.SealInPieces.{seal-started}
 use Rattle.pieces.proofs.OpensInPieces.{opens-started, opens-goes-on}
-use Rattle.luossavin.specs.declared.key.LuossavinKey.{LuossavinKey}
-use Rattle.luossavin.specs.Key.{cipherIn}
-use Rattle.luossavin.specs.Host.{hostModeCall}
-use Rattle.luossavin.specs.InPieces.{directionOf, hostCtrStart, hostSealStart, hostOpensStart}
 use Rattle.demands.specs.Answered.{oneOf}
 use Rattle.demands.specs.Call.{inGcm}
-use Rattle.demands.specs.InPieces.{stateAfter, AllZero, Piece, onto, whole, Roomy, joined}
-use Rattle.demands.specs.InPieces.{CtrOfPieces, SealOfPieces, OpensOfPieces, CheckedAlike}
+use Rattle.demands.specs.InPieces.{stateAfter, AllZero, Piece, onto, whole, Roomy, joined, CtrOfPieces, SealOfPieces, OpensOfPieces}
+use Rattle.demands.specs.InPieces.{CheckedAlike}
 use Rattle.demands.proofs.Through.{passed-start, leaves}
 use Rattle.demands.proofs.OtherHash.{gcm-in-order}
-use Rattle.demands.proofs.InPieces.{Goes, went, ctr-goes, seal-goes, took, started, opens-starts}
-use Rattle.demands.proofs.InPieces.{ctr-in-pieces, seal-in-pieces, opens-in-pieces}
+use Rattle.demands.proofs.InPieces.{Goes, went, ctr-goes, seal-goes, took, started, opens-starts, ctr-in-pieces, seal-in-pieces}
+use Rattle.demands.proofs.InPieces.{opens-in-pieces}
 
 -- a piece or an end that answered 0 has passed
 passed-on : (S : Type 0) (k : Checked) (o : List ℕ) (s : S) (next : Stepped S) → goesOn S k o s next .head .number ≡ 0 → k ≡ Passed

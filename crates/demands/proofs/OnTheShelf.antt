@@ -1,26 +1,13 @@
 -- A shelf, as a host is handed it: demand 1 of its calls, which number each answers; and that a rough is not shown for its final.
 -- Assumes nothing.
-use mathlib.Core.Path.{_≡_, refl, sym, ap, subst, _∙_}
-use mathlib.Core.Logic.{inr}
-use mathlib.Core.Bool.{Bool, true, false, not, cond, _&&_}
-use mathlib.Core.List.{List, [], _∷_, append-nil}
-use Prim.Native.Nat.{ℕ, _^_, _≤_, _<_}
-use native.Mathlib.Omega.{arith}
-use lib.Dec.{leb, ltb, eqb}
-use lib.ListN.{length, take, drop, length-append, length-drop}
-use lib.Seq.{drop-at}
-use borrow.Author.Tests.{ltb-false, leb-true, leb-false, eqb-true, eq-eqb}
-use Rattle.block.specs.Below.{AreBytes}
+use Rattle.demands.specs.Names as N
+use N.{Bool, _&&_, cond, false, not, true, List, [], _∷_, append-nil, inr, _∙_, _≡_, ap, refl, subst, sym, _<_, _^_, _≤_, ℕ, arith, eqb}
+use N.{leb, ltb, drop, length, length-append, length-drop, take, drop-at, eq-eqb, eqb-true, leb-false, leb-true, ltb-false, AreBytes}
+use N.{Decrypt, labelOf, collectCall, findCall, holding, lookedUp, newRecord, nowhere, putCall, putIn, shelfRefuse as refuse, AllProper}
+use N.{Record, records, stored·shelf as stored, written·shelf as written, badShelf, collected, currentOf, fitted, hasCurrent, isCurrentOf}
+use N.{notHigher, placeOf·shelf as placeOf, sizeOf, those, twoCurrent, InOrder, hostModeCall, LuossavinKey}
 use Rattle.block.proofs.Entries.{below-take}
 use Rattle.block.proofs.Same.{and-right}
-use Rattle.label.specs.Label.{labelOf}
-use Rattle.cipher_mode.specs.declared.Direction.the-variants.{Decrypt}
-use Rattle.cipher_mode.specs.declared.Sm4Cipher.{Sm4Cipher}
-use Rattle.cipher_mode.specs.Calls.{modeCall}
-use Rattle.shelf.specs.Records.{Record, AllProper, written, stored, records}
-use Rattle.shelf.specs.Shelf.{isCurrentOf, those, currentOf, hasCurrent, twoCurrent, placeOf, sizeOf, notHigher, collected, fitted, badShelf}
-use Rattle.shelf.specs.Steps.{InOrder}
-use Rattle.shelf.specs.Calls.{holding, refuse, newRecord, putIn, nowhere, putCall, collectCall, findCall, lookedUp}
 use Rattle.shelf.proofs.Reading.{written-label, written-sealed}
 use Rattle.shelf.proofs.Walks.{or-left, or-right, none-current, alone}
 use Rattle.shelf.proofs.Sound.{in-order}
@@ -28,16 +15,14 @@ use Rattle.shelf.proofs.Current.{collected-length}
 use Rattle.shelf.proofs.ReadsProper.{records-proper, those-proper}
 use Rattle.shelf.proofs.FoundPart.{stored-part, look-up}
 use Rattle.shelf.proofs.AfterPut.{put-passed, put-look-up}
-use Rattle.luossavin.specs.declared.key.LuossavinKey.{LuossavinKey}
-use Rattle.luossavin.specs.Host.{hostModeCall}
 use Rattle.demands.specs.Answered.{oneOf}
-use Rattle.demands.specs.Call.{Call, inGcm}
+use Rattle.demands.specs.Call.{Call}
 use Rattle.demands.specs.OneBlockRefused.{MovesZero}
 use Rattle.demands.specs.OtherEdition.{OtherEditionRefused}
 use Rattle.demands.specs.WhichNumber.{only, row, firstOf}
 use Rattle.demands.specs.OnTheShelf.{ShelfAnswered, PlaceAnswered, putNumbers, collectNumbers, putRows, collectRows, findRows}
 use Rattle.demands.specs.OnTheShelf.{labelIn, fileIn, OneEditionOpens, NoRoughShown, OfEach}
-use Rattle.demands.proofs.OtherEdition.{other-edition-refused, exported-other-edition-refused}
+use Rattle.demands.proofs.OtherEdition.{other-edition-refused}
 
 -- Which number: putting says what the first condition says that holds.
 pub exported-put-number : (shelf : List ℕ) (used job edition : ℕ) (sealed : List ℕ)
@@ -245,13 +230,9 @@ module _ (shelf : List ℕ) (used job : ℕ) (small : AreBytes shelf) (found : f
 
   -- Under a key that does not encrypt the all-zero block to itself, the current record of a job, where it opens under its own label, is
   -- refused as 4 under the label of every other edition.
-  pub current-opens-alone : (c : Sm4Cipher) → MovesZero (c .rk) → job < 2 ^ 32 → (iv o : List ℕ)
-      → OneEditionOpens (modeCall Decrypt (inGcm c)) job (lookedUp shelf used job) iv o
-  current-opens-alone c moves = alone-under (modeCall Decrypt (inGcm c)) (other-edition-refused c moves)
-
-  pub exported-current-opens-alone : (k : LuossavinKey) → MovesZero (k .«round_keys») → job < 2 ^ 32 → (iv o : List ℕ)
+  pub current-opens-alone : (k : LuossavinKey) → MovesZero (k .«round_keys») → job < 2 ^ 32 → (iv o : List ℕ)
       → OneEditionOpens (hostModeCall Decrypt 4 k) job (lookedUp shelf used job) iv o
-  exported-current-opens-alone k moves = alone-under (hostModeCall Decrypt 4 k) (exported-other-edition-refused k moves)
+  current-opens-alone k moves = alone-under (hostModeCall Decrypt 4 k) (other-edition-refused k moves)
 
 -- every edition of the job on the shelf is lower than one that is not refused as not higher
 module _ (opening : Call) (others : OtherEditionRefused opening) (job e : ℕ) (job-fits : job < 2 ^ 32) (fits : e < 2 ^ 16)
@@ -288,14 +269,8 @@ module _ (opening : Call) (others : OtherEditionRefused opening) (job e : ℕ) (
 
 -- No rough is shown for its final. After a put that is done, under a key that does not encrypt the all-zero block to itself, the file put
 -- in does not open under the label of any edition of the job that was on the shelf, and none of their files opens under the new one's.
-module _ (job e : ℕ) (job-fits : job < 2 ^ 32) (fits : e < 2 ^ 16) (file iv o shelf : List ℕ) (used : ℕ)
-    (done : putCall shelf used job e file .number ≡ 0) where
-  pub no-rough-shown : (c : Sm4Cipher) → MovesZero (c .rk)
-      → OfEach (NoRoughShown (modeCall Decrypt (inGcm c)) job e file iv o) job (records (take used shelf))
-  no-rough-shown c moves =
-      after-put (modeCall Decrypt (inGcm c)) (other-edition-refused c moves) job e job-fits fits file iv o shelf used done
-
-  pub exported-no-rough-shown : (k : LuossavinKey) → MovesZero (k .«round_keys»)
-      → OfEach (NoRoughShown (hostModeCall Decrypt 4 k) job e file iv o) job (records (take used shelf))
-  exported-no-rough-shown k moves =
-      after-put (hostModeCall Decrypt 4 k) (exported-other-edition-refused k moves) job e job-fits fits file iv o shelf used done
+pub no-rough-shown : (job e : ℕ) → job < 2 ^ 32 → e < 2 ^ 16 → (file iv o shelf : List ℕ) (used : ℕ)
+    → putCall shelf used job e file .number ≡ 0 → (k : LuossavinKey) → MovesZero (k .«round_keys»)
+    → OfEach (NoRoughShown (hostModeCall Decrypt 4 k) job e file iv o) job (records (take used shelf))
+no-rough-shown job e job-fits fits file iv o shelf used done k moves =
+    after-put (hostModeCall Decrypt 4 k) (other-edition-refused k moves) job e job-fits fits file iv o shelf used done

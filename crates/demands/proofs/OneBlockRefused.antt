@@ -1,24 +1,13 @@
 -- Demand 3: one changed block, of the ciphertext or of the label, is refused.
 -- Assumes nothing.
-use mathlib.Core.Path.{_≡_, sym, ap, _∙_}
-use mathlib.Core.Logic.{⊎-elim}
-use mathlib.Core.List.{List, _++_}
-use Prim.Native.Nat.{ℕ, _+_}
-use lib.ListN.{length, length-append}
-use Rattle.ghash.specs.OneBlock.{OneBlock}
+use Rattle.demands.specs.Names as N
+use N.{List, _++_, ⊎-elim, _∙_, _≡_, ap, sym, _+_, ℕ, length, length-append, OneBlock, hashKey, modeCall, modeOf, Decrypt, Sm4Cipher}
+use N.{hostModeCall, cipherIn, LuossavinKey}
 use Rattle.ghash.proofs.Changed.{label-changed, text-changed}
-use Rattle.gcm.specs.Gcm.{hashKey}
 use Rattle.gcm.proofs.HashKey.{hashKey-lt}
-use Rattle.cipher_mode.specs.declared.Direction.the-variants.{Decrypt}
-use Rattle.cipher_mode.specs.declared.Sm4Cipher.{Sm4Cipher}
-use Rattle.cipher_mode.specs.Tables.{modeOf}
-use Rattle.cipher_mode.specs.Calls.{modeCall}
 use Rattle.demands.specs.Call.{inGcm, RefusedAs}
 use Rattle.demands.specs.OneBlockRefused.{MovesZero, OneBlockRefused}
 use Rattle.demands.proofs.OtherHash.{hash-key-nonzero, Fits, gcm-fits, other-hash-refused}
-use Rattle.luossavin.specs.declared.key.LuossavinKey.{LuossavinKey}
-use Rattle.luossavin.specs.Key.{cipherIn}
-use Rattle.luossavin.specs.Host.{hostModeCall}
 
 -- a list of another label and ciphertext of the same lengths passes where the first does
 same-lengths : (a₁ a₂ c₁ c₂ t o₁ o₂ : List ℕ) → length a₁ ≡ length a₂ → length c₁ ≡ length c₂ → length o₁ ≡ length o₂
@@ -34,12 +23,16 @@ same-lengths a₁ a₂ c₁ c₂ t o₁ o₂ ea ec eo l =
 
 -- Under a key that does not encrypt the all-zero block to itself, Gcm refuses a message that differs from one that opens
 -- inside exactly one block of its ciphertext or of its label: as 4, with length 0 and the output as it was lent.
-pub one-block-refused : (c : Sm4Cipher) → MovesZero (c .rk) → OneBlockRefused (modeCall Decrypt (inGcm c))
-one-block-refused c moves a₁ a₂ c₁ c₂ t iv o₁ o₂ ba₁ ba₂ bc₁ bc₂ n eo change opens =
+pub one-block-refused : (k : LuossavinKey) → MovesZero (k .«round_keys») → OneBlockRefused (hostModeCall Decrypt 4 k)
+unfolding hostModeCall modeOf cipherIn
+one-block-refused k moves a₁ a₂ c₁ c₂ t iv o₁ o₂ ba₁ ba₂ bc₁ bc₂ n eo change opens =
     ⊎-elim in-the-text in-the-label change
   where
+    c : Sm4Cipher
+    c = cipherIn k
+
     rk : List ℕ
-    rk = c .rk
+    rk = k .«round_keys»
 
     in-the-text : (a₁ ≡ a₂) × OneBlock c₁ c₂ → RefusedAs 4 o₂ (modeCall Decrypt (inGcm c) a₂ (c₂ ++ t) iv o₂)
     in-the-text (e, o) =
@@ -54,8 +47,3 @@ one-block-refused c moves a₁ a₂ c₁ c₂ t iv o₁ o₂ ba₁ ba₂ bc₁ b
         (rw (← e) (label-changed (hashKey rk) (hashKey-lt rk) (hash-key-nonzero rk moves) a₁ a₂ c₁ ba₁ ba₂ o))
         (same-lengths a₁ a₂ c₁ c₂ t o₁ o₂ (o .lengths) (ap length e) eo (gcm-fits c a₁ (c₁ ++ t) iv o₁ opens))
         opens
-
--- The same of the exported call with mode 4.
-pub exported-one-block-refused : (k : LuossavinKey) → MovesZero (k .«round_keys») → OneBlockRefused (hostModeCall Decrypt 4 k)
-unfolding hostModeCall modeOf cipherIn
-exported-one-block-refused k moves = one-block-refused (cipherIn k) moves

@@ -1,29 +1,15 @@
 -- A final's label does not open a rough: under another job or edition a file is refused.
 -- Assumes nothing.
-use mathlib.Core.Path.{_≡_, refl, sym, _∙_}
-use mathlib.Core.Logic.{_≢_, ⊎-elim}
-use mathlib.Core.List.{List}
-use Prim.Native.Nat.{ℕ, _≤_}
-use native.Mathlib.Omega.{arith}
-use lib.ListN.{length, drop-of-length-le}
-use Rattle.block.specs.Below.{AreBytes}
-use Rattle.ghash.specs.OneBlock.{OneBlock}
+use Rattle.demands.specs.Names as N
+use N.{List, _≢_, ⊎-elim, _∙_, _≡_, refl, sym, _≤_, ℕ, arith, drop-of-length-le, length, AreBytes, OneBlock, hashKey, textPart, modeCall}
+use N.{modeOf, Decrypt, Sm4Cipher, labelOf, hostModeCall, cipherIn, LuossavinKey}
 use Rattle.ghash.proofs.Changed.{label-changed}
-use Rattle.gcm.specs.Gcm.{hashKey, textPart}
 use Rattle.gcm.proofs.HashKey.{hashKey-lt}
-use Rattle.cipher_mode.specs.declared.Direction.the-variants.{Decrypt}
-use Rattle.cipher_mode.specs.declared.Sm4Cipher.{Sm4Cipher}
-use Rattle.cipher_mode.specs.Tables.{modeOf}
-use Rattle.cipher_mode.specs.Calls.{modeCall}
-use Rattle.label.specs.Label.{labelOf}
 use Rattle.label.proofs.LabelTells.{length-label, label-bytes, label-job, label-edition}
 use Rattle.demands.specs.Call.{inGcm, RefusedAs}
 use Rattle.demands.specs.OneBlockRefused.{MovesZero}
 use Rattle.demands.specs.OtherEdition.{OtherEditionRefused}
 use Rattle.demands.proofs.OtherHash.{hash-key-nonzero, other-label-refused}
-use Rattle.luossavin.specs.declared.key.LuossavinKey.{LuossavinKey}
-use Rattle.luossavin.specs.Key.{cipherIn}
-use Rattle.luossavin.specs.Host.{hostModeCall}
 
 -- two lists of a block or less that differ do so inside one block
 one-block : (a b : List ℕ) → a ≢ b → length a ≡ length b → length a ≤ 16 → OneBlock a b
@@ -49,14 +35,10 @@ short-label-refused c moves a₁ a₂ file iv o₁ o₂ b₁ b₂ ne e l eo open
 
 -- Under a key that does not encrypt the all-zero block to itself, a file that opens in Gcm under one job and edition is
 -- refused as 4 under every other job or edition.
-pub other-edition-refused : (c : Sm4Cipher) → MovesZero (c .rk) → OtherEditionRefused (modeCall Decrypt (inGcm c))
-other-edition-refused c moves j₁ j₂ e₁ e₂ file iv o₁ o₂ hj₁ hj₂ he₁ he₂ other eo opens =
+pub other-edition-refused : (k : LuossavinKey) → MovesZero (k .«round_keys») → OtherEditionRefused (hostModeCall Decrypt 4 k)
+unfolding hostModeCall modeOf cipherIn
+other-edition-refused k moves j₁ j₂ e₁ e₂ file iv o₁ o₂ hj₁ hj₂ he₁ he₂ other eo opens =
     let n : length (labelOf j₁ e₁) ≡ 6 = length-label j₁ e₁ in
-    short-label-refused c moves (labelOf j₁ e₁) (labelOf j₂ e₂) file iv o₁ o₂ (label-bytes j₁ e₁) (label-bytes j₂ e₂)
+    short-label-refused (cipherIn k) moves (labelOf j₁ e₁) (labelOf j₂ e₂) file iv o₁ o₂ (label-bytes j₁ e₁) (label-bytes j₂ e₂)
     (λ same. ⊎-elim (λ d. d (label-job j₁ e₁ j₂ e₂ same hj₁ hj₂)) (λ d. d (label-edition j₁ e₁ j₂ e₂ same he₁ he₂)) other)
     (n ∙ sym (length-label j₂ e₂)) (omega arith) eo opens
-
--- The same of the exported call with mode 4.
-pub exported-other-edition-refused : (k : LuossavinKey) → MovesZero (k .«round_keys») → OtherEditionRefused (hostModeCall Decrypt 4 k)
-unfolding hostModeCall modeOf cipherIn
-exported-other-edition-refused k moves = other-edition-refused (cipherIn k) moves

@@ -1,27 +1,12 @@
 -- In Gcm, where a message opens, the same tag is refused as 4 for a label and a ciphertext with another hash. J0 stays shut.
 -- Assumes nothing.
-use mathlib.Core.Path.{_≡_, refl, sym, ap, _∙_}
-use mathlib.Core.Logic.{_≢_}
-use mathlib.Core.Bool.{true, false}
-use mathlib.Core.List.{List, _++_}
-use Prim.Native.Nat.{ℕ, _-_, _≤_}
-use native.Mathlib.Omega.{arith}
-use lib.ListN.{length, length-drop, take-append-drop}
-use borrow.Author.Tests.{le-ltb}
-use Rattle.ghash.specs.Ghash.{ghash, authBlocks}
-use Rattle.walk.specs.Outcome.{Outcome, keyed, reporting}
-use Rattle.gcm.specs.Gcm.{hashKey, J0, textPart, tagPart, opensUnder}
+use Rattle.demands.specs.Names as N
+use N.{false, true, List, _++_, _≢_, _∙_, _≡_, ap, refl, sym, _-_, _≤_, ℕ, arith, length, length-drop, take-append-drop, le-ltb, Outcome}
+use N.{keyed, reporting, authBlocks, ghash, J0, hashKey, opensUnder, tagPart, textPart, lengthsOf, modeCall, wrongIv, keyNumber, limit}
+use N.{sealedLimit, Gcm, Decrypt, Key, Sm4Cipher}
 use Rattle.gcm.proofs.TagTells.{opens-not}
 use Rattle.gcm.proofs.HashKey.{hashKey-lt, hashKey-tells}
 use Rattle.gcm.proofs.Settled.{open-refused}
-use Rattle.cipher_mode.specs.declared.CipherMode.the-variants.{Gcm}
-use Rattle.cipher_mode.specs.declared.Direction.the-variants.{Decrypt}
-use Rattle.cipher_mode.specs.declared.KeyAnswer.the-variants.{Key}
-use Rattle.cipher_mode.specs.declared.Sm4Cipher.{Sm4Cipher}
-use Rattle.cipher_mode.specs.Key.{keyNumber}
-use Rattle.cipher_mode.specs.Tables.{limit, sealedLimit}
-use Rattle.cipher_mode.specs.Checks.{wrongIv}
-use Rattle.cipher_mode.specs.Calls.{lengthsOf, modeCall}
 use Rattle.cipher_mode.proofs.Passed.{InOrder, label-passed, data-within, with-tag-passed}
 use Rattle.demands.specs.CameRound.{roundOf}
 use Rattle.demands.specs.Call.{inGcm, RefusedAs}

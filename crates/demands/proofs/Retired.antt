@@ -1,39 +1,13 @@
 -- Keys that open and no longer seal: a retired key encrypts nothing and decrypts as it did, and there is no way back.
 -- Assumes nothing.
-use mathlib.Core.Path.{_≡_, refl, sym, ap, subst, _∙_}
-use mathlib.Core.Logic.{_≢_}
-use mathlib.Core.Bool.{Bool, true, false, _||_}
-use mathlib.Core.List.{List, [], _∷_, _++_, map}
-use Prim.Native.Nat.{ℕ, zero, suc}
-use native.Mathlib.Omega.{arith}
-use lib.Dec.{eqb, ltb}
-use lib.ListN.{length, take}
-use borrow.Author.Tests.{eq-eqb, ne-eqb, eqb-true, eqb-false}
-use Rattle.walk.specs.Outcome.{Outcome, refuse}
-use Rattle.cipher_mode.specs.declared.CipherMode.the-variants.{Ctr as Ctr·mode, Gcm}
-use Rattle.cipher_mode.specs.declared.Direction.the-variants.{Encrypt}
-use Rattle.cipher_mode.specs.declared.Sm4Cipher.{Sm4Cipher}
-use Rattle.cipher_mode.specs.declared.checks.Checked.the-variants.{Passed}
-use Rattle.cipher_mode.specs.Checks.{retiredCheck, keyAndIv, blockCheck, messageCheck}
-use Rattle.cipher_mode.specs.Calls.{blockCall, modeCall}
+use Rattle.demands.specs.Names as N
+use N.{Bool, _||_, false, true, List, [], _++_, _∷_, map, _≢_, _∙_, _≡_, ap, refl, subst, sym, suc, zero, ℕ, arith, eqb, ltb, length, take}
+use N.{eq-eqb, eqb-false, eqb-true, ne-eqb, Outcome, refuseAs as refuse, blockCall, modeCall, blockCheck, keyAndIv, messageCheck}
+use N.{retiredCheck, Ctr as Ctr·mode, Gcm, Encrypt, Sm4Cipher, Passed, ctrStart, opensStart, sealStart, gcmStarting, Ctr·state as Ctr, Seal}
+use N.{searchCheck, which, planCall, rangeCall, rangeCheck, reachCheck, anyRetired, badKeys, replay, hostBlockCall, hostModeCall, modeIn}
+use N.{hostCtrStart, hostOpensStart, hostSealStart, hostReplay, keysOf, cipherIn, hostKeyEngine, hostKeyRetire, keyAnswerOf, hostCtrByPlan}
+use N.{hostCtrRange, hostWhich, LuossavinKeys, LuossavinKey}
 use Rattle.cipher_mode.proofs.Passed.{both, key-and-iv-passed}
-use Rattle.pieces.specs.declared.ctr.Ctr.{Ctr}
-use Rattle.pieces.specs.declared.seal.Seal.{Seal}
-use Rattle.pieces.specs.Checks.{gcmStarting}
-use Rattle.pieces.specs.Calls.{ctrStart, sealStart, opensStart}
-use Rattle.editions.specs.Which.{which, searchCheck}
-use Rattle.ranges.specs.Range.{reachCheck, rangeCheck, rangeCall}
-use Rattle.ranges.specs.ByPlan.{planCall}
-use Rattle.journal.specs.KeyList.{anyRetired, badKeys}
-use Rattle.journal.specs.Replay.{replay}
-use Rattle.luossavin.specs.declared.key.LuossavinKey.{LuossavinKey}
-use Rattle.luossavin.specs.declared.journals.LuossavinKeys.{LuossavinKeys}
-use Rattle.luossavin.specs.Key.{keyAnswerOf, cipherIn, hostKeyRetire, hostKeyEngine}
-use Rattle.luossavin.specs.Host.{modeIn, hostBlockCall, hostModeCall}
-use Rattle.luossavin.specs.InPieces.{hostCtrStart, hostSealStart, hostOpensStart}
-use Rattle.luossavin.specs.Which.{hostWhich}
-use Rattle.luossavin.specs.Ranges.{hostCtrRange, hostCtrByPlan}
-use Rattle.luossavin.specs.Journals.{keysOf, hostReplay}
 use Rattle.demands.specs.Retired.{StaysRetired, DecryptsAlike, EncryptsNothing}
 use Rattle.demands.proofs.Through.{zero-passed, block-through, through, passed-start}
 

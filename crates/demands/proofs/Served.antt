@@ -1,32 +1,12 @@
 -- Whoever asks in order is served.
 -- Assumes nothing.
-use mathlib.Core.Path.{_≡_, refl, ap, _∙_}
-use mathlib.Core.Logic.{_⊎_, ⊎-elim}
-use mathlib.Core.Bool.{Bool, true, false}
-use mathlib.Core.List.{List}
-use Prim.Native.Nat.{ℕ, _≤_}
-use native.Mathlib.Omega.{arith}
-use lib.Dec.{ltb}
-use lib.ListN.{length}
-use borrow.Author.Tests.{le-ltb}
-use Rattle.walk.specs.Outcome.{Outcome, keyed, refuse, reporting, done}
-use Rattle.cipher_mode.specs.declared.CipherMode.{CipherMode}
-use Rattle.cipher_mode.specs.declared.CipherMode.the-variants.{Cfb, Ofb, Ctr, Cbc, Gcm}
-use Rattle.cipher_mode.specs.declared.Direction.{Direction}
-use Rattle.cipher_mode.specs.declared.Direction.the-variants.{Encrypt, Decrypt}
-use Rattle.cipher_mode.specs.declared.KeyAnswer.the-variants.{Key}
-use Rattle.cipher_mode.specs.declared.checks.Checked.the-variants.{Passed}
-use Rattle.cipher_mode.specs.declared.Sm4Cipher.{Sm4Cipher}
-use Rattle.cipher_mode.specs.declared.Sm4CipherMode.{Sm4CipherMode}
-use Rattle.cipher_mode.specs.Key.{keyNumber}
-use Rattle.cipher_mode.specs.Tables.{limit, roomOf, modeOf}
-use Rattle.cipher_mode.specs.Checks.{wrongIv, retiredCheck, labelCheck, dataCheck}
-use Rattle.cipher_mode.specs.Calls.{blockOf, blockCall, lengthsOf, modeCall}
+use Rattle.demands.specs.Names as N
+use N.{Bool, false, true, List, _⊎_, ⊎-elim, _∙_, _≡_, ap, refl, _≤_, ℕ, arith, ltb, length, le-ltb, Outcome, done, keyed}
+use N.{refuseAs as refuse, reporting, blockCall, blockOf, lengthsOf, modeCall, dataCheck, labelCheck, retiredCheck, wrongIv, keyNumber}
+use N.{limit, modeOf, roomOf, CipherMode, Cbc, Cfb, Ctr, Gcm, Ofb, Direction, Decrypt, Encrypt, Key, Sm4Cipher, Sm4CipherMode, Passed}
+use N.{hostBlockCall, hostModeCall, modeIn, cipherIn, keyAnswerOf, LuossavinKey}
 use Rattle.cipher_mode.proofs.Passed.{InOrder}
 use Rattle.cipher_mode.proofs.Ends.{length-block}
-use Rattle.luossavin.specs.declared.key.LuossavinKey.{LuossavinKey}
-use Rattle.luossavin.specs.Key.{keyAnswerOf, cipherIn}
-use Rattle.luossavin.specs.Host.{modeIn, hostBlockCall, hostModeCall}
 use Rattle.demands.specs.Call.{Call, single}
 use Rattle.demands.specs.ThereAndBack.{SameKey}
 use Rattle.demands.specs.CameRound.{roundOf}

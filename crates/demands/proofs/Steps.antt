@@ -1,52 +1,23 @@
 -- Demand 1 of the calls on messages in pieces: every value of a state has its answer, a refusal changes nothing, and a refused start
 -- and an ended message are no message's state any more.
 -- Assumes nothing.
-use mathlib.Core.Path.{_≡_, refl, sym, ap, subst, _∙_}
-use mathlib.Core.Logic.{_≢_, _⊎_, inl, inr, ⊎-elim}
-use mathlib.Core.Bool.{Bool, true, false, not, cond}
-use mathlib.Core.List.{List, []}
-use Prim.Native.Nat.{ℕ, _+_, _-_, _%_, _≤_, _<_}
-use native.Mathlib.Omega.{arith}
-use lib.Dec.{eqb, ltb}
-use lib.ListN.{length}
-use Rattle.block.specs.Same.{same}
-use Rattle.block.specs.Xor.{xors}
+use Rattle.demands.specs.Names as N
+use N.{Bool, cond, false, not, true, List, [], _≢_, _⊎_, inl, inr, ⊎-elim, _∙_, _≡_, ap, refl, subst, sym, _%_, _+_, _-_, _<_, _≤_, ℕ}
+use N.{arith, eqb, ltb, length, same, xors, blocksOf, ctrCameRound, gcmCameRound, Head, finished, leaving, refusal, telling, under, over}
+use N.{refusalHead, andThen, keyAndIv, keyCheck, refuse, retiredCheck, wrongIv, keyNumber, limit, CipherMode, Ctr as Ctr·mode, Gcm}
+use N.{Direction, Decrypt, Encrypt, KeyAnswer, NoKey, Key, NoNumber, Sm4Cipher, Refusal, Ended, ErrorBlockSize, NoRoom, Retired, ShortGcm}
+use N.{TooLong, WrongIv, WrongNumber, Checked, Passed, Refused, Stepped, begun, ctrEnd, ctrPiece, ctrStart, ended, goesOn, opensEnd}
+use N.{opensPiece, opensStart, sealEnd, sealPiece, sealStart, stepOn, gcmStarting, running, standing, tagged, writing, flowText, hashEnd}
+use N.{ctrAfter, ctrShut, opensAfter, opensShut, sealAfter, sealShut, Ctr·state as Ctr, Ctr·counting, Gcm·counting, Opens, Seal}
 use Rattle.block.proofs.Convert.{length-bytesOf}
 use Rattle.block.proofs.Xors.{length-xors}
-use Rattle.counter.specs.CameRound.{blocksOf, ctrCameRound, gcmCameRound}
-use Rattle.walk.specs.Outcome.{Head, finished, refusal, under, leaving, telling}
-use Rattle.walk.specs.Walk.{over}
-use Rattle.cipher_mode.specs.declared.KeyAnswer.{KeyAnswer}
-use Rattle.cipher_mode.specs.declared.KeyAnswer.the-variants.{Key, ErrorBlockSize as NoKey, WrongNumber as NoNumber}
-use Rattle.cipher_mode.specs.declared.CipherMode.{CipherMode}
-use Rattle.cipher_mode.specs.declared.CipherMode.the-variants.{Ctr as Ctr·mode, Gcm}
-use Rattle.cipher_mode.specs.declared.Direction.{Direction}
-use Rattle.cipher_mode.specs.declared.Direction.the-variants.{Encrypt, Decrypt}
-use Rattle.cipher_mode.specs.declared.Sm4Cipher.{Sm4Cipher}
-use Rattle.cipher_mode.specs.declared.answer.Refusal.{Refusal}
-use Rattle.cipher_mode.specs.declared.answer.Refusal.the-variants.{ErrorBlockSize, TooLong, NoRoom, ShortGcm, WrongIv, Ended, WrongNumber, Retired}
-use Rattle.cipher_mode.specs.declared.checks.Checked.{Checked}
-use Rattle.cipher_mode.specs.declared.checks.Checked.the-variants.{Passed, Refused}
-use Rattle.cipher_mode.specs.Answer.{refusalHead}
-use Rattle.cipher_mode.specs.Key.{keyNumber}
-use Rattle.cipher_mode.specs.Tables.{limit}
-use Rattle.cipher_mode.specs.Checks.{refuse, andThen, keyCheck, wrongIv, retiredCheck, keyAndIv}
 use Rattle.cipher_mode.proofs.Refusals.{refuses as each-refuses}
-use Rattle.pieces.specs.declared.flow.Counting.the-variants.{Ctr as Ctr·counting, Gcm as Gcm·counting}
-use Rattle.pieces.specs.declared.ctr.Ctr.{Ctr}
-use Rattle.pieces.specs.declared.opens.Opens.{Opens}
-use Rattle.pieces.specs.declared.seal.Seal.{Seal}
-use Rattle.pieces.specs.Flow.{flowText}
-use Rattle.pieces.specs.Hashing.{hashEnd}
-use Rattle.pieces.specs.Checks.{gcmStarting, standing, running, writing, tagged}
-use Rattle.pieces.specs.States.{ctrAfter, ctrShut, sealAfter, sealShut, opensAfter, opensShut}
-use Rattle.pieces.specs.Calls.{Stepped, stepOn, ended, begun, goesOn, ctrStart, sealStart, opensStart}
-use Rattle.pieces.specs.Calls.{ctrPiece, ctrEnd, sealPiece, sealEnd, opensPiece, opensEnd}
 use Rattle.pieces.proofs.KeyStream.{text-length}
 use Rattle.pieces.proofs.Passing.{writing-passed}
 use Rattle.demands.specs.Answered.{Answered}
 use Rattle.demands.specs.Steps.{outcomeOf, ctrKey, sealKey, opensKey, pieceNumbers, StepAnswered, turned, NoCtr, NoSeal, NoOpens}
-use Rattle.demands.proofs.Answering.{refuses, does, refusal-answers, Within, within-refuse, within-cond, within-then, on-key, reports}
+use Rattle.demands.proofs.Answering.{refuses, does, refusal-answers, Within, within-refuse, within-cond, within-then, on-key}
+use Rattle.demands.proofs.Answering.{reports}
 use Rattle.demands.proofs.EveryCallAnswers.{key-and-iv-within, label-within}
 
 -- the refusals of a piece and of an end

@@ -1,26 +1,13 @@
 -- Demand 2, there and back: what a call did, its counterpart takes back.
 -- Assumes nothing.
-use mathlib.Core.Path.{_≡_, refl, sym, ap, _∙_}
-use mathlib.Core.Bool.{Bool, true, false}
-use mathlib.Core.List.{List}
-use Prim.Native.Nat.{ℕ, _≤_}
-use native.Mathlib.Omega.{arith}
-use lib.Dec.{ltb}
-use lib.ListN.{length}
+use Rattle.demands.specs.Names as N
+use N.{Bool, false, true, List, _∙_, _≡_, ap, refl, sym, _≤_, ℕ, arith, ltb, length, Head, Outcome, done, keyed, refuseAs as refuse}
+use N.{reporting, blockCall, blockOf, lengthsOf, modeCall, modeResult, keyNumber, modeOf, CipherMode, Decrypt, Encrypt, Sm4Cipher}
+use N.{Sm4CipherMode, hostBlockCall, hostModeCall, modeIn, cipherIn, hostKeyEngine, hostKeyNew, hostKeyRetire, keyAnswerOf, keyOf}
+use N.{LuossavinKey}
 use Rattle.cipher.proofs.Blocks.{block-decrypt-encrypt, block-encrypt-decrypt}
-use Rattle.walk.specs.Outcome.{Head, Outcome, keyed, reporting, done, refuse}
-use Rattle.cipher_mode.specs.declared.CipherMode.{CipherMode}
-use Rattle.cipher_mode.specs.declared.Direction.the-variants.{Encrypt, Decrypt}
-use Rattle.cipher_mode.specs.declared.Sm4Cipher.{Sm4Cipher}
-use Rattle.cipher_mode.specs.declared.Sm4CipherMode.{Sm4CipherMode}
-use Rattle.cipher_mode.specs.Key.{keyNumber}
-use Rattle.cipher_mode.specs.Tables.{modeOf}
-use Rattle.cipher_mode.specs.Calls.{blockOf, blockCall, modeResult, lengthsOf, modeCall}
 use Rattle.cipher_mode.proofs.Passed.{InOrder}
 use Rattle.cipher_mode.proofs.Ends.{length-block}
-use Rattle.luossavin.specs.declared.key.LuossavinKey.{LuossavinKey}
-use Rattle.luossavin.specs.Key.{keyAnswerOf, cipherIn, keyOf, hostKeyNew, hostKeyRetire, hostKeyEngine}
-use Rattle.luossavin.specs.Host.{modeIn, hostBlockCall, hostModeCall}
 use Rattle.demands.specs.Call.{single, result, Call}
 use Rattle.demands.specs.CameRound.{roundOf}
 use Rattle.demands.specs.ThereAndBack.{SameKey, Returns, Decryptable, Encryptable, Sixteen, ThereAndBack}

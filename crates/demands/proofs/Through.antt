@@ -1,29 +1,12 @@
 -- What a call that answered 0 had in order, and what a call leaves that has all in order.
 -- Assumes nothing.
-use mathlib.Core.Path.{_≡_, refl, sym, ap}
-use mathlib.Core.Bool.{Bool}
-use mathlib.Core.List.{List}
-use Prim.Native.Nat.{ℕ}
-use lib.ListN.{length}
-use lib.Seq.{take-append-seam}
-use borrow.Author.Tests.{eq-eqb, le-ltb}
-use Rattle.walk.specs.Outcome.{Outcome, keyed, refused, done}
-use Rattle.cipher_mode.specs.declared.KeyAnswer.{KeyAnswer}
-use Rattle.cipher_mode.specs.declared.CipherMode.{CipherMode}
-use Rattle.cipher_mode.specs.declared.Direction.{Direction}
-use Rattle.cipher_mode.specs.declared.checks.Checked.{Checked}
-use Rattle.cipher_mode.specs.declared.checks.Checked.the-variants.{Passed, Refused}
-use Rattle.cipher_mode.specs.declared.checks.Lengths.{Lengths}
-use Rattle.cipher_mode.specs.declared.Sm4Cipher.{Sm4Cipher}
-use Rattle.cipher_mode.specs.declared.Sm4CipherMode.{Sm4CipherMode}
-use Rattle.cipher_mode.specs.Key.{keyNumber}
-use Rattle.cipher_mode.specs.Tables.{roomOf}
-use Rattle.cipher_mode.specs.Checks.{keyAndIv, roomCheck, blockCheck, messageCheck, checked}
-use Rattle.cipher_mode.specs.Calls.{blockOf, blockCall, modeResult, lengthsOf, modeCall}
+use Rattle.demands.specs.Names as N
+use N.{Bool, List, _≡_, ap, refl, sym, ℕ, length, take-append-seam, eq-eqb, le-ltb, Outcome, done, keyed, refused, blockCall, blockOf}
+use N.{lengthsOf, modeCall, modeResult, blockCheck, checked, keyAndIv, messageCheck, roomCheck, keyNumber, roomOf, CipherMode, Direction}
+use N.{KeyAnswer, Sm4Cipher, Sm4CipherMode, Checked, Passed, Refused, Lengths, begun}
 use Rattle.cipher_mode.proofs.Passed.{InOrder, BlockInOrder, message-passed, block-passed}
 use Rattle.cipher_mode.proofs.Ends.{went-on}
 use Rattle.cipher_mode.proofs.Refusals.{refuses}
-use Rattle.pieces.specs.Calls.{begun}
 use Rattle.demands.specs.Call.{result, RefusedAs}
 
 pub result-of-done : (p o : List ℕ) → result (done p o) ≡ p

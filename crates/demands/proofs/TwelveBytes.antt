@@ -1,25 +1,10 @@
 -- A 12-byte IV in Gcm: its counters are SP 800-38D's. J0 has sixteen bytes, whatever the IV has.
 -- Assumes nothing.
-use mathlib.Core.Path.{_≡_, refl, ap, ap₂, _∙_}
-use mathlib.Core.Bool.{Bool, true, false, cond}
-use mathlib.Core.List.{List, [], _∷_, _++_}
-use Prim.Native.Nat.{ℕ, _+_, _%_, _^_}
-use lib.Dec.{eqb}
-use lib.ListN.{length, length-append}
-use lib.Seq.{take-at, drop-at}
-use borrow.Author.Tests.{eq-eqb, eqb-true}
-use Rattle.block.specs.BigEndian.{numberOf, bytesOf}
+use Rattle.demands.specs.Names as N
+use N.{Bool, cond, false, true, List, [], _++_, _∷_, _∙_, _≡_, ap, ap₂, refl, _%_, _+_, _^_, ℕ, eqb, length, length-append, drop-at}
+use N.{take-at, eq-eqb, eqb-true, bytesOf, numberOf, gcmNext, ghash, J0, firstCounter, hashKey, hashedCounter, nonceCounter, sealed, tagOf}
+use N.{textOf, modeOf, Encrypt, hostModeCall, cipherIn, LuossavinKey}
 use Rattle.block.proofs.Convert.{length-bytesOf}
-use Rattle.counter.specs.Counter.{gcmNext}
-use Rattle.ghash.specs.Ghash.{ghash}
-use Rattle.gcm.specs.Gcm.{hashKey, nonceCounter, hashedCounter, firstCounter, J0, textOf, tagOf, sealed}
-use Rattle.cipher_mode.specs.declared.Direction.the-variants.{Encrypt}
-use Rattle.cipher_mode.specs.declared.Sm4Cipher.{Sm4Cipher}
-use Rattle.cipher_mode.specs.Tables.{modeOf}
-use Rattle.cipher_mode.specs.Calls.{modeCall}
-use Rattle.luossavin.specs.declared.key.LuossavinKey.{LuossavinKey}
-use Rattle.luossavin.specs.Key.{cipherIn}
-use Rattle.luossavin.specs.Host.{hostModeCall}
 use Rattle.demands.specs.Call.{inGcm, result}
 use Rattle.demands.specs.TwelveBytes.{followedBy, textFromTwo, CountsFromTwo}
 use Rattle.demands.proofs.Through.{result-of-done, through, leaves}
@@ -50,13 +35,11 @@ unfolding sealed textOf
 sealed-from-two rk label d iv n = rw (first-counter rk iv n, next-counter iv n)
 
 -- What Gcm seals under a 12-byte IV is the text under the counters from 00000002 on, and the tag under 00000001.
-pub twelve-counts-from-two : (c : Sm4Cipher) → CountsFromTwo (c .rk) (modeCall Encrypt (inGcm c))
-twelve-counts-from-two c label d iv o n e =
-    ap result (leaves Encrypt (inGcm c) label d iv o (through Encrypt (inGcm c) label d iv o e))
-    ∙ result-of-done (sealed (c .rk) (hashKey (c .rk)) (J0 (c .rk) iv) label d) o
-    ∙ sealed-from-two (c .rk) label d iv n
-
--- The same of the exported call with mode 4.
-pub exported-twelve-counts-from-two : (k : LuossavinKey) → CountsFromTwo (k .«round_keys») (hostModeCall Encrypt 4 k)
+pub twelve-counts-from-two : (k : LuossavinKey) → CountsFromTwo (k .«round_keys») (hostModeCall Encrypt 4 k)
 unfolding hostModeCall modeOf cipherIn
-exported-twelve-counts-from-two k = twelve-counts-from-two (cipherIn k)
+twelve-counts-from-two k label d iv o n e =
+    let m = inGcm (cipherIn k) in
+    let rk = k .«round_keys» in
+    ap result (leaves Encrypt m label d iv o (through Encrypt m label d iv o e))
+    ∙ result-of-done (sealed rk (hashKey rk) (J0 rk iv) label d) o
+    ∙ sealed-from-two rk label d iv n

@@ -1,59 +1,17 @@
 -- Demand 1, that outcomes can be predicted: any two answers, outputs and states that a contract allows coincide. One theorem for each form
 -- that a public call's contract has, whatever the definition in it gives.
 -- Assumes nothing.
-use mathlib.Core.Path.{_≡_, refl, sym, ap, ap₂, _∙_}
-use mathlib.Core.Bool.{Bool, true, false, cond}
-use mathlib.Core.List.{List, [], _∷_}
-use Prim.Native.Nat.{ℕ, _-_, _≤_, _<_}
-use native.Mathlib.Omega.{arith}
-use lib.Dec.{eqb}
-use lib.ListN.{getD}
-use borrow.Author.Tests.{ne-eqb}
-use Rattle.walk.specs.Outcome.{Head, Outcome}
-use Rattle.cipher_mode.specs.declared.answer.Answer.{Answer}
-use Rattle.cipher_mode.specs.declared.answer.Ending.{Ending}
-use Rattle.cipher_mode.specs.declared.answer.Ending.the-variants.{Done, Refused}
-use Rattle.cipher_mode.specs.declared.answer.Refusal.{Refusal}
-use Rattle.cipher_mode.specs.declared.answer.Refusal.the-variants.{ErrorBlockSize, ErrorDataLen, InvalidLastU8, InvalidTag, TooLong, NoRoom}
-use Rattle.cipher_mode.specs.declared.answer.Refusal.the-variants.{EmptyCbc, ShortGcm, WrongIv, WrongBlock, Ended, WrongNumber, Retired}
-use Rattle.cipher_mode.specs.declared.answer.Refusal.the-variants.{InvalidPadding}
-use Rattle.cipher_mode.specs.Answer.{refusalHead, endingHead, headOf, outcome}
-use Rattle.pieces.specs.declared.ctr.Ctr.{Ctr}
-use Rattle.pieces.specs.declared.ctr.CtrStep.{CtrStep}
-use Rattle.pieces.specs.declared.opens.Opens.{Opens}
-use Rattle.pieces.specs.declared.opens.OpensStep.{OpensStep}
-use Rattle.pieces.specs.declared.seal.Seal.{Seal}
-use Rattle.pieces.specs.declared.seal.SealStep.{SealStep}
-use Rattle.pieces.specs.Calls.{Stepped, ctrStepped, sealStepped, opensStepped}
-use Rattle.editions.specs.declared.Ended.{Ended as Asked}
-use Rattle.editions.specs.declared.Ended.the-variants.{Candidate, None, BadList, Refused as Refused·asked}
-use Rattle.editions.specs.declared.Found.{Found}
-use Rattle.editions.specs.Which.{Verdict, endedHead as askedHead, isFound, verdictOf}
-use Rattle.ranges.specs.declared.by_plan.Ended.{Ended as Planned·end}
-use Rattle.ranges.specs.declared.by_plan.Ended.the-variants.{Done as Done·plan, NotAccepted, Refused as Refused·plan}
-use Rattle.ranges.specs.declared.by_plan.ByPlan.{ByPlan}
-use Rattle.ranges.specs.ByPlan.{endedHead as planHead, planned·outcome}
-use Rattle.shelf.specs.declared.Ended.{Ended as Shelf·end}
-use Rattle.shelf.specs.declared.Ended.the-variants.{Done as Done·shelf, BadShelf, NotHigher, NoRoom as NoRoom·shelf, NoCurrent}
-use Rattle.shelf.specs.declared.Found.{Found as Shelf·found}
-use Rattle.shelf.specs.declared.Kept.{Kept}
-use Rattle.shelf.specs.Calls.{Outcome as Shelf·Outcome, Place, numberOfEnd, outcomeOf, placeIn}
-use Rattle.journal.specs.declared.writer.Wrote.{Wrote}
-use Rattle.journal.specs.Writer.{Leaves}
-use Rattle.luossavin.specs.declared.LuossavinAnswer.{LuossavinAnswer}
-use Rattle.luossavin.specs.declared.edition.LuossavinLabel.{LuossavinLabel}
-use Rattle.luossavin.specs.declared.in_pieces.LuossavinCtrStep.{LuossavinCtrStep}
-use Rattle.luossavin.specs.declared.in_pieces.LuossavinOpensStep.{LuossavinOpensStep}
-use Rattle.luossavin.specs.declared.in_pieces.LuossavinSealStep.{LuossavinSealStep}
-use Rattle.luossavin.specs.declared.shelves.LuossavinShelf.{LuossavinShelf}
-use Rattle.luossavin.specs.declared.shelves.LuossavinShelved.{LuossavinShelved}
-use Rattle.luossavin.specs.declared.which.LuossavinFound.{LuossavinFound}
-use Rattle.luossavin.specs.declared.workers.LuossavinPlanned.{LuossavinPlanned}
-use Rattle.luossavin.specs.Host.{headIn, reported}
-use Rattle.luossavin.specs.InPieces.{ctrReported, sealReported, opensReported}
-use Rattle.luossavin.specs.Ranges.{Handed, plannedReported}
-use Rattle.luossavin.specs.Shelves.{shelfReported, shelvedReported}
-use Rattle.luossavin.specs.Which.{Told, foundReported}
+use Rattle.demands.specs.Names as N
+use N.{Bool, cond, false, true, List, [], _∷_, _∙_, _≡_, ap, ap₂, refl, sym, _-_, _<_, _≤_, ℕ, arith, eqb, getD, ne-eqb, Head, Outcome}
+use N.{endingHead, headOf, outcome, refusalHead, Answer, Ending, Done, Refused·ending as Refused, Refusal, EmptyCbc, Ended, ErrorBlockSize}
+use N.{ErrorDataLen, Refusal·LastU8 as InvalidLastU8, Refusal·Padding as InvalidPadding, Refusal·Tag as InvalidTag, NoRoom, Retired}
+use N.{ShortGcm, TooLong, WrongBlock, WrongIv, WrongNumber, Stepped, ctrStepped, opensStepped, sealStepped, Ctr·state as Ctr, CtrStep}
+use N.{Opens, OpensStep, Seal, SealStep, Verdict, askedHead, isFound, verdictOf, Asked, BadList, Candidate, None, Refused·asked, Found}
+use N.{planHead, planned·outcome, ByPlan, Planned·end, Done·plan, NotAccepted, Refused·plan, Shelf·Outcome, Place}
+use N.{shelfNumber as numberOfEnd, outcomeOf, placeIn, Shelf·end, BadShelf, Done·shelf, NoCurrent, NoRoom·shelf, NotHigher, Shelf·found}
+use N.{Kept, Leaves, Wrote, headIn, reported, ctrReported, opensReported, sealReported, Handed, plannedReported, shelfReported}
+use N.{shelvedReported, Told, foundReported, LuossavinAnswer, LuossavinLabel, LuossavinCtrStep, LuossavinOpensStep, LuossavinSealStep}
+use N.{LuossavinShelf, LuossavinShelved, LuossavinFound, LuossavinPlanned}
 use Rattle.demands.specs.OneOutcome.{One, OneValue}
 
 -- an answer that can be told back from what it spells is one alone

@@ -1,45 +1,24 @@
 -- Which of many labels a file opens under: what is told is what the single call answers to each candidate, and among labels of jobs and
 -- editions it is the one; and demand 1 of the question.
 -- Assumes nothing.
-use mathlib.Core.Path.{_≡_, refl, sym, ap, subst, _∙_}
-use mathlib.Core.Logic.{_≢_, _⊎_, inl, inr}
-use mathlib.Core.Bool.{Bool, true, false, cond}
-use mathlib.Core.List.{List, [], _∷_}
-use Prim.Native.Nat.{ℕ, zero, suc, _-_, _^_, _≤_, _<_}
-use native.Mathlib.Omega.{arith}
-use lib.Dec.{ltb}
-use lib.ListN.{length, getD, take, drop, length-take}
-use borrow.Author.Tests.{ltb-false}
-use Rattle.walk.specs.Outcome.{Head, Outcome, finished, refusal}
-use Rattle.gcm.specs.Open.{headOf as gcmHead, settled, gcmOpen}
-use Rattle.gcm.specs.declared.Opened.the-variants.{Done as Gcm·Done, InvalidTag}
-use Rattle.cipher_mode.specs.declared.Direction.the-variants.{Decrypt}
-use Rattle.cipher_mode.specs.declared.Sm4Cipher.{Sm4Cipher}
-use Rattle.cipher_mode.specs.declared.CipherMode.the-variants.{Gcm}
-use Rattle.cipher_mode.specs.declared.checks.Checked.{Checked}
-use Rattle.cipher_mode.specs.declared.checks.Checked.the-variants.{Passed, Refused}
-use Rattle.cipher_mode.specs.Key.{keyNumber}
-use Rattle.cipher_mode.specs.Tables.{limit, modeOf}
-use Rattle.cipher_mode.specs.Calls.{modeCall}
+use Rattle.demands.specs.Names as N
+use N.{Bool, cond, false, true, List, [], _∷_, _≢_, _⊎_, inl, inr, _∙_, _≡_, ap, refl, subst, sym, _-_, _<_, _^_, _≤_, suc, zero, ℕ, arith}
+use N.{ltb, drop, getD, length, length-take, take, ltb-false, Head, Outcome, finished, refusal, gcmOpen, gcmHead, settled, Gcm·Done}
+use N.{InvalidTag, modeCall, keyNumber, limit, modeOf, Gcm, Decrypt, Sm4Cipher, Checked, Passed, Refused, anyTooLong, badList, labelAt}
+use N.{Verdict, checkedVerdict, firstOpening, noneWith, onKey, opensWith, searchCheck, which, labelOf, hostModeCall, cipherIn, hostWhich}
+use N.{toldOf, LuossavinKey}
 use Rattle.cipher_mode.proofs.Passed.{data-within, with-tag-passed}
 use Rattle.cipher_mode.proofs.Refusals.{refuses}
-use Rattle.editions.specs.Candidates.{badList, anyTooLong, labelAt}
-use Rattle.editions.specs.Which.{Verdict, noneWith, onKey, firstOpening, searchCheck, checkedVerdict, opensWith, which}
 use Rattle.editions.proofs.Turns.{or-false}
 use Rattle.editions.proofs.Passed.{search-passed}
 use Rattle.editions.proofs.FirstOpening.{IsFirst, search-number}
 use Rattle.editions.proofs.WhichOpens.{Asked, first-opens, none-opens, found-opens, none-found, zero-unless-found, done-asked}
-use Rattle.label.specs.Label.{labelOf}
-use Rattle.luossavin.specs.declared.key.LuossavinKey.{LuossavinKey}
-use Rattle.luossavin.specs.Key.{cipherIn}
-use Rattle.luossavin.specs.Host.{hostModeCall}
-use Rattle.luossavin.specs.Which.{toldOf, hostWhich}
 use Rattle.demands.specs.Call.{inGcm, RefusedAs}
 use Rattle.demands.specs.OneBlockRefused.{MovesZero}
 use Rattle.demands.specs.Which.{FirstThatOpens, Tells, WhichAnswered}
 use Rattle.demands.proofs.Through.{leaves}
 use Rattle.demands.proofs.OtherHash.{Fits, gcm-in-order}
-use Rattle.demands.proofs.OtherEdition.{exported-other-edition-refused}
+use Rattle.demands.proofs.OtherEdition.{other-edition-refused}
 
 -- where no label is too long, no candidate is
 short-at : (ns : List ℕ) (i : ℕ) → anyTooLong ns ≡ false → getD ns i 0 ≤ limit
@@ -159,7 +138,7 @@ pub the-edition : (k : LuossavinKey) (file iv labels lengths o : List ℕ) → l
 the-edition k file iv labels lengths o room moves e j₁ j₂ e₁ e₂ hj₁ hj₂ he₁ he₂ part other =
     let t = which-tells k file iv labels lengths o room in
     let label : labelAt labels lengths (hostWhich k file iv labels lengths .place) ≡ labelOf j₁ e₁ = sym (t .part e) ∙ part in
-    exported-other-edition-refused k moves j₁ j₂ e₁ e₂ file iv o o hj₁ hj₂ he₁ he₂ other refl
+    other-edition-refused k moves j₁ j₂ e₁ e₂ file iv o o hj₁ hj₂ he₁ he₂ other refl
     (subst (λ (l : List ℕ). hostModeCall Decrypt 4 k l file iv o .head .number ≡ 0) label (t .found e .opens))
 
 -- a search reports nothing but that it is done, and a refusal no candidate

@@ -1,44 +1,18 @@
 -- Which number an exported call answers: that of the first of document 01's conditions that holds, and no other.
 -- Assumes nothing.
-use mathlib.Core.Path.{_≡_, refl, sym, ap, ap₂, _∙_}
-use mathlib.Core.Logic.{inl, inr, ⊎-elim}
-use mathlib.Core.Bool.{Bool, true, false, not, cond, _&&_}
-use mathlib.Core.List.{List, [], _∷_, _++_, map}
-use Prim.Native.Nat.{ℕ, _-_, _%_}
-use lib.Dec.{eqb, ltb}
-use lib.ListN.{length}
-use borrow.Author.Tests.{eqb-true}
-use Rattle.cipher.specs.Sm4.{roundKeys}
-use Rattle.walk.specs.Outcome.{Outcome, refusal, refuse as refuseAs}
-use Rattle.cbc.specs.Open.{headOf as cbcHead, lastByte, namesPadding, allPadding, unpadded, cbcText, cbcOpen}
-use Rattle.cbc.specs.declared.Opened.the-variants.{Done as Cbc·Done, InvalidLastU8, InvalidPadding}
-use Rattle.gcm.specs.Gcm.{hashKey, J0, opensUnder}
-use Rattle.gcm.specs.Open.{headOf as gcmHead, settled, gcmOpen}
-use Rattle.gcm.specs.declared.Opened.the-variants.{Done as Gcm·Done, InvalidTag}
-use Rattle.cipher_mode.specs.declared.KeyAnswer.the-variants.{Key, ErrorBlockSize as NoKey, WrongNumber as NoNumber}
-use Rattle.cipher_mode.specs.declared.CipherMode.{CipherMode}
-use Rattle.cipher_mode.specs.declared.CipherMode.the-variants.{Cfb, Ofb, Ctr, Cbc, Gcm}
-use Rattle.cipher_mode.specs.declared.Direction.{Direction}
-use Rattle.cipher_mode.specs.declared.Direction.the-variants.{Encrypt, Decrypt}
-use Rattle.cipher_mode.specs.declared.answer.Refusal.{Refusal}
-use Rattle.cipher_mode.specs.declared.answer.Refusal.the-variants.{TooLong, NoRoom, ShortGcm, WrongIv, WrongBlock}
-use Rattle.cipher_mode.specs.declared.checks.Checked.{Checked}
-use Rattle.cipher_mode.specs.declared.checks.Checked.the-variants.{Passed, Refused}
-use Rattle.cipher_mode.specs.Answer.{refusalHead}
-use Rattle.cipher_mode.specs.Key.{keyHead, noCipher, wrongNumber, newCipher, keyNumber}
-use Rattle.cipher_mode.specs.Tables.{limit, sealedLimit, limitOf, roomOf, modeOf}
-use Rattle.cipher_mode.specs.Checks.{refuse, andThen, keyCheck, wrongIv, retiredCheck, keyAndIv, labelCheck, shapeCheck, dataCheck}
-use Rattle.cipher_mode.specs.Checks.{roomCheck, messageCheck, blockCheck, checked}
-use Rattle.cipher_mode.specs.Calls.{blockCall, modeResult, lengthsOf, modeCall}
-use Rattle.luossavin.specs.declared.key.LuossavinKey.{LuossavinKey}
-use Rattle.luossavin.specs.Key.{keyAnswerOf, cipherIn, keyOf, hostKeyNew}
-use Rattle.luossavin.specs.Host.{hostBlockCall, hostModeCall}
-use Rattle.luossavin.specs.Which.{hostWhich}
-use Rattle.editions.specs.Candidates.{badList, anyTooLong}
-use Rattle.editions.specs.Which.{Verdict, noneWith, onKey, firstOpening, searchCheck, checkedVerdict, opensWith, which}
+use Rattle.demands.specs.Names as N
+use N.{Bool, _&&_, cond, false, not, true, List, [], _++_, _∷_, map, inl, inr, ⊎-elim, _∙_, _≡_, ap, ap₂, refl, sym, _%_, _-_, ℕ, eqb, ltb}
+use N.{length, eqb-true, Outcome, refusal, refuseAs, roundKeys, allPadding, cbcOpen, cbcText, cbcHead, lastByte, namesPadding, unpadded}
+use N.{Cbc·Done, InvalidLastU8, InvalidPadding, J0, hashKey, opensUnder, gcmOpen, gcmHead, settled, Gcm·Done, InvalidTag, refusalHead}
+use N.{blockCall, lengthsOf, modeCall, modeResult, andThen, blockCheck, checked, dataCheck, keyAndIv, keyCheck, labelCheck, messageCheck}
+use N.{refuse, retiredCheck, roomCheck, shapeCheck, wrongIv, keyHead, keyNumber, newCipher, noCipher, wrongNumber, limit, limitOf, modeOf}
+use N.{roomOf, sealedLimit, CipherMode, Cbc, Cfb, Ctr, Gcm, Ofb, Direction, Decrypt, Encrypt, NoKey, Key, NoNumber, Refusal, NoRoom}
+use N.{ShortGcm, TooLong, WrongBlock, WrongIv, Checked, Passed, Refused, anyTooLong, badList, Verdict, checkedVerdict, firstOpening}
+use N.{noneWith, onKey, opensWith, searchCheck, which, hostBlockCall, hostModeCall, cipherIn, hostKeyNew, keyAnswerOf, keyOf, hostWhich}
+use N.{LuossavinKey}
 use Rattle.editions.proofs.FirstOpening.{search-number}
-use Rattle.demands.specs.WhichNumber.{Said, saidIn, only, Row, row, Among, isCbc, isGcm, isRetired}
-use Rattle.demands.specs.WhichNumber.{firstOf, numbersOf, newRows, keyRows, retiredRows, blockRows, whichRows, encryptRows, decryptRows}
+use Rattle.demands.specs.WhichNumber.{Said, saidIn, only, Row, row, Among, isCbc, isGcm, isRetired, firstOf, numbersOf, newRows}
+use Rattle.demands.specs.WhichNumber.{keyRows, retiredRows, blockRows, whichRows, encryptRows, decryptRows}
 use Rattle.demands.proofs.ModesBack.{encrypts}
 
 -- what the first row says that holds, or else k

@@ -1,33 +1,11 @@
 -- Which number a call on a message in pieces answers: that of the first condition that holds, and no other.
 -- Assumes nothing.
-use mathlib.Core.Path.{_≡_, refl, ap, _∙_}
-use mathlib.Core.Bool.{Bool, true, false, not, cond, _&&_}
-use mathlib.Core.List.{List, [], _∷_}
-use Prim.Native.Nat.{ℕ, _+_, _-_, _%_}
-use lib.Dec.{eqb, ltb}
-use lib.ListN.{length}
-use borrow.Author.Tests.{eqb-true}
-use Rattle.block.specs.Same.{same}
-use Rattle.block.specs.Xor.{xors}
-use Rattle.counter.specs.CameRound.{blocksOf, gcmCameRound}
-use Rattle.walk.specs.Outcome.{finished, refusal, telling}
-use Rattle.cipher_mode.specs.declared.CipherMode.the-variants.{Ctr as Ctr·mode, Gcm}
-use Rattle.cipher_mode.specs.declared.Direction.{Direction}
-use Rattle.cipher_mode.specs.declared.Direction.the-variants.{Encrypt, Decrypt}
-use Rattle.cipher_mode.specs.declared.answer.Refusal.the-variants.{TooLong, ShortGcm, WrongIv}
-use Rattle.cipher_mode.specs.declared.checks.Checked.{Checked}
-use Rattle.cipher_mode.specs.declared.checks.Checked.the-variants.{Passed, Refused}
-use Rattle.cipher_mode.specs.Tables.{limit}
-use Rattle.cipher_mode.specs.Checks.{keyAndIv}
-use Rattle.pieces.specs.declared.ctr.Ctr.{Ctr}
-use Rattle.pieces.specs.declared.opens.Opens.{Opens}
-use Rattle.pieces.specs.declared.seal.Seal.{Seal}
-use Rattle.pieces.specs.Hashing.{hashEnd}
-use Rattle.pieces.specs.Checks.{gcmStarting, standing, running, writing, tagged}
-use Rattle.pieces.specs.Calls.{Stepped, begun, goesOn, ctrStart, sealStart, opensStart, ctrPiece, ctrEnd, sealPiece, sealEnd, opensPiece, opensEnd}
-use Rattle.luossavin.specs.declared.key.LuossavinKey.{LuossavinKey}
-use Rattle.luossavin.specs.Key.{cipherIn}
-use Rattle.luossavin.specs.InPieces.{directionOf, hostCtrStart, hostSealStart, hostOpensStart}
+use Rattle.demands.specs.Names as N
+use N.{Bool, _&&_, cond, false, not, true, List, [], _∷_, _∙_, _≡_, ap, refl, _%_, _+_, _-_, ℕ, eqb, ltb, length, eqb-true, same, xors}
+use N.{blocksOf, gcmCameRound, finished, refusal, telling, keyAndIv, limit, Ctr as Ctr·mode, Gcm, Direction, Decrypt, Encrypt, ShortGcm}
+use N.{TooLong, WrongIv, Checked, Passed, Refused, Stepped, begun, ctrEnd, ctrPiece, ctrStart, goesOn, opensEnd, opensPiece, opensStart}
+use N.{sealEnd, sealPiece, sealStart, gcmStarting, running, standing, tagged, writing, hashEnd, Ctr·state as Ctr, Opens, Seal, directionOf}
+use N.{hostCtrStart, hostOpensStart, hostSealStart, cipherIn, LuossavinKey}
 use Rattle.demands.specs.WhichNumber.{Said, saidIn, only, row, firstOf, keyRows, retiredRows}
 use Rattle.demands.specs.WhichNumberInPieces.{standsRows, runningRows, ctrPieceRows, ctrEndRows, sealPieceRows, sealEndRows}
 use Rattle.demands.specs.WhichNumberInPieces.{opensPieceRows, opensEndRows, ctrStartRows, gcmStartRows}

@@ -1,38 +1,16 @@
 -- Ranges and plans, as a host is handed them: which number each call answers, and that nothing is said of a counter.
 -- Assumes nothing.
-use mathlib.Core.Path.{_≡_, refl, ap, _∙_}
-use mathlib.Core.Bool.{Bool, true, false, not, cond, _||_}
-use mathlib.Core.List.{List, [], _∷_}
-use Prim.Native.Nat.{ℕ, _+_}
-use lib.Dec.{eqb, ltb}
-use lib.ListN.{length}
-use Rattle.walk.specs.Outcome.{Outcome, refuse as refuseAs, done}
-use Rattle.walk.specs.Walk.{chain}
-use Rattle.stream.specs.Stream.{streamMode}
-use Rattle.stream.specs.declared.Kind.the-variants.{Ctr as Ctr·kind}
-use Rattle.cipher_mode.specs.declared.CipherMode.the-variants.{Ctr}
-use Rattle.cipher_mode.specs.declared.Direction.{Direction}
-use Rattle.cipher_mode.specs.declared.answer.Refusal.the-variants.{TooLong, NoRoom, WrongIv}
-use Rattle.cipher_mode.specs.declared.checks.Checked.the-variants.{Passed}
-use Rattle.cipher_mode.specs.Tables.{limit}
-use Rattle.cipher_mode.specs.Key.{keyNumber}
-use Rattle.cipher_mode.specs.Checks.{keyAndIv}
-use Rattle.ranges.specs.declared.plan.Plan.{Plan}
-use Rattle.ranges.specs.declared.plan.Making.the-variants.{Made, BadWorkers, TooLong as TooLong·made}
-use Rattle.ranges.specs.declared.plan.Planned.{Planned}
-use Rattle.ranges.specs.Plan.{accepts, planOf, without, planned}
-use Rattle.ranges.specs.Range.{stretch, reachCheck, rangeCheck, rangeCall}
-use Rattle.ranges.specs.ByPlan.{planCall}
-use Rattle.luossavin.specs.declared.key.LuossavinKey.{LuossavinKey}
-use Rattle.luossavin.specs.Key.{cipherIn}
-use Rattle.luossavin.specs.InPieces.{directionOf}
-use Rattle.luossavin.specs.Ranges.{makingHead, hostPlanMake, hostCtrRange, hostCtrByPlan}
+use Rattle.demands.specs.Names as N
+use N.{Bool, _||_, cond, false, not, true, List, [], _∷_, _∙_, _≡_, ap, refl, _+_, ℕ, eqb, ltb, length, Outcome, done, refuseAs, chain}
+use N.{streamMode, Ctr·kind, keyAndIv, keyNumber, limit, Ctr, Direction, NoRoom, TooLong, WrongIv, Passed, planCall, accepts, planOf}
+use N.{planned, without, rangeCall, rangeCheck, reachCheck, stretch, BadWorkers, Made, TooLong·made, Plan, Planned, directionOf, cipherIn}
+use N.{hostCtrByPlan, hostCtrRange, hostPlanMake, makingHead, LuossavinKey}
 use Rattle.demands.specs.CameRound.{Says}
 use Rattle.demands.specs.WhichNumber.{Said, saidIn, only, row, firstOf, keyRows, retiredRows}
 use Rattle.demands.specs.Workers.{rangeRows, planRows, makeRows}
 use Rattle.demands.proofs.CameRound.{quiet, on-key, behind as says-behind}
-use Rattle.demands.proofs.WhichNumber.{orElse, first-append, behind, from-key}
-use Rattle.demands.proofs.WhichNumber.{number-checked, number-front, number-refuse, number-then}
+use Rattle.demands.proofs.WhichNumber.{orElse, first-append, behind, from-key, number-checked, number-front, number-refuse}
+use Rattle.demands.proofs.WhichNumber.{number-then}
 
 -- key, IV, mark and the end of the stretch, n being what comes next
 reach-said : (k : LuossavinKey) (dir : Direction) (iv : List ℕ) (end : ℕ) (n : Said)

@@ -2,44 +2,18 @@
 -- lent, or hands out a plan of no pieces; a success reports the data's length and leaves what lies past it as it was lent, or hands out a
 -- plan that is accepted.
 -- Assumes nothing.
-use mathlib.Core.Path.{_≡_, refl, sym, ap, subst}
-use mathlib.Core.Logic.{_≢_, _⊎_, inl, inr}
-use mathlib.Core.Bool.{Bool, true, false, not, cond, _||_}
-use mathlib.Core.List.{List}
-use Prim.Native.Nat.{ℕ, zero, suc, _+_, _≤_}
-use native.Mathlib.Omega.{arith}
-use lib.Dec.{eqb, ltb}
-use lib.ListN.{length, getD, replicate}
-use borrow.Author.Tests.{ltb-false}
-use Rattle.walk.specs.Outcome.{Head, Outcome, refusal, refuse as refuseAs, done}
-use Rattle.walk.specs.Walk.{chain}
-use Rattle.stream.specs.Stream.{streamMode}
-use Rattle.stream.specs.declared.Kind.the-variants.{Ctr as Ctr·kind}
+use Rattle.demands.specs.Names as N
+use N.{Bool, _||_, cond, false, not, true, List, _≢_, _⊎_, inl, inr, _≡_, ap, refl, subst, sym, _+_, _≤_, suc, zero, ℕ, arith, eqb, ltb}
+use N.{getD, length, replicate, ltb-false, Head, Outcome, done, refusal, refuseAs, chain, streamMode, Ctr·kind, keyAndIv, refuse, keyNumber}
+use N.{limit, Ctr, Direction, KeyAnswer, NoRoom, TooLong, Passed, planCall, accepts, pieceSize, planOf, planned, without, rangeCall}
+use N.{rangeCheck, reachCheck, stretch, Making, BadWorkers, Made, TooLong·made, Plan, Planned, directionOf, cipherIn, Handed, hostCtrByPlan}
+use N.{hostCtrRange, hostPlanMake, makingHead, LuossavinKey}
 use Rattle.stream.proofs.RoundTrip.{length-stream}
-use Rattle.cipher_mode.specs.declared.CipherMode.the-variants.{Ctr}
-use Rattle.cipher_mode.specs.declared.Direction.{Direction}
-use Rattle.cipher_mode.specs.declared.KeyAnswer.{KeyAnswer}
-use Rattle.cipher_mode.specs.declared.answer.Refusal.the-variants.{TooLong, NoRoom}
-use Rattle.cipher_mode.specs.declared.checks.Checked.the-variants.{Passed}
-use Rattle.cipher_mode.specs.Tables.{limit}
-use Rattle.cipher_mode.specs.Key.{keyNumber}
-use Rattle.cipher_mode.specs.Checks.{refuse, keyAndIv}
 use Rattle.cipher_mode.proofs.Passed.{both}
-use Rattle.ranges.specs.declared.plan.Plan.{Plan}
-use Rattle.ranges.specs.declared.plan.Making.{Making}
-use Rattle.ranges.specs.declared.plan.Making.the-variants.{Made, BadWorkers, TooLong as TooLong·made}
-use Rattle.ranges.specs.declared.plan.Planned.{Planned}
-use Rattle.ranges.specs.Plan.{accepts, pieceSize, planOf, without, planned}
-use Rattle.ranges.specs.Range.{stretch, reachCheck, rangeCheck, rangeCall}
-use Rattle.ranges.specs.ByPlan.{planCall}
 use Rattle.ranges.proofs.Jumped.{length-stretch}
 use Rattle.ranges.proofs.OwnPlans.{no-more-than-workers, no-longer-than-share}
 use Rattle.ranges.proofs.Places.{past-the-count}
 use Rattle.ranges.proofs.Planner.{in-order, made-accepted}
-use Rattle.luossavin.specs.declared.key.LuossavinKey.{LuossavinKey}
-use Rattle.luossavin.specs.Key.{cipherIn}
-use Rattle.luossavin.specs.InPieces.{directionOf}
-use Rattle.luossavin.specs.Ranges.{Handed, makingHead, hostPlanMake, hostCtrRange, hostCtrByPlan}
 use Rattle.demands.specs.Answered.{oneOf, Answered}
 use Rattle.demands.specs.Workers.{rangeNumbers, planNumbers, PlanHanded}
 use Rattle.demands.proofs.Answering.{refuses, does, Within, within-refuse, within-then, checks, on-key}

@@ -1,13 +1,8 @@
 -- Two blocks under the key of sixteen zero bytes, computed: demand 3's condition on keys is met, and imposters can be told.
 -- Assumes nothing.
-use mathlib.Core.Path.{_≡_, refl, sym, ap, _∙_}
-use mathlib.Core.List.{List, [], _∷_, _++_}
-use Prim.Native.Nat.{ℕ}
-use native.Mathlib.Omega.{arith}
-use lib.ListN.{getD, replicate}
-use Rattle.block.specs.BigEndian.{numberOf, bytesOf}
-use Rattle.block.specs.Words.{words, unwords}
-use Rattle.cipher.specs.Sm4.{CK, sboxTable, tau, rotl, L, L', T, T', rounds, keysFrom, roundKeys, encryptWords, encryptBlock}
+use Rattle.demands.specs.Names as N
+use N.{List, [], _++_, _∷_, _∙_, _≡_, ap, refl, sym, ℕ, arith, getD, replicate, bytesOf, numberOf, unwords, words, CK, L, L', T, T'}
+use N.{encryptBlock, encryptWords, keysFrom, rotl, roundKeys, rounds, sboxTable, tau}
 use Rattle.demands.specs.OneBlockRefused.{MovesZero}
 
 pub zero-block : encryptBlock (roundKeys (replicate 16 0)) (replicate 16 0)

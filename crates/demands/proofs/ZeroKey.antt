@@ -1,24 +1,12 @@
 -- Why demand 3 speaks of keys that do not encrypt the all-zero block to itself: under any other
 -- key a tag says nothing of the label.
 -- Assumes nothing.
-use mathlib.Core.Path.{_≡_, sym, ap, _∙_}
-use mathlib.Core.List.{List}
-use Prim.Native.Nat.{ℕ, _≤_}
-use lib.ListN.{length, replicate}
-use Rattle.cipher.specs.Sm4.{encryptBlock}
-use Rattle.ghash.specs.Ghash.{ghash, authBlocks}
+use Rattle.demands.specs.Names as N
+use N.{List, _∙_, _≡_, ap, sym, _≤_, ℕ, length, replicate, encryptBlock, authBlocks, ghash, J0, hashKey, textPart, gcmOpen, settled, limit}
+use N.{modeOf, Decrypt, hostModeCall, cipherIn, LuossavinKey}
 use Rattle.ghash.proofs.ZeroKey.{ghash-zero-key}
-use Rattle.gcm.specs.Gcm.{hashKey, J0, textPart}
 use Rattle.gcm.proofs.HashKey.{hashKey-zero}
 use Rattle.gcm.proofs.TagTells.{opens-alike}
-use Rattle.gcm.specs.Open.{settled, gcmOpen}
-use Rattle.cipher_mode.specs.declared.Direction.the-variants.{Decrypt}
-use Rattle.cipher_mode.specs.declared.Sm4Cipher.{Sm4Cipher}
-use Rattle.cipher_mode.specs.Tables.{limit, modeOf}
-use Rattle.cipher_mode.specs.Calls.{modeCall}
-use Rattle.luossavin.specs.declared.key.LuossavinKey.{LuossavinKey}
-use Rattle.luossavin.specs.Key.{cipherIn}
-use Rattle.luossavin.specs.Host.{hostModeCall}
 use Rattle.demands.specs.Call.{inGcm}
 use Rattle.demands.proofs.Through.{through, leaves}
 use Rattle.demands.proofs.OtherHash.{Fits, gcm-fits, gcm-in-order}
@@ -28,12 +16,13 @@ pub every-hash-zero : (rk bs : List ℕ) → encryptBlock rk (replicate 16 0) �
 every-hash-zero rk bs e = ap (λ (h : ℕ). ghash h bs) (hashKey-zero rk e) ∙ ghash-zero-key bs
 
 -- So whatever opens under one label opens under any other that is not too long, with the same outcome.
-pub any-label-opens : (c : Sm4Cipher) → encryptBlock (c .rk) (replicate 16 0) ≡ replicate 16 0
+pub any-label-opens : (k : LuossavinKey) → encryptBlock (k .«round_keys») (replicate 16 0) ≡ replicate 16 0
     → (a₁ a₂ s iv o : List ℕ) → length a₂ ≤ limit
-    → modeCall Decrypt (inGcm c) a₁ s iv o .head .number ≡ 0 → modeCall Decrypt (inGcm c) a₂ s iv o ≡ modeCall Decrypt (inGcm c) a₁ s iv o
-unfolding gcmOpen settled
-any-label-opens c e a₁ a₂ s iv o l opens =
-    let rk = c .rk in
+    → hostModeCall Decrypt 4 k a₁ s iv o .head .number ≡ 0 → hostModeCall Decrypt 4 k a₂ s iv o ≡ hostModeCall Decrypt 4 k a₁ s iv o
+unfolding gcmOpen settled hostModeCall modeOf cipherIn
+any-label-opens k e a₁ a₂ s iv o l opens =
+    let c = cipherIn k in
+    let rk = k .«round_keys» in
     let h = hashKey rk in
     let p = through Decrypt (inGcm c) a₁ s iv o opens in
     let f = gcm-fits c a₁ s iv o opens in
@@ -42,10 +31,3 @@ any-label-opens c e a₁ a₂ s iv o l opens =
     every-hash-zero rk _ e ∙ sym (every-hash-zero rk _ e) in
     leaves Decrypt (inGcm c) a₂ s iv o (gcm-in-order c a₂ s iv o (p .key) (p .iv-size) fits)
     ∙ rw (opens-alike rk h (J0 rk iv) a₂ a₁ s same) (sym (leaves Decrypt (inGcm c) a₁ s iv o p))
-
--- The same of the exported call with mode 4.
-pub exported-any-label-opens : (k : LuossavinKey) → encryptBlock (k .«round_keys») (replicate 16 0) ≡ replicate 16 0
-    → (a₁ a₂ s iv o : List ℕ) → length a₂ ≤ limit
-    → hostModeCall Decrypt 4 k a₁ s iv o .head .number ≡ 0 → hostModeCall Decrypt 4 k a₂ s iv o ≡ hostModeCall Decrypt 4 k a₁ s iv o
-unfolding hostModeCall modeOf cipherIn
-exported-any-label-opens k = any-label-opens (cipherIn k)

@@ -1,18 +1,7 @@
 -- What an answer says of a counter, as a property of any report: document 02's formula where it is done, and no where it is refused.
-use mathlib.Core.Path.{_≡_}
-use mathlib.Core.Logic.{_≢_}
-use mathlib.Core.Bool.{Bool, false, _&&_, cond}
-use mathlib.Core.List.{List}
-use Prim.Native.Nat.{ℕ, _-_}
-use lib.Dec.{eqb}
-use Rattle.counter.specs.Counter.{lastFour}
-use Rattle.counter.specs.CameRound.{blocksOf, ctrCameRound, gcmCameRound}
-use Rattle.walk.specs.Outcome.{Head, telling}
-use Rattle.gcm.specs.Gcm.{J0}
-use Rattle.cipher_mode.specs.declared.CipherMode.{CipherMode}
-use Rattle.cipher_mode.specs.declared.CipherMode.the-variants.{Cfb, Ofb, Ctr, Cbc, Gcm}
-use Rattle.cipher_mode.specs.declared.Direction.{Direction}
-use Rattle.cipher_mode.specs.declared.Direction.the-variants.{Encrypt, Decrypt}
+use Rattle.demands.specs.Names as N
+use N.{Bool, _&&_, cond, false, List, _≢_, _≡_, _-_, ℕ, eqb, blocksOf, ctrCameRound, gcmCameRound, lastFour, Head, telling, J0, CipherMode}
+use N.{Cbc, Cfb, Ctr, Gcm, Ofb, Direction, Decrypt, Encrypt}
 
 -- the formula by mode, over n bytes of data: of a sealed message the last sixteen are its tag, and the other modes have no counter
 abbrev pub roundOf : CipherMode → Direction → List ℕ → List ℕ → ℕ → Bool

@@ -1,12 +1,7 @@
 -- The question whether a file opens under a job and an edition, as a property of any that is asked so, beside any call that opens
 -- sealed messages.
-use mathlib.Core.Path.{_≡_}
-use mathlib.Core.Logic.{_≢_, _⊎_}
-use mathlib.Core.List.{List}
-use Prim.Native.Nat.{ℕ, _-_, _^_, _≤_, _<_}
-use lib.ListN.{length}
-use Rattle.walk.specs.Outcome.{Head, Outcome}
-use Rattle.label.specs.Label.{labelOf}
+use Rattle.demands.specs.Names as N
+use N.{List, _≢_, _⊎_, _≡_, _-_, _<_, _^_, _≤_, ℕ, length, Head, Outcome, labelOf}
 use Rattle.demands.specs.Call.{Call}
 
 -- a question with its key, by what it answers to a job, an edition, a file and an IV

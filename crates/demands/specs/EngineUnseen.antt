@@ -1,28 +1,10 @@
 -- What the engine must not show. Records, or states, that are alike but for its mark are answered alike by every public call: the same
 -- number and report, the same bytes, and a next state that is alike again.
-use mathlib.Core.Path.{_≡_}
-use mathlib.Core.Bool.{Bool}
-use mathlib.Core.List.{List, map}
-use Prim.Native.Nat.{ℕ}
-use Rattle.cipher_mode.specs.declared.CipherMode.{CipherMode}
-use Rattle.cipher_mode.specs.declared.Direction.{Direction}
-use Rattle.cipher_mode.specs.declared.Sm4Cipher.{Sm4Cipher}
-use Rattle.cipher_mode.specs.Key.{withEngine}
-use Rattle.cipher_mode.specs.Calls.{blockCall, modeCall}
-use Rattle.pieces.specs.declared.ctr.Ctr.{Ctr}
-use Rattle.pieces.specs.declared.seal.Seal.{Seal}
-use Rattle.pieces.specs.Calls.{Stepped, ctrStart, ctrPiece, ctrEnd, sealStart, sealPiece, sealEnd, opensStart}
-use Rattle.editions.specs.Which.{which as asks}
-use Rattle.ranges.specs.declared.plan.Plan.{Plan}
-use Rattle.ranges.specs.Range.{rangeCall}
-use Rattle.ranges.specs.ByPlan.{planCall}
-use Rattle.luossavin.specs.declared.key.LuossavinKey.{LuossavinKey}
-use Rattle.luossavin.specs.declared.journals.LuossavinKeys.{LuossavinKeys}
-use Rattle.luossavin.specs.Key.{hostKeyEngine}
-use Rattle.luossavin.specs.Host.{hostBlockCall, hostModeCall}
-use Rattle.luossavin.specs.InPieces.{hostCtrStart, hostSealStart, hostOpensStart}
-use Rattle.luossavin.specs.Which.{hostWhich}
-use Rattle.luossavin.specs.Ranges.{hostCtrRange, hostCtrByPlan}
+use Rattle.demands.specs.Names as N
+use N.{Bool, List, map, _≡_, ℕ, blockCall, modeCall, withEngine, CipherMode, Direction, Sm4Cipher, Stepped, ctrEnd, ctrPiece, ctrStart}
+use N.{opensStart, sealEnd, sealPiece, sealStart, Ctr·state as Ctr, Seal, which as asks, planCall, rangeCall, Plan, hostBlockCall}
+use N.{hostModeCall, hostCtrStart, hostOpensStart, hostSealStart, hostKeyEngine, hostCtrByPlan, hostCtrRange, hostWhich, LuossavinKeys}
+use N.{LuossavinKey}
 
 -- a record whose engine the library chooses, and all else as it was
 abbrev pub unmarked : Sm4Cipher → Sm4Cipher

@@ -1,14 +1,7 @@
 -- A message in pieces, as properties of any calls on states of a kind S: whatever the cuts are, empty ones too, the pieces give
 -- what the single call gives.
-use mathlib.Core.Path.{_≡_}
-use mathlib.Core.Logic.{_≢_}
-use mathlib.Core.Bool.{true}
-use mathlib.Core.List.{List, [], _∷_, _++_}
-use Prim.Native.Nat.{ℕ, _+_, _≤_}
-use lib.ListN.{length, take}
-use Rattle.walk.specs.Outcome.{Outcome, leaving}
-use Rattle.cipher_mode.specs.Tables.{limit}
-use Rattle.pieces.specs.Calls.{Stepped}
+use Rattle.demands.specs.Names as N
+use N.{true, List, [], _++_, _∷_, _≢_, _≡_, _+_, _≤_, ℕ, length, take, Outcome, leaving, limit, Stepped}
 use Rattle.demands.specs.Answered.{oneOf}
 use Rattle.demands.specs.Call.{Call, result}
 

@@ -1,3 +1,5 @@
+-- what every file below is written with
+pub mod Names
 pub mod Call
 -- demand 1
 pub mod Answered

@@ -1,12 +1,6 @@
 -- Demand 3 as a property of any call that opens sealed messages: one changed block is refused.
-use mathlib.Core.Path.{_≡_}
-use mathlib.Core.Logic.{_≢_, _⊎_}
-use mathlib.Core.List.{List, _++_}
-use Prim.Native.Nat.{ℕ}
-use lib.ListN.{length, replicate}
-use Rattle.block.specs.Below.{AreBytes}
-use Rattle.cipher.specs.Sm4.{encryptBlock}
-use Rattle.ghash.specs.OneBlock.{OneBlock}
+use Rattle.demands.specs.Names as N
+use N.{List, _++_, _≢_, _⊎_, _≡_, ℕ, length, replicate, AreBytes, encryptBlock, OneBlock}
 use Rattle.demands.specs.Call.{Call, RefusedAs}
 
 -- under the round keys rk the all-zero block is not encrypted to itself

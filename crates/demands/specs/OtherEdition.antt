@@ -1,10 +1,6 @@
 -- What the demands were for, as a property of any call that opens sealed messages.
-use mathlib.Core.Path.{_≡_}
-use mathlib.Core.Logic.{_≢_, _⊎_}
-use mathlib.Core.List.{List}
-use Prim.Native.Nat.{ℕ, _^_, _<_}
-use lib.ListN.{length}
-use Rattle.label.specs.Label.{labelOf}
+use Rattle.demands.specs.Names as N
+use N.{List, _≢_, _⊎_, _≡_, _<_, _^_, ℕ, length, labelOf}
 use Rattle.demands.specs.Call.{Call, RefusedAs}
 
 -- A file that opens under one job and edition is refused as 4 under another job or another edition, under the same IV and

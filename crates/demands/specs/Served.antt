@@ -1,15 +1,6 @@
 -- Whoever asks in order is served, as a property of any calls: a library that refuses everything does not have it.
-use mathlib.Core.Path.{_≡_}
-use mathlib.Core.Logic.{_⊎_}
-use mathlib.Core.List.{List}
-use Prim.Native.Nat.{ℕ, _≤_}
-use lib.ListN.{length}
-use Rattle.block.specs.Below.{AreBytes}
-use Rattle.walk.specs.Outcome.{Outcome}
-use Rattle.cipher_mode.specs.declared.CipherMode.{CipherMode}
-use Rattle.cipher_mode.specs.declared.CipherMode.the-variants.{Gcm}
-use Rattle.cipher_mode.specs.declared.Direction.the-variants.{Encrypt, Decrypt}
-use Rattle.cipher_mode.specs.Tables.{limit, roomOf}
+use Rattle.demands.specs.Names as N
+use N.{List, _⊎_, _≡_, _≤_, ℕ, length, AreBytes, Outcome, limit, roomOf, CipherMode, Gcm, Decrypt, Encrypt}
 use Rattle.demands.specs.Call.{Call, result}
 
 -- the call answered 0 with n bytes

@@ -1,15 +1,6 @@
 -- Demand 2 as a property of any two calls: the second takes back what the first did.
-use mathlib.Core.Path.{_≡_}
-use mathlib.Core.List.{List}
-use Prim.Native.Nat.{ℕ, _≤_}
-use lib.ListN.{length}
-use Rattle.block.specs.Below.{AreBytes}
-use Rattle.walk.specs.Outcome.{Outcome}
-use Rattle.cipher_mode.specs.declared.CipherMode.{CipherMode}
-use Rattle.cipher_mode.specs.declared.CipherMode.the-variants.{Cbc}
-use Rattle.cipher_mode.specs.declared.Direction.the-variants.{Encrypt, Decrypt}
-use Rattle.cipher_mode.specs.Tables.{limit, roomOf}
-use Rattle.luossavin.specs.declared.key.LuossavinKey.{LuossavinKey}
+use Rattle.demands.specs.Names as N
+use N.{List, _≡_, _≤_, ℕ, length, AreBytes, Outcome, limit, roomOf, CipherMode, Cbc, Decrypt, Encrypt, LuossavinKey}
 use Rattle.demands.specs.Call.{Call, result}
 
 -- the same key: the same round keys, and set up with the same answer. Its number, its engine and whether it is retired may be others.

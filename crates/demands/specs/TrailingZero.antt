@@ -1,9 +1,6 @@
 -- The trailing zero, as properties of any call that opens sealed messages.
-use mathlib.Core.Path.{_≡_}
-use mathlib.Core.Logic.{_≢_}
-use mathlib.Core.List.{List, [], _∷_, _++_}
-use Prim.Native.Nat.{ℕ, _+_, _%_, _≤_}
-use lib.ListN.{length}
+use Rattle.demands.specs.Names as N
+use N.{List, [], _++_, _∷_, _≢_, _≡_, _%_, _+_, _≤_, ℕ, length}
 use Rattle.demands.specs.Call.{Call, RefusedAs}
 
 -- If a file opens under a label whose length is not divisible by 16, then under that label with one zero byte more, with

@@ -1,13 +1,7 @@
 -- What a 12-byte IV is in Gcm, as a property of any call that seals under the round keys rk: SP 800-38D's J0 is the IV and
 -- then 00000001, and the text's first counter the IV and then 00000002. The IV is neither padded nor hashed.
-use mathlib.Core.Path.{_≡_}
-use mathlib.Core.List.{List, [], _∷_, _++_}
-use Prim.Native.Nat.{ℕ}
-use lib.ListN.{length}
-use Rattle.walk.specs.Walk.{chain}
-use Rattle.stream.specs.Stream.{streamMode}
-use Rattle.stream.specs.declared.Kind.the-variants.{Gctr}
-use Rattle.gcm.specs.Gcm.{hashKey, tagOf}
+use Rattle.demands.specs.Names as N
+use N.{List, [], _++_, _∷_, _≡_, ℕ, length, chain, streamMode, Gctr, hashKey, tagOf}
 use Rattle.demands.specs.Call.{Call, result}
 
 -- an IV, and then a number below 256 in four bytes

@@ -1,14 +1,6 @@
 -- Which of many labels a file opens under, as a property of what a host is told beside any call that opens sealed messages.
-use mathlib.Core.Path.{_≡_}
-use mathlib.Core.Logic.{_≢_, _⊎_}
-use mathlib.Core.Bool.{true, false}
-use mathlib.Core.List.{List}
-use Prim.Native.Nat.{ℕ, _+_, _≤_, _<_}
-use lib.ListN.{length, take, drop}
-use Rattle.walk.specs.Outcome.{refusal}
-use Rattle.editions.specs.Candidates.{badList, labelAt}
-use Rattle.editions.specs.Which.{noneWith}
-use Rattle.luossavin.specs.Which.{Told, toldOf}
+use Rattle.demands.specs.Names as N
+use N.{false, true, List, _≢_, _⊎_, _≡_, _+_, _<_, _≤_, ℕ, drop, length, take, refusal, badList, labelAt, noneWith, Told, toldOf}
 use Rattle.demands.specs.Call.{Call}
 
 -- the call answers n to candidate i

@@ -1,21 +1,8 @@
 -- Which number a call answers: for each call document 01's conditions, a row each, in the order in which they are asked.
-use mathlib.Core.Path.{_≡_}
-use mathlib.Core.Logic.{_⊎_}
-use mathlib.Core.Bool.{Bool, true, false, not, cond, _&&_, _||_}
-use mathlib.Core.List.{List, [], _∷_, _++_, map}
-use Prim.Native.Nat.{ℕ, _-_, _%_}
-use lib.Dec.{eqb, ltb}
-use lib.ListN.{length}
-use Rattle.walk.specs.Outcome.{Head}
-use Rattle.cbc.specs.Open.{lastByte, namesPadding, allPadding, cbcText}
-use Rattle.gcm.specs.Gcm.{hashKey, J0, opensUnder}
-use Rattle.cipher_mode.specs.declared.CipherMode.{CipherMode}
-use Rattle.cipher_mode.specs.declared.CipherMode.the-variants.{Cfb, Ofb, Ctr, Cbc, Gcm}
-use Rattle.cipher_mode.specs.declared.Direction.{Direction}
-use Rattle.cipher_mode.specs.declared.Direction.the-variants.{Encrypt, Decrypt}
-use Rattle.cipher_mode.specs.Tables.{limit, sealedLimit, limitOf, roomOf, modeOf}
-use Rattle.editions.specs.Candidates.{badList, anyTooLong}
-use Rattle.luossavin.specs.declared.key.LuossavinKey.{LuossavinKey}
+use Rattle.demands.specs.Names as N
+use N.{Bool, _&&_, _||_, cond, false, not, true, List, [], _++_, _∷_, map, _⊎_, _≡_, _%_, _-_, ℕ, eqb, ltb, length, Head, allPadding}
+use N.{cbcText, lastByte, namesPadding, J0, hashKey, opensUnder, limit, limitOf, modeOf, roomOf, sealedLimit, CipherMode, Cbc, Cfb, Ctr}
+use N.{Gcm, Ofb, Direction, Decrypt, Encrypt, anyTooLong, badList, LuossavinKey}
 
 -- what a call says of a refusal: its number, and how many bytes were missing
 pub record Said : Type 0 where

@@ -1,20 +1,8 @@
 -- Which number a call on a message in pieces answers: for each call the conditions, a row each, in the order in which they are
 -- asked, for every value of a state.
-use mathlib.Core.Bool.{Bool, not, _&&_}
-use mathlib.Core.List.{List, [], _∷_, _++_}
-use Prim.Native.Nat.{ℕ, _+_, _-_, _%_}
-use lib.Dec.{eqb, ltb}
-use lib.ListN.{length}
-use Rattle.block.specs.Same.{same}
-use Rattle.block.specs.Xor.{xors}
-use Rattle.cipher_mode.specs.declared.Direction.{Direction}
-use Rattle.cipher_mode.specs.Tables.{limit}
-use Rattle.pieces.specs.declared.ctr.Ctr.{Ctr}
-use Rattle.pieces.specs.declared.opens.Opens.{Opens}
-use Rattle.pieces.specs.declared.seal.Seal.{Seal}
-use Rattle.pieces.specs.Hashing.{hashEnd}
-use Rattle.luossavin.specs.declared.key.LuossavinKey.{LuossavinKey}
-use Rattle.luossavin.specs.InPieces.{directionOf}
+use Rattle.demands.specs.Names as N
+use N.{Bool, _&&_, not, List, [], _++_, _∷_, _%_, _+_, _-_, ℕ, eqb, ltb, length, same, xors, limit, Direction, hashEnd, Ctr·state as Ctr}
+use N.{Opens, Seal, directionOf, LuossavinKey}
 use Rattle.demands.specs.WhichNumber.{Row, row, keyRows, retiredRows}
 
 -- the exported starts
