@@ -1,67 +1,54 @@
 -- Ranges and plans, as a host is handed them: which number each call answers, and that nothing is said of a counter.
 -- Assumes nothing.
 use Rattle.demands.specs.Names as N
-use N.{Bool, _||_, cond, false, not, true, List, [], _∷_, _∙_, _≡_, ap, refl, _+_, ℕ, eqb, ltb, length, Outcome, done, refuseAs, chain}
-use N.{streamMode, Ctr·kind, keyAndIv, keyNumber, limit, Ctr, Direction, NoRoom, TooLong, WrongIv, Passed, planCall, accepts, planOf}
-use N.{planned, without, rangeCall, rangeCheck, reachCheck, stretch, BadWorkers, Made, TooLong·made, Plan, Planned, directionOf, cipherIn}
-use N.{hostCtrByPlan, hostCtrRange, hostPlanMake, makingHead, LuossavinKey}
+use N.{Bool, _||_, cond, false, not, true, List, [], _∷_, _∙_, _≡_, ap, refl, ℕ, eqb, ltb, length, Outcome, done, refuseAs, chain}
+use N.{streamMode, Ctr·kind, keyAndIv, keyNumber, limit, Direction, Checked, planCall, accepts, planOf, planned, without, rangeCall}
+use N.{rangeCheck, reachCheck, BadWorkers, Made, TooLong·made, Plan, Planned, directionOf, cipherIn, keyAnswerOf, hostCtrByPlan}
+use N.{hostCtrRange, hostPlanMake, makingHead, LuossavinKey}
 use Rattle.demands.specs.CameRound.{Says}
-use Rattle.demands.specs.WhichNumber.{Said, saidIn, only, row, firstOf, keyRows, retiredRows}
+use Rattle.demands.specs.WhichNumber.{isRetired, Said, saidIn, only, row, firstOf}
 use Rattle.demands.specs.Workers.{rangeRows, planRows, makeRows}
 use Rattle.demands.proofs.CameRound.{quiet, on-key, behind as says-behind}
-use Rattle.demands.proofs.WhichNumber.{orElse, first-append, behind, from-key, number-checked, number-front, number-refuse}
-use Rattle.demands.proofs.WhichNumber.{number-then}
-
--- key, IV, mark and the end of the stretch, n being what comes next
-reach-said : (k : LuossavinKey) (dir : Direction) (iv : List ℕ) (end : ℕ) (n : Said)
-    → behind (reachCheck (cipherIn k .answer) (cipherIn k .retired) dir (length iv) end) n
-    ≡ orElse (keyRows k) (cond (not (eqb (length iv) 16)) (only 10) (orElse (retiredRows dir k) (cond (ltb limit end) (only 5) n)))
-unfolding reachCheck keyAndIv behind orElse
-reach-said k dir iv end n =
-    let wrong = not (eqb (length iv) 16) in
-    number-then (keyAndIv (cipherIn k .answer) (cipherIn k .retired) dir Ctr (length iv)) _ n
-    ∙ from-key dir k wrong WrongIv _
-    ∙ ap {B = Said} (λ (s : Said). orElse (keyRows k) (cond wrong (only 10) (orElse (retiredRows dir k) s)))
-    (number-refuse (ltb limit end) TooLong Passed n)
+use Rattle.demands.proofs.WhichNumber.{behind, said·laws, checked-said, front-said}
 
 -- A range says what the first condition says that holds: key, IV, where it encrypts whether the key is retired, the end of the stretch, the
 -- room.
+module _ (k : LuossavinKey) (iv d o : List ℕ) where
+  abbrev ranging : Direction → ℕ → Checked
+  ranging dir offset = rangeCheck (keyAnswerOf (k .answer)) (isRetired k) dir (length iv) offset (length d) (length o)
+
+  range-said : (decrypt : Bool) (offset : ℕ) → behind (ranging (directionOf decrypt) offset) (only 0) ≡ firstOf (rangeRows k decrypt iv offset d o)
+  unfolding rangeCheck reachCheck keyAndIv
+  range-said true offset = simp said·laws
+  range-said false offset = simp said·laws
+
+  -- work by a plan the same, with the plan between the length and the room
+  abbrev reaching : Direction → Checked
+  reaching dir = reachCheck (keyAnswerOf (k .answer)) (isRetired k) dir (length iv) (length d)
+
+  plan-said : (decrypt : Bool) (plan : Plan)
+      → behind (reaching (directionOf decrypt))
+      (cond (not (accepts plan (length d))) (only 18) (cond (ltb (length o) (length d)) (only 6) (only 0)))
+      ≡ firstOf (planRows k decrypt iv plan d o)
+  unfolding reachCheck keyAndIv
+  plan-said true plan = simp said·laws
+  plan-said false plan = simp said·laws
+
 pub exported-range-number : (k : LuossavinKey) (decrypt : Bool) (iv : List ℕ) (offset : ℕ) (d o : List ℕ)
     → saidIn (hostCtrRange k decrypt iv offset d o .head) ≡ firstOf (rangeRows k decrypt iv offset d o)
-unfolding hostCtrRange rangeCall rangeCheck orElse behind
+unfolding hostCtrRange rangeCall cipherIn
 exported-range-number k decrypt iv offset d o =
-    let c = cipherIn k in
-    let dir = directionOf decrypt in
-    let long = ltb limit (offset + length d) in
-    let short = ltb (length o) (length d) in
-    let wrong = not (eqb (length iv) 16) in
-    number-checked (rangeCheck (c .answer) (c .retired) dir (length iv) offset (length d) (length o)) o
-    (done (stretch (c .rk) iv offset d) o)
-    ∙ number-then (reachCheck (c .answer) (c .retired) dir (length iv) (offset + length d)) _ (only 0)
-    ∙ ap {B = Said} (behind (reachCheck (c .answer) (c .retired) dir (length iv) (offset + length d)))
-    (number-refuse short NoRoom Passed (only 0))
-    ∙ reach-said k dir iv (offset + length d) _
-    ∙ ap {B = Said} (λ (s : Said). orElse (keyRows k) (cond wrong (only 10) s))
-    (first-append (retiredRows dir k) (row long 5 ∷ row short 6 ∷ []))
+    checked-said (ranging k iv d o (directionOf decrypt) offset) o _ _ (range-said k iv d o decrypt offset)
 
--- Work by a plan the same, with the plan between the length and the room.
 pub exported-plan-number : (k : LuossavinKey) (decrypt : Bool) (iv : List ℕ) (plan : Plan) (d o : List ℕ)
     → saidIn (hostCtrByPlan k decrypt iv plan d o .head) ≡ firstOf (planRows k decrypt iv plan d o)
-unfolding hostCtrByPlan planCall orElse behind
+unfolding hostCtrByPlan planCall cipherIn
 exported-plan-number k decrypt iv plan d o =
-    let c = cipherIn k in
-    let dir = directionOf decrypt in
-    let long = ltb limit (length d) in
-    let bad = not (accepts plan (length d)) in
-    let short = ltb (length o) (length d) in
-    let wrong = not (eqb (length iv) 16) in
-    let result = done (chain (streamMode Ctr·kind (c .rk)) iv d) o in
-    number-checked (reachCheck (c .answer) (c .retired) dir (length iv) (length d)) o (refuseAs bad 18 o (refuseAs short 6 o result))
-    ∙ ap {B = Said} (behind (reachCheck (c .answer) (c .retired) dir (length iv) (length d)))
-    (number-front bad 18 o (refuseAs short 6 o result) ∙ ap {B = Said} (cond bad (only 18)) (number-front short 6 o result))
-    ∙ reach-said k dir iv (length d) _
-    ∙ ap {B = Said} (λ (s : Said). orElse (keyRows k) (cond wrong (only 10) s))
-    (first-append (retiredRows dir k) (row long 5 ∷ row bad 18 ∷ row short 6 ∷ []))
+    let check = reaching k iv d o (directionOf decrypt) in
+    checked-said check o _ _
+    (ap {B = Said} (behind check)
+    (front-said (not (accepts plan (length d))) 18 o _ _ (front-said (ltb (length o) (length d)) 6 o _ (only 0) refl))
+    ∙ plan-said k iv d o decrypt plan)
 
 -- The planner says 17 for a count of workers outside 1 to 64, and then 5.
 made-said : (bad long : Bool) (x : Planned)

@@ -93,32 +93,36 @@ whichRows k file iv labels lengths =
     ∷ record { holds = ltb (length file) 16; says = record { number = 9; missing = 16 - length file } }
     ∷ [])
 
--- the exported encryption of a message
-abbrev pub encryptRows : ℕ → LuossavinKey → List ℕ → List ℕ → List ℕ → List ℕ → List Row
-encryptRows mode k label d iv o =
-    row (ltb 4 mode) 7
-    ∷ keyRows k
-    ++ (row (not (eqb (length iv) 16) && not (isGcm (modeOf mode) && eqb (length iv) 12)) 10
+-- the exported encryption of a message, and what it asks in its mode
+abbrev pub encryptRowsIn : CipherMode → LuossavinKey → List ℕ → List ℕ → List ℕ → List ℕ → List Row
+encryptRowsIn m k label d iv o =
+    keyRows k
+    ++ (row (not (eqb (length iv) 16) && not (isGcm m && eqb (length iv) 12)) 10
     ∷ retiredRows Encrypt k
-    ++ (row (isGcm (modeOf mode) && ltb limit (length label)) 5
+    ++ (row (isGcm m && ltb limit (length label)) 5
     ∷ row (ltb limit (length d)) 5
-    ∷ row (ltb (length o) (roomOf (modeOf mode) Encrypt (length d))) 6
+    ∷ row (ltb (length o) (roomOf m Encrypt (length d))) 6
     ∷ []))
 
--- the exported decryption of a message
-abbrev pub decryptRows : ℕ → LuossavinKey → List ℕ → List ℕ → List ℕ → List ℕ → List Row
-decryptRows mode k label d iv o =
+abbrev pub encryptRows : ℕ → LuossavinKey → List ℕ → List ℕ → List ℕ → List ℕ → List Row
+encryptRows mode k label d iv o = row (ltb 4 mode) 7 ∷ encryptRowsIn (modeOf mode) k label d iv o
+
+-- the exported decryption of a message, likewise
+abbrev pub decryptRowsIn : CipherMode → LuossavinKey → List ℕ → List ℕ → List ℕ → List ℕ → List Row
+decryptRowsIn m k label d iv o =
     let rk = k .«round_keys» in
-    row (ltb 4 mode) 7
-    ∷ keyRows k
-    ++ (row (not (eqb (length iv) 16) && not (isGcm (modeOf mode) && eqb (length iv) 12)) 10
-    ∷ row (isGcm (modeOf mode) && ltb limit (length label)) 5
-    ∷ row (ltb (limitOf Decrypt (modeOf mode)) (length d)) 5
-    ∷ row (isCbc (modeOf mode) && eqb (length d) 0) 8
-    ∷ row (isCbc (modeOf mode) && not (eqb (length d % 16) 0)) 2
-    ∷ record { holds = isGcm (modeOf mode) && ltb (length d) 16; says = record { number = 9; missing = 16 - length d } }
-    ∷ row (ltb (length o) (roomOf (modeOf mode) Decrypt (length d))) 6
-    ∷ row (isCbc (modeOf mode) && not (namesPadding (lastByte (cbcText rk iv d)))) 3
-    ∷ row (isCbc (modeOf mode) && not (allPadding (cbcText rk iv d))) 15
-    ∷ row (isGcm (modeOf mode) && not (opensUnder rk (hashKey rk) (J0 rk iv) label d)) 4
+    keyRows k
+    ++ (row (not (eqb (length iv) 16) && not (isGcm m && eqb (length iv) 12)) 10
+    ∷ row (isGcm m && ltb limit (length label)) 5
+    ∷ row (ltb (limitOf Decrypt m) (length d)) 5
+    ∷ row (isCbc m && eqb (length d) 0) 8
+    ∷ row (isCbc m && not (eqb (length d % 16) 0)) 2
+    ∷ record { holds = isGcm m && ltb (length d) 16; says = record { number = 9; missing = 16 - length d } }
+    ∷ row (ltb (length o) (roomOf m Decrypt (length d))) 6
+    ∷ row (isCbc m && not (namesPadding (lastByte (cbcText rk iv d)))) 3
+    ∷ row (isCbc m && not (allPadding (cbcText rk iv d))) 15
+    ∷ row (isGcm m && not (opensUnder rk (hashKey rk) (J0 rk iv) label d)) 4
     ∷ [])
+
+abbrev pub decryptRows : ℕ → LuossavinKey → List ℕ → List ℕ → List ℕ → List ℕ → List Row
+decryptRows mode k label d iv o = row (ltb 4 mode) 7 ∷ decryptRowsIn (modeOf mode) k label d iv o
