@@ -29,7 +29,7 @@ yes-or-no false b = refl
 
 -- what a mark says
 module _ (mark : ℕ) (s : Said) where
-  abbrev marked : Said
+  abbrev pub marked : Said
   marked =
       cond (eqb mark 1) (only 1)
       (cond (eqb mark 5) (only 5)
@@ -40,7 +40,7 @@ module _ (mark : ℕ) (s : Said) where
   stands-by true e = let z = eqb-true mark 0 e in rw z
   stands-by false e = rw e (simp said·laws)
 
-  said-standing : behind (standing mark) s ≡ marked
+  pub said-standing : behind (standing mark) s ≡ marked
   said-standing = stands-by (eqb mark 0) refl
 
 -- Every piece and every end says what the first condition says that holds: what the state stands at, the lengths, the tag's

@@ -53,7 +53,7 @@ pub use Rattle.gcm.specs.declared.Opened.the-variants.{Done as Gcm·Done, Inval
 pub use Rattle.cipher_mode.specs.Answer.{endingHead, headOf, outcome, refusalHead}
 pub use Rattle.cipher_mode.specs.Calls.{blockOf, cfbKind, gcmResult, gcmRound, lengthsOf, modeResult}
 unfoldable pub use Rattle.cipher_mode.specs.Calls.{blockCall, modeCall}
-pub use Rattle.cipher_mode.specs.Checks.{andThen, checked, keyCheck, labelCheck, refuse, retiredCheck, shapeCheck, wrongIv}
+pub use Rattle.cipher_mode.specs.Checks.{andThen, checked, keyCheck, labelCheck, refuse, retiredCheck, wrongIv}
 unfoldable pub use Rattle.cipher_mode.specs.Checks.{blockCheck, dataCheck, keyAndIv, messageCheck, roomCheck}
 pub use Rattle.cipher_mode.specs.Key.{keyHead, keyNumber, noCipher, wrongNumber}
 unfoldable pub use Rattle.cipher_mode.specs.Key.{newCipher, newCipherMode, retire, withEngine}
