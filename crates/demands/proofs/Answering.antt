@@ -10,12 +10,15 @@ use Rattle.cipher_mode.proofs.Refusals.{refuses}
 use Rattle.demands.specs.Answered.{oneOf, Answered}
 use Rattle.demands.specs.WhichNumber.{Said, Row, firstOf}
 
--- the ending of a head, by its number: 7 is none of an ending
+-- the ending of a head, by its number, its size and what was missing: 7 is none of an ending
+abbrev pub endingAt : ℕ → ℕ → ℕ → Ending
+endingAt number size missing =
+    getD (Done size ∷ map Refused·ending
+    (ErrorBlockSize ∷ ErrorDataLen ∷ Refusal·LastU8 ∷ Refusal·Tag ∷ TooLong ∷ NoRoom ∷ NoRoom ∷ EmptyCbc ∷ ShortGcm missing ∷ WrongIv
+    ∷ WrongBlock ∷ Ended ∷ WrongNumber ∷ Retired ∷ Refusal·Padding ∷ [])) number (Done 0)
+
 abbrev pub endingOf : Head → Ending
-endingOf h =
-    getD (Done (h .size) ∷ map Refused·ending
-    (ErrorBlockSize ∷ ErrorDataLen ∷ Refusal·LastU8 ∷ Refusal·Tag ∷ TooLong ∷ NoRoom ∷ NoRoom ∷ EmptyCbc ∷ ShortGcm (h .missing) ∷ WrongIv
-    ∷ WrongBlock ∷ Ended ∷ WrongNumber ∷ Retired ∷ Refusal·Padding ∷ [])) (h .number) (Done 0)
+endingOf h = endingAt (h .number) (h .size) (h .missing)
 
 -- every refusal is told back by what it spells, and only 9 says that bytes were missing
 pub spelled : (r : Refusal)

@@ -1,14 +1,11 @@
--- Ranges and plans, as a host is handed them: which number each call answers, and that nothing is said of a counter.
+-- Ranges and plans, as a host is handed them: which number each call answers.
 -- Assumes nothing.
 use Rattle.demands.specs.Names as N
-use N.{Bool, _||_, cond, false, not, true, List, [], _∷_, _∙_, _≡_, ap, refl, ℕ, eqb, ltb, length, Outcome, done, refuseAs, chain}
-use N.{streamMode, Ctr·kind, keyAndIv, keyNumber, limit, Direction, Checked, planCall, accepts, planOf, planned, without, rangeCall}
-use N.{rangeCheck, reachCheck, BadWorkers, Made, TooLong·made, Plan, Planned, directionOf, cipherIn, keyAnswerOf, hostCtrByPlan}
-use N.{hostCtrRange, hostPlanMake, makingHead, LuossavinKey}
-use Rattle.demands.specs.CameRound.{Says}
+use N.{Bool, _||_, cond, false, not, true, List, [], _∷_, _∙_, _≡_, ap, refl, ℕ, eqb, ltb, length, keyAndIv, limit, Direction, Checked}
+use N.{planCall, accepts, planOf, planned, without, rangeCall, rangeCheck, reachCheck, BadWorkers, Made, TooLong·made, Plan, Planned}
+use N.{directionOf, cipherIn, keyAnswerOf, hostCtrByPlan, hostCtrRange, hostPlanMake, makingHead, LuossavinKey}
 use Rattle.demands.specs.WhichNumber.{isRetired, Said, saidIn, only, row, firstOf}
 use Rattle.demands.specs.Workers.{rangeRows, planRows, makeRows}
-use Rattle.demands.proofs.CameRound.{quiet, on-key, behind as says-behind}
 use Rattle.demands.proofs.WhichNumber.{behind, said·laws, checked-said, front-said}
 
 -- A range says what the first condition says that holds: key, IV, where it encrypts whether the key is retired, the end of the stretch, the
@@ -63,27 +60,3 @@ pub exported-make-number : (n workers : ℕ) → saidIn (hostPlanMake n workers 
 unfolding hostPlanMake planned
 exported-make-number n workers =
     made-said (eqb workers 0 || ltb 64 workers) (ltb limit n) (record { making = Made; plan = planOf n workers }) refl
-
--- Nothing is said of a counter.
-gated : (t : Bool) (n : ℕ) (o : List ℕ) (next : Outcome) → next .head .cameRound ≡ 0 → refuseAs t n o next .head .cameRound ≡ 0
-gated true n o next e = refl
-gated false n o next e = e
-
-pub exported-range-says : (k : LuossavinKey) (decrypt : Bool) (iv : List ℕ) (offset : ℕ) (d o : List ℕ)
-    → Says false (hostCtrRange k decrypt iv offset d o .head)
-unfolding hostCtrRange rangeCall
-exported-range-says k decrypt iv offset d o =
-    let c = cipherIn k in
-    on-key false (keyNumber c) _
-    (says-behind false (rangeCheck (c .answer) (c .retired) (directionOf decrypt) (length iv) offset (length d) (length o)) o _
-    (quiet _ refl))
-
-pub exported-plan-says : (k : LuossavinKey) (decrypt : Bool) (iv : List ℕ) (plan : Plan) (d o : List ℕ)
-    → Says false (hostCtrByPlan k decrypt iv plan d o .head)
-unfolding hostCtrByPlan planCall
-exported-plan-says k decrypt iv plan d o =
-    let c = cipherIn k in
-    let result = done (chain (streamMode Ctr·kind (c .rk)) iv d) o in
-    on-key false (keyNumber c) _
-    (says-behind false (reachCheck (c .answer) (c .retired) (directionOf decrypt) (length iv) (length d)) o _
-    (quiet _ (gated (not (accepts plan (length d))) 18 o _ (gated (ltb (length o) (length d)) 6 o result refl))))
