@@ -35,7 +35,7 @@ use Rattle.demands.specs.Workers.{ctrCall, StretchOfWhole, Applying, app
 use Rattle.demands.proofs.Through.{through, leaves}
 use Rattle.demands.proofs.ModesBack.{encrypted}
 use Rattle.demands.proofs.ThereAndBack.{set-up-same-key}
-use Rattle.demands.proofs.Served.{exported-served}
+use Rattle.demands.proofs.Served.{served}
 use Rattle.demands.proofs.OtherHash.{gcm-opens}
 use Rattle.demands.proofs.OtherEdition.{short-label-refused}
 use Rattle.demands.proofs.ZeroCipher.{zero-block, block-of-one, zero-key-moves}
@@ -71,7 +71,7 @@ pub refusing-all-breaks-demand-2 : (mode : ℕ) (k : LuossavinKey) → mode ≤ 
     → ¬ ThereAndBack (λ (n : ℕ) (o : List ℕ). room n ≤ length o) (hostModeCall Encrypt mode k) refusesAll
 refusing-all-breaks-demand-2 mode k h a u room back =
     let same : SameKey k k = record { keys = refl; answer = refl } in
-    let e = exported-served mode k k h a u same .sealing [] [] zeros zeros (nothing-asked (modeOf mode)) .number in
+    let e = served mode k h a u k same .sealing [] [] zeros zeros (nothing-asked (modeOf mode)) .number in
     let n = room (hostModeCall Encrypt mode k [] [] zeros zeros .head .size) in
     let r = back [] [] zeros zeros (replicate n 0) tt zeros-bytes e (le-of-eq (sym (length-replicate n 0))) in
     absurd (omega (arith, r .number))
@@ -229,7 +229,7 @@ unfolding modeOf hostKeyNew keyOf newCipher
 number-in-label-contradicts claim =
     let later = hostKeyNew zeros 2 in
     let same = set-up-same-key zeros 1 2 refl (omega arith) (omega arith) (omega arith) (omega arith) in
-    let s = exported-served 4 zeroKey later (omega arith) refl refl same in
+    let s = served 4 zeroKey (omega arith) refl refl later same in
     let asked : Asks Gcm (1 ∷ []) [] zeros zeros =
     record { iv-size = inl refl; label-fits = λ _. omega arith; data-fits = omega arith; room = omega arith } in
     let sealed = s .sealing (1 ∷ []) [] zeros zeros asked in
@@ -288,7 +288,7 @@ counting-from-one-is-told k a u claim =
     let c = cipherIn k in
     let same : SameKey k k = record { keys = refl; answer = refl } in
     let file = result (hostModeCall Encrypt 4 k [] [] zeros zeros) in
-    let s = exported-served 4 k k (omega arith) a u same in
+    let s = served 4 k (omega arith) a u k same in
     let back = s .opening [] [] zeros zeros zeros (nothing-asked Gcm) tt zeros-bytes (omega arith) .number in
     let p = through Decrypt (inGcm c) [] file zeros zeros back in
     let asked : Asked c file zeros [] (0 ∷ []) =

@@ -1,9 +1,10 @@
 -- What a call that answered 0 had in order, and what a call leaves that has all in order.
 -- Assumes nothing.
 use Rattle.demands.specs.Names as N
-use N.{Bool, List, _≡_, ap, refl, sym, ℕ, length, take-append-seam, eq-eqb, le-ltb, Outcome, done, keyed, refused, blockCall, blockOf}
-use N.{lengthsOf, modeCall, modeResult, blockCheck, checked, keyAndIv, messageCheck, roomCheck, keyNumber, roomOf, CipherMode, Direction}
-use N.{KeyAnswer, Sm4Cipher, Sm4CipherMode, Checked, Passed, Refused, Lengths, begun}
+use N.{Bool, false, true, List, _≡_, ap, refl, sym, ℕ, arith, ltb, length, take-append-seam, eq-eqb, le-ltb, Outcome, done, keyed, refuseAs}
+use N.{refused, blockCall, blockOf, lengthsOf, modeCall, modeResult, blockCheck, checked, keyAndIv, messageCheck, roomCheck, keyNumber}
+use N.{modeOf, roomOf, CipherMode, Direction, KeyAnswer, Sm4Cipher, Sm4CipherMode, Checked, Passed, Refused, Lengths, begun, hostModeCall}
+use N.{modeIn, cipherIn, LuossavinKey}
 use Rattle.cipher_mode.proofs.Passed.{InOrder, BlockInOrder, message-passed, block-passed}
 use Rattle.cipher_mode.proofs.Ends.{went-on}
 use Rattle.cipher_mode.proofs.Refusals.{refuses}
@@ -67,3 +68,21 @@ module _ (dir : Direction) (m : Sm4CipherMode) (aad d iv o : List ℕ) where
       let next = modeResult (m .mode) dir (m .cipher .rk) aad d iv o in
       let k = messageCheck (m .cipher .answer) (m .cipher .retired) dir (m .mode) (lengthsOf aad d iv o) in
       ap {B = Outcome} (keyed (keyNumber (m .cipher))) (sym (went-on k o next next (in-order _ _ _ _ _ p) refl))
+
+-- and an exported call: a mode number above 4 is refused before all else
+module _ (dir : Direction) (mode : ℕ) (k : LuossavinKey) (aad d iv o : List ℕ) where
+  abbrev pub Ready : Type 0
+  Ready = (ltb 4 mode ≡ false) × InOrder (cipherIn k .answer) (cipherIn k .retired) dir (modeOf mode) (lengthsOf aad d iv o)
+
+  ready-by : (t : Bool) → ltb 4 mode ≡ t → refuseAs t 7 o (modeCall dir (modeIn k mode) aad d iv o) .head .number ≡ 0 → Ready
+  ready-by true f e = absurd (omega arith)
+  ready-by false f e = (f, through dir (modeIn k mode) aad d iv o e)
+
+  pub host-through : hostModeCall dir mode k aad d iv o .head .number ≡ 0 → Ready
+  unfolding hostModeCall
+  host-through e = ready-by (ltb 4 mode) refl e
+
+  pub host-leaves : Ready → hostModeCall dir mode k aad d iv o
+      ≡ keyed (keyNumber (cipherIn k)) (modeResult (modeOf mode) dir (k .«round_keys») aad d iv o)
+  unfolding hostModeCall cipherIn
+  host-leaves (b, p) = rw b (leaves dir (modeIn k mode) aad d iv o p)

@@ -163,42 +163,14 @@ exported-which-number k file iv labels lengths =
     verdict-said (badList labels lengths) (keyNumber c) (searchCheck (c .answer) (c .retired) (length iv) (length file) lengths) _ _
     (search-number (opensWith c iv file) labels lengths) (simp said·laws)
 
--- one row in front
-one-more : (t : Bool) (r n : Said) (ks : List ℕ) → Among (n .number) (0 ∷ ks) → Among ((cond t r n) .number) (0 ∷ r .number ∷ ks)
-one-more true r n ks a = inr (inl refl)
-one-more false r n ks a = ⊎-elim inl (λ later. inr (inr later)) a
+-- So a call answers 0 or a number of its rows, and nothing else.
+pub no-other-number : (rows : List Row) (s : Said) → s ≡ firstOf rows → Among (s .number) (numbersOf rows)
+no-other-number rows s e = rw e (one-of rows)
+  where
+    one-more : (t : Bool) (r n : Said) (ks : List ℕ) → Among (n .number) (0 ∷ ks) → Among (cond t r n .number) (0 ∷ r .number ∷ ks)
+    one-more true r n ks a = inr (inl refl)
+    one-more false r n ks a = ⊎-elim inl (λ later. inr (inr later)) a
 
--- a list of rows gives 0 or a number of its rows
-one-of : (rows : List Row) → Among (firstOf rows .number) (numbersOf rows)
-one-of [] = inl refl
-one-of (r ∷ rows) = one-more (r .holds) (r .says) (firstOf rows) (map (λ (r : Row). r .says .number) rows) (one-of rows)
-
--- So encrypting one block answers 0, 1, 13, 11, 14 or 6 and nothing else;
-pub exported-block-encryption-numbers : (k : LuossavinKey) (b o : List ℕ)
-    → Among (hostBlockCall Encrypt k b o .head .number) (0 ∷ 1 ∷ 13 ∷ 11 ∷ 14 ∷ 6 ∷ [])
-exported-block-encryption-numbers k b o =
-    rw (ap (λ (s : Said). s .number) (exported-block-number Encrypt k b o)) (one-of (blockRows Encrypt k b o))
-
--- decrypting one 0, 1, 13, 11 or 6;
-pub exported-block-decryption-numbers : (k : LuossavinKey) (b o : List ℕ)
-    → Among (hostBlockCall Decrypt k b o .head .number) (0 ∷ 1 ∷ 13 ∷ 11 ∷ 6 ∷ [])
-exported-block-decryption-numbers k b o =
-    rw (ap (λ (s : Said). s .number) (exported-block-number Decrypt k b o)) (one-of (blockRows Decrypt k b o))
-
--- encryption 0, 7, 1, 13, 10, 14, 5 or 6;
-pub exported-encryption-numbers : (mode : ℕ) (k : LuossavinKey) (label d iv o : List ℕ)
-    → Among (hostModeCall Encrypt mode k label d iv o .head .number) (0 ∷ 7 ∷ 1 ∷ 13 ∷ 10 ∷ 14 ∷ 5 ∷ 5 ∷ 6 ∷ [])
-exported-encryption-numbers mode k label d iv o =
-    rw (ap (λ (s : Said). s .number) (exported-encryption-number mode k label d iv o)) (one-of (encryptRows mode k label d iv o))
-
--- and decryption 0, 7, 1, 13, 10, 5, 8, 2, 9, 6, 3, 15 or 4.
-pub exported-decryption-numbers : (mode : ℕ) (k : LuossavinKey) (label d iv o : List ℕ)
-    → Among (hostModeCall Decrypt mode k label d iv o .head .number) (0 ∷ 7 ∷ 1 ∷ 13 ∷ 10 ∷ 5 ∷ 5 ∷ 8 ∷ 2 ∷ 9 ∷ 6 ∷ 3 ∷ 15 ∷ 4 ∷ [])
-exported-decryption-numbers mode k label d iv o =
-    rw (ap (λ (s : Said). s .number) (exported-decryption-number mode k label d iv o)) (one-of (decryptRows mode k label d iv o))
-
--- The question which of many labels a file opens under answers 0, 16, 1, 13, 10, 5 or 9.
-pub exported-which-numbers : (k : LuossavinKey) (file iv labels lengths : List ℕ)
-    → Among (hostWhich k file iv labels lengths .head .number) (0 ∷ 16 ∷ 1 ∷ 13 ∷ 10 ∷ 5 ∷ 5 ∷ 9 ∷ [])
-exported-which-numbers k file iv labels lengths =
-    rw (ap (λ (s : Said). s .number) (exported-which-number k file iv labels lengths)) (one-of (whichRows k file iv labels lengths))
+    one-of : (rows : List Row) → Among (firstOf rows .number) (numbersOf rows)
+    one-of [] = inl refl
+    one-of (r ∷ rows) = one-more (r .holds) (r .says) (firstOf rows) (map (λ (r : Row). r .says .number) rows) (one-of rows)
