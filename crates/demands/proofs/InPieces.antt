@@ -137,9 +137,12 @@ seal-goes i mark rk label iv hl =
     }
 
 -- Under any record, either way: Ctr in pieces gives the bytes of the single call.
-pub ctr-in-pieces : (dir : Direction) (c : Sm4Cipher)
-    → CtrInPieces Ctr (ctrStart dir c) ctrPiece ctrEnd (modeCall dir (record { cipher = c; mode = Ctr·mode }))
-ctr-in-pieces dir c ps label iv o r e =
+pub ctr-in-pieces : (decrypt : Bool) (k : LuossavinKey)
+    → CtrInPieces Ctr (hostCtrStart k decrypt) ctrPiece ctrEnd (hostModeCall (directionOf decrypt) 2 k)
+unfolding hostCtrStart hostModeCall modeOf
+ctr-in-pieces decrypt k ps label iv o r e =
+    let c = cipherIn k in
+    let dir = directionOf decrypt in
     let rk = c .rk in
     let i = keyNumber c in
     let mark = c .engine in
@@ -163,9 +166,10 @@ ctr-in-pieces dir c ps label iv o r e =
     )
 
 -- Under any record: Gcm sealing in pieces gives the ciphertext and the tag of the single call.
-pub seal-in-pieces : (c : Sm4Cipher) → SealInPieces Seal (sealStart c) sealPiece sealEnd (modeCall Encrypt (inGcm c))
-unfolding sealed
-seal-in-pieces c ps label iv t o r room e =
+pub seal-in-pieces : (k : LuossavinKey) → SealInPieces Seal (hostSealStart k) sealPiece sealEnd (hostModeCall Encrypt 4 k)
+unfolding sealed hostSealStart hostModeCall modeOf
+seal-in-pieces k ps label iv t o r room e =
+    let c = cipherIn k in
     let rk = c .rk in
     let i = keyNumber c in
     let mark = c .engine in
@@ -253,9 +257,10 @@ by-test true b n = (refl, refl)
 by-test false b n = (refl, refl)
 
 -- Under any record: Gcm opening in pieces answers as the single call does.
-pub opens-in-pieces : (c : Sm4Cipher) → OpensInPieces Opens (opensStart c) opensPiece opensEnd (modeCall Decrypt (inGcm c))
-unfolding gcmOpen settled
-opens-in-pieces c cs label iv tag o fits room n e =
+pub opens-in-pieces : (k : LuossavinKey) → OpensInPieces Opens (hostOpensStart k) opensPiece opensEnd (hostModeCall Decrypt 4 k)
+unfolding gcmOpen settled hostOpensStart hostModeCall modeOf
+opens-in-pieces key cs label iv tag o fits room n e =
+    let c = cipherIn key in
     let rk = c .rk in
     let i = keyNumber c in
     let text = joined cs in
@@ -282,17 +287,3 @@ opens-in-pieces c cs label iv tag o fits room n e =
       ap (λ (x : Stepped Opens). x .head .cameRound) end ∙ same .1 ∙ sym (ap (λ (h : Head). h .cameRound) told)
           ∙ sym (ap (λ (x : Outcome). x .head .cameRound) left),
     )
-
--- The same of the exported calls, with mode 2 and with mode 4.
-pub exported-ctr-in-pieces : (decrypt : Bool) (k : LuossavinKey)
-    → CtrInPieces Ctr (hostCtrStart k decrypt) ctrPiece ctrEnd (hostModeCall (directionOf decrypt) 2 k)
-unfolding hostCtrStart hostModeCall modeOf
-exported-ctr-in-pieces decrypt k = ctr-in-pieces (directionOf decrypt) (cipherIn k)
-
-pub exported-seal-in-pieces : (k : LuossavinKey) → SealInPieces Seal (hostSealStart k) sealPiece sealEnd (hostModeCall Encrypt 4 k)
-unfolding hostSealStart hostModeCall modeOf
-exported-seal-in-pieces k = seal-in-pieces (cipherIn k)
-
-pub exported-opens-in-pieces : (k : LuossavinKey) → OpensInPieces Opens (hostOpensStart k) opensPiece opensEnd (hostModeCall Decrypt 4 k)
-unfolding hostOpensStart hostModeCall modeOf
-exported-opens-in-pieces k = opens-in-pieces (cipherIn k)

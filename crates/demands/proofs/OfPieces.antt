@@ -111,9 +111,13 @@ module _ (c : Sm4Cipher) (label d iv o : List ℕ) where
       gcm-in-order c label d iv o (s .key) (s .iv-size)
       (record { label = s .label-fits; longest = long; shortest = short; room = room })
 
-ctr-of : (dir : Direction) (c : Sm4Cipher)
-    → CtrOfPieces Ctr (ctrStart dir c) ctrPiece ctrEnd (modeCall dir (record { cipher = c; mode = Ctr·mode }))
-ctr-of dir c ps label iv o room e z _ =
+-- Where start, pieces and end all answer 0, the exported single call, given room, does too, with the same bytes.
+pub ctr-of-pieces : (decrypt : Bool) (k : LuossavinKey)
+    → CtrOfPieces Ctr (hostCtrStart k decrypt) ctrPiece ctrEnd (hostModeCall (directionOf decrypt) 2 k)
+unfolding hostCtrStart hostModeCall modeOf
+ctr-of-pieces decrypt k ps label iv o room e z _ =
+    let c = cipherIn k in
+    let dir = directionOf decrypt in
     let rk = c .rk in
     let i = keyNumber c in
     let call = onto Ctr ctrPiece in
@@ -125,11 +129,13 @@ ctr-of dir c ps label iv o room e z _ =
     let within = f .0 in
     let left = leaves dir m label (whole ps) iv o (ctr-single dir c label (whole ps) iv o e (omega arith) room) in
     let zero : modeCall dir m label (whole ps) iv o .head .number ≡ 0 = ap (λ (x : Outcome). x .head .number) left in
-    let made = ctr-in-pieces dir c ps label iv o (f .1) zero in
+    let made = ctr-in-pieces decrypt k ps label iv o (f .1) zero in
     (zero, made .1, made .2)
 
-seal-of : (c : Sm4Cipher) → SealOfPieces Seal (sealStart c) sealPiece sealEnd (modeCall Encrypt (inGcm c))
-seal-of c ps label iv t o room e z last =
+pub seal-of-pieces : (k : LuossavinKey) → SealOfPieces Seal (hostSealStart k) sealPiece sealEnd (hostModeCall Encrypt 4 k)
+unfolding hostSealStart hostModeCall modeOf
+seal-of-pieces k ps label iv t o room e z last =
+    let c = cipherIn k in
     let rk = c .rk in
     let i = keyNumber c in
     let call = onto Seal sealPiece in
@@ -146,7 +152,7 @@ seal-of c ps label iv t o room e z last =
     let sixteen = tag-fits i (c .engine) rk label iv (whole ps) t (subst (λ (s : Seal). sealEnd s t .head .number ≡ 0) (w .state) end) in
     let left = leaves Encrypt (inGcm c) label (whole ps) iv o (seal-single c label (whole ps) iv o e (omega arith) room) in
     let zero : modeCall Encrypt (inGcm c) label (whole ps) iv o .head .number ≡ 0 = ap (λ (x : Outcome). x .head .number) left in
-    let made = seal-in-pieces c ps label iv t o (f .1) sixteen zero in
+    let made = seal-in-pieces k ps label iv t o (f .1) sixteen zero in
     (zero, made .1, made .2)
 
 -- pieces of a ciphertext that were all taken are within the limit
@@ -170,8 +176,10 @@ tag-size : (i : ℕ) (rk label iv c tag : List ℕ) → opensEnd (opensAfter i r
 unfolding opensEnd opensAfter
 tag-size i rk label iv c tag e = tagged-passed 0 (length label) (length c) (length tag) (passed-on Opens _ [] _ _ e) .1
 
-opens-of : (c : Sm4Cipher) → OpensOfPieces Opens (opensStart c) opensPiece opensEnd (modeCall Decrypt (inGcm c))
-opens-of c cs label iv tag o room e z last =
+pub opens-of-pieces : (k : LuossavinKey) → OpensOfPieces Opens (hostOpensStart k) opensPiece opensEnd (hostModeCall Decrypt 4 k)
+unfolding hostOpensStart hostModeCall modeOf
+opens-of-pieces key cs label iv tag o room e z last =
+    let c = cipherIn key in
     let rk = c .rk in
     let i = keyNumber c in
     let passed = opens-starts c label iv e in
@@ -183,7 +191,7 @@ opens-of c cs label iv tag o room e z last =
     let end =
     subst (λ (x : Stepped Opens). opensEnd (stateAfter Opens (List ℕ) opensPiece (x .state) cs) tag .head .number ≡ 0) start last in
     let sixteen = tag-size i rk label iv (joined cs) tag (subst (λ (s : Opens). opensEnd s tag .head .number ≡ 0) (k .state) end) in
-    sym (opens-in-pieces c cs label iv tag o (omega arith) room sixteen e .1) ∙ last
+    sym (opens-in-pieces key cs label iv tag o (omega arith) room sixteen e .1) ∙ last
 
 -- A start that is refused: the check of the single call begins with its own.
 refused-alike : (S : Type 0) (k : ℕ) (first all : Checked) (shut : ℕ → S) (s : S) (o : List ℕ) (next : Outcome)
@@ -237,20 +245,6 @@ tag-alone c label tag iv o n e =
     let single = opens-single c label tag iv o e (omega arith) (omega arith) (omega arith) in
     ap (λ (x : Outcome). oneOf (x .head .number) (0 ∷ 4 ∷ [])) (leaves Decrypt (inGcm c) label tag iv o single)
     ∙ opens-or-not (opensUnder rk (hashKey rk) (J0 rk iv) label tag) (length tag - 16)
-
--- Where start, pieces and end all answer 0, the exported single call, given room, does too, with the same bytes.
-pub ctr-of-pieces : (decrypt : Bool) (k : LuossavinKey)
-    → CtrOfPieces Ctr (hostCtrStart k decrypt) ctrPiece ctrEnd (hostModeCall (directionOf decrypt) 2 k)
-unfolding hostCtrStart hostModeCall modeOf
-ctr-of-pieces decrypt k = ctr-of (directionOf decrypt) (cipherIn k)
-
-pub seal-of-pieces : (k : LuossavinKey) → SealOfPieces Seal (hostSealStart k) sealPiece sealEnd (hostModeCall Encrypt 4 k)
-unfolding hostSealStart hostModeCall modeOf
-seal-of-pieces k = seal-of (cipherIn k)
-
-pub opens-of-pieces : (k : LuossavinKey) → OpensOfPieces Opens (hostOpensStart k) opensPiece opensEnd (hostModeCall Decrypt 4 k)
-unfolding hostOpensStart hostModeCall modeOf
-opens-of-pieces k = opens-of (cipherIn k)
 
 -- A start is checked as the exported single call is: of no data, and for an opening of a tag alone.
 pub ctr-checked : (decrypt : Bool) (k : LuossavinKey) (label iv : List ℕ)
