@@ -3,9 +3,9 @@
 use Rattle.demands.specs.Names as N
 use N.{Bool, _&&_, cond, false, not, true, List, [], _∷_, append-nil, inr, _∙_, _≡_, ap, refl, subst, sym, _<_, _^_, _≤_, ℕ, arith, eqb}
 use N.{leb, ltb, drop, length, length-append, length-drop, take, drop-at, eq-eqb, eqb-true, leb-false, leb-true, ltb-false, AreBytes}
-use N.{Decrypt, labelOf, collectCall, findCall, holding, lookedUp, newRecord, nowhere, putCall, putIn, shelfRefuse as refuse, AllProper}
-use N.{Record, records, stored·shelf as stored, written·shelf as written, badShelf, collected, currentOf, fitted, hasCurrent, isCurrentOf}
-use N.{notHigher, placeOf·shelf as placeOf, sizeOf, those, twoCurrent, InOrder, hostModeCall, LuossavinKey}
+use N.{Decrypt, labelOf, Shelf·Outcome as Outcome, collectCall, findCall, holding, lookedUp, newRecord, nowhere, putCall, putIn}
+use N.{shelfRefuse as refuse, AllProper, Record, records, stored·shelf as stored, written·shelf as written, badShelf, collected, currentOf}
+use N.{fitted, hasCurrent, isCurrentOf, notHigher, placeOf·shelf as placeOf, sizeOf, those, twoCurrent, InOrder, hostModeCall, LuossavinKey}
 use Rattle.block.proofs.Entries.{below-take}
 use Rattle.block.proofs.Same.{and-right}
 use Rattle.shelf.proofs.Reading.{written-label, written-sealed}
@@ -19,36 +19,29 @@ use Rattle.demands.specs.Answered.{oneOf}
 use Rattle.demands.specs.Call.{Call}
 use Rattle.demands.specs.OneBlockRefused.{MovesZero}
 use Rattle.demands.specs.OtherEdition.{OtherEditionRefused}
-use Rattle.demands.specs.WhichNumber.{only, row, firstOf}
+use Rattle.demands.specs.WhichNumber.{Said, only, row, firstOf}
 use Rattle.demands.specs.OnTheShelf.{ShelfAnswered, PlaceAnswered, putNumbers, collectNumbers, putRows, collectRows, findRows}
 use Rattle.demands.specs.OnTheShelf.{labelIn, fileIn, OneEditionOpens, NoRoughShown, OfEach}
 use Rattle.demands.proofs.OtherEdition.{other-edition-refused}
+
+-- behind a refusal by number, or what comes next
+refuse-said : (t : Bool) (n used : ℕ) (shelf : List ℕ) (x : Outcome) (s : Said) → only (x .number) ≡ s
+    → only (refuse t n shelf used x .number) ≡ cond t (only n) s
+refuse-said true n used shelf x s e = refl
+refuse-said false n used shelf x s e = e
 
 -- Which number: putting says what the first condition says that holds.
 pub exported-put-number : (shelf : List ℕ) (used job edition : ℕ) (sealed : List ℕ)
     → only (putCall shelf used job edition sealed .number) ≡ firstOf (putRows shelf used job edition sealed)
 unfolding putCall
 exported-put-number shelf used job edition sealed =
-    by-tests (badShelf shelf used) (notHigher job edition (records (take used shelf)))
-    (ltb (length shelf) (length (stored (collected (putIn shelf used job edition sealed))))) where
-      by-tests : (bad low full : Bool)
-          → only
-          (refuse bad 19 shelf used
-          (refuse low 20 shelf used
-          (refuse full 21 shelf used (holding (fitted (length shelf) (putIn shelf used job edition sealed)) shelf))) .number)
-          ≡ firstOf (row bad 19 ∷ row low 20 ∷ row full 21 ∷ [])
-      by-tests true low full = refl
-      by-tests false true full = refl
-      by-tests false false true = refl
-      by-tests false false false = refl
+    refuse-said (badShelf shelf used) 19 used shelf _ _
+    (refuse-said (notHigher job edition (records (take used shelf))) 20 used shelf _ _
+    (refuse-said (ltb (length shelf) (length (stored (collected (putIn shelf used job edition sealed))))) 21 used shelf _ _ refl))
 
 pub exported-collect-number : (shelf : List ℕ) (used : ℕ) → only (collectCall shelf used .number) ≡ firstOf (collectRows shelf used)
 unfolding collectCall
-exported-collect-number shelf used = by-test (badShelf shelf used) where
-  by-test : (bad : Bool)
-      → only (refuse bad 19 shelf used (holding (collected (records (take used shelf))) shelf) .number) ≡ firstOf (row bad 19 ∷ [])
-  by-test true = refl
-  by-test false = refl
+exported-collect-number shelf used = refuse-said (badShelf shelf used) 19 used shelf _ _ refl
 
 pub exported-find-number : (shelf : List ℕ) (used job : ℕ) → only (findCall shelf used job .number) ≡ firstOf (findRows shelf used job)
 unfolding findCall
@@ -65,15 +58,11 @@ exported-find-number shelf used job = by-tests (badShelf shelf used) (hasCurrent
 
 -- Demand 1.
 module _ (numbers : List ℕ) (shelf : List ℕ) (used : ℕ) where
-  refuses : (n : ℕ) → 0 < n → oneOf n numbers ≡ true → ShelfAnswered numbers shelf used (record { number = n; used = used; bytes = shelf })
-  refuses n some within =
-      record {
-        numbered = within;
-        refused = λ _. (refl, refl);
-        fits = λ e. absurd (omega (arith, e, some));
-        past = refl;
-        kept = refl;
-      }
+  refuses : (t : Bool) (n : ℕ) (x : Outcome) → 0 < n → oneOf n numbers ≡ true → (t ≡ false → ShelfAnswered numbers shelf used x)
+      → ShelfAnswered numbers shelf used (refuse t n shelf used x)
+  refuses true n x some within next =
+      record { numbered = within; refused = λ _. (refl, refl); fits = λ e. absurd (omega (arith, e, some)); past = refl; kept = refl }
+  refuses false n x some within next = next refl
 
   holds : (rs : List Record) → oneOf 0 numbers ≡ true → length (stored rs) ≤ length shelf
       → ShelfAnswered numbers shelf used (holding rs shelf)
@@ -98,31 +87,20 @@ pub exported-put-answers : (shelf : List ℕ) (used job edition : ℕ) (sealed :
     → ShelfAnswered putNumbers shelf used (putCall shelf used job edition sealed)
 unfolding putCall
 exported-put-answers shelf used job edition sealed =
-    by-tests (badShelf shelf used) (notHigher job edition (records (take used shelf)))
-    (ltb (length shelf) (length (stored (collected (putIn shelf used job edition sealed))))) refl where
-      by-tests : (bad low full : Bool) → ltb (length shelf) (length (stored (collected (putIn shelf used job edition sealed)))) ≡ full
-          → ShelfAnswered putNumbers shelf used
-          (refuse bad 19 shelf used
-          (refuse low 20 shelf used
-          (refuse full 21 shelf used (holding (fitted (length shelf) (putIn shelf used job edition sealed)) shelf))))
-      by-tests true low full e = refuses putNumbers shelf used 19 (omega arith) refl
-      by-tests false true full e = refuses putNumbers shelf used 20 (omega arith) refl
-      by-tests false false true e = refuses putNumbers shelf used 21 (omega arith) refl
-      by-tests false false false e =
-          let new = putIn shelf used job edition sealed in
-          holds putNumbers shelf used (fitted (length shelf) new) refl
-          (fitted-fits (length shelf) new (ltb-false (length shelf) (length (stored (collected new))) e))
+    let new = putIn shelf used job edition sealed in
+    refuses putNumbers shelf used (badShelf shelf used) 19 _ (omega arith) refl (λ _.
+    refuses putNumbers shelf used (notHigher job edition (records (take used shelf))) 20 _ (omega arith) refl (λ _.
+    refuses putNumbers shelf used (ltb (length shelf) (length (stored (collected new)))) 21 _ (omega arith) refl (λ e.
+    holds putNumbers shelf used (fitted (length shelf) new) refl
+    (fitted-fits (length shelf) new (ltb-false (length shelf) (length (stored (collected new))) e)))))
 
 pub exported-collect-answers : (shelf : List ℕ) (used : ℕ) → ShelfAnswered collectNumbers shelf used (collectCall shelf used)
 unfolding collectCall
-exported-collect-answers shelf used = by-test (badShelf shelf used) refl where
-  by-test : (bad : Bool) → badShelf shelf used ≡ bad
-      → ShelfAnswered collectNumbers shelf used (refuse bad 19 shelf used (holding (collected (records (take used shelf))) shelf))
-  by-test true e = refuses collectNumbers shelf used 19 (omega arith) refl
-  by-test false e =
-      let order = in-order shelf used e in
-      let rs = records (take used shelf) in
-      holds collectNumbers shelf used (collected rs) refl (omega (arith, collected-length rs, order .fills, order .within))
+exported-collect-answers shelf used =
+    refuses collectNumbers shelf used (badShelf shelf used) 19 _ (omega arith) refl (λ e.
+    let order = in-order shelf used e in
+    let rs = records (take used shelf) in
+    holds collectNumbers shelf used (collected rs) refl (omega (arith, collected-length rs, order .fills, order .within)))
 
 pub exported-find-answers : (shelf : List ℕ) (used job : ℕ) → PlaceAnswered shelf used (findCall shelf used job)
 unfolding findCall
