@@ -2,14 +2,12 @@
 -- differs, whether the call was refused or not.
 -- Assumes nothing.
 use Rattle.demands.specs.Names as N
-use N.{List, [], _∙_, _≡_, ap, refl, sym, ℕ, ltb, length, Outcome, refuseAs as refuse, under, refusalHead, blockCall, modeCall, keyAndIv}
-use N.{keyNumber, withEngine, modeOf, Ctr as Ctr·mode, Direction, Encrypt, Sm4Cipher, Checked, Passed, Refused, Stepped, begun, ctrEnd}
-use N.{ctrPiece, ctrStart, goesOn, opensStart, sealEnd, sealPiece, sealStart, stepOn, gcmStarting, running, writing, ctrAfter, ctrShut}
-use N.{sealAfter, sealShut, Ctr·state as Ctr, Opens, Seal, Verdict, which as asks, planCall, rangeCall, hostBlockCall, hostModeCall}
-use N.{directionOf, hostCtrStart, hostOpensStart, hostSealStart, cipherIn, hostKeyEngine, hostCtrByPlan, hostCtrRange, hostWhich, toldOf}
-use N.{LuossavinKey}
-use Rattle.demands.specs.EngineUnseen.{unmarked, unmarkedCtr, unmarkedSeal, seen, AnsweredAlike, CtrAlike, SealAlike, unmarkedHost}
-use Rattle.demands.specs.EngineUnseen.{ReportedAlike}
+use N.{List, [], _∙_, _≡_, ap, refl, sym, ℕ, length, Outcome, under, refusalHead, blockCall, modeCall, keyAndIv, withEngine}
+use N.{Ctr as Ctr·mode, Encrypt, Checked, Passed, Refused, Stepped, begun, ctrEnd, ctrPiece, ctrStart, goesOn, opensStart, sealEnd}
+use N.{sealPiece, sealStart, stepOn, gcmStarting, running, writing, ctrAfter, sealAfter, Ctr·state as Ctr, Opens, Seal, which, planCall}
+use N.{rangeCall, hostBlockCall, hostModeCall, directionOf, hostCtrStart, hostOpensStart, hostSealStart, cipherIn, hostKeyEngine}
+use N.{hostCtrByPlan, hostCtrRange, Told, hostWhich, LuossavinKey}
+use Rattle.demands.specs.EngineUnseen.{unmarked, unmarkedCtr, unmarkedSeal, seen, CtrAlike, SealAlike, unmarkedHost, ReportedAlike}
 
 -- a call that leaves a state, by what its check says
 module _ (S : Type 0) (without : S → S) (n : ℕ) (k : Checked) where
@@ -29,40 +27,34 @@ module _ (S : Type 0) (without : S → S) (n : ℕ) (k : Checked) where
       by Passed = ap {B = Stepped S} (stepOn S n) f
       by (Refused r) = ap {B = Stepped S} (λ (u : S). record { head = under n (refusalHead r); bytes = o; state = u }) e
 
-ctr-start-unmarked : (dir : Direction) (c : Sm4Cipher) (iv : List ℕ)
-    → seen Ctr unmarkedCtr (ctrStart dir (unmarked c) iv) ≡ seen Ctr unmarkedCtr (ctrStart dir c iv)
-unfolding withEngine ctrStart ctrAfter
-ctr-start-unmarked dir c iv =
-    let k = keyNumber c in
-    starts-alike Ctr unmarkedCtr k (keyAndIv (c .answer) (c .retired) dir Ctr·mode (length iv)) (ctrShut k)
-    (ctrAfter k 0 (c .rk) iv []) (ctrAfter k (c .engine) (c .rk) iv []) refl
-
-seal-start-unmarked : (c : Sm4Cipher) (label iv : List ℕ)
-    → seen Seal unmarkedSeal (sealStart (unmarked c) label iv) ≡ seen Seal unmarkedSeal (sealStart c label iv)
-unfolding withEngine sealStart sealAfter
-seal-start-unmarked c label iv =
-    let k = keyNumber c in
-    starts-alike Seal unmarkedSeal k (gcmStarting (c .answer) (c .retired) Encrypt (length iv) (length label)) (sealShut k)
-    (sealAfter k 0 (c .rk) label iv []) (sealAfter k (c .engine) (c .rk) label iv []) refl
-
 -- Records that are alike but for the engine.
-module _ (c d : Sm4Cipher) (alike : unmarked c ≡ unmarked d) where
-  by-record : (O : Type 0) (f : Sm4Cipher → O) → ((x : Sm4Cipher) → f (unmarked x) ≡ f x) → f c ≡ f d
-  by-record O f e = sym (e c) ∙ ap {B = O} f alike ∙ e d
+module _ (k l : LuossavinKey) (alike : unmarkedHost k ≡ unmarkedHost l) where
+  by-record : (O : Type 0) (f : LuossavinKey → O) → ((x : LuossavinKey) → f (unmarkedHost x) ≡ f x) → f k ≡ f l
+  by-record O f e = sym (e k) ∙ ap {B = O} f alike ∙ e l
 
-  pub engine-unseen : AnsweredAlike c d
-  unfolding withEngine blockCall modeCall opensStart asks rangeCall planCall
+  pub engine-unseen : ReportedAlike k l
+  unfolding hostKeyEngine cipherIn hostBlockCall blockCall hostModeCall modeCall hostCtrStart ctrStart ctrAfter hostSealStart sealStart sealAfter
+      hostOpensStart opensStart hostWhich which hostCtrRange rangeCall hostCtrByPlan planCall
   engine-unseen =
       record {
-        block = λ dir b o. by-record Outcome (λ x. blockCall dir x b o) (λ x. refl);
-        message = λ dir mode label e iv o. by-record Outcome (λ x. modeCall dir (record { cipher = x; mode = mode }) label e iv o) (λ x. refl);
-        ctr = λ dir iv. by-record (Stepped Ctr) (λ x. seen Ctr unmarkedCtr (ctrStart dir x iv)) (λ x. ctr-start-unmarked dir x iv);
-        sealing = λ label iv. by-record (Stepped Seal) (λ x. seen Seal unmarkedSeal (sealStart x label iv)) (λ x. seal-start-unmarked x label iv);
-        opening = λ label iv. by-record (Stepped Opens) (λ x. opensStart x label iv) (λ x. refl);
-        which = λ file iv labels lengths. by-record Verdict (λ x. asks x file iv labels lengths) (λ x. refl);
-        range = λ dir iv offset e o. by-record Outcome (λ x. rangeCall dir x iv offset e o) (λ x. refl);
-        by-plan = λ dir iv plan e o. by-record Outcome (λ x. planCall dir x iv plan e o) (λ x. refl);
+        block = λ dir b o. by-record Outcome (λ x. hostBlockCall dir x b o) (λ x. refl);
+        message = λ dir mode label e iv o. by-record Outcome (λ x. hostModeCall dir mode x label e iv o) (λ x. refl);
+        ctr = λ decrypt iv. by-record (Stepped Ctr) (λ x. seen Ctr unmarkedCtr (hostCtrStart x decrypt iv)) (λ x.
+            let c = cipherIn x in
+            starts-alike Ctr unmarkedCtr _ (keyAndIv (c .answer) (c .retired) (directionOf decrypt) Ctr·mode (length iv)) _ _ _ refl);
+        sealing = λ label iv. by-record (Stepped Seal) (λ x. seen Seal unmarkedSeal (hostSealStart x label iv)) (λ x.
+            let c = cipherIn x in
+            starts-alike Seal unmarkedSeal _ (gcmStarting (c .answer) (c .retired) Encrypt (length iv) (length label)) _ _ _ refl);
+        opening = λ label iv. by-record (Stepped Opens) (λ x. hostOpensStart x label iv) (λ x. refl);
+        which = λ file iv labels lengths. by-record Told (λ x. hostWhich x file iv labels lengths) (λ x. refl);
+        range = λ decrypt iv offset e o. by-record Outcome (λ x. hostCtrRange x decrypt iv offset e o) (λ x. refl);
+        by-plan = λ decrypt iv plan e o. by-record Outcome (λ x. hostCtrByPlan x decrypt iv plan e o) (λ x. refl);
       }
+
+-- Marking a host's record changes nothing that a call tells.
+pub marked-alike : (k : LuossavinKey) (e : ℕ) → ReportedAlike (hostKeyEngine k e) k
+unfolding hostKeyEngine
+marked-alike k e = engine-unseen (hostKeyEngine k e) k refl
 
 -- States that are.
 ctr-piece-unmarked : (s : Ctr) (e o : List ℕ)
@@ -113,24 +105,3 @@ module _ (s t : Seal) (alike : unmarkedSeal s ≡ unmarkedSeal t) where
 pub host-unmarked : (k : LuossavinKey) → cipherIn (unmarkedHost k) ≡ unmarked (cipherIn k)
 unfolding cipherIn hostKeyEngine withEngine
 host-unmarked k = refl
-
--- The same of the exported calls.
-pub exported-engine-unseen : (k l : LuossavinKey) → unmarkedHost k ≡ unmarkedHost l → ReportedAlike k l
-unfolding hostBlockCall hostModeCall hostCtrStart hostSealStart hostOpensStart hostWhich hostCtrRange hostCtrByPlan
-exported-engine-unseen k l alike =
-    let a = engine-unseen (cipherIn k) (cipherIn l) (sym (host-unmarked k) ∙ ap {B = Sm4Cipher} cipherIn alike ∙ host-unmarked l) in
-    record {
-      block = a .block;
-      message = λ dir mode label e iv o. ap {B = Outcome} (λ (x : Outcome). refuse (ltb 4 mode) 7 o x) (a .message dir (modeOf mode) label e iv o);
-      ctr = λ decrypt iv. a .ctr (directionOf decrypt) iv;
-      sealing = a .sealing;
-      opening = a .opening;
-      which = λ file iv labels lengths. ap toldOf (a .which file iv labels lengths);
-      range = λ decrypt iv offset e o. a .range (directionOf decrypt) iv offset e o;
-      by-plan = λ decrypt iv plan e o. a .by-plan (directionOf decrypt) iv plan e o;
-    }
-
--- Marking a host's record changes nothing that a call tells.
-pub marked-alike : (k : LuossavinKey) (e : ℕ) → ReportedAlike (hostKeyEngine k e) k
-unfolding hostKeyEngine
-marked-alike k e = exported-engine-unseen (hostKeyEngine k e) k refl

@@ -80,23 +80,9 @@ module _ (rk aad d iv : List ℕ) (iv-bytes : AreBytes iv) (d-bytes : AreBytes d
   pub back : (m : CipherMode) → wrongIv m (length iv) ≡ false → dataCheck Encrypt m (length d) ≡ Passed
       → Decrypts m rk aad (encrypted m rk aad d iv) iv d
   unfolding dataCheck
-  back Cfb n e =
-      record {
-        content = rw (length-stream CfbEncrypt rk iv d) e;
-        opened = λ o. ap {B = Outcome} (λ (p : List ℕ). done p o) (stream-back CfbEncrypt rk iv d);
-      }
-  back Ofb n e =
-      record {
-        content = rw (length-stream Ofb·kind rk iv d) e;
-        opened = λ o. ap {B = Outcome} (λ (p : List ℕ). done p o) (stream-back Ofb·kind rk iv d);
-      }
-  back Ctr n e =
-      record {
-        content = rw (length-stream Ctr·kind rk iv d) e;
-        opened = λ o.
-            ap {B = Outcome} (λ (p : List ℕ). reporting (roundOf Ctr Decrypt rk iv (length (encrypted Ctr rk aad d iv))) (done p o))
-            (stream-back Ctr·kind rk iv d);
-      }
+  back Cfb n e = record { content = rw (length-stream CfbEncrypt rk iv d) e; opened = λ o. rw (stream-back CfbEncrypt rk iv d) }
+  back Ofb n e = record { content = rw (length-stream Ofb·kind rk iv d) e; opened = λ o. rw (stream-back Ofb·kind rk iv d) }
+  back Ctr n e = record { content = rw (length-stream Ctr·kind rk iv d) e; opened = λ o. rw (stream-back Ctr·kind rk iv d) }
   back Cbc n e = cbc-decrypts (sixteen (length iv) n) (data-within Encrypt Cbc (length d) e)
   back Gcm n e = gcm-decrypts (data-within Encrypt Gcm (length d) e)
 
@@ -176,25 +162,13 @@ module _ (rk aad c iv o : List ℕ) where
       → Encrypts m rk aad c iv o
   unfolding dataCheck
   forth Cfb n b e z l =
-      record {
-        text = chain (streamMode CfbDecrypt rk) iv c;
-        opened = refl;
-        content = rw (length-stream CfbDecrypt rk iv c) e;
-        again = stream-forth CfbEncrypt rk iv c;
-      }
+      let t = length-stream CfbDecrypt rk iv c in
+      record { text = chain (streamMode CfbDecrypt rk) iv c; opened = refl; content = rw t e; again = stream-forth CfbEncrypt rk iv c }
   forth Ofb n b e z l =
-      record {
-        text = chain (streamMode Ofb·kind rk) iv c;
-        opened = refl;
-        content = rw (length-stream Ofb·kind rk iv c) e;
-        again = stream-forth Ofb·kind rk iv c;
-      }
+      let t = length-stream Ofb·kind rk iv c in
+      record { text = chain (streamMode Ofb·kind rk) iv c; opened = refl; content = rw t e; again = stream-forth Ofb·kind rk iv c }
   forth Ctr n b e z l =
-      record {
-        text = chain (streamMode Ctr·kind rk) iv c;
-        opened = refl;
-        content = rw (length-stream Ctr·kind rk iv c) e;
-        again = stream-forth Ctr·kind rk iv c;
-      }
+      let t = length-stream Ctr·kind rk iv c in
+      record { text = chain (streamMode Ctr·kind rk) iv c; opened = refl; content = rw t e; again = stream-forth Ctr·kind rk iv c }
   forth Cbc n b e z l = cbc-encrypts (sixteen (length iv) n) b e z (l refl)
   forth Gcm n b e z l = gcm-encrypts e z

@@ -47,16 +47,7 @@ engine-stays-retired e k r = r
 
 -- Decryption does not look at the mark.
 same : (k : LuossavinKey) → DecryptsAlike k k
-same k =
-    record {
-      block = λ b o. refl;
-      message = λ mode label s iv o. refl;
-      ctr = λ iv. refl;
-      opens = λ label iv. refl;
-      which = λ file iv labels lengths. refl;
-      range = λ iv offset d o. refl;
-      by-plan = λ iv plan d o. refl;
-    }
+same k = search
 
 alike : (k : LuossavinKey) → k .answer ≡ 0 → DecryptsAlike k (retiredOf k)
 unfolding cipherIn keyAnswerOf hostBlockCall blockCall blockCheck hostModeCall modeCall messageCheck keyAndIv hostCtrStart ctrStart

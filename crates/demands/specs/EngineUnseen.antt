@@ -1,10 +1,9 @@
 -- What the engine must not show. Records, or states, that are alike but for its mark are answered alike by every public call: the same
 -- number and report, the same bytes, and a next state that is alike again.
 use Rattle.demands.specs.Names as N
-use N.{Bool, List, map, _≡_, ℕ, blockCall, modeCall, withEngine, CipherMode, Direction, Sm4Cipher, Stepped, ctrEnd, ctrPiece, ctrStart}
-use N.{opensStart, sealEnd, sealPiece, sealStart, Ctr·state as Ctr, Seal, which as asks, planCall, rangeCall, Plan, hostBlockCall}
-use N.{hostModeCall, hostCtrStart, hostOpensStart, hostSealStart, hostKeyEngine, hostCtrByPlan, hostCtrRange, hostWhich, LuossavinKeys}
-use N.{LuossavinKey}
+use N.{Bool, List, map, _≡_, ℕ, withEngine, Direction, Sm4Cipher, Stepped, ctrEnd, ctrPiece, sealEnd, sealPiece, Ctr·state as Ctr, Seal}
+use N.{Plan, hostBlockCall, hostModeCall, hostCtrStart, hostOpensStart, hostSealStart, hostKeyEngine, hostCtrByPlan, hostCtrRange}
+use N.{hostWhich, LuossavinKeys, LuossavinKey}
 
 -- a record whose engine the library chooses, and all else as it was
 abbrev pub unmarked : Sm4Cipher → Sm4Cipher
@@ -39,18 +38,6 @@ unmarkedSeal s = record {
 -- what a call leaves, without the mark in its state
 abbrev pub seen : (S : Type 0) → (S → S) → Stepped S → Stepped S
 seen S without x = record { head = x .head; bytes = x .bytes; state = without (x .state) }
-
--- the calls on a record
-pub record AnsweredAlike (c d : Sm4Cipher) : Type 0 where
-  pub block : (dir : Direction) (b o : List ℕ) → blockCall dir c b o ≡ blockCall dir d b o
-  pub message : (dir : Direction) (mode : CipherMode) (label e iv o : List ℕ)
-      → modeCall dir (record { cipher = c; mode = mode }) label e iv o ≡ modeCall dir (record { cipher = d; mode = mode }) label e iv o
-  pub ctr : (dir : Direction) (iv : List ℕ) → seen Ctr unmarkedCtr (ctrStart dir c iv) ≡ seen Ctr unmarkedCtr (ctrStart dir d iv)
-  pub sealing : (label iv : List ℕ) → seen Seal unmarkedSeal (sealStart c label iv) ≡ seen Seal unmarkedSeal (sealStart d label iv)
-  pub opening : (label iv : List ℕ) → opensStart c label iv ≡ opensStart d label iv
-  pub which : (file iv labels lengths : List ℕ) → asks c file iv labels lengths ≡ asks d file iv labels lengths
-  pub range : (dir : Direction) (iv : List ℕ) (offset : ℕ) (e o : List ℕ) → rangeCall dir c iv offset e o ≡ rangeCall dir d iv offset e o
-  pub by-plan : (dir : Direction) (iv : List ℕ) (plan : Plan) (e o : List ℕ) → planCall dir c iv plan e o ≡ planCall dir d iv plan e o
 
 -- the calls on a state; an opening's has no mark
 pub record CtrAlike (s t : Ctr) : Type 0 where
