@@ -12,7 +12,7 @@ use Rattle.label.proofs.LabelTells.{length-label}
 use Rattle.demands.specs.Call.{inGcm}
 use Rattle.demands.specs.OneBlockRefused.{MovesZero}
 use Rattle.demands.specs.EditionOpens.{WithoutText, AnswersAsOpening, NeverNoRoom, OneEditionAlone}
-use Rattle.demands.proofs.OtherEdition.{other-edition-refused}
+use Rattle.demands.proofs.OneBlockRefused.{other-edition-refused}
 
 on-key : (k : ℕ) (h : Head) (x : Outcome) → WithoutText h x → WithoutText (under k h) (keyed k x)
 on-key k h x w = record { number = w .number; missing = w .missing; key = refl; size = w .size; cameRound = w .cameRound }

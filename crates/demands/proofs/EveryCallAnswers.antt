@@ -16,7 +16,7 @@ use Rattle.gcm.proofs.Parts.{length-sealed, length-text}
 use Rattle.cipher_mode.proofs.Passed.{sixteen, message-passed, block-passed, whole-blocks-passed}
 use Rattle.cipher_mode.proofs.Ends.{length-block}
 use Rattle.demands.specs.Answered.{oneOf, singleNumbers, Answered, KeyAnswered, lengthOf}
-use Rattle.demands.proofs.Exported.{new-is-new}
+use Rattle.demands.proofs.Through.{new-is-new}
 use Rattle.demands.specs.WhichNumber.{blockRows, encryptRows, decryptRows}
 use Rattle.demands.proofs.WhichNumber.{exported-block-number, exported-encryption-number, exported-decryption-number}
 use Rattle.demands.proofs.Answering.{numbered, within, Fair, answered, refused-fair, done-fair, checks-fair, front-fair}

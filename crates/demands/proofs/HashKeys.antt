@@ -12,7 +12,7 @@ use Rattle.roots.proofs.EveryElement.{more-have}
 use Rattle.label.proofs.LabelTells.{length-label, label-bytes, label-job, label-edition}
 use Rattle.demands.specs.HashKeys.{WithinLimits, FewKeysConfuse, ZeroKeyConfuses, RarelyConfused, under, FewConfuseEditions, oneBlock}
 use Rattle.demands.specs.HashKeys.{nothing, BoundReached, UnconfusedRefused, withoutLengths}
-use Rattle.demands.proofs.OtherHash.{other-hash-refused}
+use Rattle.demands.proofs.OneBlockRefused.{other-hash-refused}
 
 sound : (p : Pair) → WithinLimits p → Sound p
 sound p w =

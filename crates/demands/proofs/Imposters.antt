@@ -34,10 +34,8 @@ use Rattle.demands.specs.Which.{Tells, WhichAnswered}
 use Rattle.demands.specs.Workers.{ctrCall, StretchOfWhole, Applying, appliedBy, RangesCommute}
 use Rattle.demands.proofs.Through.{through, leaves}
 use Rattle.demands.proofs.ModesBack.{encrypted}
-use Rattle.demands.proofs.ThereAndBack.{set-up-same-key}
-use Rattle.demands.proofs.Served.{served}
-use Rattle.demands.proofs.OtherHash.{gcm-opens}
-use Rattle.demands.proofs.OtherEdition.{short-label-refused}
+use Rattle.demands.proofs.ThereAndBack.{set-up-same-key, served}
+use Rattle.demands.proofs.OneBlockRefused.{gcm-opens, short-label-refused}
 use Rattle.demands.proofs.ZeroCipher.{zero-block, block-of-one, zero-key-moves}
 
 -- two numbers of two things tell the things apart

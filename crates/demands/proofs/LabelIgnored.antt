@@ -3,7 +3,7 @@
 use Rattle.demands.specs.Names as N
 use N.{Bool, false, true, List, _≢_, _≡_, refl, ℕ, ltb, length, ltb-false, Outcome, refuseAs as refuse, modeCall, modeResult, labelCheck}
 use N.{messageCheck, CipherMode, Cbc, Cfb, Ctr, Gcm, Ofb, Direction, Sm4CipherMode, hostModeCall, modeIn, LuossavinKey}
-use Rattle.demands.proofs.Exported.{other-mode}
+use Rattle.demands.proofs.Through.{other-mode}
 
 -- the two places where a call looks at the label
 record Ignored (m : CipherMode) (dir : Direction) (a₁ a₂ rk d iv o : List ℕ) : Type 0 where

@@ -22,7 +22,7 @@ use Rattle.demands.specs.OtherEdition.{OtherEditionRefused}
 use Rattle.demands.specs.WhichNumber.{Said, only, row, firstOf}
 use Rattle.demands.specs.OnTheShelf.{ShelfAnswered, PlaceAnswered, putNumbers, collectNumbers, putRows, collectRows, findRows}
 use Rattle.demands.specs.OnTheShelf.{labelIn, fileIn, OneEditionOpens, NoRoughShown, OfEach}
-use Rattle.demands.proofs.OtherEdition.{other-edition-refused}
+use Rattle.demands.proofs.OneBlockRefused.{other-edition-refused}
 
 -- behind a refusal by number, or what comes next
 refuse-said : (t : Bool) (n used : ℕ) (shelf : List ℕ) (x : Outcome) (s : Said) → only (x .number) ≡ s

@@ -19,10 +19,9 @@ use Rattle.demands.specs.Answered.{oneOf, Answered}
 use Rattle.demands.specs.WhichNumber.{Said, saidIn, only, firstOf}
 use Rattle.demands.specs.WhichNumberInPieces.{runningRows, ctrPieceRows, ctrEndRows, sealPieceRows, sealEndRows, opensPieceRows}
 use Rattle.demands.specs.WhichNumberInPieces.{opensEndRows, ctrStartRows, gcmStartRows}
-use Rattle.demands.proofs.WhichNumber.{behind, said·laws}
-use Rattle.demands.proofs.WhichNumberInPieces.{said-standing, ctr-piece-number, ctr-end-number, seal-piece-number, seal-end-number}
-use Rattle.demands.proofs.WhichNumberInPieces.{opens-piece-number, opens-end-number, exported-ctr-start-number}
-use Rattle.demands.proofs.WhichNumberInPieces.{exported-seal-start-number, exported-opens-start-number}
+use Rattle.demands.proofs.WhichNumber.{behind, said·laws, said-standing, ctr-piece-number, ctr-end-number, seal-piece-number}
+use Rattle.demands.proofs.WhichNumber.{seal-end-number, opens-piece-number, opens-end-number, exported-ctr-start-number}
+use Rattle.demands.proofs.WhichNumber.{exported-seal-start-number, exported-opens-start-number}
 use Rattle.demands.proofs.Answering.{numbered, within, Fair, answered, refused-fair, refusal-fair, done-fair}
 
 -- a refusal, or what comes next, which may count on it that the check passed

@@ -1,8 +1,9 @@
 -- Demand 2, there and back: what a call did, its counterpart takes back.
 -- Assumes nothing.
 use Rattle.demands.specs.Names as N
-use N.{List, _∙_, _≡_, ap, refl, sym, _≤_, ℕ, length, Head, Outcome, done, keyed, leaving, reporting, over, blockCall, blockOf, modeResult}
-use N.{retiredCheck, keyNumber, modeOf, Decrypt, Encrypt, Passed, hostBlockCall, hostModeCall, cipherIn, hostKeyEngine, hostKeyNew}
+use N.{Bool, false, List, _⊎_, ⊎-elim, _∙_, _≡_, ap, refl, sym, _≤_, ℕ, length, le-ltb, Head, Outcome, done, keyed, leaving, reporting}
+use N.{over, blockCall, blockOf, modeResult, dataCheck, labelCheck, retiredCheck, wrongIv, keyNumber, limit, modeOf, roomOf, CipherMode}
+use N.{Cbc, Cfb, Ctr, Gcm, Ofb, Direction, Decrypt, Encrypt, Passed, hostBlockCall, hostModeCall, cipherIn, hostKeyEngine, hostKeyNew}
 use N.{hostKeyRetire, keyAnswerOf, keyOf, LuossavinKey}
 use Rattle.cipher.proofs.Blocks.{block-decrypt-encrypt, block-encrypt-decrypt}
 use Rattle.cipher_mode.proofs.Ends.{length-block}
@@ -12,7 +13,8 @@ use Rattle.demands.specs.ThereAndBack.{SameKey, Returns, Decryptable, En
 use Rattle.demands.proofs.Through.{result-of-done, block-through, block-leaves, host-through, host-leaves, Ready}
 use Rattle.demands.proofs.EveryCallAnswers.{new-cipher-answers}
 use Rattle.demands.proofs.Retired.{retired-by}
-use Rattle.demands.proofs.ModesBack.{encrypted, encrypts, back, forth}
+use Rattle.demands.proofs.ModesBack.{encrypted, encrypts, back, forth, length-encrypted}
+use Rattle.demands.specs.Served.{Serves, Asks, Served, BlockServed}
 
 -- the second call answered 0 with d; it was given the result c of the first
 returns : (back : Call) (label c d iv o′ r : List ℕ) (h : Head) → r ≡ c → back label c iv o′ ≡ leaving h (over d o′) → h .number ≡ 0
@@ -123,3 +125,77 @@ set-up-same-key key n m size n₁ n₂ m₁ m₂ =
       keys = other .2 ∙ sym (first .2);
       answer = ap (λ (h : Head). h .number) (other .0 ∙ sym (first .0));
     }
+
+-- Whoever asks in order is served.
+
+label-in-order : (m : CipherMode) (n : ℕ) → (m ≡ Gcm → n ≤ limit) → labelCheck m n ≡ Passed
+label-in-order Cfb n h = refl
+label-in-order Ofb n h = refl
+label-in-order Ctr n h = refl
+label-in-order Cbc n h = refl
+label-in-order Gcm n h = rw (le-ltb limit n (h refl))
+
+takes-sixteen : (m : CipherMode) → wrongIv m 16 ≡ false
+takes-sixteen Cfb = refl
+takes-sixteen Ofb = refl
+takes-sixteen Ctr = refl
+takes-sixteen Cbc = refl
+takes-sixteen Gcm = refl
+
+iv-in-order : (m : CipherMode) (n : ℕ) → (n ≡ 16) ⊎ ((m ≡ Gcm) × (n ≡ 12)) → wrongIv m n ≡ false
+iv-in-order m n s = ⊎-elim (λ e. rw e (takes-sixteen m)) (λ (e, f). rw (e, f)) s
+
+data-in-order : (m : CipherMode) (n : ℕ) → n ≤ limit → dataCheck Encrypt m n ≡ Passed
+unfolding dataCheck
+data-in-order m n h = rw (le-ltb limit n h)
+
+-- With a usable and unretired key, in every mode: encryption that is asked for in order is done with the table's length, and so is
+-- decryption of what it gave, under any record of the key, with the message's.
+module _ (mode : ℕ) (k : LuossavinKey) (h : mode ≤ 4) (a : k .answer ≡ 0) (u : k .retired ≡ 0) where
+  seals : (label d iv o : List ℕ) → Asks (modeOf mode) label d iv o
+      → Serves (roomOf (modeOf mode) Encrypt (length d)) (hostModeCall Encrypt mode k label d iv o)
+  unfolding cipherIn keyAnswerOf
+  seals label d iv o q =
+      let m = modeOf mode in
+      let x =
+      host-leaves Encrypt mode k label d iv o (
+        le-ltb 4 mode h,
+        record {
+          key = rw a;
+          iv-size = iv-in-order m (length iv) (q .iv-size);
+          may = rw u;
+          label = label-in-order m (length label) (q .label-fits);
+          content = data-in-order m (length d) (q .data-fits);
+          room = q .room;
+        },
+      )
+      ∙ ap {B = Outcome} (keyed (keyNumber (cipherIn k))) (encrypts m (k .«round_keys») label d iv o) in
+      record {
+        number = ap (λ (y : Outcome). y .head .number) x;
+        size = ap (λ (y : Outcome). y .head .size) x ∙ length-encrypted m (k .«round_keys») label d iv;
+      }
+
+  pub served : (later : LuossavinKey) → SameKey k later → Served (modeOf mode) (hostModeCall Encrypt mode k) (hostModeCall Decrypt mode later)
+  served later t =
+      record {
+        sealing = seals;
+        opening = λ label d iv o o′ q db ib r.
+            let s = seals label d iv o q in
+            let back = decryption-takes-back k later t mode label d iv o o′ db ib (s .number) (rw (s .size) r) in
+            record { number = back .number; size = back .size };
+      }
+
+-- With a usable key: a call on sixteen bytes with room for them is done with sixteen, encryption where the key is not retired.
+pub block-served : (dir : Direction) (k : LuossavinKey) → k .answer ≡ 0 → (dir ≡ Encrypt → k .retired ≡ 0) → BlockServed (single (hostBlockCall dir k))
+unfolding hostBlockCall cipherIn keyAnswerOf
+block-served dir k a u label b iv o n r =
+    let c = cipherIn k in
+    let x = block-leaves dir c b o (record { key = rw a; size = n; may = allowed dir (c .retired) (λ e. rw (u e)); enough = r }) in
+    record {
+      number = ap (λ (y : Outcome). y .head .number) x;
+      size = ap (λ (y : Outcome). y .head .size) x ∙ length-block dir (c .rk) b;
+    }
+  where
+    allowed : (dir : Direction) (retired : Bool) → (dir ≡ Encrypt → retired ≡ false) → retiredCheck dir retired ≡ Passed
+    allowed Encrypt retired u = rw (u refl)
+    allowed Decrypt retired u = refl

@@ -17,8 +17,7 @@ use Rattle.demands.specs.Call.{inGcm, RefusedAs}
 use Rattle.demands.specs.OneBlockRefused.{MovesZero}
 use Rattle.demands.specs.Which.{FirstThatOpens, Tells, WhichAnswered}
 use Rattle.demands.proofs.Through.{leaves}
-use Rattle.demands.proofs.OtherHash.{Fits, gcm-in-order}
-use Rattle.demands.proofs.OtherEdition.{other-edition-refused}
+use Rattle.demands.proofs.OneBlockRefused.{Fits, gcm-in-order, other-edition-refused}
 
 -- where no label is too long, no candidate is
 short-at : (ns : List ℕ) (i : ℕ) → anyTooLong ns ≡ false → getD ns i 0 ≤ limit
