@@ -3,9 +3,9 @@
 -- Assumes nothing.
 use Rattle.demands.specs.Names as N
 use N.{Bool, cond, false, true, List, [], _++_, _∷_, append-assoc, append-nil, _≢_, _∙_, _≡_, ap, ap₂, refl, subst, sym, _+_, _-_, _≤_, ℕ}
-use N.{arith, drop, length, length-append, length-drop, take, take-at, le-ltb, blocksOf, ctrCameRound, Head, Outcome, finished, keyed}
-use N.{leaving, refusal, telling, under, chain, over, streamMode, Ctr·kind, J0, hashKey, opensUnder, sealed, tagOf, textOf, gcmOpen}
-use N.{gcmHead, settled, Gcm·Done, InvalidTag, gcmRound, lengthsOf, modeCall, modeResult, andThen, checked, dataCheck, keyAndIv, labelCheck}
+use N.{arith, drop, length, length-append, length-drop, take-at, le-ltb, blocksOf, ctrCameRound, Head, Outcome, finished, keyed, leaving}
+use N.{refusal, telling, under, chain, over, streamMode, Ctr·kind, J0, hashKey, opensUnder, sealed, tagOf, textOf, gcmOpen, gcmHead}
+use N.{settled, Gcm·Done, InvalidTag, gcmRound, lengthsOf, modeCall, modeResult, andThen, checked, dataCheck, keyAndIv, labelCheck}
 use N.{messageCheck, retiredCheck, roomCheck, wrongIv, keyNumber, limit, modeOf, Ctr as Ctr·mode, Gcm, Direction, Decrypt, Encrypt, Key}
 use N.{Sm4Cipher, Sm4CipherMode, Refusal, Checked, Passed, Refused, Stepped, begun, ctrEnd, ctrPiece, ctrStart, ended, goesOn, opensEnd}
 use N.{opensPiece, opensStart, sealEnd, sealPiece, sealStart, stepOn, gcmStarting, ctrAfter, ctrShut, opensAfter, opensShut, sealAfter}
@@ -21,9 +21,9 @@ use Rattle.pieces.proofs.SealInPieces.{seal-started, seal-joined, seal-goes-on,
 use Rattle.pieces.proofs.OpensInPieces.{opens-started, opens-goes-on, opens-ended}
 use Rattle.demands.specs.Call.{inGcm, result}
 use Rattle.demands.specs.CameRound.{tellingDone}
-use Rattle.demands.specs.InPieces.{Did, written, stateAfter, wrote, AllDid, Piece, onto, sizeOf, whole, Roomy, AllDone, joined, none}
-use Rattle.demands.specs.InPieces.{TellsAlike, CtrInPieces, SealInPieces, OpensInPieces, AllZero, CtrOfPieces, SealOfPieces}
-use Rattle.demands.specs.InPieces.{OpensOfPieces, CheckedAlike}
+use Rattle.demands.specs.InPieces.{gathered, Every, Room, Did, written, stateAfter, wrote, AllDid, Piece, onto, sizeOf, whole, Roomy}
+use Rattle.demands.specs.InPieces.{AllDone, joined, none, TellsAlike, CtrInPieces, SealInPieces, OpensInPieces, AllZero, CtrOfPieces}
+use Rattle.demands.specs.InPieces.{SealOfPieces, OpensOfPieces, CheckedAlike}
 use Rattle.demands.proofs.Through.{result-of-done, passed-start, through, leaves}
 use Rattle.demands.proofs.OneBlockRefused.{Fits, gcm-in-order}
 use Rattle.cipher_mode.proofs.Refusals.{refuses}
@@ -33,76 +33,74 @@ use Rattle.demands.specs.Answered.{oneOf}
 did : (S : Type 0) (n i : ℕ) (b : Bool) (x : Stepped S) → x .head ≡ under i (telling b (finished n)) → Did S n x
 did S n i b x e = record { number = ap (λ (h : Head). h .number) e; size = ap (λ (h : Head). h .size) e }
 
--- what a piece e behind the text d does, where `text` is what the single call gives, `after` the state after a text and i the key's
--- number
-pub record Goes (S : Type 0) (i : ℕ) (text : List ℕ → List ℕ) (after : List ℕ → S) (call : S → Piece → Stepped S) : Type 0 where
+-- what a piece behind the text d does: it is done, and the state is the one after both
+abbrev Goes : (S P : Type 0) → (P → List ℕ) → (P → ℕ) → (P → Type 0) → (List ℕ → S) → (S → P → Stepped S) → Type 0
+Goes S P content size Fit after call =
+    (d : List ℕ) (p : P) → length d + length (content p) ≤ limit → Fit p
+    → Did S (size p) (call (after d) p) × (call (after d) p .state ≡ after (d ++ content p))
+
+-- so does a list of them; and a list of which each answered 0 is within the limit, and fits
+module _ (S P : Type 0) (content : P → List ℕ) (size : P → ℕ) (Fit : P → Type 0) (after : List ℕ → S) (call : S → P → Stepped S)
+    (goes : Goes S P content size Fit after call) where
+  went : (d : List ℕ) (ps : List P) → length d + length (gathered P content ps) ≤ limit → Every P Fit ps
+      → AllDid S P call size (after d) ps × (stateAfter S P call (after d) ps ≡ after (d ++ gathered P content ps))
+  went d [] h f = (tt, ap after (sym (append-nil d)))
+  went d (p ∷ ps) h (f, fs) =
+      let n = length-append (content p) (gathered P content ps) in
+      let m = length-append d (content p) in
+      let (did, state) = goes d p (omega arith) f in
+      let (all, last) = went (d ++ content p) ps (omega arith) fs in (
+        (did, subst (λ (s : S). AllDid S P call size s ps) (sym state) all),
+        ap (λ (s : S). stateAfter S P call s ps) state ∙ last ∙ ap after (append-assoc d (content p) (gathered P content ps)),
+      )
+
+  all-fit : ((d : List ℕ) (p : P) → call (after d) p .head .number ≡ 0 → (length d + length (content p) ≤ limit) × Fit p)
+      → (d : List ℕ) (ps : List P) → length d ≤ limit → AllZero S P call (after d) ps
+      → (length d + length (gathered P content ps) ≤ limit) × Every P Fit ps
+  all-fit fits d [] h z = (omega arith, tt)
+  all-fit fits d (p ∷ ps) h (z, zs) =
+      let (here, f) = fits d p z in
+      let n = length-append (content p) (gathered P content ps) in
+      let m = length-append d (content p) in
+      let (all, fs) = all-fit fits (d ++ content p) ps (omega arith) (subst (λ (s : S). AllZero S P call s ps) (goes d p here f .1) zs) in
+      (omega arith, (f, fs))
+
+-- a piece that writes, where `text` is what the single call gives and i the key's number
+record Writes (S : Type 0) (i : ℕ) (text : List ℕ → List ℕ) (after : List ℕ → S) (call : S → Piece → Stepped S) : Type 0 where
   -- as many bytes as go in, and the first ones do not depend on the last
-  pub kept : (d : List ℕ) → length (text d) ≡ length d
-  pub goes : (d : List ℕ) (p : Piece) → length d + length (p .text) ≤ limit → length (p .text) ≤ length (p .out)
+  kept : (d : List ℕ) → length (text d) ≡ length d
+  goes : (d : List ℕ) (p : Piece) → length d + length (p .text) ≤ limit → Room p
       → call (after d) p
       ≡ record {
         head = under i (finished (length (p .text)));
         bytes = over (drop (length d) (text (d ++ p .text))) (p .out);
         state = after (d ++ p .text);
       }
-  pub fronts : (d e : List ℕ) → text (d ++ e) ≡ text d ++ drop (length d) (text (d ++ e))
+  fronts : (d e : List ℕ) → text (d ++ e) ≡ text d ++ drop (length d) (text (d ++ e))
 
--- what came of a list of pieces behind d
-pub record Went (S : Type 0) (text : List ℕ → List ℕ) (after : List ℕ → S) (call : S → Piece → Stepped S) (d : List ℕ) (ps : List Piece)
-    : Type 0 where
-  pub all : AllDid S Piece call sizeOf (after d) ps
-  pub state : stateAfter S Piece call (after d) ps ≡ after (d ++ whole ps)
-  pub bytes : text d ++ wrote S Piece call (after d) ps ≡ text (d ++ whole ps)
+module _ (S : Type 0) (i : ℕ) (text : List ℕ → List ℕ) (after : List ℕ → S) (call : S → Piece → Stepped S) (w : Writes S i text after call) where
+  piece-goes : Goes S Piece (λ p. p .text) sizeOf Room after call
+  piece-goes d p h r =
+      let x = w .goes d p h r in
+      (did S (length (p .text)) i false _ (ap (λ (y : Stepped S). y .head) x), ap (λ (y : Stepped S). y .state) x)
 
--- the same, by what the first call left
-record First (S : Type 0) (text : List ℕ → List ℕ) (after : List ℕ → S) (call : S → Piece → Stepped S) (d : List ℕ) (p : Piece)
-    (ps : List Piece) (x : Stepped S) : Type 0 where
-  pub did : Did S (length (p .text)) x
-  pub all : AllDid S Piece call sizeOf (x .state) ps
-  pub state : stateAfter S Piece call (x .state) ps ≡ after (d ++ (p .text ++ whole ps))
-  pub bytes : text d ++ (written S x ++ wrote S Piece call (x .state) ps) ≡ text (d ++ (p .text ++ whole ps))
-
-module _ (S : Type 0) (text : List ℕ → List ℕ) (after : List ℕ → S) (call : S → Piece → Stepped S) (i : ℕ) (g : Goes S i text after call) where
-  stretch-length : (d e : List ℕ) → length (drop (length d) (text (d ++ e))) ≡ length e
-  stretch-length d e =
-      length-drop (length d) (text (d ++ e)) ∙ ap (λ (n : ℕ). n - length d) (g .kept (d ++ e) ∙ length-append d e) ∙ omega arith
-
-  -- the first piece, by what its call left
-  one-more : (d : List ℕ) (p : Piece) (ps : List Piece) (x : Stepped S)
-      → x ≡ record {
-        head = under i (finished (length (p .text)));
-        bytes = over (drop (length d) (text (d ++ p .text))) (p .out);
-        state = after (d ++ p .text);
-      }
-      → Went S text after call (d ++ p .text) ps → First S text after call d p ps x
-  one-more d p ps x e w =
-      let piece = drop (length d) (text (d ++ p .text)) in
-      let rest = wrote S Piece call (after (d ++ p .text)) ps in
-      let assoc = append-assoc d (p .text) (whole ps) in
-      let front : take (length (p .text)) (over piece (p .out)) ≡ piece = take-at piece _ (length (p .text)) (stretch-length d (p .text)) in
-      subst (First S text after call d p ps) (sym e)
-      (record {
-        did = record { number = refl; size = refl };
-        all = w .all;
-        state = w .state ∙ ap after assoc;
-        bytes = ap (λ (l : List ℕ). text d ++ (l ++ rest)) front
-            ∙ sym (append-assoc (text d) piece rest)
-            ∙ ap (λ (l : List ℕ). l ++ rest) (sym (g .fronts d (p .text)))
-            ∙ w .bytes ∙ ap text assoc;
-      })
-
-  pub went : (d : List ℕ) (ps : List Piece) → length d + length (whole ps) ≤ limit → Roomy ps → Went S text after call d ps
-  went d [] h r =
-      record {
-        all = tt;
-        state = ap after (sym (append-nil d));
-        bytes = append-nil (text d) ∙ ap text (sym (append-nil d));
-      }
-  went d (p ∷ ps) h (r, rs) =
-      let n : length (p .text ++ whole ps) ≡ length (p .text) + length (whole ps) = length-append (p .text) (whole ps) in
-      let m : length (d ++ p .text) ≡ length d + length (p .text) = length-append d (p .text) in
-      let x = one-more d p ps (call (after d) p) (g .goes d p (omega arith) r) (went (d ++ p .text) ps (omega arith) rs) in
-      record { all = (x .did, x .all); state = x .state; bytes = x .bytes }
+  all-wrote : (d : List ℕ) (ps : List Piece) → length d + length (whole ps) ≤ limit → Roomy ps
+      → text d ++ wrote S Piece call (after d) ps ≡ text (d ++ whole ps)
+  all-wrote d [] h r = append-nil (text d) ∙ ap text (sym (append-nil d))
+  all-wrote d (p ∷ ps) h (r, rs) =
+      let e = p .text in
+      let n = length-append e (whole ps) in
+      let m = length-append d e in
+      let x = w .goes d p (omega arith) r in
+      let rest = wrote S Piece call (after (d ++ e)) ps in
+      let piece = drop (length d) (text (d ++ e)) in
+      let size : length piece ≡ length e =
+      length-drop (length d) (text (d ++ e)) ∙ ap (λ (n : ℕ). n - length d) (w .kept (d ++ e) ∙ m) ∙ omega arith in
+      ap (λ (y : Stepped S). text d ++ (written S y ++ wrote S Piece call (y .state) ps)) x
+      ∙ ap (λ (l : List ℕ). text d ++ (l ++ rest)) (take-at piece _ (length e) size)
+      ∙ sym (append-assoc (text d) piece rest)
+      ∙ ap (λ (l : List ℕ). l ++ rest) (sym (w .fronts d e))
+      ∙ all-wrote (d ++ e) ps (omega arith) rs ∙ ap text (append-assoc d e (whole ps))
 
 pub ctr-within : (dir : Direction) (n : ℕ) → dataCheck dir Ctr·mode n ≡ Passed → n ≤ limit
 ctr-within Encrypt n e = data-within Encrypt Ctr·mode n e
@@ -125,17 +123,17 @@ seal-starts c label iv k n u h = seal-started c label iv (rw (k, n, u, le-ltb li
 chain-nothing : (rk iv : List ℕ) → chain (streamMode Ctr·kind rk) iv [] ≡ []
 chain-nothing rk iv = chain-rest (streamMode Ctr·kind rk) iv [] (omega arith)
 
-pub ctr-goes : (i mark : ℕ) (rk iv : List ℕ) → Goes Ctr i (chain (streamMode Ctr·kind rk) iv) (ctrAfter i mark rk iv) (onto Ctr ctrPiece)
-ctr-goes i mark rk iv =
+ctr-writes : (i mark : ℕ) (rk iv : List ℕ) → Writes Ctr i (chain (streamMode Ctr·kind rk) iv) (ctrAfter i mark rk iv) (onto Ctr ctrPiece)
+ctr-writes i mark rk iv =
     record {
       kept = length-stream Ctr·kind rk iv;
       goes = λ d p h r. ctr-goes-on i mark rk iv d (p .text) (p .out) h r;
       fronts = λ d e. sym (ctr-joined rk iv d e);
     }
 
-pub seal-goes : (i mark : ℕ) (rk label iv : List ℕ) → length label ≤ limit
-    → Goes Seal i (textOf rk (J0 rk iv)) (sealAfter i mark rk label iv) (onto Seal sealPiece)
-seal-goes i mark rk label iv hl =
+seal-writes : (i mark : ℕ) (rk label iv : List ℕ) → length label ≤ limit
+    → Writes Seal i (textOf rk (J0 rk iv)) (sealAfter i mark rk label iv) (onto Seal sealPiece)
+seal-writes i mark rk label iv hl =
     record {
       kept = length-text rk (J0 rk iv);
       goes = λ d p h r. seal-goes-on i mark rk label iv d hl (p .text) (p .out) h r;
@@ -157,17 +155,20 @@ ctr-in-pieces decrypt k ps label iv o r e =
     let m : Sm4CipherMode = record { cipher = c; mode = Ctr·mode } in
     let p = through dir m label (whole ps) iv o e in
     let fits : length (whole ps) ≤ limit = ctr-within dir (length (whole ps)) (p .content) in
-    let w = went Ctr text (ctrAfter i mark rk iv) call i (ctr-goes i mark rk iv) [] ps (omega arith) r in
+    let after = ctrAfter i mark rk iv in
+    let (all, state) =
+    went Ctr Piece (λ p. p .text) sizeOf Room after call (piece-goes Ctr i text after call (ctr-writes i mark rk iv)) [] ps (omega arith) r in
+    let bytes = all-wrote Ctr i text after call (ctr-writes i mark rk iv) [] ps (omega arith) r in
     let left = leaves dir m label (whole ps) iv o p in
     let single : result (modeCall dir m label (whole ps) iv o) ≡ text (whole ps) = ap result left ∙ result-of-done (text (whole ps)) o in
-    let end = ap (λ (x : Stepped Ctr). x .head) (ap ctrEnd (w .state) ∙ ctr-ended i mark rk iv (whole ps) fits) in
+    let end = ap (λ (x : Stepped Ctr). x .head) (ap ctrEnd state ∙ ctr-ended i mark rk iv (whole ps) fits) in
     subst
     (λ (x : Stepped Ctr). AllDone Ctr call x ps 0 (ctrEnd (stateAfter Ctr Piece call (x .state) ps))
     × (wrote Ctr Piece call (x .state) ps ≡ result (modeCall dir m label (whole ps) iv o))
     × TellsAlike Ctr (ctrEnd (stateAfter Ctr Piece call (x .state) ps)) (modeCall dir m label (whole ps) iv o))
     (sym (ctr-starts dir c iv (p .key) (p .iv-size) (p .may))) (
-      record { start = record { number = refl; size = refl }; pieces = w .all; end = did Ctr 0 i (ctrCameRound iv (blocksOf (length (whole ps)))) _ end },
-      ap (λ (l : List ℕ). l ++ wrote Ctr Piece call (ctrAfter i mark rk iv []) ps) (sym (chain-nothing rk iv)) ∙ w .bytes ∙ sym single,
+      record { start = record { number = refl; size = refl }; pieces = all; end = did Ctr 0 i (ctrCameRound iv (blocksOf (length (whole ps)))) _ end },
+      ap (λ (l : List ℕ). l ++ wrote Ctr Piece call (ctrAfter i mark rk iv []) ps) (sym (chain-nothing rk iv)) ∙ bytes ∙ sym single,
       ap (λ (h : Head). h .cameRound) end ∙ sym (ap (λ (x : Outcome). x .head .cameRound) left),
     )
 
@@ -186,7 +187,10 @@ seal-in-pieces k ps label iv t o r room e =
     let p = through Encrypt (inGcm c) label (whole ps) iv o e in
     let hl = label-passed (length label) (p .label) in
     let fits : length (whole ps) ≤ limit = data-within Encrypt Gcm (length (whole ps)) (p .content) in
-    let w = went Seal text (sealAfter i mark rk label iv) call i (seal-goes i mark rk label iv hl) [] ps (omega arith) r in
+    let after = sealAfter i mark rk label iv in
+    let writes = seal-writes i mark rk label iv hl in
+    let (all, state) = went Seal Piece (λ p. p .text) sizeOf Room after call (piece-goes Seal i text after call writes) [] ps (omega arith) r in
+    let bytes = all-wrote Seal i text after call writes [] ps (omega arith) r in
     let end = seal-ended i mark rk label iv (whole ps) hl t fits room in
     let left = leaves Encrypt (inGcm c) label (whole ps) iv o p in
     let single : result (modeCall Encrypt (inGcm c) label (whole ps) iv o) ≡ text (whole ps) ++ tag =
@@ -196,42 +200,33 @@ seal-in-pieces k ps label iv t o r room e =
     → Did Seal 16 x × (written Seal x ≡ tag) × (x .head .cameRound ≡ reported .cameRound) =
     λ x f. subst (λ (y : Stepped Seal). Did Seal 16 y × (written Seal y ≡ tag) × (y .head .cameRound ≡ reported .cameRound)) (sym f)
     (record { number = refl; size = refl }, take-at tag _ 16 (length-tag rk (hashKey rk) j label (text (whole ps))), refl) in
-    let last = ends _ (ap (λ (s : Seal). sealEnd s t) (w .state) ∙ end) in
+    let last = ends _ (ap (λ (s : Seal). sealEnd s t) state ∙ end) in
     subst
     (λ (x : Stepped Seal). AllDone Seal call x ps 16 (sealEnd (stateAfter Seal Piece call (x .state) ps) t)
     × (wrote Seal Piece call (x .state) ps ++ written Seal (sealEnd (stateAfter Seal Piece call (x .state) ps) t)
     ≡ result (modeCall Encrypt (inGcm c) label (whole ps) iv o))
     × TellsAlike Seal (sealEnd (stateAfter Seal Piece call (x .state) ps) t) (modeCall Encrypt (inGcm c) label (whole ps) iv o))
     (sym (seal-starts c label iv (p .key) (p .iv-size) (p .may) hl)) (
-      record { start = record { number = refl; size = refl }; pieces = w .all; end = last .0 },
+      record { start = record { number = refl; size = refl }; pieces = all; end = last .0 },
       ap₂ _++_
-          (ap (λ (l : List ℕ). l ++ wrote Seal Piece call (sealAfter i mark rk label iv []) ps) (sym (no-text rk j)) ∙ w .bytes) (last .1)
+          (ap (λ (l : List ℕ). l ++ wrote Seal Piece call (sealAfter i mark rk label iv []) ps) (sym (no-text rk j)) ∙ bytes) (last .1)
           ∙ sym single,
       last .2 ∙ sym (ap (λ (x : Outcome). x .head .cameRound) left),
     )
 
--- pieces of a ciphertext behind c, which write nothing
-pub record Took (i : ℕ) (rk label iv c : List ℕ) (cs : List (List ℕ)) : Type 0 where
-  pub all : AllDid Opens (List ℕ) opensPiece none (opensAfter i rk label iv c) cs
-  pub state : stateAfter Opens (List ℕ) opensPiece (opensAfter i rk label iv c) cs ≡ opensAfter i rk label iv (c ++ joined cs)
+-- pieces of a ciphertext write nothing, and fit into no output
+abbrev Free : List ℕ → Type 0
+Free c = Unit {0}
 
-pub took : (i : ℕ) (rk label iv : List ℕ) → length label ≤ limit → (c : List ℕ) (cs : List (List ℕ)) → length c + length (joined cs) ≤ limit
-    → Took i rk label iv c cs
-took i rk label iv hl c [] h = record { all = tt; state = ap (opensAfter i rk label iv) (sym (append-nil c)) }
-took i rk label iv hl c (e ∷ cs) h =
-    let n : length (e ++ joined cs) ≡ length e + length (joined cs) = length-append e (joined cs) in
-    let m : length (c ++ e) ≡ length c + length e = length-append c e in
-    let rest = took i rk label iv hl (c ++ e) cs (omega arith) in
-    let x = opens-goes-on i rk label iv c hl e (omega arith) in
-    let behind : stateAfter Opens (List ℕ) opensPiece (opensAfter i rk label iv (c ++ e)) cs ≡ opensAfter i rk label iv (c ++ (e ++ joined cs)) =
-    rest .state ∙ ap (opensAfter i rk label iv) (append-assoc c e (joined cs)) in
-    record {
-      all = (
-        did Opens 0 i false _ (ap (λ (y : Stepped Opens). y .head) x),
-        subst (λ (s : Opens). AllDid Opens (List ℕ) opensPiece none s cs) (sym (ap (λ (y : Stepped Opens). y .state) x)) (rest .all),
-      );
-      state = ap (λ (y : Stepped Opens). stateAfter Opens (List ℕ) opensPiece (y .state) cs) x ∙ behind;
-    }
+opens-goes : (i : ℕ) (rk label iv : List ℕ) → length label ≤ limit
+    → Goes Opens (List ℕ) (λ c. c) none Free (opensAfter i rk label iv) opensPiece
+opens-goes i rk label iv hl d e h f =
+    let x = opens-goes-on i rk label iv d hl e h in
+    (did Opens 0 i false _ (ap (λ (y : Stepped Opens). y .head) x), ap (λ (y : Stepped Opens). y .state) x)
+
+free : (cs : List (List ℕ)) → Every (List ℕ) Free cs
+free [] = tt
+free (c ∷ cs) = (tt, free cs)
 
 -- what a start that answered 0 had in order
 pub record Starts (c : Sm4Cipher) (label iv : List ℕ) : Type 0 where
@@ -272,14 +267,16 @@ opens-in-pieces key cs label iv tag o fits room n e =
     let text = joined cs in
     let passed = opens-starts c label iv e in
     let s = started c label iv passed in
-    let k = took i rk label iv (s .label-fits) [] cs (omega arith) in
+    let (all, state) =
+    went Opens (List ℕ) (λ c. c) none Free (opensAfter i rk label iv) opensPiece (opens-goes i rk label iv (s .label-fits)) [] cs (omega arith)
+    (free cs) in
     let m : length (text ++ tag) ≡ length text + length tag = length-append text tag in
     let size : length (text ++ tag) - 16 ≡ length text = omega arith in
     let ready : Fits label (text ++ tag) o =
     record { label = s .label-fits; longest = omega arith; shortest = omega arith; room = omega arith } in
     let left = leaves Decrypt (inGcm c) label (text ++ tag) iv o (gcm-in-order c label (text ++ tag) iv o (s .key) (s .iv-size) ready) in
     let test = opensUnder rk (hashKey rk) (J0 rk iv) label (text ++ tag) in
-    let end = ap (λ (y : Opens). opensEnd y tag) (k .state) ∙ opens-ended i rk label iv text (s .label-fits) tag fits n in
+    let end = ap (λ (y : Opens). opensEnd y tag) state ∙ opens-ended i rk label iv text (s .label-fits) tag fits n in
     let same = by-test test (gcmRound rk iv (length text)) (length (text ++ tag) - 16) in
     let told = ap (λ (r : ℕ). tellingDone (gcmRound rk iv r) (gcmHead (cond test (Gcm·Done (length (text ++ tag) - 16)) InvalidTag))) size in
     subst
@@ -288,7 +285,7 @@ opens-in-pieces key cs label iv tag o fits room n e =
     ≡ modeCall Decrypt (inGcm c) label (text ++ tag) iv o .head .number)
     × TellsAlike Opens (opensEnd (stateAfter Opens (List ℕ) opensPiece (x .state) cs) tag) (modeCall Decrypt (inGcm c) label (text ++ tag) iv o))
     (sym (opens-started c label iv passed)) (
-      k .all,
+      all,
       ap (λ (x : Stepped Opens). x .head .number) end ∙ same .0 ∙ sym (ap (λ (x : Outcome). x .head .number) left),
       ap (λ (x : Stepped Opens). x .head .cameRound) end ∙ same .1 ∙ sym (ap (λ (h : Head). h .cameRound) told)
           ∙ sym (ap (λ (x : Outcome). x .head .cameRound) left),
@@ -300,23 +297,6 @@ opens-in-pieces key cs label iv tag o fits room n e =
 passed-on : (S : Type 0) (k : Checked) (o : List ℕ) (s : S) (next : Stepped S) → goesOn S k o s next .head .number ≡ 0 → k ≡ Passed
 passed-on S Passed o s next e = refl
 passed-on S (Refused r) o s next e = absurd (refuses r .not-zero e)
-
--- pieces that all answered 0 are within the limit, and each had room
-module _ (S : Type 0) (text : List ℕ → List ℕ) (after : List ℕ → S) (call : S → Piece → Stepped S) (i : ℕ) (g : Goes S i text after call)
-    (fits : (d : List ℕ) (p : Piece) → call (after d) p .head .number ≡ 0
-    → (length d + length (p .text) ≤ limit) × (length (p .text) ≤ length (p .out))) where
-  all-fit : (d : List ℕ) (ps : List Piece) → length d ≤ limit → AllZero S Piece call (after d) ps
-      → (length d + length (whole ps) ≤ limit) × Roomy ps
-  all-fit d [] h z = (omega arith, tt)
-  all-fit d (p ∷ ps) h (z, zs) =
-      let f = fits d p z in
-      let here = f .0 in
-      let n : length (p .text ++ whole ps) ≡ length (p .text) + length (whole ps) = length-append (p .text) (whole ps) in
-      let m : length (d ++ p .text) ≡ length d + length (p .text) = length-append d (p .text) in
-      let state = ap (λ (x : Stepped S). x .state) (g .goes d p here (f .1)) in
-      let rest = all-fit (d ++ p .text) ps (omega arith) (subst (λ (s : S). AllZero S Piece call s ps) state zs) in
-      let all = rest .0 in
-      (omega arith, (f .1, rest .1))
 
 ctr-fits : (i mark : ℕ) (rk iv d : List ℕ) (p : Piece) → onto Ctr ctrPiece (ctrAfter i mark rk iv d) p .head .number ≡ 0
     → (length d + length (p .text) ≤ limit) × (length (p .text) ≤ length (p .out))
@@ -396,13 +376,13 @@ ctr-of-pieces decrypt k ps label iv o room e z _ =
     let call = onto Ctr ctrPiece in
     let m : Sm4CipherMode = record { cipher = c; mode = Ctr·mode } in
     let zs = subst (λ (x : Stepped Ctr). AllZero Ctr Piece call (x .state) ps) (ctr-started dir c iv (ctr-passed dir c iv e)) z in
-    let f =
-    all-fit Ctr (chain (streamMode Ctr·kind rk) iv) (ctrAfter i (c .engine) rk iv) call i (ctr-goes i (c .engine) rk iv)
-    (ctr-fits i (c .engine) rk iv) [] ps (omega arith) zs in
-    let within = f .0 in
+    let after = ctrAfter i (c .engine) rk iv in
+    let goes = piece-goes Ctr i (chain (streamMode Ctr·kind rk) iv) after call (ctr-writes i (c .engine) rk iv) in
+    let (within, roomy) =
+    all-fit Ctr Piece (λ p. p .text) sizeOf Room after call goes (ctr-fits i (c .engine) rk iv) [] ps (omega arith) zs in
     let left = leaves dir m label (whole ps) iv o (ctr-single dir c label (whole ps) iv o e (omega arith) room) in
     let zero : modeCall dir m label (whole ps) iv o .head .number ≡ 0 = ap (λ (x : Outcome). x .head .number) left in
-    let made = ctr-in-pieces decrypt k ps label iv o (f .1) zero in
+    let made = ctr-in-pieces decrypt k ps label iv o roomy zero in
     (zero, made .1, made .2)
 
 pub seal-of-pieces : (k : LuossavinKey) → SealOfPieces Seal (hostSealStart k) sealPiece sealEnd (hostModeCall Encrypt 4 k)
@@ -416,34 +396,23 @@ seal-of-pieces k ps label iv t o room e z last =
     let start = seal-started c label iv passed in
     let hl = starting-passed (c .answer) (c .retired) Encrypt (length iv) (length label) passed .labelled in
     let after = sealAfter i (c .engine) rk label iv in
-    let g = seal-goes i (c .engine) rk label iv hl in
+    let goes = piece-goes Seal i (textOf rk (J0 rk iv)) after call (seal-writes i (c .engine) rk label iv hl) in
     let zs = subst (λ (x : Stepped Seal). AllZero Seal Piece call (x .state) ps) start z in
-    let f = all-fit Seal (textOf rk (J0 rk iv)) after call i g (seal-fits i (c .engine) rk label iv) [] ps (omega arith) zs in
-    let within = f .0 in
-    let w = went Seal (textOf rk (J0 rk iv)) after call i g [] ps (omega arith) (f .1) in
+    let (within, roomy) =
+    all-fit Seal Piece (λ p. p .text) sizeOf Room after call goes (seal-fits i (c .engine) rk label iv) [] ps (omega arith) zs in
+    let w = went Seal Piece (λ p. p .text) sizeOf Room after call goes [] ps (omega arith) roomy .1 in
     let end = subst (λ (x : Stepped Seal). sealEnd (stateAfter Seal Piece call (x .state) ps) t .head .number ≡ 0) start last in
-    let sixteen = tag-fits i (c .engine) rk label iv (whole ps) t (subst (λ (s : Seal). sealEnd s t .head .number ≡ 0) (w .state) end) in
+    let sixteen = tag-fits i (c .engine) rk label iv (whole ps) t (subst (λ (s : Seal). sealEnd s t .head .number ≡ 0) w end) in
     let left = leaves Encrypt (inGcm c) label (whole ps) iv o (seal-single c label (whole ps) iv o e (omega arith) room) in
     let zero : modeCall Encrypt (inGcm c) label (whole ps) iv o .head .number ≡ 0 = ap (λ (x : Outcome). x .head .number) left in
-    let made = seal-in-pieces k ps label iv t o (f .1) sixteen zero in
+    let made = seal-in-pieces k ps label iv t o roomy sixteen zero in
     (zero, made .1, made .2)
 
 -- pieces of a ciphertext that were all taken are within the limit
-piece-fits : (i : ℕ) (rk label iv c e : List ℕ) → opensPiece (opensAfter i rk label iv c) e .head .number ≡ 0 → length c + length e ≤ limit
+piece-fits : (i : ℕ) (rk label iv c e : List ℕ) → opensPiece (opensAfter i rk label iv c) e .head .number ≡ 0
+    → (length c + length e ≤ limit) × Free e
 unfolding opensPiece opensAfter
-piece-fits i rk label iv c e z = running-passed 0 (length label) (length c) (length e) (passed-on Opens _ [] _ _ z) .within
-
-all-taken : (i : ℕ) (rk label iv : List ℕ) → length label ≤ limit → (c : List ℕ) (cs : List (List ℕ)) → length c ≤ limit
-    → AllZero Opens (List ℕ) opensPiece (opensAfter i rk label iv c) cs → length c + length (joined cs) ≤ limit
-all-taken i rk label iv hl c [] h z = omega arith
-all-taken i rk label iv hl c (e ∷ cs) h (z, zs) =
-    let here = piece-fits i rk label iv c e z in
-    let n : length (e ++ joined cs) ≡ length e + length (joined cs) = length-append e (joined cs) in
-    let m : length (c ++ e) ≡ length c + length e = length-append c e in
-    let state = ap (λ (x : Stepped Opens). x .state) (opens-goes-on i rk label iv c hl e here) in
-    let rest =
-    all-taken i rk label iv hl (c ++ e) cs (omega arith) (subst (λ (s : Opens). AllZero Opens (List ℕ) opensPiece s cs) state zs) in
-    omega arith
+piece-fits i rk label iv c e z = (running-passed 0 (length label) (length c) (length e) (passed-on Opens _ [] _ _ z) .within, tt)
 
 tag-size : (i : ℕ) (rk label iv c tag : List ℕ) → opensEnd (opensAfter i rk label iv c) tag .head .number ≡ 0 → length tag ≡ 16
 unfolding opensEnd opensAfter
@@ -459,11 +428,13 @@ opens-of-pieces key cs label iv tag o room e z last =
     let s = started c label iv passed in
     let start = opens-started c label iv passed in
     let zs = subst (λ (x : Stepped Opens). AllZero Opens (List ℕ) opensPiece (x .state) cs) start z in
-    let within = all-taken i rk label iv (s .label-fits) [] cs (omega arith) zs in
-    let k = took i rk label iv (s .label-fits) [] cs (omega arith) in
+    let goes = opens-goes i rk label iv (s .label-fits) in
+    let after = opensAfter i rk label iv in
+    let (within, f) = all-fit Opens (List ℕ) (λ c. c) none Free after opensPiece goes (piece-fits i rk label iv) [] cs (omega arith) zs in
+    let k = went Opens (List ℕ) (λ c. c) none Free after opensPiece goes [] cs (omega arith) f .1 in
     let end =
     subst (λ (x : Stepped Opens). opensEnd (stateAfter Opens (List ℕ) opensPiece (x .state) cs) tag .head .number ≡ 0) start last in
-    let sixteen = tag-size i rk label iv (joined cs) tag (subst (λ (s : Opens). opensEnd s tag .head .number ≡ 0) (k .state) end) in
+    let sixteen = tag-size i rk label iv (joined cs) tag (subst (λ (s : Opens). opensEnd s tag .head .number ≡ 0) k end) in
     sym (opens-in-pieces key cs label iv tag o (omega arith) room sixteen e .1) ∙ last
 
 -- A start that is refused: the check of the single call begins with its own.

@@ -47,15 +47,25 @@ onto S piece s p = piece s (p .text) (p .out)
 abbrev pub sizeOf : Piece → ℕ
 sizeOf p = length (p .text)
 
+-- what all of them bring, joined, and what holds of each
+abbrev pub gathered : (P : Type 0) → (P → List ℕ) → List P → List ℕ
+gathered P content [] = []
+gathered P content (p ∷ ps) = content p ++ gathered P content ps
+
+abbrev pub Every : (P : Type 0) → (P → Type 0) → List P → Type 0
+Every P Holds [] = Unit {0}
+Every P Holds (p ∷ ps) = Holds p × Every P Holds ps
+
 -- the message that the pieces make
 abbrev pub whole : List Piece → List ℕ
-whole [] = []
-whole (p ∷ ps) = p .text ++ whole ps
+whole ps = gathered Piece (λ p. p .text) ps
 
--- each output has room for its piece
+-- an output has room for its piece, and each does
+abbrev pub Room : Piece → Type 0
+Room p = length (p .text) ≤ length (p .out)
+
 abbrev pub Roomy : List Piece → Type 0
-Roomy [] = Unit {0}
-Roomy (p ∷ ps) = (length (p .text) ≤ length (p .out)) × Roomy ps
+Roomy ps = Every Piece Room ps
 
 -- all answered 0: the start with no bytes, each piece with its own length, the end with n
 pub record AllDone (S : Type 0) (call : S → Piece → Stepped S) (started : Stepped S) (ps : List Piece) (n : ℕ) (ended : Stepped S) : Type 0 where
@@ -113,8 +123,7 @@ SealOfPieces S start piece end single =
 
 -- the ciphertext that the pieces make which an opening takes; they lend no output
 abbrev pub joined : List (List ℕ) → List ℕ
-joined [] = []
-joined (c ∷ cs) = c ++ joined cs
+joined cs = gathered (List ℕ) (λ c. c) cs
 
 abbrev pub none : List ℕ → ℕ
 none c = 0
