@@ -2,10 +2,10 @@
 -- the rows that tell which one is answered.
 -- Assumes nothing.
 use Rattle.demands.specs.Names as N
-use N.{Bool, _&&_, cond, false, true, List, [], _∷_, map, _≢_, _∙_, _≡_, ap, refl, _<_, _≤_, ℕ, arith, drop, getD, length, length-append}
-use N.{length-drop, drop-at, Head, Outcome, finished, refusal, refuseAs, over, refusalHead, checked, Ending, Done, Refused·ending, Refusal}
-use N.{EmptyCbc, Ended, ErrorBlockSize, ErrorDataLen, Refusal·LastU8, Refusal·Padding, Refusal·Tag, NoRoom, Retired, ShortGcm, TooLong}
-use N.{WrongBlock, WrongIv, WrongNumber, Checked, Passed, Refused}
+use N.{Bool, _&&_, cond, false, true, List, [], _∷_, map, _≢_, _⊎_, inl, inr, _∙_, _≡_, ap, refl, _<_, _≤_, ℕ, arith, eqb, drop, getD}
+use N.{length, length-append, length-drop, drop-at, eqb-false, Head, Outcome, finished, refusal, refuseAs, over, refusalHead, checked}
+use N.{Ending, Done, Refused·ending, Refusal, EmptyCbc, Ended, ErrorBlockSize, ErrorDataLen, Refusal·LastU8, Refusal·Padding, Refusal·Tag}
+use N.{NoRoom, Retired, ShortGcm, TooLong, WrongBlock, WrongIv, WrongNumber, Checked, Passed, Refused}
 use Rattle.cipher_mode.proofs.Refusals.{refuses}
 use Rattle.demands.specs.Answered.{oneOf, Answered}
 use Rattle.demands.specs.WhichNumber.{Said, Row, firstOf}
@@ -37,6 +37,19 @@ spelled Ended = (refl, λ _. refl)
 spelled WrongNumber = (refl, λ _. refl)
 spelled Retired = (refl, λ _. refl)
 spelled Refusal·Padding = (refl, λ _. refl)
+
+-- a yes or no that is told as one of two numbers
+pub is-true : (m n : ℕ) → eqb n m ≡ false → (t : Bool) → cond t m n ≡ m → t ≡ true
+is-true m n d true e = refl
+is-true m n d false e = absurd (eqb-false n m d e)
+
+pub is-false : (m n : ℕ) → eqb m n ≡ false → (t : Bool) → cond t m n ≡ n → t ≡ false
+is-false m n d true e = absurd (eqb-false m n d e)
+is-false m n d false e = refl
+
+pub one-or-none : (t : Bool) → (_≡_ {A = ℕ} (cond t 1 0) 1) ⊎ (_≡_ {A = ℕ} (cond t 1 0) 0)
+one-or-none true = inl refl
+one-or-none false = inr refl
 
 -- whether a list of rows gives numbers of a list alone, and then so does a call that says what they say
 abbrev pub within : List Row → List ℕ → Bool

@@ -13,28 +13,26 @@ use N.{hostCtrByPlan, hostCtrRange, Told, hostWhich, LuossavinKeys, LuossavinKey
 use Rattle.demands.specs.EngineUnseen.{unmarked, unmarkedCtr, unmarkedSeal, seen, CtrAlike, SealAlike, unmarkedHost, ReportedAlike}
 use Rattle.demands.specs.EngineUnseen.{unmarkedKeys}
 
--- a call that leaves a state, by what its check says
-module _ (S : Type 0) (without : S → S) (n : ℕ) (k : Checked) where
-  starts-alike : (shut : ℕ → S) (s t : S) → without s ≡ without t
-      → seen S without (stepOn S n (begun S k shut s)) ≡ seen S without (stepOn S n (begun S k shut t))
-  starts-alike shut s t e = by k
-    where
-      by : (x : Checked) → seen S without (stepOn S n (begun S x shut s)) ≡ seen S without (stepOn S n (begun S x shut t))
-      by Passed = ap {B = Stepped S} (λ (u : S). seen S (λ y. y) (stepOn S n (begun S Passed shut u))) e
-      by (Refused r) = refl
+-- what does not look at a mark is the same of things that are alike but for it
+by-mark : (R O : Type 0) (without : R → R) (r s : R) → without r ≡ without s → (f : R → O) → ((x : R) → f (without x) ≡ f x) → f r ≡ f s
+by-mark R O without r s alike f e = sym (e r) ∙ ap {B = O} f alike ∙ e s
 
-  goes-alike : (o : List ℕ) (s t : S) (x y : Stepped S) → without s ≡ without t → seen S without x ≡ seen S without y
-      → seen S without (stepOn S n (goesOn S k o s x)) ≡ seen S without (stepOn S n (goesOn S k o t y))
-  goes-alike o s t x y e f = by k
-    where
-      by : (q : Checked) → seen S without (stepOn S n (goesOn S q o s x)) ≡ seen S without (stepOn S n (goesOn S q o t y))
-      by Passed = ap {B = Stepped S} (stepOn S n) f
-      by (Refused r) = ap {B = Stepped S} (λ (u : S). record { head = under n (refusalHead r); bytes = o; state = u }) e
+-- a call that leaves a state, by what its check says
+starts-alike : (S : Type 0) (without : S → S) (n : ℕ) (k : Checked) (shut : ℕ → S) (s t : S) → without s ≡ without t
+    → seen S without (stepOn S n (begun S k shut s)) ≡ seen S without (stepOn S n (begun S k shut t))
+starts-alike S without n Passed shut s t e = ap {B = Stepped S} (λ (u : S). seen S (λ y. y) (stepOn S n (begun S Passed shut u))) e
+starts-alike S without n (Refused r) shut s t e = refl
+
+goes-alike : (S : Type 0) (without : S → S) (n : ℕ) (k : Checked) (o : List ℕ) (s t : S) (x y : Stepped S) → without s ≡ without t
+    → seen S without x ≡ seen S without y → seen S without (stepOn S n (goesOn S k o s x)) ≡ seen S without (stepOn S n (goesOn S k o t y))
+goes-alike S without n Passed o s t x y e f = ap {B = Stepped S} (stepOn S n) f
+goes-alike S without n (Refused r) o s t x y e f =
+    ap {B = Stepped S} (λ (u : S). record { head = under n (refusalHead r); bytes = o; state = u }) e
 
 -- Records that are alike but for the engine.
 module _ (k l : LuossavinKey) (alike : unmarkedHost k ≡ unmarkedHost l) where
   by-record : (O : Type 0) (f : LuossavinKey → O) → ((x : LuossavinKey) → f (unmarkedHost x) ≡ f x) → f k ≡ f l
-  by-record O f e = sym (e k) ∙ ap {B = O} f alike ∙ e l
+  by-record O = by-mark LuossavinKey O unmarkedHost k l alike
 
   pub engine-unseen : ReportedAlike k l
   unfolding hostKeyEngine cipherIn hostBlockCall blockCall hostModeCall modeCall hostCtrStart ctrStart ctrAfter hostSealStart sealStart sealAfter
@@ -61,49 +59,26 @@ unfolding hostKeyEngine
 marked-alike k e = engine-unseen (hostKeyEngine k e) k refl
 
 -- States that are.
-ctr-piece-unmarked : (s : Ctr) (e o : List ℕ)
-    → seen Ctr unmarkedCtr (ctrPiece (unmarkedCtr s) e o) ≡ seen Ctr unmarkedCtr (ctrPiece s e o)
-unfolding ctrPiece
-ctr-piece-unmarked s e o =
-    goes-alike Ctr unmarkedCtr (s .key) (writing (s .stands) 0 (s .total) (length e) (length e) (length o)) o (unmarkedCtr s) s _ _ refl refl
+pub engine-unseen-in-ctr : (s t : Ctr) → unmarkedCtr s ≡ unmarkedCtr t → CtrAlike s t
+unfolding ctrPiece ctrEnd
+engine-unseen-in-ctr s t alike =
+    record {
+      piece = λ e o. by-mark Ctr (Stepped Ctr) unmarkedCtr s t alike (λ x. seen Ctr unmarkedCtr (ctrPiece x e o)) (λ x.
+          goes-alike Ctr unmarkedCtr (x .key) (writing (x .stands) 0 (x .total) (length e) (length e) (length o)) o (unmarkedCtr x) x _ _ refl refl);
+      end = by-mark Ctr (Stepped Ctr) unmarkedCtr s t alike (λ x. seen Ctr unmarkedCtr (ctrEnd x)) (λ x.
+          goes-alike Ctr unmarkedCtr (x .key) (running (x .stands) 0 (x .total) 0) [] (unmarkedCtr x) x _ _ refl refl);
+    }
 
-ctr-end-unmarked : (s : Ctr) → seen Ctr unmarkedCtr (ctrEnd (unmarkedCtr s)) ≡ seen Ctr unmarkedCtr (ctrEnd s)
-unfolding ctrEnd
-ctr-end-unmarked s = goes-alike Ctr unmarkedCtr (s .key) (running (s .stands) 0 (s .total) 0) [] (unmarkedCtr s) s _ _ refl refl
-
-seal-piece-unmarked : (s : Seal) (e o : List ℕ)
-    → seen Seal unmarkedSeal (sealPiece (unmarkedSeal s) e o) ≡ seen Seal unmarkedSeal (sealPiece s e o)
-unfolding sealPiece
-seal-piece-unmarked s e o =
-    goes-alike Seal unmarkedSeal (s .key) (writing (s .stands) (s .label) (s .total) (length e) (length e) (length o)) o (unmarkedSeal s) s
-    _ _ refl refl
-
-seal-end-unmarked : (s : Seal) (o : List ℕ) → seen Seal unmarkedSeal (sealEnd (unmarkedSeal s) o) ≡ seen Seal unmarkedSeal (sealEnd s o)
-unfolding sealEnd
-seal-end-unmarked s o =
-    goes-alike Seal unmarkedSeal (s .key) (writing (s .stands) (s .label) (s .total) 0 16 (length o)) o (unmarkedSeal s) s _ _ refl refl
-
-module _ (s t : Ctr) (alike : unmarkedCtr s ≡ unmarkedCtr t) where
-  by-ctr : (f : Ctr → Stepped Ctr) → ((x : Ctr) → f (unmarkedCtr x) ≡ f x) → f s ≡ f t
-  by-ctr f e = sym (e s) ∙ ap {B = Stepped Ctr} f alike ∙ e t
-
-  pub engine-unseen-in-ctr : CtrAlike s t
-  engine-unseen-in-ctr =
-      record {
-        piece = λ e o. by-ctr (λ x. seen Ctr unmarkedCtr (ctrPiece x e o)) (λ x. ctr-piece-unmarked x e o);
-        end = by-ctr (λ x. seen Ctr unmarkedCtr (ctrEnd x)) ctr-end-unmarked;
-      }
-
-module _ (s t : Seal) (alike : unmarkedSeal s ≡ unmarkedSeal t) where
-  by-seal : (f : Seal → Stepped Seal) → ((x : Seal) → f (unmarkedSeal x) ≡ f x) → f s ≡ f t
-  by-seal f e = sym (e s) ∙ ap {B = Stepped Seal} f alike ∙ e t
-
-  pub engine-unseen-in-seal : SealAlike s t
-  engine-unseen-in-seal =
-      record {
-        piece = λ e o. by-seal (λ x. seen Seal unmarkedSeal (sealPiece x e o)) (λ x. seal-piece-unmarked x e o);
-        end = λ o. by-seal (λ x. seen Seal unmarkedSeal (sealEnd x o)) (λ x. seal-end-unmarked x o);
-      }
+pub engine-unseen-in-seal : (s t : Seal) → unmarkedSeal s ≡ unmarkedSeal t → SealAlike s t
+unfolding sealPiece sealEnd
+engine-unseen-in-seal s t alike =
+    record {
+      piece = λ e o. by-mark Seal (Stepped Seal) unmarkedSeal s t alike (λ x. seen Seal unmarkedSeal (sealPiece x e o)) (λ x.
+          goes-alike Seal unmarkedSeal (x .key) (writing (x .stands) (x .label) (x .total) (length e) (length e) (length o)) o
+          (unmarkedSeal x) x _ _ refl refl);
+      end = λ o. by-mark Seal (Stepped Seal) unmarkedSeal s t alike (λ x. seen Seal unmarkedSeal (sealEnd x o)) (λ x.
+          goes-alike Seal unmarkedSeal (x .key) (writing (x .stands) (x .label) (x .total) 0 16 (length o)) o (unmarkedSeal x) x _ _ refl refl);
+    }
 
 -- What a host's record is without its mark.
 pub host-unmarked : (k : LuossavinKey) → cipherIn (unmarkedHost k) ≡ unmarked (cipherIn k)

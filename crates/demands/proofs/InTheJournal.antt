@@ -2,8 +2,8 @@
 -- recorded as they were answered agree.
 -- Assumes nothing.
 use Rattle.demands.specs.Names as N
-use N.{Bool, cond, false, not, true, List, [], _++_, _∷_, append-nil, _⊎_, inl, inr, ⊎-elim, _∙_, _≡_, ap, refl, sym, _+_, _<_, suc, zero}
-use N.{ℕ, arith, eqb, ltb, drop, length, take, take-at, lt-ltb, AreBytes, Head, Outcome, over, Sm4Cipher, AllReplayable, Ends, NoneDiffers}
+use N.{Bool, cond, false, not, true, List, [], _++_, _∷_, append-nil, inl, inr, ⊎-elim, _∙_, _≡_, ap, refl, sym, _+_, _<_, suc, zero, ℕ}
+use N.{arith, eqb, ltb, drop, length, take, take-at, lt-ltb, AreBytes, Head, Outcome, over, Sm4Cipher, AllReplayable, Ends, NoneDiffers}
 use N.{Totals, countedAll, differs, Entry, front·journal as front, sizeAt·journal as sizeAt, startsRecord·journal as startsRecord}
 use N.{stored·journal as stored, tooLong, written·journal as written, added, behindReport, badKeys, hasNumber, keyOf·journal as keyOf}
 use N.{keysIn, answeredBy, callInto, recomputed, resultOf as result, done·journal as done, numberOfEnd, journalRefuse as refuse, replay}
@@ -17,16 +17,8 @@ use Rattle.journal.proofs.Ending.{bad-keys, ends-so, ends-alone, replayed-whole
 use Rattle.journal.proofs.Totals.{totals-told}
 use Rattle.journal.proofs.Agrees.{answered-agrees, agrees-so, none-told, all-agree, first-told}
 use Rattle.demands.specs.Answered.{oneOf}
+use Rattle.demands.proofs.Answering.{is-true, is-false, one-or-none}
 use Rattle.demands.specs.InTheJournal.{ReplayAnswered, ReplayEnds, Added, Recorded, AllRecorded, AllAnswered}
-
--- what 1 or 0 says
-found-by : (t : Bool) → _≡_ {A = ℕ} (cond t 1 0) 1 → t ≡ true
-found-by true e = refl
-found-by false e = absurd (omega arith)
-
-none-by : (t : Bool) → _≡_ {A = ℕ} (cond t 1 0) 0 → t ≡ false
-none-by true e = absurd (omega arith)
-none-by false e = refl
 
 -- Which number exactly when: the replay ends as keys and journal say, and in no other way.
 end-back : ℕ → Ended
@@ -86,7 +78,7 @@ module _ (k : LuossavinKeys) (journal : List ℕ) (small : AreBytes journal) (go
   pub exported-none-told : hostReplay k journal .differs ≡ 0 → AllAnswered k (ends .calls)
   unfolding toldOf
   exported-none-told z =
-      all-answered (ends .calls) (all-agree ks journal x ends (none-by (x .report .first .found) (rw told-so at z)))
+      all-answered (ends .calls) (all-agree ks journal x ends (is-false 1 0 refl (x .report .first .found) (rw told-so at z)))
 
 -- Calls recorded as they were answered.
 module _ (keys : LuossavinKeys) (e : Entry) (r : Recorded keys e) where
@@ -191,14 +183,14 @@ behind-added size x y =
       byAnswer = refl;
       bytesIn = refl;
       bytesOut = refl;
-      earlier = λ e. let f = found-by (x .report .first .found) e in rw f (refl, refl, refl);
+      earlier = λ e. let f = is-true 1 0 refl (x .report .first .found) e in rw f (refl, refl, refl);
       later = λ e g.
-          let f = none-by (x .report .first .found) e in
-          let h = found-by (y .report .first .found) g in
+          let f = is-false 1 0 refl (x .report .first .found) e in
+          let h = is-true 1 0 refl (y .report .first .found) g in
           rw (f, h) (refl, refl, refl);
       none = λ e g.
-          let f = none-by (x .report .first .found) e in
-          let h = none-by (y .report .first .found) g in
+          let f = is-false 1 0 refl (x .report .first .found) e in
+          let h = is-false 1 0 refl (y .report .first .found) g in
           rw (f, h) refl;
     }
 
@@ -214,10 +206,6 @@ known-end BadRecord = refl
 known-end TooLong = refl
 known-end UnknownKey = refl
 known-end BadKeys = refl
-
-one-or-none : (t : Bool) → (_≡_ {A = ℕ} (cond t 1 0) 1) ⊎ (_≡_ {A = ℕ} (cond t 1 0) 0)
-one-or-none true = inl refl
-one-or-none false = inr refl
 
 -- no record ends with bad keys, and a journal that is replayed to its end has no place
 abbrev Ending : Replayed → Type 0
@@ -273,6 +261,6 @@ exported-replay-answers k journal =
       done = ends .0;
       bad-keys = λ z. ap toldOf (ends .1 z);
       differs = one-or-none (x .report .first .found);
-      first = λ z. first .inside (found-by (x .report .first .found) z);
-      none = λ z. first .nowhere (none-by (x .report .first .found) z);
+      first = λ z. first .inside (is-true 1 0 refl (x .report .first .found) z);
+      none = λ z. first .nowhere (is-false 1 0 refl (x .report .first .found) z);
     }

@@ -2,11 +2,11 @@
 -- editions it is the one; and demand 1 of the question.
 -- Assumes nothing.
 use Rattle.demands.specs.Names as N
-use N.{Bool, cond, false, true, List, [], _∷_, _≢_, _⊎_, inl, inr, _∙_, _≡_, ap, refl, subst, sym, _-_, _<_, _^_, _≤_, suc, zero, ℕ, arith}
-use N.{ltb, drop, getD, length, length-take, take, ltb-false, Head, Outcome, finished, refusal, gcmOpen, gcmHead, settled, Gcm·Done}
-use N.{InvalidTag, modeCall, keyNumber, limit, modeOf, Gcm, Decrypt, Sm4Cipher, Checked, Passed, Refused, anyTooLong, badList, labelAt}
-use N.{Verdict, checkedVerdict, firstOpening, noneWith, onKey, opensWith, searchCheck, which, labelOf, hostModeCall, cipherIn, hostWhich}
-use N.{toldOf, LuossavinKey}
+use N.{Bool, cond, false, true, List, [], _∷_, _≢_, _⊎_, _∙_, _≡_, ap, refl, subst, sym, _-_, _<_, _^_, _≤_, suc, zero, ℕ, arith, ltb, drop}
+use N.{getD, length, length-take, take, ltb-false, Head, Outcome, finished, refusal, gcmOpen, gcmHead, settled, Gcm·Done, InvalidTag}
+use N.{modeCall, keyNumber, limit, modeOf, Gcm, Decrypt, Sm4Cipher, Checked, Passed, Refused, anyTooLong, badList, labelAt, Verdict}
+use N.{checkedVerdict, firstOpening, noneWith, onKey, opensWith, searchCheck, which, labelOf, hostModeCall, cipherIn, hostWhich, toldOf}
+use N.{LuossavinKey}
 use Rattle.cipher_mode.proofs.Passed.{data-within, with-tag-passed}
 use Rattle.cipher_mode.proofs.Refusals.{refuses}
 use Rattle.editions.proofs.Turns.{or-false}
@@ -15,6 +15,7 @@ use Rattle.editions.proofs.FirstOpening.{IsFirst, search-number}
 use Rattle.editions.proofs.WhichOpens.{Asked, first-opens, none-opens, found-opens, none-found, zero-unless-found, done-asked}
 use Rattle.demands.specs.Call.{inGcm, RefusedAs}
 use Rattle.demands.specs.OneBlockRefused.{MovesZero}
+use Rattle.demands.proofs.Answering.{is-true, is-false, one-or-none}
 use Rattle.demands.specs.Which.{FirstThatOpens, Tells, WhichAnswered}
 use Rattle.demands.proofs.Through.{leaves}
 use Rattle.demands.proofs.OneBlockRefused.{Fits, gcm-in-order, other-edition-refused}
@@ -34,19 +35,6 @@ short-candidate labels lengths i e = let n = short-at lengths i e in simp length
 by-test : (t : Bool) (n : ℕ) → gcmHead (cond t (Gcm·Done n) InvalidTag) .number ≡ cond t 0 4
 by-test true n = refl
 by-test false n = refl
-
--- a yes or no that is told as 1 or 0
-is-one : (t : Bool) → _≡_ {A = ℕ} (cond t 1 0) 1 → t ≡ true
-is-one true e = refl
-is-one false e = absurd (omega arith)
-
-is-zero : (t : Bool) → _≡_ {A = ℕ} (cond t 1 0) 0 → t ≡ false
-is-zero true e = absurd (omega arith)
-is-zero false e = refl
-
-one-or-none : (t : Bool) → (_≡_ {A = ℕ} (cond t 1 0) 1) ⊎ (_≡_ {A = ℕ} (cond t 1 0) 0)
-one-or-none true = inl refl
-one-or-none false = inr refl
 
 module _ (c : Sm4Cipher) (file iv labels lengths o : List ℕ) (room : length file - 16 ≤ length o) where
   abbrev test : ℕ → Bool
@@ -70,53 +58,41 @@ module _ (c : Sm4Cipher) (file iv labels lengths o : List ℕ) (room : length fi
       ∙ by-test (test i) (length file - 16)
 
   -- 0 where the test holds, 4 where it does not, and the other way about
-  yes : Asked c file iv labels lengths → (i : ℕ) → test i ≡ true
-      → modeCall Decrypt (inGcm c) (labelAt labels lengths i) file iv o .head .number ≡ 0
-  yes a i e = answers a i ∙ ap (λ (t : Bool). cond t 0 4) e
-
-  no : Asked c file iv labels lengths → (i : ℕ) → test i ≡ false
-      → modeCall Decrypt (inGcm c) (labelAt labels lengths i) file iv o .head .number ≡ 4
-  no a i e = answers a i ∙ ap (λ (t : Bool). cond t 0 4) e
-
-  holds : (t : Bool) → _≡_ {A = ℕ} (cond t 0 4) 0 → t ≡ true
-  holds true e = refl
-  holds false e = absurd (omega arith)
-
-  fails : (t : Bool) → _≡_ {A = ℕ} (cond t 0 4) 4 → t ≡ false
-  fails true e = absurd (omega arith)
-  fails false e = refl
+  says : Asked c file iv labels lengths → (i : ℕ) (t : Bool) → test i ≡ t
+      → modeCall Decrypt (inGcm c) (labelAt labels lengths i) file iv o .head .number ≡ cond t 0 4
+  says a i t e = answers a i ∙ ap (λ (t : Bool). cond t 0 4) e
 
   first : Asked c file iv labels lengths → (i : ℕ) → FirstThatOpens (modeCall Decrypt (inGcm c)) file iv labels lengths o i
       → IsFirst (opensWith c iv file) labels lengths i
   first a i f =
       record {
         inside = f .inside;
-        passes = holds (test i) (sym (answers a i) ∙ f .opens);
-        none-before = λ j h. fails (test j) (sym (answers a j) ∙ f .before j h);
+        passes = is-true 0 4 refl (test i) (sym (answers a i) ∙ f .opens);
+        none-before = λ j h. is-false 0 4 refl (test j) (sym (answers a j) ∙ f .before j h);
       }
 
   tells : Tells (modeCall Decrypt (inGcm c)) file iv labels lengths o (toldOf (which c file iv labels lengths))
   tells =
       record {
         found = λ e.
-            let f = found-opens c file iv labels lengths (is-one _ e) in
+            let f = found-opens c file iv labels lengths (is-true 1 0 refl _ e) in
             record {
               inside = f .first .inside;
-              opens = yes (f .asked) _ (f .first .passes);
-              before = λ j h. no (f .asked) j (f .first .none-before j h);
+              opens = says (f .asked) _ true (f .first .passes);
+              before = λ j h. says (f .asked) j false (f .first .none-before j h);
             };
         is-found = λ d i f.
             let a = done-asked c file iv labels lengths d in
             let v = first-opens c file iv labels lengths a i (first a i f) in
             (ap (λ (v : Verdict). toldOf v .found) v, ap (λ (v : Verdict). v .place) v);
         none = λ d e i h.
-            let n = none-found c file iv labels lengths (is-zero _ e) d in
-            no (n .asked) i (n .none i h);
+            let n = none-found c file iv labels lengths (is-false 1 0 refl _ e) d in
+            says (n .asked) i false (n .none i h);
         is-none = λ d f.
             let a = done-asked c file iv labels lengths d in
-            let v = none-opens c file iv labels lengths a (λ i h. fails (test i) (sym (answers a i) ∙ f i h)) in
+            let v = none-opens c file iv labels lengths a (λ i h. is-false 0 4 refl (test i) (sym (answers a i) ∙ f i h)) in
             ap (λ (v : Verdict). toldOf v .found) v;
-        part = λ e. found-opens c file iv labels lengths (is-one _ e) .there;
+        part = λ e. found-opens c file iv labels lengths (is-true 1 0 refl _ e) .there;
       }
 
 -- What the exported question tells is what the exported single call of mode 4, given room, answers to each candidate: found at i exactly
@@ -174,9 +150,9 @@ module _ (c : Sm4Cipher) (file iv labels lengths : List ℕ) where
         size = told-size (badList labels lengths);
         either = one-or-none (told (badList labels lengths) .found);
         refused = λ n. ap (λ (t : Bool). cond t 1 0) (told-refused (badList labels lengths) n);
-        inside = λ e. found-opens c file iv labels lengths (is-one _ e) .inside;
+        inside = λ e. found-opens c file iv labels lengths (is-true 1 0 refl _ e) .inside;
         empty = λ e.
-            let v = zero-unless-found c file iv labels lengths (is-zero _ e) in
+            let v = zero-unless-found c file iv labels lengths (is-false 1 0 refl _ e) in
             (ap (λ (v : Verdict). v .place) v, ap (λ (v : Verdict). v .start) v, ap (λ (v : Verdict). v .size) v);
       }
 
