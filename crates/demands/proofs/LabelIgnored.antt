@@ -2,7 +2,7 @@
 -- Assumes nothing.
 use Rattle.demands.specs.Names as N
 use N.{Bool, false, true, List, _≢_, _≡_, refl, ℕ, ltb, length, ltb-false, Outcome, refuseAs as refuse, modeCall, modeResult, labelCheck}
-use N.{messageCheck, CipherMode, Cbc, Cfb, Ctr, Gcm, Ofb, Direction, Sm4CipherMode, hostModeCall, modeIn, LuossavinKey}
+use N.{messageCheck, modeOf, CipherMode, Cbc, Cfb, Ctr, Gcm, Ofb, Direction, hostModeCall, cipherIn, LuossavinKey}
 use Rattle.demands.proofs.Through.{other-mode}
 
 -- the two places where a call looks at the label
@@ -17,23 +17,16 @@ ignored Ctr n dir a₁ a₂ rk d iv o = record { checks = refl; works = refl }
 ignored Cbc n dir a₁ a₂ rk d iv o = record { checks = refl; works = refl }
 ignored Gcm n dir a₁ a₂ rk d iv o = absurd (n refl)
 
--- A call in Cfb, Ofb, Ctr and Cbc, either way, has the same outcome under any two labels.
-pub label-ignored : (dir : Direction) (m : Sm4CipherMode) → m .mode ≢ Gcm → (a₁ a₂ d iv o : List ℕ)
-    → modeCall dir m a₁ d iv o ≡ modeCall dir m a₂ d iv o
-unfolding modeCall messageCheck
-label-ignored dir m n a₁ a₂ d iv o =
-    let i = ignored (m .mode) n dir a₁ a₂ (m .cipher .rk) d iv o in
-    rw (i .checks, i .works)
-
 -- behind a refusal by number 7 that both have in front
 gated : (b : Bool) (o : List ℕ) (x y : Outcome) → (b ≡ false → x ≡ y) → refuse b 7 o x ≡ refuse b 7 o y
 gated true o x y e = refl
 gated false o x y e = e refl
 
--- The exported call of every mode number but 4 has the same outcome under any two labels.
-pub exported-label-ignored : (dir : Direction) (mode : ℕ) → mode ≢ 4 → (k : LuossavinKey) (a₁ a₂ d iv o : List ℕ)
+-- The exported call of every mode number but 4, either way, has the same outcome under any two labels.
+pub label-ignored : (dir : Direction) (mode : ℕ) → mode ≢ 4 → (k : LuossavinKey) (a₁ a₂ d iv o : List ℕ)
     → hostModeCall dir mode k a₁ d iv o ≡ hostModeCall dir mode k a₂ d iv o
-unfolding hostModeCall
-exported-label-ignored dir mode n k a₁ a₂ d iv o =
+unfolding hostModeCall modeCall messageCheck
+label-ignored dir mode n k a₁ a₂ d iv o =
     gated (ltb 4 mode) o _ _ (λ b.
-    label-ignored dir (modeIn k mode) (other-mode mode Gcm (ltb-false 4 mode b) n) a₁ a₂ d iv o)
+    let i = ignored (modeOf mode) (other-mode mode Gcm (ltb-false 4 mode b) n) dir a₁ a₂ (cipherIn k .rk) d iv o in
+    rw (i .checks, i .works))
