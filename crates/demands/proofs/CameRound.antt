@@ -1,27 +1,64 @@
--- What the answers say of a counter: where done, document 02's formula, which is what the walk's own steps say; no where refused, in the
--- other modes, at starts and at pieces; and with a 12-byte IV never yes.
+-- A 12-byte IV in Gcm: its counters are SP 800-38D's. J0 has sixteen bytes, whatever the IV has.
 -- Assumes nothing.
 use Rattle.demands.specs.Names as N
-use N.{Bool, cond, false, not, true, List, [], _∷_, _≢_, _∙_, _≡_, ap, refl, _%_, _+_, _-_, _/_, _<_, _^_, _≤_, ℕ, arith, eqb, ltb, length}
-use N.{drop-at, length-take-le, eq-eqb, eqb-false, eqb-true, lt-leb, ne-eqb, AreBytes, numberOf, same, xors, blocksOf, ctrCameRound}
-use N.{gcmCameRound, lastFour, Head, Outcome, finished, refusal, refuseAs, reporting, telling, ctrWalkSays, gcmWalkSays, cbcOpen, cbcText}
-use N.{cbcHead, unpadded, Opened, Cbc·Done, InvalidLastU8, InvalidPadding, J0, firstCounter, hashKey, textPart, gcmOpen, refusalHead}
-use N.{blockCall, lengthsOf, modeCall, modeResult, blockCheck, checked, keyAndIv, messageCheck, keyNumber, limitOf, modeOf, sealedLimit}
-use N.{CipherMode, Cbc, Cfb, Ctr, Gcm, Ofb, Direction, Decrypt, Encrypt, Refusal, Checked, Passed, Refused, Stepped, begun, ctrEnd}
-use N.{ctrPiece, ctrStart, goesOn, opensEnd, opensPiece, opensStart, sealEnd, sealPiece, sealStart, gcmStarting, running, tagged, writing}
-use N.{hashEnd, ctrShut, opensShut, sealShut, Ctr·state, Opens, Seal, badList, Verdict, checkedVerdict, noneWith, onKey, opensWith}
-use N.{searchCheck, which, planCall, accepts, rangeCall, rangeCheck, reachCheck, Plan, hostBlockCall, hostModeCall, modeIn, directionOf}
-use N.{hostCtrStart, hostOpensStart, hostSealStart, cipherIn, hostCtrByPlan, hostCtrRange, hostWhich, LuossavinKey}
+use N.{Bool, cond, false, true, List, [], _++_, _∷_, _≢_, _∙_, _≡_, ap, ap₂, refl, _%_, _+_, _-_, _/_, _<_, _^_, _≤_, ℕ, arith, eqb, ltb}
+use N.{length, length-append, drop-at, length-take-le, take-at, eq-eqb, eqb-false, eqb-true, lt-leb, ne-eqb, AreBytes, bytesOf, numberOf}
+use N.{same, xors, blocksOf, ctrCameRound, gcmCameRound, gcmNext, lastFour, Head, Outcome, finished, refusal, refuseAs, reporting, telling}
+use N.{ghash, ctrWalkSays, gcmWalkSays, cbcOpen, cbcText, cbcHead, unpadded, Opened, Cbc·Done, InvalidLastU8, InvalidPadding, J0}
+use N.{firstCounter, hashKey, hashedCounter, nonceCounter, sealed, tagOf, textOf, textPart, gcmOpen, refusalHead, blockCall, lengthsOf}
+use N.{modeCall, modeResult, checked, messageCheck, keyNumber, limitOf, modeOf, sealedLimit, CipherMode, Cbc, Cfb, Ctr, Gcm, Ofb, Direction}
+use N.{Decrypt, Encrypt, Refusal, Checked, Passed, Refused, Stepped, begun, ctrEnd, ctrPiece, ctrStart, goesOn, opensEnd, opensPiece}
+use N.{opensStart, sealEnd, sealPiece, sealStart, running, tagged, writing, hashEnd, Ctr·state, Opens, Seal, badList, Verdict}
+use N.{checkedVerdict, firstOpening, noneWith, onKey, opensWith, searchCheck, which, planCall, rangeCall, Plan, hostBlockCall, hostModeCall}
+use N.{modeIn, hostCtrStart, hostOpensStart, hostSealStart, cipherIn, hostCtrByPlan, hostCtrRange, hostWhich, LuossavinKey}
+use Rattle.block.proofs.Convert.{length-bytesOf, bytesOf-bytes}
+use Rattle.demands.specs.Call.{inGcm, result}
+use Rattle.demands.specs.TwelveBytes.{followedBy, textFromTwo, CountsFromTwo}
+use Rattle.demands.proofs.Through.{result-of-done, through, leaves}
 use Rattle.block.proofs.Entries.{below-append}
-use Rattle.block.proofs.Convert.{bytesOf-bytes}
 use Rattle.stream.proofs.CounterSteps.{ctr-walk-says, gcm-walk-says}
 use Rattle.cipher_mode.proofs.Passed.{data-within}
 use Rattle.cipher_mode.proofs.Refusals.{refuses}
 use Rattle.editions.proofs.FirstOpening.{search-number}
-use Rattle.demands.specs.Call.{inGcm}
 use Rattle.demands.specs.CameRound.{roundOf, Says}
-use Rattle.demands.proofs.Through.{through}
-use Rattle.demands.proofs.TwelveBytes.{length-counter}
+
+-- either form of J0 has sixteen bytes
+pub length-counter : (h : ℕ) (iv : List ℕ) → length (firstCounter h iv) ≡ 16
+unfolding firstCounter
+length-counter h iv = by (eqb (length iv) 12) refl
+  where
+    by : (t : Bool) → eqb (length iv) 12 ≡ t → length (cond t (nonceCounter iv) (hashedCounter h iv)) ≡ 16
+    by true e = length-append iv (0 ∷ 0 ∷ 0 ∷ 1 ∷ []) ∙ ap (λ (n : ℕ). n + 4) (eqb-true (length iv) 12 e)
+    by false e = length-bytesOf 16 (ghash h (numberOf iv ∷ 128 ∷ []))
+
+first-counter : (rk iv : List ℕ) → length iv ≡ 12 → J0 rk iv ≡ followedBy 1 iv
+unfolding firstCounter
+first-counter rk iv n = rw (eq-eqb (length iv) 12 n)
+
+next-counter : (iv : List ℕ) → length iv ≡ 12 → gcmNext (followedBy 1 iv) ≡ followedBy 2 iv
+unfolding gcmNext numberOf bytesOf
+next-counter iv n =
+    ap₂ (λ (front back : List ℕ). front ++ bytesOf 4 ((numberOf back + 1) % 2 ^ 32))
+    (take-at iv (0 ∷ 0 ∷ 0 ∷ 1 ∷ []) 12 n) (drop-at iv (0 ∷ 0 ∷ 0 ∷ 1 ∷ []) 12 n)
+
+sealed-from-two : (rk label d iv : List ℕ) → length iv ≡ 12
+    → sealed rk (hashKey rk) (J0 rk iv) label d
+    ≡ textFromTwo rk iv d ++ tagOf rk (hashKey rk) (followedBy 1 iv) label (textFromTwo rk iv d)
+unfolding sealed textOf
+sealed-from-two rk label d iv n = rw (first-counter rk iv n, next-counter iv n)
+
+-- What Gcm seals under a 12-byte IV is the text under the counters from 00000002 on, and the tag under 00000001.
+pub twelve-counts-from-two : (k : LuossavinKey) → CountsFromTwo (k .«round_keys») (hostModeCall Encrypt 4 k)
+unfolding hostModeCall modeOf cipherIn
+twelve-counts-from-two k label d iv o n e =
+    let m = inGcm (cipherIn k) in
+    let rk = k .«round_keys» in
+    ap result (leaves Encrypt m label d iv o (through Encrypt m label d iv o e))
+    ∙ result-of-done (sealed rk (hashKey rk) (J0 rk iv) label d) o
+    ∙ sealed-from-two rk label d iv n
+
+-- What the answers say of a counter: where done, document 02's formula, which is what the walk's own steps say; no where refused, in the
+-- other modes, at starts and at pieces; and with a 12-byte IV never yes.
 
 -- what a report says, field by field: `says` puts it together, on whichever key
 abbrev Tells : Bool → Head → Type 0
@@ -87,84 +124,77 @@ message-says dir mode k label d iv o =
     (result-tells (modeOf mode) dir (c .rk) label d iv o)))
 
 -- a single block says no, and so do a range, work by a plan and the question which label a file opens under.
+quiet-check : (k : Checked) (o : List ℕ) (next : Outcome) → next .head .cameRound ≡ 0 → checked k o next .head .cameRound ≡ 0
+quiet-check Passed o next e = e
+quiet-check (Refused r) o next e = refuses r .no-round
+
+quiet-front : (t : Bool) (n : ℕ) (o : List ℕ) (next : Outcome) → next .head .cameRound ≡ 0 → refuseAs t n o next .head .cameRound ≡ 0
+quiet-front true n o next e = refl
+quiet-front false n o next e = e
+
+quiet-start : (S : Type 0) (k : Checked) (shut : ℕ → S) (s : S) → begun S k shut s .head .cameRound ≡ 0
+quiet-start S Passed shut s = refl
+quiet-start S (Refused r) shut s = refuses r .no-round
+
+quiet-step : (S : Type 0) (k : Checked) (o : List ℕ) (s : S) (next : Stepped S) → next .head .cameRound ≡ 0 → goesOn S k o s next .head .cameRound ≡ 0
+quiet-step S Passed o s next e = e
+quiet-step S (Refused r) o s next e = refuses r .no-round
+
+quiet-verdict : (bad : Bool) (n : ℕ) (k : Checked) (next : Verdict) → next .head ≡ finished 0
+    → cond bad (noneWith (refusal 16)) (onKey n (checkedVerdict k next)) .head .cameRound ≡ 0
+quiet-verdict true n k next e = refl
+quiet-verdict false n Passed next e = ap (λ (h : Head). h .cameRound) e
+quiet-verdict false n (Refused r) next e = refuses r .no-round
+
 pub block-says : (dir : Direction) (k : LuossavinKey) (b o : List ℕ) → Says false (hostBlockCall dir k b o .head)
 unfolding hostBlockCall blockCall
-block-says dir k b o =
-    let c = cipherIn k in
-    says false _ (check-tells false (blockCheck (c .answer) (c .retired) dir (length b) (length o)) o _ (done-tells false))
+block-says dir k b o = quiet _ (simp quiet-check)
 
 pub exported-range-says : (k : LuossavinKey) (decrypt : Bool) (iv : List ℕ) (offset : ℕ) (d o : List ℕ)
     → Says false (hostCtrRange k decrypt iv offset d o .head)
 unfolding hostCtrRange rangeCall
-exported-range-says k decrypt iv offset d o =
-    let c = cipherIn k in
-    says false _
-    (check-tells false (rangeCheck (c .answer) (c .retired) (directionOf decrypt) (length iv) offset (length d) (length o)) o _ (done-tells false))
+exported-range-says k decrypt iv offset d o = quiet _ (simp quiet-check)
 
 pub exported-plan-says : (k : LuossavinKey) (decrypt : Bool) (iv : List ℕ) (plan : Plan) (d o : List ℕ)
     → Says false (hostCtrByPlan k decrypt iv plan d o .head)
 unfolding hostCtrByPlan planCall
-exported-plan-says k decrypt iv plan d o =
-    let c = cipherIn k in
-    says false _
-    (check-tells false (reachCheck (c .answer) (c .retired) (directionOf decrypt) (length iv) (length d)) o _
-    (front-tells false (not (accepts plan (length d))) 18 o _ (omega arith)
-    (front-tells false (ltb (length o) (length d)) 6 o _ (omega arith) (done-tells false))))
+exported-plan-says k decrypt iv plan d o = quiet _ (simp (quiet-check, quiet-front))
 
 pub which-says : (k : LuossavinKey) (file iv labels lengths : List ℕ) → Says false (hostWhich k file iv labels lengths .head)
 unfolding hostWhich which
 which-says k file iv labels lengths =
     let c = cipherIn k in
-    quiet _ (by (badList labels lengths) (keyNumber c) (searchCheck (c .answer) (c .retired) (length iv) (length file) lengths) _
-    (search-number (opensWith c iv file) labels lengths))
-  where
-    by : (bad : Bool) (n : ℕ) (k : Checked) (next : Verdict) → next .head ≡ finished 0
-        → cond bad (noneWith (refusal 16)) (onKey n (checkedVerdict k next)) .head .cameRound ≡ 0
-    by true n k next e = refl
-    by false n Passed next e = ap (λ (h : Head). h .cameRound) e
-    by false n (Refused r) next e = refuses r .no-round
+    quiet _ (quiet-verdict (badList labels lengths) (keyNumber c) (searchCheck (c .answer) (c .retired) (length iv) (length file) lengths)
+    (firstOpening (opensWith c iv file) labels lengths 0 0) (search-number (opensWith c iv file) labels lengths))
 
 -- Of a message in pieces the starts and the pieces say no, whatever the state holds;
-start-tells : (S : Type 0) (k : Checked) (shut : ℕ → S) (s : S) → Tells false (begun S k shut s .head)
-start-tells S Passed shut s = done-tells false
-start-tells S (Refused r) shut s = refusal-tells false r
+pub ctr-start-says : (k : LuossavinKey) (decrypt : Bool) (iv : List ℕ) → Says false (hostCtrStart k decrypt iv .head)
+unfolding hostCtrStart ctrStart
+ctr-start-says k decrypt iv = quiet _ (simp quiet-start)
+
+pub seal-start-says : (k : LuossavinKey) (label iv : List ℕ) → Says false (hostSealStart k label iv .head)
+unfolding hostSealStart sealStart
+seal-start-says k label iv = quiet _ (simp quiet-start)
+
+pub opens-start-says : (k : LuossavinKey) (label iv : List ℕ) → Says false (hostOpensStart k label iv .head)
+unfolding hostOpensStart opensStart
+opens-start-says k label iv = quiet _ (simp quiet-start)
+
+pub ctr-piece-says : (s : Ctr·state) (e o : List ℕ) → Says false (ctrPiece s e o .head)
+unfolding ctrPiece
+ctr-piece-says s e o = quiet _ (simp quiet-step)
+
+pub seal-piece-says : (s : Seal) (e o : List ℕ) → Says false (sealPiece s e o .head)
+unfolding sealPiece
+seal-piece-says s e o = quiet _ (simp quiet-step)
+
+pub opens-piece-says : (s : Opens) (e : List ℕ) → Says false (opensPiece s e .head)
+unfolding opensPiece
+opens-piece-says s e = quiet _ (simp quiet-step)
 
 step-tells : (S : Type 0) (b : Bool) (k : Checked) (o : List ℕ) (s : S) (next : Stepped S) → Tells b (next .head) → Tells b (goesOn S k o s next .head)
 step-tells S b Passed o s next h = h
 step-tells S b (Refused r) o s next h = refusal-tells b r
-
-pub ctr-start-says : (k : LuossavinKey) (decrypt : Bool) (iv : List ℕ) → Says false (hostCtrStart k decrypt iv .head)
-unfolding hostCtrStart ctrStart
-ctr-start-says k decrypt iv =
-    let c = cipherIn k in
-    says false _ (start-tells Ctr·state (keyAndIv (c .answer) (c .retired) (directionOf decrypt) Ctr (length iv)) (ctrShut (keyNumber c)) _)
-
-pub seal-start-says : (k : LuossavinKey) (label iv : List ℕ) → Says false (hostSealStart k label iv .head)
-unfolding hostSealStart sealStart
-seal-start-says k label iv =
-    let c = cipherIn k in
-    says false _ (start-tells Seal (gcmStarting (c .answer) (c .retired) Encrypt (length iv) (length label)) (sealShut (keyNumber c)) _)
-
-pub opens-start-says : (k : LuossavinKey) (label iv : List ℕ) → Says false (hostOpensStart k label iv .head)
-unfolding hostOpensStart opensStart
-opens-start-says k label iv =
-    let c = cipherIn k in
-    says false _ (start-tells Opens (gcmStarting (c .answer) (c .retired) Decrypt (length iv) (length label)) (opensShut (keyNumber c)) _)
-
-pub ctr-piece-says : (s : Ctr·state) (e o : List ℕ) → Says false (ctrPiece s e o .head)
-unfolding ctrPiece
-ctr-piece-says s e o =
-    says false _ (step-tells Ctr·state false (writing (s .stands) 0 (s .total) (length e) (length e) (length o)) o s _ (done-tells false))
-
-pub seal-piece-says : (s : Seal) (e o : List ℕ) → Says false (sealPiece s e o .head)
-unfolding sealPiece
-seal-piece-says s e o =
-    says false _ (step-tells Seal false (writing (s .stands) (s .label) (s .total) (length e) (length e) (length o)) o s _ (done-tells false))
-
-pub opens-piece-says : (s : Opens) (e : List ℕ) → Says false (opensPiece s e .head)
-unfolding opensPiece
-opens-piece-says s e =
-    says false _ (step-tells Opens false (running (s .stands) (s .label) (s .total) (length e)) [] s _ (done-tells false))
 
 -- and the ends what the formula says of the whole: of what came in, counted from the start.
 pub ctr-end-says : (s : Ctr·state) → Says (ctrCameRound (s .first) (blocksOf (s .total))) (ctrEnd s .head)

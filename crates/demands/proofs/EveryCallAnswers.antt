@@ -2,13 +2,16 @@
 -- the length of document 01's table and leaves what lies past it as it was lent. For all inputs.
 -- Assumes nothing.
 use Rattle.demands.specs.Names as N
-use N.{Bool, _||_, cond, false, not, true, List, _⊎_, ⊎-elim, _∙_, _≡_, refl, _-_, _<_, _≤_, ℕ, arith, eqb, ltb, length, take}
-use N.{length-take-le, eq-eqb, le-ltb, lt-ltb, ne-eqb, Outcome, done, keyed, refuseAs, written, chain, roundKeys, streamMode, Kind}
-use N.{Ctr·kind, Ofb·kind, cbcSeal, allPadding, cbcOpen, cbcText, cbcHead, lastByte, namesPadding, unpadded, Cbc·Done, InvalidLastU8}
-use N.{InvalidPadding, J0, hashKey, opensUnder, sealed, textOf, textPart, gcmOpen, gcmHead, settled, Gcm·Done, InvalidTag, blockCall}
-use N.{blockOf, cfbKind, lengthsOf, modeCall, modeResult, blockCheck, checked, dataCheck, messageCheck, wrongIv, keyNumber, newCipher}
-use N.{newCipherMode, noCipher, wrongNumber, modeOf, roomOf, CipherMode, Cbc, Cfb, Ctr, Gcm, Ofb, Direction, Decrypt, Encrypt, NoKey, Key}
-use N.{NoNumber, Passed, hostBlockCall, hostModeCall, cipherIn, hostKeyNew, LuossavinKey}
+use N.{Bool, _||_, cond, false, not, true, List, _≢_, _⊎_, ⊎-elim, _∙_, _≡_, ap, refl, subst, sym, _-_, _<_, _≤_, ℕ, arith, eqb, ltb}
+use N.{length, take, length-take-le, eq-eqb, le-ltb, lt-ltb, ltb-false, ne-eqb, Head, Outcome, done, keyed, refusal, refuseAs as refuse}
+use N.{refuseAs, written, chain, roundKeys, streamMode, Kind, Ctr·kind, Ofb·kind, cbcSeal, allPadding, cbcOpen, cbcText, cbcHead, lastByte}
+use N.{namesPadding, unpadded, Cbc·Done, InvalidLastU8, InvalidPadding, J0, hashKey, opensUnder, sealed, textOf, textPart, gcmOpen, gcmHead}
+use N.{settled, Gcm·Done, InvalidTag, refusalHead, blockCall, blockOf, cfbKind, lengthsOf, modeCall, modeResult, blockCheck, checked}
+use N.{dataCheck, keyAndIv, keyCheck, labelCheck, messageCheck, wrongIv, keyNumber, newCipher, newCipherMode, noCipher, wrongNumber, modeOf}
+use N.{roomOf, CipherMode, Cbc, Cfb, Ctr, Gcm, Ofb, Direction, Decrypt, Encrypt, NoKey, Key, NoNumber, Refusal, ErrorBlockSize, WrongNumber}
+use N.{Passed, Refused, ctrStart, opensStart, sealStart, gcmStarting, searchCheck, which, planCall, rangeCall, rangeCheck, reachCheck}
+use N.{callInto, hostBlockCall, hostModeCall, hostCtrStart, hostOpensStart, hostSealStart, cipherIn, hostKeyNew, keyAnswerOf, keyOf}
+use N.{hostCtrByPlan, hostCtrRange, hostWhich, LuossavinKey}
 use Rattle.stream.proofs.RoundTrip.{length-stream}
 use Rattle.cbc.proofs.Blocks.{length-decrypt}
 use Rattle.cbc.proofs.RoundTrip.{length-cbcSeal}
@@ -16,10 +19,11 @@ use Rattle.gcm.proofs.Parts.{length-sealed, length-text}
 use Rattle.cipher_mode.proofs.Passed.{sixteen, message-passed, block-passed, whole-blocks-passed}
 use Rattle.cipher_mode.proofs.Ends.{length-block}
 use Rattle.demands.specs.Answered.{oneOf, singleNumbers, Answered, KeyAnswered, lengthOf}
-use Rattle.demands.proofs.Through.{new-is-new}
+use Rattle.demands.proofs.Through.{new-is-new, other-mode}
 use Rattle.demands.specs.WhichNumber.{blockRows, encryptRows, decryptRows}
 use Rattle.demands.proofs.WhichNumber.{exported-block-number, exported-encryption-number, exported-decryption-number}
 use Rattle.demands.proofs.Answering.{numbered, within, Fair, answered, refused-fair, done-fair, checks-fair, front-fair}
+use Rattle.demands.specs.NoUsableKey.{NoUsableKey}
 
 -- where one of the two ends of the range is passed, the number is wrong
 out-of-range : (n : ℕ) → (n ≡ 0) ⊎ (65535 < n) → wrongNumber n ≡ true
@@ -142,3 +146,82 @@ message-answers dir mode k label d iv o =
     key : (t : Bool) (i : ℕ) (x : Outcome) → refuseAs t 7 o (keyed i x) .head .key ≡ cond t 0 i
     key true i x = refl
     key false i x = refl
+
+-- Demand 1, of keys: a key that was refused is no usable key.
+
+-- by what the check of the key says
+module _ (k : LuossavinKey) (n : ℕ) (r : Refusal) (check : keyCheck (cipherIn k .answer) ≡ Refused r) (head : refusalHead r ≡ refusal n)
+    (none : keyNumber (cipherIn k) ≡ 0) where
+  turned-away : NoUsableKey n k
+  unfolding hostBlockCall blockCall blockCheck hostModeCall modeCall messageCheck keyAndIv hostCtrStart ctrStart hostSealStart sealStart
+      gcmStarting hostOpensStart opensStart hostWhich which searchCheck hostCtrRange rangeCall rangeCheck reachCheck hostCtrByPlan planCall callInto
+  turned-away =
+      record {
+        block = λ dir b o. rw (check, head, none);
+        message = λ dir mode h label d iv o. rw (le-ltb 4 mode h, check, head, none);
+        ctr = λ decrypt iv. rw (check, head, none);
+        sealing = λ label iv. rw (check, head, none);
+        opening = λ label iv. rw (check, head, none);
+        which = λ file iv labels lengths good. rw (good, check, head, none);
+        range = λ decrypt iv offset d o. rw (check, head, none);
+        by-plan = λ decrypt iv plan d o. rw (check, head, none);
+        replay = λ keys e named h. rw (le-ltb 4 (e .mode) h, named, check, head, none);
+      }
+
+-- Whatever else a host's record holds: where its answer is not 0, every call on it answers 13 if that is 13, and otherwise 1.
+by-answer : (k : LuossavinKey) → k .answer ≢ 0 → (t : Bool) → eqb (k .answer) 13 ≡ t → NoUsableKey (cond t 13 1) k
+unfolding cipherIn keyAnswerOf
+by-answer k n true e =
+    turned-away k 13 WrongNumber (rw (ne-eqb (k .answer) 0 n, e)) refl (rw (ne-eqb (k .answer) 0 n, e))
+by-answer k n false e =
+    turned-away k 1 ErrorBlockSize (rw (ne-eqb (k .answer) 0 n, e)) refl (rw (ne-eqb (k .answer) 0 n, e))
+
+pub no-usable-key : (k : LuossavinKey) → k .answer ≢ 0 → NoUsableKey (cond (eqb (k .answer) 13) 13 1) k
+no-usable-key k n = by-answer k n (eqb (k .answer) 13) refl
+
+-- what set-up answered is what every call answers
+refused-set-up : (key : List ℕ) (number n : ℕ) → hostKeyNew key number .answer ≡ n → n ≢ 0 → cond (eqb n 13) 13 1 ≡ n
+    → NoUsableKey n (hostKeyNew key number)
+refused-set-up key number n e some same =
+    subst (λ (m : ℕ). NoUsableKey m (hostKeyNew key number)) (ap (λ (a : ℕ). cond (eqb a 13) 13 1) e ∙ same)
+    (no-usable-key (hostKeyNew key number) (λ z. some (sym e ∙ z)))
+
+-- A key that is not 16 bytes gives a record on which every call answers 1.
+pub wrong-size-key-unusable : (key : List ℕ) (n : ℕ) → length key ≢ 16 → NoUsableKey 1 (hostKeyNew key n)
+unfolding hostKeyNew keyOf
+wrong-size-key-unusable key n s =
+    refused-set-up key n 1 (ap (λ (h : Head). h .number) (new-cipher-answers key n .refused s)) (λ z. omega arith) refl
+
+-- A number out of range, 13.
+pub wrong-number-unusable : (key : List ℕ) (n : ℕ) → length key ≡ 16 → (n ≡ 0) ⊎ (65535 < n) → NoUsableKey 13 (hostKeyNew key n)
+unfolding hostKeyNew keyOf
+wrong-number-unusable key n s r =
+    refused-set-up key n 13 (ap (λ (h : Head). h .number) (new-cipher-answers key n .out-of-range s r)) (λ z. omega arith) refl
+
+-- Demand 1, of labels: outside Gcm two calls that differ only in the label have the same outcome, however long it is.
+
+-- the two places where a call looks at the label
+record Ignored (m : CipherMode) (dir : Direction) (a₁ a₂ rk d iv o : List ℕ) : Type 0 where
+  checks : labelCheck m (length a₁) ≡ labelCheck m (length a₂)
+  works : modeResult m dir rk a₁ d iv o ≡ modeResult m dir rk a₂ d iv o
+
+ignored : (m : CipherMode) → m ≢ Gcm → (dir : Direction) (a₁ a₂ rk d iv o : List ℕ) → Ignored m dir a₁ a₂ rk d iv o
+ignored Cfb n dir a₁ a₂ rk d iv o = record { checks = refl; works = refl }
+ignored Ofb n dir a₁ a₂ rk d iv o = record { checks = refl; works = refl }
+ignored Ctr n dir a₁ a₂ rk d iv o = record { checks = refl; works = refl }
+ignored Cbc n dir a₁ a₂ rk d iv o = record { checks = refl; works = refl }
+ignored Gcm n dir a₁ a₂ rk d iv o = absurd (n refl)
+
+-- behind a refusal by number 7 that both have in front
+gated : (b : Bool) (o : List ℕ) (x y : Outcome) → (b ≡ false → x ≡ y) → refuse b 7 o x ≡ refuse b 7 o y
+gated true o x y e = refl
+gated false o x y e = e refl
+
+-- The exported call of every mode number but 4, either way, has the same outcome under any two labels.
+pub label-ignored : (dir : Direction) (mode : ℕ) → mode ≢ 4 → (k : LuossavinKey) (a₁ a₂ d iv o : List ℕ)
+    → hostModeCall dir mode k a₁ d iv o ≡ hostModeCall dir mode k a₂ d iv o
+unfolding hostModeCall modeCall messageCheck
+label-ignored dir mode n k a₁ a₂ d iv o =
+    gated (ltb 4 mode) o _ _ (λ b.
+    let i = ignored (modeOf mode) (other-mode mode Gcm (ltb-false 4 mode b) n) dir a₁ a₂ (cipherIn k .rk) d iv o in
+    rw (i .checks, i .works))

@@ -18,7 +18,7 @@ use Rattle.demands.specs.Call.{inGcm, result}
 use Rattle.demands.specs.Halves.{WholeBlocks, JoinsHalves, enciphered, keyOfHash, bytesIn, pair, counterOf, hashOfAll, tagOfHalves}
 use Rattle.demands.specs.Halves.{TagsByHalves}
 use Rattle.demands.specs.TwelveBytes.{followedBy}
-use Rattle.demands.proofs.TwelveBytes.{length-counter}
+use Rattle.demands.proofs.CameRound.{length-counter}
 use Rattle.demands.proofs.Through.{result-of-done, through, leaves, block-leaves}
 
 -- a value that a number is is that number

@@ -36,7 +36,7 @@ use Rattle.demands.proofs.Through.{through, leaves}
 use Rattle.demands.proofs.ModesBack.{encrypted}
 use Rattle.demands.proofs.ThereAndBack.{set-up-same-key, served}
 use Rattle.demands.proofs.OneBlockRefused.{gcm-opens, short-label-refused}
-use Rattle.demands.proofs.ZeroCipher.{zero-block, block-of-one, zero-key-moves}
+use Rattle.demands.proofs.Worked.{zero-block, block-of-one, zero-key-moves}
 
 -- two numbers of two things tell the things apart
 pub apart : (A : Type 0) (f : A → ℕ) (x y : A) (m n : ℕ) → f x ≡ m → f y ≡ n → eqb m n ≡ false → x ≢ y

@@ -4,21 +4,17 @@ pub mod Through
 pub mod Answering
 pub mod EveryCallAnswers
 pub mod UniqueOutcomes
-pub mod NoUsableKey
 pub mod CameRound
 pub mod Retired
 pub mod Steps
-pub mod LabelIgnored
 -- demand 2
 pub mod ModesBack
 pub mod WhichNumber
 pub mod ThereAndBack
-pub mod TwelveBytes
 -- demand 3, and what the demands were for
 pub mod InPieces
 pub mod OneBlockRefused
 pub mod EditionOpens
-pub mod Which
 pub mod Workers
 pub mod OnTheShelf
 pub mod InTheJournal
@@ -27,7 +23,5 @@ pub mod HashKeys
 pub mod EngineUnseen
 -- the worked table and the imposters
 pub mod Worked
-pub mod Edges
-pub mod ZeroCipher
 pub mod Imposters
 pub mod JournalImposters
