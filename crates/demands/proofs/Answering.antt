@@ -38,6 +38,11 @@ spelled WrongNumber = (refl, λ _. refl)
 spelled Retired = (refl, λ _. refl)
 spelled Refusal·Padding = (refl, λ _. refl)
 
+-- by a test
+pub split : (P : Type 0) (t : Bool) → (t ≡ true → P) → (t ≡ false → P) → P
+split P true a b = a refl
+split P false a b = b refl
+
 -- a yes or no that is told as one of two numbers
 pub is-true : (m n : ℕ) → eqb n m ≡ false → (t : Bool) → cond t m n ≡ m → t ≡ true
 is-true m n d true e = refl

@@ -5,12 +5,12 @@ use N.{Bool, cond, false, true, List, [], _++_, _∷_, _≢_, _∙_, _≡_, ap, 
 use N.{length, length-append, drop-at, length-take-le, take-at, eq-eqb, eqb-false, eqb-true, lt-leb, ne-eqb, AreBytes, bytesOf, numberOf}
 use N.{same, xors, blocksOf, ctrCameRound, gcmCameRound, gcmNext, lastFour, Head, Outcome, finished, refusal, refuseAs, reporting, telling}
 use N.{ghash, ctrWalkSays, gcmWalkSays, cbcOpen, cbcText, cbcHead, unpadded, Opened, Cbc·Done, InvalidLastU8, InvalidPadding, J0}
-use N.{firstCounter, hashKey, hashedCounter, nonceCounter, sealed, tagOf, textOf, textPart, gcmOpen, refusalHead, blockCall, lengthsOf}
-use N.{modeCall, modeResult, checked, messageCheck, keyNumber, limitOf, modeOf, sealedLimit, CipherMode, Cbc, Cfb, Ctr, Gcm, Ofb, Direction}
-use N.{Decrypt, Encrypt, Refusal, Checked, Passed, Refused, Stepped, begun, ctrEnd, ctrPiece, ctrStart, goesOn, opensEnd, opensPiece}
-use N.{opensStart, sealEnd, sealPiece, sealStart, running, tagged, writing, hashEnd, Ctr·state, Opens, Seal, badList, Verdict}
-use N.{checkedVerdict, firstOpening, noneWith, onKey, opensWith, searchCheck, which, planCall, rangeCall, Plan, hostBlockCall, hostModeCall}
-use N.{modeIn, hostCtrStart, hostOpensStart, hostSealStart, cipherIn, hostCtrByPlan, hostCtrRange, hostWhich, LuossavinKey}
+use N.{firstCounter, hashKey, sealed, tagOf, textOf, textPart, gcmOpen, refusalHead, blockCall, lengthsOf, modeCall, modeResult, checked}
+use N.{messageCheck, keyNumber, limitOf, modeOf, sealedLimit, CipherMode, Cbc, Cfb, Ctr, Gcm, Ofb, Direction, Decrypt, Encrypt, Refusal}
+use N.{Checked, Passed, Refused, Stepped, begun, ctrEnd, ctrPiece, ctrStart, goesOn, opensEnd, opensPiece, opensStart, sealEnd, sealPiece}
+use N.{sealStart, running, tagged, writing, hashEnd, Ctr·state, Opens, Seal, badList, Verdict, checkedVerdict, firstOpening, noneWith}
+use N.{onKey, opensWith, searchCheck, which, planCall, rangeCall, Plan, hostBlockCall, hostModeCall, modeIn, hostCtrStart, hostOpensStart}
+use N.{hostSealStart, cipherIn, hostCtrByPlan, hostCtrRange, hostWhich, LuossavinKey}
 use Rattle.block.proofs.Convert.{length-bytesOf, bytesOf-bytes}
 use Rattle.demands.specs.Call.{inGcm, result}
 use Rattle.demands.specs.TwelveBytes.{followedBy, textFromTwo, CountsFromTwo}
@@ -21,15 +21,15 @@ use Rattle.cipher_mode.proofs.Passed.{data-within}
 use Rattle.cipher_mode.proofs.Refusals.{refuses}
 use Rattle.editions.proofs.FirstOpening.{search-number}
 use Rattle.demands.specs.CameRound.{roundOf, Says}
+use Rattle.demands.proofs.Answering.{split}
 
 -- either form of J0 has sixteen bytes
 pub length-counter : (h : ℕ) (iv : List ℕ) → length (firstCounter h iv) ≡ 16
 unfolding firstCounter
-length-counter h iv = by (eqb (length iv) 12) refl
-  where
-    by : (t : Bool) → eqb (length iv) 12 ≡ t → length (cond t (nonceCounter iv) (hashedCounter h iv)) ≡ 16
-    by true e = length-append iv (0 ∷ 0 ∷ 0 ∷ 1 ∷ []) ∙ ap (λ (n : ℕ). n + 4) (eqb-true (length iv) 12 e)
-    by false e = length-bytesOf 16 (ghash h (numberOf iv ∷ 128 ∷ []))
+length-counter h iv =
+    split _ (eqb (length iv) 12)
+    (λ e. rw e (length-append iv (0 ∷ 0 ∷ 0 ∷ 1 ∷ []) ∙ ap (λ (n : ℕ). n + 4) (eqb-true (length iv) 12 e)))
+    (λ e. rw e (length-bytesOf 16 (ghash h (numberOf iv ∷ 128 ∷ []))))
 
 first-counter : (rk iv : List ℕ) → length iv ≡ 12 → J0 rk iv ≡ followedBy 1 iv
 unfolding firstCounter
@@ -216,11 +216,12 @@ opens-end-says s tag =
     let test = same tag (xors (s .mask) (hashEnd (s .hashing) (s .total % 16) (s .label) (s .total))) in
     says b _ (step-tells Opens b (tagged (s .stands) (s .label) (s .total) (length tag)) [] s _ (tag-tells b test))
 
-j0-by : (rk iv : List ℕ) (t : Bool) → eqb (length iv) 12 ≡ t → AreBytes iv → AreBytes (J0 rk iv)
+j0-bytes : (rk iv : List ℕ) → AreBytes iv → AreBytes (J0 rk iv)
 unfolding firstCounter
-j0-by rk iv true e a =
-    rw e (below-append 256 iv (0 ∷ 0 ∷ 0 ∷ 1 ∷ []) a (omega arith, (omega arith, (omega arith, (omega arith, tt)))))
-j0-by rk iv false e a = rw e (bytesOf-bytes 16 _)
+j0-bytes rk iv a =
+    split _ (eqb (length iv) 12)
+    (λ e. rw e (below-append 256 iv (0 ∷ 0 ∷ 0 ∷ 1 ∷ []) a (omega arith, (omega arith, (omega arith, (omega arith, tt))))))
+    (λ e. rw e (bytesOf-bytes 16 _))
 
 -- The formula is what the walk's own steps say: in Ctr those between the blocks, and not the one after the last;
 pub ctr-steps-say : (dir : Direction) (rk iv d : List ℕ) → length iv ≡ 16 → AreBytes iv
@@ -230,7 +231,7 @@ ctr-steps-say dir rk iv d n a = ctr-walk-says rk iv d n a
 -- in Gcm the one from J0 to the first block too, over the text alone.
 pub seal-steps-say : (rk iv d : List ℕ) → AreBytes iv → gcmWalkSays rk (J0 rk iv) d ≡ roundOf Gcm Encrypt rk iv (length d)
 seal-steps-say rk iv d a =
-    gcm-walk-says rk (J0 rk iv) d (length-counter (hashKey rk) iv) (j0-by rk iv (eqb (length iv) 12) refl a)
+    gcm-walk-says rk (J0 rk iv) d (length-counter (hashKey rk) iv) (j0-bytes rk iv a)
 
 pub open-steps-say : (rk iv s : List ℕ) → AreBytes iv → gcmWalkSays rk (J0 rk iv) (textPart s) ≡ roundOf Gcm Decrypt rk iv (length s)
 open-steps-say rk iv s a =
@@ -259,11 +260,12 @@ twelve-fits dir k label d iv o z = data-within dir Gcm (length d) (through dir (
 pub twelve-never : (dir : Direction) (k : LuossavinKey) (label d iv o : List ℕ) → length iv ≡ 12
     → hostModeCall dir 4 k label d iv o .head .cameRound ≡ 0
 unfolding modeOf
-twelve-never dir k label d iv o n = by (eqb (hostModeCall dir 4 k label d iv o .head .number) 0) refl
-  where
-    by : (t : Bool) → eqb (hostModeCall dir 4 k label d iv o .head .number) 0 ≡ t → hostModeCall dir 4 k label d iv o .head .cameRound ≡ 0
-    by true e =
-        let z = eqb-true (hostModeCall dir 4 k label d iv o .head .number) 0 e in
-        message-says dir 4 k label d iv o .done z
-        ∙ ap (λ (b : Bool). cond b 1 0) (twelve-no dir (k .«round_keys») iv (length d) n (within dir (length d) (twelve-fits dir k label d iv o z)))
-    by false e = message-says dir 4 k label d iv o .refused (eqb-false (hostModeCall dir 4 k label d iv o .head .number) 0 e)
+twelve-never dir k label d iv o n =
+    let number = hostModeCall dir 4 k label d iv o .head .number in
+    let says = message-says dir 4 k label d iv o in
+    split _ (eqb number 0)
+    (λ e.
+    let z = eqb-true number 0 e in
+    says .done z
+    ∙ ap (λ (b : Bool). cond b 1 0) (twelve-no dir (k .«round_keys») iv (length d) n (within dir (length d) (twelve-fits dir k label d iv o z))))
+    (λ e. says .refused (eqb-false number 0 e))

@@ -22,7 +22,7 @@ use Rattle.demands.specs.Answered.{oneOf, singleNumbers, Answered, KeyAn
 use Rattle.demands.proofs.Through.{new-is-new, other-mode}
 use Rattle.demands.specs.WhichNumber.{blockRows, encryptRows, decryptRows}
 use Rattle.demands.proofs.WhichNumber.{exported-block-number, exported-encryption-number, exported-decryption-number}
-use Rattle.demands.proofs.Answering.{numbered, within, Fair, answered, refused-fair, done-fair, checks-fair, front-fair}
+use Rattle.demands.proofs.Answering.{numbered, within, Fair, answered, refused-fair, done-fair, checks-fair, front-fair, split}
 use Rattle.demands.specs.NoUsableKey.{NoUsableKey}
 
 -- where one of the two ends of the range is passed, the number is wrong
@@ -169,15 +169,12 @@ module _ (k : LuossavinKey) (n : ℕ) (r : Refusal) (check : keyCheck (cipherIn 
       }
 
 -- Whatever else a host's record holds: where its answer is not 0, every call on it answers 13 if that is 13, and otherwise 1.
-by-answer : (k : LuossavinKey) → k .answer ≢ 0 → (t : Bool) → eqb (k .answer) 13 ≡ t → NoUsableKey (cond t 13 1) k
-unfolding cipherIn keyAnswerOf
-by-answer k n true e =
-    turned-away k 13 WrongNumber (rw (ne-eqb (k .answer) 0 n, e)) refl (rw (ne-eqb (k .answer) 0 n, e))
-by-answer k n false e =
-    turned-away k 1 ErrorBlockSize (rw (ne-eqb (k .answer) 0 n, e)) refl (rw (ne-eqb (k .answer) 0 n, e))
-
 pub no-usable-key : (k : LuossavinKey) → k .answer ≢ 0 → NoUsableKey (cond (eqb (k .answer) 13) 13 1) k
-no-usable-key k n = by-answer k n (eqb (k .answer) 13) refl
+unfolding cipherIn keyAnswerOf
+no-usable-key k n =
+    let some = ne-eqb (k .answer) 0 n in
+    split _ (eqb (k .answer) 13) (λ e. rw e (turned-away k 13 WrongNumber (rw (some, e)) refl (rw (some, e))))
+    (λ e. rw e (turned-away k 1 ErrorBlockSize (rw (some, e)) refl (rw (some, e))))
 
 -- what set-up answered is what every call answers
 refused-set-up : (key : List ℕ) (number n : ℕ) → hostKeyNew key number .answer ≡ n → n ≢ 0 → cond (eqb n 13) 13 1 ≡ n

@@ -17,7 +17,7 @@ use Rattle.journal.proofs.Ending.{bad-keys, ends-so, ends-alone, replayed-whole
 use Rattle.journal.proofs.Totals.{totals-told}
 use Rattle.journal.proofs.Agrees.{answered-agrees, agrees-so, none-told, all-agree, first-told}
 use Rattle.demands.specs.Answered.{oneOf}
-use Rattle.demands.proofs.Answering.{is-true, is-false, one-or-none}
+use Rattle.demands.proofs.Answering.{is-true, is-false, one-or-none, split}
 use Rattle.demands.specs.InTheJournal.{ReplayAnswered, ReplayEnds, Added, Recorded, AllRecorded, AllAnswered}
 
 -- Which number exactly when: the replay ends as keys and journal say, and in no other way.
@@ -33,12 +33,9 @@ end-of UnknownKey = refl
 end-of BadKeys = refl
 
 module _ (k : LuossavinKeys) (journal : List ℕ) (small : AreBytes journal) where
-  ends-by : (t : Bool) → badKeys (keysOf k) ≡ t → ReplayEnds k journal (replay (keysOf k) journal)
-  ends-by true e = inl (e, bad-keys (keysOf k) journal e)
-  ends-by false e = inr (e, ends-so (keysOf k) journal e small)
-
   pub exported-replay-ends : ReplayEnds k journal (replay (keysOf k) journal)
-  exported-replay-ends = ends-by (badKeys (keysOf k)) refl
+  exported-replay-ends =
+      split _ (badKeys (keysOf k)) (λ e. inl (e, bad-keys (keysOf k) journal e)) (λ e. inr (e, ends-so (keysOf k) journal e small))
 
   pub exported-replay-alone : (x : Replayed) → ReplayEnds k journal x → hostReplay k journal ≡ toldOf x
   unfolding hostReplay
@@ -237,22 +234,19 @@ module _ (ks : List Sm4Cipher) where
       (upto-ending n (drop (sizeAt b) b) (place + sizeAt b) (replayOne ks b place r .report)) (one-ending b place r))
 
 module _ (k : Keys) (journal : List ℕ) where
-  ending-by : (t : Bool) → badKeys k ≡ t
-      → (numberOfEnd (replay k journal .ended) ≡ 0 → replay k journal .place ≡ 0)
+  the-ending : (numberOfEnd (replay k journal .ended) ≡ 0 → replay k journal .place ≡ 0)
       × (numberOfEnd (replay k journal .ended) ≡ 26 → replay k journal ≡ record { ended = BadKeys; place = 0; report = nothing })
   unfolding replay
-  ending-by true e = rw e (λ z. refl, λ z. refl)
-  ending-by false e =
-      let u = upto-ending (keysIn k) (length journal) journal 0 nothing in
-      let l = u .1 in
-      rw e (u .0, λ z. absurd (omega arith))
+  the-ending =
+      let (u, l) = upto-ending (keysIn k) (length journal) journal 0 nothing in
+      split _ (badKeys k) (λ e. rw e (λ z. refl, λ z. refl)) (λ e. rw e (u, λ z. absurd (omega arith)))
 
 pub exported-replay-answers : (k : LuossavinKeys) (journal : List ℕ) → ReplayAnswered (hostReplay k journal)
 unfolding hostReplay toldOf
 exported-replay-answers k journal =
     let x = replay (keysOf k) journal in
     let sums = replay-adds-up (keysOf k) journal in
-    let ends = ending-by (keysOf k) journal (badKeys (keysOf k)) refl in
+    let ends = the-ending (keysOf k) journal in
     let first = first-replayed (keysOf k) journal in
     record {
       numbered = known-end (x .ended);

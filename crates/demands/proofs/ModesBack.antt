@@ -1,7 +1,7 @@
 -- In each mode, what encrypting gave is in order for decrypting and decrypts to the message, and the other way about.
 -- Assumes nothing.
 use Rattle.demands.specs.Names as N
-use N.{Bool, false, true, List, _∙_, _≡_, ap, refl, subst, sym, _%_, _≤_, ℕ, arith, length, take, length-take-le, eq-eqb, le-ltb, ne-eqb}
+use N.{false, true, List, _∙_, _≡_, ap, refl, subst, sym, _%_, _≤_, ℕ, arith, length, take, length-take-le, eq-eqb, le-ltb, ne-eqb}
 use N.{AreBytes, Outcome, done, finished, leaving, reporting, written, chain, over, streamMode, CfbDecrypt, CfbEncrypt, Ctr·kind, Ofb·kind}
 use N.{cbcSeal, cbcOpen, cbcText, cbcHead, unpadded, Opened, Cbc·Done, InvalidLastU8, InvalidPadding, J0, hashKey, opensUnder, sealed}
 use N.{textOf, textPart, gcmOpen, modeResult, dataCheck, wrongIv, limit, roomOf, sealedLimit, CipherMode, Cbc, Cfb, Ctr, Gcm, Ofb, Decrypt}
@@ -15,6 +15,7 @@ use Rattle.gcm.proofs.RoundTrip.{opens-sealed, text-of-sealed, sealed-of-opened
 use Rattle.gcm.proofs.Settled.{text-size, open-refused, open-done}
 use Rattle.cipher_mode.proofs.Passed.{sixteen, data-within, whole-blocks-passed, with-tag-passed}
 use Rattle.demands.specs.CameRound.{roundOf}
+use Rattle.demands.proofs.Answering.{split}
 
 -- the message that d is encrypted to
 abbrev pub encrypted : CipherMode → List ℕ → List ℕ → List ℕ → List ℕ → List ℕ
@@ -94,15 +95,11 @@ pub record Encrypts (m : CipherMode) (rk aad c iv o : List ℕ) : Type 0 where
   pub again : encrypted m rk aad text iv ≡ c
 
 -- a message of Gcm that was opened is one that opens
-opens-by : (rk : List ℕ) (h : ℕ) (j aad c o : List ℕ) (t : Bool) → opensUnder rk h j aad c ≡ t
-    → gcmOpen rk h j aad c o .head .number ≡ 0 → opensUnder rk h j aad c ≡ true
-opens-by rk h j aad c o true e z = e
-opens-by rk h j aad c o false e z =
-    let four : _≡_ {A = ℕ} 4 0 = ap (λ (x : Outcome). x .head .number) (open-refused rk h j aad c o e) ∙ z in
-    absurd (omega arith)
-
 pub opened-opens : (rk : List ℕ) (h : ℕ) (j aad c o : List ℕ) → gcmOpen rk h j aad c o .head .number ≡ 0 → opensUnder rk h j aad c ≡ true
-opened-opens rk h j aad c o = opens-by rk h j aad c o (opensUnder rk h j aad c) refl
+opened-opens rk h j aad c o z =
+    split _ (opensUnder rk h j aad c) (λ e. e) (λ e.
+    let four : _≡_ {A = ℕ} 4 0 = ap (λ (x : Outcome). x .head .number) (open-refused rk h j aad c o e) ∙ z in
+    absurd (omega arith))
 
 -- what an opening that answered 0 gave: a text of this size
 record Opens-as (a : Opened) : Type 0 where

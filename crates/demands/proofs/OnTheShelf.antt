@@ -23,6 +23,7 @@ use Rattle.demands.specs.WhichNumber.{Said, only, row, firstOf}
 use Rattle.demands.specs.OnTheShelf.{ShelfAnswered, PlaceAnswered, putNumbers, collectNumbers, putRows, collectRows, findRows}
 use Rattle.demands.specs.OnTheShelf.{labelIn, fileIn, OneEditionOpens, NoRoughShown, OfEach}
 use Rattle.demands.proofs.OneBlockRefused.{other-edition-refused}
+use Rattle.demands.proofs.Answering.{split}
 
 -- behind a refusal by number, or what comes next
 refuse-said : (t : Bool) (n used : ℕ) (shelf : List ℕ) (x : Outcome) (s : Said) → only (x .number) ≡ s
@@ -78,10 +79,7 @@ module _ (numbers : List ℕ) (shelf : List ℕ) (used : ℕ) where
 -- what is fitted fits where what is current does
 fitted-fits : (room : ℕ) (rs : List Record) → length (stored (collected rs)) ≤ room → length (stored (fitted room rs)) ≤ room
 unfolding fitted
-fitted-fits room rs h = by-test (leb (length (stored rs)) room) refl where
-  by-test : (t : Bool) → leb (length (stored rs)) room ≡ t → length (stored (cond t rs (collected rs))) ≤ room
-  by-test true e = leb-true (length (stored rs)) room e
-  by-test false e = h
+fitted-fits room rs h = split _ (leb (length (stored rs)) room) (λ e. rw e (leb-true (length (stored rs)) room e)) (λ e. rw e h)
 
 pub exported-put-answers : (shelf : List ℕ) (used job edition : ℕ) (sealed : List ℕ)
     → ShelfAnswered putNumbers shelf used (putCall shelf used job edition sealed)

@@ -10,6 +10,7 @@ use N.{hostCtrRange, hostWhich, LuossavinKeys, LuossavinKey}
 use Rattle.cipher_mode.proofs.Passed.{both, key-and-iv-passed}
 use Rattle.demands.specs.Retired.{StaysRetired, DecryptsAlike, EncryptsNothing}
 use Rattle.demands.proofs.Through.{zero-passed, block-through, through, passed-start}
+use Rattle.demands.proofs.Answering.{split}
 
 -- A key that is retired keeps all but the mark;
 abbrev pub retiredOf : LuossavinKey → LuossavinKey
@@ -27,11 +28,9 @@ retired-no-key k n = rw (ne-eqb (k .answer) 0 n)
 -- so what holds of either holds of what is retired;
 pub retired-by : (P : LuossavinKey → Type 0) (k : LuossavinKey) → (k .answer ≡ 0 → P (retiredOf k)) → (k .answer ≢ 0 → P k)
     → P (hostKeyRetire k)
-retired-by P k of-key of-none = by (eqb (k .answer) 0) refl
-  where
-    by : (t : Bool) → eqb (k .answer) 0 ≡ t → P (hostKeyRetire k)
-    by true e = let z = eqb-true (k .answer) 0 e in subst P (sym (retired-key k z)) (of-key z)
-    by false e = let n = eqb-false (k .answer) 0 e in subst P (sym (retired-no-key k n)) (of-none n)
+retired-by P k of-key of-none =
+    split _ (eqb (k .answer) 0) (λ e. let z = eqb-true (k .answer) 0 e in subst P (sym (retired-key k z)) (of-key z))
+    (λ e. let n = eqb-false (k .answer) 0 e in subst P (sym (retired-no-key k n)) (of-none n))
 
 -- twice is once;
 pub retired-twice : (k : LuossavinKey) → hostKeyRetire (hostKeyRetire k) ≡ hostKeyRetire k

@@ -3,18 +3,18 @@
 -- Assumes nothing.
 use Rattle.demands.specs.Names as N
 use N.{Bool, cond, false, not, true, List, [], _++_, _∷_, _≢_, _⊎_, ⊎-elim, _∙_, _≡_, ap, refl, subst, sym, _%_, _-_, ℕ, arith, eqb, length}
-use N.{eqb-true, ne-eqb, same, xors, blocksOf, gcmCameRound, Head, finished, refusal, telling, under, refusalHead, keyAndIv, keyNumber}
-use N.{Ctr as Ctr·mode, Direction, Decrypt, Encrypt, Sm4Cipher, Refusal, Ended, ErrorBlockSize, Retired, TooLong, WrongIv, WrongNumber}
-use N.{Checked, Passed, Refused, Stepped, begun, ctrEnd, ctrPiece, ctrStart, ended, goesOn, opensEnd, opensPiece, opensStart, sealEnd}
-use N.{sealPiece, sealStart, stepOn, gcmStarting, running, standing, tagged, writing, flowText, hashEnd, ctrAfter, ctrShut, opensAfter}
-use N.{opensShut, sealAfter, sealShut, Ctr·state as Ctr, Ctr·counting, Gcm·counting, Opens, Seal, directionOf, hostCtrStart, hostOpensStart}
-use N.{hostSealStart, cipherIn, LuossavinKey}
+use N.{eqb-true, ne-eqb, same, xors, blocksOf, gcmCameRound, finished, refusal, telling, refusalHead, keyAndIv, keyNumber, Ctr as Ctr·mode}
+use N.{Direction, Decrypt, Encrypt, Sm4Cipher, Refusal, Ended, ErrorBlockSize, Retired, TooLong, WrongIv, WrongNumber, Checked, Passed}
+use N.{Refused, Stepped, begun, ctrEnd, ctrPiece, ctrStart, ended, goesOn, opensEnd, opensPiece, opensStart, sealEnd, sealPiece, sealStart}
+use N.{stepOn, gcmStarting, running, standing, tagged, writing, flowText, hashEnd, ctrAfter, ctrShut, opensAfter, opensShut, sealAfter}
+use N.{sealShut, Ctr·state as Ctr, Ctr·counting, Gcm·counting, Opens, Seal, directionOf, hostCtrStart, hostOpensStart, hostSealStart}
+use N.{cipherIn, LuossavinKey}
 use Rattle.block.proofs.Convert.{length-bytesOf}
 use Rattle.block.proofs.Xors.{length-xors}
 use Rattle.cipher_mode.proofs.Refusals.{refuses as each-refuses}
 use Rattle.pieces.proofs.KeyStream.{text-length}
 use Rattle.pieces.proofs.Passing.{writing-passed}
-use Rattle.demands.specs.Steps.{outcomeOf, ctrKey, sealKey, opensKey, pieceNumbers, StepAnswered, turned, NoCtr, NoSeal, NoOpens}
+use Rattle.demands.specs.Steps.{outcomeOf, ctrKey, sealKey, opensKey, pieceNumbers, StepAnswered, NoCtr, NoSeal, NoOpens}
 use Rattle.demands.specs.Answered.{oneOf, Answered}
 use Rattle.demands.specs.WhichNumber.{Said, saidIn, only, firstOf}
 use Rattle.demands.specs.WhichNumberInPieces.{runningRows, ctrPieceRows, ctrEndRows, sealPieceRows, sealEndRows, opensPieceRows}
@@ -22,7 +22,7 @@ use Rattle.demands.specs.WhichNumberInPieces.{opensEndRows, ctrStartRows
 use Rattle.demands.proofs.WhichNumber.{behind, said·laws, said-standing, ctr-piece-number, ctr-end-number, seal-piece-number}
 use Rattle.demands.proofs.WhichNumber.{seal-end-number, opens-piece-number, opens-end-number, exported-ctr-start-number}
 use Rattle.demands.proofs.WhichNumber.{exported-seal-start-number, exported-opens-start-number}
-use Rattle.demands.proofs.Answering.{numbered, within, Fair, answered, refused-fair, refusal-fair, done-fair}
+use Rattle.demands.proofs.Answering.{numbered, within, Fair, answered, refused-fair, refusal-fair, done-fair, split}
 
 -- a refusal, or what comes next, which may count on it that the check passed
 goes-answers : (S : Type 0) (number : S → ℕ) (k : Checked) (o : List ℕ) (s : S) (n : ℕ) (next : Stepped S)
@@ -124,11 +124,7 @@ All P (k ∷ ks) = P k × All P ks
 
 each : (P : ℕ → Type 0) (ks : List ℕ) → All P ks → (n : ℕ) → oneOf n ks ≡ true → P n
 each P [] a n e = let z : _≡_ {A = ℕ} 0 1 = cc in absurd (omega arith)
-each P (k ∷ ks) (p, ps) n e = by (eqb n k) refl (λ f. each P ks ps n (rw f at e))
-  where
-    by : (t : Bool) → eqb n k ≡ t → (eqb n k ≡ false → P n) → P n
-    by true f later = let z = eqb-true n k f in rw z p
-    by false f later = later f
+each P (k ∷ ks) (p, ps) n e = split _ (eqb n k) (λ f. let z = eqb-true n k f in rw z p) (λ f. each P ks ps n (rw f at e))
 
 refuses-alike : (n : ℕ) → oneOf n shutMarks ≡ true → Refuses n
 unfolding standing
@@ -151,38 +147,17 @@ refuses-alike =
     )
 
 module _ (n : ℕ) (m : oneOf n shutMarks ≡ true) (key : ℕ) where
-  -- whatever the lengths are
-  shut-goes : (S : Type 0) (k : Checked) (o : List ℕ) (s : S) (next : Stepped S) → k ≡ Refused (refuses-alike n m .by)
-      → stepOn S key (goesOn S k o s next) ≡ turned S key n s o
-  shut-goes S k o s next e =
-      rw e (ap {B = Stepped S} (λ (h : Head). record { head = under key h; bytes = o; state = s }) (refuses-alike n m .head))
-
   shut-ctr : NoCtr n (ctrShut key n)
   unfolding ctrPiece ctrEnd ctrShut writing running
-  shut-ctr =
-      let r = refuses-alike n m .stands in
-      record {
-        piece = λ e o. shut-goes Ctr (writing n 0 0 (length e) (length e) (length o)) o (ctrShut key n) _ (rw r);
-        end = shut-goes Ctr (running n 0 0 0) [] (ctrShut key n) _ (rw r);
-      }
+  shut-ctr = let r = refuses-alike n m in record { piece = λ e o. rw (r .stands, r .head); end = rw (r .stands, r .head) }
 
   shut-seal : NoSeal n (sealShut key n)
   unfolding sealPiece sealEnd sealShut writing running
-  shut-seal =
-      let r = refuses-alike n m .stands in
-      record {
-        piece = λ e o. shut-goes Seal (writing n 0 0 (length e) (length e) (length o)) o (sealShut key n) _ (rw r);
-        end = λ o. shut-goes Seal (writing n 0 0 0 16 (length o)) o (sealShut key n) _ (rw r);
-      }
+  shut-seal = let r = refuses-alike n m in record { piece = λ e o. rw (r .stands, r .head); end = λ o. rw (r .stands, r .head) }
 
   shut-opens : NoOpens n (opensShut key n)
   unfolding opensPiece opensEnd opensShut tagged running
-  shut-opens =
-      let r = refuses-alike n m .stands in
-      record {
-        piece = λ e. shut-goes Opens (running n 0 0 (length e)) [] (opensShut key n) _ (rw r);
-        end = λ tag. shut-goes Opens (tagged n 0 0 (length tag)) [] (opensShut key n) _ (rw r);
-      }
+  shut-opens = let r = refuses-alike n m in record { piece = λ e. rw (r .stands, r .head); end = λ tag. rw (r .stands, r .head) }
 
 -- The starts report length 0, done or refused, and the state carries the key's number. Where one is refused, the state is shut at the
 -- number of the refusal.

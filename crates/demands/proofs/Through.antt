@@ -2,14 +2,15 @@
 -- Assumes nothing.
 use Rattle.demands.specs.Names as N
 use N.{Bool, cond, false, not, true, List, _≢_, _∙_, _≡_, ap, ap₂, refl, sym, _≤_, suc, zero, ℕ, arith, eqb, ltb, length, take-append-seam}
-use N.{eq-eqb, le-ltb, Outcome, done, keyed, refuseAs, refused, blockCall, blockOf, lengthsOf, modeCall, modeResult, blockCheck, checked}
-use N.{keyAndIv, messageCheck, roomCheck, keyHead, keyNumber, newCipher, retire, modeOf, roomOf, CipherMode, Cbc, Cfb, Ctr, Gcm, Ofb}
-use N.{Direction, KeyAnswer, NoKey as ErrorBlockSize, Key, NoNumber as WrongNumber, Sm4Cipher, Sm4CipherMode, Checked, Passed, Refused}
-use N.{Lengths, begun, hostModeCall, modeIn, cipherIn, hostKeyNew, hostKeyRetire, keyAnswerOf, keyOf, LuossavinKey}
+use N.{eq-eqb, le-ltb, Outcome, done, keyed, refused, blockCall, blockOf, lengthsOf, modeCall, modeResult, blockCheck, checked, keyAndIv}
+use N.{messageCheck, roomCheck, keyHead, keyNumber, newCipher, retire, modeOf, roomOf, CipherMode, Cbc, Cfb, Ctr, Gcm, Ofb, Direction}
+use N.{KeyAnswer, NoKey as ErrorBlockSize, Key, NoNumber as WrongNumber, Sm4Cipher, Sm4CipherMode, Checked, Passed, Refused, Lengths, begun}
+use N.{hostModeCall, modeIn, cipherIn, hostKeyNew, hostKeyRetire, keyAnswerOf, keyOf, LuossavinKey}
 use Rattle.cipher_mode.proofs.Passed.{InOrder, BlockInOrder, message-passed, block-passed}
 use Rattle.cipher_mode.proofs.Ends.{went-on}
 use Rattle.cipher_mode.proofs.Refusals.{refuses}
 use Rattle.demands.specs.Call.{result, RefusedAs}
+use Rattle.demands.proofs.Answering.{split}
 
 pub result-of-done : (p o : List ℕ) → result (done p o) ≡ p
 result-of-done p o = take-append-seam p _
@@ -75,13 +76,11 @@ module _ (dir : Direction) (mode : ℕ) (k : LuossavinKey) (aad d iv o : List �
   abbrev pub Ready : Type 0
   Ready = (ltb 4 mode ≡ false) × InOrder (cipherIn k .answer) (cipherIn k .retired) dir (modeOf mode) (lengthsOf aad d iv o)
 
-  ready-by : (t : Bool) → ltb 4 mode ≡ t → refuseAs t 7 o (modeCall dir (modeIn k mode) aad d iv o) .head .number ≡ 0 → Ready
-  ready-by true f e = absurd (omega arith)
-  ready-by false f e = (f, through dir (modeIn k mode) aad d iv o e)
-
   pub host-through : hostModeCall dir mode k aad d iv o .head .number ≡ 0 → Ready
   unfolding hostModeCall
-  host-through e = ready-by (ltb 4 mode) refl e
+  host-through e =
+      split _ (ltb 4 mode) (λ f. let z : _≡_ {A = ℕ} 7 0 = rw f at e in absurd (omega arith))
+      (λ f. (f, through dir (modeIn k mode) aad d iv o (rw f at e)))
 
   pub host-leaves : Ready → hostModeCall dir mode k aad d iv o
       ≡ keyed (keyNumber (cipherIn k)) (modeResult (modeOf mode) dir (k .«round_keys») aad d iv o)
@@ -113,17 +112,11 @@ pub new-is-new : (key : List ℕ) (n : ℕ) → cipherIn (hostKeyNew key n) ≡ 
 unfolding hostKeyNew
 new-is-new key n = handed-back (newCipher key n)
 
--- by the tests on the record's answer
-retired-by : (k : LuossavinKey) (zero thirteen : Bool) → eqb (k .answer) 0 ≡ zero → eqb (k .answer) 13 ≡ thirteen
-    → cipherIn (hostKeyRetire k) ≡ retire (cipherIn k)
-unfolding cipherIn keyAnswerOf hostKeyRetire retire
-retired-by k true t e f = rw e
-retired-by k false true e f = rw (e, f) (rw e)
-retired-by k false false e f = rw (e, f) (rw e)
-
 -- and what it retires is that record retired
 pub retired-is-retired : (k : LuossavinKey) → cipherIn (hostKeyRetire k) ≡ retire (cipherIn k)
-retired-is-retired k = retired-by k (eqb (k .answer) 0) (eqb (k .answer) 13) refl refl
+unfolding cipherIn keyAnswerOf hostKeyRetire retire
+retired-is-retired k =
+    split _ (eqb (k .answer) 0) (λ e. rw e) (λ e. split _ (eqb (k .answer) 13) (λ f. rw (e, f) (rw e)) (λ f. rw (e, f) (rw e)))
 
 -- document 01's number of a mode
 abbrev pub modeNumber : CipherMode → ℕ

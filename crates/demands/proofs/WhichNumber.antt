@@ -16,6 +16,7 @@ use Rattle.demands.specs.WhichNumber.{newRows, blockRows, whichRows, enc
 use Rattle.demands.proofs.ModesBack.{encrypts}
 use Rattle.demands.specs.WhichNumberInPieces.{ctrPieceRows, ctrEndRows, sealPieceRows, sealEndRows, opensPieceRows, opensEndRows}
 use Rattle.demands.specs.WhichNumberInPieces.{ctrStartRows, gcmStartRows}
+use Rattle.demands.proofs.Answering.{split}
 
 -- what is said behind a check, s being what comes next
 unfoldable pub behind : Checked → Said → Said
@@ -44,13 +45,8 @@ said-then (Refused r) b s = refl
 pub said-key : (n : ℕ) (s : Said)
     → behind (keyCheck (keyAnswerOf n)) s ≡ cond (not (eqb n 0) && not (eqb n 13)) (only 1) (cond (eqb n 13) (only 13) s)
 unfolding keyAnswerOf behind
-said-key n s = by-answer (eqb n 0) (eqb n 13) refl refl
-  where
-    by-answer : (zero thirteen : Bool) → eqb n 0 ≡ zero → eqb n 13 ≡ thirteen
-        → behind (keyCheck (keyAnswerOf n)) s ≡ cond (not (eqb n 0) && not (eqb n 13)) (only 1) (cond (eqb n 13) (only 13) s)
-    by-answer true t e f = let z = eqb-true n 0 e in rw z
-    by-answer false true e f = rw (e, f)
-    by-answer false false e f = rw (e, f)
+said-key n s =
+    split _ (eqb n 0) (λ e. let z = eqb-true n 0 e in rw z) (λ e. split _ (eqb n 13) (λ f. rw (e, f)) (λ f. rw (e, f)))
 
 -- so a chain of checks is read as a list of rows
 pub ruleset said·laws = (said-passed, said-refused, said-refuse, said-then, said-key)
@@ -206,13 +202,9 @@ module _ (mark : ℕ) (s : Said) where
       (cond (eqb mark 5) (only 5)
       (cond (eqb mark 10) (only 10) (cond (eqb mark 13) (only 13) (cond (eqb mark 14) (only 14) (cond (not (eqb mark 0)) (only 12) s)))))
 
-  stands-by : (t : Bool) → eqb mark 0 ≡ t → behind (standing mark) s ≡ marked
-  unfolding standing behind
-  stands-by true e = let z = eqb-true mark 0 e in rw z
-  stands-by false e = rw e (simp said·laws)
-
   pub said-standing : behind (standing mark) s ≡ marked
-  said-standing = stands-by (eqb mark 0) refl
+  unfolding standing behind
+  said-standing = split _ (eqb mark 0) (λ e. let z = eqb-true mark 0 e in rw z) (λ e. rw e (simp said·laws))
 
 -- Every piece and every end says what the first condition says that holds: what the state stands at, the lengths, the tag's
 -- size, the room, and last the tag.

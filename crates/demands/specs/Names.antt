@@ -45,7 +45,7 @@ pub use Rattle.cbc.specs.Open.{cbcText, headOf as cbcHead, lastByte}
 unfoldable pub use Rattle.cbc.specs.Open.{allPadding, cbcOpen, namesPadding, unpadded}
 pub use Rattle.cbc.specs.declared.Opened.{Opened}
 pub use Rattle.cbc.specs.declared.Opened.the-variants.{Done as Cbc·Done, InvalidLastU8, InvalidPadding}
-pub use Rattle.gcm.specs.Gcm.{J0, hashedCounter, nonceCounter, tagPart, textPart}
+pub use Rattle.gcm.specs.Gcm.{J0, hashedCounter, tagPart, textPart}
 unfoldable pub use Rattle.gcm.specs.Gcm.{firstCounter, hashKey, opensUnder, sealed, tagOf, textOf}
 pub use Rattle.gcm.specs.Open.{headOf as gcmHead}
 unfoldable pub use Rattle.gcm.specs.Open.{gcmOpen, settled}
