@@ -7,7 +7,7 @@ use N.{arith, drop, length, length-append, length-drop, take-at, le-ltb, blocksO
 use N.{refusal, telling, under, chain, over, streamMode, Ctr·kind, J0, hashKey, opensUnder, sealed, tagOf, textOf, gcmOpen, gcmHead}
 use N.{settled, Gcm·Done, InvalidTag, gcmRound, lengthsOf, modeCall, modeResult, andThen, checked, dataCheck, keyAndIv, labelCheck}
 use N.{messageCheck, retiredCheck, roomCheck, wrongIv, keyNumber, limit, modeOf, Ctr as Ctr·mode, Gcm, Direction, Decrypt, Encrypt, Key}
-use N.{Sm4Cipher, Sm4CipherMode, Refusal, Checked, Passed, Refused, Stepped, begun, ctrEnd, ctrPiece, ctrStart, ended, goesOn, opensEnd}
+use N.{Sm4Cipher, Sm4CipherMode, Refusal, Checked, Passed, Refused, Stepped, begun, ctrEnd, ctrPiece, ctrStart, goesOn, opensEnd}
 use N.{opensPiece, opensStart, sealEnd, sealPiece, sealStart, stepOn, gcmStarting, ctrAfter, ctrShut, opensAfter, opensShut, sealAfter}
 use N.{sealShut, Ctr·state as Ctr, Opens, Seal, hostModeCall, directionOf, hostCtrStart, hostOpensStart, hostSealStart, cipherIn}
 use N.{LuossavinKey}
@@ -22,8 +22,8 @@ use Rattle.pieces.proofs.OpensInPieces.{opens-started, opens-goes-on, opens-end
 use Rattle.demands.specs.Call.{inGcm, result}
 use Rattle.demands.specs.CameRound.{tellingDone}
 use Rattle.demands.specs.InPieces.{gathered, Every, Room, Did, written, stateAfter, wrote, AllDid, Piece, onto, sizeOf, whole, Roomy}
-use Rattle.demands.specs.InPieces.{AllDone, joined, none, TellsAlike, CtrInPieces, SealInPieces, OpensInPieces, AllZero, CtrOfPieces}
-use Rattle.demands.specs.InPieces.{SealOfPieces, OpensOfPieces, CheckedAlike}
+use Rattle.demands.specs.InPieces.{joined, none, CtrInPieces, SealInPieces, OpensInPieces, AllZero, CtrOfPieces, SealOfPieces}
+use Rattle.demands.specs.InPieces.{OpensOfPieces, CheckedAlike}
 use Rattle.demands.proofs.Through.{result-of-done, passed-start, through, leaves}
 use Rattle.demands.proofs.OneBlockRefused.{Fits, gcm-in-order}
 use Rattle.cipher_mode.proofs.Refusals.{refuses}
@@ -162,11 +162,7 @@ ctr-in-pieces decrypt k ps label iv o r e =
     let left = leaves dir m label (whole ps) iv o p in
     let single : result (modeCall dir m label (whole ps) iv o) ≡ text (whole ps) = ap result left ∙ result-of-done (text (whole ps)) o in
     let end = ap (λ (x : Stepped Ctr). x .head) (ap ctrEnd state ∙ ctr-ended i mark rk iv (whole ps) fits) in
-    subst
-    (λ (x : Stepped Ctr). AllDone Ctr call x ps 0 (ctrEnd (stateAfter Ctr Piece call (x .state) ps))
-    × (wrote Ctr Piece call (x .state) ps ≡ result (modeCall dir m label (whole ps) iv o))
-    × TellsAlike Ctr (ctrEnd (stateAfter Ctr Piece call (x .state) ps)) (modeCall dir m label (whole ps) iv o))
-    (sym (ctr-starts dir c iv (p .key) (p .iv-size) (p .may))) (
+    rw (ctr-starts dir c iv (p .key) (p .iv-size) (p .may)) (
       record { start = record { number = refl; size = refl }; pieces = all; end = did Ctr 0 i (ctrCameRound iv (blocksOf (length (whole ps)))) _ end },
       ap (λ (l : List ℕ). l ++ wrote Ctr Piece call (ctrAfter i mark rk iv []) ps) (sym (chain-nothing rk iv)) ∙ bytes ∙ sym single,
       ap (λ (h : Head). h .cameRound) end ∙ sym (ap (λ (x : Outcome). x .head .cameRound) left),
@@ -195,23 +191,15 @@ seal-in-pieces k ps label iv t o r room e =
     let left = leaves Encrypt (inGcm c) label (whole ps) iv o p in
     let single : result (modeCall Encrypt (inGcm c) label (whole ps) iv o) ≡ text (whole ps) ++ tag =
     ap result left ∙ result-of-done (text (whole ps) ++ tag) o in
-    let reported = telling (gcmRound rk iv (length (whole ps))) (finished 16) in
-    let ends : (x : Stepped Seal) → x ≡ record { head = under i reported; bytes = over tag t; state = sealShut i ended }
-    → Did Seal 16 x × (written Seal x ≡ tag) × (x .head .cameRound ≡ reported .cameRound) =
-    λ x f. subst (λ (y : Stepped Seal). Did Seal 16 y × (written Seal y ≡ tag) × (y .head .cameRound ≡ reported .cameRound)) (sym f)
-    (record { number = refl; size = refl }, take-at tag _ 16 (length-tag rk (hashKey rk) j label (text (whole ps))), refl) in
-    let last = ends _ (ap (λ (s : Seal). sealEnd s t) state ∙ end) in
-    subst
-    (λ (x : Stepped Seal). AllDone Seal call x ps 16 (sealEnd (stateAfter Seal Piece call (x .state) ps) t)
-    × (wrote Seal Piece call (x .state) ps ++ written Seal (sealEnd (stateAfter Seal Piece call (x .state) ps) t)
-    ≡ result (modeCall Encrypt (inGcm c) label (whole ps) iv o))
-    × TellsAlike Seal (sealEnd (stateAfter Seal Piece call (x .state) ps) t) (modeCall Encrypt (inGcm c) label (whole ps) iv o))
-    (sym (seal-starts c label iv (p .key) (p .iv-size) (p .may) hl)) (
-      record { start = record { number = refl; size = refl }; pieces = all; end = last .0 },
+    let last = ap (λ (s : Seal). sealEnd s t) state ∙ end in
+    let head = ap (λ (x : Stepped Seal). x .head) last in
+    let tagged = ap (written Seal) last ∙ take-at tag _ 16 (length-tag rk (hashKey rk) j label (text (whole ps))) in
+    rw (seal-starts c label iv (p .key) (p .iv-size) (p .may) hl) (
+      record { start = record { number = refl; size = refl }; pieces = all; end = did Seal 16 i (gcmRound rk iv (length (whole ps))) _ head },
       ap₂ _++_
-          (ap (λ (l : List ℕ). l ++ wrote Seal Piece call (sealAfter i mark rk label iv []) ps) (sym (no-text rk j)) ∙ bytes) (last .1)
+          (ap (λ (l : List ℕ). l ++ wrote Seal Piece call (sealAfter i mark rk label iv []) ps) (sym (no-text rk j)) ∙ bytes) tagged
           ∙ sym single,
-      last .2 ∙ sym (ap (λ (x : Outcome). x .head .cameRound) left),
+      ap (λ (h : Head). h .cameRound) head ∙ sym (ap (λ (x : Outcome). x .head .cameRound) left),
     )
 
 -- pieces of a ciphertext write nothing, and fit into no output
@@ -279,12 +267,7 @@ opens-in-pieces key cs label iv tag o fits room n e =
     let end = ap (λ (y : Opens). opensEnd y tag) state ∙ opens-ended i rk label iv text (s .label-fits) tag fits n in
     let same = by-test test (gcmRound rk iv (length text)) (length (text ++ tag) - 16) in
     let told = ap (λ (r : ℕ). tellingDone (gcmRound rk iv r) (gcmHead (cond test (Gcm·Done (length (text ++ tag) - 16)) InvalidTag))) size in
-    subst
-    (λ (x : Stepped Opens). AllDid Opens (List ℕ) opensPiece none (x .state) cs
-    × (opensEnd (stateAfter Opens (List ℕ) opensPiece (x .state) cs) tag .head .number
-    ≡ modeCall Decrypt (inGcm c) label (text ++ tag) iv o .head .number)
-    × TellsAlike Opens (opensEnd (stateAfter Opens (List ℕ) opensPiece (x .state) cs) tag) (modeCall Decrypt (inGcm c) label (text ++ tag) iv o))
-    (sym (opens-started c label iv passed)) (
+    rw (opens-started c label iv passed) (
       all,
       ap (λ (x : Stepped Opens). x .head .number) end ∙ same .0 ∙ sym (ap (λ (x : Outcome). x .head .number) left),
       ap (λ (x : Stepped Opens). x .head .cameRound) end ∙ same .1 ∙ sym (ap (λ (h : Head). h .cameRound) told)
@@ -375,7 +358,7 @@ ctr-of-pieces decrypt k ps label iv o room e z _ =
     let i = keyNumber c in
     let call = onto Ctr ctrPiece in
     let m : Sm4CipherMode = record { cipher = c; mode = Ctr·mode } in
-    let zs = subst (λ (x : Stepped Ctr). AllZero Ctr Piece call (x .state) ps) (ctr-started dir c iv (ctr-passed dir c iv e)) z in
+    let zs = rw (ctr-started dir c iv (ctr-passed dir c iv e)) at z in
     let after = ctrAfter i (c .engine) rk iv in
     let goes = piece-goes Ctr i (chain (streamMode Ctr·kind rk) iv) after call (ctr-writes i (c .engine) rk iv) in
     let (within, roomy) =
@@ -397,12 +380,11 @@ seal-of-pieces k ps label iv t o room e z last =
     let hl = starting-passed (c .answer) (c .retired) Encrypt (length iv) (length label) passed .labelled in
     let after = sealAfter i (c .engine) rk label iv in
     let goes = piece-goes Seal i (textOf rk (J0 rk iv)) after call (seal-writes i (c .engine) rk label iv hl) in
-    let zs = subst (λ (x : Stepped Seal). AllZero Seal Piece call (x .state) ps) start z in
+    let zs = rw start at z in
     let (within, roomy) =
     all-fit Seal Piece (λ p. p .text) sizeOf Room after call goes (seal-fits i (c .engine) rk label iv) [] ps (omega arith) zs in
     let w = went Seal Piece (λ p. p .text) sizeOf Room after call goes [] ps (omega arith) roomy .1 in
-    let end = subst (λ (x : Stepped Seal). sealEnd (stateAfter Seal Piece call (x .state) ps) t .head .number ≡ 0) start last in
-    let sixteen = tag-fits i (c .engine) rk label iv (whole ps) t (subst (λ (s : Seal). sealEnd s t .head .number ≡ 0) w end) in
+    let sixteen = tag-fits i (c .engine) rk label iv (whole ps) t (rw (start, w) at last) in
     let left = leaves Encrypt (inGcm c) label (whole ps) iv o (seal-single c label (whole ps) iv o e (omega arith) room) in
     let zero : modeCall Encrypt (inGcm c) label (whole ps) iv o .head .number ≡ 0 = ap (λ (x : Outcome). x .head .number) left in
     let made = seal-in-pieces k ps label iv t o roomy sixteen zero in
@@ -427,14 +409,12 @@ opens-of-pieces key cs label iv tag o room e z last =
     let passed = opens-starts c label iv e in
     let s = started c label iv passed in
     let start = opens-started c label iv passed in
-    let zs = subst (λ (x : Stepped Opens). AllZero Opens (List ℕ) opensPiece (x .state) cs) start z in
+    let zs = rw start at z in
     let goes = opens-goes i rk label iv (s .label-fits) in
     let after = opensAfter i rk label iv in
     let (within, f) = all-fit Opens (List ℕ) (λ c. c) none Free after opensPiece goes (piece-fits i rk label iv) [] cs (omega arith) zs in
     let k = went Opens (List ℕ) (λ c. c) none Free after opensPiece goes [] cs (omega arith) f .1 in
-    let end =
-    subst (λ (x : Stepped Opens). opensEnd (stateAfter Opens (List ℕ) opensPiece (x .state) cs) tag .head .number ≡ 0) start last in
-    let sixteen = tag-size i rk label iv (joined cs) tag (subst (λ (s : Opens). opensEnd s tag .head .number ≡ 0) k end) in
+    let sixteen = tag-size i rk label iv (joined cs) tag (rw (start, k) at last) in
     sym (opens-in-pieces key cs label iv tag o (omega arith) room sixteen e .1) ∙ last
 
 -- A start that is refused: the check of the single call begins with its own.
@@ -456,25 +436,16 @@ ctr-refused dir c label iv n d o =
     (messageCheck (c .answer) (c .retired) dir Ctr·mode (lengthsOf label d iv o)) (ctrShut (keyNumber c))
     (ctrAfter (keyNumber c) (c .engine) (c .rk) iv []) o (modeResult Ctr·mode dir (c .rk) label d iv o) (λ r e. rw e) n
 
-seal-refused : (c : Sm4Cipher) (label iv : List ℕ) → sealStart c label iv .head .number ≢ 0 → (d o : List ℕ)
-    → modeCall Encrypt (inGcm c) label d iv o ≡ leaving (sealStart c label iv .head) o
-unfolding sealStart modeCall messageCheck gcmStarting
-seal-refused c label iv n d o =
-    let a = keyAndIv (c .answer) (c .retired) Encrypt Gcm (length iv) in
+gcm-refused : (S : Type 0) (dir : Direction) (c : Sm4Cipher) (label iv : List ℕ) (shut : ℕ → S) (s : S)
+    → let start = stepOn S (keyNumber c) (begun S (gcmStarting (c .answer) (c .retired) dir (length iv) (length label)) shut s) in
+    start .head .number ≢ 0 → (d o : List ℕ) → modeCall dir (inGcm c) label d iv o ≡ leaving (start .head) o
+unfolding modeCall messageCheck gcmStarting
+gcm-refused S dir c label iv shut s n d o =
+    let a = keyAndIv (c .answer) (c .retired) dir Gcm (length iv) in
     let b = labelCheck Gcm (length label) in
-    let rest = andThen (dataCheck Encrypt Gcm (length d)) (roomCheck Encrypt Gcm (length d) (length o)) in
-    refused-alike Seal (keyNumber c) (andThen a b) (andThen a (andThen b rest)) (sealShut (keyNumber c))
-    (sealAfter (keyNumber c) (c .engine) (c .rk) label iv []) o (modeResult Gcm Encrypt (c .rk) label d iv o) (then-refused a b rest) n
-
-opens-refused : (c : Sm4Cipher) (label iv : List ℕ) → opensStart c label iv .head .number ≢ 0 → (d o : List ℕ)
-    → modeCall Decrypt (inGcm c) label d iv o ≡ leaving (opensStart c label iv .head) o
-unfolding opensStart modeCall messageCheck gcmStarting
-opens-refused c label iv n d o =
-    let a = keyAndIv (c .answer) (c .retired) Decrypt Gcm (length iv) in
-    let b = labelCheck Gcm (length label) in
-    let rest = andThen (dataCheck Decrypt Gcm (length d)) (roomCheck Decrypt Gcm (length d) (length o)) in
-    refused-alike Opens (keyNumber c) (andThen a b) (andThen a (andThen b rest)) (opensShut (keyNumber c))
-    (opensAfter (keyNumber c) (c .rk) label iv []) o (modeResult Gcm Decrypt (c .rk) label d iv o) (then-refused a b rest) n
+    let rest = andThen (dataCheck dir Gcm (length d)) (roomCheck dir Gcm (length d) (length o)) in
+    refused-alike S (keyNumber c) (andThen a b) (andThen a (andThen b rest)) shut s o (modeResult Gcm dir (c .rk) label d iv o)
+    (then-refused a b rest) n
 
 -- a tag alone opens or not
 opens-or-not : (t : Bool) (n : ℕ) → oneOf (gcmHead (cond t (Gcm·Done n) InvalidTag) .number) (0 ∷ 4 ∷ []) ≡ true
@@ -506,11 +477,11 @@ ctr-checked decrypt k label iv =
 
 pub seal-checked : (k : LuossavinKey) (label iv : List ℕ)
     → CheckedAlike Seal [] 16 (0 ∷ []) (hostSealStart k label iv) (λ d o. hostModeCall Encrypt 4 k label d iv o)
-unfolding hostSealStart hostModeCall modeOf
+unfolding hostSealStart sealStart hostModeCall modeOf
 seal-checked k label iv =
     let c = cipherIn k in
     record {
-      refused = seal-refused c label iv;
+      refused = gcm-refused Seal Encrypt c label iv (sealShut (keyNumber c)) _;
       begun = λ e o room.
           ap (λ (x : Outcome). oneOf (x .head .number) (0 ∷ []))
           (leaves Encrypt (inGcm c) label [] iv o (seal-single c label [] iv o e (omega arith) room));
@@ -518,10 +489,10 @@ seal-checked k label iv =
 
 pub opens-checked : (k : LuossavinKey) (label iv tag : List ℕ) → length tag ≡ 16
     → CheckedAlike Opens tag 0 (0 ∷ 4 ∷ []) (hostOpensStart k label iv) (λ d o. hostModeCall Decrypt 4 k label d iv o)
-unfolding hostOpensStart hostModeCall modeOf
+unfolding hostOpensStart opensStart hostModeCall modeOf
 opens-checked k label iv tag n =
     let c = cipherIn k in
     record {
-      refused = opens-refused c label iv;
+      refused = gcm-refused Opens Decrypt c label iv (opensShut (keyNumber c)) _;
       begun = λ e o room. tag-alone c label tag iv o n e;
     }
