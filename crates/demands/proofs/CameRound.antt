@@ -13,14 +13,13 @@ use N.{onKey, opensWith, searchCheck, which, planCall, rangeCall, Plan, hostBloc
 use N.{hostSealStart, cipherIn, hostCtrByPlan, hostCtrRange, hostWhich, LuossavinKey}
 use Rattle.block.proofs.Convert.{length-bytesOf, bytesOf-bytes}
 use Rattle.demands.specs.Call.{inGcm, result}
-use Rattle.demands.specs.TwelveBytes.{followedBy, textFromTwo, CountsFromTwo}
+use Rattle.demands.specs.CameRound.{followedBy, textFromTwo, CountsFromTwo, roundOf, Says}
 use Rattle.demands.proofs.Through.{result-of-done, through, leaves}
 use Rattle.block.proofs.Entries.{below-append}
 use Rattle.stream.proofs.CounterSteps.{ctr-walk-says, gcm-walk-says}
 use Rattle.cipher_mode.proofs.Passed.{data-within}
 use Rattle.cipher_mode.proofs.Refusals.{refuses}
 use Rattle.editions.proofs.FirstOpening.{search-number}
-use Rattle.demands.specs.CameRound.{roundOf, Says}
 use Rattle.demands.proofs.Answering.{split}
 
 -- either form of J0 has sixteen bytes

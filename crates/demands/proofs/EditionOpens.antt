@@ -13,7 +13,8 @@ use Rattle.cipher_mode.proofs.Refusals.{refuses}
 use Rattle.label.proofs.LabelTells.{length-label}
 use Rattle.demands.specs.Call.{inGcm, RefusedAs}
 use Rattle.demands.specs.OneBlockRefused.{MovesZero}
-use Rattle.demands.specs.EditionOpens.{WithoutText, AnswersAsOpening, NeverNoRoom, OneEditionAlone}
+use Rattle.demands.specs.EditionOpens.{WithoutText, AnswersAsOpening, NeverNoRoom, OneEditionAlone, FirstThatOpens, Tells}
+use Rattle.demands.specs.EditionOpens.{WhichAnswered}
 use Rattle.demands.proofs.OneBlockRefused.{other-edition-refused, Fits, gcm-in-order}
 use Rattle.cipher_mode.proofs.Passed.{data-within, with-tag-passed}
 use Rattle.editions.proofs.Turns.{or-false}
@@ -21,7 +22,6 @@ use Rattle.editions.proofs.Passed.{search-passed}
 use Rattle.editions.proofs.FirstOpening.{IsFirst, search-number}
 use Rattle.editions.proofs.WhichOpens.{Asked, first-opens, none-opens, found-opens, none-found, zero-unless-found, done-asked}
 use Rattle.demands.proofs.Answering.{is-true, is-false, one-or-none}
-use Rattle.demands.specs.Which.{FirstThatOpens, Tells, WhichAnswered}
 use Rattle.demands.proofs.Through.{leaves}
 
 on-key : (k : ℕ) (h : Head) (x : Outcome) → WithoutText h x → WithoutText (under k h) (keyed k x)

@@ -17,7 +17,7 @@ use Rattle.cipher_mode.proofs.Passed.{iv-twelve-or-sixteen}
 use Rattle.demands.specs.Call.{inGcm, result}
 use Rattle.demands.specs.Halves.{WholeBlocks, JoinsHalves, enciphered, keyOfHash, bytesIn, pair, counterOf, hashOfAll, tagOfHalves}
 use Rattle.demands.specs.Halves.{TagsByHalves}
-use Rattle.demands.specs.TwelveBytes.{followedBy}
+use Rattle.demands.specs.CameRound.{followedBy}
 use Rattle.demands.proofs.CameRound.{length-counter}
 use Rattle.demands.proofs.Through.{result-of-done, through, leaves, block-leaves}
 
@@ -52,45 +52,21 @@ pair-block : (m n : ℕ) → blocks (pair (8 * m) (8 * n)) ≡ lengthBlock m n �
 unfolding lengthBlock
 pair-block m n = blocks-full (pair (8 * m) (8 * n)) (length-pair (8 * m) (8 * n))
 
--- under the value of an element: one more half behind blocks that are hashed
+-- under the value of an element
 module _ (h : ℕ) (element : Element h) where
-  one-more : (xs b : List ℕ) → hostHashJoin (hashOf h) (hashOf (ghash h xs)) (hostHashBlocks (hashOf h) b) (blockCount (length b))
-      ≡ hashOf (ghash h (xs ++ blocks b))
-  one-more xs b =
-      ap₂ {C = LuossavinHash} (hostHashJoin (hashOf h) (hashOf (ghash h xs))) (blocks-of h b) (sym (length-blocks b))
-      ∙ join-of h (ghash h xs) (ghash h (blocks b)) (length (blocks b))
-      ∙ ap {B = LuossavinHash} hashOf (joins h element xs (blocks b))
+  -- one more half behind blocks that are hashed, and one more block
+  joins-half : (xs b : List ℕ) → joined h (ghash h xs) (ghash h (blocks b)) (blockCount (length b)) ≡ ghash h (xs ++ blocks b)
+  joins-half xs b = ap (joined h (ghash h xs) (ghash h (blocks b))) (sym (length-blocks b)) ∙ joins h element xs (blocks b)
+
+  joins-block : (xs : List ℕ) (y : ℕ) → joined h (ghash h xs) (ghash h (y ∷ [])) 1 ≡ ghash h (xs ++ (y ∷ []))
+  joins-block xs y = joins h element xs (y ∷ [])
 
   -- label, halves and lengths
   all-joined : (label a b : List ℕ) → WholeBlocks a → hashOfAll (hashOf h) label a b ≡ hashOf (ghash h (authBlocks label (a ++ b)))
   unfolding authBlocks
   all-joined label a b whole =
-      let H = hashOf h in
-      let lengths = pair (8 * length label) (8 * (length a + length b)) in
-      let end = lengthBlock (length label) (length a + length b) ∷ [] in
-      let join = hostHashJoin H in
-      let hash = hostHashBlocks H in
-      let first : join (hash label) (hash a) (blockCount (length a)) ≡ hashOf (ghash h (blocks label ++ blocks a)) =
-      ap {B = LuossavinHash} (λ (x : LuossavinHash). join x (hash a) (blockCount (length a))) (blocks-of h label)
-      ∙ one-more (blocks label) a in
-      let both : join (hashOf (ghash h (blocks label ++ blocks a))) (hash b) (blockCount (length b))
-      ≡ hashOf (ghash h (blocks label ++ blocks (a ++ b))) =
-      one-more (blocks label ++ blocks a) b
-      ∙ ap {B = LuossavinHash} (λ (l : List ℕ). hashOf (ghash h l))
-      (append-assoc (blocks label) (blocks a) (blocks b) ∙ ap (λ (l : List ℕ). blocks label ++ l) (sym (blocks-append (length a / 16) a b (omega arith)))) in
-      let last : join (hashOf (ghash h (blocks label ++ blocks (a ++ b)))) (hash lengths) 1
-      ≡ hashOf (ghash h ((blocks label ++ blocks (a ++ b)) ++ end)) =
-      ap {B = LuossavinHash} (λ (n : ℕ). join (hashOf (ghash h (blocks label ++ blocks (a ++ b)))) (hash lengths) (blockCount n))
-      (sym (length-pair (8 * length label) (8 * (length a + length b))))
-      ∙ one-more (blocks label ++ blocks (a ++ b)) lengths
-      ∙ ap {B = LuossavinHash} (λ (l : List ℕ). hashOf (ghash h ((blocks label ++ blocks (a ++ b)) ++ l)))
-      (pair-block (length label) (length a + length b)) in
-      ap {B = LuossavinHash} (λ (x : LuossavinHash). join (join x (hash b) (blockCount (length b))) (hash lengths) 1) first
-      ∙ ap {B = LuossavinHash} (λ (x : LuossavinHash). join x (hash lengths) 1) both
-      ∙ last
-      ∙ ap {B = LuossavinHash} (λ (l : List ℕ). hashOf (ghash h l)) (append-assoc (blocks label) (blocks (a ++ b)) end)
-      ∙ ap {B = LuossavinHash} (λ (n : ℕ). hashOf (ghash h (blocks label ++ (blocks (a ++ b) ++ (lengthBlock (length label) n ∷ [])))))
-      (sym (length-append a b))
+      let cut = blocks-append (length a / 16) a b (omega arith) in
+      simp (blocks-of h, join-of h, joins-half, pair-block, joins-block, append-assoc, cut, length-append)
 
   hashed-counter : (iv : List ℕ) → length iv ≡ 16 → bytesIn (hostHashBlocks (hashOf h) (iv ++ pair 0 128)) ≡ hashedCounter h iv
   hashed-counter iv n =

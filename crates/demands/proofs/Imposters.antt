@@ -18,8 +18,7 @@ use Rattle.editions.proofs.WhichOpens.{Asked, first-opens}
 use Rattle.demands.specs.Call.{Call, result, inGcm}
 use Rattle.demands.specs.CameRound.{roundOf, Says}
 use Rattle.demands.specs.Answered.{oneOf, singleNumbers, Answered, KeyAnswered, lengthOf}
-use Rattle.demands.specs.Served.{Asks, Served}
-use Rattle.demands.specs.ThereAndBack.{SameKey, Decryptable, ThereAndBack}
+use Rattle.demands.specs.ThereAndBack.{Asks, Served, SameKey, Decryptable, ThereAndBack}
 use Rattle.demands.specs.InPieces.{CheckedAlike}
 use Rattle.demands.specs.OneBlockRefused.{OneBlockRefused}
 use Rattle.demands.specs.Imposters.{zeros, zeroKey, ones, ctr, refusesAll, constant, copies, firstBlockOnly, inventsLength}
@@ -30,7 +29,7 @@ use Rattle.demands.specs.Imposters.{twoEditions}
 use Rattle.demands.specs.Halves.{IsValue, WholeBlocks, hashOfHalves}
 use Rattle.demands.specs.Retired.{StaysRetired, DecryptsAlike}
 use Rattle.demands.specs.EngineUnseen.{unmarkedHost}
-use Rattle.demands.specs.Which.{Tells, WhichAnswered}
+use Rattle.demands.specs.EditionOpens.{Tells, WhichAnswered}
 use Rattle.demands.specs.Workers.{ctrCall, StretchOfWhole, Applying, appliedBy, RangesCommute}
 use Rattle.demands.proofs.Through.{through, leaves}
 use Rattle.demands.proofs.ModesBack.{encrypted}

@@ -17,8 +17,7 @@ use Rattle.shelf.proofs.FoundPart.{stored-part, look-up}
 use Rattle.shelf.proofs.AfterPut.{put-passed, put-look-up}
 use Rattle.demands.specs.Answered.{oneOf}
 use Rattle.demands.specs.Call.{Call}
-use Rattle.demands.specs.OneBlockRefused.{MovesZero}
-use Rattle.demands.specs.OtherEdition.{OtherEditionRefused}
+use Rattle.demands.specs.OneBlockRefused.{MovesZero, OtherEditionRefused}
 use Rattle.demands.specs.WhichNumber.{Said, only, row, firstOf}
 use Rattle.demands.specs.OnTheShelf.{ShelfAnswered, PlaceAnswered, putNumbers, collectNumbers, putRows, collectRows, findRows}
 use Rattle.demands.specs.OnTheShelf.{labelIn, fileIn, OneEditionOpens, NoRoughShown, OfEach}

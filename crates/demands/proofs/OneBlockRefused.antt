@@ -8,7 +8,7 @@ use N.{limit, modeOf, sealedLimit, Gcm, Decrypt, Key, Sm4Cipher, labelOf, hostMo
 use Rattle.ghash.proofs.Changed.{label-changed, text-changed, label-zero, text-zero}
 use Rattle.gcm.proofs.HashKey.{hashKey-lt, hashKey-tells, hashKey-zero}
 use Rattle.demands.specs.Call.{inGcm, RefusedAs}
-use Rattle.demands.specs.OneBlockRefused.{MovesZero, OneBlockRefused}
+use Rattle.demands.specs.OneBlockRefused.{MovesZero, OneBlockRefused, OtherEditionRefused, LabelZeroRefused, TextZeroRefused}
 use Rattle.gcm.proofs.TagTells.{opens-not, opens-alike}
 use Rattle.gcm.proofs.Settled.{open-refused}
 use Rattle.cipher_mode.proofs.Passed.{InOrder, label-passed, data-within, with-tag-passed}
@@ -16,8 +16,6 @@ use Rattle.demands.specs.CameRound.{roundOf}
 use Rattle.demands.proofs.Through.{refused-as, through, leaves}
 use Rattle.demands.proofs.ModesBack.{tagged-passes, opened-opens}
 use Rattle.label.proofs.LabelTells.{length-label, label-bytes, label-job, label-edition}
-use Rattle.demands.specs.OtherEdition.{OtherEditionRefused}
-use Rattle.demands.specs.TrailingZero.{LabelZeroRefused, TextZeroRefused}
 use Rattle.ghash.proofs.ZeroKey.{ghash-zero-key}
 
 -- In Gcm, where a message opens, the same tag is refused as 4 for a label and a ciphertext with another hash. J0 stays shut.

@@ -16,9 +16,8 @@ use Rattle.pieces.proofs.KeyStream.{text-length}
 use Rattle.pieces.proofs.Passing.{writing-passed}
 use Rattle.demands.specs.Steps.{outcomeOf, ctrKey, sealKey, opensKey, pieceNumbers, StepAnswered, NoCtr, NoSeal, NoOpens}
 use Rattle.demands.specs.Answered.{oneOf, Answered}
-use Rattle.demands.specs.WhichNumber.{Said, saidIn, only, firstOf}
-use Rattle.demands.specs.WhichNumberInPieces.{runningRows, ctrPieceRows, ctrEndRows, sealPieceRows, sealEndRows, opensPieceRows}
-use Rattle.demands.specs.WhichNumberInPieces.{opensEndRows, ctrStartRows, gcmStartRows}
+use Rattle.demands.specs.WhichNumber.{Said, saidIn, only, firstOf, runningRows, ctrPieceRows, ctrEndRows, sealPieceRows, sealEndRows}
+use Rattle.demands.specs.WhichNumber.{opensPieceRows, opensEndRows, ctrStartRows, gcmStartRows}
 use Rattle.demands.proofs.WhichNumber.{behind, said·laws, said-standing, ctr-piece-number, ctr-end-number, seal-piece-number}
 use Rattle.demands.proofs.WhichNumber.{seal-end-number, opens-piece-number, opens-end-number, exported-ctr-start-number}
 use Rattle.demands.proofs.WhichNumber.{exported-seal-start-number, exported-opens-start-number}

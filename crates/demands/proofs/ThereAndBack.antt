@@ -9,12 +9,12 @@ use Rattle.cipher.proofs.Blocks.{block-decrypt-encrypt, block-encrypt-decrypt}
 use Rattle.cipher_mode.proofs.Ends.{length-block}
 use Rattle.demands.specs.Call.{single, result, Call}
 use Rattle.demands.specs.CameRound.{roundOf}
-use Rattle.demands.specs.ThereAndBack.{SameKey, Returns, Decryptable, Encryptable, Sixteen, ThereAndBack}
+use Rattle.demands.specs.ThereAndBack.{SameKey, Returns, Decryptable, Encryptable, Sixteen, ThereAndBack, Serves, Asks, Served}
+use Rattle.demands.specs.ThereAndBack.{BlockServed}
 use Rattle.demands.proofs.Through.{result-of-done, block-through, block-leaves, host-through, host-leaves, Ready}
 use Rattle.demands.proofs.EveryCallAnswers.{new-cipher-answers}
 use Rattle.demands.proofs.Retired.{retired-by}
 use Rattle.demands.proofs.ModesBack.{encrypted, encrypts, back, forth, length-encrypted}
-use Rattle.demands.specs.Served.{Serves, Asks, Served, BlockServed}
 
 -- the second call answered 0 with d; it was given the result c of the first
 returns : (back : Call) (label c d iv o′ r : List ℕ) (h : Head) → r ≡ c → back label c iv o′ ≡ leaving h (over d o′) → h .number ≡ 0

@@ -12,10 +12,9 @@ use N.{checkedVerdict, noneWith, onKey, opensWith, searchCheck, which, hostBlock
 use N.{hostSealStart, cipherIn, hostKeyNew, keyAnswerOf, keyOf, hostWhich, LuossavinKey}
 use Rattle.editions.proofs.FirstOpening.{search-number}
 use Rattle.demands.specs.WhichNumber.{Said, saidIn, only, Row, Among, isRetired, encryptRowsIn, decryptRowsIn, firstOf, numbersOf}
-use Rattle.demands.specs.WhichNumber.{newRows, blockRows, whichRows, encryptRows, decryptRows}
+use Rattle.demands.specs.WhichNumber.{newRows, blockRows, whichRows, encryptRows, decryptRows, ctrPieceRows, ctrEndRows}
+use Rattle.demands.specs.WhichNumber.{sealPieceRows, sealEndRows, opensPieceRows, opensEndRows, ctrStartRows, gcmStartRows}
 use Rattle.demands.proofs.ModesBack.{encrypts}
-use Rattle.demands.specs.WhichNumberInPieces.{ctrPieceRows, ctrEndRows, sealPieceRows, sealEndRows, opensPieceRows, opensEndRows}
-use Rattle.demands.specs.WhichNumberInPieces.{ctrStartRows, gcmStartRows}
 use Rattle.demands.proofs.Answering.{split}
 
 -- what is said behind a check, s being what comes next

@@ -4,7 +4,7 @@ use Rattle.demands.specs.Names as N
 use N.{cond, List, _++_, _≡_, _%_, _*_, _+_, _<_, _^_, ℕ, eqb, length, replicate, bytesOf, numberOf, xors, blockCount, Encrypt, hashIn}
 use N.{hashOf, hostHashBlocks, hostHashJoin, hostBlockCall, hostModeCall, LuossavinHash, LuossavinKey}
 use Rattle.demands.specs.Call.{result}
-use Rattle.demands.specs.TwelveBytes.{followedBy}
+use Rattle.demands.specs.CameRound.{followedBy}
 
 abbrev pub Hashes : Type 0
 Hashes = LuossavinHash → List ℕ → LuossavinHash
