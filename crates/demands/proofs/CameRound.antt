@@ -229,8 +229,7 @@ ctr-steps-say dir rk iv d n a = ctr-walk-says rk iv d n a
 
 -- in Gcm the one from J0 to the first block too, over the text alone.
 pub seal-steps-say : (rk iv d : List ℕ) → AreBytes iv → gcmWalkSays rk (J0 rk iv) d ≡ roundOf Gcm Encrypt rk iv (length d)
-seal-steps-say rk iv d a =
-    gcm-walk-says rk (J0 rk iv) d (length-counter (hashKey rk) iv) (j0-bytes rk iv a)
+seal-steps-say rk iv d a = gcm-walk-says rk (J0 rk iv) d (length-counter (hashKey rk) iv) (j0-bytes rk iv a)
 
 pub open-steps-say : (rk iv s : List ℕ) → AreBytes iv → gcmWalkSays rk (J0 rk iv) (textPart s) ≡ roundOf Gcm Decrypt rk iv (length s)
 open-steps-say rk iv s a =

@@ -71,11 +71,7 @@ module _ (h : ℕ) (element : Element h) where
   hashed-counter : (iv : List ℕ) → length iv ≡ 16 → bytesIn (hostHashBlocks (hashOf h) (iv ++ pair 0 128)) ≡ hashedCounter h iv
   hashed-counter iv n =
       let number : lengthBlock 0 16 ≡ 128 = unfold lengthBlock numberOf bytesOf in refl in
-      ap bytesIn (blocks-of h (iv ++ pair 0 128))
-      ∙ ap (bytesOf 16) (value-back (ghash h (blocks (iv ++ pair 0 128))))
-      ∙ ap (λ (l : List ℕ). bytesOf 16 (ghash h l))
-      (blocks-append 1 iv (pair 0 128) n
-      ∙ ap₂ _++_ (blocks-full iv n) (pair-block 0 16 ∙ ap (λ (x : ℕ). x ∷ []) number))
+      rw (blocks-of h (iv ++ pair 0 128), value-back, blocks-append 1 iv (pair 0 128) n, blocks-full iv n, pair-block 0 16, number)
 
   counter-is : (iv : List ℕ) → wrongIv Gcm (length iv) ≡ false → counterOf (hashOf h) iv ≡ firstCounter h iv
   unfolding firstCounter

@@ -132,13 +132,7 @@ one-block-refused k moves a₁ a₂ c₁ c₂ t iv o₁ o₂ ba₁ ba₂ bc₁ b
 one-block : (a b : List ℕ) → a ≢ b → length a ≡ length b → length a ≤ 16 → OneBlock a b
 one-block a b ne e l =
     let k : length b ≤ 16 = omega arith in
-    record {
-      apart = ne;
-      lengths = e;
-      place = 0;
-      before = refl;
-      after = drop-of-length-le a l ∙ sym (drop-of-length-le b k);
-    }
+    record { apart = ne; lengths = e; place = 0; before = refl; after = drop-of-length-le a l ∙ sym (drop-of-length-le b k) }
 
 -- a file under another label of a block or less
 pub short-label-refused : (c : Sm4Cipher) → MovesZero (c .rk) → (a₁ a₂ file iv o₁ o₂ : List ℕ) → AreBytes a₁ → AreBytes a₂

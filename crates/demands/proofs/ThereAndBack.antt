@@ -121,10 +121,7 @@ unfolding hostKeyNew keyOf
 set-up-same-key key n m size n₁ n₂ m₁ m₂ =
     let first = new-cipher-answers key n .done size n₁ n₂ in
     let other = new-cipher-answers key m .done size m₁ m₂ in
-    record {
-      keys = other .2 ∙ sym (first .2);
-      answer = ap (λ (h : Head). h .number) (other .0 ∙ sym (first .0));
-    }
+    record { keys = other .2 ∙ sym (first .2); answer = ap (λ (h : Head). h .number) (other .0 ∙ sym (first .0)) }
 
 -- Whoever asks in order is served.
 

@@ -347,8 +347,7 @@ pick (Refused r) a b = b
 laid-by : (check : Checked) (k at : ℕ) (s o t : List ℕ)
     → laidAt at (result (keyed k (checked check o (done s o)))) t ≡ pick check (laidAt at s t) t
 laid-by Passed k at s o t = ap (λ (l : List ℕ). laidAt at l t) (result-of-done s o)
-laid-by (Refused r) k at s o t =
-    ap (λ (n : ℕ). laidAt at (take n o) t) (refuses r .no-size) ∙ nothing-laid at t
+laid-by (Refused r) k at s o t = ap (λ (n : ℕ). laidAt at (take n o) t) (refuses r .no-size) ∙ nothing-laid at t
 
 module _ (a : Applying) where
   -- the check of the range depends on the text's length alone
@@ -365,13 +364,7 @@ module _ (a : Applying) where
   applies t =
       let n = length-take (a .share .size) (drop (a .share .start) t) ∙ ap (min (a .share .size)) (length-drop (a .share .start) t) in
       let s = stretch (a .key .«round_keys») (a .iv) (a .share .start) (shareOf (a .share) t) in
-      ap (λ (m : ℕ). laidAt (a .share .start)
-      (result
-      (keyed (keyNumber (cipherIn (a .key)))
-      (checked
-      (rangeCheck (cipherIn (a .key) .answer) (cipherIn (a .key) .retired) (directionOf (a .decrypt)) (length (a .iv)) (a .share .start) m
-      (length (a .out))) (a .out) (done s (a .out))))) t) n
-      ∙ laid-by (checkOf (length t)) (keyNumber (cipherIn (a .key))) (a .share .start) s (a .out) t
+      rw n (laid-by (checkOf (length t)) (keyNumber (cipherIn (a .key))) (a .share .start) s (a .out) t)
 
   length-pick : (check : Checked) (t : List ℕ) → length (pick check (into t) t) ≡ length t
   length-pick Passed t = length-applied (a .key .«round_keys») (a .iv) (a .share) t
