@@ -135,7 +135,8 @@ quiet-start : (S : Type 0) (k : Checked) (shut : ℕ → S) (s : S) → begun S 
 quiet-start S Passed shut s = refl
 quiet-start S (Refused r) shut s = refuses r .no-round
 
-quiet-step : (S : Type 0) (k : Checked) (o : List ℕ) (s : S) (next : Stepped S) → next .head .cameRound ≡ 0 → goesOn S k o s next .head .cameRound ≡ 0
+quiet-step : (S : Type 0) (k : Checked) (o : List ℕ) (s : S) (next : Stepped S) → next .head .cameRound ≡ 0
+    → goesOn S k o s next .head .cameRound ≡ 0
 quiet-step S Passed o s next e = e
 quiet-step S (Refused r) o s next e = refuses r .no-round
 
@@ -191,7 +192,8 @@ pub opens-piece-says : (s : Opens) (e : List ℕ) → Says false (opensPiece s e
 unfolding opensPiece
 opens-piece-says s e = quiet _ (simp quiet-step)
 
-step-tells : (S : Type 0) (b : Bool) (k : Checked) (o : List ℕ) (s : S) (next : Stepped S) → Tells b (next .head) → Tells b (goesOn S k o s next .head)
+step-tells : (S : Type 0) (b : Bool) (k : Checked) (o : List ℕ) (s : S) (next : Stepped S) → Tells b (next .head)
+    → Tells b (goesOn S k o s next .head)
 step-tells S b Passed o s next h = h
 step-tells S b (Refused r) o s next h = refusal-tells b r
 
@@ -265,5 +267,6 @@ twelve-never dir k label d iv o n =
     (λ e.
     let z = eqb-true number 0 e in
     says .done z
-    ∙ ap (λ (b : Bool). cond b 1 0) (twelve-no dir (k .«round_keys») iv (length d) n (within dir (length d) (twelve-fits dir k label d iv o z))))
+    ∙ ap (λ (b : Bool). cond b 1 0) (twelve-no dir (k .«round_keys») iv (length d) n
+    (within dir (length d) (twelve-fits dir k label d iv o z))))
     (λ e. says .refused (eqb-false number 0 e))

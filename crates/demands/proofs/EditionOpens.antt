@@ -232,11 +232,15 @@ module _ (c : Sm4Cipher) (file iv labels lengths : List ℕ) where
 
   told-size : (bad : Bool) → toldBy bad .head .size ≡ 0
   told-size true = refl
-  told-size false = no-size (searchCheck (c .answer) (c .retired) (length iv) (length file) lengths) _ (search-number (opensWith c iv file) labels lengths)
+  told-size false =
+      no-size (searchCheck (c .answer) (c .retired) (length iv) (length file) lengths) _
+      (search-number (opensWith c iv file) labels lengths)
 
   told-refused : (bad : Bool) → toldBy bad .head .number ≢ 0 → toldBy bad .found ≡ false
   told-refused true n = refl
-  told-refused false n = some-place (searchCheck (c .answer) (c .retired) (length iv) (length file) lengths) _ (search-number (opensWith c iv file) labels lengths) n
+  told-refused false n =
+      some-place (searchCheck (c .answer) (c .retired) (length iv) (length file) lengths) _
+      (search-number (opensWith c iv file) labels lengths) n
 
   answered : WhichAnswered (keyNumber c) labels lengths (toldOf (which c file iv labels lengths))
   unfolding which

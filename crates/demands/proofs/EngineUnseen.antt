@@ -35,7 +35,8 @@ module _ (k l : LuossavinKey) (alike : unmarkedHost k ≡ unmarkedHost l) where
   by-record O = by-mark LuossavinKey O unmarkedHost k l alike
 
   pub engine-unseen : ReportedAlike k l
-  unfolding hostKeyEngine cipherIn hostBlockCall blockCall hostModeCall modeCall hostCtrStart ctrStart ctrAfter hostSealStart sealStart sealAfter
+  unfolding hostKeyEngine cipherIn hostBlockCall blockCall hostModeCall modeCall hostCtrStart ctrStart ctrAfter hostSealStart sealStart
+      sealAfter
       hostOpensStart opensStart hostWhich which hostCtrRange rangeCall hostCtrByPlan planCall
   engine-unseen =
       record {
@@ -64,7 +65,8 @@ unfolding ctrPiece ctrEnd
 engine-unseen-in-ctr s t alike =
     record {
       piece = λ e o. by-mark Ctr (Stepped Ctr) unmarkedCtr s t alike (λ x. seen Ctr unmarkedCtr (ctrPiece x e o)) (λ x.
-          goes-alike Ctr unmarkedCtr (x .key) (writing (x .stands) 0 (x .total) (length e) (length e) (length o)) o (unmarkedCtr x) x _ _ refl refl);
+          goes-alike Ctr unmarkedCtr (x .key) (writing (x .stands) 0 (x .total) (length e) (length e) (length o)) o (unmarkedCtr x) x _ _
+          refl refl);
       end = by-mark Ctr (Stepped Ctr) unmarkedCtr s t alike (λ x. seen Ctr unmarkedCtr (ctrEnd x)) (λ x.
           goes-alike Ctr unmarkedCtr (x .key) (running (x .stands) 0 (x .total) 0) [] (unmarkedCtr x) x _ _ refl refl);
     }
@@ -77,7 +79,8 @@ engine-unseen-in-seal s t alike =
           goes-alike Seal unmarkedSeal (x .key) (writing (x .stands) (x .label) (x .total) (length e) (length e) (length o)) o
           (unmarkedSeal x) x _ _ refl refl);
       end = λ o. by-mark Seal (Stepped Seal) unmarkedSeal s t alike (λ x. seen Seal unmarkedSeal (sealEnd x o)) (λ x.
-          goes-alike Seal unmarkedSeal (x .key) (writing (x .stands) (x .label) (x .total) 0 16 (length o)) o (unmarkedSeal x) x _ _ refl refl);
+          goes-alike Seal unmarkedSeal (x .key) (writing (x .stands) (x .label) (x .total) 0 16 (length o)) o (unmarkedSeal x) x _ _ refl
+          refl);
     }
 
 -- What a host's record is without its mark.
@@ -135,7 +138,8 @@ again-plainly : (c : Sm4Cipher) (e : Entry) → recomputed (unmarked c) e ≡ re
 unfolding callInto modeCall withEngine
 again-plainly c e = refl
 
-counted-plainly : (ks : List Sm4Cipher) (e : Entry) (place : ℕ) (r : Report) → countedUnder (plainly ks) e place r ≡ countedUnder ks e place r
+counted-plainly : (ks : List Sm4Cipher) (e : Entry) (place : ℕ) (r : Report)
+    → countedUnder (plainly ks) e place r ≡ countedUnder ks e place r
 counted-plainly ks e place r =
     ap {B = Report} (λ (c : Sm4Cipher). counted e (judged e (recomputed c e)) place r) (named-plainly (e .key) ks)
     ∙ rw (again-plainly (keyOf (e .key) ks) e)
@@ -177,6 +181,7 @@ unmarked-replay k journal =
     ∙ replay-plainly (k .count) (map cipherIn (k .keys)) journal)
 
 -- Keys that are alike but for their engines.
-pub engine-unseen-in-replay : (k l : LuossavinKeys) → unmarkedKeys k ≡ unmarkedKeys l → (journal : List ℕ) → hostReplay k journal ≡ hostReplay l journal
+pub engine-unseen-in-replay : (k l : LuossavinKeys) → unmarkedKeys k ≡ unmarkedKeys l → (journal : List ℕ)
+    → hostReplay k journal ≡ hostReplay l journal
 engine-unseen-in-replay k l alike journal =
     sym (unmarked-replay k journal) ∙ ap (λ (x : LuossavinKeys). hostReplay x journal) alike ∙ unmarked-replay l journal

@@ -48,7 +48,8 @@ new-cipher-answers key n =
   where
     fresh : (size range : Bool)
         → cond size (noCipher NoKey)
-        (cond range (noCipher NoNumber) (record { rk = roundKeys key; answer = Key; number = n; retired = false; engine = 0 })) .retired ≡ false
+        (cond range (noCipher NoNumber) (record { rk = roundKeys key; answer = Key; number = n; retired = false; engine = 0 })) .retired
+        ≡ false
     fresh true range = refl
     fresh false true = refl
     fresh false false = refl
@@ -154,7 +155,8 @@ module _ (k : LuossavinKey) (n : ℕ) (r : Refusal) (check : keyCheck (cipherIn 
     (none : keyNumber (cipherIn k) ≡ 0) where
   turned-away : NoUsableKey n k
   unfolding hostBlockCall blockCall blockCheck hostModeCall modeCall messageCheck keyAndIv hostCtrStart ctrStart hostSealStart sealStart
-      gcmStarting hostOpensStart opensStart hostWhich which searchCheck hostCtrRange rangeCall rangeCheck reachCheck hostCtrByPlan planCall callInto
+      gcmStarting hostOpensStart opensStart hostWhich which searchCheck hostCtrRange rangeCall rangeCheck reachCheck hostCtrByPlan planCall
+      callInto
   turned-away =
       record {
         block = λ dir b o. rw (check, head, none);

@@ -102,7 +102,8 @@ module _ (k : LuossavinKey) (usable : cipherIn k .answer ≡ Key) (may : retired
       let h = hashKey rk in
       let counter = ap (λ (x : LuossavinHash). counterOf x iv) key-is ∙ counter-is h (hashKey-lt rk) iv e in
       let mask = ap (enciphered k) counter ∙ enciphers (J0 rk iv) (length-counter h iv) in
-      let all = ap {B = LuossavinHash} (λ (x : LuossavinHash). hashOfAll x label a b) key-is ∙ all-joined h (hashKey-lt rk) label a b whole in
+      let all = ap {B = LuossavinHash} (λ (x : LuossavinHash). hashOfAll x label a b) key-is
+      ∙ all-joined h (hashKey-lt rk) label a b whole in
       ap₂ xors mask (ap bytesIn all ∙ ap (bytesOf 16) (value-back (ghash h (authBlocks label (a ++ b)))))
 
 -- Where sealing answers 0, the hashes of label, halves and lengths, joined by the exported calls alone, make its tag.

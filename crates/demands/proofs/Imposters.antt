@@ -366,7 +366,8 @@ two-read = refl
 pub against-current-contradicts : againstCurrent twoEditions 24 0 1 [] ≢ putCall twoEditions 24 0 1 []
 unfolding putCall badShelf stored written labelOf bytesOf hasCurrent twoCurrent notHigher those
 against-current-contradicts =
-    apart Shelf·Outcome (λ x. x .number) (againstCurrent twoEditions 24 0 1 []) (putCall twoEditions 24 0 1 []) 0 20 (rw two-read) (rw two-read) refl
+    apart Shelf·Outcome (λ x. x .number) (againstCurrent twoEditions 24 0 1 []) (putCall twoEditions 24 0 1 []) 0 20 (rw two-read)
+    (rw two-read) refl
 
 -- Marking before collecting is told by edition 2 of that job in a buffer that is full: the mark stands behind the used bytes, at byte 13,
 -- which is to be as it was.

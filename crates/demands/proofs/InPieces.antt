@@ -78,7 +78,8 @@ record Writes (S : Type 0) (i : ℕ) (text : List ℕ → List ℕ) (after : Lis
       }
   fronts : (d e : List ℕ) → text (d ++ e) ≡ text d ++ drop (length d) (text (d ++ e))
 
-module _ (S : Type 0) (i : ℕ) (text : List ℕ → List ℕ) (after : List ℕ → S) (call : S → Piece → Stepped S) (w : Writes S i text after call) where
+module _ (S : Type 0) (i : ℕ) (text : List ℕ → List ℕ) (after : List ℕ → S) (call : S → Piece → Stepped S)
+    (w : Writes S i text after call) where
   piece-goes : Goes S Piece (λ p. p .text) sizeOf Room after call
   piece-goes d p h r =
       let x = w .goes d p h r in
@@ -109,13 +110,15 @@ ctr-within Decrypt n e = data-within Decrypt Ctr·mode n e
 -- the starts that pass
 ctr-starts : (dir : Direction) (c : Sm4Cipher) (iv : List ℕ) → c .answer ≡ Key → wrongIv Ctr·mode (length iv) ≡ false
     → retiredCheck dir (c .retired) ≡ Passed
-    → ctrStart dir c iv ≡ record { head = under (keyNumber c) (finished 0); bytes = []; state = ctrAfter (keyNumber c) (c .engine) (c .rk) iv [] }
+    → ctrStart dir c iv
+    ≡ record { head = under (keyNumber c) (finished 0); bytes = []; state = ctrAfter (keyNumber c) (c .engine) (c .rk) iv [] }
 unfolding keyAndIv
 ctr-starts dir c iv k n u = ctr-started dir c iv (rw (k, n, u))
 
 seal-starts : (c : Sm4Cipher) (label iv : List ℕ) → c .answer ≡ Key → wrongIv Gcm (length iv) ≡ false
     → retiredCheck Encrypt (c .retired) ≡ Passed → length label ≤ limit
-    → sealStart c label iv ≡ record { head = under (keyNumber c) (finished 0); bytes = []; state = sealAfter (keyNumber c) (c .engine) (c .rk) label iv [] }
+    → sealStart c label iv
+    ≡ record { head = under (keyNumber c) (finished 0); bytes = []; state = sealAfter (keyNumber c) (c .engine) (c .rk) label iv [] }
 unfolding gcmStarting keyAndIv
 seal-starts c label iv k n u h = seal-started c label iv (rw (k, n, u, le-ltb limit (length label) h))
 
@@ -157,13 +160,18 @@ ctr-in-pieces decrypt k ps label iv o r e =
     let fits : length (whole ps) ≤ limit = ctr-within dir (length (whole ps)) (p .content) in
     let after = ctrAfter i mark rk iv in
     let (all, state) =
-    went Ctr Piece (λ p. p .text) sizeOf Room after call (piece-goes Ctr i text after call (ctr-writes i mark rk iv)) [] ps (omega arith) r in
+    went Ctr Piece (λ p. p .text) sizeOf Room after call (piece-goes Ctr i text after call (ctr-writes i mark rk iv)) [] ps
+    (omega arith) r in
     let bytes = all-wrote Ctr i text after call (ctr-writes i mark rk iv) [] ps (omega arith) r in
     let left = leaves dir m label (whole ps) iv o p in
     let single : result (modeCall dir m label (whole ps) iv o) ≡ text (whole ps) = ap result left ∙ result-of-done (text (whole ps)) o in
     let end = ap (λ (x : Stepped Ctr). x .head) (ap ctrEnd state ∙ ctr-ended i mark rk iv (whole ps) fits) in
     rw (ctr-starts dir c iv (p .key) (p .iv-size) (p .may)) (
-      record { start = record { number = refl; size = refl }; pieces = all; end = did Ctr 0 i (ctrCameRound iv (blocksOf (length (whole ps)))) _ end },
+      record {
+        start = record { number = refl; size = refl };
+        pieces = all;
+        end = did Ctr 0 i (ctrCameRound iv (blocksOf (length (whole ps)))) _ end;
+      },
       ap (λ (l : List ℕ). l ++ wrote Ctr Piece call (ctrAfter i mark rk iv []) ps) (sym (chain-nothing rk iv)) ∙ bytes ∙ sym single,
       ap (λ (h : Head). h .cameRound) end ∙ sym (ap (λ (x : Outcome). x .head .cameRound) left),
     )
@@ -185,7 +193,8 @@ seal-in-pieces k ps label iv t o r room e =
     let fits : length (whole ps) ≤ limit = data-within Encrypt Gcm (length (whole ps)) (p .content) in
     let after = sealAfter i mark rk label iv in
     let writes = seal-writes i mark rk label iv hl in
-    let (all, state) = went Seal Piece (λ p. p .text) sizeOf Room after call (piece-goes Seal i text after call writes) [] ps (omega arith) r in
+    let (all, state) = went Seal Piece (λ p. p .text) sizeOf Room after call (piece-goes Seal i text after call writes) [] ps
+    (omega arith) r in
     let bytes = all-wrote Seal i text after call writes [] ps (omega arith) r in
     let end = seal-ended i mark rk label iv (whole ps) hl t fits room in
     let left = leaves Encrypt (inGcm c) label (whole ps) iv o p in
@@ -195,7 +204,11 @@ seal-in-pieces k ps label iv t o r room e =
     let head = ap (λ (x : Stepped Seal). x .head) last in
     let tagged = ap (written Seal) last ∙ take-at tag _ 16 (length-tag rk (hashKey rk) j label (text (whole ps))) in
     rw (seal-starts c label iv (p .key) (p .iv-size) (p .may) hl) (
-      record { start = record { number = refl; size = refl }; pieces = all; end = did Seal 16 i (gcmRound rk iv (length (whole ps))) _ head },
+      record {
+        start = record { number = refl; size = refl };
+        pieces = all;
+        end = did Seal 16 i (gcmRound rk iv (length (whole ps))) _ head;
+      },
       ap₂ _++_
           (ap (λ (l : List ℕ). l ++ wrote Seal Piece call (sealAfter i mark rk label iv []) ps) (sym (no-text rk j)) ∙ bytes) tagged
           ∙ sym single,
@@ -235,7 +248,8 @@ pub opens-starts : (c : Sm4Cipher) (label iv : List ℕ) → opensStart c label 
 unfolding opensStart
 opens-starts c label iv e =
     let i = keyNumber c in
-    passed-start Opens (gcmStarting (c .answer) (c .retired) Decrypt (length iv) (length label)) (opensShut i) (opensAfter i (c .rk) label iv []) e
+    passed-start Opens (gcmStarting (c .answer) (c .retired) Decrypt (length iv) (length label)) (opensShut i)
+    (opensAfter i (c .rk) label iv []) e
 
 -- the same test decides the single call, and what it tells of the counter
 by-test : (t b : Bool) (n : ℕ)
@@ -256,7 +270,8 @@ opens-in-pieces key cs label iv tag o fits room n e =
     let passed = opens-starts c label iv e in
     let s = started c label iv passed in
     let (all, state) =
-    went Opens (List ℕ) (λ c. c) none Free (opensAfter i rk label iv) opensPiece (opens-goes i rk label iv (s .label-fits)) [] cs (omega arith)
+    went Opens (List ℕ) (λ c. c) none Free (opensAfter i rk label iv) opensPiece (opens-goes i rk label iv (s .label-fits)) [] cs
+    (omega arith)
     (free cs) in
     let m : length (text ++ tag) ≡ length text + length tag = length-append text tag in
     let size : length (text ++ tag) - 16 ≡ length text = omega arith in
@@ -266,7 +281,8 @@ opens-in-pieces key cs label iv tag o fits room n e =
     let test = opensUnder rk (hashKey rk) (J0 rk iv) label (text ++ tag) in
     let end = ap (λ (y : Opens). opensEnd y tag) state ∙ opens-ended i rk label iv text (s .label-fits) tag fits n in
     let same = by-test test (gcmRound rk iv (length text)) (length (text ++ tag) - 16) in
-    let told = ap (λ (r : ℕ). tellingDone (gcmRound rk iv r) (gcmHead (cond test (Gcm·Done (length (text ++ tag) - 16)) InvalidTag))) size in
+    let told = ap (λ (r : ℕ). tellingDone (gcmRound rk iv r) (gcmHead (cond test (Gcm·Done (length (text ++ tag) - 16)) InvalidTag)))
+    size in
     rw (opens-started c label iv passed) (
       all,
       ap (λ (x : Stepped Opens). x .head .number) end ∙ same .0 ∙ sym (ap (λ (x : Outcome). x .head .number) left),

@@ -188,7 +188,8 @@ module _ (k : LuossavinKey) (decrypt : Bool) (iv : List ℕ) where
       × (hostCtrStart k decrypt iv .state .key ≡ keyNumber c)
   unfolding hostCtrStart ctrStart ctrAfter ctrShut
   ctr-start-answers =
-      start-answers Ctr ctrKey (keyNumber c) (ctrShut (keyNumber c)) (ctrAfter (keyNumber c) (c .engine) (c .rk) iv []) (λ _. refl) refl ctr-check
+      start-answers Ctr ctrKey (keyNumber c) (ctrShut (keyNumber c)) (ctrAfter (keyNumber c) (c .engine) (c .rk) iv []) (λ _. refl) refl
+      ctr-check
       (known-ctr pieceNumbers all)
     where
       all : (decrypt : Bool) → within (ctrStartRows k decrypt iv) pieceNumbers ≡ true
@@ -196,7 +197,8 @@ module _ (k : LuossavinKey) (decrypt : Bool) (iv : List ℕ) where
       all false = refl
 
   -- A refused start gives no state: every call on what it gives answers that refusal and changes nothing.
-  pub ctr-refused-start : hostCtrStart k decrypt iv .head .number ≢ 0 → NoCtr (hostCtrStart k decrypt iv .head .number) (hostCtrStart k decrypt iv .state)
+  pub ctr-refused-start : hostCtrStart k decrypt iv .head .number ≢ 0
+      → NoCtr (hostCtrStart k decrypt iv .head .number) (hostCtrStart k decrypt iv .state)
   unfolding hostCtrStart ctrStart
   ctr-refused-start =
       start-shut Ctr NoCtr ctr-check (ctrShut (keyNumber c)) _ (known-ctr (0 ∷ shutMarks) all) (λ n m. shut-ctr n m (keyNumber c))
@@ -216,7 +218,8 @@ module _ (k : LuossavinKey) (label iv : List ℕ) where
       × (hostSealStart k label iv .state .key ≡ keyNumber d)
   unfolding hostSealStart sealStart sealAfter sealShut
   seal-start-answers =
-      start-answers Seal sealKey (keyNumber d) (sealShut (keyNumber d)) (sealAfter (keyNumber d) (d .engine) (d .rk) label iv []) (λ _. refl) refl
+      start-answers Seal sealKey (keyNumber d) (sealShut (keyNumber d)) (sealAfter (keyNumber d) (d .engine) (d .rk) label iv [])
+      (λ _. refl) refl
       (gcm-check Encrypt) (numbered (gcmStartRows Encrypt k label iv) pieceNumbers _ refl (exported-seal-start-number k label iv))
 
   pub opens-start-answers : Answered pieceNumbers (keyNumber d) [] 0 (outcomeOf Opens (hostOpensStart k label iv))
@@ -226,21 +229,25 @@ module _ (k : LuossavinKey) (label iv : List ℕ) where
       start-answers Opens opensKey (keyNumber d) (opensShut (keyNumber d)) (opensAfter (keyNumber d) (d .rk) label iv []) (λ _. refl) refl
       (gcm-check Decrypt) (numbered (gcmStartRows Decrypt k label iv) pieceNumbers _ refl (exported-opens-start-number k label iv))
 
-  pub seal-refused-start : hostSealStart k label iv .head .number ≢ 0 → NoSeal (hostSealStart k label iv .head .number) (hostSealStart k label iv .state)
+  pub seal-refused-start : hostSealStart k label iv .head .number ≢ 0
+      → NoSeal (hostSealStart k label iv .head .number) (hostSealStart k label iv .state)
   unfolding hostSealStart sealStart
   seal-refused-start =
       start-shut Seal NoSeal (gcm-check Encrypt) (sealShut (keyNumber d)) _
-      (numbered (gcmStartRows Encrypt k label iv) (0 ∷ shutMarks) _ refl (exported-seal-start-number k label iv)) (λ n m. shut-seal n m (keyNumber d))
+      (numbered (gcmStartRows Encrypt k label iv) (0 ∷ shutMarks) _ refl (exported-seal-start-number k label iv))
+      (λ n m. shut-seal n m (keyNumber d))
 
   pub opens-refused-start : hostOpensStart k label iv .head .number ≢ 0
       → NoOpens (hostOpensStart k label iv .head .number) (hostOpensStart k label iv .state)
   unfolding hostOpensStart opensStart
   opens-refused-start =
       start-shut Opens NoOpens (gcm-check Decrypt) (opensShut (keyNumber d)) _
-      (numbered (gcmStartRows Decrypt k label iv) (0 ∷ shutMarks) _ refl (exported-opens-start-number k label iv)) (λ n m. shut-opens n m (keyNumber d))
+      (numbered (gcmStartRows Decrypt k label iv) (0 ∷ shutMarks) _ refl (exported-opens-start-number k label iv))
+      (λ n m. shut-opens n m (keyNumber d))
 
 -- what an end leaves that was answered m, which is none of its checks' refusals
-ended-state : (S : Type 0) (k : Checked) (o : List ℕ) (s : S) (next : Stepped S) (m : ℕ) → ((r : Refusal) → k ≡ Refused r → refusalHead r .number ≢ m)
+ended-state : (S : Type 0) (k : Checked) (o : List ℕ) (s : S) (next : Stepped S) (m : ℕ)
+    → ((r : Refusal) → k ≡ Refused r → refusalHead r .number ≢ m)
     → goesOn S k o s next .head .number ≡ m → goesOn S k o s next .state ≡ next .state
 ended-state S Passed o s next m n e = refl
 ended-state S (Refused r) o s next m n e = absurd (n r refl e)
@@ -262,9 +269,11 @@ seal-after-end s o e =
 not-four : (mark label total tag : ℕ) (r : Refusal) → tagged mark label total tag ≡ Refused r → refusalHead r .number ≢ 4
 unfolding tagged running behind
 not-four mark label total tag r e four =
-    let rows = runningRows mark label total 0 ++ (record { holds = not (eqb tag 16); says = record { number = 9; missing = 16 - tag } } ∷ []) in
+    let rows = runningRows mark label total 0
+    ++ (record { holds = not (eqb tag 16); says = record { number = 9; missing = 16 - tag } } ∷ []) in
     let said : behind (tagged mark label total tag) (only 0) ≡ firstOf rows = simp (said·laws, said-standing) in
-    let known = numbered rows (0 ∷ 9 ∷ shutMarks) (saidIn (refusalHead r)) refl (sym (ap {B = Said} (λ (k : Checked). behind k (only 0)) e) ∙ said) in
+    let known = numbered rows (0 ∷ 9 ∷ shutMarks) (saidIn (refusalHead r)) refl
+    (sym (ap {B = Said} (λ (k : Checked). behind k (only 0)) e) ∙ said) in
     let no : false ≡ true = rw four at known in
     let z : _≡_ {A = ℕ} 0 1 = cc in
     absurd (omega arith)

@@ -45,7 +45,8 @@ module _ (k later : LuossavinKey) (s : SameKey k later) where
       let m = modeOf mode in
       let (b, p) = host-through Encrypt mode k label d iv o e in
       let text = encrypted m rk label d iv in
-      let x = host-leaves Encrypt mode k label d iv o (b, p) ∙ ap {B = Outcome} (keyed (keyNumber (cipherIn k))) (encrypts m rk label d iv o) in
+      let x = host-leaves Encrypt mode k label d iv o (b, p) ∙ ap {B = Outcome} (keyed (keyNumber (cipherIn k)))
+      (encrypts m rk label d iv o) in
       let t = back rk label d iv ib db m (p .iv-size) (p .content) in
       let q : Ready Decrypt mode later label text iv o′ = (
         b,
@@ -71,7 +72,14 @@ module _ (k later : LuossavinKey) (s : SameKey k later) where
       let x = y ∙ ap {B = Outcome} (keyed (keyNumber (cipherIn later))) (t .opened) in
       let q : Ready Encrypt mode k label (t .text) iv o′ = (
         b,
-        record { key = sym same-answer ∙ p .key; iv-size = p .iv-size; may = rw u; label = p .label; content = t .content; room = rw x at (r .1) },
+        record {
+          key = sym same-answer ∙ p .key;
+          iv-size = p .iv-size;
+          may = rw u;
+          label = p .label;
+          content = t .content;
+          room = rw x at (r .1);
+        },
       ) in
       returns (hostModeCall Encrypt mode k) label (t .text) text iv o′ _ _ (ap result x ∙ result-of-done (t .text) o)
       (host-leaves Encrypt mode k label (t .text) iv o′ q
@@ -93,7 +101,8 @@ module _ (k later : LuossavinKey) (s : SameKey k later) where
       (ap (λ (rk : List ℕ). blockOf Decrypt rk a) same-keys ∙ block-decrypt-encrypt (c .rk) b (p .size) bb)) refl refl
 
   -- and the other way about, where the key is not retired.
-  pub block-encryption-takes-back : k .retired ≡ 0 → ThereAndBack Sixteen (single (hostBlockCall Decrypt later)) (single (hostBlockCall Encrypt k))
+  pub block-encryption-takes-back : k .retired ≡ 0
+      → ThereAndBack Sixteen (single (hostBlockCall Decrypt later)) (single (hostBlockCall Encrypt k))
   unfolding hostBlockCall
   block-encryption-takes-back u label b iv o o′ bb ib e r =
       let c = cipherIn k in
@@ -172,7 +181,8 @@ module _ (mode : ℕ) (k : LuossavinKey) (h : mode ≤ 4) (a : k .answer ≡ 0) 
         size = ap (λ (y : Outcome). y .head .size) x ∙ length-encrypted m (k .«round_keys») label d iv;
       }
 
-  pub served : (later : LuossavinKey) → SameKey k later → Served (modeOf mode) (hostModeCall Encrypt mode k) (hostModeCall Decrypt mode later)
+  pub served : (later : LuossavinKey) → SameKey k later
+      → Served (modeOf mode) (hostModeCall Encrypt mode k) (hostModeCall Decrypt mode later)
   served later t =
       record {
         sealing = seals;
@@ -183,7 +193,8 @@ module _ (mode : ℕ) (k : LuossavinKey) (h : mode ≤ 4) (a : k .answer ≡ 0) 
       }
 
 -- With a usable key: a call on sixteen bytes with room for them is done with sixteen, encryption where the key is not retired.
-pub block-served : (dir : Direction) (k : LuossavinKey) → k .answer ≡ 0 → (dir ≡ Encrypt → k .retired ≡ 0) → BlockServed (single (hostBlockCall dir k))
+pub block-served : (dir : Direction) (k : LuossavinKey) → k .answer ≡ 0 → (dir ≡ Encrypt → k .retired ≡ 0)
+    → BlockServed (single (hostBlockCall dir k))
 unfolding hostBlockCall cipherIn keyAnswerOf
 block-served dir k a u label b iv o n r =
     let c = cipherIn k in

@@ -56,7 +56,8 @@ in-order a retired dir m n p =
 
 -- a message
 module _ (dir : Direction) (m : Sm4CipherMode) (aad d iv o : List ℕ) where
-  pub through : modeCall dir m aad d iv o .head .number ≡ 0 → InOrder (m .cipher .answer) (m .cipher .retired) dir (m .mode) (lengthsOf aad d iv o)
+  pub through : modeCall dir m aad d iv o .head .number ≡ 0
+      → InOrder (m .cipher .answer) (m .cipher .retired) dir (m .mode) (lengthsOf aad d iv o)
   unfolding modeCall
   through e =
       message-passed _ _ _ _ _
@@ -104,7 +105,8 @@ mark-back false = refl
 pub handed-back : (c : Sm4Cipher) → cipherIn (keyOf c) ≡ c
 unfolding cipherIn keyOf
 handed-back c =
-    ap₂ {C = Sm4Cipher} (λ (a : KeyAnswer) (b : Bool). record { rk = c .rk; answer = a; number = c .number; retired = b; engine = c .engine })
+    ap₂ {C = Sm4Cipher} (λ (a : KeyAnswer) (b : Bool).
+    record { rk = c .rk; answer = a; number = c .number; retired = b; engine = c .engine })
     (answer-back (c .answer)) (mark-back (c .retired))
 
 -- so what a host set up is the key's record

@@ -80,17 +80,20 @@ module _ (A S R : Type 0) (of : A → Head) (back : Head → A) (told : (a : A) 
     (make : A → S → R) (made : (r : R) → make (answer r) (state r) ≡ r) where
   one-step : (x : Stepped S) → One R (Stepped S) (λ r o. record { head = of (answer r); bytes = o; state = state r }) x
   one-step =
-      one R (Stepped S) (λ r o. record { head = of (answer r); bytes = o; state = state r }) (λ y. make (back (y .head)) (y .state)) (λ y. y .bytes)
+      one R (Stepped S) (λ r o. record { head = of (answer r); bytes = o; state = state r }) (λ y. make (back (y .head)) (y .state))
+      (λ y. y .bytes)
       (λ r o. ap {B = R} (λ (a : A). make a (state r)) (told (answer r)) ∙ made r) (λ r o. refl)
 
 -- Messages in pieces, be it a start, a piece or an end: the next state too.
 pub unique-ctr-step : (x : Stepped Ctr) → One CtrStep (Stepped Ctr) ctrStepped x
 unique-ctr-step =
-    one-step Answer Ctr CtrStep headOf answerOf answer-told (λ r. r .answer) (λ r. r .state) (λ a s. record { answer = a; state = s }) (λ r. refl)
+    one-step Answer Ctr CtrStep headOf answerOf answer-told (λ r. r .answer) (λ r. r .state) (λ a s. record { answer = a; state = s })
+    (λ r. refl)
 
 pub unique-seal-step : (x : Stepped Seal) → One SealStep (Stepped Seal) sealStepped x
 unique-seal-step =
-    one-step Answer Seal SealStep headOf answerOf answer-told (λ r. r .answer) (λ r. r .state) (λ a s. record { answer = a; state = s }) (λ r. refl)
+    one-step Answer Seal SealStep headOf answerOf answer-told (λ r. r .answer) (λ r. r .state) (λ a s. record { answer = a; state = s })
+    (λ r. refl)
 
 pub unique-opens-step : (x : Stepped Opens) → One OpensStep (Stepped Opens) opensStepped x
 unique-opens-step =

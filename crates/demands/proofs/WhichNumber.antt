@@ -51,12 +51,14 @@ said-key n s =
 pub ruleset said·laws = (said-passed, said-refused, said-refuse, said-then, said-key)
 
 -- a call by its checks, and behind a refusal by number
-pub checked-said : (k : Checked) (o : List ℕ) (next : Outcome) (s : Said) → behind k (saidIn (next .head)) ≡ s → saidIn (checked k o next .head) ≡ s
+pub checked-said : (k : Checked) (o : List ℕ) (next : Outcome) (s : Said) → behind k (saidIn (next .head)) ≡ s
+    → saidIn (checked k o next .head) ≡ s
 unfolding behind
 checked-said Passed o next s e = e
 checked-said (Refused r) o next s e = e
 
-pub front-said : (t : Bool) (k : ℕ) (o : List ℕ) (x : Outcome) (s : Said) → saidIn (x .head) ≡ s → saidIn (refuseAs t k o x .head) ≡ cond t (only k) s
+pub front-said : (t : Bool) (k : ℕ) (o : List ℕ) (x : Outcome) (s : Said) → saidIn (x .head) ≡ s
+    → saidIn (refuseAs t k o x .head) ≡ cond t (only k) s
 front-said true k o x s e = refl
 front-said false k o x s e = e
 
@@ -67,7 +69,8 @@ exported-new-number key n = by-tests (not (eqb (length key) 16)) (wrongNumber n)
   where
     by-tests : (size range : Bool)
         → keyHead (cond size (noCipher NoKey)
-        (cond range (noCipher NoNumber) (record { rk = roundKeys key; answer = Key; number = n; retired = false; engine = 0 })) .answer) .number
+        (cond range (noCipher NoNumber) (record { rk = roundKeys key; answer = Key; number = n; retired = false; engine = 0 })) .answer)
+        .number
         ≡ cond size (only 1) (cond range (only 13) (only 0)) .number
     by-tests true range = refl
     by-tests false true = refl
@@ -117,7 +120,8 @@ module _ (k : LuossavinKey) (label d iv o : List ℕ) where
   encryption-said Gcm = simp (said·laws, and-swap (not (eqb (length iv) 12)))
 
   decryption-said : (m : CipherMode)
-      → behind (check Decrypt m) (saidIn (modeResult m Decrypt (k .«round_keys») label d iv o .head)) ≡ firstOf (decryptRowsIn m k label d iv o)
+      → behind (check Decrypt m) (saidIn (modeResult m Decrypt (k .«round_keys») label d iv o .head))
+      ≡ firstOf (decryptRowsIn m k label d iv o)
   unfolding messageCheck keyAndIv dataCheck roomCheck cbcOpen unpadded gcmOpen settled
   decryption-said Cfb = simp (said·laws, and-true)
   decryption-said Ofb = simp (said·laws, and-true)

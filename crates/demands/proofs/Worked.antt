@@ -56,7 +56,8 @@ edge-refused dir m k label d iv o h =
 pub edge-encrypted : (m : Sm4CipherMode) → m .cipher .answer ≡ Key → (label d iv o : List ℕ)
     → modeCall Encrypt m label d iv o .head
     ≡ under (m .cipher .number)
-    (tellingDone (roundOf (m .mode) Encrypt (m .cipher .rk) iv (length d)) (saidOf (m .cipher .retired) Encrypt (m .mode) (lengthsOf label d iv o)))
+    (tellingDone (roundOf (m .mode) Encrypt (m .cipher .rk) iv (length d))
+    (saidOf (m .cipher .retired) Encrypt (m .mode) (lengthsOf label d iv o)))
 unfolding modeCall
 edge-encrypted m k label d iv o =
     let rk = m .cipher .rk in

@@ -37,7 +37,8 @@ module _ (k : LuossavinKey) (iv d o : List ℕ) where
   abbrev ranging : Direction → ℕ → Checked
   ranging dir offset = rangeCheck (keyAnswerOf (k .answer)) (isRetired k) dir (length iv) offset (length d) (length o)
 
-  range-said : (decrypt : Bool) (offset : ℕ) → behind (ranging (directionOf decrypt) offset) (only 0) ≡ firstOf (rangeRows k decrypt iv offset d o)
+  range-said : (decrypt : Bool) (offset : ℕ)
+      → behind (ranging (directionOf decrypt) offset) (only 0) ≡ firstOf (rangeRows k decrypt iv offset d o)
   unfolding rangeCheck reachCheck keyAndIv
   range-said true offset = simp said·laws
   range-said false offset = simp said·laws
@@ -94,7 +95,8 @@ roomy : (a : KeyAnswer) (retired : Bool) (dir : Direction) (iv offset n room : �
 unfolding rangeCheck
 roomy a retired dir iv offset n room e =
     ltb-false room n
-    (let-through (ltb room n) NoRoom Passed (both (reachCheck a retired dir iv (offset + n)) (refuse (ltb room n) NoRoom Passed) e .1) .fails)
+    (let-through (ltb room n) NoRoom Passed (both (reachCheck a retired dir iv (offset + n)) (refuse (ltb room n) NoRoom Passed) e .1)
+    .fails)
 
 -- A range: a refusal, or a success of as many bytes as it was handed.
 pub exported-range-answers : (k : LuossavinKey) (decrypt : Bool) (iv : List ℕ) (offset : ℕ) (d o : List ℕ)
@@ -106,7 +108,8 @@ exported-range-answers k decrypt iv offset d o =
     let l = length-stretch (c .rk) iv offset d in
     answered o (length d) rangeNumbers _ _
     (numbered (rangeRows k decrypt iv offset d o) rangeNumbers _ (known decrypt) (exported-range-number k decrypt iv offset d o)) refl
-    (checks-fair o (length d) (rangeCheck (c .answer) (c .retired) (directionOf decrypt) (length iv) offset (length d) (length o)) (done p o) (λ e.
+    (checks-fair o (length d) (rangeCheck (c .answer) (c .retired) (directionOf decrypt) (length iv) offset (length d) (length o))
+    (done p o) (λ e.
     let h = roomy (c .answer) (c .retired) (directionOf decrypt) (length iv) offset (length d) (length o) e in
     done-fair o (length d) p _ refl l (omega arith)))
   where

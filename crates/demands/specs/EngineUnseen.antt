@@ -58,11 +58,14 @@ unmarkedKeys k = record { count = k .count; keys = map unmarkedHost (k .keys) }
 -- the exported calls on a host's record; those on a state are the library's own
 pub record ReportedAlike (k l : LuossavinKey) : Type 0 where
   pub block : (dir : Direction) (b o : List ℕ) → hostBlockCall dir k b o ≡ hostBlockCall dir l b o
-  pub message : (dir : Direction) (mode : ℕ) (label e iv o : List ℕ) → hostModeCall dir mode k label e iv o ≡ hostModeCall dir mode l label e iv o
+  pub message : (dir : Direction) (mode : ℕ) (label e iv o : List ℕ)
+      → hostModeCall dir mode k label e iv o ≡ hostModeCall dir mode l label e iv o
   pub ctr : (decrypt : Bool) (iv : List ℕ)
       → seen Ctr unmarkedCtr (hostCtrStart k decrypt iv) ≡ seen Ctr unmarkedCtr (hostCtrStart l decrypt iv)
   pub sealing : (label iv : List ℕ) → seen Seal unmarkedSeal (hostSealStart k label iv) ≡ seen Seal unmarkedSeal (hostSealStart l label iv)
   pub opening : (label iv : List ℕ) → hostOpensStart k label iv ≡ hostOpensStart l label iv
   pub which : (file iv labels lengths : List ℕ) → hostWhich k file iv labels lengths ≡ hostWhich l file iv labels lengths
-  pub range : (decrypt : Bool) (iv : List ℕ) (offset : ℕ) (e o : List ℕ) → hostCtrRange k decrypt iv offset e o ≡ hostCtrRange l decrypt iv offset e o
-  pub by-plan : (decrypt : Bool) (iv : List ℕ) (plan : Plan) (e o : List ℕ) → hostCtrByPlan k decrypt iv plan e o ≡ hostCtrByPlan l decrypt iv plan e o
+  pub range : (decrypt : Bool) (iv : List ℕ) (offset : ℕ) (e o : List ℕ)
+      → hostCtrRange k decrypt iv offset e o ≡ hostCtrRange l decrypt iv offset e o
+  pub by-plan : (decrypt : Bool) (iv : List ℕ) (plan : Plan) (e o : List ℕ)
+      → hostCtrByPlan k decrypt iv plan e o ≡ hostCtrByPlan l decrypt iv plan e o

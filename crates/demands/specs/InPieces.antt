@@ -68,7 +68,8 @@ abbrev pub Roomy : List Piece → Type 0
 Roomy ps = Every Piece Room ps
 
 -- all answered 0: the start with no bytes, each piece with its own length, the end with n
-pub record AllDone (S : Type 0) (call : S → Piece → Stepped S) (started : Stepped S) (ps : List Piece) (n : ℕ) (ended : Stepped S) : Type 0 where
+pub record AllDone (S : Type 0) (call : S → Piece → Stepped S) (started : Stepped S) (ps : List Piece) (n : ℕ) (ended : Stepped S)
+    : Type 0 where
   pub start : Did S 0 started
   pub pieces : AllDid S Piece call sizeOf (started .state) ps
   pub end : Did S n ended
@@ -131,7 +132,8 @@ none c = 0
 -- Whenever the start answers 0 and the ciphertext is within the limit, every piece of it is taken, and the end, with a tag of
 -- sixteen bytes, answers the number that the single call, given room, answers to the ciphertext and that tag: 0 exactly where
 -- it opens, and otherwise 4; and it tells of the counter what the single call tells.
-abbrev pub OpensInPieces : (S : Type 0) → (List ℕ → List ℕ → Stepped S) → (S → List ℕ → Stepped S) → (S → List ℕ → Stepped S) → Call → Type 0
+abbrev pub OpensInPieces : (S : Type 0) → (List ℕ → List ℕ → Stepped S) → (S → List ℕ → Stepped S) → (S → List ℕ → Stepped S) → Call
+    → Type 0
 OpensInPieces S start piece end single =
     (cs : List (List ℕ)) (label iv tag o : List ℕ) → length (joined cs) ≤ limit → length (joined cs) ≤ length o → length tag ≡ 16
     → start label iv .head .number ≡ 0
