@@ -4,14 +4,14 @@
 use Rattle.demands.specs.Names as N
 use N.{Bool, _||_, cond, false, not, true, List, _≢_, _⊎_, ⊎-elim, _∙_, _≡_, ap, refl, subst, sym, _-_, _<_, _≤_, ℕ, arith, eqb, ltb}
 use N.{length, take, length-take-le, eq-eqb, le-ltb, lt-ltb, ltb-false, ne-eqb, Head, Outcome, done, keyed, refusal, refuseAs as refuse}
-use N.{refuseAs, written, chain, roundKeys, streamMode, Kind, Ctr·kind, Ofb·kind, cbcSeal, allPadding, cbcOpen, cbcText, cbcHead, lastByte}
+use N.{refuseAs, written, chain, streamMode, Kind, Ctr·kind, Ofb·kind, cbcSeal, allPadding, cbcOpen, cbcText, cbcHead, lastByte}
 use N.{namesPadding, unpadded, Cbc·Done, InvalidLastU8, InvalidPadding, J0, hashKey, opensUnder, sealed, textOf, textPart, gcmOpen, gcmHead}
 use N.{settled, Gcm·Done, InvalidTag, refusalHead, blockCall, blockOf, cfbKind, lengthsOf, modeCall, modeResult, blockCheck, checked}
-use N.{dataCheck, keyAndIv, keyCheck, labelCheck, messageCheck, wrongIv, keyNumber, newCipher, newCipherMode, noCipher, wrongNumber, modeOf}
-use N.{roomOf, CipherMode, Cbc, Cfb, Ctr, Gcm, Ofb, Direction, Decrypt, Encrypt, NoKey, Key, NoNumber, Refusal, ErrorBlockSize, WrongNumber}
-use N.{Passed, Refused, ctrStart, opensStart, sealStart, gcmStarting, searchCheck, which, planCall, rangeCall, rangeCheck, reachCheck}
-use N.{callInto, hostBlockCall, hostModeCall, hostCtrStart, hostOpensStart, hostSealStart, cipherIn, hostKeyNew, keyAnswerOf, keyOf}
-use N.{hostCtrByPlan, hostCtrRange, hostWhich, LuossavinKey}
+use N.{dataCheck, keyAndIv, keyCheck, labelCheck, messageCheck, wrongIv, keyNumber, newCipher, newCipherMode, wrongNumber, modeOf, roomOf}
+use N.{CipherMode, Cbc, Cfb, Ctr, Gcm, Ofb, Direction, Decrypt, Encrypt, Refusal, ErrorBlockSize, WrongNumber, Passed, Refused, ctrStart}
+use N.{opensStart, sealStart, gcmStarting, searchCheck, which, planCall, rangeCall, rangeCheck, reachCheck, callInto, hostBlockCall}
+use N.{hostModeCall, hostCtrStart, hostOpensStart, hostSealStart, cipherIn, hostKeyNew, keyAnswerOf, keyOf, hostCtrByPlan, hostCtrRange}
+use N.{hostWhich, LuossavinKey}
 use Rattle.stream.proofs.RoundTrip.{length-stream}
 use Rattle.cbc.proofs.Blocks.{length-decrypt}
 use Rattle.cbc.proofs.RoundTrip.{length-cbcSeal}
@@ -43,16 +43,8 @@ new-cipher-answers key n =
           rw (eq-eqb (length key) 16 e, ne-eqb n 0 (λ z. omega arith), le-ltb 65535 n h) (refl, refl, refl);
       refused = λ e. rw (ne-eqb (length key) 16 e);
       out-of-range = λ e o. rw (eq-eqb (length key) 16 e, out-of-range n o);
-      fresh = fresh (not (eqb (length key) 16)) (wrongNumber n);
+      fresh = split _ (not (eqb (length key) 16)) (λ e. rw e) (λ e. split _ (wrongNumber n) (λ f. rw (e, f)) (λ f. rw (e, f)));
     }
-  where
-    fresh : (size range : Bool)
-        → cond size (noCipher NoKey)
-        (cond range (noCipher NoNumber) (record { rk = roundKeys key; answer = Key; number = n; retired = false; engine = 0 })) .retired
-        ≡ false
-    fresh true range = refl
-    fresh false true = refl
-    fresh false false = refl
 
 -- Setting up a key with a mode answers the same, and so does a host's.
 pub new-cipher-mode-answers : (key : List ℕ) (n : ℕ) (mode : CipherMode) → KeyAnswered key n (newCipherMode key n mode .cipher)

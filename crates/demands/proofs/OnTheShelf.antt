@@ -1,11 +1,11 @@
 -- A shelf, as a host is handed it: demand 1 of its calls, which number each answers; and that a rough is not shown for its final.
 -- Assumes nothing.
 use Rattle.demands.specs.Names as N
-use N.{Bool, _&&_, cond, false, not, true, List, [], _∷_, append-nil, inr, _∙_, _≡_, ap, refl, subst, sym, _<_, _^_, _≤_, ℕ, arith, eqb}
-use N.{leb, ltb, drop, length, length-append, length-drop, take, drop-at, eq-eqb, eqb-true, leb-false, leb-true, ltb-false, AreBytes}
-use N.{Decrypt, labelOf, Shelf·Outcome as Outcome, collectCall, findCall, holding, lookedUp, newRecord, nowhere, putCall, putIn}
+use N.{Bool, _&&_, cond, false, true, List, [], _∷_, append-nil, inr, _∙_, _≡_, ap, refl, subst, sym, _<_, _^_, _≤_, ℕ, arith, eqb, leb}
+use N.{ltb, drop, length, length-append, length-drop, take, drop-at, eq-eqb, eqb-true, leb-false, leb-true, ltb-false, AreBytes, Decrypt}
+use N.{labelOf, Shelf·Outcome as Outcome, collectCall, findCall, holding, lookedUp, newRecord, nowhere, putCall, putIn}
 use N.{shelfRefuse as refuse, AllProper, Record, records, stored·shelf as stored, written·shelf as written, badShelf, collected, currentOf}
-use N.{fitted, hasCurrent, isCurrentOf, notHigher, placeOf·shelf as placeOf, sizeOf, those, twoCurrent, InOrder, hostModeCall, LuossavinKey}
+use N.{fitted, hasCurrent, isCurrentOf, notHigher, those, twoCurrent, InOrder, hostModeCall, LuossavinKey}
 use Rattle.block.proofs.Entries.{below-take}
 use Rattle.block.proofs.Same.{and-right}
 use Rattle.shelf.proofs.Reading.{written-label, written-sealed}
@@ -18,7 +18,7 @@ use Rattle.shelf.proofs.AfterPut.{put-passed, put-look-up}
 use Rattle.demands.specs.Answered.{oneOf}
 use Rattle.demands.specs.Call.{Call}
 use Rattle.demands.specs.OneBlockRefused.{MovesZero, OtherEditionRefused}
-use Rattle.demands.specs.WhichNumber.{Said, only, row, firstOf}
+use Rattle.demands.specs.WhichNumber.{Said, only, firstOf}
 use Rattle.demands.specs.OnTheShelf.{ShelfAnswered, PlaceAnswered, putNumbers, collectNumbers, putRows, collectRows, findRows}
 use Rattle.demands.specs.OnTheShelf.{labelIn, fileIn, OneEditionOpens, NoRoughShown, OfEach}
 use Rattle.demands.proofs.OneBlockRefused.{other-edition-refused}
@@ -45,16 +45,9 @@ exported-collect-number shelf used = refuse-said (badShelf shelf used) 19 used s
 
 pub exported-find-number : (shelf : List ℕ) (used job : ℕ) → only (findCall shelf used job .number) ≡ firstOf (findRows shelf used job)
 unfolding findCall
-exported-find-number shelf used job = by-tests (badShelf shelf used) (hasCurrent job (records (take used shelf))) where
-  by-tests : (bad has : Bool)
-      → only
-      (cond bad (nowhere 19)
-      (cond has (record { number = 0; start = placeOf job (records (take used shelf)); size = sizeOf job (records (take used shelf)) })
-      (nowhere 22)) .number)
-      ≡ firstOf (row bad 19 ∷ row (not has) 22 ∷ [])
-  by-tests true has = refl
-  by-tests false true = refl
-  by-tests false false = refl
+exported-find-number shelf used job =
+    let has = hasCurrent job (records (take used shelf)) in
+    split _ (badShelf shelf used) (λ e. rw e) (λ e. split _ has (λ f. rw (e, f)) (λ f. rw (e, f)))
 
 -- Demand 1.
 module _ (numbers : List ℕ) (shelf : List ℕ) (used : ℕ) where
@@ -101,25 +94,22 @@ exported-collect-answers shelf used =
 
 pub exported-find-answers : (shelf : List ℕ) (used job : ℕ) → PlaceAnswered shelf used (findCall shelf used job)
 unfolding findCall
-exported-find-answers shelf used job = by-tests (badShelf shelf used) (hasCurrent job (records (take used shelf))) refl where
-  none : (n : ℕ) → 0 < n → oneOf n (0 ∷ 19 ∷ 22 ∷ []) ≡ true → PlaceAnswered shelf used (nowhere n)
-  none n some within = record { numbered = within; refused = λ _. (refl, refl); inside = λ e. absurd (omega (arith, e, some)) }
-
-  by-tests : (bad has : Bool) → badShelf shelf used ≡ bad
-      → PlaceAnswered shelf used
-      (cond bad (nowhere 19)
-      (cond has (record { number = 0; start = placeOf job (records (take used shelf)); size = sizeOf job (records (take used shelf)) })
-      (nowhere 22)))
-  by-tests true has e = none 19 (omega arith) refl
-  by-tests false false e = none 22 (omega arith) refl
-  by-tests false true e =
-      let order = in-order shelf used e in
-      let inside = stored-part job (records (take used shelf)) (order .single) .0 in
-      record {
-        numbered = refl;
-        refused = λ some. absurd (some refl);
-        inside = λ _. (omega (arith, inside, order .fills), order .within);
-      }
+exported-find-answers shelf used job =
+    split _ (badShelf shelf used) (λ e. rw e (none 19 (omega arith) refl)) (λ e.
+    split _ (hasCurrent job (records (take used shelf)))
+    (λ f.
+    let order = in-order shelf used e in
+    let inside = stored-part job (records (take used shelf)) (order .single) .0 in
+    rw (e, f)
+    (record {
+      numbered = refl;
+      refused = λ some. absurd (some refl);
+      inside = λ _. (omega (arith, inside, order .fills), order .within);
+    }))
+    (λ f. rw (e, f) (none 22 (omega arith) refl)))
+  where
+    none : (n : ℕ) → 0 < n → oneOf n (0 ∷ 19 ∷ 22 ∷ []) ≡ true → PlaceAnswered shelf used (nowhere n)
+    none n some within = record { numbered = within; refused = λ _. (refl, refl); inside = λ e. absurd (omega (arith, e, some)) }
 
 -- After a put that is done, looking up the job gives the new record: its label is that of the job and the edition, and its file the one
 -- put in.
@@ -152,20 +142,15 @@ the-current job (r ∷ rs) h f =
     current-by job r rs (isCurrentOf job r) refl f (λ e.
     the-current job rs (rw e at h) (or-right (r .current && hasCurrent (r .job) rs) (twoCurrent rs) f))
 
--- what is found is there
-found-there : (shelf : List ℕ) (used job : ℕ) (bad has : Bool) → badShelf shelf used ≡ bad
-    → hasCurrent job (records (take used shelf)) ≡ has → findCall shelf used job .number ≡ 0 → (bad ≡ false) × (has ≡ true)
-unfolding findCall
-found-there shelf used job true has e f z = let n : _≡_ {A = ℕ} 19 0 = rw e at z in absurd (omega arith)
-found-there shelf used job false false e f z = let n : _≡_ {A = ℕ} 22 0 = rw (e, f) at z in absurd (omega arith)
-found-there shelf used job false true e f z = (refl, refl)
-
 module _ (shelf : List ℕ) (used job : ℕ) (small : AreBytes shelf) (found : findCall shelf used job .number ≡ 0) where
   abbrev rs : List Record
   rs = records (take used shelf)
 
   there : (badShelf shelf used ≡ false) × (hasCurrent job rs ≡ true)
-  there = found-there shelf used job (badShelf shelf used) (hasCurrent job rs) refl refl found
+  unfolding findCall
+  there =
+      split _ (badShelf shelf used) (λ e. let n : _≡_ {A = ℕ} 19 0 = rw e at found in absurd (omega arith)) (λ e.
+      split _ (hasCurrent job rs) (λ f. (e, f)) (λ f. let n : _≡_ {A = ℕ} 22 0 = rw (e, f) at found in absurd (omega arith)))
 
   order : InOrder shelf used
   order = in-order shelf used (there .0)

@@ -177,9 +177,10 @@ module _ (k : LuossavinKey) (decrypt : Bool) (iv : List ℕ) where
   abbrev c : Sm4Cipher
   c = cipherIn k
 
-  known-ctr : (numbers : List ℕ) → ((decrypt : Bool) → within (ctrStartRows k decrypt iv) numbers ≡ true)
+  known-ctr : (numbers : List ℕ) → within (ctrStartRows k true iv) numbers ≡ true → within (ctrStartRows k false iv) numbers ≡ true
       → oneOf (hostCtrStart k decrypt iv .head .number) numbers ≡ true
-  known-ctr numbers w = numbered (ctrStartRows k decrypt iv) numbers _ (w decrypt) (exported-ctr-start-number k decrypt iv)
+  known-ctr numbers t f =
+      numbered (ctrStartRows k decrypt iv) numbers _ (split _ decrypt (λ e. rw e t) (λ e. rw e f)) (exported-ctr-start-number k decrypt iv)
 
   abbrev ctr-check : Checked
   ctr-check = keyAndIv (c .answer) (c .retired) (directionOf decrypt) Ctr·mode (length iv)
@@ -190,22 +191,14 @@ module _ (k : LuossavinKey) (decrypt : Bool) (iv : List ℕ) where
   ctr-start-answers =
       start-answers Ctr ctrKey (keyNumber c) (ctrShut (keyNumber c)) (ctrAfter (keyNumber c) (c .engine) (c .rk) iv []) (λ _. refl) refl
       ctr-check
-      (known-ctr pieceNumbers all)
-    where
-      all : (decrypt : Bool) → within (ctrStartRows k decrypt iv) pieceNumbers ≡ true
-      all true = refl
-      all false = refl
+      (known-ctr pieceNumbers refl refl)
 
   -- A refused start gives no state: every call on what it gives answers that refusal and changes nothing.
   pub ctr-refused-start : hostCtrStart k decrypt iv .head .number ≢ 0
       → NoCtr (hostCtrStart k decrypt iv .head .number) (hostCtrStart k decrypt iv .state)
   unfolding hostCtrStart ctrStart
   ctr-refused-start =
-      start-shut Ctr NoCtr ctr-check (ctrShut (keyNumber c)) _ (known-ctr (0 ∷ shutMarks) all) (λ n m. shut-ctr n m (keyNumber c))
-    where
-      all : (decrypt : Bool) → within (ctrStartRows k decrypt iv) (0 ∷ shutMarks) ≡ true
-      all true = refl
-      all false = refl
+      start-shut Ctr NoCtr ctr-check (ctrShut (keyNumber c)) _ (known-ctr (0 ∷ shutMarks) refl refl) (λ n m. shut-ctr n m (keyNumber c))
 
 module _ (k : LuossavinKey) (label iv : List ℕ) where
   abbrev d : Sm4Cipher

@@ -176,10 +176,7 @@ module _ (mode : ℕ) (k : LuossavinKey) (h : mode ≤ 4) (a : k .answer ≡ 0) 
         },
       )
       ∙ ap {B = Outcome} (keyed (keyNumber (cipherIn k))) (encrypts m (k .«round_keys») label d iv o) in
-      record {
-        number = ap (λ (y : Outcome). y .head .number) x;
-        size = ap (λ (y : Outcome). y .head .size) x ∙ length-encrypted m (k .«round_keys») label d iv;
-      }
+      rw x (record { number = refl; size = length-encrypted m (k .«round_keys») label d iv })
 
   pub served : (later : LuossavinKey) → SameKey k later
       → Served (modeOf mode) (hostModeCall Encrypt mode k) (hostModeCall Decrypt mode later)
@@ -199,10 +196,7 @@ unfolding hostBlockCall cipherIn keyAnswerOf
 block-served dir k a u label b iv o n r =
     let c = cipherIn k in
     let x = block-leaves dir c b o (record { key = rw a; size = n; may = allowed dir (c .retired) (λ e. rw (u e)); enough = r }) in
-    record {
-      number = ap (λ (y : Outcome). y .head .number) x;
-      size = ap (λ (y : Outcome). y .head .size) x ∙ length-block dir (c .rk) b;
-    }
+    rw x (record { number = refl; size = length-block dir (c .rk) b })
   where
     allowed : (dir : Direction) (retired : Bool) → (dir ≡ Encrypt → retired ≡ false) → retiredCheck dir retired ≡ Passed
     allowed Encrypt retired u = rw (u refl)

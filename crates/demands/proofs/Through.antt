@@ -17,13 +17,7 @@ result-of-done p o = take-append-seam p _
 
 -- on whichever key
 pub refused-as : (k n : ℕ) (o : List ℕ) (x : Outcome) → x ≡ keyed k (refused n o) → RefusedAs n o x
-refused-as k n o x e =
-    record {
-      number = ap (λ (y : Outcome). y .head .number) e;
-      size = ap (λ (y : Outcome). y .head .size) e;
-      missing = ap (λ (y : Outcome). y .head .missing) e;
-      bytes = ap (λ (y : Outcome). y .bytes) e;
-    }
+refused-as k n o x e = rw e (record { number = refl; size = refl; missing = refl; bytes = refl })
 
 pub zero-passed : (k : Checked) (o : List ℕ) (next : Outcome) → checked k o next .head .number ≡ 0 → k ≡ Passed
 zero-passed Passed o next e = refl

@@ -2,14 +2,14 @@
 -- Assumes nothing.
 use Rattle.demands.specs.Names as N
 use N.{Bool, _&&_, cond, false, not, true, List, [], _∷_, map, inl, inr, ⊎-elim, _∙_, _≡_, ap, refl, _%_, ℕ, eqb, ltb, length, eqb-true}
-use N.{same, xors, blocksOf, gcmCameRound, Outcome, finished, refusal, refuseAs, telling, roundKeys, cbcOpen, cbcHead, unpadded, Cbc·Done}
+use N.{same, xors, blocksOf, gcmCameRound, Outcome, finished, refusal, refuseAs, telling, cbcOpen, cbcHead, unpadded, Cbc·Done}
 use N.{InvalidLastU8, InvalidPadding, gcmOpen, gcmHead, settled, Gcm·Done, InvalidTag, refusalHead, blockCall, lengthsOf, modeCall}
-use N.{modeResult, andThen, blockCheck, checked, dataCheck, keyAndIv, keyCheck, messageCheck, refuse, roomCheck, keyHead, keyNumber}
-use N.{newCipher, noCipher, wrongNumber, modeOf, CipherMode, Cbc, Cfb, Ctr, Gcm, Ofb, Direction, Decrypt, Encrypt, NoKey, Key, NoNumber}
-use N.{Refusal, Checked, Passed, Refused, Stepped, begun, ctrEnd, ctrPiece, ctrStart, goesOn, opensEnd, opensPiece, opensStart, sealEnd}
-use N.{sealPiece, sealStart, gcmStarting, running, standing, tagged, writing, hashEnd, Ctr·state, Opens, Seal, badList, Verdict}
-use N.{checkedVerdict, noneWith, onKey, opensWith, searchCheck, which, hostBlockCall, hostModeCall, hostCtrStart, hostOpensStart}
-use N.{hostSealStart, cipherIn, hostKeyNew, keyAnswerOf, keyOf, hostWhich, LuossavinKey}
+use N.{modeResult, andThen, blockCheck, checked, dataCheck, keyAndIv, keyCheck, messageCheck, refuse, roomCheck, keyNumber, newCipher}
+use N.{wrongNumber, modeOf, CipherMode, Cbc, Cfb, Ctr, Gcm, Ofb, Direction, Decrypt, Encrypt, Refusal, Checked, Passed, Refused, Stepped}
+use N.{begun, ctrEnd, ctrPiece, ctrStart, goesOn, opensEnd, opensPiece, opensStart, sealEnd, sealPiece, sealStart, gcmStarting, running}
+use N.{standing, tagged, writing, hashEnd, Ctr·state, Opens, Seal, badList, Verdict, checkedVerdict, noneWith, onKey, opensWith}
+use N.{searchCheck, which, hostBlockCall, hostModeCall, hostCtrStart, hostOpensStart, hostSealStart, cipherIn, hostKeyNew, keyAnswerOf}
+use N.{keyOf, hostWhich, LuossavinKey}
 use Rattle.editions.proofs.FirstOpening.{search-number}
 use Rattle.demands.specs.WhichNumber.{Said, saidIn, only, Row, Among, isRetired, encryptRowsIn, decryptRowsIn, firstOf, numbersOf}
 use Rattle.demands.specs.WhichNumber.{newRows, blockRows, whichRows, encryptRows, decryptRows, ctrPieceRows, ctrEndRows}
@@ -65,16 +65,8 @@ front-said false k o x s e = e
 -- Setting up a key says what the first condition says that holds: the key's size, its number.
 pub exported-new-number : (key : List ℕ) (n : ℕ) → hostKeyNew key n .answer ≡ firstOf (newRows key n) .number
 unfolding hostKeyNew keyOf newCipher
-exported-new-number key n = by-tests (not (eqb (length key) 16)) (wrongNumber n)
-  where
-    by-tests : (size range : Bool)
-        → keyHead (cond size (noCipher NoKey)
-        (cond range (noCipher NoNumber) (record { rk = roundKeys key; answer = Key; number = n; retired = false; engine = 0 })) .answer)
-        .number
-        ≡ cond size (only 1) (cond range (only 13) (only 0)) .number
-    by-tests true range = refl
-    by-tests false true = refl
-    by-tests false false = refl
+exported-new-number key n =
+    split _ (not (eqb (length key) 16)) (λ e. rw e) (λ e. split _ (wrongNumber n) (λ f. rw (e, f)) (λ f. rw (e, f)))
 
 -- The exported call on one block says what the first condition says that holds: the key, the block's size, where it encrypts whether
 -- the key is retired, the room.

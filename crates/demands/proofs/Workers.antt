@@ -10,7 +10,7 @@ use N.{TooLong, Checked, Passed, Refused, planCall, accepts, pieceSize, planOf, 
 use N.{stretch, Share, allWorked, applied, laidAt, shareOf, sharesOf, worked, Making, BadWorkers, Made, TooLong·made, Plan, Planned}
 use N.{hostModeCall, modeIn, directionOf, cipherIn, keyAnswerOf, Handed, hostCtrByPlan, hostCtrRange, hostPlanMake, makingHead}
 use N.{LuossavinKey}
-use Rattle.demands.specs.WhichNumber.{isRetired, Said, saidIn, only, row, firstOf}
+use Rattle.demands.specs.WhichNumber.{isRetired, Said, saidIn, only, firstOf}
 use Rattle.demands.specs.Workers.{rangeRows, planRows, makeRows, rangeNumbers, planNumbers, PlanHanded, unsaid, ctrCall}
 use Rattle.demands.specs.Workers.{StretchOfWhole, Applying, appliedBy, RangesCommute, workedBy, allWorkedBy}
 use Rattle.demands.proofs.WhichNumber.{behind, said·laws, checked-said, front-said}
@@ -21,7 +21,7 @@ use Rattle.ranges.proofs.OwnPlans.{no-more-than-workers, no-longer-than-share}
 use Rattle.ranges.proofs.Places.{past-the-count}
 use Rattle.ranges.proofs.Planner.{in-order, made-accepted}
 use Rattle.demands.specs.Answered.{Answered}
-use Rattle.demands.proofs.Answering.{numbered, within, answered, done-fair, checks-fair, front-fair}
+use Rattle.demands.proofs.Answering.{split, numbered, answered, done-fair, checks-fair, front-fair}
 use Rattle.cipher_mode.proofs.Refusals.{refuses, quiet-ending}
 use Rattle.ranges.proofs.Passed.{has-room}
 use Rattle.ranges.proofs.Applied.{length-applied, ranges-commute}
@@ -72,18 +72,10 @@ exported-plan-number k decrypt iv plan d o =
     ∙ plan-said k iv d o decrypt plan)
 
 -- The planner says 17 for a count of workers outside 1 to 64, and then 5.
-made-said : (bad long : Bool) (x : Planned)
-    → x .making ≡ Made
-    → saidIn (makingHead (cond bad (without BadWorkers) (cond long (without TooLong·made) x) .making))
-    ≡ firstOf (row bad 17 ∷ row long 5 ∷ [])
-made-said true long x e = refl
-made-said false true x e = refl
-made-said false false x e = rw e
-
 pub exported-make-number : (n workers : ℕ) → saidIn (hostPlanMake n workers .head) ≡ firstOf (makeRows n workers)
 unfolding hostPlanMake planned
 exported-make-number n workers =
-    made-said (eqb workers 0 || ltb 64 workers) (ltb limit n) (record { making = Made; plan = planOf n workers }) refl
+    split _ (eqb workers 0 || ltb 64 workers) (λ e. rw e) (λ e. split _ (ltb limit n) (λ f. rw (e, f)) (λ f. rw (e, f)))
 
 -- Demand 1 of ranges and plans: every call ends with an answer, for all inputs. A refusal reports length 0 and leaves the output as it was
 -- lent, or hands out a plan of no pieces; a success reports the data's length and leaves what lies past it as it was lent, or hands out a
@@ -107,15 +99,12 @@ exported-range-answers k decrypt iv offset d o =
     let p = stretch (c .rk) iv offset d in
     let l = length-stretch (c .rk) iv offset d in
     answered o (length d) rangeNumbers _ _
-    (numbered (rangeRows k decrypt iv offset d o) rangeNumbers _ (known decrypt) (exported-range-number k decrypt iv offset d o)) refl
+    (numbered (rangeRows k decrypt iv offset d o) rangeNumbers _ (split _ decrypt (λ e. rw e) (λ e. rw e))
+    (exported-range-number k decrypt iv offset d o)) refl
     (checks-fair o (length d) (rangeCheck (c .answer) (c .retired) (directionOf decrypt) (length iv) offset (length d) (length o))
     (done p o) (λ e.
     let h = roomy (c .answer) (c .retired) (directionOf decrypt) (length iv) offset (length d) (length o) e in
     done-fair o (length d) p _ refl l (omega arith)))
-  where
-    known : (decrypt : Bool) → within (rangeRows k decrypt iv offset d o) rangeNumbers ≡ true
-    known true = refl
-    known false = refl
 
 -- Work by a plan: the same, with one refusal more.
 pub exported-plan-answers : (k : LuossavinKey) (decrypt : Bool) (iv : List ℕ) (plan : Plan) (d o : List ℕ)
@@ -127,16 +116,13 @@ exported-plan-answers k decrypt iv plan d o =
     let l = length-stream Ctr·kind (c .rk) iv d in
     let n = length d in
     answered o n planNumbers _ _
-    (numbered (planRows k decrypt iv plan d o) planNumbers _ (known decrypt) (exported-plan-number k decrypt iv plan d o)) refl
+    (numbered (planRows k decrypt iv plan d o) planNumbers _ (split _ decrypt (λ e. rw e) (λ e. rw e))
+    (exported-plan-number k decrypt iv plan d o)) refl
     (checks-fair o n (reachCheck (c .answer) (c .retired) (directionOf decrypt) (length iv) n) _ (λ _.
     front-fair o n (not (accepts plan n)) 18 _ (omega arith) (λ _.
     front-fair o n (ltb (length o) n) 6 (done p o) (omega arith) (λ f.
     let h = ltb-false (length o) n f in
     done-fair o n p _ refl l (omega arith)))))
-  where
-    known : (decrypt : Bool) → within (planRows k decrypt iv plan d o) planNumbers ≡ true
-    known true = refl
-    known false = refl
 
 zero-at : (k i : ℕ) → _≡_ {A = ℕ} (getD (replicate k 0) i 0) 0
 zero-at zero i = refl

@@ -55,7 +55,7 @@ pub use Rattle.cipher_mode.specs.Calls.{blockOf, cfbKind, gcmResult, gcmRound, 
 unfoldable pub use Rattle.cipher_mode.specs.Calls.{blockCall, modeCall}
 pub use Rattle.cipher_mode.specs.Checks.{andThen, checked, keyCheck, labelCheck, refuse, retiredCheck, wrongIv}
 unfoldable pub use Rattle.cipher_mode.specs.Checks.{blockCheck, dataCheck, keyAndIv, messageCheck, roomCheck}
-pub use Rattle.cipher_mode.specs.Key.{keyHead, keyNumber, noCipher, wrongNumber}
+pub use Rattle.cipher_mode.specs.Key.{keyHead, keyNumber, wrongNumber}
 unfoldable pub use Rattle.cipher_mode.specs.Key.{newCipher, newCipherMode, retire, withEngine}
 pub use Rattle.cipher_mode.specs.Tables.{limit, limitOf, roomOf, sealedLimit}
 unfoldable pub use Rattle.cipher_mode.specs.Tables.{modeOf}
@@ -117,9 +117,8 @@ unfoldable pub use Rattle.shelf.specs.Calls.{collectCall, findCall, putCall}
 pub use Rattle.shelf.specs.Records.{AllProper, Record}
 unfoldable pub use Rattle.shelf.specs.Records.{front as front·shelf, marked as marked·shelf, readUpTo, records, sizeAt as sizeAt·shelf}
 unfoldable pub use Rattle.shelf.specs.Records.{startsRecord as startsRecord·shelf, stored as stored·shelf, written as written·shelf}
-pub use Rattle.shelf.specs.Shelf.{collected, currentOf, isCurrentOf, sizeOf}
-unfoldable pub use Rattle.shelf.specs.Shelf.{badShelf, fitted, hasCurrent, notHigher, placeOf as placeOf·shelf, supersede, those}
-unfoldable pub use Rattle.shelf.specs.Shelf.{twoCurrent, withNew}
+pub use Rattle.shelf.specs.Shelf.{collected, currentOf, isCurrentOf}
+unfoldable pub use Rattle.shelf.specs.Shelf.{badShelf, fitted, hasCurrent, notHigher, supersede, those, twoCurrent, withNew}
 pub use Rattle.shelf.specs.Steps.{InOrder}
 pub use Rattle.shelf.specs.declared.Ended.{Ended as Shelf·end}
 pub use Rattle.shelf.specs.declared.Ended.the-variants.{BadShelf, Done as Done·shelf, NoCurrent, NoRoom as NoRoom·shelf, NotHigher}
