@@ -7,8 +7,8 @@ use N.{getD, length, length-take, take, le-ltb, ltb-false, Head, Outcome, finish
 use N.{textOf, textPart, gcmOpen, gcmHead, settled, Gcm·Done, InvalidTag, refusalHead, gcmResult, gcmRound, lengthsOf, modeCall, andThen}
 use N.{checked, dataCheck, keyAndIv, keyCheck, messageCheck, refuse, roomCheck, wrongIv, keyNumber, limit, modeOf, sealedLimit, Gcm}
 use N.{Decrypt, KeyAnswer, NoKey, Key, NoNumber, Sm4Cipher, Refusal, ShortGcm, TooLong, WrongIv, Checked, Passed, Refused, anyTooLong}
-use N.{badList, labelAt, Verdict, checkedVerdict, firstOpening, noneWith, onKey, opensWith, searchCheck, which, labelOf, checkedHead}
-use N.{hostEditionOpens, opensHead, hostModeCall, cipherIn, hostKeyEngine, hostWhich, toldOf, LuossavinKey}
+use N.{badList, labelAt, Verdict, checkedVerdict, firstOpening, opensWith, searchCheck, which, labelOf, checkedHead, hostEditionOpens}
+use N.{opensHead, hostModeCall, cipherIn, hostKeyEngine, hostWhich, toldOf, LuossavinKey}
 use Rattle.cipher_mode.proofs.Refusals.{refuses}
 use Rattle.label.proofs.LabelTells.{length-label}
 use Rattle.demands.specs.Call.{inGcm, RefusedAs}
@@ -21,7 +21,7 @@ use Rattle.editions.proofs.Turns.{or-false}
 use Rattle.editions.proofs.Passed.{search-passed}
 use Rattle.editions.proofs.FirstOpening.{IsFirst, search-number}
 use Rattle.editions.proofs.WhichOpens.{Asked, first-opens, none-opens, found-opens, none-found, zero-unless-found, done-asked}
-use Rattle.demands.proofs.Answering.{is-true, is-false, one-or-none}
+use Rattle.demands.proofs.Answering.{is-true, is-false, one-or-none, split}
 use Rattle.demands.proofs.Through.{leaves}
 
 on-key : (k : ℕ) (h : Head) (x : Outcome) → WithoutText h x → WithoutText (under k h) (keyed k x)
@@ -222,43 +222,23 @@ some-place : (k : Checked) (v : Verdict) → v .head ≡ finished 0 → checkedV
 some-place Passed v e n = absurd (n (ap (λ (h : Head). h .number) e))
 some-place (Refused r) v e n = refl
 
-module _ (c : Sm4Cipher) (file iv labels lengths : List ℕ) where
-  abbrev toldBy : Bool → Verdict
-  toldBy bad =
-      cond bad (noneWith (refusal 16))
-      (onKey (keyNumber c)
-      (checkedVerdict (searchCheck (c .answer) (c .retired) (length iv) (length file) lengths)
-      (firstOpening (opensWith c iv file) labels lengths 0 0)))
-
-  told-size : (bad : Bool) → toldBy bad .head .size ≡ 0
-  told-size true = refl
-  told-size false =
-      no-size (searchCheck (c .answer) (c .retired) (length iv) (length file) lengths) _
-      (search-number (opensWith c iv file) labels lengths)
-
-  told-refused : (bad : Bool) → toldBy bad .head .number ≢ 0 → toldBy bad .found ≡ false
-  told-refused true n = refl
-  told-refused false n =
-      some-place (searchCheck (c .answer) (c .retired) (length iv) (length file) lengths) _
-      (search-number (opensWith c iv file) labels lengths) n
-
-  answered : WhichAnswered (keyNumber c) labels lengths (toldOf (which c file iv labels lengths))
-  unfolding which
-  answered =
-      record {
-        key = λ e. rw e;
-        bad = λ e. rw e;
-        size = told-size (badList labels lengths);
-        either = one-or-none (toldBy (badList labels lengths) .found);
-        refused = λ n. ap (λ (t : Bool). cond t 1 0) (told-refused (badList labels lengths) n);
-        inside = λ e. found-opens c file iv labels lengths (is-true 1 0 refl _ e) .inside;
-        empty = λ e.
-            let v = zero-unless-found c file iv labels lengths (is-false 1 0 refl _ e) in
-            (ap (λ (v : Verdict). v .place) v, ap (λ (v : Verdict). v .start) v, ap (λ (v : Verdict). v .size) v);
-      }
-
 -- Demand 1 of the exported question: length 0, the key's number, a part inside the lent buffer where one is found, and none otherwise.
 pub which-answers : (k : LuossavinKey) (file iv labels lengths : List ℕ)
     → WhichAnswered (keyNumber (cipherIn k)) labels lengths (hostWhich k file iv labels lengths)
-unfolding hostWhich
-which-answers k file iv labels lengths = answered (cipherIn k) file iv labels lengths
+unfolding hostWhich which
+which-answers k file iv labels lengths =
+    let c = cipherIn k in
+    let check = searchCheck (c .answer) (c .retired) (length iv) (length file) lengths in
+    let v = firstOpening (opensWith c iv file) labels lengths 0 0 in
+    let f = search-number (opensWith c iv file) labels lengths in
+    record {
+      key = λ e. rw e;
+      bad = λ e. rw e;
+      size = split _ (badList labels lengths) (λ e. rw e) (λ e. rw e (no-size check v f));
+      either = one-or-none (which c file iv labels lengths .found);
+      refused = λ n. split _ (badList labels lengths) (λ e. rw e) (λ e. rw (e, some-place check v f (rw e at n)));
+      inside = λ e. found-opens c file iv labels lengths (is-true 1 0 refl _ e) .inside;
+      empty = λ e.
+          let v = zero-unless-found c file iv labels lengths (is-false 1 0 refl _ e) in
+          (ap (λ (v : Verdict). v .place) v, ap (λ (v : Verdict). v .start) v, ap (λ (v : Verdict). v .size) v);
+    }

@@ -3,15 +3,14 @@
 -- Assumes nothing.
 use Rattle.demands.specs.Names as N
 use N.{Bool, _||_, cond, false, not, true, List, _≢_, _⊎_, ⊎-elim, _∙_, _≡_, ap, refl, subst, sym, _-_, _<_, _≤_, ℕ, arith, eqb, ltb}
-use N.{length, take, length-take-le, eq-eqb, le-ltb, lt-ltb, ltb-false, ne-eqb, Head, Outcome, done, keyed, refusal, refuseAs as refuse}
-use N.{refuseAs, written, chain, streamMode, Kind, Ctr·kind, Ofb·kind, cbcSeal, allPadding, cbcOpen, cbcText, cbcHead, lastByte}
-use N.{namesPadding, unpadded, Cbc·Done, InvalidLastU8, InvalidPadding, J0, hashKey, opensUnder, sealed, textOf, textPart, gcmOpen, gcmHead}
-use N.{settled, Gcm·Done, InvalidTag, refusalHead, blockCall, blockOf, cfbKind, lengthsOf, modeCall, modeResult, blockCheck, checked}
-use N.{dataCheck, keyAndIv, keyCheck, labelCheck, messageCheck, wrongIv, keyNumber, newCipher, newCipherMode, wrongNumber, modeOf, roomOf}
-use N.{CipherMode, Cbc, Cfb, Ctr, Gcm, Ofb, Direction, Decrypt, Encrypt, Refusal, ErrorBlockSize, WrongNumber, Passed, Refused, ctrStart}
-use N.{opensStart, sealStart, gcmStarting, searchCheck, which, planCall, rangeCall, rangeCheck, reachCheck, callInto, hostBlockCall}
-use N.{hostModeCall, hostCtrStart, hostOpensStart, hostSealStart, cipherIn, hostKeyNew, keyAnswerOf, keyOf, hostCtrByPlan, hostCtrRange}
-use N.{hostWhich, LuossavinKey}
+use N.{length, take, length-take-le, eq-eqb, le-ltb, lt-ltb, ltb-false, ne-eqb, Head, done, refusal, written, chain, streamMode, Kind}
+use N.{Ctr·kind, Ofb·kind, cbcSeal, allPadding, cbcOpen, cbcText, cbcHead, lastByte, namesPadding, unpadded, Cbc·Done, InvalidLastU8}
+use N.{InvalidPadding, J0, hashKey, opensUnder, sealed, textOf, textPart, gcmOpen, gcmHead, settled, Gcm·Done, InvalidTag, refusalHead}
+use N.{blockCall, blockOf, cfbKind, lengthsOf, modeCall, modeResult, blockCheck, dataCheck, keyAndIv, keyCheck, labelCheck, messageCheck}
+use N.{wrongIv, keyNumber, newCipher, newCipherMode, wrongNumber, modeOf, roomOf, CipherMode, Cbc, Cfb, Ctr, Gcm, Ofb, Direction, Decrypt}
+use N.{Encrypt, Refusal, ErrorBlockSize, WrongNumber, Passed, Refused, ctrStart, opensStart, sealStart, gcmStarting, searchCheck, which}
+use N.{planCall, rangeCall, rangeCheck, reachCheck, callInto, hostBlockCall, hostModeCall, hostCtrStart, hostOpensStart, hostSealStart}
+use N.{cipherIn, hostKeyNew, keyAnswerOf, keyOf, hostCtrByPlan, hostCtrRange, hostWhich, LuossavinKey}
 use Rattle.stream.proofs.RoundTrip.{length-stream}
 use Rattle.cbc.proofs.Blocks.{length-decrypt}
 use Rattle.cbc.proofs.RoundTrip.{length-cbcSeal}
@@ -130,15 +129,11 @@ message-answers dir mode k label d iv o =
     let n = lengthOf m dir (k .«round_keys») iv d in
     let check = messageCheck (c .answer) (c .retired) dir m (lengthsOf label d iv o) in
     let next = modeResult m dir (c .rk) label d iv o in
-    answered o n singleNumbers _ _ (message-numbered dir mode k label d iv o) (key (ltb 4 mode) (keyNumber c) (checked check o next))
+    answered o n singleNumbers _ _ (message-numbered dir mode k label d iv o) (split _ (ltb 4 mode) (λ e. rw e) (λ e. rw e))
     (front-fair o n (ltb 4 mode) 7 _ (omega arith) (λ _.
     checks-fair o n check next (λ e.
     let p = message-passed _ _ _ _ _ e in
     result-fair m dir (c .rk) label d iv o (p .iv-size) (p .content) (p .room))))
-  where
-    key : (t : Bool) (i : ℕ) (x : Outcome) → refuseAs t 7 o (keyed i x) .head .key ≡ cond t 0 i
-    key true i x = refl
-    key false i x = refl
 
 -- Demand 1, of keys: a key that was refused is no usable key.
 
@@ -203,16 +198,11 @@ ignored Ctr n dir a₁ a₂ rk d iv o = record { checks = refl; works = refl }
 ignored Cbc n dir a₁ a₂ rk d iv o = record { checks = refl; works = refl }
 ignored Gcm n dir a₁ a₂ rk d iv o = absurd (n refl)
 
--- behind a refusal by number 7 that both have in front
-gated : (b : Bool) (o : List ℕ) (x y : Outcome) → (b ≡ false → x ≡ y) → refuse b 7 o x ≡ refuse b 7 o y
-gated true o x y e = refl
-gated false o x y e = e refl
-
 -- The exported call of every mode number but 4, either way, has the same outcome under any two labels.
 pub label-ignored : (dir : Direction) (mode : ℕ) → mode ≢ 4 → (k : LuossavinKey) (a₁ a₂ d iv o : List ℕ)
     → hostModeCall dir mode k a₁ d iv o ≡ hostModeCall dir mode k a₂ d iv o
 unfolding hostModeCall modeCall messageCheck
 label-ignored dir mode n k a₁ a₂ d iv o =
-    gated (ltb 4 mode) o _ _ (λ b.
+    split _ (ltb 4 mode) (λ b. rw b) (λ b.
     let i = ignored (modeOf mode) (other-mode mode Gcm (ltb-false 4 mode b) n) dir a₁ a₂ (cipherIn k .rk) d iv o in
     rw (i .checks, i .works))

@@ -2,14 +2,14 @@
 -- Assumes nothing.
 use Rattle.demands.specs.Names as N
 use N.{Bool, _||_, false, true, List, [], _++_, _∷_, map, _≢_, _∙_, _≡_, ap, refl, subst, sym, suc, zero, ℕ, arith, eqb, ltb, length, take}
-use N.{eq-eqb, eqb-false, eqb-true, ne-eqb, Outcome, refuseAs as refuse, blockCall, modeCall, blockCheck, keyAndIv, messageCheck}
-use N.{retiredCheck, Ctr as Ctr·mode, Gcm, Encrypt, Sm4Cipher, Passed, ctrStart, opensStart, sealStart, gcmStarting, Ctr·state as Ctr, Seal}
-use N.{searchCheck, which, planCall, rangeCall, rangeCheck, reachCheck, anyRetired, badKeys, replay, hostBlockCall, hostModeCall, modeIn}
-use N.{hostCtrStart, hostOpensStart, hostSealStart, hostReplay, keysOf, cipherIn, hostKeyEngine, hostKeyRetire, keyAnswerOf, hostCtrByPlan}
-use N.{hostCtrRange, hostWhich, LuossavinKeys, LuossavinKey}
+use N.{eq-eqb, eqb-false, eqb-true, ne-eqb, blockCall, modeCall, blockCheck, keyAndIv, messageCheck, retiredCheck, Ctr as Ctr·mode, Gcm}
+use N.{Encrypt, Sm4Cipher, Passed, ctrStart, opensStart, sealStart, gcmStarting, Ctr·state as Ctr, Seal, searchCheck, which, planCall}
+use N.{rangeCall, rangeCheck, reachCheck, anyRetired, badKeys, replay, hostBlockCall, hostModeCall, hostCtrStart, hostOpensStart}
+use N.{hostSealStart, hostReplay, keysOf, cipherIn, hostKeyEngine, hostKeyRetire, keyAnswerOf, hostCtrByPlan, hostCtrRange, hostWhich}
+use N.{LuossavinKeys, LuossavinKey}
 use Rattle.cipher_mode.proofs.Passed.{both, key-and-iv-passed}
 use Rattle.demands.specs.Retired.{StaysRetired, DecryptsAlike, EncryptsNothing}
-use Rattle.demands.proofs.Through.{zero-passed, block-through, through, passed-start}
+use Rattle.demands.proofs.Through.{host-through, zero-passed, block-through, passed-start}
 use Rattle.demands.proofs.Answering.{split}
 
 -- A key that is retired keeps all but the mark;
@@ -112,25 +112,19 @@ bad-keys keys before after k r e =
     ap anyRetired (taken (keys .count) (keys .keys) ∙ ap (map cipherIn) e) ∙ among before k after r in
     rw retired (or-true (ltb 8 (keys .count)))
 
--- behind a refusal by number 7
-not-seven : (b : Bool) (o : List ℕ) (x : Outcome) → refuse b 7 o x .head .number ≡ 0 → x .head .number ≡ 0
-not-seven true o x e = absurd (omega arith)
-not-seven false o x e = e
-
 marked : (k : LuossavinKey) → k .retired ≢ 0 → cipherIn k .retired ≡ true
 unfolding cipherIn
 marked k n = rw (ne-eqb (k .retired) 0 n)
 
 pub retired-encrypts-nothing : (k : LuossavinKey) → k .retired ≢ 0 → EncryptsNothing k
-unfolding hostBlockCall hostModeCall hostCtrStart ctrStart hostSealStart sealStart hostCtrRange rangeCall hostCtrByPlan planCall hostReplay
+unfolding hostBlockCall hostCtrStart ctrStart hostSealStart sealStart hostCtrRange rangeCall hostCtrByPlan planCall hostReplay
     replay
 retired-encrypts-nothing k n =
     let c = cipherIn k in
     let r = marked k n in
     record {
       block = λ b o e. not-allowed (c .retired) r (block-through Encrypt c b o e .may);
-      message = λ mode label d iv o e.
-          not-allowed (c .retired) r (through Encrypt (modeIn k mode) label d iv o (not-seven (ltb 4 mode) o _ e) .may);
+      message = λ mode label d iv o e. not-allowed (c .retired) r (host-through Encrypt mode k label d iv o e .1 .may);
       ctr = λ iv e. no-start c r (length iv) (passed-start Ctr _ _ _ e);
       seal = λ label iv e. no-seal c r (length iv) (length label) (passed-start Seal _ _ _ e);
       range = λ iv offset d o e. no-range c r (length iv) offset (length d) (length o) (zero-passed _ o _ e);
