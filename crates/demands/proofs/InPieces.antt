@@ -6,11 +6,10 @@ use N.{Bool, cond, false, true, List, [], _++_, _∷_, append-assoc, append-nil,
 use N.{arith, drop, length, length-append, length-drop, take-at, le-ltb, blocksOf, ctrCameRound, Head, Outcome, finished, keyed, leaving}
 use N.{refusal, telling, under, chain, over, streamMode, Ctr·kind, J0, hashKey, opensUnder, sealed, tagOf, textOf, gcmOpen, gcmHead}
 use N.{settled, Gcm·Done, InvalidTag, gcmRound, lengthsOf, modeCall, modeResult, andThen, checked, dataCheck, keyAndIv, labelCheck}
-use N.{messageCheck, retiredCheck, roomCheck, wrongIv, keyNumber, limit, modeOf, Ctr as Ctr·mode, Gcm, Direction, Decrypt, Encrypt, Key}
-use N.{Sm4Cipher, Sm4CipherMode, Refusal, Checked, Passed, Refused, Stepped, begun, ctrEnd, ctrPiece, ctrStart, goesOn, opensEnd}
-use N.{opensPiece, opensStart, sealEnd, sealPiece, sealStart, stepOn, gcmStarting, ctrAfter, ctrShut, opensAfter, opensShut, sealAfter}
-use N.{sealShut, Ctr·state as Ctr, Opens, Seal, hostModeCall, directionOf, hostCtrStart, hostOpensStart, hostSealStart, cipherIn}
-use N.{LuossavinKey}
+use N.{messageCheck, roomCheck, wrongIv, keyNumber, limit, modeOf, Ctr as Ctr·mode, Gcm, Direction, Decrypt, Encrypt, Key, Sm4Cipher}
+use N.{Sm4CipherMode, Refusal, Checked, Passed, Refused, Stepped, begun, ctrEnd, ctrPiece, ctrStart, goesOn, opensEnd, opensPiece}
+use N.{opensStart, sealEnd, sealPiece, sealStart, stepOn, gcmStarting, ctrAfter, ctrShut, opensAfter, opensShut, sealAfter, sealShut}
+use N.{Ctr·state as Ctr, Opens, Seal, hostModeCall, directionOf, hostCtrStart, hostOpensStart, hostSealStart, cipherIn, LuossavinKey}
 use Rattle.walk.proofs.Chain.{chain-rest}
 use Rattle.stream.proofs.RoundTrip.{length-stream}
 use Rattle.gcm.proofs.Parts.{length-text, length-tag}
@@ -107,21 +106,6 @@ pub ctr-within : (dir : Direction) (n : ℕ) → dataCheck dir Ctr·mode n ≡ P
 ctr-within Encrypt n e = data-within Encrypt Ctr·mode n e
 ctr-within Decrypt n e = data-within Decrypt Ctr·mode n e
 
--- the starts that pass
-ctr-starts : (dir : Direction) (c : Sm4Cipher) (iv : List ℕ) → c .answer ≡ Key → wrongIv Ctr·mode (length iv) ≡ false
-    → retiredCheck dir (c .retired) ≡ Passed
-    → ctrStart dir c iv
-    ≡ record { head = under (keyNumber c) (finished 0); bytes = []; state = ctrAfter (keyNumber c) (c .engine) (c .rk) iv [] }
-unfolding keyAndIv
-ctr-starts dir c iv k n u = ctr-started dir c iv (rw (k, n, u))
-
-seal-starts : (c : Sm4Cipher) (label iv : List ℕ) → c .answer ≡ Key → wrongIv Gcm (length iv) ≡ false
-    → retiredCheck Encrypt (c .retired) ≡ Passed → length label ≤ limit
-    → sealStart c label iv
-    ≡ record { head = under (keyNumber c) (finished 0); bytes = []; state = sealAfter (keyNumber c) (c .engine) (c .rk) label iv [] }
-unfolding gcmStarting keyAndIv
-seal-starts c label iv k n u h = seal-started c label iv (rw (k, n, u, le-ltb limit (length label) h))
-
 -- no text gives none
 chain-nothing : (rk iv : List ℕ) → chain (streamMode Ctr·kind rk) iv [] ≡ []
 chain-nothing rk iv = chain-rest (streamMode Ctr·kind rk) iv [] (omega arith)
@@ -146,7 +130,7 @@ seal-writes i mark rk label iv hl =
 -- Under any record, either way: Ctr in pieces gives the bytes of the single call.
 pub ctr-in-pieces : (decrypt : Bool) (k : LuossavinKey)
     → CtrInPieces Ctr (hostCtrStart k decrypt) ctrPiece ctrEnd (hostModeCall (directionOf decrypt) 2 k)
-unfolding hostCtrStart hostModeCall modeOf
+unfolding hostCtrStart hostModeCall modeOf keyAndIv
 ctr-in-pieces decrypt k ps label iv o r e =
     let c = cipherIn k in
     let dir = directionOf decrypt in
@@ -166,7 +150,7 @@ ctr-in-pieces decrypt k ps label iv o r e =
     let left = leaves dir m label (whole ps) iv o p in
     let single : result (modeCall dir m label (whole ps) iv o) ≡ text (whole ps) = ap result left ∙ result-of-done (text (whole ps)) o in
     let end = ap (λ (x : Stepped Ctr). x .head) (ap ctrEnd state ∙ ctr-ended i mark rk iv (whole ps) fits) in
-    rw (ctr-starts dir c iv (p .key) (p .iv-size) (p .may)) (
+    rw (ctr-started dir c iv (rw (p .key, p .iv-size, p .may))) (
       record {
         start = record { number = refl; size = refl };
         pieces = all;
@@ -178,7 +162,7 @@ ctr-in-pieces decrypt k ps label iv o r e =
 
 -- Under any record: Gcm sealing in pieces gives the ciphertext and the tag of the single call.
 pub seal-in-pieces : (k : LuossavinKey) → SealInPieces Seal (hostSealStart k) sealPiece sealEnd (hostModeCall Encrypt 4 k)
-unfolding sealed hostSealStart hostModeCall modeOf
+unfolding sealed hostSealStart hostModeCall modeOf gcmStarting keyAndIv
 seal-in-pieces k ps label iv t o r room e =
     let c = cipherIn k in
     let rk = c .rk in
@@ -203,7 +187,7 @@ seal-in-pieces k ps label iv t o r room e =
     let last = ap (λ (s : Seal). sealEnd s t) state ∙ end in
     let head = ap (λ (x : Stepped Seal). x .head) last in
     let tagged = ap (written Seal) last ∙ take-at tag _ 16 (length-tag rk (hashKey rk) j label (text (whole ps))) in
-    rw (seal-starts c label iv (p .key) (p .iv-size) (p .may) hl) (
+    rw (seal-started c label iv (rw (p .key, p .iv-size, p .may, p .label))) (
       record {
         start = record { number = refl; size = refl };
         pieces = all;

@@ -173,10 +173,11 @@ module _ (shelf : List ℕ) (used job : ℕ) (small : AreBytes shelf) (found : f
       let all = those-proper (isCurrentOf job) rs (records-proper (take used shelf) (below-take 256 used shelf small)) in
       subst AllProper (current .1) all .0 .edition
 
-  -- by any call under which other editions are refused
-  alone-under : (opening : Call) → OtherEditionRefused opening → job < 2 ^ 32 → (iv o : List ℕ)
-      → OneEditionOpens opening job (lookedUp shelf used job) iv o
-  alone-under opening others job-fits iv o =
+  -- Under a key that does not encrypt the all-zero block to itself, the current record of a job, where it opens under its own label, is
+  -- refused as 4 under the label of every other edition.
+  pub current-opens-alone : (k : LuossavinKey) → MovesZero (k .«round_keys») → job < 2 ^ 32 → (iv o : List ℕ)
+      → OneEditionOpens (hostModeCall Decrypt 4 k) job (lookedUp shelf used job) iv o
+  current-opens-alone k moves job-fits iv o =
       let part = lookedUp shelf used job in
       let label : labelIn part ≡ labelOf job (r .edition) =
       ap labelIn part-written ∙ written-label r ∙ ap (λ (j : ℕ). labelOf j (r .edition)) its-job in
@@ -184,15 +185,10 @@ module _ (shelf : List ℕ) (used job : ℕ) (small : AreBytes shelf) (found : f
         edition = r .edition;
         label = label;
         alone = λ opens e fits other.
-            others job job (r .edition) e (fileIn part) iv o o job-fits job-fits edition-fits fits (inr (λ same. other (sym same))) refl
-            (subst (λ (l : List ℕ). opening l (fileIn part) iv o .head .number ≡ 0) label opens);
+            other-edition-refused k moves job job (r .edition) e (fileIn part) iv o o job-fits job-fits edition-fits fits
+            (inr (λ same. other (sym same))) refl (subst (λ (l : List ℕ). hostModeCall Decrypt 4 k l (fileIn part) iv o .head .number ≡ 0)
+            label opens);
       }
-
-  -- Under a key that does not encrypt the all-zero block to itself, the current record of a job, where it opens under its own label, is
-  -- refused as 4 under the label of every other edition.
-  pub current-opens-alone : (k : LuossavinKey) → MovesZero (k .«round_keys») → job < 2 ^ 32 → (iv o : List ℕ)
-      → OneEditionOpens (hostModeCall Decrypt 4 k) job (lookedUp shelf used job) iv o
-  current-opens-alone k moves = alone-under (hostModeCall Decrypt 4 k) (other-edition-refused k moves)
 
 -- every edition of the job on the shelf is lower than one that is not refused as not higher
 module _ (opening : Call) (others : OtherEditionRefused opening) (job e : ℕ) (job-fits : job < 2 ^ 32) (fits : e < 2 ^ 16)
