@@ -101,19 +101,14 @@ opened-opens rk h j aad c o z =
     let four : _≡_ {A = ℕ} 4 0 = ap (λ (x : Outcome). x .head .number) (open-refused rk h j aad c o e) ∙ z in
     absurd (omega arith))
 
--- what an opening that answered 0 gave: a text of this size
-record Opens-as (a : Opened) : Type 0 where
-  pub size : ℕ
-  pub done : a ≡ Cbc·Done size
-
 -- a message of Cbc that was opened is one with a padding, of which n bytes are the text
 opened-with : (p o : List ℕ) (n : ℕ) (a : Opened) → a ≡ Cbc·Done n → n ≤ length p → written (cbcHead a) p o ≡ done (take n p) o
 opened-with p o n a e h =
     ap {B = Outcome} (λ (a : Opened). written (cbcHead a) p o) e
     ∙ ap {B = Outcome} (λ (k : ℕ). leaving (finished k) (over (take n p) o)) (sym (length-take-le n p h))
 
-unpadded-by : (p o : List ℕ) (a : Opened) → written (cbcHead a) p o .head .number ≡ 0 → Opens-as a
-unpadded-by p o (Cbc·Done n) z = record { size = n; done = refl }
+unpadded-by : (p o : List ℕ) (a : Opened) → written (cbcHead a) p o .head .number ≡ 0 → (n : ℕ) × (a ≡ Cbc·Done n)
+unpadded-by p o (Cbc·Done n) z = (n, refl)
 unpadded-by p o InvalidLastU8 z = absurd (omega arith)
 unpadded-by p o InvalidPadding z = absurd (omega arith)
 
@@ -141,16 +136,15 @@ module _ (rk aad c iv o : List ℕ) where
   unfolding cbcOpen dataCheck
   cbc-encrypts sixteen-iv bytes e z l =
       let p = cbcText rk iv c in
-      let a = unpadded-by p o (unpadded p) z in
-      let n = a .size in
-      let fits = unpadded-le p n (a .done) in
+      let (n, is-done) = unpadded-by p o (unpadded p) z in
+      let fits = unpadded-le p n is-done in
       let size = length-take-le n p fits in
-      let reported : n ≤ limit = subst (λ (k : ℕ). k ≤ limit) (ap (λ (a : Opened). cbcHead a .size) (a .done)) l in
+      let reported : n ≤ limit = subst (λ (k : ℕ). k ≤ limit) (ap (λ (a : Opened). cbcHead a .size) is-done) l in
       record {
         text = take n p;
-        opened = opened-with p o n (unpadded p) (a .done) fits;
+        opened = opened-with p o n (unpadded p) is-done fits;
         content = rw (le-ltb limit (length (take n p)) (omega arith));
-        again = cbc-seals-back rk iv c n sixteen-iv bytes (whole-blocks-passed (length c) e .1) (a .done);
+        again = cbc-seals-back rk iv c n sixteen-iv bytes (whole-blocks-passed (length c) e .1) is-done;
       }
 
   -- in every mode

@@ -16,8 +16,7 @@ use Rattle.shelf.proofs.ReadsProper.{records-proper, those-proper}
 use Rattle.shelf.proofs.FoundPart.{stored-part, look-up}
 use Rattle.shelf.proofs.AfterPut.{put-passed, put-look-up}
 use Rattle.demands.specs.Answered.{oneOf}
-use Rattle.demands.specs.Call.{Call}
-use Rattle.demands.specs.OneBlockRefused.{MovesZero, OtherEditionRefused}
+use Rattle.demands.specs.OneBlockRefused.{MovesZero}
 use Rattle.demands.specs.WhichNumber.{Said, only, firstOf}
 use Rattle.demands.specs.OnTheShelf.{ShelfAnswered, PlaceAnswered, putNumbers, collectNumbers, putRows, collectRows, findRows}
 use Rattle.demands.specs.OnTheShelf.{labelIn, fileIn, OneEditionOpens, NoRoughShown, OfEach}
@@ -128,19 +127,15 @@ put-is-found shelf used job edition sealed small job-fits edition-fits sealed-sm
 abbrev TheCurrent : ℕ → List Record → Type 0
 TheCurrent job rs = (r : Record) × (currentOf job rs ≡ r ∷ []) × (isCurrentOf job r ≡ true)
 
-current-by : (job : ℕ) (r : Record) (rs : List Record) (t : Bool) → isCurrentOf job r ≡ t → twoCurrent (r ∷ rs) ≡ false
-    → (t ≡ false → TheCurrent job rs) → TheCurrent job (r ∷ rs)
-unfolding those
-current-by job r rs true e f more =
-    (r, rw e (ap {B = List Record} (λ (l : List Record). r ∷ l) (none-current job rs (alone job r rs f e))), e)
-current-by job r rs false e f more = let m = more refl in (m .0, rw e (m .1), m .2)
-
 the-current : (job : ℕ) (rs : List Record) → hasCurrent job rs ≡ true → twoCurrent rs ≡ false → TheCurrent job rs
-unfolding hasCurrent twoCurrent
+unfolding hasCurrent twoCurrent those
 the-current job [] h f = let z : _≡_ {A = ℕ} 0 1 = cc in absurd (omega arith)
 the-current job (r ∷ rs) h f =
-    current-by job r rs (isCurrentOf job r) refl f (λ e.
-    the-current job rs (rw e at h) (or-right (r .current && hasCurrent (r .job) rs) (twoCurrent rs) f))
+    split _ (isCurrentOf job r)
+    (λ e. (r, rw e (ap {B = List Record} (λ (l : List Record). r ∷ l) (none-current job rs (alone job r rs f e))), e))
+    (λ e.
+    let m = the-current job rs (rw e at h) (or-right (r .current && hasCurrent (r .job) rs) (twoCurrent rs) f) in
+    (m .0, rw e (m .1), m .2))
 
 module _ (shelf : List ℕ) (used job : ℕ) (small : AreBytes shelf) (found : findCall shelf used job .number ≡ 0) where
   abbrev rs : List Record
@@ -191,42 +186,32 @@ module _ (shelf : List ℕ) (used job : ℕ) (small : AreBytes shelf) (found : f
       }
 
 -- every edition of the job on the shelf is lower than one that is not refused as not higher
-module _ (opening : Call) (others : OtherEditionRefused opening) (job e : ℕ) (job-fits : job < 2 ^ 32) (fits : e < 2 ^ 16)
+module _ (k : LuossavinKey) (moves : MovesZero (k .«round_keys»)) (job e : ℕ) (job-fits : job < 2 ^ 32) (fits : e < 2 ^ 16)
     (file iv o : List ℕ) where
   abbrev shown : Record → Type 0
-  shown r = NoRoughShown opening job e file iv o r
-
-  lower : (r : Record) → eqb (r .job) job && leb e (r .edition) ≡ false → r .job ≡ job → r .edition < e
-  lower r f same =
-      let t : leb e (r .edition) ≡ false = rw (eq-eqb (r .job) job same) at f in
-      leb-false e (r .edition) t
+  shown r = NoRoughShown (hostModeCall Decrypt 4 k) job e file iv o r
 
   not-shown : (r : Record) → r .edition < e → shown r
   not-shown r h =
+      let below : r .edition < 2 ^ 16 = omega (arith, h, fits) in
+      let other = other-edition-refused k moves job job in
       record {
         higher = h;
-        new-under-old = λ opens.
-            others job job e (r .edition) file iv o o job-fits job-fits fits (omega (arith, h, fits)) (inr (λ same. omega (arith, same, h)))
-            refl opens;
-        old-under-new = λ opens.
-            others job job (r .edition) e (r .sealed) iv o o job-fits job-fits (omega (arith, h, fits)) fits
-            (inr (λ same. omega (arith, same, h))) refl opens;
+        new-under-old = other e (r .edition) file iv o o job-fits job-fits fits below (inr (λ same. omega (arith, same, h))) refl;
+        old-under-new = other (r .edition) e (r .sealed) iv o o job-fits job-fits below fits (inr (λ same. omega (arith, same, h))) refl;
       }
 
   none-shown : (rs : List Record) → notHigher job e rs ≡ false → OfEach shown job rs
   unfolding notHigher
   none-shown [] f = tt
   none-shown (r ∷ rs) f =
-      let here = eqb (r .job) job && leb e (r .edition) in
-      (λ same. not-shown r (lower r (or-left here (notHigher job e rs) f) same), none-shown rs (or-right here (notHigher job e rs) f))
+      let here = eqb (r .job) job && leb e (r .edition) in (
+        λ same. not-shown r (leb-false e (r .edition) (rw (eq-eqb (r .job) job same) at (or-left here (notHigher job e rs) f))),
+        none-shown rs (or-right here (notHigher job e rs) f),
+      )
 
-  after-put : (shelf : List ℕ) (used : ℕ) → putCall shelf used job e file .number ≡ 0 → OfEach shown job (records (take used shelf))
-  after-put shelf used done = none-shown (records (take used shelf)) (put-passed shelf used job e file done .higher)
-
--- No rough is shown for its final. After a put that is done, under a key that does not encrypt the all-zero block to itself, the file put
--- in does not open under the label of any edition of the job that was on the shelf, and none of their files opens under the new one's.
-pub no-rough-shown : (job e : ℕ) → job < 2 ^ 32 → e < 2 ^ 16 → (file iv o shelf : List ℕ) (used : ℕ)
-    → putCall shelf used job e file .number ≡ 0 → (k : LuossavinKey) → MovesZero (k .«round_keys»)
-    → OfEach (NoRoughShown (hostModeCall Decrypt 4 k) job e file iv o) job (records (take used shelf))
-no-rough-shown job e job-fits fits file iv o shelf used done k moves =
-    after-put (hostModeCall Decrypt 4 k) (other-edition-refused k moves) job e job-fits fits file iv o shelf used done
+  -- No rough is shown for its final. After a put that is done, under a key that does not encrypt the all-zero block to itself, the file put
+  -- in does not open under the label of any edition of the job that was on the shelf, and none of their files opens under the new one's.
+  pub no-rough-shown : (shelf : List ℕ) (used : ℕ) → putCall shelf used job e file .number ≡ 0
+      → OfEach (NoRoughShown (hostModeCall Decrypt 4 k) job e file iv o) job (records (take used shelf))
+  no-rough-shown shelf used done = none-shown (records (take used shelf)) (put-passed shelf used job e file done .higher)
