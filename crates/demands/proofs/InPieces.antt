@@ -28,6 +28,7 @@ use Rattle.demands.proofs.OneBlockRefused.{Fits, gcm-in-order}
 use Rattle.cipher_mode.proofs.Refusals.{refuses}
 use Rattle.pieces.proofs.Passing.{starting-passed, running-passed, writing-passed, tagged-passed}
 use Rattle.demands.specs.Answered.{oneOf}
+use Rattle.demands.proofs.Answering.{split}
 
 did : (S : Type 0) (n i : ℕ) (b : Bool) (x : Stepped S) → x .head ≡ under i (telling b (finished n)) → Did S n x
 did S n i b x e = record { number = ap (λ (h : Head). h .number) e; size = ap (λ (h : Head). h .size) e }
@@ -448,18 +449,12 @@ gcm-refused S dir c label iv shut s n d o =
     (then-refused a b rest) n
 
 -- a tag alone opens or not
-opens-or-not : (t : Bool) (n : ℕ) → oneOf (gcmHead (cond t (Gcm·Done n) InvalidTag) .number) (0 ∷ 4 ∷ []) ≡ true
-opens-or-not true n = refl
-opens-or-not false n = refl
-
 tag-alone : (c : Sm4Cipher) (label tag iv o : List ℕ) → length tag ≡ 16 → opensStart c label iv .head .number ≡ 0
     → oneOf (modeCall Decrypt (inGcm c) label tag iv o .head .number) (0 ∷ 4 ∷ []) ≡ true
 unfolding gcmOpen settled
 tag-alone c label tag iv o n e =
-    let rk = c .rk in
-    let single = opens-single c label tag iv o e (omega arith) (omega arith) (omega arith) in
-    ap (λ (x : Outcome). oneOf (x .head .number) (0 ∷ 4 ∷ [])) (leaves Decrypt (inGcm c) label tag iv o single)
-    ∙ opens-or-not (opensUnder rk (hashKey rk) (J0 rk iv) label tag) (length tag - 16)
+    rw (leaves Decrypt (inGcm c) label tag iv o (opens-single c label tag iv o e (omega arith) (omega arith) (omega arith)))
+    (split _ (opensUnder (c .rk) (hashKey (c .rk)) (J0 (c .rk) iv) label tag) (λ f. rw f) (λ f. rw f))
 
 -- A start is checked as the exported single call is: of no data, and for an opening of a tag alone.
 pub ctr-checked : (decrypt : Bool) (k : LuossavinKey) (label iv : List ℕ)

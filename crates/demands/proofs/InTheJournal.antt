@@ -3,8 +3,8 @@
 -- Assumes nothing.
 use Rattle.demands.specs.Names as N
 use N.{Bool, cond, false, not, true, List, [], _++_, _∷_, append-nil, inl, inr, ⊎-elim, _∙_, _≡_, ap, refl, sym, _+_, _<_, suc, zero, ℕ}
-use N.{arith, eqb, ltb, drop, length, take, take-at, lt-ltb, AreBytes, Head, Outcome, over, Sm4Cipher, AllReplayable, Ends, NoneDiffers}
-use N.{Totals, countedAll, differs, Entry, front·journal as front, sizeAt·journal as sizeAt, startsRecord·journal as startsRecord}
+use N.{arith, eqb, ltb, drop, length, take, take-at, lt-ltb, AreBytes, Head, Outcome, Sm4Cipher, AllReplayable, Ends, NoneDiffers, Totals}
+use N.{countedAll, differs, Entry, front·journal as front, sizeAt·journal as sizeAt, startsRecord·journal as startsRecord}
 use N.{stored·journal as stored, tooLong, written·journal as written, added, behindReport, badKeys, hasNumber, keyOf·journal as keyOf}
 use N.{keysIn, answeredBy, callInto, recomputed, resultOf as result, done·journal as done, numberOfEnd, journalRefuse as refuse, replay}
 use N.{replayOne, replayUpTo, nothing, write, Journal·end as Ended, BadKeys, BadRecord, Done·journal as Done, TooLong·journal as TooLong}
@@ -146,22 +146,19 @@ module _ (keys : LuossavinKeys) (good : badKeys (keysOf keys) ≡ false) (es : L
 -- so is what the writer wrote of one
 module _ (keys : LuossavinKeys) (good : badKeys (keysOf keys) ≡ false) (e : Entry) (r : Recorded keys e) (o : List ℕ) (n : ℕ)
     (wrote : write e o .wrote ≡ Done·wrote n) where
-  wrote-by : (t : Bool) → ltb (length o) (length (written e)) ≡ t
-      → (n ≡ length (written e)) × (write e o .bytes ≡ over (written e) o)
-  unfolding write
-  wrote-by true f =
+  is-journal : take n (write e o .bytes) ≡ stored (e ∷ [])
+  unfolding write stored
+  is-journal =
+      split _ (ltb (length o) (length (written e)))
+      (λ f.
       let z : NoRoom ≡ Done·wrote n = rw (r .replayable .short, f) at wrote in
       let y : _≡_ {A = ℕ} 0 1 = cc in
-      absurd (omega arith)
-  wrote-by false f =
+      absurd (omega arith))
+      (λ f.
       let z : Done·wrote (length (written e)) ≡ Done·wrote n = rw (r .replayable .short, f) at wrote in
-      (cc, rw (r .replayable .short, f))
-
-  is-journal : take n (write e o .bytes) ≡ stored (e ∷ [])
-  unfolding stored
-  is-journal =
-      let w = wrote-by (ltb (length o) (length (written e))) refl in
-      rw (w .1, w .0) (take-at (written e) (drop (length (written e)) o) (length (written e)) refl ∙ sym (append-nil (written e)))
+      let m : n ≡ length (written e) = cc in
+      rw (r .replayable .short, f, m)
+      (take-at (written e) (drop (length (written e)) o) (length (written e)) refl ∙ sym (append-nil (written e))))
 
   pub exported-written-agrees : (hostReplay keys (take n (write e o .bytes)) .number ≡ 0)
       × (hostReplay keys (take n (write e o .bytes)) .differs ≡ 0)

@@ -432,21 +432,17 @@ module _ (k : LuossavinKey) (decrypt : Bool) (label d iv o₀ : List ℕ)
         (reached k decrypt label d iv o₀ e (p .start + length (shareOf p d)) (omega (arith, n, h)))
         (omega (arith, n, m, room))
 
-    by-start : (t : Bool) → ltb (length d) (p .start) ≡ t
-        → checked check (shareOf p o) (done here (shareOf p o)) .bytes ≡ over here (shareOf p o)
-    by-start true f =
-        let h = ltb-true (length d) (p .start) f in
-        let n = length-share p d in
-        nothing-done check here (shareOf p o) (length-stretch rk iv (p .start) (shareOf p d) ∙ omega (arith, n, h))
-    by-start false f = rw (passes (ltb-false (length d) (p .start) f))
-
     share-worked : workedBy k decrypt iv d p o ≡ worked rk iv d p o
     unfolding hostCtrRange rangeCall cipherIn
     share-worked =
         let n = length-share p d in
         let m = length-share p o in
         let size = length-stretch rk iv (p .start) (shareOf p d) in
-        ap (λ (l : List ℕ). laidAt (p .start) l o) (by-start (ltb (length d) (p .start)) refl)
+        let by-start : checked check (shareOf p o) (done here (shareOf p o)) .bytes ≡ over here (shareOf p o) =
+        split _ (ltb (length d) (p .start))
+        (λ f. nothing-done check here (shareOf p o) (size ∙ omega (arith, n, ltb-true (length d) (p .start) f)))
+        (λ f. rw (passes (ltb-false (length d) (p .start) f))) in
+        ap (λ (l : List ℕ). laidAt (p .start) l o) by-start
         ∙ laid-over (p .start) (p .size) here o (omega (arith, n, m, size, room))
 
   all-worked : (ps : List Share) (o : List ℕ) → length d ≤ length o → allWorkedBy k decrypt iv d ps o ≡ allWorked rk iv d ps o
