@@ -1,4 +1,5 @@
--- A 12-byte IV in Gcm: its counters are SP 800-38D's. J0 has sixteen bytes, whatever the IV has.
+-- Counters: those of a 12-byte IV in Gcm are SP 800-38D's, and what the answers say of a counter. J0 has sixteen bytes, whatever the IV
+-- has.
 -- Assumes nothing.
 use Rattle.demands.specs.Names as N
 use N.{Bool, cond, false, true, List, [], _++_, _∷_, _≢_, _∙_, _≡_, ap, ap₂, refl, _%_, _+_, _-_, _/_, _<_, _^_, _≤_, ℕ, arith, eqb, ltb}

@@ -1,4 +1,4 @@
--- Demand 2, there and back: what a call did, its counterpart takes back.
+-- Demand 2, there and back: what a call did, its counterpart takes back; and whoever asks in order is served.
 -- Assumes nothing.
 use Rattle.demands.specs.Names as N
 use N.{Bool, false, List, _⊎_, ⊎-elim, _∙_, _≡_, ap, refl, sym, _≤_, ℕ, length, le-ltb, Head, Outcome, done, keyed, leaving, reporting}

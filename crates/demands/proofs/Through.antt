@@ -1,4 +1,4 @@
--- What a call that answered 0 had in order, and what a call leaves that has all in order.
+-- What a call that answered 0 had in order, what a call leaves that has all in order, and how a record crosses the boundary.
 -- Assumes nothing.
 use Rattle.demands.specs.Names as N
 use N.{Bool, cond, false, not, true, List, _≢_, _∙_, _≡_, ap, ap₂, refl, sym, _≤_, suc, zero, ℕ, arith, eqb, ltb, length, take-append-seam}

@@ -1,4 +1,4 @@
--- Document 01's worked table holds of the definitions, by computation.
+-- Document 01's worked table and its edges hold of the definitions, by computation; and two blocks under a key are computed.
 -- Assumes nothing.
 use Rattle.demands.specs.Names as N
 use N.{Bool, _&&_, false, true, List, [], _++_, _∷_, map, _≢_, _∙_, _≡_, ap, refl, sym, ℕ, arith, eqb, getD, length, replicate, ne-eqb}
