@@ -1,20 +1,8 @@
 -- Demand 1 as a property of an outcome: what a caller may count on, refused or done.
-use mathlib.Core.Path.{_≡_}
-use mathlib.Core.Logic.{_≢_, _⊎_}
-use mathlib.Core.Bool.{Bool, true, false, _||_}
-use mathlib.Core.List.{List, [], _∷_}
-use Prim.Native.Nat.{ℕ, _+_, _-_, _*_, _/_, _≤_, _<_}
-use lib.Dec.{eqb}
-use lib.ListN.{length, drop}
-use Rattle.walk.specs.Outcome.{Outcome, finished, refusal}
-use Rattle.cipher.specs.Sm4.{roundKeys}
-use Rattle.cbc.specs.Open.{lastByte, cbcText}
-use Rattle.cipher_mode.specs.declared.CipherMode.{CipherMode}
-use Rattle.cipher_mode.specs.declared.CipherMode.the-variants.{Cfb, Ofb, Ctr, Cbc, Gcm}
-use Rattle.cipher_mode.specs.declared.Direction.{Direction}
-use Rattle.cipher_mode.specs.declared.Direction.the-variants.{Encrypt, Decrypt}
-use Rattle.cipher_mode.specs.declared.Sm4Cipher.{Sm4Cipher}
-use Rattle.cipher_mode.specs.Key.{keyHead, keyNumber}
+use Rattle.demands.specs.Names as N
+use N.{Bool, _||_, false, true, List, [], _∷_, _≢_, _⊎_, _≡_, _*_, _+_, _-_, _/_, _<_, _≤_, ℕ, eqb, drop, length, Outcome, finished}
+use N.{refusal, roundKeys, cbcText, lastByte, keyHead, keyNumber, CipherMode, Cbc, Cfb, Ctr, Gcm, Ofb, Direction, Decrypt, Encrypt}
+use N.{Sm4Cipher}
 
 -- whether a number is one of a list
 abbrev pub oneOf : ℕ → List ℕ → Bool

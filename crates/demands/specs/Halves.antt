@@ -1,22 +1,10 @@
 -- Two servers each hold half a long draft: what their hashes give when they are joined, as properties of any calls that hash bytes in
 -- blocks and join two hashes.
-use mathlib.Core.Path.{_≡_}
-use mathlib.Core.Bool.{cond}
-use mathlib.Core.List.{List, _++_}
-use Prim.Native.Nat.{ℕ, _+_, _*_, _%_, _^_, _<_}
-use lib.Dec.{eqb}
-use lib.ListN.{length, replicate}
-use Rattle.block.specs.BigEndian.{numberOf, bytesOf}
-use Rattle.block.specs.Xor.{xors}
-use Rattle.ghash.specs.Ghash.{blockCount}
-use Rattle.cipher_mode.specs.declared.Direction.the-variants.{Encrypt}
-use Rattle.block.specs.declared.U128.{U128 as LuossavinHash}
-use Rattle.luossavin.specs.declared.key.LuossavinKey.{LuossavinKey}
-use Rattle.block.specs.Wide.{value as hashIn}
-use Rattle.luossavin.specs.Halves.{hashOf, hostHashBlocks, hostHashJoin}
-use Rattle.luossavin.specs.Host.{hostBlockCall, hostModeCall}
+use Rattle.demands.specs.Names as N
+use N.{cond, List, _++_, _≡_, _%_, _*_, _+_, _<_, _^_, ℕ, eqb, length, replicate, bytesOf, numberOf, xors, blockCount, Encrypt, hashIn}
+use N.{hashOf, hostHashBlocks, hostHashJoin, hostBlockCall, hostModeCall, LuossavinHash, LuossavinKey}
 use Rattle.demands.specs.Call.{result}
-use Rattle.demands.specs.TwelveBytes.{followedBy}
+use Rattle.demands.specs.CameRound.{followedBy}
 
 abbrev pub Hashes : Type 0
 Hashes = LuossavinHash → List ℕ → LuossavinHash
