@@ -5,8 +5,8 @@ use Rattle.demands.specs.Names as N
 use N.{cond, false, List, [], _++_, _∷_, append-assoc, ⊎-elim, _∙_, _≡_, ap, ap₂, refl, sym, _*_, _+_, _/_, ℕ, div-add-mod', arith, eqb}
 use N.{length, length-append, replicate, eq-eqb, bytesOf, numberOf, xors, Element, encryptBlock, authBlocks, blockCount, blocks, ghash}
 use N.{lengthBlock, joined, J0, firstCounter, hashKey, hashedCounter, sealed, tagOf, tagPart, textOf, textPart, retiredCheck, wrongIv}
-use N.{modeOf, Gcm, Encrypt, Key, Passed, hashIn, hashOf, hostHashBlocks, hostHashJoin, hostBlockCall, hostModeCall, cipherIn}
-use N.{LuossavinHash, LuossavinKey}
+use N.{modeOf, Gcm, Encrypt, Key, Passed, value, hashOf, hostHashBlocks, hostHashJoin, hostBlockCall, hostModeCall, cipherIn}
+use N.{U128, LuossavinKey}
 use Rattle.block.proofs.Convert.{length-bytesOf}
 use Rattle.field.proofs.Bounded.{whole-lt}
 use Rattle.ghash.proofs.Blocks.{blocks-full, blocks-append, length-blocks}
@@ -22,28 +22,28 @@ use Rattle.demands.proofs.CameRound.{length-counter}
 use Rattle.demands.proofs.Through.{result-of-done, through, leaves, block-leaves}
 
 -- a value that a number is is that number
-value-back : (n : ℕ) → hashIn (hashOf n) ≡ n
+value-back : (n : ℕ) → value (hashOf n) ≡ n
 value-back n = div-add-mod' n _
 
 -- the exported calls on the values of numbers
 blocks-of : (h : ℕ) (bs : List ℕ) → hostHashBlocks (hashOf h) bs ≡ hashOf (ghash h (blocks bs))
 unfolding hostHashBlocks
-blocks-of h bs = ap {B = LuossavinHash} (λ (k : ℕ). hashOf (ghash k (blocks bs))) (value-back h)
+blocks-of h bs = ap {B = U128} (λ (k : ℕ). hashOf (ghash k (blocks bs))) (value-back h)
 
 join-of : (h x y n : ℕ) → hostHashJoin (hashOf h) (hashOf x) (hashOf y) n ≡ hashOf (joined h x y n)
 unfolding hostHashJoin
 join-of h x y n =
-    ap {B = LuossavinHash} (λ (k : ℕ). hashOf (joined k (hashIn (hashOf x)) (hashIn (hashOf y)) n)) (value-back h)
-    ∙ ap₂ {C = LuossavinHash} (λ (u v : ℕ). hashOf (joined h u v n)) (value-back x) (value-back y)
+    ap {B = U128} (λ (k : ℕ). hashOf (joined k (value (hashOf x)) (value (hashOf y)) n)) (value-back h)
+    ∙ ap₂ {C = U128} (λ (u v : ℕ). hashOf (joined h u v n)) (value-back x) (value-back y)
 
 -- Where the first half is whole blocks, the halves' hashes joined are the hash of both.
 pub joined-halves : JoinsHalves hostHashBlocks hostHashJoin
 unfolding hostHashBlocks hostHashJoin
 joined-halves h v a b whole =
-    let k = hashIn h in
-    ap₂ {C = LuossavinHash} (λ (x y : ℕ). hashOf (joined k x y (blockCount (length b))))
+    let k = value h in
+    ap₂ {C = U128} (λ (x y : ℕ). hashOf (joined k x y (blockCount (length b))))
     (value-back (ghash k (blocks a))) (value-back (ghash k (blocks b)))
-    ∙ ap {B = LuossavinHash} hashOf (joins-bytes k (whole-lt (h .high) (h .low) (v .high) (v .low)) (length a / 16) a b (omega arith))
+    ∙ ap {B = U128} hashOf (joins-bytes k (whole-lt (h .high) (h .low) (v .high) (v .low)) (length a / 16) a b (omega arith))
 
 length-pair : (a b : ℕ) → length (pair a b) ≡ 16
 length-pair a b = length-append (bytesOf 8 a) (bytesOf 8 b) ∙ ap₂ _+_ (length-bytesOf 8 a) (length-bytesOf 8 b)
@@ -92,7 +92,7 @@ module _ (k : LuossavinKey) (usable : cipherIn k .answer ≡ Key) (may : retired
 
   key-is : keyOfHash k ≡ hashOf (hashKey (cipherIn k .rk))
   unfolding hashKey
-  key-is = ap {B = LuossavinHash} (λ (b : List ℕ). hashOf (numberOf b)) (enciphers (replicate 16 0) refl)
+  key-is = ap {B = U128} (λ (b : List ℕ). hashOf (numberOf b)) (enciphers (replicate 16 0) refl)
 
   tag-is : (label iv a b : List ℕ) → wrongIv Gcm (length iv) ≡ false → WholeBlocks a
       → let rk = cipherIn k .rk in tagOfHalves k label iv a b ≡ tagOf rk (hashKey rk) (J0 rk iv) label (a ++ b)
@@ -100,9 +100,9 @@ module _ (k : LuossavinKey) (usable : cipherIn k .answer ≡ Key) (may : retired
   tag-is label iv a b e whole =
       let rk = cipherIn k .rk in
       let h = hashKey rk in
-      let counter = ap (λ (x : LuossavinHash). counterOf x iv) key-is ∙ counter-is h (hashKey-lt rk) iv e in
+      let counter = ap (λ (x : U128). counterOf x iv) key-is ∙ counter-is h (hashKey-lt rk) iv e in
       let mask = ap (enciphered k) counter ∙ enciphers (J0 rk iv) (length-counter h iv) in
-      let all = ap {B = LuossavinHash} (λ (x : LuossavinHash). hashOfAll x label a b) key-is
+      let all = ap {B = U128} (λ (x : U128). hashOfAll x label a b) key-is
       ∙ all-joined h (hashKey-lt rk) label a b whole in
       ap₂ xors mask (ap bytesIn all ∙ ap (bytesOf 16) (value-back (ghash h (authBlocks label (a ++ b)))))
 

@@ -10,7 +10,7 @@ use N.{searchCheck, which, planCall, accepts, follows, noPieces, rangeCall, rang
 use N.{Shelf·Outcome, putCall, Record, front·shelf as front, marked·shelf as marked, readUpTo, records, sizeAt·shelf as sizeAt}
 use N.{startsRecord·shelf as startsRecord, stored·shelf as stored, written·shelf as written, badShelf, fitted, hasCurrent, notHigher}
 use N.{supersede, those, twoCurrent, withNew, hostHashBlocks, hostHashJoin, hostModeCall, modeIn, cipherIn, hostKeyEngine, hostKeyNew}
-use N.{keyAnswerOf, keyOf, hostCtrByPlan, hostCtrRange, Told, hostWhich, LuossavinHash, LuossavinKey}
+use N.{keyAnswerOf, keyOf, hostCtrByPlan, hostCtrRange, Told, hostWhich, U128, LuossavinKey}
 use Rattle.block.proofs.Entries.{below-replicate}
 use Rattle.counter.proofs.Edges.{ctr-one-block, ctr-two-blocks}
 use Rattle.editions.proofs.FirstOpening.{IsFirst}
@@ -379,24 +379,24 @@ marks-first-contradicts =
 
 -- Counting bytes is told under H = x by a first half of the one, which hashes to x, and two zero bytes behind it: that is x^2, and the
 -- imposter gives x^3.
-abbrev x : LuossavinHash
+abbrev x : U128
 x = record { high = 2 ^ 62; low = 0 }
 
 abbrev oneBlock : List ℕ
 oneBlock = 0x80 ∷ replicate 15 0
 
 pub counting-bytes-contradicts :
-    ¬ ((h : LuossavinHash) → IsValue h → (a b : List ℕ) → WholeBlocks a → countsBytes h a b ≡ hostHashBlocks h (a ++ b))
+    ¬ ((h : U128) → IsValue h → (a b : List ℕ) → WholeBlocks a → countsBytes h a b ≡ hostHashBlocks h (a ++ b))
 unfolding hostHashBlocks hostHashJoin joined hashFrom blocks blocksFrom blockOf numberOf gmul mulFrom timesX gpow one
 counting-bytes-contradicts claim =
-    apart LuossavinHash (λ r. r .high) _ _ (2 ^ 60) (2 ^ 61) refl refl refl
+    apart U128 (λ r. r .high) _ _ (2 ^ 60) (2 ^ 61) refl refl refl
     (claim x (record { high = lit< tt; low = lit< tt }) oneBlock (0 ∷ 0 ∷ []) refl)
 
 -- A first half that ends inside a block does not join: under H = x two halves of one byte 80 are two blocks, x^2 + x, and both together are
 -- one block, x + x^9.
 pub cut-inside-a-block-contradicts :
-    ¬ ((h : LuossavinHash) → IsValue h → (a b : List ℕ) → hashOfHalves hostHashBlocks hostHashJoin h a b ≡ hostHashBlocks h (a ++ b))
+    ¬ ((h : U128) → IsValue h → (a b : List ℕ) → hashOfHalves hostHashBlocks hostHashJoin h a b ≡ hostHashBlocks h (a ++ b))
 unfolding hostHashBlocks hostHashJoin joined hashFrom blocks blocksFrom blockOf numberOf gmul mulFrom timesX gpow one
 cut-inside-a-block-contradicts claim =
-    apart LuossavinHash (λ r. r .high) _ _ (2 ^ 62 + 2 ^ 61) (2 ^ 62 + 2 ^ 54) refl refl refl
+    apart U128 (λ r. r .high) _ _ (2 ^ 62 + 2 ^ 61) (2 ^ 62 + 2 ^ 54) refl refl refl
     (claim x (record { high = lit< tt; low = lit< tt }) (0x80 ∷ []) (0x80 ∷ []))

@@ -6,7 +6,7 @@ use N.{Outcome, done, leaving, refuseAs, refused, telling, over, roundKeys, andT
 use N.{newCipher, Ctr, Gcm, Direction, Decrypt, Encrypt, Key, Sm4Cipher, TooLong, Passed, Stepped, begun, stepOn, sealAfter, sealShut, Seal}
 use N.{anyTooLong, checkedVerdict, firstOpening, onKey, opensWith, accepts, Plan, Shelf·Outcome, holding, putIn, shelfRefuse, records}
 use N.{stored·shelf as stored, badShelf, currentOf, fitted, notHigher, supersede, hostHashBlocks, hostHashJoin, hostModeCall, directionOf}
-use N.{cipherIn, hostKeyNew, hostCtrByPlan, hostCtrRange, Told, hostWhich, toldOf, LuossavinHash, LuossavinKey}
+use N.{cipherIn, hostKeyNew, hostCtrByPlan, hostCtrRange, Told, hostWhich, toldOf, U128, LuossavinKey}
 use Rattle.demands.specs.Call.{Call, result}
 use Rattle.demands.specs.Workers.{RangeCall}
 
@@ -144,7 +144,7 @@ marksFirst shelf used job edition sealed =
     holding (fitted (length shelf) (putIn shelf used job edition sealed)) (over (stored (supersede job (records (take used shelf)))) shelf)
 
 -- joins two halves, and counts the second's bytes
-abbrev pub countsBytes : LuossavinHash → List ℕ → List ℕ → LuossavinHash
+abbrev pub countsBytes : U128 → List ℕ → List ℕ → U128
 countsBytes h a b = hostHashJoin h (hostHashBlocks h a) (hostHashBlocks h b) (length b)
 
 -- two records without sealed bytes: of job 0 the edition 1, superseded, and then the edition 0, current

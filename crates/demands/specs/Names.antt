@@ -15,7 +15,9 @@ pub use borrow.Author.Tests.{eq-eqb, eqb-false, eqb-true, le-ltb, leb-false, leb
 pub use Rattle.block.specs.Below.{AreBytes}
 unfoldable pub use Rattle.block.specs.BigEndian.{bytesOf, numberOf}
 unfoldable pub use Rattle.block.specs.Same.{same}
+pub use Rattle.block.specs.Wide.{value}
 pub use Rattle.block.specs.Words.{wordAt}
+pub use Rattle.block.specs.declared.U128.{U128}
 unfoldable pub use Rattle.block.specs.Words.{unwords, words}
 pub use Rattle.block.specs.Xor.{xors}
 pub use Rattle.field.specs.Field.{Element}
@@ -150,7 +152,7 @@ pub use Rattle.journal.specs.declared.writer.Wrote.{Wrote}
 pub use Rattle.journal.specs.declared.writer.Wrote.the-variants.{Done as Done·wrote, NoRoom as NoRoom·wrote}
 pub use Rattle.luossavin.specs.Edition.{checkedHead}
 unfoldable pub use Rattle.luossavin.specs.Edition.{hostEditionOpens, opensHead}
-pub use Rattle.luossavin.specs.Halves.{hashIn, hashOf}
+pub use Rattle.luossavin.specs.Halves.{hashOf}
 unfoldable pub use Rattle.luossavin.specs.Halves.{hostHashBlocks, hostHashJoin}
 pub use Rattle.luossavin.specs.Host.{headIn, modeIn, reported}
 unfoldable pub use Rattle.luossavin.specs.Host.{hostBlockCall, hostModeCall}
@@ -165,7 +167,6 @@ pub use Rattle.luossavin.specs.Which.{Told, foundReported, toldOf}
 unfoldable pub use Rattle.luossavin.specs.Which.{hostWhich}
 pub use Rattle.luossavin.specs.declared.LuossavinAnswer.{LuossavinAnswer}
 pub use Rattle.luossavin.specs.declared.edition.LuossavinLabel.{LuossavinLabel}
-pub use Rattle.luossavin.specs.declared.halves.LuossavinHash.{LuossavinHash}
 pub use Rattle.luossavin.specs.declared.in_pieces.LuossavinCtrStep.{LuossavinCtrStep}
 pub use Rattle.luossavin.specs.declared.in_pieces.LuossavinOpensStep.{LuossavinOpensStep}
 pub use Rattle.luossavin.specs.declared.in_pieces.LuossavinSealStep.{LuossavinSealStep}
