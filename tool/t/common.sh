@@ -107,10 +107,12 @@ try() { # NAME STATUS TEXT WORDS..: the tool
     shift 3
     run "$_about" "$_wanted" "$_words" "$program" "$@"
 }
-# A line for each of such runs.
-tries() { # WORDS.. <NAME|STATUS|TEXT|WORDS
+# A check for each line of a table, whose words come behind those that are given here: table refused open <<end
+table() { # CHECK WORDS.. <NAME|STATUS|TEXT|WORDS
+    _check=$1
+    shift
     # shellcheck disable=SC2086 # the words of a line
-    while IFS='|' read -r _name _status _text _words; do try "$_name" "$_status" "$_text" "$@" $_words; done
+    while IFS='|' read -r _name _status _text _words; do $_check "$_name" "$_status" "$_text" "$@" $_words; done
 }
 # Runs the tool, and holds all that it writes on standard output to what is expected of it.
 answers() { # NAME STATUS ANSWER WORDS..
@@ -148,13 +150,12 @@ refused() { # NAME STATUS TEXT WORDS..
     try "$@"
     same "$1: OUT is as it was" kept out
 }
-# Three checks: a refusal leaves OUT and SHELF as they were.
-left() { # NAME SHELF STATUS TEXT WORDS..
-    _about=$1 _shelf=$2
-    shift 2
+# Three checks: a refusal leaves OUT and SHELF, the word that ends in .shelf, as they were.
+left() { # NAME STATUS TEXT WORDS..
+    for _word; do case $_word in *.shelf) _shelf=$_word ;; esac done
     cp "$_shelf" before
-    refused "$_about" "$@"
-    same "$_about: SHELF is as it was" before "$_shelf"
+    refused "$@"
+    same "$1: SHELF is as it was" before "$_shelf"
 }
 # An answer that cannot be written.
 full() { # NAME WORDS..

@@ -123,7 +123,7 @@ try 'the key and the journal' 64 'expected standard input for one of --key and I
 list="expected --keys with a file that has a key's number and the key to a line, which is missing"
 one='expected --key with a file of 16 raw bytes or 32 hex digits, which is missing'
 both='expected --keys, or --key and --number, not both:'
-tries replay <<end
+table try replay <<end
 one key of 15 bytes|1|luossavin replay: journal: 1 ErrorBlockSize: the key file short has 15 bytes|--key short --number 0 journal
 a list that is missing|66|cannot read the keys nowhere: No such file or directory|--keys nowhere journal
 a key that is missing|66|cannot read the key nowhere: No such file or directory|--key nowhere journal

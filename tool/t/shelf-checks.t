@@ -19,20 +19,18 @@ try 'the reference to a file that opens' 0 '' shelf put --reference "$@" --job 4
 { printf 'Luossavin test!!' && tail -c 16 4711.1; } >wanted
 same 'is its IV and its tag' wanted out
 "$program" seal --key key --iv $iv12 --job 4711 --edition 2 rough 4711.12
-left 'a wrong edition is refused' asked.shelf 4 'luossavin shelf put: 4711.2: 4 InvalidTag: this file was not sealed under job 4711, '\
+left 'a wrong edition is refused' 4 'luossavin shelf put: 4711.2: 4 InvalidTag: this file was not sealed under job 4711, '\
 'edition 65535, with this key and IV' shelf put "$@" --job 4711 --edition 65535 asked.shelf 4711.2
-while IFS='|' read -r name shelf status text words; do
-    left "$name" $shelf $status "$text" shelf put --job 4711 --edition 2 ${words% *} $shelf ${words##* }
-done <<end
-and a text that was not sealed|asked.shelf|4|4 InvalidTag|$* rough
-and one that is shorter than a tag|asked.shelf|9|luossavin shelf put: empty: 9 ShortGcm: this file has 0 bytes|$* empty
-and a key of another size|asked.shelf|1|1 ErrorBlockSize: the key file short has 15 bytes|--key short --iv $iv 4711.2
-and another IV|asked.shelf|4|4 InvalidTag|--key key --number 7 --iv $iv12 4711.2
-and an IV of another size|asked.shelf|10|10 WrongIv: the IV has 1 byte|--key key --iv 00 4711.2
-and to one that does not is refused|named.shelf|4|4 InvalidTag|--reference $* 4711.1
-and without a key|named.shelf|64|expected --key FILE and --iv HEX|--reference 4711.2
-and unchecked|named.shelf|64|expected --unchecked, or --key and --iv|--reference --unchecked 4711.2
-and with an IV of 12 bytes|named.shelf|10|named.shelf: 10 WrongIv: the IV has 12 bytes, and a reference has one of 16|--reference --key key --iv $iv12 4711.12
+table left shelf put --job 4711 --edition 2 <<end
+and a text that was not sealed|4|4 InvalidTag|$* asked.shelf rough
+and one that is shorter than a tag|9|luossavin shelf put: empty: 9 ShortGcm: this file has 0 bytes|$* asked.shelf empty
+and a key of another size|1|1 ErrorBlockSize: the key file short has 15 bytes|--key short --iv $iv asked.shelf 4711.2
+and another IV|4|4 InvalidTag|--key key --number 7 --iv $iv12 asked.shelf 4711.2
+and an IV of another size|10|10 WrongIv: the IV has 1 byte|--key key --iv 00 asked.shelf 4711.2
+and to one that does not is refused|4|4 InvalidTag|--reference $* named.shelf 4711.1
+and without a key|64|expected --key FILE and --iv HEX|--reference named.shelf 4711.2
+and unchecked|64|expected --unchecked, or --key and --iv|--reference --unchecked named.shelf 4711.2
+and with an IV of 12 bytes|10|named.shelf: 10 WrongIv: the IV has 12 bytes, and a reference has one of 16|--reference --key key --iv $iv12 named.shelf 4711.12
 end
 printf '%s\n' $iv >rough.iv
 try 'with a retired key, and the IV from a file' 0 '' \
@@ -61,7 +59,7 @@ for line in '4711 2' '4711 2 0g' '4711 2 000' '4711 65536 00' '4294967296 1 00' 
     try "a line \"$line\"" 64 'luossavin shelf verify: lines, line 2: expected a job, an edition and an IV in hex digits' \
         shelf verify --key key --ivs lines sound.shelf
 done
-tries shelf verify --key key <<end
+table try shelf verify --key key <<end
 a list that is missing|66|cannot read the IVs nowhere: No such file or directory|--ivs nowhere sound.shelf
 a shelf that is damaged|19|19 BadShelf: this shelf breaks off at byte 0|--ivs ivs rough
 no list|64|expected --ivs with a file that has a job, an edition and an IV to a line, which is missing|sound.shelf

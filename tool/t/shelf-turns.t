@@ -67,24 +67,24 @@ try 'nor does a read lock' 0 '' $put --job 9 --edition 1 --wait 0 shelf 4711.1
 let_go
 
 # what has the lock's name and is none is somebody's file
-cp shelf other
+cp shelf other.shelf
 somebodys() { # WHAT
-    for command in 'put --unchecked --job 9 --edition 9 other 4711.1' 'collect other'; do
-        left "${command%% *}: SHELF.lock is $1" other 66 'cannot write other: other.lock is there, and is no lock of a shelf' shelf $command
+    for command in 'put --unchecked --job 9 --edition 9 other.shelf 4711.1' 'collect other.shelf'; do
+        left "${command%% *}: SHELF.lock is $1" 66 'cannot write other.shelf: other.shelf.lock is there, and is no lock of a shelf' shelf $command
     done
 }
 echo precious >precious
-cp -p precious other.lock
+cp -p precious other.shelf.lock
 somebodys 'a file with something in it'
-same 'which is as it was' precious other.lock
-holds 'with its permissions' [ "$(stat -c %a other.lock)" = "$(stat -c %a precious)" ]
-rm other.lock && mkdir other.lock
+same 'which is as it was' precious other.shelf.lock
+holds 'with its permissions' [ "$(stat -c %a other.shelf.lock)" = "$(stat -c %a precious)" ]
+rm other.shelf.lock && mkdir other.shelf.lock
 somebodys 'a folder'
-rmdir other.lock && mkfifo other.lock
+rmdir other.shelf.lock && mkfifo other.shelf.lock
 somebodys 'a pipe'
-rm other.lock && ln -s precious other.lock
+rm other.shelf.lock && ln -s precious other.shelf.lock
 somebodys 'a link'
-holds 'which is as it was' [ "$(cat other.lock)" = precious ]
+holds 'which is as it was' [ "$(cat other.shelf.lock)" = precious ]
 
 # Keys and texts are wiped. A put that waits for its turn has asked its question. What it can write of its memory is looked at: the
 # sealed bytes are there, which it is about to put, and neither the key nor the text is.

@@ -72,31 +72,31 @@ head -c 16777232 /dev/zero >long16
 cp key keyfile
 ln -s team.shelf link.shelf
 sealed='this file was not sealed under'
-while IFS='|' read -r name shelf status text words; do left "$name" $shelf $status "$text" shelf $words; done <<end
-a lower one|team.shelf|20|has edition 2 of job 4711 already, and takes only a higher one, not 1|put --unchecked --job 4711 --edition 1 team.shelf 4711.1
-an edition that is not higher, with no room|full.shelf|20|has edition 2 of job 1 already|put --unchecked --job 1 --edition 2 full.shelf full
-no room|full.shelf|21|luossavin shelf put: full.shelf: 21 NoShelfRoom: a shelf has 65536 bytes|put --unchecked --job 2 --edition 1 full.shelf empty
-a byte too much|full.shelf|21|21 NoShelfRoom|put --unchecked --job 1 --edition 3 full.shelf over
-a file of 16 MiB|full.shelf|21|21 NoShelfRoom|put --unchecked --job 1 --edition 3 full.shelf long16
-find a job that it has not|team.shelf|22|luossavin shelf find: team.shelf: 22 NoCurrent: this shelf has no current edition of job 5|find --job 5 team.shelf out
-open a job that it has not|team.shelf|22|luossavin shelf open: team.shelf: 22 NoCurrent|open $* --job 5 team.shelf out
-another IV|team.shelf|4|4 InvalidTag: $sealed job 4711, edition 2, with key 7 and this IV|open --key key --number 7 --iv 0${iv#?} --job 4711 team.shelf out
-number 0|team.shelf|13|13 WrongNumber: the key's number is 1 to 65535, not 0|open --key key --number 0 --iv 00 --job 4711 team.shelf out
-a short IV|team.shelf|10|10 WrongIv: the IV has 1 byte, not 12 or 16|open --key key --iv 00 --job 4711 team.shelf out
-what is wrong with the shelf before the key|team.shelf|22|22 NoCurrent|open --key short --iv 00 --job 5 team.shelf out
-OUT is SHELF|team.shelf|66|the shelf is a file that the words name twice|find --job 4711 team.shelf ./team.shelf
-IN is SHELF|team.shelf|66|the shelf is a file that the words name twice|put --unchecked --job 4711 --edition 3 team.shelf team.shelf
-OUT holds the key|team.shelf|66|it holds the key|open --key keyfile --iv $iv --job 4711 team.shelf keyfile
-SHELF is a link|team.shelf|66|cannot write link.shelf: it is a link|put --unchecked --job 9 --edition 1 link.shelf 4711.1
+table left shelf <<end
+a lower one|20|has edition 2 of job 4711 already, and takes only a higher one, not 1|put --unchecked --job 4711 --edition 1 team.shelf 4711.1
+an edition that is not higher, with no room|20|has edition 2 of job 1 already|put --unchecked --job 1 --edition 2 full.shelf full
+no room|21|luossavin shelf put: full.shelf: 21 NoShelfRoom: a shelf has 65536 bytes|put --unchecked --job 2 --edition 1 full.shelf empty
+a byte too much|21|21 NoShelfRoom|put --unchecked --job 1 --edition 3 full.shelf over
+a file of 16 MiB|21|21 NoShelfRoom|put --unchecked --job 1 --edition 3 full.shelf long16
+find a job that it has not|22|luossavin shelf find: team.shelf: 22 NoCurrent: this shelf has no current edition of job 5|find --job 5 team.shelf out
+open a job that it has not|22|luossavin shelf open: team.shelf: 22 NoCurrent|open $* --job 5 team.shelf out
+another IV|4|4 InvalidTag: $sealed job 4711, edition 2, with key 7 and this IV|open --key key --number 7 --iv 0${iv#?} --job 4711 team.shelf out
+number 0|13|13 WrongNumber: the key's number is 1 to 65535, not 0|open --key key --number 0 --iv 00 --job 4711 team.shelf out
+a short IV|10|10 WrongIv: the IV has 1 byte, not 12 or 16|open --key key --iv 00 --job 4711 team.shelf out
+what is wrong with the shelf before the key|22|22 NoCurrent|open --key short --iv 00 --job 5 team.shelf out
+OUT is SHELF|66|the shelf is a file that the words name twice|find --job 4711 team.shelf ./team.shelf
+IN is SHELF|66|the shelf is a file that the words name twice|put --unchecked --job 4711 --edition 3 team.shelf team.shelf
+OUT holds the key|66|it holds the key|open --key keyfile --iv $iv --job 4711 team.shelf keyfile
+SHELF is a link|66|cannot write link.shelf: it is a link|put --unchecked --job 9 --edition 1 link.shelf 4711.1
 end
 same 'and still does' key keyfile
-left 'the edition that it has' team.shelf 20 'luossavin shelf put: team.shelf: 20 NotHigher: this shelf has edition 2 of job 4711 already, '\
+left 'the edition that it has' 20 'luossavin shelf put: team.shelf: 20 NotHigher: this shelf has edition 2 of job 4711 already, '\
 'and takes only a higher one, not 2' $put --job 4711 --edition 2 team.shelf 4711.2
-left 'the label of another job' team.shelf 4 "luossavin shelf open: team.shelf, edition 65535 of job 4294967295: 4 InvalidTag: "\
+left 'the label of another job' 4 "luossavin shelf open: team.shelf, edition 65535 of job 4294967295: 4 InvalidTag: "\
 "$sealed job 4294967295, edition 65535, with this key and IV" shelf open "$@" --job 4294967295 team.shelf out
-left 'a key of 15 bytes' team.shelf 1 'luossavin shelf open: team.shelf, edition 2 of job 4711: 1 ErrorBlockSize: the key file short has 15 bytes' \
+left 'a key of 15 bytes' 1 'luossavin shelf open: team.shelf, edition 2 of job 4711: 1 ErrorBlockSize: the key file short has 15 bytes' \
     shelf open --key short --number 0 --iv 00 --job 4711 team.shelf out
-left 'an empty file does not open' none.shelf 9 'luossavin shelf open: none.shelf, edition 0 of job 0: 9 ShortGcm: this file has 0 bytes' \
+left 'an empty file does not open' 9 'luossavin shelf open: none.shelf, edition 0 of job 0: 9 ShortGcm: this file has 0 bytes' \
     shelf open "$@" --job 0 none.shelf out
 try 'a file that is too long for a new shelf' 21 '21 NoShelfRoom' $put --job 1 --edition 1 new.shelf over
 holds 'makes none' [ ! -e new.shelf ]
@@ -114,7 +114,7 @@ try 'no folder' 66 'cannot write nowhere/new.shelf: No such file or directory' $
 damaged() { # NAME PLACE
     for command in 'put --unchecked --job 9 --edition 1 bad.shelf 4711.1' 'find --job 4711 bad.shelf out' \
         "open --key key --iv $iv --job 4711 bad.shelf out" 'collect bad.shelf' 'list bad.shelf'; do
-        left "$1: ${command%% *}" bad.shelf 19 "luossavin shelf ${command%% *}: bad.shelf: 19 BadShelf: this shelf breaks off at byte $2: " \
+        left "$1: ${command%% *}" 19 "luossavin shelf ${command%% *}: bad.shelf: 19 BadShelf: this shelf breaks off at byte $2: " \
             shelf $command
         silent
     done
@@ -133,13 +133,13 @@ damaged 'a length of 2^32 - 1' 0
 cp rough bad.shelf
 damaged 'no shelf' 0
 head -c 65537 /dev/zero >bad.shelf
-left 'a file that no shelf is as long as' bad.shelf 19 'bad.shelf: 19 BadShelf: this file has more than 65536 bytes' shelf list bad.shelf
-left 'put on it, a file with no room' bad.shelf 19 '19 BadShelf' $put --job 9 --edition 1 bad.shelf over
+left 'a file that no shelf is as long as' 19 'bad.shelf: 19 BadShelf: this file has more than 65536 bytes' shelf list bad.shelf
+left 'put on it, a file with no room' 19 '19 BadShelf' $put --job 9 --edition 1 bad.shelf over
 
 # wrong words
 try 'no word' 64 'luossavin shelf: expected put, find, open, verify, collect or list, not ""' shelf
 try 'another word' 64 'expected put, find, open, verify, collect or list, not "add"' shelf add team.shelf
-tries shelf <<end
+table try shelf <<end
 no job|64|luossavin shelf put: expected --job with a whole number from 0 to 4294967295, which is missing|put --unchecked --edition 1 team.shelf 4711.1
 no edition|64|luossavin shelf put: expected --edition with a whole number from 0 to 65535, which is missing|put --unchecked --job 1 team.shelf 4711.1
 no SHELF|64|luossavin shelf list: expected SHELF, the file that is the shelf, which is missing|list

@@ -128,7 +128,7 @@ try 'the key and IN' 64 "$expected --key and IN, not for both" which --key - --i
 answers 'the key alone' 0 '3.sealed opens under job 4711, edition 3' which --key - --iv $iv --candidates list 3.sealed <key
 
 # what is refused, and wrong words
-tries which <<end
+table try which <<end
 a key of 15 bytes|1|luossavin which: rough.sealed: 1 ErrorBlockSize: the key file short has 15 bytes|--key short --iv 00 --job 4711 --editions 1-2 rough.sealed
 a number out of range|13|luossavin which: rough.sealed: 13 WrongNumber|--key key --number 65536 --iv 00 --job 4711 --editions 1-2 rough.sealed
 an IV of 13 bytes|10|10 WrongIv: the IV has 13 bytes, not 12 or 16|--key key --iv ${iv12}73 --job 4711 --editions 1-2 fifteen

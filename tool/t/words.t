@@ -9,7 +9,7 @@ try 'help of what there is not' 64 "expected $commands, not \"nosuch\"" help nos
 silent 'shows nothing'
 try 'and so with --help' 64 'not "nosuch"' nosuch --help
 keys='--key, --number, --retired, --iv, --iv-file'
-tries <<end
+table try <<end
 no such command|64|expected $commands, not "sael"|sael
 it says what to type|64|For an example: $tool help|sael
 no such option|64|expected $keys, --job, --edition or --force, not "--forse"|seal --forse
@@ -66,7 +66,7 @@ make_editions 4711.1
 "$program" shelf put "$@" --edition 1 sound.shelf 4711.1
 (umask 077 && printf '2 %s\n' "$(cat key)" >two.keys)
 head -c 16777217 /dev/zero >huge
-tries <<end
+table try <<end
 4 says what to do next|4|; \`luossavin which\` says which edition it is|opens $* --edition 2 rough.sealed
 19|19|; take the shelf from a backup, or put the sealed files on a new one|shelf list rough
 20|20|; \`luossavin shelf list\` shows what it has|shelf put --unchecked --job 4711 --edition 1 sound.shelf 4711.1
