@@ -32,13 +32,6 @@ for word in x 1x 1.0 0x10 ' 1' ''; do
     try "length \"$word\"" 64 "expected LENGTH, a whole number, how many bytes the text has, not \"$word\"" plan --workers 65 "$word"
 done
 try 'workers -1' 64 'expected --workers with a whole number from 1 to 64, not "-1"' plan --workers=-1 100
-try 'no workers' 64 'expected --workers with a whole number from 1 to 64, which is missing' plan 100
-try 'no length' 64 'expected LENGTH, a whole number, how many bytes the text has, which is missing' plan --workers 4
-try 'two lengths' 64 'expected no further word, not "200"' plan --workers 4 100 200
-try '--workers twice' 64 'expected only once "--workers"' plan --workers 4 --workers 4 100
-for word in --key --number --retired --iv --job --offset --decrypt --force --mode --worker; do
-    try "plan takes no $word" 64 "expected --workers, not \"$word\"" plan $word
-done
 full 'an answer that cannot be written' plan --workers 4 100
 
 # a range
@@ -95,19 +88,8 @@ refused 'the key is missing' 66 'cannot read the key nowhere' range --key nowher
 expected='expected --offset with a whole number, the place in the text where IN begins,'
 for word in x 1x 1.0 0x10 ' 1' ''; do refused "offset \"$word\"" 64 "$expected not \"$word\"" range "$@" --offset "$word" one out; done
 try 'offset -1' 64 "$expected not \"-1\"" range "$@" --offset=-1 one out
-try 'no offset' 64 "$expected which is missing" range "$@" one out
-try 'no key' 64 'expected --key with a file' range --iv $iv --offset 0 one out
-try 'no IV' 64 'expected --iv with hex digits' range --key key --offset 0 one out
-try 'no IN' 64 'expected IN, a file to read' range "$@" --offset 0
-try 'no OUT' 64 'expected OUT, a file to write' range "$@" --offset 0 one
-try 'one word too many' 64 'expected no further word, not "third"' range "$@" --offset 0 one out third
-try '--offset twice' 64 'expected only once "--offset"' range "$@" --offset 0 --offset 0 one out
-try '--decrypt twice' 64 'expected only once "--decrypt"' range "$@" --decrypt --decrypt --offset 0 one out
 try 'the key and IN on standard input' 64 'expected standard input for one of --key and IN, not for both' \
     range --key - --iv $iv --offset 0 - out <key
-for word in --mode --job --edition --editions --candidates --workers --decrypt=1 --ofset; do
-    try "range takes no $word" 64 "expected --key, --number, --retired, --iv, --iv-file, --offset, --decrypt or --force, not \"$word\"" range $word 1
-done
 
 # Encrypts or decrypts a text by a plan for so many workers, four at a time, and puts the parts together.
 together() { # WORKERS TEXT OUT WORDS..

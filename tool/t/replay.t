@@ -129,22 +129,11 @@ a list that is missing|66|cannot read the keys nowhere: No such file or director
 a key that is missing|66|cannot read the key nowhere: No such file or directory|--key nowhere journal
 a journal that is missing|66|cannot read nowhere: No such file or directory|--keys keys nowhere
 a journal that is a folder|66|cannot read .: Is a directory|--keys keys .
-no keys|64|luossavin replay: $list|journal
-a number alone|64|$one|--number 7 journal
---keys at the end|64|$list|journal --keys
---key at the end|64|$one|journal --key
-no journal|64|expected IN, a file to read, or - for standard input, which is missing|--keys keys
-an OUT|64|expected no further word, not "out"|--keys keys journal out
 --keys and --key key|64|$both "--key"|--keys keys --key key journal
 --key key and --keys|64|$both "--keys"|--key key --keys keys journal
 --keys and --number 7|64|$both "--number"|--keys keys --number 7 journal
 --number 7 and --keys|64|$both "--keys"|--number 7 --keys keys journal
-a number that is none|64|expected --number with a whole number from 1 to 65535, not "x"|--key key --number x journal
---plain twice|64|expected only once "--plain"|--plain --plain --keys keys journal
 end
-for word in --retired --iv --job --candidates --force --plain=1 --mode; do
-    try "replay takes no $word" 64 "expected --keys, --key, --number, --plain or --json, not \"$word\"" replay $word 1
-done
 
 # A long journal has records of many sizes: with ctr the front of a text is encrypted to the front of what the whole is.
 awk -v plain="$(hex rough)" -v cipher="$(hex text.ctr)" -v iv=$iv 'BEGIN {

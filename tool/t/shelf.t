@@ -136,32 +136,6 @@ head -c 65537 /dev/zero >bad.shelf
 left 'a file that no shelf is as long as' 19 'bad.shelf: 19 BadShelf: this file has more than 65536 bytes' shelf list bad.shelf
 left 'put on it, a file with no room' 19 '19 BadShelf' $put --job 9 --edition 1 bad.shelf over
 
-# wrong words
-try 'no word' 64 'luossavin shelf: expected put, find, open, verify, collect or list, not ""' shelf
-try 'another word' 64 'expected put, find, open, verify, collect or list, not "add"' shelf add team.shelf
-table try shelf <<end
-no job|64|luossavin shelf put: expected --job with a whole number from 0 to 4294967295, which is missing|put --unchecked --edition 1 team.shelf 4711.1
-no edition|64|luossavin shelf put: expected --edition with a whole number from 0 to 65535, which is missing|put --unchecked --job 1 team.shelf 4711.1
-no SHELF|64|luossavin shelf list: expected SHELF, the file that is the shelf, which is missing|list
-no IN|64|expected IN, a file to read, or - for standard input, which is missing|put --unchecked --job 1 --edition 1 team.shelf
-no OUT|64|expected OUT, a file to write, or - for standard output, which is missing|open $* --job 4711 team.shelf
-no key|64|expected --key with a file of 16 raw bytes or 32 hex digits, which is missing|open --iv $iv --job 4711 team.shelf out
-no IV|64|expected --iv with hex digits, two to a byte, which is missing|open --key key --job 4711 team.shelf out
-one word too many|64|expected no further word, not "third"|find --job 1 team.shelf out third
-and for put|64|expected no further word, not "third"|put --unchecked --job 1 --edition 1 team.shelf 4711.1 third
-SHELF is standard input|64|expected SHELF, the file that is the shelf, not "-"|list -
-a job that is no number|64|expected --job with a whole number from 0 to 4294967295, not "x"|find --job x team.shelf
-an edition out of range|64|expected --edition with a whole number from 0 to 65535, not "65536"|put --unchecked --job 1 --edition 65536 team.shelf 4711.1
-an IV that is no hex|64|expected --iv with hex digits, two to a byte, not "xy"|open --key key --iv xy --job 4711 team.shelf out
---job twice|64|expected only once "--job"|find --job 1 --job 1 team.shelf
-list takes no --key|64|expected --json, not "--key"|list --key 1
-list takes no --edition|64|expected --json, not "--edition"|list --edition 1
-list takes no --force|64|expected --json, not "--force"|list --force 1
-find takes no --key|64|expected --job, --json or --force, not "--key"|find --key key
-open takes no --edition|64|expected --job, --key, --number, --retired, --iv or --iv-file, not "--edition"|open --edition 1
-end
-try 'put takes no --force' 64 'expected --key, --number, --retired, --iv, --iv-file, --job, --edition, --unchecked, --reference or --wait, '\
-'not "--force"' $put --force
 full 'a table to a full device' shelf list team.shelf
 full 'an answer to a full device' shelf find --job 4711 team.shelf
 done_testing

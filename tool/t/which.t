@@ -134,15 +134,6 @@ a number out of range|13|luossavin which: rough.sealed: 13 WrongNumber|--key key
 an IV of 13 bytes|10|10 WrongIv: the IV has 13 bytes, not 12 or 16|--key key --iv ${iv12}73 --job 4711 --editions 1-2 fifteen
 before the key is read|16|16 BadList|--key nowhere --iv 00 --job 1 --editions 1-65 nowhere
 a job out of range|64|expected --job with a whole number from 0 to 4294967295, not "4294967296"|$* --job 4294967296 --editions 1-2 rough.sealed
-no key|64|expected --key with a file|--iv $iv --job 4711 --editions 1-2 rough.sealed
-no IV|64|expected --iv with hex digits|--key key --job 4711 --editions 1-2 rough.sealed
-no job|64|expected --job with a whole number from 0 to 4294967295, which is missing|$* --editions 1-2 rough.sealed
-no IN and candidates|64|expected IN, a file to read|$* --candidates list
-no key and candidates|64|expected --key with a file|--candidates list rough.sealed
---candidates at the end|64|expected --candidates with a file that has a job and an edition to a line, which is missing|$* rough.sealed --candidates
---editions and an option|64|or one number, not "--job"|--editions --job 4711
---editions twice|64|expected only once "--editions"|--editions 1 --editions 2
---candidates twice|64|expected only once "--candidates"|--candidates list --candidates list
 end
 for label in '--job 4711' '--editions 1-2' '--edition 1' '--job=4711 --editions=1-2'; do
     both='expected --candidates, or --job and --editions, not both:'
@@ -160,14 +151,7 @@ for range in 3-1 1- x 1-x x-1 1-2-3 1..3 '1 - 3' '1-3 ' 65536 1-65536 9999999999
     try "editions \"$range\"" 64 "$expected not \"$range\"" which "$@" --editions "$range" rough.sealed
 done
 try 'editions -3' 64 'or one number, not "-3"' which "$@" --editions=-3 rough.sealed
-try 'no editions' 64 "$expected which is missing" which "$@" --edition 1 rough.sealed
 try 'an edition out of range' 64 'expected --edition with a whole number from 0 to 65535, not "65536"' \
     which "$@" --editions 1-2 --edition 65536 rough.sealed
-try 'no IN' 64 'expected IN, a file to read' which "$@" --editions 1-2
-try 'an OUT' 64 'expected no further word, not "out"' which "$@" --editions 1-2 rough.sealed out
 try 'a file that is missing' 66 'cannot read nowhere: No such file or directory' which "$@" --editions 1-2 nowhere
-for word in --force --mode --forse; do
-    try "which takes no $word" 64 'expected --key, --number, --retired, --iv, --iv-file, --job, --editions, --edition, --candidates or --json, '"\
-not \"$word\"" which $word
-done
 done_testing

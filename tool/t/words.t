@@ -7,36 +7,21 @@ commands='seal, open, opens, which, encrypt, decrypt, plan, range, shelf, replay
 try 'no words' 64 "$tool seal    --key FILE"
 try 'help of what there is not' 64 "expected $commands, not \"nosuch\"" help nosuch
 silent 'shows nothing'
-try 'and so with --help' 64 'not "nosuch"' nosuch --help
-keys='--key, --number, --retired, --iv, --iv-file'
 table try <<end
+and so with --help|64|not "nosuch"|nosuch --help
 no such command|64|expected $commands, not "sael"|sael
 it says what to type|64|For an example: $tool help|sael
-no such option|64|expected $keys, --job, --edition or --force, not "--forse"|seal --forse
-an option of another command|64|expected $keys, --job, --edition or --force, not "--mode"|seal --mode cbc
---force where text is written|64|expected $keys, --job or --edition, not "--force"|open --force
---force with a value|64|expected --mode, $keys or --force, not "--force=1"|encrypt --force=1
-and --retired|64|expected --mode, --key, --number, --retired, --iv or --iv-file, not "--retired=1"|decrypt --retired=1
-and the other way round|64|expected --mode, --key, --number, --retired, --iv or --iv-file, not "--job"|decrypt --job 1
-an option twice|64|expected only once "--iv"|seal --iv $iv --iv $iv
---number twice|64|expected only once "--number"|open --number 1 --number 1
---retired twice|64|expected only once "--retired"|open --retired --retired
-an option with no value|64|expected --job with a whole number from 0 to 4294967295, not "--edition"|seal --job --edition 1
-an option at the end|64|expected --edition with a whole number from 0 to 65535, which is missing|seal $* rough out --edition
-also one that may be left out|64|expected --number with a whole number from 1 to 65535, which is missing|opens $* --edition 1 rough.sealed --number
-no key|64|expected --key with a file|seal --iv $iv --job 1 --edition 1 rough out
-no IV|64|expected --iv with hex digits|seal --key key --job 1 --edition 1 rough out
-no job|64|expected --job with|seal --key key --iv $iv --edition 1 rough out
-no edition|64|expected --edition with|seal $* rough out
-no mode|64|expected --mode with cfb, ofb, ctr or cbc|encrypt --key key --iv $iv rough out
-no IN|64|expected IN, a file to read|seal $* --edition 1
-no OUT|64|expected OUT, a file to write|seal $* --edition 1 rough
-one word too many|64|expected no further word, not "third"|seal $* --edition 1 rough out third
-an OUT for opens|64|expected no further word, not "out"|opens $* --edition 1 rough.sealed out
-edition 65536|64|expected --edition with a whole number from 0 to 65535, not "65536"|opens $* --edition 65536 rough.sealed
-an IV that is no hex|64|expected --iv with hex digits, two to a byte, not "4g"|opens --key key --iv 4g --job 1 --edition 1 rough.sealed
-an IV with half a byte|64|not "4c7"|opens --key key --iv 4c7 --job 1 --edition 1 rough.sealed
+no word behind shelf|64|luossavin shelf: expected put, find, open, verify, collect or list, not ""|shelf
+another word|64|expected put, find, open, verify, collect or list, not "add"|shelf add team.shelf
+SHELF is standard input|64|expected SHELF, the file that is the shelf, not "-"|shelf list -
 demo takes no word|64|expected no further word|demo now
+edition 65536|64|expected --edition with a whole number from 0 to 65535, not "65536"|opens $* --edition 65536 rough.sealed
+an edition out of range|64|expected --edition with a whole number from 0 to 65535, not "65536"|shelf put --unchecked --job 1 --edition 65536 a.shelf rough
+a job that is no number|64|expected --job with a whole number from 0 to 4294967295, not "x"|shelf find --job x a.shelf
+an IV that is no hex|64|expected --iv with hex digits, two to a byte, not "4g"|opens --key key --iv 4g --job 1 --edition 1 rough.sealed
+an IV that is no hex|64|expected --iv with hex digits, two to a byte, not "xy"|shelf open --key key --iv xy --job 4711 a.shelf out
+an IV with half a byte|64|not "4c7"|opens --key key --iv 4c7 --job 1 --edition 1 rough.sealed
+a number that is none|64|expected --number with a whole number from 1 to 65535, not "x"|replay --key key --number x journal
 a mode that there is not|64|expected --mode with cfb, ofb, ctr or cbc, not "gcm"|encrypt --mode gcm --key key --iv $iv rough out
 end
 silent 'wrong words write nothing to standard output'
@@ -48,18 +33,85 @@ for number in 12x -1 0x10 ' 1' 1.0 '' 99999999999999999999999x; do
     try "number \"$number\"" 64 "expected --number with a whole number from 1 to 65535, not \"$number\"" \
         opens "$@" --number "$number" --edition 1 rough.sealed
 done
-while IFS='|' read -r commands words; do
-    for command in $commands; do
-        for word in $words; do try "$command takes no $word" 64 ", not \"$word\"" $command $word 1; done
+
+# What a word of a command must be, and such a word. An option of no kind has no value.
+kind() { # WORD
+    value=1
+    case $1 in
+    --key) kind='a file of 16 raw bytes or 32 hex digits' value=key ;;
+    --number) kind='a whole number from 1 to 65535' ;;
+    --iv) kind='hex digits, two to a byte' value=$iv ;;
+    --iv-file) kind='a file of hex digits, two to a byte' ;;
+    --job) kind='a whole number from 0 to 4294967295' ;;
+    --edition) kind='a whole number from 0 to 65535' ;;
+    --editions) kind='a range as 1-3, of whole numbers from 0 to 65535, or one number' ;;
+    --candidates) kind='a file that has a job and an edition to a line' ;;
+    --mode) kind='cfb, ofb, ctr or cbc' value=ctr ;;
+    --offset) kind='a whole number, the place in the text where IN begins' ;;
+    --workers) kind='a whole number from 1 to 64' ;;
+    --keys) kind="a file that has a key's number and the key to a line" ;;
+    --ivs) kind='a file that has a job, an edition and an IV to a line' ;;
+    --wait) kind='a whole number of seconds' ;;
+    IN) kind='a file to read, or - for standard input' ;;
+    OUT) kind='a file to write, or - for standard output' ;;
+    SHELF) kind='the file that is the shelf' ;;
+    LENGTH) kind='a whole number, how many bytes the text has' ;;
+    *) kind='' value='' ;;
+    esac
+}
+options='--key --number --retired --iv --iv-file --job --edition --editions --candidates --mode --offset --decrypt --workers --keys --plain'
+options="$options --ivs --unchecked --reference --wait --json --force --forse"
+# The table has each command, the options that it takes and those that it needs, and its files. An option comes twice, at the end, before
+# another one, and with or without a value as it should not; what is needed is left out; a word is too many.
+while IFS='|' read -r command takes needs files; do
+    list=$(echo "$takes" | sed 's/ /, /g; s/\(.*\), /\1 or /')
+    for option in $options; do
+        kind $option
+        case " $takes " in
+        *" $option "*) try "$command: $option twice" 64 "expected only once \"$option\"" $command $option $value $option $value ;;
+        *) try "$command takes no $option" 64 "luossavin $command: expected $list, not \"$option\"" $command $option 1 && continue ;;
+        esac
+        if [ -n "$kind" ]; then
+            try "$command: $option at the end" 64 "expected $option with $kind, which is missing" $command $option
+            try "$command: $option and an option" 64 "expected $option with $kind, not \"--iv=1\"" $command $option --iv=1
+        else
+            try "$command: $option with a value" 64 "expected $list, not \"$option=1\"" $command $option=1
+        fi
     done
+    for missing in $needs $files; do
+        line=''
+        for word in $needs $files; do
+            [ $word != $missing ] || case $word in -*) continue ;; *) break ;; esac
+            kind $word
+            case $word in -*) line="$line $word $value" ;; *) line="$line $value" ;; esac
+        done
+        kind $missing
+        case $missing in -*) with=' with' ;; *) with=, ;; esac
+        try "$command: no $missing" 64 "luossavin $command: expected $missing$with $kind, which is missing" $command $line
+    done
+    try "$command: one word too many" 64 'expected no further word, not "third"' $command $line $value third third
 done <<end
-seal open opens encrypt decrypt|--editions --candidates --workers --offset --decrypt --keys --plain
-which|--workers --offset --decrypt --keys --plain
-range|--keys --plain
+seal|--key --number --retired --iv --iv-file --job --edition --force|--key --iv --job --edition|IN OUT
+open|--key --number --retired --iv --iv-file --job --edition|--key --iv --job --edition|IN OUT
+opens|--key --number --retired --iv --iv-file --job --edition --json|--key --iv --job --edition|IN
+which|--key --number --retired --iv --iv-file --job --editions --edition --candidates --json|--key --iv --job --editions|IN
+encrypt|--mode --key --number --retired --iv --iv-file --force|--mode --key --iv|IN OUT
+decrypt|--mode --key --number --retired --iv --iv-file|--mode --key --iv|IN OUT
+plan|--workers|--workers|LENGTH
+range|--key --number --retired --iv --iv-file --offset --decrypt --force|--key --iv --offset|IN OUT
+shelf put|--key --number --retired --iv --iv-file --job --edition --unchecked --reference --wait|--job --edition|SHELF IN
+shelf find|--job --json --force|--job|SHELF
+shelf open|--job --key --number --retired --iv --iv-file|--key --iv --job|SHELF OUT
+shelf verify|--key --number --retired --ivs|--key --ivs|SHELF
+shelf collect|--wait||SHELF
+shelf list|--json||SHELF
+replay|--keys --key --number --plain --json|--keys|IN
 end
-for command in put open; do
-    for word in --keys --plain; do try "shelf $command takes no $word" 64 ", not \"$word\"" shelf $command $word 1; done
-done
+table try <<end
+which: no key, with candidates|64|expected --key with a file|which --candidates list rough.sealed
+which: no IN, with candidates|64|expected IN, a file to read|which --key key --iv $iv --candidates list
+replay: a number alone|64|expected --key with a file of 16 raw bytes or 32 hex digits, which is missing|replay --number 7 journal
+end
 
 # what to do next
 make_editions 4711.1
