@@ -71,14 +71,12 @@ pieces() { # FILE PLACE..
 }
 # Waits until a command holds, for ten seconds at most.
 await() { # COMMAND..
-    _turns=0
-    until "$@"; do
-        _turns=$((_turns + 1))
-        [ $_turns -lt 100 ] || return 1
+    for _ in $(seq 100); do
+        ! "$@" || return 0
         sleep 0.1
     done
+    return 1
 }
-
 is_running() { [ "$(readlink "/proc/$1/exe")" = "$program" ]; } # PROCESS
 # root may read and write anything: what must not be is tried as nobody
 drop=''
@@ -114,19 +112,12 @@ table() { # CHECK WORDS.. <NAME|STATUS|TEXT|WORDS
     # shellcheck disable=SC2086 # the words of a line
     while IFS='|' read -r _name _status _text _words; do $_check "$_name" "$_status" "$_text" "$@" $_words; done
 }
-# Runs the tool, and holds all that it writes on standard output to what is expected of it.
+# Runs the tool, which says nothing on standard error, and holds all that it writes on standard output to what is expected of it.
 answers() { # NAME STATUS ANSWER WORDS..
     _about=$1 _wanted=$2 _lines=$3
     shift 3
     "$program" "$@" >"$wrote" 2>"$said"
-    answered "$_about" $? "$_wanted" "$_lines"
-}
-answered() { # NAME STATUS WANTED ANSWER
-    if [ "$2" = "$3" ] && [ ! -s "$said" ] && [ "$(cat "$wrote")" != "$4" ]; then
-        miss "$1" "it did not answer: $4" "$wrote"
-    else
-        judge "$1" "$2" "$3" ''
-    fi
+    holds "$_about" [ "$? $(cat "$wrote" "$said")" = "$_wanted $_lines" ]
 }
 # Two checks: the tool says nothing, and then OUT, its last word, is the same as a file.
 gives() { # NAME THEN FILE WORDS..
@@ -212,11 +203,5 @@ replay() { # NAME STATUS LINES WORDS..
     "$program" replay --plain "$@" >"$wrote" 2>"$said"
     status=$?
     _shown=$(grep -v ' 0$' "$wrote" | tr '\n' ' ')
-    if [ $status != "$_wanted" ]; then
-        miss "$_about" "status $status, not $_wanted" "$said"
-    elif [ "$_shown" != "$_lines${_lines:+ }" ]; then
-        miss "$_about" "it did not answer: $_lines" "$wrote"
-    else
-        result ok "$_about"
-    fi
+    holds "$_about" [ "$status $_shown" = "$_wanted $_lines${_lines:+ }" ]
 }

@@ -10,8 +10,7 @@ object() { # NAME STATUS OBJECT WORDS..
     about=$1 wanted=$2 line=$3
     shift 3
     "$program" "$@" --json >"$wrote" 2>"$said"
-    status=$?
-    if [ $status -eq "$wanted" ] && [ "$(cat "$wrote")" = "$line" ]; then result ok "$about"; else miss "$about" "status $status, or not: $line" "$wrote"; fi
+    holds "$about" [ "$? $(cat "$wrote")" = "$wanted $line" ]
     holds 'which is JSON' is_json
 }
 # The same of the sample, of which only the end is given.

@@ -79,7 +79,7 @@ launch 'what is built needs no cargo' 0 '' PATH="$room/none"
 # what it says of itself
 says() { # NAME LINE
     PATH=$room/bin:$PATH "$other/luossavin" --version >"$wrote" 2>"$said"
-    if grep -qxF -e "$2" "$wrote"; then result ok "$1"; else miss "$1" "it did not say: $2" "$wrote"; fi
+    holds "$1" grep -qxF -e "$2" "$wrote"
 }
 commit() { (cd "$other" && git add -A && git -c user.name=nobody -c user.email=nobody commit -q -m all); }
 says 'its version' "luossavin $(cat "$here/VERSION")"

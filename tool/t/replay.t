@@ -107,11 +107,9 @@ for line in 7 '7 ' "$a" "7  $a" "7 $a " "7 ${a%?}g" "7 ${a%?}" "x $a" "-7 $a" "7
         replay --keys lines journal
     holds 'which is not shown' not grep -q 0123456789abcdef "$said"
 done
-printf '7 0123\n' >lines
-try 'a key of 2 bytes' 1 'luossavin replay: lines, line 1: 1 ErrorBlockSize: this key has 4 hex digits, and neither 16 raw bytes nor 32 hex digits' \
-    replay --keys lines journal
-printf '0 01\n' >lines
-try 'and number 0' 1 'this key has 2 hex digits' replay --keys lines journal
+echo '7 0123' | try 'a key of 2 bytes' 1 'luossavin replay: standard input, line 1: 1 ErrorBlockSize: this key has 4 hex digits, '\
+'and neither 16 raw bytes nor 32 hex digits' replay --keys - journal
+echo '0 01' | try 'and number 0' 1 'this key has 2 hex digits' replay --keys - journal
 for number in 0 65536 4294967295 99999999999999999999; do
     printf '1 %s\n%s %s\n' $b $number $b >lines
     try "number $number" 13 "luossavin replay: lines, line 2: 13 WrongNumber: a key's number is 1 to 65535, not " replay --keys lines journal
@@ -120,8 +118,6 @@ for number in 0 65536 4294967295 99999999999999999999; do
 done
 try 'the keys and the journal on standard input' 64 'expected standard input for one of --keys and IN, not for both' replay --keys - - <journal
 try 'the key and the journal' 64 'expected standard input for one of --key and IN, not for both' replay --key - - <journal
-list="expected --keys with a file that has a key's number and the key to a line, which is missing"
-one='expected --key with a file of 16 raw bytes or 32 hex digits, which is missing'
 both='expected --keys, or --key and --number, not both:'
 table try replay <<end
 one key of 15 bytes|1|luossavin replay: journal: 1 ErrorBlockSize: the key file short has 15 bytes|--key short --number 0 journal

@@ -67,8 +67,7 @@ try 'one that drops two says both' 0 "luossavin shelf put: half.shelf: dropped e
 holds 'the other too' grep -qxF "luossavin shelf put: half.shelf: dropped edition 1 of job 6, $dropped" "$said"
 
 # what is refused leaves every file as it was
-head -c 65525 /dev/zero >over
-head -c 16777232 /dev/zero >long16
+for n in 65525 16777232; do head -c $n /dev/zero >zeros.$n; done
 cp key keyfile
 ln -s team.shelf link.shelf
 sealed='this file was not sealed under'
@@ -76,8 +75,8 @@ table left shelf <<end
 a lower one|20|has edition 2 of job 4711 already, and takes only a higher one, not 1|put --unchecked --job 4711 --edition 1 team.shelf 4711.1
 an edition that is not higher, with no room|20|has edition 2 of job 1 already|put --unchecked --job 1 --edition 2 full.shelf full
 no room|21|luossavin shelf put: full.shelf: 21 NoShelfRoom: a shelf has 65536 bytes|put --unchecked --job 2 --edition 1 full.shelf empty
-a byte too much|21|21 NoShelfRoom|put --unchecked --job 1 --edition 3 full.shelf over
-a file of 16 MiB|21|21 NoShelfRoom|put --unchecked --job 1 --edition 3 full.shelf long16
+a byte too much|21|21 NoShelfRoom|put --unchecked --job 1 --edition 3 full.shelf zeros.65525
+a file of 16 MiB|21|21 NoShelfRoom|put --unchecked --job 1 --edition 3 full.shelf zeros.16777232
 find a job that it has not|22|luossavin shelf find: team.shelf: 22 NoCurrent: this shelf has no current edition of job 5|find --job 5 team.shelf out
 open a job that it has not|22|luossavin shelf open: team.shelf: 22 NoCurrent|open $* --job 5 team.shelf out
 another IV|4|4 InvalidTag: $sealed job 4711, edition 2, with key 7 and this IV|open --key key --number 7 --iv 0${iv#?} --job 4711 team.shelf out
@@ -98,7 +97,7 @@ left 'a key of 15 bytes' 1 'luossavin shelf open: team.shelf, edition 2 of job 4
     shelf open --key short --number 0 --iv 00 --job 4711 team.shelf out
 left 'an empty file does not open' 9 'luossavin shelf open: none.shelf, edition 0 of job 0: 9 ShortGcm: this file has 0 bytes' \
     shelf open "$@" --job 0 none.shelf out
-try 'a file that is too long for a new shelf' 21 '21 NoShelfRoom' $put --job 1 --edition 1 new.shelf over
+try 'a file that is too long for a new shelf' 21 '21 NoShelfRoom' $put --job 1 --edition 1 new.shelf zeros.65525
 holds 'makes none' [ ! -e new.shelf ]
 try 'SHELF is a device' 66 'cannot write /dev/null: expected a file' $put --job 9 --edition 1 /dev/null 4711.1
 try 'IN is missing' 66 'cannot read nowhere: No such file or directory' $put --job 9 --edition 1 new.shelf nowhere
@@ -111,7 +110,8 @@ holds 'none is made' [ ! -e new.shelf ]
 try 'no folder' 66 'cannot write nowhere/new.shelf: No such file or directory' $put --job 1 --edition 1 nowhere/new.shelf 4711.1
 
 # a damaged shelf: the place where it breaks off
-damaged() { # NAME PLACE
+damaged() { # NAME PLACE <SHELF
+    cat >bad.shelf
     for command in 'put --unchecked --job 9 --edition 1 bad.shelf 4711.1' 'find --job 4711 bad.shelf out' \
         "open --key key --iv $iv --job 4711 bad.shelf out" 'collect bad.shelf' 'list bad.shelf'; do
         left "$1: ${command%% *}" 19 "luossavin shelf ${command%% *}: bad.shelf: 19 BadShelf: this shelf breaks off at byte $2: " \
@@ -120,22 +120,15 @@ damaged() { # NAME PLACE
     done
 }
 step=$((size + 12))
-head -c $((3 * step - 1)) team.shelf >bad.shelf
-damaged 'the last byte is gone' $((2 * step))
-cat team.shelf raw >bad.shelf
-damaged 'something is behind it' $((3 * step))
-{ head -c $((step + 1)) team.shelf && printf E && tail -c +$((step + 3)) team.shelf; } >bad.shelf
-damaged 'another mark' $step
-{ cat team.shelf && stretch team.shelf $step $step; } >bad.shelf
-damaged 'two current editions of a job' $((3 * step))
-{ printf 'RD\0\0\0\1\0\1\377\377\377\377' && cat 4711.1; } >bad.shelf
-damaged 'a length of 2^32 - 1' 0
-cp rough bad.shelf
-damaged 'no shelf' 0
+head -c $((3 * step - 1)) team.shelf | damaged 'the last byte is gone' $((2 * step))
+cat team.shelf raw | damaged 'something is behind it' $((3 * step))
+{ head -c $((step + 1)) team.shelf && printf E && tail -c +$((step + 3)) team.shelf; } | damaged 'another mark' $step
+{ cat team.shelf && stretch team.shelf $step $step; } | damaged 'two current editions of a job' $((3 * step))
+{ printf 'RD\0\0\0\1\0\1\377\377\377\377' && cat 4711.1; } | damaged 'a length of 2^32 - 1' 0
+damaged 'no shelf' 0 <rough
 head -c 65537 /dev/zero >bad.shelf
 left 'a file that no shelf is as long as' 19 'bad.shelf: 19 BadShelf: this file has more than 65536 bytes' shelf list bad.shelf
-left 'put on it, a file with no room' 19 '19 BadShelf' $put --job 9 --edition 1 bad.shelf over
-
+left 'put on it, a file with no room' 19 '19 BadShelf' $put --job 9 --edition 1 bad.shelf zeros.65525
 full 'a table to a full device' shelf list team.shelf
 full 'an answer to a full device' shelf find --job 4711 team.shelf
 done_testing
