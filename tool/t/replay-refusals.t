@@ -45,8 +45,8 @@ bad 'a length of 2^32 - 1, and no more' 23 <part
 replay 'the longest record that there is, and an unknown key' 25 \
     'records 1 mode-ctr 1 answer-10 1 bytes-in 16384 different-record 1 refusal 25 refused-record 2 refused-byte 65579' --keys keys journal
 { { echo "$seals" && entry 0 4 7 $label $text $rfc 80 0 '' && echo "$opens"; } | unhex && printf T; } >journal
-replay 'a record that differs, and then a refusal' 23 "records 3 mode-gcm 3 answer-0 3 bytes-in 208 bytes-out 224 different-record 2 "\
-"different-byte $size refusal 23 refused-record 4 refused-byte $((3 * size - 80))" --keys keys journal
+replay 'a record that differs, and then a refusal' 23 "records 3 mode-gcm 3 answer-0 3 bytes-in 208 bytes-out 224 different-record 2 \
+different-byte $size refusal 23 refused-record 4 refused-byte $((3 * size - 80))" --keys keys journal
 try 'the table tells the first of them' 23 '23 BadRecord: record 4, which' replay --keys keys journal
 holds 'as ever' grep -qF "record 2, at byte $size, is the first that differs" "$wrote"
 done_testing

@@ -148,13 +148,13 @@ holds 'and says the same' grep -qxF "bytes-out $total" "$wrote"
 # the window's end comes to stand at other places of the records
 for shift in 1 2 3 5 8 13 21 34 55 89 144 233 377 610 987 1597; do
     { entry 0 9 7 '' "$(printf "%0$((2 * shift))d" 0)" '' 0 7 '' | unhex && cat journal; } >shifted
-    replay "moved by $((27 + shift)) bytes" 0 "records $((n + 1)) mode-ctr $n mode-unknown 1 answer-0 $n answer-7 1 "\
-"bytes-in $((total + shift)) bytes-out $total" --keys keys shifted
+    replay "moved by $((27 + shift)) bytes" 0 "records $((n + 1)) mode-ctr $n mode-unknown 1 answer-0 $n answer-7 1 \
+bytes-in $((total + shift)) bytes-out $total" --keys keys shifted
 done
 { cat journal && entry 0 2 7 '' 00 $iv 1 0 ff | unhex && cat journal; } >shifted
 k=$((2 * n + 1)) two=$((2 * total + 1))
-replay 'one that differs in its middle' 67 "records $k mode-ctr $k answer-0 $k bytes-in $two bytes-out $two "\
-"different-record $((n + 1)) different-byte $m" --keys keys shifted
+replay 'one that differs in its middle' 67 "records $k mode-ctr $k answer-0 $k bytes-in $two bytes-out $two \
+different-record $((n + 1)) different-byte $m" --keys keys shifted
 { cat journal && printf T; } >shifted
 replay 'a byte behind it' 23 "$whole refusal 23 refused-record $((n + 1)) refused-byte $m" --keys keys shifted
 tells 'as a table' 'with commas in its numbers' "         $(echo $total | sed 's/...$/,&/')  bytes in" replay --keys keys journal

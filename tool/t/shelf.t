@@ -91,8 +91,8 @@ end
 same 'and still does' key keyfile
 left 'the edition that it has' 20 'luossavin shelf put: team.shelf: 20 NotHigher: this shelf has edition 2 of job 4711 already, '\
 'and takes only a higher one, not 2' $put --job 4711 --edition 2 team.shelf 4711.2
-left 'the label of another job' 4 "luossavin shelf open: team.shelf, edition 65535 of job 4294967295: 4 InvalidTag: "\
-"$sealed job 4294967295, edition 65535, with this key and IV" shelf open "$@" --job 4294967295 team.shelf out
+left 'the label of another job' 4 "luossavin shelf open: team.shelf, edition 65535 of job 4294967295: 4 InvalidTag: \
+$sealed job 4294967295, edition 65535, with this key and IV" shelf open "$@" --job 4294967295 team.shelf out
 left 'a key of 15 bytes' 1 'luossavin shelf open: team.shelf, edition 2 of job 4711: 1 ErrorBlockSize: the key file short has 15 bytes' \
     shelf open --key short --number 0 --iv 00 --job 4711 team.shelf out
 left 'an empty file does not open' 9 'luossavin shelf open: none.shelf, edition 0 of job 0: 9 ShortGcm: this file has 0 bytes' \

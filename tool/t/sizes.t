@@ -1,5 +1,6 @@
 #!/bin/sh
 # The longest text, one byte more, and how much time and memory it takes.
+# shellcheck disable=SC3045 # dash has ulimit -v
 . "$(dirname "$0")/common.sh"
 
 # some 3 ms each on a processor of 2020, most of it the library's; as a script with twelve processes it was 12 to 60

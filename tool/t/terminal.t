@@ -39,7 +39,7 @@ for _ in 1 2 3 4 5 6 7 8 9; do
     status=$?
     ! grep -q '% of ' "$said" || break
 done
-judge 'and how much of a file' $status 0 '% of '
+judge 'and how much of a file' "$status" 0 '% of '
 
 # what is no text
 expected='expected OUT that is no terminal, since what is written is no text, or --force'
