@@ -7,6 +7,8 @@
 set -u
 unset CDPATH
 umask 022
+# no test runs longer than this, whatever becomes of the tool; what it has started ends with it
+[ -n "${LUOSSAVIN_LIMIT-}" ] || exec env LUOSSAVIN_LIMIT=300 timeout 300 sh "$0"
 here=$(cd "$(dirname "$0")/../.." && pwd -P) || exit 1
 tool=$here/luossavin
 program=$here/target/cargo/release/luossavin
@@ -21,7 +23,7 @@ wrote=$room/log/wrote said=$room/log/said held=$room/log/held stray=$room/log/st
 # what a test says on standard error is its own mistake: the last check looks for it
 exec </dev/null 6>&2 2>"$stray"
 trap 'cat "$stray" >&6; chmod -R u+w "$room"; rm -rf "$room"' EXIT
-trap 'exit 1' HUP INT TERM
+trap 'exit 1' HUP INT PIPE TERM
 
 # The number of checks is in a file, so that those in a pipe or a subshell count.
 echo 0 >"$room/log/count"

@@ -85,7 +85,7 @@ cp rough.sealed changing
 await is_running $!
 sleep 0.5
 cp changed changing
-cat pipe >out
+timeout 20 cat pipe >out
 wait $!
 judge 'IN is changed while the text waits for its reader' $? 0 ''
 same 'the text is that of the tag' rough out
