@@ -1,5 +1,5 @@
 #!/bin/sh
-# Files that cannot be read or written, and whose they are; descriptors; a disk that is full, and runs that are killed.
+# Files that cannot be read or written, and whose they are; descriptors; a disk that is full.
 # shellcheck disable=SC2086 # drop is some words, or none
 . "$(dirname "$0")/common.sh"
 make_editions 4711.1 4711.2 4713.1
@@ -115,19 +115,6 @@ head -c 200000 /dev/zero >large
 (trap '' XFSZ && ulimit -f 100 && refused 'no room for OUT' 66 'cannot write out: File too large' seal --key key "$@" large out)
 nothing_beside
 (ulimit -f 100 && refused 'a limit on files is no signal' 66 'cannot write out: File too large' seal --key key "$@" large out)
-mkfifo idle
-for signal in TERM INT HUP; do
-    # a shell has what it runs in the background ignore INT
-    env --default-signal=INT "$program" seal --key key "$@" - out <>idle >"$wrote" 2>"$said" &
-    await is_running $!
-    kill -$signal $!
-    wait $! 2>/dev/null
-    status=$?
-    case $signal in HUP) expected=129 ;; INT) expected=130 ;; *) expected=143 ;; esac
-    judge "killed by $signal while it reads" $status $expected ''
-    same 'OUT is as it was' kept out
-    nothing_beside
-done
 
 # what a run asks of the system: each file is opened once, and OUT and its folder are synced
 if command -v strace >/dev/null && strace -o /dev/null true 2>/dev/null; then

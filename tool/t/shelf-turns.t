@@ -6,13 +6,10 @@ set -- --key key --iv $iv
 make_editions 4711.1 4713.1
 put='shelf put --unchecked'
 
-turn=1
-while [ $turn -le 10 ]; do
-    "$program" $put --job 1 --edition $turn shelf 4711.1 &
-    first=$!
-    "$program" $put --job 2 --edition $turn shelf 4711.1 || : >failed
-    wait $first || : >failed
-    turn=$((turn + 1))
+for edition in $(seq 10); do
+    "$program" $put --job 1 --edition $edition shelf 4711.1 &
+    "$program" $put --job 2 --edition $edition shelf 4711.1 || : >failed
+    wait $! || : >failed
 done
 holds 'both are done, ten times over' [ ! -e failed ]
 try 'all of it is there' 0 '' shelf list shelf
@@ -29,15 +26,12 @@ let_go() { kill $holder && wait $holder 2>/dev/null; }
 lock() { hold sh -c 'exec 7>>shelf.lock && flock 7 && exec sleep "$1"' sh "$1" && await locked; } # SECONDS
 locked() { [ -e shelf.lock ] && ! flock -n shelf.lock true; }
 lock 60
-"$program" shelf collect shelf >"$wrote" 2>"$said" &
+"$program" shelf collect shelf 2>waiting &
 second=$!
 sleep 0.5
 holds 'the second waits' kill -0 $second
 let_go
-wait $second
-status=$?
-: >"$said"
-judge 'until the first is gone' $status 0 ''
+holds 'until the first is gone' wait $second
 try 'and then collects' 0 '' shelf list shelf
 holds 'two are left' [ "$(grep -c current "$wrote")" -eq 2 ]
 holds 'and no lock' [ ! -e shelf.lock ]
