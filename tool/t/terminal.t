@@ -28,7 +28,7 @@ typed 'a short run shows nothing' 0 '' "./luossavin seal $* --edition 1 rough ou
 for _ in 1 2 3 4 5 6 7 8 9 10; do cat journal; done >long
 cat >stopped <<end
 ./luossavin replay --keys keys long &
-until [ "\$(readlink /proc/\$!/exe)" = '$program' ]; do :; done
+until [ "\$(readlink /proc/\$!/exe)" = '$program' ] || ! kill -0 \$!; do :; done
 kill -STOP \$!
 sleep 1.2
 kill -CONT \$!
