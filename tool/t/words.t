@@ -60,7 +60,7 @@ kind() { # WORD
     esac
 }
 options='--key --number --retired --iv --iv-file --job --edition --editions --candidates --mode --offset --decrypt --workers --keys --plain'
-options="$options --ivs --unchecked --reference --wait --json --force --forse"
+options="$options --ivs --unchecked --reference --wait --json --force --forse --worker --ofset"
 # The table has each command, the options that it takes and those that it needs, and its files. An option comes twice, at the end, before
 # another one, and with or without a value as it should not; what is needed is left out; a word is too many.
 while IFS='|' read -r command takes needs files; do
