@@ -1,5 +1,5 @@
 # Shared by the tests in this folder: each reads it first, and ends with `done_testing`.
-# shellcheck shell=sh
+# shellcheck shell=sh disable=SC2034 # its variables are for the tests
 #
 # A test is a shell script that prints TAP: `ok 7 - what` or `not ok 7 - what` for each check, and at its end the plan, `1..N`: one that
 # ends early has none, and fails. It works in a temporary folder of its own, so that tests can run side by side. Here are the checks, and
@@ -65,7 +65,7 @@ pieces() { # FILE PLACE..
     _whole=$1 _from=0
     shift
     for _place; do
-        stretch "$_whole" $_from $((_place - _from))
+        stretch "$_whole" "$_from" $((_place - _from))
         sleep 0.1
         _from=$_place
     done

@@ -83,7 +83,7 @@ same 'OUT is as it was' kept out
 cp rough.sealed changing
 "$program" open "$@" changing pipe >"$wrote" 2>"$said" &
 await is_running $!
-sleep 0.5
+sleep 1
 cp changed changing
 timeout 20 cat pipe >out
 wait $!

@@ -35,9 +35,12 @@ holds 'until the first is gone' wait $second
 try 'and then collects' 0 '' shelf list shelf
 holds 'two are left' [ "$(grep -c current "$wrote")" -eq 2 ]
 holds 'and no lock' [ ! -e shelf.lock ]
-lock 2
-try 'it says that it waits, terminal or not' 0 'luossavin shelf collect: shelf: waiting for another run, which is changing it' shelf collect shelf
-wait $holder
+lock 60
+"$program" shelf collect shelf 2>"$said" &
+await grep -q waiting "$said"
+let_go
+wait $!
+judge 'it says that it waits, terminal or not' $? 0 'luossavin shelf collect: shelf: waiting for another run, which is changing it'
 lock 60
 cp shelf before
 try 'and gives up' 66 'luossavin shelf put: shelf: another run has held shelf.lock for 1 seconds; nothing was changed: try again, '\
