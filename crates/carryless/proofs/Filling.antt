@@ -7,7 +7,7 @@ use native.Mathlib.Omega.{arith}
 use lib.ListN.{length, set}
 use lib.Seq.{getD-set-same, getD-set-other}
 use Rattle.block.specs.Wide.{whole}
-use Rattle.lanes.proofs.Filling.{one-more}
+pub use Rattle.lanes.proofs.Filling.{one-more, each-next}
 use Rattle.carryless.specs.Lanes.{lane, Both}
 
 -- one number more, in two words

@@ -5,7 +5,7 @@ use mathlib.Core.List.{List, [], _∷_, _++_}
 use Prim.Native.Nat.{ℕ}
 use lib.ListN.{length}
 use Rattle.block.specs.BigEndian.{numberOf, bytesOf}
-use Rattle.ghash.specs.Ghash.{blocks, lengthBlock, authBlocks}
+use Rattle.ghash.specs.Ghash.{lengthBlock, authBlocks}
 use Rattle.ghash.proofs.Blocks.{blocks-nil, blocks-full}
 
 lengthBlock-iv : lengthBlock 0 16 ≡ 128

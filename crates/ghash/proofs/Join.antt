@@ -33,9 +33,8 @@ module _ (h : ℕ) (hh : Element h) where
   unfolding hashFrom gpow
   hashFrom-start [] y z k = ap (λ (w : ℕ). w ⊕ z) (sym (gmul-one y k))
   hashFrom-start (b ∷ bs) y z k =
-      ap (λ (w : ℕ). hashFrom h w bs) (ap (λ (w : ℕ). gmul w h) (xor-assoc y z b) ∙ xor-gmul y (z ⊕ b) h)
-      ∙ hashFrom-start bs (gmul y h) (gmul (z ⊕ b) h) (gmul-lt y h hh)
-      ∙ ap (λ (w : ℕ). w ⊕ hashFrom h (gmul (z ⊕ b) h) bs) (gmul-assoc y h (gpow h (length bs)) k hh (gpow-lt h (length bs)))
+      rw (xor-assoc y z b, xor-gmul y (z ⊕ b) h, ← gmul-assoc y h (gpow h (length bs)) k hh (gpow-lt h (length bs)))
+      (hashFrom-start bs (gmul y h) (gmul (z ⊕ b) h) (gmul-lt y h hh))
 
   pub ghash-join : (xs bs : List ℕ) → ghash h (xs ++ bs) ≡ gmul (ghash h xs) (gpow h (length bs)) ⊕ ghash h bs
   ghash-join xs bs =

@@ -17,21 +17,6 @@ use Rattle.field.proofs.Reduction.{gmul-clmul}
 use Rattle.field.proofs.many.multiply.Statement.{statement}
 use Rattle.field.proofs.many.multiply.Tie as tie
 
-products64-requires : tie.Need-products64-requires
-products64-requires c κs =
-    let S = c .before .before .before .before .before .before in
-    (search needs, search needs, lends-high (S .args .y) (S .args .m .now) (S .pre .1), search needs, search needs)
-
-products64-requires-2 : tie.Need-products64-requires-2
-products64-requires-2 c κs =
-    let S = c .before .before .before .before .before .before .before .before .before .before in
-    (search needs, search needs, lends-low (S .args .y) (S .args .m .now) (S .pre .1), search needs, search needs)
-
-products64-requires-3 : tie.Need-products64-requires-3
-products64-requires-3 c κs =
-    let S = c .before .before .before .before .before .before .before .before .before .before .before .before .before .before .before in
-    (search needs, search needs, lends-both (S .args .y) (S .args .m .now) (S .pre .1), search needs, search needs)
-
 reduce-each-requires : tie.Need-reduce-each-requires
 reduce-each-requires c κs =
     let at-both = c .before .before .before .before .before .before .before .before in
@@ -78,4 +63,6 @@ returns c =
 pub multiply-spec : {M : Type 1} → statement M
 multiply-spec =
     tie.close
-    (tie.spec (λ c κs. search needs) products64-requires products64-requires-2 products64-requires-3 reduce-each-requires returns)
+    (tie.spec
+    (λ c κs. search needs) (λ c κs. search (needs, lends-high)) (λ c κs. search (needs, lends-low)) (λ c κs. search (needs, lends-both))
+    reduce-each-requires returns)

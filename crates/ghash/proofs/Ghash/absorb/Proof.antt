@@ -15,8 +15,12 @@ use borrow.Author.Needs.{needs}
 use Rattle.ghash.proofs.Ghash.absorb.Statement.{statement}
 use Rattle.ghash.proofs.Ghash.absorb.Tie as tie
 
-returns : tie.Need-returns
-returns c =
+pub absorb-spec : {M : Type 1} → statement M
+absorb-spec =
+    tie.close
+    (tie.spec
+    (λ c κs. search needs) (λ c κs. search needs) (λ c κs. search needs)
+    (λ c.
     let at-number = c .before in
     let at-load = at-number .before in
     let at-slice = at-load .before in
@@ -26,7 +30,4 @@ returns c =
     at-number .to-u128 .ensures
     ∙ ap (λ (w : List ℕ). numberOf (unwords w)) (at-load .load-block .ensures)
     ∙ blockOf-words s bytes in
-    absorbed-same (c .step .ensures) e
-
-pub absorb-spec : {M : Type 1} → statement M
-absorb-spec = tie.close (tie.spec (λ c κs. search needs) (λ c κs. search needs) (λ c κs. search needs) returns)
+    absorbed-same (c .step .ensures) e))

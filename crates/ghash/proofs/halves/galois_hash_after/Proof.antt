@@ -8,16 +8,16 @@ use borrow.Author.Needs.{needs}
 use Rattle.ghash.proofs.halves.galois_hash_after.Statement.{statement}
 use Rattle.ghash.proofs.halves.galois_hash_after.Tie as tie
 
-returns : tie.Need-returns
-returns c =
+pub galois-hash-after-spec : {M : Type 1} → statement M
+galois-hash-after-spec =
+    tie.close
+    (tie.spec
+    (λ c κs. search needs) (λ c κs. search needs) (λ c κs. search needs)
+    (λ c.
     let at-lengths = c .before in
     let at-after = at-lengths .before in
     let at-label = at-after .before in
     let S = at-label .before .before .before in
     let a = S .args in
     half-auth _ _ (a .half) _ _ _ (whole-lt (a .h .high) (a .h .low) (omega (arith, S .good .0)) (omega (arith, S .good .0))) (S .pre .1)
-    (at-label .hash-blocks .ensures) (at-after .after .ensures) (at-lengths .absorb-lengths .ensures)
-
-pub galois-hash-after-spec : {M : Type 1} → statement M
-galois-hash-after-spec =
-    tie.close (tie.spec (λ c κs. search needs) (λ c κs. search needs) (λ c κs. search needs) returns)
+    (at-label .hash-blocks .ensures) (at-after .after .ensures) (at-lengths .absorb-lengths .ensures)))

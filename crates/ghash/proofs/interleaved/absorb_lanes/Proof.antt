@@ -15,27 +15,6 @@ use Rattle.ghash.proofs.Sets.{lanes-few, starts-first}
 use Rattle.ghash.proofs.interleaved.absorb_lanes.Statement.{statement}
 use Rattle.ghash.proofs.interleaved.absorb_lanes.Tie as tie
 
-absorb-sets-requires : tie.Need-absorb-sets-requires
-absorb-sets-requires c κs =
-    let at-parts = c .before .before .before in
-    let count = at-parts .before .before .lanes-for .ensures in
-    let few = lanes-few _ (count .0) in
-    (at-parts .parts .ensures, few .0, few .1, count .1, search needs, search needs)
-
-absorb-hashes-requires : tie.Need-absorb-hashes-requires
-absorb-hashes-requires c κs =
-    let at-sets = c .before .before .before in
-    let at-parts = at-sets .before .before .before .before in
-    let count = at-parts .before .before .lanes-for .ensures in
-    (lanes-few _ (count .0) .1, at-sets .absorb-sets .ensures .2, at-sets .absorb-sets .ensures .3)
-
-mul-at : tie.Need-mul-at
-mul-at c =
-    let at-sets = c .before .before .before .before in
-    let S = at-sets .before .before .before .before .before .before .before .before in
-    let room : 16 * at-sets .absorb-sets .result ≤ length (S .args .bytes .now) = at-sets .absorb-sets .ensures .1 in
-    record { fits = lt-of-le-of-lt room (omega (arith, S .good .1)) }
-
 returns : tie.Need-returns
 returns c =
     let at-hashes = c .before .before in
@@ -61,4 +40,20 @@ absorb-lanes-spec =
     tie.close
     (tie.spec
     (λ c κs. search needs) (λ c κs. search needs) (λ c κs. search needs) (λ c. search needs) (λ c. search needs)
-    absorb-sets-requires (λ c κs. search needs) absorb-hashes-requires mul-at (λ c. search needs) (λ c. search needs) (λ c. search needs) (λ c κs. search needs) returns)
+    (λ c κs.
+    let at-parts = c .before .before .before in
+    let count = at-parts .before .before .lanes-for .ensures in
+    let few = lanes-few _ (count .0) in
+    (at-parts .parts .ensures, few .0, few .1, count .1, search needs, search needs))
+    (λ c κs. search needs)
+    (λ c κs.
+    let at-sets = c .before .before .before in
+    let at-parts = at-sets .before .before .before .before in
+    let count = at-parts .before .before .lanes-for .ensures in
+    (lanes-few _ (count .0) .1, at-sets .absorb-sets .ensures .2, at-sets .absorb-sets .ensures .3))
+    (λ c.
+    let at-sets = c .before .before .before .before in
+    let S = at-sets .before .before .before .before .before .before .before .before in
+    let room : 16 * at-sets .absorb-sets .result ≤ length (S .args .bytes .now) = at-sets .absorb-sets .ensures .1 in
+    record { fits = lt-of-le-of-lt room (omega (arith, S .good .1)) })
+    (λ c. search needs) (λ c. search needs) (λ c. search needs) (λ c κs. search needs) returns)

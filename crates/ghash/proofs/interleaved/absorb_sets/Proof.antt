@@ -10,7 +10,7 @@ use Rattle.block.specs.Wide.{value}
 use Rattle.carryless.specs.Lanes.{lane}
 use Rattle.field.specs.Field.{Element, gpow}
 use Rattle.ghash.specs.Sets.{upTo, blockNumber, Hashed}
-use Rattle.ghash.proofs.Sets.{lent-block, lent-room, hashed-first, hashed-next}
+use Rattle.ghash.proofs.Sets.{lent-block, hashed-first, hashed-next}
 use Rattle.ghash.proofs.interleaved.absorb_sets.Statement.{statement}
 use Rattle.ghash.proofs.interleaved.absorb_sets.Tie as tie
 
@@ -22,25 +22,6 @@ Inv-loop p m n bytes high₀ low₀ all b₀ high low b =
 
 abbrev μ-loop : tie.MeasureT-loop
 μ-loop p m n bytes high₀ low₀ all b₀ high low b = all - b
-
-loop-holds : tie.Need-loop-holds Inv-loop μ-loop
-loop-holds c =
-    let first = c .add-set .ensures in
-    (omega arith, first .2, first .3, first .1, λ h y hh power done. done)
-
-multiply-requires : tie.Need-multiply-requires Inv-loop μ-loop
-multiply-requires c κs =
-    let at-loop = c .before .before .before in
-    let S = at-loop .before .before .before .before .before in
-    (S .pre .2, S .pre .0, at-loop .loop .inv .1, at-loop .loop .inv .2)
-
-add-set-requires-2 : tie.Need-add-set-requires-2 Inv-loop μ-loop
-add-set-requires-2 c κs =
-    let at-mul = c .before .before .before in
-    let in-loop = at-mul .before .before .before in
-    let at-loop = in-loop .before in
-    let S = at-loop .before .before .before .before .before in
-    (S .pre .2, lent-room (S .args .bytes .now) (at-loop .loop .b) (S .args .n) (in-loop .loop-test .taken), at-mul .multiply .ensures .1, at-mul .multiply .ensures .2)
 
 loop-again : tie.Need-loop-again Inv-loop μ-loop
 loop-again c =
@@ -61,8 +42,13 @@ loop-again c =
           (l .inv .3) (l .inv .4 h y hh power done) (at-mul .multiply .ensures .0) (added .0),
     )
 
-returns : tie.Need-returns Inv-loop μ-loop
-returns c =
+pub absorb-sets-spec : {M : Type 1} → statement M
+absorb-sets-spec =
+    tie.close
+    (tie.spec
+    Inv-loop μ-loop (λ c κs. search needs) (λ c. search needs) (λ c. search needs) (λ c κs. search needs) (λ c. search needs)
+    (λ c. search needs) (λ c. search needs) (λ c. search needs) (λ c κs. search needs) (λ c. search needs) (λ c. search needs) loop-again
+    (λ c.
     let l = c .before .loop in
     let first = c .before .before in
     let S = first .before .before .before .before in
@@ -74,11 +60,4 @@ returns c =
       omega arith,
       l .inv .1,
       l .inv .2,
-    )
-
-pub absorb-sets-spec : {M : Type 1} → statement M
-absorb-sets-spec =
-    tie.close
-    (tie.spec
-    Inv-loop μ-loop (λ c κs. search needs) loop-holds (λ c. search needs) multiply-requires (λ c. search needs) (λ c. search needs)
-    (λ c. search needs) (λ c. search needs) add-set-requires-2 (λ c. search needs) (λ c. search needs) loop-again returns)
+    )))

@@ -2,14 +2,14 @@
 -- others are as they were.
 -- Assumes nothing.
 use borrow.Author.Needs.{needs}
-use mathlib.Core.Path.{_≡_, refl, sym, ap₂, subst, _∙_}
-use Prim.Native.Nat.{ℕ, _^_, _<_, _≤_, _-_}
+use mathlib.Core.Path.{_≡_, refl, ap₂, _∙_}
+use Prim.Native.Nat.{ℕ, _<_, _≤_, _-_}
 use native.Mathlib.Omega.{arith}
 use lib.ListN.{length, set}
 use Rattle.block.specs.Xor.{_⊕_}
 use Rattle.block.proofs.Entries.{below-each}
 use Rattle.carryless.specs.Lanes.{lane, Both}
-use Rattle.carryless.proofs.Filling.{below-next, lane-same, lane-other, both-next}
+use Rattle.carryless.proofs.Filling.{one-more, lane-same, lane-other, both-next}
 use Rattle.field.specs.Field.{Element}
 use Rattle.field.proofs.Bounded.{whole-lt}
 use Rattle.ghash.specs.Sets.{blockNumber}
@@ -26,9 +26,6 @@ Inv-loop bytes n high₀ low₀ k₀ high low k =
 
 abbrev μ-loop : tie.MeasureT-loop
 μ-loop bytes n high₀ low₀ k₀ high low k = n - k
-
-loop-holds : tie.Need-loop-holds Inv-loop μ-loop
-loop-holds c = (search needs, search needs, search needs, λ j h. absurd (omega arith), λ j h. absurd (omega arith), λ j h. refl)
 
 loop-again : tie.Need-loop-again Inv-loop μ-loop
 loop-again c =
@@ -54,21 +51,21 @@ loop-again c =
           (c .add .ensures
           ∙ ap₂ _⊕_ (l .inv .5 k (omega arith)) (at-number .to-u128 .ensures ∙ lent-number bytes k _ number (at-split .split-block .ensures)))
           (l .inv .3),
-      below-next (lane high low) k (2 ^ 128)
-          (subst (λ (x : ℕ). x < 2 ^ 128) (sym (lane-same k u v (l .high) (l .low) ha hb)) (whole-lt u v (omega (arith, c .add .ok)) (omega (arith, c .add .ok))))
-          (λ j h. subst (λ (x : ℕ). x < 2 ^ 128) (sym (lane-other k u v (l .high) (l .low) ha hb j (λ e. omega arith))) (l .inv .4 j h)),
+      one-more (λ j. Element (lane high low j)) k
+          (rw (lane-same k u v (l .high) (l .low) ha hb) (whole-lt u v (omega (arith, c .add .ok)) (omega (arith, c .add .ok))))
+          (λ j h. rw (lane-other k u v (l .high) (l .low) ha hb j (λ e. omega arith)) (l .inv .4 j h)),
       λ j h. lane-other k u v (l .high) (l .low) ha hb j (λ e. omega arith) ∙ l .inv .5 j (omega arith),
     )
-
-returns : tie.Need-returns Inv-loop μ-loop
-returns c =
-    let l = c .before .loop in
-    (λ j h. l .inv .3 j (omega arith), λ j h. l .inv .4 j (omega arith), l .inv .1, l .inv .2)
 
 pub add-set-spec : {M : Type 1} → statement M
 add-set-spec =
     tie.close
     (tie.spec
-    Inv-loop μ-loop loop-holds (λ c. search needs) (λ c. search needs) (λ c. search needs) (λ c. search needs) (λ c κs. search needs) (λ c κs. search needs)
-    (λ c. search needs) (λ c. search needs) (λ c. search needs) (λ c. search needs) (λ c κs. search needs)
-    (λ c. search needs) (λ c. search needs) (λ c. search needs) (λ c. search needs) (λ c. search needs) (λ c. search needs) loop-again returns)
+    Inv-loop μ-loop
+    (λ c. (search needs, search needs, search needs, λ j h. absurd (omega arith), λ j h. absurd (omega arith), λ j h. refl))
+    (λ c. search needs) (λ c. search needs) (λ c. search needs) (λ c. search needs) (λ c κs. search needs) (λ c κs. search needs)
+    (λ c. search needs) (λ c. search needs) (λ c. search needs) (λ c. search needs) (λ c κs. search needs) (λ c. search needs)
+    (λ c. search needs) (λ c. search needs) (λ c. search needs) (λ c. search needs) (λ c. search needs) loop-again
+    (λ c.
+    let l = c .before .loop in
+    (λ j h. l .inv .3 j (omega arith), λ j h. l .inv .4 j (omega arith), l .inv .1, l .inv .2)))

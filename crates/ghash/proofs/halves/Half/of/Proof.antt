@@ -9,8 +9,12 @@ use borrow.Author.Needs.{needs}
 use Rattle.ghash.proofs.halves.Half.of.Statement.{statement}
 use Rattle.ghash.proofs.halves.Half.of.Tie as tie
 
-returns : tie.Need-returns
-returns c =
+pub of-spec : {M : Type 1} → statement M
+of-spec =
+    tie.close
+    (tie.spec
+    (λ c κs. search needs) (λ c κs. search needs) (λ c κs. search needs)
+    (λ c.
     let at-hash = c .before in
     let at-count = at-hash .before in
     let a = at-count .before .before .args in
@@ -19,7 +23,4 @@ returns c =
       power =
           c .power .ensures
           ∙ ap (gpow (value (a .h))) (at-count .block-count .ensures ∙ sym (length-blocks (now (a .bytes))));
-    }
-
-pub of-spec : {M : Type 1} → statement M
-of-spec = tie.close (tie.spec (λ c κs. search needs) (λ c κs. search needs) (λ c κs. search needs) returns)
+    }))
