@@ -1,11 +1,6 @@
 -- Arrays filled number by number.
 -- Assumes nothing.
-use mathlib.Core.Path.{_≡_, ap₂, _∙_}
-use mathlib.Core.List.{List}
-use Prim.Native.Nat.{ℕ, _+_, _<_}
-use native.Mathlib.Omega.{arith}
-use lib.ListN.{length, set}
-use lib.Seq.{getD-set-same, getD-set-other}
+use Rattle.block.proofs.Base.{_≡_, ap₂, _∙_, List, ℕ, _+_, _<_, arith, length, set, getD-set-same, getD-set-other}
 use Rattle.block.specs.Wide.{whole}
 pub use Rattle.lanes.proofs.Filling.{one-more, each-next}
 use Rattle.carryless.specs.Lanes.{lane, Both}

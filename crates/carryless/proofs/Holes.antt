@@ -2,15 +2,11 @@
 -- number of the pairs of ones that meet there. Where that is below the base nothing is carried, and the digits' lowest bits are the
 -- product without carry (`hole-product`).
 -- Assumes nothing.
-use mathlib.Core.Path.{_≡_, refl, sym, ap, ap₂, _∙_}
-use Prim.Native.Nat.{ℕ, zero, suc, _+_, _*_, _/_, _%_, _^_, _<_, _≤_, zero-le, suc-le-suc}
-use native.Mathlib.Nat.{add-zero, add-comm, add-mul, zero-add, suc-add, add-mod, mul-right-comm, zero-mul, one-mul, zero-div, zero-mod, mod-lt, mod-eq-of-lt, mul-mod-left, mul-div-cancel, div-add-mod', add-le-add, le-refl, lt-of-le-of-lt, lt-of-lt-of-le, lt-trans, lt-suc-self, le-of-suc-le-suc, pow-le-pow-right}
-use native.Mathlib.Numerals.{add-one, one-add}
-use native.Mathlib.Omega.{arith}
-use lib.Arith.{digits-div, digits-mod}
-use lib.Dec.{lit<}
-use lib.Pow.{pow-pos, split, mod-mod-pow}
-use lib.Bits.{bitAnd, and-block, and-mask, and-zero-r, xor-block, shifted-even}
+use Rattle.block.proofs.Base.{_≡_, refl, sym, ap, ap₂, _∙_, ℕ, zero, suc, _+_, _*_, _/_, _%_, _^_, _<_, _≤_, zero-le, suc-le-suc, add-zero}
+use Rattle.block.proofs.Base.{add-comm, add-mul, zero-add, suc-add, add-mod, mul-right-comm, zero-mul, one-mul, zero-div, zero-mod, mod-lt}
+use Rattle.block.proofs.Base.{mod-eq-of-lt, mul-mod-left, mul-div-cancel, div-add-mod', add-le-add, le-refl, lt-of-le-of-lt, lt-of-lt-of-le}
+use Rattle.block.proofs.Base.{lt-trans, lt-suc-self, le-of-suc-le-suc, pow-le-pow-right, add-one, one-add, arith, digits-div, digits-mod}
+use Rattle.block.proofs.Base.{lit<, pow-pos, split, mod-mod-pow, bitAnd, and-block, and-mask, and-zero-r, xor-block, shifted-even}
 use Rattle.block.specs.Xor.{_⊕_}
 use Rattle.block.proofs.Xor.{bit-lt}
 use Rattle.block.proofs.Bit.{bit-cases}

@@ -1,12 +1,8 @@
 -- The three products of `karatsuba`, put together in words.
 -- Assumes nothing.
-use mathlib.Core.Path.{_≡_, sym, ap₂, _∙_}
-use Prim.Native.Nat.{ℕ, _+_, _*_, _/_, _%_, _^_, _<_}
-use native.Mathlib.Nat.{add-zero, zero-add, add-mul, mul-assoc, div-one, mod-lt, lt-trans, le-refl}
-use lib.Arith.{digits-lt}
-use lib.Dec.{lit<}
-use lib.Pow.{pow-add, pow-pos, split, high, low, shl-shr, shr-shr, shl-lt, shr-lt}
-use lib.Bits.{xor-block, xor-shifted, xor-zero-r, xor-lt}
+use Rattle.block.proofs.Base.{_≡_, sym, ap₂, _∙_, ℕ, _+_, _*_, _/_, _%_, _^_, _<_, add-zero, zero-add, add-mul, mul-assoc, div-one, mod-lt}
+use Rattle.block.proofs.Base.{lt-trans, le-refl, digits-lt, lit<, pow-add, pow-pos, split, high, low, shl-shr, shr-shr, shl-lt, shr-lt}
+use Rattle.block.proofs.Base.{xor-block, xor-shifted, xor-zero-r, xor-lt}
 use Rattle.block.specs.Wide.{whole}
 use Rattle.block.specs.Xor.{_⊕_}
 use Rattle.block.proofs.Xor.{xor-sums}

@@ -2,14 +2,11 @@
 -- the product, and the bits of the first factor may be taken in parts, so that a product of two halves each is made of three products of
 -- halves (`karatsuba`), and a square of the two squares of the halves (`square-halves`).
 -- Assumes nothing.
-use mathlib.Core.Path.{_≡_, refl, sym, ap, ap₂, _∙_}
-use Prim.Native.Nat.{ℕ, zero, suc, _+_, _*_, _/_, _%_, _^_, _<_, _≤_}
-use native.Mathlib.Nat.{add-zero, add-suc, zero-add, add-comm, zero-mul, mul-zero, one-mul, mul-assoc, mul-comm, mul-right-comm, mul-one, lt-trans, zero-div, div-eq-of-lt, mod-lt, mod-eq-of-lt, mul-mod-left, le-of-suc-le, le-refl}
-use native.Mathlib.Numerals.{one-add}
-use native.Mathlib.Omega.{arith}
-use lib.Dec.{lit<}
-use lib.Pow.{pow-add, pow-lt, shl-lt, shr-lt, pow-pos, mod-pow-add, split, shl-shr, shr-shr, high, low}
-use lib.Bits.{xor-shr, xor-block, xor-comm, xor-zero-l, xor-zero-r, xor-lt, xor-shifted}
+use Rattle.block.proofs.Base.{_≡_, refl, sym, ap, ap₂, _∙_, ℕ, zero, suc, _+_, _*_, _/_, _%_, _^_, _<_, _≤_, add-zero, add-suc, zero-add}
+use Rattle.block.proofs.Base.{add-comm, zero-mul, mul-zero, one-mul, mul-assoc, mul-comm, mul-right-comm, mul-one, lt-trans, zero-div}
+use Rattle.block.proofs.Base.{div-eq-of-lt, mod-lt, mod-eq-of-lt, mul-mod-left, le-of-suc-le, le-refl, one-add, arith, lit<, pow-add}
+use Rattle.block.proofs.Base.{pow-lt, shl-lt, shr-lt, pow-pos, mod-pow-add, split, shl-shr, shr-shr, high, low, xor-shr, xor-block}
+use Rattle.block.proofs.Base.{xor-comm, xor-zero-l, xor-zero-r, xor-lt, xor-shifted}
 use Rattle.block.specs.Xor.{_⊕_}
 use Rattle.block.proofs.Xor.{xor-assoc, xor-swap, xor-sums}
 use Rattle.block.proofs.Bit.{bit-cases, times-xor, xor-times, bit-times-lt}

@@ -1,16 +1,10 @@
 -- Numbers of 32 bits as four parts of every fourth bit each: the sixteen products of the parts, summed up by their places, are the product
 -- without carry (`by-quarters`); of a square four of them are enough (`squares`).
 -- Assumes nothing.
-use mathlib.Core.Path.{_≡_, refl, sym, ap, ap₂, _∙_}
-use mathlib.Core.List.{List}
-use Prim.Native.Nat.{ℕ, zero, suc, _+_, _-_, _*_, _/_, _%_, _^_, _<_, _≤_, min}
-use native.Mathlib.Nat.{add-zero, mul-assoc, mul-mul-mul-comm, mul-le-mul, mod-lt, mod-eq-of-lt, lt-of-le-of-lt, lt-trans}
-use native.Mathlib.Omega.{arith}
-use lib.Arith.{bin-ind}
-use lib.Dec.{lit<}
-use lib.ListN.{length, getD}
-use lib.Pow.{pow-pos, pow-add, split, shl-shr}
-use lib.Bits.{differ, bitAnd, and-step, and-shr, and-block, and-mask, and-le-l, and-comm, and-zero-r, xor-step, xor-shr, xor-lt}
+use Rattle.block.proofs.Base.{_≡_, refl, sym, ap, ap₂, _∙_, List, ℕ, zero, suc, _+_, _-_, _*_, _/_, _%_, _^_, _<_, _≤_, min, add-zero}
+use Rattle.block.proofs.Base.{mul-assoc, mul-mul-mul-comm, mul-le-mul, mod-lt, mod-eq-of-lt, lt-of-le-of-lt, lt-trans, arith, bin-ind, lit<}
+use Rattle.block.proofs.Base.{length, getD, pow-pos, pow-add, split, shl-shr, differ, bitAnd, and-step, and-shr, and-block, and-mask}
+use Rattle.block.proofs.Base.{and-le-l, and-comm, and-zero-r, xor-step, xor-shr, xor-lt}
 use Rattle.block.specs.declared.U128.{U128}
 use Rattle.block.specs.Xor.{_⊕_}
 use Rattle.block.proofs.Xor.{two-cases, bit-lt, xor-odd, xor-sums}

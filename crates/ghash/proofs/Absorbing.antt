@@ -1,11 +1,7 @@
 -- The hash state over bytes: one step after the other, along the rest of a list.
 -- Assumes nothing.
-use mathlib.Core.Path.{_≡_, refl, sym, ap, ap₂, _∙_}
-use mathlib.Core.List.{List, [], _∷_, _++_}
-use Prim.Native.Nat.{ℕ, _+_, _-_, _*_, _<_, _≤_}
-use native.Mathlib.Omega.{arith}
-use lib.ListN.{length, take, drop, length-drop, drop-of-length-le}
-use lib.Seq.{drop-drop}
+use Rattle.block.proofs.Base.{_≡_, sym, ap, ap₂, _∙_, List, [], _∷_, _++_, ℕ, _+_, _-_, _*_, _<_, _≤_, arith, length, take, drop}
+use Rattle.block.proofs.Base.{length-drop, drop-of-length-le, drop-drop}
 use Rattle.block.specs.declared.U128.{U128}
 use Rattle.block.specs.Wide.{value}
 use Rattle.block.specs.Xor.{_⊕_}
@@ -48,9 +44,6 @@ absorbed-cut s r q bs k l a b =
 pub record Walked (s₀ : Ghash) (bs : List ℕ) (s : Ghash) (i : ℕ) : Type 0 where
   pub key : s .h ≡ s₀ .h
   pub hash : hashFrom (value (s₀ .h)) (value (s .y)) (blocks (drop i bs)) ≡ hashFrom (value (s₀ .h)) (value (s₀ .y)) (blocks bs)
-
-pub walk-start : (s : Ghash) (bs : List ℕ) → Walked s bs s 0
-walk-start s bs = record { key = refl; hash = refl }
 
 module _ (s₀ s : Ghash) (bs : List ℕ) (i : ℕ) (w : Walked s₀ bs s i) where
   -- as `&bs[i..]` is lent

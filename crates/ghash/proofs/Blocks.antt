@@ -1,14 +1,9 @@
 -- Bytes as blocks: block by block, joined at a block's end, and with one more zero byte.
 -- Assumes nothing.
-use mathlib.Core.Path.{_≡_, refl, sym, ap, ap₂, _∙_}
-use mathlib.Core.Logic.{_≢_, ⊎-elim}
-use mathlib.Core.List.{List, [], _∷_, _++_, append-assoc}
-use Prim.Native.Nat.{ℕ, zero, suc, _+_, _-_, _*_, _/_, _%_, _^_, _<_, _≤_}
-use native.Mathlib.Nat.{le-of-eq, eq-zero-or-pos}
-use native.Mathlib.Omega.{arith}
-use lib.Dec.{lit<}
-use lib.ListN.{length, take, drop, getD, replicate, length-append, length-drop, drop-of-length-le}
-use lib.Seq.{take-all, take-append-le, drop-append-le, take-at, length-take-le}
+use Rattle.block.proofs.Base.{_≡_, refl, sym, ap, ap₂, _∙_, _≢_, ⊎-elim, List, [], _∷_, _++_, append-assoc, ℕ, zero, suc, _+_, _-_, _*_}
+use Rattle.block.proofs.Base.{_/_, _%_, _^_, _<_, _≤_, le-of-eq, eq-zero-or-pos, arith, lit<, length, take, drop, getD, replicate}
+use Rattle.block.proofs.Base.{length-append, length-drop, drop-of-length-le, take-all, take-append-le, drop-append-le, take-at}
+use Rattle.block.proofs.Base.{length-take-le}
 use Rattle.block.specs.Below.{AreBytes}
 use Rattle.block.specs.BigEndian.{numberOf}
 use Rattle.block.specs.Words.{words, unwords}

@@ -1,11 +1,6 @@
 -- The hash of two lists joined: the first's hash times H to the second's block count, xored with the second's hash.
 -- Assumes nothing.
-use mathlib.Core.Path.{_≡_, refl, sym, ap, _∙_}
-use mathlib.Core.List.{List, [], _∷_, _++_}
-use Prim.Native.Nat.{ℕ}
-use lib.Dec.{lit<}
-use lib.ListN.{length}
-use lib.Bits.{xor-zero-r}
+use Rattle.block.proofs.Base.{_≡_, refl, sym, ap, _∙_, List, [], _∷_, _++_, ℕ, lit<, length, xor-zero-r}
 use Rattle.block.specs.Xor.{_⊕_}
 use Rattle.block.proofs.Xor.{xor-assoc}
 use Rattle.field.specs.Field.{Element, gmul, gpow}

@@ -1,10 +1,7 @@
 -- Two halves of bytes, of which the first is whole blocks: their hashes joined are the hash of both. So a label's hash, joined to what is
 -- kept of a text's blocks, is the hash of label and text. Either half may be empty.
 -- Assumes nothing.
-use mathlib.Core.Path.{_≡_, sym, ap, ap₂, _∙_}
-use mathlib.Core.List.{List, [], _∷_, _++_, append-assoc}
-use Prim.Native.Nat.{ℕ, _*_}
-use lib.ListN.{length}
+use Rattle.block.proofs.Base.{_≡_, sym, ap, ap₂, _∙_, List, [], _∷_, _++_, append-assoc, ℕ, _*_, length}
 use Rattle.block.specs.declared.U128.{U128}
 use Rattle.block.specs.Wide.{value}
 use Rattle.block.specs.Xor.{_⊕_}

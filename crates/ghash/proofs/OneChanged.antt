@@ -1,10 +1,6 @@
 -- For H other than 0, changing exactly one block of a list changes the hash.
 -- Assumes nothing.
-use mathlib.Core.Path.{_≡_, sym, ap, _∙_}
-use mathlib.Core.Logic.{_≢_, ⊎-elim}
-use mathlib.Core.List.{List, [], _∷_, _++_}
-use Prim.Native.Nat.{ℕ}
-use lib.Bits.{xor-comm, xor-lt, xor-self}
+use Rattle.block.proofs.Base.{_≡_, sym, ap, _∙_, _≢_, ⊎-elim, List, [], _∷_, _++_, ℕ, xor-comm, xor-lt, xor-self}
 use Rattle.block.specs.Xor.{_⊕_}
 use Rattle.block.proofs.Xor.{xor-same, xor-meet}
 use Rattle.field.specs.Field.{Element, gmul}

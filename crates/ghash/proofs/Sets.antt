@@ -2,16 +2,9 @@
 -- hashes, and the hash of multiples the multiple of the hash. So blocks Z times H to the n, with blocks C added, hash as C does from the
 -- hash of Z on.
 -- Assumes nothing.
-use mathlib.Core.Path.{_≡_, refl, sym, ap, ap₂, _∙_}
-use mathlib.Core.Logic.{⊎-elim}
-use mathlib.Core.List.{List, [], _∷_, _++_}
-use Prim.Native.Nat.{ℕ, zero, suc, _+_, _-_, _*_, _/_, _<_, _≤_}
-use native.Mathlib.Nat.{add-zero, zero-add, suc-add}
-use native.Mathlib.Omega.{arith}
-use lib.Dec.{lit<}
-use lib.ListN.{length, take, drop, set, replicate, length-drop}
-use lib.Seq.{drop-drop}
-use lib.Bits.{xor-lt, xor-zero-r}
+use Rattle.block.proofs.Base.{_≡_, refl, sym, ap, ap₂, _∙_, ⊎-elim, List, [], _∷_, _++_, ℕ, zero, suc, _+_, _-_, _*_, _/_, _<_, _≤_}
+use Rattle.block.proofs.Base.{add-zero, zero-add, suc-add, arith, lit<, length, take, drop, set, replicate, length-drop, drop-drop, xor-lt}
+use Rattle.block.proofs.Base.{xor-zero-r}
 use Rattle.block.specs.Below.{AreBytes}
 use Rattle.block.specs.BigEndian.{numberOf}
 use Rattle.block.specs.Wide.{whole}

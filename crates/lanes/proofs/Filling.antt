@@ -1,12 +1,6 @@
 -- What holds at every place below i, and at i, holds below i + 1: so a list is filled word by word.
 -- Assumes nothing.
-use mathlib.Core.Path.{_≡_, subst}
-use mathlib.Core.Logic.{⊎-elim}
-use mathlib.Core.List.{List}
-use Prim.Native.Nat.{ℕ, _+_, _<_, _≤_}
-use native.Mathlib.Omega.{arith}
-use lib.ListN.{getD, length, set}
-use lib.Seq.{getD-set-same, getD-set-other}
+use Rattle.block.proofs.Base.{_≡_, subst, ⊎-elim, List, ℕ, _+_, _<_, _≤_, arith, getD, length, set, getD-set-same, getD-set-other}
 use Rattle.lanes.specs.Each.{Each}
 use Rattle.lanes.proofs.Bits.{lt-or-le}
 

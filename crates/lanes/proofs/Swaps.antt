@@ -1,12 +1,7 @@
 -- A masked swap of bits at a distance changes one binary digit of a word's number with that of a bit's number.
 -- Assumes nothing.
-use mathlib.Core.Path.{_≡_, refl, sym, ap, ap₂, _∙_}
-use mathlib.Core.Logic.{_⊎_, inl, inr, ⊎-elim}
-use Prim.Native.Nat.{ℕ, zero, suc, _+_, _-_, _*_, _/_, _%_, _^_, _<_, _≤_, min}
-use native.Mathlib.Nat.{add-zero, add-div-right, div-eq-of-lt}
-use native.Mathlib.Omega.{arith}
-use lib.Pow.{pow-pos}
-use lib.Bits.{differ}
+use Rattle.block.proofs.Base.{_≡_, refl, sym, ap, ap₂, _∙_, _⊎_, inl, inr, ⊎-elim, ℕ, zero, suc, _+_, _-_, _*_, _/_, _%_, _^_, _<_, _≤_}
+use Rattle.block.proofs.Base.{min, add-zero, add-div-right, div-eq-of-lt, arith, pow-pos, differ}
 use Rattle.block.specs.Xor.{_⊕_}
 use Rattle.block.proofs.Xor.{two-cases}
 use Rattle.lanes.specs.Bits.{bit}

@@ -1,11 +1,6 @@
 -- A stage changes one binary digit of a row's number with that of a bit's number.
 -- Assumes nothing.
-use mathlib.Core.Path.{_≡_, sym, ap, _∙_}
-use mathlib.Core.Logic.{⊎-elim}
-use mathlib.Core.List.{List}
-use Prim.Native.Nat.{ℕ, _+_, _-_, _*_, _/_, _%_, _<_}
-use native.Mathlib.Omega.{arith}
-use lib.ListN.{getD}
+use Rattle.block.proofs.Base.{_≡_, sym, ap, _∙_, ⊎-elim, List, ℕ, _+_, _-_, _*_, _/_, _%_, _<_, arith, getD}
 use Rattle.lanes.specs.Bits.{bit}
 use Rattle.lanes.proofs.Swaps.{digit, MaskOf, dig, zero-or-one, one-le, first-0, first-1, second-0, second-1}
 use Rattle.rows.specs.Transposed.{Pair, Staged, at}

@@ -1,12 +1,7 @@
 -- Six stages, from 32 down to 1, transpose.
 -- Assumes nothing.
-use mathlib.Core.Path.{_≡_, refl, sym, ap₂, _∙_}
-use mathlib.Core.Logic.{⊎-elim}
-use mathlib.Core.List.{List, [], _∷_}
-use Prim.Native.Nat.{ℕ, _+_, _-_, _*_, _/_, _%_, _^_, _<_, _≤_}
-use native.Mathlib.Omega.{arith}
-use lib.Dec.{T, eqb, eqb→eq, lit<}
-use lib.ListN.{getD, replicate, List·getD-eq-default}
+use Rattle.block.proofs.Base.{_≡_, refl, sym, ap₂, _∙_, ⊎-elim, List, [], _∷_, ℕ, _+_, _-_, _*_, _/_, _%_, _^_, _<_, _≤_, arith, T, eqb}
+use Rattle.block.proofs.Base.{eqb→eq, lit<, getD, replicate, List·getD-eq-default}
 use Rattle.block.proofs.Table.{rule-at, passes}
 use Rattle.lanes.specs.Bits.{bit}
 use Rattle.lanes.proofs.Bits.{lt-or-le}

@@ -1,11 +1,6 @@
 -- Blocks that stand in rows: none, one more, and the bytes of one.
 -- Assumes nothing.
-use mathlib.Core.Path.{_≡_, _∙_}
-use mathlib.Core.List.{List}
-use Prim.Native.Nat.{ℕ, _+_, _<_}
-use native.Mathlib.Omega.{arith}
-use lib.ListN.{length, getD, set, length-set}
-use lib.Seq.{getD-set-same, getD-set-other}
+use Rattle.block.proofs.Base.{_≡_, _∙_, List, ℕ, _+_, _<_, arith, length, getD, set, length-set, getD-set-same, getD-set-other}
 use Rattle.lanes.proofs.Filling.{one-more}
 use Rattle.rows.specs.Rows.{place, Row, Rows}
 

@@ -1,13 +1,8 @@
 -- The bytes of blocks in rows, stored one after the other.
 -- Assumes nothing.
-use mathlib.Core.Path.{_≡_, refl, sym, ap, ap₂, _∙_}
-use mathlib.Core.List.{List, [], _∷_, _++_, append-assoc}
-use Prim.Native.Nat.{ℕ, suc, _+_, _*_, _/_, _%_, _^_, _<_, _≤_}
-use native.Mathlib.Nat.{add-zero, div-one}
-use native.Mathlib.Omega.{arith}
-use lib.Dec.{lit<}
-use lib.ListN.{length, getD, set, take, drop, length-append, length-drop}
-use lib.Seq.{sets, sets-eq, take-at, drop-at, drop-drop, length-take-le}
+use Rattle.block.proofs.Base.{_≡_, refl, sym, ap, ap₂, _∙_, List, [], _∷_, _++_, append-assoc, ℕ, suc, _+_, _*_, _/_, _%_, _^_, _<_, _≤_}
+use Rattle.block.proofs.Base.{add-zero, div-one, arith, lit<, length, getD, set, take, drop, length-append, length-drop, sets, sets-eq}
+use Rattle.block.proofs.Base.{take-at, drop-at, drop-drop, length-take-le}
 use Rattle.block.specs.Below.{AreBytes}
 use Rattle.block.specs.BigEndian.{bytesOf}
 use Rattle.block.specs.Blocks.{blockAt, cat}

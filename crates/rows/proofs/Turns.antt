@@ -1,13 +1,7 @@
 -- The turns of the two loops of a stage.
 -- Assumes nothing.
-use mathlib.Core.Path.{_≡_, refl, ap₂, _∙_}
-use mathlib.Core.List.{List}
-use Prim.Native.Nat.{ℕ, suc, _+_, _*_, _^_, _<_, _≤_}
-use native.Mathlib.Nat.{mul-le-mul-left, mul-suc}
-use native.Mathlib.Numerals.{add-one}
-use native.Mathlib.Omega.{arith}
-use lib.ListN.{getD, length, set, length-set}
-use lib.Seq.{getD-set-same, getD-set-other}
+use Rattle.block.proofs.Base.{_≡_, ap₂, _∙_, List, ℕ, suc, _+_, _*_, _^_, _<_, _≤_, mul-le-mul-left, mul-suc, add-one, arith, getD}
+use Rattle.block.proofs.Base.{set, length-set, getD-set-same, getD-set-other}
 use Rattle.lanes.proofs.Filling.{one-more}
 use Rattle.lanes.specs.Swaps.{firstSwapped, secondSwapped}
 use Rattle.rows.specs.Transposed.{Pair, Swapped, Staged}
@@ -26,9 +20,6 @@ module _ (d m p q : ℕ) (a₀ a a′ : List ℕ) where
     first-small = P .first-small;
     second-small = P .second-small;
   }
-
-pub swapped-first : (d m g w : ℕ) (a : List ℕ) → length a ≡ 512 → Swapped d m g w 0 a a
-swapped-first d m g w a n = record { size = n; pairs = λ r h. absurd (omega arith); rest = λ p h. refl }
 
 -- a turn: u and v are the next pair, swapped
 module _ (d m g w e u v : ℕ) (a₀ a : List ℕ) (he : e < w) (hw : g + w + w ≤ 512) (S : Swapped d m g w e a₀ a)
@@ -59,9 +50,6 @@ groups w i n h =
     let e : 2 * w * suc i ≡ 2 * w * i + 2 * w = mul-suc (2 * w) i in
     let l : 2 * w * suc i ≤ 2 * w * n = mul-le-mul-left (2 * w) h in
     omega arith
-
-pub staged-first : (d m w : ℕ) (a : List ℕ) → length a ≡ 512 → Staged d m w 0 a a
-staged-first d m w a n = record { size = n; pairs = λ i r h. absurd (omega arith); rest = λ p h. refl }
 
 pub staged-next : (d m w i : ℕ) (a₀ a a′ : List ℕ) → Staged d m w i a₀ a → Swapped d m (2 * w * i) w w a a′ → Staged d m w (i + 1) a₀ a′
 staged-next d m w i a₀ a a′ S W =

@@ -1,8 +1,6 @@
 -- `carryless::clmul128` meets its contract: three products make up each of three (`join-64`), and those the product (`join-128`).
 -- Assumes nothing.
-use mathlib.Core.Path.{_∙_}
-use borrow.Author.Needs.{needs}
-use lib.Dec.{lit<}
+use Rattle.block.proofs.Base.{_∙_, needs, lit<}
 use Rattle.block.specs.Xor.{_⊕_}
 use Rattle.carryless.proofs.Joins.{join-64, join-128}
 use Rattle.carryless.proofs.clmul128.Statement.{statement}

@@ -1,6 +1,6 @@
 -- `carryless::clmul32` meets its contract: the four sums have their bits at the four places that are kept of them (`by-quarters`).
 -- Assumes nothing.
-use borrow.Author.Needs.{needs}
+use Rattle.block.proofs.Base.{needs}
 use Rattle.carryless.proofs.Words.{by-quarters}
 use Rattle.carryless.proofs.clmul32.Statement.{statement}
 use Rattle.carryless.proofs.clmul32.Tie as tie

@@ -1,6 +1,6 @@
 -- `carryless::diagonal` meets its contract: all factors are of 32 bits, so that no product wraps (`part-times`).
 -- Assumes nothing.
-use borrow.Author.Needs.{needs}
+use Rattle.block.proofs.Base.{needs}
 use Rattle.carryless.proofs.Words.{part-fits, part-times}
 use Rattle.carryless.proofs.diagonal.Statement.{statement}
 use Rattle.carryless.proofs.diagonal.Tie as tie

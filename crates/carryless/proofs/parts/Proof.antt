@@ -1,10 +1,6 @@
 -- `carryless::parts` meets its contract: the words are the parts as they are defined.
 -- Assumes nothing.
-use mathlib.Core.Path.{ap}
-use mathlib.Core.List.{List, _++_}
-use Prim.Native.Nat.{ℕ}
-use lib.ListN.{getD}
-use borrow.Author.Needs.{needs}
+use Rattle.block.proofs.Base.{ap, List, _++_, ℕ, getD, needs}
 use Rattle.carryless.specs.Lent.{quarters}
 use Rattle.carryless.proofs.parts.Statement.{statement}
 use Rattle.carryless.proofs.parts.Tie as tie

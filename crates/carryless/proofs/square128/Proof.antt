@@ -1,6 +1,6 @@
 -- `carryless::square128` meets its contract: its words are the squares of the number's four words of 32 bits (`square-words`).
 -- Assumes nothing.
-use borrow.Author.Needs.{needs}
+use Rattle.block.proofs.Base.{needs}
 use Rattle.carryless.proofs.Joins.{square-words}
 use Rattle.carryless.proofs.square128.Statement.{statement}
 use Rattle.carryless.proofs.square128.Tie as tie

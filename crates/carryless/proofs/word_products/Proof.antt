@@ -1,12 +1,7 @@
 -- `carryless::word_products` meets its contract. The loop's invariant: the first k products are there. The parts of y's words are lent in their
 -- order (`lends-word`).
 -- Assumes nothing.
-use borrow.Author.Needs.{needs}
-use Prim.Native.Nat.{ℕ, _*_, _-_, _<_, _≤_}
-use mathlib.Core.Path.{_≡_, sym, subst, subst₂}
-use mathlib.Core.List.{List}
-use native.Mathlib.Omega.{arith}
-use lib.ListN.{length, getD, set}
+use Rattle.block.proofs.Base.{needs, ℕ, _*_, _-_, _<_, _≤_, _≡_, sym, subst, subst₂, List, arith, length, getD, set}
 use Rattle.carryless.specs.Carryless.{clmul}
 use Rattle.carryless.specs.Lanes.{Each}
 use Rattle.carryless.specs.Lent.{words128, Lends}

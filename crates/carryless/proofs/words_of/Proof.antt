@@ -1,6 +1,6 @@
 -- `carryless::words_of` meets its contract: the words are as they are defined. What is cast has 32 bits (`high-lt`).
 -- Assumes nothing.
-use borrow.Author.Needs.{needs}
+use Rattle.block.proofs.Base.{needs}
 use Rattle.carryless.proofs.Joins.{high-lt}
 use Rattle.carryless.proofs.words_of.Statement.{statement}
 use Rattle.carryless.proofs.words_of.Tie as tie

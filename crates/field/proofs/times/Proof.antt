@@ -1,11 +1,7 @@
 -- `field::times` meets its contract: x^127 times the product without carry is the product (`gmul-clmul`), and that has no more
 -- than 255 bits (`top-lt`).
 -- Assumes nothing.
-use mathlib.Core.Path.{ap, _∙_}
-use native.Mathlib.Omega.{arith}
-use mir.Val.{Fits}
-use mir.Syntax.{w64}
-use borrow.Author.Needs.{needs}
+use Rattle.block.proofs.Base.{ap, _∙_, arith, Fits, w64, needs}
 use Rattle.block.specs.Wide.{value}
 use Rattle.field.specs.Field.{timesXs}
 use Rattle.field.proofs.Bounded.{whole-lt}

@@ -2,7 +2,7 @@
 -- length block, and these joined are what is hashed for a label and a text (`absorbed-auth`).
 -- Assumes nothing.
 use Rattle.ghash.proofs.Absorbing.{absorbed-auth}
-use borrow.Author.Needs.{needs}
+use Rattle.block.proofs.Base.{needs}
 use Rattle.ghash.proofs.galois_hash.Statement.{statement}
 use Rattle.ghash.proofs.galois_hash.Tie as tie
 

@@ -2,7 +2,7 @@
 -- `word_or_zeros` ensures its own, and `words` is by definition the list of the four.
 -- Assumes nothing.
 use Rattle.block.specs.Words.{words}
-use borrow.Author.Needs.{needs}
+use Rattle.block.proofs.Base.{needs}
 use Rattle.ghash.proofs.load_block.Statement.{statement}
 use Rattle.ghash.proofs.load_block.Tie as tie
 

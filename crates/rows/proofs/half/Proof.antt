@@ -1,6 +1,6 @@
 -- `rows::half` meets its contract: two words side by side have no bit in common (`shl-or`).
 -- Assumes nothing.
-use borrow.Author.Needs.{needs}
+use Rattle.block.proofs.Base.{needs}
 use Rattle.block.proofs.Shift.{shl-or}
 use Rattle.rows.proofs.half.Statement.{statement}
 use Rattle.rows.proofs.half.Tie as tie

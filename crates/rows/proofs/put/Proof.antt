@@ -1,12 +1,7 @@
 -- `rows::put` meets its contract: what is stored at the block's place are the halves of its words, and no other block has that place
 -- (`one-more-row`).
 -- Assumes nothing.
-use borrow.Author.Needs.{needs}
-use mathlib.Core.Path.{_≡_}
-use Prim.Native.Nat.{ℕ}
-use mir.Val.{Fits}
-use mir.Syntax.{w32}
-use lib.ListN.{length, getD}
+use Rattle.block.proofs.Base.{needs, _≡_, ℕ, Fits, w32, length, getD}
 use Rattle.block.proofs.Entries.{below-each}
 use Rattle.rows.proofs.Standing.{one-more-row}
 use Rattle.rows.proofs.put.Statement.{statement}

@@ -1,9 +1,7 @@
 -- `rows::put_half` meets its contract. A store keeps the length (`length-set`), so each of the eight stays inside, and eight bytes stored
 -- side by side are the half's, between what stood before and behind them (`half-stored`).
 -- Assumes nothing.
-use borrow.Author.Needs.{needs}
-use native.Mathlib.Omega.{arith}
-use lib.ListN.{length-set}
+use Rattle.block.proofs.Base.{needs, arith, length-set}
 use Rattle.rows.proofs.Storing.{half-stored}
 use Rattle.rows.proofs.put_half.Statement.{statement}
 use Rattle.rows.proofs.put_half.Tie as tie

@@ -1,7 +1,7 @@
 -- `rows::second_swapped` meets its contract, which says what it computes.
 -- Assumes nothing.
 use Rattle.lanes.specs.Swaps.{secondSwapped}
-use borrow.Author.Needs.{needs}
+use Rattle.block.proofs.Base.{needs}
 use Rattle.rows.proofs.second_swapped.Statement.{statement}
 use Rattle.rows.proofs.second_swapped.Tie as tie
 

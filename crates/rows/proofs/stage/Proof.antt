@@ -1,10 +1,7 @@
 -- `rows::stage` meets its contract. The loop's invariant: the first i groups are swapped, and what stands behind them is as it was; a turn
 -- swaps one group more (`staged-next`), which ends before all words do (`groups`).
 -- Assumes nothing.
-use borrow.Author.Needs.{needs}
-use Prim.Native.Nat.{_≤_, _-_}
-use mathlib.Core.Path.{_≡_}
-use native.Mathlib.Omega.{arith}
+use Rattle.block.proofs.Base.{needs, _≤_, _-_, _≡_, arith}
 use Rattle.rows.specs.Transposed.{Staged}
 use Rattle.rows.proofs.Turns.{groups, staged-next}
 use Rattle.rows.proofs.stage.Statement.{statement}

@@ -1,15 +1,8 @@
 -- `rows::store_xored` meets its contract. The loop's invariant: the first i blocks are stored, and behind them stands what stood there.
 -- A turn stores the two halves of one block more, each xored with its half of the other block.
 -- Assumes nothing.
-use borrow.Author.Needs.{needs}
-use mathlib.Core.Path.{_≡_, ap, _∙_}
-use mathlib.Core.List.{_++_}
-use Prim.Native.Nat.{ℕ, _≤_, _*_, _-_, _^_}
-use native.Mathlib.Omega.{arith}
-use mir.Val.{Fits}
-use mir.Syntax.{w8, w32}
-use lib.ListN.{length, getD, take, drop, length-drop}
-use lib.Seq.{take-all}
+use Rattle.block.proofs.Base.{needs, _≡_, ap, _∙_, _++_, ℕ, _≤_, _*_, _-_, _^_, arith, Fits, w8, w32, length, getD, take, drop, length-drop}
+use Rattle.block.proofs.Base.{take-all}
 use Rattle.block.specs.BigEndian.{bytesOf}
 use Rattle.block.specs.Blocks.{cat}
 use Rattle.block.specs.Words.{words}

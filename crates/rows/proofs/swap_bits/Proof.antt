@@ -1,10 +1,7 @@
 -- `rows::swap_bits` meets its contract. The loop's invariant: the first e pairs are swapped, all other words are as they were; a turn swaps
 -- one pair more (`swapped-next`).
 -- Assumes nothing.
-use borrow.Author.Needs.{needs}
-use Prim.Native.Nat.{_≤_, _-_}
-use mathlib.Core.Path.{_≡_}
-use native.Mathlib.Omega.{arith}
+use Rattle.block.proofs.Base.{needs, _≤_, _-_, _≡_, arith}
 use Rattle.rows.specs.Transposed.{Swapped}
 use Rattle.rows.proofs.Turns.{swapped-next}
 use Rattle.rows.proofs.swap_bits.Statement.{statement}

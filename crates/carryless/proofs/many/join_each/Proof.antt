@@ -1,10 +1,6 @@
 -- `carryless::many::join_each` meets its contract. The loop's invariant: the first g numbers are there.
 -- Assumes nothing.
-use borrow.Author.Needs.{needs}
-use Prim.Native.Nat.{_≤_, _-_}
-use mathlib.Core.Path.{_≡_}
-use native.Mathlib.Omega.{arith}
-use lib.ListN.{length, getD}
+use Rattle.block.proofs.Base.{needs, _≤_, _-_, _≡_, arith, length, getD}
 use Rattle.carryless.specs.Carryless.{joining}
 use Rattle.carryless.specs.Lanes.{Both}
 use Rattle.carryless.proofs.Filling.{both-next}

@@ -1,10 +1,6 @@
 -- `carryless::many::products` meets its contract. The loop's invariant: the first g products are there, and p, q, r and s are y's parts.
 -- Assumes nothing.
-use borrow.Author.Needs.{needs}
-use Prim.Native.Nat.{_≤_, _-_}
-use mathlib.Core.Path.{_≡_}
-use native.Mathlib.Omega.{arith}
-use lib.ListN.{length, getD}
+use Rattle.block.proofs.Base.{needs, _≤_, _-_, _≡_, arith, length, getD}
 use Rattle.carryless.specs.Carryless.{clmul}
 use Rattle.carryless.specs.Lanes.{Each}
 use Rattle.carryless.specs.Lent.{Quarters}

@@ -1,8 +1,6 @@
 -- `carryless::many::products64` meets its contract: three products of halves make up each product (`join-halves`).
 -- Assumes nothing.
-use borrow.Author.Needs.{needs}
-use mathlib.Core.Path.{_∙_}
-use lib.ListN.{getD}
+use Rattle.block.proofs.Base.{needs, _∙_, getD}
 use Rattle.carryless.proofs.Joins.{join-halves}
 use Rattle.carryless.proofs.many.products64.Statement.{statement}
 use Rattle.carryless.proofs.many.products64.Tie as tie

@@ -1,10 +1,6 @@
 -- `carryless::many::sums` meets its contract. The loop's invariant: the first g sums are there.
 -- Assumes nothing.
-use borrow.Author.Needs.{needs}
-use Prim.Native.Nat.{_≤_, _-_}
-use mathlib.Core.Path.{_≡_, refl}
-use native.Mathlib.Omega.{arith}
-use lib.ListN.{length, getD}
+use Rattle.block.proofs.Base.{needs, _≤_, _-_, _≡_, refl, arith, length, getD}
 use Rattle.block.specs.Xor.{_⊕_}
 use Rattle.carryless.specs.Lanes.{Each}
 use Rattle.lanes.proofs.Filling.{each-next}

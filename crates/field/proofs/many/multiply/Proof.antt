@@ -1,10 +1,7 @@
 -- `field::many::multiply` meets its contract: three products of halves make up each product without carry (`join-128`), and x^127 times that is
 -- the product (`gmul-clmul`).
 -- Assumes nothing.
-use borrow.Author.Needs.{needs}
-use Prim.Native.Nat.{ℕ, _^_, _<_}
-use mathlib.Core.Path.{sym, ap, subst, _∙_}
-use lib.ListN.{getD}
+use Rattle.block.proofs.Base.{needs, ℕ, _^_, _<_, sym, ap, subst, _∙_, getD}
 use Rattle.block.specs.Wide.{value}
 use Rattle.block.specs.Xor.{_⊕_}
 use Rattle.carryless.specs.Carryless.{clmul}

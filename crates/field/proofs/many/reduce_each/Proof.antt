@@ -1,10 +1,6 @@
 -- `field::many::reduce_each` meets its contract. The loop's invariant: the first g elements are there.
 -- Assumes nothing.
-use borrow.Author.Needs.{needs}
-use Prim.Native.Nat.{_≤_, _-_}
-use mathlib.Core.Path.{_≡_}
-use native.Mathlib.Omega.{arith}
-use lib.ListN.{length}
+use Rattle.block.proofs.Base.{needs, _≤_, _-_, _≡_, arith, length}
 use Rattle.carryless.specs.Carryless.{joining128}
 use Rattle.carryless.specs.Lanes.{lane, Both}
 use Rattle.carryless.proofs.Filling.{both-next}

@@ -1,10 +1,6 @@
 -- `field::many::reduced` meets its contract: a product of 64 bits by 64 has no more than 127, so that the highest bit is free (`top-half`).
 -- Assumes nothing.
-use mathlib.Core.Path.{sym, ap, subst, _∙_}
-use Prim.Native.Nat.{ℕ, _^_, _<_}
-use mir.Val.{Fits}
-use mir.Syntax.{w64}
-use borrow.Author.Needs.{needs}
+use Rattle.block.proofs.Base.{sym, ap, subst, _∙_, ℕ, _^_, _<_, Fits, w64, needs}
 use Rattle.field.specs.Field.{timesXs}
 use Rattle.field.proofs.Reduction.{top-half}
 use Rattle.field.proofs.many.reduced.Statement.{statement}

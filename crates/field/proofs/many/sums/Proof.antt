@@ -1,10 +1,6 @@
 -- `field::many::sums` meets its contract. The loop's invariant: the first g sums are there, and what was read are words.
 -- Assumes nothing.
-use borrow.Author.Needs.{needs}
-use Prim.Native.Nat.{ℕ, _^_, _<_, _≤_, _-_}
-use mathlib.Core.Path.{_≡_}
-use native.Mathlib.Omega.{arith}
-use lib.ListN.{length, getD}
+use Rattle.block.proofs.Base.{needs, ℕ, _^_, _<_, _≤_, _-_, _≡_, arith, length, getD}
 use Rattle.block.specs.Xor.{_⊕_}
 use Rattle.carryless.specs.Lanes.{Each}
 use Rattle.carryless.proofs.Filling.{one-more, each-next}

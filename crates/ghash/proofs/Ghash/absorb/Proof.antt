@@ -2,16 +2,13 @@
 -- filled up with zeros (`blockOf-words`), and `step` takes in that number (`absorbed-same`).
 -- Assumes nothing.
 use Rattle.ghash.proofs.Absorbing.{absorbed-same}
-use mathlib.Core.Path.{_≡_, ap, _∙_}
-use mathlib.Core.List.{List}
-use Prim.Native.Nat.{ℕ}
+use Rattle.block.proofs.Base.{_≡_, ap, _∙_, List, ℕ, needs}
 use Rattle.block.specs.BigEndian.{numberOf}
 use Rattle.block.specs.Words.{unwords}
 use Rattle.block.specs.Wide.{value}
 use Rattle.block.proofs.Entries.{below-each}
 use Rattle.ghash.specs.Ghash.{blockOf}
 use Rattle.ghash.proofs.Blocks.{blockOf-words}
-use borrow.Author.Needs.{needs}
 use Rattle.ghash.proofs.Ghash.absorb.Statement.{statement}
 use Rattle.ghash.proofs.Ghash.absorb.Tie as tie
 

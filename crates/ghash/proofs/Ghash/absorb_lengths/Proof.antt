@@ -3,7 +3,7 @@
 -- Assumes nothing.
 use Rattle.ghash.proofs.Absorbing.{absorbed-same}
 use Rattle.ghash.proofs.Lengths.{lengthBlock-whole}
-use borrow.Author.Needs.{needs}
+use Rattle.block.proofs.Base.{needs}
 use Rattle.ghash.proofs.Ghash.absorb_lengths.Statement.{statement}
 use Rattle.ghash.proofs.Ghash.absorb_lengths.Tie as tie
 

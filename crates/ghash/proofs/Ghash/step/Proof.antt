@@ -2,7 +2,7 @@
 -- what one block makes of the hash (`absorbed-one`).
 -- Assumes nothing.
 use Rattle.ghash.proofs.Absorbing.{absorbed-one}
-use borrow.Author.Needs.{needs}
+use Rattle.block.proofs.Base.{needs}
 use Rattle.ghash.proofs.Ghash.step.Statement.{statement}
 use Rattle.ghash.proofs.Ghash.step.Tie as tie
 

@@ -1,12 +1,10 @@
 -- `ghash::halves::join` meets its contract: H to the count is what the first hash counts for.
 -- Assumes nothing.
-use mathlib.Core.Path.{ap, _∙_}
-use Prim.Native.Nat.{ℕ}
+use Rattle.block.proofs.Base.{ap, _∙_, ℕ, needs}
 use Rattle.block.specs.Wide.{value}
 use Rattle.block.specs.Xor.{_⊕_}
 use Rattle.field.specs.Field.{gmul}
 use Rattle.ghash.specs.Joined.{joined}
-use borrow.Author.Needs.{needs}
 use Rattle.ghash.proofs.halves.join.Statement.{statement}
 use Rattle.ghash.proofs.halves.join.Tie as tie
 

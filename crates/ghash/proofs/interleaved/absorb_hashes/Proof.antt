@@ -1,11 +1,7 @@
 -- `ghash::interleaved::absorb_hashes` meets its contract. The loop's invariant: the first k hashes are taken in, and m is the parts of H. A turn
 -- takes in the one that comes next (`absorbed-both`).
 -- Assumes nothing.
-use borrow.Author.Needs.{needs}
-use Prim.Native.Nat.{_≤_, _-_}
-use mathlib.Core.Path.{_≡_}
-use mathlib.Core.List.{[], _∷_}
-use native.Mathlib.Omega.{arith}
+use Rattle.block.proofs.Base.{needs, _≤_, _-_, _≡_, [], _∷_, arith}
 use Rattle.carryless.specs.Lanes.{lane}
 use Rattle.carryless.specs.Lent.{PartsOf}
 use Rattle.ghash.specs.Absorbed.{Absorbed}

@@ -1,12 +1,7 @@
 -- `ghash::interleaved::absorb_lanes` meets its contract: once the sets are taken in, the hashes join to the hash of their blocks, and the rest is
 -- taken in block by block (`absorbed-cut`).
 -- Assumes nothing.
-use borrow.Author.Needs.{needs}
-use mathlib.Core.Path.{_∙_}
-use Prim.Native.Nat.{_*_, _≤_}
-use native.Mathlib.Nat.{lt-of-le-of-lt}
-use native.Mathlib.Omega.{arith}
-use lib.ListN.{length}
+use Rattle.block.proofs.Base.{needs, _∙_, _*_, _≤_, lt-of-le-of-lt, arith, length}
 use Rattle.block.specs.Wide.{value}
 use Rattle.field.proofs.Bounded.{whole-lt}
 use Rattle.ghash.proofs.Absorbing.{absorbed-cut}

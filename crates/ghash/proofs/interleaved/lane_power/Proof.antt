@@ -1,10 +1,6 @@
 -- `ghash::interleaved::lane_power` meets its contract: each square doubles the exponent (`doubled`).
 -- Assumes nothing.
-use borrow.Author.Needs.{needs}
-use mathlib.Core.Path.{_≡_, sym, ap, ap₂, _∙_}
-use mathlib.Core.Logic.{⊎-elim}
-use Prim.Native.Nat.{ℕ, _+_}
-use native.Mathlib.Omega.{arith}
+use Rattle.block.proofs.Base.{needs, _≡_, sym, ap, ap₂, _∙_, ⊎-elim, ℕ, _+_, arith}
 use Rattle.block.specs.Wide.{value}
 use Rattle.field.specs.Field.{Element, gmul, gpow}
 use Rattle.field.proofs.Bounded.{whole-lt}

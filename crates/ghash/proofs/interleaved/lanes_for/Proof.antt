@@ -1,8 +1,6 @@
 -- `ghash::interleaved::lanes_for` meets its contract.
 -- Assumes nothing.
-use mathlib.Core.Path.{refl}
-use mathlib.Core.Logic.{inl, inr}
-use native.Mathlib.Omega.{arith}
+use Rattle.block.proofs.Base.{refl, inl, inr, arith}
 use Rattle.ghash.proofs.interleaved.lanes_for.Statement.{statement}
 use Rattle.ghash.proofs.interleaved.lanes_for.Tie as tie
 

@@ -1,10 +1,8 @@
 -- `ghash::halves::Half::after` meets its contract: `galois_mul` ensures the product, and `add` its sum with the hash.
 -- Assumes nothing.
-use mathlib.Core.Path.{ap, _∙_}
-use Prim.Native.Nat.{ℕ}
+use Rattle.block.proofs.Base.{ap, _∙_, ℕ, needs}
 use Rattle.block.specs.Wide.{value}
 use Rattle.block.specs.Xor.{_⊕_}
-use borrow.Author.Needs.{needs}
 use Rattle.ghash.proofs.halves.Half.after.Statement.{statement}
 use Rattle.ghash.proofs.halves.Half.after.Tie as tie
 

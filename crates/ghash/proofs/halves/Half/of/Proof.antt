@@ -1,11 +1,9 @@
 -- `ghash::halves::Half::of` meets its contract: the count is how many blocks there are (`length-blocks`).
 -- Assumes nothing.
-use mathlib.Core.Path.{sym, ap, _∙_}
-use denote.Ref.{now}
+use Rattle.block.proofs.Base.{sym, ap, _∙_, now, needs}
 use Rattle.block.specs.Wide.{value}
 use Rattle.field.specs.Field.{gpow}
 use Rattle.ghash.proofs.Blocks.{length-blocks}
-use borrow.Author.Needs.{needs}
 use Rattle.ghash.proofs.halves.Half.of.Statement.{statement}
 use Rattle.ghash.proofs.halves.Half.of.Tie as tie
 
