@@ -122,7 +122,8 @@ module _ (k a b c d : ℕ) (hb : b < 2 ^ k) (hd : d < 2 ^ k) where
   pub karatsuba : clmul (k + k) (a * 2 ^ k + b) (c * 2 ^ k + d)
       ≡ clmul k a c * 2 ^ k * 2 ^ k ⊕ (clmul k (b ⊕ a) (d ⊕ c) ⊕ clmul k b d ⊕ clmul k a c) * 2 ^ k ⊕ clmul k b d
   karatsuba =
-      rw (clmul-split k k (a * 2 ^ k + b) (c * 2 ^ k + d), low-part, high a k hb, row a, row b) (simp (clmul-xor, xor-clmul, shl-xor, xor-sums))
+      rw (clmul-split k k (a * 2 ^ k + b) (c * 2 ^ k + d), low-part, high a k hb, row a, row b)
+      (simp (clmul-xor, xor-clmul, shl-xor, xor-sums))
 
 -- a square of two halves is the squares of the halves
 module _ (k x P Q : ℕ) (h : x < 2 ^ (k + k)) (l : Q < 2 ^ (k + k))

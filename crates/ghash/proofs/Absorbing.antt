@@ -38,7 +38,8 @@ absorbed-both s r q xs ys a b = record {
 pub absorbed-cut : (s r q : Ghash) (bs : List ℕ) (k : ℕ) → 16 * k ≤ length bs → Absorbed s (upTo k (blockNumber bs)) r
     → Absorbed r (blocks (take (length bs - 16 * k) (drop (16 * k) bs))) q → Absorbed s (blocks bs) q
 absorbed-cut s r q bs k l a b =
-    rw (lent-all bs (16 * k), blocks-cut k bs l) at (absorbed-both s r q (upTo k (blockNumber bs)) (blocks (take (length bs - 16 * k) (drop (16 * k) bs))) a b)
+    rw (lent-all bs (16 * k), blocks-cut k bs l)
+    at (absorbed-both s r q (upTo k (blockNumber bs)) (blocks (take (length bs - 16 * k) (drop (16 * k) bs))) a b)
 
 -- what is left to take in from place i on
 pub record Walked (s₀ : Ghash) (bs : List ℕ) (s : Ghash) (i : ℕ) : Type 0 where

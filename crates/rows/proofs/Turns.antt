@@ -41,7 +41,9 @@ module _ (d m g w e u v : ℕ) (a₀ a : List ℕ) (he : e < w) (hw : g + w + w 
         pairs = one-more (λ r. Pair d m (g + r) (g + r + w) a₀ a′) e
             (pair-new d m (g + e) (g + e + w) a₀ a a′ (S .rest (g + e) (omega arith)) (S .rest (g + e + w) (omega arith))
             (record { first = x ∙ hu; second = y ∙ hv; first-small = rw x su; second-small = rw y sv }))
-            (λ r k. pair-kept d m (g + r) (g + r + w) a₀ a a′ (other (g + r) (omega arith) (omega arith)) (other (g + r + w) (omega arith) (omega arith)) (S .pairs r k));
+            (λ r k.
+            pair-kept d m (g + r) (g + r + w) a₀ a a′ (other (g + r) (omega arith) (omega arith))
+            (other (g + r + w) (omega arith) (omega arith)) (S .pairs r k));
         rest = λ p h. other p (h e (omega arith) .0) (h e (omega arith) .1) ∙ S .rest p (λ r k. h r (omega arith));
       }
 

@@ -22,7 +22,8 @@ pattern-bit q k hq hk =
     let a : i / 64 ≡ q = omega arith in
     let b : i % 64 ≡ k = omega arith in
     let t : bit (i % 64) (getD patterns (i / 64) 0) ≡ bit (i / 64) (i % 64) =
-    eqb→eq _ _ (rule-at (λ i x. eqb (bit (i % 64) (getD patterns (i / 64) 0)) (bit (i / 64) (i % 64))) (replicate 384 0) tt i (omega arith)) in
+    eqb→eq _ _
+    (rule-at (λ i x. eqb (bit (i % 64) (getD patterns (i / 64) 0)) (bit (i / 64) (i % 64))) (replicate 384 0) tt i (omega arith)) in
     rw (a, b) at t
 
 in-parts : (p k : ℕ) → p % 8 * 2 ^ 6 + k ≡ numberAt (8 * k + p % 8)

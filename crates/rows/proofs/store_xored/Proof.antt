@@ -14,14 +14,17 @@ use Rattle.rows.proofs.Storing.{xoredRow, length-xoredRow, xored-halves
 use Rattle.rows.proofs.store_xored.Statement.{statement}
 use Rattle.rows.proofs.store_xored.Tie as tie
 
-abbrev Inv-loop : tie.InvT-loop
-Inv-loop a b m d out₀ i₀ out i = (i ≤ m) × (length out ≡ length out₀) × (out ≡ cat i (xoredRow a b d) ++ drop (16 * i) out₀)
-
-abbrev μ-loop : tie.MeasureT-loop
-μ-loop a b m d out₀ i₀ out i = m - i
-
-loop-again : tie.Need-loop-again Inv-loop μ-loop
-loop-again c =
+pub store-xored-spec : {M : Type 1} → statement M
+store-xored-spec =
+    tie.close
+    (tie.spec
+    (λ a b m d out₀ i₀ out i. (i ≤ m) × (length out ≡ length out₀) × (out ≡ cat i (xoredRow a b d) ++ drop (16 * i) out₀))
+    (λ a b m d out₀ i₀ out i. m - i) (λ c. unfold cat in search needs) (λ c. search needs) (λ c. search needs) (λ c. search needs)
+    (λ c. search needs) (λ c κs. search needs) (λ c κs. search needs) (λ c. search needs) (λ c. search needs) (λ c. search needs)
+    (λ c κs. search needs) (λ c. search needs) (λ c. search needs) (λ c κs. search needs) (λ c. search needs) (λ c. search needs)
+    (λ c. search needs) (λ c. search needs) (λ c κs. search needs) (λ c. search needs) (λ c. search needs) (λ c κs. search needs)
+    (λ c. search needs) (λ c. search needs)
+    (λ c.
     let at-second = c .before .before in
     let at-first = at-second .before .before .before .before .before .before in
     let at-place = at-first .before .before .before .before in
@@ -54,17 +57,8 @@ loop-again c =
           (l .i)
           (λ i h. length-xoredRow from (a .m) (at-loop .before .before .before .pre .0 .1) (a .a .now) (a .b .now) i (omega arith))
           (length-bytesOf 8 _) xored (l .inv .2) (at-first .put-half .ensures) (at-second .put-half2 .ensures),
-    )
-
-pub store-xored-spec : {M : Type 1} → statement M
-store-xored-spec =
-    tie.close
-    (tie.spec
-    Inv-loop μ-loop (λ c. unfold cat in search needs) (λ c. search needs) (λ c. search needs) (λ c. search needs) (λ c. search needs)
-    (λ c κs. search needs) (λ c κs. search needs) (λ c. search needs) (λ c. search needs) (λ c. search needs) (λ c κs. search needs)
-    (λ c. search needs) (λ c. search needs) (λ c κs. search needs) (λ c. search needs) (λ c. search needs) (λ c. search needs)
-    (λ c. search needs) (λ c κs. search needs) (λ c. search needs) (λ c. search needs) (λ c κs. search needs) (λ c. search needs)
-    (λ c. search needs) loop-again (λ c. search needs)
+    ))
+    (λ c. search needs)
     (λ c.
     let l = c .before .loop in
     let S = c .before .before .before .before in

@@ -13,12 +13,5 @@ halves-spec =
     (λ x k n r₀ g₀ r g. (g ≤ n) × (length r ≡ 16) × Each (λ i. getD x i 0 / 2 ^ k % 2 ^ 32) g r) (λ x k n r₀ g₀ r g. n - g)
     (λ c. search needs) (λ c. search needs) (λ c. search needs) (λ c. search needs) (λ c. search needs) (λ c. search needs)
     (λ c. search needs) (λ c. search needs) (λ c. search needs)
-    (λ c.
-    let at-loop = c .before .before in
-    let l = at-loop .loop in
-    let a = at-loop .before .args in (
-      omega arith,
-      search needs,
-      each-next (λ i. getD (a .x .now) i 0 / 2 ^ a .k % 2 ^ 32) (l .g) _ (l .r) (omega arith) refl (l .inv .2),
-    ))
-    (λ c. λ j h. c .before .loop .inv .2 j (omega arith)))
+    (λ c. let l = c .before .before .loop in (omega arith, search needs, each-next _ (l .g) _ (l .r) (omega arith) refl (l .inv .2)))
+    (λ c j h. c .before .loop .inv .2 j (omega arith)))

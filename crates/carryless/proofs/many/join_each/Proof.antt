@@ -17,13 +17,7 @@ join-each-spec =
     (λ c. search needs) (λ c. search needs) (λ c. search needs) (λ c κs. search needs) (λ c. search needs) (λ c. search needs)
     (λ c. search needs) (λ c. search needs) (λ c. search needs) (λ c. search needs)
     (λ c.
-    let at-loop = c .before .before .before .before .before in
-    let l = at-loop .loop in
-    let a = at-loop .before .args in (
-      omega arith,
-      search needs,
-      search needs,
-      both-next (l .g) _ _ (l .high) (l .low) (omega arith) (omega arith)
-          (λ i. joining (getD (a .p .now) i 0) (getD (a .q .now) i 0) (getD (a .r .now) i 0)) (c .joined .ensures) (l .inv .3),
-    ))
+    let l = c .before .before .before .before .before .loop in
+    let next = both-next (l .g) _ _ (l .high) (l .low) (omega arith) (omega arith) _ (c .joined .ensures) (l .inv .3) in
+    (omega arith, search needs, search needs, next))
     (λ c. let l = c .before .loop in (λ j h. l .inv .3 j (omega arith), l .inv .1, l .inv .2)))

@@ -18,12 +18,6 @@ products-spec =
     (λ c. search needs) (λ c. search needs) (λ c. search needs) (λ c. search needs) (λ c κs. search needs) (λ c. search needs)
     (λ c. search needs) (λ c. search needs) (λ c. search needs)
     (λ c.
-    let at-loop = c .before .before .before in
-    let l = at-loop .loop in
-    let a = at-loop .before .before .before .before .before .args in (
-      omega arith,
-      search needs,
-      l .inv .2,
-      each-next (λ i. clmul 32 (getD (a .x .now) i 0) (a .y)) (l .g) _ (l .z) (omega arith) (c .clmul32 .ensures) (l .inv .3),
-    ))
-    (λ c. λ j h. c .before .loop .inv .3 j (omega arith)))
+    let l = c .before .before .before .loop in
+    (omega arith, search needs, l .inv .2, each-next _ (l .g) _ (l .z) (omega arith) (c .clmul32 .ensures) (l .inv .3)))
+    (λ c j h. c .before .loop .inv .3 j (omega arith)))

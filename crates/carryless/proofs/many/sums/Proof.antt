@@ -15,11 +15,6 @@ sums-spec =
     (λ c. search needs) (λ c. search needs) (λ c. search needs) (λ c. search needs) (λ c. search needs) (λ c. search needs)
     (λ c. search needs) (λ c. search needs) (λ c. search needs)
     (λ c.
-    let at-loop = c .before .before .before in
-    let l = at-loop .loop in
-    let a = at-loop .before .args in (
-      omega arith,
-      search needs,
-      each-next (λ i. getD (a .a .now) i 0 ⊕ getD (a .b .now) i 0) (l .g) _ (l .r) (omega arith) refl (l .inv .2),
-    ))
-    (λ c. λ j h. c .before .loop .inv .2 j (omega arith)))
+    let l = c .before .before .before .loop in
+    (omega arith, search needs, each-next _ (l .g) _ (l .r) (omega arith) refl (l .inv .2)))
+    (λ c j h. c .before .loop .inv .2 j (omega arith)))

@@ -14,8 +14,12 @@ use Rattle.field.proofs.Reduction.{gmul-clmul}
 use Rattle.field.proofs.many.multiply.Statement.{statement}
 use Rattle.field.proofs.many.multiply.Tie as tie
 
-reduce-each-requires : tie.Need-reduce-each-requires
-reduce-each-requires c κs =
+pub multiply-spec : {M : Type 1} → statement M
+multiply-spec =
+    tie.close
+    (tie.spec
+    (λ c κs. search needs) (λ c κs. search (needs, lends-high)) (λ c κs. search (needs, lends-low)) (λ c κs. search (needs, lends-both))
+    (λ c κs.
     let at-both = c .before .before .before .before .before .before .before .before in
     let at-low = at-both .before .before .before .before .before in
     let at-high = at-low .before .before .before .before in
@@ -30,10 +34,8 @@ reduce-each-requires c κs =
         λ g h. subst (λ (v : ℕ). v < 2 ^ 127) (sym (high .0 g h)) (clmul-lt 63 64 (getD (S .args .high .now) g 0) y small),
       ),
       (high .1, high .2, low .1, low .2, both .1, both .2, S .pre .2, S .pre .3),
-    )
-
-returns : tie.Need-returns
-returns c =
+    ))
+    (λ c.
     let at-both = c .before .before .before .before .before .before .before .before .before in
     let at-low = at-both .before .before .before .before .before in
     let at-high = at-low .before .before .before .before in
@@ -55,11 +57,4 @@ returns c =
           ∙ gmul-clmul (lane x1 x0 g) (value y),
       done .1,
       done .2,
-    )
-
-pub multiply-spec : {M : Type 1} → statement M
-multiply-spec =
-    tie.close
-    (tie.spec
-    (λ c κs. search needs) (λ c κs. search (needs, lends-high)) (λ c κs. search (needs, lends-low)) (λ c κs. search (needs, lends-both))
-    reduce-each-requires returns)
+    )))

@@ -10,26 +10,6 @@ use Rattle.ghash.proofs.Sets.{lanes-few, starts-first}
 use Rattle.ghash.proofs.interleaved.absorb_lanes.Statement.{statement}
 use Rattle.ghash.proofs.interleaved.absorb_lanes.Tie as tie
 
-returns : tie.Need-returns
-returns c =
-    let at-hashes = c .before .before in
-    let at-new = at-hashes .before .before .before in
-    let at-sets = at-new .before in
-    let at-power = at-sets .before .before .before .before .before in
-    let S = at-power .before .before .before in
-    let g = S .args .g in
-    let bytes = S .args .bytes .now in
-    let element = whole-lt (g .h .high) (g .h .low) (omega (arith, S .good .0)) (omega (arith, S .good .0)) in
-    let sets = at-sets .absorb-sets .ensures in
-    absorbed-cut g _ _ bytes (at-sets .absorb-sets .result) (sets .1)
-    (record {
-      key = at-hashes .absorb-hashes .ensures .key ∙ at-new .new .ensures .0;
-      hash =
-          hash-of _ _ _ _ (at-new .new .ensures) (at-hashes .absorb-hashes .ensures)
-          ∙ sets .0 (value (g .h)) (value (g .y)) element (at-power .lane-power .ensures) (starts-first _ (g .y .high) (g .y .low));
-    })
-    (c .absorb-each .ensures)
-
 pub absorb-lanes-spec : {M : Type 1} → statement M
 absorb-lanes-spec =
     tie.close
@@ -51,4 +31,22 @@ absorb-lanes-spec =
     let S = at-sets .before .before .before .before .before .before .before .before in
     let room : 16 * at-sets .absorb-sets .result ≤ length (S .args .bytes .now) = at-sets .absorb-sets .ensures .1 in
     record { fits = lt-of-le-of-lt room (omega (arith, S .good .1)) })
-    (λ c. search needs) (λ c. search needs) (λ c. search needs) (λ c κs. search needs) returns)
+    (λ c. search needs) (λ c. search needs) (λ c. search needs) (λ c κs. search needs)
+    (λ c.
+    let at-hashes = c .before .before in
+    let at-new = at-hashes .before .before .before in
+    let at-sets = at-new .before in
+    let at-power = at-sets .before .before .before .before .before in
+    let S = at-power .before .before .before in
+    let g = S .args .g in
+    let bytes = S .args .bytes .now in
+    let element = whole-lt (g .h .high) (g .h .low) (omega (arith, S .good .0)) (omega (arith, S .good .0)) in
+    let sets = at-sets .absorb-sets .ensures in
+    absorbed-cut g _ _ bytes (at-sets .absorb-sets .result) (sets .1)
+    (record {
+      key = at-hashes .absorb-hashes .ensures .key ∙ at-new .new .ensures .0;
+      hash =
+          hash-of _ _ _ _ (at-new .new .ensures) (at-hashes .absorb-hashes .ensures)
+          ∙ sets .0 (value (g .h)) (value (g .y)) element (at-power .lane-power .ensures) (starts-first _ (g .y .high) (g .y .low));
+    })
+    (c .absorb-each .ensures)))

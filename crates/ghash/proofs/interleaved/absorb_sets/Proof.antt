@@ -10,17 +10,18 @@ use Rattle.ghash.proofs.Sets.{lent-block, hashed-first, hashed-next}
 use Rattle.ghash.proofs.interleaved.absorb_sets.Statement.{statement}
 use Rattle.ghash.proofs.interleaved.absorb_sets.Tie as tie
 
-abbrev Inv-loop : tie.InvT-loop
-Inv-loop p m n bytes high₀ low₀ all b₀ high low b =
+pub absorb-sets-spec : {M : Type 1} → statement M
+absorb-sets-spec =
+    tie.close
+    (tie.spec
+    (λ p m n bytes high₀ low₀ all b₀ high low b.
     (b ≤ all) × (length high ≡ 16) × (length low ≡ 16) × ((k : ℕ) → k < n → Element (lane high low k))
     × ((h y : ℕ) → Element h → value p ≡ gpow h n → Hashed h y (upTo b₀ (blockNumber bytes)) n (lane high₀ low₀)
-    → Hashed h y (upTo b (blockNumber bytes)) n (lane high low))
-
-abbrev μ-loop : tie.MeasureT-loop
-μ-loop p m n bytes high₀ low₀ all b₀ high low b = all - b
-
-loop-again : tie.Need-loop-again Inv-loop μ-loop
-loop-again c =
+    → Hashed h y (upTo b (blockNumber bytes)) n (lane high low)))
+    (λ p m n bytes high₀ low₀ all b₀ high low b. all - b) (λ c κs. search needs) (λ c. search needs) (λ c. search needs)
+    (λ c κs. search needs) (λ c. search needs) (λ c. search needs) (λ c. search needs) (λ c. search needs) (λ c κs. search needs)
+    (λ c. search needs) (λ c. search needs)
+    (λ c.
     let at-mul = c .before .before .before .before in
     let in-loop = at-mul .before .before .before in
     let at-loop = in-loop .before in
@@ -36,14 +37,7 @@ loop-again c =
       λ h y hh power done.
           hashed-next h hh n y (l .b) (value (S .args .p)) (blockNumber bytes) _ (lane (l .high) (l .low)) _ _ power (lent-block bytes (l .b))
           (l .inv .3) (l .inv .4 h y hh power done) (at-mul .multiply .ensures .0) (added .0),
-    )
-
-pub absorb-sets-spec : {M : Type 1} → statement M
-absorb-sets-spec =
-    tie.close
-    (tie.spec
-    Inv-loop μ-loop (λ c κs. search needs) (λ c. search needs) (λ c. search needs) (λ c κs. search needs) (λ c. search needs)
-    (λ c. search needs) (λ c. search needs) (λ c. search needs) (λ c κs. search needs) (λ c. search needs) (λ c. search needs) loop-again
+    ))
     (λ c.
     let l = c .before .loop in
     let first = c .before .before in

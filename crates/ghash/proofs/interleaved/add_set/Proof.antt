@@ -13,18 +13,21 @@ use Rattle.ghash.proofs.Sets.{lent-number}
 use Rattle.ghash.proofs.interleaved.add_set.Statement.{statement}
 use Rattle.ghash.proofs.interleaved.add_set.Tie as tie
 
-abbrev Inv-loop : tie.InvT-loop
-Inv-loop bytes n high₀ low₀ k₀ high low k =
+pub add-set-spec : {M : Type 1} → statement M
+add-set-spec =
+    tie.close
+    (tie.spec
+    (λ bytes n high₀ low₀ k₀ high low k.
     (k ≤ n) × (length high ≡ 16) × (length low ≡ 16)
     × Both (λ j. lane high₀ low₀ j ⊕ blockNumber bytes j) k high low
     × ((j : ℕ) → j < k → Element (lane high low j))
-    × ((j : ℕ) → k ≤ j → lane high low j ≡ lane high₀ low₀ j)
-
-abbrev μ-loop : tie.MeasureT-loop
-μ-loop bytes n high₀ low₀ k₀ high low k = n - k
-
-loop-again : tie.Need-loop-again Inv-loop μ-loop
-loop-again c =
+    × ((j : ℕ) → k ≤ j → lane high low j ≡ lane high₀ low₀ j))
+    (λ bytes n high₀ low₀ k₀ high low k. n - k)
+    (λ c. (search needs, search needs, search needs, λ j h. absurd (omega arith), λ j h. absurd (omega arith), λ j h. refl))
+    (λ c. search needs) (λ c. search needs) (λ c. search needs) (λ c. search needs) (λ c κs. search needs) (λ c κs. search needs)
+    (λ c. search needs) (λ c. search needs) (λ c. search needs) (λ c. search needs) (λ c κs. search needs) (λ c. search needs)
+    (λ c. search needs) (λ c. search needs) (λ c. search needs) (λ c. search needs) (λ c. search needs)
+    (λ c.
     let at-number = c .before .before .before in
     let at-split = at-number .before in
     let at-loop = at-split .before .before .before in
@@ -51,17 +54,7 @@ loop-again c =
           (rw (lane-same k u v (l .high) (l .low) ha hb) (whole-lt u v (omega (arith, c .add .ok)) (omega (arith, c .add .ok))))
           (λ j h. rw (lane-other k u v (l .high) (l .low) ha hb j (λ e. omega arith)) (l .inv .4 j h)),
       λ j h. lane-other k u v (l .high) (l .low) ha hb j (λ e. omega arith) ∙ l .inv .5 j (omega arith),
-    )
-
-pub add-set-spec : {M : Type 1} → statement M
-add-set-spec =
-    tie.close
-    (tie.spec
-    Inv-loop μ-loop
-    (λ c. (search needs, search needs, search needs, λ j h. absurd (omega arith), λ j h. absurd (omega arith), λ j h. refl))
-    (λ c. search needs) (λ c. search needs) (λ c. search needs) (λ c. search needs) (λ c κs. search needs) (λ c κs. search needs)
-    (λ c. search needs) (λ c. search needs) (λ c. search needs) (λ c. search needs) (λ c κs. search needs) (λ c. search needs)
-    (λ c. search needs) (λ c. search needs) (λ c. search needs) (λ c. search needs) (λ c. search needs) loop-again
+    ))
     (λ c.
     let l = c .before .loop in
     (λ j h. l .inv .3 j (omega arith), λ j h. l .inv .4 j (omega arith), l .inv .1, l .inv .2)))

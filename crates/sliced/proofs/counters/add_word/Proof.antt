@@ -8,22 +8,34 @@ use Rattle.sliced.proofs.Ripple.{Rippled, rippled-first, rippled-next, 
 use Rattle.sliced.proofs.counters.add_word.Statement.{statement}
 use Rattle.sliced.proofs.counters.add_word.Tie as tie
 
-abbrev Inv-loop : tie.InvT-loop
-Inv-loop x₀ n w m y₀ i₀ x y i = (i ≤ n) × (length x ≡ 256) × (length y ≡ 8) × Masks 32 (λ k. bit k w) m × Rippled w i x₀ y₀ x y
-
-abbrev μ-loop : tie.MeasureT-loop
-μ-loop x₀ n w m y₀ i₀ x y i = n - i
-
-abbrev Inv-loop2 : tie.InvT-loop2
-Inv-loop2 x₁ n w m y₁ i₁ x y i =
+pub add-word-spec : {M : Type 1} → statement M
+add-word-spec =
+    tie.close
+    (tie.spec
+    (λ x₀ n w m y₀ i₀ x y i. (i ≤ n) × (length x ≡ 256) × (length y ≡ 8) × Masks 32 (λ k. bit k w) m × Rippled w i x₀ y₀ x y)
+    (λ x₀ n w m y₀ i₀ x y i. n - i)
+    (λ x₁ n w m y₁ i₁ x y i.
     (i₁ ≤ i) × (i ≤ 32) × (length x ≡ 256) × (length y ≡ 8) × Masks 32 (λ k. bit k w) m
-    × ((x₀ y₀ : List ℕ) → Rippled w i₁ x₀ y₀ x₁ y₁ → Rippled w i x₀ y₀ x y)
-
-abbrev μ-loop2 : tie.MeasureT-loop2
-μ-loop2 x₁ n w m y₁ i₁ x y i = 32 - i
-
-loop2-again : tie.Need-loop2-again Inv-loop μ-loop Inv-loop2 μ-loop2
-loop2-again c =
+    × ((x₀ y₀ : List ℕ) → Rippled w i₁ x₀ y₀ x₁ y₁ → Rippled w i x₀ y₀ x y))
+    (λ x₁ n w m y₁ i₁ x y i. 32 - i) (λ c κs. search needs) (λ c. search (needs, rippled-first)) (λ c κs. search needs)
+    (λ c. search needs) (λ c. search needs) (λ c κs. search needs) (λ c. search needs) (λ c. search needs)
+    (λ c.
+    let at-row = c .before .before in
+    let at-loop = at-row .before .before .before .before in
+    let l = at-loop .loop in
+    let S = at-loop .before .before .before in
+    let a = S .args in
+    let R = c .add-row .ensures in
+    let n = S .pre .0 in (
+      omega arith,
+      R .size-x,
+      R .size-y,
+      l .inv .3,
+      rippled-next (a .w) (l .i) _ _ (a .x .now) (a .y) (l .x) (l .carries) _ _ (λ k h. l .inv .3 (l .i) k (omega arith) h)
+          (at-row .row .ensures) (l .inv .4) R,
+    ))
+    (λ c. search needs) (λ c. search needs) (λ c. search needs) (λ c κs. search needs) (λ c. search needs) (λ c. search needs)
+    (λ c.
     let at-loop2 = c .before .before .before .before in
     let l = at-loop2 .loop2 in
     let at-loop = at-loop2 .before .before in
@@ -41,30 +53,7 @@ loop2-again c =
           rippled-next (a .w) (l .i) _ _ x₀ y₀ (l .x) (l .carries) _ _ (λ k h. l .inv .4 (l .i) k (omega arith) h)
           (λ q h. blank-room 8 q ∙ sym (P .rest (8 * l .i + q) (omega arith) ∙ S .pre .2 (8 * l .i + q) (omega arith)))
           (l .inv .5 x₀ y₀ Q) R,
-    )
-
-pub add-word-spec : {M : Type 1} → statement M
-add-word-spec =
-    tie.close
-    (tie.spec
-    Inv-loop μ-loop Inv-loop2 μ-loop2 (λ c κs. search needs) (λ c. search (needs, rippled-first)) (λ c κs. search needs)
-    (λ c. search needs) (λ c. search needs) (λ c κs. search needs) (λ c. search needs) (λ c. search needs)
-    (λ c.
-    let at-row = c .before .before in
-    let at-loop = at-row .before .before .before .before in
-    let l = at-loop .loop in
-    let S = at-loop .before .before .before in
-    let a = S .args in
-    let R = c .add-row .ensures in
-    let n = S .pre .0 in (
-      omega arith,
-      R .size-x,
-      R .size-y,
-      l .inv .3,
-      rippled-next (a .w) (l .i) _ _ (a .x .now) (a .y) (l .x) (l .carries) _ _ (λ k h. l .inv .3 (l .i) k (omega arith) h)
-          (at-row .row .ensures) (l .inv .4) R,
     ))
-    (λ c. search needs) (λ c. search needs) (λ c. search needs) (λ c κs. search needs) (λ c. search needs) (λ c. search needs) loop2-again
     (λ c.
     let l = c .before .loop2 in
     let at-loop = c .before .before .before in

@@ -10,8 +10,20 @@ use Rattle.sliced.proofs.CounterDigits.{added-number, added-carry, lane
 use Rattle.sliced.proofs.counters.count.Statement.{statement}
 use Rattle.sliced.proofs.counters.count.Tie as tie
 
-returns : tie.Need-returns
-returns c =
+pub count-spec : {M : Type 1} → statement M
+count-spec =
+    tie.close
+    (tie.spec
+    (λ c κs. search needs) (λ c. search needs) (λ c κs. search needs) (λ c κs. search needs) (λ c. search needs)
+    (λ c κs. let x = c .before .before .before .before .before .before .pre .2 in (search needs, x .0, λ p h. x .1 p)) (λ c. search needs)
+    (λ c κs.
+    let x = c .before .before .before .before .before .before .before .before .pre .1 in
+    (search needs, x .0, λ p h. x .1 p))
+    (λ c. search needs)
+    (λ c κs.
+    let x = c .before .before .before .before .before .before .before .before .before .before .pre .0 in
+    (search needs, x .0, λ p h. x .1 p))
+    (λ c.
     let W0 = c .add-word4 in
     let at1 = c .before .before in
     let W1 = at1 .add-word3 in
@@ -38,19 +50,4 @@ returns c =
           (added-carry (getD x 1 0) (a .x1 .now) (W2 .result) (W1 .last .0) (W1 .result) e (W1 .ensures .0) he (S .pre .1 .1))
           (added-carry (getD x 0 0) (a .x0 .now) (W1 .result) (W0 .last .0) (W0 .result) e (W0 .ensures .0) he (S .pre .0 .1))),
       (W0 .ensures .1, W1 .ensures .1, W2 .ensures .1, W3 .ensures .1),
-    )
-
-pub count-spec : {M : Type 1} → statement M
-count-spec =
-    tie.close
-    (tie.spec
-    (λ c κs. search needs) (λ c. search needs) (λ c κs. search needs) (λ c κs. search needs) (λ c. search needs)
-    (λ c κs. let x = c .before .before .before .before .before .before .pre .2 in (search needs, x .0, λ p h. x .1 p)) (λ c. search needs)
-    (λ c κs.
-    let x = c .before .before .before .before .before .before .before .before .pre .1 in
-    (search needs, x .0, λ p h. x .1 p))
-    (λ c. search needs)
-    (λ c κs.
-    let x = c .before .before .before .before .before .before .before .before .before .before .pre .0 in
-    (search needs, x .0, λ p h. x .1 p))
-    returns)
+    )))
