@@ -1,14 +1,8 @@
 -- Where a number below a modulus comes round, as the code tests it: one more is 0, and a count is more than what is left.
 -- Assumes nothing.
-use mathlib.Core.Path.{_≡_, sym, ap, _∙_}
-use mathlib.Core.Bool.{false}
-use mathlib.Core.Logic.{inl, inr}
-use Prim.Native.Nat.{ℕ, _+_, _-_, _*_, _%_, _<_, _≤_}
-use native.Mathlib.Nat.{mod-eq-of-lt, mod-self, eq-or-lt-of-le, add-mul, one-mul, mul-le-mul-right}
-use native.Mathlib.Omega.{arith}
-use lib.Bits.{bitOr, or-add-and, and-le-l, and-le-r}
-use lib.Dec.{eqb, leb, ltb}
-use borrow.Author.Tests.{eq-eqb, ne-eqb, eqb-true, le-leb, lt-leb, leb-true, lt-ltb, ltb-true}
+use Rattle.block.proofs.Base.{_≡_, sym, ap, _∙_, false, inl, inr, ℕ, _+_, _-_, _*_, _%_, _<_, _≤_, mod-eq-of-lt, mod-self, eq-or-lt-of-le}
+use Rattle.block.proofs.Base.{add-mul, one-mul, mul-le-mul-right, arith, bitOr, or-add-and, and-le-l, and-le-r, eqb, leb, ltb, eq-eqb}
+use Rattle.block.proofs.Base.{ne-eqb, eqb-true, le-leb, lt-leb, leb-true, lt-ltb, ltb-true}
 use Rattle.block.specs.Wide.{whole}
 use Rattle.block.proofs.Same.{test-iff}
 

@@ -1,11 +1,7 @@
 -- The length block: it is two halves of 64 bits where the lengths in bits fit them, and then it tells the lengths.
 -- Assumes nothing.
-use mathlib.Core.Path.{_≡_, sym, ap, ap₂, _∙_}
-use Prim.Native.Nat.{ℕ, _*_, _/_, _%_, _^_, _<_}
-use native.Mathlib.Nat.{mod-eq-of-lt, mod-lt}
-use native.Mathlib.Omega.{arith}
-use lib.Arith.{digits-lt, digits-div, digits-mod}
-use lib.Dec.{lit<}
+use Rattle.block.proofs.Base.{_≡_, sym, ap, ap₂, _∙_, ℕ, _*_, _/_, _%_, _^_, _<_, mod-eq-of-lt, mod-lt, arith, digits-lt, digits-div}
+use Rattle.block.proofs.Base.{digits-mod, lit<}
 use Rattle.block.specs.BigEndian.{bytesOf}
 use Rattle.block.specs.Wide.{whole}
 use Rattle.block.proofs.Convert.{length-bytesOf, numberOf-bytesOf, numberOf-append}

@@ -1,10 +1,7 @@
 -- The blocks of a list of bytes are elements of the field, and with the list's length they tell it.
 -- Assumes nothing.
-use mathlib.Core.Path.{_≡_, refl, sym, ap, ap₂, _∙_}
-use mathlib.Core.List.{List, [], _∷_, _++_}
-use Prim.Native.Nat.{ℕ, zero, suc, _-_, _*_, _≤_}
-use native.Mathlib.Omega.{arith}
-use lib.ListN.{length, drop, length-drop, take-append-drop}
+use Rattle.block.proofs.Base.{_≡_, refl, sym, ap, ap₂, _∙_, List, [], _∷_, _++_, ℕ, zero, suc, _-_, _*_, _≤_, arith, length, drop}
+use Rattle.block.proofs.Base.{length-drop, take-append-drop}
 use Rattle.block.specs.Below.{AreBytes}
 use Rattle.block.proofs.Entries.{below-drop}
 use Rattle.ghash.specs.Ghash.{blocksFrom, blockCount, blocks}

@@ -1,14 +1,8 @@
 -- The S-boxes of a byte, column by column.
 -- Assumes nothing.
-use mathlib.Core.Path.{_≡_, refl, sym, ap, ap₂, _∙_}
-use mathlib.Core.Logic.{_⊎_, inl, inr, ⊎-elim}
-use mathlib.Core.List.{List, [], _∷_}
-use Prim.Native.Nat.{ℕ, zero, suc, _+_, _-_, _*_, _/_, _%_, _^_, _<_, _≤_}
-use native.Mathlib.Nat.{add-zero, mod-lt, mod-eq-of-lt}
-use native.Mathlib.Omega.{arith}
-use lib.Dec.{lit<}
-use lib.ListN.{getD, length, set, length-set}
-use lib.Seq.{getD-set-same, getD-set-other}
+use Rattle.block.proofs.Base.{_≡_, refl, sym, ap, ap₂, _∙_, _⊎_, inl, inr, ⊎-elim, List, [], _∷_, ℕ, zero, suc, _+_, _-_, _*_, _/_, _%_}
+use Rattle.block.proofs.Base.{_^_, _<_, _≤_, add-zero, mod-lt, mod-eq-of-lt, arith, lit<, getD, length, set, length-set, getD-set-same}
+use Rattle.block.proofs.Base.{getD-set-other}
 use Rattle.block.specs.Xor.{_⊕_}
 use Rattle.lanes.specs.Bits.{bit, pack, byteLane, Masks}
 use Rattle.lanes.proofs.Bits.{bit-small, bit-xor, bit-mod, bit-shr, bit-pack, pack-is, lt-or-le}
