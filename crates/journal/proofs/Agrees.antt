@@ -1,5 +1,4 @@
--- Calls that were recorded as they were answered agree, and only they do; of those that differ the first is told.
--- Assumes nothing.
+-- Calls that were recorded as they were answered agree, and only they do; of those that differ the first is told. Assumes nothing.
 use mathlib.Core.Path.{_≡_, refl, sym, ap, _∙_}
 use mathlib.Core.Bool.{Bool, true, false, not}
 use mathlib.Core.List.{List, [], _∷_, _++_}

@@ -1,5 +1,4 @@
--- A record that stands whole is read the same, whatever is behind it.
--- Assumes nothing.
+-- A record that stands whole is read the same, whatever is behind it. Assumes nothing.
 use mathlib.Core.Path.{_≡_, ap, _∙_}
 use mathlib.Core.Bool.{true}
 use mathlib.Core.List.{List, _++_}

@@ -1,5 +1,4 @@
--- Reading and writing a record are each other's inverse.
--- Assumes nothing.
+-- Reading and writing a record are each other's inverse. Assumes nothing.
 use mathlib.Core.Path.{_≡_, refl, sym, ap, ap₂, _∙_}
 use mathlib.Core.Bool.{true}
 use mathlib.Core.List.{List, [], _∷_, _++_, append-assoc}

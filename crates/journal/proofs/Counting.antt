@@ -1,5 +1,4 @@
--- No count passes the place that a replay has come to, so no sum wraps.
--- Assumes nothing.
+-- No count passes the place that a replay has come to, so no sum wraps. Assumes nothing.
 use mathlib.Core.Path.{_≡_, refl}
 use mathlib.Core.Bool.{Bool, true, false, cond}
 use mathlib.Core.List.{List, [], _∷_}

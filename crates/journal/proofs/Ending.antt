@@ -1,5 +1,4 @@
--- Which number a replay ends with exactly when: it ends as the bytes say that stand there, and in no other way.
--- Assumes nothing.
+-- Which number a replay ends with exactly when: it ends as the bytes say that stand there, and in no other way. Assumes nothing.
 use mathlib.Core.Path.{_≡_, refl, sym, ap, _∙_}
 use mathlib.Core.Bool.{Bool, true, false, not}
 use mathlib.Core.List.{List, [], _∷_, _++_, append-assoc, append-nil}

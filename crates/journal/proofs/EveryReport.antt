@@ -1,5 +1,4 @@
--- What holds before the first record, and goes on with each record that is counted, holds of every report of a replay.
--- Assumes nothing.
+-- What holds before the first record, and goes on with each record that is counted, holds of every report of a replay. Assumes nothing.
 use mathlib.Core.Bool.{Bool, true, false, not, cond}
 use mathlib.Core.List.{List}
 use Prim.Native.Nat.{ℕ, zero, suc, _+_}

@@ -1,6 +1,5 @@
 -- What a call gives does not depend on the output that it is lent: a report, and bytes that stand over the output's front. Of data
--- within the limits these are at most 16 bytes more than the data has.
--- Assumes nothing.
+-- within the limits these are at most 16 bytes more than the data has. Assumes nothing.
 use mathlib.Core.Path.{_≡_, refl, sym, ap}
 use mathlib.Core.Bool.{Bool, true, false, _&&_, cond}
 use mathlib.Core.List.{List, []}

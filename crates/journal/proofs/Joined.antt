@@ -1,5 +1,4 @@
--- The report of two journals joined is their reports added, where the first is replayed to its end.
--- Assumes nothing.
+-- The report of two journals joined is their reports added, where the first is replayed to its end. Assumes nothing.
 use mathlib.Core.Path.{_≡_, refl, sym, ap, _∙_}
 use mathlib.Core.Bool.{Bool, true, false}
 use mathlib.Core.List.{List, [], _∷_, _++_}

@@ -1,5 +1,4 @@
--- The keys are looked at one after another.
--- Assumes nothing.
+-- The keys are looked at one after another. Assumes nothing.
 use mathlib.Core.Path.{_≡_, refl, sym, _∙_}
 use mathlib.Core.Bool.{false, _||_, cond}
 use mathlib.Core.List.{List, [], _∷_}

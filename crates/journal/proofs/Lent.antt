@@ -1,5 +1,4 @@
--- A call within the limits gives the same whether it is lent the recorded room or no more than the longest output.
--- Assumes nothing.
+-- A call within the limits gives the same whether it is lent the recorded room or no more than the longest output. Assumes nothing.
 use mathlib.Core.Path.{_≡_, refl, sym, ap, _∙_}
 use mathlib.Core.Logic.{_⊎_, ⊎-elim}
 use mathlib.Core.Bool.{Bool, true, false, cond}

@@ -1,5 +1,4 @@
--- The parts of an entry that is not too long.
--- Assumes nothing.
+-- The parts of an entry that is not too long. Assumes nothing.
 use mathlib.Core.Path.{_≡_, refl}
 use mathlib.Core.Bool.{Bool, true, false, _||_}
 use Prim.Native.Nat.{ℕ, _≤_}

@@ -1,5 +1,4 @@
--- What is read of a record can be written again.
--- Assumes nothing.
+-- What is read of a record can be written again. Assumes nothing.
 use mathlib.Core.Path.{_≡_}
 use mathlib.Core.Bool.{true}
 use mathlib.Core.List.{List, [], _∷_}

@@ -1,5 +1,4 @@
--- Replay goes on record by record.
--- Assumes nothing.
+-- Replay goes on record by record. Assumes nothing.
 use mathlib.Core.Path.{_≡_, refl, sym, ap, _∙_}
 use mathlib.Core.Bool.{Bool, true, false, not, cond}
 use mathlib.Core.List.{List}

@@ -1,5 +1,4 @@
--- What is known of a record that stands whole: its parts stand whole one behind the other, and they make up its size.
--- Assumes nothing.
+-- What is known of a record that stands whole: its parts stand whole one behind the other, and they make up its size. Assumes nothing.
 use mathlib.Core.Path.{_≡_, refl, sym, ap, _∙_}
 use mathlib.Core.Bool.{Bool, true, false}
 use mathlib.Core.List.{List}

@@ -1,5 +1,4 @@
--- Calls by answer, and calls by mode, sum to the records; a first difference is one of them.
--- Assumes nothing.
+-- Calls by answer, and calls by mode, sum to the records; a first difference is one of them. Assumes nothing.
 use mathlib.Core.Path.{_≡_, refl, ap, _∙_}
 use mathlib.Core.Bool.{Bool, true, false}
 use mathlib.Core.List.{List, [], _∷_}

@@ -1,5 +1,4 @@
--- The report has the exact totals of the calls that were replayed.
--- Assumes nothing.
+-- The report has the exact totals of the calls that were replayed. Assumes nothing.
 use mathlib.Core.Path.{_≡_, refl, sym, _∙_}
 use mathlib.Core.Bool.{Bool, true, false, cond}
 use mathlib.Core.List.{List, [], _∷_}

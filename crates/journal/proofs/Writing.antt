@@ -1,5 +1,4 @@
--- The parts of a record are written one behind the other.
--- Assumes nothing.
+-- The parts of a record are written one behind the other. Assumes nothing.
 use mathlib.Core.Path.{_≡_, ap, _∙_}
 use mathlib.Core.Bool.{true, false}
 use mathlib.Core.List.{List, _++_, append-assoc}

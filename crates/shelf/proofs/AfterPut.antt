@@ -1,10 +1,9 @@
 -- What stands after a put that is done, and after a collection: a shelf in order, the new record under its job, and every other job's
--- current record as it was.
--- Assumes nothing.
+-- current record as it was. Assumes nothing.
 use mathlib.Core.Path.{_≡_, refl, sym, ap, _∙_}
 use mathlib.Core.Bool.{Bool, true, false}
 use mathlib.Core.List.{List, [], _∷_, _++_, append-nil}
-use Prim.Native.Nat.{ℕ, _+_, _-_, _≤_, _<_, _^_}
+use Prim.Native.Nat.{ℕ, _≤_, _<_, _^_}
 use native.Mathlib.Omega.{arith}
 use lib.Dec.{ltb, eqb, lit<}
 use lib.ListN.{length, take, drop, length-append, length-drop}
@@ -25,8 +24,8 @@ use Rattle.shelf.proofs.Inverse.{records-stored}
 use Rattle.shelf.proofs.Sound.{in-order, not-bad}
 use Rattle.shelf.proofs.Putting.{length-made, enough}
 use Rattle.shelf.proofs.Outcomes.{collect-done}
-use Rattle.shelf.proofs.Current.{at-most-one, no-two, collected-length, collected-again}
-use Rattle.shelf.proofs.Current.{current-collected, current-fitted, current-new, current-kept}
+use Rattle.shelf.proofs.Current.{at-most-one, no-two, collected-length, collected-again, current-collected, current-fitted}
+use Rattle.shelf.proofs.Current.{current-new, current-kept}
 use Rattle.shelf.proofs.ReadsProper.{records-proper, those-proper, put-proper}
 use Rattle.shelf.proofs.FoundPart.{look-up}
 

@@ -1,7 +1,6 @@
--- Where a shelf breaks off: all is in order where no job has two current records, and otherwise less than all.
--- Assumes nothing.
+-- Where a shelf breaks off: all is in order where no job has two current records, and otherwise less than all. Assumes nothing.
 use mathlib.Core.Path.{_≡_, refl, sym, ap, ap₂, _∙_}
-use mathlib.Core.Bool.{Bool, true, false, _&&_, cond}
+use mathlib.Core.Bool.{true, false, _&&_, cond}
 use mathlib.Core.List.{List, [], _∷_, _++_, append-assoc, append-nil}
 use Prim.Native.Nat.{ℕ, _+_, _≤_, _<_}
 use native.Mathlib.Omega.{arith}
@@ -16,15 +15,12 @@ use Rattle.shelf.specs.declared.records.Head.{Head}
 use Rattle.shelf.specs.Records.{Record, Proper, written, stored, records, headAt}
 use Rattle.shelf.specs.Shelf.{isCurrentOf, those, currentOf, hasCurrent, twoCurrent}
 use Rattle.shelf.specs.Steps.{soundFrom, soundUpTo}
-use Rattle.shelf.proofs.Reading.{length-written, records-empty, Turn, entry, entry-front}
+use Rattle.shelf.proofs.Reading.{by-test, length-written, records-empty, Turn, entry, entry-front}
 use Rattle.shelf.proofs.Walks.{none-current}
 use Rattle.shelf.proofs.Inverse.{entry-written, stored-records, written-reads, records-behind}
 use Rattle.shelf.proofs.Putting.{stored-append, those-append}
 use Rattle.shelf.proofs.Current.{current-none, own-current, at-most-one, no-two}
 use Rattle.shelf.proofs.ReadsProper.{front-proper, records-proper}
-
-shifted : (passed : List Record) (r : Record) (rs : List Record) → (passed ++ (r ∷ [])) ++ rs ≡ passed ++ (r ∷ rs)
-shifted passed r rs = append-assoc passed (r ∷ []) rs
 
 -- how many current records of a job there are, with one more
 length-more : (job : ℕ) (passed : List Record) (r : Record) (rs : List Record)
@@ -33,34 +29,21 @@ length-more : (job : ℕ) (passed : List Record) (r : Record) (rs : List Record)
 unfolding those
 length-more job passed r rs = ap length (those-append (isCurrentOf job) passed (r ∷ rs)) ∙ length-append (currentOf job passed) _
 
-first-by : (passed : List Record) (r : Record) (rs : List Record) (t : Bool) → r .current ≡ t → twoCurrent (passed ++ (r ∷ rs)) ≡ false
-    → t && hasCurrent (r .job) passed ≡ false
-first-by passed r rs false e f = refl
-first-by passed r rs true e f =
-    let all = at-most-one (passed ++ (r ∷ rs)) f (r .job) in
-    let n = length-more (r .job) passed r rs in
-    let m = rw (own-current r e) at n in
-    current-none (r .job) passed (omega arith)
-
 -- it is no second one
 first : (passed : List Record) (r : Record) (rs : List Record) → twoCurrent (passed ++ (r ∷ rs)) ≡ false
     → r .current && hasCurrent (r .job) passed ≡ false
-first passed r rs = first-by passed r rs (r .current) refl
+first passed r rs f =
+    by-test (r .current)
+    (λ e.
+    let all = at-most-one (passed ++ (r ∷ rs)) f (r .job) in
+    rw e (current-none (r .job) passed (omega (arith, rw (own-current r e) at (length-more (r .job) passed r rs)))))
+    (λ e. rw e)
 
 pub sound-all : (passed rs : List Record) → twoCurrent (passed ++ rs) ≡ false → soundFrom passed rs ≡ length (stored rs)
 unfolding soundFrom stored
 sound-all passed [] e = refl
 sound-all passed (r ∷ rs) e =
-    rw (first passed r rs e, sound-all (passed ++ (r ∷ [])) rs (ap twoCurrent (shifted passed r rs) ∙ e))
-    (sym (length-append (written r) (stored rs)))
-
-more-by : (job : ℕ) (passed : List Record) (r : Record) (t : Bool) → isCurrentOf job r ≡ t → length (currentOf job passed) ≤ 1
-    → r .current && hasCurrent (r .job) passed ≡ false → length (currentOf job passed) + length (cond t (r ∷ []) []) ≤ 1
-more-by job passed r true e h f =
-    let same : r .job ≡ job = eqb-true (r .job) job (and-right (r .current) _ e) in
-    let none : hasCurrent job passed ≡ false = rw (and-left (r .current) _ e, same) at f in
-    rw (none-current job passed none) (omega arith)
-more-by job passed r false e h f = omega arith
+    rw (first passed r rs e, sound-all (passed ++ (r ∷ [])) rs (rw append-assoc e)) (sym (length-append (written r) (stored rs)))
 
 -- one more, that is no second one
 still-single : (passed : List Record) (r : Record) → twoCurrent passed ≡ false → r .current && hasCurrent (r .job) passed ≡ false
@@ -68,22 +51,25 @@ still-single : (passed : List Record) (r : Record) → twoCurrent passed ≡ fal
 unfolding those
 still-single passed r e f =
     no-two (passed ++ (r ∷ []))
-    (λ job. rw (length-more job passed r []) (more-by job passed r (isCurrentOf job r) refl (at-most-one passed e job) f))
-
-less-by : (passed : List Record) (r : Record) (rs : List Record) (t : Bool) → r .current && hasCurrent (r .job) passed ≡ t
-    → (t ≡ false → soundFrom (passed ++ (r ∷ [])) rs < length (stored rs)) → soundFrom passed (r ∷ rs) < length (stored (r ∷ rs))
-unfolding soundFrom stored
-less-by passed r rs true e more = let l = length-written r in rw (e, length-append) (omega arith)
-less-by passed r rs false e more = let m = more refl in rw (e, length-append) (omega arith)
+    (λ job. rw (length-more job passed r [])
+    (by-test (isCurrentOf job r)
+    (λ g.
+    let same : r .job ≡ job = eqb-true (r .job) job (and-right (r .current) _ g) in
+    let none : hasCurrent job passed ≡ false = rw (and-left (r .current) _ g, same) at f in
+    rw (g, none-current job passed none) (omega arith))
+    (λ g. rw g (omega (arith, at-most-one passed e job)))))
 
 pub sound-less : (passed rs : List Record) → twoCurrent passed ≡ false → twoCurrent (passed ++ rs) ≡ true
     → soundFrom passed rs < length (stored rs)
+unfolding soundFrom stored
 sound-less passed [] e f =
-    let g : twoCurrent passed ≡ true = sym (ap twoCurrent (append-nil passed)) ∙ f in
+    let g = rw append-nil at f in
     let z : _≡_ {A = ℕ} 0 1 = cc in absurd (omega arith)
 sound-less passed (r ∷ rs) e f =
-    less-by passed r rs (r .current && hasCurrent (r .job) passed) refl
-    (λ g. sound-less (passed ++ (r ∷ [])) rs (still-single passed r e g) (ap twoCurrent (shifted passed r rs) ∙ f))
+    by-test (r .current && hasCurrent (r .job) passed) (λ g. rw (g, length-append) (omega (arith, length-written r)))
+    (λ g.
+    let more = sound-less (passed ++ (r ∷ [])) rs (still-single passed r e g) (rw append-assoc f) in
+    rw (g, length-append) (omega arith))
 
 -- how far a walk that looks back has come: `at` bytes are passed, all of them records, and t is to come
 pub record Passing (s t : List ℕ) (at : ℕ) : Type 0 where

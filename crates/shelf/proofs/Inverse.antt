@@ -1,27 +1,27 @@
--- Reading and writing a shelf are each other's inverse.
--- Assumes nothing.
+-- Reading and writing a shelf are each other's inverse. Assumes nothing.
 use mathlib.Core.Path.{_≡_, refl, sym, ap, ap₂, _∙_}
 use mathlib.Core.Bool.{Bool, true, false, _||_}
 use mathlib.Core.List.{List, [], _∷_, _++_, append-assoc, append-nil}
-use Prim.Native.Nat.{ℕ, zero, suc, _+_, _-_, _≤_, _<_}
+use Prim.Native.Nat.{ℕ, zero, suc, _+_, _≤_}
 use native.Mathlib.Nat.{mod-eq-of-lt}
 use native.Mathlib.Omega.{arith}
-use lib.Dec.{eqb, lit<}
-use lib.ListN.{length, getD, take, drop, length-append, length-drop}
+use lib.Dec.{eqb}
+use lib.ListN.{length, getD, take, drop, length-append}
 use lib.Seq.{take-at, drop-at, take-add, take-length, length-take-le}
 use borrow.Author.Tests.{eqb-true}
 use Rattle.block.specs.Below.{AreBytes}
-use Rattle.block.specs.BigEndian.{numberOf, bytesOf}
+use Rattle.block.specs.BigEndian.{bytesOf}
 use Rattle.block.specs.Words.{wordAt}
 use Rattle.block.proofs.Convert.{numberOf-bytesOf, bytesOf-numberOf}
-use Rattle.block.proofs.Entries.{below-at, below-drop}
+use Rattle.block.proofs.Entries.{below-drop}
 use Rattle.block.proofs.Same.{and-left, and-right}
 use Rattle.label.specs.Label.{labelOf}
 use Rattle.shelf.specs.declared.records.Head.{Head}
-use Rattle.shelf.specs.Records.{Record, Proper, AllProper, markOf, written, stored}
-use Rattle.shelf.specs.Records.{marked, startsRecord, sizeAt, front, records, headAt}
-use Rattle.shelf.proofs.Reading.{length-written, starts-within, size-starts, stands, too-short, never}
-use Rattle.shelf.proofs.Reading.{records-empty, records-none, records-one, Turn, entry, entry-front}
+use Rattle.shelf.specs.Records.{Record, Proper, AllProper, markOf, written, stored, marked, startsRecord, sizeAt, front, records}
+use Rattle.shelf.specs.Records.{headAt}
+use Rattle.shelf.proofs.Reading.{by-test, length-written, starts-within, size-starts, stands, length-sealed, records-empty}
+use Rattle.shelf.proofs.Reading.{records-none, records-one, by-records, Turn, entry, entry-front}
+use Rattle.shelf.proofs.ReadsProper.{byte-at}
 
 -- the first n entries, each by its place
 listed : ℕ → (ℕ → ℕ) → List ℕ
@@ -40,16 +40,11 @@ mark-by x false e f = sym (eqb-true x 0x58 f)
 
 -- a byte list that is read as a number is its bytes again
 module _ (b : List ℕ) (small : AreBytes b) where
-  at : (i : ℕ) → getD b i 0 < 256
-  at i = below-at 256 b (lit< tt) small i
-
   four-back : (i : ℕ) → bytesOf 4 (wordAt b i) ≡ getD b i 0 ∷ getD b (i + 1) 0 ∷ getD b (i + 2) 0 ∷ getD b (i + 3) 0 ∷ []
   four-back i =
+      let at = byte-at b small in
       bytesOf-numberOf (getD b i 0 ∷ getD b (i + 1) 0 ∷ getD b (i + 2) 0 ∷ getD b (i + 3) 0 ∷ [])
       (at i, (at (i + 1), (at (i + 2), (at (i + 3), tt))))
-
-  two-back : bytesOf 2 (numberOf (getD b 6 0 ∷ getD b 7 0 ∷ [])) ≡ getD b 6 0 ∷ getD b 7 0 ∷ []
-  two-back = bytesOf-numberOf (getD b 6 0 ∷ getD b 7 0 ∷ []) (at 6, (at 7, tt))
 
   marked-back : marked b ≡ true → (0x52 ≡ getD b 0 0) × (markOf (eqb (getD b 1 0) 0x44) ≡ getD b 1 0)
   unfolding marked
@@ -63,64 +58,35 @@ module _ (b : List ℕ) (small : AreBytes b) where
   unfolding written front labelOf listed
   front-written f =
       let w = starts-within b f in
-      let d = length-drop 12 b in
       let m = marked-back (w .1) in
-      let l : length (take (wordAt b 8) (drop 12 b)) ≡ wordAt b 8 = length-take-le (wordAt b 8) (drop 12 b) (omega arith) in
-      let sealed = take (wordAt b 8) (drop 12 b) in
-      let label = bytesOf 4 (wordAt b 2) ++ bytesOf 2 (numberOf (getD b 6 0 ∷ getD b 7 0 ∷ [])) in
-      ap₂ (λ (x y : ℕ). x ∷ y ∷ (label ++ (bytesOf 4 (length sealed) ++ sealed))) (m .0) (m .1)
-      ∙ rw (four-back 2, two-back, l, four-back 8)
-      (ap (λ (x : List ℕ). x ++ take (wordAt b 8) (drop 12 b)) (listed-take 12 b (w .0))
-      ∙ sym (take-add 12 (wordAt b 8) b)
-      ∙ ap (λ (k : ℕ). take k b) (sym (size-starts b f)))
+      let two = bytesOf-numberOf (getD b 6 0 ∷ getD b 7 0 ∷ []) (byte-at b small 6, (byte-at b small 7, tt)) in
+      rw (
+        m .1,
+        two,
+        length-sealed b f,
+        four-back 2,
+        four-back 8,
+        size-starts b f,
+        take-add 12 (wordAt b 8) b,
+        ← listed-take 12 b (w .0),
+        ← m .0,
+      )
 
 -- what reads is what is stored of it
-stored-step : (b : List ℕ) → AreBytes b → (s : Bool) → startsRecord b ≡ s
-    → (s ≡ true → stored (records (drop (sizeAt b) b)) ≡ take (length (stored (records (drop (sizeAt b) b)))) (drop (sizeAt b) b))
-    → stored (records b) ≡ take (length (stored (records b))) b
-unfolding stored
-stored-step b small false f more = let e = records-none b f in rw e
-stored-step b small true f more =
-    let w = starts-within b f in
-    let s = size-starts b f in
-    let d = drop (sizeAt b) b in
-    let one = ap stored (records-one b f) ∙ ap (λ (x : List ℕ). x ++ stored (records d)) (front-written b small f) in
-    let n : length (take (sizeAt b) b) ≡ sizeAt b = length-take-le (sizeAt b) b (omega arith) in
-    let size : length (stored (records b)) ≡ sizeAt b + length (stored (records d)) =
-    ap length one ∙ length-append (take (sizeAt b) b) (stored (records d)) ∙ ap (λ (k : ℕ). k + length (stored (records d))) n in
-    one
-    ∙ ap (λ (x : List ℕ). take (sizeAt b) b ++ x) (more refl)
-    ∙ sym (take-add (sizeAt b) (length (stored (records d))) b)
-    ∙ ap (λ (k : ℕ). take k b) (sym size)
-
-stored-by : (n : ℕ) (b : List ℕ) → length b ≤ n → AreBytes b → stored (records b) ≡ take (length (stored (records b))) b
-stored-by zero b h small =
-    let none = too-short b (omega arith) in
-    stored-step b small false none (λ e. absurd (never e))
-stored-by (suc n) b h small =
-    stored-step b small (startsRecord b) refl
-    (λ f.
-    let w = starts-within b f in
-    let s = size-starts b f in
-    let l = length-drop (sizeAt b) b in
-    stored-by n (drop (sizeAt b) b) (omega arith) (below-drop 256 (sizeAt b) b small))
-
 stored-front : (b : List ℕ) → AreBytes b → stored (records b) ≡ take (length (stored (records b))) b
-stored-front b small = stored-by (length b) b (omega arith) small
+unfolding stored
+stored-front =
+    by-records (λ b. AreBytes b → stored (records b) ≡ take (length (stored (records b))) b) (λ b f small. rw (records-none b f))
+    (λ b f more small.
+    let l : length (take (sizeAt b) b) ≡ sizeAt b = length-take-le (sizeAt b) b (omega (arith, starts-within b f, size-starts b f)) in
+    rw (records-one b f, front-written b small f, length-append, l, take-add)
+    (ap (λ (x : List ℕ). take (sizeAt b) b ++ x) (more (below-drop 256 (sizeAt b) b small))))
 
 -- records that fill the bytes are the bytes
 pub stored-records : (b : List ℕ) → AreBytes b → length (stored (records b)) ≡ length b → stored (records b) ≡ b
 stored-records b small e = stored-front b small ∙ ap (λ (k : ℕ). take k b) e ∙ take-length b
 
 -- a written record is read
-mark-cases : (c : Bool) → eqb (markOf c) 0x44 || eqb (markOf c) 0x58 ≡ true
-mark-cases true = refl
-mark-cases false = refl
-
-mark-current : (c : Bool) → eqb (markOf c) 0x44 ≡ c
-mark-current true = refl
-mark-current false = refl
-
 same-record : {c c′ : Bool} {j j′ e e′ : ℕ} {s s′ : List ℕ} → c ≡ c′ → j ≡ j′ → e ≡ e′ → s ≡ s′
     → _≡_ {A = Record} (record { current = c; job = j; edition = e; sealed = s })
     (record { current = c′; job = j′; edition = e′; sealed = s′ })
@@ -136,7 +102,7 @@ module _ (r : Record) (proper : Proper r) (rest : List ℕ) where
   written-starts =
       let l = length-append (written r) rest in
       let w = length-written r in
-      stands (written r ++ rest) (omega arith) (mark-cases (r .current)) (omega (arith, size-field))
+      stands (written r ++ rest) (omega arith) (by-test (r .current) (λ e. rw e) (λ e. rw e)) (omega (arith, size-field))
 
   written-size : sizeAt (written r ++ rest) ≡ length (written r)
   written-size = size-starts (written r ++ rest) written-starts ∙ rw size-field (sym (length-written r))
@@ -144,7 +110,7 @@ module _ (r : Record) (proper : Proper r) (rest : List ℕ) where
   written-front : front (written r ++ rest) ≡ r
   unfolding written labelOf bytesOf front
   written-front =
-      same-record (mark-current (r .current)) (numberOf-bytesOf 4 (r .job) ∙ mod-eq-of-lt (proper .job))
+      same-record (by-test (r .current) (λ e. rw e) (λ e. rw e)) (numberOf-bytesOf 4 (r .job) ∙ mod-eq-of-lt (proper .job))
       (numberOf-bytesOf 2 (r .edition) ∙ mod-eq-of-lt (proper .edition))
       (ap (λ (k : ℕ). take k (r .sealed ++ rest)) size-field ∙ take-at (r .sealed) rest (length (r .sealed)) refl)
 

@@ -1,5 +1,4 @@
--- A collection, record by record: one that stays is moved down behind those that stayed, and what is to come is as it was.
--- Assumes nothing.
+-- A collection, record by record: one that stays is moved down behind those that stayed, and what is to come is as it was. Assumes nothing.
 use mathlib.Core.Path.{_≡_, refl, sym, ap, ap₂, _∙_}
 use mathlib.Core.Bool.{Bool, true, false, not, _&&_}
 use mathlib.Core.List.{List, [], _∷_, _++_, append-assoc, append-nil}
@@ -17,7 +16,7 @@ use Rattle.shelf.specs.Records.{Record, written, stored, records, headAt
 use Rattle.shelf.specs.Shelf.{those}
 use Rattle.shelf.specs.Steps.{stays}
 use Rattle.shelf.proofs.Reading.{Turn, entry}
-use Rattle.shelf.proofs.Walks.{kept-here, kept-behind}
+use Rattle.shelf.proofs.Walks.{those-here, those-behind}
 use Rattle.shelf.proofs.Inverse.{entry-written}
 
 -- what `&s[at..used]` holds
@@ -95,11 +94,12 @@ module _ (coming : Bool) (job : ℕ) (s₀ : List ℕ) (used : ℕ) (room : used
       -- it stays
       one-more : AreBytes s₀ → h .current && not (coming && eqb (h .job) job) ≡ true
           → kept coming job (between at used s) ≡ take (h .size) (drop at s) ++ kept coming job (between (at + h .size) used s)
+      unfolding stored
       one-more small stay =
           let f = fits in
           let whole : written (entry (between at used s) h) ≡ take (h .size) (drop at s) =
           entry-written (between at used s) h told t (small-here small) ∙ take-take (h .size) (used - at) (drop at s) (omega arith) in
-          kept-here (between at used s) h t coming job stay
+          ap stored (those-here (between at used s) h t (stays coming job) stay)
           ∙ ap₂ _++_ whole (ap (kept coming job) (between-on at used (h .size) s))
 
       pub stay-turn : AreBytes s₀ → h .current && not (coming && eqb (h .job) job) ≡ true → (s′ : List ℕ) (to′ : ℕ)
@@ -127,7 +127,7 @@ module _ (coming : Bool) (job : ℕ) (s₀ : List ℕ) (used : ℕ) (room : used
           → Collecting coming job s₀ used s′ to′ (at + h .size)
       gone-turn gone s′ to′ e g =
           let same : kept coming job (between at used s) ≡ kept coming job (between (at + h .size) used s) =
-          kept-behind (between at used s) h t coming job gone ∙ ap (kept coming job) (between-on at used (h .size) s) in
+          ap stored (those-behind (between at used s) h t (stays coming job) gone) ∙ ap (kept coming job) (between-on at used (h .size) s) in
           record {
             below = omega arith;
             inside = fits;

@@ -8,7 +8,6 @@ pub mod ReadsProper
 pub mod BreaksOff
 pub mod Sound
 pub mod Keeping
-pub mod Marking
 pub mod Outcomes
 pub mod FoundPart
 pub mod AfterPut

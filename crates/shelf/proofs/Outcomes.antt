@@ -1,5 +1,4 @@
--- Each outcome of a call, by the tests that led there.
--- Assumes nothing.
+-- Each outcome of a call, by the tests that led there. Assumes nothing.
 use mathlib.Core.Path.{_≡_}
 use mathlib.Core.Bool.{true, false}
 use mathlib.Core.List.{List}

@@ -1,6 +1,5 @@
 -- `replay` meets its contract. The loop's invariant: replay from here, with the report so far, ends as replay of the whole journal does,
--- and no count passes the place. The measure is how many bytes are to come.
--- Assumes nothing.
+-- and no count passes the place. The measure is how many bytes are to come. Assumes nothing.
 use mathlib.Core.Path.{_≡_, sym, ap, _∙_}
 use mathlib.Core.Bool.{false}
 use mathlib.Core.List.{List}
@@ -139,8 +138,5 @@ returns-3 c =
 
 pub replay-spec : {M : Type 1} → statement M
 replay-spec =
-    tie.close
-    (tie.spec
-    Inv-loop μ-loop (λ c κs. search needs) (λ c κs. search needs) returns loop-holds replay-one-requires (λ c κs. search needs) returns-2
-    (λ c κs. search needs) sub-t part-t-start (λ c. omega arith) add-place loop-less
-    loop-again returns-3)
+    tie.close (tie.spec Inv-loop μ-loop (λ c κs. search needs) (λ c κs. search needs) returns loop-holds replay-one-requires
+    (λ c κs. search needs) returns-2 (λ c κs. search needs) sub-t part-t-start (λ c. omega arith) add-place loop-less loop-again returns-3)

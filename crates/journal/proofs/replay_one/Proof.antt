@@ -1,5 +1,4 @@
--- `replay_one` meets its contract: each return is the definition, by the tests that led there.
--- Assumes nothing.
+-- `replay_one` meets its contract: each return is the definition, by the tests that led there. Assumes nothing.
 use mathlib.Core.Path.{_≡_, sym, ap, _∙_}
 use mathlib.Core.Bool.{true, false}
 use mathlib.Core.List.{List}
@@ -119,7 +118,5 @@ returns-4 c =
 
 pub replay-one-spec : {M : Type 1} → statement M
 replay-one-spec =
-    tie.close
-    (tie.spec
-    (λ c κs. search needs) returns too-long-requires returns-2 key-number-requires (λ c κs. search needs) returns-3
+    tie.close (tie.spec (λ c κs. search needs) returns too-long-requires returns-2 key-number-requires (λ c κs. search needs) returns-3
     (λ c κs. search needs) recompute-requires counted-requires returns-4)

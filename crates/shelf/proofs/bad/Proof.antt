@@ -1,5 +1,4 @@
--- `shelf::bad` meets its contract: what is in order up to the used count is the definition's last two tests.
--- Assumes nothing.
+-- `shelf::bad` meets its contract: what is in order up to the used count is the definition's last two tests. Assumes nothing.
 use mathlib.Core.Path.{_≡_, ap, _∙_}
 use mathlib.Core.Bool.{not}
 use Prim.Native.Nat.{ℕ, _-_}
@@ -29,6 +28,4 @@ returns-3 c =
 
 pub bad-spec : {M : Type 1} → statement M
 bad-spec =
-    tie.close
-    (tie.spec
-    returns returns-2 (λ c. search needs) (λ c. search needs) (λ c. search needs) (λ c κs. search needs) returns-3)
+    tie.close (tie.spec returns returns-2 (λ c. search needs) (λ c. search needs) (λ c. search needs) (λ c κs. search needs) returns-3)

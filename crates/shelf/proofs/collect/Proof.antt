@@ -1,5 +1,4 @@
--- `shelf::collect` meets its contract: refused, or what `keep` leaves.
--- Assumes nothing.
+-- `shelf::collect` meets its contract: refused, or what `keep` leaves. Assumes nothing.
 use mathlib.Core.Path.{sym, ap, _∙_}
 use mathlib.Core.List.{List}
 use denote.Ref.{now}
@@ -31,7 +30,4 @@ returns-2 c =
     (at-keep .keep .ensures .1 ∙ ap (λ (rs : List Record). over (stored rs) s) current)
 
 pub collect-spec : {M : Type 1} → statement M
-collect-spec =
-    tie.close
-    (tie.spec
-    (λ c κs. search needs) (λ c. search needs) returns keep-requires (λ c. search needs) returns-2)
+collect-spec = tie.close (tie.spec (λ c κs. search needs) (λ c. search needs) returns keep-requires (λ c. search needs) returns-2)

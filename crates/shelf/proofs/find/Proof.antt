@@ -1,5 +1,4 @@
--- `shelf::find` meets its contract: each return is the definition, by the tests that led there.
--- Assumes nothing.
+-- `shelf::find` meets its contract: each return is the definition, by the tests that led there. Assumes nothing.
 use mathlib.Core.Path.{_≡_, sym, ap, _∙_}
 use Prim.Native.Nat.{ℕ, _-_}
 use native.Mathlib.Omega.{arith}
@@ -11,7 +10,7 @@ use Rattle.shelf.specs.Shelf.{twoCurrent, placeOf, sizeOf}
 use Rattle.shelf.specs.Steps.{InOrder}
 use Rattle.shelf.specs.Calls.{findCall}
 use Rattle.shelf.proofs.Sound.{in-order}
-use Rattle.shelf.proofs.Marking.{size-has, size-zero}
+use Rattle.shelf.proofs.Superseding.{size-has, size-zero}
 use borrow.Author.Needs.{needs}
 use Rattle.shelf.proofs.find.Statement.{statement}
 use Rattle.shelf.proofs.find.Tie as tie
@@ -64,6 +63,5 @@ returns-3 c =
 
 pub find-spec : {M : Type 1} → statement M
 find-spec =
-    tie.close
-    (tie.spec
-    (λ c κs. search needs) returns (λ c. search needs) (λ c. search needs) part-seek-end seek-requires returns-2 returns-3)
+    tie.close (tie.spec (λ c κs. search needs) returns (λ c. search needs) (λ c. search needs) part-seek-end seek-requires returns-2
+    returns-3)

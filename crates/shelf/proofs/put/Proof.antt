@@ -129,9 +129,7 @@ returns-4 c =
 
 pub put-spec : {M : Type 1} → statement M
 put-spec =
-    tie.close
-    (tie.spec
-    (λ c κs. search needs) (λ c. search needs) returns (λ c. search needs) (λ c. search needs)
+    tie.close (tie.spec (λ c κs. search needs) (λ c. search needs) returns (λ c. search needs) (λ c. search needs)
     (λ c. omega (arith, order (c .before) .within)) (λ c κs. search needs) (λ c. search needs) returns-2 (λ c. search needs)
     (λ c. search needs) (λ c. omega (arith, order (c .before .before .before .before .before) .within)) (λ c κs. search needs)
     (λ c κs. search needs) (λ c. search needs) returns-3

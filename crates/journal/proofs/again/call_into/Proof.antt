@@ -1,5 +1,4 @@
--- `again::call_into` meets its contract: a mode above 4 is refused, and otherwise the call answers.
--- Assumes nothing.
+-- `again::call_into` meets its contract: a mode above 4 is refused, and otherwise the call answers. Assumes nothing.
 use mathlib.Core.Path.{_≡_, ap, _∙_}
 use mathlib.Core.List.{List}
 use Prim.Native.Nat.{ℕ, _≤_, _<_}
@@ -72,7 +71,6 @@ returns-2 c =
 
 pub call-into-spec : {M : Type 1} → statement M
 call-into-spec =
-    tie.close
-    (tie.spec
-    (λ c κs. search needs) returns (λ c. search needs) (λ c κs. search needs) (λ c κs. search needs) (λ c κs. search needs)
-    (λ c κs. search needs) (λ c κs. search needs) (λ c κs. search needs) (λ c κs. search needs) (λ c. search needs) returns-2)
+    tie.close (tie.spec (λ c κs. search needs) returns (λ c. search needs) (λ c κs. search needs) (λ c κs. search needs)
+    (λ c κs. search needs) (λ c κs. search needs) (λ c κs. search needs) (λ c κs. search needs) (λ c κs. search needs) (λ c. search needs)
+    returns-2)

@@ -1,5 +1,4 @@
--- `again::differs` meets its contract: each return is the definition, by the tests that led there.
--- Assumes nothing.
+-- `again::differs` meets its contract: each return is the definition, by the tests that led there. Assumes nothing.
 use borrow.Author.Tests.{eq-eqb, ne-eqb}
 use Rattle.journal.specs.Recomputed.{differsFrom}
 use borrow.Author.Needs.{needs}
@@ -33,6 +32,5 @@ returns-3 c =
 
 pub differs-spec : {M : Type 1} → statement M
 differs-spec =
-    tie.close
-    (tie.spec
-    (λ c κs. search needs) (λ c. search needs) returns (λ c κs. search needs) returns-2 (λ c κs. search needs) returns-3)
+    tie.close (tie.spec (λ c κs. search needs) (λ c. search needs) returns (λ c κs. search needs) returns-2 (λ c κs. search needs)
+    returns-3)

@@ -1,5 +1,4 @@
--- `again::lent_room` meets its contract, by the test that led there.
--- Assumes nothing.
+-- `again::lent_room` meets its contract, by the test that led there. Assumes nothing.
 use borrow.Author.Tests.{lt-ltb, le-ltb}
 use Rattle.journal.specs.Recomputed.{lentRoom}
 use borrow.Author.Needs.{needs}
@@ -15,7 +14,4 @@ unfolding lentRoom
 returns-2 c = rw (← c .before .room .ensures, le-ltb _ _ (c .if1 .left))
 
 pub lent-room-spec : {M : Type 1} → statement M
-lent-room-spec =
-    tie.close
-    (tie.spec
-    (λ c κs. search needs) (λ c. search needs) returns returns-2)
+lent-room-spec = tie.close (tie.spec (λ c κs. search needs) (λ c. search needs) returns returns-2)

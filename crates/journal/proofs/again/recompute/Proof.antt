@@ -1,5 +1,4 @@
--- `again::recompute` meets its contract: the room that is lent serves as the recorded one does (`lent-judged`).
--- Assumes nothing.
+-- `again::recompute` meets its contract: the room that is lent serves as the recorded one does (`lent-judged`). Assumes nothing.
 use mathlib.Core.Path.{_≡_, ap, _∙_}
 use mathlib.Core.List.{List, _++_}
 use Prim.Native.Nat.{ℕ, _-_, _≤_}
@@ -73,7 +72,5 @@ returns c =
 
 pub recompute-spec : {M : Type 1} → statement M
 recompute-spec =
-    tie.close
-    (tie.spec
-    (λ c κs. search needs) (λ c κs. search needs) (λ c. search needs) (λ c. search needs) part-out-end (λ c κs. search needs)
-    (λ c. search needs) (λ c. search needs) part-differs-end (λ c κs. search needs) returns)
+    tie.close (tie.spec (λ c κs. search needs) (λ c κs. search needs) (λ c. search needs) (λ c. search needs) part-out-end
+    (λ c κs. search needs) (λ c. search needs) (λ c. search needs) part-differs-end (λ c κs. search needs) returns)

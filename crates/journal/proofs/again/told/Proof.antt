@@ -1,5 +1,4 @@
--- `again::told` meets its contract: done tells its length, and a refusal its number.
--- Assumes nothing.
+-- `again::told` meets its contract: done tells its length, and a refusal its number. Assumes nothing.
 use mathlib.Core.Path.{sym, ap, ap₂, _∙_}
 use Prim.Native.Nat.{ℕ}
 use Rattle.cipher_mode.specs.declared.answer.Ending.{Ending}
@@ -27,7 +26,4 @@ returns-2 c =
     ∙ sym (ap {B = Answered} ends (at-ending .ending2 .given .1))
 
 pub told-spec : {M : Type 1} → statement M
-told-spec =
-    tie.close
-    (tie.spec
-    (λ c. search needs) (λ c. search needs) (λ c κs. search needs) returns returns-2)
+told-spec = tie.close (tie.spec (λ c. search needs) (λ c. search needs) (λ c κs. search needs) returns returns-2)

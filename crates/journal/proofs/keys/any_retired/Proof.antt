@@ -1,5 +1,4 @@
--- `keys::any_retired` meets its contract. The loop's invariant: the keys to come decide. The measure is how many they are.
--- Assumes nothing.
+-- `keys::any_retired` meets its contract. The loop's invariant: the keys to come decide. The measure is how many they are. Assumes nothing.
 use mathlib.Core.Path.{_≡_, refl, sym, ap, _∙_}
 use Prim.Native.Nat.{_-_, _≤_, _<_}
 use native.Mathlib.Omega.{arith}
@@ -54,7 +53,5 @@ returns-2 c =
 
 pub any-retired-spec : {M : Type 1} → statement M
 any-retired-spec =
-    tie.close
-    (tie.spec
-    Inv-loop μ-loop loop-holds (λ c κs. (omega arith, c .before .before .loop .inv .1)) returns (λ c. omega arith)
+    tie.close (tie.spec Inv-loop μ-loop loop-holds (λ c κs. (omega arith, c .before .before .loop .inv .1)) returns (λ c. omega arith)
     (λ c. omega arith) loop-again returns-2)

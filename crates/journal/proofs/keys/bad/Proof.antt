@@ -1,5 +1,4 @@
--- `keys::bad` meets its contract: each return is the definition, by the tests that led there.
--- Assumes nothing.
+-- `keys::bad` meets its contract: each return is the definition, by the tests that led there. Assumes nothing.
 use mathlib.Core.Path.{sym, _∙_}
 use borrow.Author.Tests.{lt-ltb, le-ltb}
 use Rattle.journal.specs.KeyList.{badKeys}
@@ -23,7 +22,4 @@ returns-3 c =
     (c .number-twice .ensures)
 
 pub bad-spec : {M : Type 1} → statement M
-bad-spec =
-    tie.close
-    (tie.spec
-    returns (λ c κs. search needs) returns-2 (λ c κs. search needs) returns-3)
+bad-spec = tie.close (tie.spec returns (λ c κs. search needs) returns-2 (λ c κs. search needs) returns-3)

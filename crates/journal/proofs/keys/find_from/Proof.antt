@@ -1,6 +1,5 @@
 -- `keys::find_from` meets its contract. The loop's invariant: the place that is sought is found from here on too. The measure is how many
--- keys are to come.
--- Assumes nothing.
+-- keys are to come. Assumes nothing.
 use mathlib.Core.Path.{_≡_, refl, sym, ap, _∙_}
 use Prim.Native.Nat.{_+_, _-_, _≤_, _<_}
 use native.Mathlib.Omega.{arith}
@@ -72,7 +71,5 @@ returns-2 c =
 
 pub find-from-spec : {M : Type 1} → statement M
 find-from-spec =
-    tie.close
-    (tie.spec
-    Inv-loop μ-loop loop-holds (λ c κs. (omega arith, c .before .before .loop .inv .1)) (λ c κs. search needs) returns (λ c. omega arith)
-    (λ c. omega arith) loop-again returns-2)
+    tie.close (tie.spec Inv-loop μ-loop loop-holds (λ c κs. (omega arith, c .before .before .loop .inv .1)) (λ c κs. search needs) returns
+    (λ c. omega arith) (λ c. omega arith) loop-again returns-2)

@@ -75,7 +75,6 @@ returns-2 c =
 
 pub number-twice-spec : {M : Type 1} → statement M
 number-twice-spec =
-    tie.close
-    (tie.spec
-    Inv-loop μ-loop loop-holds (λ c κs. (omega arith, c .before .before .loop .inv .1)) (λ c κs. search needs) (λ c. omega arith)
-    (λ c κs. (omega arith, c .before .before .before .before .loop .inv .1)) returns (λ c. omega arith) loop-again returns-2)
+    tie.close (tie.spec Inv-loop μ-loop loop-holds (λ c κs. (omega arith, c .before .before .loop .inv .1)) (λ c κs. search needs)
+    (λ c. omega arith) (λ c κs. (omega arith, c .before .before .before .before .loop .inv .1)) returns (λ c. omega arith) loop-again
+    returns-2)

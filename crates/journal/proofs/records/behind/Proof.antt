@@ -1,5 +1,4 @@
--- `records::behind` meets its contract: what is lent is the end of the list.
--- Assumes nothing.
+-- `records::behind` meets its contract: what is lent is the end of the list. Assumes nothing.
 use mathlib.Core.Path.{ap, _∙_}
 use Prim.Native.Nat.{ℕ, _+_}
 use native.Mathlib.Omega.{arith}
@@ -36,6 +35,4 @@ returns c =
 
 pub behind-spec : {M : Type 1} → statement M
 behind-spec =
-    tie.close
-    (tie.spec
-    word-at-requires (λ c. search needs) (λ c. search needs) sub-result part-result-start (λ c. search needs) returns)
+    tie.close (tie.spec word-at-requires (λ c. search needs) (λ c. search needs) sub-result part-result-start (λ c. search needs) returns)

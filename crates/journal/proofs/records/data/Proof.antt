@@ -1,5 +1,4 @@
--- `records::data` meets its contract.
--- Assumes nothing.
+-- `records::data` meets its contract. Assumes nothing.
 use mathlib.Core.Path.{ap, _∙_}
 use denote.Ref.{now}
 use Rattle.journal.specs.Format.{partAt, front}
@@ -18,7 +17,4 @@ unfolding front
 returns c = c .part-at .ensures ∙ ap partAt (c .before .from-data .ensures)
 
 pub data-spec : {M : Type 1} → statement M
-data-spec =
-    tie.close
-    (tie.spec
-    (λ c κs. search needs) part-at-requires returns)
+data-spec = tie.close (tie.spec (λ c κs. search needs) part-at-requires returns)

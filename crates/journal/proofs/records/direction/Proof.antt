@@ -1,5 +1,4 @@
--- `records::direction` meets its contract, by what the match told of the byte.
--- Assumes nothing.
+-- `records::direction` meets its contract, by what the match told of the byte. Assumes nothing.
 use mathlib.Core.Path.{_≡_, refl, sym, ap}
 use Prim.Native.Nat.{ℕ, zero, suc}
 use native.Mathlib.Omega.{arith}
@@ -27,7 +26,4 @@ unfolding front
 returns-2 c = not-zero _ (c .match .rest .1)
 
 pub direction-spec : {M : Type 1} → statement M
-direction-spec =
-    tie.close
-    (tie.spec
-    shared-slice-read-match returns returns-2)
+direction-spec = tie.close (tie.spec shared-slice-read-match returns returns-2)

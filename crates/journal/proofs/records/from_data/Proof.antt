@@ -1,5 +1,4 @@
--- `records::from_data` meets its contract.
--- Assumes nothing.
+-- `records::from_data` meets its contract. Assumes nothing.
 use mathlib.Core.Path.{ap, _∙_}
 use native.Mathlib.Omega.{arith}
 use denote.Ref.{now}
@@ -26,7 +25,4 @@ returns : tie.Need-returns
 returns c = c .behind .ensures ∙ ap behind (tail-is (now (c .before .before .before .args .s)) 6)
 
 pub from-data-spec : {M : Type 1} → statement M
-from-data-spec =
-    tie.close
-    (tie.spec
-    sub-behind part-behind-start (λ c. search needs) behind-requires returns)
+from-data-spec = tie.close (tie.spec sub-behind part-behind-start (λ c. search needs) behind-requires returns)

@@ -1,5 +1,4 @@
--- `records::from_iv` meets its contract.
--- Assumes nothing.
+-- `records::from_iv` meets its contract. Assumes nothing.
 use mathlib.Core.Path.{ap, _∙_}
 use denote.Ref.{now}
 use Rattle.journal.specs.Format.{behind}
@@ -17,7 +16,4 @@ returns : tie.Need-returns
 returns c = c .behind .ensures ∙ ap behind (c .before .from-data .ensures)
 
 pub from-iv-spec : {M : Type 1} → statement M
-from-iv-spec =
-    tie.close
-    (tie.spec
-    (λ c κs. search needs) behind-requires returns)
+from-iv-spec = tie.close (tie.spec (λ c κs. search needs) behind-requires returns)

@@ -1,5 +1,4 @@
--- `records::from_output` meets its contract.
--- Assumes nothing.
+-- `records::from_output` meets its contract. Assumes nothing.
 use mathlib.Core.Path.{ap, _∙_}
 use Prim.Native.Nat.{_≤_}
 use denote.Ref.{now}
@@ -27,7 +26,4 @@ returns c =
     tail-is (now (at-room .from-room .result)) 5 ∙ ap (drop 5) (at-room .from-room .ensures)
 
 pub from-output-spec : {M : Type 1} → statement M
-from-output-spec =
-    tie.close
-    (tie.spec
-    (λ c κs. search needs) sub-result part-result-start (λ c. search needs) returns)
+from-output-spec = tie.close (tie.spec (λ c κs. search needs) sub-result part-result-start (λ c. search needs) returns)

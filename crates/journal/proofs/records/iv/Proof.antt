@@ -1,5 +1,4 @@
--- `records::iv` meets its contract.
--- Assumes nothing.
+-- `records::iv` meets its contract. Assumes nothing.
 use mathlib.Core.Path.{ap, _∙_}
 use denote.Ref.{now}
 use Rattle.journal.specs.Format.{partAt, front}
@@ -18,7 +17,4 @@ unfolding front
 returns c = c .part-at .ensures ∙ ap partAt (c .before .from-iv .ensures)
 
 pub iv-spec : {M : Type 1} → statement M
-iv-spec =
-    tie.close
-    (tie.spec
-    (λ c κs. search needs) part-at-requires returns)
+iv-spec = tie.close (tie.spec (λ c κs. search needs) part-at-requires returns)

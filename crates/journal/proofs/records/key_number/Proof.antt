@@ -1,5 +1,4 @@
--- `records::key_number` meets its contract.
--- Assumes nothing.
+-- `records::key_number` meets its contract. Assumes nothing.
 use native.Mathlib.Omega.{arith}
 use denote.Ref.{now}
 use Rattle.journal.specs.Format.{front}
@@ -19,7 +18,4 @@ unfolding front
 returns c = c .pair .ensures
 
 pub key-number-spec : {M : Type 1} → statement M
-key-number-spec =
-    tie.close
-    (tie.spec
-    shared-slice-read-pair shared-slice-read-pair-2 (λ c κs. search needs) returns)
+key-number-spec = tie.close (tie.spec shared-slice-read-pair shared-slice-read-pair-2 (λ c κs. search needs) returns)

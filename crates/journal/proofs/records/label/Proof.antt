@@ -1,5 +1,4 @@
--- `records::label` meets its contract.
--- Assumes nothing.
+-- `records::label` meets its contract. Assumes nothing.
 use mathlib.Core.Path.{ap, _∙_}
 use native.Mathlib.Omega.{arith}
 use denote.Ref.{now}
@@ -27,7 +26,4 @@ unfolding front
 returns c = c .part-at .ensures ∙ ap partAt (tail-is (now (c .before .before .before .args .s)) 6)
 
 pub label-spec : {M : Type 1} → statement M
-label-spec =
-    tie.close
-    (tie.spec
-    sub-part-at part-part-at-start (λ c. search needs) part-at-requires returns)
+label-spec = tie.close (tie.spec sub-part-at part-part-at-start (λ c. search needs) part-at-requires returns)

@@ -123,10 +123,7 @@ returns-8 c = omega (arith, after-is c, size-is _ (whole (c .before)))
 
 pub measure-spec : {M : Type 1} → statement M
 measure-spec =
-    tie.close
-    (tie.spec
-    returns (λ c κs. search needs) returns-2 (λ c. search needs) (λ c. search needs) (λ c. search needs)
-    (λ c κs. search needs) returns-3 behind-requires (λ c κs. search needs) returns-4 behind-requires-2
-    (λ c κs. search needs) returns-5 behind-requires-3
-    returns-6 (λ c. search needs) (λ c. search needs) (λ c. search needs)
-    (λ c κs. search needs) returns-7 behind-requires-4 sub-result returns-8)
+    tie.close (tie.spec returns (λ c κs. search needs) returns-2 (λ c. search needs) (λ c. search needs) (λ c. search needs)
+    (λ c κs. search needs) returns-3 behind-requires (λ c κs. search needs) returns-4 behind-requires-2 (λ c κs. search needs) returns-5
+    behind-requires-3 returns-6 (λ c. search needs) (λ c. search needs) (λ c. search needs) (λ c κs. search needs) returns-7
+    behind-requires-4 sub-result returns-8)

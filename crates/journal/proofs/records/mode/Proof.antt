@@ -1,5 +1,4 @@
--- `records::mode` meets its contract.
--- Assumes nothing.
+-- `records::mode` meets its contract. Assumes nothing.
 use mathlib.Core.Path.{refl}
 use native.Mathlib.Omega.{arith}
 use denote.Ref.{now}
@@ -16,7 +15,4 @@ unfolding front
 returns c = refl
 
 pub mode-spec : {M : Type 1} → statement M
-mode-spec =
-    tie.close
-    (tie.spec
-    shared-slice-read-result returns)
+mode-spec = tie.close (tie.spec shared-slice-read-result returns)

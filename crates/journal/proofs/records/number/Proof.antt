@@ -1,5 +1,4 @@
--- `records::number` meets its contract.
--- Assumes nothing.
+-- `records::number` meets its contract. Assumes nothing.
 use mathlib.Core.Path.{ap}
 use mathlib.Core.List.{List}
 use Prim.Native.Nat.{ℕ, _≤_}
@@ -24,7 +23,4 @@ unfolding front
 returns c = ap (λ (l : List ℕ). getD l 4 0) (c .before .from-room .ensures)
 
 pub number-spec : {M : Type 1} → statement M
-number-spec =
-    tie.close
-    (tie.spec
-    (λ c κs. search needs) shared-slice-read-result returns)
+number-spec = tie.close (tie.spec (λ c κs. search needs) shared-slice-read-result returns)

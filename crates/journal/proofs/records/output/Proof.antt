@@ -1,5 +1,4 @@
--- `records::output` meets its contract.
--- Assumes nothing.
+-- `records::output` meets its contract. Assumes nothing.
 use mathlib.Core.Path.{ap, _∙_}
 use denote.Ref.{now}
 use Rattle.journal.specs.Format.{partAt, front}
@@ -18,7 +17,4 @@ unfolding front
 returns c = c .part-at .ensures ∙ ap partAt (c .before .from-output .ensures)
 
 pub output-spec : {M : Type 1} → statement M
-output-spec =
-    tie.close
-    (tie.spec
-    (λ c κs. search needs) part-at-requires returns)
+output-spec = tie.close (tie.spec (λ c κs. search needs) part-at-requires returns)

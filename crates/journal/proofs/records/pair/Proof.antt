@@ -1,5 +1,4 @@
--- `records::pair` meets its contract.
--- Assumes nothing.
+-- `records::pair` meets its contract. Assumes nothing.
 use native.Mathlib.Omega.{arith}
 use Rattle.block.specs.BigEndian.{numberOf}
 use borrow.Author.Needs.{needs}
@@ -11,7 +10,4 @@ unfolding numberOf
 returns c = omega arith
 
 pub pair-spec : {M : Type 1} → statement M
-pair-spec =
-    tie.close
-    (tie.spec
-    (λ c. search needs) (λ c. search needs) returns)
+pair-spec = tie.close (tie.spec (λ c. search needs) (λ c. search needs) returns)

@@ -1,5 +1,4 @@
--- `records::part_at` meets its contract: the part is what stands behind its length.
--- Assumes nothing.
+-- `records::part_at` meets its contract: the part is what stands behind its length. Assumes nothing.
 use mathlib.Core.Path.{_≡_, ap}
 use Prim.Native.Nat.{ℕ, _+_, _-_}
 use native.Mathlib.Omega.{arith}
@@ -31,6 +30,5 @@ returns c =
 
 pub part-at-spec : {M : Type 1} → statement M
 part-at-spec =
-    tie.close
-    (tie.spec
-    word-at-requires (λ c. search needs) (λ c. search needs) (λ c. search needs) (λ c. search needs) part-result-end returns)
+    tie.close (tie.spec word-at-requires (λ c. search needs) (λ c. search needs) (λ c. search needs) (λ c. search needs) part-result-end
+    returns)

@@ -1,5 +1,4 @@
--- `records::past_limit` meets its contract: each return is the definition, by the tests that led there.
--- Assumes nothing.
+-- `records::past_limit` meets its contract: each return is the definition, by the tests that led there. Assumes nothing.
 use borrow.Author.Tests.{lt-ltb, le-ltb}
 use Rattle.journal.specs.Format.{pastLimit}
 use Rattle.journal.proofs.records.past_limit.Statement.{statement}
@@ -22,7 +21,4 @@ unfolding pastLimit
 returns-4 c = rw (le-ltb _ _ (c .before .before .if1 .left), le-ltb _ _ (c .before .if2 .left), le-ltb _ _ (c .if3 .left))
 
 pub past-limit-spec : {M : Type 1} → statement M
-past-limit-spec =
-    tie.close
-    (tie.spec
-    returns returns-2 returns-3 returns-4)
+past-limit-spec = tie.close (tie.spec returns returns-2 returns-3 returns-4)

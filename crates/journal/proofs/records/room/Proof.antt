@@ -1,5 +1,4 @@
--- `records::room` meets its contract.
--- Assumes nothing.
+-- `records::room` meets its contract. Assumes nothing.
 use mathlib.Core.Path.{ap, _∙_}
 use mathlib.Core.List.{List}
 use Prim.Native.Nat.{ℕ, _≤_}
@@ -24,7 +23,4 @@ unfolding front
 returns c = c .word-at .ensures ∙ ap (λ (l : List ℕ). wordAt l 0) (c .before .from-room .ensures)
 
 pub room-spec : {M : Type 1} → statement M
-room-spec =
-    tie.close
-    (tie.spec
-    (λ c κs. search needs) word-at-requires returns)
+room-spec = tie.close (tie.spec (λ c κs. search needs) word-at-requires returns)

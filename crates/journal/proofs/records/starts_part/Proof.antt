@@ -1,5 +1,4 @@
--- `records::starts_part` meets its contract: each return is the definition, by the tests that led there.
--- Assumes nothing.
+-- `records::starts_part` meets its contract: each return is the definition, by the tests that led there. Assumes nothing.
 use mathlib.Core.Path.{sym, ap, _∙_}
 use mathlib.Core.Bool.{Bool}
 use Prim.Native.Nat.{ℕ, _-_}
@@ -21,7 +20,4 @@ returns-2 c =
     ap {B = Bool} (λ (n : ℕ). leb n (length b - 4)) (c .word-at .ensures) ∙ sym (part-after-length b (omega arith))
 
 pub starts-part-spec : {M : Type 1} → statement M
-starts-part-spec =
-    tie.close
-    (tie.spec
-    returns (λ c κs. search needs) (λ c. search needs) (λ c. search needs) returns-2)
+starts-part-spec = tie.close (tie.spec returns (λ c κs. search needs) (λ c. search needs) (λ c. search needs) returns-2)

@@ -1,5 +1,4 @@
--- `report::counted` meets its contract, field by field. No sum wraps, since every count is at most the place.
--- Assumes nothing.
+-- `report::counted` meets its contract, field by field. No sum wraps, since every count is at most the place. Assumes nothing.
 use mathlib.Core.Path.{_≡_, refl, ap, _∙_}
 use mathlib.Core.List.{List}
 use Prim.Native.Nat.{ℕ, suc, _+_, _<_, _^_}
@@ -84,7 +83,5 @@ returns c =
 
 pub counted-spec : {M : Type 1} → statement M
 counted-spec =
-    tie.close
-    (tie.spec
-    (λ c. search needs) (λ c κs. search needs) (λ c κs. search needs) one-more-requires (λ c. search needs)
+    tie.close (tie.spec (λ c. search needs) (λ c κs. search needs) (λ c κs. search needs) one-more-requires (λ c. search needs)
     (λ c. search needs) one-more-requires-2 add-t15 (λ c κs. search needs) add-t20 add-t22 (λ c κs. search needs) returns)

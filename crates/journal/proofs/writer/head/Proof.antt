@@ -1,5 +1,4 @@
--- `writer::head` meets its contract: of the four bytes that `split` gives, the last two are the key's number.
--- Assumes nothing.
+-- `writer::head` meets its contract: of the four bytes that `split` gives, the last two are the key's number. Assumes nothing.
 use Rattle.block.specs.BigEndian.{bytesOf}
 use borrow.Author.Needs.{needs}
 use Rattle.journal.proofs.writer.head.Statement.{statement}
@@ -11,6 +10,4 @@ returns c = rw (c .before .split .ensures, c .direction-byte .ensures)
 
 pub head-spec : {M : Type 1} → statement M
 head-spec =
-    tie.close
-    (tie.spec
-    (λ c. search needs) (λ c κs. search needs) (λ c κs. search needs) (λ c. search needs) (λ c. search needs) returns)
+    tie.close (tie.spec (λ c. search needs) (λ c κs. search needs) (λ c κs. search needs) (λ c. search needs) (λ c. search needs) returns)

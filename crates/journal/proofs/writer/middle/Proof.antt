@@ -1,5 +1,4 @@
--- `writer::middle` meets its contract: the room's four bytes, and the number.
--- Assumes nothing.
+-- `writer::middle` meets its contract: the room's four bytes, and the number. Assumes nothing.
 use Rattle.block.specs.BigEndian.{bytesOf}
 use borrow.Author.Needs.{needs}
 use Rattle.journal.proofs.writer.middle.Statement.{statement}
@@ -11,6 +10,4 @@ returns c = rw (c .split .ensures)
 
 pub middle-spec : {M : Type 1} → statement M
 middle-spec =
-    tie.close
-    (tie.spec
-    (λ c κs. search needs) (λ c. search needs) (λ c. search needs) (λ c. search needs) (λ c. search needs) returns)
+    tie.close (tie.spec (λ c κs. search needs) (λ c. search needs) (λ c. search needs) (λ c. search needs) (λ c. search needs) returns)

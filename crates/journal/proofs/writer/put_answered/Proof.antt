@@ -1,5 +1,4 @@
--- `writer::put_answered` meets its contract: room and number, and behind them the output.
--- Assumes nothing.
+-- `writer::put_answered` meets its contract: room and number, and behind them the output. Assumes nothing.
 use mathlib.Core.List.{[]}
 use denote.Ref.{now}
 use Rattle.journal.proofs.Writing.{answered-put}
@@ -18,7 +17,5 @@ returns c =
 
 pub put-answered-spec : {M : Type 1} → statement M
 put-answered-spec =
-    tie.close
-    (tie.spec
-    (λ c κs. search needs) (λ c. search needs) (λ c κs. search needs) (λ c. search needs) (λ c. search needs) (λ c. search needs)
-    (λ c κs. search needs) (λ c. search needs) returns)
+    tie.close (tie.spec (λ c κs. search needs) (λ c. search needs) (λ c κs. search needs) (λ c. search needs) (λ c. search needs)
+    (λ c. search needs) (λ c κs. search needs) (λ c. search needs) returns)

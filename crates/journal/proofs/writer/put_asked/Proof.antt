@@ -1,5 +1,4 @@
--- `writer::put_asked` meets its contract: head, label, data and IV, one behind the other.
--- Assumes nothing.
+-- `writer::put_asked` meets its contract: head, label, data and IV, one behind the other. Assumes nothing.
 use mathlib.Core.List.{[]}
 use denote.Ref.{now}
 use Rattle.journal.proofs.Writing.{asked-put}
@@ -21,9 +20,7 @@ returns c =
 
 pub put-asked-spec : {M : Type 1} → statement M
 put-asked-spec =
-    tie.close
-    (tie.spec
-    (λ c κs. search needs) (λ c. search needs) (λ c κs. search needs) (λ c. search needs) (λ c. search needs) (λ c. search needs)
-    (λ c κs. search needs) (λ c. search needs) (λ c. search needs) (λ c. search needs) (λ c. search needs) (λ c. search needs)
-    (λ c κs. search needs) (λ c. search needs) (λ c. search needs) (λ c. search needs) (λ c. search needs) (λ c. search needs)
-    (λ c κs. search needs) (λ c. search needs) returns)
+    tie.close (tie.spec (λ c κs. search needs) (λ c. search needs) (λ c κs. search needs) (λ c. search needs) (λ c. search needs)
+    (λ c. search needs) (λ c κs. search needs) (λ c. search needs) (λ c. search needs) (λ c. search needs) (λ c. search needs)
+    (λ c. search needs) (λ c κs. search needs) (λ c. search needs) (λ c. search needs) (λ c. search needs) (λ c. search needs)
+    (λ c. search needs) (λ c κs. search needs) (λ c. search needs) returns)

@@ -1,5 +1,4 @@
--- `writer::put_part` meets its contract: the length, and behind it the part.
--- Assumes nothing.
+-- `writer::put_part` meets its contract: the length, and behind it the part. Assumes nothing.
 use denote.Ref.{now}
 use Rattle.journal.proofs.Writing.{part-put}
 use borrow.Author.Needs.{needs}
@@ -17,7 +16,5 @@ returns c =
 
 pub put-part-spec : {M : Type 1} → statement M
 put-part-spec =
-    tie.close
-    (tie.spec
-    (λ c. search needs) (λ c κs. search needs) (λ c. search needs) (λ c κs. search needs) (λ c. search needs) (λ c. search needs)
-    (λ c. search needs) (λ c κs. search needs) (λ c. search needs) returns)
+    tie.close (tie.spec (λ c. search needs) (λ c κs. search needs) (λ c. search needs) (λ c κs. search needs) (λ c. search needs)
+    (λ c. search needs) (λ c. search needs) (λ c κs. search needs) (λ c. search needs) returns)

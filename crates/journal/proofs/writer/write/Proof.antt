@@ -1,6 +1,5 @@
 -- `writer::write` meets its contract: what is within the limits fits sixteen bits and a few, and no sum wraps; each return is the
--- definition.
--- Assumes nothing.
+-- definition. Assumes nothing.
 use mathlib.Core.Path.{sym, _∙_}
 use mathlib.Core.List.{List}
 use Prim.Native.Nat.{ℕ}
@@ -78,9 +77,7 @@ returns-3 c =
 
 pub write-spec : {M : Type 1} → statement M
 write-spec =
-    tie.close
-    (tie.spec
-    (λ c κs. search needs) returns (λ c. search needs) (λ c. search needs) (λ c. search needs)
+    tie.close (tie.spec (λ c κs. search needs) returns (λ c. search needs) (λ c. search needs) (λ c. search needs)
     (λ c. let s = short-there c in omega (arith, s .label, s .«data», s .iv, s .output))
     (λ c. let s = short-there c in omega (arith, s .label, s .«data», s .iv, s .output))
     (λ c. let s = short-there c in omega (arith, s .label, s .«data», s .iv, s .output))

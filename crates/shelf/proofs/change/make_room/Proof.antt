@@ -1,5 +1,4 @@
--- `change::make_room` meets its contract: the definition goes by the same test.
--- Assumes nothing.
+-- `change::make_room` meets its contract: the definition goes by the same test. Assumes nothing.
 use mathlib.Core.Path.{sym, ap, _∙_}
 use mathlib.Core.List.{List}
 use denote.Ref.{now}
@@ -40,7 +39,5 @@ returns-2 c =
 
 pub make-room-spec : {M : Type 1} → statement M
 make-room-spec =
-    tie.close
-    (tie.spec
-    (λ c κs. search needs) (λ c κs. c .before .before .before .before .pre .within) (λ c. search needs) returns
+    tie.close (tie.spec (λ c κs. search needs) (λ c κs. c .before .before .before .before .pre .within) (λ c. search needs) returns
     (λ c κs. c .before .before .before .before .pre) (λ c. search needs) returns-2)

@@ -1,5 +1,4 @@
--- `change::mark` meets its contract: the byte that is marked is the second of the record that `seek` found.
--- Assumes nothing.
+-- `change::mark` meets its contract: the byte that is marked is the second of the record that `seek` found. Assumes nothing.
 use mathlib.Core.Path.{_≡_, ap, _∙_}
 use mathlib.Core.Bool.{true}
 use Prim.Native.Nat.{ℕ, _+_, _-_, _≤_, _<_}
@@ -11,7 +10,7 @@ use Rattle.block.proofs.Entries.{below-each}
 use Rattle.shelf.specs.declared.lookup.Span.{Span}
 use Rattle.shelf.specs.Records.{records}
 use Rattle.shelf.specs.Shelf.{hasCurrent, twoCurrent, placeOf, sizeOf}
-use Rattle.shelf.proofs.Marking.{size-has, size-zero, place-within, marked-over, unmarked-over}
+use Rattle.shelf.proofs.Superseding.{size-has, size-zero, place-within, marked-over, unmarked-over}
 use borrow.Author.Needs.{needs}
 use Rattle.shelf.proofs.change.mark.Statement.{statement}
 use Rattle.shelf.proofs.change.mark.Tie as tie
@@ -79,7 +78,5 @@ returns-2 c =
 
 pub mark-spec : {M : Type 1} → statement M
 mark-spec =
-    tie.close
-    (tie.spec
-    (λ c. omega arith) (λ c. omega arith) (λ c. omega (arith, c .before .before .pre .within)) seek-requires
+    tie.close (tie.spec (λ c. omega arith) (λ c. omega arith) (λ c. omega (arith, c .before .before .pre .within)) seek-requires
     (λ c. omega (arith, inside c)) (λ c. omega (arith, inside c)) (λ c. search needs) returns (λ c. search needs) returns-2)

@@ -1,6 +1,5 @@
 -- `change::move_down` meets its contract. The loop's invariant: `i` bytes have moved, and all others stand where they did. The measure is
--- how many are to move.
--- Assumes nothing.
+-- how many are to move. Assumes nothing.
 use mathlib.Core.Path.{_≡_, refl, sym, ap, _∙_}
 use mathlib.Core.List.{List}
 use Prim.Native.Nat.{ℕ, _+_, _-_, _≤_, _<_}
@@ -61,7 +60,5 @@ returns c =
 
 pub move-down-spec : {M : Type 1} → statement M
 move-down-spec =
-    tie.close
-    (tie.spec
-    Inv-loop μ-loop loop-holds (λ c. omega arith) (λ c. omega arith) (λ c. omega arith) (λ c. omega arith) (λ c. omega arith)
-    (λ c. omega arith) loop-again (λ c. omega arith) returns)
+    tie.close (tie.spec Inv-loop μ-loop loop-holds (λ c. omega arith) (λ c. omega arith) (λ c. omega arith) (λ c. omega arith)
+    (λ c. omega arith) (λ c. omega arith) loop-again (λ c. omega arith) returns)

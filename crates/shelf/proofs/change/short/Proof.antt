@@ -1,5 +1,4 @@
--- `change::short` meets its contract.
--- Assumes nothing.
+-- `change::short` meets its contract. Assumes nothing.
 use mathlib.Core.Path.{_≡_, sym}
 use Prim.Native.Nat.{ℕ, _+_, _-_, _≤_}
 use native.Mathlib.Omega.{arith}

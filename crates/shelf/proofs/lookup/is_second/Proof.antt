@@ -1,5 +1,4 @@
--- `lookup::is_second` meets its contract.
--- Assumes nothing.
+-- `lookup::is_second` meets its contract. Assumes nothing.
 
 use borrow.Author.Needs.{needs}
 use Rattle.shelf.proofs.lookup.is_second.Statement.{statement}

@@ -73,9 +73,7 @@ loop-again c = on-from (c .before)
 
 pub sound-up-to-spec : {M : Type 1} → statement M
 sound-up-to-spec =
-    tie.close
-    (tie.spec
-    Inv-loop μ-loop (λ c. passing-starts (now (c .before .args .s))) (λ c κs. search needs) returns (λ c. omega arith)
-    (λ c. omega arith) (λ c. omega arith) (λ c κs. search needs) returns-2
-    (λ c. omega (arith, turn (c .before .before .before) .within)) (λ c. omega (arith, turn (c .before .before .before) .within))
-    (λ c. omega arith) add-at (λ c. shrinks _ _ (turn (c .before .before .before .before))) loop-again)
+    tie.close (tie.spec Inv-loop μ-loop (λ c. passing-starts (now (c .before .args .s))) (λ c κs. search needs) returns (λ c. omega arith)
+    (λ c. omega arith) (λ c. omega arith) (λ c κs. search needs) returns-2 (λ c. omega (arith, turn (c .before .before .before) .within))
+    (λ c. omega (arith, turn (c .before .before .before) .within)) (λ c. omega arith) add-at
+    (λ c. shrinks _ _ (turn (c .before .before .before .before))) loop-again)

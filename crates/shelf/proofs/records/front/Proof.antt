@@ -1,5 +1,4 @@
--- `records::front` meets its contract. Where the size is not 0, a record stands there whole, and so all its head.
--- Assumes nothing.
+-- `records::front` meets its contract. Where the size is not 0, a record stands there whole, and so all its head. Assumes nothing.
 use mathlib.Core.Path.{_≡_, sym, _∙_}
 use mathlib.Core.Bool.{true}
 use Prim.Native.Nat.{_≤_}
@@ -45,7 +44,5 @@ returns-2 c =
 
 pub front-spec : {M : Type 1} → statement M
 front-spec =
-    tie.close
-    (tie.spec
-    (λ c κs. search needs) returns shared-slice-read-current word-at-requires shared-slice-read-number shared-slice-read-number-2
-    (λ c κs. search needs) returns-2)
+    tie.close (tie.spec (λ c κs. search needs) returns shared-slice-read-current word-at-requires shared-slice-read-number
+    shared-slice-read-number-2 (λ c κs. search needs) returns-2)

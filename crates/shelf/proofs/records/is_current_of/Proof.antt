@@ -1,5 +1,4 @@
--- `records::is_current_of` meets its contract.
--- Assumes nothing.
+-- `records::is_current_of` meets its contract. Assumes nothing.
 
 use borrow.Author.Needs.{needs}
 use Rattle.shelf.proofs.records.is_current_of.Statement.{statement}

@@ -1,5 +1,4 @@
--- `records::marked` meets its contract: each return is the definition, by the tests that led there.
--- Assumes nothing.
+-- `records::marked` meets its contract: each return is the definition, by the tests that led there. Assumes nothing.
 use borrow.Author.Tests.{eq-eqb, ne-eqb}
 use Rattle.shelf.specs.Records.{marked}
 use borrow.Author.Needs.{needs}
@@ -19,7 +18,4 @@ unfolding marked
 returns-3 c = rw (eq-eqb _ _ (c .before .before .before .if1 .left), ne-eqb _ _ (c .before .if2 .left))
 
 pub marked-spec : {M : Type 1} → statement M
-marked-spec =
-    tie.close
-    (tie.spec
-    (λ c. search needs) returns (λ c. search needs) returns-2 (λ c. search needs) returns-3)
+marked-spec = tie.close (tie.spec (λ c. search needs) returns (λ c. search needs) returns-2 (λ c. search needs) returns-3)

@@ -1,5 +1,4 @@
--- `records::number` meets its contract.
--- Assumes nothing.
+-- `records::number` meets its contract. Assumes nothing.
 use native.Mathlib.Omega.{arith}
 use Rattle.block.specs.BigEndian.{numberOf}
 use borrow.Author.Needs.{needs}

@@ -1,5 +1,4 @@
--- `records::reaches` meets its contract.
--- Assumes nothing.
+-- `records::reaches` meets its contract. Assumes nothing.
 use borrow.Author.Tests.{eq-eqb, ne-eqb}
 use Rattle.shelf.proofs.records.reaches.Statement.{statement}
 use Rattle.shelf.proofs.records.reaches.Tie as tie

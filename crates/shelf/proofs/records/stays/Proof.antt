@@ -1,5 +1,4 @@
--- `records::stays` meets its contract.
--- Assumes nothing.
+-- `records::stays` meets its contract. Assumes nothing.
 use borrow.Author.Tests.{not-true, not-false}
 use Rattle.shelf.proofs.records.stays.Statement.{statement}
 use Rattle.shelf.proofs.records.stays.Tie as tie
