@@ -1,27 +1,26 @@
 -- What a journal adds to a report does not depend on the report: from the report of another journal on, replay ends with the two added.
 -- Assumes nothing.
 use mathlib.Core.Path.{_≡_, refl, sym, ap, _∙_}
-use mathlib.Core.Bool.{Bool, true, false, not, cond}
+use mathlib.Core.Bool.{Bool, true, false, cond}
 use mathlib.Core.List.{List, [], _∷_}
 use Prim.Native.Nat.{ℕ, zero, suc, _+_, _<_}
 use native.Mathlib.Omega.{arith}
-use lib.Dec.{eqb}
-use lib.ListN.{length, drop, replicate}
+use lib.ListN.{length, replicate}
 use Rattle.cipher_mode.specs.declared.Sm4Cipher.{Sm4Cipher}
-use Rattle.journal.specs.Format.{Entry, startsRecord, sizeAt, front, tooLong}
-use Rattle.journal.specs.KeyList.{hasNumber, keyOf}
+use Rattle.journal.specs.Format.{Entry, sizeAt, front}
+use Rattle.journal.specs.KeyList.{keyOf}
 use Rattle.journal.specs.Recomputed.{recomputed, judged}
 use Rattle.journal.specs.Reports.{nothing, oneMore, modePlace, firstOf, counted, AddsUp}
-use Rattle.journal.specs.Replay.{done, refuse, countedUnder, replayOne, replayUpTo}
+use Rattle.journal.specs.Replay.{replayFrom}
 use Rattle.journal.specs.Joined.{sums, earlier, added, behindReport}
 use Rattle.journal.specs.declared.again.Recomputed.{Recomputed}
 use Rattle.journal.specs.declared.report.Difference.{Difference}
 use Rattle.journal.specs.declared.report.Report.{Report}
-use Rattle.journal.specs.declared.Ended.the-variants.{BadRecord, TooLong, UnknownKey}
-use Rattle.journal.specs.declared.Replayed.{Replayed}
 use Rattle.journal.proofs.Lent.{recomputed-known}
 use Rattle.journal.proofs.Counting.{mode-below-6}
-use Rattle.journal.proofs.Sums.{adds-one}
+use Rattle.journal.proofs.Sums.{adds-counted}
+use Rattle.journal.proofs.Cases.{by-test}
+use Rattle.journal.proofs.Replaying.{from-end, from-bad, from-long, from-unknown, from-on, by-replay}
 
 sums-more : (a b : List ℕ) (i : ℕ) → i < length a → i < length b → sums a (oneMore i b) ≡ oneMore i (sums a b)
 unfolding sums
@@ -36,12 +35,11 @@ sums-none [] = refl
 sums-none (x ∷ a) = let e : x + 0 ≡ x = omega arith in rw (e, sums-none a)
 
 -- the first difference of the two, where the record at a place of the second differs or does not
-first-by : (f g t : Bool) (d e : Difference) (n m p place : ℕ) → d .found ≡ f → e .found ≡ g
+first-added : (t : Bool) (d e : Difference) (n m p place : ℕ)
     → firstOf t (n + m) (p + place) (earlier d n p e) ≡ earlier d n p (firstOf t m place e)
-first-by true g t d e n m p place df eg = rw df
-first-by false true t d e n m p place df eg = rw (df, eg)
-first-by false false true d e n m p place df eg = rw (df, eg)
-first-by false false false d e n m p place df eg = rw (df, eg)
+first-added t d e n m p place =
+    by-test (d .found) (λ f. rw f)
+    (λ f. by-test (e .found) (λ g. rw (f, g)) (λ g. by-test t (λ h. rw (f, g, h)) (λ h. rw (f, g, h))))
 
 pub either-way : (t : Bool) (d : Difference) → cond t d d ≡ d
 either-way true d = refl
@@ -73,51 +71,19 @@ module _ (p : ℕ) (r : Report) (adds : AddsUp r) where
       let d = like .answers in
       same-report (omega arith) (sym (sums-more (r .«by_mode») (s .«by_mode») (modePlace (e .mode)) (omega arith) (omega arith)))
       (sym (sums-more (r .«by_answer») (s .«by_answer») (x .number) (omega arith) (omega arith))) (omega arith) (omega arith)
-      (first-by (r .first .found) (s .first .found) (x .differs) (r .first) (s .first) (r .records) (s .records) p place refl refl)
+      (first-added (x .differs) (r .first) (s .first) (r .records) (s .records) p place)
 
-  module _ (ks : List Sm4Cipher) where
-    -- one record
-    one-behind : (t u v : Bool) (b : List ℕ) (place : ℕ) (s : Report) → AddsUp s
-        → refuse t BadRecord (p + place) (added p r s)
-        (refuse u TooLong (p + place) (added p r s)
-        (refuse v UnknownKey (p + place) (added p r s)
-        (done (countedUnder ks (front b) (p + place) (added p r s)))))
-        ≡ behindReport p r
-        (refuse t BadRecord place s
-        (refuse u TooLong place s
-        (refuse v UnknownKey place s
-        (done (countedUnder ks (front b) place s)))))
-    unfolding behindReport
-    one-behind true u v b place s like = refl
-    one-behind false true v b place s like = refl
-    one-behind false false true b place s like = refl
-    one-behind false false false b place s like =
-        ap {B = Replayed} done
-        (added-counted (front b) (judged (front b) (recomputed (keyOf (front b .key) ks) (front b))) place s like
-        (recomputed-known (keyOf (front b .key) ks) (front b)))
-
-    one-added : (b : List ℕ) (place : ℕ) (s : Report) → AddsUp s
-        → replayOne ks b (p + place) (added p r s) ≡ behindReport p r (replayOne ks b place s)
-    unfolding replayOne
-    one-added b place s like = one-behind (not (startsRecord b)) (tooLong (front b)) (not (hasNumber (front b .key) ks)) b place s like
-
-    -- all of them
-    which-behind : (t : Bool) (x y : Replayed) → cond t (behindReport p r x) (behindReport p r y) ≡ behindReport p r (cond t x y)
-    which-behind true x y = refl
-    which-behind false x y = refl
-
-    pub upto-added : (n : ℕ) (b : List ℕ) (place : ℕ) (s : Report) → AddsUp s
-        → replayUpTo n ks b (p + place) (added p r s) ≡ behindReport p r (replayUpTo n ks b place s)
-    unfolding replayUpTo behindReport
-    upto-added zero b place s like = refl
-    upto-added (suc n) b place s like =
-        let y = replayOne ks b place s in
-        let e : p + place + sizeAt b ≡ p + (place + sizeAt b) = omega arith in
-        rw (
-          one-added b place s like,
-          e,
-          upto-added n (drop (sizeAt b) b) (place + sizeAt b) (y .report)
-              (adds-one ks b place s like),
-          which-behind,
-        )
-        (which-behind (eqb (length b) 0) (done s) _)
+  pub from-added : (ks : List Sm4Cipher) (b : List ℕ) (place : ℕ) (s : Report) → AddsUp s
+      → replayFrom ks b (p + place) (added p r s) ≡ behindReport p r (replayFrom ks b place s)
+  unfolding behindReport
+  from-added ks =
+      by-replay ks (λ b place s x. AddsUp s → replayFrom ks b (p + place) (added p r s) ≡ behindReport p r x)
+      (λ b place s e like. from-end ks b (p + place) (added p r s) e) (λ b place s h e like. from-bad ks b (p + place) (added p r s) h e)
+      (λ b place s e t like. from-long ks b (p + place) (added p r s) e t)
+      (λ b place s e t n like. from-unknown ks b (p + place) (added p r s) e t n)
+      (λ b place s x q more like.
+      let e : p + place + sizeAt b ≡ p + (place + sizeAt b) = omega arith in
+      let c = keyOf (front b .key) ks in
+      let known = recomputed-known c (front b) in
+      from-on ks b (p + place) (added p r s) q
+      ∙ rw (e, added-counted (front b) (judged (front b) (recomputed c (front b))) place s like known) (more (adds-counted ks (front b) place s like)))

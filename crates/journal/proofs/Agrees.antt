@@ -19,8 +19,7 @@ use Rattle.journal.specs.Ends.{countedAll, Ends, answerNow, differs, Non
 use Rattle.journal.specs.declared.report.Difference.{Difference}
 use Rattle.journal.specs.declared.report.Report.{Report}
 use Rattle.journal.specs.declared.Replayed.{Replayed}
-use Rattle.journal.proofs.Limits.{neither}
-use Rattle.journal.proofs.Standing.{clash}
+use Rattle.journal.proofs.Cases.{neither, clash}
 use Rattle.journal.proofs.Lent.{result-size}
 use Rattle.journal.proofs.Adding.{either-way}
 

@@ -13,7 +13,7 @@ use Rattle.cipher_mode.specs.declared.KeyAnswer.the-variants.{ErrorBlockSize}
 use Rattle.cipher_mode.specs.declared.Sm4Cipher.{Sm4Cipher}
 use Rattle.cipher_mode.specs.Key.{noCipher, keyNumber}
 use Rattle.journal.specs.declared.keys.Keys.{Keys}
-use Rattle.journal.proofs.Limits.{neither}
+use Rattle.journal.proofs.Cases.{neither}
 use Rattle.journal.specs.KeyList.{keysIn, placeOf, hasNumber, keyAt, anyRetired, numberTwice, badKeys}
 
 -- inside a list no default counts

@@ -1,3 +1,4 @@
+pub mod Cases
 pub mod Limits
 pub mod Standing
 pub mod KeyTurns
@@ -6,7 +7,6 @@ pub mod Lent
 pub mod Counting
 pub mod Replaying
 pub mod BothWays
-pub mod EveryReport
 pub mod Sums
 pub mod Appended
 pub mod Adding

@@ -125,7 +125,7 @@ loop-again c =
       l .inv .0,
       turn-within (ks x) (here x) (l .place) (l .report) _ _ size answer (counted-there m) (l .inv .1),
       omega (arith, within m, length-tailed (here x) (m .measure .result), l .inv .2),
-      turn-from (ks x) (here x) (l .place) (l .report) _ _ size answer (counted-there m) (omega arith) ∙ l .inv .3,
+      turn-from (ks x) (here x) (l .place) (l .report) _ _ size answer (counted-there m) ∙ l .inv .3,
     )
 
 returns-3 : tie.Need-returns-3 Inv-loop μ-loop

@@ -114,7 +114,7 @@ returns-4 c =
     let judging = at-again .recompute .ensures ∙ ap {B = Recomputed}
     (λ (k : Sm4Cipher). judged (front b) (recomputed k (front b))) the-key in
     ap {B = Replayed} done (c .counted .ensures ∙ ap {B = Report} (λ (j : Recomputed). counted (front b) j (a .place) (a .report)) judging)
-    ∙ counts (ks x) b (a .place) (a .report) (starts (else2 .before .before)) (short else2) (known known-there)
+    ∙ counts (ks x) b (a .place) (a .report) (starts (else2 .before .before), short else2, known known-there)
 
 pub replay-one-spec : {M : Type 1} → statement M
 replay-one-spec =

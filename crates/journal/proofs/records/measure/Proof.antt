@@ -9,7 +9,8 @@ use lib.ListN.{length, drop}
 use borrow.Author.Tests.{not-true, not-false}
 use Rattle.walk.proofs.Loop.{tail-is}
 use Rattle.journal.specs.Format.{startsPart, behind, fromLabel, fromData, fromIv, fromRoom, fromOutput, afterRecord, marked}
-use Rattle.journal.proofs.Standing.{Stands, clash, not-standing, size-is, after-end}
+use Rattle.journal.proofs.Cases.{clash}
+use Rattle.journal.proofs.Standing.{Stands, not-standing, size-is, size-sum}
 use borrow.Author.Needs.{needs}
 use Rattle.journal.proofs.records.measure.Statement.{statement}
 use Rattle.journal.proofs.records.measure.Tie as tie
@@ -116,7 +117,7 @@ after-is x =
     ap length (x .behind4 .ensures ∙ ap behind (tail-is (now (at-output .before .before .behind3 .result)) 5 ∙ output-is at-output))
 
 sub-result : tie.Need-sub-result
-sub-result c = omega (arith, after-is c, after-end _ (whole (c .before)) .shorter)
+sub-result c = omega (arith, after-is c, size-is _ (whole (c .before)), size-sum _ (whole (c .before)))
 
 returns-8 : tie.Need-returns-8
 returns-8 c = omega (arith, after-is c, size-is _ (whole (c .before)))
