@@ -22,8 +22,7 @@ use Rattle.journal.specs.declared.Replayed.{Replayed}
 use Rattle.journal.proofs.Cases.{by-test, clash}
 use Rattle.journal.proofs.Standing.{stands, behind-size}
 use Rattle.journal.proofs.Replaying.{Passes, from-end, from-bad, from-long, from-unknown, from-on, by-replay}
-use Rattle.journal.proofs.BothWays.{written-starts, written-front, written-behind, written-size, front-written}
-use Rattle.journal.proofs.ReadsProper.{front-proper}
+use Rattle.journal.proofs.BothWays.{written-starts, written-front, written-behind, written-size, front-proper, front-written}
 
 rest-bytes : (a b : List ℕ) → AreBytes (a ++ b) → AreBytes b
 rest-bytes a b small = rw (drop-at a b (length a) refl) at (below-drop 256 (length a) (a ++ b) small)

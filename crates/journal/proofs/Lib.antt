@@ -11,7 +11,6 @@ pub mod Sums
 pub mod Appended
 pub mod Adding
 pub mod Joined
-pub mod ReadsProper
 pub mod Ending
 pub mod Agrees
 pub mod Writing

@@ -12,8 +12,7 @@ use Rattle.journal.specs.Format.{startsRecord, sizeAt, afterRecord, fron
 use Rattle.journal.proofs.Limits.{short}
 use Rattle.journal.proofs.Cases.{clash}
 use Rattle.journal.proofs.Standing.{Stands, stands, size-sum}
-use Rattle.journal.proofs.BothWays.{written-starts, written-size, front-written}
-use Rattle.journal.proofs.ReadsProper.{front-proper}
+use Rattle.journal.proofs.BothWays.{written-starts, written-size, front-proper, front-written}
 
 pub longest : (b : List ℕ) → Stands b → tooLong (front b) ≡ false → sizeAt b ≤ 65579
 unfolding front
