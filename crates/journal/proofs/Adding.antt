@@ -17,7 +17,7 @@ use Rattle.journal.specs.declared.again.Recomputed.{Recomputed}
 use Rattle.journal.specs.declared.report.Difference.{Difference}
 use Rattle.journal.specs.declared.report.Report.{Report}
 use Rattle.journal.proofs.Lent.{recomputed-known}
-use Rattle.journal.proofs.Counting.{mode-below-6}
+use Rattle.journal.proofs.Counting.{same-report, mode-below-6}
 use Rattle.journal.proofs.Sums.{adds-counted}
 use Rattle.journal.proofs.Cases.{by-test}
 use Rattle.journal.proofs.Replaying.{from-end, from-bad, from-long, from-unknown, from-on, by-replay}
@@ -44,11 +44,6 @@ first-added t d e n m p place =
 pub either-way : (t : Bool) (d : Difference) → cond t d d ≡ d
 either-way true d = refl
 either-way false d = refl
-
-same-report : {n n′ i i′ o o′ : ℕ} {m m′ a a′ : List ℕ} {d d′ : Difference} → n ≡ n′ → m ≡ m′ → a ≡ a′ → i ≡ i′ → o ≡ o′ → d ≡ d′
-    → _≡_ {A = Report} (record { records = n; «by_mode» = m; «by_answer» = a; «bytes_in» = i; «bytes_out» = o; first = d })
-    (record { records = n′; «by_mode» = m′; «by_answer» = a′; «bytes_in» = i′; «bytes_out» = o′; first = d′ })
-same-report a b c d e f = rw (a, b, c, d, e, f)
 
 module _ (p : ℕ) (r : Report) (adds : AddsUp r) where
   pub added-none : added p r nothing ≡ r

@@ -1,13 +1,13 @@
 -- Reading and writing a record are each other's inverse. Assumes nothing.
-use mathlib.Core.Path.{_≡_, refl, sym, ap, ap₂, _∙_}
+use mathlib.Core.Path.{_≡_, refl, sym, ap, _∙_}
 use mathlib.Core.Bool.{true}
 use mathlib.Core.List.{List, [], _∷_, _++_, append-assoc}
 use Prim.Native.Nat.{ℕ, zero, suc, _+_, _≤_, _<_, _^_}
 use native.Mathlib.Nat.{mod-eq-of-lt}
 use native.Mathlib.Omega.{arith}
 use lib.Dec.{eqb, leb, lit<}
-use lib.ListN.{length, getD, take, drop, length-append, take-append-drop}
-use lib.Seq.{drop-cons, take-at, drop-at, take-add, drop-drop}
+use lib.ListN.{length, getD, drop, length-append, take-append-drop}
+use lib.Seq.{drop-cons, take-at, drop-at, drop-drop}
 use borrow.Author.Tests.{eqb-true, leb-true}
 use Rattle.block.specs.Below.{AreBytes}
 use Rattle.block.specs.BigEndian.{bytesOf}

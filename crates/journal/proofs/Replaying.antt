@@ -19,7 +19,7 @@ use Rattle.journal.specs.declared.Ended.{Ended}
 use Rattle.journal.specs.declared.Ended.the-variants.{BadRecord, TooLong, UnknownKey}
 use Rattle.journal.specs.declared.Replayed.{Replayed}
 use Rattle.journal.proofs.Cases.{by-test}
-use Rattle.journal.proofs.Standing.{Stands, stands, size-within, data-within}
+use Rattle.journal.proofs.Standing.{stands, size-within, data-within}
 use Rattle.journal.proofs.Lent.{recomputed-size}
 use Rattle.journal.proofs.Counting.{within-counted}
 
@@ -72,9 +72,6 @@ module _ (ks : List Sm4Cipher) (b : List ℕ) (place : ℕ) (r : Report) where
   passed =
       by-one (λ x. numberOfEnd (x .ended) ≡ 0 → Passes ks b) (λ s e. absurd (omega arith)) (λ s t e. absurd (omega arith))
       (λ s t n e. absurd (omega arith)) (λ p e. p)
-
-  pub one-stands : numberOfEnd (replayOne ks b place r .ended) ≡ 0 → Stands b
-  one-stands e = stands b (passed e .0)
 
 upto-end : (n : ℕ) (ks : List Sm4Cipher) (b : List ℕ) (place : ℕ) (r : Report) → length b ≡ 0 → replayUpTo n ks b place r ≡ done r
 unfolding replayUpTo
@@ -143,19 +140,16 @@ module _ (ks : List Sm4Cipher) (b : List ℕ) (place : ℕ) (r : Report) where
 
   -- a turn: the record in front was measured and replayed
   module _ (n : ℕ) (one : Replayed) (size : n ≡ sizeAt b) (replayed : one ≡ replayOne ks b place r)
-      (counted-there : numberOfEnd (replayOne ks b place r .ended) ≡ 0) where
+      (p : Passes ks b) where
     pub turn-within : Within place r → Within (place + n) (one .report)
     turn-within w =
-        let p = passed ks b place r counted-there in
         rw (size, replayed, ← counts ks b place r p)
         (within-counted (front b) _ place (sizeAt b) r w (data-within b (stands b (p .0)))
         (recomputed-size (keyOf (front b .key) ks) (front b)))
 
     -- what is to come is written as the borrow checker has it
     pub turn-from : replayFrom ks (tailed n b) (place + n) (one .report) ≡ replayFrom ks b place r
-    turn-from =
-        let p = passed ks b place r counted-there in
-        rw (tail-is b n, size, replayed, ← counts ks b place r p) (sym (from-on p))
+    turn-from = rw (tail-is b n, size, replayed, ← counts ks b place r p) (sym (from-on p))
 
 -- What holds at the end of a journal, and where replay stops, and goes on from what is behind a record to the record, holds of all replays.
 module _ (ks : List Sm4Cipher) (P : List ℕ → ℕ → Report → Replayed → Type 0)

@@ -1,5 +1,4 @@
--- The current records of a job, after each change to a list of records. No job has two exactly where each has at most one.
--- Assumes nothing.
+-- The current records of a job, after each change to a list of records. No job has two exactly where each has at most one. Assumes nothing.
 use mathlib.Core.Path.{_≡_, refl, sym, _∙_}
 use mathlib.Core.Bool.{Bool, true, false, _&&_}
 use mathlib.Core.List.{List, [], _∷_, append-nil}

@@ -8,6 +8,5 @@ pub mod ReadsProper
 pub mod BreaksOff
 pub mod Sound
 pub mod Keeping
-pub mod Outcomes
 pub mod FoundPart
 pub mod AfterPut

@@ -1,5 +1,4 @@
--- Where a new record goes, and what it takes to find room for it.
--- Assumes nothing.
+-- Where a new record goes, and what it takes to find room for it. Assumes nothing.
 use mathlib.Core.Path.{_≡_, refl, sym, ap, _∙_}
 use mathlib.Core.Bool.{Bool, true, false, cond, and-true}
 use mathlib.Core.List.{List, [], _∷_, _++_, append-nil, append-assoc}

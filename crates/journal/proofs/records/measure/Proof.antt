@@ -9,7 +9,7 @@ use denote.Ref.{now}
 use lib.ListN.{length, drop}
 use borrow.Author.Tests.{not-true, not-false}
 use Rattle.walk.proofs.Loop.{tailed, tail-is}
-use Rattle.journal.specs.Format.{startsPart, behind, fromData, fromIv, fromRoom, fromOutput, afterRecord, sizeAt}
+use Rattle.journal.specs.Format.{behind, fromData, fromIv, fromRoom, fromOutput, afterRecord, sizeAt}
 use Rattle.journal.proofs.Cases.{clash}
 use Rattle.journal.proofs.Standing.{Stands, not-standing, size-is, size-sum}
 use borrow.Author.Needs.{needs}

@@ -8,18 +8,11 @@ use lib.ListN.{length}
 use Rattle.block.proofs.Entries.{below-at}
 use Rattle.journal.specs.Format.{front}
 use Rattle.journal.specs.Reports.{oneMore, modePlace, counted}
-use Rattle.journal.specs.declared.report.Difference.{Difference}
-use Rattle.journal.specs.declared.report.Report.{Report}
 use Rattle.journal.proofs.Standing.{stands, size-within, data-within}
-use Rattle.journal.proofs.Counting.{mode-below-6}
+use Rattle.journal.proofs.Counting.{same-report, mode-below-6}
 use borrow.Author.Needs.{needs}
 use Rattle.journal.proofs.report.counted.Statement.{statement}
 use Rattle.journal.proofs.report.counted.Tie as tie
-
-same-report : {n n′ i i′ o o′ : ℕ} {m m′ a a′ : List ℕ} {d d′ : Difference} → n ≡ n′ → m ≡ m′ → a ≡ a′ → i ≡ i′ → o ≡ o′ → d ≡ d′
-    → _≡_ {A = Report} (record { records = n; «by_mode» = m; «by_answer» = a; «bytes_in» = i; «bytes_out» = o; first = d })
-    (record { records = n′; «by_mode» = m′; «by_answer» = a′; «bytes_in» = i′; «bytes_out» = o′; first = d′ })
-same-report p q u v w x = rw (p, q, u, v, w, x)
 
 -- the place behind the record fits
 room : (S : tie.Start) → S .args .place + (27 + length (front (now (S .args .s)) .«data»)) < 2 ^ 64
