@@ -20,7 +20,7 @@ use Rattle.journal.specs.declared.report.Report.{Report}
 use Rattle.journal.specs.declared.Replayed.{Replayed}
 use Rattle.journal.proofs.Cases.{by-test, clash, neither}
 use Rattle.journal.proofs.Lent.{result-size}
-use Rattle.journal.proofs.Adding.{either-way}
+use Rattle.journal.proofs.Joined.{either-way}
 
 module _ (ks : List Sm4Cipher) (e : Entry) where
   abbrev again : Entry

@@ -22,9 +22,8 @@ use Rattle.journal.specs.Format.{Entry, outputLimit, tooLong}
 use Rattle.journal.specs.Recomputed.{callInto, recomputed, result, differsFrom, judged, lentRoom, Answers}
 use Rattle.journal.specs.declared.again.Answered.{Answered}
 use Rattle.journal.specs.declared.again.Recomputed.{Recomputed}
-use Rattle.journal.proofs.Cases.{by-test}
+use Rattle.journal.proofs.Cases.{by-test, short as within}
 use Rattle.journal.proofs.Given.{Gives, room-16, call-gives, bad-gives}
-use Rattle.journal.proofs.Limits.{short as within}
 
 -- what an outcome reports, and its result, which stands at the front whatever is behind the output
 module _ (most : ℕ) (f : List ℕ → Outcome) (g : Gives most f) (o : List ℕ) where

@@ -1,5 +1,4 @@
 pub mod Cases
-pub mod Limits
 pub mod Standing
 pub mod KeyTurns
 pub mod Given
@@ -9,7 +8,6 @@ pub mod Replaying
 pub mod BothWays
 pub mod Sums
 pub mod Appended
-pub mod Adding
 pub mod Joined
 pub mod Ending
 pub mod Agrees

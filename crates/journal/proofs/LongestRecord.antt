@@ -9,8 +9,7 @@ use lib.ListN.{length, take, drop, take-append-drop}
 use lib.Seq.{take-at, take-append-le}
 use Rattle.block.specs.Below.{AreBytes}
 use Rattle.journal.specs.Format.{startsRecord, sizeAt, afterRecord, front, written, tooLong}
-use Rattle.journal.proofs.Limits.{short}
-use Rattle.journal.proofs.Cases.{clash}
+use Rattle.journal.proofs.Cases.{short, clash}
 use Rattle.journal.proofs.Standing.{Stands, stands, size-sum}
 use Rattle.journal.proofs.BothWays.{written-starts, written-size, front-proper, front-written}
 

@@ -12,7 +12,7 @@ use Rattle.cipher_mode.specs.declared.Sm4Cipher.{Sm4Cipher}
 use Rattle.journal.specs.Format.{Entry, startsRecord, sizeAt, front, tooLong}
 use Rattle.journal.specs.KeyList.{keysIn, hasNumber, keyOf, badKeys}
 use Rattle.journal.specs.Reports.{nothing, Within}
-use Rattle.journal.specs.Replay.{numberOfEnd, done, countedUnder, replayOne, replayUpTo, replayFrom, replay}
+use Rattle.journal.specs.Replay.{numberOfEnd, andThen, done, countedUnder, replayOne, replayUpTo, replayFrom, replay}
 use Rattle.journal.specs.declared.keys.Keys.{Keys}
 use Rattle.journal.specs.declared.report.Report.{Report}
 use Rattle.journal.specs.declared.Ended.{Ended}
@@ -168,16 +168,9 @@ module _ (ks : List Sm4Cipher) (P : List ℕ → ℕ → Report → Replayed →
       (λ e.
       let some = eqb-false (length b) 0 e in
       rw e
-      (by-test (startsRecord b)
-      (λ s.
-      by-test (tooLong (front b)) (λ t. rw (← too-long ks b place r s t) (long b place r s t))
-      (λ t.
-      by-test (hasNumber (front b .key) ks)
-      (λ k.
-      let p : Passes ks b = (s, t, k) in
-      rw (← counts ks b place r p) (on b place r _ p (up-to n (drop (sizeAt b) b) _ _ (omega (arith, behind-less ks b p)))))
-      (λ k. rw (← no-key ks b place r s t k) (unknown b place r s t k))))
-      (λ s. rw (← bad-record ks b place r s) (bad b place r (omega arith) s))))
+      (by-one ks b place r (λ x. P b place r (andThen x (λ r′. replayUpTo n ks (drop (sizeAt b) b) (place + sizeAt b) r′)))
+      (bad b place r (omega arith)) (long b place r) (unknown b place r)
+      (λ p. on b place r _ p (up-to n (drop (sizeAt b) b) _ _ (omega (arith, behind-less ks b p))))))
 
   pub by-replay : (b : List ℕ) (place : ℕ) (r : Report) → P b place r (replayFrom ks b place r)
   by-replay b place r = up-to (length b) b place r (omega arith)

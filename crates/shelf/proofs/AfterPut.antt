@@ -20,13 +20,12 @@ use Rattle.shelf.specs.Records.{Record, Proper, AllProper, written, stor
 use Rattle.shelf.specs.Shelf.{currentOf, collected, notHigher, fitted, badShelf}
 use Rattle.shelf.specs.Steps.{InOrder}
 use Rattle.shelf.specs.Calls.{newRecord, putIn, putCall, collectCall, lookedUp, holding}
-use Rattle.shelf.proofs.Inverse.{records-stored}
+use Rattle.shelf.proofs.ReadsProper.{records-stored, records-proper, those-proper, put-proper}
 use Rattle.shelf.proofs.Sound.{in-order, not-bad}
 use Rattle.shelf.proofs.Putting.{length-made, enough}
 use Rattle.shelf.proofs.Reading.{by-test}
 use Rattle.shelf.proofs.Current.{at-most-one, no-two, collected-length, collected-again, current-collected, current-fitted}
 use Rattle.shelf.proofs.Current.{current-new, current-kept}
-use Rattle.shelf.proofs.ReadsProper.{records-proper, those-proper, put-proper}
 use Rattle.shelf.proofs.FoundPart.{look-up}
 
 written-bytes : (r : Record) → Proper r → AreBytes (written r)

@@ -16,7 +16,7 @@ use Rattle.shelf.specs.Calls.{findCall, partOf, lookedUp}
 use Rattle.shelf.proofs.Reading.{by-test}
 use Rattle.shelf.proofs.Walks.{none-current, alone, two-rest}
 use Rattle.shelf.proofs.Sound.{not-bad}
-use Rattle.shelf.proofs.Superseding.{used-stored}
+use Rattle.shelf.proofs.Putting.{used-stored}
 
 -- the part that look-up points to lies inside the records as they are stored, and is the current one
 abbrev StandsThere : ℕ → List Record → Type 0

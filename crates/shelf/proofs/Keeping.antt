@@ -17,7 +17,7 @@ use Rattle.shelf.specs.Shelf.{those}
 use Rattle.shelf.specs.Steps.{stays}
 use Rattle.shelf.proofs.Reading.{Turn, entry}
 use Rattle.shelf.proofs.Walks.{those-here, those-behind}
-use Rattle.shelf.proofs.Inverse.{entry-written}
+use Rattle.shelf.proofs.ReadsProper.{entry-written}
 
 -- what `&s[at..used]` holds
 abbrev pub between : ℕ → ℕ → List ℕ → List ℕ

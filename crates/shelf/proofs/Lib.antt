@@ -1,11 +1,8 @@
 pub mod Reading
 pub mod Walks
-pub mod Inverse
-pub mod Superseding
 pub mod Putting
 pub mod Current
 pub mod ReadsProper
-pub mod BreaksOff
 pub mod Sound
 pub mod Keeping
 pub mod FoundPart

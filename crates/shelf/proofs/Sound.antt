@@ -1,20 +1,148 @@
--- A shelf is bad exactly where it is not in order up to its used count. Assumes nothing.
-use mathlib.Core.Path.{_≡_, refl, _∙_}
-use mathlib.Core.Bool.{true, false, not, _||_, or-true, or-false}
-use mathlib.Core.List.{List, []}
-use Prim.Native.Nat.{ℕ, _≤_, _<_}
+-- Where a shelf breaks off: all is in order where no job has two current records, and otherwise less than all; so a shelf is bad exactly where
+-- it is not in order up to its used count. Assumes nothing.
+use mathlib.Core.Path.{_≡_, refl, sym, ap, ap₂, _∙_}
+use mathlib.Core.Bool.{true, false, _&&_, cond, not, _||_, or-true, or-false}
+use mathlib.Core.List.{List, [], _∷_, _++_, append-assoc, append-nil}
+use Prim.Native.Nat.{ℕ, _+_, _≤_, _<_}
 use native.Mathlib.Omega.{arith}
+use lib.ListN.{length, take, drop, length-append, length-drop}
+use lib.Seq.{drop-drop, take-add, length-take-le}
 use lib.Dec.{eqb, ltb}
-use lib.ListN.{length, take, length-append, length-drop}
-use lib.Seq.{length-take-le}
-use borrow.Author.Tests.{lt-ltb, le-ltb, ltb-false, eqb-true, eq-eqb, ne-eqb, not-false}
-use Rattle.shelf.specs.Records.{Record, written, stored, sizeAt, front, records}
-use Rattle.shelf.specs.Shelf.{twoCurrent, badShelf}
-use Rattle.shelf.specs.Steps.{soundUpTo, InOrder}
-use Rattle.shelf.proofs.Reading.{by-test, length-written, starts-within, size-starts, length-sealed, records-none, records-one}
-use Rattle.shelf.proofs.Reading.{by-records}
-use Rattle.shelf.proofs.Walks.{or-left, or-right}
-use Rattle.shelf.proofs.BreaksOff.{sound-all, sound-less}
+use borrow.Author.Tests.{eqb-true, lt-ltb, le-ltb, ltb-false, eq-eqb, ne-eqb, not-false}
+use Rattle.block.specs.Below.{AreBytes}
+use Rattle.block.proofs.Entries.{below-take, below-drop}
+use Rattle.block.proofs.Same.{and-left, and-right}
+use Rattle.walk.proofs.Loop.{tailed, tail-is}
+use Rattle.shelf.specs.declared.records.Head.{Head}
+use Rattle.shelf.specs.Records.{Record, Proper, written, stored, records, headAt, sizeAt, front}
+use Rattle.shelf.specs.Shelf.{isCurrentOf, those, currentOf, hasCurrent, twoCurrent, badShelf}
+use Rattle.shelf.specs.Steps.{soundFrom, soundUpTo, InOrder}
+use Rattle.shelf.proofs.Reading.{by-test, length-written, records-empty, Turn, entry, entry-front, starts-within, size-starts}
+use Rattle.shelf.proofs.Reading.{length-sealed, records-none, records-one, by-records}
+use Rattle.shelf.proofs.Walks.{none-current, or-left, or-right}
+use Rattle.shelf.proofs.ReadsProper.{entry-written, stored-records, written-reads, records-behind, front-proper, records-proper}
+use Rattle.shelf.proofs.Putting.{stored-append, those-append}
+use Rattle.shelf.proofs.Current.{current-none, own-current, at-most-one, no-two}
+
+-- how many current records of a job there are, with one more
+length-more : (job : ℕ) (passed : List Record) (r : Record) (rs : List Record)
+    → length (currentOf job (passed ++ (r ∷ rs)))
+    ≡ length (currentOf job passed) + length (cond (isCurrentOf job r) (r ∷ currentOf job rs) (currentOf job rs))
+unfolding those
+length-more job passed r rs = ap length (those-append (isCurrentOf job) passed (r ∷ rs)) ∙ length-append (currentOf job passed) _
+
+-- it is no second one
+first : (passed : List Record) (r : Record) (rs : List Record) → twoCurrent (passed ++ (r ∷ rs)) ≡ false
+    → r .current && hasCurrent (r .job) passed ≡ false
+first passed r rs f =
+    by-test (r .current)
+    (λ e.
+    let all = at-most-one (passed ++ (r ∷ rs)) f (r .job) in
+    rw e (current-none (r .job) passed (omega (arith, rw (own-current r e) at (length-more (r .job) passed r rs)))))
+    (λ e. rw e)
+
+pub sound-all : (passed rs : List Record) → twoCurrent (passed ++ rs) ≡ false → soundFrom passed rs ≡ length (stored rs)
+unfolding soundFrom stored
+sound-all passed [] e = refl
+sound-all passed (r ∷ rs) e =
+    rw (first passed r rs e, sound-all (passed ++ (r ∷ [])) rs (rw append-assoc e)) (sym (length-append (written r) (stored rs)))
+
+-- one more, that is no second one
+still-single : (passed : List Record) (r : Record) → twoCurrent passed ≡ false → r .current && hasCurrent (r .job) passed ≡ false
+    → twoCurrent (passed ++ (r ∷ [])) ≡ false
+unfolding those
+still-single passed r e f =
+    no-two (passed ++ (r ∷ []))
+    (λ job. rw (length-more job passed r [])
+    (by-test (isCurrentOf job r)
+    (λ g.
+    let same : r .job ≡ job = eqb-true (r .job) job (and-right (r .current) _ g) in
+    let none : hasCurrent job passed ≡ false = rw (and-left (r .current) _ g, same) at f in
+    rw (g, none-current job passed none) (omega arith))
+    (λ g. rw g (omega (arith, at-most-one passed e job)))))
+
+pub sound-less : (passed rs : List Record) → twoCurrent passed ≡ false → twoCurrent (passed ++ rs) ≡ true
+    → soundFrom passed rs < length (stored rs)
+unfolding soundFrom stored
+sound-less passed [] e f =
+    let g = rw append-nil at f in
+    let z : _≡_ {A = ℕ} 0 1 = cc in absurd (omega arith)
+sound-less passed (r ∷ rs) e f =
+    by-test (r .current && hasCurrent (r .job) passed) (λ g. rw (g, length-append) (omega (arith, length-written r)))
+    (λ g.
+    let more = sound-less (passed ++ (r ∷ [])) rs (still-single passed r e g) (rw append-assoc f) in
+    rw (g, length-append) (omega arith))
+
+-- how far a walk that looks back has come: `at` bytes are passed, all of them records, and t is to come
+pub record Passing (s t : List ℕ) (at : ℕ) : Type 0 where
+  pub within : at ≤ length s
+  pub rest : t ≡ drop at s
+  pub whole : length (stored (records (take at s))) ≡ at
+  pub sum : at + soundFrom (records (take at s)) (records t) ≡ soundUpTo (records s)
+
+pub passing-starts : (s : List ℕ) → Passing s s 0
+unfolding stored
+passing-starts s =
+    record {
+      within = omega arith;
+      rest = refl;
+      whole = ap (λ (rs : List Record). length (stored rs)) records-empty;
+      sum = ap (λ (rs : List Record). 0 + soundFrom rs (records s)) records-empty ∙ omega arith;
+    }
+
+module _ (s t : List ℕ) (at : ℕ) (p : Passing s t at) where
+  pub passed-all : records t ≡ [] → at ≡ soundUpTo (records s)
+  unfolding soundFrom
+  passed-all e = let z = ap (soundFrom (records (take at s))) e in omega (arith, z, p .sum)
+
+  module _ (h : Head) (told : h ≡ headAt t) (turn : Turn t h) where
+    pub second : h .current && hasCurrent (h .job) (records (take at s)) ≡ true → at ≡ soundUpTo (records s)
+    unfolding soundFrom
+    second e =
+        let z : soundFrom (records (take at s)) (records t) ≡ 0 = ap (soundFrom (records (take at s))) (turn .reads) ∙ rw e in
+        omega (arith, z, p .sum)
+
+    module _ (small : AreBytes s) where
+      small-rest : AreBytes t
+      small-rest = rw (p .rest) (below-drop 256 at s small)
+
+      entry-proper : Proper (entry t h)
+      entry-proper = rw (entry-front t h told (turn .starts)) at (front-proper t small-rest (turn .starts))
+
+      -- the records passed, with this one
+      passed-more : records (take (at + h .size) s) ≡ records (take at s) ++ (entry t h ∷ [])
+      passed-more =
+          let P = records (take at s) in
+          let e = entry t h in
+          let small-passed = below-take 256 at s small in
+          let before : take at s ≡ stored P =
+          sym (stored-records (take at s) small-passed (p .whole ∙ sym (length-take-le at s (p .within)))) in
+          let here : take (h .size) (drop at s) ≡ written e =
+          ap (take (h .size)) (sym (p .rest)) ∙ sym (entry-written t h told turn small-rest) in
+          ap records (take-add at (h .size) s ∙ ap₂ _++_ before (here ∙ sym (append-nil (written e))))
+          ∙ records-behind P (written e ++ []) (records-proper (take at s) small-passed)
+          ∙ ap {B = List Record} (λ (x : List Record). P ++ x)
+          (written-reads e entry-proper [] ∙ ap {B = List Record} (λ (x : List Record). e ∷ x) records-empty)
+
+      pub passing-on : h .current && hasCurrent (h .job) (records (take at s)) ≡ false → Passing s (tailed (h .size) t) (at + h .size)
+      unfolding soundFrom stored
+      passing-on f =
+          let P = records (take at s) in
+          let e = entry t h in
+          let n = h .size in
+          let l = ap length (p .rest) ∙ length-drop at s in
+          let more : length (stored (P ++ (e ∷ []))) ≡ at + n =
+          ap length (stored-append P (e ∷ []) ∙ ap (λ (x : List ℕ). stored P ++ x) (append-nil (written e)))
+          ∙ length-append (stored P) (written e) ∙ ap₂ _+_ (p .whole) (turn .whole) in
+          let z : soundFrom P (records t) ≡ n + soundFrom (P ++ (e ∷ [])) (records (tailed n t)) =
+          ap (soundFrom P) (turn .reads) ∙ rw (f, turn .whole) in
+          let sum : at + n + soundFrom (P ++ (e ∷ [])) (records (tailed n t)) ≡ soundUpTo (records s) = omega (arith, z, p .sum) in
+          record {
+            within = omega (arith, turn .within);
+            rest = tail-is t n ∙ ap (drop n) (p .rest) ∙ drop-drop n at s;
+            whole = ap (λ (x : List Record). length (stored x)) passed-more ∙ more;
+            sum = ap (λ (x : List Record). at + n + soundFrom x (records (tailed n t))) passed-more ∙ sum;
+          }
 
 -- the records have no more bytes than they were read from
 stored-within : (b : List ℕ) → length (stored (records b)) ≤ length b

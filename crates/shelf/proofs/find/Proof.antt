@@ -10,7 +10,7 @@ use Rattle.shelf.specs.Records.{records}
 use Rattle.shelf.specs.Shelf.{placeOf, sizeOf, badShelf}
 use Rattle.shelf.specs.Calls.{findCall}
 use Rattle.shelf.proofs.Sound.{in-order}
-use Rattle.shelf.proofs.Superseding.{size-has, size-zero}
+use Rattle.shelf.proofs.Putting.{size-has, size-zero}
 use borrow.Author.Needs.{needs}
 use Rattle.shelf.proofs.find.Statement.{statement}
 use Rattle.shelf.proofs.find.Tie as tie

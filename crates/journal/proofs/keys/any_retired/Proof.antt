@@ -3,10 +3,10 @@ use mathlib.Core.Path.{_≡_, refl, sym, ap, _∙_}
 use mathlib.Core.Bool.{_||_}
 use Prim.Native.Nat.{_+_, _-_, _≤_}
 use native.Mathlib.Omega.{arith}
-use lib.ListN.{length, drop, length-map}
+use lib.ListN.{length, drop, length-map, drop-of-length-le}
 use Rattle.cipher_mode.specs.declared.Sm4Cipher.{Sm4Cipher}
 use Rattle.journal.specs.KeyList.{keysIn, anyRetired}
-use Rattle.journal.proofs.KeyTurns.{count-keys, retired-turn, retired-end}
+use Rattle.journal.proofs.KeyTurns.{count-keys, next-key}
 use Rattle.journal.proofs.keys.any_retired.Statement.{statement}
 use Rattle.journal.proofs.keys.any_retired.Tie as tie
 
@@ -22,17 +22,24 @@ count S = count-keys (S .args .keys) (sym (length-map (S .args .keys .keys) _) �
 turn : (x : tie.After-at Inv-loop μ-loop)
     → let l = x .before .before .before in
     let ks = keysIn (l .before .args .keys) in anyRetired ks ≡ x .at .result .retired || anyRetired (drop (l .loop .i + 1) ks)
+unfolding anyRetired
 turn x =
     let l = x .before .before .before in
     let ks = keysIn (l .before .args .keys) in
-    sym (l .loop .inv .1) ∙ retired-turn ks (l .loop .i) (omega (arith, count (l .before)))
+    sym (l .loop .inv .1) ∙ ap anyRetired (next-key ks (l .loop .i) (omega (arith, count (l .before))))
     ∙ ap (λ (k : Sm4Cipher). k .retired || anyRetired (drop (l .loop .i + 1) ks)) (sym (x .at .ensures))
+
+returns-2 : tie.Need-returns-2 Inv-loop μ-loop
+unfolding anyRetired
+returns-2 c =
+    let l = c .before .before in
+    let ks = keysIn (l .before .args .keys) in
+    let h : length ks ≤ l .loop .i = omega (arith, count (l .before)) in
+    sym (ap anyRetired (drop-of-length-le ks h)) ∙ l .loop .inv .1
 
 pub any-retired-spec : {M : Type 1} → statement M
 any-retired-spec =
     tie.close (tie.spec Inv-loop μ-loop (λ c. (omega arith, refl)) (λ c κs. (omega arith, c .before .before .before .pre))
     (λ c. sym (turn (c .before) ∙ rw (c .if2 .taken))) (λ c. omega arith) (λ c. omega arith)
     (λ c. (omega arith, sym (turn (c .before) ∙ rw (c .if2 .left))))
-    (λ c.
-    let l = c .before .before in
-    sym (retired-end (keysIn (l .before .args .keys)) (l .loop .i) (omega (arith, count (l .before)))) ∙ l .loop .inv .1))
+    returns-2)

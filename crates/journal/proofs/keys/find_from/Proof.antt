@@ -5,11 +5,11 @@ use mathlib.Core.Bool.{cond}
 use Prim.Native.Nat.{ℕ, _+_, _-_, _≤_}
 use native.Mathlib.Omega.{arith}
 use lib.Dec.{eqb}
-use lib.ListN.{length, drop, length-map}
+use lib.ListN.{length, drop, length-map, drop-of-length-le}
 use borrow.Author.Tests.{eq-eqb, ne-eqb}
 use Rattle.cipher_mode.specs.Key.{keyNumber}
 use Rattle.journal.specs.KeyList.{keysIn, placeOf}
-use Rattle.journal.proofs.KeyTurns.{count-keys, place-turn, place-end}
+use Rattle.journal.proofs.KeyTurns.{count-keys, next-key}
 use borrow.Author.Needs.{needs}
 use Rattle.journal.proofs.keys.find_from.Statement.{statement}
 use Rattle.journal.proofs.keys.find_from.Tie as tie
@@ -31,11 +31,12 @@ turn : (x : tie.After-number-of Inv-loop μ-loop)
     let ks = keysIn (a .keys) in
     placeOf (a .number) (drop (l .loop .i) ks)
     ≡ cond (eqb (x .number-of .result) (a .number)) 0 (1 + placeOf (a .number) (drop (l .loop .i + 1) ks))
+unfolding placeOf
 turn x =
     let l = x .before .before .before .before in
     let a = l .before .args in
     let ks = keysIn (a .keys) in
-    place-turn ks (l .loop .i) (omega (arith, count (l .before))) (a .number)
+    ap (placeOf (a .number)) (next-key ks (l .loop .i) (omega (arith, count (l .before))))
     ∙ ap (λ (n : ℕ). cond (eqb n (a .number)) 0 (1 + placeOf (a .number) (drop (l .loop .i + 1) ks)))
     (sym (x .number-of .ensures ∙ ap keyNumber (x .before .at .ensures)))
 
@@ -50,10 +51,12 @@ loop-again c =
     (omega arith, omega (arith, rw (ne-eqb _ _ (c .if2 .left)) at (turn x), x .before .before .before .before .loop .inv .1))
 
 returns-2 : tie.Need-returns-2 Inv-loop μ-loop
+unfolding placeOf
 returns-2 c =
     let l = c .before .before in
-    let a = l .before .args in
-    omega (arith, place-end (keysIn (a .keys)) (l .loop .i) (omega (arith, count (l .before))) (a .number), l .loop .inv .1)
+    let ks = keysIn (l .before .args .keys) in
+    let h : length ks ≤ l .loop .i = omega (arith, count (l .before)) in
+    omega (arith, ap (placeOf (l .before .args .number)) (drop-of-length-le ks h), l .loop .inv .1)
 
 pub find-from-spec : {M : Type 1} → statement M
 find-from-spec =

@@ -5,12 +5,12 @@ use mathlib.Core.Bool.{true, false, _||_}
 use mathlib.Core.List.{List}
 use Prim.Native.Nat.{ℕ, _+_, _-_, _≤_, _<_}
 use native.Mathlib.Omega.{arith}
-use lib.ListN.{length, drop, length-map, length-drop}
+use lib.ListN.{length, drop, length-map, length-drop, drop-of-length-le}
 use borrow.Author.Tests.{lt-ltb, le-ltb}
 use Rattle.cipher_mode.specs.declared.Sm4Cipher.{Sm4Cipher}
 use Rattle.cipher_mode.specs.Key.{keyNumber}
 use Rattle.journal.specs.KeyList.{keysIn, placeOf, hasNumber, keyAt, numberTwice}
-use Rattle.journal.proofs.KeyTurns.{count-keys, twice-turn, twice-end}
+use Rattle.journal.proofs.KeyTurns.{count-keys, next-key}
 use borrow.Author.Needs.{needs}
 use Rattle.journal.proofs.keys.number_twice.Statement.{statement}
 use Rattle.journal.proofs.keys.number_twice.Tie as tie
@@ -44,7 +44,8 @@ module _ (x : tie.After-find-from Inv-loop μ-loop) where
       ∙ ap (λ (n : ℕ). at-loop .loop .i + 1 + placeOf n rest) (x .before .number-of .ensures ∙ ap keyNumber (x .before .before .at .ensures))
 
   turn : numberTwice ks ≡ hasNumber k rest || numberTwice rest
-  turn = sym (at-loop .loop .inv .1) ∙ twice-turn ks (at-loop .loop .i) (omega (arith, count (at-loop .before)))
+  unfolding numberTwice
+  turn = sym (at-loop .loop .inv .1) ∙ ap numberTwice (next-key ks (at-loop .loop .i) (omega (arith, count (at-loop .before))))
 
   again : x .find-from .result < at-loop .before .args .keys .count → hasNumber k rest ≡ true
   again h = lt-ltb (placeOf k rest) (length rest) (omega (arith, count (at-loop .before), found, length-drop (at-loop .loop .i + 1) ks))
@@ -52,12 +53,18 @@ module _ (x : tie.After-find-from Inv-loop μ-loop) where
   never : at-loop .before .args .keys .count ≤ x .find-from .result → hasNumber k rest ≡ false
   never h = le-ltb (placeOf k rest) (length rest) (omega (arith, count (at-loop .before), found, length-drop (at-loop .loop .i + 1) ks))
 
+returns-2 : tie.Need-returns-2 Inv-loop μ-loop
+unfolding numberTwice
+returns-2 c =
+    let l = c .before .before in
+    let all = keysIn (l .before .args .keys) in
+    let h : length all ≤ l .loop .i = omega (arith, count (l .before)) in
+    sym (ap numberTwice (drop-of-length-le all h)) ∙ l .loop .inv .1
+
 pub number-twice-spec : {M : Type 1} → statement M
 number-twice-spec =
     tie.close (tie.spec Inv-loop μ-loop (λ c. (omega arith, refl)) (λ c κs. (omega arith, c .before .before .before .pre))
     (λ c κs. search needs) (λ c. omega arith) (λ c κs. (omega arith, c .before .before .before .before .before .pre))
     (λ c. let x = c .before .before in sym (turn x ∙ rw (again x (c .if2 .taken)))) (λ c. omega arith)
     (λ c. let x = c .before .before in (omega arith, sym (turn x ∙ rw (never x (c .if2 .left)))))
-    (λ c.
-    let l = c .before .before in
-    sym (twice-end (keysIn (l .before .args .keys)) (l .loop .i) (omega (arith, count (l .before)))) ∙ l .loop .inv .1))
+    returns-2)

@@ -8,7 +8,7 @@ use lib.ListN.{length, length-take, length-drop}
 use borrow.Author.Tests.{lt-ltb}
 use Rattle.journal.specs.Format.{Entry, written}
 use Rattle.journal.specs.Writer.{entryOf, write}
-use Rattle.journal.proofs.Limits.{Short, short}
+use Rattle.journal.proofs.Cases.{Short, short}
 use Rattle.journal.proofs.Writing.{length-written, both-put}
 use borrow.Author.Needs.{needs}
 use Rattle.journal.proofs.writer.write.Statement.{statement}

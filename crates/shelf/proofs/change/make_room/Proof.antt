@@ -5,8 +5,7 @@ use denote.Ref.{now}
 use lib.ListN.{length, take}
 use Rattle.walk.specs.Walk.{over}
 use Rattle.shelf.specs.Records.{Record, stored, records}
-use Rattle.shelf.proofs.Superseding.{length-supersede}
-use Rattle.shelf.proofs.Putting.{made-short, made-long}
+use Rattle.shelf.proofs.Putting.{length-supersede, made-short, made-long}
 use borrow.Author.Needs.{needs}
 use Rattle.shelf.proofs.change.make_room.Statement.{statement}
 use Rattle.shelf.proofs.change.make_room.Tie as tie

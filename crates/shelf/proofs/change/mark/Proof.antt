@@ -12,7 +12,7 @@ use Rattle.block.proofs.Entries.{below-each}
 use Rattle.shelf.specs.declared.lookup.Span.{Span}
 use Rattle.shelf.specs.Records.{Record, records}
 use Rattle.shelf.specs.Shelf.{hasCurrent, placeOf, sizeOf}
-use Rattle.shelf.proofs.Superseding.{size-has, size-zero, place-within, marked-over, unmarked-over}
+use Rattle.shelf.proofs.Putting.{size-has, size-zero, place-within, marked-over, unmarked-over}
 use borrow.Author.Needs.{needs}
 use Rattle.shelf.proofs.change.mark.Statement.{statement}
 use Rattle.shelf.proofs.change.mark.Tie as tie

@@ -11,7 +11,7 @@ use Rattle.walk.proofs.Loop.{tailed}
 use Rattle.shelf.specs.Records.{records}
 use Rattle.shelf.specs.Shelf.{hasCurrent}
 use Rattle.shelf.proofs.Reading.{Turn, at-end, on, shrinks}
-use Rattle.shelf.proofs.BreaksOff.{Passing, passing-starts, passed-all, second, passing-on}
+use Rattle.shelf.proofs.Sound.{Passing, passing-starts, passed-all, second, passing-on}
 use borrow.Author.Needs.{needs}
 use Rattle.shelf.proofs.lookup.sound_up_to.Statement.{statement}
 use Rattle.shelf.proofs.lookup.sound_up_to.Tie as tie
