@@ -15,5 +15,5 @@ returns-3 c =
 pub bad-spec : {M : Type 1} → statement M
 bad-spec =
     tie.close (tie.spec (λ c. let a = c .before .before .args in bad-size (now (a .shelf)) (a .used) (omega arith))
-    (λ c. let a = c .before .before .before .args in bad-used (now (a .shelf)) (a .used) (omega arith) (omega arith))
-    (λ c. search needs) (λ c. search needs) (λ c. search needs) (λ c κs. search needs) returns-3)
+    (λ c. let a = c .before .before .before .args in bad-used (now (a .shelf)) (a .used) (omega arith) (omega arith)) (λ c. search needs)
+    (λ c. search needs) (λ c. search needs) (λ c κs. search needs) returns-3)

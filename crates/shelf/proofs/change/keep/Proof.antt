@@ -19,9 +19,6 @@ Inv-loop shelf₀ used coming job to₀ at₀ shelf to at = Collecting coming jo
 abbrev μ-loop : tie.MeasureT-loop
 μ-loop shelf₀ used coming job to₀ at₀ shelf to at = used - at
 
-loop-holds : tie.Need-loop-holds Inv-loop μ-loop
-loop-holds c = collecting-starts _ _ _ _ (c .before .pre)
-
 turn : (x : tie.Else1 Inv-loop μ-loop)
     → let at-loop = x .before .before .before .before in
     Turn (between (at-loop .loop .at) (at-loop .before .before .args .used) (at-loop .loop .shelf)) (x .before .front .result)
@@ -55,12 +52,6 @@ add-to c =
     let at-loop = at-else .before .before .before .before in
     omega (arith, room at-else, at-loop .loop .inv .below)
 
-add-at : tie.Need-add-at Inv-loop μ-loop
-add-at c = omega (arith, room (c .before .before))
-
-loop-less : tie.Need-loop-less Inv-loop μ-loop
-loop-less c = let here = turn (c .before .before) in omega (arith, room (c .before .before), here .long)
-
 loop-again : tie.Need-loop-again Inv-loop μ-loop
 loop-again c =
     let at-stays = c .before in
@@ -82,5 +73,7 @@ loop-again c =
 
 pub keep-spec : {M : Type 1} → statement M
 keep-spec =
-    tie.close (tie.spec Inv-loop μ-loop loop-holds (λ c. omega arith) (λ c. omega arith) (λ c. omega arith) (λ c κs. search needs)
-    (λ c. omega arith) returns (λ c κs. search needs) move-down-requires add-to add-at loop-less loop-again)
+    tie.close (tie.spec Inv-loop μ-loop (λ c. collecting-starts _ _ _ _ (c .before .pre)) (λ c. omega arith) (λ c. omega arith)
+    (λ c. omega arith) (λ c κs. search needs) (λ c. omega arith) returns (λ c κs. search needs) move-down-requires add-to
+    (λ c. omega (arith, room (c .before .before)))
+    (λ c. let here = turn (c .before .before) in omega (arith, room (c .before .before), here .long)) loop-again)

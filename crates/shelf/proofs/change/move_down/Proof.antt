@@ -37,9 +37,6 @@ moved d s to from i h k e =
     let l = length-drop from d in
     rw (e, untouched d to from i h k, add-one i) (paste-suc d to (drop from d) i 0 (omega arith) (omega arith))
 
-loop-holds : tie.Need-loop-holds Inv-loop μ-loop
-loop-holds c = (omega arith, refl, paste-zero (now (c .args .shelf)) (c .args .to) (drop (c .args .from) (now (c .args .shelf))))
-
 loop-again : tie.Need-loop-again Inv-loop μ-loop
 loop-again c =
     let at-loop = c .before .before in
@@ -60,5 +57,7 @@ returns c =
 
 pub move-down-spec : {M : Type 1} → statement M
 move-down-spec =
-    tie.close (tie.spec Inv-loop μ-loop loop-holds (λ c. omega arith) (λ c. omega arith) (λ c. omega arith) (λ c. omega arith)
-    (λ c. omega arith) (λ c. omega arith) loop-again (λ c. omega arith) returns)
+    tie.close (tie.spec Inv-loop μ-loop
+    (λ c. (omega arith, refl, paste-zero (now (c .args .shelf)) (c .args .to) (drop (c .args .from) (now (c .args .shelf)))))
+    (λ c. omega arith) (λ c. omega arith) (λ c. omega arith) (λ c. omega arith) (λ c. omega arith) (λ c. omega arith) loop-again
+    (λ c. omega arith) returns)

@@ -47,5 +47,5 @@ loop-again c =
 pub not-higher-spec : {M : Type 1} → statement M
 not-higher-spec =
     tie.close (tie.spec Inv-loop μ-loop (λ c. refl) (λ c κs. search needs) returns (λ c κs. search needs) returns-2
-    (λ c. omega (arith, turn (c .before .before) .within)) (λ c. omega (arith, turn (c .before .before) .within))
-    (λ c. omega arith) (λ c. shrinks _ _ (turn (c .before .before .before))) loop-again)
+    (λ c. omega (arith, turn (c .before .before) .within)) (λ c. omega (arith, turn (c .before .before) .within)) (λ c. omega arith)
+    (λ c. shrinks _ _ (turn (c .before .before .before))) loop-again)

@@ -32,9 +32,6 @@ turn x = on _ _ (x .before .front .ensures) (x .if1 .left)
 same-span : {a b n m : ℕ} → a ≡ b → n ≡ m → _≡_ {A = Span} (record { start = a; length = n }) (record { start = b; length = m })
 same-span e f = rw (e, f)
 
-loop-holds : tie.Need-loop-holds Inv-loop μ-loop
-loop-holds c = (c .before .pre, omega arith, refl, omega arith)
-
 returns : tie.Need-returns Inv-loop μ-loop
 unfolding placeOf those stored
 returns c =
@@ -74,7 +71,8 @@ loop-again c =
 
 pub seek-spec : {M : Type 1} → statement M
 seek-spec =
-    tie.close (tie.spec Inv-loop μ-loop loop-holds (λ c κs. search needs) returns (λ c κs. search needs) returns-2
-    (λ c. omega (arith, turn (c .before .before) .within)) (λ c. omega (arith, turn (c .before .before) .within)) (λ c. omega arith)
+    tie.close (tie.spec Inv-loop μ-loop (λ c. (c .before .pre, omega arith, refl, omega arith)) (λ c κs. search needs) returns
+    (λ c κs. search needs) returns-2 (λ c. omega (arith, turn (c .before .before) .within))
+    (λ c. omega (arith, turn (c .before .before) .within)) (λ c. omega arith)
     (λ c. omega (arith, turn (c .before .before .before) .within, c .before .before .before .before .before .loop .inv .3))
     (λ c. shrinks _ _ (turn (c .before .before .before))) loop-again)

@@ -65,15 +65,9 @@ on-from x =
     passing-on s _ _ (at-loop .loop .inv) _ (at-else .before .front .ensures) (turn at-else) (below-each 256 s each)
     (sym (told (x .before)) ∙ x .if2 .left)
 
-add-at : tie.Need-add-at Inv-loop μ-loop
-add-at c = omega (arith, on-from (c .before) .within)
-
-loop-again : tie.Need-loop-again Inv-loop μ-loop
-loop-again c = on-from (c .before)
-
 pub sound-up-to-spec : {M : Type 1} → statement M
 sound-up-to-spec =
     tie.close (tie.spec Inv-loop μ-loop (λ c. passing-starts (now (c .before .args .s))) (λ c κs. search needs) returns (λ c. omega arith)
     (λ c. omega arith) (λ c. omega arith) (λ c κs. search needs) returns-2 (λ c. omega (arith, turn (c .before .before .before) .within))
-    (λ c. omega (arith, turn (c .before .before .before) .within)) (λ c. omega arith) add-at
-    (λ c. shrinks _ _ (turn (c .before .before .before .before))) loop-again)
+    (λ c. omega (arith, turn (c .before .before .before) .within)) (λ c. omega arith) (λ c. omega (arith, on-from (c .before) .within))
+    (λ c. shrinks _ _ (turn (c .before .before .before .before))) (λ c. on-from (c .before)))

@@ -23,18 +23,6 @@ starts x = size-some (now (x .before .before .before .args .s)) (λ z. x .if1 .l
 long : (x : tie.Else1) → 12 ≤ length (now (x .before .before .before .args .s))
 long x = starts-within (now (x .before .before .before .args .s)) (starts x) .0
 
-shared-slice-read-current : tie.Need-shared-slice-read-current
-shared-slice-read-current c = omega (arith, long (c .before))
-
-word-at-requires : tie.Need-word-at-requires
-word-at-requires c κs = omega (arith, long (c .before))
-
-shared-slice-read-number : tie.Need-shared-slice-read-number
-shared-slice-read-number c = omega (arith, long (c .before .before .before))
-
-shared-slice-read-number-2 : tie.Need-shared-slice-read-number-2
-shared-slice-read-number-2 c = omega (arith, long (c .before .before .before .before))
-
 returns-2 : tie.Need-returns-2
 unfolding headAt front
 returns-2 c =
@@ -44,5 +32,6 @@ returns-2 c =
 
 pub front-spec : {M : Type 1} → statement M
 front-spec =
-    tie.close (tie.spec (λ c κs. search needs) returns shared-slice-read-current word-at-requires shared-slice-read-number
-    shared-slice-read-number-2 (λ c κs. search needs) returns-2)
+    tie.close (tie.spec (λ c κs. search needs) returns (λ c. omega (arith, long (c .before))) (λ c κs. omega (arith, long (c .before)))
+    (λ c. omega (arith, long (c .before .before .before))) (λ c. omega (arith, long (c .before .before .before .before)))
+    (λ c κs. search needs) returns-2)

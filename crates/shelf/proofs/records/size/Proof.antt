@@ -6,10 +6,6 @@ use borrow.Author.Needs.{needs}
 use Rattle.shelf.proofs.records.size.Statement.{statement}
 use Rattle.shelf.proofs.records.size.Tie as tie
 
-returns : tie.Need-returns
-unfolding sizeAt startsRecord
-returns c = rw (lt-leb _ _ (c .if1 .taken))
-
 returns-2 : tie.Need-returns-2
 unfolding sizeAt startsRecord
 returns-2 c = let m = c .before in rw (le-leb _ _ (m .before .if1 .left), sym (m .marked .ensures) ∙ not-true _ (c .if2 .taken))
@@ -40,5 +36,5 @@ returns-4 c =
 
 pub size-spec : {M : Type 1} → statement M
 size-spec =
-    tie.close (tie.spec returns (λ c κs. search needs) returns-2 (λ c κs. search needs) (λ c. search needs) (λ c. search needs) returns-3
-    (λ c. search needs) returns-4)
+    tie.close (tie.spec (λ c. unfold sizeAt startsRecord in rw (lt-leb _ _ (c .if1 .taken))) (λ c κs. search needs) returns-2
+    (λ c κs. search needs) (λ c. search needs) (λ c. search needs) returns-3 (λ c. search needs) returns-4)
