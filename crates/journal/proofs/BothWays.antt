@@ -42,9 +42,8 @@ module _ (p rest : List ℕ) (proper : ProperPart p) where
   unfolding behind part bytesOf
   behind-read = rw part-word (sym (drop-drop (length p) 4 (part p ++ rest)) ∙ drop-at p rest (length p) refl)
 
-same-entry : {dir dir′ : Direction} {m m′ k k′ r r′ n n′ : ℕ} {l l′ d d′ i i′ o o′ : List ℕ} → dir ≡ dir′ → m ≡ m′ → k ≡ k′ → l ≡ l′
-    → d ≡ d′
-    → i ≡ i′ → r ≡ r′ → n ≡ n′ → o ≡ o′
+pub same-entry : {dir dir′ : Direction} {m m′ k k′ r r′ n n′ : ℕ} {l l′ d d′ i i′ o o′ : List ℕ} → dir ≡ dir′ → m ≡ m′ → k ≡ k′ → l ≡ l′
+    → d ≡ d′ → i ≡ i′ → r ≡ r′ → n ≡ n′ → o ≡ o′
     → _≡_ {A = Entry} (record { direction = dir; mode = m; key = k; label = l; «data» = d; iv = i; room = r; number = n; output = o })
     (record { direction = dir′; mode = m′; key = k′; label = l′; «data» = d′; iv = i′; room = r′; number = n′; output = o′ })
 same-entry a b c d e f g h i = rw (a, b, c, d, e, f, g, h, i)

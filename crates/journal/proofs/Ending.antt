@@ -21,7 +21,7 @@ use Rattle.journal.specs.declared.Ended.the-variants.{Done, BadRecord, T
 use Rattle.journal.specs.declared.Replayed.{Replayed}
 use Rattle.journal.proofs.Cases.{by-test, clash}
 use Rattle.journal.proofs.Standing.{stands, behind-size}
-use Rattle.journal.proofs.Replaying.{Passes, from-end, from-bad, from-long, from-unknown, from-on, by-replay}
+use Rattle.journal.proofs.Replaying.{Passes, from-end, from-bad, from-long, from-unknown, from-on, by-replay, from-start}
 use Rattle.journal.proofs.BothWays.{written-starts, written-front, written-behind, written-size, front-proper, front-written}
 
 rest-bytes : (a b : List ℕ) → AreBytes (a ++ b) → AreBytes b
@@ -41,8 +41,7 @@ nothing-there {b} e y f = clash (startsRecord b) (starts-so e y) f
 module _ (ks : List Sm4Cipher) where
   -- nothing was replayed, and here it ends
   ends-here : (b : List ℕ) (place : ℕ) (r : Report) (x : Replayed) → Why ks b (x .ended) → x .place ≡ toldPlace (x .ended) (place + 0)
-      → x .report ≡ r
-      → Ends ks b place r x
+      → x .report ≡ r → Ends ks b place r x
   unfolding stored countedAll
   ends-here b place r x why told report =
       record { calls = []; rest = b; split = refl; replayable = tt; why = why; place = told; report = report }
@@ -58,13 +57,12 @@ module _ (ks : List Sm4Cipher) where
       → Ends ks b (place + length (written e)) (countedUnder ks e place r) x → Ends ks (written e ++ b) place r x
   unfolding stored countedAll
   one-before e b place r x good ends =
-      let l = length-append (written e) (stored (ends .calls)) in
-      let n : place + length (written e) + length (stored (ends .calls)) ≡ place + length
-      (written e ++ stored (ends .calls)) = omega arith in
+      let s = stored (ends .calls) in
+      let n : place + length (written e) + length s ≡ place + length (written e ++ s) = omega (arith, length-append (written e) s) in
       record {
         calls = e ∷ ends .calls;
         rest = ends .rest;
-        split = ap (λ (t : List ℕ). written e ++ t) (ends .split) ∙ sym (append-assoc (written e) (stored (ends .calls)) (ends .rest));
+        split = ap (λ (t : List ℕ). written e ++ t) (ends .split) ∙ sym (append-assoc (written e) s (ends .rest));
         replayable = (good, ends .replayable);
         why = ends .why;
         place = ends .place ∙ ap (λ (i : ℕ). toldPlace (x .ended) i) n;
@@ -127,8 +125,8 @@ module _ (ks : List Sm4Cipher) where
   unfolding stored countedAll
   all-written [] b place r good = let e : place ≡ place + 0 = omega arith in ap {B = Replayed} (λ (i : ℕ). replayFrom ks b i r) e
   all-written (e ∷ es) b place r (good, goods) =
-      let l = length-append (written e) (stored es) in
-      let n : place + length (written e) + length (stored es) ≡ place + length (written e ++ stored es) = omega arith in
+      let n : place + length (written e) + length (stored es) ≡ place + length (written e ++ stored es) =
+      omega (arith, length-append (written e) (stored es)) in
       rw (append-assoc (written e) (stored es) b, ← n)
       (one-written e (stored es ++ b) place r good
       ∙ all-written es b (place + length (written e)) (countedUnder ks e place r) goods)
@@ -147,15 +145,11 @@ module _ (k : Keys) (journal : List ℕ) where
   bad-keys e = rw e
 
   module _ (good : badKeys k ≡ false) where
-    from-start : replay k journal ≡ replayFrom (keysIn k) journal 0 nothing
-    unfolding replay
-    from-start = rw good
-
     pub ends-so : AreBytes journal → Ends (keysIn k) journal 0 nothing (replay k journal)
-    ends-so small = rw from-start (ends-from (keysIn k) journal 0 nothing small)
+    ends-so small = rw (from-start k journal good) (ends-from (keysIn k) journal 0 nothing small)
 
     pub ends-alone : (x : Replayed) → AreBytes journal → Ends (keysIn k) journal 0 nothing x → x ≡ replay k journal
-    ends-alone x small ends = ends-alone-from (keysIn k) journal 0 nothing x small ends ∙ sym from-start
+    ends-alone x small ends = ends-alone-from (keysIn k) journal 0 nothing x small ends ∙ sym (from-start k journal good)
 
 -- calls that can be replayed, written one behind the other
 pub replayed-whole : (k : Keys) → badKeys k ≡ false → (es : List Entry) → AllReplayable (keysIn k) es

@@ -25,6 +25,7 @@ use Rattle.journal.proofs.Counting.{same-report, mode-below-6}
 use Rattle.journal.proofs.Sums.{adds-counted, replay-adds-up, adds-nothing}
 use Rattle.journal.proofs.Cases.{by-test}
 use Rattle.journal.proofs.Replaying.{from-end, from-bad, from-long, from-unknown, from-on, by-replay, Passes, counts, passed}
+use Rattle.journal.proofs.Replaying.{from-start}
 use Rattle.journal.proofs.Standing.{Stands, stands, starts, size-within}
 use Rattle.journal.proofs.Appended.{starts-on, front-on, size-on}
 
@@ -135,16 +136,12 @@ module _ (k : Keys) (a b : List ℕ) (whole : numberOfEnd (replay k a .ended) �
   unfolding replay
   good = by-test (badKeys k) (λ e. absurd (omega (arith, rw e at whole))) (λ e. e)
 
-  from-start : (j : List ℕ) → replay k j ≡ replayFrom (keysIn k) j 0 nothing
-  unfolding replay
-  from-start j = rw good
-
   pub joined : replay k (a ++ b) ≡ behindReport (length a) (replay k a .report) (replay k b)
   joined =
       let r = replay k a .report in
       let adds = replay-adds-up k a in
       let e : 0 + length a ≡ length a + 0 = omega arith in
-      from-start (a ++ b) ∙ goes-on (keysIn k) b a 0 nothing (rw (from-start a) at whole)
-      ∙ rw (← from-start a, e, from-start b)
+      from-start k (a ++ b) good ∙ goes-on (keysIn k) b a 0 nothing (rw (from-start k a good) at whole)
+      ∙ rw (← from-start k a good, e, from-start k b good)
       (ap {B = Replayed} (λ (s : Report). replayFrom (keysIn k) b (length a + 0) s) (sym (added-none (length a) r adds))
       ∙ from-added (length a) r adds (keysIn k) b 0 nothing adds-nothing)

@@ -1,20 +1,20 @@
 -- The keys are looked at one after another. Assumes nothing.
 use mathlib.Core.Path.{_≡_, refl, sym, _∙_}
-use mathlib.Core.Bool.{false, _||_, cond}
+use mathlib.Core.Bool.{false}
 use mathlib.Core.List.{List, [], _∷_}
 use Prim.Native.Nat.{ℕ, zero, suc, _+_, _≤_, _<_}
 use native.Mathlib.Omega.{arith}
 use native.Mathlib.Numerals.{add-one}
-use lib.Dec.{eqb, ltb}
-use lib.ListN.{length, getD, drop, drop-of-length-le}
+use lib.Dec.{ltb}
+use lib.ListN.{length, getD, drop}
 use lib.Seq.{drop-cons, getD-take, length-take-le}
 use borrow.Author.Tests.{ltb-false}
 use Rattle.cipher_mode.specs.declared.KeyAnswer.the-variants.{ErrorBlockSize}
 use Rattle.cipher_mode.specs.declared.Sm4Cipher.{Sm4Cipher}
-use Rattle.cipher_mode.specs.Key.{noCipher, keyNumber}
+use Rattle.cipher_mode.specs.Key.{noCipher}
 use Rattle.journal.specs.declared.keys.Keys.{Keys}
 use Rattle.journal.proofs.Cases.{neither}
-use Rattle.journal.specs.KeyList.{keysIn, placeOf, hasNumber, keyAt, anyRetired, numberTwice, badKeys}
+use Rattle.journal.specs.KeyList.{keysIn, keyAt, badKeys}
 
 -- inside a list no default counts
 same-inside : (cs : List Sm4Cipher) (i : ℕ) (c d : Sm4Cipher) → i < length cs → getD cs i c ≡ getD cs i d

@@ -175,6 +175,10 @@ module _ (ks : List Sm4Cipher) (P : List ℕ → ℕ → Report → Replayed →
   pub by-replay : (b : List ℕ) (place : ℕ) (r : Report) → P b place r (replayFrom ks b place r)
   by-replay b place r = up-to (length b) b place r (omega arith)
 
+pub from-start : (k : Keys) (journal : List ℕ) → badKeys k ≡ false → replay k journal ≡ replayFrom (keysIn k) journal 0 nothing
+unfolding replay
+from-start k journal good = rw good
+
 -- So does what goes on with each record that is counted, of every report.
 pub every-report : (P : Report → Type 0)
     → ((ks : List Sm4Cipher) (e : Entry) (place : ℕ) (r : Report) → P r → P (countedUnder ks e place r)) → P nothing
@@ -182,6 +186,6 @@ pub every-report : (P : Report → Type 0)
 unfolding replay
 every-report P counted p k journal =
     by-test (badKeys k) (λ e. rw e p)
-    (λ e. rw e
+    (λ e. rw (from-start k journal e)
     (by-replay (keysIn k) (λ b place r x. P r → P (x .report)) (λ b place r z q. q) (λ b place r z s q. q) (λ b place r s t q. q)
     (λ b place r s t n q. q) (λ b place r x z more q. more (counted (keysIn k) (front b) place r q)) journal 0 nothing p))

@@ -12,7 +12,7 @@ use Rattle.block.proofs.Entries.{below-take, below-drop}
 use Rattle.walk.specs.Walk.{over}
 use Rattle.walk.proofs.Loop.{tailed, tail-is}
 use Rattle.shelf.specs.declared.records.Head.{Head}
-use Rattle.shelf.specs.Records.{Record, written, stored, records, headAt}
+use Rattle.shelf.specs.Records.{written, stored, records, headAt}
 use Rattle.shelf.specs.Shelf.{those}
 use Rattle.shelf.specs.Steps.{stays}
 use Rattle.shelf.proofs.Reading.{Turn, entry}
@@ -67,10 +67,7 @@ module _ (coming : Bool) (job : ℕ) (s₀ : List ℕ) (used : ℕ) (room : used
     module _ (none : records (between at used s) ≡ []) where
       front-kept : take to s ≡ kept coming job (take used s₀)
       unfolding those stored
-      front-kept =
-          sym (append-nil (take to s))
-          ∙ ap (λ (rs : List Record). take to s ++ stored (those (stays coming job) rs)) (sym none)
-          ∙ so-far .all
+      front-kept = sym (append-nil (take to s)) ∙ rw none at (so-far .all)
 
       pub kept-length : to ≡ length (kept coming job (take used s₀))
       kept-length = sym (length-take-le to s (omega arith)) ∙ ap length front-kept
@@ -82,8 +79,7 @@ module _ (coming : Bool) (job : ℕ) (s₀ : List ℕ) (used : ℕ) (room : used
     module _ (h : Head) (told : h ≡ headAt (between at used s)) (t : Turn (between at used s) h) where
       pub fits : at + h .size ≤ used
       fits =
-          let l = length-drop at s in
-          let n : length (between at used s) ≡ used - at = length-take-le (used - at) (drop at s) (omega arith) in
+          let n : length (between at used s) ≡ used - at = length-take-le (used - at) (drop at s) (omega (arith, length-drop at s)) in
           omega (arith, t .within)
 
       small-here : AreBytes s₀ → AreBytes (between at used s)
@@ -114,8 +110,7 @@ module _ (coming : Bool) (job : ℕ) (s₀ : List ℕ) (used : ℕ) (room : used
             below = omega arith;
             inside = f;
             long = ap length e ∙ length-paste s to (drop at s) n (omega arith) (omega arith) ∙ so-far .long;
-            behind =
-                rw (e, g) (moved ∙ sym (drop-drop n to s) ∙ ap (drop n) (so-far .behind) ∙ drop-drop n to s₀);
+            behind = rw (e, g) (moved ∙ sym (drop-drop n to s) ∙ ap (drop n) (so-far .behind) ∙ drop-drop n to s₀);
             all =
                 rw (e, g, take-paste s to (drop at s) n (omega arith) (omega arith), rest)
                 (append-assoc (take to s) (take n (drop at s)) (kept coming job (between (at + n) used s))

@@ -131,17 +131,13 @@ module _ (s t : List ℕ) (at : ℕ) (p : Passing s t at) where
           let e = entry t h in
           let n = h .size in
           let l = ap length (p .rest) ∙ length-drop at s in
-          let more : length (stored (P ++ (e ∷ []))) ≡ at + n =
-          ap length (stored-append P (e ∷ []) ∙ ap (λ (x : List ℕ). stored P ++ x) (append-nil (written e)))
-          ∙ length-append (stored P) (written e) ∙ ap₂ _+_ (p .whole) (turn .whole) in
           let z : soundFrom P (records t) ≡ n + soundFrom (P ++ (e ∷ [])) (records (tailed n t)) =
           ap (soundFrom P) (turn .reads) ∙ rw (f, turn .whole) in
-          let sum : at + n + soundFrom (P ++ (e ∷ [])) (records (tailed n t)) ≡ soundUpTo (records s) = omega (arith, z, p .sum) in
           record {
             within = omega (arith, turn .within);
             rest = tail-is t n ∙ ap (drop n) (p .rest) ∙ drop-drop n at s;
-            whole = ap (λ (x : List Record). length (stored x)) passed-more ∙ more;
-            sum = ap (λ (x : List Record). at + n + soundFrom x (records (tailed n t))) passed-more ∙ sum;
+            whole = rw (passed-more, stored-append, append-nil, length-append, p .whole, turn .whole);
+            sum = rw passed-more (omega (arith, z, p .sum));
           }
 
 -- the records have no more bytes than they were read from

@@ -12,13 +12,12 @@ use Rattle.walk.proofs.Loop.{length-tailed}
 use Rattle.journal.specs.KeyList.{keysIn, badKeys}
 use Rattle.journal.specs.Reports.{nothing, Within}
 use Rattle.journal.specs.Replay.{numberOfEnd, replayOne, replayFrom, replay}
-use Rattle.journal.specs.declared.keys.Keys.{Keys}
 use Rattle.journal.specs.declared.report.Report.{Report}
 use Rattle.journal.specs.declared.Replayed.{Replayed}
 use Rattle.journal.proofs.Standing.{stands, size-within, data-within}
 use Rattle.journal.proofs.KeyTurns.{few-keys}
 use Rattle.journal.proofs.Counting.{within-nothing}
-use Rattle.journal.proofs.Replaying.{Passes, passed, from-end, from-stop, turn-within, turn-from}
+use Rattle.journal.proofs.Replaying.{Passes, passed, from-end, from-stop, turn-within, turn-from, from-start}
 use borrow.Author.Needs.{needs}
 use Rattle.journal.proofs.replay.Statement.{statement}
 use Rattle.journal.proofs.replay.Tie as tie
@@ -35,10 +34,6 @@ abbrev μ-loop : tie.MeasureT-loop
 
 good : (x : tie.Else1 Inv-loop μ-loop) → badKeys (x .before .before .before .before .args .keys) ≡ false
 good x = sym (x .before .bad .ensures) ∙ x .if1 .left
-
-from-start : (k : Keys) (journal : List ℕ) → badKeys k ≡ false → replayFrom (keysIn k) journal 0 nothing ≡ replay k journal
-unfolding replay
-from-start k journal e = rw e
 
 loop-holds : tie.Need-loop-holds Inv-loop μ-loop
 loop-holds c =
@@ -68,7 +63,7 @@ returns-2 : tie.Need-returns-2 Inv-loop μ-loop
 returns-2 c =
     let x = c .before in
     x .before .replay-one .ensures ∙ sym (from-stop (ks x) (here x) _ _ (omega arith) (λ z. c .if2 .taken (number-is x ∙ z)))
-    ∙ at-loop x .loop .inv .3 ∙ from-start _ _ (good (at-loop x .before))
+    ∙ at-loop x .loop .inv .3 ∙ sym (from-start _ _ (good (at-loop x .before)))
 
 -- it was counted
 module _ (c : tie.After-measure Inv-loop μ-loop) where
@@ -98,7 +93,7 @@ loop-again c =
 returns-3 : tie.Need-returns-3 Inv-loop μ-loop
 returns-3 c =
     let l = c .before .loop in
-    sym (from-end _ (now (l .t)) (l .place) (l .report) (omega arith)) ∙ l .inv .3 ∙ from-start _ _ (good (c .before .before))
+    sym (from-end _ (now (l .t)) (l .place) (l .report) (omega arith)) ∙ l .inv .3 ∙ sym (from-start _ _ (good (c .before .before)))
 
 pub replay-spec : {M : Type 1} → statement M
 replay-spec =

@@ -66,14 +66,12 @@ returns-4 c =
 
 pub replay-one-spec : {M : Type 1} → statement M
 replay-one-spec =
-    tie.close (tie.spec (λ c κs. search needs)
-    (λ c. bad-record _ _ _ _ (size-zero _ (sym (c .before .measure .ensures) ∙ c .if1 .taken))) (λ c κs. starts c)
-    (λ c. too-long _ _ _ _ (starts (c .before .before)) (sym (c .before .too-long .ensures) ∙ c .if2 .taken))
+    tie.close (tie.spec (λ c κs. search needs) (λ c. bad-record _ _ _ _ (size-zero _ (sym (c .before .measure .ensures) ∙ c .if1 .taken)))
+    (λ c κs. starts c) (λ c. too-long _ _ _ _ (starts (c .before .before)) (sym (c .before .too-long .ensures) ∙ c .if2 .taken))
     (λ c κs. starts (c .before .before)) (λ c κs. search needs)
     (λ c.
     let x = c .before .before in
     let else2 = x .before .before in
     no-key _ _ _ _ (starts (else2 .before .before)) (short else2) (has x ∙ le-ltb _ _ (c .if3 .taken)))
-    (λ c κs. search needs)
-    (λ c κs. let else2 = c .before .before .before .before .before in (starts (else2 .before .before), short else2))
+    (λ c κs. search needs) (λ c κs. let else2 = c .before .before .before .before .before in (starts (else2 .before .before), short else2))
     counted-requires returns-4)

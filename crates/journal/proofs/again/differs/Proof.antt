@@ -5,10 +5,6 @@ use borrow.Author.Needs.{needs}
 use Rattle.journal.proofs.again.differs.Statement.{statement}
 use Rattle.journal.proofs.again.differs.Tie as tie
 
-returns : tie.Need-returns
-unfolding differsFrom
-returns c = rw (← c .before .before .number .ensures, ne-eqb _ _ (c .if1 .taken))
-
 returns-2 : tie.Need-returns-2
 unfolding differsFrom
 returns-2 c =
@@ -32,5 +28,6 @@ returns-3 c =
 
 pub differs-spec : {M : Type 1} → statement M
 differs-spec =
-    tie.close (tie.spec (λ c κs. search needs) (λ c. search needs) returns (λ c κs. search needs) returns-2 (λ c κs. search needs)
-    returns-3)
+    tie.close (tie.spec (λ c κs. search needs) (λ c. search needs)
+    (λ c. unfold differsFrom in rw (← c .before .before .number .ensures, ne-eqb _ _ (c .if1 .taken))) (λ c κs. search needs) returns-2
+    (λ c κs. search needs) returns-3)

@@ -16,9 +16,6 @@ telling n l = record { number = n; length = l }
 abbrev ends : Ending → Answered
 ends e = telling (endingHead e .number) (endingHead e .size)
 
-returns : tie.Need-returns
-returns c = sym (ap {B = Answered} ends (c .before .ending .given .1))
-
 returns-2 : tie.Need-returns-2
 returns-2 c =
     let at-ending = c .before .before in
@@ -26,4 +23,6 @@ returns-2 c =
     ∙ sym (ap {B = Answered} ends (at-ending .ending2 .given .1))
 
 pub told-spec : {M : Type 1} → statement M
-told-spec = tie.close (tie.spec (λ c. search needs) (λ c. search needs) (λ c κs. search needs) returns returns-2)
+told-spec =
+    tie.close (tie.spec (λ c. search needs) (λ c. search needs) (λ c κs. search needs)
+    (λ c. sym (ap {B = Answered} ends (c .before .ending .given .1))) returns-2)

@@ -41,5 +41,4 @@ pub any-retired-spec : {M : Type 1} → statement M
 any-retired-spec =
     tie.close (tie.spec Inv-loop μ-loop (λ c. (omega arith, refl)) (λ c κs. (omega arith, c .before .before .before .pre))
     (λ c. sym (turn (c .before) ∙ rw (c .if2 .taken))) (λ c. omega arith) (λ c. omega arith)
-    (λ c. (omega arith, sym (turn (c .before) ∙ rw (c .if2 .left))))
-    returns-2)
+    (λ c. (omega arith, sym (turn (c .before) ∙ rw (c .if2 .left)))) returns-2)

@@ -6,14 +6,6 @@ use borrow.Author.Needs.{needs}
 use Rattle.journal.proofs.keys.bad.Statement.{statement}
 use Rattle.journal.proofs.keys.bad.Tie as tie
 
-returns : tie.Need-returns
-unfolding badKeys
-returns c = rw (lt-ltb _ _ (c .if1 .taken))
-
-returns-2 : tie.Need-returns-2
-unfolding badKeys
-returns-2 c = rw (le-ltb _ _ (c .before .before .if1 .left), sym (c .before .any-retired .ensures) ∙ c .if2 .taken)
-
 returns-3 : tie.Need-returns-3
 unfolding badKeys
 returns-3 c =
@@ -22,4 +14,7 @@ returns-3 c =
     (c .number-twice .ensures)
 
 pub bad-spec : {M : Type 1} → statement M
-bad-spec = tie.close (tie.spec returns (λ c κs. search needs) returns-2 (λ c κs. search needs) returns-3)
+bad-spec =
+    tie.close (tie.spec (λ c. unfold badKeys in rw (lt-ltb _ _ (c .if1 .taken))) (λ c κs. search needs)
+    (λ c. unfold badKeys in rw (le-ltb _ _ (c .before .before .if1 .left), sym (c .before .any-retired .ensures) ∙ c .if2 .taken))
+    (λ c κs. search needs) returns-3)

@@ -66,5 +66,4 @@ number-twice-spec =
     tie.close (tie.spec Inv-loop μ-loop (λ c. (omega arith, refl)) (λ c κs. (omega arith, c .before .before .before .pre))
     (λ c κs. search needs) (λ c. omega arith) (λ c κs. (omega arith, c .before .before .before .before .before .pre))
     (λ c. let x = c .before .before in sym (turn x ∙ rw (again x (c .if2 .taken)))) (λ c. omega arith)
-    (λ c. let x = c .before .before in (omega arith, sym (turn x ∙ rw (never x (c .if2 .left)))))
-    returns-2)
+    (λ c. let x = c .before .before in (omega arith, sym (turn x ∙ rw (never x (c .if2 .left))))) returns-2)

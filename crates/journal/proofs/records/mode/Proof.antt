@@ -7,5 +7,4 @@ use Rattle.journal.proofs.records.mode.Statement.{statement}
 use Rattle.journal.proofs.records.mode.Tie as tie
 
 pub mode-spec : {M : Type 1} → statement M
-mode-spec =
-    tie.close (tie.spec (λ c. omega (arith, long)) (λ c. unfold front in refl))
+mode-spec = tie.close (tie.spec (λ c. omega (arith, long)) (λ c. unfold front in refl))

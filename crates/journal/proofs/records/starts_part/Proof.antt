@@ -7,5 +7,5 @@ use Rattle.journal.proofs.records.starts_part.Tie as tie
 
 pub starts-part-spec : {M : Type 1} → statement M
 starts-part-spec =
-    tie.close (tie.spec (λ c. unfold startsPart in rw (lt-leb _ _ (c .if1 .taken))) (λ c κs. search needs) (λ c. search needs) (λ c. search needs)
-    (λ c. unfold startsPart in rw (le-leb _ _ (c .before .if1 .left), c .word-at .ensures)))
+    tie.close (tie.spec (λ c. unfold startsPart in rw (lt-leb _ _ (c .if1 .taken))) (λ c κs. search needs) (λ c. search needs)
+    (λ c. search needs) (λ c. unfold startsPart in rw (le-leb _ _ (c .before .if1 .left), c .word-at .ensures)))

@@ -4,10 +4,7 @@ use borrow.Author.Needs.{needs}
 use Rattle.journal.proofs.writer.head.Statement.{statement}
 use Rattle.journal.proofs.writer.head.Tie as tie
 
-returns : tie.Need-returns
-unfolding bytesOf
-returns c = rw (c .before .split .ensures, c .direction-byte .ensures)
-
 pub head-spec : {M : Type 1} → statement M
 head-spec =
-    tie.close (tie.spec (λ c. search needs) (λ c κs. search needs) (λ c κs. search needs) (λ c. search needs) (λ c. search needs) returns)
+    tie.close (tie.spec (λ c. search needs) (λ c κs. search needs) (λ c κs. search needs) (λ c. search needs) (λ c. search needs)
+    (λ c. unfold bytesOf in rw (c .before .split .ensures, c .direction-byte .ensures)))
