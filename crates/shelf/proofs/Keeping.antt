@@ -43,8 +43,8 @@ between-on at used n s =
 between-same : (to at used : ℕ) (s s₀ : List ℕ) → to ≤ at → drop to s ≡ drop to s₀ → between at used s ≡ between at used s₀
 between-same to at used s s₀ h e =
     let k : at ≡ to + (at - to) = omega arith in
-    let f : (l : List ℕ) → drop (at - to) (drop to l) ≡ drop at l = λ l. drop-drop (at - to) to l ∙ ap (λ (n : ℕ). drop n l) (sym k) in
-    ap (take (used - at)) (sym (f s) ∙ ap (drop (at - to)) e ∙ f s₀)
+    let f : drop at s ≡ drop at s₀ = rw (k, ← drop-drop (at - to) to s, ← drop-drop (at - to) to s₀, e) in
+    ap (take (used - at)) f
 
 -- how far a collection has come: the records up to `at` are done with, and what stays of them stands before `to`
 pub record Collecting (coming : Bool) (job : ℕ) (s₀ : List ℕ) (used : ℕ) (s : List ℕ) (to at : ℕ) : Type 0 where

@@ -80,10 +80,6 @@ listed-take zero b h = refl
 listed-take (suc n) [] h = absurd (omega arith)
 listed-take (suc n) (x ∷ b) h = ap (λ (l : List ℕ). x ∷ l) (listed-take n b (omega arith))
 
-mark-by : (x : ℕ) (t : Bool) → eqb x 0x44 ≡ t → t || eqb x 0x58 ≡ true → markOf t ≡ x
-mark-by x true e f = sym (eqb-true x 0x44 e)
-mark-by x false e f = sym (eqb-true x 0x58 f)
-
 -- a byte list that is read as a number is its bytes again
 module _ (b : List ℕ) (small : AreBytes b) where
   four-back : (i : ℕ) → bytesOf 4 (wordAt b i) ≡ getD b i 0 ∷ getD b (i + 1) 0 ∷ getD b (i + 2) 0 ∷ getD b (i + 3) 0 ∷ []
@@ -96,7 +92,8 @@ module _ (b : List ℕ) (small : AreBytes b) where
   unfolding marked
   marked-back m = (
     sym (eqb-true (getD b 0 0) 0x52 (and-left _ _ m)),
-    mark-by (getD b 1 0) (eqb (getD b 1 0) 0x44) refl (and-right (eqb (getD b 0 0) 0x52) _ m),
+    by-test (eqb (getD b 1 0) 0x44) (λ e. rw e (sym (eqb-true (getD b 1 0) 0x44 e)))
+        (λ e. rw e (sym (eqb-true (getD b 1 0) 0x58 (rw e at (and-right (eqb (getD b 0 0) 0x52) _ m))))),
   )
 
   -- the record that is read, written, is the bytes that it was read from

@@ -24,12 +24,8 @@ untouched d to from i h k =
     let l = length-drop from d in
     let p = paste d to (drop from d) i in
     let place : from + i ≡ to + i + (from - to) = omega arith in
-    ap (λ (j : ℕ). getD p j 0) place
-    ∙ sym (getD-drop (to + i) p (from - to) 0)
-    ∙ ap (λ (x : List ℕ). getD x (from - to) 0) (drop-paste d to (drop from d) i (omega arith) (omega arith))
-    ∙ getD-drop (to + i) d (from - to) 0
-    ∙ ap (λ (j : ℕ). getD d j 0) (sym place)
-    ∙ sym (getD-drop from d i 0)
+    rw (place, ← getD-drop (to + i) p (from - to) 0, drop-paste d to (drop from d) i (omega arith) (omega arith),
+    getD-drop (to + i) d (from - to) 0, getD-drop from d i 0, place)
 
 moved : (d s : List ℕ) (to from i : ℕ) → to ≤ from → from + i < length d → s ≡ paste d to (drop from d) i
     → set s (to + i) (getD s (from + i) 0) ≡ paste d to (drop from d) (i + 1)
