@@ -138,22 +138,9 @@ module _ (b : List ℕ) where
   pub not-standing : (Stands b → ⊥) → 0 ≡ sizeAt b
   not-standing z = by-test (startsRecord b) (λ f. absurd (z (stands f))) (λ f. sym (size-none f))
 
--- the same of a record's part, as the code holds it
-module _ (b t : List ℕ) (s : startsRecord b ≡ true) where
-  pub in-label : t ≡ fromLabel b → startsPart t ≡ true
-  in-label e = rw e (stands b s .label)
-
-  pub in-data : t ≡ fromData b → startsPart t ≡ true
-  in-data e = rw e (stands b s .«data»)
-
-  pub in-iv : t ≡ fromIv b → startsPart t ≡ true
-  in-iv e = rw e (stands b s .iv)
-
-  pub in-room : t ≡ fromRoom b → 5 ≤ length t
-  in-room e = rw e (stands b s .middle)
-
-  pub in-output : t ≡ fromOutput b → startsPart t ≡ true
-  in-output e = rw e (stands b s .output)
+-- the same as the code holds it
+pub in-room : (b t : List ℕ) → startsRecord b ≡ true → t ≡ fromRoom b → 5 ≤ length t
+in-room b t s e = rw e (stands b s .middle)
 
 pub long : (b : List ℕ) → startsRecord b ≡ true → 6 ≤ length b
 long b s = stands b s .long

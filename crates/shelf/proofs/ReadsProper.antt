@@ -1,7 +1,7 @@
 -- What is read of bytes is proper, and so is what putting and collecting make of it; reading and writing are each other's inverse.
 -- Assumes nothing.
 use mathlib.Core.Path.{_≡_, refl, sym, ap, ap₂, _∙_}
-use mathlib.Core.Bool.{Bool, true, false, _||_}
+use mathlib.Core.Bool.{Bool, true}
 use mathlib.Core.List.{List, [], _∷_, _++_, append-assoc, append-nil}
 use Prim.Native.Nat.{ℕ, _+_, _<_, _^_, zero, suc, _≤_}
 use native.Mathlib.Nat.{mod-eq-of-lt}

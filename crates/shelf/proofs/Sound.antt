@@ -8,7 +8,7 @@ use native.Mathlib.Omega.{arith}
 use lib.ListN.{length, take, drop, length-append, length-drop}
 use lib.Seq.{drop-drop, take-add, length-take-le}
 use lib.Dec.{eqb, ltb}
-use borrow.Author.Tests.{eqb-true, lt-ltb, le-ltb, ltb-false, eq-eqb, ne-eqb, not-false}
+use borrow.Author.Tests.{eqb-true, le-ltb, ltb-false, eq-eqb, ne-eqb, not-false}
 use Rattle.block.specs.Below.{AreBytes}
 use Rattle.block.proofs.Entries.{below-take, below-drop}
 use Rattle.block.proofs.Same.{and-left, and-right}
@@ -159,14 +159,6 @@ sound-test rs used h =
     (λ e. rw (e, sound-all [] rs e, or-false))
 
 module _ (shelf : List ℕ) (used : ℕ) where
-  pub bad-size : 65536 < length shelf → true ≡ badShelf shelf used
-  unfolding badShelf
-  bad-size h = rw (lt-ltb 65536 (length shelf) h)
-
-  pub bad-used : length shelf ≤ 65536 → length shelf < used → true ≡ badShelf shelf used
-  unfolding badShelf
-  bad-used h k = rw (le-ltb 65536 (length shelf) h, lt-ltb (length shelf) used k)
-
   pub bad-records : length shelf ≤ 65536 → used ≤ length shelf
       → not (eqb (soundUpTo (records (take used shelf))) used) ≡ badShelf shelf used
   unfolding badShelf

@@ -2,7 +2,9 @@
 use native.Mathlib.Nat.{sub-zero}
 use native.Mathlib.Omega.{arith}
 use denote.Ref.{now}
-use Rattle.shelf.proofs.Sound.{bad-size, bad-used, bad-records}
+use borrow.Author.Tests.{lt-ltb, le-ltb}
+use Rattle.shelf.specs.Shelf.{badShelf}
+use Rattle.shelf.proofs.Sound.{bad-records}
 use borrow.Author.Needs.{needs}
 use Rattle.shelf.proofs.bad.Statement.{statement}
 use Rattle.shelf.proofs.bad.Tie as tie
@@ -14,6 +16,6 @@ returns-3 c =
 
 pub bad-spec : {M : Type 1} → statement M
 bad-spec =
-    tie.close (tie.spec (λ c. let a = c .before .before .args in bad-size (now (a .shelf)) (a .used) (omega arith))
-    (λ c. let a = c .before .before .before .args in bad-used (now (a .shelf)) (a .used) (omega arith) (omega arith)) (λ c. search needs)
+    tie.close (tie.spec (λ c. unfold badShelf in rw (lt-ltb _ _ (c .if1 .taken)))
+    (λ c. unfold badShelf in rw (le-ltb _ _ (c .before .if1 .left), lt-ltb _ _ (c .if2 .taken))) (λ c. search needs)
     (λ c. search needs) (λ c. search needs) (λ c κs. search needs) returns-3)

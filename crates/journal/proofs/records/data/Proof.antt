@@ -1,12 +1,12 @@
 -- `records::data` meets its contract. Assumes nothing.
 use mathlib.Core.Path.{ap, _∙_}
 use Rattle.journal.specs.Format.{partAt, front}
-use Rattle.journal.proofs.Standing.{in-data}
+use Rattle.journal.proofs.Standing.{stands}
 use borrow.Author.Needs.{needs}
 use Rattle.journal.proofs.records.data.Statement.{statement}
 use Rattle.journal.proofs.records.data.Tie as tie
 
 pub data-spec : {M : Type 1} → statement M
 data-spec =
-    tie.close (tie.spec (λ c κs. search needs) (λ c κs. in-data _ _ (c .before .before .pre) (c .from-data .ensures))
+    tie.close (tie.spec (λ c κs. search needs) (λ c κs. rw (c .from-data .ensures) (stands _ (c .before .before .pre) .«data»))
     (λ c. unfold front in (c .part-at .ensures ∙ ap partAt (c .before .from-data .ensures))))

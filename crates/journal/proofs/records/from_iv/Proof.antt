@@ -1,12 +1,12 @@
 -- `records::from_iv` meets its contract. Assumes nothing.
 use mathlib.Core.Path.{ap, _∙_}
 use Rattle.journal.specs.Format.{behind}
-use Rattle.journal.proofs.Standing.{in-data}
+use Rattle.journal.proofs.Standing.{stands}
 use borrow.Author.Needs.{needs}
 use Rattle.journal.proofs.records.from_iv.Statement.{statement}
 use Rattle.journal.proofs.records.from_iv.Tie as tie
 
 pub from-iv-spec : {M : Type 1} → statement M
 from-iv-spec =
-    tie.close (tie.spec (λ c κs. search needs) (λ c κs. in-data _ _ (c .before .before .pre) (c .from-data .ensures))
+    tie.close (tie.spec (λ c κs. search needs) (λ c κs. rw (c .from-data .ensures) (stands _ (c .before .before .pre) .«data»))
     (λ c. c .behind .ensures ∙ ap behind (c .before .from-data .ensures)))

@@ -1,12 +1,12 @@
 -- `records::from_room` meets its contract. Assumes nothing.
 use mathlib.Core.Path.{ap, _∙_}
 use Rattle.journal.specs.Format.{behind}
-use Rattle.journal.proofs.Standing.{in-iv}
+use Rattle.journal.proofs.Standing.{stands}
 use borrow.Author.Needs.{needs}
 use Rattle.journal.proofs.records.from_room.Statement.{statement}
 use Rattle.journal.proofs.records.from_room.Tie as tie
 
 pub from-room-spec : {M : Type 1} → statement M
 from-room-spec =
-    tie.close (tie.spec (λ c κs. search needs) (λ c κs. in-iv _ _ (c .before .before .pre) (c .from-iv .ensures))
+    tie.close (tie.spec (λ c κs. search needs) (λ c κs. rw (c .from-iv .ensures) (stands _ (c .before .before .pre) .iv))
     (λ c. c .behind .ensures ∙ ap behind (c .before .from-iv .ensures)))

@@ -1,12 +1,12 @@
 -- `records::iv` meets its contract. Assumes nothing.
 use mathlib.Core.Path.{ap, _∙_}
 use Rattle.journal.specs.Format.{partAt, front}
-use Rattle.journal.proofs.Standing.{in-iv}
+use Rattle.journal.proofs.Standing.{stands}
 use borrow.Author.Needs.{needs}
 use Rattle.journal.proofs.records.iv.Statement.{statement}
 use Rattle.journal.proofs.records.iv.Tie as tie
 
 pub iv-spec : {M : Type 1} → statement M
 iv-spec =
-    tie.close (tie.spec (λ c κs. search needs) (λ c κs. in-iv _ _ (c .before .before .pre) (c .from-iv .ensures))
+    tie.close (tie.spec (λ c κs. search needs) (λ c κs. rw (c .from-iv .ensures) (stands _ (c .before .before .pre) .iv))
     (λ c. unfold front in (c .part-at .ensures ∙ ap partAt (c .before .from-iv .ensures))))

@@ -1,12 +1,12 @@
 -- `records::output` meets its contract. Assumes nothing.
 use mathlib.Core.Path.{ap, _∙_}
 use Rattle.journal.specs.Format.{partAt, front}
-use Rattle.journal.proofs.Standing.{in-output}
+use Rattle.journal.proofs.Standing.{stands}
 use borrow.Author.Needs.{needs}
 use Rattle.journal.proofs.records.output.Statement.{statement}
 use Rattle.journal.proofs.records.output.Tie as tie
 
 pub output-spec : {M : Type 1} → statement M
 output-spec =
-    tie.close (tie.spec (λ c κs. search needs) (λ c κs. in-output _ _ (c .before .before .pre) (c .from-output .ensures))
+    tie.close (tie.spec (λ c κs. search needs) (λ c κs. rw (c .from-output .ensures) (stands _ (c .before .before .pre) .output))
     (λ c. unfold front in (c .part-at .ensures ∙ ap partAt (c .before .from-output .ensures))))

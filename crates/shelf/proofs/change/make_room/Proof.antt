@@ -1,10 +1,7 @@
 -- `change::make_room` meets its contract: the definition goes by the same test. Assumes nothing.
-use mathlib.Core.Path.{sym, ap, _∙_}
-use mathlib.Core.List.{List}
+use mathlib.Core.Path.{sym, _∙_}
 use denote.Ref.{now}
-use lib.ListN.{length, take}
-use Rattle.walk.specs.Walk.{over}
-use Rattle.shelf.specs.Records.{Record, stored, records}
+use lib.ListN.{length}
 use Rattle.shelf.proofs.Putting.{length-supersede, made-short, made-long}
 use borrow.Author.Needs.{needs}
 use Rattle.shelf.proofs.change.make_room.Statement.{statement}

@@ -1,6 +1,6 @@
 -- `change::move_down` meets its contract. The loop's invariant: `i` bytes have moved, and all others stand where they did. The measure is
 -- how many are to move. Assumes nothing.
-use mathlib.Core.Path.{_≡_, refl, sym, ap, _∙_}
+use mathlib.Core.Path.{_≡_, refl, ap, _∙_}
 use mathlib.Core.List.{List}
 use Prim.Native.Nat.{ℕ, _+_, _-_, _≤_, _<_}
 use native.Mathlib.Numerals.{add-one}
@@ -24,8 +24,14 @@ untouched d to from i h k =
     let l = length-drop from d in
     let p = paste d to (drop from d) i in
     let place : from + i ≡ to + i + (from - to) = omega arith in
-    rw (place, ← getD-drop (to + i) p (from - to) 0, drop-paste d to (drop from d) i (omega arith) (omega arith),
-    getD-drop (to + i) d (from - to) 0, getD-drop from d i 0, place)
+    rw (
+      place,
+      ← getD-drop (to + i) p (from - to) 0,
+      drop-paste d to (drop from d) i (omega arith) (omega arith),
+      getD-drop (to + i) d (from - to) 0,
+      getD-drop from d i 0,
+      place,
+    )
 
 moved : (d s : List ℕ) (to from i : ℕ) → to ≤ from → from + i < length d → s ≡ paste d to (drop from d) i
     → set s (to + i) (getD s (from + i) 0) ≡ paste d to (drop from d) (i + 1)
