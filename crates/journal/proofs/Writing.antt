@@ -29,9 +29,11 @@ unfolding part
 length-part-of p = rw length-append (omega (arith, length-bytesOf 4 (length p)))
 
 pub length-head : (c : Call) → length (headOf c) ≡ 6
+unfolding head
 length-head c = omega (arith, length-bytesOf 2 (c .key))
 
 pub length-middle : (c : Call) → length (middleOf c) ≡ 5
+unfolding middle
 length-middle c = rw length-append (omega (arith, length-bytesOf 4 (c .room)))
 
 pub length-written : (e : Entry) → length (written e) ≡ 27 + length (e .label) + length (e .«data») + length (e .iv) + length (e .output)
@@ -55,7 +57,7 @@ module _ (call : Call) (label d iv output : List ℕ) where
   two-halves = halves-joined (headOf call) (part label) (part d) (part iv) (middleOf call) (part output)
 
   length-asked : length (askedOf call label d iv) ≡ 18 + length label + length d + length iv
-  length-asked = simp (length-append, length-part-of) (omega (arith, length-bytesOf 2 (call .key)))
+  length-asked = simp (length-append, length-part-of) (omega (arith, length-head call))
 
   pub both-put : (n size : ℕ) (o o₁ t : List ℕ) → tooLong entry ≡ false → length (written entry) ≤ length o → size ≡ length (written entry)
       → n ≡ 18 + length label + length d + length iv → o₁ ≡ over (askedOf call label d iv) o

@@ -1,5 +1,6 @@
 -- `writer::middle` meets its contract: the room's four bytes, and the number. Assumes nothing.
 use Rattle.block.specs.BigEndian.{bytesOf}
+use Rattle.journal.specs.Format.{middle}
 use borrow.Author.Needs.{needs}
 use Rattle.journal.proofs.writer.middle.Statement.{statement}
 use Rattle.journal.proofs.writer.middle.Tie as tie
@@ -7,4 +8,4 @@ use Rattle.journal.proofs.writer.middle.Tie as tie
 pub middle-spec : {M : Type 1} → statement M
 middle-spec =
     tie.close (tie.spec (λ c κs. search needs) (λ c. search needs) (λ c. search needs) (λ c. search needs) (λ c. search needs)
-    (λ c. unfold bytesOf in rw (c .split .ensures)))
+    (λ c. unfold middle bytesOf in rw (c .split .ensures)))
