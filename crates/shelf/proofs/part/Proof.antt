@@ -24,25 +24,11 @@ module _ (p : Place) (shelf : List ℕ) where
       let same : p .start + p .size - p .start ≡ p .size = omega arith in
       rw (same, le-ltb _ _ within)
 
-returns : tie.Need-returns
-returns c =
-    let a = c .before .before .args in
-    outside (placeIn (a .found)) (now (a .shelf)) (omega arith)
-
-returns-2 : tie.Need-returns-2
-returns-2 c =
-    let a = c .before .before .before .args in
-    outside (placeIn (a .found)) (now (a .shelf)) (omega arith)
-
-returns-3 : tie.Need-returns-3
-returns-3 c =
-    let a = c .before .before .before .args in
-    inside (placeIn (a .found)) (now (a .shelf)) (omega arith)
-
 pub part-spec : {M : Type 1} → statement M
 part-spec =
-    tie.close
-    (tie.spec
-    (λ c. search needs) (λ c. search needs) (λ c. search needs) returns (λ c. search needs) (λ c. search needs)
-    (λ c. search needs) (λ c. search needs) returns-2 (λ c. search needs) (λ c. search needs) (λ c. search needs)
-    (λ c. search needs) returns-3)
+    tie.close (tie.spec (λ c. search needs) (λ c. search needs) (λ c. search needs)
+    (λ c. let a = c .before .before .args in outside (placeIn (a .found)) (now (a .shelf)) (omega arith)) (λ c. search needs)
+    (λ c. search needs) (λ c. search needs) (λ c. search needs)
+    (λ c. let a = c .before .before .before .args in outside (placeIn (a .found)) (now (a .shelf)) (omega arith)) (λ c. search needs)
+    (λ c. search needs) (λ c. search needs) (λ c. search needs)
+    (λ c. let a = c .before .before .before .args in inside (placeIn (a .found)) (now (a .shelf)) (omega arith)))

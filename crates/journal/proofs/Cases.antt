@@ -1,5 +1,4 @@
--- The parts of an entry that is not too long.
--- Assumes nothing.
+-- What a test tells, and what it tells of an entry that is not too long. Assumes nothing.
 use mathlib.Core.Path.{_≡_, refl}
 use mathlib.Core.Bool.{Bool, true, false, _||_}
 use Prim.Native.Nat.{ℕ, _≤_}
@@ -9,8 +8,17 @@ use lib.ListN.{length}
 use borrow.Author.Tests.{ltb-false}
 use Rattle.journal.specs.Format.{Entry, partLimit, outputLimit, pastLimit, tooLong}
 
+-- it holds, or it does not
+pub by-test : {A : Type 0} (t : Bool) → (t ≡ true → A) → (t ≡ false → A) → A
+by-test true f g = f refl
+by-test false f g = g refl
+
+-- not both
+pub clash : (t : Bool) → t ≡ true → t ≡ false → ⊥
+clash t e f = let z : _≡_ {A = ℕ} 0 1 = cc in omega arith
+
 pub neither : (a b : Bool) → (a || b) ≡ false → (a ≡ false) × (b ≡ false)
-neither true b e = let z : _≡_ {A = ℕ} 0 1 = cc in absurd (omega arith)
+neither true b e = absurd (clash true refl e)
 neither false b e = (refl, e)
 
 pub record Short (e : Entry) : Type 0 where
