@@ -239,6 +239,9 @@ find_peers() {
 # What a program with peers in it is linked with, last.
 peer_libraries=(-l:libgcrypt.a -l:libgpg-error.a -l:libcrypto.a)
 
+# The program of host/smoke and host/faults, which run the same tests on other buffers: its sources.
+tests=("$c"/test*.c "$c"/{layout,buffers,calls,rules,shelf_model,journal_model,hash_model,wrap,random}.c)
+
 # compile WORDS..: a program over the library, which is linked in whole and so needs nothing of the target on the machine that runs it. It
 # stops before its first line where another variant was chosen than the target's.
 compile() {

@@ -1,6 +1,6 @@
 /* Cbc's padding: every count, every byte of it changed alone and every byte before it, every last byte, and no room
  * before either refusal. */
-#include "smoke.h"
+#include "test.h"
 
 #include <stdio.h>
 #include <string.h>
@@ -26,21 +26,19 @@ static void seals_again(const uint8_t *text, size_t length, const uint8_t *left,
 
 static void opens(const uint8_t *text, size_t length, uint8_t count, const char *what)
 {
-    struct lent l;
-    uint8_t *out = lend(&l);
+    uint8_t *out = lend_again(one);
     size_t left = length - count;
     check(done(opened(text, length, out, length), left), what, "it is decrypted", length);
-    check(memcmp(out, text, left) == 0 && untouched(&l, left), what, "its text", length);
+    check(memcmp(out, text, left) == 0 && untouched(one, left), what, "its text", length);
     seals_again(text, length, out, left, what);
 }
 
 /* And with room for one byte less the answer is 6. */
 static void is_refused(const uint8_t *text, size_t length, uint32_t number, const char *what)
 {
-    struct lent l;
-    uint8_t *out = lend(&l);
-    refused(opened(text, length, out, length), &l, number, what);
-    refused(opened(text, length, out, length - 1), &l, 6, what);
+    uint8_t *out = lend_again(one);
+    refused(opened(text, length, out, length), number, what);
+    refused(opened(text, length, out, length - 1), 6, what);
 }
 
 /* One block: a padding that the byte before the last one does not bear out, and one that leaves no text. */

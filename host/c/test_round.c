@@ -1,7 +1,7 @@
 /* Whether a counter came round: what single calls and messages in pieces say of texts about the place where it does,
  * by lengths that are written down here; texts of many blocks; IVs under which none does; the bytes on the other side;
  * refusals and calls that never say it; and J0 by two ways. */
-#include "smoke.h"
+#include "test.h"
 
 #include "prepared.h"
 #include "wrap.h"
@@ -34,14 +34,13 @@ static int says(struct luossavin_answer a, size_t length, int yes)
 static void in_one(uint32_t mode, const uint8_t *under, size_t iv_len, size_t n, int yes, const char *what)
 {
     const struct whole w = {.mode = mode, .data = n};
-    struct lent one, two;
-    uint8_t *there = lend(&one), *back = lend(&two);
+    uint8_t *there = lend_again(one), *back = lend_again(two);
     struct luossavin_answer a = luossavin_encrypt(mode, key, label, sizeof label, rfc_text, n, under, iv_len, there,
         ROOM);
-    check(says(a, room_needed(&w), yes) && untouched(&one, a.length), what, "encryption", n);
+    check(says(a, room_needed(&w), yes) && untouched(one, a.length), what, "encryption", n);
     a = luossavin_decrypt(mode, luossavin_key_retire(key), label, sizeof label, there, a.length, under, iv_len, back,
         ROOM);
-    check(says(a, n, yes) && untouched(&two, n), what, "decryption", n);
+    check(says(a, n, yes) && untouched(two, n), what, "decryption", n);
     check(memcmp(back, rfc_text, n) == 0, what, "its text", n);
 }
 
@@ -175,14 +174,13 @@ static void behind(void)
 
 static void short_rooms(uint32_t mode, const uint8_t *under, const uint8_t *sealed, size_t length)
 {
-    struct lent l;
-    uint8_t *out = lend(&l);
+    uint8_t *out = lend_again(one);
     for (size_t room = 0; room < length; room++) {
-        refused(luossavin_encrypt(mode, key, label, sizeof label, rfc_text, 48, under, 16, out, room), &l, 6,
+        refused(luossavin_encrypt(mode, key, label, sizeof label, rfc_text, 48, under, 16, out, room), 6,
             "coming round, no room to encrypt");
     }
     for (size_t room = 0; room < 48; room++) {
-        refused(luossavin_decrypt(mode, key, label, sizeof label, sealed, length, under, 16, out, room), &l, 6,
+        refused(luossavin_decrypt(mode, key, label, sizeof label, sealed, length, under, 16, out, room), 6,
             "coming round, no room to decrypt");
     }
 }
@@ -193,34 +191,32 @@ static void each_refused(uint32_t mode, const uint8_t *under)
     const struct luossavin_key zeroth = luossavin_key_new(key_bytes, 16, 0), old = luossavin_key_retire(key);
     const size_t over = sizeof too_long;
     const uint8_t *text = rfc_text;
-    struct lent l;
-    uint8_t *out = lend(&l);
-    refused(luossavin_encrypt(mode, none, NULL, 0, text, 48, under, 16, out, ROOM), &l, 1, "coming round, no key");
-    refused(luossavin_decrypt(mode, zeroth, NULL, 0, text, 48, under, 16, out, ROOM), &l, 13, "and no number");
-    refused(luossavin_encrypt(mode, key, NULL, 0, text, 48, under, 15, out, ROOM), &l, 10, "and a short IV");
-    refused(luossavin_encrypt(mode, old, NULL, 0, text, 48, under, 16, out, ROOM), &l, 14, "and a retired key");
-    refused(luossavin_encrypt(mode, key, NULL, 0, too_long, over, under, 16, out, ROOM), &l, 5, "and too long");
-    refused(luossavin_encrypt(5, key, NULL, 0, text, 48, under, 16, out, ROOM), &l, 7, "and no mode");
+    uint8_t *out = lend_again(one);
+    refused(luossavin_encrypt(mode, none, NULL, 0, text, 48, under, 16, out, ROOM), 1, "coming round, no key");
+    refused(luossavin_decrypt(mode, zeroth, NULL, 0, text, 48, under, 16, out, ROOM), 13, "and no number");
+    refused(luossavin_encrypt(mode, key, NULL, 0, text, 48, under, 15, out, ROOM), 10, "and a short IV");
+    refused(luossavin_encrypt(mode, old, NULL, 0, text, 48, under, 16, out, ROOM), 14, "and a retired key");
+    refused(luossavin_encrypt(mode, key, NULL, 0, too_long, over, under, 16, out, ROOM), 5, "and too long");
+    refused(luossavin_encrypt(5, key, NULL, 0, text, 48, under, 16, out, ROOM), 7, "and no mode");
     if (mode == GCM) {
-        refused(luossavin_encrypt(mode, key, too_long, over, text, 48, under, 16, out, ROOM), &l, 5, "and its label");
+        refused(luossavin_encrypt(mode, key, too_long, over, text, 48, under, 16, out, ROOM), 5, "and its label");
     }
 }
 
 /* Each bit of a sealed message is another once, which is 4. */
 static void wrong_tags(const uint8_t *under, uint8_t *sealed, size_t length)
 {
-    struct lent l;
-    uint8_t *out = lend(&l);
+    uint8_t *out = lend_again(one);
     for (size_t bit = 0; bit < 8 * length; bit++) {
         sealed[bit / 8] ^= 1 << bit % 8;
-        refused(luossavin_decrypt(GCM, key, label, sizeof label, sealed, length, under, 16, out, ROOM), &l, 4,
+        refused(luossavin_decrypt(GCM, key, label, sizeof label, sealed, length, under, 16, out, ROOM), 4,
             "coming round, and another bit");
         sealed[bit / 8] ^= 1 << bit % 8;
     }
-    refused(luossavin_decrypt(GCM, key, label, 5, sealed, length, under, 16, out, ROOM), &l, 4, "and another label");
+    refused(luossavin_decrypt(GCM, key, label, 5, sealed, length, under, 16, out, ROOM), 4, "and another label");
     for (size_t n = 0; n < 16; n++) {
         struct luossavin_answer due = {.number = 9, .missing = (uint8_t)(16 - n), .key = NUMBER};
-        answered(luossavin_decrypt(GCM, key, label, 6, sealed, n, under, 16, out, ROOM), &l, due, "and cut short");
+        answered(luossavin_decrypt(GCM, key, label, 6, sealed, n, under, 16, out, ROOM), due, "and cut short");
     }
 }
 
@@ -246,25 +242,24 @@ static void refusals_in_pieces(enum kind kind)
     uint8_t under[16], sealed[ROOM], *out;
     const struct given g = {key, false, under, label, 16, sizeof label};
     struct state s;
-    struct lent l;
     iv_near(mode, 0, under);
     prepared(luossavin_encrypt(mode, key, label, sizeof label, rfc_text, 40, under, 16, sealed, ROOM));
-    out = lend(&l);
+    out = lend_again(one);
     check(says(call_start(kind, &s, &g), 0, 0), "a start says no", kind_names[kind], 0);
     check(says(call_piece(&s, kind == OPENING ? sealed : rfc_text, 40, out, ROOM), kind == OPENING ? 0 : 40, 0),
         "a piece says no", kind_names[kind], 40);
-    out = lend(&l);
-    refused(call_piece(&s, too_long, sizeof too_long, out, 0), &l, 5, "come round, a piece too long");
+    out = lend_again(one);
+    refused(call_piece(&s, too_long, sizeof too_long, out, 0), 5, "come round, a piece too long");
     if (kind == SEALING) {
-        refused(call_end(&s, out, 15), &l, 6, "come round, no room for the tag");
+        refused(call_end(&s, out, 15), 6, "come round, no room for the tag");
     } else if (kind == OPENING) {
-        answered(call_end(&s, sealed + 40, 15), &l, short_tag, "come round, a short tag");
+        answered(call_end(&s, sealed + 40, 15), short_tag, "come round, a short tag");
     }
     check(says(call_end(&s, kind == OPENING ? sealed + 40 : out, 16), kind == SEALING ? 16 : 0, 1), "an end says yes",
         kind_names[kind], 40);
-    out = lend(&l);
-    refused(call_piece(&s, rfc_text, 16, out, 16), &l, 12, "come round, and ended");
-    refused(call_end(&s, out, 16), &l, 12, "come round, and ended");
+    out = lend_again(one);
+    refused(call_piece(&s, rfc_text, 16, out, 16), 12, "come round, and ended");
+    refused(call_end(&s, out, 16), 12, "come round, and ended");
 }
 
 /* An end speaks of the text that went through its own state: a copy from before the round says no. */

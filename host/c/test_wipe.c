@@ -1,6 +1,6 @@
 /* What is left of a key on the stack. Round keys are marked words here, which a record may hold, and the states' secrets too: what stands on the
  * stack after a call is looked through for them. Then versions and names. */
-#include "smoke.h"
+#include "test.h"
 
 #include "prepared.h"
 

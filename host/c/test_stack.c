@@ -2,7 +2,7 @@
  * afterwards was taken. The header says how much that is at most. */
 #define _GNU_SOURCE
 
-#include "smoke.h"
+#include "test.h"
 
 #include "journal_model.h"
 #include "prepared.h"
