@@ -124,9 +124,4 @@ void long_messages(void);
 void stack(void);
 void wiping(void);
 
-/* Runs a call on a stack of its own, all of which holds LENT before. */
-enum { OWN_STACK = 1 << 18 };
-extern uint8_t own_stack[OWN_STACK];
-void on_own_stack(void (*call)(void));
-
 #endif

@@ -142,15 +142,13 @@ static void put_lengths(uint64_t first, uint64_t second, uint8_t bytes[16])
     put_element((element)first << 64 | second, bytes);
 }
 
-static struct luossavin_hash behind(struct luossavin_hash h, struct luossavin_hash before, const uint8_t *bytes,
-    size_t n)
+static struct luossavin_hash behind(struct luossavin_hash h, struct luossavin_hash before, const uint8_t *bytes, size_t n)
 {
     return luossavin_hash_join(h, before, luossavin_hash_blocks(h, bytes, n), n / 16 + (n % 16 != 0));
 }
 
 /* The tag of label and ciphertext, of which the first `cut` bytes are one half. */
-static void tag_of_halves(size_t iv_len, const uint8_t *name, size_t name_len, const uint8_t *text, size_t n, size_t cut,
-    uint8_t tag[16])
+static void tag_of_halves(size_t iv_len, const uint8_t *name, size_t name_len, const uint8_t *text, size_t n, size_t cut, uint8_t tag[16])
 {
     uint8_t block[32] = {0}, mask[16], lengths[16];
     prepared(luossavin_block_encrypt(key, block, 16, mask, 16));
@@ -181,8 +179,7 @@ static void cut_message(size_t iv_len, size_t name_len, size_t n)
     uint8_t text[TEXT], sealed[TEXT + 16], name[LABEL], tag[16];
     draw_bytes(text, n);
     draw_bytes(name, name_len);
-    struct luossavin_answer a =
-        luossavin_encrypt(4, key, name, name_len, text, n, iv, iv_len, sealed, sizeof sealed);
+    struct luossavin_answer a = luossavin_encrypt(4, key, name, name_len, text, n, iv, iv_len, sealed, sizeof sealed);
     check(done(a, n + 16), "halves", "the message is sealed", n);
     for (size_t cut = 0; cut <= n; cut++) {
         tag_of_halves(iv_len, name, name_len, sealed, n, cut, tag);

@@ -281,10 +281,11 @@ static void rooms(void)
             }
             check(ask_for(0, 50, 0, "rooms").differs == 0, "whether one differs", "rooms", mode);
         }
-        for (int i = 0; i < 9; i++) {
+        for (int i = 0; i < 2 * 9; i++) {
             struct entry e = call(ENCRYPT, mode, 0);
+            e.direction = (uint8_t)(i % 2);
             e.data = (struct bytes){plenty, PART_LIMIT};
-            e.room = far[i];
+            e.room = far[i / 2];
             size = 0;
             write_answered(e);
             check(ask_for(0, 1, 0, "rooms, long data").differs == 0, "whether it differs", "rooms, long data", mode);
@@ -472,12 +473,14 @@ static struct entry long_call(uint8_t mode, size_t l, size_t d, size_t i, size_t
         .output = {plenty, o}};
 }
 
-/* Every part at its limit, and one byte over it; whole, cut by a byte, cut off, and of an unknown key. */
+/* Every part at its limit, and one byte over it, in every mode; whole, cut by a byte, cut off, and of an unknown key. */
 static void limits(void)
 {
-    for (int i = 0; i < 16 * 2; i++) {
-        int over = i / 2, unknown = i % 2;
-        struct entry e = long_call(200, PART_LIMIT + (over & 1), PART_LIMIT + (over >> 1 & 1), PART_LIMIT + (over >> 2 & 1), OUTPUT_LIMIT + (over >> 3));
+    static const uint8_t modes[] = {CFB, OFB, CTR, CBC, GCM, 5, 200};
+    for (int i = 0; i < 16 * 2 * 7; i++) {
+        int over = i / 14, unknown = i / 7 % 2;
+        struct entry e = long_call(modes[i % 7], PART_LIMIT + (over & 1), PART_LIMIT + (over >> 1 & 1), PART_LIMIT + (over >> 2 & 1),
+            OUTPUT_LIMIT + (over >> 3));
         uint32_t number = over ? 24 : unknown ? 25 : 0;
         size_t place;
         e.key = (uint16_t)(NUMBER + unknown);
@@ -489,25 +492,6 @@ static void limits(void)
         ask_for(23, 1, place, "parts at their limits, cut");
         size = place + 10;
         ask_for(23, 1, place, "parts at their limits, cut off");
-    }
-}
-
-/* The same in every mode, behind calls on as much data as may be. */
-static void long_parts(void)
-{
-    for (int i = 0; i < 16 * 6; i++) {
-        int over = i / 6;
-        uint8_t mode = (uint8_t)(i % 6);
-        struct entry before = {.mode = mode, .key = NUMBER, .label = {rfc_text, 5}, .data = {plenty, PART_LIMIT}, .iv = {rfc_text + 1, 16}, .room = 16400};
-        size = 0;
-        write_answered(before);
-        before.direction = DECRYPT;
-        before.room = 4000000000;
-        write_answered(before);
-        add(long_call(mode, PART_LIMIT + (over & 1), PART_LIMIT + (over >> 1 & 1), PART_LIMIT + (over >> 2 & 1), OUTPUT_LIMIT + (over >> 3)));
-        ask();
-        size--;
-        ask();
     }
 }
 
@@ -903,10 +887,12 @@ void journals(void)
         give_keys(1);
         differences();
         limits();
-        long_parts();
         each_limit();
-        key_numbers();
         refusals();
+    }
+    /* by what bytes say, and not by where they stand: once */
+    if (!is_sparse && place != FENCE_BEFORE) {
+        key_numbers();
     }
     /* its pages are its own: no need of it for either side of the fence */
     if (with_limits && place == FENCE_BEHIND) {

@@ -1,7 +1,5 @@
-/* Keys: setting one up, retiring it, giving it an engine, with every value that a record may hold; and messages from before a retirement. */
+/* Keys: setting one up, retiring it, giving it an engine, with every value that a record may hold. */
 #include "test.h"
-
-#include "prepared.h"
 
 #include <stdio.h>
 #include <string.h>
@@ -63,66 +61,6 @@ static void no_key(size_t bytes, uint32_t number, uint32_t answer)
     refused(luossavin_block_decrypt(k, rfc_text, 16, out, ROOM), answer, "no key, a block decrypted");
 }
 
-/* Messages from before a retirement. */
-
-/* Encrypted before it: decrypted after it, under the record as it was and under the retired one. */
-static void sealed_before(uint32_t mode)
-{
-    uint8_t sealed[ROOM];
-    struct luossavin_answer a = luossavin_encrypt(mode, key, label, sizeof label, rfc_text, 50, iv, 16, sealed, ROOM);
-    const struct luossavin_key records[] = {key, luossavin_key_retire(key)};
-    for (int i = 0; i < 2; i++) {
-        const char *where = i ? "sealed before it was retired" : "the record before it was retired";
-        uint8_t *out = lend_again(one);
-        check(done(luossavin_decrypt(mode, records[i], label, sizeof label, sealed, a.length, iv, 16, out, ROOM), 50), "it is decrypted", where,
-            mode);
-        check(memcmp(out, rfc_text, 50) == 0 && untouched(one, 50), "its text", where, mode);
-    }
-    refused(luossavin_encrypt(mode, records[1], label, sizeof label, rfc_text, 50, iv, 16, lend_again(one), ROOM), 14, "retired");
-}
-
-static void block_before(void)
-{
-    uint8_t there[16], back[16];
-    prepared(luossavin_block_encrypt(key, rfc_text, 16, there, 16));
-    check(done(luossavin_block_decrypt(luossavin_key_retire(key), there, 16, back, 16), 16), "it is decrypted", "a block, retired since", 16);
-    check(memcmp(back, rfc_text, 16) == 0, "the block", "a block, retired since", 16);
-}
-
-/* Started before it: the pieces after it and the end are done, and the bytes are the single call's. */
-static void started_before(enum kind kind)
-{
-    struct given g = {.key = key, .iv = iv, .label = label, .iv_len = 16, .label_len = sizeof label};
-    const char *where = kind_names[kind];
-    uint8_t whole[ROOM], *out = lend_again(one);
-    const uint8_t *data = kind == OPENING ? whole : rfc_text;
-    size_t step = kind == OPENING ? 0 : 20, tag = kind == SEALING ? 16 : 0;
-    struct state s;
-    prepared(luossavin_encrypt(kind == COUNTING ? CTR : GCM, key, label, sizeof label, rfc_text, 40, iv, 16, whole, ROOM));
-    call_start(kind, &s, &g);
-    check(done(call_piece(&s, data, 20, out, 20), step), "a piece before it is retired", where, 20);
-    g.key = luossavin_key_retire(g.key);
-    check(done(call_piece(&s, data + 20, 20, out + 20, 20), step), "a piece after it is retired", where, 20);
-    check(done(call_end(&s, (kind == OPENING ? whole : out) + 40, 16), tag), "the end after it is retired", where, 40);
-    check(memcmp(out, whole, 2 * step + tag) == 0 && untouched(one, 2 * step + tag), "the bytes", where, 40);
-    check(call_start(kind, &s, &g).number == (kind == OPENING ? 0 : 14), "a start after it is retired", where, 0);
-}
-
-/* What was encrypted under a retired key before it was retired is decrypted in pieces under it. */
-static void opened_in_pieces(void)
-{
-    struct luossavin_key retired = luossavin_key_retire(key);
-    struct luossavin_ctr ctr = luossavin_ctr_start(retired, true, iv, 16).state;
-    struct luossavin_opens opens = luossavin_opens_start(retired, label, sizeof label, iv, 16).state;
-    uint8_t sealed[ROOM], text[40];
-    prepared(luossavin_encrypt(CTR, key, NULL, 0, rfc_text, 40, iv, 16, sealed, ROOM));
-    check(done(luossavin_ctr_add(&ctr, sealed, 40, text, 40), 40), "Ctr's piece", "retired, in pieces", 40);
-    check(done(luossavin_ctr_finish(&ctr), 0) && memcmp(text, rfc_text, 40) == 0, "Ctr", "retired, in pieces", 40);
-    prepared(luossavin_encrypt(GCM, key, label, sizeof label, rfc_text, 40, iv, 16, sealed, ROOM));
-    check(done(luossavin_opens_add(&opens, sealed, 40), 0), "opening's piece", "retired, in pieces", 40);
-    check(done(luossavin_opens_finish(&opens, sealed + 40, 16), 0), "it opens", "retired, in pieces", 40);
-}
-
 void keys(void)
 {
     example();
@@ -132,14 +70,6 @@ void keys(void)
     /* both are wrong: the key comes first */
     no_key(15, 0, 1);
     no_key(17, 65536, 1);
-    for (uint32_t mode = CFB; mode <= GCM; mode++) {
-        sealed_before(mode);
-    }
-    block_before();
-    for (enum kind kind = COUNTING; kind < KINDS; kind++) {
-        started_before(kind);
-    }
-    opened_in_pieces();
 }
 
 /* Of any size. */

@@ -45,9 +45,7 @@ struct luossavin_answer go_by(size_t by, struct luossavin_answer a, struct state
         written += a.length;
         check(a.came_round == 0, "whether a counter came round", "a piece", i);
     }
-    return a.number != 0       ? a
-        : s->kind == OPENING ? call_end(s, (uint8_t *)data + n, 16)
-                             : call_end(s, out + written, room - written);
+    return a.number != 0 ? a : s->kind == OPENING ? call_end(s, (uint8_t *)data + n, 16) : call_end(s, out + written, room - written);
 }
 
 /* Ctr or sealing, in pieces of `by` bytes, against the single call. */
@@ -135,77 +133,17 @@ static void one_variable(void)
     check(memcmp(out, whole, 56) == 0, "it is the single call's", "one variable", 56);
 }
 
-/* Refusals of pieces and ends, by what the header says of a message of which 19 bytes are done. */
-
-static void part_refused(struct state *s, enum step step, size_t data, size_t room, uint32_t number, const char *why)
-{
-    struct luossavin_answer due = {.number = number, .key = NUMBER};
-    uint8_t *out = lend_again(one);
-    char what[80];
-    due.missing = number == 9 && room < 16 ? (uint8_t)(16 - room) : 0;
-    snprintf(what, sizeof what, "%s's %s, %s", kind_names[s->kind], step == PIECE ? "piece" : "end", why);
-    answered(step == PIECE ? call_piece(s, data ? too_long : NULL, data, room ? out : NULL, room) : call_end(s, room ? out : NULL, room), due,
-        what);
-}
-
-/* Each leaves the state as it was. */
-static void refused_on_the_way(struct state *s)
-{
-    struct state before = *s;
-    part_refused(s, PIECE, LIMIT - 18, 0, 5, s->kind == OPENING ? "one byte too many" : "5 before 6");
-    if (s->kind != OPENING) {
-        part_refused(s, PIECE, 8, 7, 6, "room for 7 of 8 bytes");
-    }
-    if (s->kind == SEALING) {
-        part_refused(s, END, 0, 15, 6, "room for 15 bytes");
-        part_refused(s, END, 0, 0, 6, "no room");
-    }
-    for (size_t n = 0; s->kind == OPENING && n <= 40; n += n == 15 ? 2 : 1) {
-        part_refused(s, END, 0, n, 9, "a tag that has not 16 bytes");
-    }
-    check(same_state(s, &before), "the state is as it was", kind_names[s->kind], 19);
-}
-
-/* The state of a message that has ended holds nothing but the key's number, and stays so. */
-static void refused_after_the_end(struct state *s)
-{
-    check(holds_only(s, 12, NUMBER), "the state after the end", kind_names[s->kind], 12);
-    part_refused(s, PIECE, 0, s->kind == OPENING ? 0 : ROOM, 12, "after the end");
-    part_refused(s, PIECE, LIMIT + 1, 0, 12, "12 before 5");
-    part_refused(s, END, 0, 0, 12, "12 before 6 and 9");
-    part_refused(s, END, 0, 16, 12, "after the end");
-    check(holds_only(s, 12, NUMBER), "and after calls", kind_names[s->kind], 12);
-}
-
-/* A message of 19 bytes with refusals in between; `verdict` is opening's. */
-static void with_refusals(enum kind kind, uint32_t verdict)
-{
-    struct luossavin_answer due = {.number = verdict, .key = NUMBER, .length = kind == SEALING ? 16 : 0};
-    uint8_t sealed[ROOM], out[32];
-    struct state s;
-    struct luossavin_answer a;
-    prepared(luossavin_encrypt(GCM, key, label, sizeof label, too_long, 19, iv, 16, sealed, ROOM));
-    sealed[34] ^= verdict == 4;
-    start(kind, 16, &s);
-    a = call_piece(&s, kind == OPENING ? sealed : too_long, 19, out, 19);
-    check(done(a, kind == OPENING ? 0 : 19), "a piece is done", kind_names[kind], 19);
-    refused_on_the_way(&s);
-    a = call_end(&s, kind == OPENING ? sealed + 19 : out, 16);
-    check(difference(a, due) == NULL, "the end", kind_names[kind], verdict);
-    refused_after_the_end(&s);
-}
-
 /* 16,777,216 bytes in all: an empty piece is done then, and one byte more is not. */
 static void to_the_limit(void)
 {
     struct state s;
     start(OPENING, 12, &s);
     check(done(call_piece(&s, too_long, LIMIT - 5, NULL, 0), 0), "a piece is done", "to the limit", LIMIT - 5);
-    part_refused(&s, PIECE, 6, 0, 5, "one byte over the limit");
+    check(call_piece(&s, too_long, 6, NULL, 0).number == 5, "a byte too many", "to the limit", 6);
     check(done(call_piece(&s, too_long, 5, NULL, 0), 0), "a piece is done", "to the limit", 5);
     check(done(call_piece(&s, NULL, 0, NULL, 0), 0), "an empty piece is done", "at the limit", 0);
-    part_refused(&s, PIECE, 1, 0, 5, "one byte at the limit");
-    part_refused(&s, END, 0, 16, 4, "no such tag, at the limit");
+    check(call_piece(&s, too_long, 1, NULL, 0).number == 5, "a byte more", "at the limit", 1);
+    check(call_end(&s, (uint8_t *)rfc_key, 16).number == 4, "no such tag", "at the limit", 16);
 }
 
 /* Starts. */
@@ -216,17 +154,29 @@ static int in_order(struct luossavin_answer a, struct luossavin_answer due, cons
     return judge(a, due) && holds_now(state_is_due(&now, due, before, after) ? NULL : "its state");
 }
 
-/* What is in the place of a state where a start was refused answers that again, and stays. */
-static void after_refused_start(struct state *s, struct luossavin_answer due)
+/* What is in the place of a state where a start was refused, and the state after an end, answer that again whatever they are given, and stay. */
+static void answers_again(struct state *s, uint32_t number, uint16_t key_number)
 {
-    const struct state before = *s;
-    struct buffer out = lend(16, LENT);
+    const struct luossavin_answer due = {.number = number, .key = key_number};
+    struct buffer out = lend(16, LENT), over = lend_input(LIMIT + 1, LIMIT);
     for (size_t n = 0; n <= 16; n += 8) {
         judge(call_piece(s, n ? iv : NULL, n, out.bytes, 0), due);
         judge(call_end(s, out.bytes, n), due);
     }
-    holds_now(same_state(s, &before) && untouched(out, 0) ? NULL : "its state after calls");
+    judge(call_piece(s, NULL, 0, out.bytes, 16), due);
+    judge(call_piece(s, over.bytes, over.length, out.bytes, 0), due);
+    holds_now(holds_only(s, number, key_number) && untouched(out, 0) ? NULL : "its state after calls");
     give_back(out);
+}
+
+/* A start that is done gives what it gives under the key itself, whatever its number, and whether or not it is retired. */
+static const char *difference_start(const struct part *p, struct given given, struct state s)
+{
+    struct state other;
+    given.key = holding(given.key, sound);
+    prepared(call_start(p->kind, &other, &given));
+    *number_of(&s) = NUMBER;
+    return same_state(&s, &other) ? NULL : "its state is not that of the key";
 }
 
 static void try_start(struct part p)
@@ -239,8 +189,12 @@ static void try_start(struct part p)
     due = answer_to_part(&p);
     now = p;
     describe = describe_part;
-    if (in_order(call_start(p.kind, &s, &given), due, NULL, &s) && due.number != 0) {
-        after_refused_start(&s, due);
+    if (in_order(call_start(p.kind, &s, &given), due, NULL, &s)) {
+        if (due.number != 0) {
+            answers_again(&s, due.number, due.key);
+        } else {
+            holds_now(difference_start(&p, given, s));
+        }
     }
     take_back(b);
 }
@@ -268,14 +222,12 @@ static void written_starts(void)
     }
 }
 
-/* Of every record, both directions of Ctr among them. */
+/* Of every record, IV and label, both directions of Ctr among them. */
 static void on_record(struct holder fields)
 {
-    for (int i = 0; i < 3 * 2 * 3 * 2; i++) {
-        struct part p = {.kind = (enum kind)(i % 3), .key = fields, .decrypt = i / 3 % 2, .iv = 12 + 2 * (size_t)(i / 6 % 3), .label = sizeof label};
-        if (i / 18 != 0) {
-            p.label = p.kind == COUNTING ? 0 : LIMIT + 1;
-        }
+    static const size_t labels[] = {0, 1, 6, 15, 16, 17, 33, LIMIT + 1};
+    for (int i = 0; i < 3 * 2 * IVS * 8; i++) {
+        struct part p = {.kind = (enum kind)(i % 3), .key = fields, .decrypt = i / 3 % 2, .iv = iv_lengths[i / 6 % IVS], .label = labels[i / 6 / IVS]};
         try_start(p);
     }
 }
@@ -289,10 +241,6 @@ void pieces(void)
         }
         rfc_8998_by(by[i]);
     }
-    with_refusals(COUNTING, 0);
-    with_refusals(SEALING, 0);
-    with_refusals(OPENING, 0);
-    with_refusals(OPENING, 4);
     older_copy();
     one_variable();
     to_the_limit();
@@ -380,7 +328,7 @@ static int result_is(const struct part *p, const struct state *before, struct bu
 static void try(struct part p, size_t before)
 {
     struct luossavin_answer due = answer_to_part(&p);
-    struct buffer data = lend_input(p.data, LIMIT), out;
+    struct buffer data = lend_input(p.data, due.number == 5 ? LIMIT / 2 : LIMIT), out;
     struct state start, after;
     now = p;
     before_now = before;
@@ -395,20 +343,12 @@ static void try(struct part p, size_t before)
         }
         holds_now(due.number != 0 || result_is(&p, &start, data, out, due) ? NULL : "its output goes by more than its inputs");
         kept(data);
+        if (p.step == END && (due.number == 0 || due.number == 4)) {
+            answers_again(&after, 12, due.key);
+        }
     }
     give_back(data);
     give_back(out);
-}
-
-static void starts(enum kind kind)
-{
-    static const size_t labels[] = {0, 1, 15, 16, 17, 33};
-    for (int i = 0; i < HOLDERS * IVS * 6; i++) {
-        struct part p = {.kind = kind, .key = holders[i % HOLDERS], .iv = iv_lengths[i / HOLDERS % IVS], .label = labels[i / (HOLDERS * IVS)]};
-        for (p.decrypt = 0; p.decrypt <= (kind == COUNTING); p.decrypt++) {
-            try_start(p);
-        }
-    }
 }
 
 /* A piece and an end behind `before` bytes, into every room up to one more than needed; opening has no room, and
@@ -423,9 +363,13 @@ static void at_place(enum kind kind, size_t before)
             try(p, before);
         }
     }
+    /* one byte too many, which comes before room */
+    p.data = LIMIT - before + 1;
+    p.room = 0;
+    try(p, before);
     p.step = END;
     p.data = 0;
-    for (p.room = 0; p.room <= 33; p.room++) {
+    for (p.room = 0; p.room <= 40; p.room++) {
         for (p.wrong_tag = 0; p.wrong_tag <= (kind == OPENING); p.wrong_tag++) {
             try(p, before);
         }
@@ -529,7 +473,6 @@ static void limits(enum kind kind)
 void pieces_of_any_size(void)
 {
     for (enum kind kind = COUNTING; kind < KINDS; kind++) {
-        starts(kind);
         for (size_t before = 0; before <= 33; before += is_sparse ? 5 : 1) {
             at_place(kind, before);
         }

@@ -39,8 +39,7 @@ static void by_hand(void)
 {
     static const uint8_t sealed[3] = {0x31, 0x32, 0x33};
     uint8_t shelf[48], kept[48], due[48] = {0x52, 0x44, 1, 2, 3, 4, 5, 6, 0, 0, 0, 3, 0x31, 0x32, 0x33,
-        0x52, 0x44, 0, 0, 0, 7, 0, 0, 0, 0, 0, 0,
-        0x52, 0x44, 1, 2, 3, 4, 5, 7, 0, 0, 0, 1, 0x33};
+        0x52, 0x44, 0, 0, 0, 7, 0, 0, 0, 0, 0, 0, 0x52, 0x44, 1, 2, 3, 4, 5, 7, 0, 0, 0, 1, 0x33};
     memset(due + 40, LENT, 8);
     memset(kept, LENT, 48);
     memcpy(kept, due, 15);
@@ -663,11 +662,14 @@ void shelves(void)
     refusals();
     drawn();
     if (!is_sparse) {
-        marks();
         sizes();
+        crowded();
+    }
+    /* by what bytes say, and not by where they stand: once */
+    if (!is_sparse && place != FENCE_BEFORE) {
+        marks();
         long_ones();
         editions_on_shelf();
         small_worlds();
-        crowded();
     }
 }

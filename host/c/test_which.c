@@ -301,39 +301,6 @@ static void refusals(void)
     }
 }
 
-/* Lengths whose sum would come round to the buffer's. */
-static void sums(void)
-{
-    static const size_t rounds[][3] = {{SIZE_MAX, 2, 1}, {SIZE_MAX, 1, 0}, {2, SIZE_MAX, 1},
-        {SIZE_MAX / 2 + 1, SIZE_MAX / 2 + 1, 0}, {SIZE_MAX, SIZE_MAX, 0}, {6, SIZE_MAX - 5, 0}, {6, SIZE_MAX, 5}};
-    struct search s = question(16);
-    for (size_t i = 0; i < sizeof rounds / sizeof *rounds; i++) {
-        s.count = 2;
-        s.labels_len = rounds[i][2];
-        memcpy(lengths, rounds[i], sizeof lengths[0] * 2);
-        check(ask(s).answer.number == 16, "16", "a sum that comes round", i);
-    }
-    s.labels_len = 0;
-    for (s.count = 0; s.count < CANDIDATES; s.count++) {
-        lengths[s.count] = (size_t)1 << 58;
-    }
-    check(ask(s).answer.number == 16, "16", "64 times 2^58", s.count);
-}
-
-/* A label has its limit, and the buffer has none: two that are as long as may be stand behind the one that opens. */
-static void long_labels(void)
-{
-    struct search s = question(16);
-    add_editions(&s, 1, 2);
-    add(&s, NULL, LIMIT);
-    add(&s, NULL, LIMIT);
-    seal_under(&s, label, sizeof label);
-    check(ask(s).place == 1, "the place", "long labels", 1);
-    lengths[3]++;
-    s.labels_len++;
-    check(ask(s).answer.number == 5, "5", "a label over the limit", 3);
-}
-
 /* Round keys that no key has. */
 static void made_up(void)
 {
@@ -361,10 +328,6 @@ void which(void)
     cuts();
     others();
     refusals();
-    sums();
-    if (!is_sparse) {
-        long_labels();
-    }
     made_up();
 }
 
@@ -449,6 +412,12 @@ static void lists(void)
 static void wild_sums(void)
 {
     static const size_t big[] = {SIZE_MAX, SIZE_MAX - 5, SIZE_MAX / 2 + 1, (size_t)1 << 58};
+    static const size_t rounds[][3] = {{SIZE_MAX, 2, 1}, {SIZE_MAX, 1, 0}, {2, SIZE_MAX, 1}, {SIZE_MAX / 2 + 1, SIZE_MAX / 2 + 1, 0},
+        {SIZE_MAX, SIZE_MAX, 0}, {6, SIZE_MAX - 5, 0}, {6, SIZE_MAX, 5}};
+    for (size_t i = 0; i < sizeof rounds / sizeof *rounds; i++) {
+        struct search s = resized(resized(same_lengths(2, 6), 0, rounds[i][0]), 1, rounds[i][1]);
+        check(ask(lent_bytes(s, rounds[i][2])).answer.number == 16, "16", "a sum that comes round", i);
+    }
     for (int i = 0; i < 4; i++) {
         for (size_t place = 0; place < CANDIDATES; place += 7) {
             struct search s = same_lengths(CANDIDATES, 6);
@@ -466,7 +435,7 @@ static void wild_sums(void)
         ask(lent_bytes(resized(resized(same_lengths(2, 6), 0, big[i]), 1, 1 - big[i]), 1));
         ask(lent_bytes(resized(same_lengths(1, 6), 0, big[i]), 1));
     }
-    ask(lent_bytes(same_lengths(CANDIDATES, (size_t)1 << 58), 0));
+    check(ask(lent_bytes(same_lengths(CANDIDATES, (size_t)1 << 58), 0)).answer.number == 16, "16", "64 times 2^58", CANDIDATES);
 }
 
 /* Every record, IV and size of file, on lists that are in order and on others. */
@@ -492,14 +461,15 @@ static void sizes(void)
 static void limits(void)
 {
     static const size_t files[] = {SEALED, 15, 0, LIMIT + 17};
-    for (size_t place = 0; place < 3; place++) {
-        ask(sealed_at(resized(same_lengths(3, 6), 1, LIMIT), place));
+    for (size_t at = 0; at < 3; at++) {
+        check(ask(sealed_at(resized(same_lengths(3, 6), 1, LIMIT), at)).place == at, "the place", "a long label", at);
     }
-    ask(sealed_at(resized(resized(same_lengths(3, 6), 1, LIMIT), 2, LIMIT), 0));
+    /* a label has its limit, and the buffer has none */
+    check(ask(sealed_at(resized(resized(same_lengths(4, 6), 3, LIMIT), 2, LIMIT), 1)).place == 1, "the place", "two long labels", 1);
     for (size_t i = 0; i < 4 * 3; i++) {
         struct search s = sealed_at(resized(same_lengths(3, 6), i % 3, LIMIT + 1), i % 3 == 0);
         s.file = files[i / 3];
-        ask(s);
+        check(ask(s).answer.number == 5, "5", "a label over the limit", i);
         s.iv = 13;
         ask(s);
         s.key = holders[4];
@@ -532,8 +502,10 @@ void which_of_any_size(void)
     lists();
     wild_sums();
     sizes();
-    if (with_limits) {
+    if (!is_sparse) {
         limits();
+    }
+    if (with_limits) {
         long_files();
     }
 }

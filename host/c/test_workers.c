@@ -370,17 +370,18 @@ static void longest(void)
 
 /* Refusals. */
 
-/* Every record, and everything else that may be wrong, together. */
+/* Every record and IV, and everything else that may be wrong, together: by a range, by a plan that is accepted and by others. */
 static void on_record(struct holder fields)
 {
-    static const size_t ivs[] = {16, 12, 0, 15, 17}, offsets[] = {0, 37, LIMIT - 20, LIMIT - 19, LIMIT + 1, SIZE_MAX};
-    struct luossavin_plan plans[3] = {following((const size_t[]){16, 4}, 2), following((const size_t[]){16, 5}, 2), following(NULL, 0)};
+    static const size_t offsets[] = {0, 21, LIMIT - 33, LIMIT - 32, LIMIT + 1, SIZE_MAX};
+    struct luossavin_plan plans[3] = {following((const size_t[]){16, 17}, 2), following((const size_t[]){32, 1}, 2), following(NULL, 0)};
     struct stretch s;
-    for (int i = 0; i < 5 * 9 * 4; i++) {
+    plans[1].lengths[0]++;
+    for (int i = 0; i < IVS * 9 * 4; i++) {
         int way = i % 4, j = i / 4 % 9;
-        s = in_order(j < 6 ? offsets[j] : 0, 20);
+        s = in_order(j < 6 ? offsets[j] : 0, 33);
         s.key = fields;
-        s.iv = ivs[i / 36];
+        s.iv = iv_lengths[i / 36];
         s.plan = j < 6 ? NULL : &plans[j - 6];
         s.decrypt = way % 2;
         s.room -= way / 2;
@@ -532,24 +533,6 @@ static void wild(void)
     }
 }
 
-/* Every record and IV, by a range, by a plan that is accepted and by one that is not. */
-static void records(void)
-{
-    static const size_t offsets[] = {0, 21, LIMIT + 1, SIZE_MAX};
-    for (int i = 0; i < HOLDERS * IVS * 6 * 4; i++) {
-        int k = i / 4 % 6, way = i % 4;
-        struct stretch s = in_order(k < 4 ? offsets[k] : 0, 33);
-        struct luossavin_plan plan = luossavin_plan_make(33, 2).plan;
-        plan.lengths[0] += k == 5;
-        s.plan = k < 4 ? NULL : &plan;
-        s.key = holders[i / 24 / IVS];
-        s.iv = iv_lengths[i / 24 % IVS];
-        s.decrypt = way % 2;
-        s.room -= way / 2;
-        try(s, 0);
-    }
-}
-
 static void limits(void)
 {
     struct stretch s = in_order(0, LIMIT);
@@ -577,7 +560,6 @@ void workers_of_any_size(void)
     plans();
     counts();
     wild();
-    records();
     if (with_limits) {
         limits();
     }
