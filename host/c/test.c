@@ -5,9 +5,9 @@
  *                    its start, inputs that may not be written, and lengths at the limits (host/faults)
  *   test --heap      fewer of them on buffers from malloc, for valgrind (host/faults)
  *
- * Every part of an answer, every byte of the output and the inputs after a call are looked at. IVs of 16 bytes are mostly such that a counter
- * comes round in a text of some blocks, and not in a shorter one. Prints what is wrong, and how much was checked; exit status 1 if anything
- * is.
+ * Every part of an answer, every byte of the output and the inputs after a call are looked at. IVs of 16 bytes are mostly such that a
+ * counter comes round in a text of some blocks, and not in a shorter one. Prints what is wrong, and how much was checked; exit status 1 if
+ * anything is.
  */
 #define _DEFAULT_SOURCE
 
@@ -36,7 +36,7 @@ struct luossavin_key key;
 const uint8_t iv[17] = {16, 15, 14, 13, 12, 11, 10, 9, 8, 7, 6, 5, 4, 3, 2, 1, 0};
 const uint8_t label[6] = {0, 0, 0, 7, 0, 2};
 const uint8_t too_long[LIMIT + 1];
-const size_t iv_lengths[IVS] = {0, 1, 11, 12, 13, 15, 16, 17, 32};
+const size_t iv_lengths[IVS] = {0, 1, 11, 12, 13, 14, 15, 16, 17, 32};
 
 const struct holder sound = {0, NUMBER, 0}, old = {0, NUMBER, 1}, none = {1, 0, 0}, unnumbered = {13, 0, 0};
 const struct holder holders[HOLDERS] = {{0, 1, 0}, {0, 65535, 1}, {0, 0, 2}, {0, 256, 255}, {1, 0, 0}, {13, 0, 0},

@@ -24,7 +24,8 @@ int holds_now(const char *wrong);
 int judged(uint32_t due, const char *wrong);
 int judge(struct luossavin_answer got, struct luossavin_answer due);
 
-/* Where the output or an input is not as it should be: its first `length` bytes are written, and no byte else; and inputs hold what they held. */
+/* Where the output or an input is not as it should be: its first `length` bytes are written, and no byte else; and inputs hold what they
+ * held. */
 int wrote_only(struct buffer out, size_t length);
 int kept(struct buffer input);
 
@@ -45,7 +46,7 @@ extern const struct holder holders[HOLDERS];
 void every_record(void (*what)(struct holder fields));
 
 /* Lengths of IVs, of which only 12 and 16 are ever taken. */
-enum { IVS = 9 };
+enum { IVS = 10 };
 extern const size_t iv_lengths[IVS];
 
 extern const uint8_t iv[17], label[6];
@@ -79,16 +80,20 @@ struct beside lend_beside(uint32_t mode, size_t iv, size_t label);
 void take_back(struct beside b);
 
 /* IVs of 16 bytes have so many counters before the one that is all ones, in Ctr and in Gcm, where J0's is the first
- * of them; in the other modes they are the same as in Ctr. */
+ * of them; in the other modes they are the same as in Ctr. FAR is more than a short text has. */
+enum { FAR = 1000 };
 extern uint32_t before_wrap;
 void near_wrap(uint32_t mode, uint8_t iv[16]);
 
-/* The message of a call: plain bytes; for decryption in Cbc and Gcm, where the sizes allow it, one that was sealed, whether or not the record
- * of the call could seal it. */
+/* The message of a call: plain bytes; for decryption in Cbc and Gcm, where the sizes allow it, one that was sealed, whether or not the
+ * record of the call could seal it. */
 struct buffer message(const struct whole *w, struct beside b);
 
-/* A call on a whole message or on a block, with its buffers lent. */
+/* A call on a whole message or on a block, with its buffers lent; and one that is to do the same by another name. */
+typedef struct luossavin_answer caller(const struct whole *w, struct luossavin_key key, const uint8_t *iv, const uint8_t *label,
+    const uint8_t *data, uint8_t *out);
 void try_whole(struct whole w);
+void try_whole_by(caller *call, struct whole w);
 
 /* The header's loop, in pieces of `by` bytes: of a started message, whose start answered `a`. What is written goes
  * to `out`; opening reads its tag behind the data. */

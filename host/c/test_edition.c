@@ -1,18 +1,14 @@
-/* Editions: the label, sealing, opening, and the question whether a file opens under a job and an edition, each against the rules and the single
- * calls; and the record of a call, against the model of a journal. */
+/* Editions: the label, sealing, opening, and the question whether a file opens under a job and an edition, each against the rules and the
+ * single calls; and the record of a call, against the model of a journal. */
 #include "test.h"
 
 #include "journal_model.h"
 #include "prepared.h"
-#include "wrap.h"
 
 #include <stdio.h>
 #include <string.h>
 
 enum { JOB = 7, EDITION = 2, TEXT = 40, SEALED = TEXT + 16 };
-
-/* What is asked beside encrypting and decrypting: whether it opens. */
-enum { OPENS = 2 };
 
 static void labels(void)
 {
@@ -30,76 +26,66 @@ static void labels(void)
     check(memcmp(luossavin_label(JOB, EDITION).bytes, label, 6) == 0, "the test's own", "a label", JOB);
 }
 
-/* Sealing, opening and asking. */
+/* Sealing and opening are the single calls under the label of a job and an edition, which are taken from its bytes here. */
+
+static uint32_t job_of(const uint8_t bytes[6])
+{
+    return (uint32_t)bytes[0] << 24 | (uint32_t)bytes[1] << 16 | (uint32_t)bytes[2] << 8 | bytes[3];
+}
+
+static uint16_t edition_of(const uint8_t bytes[6])
+{
+    return (uint16_t)(bytes[4] << 8 | bytes[5]);
+}
+
+static struct luossavin_answer call_edition(const struct whole *w, struct luossavin_key k, const uint8_t *under, const uint8_t *name,
+    const uint8_t *data, uint8_t *out)
+{
+    return (w->direction == ENCRYPT ? luossavin_edition_seal : luossavin_edition_open)(k, job_of(name), edition_of(name), data, w->data,
+        under, w->iv, out, w->room);
+}
+
+/* The question whether it opens is opening with room, with neither length nor counter. */
 
 static struct whole now;
-static int asked;
 
-static void describe_edition(char *words, size_t room)
+static void describe_question(char *words, size_t room)
 {
-    static const char *const does[] = {"sealing an edition", "opening an edition", "whether an edition opens"};
-    snprintf(words, room, "%s, record %u, %u, %u, iv %zu, data %zu, room %zu, tag %s", does[asked], now.key.answer, now.key.number, now.key.retired,
-        now.iv, now.data, now.room, now.wrong_tag ? "wrong" : "right");
+    snprintf(words, room, "whether an edition opens, record %u, %u, %u, iv %zu, data %zu, tag %s", now.key.answer, now.key.number,
+        now.key.retired, now.iv, now.data, now.wrong_tag ? "wrong" : "right");
 }
 
-/* What the label of the edition makes of it: the single call's answer and bytes, into as much room. */
-static const char *difference_single(const struct whole *w, struct beside b, struct buffer data, struct buffer out, struct luossavin_answer got)
+static void try_question(struct whole w)
 {
-    struct buffer again = lend(w->room, LENT);
-    struct luossavin_answer due = call_whole(w, record(w->key), b.iv.bytes, label, data.bytes, again.bytes);
-    int same;
-    if (asked == OPENS) {
-        due.length = 0;
-        due.came_round = 0;
-    }
-    same = difference(got, due) == NULL && (asked == OPENS || memcmp(again.bytes, out.bytes, w->room) == 0);
-    give_back(again);
-    return same ? NULL : "it is not the single call's";
-}
-
-/* The call: sealing, opening, or the question, which is opening with room, with neither length nor counter. */
-static void try(int does, struct whole w)
-{
-    struct beside b;
-    struct buffer data, out;
-    struct luossavin_answer due, got;
+    struct beside b = lend_beside(GCM, w.iv, sizeof label);
+    struct luossavin_answer due;
+    struct buffer data;
     w.mode = GCM;
+    w.direction = DECRYPT;
     w.label = sizeof label;
-    w.direction = does == ENCRYPT ? ENCRYPT : DECRYPT;
-    w.room = does == OPENS ? w.data : w.room;
-    b = lend_beside(GCM, w.iv, 0);
-    give_back(b.label);
-    b.label = lend(0, 0);
-    data = message(&w, (struct beside){.iv = b.iv, .label = {.bytes = (uint8_t *)label}});
-    out = lend(does == OPENS ? 0 : w.room, LENT);
-    count_from(GCM, record(w.key), b.iv.bytes, w.iv, w.from);
+    w.room = w.data;
+    data = message(&w, b);
     shut(data);
     due = answer_to(&w);
+    due.length = 0;
     now = w;
-    asked = does;
-    describe = describe_edition;
-    if (does == OPENS) {
-        due.length = 0;
-        due.came_round = 0;
-        got = luossavin_edition_opens(record(w.key), JOB, EDITION, lent(data), w.data, lent(b.iv), w.iv);
-    } else {
-        got = (does == ENCRYPT ? luossavin_edition_seal : luossavin_edition_open)(record(w.key), JOB, EDITION, lent(data), w.data,
-            lent(b.iv), w.iv, lent(out), w.room);
-    }
-    if (judge(got, due) && wrote_only(out, due.length) && !data.is_kept) {
-        holds_now(difference_single(&w, b, data, out, got));
-    }
+    describe = describe_question;
+    judge(luossavin_edition_opens(record(w.key), job_of(b.label.bytes), edition_of(b.label.bytes), lent(data), w.data, lent(b.iv), w.iv),
+        due);
     take_back(b);
     give_back(data);
-    give_back(out);
 }
 
-static void try_all(struct whole w)
+/* Each of the three, with a tag that is right and one that is not. */
+static void try_each(struct whole w)
 {
-    for (int does = ENCRYPT; does <= OPENS; does++) {
-        for (w.wrong_tag = 0; w.wrong_tag <= 1; w.wrong_tag++) {
-            try(does, w);
+    w.mode = GCM;
+    w.label = sizeof label;
+    for (w.wrong_tag = 0; w.wrong_tag <= 1; w.wrong_tag++) {
+        for (w.direction = ENCRYPT; w.direction <= DECRYPT; w.direction++) {
+            try_whole_by(call_edition, w);
         }
+        try_question(w);
     }
 }
 
@@ -108,10 +94,8 @@ static void on_record(struct holder fields)
 {
     static const size_t ivs[] = {0, 11, 12, 13, 16, 17}, sizes[] = {0, 5, 10, 15, 16, 17, 30, 43, SEALED, LIMIT + 17};
     for (size_t i = 0; i < 6 * 10; i++) {
-        struct whole w = {.key = fields, .iv = ivs[i / 10], .data = sizes[i % 10]};
-        try(OPENS, w);
-        w.wrong_tag = 1;
-        try(OPENS, w);
+        try_question((struct whole){.key = fields, .iv = ivs[i / 10], .data = sizes[i % 10]});
+        try_question((struct whole){.key = fields, .iv = ivs[i / 10], .data = sizes[i % 10], .wrong_tag = 1});
     }
 }
 
@@ -190,7 +174,8 @@ static void try_record(struct entry e, uint32_t mode, size_t call_room, uint32_t
 
 static void try_lengths(size_t label_len, size_t data, size_t iv_len, size_t output, size_t short_by)
 {
-    struct entry e = {.direction = 1, .key = NUMBER, .label.length = label_len, .data.length = data, .iv.length = iv_len, .output.length = output};
+    struct entry e = {.direction = 1, .key = NUMBER, .label.length = label_len, .data.length = data, .iv.length = iv_len,
+        .output.length = output};
     try_record(e, GCM, 99, 4, short_by);
 }
 
@@ -228,8 +213,8 @@ static void replayed(void)
     for (uint32_t mode = 0; mode <= 5; mode++) {
         for (size_t room = 0; room <= ROOM; room += 20) {
             struct luossavin_answer a = luossavin_encrypt(mode, key, label, 6, rfc_text, TEXT, iv, 16, out, room);
-            struct luossavin_answer w = luossavin_record(false, mode, NUMBER, label, 6, rfc_text, TEXT, iv, 16, room, a.number, out, a.length,
-                journal + used, sizeof journal - used);
+            struct luossavin_answer w = luossavin_record(false, mode, NUMBER, label, 6, rfc_text, TEXT, iv, 16, room, a.number, out,
+                a.length, journal + used, sizeof journal - used);
             prepared(w);
             used += w.length;
             count++;
@@ -249,10 +234,12 @@ void editions(void)
     one_edition_alone(12);
     one_edition_alone(16);
     every_record(on_record);
+    before_wrap = FAR;
     for (size_t room = 0; room <= ROOM; room++) {
-        try(ENCRYPT, (struct whole){.key = sound, .iv = 16, .data = TEXT, .room = room});
-        try(DECRYPT, (struct whole){.key = sound, .iv = 16, .data = SEALED, .room = room});
+        try_each((struct whole){.key = sound, .iv = 16, .data = TEXT, .room = room});
+        try_each((struct whole){.key = sound, .iv = 16, .data = SEALED, .room = room});
     }
+    before_wrap = 1;
     replayed();
 }
 
@@ -261,13 +248,13 @@ void editions_of_any_size(void)
     for (int i = 0; i < HOLDERS * IVS; i++) {
         for (size_t data = 0; data < 50; data += is_sparse ? 7 : 1) {
             for (size_t room = 0; room <= 70; room += 35) {
-                try_all((struct whole){.key = holders[i / IVS], .iv = iv_lengths[i % IVS], .data = data, .room = room});
+                try_each((struct whole){.key = holders[i / IVS], .iv = iv_lengths[i % IVS], .data = data, .room = room});
             }
         }
     }
     for (size_t data = LIMIT - 1; with_limits && data <= LIMIT + 18; data += data == LIMIT + 1 ? 14 : 1) {
-        try_all((struct whole){.key = holders[0], .iv = 12, .data = data, .room = LIMIT + 40});
-        try_all((struct whole){.key = holders[1], .iv = 16, .data = data, .room = data - 17});
+        try_each((struct whole){.key = holders[0], .iv = 12, .data = data, .room = LIMIT + 40});
+        try_each((struct whole){.key = holders[1], .iv = 16, .data = data, .room = data - 17});
     }
     records();
 }

@@ -1,7 +1,7 @@
-/* The engines side by side, with the same key: what a call leaves on one it leaves on the plain one, which does a block at a time, to the byte.
- * Then messages of which the gates do many blocks at once: up to 64 in groups of sixteen, and from 192 on up to 512; about the lengths where such
- * a batch begins or ends, in every mode and both ways; where a counter comes round inside one; and in pieces whose state is turned from one engine
- * to the next. */
+/* The engines side by side, with the same key: what a call leaves on one it leaves on the plain one, which does a block at a time, to the
+ * byte. Then messages of which the gates do many blocks at once: up to 64 in groups of sixteen, and from 192 on up to 512; about the
+ * lengths where such a batch begins or ends, in every mode and both ways; where a counter comes round inside one; and in pieces whose
+ * state is turned from one engine to the next. */
 #include "test.h"
 
 #include "journal_model.h"
@@ -45,8 +45,10 @@ static void blocks(void)
         uint8_t block[16];
         draw_bytes(block, 16);
         lend_both(16);
-        compare(luossavin_block_encrypt(plain, block, 16, first, 16), luossavin_block_encrypt(other, block, 16, second, 16), "a block, encrypted", i);
-        compare(luossavin_block_decrypt(plain, block, 16, first, 16), luossavin_block_decrypt(other, block, 16, second, 16), "a block, decrypted", i);
+        compare(luossavin_block_encrypt(plain, block, 16, first, 16), luossavin_block_encrypt(other, block, 16, second, 16),
+            "a block, encrypted", i);
+        compare(luossavin_block_decrypt(plain, block, 16, first, 16), luossavin_block_decrypt(other, block, 16, second, 16),
+            "a block, decrypted", i);
     }
 }
 
@@ -187,8 +189,8 @@ static void round_inside(uint32_t before, size_t n)
     both_ways(GCM, near, 16, n);
 }
 
-/* In the first group of sixteen, at an edge, in the last and behind it; and in the first column of a large batch, at an edge, in the last, and in
- * the next batch. */
+/* In the first group of sixteen, at an edge, in the last and behind it; and in the first column of a large batch, at an edge, in the last,
+ * and in the next batch. */
 static void rounds_inside(void)
 {
     static const uint32_t in_groups[] = {0, 1, 12, 13, 14, 15, 16, 17, 29, 30, 31, 32, 47, 48, 62, 63, 64, 65};

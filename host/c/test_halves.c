@@ -70,8 +70,8 @@ static void joins(element h, element first, element second, uint64_t n, element 
     is(luossavin_hash_join(value_of(h), value_of(first), value_of(second), n), due);
 }
 
-/* Every length up to some blocks; about those from which on eight hashes are interleaved and then sixteen, with every rest of blocks behind their
- * sets; and a long one. */
+/* Every length up to some blocks; about those from which on eight hashes are interleaved and then sixteen, with every rest of blocks
+ * behind their sets; and a long one. */
 static void blocks(element h)
 {
     static const size_t edges[] = {256, 1536};

@@ -1,7 +1,8 @@
-/* Journals: one that is written down byte for byte, with RFC 8998's vector in it; every mode both ways and every answer; rooms, modes, directions
- * and marks; each set of records that differ; every byte another; every cut; lengths, and parts at their limits; numbers of keys, and what keys may
- * be; every refusal with every later one there as well; journals that are joined, and that are drawn, in order and damaged; and one of more than
- * 4 GiB. All but the one that is written down and the last are held to journal_model.c, and most to what the test knows besides. */
+/* Journals: one that is written down byte for byte, with RFC 8998's vector in it; every mode both ways and every answer; rooms, modes,
+ * directions and marks; each set of records that differ; every byte another; every cut; lengths, and parts at their limits; numbers of
+ * keys, and what keys may be; every refusal with every later one there as well; journals that are joined, and that are drawn, in order and
+ * damaged; and one of more than 4 GiB. All but the one that is written down and the last are held to journal_model.c, and most to what the
+ * test knows besides. */
 #define _GNU_SOURCE
 
 #include "test.h"
@@ -373,7 +374,8 @@ static void refused_otherwise(void)
     }
 }
 
-/* Every byte of six calls another, each bit and some values, in a journal that ends with its last record and in one that has a byte more. */
+/* Every byte of six calls another, each bit and some values, in a journal that ends with its last record and in one that has a byte more.
+ * */
 static void every_byte(void)
 {
     static const uint8_t by[] = {1, 2, 4, 8, 16, 32, 64, 128, 0xff, 0x06, 0x1c};
@@ -422,12 +424,12 @@ static void put_length(size_t at, uint32_t n)
     }
 }
 
-/* The four lengths and the room of the second of three calls, and of the second of two, which is the last, say all about what is left, and what
- * would say the same in fewer bytes or once a sum came round. */
+/* The four lengths and the room of the second of three calls, and of the second of two, which is the last, say all about what is left, and
+ * what would say the same in fewer bytes or once a sum came round. */
 static void lengths(void)
 {
-    static const uint32_t fronts[] = {0, 0x20, 0x40, 0x60, 0x100, 0xff00, 0x10000, 0x01000000, 0x7ffffff0, 0x80000000, 0xee6b2800, 0xff000000,
-        0xffff0000, 0xffffff80, 0xffffffa0, 0xffffffc0, 0xffffffe0};
+    static const uint32_t fronts[] = {0, 0x20, 0x40, 0x60, 0x100, 0xff00, 0x10000, 0x01000000, 0x7ffffff0, 0x80000000, 0xee6b2800,
+        0xff000000, 0xffff0000, 0xffffff80, 0xffffffa0, 0xffffffc0, 0xffffffe0};
     enum { ROOM_FIELD = 3, FIELDS = 5, SAID = 32 * sizeof fronts / sizeof *fronts };
     static const size_t right[FIELDS] = {sizeof label, 4, 16, 100, 4}, fields[FIELDS] = {6, 16, 24, 44, 49};
     give_keys(1);
@@ -607,7 +609,8 @@ static void bad_keys(void)
 /* Records of every kind as the first two keys, and counts that are none. */
 static void key_rings(void)
 {
-    static const size_t counts[] = {0, 1, 2, 7, 8, 9, 10, 256, (size_t)1 << 32, ((size_t)1 << 32) + 1, SIZE_MAX / 2 + 1, SIZE_MAX - 1, SIZE_MAX};
+    static const size_t counts[] = {0, 1, 2, 7, 8, 9, 10, 256, (size_t)1 << 32, ((size_t)1 << 32) + 1, SIZE_MAX / 2 + 1, SIZE_MAX - 1,
+        SIZE_MAX};
     size_t places[SIX + 1];
     give_keys(1);
     write_six(places);
@@ -662,7 +665,8 @@ enum { NO_PART, LABEL, DATA, IV, OUTPUT, PARTS };
 static size_t write_wrong(int wrong, int part, int unknown)
 {
     size_t place;
-    struct entry e = long_call(200, PART_LIMIT + (part == LABEL), PART_LIMIT + (part == DATA), PART_LIMIT + (part == IV), OUTPUT_LIMIT + (part == OUTPUT));
+    struct entry e = long_call(200, PART_LIMIT + (part == LABEL), PART_LIMIT + (part == DATA), PART_LIMIT + (part == IV),
+        OUTPUT_LIMIT + (part == OUTPUT));
     size = 0;
     write_answered(call(ENCRYPT, CFB, 5));
     add(otherwise(answered_on(call(ENCRYPT, CBC, 6), key), BYTE_OTHER));

@@ -129,7 +129,8 @@ static void try_record(struct holder fields)
 
 void keys_of_any_size(void)
 {
-    static const uint32_t numbers[] = {0, 1, 2, 255, 256, 65534, 65535, 65536, 65537, 131072, 0x7fffffff, 0x80000000, 0xffff0001, 0xffffffff};
+    static const uint32_t numbers[] = {0, 1, 2, 255, 256, 65534, 65535, 65536, 65537, 131072, 0x7fffffff, 0x80000000, 0xffff0001,
+        0xffffffff};
     static const uint32_t answers[] = {0, 1, 13, 2, 7, 12, 14, 255, 256, 13 << 8, 65536, 0x80000000, 0xffffffff};
     for (size_t i = 0; i < sizeof numbers / sizeof *numbers; i++) {
         for (size_t bytes = 0; bytes <= 40; bytes++) {

@@ -1,6 +1,6 @@
-/* Messages in pieces: the header's loop, the three kinds against the single call, each refusal and which comes first; every record, size and
- * room of a start, a piece and an end; states that are none, that have ended, that stand at the limit, or that say other counters. A state must
- * be the one before it after every refusal. */
+/* Messages in pieces: the header's loop, the three kinds against the single call, each refusal and which comes first; every record, size
+ * and room of a start, a piece and an end; states that are none, that have ended, that stand at the limit, or that say other counters. A
+ * state must be the one before it after every refusal. */
 #include "test.h"
 
 #include "prepared.h"
@@ -17,7 +17,8 @@ static size_t before_now;
 static void describe_part(char *words, size_t room)
 {
     static const char *const steps[] = {"start", "piece", "end"};
-    int n = snprintf(words, room, "%s, %s, record %u, %u, %u, %s, iv %zu, label %zu, before %zu, total %zu, stands %u, key %u, data %zu, room %zu, "
+    int n = snprintf(words, room,
+        "%s, %s, record %u, %u, %u, %s, iv %zu, label %zu, before %zu, total %zu, stands %u, key %u, data %zu, room %zu, "
         "tag %s, counted from ", kind_names[now.kind], steps[now.step], now.key.answer, now.key.number, now.key.retired,
         now.decrypt ? "decrypt" : "encrypt", now.iv, now.label, before_now, now.total, now.stands, now.number, now.data, now.room,
         now.wrong_tag ? "wrong" : "right");
@@ -104,20 +105,6 @@ static void rfc_8998_by(size_t by)
     check(go_by(by, a, &s, rfc_sealed, 64, NULL, 0).number == 4, "a shorter label", "RFC 8998 in pieces", by);
 }
 
-/* A copy goes on as the state that it was, whatever has come of the other since. */
-static void older_copy(void)
-{
-    struct luossavin_seal state = luossavin_seal_start(key, label, sizeof label, iv, 16).state, copy;
-    uint8_t first[32], again[32];
-    prepared(luossavin_seal_add(&state, rfc_text, 5, first, 32));
-    copy = state;
-    prepared(luossavin_seal_add(&state, rfc_text + 5, 12, first, 32));
-    prepared(luossavin_seal_finish(&state, first + 12, 16));
-    check(done(luossavin_seal_add(&copy, rfc_text + 5, 12, again, 32), 12), "it is done", "an older copy", 12);
-    check(done(luossavin_seal_finish(&copy, again + 12, 16), 16), "its end is done", "an older copy", 16);
-    check(memcmp(first, again, 28) == 0, "the bytes are the same", "an older copy", 28);
-}
-
 /* Steps that follow one another in one variable, which is then read for a call and written by it. */
 static void one_variable(void)
 {
@@ -154,7 +141,8 @@ static int in_order(struct luossavin_answer a, struct luossavin_answer due, cons
     return judge(a, due) && holds_now(state_is_due(&now, due, before, after) ? NULL : "its state");
 }
 
-/* What is in the place of a state where a start was refused, and the state after an end, answer that again whatever they are given, and stay. */
+/* What is in the place of a state where a start was refused, and the state after an end, answer that again whatever they are given, and
+ * stay. */
 static void answers_again(struct state *s, uint32_t number, uint16_t key_number)
 {
     const struct luossavin_answer due = {.number = number, .key = key_number};
@@ -204,8 +192,9 @@ static void written_starts(void)
 {
     enum { ANY = KINDS, OVER = LIMIT + 1 };
     static const struct { unsigned kind; struct holder key; int decrypt; size_t iv, label; uint32_t number; } rows[] = {
-        {ANY, {1, 0, 0}, 0, 16, 6, 1}, {ANY, {1, 0, 0}, 0, 13, OVER, 1}, {ANY, {13, 0, 0}, 0, 16, 6, 13}, {ANY, {13, 0, 0}, 0, 13, OVER, 13},
-        {ANY, {0, NUMBER, 0}, 0, 13, 6, 10}, {ANY, {0, NUMBER, 0}, 0, 0, OVER, 10}, {ANY, {0, NUMBER, 1}, 0, 17, OVER, 10},
+        {ANY, {1, 0, 0}, 0, 16, 6, 1}, {ANY, {1, 0, 0}, 0, 13, OVER, 1}, {ANY, {13, 0, 0}, 0, 16, 6, 13},
+        {ANY, {13, 0, 0}, 0, 13, OVER, 13}, {ANY, {0, NUMBER, 0}, 0, 13, 6, 10}, {ANY, {0, NUMBER, 0}, 0, 0, OVER, 10},
+        {ANY, {0, NUMBER, 1}, 0, 17, OVER, 10},
         {COUNTING, {0, NUMBER, 0}, 0, 12, 0, 10}, {COUNTING, {0, NUMBER, 0}, 1, 12, 0, 10}, {COUNTING, {0, NUMBER, 1}, 0, 12, 0, 10},
         {COUNTING, {0, NUMBER, 1}, 0, 16, 0, 14}, {COUNTING, {0, NUMBER, 1}, 1, 16, 0, 0}, {SEALING, {0, NUMBER, 1}, 0, 13, 6, 10},
         {SEALING, {0, NUMBER, 1}, 0, 12, 6, 14}, {SEALING, {0, NUMBER, 1}, 0, 16, OVER, 14}, {SEALING, {0, NUMBER, 1}, 0, 12, OVER, 14},
@@ -227,7 +216,8 @@ static void on_record(struct holder fields)
 {
     static const size_t labels[] = {0, 1, 6, 15, 16, 17, 33, LIMIT + 1};
     for (int i = 0; i < 3 * 2 * IVS * 8; i++) {
-        struct part p = {.kind = (enum kind)(i % 3), .key = fields, .decrypt = i / 3 % 2, .iv = iv_lengths[i / 6 % IVS], .label = labels[i / 6 / IVS]};
+        struct part p = {.kind = (enum kind)(i % 3), .key = fields, .decrypt = i / 3 % 2, .iv = iv_lengths[i / 6 % IVS],
+            .label = labels[i / 6 / IVS]};
         try_start(p);
     }
 }
@@ -241,7 +231,6 @@ void pieces(void)
         }
         rfc_8998_by(by[i]);
     }
-    older_copy();
     one_variable();
     to_the_limit();
     written_starts();
@@ -276,8 +265,8 @@ static void begin(enum kind kind, size_t before, struct state *s)
     prepared(call_piece(s, kind == OPENING ? sealed : text, before, out, sizeof out));
 }
 
-/* A state is a value, so the one before a call serves many. Its counters stay the message's own unless the call is to
- * find others. */
+/* A state is a value, so the one before a call serves many, whatever has come of the others since. Its counters stay the message's own
+ * unless the call is to find others. */
 static void prepare(const struct part *p, size_t before, struct state *s)
 {
     static struct state begun;
@@ -446,7 +435,8 @@ static void forged_counters(enum kind kind)
 /* Real lengths: a label, a piece and a message at the limit and one over it. */
 static void limits(enum kind kind)
 {
-    const struct { int holder; size_t iv, label; } starting[] = {{0, 16, LIMIT}, {0, 16, LIMIT + 1}, {1, 16, LIMIT + 1}, {1, 13, LIMIT + 1}};
+    const struct { int holder; size_t iv, label; } starting[] = {{0, 16, LIMIT}, {0, 16, LIMIT + 1}, {1, 16, LIMIT + 1},
+        {1, 13, LIMIT + 1}};
     const struct { size_t total, data, room; } rows[] = {{16, LIMIT - 16, LIMIT - 16}, {17, LIMIT - 16, LIMIT - 16}, {17, LIMIT - 16, 0},
         {0, LIMIT + 1, 0}, {LIMIT, 0, 0}, {LIMIT, 1, 0}};
     struct part p;

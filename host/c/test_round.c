@@ -173,7 +173,8 @@ static void wrong_tags(void)
 {
     uint8_t under[16], sealed[ROOM], *out = lend_again(one);
     iv_near(GCM, 0, under);
-    check(says(luossavin_encrypt(GCM, key, label, sizeof label, rfc_text, 48, under, 16, sealed, ROOM), 64, 1), "a message that comes round", "Gcm", 48);
+    check(says(luossavin_encrypt(GCM, key, label, sizeof label, rfc_text, 48, under, 16, sealed, ROOM), 64, 1),
+        "a message that comes round", "Gcm", 48);
     for (size_t bit = 0; bit < 8 * 64; bit++) {
         sealed[bit / 8] ^= (uint8_t)(1 << bit % 8);
         refused(luossavin_decrypt(GCM, key, label, sizeof label, sealed, 64, under, 16, out, ROOM), 4, "coming round, and another bit");

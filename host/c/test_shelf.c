@@ -1,7 +1,7 @@
-/* A shelf: the header's example, and shelves written down byte for byte; what a record's bytes may be; every refusal with every later one there as
- * well; all short sequences of calls on small buffers; shelves that are drawn, in order and damaged; used counts, marks, lengths and files of any
- * kind; and as many records as fit, on which each call has its time. All but the first two are held to shelf_model.c, the whole buffer among
- * them. */
+/* A shelf: the header's example, and shelves written down byte for byte; what a record's bytes may be; every refusal with every later one
+ * there as well; all short sequences of calls on small buffers; shelves that are drawn, in order and damaged; used counts, marks, lengths
+ * and files of any kind; and as many records as fit, on which each call has its time. All but the first two are held to shelf_model.c, the
+ * whole buffer among them. */
 #define _DEFAULT_SOURCE
 
 #include "test.h"
@@ -122,8 +122,8 @@ static int is_timed;
 
 static void describe_shelf(char *words, size_t room)
 {
-    int n = snprintf(words, room, "%s, job %u, edition %u, %zu bytes, buffer %zu, used %zu; it holds", shelving_names[now.does], now.job, now.edition,
-        now.sealed_len, now.size, now.used);
+    int n = snprintf(words, room, "%s, job %u, edition %u, %zu bytes, buffer %zu, used %zu; it holds", shelving_names[now.does], now.job,
+        now.edition, now.sealed_len, now.size, now.used);
     for (size_t i = 0; i < now.used && i < now.size && i < 60; i++) {
         n += snprintf(words + n, room - (size_t)n, "%s%02x", i % 4 ? "" : " ", bytes_now[i]);
     }
@@ -157,8 +157,9 @@ static struct shelf_answer ask(struct shelf_call c, const uint8_t *before)
         holds_now(clock() - start <= CLOCKS_PER_SEC ? NULL : "it takes more than a second");
     }
     if (judged(due.number, difference_shelf(got, due))) {
-        holds_now(memcmp(shelf.bytes, shelf_after, c.size) != 0 ? "the buffer" : !untouched(shelf, c.size) ? "it writes outside of the buffer"
-            : c.sealed_len != 0 && memcmp(sealed.bytes, now.sealed, c.sealed_len) != 0 ? "it changes an input" : NULL);
+        holds_now(memcmp(shelf.bytes, shelf_after, c.size) == 0 ? NULL : "the buffer");
+        wrote_only(shelf, c.size);
+        holds_now(c.sealed_len == 0 || memcmp(sealed.bytes, now.sealed, c.sealed_len) == 0 ? NULL : "it changes an input");
     }
     give_back(shelf);
     give_back(sealed);
@@ -264,8 +265,8 @@ static void marks(void)
     check(known == 4, "how many marks are known", "every mark", known);
 }
 
-/* The last record says any length, in a buffer that is full or has more: those about what is left, and those of which some bytes, or the sum,
- * would say the same. */
+/* The last record says any length, in a buffer that is full or has more: those about what is left, and those of which some bytes, or the
+ * sum, would say the same. */
 static void lengths(void)
 {
     static const uint32_t fronts[] = {0, 0x100, 0xff00, 0x10000, 0x01000000, 0x7ffffff0, 0x80000000, 0xff000000, 0xffff0000, 0xffffffe0};
@@ -394,7 +395,8 @@ static void sizes(void)
 /* Buffers and files whose lengths are small in 32 bits. They are pages that may be read, and not written. */
 static void long_ones(void)
 {
-    static const char *const where[] = {"putting on a buffer of over 4 GiB", "collecting a buffer of over 4 GiB", "looking up in a buffer of over 4 GiB"};
+    static const char *const where[] = {"putting on a buffer of over 4 GiB", "collecting a buffer of over 4 GiB",
+        "looking up in a buffer of over 4 GiB"};
     size_t over = (size_t)1 << 32, most = over + 60;
     uint8_t *pages = mmap(NULL, most, PROT_READ, MAP_PRIVATE | MAP_ANONYMOUS | MAP_NORESERVE, -1, 0), small[60] = {0};
     if (pages == MAP_FAILED) {

@@ -1,6 +1,6 @@
-/* The stack: how much of it a call takes, and what of a key is left there and wiped. Each call runs on a stack of its own, all of which holds one
- * byte before; what holds another afterwards was taken. The header says how much that is at most. Then round keys and the states' secrets are marked
- * words, which the stack is looked through for. And versions and names. */
+/* The stack: how much of it a call takes, and what of a key is left there and wiped. Each call runs on a stack of its own, all of which
+ * holds one byte before; what holds another afterwards was taken. The header says how much that is at most. Then round keys and the
+ * states' secrets are marked words, which the stack is looked through for. And versions and names. */
 #define _GNU_SOURCE
 
 #include "test.h"

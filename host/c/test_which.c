@@ -1,5 +1,5 @@
-/* Which of many labels a file opens under: the header's example, found at every place and not at all, empty and equal labels, every refusal with
- * every later one there as well, answers against the single call; and lists, sizes, records and limits of every kind. */
+/* Which of many labels a file opens under: the header's example, found at every place and not at all, empty and equal labels, every
+ * refusal with every later one there as well, answers against the single call; and lists, sizes, records and limits of every kind. */
 #include "test.h"
 
 #include "prepared.h"
@@ -18,8 +18,9 @@ static struct search now;
 
 static void describe_search(char *words, size_t room)
 {
-    snprintf(words, room, "which label, record %u, %u, %u, iv %zu, file %zu, %zu labels of %zu bytes, %s %zu bytes", now.key.answer, now.key.number,
-        now.key.retired, now.iv, now.file, now.count, now.labels_len, now.spoiled ? "spoiled, under" : "sealed under", now.under_len);
+    snprintf(words, room, "which label, record %u, %u, %u, iv %zu, file %zu, %zu labels of %zu bytes, %s %zu bytes", now.key.answer,
+        now.key.number, now.key.retired, now.iv, now.file, now.count, now.labels_len, now.spoiled ? "spoiled, under" : "sealed under",
+        now.under_len);
 }
 
 /* A question without candidates, of a file that opens under no label yet. */
@@ -84,8 +85,8 @@ static struct luossavin_found ask(struct search s)
     got = call_search(&s, record(s.key), lent(lent_file), lent(lent_iv));
     wrong = difference_found(got, due);
     if (judge(got.answer, due.answer) && holds_now(wrong)) {
-        holds_now(is_copy(lent_labels, labels) && is_copy(lent_lengths, lengths) && is_copy(lent_file, file) && is_copy(lent_iv, nonce) ? NULL
-            : "it changes an input");
+        holds_now(is_copy(lent_labels, labels) && is_copy(lent_lengths, lengths) && is_copy(lent_file, file) && is_copy(lent_iv, nonce)
+            ? NULL : "it changes an input");
     }
     give_back(lent_labels);
     give_back(lent_lengths);

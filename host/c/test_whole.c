@@ -1,5 +1,5 @@
-/* Calls on blocks and on whole messages: every mode there and back, RFC 8998, each refusal and which comes first, every record, and every size,
- * room and limit. */
+/* Calls on blocks and on whole messages: every mode there and back, RFC 8998, each refusal and which comes first, every record, and every
+ * size, room and limit. */
 #include "test.h"
 
 #include "wrap.h"
@@ -13,7 +13,8 @@ static struct whole now;
 
 static void describe_whole(char *words, size_t room)
 {
-    int n = snprintf(words, room, "%s %u, %s, record %u, %u, %u, iv %zu, label %zu, data %zu, room %zu, tag %s, last block and counted from ",
+    int n = snprintf(words, room,
+        "%s %u, %s, record %u, %u, %u, iv %zu, label %zu, data %zu, room %zu, tag %s, last block and counted from ",
         now.is_block ? "block" : "mode", now.mode, now.direction == ENCRYPT ? "encrypt" : "decrypt", now.key.answer, now.key.number,
         now.key.retired, now.iv, now.label, now.data, now.room, now.wrong_tag ? "wrong" : "right");
     for (int i = 0; i < 32; i++) {
@@ -91,8 +92,8 @@ static int is_sealed_text(const struct whole *w, uint8_t *bytes, size_t length)
     return holds_fill((struct buffer){.bytes = bytes, .length = front}) && memcmp(bytes + front, w->last, length - front) == 0;
 }
 
-/* Whether a call that is done gave what the same call on the key itself gives in plain memory with room to spare, and what the call back makes its
- * data of again; of a message that was sealed that is its text. */
+/* Whether a call that is done gave what the same call on the key itself gives in plain memory with room to spare, and what the call back
+ * makes its data of again; of a text that is something else, and of a message that was sealed the text. */
 static int result_is(const struct whole *w, struct beside b, struct buffer data, struct buffer out, struct luossavin_answer due)
 {
     struct whole roomy = *w, back = *w;
@@ -108,6 +109,7 @@ static int result_is(const struct whole *w, struct beside b, struct buffer data,
     back.data = due.length;
     a = call_whole(&back, record(sound), b.iv.bytes, b.label.bytes, out.bytes, again);
     same &= a.number == 0 && a.length == w->data && memcmp(again, data.bytes, w->data) == 0;
+    same &= w->direction == DECRYPT || w->data < 16 || memcmp(out.bytes, data.bytes, w->data) != 0;
     if (w->direction == DECRYPT && !w->is_block && w->mode >= CBC) {
         same &= is_sealed_text(w, out.bytes, due.length);
     }
@@ -116,6 +118,11 @@ static int result_is(const struct whole *w, struct beside b, struct buffer data,
 }
 
 void try_whole(struct whole w)
+{
+    try_whole_by(call_whole, w);
+}
+
+void try_whole_by(caller *call, struct whole w)
 {
     struct luossavin_answer due;
     struct beside b = lend_beside(w.mode, w.iv, w.label);
@@ -128,7 +135,7 @@ void try_whole(struct whole w)
     describe = describe_whole;
     memcpy(before, data.bytes, looked_at);
     shut(data);
-    if (judge(call_whole(&w, record(w.key), lent(b.iv), lent(b.label), lent(data), lent(out)), due) && wrote_only(out, due.length)) {
+    if (judge(call(&w, record(w.key), lent(b.iv), lent(b.label), lent(data), lent(out)), due) && wrote_only(out, due.length)) {
         holds_now(due.number != 0 || result_is(&w, b, data, out, due) ? NULL : "its output goes by more than its inputs");
         holds_now(memcmp(before, data.bytes, looked_at) == 0 ? NULL : "it changes an input");
     }
@@ -138,25 +145,7 @@ void try_whole(struct whole w)
     free(before);
 }
 
-/* There and back. */
-
-static void there_and_back(size_t iv_len, uint32_t mode, size_t n)
-{
-    static const char *const modes[] = {"Cfb", "Ofb", "Ctr", "Cbc", "Gcm"};
-    const struct whole w = {.mode = mode, .data = n};
-    struct buffer text = lend_input(n, n);
-    uint8_t *there = lend_again(one), *back = lend_again(two);
-    shut(text);
-    struct luossavin_answer a = luossavin_encrypt(mode, key, label, sizeof label, lent(text), n, iv, iv_len, there, ROOM);
-    check(done(a, room_needed(&w)), "encryption is done", modes[mode], n);
-    check(untouched(one, a.length), "encryption keeps to its length", modes[mode], n);
-    check(n < 16 || memcmp(there, text.bytes, n) != 0, "encryption changes the text", modes[mode], n);
-    a = luossavin_decrypt(mode, key, label, sizeof label, there, a.length, iv, iv_len, back, ROOM);
-    check(done(a, n), "decryption is done", modes[mode], n);
-    check(untouched(two, a.length), "decryption keeps to its length", modes[mode], n);
-    check(memcmp(back, text.bytes, n) == 0, "the text comes back", modes[mode], n);
-    give_back(text);
-}
+/* By hand. */
 
 static void single_block(void)
 {
@@ -189,8 +178,8 @@ const uint8_t rfc_sealed[80] = {0x17, 0xf3, 0x99, 0xf0, 0x8c, 0x67, 0xd5, 0xee, 
 
 static struct luossavin_answer rfc_decrypt(const uint8_t *aad, size_t aad_len, const uint8_t *nonce, size_t nonce_len, uint8_t *out)
 {
-    return luossavin_decrypt(GCM, luossavin_key_new(rfc_key, 16, NUMBER), aad, aad_len, rfc_sealed, sizeof rfc_sealed, nonce, nonce_len, out,
-        ROOM);
+    return luossavin_decrypt(GCM, luossavin_key_new(rfc_key, 16, NUMBER), aad, aad_len, rfc_sealed, sizeof rfc_sealed, nonce, nonce_len,
+        out, ROOM);
 }
 
 static void rfc_8998(void)
@@ -223,8 +212,8 @@ static void rfc_8998_otherwise(void)
     refused(rfc_decrypt(rfc_label, 20, extended, 16, out), 4, "RFC 8998, the IV with 00000001 after it");
 }
 
-/* Refusals whose numbers are written down here, so that the rules are held to them as well. A retired key comes behind mode, key, number and
- * IV, or the block's length, and before all else. */
+/* Refusals whose numbers are written down here, so that the rules are held to them as well. A retired key comes behind mode, key, number
+ * and IV, or the block's length, and before all else. */
 
 enum { OVER = LIMIT + 1 };
 static const struct {
@@ -380,9 +369,9 @@ static void on_record(struct holder fields)
     }
 }
 
-/* Cbc's padding, by numbers that are written down: each bit changed of every byte of the last block but the last one, for every count; every last
- * byte behind fifteen that are 0, and behind fifteen that are the same. Under a key and a
- * retired one; with room for one byte less the answer is 6. */
+/* Cbc's padding, by numbers that are written down: each bit changed of every byte of the last block but the last one, for every count;
+ * every last byte behind fifteen that are 0, and behind fifteen that are the same. Under a key and a retired one; with room for one byte
+ * less the answer is 6. */
 
 static void try_padding(size_t blocks, const uint8_t last[16], uint32_t number)
 {
@@ -428,12 +417,18 @@ void paddings(void)
 
 void whole_messages(void)
 {
-    for (size_t n = 0; n <= 40; n++) {
-        for (uint32_t mode = CFB; mode <= GCM; mode++) {
-            there_and_back(16, mode, n);
-        }
-        there_and_back(12, GCM, n);
+    /* every mode there and back, Gcm under both lengths of IV, where no counter comes round */
+    before_wrap = FAR;
+    for (int i = 0; i < 41 * 6; i++) {
+        struct whole w = {.mode = i % 6 < 5 ? (uint32_t)(i % 6) : GCM, .key = sound, .iv = i % 6 < 5 ? 16 : 12, .label = sizeof label,
+            .data = (size_t)i / 6, .room = ROOM};
+        try_whole(w);
+        pad(w.last, (uint8_t)(16 - w.data % 16));
+        w.data = room_needed(&w);
+        w.direction = DECRYPT;
+        try_whole(w);
     }
+    before_wrap = 1;
     single_block();
     rfc_8998();
     rfc_8998_otherwise();
@@ -541,8 +536,8 @@ static void bad_modes(void)
 static void limits(uint32_t mode, int direction)
 {
     size_t most = direction == DECRYPT && (mode == CBC || mode == GCM) ? LIMIT + 16 : LIMIT;
-    /* a retired key does not encrypt, and that comes before the limit; the label comes before data that is too short, and the IV before both;
-     * Gcm takes one of 12 bytes */
+    /* a retired key does not encrypt, and that comes before the limit; the label comes before data that is too short, and the IV before
+     * both; Gcm takes one of 12 bytes */
     const struct { int holder; size_t iv, label, data, room; } rows[] = {
         {0, 16, 5, most + 1, most + 100}, {0, 16, 5, most + 1, 0}, {0, 17, 5, most + 1, 0}, {1, 16, 5, most + 1, 0}, {1, 16, 5, most, 0},
         {1, 16, OVER, 48, 0}, {0, 16, 5, most + 16, most + 100}, {0, 16, LIMIT, 48, most + 100}, {0, 16, OVER, 48, most + 100},

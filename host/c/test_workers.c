@@ -1,6 +1,6 @@
-/* One Ctr message among several workers: ranges from any byte on against that stretch of the single call, also where a counter comes round; what
- * the planner makes; plans that are accepted, and every way to break one; work by a plan, and its ranges in any order, against the single call;
- * every refusal with every later one there as well; and every record, size, offset, room and plan. */
+/* One Ctr message among several workers: ranges from any byte on against that stretch of the single call, also where a counter comes
+ * round; what the planner makes; plans that are accepted, and every way to break one; work by a plan, and its ranges in any order, against
+ * the single call; every refusal with every later one there as well; and every record, size, offset, room and plan. */
 #include "test.h"
 
 #include "wrap.h"
@@ -39,8 +39,10 @@ static void make_whole(const uint8_t iv[16], size_t n, int round)
 static void try(struct stretch s, int back)
 {
     struct luossavin_answer due = answer_to_stretch(&s);
-    const uint8_t *from = (back ? whole : text) + (due.number == 0 ? s.offset : 0), *to = (back ? text : whole) + (due.number == 0 ? s.offset : 0);
-    struct buffer lent_iv = lend_input(s.iv, s.iv), data = lend_input(s.data, due.number == 0 ? LIMIT : LIMIT / 2), out = lend(s.room, LENT);
+    const uint8_t *from = (back ? whole : text) + (due.number == 0 ? s.offset : 0),
+        *to = (back ? text : whole) + (due.number == 0 ? s.offset : 0);
+    struct buffer lent_iv = lend_input(s.iv, s.iv), data = lend_input(s.data, due.number == 0 ? LIMIT : LIMIT / 2), out = lend(s.room,
+        LENT);
     memcpy(lent_iv.bytes, under, s.iv);
     shut(lent_iv);
     if (due.number == 0) {
@@ -54,8 +56,8 @@ static void try(struct stretch s, int back)
     }
     if (judge(call_stretch(&s, record(s.key), lent(lent_iv), lent(data), lent(out)), due) && wrote_only(out, due.length)) {
         holds_now(memcmp(out.bytes, to, due.length) == 0 ? NULL : "its output is not the single call's");
-        holds_now((due.number == 0 ? memcmp(data.bytes, from, s.data) == 0 : holds_fill(data)) && memcmp(lent_iv.bytes, under, s.iv) == 0 ? NULL
-            : "it changes an input");
+        holds_now((due.number == 0 ? memcmp(data.bytes, from, s.data) == 0 : holds_fill(data)) && memcmp(lent_iv.bytes, under, s.iv) == 0
+            ? NULL : "it changes an input");
     }
     give_back(lent_iv);
     give_back(data);
@@ -101,14 +103,15 @@ static void ranges(void)
 /* Offsets at the limit, and those whose sum with the length would come round, into room and into none. */
 static void edges(void)
 {
-    static const size_t offsets[] = {LIMIT - 257, LIMIT - 256, LIMIT - 33, LIMIT - 17, LIMIT - 16, LIMIT - 15, LIMIT - 1, LIMIT, LIMIT + 1, 65536,
-        65535, 4096 - 1, 1048576 + 5, LIMIT / 2 - 3, LIMIT / 2 + 16, LIMIT + 1, LIMIT + 16, (size_t)1 << 32, SIZE_MAX / 2, SIZE_MAX / 2 + 1,
-        SIZE_MAX - 16, SIZE_MAX - 15, SIZE_MAX - 1, SIZE_MAX};
+    static const size_t offsets[] = {LIMIT - 257, LIMIT - 256, LIMIT - 33, LIMIT - 17, LIMIT - 16, LIMIT - 15, LIMIT - 1, LIMIT,
+        LIMIT + 1, 65536, 65535, 4096 - 1, 1048576 + 5, LIMIT / 2 - 3, LIMIT / 2 + 16, LIMIT + 1, LIMIT + 16, (size_t)1 << 32,
+        SIZE_MAX / 2, SIZE_MAX / 2 + 1, SIZE_MAX - 16, SIZE_MAX - 15, SIZE_MAX - 1, SIZE_MAX};
     struct stretch s;
     for (size_t i = 0; i < sizeof offsets / sizeof *offsets; i++) {
         for (size_t n = 0; n <= 34; n++) {
             s = in_order(offsets[i], n);
-            check((answer_to_stretch(&s).number == 5) == (offsets[i] > LIMIT || offsets[i] + n > LIMIT), "5", "an offset past the limit", i);
+            check((answer_to_stretch(&s).number == 5) == (offsets[i] > LIMIT || offsets[i] + n > LIMIT), "5", "an offset past the limit",
+                i);
             for (int way = 0; way < 4; way++) {
                 s.decrypt = way % 2;
                 s.room = way < 2 ? n : 0;
@@ -146,14 +149,9 @@ static int accepts(const struct luossavin_plan *p, size_t n, const char *what)
     return yes;
 }
 
-static void is_yes(const struct luossavin_plan *p, size_t n, const char *what)
+static void is(int yes, const struct luossavin_plan *p, size_t n, const char *what)
 {
-    check(accepts(p, n, what), what, "it is accepted", n);
-}
-
-static void is_no(const struct luossavin_plan *p, size_t n, const char *what)
-{
-    check(!accepts(p, n, what), what, "it is not accepted", n);
+    check(accepts(p, n, what) == yes, what, yes ? "it is accepted" : "it is not accepted", n);
 }
 
 static const size_t planned_sizes[] = {0, 1, 15, 16, 17, 100, 1000, 1023, 1024, 1025, 65536 + 5, LIMIT - 1, LIMIT};
@@ -177,9 +175,9 @@ static void planner(void)
             size_t n = planned_sizes[i];
             struct luossavin_plan p = is_made(n, w, 0);
             check(p.count <= w, "no more pieces than workers", "the planner", w);
-            is_yes(&p, n, "the planner's");
-            is_no(&p, n + 1, "the planner's, for a byte more");
-            is_no(&p, n - 1, "the planner's, for a byte less");
+            is(1, &p, n, "the planner's");
+            is(0, &p, n + 1, "the planner's, for a byte more");
+            is(0, &p, n - 1, "the planner's, for a byte less");
         }
         for (size_t i = 0; i < 4; i++) {
             is_made(over[i], w, 5);
@@ -208,24 +206,24 @@ static void broken(const struct luossavin_plan *p, size_t n, const char *what)
 {
     static const size_t by[] = {1, 15, 16, 32, (size_t)1 << 63, -(size_t)1, -(size_t)15, -(size_t)16, -(size_t)32};
     struct luossavin_plan other = *p;
-    is_yes(p, n, what);
+    is(1, p, n, what);
     for (size_t j = 0; j < sizeof by / sizeof *by; j++) {
-        is_no(p, n + by[j], what);
+        is(0, p, n + by[j], what);
         for (size_t i = 0; i < p->count; i++) {
             other.starts[i] += by[j];
-            is_no(&other, n, what);
-            is_no(&other, n + by[j], what);
+            is(0, &other, n, what);
+            is(0, &other, n + by[j], what);
             other.lengths[i] -= by[j];
-            is_no(&other, n, what);
+            is(0, &other, n, what);
             other = *p;
             other.lengths[i] += by[j];
-            is_no(&other, n, what);
+            is(0, &other, n, what);
             accepts(&other, n + by[j], what);
             /* and the starts behind it as well: a piece that is longer, and no gap or overlap */
             for (size_t k = i + 1; k < p->count; k++) {
                 other.starts[k] += by[j];
             }
-            is_no(&other, n, what);
+            is(0, &other, n, what);
             accepts(&other, n + by[j], what);
             other = *p;
         }
@@ -235,14 +233,14 @@ static void broken(const struct luossavin_plan *p, size_t n, const char *what)
         check(accepts(&other, n, what) == (count == p->count), what, "so many of its pieces", count);
     }
     other.count = SIZE_MAX;
-    is_no(&other, n, what);
+    is(0, &other, n, what);
     other.count = p->count + ((size_t)1 << 32);
-    is_no(&other, n, what);
+    is(0, &other, n, what);
     /* what is behind the last piece is not looked at */
     other = *p;
     memset(other.starts + p->count, 0xff, (WORKERS - p->count) * sizeof *other.starts);
     memset(other.lengths + p->count, 0xee, (WORKERS - p->count) * sizeof *other.lengths);
-    is_yes(&other, n, what);
+    is(1, &other, n, what);
 }
 
 /* Uneven ones, 64 and 65 pieces, and plans of which every entry may be another. */
@@ -263,15 +261,15 @@ static void hand_made(void)
     broken(&p, 63 * 16 + 7, "64 pieces");
     full[63] = 16;
     p = following(full, 65);
-    is_no(&p, 65 * 16, "65 pieces");
-    is_no(&p, 64 * 16, "65 pieces, for 64");
+    is(0, &p, 65 * 16, "65 pieces");
+    is(0, &p, 64 * 16, "65 pieces, for 64");
     p.count = 64;
-    is_yes(&p, 64 * 16, "64 whole pieces");
+    is(1, &p, 64 * 16, "64 whole pieces");
     p = following(uneven, 3);
     p.starts[2] = 64;
-    is_no(&p, 112, "overlapping pieces");
+    is(0, &p, 112, "overlapping pieces");
     p.starts[2] = 192;
-    is_no(&p, 240, "a gap between pieces");
+    is(0, &p, 240, "a gap between pieces");
 }
 
 /* The ways to break a plan one by one, and sums that come round; there is an answer for every n. */
@@ -279,20 +277,22 @@ static void written(void)
 {
     static const size_t half = (size_t)1 << 63;
     static const struct { int yes; size_t n, count, lengths[3]; } rows[] = {
-        {0, 1, 0, {0}}, {0, SIZE_MAX, 0, {0}},                          /* no piece */
-        {0, 32, 3, {16, 0, 16}}, {0, 16, 2, {16, 0}}, {0, 16, 2, {0, 16}}, {0, 0, 1, {0}}, /* an empty piece */
-        {0, 48, 3, {16, 15, 17}},                                       /* an inner piece of 15 bytes */
+        /* no piece, an empty one, and an inner one of 15 bytes */
+        {0, 1, 0, {0}}, {0, SIZE_MAX, 0, {0}}, {0, 32, 3, {16, 0, 16}}, {0, 16, 2, {16, 0}}, {0, 16, 2, {0, 16}}, {0, 0, 1, {0}},
+        {0, 48, 3, {16, 15, 17}},
+        /* sums of 2^64, and what is below */
         {0, 0, 2, {half, half}}, {0, SIZE_MAX, 2, {half, half}}, {0, 16, 3, {half, half, 16}}, {1, half, 1, {half}},
         {1, SIZE_MAX, 2, {half, half - 1}}, {1, SIZE_MAX, 2, {SIZE_MAX - 15, 15}}, {1, SIZE_MAX, 1, {SIZE_MAX}},
         {0, 0, 2, {SIZE_MAX - 15, 16}}, {0, 32, 3, {SIZE_MAX - 15, 16, 32}}};
     struct luossavin_plan p;
     for (size_t i = 0; i < sizeof rows / sizeof *rows; i++) {
         p = following(rows[i].lengths, rows[i].count);
-        check(accepts(&p, rows[i].n, "a plan that is written down") == rows[i].yes, "whether it is accepted", "a plan that is written down", i);
+        check(accepts(&p, rows[i].n, "a plan that is written down") == rows[i].yes, "whether it is accepted",
+            "a plan that is written down", i);
     }
     p = following((const size_t[]){16, 15, 17}, 3);
     p.lengths[1] = 32;
-    is_no(&p, 65, "pieces that overlap by 17 bytes");
+    is(0, &p, 65, "pieces that overlap by 17 bytes");
 }
 
 /* Small plans of all kinds. */
@@ -410,8 +410,8 @@ static void order(void)
         {6, ACCEPTED, {0, NUMBER, 0}, 0, 16, 0, 32, 31}, {0, NO_PLAN, {0, NUMBER, 0}, 0, 16, LIMIT, 0, 0}};
     const struct luossavin_plan plans[] = {{0}, luossavin_plan_make(32, 2).plan, luossavin_plan_make(33, 2).plan};
     for (size_t i = 0; i < sizeof rows / sizeof *rows; i++) {
-        struct stretch s = {rows[i].key, rows[i].decrypt, rows[i].iv, rows[i].offset, rows[i].plan ? &plans[rows[i].plan] : NULL, rows[i].data,
-            rows[i].room};
+        struct stretch s = {rows[i].key, rows[i].decrypt, rows[i].iv, rows[i].offset, rows[i].plan ? &plans[rows[i].plan] : NULL,
+            rows[i].data, rows[i].room};
         check(answer_to_stretch(&s).number == rows[i].number, "a number that is written down", "among workers", i);
         try(s, 0);
     }
