@@ -33,9 +33,18 @@ static void no_memory(void)
     exit(2);
 }
 
+/* Single pages that were given back, each between its fences still, which are lent again. */
+enum { MOST_POOLED = 32 };
+static uint8_t *pool[MOST_POOLED];
+static size_t pooled;
+
 static uint8_t *fenced_pages(size_t size)
 {
-    uint8_t *pages = mmap(NULL, size + 2 * page(), PROT_NONE, MAP_PRIVATE | MAP_ANONYMOUS, -1, 0);
+    uint8_t *pages;
+    if (size == page() && pooled > 0) {
+        return pool[--pooled];
+    }
+    pages = mmap(NULL, size + 2 * page(), PROT_NONE, MAP_PRIVATE | MAP_ANONYMOUS, -1, 0);
     if (pages == MAP_FAILED || mprotect(pages + page(), size, PROT_READ | PROT_WRITE) != 0) {
         no_memory();
     }
@@ -107,7 +116,12 @@ void give_back(struct buffer b)
     if (b.is_kept) {
         return;
     }
-    if (is_fenced()) {
+    if (is_fenced() && b.size == page() && pooled < MOST_POOLED) {
+        if (mprotect(b.memory, b.size, PROT_READ | PROT_WRITE) != 0) {
+            no_memory();
+        }
+        pool[pooled++] = b.memory;
+    } else if (is_fenced()) {
         munmap(b.memory - page(), b.size + 2 * page());
     } else {
         free(b.memory);

@@ -116,7 +116,8 @@ void refused(struct luossavin_answer a, uint32_t number, const char *what)
 /* The program is lost, so what printf needs is not missed. */
 static void on_signal(int signal)
 {
-    holds_now(signal == SIGALRM ? "it does not end" : signal == SIGABRT ? "it ends the program" : "it touches memory that it was not lent");
+    holds_now(signal == SIGALRM ? "it does not end" : signal == SIGSEGV || signal == SIGBUS ? "it touches memory that it was not lent"
+        : "it crashes");
     fflush(stdout);
     _exit(1);
 }
