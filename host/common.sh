@@ -232,7 +232,7 @@ find_peers() {
         peers=()
         return
     fi
-    fetch "$(debian_name)" "$folder" $(packages_of [peers])
+    fetch "$(debian_name)" "$folder" $(packages_of '[peers]')
     peers=(-I"$folder/usr/include" -I"$folder/usr/include/$architecture-linux-gnu" -L"$folder/usr/lib/$architecture-linux-gnu")
 }
 
@@ -292,12 +292,12 @@ depended() {
 fetch_rust() {
     local program std llvm own
     own=$(dpkg --print-architecture)
-    apt-cache show $(packages_of [rust]) >/dev/null 2>&1 || apt-get update >"$work/apt.log" 2>&1 || die "could not fetch the lists of packages"
+    apt-cache show $(packages_of '[rust]') >/dev/null 2>&1 || apt-get update >"$work/apt.log" 2>&1 || die "could not fetch the lists of packages"
     # these two have a version in their names
-    std=$(depended $(packages_of [rust-std]) libstd-rust-web)
+    std=$(depended $(packages_of '[rust-std]') libstd-rust-web)
     llvm=$(depended "$std" libllvm)
-    fetch "$own" "$work/rust" $(packages_of [rust]) "$std" "$llvm"
-    fetch "$(debian_name)" "$work/rust" $(packages_of [rust-std])
+    fetch "$own" "$work/rust" $(packages_of '[rust]') "$std" "$llvm"
+    fetch "$(debian_name)" "$work/rust" $(packages_of '[rust-std]')
     for program in rustc rustdoc; do
         cat >"$work/rust/$program" <<END
 #!/bin/sh
