@@ -107,8 +107,11 @@ static int result_is(const struct whole *w, struct beside b, struct buffer data,
     same = difference(a, due) == NULL && memcmp(again, out.bytes, due.length) == 0;
     back.direction = w->direction == ENCRYPT ? DECRYPT : ENCRYPT;
     back.data = due.length;
-    a = call_whole(&back, record(sound), b.iv.bytes, b.label.bytes, out.bytes, again);
-    same &= a.number == 0 && a.length == w->data && memcmp(again, data.bytes, w->data) == 0;
+    /* a padding of a byte leaves a text that is too long to be encrypted again */
+    if (w->direction == ENCRYPT || due.length <= LIMIT) {
+        a = call_whole(&back, record(sound), b.iv.bytes, b.label.bytes, out.bytes, again);
+        same &= a.number == 0 && a.length == w->data && memcmp(again, data.bytes, w->data) == 0;
+    }
     same &= w->direction == DECRYPT || w->data < 16 || memcmp(out.bytes, data.bytes, w->data) != 0;
     if (w->direction == DECRYPT && !w->is_block && w->mode >= CBC) {
         same &= is_sealed_text(w, out.bytes, due.length);
