@@ -338,6 +338,7 @@ void which(void)
 static struct search same_lengths(size_t count, size_t length)
 {
     struct search s = question(16);
+    s.file = 37;
     s.count = count;
     s.labels_len = count * length;
     for (size_t i = 0; i < CANDIDATES + 3; i++) {
@@ -461,7 +462,7 @@ static void sizes(void)
  * as long as may be, or longer. */
 static void limits(void)
 {
-    static const size_t files[] = {SEALED, 15, 0, LIMIT + 17};
+    static const size_t files[] = {37, 15, 0, LIMIT + 17};
     for (size_t at = 0; at < 3; at++) {
         check(ask(sealed_at(resized(same_lengths(3, 6), 1, LIMIT), at)).place == at, "the place", "a long label", at);
     }

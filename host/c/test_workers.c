@@ -374,7 +374,7 @@ static void longest(void)
 static void on_record(struct holder fields)
 {
     static const size_t offsets[] = {0, 21, LIMIT - 33, LIMIT - 32, LIMIT + 1, SIZE_MAX};
-    struct luossavin_plan plans[3] = {following((const size_t[]){16, 17}, 2), following((const size_t[]){32, 1}, 2), following(NULL, 0)};
+    struct luossavin_plan made = luossavin_plan_make(33, 2).plan, plans[3] = {made, made, following(NULL, 0)};
     struct stretch s;
     plans[1].lengths[0]++;
     for (int i = 0; i < IVS * 9 * 4; i++) {
