@@ -1,42 +1,23 @@
-/* Journals: the layouts; one that is written down byte for byte, with RFC 8998's vector in it; every mode both ways and
- * every answer; rooms, modes, directions and marks; each set of records that differ; every byte another; every cut;
- * lengths, and parts at their limits; numbers of keys, and what keys may be; every refusal with every later one there
- * as well; journals that are joined, and that are drawn, in order and damaged. All but the one that is written down are
- * held to journal_model.c, and most to what the test knows besides. */
+/* Journals: one that is written down byte for byte, with RFC 8998's vector in it; every mode both ways and every answer; rooms, modes,
+ * directions and marks; each set of records that differ; every byte another; every cut; lengths, and parts at their limits; numbers of
+ * keys, and what keys may be; every refusal with every later one there as well; journals that are joined, and that are drawn, in order and
+ * damaged; and one of more than 4 GiB. All but the one that is written down and the last are held to journal_model.c, and most to what the
+ * test knows besides. */
 #define _GNU_SOURCE
 
-#include "smoke.h"
+#include "test.h"
 
 #include "journal_model.h"
 #include "random.h"
 
-#include <signal.h>
 #include <stdio.h>
 #include <stdlib.h>
 #include <string.h>
+#include <sys/mman.h>
 #include <unistd.h>
 
-/* The most bytes of a journal, and the seconds after which the call that runs is taken not to end. */
-enum { LONGEST = 1 << 20, PATIENCE = 200 };
-
-static void layout(void)
-{
-    const char *keys = "the keys of a replay", *report = "a replay's answer";
-    stands_at(sizeof(struct luossavin_keys), 8 + 8 * 136, "their size", keys);
-    stands_at(offsetof(struct luossavin_keys, count), 0, "where the count stands", keys);
-    stands_at(offsetof(struct luossavin_keys, keys), 8, "where the records stand", keys);
-    stands_at(sizeof(struct luossavin_replayed), 360, "its size", report);
-    stands_at(offsetof(struct luossavin_replayed, number), 0, "where the number stands", report);
-    stands_at(offsetof(struct luossavin_replayed, differs), 4, "where it stands whether one differs", report);
-    stands_at(offsetof(struct luossavin_replayed, place), 8, "where the place stands", report);
-    stands_at(offsetof(struct luossavin_replayed, first_record), 16, "where the first record stands", report);
-    stands_at(offsetof(struct luossavin_replayed, first_place), 24, "where the first place stands", report);
-    stands_at(offsetof(struct luossavin_replayed, records), 32, "where the records stand", report);
-    stands_at(offsetof(struct luossavin_replayed, by_mode), 40, "where the modes stand", report);
-    stands_at(offsetof(struct luossavin_replayed, by_answer), 88, "where the answers stand", report);
-    stands_at(offsetof(struct luossavin_replayed, bytes_in), 344, "where the bytes in stand", report);
-    stands_at(offsetof(struct luossavin_replayed, bytes_out), 352, "where the bytes out stand", report);
-}
+/* The most bytes of a journal that is written here. */
+enum { LONGEST = 1 << 20 };
 
 /* The journal that is replayed, and the keys. */
 static uint8_t file[LONGEST];
@@ -47,62 +28,60 @@ static struct luossavin_keys ring;
 static const uint16_t numbers[MOST_KEYS] = {NUMBER, 1, 2, 255, 256, 0x6712, 0x8000, 65535};
 static struct luossavin_key eight[MOST_KEYS];
 
+static void set_up_eight(void)
+{
+    uint8_t other[16];
+    for (uint8_t i = 0; i < MOST_KEYS; i++) {
+        memcpy(other, key_bytes, 16);
+        other[15] ^= i;
+        eight[i] = luossavin_key_engine(luossavin_key_new(other, 16, numbers[i]), i % ENGINES);
+    }
+}
+
 static void give_keys(size_t count)
 {
     memcpy(ring.keys, eight, sizeof eight);
     ring.count = count;
 }
 
-static void describe(const char *what, char *where, size_t room)
+static void describe_journal(char *words, size_t room)
 {
-    int n = snprintf(where, room, "%s; %zu keys, %zu bytes:", what, ring.count, size);
+    int n = snprintf(words, room, "a journal, %zu keys, %zu bytes:", ring.count, size);
     for (size_t i = 0; i < size && i < 80; i++) {
-        n += snprintf(where + n, room - (size_t)n, "%s%02x", i % 4 ? "" : " ", file[i]);
+        n += snprintf(words + n, room - (size_t)n, "%s%02x", i % 4 ? "" : " ", file[i]);
     }
 }
 
-static void is_due(const struct luossavin_replayed *got, const struct luossavin_replayed *due, const char *what)
+/* A replay has the report that is due, and leaves the journal as it is. */
+static void is_due(const struct luossavin_replayed *due)
 {
-    const char *wrong = difference_replayed(got, due);
-    char where[400] = "right";
-    if (wrong != NULL) {
-        describe(wrong, where, sizeof where);
-    }
-    check(wrong == NULL, what, where, got->number);
-}
-
-static struct luossavin_replayed replay(void)
-{
-    return luossavin_replay(ring, size ? file : NULL, size);
+    struct buffer journal = lend(size, 0);
+    struct luossavin_replayed got;
+    memcpy(journal.bytes, file, size);
+    shut(journal);
+    describe = describe_journal;
+    got = luossavin_replay(ring, lent(journal), size);
+    judged(due->number, difference_replayed(&got, due));
+    holds_now(memcmp(journal.bytes, file, size) == 0 ? NULL : "it changes the journal");
+    give_back(journal);
 }
 
 /* The answer is the model's, which is handed back. */
-static struct luossavin_replayed ask(const char *what)
+static struct luossavin_replayed ask(void)
 {
-    struct luossavin_replayed due = answer_to_replay(&ring, file, size), got = replay();
-    is_due(&got, &due, what);
+    struct luossavin_replayed due = answer_to_replay(&ring, file, size);
+    is_due(&due);
     return due;
 }
 
 /* And it has this number, with this many records before, and the place that is due to a refusal. */
 static struct luossavin_replayed ask_for(uint32_t number, size_t records, size_t place, const char *what)
 {
-    struct luossavin_replayed due = ask(what);
+    struct luossavin_replayed due = ask();
     check(due.number == number, what, "its number", due.number);
     check(due.records == records, what, "its records", due.records);
     check(due.place == place, what, "its place", due.place);
     return due;
-}
-
-/* A call that does not end, or that touches what there is not, has no other way to be named. */
-static void on_signal(int signal)
-{
-    char where[400];
-    describe(signal == SIGALRM ? "it does not end" : "it faults", where, sizeof where);
-    /* the program is lost, so what printf needs is not missed */
-    printf("wrong: a journal, %s\n", where);
-    fflush(stdout);
-    _exit(1);
 }
 
 /* Calls. */
@@ -129,7 +108,7 @@ static size_t add(struct entry e)
 }
 
 /* As it answers on its key. */
-static size_t record(struct entry e)
+static size_t write_answered(struct entry e)
 {
     for (size_t i = 0; i < ring.count && i < MOST_KEYS; i++) {
         if (number_on(&ring.keys[i]) == e.key) {
@@ -142,16 +121,15 @@ static size_t record(struct entry e)
 /* Six calls, which are of every mode, done and refused. Their places, and the end. */
 enum { SIX = 6 };
 
-static void record_six(size_t places[SIX + 1])
+static void write_six(size_t places[SIX + 1])
 {
+    static const struct { int direction; uint8_t mode; size_t n; } six[SIX] = {{ENCRYPT, CFB, 5}, {DECRYPT, CBC, 3}, {ENCRYPT, 9, 2},
+        {DECRYPT, GCM, 1}, {ENCRYPT, OFB, 0}, {ENCRYPT, CTR, 17}};
     size = 0;
-    places[0] = record(call(ENCRYPT, CFB, 5));
-    places[1] = record(call(DECRYPT, CBC, 3));
-    places[2] = record(call(ENCRYPT, 9, 2));
-    places[3] = record(call(DECRYPT, GCM, 1));
-    places[4] = record(call(ENCRYPT, OFB, 0));
-    places[5] = record(call(ENCRYPT, CTR, 17));
-    places[6] = size;
+    for (int i = 0; i < SIX; i++) {
+        places[i] = write_answered(call(six[i].direction, six[i].mode, six[i].n));
+    }
+    places[SIX] = size;
 }
 
 /* Without the model. */
@@ -187,23 +165,20 @@ static void write_by_hand(void)
 
 static void by_hand(void)
 {
-    struct luossavin_replayed got, due = {.records = 4, .by_mode = {[4] = 3, [5] = 1},
+    struct luossavin_replayed due = {.records = 4, .by_mode = {[4] = 3, [5] = 1},
         .by_answer = {[0] = 2, [7] = 1, [9] = 1}, .bytes_in = 64 + 80 + 3, .bytes_out = 80 + 64};
     ring = (struct luossavin_keys){.count = 1, .keys = {luossavin_key_new(rfc_key, 16, 0x1267)}};
     write_by_hand();
     check(size == 475, "how long it is", "by hand", size);
-    got = replay();
-    is_due(&got, &due, "by hand");
+    is_due(&due);
     /* the last byte of the second output is another, and then the third number as well */
     file[405] ^= 1;
     due.differs = 1;
     due.first_record = 1;
     due.first_place = 203;
-    got = replay();
-    is_due(&got, &due, "by hand, one that differs");
+    is_due(&due);
     file[406 + 22] = 8;
-    got = replay();
-    is_due(&got, &due, "by hand, two that differ");
+    is_due(&due);
     /* the last record is cut */
     size--;
     due.number = 23;
@@ -212,15 +187,13 @@ static void by_hand(void)
     due.by_mode[4]--;
     due.by_answer[9]--;
     due.bytes_in -= 3;
-    got = replay();
-    is_due(&got, &due, "by hand, one that is cut");
+    is_due(&due);
+    /* nine keys; and a journal of 0 bytes */
     ring.count = 9;
-    got = replay();
-    is_due(&got, &(struct luossavin_replayed){.number = 26}, "by hand, nine keys");
+    is_due(&(struct luossavin_replayed){.number = 26});
     ring.count = 1;
     size = 0;
-    got = replay();
-    is_due(&got, &(struct luossavin_replayed){0}, "a journal of 0 bytes");
+    is_due(&(struct luossavin_replayed){0});
 }
 
 /* Calls that agree. */
@@ -233,12 +206,12 @@ static void every_mode(void)
     size = 0;
     for (uint8_t mode = CFB; mode <= GCM; mode++) {
         for (size_t n = 0; n <= 40; n++) {
-            size_t sealed = mode == CBC ? n / 16 * 16 + 16 : mode == GCM ? n + 16 : n;
-            record(call(ENCRYPT, mode, n));
-            record(call(DECRYPT, mode, n));
+            const struct whole w = {.mode = mode, .data = n};
+            write_answered(call(ENCRYPT, mode, n));
+            write_answered(call(DECRYPT, mode, n));
             records += 2;
-            in += n + sealed;
-            out += sealed + n;
+            in += n + room_needed(&w);
+            out += room_needed(&w) + n;
         }
         r = ask_for(0, records, 0, "every mode both ways");
         check(r.differs == 0, "whether one differs", "every mode both ways", r.first_record);
@@ -270,18 +243,18 @@ static struct entry answering(uint32_t number)
 }
 
 /* Every answer that there can be, each one once more than the one before. */
-static void every_answer(uint32_t none)
+static void every_answer(uint32_t no_key)
 {
-    const uint32_t answers[] = {0, 2, 3, 4, 6, 7, 8, 9, 10, 15, none};
+    const uint32_t answers[] = {0, 2, 3, 4, 6, 7, 8, 9, 10, 15, no_key};
     struct luossavin_replayed r;
     size_t records = 0, in = 0;
     give_keys(2);
-    ring.keys[1] = holding(key, (struct holder){none, 5, 0});
+    ring.keys[1] = holding(key, (struct holder){no_key, 5, 0});
     size = 0;
     for (size_t i = 0; i < sizeof answers / sizeof *answers; i++) {
         for (size_t times = 0; times <= i; times++) {
             struct entry e = answering(answers[i]);
-            record(e);
+            write_answered(e);
             records++;
             in += e.data.length;
         }
@@ -293,30 +266,29 @@ static void every_answer(uint32_t none)
     check(r.differs == 0 && r.bytes_in == in && r.bytes_out == 20, "its bytes", "every answer", r.bytes_out);
 }
 
+static const uint8_t plenty[OUTPUT_LIMIT + 2];
+
 /* Rooms about what is needed and far above, in every mode, of short data and of the longest. */
 static void rooms(void)
 {
-    static const uint8_t zeros[PART_LIMIT];
     static const uint32_t far[] = {0, 16383, 16384, 16399, 16400, 16401, 65536, 4000000000, 0xffffffff};
     for (uint8_t mode = CFB; mode <= GCM; mode++) {
         for (int direction = ENCRYPT; direction <= DECRYPT; direction++) {
             struct entry e = call(direction, mode, 20);
             size = 0;
-            for (e.room = 0; e.room <= 40; e.room++) {
-                record(e);
-            }
-            for (int i = 0; i < 9; i++) {
-                e.room = far[i];
-                record(e);
+            for (uint32_t i = 0; i < 41 + 9; i++) {
+                e.room = i < 41 ? i : far[i - 41];
+                write_answered(e);
             }
             check(ask_for(0, 50, 0, "rooms").differs == 0, "whether one differs", "rooms", mode);
         }
-        for (int i = 0; i < 9; i++) {
+        for (int i = 0; i < 2 * 9; i++) {
             struct entry e = call(ENCRYPT, mode, 0);
-            e.data = (struct bytes){zeros, PART_LIMIT};
-            e.room = far[i];
+            e.direction = (uint8_t)(i % 2);
+            e.data = (struct bytes){plenty, PART_LIMIT};
+            e.room = far[i / 2];
             size = 0;
-            record(e);
+            write_answered(e);
             check(ask_for(0, 1, 0, "rooms, long data").differs == 0, "whether it differs", "rooms, long data", mode);
         }
     }
@@ -329,17 +301,17 @@ static void every_value(unsigned byte)
     struct entry e = call(ENCRYPT, CFB, 3);
     size_t place;
     size = 0;
-    record(call(ENCRYPT, (uint8_t)byte, 3));
+    write_answered(call(ENCRYPT, (uint8_t)byte, 3));
     r = ask_for(0, 1, 0, "a mode");
     check(r.by_mode[byte < 5 ? byte : 5] == 1 && r.by_answer[byte < 5 ? 0 : 7] == 1, "its counts", "a mode", byte);
     check(r.differs == 0 && r.bytes_in == 3, "its bytes", "a mode", byte);
     e.direction = (uint8_t)byte;
-    place = record(e);
+    place = write_answered(e);
     ask_for(byte < 2 ? 0 : 23, byte < 2 ? 2 : 1, byte < 2 ? 0 : place, "a direction");
     for (size_t i = 0; i < 2; i++) {
         int known = byte == (i == 0 ? 0x54 : 0x52);
         size = 0;
-        record(call(ENCRYPT, CFB, 3));
+        write_answered(call(ENCRYPT, CFB, 3));
         file[i] = (uint8_t)byte;
         ask_for(known ? 0 : 23, (size_t)known, 0, "a mark");
     }
@@ -370,55 +342,53 @@ static struct entry otherwise(struct entry e, int how)
 static void differences(void)
 {
     size_t places[SIX];
-    for (int how = NUMBER_OTHER; how < OTHERS; how++) {
-        for (unsigned set = 0; set < 1 << SIX; set++) {
-            struct luossavin_replayed r;
-            int first = 0;
-            size = 0;
-            for (int i = 0; i < SIX; i++) {
-                struct entry e = answered_on(call(i % 2, (uint8_t)(i % 5), (size_t)i + 3), key);
-                places[i] = add(set >> i & 1 ? otherwise(e, how) : e);
-            }
-            while (set != 0 && (set >> first & 1) == 0) {
-                first++;
-            }
-            r = ask_for(0, SIX, 0, "some that differ");
-            check(r.differs == (set != 0), "whether one differs", "some that differ", set);
-            check(r.first_record == (uint64_t)first, "the first one", "some that differ", set);
-            check(r.first_place == (set == 0 ? 0 : places[first]), "its place", "some that differ", set);
-            check(r.by_answer[0] == SIX && r.by_mode[0] == 2, "its counts", "some that differ", set);
+    for (unsigned i = 0; i < OTHERS << SIX; i++) {
+        unsigned set = i % (1 << SIX), first = set == 0 ? 0 : (unsigned)__builtin_ctz(set);
+        struct luossavin_replayed r;
+        size = 0;
+        for (int k = 0; k < SIX; k++) {
+            struct entry e = answered_on(call(k % 2, (uint8_t)(k % 5), (size_t)k + 3), key);
+            places[k] = add(set >> k & 1 ? otherwise(e, (int)(i >> SIX)) : e);
         }
+        r = ask_for(0, SIX, 0, "some that differ");
+        check(r.differs == (set != 0), "whether one differs", "some that differ", set);
+        check(r.first_record == first, "the first one", "some that differ", set);
+        check(r.first_place == (set == 0 ? 0 : places[first]), "its place", "some that differ", set);
+        check(r.by_answer[0] == SIX && r.by_mode[0] == 2, "its counts", "some that differ", set);
     }
 }
 
 /* A refusal that is recorded with an output, and one with another number. */
 static void refused_otherwise(void)
 {
-    for (unsigned number = 0; number < 256; number++) {
-        for (size_t n = 0; n <= 2; n++) {
-            struct entry e = answering(8);
-            struct luossavin_replayed r;
-            e.number = (uint8_t)number;
-            e.output = (struct bytes){rfc_text, n};
-            size = 0;
-            add(e);
-            r = ask_for(0, 1, 0, "a recorded refusal");
-            check(r.differs == (number != 8 || n != 0), "whether it differs", "a recorded refusal", number);
-            check(r.by_answer[8] == 1 && r.bytes_out == 0, "its answer", "a recorded refusal", number);
-        }
+    for (unsigned i = 0; i < 256 * 3; i++) {
+        struct entry e = answering(8);
+        struct luossavin_replayed r;
+        e.number = (uint8_t)(i / 3);
+        e.output = (struct bytes){rfc_text, i % 3};
+        size = 0;
+        add(e);
+        r = ask_for(0, 1, 0, "a recorded refusal");
+        check(r.differs == (e.number != 8 || i % 3 != 0), "whether it differs", "a recorded refusal", e.number);
+        check(r.by_answer[8] == 1 && r.bytes_out == 0, "its answer", "a recorded refusal", e.number);
     }
 }
 
-/* Every byte of six calls another: each bit, and some values. */
+/* Every byte of six calls another, each bit and some values, in a journal that ends with its last record and in one that has a byte more.
+ * */
 static void every_byte(void)
 {
-    static const uint8_t by[] = {1, 2, 4, 8, 16, 32, 64, 128, 0xff, 0x06};
+    static const uint8_t by[] = {1, 2, 4, 8, 16, 32, 64, 128, 0xff, 0x06, 0x1c};
     size_t places[SIX + 1];
-    record_six(places);
+    give_keys(2);
+    write_six(places);
     for (size_t i = 0; i < size; i++) {
-        for (size_t j = 0; j < sizeof by; j++) {
+        for (size_t j = 0; j < sizeof by; j += is_sparse ? 4 : 1) {
             file[i] ^= by[j];
-            ask("every byte another");
+            ask();
+            file[size++] = 0x54;
+            ask();
+            size--;
             file[i] ^= by[j];
         }
     }
@@ -426,11 +396,12 @@ static void every_byte(void)
 
 /* Records that are cut. */
 
-/* At every byte of six calls. */
+/* At every byte of six calls, with keys and without. */
 static void cuts(void)
 {
     size_t places[SIX + 1], whole;
-    record_six(places);
+    give_keys(1);
+    write_six(places);
     whole = size;
     for (size_t i = 0; i < SIX; i++) {
         for (size = places[i]; size < places[i + 1]; size++) {
@@ -439,6 +410,11 @@ static void cuts(void)
     }
     size = whole;
     ask_for(0, SIX, 0, "no cut");
+    for (size_t i = 0; i <= 2 * whole + 1; i++) {
+        give_keys(i % 2 * 2);
+        size = i / 2;
+        ask();
+    }
 }
 
 static void put_length(size_t at, uint32_t n)
@@ -448,29 +424,31 @@ static void put_length(size_t at, uint32_t n)
     }
 }
 
-/* The four lengths of the second of three calls say all about what is left, and what would say the same in fewer bytes
- * or once a sum came round. */
+/* The four lengths and the room of the second of three calls, and of the second of two, which is the last, say all about what is left, and
+ * what would say the same in fewer bytes or once a sum came round. */
 static void lengths(void)
 {
-    static const uint32_t fronts[] = {0, 0x20, 0x40, 0x60, 0x100, 0x10000, 0x01000000, 0x80000000, 0xff000000,
-        0xffff0000, 0xffffff80, 0xffffffa0, 0xffffffc0, 0xffffffe0};
-    static const size_t right[] = {sizeof label, 4, 16, 4}, fields[] = {6, 16, 24, 49};
-    for (size_t field = 0; field < 4; field++) {
-        for (size_t i = 0; i < 32 * sizeof fronts / sizeof *fronts; i++) {
-            uint32_t said = fronts[i / 32] + i % 32;
-            size_t place;
-            size = 0;
-            record(call(ENCRYPT, OFB, 1));
-            place = record(call(ENCRYPT, CFB, 4));
-            record(call(ENCRYPT, CTR, 2));
-            put_length(place + fields[field], said);
-            if (said == right[field]) {
-                ask_for(0, 3, 0, "what a length says");
-            } else if (said > 0xffff) {
-                ask_for(23, 1, place, "what a length says");
-            } else {
-                ask("what a length says");
-            }
+    static const uint32_t fronts[] = {0, 0x20, 0x40, 0x60, 0x100, 0xff00, 0x10000, 0x01000000, 0x7ffffff0, 0x80000000, 0xee6b2800,
+        0xff000000, 0xffff0000, 0xffffff80, 0xffffffa0, 0xffffffc0, 0xffffffe0};
+    enum { ROOM_FIELD = 3, FIELDS = 5, SAID = 32 * sizeof fronts / sizeof *fronts };
+    static const size_t right[FIELDS] = {sizeof label, 4, 16, 100, 4}, fields[FIELDS] = {6, 16, 24, 44, 49};
+    give_keys(1);
+    for (size_t i = 0; i < 2 * FIELDS * SAID; i++) {
+        uint32_t said = fronts[i % SAID / 32] + i % 32;
+        size_t field = i / SAID % FIELDS, is_last = i / SAID / FIELDS, place;
+        size = 0;
+        write_answered(call(ENCRYPT, OFB, 1));
+        place = write_answered(call(ENCRYPT, CFB, 4));
+        if (!is_last) {
+            write_answered(call(ENCRYPT, CTR, 2));
+        }
+        put_length(place + fields[field], said);
+        if (said == right[field] || (field == ROOM_FIELD && said > 0xffff)) {
+            ask_for(0, 3 - is_last, 0, "what a length says");
+        } else if (said > 0xffff) {
+            ask_for(23, 1, place, "what a length says");
+        } else {
+            ask();
         }
     }
 }
@@ -490,37 +468,32 @@ static void sums(void)
 
 /* Limits. */
 
-static const uint8_t plenty[OUTPUT_LIMIT + 2];
-
-/* A call whose label, data, IV and output have so many bytes. */
-static struct entry long_call(size_t l, size_t d, size_t i, size_t o)
+/* A call of that mode whose label, data, IV and output have so many bytes. */
+static struct entry long_call(uint8_t mode, size_t l, size_t d, size_t i, size_t o)
 {
-    struct entry e = call(ENCRYPT, 200, 0);
-    e.label = (struct bytes){plenty, l};
-    e.data = (struct bytes){plenty, d};
-    e.iv = (struct bytes){plenty, i};
-    e.output = (struct bytes){plenty, o};
-    return e;
+    return (struct entry){.mode = mode, .key = NUMBER, .label = {plenty, l}, .data = {plenty, d}, .iv = {plenty, i}, .room = 0xffffffff,
+        .output = {plenty, o}};
 }
 
-/* Every part at its limit, and one byte over it; whole, cut by a byte, and of an unknown key. */
+/* Every part at its limit, and one byte over it, in every mode; whole, cut by a byte, cut off, and of an unknown key. */
 static void limits(void)
 {
-    size_t p = PART_LIMIT, o = OUTPUT_LIMIT, place;
-    for (int over = 0; over < 16; over++) {
-        struct entry e = long_call(p + (over & 1), p + (over >> 1 & 1), p + (over >> 2 & 1), o + (over >> 3 & 1));
-        for (int unknown = 0; unknown <= 1; unknown++) {
-            uint32_t number = over ? 24 : unknown ? 25 : 0;
-            e.key = unknown ? NUMBER + 1 : NUMBER;
-            size = 0;
-            record(call(ENCRYPT, CFB, 3));
-            place = add(e);
-            ask_for(number, number ? 1 : 2, number ? place : 0, "parts at their limits");
-            size--;
-            ask_for(23, 1, place, "parts at their limits, cut");
-            size = place + 10;
-            ask_for(23, 1, place, "parts at their limits, cut off");
-        }
+    static const uint8_t modes[] = {CFB, OFB, CTR, CBC, GCM, 5, 200};
+    for (int i = 0; i < 16 * 2 * 7; i++) {
+        int over = i / 14, unknown = i / 7 % 2;
+        struct entry e = long_call(modes[i % 7], PART_LIMIT + (over & 1), PART_LIMIT + (over >> 1 & 1), PART_LIMIT + (over >> 2 & 1),
+            OUTPUT_LIMIT + (over >> 3));
+        uint32_t number = over ? 24 : unknown ? 25 : 0;
+        size_t place;
+        e.key = (uint16_t)(NUMBER + unknown);
+        size = 0;
+        write_answered(call(ENCRYPT, CFB, 3));
+        place = add(e);
+        ask_for(number, number ? 1 : 2, number ? place : 0, "parts at their limits");
+        size--;
+        ask_for(23, 1, place, "parts at their limits, cut");
+        size = place + 10;
+        ask_for(23, 1, place, "parts at their limits, cut off");
     }
 }
 
@@ -528,11 +501,10 @@ static void limits(void)
 static void each_limit(void)
 {
     for (size_t n = PART_LIMIT - 1; n <= OUTPUT_LIMIT + 1; n++) {
-        const size_t lengths[4][4] = {{n, 0, 0, 0}, {0, n, 0, 0}, {0, 0, n, 0}, {0, 0, 0, n}};
         for (int i = 0; i < 4; i++) {
             int over = n > (i == 3 ? OUTPUT_LIMIT : PART_LIMIT);
             size = 0;
-            add(long_call(lengths[i][0], lengths[i][1], lengths[i][2], lengths[i][3]));
+            add(long_call(200, i == 0 ? n : 0, i == 1 ? n : 0, i == 2 ? n : 0, i == 3 ? n : 0));
             ask_for(over ? 24 : 0, !over, 0, "a part at its limit");
         }
     }
@@ -553,7 +525,7 @@ static void key_numbers(void)
             }
             e.key = (uint16_t)number;
             size = 0;
-            record(e);
+            write_answered(e);
             ask_for(known ? 0 : 25, (size_t)known, 0, "a key's number");
         }
     }
@@ -563,47 +535,38 @@ static void key_numbers(void)
 static void own_keys(void)
 {
     give_keys(MOST_KEYS);
-    for (int i = 0; i < MOST_KEYS; i++) {
-        for (int j = 0; j < MOST_KEYS; j++) {
-            struct entry e = answered_on(call(ENCRYPT, CFB, 16), eight[j]);
-            struct luossavin_replayed r;
-            e.key = numbers[i];
-            size = 0;
-            add(e);
-            r = ask_for(0, 1, 0, "a call on another key");
-            check(r.differs == (i != j), "whether it differs", "a call on another key", (size_t)i);
-        }
+    for (int i = 0; i < MOST_KEYS * MOST_KEYS; i++) {
+        struct entry e = answered_on(call(ENCRYPT, CFB, 16), eight[i % MOST_KEYS]);
+        struct luossavin_replayed r;
+        e.key = numbers[i / MOST_KEYS];
+        size = 0;
+        add(e);
+        r = ask_for(0, 1, 0, "a call on another key");
+        check(r.differs == (i % MOST_KEYS != i / MOST_KEYS), "whether it differs", "a call on another key", (size_t)i);
     }
 }
 
-/* A call on each of the eight keys. */
-static void record_on_each(size_t places[MOST_KEYS])
+/* How many keys there are, with a call on each of eight. Those from the count on are not looked at. */
+static void key_counts(void)
 {
+    static const size_t wild[] = {9, 10, 255, 256, 65536 + 1, ((size_t)1 << 32) + 1, SIZE_MAX / 2 + 2, SIZE_MAX - 7, SIZE_MAX};
+    size_t places[MOST_KEYS + 1], whole;
     give_keys(MOST_KEYS);
     size = 0;
     for (int i = 0; i < MOST_KEYS; i++) {
         struct entry e = call(ENCRYPT, CTR, 9);
         e.key = numbers[i];
-        places[i] = record(e);
+        places[i] = write_answered(e);
     }
-}
-
-/* How many keys there are. Those from the count on are not looked at. */
-static void key_counts(void)
-{
-    static const size_t wild[] = {9, 10, 255, 256, 65536 + 1, ((size_t)1 << 32) + 1, SIZE_MAX / 2 + 2, SIZE_MAX - 7,
-        SIZE_MAX};
-    size_t places[MOST_KEYS];
-    record_on_each(places);
-    for (size_t count = 0; count < MOST_KEYS; count++) {
+    whole = size;
+    places[MOST_KEYS] = 0;
+    for (size_t count = 0; count <= MOST_KEYS; count++) {
         give_keys(count);
-        ask_for(25, count, places[count], "how many keys");
+        ask_for(count < MOST_KEYS ? 25 : 0, count, places[count], "how many keys");
     }
-    give_keys(MOST_KEYS);
-    ask_for(0, MOST_KEYS, 0, "how many keys");
     for (size_t i = 0; i < sizeof wild / sizeof *wild; i++) {
-        record_on_each(places);
         give_keys(wild[i]);
+        size = whole;
         ask_for(26, 0, 0, "how many keys");
         size = 0;
         ask_for(26, 0, 0, "how many keys, and no record");
@@ -619,26 +582,43 @@ static void bad_keys(void)
     APPEND(0x54);
     for (size_t count = 1; count <= MOST_KEYS; count++) {
         for (size_t i = 0; i < MOST_KEYS; i++) {
+            uint32_t due = i < count ? 26 : 23;
             for (size_t m = 0; m < sizeof marks; m++) {
                 give_keys(count);
                 ring.keys[i].retired = marks[m];
-                ask_for(i < count ? 26 : 23, 0, 0, "a retired key");
+                ask_for(due, 0, 0, "a retired key");
                 ring.keys[i].answer = 1;
-                ask_for(i < count ? 26 : 23, 0, 0, "no key that is retired");
+                ask_for(due, 0, 0, "no key that is retired");
             }
             for (size_t j = 0; j < i; j++) {
                 give_keys(count);
                 ring.keys[i].number = numbers[j];
-                ask_for(i < count ? 26 : 23, 0, 0, "a number twice");
+                ask_for(due, 0, 0, "a number twice");
                 ring.keys[i].answer = 7;
                 ask_for(23, 0, 0, "the number of a key in no key");
                 ring.keys[j].answer = 13;
-                ask_for(i < count ? 26 : 23, 0, 0, "two that are no keys");
+                ask_for(due, 0, 0, "two that are no keys");
                 ring.keys[j].answer = 0;
                 ring.keys[j].number = 0;
-                ask_for(i < count ? 26 : 23, 0, 0, "no key, and a key of number 0");
+                ask_for(due, 0, 0, "no key, and a key of number 0");
             }
         }
+    }
+}
+
+/* Records of every kind as the first two keys, and counts that are none. */
+static void key_rings(void)
+{
+    static const size_t counts[] = {0, 1, 2, 7, 8, 9, 10, 256, (size_t)1 << 32, ((size_t)1 << 32) + 1, SIZE_MAX / 2 + 1, SIZE_MAX - 1,
+        SIZE_MAX};
+    size_t places[SIX + 1];
+    give_keys(1);
+    write_six(places);
+    for (size_t i = 0; i < HOLDERS * HOLDERS * sizeof counts / sizeof *counts; i++) {
+        give_keys(counts[i / HOLDERS / HOLDERS]);
+        ring.keys[0] = record(holders[i % HOLDERS]);
+        ring.keys[1] = record(holders[i / HOLDERS % HOLDERS]);
+        ask();
     }
 }
 
@@ -648,18 +628,19 @@ static void one_record(struct holder fields)
 {
     struct luossavin_replayed r;
     uint32_t answer = fields.answer == 0 ? 0 : fields.answer == 13 ? 13 : 1;
+    int known = fields.answer == 0 || fields.number == 0;
     struct entry e = call(ENCRYPT, OFB, 7);
     give_keys(3);
     ring.keys[1] = holding(key, fields);
     ring.keys[2].number = 77;
     size = 0;
     e.key = fields.answer == 0 ? fields.number : 0;
-    record(e);
+    write_answered(e);
     e.mode = 5;
-    record(e);
+    write_answered(e);
     e.mode = OFB;
     e.key = 77;
-    record(e);
+    write_answered(e);
     if (fields.retired != 0) {
         ask_for(26, 0, 0, "a made-up record");
         return;
@@ -671,9 +652,8 @@ static void one_record(struct holder fields)
     check(r.bytes_in == 21 && r.bytes_out == (answer ? 7 : 14), "its bytes", "a made-up record", r.bytes_out);
     e.key = fields.number;
     size = 0;
-    record(e);
-    ask_for(fields.answer == 0 || fields.number == 0 ? 0 : 25, fields.answer == 0 || fields.number == 0, 0,
-        "a made-up record's number");
+    write_answered(e);
+    ask_for(known ? 0 : 25, (size_t)known, 0, "a made-up record's number");
 }
 
 /* Refusals, with every later one there as well. */
@@ -685,10 +665,10 @@ enum { NO_PART, LABEL, DATA, IV, OUTPUT, PARTS };
 static size_t write_wrong(int wrong, int part, int unknown)
 {
     size_t place;
-    struct entry e = long_call(PART_LIMIT + (part == LABEL), PART_LIMIT + (part == DATA), PART_LIMIT + (part == IV),
+    struct entry e = long_call(200, PART_LIMIT + (part == LABEL), PART_LIMIT + (part == DATA), PART_LIMIT + (part == IV),
         OUTPUT_LIMIT + (part == OUTPUT));
     size = 0;
-    record(call(ENCRYPT, CFB, 5));
+    write_answered(call(ENCRYPT, CFB, 5));
     add(otherwise(answered_on(call(ENCRYPT, CBC, 6), key), BYTE_OTHER));
     e.direction = wrong == DIRECTION ? 2 : 1;
     e.key = unknown ? 3 : NUMBER;
@@ -701,45 +681,44 @@ static size_t write_wrong(int wrong, int part, int unknown)
 
 static void refusals(void)
 {
-    for (int bad = 0; bad < 4; bad++) {
-        for (int i = 0; i < WRONGS * PARTS * 2; i++) {
-            int wrong = i % WRONGS, part = i / WRONGS % PARTS, unknown = i / WRONGS / PARTS;
-            uint32_t number = bad ? 26 : wrong ? 23 : part ? 24 : unknown ? 25 : 0;
-            struct luossavin_replayed r;
-            size_t place;
-            give_keys(2);
-            place = write_wrong(wrong, part, unknown);
-            ring.count = bad == 1 ? 9 : 2;
-            ring.keys[0].retired = bad == 2;
-            ring.keys[1].number = bad == 3 ? NUMBER : 1;
-            r = ask_for(number, bad ? 0 : number ? 2 : 3, bad || !number ? 0 : place, "what comes first");
-            check(r.differs == !bad && r.first_record == !bad, "the first difference", "what comes first", number);
-            check(r.bytes_in == (bad ? 0 : number ? 11 : 11 + PART_LIMIT), "its bytes", "what comes first", number);
-        }
+    for (int i = 0; i < 4 * WRONGS * PARTS * 2; i++) {
+        int bad = i % 4, wrong = i / 4 % WRONGS, part = i / 4 / WRONGS % PARTS, unknown = i / 4 / WRONGS / PARTS;
+        uint32_t number = bad ? 26 : wrong ? 23 : part ? 24 : unknown ? 25 : 0;
+        struct luossavin_replayed r;
+        size_t place;
+        give_keys(2);
+        place = write_wrong(wrong, part, unknown);
+        ring.count = bad == 1 ? 9 : 2;
+        ring.keys[0].retired = bad == 2;
+        ring.keys[1].number = bad == 3 ? NUMBER : 1;
+        r = ask_for(number, bad ? 0 : number ? 2 : 3, bad || !number ? 0 : place, "what comes first");
+        check(r.differs == !bad && r.first_record == !bad, "the first difference", "what comes first", number);
+        check(r.bytes_in == (bad ? 0 : number ? 11 : 11 + PART_LIMIT), "its bytes", "what comes first", number);
     }
 }
 
 /* Journals that are joined. */
 
 /* The report of two journals, of which the second begins behind so many records and bytes, is that of each added up. */
-static void add_up(const struct luossavin_replayed *a, const struct luossavin_replayed *b,
-    const struct luossavin_replayed *both, size_t records, size_t bytes)
+static void add_up(const struct luossavin_replayed *a, const struct luossavin_replayed *b, struct luossavin_replayed *both, size_t records,
+    size_t bytes)
 {
+    struct luossavin_replayed sum = *a;
+    sum.records += b->records;
     for (int i = 0; i < 6; i++) {
-        check(both->by_mode[i] == a->by_mode[i] + b->by_mode[i], "its modes", "two journals joined", (size_t)i);
+        sum.by_mode[i] += b->by_mode[i];
     }
-    for (int i = 0; i < 27; i++) {
-        check(both->by_answer[i] == a->by_answer[i] + b->by_answer[i], "its answers", "two journals joined", (size_t)i);
+    for (int i = 0; i < LUOSSAVIN_NUMBERS; i++) {
+        sum.by_answer[i] += b->by_answer[i];
     }
-    check(both->bytes_in == a->bytes_in + b->bytes_in, "its bytes in", "two journals joined", both->bytes_in);
-    check(both->bytes_out == a->bytes_out + b->bytes_out, "its bytes out", "two journals joined", both->bytes_out);
-    check(both->differs == (a->differs | b->differs), "whether one differs", "two journals joined", records);
-    if (both->differs == 1) {
-        check(both->first_record == (a->differs ? a->first_record : records + b->first_record), "the first one",
-            "two journals joined", records);
-        check(both->first_place == (a->differs ? a->first_place : bytes + b->first_place), "its place",
-            "two journals joined", records);
+    sum.bytes_in += b->bytes_in;
+    sum.bytes_out += b->bytes_out;
+    if (!a->differs && b->differs) {
+        sum.differs = 1;
+        sum.first_record = records + b->first_record;
+        sum.first_place = bytes + b->first_place;
     }
+    check(difference_replayed(both, &sum) == NULL, "two journals joined", "their reports added up", records);
 }
 
 /* Six calls, of which one differs or none, cut between any two of them. */
@@ -748,23 +727,22 @@ static void joined(void)
     static uint8_t whole[2000];
     size_t places[SIX + 1];
     give_keys(1);
-    for (size_t other = 0; other <= SIX; other++) {
-        for (size_t from = 0; from <= SIX; from++) {
-            struct luossavin_replayed a, b, both;
-            record_six(places);
-            if (other < SIX) {
-                /* its mode */
-                file[places[other] + 3] = 5;
-            }
-            memcpy(whole, file, size);
-            both = ask_for(0, SIX, 0, "two journals joined");
-            size = places[from];
-            a = ask_for(0, from, 0, "the first of two journals");
-            size = places[SIX] - places[from];
-            memcpy(file, whole + places[from], size);
-            b = ask_for(0, SIX - from, 0, "the second of two journals");
-            add_up(&a, &b, &both, from, places[from]);
+    for (size_t i = 0; i < (SIX + 1) * (SIX + 1); i++) {
+        size_t other = i / (SIX + 1), from = i % (SIX + 1);
+        struct luossavin_replayed a, b, both;
+        write_six(places);
+        if (other < SIX) {
+            /* its mode */
+            file[places[other] + 3] = 5;
         }
+        memcpy(whole, file, size);
+        both = ask_for(0, SIX, 0, "two journals joined");
+        size = places[from];
+        a = ask_for(0, from, 0, "the first of two journals");
+        size = places[SIX] - places[from];
+        memcpy(file, whole + places[from], size);
+        b = ask_for(0, SIX - from, 0, "the second of two journals");
+        add_up(&a, &b, &both, from, places[from]);
     }
 }
 
@@ -790,7 +768,7 @@ static struct entry draw_call(void)
     e.data.length = below(8) ? e.data.length : below(65);
     e.label = below(8) ? e.label : (struct bytes){rfc_sealed, below(81)};
     e.iv.length = below(8) ? 16 : below(18);
-    e.room = (uint32_t)(below(4) ? 90 : below(2) ? below(90) : draw());
+    e.room = (uint32_t)(below(4) ? 90 : below(2) ? below(90) : (uint32_t)draw() >> below(32));
     e.key = below(4) ? NUMBER : below(4) ? numbers[below(MOST_KEYS)] : below(2) ? 0 : (uint16_t)draw();
     return e;
 }
@@ -808,7 +786,7 @@ static void damage(void)
     } else if (way == 3) {
         file[size++] = (uint8_t)draw();
     } else if (way == 4) {
-        add(long_call(below(2) * PART_LIMIT, PART_LIMIT + below(2), below(2) * PART_LIMIT, OUTPUT_LIMIT + below(2)));
+        add(long_call(200, below(2) * PART_LIMIT, PART_LIMIT + below(2), below(2) * PART_LIMIT, OUTPUT_LIMIT + below(2)));
         size -= below(4) ? 0 : 1 + below(size - 1);
     }
 }
@@ -816,40 +794,77 @@ static void damage(void)
 static void drawn(void)
 {
     unsigned long answers[NUMBERS] = {0}, differ = 0;
+    int count = is_sparse ? 500 : 15000;
     seed = 20261116;
-    for (int i = 0; i < 10000; i++) {
+    for (int i = 0; i < count; i++) {
         struct luossavin_replayed r;
         draw_keys();
         size = 0;
         for (size_t records = 1 + below(6); records > 0; records--) {
-            record(draw_call());
+            write_answered(draw_call());
         }
         damage();
-        r = ask("a journal that is drawn");
+        r = ask();
         answers[r.number]++;
         differ += r.differs;
     }
-    check(answers[0] > 999 && answers[23] > 999 && answers[24] > 99 && answers[25] > 999 && answers[26] > 99
-        && differ > 99, "every answer", "journals that are drawn", answers[24]);
+    check(is_sparse || (answers[0] > 999 && answers[23] > 999 && answers[24] > 99 && answers[25] > 999 && answers[26] > 99 && differ > 99),
+        "every answer", "journals that are drawn", answers[24]);
 }
 
-static void set_up_eight(void)
+/* One of more than 4 GiB: a megabyte of records, over and over, which each have 16 KiB. Behind them one differs, and
+ * then one has no direction. */
+enum { MIB = 1 << 20, MIBS = 4200, EACH = 16384 };
+
+static uint8_t *map(uint8_t *at, size_t length, int flags, int from)
 {
-    uint8_t other[16];
-    for (uint8_t i = 0; i < MOST_KEYS; i++) {
-        memcpy(other, key_bytes, 16);
-        other[15] ^= i;
-        eight[i] = luossavin_key_new(other, 16, numbers[i]);
+    uint8_t *pages = mmap(at, length, PROT_READ | PROT_WRITE, flags, from, 0);
+    if (pages == MAP_FAILED) {
+        perror("a long journal");
+        exit(2);
     }
+    return pages;
+}
+
+static uint8_t *map_long(void)
+{
+    size_t all = (size_t)MIBS * MIB;
+    uint8_t *pages = map(NULL, all, MAP_PRIVATE | MAP_ANONYMOUS | MAP_NORESERVE, -1);
+    int megabyte = memfd_create("journal", 0);
+    struct entry e = {.direction = ENCRYPT, .mode = 200, .key = NUMBER, .data = {plenty, EACH - BARE}, .number = 7};
+    size = write_entry(&e, file);
+    for (size_t at = 0; at < MIB; at += EACH) {
+        if (megabyte < 0 || size != EACH || write(megabyte, file, EACH) != EACH) {
+            perror("a long journal");
+            exit(2);
+        }
+    }
+    for (size_t at = 0; at < all; at += MIB) {
+        map(pages + at, MIB, MAP_PRIVATE | MAP_FIXED, megabyte);
+    }
+    close(megabyte);
+    return pages;
+}
+
+static void over_4_gib(void)
+{
+    uint8_t *pages = map_long(), *last = pages + (size_t)(MIBS - 1) * MIB;
+    uint64_t in_front = (uint64_t)(MIBS - 1) * (MIB / EACH), records = in_front + 20;
+    struct luossavin_replayed got, due = {.number = 23, .differs = 1, .place = records * EACH,
+        .first_record = in_front + 10, .first_place = (in_front + 10) * EACH, .records = records,
+        .by_mode = {[5] = records}, .by_answer = {[7] = records}, .bytes_in = records * (EACH - BARE)};
+    give_keys(1);
+    /* its number stands before the length of an output that is empty */
+    last[11 * EACH - 4 - 1] = 8;
+    last[20 * EACH + 2] = 2;
+    got = luossavin_replay(ring, pages, (size_t)MIBS * MIB);
+    judged(due.number, difference_replayed(&got, &due));
+    munmap(pages, (size_t)MIBS * MIB);
 }
 
 void journals(void)
 {
-    layout();
     set_up_eight();
-    signal(SIGALRM, on_signal);
-    signal(SIGSEGV, on_signal);
-    alarm(PATIENCE);
     by_hand();
     give_keys(1);
     every_mode();
@@ -860,22 +875,31 @@ void journals(void)
     for (unsigned byte = 0; byte < 256; byte++) {
         every_value(byte);
     }
-    differences();
     refused_otherwise();
     every_byte();
     cuts();
     lengths();
     sums();
-    limits();
-    each_limit();
-    key_numbers();
     own_keys();
     key_counts();
     bad_keys();
+    key_rings();
     every_record(one_record);
-    refusals();
     joined();
     drawn();
-    alarm(0);
-    signal(SIGSEGV, SIG_DFL);
+    if (!is_sparse) {
+        give_keys(1);
+        differences();
+        limits();
+        each_limit();
+        refusals();
+    }
+    /* by what bytes say, and not by where they stand: once */
+    if (!is_sparse && place != FENCE_BEFORE) {
+        key_numbers();
+    }
+    /* its pages are its own: no need of it for either side of the fence */
+    if (with_limits && place == FENCE_BEHIND) {
+        over_4_gib();
+    }
 }

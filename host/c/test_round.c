@@ -1,7 +1,7 @@
 /* Whether a counter came round: what single calls and messages in pieces say of texts about the place where it does,
  * by lengths that are written down here; texts of many blocks; IVs under which none does; the bytes on the other side;
- * refusals and calls that never say it; and J0 by two ways. */
-#include "smoke.h"
+ * another tag; and J0 by two ways. Refusals of such texts, in pieces too, are among those of any size. */
+#include "test.h"
 
 #include "prepared.h"
 #include "wrap.h"
@@ -34,14 +34,11 @@ static int says(struct luossavin_answer a, size_t length, int yes)
 static void in_one(uint32_t mode, const uint8_t *under, size_t iv_len, size_t n, int yes, const char *what)
 {
     const struct whole w = {.mode = mode, .data = n};
-    struct lent one, two;
-    uint8_t *there = lend(&one), *back = lend(&two);
-    struct luossavin_answer a = luossavin_encrypt(mode, key, label, sizeof label, rfc_text, n, under, iv_len, there,
-        ROOM);
-    check(says(a, room_needed(&w), yes) && untouched(&one, a.length), what, "encryption", n);
-    a = luossavin_decrypt(mode, luossavin_key_retire(key), label, sizeof label, there, a.length, under, iv_len, back,
-        ROOM);
-    check(says(a, n, yes) && untouched(&two, n), what, "decryption", n);
+    uint8_t *there = lend_again(one), *back = lend_again(two);
+    struct luossavin_answer a = luossavin_encrypt(mode, key, label, sizeof label, rfc_text, n, under, iv_len, there, ROOM);
+    check(says(a, room_needed(&w), yes) && untouched(one, a.length), what, "encryption", n);
+    a = luossavin_decrypt(mode, luossavin_key_retire(key), label, sizeof label, there, a.length, under, iv_len, back, ROOM);
+    check(says(a, n, yes) && untouched(two, n), what, "decryption", n);
     check(memcmp(back, rfc_text, n) == 0, what, "its text", n);
 }
 
@@ -171,136 +168,28 @@ static void behind(void)
     check(same, "the bytes behind the round", "Gcm", 16);
 }
 
-/* Refusals of a message of 48 bytes that comes round. */
-
-static void short_rooms(uint32_t mode, const uint8_t *under, const uint8_t *sealed, size_t length)
+/* Each bit of a sealed message that comes round is another once, and its label, which is 4. */
+static void wrong_tags(void)
 {
-    struct lent l;
-    uint8_t *out = lend(&l);
-    for (size_t room = 0; room < length; room++) {
-        refused(luossavin_encrypt(mode, key, label, sizeof label, rfc_text, 48, under, 16, out, room), &l, 6,
-            "coming round, no room to encrypt");
+    uint8_t under[16], sealed[ROOM], *out = lend_again(one);
+    iv_near(GCM, 0, under);
+    check(says(luossavin_encrypt(GCM, key, label, sizeof label, rfc_text, 48, under, 16, sealed, ROOM), 64, 1),
+        "a message that comes round", "Gcm", 48);
+    for (size_t bit = 0; bit < 8 * 64; bit++) {
+        sealed[bit / 8] ^= (uint8_t)(1 << bit % 8);
+        refused(luossavin_decrypt(GCM, key, label, sizeof label, sealed, 64, under, 16, out, ROOM), 4, "coming round, and another bit");
+        sealed[bit / 8] ^= (uint8_t)(1 << bit % 8);
     }
-    for (size_t room = 0; room < 48; room++) {
-        refused(luossavin_decrypt(mode, key, label, sizeof label, sealed, length, under, 16, out, room), &l, 6,
-            "coming round, no room to decrypt");
-    }
+    refused(luossavin_decrypt(GCM, key, label, 5, sealed, 64, under, 16, out, ROOM), 4, "coming round, and another label");
 }
 
-static void each_refused(uint32_t mode, const uint8_t *under)
+/* Single blocks of all ones. */
+static void blocks_of_ones(void)
 {
-    const struct luossavin_key none = luossavin_key_new(key_bytes, 15, NUMBER);
-    const struct luossavin_key zeroth = luossavin_key_new(key_bytes, 16, 0), old = luossavin_key_retire(key);
-    const size_t over = sizeof too_long;
-    const uint8_t *text = rfc_text;
-    struct lent l;
-    uint8_t *out = lend(&l);
-    refused(luossavin_encrypt(mode, none, NULL, 0, text, 48, under, 16, out, ROOM), &l, 1, "coming round, no key");
-    refused(luossavin_decrypt(mode, zeroth, NULL, 0, text, 48, under, 16, out, ROOM), &l, 13, "and no number");
-    refused(luossavin_encrypt(mode, key, NULL, 0, text, 48, under, 15, out, ROOM), &l, 10, "and a short IV");
-    refused(luossavin_encrypt(mode, old, NULL, 0, text, 48, under, 16, out, ROOM), &l, 14, "and a retired key");
-    refused(luossavin_encrypt(mode, key, NULL, 0, too_long, over, under, 16, out, ROOM), &l, 5, "and too long");
-    refused(luossavin_encrypt(5, key, NULL, 0, text, 48, under, 16, out, ROOM), &l, 7, "and no mode");
-    if (mode == GCM) {
-        refused(luossavin_encrypt(mode, key, too_long, over, text, 48, under, 16, out, ROOM), &l, 5, "and its label");
-    }
-}
-
-/* Each bit of a sealed message is another once, which is 4. */
-static void wrong_tags(const uint8_t *under, uint8_t *sealed, size_t length)
-{
-    struct lent l;
-    uint8_t *out = lend(&l);
-    for (size_t bit = 0; bit < 8 * length; bit++) {
-        sealed[bit / 8] ^= 1 << bit % 8;
-        refused(luossavin_decrypt(GCM, key, label, sizeof label, sealed, length, under, 16, out, ROOM), &l, 4,
-            "coming round, and another bit");
-        sealed[bit / 8] ^= 1 << bit % 8;
-    }
-    refused(luossavin_decrypt(GCM, key, label, 5, sealed, length, under, 16, out, ROOM), &l, 4, "and another label");
-    for (size_t n = 0; n < 16; n++) {
-        struct luossavin_answer due = {.number = 9, .missing = (uint8_t)(16 - n), .key = NUMBER};
-        answered(luossavin_decrypt(GCM, key, label, 6, sealed, n, under, 16, out, ROOM), &l, due, "and cut short");
-    }
-}
-
-static void refusals(uint32_t mode)
-{
-    uint8_t under[16], sealed[ROOM];
-    struct luossavin_answer a;
-    iv_near(mode, 0, under);
-    a = luossavin_encrypt(mode, key, label, sizeof label, rfc_text, 48, under, 16, sealed, ROOM);
-    check(a.number == 0 && a.came_round == 1, "a message that comes round", "refusals", mode);
-    short_rooms(mode, under, sealed, a.length);
-    each_refused(mode, under);
-    if (mode == GCM) {
-        wrong_tags(under, sealed, a.length);
-    }
-}
-
-/* A refused call on a message in pieces says no, and its end then says yes; after it all say no again. */
-static void refusals_in_pieces(enum kind kind)
-{
-    struct luossavin_answer short_tag = {.number = 9, .missing = 1, .key = NUMBER};
-    uint32_t mode = kind == COUNTING ? CTR : GCM;
-    uint8_t under[16], sealed[ROOM], *out;
-    const struct given g = {key, false, under, label, 16, sizeof label};
-    struct state s;
-    struct lent l;
-    iv_near(mode, 0, under);
-    prepared(luossavin_encrypt(mode, key, label, sizeof label, rfc_text, 40, under, 16, sealed, ROOM));
-    out = lend(&l);
-    check(says(call_start(kind, &s, &g), 0, 0), "a start says no", kind_names[kind], 0);
-    check(says(call_piece(&s, kind == OPENING ? sealed : rfc_text, 40, out, ROOM), kind == OPENING ? 0 : 40, 0),
-        "a piece says no", kind_names[kind], 40);
-    out = lend(&l);
-    refused(call_piece(&s, too_long, sizeof too_long, out, 0), &l, 5, "come round, a piece too long");
-    if (kind == SEALING) {
-        refused(call_end(&s, out, 15), &l, 6, "come round, no room for the tag");
-    } else if (kind == OPENING) {
-        answered(call_end(&s, sealed + 40, 15), &l, short_tag, "come round, a short tag");
-    }
-    check(says(call_end(&s, kind == OPENING ? sealed + 40 : out, 16), kind == SEALING ? 16 : 0, 1), "an end says yes",
-        kind_names[kind], 40);
-    out = lend(&l);
-    refused(call_piece(&s, rfc_text, 16, out, 16), &l, 12, "come round, and ended");
-    refused(call_end(&s, out, 16), &l, 12, "come round, and ended");
-}
-
-/* An end speaks of the text that went through its own state: a copy from before the round says no. */
-static void older_copy(enum kind kind)
-{
-    uint8_t under[16], out[ROOM];
-    const struct given g = {key, true, under, label, 16, sizeof label};
-    struct state s, copy;
-    size_t tag = kind == SEALING ? 16 : 0;
-    iv_near(kind == COUNTING ? CTR : GCM, kind == COUNTING ? 0 : 1, under);
-    call_start(kind, &s, &g);
-    call_piece(&s, rfc_text, 16, out, 16);
-    copy = s;
-    call_piece(&s, rfc_text, 1, out, 1);
-    check(says(call_end(&copy, out, 16), tag, 0), "a copy from before the round", kind_names[kind], 16);
-    check(says(call_end(&s, out, 16), tag, 1), "a byte behind it", kind_names[kind], 17);
-}
-
-/* Single blocks of all ones, and the question which label a file opens under, of one that comes round. */
-static void others(void)
-{
-    uint8_t ones[16], under[16], file[ROOM], out[16];
-    const size_t length = sizeof label;
-    struct luossavin_found f;
+    uint8_t ones[16], out[16];
     memset(ones, 0xff, 16);
     check(done(luossavin_block_encrypt(key, ones, 16, out, 16), 16), "encryption says no", "a block of all ones", 16);
     check(done(luossavin_block_decrypt(key, ones, 16, out, 16), 16), "decryption says no", "a block of all ones", 16);
-    iv_near(GCM, 0, under);
-    prepared(luossavin_encrypt(GCM, key, label, sizeof label, rfc_text, 48, under, 16, file, ROOM));
-    f = luossavin_which(key, file, 64, under, 16, label, sizeof label, &length, 1);
-    check(done(f.answer, 0) && f.found == 1, "it says no", "which label, found", 64);
-    file[63] ^= 1;
-    f = luossavin_which(key, file, 64, under, 16, label, sizeof label, &length, 1);
-    check(done(f.answer, 0) && f.found == 0, "it says no", "which label, none", 64);
-    f = luossavin_which(key, file, 3, under, 16, label, sizeof label, &length, 1);
-    check(f.answer.number == 9 && f.answer.came_round == 0, "it says no", "which label, refused", 3);
 }
 
 /* J0 as the tests work it out is what the tag of nothing, under no label, decrypts to: that tag is J0 encrypted. */
@@ -333,13 +222,7 @@ void rounds(void)
     one_bit();
     never();
     behind();
-    refusals(CTR);
-    refusals(GCM);
-    for (enum kind kind = COUNTING; kind < KINDS; kind++) {
-        refusals_in_pieces(kind);
-    }
-    older_copy(COUNTING);
-    older_copy(SEALING);
-    others();
+    wrong_tags();
+    blocks_of_ones();
     j0_by_two_ways();
 }
