@@ -1,3 +1,4 @@
+pub mod Cases
 pub mod Begun
 pub mod Pads
 pub mod KeyStream
@@ -5,9 +6,7 @@ pub mod Filling
 pub mod HashOn
 pub mod Passing
 pub mod Stepping
-pub mod TagWords
 pub mod Sealing
-pub mod Opening
 pub mod CtrInPieces
 pub mod OpensInPieces
 pub mod SealInPieces

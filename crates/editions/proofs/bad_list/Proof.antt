@@ -17,4 +17,4 @@ unfolding badList
 returns-2 c = rw (le-ltb _ _ (c .before .if1 .left)) (ap not (c .add-up .ensures))
 
 pub bad-list-spec : {M : Type 1} → statement M
-bad-list-spec = tie.close (tie.spec returns (λ c κs. search needs) returns-2)
+bad-list-spec = tie.close (tie.spec returns (search needs) returns-2)

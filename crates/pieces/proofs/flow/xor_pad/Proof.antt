@@ -42,8 +42,5 @@ returns c =
     pad-reached (now (a .«data»)) (a .t1) (now (a .out)) (l .out) (a .p) (l .i) (l .inv .2) (omega arith)
 
 pub xor-pad-spec : {M : Type 1} → statement M
-xor-pad-spec =
-    tie.close
-    (tie.spec
-    Inv-loop μ-loop (λ c. omega arith) (λ c κs. search needs) loop-holds (λ c. omega arith) (λ c. omega arith)
-    (λ c. omega arith) (λ c. omega arith) (λ c. omega arith) (λ c. omega arith) loop-again (λ c. omega arith) returns)
+xor-pad-spec = tie.close (tie.spec Inv-loop μ-loop (λ c. omega arith) (λ c κs. search needs) loop-holds (λ c. omega arith)
+    (λ c. omega arith) (λ c. omega arith) (λ c. omega arith) (λ c. omega arith) (λ c. omega arith) loop-again (λ c. omega arith) returns)

@@ -48,7 +48,5 @@ returns c =
     l .inv .3 ∙ ap₂ _++_ all none ∙ append-nil (filledUp s)
 
 pub filled-spec : {M : Type 1} → statement M
-filled-spec =
-    tie.close
-    (tie.spec
-    Inv-loop μ-loop loop-holds (λ c κs. search needs) (λ c. omega arith) (λ c. omega arith) (λ c. omega arith) loop-again returns)
+filled-spec = tie.close (tie.spec Inv-loop μ-loop loop-holds (λ c κs. search needs) (λ c. omega arith) (λ c. omega arith)
+    (λ c. omega arith) loop-again returns)
