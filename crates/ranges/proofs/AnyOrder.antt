@@ -3,7 +3,7 @@
 -- Assumes nothing.
 use mathlib.Core.Path.{_≡_, refl, sym, ap, _∙_}
 use mathlib.Core.HLevel.{hedberg}
-use mathlib.Core.Bool.{true}
+use mathlib.Core.Bool.{true, false≢true}
 use mathlib.Core.List.{List, [], _∷_, foldr, Perm, Perm·foldr-eq, List·isSet}
 use Prim.Native.Nat.{ℕ, zero, suc, _+_, _-_, _≤_, min}
 use native.Mathlib.Decide.{ℕ-discrete}
@@ -19,7 +19,8 @@ use Rattle.ranges.specs.declared.plan.Plan.{Plan}
 use Rattle.ranges.specs.Plan.{follows, accepts}
 use Rattle.ranges.specs.Range.{stretch}
 use Rattle.ranges.specs.Shares.{Share, shares, sharesOf, shareOf, laidAt, worked, allWorked}
-use Rattle.ranges.proofs.Accepted.{first-piece, from-0-to-n}
+use Rattle.ranges.proofs.Accepted.{from-0-to-n}
+use Rattle.ranges.proofs.Following.{first-piece}
 use Rattle.ranges.proofs.KeyStream.{pads, chain-pads, stretch-pads}
 use Rattle.ranges.proofs.Copied.{copied, length-copied, none-copied, copies-commute, copies-join, all-copied, laid-copied}
 
@@ -50,10 +51,12 @@ module _ (rk iv d : List ℕ) where
       let j = p .start + length d in
       let k = pads rk j iv in
       let size = length-take (p .size) (drop (p .start) d) ∙ ap (λ (n : ℕ). min (p .size) n) (length-drop (p .start) d) in
-      stretch-pads rk iv (p .start) (shareOf p d) j (omega (arith, size))
-      ∙ sym (take-xors (p .size) (drop (p .start) d) (drop (p .start) k))
-      ∙ ap (take (p .size)) (sym (drop-xors (p .start) d k))
-      ∙ ap (λ (l : List ℕ). take (p .size) (drop (p .start) l)) (sym (chain-pads rk j iv d (omega arith)))
+      rw (
+        stretch-pads rk iv (p .start) (shareOf p d) j (omega (arith, size)),
+        chain-pads rk j iv d (omega arith),
+        drop-xors (p .start) d k,
+        take-xors (p .size) (drop (p .start) d) (drop (p .start) k),
+      )
 
   length-whole : length whole ≡ length d
   length-whole = length-stream Ctr·kind rk iv d
@@ -63,9 +66,7 @@ module _ (rk iv d : List ℕ) where
   copies p o = copied (p .start) (p .size) whole o
 
   worker-copies : (p : Share) (o : List ℕ) → length d ≤ length o → worked rk iv d p o ≡ copies p o
-  worker-copies p o h =
-      ap (λ (s : List ℕ). laidAt (p .start) s o) (share-of-whole p)
-      ∙ laid-copied (p .start) (p .size) whole o (omega (arith, h, length-whole))
+  worker-copies p o h = rw (share-of-whole p) (laid-copied (p .start) (p .size) whole o (omega (arith, h, length-whole)))
 
   all-copy : (ps : List Share) (o : List ℕ) → length d ≤ length o
       → (allWorked rk iv d ps o ≡ foldr copies o ps) × (length (foldr copies o ps) ≡ length o)
@@ -93,18 +94,13 @@ module _ (rk iv d : List ℕ) where
       → foldr copies o (shares ss ls) ≡ copied at (length d - at) whole o
   unfolding follows
   following at [] ls o e =
-      let end = eqb-true at (length d) e in
-      let none : length d - at ≡ 0 = omega (arith, end) in
-      sym (ap (λ (n : ℕ). copied at n whole o) none ∙ none-copied at whole o)
-  following at (s ∷ ss) [] o e = let z : _≡_ {A = ℕ} 0 1 = cc in absurd (omega arith)
+      let none : length d - at ≡ 0 = omega (arith, eqb-true at (length d) e) in
+      rw none (sym (none-copied at whole o))
+  following at (s ∷ ss) [] o e = absurd (false≢true e)
   following at (s ∷ ss) (l ∷ ls) o e =
       let f = first-piece at (length d) s l ss ls e in
-      let inside = f .inside in
-      let sum : l + (length d - (at + l)) ≡ length d - at = omega (arith, inside) in
-      ap (λ (k : ℕ). copied k l whole (foldr copies o (shares ss ls))) (f .starts-here)
-      ∙ ap (copied at l whole) (following (at + l) ss ls o (f .rest))
-      ∙ copies-join at l (length d - (at + l)) (at + l) whole o refl
-      ∙ ap (λ (n : ℕ). copied at n whole o) sum
+      let sum : l + (length d - (at + l)) ≡ length d - at = omega (arith, f .inside) in
+      rw (f .starts-here, following (at + l) ss ls o (f .rest), copies-join at l (length d - (at + l)) (at + l) whole o refl, sum)
 
   -- The shares of an accepted plan, whoever made it, done in any order, leave the single call's bytes in the output, and what is past them
   -- as it was.
