@@ -41,7 +41,9 @@ module _ (rk iv d : List ℕ) where
 
   -- what d gave stands before it
   pub ctr-joined : (e : List ℕ) → chain (streamMode Ctr·kind rk) iv d ++ ctrStretch e ≡ chain (streamMode Ctr·kind rk) iv (d ++ e)
-  ctr-joined e = rw (text-on Ctr·counting rk iv d e, drop-at (chain (streamMode Ctr·kind rk) iv d) _ (length d) (length-stream Ctr·kind rk iv d))
+  ctr-joined e =
+      let m = streamMode Ctr·kind rk in
+      rw (text-on Ctr·counting rk iv d e, drop-at (chain m iv d) _ (length d) (length-stream Ctr·kind rk iv d))
 
 module _ (k mark : ℕ) (rk iv d : List ℕ) where
   -- a piece e behind d gives its stretch of the single call on both, and the state after both
@@ -50,13 +52,9 @@ module _ (k mark : ℕ) (rk iv d : List ℕ) where
       ≡ step Ctr (under k (finished (length e))) (over (ctrStretch rk iv d e) o) (ctrAfter k mark rk iv (d ++ e))
   unfolding ctrPiece ctrAfter
   ctr-goes-on e o within room =
-      rw (
-        writing-passes 0 (length d) (omega arith) (length e) (length e) (length o) within room,
-        flow-on Ctr·counting rk iv d e,
-        length-append d e,
-        text-on Ctr·counting rk iv d e,
-        drop-at (chain (streamMode Ctr·kind rk) iv d) _ (length d) (length-stream Ctr·kind rk iv d),
-      )
+      rw (writing-passes 0 (length d) (omega arith) (length e) (length e) (length o) within room, flow-on Ctr·counting rk iv d e)
+      (rw (length-append d e, text-on Ctr·counting rk iv d e)
+      (rw (drop-at (chain (streamMode Ctr·kind rk) iv d) _ (length d) (length-stream Ctr·kind rk iv d))))
 
   -- the end is done, and tells of the counter what the single call does; then every call is refused by 12
   pub ctr-ended : length d ≤ limit

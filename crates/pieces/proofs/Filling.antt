@@ -10,13 +10,13 @@ use Rattle.ghash.proofs.Blocks.{getD-before-zeros}
 use Rattle.pieces.specs.Hashing.{filledUp}
 use Rattle.pieces.proofs.Begun.{take-through}
 
-module _ (held d : List ℕ) (p i : ℕ) (fits : p ≤ length held) where
+module _ (held d : List ℕ) (p i : ℕ) (sixteen : length held ≡ 16) (fits : p ≤ 16) where
   pub at-held : i < p → getD held i 0 ≡ getD (take p held ++ d) i 0
-  at-held h = rw (List·getD-append (take p held) d 0 i (omega (arith, length-take-le p held fits)), getD-take p held i 0 h)
+  at-held h = rw (List·getD-append (take p held) d 0 i (omega (arith, length-take-le p held (omega arith))), getD-take p held i 0 h)
 
   pub at-text : p ≤ i → getD d (i - p) 0 ≡ getD (take p held ++ d) i 0
   at-text h =
-      let k : length (take p held) + (i - p) ≡ i = omega (arith, length-take-le p held fits) in
+      let k : length (take p held) + (i - p) ≡ i = omega (arith, length-take-le p held (omega arith)) in
       rw (← (rw k at (getD-append-add (take p held) d (i - p) 0)))
 
 pub filled-length : (c : List ℕ) → length (filledUp c) ≡ 16

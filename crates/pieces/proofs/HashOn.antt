@@ -55,7 +55,9 @@ module _ (h y c : List ℕ) (eh : Element (numberOf h)) (ey : Element (numberOf 
   -- what is held before the place where the text ended
   held-is : take (length c % 16) (filledUp b) ≡ b
   unfolding filledUp
-  held-is = rw (← begun-length c) (take-take (length b) 16 (b ++ replicate 16 0) (omega (arith, begun-length c)) ∙ take-at b _ (length b) refl)
+  held-is =
+      let n = begun-length c in
+      rw (← n) (take-take (length b) 16 (b ++ replicate 16 0) (omega arith) ∙ take-at b _ (length b) refl)
 
   -- the hash after c and then e is that after both
   pub hash-on : (e : List ℕ) → hashNext (hashAfter h y c) (length c % 16) e ≡ hashAfter h y (c ++ e)
@@ -64,15 +66,8 @@ module _ (h y c : List ℕ) (eh : Element (numberOf h)) (ey : Element (numberOf 
       let k = length c / 16 in
       let n = full-length c in
       let whole : c ++ e ≡ a ++ (b ++ e) = ap (λ (l : List ℕ). l ++ e) (sym (both-parts c)) ∙ append-assoc a b e in
-      rw (
-        held-is,
-        so-far,
-        whole,
-        full-behind a (b ++ e) k n,
-        begun-behind a (b ++ e) k n,
-        blocks-append k a (fullPart (b ++ e)) n,
-        hash-append (numberOf h) (numberOf y) (blocks a) (blocks (fullPart (b ++ e))),
-      )
+      rw (held-is, so-far, whole, full-behind a (b ++ e) k n, begun-behind a (b ++ e) k n, blocks-append k a (fullPart (b ++ e)) n)
+      (rw (hash-append (numberOf h) (numberOf y) (blocks a) (blocks (fullPart (b ++ e)))))
 
   -- and at the end all blocks of c are hashed
   pub hash-ends : (label text : ℕ)
@@ -90,7 +85,8 @@ module _ (h : ℕ) (label c : List ℕ) where
   hash-on-of e = hash-on (bytesOf 16 h) (bytesOf 16 (ghash h (blocks label))) c (element-bytes h) (element-bytes (ghash h (blocks label))) e
 
   -- and at the end it is the hash of label and text
-  pub hash-ends-of : Element h → hashEnd (hashOf h label c) (length c % 16) (length label) (length c) ≡ bytesOf 16 (ghash h (authBlocks label c))
+  pub hash-ends-of : Element h
+      → hashEnd (hashOf h label c) (length c % 16) (length label) (length c) ≡ bytesOf 16 (ghash h (authBlocks label c))
   unfolding hashOf authBlocks
   hash-ends-of hh =
       let y = ghash h (blocks label) in

@@ -2,7 +2,7 @@
 -- Assumes nothing.
 use mathlib.Core.Path.{_≡_, refl, sym, ap, _∙_}
 use mathlib.Core.List.{List, [], _++_, append-assoc, append-nil}
-use Prim.Native.Nat.{ℕ, _-_, _%_, _≤_, _<_}
+use Prim.Native.Nat.{ℕ, _-_, _%_, _<_}
 use native.Mathlib.Omega.{arith}
 use lib.ListN.{length, take, drop, length-append, length-drop, drop-of-length-le}
 use borrow.Author.Tests.{lt-ltb, le-ltb}
@@ -60,17 +60,11 @@ module _ (c : Counting) (rk : List ℕ) where
         let both = length-append b e in
         let left = length-drop (length b) pad in
         by-order (length e) (16 - length b)
-        (λ h. rw (chain-rest m s (b ++ e) (omega arith), chain-rest m s b low, text-short (flowAt rk s) (length b) e h) (xors-cut b e pad (omega arith)))
-        (λ h. rw (
-          chain-block m s (b ++ e) (omega arith),
-          chain-rest m s b low,
-          counts c rk s (take 16 (b ++ e)),
-          take-through b e 16 (omega arith),
-          drop-through b e 16 (omega arith),
-          xors-cut b (take (16 - length b) e) pad (omega arith),
-          xors-front (16 - length b) e (drop (length b) pad) (omega arith),
-          append-assoc,
-        ))
+        (λ h. rw (chain-rest m s (b ++ e) (omega arith), chain-rest m s b low, text-short (flowAt rk s) (length b) e h)
+        (xors-cut b e pad (omega arith)))
+        (λ h. rw (chain-block m s (b ++ e) (omega arith), chain-rest m s b low, counts c rk s (take 16 (b ++ e)))
+        (rw (take-through b e 16 (omega arith), drop-through b e 16 (omega arith), xors-cut b (take (16 - length b) e) pad (omega arith))
+        (rw (xors-front (16 - length b) e (drop (length b) pad) (omega arith), append-assoc))))
 
     next-begun : flowNext c rk (flowAt rk s) (length b) e ≡ flowAfter c rk s (b ++ e)
     unfolding flowNext flowAfter
@@ -94,7 +88,8 @@ module _ (c : Counting) (rk : List ℕ) where
     here : flowAfter c rk s d ≡ flowAt rk t
     unfolding flowAfter
     here =
-        ap {B = Flow} (flowAt rk) (ap (endState m s) (sym (both-parts d)) ∙ end-cut m (begunPart d) s (fullPart d) full ∙ end-rest m t (begunPart d) low)
+        ap {B = Flow} (flowAt rk)
+        (ap (endState m s) (sym (both-parts d)) ∙ end-cut m (begunPart d) s (fullPart d) full ∙ end-rest m t (begunPart d) low)
 
     whole : d ++ e ≡ fullPart d ++ (begunPart d ++ e)
     whole = ap (λ (l : List ℕ). l ++ e) (sym (both-parts d)) ∙ append-assoc (fullPart d) (begunPart d) e
@@ -109,4 +104,5 @@ module _ (c : Counting) (rk : List ℕ) where
     text-on =
         let before : chain m s d ≡ chain m s (fullPart d) ++ chain m t (begunPart d) =
         ap (chain m s) (sym (both-parts d)) ∙ chain-cut m (begunPart d) (λ _. refl) s (fullPart d) full in
-        rw (whole, before, here, ← begun-length d, chain-cut m (begunPart d ++ e) (λ _. refl) s (fullPart d) full, text-begun t (begunPart d) e low, append-assoc)
+        rw (whole, before, here, ← begun-length d, chain-cut m (begunPart d ++ e) (λ _. refl) s (fullPart d) full)
+        (rw (text-begun t (begunPart d) e low, append-assoc))

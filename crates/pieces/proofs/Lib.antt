@@ -3,6 +3,7 @@ pub mod Begun
 pub mod Pads
 pub mod KeyStream
 pub mod Filling
+pub mod Fitting
 pub mod HashOn
 pub mod Passing
 pub mod Stepping

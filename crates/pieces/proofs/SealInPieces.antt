@@ -52,19 +52,15 @@ module _ (k mark : ℕ) (rk label iv d : List ℕ) (labelled : length label ≤ 
   -- a piece e behind d gives its stretch of the single call's ciphertext, and the state after both
   pub seal-goes-on : (e o : List ℕ) → length d + length e ≤ limit → length e ≤ length o
       → sealPiece (sealAfter k mark rk label iv d) e o
-      ≡ step Seal (under k (finished (length e))) (over (drop (length d) (textOf rk (J0 rk iv) (d ++ e))) o) (sealAfter k mark rk label iv (d ++ e))
+      ≡ step Seal (under k (finished (length e))) (over (drop (length d) (textOf rk (J0 rk iv) (d ++ e))) o)
+      (sealAfter k mark rk label iv (d ++ e))
   unfolding sealPiece sealAfter
   seal-goes-on e o within room =
       let j = J0 rk iv in
-      rw (
-        writing-passes (length label) (length d) labelled (length e) (length e) (length o) within room,
-        flow-on Gcm·counting rk (gcmNext j) d e,
-        length-append d e,
-        text-goes-on rk j d e,
-        drop-at (textOf rk j d) (here rk j d e) (length d) (length-text rk j d),
-        ← hash-on-of (hashKey rk) label (textOf rk j d) (here rk j d e),
-        length-text rk j d,
-      )
+      rw (writing-passes (length label) (length d) labelled (length e) (length e) (length o) within room)
+      (rw (flow-on Gcm·counting rk (gcmNext j) d e, length-append d e, text-goes-on rk j d e)
+      (rw (drop-at (textOf rk j d) (here rk j d e) (length d) (length-text rk j d))
+      (rw (← hash-on-of (hashKey rk) label (textOf rk j d) (here rk j d e), length-text rk j d))))
 
   -- the end gives the single call's tag, and tells of the counter what it does; then every call is refused by 12
   pub seal-ended : (o : List ℕ) → length d ≤ limit → 16 ≤ length o

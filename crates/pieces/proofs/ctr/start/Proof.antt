@@ -21,7 +21,8 @@ returns c =
     let at-refused = c .before .before in
     let told = at-refused .before .before in
     let at-check = told .before .before in
-    rw (← at-check .key-and-iv .ensures, told .checked .given .1, at-refused .refused .ensures, c .shut .ensures, c .before .number .ensures, at-check .before .number-in .ensures)
+    rw (← at-check .key-and-iv .ensures, told .checked .given .1, at-refused .refused .ensures, c .shut .ensures)
+    (rw (c .before .number .ensures, at-check .before .number-in .ensures))
 
 passed : (x : tie.After-enum-told) → length (now (x .before .before .before .before .before .args .iv)) ≡ 16
 passed x =
@@ -39,15 +40,8 @@ returns-2 c =
     let iv = now (a .iv) in
     let small : (i : ℕ) → getD iv i 0 < 256 = λ i. omega (arith, at-number .before .shared-slice-known .given i) in
     let counter = spelled iv _ (passed told) small (at-split .split-block .ensures) in
-    rw (
-      ← at-check .key-and-iv .ensures,
-      told .enum-told .given .1,
-      c .done .ensures,
-      at-begin .begin .ensures,
-      counter,
-      ← flow-start Ctr·counting (a .cipher .rk) iv,
-      at-number .number-in .ensures,
-    )
+    rw (← at-check .key-and-iv .ensures, told .enum-told .given .1, c .done .ensures, at-begin .begin .ensures, counter)
+    (rw (← flow-start Ctr·counting (a .cipher .rk) iv, at-number .number-in .ensures))
 
 pub start-spec : {M : Type 1} → statement M
 start-spec = tie.close (tie.spec (search needs) (search needs) (search needs) (search needs) (search needs) (search needs) returns

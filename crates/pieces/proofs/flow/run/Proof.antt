@@ -41,7 +41,9 @@ returns-2 c =
     let left = length-drop (a .p) (a .flow .pad) in
     let ended : length (xors d begun) ≡ 16 - a .p = length-both d begun ∙ omega arith in
     let onward = rw (tail-is d (16 - a .p)) at (at-onward .onward .ensures) in
-    (rw (le-ltb _ _ (at-else .if1 .left)) (onward .0), over-behind (xors d begun) _ (now (a .out)) (at-pad .xor-pad .last .1 .1 .1 .0) _ _ ended (at-pad .xor-pad .ensures) (onward .1))
+    let written = at-pad .xor-pad .last .1 .1 .1 .0 in
+    let behind = over-behind (xors d begun) _ (now (a .out)) written _ _ ended (at-pad .xor-pad .ensures) (onward .1) in
+    (rw (le-ltb _ _ (at-else .if1 .left)) (onward .0), behind)
 
 pub run-spec : {M : Type 1} → statement M
 run-spec = tie.close (tie.spec (search needs) (search needs) (search needs) returns (search needs) (search needs) (search needs)

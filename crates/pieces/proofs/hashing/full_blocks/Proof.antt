@@ -30,18 +30,8 @@ returns c =
     let k = length d - length d % 16 in
     let cut : k ≡ 16 * (length d / 16) = omega arith in
     let hashed = absorbed-both _ _ _ _ _ (at-first .absorb-all .ensures) (at-all .absorb-all2 .ensures) .hash in
-    rw (
-      c .before .before .bytes-of .ensures,
-      hashed,
-      c .filled .ensures,
-      tail-is d k,
-      sub-zero k,
-      cut,
-      full-first _ d (first-length S),
-      begun-behind _ d 1 (first-length S),
-      at-y .before .number-of .ensures,
-      at-y .number-of2 .ensures,
-    )
+    rw (c .before .before .bytes-of .ensures, hashed, c .filled .ensures, tail-is d k, sub-zero k, cut, full-first _ d (first-length S))
+    (rw (begun-behind _ d 1 (first-length S), at-y .before .number-of .ensures, at-y .number-of2 .ensures))
 
 pub full-blocks-spec : {M : Type 1} → statement M
 full-blocks-spec = tie.close (tie.spec (search needs) (search needs) (search needs) (search needs) (search needs) (search needs)

@@ -10,10 +10,10 @@ use mir.Syntax.{w8}
 use denote.Ref.{now}
 use lib.ListN.{length, take, getD, length-append}
 use lib.Seq.{length-take-le}
-use Rattle.block.proofs.Entries.{below-each}
 use Rattle.walk.proofs.Loop.{tail-is}
 use Rattle.pieces.specs.Hashing.{hashNext}
 use Rattle.pieces.proofs.Filling.{filled-full}
+use Rattle.pieces.proofs.Fitting.{bytes-fit}
 use Rattle.pieces.proofs.HashOn.{held-within}
 use borrow.Author.Needs.{needs}
 use Rattle.pieces.proofs.hashing.take_in.Statement.{statement}
@@ -36,7 +36,7 @@ returns c =
     let n = held-length S in
     let p = length-take-le (a .p) (a .g .held) (omega arith) in
     let low : length (take (a .p) (a .g .held) ++ now (a .«data»)) < 16 = rw length-append (omega arith) in
-    rw (c .before .filled .ensures) (held-within _ _ _ low (y-length S) (below-each 256 (a .g .y) (λ i. y-fits S i .fits)))
+    rw (c .before .filled .ensures) (held-within _ _ _ low (y-length S) (bytes-fit (a .g .y) (y-fits S)))
 
 returns-2 : tie.Need-returns-2
 unfolding hashNext

@@ -8,22 +8,25 @@ use mir.Val.{Fits}
 use mir.Syntax.{w8, w32}
 use denote.Ref.{now}
 use lib.ListN.{length, getD}
-use Rattle.block.specs.Below.{AreBytes}
 use Rattle.block.specs.Words.{words}
 use Rattle.block.specs.Xor.{xors}
 use Rattle.block.proofs.Entries.{below-each}
 use Rattle.block.proofs.WordsBack.{length-words, words-below, unwords-words, unwords-xors}
 use Rattle.block.proofs.Xors.{length-xors, xors-below}
 use Rattle.gcm.proofs.TagTest.{tag-test}
+use Rattle.pieces.proofs.Fitting.{bytes-fit, spelt}
 use borrow.Author.Needs.{needs}
 use Rattle.pieces.proofs.opens.same_tag.Statement.{statement}
 use Rattle.pieces.proofs.opens.same_tag.Tie as tie
 
-mask-length : (s : tie.Start) → (length (s .args .t2) ≡ 16) × (length (s .args .t3) ≡ 16)
-mask-length s = (search needs, search needs)
+both-long : (s : tie.Start) → (length (s .args .t2) ≡ 16) × (length (s .args .t3) ≡ 16)
+both-long s = (search needs, search needs)
 
-mask-fits : (s : tie.Start) (i : ℕ) → Fits w8 (getD (s .args .t2) i 0) × Fits w8 (getD (s .args .t3) i 0)
-mask-fits s i = (search needs, search needs)
+mask-fits : (s : tie.Start) (i : ℕ) → Fits w8 (getD (s .args .t2) i 0)
+mask-fits s i = search needs
+
+hash-fits : (s : tie.Start) (i : ℕ) → Fits w8 (getD (s .args .t3) i 0)
+hash-fits s i = search needs
 
 returns : tie.Need-returns
 returns c =
@@ -37,15 +40,17 @@ returns c =
     let hash = S .args .t3 in
     let small : (i : ℕ) → getD tag i 0 < 256 = λ i. omega (arith, at-data .shared-slice-known .given i) in
     let bt = below-each 256 tag small in
-    let bm = below-each 256 mask (λ i. mask-fits S i .0 .fits) in
-    let bh = below-each 256 hash (λ i. mask-fits S i .1 .fits) in
     let lm = length-words mask in
     let lh = length-words hash in
-    let test =
-    tag-test (words tag) (xors (words mask) (words hash)) (length-words tag) (length-xors (words mask) (words hash) (omega arith) ∙ lm)
-    (words-below tag bt) (xors-below 32 (words mask) (words hash) (words-below mask bm) (words-below hash bh)) in
-    rw (c .block-xor2 .ensures, at-tag .split-block3 .ensures, at-tag .before .block-xor .ensures, at-mask .split-block .ensures, at-hash .split-block2 .ensures)
-    (rw (unwords-xors (words mask) (words hash) lm lh, unwords-words tag (S .pre) bt, unwords-words mask (mask-length S .0) bm, unwords-words hash (mask-length S .1) bh) at test)
+    let bm = words-below mask (bytes-fit mask (mask-fits S)) in
+    let bh = words-below hash (bytes-fit hash (hash-fits S)) in
+    let four = length-xors (words mask) (words hash) (omega arith) ∙ lm in
+    let below = xors-below 32 (words mask) (words hash) bm bh in
+    let test = tag-test (words tag) (xors (words mask) (words hash)) (length-words tag) four (words-below tag bt) below in
+    let back = rw (unwords-xors (words mask) (words hash) lm lh, unwords-words tag (S .pre) bt) at test in
+    rw (c .block-xor2 .ensures, at-tag .split-block3 .ensures, at-tag .before .block-xor .ensures, at-mask .split-block .ensures)
+    (rw (at-hash .split-block2 .ensures)
+    (rw (spelt mask (both-long S .0) (mask-fits S), spelt hash (both-long S .1) (hash-fits S)) at back))
 
 small-words : (x : tie.After-block-xor2) (i : ℕ) → Fits w32 (getD (x .block-xor2 .result) i 0)
 small-words x i = search needs

@@ -16,7 +16,8 @@ returns c =
     let at-refused = c .before .before in
     let told = at-refused .before .before in
     let at-check = told .before .before in
-    rw (← at-check .gcm-start .ensures, told .checked .given .1, at-refused .refused .ensures, c .shut .ensures, c .before .number .ensures, at-check .before .number-in .ensures)
+    rw (← at-check .gcm-start .ensures, told .checked .given .1, at-refused .refused .ensures, c .shut .ensures)
+    (rw (c .before .number .ensures, at-check .before .number-in .ensures))
 
 begin-requires : tie.Need-begin-requires
 begin-requires c κs =
@@ -31,15 +32,8 @@ returns-2 c =
     let told = at-begin .before .before .before .before .before .before in
     let at-check = told .before .before in
     let begun = at-begin .begin .ensures .1 in
-    rw (
-      ← at-check .gcm-start .ensures,
-      told .enum-told .given .1,
-      c .done .ensures,
-      begun .0,
-      begun .1 .0,
-      begun .1 .1,
-      at-check .before .number-in .ensures,
-    )
+    rw (← at-check .gcm-start .ensures, told .enum-told .given .1, c .done .ensures, begun .0, begun .1 .0, begun .1 .1)
+    (rw (at-check .before .number-in .ensures))
 
 pub start-spec : {M : Type 1} → statement M
 start-spec = tie.close (tie.spec (search needs) (search needs) (search needs) (search needs) (search needs) (search needs) returns

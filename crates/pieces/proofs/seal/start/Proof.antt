@@ -22,7 +22,8 @@ returns c =
     let at-refused = c .before .before in
     let told = at-refused .before .before in
     let at-check = told .before .before in
-    rw (← at-check .gcm-start .ensures, told .checked .given .1, at-refused .refused .ensures, c .shut .ensures, c .before .number .ensures, at-check .before .number-in .ensures)
+    rw (← at-check .gcm-start .ensures, told .checked .given .1, at-refused .refused .ensures, c .shut .ensures)
+    (rw (c .before .number .ensures, at-check .before .number-in .ensures))
 
 begin-requires : tie.Need-begin-requires
 begin-requires c κs =
@@ -40,20 +41,9 @@ returns-2 c =
     let a = at-check .before .before .before .before .args in
     let j = J0 (a .cipher .rk) (now (a .iv)) in
     let begun = at-begin .begin .ensures in
-    rw (
-      ← at-check .gcm-start .ensures,
-      told .enum-told .given .1,
-      c .done .ensures,
-      c .before .begin2 .ensures,
-      at-next .gcm-block-add-one .ensures .0,
-      begun .0,
-      begun .1 .0,
-      begun .1 .1 .0,
-      begun .1 .1 .1,
-      ← flow-start Gcm·counting (a .cipher .rk) (gcmNext j),
-      no-text (a .cipher .rk) j,
-      at-check .before .number-in .ensures,
-    )
+    rw (← at-check .gcm-start .ensures, told .enum-told .given .1, c .done .ensures, c .before .begin2 .ensures)
+    (rw (at-next .gcm-block-add-one .ensures .0, begun .0, begun .1 .0, begun .1 .1 .0, begun .1 .1 .1)
+    (rw (← flow-start Gcm·counting (a .cipher .rk) (gcmNext j), no-text (a .cipher .rk) j, at-check .before .number-in .ensures)))
 
 pub start-spec : {M : Type 1} → statement M
 start-spec = tie.close (tie.spec (search needs) (search needs) (search needs) (search needs) (search needs) (search needs) returns

@@ -15,8 +15,8 @@ returns c =
     let at-counter = c .before .before in
     let w = at-counter .first-counter .result in
     let word : Fits w32 (getD w 3 0) = search needs in
-    rw (← last-four w (word .fits), c .before .begin .ensures, c .ciphered .ensures, at-counter .first-counter .ensures, at-counter .before .hash-key .ensures)
-    (refl, (refl, (refl, refl)))
+    rw (← last-four w (word .fits), c .before .begin .ensures, c .ciphered .ensures, at-counter .first-counter .ensures)
+    (rw (at-counter .before .hash-key .ensures) (refl, (refl, (refl, refl))))
 
 pub begin-spec : {M : Type 1} → statement M
 begin-spec = tie.close (tie.spec (λ c κs. search needs) (λ c κs. c .before .before .before .before .pre .1) (search needs) (search needs)

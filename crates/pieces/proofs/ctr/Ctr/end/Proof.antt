@@ -7,8 +7,8 @@ use mir.Val.{Fits}
 use mir.Syntax.{w8}
 use native.Mathlib.Omega.{arith}
 use lib.ListN.{length, getD}
-use Rattle.cipher_mode.proofs.Ends.{spelled}
 use Rattle.pieces.specs.Calls.{ctrEnd}
+use Rattle.pieces.proofs.Fitting.{spelt}
 use borrow.Author.Needs.{needs}
 use Rattle.pieces.proofs.ctr.Ctr.end.Statement.{statement}
 use Rattle.pieces.proofs.ctr.Ctr.end.Tie as tie
@@ -29,9 +29,9 @@ returns-2 c =
     let at-round = c .before .before in
     let told = at-round .before .before .before .before in
     let at-check = told .before .before in
-    let S = at-check .before in
-    let first = spelled (S .args .self .first) _ (first-length S) (λ i. first-fits S i .fits) (at-round .before .split-block .ensures) in
-    rw (← at-check .running .ensures, told .enum-told .given .1, c .before .done-round .ensures, at-round .ctr-came-round .ensures, first, c .shut .ensures)
+    let first = spelt (at-check .before .args .self .first) (first-length (at-check .before)) (first-fits (at-check .before)) in
+    rw (← at-check .running .ensures, told .enum-told .given .1, c .before .done-round .ensures, at-round .ctr-came-round .ensures)
+    (rw (at-round .before .split-block .ensures, first, c .shut .ensures))
 
 pub end-spec : {M : Type 1} → statement M
 end-spec = tie.close (tie.spec (search needs) (search needs) (search needs) returns (search needs) (λ c. search needs)

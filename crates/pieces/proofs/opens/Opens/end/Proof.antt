@@ -25,31 +25,17 @@ unfolding opensEnd
 returns-2 c =
     let at-tag = c .before .before .before in
     let told = at-tag .before .before .before .before .before in
-    rw (
-      ← told .before .before .tagged .ensures,
-      told .enum-told .given .1,
-      ← at-tag .before .before .end .ensures,
-      ← at-tag .same-tag .ensures,
-      c .before .before .if1 .taken,
-      c .done-round .ensures,
-      c .before .gcm-came-round .ensures,
-      at-tag .before .shut .ensures,
-    )
+    rw (← told .before .before .tagged .ensures, told .enum-told .given .1, ← at-tag .before .before .end .ensures)
+    (rw (← at-tag .same-tag .ensures, c .before .before .if1 .taken, c .done-round .ensures, c .before .gcm-came-round .ensures)
+    (rw (at-tag .before .shut .ensures)))
 
 returns-3 : tie.Need-returns-3
 unfolding opensEnd
 returns-3 c =
     let at-tag = c .before .before in
     let told = at-tag .before .before .before .before .before in
-    rw (
-      ← told .before .before .tagged .ensures,
-      told .enum-told .given .1,
-      ← at-tag .before .before .end .ensures,
-      ← at-tag .same-tag .ensures,
-      c .before .if1 .left,
-      c .refused2 .ensures,
-      at-tag .before .shut .ensures,
-    )
+    rw (← told .before .before .tagged .ensures, told .enum-told .given .1, ← at-tag .before .before .end .ensures)
+    (rw (← at-tag .same-tag .ensures, c .before .if1 .left, c .refused2 .ensures, at-tag .before .shut .ensures))
 
 pub end-spec : {M : Type 1} → statement M
 end-spec = tie.close (tie.spec (search needs) (search needs) (search needs) returns (search needs)

@@ -1,7 +1,6 @@
 -- `pieces::opens::Opens::piece` meets its contract: what the checks refuse leaves the state, and otherwise the piece is hashed.
 -- Assumes nothing.
 use mathlib.Core.Path.{sym, _∙_}
-use native.Mathlib.Omega.{arith}
 use Rattle.pieces.specs.Calls.{opensPiece}
 use Rattle.pieces.proofs.Passing.{running-passed}
 use borrow.Author.Needs.{needs}

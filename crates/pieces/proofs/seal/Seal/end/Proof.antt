@@ -38,15 +38,8 @@ returns-2 c =
     let at-tag = at-round .before .before .before in
     let at-end = at-tag .before .before .before in
     let told = at-end .before .before .before in
-    rw (
-      ← told .before .before .writing .ensures,
-      told .enum-told .given .1,
-      c .before .done-round .ensures,
-      at-round .gcm-came-round .ensures,
-      at-tag .xor-pad .ensures,
-      at-end .end .ensures,
-      c .shut .ensures,
-    )
+    rw (← told .before .before .writing .ensures, told .enum-told .given .1, c .before .done-round .ensures)
+    (rw (at-round .gcm-came-round .ensures, at-tag .xor-pad .ensures, at-end .end .ensures, c .shut .ensures))
 
 pub end-spec : {M : Type 1} → statement M
 end-spec = tie.close (tie.spec (search needs) (search needs) (search needs) returns (search needs)

@@ -37,7 +37,8 @@ part-take-in-end c =
 
 add-t27 : tie.Need-add-t27
 add-t27 c =
-    let within = passed (c .before .before .before .before .before .before .before .before .before .before .before) .0 .within in search needs
+    let told = c .before .before .before .before .before .before .before .before .before .before .before in
+    let within = passed told .0 .within in search needs
 
 returns-2 : tie.Need-returns-2
 unfolding sealPiece
@@ -51,7 +52,8 @@ returns-2 c =
     let n = text-length Gcm·counting (s .rk) (s .flow) (s .total % 16) d (pad-length S) (omega arith) in
     let written : take (length d - 0) (over text (now (S .args .out))) ≡ text = rw sub-zero (take-at text _ (length d) n) in
     let ran = at-run .run-by .ensures in
-    rw (← told .before .before .writing .ensures, told .enum-told .given .1, c .done .ensures, c .before .take-in .ensures, ran .0, ran .1, written)
+    rw (← told .before .before .writing .ensures, told .enum-told .given .1, c .done .ensures, c .before .take-in .ensures, ran .0, ran .1)
+    (rw (written))
 
 pub piece-spec : {M : Type 1} → statement M
 piece-spec = tie.close (tie.spec (search needs) (search needs) (search needs) returns (search needs)
