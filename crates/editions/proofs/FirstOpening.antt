@@ -61,7 +61,8 @@ module _ (test : List ℕ → Bool) where
       })))
       (λ f. miss (none-yet labels ns n (length ns) e f))
 
-  searched : (labels lengths : List ℕ) (place start : ℕ) → Searched labels lengths place start (firstOpening test labels lengths place start)
+  searched : (labels lengths : List ℕ) (place start : ℕ)
+      → Searched labels lengths place start (firstOpening test labels lengths place start)
   unfolding firstOpening
   searched labels [] place start P hit miss = miss (λ i h. absurd (omega arith))
   searched labels (n ∷ ns) place start P hit miss =

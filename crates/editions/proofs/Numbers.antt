@@ -9,6 +9,7 @@ use Rattle.editions.specs.Candidates.{sum, badList}
 use Rattle.editions.specs.Which.{noneWith, which}
 
 -- these two lengths are not one byte
-pub wraps-nowhere : (c : Sm4Cipher) (file iv : List ℕ) (b : ℕ) → which c file iv (b ∷ []) (18446744073709551615 ∷ 2 ∷ []) ≡ noneWith (refusal 16)
+pub wraps-nowhere : (c : Sm4Cipher) (file iv : List ℕ) (b : ℕ)
+    → which c file iv (b ∷ []) (18446744073709551615 ∷ 2 ∷ []) ≡ noneWith (refusal 16)
 unfolding which badList sum
 wraps-nowhere c file iv b = refl

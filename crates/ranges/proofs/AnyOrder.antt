@@ -11,6 +11,7 @@ use native.Mathlib.Omega.{arith}
 use lib.ListN.{length, take, drop, length-take, length-drop}
 use borrow.Author.Tests.{eqb-true}
 use Rattle.block.specs.Xor.{_⊕_, xors}
+use Rattle.block.proofs.Xors.{xors-comm}
 use Rattle.walk.specs.Walk.{chain, over}
 use Rattle.stream.specs.Stream.{streamMode}
 use Rattle.stream.specs.declared.Kind.the-variants.{Ctr as Ctr·kind}
@@ -18,17 +19,13 @@ use Rattle.stream.proofs.RoundTrip.{length-stream}
 use Rattle.ranges.specs.declared.plan.Plan.{Plan}
 use Rattle.ranges.specs.Plan.{follows, accepts}
 use Rattle.ranges.specs.Range.{stretch}
-use Rattle.ranges.specs.Shares.{Share, shares, sharesOf, shareOf, laidAt, worked, allWorked}
+use Rattle.ranges.specs.Shares.{Share, shares, sharesOf, shareOf, worked, allWorked}
 use Rattle.ranges.proofs.Accepted.{from-0-to-n}
 use Rattle.ranges.proofs.Following.{first-piece}
 use Rattle.ranges.proofs.KeyStream.{pads, chain-pads, stretch-pads}
 use Rattle.ranges.proofs.Copied.{copied, length-copied, none-copied, copies-commute, copies-join, all-copied, laid-copied}
 
 -- a part of what is xored is that part of both
-xors-nothing : (a : List ℕ) → xors a [] ≡ []
-xors-nothing [] = refl
-xors-nothing (x ∷ a) = refl
-
 take-xors : (n : ℕ) (a p : List ℕ) → take n (xors a p) ≡ xors (take n a) p
 take-xors zero a p = refl
 take-xors (suc n) [] p = refl
@@ -38,7 +35,7 @@ take-xors (suc n) (x ∷ a) (y ∷ p) = ap {B = List ℕ} (λ l. (x ⊕ y) ∷ l
 drop-xors : (n : ℕ) (a p : List ℕ) → drop n (xors a p) ≡ xors (drop n a) (drop n p)
 drop-xors zero a p = refl
 drop-xors (suc n) [] p = refl
-drop-xors (suc n) (x ∷ a) [] = sym (xors-nothing (drop n a))
+drop-xors (suc n) (x ∷ a) [] = sym (xors-comm (drop n a) [])
 drop-xors (suc n) (x ∷ a) (y ∷ p) = drop-xors n a p
 
 module _ (rk iv d : List ℕ) where
@@ -51,12 +48,8 @@ module _ (rk iv d : List ℕ) where
       let j = p .start + length d in
       let k = pads rk j iv in
       let size = length-take (p .size) (drop (p .start) d) ∙ ap (λ (n : ℕ). min (p .size) n) (length-drop (p .start) d) in
-      rw (
-        stretch-pads rk iv (p .start) (shareOf p d) j (omega (arith, size)),
-        chain-pads rk j iv d (omega arith),
-        drop-xors (p .start) d k,
-        take-xors (p .size) (drop (p .start) d) (drop (p .start) k),
-      )
+      rw (stretch-pads rk iv (p .start) (shareOf p d) j (omega (arith, size)), chain-pads rk j iv d (omega arith))
+      (rw (drop-xors (p .start) d k, take-xors (p .size) (drop (p .start) d) (drop (p .start) k)))
 
   length-whole : length whole ≡ length d
   length-whole = length-stream Ctr·kind rk iv d

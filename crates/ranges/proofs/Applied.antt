@@ -70,7 +70,8 @@ module _ (rk iv : List ℕ) (offset n : ℕ) (t : List ℕ) where
   behind =
       let size = length-stretch rk iv offset here ∙ length-here in
       by-order (length t) (offset + n)
-      (λ far. rw (drop-of-length-le t {i = offset + length (stretch rk iv offset here)} (omega arith), drop-of-length-le t {i = offset + n} (omega arith)))
+      (λ far. rw (drop-of-length-le t {i = offset + length (stretch rk iv offset here)} (omega arith))
+      (rw (drop-of-length-le t {i = offset + n} (omega arith))))
       (λ near. let same : offset + length (stretch rk iv offset here) ≡ offset + n = omega arith in rw same)
 
   -- applying is xoring with the mask
@@ -109,12 +110,6 @@ pub ranges-commute : (rk₁ iv₁ rk₂ iv₂ : List ℕ) (p q : Share) (t : Lis
 ranges-commute rk₁ iv₁ rk₂ iv₂ p q t =
     let m₁ = masking rk₁ iv₁ p t in
     let m₂ = masking rk₂ iv₂ q t in
-    rw (
-      alike rk₁ iv₁ p t (applied rk₂ iv₂ q t) (length-applied rk₂ iv₂ q t),
-      alike rk₂ iv₂ q t (applied rk₁ iv₁ p t) (length-applied rk₁ iv₁ p t),
-      alike rk₂ iv₂ q t t refl,
-      alike rk₁ iv₁ p t t refl,
-      xors-assoc t m₂ m₁,
-      xors-assoc t m₁ m₂,
-      xors-comm m₂ m₁,
-    )
+    rw (alike rk₁ iv₁ p t (applied rk₂ iv₂ q t) (length-applied rk₂ iv₂ q t))
+    (rw (alike rk₂ iv₂ q t (applied rk₁ iv₁ p t) (length-applied rk₁ iv₁ p t), alike rk₂ iv₂ q t t refl, alike rk₁ iv₁ p t t refl)
+    (rw (xors-assoc t m₂ m₁, xors-assoc t m₁ m₂, xors-comm m₂ m₁)))

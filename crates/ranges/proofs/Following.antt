@@ -82,13 +82,9 @@ module _ (starts lengths : List ℕ) (count i at n : ℕ)
 
   turn : followsFrom starts lengths count n i at ≡ follows at n (s ∷ ss) (l ∷ ls)
   turn =
-      rw (
-        add-one i,
-        drop-cons (take count starts) i 0 (omega (arith, length-take-le count starts room)),
-        drop-cons (take count lengths) i 0 (omega (arith, length-take-le count lengths room′)),
-        getD-take count starts i 0 inside,
-        getD-take count lengths i 0 inside,
-      )
+      rw (add-one i, drop-cons (take count starts) i 0 (omega (arith, length-take-le count starts room)))
+      (rw (drop-cons (take count lengths) i 0 (omega (arith, length-take-le count lengths room′)), getD-take count starts i 0 inside)
+      (rw (getD-take count lengths i 0 inside)))
 
   pub follows-on : followsFrom starts lengths count n i at ≡ true → First at n s l ss ls
   follows-on e = first-piece at n s l ss ls (sym turn ∙ e)

@@ -6,7 +6,7 @@ use Prim.Native.Nat.{ℕ, zero, suc, _+_, _*_, _≤_}
 use native.Mathlib.Omega.{arith}
 use lib.ListN.{length, take, drop, replicate, length-append, length-drop, length-replicate, take-append-drop}
 use lib.Seq.{drop-at, length-take-le}
-use Rattle.block.specs.Xor.{_⊕_, xors}
+use Rattle.block.specs.Xor.{xors}
 use Rattle.block.proofs.Xors.{length-xors, xors-append}
 use Rattle.cipher.specs.Sm4.{encryptBlock}
 use Rattle.cipher.proofs.Blocks.{length-encryptBlock}
@@ -62,4 +62,5 @@ module _ (rk : List ℕ) where
       let m = length-pads rk j iv in
       let all : length (z ++ d) ≤ 16 * j = rw length-append (omega arith) in
       let within : length z ≤ length p = omega arith in
-      rw (chain-pads j iv (z ++ d) all, xors-cut z d p within, drop-at (xors z p) (xors d (drop (length z) p)) offset (length-xors z p within ∙ n), n)
+      rw (chain-pads j iv (z ++ d) all, xors-cut z d p within)
+      (rw (drop-at (xors z p) (xors d (drop (length z) p)) offset (length-xors z p within ∙ n), n))

@@ -50,7 +50,8 @@ module _ (n size : ℕ) where
   last-piece k at h g =
       let some = ne-eqb (n - at) 0 (λ e. omega (arith, e)) in
       let end : at + (n - at) ≡ n = omega arith in
-      rw (before k at h, past k (at + size) g, lt-ltb at n h, le-ltb size (n - at) (omega arith), eq-eqb at at refl, some, end, eq-eqb n n refl)
+      rw (before k at h, past k (at + size) g, lt-ltb at n h, le-ltb size (n - at) (omega arith), eq-eqb at at refl, some, end)
+      (rw (eq-eqb n n refl))
 
   full-piece : size % 16 ≡ 0 → 1 ≤ size → (k at : ℕ) → at + size < n → laid (suc k) at ≡ laid k (at + size)
   unfolding follows startsFrom lengthsFrom
@@ -65,7 +66,8 @@ module _ (n size : ℕ) where
   all-laid whole some (suc k) at h g =
       by-order at n
       (λ e. by-order (at + size) n
-      (λ f. full-piece whole (some (omega arith)) k at f ∙ all-laid whole some k (at + size) (omega arith) (omega (arith, g, suc-mul k size)))
+      (λ f. full-piece whole (some (omega arith)) k at f
+      ∙ all-laid whole some k (at + size) (omega arith) (omega (arith, g, suc-mul k size)))
       (λ f. last-piece k at e f))
       (λ e. no-piece (suc k) at (omega arith))
 

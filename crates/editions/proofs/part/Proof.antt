@@ -13,12 +13,6 @@ use borrow.Author.Needs.{needs}
 use Rattle.editions.proofs.part.Statement.{statement}
 use Rattle.editions.proofs.part.Tie as tie
 
-returns : tie.Need-returns
-unfolding partOf
-returns c =
-    let at-test = c .before .before in
-    rw (← at-test .is-candidate .ensures, not-true (at-test .is-candidate .result) (c .before .if1 .taken))
-
 is-found : (x : tie.Else1) → isFound (x .before .before .before .args .found .ended) ≡ true
 is-found x = sym (x .before .is-candidate .ensures) ∙ not-false (x .before .is-candidate .result) (x .if1 .left)
 
@@ -42,6 +36,9 @@ returns-4 c =
     rw (size, is-found (c .before .before .before), le-ltb (length (now (a .labels))) (a .found .start + a .found .length) (omega arith))
 
 pub part-spec : {M : Type 1} → statement M
-part-spec = tie.close (tie.spec (search needs) (search needs) (search needs) (search needs) returns (search needs) (search needs)
-    (search needs) returns-2 (search needs) (search needs) (search needs) (search needs) returns-3 (search needs) (search needs)
-    (search needs) (search needs) returns-4)
+unfolding partOf
+part-spec = tie.close (tie.spec (search needs) (search needs) (search needs) (search needs)
+    (λ c. let at-test = c .before .before in
+    rw (← at-test .is-candidate .ensures, not-true (at-test .is-candidate .result) (c .before .if1 .taken)))
+    (search needs) (search needs) (search needs) returns-2 (search needs) (search needs) (search needs) (search needs) returns-3
+    (search needs) (search needs) (search needs) (search needs) returns-4)

@@ -67,10 +67,13 @@ turned : (x : tie.After-opens-after Inv-loop μ-loop)
 turned x =
     let at-loop = x .before .before .before .before in
     let a = at-loop .before .before .before .before .args in
-    rw (x .opens-after .ensures) (search-turn (now (a .lengths)) (at-loop .loop .i) (omega arith) _ (now (a .labels)) _ _ (at-loop .loop .inv .3))
+    let l = at-loop .loop in
+    rw (x .opens-after .ensures) (search-turn (now (a .lengths)) (l .i) (omega arith) _ (now (a .labels)) _ _ (l .inv .3))
 
 returns : tie.Need-returns Inv-loop μ-loop
-returns c = let key = c .before .before .before .before .before .before .before .before .before .args .key in ap (onKey key) (rw (c .if1 .taken) at (turned (c .before)))
+returns c =
+    let key = c .before .before .before .before .before .before .before .before .before .args .key in
+    ap (onKey key) (rw (c .if1 .taken) at (turned (c .before)))
 
 loop-again : tie.Need-loop-again Inv-loop μ-loop
 loop-again c =
@@ -84,7 +87,9 @@ returns-2 : tie.Need-returns-2 Inv-loop μ-loop
 returns-2 c =
     let at-loop = c .before .before in
     let a = at-loop .before .before .before .before .args in
-    rw (c .without .ensures) (ap (onKey (a .key)) (search-end (now (a .lengths)) (at-loop .loop .i) (omega arith) _ (now (a .labels)) (at-loop .loop .start) _ (at-loop .loop .inv .3)))
+    let l = at-loop .loop in
+    rw (c .without .ensures)
+    (ap (onKey (a .key)) (search-end (now (a .lengths)) (l .i) (omega arith) _ (now (a .labels)) (l .start) _ (l .inv .3)))
 
 pub search-spec : {M : Type 1} → statement M
 search-spec = tie.close (tie.spec Inv-loop μ-loop loop-holds (omega arith) (omega arith) add-end (omega arith) (omega arith)

@@ -48,7 +48,8 @@ returns-2 c =
     let four : length j ≡ 4 = search needs in
     let fits : (i : ℕ) → Fits w32 (getD j i 0) = λ i. search needs in
     let spelled = below-each (2 ^ 32) j (λ i. fits i .fits) in
-    rw (c .search .ensures, at-mask .encrypt .ensures, encrypt-unwords _ j four spelled, at-counter .first-counter .ensures, at-key .hash-key .ensures)
+    rw (c .search .ensures, at-mask .encrypt .ensures, encrypt-unwords _ j four spelled, at-counter .first-counter .ensures)
+    (rw (at-key .hash-key .ensures))
 
 pub under-key-spec : {M : Type 1} → statement M
 under-key-spec = tie.close (tie.spec (search needs) returns (search needs) (search needs) (search needs) (λ c κs. search needs)

@@ -10,10 +10,6 @@ use borrow.Author.Needs.{needs}
 use Rattle.editions.proofs.which.Statement.{statement}
 use Rattle.editions.proofs.which.Tie as tie
 
-returns : tie.Need-returns
-unfolding which
-returns c = rw (← c .before .before .bad-list .ensures, c .before .if1 .taken, c .without .ensures)
-
 list-stands : (x : tie.Else1)
     → let a = x .before .before .before .before .before .before .args in
     badList (now (a .labels)) (now (a .lengths)) ≡ false
@@ -25,7 +21,8 @@ returns-2 c =
     let told = c .before .before in
     let at-check = told .before .before in
     let at-number = at-check .before in
-    rw (list-stands (at-number .before), ← at-check .check .ensures, told .checked .given .1, c .without2 .ensures, at-number .number-in .ensures)
+    rw (list-stands (at-number .before), ← at-check .check .ensures, told .checked .given .1, c .without2 .ensures)
+    (rw (at-number .number-in .ensures))
 
 under-key-requires : tie.Need-under-key-requires
 under-key-requires c κs =
@@ -40,8 +37,11 @@ returns-3 c =
     let told = c .before .before in
     let at-check = told .before .before in
     let at-number = at-check .before in
-    rw (list-stands (at-number .before), ← at-check .check .ensures, told .enum-told .given .1, c .under-key .ensures, at-number .number-in .ensures)
+    rw (list-stands (at-number .before), ← at-check .check .ensures, told .enum-told .given .1, c .under-key .ensures)
+    (rw (at-number .number-in .ensures))
 
 pub which-spec : {M : Type 1} → statement M
-which-spec = tie.close (tie.spec (search needs) (search needs) returns (search needs) (search needs) (search needs) (search needs)
-    returns-2 (search needs) under-key-requires returns-3)
+unfolding which
+which-spec = tie.close (tie.spec (search needs) (search needs)
+    (λ c. rw (← c .before .before .bad-list .ensures, c .before .if1 .taken, c .without .ensures)) (search needs) (search needs)
+    (search needs) (search needs) returns-2 (search needs) under-key-requires returns-3)

@@ -16,13 +16,6 @@ use borrow.Author.Needs.{needs}
 use Rattle.ranges.proofs.by_plan.by_plan.Statement.{statement}
 use Rattle.ranges.proofs.by_plan.by_plan.Tie as tie
 
-returns : tie.Need-returns
-unfolding planCall
-returns c =
-    let told = c .before in
-    let at-reach = told .before .before in
-    rw (← (rw zero-add at (at-reach .reach .ensures)), told .checked .given .1, at-reach .before .number-in .ensures)
-
 passed : (x : tie.After-enum-told)
     → let a = x .before .before .before .before .before .before .before .args in
     reachCheck (a .cipher .answer) (a .cipher .retired) (a .direction) (length (now (a .iv))) (length (now (a .«data»))) ≡ Passed
@@ -39,7 +32,8 @@ unfolding planCall
 returns-3 c =
     let at-accepts = c .before .before in
     let told = at-accepts .before in
-    rw (passed told, ← at-accepts .accepts .ensures, c .before .if1 .left, lt-ltb _ _ (c .if2 .taken), told .before .before .before .number-in .ensures)
+    rw (passed told, ← at-accepts .accepts .ensures, c .before .if1 .left, lt-ltb _ _ (c .if2 .taken))
+    (rw (told .before .before .before .number-in .ensures))
 
 pieces-by-requires : tie.Need-pieces-by-requires
 pieces-by-requires c κs =
@@ -57,16 +51,12 @@ returns-4 c =
     let told = at-accepts .before in
     let at-number = told .before .before .before in
     let a = at-number .before .before .before .before .args in
-    rw (
-      passed told,
-      ← at-accepts .accepts .ensures,
-      at-room .before .if1 .left,
-      le-ltb _ _ (at-room .if2 .left),
-      at-work .pieces-by .ensures,
-      length-stream Ctr (a .cipher .rk) (now (a .iv)) (now (a .«data»)),
-      at-number .number-in .ensures,
-    )
+    rw (passed told, ← at-accepts .accepts .ensures, at-room .before .if1 .left, le-ltb _ _ (at-room .if2 .left))
+    (rw (at-work .pieces-by .ensures, length-stream Ctr (a .cipher .rk) (now (a .iv)) (now (a .«data»)), at-number .number-in .ensures))
 
 pub by-plan-spec : {M : Type 1} → statement M
-by-plan-spec = tie.close (tie.spec (search needs) (search needs) (search needs) returns (search needs) (search needs) returns-2 returns-3
-    pieces-by-requires (search needs) returns-4)
+unfolding planCall
+by-plan-spec = tie.close (tie.spec (search needs) (search needs) (search needs)
+    (λ c. let at-reach = c .before .before .before in rw (← (rw zero-add at (at-reach .reach .ensures)), c .before .checked .given .1)
+    (rw (at-reach .before .number-in .ensures)))
+    (search needs) (search needs) returns-2 returns-3 pieces-by-requires (search needs) returns-4)

@@ -37,8 +37,8 @@ abbrev μ-loop : tie.MeasureT-loop
 loop-holds : tie.Need-loop-holds Inv-loop μ-loop
 loop-holds c =
     let S = c .before .before .before .before .before .before in
-    let accepted = S .pre .1 .1 .0 in
-    (at-most-64 _ _ accepted, search needs, search needs, omega arith, refl, from-0-to-n _ _ accepted, nothing-yet _ _ (now (S .args .«data»)) _)
+    let yes = S .pre .1 .1 .0 in
+    (at-most-64 _ _ yes, search needs, search needs, omega arith, refl, from-0-to-n _ _ yes, nothing-yet _ _ (now (S .args .«data»)) _)
 
 -- what the pieces to come say of the next one
 turn : (x : tie.In-loop Inv-loop μ-loop)
@@ -53,6 +53,12 @@ turn x =
     follows-on (a .plan .starts) (a .plan .lengths) (a .plan .count) (l .i) (l .at) (length (now (a .«data»)))
     (omega (arith, l .inv .0, l .inv .1)) (omega (arith, l .inv .0, l .inv .2)) (omega arith) (l .inv .5)
 
+part-put-stretch-start-2 : tie.Need-part-put-stretch-start-2 Inv-loop μ-loop
+part-put-stretch-start-2 c =
+    let inv = c .before .before .loop .inv in
+    let S = c .before .before .before .before .before .before .before .before .before in
+    omega (arith, inv .3, inv .4, S .pre .1 .1 .1)
+
 put-stretch-requires : tie.Need-put-stretch-requires Inv-loop μ-loop
 put-stretch-requires c κs =
     let tested = c .before .before in
@@ -62,7 +68,8 @@ put-stretch-requires c κs =
     let size = getD (S .args .plan .lengths) (l .i) 0 in
     let here = length-take (l .at + size - l .at) (drop (l .at) d) in
     let there = length-tailed (l .out) (l .at) in
-    (S .pre .0, (S .pre .1 .0, omega (arith, here, there, length-drop (l .at) d, turn tested .inside, l .inv .3, l .inv .4, S .pre .1 .1 .1)))
+    let left = length-drop (l .at) d in
+    (S .pre .0, (S .pre .1 .0, omega (arith, here, there, left, turn tested .inside, l .inv .3, l .inv .4, S .pre .1 .1 .1)))
 
 loop-again : tie.Need-loop-again Inv-loop μ-loop
 loop-again c =
@@ -103,5 +110,4 @@ returns c =
 pub put-pieces-spec : {M : Type 1} → statement M
 put-pieces-spec = tie.close (tie.spec Inv-loop μ-loop loop-holds (omega arith) (omega arith) (omega arith) (omega arith)
     (λ c. record { fits = omega (arith, turn c .inside) }) (omega arith) (omega arith) (λ c. omega (arith, turn c .inside)) (omega arith)
-    (λ c. let l = c .before .before .loop in let S = c .before .before .before .before .before .before .before .before .before in omega (arith, l .inv .3, l .inv .4, S .pre .1 .1 .1))
-    (omega arith) put-stretch-requires (omega arith) (omega arith) loop-again (omega arith) returns)
+    part-put-stretch-start-2 (omega arith) put-stretch-requires (omega arith) (omega arith) loop-again (omega arith) returns)

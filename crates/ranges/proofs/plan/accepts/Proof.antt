@@ -30,14 +30,16 @@ turn : (x : tie.After-is-piece Inv-loop μ-loop)
     → let l = x .before .before .loop in
     let a = x .before .before .before .before .before .before .args in
     let p = a .plan in
-    cond (x .is-piece .result) (followsFrom (p .starts) (p .lengths) (p .count) (a .n) (l .i + 1) (l .at + getD (p .lengths) (l .i) 0)) false
+    let end = l .at + getD (p .lengths) (l .i) 0 in
+    cond (x .is-piece .result) (followsFrom (p .starts) (p .lengths) (p .count) (a .n) (l .i + 1) end) false
     ≡ followsFrom (p .starts) (p .lengths) (p .count) (a .n) 0 0
 turn x =
     let l = x .before .before .loop in
     let a = x .before .before .before .before .before .before .args in
     let p = a .plan in
-    let decides = tested (p .starts) (p .lengths) (p .count) (l .i) (l .at) (a .n) (omega (arith, l .inv)) (omega (arith, l .inv)) (omega arith) (omega arith) in
-    rw (x .is-piece .ensures) (sym decides ∙ l .inv .5)
+    rw (x .is-piece .ensures)
+    (sym (tested (p .starts) (p .lengths) (p .count) (l .i) (l .at) (a .n) (omega (arith, l .inv)) (omega (arith, l .inv)) (omega arith)
+    (omega arith)) ∙ l .inv .5)
 
 fits : (x : tie.Else2 Inv-loop μ-loop)
     → let l = x .before .before .before .loop in
@@ -47,14 +49,15 @@ fits x =
     let l = x .before .before .before .loop in
     let a = x .before .before .before .before .before .before .before .args in
     let p = a .plan in
-    piece-fits (p .starts) (p .lengths) (p .count) (l .i) (l .at) (a .n) (omega (arith, l .inv)) (omega (arith, l .inv)) (omega arith) (omega arith)
-    (sym (x .before .is-piece .ensures) ∙ not-false (x .before .is-piece .result) (x .if2 .left))
+    piece-fits (p .starts) (p .lengths) (p .count) (l .i) (l .at) (a .n) (omega (arith, l .inv)) (omega (arith, l .inv)) (omega arith)
+    (omega arith) (sym (x .before .is-piece .ensures) ∙ not-false (x .before .is-piece .result) (x .if2 .left))
 
 returns-2 : tie.Need-returns-2 Inv-loop μ-loop
 unfolding accepts
 returns-2 c =
     let p = c .before .before .before .before .before .before .before .args .plan in
-    rw (le-leb (p .count) 64 (c .before .before .before .loop .inv .0), ← turn (c .before), not-true (c .before .is-piece .result) (c .if2 .taken))
+    rw (le-leb (p .count) 64 (c .before .before .before .loop .inv .0), ← turn (c .before))
+    (rw (not-true (c .before .is-piece .result) (c .if2 .taken)))
 
 loop-again : tie.Need-loop-again Inv-loop μ-loop
 loop-again c =

@@ -23,7 +23,8 @@ returns-4 : tie.Need-returns-4
 unfolding planned
 returns-4 c =
     let b = c .before .before in
-    rw (c .plan-in .ensures, c .before .piece-size .ensures, ne-eqb _ _ (b .before .before .if1 .left), le-ltb _ _ (b .before .if2 .left), le-ltb _ _ (b .if3 .left))
+    rw (c .plan-in .ensures, c .before .piece-size .ensures, ne-eqb _ _ (b .before .before .if1 .left), le-ltb _ _ (b .before .if2 .left))
+    (rw (le-ltb _ _ (b .if3 .left)))
 
 pub make-spec : {M : Type 1} → statement M
 unfolding planned

@@ -14,16 +14,10 @@ use borrow.Author.Needs.{needs}
 use Rattle.ranges.proofs.range.range.Statement.{statement}
 use Rattle.ranges.proofs.range.range.Tie as tie
 
-returns : tie.Need-returns
-unfolding rangeCall rangeCheck
-returns c =
-    let told = c .before .before in
-    let at-reach = told .before .before in
-    rw (← at-reach .reach .ensures, told .checked .given .1, c .refused .ensures, at-reach .before .number-in .ensures)
-
 passed : (x : tie.After-enum-told)
     → let a = x .before .before .before .before .before .before .before .args in
-    reachCheck (a .cipher .answer) (a .cipher .retired) (a .direction) (length (now (a .iv))) (a .offset + length (now (a .«data»))) ≡ Passed
+    let end = a .offset + length (now (a .«data»)) in
+    reachCheck (a .cipher .answer) (a .cipher .retired) (a .direction) (length (now (a .iv))) end ≡ Passed
 passed x = sym (x .before .before .reach .ensures) ∙ x .enum-told .given .1
 
 returns-2 : tie.Need-returns-2
@@ -40,16 +34,14 @@ returns-3 c =
     let told = at-room .before in
     let at-number = told .before .before .before in
     let a = at-number .before .before .before .before .args in
-    rw (
-      passed told,
-      le-ltb _ _ (at-room .if1 .left),
-      c .done .ensures,
-      at-work .stretch-by .ensures,
-      length-stretch (a .cipher .rk) (now (a .iv)) (a .offset) (now (a .«data»)),
-      at-number .number-in .ensures,
-    )
+    rw (passed told, le-ltb _ _ (at-room .if1 .left), c .done .ensures, at-work .stretch-by .ensures)
+    (rw (length-stretch (a .cipher .rk) (now (a .iv)) (a .offset) (now (a .«data»)), at-number .number-in .ensures))
 
 pub range-spec : {M : Type 1} → statement M
-range-spec = tie.close (tie.spec (search needs) (search needs) (search needs) (search needs) returns (search needs) (search needs)
-    returns-2 (λ c κs. (reach-passed _ _ _ _ _ (passed (c .before .before .before)), c .before .before .if1 .left)) (search needs)
-    (search needs) returns-3)
+unfolding rangeCall rangeCheck
+range-spec = tie.close (tie.spec (search needs) (search needs) (search needs) (search needs)
+    (λ c. let told = c .before .before in rw (← told .before .before .reach .ensures, told .checked .given .1)
+    (rw (c .refused .ensures, told .before .before .before .number-in .ensures)))
+    (search needs) (search needs) returns-2
+    (λ c κs. (reach-passed _ _ _ _ _ (passed (c .before .before .before)), c .before .before .if1 .left)) (search needs) (search needs)
+    returns-3)

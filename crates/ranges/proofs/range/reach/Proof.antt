@@ -14,7 +14,8 @@ use borrow.Author.Needs.{needs}
 use Rattle.ranges.proofs.range.reach.Statement.{statement}
 use Rattle.ranges.proofs.range.reach.Tie as tie
 
-passed : (x : tie.After-enum-told) → let a = x .before .before .before .args in keyAndIv (a .answer) (a .mark) (a .direction) Ctr (a .iv) ≡ Passed
+passed : (x : tie.After-enum-told)
+    → let a = x .before .before .before .args in keyAndIv (a .answer) (a .mark) (a .direction) Ctr (a .iv) ≡ Passed
 passed x = sym (x .before .before .key-and-iv .ensures) ∙ x .enum-told .given .1
 
 returns-2 : tie.Need-returns-2
@@ -23,11 +24,15 @@ returns-2 c = let a = c .before .before .before .before .args in rw (passed (c .
 
 returns-3 : tie.Need-returns-3
 unfolding reachCheck
-returns-3 c = let a = c .before .before .before .before .before .args in rw (passed (c .before .before), lt-ltb limit (a .offset + a .n) (omega arith))
+returns-3 c =
+    let a = c .before .before .before .before .before .args in
+    rw (passed (c .before .before), lt-ltb limit (a .offset + a .n) (omega arith))
 
 returns-4 : tie.Need-returns-4
 unfolding reachCheck
-returns-4 c = let a = c .before .before .before .before .before .args in rw (passed (c .before .before), le-ltb limit (a .offset + a .n) (omega arith))
+returns-4 c =
+    let a = c .before .before .before .before .before .args in
+    rw (passed (c .before .before), le-ltb limit (a .offset + a .n) (omega arith))
 
 pub reach-spec : {M : Type 1} → statement M
 unfolding reachCheck

@@ -13,10 +13,6 @@ use borrow.Author.Needs.{needs}
 use Rattle.pieces.proofs.ctr.Ctr.end.Statement.{statement}
 use Rattle.pieces.proofs.ctr.Ctr.end.Tie as tie
 
-returns : tie.Need-returns
-unfolding ctrEnd
-returns c = let told = c .before .before in rw (← told .before .before .running .ensures, told .checked .given .1, c .refused .ensures)
-
 first-length : (s : tie.Start) → length (s .args .self .first) ≡ 16
 first-length s = search needs
 
@@ -34,6 +30,8 @@ returns-2 c =
     (rw (at-round .before .split-block .ensures, first, c .shut .ensures))
 
 pub end-spec : {M : Type 1} → statement M
-end-spec = tie.close (tie.spec (search needs) (search needs) (search needs) returns (search needs) (λ c. search needs)
-    (λ c κs. let n = first-length (c .before .before .before .before .before) in omega arith) (search needs) (search needs) (search needs)
-    returns-2)
+unfolding ctrEnd
+end-spec = tie.close (tie.spec (search needs) (search needs) (search needs)
+    (λ c. let told = c .before .before in rw (← told .before .before .running .ensures, told .checked .given .1, c .refused .ensures))
+    (search needs) (λ c. search needs) (λ c κs. let n = first-length (c .before .before .before .before .before) in omega arith)
+    (search needs) (search needs) (search needs) returns-2)

@@ -11,10 +11,6 @@ use borrow.Author.Needs.{needs}
 use Rattle.pieces.proofs.ctr.Ctr.piece.Statement.{statement}
 use Rattle.pieces.proofs.ctr.Ctr.piece.Tie as tie
 
-returns : tie.Need-returns
-unfolding ctrPiece
-returns c = let told = c .before .before in rw (← told .before .before .writing .ensures, told .checked .given .1, c .refused .ensures)
-
 passed : (x : tie.After-enum-told)
     → let a = x .before .before .before .before .before .args in
     Runs (a .self .stands) 0 (a .self .total) (length (now (a .«data»))) × (length (now (a .«data»)) ≤ length (now (a .out)))
@@ -28,7 +24,9 @@ returns-2 c =
     rw (← told .before .before .writing .ensures, told .enum-told .given .1, c .done .ensures, ran .0, ran .1)
 
 pub piece-spec : {M : Type 1} → statement M
-piece-spec = tie.close (tie.spec (search needs) (search needs) (search needs) returns (search needs)
-    (λ c κs. (omega arith, passed (c .before .before .before .before) .1))
+unfolding ctrPiece
+piece-spec = tie.close (tie.spec (search needs) (search needs) (search needs)
+    (λ c. let told = c .before .before in rw (← told .before .before .writing .ensures, told .checked .given .1, c .refused .ensures))
+    (search needs) (λ c κs. (omega arith, passed (c .before .before .before .before) .1))
     (λ c. let within = passed (c .before .before .before .before .before .before .before) .0 .within in search needs) (search needs)
     (search needs) returns-2)

@@ -11,10 +11,6 @@ use borrow.Author.Needs.{needs}
 use Rattle.pieces.proofs.opens.Opens.end.Statement.{statement}
 use Rattle.pieces.proofs.opens.Opens.end.Tie as tie
 
-returns : tie.Need-returns
-unfolding opensEnd
-returns c = let told = c .before .before in rw (← told .before .before .tagged .ensures, told .checked .given .1, c .refused .ensures)
-
 passed : (x : tie.After-enum-told)
     → let a = x .before .before .before .before .args in
     Runs (a .self .stands) (a .self .label) (a .self .total) 0 × (length (now (a .tag)) ≡ 16)
@@ -38,6 +34,9 @@ returns-3 c =
     (rw (← at-tag .same-tag .ensures, c .before .if1 .left, c .refused2 .ensures, at-tag .before .shut .ensures))
 
 pub end-spec : {M : Type 1} → statement M
-end-spec = tie.close (tie.spec (search needs) (search needs) (search needs) returns (search needs)
+unfolding opensEnd
+end-spec = tie.close (tie.spec (search needs) (search needs) (search needs)
+    (λ c. let told = c .before .before in rw (← told .before .before .tagged .ensures, told .checked .given .1, c .refused .ensures))
+    (search needs)
     (λ c κs. let runs = passed (c .before .before) .0 in (omega arith, (omega (arith, runs .labelled), omega (arith, runs .within))))
     (search needs) (λ c κs. passed (c .before .before .before .before) .1) (search needs) (search needs) returns-2 (search needs) returns-3)

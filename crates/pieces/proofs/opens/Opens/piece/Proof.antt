@@ -7,10 +7,6 @@ use borrow.Author.Needs.{needs}
 use Rattle.pieces.proofs.opens.Opens.piece.Statement.{statement}
 use Rattle.pieces.proofs.opens.Opens.piece.Tie as tie
 
-returns : tie.Need-returns
-unfolding opensPiece
-returns c = let told = c .before .before in rw (← told .before .before .running .ensures, told .checked .given .1, c .refused .ensures)
-
 add-t15 : tie.Need-add-t15
 add-t15 c =
     let told = c .before .before .before in
@@ -23,5 +19,7 @@ returns-2 c =
     rw (← told .before .before .running .ensures, told .enum-told .given .1, c .done .ensures, c .before .take-in .ensures)
 
 pub piece-spec : {M : Type 1} → statement M
-piece-spec = tie.close (tie.spec (search needs) (search needs) (search needs) returns (search needs) (search needs) add-t15 (search needs)
-    returns-2)
+unfolding opensPiece
+piece-spec = tie.close (tie.spec (search needs) (search needs) (search needs)
+    (λ c. let told = c .before .before in rw (← told .before .before .running .ensures, told .checked .given .1, c .refused .ensures))
+    (search needs) (search needs) add-t15 (search needs) returns-2)

@@ -12,10 +12,6 @@ use borrow.Author.Needs.{needs}
 use Rattle.pieces.proofs.seal.Seal.end.Statement.{statement}
 use Rattle.pieces.proofs.seal.Seal.end.Tie as tie
 
-returns : tie.Need-returns
-unfolding sealEnd
-returns c = let told = c .before .before in rw (← told .before .before .writing .ensures, told .checked .given .1, c .refused .ensures)
-
 passed : (x : tie.After-enum-told)
     → let a = x .before .before .before .before .args in
     Runs (a .self .stands) (a .self .label) (a .self .total) 0 × (16 ≤ length (now (a .out)))
@@ -42,6 +38,9 @@ returns-2 c =
     (rw (at-round .gcm-came-round .ensures, at-tag .xor-pad .ensures, at-end .end .ensures, c .shut .ensures))
 
 pub end-spec : {M : Type 1} → statement M
-end-spec = tie.close (tie.spec (search needs) (search needs) (search needs) returns (search needs)
+unfolding sealEnd
+end-spec = tie.close (tie.spec (search needs) (search needs) (search needs)
+    (λ c. let told = c .before .before in rw (← told .before .before .writing .ensures, told .checked .given .1, c .refused .ensures))
+    (search needs)
     (λ c κs. let runs = passed (c .before .before) .0 in (omega arith, (omega (arith, runs .labelled), omega (arith, runs .within))))
     (λ c. search needs) xor-pad-requires (search needs) (search needs) (search needs) (search needs) returns-2)

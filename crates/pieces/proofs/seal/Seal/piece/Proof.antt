@@ -18,10 +18,6 @@ use borrow.Author.Needs.{needs}
 use Rattle.pieces.proofs.seal.Seal.piece.Statement.{statement}
 use Rattle.pieces.proofs.seal.Seal.piece.Tie as tie
 
-returns : tie.Need-returns
-unfolding sealPiece
-returns c = let told = c .before .before in rw (← told .before .before .writing .ensures, told .checked .given .1, c .refused .ensures)
-
 passed : (x : tie.After-enum-told)
     → let a = x .before .before .before .before .before .args in
     Runs (a .self .stands) (a .self .label) (a .self .total) (length (now (a .«data»))) × (length (now (a .«data»)) ≤ length (now (a .out)))
@@ -56,6 +52,8 @@ returns-2 c =
     (rw (written))
 
 pub piece-spec : {M : Type 1} → statement M
-piece-spec = tie.close (tie.spec (search needs) (search needs) (search needs) returns (search needs)
-    (λ c κs. (omega arith, passed (c .before .before .before .before .before) .1)) (search needs) (search needs) part-take-in-end
-    (search needs) add-t27 (search needs) (search needs) returns-2)
+unfolding sealPiece
+piece-spec = tie.close (tie.spec (search needs) (search needs) (search needs)
+    (λ c. let told = c .before .before in rw (← told .before .before .writing .ensures, told .checked .given .1, c .refused .ensures))
+    (search needs) (λ c κs. (omega arith, passed (c .before .before .before .before .before) .1)) (search needs) (search needs)
+    part-take-in-end (search needs) add-t27 (search needs) (search needs) returns-2)
