@@ -13,12 +13,16 @@ use Rattle.block.proofs.WordsBack.{unwords-words}
 use Rattle.cipher.specs.Sm4.{encryptWords, encryptBlock}
 use Rattle.cipher.proofs.Blocks.{encrypt-unwords}
 
-pub bytes-fit : (b : List ℕ) → ((i : ℕ) → Fits w8 (getD b i 0)) → AreBytes b
-bytes-fit b fits = below-each 256 b (λ i. fits i .fits)
+-- sixteen bytes
+abbrev pub Sixteen : List ℕ → Type 0
+Sixteen b = (length b ≡ 16) × ((i : ℕ) → Fits w8 (getD b i 0))
 
--- the words of sixteen bytes spell them
-pub spelt : (b : List ℕ) → length b ≡ 16 → ((i : ℕ) → Fits w8 (getD b i 0)) → unwords (words b) ≡ b
-spelt b n fits = unwords-words b n (bytes-fit b fits)
+pub are-bytes : (b : List ℕ) → Sixteen b → AreBytes b
+are-bytes b h = below-each 256 b (λ i. h .1 i .fits)
+
+-- their words spell them
+pub spelt : (b : List ℕ) → Sixteen b → unwords (words b) ≡ b
+spelt b h = unwords-words b (h .0) (are-bytes b h)
 
 -- the cipher of four words is that of the bytes that they spell
 pub ciphered-words : (rk s : List ℕ) → length s ≡ 4 → ((i : ℕ) → Fits w32 (getD s i 0))

@@ -58,7 +58,7 @@ module _ (rk iv d : List ℕ) where
   abbrev copies : Share → List ℕ → List ℕ
   copies p o = copied (p .start) (p .size) whole o
 
-  worker-copies : (p : Share) (o : List ℕ) → length d ≤ length o → worked rk iv d p o ≡ copies p o
+  pub worker-copies : (p : Share) (o : List ℕ) → length d ≤ length o → worked rk iv d p o ≡ copies p o
   worker-copies p o h = rw (share-of-whole p) (laid-copied (p .start) (p .size) whole o (omega (arith, h, length-whole)))
 
   all-copy : (ps : List Share) (o : List ℕ) → length d ≤ length o

@@ -28,22 +28,11 @@ Inv-loop mask h half key file labels lengths start₀ i₀ start i =
 abbrev μ-loop : tie.MeasureT-loop
 μ-loop mask h half key file labels lengths start₀ i₀ start i = length lengths - i
 
-loop-holds : tie.Need-loop-holds Inv-loop μ-loop
-loop-holds c =
-    let S = c .before .before .before in
-    (omega arith, omega (arith, S .pre .1 .1 .0), S .pre .1 .1 .1, refl)
-
-add-end : tie.Need-add-end Inv-loop μ-loop
-add-end c =
-    let at-loop = c .before .before in
-    let a = at-loop .before .before .before .before .args in
-    omega (arith, sum-turn (now (a .lengths)) (at-loop .loop .i) (omega arith))
-
-part-opens-after-end : tie.Need-part-opens-after-end Inv-loop μ-loop
-part-opens-after-end c =
-    let at-loop = c .before .before in
-    let a = at-loop .before .before .before .before .args in
-    omega (arith, sum-turn (now (a .lengths)) (at-loop .loop .i) (omega arith))
+-- a candidate ends within the buffer
+room : (x : tie.In-loop Inv-loop μ-loop)
+    → let a = x .before .before .before .before .before .args in
+    x .before .loop .start + getD (now (a .lengths)) (x .before .loop .i) 0 ≤ length (now (a .labels))
+room x = omega (arith, sum-turn (now (x .before .before .before .before .before .args .lengths)) (x .before .loop .i) (omega arith))
 
 opens-after-requires : tie.Need-opens-after-requires Inv-loop μ-loop
 opens-after-requires c κs =
@@ -92,5 +81,7 @@ returns-2 c =
     (ap (onKey (a .key)) (search-end (now (a .lengths)) (l .i) (omega arith) _ (now (a .labels)) (l .start) _ (l .inv .3)))
 
 pub search-spec : {M : Type 1} → statement M
-search-spec = tie.close (tie.spec Inv-loop μ-loop loop-holds (omega arith) (omega arith) add-end (omega arith) (omega arith)
-    part-opens-after-end opens-after-requires returns (omega arith) (omega arith) loop-again (search needs) returns-2)
+search-spec = tie.close (tie.spec Inv-loop μ-loop
+    (λ c. let S = c .before .before .before in (omega arith, omega (arith, S .pre .1 .1 .0), S .pre .1 .1 .1, refl)) (omega arith)
+    (omega arith) (λ c. omega (arith, room (c .before))) (omega arith) (omega arith) (λ c. omega (arith, room (c .before)))
+    opens-after-requires returns (omega arith) (omega arith) loop-again (search needs) returns-2)

@@ -14,10 +14,6 @@ use Rattle.pieces.proofs.checks.tagged.Tie as tie
 runs : (x : tie.After-enum-told) → let a = x .before .before .before .args in running (a .mark) (a .label) (a .total) 0 ≡ Passed
 runs x = sym (x .before .before .running .ensures) ∙ x .enum-told .given .1
 
-returns-2 : tie.Need-returns-2
-unfolding tagged
-returns-2 c = rw (runs (c .before), ne-eqb (c .before .before .before .before .args .tag) 16 (λ e. omega arith))
-
 returns-3 : tie.Need-returns-3
 unfolding tagged
 returns-3 c =
@@ -25,11 +21,9 @@ returns-3 c =
     let none : 16 - n ≡ 0 = omega arith in
     rw (runs (c .before .before), ne-eqb n 16 (λ e. omega arith), none)
 
-returns-4 : tie.Need-returns-4
-unfolding tagged
-returns-4 c = rw (runs (c .before .before), eq-eqb (c .before .before .before .before .before .args .tag) 16 (omega arith))
-
 pub tagged-spec : {M : Type 1} → statement M
 unfolding tagged
 tagged-spec = tie.close (tie.spec (search needs) (search needs) (search needs)
-    (λ c. rw (← c .before .before .running .ensures, c .enum-told2 .given .1)) (search needs) (search needs) returns-2 returns-3 returns-4)
+    (λ c. rw (← c .before .before .running .ensures, c .enum-told2 .given .1)) (search needs) (search needs)
+    (λ c. rw (runs (c .before), ne-eqb (c .before .before .before .before .args .tag) 16 (λ e. omega arith))) returns-3
+    (λ c. rw (runs (c .before .before), eq-eqb (c .before .before .before .before .before .args .tag) 16 (omega arith))))

@@ -18,7 +18,7 @@ returns c =
     let streamed = at-stream .stream .ensures in
     rw (c .combine-block .ensures, streamed .0, streamed .1 .0 refl, streamed .1 .1, at-kind .kind-of .ensures)
     (rw (at-kind .before .next-counter .ensures, at-split .split-block .ensures)
-    (rw (spelt (S .args .t4) (search (needs, start)) (λ i. search (needs, start))) (refl, refl)))
+    (rw (spelt (S .args .t4) (search (needs, start), λ i. search (needs, start))) (refl, refl)))
 
 pub onward-spec : {M : Type 1} → statement M
 onward-spec = tie.close (tie.spec (search needs) (search needs) (search needs) (search needs) (λ c κs. search needs) (search needs)
