@@ -20,9 +20,6 @@ Inv-loop p d out₀ pad n i₀ out i =
 abbrev μ-loop : tie.MeasureT-loop
 μ-loop p d out₀ pad n i₀ out i = n - i
 
-loop-holds : tie.Need-loop-holds Inv-loop μ-loop
-loop-holds c = (omega arith, refl, refl)
-
 loop-again : tie.Need-loop-again Inv-loop μ-loop
 loop-again c =
     let at-loop = c .before .before in
@@ -42,8 +39,5 @@ returns c =
     pad-reached (now (a .«data»)) (a .t1) (now (a .out)) (l .out) (a .p) (l .i) (l .inv .2) (omega arith)
 
 pub xor-pad-spec : {M : Type 1} → statement M
-xor-pad-spec =
-    tie.close
-    (tie.spec
-    Inv-loop μ-loop (λ c. omega arith) (λ c κs. search needs) loop-holds (λ c. omega arith) (λ c. omega arith)
-    (λ c. omega arith) (λ c. omega arith) (λ c. omega arith) (λ c. omega arith) loop-again (λ c. omega arith) returns)
+xor-pad-spec = tie.close (tie.spec Inv-loop μ-loop (omega arith) (search needs) (λ c. (omega arith, refl, refl)) (omega arith)
+    (omega arith) (omega arith) (omega arith) (omega arith) (omega arith) loop-again (omega arith) returns)
