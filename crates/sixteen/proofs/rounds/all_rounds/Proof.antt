@@ -42,8 +42,7 @@ returns c =
     let l = c .before .loop in
     let rk = c .before .before .args .t1 in
     let len : length rk ≡ 32 = search needs in
-    let e : l .i ≡ 32 = omega arith in
-    (
+    let e : l .i ≡ 32 = omega arith in (
       λ j h.
           rounds-done rk (block (l .x) 0 j) (block (c .before .before .args .x .now) 0 j) 32 (omega arith)
           (subst (λ (i : ℕ). rounds (drop i rk) (block (l .x) i j) ≡ rounds rk (block (c .before .before .args .x .now) 0 j)) e (l .inv .2 j h)),
