@@ -43,7 +43,5 @@ returns-2 c =
     ∙ ap (encryptWords (a .rk)) (at-load .load .ensures .0 j h))))
 
 pub encrypt-spec : {M : Type 1} → statement M
-encrypt-spec =
-    tie.close
-    (tie.spec
-    returns (λ c κs. search needs) (λ c κs. search needs) (λ c κs. search needs) all-rounds-requires (λ c κs. search needs) (λ c. search needs) returns-2)
+encrypt-spec = tie.close (tie.spec returns (λ c κs. search needs) (λ c κs. search needs) (λ c κs. search needs) all-rounds-requires
+    (λ c κs. search needs) (λ c. search needs) returns-2)

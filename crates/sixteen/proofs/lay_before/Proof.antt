@@ -51,9 +51,6 @@ returns c = let l = c .before .loop in
     (subst (λ (j : ℕ). l .out ≡ cat j (λ k. blockAt whole k) ++ drop (16 * j) (a .out .now)) e (l .inv .2))
 
 pub lay-before-spec : {M : Type 1} → statement M
-lay-before-spec =
-    tie.close
-    (tie.spec
-    Inv-loop μ-loop loop-holds (λ c. search needs) (λ c κs. search needs) (λ c. search needs) (λ c. search needs)
-    (λ c. search needs) (λ c. search needs) (λ c κs. search needs) (λ c. search needs) (λ c. search needs) loop-again
+lay-before-spec = tie.close (tie.spec Inv-loop μ-loop loop-holds (λ c. search needs) (λ c κs. search needs) (λ c. search needs)
+    (λ c. search needs) (λ c. search needs) (λ c. search needs) (λ c κs. search needs) (λ c. search needs) (λ c. search needs) loop-again
     (λ c. search needs) returns)

@@ -31,8 +31,5 @@ returns : tie.Need-returns Inv-loop μ-loop
 returns c = let l = c .before .loop in xor-filled _ _ _ (l .out) (l .i) (l .inv .2) (omega arith) (omega arith)
 
 pub xor-bytes-spec : {M : Type 1} → statement M
-xor-bytes-spec =
-    tie.close
-    (tie.spec
-    Inv-loop μ-loop loop-holds (λ c. omega arith) (λ c. omega arith) (λ c. omega arith) (λ c. omega arith) (λ c. omega arith)
-    loop-again (λ c. omega arith) returns)
+xor-bytes-spec = tie.close (tie.spec Inv-loop μ-loop loop-holds (λ c. omega arith) (λ c. omega arith) (λ c. omega arith) (λ c. omega arith)
+    (λ c. omega arith) loop-again (λ c. omega arith) returns)

@@ -10,7 +10,4 @@ returns : tie.Need-returns
 returns c = (shl-or 64 32 32 (c .args .high) (c .args .low) (omega arith) (search needs) (search needs), c .fits .low .fits)
 
 pub half-spec : {M : Type 1} → statement M
-half-spec =
-    tie.close
-    (tie.spec
-    returns)
+half-spec = tie.close (tie.spec returns)

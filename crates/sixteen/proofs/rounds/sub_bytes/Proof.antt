@@ -12,7 +12,4 @@ returns c =
     all-subbed (c .before .before .before .args .w) (t .result) (s .result) (c .transpose2 .result) (t .ensures) (s .ensures) (c .transpose2 .ensures)
 
 pub sub-bytes-spec : {M : Type 1} → statement M
-sub-bytes-spec =
-    tie.close
-    (tie.spec
-    (λ c κs. search needs) (λ c κs. search needs) (λ c κs. search needs) returns)
+sub-bytes-spec = tie.close (tie.spec (λ c κs. search needs) (λ c κs. search needs) (λ c κs. search needs) returns)

@@ -49,7 +49,5 @@ returns : tie.Need-returns Inv-loop μ-loop
 returns c = let l = c .before .loop in (λ j h. l .inv .2 j (omega arith), l .inv .1)
 
 pub sub-groups-spec : {M : Type 1} → statement M
-sub-groups-spec =
-    tie.close
-    (tie.spec
-    Inv-loop μ-loop loop-holds (λ c κs. search needs) (λ c κs. search needs) (λ c κs. search needs) (λ c. search needs) (λ c. search needs) loop-again returns)
+sub-groups-spec = tie.close (tie.spec Inv-loop μ-loop loop-holds (λ c κs. search needs) (λ c κs. search needs) (λ c κs. search needs)
+    (λ c. search needs) (λ c. search needs) loop-again returns)
