@@ -25,12 +25,10 @@ unfolding cat
 block-of zero f z full i h = absurd (omega arith)
 block-of (suc n) f z full i h =
     let front : (j : ℕ) → j < n → length (f j) ≡ 16 = λ j g. full j (omega arith) in
-    rw append-assoc
-    (⊎-elim (λ (g : i < n). block-of n f (f n ++ z) front i g)
+    rw append-assoc (⊎-elim (λ (g : i < n). block-of n f (f n ++ z) front i g)
     (λ (g : n ≤ i).
     let q : i ≡ n = omega arith in
-    rw (q, drop-at (cat n f) (f n ++ z) (16 * n) (length-cat n f front)) (take-at (f n) z 16 (full n (omega arith))))
-    (lt-or-le i n))
+    rw (q, drop-at (cat n f) (f n ++ z) (16 * n) (length-cat n f front)) (take-at (f n) z 16 (full n (omega arith)))) (lt-or-le i n))
 
 -- what is behind the end of a text does not count
 pub xors-fit : (a p q : List ℕ) → length a ≤ length p → xors a (p ++ q) ≡ xors a p

@@ -13,8 +13,7 @@ use Rattle.sixteen.proofs.rounds.mix.Statement.{statement}
 use Rattle.sixteen.proofs.rounds.mix.Tie as tie
 
 abbrev Inv-loop : tie.InvT-loop
-Inv-loop x₀ i s n a j₀ x j =
-    (j ≤ n) × (length x ≡ 256) × Changed (row i) j (λ k. getD x₀ (row i + k) 0 ⊕ L (getD s k 0)) x₀ x
+Inv-loop x₀ i s n a j₀ x j = (j ≤ n) × (length x ≡ 256) × Changed (row i) j (λ k. getD x₀ (row i + k) 0 ⊕ L (getD s k 0)) x₀ x
 
 abbrev μ-loop : tie.MeasureT-loop
 μ-loop x₀ i s n a j₀ x j = n - j
@@ -27,11 +26,9 @@ loop-again c =
     let l = c .before .before .before .before .loop in
     let a = c .before .before .before .before .before .args in
     let r = row (a .i) in (
-      omega arith,
-      search needs,
+      omega arith, search needs,
       changed-next r (l .j) _ _ (a .x .now) (l .x) (omega arith)
-          (ap₂ (λ (x y : ℕ). x ⊕ y) (l .inv .2 .above (r + l .j) (omega arith)) (c .l-trans .ensures)) (l .inv .2),
-    )
+          (ap₂ (λ (x y : ℕ). x ⊕ y) (l .inv .2 .above (r + l .j) (omega arith)) (c .l-trans .ensures)) (l .inv .2))
 
 returns : tie.Need-returns Inv-loop μ-loop
 returns c =
