@@ -48,13 +48,9 @@ returns c =
     let d = now (a .«data») in
     let l = at-loop .loop in (
       last-state m (unwords (l .s)) d (l .at) (omega arith) ∙ l .inv .ends,
-      nothing-left m (unwords (l .s)) d (l .out) (l .at) (omega arith) refl ∙ l .inv .leaves,
-    )
+      nothing-left m (unwords (l .s)) d (l .out) (l .at) (omega arith) refl ∙ l .inv .leaves)
 
 pub encrypt-blocks-spec : {M : Type 1} → statement M
-encrypt-blocks-spec =
-    tie.close
-    (tie.spec
-    Inv-loop μ-loop loop-holds (λ c. omega arith) (λ c. omega arith) (λ c. omega arith) (λ c. omega arith)
-    (λ c. omega arith) (λ c. omega arith) (λ c. omega arith) (λ c κs. search needs) (λ c. omega arith)
-    (λ c. omega arith) loop-again (λ c. omega arith) returns)
+encrypt-blocks-spec = tie.close (tie.spec Inv-loop μ-loop loop-holds (λ c. omega arith) (λ c. omega arith) (λ c. omega arith)
+    (λ c. omega arith) (λ c. omega arith) (λ c. omega arith) (λ c. omega arith) (λ c κs. search needs) (λ c. omega arith) (λ c. omega arith)
+    loop-again (λ c. omega arith) returns)
