@@ -113,8 +113,15 @@ padded-unpadded d =
     let z : k - k ≡ 0 = omega arith in
     let s : allPadding q ≡ true = rw (l, n, z) (same-refl q) in
     let m : length d + length q - k ≡ length d = omega arith in
-    rw (padding-of-two d q (omega arith) (omega arith), s, last-of-two d q (omega arith), l, names-some k (omega arith) (omega arith),
-      length-append d q, m)
+    rw (
+      padding-of-two d q (omega arith) (omega arith),
+      s,
+      last-of-two d q (omega arith),
+      l,
+      names-some k (omega arith) (omega arith),
+      length-append d q,
+      m,
+    )
 
 -- and a text that gives a length is that much of it, padded
 pub unpadded-padded : (p : List ℕ) (n : ℕ) → length p % 16 ≡ 0 → unpadded p ≡ Done n → padded (take n p) ≡ p

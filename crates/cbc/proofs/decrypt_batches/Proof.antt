@@ -72,7 +72,8 @@ returns-3 c =
       l .inv .whole,
       rw (block-before s d (l .at) sixteen (l .inv .behind))
           (fed-reached (cbcDecrypt (reverse (a .back))) (decrypt-fed (a .back)) d _ s (now (a .out)) (l .out) (l .at) (l .inv) sixteen
-          (omega arith) (omega arith) (at-step .decrypt-step .ensures .1)))
+          (omega arith) (omega arith) (at-step .decrypt-step .ensures .1)),
+    )
 
 pub decrypt-batches-spec : {M : Type 1} → statement M
 decrypt-batches-spec = tie.close (tie.spec Inv-loop μ-loop (λ c κs. search needs) returns returns-2 (λ c κs. search needs) loop-holds

@@ -23,7 +23,8 @@ returns c =
     let begun = rw (← at-block-before .block-before .ensures) at (at-decrypt-batches .decrypt-batches .ensures .1) in
     let x = at-decrypt-rest .decrypt-rest .ensures in (
       x .0 ∙ reached-end m (unwords (a .iv)) d (now (a .out)) _ _ _ begun,
-      reached-over m (unwords (a .iv)) d (now (a .out)) _ _ _ begun _ (x .1))
+      reached-over m (unwords (a .iv)) d (now (a .out)) _ _ _ begun _ (x .1),
+    )
 
 pub decrypt-blocks-spec : {M : Type 1} → statement M
 decrypt-blocks-spec = tie.close (tie.spec (λ c κs. search needs)

@@ -51,7 +51,8 @@ returns c =
     let m = cbcDecrypt (reverse (a .back)) in
     let d = now (a .«data») in (
       last-state m (unwords (l .s)) d (l .at) (omega arith) ∙ l .inv .ends,
-      nothing-left m (unwords (l .s)) d (l .out) (l .at) (omega arith) refl ∙ l .inv .leaves)
+      nothing-left m (unwords (l .s)) d (l .out) (l .at) (omega arith) refl ∙ l .inv .leaves,
+    )
 
 pub decrypt-one-by-one-spec : {M : Type 1} → statement M
 decrypt-one-by-one-spec = tie.close (tie.spec Inv-loop μ-loop loop-holds (λ c. omega arith) (λ c. omega arith) (λ c. omega arith)

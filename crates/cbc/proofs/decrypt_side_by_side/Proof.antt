@@ -51,7 +51,8 @@ loop-again c =
           (full-state (a .back) s e n i (length-unwords (l .s)) room h))
           (c .block-before .ensures
           ∙ fed-next (a .back) (unwords (a .iv)) s d (l .at) n (length-unwords (a .iv)) (length-unwords (l .s)) (omega arith)) x,
-      omega arith)
+      omega arith,
+    )
 
 returns : tie.Need-returns Inv-loop μ-loop
 returns c =
@@ -61,7 +62,8 @@ returns c =
     let d = now (a .«data») in
     let done = l .inv .0 in (
       last-state m (unwords (l .s)) d (l .at) (omega arith) ∙ done .ends,
-      nothing-left m (unwords (l .s)) d (l .out) (l .at) (omega arith) refl ∙ done .leaves)
+      nothing-left m (unwords (l .s)) d (l .out) (l .at) (omega arith) refl ∙ done .leaves,
+    )
 
 pub decrypt-side-by-side-spec : {M : Type 1} → statement M
 decrypt-side-by-side-spec = tie.close (tie.spec Inv-loop μ-loop loop-holds (λ c. omega arith) (λ c. omega arith) (λ c κs. omega arith)

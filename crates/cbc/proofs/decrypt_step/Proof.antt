@@ -33,7 +33,8 @@ returns c =
     let decrypted = decrypted-front (reverse (a .back)) d (a .s) (S .pre .1 .0) bytes four in (
       rw (c .split-block2 .ensures) (unwords-front d (S .pre .1 .0) bytes),
       at-put-block .put-block .ensures ∙ rw (at-xor .block-xor .ensures, at-encrypt .encrypt .ensures, at-split .split-block .ensures)
-          (rw (decrypt-turned (a .back) (words d)) at (ap (λ (l : List ℕ). l ++ drop 16 (now (a .out))) decrypted)))
+          (rw (decrypt-turned (a .back) (words d)) at (ap (λ (l : List ℕ). l ++ drop 16 (now (a .out))) decrypted)),
+    )
 
 pub decrypt-step-spec : {M : Type 1} → statement M
 decrypt-step-spec = tie.close (tie.spec (λ c κs. search needs) (λ c κs. search needs) (λ c κs. search needs) (λ c κs. search needs)

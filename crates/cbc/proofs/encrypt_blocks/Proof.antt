@@ -48,7 +48,8 @@ returns c =
     let d = now (a .«data») in
     let l = at-loop .loop in (
       last-state m (unwords (l .s)) d (l .at) (omega arith) ∙ l .inv .ends,
-      nothing-left m (unwords (l .s)) d (l .out) (l .at) (omega arith) refl ∙ l .inv .leaves)
+      nothing-left m (unwords (l .s)) d (l .out) (l .at) (omega arith) refl ∙ l .inv .leaves,
+    )
 
 pub encrypt-blocks-spec : {M : Type 1} → statement M
 encrypt-blocks-spec = tie.close (tie.spec Inv-loop μ-loop loop-holds (λ c. omega arith) (λ c. omega arith) (λ c. omega arith)

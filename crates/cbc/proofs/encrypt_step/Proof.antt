@@ -31,7 +31,8 @@ returns c =
     let encrypted = encrypted-front (a .rk) d (a .s) (S .pre .1 .0) bytes four (below-each (2 ^ 32) (a .s) (λ i. fits i .fits)) in (
       rw (at-encrypt .encrypt .ensures, at-xor .block-xor .ensures, at-split .split-block .ensures) encrypted,
       at-put-block .put-block .ensures
-          ∙ rw (at-encrypt .encrypt .ensures, at-xor .block-xor .ensures, at-split .split-block .ensures, encrypted))
+          ∙ rw (at-encrypt .encrypt .ensures, at-xor .block-xor .ensures, at-split .split-block .ensures, encrypted),
+    )
 
 pub encrypt-step-spec : {M : Type 1} → statement M
 encrypt-step-spec = tie.close (tie.spec (λ c κs. search needs) (λ c κs. search needs) (λ c κs. search needs) (λ c κs. search needs)

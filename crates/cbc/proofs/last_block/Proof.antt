@@ -31,8 +31,12 @@ returns c =
     let four : length (chained .result) ≡ 4 = search (needs, chained) in
     let small : (i : ℕ) → getD d i 0 < 256 = λ i. omega (arith, at-data .shared-slice-known2 .given i) in
     let words-of-last = words (tailed (length d - 16) d) in
-    c .combine-block .ensures ∙ rw (at-xor .block-xor .ensures, at-encrypt .encrypt .ensures, at-split .split-block .ensures,
-      ← decrypt-turned (a .back) words-of-last)
+    c .combine-block .ensures ∙ rw (
+      at-xor .block-xor .ensures,
+      at-encrypt .encrypt .ensures,
+      at-split .split-block .ensures,
+      ← decrypt-turned (a .back) words-of-last,
+    )
     (last-words (reverse (a .back)) (unwords (a .iv)) d (chained .result) (length-unwords (a .iv)) (below-each 256 d small)
     (S .pre .1 .0) (S .pre .1 .1) four (chained .ensures))
 

@@ -22,8 +22,10 @@ loop-again : tie.Need-loop-again Inv-loop μ-loop
 loop-again c =
     let l = c .before .before in
     let d = now (l .before .args .rest) in (
-      omega arith, simp length-set (omega arith),
-      copy-turn d (replicate 16 (16 - length d)) (l .loop .last) (l .loop .i) (l .loop .inv .2) (omega arith) (omega arith))
+      omega arith,
+      simp length-set (omega arith),
+      copy-turn d (replicate 16 (16 - length d)) (l .loop .last) (l .loop .i) (l .loop .inv .2) (omega arith) (omega arith),
+    )
 
 returns : tie.Need-returns Inv-loop μ-loop
 returns c =

@@ -10,7 +10,17 @@ unfolding chosen
 engine-of-spec =
     tie.close (tie.spec (λ c. rw (eq-eqb _ _ (c .if1 .taken))) (λ c. rw (ne-eqb _ _ (c .before .if1 .left), eq-eqb _ _ (c .if2 .taken)))
     (λ c. rw (ne-eqb _ _ (c .before .before .if1 .left), ne-eqb _ _ (c .before .if2 .left), eq-eqb _ _ (c .if3 .taken)))
-    (λ c. rw (ne-eqb _ _ (c .before .before .before .if1 .left), ne-eqb _ _ (c .before .before .if2 .left), ne-eqb _ _
-    (c .before .if3 .left), c .if4 .taken))
-    (λ c. rw (ne-eqb _ _ (c .before .before .before .if1 .left), ne-eqb _ _ (c .before .before .if2 .left), ne-eqb _ _
-    (c .before .if3 .left), c .if4 .left)))
+    (λ c. rw (
+      ne-eqb _ _ (c .before .before .before .if1 .left),
+      ne-eqb _ _ (c .before .before .if2 .left),
+      ne-eqb _ _
+          (c .before .if3 .left),
+      c .if4 .taken,
+    ))
+    (λ c. rw (
+      ne-eqb _ _ (c .before .before .before .if1 .left),
+      ne-eqb _ _ (c .before .before .if2 .left),
+      ne-eqb _ _
+          (c .before .if3 .left),
+      c .if4 .left,
+    )))

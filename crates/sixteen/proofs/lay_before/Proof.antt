@@ -38,9 +38,10 @@ loop-again c =
     let whole = unwords (a .iv) ++ now (a .«data») in
     let s = length-unwords (a .iv) in
     let room : 16 * a .n ≤ length whole = rw length-append (omega arith) in (
-      omega arith, search needs,
+      omega arith,
+      search needs,
       block-stored (a .out .now) (l .out) _ (λ k. blockAt whole k) (l .i) (λ k h. length-blockAt whole k (a .n) (omega arith) room)
-      (l .inv .2)
+          (l .inv .2)
           (at-put-block .put-block .ensures
           ∙ ap (λ (x : List ℕ). x ++ drop 16 (take (length (l .out) - 16 * l .i) (drop (16 * l .i) (l .out))))
           (at-block-before .block-before .ensures)),

@@ -35,7 +35,8 @@ loop-again c =
     let l = at-loop .loop in
     let a = at-loop .before .before .args in
     let f : ℕ → List ℕ = λ k. unwords (turned (block (a .x .now) 0 k)) in (
-      omega arith, search needs,
+      omega arith,
+      search needs,
       block-stored (a .out .now) (l .out) _ f (l .i) (λ k h. length-unwords (turned (block (a .x .now) 0 k))) (l .inv .2)
           (at-put-block .put-block .ensures
           ∙ ap (λ (x : List ℕ). unwords x ++ drop 16 (take (length (l .out) - 16 * l .i) (drop (16 * l .i) (l .out))))

@@ -17,7 +17,9 @@ abbrev μ-loop : tie.MeasureT-loop
 μ-loop pads d out₀ i₀ out i = length d - i
 
 loop-again : tie.Need-loop-again Inv-loop μ-loop
-loop-again c = (omega arith, simp length-set (omega arith),
+loop-again c = (
+  omega arith,
+  simp length-set (omega arith),
   xor-turn _ _ _ _ _ (c .before .before .before .loop .inv .2) (omega arith) (omega arith) (omega arith),
 )
 

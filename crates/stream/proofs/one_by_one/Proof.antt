@@ -54,8 +54,11 @@ returns c =
     let ended = last-state m s d (l .at) (omega arith) ∙ l .inv .ends in
     let rested = c .before .before .xor-rest .ensures in (
       ended,
-      (λ e. rested .0 e ∙ ap (encryptBlock (a .rk)) ended, rest-written m s d (l .out) _ (l .at) (omega arith) (rested .1) ∙ l .inv .leaves,
-      ))
+      (
+        λ e. rested .0 e ∙ ap (encryptBlock (a .rk)) ended,
+        rest-written m s d (l .out) _ (l .at) (omega arith) (rested .1) ∙ l .inv .leaves,
+      ),
+    )
 
 pub one-by-one-spec : {M : Type 1} → statement M
 one-by-one-spec = tie.close (tie.spec Inv-loop μ-loop loop-holds (λ c. omega arith) (λ c. omega arith) (λ c. omega arith) (λ c. omega arith)

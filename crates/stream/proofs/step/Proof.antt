@@ -39,7 +39,8 @@ returns c =
       c .state-after .ensures
           ∙ rw (at-xor .block-xor .ensures, at-split .split-block .ensures, at-encrypt .encrypt .ensures, read, ciphered, xored),
       at-put-block .put-block .ensures
-          ∙ rw (at-xor .block-xor .ensures, at-split .split-block .ensures, at-encrypt .encrypt .ensures, xored))
+          ∙ rw (at-xor .block-xor .ensures, at-split .split-block .ensures, at-encrypt .encrypt .ensures, xored),
+    )
 
 pub step-spec : {M : Type 1} → statement M
 step-spec = tie.close (tie.spec (λ c κs. search needs) (λ c κs. search needs) (λ c κs. search needs) (λ c κs. search needs)

@@ -20,7 +20,8 @@ returns c =
     let x = c .before .before .finish .ensures in
     let ended = reached-end M (unwords (a .iv)) d (now (a .out)) _ _ _ begun in (
       x .0 ∙ ended,
-      (λ e. x .1 .0 e ∙ ap (encryptBlock (a .rk)) ended, reached-over M (unwords (a .iv)) d (now (a .out)) _ _ _ begun _ (x .1 .1)))
+      (λ e. x .1 .0 e ∙ ap (encryptBlock (a .rk)) ended, reached-over M (unwords (a .iv)) d (now (a .out)) _ _ _ begun _ (x .1 .1)),
+    )
 
 pub stream-spec : {M : Type 1} → statement M
 stream-spec = tie.close (tie.spec (λ c κs. search needs) (λ c. omega arith) (λ c. omega arith) (λ c. omega arith) (λ c. omega arith)

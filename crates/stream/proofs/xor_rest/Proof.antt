@@ -24,9 +24,11 @@ returns c =
     let S = c .before .before .before .before .before in
     let needed = c .before .pad-needed .ensures in
     let a = S .args in
-    let none = not-true _ (c .if1 .taken) in
-    (λ e. untrue (sym none ∙ needed .0 e), nothing-written (now (a .«data»)) (encryptBlock (a .rk) (unwords (a .s))) (now (a .out))
-    (needed .1 none))
+    let none = not-true _ (c .if1 .taken) in (
+      λ e. untrue (sym none ∙ needed .0 e),
+      nothing-written (now (a .«data»)) (encryptBlock (a .rk) (unwords (a .s))) (now (a .out))
+          (needed .1 none),
+    )
 
 returns-2 : tie.Need-returns-2
 returns-2 c =
@@ -40,7 +42,9 @@ returns-2 c =
     let ciphered = encrypt-unwords (a .rk) (a .s) four (below-each (2 ^ 32) (a .s) (λ i. fits i .fits)) in
     let pad : at-combine .combine-block .result ≡ encryptBlock (a .rk) (unwords (a .s)) =
     at-combine .combine-block .ensures ∙ rw (at-encrypt .encrypt .ensures, ciphered) in (
-      λ e. pad, c .before .before .xor-bytes .ensures ∙ ap (λ (p : List ℕ). over (xors (now (a .«data»)) p) (now (a .out))) pad)
+      λ e. pad,
+      c .before .before .xor-bytes .ensures ∙ ap (λ (p : List ℕ). over (xors (now (a .«data»)) p) (now (a .out))) pad,
+    )
 
 pub xor-rest-spec : {M : Type 1} → statement M
 xor-rest-spec = tie.close (tie.spec (λ c κs. search needs) returns (λ c κs. search needs) (λ c κs. search needs) (λ c. search needs)

@@ -26,8 +26,10 @@ loop-again c =
     let rk = at-loop .before .args .t1 in
     let len : length rk ≡ 32 = search needs in
     let r = c .round .ensures in (
-      omega arith, r .1,
-      λ j h. ap (rounds (drop (l .i + 1) rk)) (r .0 j h) ∙ rounds-next rk (block (l .x) (l .i) j) (l .i) (omega arith) ∙ l .inv .2 j h)
+      omega arith,
+      r .1,
+      λ j h. ap (rounds (drop (l .i + 1) rk)) (r .0 j h) ∙ rounds-next rk (block (l .x) (l .i) j) (l .i) (omega arith) ∙ l .inv .2 j h,
+    )
 
 returns : tie.Need-returns Inv-loop μ-loop
 returns c =

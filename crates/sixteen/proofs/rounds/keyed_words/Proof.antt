@@ -20,8 +20,10 @@ loop-again : tie.Need-loop-again Inv-loop μ-loop
 loop-again c =
     let l = c .before .before .before .before .loop in
     let a = c .before .before .before .before .before .args in (
-      omega arith, search needs,
-      each-next (keyed (a .x .now) (a .i) (a .k)) (l .j) (keyed (a .x .now) (a .i) (a .k) (l .j)) (l .t) (omega arith) refl (l .inv .2))
+      omega arith,
+      search needs,
+      each-next (keyed (a .x .now) (a .i) (a .k)) (l .j) (keyed (a .x .now) (a .i) (a .k) (l .j)) (l .t) (omega arith) refl (l .inv .2),
+    )
 
 pub keyed-words-spec : {M : Type 1} → statement M
 keyed-words-spec = tie.close (tie.spec Inv-loop μ-loop (λ c. search needs) (λ c. search needs) (λ c. search needs) (λ c. search needs)

@@ -26,9 +26,11 @@ loop-again c =
     let l = c .before .before .before .before .loop in
     let a = c .before .before .before .before .before .args in
     let r = row (a .i) in (
-      omega arith, search needs,
+      omega arith,
+      search needs,
       changed-next r (l .j) _ _ (a .x .now) (l .x) (omega arith)
-          (ap₂ (λ (x y : ℕ). x ⊕ y) (l .inv .2 .above (r + l .j) (omega arith)) (c .l-trans .ensures)) (l .inv .2))
+          (ap₂ (λ (x y : ℕ). x ⊕ y) (l .inv .2 .above (r + l .j) (omega arith)) (c .l-trans .ensures)) (l .inv .2),
+    )
 
 returns : tie.Need-returns Inv-loop μ-loop
 returns c =

@@ -21,10 +21,12 @@ loop-again c =
     let l = c .before .loop in
     let a = c .before .before .args in
     let p = 16 * a .g + 2 * l .i in (
-      omega arith, search needs,
+      omega arith,
+      search needs,
       λ f E H j h.
           let e = H (l .i) (search needs) in
-          each-two f p _ _ (l .s) (omega arith) (sym (e .0)) (sym (e .1)) (l .inv .2 f E H) j (omega arith))
+          each-two f p _ _ (l .s) (omega arith) (sym (e .0)) (sym (e .1)) (l .inv .2 f E H) j (omega arith),
+    )
 
 pub put-group-spec : {M : Type 1} → statement M
 put-group-spec = tie.close (tie.spec Inv-loop μ-loop (λ c. (search needs, search needs, λ f E H j h. E j (omega arith))) (λ c. search needs)

@@ -39,8 +39,10 @@ returns c =
       at-block-at .block-at .ensures ∙ laid (a .m) (omega arith),
       (
         λ e. c .combine-block .ensures ∙ c .before .block-at2 .ensures ∙ few-pad (a .kind) (a .rk) s d (a .m) h _ _ _ _ laid ciphered
-        (n .1 e),
-        few-written (a .kind) (a .rk) s d (a .m) h _ _ _ _ laid ciphered (n .0) (now (a .out)) _ xored))
+            (n .1 e),
+        few-written (a .kind) (a .rk) s d (a .m) h _ _ _ _ laid ciphered (n .0) (now (a .out)) _ xored,
+      ),
+    )
 
 pub few-spec : {M : Type 1} → statement M
 few-spec = tie.close (tie.spec (λ c. search needs) (λ c. search needs) (λ c κs. search needs) (λ c κs. search needs) (λ c. search needs)

@@ -42,8 +42,12 @@ returns c =
     let done = few-reached (a .kind) (a .rk) s d m h o o₁ r (omega arith) (x .0) (x .1 .1) in
     let pad = rest-xored (needed .result) rest (f .result .pad) (encryptBlock (a .rk) r)
     (λ e. x .1 .0 e ∙ ap (encryptBlock (a .rk)) (sym (x .0))) (λ e. none (needed .ensures .1 e)) in (
-      x .0, (λ e. x .1 .0 (needed .ensures .0 e),
-        few-ended (a .kind) (a .rk) s d m h o o₁ r (f .result .pad) _ (omega arith) done pad (c .before .before .xor-bytes .ensures)))
+      x .0,
+      (
+        λ e. x .1 .0 (needed .ensures .0 e),
+        few-ended (a .kind) (a .rk) s d m h o o₁ r (f .result .pad) _ (omega arith) done pad (c .before .before .xor-bytes .ensures),
+      ),
+    )
 
 pub last-spec : {M : Type 1} → statement M
 last-spec = tie.close (tie.spec (λ c κs. search needs) (λ c κs. search needs) (λ c. search needs) (λ c. search needs) (λ c. search needs)

@@ -31,7 +31,8 @@ loop-again c =
     let S = at-loop .before .before in
     let l = at-loop .loop in
     let a = S .args in (
-      omega arith, search needs,
+      omega arith,
+      search needs,
       block-stored (a .out .now) (l .out) _ (jumped (a .wide) (unwords (a .c))) (l .i)
           (λ k h. length-jumped (a .wide) (unwords (a .c)) k (length-unwords (a .c))) (l .inv .2) (at-put-block .put-block .ensures
           ∙ ap (λ (x : List ℕ). x ++ drop 16 (take (length (l .out) - 16 * l .i) (drop (16 * l .i) (l .out))))

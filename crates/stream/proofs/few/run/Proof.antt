@@ -53,8 +53,12 @@ returns c =
     let d = now (a .«data») in
     let x = c .before .before .last .ensures in
     let ended = reached-end M (unwords (a .iv)) d (now (a .out)) (unwords (l .s)) (l .out) (l .at) (l .inv) in (
-      x .0 ∙ ended, (λ q. x .1 .0 q ∙ ap (encryptBlock (a .rk)) ended,
-        reached-over M (unwords (a .iv)) d (now (a .out)) (unwords (l .s)) (l .out) (l .at) (l .inv) _ (x .1 .1)))
+      x .0 ∙ ended,
+      (
+        λ q. x .1 .0 q ∙ ap (encryptBlock (a .rk)) ended,
+        reached-over M (unwords (a .iv)) d (now (a .out)) (unwords (l .s)) (l .out) (l .at) (l .inv) _ (x .1 .1),
+      ),
+    )
 
 pub run-spec : {M : Type 1} → statement M
 run-spec = tie.close (tie.spec Inv-loop μ-loop loop-holds (λ c. omega arith) (λ c. omega arith) (λ c. omega arith) (λ c. omega arith)
