@@ -45,8 +45,7 @@ module _ (rk s d last o : List ℕ) (hs : length s ≡ 16) (full : 16 ≤ length
   open-refused InvalidPadding bad e = decided InvalidPadding (text-decided InvalidPadding e)
 
   pub open-done : (k : ℕ) (o₁ t : List ℕ) → length d ≤ length o → unpadded last ≡ Done k
-      → o₁ ≡ over (cbcText rk s (take (length d - 16) d)) o
-      → t ≡ take k last ++ drop k (tailed (length d - 16) o₁)
+      → o₁ ≡ over (cbcText rk s (take (length d - 16) d)) o → t ≡ take k last ++ drop k (tailed (length d - 16) o₁)
       → leaving (headOf (Done (length d - 16 + k))) (returned (length d - 16) o₁ t) ≡ cbcOpen rk s d o
   open-done k o₁ t room e e₁ eₜ =
       let p = cbcText rk s d in

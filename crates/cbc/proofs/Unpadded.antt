@@ -1,5 +1,5 @@
--- The decision over the padding: what it answers, of a block, of a text that ends in one, and of a padded message; and that a text
--- which it accepts is a padded message.
+-- The decision over the padding: what it answers, of a block, of a text that ends in one, and of a padded message; and that a text which it
+-- accepts is a padded message.
 -- Assumes nothing.
 use mathlib.Core.Path.{_≡_, refl}
 use mathlib.Core.Bool.{Bool, true, false, cond, not}
@@ -43,8 +43,7 @@ answered u v k = cond (not u) InvalidLastU8 (cond (not v) InvalidPadding (Done k
 
 -- of a block, by the byte at its end and the bytes that it counts
 pub block-unpadded : (p : List ℕ) (u v : Bool) → length p ≡ 16 → namesPadding (getD p 15 0) ≡ u
-    → same (drop (16 - getD p 15 0) p) (replicate (getD p 15 0) (getD p 15 0)) ≡ v
-    → answered u v (16 - getD p 15 0) ≡ unpadded p
+    → same (drop (16 - getD p 15 0) p) (replicate (getD p 15 0) (getD p 15 0)) ≡ v → answered u v (16 - getD p 15 0) ≡ unpadded p
 unfolding unpadded allPadding
 block-unpadded p u v n e f = let k : length p - 1 ≡ 15 = omega arith in rw (k, n, e, f)
 
@@ -87,8 +86,7 @@ behind-by a b true h e =
 
 pub unpadded-behind : (a b : List ℕ) → 16 ≤ length b → unpadded (a ++ b) ≡ behind (length a) (unpadded b)
 unfolding unpadded
-unpadded-behind a b h =
-    rw (last-of-two a b (omega arith), length-append a b) (behind-by a b (namesPadding (lastByte b)) h refl)
+unpadded-behind a b h = rw (last-of-two a b (omega arith), length-append a b) (behind-by a b (namesPadding (lastByte b)) h refl)
 
 accepted-by : (u v : Bool) (k n : ℕ) → answered u v k ≡ Done n → (u ≡ true) × (v ≡ true) × (k ≡ n)
 accepted-by true true k n e = (refl, refl, cc)

@@ -20,8 +20,7 @@ use Rattle.cipher.proofs.FourTables.{tau-bytes}
 mask-byte : (x m : ℕ) → bitAnd x (m * 2 ^ 8 + 1) ≡ bitAnd (x / 2 ^ 8) m * 2 ^ 8 + x % 2
 mask-byte x m =
     let low : bitAnd (x % 2 ^ 8) 1 ≡ x % 2 = and-mask (x % 2 ^ 8) 1 ∙ omega arith in
-    ap (λ (y : ℕ). bitAnd y (m * 2 ^ 8 + 1)) (sym (split x 8))
-    ∙ and-block 8 (x / 2 ^ 8) m (x % 2 ^ 8) 1 (mod-lt x (pow-pos 8)) (lit< tt)
+    ap (λ (y : ℕ). bitAnd y (m * 2 ^ 8 + 1)) (sym (split x 8)) ∙ and-block 8 (x / 2 ^ 8) m (x % 2 ^ 8) 1 (mod-lt x (pow-pos 8)) (lit< tt)
     ∙ ap (λ (y : ℕ). bitAnd (x / 2 ^ 8) m * 2 ^ 8 + y) low
 
 mask-more : (x m k : ℕ) → bitAnd (x / 2 ^ k) (m * 2 ^ 8 + 1) ≡ bitAnd (x / 2 ^ (k + 8)) m * 2 ^ 8 + bit k x
@@ -81,8 +80,7 @@ shifted-lane : (w n : ℕ) → byteLane (shifted w) n ≡ w / 2 ^ n % 2 ^ 8
 unfolding byteLane
 shifted-lane w n =
     pack-is 8 (λ i. bit n (getD (shifted w) i 0)) (w / 2 ^ n % 2 ^ 8) (λ i. bit-small n (getD (shifted w) i 0)) (mod-lt _ (pow-pos 8))
-    (λ i h.
-    ap (bit n) (shifted-at w i h) ∙ bit-shr i n w ∙ ap (λ (k : ℕ). bit k w) (add-comm i n)
+    (λ i h. ap (bit n) (shifted-at w i h) ∙ bit-shr i n w ∙ ap (λ (k : ℕ). bit k w) (add-comm i n)
     ∙ sym (bit-mod 8 i (w / 2 ^ n) h ∙ bit-shr n i w))
 
 -- tau by the S-box in lanes

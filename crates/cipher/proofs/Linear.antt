@@ -23,8 +23,7 @@ module _ (a b : ℕ) (ha : a < 2 ^ 32) (hb : b < 2 ^ 32) where
       let e : n + j ≡ 32 = omega arith in
       let la : a < 2 ^ (n + j) = rw e ha in
       let lb : b < 2 ^ (n + j) = rw e hb in
-      rotl-digits j n (a ⊕ b) h
-      ∙ ap₂ (λ (p q : ℕ). p * 2 ^ n + q) (xor-mod a b j) (xor-shr a b j)
+      rotl-digits j n (a ⊕ b) h ∙ ap₂ (λ (p q : ℕ). p * 2 ^ n + q) (xor-mod a b j) (xor-shr a b j)
       ∙ sym (xor-block n (a % 2 ^ j) (b % 2 ^ j) (a / 2 ^ j) (b / 2 ^ j) (shr-lt n j la) (shr-lt n j lb))
       ∙ ap₂ bitXor (sym (rotl-digits j n a h)) (sym (rotl-digits j n b h))
 

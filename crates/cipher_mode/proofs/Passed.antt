@@ -138,9 +138,4 @@ block-passed a retired dir n room e =
     let from-size = let-through (not (eqb n 16)) _ _ (from-key .1) in
     let from-mark = both (retiredCheck dir retired) _ (from-size .rest) in
     let r = let-through (ltb room 16) _ _ (from-mark .1) in
-    record {
-      key = is-key a (from-key .0);
-      size = sixteen n (from-size .fails);
-      may = from-mark .0;
-      enough = ltb-false room 16 (r .fails);
-    }
+    record { key = is-key a (from-key .0); size = sixteen n (from-size .fails); may = from-mark .0; enough = ltb-false room 16 (r .fails) }

@@ -45,10 +45,8 @@ masked-words mask label text s r h n l en es er =
 
 -- the text at the front of the output, then the tag behind it
 pub sealed-written : (text tag o o₁ t : List ℕ) (n : ℕ) → length text ≡ n → length tag ≡ 16 → o₁ ≡ over text o
-    → t ≡ tag ++ drop 16 (tailed n o₁)
-    → returned n o₁ t ≡ over (text ++ tag) o
-sealed-written text tag o o₁ t n lt lg e f =
-    over-behind text tag o o₁ t n lt e (f ∙ ap (λ (k : ℕ). tag ++ drop k (tailed n o₁)) (sym lg))
+    → t ≡ tag ++ drop 16 (tailed n o₁) → returned n o₁ t ≡ over (text ++ tag) o
+sealed-written text tag o o₁ t n lt lg e f = over-behind text tag o o₁ t n lt e (f ∙ ap (λ (k : ℕ). tag ++ drop k (tailed n o₁)) (sym lg))
 
 -- the counters of the text start one after J0
 pub text-words : (rk j next d : List ℕ) → next ≡ gcmNext j → chain (streamMode Gctr rk) next d ≡ textOf rk j d

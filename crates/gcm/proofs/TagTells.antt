@@ -32,8 +32,7 @@ module _ (rk : List ℕ) (h : ℕ) (hh : h < 2 ^ 128) (j : List ℕ) where
       let y = ghash h (authBlocks b d) in
       let k = encryptBlock rk j in
       bytesOf-same 16 x y (ghash-lt h hh (authBlocks a c)) (ghash-lt h hh (authBlocks b d))
-      (sym (unmask k (bytesOf 16 x) (length-bytesOf 16 x) (length-encryptBlock rk j))
-      ∙ ap (λ (l : List ℕ). xors l k) e
+      (sym (unmask k (bytesOf 16 x) (length-bytesOf 16 x) (length-encryptBlock rk j)) ∙ ap (λ (l : List ℕ). xors l k) e
       ∙ unmask k (bytesOf 16 y) (length-bytesOf 16 y) (length-encryptBlock rk j))
 
   -- where c ++ t opens under a and the hash of b and d is another, d ++ t does not open under b

@@ -28,8 +28,7 @@ summed d = getD d 0 0 + getD d 1 0 + getD d 2 0 + getD d 3 0
 -- a block xored with itself leaves nothing
 none : (a : List ℕ) → length a ≡ 4 → summed (xors a a) ≡ 0
 none a n =
-    ap summed (sym (xors-four a a n n))
-    ∙ rw (xor-self (getD a 0 0), xor-self (getD a 1 0), xor-self (getD a 2 0), xor-self (getD a 3 0))
+    ap summed (sym (xors-four a a n n)) ∙ rw (xor-self (getD a 0 0), xor-self (getD a 1 0), xor-self (getD a 2 0), xor-self (getD a 3 0))
 
 module _ (a b : List ℕ) (na : length a ≡ 4) (nb : length b ≡ 4) where
   -- the sum is 0: the words are the same

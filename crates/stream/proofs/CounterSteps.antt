@@ -1,5 +1,5 @@
--- What the steps of a walk in Ctr and in Gctr say, whatever the message is, is what its counter's steps say, by induction on the steps;
--- and that is what document 02's formula says.
+-- What the steps of a walk in Ctr and in Gctr say, whatever the message is, is what its counter's steps say, by induction on the steps; and
+-- that is what document 02's formula says.
 -- Assumes nothing.
 use mathlib.Core.Path.{_≡_, refl, ap, _∙_}
 use mathlib.Core.Bool.{Bool, _||_}

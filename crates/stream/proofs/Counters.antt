@@ -48,8 +48,7 @@ module _ (rk : List ℕ) where
       → stepped (streamMode (counting wide) rk) n s d ≡ jumped wide s n
   unfolding stepped
   jumped-stepped true zero s d n a = sym (no-jump s n a)
-  jumped-stepped true (suc k) s d n a =
-      jumped-stepped true k (ctrNext s) (drop 16 d) (length-ctrNext s) (ctrNext-bytes s) ∙ jump-on s k
+  jumped-stepped true (suc k) s d n a = jumped-stepped true k (ctrNext s) (drop 16 d) (length-ctrNext s) (ctrNext-bytes s) ∙ jump-on s k
   jumped-stepped false zero s d n a = sym (no-gcm-jump s n a)
   jumped-stepped false (suc k) s d n a =
       jumped-stepped false k (gcmNext s) (drop 16 d) (length-gcmNext s n) (gcmNext-bytes s a) ∙ gcm-jump-on s k n
@@ -60,5 +59,4 @@ module _ (rk : List ℕ) where
       ≡ cat n (gives (streamMode (counting wide) rk) s (drop at d))
   jumped-gives wide n at s d hs hb =
       cat-same n (λ i. xors (blockAt (tailed at d) i) (encryptBlock rk (jumped wide s i)))
-      (gives (streamMode (counting wide) rk) s (drop at d))
-      (λ i g. rw (tail-is d at, jumped-stepped wide i s (drop at d) hs hb))
+      (gives (streamMode (counting wide) rk) s (drop at d)) (λ i g. rw (tail-is d at, jumped-stepped wide i s (drop at d) hs hb))

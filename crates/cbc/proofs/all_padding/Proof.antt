@@ -1,5 +1,5 @@
--- `cbc::all_padding` meets its contract. The loop's invariant: the differences that are added, and those that the bytes from i
--- on will add, are those of the whole block.
+-- `cbc::all_padding` meets its contract. The loop's invariant: the differences that are added, and those that the bytes from i on will add,
+-- are those of the whole block.
 -- Assumes nothing.
 use mathlib.Core.Path.{_≡_}
 use Prim.Native.Nat.{_+_, _*_, _-_, _≤_}
@@ -19,9 +19,6 @@ Inv-loop n last differ₀ i₀ differ i =
 abbrev μ-loop : tie.MeasureT-loop
 μ-loop n last differ₀ i₀ differ i = 16 - i
 
-loop-holds : tie.Need-loop-holds Inv-loop μ-loop
-loop-holds c = (omega arith, search needs, omega arith, omega arith)
-
 -- what a turn adds
 small : (c : tie.In-loop Inv-loop μ-loop)
     → difference (c .before .before .args .n) (c .before .loop .i) (getD (c .before .before .args .t1) (c .before .loop .i) 0) ≤ 255
@@ -29,12 +26,6 @@ small c =
     let l = c .before in
     let byte : Fits w8 (getD (l .before .args .t1) (l .loop .i) 0) = search needs in
     difference-le (l .before .args .n) (l .loop .i) _ (l .before .pre) (omega arith) (byte .fits)
-
-mul-differ : tie.Need-mul-differ Inv-loop μ-loop
-mul-differ c = omega (arith, small c)
-
-add-differ : tie.Need-add-differ Inv-loop μ-loop
-add-differ c = omega (arith, small c)
 
 loop-again : tie.Need-loop-again Inv-loop μ-loop
 loop-again c =
@@ -52,8 +43,6 @@ returns c =
     rw e (padding-test n last (l .before .pre) (l .loop .inv .1))
 
 pub all-padding-spec : {M : Type 1} → statement M
-all-padding-spec =
-    tie.close
-    (tie.spec
-    Inv-loop μ-loop loop-holds (λ c. omega arith) (λ c. omega arith) (λ c. search needs) mul-differ add-differ
-    (λ c. omega arith) (λ c. omega arith) loop-again returns)
+all-padding-spec = tie.close (tie.spec Inv-loop μ-loop (λ c. (omega arith, search needs, omega arith, omega arith)) (λ c. omega arith)
+    (λ c. omega arith) (λ c. search needs) (λ c. omega (arith, small c)) (λ c. omega (arith, small c)) (λ c. omega arith) (λ c. omega arith)
+    loop-again returns)

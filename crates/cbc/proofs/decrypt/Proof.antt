@@ -1,5 +1,5 @@
--- `cbc::decrypt` meets its contract. The last block decides (`unpad`), before a byte is written; then the front and what the
--- padding leaves of the last block are put together (`open-done`). The round keys turned round twice are the round keys.
+-- `cbc::decrypt` meets its contract. The last block decides (`unpad`), before a byte is written; then the front and what the padding leaves
+-- of the last block are put together (`open-done`). The round keys turned round twice are the round keys.
 -- Assumes nothing.
 use mathlib.Core.Path.{_≡_, sym, _∙_}
 use mathlib.Core.List.{[], _∷_, reverse-reverse}
@@ -24,10 +24,8 @@ use Rattle.cbc.proofs.decrypt.Statement.{statement}
 use Rattle.cbc.proofs.decrypt.Tie as tie
 
 -- the last block, decrypted
-last-is : (x : tie.After-last-block)
-    → x .last-block .result ≡ drop (length (now (x .before .before .before .before .before .args .«data»)) - 16)
-    (cbcText (x .before .before .before .before .before .args .rk) (unwords (x .before .before .before .before .before .args .iv))
-    (now (x .before .before .before .before .before .args .«data»)))
+last-is : (x : tie.After-last-block) → let a = x .before .before .before .before .before .args in
+    x .last-block .result ≡ drop (length (now (a .«data»)) - 16) (cbcText (a .rk) (unwords (a .iv)) (now (a .«data»)))
 last-is x =
     let a = x .before .before .before .before .before .args in
     rw (x .before .reversed .ensures, reverse-reverse (a .rk)) at (x .last-block .ensures)
@@ -85,9 +83,6 @@ returns-2 c =
     (sym (at-unpad .unpad .ensures) ∙ at-opened .opened .given .1) front (at-put-front .put-front .ensures)
 
 pub decrypt-spec : {M : Type 1} → statement M
-decrypt-spec =
-    tie.close
-    (tie.spec
-    (λ c κs. search needs) (λ c κs. search needs) (λ c κs. search needs) (λ c. search needs) returns
-    (λ c. search needs) (λ c. search needs) (λ c. search needs) (λ c. search needs) (λ c κs. search needs)
-    (λ c. search needs) (λ c. search needs) (λ c. search needs) put-front-requires add-t11 (λ c. search needs) returns-2)
+decrypt-spec = tie.close (tie.spec (λ c κs. search needs) (λ c κs. search needs) (λ c κs. search needs) (λ c. search needs) returns
+    (λ c. search needs) (λ c. search needs) (λ c. search needs) (λ c. search needs) (λ c κs. search needs) (λ c. search needs)
+    (λ c. search needs) (λ c. search needs) put-front-requires add-t11 (λ c. search needs) returns-2)

@@ -1,5 +1,5 @@
--- `cbc::decrypt_batches` meets its contract. The first block goes by itself (`fed-reached`), and a turn of the loop goes as many blocks on as
--- the batch has (`fed-on`), each from the ciphertext block before it.
+-- `cbc::decrypt_batches` meets its contract. The first block goes by itself (`fed-reached`), and a turn of the loop goes as many blocks on
+-- as the batch has (`fed-on`), each from the ciphertext block before it.
 -- Assumes nothing.
 use mathlib.Core.Path.{_≡_, refl}
 use mathlib.Core.List.{List, _++_, reverse}
@@ -76,11 +76,7 @@ returns-3 c =
     )
 
 pub decrypt-batches-spec : {M : Type 1} → statement M
-decrypt-batches-spec =
-    tie.close
-    (tie.spec
-    Inv-loop μ-loop (λ c κs. search needs) returns returns-2 (λ c κs. search needs) loop-holds (λ c. omega arith) (λ c. omega arith)
-    (λ c κs. omega arith)
-    (λ c. omega arith) (λ c. omega arith) (λ c. omega arith) (λ c. omega arith) (λ c. omega arith) (λ c. omega arith)
-    (λ c. omega arith) (λ c. omega arith) (λ c. omega arith) (λ c. omega arith) (λ c κs. search needs)
+decrypt-batches-spec = tie.close (tie.spec Inv-loop μ-loop (λ c κs. search needs) returns returns-2 (λ c κs. search needs) loop-holds
+    (λ c. omega arith) (λ c. omega arith) (λ c κs. omega arith) (λ c. omega arith) (λ c. omega arith) (λ c. omega arith) (λ c. omega arith)
+    (λ c. omega arith) (λ c. omega arith) (λ c. omega arith) (λ c. omega arith) (λ c. omega arith) (λ c. omega arith) (λ c κs. search needs)
     (λ c. omega arith) (λ c. omega arith) (λ c. omega arith) loop-again (λ c. omega arith) returns-3)

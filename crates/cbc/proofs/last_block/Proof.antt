@@ -1,5 +1,5 @@
--- `cbc::last_block` meets its contract: the last block of the decrypted text takes the last two blocks alone (`last-words`), and
--- the cipher under the round keys turned round is decryption.
+-- `cbc::last_block` meets its contract: the last block of the decrypted text takes the last two blocks alone (`last-words`), and the cipher
+-- under the round keys turned round is decryption.
 -- Assumes nothing.
 use mathlib.Core.Path.{_≡_, _∙_}
 use mathlib.Core.List.{reverse}
@@ -31,8 +31,7 @@ returns c =
     let four : length (chained .result) ≡ 4 = search (needs, chained) in
     let small : (i : ℕ) → getD d i 0 < 256 = λ i. omega (arith, at-data .shared-slice-known2 .given i) in
     let words-of-last = words (tailed (length d - 16) d) in
-    c .combine-block .ensures
-    ∙ rw (
+    c .combine-block .ensures ∙ rw (
       at-xor .block-xor .ensures,
       at-encrypt .encrypt .ensures,
       at-split .split-block .ensures,
@@ -42,8 +41,5 @@ returns c =
     (S .pre .1 .0) (S .pre .1 .1) four (chained .ensures))
 
 pub last-block-spec : {M : Type 1} → statement M
-last-block-spec =
-    tie.close
-    (tie.spec
-    (λ c. search needs) (λ c. search needs) (λ c. search needs) (λ c. search needs) (λ c κs. search needs)
+last-block-spec = tie.close (tie.spec (λ c. search needs) (λ c. search needs) (λ c. search needs) (λ c. search needs) (λ c κs. search needs)
     (λ c κs. search needs) (λ c κs. search needs) (λ c κs. search needs) (λ c κs. search needs) returns)

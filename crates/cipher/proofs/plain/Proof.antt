@@ -32,14 +32,7 @@ loop-again c =
     let n = plain-length _ (l .inv .0) in
     (l .inv .0, omega arith, search needs, laid-more _ (l .wide) (l .i) (omega arith) (omega arith) (l .inv .3))
 
-returns : tie.Need-returns Inv-loop μ-loop
-returns c =
-    let l = c .before .loop in
-    laid-front _ (l .wide) (l .i) (l .inv .0) (omega arith) (l .inv .3)
-
 pub plain-spec : {M : Type 1} → statement M
 plain-spec =
-    tie.close
-    (tie.spec
-    Inv-loop μ-loop loop-holds (λ c. search needs) cast-wide (λ c. search needs) (λ c. search needs) (λ c. search needs)
-    (λ c. search needs) loop-again returns)
+    tie.close (tie.spec Inv-loop μ-loop loop-holds (λ c. search needs) cast-wide (λ c. search needs) (λ c. search needs) (λ c. search needs)
+    (λ c. search needs) loop-again (λ c. let l = c .before .loop in laid-front _ (l .wide) (l .i) (l .inv .0) (omega arith) (l .inv .3)))

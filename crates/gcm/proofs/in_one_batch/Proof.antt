@@ -8,16 +8,6 @@ use borrow.Author.Needs.{needs}
 use Rattle.gcm.proofs.in_one_batch.Statement.{statement}
 use Rattle.gcm.proofs.in_one_batch.Tie as tie
 
-returns : tie.Need-returns
-returns c = λ e.
-    let z : _≡_ {A = ℕ} 0 1 = cc in
-    absurd (omega arith)
-
-returns-2 : tie.Need-returns-2
-returns-2 c = λ e. ltb-true _ _ e
-
 pub in-one-batch-spec : {M : Type 1} → statement M
 in-one-batch-spec =
-    tie.close
-    (tie.spec
-    (λ c κs. search needs) returns returns-2)
+    tie.close (tie.spec (λ c κs. search needs) (λ c e. let z : _≡_ {A = ℕ} 0 1 = cc in absurd (omega arith)) (λ c e. ltb-true _ _ e))

@@ -19,7 +19,4 @@ returns c =
     (c .before .before .galois-hash .ensures) (c .before .from-u128 .ensures) (c .block-xor .ensures)
 
 pub masked-tag-spec : {M : Type 1} → statement M
-masked-tag-spec =
-    tie.close
-    (tie.spec
-    (λ c κs. search needs) (λ c κs. search needs) (λ c κs. search needs) returns)
+masked-tag-spec = tie.close (tie.spec (λ c κs. search needs) (λ c κs. search needs) (λ c κs. search needs) returns)

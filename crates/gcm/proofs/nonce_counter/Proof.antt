@@ -22,5 +22,4 @@ returns c =
     (at-first .word-at .ensures) (at-second .word-at2 .ensures) (c .word-at3 .ensures)
 
 pub nonce-counter-spec : {M : Type 1} → statement M
-nonce-counter-spec =
-    tie.close (tie.spec (λ c κs. search needs) (λ c κs. search needs) (λ c κs. search needs) returns)
+nonce-counter-spec = tie.close (tie.spec (λ c κs. search needs) (λ c κs. search needs) (λ c κs. search needs) returns)

@@ -28,8 +28,7 @@ returns c =
     let at-text-part = at-tag .before in
     let a = at-text-part .before .before .before .before .args in
     let tag = tagOf (a .rk) (value (a .h)) (unwords (a .j0)) (now (a .aad)) in
-    c .has-tag .ensures
-    ∙ ap (same (tagPart (now (a .«data»)))) (at-tag .tag .ensures ∙ ap tag (at-text-part .text-part .ensures))
+    c .has-tag .ensures ∙ ap (same (tagPart (now (a .«data»)))) (at-tag .tag .ensures ∙ ap tag (at-text-part .text-part .ensures))
 
 pub opens-spec : {M : Type 1} → statement M
 opens-spec = tie.close (tie.spec (λ c κs. search needs) tag-requires (λ c κs. search needs) returns)

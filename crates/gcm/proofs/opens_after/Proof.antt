@@ -10,7 +10,6 @@ use lib.ListN.{length}
 use lib.Seq.{length-take-le}
 use Rattle.block.specs.Same.{same}
 use Rattle.block.specs.Wide.{value}
-use Rattle.block.specs.Words.{unwords}
 use Rattle.ghash.specs.Ghash.{ghash, authBlocks, blocks}
 use Rattle.ghash.specs.Joined.{HalfOf}
 use Rattle.gcm.specs.Gcm.{textPart, tagPart}
@@ -40,16 +39,12 @@ returns c =
     let a = S .args in
     let four : length (a .mask) ≡ 4 = search (needs, S .good .0) in
     let h = value (a .h) in
-    let hash =
-    at-hash .galois-hash-after .ensures
+    let hash = at-hash .galois-hash-after .ensures
     ∙ ap (λ (text : List ℕ). ghash h (authBlocks (now (a .aad)) text)) (at-text-part .text-part .ensures) in
-    c .has-tag .ensures
-    ∙ ap (same (tagPart (now (a .«data»))))
+    c .has-tag .ensures ∙ ap (same (tagPart (now (a .«data»))))
     (masked-words (a .mask) (now (a .aad)) (textPart (now (a .«data»))) _ _ h _ four hash (at-words .from-u128 .ensures)
     (at-xor .block-xor .ensures))
 
 pub opens-after-spec : {M : Type 1} → statement M
-opens-after-spec =
-    tie.close
-    (tie.spec
-    (λ c κs. search needs) galois-hash-after-requires (λ c κs. search needs) (λ c κs. search needs) (λ c κs. search needs) returns)
+opens-after-spec = tie.close (tie.spec (λ c κs. search needs) galois-hash-after-requires (λ c κs. search needs) (λ c κs. search needs)
+    (λ c κs. search needs) returns)

@@ -7,10 +7,6 @@ use borrow.Author.Needs.{needs}
 use Rattle.gcm.proofs.tag_part.Statement.{statement}
 use Rattle.gcm.proofs.tag_part.Tie as tie
 
-returns : tie.Need-returns
-returns c =
-    let d = c .before .args .«data» .now in
-    tail-is d (length d - 16)
-
 pub tag-part-spec : {M : Type 1} → statement M
-tag-part-spec = tie.close (tie.spec (λ c. search needs) (λ c. search needs) (λ c. search needs) (λ c. search needs) returns)
+tag-part-spec = tie.close (tie.spec (λ c. search needs) (λ c. search needs) (λ c. search needs) (λ c. search needs)
+    (λ c. let d = c .before .args .«data» .now in tail-is d (length d - 16)))

@@ -5,8 +5,5 @@ use borrow.Author.Needs.{needs}
 use Rattle.gcm.proofs.text_part.Statement.{statement}
 use Rattle.gcm.proofs.text_part.Tie as tie
 
-returns : tie.Need-returns
-returns c = simp sub-zero
-
 pub text-part-spec : {M : Type 1} → statement M
-text-part-spec = tie.close (tie.spec (λ c. search needs) (λ c. search needs) (λ c. search needs) (λ c. search needs) returns)
+text-part-spec = tie.close (tie.spec (λ c. search needs) (λ c. search needs) (λ c. search needs) (λ c. search needs) (λ c. simp sub-zero))

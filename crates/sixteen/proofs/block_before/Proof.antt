@@ -32,8 +32,5 @@ returns-2 c =
     (omega arith) (S .pre .0) (c .split-block .ensures)
 
 pub block-before-spec : {M : Type 1} → statement M
-block-before-spec =
-    tie.close
-    (tie.spec
-    returns (λ c. search needs) (λ c. search needs) (λ c. search needs) (λ c. search needs) (λ c κs. search needs)
-    returns-2)
+block-before-spec = tie.close (tie.spec returns (λ c. search needs) (λ c. search needs) (λ c. search needs) (λ c. search needs)
+    (λ c κs. search needs) returns-2)

@@ -1,6 +1,5 @@
 -- `sixteen::groups_of` meets its contract: the table's rules are one computed test each.
 -- Assumes nothing.
-use mathlib.Core.Path.{_≡_}
 use mathlib.Core.List.{List, [], _∷_}
 use Prim.Native.Nat.{ℕ, _+_, _/_, _≤_}
 use native.Mathlib.Omega.{arith}

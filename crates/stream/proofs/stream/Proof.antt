@@ -1,6 +1,6 @@
 -- `stream::stream` meets its contract: what goes on from where the batches have come to ends the walk (`reached-end`, `reached-over`).
 -- Assumes nothing.
-use mathlib.Core.Path.{_≡_, ap, _∙_}
+use mathlib.Core.Path.{ap, _∙_}
 use native.Mathlib.Omega.{arith}
 use denote.Ref.{now}
 use Rattle.block.specs.Words.{unwords}
@@ -24,8 +24,5 @@ returns c =
     )
 
 pub stream-spec : {M : Type 1} → statement M
-stream-spec =
-    tie.close
-    (tie.spec
-    (λ c κs. search needs) (λ c. omega arith) (λ c. omega arith) (λ c. omega arith) (λ c. omega arith) (λ c. omega arith)
-    (λ c. omega arith) (λ c κs. (search needs, omega arith)) (λ c. omega arith) returns)
+stream-spec = tie.close (tie.spec (λ c κs. search needs) (λ c. omega arith) (λ c. omega arith) (λ c. omega arith) (λ c. omega arith)
+    (λ c. omega arith) (λ c. omega arith) (λ c κs. (search needs, omega arith)) (λ c. omega arith) returns)

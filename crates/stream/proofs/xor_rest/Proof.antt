@@ -21,10 +21,14 @@ use Rattle.stream.proofs.xor_rest.Tie as tie
 
 returns : tie.Need-returns
 returns c =
+    let S = c .before .before .before .before .before in
     let needed = c .before .pad-needed .ensures in
-    let a = c .before .before .before .before .before .args in
-    let none = not-true _ (c .if1 .taken) in
-    (λ e. untrue (sym none ∙ needed .0 e), nothing-written (now (a .«data»)) (encryptBlock (a .rk) (unwords (a .s))) (now (a .out)) (needed .1 none))
+    let a = S .args in
+    let none = not-true _ (c .if1 .taken) in (
+      λ e. untrue (sym none ∙ needed .0 e),
+      nothing-written (now (a .«data»)) (encryptBlock (a .rk) (unwords (a .s))) (now (a .out))
+          (needed .1 none),
+    )
 
 returns-2 : tie.Need-returns-2
 returns-2 c =
@@ -43,7 +47,5 @@ returns-2 c =
     )
 
 pub xor-rest-spec : {M : Type 1} → statement M
-xor-rest-spec =
-    tie.close
-    (tie.spec
-    (λ c κs. search needs) returns (λ c κs. search needs) (λ c κs. search needs) (λ c. search needs) (λ c κs. search needs) (λ c. search needs) returns-2)
+xor-rest-spec = tie.close (tie.spec (λ c κs. search needs) returns (λ c κs. search needs) (λ c κs. search needs) (λ c. search needs)
+    (λ c κs. search needs) (λ c. search needs) returns-2)

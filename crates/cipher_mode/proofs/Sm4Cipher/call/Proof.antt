@@ -47,8 +47,5 @@ returns-2 c =
     (reached b o _ 16 n (at-work .block2 .ensures ∙ ap (λ (k : ℕ). b ++ drop k o) (sym n))))
 
 pub call-spec : {M : Type 1} → statement M
-call-spec =
-    tie.close
-    (tie.spec
-    (λ c κs. search needs) (λ c κs. search needs) (λ c. search needs) (λ c κs. search needs) returns
+call-spec = tie.close (tie.spec (λ c κs. search needs) (λ c κs. search needs) (λ c. search needs) (λ c κs. search needs) returns
     (λ c. search needs) block-requires-2 (λ c κs. search needs) (λ c. search needs) returns-2)

@@ -18,10 +18,6 @@ in-range n e = not-above (eqb n 0) e
     not-above true f = let z : _≡_ {A = ℕ} 0 1 = cc in absurd (omega arith)
     not-above false f = ltb-false 65535 n f
 
-returns : tie.Need-returns
-unfolding newCipher
-returns c = rw (ne-eqb _ _ (c .before .if1 .taken)) (c .no-cipher .ensures)
-
 returns-2 : tie.Need-returns-2
 unfolding newCipher
 returns-2 c =
@@ -39,15 +35,9 @@ returns-3 : tie.Need-returns-3
 unfolding newCipher
 returns-3 c =
     let at-number = c .before .before in
-    rw (
-      eq-eqb _ _ (at-number .before .if1 .left),
-      sym (at-number .wrong-number .ensures) ∙ c .before .if2 .left,
-      c .key-schedule .ensures,
-    )
+    rw (eq-eqb _ _ (at-number .before .if1 .left), sym (at-number .wrong-number .ensures) ∙ c .before .if2 .left, c .key-schedule .ensures)
 
 pub new-spec : {M : Type 1} → statement M
-new-spec =
-    tie.close
-    (tie.spec
-    (λ c κs. search needs) returns (λ c κs. search needs) (λ c κs. search needs) returns-2 (λ c κs. search needs)
-    cast-t10 returns-3)
+unfolding newCipher
+new-spec = tie.close (tie.spec (λ c κs. search needs) (λ c. rw (ne-eqb _ _ (c .before .if1 .taken)) (c .no-cipher .ensures))
+    (λ c κs. search needs) (λ c κs. search needs) returns-2 (λ c κs. search needs) cast-t10 returns-3)

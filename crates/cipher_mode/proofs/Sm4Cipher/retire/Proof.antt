@@ -20,13 +20,6 @@ no-key c Key told = absurd (⊎-elim (λ t. omega arith) (λ t. omega arith) tol
 no-key c ErrorBlockSize told = refl
 no-key c WrongNumber told = refl
 
-returns : tie.Need-returns
-unfolding retire
-returns c = rw (no-key _ _ (c .match .keys2))
-
-returns-2 : tie.Need-returns-2
-unfolding retire
-returns-2 c = rw (c .before .enum-told .given .1)
-
 pub retire-spec : {M : Type 1} → statement M
-retire-spec = tie.close (tie.spec (λ c. search needs) returns returns-2)
+unfolding retire
+retire-spec = tie.close (tie.spec (λ c. search needs) (λ c. rw (no-key _ _ (c .match .keys2))) (λ c. rw (c .before .enum-told .given .1)))

@@ -43,8 +43,5 @@ returns-2 c =
     (went-on _ o _ next (sym (at-check .message .ensures) ∙ told .enum-told .given .1) (at-work .message-by .ensures))
 
 pub call-spec : {M : Type 1} → statement M
-call-spec =
-    tie.close
-    (tie.spec
-    (λ c κs. search needs) (λ c κs. search needs) (λ c. search needs) (λ c κs. search needs) returns
+call-spec = tie.close (tie.spec (λ c κs. search needs) (λ c κs. search needs) (λ c. search needs) (λ c κs. search needs) returns
     (λ c. search needs) message-by-requires (λ c. search needs) returns-2)

@@ -5,10 +5,6 @@ use borrow.Author.Needs.{needs}
 use Rattle.cipher_mode.proofs.Sm4CipherMode.new.Statement.{statement}
 use Rattle.cipher_mode.proofs.Sm4CipherMode.new.Tie as tie
 
-returns : tie.Need-returns
-unfolding newCipherMode
-returns c = rw (c .new .ensures)
-
 pub new-spec : {M : Type 1} → statement M
-new-spec =
-    tie.close (tie.spec (λ c κs. search needs) returns)
+unfolding newCipherMode
+new-spec = tie.close (tie.spec (λ c κs. search needs) (λ c. rw (c .new .ensures)))

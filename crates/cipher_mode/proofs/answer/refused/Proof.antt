@@ -7,8 +7,5 @@ use Rattle.cipher_mode.proofs.Refusals.{quiet-ending}
 use Rattle.cipher_mode.proofs.answer.refused.Statement.{statement}
 use Rattle.cipher_mode.proofs.answer.refused.Tie as tie
 
-returns : tie.Need-returns
-returns c = ap (under (c .args .key)) (quiet-ending (Refused (c .args .refusal)))
-
 pub refused-spec : {M : Type 1} → statement M
-refused-spec = tie.close (tie.spec returns)
+refused-spec = tie.close (tie.spec (λ c. ap (under (c .args .key)) (quiet-ending (Refused (c .args .refusal)))))

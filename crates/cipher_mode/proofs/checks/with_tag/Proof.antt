@@ -5,12 +5,6 @@ use borrow.Author.Needs.{needs}
 use Rattle.cipher_mode.proofs.checks.with_tag.Statement.{statement}
 use Rattle.cipher_mode.proofs.checks.with_tag.Tie as tie
 
-returns : tie.Need-returns
-returns c = rw (lt-ltb _ _ (c .if1 .taken))
-
-returns-2 : tie.Need-returns-2
-returns-2 c = rw (le-ltb _ _ (c .if1 .left))
-
 pub with-tag-spec : {M : Type 1} → statement M
-with-tag-spec =
-    tie.close (tie.spec (λ c. search needs) (λ c. search needs) returns returns-2)
+with-tag-spec = tie.close (tie.spec (λ c. search needs) (λ c. search needs) (λ c. rw (lt-ltb _ _ (c .if1 .taken)))
+    (λ c. rw (le-ltb _ _ (c .if1 .left))))

@@ -23,8 +23,5 @@ returns c =
     ∙ ap (λ (l : List ℕ). l ++ drop 16 (now (a .out))) (ap unwords words-of ∙ block-by (a .direction) (a .rk) (now (a .block-in)))
 
 pub block-spec : {M : Type 1} → statement M
-block-spec =
-    tie.close
-    (tie.spec
-    (λ c κs. search needs) (λ c κs. search needs) (λ c κs. search needs) (λ c κs. search needs) (λ c κs. search needs) (λ c. search needs)
-    returns)
+block-spec = tie.close (tie.spec (λ c κs. search needs) (λ c κs. search needs) (λ c κs. search needs) (λ c κs. search needs)
+    (λ c κs. search needs) (λ c. search needs) returns)

@@ -56,9 +56,7 @@ returns c =
     let iv = now (a .iv) in
     let d = now (a .«data») in
     let o = now (a .out) in
-    rw (told .enum-told .given .1)
-    (reached (cbcSeal (a .rk) iv d) o _ _
-    (length-cbcSeal (a .rk) iv d ∙ sym (c .encrypted-length .ensures))
+    rw (told .enum-told .given .1) (reached (cbcSeal (a .rk) iv d) o _ _ (length-cbcSeal (a .rk) iv d ∙ sym (c .encrypted-length .ensures))
     (at-encrypt .encrypt .ensures ∙ ap (λ (s : List ℕ). over (cbcSeal (a .rk) s d) o) (is-iv at-split)))
 
 returns-2 : tie.Need-returns-2
@@ -72,12 +70,8 @@ returns-2 c =
     let o = now (a .out) in
     rw (told .enum-told2 .given .1)
     (ap {B = Outcome} (λ (h : Head). leaving h (at-decrypt .decrypt .last .1 .1 .1 .1 .0)) (c .cbc-answer .ensures)
-    ∙ at-decrypt .decrypt .ensures
-    ∙ ap {B = Outcome} (λ (s : List ℕ). cbcOpen (a .rk) s d o) (is-iv at-split))
+    ∙ at-decrypt .decrypt .ensures ∙ ap {B = Outcome} (λ (s : List ℕ). cbcOpen (a .rk) s d o) (is-iv at-split))
 
 pub by-cbc-spec : {M : Type 1} → statement M
-by-cbc-spec =
-    tie.close
-    (tie.spec
-    (λ c κs. search needs) (λ c. search needs) encrypt-requires encrypted-length-requires (λ c. search needs)
+by-cbc-spec = tie.close (tie.spec (λ c κs. search needs) (λ c. search needs) encrypt-requires encrypted-length-requires (λ c. search needs)
     decrypt-requires (λ c κs. search needs) (λ c. search needs) returns (λ c. search needs) returns-2)

@@ -32,7 +32,4 @@ returns c =
     (c .ctr-came-round .ensures ∙ ap (λ (v : List ℕ). ctrCameRound v (blocksOf (length d))) is-iv) (at-stream .by-stream .ensures) refl
 
 pub by-ctr-spec : {M : Type 1} → statement M
-by-ctr-spec =
-    tie.close
-    (tie.spec
-    (λ c κs. search needs) (λ c κs. search needs) (λ c κs. search needs) (λ c. search needs) returns)
+by-ctr-spec = tie.close (tie.spec (λ c κs. search needs) (λ c κs. search needs) (λ c κs. search needs) (λ c. search needs) returns)

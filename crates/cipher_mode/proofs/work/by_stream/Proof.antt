@@ -30,7 +30,4 @@ returns c =
     (at-stream .stream .ensures .1 .1 ∙ ap (λ (s : List ℕ). over (chain (streamMode (a .kind) (a .rk)) s d) o) is-iv)
 
 pub by-stream-spec : {M : Type 1} → statement M
-by-stream-spec =
-    tie.close
-    (tie.spec
-    (λ c κs. search needs) (λ c κs. search needs) (λ c. search needs) returns)
+by-stream-spec = tie.close (tie.spec (λ c κs. search needs) (λ c κs. search needs) (λ c. search needs) returns)

@@ -4,8 +4,5 @@ use Rattle.cipher_mode.proofs.Refusals.{quiet-ending}
 use Rattle.cipher_mode.proofs.work.quiet.Statement.{statement}
 use Rattle.cipher_mode.proofs.work.quiet.Tie as tie
 
-returns : tie.Need-returns
-returns c = quiet-ending (c .args .ending)
-
 pub quiet-spec : {M : Type 1} → statement M
-quiet-spec = tie.close (tie.spec returns)
+quiet-spec = tie.close (tie.spec (λ c. quiet-ending (c .args .ending)))

@@ -6,11 +6,6 @@ use Rattle.block.proofs.Shift.{shl-or}
 use Rattle.sixteen.proofs.rounds.half.Statement.{statement}
 use Rattle.sixteen.proofs.rounds.half.Tie as tie
 
-returns : tie.Need-returns
-returns c = (shl-or 64 32 32 (c .args .high) (c .args .low) (omega arith) (search needs) (search needs), c .fits .low .fits)
-
 pub half-spec : {M : Type 1} → statement M
-half-spec =
-    tie.close
-    (tie.spec
-    returns)
+half-spec = tie.close (tie.spec
+    (λ c. (shl-or 64 32 32 (c .args .high) (c .args .low) (omega arith) (search needs) (search needs), c .fits .low .fits)))

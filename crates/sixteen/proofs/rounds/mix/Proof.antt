@@ -13,8 +13,7 @@ use Rattle.sixteen.proofs.rounds.mix.Statement.{statement}
 use Rattle.sixteen.proofs.rounds.mix.Tie as tie
 
 abbrev Inv-loop : tie.InvT-loop
-Inv-loop x₀ i s n a j₀ x j =
-    (j ≤ n) × (length x ≡ 256) × Changed (row i) j (λ k. getD x₀ (row i + k) 0 ⊕ L (getD s k 0)) x₀ x
+Inv-loop x₀ i s n a j₀ x j = (j ≤ n) × (length x ≡ 256) × Changed (row i) j (λ k. getD x₀ (row i + k) 0 ⊕ L (getD s k 0)) x₀ x
 
 abbrev μ-loop : tie.MeasureT-loop
 μ-loop x₀ i s n a j₀ x j = n - j
@@ -40,7 +39,6 @@ returns c =
     (record { new = λ j h. C .new j (omega arith); below = C .below; above = λ p h. C .above p (omega arith) }, l .inv .1)
 
 pub mix-spec : {M : Type 1} → statement M
-mix-spec =
-    tie.close
-    (tie.spec
-    Inv-loop μ-loop (λ c. search needs) loop-holds (λ c. search needs) (λ c. search needs) (λ c. search needs) (λ c. search needs) (λ c. search needs) (λ c κs. search needs) (λ c. search needs) (λ c. search needs) (λ c. search needs) (λ c. search needs) (λ c. search needs) loop-again returns)
+mix-spec = tie.close (tie.spec Inv-loop μ-loop (λ c. search needs) loop-holds (λ c. search needs) (λ c. search needs) (λ c. search needs)
+    (λ c. search needs) (λ c. search needs) (λ c κs. search needs) (λ c. search needs) (λ c. search needs) (λ c. search needs)
+    (λ c. search needs) (λ c. search needs) loop-again returns)

@@ -14,12 +14,10 @@ returns c =
     let S = at-keyed .before .before .before in
     let a = S .args in (
       round-done (a .x .now) (c .mix .last .0) (at-keyed .keyed-words .last .0) (at-sub .sub-groups .last .1 .0) (a .i) (a .k) (a .n)
-          (16 * a .groups) (S .pre .0 .0) (omega arith) (at-keyed .keyed-words .ensures .0) (at-sub .sub-groups .ensures .0) (c .mix .ensures .0),
+          (16 * a .groups) (S .pre .0 .0) (omega arith) (at-keyed .keyed-words .ensures .0) (at-sub .sub-groups .ensures .0)
+          (c .mix .ensures .0),
       record { lx = c .mix .ensures .1; lt = at-keyed .keyed-words .ensures .1; ls = at-sub .sub-groups .ensures .1 },
     )
 
 pub round-spec : {M : Type 1} → statement M
-round-spec =
-    tie.close
-    (tie.spec
-    (λ c κs. search needs) (λ c κs. search needs) (λ c κs. search needs) returns)
+round-spec = tie.close (tie.spec (λ c κs. search needs) (λ c κs. search needs) (λ c κs. search needs) returns)

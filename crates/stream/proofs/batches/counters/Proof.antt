@@ -52,13 +52,8 @@ loop-again c =
     (at-batch .encrypt-counters .ensures ∙ ap (λ (x : List ℕ). over x (tailed (l .at) (l .out)))
     (jumped-gives (a .rk) (a .wide) n (l .at) s d (length-unwords (l .s)) (unwords-bytes (l .s))))
 
-returns : tie.Need-returns Inv-loop μ-loop
-returns c = c .before .loop .inv
-
 pub counters-spec : {M : Type 1} → statement M
-counters-spec =
-    tie.close
-    (tie.spec
-    Inv-loop μ-loop loop-holds (λ c. omega arith) (λ c. omega arith) (λ c κs. omega arith) (λ c. omega arith)
-    (λ c. omega arith) (λ c. omega arith) (λ c. omega arith) (λ c. omega arith) (λ c. omega arith) (λ c κs. search needs) (λ c κs. search needs)
-    (λ c. omega arith) (λ c. omega arith) (λ c. omega arith) loop-again (λ c. omega arith) returns)
+counters-spec = tie.close (tie.spec Inv-loop μ-loop loop-holds (λ c. omega arith) (λ c. omega arith) (λ c κs. omega arith)
+    (λ c. omega arith) (λ c. omega arith) (λ c. omega arith) (λ c. omega arith) (λ c. omega arith) (λ c. omega arith) (λ c κs. search needs)
+    (λ c κs. search needs) (λ c. omega arith) (λ c. omega arith) (λ c. omega arith) loop-again (λ c. omega arith)
+    (λ c. c .before .loop .inv))

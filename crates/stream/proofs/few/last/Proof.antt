@@ -1,5 +1,5 @@
--- `stream::few::last` meets its contract: the walk comes behind the full blocks (`few-reached`), and the rest is xored with the pad
--- behind them (`few-ended`), if there is one.
+-- `stream::few::last` meets its contract: the walk comes behind the full blocks (`few-reached`), and the rest is xored with the pad behind
+-- them (`few-ended`), if there is one.
 -- Assumes nothing.
 use mathlib.Core.Path.{_≡_, sym, ap, _∙_}
 use Prim.Native.Nat.{_*_, _/_, _%_, _≤_}
@@ -50,7 +50,6 @@ returns c =
     )
 
 pub last-spec : {M : Type 1} → statement M
-last-spec =
-    tie.close
-    (tie.spec
-    (λ c κs. search needs) (λ c κs. search needs) (λ c. search needs) (λ c. search needs) (λ c. search needs) (λ c. search needs) (λ c. search needs) (λ c. search needs) (λ c. search needs) (λ c. search needs) xor-bytes-requires (λ c. search needs) returns)
+last-spec = tie.close (tie.spec (λ c κs. search needs) (λ c κs. search needs) (λ c. search needs) (λ c. search needs) (λ c. search needs)
+    (λ c. search needs) (λ c. search needs) (λ c. search needs) (λ c. search needs) (λ c. search needs) xor-bytes-requires
+    (λ c. search needs) returns)
