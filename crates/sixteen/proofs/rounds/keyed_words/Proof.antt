@@ -6,7 +6,7 @@ use mathlib.Core.Path.{_≡_, refl}
 use native.Mathlib.Omega.{arith}
 use lib.ListN.{length}
 use Rattle.sixteen.specs.Blocks.{Each, keyed}
-use Rattle.sixteen.proofs.Filling.{each-next}
+use Rattle.lanes.proofs.Filling.{each-next}
 use Rattle.sixteen.proofs.rounds.keyed_words.Statement.{statement}
 use Rattle.sixteen.proofs.rounds.keyed_words.Tie as tie
 
