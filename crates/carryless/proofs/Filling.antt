@@ -1,6 +1,5 @@
 -- Arrays filled number by number.
--- Assumes nothing.
-use Rattle.block.proofs.Base.{_≡_, ap₂, _∙_, List, ℕ, _+_, _<_, arith, length, set, getD-set-same, getD-set-other}
+use Rattle.block.proofs.Base.{_+_, _<_, ℕ, _∙_, _≡_, ap₂, List, arith, length, set, getD-set-other, getD-set-same}
 use Rattle.block.specs.Wide.{whole}
 pub use Rattle.lanes.proofs.Filling.{one-more, each-next}
 use Rattle.carryless.specs.Lanes.{lane, Both}

@@ -1,12 +1,12 @@
 -- Integer products of numbers with holes: of numbers whose digits to the base 2 ^ (w + 1) are 0 or 1. A digit of such a product is the
 -- number of the pairs of ones that meet there. Where that is below the base nothing is carried, and the digits' lowest bits are the
 -- product without carry (`hole-product`).
--- Assumes nothing.
-use Rattle.block.proofs.Base.{_≡_, refl, sym, ap, ap₂, _∙_, ℕ, zero, suc, _+_, _*_, _/_, _%_, _^_, _<_, _≤_, zero-le, suc-le-suc, add-zero}
-use Rattle.block.proofs.Base.{add-comm, add-mul, zero-add, suc-add, add-mod, mul-right-comm, zero-mul, one-mul, zero-div, zero-mod, mod-lt}
-use Rattle.block.proofs.Base.{mod-eq-of-lt, mul-mod-left, mul-div-cancel, div-add-mod', add-le-add, le-refl, lt-of-le-of-lt, lt-of-lt-of-le}
-use Rattle.block.proofs.Base.{lt-trans, lt-suc-self, le-of-suc-le-suc, pow-le-pow-right, add-one, one-add, arith, digits-div, digits-mod}
-use Rattle.block.proofs.Base.{lit<, pow-pos, split, mod-mod-pow, bitAnd, and-block, and-mask, and-zero-r, xor-block, shifted-even}
+use Rattle.block.proofs.Base.{_%_, _*_, _+_, _/_, _<_, _^_, _≤_, suc, suc-le-suc, zero, zero-le, ℕ, _∙_, _≡_, ap, ap₂, refl, sym, add-comm}
+use Rattle.block.proofs.Base.{add-le-add, add-mod, add-mul, add-zero, div-add-mod', le-of-suc-le-suc, le-refl, lt-of-le-of-lt}
+use Rattle.block.proofs.Base.{lt-of-lt-of-le, lt-suc-self, lt-trans, mod-eq-of-lt, mod-lt, mul-div-cancel, mul-mod-left, mul-right-comm}
+use Rattle.block.proofs.Base.{one-mul, pow-le-pow-right, suc-add, zero-add, zero-div, zero-mod, zero-mul, add-one, one-add, arith}
+use Rattle.block.proofs.Base.{digits-div, digits-mod, and-block, and-mask, and-zero-r, bitAnd, shifted-even, xor-block, lit<, mod-mod-pow}
+use Rattle.block.proofs.Base.{pow-pos, split}
 use Rattle.block.specs.Xor.{_⊕_}
 use Rattle.block.proofs.Xor.{bit-lt}
 use Rattle.block.proofs.Bit.{bit-cases}

@@ -1,8 +1,7 @@
 -- The three products of `karatsuba`, put together in words.
--- Assumes nothing.
-use Rattle.block.proofs.Base.{_≡_, sym, ap₂, _∙_, ℕ, _+_, _*_, _/_, _%_, _^_, _<_, add-zero, zero-add, add-mul, mul-assoc, div-one, mod-lt}
-use Rattle.block.proofs.Base.{lt-trans, le-refl, digits-lt, lit<, pow-add, pow-pos, split, high, low, shl-shr, shr-shr, shl-lt, shr-lt}
-use Rattle.block.proofs.Base.{xor-block, xor-shifted, xor-zero-r, xor-lt}
+use Rattle.block.proofs.Base.{_%_, _*_, _+_, _/_, _<_, _^_, ℕ, _∙_, _≡_, ap₂, sym, add-mul, add-zero, div-one, le-refl, lt-trans, mod-lt}
+use Rattle.block.proofs.Base.{mul-assoc, zero-add, digits-lt, xor-block, xor-lt, xor-shifted, xor-zero-r, lit<, high, low, pow-add, pow-pos}
+use Rattle.block.proofs.Base.{shl-lt, shl-shr, shr-lt, shr-shr, split}
 use Rattle.block.specs.Wide.{whole}
 use Rattle.block.specs.Xor.{_⊕_}
 use Rattle.block.proofs.Xor.{xor-sums}

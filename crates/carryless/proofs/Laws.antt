@@ -1,12 +1,11 @@
 -- Laws of products without carry: they distribute over exclusive or on both sides, the factors may change places, a factor's shift goes to
 -- the product, and the bits of the first factor may be taken in parts, so that a product of two halves each is made of three products of
 -- halves (`karatsuba`), and a square of the two squares of the halves (`square-halves`).
--- Assumes nothing.
-use Rattle.block.proofs.Base.{_≡_, refl, sym, ap, ap₂, _∙_, ℕ, zero, suc, _+_, _*_, _/_, _%_, _^_, _<_, _≤_, add-zero, add-suc, zero-add}
-use Rattle.block.proofs.Base.{add-comm, zero-mul, mul-zero, one-mul, mul-assoc, mul-comm, mul-right-comm, mul-one, lt-trans, zero-div}
-use Rattle.block.proofs.Base.{div-eq-of-lt, mod-lt, mod-eq-of-lt, mul-mod-left, le-of-suc-le, le-refl, one-add, arith, lit<, pow-add}
-use Rattle.block.proofs.Base.{pow-lt, shl-lt, shr-lt, pow-pos, mod-pow-add, split, shl-shr, shr-shr, high, low, xor-shr, xor-block}
-use Rattle.block.proofs.Base.{xor-comm, xor-zero-l, xor-zero-r, xor-lt, xor-shifted}
+use Rattle.block.proofs.Base.{_%_, _*_, _+_, _/_, _<_, _^_, _≤_, suc, zero, ℕ, _∙_, _≡_, ap, ap₂, refl, sym, add-comm, add-suc, add-zero}
+use Rattle.block.proofs.Base.{div-eq-of-lt, le-of-suc-le, le-refl, lt-trans, mod-eq-of-lt, mod-lt, mul-assoc, mul-comm, mul-mod-left}
+use Rattle.block.proofs.Base.{mul-one, mul-right-comm, mul-zero, one-mul, zero-add, zero-div, zero-mul, one-add, arith, xor-block, xor-comm}
+use Rattle.block.proofs.Base.{xor-lt, xor-shifted, xor-shr, xor-zero-l, xor-zero-r, lit<, high, low, mod-pow-add, pow-add, pow-lt, pow-pos}
+use Rattle.block.proofs.Base.{shl-lt, shl-shr, shr-lt, shr-shr, split}
 use Rattle.block.specs.Xor.{_⊕_}
 use Rattle.block.proofs.Xor.{xor-assoc, xor-swap, xor-sums}
 use Rattle.block.proofs.Bit.{bit-cases, times-xor, xor-times, bit-times-lt}

@@ -1,10 +1,9 @@
 -- Numbers of 32 bits as four parts of every fourth bit each: the sixteen products of the parts, summed up by their places, are the product
 -- without carry (`by-quarters`); of a square four of them are enough (`squares`).
--- Assumes nothing.
-use Rattle.block.proofs.Base.{_≡_, refl, sym, ap, ap₂, _∙_, List, ℕ, zero, suc, _+_, _-_, _*_, _/_, _%_, _^_, _<_, _≤_, min, add-zero}
-use Rattle.block.proofs.Base.{mul-assoc, mul-mul-mul-comm, mul-le-mul, mod-lt, mod-eq-of-lt, lt-of-le-of-lt, lt-trans, arith, bin-ind, lit<}
-use Rattle.block.proofs.Base.{length, getD, pow-pos, pow-add, split, shl-shr, differ, bitAnd, and-step, and-shr, and-block, and-mask}
-use Rattle.block.proofs.Base.{and-le-l, and-comm, and-zero-r, xor-step, xor-shr, xor-lt}
+use Rattle.block.proofs.Base.{_%_, _*_, _+_, _-_, _/_, _<_, _^_, _≤_, min, suc, zero, ℕ, _∙_, _≡_, ap, ap₂, refl, sym, List, add-zero}
+use Rattle.block.proofs.Base.{lt-of-le-of-lt, lt-trans, mod-eq-of-lt, mod-lt, mul-assoc, mul-le-mul, mul-mul-mul-comm, arith, bin-ind}
+use Rattle.block.proofs.Base.{and-block, and-comm, and-le-l, and-mask, and-shr, and-step, and-zero-r, bitAnd, differ, xor-lt, xor-shr}
+use Rattle.block.proofs.Base.{xor-step, lit<, getD, length, pow-add, pow-pos, shl-shr, split}
 use Rattle.block.specs.declared.U128.{U128}
 use Rattle.block.specs.Xor.{_⊕_}
 use Rattle.block.proofs.Xor.{two-cases, bit-lt, xor-odd, xor-sums}

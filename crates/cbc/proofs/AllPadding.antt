@@ -1,16 +1,7 @@
 -- The differences that `all_padding` adds up come to 0 exactly where the last n bytes of a block all hold n.
--- Assumes nothing.
-use mathlib.Core.Path.{_≡_, refl, sym, _∙_}
-use mathlib.Core.Bool.{_&&_}
-use Prim.Native.Nat.{ℕ, zero, suc, _+_, _*_, _-_, _/_, _≤_, _<_, _^_}
-use mathlib.Core.List.{List, [], _∷_}
-use native.Mathlib.Numerals.{add-one}
-use native.Mathlib.Omega.{arith}
-use lib.Bits.{xor-lt, xor-self}
-use lib.Dec.{eqb}
-use lib.ListN.{length, drop, getD, replicate, length-drop}
-use lib.Seq.{drop-length, drop-cons}
-use borrow.Author.Tests.{eq-eqb, eqb-true}
+use Rattle.block.proofs.Base.{_*_, _+_, _-_, _/_, _<_, _^_, _≤_, suc, zero, ℕ, _∙_, _≡_, refl, sym, _&&_, List, [], _∷_, add-one, arith}
+use Rattle.block.proofs.Base.{eq-eqb, eqb-true, xor-lt, xor-self, eqb, drop, getD, length, length-drop, replicate, drop-cons}
+use lib.Seq.{drop-length}
 use Rattle.block.specs.Same.{same}
 use Rattle.block.specs.Xor.{_⊕_}
 use Rattle.block.proofs.Same.{and-left, and-right, test-iff}

@@ -1,12 +1,7 @@
 -- Decryption of many blocks at once: the state of a block is the ciphertext block before it, and the cipher under the round keys turned
 -- round is decryption.
--- Assumes nothing.
-use mathlib.Core.Path.{_≡_, refl, sym, ap, _∙_}
-use Prim.Native.Nat.{ℕ, _+_, _-_, _*_, _<_, _≤_}
-use mathlib.Core.List.{List, _++_, reverse}
-use native.Mathlib.Omega.{arith}
-use lib.ListN.{length, take, drop, length-append}
-use lib.Seq.{drop-drop}
+use Rattle.block.proofs.Base.{_*_, _+_, _-_, _<_, _≤_, ℕ, _∙_, _≡_, ap, refl, sym, List, _++_, reverse, arith, drop, length, length-append}
+use Rattle.block.proofs.Base.{take, drop-drop}
 use Rattle.block.specs.Blocks.{blockAt, cat}
 use Rattle.block.specs.Words.{words, unwords}
 use Rattle.block.specs.Xor.{xors}

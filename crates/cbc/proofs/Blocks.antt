@@ -1,11 +1,7 @@
 -- Cbc decryption of full blocks: its front is the decrypted front, and its last block takes the last two blocks alone.
--- Assumes nothing.
-use mathlib.Core.Path.{_≡_, refl, sym, _∙_}
-use Prim.Native.Nat.{ℕ, zero, suc, _+_, _*_, _-_, _/_, _%_, _≤_, _<_}
-use mathlib.Core.List.{List, [], _∷_, _++_, append-nil}
-use native.Mathlib.Omega.{arith}
-use lib.ListN.{length, take, drop, length-drop, take-append-drop}
-use lib.Seq.{length-take-le, take-all, take-at, drop-drop, drop-append-add}
+use Rattle.block.proofs.Base.{_%_, _*_, _+_, _-_, _/_, _<_, _≤_, suc, zero, ℕ, _∙_, _≡_, refl, sym, List, [], _++_, _∷_, append-nil, arith}
+use Rattle.block.proofs.Base.{drop, length, length-drop, take, take-append-drop, drop-append-add, drop-drop, length-take-le, take-all}
+use Rattle.block.proofs.Base.{take-at}
 use Rattle.block.specs.Below.{AreBytes}
 use Rattle.block.specs.Words.{words, unwords}
 use Rattle.block.specs.Xor.{xors}

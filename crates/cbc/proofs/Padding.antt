@@ -1,11 +1,6 @@
 -- The padding: it fills the last block, wherever full blocks were cut off before.
--- Assumes nothing.
-use mathlib.Core.Path.{_≡_, _∙_}
-use Prim.Native.Nat.{ℕ, zero, suc, _+_, _*_, _-_, _/_, _%_, _≤_, _<_}
-use mathlib.Core.List.{List, _++_}
-use native.Mathlib.Omega.{arith}
-use lib.ListN.{length, take, drop, replicate, length-append, length-drop, length-replicate}
-use lib.Seq.{take-length, drop-append-le}
+use Rattle.block.proofs.Base.{_%_, _*_, _+_, _-_, _/_, _<_, _≤_, suc, zero, ℕ, _∙_, _≡_, List, _++_, arith, drop, length, length-append}
+use Rattle.block.proofs.Base.{length-drop, length-replicate, replicate, take, drop-append-le, take-length}
 use Rattle.walk.proofs.Loop.{tailed, tail-is}
 use Rattle.cbc.specs.Cbc.{padding, padded}
 

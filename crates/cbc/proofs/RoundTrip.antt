@@ -1,11 +1,5 @@
 -- What Cbc seals, Cbc opens, for any round keys; and what sealing gives: full blocks.
--- Assumes nothing.
-use mathlib.Core.Path.{_≡_, refl, ap, _∙_}
-use Prim.Native.Nat.{ℕ, _+_, _*_, _-_, _/_, _%_, _≤_}
-use mathlib.Core.List.{List}
-use native.Mathlib.Omega.{arith}
-use lib.ListN.{length, take}
-use lib.Seq.{take-append-seam}
+use Rattle.block.proofs.Base.{_%_, _*_, _+_, _-_, _/_, _≤_, ℕ, _∙_, _≡_, ap, refl, List, arith, length, take, take-append-seam}
 use Rattle.block.specs.Below.{AreBytes}
 use Rattle.block.specs.Xor.{xors}
 use Rattle.block.proofs.Entries.{below-append, below-replicate}

@@ -1,15 +1,10 @@
 -- The decision over the padding: what it answers, of a block, of a text that ends in one, and of a padded message; and that a text which it
 -- accepts is a padded message.
--- Assumes nothing.
-use mathlib.Core.Path.{_≡_, refl}
-use mathlib.Core.Bool.{Bool, true, false, cond, not}
-use Prim.Native.Nat.{ℕ, _+_, _-_, _%_, _≤_, _<_}
-use mathlib.Core.List.{List, [], _∷_, _++_}
-use native.Mathlib.Omega.{arith}
-use lib.Dec.{leb}
-use borrow.Author.Tests.{le-leb, lt-leb, leb-true}
-use lib.ListN.{length, take, drop, getD, replicate, length-append, length-replicate, getD-replicate, take-append-drop}
-use lib.Seq.{getD-append-add, drop-append-add, length-take-le}
+use Rattle.block.proofs.Base.{_%_, _+_, _-_, _<_, _≤_, ℕ, _≡_, refl, Bool, cond, false, not, true, List, [], _++_, _∷_, arith, le-leb}
+use Rattle.block.proofs.Base.{leb-true, lt-leb, leb, drop, getD, length, length-append, length-replicate, replicate, take, take-append-drop}
+use Rattle.block.proofs.Base.{drop-append-add, length-take-le}
+use lib.ListN.{getD-replicate}
+use lib.Seq.{getD-append-add}
 use Rattle.block.specs.Same.{same}
 use Rattle.block.proofs.Same.{and-left, and-right, same-refl, same-equal}
 use Rattle.cbc.specs.Cbc.{padding, padded}

@@ -1,18 +1,9 @@
 -- The engine that is lent: its length tells which it is. The plain one is the S-box, whose bytes are laid out as words one by
 -- one.
--- Assumes nothing.
-use mathlib.Core.Path.{_≡_, refl, sym, ap, subst, _∙_}
-use mathlib.Core.Logic.{inl, inr}
-use mathlib.Core.Bool.{Bool, true, false, cond}
-use mathlib.Core.List.{List, []}
-use Prim.Native.Nat.{ℕ, zero, suc, _+_, _<_}
-use native.Mathlib.Numerals.{add-one}
-use native.Mathlib.Omega.{arith}
-use lib.Dec.{eqb}
-use lib.ListN.{length, take, getD, set}
-use lib.Seq.{take-suc, take-suc-set, take-all}
+use Rattle.block.proofs.Base.{_+_, _<_, suc, zero, ℕ, _∙_, _≡_, ap, refl, subst, sym, inl, inr, Bool, cond, false, true, List, [], add-one}
+use Rattle.block.proofs.Base.{arith, eq-eqb, ne-eqb, eqb, getD, length, set, take, take-all, take-suc-set}
+use lib.Seq.{take-suc}
 use Rattle.cipher.specs.Sm4.{sboxTable}
-use borrow.Author.Tests.{eq-eqb, ne-eqb}
 use Rattle.cipher.specs.Engine.{mixedFrom, mixedTable, Engine, tableOf, LaidOut}
 
 length-sbox : length sboxTable ≡ 256

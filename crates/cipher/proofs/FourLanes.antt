@@ -1,14 +1,7 @@
 -- The four bytes of a word in lanes 0, 8, 16 and 24 of eight words: how they are laid there, and how they are read off.
--- Assumes nothing.
-use mathlib.Core.Path.{_≡_, refl, sym, ap, _∙_}
-use mathlib.Core.List.{List, [], _∷_}
-use Prim.Native.Nat.{ℕ, zero, suc, _+_, _*_, _/_, _%_, _^_, _<_}
-use native.Mathlib.Nat.{div-one, mod-lt, mod-eq-of-lt, add-comm}
-use native.Mathlib.Omega.{arith}
-use lib.Dec.{lit<}
-use lib.Pow.{split, pow-pos, shr-shr}
-use lib.Bits.{bitAnd, and-block, and-mask, and-le-r, and-zero-r}
-use lib.ListN.{getD}
+use Rattle.block.proofs.Base.{_%_, _*_, _+_, _/_, _<_, _^_, suc, zero, ℕ, _∙_, _≡_, ap, refl, sym, List, [], _∷_, add-comm, div-one}
+use Rattle.block.proofs.Base.{mod-eq-of-lt, mod-lt, arith, and-block, and-le-r, and-mask, and-zero-r, bitAnd, lit<, getD, pow-pos, shr-shr}
+use Rattle.block.proofs.Base.{split}
 use Rattle.lanes.specs.Bits.{bit, pack, byteLane}
 use Rattle.lanes.proofs.Bits.{bit-small, bit-mod, bit-shr, pack-lt, pack-is}
 use Rattle.circuit.specs.Sbox.{SboxLanes}

@@ -1,13 +1,7 @@
 -- T of a word is one entry of each of the four tables, xored: tau's four bytes stand at places of their own, so their sum is their
 -- xor, and L distributes over it.
--- Assumes nothing.
-use mathlib.Core.Path.{_≡_, sym, ap, ap₂, _∙_}
-use Prim.Native.Nat.{ℕ, zero, suc, _+_, _-_, _*_, _/_, _%_, _^_, _<_}
-use native.Mathlib.Nat.{add-zero, zero-add, add-suc, suc-add}
-use native.Mathlib.Omega.{arith}
-use lib.Pow.{split}
-use lib.Bits.{bitXor, xor-shifted}
-use lib.ListN.{getD}
+use Rattle.block.proofs.Base.{_%_, _*_, _+_, _-_, _/_, _<_, _^_, suc, zero, ℕ, _∙_, _≡_, ap, ap₂, sym, add-suc, add-zero, suc-add, zero-add}
+use Rattle.block.proofs.Base.{arith, bitXor, xor-shifted, getD, split}
 use Rattle.block.specs.BigEndian.{numberOf, bytesOf}
 use Rattle.block.specs.Xor.{_⊕_}
 use Rattle.cipher.specs.Sm4.{Sbox, tau, L, T}

@@ -1,10 +1,6 @@
 -- L distributes over xor: each of its rotations does, since a rotation is two digits that change places.
--- Assumes nothing.
-use mathlib.Core.Path.{_≡_, refl, sym, ap, ap₂, _∙_}
-use Prim.Native.Nat.{ℕ, _+_, _-_, _*_, _/_, _%_, _^_, _<_}
-use native.Mathlib.Omega.{arith}
-use lib.Pow.{shr-lt}
-use lib.Bits.{bitXor, xor-block, xor-mod, xor-shr}
+use Rattle.block.proofs.Base.{_%_, _*_, _+_, _-_, _/_, _<_, _^_, ℕ, _∙_, _≡_, ap, ap₂, refl, sym, arith, bitXor, xor-block, xor-mod}
+use Rattle.block.proofs.Base.{xor-shr, shr-lt}
 use Rattle.block.specs.Xor.{_⊕_}
 use Rattle.block.proofs.Xor.{xor-swap}
 use Rattle.cipher.specs.Sm4.{rotl, L}

@@ -1,14 +1,6 @@
 -- The bits of a rotated word, of L and of tau.
--- Assumes nothing.
-use mathlib.Core.Path.{_≡_, sym, ap, _∙_}
-use mathlib.Core.Logic.{⊎-elim}
-use mathlib.Core.List.{List}
-use Prim.Native.Nat.{ℕ, zero, suc, _+_, _-_, _*_, _/_, _%_, _^_, _<_, _≤_}
-use native.Mathlib.Nat.{add-comm}
-use native.Mathlib.Omega.{arith}
-use lib.Pow.{shr-lt}
-use lib.ListN.{getD}
-use lib.Bits.{differ}
+use Rattle.block.proofs.Base.{_%_, _*_, _+_, _-_, _/_, _<_, _^_, _≤_, suc, zero, ℕ, _∙_, _≡_, ap, sym, ⊎-elim, List, add-comm, arith}
+use Rattle.block.proofs.Base.{differ, getD, shr-lt}
 use Rattle.block.specs.Xor.{_⊕_}
 use Rattle.block.specs.BigEndian.{bytesOf}
 use Rattle.lanes.specs.Bits.{bit}

@@ -1,11 +1,5 @@
 -- How a call ends: refused by a check, or done with what the work wrote.
--- Assumes nothing.
-use mathlib.Core.Path.{_≡_, refl, sym, ap, ap₂, _∙_}
-use mathlib.Core.Bool.{Bool, _&&_}
-use mathlib.Core.List.{List}
-use Prim.Native.Nat.{ℕ, _<_}
-use lib.Dec.{eqb}
-use lib.ListN.{length, getD}
+use Rattle.block.proofs.Base.{_<_, ℕ, _∙_, _≡_, ap, ap₂, refl, sym, Bool, _&&_, List, eqb, getD, length}
 use Rattle.block.specs.Words.{words, unwords}
 use Rattle.block.proofs.Entries.{below-each}
 use Rattle.block.proofs.WordsBack.{length-unwords, unwords-words}

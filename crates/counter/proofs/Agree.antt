@@ -1,7 +1,6 @@
 -- The two steps agree exactly where the last four bytes are not ff ff ff ff.
--- Assumes nothing.
-use Rattle.block.proofs.Base.{_≡_, ap, sym, _∙_, _↔_, ℕ, _+_, _-_, _*_, _%_, _^_, _<_, List, _++_, mod-eq-of-lt, arith, length, take, drop}
-use Rattle.block.proofs.Base.{length-drop, take-append-drop, length-take-le, take-at, lit<, lit≤}
+use Rattle.block.proofs.Base.{_%_, _*_, _+_, _-_, _<_, _^_, ℕ, _∙_, _≡_, ap, sym, _↔_, List, _++_, mod-eq-of-lt, arith, lit<, lit≤, drop}
+use Rattle.block.proofs.Base.{length, length-drop, take, take-append-drop, length-take-le, take-at}
 use Rattle.block.specs.Below.{AreBytes}
 use Rattle.block.specs.BigEndian.{numberOf, bytesOf}
 use Rattle.block.proofs.Entries.{below-take, below-drop}

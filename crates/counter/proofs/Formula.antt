@@ -1,6 +1,5 @@
 -- The code's tests are the formula's: Ctr's over the two halves of the IV's number, GCM's over J0's last word.
--- Assumes nothing.
-use Rattle.block.proofs.Base.{_≡_, sym, _∙_, false, List, ℕ, _+_, _-_, _*_, _^_, _<_, _≤_, arith, eqb, leb, ltb, le-leb, ne-eqb}
+use Rattle.block.proofs.Base.{_*_, _+_, _-_, _<_, _^_, _≤_, ℕ, _∙_, _≡_, sym, false, List, arith, le-leb, ne-eqb, eqb, leb, ltb}
 use Rattle.block.specs.Wide.{whole}
 use Rattle.block.specs.BigEndian.{numberOf}
 use Rattle.counter.specs.CameRound.{ctrCameRound, gcmCameRound}

@@ -1,6 +1,5 @@
 -- The code's four words step as the definitions' sixteen bytes do, and come round where these do.
--- Assumes nothing.
-use Rattle.block.proofs.Base.{_≡_, ap, sym, _∙_, ℕ, _+_, _%_, _^_, _<_, List, [], _∷_, mod-eq-of-lt, bitOr, eqb, getD}
+use Rattle.block.proofs.Base.{_%_, _+_, _<_, _^_, ℕ, _∙_, _≡_, ap, sym, List, [], _∷_, mod-eq-of-lt, bitOr, eqb, getD}
 use Rattle.block.specs.BigEndian.{numberOf, bytesOf}
 use Rattle.block.specs.Wide.{whole}
 use Rattle.block.specs.Words.{words, unwords}

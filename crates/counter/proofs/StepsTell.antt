@@ -1,9 +1,8 @@
 -- The formula says what the steps say. Over any modulus: a number either comes round at once, and both say yes, or the next
 -- one is one more and still below the modulus, and the steps left are one fewer (`any-tells`).
--- Assumes nothing.
-use Rattle.block.proofs.Base.{_≡_, refl, sym, ap, _∙_, inl, inr, Bool, true, List, ℕ, zero, suc, _+_, _-_, _%_, _^_, _<_, mod-mod}
-use Rattle.block.proofs.Base.{mod-eq-of-lt, eq-or-lt-of-le, arith, eqb, leb, length, take, drop, length-drop, length-append, length-take-le}
-use Rattle.block.proofs.Base.{drop-at, eq-eqb, ne-eqb, le-leb, lt-leb}
+use Rattle.block.proofs.Base.{_%_, _+_, _-_, _<_, _^_, suc, zero, ℕ, _∙_, _≡_, ap, refl, sym, inl, inr, Bool, true, List, eq-or-lt-of-le}
+use Rattle.block.proofs.Base.{mod-eq-of-lt, mod-mod, arith, eq-eqb, le-leb, lt-leb, ne-eqb, eqb, leb, drop, length, length-append}
+use Rattle.block.proofs.Base.{length-drop, take, drop-at, length-take-le}
 use Rattle.block.specs.Below.{AreBytes}
 use Rattle.block.specs.BigEndian.{numberOf, bytesOf}
 use Rattle.block.proofs.Entries.{below-take, below-drop, below-append}

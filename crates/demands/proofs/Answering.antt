@@ -1,6 +1,5 @@
 -- An outcome is answered as demand 1 asks: a refusal, or a success whose result has the table's length and fits. The numbers are those of
 -- the rows that tell which one is answered.
--- Assumes nothing.
 use Rattle.demands.specs.Names as N
 use N.{Bool, _&&_, cond, false, true, List, [], _∷_, map, _≢_, _⊎_, inl, inr, _∙_, _≡_, ap, refl, _<_, _≤_, ℕ, arith, eqb, drop, getD}
 use N.{length, length-append, length-drop, drop-at, eqb-false, Head, Outcome, finished, refusal, refuseAs, over, refusalHead, checked}

@@ -1,6 +1,5 @@
 -- Counters: those of a 12-byte IV in Gcm are SP 800-38D's, and what the answers say of a counter. J0 has sixteen bytes, whatever the IV
 -- has.
--- Assumes nothing.
 use Rattle.demands.specs.Names as N
 use N.{Bool, cond, false, true, List, [], _++_, _∷_, _≢_, _∙_, _≡_, ap, ap₂, refl, _%_, _+_, _-_, _/_, _<_, _^_, _≤_, ℕ, arith, eqb, ltb}
 use N.{length, length-append, drop-at, length-take-le, take-at, eq-eqb, eqb-false, eqb-true, lt-leb, ne-eqb, AreBytes, bytesOf, numberOf}
@@ -57,7 +56,7 @@ twelve-counts-from-two k label d iv o n e =
     ∙ result-of-done (sealed rk (hashKey rk) (J0 rk iv) label d) o
     ∙ sealed-from-two rk label d iv n
 
--- What the answers say of a counter: where done, document 02's formula, which is what the walk's own steps say; no where refused, in the
+-- What the answers say of a counter: where done, the formula of W8, which is what the walk's own steps say; no where refused, in the
 -- other modes, at starts and at pieces; and with a 12-byte IV never yes.
 
 -- what a report says, field by field: `says` puts it together, on whichever key

@@ -1,6 +1,5 @@
 -- Whether a file opens under a job and an edition: the question answers what the opening call does, given room, and a file that opens
 -- under one edition is refused as 4 under every other. And which of many labels it opens under.
--- Assumes nothing.
 use Rattle.demands.specs.Names as N
 use N.{Bool, cond, false, true, List, [], _∷_, _≢_, _⊎_, _∙_, _≡_, ap, refl, subst, sym, _-_, _<_, _^_, _≤_, suc, zero, ℕ, arith, ltb, drop}
 use N.{getD, length, length-take, take, le-ltb, ltb-false, Head, Outcome, finished, keyed, leaving, refusal, reporting, under, written, J0}

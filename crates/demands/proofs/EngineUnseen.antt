@@ -1,6 +1,5 @@
 -- The engine is never seen: no definition of an outcome looks at its mark. Where a call leaves a state, the state's mark is all that
 -- differs, whether the call was refused or not.
--- Assumes nothing.
 use Rattle.demands.specs.Names as N
 use N.{Bool, _||_, cond, List, [], _∷_, map, _∙_, _≡_, ap, ap₂, refl, sym, _+_, suc, zero, ℕ, eqb, ltb, drop, length, take, Outcome, under}
 use N.{refusalHead, blockCall, modeCall, keyAndIv, keyNumber, withEngine, Ctr as Ctr·mode, Encrypt, Sm4Cipher, Checked, Passed, Refused}

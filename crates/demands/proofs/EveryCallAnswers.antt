@@ -1,6 +1,5 @@
 -- Demand 1: every call ends with an answer. A refusal reports length 0 and leaves the output as it was lent; a success reports
--- the length of document 01's table and leaves what lies past it as it was lent. For all inputs.
--- Assumes nothing.
+-- the length of the table of lengths and leaves what lies past it as it was lent. For all inputs.
 use Rattle.demands.specs.Names as N
 use N.{Bool, _||_, cond, false, not, true, List, _≢_, _⊎_, ⊎-elim, _∙_, _≡_, ap, refl, subst, sym, _-_, _<_, _≤_, ℕ, arith, eqb, ltb}
 use N.{length, take, length-take-le, eq-eqb, le-ltb, lt-ltb, ltb-false, ne-eqb, Head, done, refusal, written, chain, streamMode, Kind}

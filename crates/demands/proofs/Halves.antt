@@ -1,6 +1,5 @@
 -- Hashes of halves, joined: over the exported calls they are the hash of the whole, and with two encrypted blocks they make the tag that
 -- the single call makes.
--- Assumes nothing.
 use Rattle.demands.specs.Names as N
 use N.{cond, false, List, [], _++_, _∷_, append-assoc, ⊎-elim, _∙_, _≡_, ap, ap₂, refl, sym, _*_, _+_, _/_, ℕ, div-add-mod', arith, eqb}
 use N.{length, length-append, replicate, eq-eqb, bytesOf, numberOf, xors, Element, encryptBlock, authBlocks, blockCount, blocks, ghash}

@@ -1,6 +1,5 @@
 -- How many hash keys could ever confuse two files: `roots` has it for all lengths that can be hashed, and here are the limits, the
 -- labels of jobs and editions, and two pairs at which the bound is reached.
--- Assumes nothing.
 use Rattle.demands.specs.Names as N
 use N.{List, List·Mem, Pairwise·cons, [], _∷_, mem-of-ne-of-mem, mem-singleton, pairwise-singleton, _≢_, ⊎-elim, _≡_, ap, refl, subst, sym}
 use N.{_+_, _^_, _≤_, ℕ, eq-zero-or-pos, le-trans, lt-of-le-of-lt, max-le, mul-le-mul-right, ℕ-set, arith, lit<, lit≤, length}

@@ -1,5 +1,4 @@
 -- Imposters put in the place of a call: each breaks a demand or the definition, at an input that is named.
--- Assumes nothing.
 use Rattle.demands.specs.Names as N
 use N.{Bool, cond, false, true, List, [], _++_, _∷_, _≢_, inl, _∙_, _≡_, ap, refl, sym, _+_, _-_, _^_, _≤_, ℕ, le-of-eq, arith, eqb, lit<}
 use N.{drop, getD, length, length-replicate, replicate, take, eqb-false, le-ltb, AreBytes, bytesOf, numberOf, gmul, gpow, mulFrom, one}

@@ -1,6 +1,5 @@
 -- A message in pieces: whatever the cuts are, the pieces give what the single call gives. One induction over the pieces, from
 -- any text that has gone before.
--- Assumes nothing.
 use Rattle.demands.specs.Names as N
 use N.{Bool, cond, false, true, List, [], _++_, _∷_, append-assoc, append-nil, _≢_, _∙_, _≡_, ap, ap₂, refl, subst, sym, _+_, _-_, _≤_, ℕ}
 use N.{arith, drop, length, length-append, length-drop, take-at, le-ltb, blocksOf, ctrCameRound, Head, Outcome, finished, keyed, leaving}

@@ -1,6 +1,5 @@
 -- The replay of a journal, as a host is told of it: demand 1, which number it ends with; two journals joined; and that calls which were
 -- recorded as they were answered agree.
--- Assumes nothing.
 use Rattle.demands.specs.Names as N
 use N.{Bool, cond, false, not, true, List, [], _++_, _∷_, append-nil, inl, inr, ⊎-elim, _∙_, _≡_, ap, refl, sym, _+_, _<_, suc, zero, ℕ}
 use N.{arith, eqb, ltb, drop, length, take, take-at, lt-ltb, AreBytes, Head, Outcome, Sm4Cipher, AllReplayable, Ends, NoneDiffers, Totals}

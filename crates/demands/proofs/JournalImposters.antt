@@ -1,5 +1,4 @@
 -- Imposters put in the place of a replay: each breaks the definition, at a journal that is named.
--- Assumes nothing.
 use Rattle.demands.specs.Names as N
 use N.{false, true, List, [], _∷_, append-nil, _≢_, _≡_, ap, refl, sym, ℕ, lit<, AreBytes, numberOf, Replayable, countedAll, differs}
 use N.{marked·journal as marked, pastLimit, startsPart, startsRecord·journal as startsRecord, stored·journal as stored, anyRetired, badKeys}

@@ -1,5 +1,4 @@
 -- In each mode, what encrypting gave is in order for decrypting and decrypts to the message, and the other way about.
--- Assumes nothing.
 use Rattle.demands.specs.Names as N
 use N.{false, true, List, _∙_, _≡_, ap, refl, subst, sym, _%_, _≤_, ℕ, arith, length, take, length-take-le, eq-eqb, le-ltb, ne-eqb}
 use N.{AreBytes, Outcome, done, finished, leaving, reporting, written, chain, over, streamMode, CfbDecrypt, CfbEncrypt, Ctr·kind, Ofb·kind}

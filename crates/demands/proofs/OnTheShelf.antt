@@ -1,5 +1,4 @@
 -- A shelf, as a host is handed it: demand 1 of its calls, which number each answers; and that a rough is not shown for its final.
--- Assumes nothing.
 use Rattle.demands.specs.Names as N
 use N.{Bool, _&&_, cond, false, true, List, [], _∷_, append-nil, inr, _∙_, _≡_, ap, refl, subst, sym, _<_, _^_, _≤_, ℕ, arith, eqb, leb}
 use N.{ltb, drop, length, length-append, length-drop, take, drop-at, eq-eqb, eqb-true, leb-false, leb-true, ltb-false, AreBytes, Decrypt}

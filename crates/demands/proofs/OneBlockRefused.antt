@@ -1,5 +1,4 @@
 -- Demand 3: one changed block, of the ciphertext or of the label, is refused; and what follows, of editions and of trailing zeros.
--- Assumes nothing.
 use Rattle.demands.specs.Names as N
 use N.{false, true, List, [], _++_, _∷_, _≢_, ⊎-elim, _∙_, _≡_, ap, refl, sym, _+_, _-_, _≤_, ℕ, arith, drop-of-length-le, length}
 use N.{length-append, length-drop, replicate, take-append-drop, length-take-le, le-ltb, AreBytes, Outcome, keyed, reporting, encryptBlock}

@@ -1,6 +1,5 @@
 -- Demand 1 of the calls on messages in pieces: every value of a state has its answer, a refusal changes nothing, and a refused start
 -- and an ended message are no message's state any more.
--- Assumes nothing.
 use Rattle.demands.specs.Names as N
 use N.{Bool, cond, false, not, true, List, [], _++_, _∷_, _≢_, _⊎_, ⊎-elim, _∙_, _≡_, ap, refl, subst, sym, _%_, _-_, ℕ, arith, eqb, length}
 use N.{eqb-true, ne-eqb, same, xors, blocksOf, gcmCameRound, finished, refusal, telling, refusalHead, keyAndIv, keyNumber, Ctr as Ctr·mode}

@@ -1,5 +1,4 @@
 -- Demand 2, there and back: what a call did, its counterpart takes back; and whoever asks in order is served.
--- Assumes nothing.
 use Rattle.demands.specs.Names as N
 use N.{Bool, false, List, _⊎_, ⊎-elim, _∙_, _≡_, ap, refl, sym, _≤_, ℕ, length, le-ltb, Head, Outcome, done, keyed, leaving, reporting}
 use N.{over, blockCall, blockOf, modeResult, dataCheck, labelCheck, retiredCheck, wrongIv, keyNumber, limit, modeOf, roomOf, CipherMode}

@@ -1,5 +1,4 @@
 -- What a call that answered 0 had in order, what a call leaves that has all in order, and how a record crosses the boundary.
--- Assumes nothing.
 use Rattle.demands.specs.Names as N
 use N.{Bool, cond, false, not, true, List, _≢_, _∙_, _≡_, ap, ap₂, refl, sym, _≤_, suc, zero, ℕ, arith, eqb, ltb, length, take-append-seam}
 use N.{eq-eqb, le-ltb, Outcome, done, keyed, refused, blockCall, blockOf, lengthsOf, modeCall, modeResult, blockCheck, checked, keyAndIv}
@@ -114,7 +113,7 @@ unfolding cipherIn keyAnswerOf hostKeyRetire retire
 retired-is-retired k =
     split _ (eqb (k .answer) 0) (λ e. rw e) (λ e. split _ (eqb (k .answer) 13) (λ f. rw (e, f) (rw e)) (λ f. rw (e, f) (rw e)))
 
--- document 01's number of a mode
+-- the number of a mode
 abbrev pub modeNumber : CipherMode → ℕ
 modeNumber Cfb = 0
 modeNumber Ofb = 1

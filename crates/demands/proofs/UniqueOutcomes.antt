@@ -1,6 +1,5 @@
 -- Demand 1, that outcomes can be predicted: any two answers, outputs and states that a contract allows coincide. One theorem for each form
 -- that a public call's contract has, whatever the definition in it gives.
--- Assumes nothing.
 use Rattle.demands.specs.Names as N
 use N.{Bool, cond, false, true, List, [], _∷_, _∙_, _≡_, ap, ap₂, refl, sym, _-_, ℕ, arith, eqb, getD, ne-eqb, Head, Outcome, endingHead}
 use N.{headOf, outcome, refusalHead, Answer, Ending, Done, Refused·ending as Refused, Refusal, Stepped, ctrStepped, opensStepped}

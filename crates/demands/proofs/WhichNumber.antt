@@ -1,5 +1,4 @@
--- Which number an exported call answers: that of the first of document 01's conditions that holds, and no other.
--- Assumes nothing.
+-- Which number an exported call answers: that of the first of the conditions of docs/REQUIREMENTS.md that holds, and no other.
 use Rattle.demands.specs.Names as N
 use N.{Bool, _&&_, cond, false, not, true, List, [], _∷_, map, inl, inr, ⊎-elim, _∙_, _≡_, ap, refl, _%_, ℕ, eqb, ltb, length, eqb-true}
 use N.{same, xors, blocksOf, gcmCameRound, Outcome, finished, refusal, refuseAs, telling, cbcOpen, cbcHead, unpadded, Cbc·Done}

@@ -1,5 +1,4 @@
--- Document 01's worked table and its edges hold of the definitions, by computation; and two blocks under a key are computed.
--- Assumes nothing.
+-- The worked table of docs/REQUIREMENTS.md and its edges hold of the definitions, by computation; and two blocks under a key are computed.
 use Rattle.demands.specs.Names as N
 use N.{Bool, _&&_, false, true, List, [], _++_, _∷_, map, _≢_, _∙_, _≡_, ap, refl, sym, ℕ, arith, eqb, getD, length, replicate, ne-eqb}
 use N.{bytesOf, numberOf, same, unwords, words, gmul, mulFrom, timesX, ctrNext, gcmNext, Outcome, finished, telling, under, CK, L, L', T}
@@ -13,14 +12,14 @@ use Rattle.demands.specs.Edges.{Row as Edge, verdict, saidOf, edges}
 use Rattle.demands.proofs.ModesBack.{encrypts, length-encrypted}
 use Rattle.demands.specs.OneBlockRefused.{MovesZero}
 
--- All twelve rows: what the definitions give is what the paper says, whatever H is.
+-- All twelve rows: what the definitions give is what docs/REQUIREMENTS.md says, whatever H is.
 pub worked : (h : ℕ) → map (λ (r : Row). r .ours) (table h) ≡ map (λ (r : Row). r .paper) (table h)
 unfolding CK numberOf bytesOf sboxTable tau rotl L L' T T' ctrNext gcmNext timesX mulFrom gmul hashFrom namesPadding
 worked h = refl
 
--- Document 01's "At the edges" holds of the definitions, by computation, and what the checks say is what the calls answer.
+-- "At the edges" of docs/REQUIREMENTS.md holds of the definitions, by computation, and what the checks say is what the calls answer.
 
--- All rows, whether the tag is right or not: what the definitions say is what the paper says.
+-- All rows, whether the tag is right or not: what the definitions say is what docs/REQUIREMENTS.md says.
 pub at-the-edges : (right : Bool) → map (λ (r : Edge). r .ours) (edges right) ≡ map (λ (r : Edge). r .paper) (edges right)
 unfolding messageCheck blockCheck keyAndIv dataCheck roomCheck newCipher namesPadding allPadding unpadded same
 at-the-edges true = refl
@@ -52,7 +51,7 @@ edge-refused dir m k label d iv o h =
     (verdict-refused (messageCheck Key (m .cipher .retired) dir (m .mode) (lengthsOf label d iv o)) o
     (modeResult (m .mode) dir (m .cipher .rk) label d iv o) _ h))
 
--- And of encryption it is the whole report, where done with what document 02's formula says of a counter.
+-- And of encryption it is the whole report, where done with what the formula of W8 says of a counter.
 pub edge-encrypted : (m : Sm4CipherMode) → m .cipher .answer ≡ Key → (label d iv o : List ℕ)
     → modeCall Encrypt m label d iv o .head
     ≡ under (m .cipher .number)

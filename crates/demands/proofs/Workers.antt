@@ -1,5 +1,4 @@
 -- Ranges and plans, as a host is handed them: which number each call answers, demand 1 of them, and what they are beside the single call.
--- Assumes nothing.
 use Rattle.demands.specs.Names as N
 use N.{Bool, _||_, cond, false, not, true, List, Perm, [], _++_, _∷_, append-assoc, _≢_, _⊎_, inl, inr, _∙_, _≡_, ap, refl, subst, sym, _+_}
 use N.{_-_, _≤_, min, suc, zero, ℕ, arith, eqb, ltb, drop, getD, length, length-append, length-drop, length-take, replicate, take}

@@ -13,7 +13,7 @@ oneOf n (k ∷ ks) = eqb n k || oneOf n ks
 abbrev pub singleNumbers : List ℕ
 singleNumbers = 0 ∷ 1 ∷ 2 ∷ 3 ∷ 4 ∷ 5 ∷ 6 ∷ 7 ∷ 8 ∷ 9 ∷ 10 ∷ 11 ∷ 13 ∷ 14 ∷ 15 ∷ []
 
--- x is an answer to a call on the key of number k whose output was lent as o, and of which document 01's table gives the length n
+-- x is an answer to a call on the key of number k whose output was lent as o, and of which the table of lengths gives the length n
 pub record Answered (numbers : List ℕ) (k : ℕ) (o : List ℕ) (n : ℕ) (x : Outcome) : Type 0 where
   -- the number is one of those that the call can answer
   pub numbered : oneOf (x .head .number) numbers ≡ true
@@ -39,7 +39,7 @@ pub record KeyAnswered (key : List ℕ) (n : ℕ) (c : Sm4Cipher) : Type 0 where
   -- a record set up anew is unretired
   pub fresh : c .retired ≡ false
 
--- document 01's table: the length on success, which in Cbc decryption is less by the last decrypted byte
+-- the table of lengths: the length on success, which in Cbc decryption is less by the last decrypted byte
 abbrev pub lengthOf : CipherMode → Direction → List ℕ → List ℕ → List ℕ → ℕ
 lengthOf Cfb dir rk iv d = length d
 lengthOf Ofb dir rk iv d = length d

@@ -1,4 +1,4 @@
--- What an answer says of a counter, as a property of any report: document 02's formula where it is done, and no where it is refused.
+-- What an answer says of a counter, as a property of any report: the formula of W8 where it is done, and no where it is refused.
 use Rattle.demands.specs.Names as N
 use N.{Bool, _&&_, cond, false, List, [], _++_, _∷_, _≢_, _≡_, _-_, ℕ, eqb, length, blocksOf, ctrCameRound, gcmCameRound, lastFour, Head}
 use N.{telling, chain, streamMode, Gctr, J0, hashKey, tagOf, CipherMode, Cbc, Cfb, Ctr, Gcm, Ofb, Direction, Decrypt, Encrypt}

@@ -1,5 +1,5 @@
--- Document 01's "At the edges", with document 02's numbers: what the definitions say of a call with these lengths, whatever its
--- bytes are, beside the papers.
+-- "At the edges" of docs/REQUIREMENTS.md, with the numbers of W1: what the definitions say of a call with these lengths, whatever its
+-- bytes are, beside docs/REQUIREMENTS.md.
 use Rattle.demands.specs.Names as N
 use N.{Bool, cond, false, true, List, [], _++_, _∷_, map, _-_, ℕ, replicate, Head, cutShort, finished, refusal, cbcHead, unpadded, gcmHead}
 use N.{Gcm·Done, InvalidTag, refusalHead, blockCheck, messageCheck, keyHead, newCipher, roomOf, CipherMode, Cbc, Cfb, Ctr, Gcm, Ofb}

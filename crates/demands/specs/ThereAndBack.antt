@@ -43,7 +43,7 @@ pub record Serves (n : ℕ) (x : Outcome) : Type 0 where
   pub number : x .head .number ≡ 0
   pub size : x .head .size ≡ n
 
--- a message to encrypt in a mode: IV and lengths within document 01's limits, and the table's room
+-- a message to encrypt in a mode: IV and lengths within the limits, and the table's room
 pub record Asks (mode : CipherMode) (label d iv o : List ℕ) : Type 0 where
   pub iv-size : (length iv ≡ 16) ⊎ ((mode ≡ Gcm) × (length iv ≡ 12))
   pub label-fits : mode ≡ Gcm → length label ≤ limit

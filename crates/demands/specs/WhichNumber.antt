@@ -1,4 +1,4 @@
--- Which number a call answers: for each call document 01's conditions, a row each, in the order in which they are asked.
+-- Which number a call answers: for each call the conditions of docs/REQUIREMENTS.md, a row each, in the order in which they are asked.
 use Rattle.demands.specs.Names as N
 use N.{Bool, _&&_, _||_, cond, false, not, true, List, [], _++_, _∷_, map, _⊎_, _≡_, _%_, _+_, _-_, ℕ, eqb, ltb, length, same, xors, Head}
 use N.{allPadding, cbcText, lastByte, namesPadding, J0, hashKey, opensUnder, limit, limitOf, modeOf, roomOf, sealedLimit, CipherMode, Cbc}

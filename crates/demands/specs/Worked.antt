@@ -1,4 +1,4 @@
--- Document 01's worked table, P1 to P12: what the definitions give, beside what the paper says.
+-- The worked table of docs/REQUIREMENTS.md, P1 to P12: what the definitions give, beside what docs/REQUIREMENTS.md says.
 use Rattle.demands.specs.Names as N
 use N.{Bool, false, true, List, [], _++_, _∷_, ℕ, replicate, bytesOf, numberOf, gmul, ctrNext, gcmNext, CK, L, L', T, T', ghash, padding}
 use N.{namesPadding}

@@ -1,12 +1,6 @@
 -- The search finds candidate i exactly where the test holds of it and of none before it, and none exactly where it holds of none.
--- Assumes nothing.
-use mathlib.Core.Path.{_≡_, refl, subst}
-use mathlib.Core.Bool.{Bool, true, false, cond, true≢false}
-use mathlib.Core.List.{List, [], _∷_}
-use Prim.Native.Nat.{ℕ, zero, suc, _+_, _<_}
-use native.Mathlib.Omega.{arith}
-use lib.ListN.{length, getD, take, drop}
-use lib.Seq.{drop-drop}
+use Rattle.block.proofs.Base.{_+_, _<_, suc, zero, ℕ, _≡_, refl, subst, Bool, cond, false, true, true≢false, List, [], _∷_, arith, drop}
+use Rattle.block.proofs.Base.{getD, length, take, drop-drop}
 use Rattle.walk.specs.Outcome.{finished}
 use Rattle.editions.specs.Candidates.{sum, labelAt}
 use Rattle.editions.specs.Which.{Verdict, foundAt, noneWith, firstOpening}

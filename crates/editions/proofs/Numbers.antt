@@ -1,8 +1,5 @@
 -- No sum of lengths wraps.
--- Assumes nothing.
-use mathlib.Core.Path.{_≡_, refl}
-use mathlib.Core.List.{List, [], _∷_}
-use Prim.Native.Nat.{ℕ}
+use Rattle.block.proofs.Base.{ℕ, _≡_, refl, List, [], _∷_}
 use Rattle.walk.specs.Outcome.{refusal}
 use Rattle.cipher_mode.specs.declared.Sm4Cipher.{Sm4Cipher}
 use Rattle.editions.specs.Candidates.{sum, badList}

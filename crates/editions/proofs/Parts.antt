@@ -1,11 +1,5 @@
 -- The part of the buffer that a verdict points to.
--- Assumes nothing.
-use mathlib.Core.Path.{_≡_}
-use mathlib.Core.Bool.{true}
-use mathlib.Core.List.{List}
-use Prim.Native.Nat.{_+_, _≤_, ℕ}
-use lib.ListN.{length, take, drop}
-use borrow.Author.Tests.{le-ltb}
+use Rattle.block.proofs.Base.{_+_, _≤_, ℕ, _≡_, true, List, le-ltb, drop, length, take}
 use Rattle.editions.specs.Which.{Verdict, partOf}
 
 pub part-inside : (v : Verdict) (labels : List ℕ) → v .found ≡ true → v .start + v .size ≤ length labels

@@ -1,15 +1,6 @@
 -- What the definitions over the lengths say at one length, and after the last.
--- Assumes nothing.
-use mathlib.Core.Path.{_≡_, refl, sym, _∙_}
-use mathlib.Core.Bool.{Bool, true, false, _||_, cond, true≢false}
-use mathlib.Core.List.{List}
-use Prim.Native.Nat.{ℕ, _+_, _-_, _≤_, _<_}
-use native.Mathlib.Numerals.{add-one}
-use native.Mathlib.Omega.{arith}
-use lib.Dec.{ltb}
-use lib.ListN.{length, getD, take, drop, drop-of-length-le}
-use lib.Seq.{drop-cons, drop-drop}
-use borrow.Author.Tests.{ltb-false}
+use Rattle.block.proofs.Base.{_+_, _-_, _<_, _≤_, ℕ, _∙_, _≡_, refl, sym, Bool, _||_, cond, false, true, true≢false, List, add-one, arith}
+use Rattle.block.proofs.Base.{ltb-false, ltb, drop, drop-of-length-le, getD, length, take, drop-cons, drop-drop}
 use Rattle.walk.specs.Outcome.{finished}
 use Rattle.cipher_mode.specs.Tables.{limit}
 use Rattle.editions.specs.Candidates.{sum, anyTooLong}

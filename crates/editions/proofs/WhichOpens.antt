@@ -1,12 +1,7 @@
 -- Where nothing stands against the question, a candidate is found exactly where it is the first that opens the file, and none
 -- exactly where none opens it; the part handed back is that candidate. An answer of found or of none tells that nothing stood against.
--- Assumes nothing.
-use mathlib.Core.Path.{_≡_, refl, sym, ap, _∙_}
-use mathlib.Core.Bool.{Bool, true, false, cond, true≢false, false≢true}
-use mathlib.Core.List.{List, [], _∷_}
-use Prim.Native.Nat.{ℕ, zero, suc, _+_, _≤_, _<_}
-use native.Mathlib.Omega.{arith}
-use lib.ListN.{length, getD, take, drop}
+use Rattle.block.proofs.Base.{_+_, _<_, _≤_, suc, zero, ℕ, _∙_, _≡_, ap, refl, sym, Bool, cond, false, false≢true, true, true≢false, List}
+use Rattle.block.proofs.Base.{[], _∷_, arith, drop, getD, length, take}
 use Rattle.walk.specs.Outcome.{Head, finished, refusal, under}
 use Rattle.cipher_mode.specs.declared.Sm4Cipher.{Sm4Cipher}
 use Rattle.cipher_mode.specs.declared.checks.Checked.{Checked}

@@ -1,10 +1,5 @@
 -- The code is the definitions: H, J0, the tag, and a sealed message written in two parts.
--- Assumes nothing.
-use mathlib.Core.Path.{_≡_, refl, sym, ap, _∙_}
-use mathlib.Core.List.{List, [], _∷_, _++_}
-use Prim.Native.Nat.{ℕ}
-use lib.Dec.{lit<}
-use lib.ListN.{length, drop}
+use Rattle.block.proofs.Base.{ℕ, _∙_, _≡_, ap, refl, sym, List, [], _++_, _∷_, lit<, drop, length}
 use Rattle.block.specs.Below.{AreBytes}
 use Rattle.block.specs.BigEndian.{numberOf, bytesOf}
 use Rattle.block.specs.Words.{wordAt, words, unwords}

@@ -1,13 +1,7 @@
 -- A short text in one batch with the zero block and J0: H is the cipher of the one, that of the other is the mask of its tag, and those of
 -- the counters behind are what it is xored with.
--- Assumes nothing.
-use mathlib.Core.Path.{_≡_, sym, ap, ap₂, _∙_}
-use mathlib.Core.Bool.{false}
-use mathlib.Core.List.{List, _++_}
-use Prim.Native.Nat.{ℕ, zero, suc, _+_, _-_, _*_, _/_, _<_, _≤_}
-use native.Mathlib.Omega.{arith}
-use lib.ListN.{length, take, drop, replicate, length-drop, take-append-drop}
-use lib.Seq.{drop-drop, drop-at, take-at, length-take-le}
+use Rattle.block.proofs.Base.{_*_, _+_, _-_, _/_, _<_, _≤_, suc, zero, ℕ, _∙_, _≡_, ap, ap₂, sym, false, List, _++_, arith, drop, length}
+use Rattle.block.proofs.Base.{length-drop, replicate, take, take-append-drop, drop-at, drop-drop, length-take-le, take-at}
 use Rattle.block.specs.Below.{AreBytes}
 use Rattle.block.specs.Blocks.{blockAt, cat}
 use Rattle.block.specs.BigEndian.{numberOf}

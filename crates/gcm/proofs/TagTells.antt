@@ -1,12 +1,5 @@
 -- A tag tells the hash: under one J0 equal tags come of equal hashes, and of equal hashes equal tags.
--- Assumes nothing.
-use mathlib.Core.Path.{_≡_, sym, ap, _∙_}
-use mathlib.Core.Bool.{true, false}
-use mathlib.Core.Logic.{_≢_}
-use mathlib.Core.List.{List, _++_}
-use Prim.Native.Nat.{ℕ, _^_, _<_}
-use native.Mathlib.Omega.{arith}
-use lib.ListN.{length}
+use Rattle.block.proofs.Base.{_<_, _^_, ℕ, _∙_, _≡_, ap, sym, _≢_, false, true, List, _++_, arith, length}
 use Rattle.block.specs.BigEndian.{bytesOf}
 use Rattle.block.specs.Xor.{xors}
 use Rattle.block.proofs.Convert.{length-bytesOf, bytesOf-same}

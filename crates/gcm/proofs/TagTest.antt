@@ -1,13 +1,6 @@
 -- Two blocks of four words are the same where the sum of their four xors is 0, and so the code settles a tag.
--- Assumes nothing.
-use mathlib.Core.Path.{_≡_, refl, sym, ap, ap₂, _∙_}
-use mathlib.Core.List.{List, _∷_}
-use Prim.Native.Nat.{ℕ, _+_, _-_, _≤_}
-use native.Mathlib.Omega.{arith}
-use lib.Bits.{xor-self}
-use lib.Dec.{eqb}
-use lib.ListN.{length, getD, length-drop}
-use borrow.Author.Tests.{eq-eqb, eqb-true}
+use Rattle.block.proofs.Base.{_+_, _-_, _≤_, ℕ, _∙_, _≡_, ap, ap₂, refl, sym, List, _∷_, arith, eq-eqb, eqb-true, xor-self, eqb, getD}
+use Rattle.block.proofs.Base.{length, length-drop}
 use Rattle.block.specs.Below.{AreBytes, AreWords}
 use Rattle.block.specs.Words.{words, unwords}
 use Rattle.block.specs.Xor.{_⊕_, xors}

@@ -1,9 +1,8 @@
 -- Bytes as blocks: block by block, joined at a block's end, and with one more zero byte.
--- Assumes nothing.
-use Rattle.block.proofs.Base.{_≡_, refl, sym, ap, ap₂, _∙_, _≢_, ⊎-elim, List, [], _∷_, _++_, append-assoc, ℕ, zero, suc, _+_, _-_, _*_}
-use Rattle.block.proofs.Base.{_/_, _%_, _^_, _<_, _≤_, le-of-eq, eq-zero-or-pos, arith, lit<, length, take, drop, getD, replicate}
-use Rattle.block.proofs.Base.{length-append, length-drop, drop-of-length-le, take-all, take-append-le, drop-append-le, take-at}
-use Rattle.block.proofs.Base.{length-take-le}
+use Rattle.block.proofs.Base.{_%_, _*_, _+_, _-_, _/_, _<_, _^_, _≤_, suc, zero, ℕ, _∙_, _≡_, ap, ap₂, refl, sym, _≢_, ⊎-elim, List, []}
+use Rattle.block.proofs.Base.{_++_, _∷_, append-assoc, eq-zero-or-pos, le-of-eq, arith, lit<, drop, drop-of-length-le, getD, length}
+use Rattle.block.proofs.Base.{length-append, length-drop, replicate, take, drop-append-le, length-take-le, take-all, take-append-le}
+use Rattle.block.proofs.Base.{take-at}
 use Rattle.block.specs.Below.{AreBytes}
 use Rattle.block.specs.BigEndian.{numberOf}
 use Rattle.block.specs.Words.{words, unwords}

@@ -1,6 +1,5 @@
 -- The hash of two lists joined: the first's hash times H to the second's block count, xored with the second's hash.
--- Assumes nothing.
-use Rattle.block.proofs.Base.{_≡_, refl, sym, ap, _∙_, List, [], _∷_, _++_, ℕ, lit<, length, xor-zero-r}
+use Rattle.block.proofs.Base.{ℕ, _∙_, _≡_, ap, refl, sym, List, [], _++_, _∷_, xor-zero-r, lit<, length}
 use Rattle.block.specs.Xor.{_⊕_}
 use Rattle.block.proofs.Xor.{xor-assoc}
 use Rattle.field.specs.Field.{Element, gmul, gpow}

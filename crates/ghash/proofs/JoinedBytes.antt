@@ -1,7 +1,6 @@
 -- Two halves of bytes, of which the first is whole blocks: their hashes joined are the hash of both. So a label's hash, joined to what is
 -- kept of a text's blocks, is the hash of label and text. Either half may be empty.
--- Assumes nothing.
-use Rattle.block.proofs.Base.{_≡_, sym, ap, ap₂, _∙_, List, [], _∷_, _++_, append-assoc, ℕ, _*_, length}
+use Rattle.block.proofs.Base.{_*_, ℕ, _∙_, _≡_, ap, ap₂, sym, List, [], _++_, _∷_, append-assoc, length}
 use Rattle.block.specs.declared.U128.{U128}
 use Rattle.block.specs.Wide.{value}
 use Rattle.block.specs.Xor.{_⊕_}

@@ -1,6 +1,5 @@
 -- Where H is 0 every hash is 0, whatever the label and the text: all that was sealed opens under any label.
--- Assumes nothing.
-use Rattle.block.proofs.Base.{_≡_, refl, ap, _∙_, List, [], _∷_, ℕ}
+use Rattle.block.proofs.Base.{ℕ, _∙_, _≡_, ap, refl, List, [], _∷_}
 use Rattle.block.specs.Xor.{_⊕_}
 use Rattle.field.proofs.Distributes.{gmul-zero}
 use Rattle.ghash.specs.Ghash.{hashFrom, ghash}

@@ -1,11 +1,7 @@
--- A record that stands whole is read the same, whatever is behind it. Assumes nothing.
-use mathlib.Core.Path.{_≡_, ap, _∙_}
-use mathlib.Core.Bool.{true}
-use mathlib.Core.List.{List, _++_}
-use Prim.Native.Nat.{ℕ, _+_, _≤_, _<_}
-use native.Mathlib.Omega.{arith}
-use lib.ListN.{length, getD, drop, length-append, length-drop, List·getD-append}
-use lib.Seq.{take-append-le, drop-append-le}
+-- A record that stands whole is read the same, whatever is behind it.
+use Rattle.block.proofs.Base.{_+_, _<_, _≤_, ℕ, _∙_, _≡_, ap, true, List, _++_, arith, drop, getD, length, length-append, length-drop}
+use Rattle.block.proofs.Base.{drop-append-le, take-append-le}
+use lib.ListN.{List·getD-append}
 use Rattle.block.specs.Words.{wordAt}
 use Rattle.journal.specs.Format.{startsPart, partAt, behind, fromLabel, fromData, fromIv, fromRoom, fromOutput, afterRecord}
 use Rattle.journal.specs.Format.{directionOf, marked, startsRecord, sizeAt, front}

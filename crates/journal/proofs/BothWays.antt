@@ -1,14 +1,7 @@
--- Reading and writing a record are each other's inverse. Assumes nothing.
-use mathlib.Core.Path.{_≡_, refl, sym, ap, _∙_}
-use mathlib.Core.Bool.{true}
-use mathlib.Core.List.{List, [], _∷_, _++_, append-assoc}
-use Prim.Native.Nat.{ℕ, zero, suc, _+_, _≤_, _<_, _^_}
-use native.Mathlib.Nat.{mod-eq-of-lt}
-use native.Mathlib.Omega.{arith}
-use lib.Dec.{eqb, leb, lit<}
-use lib.ListN.{length, getD, drop, length-append, take-append-drop}
-use lib.Seq.{drop-cons, take-at, drop-at, drop-drop}
-use borrow.Author.Tests.{eqb-true, leb-true}
+-- Reading and writing a record are each other's inverse.
+use Rattle.block.proofs.Base.{_+_, _<_, _^_, _≤_, suc, zero, ℕ, _∙_, _≡_, ap, refl, sym, true, List, [], _++_, _∷_, append-assoc}
+use Rattle.block.proofs.Base.{mod-eq-of-lt, arith, eqb-true, leb-true, eqb, leb, lit<, drop, getD, length, length-append, take-append-drop}
+use Rattle.block.proofs.Base.{drop-at, drop-cons, drop-drop, take-at}
 use Rattle.block.specs.Below.{AreBytes}
 use Rattle.block.specs.BigEndian.{bytesOf}
 use Rattle.block.specs.Words.{wordAt}

@@ -1,11 +1,5 @@
--- What a test tells, and what it tells of an entry that is not too long. Assumes nothing.
-use mathlib.Core.Path.{_≡_, refl}
-use mathlib.Core.Bool.{Bool, true, false, _||_}
-use Prim.Native.Nat.{ℕ, _≤_}
-use native.Mathlib.Omega.{arith}
-use lib.Dec.{ltb}
-use lib.ListN.{length}
-use borrow.Author.Tests.{ltb-false}
+-- What a test tells, and what it tells of an entry that is not too long.
+use Rattle.block.proofs.Base.{_≤_, ℕ, _≡_, refl, Bool, _||_, false, true, arith, ltb-false, ltb, length}
 use Rattle.journal.specs.Format.{Entry, partLimit, outputLimit, pastLimit, tooLong}
 
 -- it holds, or it does not

@@ -1,11 +1,5 @@
--- No count passes the place that a replay has come to, so no sum wraps. Assumes nothing.
-use mathlib.Core.Path.{_≡_}
-use mathlib.Core.List.{List, [], _∷_}
-use Prim.Native.Nat.{ℕ, zero, suc, _+_, _≤_, _<_}
-use native.Mathlib.Omega.{arith}
-use lib.Dec.{ltb, lit<}
-use lib.ListN.{length, getD, set}
-use borrow.Author.Tests.{ltb-false}
+-- No count passes the place that a replay has come to, so no sum wraps.
+use Rattle.block.proofs.Base.{_+_, _<_, _≤_, suc, zero, ℕ, _≡_, List, [], _∷_, arith, ltb-false, lit<, ltb, getD, length, set}
 use Rattle.block.specs.Below.{Below}
 use Rattle.block.proofs.Entries.{below-at, below-replicate}
 use Rattle.journal.specs.Format.{Entry}

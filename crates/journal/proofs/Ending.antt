@@ -1,11 +1,6 @@
--- Which number a replay ends with exactly when: it ends as the bytes say that stand there, and in no other way. Assumes nothing.
-use mathlib.Core.Path.{_≡_, refl, sym, ap, _∙_}
-use mathlib.Core.Bool.{true, false}
-use mathlib.Core.List.{List, [], _∷_, _++_, append-assoc, append-nil}
-use Prim.Native.Nat.{ℕ, _+_}
-use native.Mathlib.Omega.{arith}
-use lib.ListN.{length, drop, length-append}
-use lib.Seq.{drop-at}
+-- Which number a replay ends with exactly when: it ends as the bytes say that stand there, and in no other way.
+use Rattle.block.proofs.Base.{_+_, ℕ, _∙_, _≡_, ap, refl, sym, false, true, List, [], _++_, _∷_, append-assoc, append-nil, arith, drop}
+use Rattle.block.proofs.Base.{length, length-append, drop-at}
 use Rattle.block.specs.Below.{AreBytes}
 use Rattle.block.proofs.Entries.{below-drop}
 use Rattle.cipher_mode.specs.declared.Sm4Cipher.{Sm4Cipher}

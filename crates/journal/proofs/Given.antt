@@ -1,13 +1,7 @@
 -- What a call gives does not depend on the output that it is lent: a report, and bytes that stand over the output's front. Of data
--- within the limits these are at most 16 bytes more than the data has. Assumes nothing.
-use mathlib.Core.Path.{_≡_, refl, sym, ap, _∙_}
-use mathlib.Core.Bool.{Bool, true, false, _&&_, cond}
-use mathlib.Core.List.{List, []}
-use Prim.Native.Nat.{ℕ, _+_, _-_, _≤_, _<_}
-use native.Mathlib.Omega.{arith}
-use lib.Dec.{eqb, lit<}
-use lib.ListN.{length, take}
-use lib.Seq.{length-take-le}
+-- within the limits these are at most 16 bytes more than the data has.
+use Rattle.block.proofs.Base.{_+_, _-_, _<_, _≤_, ℕ, _∙_, _≡_, ap, refl, sym, Bool, _&&_, cond, false, true, List, [], arith, eqb, lit<}
+use Rattle.block.proofs.Base.{length, take, length-take-le}
 use Rattle.counter.specs.CameRound.{blocksOf, ctrCameRound}
 use Rattle.walk.specs.Outcome.{Head, Outcome, finished, refusal, under, telling, leaving, keyed, reporting, refuse, written, done}
 use Rattle.walk.specs.Walk.{chain, over}
@@ -118,7 +112,7 @@ gcm-opened most p n false e h = gives-written most (refusal 4) p (omega arith) (
 streams : (k : Kind) (rk s d : List ℕ) → Gives (length d) (λ o. done (chain (streamMode k rk) s d) o)
 streams k rk s d = let l = length-stream k rk s d in gives-done (length d) (chain (streamMode k rk) s d) (omega arith)
 
--- what is in order gives no more than document 01's table says
+-- what is in order gives no more than the table of lengths says
 mode-gives : (m : CipherMode) (dir : Direction) (rk aad d iv : List ℕ) → wrongIv m (length iv) ≡ false → dataCheck dir m (length d) ≡ Passed
     → Gives (roomOf m dir (length d)) (λ o. modeResult m dir rk aad d iv o)
 unfolding cbcOpen gcmOpen settled

@@ -1,12 +1,7 @@
 -- The report of two journals joined is their reports added, where the first is replayed to its end: what a journal adds to a report does not
--- depend on the report. Assumes nothing.
-use mathlib.Core.Path.{_≡_, refl, sym, ap, _∙_}
-use mathlib.Core.Bool.{Bool, true, false, cond}
-use mathlib.Core.List.{List, [], _∷_, _++_}
-use Prim.Native.Nat.{ℕ, zero, suc, _+_, _<_}
-use native.Mathlib.Omega.{arith}
-use lib.ListN.{length, replicate, drop, length-drop}
-use lib.Seq.{drop-append-le}
+-- depend on the report.
+use Rattle.block.proofs.Base.{_+_, _<_, suc, zero, ℕ, _∙_, _≡_, ap, refl, sym, Bool, cond, false, true, List, [], _++_, _∷_, arith, drop}
+use Rattle.block.proofs.Base.{length, length-drop, replicate, drop-append-le}
 use Rattle.cipher_mode.specs.declared.Sm4Cipher.{Sm4Cipher}
 use Rattle.walk.proofs.Loop.{tailed, tail-is}
 use Rattle.journal.specs.Format.{Entry, sizeAt, front}

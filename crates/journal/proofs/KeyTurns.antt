@@ -1,14 +1,6 @@
--- The keys are looked at one after another. Assumes nothing.
-use mathlib.Core.Path.{_≡_, refl, sym, _∙_}
-use mathlib.Core.Bool.{false}
-use mathlib.Core.List.{List, [], _∷_}
-use Prim.Native.Nat.{ℕ, zero, suc, _+_, _≤_, _<_}
-use native.Mathlib.Omega.{arith}
-use native.Mathlib.Numerals.{add-one}
-use lib.Dec.{ltb}
-use lib.ListN.{length, getD, drop}
-use lib.Seq.{drop-cons, getD-take, length-take-le}
-use borrow.Author.Tests.{ltb-false}
+-- The keys are looked at one after another.
+use Rattle.block.proofs.Base.{_+_, _<_, _≤_, suc, zero, ℕ, _∙_, _≡_, refl, sym, false, List, [], _∷_, add-one, arith, ltb-false, ltb, drop}
+use Rattle.block.proofs.Base.{getD, length, drop-cons, getD-take, length-take-le}
 use Rattle.cipher_mode.specs.declared.KeyAnswer.the-variants.{ErrorBlockSize}
 use Rattle.cipher_mode.specs.declared.Sm4Cipher.{Sm4Cipher}
 use Rattle.cipher_mode.specs.Key.{noCipher}

@@ -1,14 +1,7 @@
--- A call within the limits gives the same whether it is lent the recorded room or no more than the longest output. Assumes nothing.
-use mathlib.Core.Path.{_≡_, refl, sym, ap, _∙_}
-use mathlib.Core.Logic.{_⊎_, ⊎-elim}
-use mathlib.Core.Bool.{Bool, false}
-use mathlib.Core.List.{List, [], _++_, append-assoc, append-nil}
-use Prim.Native.Nat.{ℕ, _+_, _≤_, _<_}
-use native.Mathlib.Omega.{arith}
-use lib.Dec.{ltb}
-use lib.ListN.{length, take, drop, replicate, length-replicate, length-append, length-drop}
-use lib.Seq.{take-at}
-use borrow.Author.Tests.{ltb-false, ltb-true, le-ltb}
+-- A call within the limits gives the same whether it is lent the recorded room or no more than the longest output.
+use Rattle.block.proofs.Base.{_+_, _<_, _≤_, ℕ, _∙_, _≡_, ap, refl, sym, _⊎_, ⊎-elim, Bool, false, List, [], _++_, append-assoc, append-nil}
+use Rattle.block.proofs.Base.{arith, le-ltb, ltb-false, ltb-true, ltb, drop, length, length-append, length-drop, length-replicate}
+use Rattle.block.proofs.Base.{replicate, take, take-at}
 use Rattle.walk.specs.Outcome.{Head, Outcome, keyed, refuse}
 use Rattle.cipher_mode.specs.declared.CipherMode.{CipherMode}
 use Rattle.cipher_mode.specs.declared.Sm4Cipher.{Sm4Cipher}

@@ -1,12 +1,6 @@
--- Replay goes on record by record: one law by cases of the record in front, and one induction over all of them. Assumes nothing.
-use mathlib.Core.Path.{_≡_, refl, sym, _∙_}
-use mathlib.Core.Bool.{true, false}
-use mathlib.Core.List.{List}
-use Prim.Native.Nat.{ℕ, zero, suc, _+_, _≤_, _<_}
-use native.Mathlib.Omega.{arith}
-use lib.Dec.{eqb}
-use lib.ListN.{length, drop, length-drop}
-use borrow.Author.Tests.{eqb-true, eqb-false, eq-eqb, ne-eqb}
+-- Replay goes on record by record: one law by cases of the record in front, and one induction over all of them.
+use Rattle.block.proofs.Base.{_+_, _<_, _≤_, suc, zero, ℕ, _∙_, _≡_, refl, sym, false, true, List, arith, eq-eqb, eqb-false, eqb-true}
+use Rattle.block.proofs.Base.{ne-eqb, eqb, drop, length, length-drop}
 use Rattle.walk.proofs.Loop.{tailed, tail-is}
 use Rattle.cipher_mode.specs.declared.Sm4Cipher.{Sm4Cipher}
 use Rattle.journal.specs.Format.{Entry, startsRecord, sizeAt, front, tooLong}

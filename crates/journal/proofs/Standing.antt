@@ -1,13 +1,6 @@
--- What is known of a record that stands whole: its parts stand whole one behind the other, and they make up its size. Assumes nothing.
-use mathlib.Core.Path.{_≡_, refl, sym, ap, _∙_}
-use mathlib.Core.Bool.{true, false}
-use mathlib.Core.List.{List}
-use Prim.Native.Nat.{ℕ, _+_, _-_, _≤_}
-use native.Mathlib.Omega.{arith}
-use lib.Dec.{leb}
-use lib.ListN.{length, drop, length-drop}
-use lib.Seq.{drop-drop, length-take-le}
-use borrow.Author.Tests.{leb-true, le-leb}
+-- What is known of a record that stands whole: its parts stand whole one behind the other, and they make up its size.
+use Rattle.block.proofs.Base.{_+_, _-_, _≤_, ℕ, _∙_, _≡_, ap, refl, sym, false, true, List, arith, le-leb, leb-true, leb, drop, length}
+use Rattle.block.proofs.Base.{length-drop, drop-drop, length-take-le}
 use Rattle.block.specs.Words.{wordAt}
 use Rattle.block.proofs.Same.{and-left, and-right}
 use Rattle.journal.specs.Format.{startsPart, partAt, behind, fromLabel, fromData, fromIv, fromRoom, fromOutput, afterRecord}

@@ -1,10 +1,6 @@
--- Calls by answer, and calls by mode, sum to the records; a first difference is one of them. Assumes nothing.
-use mathlib.Core.Path.{_≡_, refl, ap, _∙_}
-use mathlib.Core.Bool.{Bool, true, false}
-use mathlib.Core.List.{List, [], _∷_}
-use Prim.Native.Nat.{ℕ, zero, suc, _+_, _<_}
-use native.Mathlib.Omega.{arith}
-use lib.ListN.{length, getD, set, length-set}
+-- Calls by answer, and calls by mode, sum to the records; a first difference is one of them.
+use Rattle.block.proofs.Base.{_+_, _<_, suc, zero, ℕ, _∙_, _≡_, ap, refl, Bool, false, true, List, [], _∷_, arith, getD, length, length-set}
+use Rattle.block.proofs.Base.{set}
 use Rattle.cipher_mode.specs.declared.Sm4Cipher.{Sm4Cipher}
 use Rattle.journal.specs.Format.{Entry}
 use Rattle.journal.specs.KeyList.{keyOf}

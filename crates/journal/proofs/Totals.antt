@@ -1,13 +1,6 @@
--- The report has the exact totals of the calls that were replayed. Assumes nothing.
-use mathlib.Core.Path.{_≡_, refl, sym}
-use mathlib.Core.Bool.{cond}
-use mathlib.Core.List.{List, [], _∷_}
-use Prim.Native.Nat.{ℕ, zero, suc, _+_, _<_}
-use native.Mathlib.Omega.{arith}
-use lib.Dec.{eqb}
-use lib.ListN.{length, getD, replicate}
-use lib.Seq.{getD-set-same, getD-set-other}
-use borrow.Author.Tests.{eqb-true, eqb-false}
+-- The report has the exact totals of the calls that were replayed.
+use Rattle.block.proofs.Base.{_+_, _<_, suc, zero, ℕ, _≡_, refl, sym, cond, List, [], _∷_, arith, eqb-false, eqb-true, eqb, getD, length}
+use Rattle.block.proofs.Base.{replicate, getD-set-other, getD-set-same}
 use Rattle.cipher_mode.specs.declared.Sm4Cipher.{Sm4Cipher}
 use Rattle.journal.specs.Format.{Entry, written}
 use Rattle.journal.specs.KeyList.{keyOf}

@@ -1,12 +1,6 @@
--- The parts of a record are written one behind the other. Assumes nothing.
-use mathlib.Core.Path.{_≡_, sym, ap, _∙_}
-use mathlib.Core.Bool.{false}
-use mathlib.Core.List.{List, _++_, append-assoc}
-use Prim.Native.Nat.{ℕ, _+_, _≤_}
-use native.Mathlib.Omega.{arith}
-use lib.ListN.{length, take, drop, length-append}
-use lib.Seq.{take-length}
-use borrow.Author.Tests.{le-ltb}
+-- The parts of a record are written one behind the other.
+use Rattle.block.proofs.Base.{_+_, _≤_, ℕ, _∙_, _≡_, ap, sym, false, List, _++_, append-assoc, arith, le-ltb, drop, length, length-append}
+use Rattle.block.proofs.Base.{take, take-length}
 use Rattle.block.proofs.Convert.{length-bytesOf}
 use Rattle.walk.specs.Walk.{over}
 use Rattle.walk.proofs.Loop.{tailed, returned, over-behind}

@@ -1,6 +1,5 @@
 -- What holds at every place below i, and at i, holds below i + 1: so a list is filled word by word.
--- Assumes nothing.
-use Rattle.block.proofs.Base.{_≡_, subst, ⊎-elim, List, ℕ, _+_, _<_, _≤_, arith, getD, length, set, getD-set-same, getD-set-other}
+use Rattle.block.proofs.Base.{_+_, _<_, _≤_, ℕ, _≡_, subst, ⊎-elim, List, arith, getD, length, set, getD-set-other, getD-set-same}
 use Rattle.lanes.specs.Each.{Each}
 use Rattle.lanes.proofs.Bits.{lt-or-le}
 

@@ -1,7 +1,6 @@
 -- A masked swap of bits at a distance changes one binary digit of a word's number with that of a bit's number.
--- Assumes nothing.
-use Rattle.block.proofs.Base.{_≡_, refl, sym, ap, ap₂, _∙_, _⊎_, inl, inr, ⊎-elim, ℕ, zero, suc, _+_, _-_, _*_, _/_, _%_, _^_, _<_, _≤_}
-use Rattle.block.proofs.Base.{min, add-zero, add-div-right, div-eq-of-lt, arith, pow-pos, differ}
+use Rattle.block.proofs.Base.{_%_, _*_, _+_, _-_, _/_, _<_, _^_, _≤_, min, suc, zero, ℕ, _∙_, _≡_, ap, ap₂, refl, sym, _⊎_, inl, inr}
+use Rattle.block.proofs.Base.{⊎-elim, add-div-right, add-zero, div-eq-of-lt, arith, differ, pow-pos}
 use Rattle.block.specs.Xor.{_⊕_}
 use Rattle.block.proofs.Xor.{two-cases}
 use Rattle.lanes.specs.Bits.{bit}

@@ -1,14 +1,5 @@
 -- A question with one candidate, of six bytes: its verdict, as an answer, is what is asked of a job and an edition.
--- Assumes nothing.
-use mathlib.Core.Path.{_≡_, refl, sym}
-use mathlib.Core.Bool.{Bool, true, false, cond}
-use mathlib.Core.List.{List, [], _∷_}
-use Prim.Native.Nat.{ℕ}
-use native.Mathlib.Omega.{arith}
-use lib.Dec.{eqb}
-use lib.ListN.{length}
-use lib.Seq.{take-all}
-use borrow.Author.Tests.{ne-eqb}
+use Rattle.block.proofs.Base.{ℕ, _≡_, refl, sym, Bool, cond, false, true, List, [], _∷_, arith, ne-eqb, eqb, length, take-all}
 use Rattle.walk.specs.Outcome.{Head, under, finished, refusal}
 use Rattle.cipher_mode.specs.declared.Sm4Cipher.{Sm4Cipher}
 use Rattle.cipher_mode.specs.declared.CipherMode.the-variants.{Gcm}

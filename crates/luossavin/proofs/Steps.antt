@@ -1,8 +1,5 @@
 -- A host's answer is the call's: the same report, the same output, and in pieces the same state.
--- Assumes nothing.
-use mathlib.Core.Path.{_≡_, refl, ap, _∙_}
-use mathlib.Core.List.{List}
-use Prim.Native.Nat.{ℕ}
+use Rattle.block.proofs.Base.{ℕ, _∙_, _≡_, ap, refl, List}
 use Rattle.walk.specs.Outcome.{Head, Outcome, leaving}
 use Rattle.pieces.specs.Calls.{Stepped}
 use Rattle.pieces.proofs.Stepping.{step, same-step}

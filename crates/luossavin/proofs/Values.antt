@@ -1,10 +1,5 @@
 -- A number tells its halves.
--- Assumes nothing.
-use mathlib.Core.Path.{_≡_, sym, ap, ap₂, _∙_}
-use Prim.Native.Nat.{ℕ}
-use mir.Syntax.{w64}
-use mir.Val.{Fits}
-use lib.Arith.{digits-div, digits-mod}
+use Rattle.block.proofs.Base.{ℕ, _∙_, _≡_, ap, ap₂, sym, digits-div, digits-mod, w64, Fits}
 use Rattle.block.specs.Wide.{value}
 use Rattle.block.specs.declared.U128.{U128}
 use Rattle.luossavin.specs.Halves.{hashOf}

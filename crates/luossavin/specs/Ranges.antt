@@ -15,7 +15,7 @@ use Rattle.luossavin.specs.Key.{cipherIn}
 use Rattle.luossavin.specs.Host.{headIn}
 use Rattle.luossavin.specs.InPieces.{directionOf}
 
--- the papers' number for each answer of the planner, which is on no key
+-- the number for each answer of the planner, which is on no key
 abbrev pub makingNumber : Making → ℕ
 makingNumber Made = 0
 makingNumber BadWorkers = 17

@@ -20,7 +20,7 @@ use cipher_mode::answer;
 use key::LuossavinKey;
 use key::cipher_of;
 
-// The papers' number, how many bytes were missing where that is refusal 9, 1 where the counter of a message came round, the number
+// The number, how many bytes were missing where that is refusal 9, 1 where the counter of a message came round, the number
 // of the key that stands, and how many bytes of the output are the result.
 #[repr(C)]
 pub struct LuossavinAnswer {

@@ -1,11 +1,7 @@
 -- The full blocks of a text and what is begun behind them, also where the text goes on.
--- Assumes nothing.
-use mathlib.Core.Path.{_≡_}
-use mathlib.Core.List.{List, _++_}
-use Prim.Native.Nat.{ℕ, _+_, _-_, _*_, _/_, _%_, _≤_}
-use native.Mathlib.Omega.{arith}
-use lib.ListN.{length, take, drop, length-append, length-drop, take-append-drop}
-use lib.Seq.{length-take-le, take-append-add, drop-append-add}
+use Rattle.block.proofs.Base.{_%_, _*_, _+_, _-_, _/_, _≤_, ℕ, _≡_, List, _++_, arith, drop, length, length-append, length-drop, take}
+use Rattle.block.proofs.Base.{take-append-drop, drop-append-add, length-take-le}
+use lib.Seq.{take-append-add}
 use Rattle.pieces.specs.Hashing.{fullPart, begunPart}
 
 pub full-length : (c : List ℕ) → length (fullPart c) ≡ 16 * (length c / 16)

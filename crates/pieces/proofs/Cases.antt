@@ -1,10 +1,5 @@
 -- Of two numbers, either the first is the smaller, or it is not.
--- Assumes nothing.
-use mathlib.Core.Path.{_≡_, refl}
-use mathlib.Core.Bool.{Bool, true, false}
-use Prim.Native.Nat.{ℕ, _≤_, _<_}
-use lib.Dec.{ltb}
-use borrow.Author.Tests.{ltb-true, ltb-false}
+use Rattle.block.proofs.Base.{_<_, _≤_, ℕ, _≡_, refl, Bool, false, true, ltb-false, ltb-true, ltb}
 
 pub by-order : {P : Type 0} (a b : ℕ) → (a < b → P) → (b ≤ a → P) → P
 by-order {P} a b less more = by (ltb a b) refl

@@ -1,11 +1,8 @@
 -- A block filled from what is held and from the text behind it, zeros to its end.
--- Assumes nothing.
-use mathlib.Core.Path.{_≡_, _∙_}
-use mathlib.Core.List.{List, _++_, append-assoc}
-use Prim.Native.Nat.{ℕ, _+_, _-_, _≤_, _<_}
-use native.Mathlib.Omega.{arith}
-use lib.ListN.{length, take, drop, getD, replicate, length-append, take-append-drop, List·getD-append}
-use lib.Seq.{getD-take, getD-append-add, length-take-le, take-append-le}
+use Rattle.block.proofs.Base.{_+_, _-_, _<_, _≤_, ℕ, _∙_, _≡_, List, _++_, append-assoc, arith, drop, getD, length, length-append}
+use Rattle.block.proofs.Base.{replicate, take, take-append-drop, getD-take, length-take-le, take-append-le}
+use lib.ListN.{List·getD-append}
+use lib.Seq.{getD-append-add}
 use Rattle.ghash.proofs.Blocks.{getD-before-zeros}
 use Rattle.pieces.specs.Hashing.{filledUp}
 use Rattle.pieces.proofs.Begun.{take-through}

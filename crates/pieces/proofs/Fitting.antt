@@ -1,11 +1,5 @@
 -- Blocks as arrays hand them over: so many entries, each of which fits its type.
--- Assumes nothing.
-use mathlib.Core.Path.{_≡_}
-use mathlib.Core.List.{List}
-use Prim.Native.Nat.{ℕ, _^_}
-use mir.Val.{Fits}
-use mir.Syntax.{w8, w32}
-use lib.ListN.{length, getD}
+use Rattle.block.proofs.Base.{_^_, ℕ, _≡_, List, getD, length, w32, w8, Fits}
 use Rattle.block.specs.Below.{AreBytes}
 use Rattle.block.specs.Words.{words, unwords}
 use Rattle.block.proofs.Entries.{below-each}

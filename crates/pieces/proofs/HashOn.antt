@@ -1,13 +1,7 @@
 -- The hash cut anywhere: from the hash after a text, what is behind it goes on as in the whole.
--- Assumes nothing.
-use mathlib.Core.Path.{_≡_, refl, sym, ap, _∙_}
-use mathlib.Core.List.{List, [], _∷_, _++_, append-assoc}
-use Prim.Native.Nat.{ℕ, _*_, _/_, _%_, _<_}
-use native.Mathlib.Nat.{mod-eq-of-lt, mod-lt}
-use native.Mathlib.Omega.{arith}
-use lib.Dec.{lit<}
-use lib.ListN.{length, take, replicate}
-use lib.Seq.{take-take, take-at}
+use Rattle.block.proofs.Base.{_%_, _*_, _/_, _<_, ℕ, _∙_, _≡_, ap, refl, sym, List, [], _++_, _∷_, append-assoc, mod-eq-of-lt, mod-lt}
+use Rattle.block.proofs.Base.{arith, lit<, length, replicate, take, take-at}
+use lib.Seq.{take-take}
 use Rattle.block.specs.Below.{AreBytes}
 use Rattle.block.specs.BigEndian.{numberOf, bytesOf}
 use Rattle.block.proofs.Convert.{bytesOf-numberOf, numberOf-bytesOf}

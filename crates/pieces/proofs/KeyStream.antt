@@ -1,11 +1,6 @@
 -- Key stream cut anywhere: from the flow after a text, what is behind it goes on as in the whole.
--- Assumes nothing.
-use mathlib.Core.Path.{_≡_, refl, sym, ap, _∙_}
-use mathlib.Core.List.{List, [], _++_, append-assoc, append-nil}
-use Prim.Native.Nat.{ℕ, _-_, _%_, _<_}
-use native.Mathlib.Omega.{arith}
-use lib.ListN.{length, take, drop, length-append, length-drop, drop-of-length-le}
-use borrow.Author.Tests.{lt-ltb, le-ltb}
+use Rattle.block.proofs.Base.{_%_, _-_, _<_, ℕ, _∙_, _≡_, ap, refl, sym, List, [], _++_, append-assoc, append-nil, arith, le-ltb, lt-ltb}
+use Rattle.block.proofs.Base.{drop, drop-of-length-le, length, length-append, length-drop, take}
 use Rattle.block.specs.Xor.{xors}
 use Rattle.cipher.specs.Sm4.{encryptBlock}
 use Rattle.cipher.proofs.Blocks.{length-encryptBlock}

@@ -1,11 +1,5 @@
 -- Opening in pieces, cut anywhere, answers as the single call does: yes exactly where the joined pieces open with the tag.
--- Assumes nothing.
-use mathlib.Core.Path.{_≡_}
-use mathlib.Core.Bool.{cond}
-use mathlib.Core.List.{List, [], _++_}
-use Prim.Native.Nat.{ℕ, _+_, _≤_}
-use native.Mathlib.Nat.{add-zero}
-use lib.ListN.{length, length-append}
+use Rattle.block.proofs.Base.{_+_, _≤_, ℕ, _≡_, cond, List, [], _++_, add-zero, length, length-append}
 use Rattle.walk.specs.Outcome.{Head, finished, refusal, under, telling}
 use Rattle.gcm.specs.Gcm.{hashKey, J0, tagOf, opensUnder}
 use Rattle.gcm.proofs.HashKey.{hashKey-lt}

@@ -1,11 +1,5 @@
 -- Sealing in pieces, cut anywhere, is the single call's: what the pieces give is the ciphertext of their join, and the end its tag.
--- Assumes nothing.
-use mathlib.Core.Path.{_≡_}
-use mathlib.Core.List.{List, [], _++_}
-use Prim.Native.Nat.{ℕ, _+_, _%_, _≤_}
-use native.Mathlib.Nat.{add-zero}
-use lib.ListN.{length, drop, length-append}
-use lib.Seq.{drop-at}
+use Rattle.block.proofs.Base.{_%_, _+_, _≤_, ℕ, _≡_, List, [], _++_, add-zero, drop, length, length-append, drop-at}
 use Rattle.counter.specs.Counter.{gcmNext}
 use Rattle.walk.specs.Outcome.{finished, under, telling}
 use Rattle.walk.specs.Walk.{over}

@@ -1,9 +1,5 @@
 -- No text of nothing.
--- Assumes nothing.
-use mathlib.Core.Path.{_≡_}
-use mathlib.Core.List.{List, []}
-use Prim.Native.Nat.{ℕ}
-use native.Mathlib.Omega.{arith}
+use Rattle.block.proofs.Base.{ℕ, _≡_, List, [], arith}
 use Rattle.counter.specs.Counter.{gcmNext}
 use Rattle.stream.specs.Stream.{streamMode}
 use Rattle.stream.specs.declared.Kind.the-variants.{Gctr}

@@ -1,8 +1,5 @@
 -- What a call leaves, by its parts.
--- Assumes nothing.
-use mathlib.Core.Path.{_≡_}
-use mathlib.Core.List.{List}
-use Prim.Native.Nat.{ℕ}
+use Rattle.block.proofs.Base.{ℕ, _≡_, List}
 use Rattle.walk.specs.Outcome.{Head}
 use Rattle.pieces.specs.Calls.{Stepped}
 

@@ -1,14 +1,6 @@
 -- What is known of a plan that is accepted, and that no sum wraps in the check.
--- Assumes nothing.
-use mathlib.Core.Path.{_≡_, refl, sym, _∙_}
-use mathlib.Core.Bool.{true, false, false≢true}
-use mathlib.Core.List.{List, [], _∷_}
-use Prim.Native.Nat.{ℕ, _≤_}
-use native.Mathlib.Omega.{arith}
-use lib.Dec.{leb}
-use lib.ListN.{length, take}
-use lib.Seq.{length-take-le}
-use borrow.Author.Tests.{eqb-true, leb-true}
+use Rattle.block.proofs.Base.{_≤_, ℕ, _∙_, _≡_, refl, sym, false, false≢true, true, List, [], _∷_, arith, eqb-true, leb-true, leb, length}
+use Rattle.block.proofs.Base.{take, length-take-le}
 use Rattle.block.proofs.Same.{and-left, and-right}
 use Rattle.ranges.specs.Plan.{follows, accepts}
 use Rattle.ranges.specs.declared.plan.Plan.{Plan}

@@ -1,15 +1,10 @@
 -- The shares of a text may be done in any order: what stands in the output is the same. Those of an accepted plan give the single call's
 -- bytes.
--- Assumes nothing.
-use mathlib.Core.Path.{_≡_, refl, sym, ap, _∙_}
+use Rattle.block.proofs.Base.{_+_, _-_, _≤_, min, suc, zero, ℕ, _∙_, _≡_, ap, refl, sym, false≢true, true, List, [], _∷_, arith, eqb-true}
+use Rattle.block.proofs.Base.{drop, length, length-drop, length-take, take}
 use mathlib.Core.HLevel.{hedberg}
-use mathlib.Core.Bool.{true, false≢true}
-use mathlib.Core.List.{List, [], _∷_, foldr, Perm, Perm·foldr-eq, List·isSet}
-use Prim.Native.Nat.{ℕ, zero, suc, _+_, _-_, _≤_, min}
+use mathlib.Core.List.{foldr, Perm, Perm·foldr-eq, List·isSet}
 use native.Mathlib.Decide.{ℕ-discrete}
-use native.Mathlib.Omega.{arith}
-use lib.ListN.{length, take, drop, length-take, length-drop}
-use borrow.Author.Tests.{eqb-true}
 use Rattle.block.specs.Xor.{_⊕_, xors}
 use Rattle.block.proofs.Xors.{xors-comm}
 use Rattle.walk.specs.Walk.{chain, over}

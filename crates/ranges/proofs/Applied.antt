@@ -1,12 +1,6 @@
 -- A range applied to a text xors key stream into it there, and leaves the rest; so two of them give the same in either order, overlapping
 -- or not.
--- Assumes nothing.
-use mathlib.Core.Path.{_≡_, refl}
-use mathlib.Core.List.{List, [], _∷_}
-use Prim.Native.Nat.{ℕ, zero, suc, _≤_}
-use native.Mathlib.Omega.{arith}
-use lib.Bits.{xor-comm}
-use lib.ListN.{length}
+use Rattle.block.proofs.Base.{_≤_, suc, zero, ℕ, _≡_, refl, List, [], _∷_, arith, xor-comm, length}
 use Rattle.block.specs.Xor.{xors}
 use Rattle.block.proofs.Xor.{xor-assoc}
 use Rattle.ranges.specs.Shares.{Share, applied}

@@ -1,15 +1,6 @@
 -- The check accepts a plan exactly when the plan reads, piece by piece, as it should.
--- Assumes nothing.
-use mathlib.Core.Path.{_≡_, refl, sym, _∙_}
-use mathlib.Core.Bool.{true, _||_, false≢true}
-use mathlib.Core.List.{List, [], _∷_}
-use mathlib.Core.Logic.{_⊎_, inl, inr}
-use Prim.Native.Nat.{ℕ, zero, suc, _+_, _%_, _≤_, _<_}
-use native.Mathlib.Omega.{arith}
-use lib.Dec.{eqb}
-use lib.ListN.{length, getD, take}
-use lib.Seq.{getD-take, length-take-le}
-use borrow.Author.Tests.{eqb-true, eq-eqb, ne-eqb, le-leb}
+use Rattle.block.proofs.Base.{_%_, _+_, _<_, _≤_, suc, zero, ℕ, _∙_, _≡_, refl, sym, _⊎_, inl, inr, _||_, false≢true, true, List, [], _∷_}
+use Rattle.block.proofs.Base.{arith, eq-eqb, eqb-true, le-leb, ne-eqb, eqb, getD, length, take, getD-take, length-take-le}
 use Rattle.ranges.specs.Plan.{isLast, follows, accepts}
 use Rattle.ranges.specs.Reading.{Piece, Reading}
 use Rattle.ranges.specs.declared.plan.Plan.{Plan}

@@ -1,16 +1,7 @@
 -- What it says of a piece that the pieces from it on follow one another to n, and that the check's test of one piece tells it.
--- Assumes nothing.
-use mathlib.Core.Path.{_≡_, refl, sym, _∙_}
-use mathlib.Core.Bool.{Bool, true, false, not, _&&_, _||_, cond, false≢true}
-use mathlib.Core.List.{List, [], _∷_}
-use mathlib.Core.Logic.{_≢_, _⊎_, inl, inr}
-use Prim.Native.Nat.{ℕ, _+_, _-_, _%_, _≤_, _<_}
-use native.Mathlib.Numerals.{add-one}
-use native.Mathlib.Omega.{arith}
-use lib.Dec.{eqb, leb}
-use lib.ListN.{length, getD, take, drop, drop-of-length-le}
-use lib.Seq.{drop-cons, getD-take, length-take-le}
-use borrow.Author.Tests.{eqb-true, eqb-false, leb-true, le-leb, eq-eqb, ne-eqb, not-true}
+use Rattle.block.proofs.Base.{_%_, _+_, _-_, _<_, _≤_, ℕ, _∙_, _≡_, refl, sym, _≢_, _⊎_, inl, inr, Bool, _&&_, _||_, cond, false}
+use Rattle.block.proofs.Base.{false≢true, not, true, List, [], _∷_, add-one, arith, eq-eqb, eqb-false, eqb-true, le-leb, leb-true, ne-eqb}
+use Rattle.block.proofs.Base.{not-true, eqb, leb, drop, drop-of-length-le, getD, length, take, drop-cons, getD-take, length-take-le}
 use Rattle.block.proofs.Same.{and-left, and-right}
 use Rattle.pieces.proofs.Cases.{by-order}
 use Rattle.ranges.specs.Plan.{isLast, follows, isPiece}

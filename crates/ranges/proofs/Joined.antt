@@ -1,11 +1,5 @@
 -- A piece written behind what came before it gives what the single call gives of both.
--- Assumes nothing.
-use mathlib.Core.Path.{_≡_, _∙_}
-use mathlib.Core.List.{List, [], _++_}
-use Prim.Native.Nat.{ℕ, _+_, _≤_}
-use native.Mathlib.Omega.{arith}
-use lib.ListN.{length, take, drop}
-use lib.Seq.{take-add, length-take-le}
+use Rattle.block.proofs.Base.{_+_, _≤_, ℕ, _∙_, _≡_, List, [], _++_, arith, drop, length, take, length-take-le, take-add}
 use Rattle.block.specs.Below.{AreBytes}
 use Rattle.walk.specs.Walk.{chain, over}
 use Rattle.walk.proofs.Chain.{chain-rest}

@@ -1,12 +1,7 @@
 -- The flow at a counter that is jumped to goes on as the whole does: the counters of Ctr do not depend on the text, so the one behind any
 -- text of `offset` bytes is the jump's.
--- Assumes nothing.
-use mathlib.Core.Path.{_≡_, refl, sym, _∙_}
-use mathlib.Core.List.{List, _++_}
-use Prim.Native.Nat.{ℕ, zero, suc, _/_, _%_}
-use native.Mathlib.Omega.{arith}
-use lib.ListN.{length, drop, replicate, length-append, length-drop, length-replicate}
-use lib.Seq.{drop-at}
+use Rattle.block.proofs.Base.{_%_, _/_, suc, zero, ℕ, _∙_, _≡_, refl, sym, List, _++_, arith, drop, length, length-append, length-drop}
+use Rattle.block.proofs.Base.{length-replicate, replicate, drop-at}
 use Rattle.block.specs.Below.{AreBytes}
 use Rattle.block.proofs.Convert.{length-bytesOf, bytesOf-bytes}
 use Rattle.counter.specs.Counter.{ctrJump, ctrNext}

@@ -1,11 +1,6 @@
 -- Ctr xors a text with key stream: the ciphers of its counters, as far as they are needed. So a range xors its stretch with that part.
--- Assumes nothing.
-use mathlib.Core.Path.{_≡_, refl, sym, _∙_}
-use mathlib.Core.List.{List, [], _∷_, _++_}
-use Prim.Native.Nat.{ℕ, zero, suc, _+_, _*_, _≤_}
-use native.Mathlib.Omega.{arith}
-use lib.ListN.{length, take, drop, replicate, length-append, length-drop, length-replicate, take-append-drop}
-use lib.Seq.{drop-at, length-take-le}
+use Rattle.block.proofs.Base.{_*_, _+_, _≤_, suc, zero, ℕ, _∙_, _≡_, refl, sym, List, [], _++_, _∷_, arith, drop, length, length-append}
+use Rattle.block.proofs.Base.{length-drop, length-replicate, replicate, take, take-append-drop, drop-at, length-take-le}
 use Rattle.block.specs.Xor.{xors}
 use Rattle.block.proofs.Xors.{length-xors, xors-append}
 use Rattle.cipher.specs.Sm4.{encryptBlock}

@@ -1,14 +1,6 @@
 -- One more place of a plan, stored in the arrays and counted, and all 64.
--- Assumes nothing.
-use mathlib.Core.Path.{_≡_}
-use mathlib.Core.Bool.{Bool, true, false, cond}
-use mathlib.Core.List.{List, _++_, append-assoc, append-nil}
-use Prim.Native.Nat.{ℕ, suc, _+_, _-_, _<_, _≤_}
-use native.Mathlib.Numerals.{add-one}
-use native.Mathlib.Omega.{arith}
-use lib.Dec.{ltb}
-use lib.ListN.{length, take, set}
-use lib.Seq.{take-suc-set, take-all}
+use Rattle.block.proofs.Base.{_+_, _-_, _<_, _≤_, suc, ℕ, _≡_, Bool, cond, false, true, List, _++_, append-assoc, append-nil, add-one}
+use Rattle.block.proofs.Base.{arith, ltb, length, set, take, take-all, take-suc-set}
 use Rattle.ranges.specs.Plan.{begins, startAt, lengthAt, countFrom, startsFrom, lengthsFrom}
 
 one-or-none : (t : Bool) → cond t 1 0 ≤ 1

@@ -1,12 +1,7 @@
 -- The planner's plans are accepted, have no more pieces than workers, and no piece is longer than its share.
--- Assumes nothing.
-use mathlib.Core.Path.{_≡_, refl, _∙_}
-use mathlib.Core.Bool.{Bool, true, false, _||_}
-use Prim.Native.Nat.{ℕ, zero, suc, _+_, _-_, _*_, _%_, _≤_, _<_}
-use native.Mathlib.Nat.{suc-mul, mul-le-mul-right}
-use native.Mathlib.Omega.{arith}
-use lib.ListN.{getD, take}
-use borrow.Author.Tests.{lt-ltb, le-ltb, le-leb, eq-eqb, ne-eqb}
+use Rattle.block.proofs.Base.{_%_, _*_, _+_, _-_, _<_, _≤_, suc, zero, ℕ, _∙_, _≡_, refl, Bool, _||_, false, true, mul-le-mul-right, arith}
+use Rattle.block.proofs.Base.{eq-eqb, le-leb, le-ltb, lt-ltb, ne-eqb, getD, take}
+use native.Mathlib.Nat.{suc-mul}
 use Rattle.pieces.proofs.Cases.{by-order}
 use Rattle.ranges.specs.Plan.{follows, accepts, pieceSize, countFrom, startsFrom, lengthsFrom, planOf}
 use Rattle.ranges.proofs.Sharing.{whole-blocks, hold-all, none-empty}

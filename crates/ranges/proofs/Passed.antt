@@ -1,9 +1,5 @@
 -- What is known where a range goes on to its work.
--- Assumes nothing.
-use mathlib.Core.Path.{_≡_}
-use mathlib.Core.Bool.{Bool}
-use Prim.Native.Nat.{ℕ, _+_, _≤_}
-use borrow.Author.Tests.{le-ltb}
+use Rattle.block.proofs.Base.{_+_, _≤_, ℕ, _≡_, Bool, le-ltb}
 use Rattle.cipher_mode.specs.declared.KeyAnswer.{KeyAnswer}
 use Rattle.cipher_mode.specs.declared.CipherMode.the-variants.{Ctr}
 use Rattle.cipher_mode.specs.declared.Direction.{Direction}

@@ -1,12 +1,6 @@
 -- How many of a plan's places are pieces, n over the size rounded up, and that the places past them hold 0.
--- Assumes nothing.
-use mathlib.Core.Path.{_≡_, refl, sym}
-use Prim.Native.Nat.{ℕ, zero, suc, _+_, _-_, _*_, _/_, _≤_, _<_}
-use native.Mathlib.Nat.{suc-mul, mul-le-mul-right, div-eq-of-lt-le}
-use native.Mathlib.Numerals.{add-one}
-use native.Mathlib.Omega.{arith}
-use lib.ListN.{getD}
-use borrow.Author.Tests.{le-ltb}
+use Rattle.block.proofs.Base.{_*_, _+_, _-_, _/_, _<_, _≤_, suc, zero, ℕ, _≡_, refl, sym, mul-le-mul-right, add-one, arith, le-ltb, getD}
+use native.Mathlib.Nat.{suc-mul, div-eq-of-lt-le}
 use Rattle.pieces.proofs.Cases.{by-order}
 use Rattle.ranges.specs.Plan.{pieceSize, countFrom, startsFrom, lengthsFrom, planOf}
 use Rattle.ranges.proofs.Sharing.{hold-all, none-empty}

@@ -1,6 +1,5 @@
 -- The blocks of a list of bytes are elements of the field, and with the list's length they tell it.
--- Assumes nothing.
-use Rattle.block.proofs.Base.{_≡_, refl, sym, ap, ap₂, _∙_, List, [], _∷_, _++_, ℕ, zero, suc, _-_, _*_, _≤_, arith, length, drop}
+use Rattle.block.proofs.Base.{_*_, _-_, _≤_, suc, zero, ℕ, _∙_, _≡_, ap, ap₂, refl, sym, List, [], _++_, _∷_, arith, drop, length}
 use Rattle.block.proofs.Base.{length-drop, take-append-drop}
 use Rattle.block.specs.Below.{AreBytes}
 use Rattle.block.proofs.Entries.{below-drop}

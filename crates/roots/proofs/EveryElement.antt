@@ -1,7 +1,6 @@
 -- What every element of the field has is had by more than n elements, for each n below 2^128: the numbers up to n are that many.
--- Assumes nothing.
-use Rattle.block.proofs.Base.{_≡_, refl, ap, ⊎-elim, List, [], _∷_, List·Mem, List·Nodup, not-mem-nil, mem-of-ne-of-mem, Pairwise·nil}
-use Rattle.block.proofs.Base.{Pairwise·cons, ℕ, zero, suc, _-_, _^_, _<_, _≤_, eq-zero-or-pos, lt-of-lt-of-le, arith, length}
+use Rattle.block.proofs.Base.{_-_, _<_, _^_, _≤_, suc, zero, ℕ, _≡_, ap, refl, ⊎-elim, List, List·Mem, List·Nodup, Pairwise·cons}
+use Rattle.block.proofs.Base.{Pairwise·nil, [], _∷_, mem-of-ne-of-mem, not-mem-nil, eq-zero-or-pos, lt-of-lt-of-le, arith, length}
 use Rattle.roots.specs.AtMost.{Having, AtMost}
 
 numbersTo : ℕ → List ℕ

@@ -1,7 +1,6 @@
 -- Two different pairs of label and ciphertext have one hash under no more H than the longer has blocks: with blocks of zeros in
 -- front of the shorter they are two lists of one length that differ, and their hashes are what they were.
--- Assumes nothing.
-use Rattle.block.proofs.Base.{_≡_, sym, _∙_, _≢_, ℕ, _-_, _≤_, max, le-max-left, le-max-right, length}
+use Rattle.block.proofs.Base.{_-_, _≤_, max, ℕ, _∙_, _≡_, sym, _≢_, le-max-left, le-max-right, length}
 use Rattle.ghash.specs.Ghash.{ghash}
 use Rattle.ghash.proofs.ZeroKey.{ghash-zero-key}
 use Rattle.roots.specs.AtMost.{AtMost}

@@ -1,8 +1,7 @@
 -- A polynomial over the field that is not 0 has fewer roots than coefficients: each root other than r is one of the quotient by
 -- x + r, which has one coefficient less and is not 0 either.
--- Assumes nothing.
-use Rattle.block.proofs.Base.{_≡_, sym, ap, ap₂, _∙_, _≢_, ⊎-elim, List, [], _∷_, mem-cons-self, mem-cons-of-mem, rel-of-pairwise-cons}
-use Rattle.block.proofs.Base.{Pairwise·of-cons, ℕ, _<_, suc-le-suc, zero-lt-suc, lit<, length, xor-self, xor-lt}
+use Rattle.block.proofs.Base.{_<_, suc-le-suc, ℕ, _∙_, _≡_, ap, ap₂, sym, _≢_, ⊎-elim, List, Pairwise·of-cons, [], _∷_, mem-cons-of-mem}
+use Rattle.block.proofs.Base.{mem-cons-self, rel-of-pairwise-cons, zero-lt-suc, xor-lt, xor-self, lit<, length}
 use Rattle.block.specs.Xor.{_⊕_}
 use Rattle.block.proofs.Xor.{xor-same}
 use Rattle.field.specs.Field.{Element, gmul}

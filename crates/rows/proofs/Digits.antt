@@ -1,6 +1,5 @@
 -- A stage changes one binary digit of a row's number with that of a bit's number.
--- Assumes nothing.
-use Rattle.block.proofs.Base.{_≡_, sym, ap, _∙_, ⊎-elim, List, ℕ, _+_, _-_, _*_, _/_, _%_, _<_, arith, getD}
+use Rattle.block.proofs.Base.{_%_, _*_, _+_, _-_, _/_, _<_, ℕ, _∙_, _≡_, ap, sym, ⊎-elim, List, arith, getD}
 use Rattle.lanes.specs.Bits.{bit}
 use Rattle.lanes.proofs.Swaps.{digit, MaskOf, dig, zero-or-one, one-le, first-0, first-1, second-0, second-1}
 use Rattle.rows.specs.Transposed.{Pair, Staged, at}

@@ -1,7 +1,6 @@
 -- Six stages, from 32 down to 1, transpose.
--- Assumes nothing.
-use Rattle.block.proofs.Base.{_≡_, refl, sym, ap₂, _∙_, ⊎-elim, List, [], _∷_, ℕ, _+_, _-_, _*_, _/_, _%_, _^_, _<_, _≤_, arith, T, eqb}
-use Rattle.block.proofs.Base.{eqb→eq, lit<, getD, replicate, List·getD-eq-default}
+use Rattle.block.proofs.Base.{_%_, _*_, _+_, _-_, _/_, _<_, _^_, _≤_, ℕ, _∙_, _≡_, ap₂, refl, sym, ⊎-elim, List, [], _∷_, arith, T, eqb}
+use Rattle.block.proofs.Base.{eqb→eq, lit<, List·getD-eq-default, getD, replicate}
 use Rattle.block.proofs.Table.{rule-at, passes}
 use Rattle.lanes.specs.Bits.{bit}
 use Rattle.lanes.proofs.Bits.{lt-or-le}

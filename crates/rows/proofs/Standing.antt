@@ -1,6 +1,5 @@
 -- Blocks that stand in rows: none, one more, and the bytes of one.
--- Assumes nothing.
-use Rattle.block.proofs.Base.{_≡_, _∙_, List, ℕ, _+_, _<_, arith, length, getD, set, length-set, getD-set-same, getD-set-other}
+use Rattle.block.proofs.Base.{_+_, _<_, ℕ, _∙_, _≡_, List, arith, getD, length, length-set, set, getD-set-other, getD-set-same}
 use Rattle.lanes.proofs.Filling.{one-more}
 use Rattle.rows.specs.Rows.{place, Row, Rows}
 

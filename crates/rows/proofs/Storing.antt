@@ -1,8 +1,7 @@
 -- The bytes of blocks in rows, stored one after the other.
--- Assumes nothing.
-use Rattle.block.proofs.Base.{_≡_, refl, sym, ap, ap₂, _∙_, List, [], _∷_, _++_, append-assoc, ℕ, suc, _+_, _*_, _/_, _%_, _^_, _<_, _≤_}
-use Rattle.block.proofs.Base.{add-zero, div-one, arith, lit<, length, getD, set, take, drop, length-append, length-drop, sets, sets-eq}
-use Rattle.block.proofs.Base.{take-at, drop-at, drop-drop, length-take-le}
+use Rattle.block.proofs.Base.{_%_, _*_, _+_, _/_, _<_, _^_, _≤_, suc, ℕ, _∙_, _≡_, ap, ap₂, refl, sym, List, [], _++_, _∷_, append-assoc}
+use Rattle.block.proofs.Base.{add-zero, div-one, arith, lit<, drop, getD, length, length-append, length-drop, set, take, drop-at, drop-drop}
+use Rattle.block.proofs.Base.{length-take-le, sets, sets-eq, take-at}
 use Rattle.block.specs.Below.{AreBytes}
 use Rattle.block.specs.BigEndian.{bytesOf}
 use Rattle.block.specs.Blocks.{blockAt, cat}

@@ -1,7 +1,6 @@
 -- The turns of the two loops of a stage.
--- Assumes nothing.
-use Rattle.block.proofs.Base.{_≡_, ap₂, _∙_, List, ℕ, suc, _+_, _*_, _^_, _<_, _≤_, mul-le-mul-left, mul-suc, add-one, arith, getD}
-use Rattle.block.proofs.Base.{set, length-set, getD-set-same, getD-set-other}
+use Rattle.block.proofs.Base.{_*_, _+_, _<_, _^_, _≤_, suc, ℕ, _∙_, _≡_, ap₂, List, mul-le-mul-left, mul-suc, add-one, arith, getD}
+use Rattle.block.proofs.Base.{length-set, set, getD-set-other, getD-set-same}
 use Rattle.lanes.proofs.Filling.{one-more}
 use Rattle.lanes.specs.Swaps.{firstSwapped, secondSwapped}
 use Rattle.rows.specs.Transposed.{Pair, Swapped, Staged}

@@ -1,14 +1,8 @@
 -- What stands after a put that is done, and after a collection: a shelf in order, the new record under its job, and every other job's
--- current record as it was. Assumes nothing.
-use mathlib.Core.Path.{_≡_, refl, sym, ap, _∙_}
-use mathlib.Core.Bool.{false}
-use mathlib.Core.List.{List, [], _∷_, _++_, append-nil}
-use Prim.Native.Nat.{ℕ, _≤_, _<_, _^_}
-use native.Mathlib.Omega.{arith}
-use lib.Dec.{ltb, eqb, lit<}
-use lib.ListN.{length, take, length-append, length-drop}
-use lib.Seq.{take-append-seam, drop-append-seam}
-use borrow.Author.Tests.{ltb-true, ltb-false, lt-ltb, eqb-true, eqb-false}
+-- current record as it was.
+use Rattle.block.proofs.Base.{_<_, _^_, _≤_, ℕ, _∙_, _≡_, ap, refl, sym, false, List, [], _++_, _∷_, append-nil, arith, eqb-false, eqb-true}
+use Rattle.block.proofs.Base.{lt-ltb, ltb-false, ltb-true, eqb, lit<, ltb, length, length-append, length-drop, take, take-append-seam}
+use lib.Seq.{drop-append-seam}
 use Rattle.block.specs.Below.{AreBytes}
 use Rattle.block.specs.BigEndian.{bytesOf}
 use Rattle.block.proofs.Convert.{bytesOf-bytes}

@@ -1,12 +1,6 @@
--- The current records of a job, after each change to a list of records. No job has two exactly where each has at most one. Assumes nothing.
-use mathlib.Core.Path.{_≡_, refl, sym, _∙_}
-use mathlib.Core.Bool.{Bool, true, false, _&&_}
-use mathlib.Core.List.{List, [], _∷_, append-nil}
-use Prim.Native.Nat.{ℕ, _≤_}
-use native.Mathlib.Omega.{arith}
-use lib.Dec.{leb}
-use lib.ListN.{length, length-append}
-use borrow.Author.Tests.{eqb-true, eq-eqb, ne-eqb}
+-- The current records of a job, after each change to a list of records. No job has two exactly where each has at most one.
+use Rattle.block.proofs.Base.{_≤_, ℕ, _∙_, _≡_, refl, sym, Bool, _&&_, false, true, List, [], _∷_, append-nil, arith, eq-eqb, eqb-true}
+use Rattle.block.proofs.Base.{ne-eqb, leb, length, length-append}
 use Rattle.block.proofs.Same.{and-left, and-right}
 use Rattle.shelf.specs.Records.{Record, stored}
 use Rattle.shelf.specs.Shelf.{isCurrentOf, those, currentOf, collected, hasCurrent, twoCurrent, supersede, withNew, fitted}

@@ -1,13 +1,7 @@
 -- Looking up a job gives its whole current record, byte for byte, as a part of the buffer; of a job that has none, nothing.
--- Assumes nothing.
-use mathlib.Core.Bool.{false}
-use mathlib.Core.Path.{_≡_, refl, sym, ap, _∙_}
-use mathlib.Core.List.{List, [], _∷_, _++_, append-nil}
-use Prim.Native.Nat.{ℕ, _+_, _≤_}
-use native.Mathlib.Omega.{arith}
-use lib.ListN.{length, take, drop, length-append, length-drop, take-append-drop}
-use lib.Seq.{take-append-le, take-append-seam, drop-append-le, drop-append-add}
-use borrow.Author.Tests.{le-ltb}
+use Rattle.block.proofs.Base.{_+_, _≤_, ℕ, _∙_, _≡_, ap, refl, sym, false, List, [], _++_, _∷_, append-nil, arith, le-ltb, drop, length}
+use Rattle.block.proofs.Base.{length-append, length-drop, take, take-append-drop, drop-append-add, drop-append-le, take-append-le}
+use Rattle.block.proofs.Base.{take-append-seam}
 use Rattle.block.specs.Below.{AreBytes}
 use Rattle.shelf.specs.Records.{Record, written, stored, records}
 use Rattle.shelf.specs.Shelf.{isCurrentOf, those, currentOf, hasCurrent, twoCurrent, placeOf, sizeOf}

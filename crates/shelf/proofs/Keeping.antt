@@ -1,12 +1,8 @@
--- A collection, record by record: one that stays is moved down behind those that stayed, and what is to come is as it was. Assumes nothing.
-use mathlib.Core.Path.{_≡_, refl, sym, ap, ap₂, _∙_}
-use mathlib.Core.Bool.{Bool, true, false, not, _&&_}
-use mathlib.Core.List.{List, [], _∷_, _++_, append-assoc, append-nil}
-use Prim.Native.Nat.{ℕ, zero, suc, _+_, _-_, _≤_}
-use native.Mathlib.Omega.{arith}
-use lib.Dec.{eqb}
-use lib.ListN.{length, take, drop, length-drop, take-append-drop}
-use lib.Seq.{paste, take-paste, drop-paste, length-paste, drop-drop, take-take, take-nil, length-take-le}
+-- A collection, record by record: one that stays is moved down behind those that stayed, and what is to come is as it was.
+use Rattle.block.proofs.Base.{_+_, _-_, _≤_, suc, zero, ℕ, _∙_, _≡_, ap, ap₂, refl, sym, Bool, _&&_, false, not, true, List, [], _++_, _∷_}
+use Rattle.block.proofs.Base.{append-assoc, append-nil, arith, eqb, drop, length, length-drop, take, take-append-drop, drop-drop}
+use Rattle.block.proofs.Base.{length-take-le, take-nil}
+use lib.Seq.{paste, take-paste, drop-paste, length-paste, take-take}
 use Rattle.block.specs.Below.{AreBytes}
 use Rattle.block.proofs.Entries.{below-take, below-drop}
 use Rattle.walk.specs.Walk.{over}

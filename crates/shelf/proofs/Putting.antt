@@ -1,15 +1,10 @@
 -- What a put changes: marking the current record of a job changes one byte of the buffer; where a new record goes, and what it takes to find
--- room for it. Assumes nothing.
-use mathlib.Core.Path.{_≡_, refl, sym, ap, _∙_}
-use mathlib.Core.Bool.{true, false, Bool, cond, and-true}
-use mathlib.Core.List.{List, [], _∷_, _++_, append-nil, append-assoc}
-use Prim.Native.Nat.{ℕ, _+_, _≤_, _<_}
-use native.Mathlib.Nat.{zero-add, suc-add}
-use native.Mathlib.Omega.{arith}
-use lib.ListN.{length, take, drop, set, length-append, take-append-drop}
-use lib.Seq.{set-append-left, length-take-le, take-length}
-use lib.Dec.{ltb, eqb}
-use borrow.Author.Tests.{ltb-true, ltb-false, le-leb, lt-leb}
+-- room for it.
+use Rattle.block.proofs.Base.{_+_, _<_, _≤_, ℕ, _∙_, _≡_, ap, refl, sym, Bool, cond, false, true, List, [], _++_, _∷_, append-assoc}
+use Rattle.block.proofs.Base.{append-nil, suc-add, zero-add, arith, le-leb, lt-leb, ltb-false, ltb-true, eqb, ltb, drop, length}
+use Rattle.block.proofs.Base.{length-append, set, take, take-append-drop, length-take-le, take-length}
+use mathlib.Core.Bool.{and-true}
+use lib.Seq.{set-append-left}
 use Rattle.block.specs.Below.{AreBytes}
 use Rattle.block.proofs.Entries.{below-take}
 use Rattle.block.specs.BigEndian.{bytesOf}

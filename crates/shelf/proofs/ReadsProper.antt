@@ -1,15 +1,7 @@
 -- What is read of bytes is proper, and so is what putting and collecting make of it; reading and writing are each other's inverse.
--- Assumes nothing.
-use mathlib.Core.Path.{_≡_, refl, sym, ap, ap₂, _∙_}
-use mathlib.Core.Bool.{Bool, true}
-use mathlib.Core.List.{List, [], _∷_, _++_, append-assoc, append-nil}
-use Prim.Native.Nat.{ℕ, _+_, _<_, _^_, zero, suc, _≤_}
-use native.Mathlib.Nat.{mod-eq-of-lt}
-use native.Mathlib.Omega.{arith}
-use lib.Dec.{leb, lit<, eqb}
-use lib.ListN.{length, getD, drop, take, length-append}
-use lib.Seq.{take-at, drop-at, take-add, take-length, length-take-le}
-use borrow.Author.Tests.{eqb-true}
+use Rattle.block.proofs.Base.{_+_, _<_, _^_, _≤_, suc, zero, ℕ, _∙_, _≡_, ap, ap₂, refl, sym, Bool, true, List, [], _++_, _∷_, append-assoc}
+use Rattle.block.proofs.Base.{append-nil, mod-eq-of-lt, arith, eqb-true, eqb, leb, lit<, drop, getD, length, length-append, take, drop-at}
+use Rattle.block.proofs.Base.{length-take-le, take-add, take-at, take-length}
 use Rattle.block.specs.Below.{AreBytes}
 use Rattle.block.specs.Words.{wordAt}
 use Rattle.block.proofs.Convert.{numberOf-lt, numberOf-bytesOf, bytesOf-numberOf}

@@ -1,14 +1,9 @@
 -- Where a shelf breaks off: all is in order where no job has two current records, and otherwise less than all; so a shelf is bad exactly where
--- it is not in order up to its used count. Assumes nothing.
-use mathlib.Core.Path.{_≡_, refl, sym, ap, ap₂, _∙_}
-use mathlib.Core.Bool.{true, false, _&&_, cond, not, _||_, or-true, or-false}
-use mathlib.Core.List.{List, [], _∷_, _++_, append-assoc, append-nil}
-use Prim.Native.Nat.{ℕ, _+_, _≤_, _<_}
-use native.Mathlib.Omega.{arith}
-use lib.ListN.{length, take, drop, length-append, length-drop}
-use lib.Seq.{drop-drop, take-add, length-take-le}
-use lib.Dec.{eqb, ltb}
-use borrow.Author.Tests.{eqb-true, le-ltb, ltb-false, eq-eqb, ne-eqb, not-false}
+-- it is not in order up to its used count.
+use Rattle.block.proofs.Base.{_+_, _<_, _≤_, ℕ, _∙_, _≡_, ap, ap₂, refl, sym, _&&_, _||_, cond, false, not, true, List, [], _++_, _∷_}
+use Rattle.block.proofs.Base.{append-assoc, append-nil, arith, eq-eqb, eqb-true, le-ltb, ltb-false, ne-eqb, not-false, eqb, ltb, drop}
+use Rattle.block.proofs.Base.{length, length-append, length-drop, take, drop-drop, length-take-le, take-add}
+use mathlib.Core.Bool.{or-true, or-false}
 use Rattle.block.specs.Below.{AreBytes}
 use Rattle.block.proofs.Entries.{below-take, below-drop}
 use Rattle.block.proofs.Same.{and-left, and-right}

@@ -1,12 +1,6 @@
--- What the definitions over a shelf's records say at one record, and after the last. Assumes nothing.
-use mathlib.Core.Path.{_≡_, refl, sym, ap, _∙_}
-use mathlib.Core.Bool.{Bool, true, false, _&&_, _||_, cond}
-use mathlib.Core.List.{List, [], _∷_, append-nil}
-use Prim.Native.Nat.{ℕ, _+_}
-use native.Mathlib.Omega.{arith}
-use lib.Dec.{leb, eqb}
-use lib.ListN.{length, length-append}
-use borrow.Author.Tests.{eqb-true}
+-- What the definitions over a shelf's records say at one record, and after the last.
+use Rattle.block.proofs.Base.{_+_, ℕ, _∙_, _≡_, ap, refl, sym, Bool, _&&_, _||_, cond, false, true, List, [], _∷_, append-nil, arith}
+use Rattle.block.proofs.Base.{eqb-true, eqb, leb, length, length-append}
 use Rattle.block.proofs.Same.{and-left, and-right}
 use Rattle.walk.proofs.Loop.{tailed}
 use Rattle.shelf.specs.declared.records.Head.{Head}

@@ -1,12 +1,6 @@
 -- Blocks put into four rows, and stored one after the other.
--- Assumes nothing.
-use mathlib.Core.Path.{_≡_, refl, sym, ap, ap₂, _∙_}
-use mathlib.Core.Logic.{⊎-elim}
-use mathlib.Core.List.{List, _∷_, _++_, append-assoc}
-use Prim.Native.Nat.{ℕ, _+_, _-_, _*_, _<_, _≤_}
-use native.Mathlib.Omega.{arith}
-use lib.ListN.{getD, length, set, take, drop, length-set}
-use lib.Seq.{getD-set-same, getD-set-other, take-at, drop-at, drop-drop}
+use Rattle.block.proofs.Base.{_*_, _+_, _-_, _<_, _≤_, ℕ, _∙_, _≡_, ap, ap₂, refl, sym, ⊎-elim, List, _++_, _∷_, append-assoc, arith, drop}
+use Rattle.block.proofs.Base.{getD, length, length-set, set, take, drop-at, drop-drop, getD-set-other, getD-set-same, take-at}
 use Rattle.block.specs.Blocks.{cat}
 use Rattle.block.proofs.Cat.{cat-next, length-cat}
 use Rattle.block.proofs.WordsBack.{four-entries}

@@ -1,11 +1,6 @@
 -- A walk that goes on over what is left ends as the whole walk does; and where the state is the block before, all states are known ahead.
--- Assumes nothing.
-use mathlib.Core.Path.{_≡_, refl, sym, ap, ap₂, _∙_}
-use Prim.Native.Nat.{ℕ, zero, suc, _+_, _*_}
-use mathlib.Core.List.{List, _++_}
-use native.Mathlib.Omega.{arith}
-use lib.ListN.{length, take, drop}
-use lib.Seq.{drop-drop, take-at, drop-at}
+use Rattle.block.proofs.Base.{_*_, _+_, suc, zero, ℕ, _∙_, _≡_, ap, ap₂, refl, sym, List, _++_, arith, drop, length, take, drop-at}
+use Rattle.block.proofs.Base.{drop-drop, take-at}
 use Rattle.block.specs.Blocks.{blockAt}
 use Rattle.walk.specs.Walk.{Mode, chain, stepped, endState, over}
 use Rattle.walk.specs.Reached.{Reached}

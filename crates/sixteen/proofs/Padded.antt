@@ -1,12 +1,6 @@
 -- Blocks that stand one after the other: each by its place, and xored with pads.
--- Assumes nothing.
-use mathlib.Core.Path.{_≡_, refl, sym, ap, _∙_}
-use mathlib.Core.Logic.{⊎-elim}
-use mathlib.Core.List.{List, [], _∷_, _++_, append-assoc}
-use Prim.Native.Nat.{ℕ, zero, suc, _+_, _*_, _<_, _≤_}
-use native.Mathlib.Omega.{arith}
-use lib.ListN.{length, take, drop}
-use lib.Seq.{take-at, drop-at, take-add, length-take-le}
+use Rattle.block.proofs.Base.{_*_, _+_, _<_, _≤_, suc, zero, ℕ, _∙_, _≡_, ap, refl, sym, ⊎-elim, List, [], _++_, _∷_, append-assoc, arith}
+use Rattle.block.proofs.Base.{drop, length, take, drop-at, length-take-le, take-add, take-at}
 use Rattle.block.specs.Blocks.{blockAt, cat}
 use Rattle.block.specs.Xor.{_⊕_, xors}
 use Rattle.block.proofs.Cat.{length-cat}

@@ -1,8 +1,7 @@
 -- The S-boxes of a byte, column by column.
--- Assumes nothing.
-use Rattle.block.proofs.Base.{_≡_, refl, sym, ap, ap₂, _∙_, _⊎_, inl, inr, ⊎-elim, List, [], _∷_, ℕ, zero, suc, _+_, _-_, _*_, _/_, _%_}
-use Rattle.block.proofs.Base.{_^_, _<_, _≤_, add-zero, mod-lt, mod-eq-of-lt, arith, lit<, getD, length, set, length-set, getD-set-same}
-use Rattle.block.proofs.Base.{getD-set-other}
+use Rattle.block.proofs.Base.{_%_, _*_, _+_, _-_, _/_, _<_, _^_, _≤_, suc, zero, ℕ, _∙_, _≡_, ap, ap₂, refl, sym, _⊎_, inl, inr, ⊎-elim}
+use Rattle.block.proofs.Base.{List, [], _∷_, add-zero, mod-eq-of-lt, mod-lt, arith, lit<, getD, length, length-set, set, getD-set-other}
+use Rattle.block.proofs.Base.{getD-set-same}
 use Rattle.block.specs.Xor.{_⊕_}
 use Rattle.lanes.specs.Bits.{bit, pack, byteLane, Masks}
 use Rattle.lanes.proofs.Bits.{bit-small, bit-xor, bit-mod, bit-shr, bit-pack, pack-is, lt-or-le}

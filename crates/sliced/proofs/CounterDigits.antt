@@ -1,7 +1,6 @@
 -- The words of a counter with carries between them are the words of its sum.
--- Assumes nothing.
-use Rattle.block.proofs.Base.{_≡_, refl, sym, ap, ap₂, _∙_, Bool, true, false, List, [], _∷_, ℕ, _+_, _*_, _/_, _%_, _^_, _<_}
-use Rattle.block.proofs.Base.{arith, mod-mul, digits-div, digits-mod, lit<, getD}
+use Rattle.block.proofs.Base.{_%_, _*_, _+_, _/_, _<_, _^_, ℕ, _∙_, _≡_, ap, ap₂, refl, sym, Bool, false, true, List, [], _∷_, arith}
+use Rattle.block.proofs.Base.{digits-div, digits-mod, mod-mul, lit<, getD}
 use Rattle.block.specs.Below.{AreWords}
 use Rattle.block.specs.BigEndian.{numberOf, bytesOf}
 use Rattle.block.specs.Words.{words, unwords}

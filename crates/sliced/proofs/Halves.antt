@@ -1,7 +1,6 @@
 -- Transposed halves of blocks are lanes, and lanes transposed are halves of blocks.
--- Assumes nothing.
-use Rattle.block.proofs.Base.{_≡_, refl, sym, ap, ap₂, subst, _∙_, List, _∷_, ℕ, _+_, _*_, _/_, _%_, _^_, _<_, _≤_, mod-lt, arith}
-use Rattle.block.proofs.Base.{lit<, pow-pos, length, getD, set, length-set, getD-set-same, getD-set-other}
+use Rattle.block.proofs.Base.{_%_, _*_, _+_, _/_, _<_, _^_, _≤_, ℕ, _∙_, _≡_, ap, ap₂, refl, subst, sym, List, _∷_, mod-lt, arith, lit<}
+use Rattle.block.proofs.Base.{getD, length, length-set, set, pow-pos, getD-set-other, getD-set-same}
 use Rattle.block.proofs.Entries.{below-at}
 use Rattle.block.proofs.WordsBack.{four-entries}
 use Rattle.lanes.specs.Bits.{bit}

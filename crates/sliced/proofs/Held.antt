@@ -1,6 +1,5 @@
 -- What the words of a plane hold are its lanes.
--- Assumes nothing.
-use Rattle.block.proofs.Base.{_≡_, sym, ap₂, _∙_, List, ℕ, _+_, _*_, _/_, _%_, _^_, _<_, _≤_, arith, length, getD, set}
+use Rattle.block.proofs.Base.{_%_, _*_, _+_, _/_, _<_, _^_, _≤_, ℕ, _∙_, _≡_, ap₂, sym, List, arith, getD, length, set}
 use Rattle.lanes.specs.Bits.{bit}
 use Rattle.lanes.proofs.Bits.{bit-small, pack-lt, bit-pack, pack-is}
 use Rattle.lanes.proofs.Filling.{word-more}

@@ -1,7 +1,6 @@
 -- The plane of lane numbers: six rows that are the same in every column, three that are all ones or zero, and zeros.
--- Assumes nothing.
-use Rattle.block.proofs.Base.{_≡_, sym, ap, ap₂, _∙_, ⊎-elim, List, [], _∷_, ℕ, _+_, _-_, _*_, _/_, _%_, _^_, _<_, _≤_, arith, eqb}
-use Rattle.block.proofs.Base.{eqb→eq, length, getD, set, length-set, replicate, getD-set-other}
+use Rattle.block.proofs.Base.{_%_, _*_, _+_, _-_, _/_, _<_, _^_, _≤_, ℕ, _∙_, _≡_, ap, ap₂, sym, ⊎-elim, List, [], _∷_, arith, eqb, eqb→eq}
+use Rattle.block.proofs.Base.{getD, length, length-set, replicate, set, getD-set-other}
 use Rattle.block.proofs.Table.{rule-at}
 use Rattle.lanes.specs.Bits.{bit}
 use Rattle.lanes.proofs.Bits.{bit-zero, bit-low, bit-high, bit-past, lt-or-le}

@@ -1,7 +1,6 @@
 -- L in every lane; a round, and four.
--- Assumes nothing.
-use Rattle.block.proofs.Base.{_≡_, refl, sym, ap, ap₂, _∙_, List, [], _∷_, ℕ, _+_, _*_, _/_, _%_, _^_, _<_, _≤_, arith, getD}
-use Rattle.block.proofs.Base.{length, set, getD-set-other, differ, xor-lt}
+use Rattle.block.proofs.Base.{_%_, _*_, _+_, _/_, _<_, _^_, _≤_, ℕ, _∙_, _≡_, ap, ap₂, refl, sym, List, [], _∷_, arith, differ, xor-lt}
+use Rattle.block.proofs.Base.{getD, length, set, getD-set-other}
 use Rattle.block.specs.Xor.{_⊕_}
 use Rattle.lanes.specs.Bits.{bit}
 use Rattle.lanes.proofs.Bits.{bit-xor}

@@ -1,8 +1,7 @@
 -- A word added in every lane, row by row with carries: after i rows the sums of the low i bits and the carries are what was to be added.
--- Assumes nothing.
-use Rattle.block.proofs.Base.{_≡_, refl, sym, ap, ap₂, _∙_, List, [], _∷_, ℕ, zero, suc, _+_, _*_, _/_, _%_, _^_, _<_, _≤_}
-use Rattle.block.proofs.Base.{min, add-zero, mul-assoc, mul-comm, pow-suc, add-one, arith, length, getD, set, length-set}
-use Rattle.block.proofs.Base.{getD-set-same, getD-set-other, differ, bitAnd}
+use Rattle.block.proofs.Base.{_%_, _*_, _+_, _/_, _<_, _^_, _≤_, min, suc, zero, ℕ, _∙_, _≡_, ap, ap₂, refl, sym, List, [], _∷_, add-zero}
+use Rattle.block.proofs.Base.{mul-assoc, mul-comm, pow-suc, add-one, arith, bitAnd, differ, getD, length, length-set, set, getD-set-other}
+use Rattle.block.proofs.Base.{getD-set-same}
 use Rattle.block.specs.Xor.{_⊕_}
 use Rattle.lanes.specs.Bits.{bit, pack}
 use Rattle.block.proofs.Xor.{two-cases}

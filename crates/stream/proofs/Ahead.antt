@@ -1,14 +1,7 @@
 -- States that are known before a block is ciphered: those of Cfb decryption are the blocks before, those of Ctr and Gctr counters. The
 -- ciphers of all of them, xored with the message, are what the walk gives.
--- Assumes nothing.
-use mathlib.Core.Path.{_≡_, refl, sym, ap, subst, _∙_}
-use mathlib.Core.Logic.{_⊎_, inl, inr}
-use mathlib.Core.Bool.{Bool, true, false}
-use Prim.Native.Nat.{ℕ, _+_, _*_, _%_, _^_, _<_, _≤_}
-use mathlib.Core.List.{List, [], _∷_, _++_, append-assoc}
-use native.Mathlib.Omega.{arith}
-use lib.ListN.{length, take, drop, length-append}
-use lib.Seq.{length-take-le}
+use Rattle.block.proofs.Base.{_%_, _*_, _+_, _<_, _^_, _≤_, ℕ, _∙_, _≡_, ap, refl, subst, sym, _⊎_, inl, inr, Bool, false, true, List, []}
+use Rattle.block.proofs.Base.{_++_, _∷_, append-assoc, arith, drop, length, length-append, take, length-take-le}
 use Rattle.block.specs.Below.{AreBytes}
 use Rattle.block.specs.BigEndian.{numberOf, bytesOf}
 use Rattle.block.specs.Blocks.{blockAt, cat}

@@ -1,12 +1,6 @@
 -- The states of a walk whose states are counters: n steps are a jump of n blocks.
--- Assumes nothing.
-use mathlib.Core.Path.{_≡_, sym, _∙_}
-use mathlib.Core.Bool.{Bool, true, false}
-use Prim.Native.Nat.{ℕ, zero, suc, _+_, _%_, _^_}
-use mathlib.Core.List.{List}
-use native.Mathlib.Omega.{arith}
-use lib.ListN.{length, take, drop, length-append}
-use lib.Seq.{length-take-le}
+use Rattle.block.proofs.Base.{_%_, _+_, _^_, suc, zero, ℕ, _∙_, _≡_, sym, Bool, false, true, List, arith, drop, length, length-append, take}
+use Rattle.block.proofs.Base.{length-take-le}
 use Rattle.block.specs.Below.{AreBytes}
 use Rattle.block.specs.BigEndian.{numberOf, bytesOf}
 use Rattle.block.specs.Blocks.{blockAt, cat}

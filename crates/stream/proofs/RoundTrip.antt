@@ -1,10 +1,5 @@
 -- The five kinds: as many bytes come out as go in, and the opener takes back what a kind did.
--- Assumes nothing.
-use mathlib.Core.Path.{_≡_, refl, _∙_}
-use Prim.Native.Nat.{ℕ, _≤_}
-use mathlib.Core.List.{List}
-use native.Mathlib.Omega.{arith}
-use lib.ListN.{length}
+use Rattle.block.proofs.Base.{_≤_, ℕ, _∙_, _≡_, refl, List, arith, length}
 use Rattle.block.specs.Xor.{xors}
 use Rattle.block.proofs.Xors.{length-xors, xors-cancel}
 use Rattle.cipher.specs.Sm4.{encryptBlock}

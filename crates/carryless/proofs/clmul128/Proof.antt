@@ -1,5 +1,4 @@
 -- `carryless::clmul128` meets its contract: three products make up each of three (`join-64`), and those the product (`join-128`).
--- Assumes nothing.
 use Rattle.block.proofs.Base.{_∙_, needs, lit<}
 use Rattle.block.specs.Xor.{_⊕_}
 use Rattle.carryless.proofs.Joins.{join-64, join-128}

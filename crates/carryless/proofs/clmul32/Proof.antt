@@ -1,5 +1,4 @@
 -- `carryless::clmul32` meets its contract: the four sums have their bits at the four places that are kept of them (`by-quarters`).
--- Assumes nothing.
 use Rattle.block.proofs.Base.{needs}
 use Rattle.carryless.proofs.Words.{by-quarters}
 use Rattle.carryless.proofs.clmul32.Statement.{statement}

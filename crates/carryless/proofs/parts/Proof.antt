@@ -1,6 +1,5 @@
 -- `carryless::parts` meets its contract: the words are the parts as they are defined.
--- Assumes nothing.
-use Rattle.block.proofs.Base.{ap, List, _++_, ℕ, getD, needs}
+use Rattle.block.proofs.Base.{ℕ, ap, List, _++_, needs, getD}
 use Rattle.carryless.specs.Lent.{quarters}
 use Rattle.carryless.proofs.parts.Statement.{statement}
 use Rattle.carryless.proofs.parts.Tie as tie

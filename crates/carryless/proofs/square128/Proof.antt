@@ -1,5 +1,4 @@
 -- `carryless::square128` meets its contract: its words are the squares of the number's four words of 32 bits (`square-words`).
--- Assumes nothing.
 use Rattle.block.proofs.Base.{needs}
 use Rattle.carryless.proofs.Joins.{square-words}
 use Rattle.carryless.proofs.square128.Statement.{statement}

@@ -1,5 +1,4 @@
 -- `carryless::square32` meets its contract (`squares`). No product wraps (`parts-fit`).
--- Assumes nothing.
 use Rattle.carryless.proofs.Words.{parts-fit, squares}
 use Rattle.carryless.proofs.square32.Statement.{statement}
 use Rattle.carryless.proofs.square32.Tie as tie

@@ -1,7 +1,6 @@
 -- `carryless::word_products` meets its contract. The loop's invariant: the first k products are there. The parts of y's words are lent in their
 -- order (`lends-word`).
--- Assumes nothing.
-use Rattle.block.proofs.Base.{needs, _-_, _≤_, _≡_, arith, length, getD}
+use Rattle.block.proofs.Base.{_-_, _≤_, _≡_, arith, needs, getD, length}
 use Rattle.carryless.specs.Carryless.{clmul}
 use Rattle.carryless.specs.Lanes.{Each}
 use Rattle.lanes.proofs.Filling.{each-next}

@@ -1,14 +1,7 @@
 -- `cbc::all_padding` meets its contract. The loop's invariant: the differences that are added, and those that the bytes from i on will add,
 -- are those of the whole block.
--- Assumes nothing.
-use mathlib.Core.Path.{_≡_}
-use Prim.Native.Nat.{_+_, _*_, _-_, _≤_}
-use native.Mathlib.Omega.{arith}
-use mir.Val.{Fits}
-use mir.Syntax.{w8}
-use lib.ListN.{length, drop, getD}
+use Rattle.block.proofs.Base.{_*_, _+_, _-_, _≤_, _≡_, arith, needs, drop, getD, length, w8, Fits}
 use Rattle.cbc.proofs.AllPadding.{difference, differences, difference-le, difference-turn, none-left, padding-test}
-use borrow.Author.Needs.{needs}
 use Rattle.cbc.proofs.all_padding.Statement.{statement}
 use Rattle.cbc.proofs.all_padding.Tie as tie
 

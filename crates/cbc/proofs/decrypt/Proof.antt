@@ -1,16 +1,8 @@
 -- `cbc::decrypt` meets its contract. The last block decides (`unpad`), before a byte is written; then the front and what the padding leaves
 -- of the last block are put together (`open-done`). The round keys turned round twice are the round keys.
--- Assumes nothing.
-use mathlib.Core.Path.{_≡_, sym, _∙_}
-use mathlib.Core.List.{[], _∷_, reverse-reverse}
-use mathlib.Core.Logic.{⊎-elim}
-use Prim.Native.Nat.{_-_}
-use native.Mathlib.Nat.{sub-zero}
-use native.Mathlib.Omega.{arith}
+use Rattle.block.proofs.Base.{_-_, _∙_, _≡_, sym, ⊎-elim, [], _∷_, reverse-reverse, sub-zero, arith, needs, now, drop, length}
 use denote.Enum.Declared.{tagOf}
-use denote.Ref.{now}
 use types.Run.{OneOf}
-use lib.ListN.{length, drop}
 use Rattle.block.specs.Words.{unwords}
 use Rattle.block.proofs.WordsBack.{length-unwords}
 use Rattle.cbc.specs.Open.{headOf, cbcText}
@@ -19,7 +11,6 @@ use Rattle.cbc.specs.declared.Opened.the-variants.{Done, InvalidLastU8, 
 use Rattle.cbc.proofs.Opened.{the-type}
 use Rattle.cbc.proofs.Unpadded.{unpadded-le}
 use Rattle.cbc.proofs.Opens.{open-refused, open-done}
-use borrow.Author.Needs.{needs}
 use Rattle.cbc.proofs.decrypt.Statement.{statement}
 use Rattle.cbc.proofs.decrypt.Tie as tie
 

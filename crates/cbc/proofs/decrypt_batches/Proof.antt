@@ -1,13 +1,6 @@
 -- `cbc::decrypt_batches` meets its contract. The first block goes by itself (`fed-reached`), and a turn of the loop goes as many blocks on
 -- as the batch has (`fed-on`), each from the ciphertext block before it.
--- Assumes nothing.
-use mathlib.Core.Path.{_≡_, refl}
-use mathlib.Core.List.{List, _++_, reverse}
-use Prim.Native.Nat.{ℕ, _-_}
-use native.Mathlib.Omega.{arith}
-use denote.Ref.{now}
-use lib.ListN.{length, take, drop}
-use lib.Seq.{take-at}
+use Rattle.block.proofs.Base.{_-_, ℕ, _≡_, refl, List, _++_, reverse, arith, needs, now, drop, length, take, take-at}
 use Rattle.block.specs.Blocks.{blockAt}
 use Rattle.block.specs.Words.{unwords}
 use Rattle.block.proofs.WordsBack.{length-unwords}
@@ -18,7 +11,6 @@ use Rattle.walk.proofs.Loop.{tailed}
 use Rattle.cbc.specs.Cbc.{cbcDecrypt}
 use Rattle.cbc.proofs.Batches.{decrypt-fed, decrypted}
 use Rattle.sixteen.proofs.Before.{block-before}
-use borrow.Author.Needs.{needs}
 use Rattle.cbc.proofs.decrypt_batches.Statement.{statement}
 use Rattle.cbc.proofs.decrypt_batches.Tie as tie
 

@@ -1,13 +1,8 @@
 -- `cbc::decrypt_blocks` meets its contract: what goes on from where the batches have come to ends the walk (`reached-end`, `reached-over`).
--- Assumes nothing.
-use mathlib.Core.Path.{_∙_}
-use mathlib.Core.List.{reverse}
-use native.Mathlib.Omega.{arith}
-use denote.Ref.{now}
+use Rattle.block.proofs.Base.{_∙_, reverse, arith, needs, now}
 use Rattle.block.specs.Words.{unwords}
 use Rattle.sixteen.proofs.Onward.{reached-end, reached-over}
 use Rattle.cbc.specs.Cbc.{cbcDecrypt}
-use borrow.Author.Needs.{needs}
 use Rattle.cbc.proofs.decrypt_blocks.Statement.{statement}
 use Rattle.cbc.proofs.decrypt_blocks.Tie as tie
 

@@ -1,13 +1,8 @@
 -- `cbc::decrypt_few` meets its contract: the ciphers of the blocks, each xored with the block before it (`few-decrypted`).
--- Assumes nothing.
-use Prim.Native.Nat.{_*_}
-use native.Mathlib.Nat.{sub-zero}
-use native.Mathlib.Omega.{arith}
-use denote.Ref.{now}
+use Rattle.block.proofs.Base.{_*_, sub-zero, arith, needs, now}
 use Rattle.block.specs.Words.{unwords}
 use Rattle.block.proofs.WordsBack.{length-unwords}
 use Rattle.cbc.proofs.Batches.{few-decrypted}
-use borrow.Author.Needs.{needs}
 use Rattle.cbc.proofs.decrypt_few.Statement.{statement}
 use Rattle.cbc.proofs.decrypt_few.Tie as tie
 

@@ -1,12 +1,6 @@
 -- `cbc::decrypt_one_by_one` meets its contract. A turn of the loop goes one block on (`reached-next`); at the end no full block is left,
 -- and a rest gives nothing.
--- Assumes nothing.
-use mathlib.Core.Path.{refl, _∙_}
-use mathlib.Core.List.{reverse}
-use Prim.Native.Nat.{_-_}
-use native.Mathlib.Omega.{arith}
-use denote.Ref.{now}
-use lib.ListN.{length, take}
+use Rattle.block.proofs.Base.{_-_, _∙_, refl, reverse, arith, needs, now, length, take}
 use Rattle.block.specs.Words.{unwords}
 use Rattle.block.proofs.WordsBack.{length-unwords}
 use Rattle.walk.specs.Reached.{Reached}
@@ -14,7 +8,6 @@ use Rattle.walk.proofs.Batch.{reached-first, reached-next}
 use Rattle.walk.proofs.Loop.{tailed, last-state, nothing-left}
 use Rattle.cbc.specs.Cbc.{cbcDecrypt}
 use Rattle.cbc.proofs.Blocks.{decrypt-block}
-use borrow.Author.Needs.{needs}
 use Rattle.cbc.proofs.decrypt_one_by_one.Statement.{statement}
 use Rattle.cbc.proofs.decrypt_one_by_one.Tie as tie
 

@@ -1,7 +1,6 @@
 -- `cbc::decrypt_rest` meets its contract: so does either way.
--- Assumes nothing.
 
-use borrow.Author.Needs.{needs}
+use Rattle.block.proofs.Base.{needs}
 use Rattle.cbc.proofs.decrypt_rest.Statement.{statement}
 use Rattle.cbc.proofs.decrypt_rest.Tie as tie
 

@@ -1,12 +1,6 @@
 -- `cbc::decrypt_side_by_side` meets its contract. A turn of the loop goes as many blocks on as go side by side (`reached-on`); at the end
 -- no full block is left, and a rest gives nothing.
--- Assumes nothing.
-use mathlib.Core.Path.{_≡_, refl, _∙_}
-use mathlib.Core.List.{reverse}
-use Prim.Native.Nat.{_-_, _*_, _%_, _≤_}
-use native.Mathlib.Omega.{arith}
-use denote.Ref.{now}
-use lib.ListN.{length, drop, length-drop}
+use Rattle.block.proofs.Base.{_%_, _*_, _-_, _≤_, _∙_, _≡_, refl, reverse, arith, now, drop, length, length-drop}
 use Rattle.block.specs.Blocks.{blockAt}
 use Rattle.block.specs.Words.{unwords}
 use Rattle.block.proofs.WordsBack.{length-unwords}

@@ -1,18 +1,11 @@
 -- `cbc::decrypt_step` meets its contract. The cipher under the round keys turned round is decryption (`decrypt-turned`), and the words that
 -- it is given and gives are those of sixteen bytes (`decrypted-front`).
--- Assumes nothing.
-use mathlib.Core.Path.{_≡_, ap, _∙_}
-use mathlib.Core.List.{List, _++_, reverse}
-use Prim.Native.Nat.{ℕ, _<_}
-use native.Mathlib.Omega.{arith}
-use denote.Ref.{now}
-use lib.ListN.{length, drop, getD}
+use Rattle.block.proofs.Base.{_<_, ℕ, _∙_, _≡_, ap, List, _++_, reverse, arith, needs, now, drop, getD, length}
 use Rattle.block.proofs.Entries.{below-each}
 use Rattle.block.specs.Words.{words}
 use Rattle.block.proofs.WordsBack.{unwords-front}
 use Rattle.cipher.proofs.Blocks.{decrypt-turned}
 use Rattle.cbc.proofs.InWords.{decrypted-front}
-use borrow.Author.Needs.{needs}
 use Rattle.cbc.proofs.decrypt_step.Statement.{statement}
 use Rattle.cbc.proofs.decrypt_step.Tie as tie
 

@@ -1,12 +1,6 @@
 -- `cbc::encrypt` meets its contract. The full blocks go first; the step after them takes the padded message's last block, which is the
 -- padded rest (`rest-padded`), and then nothing is left.
--- Assumes nothing.
-use mathlib.Core.Path.{_≡_, refl, _∙_}
-use Prim.Native.Nat.{_+_, _≤_, _-_, _%_}
-use native.Mathlib.Nat.{sub-zero}
-use native.Mathlib.Omega.{arith}
-use denote.Ref.{now}
-use lib.ListN.{length, take}
+use Rattle.block.proofs.Base.{_%_, _+_, _-_, _≤_, _∙_, _≡_, refl, sub-zero, arith, needs, now, length, take}
 use Rattle.block.specs.Words.{unwords}
 use Rattle.block.specs.Xor.{xors}
 use Rattle.cipher.proofs.Blocks.{length-encryptBlock}
@@ -15,7 +9,6 @@ use Rattle.walk.proofs.Loop.{tailed, tail-is, nothing-left}
 use Rattle.cbc.specs.Cbc.{padded, cbcEncrypt, cbcSeal}
 use Rattle.cbc.proofs.Goes.{blocks-reached}
 use Rattle.cbc.proofs.Padding.{length-padded, rest-padded}
-use borrow.Author.Needs.{needs}
 use Rattle.cbc.proofs.encrypt.Statement.{statement}
 use Rattle.cbc.proofs.encrypt.Tie as tie
 

@@ -1,19 +1,12 @@
 -- `cbc::last_block` meets its contract: the last block of the decrypted text takes the last two blocks alone (`last-words`), and the cipher
 -- under the round keys turned round is decryption.
--- Assumes nothing.
-use mathlib.Core.Path.{_≡_, _∙_}
-use mathlib.Core.List.{reverse}
-use Prim.Native.Nat.{ℕ, _-_, _<_}
-use native.Mathlib.Omega.{arith}
-use denote.Ref.{now}
-use lib.ListN.{length, getD}
+use Rattle.block.proofs.Base.{_-_, _<_, ℕ, _∙_, _≡_, reverse, arith, needs, now, getD, length}
 use Rattle.block.specs.Words.{words, unwords}
 use Rattle.block.proofs.Entries.{below-each}
 use Rattle.block.proofs.WordsBack.{length-unwords}
 use Rattle.cipher.proofs.Blocks.{decrypt-turned}
 use Rattle.walk.proofs.Loop.{tailed}
 use Rattle.cbc.proofs.Blocks.{last-words}
-use borrow.Author.Needs.{needs}
 use Rattle.cbc.proofs.last_block.Statement.{statement}
 use Rattle.cbc.proofs.last_block.Tie as tie
 

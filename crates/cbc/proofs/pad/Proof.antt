@@ -1,12 +1,6 @@
 -- `cbc::pad` meets its contract. The array starts as sixteen times the count; the loop's invariant: the first i bytes are the rest's, and
 -- what is left is the padding.
--- Assumes nothing.
-use mathlib.Core.Path.{_≡_, refl}
-use mathlib.Core.List.{_++_}
-use Prim.Native.Nat.{_≤_, _-_}
-use native.Mathlib.Omega.{arith}
-use denote.Ref.{now}
-use lib.ListN.{length, take, drop, replicate, length-set}
+use Rattle.block.proofs.Base.{_-_, _≤_, _≡_, refl, _++_, arith, now, drop, length, length-set, replicate, take}
 use Rattle.walk.proofs.Fill.{copy-turn}
 use Rattle.cbc.proofs.Padding.{pad-filled}
 use Rattle.cbc.proofs.pad.Statement.{statement}

@@ -1,10 +1,5 @@
 -- `cbc::put_front` meets its contract. The loop's invariant: the first i bytes are the block's, the others as they were lent.
--- Assumes nothing.
-use mathlib.Core.Path.{_≡_, refl, _∙_}
-use mathlib.Core.List.{_++_}
-use Prim.Native.Nat.{_≤_, _-_}
-use native.Mathlib.Omega.{arith}
-use lib.ListN.{length, take, drop, length-set}
+use Rattle.block.proofs.Base.{_-_, _≤_, _∙_, _≡_, refl, _++_, arith, drop, length, length-set, take}
 use Rattle.walk.proofs.Fill.{copy-turn}
 use Rattle.cbc.proofs.put_front.Statement.{statement}
 use Rattle.cbc.proofs.put_front.Tie as tie

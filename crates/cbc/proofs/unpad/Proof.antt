@@ -1,12 +1,7 @@
 -- `cbc::unpad` meets its contract: the range of the last byte tells whether it names a padding, and `all_padding` whether all of the
 -- padding holds it.
--- Assumes nothing.
-use mathlib.Core.Path.{refl, sym, _∙_}
-use mathlib.Core.Bool.{true, false}
-use native.Mathlib.Omega.{arith}
-use borrow.Author.Tests.{not-true, not-false}
+use Rattle.block.proofs.Base.{_∙_, refl, sym, false, true, arith, needs, not-false, not-true}
 use Rattle.cbc.proofs.Unpadded.{names-some, zero-names-none, high-names-none, block-unpadded}
-use borrow.Author.Needs.{needs}
 use Rattle.cbc.proofs.unpad.Statement.{statement}
 use Rattle.cbc.proofs.unpad.Tie as tie
 

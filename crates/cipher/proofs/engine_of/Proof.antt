@@ -1,6 +1,5 @@
 -- `cipher::engine_of` meets its contract: each mark by its test.
--- Assumes nothing.
-use borrow.Author.Tests.{eq-eqb, ne-eqb}
+use Rattle.block.proofs.Base.{eq-eqb, ne-eqb}
 use Rattle.cipher.specs.Engine.{chosen}
 use Rattle.cipher.proofs.engine_of.Statement.{statement}
 use Rattle.cipher.proofs.engine_of.Tie as tie

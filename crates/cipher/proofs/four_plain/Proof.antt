@@ -1,9 +1,6 @@
 -- `cipher::four_plain` meets its contract: the four results of T are put together by `four-by-hand`.
--- Assumes nothing.
-use mathlib.Core.Path.{_≡_}
-use lib.ListN.{length}
+use Rattle.block.proofs.Base.{_≡_, needs, length}
 use Rattle.cipher.proofs.Rounds.{four-by-hand}
-use borrow.Author.Needs.{needs}
 use Rattle.cipher.proofs.four_plain.Statement.{statement}
 use Rattle.cipher.proofs.four_plain.Tie as tie
 

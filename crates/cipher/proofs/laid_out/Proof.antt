@@ -1,6 +1,5 @@
 -- `cipher::laid_out` meets its contract: each engine by its test.
--- Assumes nothing.
-use borrow.Author.Needs.{needs}
+use Rattle.block.proofs.Base.{needs}
 use Rattle.cipher.proofs.Engines.{laid-four, laid-none, laid-plain}
 use Rattle.cipher.proofs.laid_out.Statement.{statement}
 use Rattle.cipher.proofs.laid_out.Tie as tie

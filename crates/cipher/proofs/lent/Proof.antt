@@ -1,6 +1,5 @@
 -- `cipher::lent` meets its contract: of what is laid out it lends the engine's own table.
--- Assumes nothing.
-use borrow.Author.Needs.{needs}
+use Rattle.block.proofs.Base.{needs}
 use Rattle.cipher.proofs.Engines.{lent-four, lent-none, lent-plain, lends}
 use Rattle.cipher.proofs.lent.Statement.{statement}
 use Rattle.cipher.proofs.lent.Tie as tie

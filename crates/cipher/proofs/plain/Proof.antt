@@ -1,14 +1,9 @@
 -- `cipher::plain` meets its contract. The code's table is the definition's, by one computed test; the loop lays its
 -- entries out, and its invariant says that the first i words are the table's first i bytes.
--- Assumes nothing.
-use mathlib.Core.Path.{_≡_, refl}
-use Prim.Native.Nat.{_≤_, _-_}
-use native.Mathlib.Omega.{arith}
-use lib.ListN.{length, take}
+use Rattle.block.proofs.Base.{_-_, _≤_, _≡_, refl, arith, needs, length, take}
 use Rattle.cipher.specs.Sm4.{sboxTable}
 use Rattle.cipher.proofs.Tables.{sbox-byte}
 use Rattle.cipher.proofs.Engines.{plain-length, laid-more, laid-front}
-use borrow.Author.Needs.{needs}
 use Rattle.cipher.proofs.plain.Statement.{statement}
 use Rattle.cipher.proofs.plain.Tie as tie
 

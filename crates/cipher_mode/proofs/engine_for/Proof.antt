@@ -1,8 +1,6 @@
 -- `cipher_mode::engine_for` meets its contract: the mark's engine, where the blocks wait or do not.
--- Assumes nothing.
-use mathlib.Core.Path.{ap, _∙_}
+use Rattle.block.proofs.Base.{_∙_, ap, needs}
 use Rattle.cipher.specs.Engine.{chosen}
-use borrow.Author.Needs.{needs}
 use Rattle.cipher_mode.proofs.engine_for.Statement.{statement}
 use Rattle.cipher_mode.proofs.engine_for.Tie as tie
 

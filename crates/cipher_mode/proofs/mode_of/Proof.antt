@@ -1,5 +1,4 @@
 -- `cipher_mode::mode_of` meets its contract: each number up to 3 by its arm, and the others by `gcm-above`.
--- Assumes nothing.
 use Rattle.cipher_mode.specs.Tables.{modeOf}
 use Rattle.cipher_mode.proofs.Modes.{gcm-above}
 use Rattle.cipher_mode.proofs.mode_of.Statement.{statement}

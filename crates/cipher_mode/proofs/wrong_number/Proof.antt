@@ -1,6 +1,5 @@
 -- `cipher_mode::wrong_number` meets its contract: the two tests are the definition's.
--- Assumes nothing.
-use borrow.Author.Tests.{eq-eqb, ne-eqb}
+use Rattle.block.proofs.Base.{eq-eqb, ne-eqb}
 use Rattle.cipher_mode.proofs.wrong_number.Statement.{statement}
 use Rattle.cipher_mode.proofs.wrong_number.Tie as tie
 

@@ -1,8 +1,7 @@
 -- `counter::block_add_one` meets its contract. `to_u128` ensures the number that the block spells, `u128_add` one more,
 -- and `from_u128` the block that spells that, which is Ctr's next counter (`ctr-words`). It is 0 exactly where it came round
 -- (`ctr-words-pass`).
--- Assumes nothing.
-use Rattle.block.proofs.Base.{ap, _∙_, ℕ, _+_, _%_, _^_, needs}
+use Rattle.block.proofs.Base.{_%_, _+_, _^_, ℕ, _∙_, ap, needs}
 use Rattle.block.specs.Wide.{value}
 use Rattle.counter.proofs.Steps.{ctr-words, ctr-words-pass}
 use Rattle.counter.proofs.block_add_one.Statement.{statement}

@@ -1,7 +1,6 @@
 -- `counter::ctr_came_round` meets its contract. Without a block there is no step; else the blocks but one are more than what
 -- is left up to all ones exactly where they and the IV's number reach 2^128, which takes a high half of all ones.
--- Assumes nothing.
-use Rattle.block.proofs.Base.{ap, _∙_, Fits, w64, arith, needs}
+use Rattle.block.proofs.Base.{_∙_, ap, arith, needs, w64, Fits}
 use Rattle.block.specs.Words.{unwords}
 use Rattle.counter.specs.CameRound.{ctrCameRound}
 use Rattle.counter.proofs.Formula.{ctr-none, ctr-full, ctr-short}

@@ -1,8 +1,7 @@
 -- `counter::gcm_block_add_one` meets its contract. The last word is below 2^32, so it is the number that its four bytes
 -- spell, and to count it up is to count these bytes up and keep the twelve before them (`gcm-words`). It is 0 exactly where
 -- they came round (`gcm-words-pass`).
--- Assumes nothing.
-use Rattle.block.proofs.Base.{Fits, w32, getD, needs}
+use Rattle.block.proofs.Base.{needs, getD, w32, Fits}
 use Rattle.counter.proofs.Steps.{gcm-words, gcm-words-pass}
 use Rattle.counter.proofs.gcm_block_add_one.Statement.{statement}
 use Rattle.counter.proofs.gcm_block_add_one.Tie as tie

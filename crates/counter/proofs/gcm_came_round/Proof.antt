@@ -1,7 +1,6 @@
 -- `counter::gcm_came_round` meets its contract: the blocks are more than what is left up to all ones exactly where they and
 -- the word reach 2^32 (`gcm-left`).
--- Assumes nothing.
-use Rattle.block.proofs.Base.{ap, _∙_, needs}
+use Rattle.block.proofs.Base.{_∙_, ap, needs}
 use Rattle.counter.specs.CameRound.{gcmCameRound}
 use Rattle.counter.proofs.Formula.{gcm-left}
 use Rattle.counter.proofs.gcm_came_round.Statement.{statement}

@@ -1,6 +1,5 @@
 -- `counter::gcm_jump` meets its contract: the last word counts alone (`gcm-jump-words`).
--- Assumes nothing.
-use Rattle.block.proofs.Base.{Fits, w32, getD, needs}
+use Rattle.block.proofs.Base.{needs, getD, w32, Fits}
 use Rattle.counter.proofs.Steps.{gcm-jump-words}
 use Rattle.counter.proofs.gcm_jump.Statement.{statement}
 use Rattle.counter.proofs.gcm_jump.Tie as tie

@@ -1,12 +1,6 @@
 -- `editions::add_up` meets its contract. The loop's invariant: all the lengths and what is left of `n` are together `n` and the lengths
 -- to come. The measure is how many are to come.
--- Assumes nothing.
-use mathlib.Core.Path.{_≡_, sym}
-use Prim.Native.Nat.{_+_, _-_, _≤_}
-use native.Mathlib.Omega.{arith}
-use denote.Ref.{now}
-use lib.ListN.{length, drop}
-use borrow.Author.Tests.{eqb-true, eq-eqb, ne-eqb}
+use Rattle.block.proofs.Base.{_+_, _-_, _≤_, _≡_, sym, arith, eq-eqb, eqb-true, ne-eqb, now, drop, length}
 use Rattle.block.proofs.Same.{test-iff}
 use Rattle.editions.specs.Candidates.{sum}
 use Rattle.editions.proofs.Turns.{sum-turn, sum-end}

@@ -1,8 +1,6 @@
 -- `editions::bad_list` meets its contract: too many, or as the sum is.
--- Assumes nothing.
-use borrow.Author.Tests.{lt-ltb, le-ltb}
+use Rattle.block.proofs.Base.{needs, le-ltb, lt-ltb}
 use Rattle.editions.specs.Candidates.{badList}
-use borrow.Author.Needs.{needs}
 use Rattle.editions.proofs.bad_list.Statement.{statement}
 use Rattle.editions.proofs.bad_list.Tie as tie
 

@@ -1,7 +1,6 @@
 -- `editions::check` meets its contract: what is wrong with key and IV ends the list, then the labels answer, and then the file.
--- Assumes nothing.
 use Rattle.editions.specs.Which.{searchCheck}
-use borrow.Author.Needs.{needs}
+use Rattle.block.proofs.Base.{needs}
 use Rattle.editions.proofs.check.Statement.{statement}
 use Rattle.editions.proofs.check.Tie as tie
 

@@ -1,15 +1,7 @@
 -- `editions::part` meets its contract: each return is the definition, by the tests that led there. The start is tested before the
 -- difference is taken, and the two tests are the definition's one.
--- Assumes nothing.
-use mathlib.Core.Path.{_≡_, sym, _∙_}
-use mathlib.Core.Bool.{true}
-use Prim.Native.Nat.{_+_, _-_}
-use native.Mathlib.Omega.{arith}
-use denote.Ref.{now}
-use lib.ListN.{length}
-use borrow.Author.Tests.{not-true, not-false, lt-ltb, le-ltb}
+use Rattle.block.proofs.Base.{_+_, _-_, _∙_, _≡_, sym, true, arith, needs, le-ltb, lt-ltb, not-false, not-true, now, length}
 use Rattle.editions.specs.Which.{isFound, partOf}
-use borrow.Author.Needs.{needs}
 use Rattle.editions.proofs.part.Statement.{statement}
 use Rattle.editions.proofs.part.Tie as tie
 

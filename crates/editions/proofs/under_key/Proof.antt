@@ -1,20 +1,12 @@
 -- `editions::under_key` meets its contract. Without candidates none is found (`search-end`). Otherwise H and J0 are those of the keys and
 -- the IV, the mask is the cipher of J0, and what is kept of the text is its blocks' own.
--- Assumes nothing.
-use mathlib.Core.Path.{_≡_, refl, ap}
-use Prim.Native.Nat.{ℕ, _^_}
-use native.Mathlib.Omega.{arith}
-use mir.Val.{Fits}
-use mir.Syntax.{w32}
-use denote.Ref.{now}
-use lib.ListN.{length, getD}
+use Rattle.block.proofs.Base.{_^_, ℕ, _≡_, ap, refl, arith, needs, now, getD, length, w32, Fits}
 use Rattle.block.proofs.Entries.{below-each}
 use Rattle.cipher.proofs.Blocks.{encrypt-unwords}
 use Rattle.gcm.specs.Gcm.{tagOf, opensUnder}
 use Rattle.cipher_mode.proofs.Passed.{iv-twelve-or-sixteen, with-tag-passed}
 use Rattle.editions.specs.Which.{onKey}
 use Rattle.editions.proofs.Turns.{search-end}
-use borrow.Author.Needs.{needs}
 use Rattle.editions.proofs.under_key.Statement.{statement}
 use Rattle.editions.proofs.under_key.Tie as tie
 

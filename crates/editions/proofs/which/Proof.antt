@@ -1,12 +1,8 @@
 -- `editions::which` meets its contract: a bad list ends it, then what a check refused, and then the search gives the verdict.
--- Assumes nothing.
-use mathlib.Core.Path.{_≡_, sym, _∙_}
-use mathlib.Core.Bool.{false}
-use denote.Ref.{now}
+use Rattle.block.proofs.Base.{_∙_, _≡_, sym, false, needs, now}
 use Rattle.editions.specs.Candidates.{badList}
 use Rattle.editions.specs.Which.{which}
 use Rattle.editions.proofs.Passed.{adds-up, search-passed}
-use borrow.Author.Needs.{needs}
 use Rattle.editions.proofs.which.Statement.{statement}
 use Rattle.editions.proofs.which.Tie as tie
 

@@ -1,7 +1,6 @@
 -- `field::times` meets its contract: x^127 times the product without carry is the product (`gmul-clmul`), and that has no more
 -- than 255 bits (`top-lt`).
--- Assumes nothing.
-use Rattle.block.proofs.Base.{ap, _∙_, arith, Fits, w64, needs}
+use Rattle.block.proofs.Base.{_∙_, ap, arith, needs, w64, Fits}
 use Rattle.block.specs.Wide.{value}
 use Rattle.field.specs.Field.{timesXs}
 use Rattle.field.proofs.Bounded.{whole-lt}

@@ -1,13 +1,6 @@
 -- `gcm::decrypt` meets its contract. A text whose pads are ready goes by them. Else, where the tag is the message's, the stream writes its
 -- text and the definition is done (`open-done`); otherwise nothing is written, and it refuses (`open-refused`).
--- Assumes nothing.
-use mathlib.Core.Path.{_≡_, sym, ap, ap₂, _∙_}
-use mathlib.Core.List.{List}
-use Prim.Native.Nat.{ℕ, _-_}
-use native.Mathlib.Omega.{arith}
-use denote.Ref.{now}
-use lib.ListN.{length}
-use lib.Seq.{length-take-le}
+use Rattle.block.proofs.Base.{_-_, ℕ, _∙_, _≡_, ap, ap₂, sym, List, arith, needs, now, length, length-take-le}
 use Rattle.block.specs.Wide.{value}
 use Rattle.block.specs.Words.{unwords}
 use Rattle.walk.specs.Outcome.{Outcome, leaving, finished}
@@ -16,7 +9,6 @@ use Rattle.gcm.specs.Gcm.{textOf, textPart}
 use Rattle.gcm.proofs.InWords.{text-words}
 use Rattle.gcm.proofs.Parts.{length-text}
 use Rattle.gcm.proofs.Settled.{open-refused, open-done}
-use borrow.Author.Needs.{needs}
 use Rattle.gcm.proofs.decrypt.Statement.{statement}
 use Rattle.gcm.proofs.decrypt.Tie as tie
 

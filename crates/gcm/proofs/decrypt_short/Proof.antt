@@ -1,12 +1,5 @@
 -- `gcm::decrypt_short` meets its contract: as `decrypt` does, with the mask and the pads that stand ready.
--- Assumes nothing.
-use mathlib.Core.Path.{_≡_, sym, ap, ap₂, _∙_}
-use mathlib.Core.List.{List}
-use Prim.Native.Nat.{ℕ, _-_, _<_}
-use native.Mathlib.Omega.{arith}
-use denote.Ref.{now}
-use lib.ListN.{length, getD}
-use lib.Seq.{length-take-le}
+use Rattle.block.proofs.Base.{_-_, _<_, ℕ, _∙_, _≡_, ap, ap₂, sym, List, arith, needs, now, getD, length, length-take-le}
 use Rattle.block.specs.Wide.{value}
 use Rattle.block.specs.Words.{unwords}
 use Rattle.walk.specs.Outcome.{Outcome, leaving, finished}
@@ -20,7 +13,6 @@ use Rattle.block.proofs.Entries.{below-each}
 use Rattle.cipher.specs.Sm4.{encryptBlock}
 use Rattle.walk.proofs.Loop.{tailed, length-tailed}
 use Rattle.gcm.proofs.Short.{mask-front, text-front}
-use borrow.Author.Needs.{needs}
 use Rattle.gcm.proofs.decrypt_short.Statement.{statement}
 use Rattle.gcm.proofs.decrypt_short.Tie as tie
 

@@ -1,21 +1,13 @@
 -- `gcm::encrypt` meets its contract. A text whose pads are ready goes by them; else the stream writes the text, the tag is that of what
 -- stands there now, and it is put behind the text (`sealed-written`).
--- Assumes nothing.
-use mathlib.Core.Path.{_≡_, ap, _∙_}
-use mathlib.Core.List.{List, _++_}
-use Prim.Native.Nat.{ℕ, _-_}
-use native.Mathlib.Nat.{sub-zero}
-use lib.Seq.{take-at}
+use Rattle.block.proofs.Base.{_-_, ℕ, _∙_, _≡_, ap, List, _++_, sub-zero, needs, now, drop, length, take, take-at}
 use Rattle.walk.proofs.Loop.{tailed}
-use denote.Ref.{now}
-use lib.ListN.{length, take, drop}
 use Rattle.block.specs.Wide.{value}
 use Rattle.block.specs.Words.{unwords}
 use Rattle.walk.specs.Walk.{over}
 use Rattle.gcm.specs.Gcm.{textOf, tagOf, sealed}
 use Rattle.gcm.proofs.InWords.{text-words, sealed-written}
 use Rattle.gcm.proofs.Parts.{length-text, length-tag}
-use borrow.Author.Needs.{needs}
 use Rattle.gcm.proofs.encrypt.Statement.{statement}
 use Rattle.gcm.proofs.encrypt.Tie as tie
 

@@ -1,13 +1,6 @@
 -- `gcm::encrypt_short` meets its contract: the text is xored with its pads, and its tag is put behind it (`sealed-written`).
--- Assumes nothing.
-use mathlib.Core.Path.{_≡_, refl, ap, ap₂, _∙_}
-use mathlib.Core.List.{List, _++_}
-use Prim.Native.Nat.{ℕ, _-_, _<_}
-use native.Mathlib.Nat.{sub-zero}
-use native.Mathlib.Omega.{arith}
-use denote.Ref.{now}
-use lib.ListN.{length, take, drop, getD}
-use lib.Seq.{take-at}
+use Rattle.block.proofs.Base.{_-_, _<_, ℕ, _∙_, _≡_, ap, ap₂, refl, List, _++_, sub-zero, arith, needs, now, drop, getD, length, take}
+use Rattle.block.proofs.Base.{take-at}
 use Rattle.block.specs.Wide.{value}
 use Rattle.block.specs.Words.{unwords}
 use Rattle.block.proofs.Entries.{below-each}
@@ -18,7 +11,6 @@ use Rattle.gcm.specs.Gcm.{textOf, maskedTag, tagOf, sealed}
 use Rattle.gcm.proofs.InWords.{sealed-written}
 use Rattle.gcm.proofs.Parts.{length-text, length-tag}
 use Rattle.gcm.proofs.Short.{mask-front, text-front}
-use borrow.Author.Needs.{needs}
 use Rattle.gcm.proofs.encrypt_short.Statement.{statement}
 use Rattle.gcm.proofs.encrypt_short.Tie as tie
 

@@ -1,16 +1,8 @@
 -- `gcm::has_tag` meets its contract: the four words of the difference are all 0 exactly where the message's tag is the expected one
 -- (`has-tag-words`).
--- Assumes nothing.
-use mathlib.Core.Path.{_≡_, ap, _∙_}
-use Prim.Native.Nat.{ℕ, _-_, _^_, _<_}
-use mir.Val.{Fits}
-use mir.Syntax.{w32}
-use denote.Ref.{now}
-use native.Mathlib.Omega.{arith}
-use lib.ListN.{length, getD, length-drop}
+use Rattle.block.proofs.Base.{_-_, _<_, _^_, ℕ, _∙_, _≡_, ap, arith, needs, now, getD, length, length-drop, w32, Fits}
 use Rattle.block.proofs.Entries.{below-each}
 use Rattle.gcm.proofs.TagTest.{has-tag-words}
-use borrow.Author.Needs.{needs}
 use Rattle.gcm.proofs.has_tag.Statement.{statement}
 use Rattle.gcm.proofs.has_tag.Tie as tie
 

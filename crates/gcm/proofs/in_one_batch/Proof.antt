@@ -1,10 +1,5 @@
 -- `gcm::in_one_batch` meets its contract, which says what it asks.
--- Assumes nothing.
-use mathlib.Core.Path.{_≡_}
-use Prim.Native.Nat.{ℕ}
-use native.Mathlib.Omega.{arith}
-use borrow.Author.Tests.{ltb-true}
-use borrow.Author.Needs.{needs}
+use Rattle.block.proofs.Base.{ℕ, _≡_, arith, needs, ltb-true}
 use Rattle.gcm.proofs.in_one_batch.Statement.{statement}
 use Rattle.gcm.proofs.in_one_batch.Tie as tie
 

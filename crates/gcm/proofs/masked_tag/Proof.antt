@@ -1,11 +1,7 @@
 -- `gcm::masked_tag` meets its contract: the words of the hash and of the mask, xored, are the tag's (`masked-words`).
--- Assumes nothing.
-use mathlib.Core.Path.{_≡_}
-use lib.ListN.{length}
-use denote.Ref.{now}
+use Rattle.block.proofs.Base.{_≡_, needs, now, length}
 use Rattle.block.specs.Wide.{value}
 use Rattle.gcm.proofs.InWords.{masked-words}
-use borrow.Author.Needs.{needs}
 use Rattle.gcm.proofs.masked_tag.Statement.{statement}
 use Rattle.gcm.proofs.masked_tag.Tie as tie
 

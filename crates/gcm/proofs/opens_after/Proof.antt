@@ -1,20 +1,12 @@
 -- `gcm::opens_after` meets its contract: the hash that is expected is that of label and text (`galois_hash_after`), under the mask
 -- (`masked-words`).
--- Assumes nothing.
-use mathlib.Core.Path.{_≡_, sym, ap, subst, _∙_}
-use mathlib.Core.List.{List}
-use Prim.Native.Nat.{ℕ, _-_}
-use native.Mathlib.Omega.{arith}
-use denote.Ref.{now}
-use lib.ListN.{length}
-use lib.Seq.{length-take-le}
+use Rattle.block.proofs.Base.{_-_, ℕ, _∙_, _≡_, ap, subst, sym, List, arith, needs, now, length, length-take-le}
 use Rattle.block.specs.Same.{same}
 use Rattle.block.specs.Wide.{value}
 use Rattle.ghash.specs.Ghash.{ghash, authBlocks, blocks}
 use Rattle.ghash.specs.Joined.{HalfOf}
 use Rattle.gcm.specs.Gcm.{textPart, tagPart}
 use Rattle.gcm.proofs.InWords.{masked-words}
-use borrow.Author.Needs.{needs}
 use Rattle.gcm.proofs.opens_after.Statement.{statement}
 use Rattle.gcm.proofs.opens_after.Tie as tie
 

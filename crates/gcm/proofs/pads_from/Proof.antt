@@ -1,13 +1,8 @@
 -- `gcm::pads_from` meets its contract: the counters from J0 on are laid behind the zero block, and all are ciphered (`pads-ready`).
--- Assumes nothing.
-use mathlib.Core.Path.{refl}
-use Prim.Native.Nat.{_+_, _/_}
-use native.Mathlib.Omega.{arith}
-use lib.ListN.{replicate}
+use Rattle.block.proofs.Base.{_+_, _/_, refl, arith, needs, replicate}
 use Rattle.block.specs.Words.{unwords}
 use Rattle.block.proofs.WordsBack.{length-unwords, unwords-bytes}
 use Rattle.gcm.proofs.Short.{pads-ready}
-use borrow.Author.Needs.{needs}
 use Rattle.gcm.proofs.pads_from.Statement.{statement}
 use Rattle.gcm.proofs.pads_from.Tie as tie
 

@@ -1,20 +1,9 @@
 -- `gcm::start` meets its contract: H by itself or from the pads (`hash-key-front`), J0 by the length of the IV.
--- Assumes nothing.
-use mathlib.Core.Path.{_≡_, refl, sym, ap, _∙_}
-use mathlib.Core.Bool.{Bool, true, false, not}
-use mathlib.Core.Logic.{⊎-elim}
-use Prim.Native.Nat.{ℕ}
-use native.Mathlib.Omega.{arith}
-use mir.Val.{Fits}
-use mir.Syntax.{w8}
-use denote.Ref.{now}
-use lib.ListN.{getD}
+use Rattle.block.proofs.Base.{ℕ, _∙_, _≡_, ap, refl, sym, ⊎-elim, Bool, false, not, true, arith, needs, eq-eqb, ne-eqb, now, getD, w8, Fits}
 use Rattle.block.specs.Words.{unwords}
 use Rattle.block.proofs.Entries.{below-each}
 use Rattle.gcm.specs.Gcm.{hashedCounter, firstCounter, J0}
 use Rattle.gcm.proofs.Short.{hash-key-front}
-use borrow.Author.Tests.{eq-eqb, ne-eqb}
-use borrow.Author.Needs.{needs}
 use Rattle.gcm.proofs.start.Statement.{statement}
 use Rattle.gcm.proofs.start.Tie as tie
 

@@ -1,18 +1,10 @@
 -- `gcm::tag` meets its contract: the mask is the cipher of J0.
--- Assumes nothing.
-use mathlib.Core.Path.{_≡_, ap, _∙_}
-use mathlib.Core.List.{List}
-use Prim.Native.Nat.{ℕ, _^_}
-use mir.Val.{Fits}
-use mir.Syntax.{w32}
-use lib.ListN.{length, getD}
-use denote.Ref.{now}
+use Rattle.block.proofs.Base.{_^_, ℕ, _∙_, _≡_, ap, List, needs, now, getD, length, w32, Fits}
 use Rattle.block.specs.Wide.{value}
 use Rattle.block.specs.Words.{unwords}
 use Rattle.block.proofs.Entries.{below-each}
 use Rattle.cipher.proofs.Blocks.{encrypt-unwords}
 use Rattle.gcm.specs.Gcm.{maskedTag, tagOf}
-use borrow.Author.Needs.{needs}
 use Rattle.gcm.proofs.tag.Statement.{statement}
 use Rattle.gcm.proofs.tag.Tie as tie
 

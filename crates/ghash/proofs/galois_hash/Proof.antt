@@ -1,6 +1,5 @@
 -- `ghash::galois_hash` meets its contract. From the hash 0 on, the state takes in the label's blocks, the text's and the
 -- length block, and these joined are what is hashed for a label and a text (`absorbed-auth`).
--- Assumes nothing.
 use Rattle.ghash.proofs.Absorbing.{absorbed-auth}
 use Rattle.block.proofs.Base.{needs}
 use Rattle.ghash.proofs.galois_hash.Statement.{statement}

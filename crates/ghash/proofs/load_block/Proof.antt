@@ -1,6 +1,5 @@
 -- `ghash::load_block` meets its contract. Of a full block `split_block` ensures the words; of a short one each call of
 -- `word_or_zeros` ensures its own, and `words` is by definition the list of the four.
--- Assumes nothing.
 use Rattle.block.specs.Words.{words}
 use Rattle.block.proofs.Base.{needs}
 use Rattle.ghash.proofs.load_block.Statement.{statement}

@@ -1,6 +1,5 @@
 -- `ghash::word_or_zeros` meets its contract. `combine` ensures the number of the four bytes that it is handed, and each
 -- `byte_or_zero` that its byte is the one that `wordAt` reads, 0 past the end.
--- Assumes nothing.
 use Rattle.block.proofs.Base.{_∙_, needs}
 use Rattle.ghash.proofs.word_or_zeros.Statement.{statement}
 use Rattle.ghash.proofs.word_or_zeros.Tie as tie

@@ -1,12 +1,6 @@
 -- `replay` meets its contract. The loop's invariant: replay from here, with the report so far, ends as replay of the whole journal does,
--- and no count passes the place. The measure is how many bytes are to come. Assumes nothing.
-use mathlib.Core.Path.{_≡_, sym, ap, _∙_}
-use mathlib.Core.Bool.{false}
-use mathlib.Core.List.{List}
-use Prim.Native.Nat.{ℕ, _+_, _≤_, _<_}
-use native.Mathlib.Omega.{arith}
-use denote.Ref.{now}
-use lib.ListN.{length}
+-- and no count passes the place. The measure is how many bytes are to come.
+use Rattle.block.proofs.Base.{_+_, _<_, _≤_, ℕ, _∙_, _≡_, ap, sym, false, List, arith, needs, now, length}
 use Rattle.cipher_mode.specs.declared.Sm4Cipher.{Sm4Cipher}
 use Rattle.walk.proofs.Loop.{length-tailed}
 use Rattle.journal.specs.KeyList.{keysIn, badKeys}
@@ -18,7 +12,6 @@ use Rattle.journal.proofs.Standing.{stands, size-within, data-within}
 use Rattle.journal.proofs.KeyTurns.{few-keys}
 use Rattle.journal.proofs.Counting.{within-nothing}
 use Rattle.journal.proofs.Replaying.{Passes, passed, from-end, from-stop, turn-within, turn-from, from-start}
-use borrow.Author.Needs.{needs}
 use Rattle.journal.proofs.replay.Statement.{statement}
 use Rattle.journal.proofs.replay.Tie as tie
 

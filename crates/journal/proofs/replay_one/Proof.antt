@@ -1,12 +1,5 @@
--- `replay_one` meets its contract: each return is the definition, by the tests that led there. Assumes nothing.
-use mathlib.Core.Path.{_≡_, sym, ap, _∙_}
-use mathlib.Core.Bool.{true, false}
-use mathlib.Core.List.{List}
-use Prim.Native.Nat.{ℕ}
-use denote.Ref.{now}
-use lib.Dec.{ltb}
-use lib.ListN.{length-map}
-use borrow.Author.Tests.{lt-ltb, le-ltb}
+-- `replay_one` meets its contract: each return is the definition, by the tests that led there.
+use Rattle.block.proofs.Base.{ℕ, _∙_, _≡_, ap, sym, false, true, List, needs, le-ltb, lt-ltb, now, ltb, length-map}
 use Rattle.cipher_mode.specs.declared.Sm4Cipher.{Sm4Cipher}
 use Rattle.journal.specs.Format.{startsRecord, front, tooLong}
 use Rattle.journal.specs.KeyList.{keysIn, placeOf, hasNumber}
@@ -14,7 +7,6 @@ use Rattle.journal.proofs.Standing.{size-zero, size-some}
 use Rattle.journal.proofs.KeyTurns.{count-keys}
 use Rattle.journal.proofs.Lent.{recomputed-known, recomputed-size}
 use Rattle.journal.proofs.Replaying.{bad-record, too-long, no-key, counts}
-use borrow.Author.Needs.{needs}
 use Rattle.journal.proofs.replay_one.Statement.{statement}
 use Rattle.journal.proofs.replay_one.Tie as tie
 

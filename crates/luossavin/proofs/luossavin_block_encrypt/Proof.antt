@@ -1,8 +1,7 @@
 -- `luossavin::luossavin_block_encrypt` meets its contract: it reports the call on the host's record.
--- Assumes nothing.
 use Rattle.luossavin.specs.Host.{hostBlockCall}
 use Rattle.luossavin.proofs.Steps.{told}
-use borrow.Author.Needs.{needs}
+use Rattle.block.proofs.Base.{needs}
 use Rattle.luossavin.proofs.luossavin_block_encrypt.Statement.{statement}
 use Rattle.luossavin.proofs.luossavin_block_encrypt.Tie as tie
 

@@ -1,10 +1,7 @@
 -- `luossavin::mode_call` meets its contract: for a mode number up to 4 it reports the call on the host's record, and above that it refuses.
--- Assumes nothing.
-use mathlib.Core.Path.{refl}
-use borrow.Author.Tests.{lt-ltb, le-ltb}
+use Rattle.block.proofs.Base.{refl, needs, le-ltb, lt-ltb}
 use Rattle.luossavin.specs.Host.{hostModeCall}
 use Rattle.luossavin.proofs.Steps.{told}
-use borrow.Author.Needs.{needs}
 use Rattle.luossavin.proofs.mode_call.Statement.{statement}
 use Rattle.luossavin.proofs.mode_call.Tie as tie
 

@@ -1,8 +1,7 @@
 -- `luossavin::report` meets its contract: done reports its length and its counter, and a refusal its number and what is missing.
--- Assumes nothing.
 use Rattle.cipher_mode.proofs.Refusals.{refuses}
 use Rattle.luossavin.proofs.Marks.{mark-byte}
-use borrow.Author.Needs.{needs}
+use Rattle.block.proofs.Base.{needs}
 use Rattle.luossavin.proofs.report.Statement.{statement}
 use Rattle.luossavin.proofs.report.Tie as tie
 

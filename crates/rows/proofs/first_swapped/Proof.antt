@@ -1,5 +1,4 @@
 -- `rows::first_swapped` meets its contract, which says what it computes.
--- Assumes nothing.
 use Rattle.lanes.specs.Swaps.{firstSwapped}
 use Rattle.block.proofs.Base.{needs}
 use Rattle.rows.proofs.first_swapped.Statement.{statement}

@@ -1,5 +1,4 @@
 -- `rows::half` meets its contract: two words side by side have no bit in common (`shl-or`).
--- Assumes nothing.
 use Rattle.block.proofs.Base.{needs}
 use Rattle.block.proofs.Shift.{shl-or}
 use Rattle.rows.proofs.half.Statement.{statement}

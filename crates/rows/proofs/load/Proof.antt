@@ -1,7 +1,6 @@
 -- `rows::load` meets its contract. The loop's invariant: the first i blocks stand in rows; a turn puts one more, whose words are those
 -- of the sixteen bytes at the front of what is left.
--- Assumes nothing.
-use Rattle.block.proofs.Base.{needs, _≡_, sym, ap, _∙_, _≤_, _*_, _-_, arith, length, drop, length-drop, take-all}
+use Rattle.block.proofs.Base.{_*_, _-_, _≤_, _∙_, _≡_, ap, sym, arith, needs, drop, length, length-drop, take-all}
 use Rattle.block.specs.Blocks.{blockAt}
 use Rattle.block.specs.Words.{words}
 use Rattle.block.proofs.WordsBack.{words-take}

@@ -1,7 +1,6 @@
 -- `rows::put` meets its contract: what is stored at the block's place are the halves of its words, and no other block has that place
 -- (`one-more-row`).
--- Assumes nothing.
-use Rattle.block.proofs.Base.{needs, _≡_, ℕ, Fits, w32, length, getD}
+use Rattle.block.proofs.Base.{ℕ, _≡_, needs, getD, length, w32, Fits}
 use Rattle.block.proofs.Entries.{below-each}
 use Rattle.rows.proofs.Standing.{one-more-row}
 use Rattle.rows.proofs.put.Statement.{statement}

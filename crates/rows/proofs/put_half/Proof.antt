@@ -1,7 +1,6 @@
 -- `rows::put_half` meets its contract. A store keeps the length (`length-set`), so each of the eight stays inside, and eight bytes stored
 -- side by side are the half's, between what stood before and behind them (`half-stored`).
--- Assumes nothing.
-use Rattle.block.proofs.Base.{needs, arith, length-set}
+use Rattle.block.proofs.Base.{arith, needs, length-set}
 use Rattle.rows.proofs.Storing.{half-stored}
 use Rattle.rows.proofs.put_half.Statement.{statement}
 use Rattle.rows.proofs.put_half.Tie as tie

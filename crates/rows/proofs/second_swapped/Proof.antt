@@ -1,5 +1,4 @@
 -- `rows::second_swapped` meets its contract, which says what it computes.
--- Assumes nothing.
 use Rattle.lanes.specs.Swaps.{secondSwapped}
 use Rattle.block.proofs.Base.{needs}
 use Rattle.rows.proofs.second_swapped.Statement.{statement}

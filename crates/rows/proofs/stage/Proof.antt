@@ -1,7 +1,6 @@
 -- `rows::stage` meets its contract. The loop's invariant: the first i groups are swapped, and what stands behind them is as it was; a turn
 -- swaps one group more (`staged-next`), which ends before all words do (`groups`).
--- Assumes nothing.
-use Rattle.block.proofs.Base.{needs, _≤_, _-_, _≡_, arith}
+use Rattle.block.proofs.Base.{_-_, _≤_, _≡_, arith, needs}
 use Rattle.rows.specs.Transposed.{Staged}
 use Rattle.rows.proofs.Turns.{groups, staged-next}
 use Rattle.rows.proofs.stage.Statement.{statement}

@@ -1,8 +1,7 @@
 -- `rows::store_xored` meets its contract. The loop's invariant: the first i blocks are stored, and behind them stands what stood there.
 -- A turn stores the two halves of one block more, each xored with its half of the other block.
--- Assumes nothing.
-use Rattle.block.proofs.Base.{needs, _≡_, ap, _∙_, _++_, ℕ, _≤_, _*_, _-_, _^_, arith, Fits, w8, w32, length, getD, take, drop, length-drop}
-use Rattle.block.proofs.Base.{take-all}
+use Rattle.block.proofs.Base.{_*_, _-_, _^_, _≤_, ℕ, _∙_, _≡_, ap, _++_, arith, needs, drop, getD, length, length-drop, take, take-all, w32}
+use Rattle.block.proofs.Base.{w8, Fits}
 use Rattle.block.specs.BigEndian.{bytesOf}
 use Rattle.block.specs.Blocks.{cat}
 use Rattle.block.specs.Words.{words}

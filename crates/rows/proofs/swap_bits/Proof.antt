@@ -1,7 +1,6 @@
 -- `rows::swap_bits` meets its contract. The loop's invariant: the first e pairs are swapped, all other words are as they were; a turn swaps
 -- one pair more (`swapped-next`).
--- Assumes nothing.
-use Rattle.block.proofs.Base.{needs, _≤_, _-_, _≡_, arith}
+use Rattle.block.proofs.Base.{_-_, _≤_, _≡_, arith, needs}
 use Rattle.rows.specs.Transposed.{Swapped}
 use Rattle.rows.proofs.Turns.{swapped-next}
 use Rattle.rows.proofs.swap_bits.Statement.{statement}

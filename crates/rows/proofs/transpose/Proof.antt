@@ -1,6 +1,5 @@
 -- `rows::transpose` meets its contract: the six stages swap all six digits of the rows' and the bits' numbers (`six`), and the last one has
 -- stored every word (`all-small`).
--- Assumes nothing.
 use Rattle.block.proofs.Base.{needs}
 use Rattle.rows.proofs.Six.{six, all-small}
 use Rattle.rows.proofs.transpose.Statement.{statement}

@@ -1,11 +1,7 @@
--- `shelf::bad` meets its contract: what is in order up to the used count is the definition's last two tests. Assumes nothing.
-use native.Mathlib.Nat.{sub-zero}
-use native.Mathlib.Omega.{arith}
-use denote.Ref.{now}
-use borrow.Author.Tests.{lt-ltb, le-ltb}
+-- `shelf::bad` meets its contract: what is in order up to the used count is the definition's last two tests.
+use Rattle.block.proofs.Base.{sub-zero, arith, needs, le-ltb, lt-ltb, now}
 use Rattle.shelf.specs.Shelf.{badShelf}
 use Rattle.shelf.proofs.Sound.{bad-records}
-use borrow.Author.Needs.{needs}
 use Rattle.shelf.proofs.bad.Statement.{statement}
 use Rattle.shelf.proofs.bad.Tie as tie
 

@@ -1,12 +1,9 @@
--- `shelf::collect` meets its contract: refused, or what `keep` leaves. Assumes nothing.
-use mathlib.Core.Path.{sym, _∙_}
-use denote.Ref.{now}
-use lib.ListN.{take}
+-- `shelf::collect` meets its contract: refused, or what `keep` leaves.
+use Rattle.block.proofs.Base.{_∙_, sym, needs, now, take}
 use Rattle.shelf.specs.Records.{records}
 use Rattle.shelf.proofs.Sound.{in-order}
 use Rattle.shelf.proofs.Putting.{those-current}
 use Rattle.shelf.specs.Calls.{collectCall}
-use borrow.Author.Needs.{needs}
 use Rattle.shelf.proofs.collect.Statement.{statement}
 use Rattle.shelf.proofs.collect.Tie as tie
 

@@ -1,17 +1,11 @@
--- `shelf::find` meets its contract: each return is the definition, by the tests that led there. Assumes nothing.
-use mathlib.Core.Path.{_≡_, sym, ap, _∙_}
-use mathlib.Core.Bool.{false}
-use native.Mathlib.Nat.{sub-zero}
-use native.Mathlib.Omega.{arith}
-use denote.Ref.{now}
-use lib.ListN.{take}
+-- `shelf::find` meets its contract: each return is the definition, by the tests that led there.
+use Rattle.block.proofs.Base.{_∙_, _≡_, ap, sym, false, sub-zero, arith, needs, now, take}
 use Rattle.shelf.specs.declared.lookup.Span.{Span}
 use Rattle.shelf.specs.Records.{records}
 use Rattle.shelf.specs.Shelf.{placeOf, sizeOf, badShelf}
 use Rattle.shelf.specs.Calls.{findCall}
 use Rattle.shelf.proofs.Sound.{in-order}
 use Rattle.shelf.proofs.Putting.{size-has, size-zero}
-use borrow.Author.Needs.{needs}
 use Rattle.shelf.proofs.find.Statement.{statement}
 use Rattle.shelf.proofs.find.Tie as tie
 

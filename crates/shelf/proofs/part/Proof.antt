@@ -1,14 +1,6 @@
 -- `shelf::part` meets its contract. The start is tested before the difference is taken, and the two tests are the definition's one.
--- Assumes nothing.
-use mathlib.Core.Path.{_≡_}
-use mathlib.Core.List.{List, []}
-use Prim.Native.Nat.{ℕ, _+_, _-_, _≤_, _<_}
-use native.Mathlib.Omega.{arith}
-use denote.Ref.{now}
-use lib.ListN.{length, take, drop}
-use borrow.Author.Tests.{lt-ltb, le-ltb}
+use Rattle.block.proofs.Base.{_+_, _-_, _<_, _≤_, ℕ, _≡_, List, [], arith, needs, le-ltb, lt-ltb, now, drop, length, take}
 use Rattle.shelf.specs.Calls.{Place, placeIn, partOf}
-use borrow.Author.Needs.{needs}
 use Rattle.shelf.proofs.part.Statement.{statement}
 use Rattle.shelf.proofs.part.Tie as tie
 

@@ -1,15 +1,6 @@
 -- `shelf::put` meets its contract: each refusal is the definition's, and where none is left, room is made and the record written there.
--- Assumes nothing.
-use mathlib.Core.Path.{_≡_, refl, sym, ap, _∙_}
-use mathlib.Core.Bool.{true, false}
-use mathlib.Core.List.{List}
-use Prim.Native.Nat.{ℕ, _+_, _≤_}
-use native.Mathlib.Nat.{sub-zero}
-use native.Mathlib.Omega.{arith}
-use denote.Ref.{now}
-use lib.Dec.{ltb}
-use lib.ListN.{length, take, drop, length-append, length-drop}
-use borrow.Author.Tests.{ltb-false}
+use Rattle.block.proofs.Base.{_+_, _≤_, ℕ, _∙_, _≡_, ap, refl, sym, false, true, List, sub-zero, arith, needs, ltb-false, now, ltb, drop}
+use Rattle.block.proofs.Base.{length, length-append, length-drop, take}
 use Rattle.walk.specs.Walk.{over}
 use Rattle.walk.proofs.Loop.{length-tailed, over-behind}
 use Rattle.shelf.specs.Records.{written, stored, records}
@@ -18,7 +9,6 @@ use Rattle.shelf.specs.Steps.{stays, roomMade, InOrder}
 use Rattle.shelf.specs.Calls.{newRecord, putIn, putCall}
 use Rattle.shelf.proofs.Sound.{in-order}
 use Rattle.shelf.proofs.Putting.{length-current, stored-made, length-made, enough}
-use borrow.Author.Needs.{needs}
 use Rattle.shelf.proofs.put.Statement.{statement}
 use Rattle.shelf.proofs.put.Tie as tie
 

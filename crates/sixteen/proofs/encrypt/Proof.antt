@@ -1,11 +1,5 @@
 -- `sixteen::encrypt` meets its contract: the words that are loaded are those of the blocks, those that are stored their ciphers.
--- Assumes nothing.
-use borrow.Author.Needs.{needs}
-use mathlib.Core.Path.{refl, ap, _∙_}
-use mathlib.Core.List.{List}
-use native.Mathlib.Omega.{arith}
-use native.Mathlib.Nat.{lt-of-lt-of-le}
-use denote.Ref.{now}
+use Rattle.block.proofs.Base.{_∙_, ap, refl, List, lt-of-lt-of-le, arith, needs, now}
 use Rattle.block.specs.Blocks.{cat}
 use Rattle.block.specs.Words.{unwords}
 use Rattle.block.proofs.Cat.{cat-same}

@@ -1,18 +1,11 @@
 -- `sixteen::lay_before` meets its contract. The loop's invariant: the first i blocks are laid, and behind them stands what stood there.
--- Assumes nothing.
-use mathlib.Core.Path.{_≡_, refl, ap, _∙_}
-use mathlib.Core.List.{List, _++_}
-use Prim.Native.Nat.{ℕ, _≤_, _*_, _-_}
-use native.Mathlib.Omega.{arith}
-use denote.Ref.{now}
-use lib.ListN.{length, take, drop, length-append}
+use Rattle.block.proofs.Base.{_*_, _-_, _≤_, ℕ, _∙_, _≡_, ap, refl, List, _++_, arith, needs, now, drop, length, length-append, take}
 use Rattle.block.specs.Blocks.{blockAt, cat}
 use Rattle.block.specs.Words.{unwords}
 use Rattle.block.proofs.WordsBack.{length-unwords}
 use Rattle.walk.proofs.Batch.{length-blockAt}
 use Rattle.sixteen.proofs.Blocks.{block-stored}
 use Rattle.sixteen.proofs.Padded.{over-stored}
-use borrow.Author.Needs.{needs}
 use Rattle.sixteen.proofs.lay_before.Statement.{statement}
 use Rattle.sixteen.proofs.lay_before.Tie as tie
 

@@ -1,11 +1,5 @@
 -- `sixteen::load` meets its contract. The loop's invariant: the first i blocks stand in the rows.
--- Assumes nothing.
-use borrow.Author.Needs.{needs}
-use mathlib.Core.Path.{_≡_, sym, ap, _∙_}
-use Prim.Native.Nat.{_≤_, _*_, _-_}
-use native.Mathlib.Omega.{arith}
-use lib.ListN.{length, take, drop, length-drop}
-use lib.Seq.{take-all}
+use Rattle.block.proofs.Base.{_*_, _-_, _≤_, _∙_, _≡_, ap, sym, arith, needs, drop, length, length-drop, take, take-all}
 use Rattle.block.specs.Blocks.{blockAt}
 use Rattle.block.specs.Words.{words}
 use Rattle.block.proofs.WordsBack.{words-take}

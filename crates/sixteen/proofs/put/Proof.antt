@@ -1,8 +1,5 @@
 -- `sixteen::put` meets its contract: one block more stands in its place (`held-next`).
--- Assumes nothing.
-use borrow.Author.Needs.{needs}
-use mathlib.Core.Path.{_≡_}
-use lib.ListN.{length}
+use Rattle.block.proofs.Base.{_≡_, needs, length}
 use Rattle.sixteen.proofs.Blocks.{held-next}
 use Rattle.sixteen.proofs.put.Statement.{statement}
 use Rattle.sixteen.proofs.put.Tie as tie

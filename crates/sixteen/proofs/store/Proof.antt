@@ -1,10 +1,5 @@
 -- `sixteen::store` meets its contract. The loop's invariant: the first i blocks are stored, and behind them stands what stood there.
--- Assumes nothing.
-use mathlib.Core.Path.{_≡_, refl, ap, _∙_}
-use mathlib.Core.List.{List, _++_}
-use Prim.Native.Nat.{ℕ, _≤_, _*_, _-_}
-use native.Mathlib.Omega.{arith}
-use lib.ListN.{length, take, drop}
+use Rattle.block.proofs.Base.{_*_, _-_, _≤_, ℕ, _∙_, _≡_, ap, refl, List, _++_, arith, needs, drop, length, take}
 use Rattle.block.specs.Blocks.{cat}
 use Rattle.block.specs.Words.{unwords}
 use Rattle.block.proofs.WordsBack.{length-unwords}
@@ -12,7 +7,6 @@ use Rattle.cipher.specs.Sm4.{turned}
 use Rattle.sixteen.specs.Blocks.{block}
 use Rattle.sixteen.proofs.Blocks.{block-stored}
 use Rattle.sixteen.proofs.Padded.{over-stored}
-use borrow.Author.Needs.{needs}
 use Rattle.sixteen.proofs.store.Statement.{statement}
 use Rattle.sixteen.proofs.store.Tie as tie
 

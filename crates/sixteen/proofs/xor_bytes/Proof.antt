@@ -1,10 +1,5 @@
 -- `sixteen::xor_bytes` meets its contract. The loop's invariant: the first i bytes are xored, and the rest of the output is as it was lent.
--- Assumes nothing.
-use mathlib.Core.Path.{_≡_, refl}
-use mathlib.Core.List.{_++_}
-use Prim.Native.Nat.{_≤_, _-_}
-use native.Mathlib.Omega.{arith}
-use lib.ListN.{length, take, drop, length-set}
+use Rattle.block.proofs.Base.{_-_, _≤_, _≡_, refl, _++_, arith, drop, length, length-set, take}
 use Rattle.block.specs.Xor.{xors}
 use Rattle.walk.proofs.Fill.{xor-turn, xor-filled}
 use Rattle.sixteen.proofs.xor_bytes.Statement.{statement}

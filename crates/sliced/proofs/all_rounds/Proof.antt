@@ -1,7 +1,6 @@
 -- `sliced::all_rounds` meets its contract. The loop's invariant: what the round keys from number i on make of the blocks as they are is
 -- what all round keys make of the blocks as they were; a turn takes four (`rounds-front`).
--- Assumes nothing.
-use Rattle.block.proofs.Base.{needs, ℕ, _≤_, _<_, _+_, _-_, _%_, _≡_, ap, _∙_, [], arith, length, drop, drop-of-length-le}
+use Rattle.block.proofs.Base.{_%_, _+_, _-_, _<_, _≤_, ℕ, _∙_, _≡_, ap, [], arith, needs, drop, drop-of-length-le, length}
 use Rattle.cipher.specs.Sm4.{rounds}
 use Rattle.cipher.proofs.Rounds.{rounds-front}
 use Rattle.sliced.specs.Lanes.{lanes, Planes}

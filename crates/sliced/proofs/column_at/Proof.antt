@@ -1,5 +1,4 @@
 -- `sliced::column_at` meets its contract: each of the eight words is the sum of three planes at its place, and its mask (`eight-sums`).
--- Assumes nothing.
 use Rattle.block.proofs.Base.{needs}
 use Rattle.sliced.proofs.KeyBits.{eight-sums}
 use Rattle.sliced.proofs.column_at.Statement.{statement}

@@ -1,6 +1,5 @@
 -- `sliced::four` meets its contract: each round takes the planes that the rounds before it left, and four rounds in each lane are put
 -- together by `four-done`.
--- Assumes nothing.
 use Rattle.block.proofs.Base.{needs}
 use Rattle.sliced.proofs.Mixing.{four-done}
 use Rattle.sliced.proofs.four.Statement.{statement}

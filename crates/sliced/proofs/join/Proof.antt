@@ -1,7 +1,6 @@
 -- `sliced::join` meets its contract. The loop's invariant: the first i rows of each half are in place; a turn puts one more
 -- (`joined-next`).
--- Assumes nothing.
-use Rattle.block.proofs.Base.{needs, _≤_, _-_, _≡_, arith, length}
+use Rattle.block.proofs.Base.{_-_, _≤_, _≡_, arith, needs, length}
 use Rattle.sliced.specs.Lanes.{Parted}
 use Rattle.sliced.proofs.Halves.{joined-next}
 use Rattle.sliced.proofs.join.Statement.{statement}

@@ -1,5 +1,4 @@
 -- `sliced::masks` meets its contract: each of the eight words is spread from its bit of the byte (`eight-masks`).
--- Assumes nothing.
 use Rattle.block.proofs.Base.{needs}
 use Rattle.sliced.proofs.KeyBits.{eight-masks}
 use Rattle.sliced.proofs.masks.Statement.{statement}

@@ -1,7 +1,6 @@
 -- `sliced::mix` meets its contract. The loop's invariant: the first i words have L added to them, the others are as they were (`Mixed`).
 -- A turn adds to one word more the five words of s that L takes its bit from (`mixed-next`).
--- Assumes nothing.
-use Rattle.block.proofs.Base.{needs, ℕ, _≤_, _<_, _-_, _^_, _≡_, arith, length}
+use Rattle.block.proofs.Base.{_-_, _<_, _^_, _≤_, ℕ, _≡_, arith, needs, length}
 use Rattle.sliced.specs.Lanes.{Held}
 use Rattle.sliced.specs.Round.{mixed}
 use Rattle.sliced.proofs.Held.{held-less}

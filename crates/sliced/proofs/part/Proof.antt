@@ -1,7 +1,6 @@
 -- `sliced::part` meets its contract. The loop's invariant: the first i rows of each half are copied; a turn copies one more
 -- (`parted-next`).
--- Assumes nothing.
-use Rattle.block.proofs.Base.{needs, _≤_, _-_, _≡_, arith, length}
+use Rattle.block.proofs.Base.{_-_, _≤_, _≡_, arith, needs, length}
 use Rattle.sliced.specs.Lanes.{Parted}
 use Rattle.sliced.proofs.Halves.{parted-next}
 use Rattle.sliced.proofs.part.Statement.{statement}

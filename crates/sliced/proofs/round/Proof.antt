@@ -1,7 +1,6 @@
 -- `sliced::round` meets its contract. The loop's invariant: s holds what the S-boxes make of the first q bytes. Once it holds all four, it
 -- holds them twice (`double`), and `mix` adds L of them to a, which is the round (`round-done`).
--- Assumes nothing.
-use Rattle.block.proofs.Base.{needs, _≤_, _+_, _-_, _*_, _≡_, arith, length}
+use Rattle.block.proofs.Base.{_*_, _+_, _-_, _≤_, _≡_, arith, needs, length}
 use Rattle.cipher.proofs.Bounds.{tau-lt}
 use Rattle.sliced.specs.Lanes.{Held}
 use Rattle.sliced.specs.Round.{keyed, subbed}

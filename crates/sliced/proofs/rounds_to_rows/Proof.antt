@@ -1,6 +1,5 @@
 -- `sliced::rounds_to_rows` meets its contract: the rounds work in every lane, and the lanes go back into halves, the last word first
 -- (`rows-encrypted`).
--- Assumes nothing.
 use Rattle.block.proofs.Base.{needs}
 use Rattle.sliced.proofs.Halves.{rows-encrypted}
 use Rattle.sliced.proofs.rounds_to_rows.Statement.{statement}

@@ -1,7 +1,6 @@
 -- `sliced::sub_byte` meets its contract. The loop's invariant: byte b is done in the first j columns (`Columns`). In each lane of a column
 -- the gates give the S-box's entry for what goes in, and eight stores put it at its place (`columns-next`).
--- Assumes nothing.
-use Rattle.block.proofs.Base.{needs, _<_, _+_, _-_, _*_, _≡_, _∙_, arith, length}
+use Rattle.block.proofs.Base.{_*_, _+_, _-_, _<_, _∙_, _≡_, arith, needs, length}
 use Rattle.circuit.specs.Sbox.{SboxLanes}
 use Rattle.lanes.specs.Bits.{bit, Masks}
 use Rattle.sliced.specs.Round.{subbed, column}

@@ -1,11 +1,5 @@
 -- `stream::one_by_one` meets its contract. A turn of the loop goes one block on (`reached-next`), and at the end the rest is written.
--- Assumes nothing.
-use mathlib.Core.Path.{ap, _∙_}
-use Prim.Native.Nat.{_-_}
-use native.Mathlib.Omega.{arith}
-use denote.Ref.{now}
-use lib.ListN.{length, take}
-use lib.Seq.{length-take-le}
+use Rattle.block.proofs.Base.{_-_, _∙_, ap, arith, needs, now, length, take, length-take-le}
 use Rattle.block.specs.Words.{unwords}
 use Rattle.cipher.specs.Sm4.{encryptBlock}
 use Rattle.walk.specs.Reached.{Reached}
@@ -13,7 +7,6 @@ use Rattle.walk.proofs.Batch.{reached-first, reached-next}
 use Rattle.walk.proofs.Loop.{tailed, length-tailed, last-state, rest-written}
 use Rattle.stream.specs.Stream.{streamMode}
 use Rattle.stream.proofs.RoundTrip.{stream-block}
-use borrow.Author.Needs.{needs}
 use Rattle.stream.proofs.one_by_one.Statement.{statement}
 use Rattle.stream.proofs.one_by_one.Tie as tie
 

@@ -1,7 +1,5 @@
 -- `stream::pad_needed` meets its contract, by both tests.
--- Assumes nothing.
-use mathlib.Core.Path.{refl, sym, _∙_}
-use native.Mathlib.Omega.{arith}
+use Rattle.block.proofs.Base.{_∙_, refl, sym, arith}
 use Rattle.stream.proofs.Ahead.{untrue}
 use Rattle.stream.proofs.pad_needed.Statement.{statement}
 use Rattle.stream.proofs.pad_needed.Tie as tie

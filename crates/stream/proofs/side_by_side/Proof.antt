@@ -1,9 +1,7 @@
 -- `stream::side_by_side` meets its contract, by the kind.
--- Assumes nothing.
-use mathlib.Core.Path.{ap}
+use Rattle.block.proofs.Base.{ap, needs}
 use Rattle.stream.specs.Stream.{ahead}
 use Rattle.stream.proofs.Ahead.{untrue}
-use borrow.Author.Needs.{needs}
 use Rattle.stream.proofs.side_by_side.Statement.{statement}
 use Rattle.stream.proofs.side_by_side.Tie as tie
 

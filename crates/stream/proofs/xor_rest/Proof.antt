@@ -1,12 +1,5 @@
 -- `stream::xor_rest` meets its contract: the pad is the cipher of the state, and where it is not needed nothing is written.
--- Assumes nothing.
-use mathlib.Core.Path.{_≡_, sym, ap, _∙_}
-use mathlib.Core.List.{List}
-use Prim.Native.Nat.{ℕ, _^_}
-use mir.Val.{Fits}
-use mir.Syntax.{w32}
-use denote.Ref.{now}
-use lib.ListN.{length, getD}
+use Rattle.block.proofs.Base.{_^_, ℕ, _∙_, _≡_, ap, sym, List, needs, not-true, now, getD, length, w32, Fits}
 use Rattle.block.specs.Words.{unwords}
 use Rattle.block.specs.Xor.{xors}
 use Rattle.block.proofs.Entries.{below-each}
@@ -14,8 +7,6 @@ use Rattle.cipher.specs.Sm4.{encryptBlock}
 use Rattle.cipher.proofs.Blocks.{encrypt-unwords}
 use Rattle.walk.specs.Walk.{over}
 use Rattle.stream.proofs.Ahead.{untrue, nothing-written}
-use borrow.Author.Needs.{needs}
-use borrow.Author.Tests.{not-true}
 use Rattle.stream.proofs.xor_rest.Statement.{statement}
 use Rattle.stream.proofs.xor_rest.Tie as tie
 

@@ -1,6 +1,5 @@
 -- `carryless::many::halves` meets its contract. The loop's invariant: the first g words are there.
--- Assumes nothing.
-use Rattle.block.proofs.Base.{needs, _/_, _%_, _^_, _≤_, _-_, _≡_, refl, arith, length, getD}
+use Rattle.block.proofs.Base.{_%_, _-_, _/_, _^_, _≤_, _≡_, refl, arith, needs, getD, length}
 use Rattle.carryless.specs.Lanes.{Each}
 use Rattle.lanes.proofs.Filling.{each-next}
 use Rattle.carryless.proofs.many.halves.Statement.{statement}

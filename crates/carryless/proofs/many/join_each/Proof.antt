@@ -1,6 +1,5 @@
 -- `carryless::many::join_each` meets its contract. The loop's invariant: the first g numbers are there.
--- Assumes nothing.
-use Rattle.block.proofs.Base.{needs, _≤_, _-_, _≡_, arith, length, getD}
+use Rattle.block.proofs.Base.{_-_, _≤_, _≡_, arith, needs, getD, length}
 use Rattle.carryless.specs.Carryless.{joining}
 use Rattle.carryless.specs.Lanes.{Both}
 use Rattle.carryless.proofs.Filling.{both-next}

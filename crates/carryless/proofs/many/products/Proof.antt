@@ -1,6 +1,5 @@
 -- `carryless::many::products` meets its contract. The loop's invariant: the first g products are there, and p, q, r and s are y's parts.
--- Assumes nothing.
-use Rattle.block.proofs.Base.{needs, _≤_, _-_, _≡_, arith, length, getD}
+use Rattle.block.proofs.Base.{_-_, _≤_, _≡_, arith, needs, getD, length}
 use Rattle.carryless.specs.Carryless.{clmul}
 use Rattle.carryless.specs.Lanes.{Each}
 use Rattle.carryless.specs.Lent.{Quarters}

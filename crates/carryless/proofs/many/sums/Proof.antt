@@ -1,6 +1,5 @@
 -- `carryless::many::sums` meets its contract. The loop's invariant: the first g sums are there.
--- Assumes nothing.
-use Rattle.block.proofs.Base.{needs, _≤_, _-_, _≡_, refl, arith, length, getD}
+use Rattle.block.proofs.Base.{_-_, _≤_, _≡_, refl, arith, needs, getD, length}
 use Rattle.block.specs.Xor.{_⊕_}
 use Rattle.carryless.specs.Lanes.{Each}
 use Rattle.lanes.proofs.Filling.{each-next}

@@ -1,11 +1,6 @@
 -- `cipher::gates::encrypt` meets its contract. The invariant of either loop: the rounds that are left give what they gave where it
 -- began (`rounds-next`).
--- Assumes nothing.
-use borrow.Author.Needs.{needs}
-use mathlib.Core.Path.{_≡_, refl, ap, _∙_}
-use Prim.Native.Nat.{_≤_, _+_, _-_, _%_}
-use native.Mathlib.Omega.{arith}
-use lib.ListN.{length, drop}
+use Rattle.block.proofs.Base.{_%_, _+_, _-_, _≤_, _∙_, _≡_, ap, refl, arith, needs, drop, length}
 use Rattle.cipher.specs.Sm4.{rounds}
 use Rattle.cipher.proofs.Rounds.{rounds-next, rounds-done}
 use Rattle.cipher.proofs.gates.encrypt.Statement.{statement}

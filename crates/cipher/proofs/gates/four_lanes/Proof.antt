@@ -1,5 +1,4 @@
 -- `cipher::gates::four_lanes` meets its contract: the mask is a one in each of the four lanes (`masked-lanes`).
--- Assumes nothing.
 use Rattle.cipher.proofs.FourLanes.{masked-lanes, masked-lt}
 use Rattle.cipher.proofs.gates.four_lanes.Statement.{statement}
 use Rattle.cipher.proofs.gates.four_lanes.Tie as tie

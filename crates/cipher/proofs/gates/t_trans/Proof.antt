@@ -1,7 +1,5 @@
 -- `cipher::gates::t_trans` meets its contract: L after tau, as in the definition.
--- Assumes nothing.
-use borrow.Author.Needs.{needs}
-use mathlib.Core.Path.{_∙_}
+use Rattle.block.proofs.Base.{_∙_, needs}
 use Rattle.cipher.specs.Sm4.{T}
 use Rattle.cipher.proofs.gates.t_trans.Statement.{statement}
 use Rattle.cipher.proofs.gates.t_trans.Tie as tie

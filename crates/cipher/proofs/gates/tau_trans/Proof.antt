@@ -1,7 +1,5 @@
 -- `cipher::gates::tau_trans` meets its contract: the S-box in every lane of the shifted word is tau of its bytes (`tau-lanes`).
--- Assumes nothing.
-use borrow.Author.Needs.{needs}
-use mathlib.Core.Path.{_∙_}
+use Rattle.block.proofs.Base.{_∙_, needs}
 use Rattle.cipher.proofs.FourLanes.{tau-lanes}
 use Rattle.cipher.proofs.gates.tau_trans.Statement.{statement}
 use Rattle.cipher.proofs.gates.tau_trans.Tie as tie

@@ -1,9 +1,6 @@
 -- `cipher::mixed::four_rounds` meets its contract: the four results of T are put together by `four-by-hand`.
--- Assumes nothing.
-use mathlib.Core.Path.{_≡_}
-use lib.ListN.{length}
+use Rattle.block.proofs.Base.{_≡_, needs, length}
 use Rattle.cipher.proofs.Rounds.{four-by-hand}
-use borrow.Author.Needs.{needs}
 use Rattle.cipher.proofs.mixed.four_rounds.Statement.{statement}
 use Rattle.cipher.proofs.mixed.four_rounds.Tie as tie
 

@@ -1,13 +1,6 @@
 -- `cipher_mode::Sm4Cipher::new` meets its contract: the length of the key decides, and then its number, as in the definition.
--- Assumes nothing.
-use mathlib.Core.Path.{_≡_, sym, _∙_}
-use mathlib.Core.Bool.{Bool, true, false, _||_}
-use Prim.Native.Nat.{ℕ, _≤_}
-use native.Mathlib.Omega.{arith}
-use lib.Dec.{eqb, ltb}
-use borrow.Author.Tests.{eq-eqb, ne-eqb, ltb-false}
+use Rattle.block.proofs.Base.{_≤_, ℕ, _∙_, _≡_, sym, Bool, _||_, false, true, arith, needs, eq-eqb, ltb-false, ne-eqb, eqb, ltb}
 use Rattle.cipher_mode.specs.Key.{wrongNumber, newCipher}
-use borrow.Author.Needs.{needs}
 use Rattle.cipher_mode.proofs.Sm4Cipher.new.Statement.{statement}
 use Rattle.cipher_mode.proofs.Sm4Cipher.new.Tie as tie
 

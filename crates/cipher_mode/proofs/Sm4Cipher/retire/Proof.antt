@@ -1,12 +1,7 @@
 -- `cipher_mode::Sm4Cipher::retire` meets its contract: what is no key comes back, and of a key the definition gives the record.
--- Assumes nothing.
-use mathlib.Core.Path.{_≡_, refl}
-use mathlib.Core.Logic.{⊎-elim}
-use mathlib.Core.List.{[], _∷_}
-use native.Mathlib.Omega.{arith}
+use Rattle.block.proofs.Base.{_≡_, refl, ⊎-elim, [], _∷_, arith, needs}
 use denote.Enum.Declared.{tagOf}
 use types.Run.{OneOf}
-use borrow.Author.Needs.{needs}
 use Rattle.cipher_mode.specs.declared.KeyAnswer.{KeyAnswer}
 use Rattle.cipher_mode.specs.declared.KeyAnswer.the-variants.{Key, ErrorBlockSize, WrongNumber}
 use Rattle.cipher_mode.specs.declared.Sm4Cipher.{Sm4Cipher}

@@ -1,13 +1,10 @@
 -- `cipher_mode::Sm4CipherMode::call` meets its contract: where a check refused, so does the definition; where all passed, the work leaves
 -- what the definition goes on to.
--- Assumes nothing.
-use mathlib.Core.Path.{sym, ap₂, _∙_}
-use denote.Ref.{now}
+use Rattle.block.proofs.Base.{_∙_, ap₂, sym, needs, now}
 use Rattle.walk.specs.Outcome.{Outcome, keyed}
 use Rattle.cipher_mode.specs.Calls.{modeResult, modeCall}
 use Rattle.cipher_mode.proofs.Passed.{message-passed}
 use Rattle.cipher_mode.proofs.Ends.{refused-there, went-on}
-use borrow.Author.Needs.{needs}
 use Rattle.cipher_mode.proofs.Sm4CipherMode.call.Statement.{statement}
 use Rattle.cipher_mode.proofs.Sm4CipherMode.call.Tie as tie
 

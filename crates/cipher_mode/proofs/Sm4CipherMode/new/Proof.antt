@@ -1,7 +1,6 @@
 -- `cipher_mode::Sm4CipherMode::new` meets its contract: it is the key's record beside the mode.
--- Assumes nothing.
 use Rattle.cipher_mode.specs.Key.{newCipherMode}
-use borrow.Author.Needs.{needs}
+use Rattle.block.proofs.Base.{needs}
 use Rattle.cipher_mode.proofs.Sm4CipherMode.new.Statement.{statement}
 use Rattle.cipher_mode.proofs.Sm4CipherMode.new.Tie as tie
 

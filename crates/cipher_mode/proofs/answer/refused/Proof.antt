@@ -1,6 +1,5 @@
 -- `cipher_mode::answer::refused` meets its contract: no refusal says anything of a counter (`quiet-ending`).
--- Assumes nothing.
-use mathlib.Core.Path.{ap}
+use Rattle.block.proofs.Base.{ap}
 use Rattle.walk.specs.Outcome.{under}
 use Rattle.cipher_mode.specs.declared.answer.Ending.the-variants.{Refused}
 use Rattle.cipher_mode.proofs.Refusals.{quiet-ending}

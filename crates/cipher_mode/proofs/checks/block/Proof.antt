@@ -1,15 +1,11 @@
 -- `cipher_mode::checks::block` meets its contract: a stage that refuses ends the list (`stops`), and after one that passed the next answers
 -- (`goes-on`).
--- Assumes nothing.
-use mathlib.Core.Path.{_≡_}
-use lib.Dec.{ltb}
-use borrow.Author.Tests.{eq-eqb, ne-eqb, lt-ltb, le-ltb}
+use Rattle.block.proofs.Base.{_≡_, needs, eq-eqb, le-ltb, lt-ltb, ne-eqb, ltb}
 use Rattle.cipher_mode.specs.declared.answer.Refusal.the-variants.{NoRoom}
 use Rattle.cipher_mode.specs.declared.checks.Checked.{Checked}
 use Rattle.cipher_mode.specs.declared.checks.Checked.the-variants.{Passed}
 use Rattle.cipher_mode.specs.Checks.{refuse, blockCheck}
 use Rattle.cipher_mode.proofs.Passed.{stops, goes-on}
-use borrow.Author.Needs.{needs}
 use Rattle.cipher_mode.proofs.checks.block.Statement.{statement}
 use Rattle.cipher_mode.proofs.checks.block.Tie as tie
 

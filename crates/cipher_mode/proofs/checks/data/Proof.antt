@@ -1,8 +1,6 @@
 -- `cipher_mode::checks::data` meets its contract: too long, or as its shape is.
--- Assumes nothing.
-use borrow.Author.Tests.{lt-ltb, le-ltb}
+use Rattle.block.proofs.Base.{needs, le-ltb, lt-ltb}
 use Rattle.cipher_mode.specs.Checks.{dataCheck}
-use borrow.Author.Needs.{needs}
 use Rattle.cipher_mode.proofs.checks.data.Statement.{statement}
 use Rattle.cipher_mode.proofs.checks.data.Tie as tie
 

@@ -1,8 +1,6 @@
 -- `cipher_mode::checks::decryption_room` meets its contract: the mode picks the table's row, and Gcm's data in order has a tag.
--- Assumes nothing.
-use native.Mathlib.Omega.{arith}
+use Rattle.block.proofs.Base.{arith, needs}
 use Rattle.cipher_mode.proofs.Passed.{with-tag-passed}
-use borrow.Author.Needs.{needs}
 use Rattle.cipher_mode.proofs.checks.decryption_room.Statement.{statement}
 use Rattle.cipher_mode.proofs.checks.decryption_room.Tie as tie
 

@@ -1,6 +1,5 @@
 -- `cipher_mode::checks::encrypted_length` meets its contract: in each arm the mode is known, and the table gives that arm.
--- Assumes nothing.
-use borrow.Author.Needs.{needs}
+use Rattle.block.proofs.Base.{needs}
 use Rattle.cipher_mode.proofs.checks.encrypted_length.Statement.{statement}
 use Rattle.cipher_mode.proofs.checks.encrypted_length.Tie as tie
 

@@ -1,6 +1,5 @@
 -- `cipher_mode::checks::key` meets its contract: in each arm the answer is known, and the definition gives that arm.
--- Assumes nothing.
-use borrow.Author.Needs.{needs}
+use Rattle.block.proofs.Base.{needs}
 use Rattle.cipher_mode.proofs.checks.key.Statement.{statement}
 use Rattle.cipher_mode.proofs.checks.key.Tie as tie
 

@@ -1,9 +1,7 @@
 -- `cipher_mode::checks::key_and_iv` meets its contract: each return is the definition, by the tests that led there.
--- Assumes nothing.
-use mathlib.Core.Path.{sym, _∙_}
+use Rattle.block.proofs.Base.{_∙_, sym, needs}
 use Rattle.cipher_mode.specs.Checks.{keyAndIv}
 use Rattle.cipher_mode.proofs.Passed.{stops, goes-on}
-use borrow.Author.Needs.{needs}
 use Rattle.cipher_mode.proofs.checks.key_and_iv.Statement.{statement}
 use Rattle.cipher_mode.proofs.checks.key_and_iv.Tie as tie
 

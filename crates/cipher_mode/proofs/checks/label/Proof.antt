@@ -1,7 +1,5 @@
 -- `cipher_mode::checks::label` meets its contract: in each arm the mode is known, and the definition gives that arm.
--- Assumes nothing.
-use borrow.Author.Tests.{lt-ltb, le-ltb}
-use borrow.Author.Needs.{needs}
+use Rattle.block.proofs.Base.{needs, le-ltb, lt-ltb}
 use Rattle.cipher_mode.proofs.checks.label.Statement.{statement}
 use Rattle.cipher_mode.proofs.checks.label.Tie as tie
 

@@ -1,10 +1,8 @@
 -- `cipher_mode::checks::message` meets its contract: a stage that refuses ends the list (`stops`), and after one that passed the next
 -- answers (`goes-on`).
--- Assumes nothing.
-use mathlib.Core.Path.{sym, _∙_}
+use Rattle.block.proofs.Base.{_∙_, sym, needs}
 use Rattle.cipher_mode.specs.Checks.{messageCheck}
 use Rattle.cipher_mode.proofs.Passed.{stops, goes-on}
-use borrow.Author.Needs.{needs}
 use Rattle.cipher_mode.proofs.checks.message.Statement.{statement}
 use Rattle.cipher_mode.proofs.checks.message.Tie as tie
 

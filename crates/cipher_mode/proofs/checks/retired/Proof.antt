@@ -1,6 +1,5 @@
 -- `cipher_mode::checks::retired` meets its contract: a key that is retired is refused where it was to encrypt.
--- Assumes nothing.
-use borrow.Author.Needs.{needs}
+use Rattle.block.proofs.Base.{needs}
 use Rattle.cipher_mode.proofs.checks.retired.Statement.{statement}
 use Rattle.cipher_mode.proofs.checks.retired.Tie as tie
 

@@ -1,8 +1,6 @@
 -- `cipher_mode::checks::room` meets its contract: each return is one test of the definition.
--- Assumes nothing.
-use borrow.Author.Tests.{lt-ltb, le-ltb}
+use Rattle.block.proofs.Base.{needs, le-ltb, lt-ltb}
 use Rattle.cipher_mode.specs.Checks.{roomCheck}
-use borrow.Author.Needs.{needs}
 use Rattle.cipher_mode.proofs.checks.room.Statement.{statement}
 use Rattle.cipher_mode.proofs.checks.room.Tie as tie
 

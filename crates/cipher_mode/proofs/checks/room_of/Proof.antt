@@ -1,7 +1,6 @@
 -- `cipher_mode::checks::room_of` meets its contract: the direction picks the table.
--- Assumes nothing.
 use Rattle.cipher_mode.proofs.Passed.{data-within}
-use borrow.Author.Needs.{needs}
+use Rattle.block.proofs.Base.{needs}
 use Rattle.cipher_mode.proofs.checks.room_of.Statement.{statement}
 use Rattle.cipher_mode.proofs.checks.room_of.Tie as tie
 

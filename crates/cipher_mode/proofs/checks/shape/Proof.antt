@@ -1,6 +1,5 @@
 -- `cipher_mode::checks::shape` meets its contract: in each arm direction and mode are known, and the definition gives that arm.
--- Assumes nothing.
-use borrow.Author.Needs.{needs}
+use Rattle.block.proofs.Base.{needs}
 use Rattle.cipher_mode.proofs.checks.shape.Statement.{statement}
 use Rattle.cipher_mode.proofs.checks.shape.Tie as tie
 

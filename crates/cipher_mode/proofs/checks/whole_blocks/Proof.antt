@@ -1,6 +1,5 @@
 -- `cipher_mode::checks::whole_blocks` meets its contract: each return is the definition, by the tests that led there.
--- Assumes nothing.
-use borrow.Author.Tests.{eq-eqb, ne-eqb}
+use Rattle.block.proofs.Base.{eq-eqb, ne-eqb}
 use Rattle.cipher_mode.proofs.checks.whole_blocks.Statement.{statement}
 use Rattle.cipher_mode.proofs.checks.whole_blocks.Tie as tie
 

@@ -1,7 +1,5 @@
 -- `cipher_mode::checks::with_tag` meets its contract: each return is one test of the definition.
--- Assumes nothing.
-use borrow.Author.Tests.{lt-ltb, le-ltb}
-use borrow.Author.Needs.{needs}
+use Rattle.block.proofs.Base.{needs, le-ltb, lt-ltb}
 use Rattle.cipher_mode.proofs.checks.with_tag.Statement.{statement}
 use Rattle.cipher_mode.proofs.checks.with_tag.Tie as tie
 

@@ -1,7 +1,5 @@
 -- `cipher_mode::checks::wrong_iv` meets its contract: in each arm the mode is known, and the tests are the definition's.
--- Assumes nothing.
-use borrow.Author.Tests.{eq-eqb, ne-eqb}
-use borrow.Author.Needs.{needs}
+use Rattle.block.proofs.Base.{needs, eq-eqb, ne-eqb}
 use Rattle.cipher_mode.proofs.checks.wrong_iv.Statement.{statement}
 use Rattle.cipher_mode.proofs.checks.wrong_iv.Tie as tie
 

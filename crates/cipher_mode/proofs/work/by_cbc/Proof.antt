@@ -1,11 +1,5 @@
 -- `cipher_mode::work::by_cbc` meets its contract: sealing is as long as the table says, and opening answers as `cbc::decrypt`.
--- Assumes nothing.
-use mathlib.Core.Path.{_≡_, sym, ap, _∙_}
-use mathlib.Core.List.{List}
-use Prim.Native.Nat.{ℕ, _<_}
-use native.Mathlib.Omega.{arith}
-use denote.Ref.{now}
-use lib.ListN.{getD}
+use Rattle.block.proofs.Base.{_<_, ℕ, _∙_, _≡_, ap, sym, List, arith, needs, now, getD}
 use Rattle.block.specs.Words.{unwords}
 use Rattle.walk.specs.Outcome.{Head, Outcome, leaving}
 use Rattle.walk.specs.Walk.{over}
@@ -14,7 +8,6 @@ use Rattle.cbc.specs.Open.{cbcOpen}
 use Rattle.cbc.proofs.RoundTrip.{length-cbcSeal}
 use Rattle.cipher_mode.proofs.Passed.{data-within, whole-blocks-passed}
 use Rattle.cipher_mode.proofs.Ends.{reached, spelled}
-use borrow.Author.Needs.{needs}
 use Rattle.cipher_mode.proofs.work.by_cbc.Statement.{statement}
 use Rattle.cipher_mode.proofs.work.by_cbc.Tie as tie
 

@@ -1,14 +1,5 @@
 -- `cipher_mode::work::by_gcm` meets its contract: with the start of keys and IV, as long as the table says or as `gcm::decrypt`.
--- Assumes nothing.
-use mir.Val.{Fits}
-use mir.Syntax.{w32}
-use mathlib.Core.Path.{_≡_, refl, sym, ap, ap₂, _∙_}
-use mathlib.Core.Bool.{Bool}
-use mathlib.Core.List.{List}
-use Prim.Native.Nat.{ℕ, _-_, _≤_}
-use native.Mathlib.Omega.{arith}
-use denote.Ref.{now}
-use lib.ListN.{length, getD}
+use Rattle.block.proofs.Base.{_-_, _≤_, ℕ, _∙_, _≡_, ap, ap₂, refl, sym, Bool, List, arith, needs, now, getD, length, w32, Fits}
 use Rattle.counter.specs.Counter.{lastFour}
 use Rattle.counter.specs.CameRound.{blocksOf, gcmCameRound}
 use Rattle.counter.proofs.Steps.{last-four}
@@ -21,7 +12,6 @@ use Rattle.cipher_mode.specs.Tables.{limit}
 use Rattle.cipher_mode.specs.Calls.{gcmRound}
 use Rattle.cipher_mode.proofs.Passed.{iv-twelve-or-sixteen, label-passed, data-within, with-tag-passed}
 use Rattle.cipher_mode.proofs.Ends.{reached, told-of}
-use borrow.Author.Needs.{needs}
 use Rattle.cipher_mode.proofs.work.by_gcm.Statement.{statement}
 use Rattle.cipher_mode.proofs.work.by_gcm.Tie as tie
 

@@ -1,8 +1,6 @@
 -- `cipher_mode::work::cbc_answer` meets its contract: each case is answered under its own number.
--- Assumes nothing.
-use mathlib.Core.Path.{sym, ap}
+use Rattle.block.proofs.Base.{ap, sym, needs}
 use Rattle.cbc.specs.Open.{headOf}
-use borrow.Author.Needs.{needs}
 use Rattle.cipher_mode.proofs.work.cbc_answer.Statement.{statement}
 use Rattle.cipher_mode.proofs.work.cbc_answer.Tie as tie
 

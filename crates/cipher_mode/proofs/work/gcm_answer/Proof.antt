@@ -1,6 +1,5 @@
 -- `cipher_mode::work::gcm_answer` meets its contract: each case is answered under its own number, and only done tells of a counter.
--- Assumes nothing.
-use borrow.Author.Needs.{needs}
+use Rattle.block.proofs.Base.{needs}
 use Rattle.cipher_mode.proofs.work.gcm_answer.Statement.{statement}
 use Rattle.cipher_mode.proofs.work.gcm_answer.Tie as tie
 

@@ -1,6 +1,5 @@
 -- `cipher_mode::work::keys_for` meets its contract: in each arm the direction is known, and the definition gives that arm.
--- Assumes nothing.
-use borrow.Author.Needs.{needs}
+use Rattle.block.proofs.Base.{needs}
 use Rattle.cipher_mode.proofs.work.keys_for.Statement.{statement}
 use Rattle.cipher_mode.proofs.work.keys_for.Tie as tie
 

@@ -1,13 +1,10 @@
 -- `cipher_mode::work::message` meets its contract: in each arm the mode is known, and the definition gives what that arm's function leaves.
--- Assumes nothing.
-use mathlib.Core.Path.{ap, _∙_}
-use denote.Ref.{now}
+use Rattle.block.proofs.Base.{_∙_, ap, needs, now}
 use Rattle.walk.specs.Outcome.{Head, Outcome, leaving, done}
 use Rattle.walk.specs.Walk.{chain}
 use Rattle.stream.specs.Stream.{streamMode}
 use Rattle.stream.specs.declared.Kind.{Kind}
 use Rattle.cipher_mode.proofs.Passed.{sixteen}
-use borrow.Author.Needs.{needs}
 use Rattle.cipher_mode.proofs.work.message.Statement.{statement}
 use Rattle.cipher_mode.proofs.work.message.Tie as tie
 

@@ -1,5 +1,4 @@
 -- `cipher_mode::work::quiet` meets its contract: no ending says anything of a counter by itself (`quiet-ending`).
--- Assumes nothing.
 use Rattle.cipher_mode.proofs.Refusals.{quiet-ending}
 use Rattle.cipher_mode.proofs.work.quiet.Statement.{statement}
 use Rattle.cipher_mode.proofs.work.quiet.Tie as tie

@@ -1,9 +1,5 @@
 -- `cipher_mode::work::text_length` meets its contract: in each arm the direction is known.
--- Assumes nothing.
-use mathlib.Core.Path.{_≡_, refl}
-use Prim.Native.Nat.{ℕ}
-use native.Mathlib.Omega.{arith}
-use borrow.Author.Needs.{needs}
+use Rattle.block.proofs.Base.{ℕ, _≡_, refl, arith, needs}
 use Rattle.cipher_mode.proofs.work.text_length.Statement.{statement}
 use Rattle.cipher_mode.proofs.work.text_length.Tie as tie
 

@@ -1,7 +1,6 @@
 -- `field::many::multiply` meets its contract: three products of halves make up each product without carry (`join-128`), and x^127 times that is
 -- the product (`gmul-clmul`).
--- Assumes nothing.
-use Rattle.block.proofs.Base.{needs, ℕ, _^_, _<_, sym, ap, subst, _∙_, getD}
+use Rattle.block.proofs.Base.{_<_, _^_, ℕ, _∙_, ap, subst, sym, needs, getD}
 use Rattle.block.specs.Wide.{value}
 use Rattle.block.specs.Xor.{_⊕_}
 use Rattle.carryless.specs.Carryless.{clmul}

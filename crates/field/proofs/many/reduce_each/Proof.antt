@@ -1,6 +1,5 @@
 -- `field::many::reduce_each` meets its contract. The loop's invariant: the first g elements are there.
--- Assumes nothing.
-use Rattle.block.proofs.Base.{needs, _≤_, _-_, _≡_, arith, length}
+use Rattle.block.proofs.Base.{_-_, _≤_, _≡_, arith, needs, length}
 use Rattle.carryless.specs.Carryless.{joining128}
 use Rattle.carryless.specs.Lanes.{lane, Both}
 use Rattle.carryless.proofs.Filling.{both-next}

@@ -1,6 +1,5 @@
 -- `field::many::reduced` meets its contract: a product of 64 bits by 64 has no more than 127, so that the highest bit is free (`top-half`).
--- Assumes nothing.
-use Rattle.block.proofs.Base.{sym, ap, subst, _∙_, ℕ, _^_, _<_, Fits, w64, needs}
+use Rattle.block.proofs.Base.{_<_, _^_, ℕ, _∙_, ap, subst, sym, needs, w64, Fits}
 use Rattle.field.specs.Field.{timesXs}
 use Rattle.field.proofs.Reduction.{top-half}
 use Rattle.field.proofs.many.reduced.Statement.{statement}

@@ -1,6 +1,5 @@
 -- `field::many::sums` meets its contract. The loop's invariant: the first g sums are there, and what was read are words.
--- Assumes nothing.
-use Rattle.block.proofs.Base.{needs, ℕ, _^_, _<_, _≤_, _-_, _≡_, arith, length, getD}
+use Rattle.block.proofs.Base.{_-_, _<_, _^_, _≤_, ℕ, _≡_, arith, needs, getD, length}
 use Rattle.block.specs.Xor.{_⊕_}
 use Rattle.carryless.specs.Lanes.{Each}
 use Rattle.carryless.proofs.Filling.{one-more, each-next}

@@ -1,8 +1,7 @@
 -- `ghash::Ghash::absorb` meets its contract. The words that are loaded spell the number of the block at the front of `rest`,
 -- filled up with zeros (`blockOf-words`), and `step` takes in that number (`absorbed-same`).
--- Assumes nothing.
 use Rattle.ghash.proofs.Absorbing.{absorbed-same}
-use Rattle.block.proofs.Base.{_≡_, ap, _∙_, List, ℕ, needs}
+use Rattle.block.proofs.Base.{ℕ, _∙_, _≡_, ap, List, needs}
 use Rattle.block.specs.BigEndian.{numberOf}
 use Rattle.block.specs.Words.{unwords}
 use Rattle.block.specs.Wide.{value}

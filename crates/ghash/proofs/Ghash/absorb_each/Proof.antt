@@ -1,8 +1,7 @@
 -- `ghash::Ghash::absorb_each` meets its contract. The loop's invariant: to go on from `state` over the blocks behind the first i gives
 -- what all blocks give from the start (`Walked`), and m is the parts of H. A turn takes in the block that comes next (`walk-on`), and after
 -- the last none is left (`walk-end`). The measure is how many are to come.
--- Assumes nothing.
-use Rattle.block.proofs.Base.{_≡_, _≤_, _+_, _-_, _*_, arith, needs}
+use Rattle.block.proofs.Base.{_*_, _+_, _-_, _≤_, _≡_, arith, needs}
 use Rattle.carryless.specs.Lent.{PartsOf}
 use Rattle.ghash.proofs.Absorbing.{parts-same, Walked, walk-on, walk-end}
 use Rattle.ghash.proofs.Ghash.absorb_each.Statement.{statement}

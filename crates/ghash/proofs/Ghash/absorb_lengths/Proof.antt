@@ -1,6 +1,5 @@
 -- `ghash::Ghash::absorb_lengths` meets its contract. A length that can be hashed fits 64 bits when it is counted in bits, so
 -- the two halves are the length block (`lengthBlock-whole`), which `step` takes in (`absorbed-same`).
--- Assumes nothing.
 use Rattle.ghash.proofs.Absorbing.{absorbed-same}
 use Rattle.ghash.proofs.Lengths.{lengthBlock-whole}
 use Rattle.block.proofs.Base.{needs}

@@ -1,6 +1,5 @@
 -- `ghash::Ghash::step` meets its contract. `add` ensures the sum of hash and block and `times` its product with H, which is
 -- what one block makes of the hash (`absorbed-one`).
--- Assumes nothing.
 use Rattle.ghash.proofs.Absorbing.{absorbed-one}
 use Rattle.block.proofs.Base.{needs}
 use Rattle.ghash.proofs.Ghash.step.Statement.{statement}

@@ -1,6 +1,5 @@
 -- `ghash::halves::join` meets its contract: H to the count is what the first hash counts for.
--- Assumes nothing.
-use Rattle.block.proofs.Base.{ap, _∙_, ℕ, needs}
+use Rattle.block.proofs.Base.{ℕ, _∙_, ap, needs}
 use Rattle.block.specs.Wide.{value}
 use Rattle.block.specs.Xor.{_⊕_}
 use Rattle.field.specs.Field.{gmul}

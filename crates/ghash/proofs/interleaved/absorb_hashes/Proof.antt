@@ -1,7 +1,6 @@
 -- `ghash::interleaved::absorb_hashes` meets its contract. The loop's invariant: the first k hashes are taken in, and m is the parts of H. A turn
 -- takes in the one that comes next (`absorbed-both`).
--- Assumes nothing.
-use Rattle.block.proofs.Base.{needs, _≤_, _-_, _≡_, [], _∷_, arith}
+use Rattle.block.proofs.Base.{_-_, _≤_, _≡_, [], _∷_, arith, needs}
 use Rattle.carryless.specs.Lanes.{lane}
 use Rattle.carryless.specs.Lent.{PartsOf}
 use Rattle.ghash.specs.Absorbed.{Absorbed}

@@ -1,7 +1,6 @@
 -- `ghash::interleaved::absorb_lanes` meets its contract: once the sets are taken in, the hashes join to the hash of their blocks, and the rest is
 -- taken in block by block (`absorbed-cut`).
--- Assumes nothing.
-use Rattle.block.proofs.Base.{needs, _∙_, _*_, _≤_, lt-of-le-of-lt, arith, length}
+use Rattle.block.proofs.Base.{_*_, _≤_, _∙_, lt-of-le-of-lt, arith, needs, length}
 use Rattle.block.specs.Wide.{value}
 use Rattle.field.proofs.Bounded.{whole-lt}
 use Rattle.ghash.proofs.Absorbing.{absorbed-cut}

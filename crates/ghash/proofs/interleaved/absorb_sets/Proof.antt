@@ -1,7 +1,6 @@
 -- `ghash::interleaved::absorb_sets` meets its contract. The loop's invariant: where the first set was hashed (`hashed-first`), the first b blocks are,
 -- and the hashes are elements. In a turn the hashes are multiplied, and the next set is added (`hashed-next`).
--- Assumes nothing.
-use Rattle.block.proofs.Base.{needs, _≡_, ℕ, _<_, _≤_, _-_, arith, length}
+use Rattle.block.proofs.Base.{_-_, _<_, _≤_, ℕ, _≡_, arith, needs, length}
 use Rattle.block.specs.Wide.{value}
 use Rattle.carryless.specs.Lanes.{lane}
 use Rattle.field.specs.Field.{Element, gpow}

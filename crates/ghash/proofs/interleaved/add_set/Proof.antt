@@ -1,7 +1,6 @@
 -- `ghash::interleaved::add_set` meets its contract. The loop's invariant: to the first k hashes their blocks are added, and these are elements; the
 -- others are as they were.
--- Assumes nothing.
-use Rattle.block.proofs.Base.{needs, _≡_, refl, ap₂, _∙_, ℕ, _<_, _≤_, _-_, arith, length, set}
+use Rattle.block.proofs.Base.{_-_, _<_, _≤_, ℕ, _∙_, _≡_, ap₂, refl, arith, needs, length, set}
 use Rattle.block.specs.Xor.{_⊕_}
 use Rattle.block.proofs.Entries.{below-each}
 use Rattle.carryless.specs.Lanes.{lane, Both}

@@ -1,6 +1,5 @@
 -- `ghash::interleaved::lane_power` meets its contract: each square doubles the exponent (`doubled`).
--- Assumes nothing.
-use Rattle.block.proofs.Base.{needs, _≡_, sym, ap, ap₂, _∙_, ⊎-elim, ℕ, _+_, arith}
+use Rattle.block.proofs.Base.{_+_, ℕ, _∙_, _≡_, ap, ap₂, sym, ⊎-elim, arith, needs}
 use Rattle.block.specs.Wide.{value}
 use Rattle.field.specs.Field.{Element, gmul, gpow}
 use Rattle.field.proofs.Bounded.{whole-lt}

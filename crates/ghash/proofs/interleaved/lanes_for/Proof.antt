@@ -1,5 +1,4 @@
 -- `ghash::interleaved::lanes_for` meets its contract.
--- Assumes nothing.
 use Rattle.block.proofs.Base.{refl, inl, inr, arith}
 use Rattle.ghash.proofs.interleaved.lanes_for.Statement.{statement}
 use Rattle.ghash.proofs.interleaved.lanes_for.Tie as tie

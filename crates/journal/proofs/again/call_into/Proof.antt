@@ -1,10 +1,5 @@
--- `again::call_into` meets its contract: a mode above 4 is refused, and otherwise the call answers. Assumes nothing.
-use mathlib.Core.Path.{_≡_, refl}
-use mathlib.Core.List.{List}
-use Prim.Native.Nat.{ℕ, _≤_, _<_}
-use native.Mathlib.Omega.{arith}
-use denote.Ref.{now}
-use borrow.Author.Tests.{lt-ltb, le-ltb}
+-- `again::call_into` meets its contract: a mode above 4 is refused, and otherwise the call answers.
+use Rattle.block.proofs.Base.{_<_, _≤_, ℕ, _≡_, refl, List, arith, needs, le-ltb, lt-ltb, now}
 use Rattle.walk.specs.Outcome.{Outcome}
 use Rattle.cipher_mode.specs.declared.CipherMode.{CipherMode}
 use Rattle.cipher_mode.specs.declared.Direction.{Direction}
@@ -16,7 +11,6 @@ use Rattle.cipher_mode.specs.Calls.{modeCall}
 use Rattle.journal.specs.Format.{Entry, front}
 use Rattle.journal.specs.Recomputed.{callInto, Answers}
 use Rattle.journal.specs.declared.again.Answered.{Answered}
-use borrow.Author.Needs.{needs}
 use Rattle.journal.proofs.again.call_into.Statement.{statement}
 use Rattle.journal.proofs.again.call_into.Tie as tie
 

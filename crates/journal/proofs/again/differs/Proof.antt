@@ -1,7 +1,6 @@
--- `again::differs` meets its contract: each return is the definition, by the tests that led there. Assumes nothing.
-use borrow.Author.Tests.{eq-eqb, ne-eqb}
+-- `again::differs` meets its contract: each return is the definition, by the tests that led there.
+use Rattle.block.proofs.Base.{needs, eq-eqb, ne-eqb}
 use Rattle.journal.specs.Recomputed.{differsFrom}
-use borrow.Author.Needs.{needs}
 use Rattle.journal.proofs.again.differs.Statement.{statement}
 use Rattle.journal.proofs.again.differs.Tie as tie
 

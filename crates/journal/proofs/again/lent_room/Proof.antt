@@ -1,7 +1,6 @@
--- `again::lent_room` meets its contract, by the test that led there. Assumes nothing.
-use borrow.Author.Tests.{lt-ltb, le-ltb}
+-- `again::lent_room` meets its contract, by the test that led there.
+use Rattle.block.proofs.Base.{needs, le-ltb, lt-ltb}
 use Rattle.journal.specs.Recomputed.{lentRoom}
-use borrow.Author.Needs.{needs}
 use Rattle.journal.proofs.again.lent_room.Statement.{statement}
 use Rattle.journal.proofs.again.lent_room.Tie as tie
 

@@ -1,16 +1,9 @@
--- `again::recompute` meets its contract: the room that is lent serves as the recorded one does (`lent-judged`). Assumes nothing.
-use mathlib.Core.Path.{_≡_, ap, _∙_}
-use mathlib.Core.List.{List, _++_}
-use Prim.Native.Nat.{ℕ, _-_, _≤_}
-use native.Mathlib.Nat.{sub-zero}
-use native.Mathlib.Omega.{arith}
-use denote.Ref.{now}
-use lib.ListN.{length, take, drop, length-append, length-drop}
-use lib.Seq.{length-take-le}
+-- `again::recompute` meets its contract: the room that is lent serves as the recorded one does (`lent-judged`).
+use Rattle.block.proofs.Base.{_-_, _≤_, ℕ, _∙_, _≡_, ap, List, _++_, sub-zero, arith, needs, now, drop, length, length-append, length-drop}
+use Rattle.block.proofs.Base.{take, length-take-le}
 use Rattle.journal.specs.Format.{Entry, front}
 use Rattle.journal.specs.Recomputed.{differsFrom, lentRoom}
 use Rattle.journal.proofs.Lent.{lent-fits, lent-length, lent-judged, lent-most}
-use borrow.Author.Needs.{needs}
 use Rattle.journal.proofs.again.recompute.Statement.{statement}
 use Rattle.journal.proofs.again.recompute.Tie as tie
 

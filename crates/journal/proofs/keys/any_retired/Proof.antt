@@ -1,9 +1,5 @@
--- `keys::any_retired` meets its contract. The loop's invariant: the keys to come decide. The measure is how many they are. Assumes nothing.
-use mathlib.Core.Path.{_≡_, refl, sym, ap, _∙_}
-use mathlib.Core.Bool.{_||_}
-use Prim.Native.Nat.{_+_, _-_, _≤_}
-use native.Mathlib.Omega.{arith}
-use lib.ListN.{length, drop, length-map, drop-of-length-le}
+-- `keys::any_retired` meets its contract. The loop's invariant: the keys to come decide. The measure is how many they are.
+use Rattle.block.proofs.Base.{_+_, _-_, _≤_, _∙_, _≡_, ap, refl, sym, _||_, arith, drop, drop-of-length-le, length, length-map}
 use Rattle.cipher_mode.specs.declared.Sm4Cipher.{Sm4Cipher}
 use Rattle.journal.specs.KeyList.{keysIn, anyRetired}
 use Rattle.journal.proofs.KeyTurns.{count-keys, next-key}

@@ -1,8 +1,6 @@
--- `keys::at` meets its contract. Assumes nothing.
-use mathlib.Core.Path.{sym, _∙_}
-use lib.ListN.{length-map}
+-- `keys::at` meets its contract.
+use Rattle.block.proofs.Base.{_∙_, sym, needs, length-map}
 use Rattle.journal.proofs.KeyTurns.{key-lent}
-use borrow.Author.Needs.{needs}
 use Rattle.journal.proofs.keys.at.Statement.{statement}
 use Rattle.journal.proofs.keys.at.Tie as tie
 

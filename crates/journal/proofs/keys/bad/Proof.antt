@@ -1,8 +1,6 @@
--- `keys::bad` meets its contract: each return is the definition, by the tests that led there. Assumes nothing.
-use mathlib.Core.Path.{sym, _∙_}
-use borrow.Author.Tests.{lt-ltb, le-ltb}
+-- `keys::bad` meets its contract: each return is the definition, by the tests that led there.
+use Rattle.block.proofs.Base.{_∙_, sym, needs, le-ltb, lt-ltb}
 use Rattle.journal.specs.KeyList.{badKeys}
-use borrow.Author.Needs.{needs}
 use Rattle.journal.proofs.keys.bad.Statement.{statement}
 use Rattle.journal.proofs.keys.bad.Tie as tie
 

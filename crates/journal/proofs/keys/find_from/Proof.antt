@@ -1,16 +1,10 @@
 -- `keys::find_from` meets its contract. The loop's invariant: the place that is sought is found from here on too. The measure is how many
--- keys are to come. Assumes nothing.
-use mathlib.Core.Path.{_≡_, refl, sym, ap, _∙_}
-use mathlib.Core.Bool.{cond}
-use Prim.Native.Nat.{ℕ, _+_, _-_, _≤_}
-use native.Mathlib.Omega.{arith}
-use lib.Dec.{eqb}
-use lib.ListN.{length, drop, length-map, drop-of-length-le}
-use borrow.Author.Tests.{eq-eqb, ne-eqb}
+-- keys are to come.
+use Rattle.block.proofs.Base.{_+_, _-_, _≤_, ℕ, _∙_, _≡_, ap, refl, sym, cond, arith, needs, eq-eqb, ne-eqb, eqb, drop, drop-of-length-le}
+use Rattle.block.proofs.Base.{length, length-map}
 use Rattle.cipher_mode.specs.Key.{keyNumber}
 use Rattle.journal.specs.KeyList.{keysIn, placeOf}
 use Rattle.journal.proofs.KeyTurns.{count-keys, next-key}
-use borrow.Author.Needs.{needs}
 use Rattle.journal.proofs.keys.find_from.Statement.{statement}
 use Rattle.journal.proofs.keys.find_from.Tie as tie
 

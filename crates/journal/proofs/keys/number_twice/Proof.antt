@@ -1,17 +1,10 @@
 -- `keys::number_twice` meets its contract. The loop's invariant: the keys to come decide. The measure is how many they are.
--- Assumes nothing.
-use mathlib.Core.Path.{_≡_, refl, sym, ap, _∙_}
-use mathlib.Core.Bool.{true, false, _||_}
-use mathlib.Core.List.{List}
-use Prim.Native.Nat.{ℕ, _+_, _-_, _≤_, _<_}
-use native.Mathlib.Omega.{arith}
-use lib.ListN.{length, drop, length-map, length-drop, drop-of-length-le}
-use borrow.Author.Tests.{lt-ltb, le-ltb}
+use Rattle.block.proofs.Base.{_+_, _-_, _<_, _≤_, ℕ, _∙_, _≡_, ap, refl, sym, _||_, false, true, List, arith, needs, le-ltb, lt-ltb, drop}
+use Rattle.block.proofs.Base.{drop-of-length-le, length, length-drop, length-map}
 use Rattle.cipher_mode.specs.declared.Sm4Cipher.{Sm4Cipher}
 use Rattle.cipher_mode.specs.Key.{keyNumber}
 use Rattle.journal.specs.KeyList.{keysIn, placeOf, hasNumber, keyAt, numberTwice}
 use Rattle.journal.proofs.KeyTurns.{count-keys, next-key}
-use borrow.Author.Needs.{needs}
 use Rattle.journal.proofs.keys.number_twice.Statement.{statement}
 use Rattle.journal.proofs.keys.number_twice.Tie as tie
 

@@ -1,13 +1,8 @@
--- `records::behind` meets its contract: what is lent is the end of the list. Assumes nothing.
-use mathlib.Core.Path.{ap, _∙_}
-use Prim.Native.Nat.{ℕ, _+_}
-use native.Mathlib.Omega.{arith}
-use denote.Ref.{now}
-use lib.ListN.{drop}
+-- `records::behind` meets its contract: what is lent is the end of the list.
+use Rattle.block.proofs.Base.{_+_, ℕ, _∙_, ap, arith, needs, now, drop}
 use Rattle.walk.proofs.Loop.{tail-is}
 use Rattle.journal.specs.Format.{behind}
 use Rattle.journal.proofs.Standing.{part-long, part-fits}
-use borrow.Author.Needs.{needs}
 use Rattle.journal.proofs.records.behind.Statement.{statement}
 use Rattle.journal.proofs.records.behind.Tie as tie
 

@@ -1,7 +1,5 @@
--- `records::direction` meets its contract, by what the match told of the byte. Assumes nothing.
-use mathlib.Core.Path.{_≡_, refl, sym, ap}
-use Prim.Native.Nat.{ℕ, zero, suc}
-use native.Mathlib.Omega.{arith}
+-- `records::direction` meets its contract, by what the match told of the byte.
+use Rattle.block.proofs.Base.{suc, zero, ℕ, _≡_, ap, refl, sym, arith}
 use Rattle.cipher_mode.specs.declared.Direction.{Direction}
 use Rattle.cipher_mode.specs.declared.Direction.the-variants.{Decrypt}
 use Rattle.journal.specs.Format.{directionOf, front}

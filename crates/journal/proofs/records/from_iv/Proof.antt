@@ -1,8 +1,7 @@
--- `records::from_iv` meets its contract. Assumes nothing.
-use mathlib.Core.Path.{ap, _∙_}
+-- `records::from_iv` meets its contract.
+use Rattle.block.proofs.Base.{_∙_, ap, needs}
 use Rattle.journal.specs.Format.{behind}
 use Rattle.journal.proofs.Standing.{stands}
-use borrow.Author.Needs.{needs}
 use Rattle.journal.proofs.records.from_iv.Statement.{statement}
 use Rattle.journal.proofs.records.from_iv.Tie as tie
 

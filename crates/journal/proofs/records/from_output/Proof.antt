@@ -1,10 +1,7 @@
--- `records::from_output` meets its contract. Assumes nothing.
-use mathlib.Core.Path.{ap, _∙_}
-use denote.Ref.{now}
-use lib.ListN.{drop}
+-- `records::from_output` meets its contract.
+use Rattle.block.proofs.Base.{_∙_, ap, needs, now, drop}
 use Rattle.walk.proofs.Loop.{tail-is}
 use Rattle.journal.proofs.Standing.{in-room}
-use borrow.Author.Needs.{needs}
 use Rattle.journal.proofs.records.from_output.Statement.{statement}
 use Rattle.journal.proofs.records.from_output.Tie as tie
 

@@ -1,8 +1,7 @@
--- `records::key_number` meets its contract. Assumes nothing.
-use native.Mathlib.Omega.{arith}
+-- `records::key_number` meets its contract.
+use Rattle.block.proofs.Base.{arith, needs}
 use Rattle.journal.specs.Format.{front}
 use Rattle.journal.proofs.Standing.{long}
-use borrow.Author.Needs.{needs}
 use Rattle.journal.proofs.records.key_number.Statement.{statement}
 use Rattle.journal.proofs.records.key_number.Tie as tie
 

@@ -1,11 +1,8 @@
--- `records::label` meets its contract. Assumes nothing.
-use mathlib.Core.Path.{ap, _∙_}
-use native.Mathlib.Omega.{arith}
-use denote.Ref.{now}
+-- `records::label` meets its contract.
+use Rattle.block.proofs.Base.{_∙_, ap, arith, needs, now}
 use Rattle.walk.proofs.Loop.{tail-is}
 use Rattle.journal.specs.Format.{partAt, front}
 use Rattle.journal.proofs.Standing.{stands, long}
-use borrow.Author.Needs.{needs}
 use Rattle.journal.proofs.records.label.Statement.{statement}
 use Rattle.journal.proofs.records.label.Tie as tie
 

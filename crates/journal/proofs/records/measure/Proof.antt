@@ -1,18 +1,9 @@
 -- `records::measure` meets its contract. Each early return is by the test that failed; where none did, the record stands whole.
--- Assumes nothing.
-use mathlib.Core.Path.{_≡_, sym, ap, _∙_}
-use mathlib.Core.Bool.{Bool, true, false, not}
-use mathlib.Core.List.{List}
-use Prim.Native.Nat.{ℕ, _≤_}
-use native.Mathlib.Omega.{arith}
-use denote.Ref.{now}
-use lib.ListN.{length, drop}
-use borrow.Author.Tests.{not-true, not-false}
+use Rattle.block.proofs.Base.{_≤_, ℕ, _∙_, _≡_, ap, sym, Bool, false, not, true, List, arith, needs, not-false, not-true, now, drop, length}
 use Rattle.walk.proofs.Loop.{tailed, tail-is}
 use Rattle.journal.specs.Format.{behind, fromData, fromIv, fromRoom, fromOutput, afterRecord, sizeAt}
 use Rattle.journal.proofs.Cases.{clash}
 use Rattle.journal.proofs.Standing.{Stands, not-standing, size-is, size-sum}
-use borrow.Author.Needs.{needs}
 use Rattle.journal.proofs.records.measure.Statement.{statement}
 use Rattle.journal.proofs.records.measure.Tie as tie
 

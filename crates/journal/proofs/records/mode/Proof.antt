@@ -1,6 +1,5 @@
--- `records::mode` meets its contract. Assumes nothing.
-use mathlib.Core.Path.{refl}
-use native.Mathlib.Omega.{arith}
+-- `records::mode` meets its contract.
+use Rattle.block.proofs.Base.{refl, arith}
 use Rattle.journal.specs.Format.{front}
 use Rattle.journal.proofs.Standing.{long}
 use Rattle.journal.proofs.records.mode.Statement.{statement}

@@ -1,12 +1,7 @@
--- `records::number` meets its contract. Assumes nothing.
-use mathlib.Core.Path.{ap}
-use mathlib.Core.List.{List}
-use Prim.Native.Nat.{ℕ}
-use native.Mathlib.Omega.{arith}
-use lib.ListN.{getD}
+-- `records::number` meets its contract.
+use Rattle.block.proofs.Base.{ℕ, ap, List, arith, needs, getD}
 use Rattle.journal.specs.Format.{front}
 use Rattle.journal.proofs.Standing.{in-room}
-use borrow.Author.Needs.{needs}
 use Rattle.journal.proofs.records.number.Statement.{statement}
 use Rattle.journal.proofs.records.number.Tie as tie
 

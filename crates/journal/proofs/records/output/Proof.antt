@@ -1,8 +1,7 @@
--- `records::output` meets its contract. Assumes nothing.
-use mathlib.Core.Path.{ap, _∙_}
+-- `records::output` meets its contract.
+use Rattle.block.proofs.Base.{_∙_, ap, needs}
 use Rattle.journal.specs.Format.{partAt, front}
 use Rattle.journal.proofs.Standing.{stands}
-use borrow.Author.Needs.{needs}
 use Rattle.journal.proofs.records.output.Statement.{statement}
 use Rattle.journal.proofs.records.output.Tie as tie
 

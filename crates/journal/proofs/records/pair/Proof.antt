@@ -1,7 +1,6 @@
--- `records::pair` meets its contract. Assumes nothing.
-use native.Mathlib.Omega.{arith}
+-- `records::pair` meets its contract.
+use Rattle.block.proofs.Base.{arith, needs}
 use Rattle.block.specs.BigEndian.{numberOf}
-use borrow.Author.Needs.{needs}
 use Rattle.journal.proofs.records.pair.Statement.{statement}
 use Rattle.journal.proofs.records.pair.Tie as tie
 

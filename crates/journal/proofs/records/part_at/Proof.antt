@@ -1,13 +1,8 @@
--- `records::part_at` meets its contract: the part is what stands behind its length. Assumes nothing.
-use mathlib.Core.Path.{_≡_, ap}
-use Prim.Native.Nat.{ℕ, _+_, _-_}
-use native.Mathlib.Omega.{arith}
-use denote.Ref.{now}
-use lib.ListN.{take, drop}
+-- `records::part_at` meets its contract: the part is what stands behind its length.
+use Rattle.block.proofs.Base.{_+_, _-_, ℕ, _≡_, ap, arith, needs, now, drop, take}
 use Rattle.block.specs.Words.{wordAt}
 use Rattle.journal.specs.Format.{partAt}
 use Rattle.journal.proofs.Standing.{part-long, part-fits}
-use borrow.Author.Needs.{needs}
 use Rattle.journal.proofs.records.part_at.Statement.{statement}
 use Rattle.journal.proofs.records.part_at.Tie as tie
 

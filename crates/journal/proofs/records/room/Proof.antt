@@ -1,12 +1,8 @@
--- `records::room` meets its contract. Assumes nothing.
-use mathlib.Core.Path.{ap, _∙_}
-use mathlib.Core.List.{List}
-use Prim.Native.Nat.{ℕ}
-use native.Mathlib.Omega.{arith}
+-- `records::room` meets its contract.
+use Rattle.block.proofs.Base.{ℕ, _∙_, ap, List, arith, needs}
 use Rattle.block.specs.Words.{wordAt}
 use Rattle.journal.specs.Format.{front}
 use Rattle.journal.proofs.Standing.{in-room}
-use borrow.Author.Needs.{needs}
 use Rattle.journal.proofs.records.room.Statement.{statement}
 use Rattle.journal.proofs.records.room.Tie as tie
 

@@ -1,7 +1,6 @@
--- `records::starts_part` meets its contract: each return is the definition, by the tests that led there. Assumes nothing.
-use borrow.Author.Tests.{le-leb, lt-leb}
+-- `records::starts_part` meets its contract: each return is the definition, by the tests that led there.
+use Rattle.block.proofs.Base.{needs, le-leb, lt-leb}
 use Rattle.journal.specs.Format.{startsPart}
-use borrow.Author.Needs.{needs}
 use Rattle.journal.proofs.records.starts_part.Statement.{statement}
 use Rattle.journal.proofs.records.starts_part.Tie as tie
 

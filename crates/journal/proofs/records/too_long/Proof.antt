@@ -1,6 +1,5 @@
--- `records::too_long` meets its contract: the lengths are those of the record's parts. Assumes nothing.
-use mathlib.Core.Path.{_∙_}
-use borrow.Author.Needs.{needs}
+-- `records::too_long` meets its contract: the lengths are those of the record's parts.
+use Rattle.block.proofs.Base.{_∙_, needs}
 use Rattle.journal.proofs.records.too_long.Statement.{statement}
 use Rattle.journal.proofs.records.too_long.Tie as tie
 

@@ -1,16 +1,10 @@
--- `report::counted` meets its contract, field by field. No sum wraps, since every count is at most the place. Assumes nothing.
-use mathlib.Core.Path.{_≡_, refl, ap, _∙_}
-use mathlib.Core.Bool.{true}
-use mathlib.Core.List.{List}
-use Prim.Native.Nat.{ℕ, suc, _+_, _≤_, _<_}
-use native.Mathlib.Omega.{arith}
-use lib.ListN.{length}
+-- `report::counted` meets its contract, field by field. No sum wraps, since every count is at most the place.
+use Rattle.block.proofs.Base.{_+_, _<_, _≤_, suc, ℕ, _∙_, _≡_, ap, refl, true, List, arith, needs, length}
 use Rattle.block.proofs.Entries.{below-at}
 use Rattle.journal.specs.Format.{startsRecord, front}
 use Rattle.journal.specs.Reports.{oneMore, modePlace, counted}
 use Rattle.journal.proofs.Standing.{stands, size-within, data-within}
 use Rattle.journal.proofs.Counting.{same-report, mode-below-6}
-use borrow.Author.Needs.{needs}
 use Rattle.journal.proofs.report.counted.Statement.{statement}
 use Rattle.journal.proofs.report.counted.Tie as tie
 

@@ -1,4 +1,4 @@
--- `report::first_of` meets its contract, by the tests that led there. Assumes nothing.
+-- `report::first_of` meets its contract, by the tests that led there.
 use Rattle.journal.proofs.report.first_of.Statement.{statement}
 use Rattle.journal.proofs.report.first_of.Tie as tie
 

@@ -1,7 +1,7 @@
--- `writer::head` meets its contract: of the four bytes that `split` gives, the last two are the key's number. Assumes nothing.
+-- `writer::head` meets its contract: of the four bytes that `split` gives, the last two are the key's number.
 use Rattle.block.specs.BigEndian.{bytesOf}
 use Rattle.journal.specs.Format.{head}
-use borrow.Author.Needs.{needs}
+use Rattle.block.proofs.Base.{needs}
 use Rattle.journal.proofs.writer.head.Statement.{statement}
 use Rattle.journal.proofs.writer.head.Tie as tie
 

@@ -1,7 +1,7 @@
--- `writer::middle` meets its contract: the room's four bytes, and the number. Assumes nothing.
+-- `writer::middle` meets its contract: the room's four bytes, and the number.
 use Rattle.block.specs.BigEndian.{bytesOf}
 use Rattle.journal.specs.Format.{middle}
-use borrow.Author.Needs.{needs}
+use Rattle.block.proofs.Base.{needs}
 use Rattle.journal.proofs.writer.middle.Statement.{statement}
 use Rattle.journal.proofs.writer.middle.Tie as tie
 

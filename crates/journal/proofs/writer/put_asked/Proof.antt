@@ -1,16 +1,10 @@
--- `writer::put_asked` meets its contract: head, label, data and IV, one behind the other. Assumes nothing.
-use mathlib.Core.Path.{_≡_, ap, _∙_}
-use mathlib.Core.List.{List, _++_}
-use Prim.Native.Nat.{ℕ, _+_}
-use native.Mathlib.Omega.{arith}
-use lib.ListN.{length, length-append}
-use denote.Ref.{now}
+-- `writer::put_asked` meets its contract: head, label, data and IV, one behind the other.
+use Rattle.block.proofs.Base.{_+_, ℕ, _∙_, _≡_, ap, List, _++_, arith, needs, now, length, length-append}
 use Rattle.walk.specs.Walk.{over}
 use Rattle.walk.proofs.Loop.{over-behind}
 use Rattle.journal.specs.Format.{part}
 use Rattle.journal.specs.Writer.{headOf}
 use Rattle.journal.proofs.Writing.{copied-then, length-part-of, length-head, four-joined}
-use borrow.Author.Needs.{needs}
 use Rattle.journal.proofs.writer.put_asked.Statement.{statement}
 use Rattle.journal.proofs.writer.put_asked.Tie as tie
 

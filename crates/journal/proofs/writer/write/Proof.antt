@@ -1,16 +1,10 @@
 -- `writer::write` meets its contract: what is within the limits fits sixteen bits and a few, and no sum wraps; each return is the
--- definition. Assumes nothing.
-use mathlib.Core.Path.{sym, _∙_}
-use Prim.Native.Nat.{_<_, _^_}
-use native.Mathlib.Omega.{arith}
-use denote.Ref.{now}
-use lib.ListN.{length, length-take, length-drop}
-use borrow.Author.Tests.{lt-ltb}
+-- definition.
+use Rattle.block.proofs.Base.{_<_, _^_, _∙_, sym, arith, needs, lt-ltb, now, length, length-drop, length-take}
 use Rattle.journal.specs.Format.{Entry, written}
 use Rattle.journal.specs.Writer.{entryOf, write}
 use Rattle.journal.proofs.Cases.{Short, short}
 use Rattle.journal.proofs.Writing.{length-written, both-put}
-use borrow.Author.Needs.{needs}
 use Rattle.journal.proofs.writer.write.Statement.{statement}
 use Rattle.journal.proofs.writer.write.Tie as tie
 

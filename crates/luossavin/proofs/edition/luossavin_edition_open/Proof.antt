@@ -1,6 +1,5 @@
 -- `luossavin::edition::luossavin_edition_open` meets its contract: the single call under the label of the job and the edition.
--- Assumes nothing.
-use borrow.Author.Needs.{needs}
+use Rattle.block.proofs.Base.{needs}
 use Rattle.luossavin.proofs.edition.luossavin_edition_open.Statement.{statement}
 use Rattle.luossavin.proofs.edition.luossavin_edition_open.Tie as tie
 

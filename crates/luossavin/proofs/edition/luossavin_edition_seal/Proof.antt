@@ -1,6 +1,5 @@
 -- `luossavin::edition::luossavin_edition_seal` meets its contract: the single call under the label of the job and the edition.
--- Assumes nothing.
-use borrow.Author.Needs.{needs}
+use Rattle.block.proofs.Base.{needs}
 use Rattle.luossavin.proofs.edition.luossavin_edition_seal.Statement.{statement}
 use Rattle.luossavin.proofs.edition.luossavin_edition_seal.Tie as tie
 

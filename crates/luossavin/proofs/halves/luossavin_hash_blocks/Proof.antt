@@ -1,8 +1,7 @@
 -- `luossavin::halves::luossavin_hash_blocks` meets its contract: the number that the call of `ghash` gives, in its halves.
--- Assumes nothing.
 use Rattle.luossavin.specs.Halves.{hostHashBlocks}
 use Rattle.luossavin.proofs.Values.{of-value}
-use borrow.Author.Needs.{needs}
+use Rattle.block.proofs.Base.{needs}
 use Rattle.luossavin.proofs.halves.luossavin_hash_blocks.Statement.{statement}
 use Rattle.luossavin.proofs.halves.luossavin_hash_blocks.Tie as tie
 

@@ -1,8 +1,7 @@
 -- `luossavin::halves::luossavin_hash_join` meets its contract: the number that the call of `ghash` gives, in its halves.
--- Assumes nothing.
 use Rattle.luossavin.specs.Halves.{hostHashJoin}
 use Rattle.luossavin.proofs.Values.{of-value}
-use borrow.Author.Needs.{needs}
+use Rattle.block.proofs.Base.{needs}
 use Rattle.luossavin.proofs.halves.luossavin_hash_join.Statement.{statement}
 use Rattle.luossavin.proofs.halves.luossavin_hash_join.Tie as tie
 

@@ -1,7 +1,6 @@
 -- `luossavin::in_pieces::luossavin_ctr_end` meets its contract: it hands on the end.
--- Assumes nothing.
 use Rattle.luossavin.proofs.Steps.{handed-on}
-use borrow.Author.Needs.{needs}
+use Rattle.block.proofs.Base.{needs}
 use Rattle.luossavin.proofs.in_pieces.luossavin_ctr_end.Statement.{statement}
 use Rattle.luossavin.proofs.in_pieces.luossavin_ctr_end.Tie as tie
 

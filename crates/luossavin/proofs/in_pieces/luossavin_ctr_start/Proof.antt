@@ -1,8 +1,7 @@
 -- `luossavin::in_pieces::luossavin_ctr_start` meets its contract: it hands on a start on the host's record, by its direction.
--- Assumes nothing.
 use Rattle.luossavin.specs.InPieces.{hostCtrStart}
 use Rattle.luossavin.proofs.Steps.{handed-on}
-use borrow.Author.Needs.{needs}
+use Rattle.block.proofs.Base.{needs}
 use Rattle.luossavin.proofs.in_pieces.luossavin_ctr_start.Statement.{statement}
 use Rattle.luossavin.proofs.in_pieces.luossavin_ctr_start.Tie as tie
 

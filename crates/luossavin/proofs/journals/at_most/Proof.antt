@@ -1,8 +1,6 @@
 -- `luossavin::journals::at_most` meets its contract: the number, or the most that there is room for.
--- Assumes nothing.
-use borrow.Author.Tests.{lt-ltb, le-ltb}
+use Rattle.block.proofs.Base.{needs, le-ltb, lt-ltb}
 use Rattle.luossavin.specs.Recording.{atMost}
-use borrow.Author.Needs.{needs}
 use Rattle.luossavin.proofs.journals.at_most.Statement.{statement}
 use Rattle.luossavin.proofs.journals.at_most.Tie as tie
 

@@ -1,17 +1,11 @@
 -- `luossavin::journals::keys_of` meets its contract. The loop's invariant: the records that are made, with those to come, are the
 -- host's. The measure is how many are to come.
--- Assumes nothing.
-use mathlib.Core.Path.{_≡_, refl, sym, ap, _∙_}
-use mathlib.Core.List.{List, map}
-use Prim.Native.Nat.{_-_, _≤_}
-use native.Mathlib.Omega.{arith}
-use lib.ListN.{length, length-map, length-set}
+use Rattle.block.proofs.Base.{_-_, _≤_, _∙_, _≡_, ap, refl, sym, List, map, arith, needs, length, length-map, length-set}
 use Rattle.cipher_mode.specs.declared.Sm4Cipher.{Sm4Cipher}
 use Rattle.journal.specs.declared.keys.Keys.{Keys}
 use Rattle.luossavin.specs.Key.{cipherIn}
 use Rattle.luossavin.specs.Journals.{keysOf}
 use Rattle.luossavin.proofs.Ciphers.{toBe, one-made, all-made}
-use borrow.Author.Needs.{needs}
 use Rattle.luossavin.proofs.journals.keys_of.Statement.{statement}
 use Rattle.luossavin.proofs.journals.keys_of.Tie as tie
 

@@ -1,12 +1,9 @@
 -- `luossavin::journals::luossavin_record` meets its contract: the writer's record of the call, told as an answer.
--- Assumes nothing.
-use mathlib.Core.Path.{ap, _∙_}
-use denote.Ref.{now}
+use Rattle.block.proofs.Base.{_∙_, ap, needs, now}
 use Rattle.walk.specs.Outcome.{Head, Outcome, leaving}
 use Rattle.journal.specs.Format.{Entry}
 use Rattle.luossavin.specs.Recording.{recorded, hostRecord}
 use Rattle.luossavin.proofs.Recorded.{leavesOutcome, written-recorded, same-entry}
-use borrow.Author.Needs.{needs}
 use Rattle.luossavin.proofs.journals.luossavin_record.Statement.{statement}
 use Rattle.luossavin.proofs.journals.luossavin_record.Tie as tie
 

@@ -1,8 +1,6 @@
 -- `luossavin::journals::luossavin_replay` meets its contract: it tells what replay gives on the host's records.
--- Assumes nothing.
-use mathlib.Core.Path.{ap, _∙_}
+use Rattle.block.proofs.Base.{_∙_, ap, needs}
 use Rattle.luossavin.specs.Journals.{toldOf, hostReplay}
-use borrow.Author.Needs.{needs}
 use Rattle.luossavin.proofs.journals.luossavin_replay.Statement.{statement}
 use Rattle.luossavin.proofs.journals.luossavin_replay.Tie as tie
 

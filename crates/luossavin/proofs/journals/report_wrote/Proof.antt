@@ -1,7 +1,5 @@
 -- `luossavin::journals::report_wrote` meets its contract: each ending reports its own number.
--- Assumes nothing.
-use mathlib.Core.Path.{_∙_}
-use borrow.Author.Needs.{needs}
+use Rattle.block.proofs.Base.{_∙_, needs}
 use Rattle.luossavin.proofs.journals.report_wrote.Statement.{statement}
 use Rattle.luossavin.proofs.journals.report_wrote.Tie as tie
 

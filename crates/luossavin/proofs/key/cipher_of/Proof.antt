@@ -1,7 +1,6 @@
 -- `luossavin::key::cipher_of` meets its contract: every field is the definition's.
--- Assumes nothing.
 use Rattle.luossavin.specs.Key.{cipherIn}
-use borrow.Author.Needs.{needs}
+use Rattle.block.proofs.Base.{needs}
 use Rattle.luossavin.proofs.key.cipher_of.Statement.{statement}
 use Rattle.luossavin.proofs.key.cipher_of.Tie as tie
 

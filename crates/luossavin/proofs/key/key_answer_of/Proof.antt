@@ -1,6 +1,5 @@
 -- `luossavin::key::key_answer_of` meets its contract: 0 and 13 by their arms, and the others by the last.
--- Assumes nothing.
-use borrow.Author.Tests.{ne-eqb}
+use Rattle.block.proofs.Base.{ne-eqb}
 use Rattle.luossavin.specs.Key.{keyAnswerOf}
 use Rattle.luossavin.proofs.key.key_answer_of.Statement.{statement}
 use Rattle.luossavin.proofs.key.key_answer_of.Tie as tie

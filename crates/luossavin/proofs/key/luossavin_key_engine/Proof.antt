@@ -1,7 +1,6 @@
 -- `luossavin::key::luossavin_key_engine` meets its contract: every field but the engine is the record's.
--- Assumes nothing.
 use Rattle.luossavin.specs.Key.{hostKeyEngine}
-use borrow.Author.Needs.{needs}
+use Rattle.block.proofs.Base.{needs}
 use Rattle.luossavin.proofs.key.luossavin_key_engine.Statement.{statement}
 use Rattle.luossavin.proofs.key.luossavin_key_engine.Tie as tie
 

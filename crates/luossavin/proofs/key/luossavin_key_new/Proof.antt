@@ -1,8 +1,7 @@
 -- `luossavin::key::luossavin_key_new` meets its contract: it hands out the record that setting up the key gives.
--- Assumes nothing.
 use Rattle.luossavin.specs.Key.{keyOf, hostKeyNew}
 use Rattle.luossavin.proofs.Marks.{mark-byte}
-use borrow.Author.Needs.{needs}
+use Rattle.block.proofs.Base.{needs}
 use Rattle.luossavin.proofs.key.luossavin_key_new.Statement.{statement}
 use Rattle.luossavin.proofs.key.luossavin_key_new.Tie as tie
 

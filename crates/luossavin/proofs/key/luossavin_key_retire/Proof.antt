@@ -1,6 +1,5 @@
 -- `luossavin::key::luossavin_key_retire` meets its contract: the record's answer decides, as in the definition.
--- Assumes nothing.
-use borrow.Author.Tests.{ne-eqb}
+use Rattle.block.proofs.Base.{ne-eqb}
 use Rattle.luossavin.specs.Key.{hostKeyRetire}
 use Rattle.luossavin.proofs.key.luossavin_key_retire.Statement.{statement}
 use Rattle.luossavin.proofs.key.luossavin_key_retire.Tie as tie

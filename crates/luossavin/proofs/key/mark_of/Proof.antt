@@ -1,7 +1,5 @@
 -- `luossavin::key::mark_of` meets its contract: the number, or 0 above 3.
--- Assumes nothing.
-use borrow.Author.Tests.{lt-ltb, le-ltb}
-use borrow.Author.Needs.{needs}
+use Rattle.block.proofs.Base.{needs, le-ltb, lt-ltb}
 use Rattle.luossavin.proofs.key.mark_of.Statement.{statement}
 use Rattle.luossavin.proofs.key.mark_of.Tie as tie
 

@@ -1,6 +1,5 @@
 -- `luossavin::shelves::luossavin_shelf_collect` meets its contract: it reports what collecting leaves.
--- Assumes nothing.
-use borrow.Author.Needs.{needs}
+use Rattle.block.proofs.Base.{needs}
 use Rattle.luossavin.proofs.shelves.luossavin_shelf_collect.Statement.{statement}
 use Rattle.luossavin.proofs.shelves.luossavin_shelf_collect.Tie as tie
 

@@ -1,6 +1,5 @@
 -- `luossavin::shelves::luossavin_shelf_find` meets its contract: it reports where the record stands.
--- Assumes nothing.
-use borrow.Author.Needs.{needs}
+use Rattle.block.proofs.Base.{needs}
 use Rattle.luossavin.proofs.shelves.luossavin_shelf_find.Statement.{statement}
 use Rattle.luossavin.proofs.shelves.luossavin_shelf_find.Tie as tie
 

@@ -1,6 +1,5 @@
 -- `luossavin::shelves::luossavin_shelf_put` meets its contract: it reports what putting leaves.
--- Assumes nothing.
-use borrow.Author.Needs.{needs}
+use Rattle.block.proofs.Base.{needs}
 use Rattle.luossavin.proofs.shelves.luossavin_shelf_put.Statement.{statement}
 use Rattle.luossavin.proofs.shelves.luossavin_shelf_put.Tie as tie
 

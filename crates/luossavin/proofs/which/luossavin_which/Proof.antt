@@ -1,10 +1,5 @@
 -- `luossavin::which::luossavin_which` meets its contract: it tells the verdict on the host's record, whose place is below 64.
--- Assumes nothing.
-use mathlib.Core.Path.{ap, ap₂, _∙_}
-use mathlib.Core.Bool.{Bool, cond}
-use Prim.Native.Nat.{ℕ, _<_}
-use native.Mathlib.Omega.{arith}
-use denote.Ref.{now}
+use Rattle.block.proofs.Base.{_<_, ℕ, _∙_, ap, ap₂, Bool, cond, arith, needs, now}
 use Rattle.walk.specs.Outcome.{Head, under}
 use Rattle.cipher_mode.specs.declared.Sm4Cipher.{Sm4Cipher}
 use Rattle.editions.specs.Which.{Verdict, which}
@@ -12,7 +7,6 @@ use Rattle.editions.proofs.WhichOpens.{place-below-64}
 use Rattle.luossavin.specs.Which.{Told, toldOf, hostWhich}
 use Rattle.luossavin.proofs.Asked.{none-is-done}
 use Rattle.luossavin.proofs.Marks.{mark-byte}
-use borrow.Author.Needs.{needs}
 use Rattle.luossavin.proofs.which.luossavin_which.Statement.{statement}
 use Rattle.luossavin.proofs.which.luossavin_which.Tie as tie
 

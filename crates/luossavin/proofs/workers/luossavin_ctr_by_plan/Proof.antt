@@ -1,8 +1,7 @@
 -- `luossavin::workers::luossavin_ctr_by_plan` meets its contract: it reports the work on the host's record, by its direction.
--- Assumes nothing.
 use Rattle.luossavin.specs.Ranges.{hostCtrByPlan}
 use Rattle.luossavin.proofs.Steps.{told}
-use borrow.Author.Needs.{needs}
+use Rattle.block.proofs.Base.{needs}
 use Rattle.luossavin.proofs.workers.luossavin_ctr_by_plan.Statement.{statement}
 use Rattle.luossavin.proofs.workers.luossavin_ctr_by_plan.Tie as tie
 

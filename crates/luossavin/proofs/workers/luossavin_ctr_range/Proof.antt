@@ -1,8 +1,7 @@
 -- `luossavin::workers::luossavin_ctr_range` meets its contract: it reports the range on the host's record, by its direction.
--- Assumes nothing.
 use Rattle.luossavin.specs.Ranges.{hostCtrRange}
 use Rattle.luossavin.proofs.Steps.{told}
-use borrow.Author.Needs.{needs}
+use Rattle.block.proofs.Base.{needs}
 use Rattle.luossavin.proofs.workers.luossavin_ctr_range.Statement.{statement}
 use Rattle.luossavin.proofs.workers.luossavin_ctr_range.Tie as tie
 

@@ -1,7 +1,5 @@
 -- `luossavin::workers::report_ended` meets its contract: each case reports its own number, and a refusal as every call reports it.
--- Assumes nothing.
-use mathlib.Core.Path.{_∙_}
-use borrow.Author.Needs.{needs}
+use Rattle.block.proofs.Base.{_∙_, needs}
 use Rattle.luossavin.proofs.workers.report_ended.Statement.{statement}
 use Rattle.luossavin.proofs.workers.report_ended.Tie as tie
 

@@ -1,7 +1,6 @@
 -- `pieces::checks::gcm_start` meets its contract: what is wrong with key and IV ends the list, and then the label answers.
--- Assumes nothing.
 use Rattle.pieces.specs.Checks.{gcmStarting}
-use borrow.Author.Needs.{needs}
+use Rattle.block.proofs.Base.{needs}
 use Rattle.pieces.proofs.checks.gcm_start.Statement.{statement}
 use Rattle.pieces.proofs.checks.gcm_start.Tie as tie
 

@@ -1,14 +1,9 @@
 -- `pieces::checks::running` meets its contract: a state that does not run ends the list, and then the lengths answer. The total is
 -- tested before the difference is taken, and the two tests are the definition's one.
--- Assumes nothing.
-use mathlib.Core.Path.{_≡_, sym, _∙_}
-use Prim.Native.Nat.{_+_}
-use native.Mathlib.Omega.{arith}
-use borrow.Author.Tests.{lt-ltb, le-ltb}
+use Rattle.block.proofs.Base.{_+_, _∙_, _≡_, sym, arith, needs, le-ltb, lt-ltb}
 use Rattle.cipher_mode.specs.declared.checks.Checked.the-variants.{Passed}
 use Rattle.cipher_mode.specs.Tables.{limit}
 use Rattle.pieces.specs.Checks.{standing, running}
-use borrow.Author.Needs.{needs}
 use Rattle.pieces.proofs.checks.running.Statement.{statement}
 use Rattle.pieces.proofs.checks.running.Tie as tie
 

@@ -1,8 +1,6 @@
 -- `pieces::checks::standing` meets its contract: each return is the definition, by the tests that led there.
--- Assumes nothing.
-use borrow.Author.Tests.{eq-eqb, ne-eqb}
+use Rattle.block.proofs.Base.{needs, eq-eqb, ne-eqb}
 use Rattle.pieces.specs.Checks.{standing}
-use borrow.Author.Needs.{needs}
 use Rattle.pieces.proofs.checks.standing.Statement.{statement}
 use Rattle.pieces.proofs.checks.standing.Tie as tie
 

@@ -1,13 +1,8 @@
 -- `pieces::checks::tagged` meets its contract: what stands before the tag ends the list, and then its length answers. Of a longer
 -- tag the definition's difference is 0.
--- Assumes nothing.
-use mathlib.Core.Path.{_≡_, sym, _∙_}
-use Prim.Native.Nat.{_-_}
-use native.Mathlib.Omega.{arith}
-use borrow.Author.Tests.{eq-eqb, ne-eqb}
+use Rattle.block.proofs.Base.{_-_, _∙_, _≡_, sym, arith, needs, eq-eqb, ne-eqb}
 use Rattle.cipher_mode.specs.declared.checks.Checked.the-variants.{Passed}
 use Rattle.pieces.specs.Checks.{running, tagged}
-use borrow.Author.Needs.{needs}
 use Rattle.pieces.proofs.checks.tagged.Statement.{statement}
 use Rattle.pieces.proofs.checks.tagged.Tie as tie
 

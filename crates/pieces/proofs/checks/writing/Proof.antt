@@ -1,10 +1,7 @@
 -- `pieces::checks::writing` meets its contract: what stands before the room ends the list, and then the room answers.
--- Assumes nothing.
-use mathlib.Core.Path.{_≡_, sym, _∙_}
-use borrow.Author.Tests.{lt-ltb, le-ltb}
+use Rattle.block.proofs.Base.{_∙_, _≡_, sym, needs, le-ltb, lt-ltb}
 use Rattle.cipher_mode.specs.declared.checks.Checked.the-variants.{Passed}
 use Rattle.pieces.specs.Checks.{running, writing}
-use borrow.Author.Needs.{needs}
 use Rattle.pieces.proofs.checks.writing.Statement.{statement}
 use Rattle.pieces.proofs.checks.writing.Tie as tie
 

@@ -1,7 +1,6 @@
 -- `pieces::ctr::shut` meets its contract: every field is the definition's.
--- Assumes nothing.
 use Rattle.pieces.specs.States.{ctrShut}
-use borrow.Author.Needs.{needs}
+use Rattle.block.proofs.Base.{needs}
 use Rattle.pieces.proofs.ctr.shut.Statement.{statement}
 use Rattle.pieces.proofs.ctr.shut.Tie as tie
 

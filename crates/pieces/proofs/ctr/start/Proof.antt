@@ -1,17 +1,11 @@
 -- `pieces::ctr::start` meets its contract: what the checks refuse is refused, and otherwise the IV is the first counter.
--- Assumes nothing.
-use mathlib.Core.Path.{_≡_, sym, _∙_}
-use Prim.Native.Nat.{ℕ, _<_}
-use native.Mathlib.Omega.{arith}
-use denote.Ref.{now}
-use lib.ListN.{length, getD}
+use Rattle.block.proofs.Base.{_<_, ℕ, _∙_, _≡_, sym, arith, needs, now, getD, length}
 use Rattle.cipher_mode.proofs.Passed.{sixteen, key-and-iv-passed}
 use Rattle.cipher_mode.proofs.Ends.{spelled}
 use Rattle.pieces.specs.declared.flow.Counting.the-variants.{Ctr as Ctr·counting}
 use Rattle.pieces.specs.States.{ctrAfter}
 use Rattle.pieces.specs.Calls.{ctrStart}
 use Rattle.pieces.proofs.KeyStream.{flow-start}
-use borrow.Author.Needs.{needs}
 use Rattle.pieces.proofs.ctr.start.Statement.{statement}
 use Rattle.pieces.proofs.ctr.start.Tie as tie
 

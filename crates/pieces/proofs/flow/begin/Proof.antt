@@ -1,6 +1,5 @@
 -- `pieces::flow::begin` meets its contract: the counter's bytes, and its cipher.
--- Assumes nothing.
-use borrow.Author.Needs.{needs}
+use Rattle.block.proofs.Base.{needs}
 use Rattle.pieces.proofs.flow.begin.Statement.{statement}
 use Rattle.pieces.proofs.flow.begin.Tie as tie
 

@@ -1,7 +1,6 @@
 -- `pieces::flow::ciphered` meets its contract: the cipher of four words is that of the bytes that they spell.
--- Assumes nothing.
 use Rattle.pieces.proofs.Fitting.{ciphered-words}
-use borrow.Author.Needs.{needs}
+use Rattle.block.proofs.Base.{needs}
 use Rattle.pieces.proofs.flow.ciphered.Statement.{statement}
 use Rattle.pieces.proofs.flow.ciphered.Tie as tie
 

@@ -1,6 +1,5 @@
 -- `pieces::flow::next_counter` meets its contract: in each arm it is known whose counters are meant.
--- Assumes nothing.
-use borrow.Author.Needs.{needs}
+use Rattle.block.proofs.Base.{needs}
 use Rattle.pieces.proofs.flow.next_counter.Statement.{statement}
 use Rattle.pieces.proofs.flow.next_counter.Tie as tie
 

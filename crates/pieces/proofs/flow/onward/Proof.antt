@@ -1,9 +1,7 @@
 -- `pieces::flow::onward` meets its contract: the stream starts at the next counter, and its end is the flow's.
--- Assumes nothing.
-use mathlib.Core.Path.{refl}
+use Rattle.block.proofs.Base.{refl, needs}
 use Rattle.pieces.specs.Flow.{flowAfter}
 use Rattle.pieces.proofs.Fitting.{spelt}
-use borrow.Author.Needs.{needs}
 use Rattle.pieces.proofs.flow.onward.Statement.{statement}
 use Rattle.pieces.proofs.flow.onward.Tie as tie
 

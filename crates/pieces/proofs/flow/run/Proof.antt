@@ -1,18 +1,11 @@
 -- `pieces::flow::run` meets its contract. Where the text does not fill the begun block, its pad is all that is needed
 -- (`text-short`); where it does, what follows stands behind it in the output (`over-behind`).
--- Assumes nothing.
-use mathlib.Core.Path.{_≡_, refl, _∙_}
-use Prim.Native.Nat.{_-_}
-use native.Mathlib.Omega.{arith}
-use denote.Ref.{now}
-use lib.ListN.{length, drop, length-drop}
-use borrow.Author.Tests.{lt-ltb, le-ltb}
+use Rattle.block.proofs.Base.{_-_, _∙_, _≡_, refl, arith, needs, le-ltb, lt-ltb, now, drop, length, length-drop}
 use Rattle.block.specs.Xor.{xors}
 use Rattle.walk.proofs.Loop.{tail-is, over-behind}
 use Rattle.pieces.specs.Flow.{flowText, flowNext}
 use Rattle.pieces.proofs.Pads.{length-both}
 use Rattle.pieces.proofs.KeyStream.{text-short}
-use borrow.Author.Needs.{needs}
 use Rattle.pieces.proofs.flow.run.Statement.{statement}
 use Rattle.pieces.proofs.flow.run.Tie as tie
 

@@ -1,15 +1,8 @@
 -- `pieces::flow::xor_pad` meets its contract. The loop's invariant: the first i bytes are xored with the pad from place p on,
 -- and the rest of the output is as it was lent.
--- Assumes nothing.
-use mathlib.Core.Path.{_≡_, refl}
-use mathlib.Core.List.{_++_}
-use Prim.Native.Nat.{_≤_, _-_}
-use native.Mathlib.Omega.{arith}
-use denote.Ref.{now}
-use lib.ListN.{length, take, drop, length-set}
+use Rattle.block.proofs.Base.{_-_, _≤_, _≡_, refl, _++_, arith, needs, now, drop, length, length-set, take}
 use Rattle.block.specs.Xor.{xors}
 use Rattle.pieces.proofs.Pads.{pad-turn, pad-reached}
-use borrow.Author.Needs.{needs}
 use Rattle.pieces.proofs.flow.xor_pad.Statement.{statement}
 use Rattle.pieces.proofs.flow.xor_pad.Tie as tie
 

@@ -1,11 +1,8 @@
 -- `pieces::hashing::begin` meets its contract: before the first byte nothing is held (`held-within`).
--- Assumes nothing.
-use mathlib.Core.List.{[]}
-use native.Mathlib.Omega.{arith}
+use Rattle.block.proofs.Base.{[], arith, needs}
 use Rattle.block.proofs.Convert.{length-bytesOf, bytesOf-bytes}
 use Rattle.pieces.specs.Hashing.{filledUp, hashOf}
 use Rattle.pieces.proofs.HashOn.{held-within}
-use borrow.Author.Needs.{needs}
 use Rattle.pieces.proofs.hashing.begin.Statement.{statement}
 use Rattle.pieces.proofs.hashing.begin.Tie as tie
 

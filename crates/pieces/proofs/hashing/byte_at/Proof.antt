@@ -1,11 +1,6 @@
 -- `pieces::hashing::byte_at` meets its contract: before p the byte is held's (`at-held`), from p on the text's (`at-text`).
--- Assumes nothing.
-use Prim.Native.Nat.{_-_}
-use native.Mathlib.Omega.{arith}
-use denote.Ref.{now}
-use lib.ListN.{List·getD-eq-default}
+use Rattle.block.proofs.Base.{_-_, arith, needs, now, List·getD-eq-default}
 use Rattle.pieces.proofs.Filling.{at-held, at-text}
-use borrow.Author.Needs.{needs}
 use Rattle.pieces.proofs.hashing.byte_at.Statement.{statement}
 use Rattle.pieces.proofs.hashing.byte_at.Tie as tie
 

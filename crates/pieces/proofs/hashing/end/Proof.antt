@@ -1,12 +1,7 @@
 -- `pieces::hashing::end` meets its contract: what is held is one block or none, and the length block is behind it.
--- Assumes nothing.
-use mathlib.Core.Path.{_≡_}
-use native.Mathlib.Nat.{sub-zero}
-use native.Mathlib.Omega.{arith}
-use lib.ListN.{length}
+use Rattle.block.proofs.Base.{_≡_, sub-zero, arith, needs, length}
 use Rattle.ghash.proofs.Absorbing.{absorbed-both}
 use Rattle.pieces.specs.Hashing.{hashEnd}
-use borrow.Author.Needs.{needs}
 use Rattle.pieces.proofs.hashing.end.Statement.{statement}
 use Rattle.pieces.proofs.hashing.end.Tie as tie
 

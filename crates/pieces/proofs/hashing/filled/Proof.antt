@@ -1,16 +1,9 @@
 -- `pieces::hashing::filled` meets its contract. The loop's invariant: the first i bytes are those of the block.
--- Assumes nothing.
-use mathlib.Core.Path.{_≡_, refl, sym, _∙_}
-use mathlib.Core.List.{[], _++_, append-nil}
-use Prim.Native.Nat.{ℕ, _≤_, _-_}
-use native.Mathlib.Omega.{arith}
-use denote.Ref.{now}
-use lib.ListN.{length, take, drop, getD, replicate, length-set, drop-of-length-le}
-use lib.Seq.{take-all}
+use Rattle.block.proofs.Base.{_-_, _≤_, ℕ, _∙_, _≡_, refl, sym, [], _++_, append-nil, arith, needs, now, drop, drop-of-length-le, getD}
+use Rattle.block.proofs.Base.{length, length-set, replicate, take, take-all}
 use Rattle.walk.proofs.Fill.{copy-turn}
 use Rattle.pieces.specs.Hashing.{filledUp}
 use Rattle.pieces.proofs.Filling.{filled-length, filled-at}
-use borrow.Author.Needs.{needs}
 use Rattle.pieces.proofs.hashing.filled.Statement.{statement}
 use Rattle.pieces.proofs.hashing.filled.Tie as tie
 

@@ -1,18 +1,11 @@
 -- `pieces::hashing::full_blocks` meets its contract: the block, and then the full blocks behind it, are those of both joined
 -- (`full-first`), and what is held is what is begun behind them (`begun-behind`).
--- Assumes nothing.
-use mathlib.Core.Path.{_≡_}
-use Prim.Native.Nat.{_-_, _*_, _/_, _%_}
-use native.Mathlib.Nat.{sub-zero}
-use native.Mathlib.Omega.{arith}
-use denote.Ref.{now}
-use lib.ListN.{length}
+use Rattle.block.proofs.Base.{_%_, _*_, _-_, _/_, _≡_, sub-zero, arith, needs, now, length}
 use Rattle.ghash.proofs.Absorbing.{absorbed-both}
 use Rattle.walk.proofs.Loop.{tail-is}
 use Rattle.pieces.specs.Hashing.{hashAfter}
 use Rattle.pieces.proofs.Begun.{begun-behind}
 use Rattle.pieces.proofs.HashOn.{full-first}
-use borrow.Author.Needs.{needs}
 use Rattle.pieces.proofs.hashing.full_blocks.Statement.{statement}
 use Rattle.pieces.proofs.hashing.full_blocks.Tie as tie
 

@@ -1,18 +1,11 @@
 -- `pieces::hashing::take_in` meets its contract. Where the text does not fill the begun block, all is held (`held-within`);
 -- where it does, the first block and what is behind it are what was held and the text (`filled-full`).
--- Assumes nothing.
-use mathlib.Core.List.{_++_}
-use Prim.Native.Nat.{_-_, _<_}
-use native.Mathlib.Omega.{arith}
-use denote.Ref.{now}
-use lib.ListN.{length, take, length-append}
-use lib.Seq.{length-take-le}
+use Rattle.block.proofs.Base.{_-_, _<_, _++_, arith, needs, now, length, length-append, take, length-take-le}
 use Rattle.walk.proofs.Loop.{tail-is}
 use Rattle.pieces.specs.Hashing.{hashNext}
 use Rattle.pieces.proofs.Filling.{filled-full}
 use Rattle.pieces.proofs.Fitting.{Sixteen, are-bytes}
 use Rattle.pieces.proofs.HashOn.{held-within}
-use borrow.Author.Needs.{needs}
 use Rattle.pieces.proofs.hashing.take_in.Statement.{statement}
 use Rattle.pieces.proofs.hashing.take_in.Tie as tie
 

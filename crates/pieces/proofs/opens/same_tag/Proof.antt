@@ -1,13 +1,6 @@
 -- `pieces::opens::same_tag` meets its contract: the four words of the difference are all 0 exactly where the tags are the same
 -- (`tag-test`).
--- Assumes nothing.
-use mathlib.Core.Path.{_∙_}
-use Prim.Native.Nat.{ℕ, _<_}
-use native.Mathlib.Omega.{arith}
-use mir.Val.{Fits}
-use mir.Syntax.{w32}
-use denote.Ref.{now}
-use lib.ListN.{getD}
+use Rattle.block.proofs.Base.{_<_, ℕ, _∙_, arith, needs, now, getD, w32, Fits}
 use Rattle.block.specs.Words.{words}
 use Rattle.block.specs.Xor.{xors}
 use Rattle.block.proofs.Entries.{below-each}
@@ -15,7 +8,6 @@ use Rattle.block.proofs.WordsBack.{length-words, words-below, unwords-words, un
 use Rattle.block.proofs.Xors.{length-xors, xors-below}
 use Rattle.gcm.proofs.TagTest.{tag-test}
 use Rattle.pieces.proofs.Fitting.{Sixteen, are-bytes, spelt}
-use borrow.Author.Needs.{needs}
 use Rattle.pieces.proofs.opens.same_tag.Statement.{statement}
 use Rattle.pieces.proofs.opens.same_tag.Tie as tie
 

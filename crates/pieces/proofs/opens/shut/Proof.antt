@@ -1,7 +1,6 @@
 -- `pieces::opens::shut` meets its contract: every field is the definition's.
--- Assumes nothing.
 use Rattle.pieces.specs.States.{opensShut}
-use borrow.Author.Needs.{needs}
+use Rattle.block.proofs.Base.{needs}
 use Rattle.pieces.proofs.opens.shut.Statement.{statement}
 use Rattle.pieces.proofs.opens.shut.Tie as tie
 

@@ -1,7 +1,6 @@
 -- `pieces::seal::shut` meets its contract: every field is the definition's.
--- Assumes nothing.
 use Rattle.pieces.specs.States.{sealShut}
-use borrow.Author.Needs.{needs}
+use Rattle.block.proofs.Base.{needs}
 use Rattle.pieces.proofs.seal.shut.Statement.{statement}
 use Rattle.pieces.proofs.seal.shut.Tie as tie
 

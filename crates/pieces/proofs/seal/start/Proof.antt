@@ -1,8 +1,6 @@
 -- `pieces::seal::start` meets its contract: what the checks refuse is refused, and otherwise the flow is at the counter after J0,
 -- and J0, the label's hash and the cipher of J0 are `tagging::begin`'s.
--- Assumes nothing.
-use mathlib.Core.Path.{sym, _∙_}
-use denote.Ref.{now}
+use Rattle.block.proofs.Base.{_∙_, sym, needs, now}
 use Rattle.counter.specs.Counter.{gcmNext}
 use Rattle.gcm.specs.Gcm.{J0}
 use Rattle.cipher_mode.proofs.Passed.{iv-twelve-or-sixteen}
@@ -12,7 +10,6 @@ use Rattle.pieces.specs.Calls.{sealStart}
 use Rattle.pieces.proofs.KeyStream.{flow-start}
 use Rattle.pieces.proofs.Passing.{starting-passed}
 use Rattle.pieces.proofs.Sealing.{no-text}
-use borrow.Author.Needs.{needs}
 use Rattle.pieces.proofs.seal.start.Statement.{statement}
 use Rattle.pieces.proofs.seal.start.Tie as tie
 

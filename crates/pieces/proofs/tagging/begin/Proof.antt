@@ -1,12 +1,7 @@
 -- `pieces::tagging::begin` meets its contract: H and J0 are those of the keys and the IV, and J0's last word is the number in its last four
 -- bytes.
--- Assumes nothing.
-use mathlib.Core.Path.{refl}
-use mir.Val.{Fits}
-use mir.Syntax.{w32}
-use lib.ListN.{getD}
+use Rattle.block.proofs.Base.{refl, needs, getD, w32, Fits}
 use Rattle.counter.proofs.Steps.{last-four}
-use borrow.Author.Needs.{needs}
 use Rattle.pieces.proofs.tagging.begin.Statement.{statement}
 use Rattle.pieces.proofs.tagging.begin.Tie as tie
 

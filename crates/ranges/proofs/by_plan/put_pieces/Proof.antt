@@ -1,14 +1,7 @@
 -- `ranges::by_plan::put_pieces` meets its contract. The loop's invariant: what stands in the output is what the single call gives of the
 -- text up to `at`, and the pieces to come follow one another from there to the text's end. The measure is how many are to come.
--- Assumes nothing.
-use mathlib.Core.Path.{_≡_, refl, sym, _∙_}
-use mathlib.Core.Bool.{true}
-use Prim.Native.Nat.{ℕ, _+_, _-_, _≤_, _<_}
-use native.Mathlib.Omega.{arith}
-use denote.Ref.{now}
-use lib.ListN.{length, getD, take, drop, length-take, length-drop}
-use lib.Seq.{take-all}
-use borrow.Author.Tests.{eqb-true}
+use Rattle.block.proofs.Base.{_+_, _-_, _<_, _≤_, ℕ, _∙_, _≡_, refl, sym, true, arith, needs, eqb-true, now, drop, getD, length}
+use Rattle.block.proofs.Base.{length-drop, length-take, take, take-all}
 use Rattle.block.proofs.Entries.{below-each}
 use Rattle.walk.specs.Walk.{chain, over}
 use Rattle.walk.proofs.Loop.{length-tailed}
@@ -17,7 +10,6 @@ use Rattle.stream.specs.declared.Kind.the-variants.{Ctr}
 use Rattle.ranges.proofs.Accepted.{at-most-64, from-0-to-n}
 use Rattle.ranges.proofs.Following.{First, followsFrom, follows-on, ends}
 use Rattle.ranges.proofs.Joined.{joined, nothing-yet}
-use borrow.Author.Needs.{needs}
 use Rattle.ranges.proofs.by_plan.put_pieces.Statement.{statement}
 use Rattle.ranges.proofs.by_plan.put_pieces.Tie as tie
 

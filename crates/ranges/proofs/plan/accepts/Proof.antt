@@ -1,15 +1,9 @@
 -- `plan::accepts` meets its contract. The loop's invariant: the pieces so far reach `at`, which is not past `n`, and whether those to
 -- come follow one another from there decides. The measure is how many are to come.
--- Assumes nothing.
-use mathlib.Core.Path.{_≡_, refl, sym, _∙_}
-use mathlib.Core.Bool.{false, cond}
-use Prim.Native.Nat.{_+_, _-_, _≤_}
-use native.Mathlib.Omega.{arith}
-use lib.ListN.{length, getD}
-use borrow.Author.Tests.{le-leb, lt-leb, not-true, not-false}
+use Rattle.block.proofs.Base.{_+_, _-_, _≤_, _∙_, _≡_, refl, sym, cond, false, arith, needs, le-leb, lt-leb, not-false, not-true, getD}
+use Rattle.block.proofs.Base.{length}
 use Rattle.ranges.specs.Plan.{accepts}
 use Rattle.ranges.proofs.Following.{followsFrom, tested, piece-fits, ends}
-use borrow.Author.Needs.{needs}
 use Rattle.ranges.proofs.plan.accepts.Statement.{statement}
 use Rattle.ranges.proofs.plan.accepts.Tie as tie
 

@@ -1,6 +1,5 @@
 -- `plan::begins` meets its contract: each branch is the test that led to it.
--- Assumes nothing.
-use borrow.Author.Tests.{lt-ltb, le-ltb}
+use Rattle.block.proofs.Base.{le-ltb, lt-ltb}
 use Rattle.ranges.proofs.plan.begins.Statement.{statement}
 use Rattle.ranges.proofs.plan.begins.Tie as tie
 

@@ -1,8 +1,6 @@
 -- `plan::is_piece` meets its contract: each return is the tests that led to it.
--- Assumes nothing.
-use borrow.Author.Tests.{eq-eqb, ne-eqb, le-leb, lt-leb}
+use Rattle.block.proofs.Base.{needs, eq-eqb, le-leb, lt-leb, ne-eqb}
 use Rattle.ranges.specs.Plan.{isPiece}
-use borrow.Author.Needs.{needs}
 use Rattle.ranges.proofs.plan.is_piece.Statement.{statement}
 use Rattle.ranges.proofs.plan.is_piece.Tie as tie
 

@@ -1,9 +1,5 @@
 -- `plan::length_at` meets its contract: past `n` nothing is left, and before it the smaller of the two is the answer.
--- Assumes nothing.
-use mathlib.Core.Path.{_≡_}
-use Prim.Native.Nat.{_-_}
-use native.Mathlib.Omega.{arith}
-use borrow.Author.Tests.{lt-ltb, le-ltb}
+use Rattle.block.proofs.Base.{_-_, _≡_, arith, le-ltb, lt-ltb}
 use Rattle.ranges.proofs.plan.length_at.Statement.{statement}
 use Rattle.ranges.proofs.plan.length_at.Tie as tie
 

@@ -1,10 +1,7 @@
 -- `plan::make` meets its contract: each return is the tests that led to it, and a piece is short enough for a plan of 64.
--- Assumes nothing.
-use native.Mathlib.Omega.{arith}
-use borrow.Author.Tests.{eq-eqb, ne-eqb, lt-ltb, le-ltb}
+use Rattle.block.proofs.Base.{arith, needs, eq-eqb, le-ltb, lt-ltb, ne-eqb}
 use Rattle.ranges.specs.Plan.{planned}
 use Rattle.ranges.proofs.Sharing.{short-enough}
-use borrow.Author.Needs.{needs}
 use Rattle.ranges.proofs.plan.make.Statement.{statement}
 use Rattle.ranges.proofs.plan.make.Tie as tie
 

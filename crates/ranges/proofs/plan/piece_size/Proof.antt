@@ -1,12 +1,7 @@
 -- `plan::piece_size` meets its contract: a share is no more than all the blocks and workers, so nothing wraps.
--- Assumes nothing.
-use mathlib.Core.Path.{refl}
-use Prim.Native.Nat.{_+_, _-_}
-use native.Mathlib.Nat.{div-le-self}
-use native.Mathlib.Omega.{arith}
+use Rattle.block.proofs.Base.{_+_, _-_, refl, div-le-self, arith, needs}
 use Rattle.counter.specs.CameRound.{blocksOf}
 use Rattle.ranges.specs.Plan.{pieceSize}
-use borrow.Author.Needs.{needs}
 use Rattle.ranges.proofs.plan.piece_size.Statement.{statement}
 use Rattle.ranges.proofs.plan.piece_size.Tie as tie
 

@@ -1,14 +1,8 @@
 -- `plan::plan_in` meets its contract. The loop's invariant: the places so far, and those still to come from byte `at` on, are the
 -- plan. The measure is how many are to come.
--- Assumes nothing.
-use mathlib.Core.Path.{_≡_, refl, _∙_}
-use mathlib.Core.List.{_++_}
-use Prim.Native.Nat.{_+_, _-_, _*_, _≤_}
-use native.Mathlib.Omega.{arith}
-use lib.ListN.{length, length-set, take}
+use Rattle.block.proofs.Base.{_*_, _+_, _-_, _≤_, _∙_, _≡_, refl, _++_, arith, needs, length, length-set, take}
 use Rattle.ranges.specs.Plan.{countFrom, startsFrom, lengthsFrom}
 use Rattle.ranges.proofs.Laying.{start-more, length-more, count-more, at-most-one, starts-done, lengths-done, count-done}
-use borrow.Author.Needs.{needs}
 use Rattle.ranges.proofs.plan.plan_in.Statement.{statement}
 use Rattle.ranges.proofs.plan.plan_in.Tie as tie
 

@@ -1,14 +1,9 @@
 -- `ranges::range::put_stretch` meets its contract: the flow begins at the counter that is jumped to, and from there on gives the stretch
 -- (`jumped`).
--- Assumes nothing.
-use Prim.Native.Nat.{ℕ, _<_}
-use native.Mathlib.Omega.{arith}
-use denote.Ref.{now}
-use lib.ListN.{getD}
+use Rattle.block.proofs.Base.{_<_, ℕ, arith, needs, now, getD}
 use Rattle.block.proofs.Entries.{below-each}
 use Rattle.cipher_mode.proofs.Ends.{spelled}
 use Rattle.ranges.proofs.Jumped.{jumped}
-use borrow.Author.Needs.{needs}
 use Rattle.ranges.proofs.range.put_stretch.Statement.{statement}
 use Rattle.ranges.proofs.range.put_stretch.Tie as tie
 

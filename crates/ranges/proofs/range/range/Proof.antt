@@ -1,16 +1,10 @@
 -- `ranges::range::range` meets its contract: where the key, the IV, the end of the stretch or the room refused, so does the definition;
 -- where they did not, the stretch was written and is as long as the data.
--- Assumes nothing.
-use mathlib.Core.Path.{_≡_, sym, _∙_}
-use Prim.Native.Nat.{_+_}
-use denote.Ref.{now}
-use lib.ListN.{length}
-use borrow.Author.Tests.{lt-ltb, le-ltb}
+use Rattle.block.proofs.Base.{_+_, _∙_, _≡_, sym, needs, le-ltb, lt-ltb, now, length}
 use Rattle.cipher_mode.specs.declared.checks.Checked.the-variants.{Passed}
 use Rattle.ranges.specs.Range.{reachCheck, rangeCheck, rangeCall}
 use Rattle.ranges.proofs.Passed.{reach-passed}
 use Rattle.ranges.proofs.Jumped.{length-stretch}
-use borrow.Author.Needs.{needs}
 use Rattle.ranges.proofs.range.range.Statement.{statement}
 use Rattle.ranges.proofs.range.range.Tie as tie
 

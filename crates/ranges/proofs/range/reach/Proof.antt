@@ -1,16 +1,11 @@
 -- `ranges::range::reach` meets its contract: what is wrong with key and IV ends the list; an offset past the limit, or a stretch longer
 -- than what the offset leaves of it, ends past the limit.
--- Assumes nothing.
-use mathlib.Core.Path.{_≡_, sym, _∙_}
-use Prim.Native.Nat.{_+_}
-use native.Mathlib.Omega.{arith}
-use borrow.Author.Tests.{lt-ltb, le-ltb}
+use Rattle.block.proofs.Base.{_+_, _∙_, _≡_, sym, arith, needs, le-ltb, lt-ltb}
 use Rattle.cipher_mode.specs.declared.CipherMode.the-variants.{Ctr}
 use Rattle.cipher_mode.specs.declared.checks.Checked.the-variants.{Passed}
 use Rattle.cipher_mode.specs.Tables.{limit}
 use Rattle.cipher_mode.specs.Checks.{keyAndIv}
 use Rattle.ranges.specs.Range.{reachCheck}
-use borrow.Author.Needs.{needs}
 use Rattle.ranges.proofs.range.reach.Statement.{statement}
 use Rattle.ranges.proofs.range.reach.Tie as tie
 

@@ -1,14 +1,8 @@
 -- `change::keep` meets its contract. The loop's invariant is how far the collection has come, and the measure how many bytes are to come.
--- Assumes nothing.
-use mathlib.Core.Path.{sym, _∙_}
-use mathlib.Core.Logic.{⊎-elim}
-use Prim.Native.Nat.{_+_, _-_, _≤_}
-use native.Mathlib.Omega.{arith}
-use denote.Ref.{now}
+use Rattle.block.proofs.Base.{_+_, _-_, _≤_, _∙_, sym, ⊎-elim, arith, needs, now}
 use Rattle.block.proofs.Entries.{below-each}
 use Rattle.shelf.proofs.Reading.{Turn, at-end, on}
 use Rattle.shelf.proofs.Keeping.{between, Collecting, collecting-starts, kept-length, kept-over, fits, stay-turn, gone-turn}
-use borrow.Author.Needs.{needs}
 use Rattle.shelf.proofs.change.keep.Statement.{statement}
 use Rattle.shelf.proofs.change.keep.Tie as tie
 

@@ -1,9 +1,6 @@
--- `change::make_room` meets its contract: the definition goes by the same test. Assumes nothing.
-use mathlib.Core.Path.{sym, _∙_}
-use denote.Ref.{now}
-use lib.ListN.{length}
+-- `change::make_room` meets its contract: the definition goes by the same test.
+use Rattle.block.proofs.Base.{_∙_, sym, needs, now, length}
 use Rattle.shelf.proofs.Putting.{length-supersede, made-short, made-long}
-use borrow.Author.Needs.{needs}
 use Rattle.shelf.proofs.change.make_room.Statement.{statement}
 use Rattle.shelf.proofs.change.make_room.Tie as tie
 

@@ -1,19 +1,11 @@
--- `change::mark` meets its contract: the byte that is marked is the second of the record that `seek` found. Assumes nothing.
-use mathlib.Core.Path.{_≡_, ap, _∙_}
-use mathlib.Core.Bool.{true}
-use mathlib.Core.List.{List}
-use Prim.Native.Nat.{_+_, _≤_}
-use native.Mathlib.Nat.{sub-zero}
-use native.Mathlib.Omega.{arith}
-use denote.Ref.{now}
-use lib.ListN.{length, take, set}
+-- `change::mark` meets its contract: the byte that is marked is the second of the record that `seek` found.
+use Rattle.block.proofs.Base.{_+_, _≤_, _∙_, _≡_, ap, true, List, sub-zero, arith, needs, now, length, set, take}
 use Rattle.block.specs.Below.{AreBytes}
 use Rattle.block.proofs.Entries.{below-each}
 use Rattle.shelf.specs.declared.lookup.Span.{Span}
 use Rattle.shelf.specs.Records.{Record, records}
 use Rattle.shelf.specs.Shelf.{hasCurrent, placeOf, sizeOf}
 use Rattle.shelf.proofs.Putting.{size-has, size-zero, place-within, marked-over, unmarked-over}
-use borrow.Author.Needs.{needs}
 use Rattle.shelf.proofs.change.mark.Statement.{statement}
 use Rattle.shelf.proofs.change.mark.Tie as tie
 

@@ -1,12 +1,7 @@
 -- `change::move_down` meets its contract. The loop's invariant: `i` bytes have moved, and all others stand where they did. The measure is
--- how many are to move. Assumes nothing.
-use mathlib.Core.Path.{_≡_, refl, ap, _∙_}
-use mathlib.Core.List.{List}
-use Prim.Native.Nat.{ℕ, _+_, _-_, _≤_, _<_}
-use native.Mathlib.Numerals.{add-one}
-use native.Mathlib.Omega.{arith}
-use denote.Ref.{now}
-use lib.ListN.{length, drop, getD, set, length-drop, length-set}
+-- how many are to move.
+use Rattle.block.proofs.Base.{_+_, _-_, _<_, _≤_, ℕ, _∙_, _≡_, ap, refl, List, add-one, arith, now, drop, getD, length, length-drop}
+use Rattle.block.proofs.Base.{length-set, set}
 use lib.Seq.{paste, paste-zero, paste-suc, drop-paste, getD-drop}
 use Rattle.shelf.proofs.change.move_down.Statement.{statement}
 use Rattle.shelf.proofs.change.move_down.Tie as tie

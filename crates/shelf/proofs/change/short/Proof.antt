@@ -1,9 +1,5 @@
--- `change::short` meets its contract. Assumes nothing.
-use mathlib.Core.Path.{_≡_, sym}
-use Prim.Native.Nat.{ℕ, _+_, _-_, _≤_}
-use native.Mathlib.Omega.{arith}
-use lib.Dec.{ltb}
-use borrow.Author.Tests.{lt-ltb, ltb-true}
+-- `change::short` meets its contract.
+use Rattle.block.proofs.Base.{_+_, _-_, _≤_, ℕ, _≡_, sym, arith, lt-ltb, ltb-true, ltb}
 use Rattle.block.proofs.Same.{test-iff}
 use Rattle.shelf.proofs.change.short.Statement.{statement}
 use Rattle.shelf.proofs.change.short.Tie as tie

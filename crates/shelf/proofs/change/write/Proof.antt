@@ -1,7 +1,6 @@
--- `change::write` meets its contract: the head, and behind it the sealed bytes. Assumes nothing.
-use denote.Ref.{now}
+-- `change::write` meets its contract: the head, and behind it the sealed bytes.
+use Rattle.block.proofs.Base.{needs, now}
 use Rattle.shelf.proofs.Putting.{record-written}
-use borrow.Author.Needs.{needs}
 use Rattle.shelf.proofs.change.write.Statement.{statement}
 use Rattle.shelf.proofs.change.write.Tie as tie
 

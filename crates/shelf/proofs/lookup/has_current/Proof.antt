@@ -1,14 +1,10 @@
 -- `lookup::has_current` meets its contract. The loop's invariant: what the records to come say is what all say. The measure is how many
--- bytes are to come. Assumes nothing.
-use mathlib.Core.Path.{_≡_, refl, sym, ap, _∙_}
-use native.Mathlib.Omega.{arith}
-use denote.Ref.{now}
-use lib.ListN.{length}
+-- bytes are to come.
+use Rattle.block.proofs.Base.{_∙_, _≡_, ap, refl, sym, arith, needs, now, length}
 use Rattle.shelf.specs.Records.{records}
 use Rattle.shelf.specs.Shelf.{hasCurrent}
 use Rattle.shelf.proofs.Reading.{Turn, at-end, on, shrinks}
 use Rattle.shelf.proofs.Walks.{current-turn}
-use borrow.Author.Needs.{needs}
 use Rattle.shelf.proofs.lookup.has_current.Statement.{statement}
 use Rattle.shelf.proofs.lookup.has_current.Tie as tie
 

@@ -1,6 +1,6 @@
--- `lookup::is_second` meets its contract. Assumes nothing.
+-- `lookup::is_second` meets its contract.
 
-use borrow.Author.Needs.{needs}
+use Rattle.block.proofs.Base.{needs}
 use Rattle.shelf.proofs.lookup.is_second.Statement.{statement}
 use Rattle.shelf.proofs.lookup.is_second.Tie as tie
 

@@ -1,18 +1,12 @@
 -- `lookup::kept_size` meets its contract. The loop's invariant: what is counted and what is to be kept of the records to come are together
--- what is to be kept of all, and no more is counted than was passed. The measure is how many bytes are to come. Assumes nothing.
-use mathlib.Core.Path.{_≡_, sym, ap, _∙_}
-use mathlib.Core.Logic.{⊎-elim}
-use Prim.Native.Nat.{_+_, _≤_}
-use native.Mathlib.Omega.{arith}
-use denote.Ref.{now}
-use lib.ListN.{length}
+-- what is to be kept of all, and no more is counted than was passed. The measure is how many bytes are to come.
+use Rattle.block.proofs.Base.{_+_, _≤_, _∙_, _≡_, ap, sym, ⊎-elim, arith, needs, now, length}
 use Rattle.walk.proofs.Loop.{length-tailed}
 use Rattle.shelf.specs.Records.{stored, records}
 use Rattle.shelf.specs.Shelf.{those}
 use Rattle.shelf.specs.Steps.{stays}
 use Rattle.shelf.proofs.Reading.{Turn, at-end, on, shrinks}
 use Rattle.shelf.proofs.Walks.{those-more, those-behind}
-use borrow.Author.Needs.{needs}
 use Rattle.shelf.proofs.lookup.kept_size.Statement.{statement}
 use Rattle.shelf.proofs.lookup.kept_size.Tie as tie
 

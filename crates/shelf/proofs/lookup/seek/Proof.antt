@@ -1,18 +1,12 @@
 -- `lookup::seek` meets its contract. The loop's invariant: the record is as many bytes behind `at` as the records to come say, they have no
--- second one of a job either, and what they say of its size is what all say. The measure is how many bytes are to come. Assumes nothing.
-use mathlib.Core.Path.{_≡_, refl, sym, ap, _∙_}
-use mathlib.Core.Bool.{false}
-use Prim.Native.Nat.{ℕ, _+_, _≤_}
-use native.Mathlib.Omega.{arith}
-use denote.Ref.{now}
-use lib.ListN.{length}
+-- second one of a job either, and what they say of its size is what all say. The measure is how many bytes are to come.
+use Rattle.block.proofs.Base.{_+_, _≤_, ℕ, _∙_, _≡_, ap, refl, sym, false, arith, needs, now, length}
 use Rattle.walk.proofs.Loop.{tailed, length-tailed}
 use Rattle.shelf.specs.declared.lookup.Span.{Span}
 use Rattle.shelf.specs.Records.{stored, records}
 use Rattle.shelf.specs.Shelf.{isCurrentOf, those, twoCurrent, placeOf, sizeOf}
 use Rattle.shelf.proofs.Reading.{Turn, at-end, on, shrinks}
 use Rattle.shelf.proofs.Walks.{those-behind, two-behind, place-turn, size-here}
-use borrow.Author.Needs.{needs}
 use Rattle.shelf.proofs.lookup.seek.Statement.{statement}
 use Rattle.shelf.proofs.lookup.seek.Tie as tie
 

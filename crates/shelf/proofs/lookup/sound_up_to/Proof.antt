@@ -1,19 +1,11 @@
 -- `lookup::sound_up_to` meets its contract. The loop's invariant is how far the walk has come, and the measure how many bytes are to come.
--- Assumes nothing.
-use mathlib.Core.Path.{_≡_, sym, _∙_}
-use mathlib.Core.Bool.{_&&_}
-use Prim.Native.Nat.{_+_}
-use native.Mathlib.Nat.{sub-zero}
-use native.Mathlib.Omega.{arith}
-use denote.Ref.{now}
-use lib.ListN.{length, take}
+use Rattle.block.proofs.Base.{_+_, _∙_, _≡_, sym, _&&_, sub-zero, arith, needs, now, length, take}
 use Rattle.block.proofs.Entries.{below-each}
 use Rattle.walk.proofs.Loop.{tailed}
 use Rattle.shelf.specs.Records.{records}
 use Rattle.shelf.specs.Shelf.{hasCurrent}
 use Rattle.shelf.proofs.Reading.{Turn, at-end, on, shrinks}
 use Rattle.shelf.proofs.Sound.{Passing, passing-starts, passed-all, second, passing-on}
-use borrow.Author.Needs.{needs}
 use Rattle.shelf.proofs.lookup.sound_up_to.Statement.{statement}
 use Rattle.shelf.proofs.lookup.sound_up_to.Tie as tie
 

@@ -1,13 +1,7 @@
--- `records::front` meets its contract. Where the size is not 0, a record stands there whole, and so all its head. Assumes nothing.
-use mathlib.Core.Path.{_≡_, sym, _∙_}
-use mathlib.Core.Bool.{true}
-use Prim.Native.Nat.{_≤_}
-use native.Mathlib.Omega.{arith}
-use denote.Ref.{now}
-use lib.ListN.{length}
+-- `records::front` meets its contract. Where the size is not 0, a record stands there whole, and so all its head.
+use Rattle.block.proofs.Base.{_≤_, _∙_, _≡_, sym, true, arith, needs, now, length}
 use Rattle.shelf.specs.Records.{startsRecord, front, headAt}
 use Rattle.shelf.proofs.Reading.{starts-within, size-zero, size-some}
-use borrow.Author.Needs.{needs}
 use Rattle.shelf.proofs.records.front.Statement.{statement}
 use Rattle.shelf.proofs.records.front.Tie as tie
 

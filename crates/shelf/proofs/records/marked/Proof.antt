@@ -1,7 +1,6 @@
--- `records::marked` meets its contract: each return is the definition, by the tests that led there. Assumes nothing.
-use borrow.Author.Tests.{eq-eqb, ne-eqb}
+-- `records::marked` meets its contract: each return is the definition, by the tests that led there.
+use Rattle.block.proofs.Base.{needs, eq-eqb, ne-eqb}
 use Rattle.shelf.specs.Records.{marked}
-use borrow.Author.Needs.{needs}
 use Rattle.shelf.proofs.records.marked.Statement.{statement}
 use Rattle.shelf.proofs.records.marked.Tie as tie
 

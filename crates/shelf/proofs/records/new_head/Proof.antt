@@ -1,7 +1,7 @@
--- `records::new_head` meets its contract: the label's bytes, and the length's. Assumes nothing.
+-- `records::new_head` meets its contract: the label's bytes, and the length's.
 use Rattle.block.specs.BigEndian.{bytesOf}
 use Rattle.label.specs.Label.{labelOf}
-use borrow.Author.Needs.{needs}
+use Rattle.block.proofs.Base.{needs}
 use Rattle.shelf.proofs.records.new_head.Statement.{statement}
 use Rattle.shelf.proofs.records.new_head.Tie as tie
 

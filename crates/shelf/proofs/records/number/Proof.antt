@@ -1,7 +1,6 @@
--- `records::number` meets its contract. Assumes nothing.
-use native.Mathlib.Omega.{arith}
+-- `records::number` meets its contract.
+use Rattle.block.proofs.Base.{arith, needs}
 use Rattle.block.specs.BigEndian.{numberOf}
-use borrow.Author.Needs.{needs}
 use Rattle.shelf.proofs.records.number.Statement.{statement}
 use Rattle.shelf.proofs.records.number.Tie as tie
 

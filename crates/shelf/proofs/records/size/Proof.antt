@@ -1,8 +1,6 @@
--- `records::size` meets its contract: each return is the definition, by the tests that led there. Assumes nothing.
-use mathlib.Core.Path.{sym, _∙_}
-use borrow.Author.Tests.{le-leb, lt-leb, not-true, not-false}
+-- `records::size` meets its contract: each return is the definition, by the tests that led there.
+use Rattle.block.proofs.Base.{_∙_, sym, needs, le-leb, lt-leb, not-false, not-true}
 use Rattle.shelf.specs.Records.{startsRecord, sizeAt}
-use borrow.Author.Needs.{needs}
 use Rattle.shelf.proofs.records.size.Statement.{statement}
 use Rattle.shelf.proofs.records.size.Tie as tie
 

@@ -1,5 +1,5 @@
--- `records::stays` meets its contract. Assumes nothing.
-use borrow.Author.Tests.{not-true, not-false}
+-- `records::stays` meets its contract.
+use Rattle.block.proofs.Base.{not-false, not-true}
 use Rattle.shelf.proofs.records.stays.Statement.{statement}
 use Rattle.shelf.proofs.records.stays.Tie as tie
 

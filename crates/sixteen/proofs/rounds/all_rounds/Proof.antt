@@ -1,11 +1,6 @@
 -- `sixteen::rounds::all_rounds` meets its contract. The loop's invariant: what the round keys from number i on make of the blocks as
 -- they are, is what all round keys make of the blocks as they were (`rounds-next`).
--- Assumes nothing.
-use borrow.Author.Needs.{needs}
-use Prim.Native.Nat.{ℕ, _≤_, _<_, _+_, _-_}
-use mathlib.Core.Path.{_≡_, refl, ap, _∙_}
-use native.Mathlib.Omega.{arith}
-use lib.ListN.{length, drop}
+use Rattle.block.proofs.Base.{_+_, _-_, _<_, _≤_, ℕ, _∙_, _≡_, ap, refl, arith, needs, drop, length}
 use Rattle.cipher.specs.Sm4.{rounds}
 use Rattle.cipher.proofs.Rounds.{rounds-next, rounds-done}
 use Rattle.sixteen.specs.Blocks.{block, Sized}

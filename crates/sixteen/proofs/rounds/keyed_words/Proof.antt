@@ -1,10 +1,5 @@
 -- `sixteen::rounds::keyed_words` meets its contract. The loop's invariant: the first j words are there.
--- Assumes nothing.
-use borrow.Author.Needs.{needs}
-use Prim.Native.Nat.{_≤_, _-_}
-use mathlib.Core.Path.{_≡_, refl}
-use native.Mathlib.Omega.{arith}
-use lib.ListN.{length}
+use Rattle.block.proofs.Base.{_-_, _≤_, _≡_, refl, arith, needs, length}
 use Rattle.sixteen.specs.Blocks.{Each, keyed}
 use Rattle.lanes.proofs.Filling.{each-next}
 use Rattle.sixteen.proofs.rounds.keyed_words.Statement.{statement}

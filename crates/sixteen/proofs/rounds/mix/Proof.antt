@@ -1,10 +1,5 @@
 -- `sixteen::rounds::mix` meets its contract. The loop's invariant: the first j words are changed, the others are as they were.
--- Assumes nothing.
-use borrow.Author.Needs.{needs}
-use Prim.Native.Nat.{ℕ, _+_, _≤_, _-_}
-use mathlib.Core.Path.{_≡_, refl, ap₂}
-use native.Mathlib.Omega.{arith}
-use lib.ListN.{length, getD}
+use Rattle.block.proofs.Base.{_+_, _-_, _≤_, ℕ, _≡_, ap₂, refl, arith, needs, getD, length}
 use Rattle.block.specs.Xor.{_⊕_}
 use Rattle.cipher.specs.Sm4.{L}
 use Rattle.sixteen.specs.Blocks.{row, Changed}

@@ -1,12 +1,7 @@
 -- `sixteen::rounds::paired` meets its contract: one pair after the other.
--- Assumes nothing.
-use mathlib.Core.Path.{_≡_, subst}
-use Prim.Native.Nat.{ℕ, _+_, _*_, _^_, _<_}
-use native.Mathlib.Omega.{arith}
-use lib.ListN.{getD}
+use Rattle.block.proofs.Base.{_*_, _+_, _<_, _^_, ℕ, _≡_, subst, arith, needs, getD}
 use Rattle.sixteen.specs.Blocks.{pairAt}
 use Rattle.sixteen.proofs.Stages.{each8}
-use borrow.Author.Needs.{needs}
 use Rattle.sixteen.proofs.rounds.paired.Statement.{statement}
 use Rattle.sixteen.proofs.rounds.paired.Tie as tie
 

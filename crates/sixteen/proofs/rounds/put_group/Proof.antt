@@ -1,10 +1,5 @@
 -- `sixteen::rounds::put_group` meets its contract. The loop's invariant: two words more for each of the eight.
--- Assumes nothing.
-use borrow.Author.Needs.{needs}
-use Prim.Native.Nat.{ℕ, _≤_, _+_, _*_, _-_}
-use mathlib.Core.Path.{_≡_, sym}
-use native.Mathlib.Omega.{arith}
-use lib.ListN.{length}
+use Rattle.block.proofs.Base.{_*_, _+_, _-_, _≤_, ℕ, _≡_, sym, arith, needs, length}
 use Rattle.sixteen.specs.Blocks.{Each, Halves}
 use Rattle.sixteen.proofs.Filling.{each-two}
 use Rattle.sixteen.proofs.rounds.put_group.Statement.{statement}

@@ -1,6 +1,5 @@
 -- `sixteen::rounds::sub_bytes` meets its contract: the S-box in every lane of the transposed bytes (`all-subbed`).
--- Assumes nothing.
-use borrow.Author.Needs.{needs}
+use Rattle.block.proofs.Base.{needs}
 use Rattle.sixteen.proofs.Bytes.{all-subbed}
 use Rattle.sixteen.proofs.rounds.sub_bytes.Statement.{statement}
 use Rattle.sixteen.proofs.rounds.sub_bytes.Tie as tie

@@ -1,10 +1,5 @@
 -- `sixteen::rounds::sub_groups` meets its contract. The loop's invariant: the groups so far are there.
--- Assumes nothing.
-use borrow.Author.Needs.{needs}
-use Prim.Native.Nat.{ℕ, _≤_, _<_, _+_, _*_, _-_, _^_}
-use mathlib.Core.Path.{_≡_, sym, ap, _∙_}
-use native.Mathlib.Omega.{arith}
-use lib.ListN.{length, getD}
+use Rattle.block.proofs.Base.{_*_, _+_, _-_, _<_, _^_, _≤_, ℕ, _∙_, _≡_, ap, sym, arith, needs, getD, length}
 use Rattle.circuit.specs.Sbox.{Sbox}
 use Rattle.cipher.specs.Sm4.{tau}
 use Rattle.sixteen.specs.Blocks.{Each, Halves}

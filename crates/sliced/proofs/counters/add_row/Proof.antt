@@ -1,6 +1,5 @@
 -- `sliced::counters::add_row` meets its contract: the eight words are added one after the other (`added-next`).
--- Assumes nothing.
-use Rattle.block.proofs.Base.{needs, ℕ, _*_, sym, subst, add-zero, arith, getD}
+use Rattle.block.proofs.Base.{_*_, ℕ, subst, sym, add-zero, arith, needs, getD}
 use Rattle.sliced.specs.Counting.{WordAdded}
 use Rattle.sliced.proofs.Ripple.{added-first, added-next}
 use Rattle.sliced.proofs.counters.add_row.Statement.{statement}

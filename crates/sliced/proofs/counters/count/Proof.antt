@@ -1,7 +1,6 @@
 -- `sliced::counters::count` meets its contract: in each lane the last word of c and the lane's number are added, and what is carried to
 -- the other words (`lanes-count`).
--- Assumes nothing.
-use Rattle.block.proofs.Base.{ℕ, _^_, Fits, w32, getD, replicate, needs}
+use Rattle.block.proofs.Base.{_^_, ℕ, needs, getD, replicate, w32, Fits}
 use Rattle.block.specs.Below.{AreWords}
 use Rattle.block.proofs.Entries.{below-each}
 use Rattle.lanes.proofs.Masks.{blank-room}

@@ -1,7 +1,6 @@
 -- `sliced::counters::encrypt_counters` meets its contract: the lanes are the words of the counters, and once they are encrypted the rows
 -- are those of their ciphers.
--- Assumes nothing.
-use Rattle.block.proofs.Base.{ap, _∙_, List, ℕ, arith, needs}
+use Rattle.block.proofs.Base.{ℕ, _∙_, ap, List, arith, needs}
 use Rattle.block.specs.Words.{words, unwords}
 use Rattle.cipher.specs.Sm4.{encryptBlock}
 use Rattle.counter.specs.Counter.{jumped}

@@ -1,5 +1,4 @@
 -- `sliced::counters::keep_carries` meets its contract: what is not kept is 0.
--- Assumes nothing.
 use Rattle.block.proofs.Base.{refl}
 use Rattle.lanes.proofs.Masks.{blank-room}
 use Rattle.sliced.proofs.counters.keep_carries.Statement.{statement}

@@ -1,5 +1,4 @@
 -- `sliced::counters::row` meets its contract (`eight-words`).
--- Assumes nothing.
 use Rattle.block.proofs.Base.{needs}
 use Rattle.sliced.proofs.Ripple.{eight-words}
 use Rattle.sliced.proofs.counters.row.Statement.{statement}

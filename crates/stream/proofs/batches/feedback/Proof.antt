@@ -1,11 +1,6 @@
 -- `stream::batches::feedback` meets its contract. The first block goes by itself (`fed-reached`), and a turn of the loop goes as many
 -- blocks on as the batch has (`fed-on`), each from the block before it.
--- Assumes nothing.
-use mathlib.Core.Path.{_≡_, ap, _∙_}
-use Prim.Native.Nat.{ℕ, _-_, _<_}
-use native.Mathlib.Omega.{arith}
-use denote.Ref.{now}
-use lib.ListN.{length, getD, take, drop, length-drop}
+use Rattle.block.proofs.Base.{_-_, _<_, ℕ, _∙_, _≡_, ap, arith, needs, now, drop, getD, length, length-drop, take}
 use Rattle.block.specs.Words.{unwords}
 use Rattle.block.proofs.Entries.{below-each, below-drop}
 use Rattle.block.proofs.WordsBack.{length-unwords, unwords-front}
@@ -14,7 +9,6 @@ use Rattle.walk.proofs.Loop.{tail-is}
 use Rattle.stream.specs.declared.Kind.the-variants.{CfbDecrypt}
 use Rattle.stream.specs.Stream.{streamMode}
 use Rattle.stream.proofs.Ahead.{cfb-fed}
-use borrow.Author.Needs.{needs}
 use Rattle.stream.proofs.batches.feedback.Statement.{statement}
 use Rattle.stream.proofs.batches.feedback.Tie as tie
 

@@ -1,15 +1,9 @@
 -- `stream::few::block_at` meets its contract: the words at a place are those of the sixteen bytes there.
--- Assumes nothing.
-use mathlib.Core.Path.{ap, _∙_}
-use Prim.Native.Nat.{ℕ, _<_}
-use native.Mathlib.Omega.{arith}
-use denote.Ref.{now}
-use lib.ListN.{getD, drop, length-drop}
+use Rattle.block.proofs.Base.{_<_, ℕ, _∙_, ap, arith, needs, now, drop, getD, length-drop}
 use Rattle.block.specs.Words.{unwords}
 use Rattle.block.proofs.Entries.{below-each, below-drop}
 use Rattle.block.proofs.WordsBack.{unwords-front}
 use Rattle.walk.proofs.Loop.{tail-is}
-use borrow.Author.Needs.{needs}
 use Rattle.stream.proofs.few.block_at.Statement.{statement}
 use Rattle.stream.proofs.few.block_at.Tie as tie
 

@@ -1,8 +1,5 @@
 -- `stream::few::ciphered` meets its contract, by its test.
--- Assumes nothing.
-use mathlib.Core.Path.{refl, sym, _∙_}
-use mathlib.Core.Logic.{inl, inr}
-use borrow.Author.Needs.{needs}
+use Rattle.block.proofs.Base.{_∙_, refl, sym, inl, inr, needs}
 use Rattle.stream.proofs.Ahead.{untrue}
 use Rattle.stream.proofs.few.ciphered.Statement.{statement}
 use Rattle.stream.proofs.few.ciphered.Tie as tie

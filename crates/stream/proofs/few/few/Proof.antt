@@ -1,15 +1,8 @@
 -- `stream::few::few` meets its contract: the ciphers of the states that were laid, xored with the blocks (`few-written`), and the one
 -- behind them (`few-pad`).
--- Assumes nothing.
-use mathlib.Core.Path.{_∙_}
-use Prim.Native.Nat.{_*_, _≤_}
-use native.Mathlib.Nat.{sub-zero}
-use native.Mathlib.Omega.{arith}
-use denote.Ref.{now}
-use lib.ListN.{length}
+use Rattle.block.proofs.Base.{_*_, _≤_, _∙_, sub-zero, arith, needs, now, length}
 use Rattle.block.specs.Words.{unwords}
 use Rattle.stream.proofs.Ahead.{at-most, few-written, few-pad}
-use borrow.Author.Needs.{needs}
 use Rattle.stream.proofs.few.few.Statement.{statement}
 use Rattle.stream.proofs.few.few.Tie as tie
 

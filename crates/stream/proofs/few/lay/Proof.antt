@@ -1,14 +1,9 @@
 -- `stream::few::lay` meets its contract: the states of each kind are laid as they are known ahead, and the other kinds are not asked for.
--- Assumes nothing.
-use mathlib.Core.Path.{refl}
-use mathlib.Core.Bool.{true, false}
-use native.Mathlib.Omega.{arith}
-use denote.Ref.{now}
+use Rattle.block.proofs.Base.{refl, false, true, arith, needs, now}
 use Rattle.block.specs.Words.{unwords}
 use Rattle.block.proofs.WordsBack.{length-unwords, unwords-bytes}
 use Rattle.stream.specs.declared.Kind.the-variants.{CfbEncrypt, Ofb}
 use Rattle.stream.proofs.Ahead.{never-ahead, laid-counters, laid-before}
-use borrow.Author.Needs.{needs}
 use Rattle.stream.proofs.few.lay.Statement.{statement}
 use Rattle.stream.proofs.few.lay.Tie as tie
 

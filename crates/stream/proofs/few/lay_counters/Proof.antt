@@ -1,11 +1,6 @@
 -- `stream::few::lay_counters` meets its contract. The loop's invariant: the first i counters are laid, and behind them stands what stood
 -- there.
--- Assumes nothing.
-use mathlib.Core.Path.{_≡_, refl, ap, _∙_}
-use mathlib.Core.List.{List, _++_}
-use Prim.Native.Nat.{ℕ, _≤_, _*_, _-_}
-use native.Mathlib.Omega.{arith}
-use lib.ListN.{length, take, drop}
+use Rattle.block.proofs.Base.{_*_, _-_, _≤_, ℕ, _∙_, _≡_, ap, refl, List, _++_, arith, needs, drop, length, take}
 use Rattle.block.specs.Blocks.{cat}
 use Rattle.block.specs.Words.{unwords}
 use Rattle.block.proofs.WordsBack.{length-unwords}
@@ -13,7 +8,6 @@ use Rattle.counter.specs.Counter.{jumped}
 use Rattle.sixteen.proofs.Blocks.{block-stored}
 use Rattle.sixteen.proofs.Padded.{over-stored}
 use Rattle.stream.proofs.Ahead.{length-jumped}
-use borrow.Author.Needs.{needs}
 use Rattle.stream.proofs.few.lay_counters.Statement.{statement}
 use Rattle.stream.proofs.few.lay_counters.Tie as tie
 

@@ -1,11 +1,6 @@
 -- `stream::few::run` meets its contract. A turn of the loop goes 64 blocks on (`reached-on`), and what is left ends the walk
 -- (`reached-end`, `reached-over`).
--- Assumes nothing.
-use mathlib.Core.Path.{ap, _∙_}
-use Prim.Native.Nat.{_-_, _*_, _≤_}
-use native.Mathlib.Omega.{arith}
-use denote.Ref.{now}
-use lib.ListN.{length, drop, length-drop}
+use Rattle.block.proofs.Base.{_*_, _-_, _≤_, _∙_, ap, arith, needs, now, drop, length, length-drop}
 use Rattle.block.specs.Words.{unwords}
 use Rattle.block.specs.Blocks.{blockAt}
 use Rattle.cipher.specs.Sm4.{encryptBlock}
@@ -17,7 +12,6 @@ use Rattle.sixteen.proofs.Onward.{reached-end, reached-over}
 use Rattle.stream.specs.Stream.{streamMode}
 use Rattle.stream.proofs.RoundTrip.{stream-block}
 use Rattle.stream.proofs.Ahead.{untrue}
-use borrow.Author.Needs.{needs}
 use Rattle.stream.proofs.few.run.Statement.{statement}
 use Rattle.stream.proofs.few.run.Tie as tie
 

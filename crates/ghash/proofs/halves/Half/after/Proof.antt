@@ -1,6 +1,5 @@
 -- `ghash::halves::Half::after` meets its contract: `galois_mul` ensures the product, and `add` its sum with the hash.
--- Assumes nothing.
-use Rattle.block.proofs.Base.{ap, _∙_, ℕ, needs}
+use Rattle.block.proofs.Base.{ℕ, _∙_, ap, needs}
 use Rattle.block.specs.Wide.{value}
 use Rattle.block.specs.Xor.{_⊕_}
 use Rattle.ghash.proofs.halves.Half.after.Statement.{statement}

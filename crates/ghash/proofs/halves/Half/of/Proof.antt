@@ -1,6 +1,5 @@
 -- `ghash::halves::Half::of` meets its contract: the count is how many blocks there are (`length-blocks`).
--- Assumes nothing.
-use Rattle.block.proofs.Base.{sym, ap, _∙_, now, needs}
+use Rattle.block.proofs.Base.{_∙_, ap, sym, needs, now}
 use Rattle.block.specs.Wide.{value}
 use Rattle.field.specs.Field.{gpow}
 use Rattle.ghash.proofs.Blocks.{length-blocks}

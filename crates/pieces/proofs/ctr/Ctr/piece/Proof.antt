@@ -1,13 +1,7 @@
 -- `pieces::ctr::Ctr::piece` meets its contract: what the checks refuse leaves output and state, and otherwise the flow runs on.
--- Assumes nothing.
-use mathlib.Core.Path.{sym, _∙_}
-use Prim.Native.Nat.{_≤_}
-use native.Mathlib.Omega.{arith}
-use denote.Ref.{now}
-use lib.ListN.{length}
+use Rattle.block.proofs.Base.{_≤_, _∙_, sym, arith, needs, now, length}
 use Rattle.pieces.specs.Calls.{ctrPiece}
 use Rattle.pieces.proofs.Passing.{Runs, writing-passed}
-use borrow.Author.Needs.{needs}
 use Rattle.pieces.proofs.ctr.Ctr.piece.Statement.{statement}
 use Rattle.pieces.proofs.ctr.Ctr.piece.Tie as tie
 

@@ -1,13 +1,8 @@
 -- `pieces::opens::Opens::end` meets its contract: what the checks refuse leaves the state, and otherwise the tag decides and the
 -- state is shut.
--- Assumes nothing.
-use mathlib.Core.Path.{_≡_, sym, _∙_}
-use native.Mathlib.Omega.{arith}
-use denote.Ref.{now}
-use lib.ListN.{length}
+use Rattle.block.proofs.Base.{_∙_, _≡_, sym, arith, needs, now, length}
 use Rattle.pieces.specs.Calls.{opensEnd}
 use Rattle.pieces.proofs.Passing.{Runs, tagged-passed}
-use borrow.Author.Needs.{needs}
 use Rattle.pieces.proofs.opens.Opens.end.Statement.{statement}
 use Rattle.pieces.proofs.opens.Opens.end.Tie as tie
 

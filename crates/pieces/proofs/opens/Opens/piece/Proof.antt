@@ -1,9 +1,7 @@
 -- `pieces::opens::Opens::piece` meets its contract: what the checks refuse leaves the state, and otherwise the piece is hashed.
--- Assumes nothing.
-use mathlib.Core.Path.{sym, _∙_}
+use Rattle.block.proofs.Base.{_∙_, sym, needs}
 use Rattle.pieces.specs.Calls.{opensPiece}
 use Rattle.pieces.proofs.Passing.{running-passed}
-use borrow.Author.Needs.{needs}
 use Rattle.pieces.proofs.opens.Opens.piece.Statement.{statement}
 use Rattle.pieces.proofs.opens.Opens.piece.Tie as tie
 

@@ -1,14 +1,8 @@
 -- `pieces::seal::Seal::end` meets its contract: what the checks refuse leaves output and state, and otherwise the tag is written and
 -- the state is shut.
--- Assumes nothing.
-use mathlib.Core.Path.{_≡_, sym, _∙_}
-use Prim.Native.Nat.{_≤_}
-use native.Mathlib.Omega.{arith}
-use denote.Ref.{now}
-use lib.ListN.{length}
+use Rattle.block.proofs.Base.{_≤_, _∙_, _≡_, sym, arith, needs, now, length}
 use Rattle.pieces.specs.Calls.{sealEnd}
 use Rattle.pieces.proofs.Passing.{Runs, writing-passed}
-use borrow.Author.Needs.{needs}
 use Rattle.pieces.proofs.seal.Seal.end.Statement.{statement}
 use Rattle.pieces.proofs.seal.Seal.end.Tie as tie
 

@@ -1,20 +1,12 @@
 -- `pieces::seal::Seal::piece` meets its contract: what the checks refuse leaves output and state, and otherwise the flow runs on
 -- and what it wrote, as many bytes as the piece has (`text-length`), is hashed.
--- Assumes nothing.
-use mathlib.Core.Path.{_≡_, sym, _∙_}
-use Prim.Native.Nat.{_-_, _%_, _≤_}
-use native.Mathlib.Nat.{sub-zero}
-use native.Mathlib.Omega.{arith}
-use denote.Ref.{now}
-use lib.ListN.{length, take}
-use lib.Seq.{take-at}
+use Rattle.block.proofs.Base.{_%_, _-_, _≤_, _∙_, _≡_, sym, sub-zero, arith, needs, now, length, take, take-at}
 use Rattle.walk.specs.Walk.{over}
 use Rattle.pieces.specs.declared.flow.Counting.the-variants.{Gcm as Gcm·counting}
 use Rattle.pieces.specs.Flow.{flowText}
 use Rattle.pieces.specs.Calls.{sealPiece}
 use Rattle.pieces.proofs.KeyStream.{text-length}
 use Rattle.pieces.proofs.Passing.{Runs, writing-passed}
-use borrow.Author.Needs.{needs}
 use Rattle.pieces.proofs.seal.Seal.piece.Statement.{statement}
 use Rattle.pieces.proofs.seal.Seal.piece.Tie as tie
 
