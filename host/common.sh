@@ -25,15 +25,30 @@ make_work() {
     trap 'exit 130' INT TERM
 }
 
-# need COMMAND-OR-FILE PACKAGE..: installs Debian's packages where the first word is not at hand.
+# what the scripts need from Debian's packages: host/packages --help
+package_list="$repository/host/packages.list"
+
+is_at_hand() { # COMMAND-OR-FILE
+    command -v "$1" >/dev/null || [ -e "$1" ]
+}
+
+# packages_of NAME: the packages that the list has for it.
+packages_of() {
+    awk -F '|' -v name="$1" '{ gsub(/ /, "", $1) } $1 == name { print $2; found = 1 } END { exit !found }' "$package_list"
+}
+
+# need COMMAND-OR-FILE: installs what host/packages.list has for it where it is not at hand.
 need() {
-    local wanted=$1
-    shift
-    if command -v "$wanted" >/dev/null || [ -e "$wanted" ]; then
-        return
-    fi
+    local packages
+    is_at_hand "$1" && return
+    packages=$(packages_of "$1") || die "host/packages.list has no '$1'"
+    # shellcheck disable=SC2086 # words
+    install_packages $packages
+}
+
+install_packages() { # PACKAGE..
     echo "installing $*" >&2
-    command -v apt-get >/dev/null || die "no $wanted, and no apt-get to install $* with"
+    command -v apt-get >/dev/null || die "no apt-get to install $* with"
     # where the lists of packages are missing or old, they are fetched once
     (
         flock 9
@@ -152,7 +167,7 @@ is_native() {
 
 # What emulates the target's machine, wherever it runs.
 find_emulator() {
-    need "qemu-$architecture" qemu-user
+    need "qemu-$architecture"
     case $target in
     aarch64) emulator=(qemu-aarch64) ;;
     x86_64) emulator=(qemu-x86_64 -cpu qemu64) ;;
@@ -165,15 +180,8 @@ find_emulator() {
 find_compiler() {
     if [ -z "${architecture:-}" ]; then find_target; fi
     prefix=''
-    if [ "$machine" = "$architecture" ]; then
-        need gcc gcc libc6-dev
-    elif [ "$architecture" = x86_64 ]; then
-        prefix=x86_64-linux-gnu-
-        need "${prefix}gcc" gcc-x86-64-linux-gnu libc6-dev-amd64-cross
-    else
-        prefix=aarch64-linux-gnu-
-        need "${prefix}gcc" gcc-aarch64-linux-gnu libc6-dev-arm64-cross
-    fi
+    if [ "$machine" != "$architecture" ]; then prefix=$architecture-linux-gnu-; fi
+    need "${prefix}gcc"
     compiler=("${prefix}gcc")
     runner=()
     if ! is_native; then
@@ -219,17 +227,20 @@ debian_name() {
 find_peers() {
     local folder="$work/peers"
     if [ "$machine" = "$architecture" ]; then
-        need /usr/include/gcrypt.h libgcrypt20-dev
-        need /usr/include/openssl/evp.h libssl-dev
+        need /usr/include/gcrypt.h
+        need /usr/include/openssl/evp.h
         peers=()
         return
     fi
-    fetch "$(debian_name)" "$folder" libgcrypt20-dev libgpg-error-dev libssl-dev
+    fetch "$(debian_name)" "$folder" $(packages_of '[peers]')
     peers=(-I"$folder/usr/include" -I"$folder/usr/include/$architecture-linux-gnu" -L"$folder/usr/lib/$architecture-linux-gnu")
 }
 
 # What a program with peers in it is linked with, last.
 peer_libraries=(-l:libgcrypt.a -l:libgpg-error.a -l:libcrypto.a)
+
+# The program of host/smoke and host/faults, which run the same tests on other buffers: its sources.
+tests=("$c"/test*.c "$c"/{layout,buffers,calls,rules,shelf_model,journal_model,hash_model,wrap,random}.c)
 
 # compile WORDS..: a program over the library, which is linked in whole and so needs nothing of the target on the machine that runs it. It
 # stops before its first line where another variant was chosen than the target's.
@@ -253,7 +264,7 @@ build_plugin() {
     find_emulator
     # from qemu 9 on the interface is version 2 or later
     if [ "$("${emulator[0]}" --version | sed -n '1s/.*version \([0-9]*\).*/\1/p')" -ge 9 ]; then version=2; fi
-    need gcc gcc libc6-dev
+    need gcc
     gcc -O2 -Wall -Wextra -shared -fPIC -DPLUGIN_VERSION=$version "$c/$1.c" -o "$work/$1.so" ||
         die "could not build the plugin"
 }
@@ -281,12 +292,12 @@ depended() {
 fetch_rust() {
     local program std llvm own
     own=$(dpkg --print-architecture)
-    apt-cache show libstd-rust-web-dev >/dev/null 2>&1 || apt-get update >"$work/apt.log" 2>&1 || die "could not fetch the lists of packages"
+    apt-cache show $(packages_of '[rust]') >/dev/null 2>&1 || apt-get update >"$work/apt.log" 2>&1 || die "could not fetch the lists of packages"
     # these two have a version in their names
-    std=$(depended libstd-rust-web-dev libstd-rust-web)
+    std=$(depended $(packages_of '[rust-std]') libstd-rust-web)
     llvm=$(depended "$std" libllvm)
-    fetch "$own" "$work/rust" rustc-web libstd-rust-web-dev "$std" "$llvm"
-    fetch "$(debian_name)" "$work/rust" libstd-rust-web-dev
+    fetch "$own" "$work/rust" $(packages_of '[rust]') "$std" "$llvm"
+    fetch "$(debian_name)" "$work/rust" $(packages_of '[rust-std]')
     for program in rustc rustdoc; do
         cat >"$work/rust/$program" <<END
 #!/bin/sh

@@ -3,7 +3,7 @@
 #include <luossavin.h>
 #include <string.h>
 
-/* A call takes less than this of the stack (host/c/smoke_stack.c). */
+/* A call takes less than this of the stack (host/c/test_stack.c). */
 enum { STACK = 64 << 10 };
 
 /* The compiler is told that the bytes are looked at afterwards, so that it does not leave the writes out. */

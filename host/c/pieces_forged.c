@@ -5,7 +5,7 @@
  */
 #include "pieces.h"
 
-#include "fenced.h"
+#include "buffers.h"
 #include "calls.h"
 #include "random.h"
 #include "wrap.h"
@@ -150,7 +150,7 @@ void forged(size_t count)
     signal(SIGSEGV, on_fault);
     signal(SIGBUS, on_fault);
     for (size_t i = 0; i < count; i++) {
-        fence_after = i % 2;
+        place = i % 2 ? FENCE_BEHIND : FENCE_BEFORE;
         any_call();
         one_forged();
     }

@@ -1,35 +1,8 @@
 -- Arrays filled number by number.
--- Assumes nothing.
-use mathlib.Core.Path.{_≡_, ap₂, subst, _∙_}
-use mathlib.Core.Logic.{⊎-elim}
-use mathlib.Core.List.{List}
-use Prim.Native.Nat.{ℕ, _+_, _<_, _≤_}
-use native.Mathlib.Omega.{arith}
-use lib.ListN.{getD, length, set}
-use lib.Seq.{getD-set-same, getD-set-other}
+use Rattle.block.proofs.Base.{_+_, _<_, ℕ, _∙_, _≡_, ap₂, List, arith, length, set, getD-set-other, getD-set-same}
 use Rattle.block.specs.Wide.{whole}
-use Rattle.lanes.proofs.Bits.{lt-or-le}
-use Rattle.carryless.specs.Lanes.{Each, lane, Both}
-
--- one word more
-pub each-next : (f : ℕ → ℕ) (i v : ℕ) (a : List ℕ) → i < length a → v ≡ f i → Each f i a → Each f (i + 1) (set a i v)
-each-next f i v a h e E j hj =
-    ⊎-elim
-    (λ (g : j < i). getD-set-other a i j v 0 (λ e. omega arith) ∙ E j g)
-    (λ (g : i ≤ j).
-    let q : i ≡ j = omega arith in
-    subst (λ (z : ℕ). getD (set a i v) z 0 ≡ f z) q (getD-set-same a i v 0 h ∙ e))
-    (lt-or-le j i)
-
--- one entry more below a bound
-pub below-next : (f : ℕ → ℕ) (i b : ℕ) → f i < b → ((j : ℕ) → j < i → f j < b) → (j : ℕ) → j < i + 1 → f j < b
-below-next f i b l h j hj =
-    ⊎-elim
-    (λ (g : j < i). h j g)
-    (λ (g : i ≤ j).
-    let q : i ≡ j = omega arith in
-    subst (λ (z : ℕ). f z < b) q l)
-    (lt-or-le j i)
+pub use Rattle.lanes.proofs.Filling.{one-more, each-next}
+use Rattle.carryless.specs.Lanes.{lane, Both}
 
 -- one number more, in two words
 module _ (i u v : ℕ) (a b : List ℕ) (ha : i < length a) (hb : i < length b) where
@@ -40,10 +13,4 @@ module _ (i u v : ℕ) (a b : List ℕ) (ha : i < length a) (hb : i < length b) 
   lane-other j n = ap₂ whole (getD-set-other a i j u 0 n) (getD-set-other b i j v 0 n)
 
   pub both-next : (f : ℕ → ℕ) → whole u v ≡ f i → Both f i a b → Both f (i + 1) (set a i u) (set b i v)
-  both-next f e B j hj =
-      ⊎-elim
-      (λ (g : j < i). lane-other j (λ e. omega arith) ∙ B j g)
-      (λ (g : i ≤ j).
-      let q : i ≡ j = omega arith in
-      subst (λ (z : ℕ). lane (set a i u) (set b i v) z ≡ f z) q (lane-same ∙ e))
-      (lt-or-le j i)
+  both-next f e B = one-more _ i (lane-same ∙ e) (λ j g. lane-other j (λ e. omega arith) ∙ B j g)

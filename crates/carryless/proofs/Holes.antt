@@ -1,16 +1,12 @@
 -- Integer products of numbers with holes: of numbers whose digits to the base 2 ^ (w + 1) are 0 or 1. A digit of such a product is the
 -- number of the pairs of ones that meet there. Where that is below the base nothing is carried, and the digits' lowest bits are the
 -- product without carry (`hole-product`).
--- Assumes nothing.
-use mathlib.Core.Path.{_≡_, refl, sym, ap, ap₂, subst, _∙_}
-use Prim.Native.Nat.{ℕ, zero, suc, _+_, _*_, _/_, _%_, _^_, _<_, _≤_, zero-le, suc-le-suc}
-use native.Mathlib.Nat.{add-zero, add-comm, add-mul, zero-add, suc-add, add-mod, mul-right-comm, zero-mul, one-mul, zero-div, zero-mod, mod-lt, mod-eq-of-lt, mul-mod-left, mul-div-cancel, div-add-mod', add-le-add, le-refl, lt-of-le-of-lt, lt-of-lt-of-le, lt-trans, lt-suc-self, le-of-suc-le-suc, pow-le-pow-right}
-use native.Mathlib.Numerals.{add-one, one-add}
-use native.Mathlib.Omega.{arith}
-use lib.Arith.{digits-div, digits-mod}
-use lib.Dec.{lit<}
-use lib.Pow.{pow-pos, split, mod-mod-pow}
-use lib.Bits.{bitAnd, and-block, and-mask, and-zero-r, xor-block, shifted-even}
+use Rattle.block.proofs.Base.{_%_, _*_, _+_, _/_, _<_, _^_, _≤_, suc, suc-le-suc, zero, zero-le, ℕ, _∙_, _≡_, ap, ap₂, refl, sym, add-comm}
+use Rattle.block.proofs.Base.{add-le-add, add-mod, add-mul, add-zero, div-add-mod', le-of-suc-le-suc, le-refl, lt-of-le-of-lt}
+use Rattle.block.proofs.Base.{lt-of-lt-of-le, lt-suc-self, lt-trans, mod-eq-of-lt, mod-lt, mul-div-cancel, mul-mod-left, mul-right-comm}
+use Rattle.block.proofs.Base.{one-mul, pow-le-pow-right, suc-add, zero-add, zero-div, zero-mod, zero-mul, add-one, one-add, arith}
+use Rattle.block.proofs.Base.{digits-div, digits-mod, and-block, and-mask, and-zero-r, bitAnd, shifted-even, xor-block, lit<, mod-mod-pow}
+use Rattle.block.proofs.Base.{pow-pos, split}
 use Rattle.block.specs.Xor.{_⊕_}
 use Rattle.block.proofs.Xor.{bit-lt}
 use Rattle.block.proofs.Bit.{bit-cases}
@@ -67,37 +63,38 @@ module _ (w : ℕ) where
   pick-sum p q h zero u v a b = and-zero-r (u + v) ∙ sym (ap₂ _⊕_ (and-zero-r u) (and-zero-r v))
   pick-sum p q h (suc n) u v a b =
       let l : u % base + v % base < base = lt-of-le-of-lt (add-le-add (a .0) (b .0)) h in
-      pick-step n (u + v)
-      ∙ ap₂ (λ (x y : ℕ). x * base + y) (ap (λ (x : ℕ). bitAnd x (ones n)) (sum-div base u v l) ∙ pick-sum p q h n (u / base) (v / base) (a .1) (b .1)) (odd-sum u v)
-      ∙ sym (xor-block (suc w) (bitAnd (u / base) (ones n)) (bitAnd (v / base) (ones n)) (u % 2) (v % 2) (bit-base u) (bit-base v))
-      ∙ sym (ap₂ _⊕_ (pick-step n u) (pick-step n v))
+      rw (
+        pick-step n (u + v),
+        pick-step n u,
+        pick-step n v,
+        odd-sum u v,
+        sum-div base u v l,
+        pick-sum p q h n (u / base) (v / base) (a .1) (b .1),
+      ) (sym (xor-block (suc w) _ _ (u % 2) (v % 2) (bit-base u) (bit-base v)))
 
   few-sum : (p q : ℕ) → p + q < base → (n u v : ℕ) → Few p n u → Few q n v → Few (p + q) n (u + v)
   few-sum p q h zero u v a b = ap₂ _+_ a b
   few-sum p q h (suc n) u v a b =
-      let l : u % base + v % base < base = lt-of-le-of-lt (add-le-add (a .0) (b .0)) h in (
-        subst (λ (x : ℕ). x ≤ p + q) (sym (sum-mod base u v l)) (add-le-add (a .0) (b .0)),
-        subst (Few (p + q) n) (sym (sum-div base u v l)) (few-sum p q h n (u / base) (v / base) (a .1) (b .1)),
-      )
+      let l : u % base + v % base < base = lt-of-le-of-lt (add-le-add (a .0) (b .0)) h in
+      (rw (sum-mod base u v l) (add-le-add (a .0) (b .0)), rw (sum-div base u v l) (few-sum p q h n _ _ (a .1) (b .1)))
 
   few-zero : (m n : ℕ) → Few m n 0
   few-zero m zero = refl
-  few-zero m (suc n) = (subst (λ (x : ℕ). x ≤ m) (sym (zero-mod base)) zero-le, subst (Few m n) (sym (zero-div base)) (few-zero m n))
+  few-zero m (suc n) = (rw (zero-mod base) zero-le, rw (zero-div base) (few-zero m n))
 
   few-more : (m n : ℕ) → (z : ℕ) → Few m n z → Few m (suc n) z
-  few-more m zero z h = subst (Few m 1) (sym h) (few-zero m 1)
+  few-more m zero z h = rw h (few-zero m 1)
   few-more m (suc n) z h = (h .0, few-more m n (z / base) (h .1))
 
   few-plus : (m n k z : ℕ) → Few m n z → Few m (k + n) z
-  few-plus m n zero z h = subst (λ (x : ℕ). Few m x z) (sym (zero-add n)) h
-  few-plus m n (suc k) z h = subst (λ (x : ℕ). Few m x z) (sym (suc-add k n)) (few-more m (k + n) z (few-plus m n k z h))
+  few-plus m n zero z h = rw (zero-add n) h
+  few-plus m n (suc k) z h = rw (suc-add k n) (few-more m (k + n) z (few-plus m n k z h))
 
   few-bit : (m n a z : ℕ) → Few m n z → Few m n (a % 2 * z)
-  few-bit m n a z h = bit-cases (λ x. Few m n (x * z)) (subst (Few m n) (sym (zero-mul z)) (few-zero m n)) (subst (Few m n) (sym (one-mul z)) h) a
+  few-bit m n a z h = bit-cases (λ x. Few m n (x * z)) (rw (zero-mul z) (few-zero m n)) (rw (one-mul z) h) a
 
   few-up : (m n z : ℕ) → Few m n z → Few m (suc n) (z * base)
-  few-up m n z h =
-      (subst (λ (x : ℕ). x ≤ m) (sym (mul-mod-left z base)) zero-le, subst (Few m n) (sym (mul-div-cancel z (pow-pos (suc w)))) h)
+  few-up m n z h = (rw (mul-mod-left z base) zero-le, rw (mul-div-cancel z (pow-pos (suc w))) h)
 
   -- a digit that is at most 1 is its lowest bit
   small-digit : (z : ℕ) → z % base ≤ 1 → z % base ≡ z % 2
@@ -116,17 +113,14 @@ module _ (w : ℕ) where
   pub few-pick : (n z : ℕ) → Few 1 n (bitAnd z (ones n))
   few-pick zero z = and-zero-r z
   few-pick (suc n) z =
-      let e = pick-step n z in
-      let r = bit-base z in (
-        subst (λ (x : ℕ). x % base ≤ 1) (sym e) (subst (λ (x : ℕ). x ≤ 1) (sym (digits-mod (bitAnd (z / base) (ones n)) r)) (le-of-suc-le-suc (bit-lt z))),
-        subst (λ (x : ℕ). Few 1 n (x / base)) (sym e) (subst (Few 1 n) (sym (digits-div (bitAnd (z / base) (ones n)) r)) (few-pick n (z / base))),
+      let y = bitAnd (z / base) (ones n) in (
+        rw (pick-step n z, digits-mod y (bit-base z)) (le-of-suc-le-suc (bit-lt z)),
+        rw (pick-step n z, digits-div y (bit-base z)) (few-pick n (z / base)),
       )
 
   pub pick-up : (n z : ℕ) → bitAnd (z * base) (ones (suc n)) ≡ bitAnd z (ones n) * base
   pick-up n z =
-      pick-step n (z * base)
-      ∙ ap₂ (λ (x y : ℕ). bitAnd x (ones n) * base + y) (mul-div-cancel z (pow-pos (suc w))) (shifted-even z w)
-      ∙ add-zero _
+      rw (pick-step n (z * base), mul-div-cancel z (pow-pos (suc w)), shifted-even z w) (add-zero _)
 
   -- nothing stands past the last digit
   pub pick-more : (m n z : ℕ) → Few m n z → bitAnd z (ones (suc n)) ≡ bitAnd z (ones n)
@@ -142,20 +136,16 @@ module _ (w : ℕ) where
   -- the product without carry, a digit of the first factor at a time
   digit-product : (x y : ℕ) → x % base ≤ 1 → clmul (suc w) x y ≡ x % 2 * y
   digit-product x y h =
-      sym (clmul-mod (suc w) (suc w) x y (le-refl (suc w)))
-      ∙ ap (λ (v : ℕ). clmul (suc w) v y) (small-digit x h)
-      ∙ bit-cases (λ v. clmul (suc w) v y ≡ v * y) (zero-clmul (suc w) y ∙ sym (zero-mul y)) (one-clmul w y ∙ sym (one-mul y)) x
+      rw (← clmul-mod (suc w) (suc w) x y (le-refl (suc w)), small-digit x h)
+      (bit-cases (λ v. clmul (suc w) v y ≡ v * y) (zero-clmul (suc w) y ∙ sym (zero-mul y)) (one-clmul w y ∙ sym (one-mul y)) x)
 
   digits-product : (k x y : ℕ) → x % base ≤ 1 → clmul (suc w + k) x y ≡ x % 2 * y ⊕ clmul k (x / base) y * base
-  digits-product k x y h = clmul-split (suc w) k x y ∙ ap (λ (v : ℕ). v ⊕ clmul k (x / base) y * base) (digit-product x y h)
+  digits-product k x y h = rw (clmul-split (suc w) k x y, digit-product x y h)
 
   -- one digit more of the first factor
   product-split : (x y : ℕ) → x % base ≤ 1 → x * y ≡ x % 2 * y + x / base * y * base
   product-split x y h =
-      ap (λ (v : ℕ). v * y) (by-digits x h)
-      ∙ add-mul (x / base * base) (x % 2) y
-      ∙ add-comm (x / base * base * y) (x % 2 * y)
-      ∙ ap (λ (v : ℕ). x % 2 * y + v) (mul-right-comm (x / base) base y)
+      ap (λ (v : ℕ). v * y) (by-digits x h) ∙ rw (add-mul (x / base * base) (x % 2) y, mul-right-comm (x / base) base y) (add-comm _ _)
 
   pub record HoleProduct (k m x y : ℕ) : Type 0 where
     pub few : Few (suc k) (k + m) (x * y)
@@ -163,27 +153,20 @@ module _ (w : ℕ) where
 
   pub hole-product : (k m x y : ℕ) → suc k < base → Few 1 (suc k) x → Few 1 m y → HoleProduct k m x y
   hole-product zero m x y l hx hy =
-      let e : x * y ≡ x % 2 * y = product-split x y (hx .0) ∙ ap (λ (v : ℕ). x % 2 * y + v * y * base) (hx .1) ∙ ap (λ (v : ℕ). x % 2 * y + v * base) (zero-mul y) ∙ ap (λ (v : ℕ). x % 2 * y + v) (zero-mul base) ∙ add-zero (x % 2 * y) in
-      let f = few-bit 1 m x y hy in
-      record {
-        few = subst (Few 1 (0 + m)) (sym e) (few-plus 1 m 0 (x % 2 * y) f);
-        bits = ap (λ (v : ℕ). bitAnd v (ones (0 + m))) e ∙ pick-whole (0 + m) (x % 2 * y) (few-plus 1 m 0 (x % 2 * y) f) ∙ sym (digit-product x y (hx .0));
-      }
+      let e : x * y ≡ x % 2 * y = product-split x y (hx .0) ∙ rw (hx .1, zero-mul y, zero-mul base, add-zero) in
+      let f = few-plus 1 m 0 (x % 2 * y) (few-bit 1 m x y hy) in
+      record { few = rw e f; bits = rw e (pick-whole (0 + m) (x % 2 * y) f ∙ sym (digit-product x y (hx .0))) }
   hole-product (suc k) m x y l hx hy =
       let X = x / base in
       let r = hole-product k m X y (lt-trans (lt-suc-self (suc k)) l) (hx .1) hy in
       let e = product-split x y (hx .0) in
-      let n : suc k + m ≡ suc (k + m) = suc-add k m in
       let f : Few 1 (suc (k + m)) (x % 2 * y) = few-more 1 (k + m) (x % 2 * y) (few-plus 1 m k (x % 2 * y) (few-bit 1 m x y hy)) in
       let g : Few (suc k) (suc (k + m)) (X * y * base) = few-up (suc k) (k + m) (X * y) (r .few) in
-      let p : 1 + suc k < base = subst (λ (j : ℕ). j < base) (sym (one-add (suc k))) l in
-      let s : Few (suc (suc k)) (suc (k + m)) (x % 2 * y + X * y * base) =
-      subst (λ (j : ℕ). Few j (suc (k + m)) (x % 2 * y + X * y * base)) (one-add (suc k))
-      (few-sum 1 (suc k) p (suc (k + m)) (x % 2 * y) (X * y * base) f g) in
+      let p : 1 + suc k < base = rw (one-add (suc k)) l in
       record {
-        few = subst (λ (j : ℕ). Few (suc (suc k)) j (x * y)) (sym n) (subst (Few (suc (suc k)) (suc (k + m))) (sym e) s);
+        few = rw (suc-add k m, e) (rw (one-add (suc k)) at (few-sum 1 (suc k) p (suc (k + m)) (x % 2 * y) (X * y * base) f g));
         bits =
-            ap₂ (λ (v j : ℕ). bitAnd v (ones j)) e n
+            ap₂ (λ (v j : ℕ). bitAnd v (ones j)) e (suc-add k m)
             ∙ pick-sum 1 (suc k) p (suc (k + m)) (x % 2 * y) (X * y * base) f g
             ∙ ap₂ _⊕_ (pick-whole (suc (k + m)) (x % 2 * y) f) (pick-up (k + m) (X * y) ∙ ap (λ (v : ℕ). v * base) (r .bits))
             ∙ sym (digits-product (span k) x y (hx .0));

@@ -4,10 +4,7 @@ use mathlib.Core.List.{List}
 use Prim.Native.Nat.{ℕ, _<_}
 use lib.ListN.{getD}
 use Rattle.block.specs.Wide.{whole}
-
--- the first n words of a are those of f
-abbrev pub Each : (ℕ → ℕ) → ℕ → List ℕ → Type 0
-Each f n a = (g : ℕ) → g < n → getD a g 0 ≡ f g
+pub use Rattle.lanes.specs.Each.{Each}
 
 -- number g, whose high half stands in a and whose low half in b
 abbrev pub lane : List ℕ → List ℕ → ℕ → ℕ

@@ -1,16 +1,7 @@
 -- The differences that `all_padding` adds up come to 0 exactly where the last n bytes of a block all hold n.
--- Assumes nothing.
-use mathlib.Core.Path.{_≡_, refl, sym, _∙_}
-use mathlib.Core.Bool.{_&&_}
-use Prim.Native.Nat.{ℕ, zero, suc, _+_, _*_, _-_, _/_, _≤_, _<_, _^_}
-use mathlib.Core.List.{List, [], _∷_}
-use native.Mathlib.Numerals.{add-one}
-use native.Mathlib.Omega.{arith}
-use lib.Bits.{xor-lt, xor-self}
-use lib.Dec.{eqb}
-use lib.ListN.{length, drop, getD, replicate, length-drop}
-use lib.Seq.{drop-length, drop-cons}
-use borrow.Author.Tests.{eq-eqb, eqb-true}
+use Rattle.block.proofs.Base.{_*_, _+_, _-_, _/_, _<_, _^_, _≤_, suc, zero, ℕ, _∙_, _≡_, refl, sym, _&&_, List, [], _∷_, add-one, arith}
+use Rattle.block.proofs.Base.{eq-eqb, eqb-true, xor-lt, xor-self, eqb, drop, getD, length, length-drop, replicate, drop-cons}
+use lib.Seq.{drop-length}
 use Rattle.block.specs.Same.{same}
 use Rattle.block.specs.Xor.{_⊕_}
 use Rattle.block.proofs.Same.{and-left, and-right, test-iff}
@@ -58,8 +49,7 @@ none-before n i (suc k) (x ∷ l) h =
 
 xor-test : (x n : ℕ) → eqb (x ⊕ n) 0 ≡ eqb x n
 xor-test x n =
-    test-iff (eqb (x ⊕ n) 0) (eqb x n)
-    (λ e. eq-eqb x n (xor-same x n n (eqb-true (x ⊕ n) 0 e ∙ sym (xor-self n))))
+    test-iff (eqb (x ⊕ n) 0) (eqb x n) (λ e. eq-eqb x n (xor-same x n n (eqb-true (x ⊕ n) 0 e ∙ sym (xor-self n))))
     (λ e. eq-eqb (x ⊕ n) 0 (rw (eqb-true x n e) (xor-self n)))
 
 sum-test : (a b : ℕ) → eqb (a + b) 0 ≡ (eqb a 0 && eqb b 0)
@@ -72,16 +62,14 @@ sum-test a b =
     eq-eqb (a + b) 0 (omega arith))
 
 -- each of the last n adds its difference to n
-all-hold : (n i : ℕ) (l : List ℕ) → n ≤ 16 → 16 ≤ i + n → i + length l ≡ 16
-    → eqb (differences n i l) 0 ≡ same l (replicate (length l) n)
+all-hold : (n i : ℕ) (l : List ℕ) → n ≤ 16 → 16 ≤ i + n → i + length l ≡ 16 → eqb (differences n i l) 0 ≡ same l (replicate (length l) n)
 unfolding differences same
 all-hold n i [] hn hi hl = refl
 all-hold n i (x ∷ l) hn hi hl =
     let q : difference n i x ≡ x ⊕ n = let o : (i + n) / 16 ≡ 1 = omega arith in rw o (omega arith) in
     rw (q, sum-test (x ⊕ n) (differences n (suc i) l), xor-test x n, all-hold n (suc i) l hn (omega arith) (omega arith))
 
-pub padding-test : (n : ℕ) (l : List ℕ) → n ≤ 16 → length l ≡ 16
-    → eqb (differences n 0 l) 0 ≡ same (drop (16 - n) l) (replicate n n)
+pub padding-test : (n : ℕ) (l : List ℕ) → n ≤ 16 → length l ≡ 16 → eqb (differences n 0 l) 0 ≡ same (drop (16 - n) l) (replicate n n)
 padding-test n l hn hl =
     let k = 16 - n in
     let m : length (drop k l) ≡ n = rw length-drop (omega arith) in

@@ -1,12 +1,7 @@
 -- Decryption of many blocks at once: the state of a block is the ciphertext block before it, and the cipher under the round keys turned
 -- round is decryption.
--- Assumes nothing.
-use mathlib.Core.Path.{_≡_, refl, sym, ap, _∙_}
-use Prim.Native.Nat.{ℕ, _+_, _-_, _*_, _<_, _≤_}
-use mathlib.Core.List.{List, _++_, reverse}
-use native.Mathlib.Omega.{arith}
-use lib.ListN.{length, take, drop, length-append}
-use lib.Seq.{drop-drop}
+use Rattle.block.proofs.Base.{_*_, _+_, _-_, _<_, _≤_, ℕ, _∙_, _≡_, ap, refl, sym, List, _++_, reverse, arith, drop, length, length-append}
+use Rattle.block.proofs.Base.{take, drop-drop}
 use Rattle.block.specs.Blocks.{blockAt, cat}
 use Rattle.block.specs.Words.{words, unwords}
 use Rattle.block.specs.Xor.{xors}
@@ -54,10 +49,10 @@ module _ (back : List ℕ) where
       let lb : 16 * m ≤ length before = omega (arith, ap length eb ∙ length-append (cat m B) Y, length-cat m B full) in
       let states : (i : ℕ) → i < m → blockAt before i ≡ stepped M i s d =
       λ i g. ap (λ (x : List ℕ). blockAt x i) eb ∙ block-of m B Y full i g ∙ sym (states-before M decrypt-fed i s d hs) in
-      let xored : xors (take (16 * m) before) pads ≡ cat m (λ i. xors (stepped M i s d) (f i)) =
-      ap (xors (take (16 * m) before)) ep
+      let xored : xors (take (16 * m) before) pads ≡ cat m (λ i. xors (stepped M i s d) (f i)) = ap (xors (take (16 * m) before)) ep
       ∙ xored-blocks m before (drop (length (cat m f)) z) f lb (λ i g. length-encryptBlock back (blockAt d i))
-      ∙ cat-same m (λ i. xors (blockAt before i) (f i)) (λ i. xors (stepped M i s d) (f i)) (λ i g. ap (λ (x : List ℕ). xors x (f i)) (states i g)) in
+      ∙ cat-same m (λ i. xors (blockAt before i) (f i)) (λ i. xors (stepped M i s d) (f i))
+      (λ i g. ap (λ (x : List ℕ). xors x (f i)) (states i g)) in
       decrypted m (λ i. stepped M i s d) (λ i. blockAt d i) o t (et ∙ ap (λ (x : List ℕ). over x o) xored)
 
   -- the state n blocks further on is the block before that place
@@ -65,14 +60,12 @@ module _ (back : List ℕ) where
       → take 16 (drop (at + 16 * n) (s ++ d)) ≡ stepped (cbcDecrypt (reverse back)) n r (drop at d)
   fed-next s r d at n hs hr h =
       let k : at + (16 * n - 16) ≡ at + 16 * n - 16 = omega arith in
-      block-before s d (at + 16 * n) hs (omega arith)
-      ∙ sym
-      (states-before (cbcDecrypt (reverse back)) decrypt-fed n r (drop at d) hr
-      ∙ block-before r (drop at d) (16 * n) hr (omega arith)
-      ∙ ap (take 16) (drop-drop (16 * n - 16) at d ∙ ap (λ (x : ℕ). drop x d) k))
+      block-before s d (at + 16 * n) hs (omega arith) ∙ sym (states-before (cbcDecrypt (reverse back)) decrypt-fed n r (drop at d) hr
+      ∙ block-before r (drop at d) (16 * n) hr (omega arith) ∙ ap (take 16) (drop-drop (16 * n - 16) at d ∙ ap (λ (x : ℕ). drop x d) k))
 
   -- a state on the way is a block
-  pub full-state : (s d : List ℕ) (n i : ℕ) → length s ≡ 16 → 16 * n ≤ length d → i < n → length (stepped (cbcDecrypt (reverse back)) i s d) ≡ 16
+  pub full-state : (s d : List ℕ) (n i : ℕ) → length s ≡ 16 → 16 * n ≤ length d → i < n
+      → length (stepped (cbcDecrypt (reverse back)) i s d) ≡ 16
   full-state s d n i hs hd h =
       ap length (states-before (cbcDecrypt (reverse back)) decrypt-fed i s d hs)
       ∙ length-blockAt (s ++ d) i n h (rw length-append (omega arith))

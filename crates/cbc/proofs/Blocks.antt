@@ -1,21 +1,17 @@
 -- Cbc decryption of full blocks: its front is the decrypted front, and its last block takes the last two blocks alone.
--- Assumes nothing.
-use mathlib.Core.Path.{_≡_, refl, sym, ap, _∙_}
-use Prim.Native.Nat.{ℕ, zero, suc, _+_, _*_, _-_, _/_, _%_, _≤_, _<_}
-use mathlib.Core.List.{List, [], _∷_, _++_, append-nil}
-use native.Mathlib.Omega.{arith}
-use lib.ListN.{length, take, drop, length-append, length-drop, take-append-drop}
-use lib.Seq.{length-take-le, take-all, take-at, drop-at, take-add, drop-drop, take-append-add, drop-append-add}
+use Rattle.block.proofs.Base.{_%_, _*_, _+_, _-_, _/_, _<_, _≤_, suc, zero, ℕ, _∙_, _≡_, refl, sym, List, [], _++_, _∷_, append-nil, arith}
+use Rattle.block.proofs.Base.{drop, length, length-drop, take, take-append-drop, drop-append-add, drop-drop, length-take-le, take-all}
+use Rattle.block.proofs.Base.{take-at}
 use Rattle.block.specs.Below.{AreBytes}
 use Rattle.block.specs.Words.{words, unwords}
 use Rattle.block.specs.Xor.{xors}
 use Rattle.block.proofs.Entries.{below-take, below-drop}
 use Rattle.block.proofs.Xors.{length-xors}
-use Rattle.block.proofs.WordsBack.{unwords-front}
 use Rattle.cipher.specs.Sm4.{decryptWords, decryptBlock}
 use Rattle.cipher.proofs.Blocks.{length-decryptBlock}
-use Rattle.walk.specs.Walk.{chain}
+use Rattle.walk.specs.Walk.{chain, endState}
 use Rattle.walk.proofs.Chain.{chain-rest, chain-block, chain-length}
+use Rattle.walk.proofs.Cut.{chain-cut}
 use Rattle.walk.proofs.Loop.{tailed, tail-is}
 use Rattle.cbc.specs.Cbc.{cbcDecrypt}
 use Rattle.cbc.proofs.InWords.{decrypted-front}
@@ -63,30 +59,16 @@ length-decrypt rk s d hs h = chain-length Sixteen Whole (cbcDecrypt rk) record {
   rest = λ s d g k n. whole-short d k n;
 } s d hs h
 
--- n full blocks of d
-front-by : (rk : List ℕ) (n : ℕ) (s d : List ℕ) → length s ≡ 16 → 16 * n ≤ length d
-    → chain (cbcDecrypt rk) s (take (16 * n) d) ≡ take (16 * n) (chain (cbcDecrypt rk) s d)
-front-by rk zero s d hs h = chain-rest (cbcDecrypt rk) s [] (omega arith)
-front-by rk (suc n) s d hs h =
-    let m = cbcDecrypt rk in
-    let e : 16 * suc n ≡ 16 + 16 * n = omega arith in
-    let b = take 16 d in
-    let B : length b ≡ 16 = length-take-le 16 d (omega arith) in
-    let A = m .block s b in
-    let a : length A ≡ 16 = decrypt-block rk s b hs in
-    let F = take (16 * n) (drop 16 d) in
-    let l : length (b ++ F) ≡ 16 + length F = length-append b F ∙ rw B in
-    let i : chain m b F ≡ take (16 * n) (chain m b (drop 16 d)) = front-by rk n b (drop 16 d) B (rw length-drop (omega arith)) in
-    let C = chain m b (drop 16 d) in
-    let x : chain m s (b ++ F) ≡ A ++ chain m b F = chain-block m s (b ++ F) (omega arith) ∙ rw (take-at b F 16 B, drop-at b F 16 B) in
-    let y : take (16 + 16 * n) (A ++ C) ≡ A ++ take (16 * n) C = rw a at (take-append-add A C (16 * n)) in
-    rw (e, take-add 16 (16 * n) d, x, i, chain-block m s d (omega arith), y)
-
+-- full blocks at the front of d
 pub decrypt-front : (rk s d : List ℕ) (f : ℕ) → length s ≡ 16 → f % 16 ≡ 0 → f ≤ length d
     → chain (cbcDecrypt rk) s (take f d) ≡ take f (chain (cbcDecrypt rk) s d)
 decrypt-front rk s d f hs hf hd =
-    let e : 16 * (f / 16) ≡ f = omega arith in
-    rw e at (front-by rk (f / 16) s d hs (omega arith))
+    let m = cbcDecrypt rk in
+    let a = take f d in
+    let l : length a ≡ f = length-take-le f d hd in
+    let C = chain m (endState m s a) (drop f d) in
+    let cut : chain m s d ≡ chain m s a ++ C = rw (take-append-drop f d) at (chain-cut m (drop f d) (λ x. refl) s a (rw l hf)) in
+    rw cut (sym (take-at (chain m s a) C f (length-decrypt rk s a hs (rw l hf) ∙ l)))
 
 -- the last of n + 1 blocks
 last-by : (rk : List ℕ) (n : ℕ) (s d : List ℕ) → length s ≡ 16 → length d ≡ 16 * n + 16
@@ -94,13 +76,7 @@ last-by : (rk : List ℕ) (n : ℕ) (s d : List ℕ) → length s ≡ 16 → len
 last-by rk zero s d hs h =
     let m = cbcDecrypt rk in
     let z : length (drop 16 d) < 16 = rw length-drop (omega arith) in
-    rw (
-      chain-block m s d (omega arith),
-      chain-rest m (take 16 d) (drop 16 d) z,
-      append-nil,
-      take-all 16 d (omega arith),
-      take-at s d 16 hs,
-    )
+    rw (chain-block m s d (omega arith), chain-rest m (take 16 d) (drop 16 d) z, append-nil, take-all 16 d (omega arith), take-at s d 16 hs)
 last-by rk (suc n) s d hs h =
     let m = cbcDecrypt rk in
     let e : 16 * suc n ≡ 16 + 16 * n = omega arith in
@@ -114,8 +90,7 @@ last-by rk (suc n) s d hs h =
     let i = last-by rk n b (drop 16 d) B (rw length-drop (omega arith)) in
     rw (e, chain-block m s d (omega arith), x, y, i, take-append-drop, drop-drop)
 
-decrypt-last : (rk s d : List ℕ) → length s ≡ 16 → 16 ≤ length d → length d % 16 ≡ 0
-    → drop (length d - 16) (chain (cbcDecrypt rk) s d)
+decrypt-last : (rk s d : List ℕ) → length s ≡ 16 → 16 ≤ length d → length d % 16 ≡ 0 → drop (length d - 16) (chain (cbcDecrypt rk) s d)
     ≡ xors (decryptBlock rk (drop (length d - 16) d)) (take 16 (drop (length d - 16) (s ++ d)))
 decrypt-last rk s d hs h k =
     let n = length d / 16 - 1 in
@@ -129,6 +104,5 @@ pub last-words : (rk s d r : List ℕ) → length s ≡ 16 → AreBytes d → 16
 last-words rk s d r hs b h k four e =
     let f = length d - 16 in
     let l : length (drop f d) ≡ 16 = rw length-drop (omega arith) in
-    rw (tail-is d f)
-    (decrypted-front rk (drop f d) r (omega arith) (below-drop 256 f d b) four
+    rw (tail-is d f) (decrypted-front rk (drop f d) r (omega arith) (below-drop 256 f d b) four
     ∙ rw (take-all 16 (drop f d) (omega arith), e) (sym (decrypt-last rk s d hs h k)))

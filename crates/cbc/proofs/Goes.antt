@@ -1,11 +1,6 @@
 -- Sealing goes on behind the full blocks: what they gave, and then, from the state that they end in, what the padded rest gives.
--- Assumes nothing.
-use mathlib.Core.Path.{_≡_, refl, sym, ap, _∙_}
-use Prim.Native.Nat.{ℕ, _%_, _≤_}
-use mathlib.Core.List.{List, _++_}
-use native.Mathlib.Omega.{arith}
-use lib.ListN.{length, take, drop, length-append, length-drop, take-append-drop}
-use lib.Seq.{length-take-le, take-at, drop-at, take-append-le}
+use Rattle.block.proofs.Base.{_%_, _≤_, ℕ, _∙_, _≡_, ap, refl, sym, List, _++_, arith, drop, length, length-append, length-drop, take}
+use Rattle.block.proofs.Base.{take-append-drop, drop-at, length-take-le, take-append-le, take-at}
 use Rattle.walk.specs.Reached.{Reached}
 use Rattle.walk.specs.Walk.{chain, endState, over}
 use Rattle.walk.proofs.Cut.{end-cut, chain-cut}

@@ -1,10 +1,5 @@
 -- A block of the message and a state in words, encrypted or decrypted, are their sixteen bytes encrypted or decrypted.
--- Assumes nothing.
-use mathlib.Core.Path.{_≡_, ap, _∙_}
-use Prim.Native.Nat.{ℕ, _≤_}
-use mathlib.Core.List.{List}
-use native.Mathlib.Omega.{arith}
-use lib.ListN.{length, take}
+use Rattle.block.proofs.Base.{_≤_, ℕ, _∙_, _≡_, ap, List, arith, length, take}
 use Rattle.block.specs.Below.{AreBytes, AreWords}
 use Rattle.block.specs.Words.{words, unwords}
 use Rattle.block.specs.Xor.{xors}

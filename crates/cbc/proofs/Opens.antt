@@ -1,11 +1,6 @@
 -- Opening by parts: the last block decides, then the front is written, and then what the padding leaves of the last block.
--- Assumes nothing.
-use mathlib.Core.Path.{_≡_, refl, ap, sym, _∙_}
-use Prim.Native.Nat.{ℕ, _+_, _-_, _%_, _≤_}
-use mathlib.Core.List.{List, _++_, append-assoc}
-use native.Mathlib.Omega.{arith}
-use lib.ListN.{length, take, drop, length-drop, take-append-drop}
-use lib.Seq.{length-take-le, take-at, drop-at, take-add, drop-drop}
+use Rattle.block.proofs.Base.{_%_, _+_, _-_, _≤_, ℕ, _∙_, _≡_, ap, refl, sym, List, _++_, append-assoc, arith, drop, length, length-drop}
+use Rattle.block.proofs.Base.{take, take-append-drop, drop-at, drop-drop, length-take-le, take-add, take-at}
 use Rattle.walk.specs.Outcome.{Outcome, leaving, written}
 use Rattle.walk.specs.Walk.{over}
 use Rattle.walk.proofs.Loop.{tailed, returned, tail-is, returned-is}
@@ -45,8 +40,7 @@ module _ (rk s d last o : List ℕ) (hs : length s ≡ 16) (full : 16 ≤ length
   open-refused InvalidPadding bad e = decided InvalidPadding (text-decided InvalidPadding e)
 
   pub open-done : (k : ℕ) (o₁ t : List ℕ) → length d ≤ length o → unpadded last ≡ Done k
-      → o₁ ≡ over (cbcText rk s (take (length d - 16) d)) o
-      → t ≡ take k last ++ drop k (tailed (length d - 16) o₁)
+      → o₁ ≡ over (cbcText rk s (take (length d - 16) d)) o → t ≡ take k last ++ drop k (tailed (length d - 16) o₁)
       → leaving (headOf (Done (length d - 16 + k))) (returned (length d - 16) o₁ t) ≡ cbcOpen rk s d o
   open-done k o₁ t room e e₁ eₜ =
       let p = cbcText rk s d in

@@ -1,11 +1,6 @@
 -- The padding: it fills the last block, wherever full blocks were cut off before.
--- Assumes nothing.
-use mathlib.Core.Path.{_≡_, _∙_}
-use Prim.Native.Nat.{ℕ, zero, suc, _+_, _*_, _-_, _/_, _%_, _≤_, _<_}
-use mathlib.Core.List.{List, _++_}
-use native.Mathlib.Omega.{arith}
-use lib.ListN.{length, take, drop, replicate, length-append, length-drop, length-replicate}
-use lib.Seq.{take-length, take-append-le, drop-append-le}
+use Rattle.block.proofs.Base.{_%_, _*_, _+_, _-_, _/_, _<_, _≤_, suc, zero, ℕ, _∙_, _≡_, List, _++_, arith, drop, length, length-append}
+use Rattle.block.proofs.Base.{length-drop, length-replicate, replicate, take, drop-append-le, take-length}
 use Rattle.walk.proofs.Loop.{tailed, tail-is}
 use Rattle.cbc.specs.Cbc.{padding, padded}
 
@@ -23,12 +18,6 @@ pub pad-filled : (d b : List ℕ) (i : ℕ) → length d < 16 → b ≡ take i d
 pad-filled d b i h e n =
     let k : length d % 16 ≡ length d = omega arith in
     e ∙ rw (n, take-length, drop-replicate (length d) 16 (16 - length d), k)
-
--- a full block of the message is one of the padded message
-pub block-padded : (d : List ℕ) (at : ℕ) → at + 16 ≤ length d → take 16 (tailed at d) ≡ take 16 (drop at (padded d))
-block-padded d at h =
-    let n : 16 ≤ length (drop at d) = rw length-drop (omega arith) in
-    rw (tail-is d at, drop-append-le at d (padding (length d)) (omega arith), take-append-le 16 (drop at d) (padding (length d)) n)
 
 -- the last block of the padded message is the padded rest
 pub rest-padded : (d : List ℕ) (at : ℕ) → at ≤ length d → at % 16 ≡ 0 → length d < at + 16

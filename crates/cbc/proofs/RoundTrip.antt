@@ -1,11 +1,5 @@
--- What Cbc seals, Cbc opens, for any round keys; and what sealing gives: full blocks, of bytes.
--- Assumes nothing.
-use mathlib.Core.Path.{_≡_, refl, ap, _∙_}
-use Prim.Native.Nat.{ℕ, _+_, _*_, _-_, _/_, _%_, _≤_}
-use mathlib.Core.List.{List}
-use native.Mathlib.Omega.{arith}
-use lib.ListN.{length, take}
-use lib.Seq.{take-append-seam}
+-- What Cbc seals, Cbc opens, for any round keys; and what sealing gives: full blocks.
+use Rattle.block.proofs.Base.{_%_, _*_, _+_, _-_, _/_, _≤_, ℕ, _∙_, _≡_, ap, refl, List, arith, length, take, take-append-seam}
 use Rattle.block.specs.Below.{AreBytes}
 use Rattle.block.specs.Xor.{xors}
 use Rattle.block.proofs.Entries.{below-append, below-replicate}
@@ -13,7 +7,7 @@ use Rattle.block.proofs.Xors.{length-xors, xors-cancel, xors-below}
 use Rattle.cipher.proofs.Blocks.{length-encryptBlock, encryptBlock-bytes, block-decrypt-encrypt}
 use Rattle.walk.specs.Outcome.{Outcome, done, leaving, written, finished}
 use Rattle.walk.specs.Walk.{chain, over}
-use Rattle.walk.proofs.Chain.{Any, chain-length, chain-bytes}
+use Rattle.walk.proofs.Chain.{Any, chain-length}
 use Rattle.walk.proofs.Undo.{Undoes, undo}
 use Rattle.cbc.specs.Cbc.{padding, padded, cbcEncrypt, cbcDecrypt, cbcSeal}
 use Rattle.cbc.specs.Open.{headOf, unpadded, cbcText, cbcOpen}
@@ -23,8 +17,7 @@ use Rattle.cbc.proofs.Padding.{length-padded}
 use Rattle.cbc.proofs.Unpadded.{padded-unpadded}
 
 pub padded-bytes : (d : List ℕ) → AreBytes d → AreBytes (padded d)
-padded-bytes d h =
-    below-append 256 d (padding (length d)) h (below-replicate 256 (16 - length d % 16) (16 - length d % 16) (omega arith))
+padded-bytes d h = below-append 256 d (padding (length d)) h (below-replicate 256 (16 - length d % 16) (16 - length d % 16) (omega arith))
 
 padded-whole : (d : List ℕ) → Whole (padded d)
 padded-whole d = omega (arith, length-padded d)
@@ -42,12 +35,6 @@ length-encrypt rk s d h = chain-length Any Whole (cbcEncrypt rk) record {
 pub length-cbcSeal : (rk iv d : List ℕ) → length (cbcSeal rk iv d) ≡ 16 * (length d / 16 + 1)
 unfolding cbcSeal
 length-cbcSeal rk iv d = length-encrypt rk iv (padded d) (padded-whole d) ∙ length-padded d
-
-pub cbcSeal-bytes : (rk iv d : List ℕ) → AreBytes d → AreBytes (cbcSeal rk iv d)
-unfolding cbcSeal
-cbcSeal-bytes rk iv d h =
-    chain-bytes Any (cbcEncrypt rk) (λ s b hs hb. tt) (λ s b hs hb. encryptBlock-bytes rk (xors b s)) (λ s d hs hd. tt)
-    iv (padded d) tt (padded-bytes d h)
 
 -- a state of bytes
 abbrev State : List ℕ → Type 0

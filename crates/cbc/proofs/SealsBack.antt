@@ -1,10 +1,5 @@
 -- What Cbc opens, Cbc seals back to the same ciphertext, for any round keys.
--- Assumes nothing.
-use mathlib.Core.Path.{_≡_, ap, _∙_}
-use Prim.Native.Nat.{ℕ, _%_}
-use mathlib.Core.List.{List}
-use native.Mathlib.Omega.{arith}
-use lib.ListN.{length, take}
+use Rattle.block.proofs.Base.{_%_, ℕ, _∙_, _≡_, ap, List, arith, length, take}
 use Rattle.block.specs.Below.{AreBytes}
 use Rattle.block.proofs.Xors.{xors-cancel}
 use Rattle.cipher.specs.Sm4.{decryptBlock}

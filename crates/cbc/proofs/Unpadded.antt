@@ -1,15 +1,10 @@
--- The decision over the padding: what it answers, of a block, of a text that ends in one, and of a padded message; and that a text
--- which it accepts is a padded message.
--- Assumes nothing.
-use mathlib.Core.Path.{_≡_, refl}
-use mathlib.Core.Bool.{Bool, true, false, cond, not}
-use Prim.Native.Nat.{ℕ, _+_, _-_, _%_, _≤_, _<_}
-use mathlib.Core.List.{List, [], _∷_, _++_}
-use native.Mathlib.Omega.{arith}
-use lib.Dec.{leb}
-use borrow.Author.Tests.{le-leb, lt-leb, leb-true}
-use lib.ListN.{length, take, drop, getD, replicate, length-append, length-replicate, getD-replicate, take-append-drop}
-use lib.Seq.{getD-append-add, drop-append-add, length-take-le}
+-- The decision over the padding: what it answers, of a block, of a text that ends in one, and of a padded message; and that a text which it
+-- accepts is a padded message.
+use Rattle.block.proofs.Base.{_%_, _+_, _-_, _<_, _≤_, ℕ, _≡_, refl, Bool, cond, false, not, true, List, [], _++_, _∷_, arith, le-leb}
+use Rattle.block.proofs.Base.{leb-true, lt-leb, leb, drop, getD, length, length-append, length-replicate, replicate, take, take-append-drop}
+use Rattle.block.proofs.Base.{drop-append-add, length-take-le}
+use lib.ListN.{getD-replicate}
+use lib.Seq.{getD-append-add}
 use Rattle.block.specs.Same.{same}
 use Rattle.block.proofs.Same.{and-left, and-right, same-refl, same-equal}
 use Rattle.cbc.specs.Cbc.{padding, padded}
@@ -43,8 +38,7 @@ answered u v k = cond (not u) InvalidLastU8 (cond (not v) InvalidPadding (Done k
 
 -- of a block, by the byte at its end and the bytes that it counts
 pub block-unpadded : (p : List ℕ) (u v : Bool) → length p ≡ 16 → namesPadding (getD p 15 0) ≡ u
-    → same (drop (16 - getD p 15 0) p) (replicate (getD p 15 0) (getD p 15 0)) ≡ v
-    → answered u v (16 - getD p 15 0) ≡ unpadded p
+    → same (drop (16 - getD p 15 0) p) (replicate (getD p 15 0) (getD p 15 0)) ≡ v → answered u v (16 - getD p 15 0) ≡ unpadded p
 unfolding unpadded allPadding
 block-unpadded p u v n e f = let k : length p - 1 ≡ 15 = omega arith in rw (k, n, e, f)
 
@@ -87,8 +81,7 @@ behind-by a b true h e =
 
 pub unpadded-behind : (a b : List ℕ) → 16 ≤ length b → unpadded (a ++ b) ≡ behind (length a) (unpadded b)
 unfolding unpadded
-unpadded-behind a b h =
-    rw (last-of-two a b (omega arith), length-append a b) (behind-by a b (namesPadding (lastByte b)) h refl)
+unpadded-behind a b h = rw (last-of-two a b (omega arith), length-append a b) (behind-by a b (namesPadding (lastByte b)) h refl)
 
 accepted-by : (u v : Bool) (k n : ℕ) → answered u v k ≡ Done n → (u ≡ true) × (v ≡ true) × (k ≡ n)
 accepted-by true true k n e = (refl, refl, cc)

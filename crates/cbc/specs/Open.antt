@@ -11,7 +11,7 @@ use Rattle.cbc.specs.Cbc.{cbcDecrypt}
 use Rattle.cbc.specs.declared.Opened.{Opened}
 use Rattle.cbc.specs.declared.Opened.the-variants.{Done, InvalidLastU8, InvalidPadding}
 
--- number and length for each answer, by document 01 and request W6
+-- number and length for each answer, with W6
 abbrev pub headOf : Opened → Head
 headOf (Done n) = finished n
 headOf InvalidLastU8 = refusal 3

@@ -1,18 +1,9 @@
 -- The engine that is lent: its length tells which it is. The plain one is the S-box, whose bytes are laid out as words one by
 -- one.
--- Assumes nothing.
-use mathlib.Core.Path.{_≡_, refl, sym, ap, subst, _∙_}
-use mathlib.Core.Logic.{inl, inr}
-use mathlib.Core.Bool.{Bool, true, false, cond}
-use mathlib.Core.List.{List, []}
-use Prim.Native.Nat.{ℕ, zero, suc, _+_, _<_, _≤_}
-use native.Mathlib.Numerals.{add-one}
-use native.Mathlib.Omega.{arith}
-use lib.Dec.{eqb}
-use lib.ListN.{length, take, getD, set}
-use lib.Seq.{take-suc, take-suc-set, take-all}
+use Rattle.block.proofs.Base.{_+_, _<_, suc, zero, ℕ, _∙_, _≡_, ap, refl, subst, sym, inl, inr, Bool, cond, false, true, List, [], add-one}
+use Rattle.block.proofs.Base.{arith, eq-eqb, ne-eqb, eqb, getD, length, set, take, take-all, take-suc-set}
+use lib.Seq.{take-suc}
 use Rattle.cipher.specs.Sm4.{sboxTable}
-use borrow.Author.Tests.{eq-eqb, ne-eqb}
 use Rattle.cipher.specs.Engine.{mixedFrom, mixedTable, Engine, tableOf, LaidOut}
 
 length-sbox : length sboxTable ≡ 256
@@ -37,22 +28,16 @@ mixed-length t e = ap length e ∙ length-mixed
 -- what is lent is the four tables where it has 1,024 words
 pub by-four : (t : List ℕ) → Engine t → length t ≡ 1024 → t ≡ mixedTable
 unfolding Engine
-by-four t (inl e) h =
-    let m = plain-length t e in
-    absurd (omega arith)
+by-four t (inl e) h = let m = plain-length t e in absurd (omega arith)
 by-four t (inr (inl e)) h = e
-by-four t (inr (inr e)) h =
-    let m = ap length e in
-    absurd (omega arith)
+by-four t (inr (inr e)) h = let m = ap length e in absurd (omega arith)
 
 -- where it has another number, but some, the S-box
 pub by-sbox : (t : List ℕ) → Engine t → (length t ≡ 1024 → ⊥) → 0 < length t → t ≡ sboxTable
 unfolding Engine
 by-sbox t (inl e) h g = e
 by-sbox t (inr (inl e)) h g = absurd (h (mixed-length t e))
-by-sbox t (inr (inr e)) h g =
-    let m = ap length e in
-    absurd (omega arith)
+by-sbox t (inr (inr e)) h g = let m = ap length e in absurd (omega arith)
 
 -- one more entry of t, stored in its place of w
 pub laid-more : (t w : List ℕ) (i : ℕ) → i < length t → i < length w → take i w ≡ take i t
@@ -61,9 +46,7 @@ laid-more t w i h k e = rw (add-one, take-suc-set, e, take-suc t i 0)
 
 -- all of them
 pub laid-front : (t w : List ℕ) (i : ℕ) → t ≡ sboxTable → i ≡ 256 → take i w ≡ take i t → take 256 w ≡ sboxTable
-laid-front t w i s n e =
-    let m = plain-length t s in
-    ap (λ (k : ℕ). take k w) (sym n) ∙ e ∙ take-all i t (omega arith) ∙ s
+laid-front t w i s n e = let m = plain-length t s in ap (λ (k : ℕ). take k w) (sym n) ∙ e ∙ take-all i t (omega arith) ∙ s
 
 -- the table of each engine
 table-four : (e : ℕ) → e ≡ 1 → tableOf e ≡ mixedTable

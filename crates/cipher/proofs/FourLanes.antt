@@ -1,14 +1,7 @@
 -- The four bytes of a word in lanes 0, 8, 16 and 24 of eight words: how they are laid there, and how they are read off.
--- Assumes nothing.
-use mathlib.Core.Path.{_≡_, refl, sym, ap, _∙_}
-use mathlib.Core.List.{List, [], _∷_}
-use Prim.Native.Nat.{ℕ, zero, suc, _+_, _*_, _/_, _%_, _^_, _<_}
-use native.Mathlib.Nat.{div-one, mod-lt, mod-eq-of-lt, add-comm}
-use native.Mathlib.Omega.{arith}
-use lib.Dec.{lit<}
-use lib.Pow.{split, pow-pos, shr-shr}
-use lib.Bits.{bitAnd, and-block, and-mask, and-le-r, and-zero-r}
-use lib.ListN.{getD}
+use Rattle.block.proofs.Base.{_%_, _*_, _+_, _/_, _<_, _^_, suc, zero, ℕ, _∙_, _≡_, ap, refl, sym, List, [], _∷_, add-comm, div-one}
+use Rattle.block.proofs.Base.{mod-eq-of-lt, mod-lt, arith, and-block, and-le-r, and-mask, and-zero-r, bitAnd, lit<, getD, pow-pos, shr-shr}
+use Rattle.block.proofs.Base.{split}
 use Rattle.lanes.specs.Bits.{bit, pack, byteLane}
 use Rattle.lanes.proofs.Bits.{bit-small, bit-mod, bit-shr, pack-lt, pack-is}
 use Rattle.circuit.specs.Sbox.{SboxLanes}
@@ -20,8 +13,7 @@ use Rattle.cipher.proofs.FourTables.{tau-bytes}
 mask-byte : (x m : ℕ) → bitAnd x (m * 2 ^ 8 + 1) ≡ bitAnd (x / 2 ^ 8) m * 2 ^ 8 + x % 2
 mask-byte x m =
     let low : bitAnd (x % 2 ^ 8) 1 ≡ x % 2 = and-mask (x % 2 ^ 8) 1 ∙ omega arith in
-    ap (λ (y : ℕ). bitAnd y (m * 2 ^ 8 + 1)) (sym (split x 8))
-    ∙ and-block 8 (x / 2 ^ 8) m (x % 2 ^ 8) 1 (mod-lt x (pow-pos 8)) (lit< tt)
+    ap (λ (y : ℕ). bitAnd y (m * 2 ^ 8 + 1)) (sym (split x 8)) ∙ and-block 8 (x / 2 ^ 8) m (x % 2 ^ 8) 1 (mod-lt x (pow-pos 8)) (lit< tt)
     ∙ ap (λ (y : ℕ). bitAnd (x / 2 ^ 8) m * 2 ^ 8 + y) low
 
 mask-more : (x m k : ℕ) → bitAnd (x / 2 ^ k) (m * 2 ^ 8 + 1) ≡ bitAnd (x / 2 ^ (k + 8)) m * 2 ^ 8 + bit k x
@@ -81,8 +73,7 @@ shifted-lane : (w n : ℕ) → byteLane (shifted w) n ≡ w / 2 ^ n % 2 ^ 8
 unfolding byteLane
 shifted-lane w n =
     pack-is 8 (λ i. bit n (getD (shifted w) i 0)) (w / 2 ^ n % 2 ^ 8) (λ i. bit-small n (getD (shifted w) i 0)) (mod-lt _ (pow-pos 8))
-    (λ i h.
-    ap (bit n) (shifted-at w i h) ∙ bit-shr i n w ∙ ap (λ (k : ℕ). bit k w) (add-comm i n)
+    (λ i h. ap (bit n) (shifted-at w i h) ∙ bit-shr i n w ∙ ap (λ (k : ℕ). bit k w) (add-comm i n)
     ∙ sym (bit-mod 8 i (w / 2 ^ n) h ∙ bit-shr n i w))
 
 -- tau by the S-box in lanes

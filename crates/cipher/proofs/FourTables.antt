@@ -1,13 +1,7 @@
 -- T of a word is one entry of each of the four tables, xored: tau's four bytes stand at places of their own, so their sum is their
 -- xor, and L distributes over it.
--- Assumes nothing.
-use mathlib.Core.Path.{_≡_, sym, ap, ap₂, _∙_}
-use Prim.Native.Nat.{ℕ, zero, suc, _+_, _-_, _*_, _/_, _%_, _^_, _<_}
-use native.Mathlib.Nat.{add-zero, zero-add, add-suc, suc-add}
-use native.Mathlib.Omega.{arith}
-use lib.Pow.{split}
-use lib.Bits.{bitXor, xor-shifted}
-use lib.ListN.{getD}
+use Rattle.block.proofs.Base.{_%_, _*_, _+_, _-_, _/_, _<_, _^_, suc, zero, ℕ, _∙_, _≡_, ap, ap₂, sym, add-suc, add-zero, suc-add, zero-add}
+use Rattle.block.proofs.Base.{arith, bitXor, xor-shifted, getD, split}
 use Rattle.block.specs.BigEndian.{numberOf, bytesOf}
 use Rattle.block.specs.Xor.{_⊕_}
 use Rattle.cipher.specs.Sm4.{Sbox, tau, L, T}
@@ -31,9 +25,7 @@ mixed-at j b k h g e =
 
 -- a multiple of 2 ^ k, and what is below 2 ^ k, have no bit in common
 xor-sum : (k a b : ℕ) → a % 2 ^ k ≡ 0 → b < 2 ^ k → a ⊕ b ≡ a + b
-xor-sum k a b e h =
-    let s : a / 2 ^ k * 2 ^ k ≡ a = sym (add-zero _) ∙ rw e at (split a k) in
-    rw s at (xor-shifted (a / 2 ^ k) k b h)
+xor-sum k a b e h = let s : a / 2 ^ k * 2 ^ k ≡ a = sym (add-zero _) ∙ rw e at (split a k) in rw s at (xor-shifted (a / 2 ^ k) k b h)
 
 -- four bytes at their places, through L
 L-bytes : (a b c d : ℕ) → a < 256 → b < 256 → c < 256 → d < 256
@@ -45,9 +37,7 @@ L-bytes a b c d ha hb hc hd =
     let e1 : p ⊕ q ≡ p + q = xor-sum 24 p q (omega arith) (omega arith) in
     let e2 : p + q ⊕ r ≡ p + q + r = xor-sum 16 (p + q) r (omega arith) (omega arith) in
     let e3 : p + q + r ⊕ d ≡ p + q + r + d = xor-sum 8 (p + q + r) d (omega arith) (omega arith) in
-    ap L (sym e3)
-    ∙ L-xor (p + q + r) d (omega arith) (omega arith)
-    ∙ ap (λ (x : ℕ). x ⊕ L d)
+    ap L (sym e3) ∙ L-xor (p + q + r) d (omega arith) (omega arith) ∙ ap (λ (x : ℕ). x ⊕ L d)
     (ap L (sym e2) ∙ L-xor (p + q) r (omega arith) (omega arith)
     ∙ ap (λ (x : ℕ). x ⊕ L r) (ap L (sym e1) ∙ L-xor p q (omega arith) (omega arith)))
 
@@ -60,7 +50,8 @@ tau-bytes w h =
     rw (a, d) (omega arith)
 
 pub mixed-T : (w : ℕ) → w < 2 ^ 32
-    → getD mixedTable (w / 2 ^ 24) 0 ⊕ getD mixedTable (256 + w / 2 ^ 16 % 256) 0 ⊕ getD mixedTable (512 + w / 2 ^ 8 % 256) 0 ⊕ getD mixedTable (768 + w % 256) 0 ≡ T w
+    → getD mixedTable (w / 2 ^ 24) 0 ⊕ getD mixedTable (256 + w / 2 ^ 16 % 256) 0 ⊕ getD mixedTable (512 + w / 2 ^ 8 % 256) 0 ⊕ getD
+    mixedTable (768 + w % 256) 0 ≡ T w
 unfolding T
 mixed-T w h =
     let b0 : w / 2 ^ 24 < 256 = omega arith in
@@ -72,5 +63,4 @@ mixed-T w h =
     let e2 = mixed-at 2 (w / 2 ^ 8 % 256) (512 + w / 2 ^ 8 % 256) b2 (omega arith) (omega arith) in
     let e3 = mixed-at 3 (w % 256) (768 + w % 256) b3 (omega arith) (omega arith) in
     ap₂ bitXor (ap₂ bitXor (ap₂ bitXor e0 e1) e2) (e3 ∙ ap L (omega arith))
-    ∙ sym (L-bytes _ _ _ _ (sbox-byte _ b0) (sbox-byte _ b1) (sbox-byte _ b2) (sbox-byte _ b3))
-    ∙ ap L (sym (tau-bytes w h))
+    ∙ sym (L-bytes _ _ _ _ (sbox-byte _ b0) (sbox-byte _ b1) (sbox-byte _ b2) (sbox-byte _ b3)) ∙ ap L (sym (tau-bytes w h))

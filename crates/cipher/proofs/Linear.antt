@@ -1,10 +1,6 @@
 -- L distributes over xor: each of its rotations does, since a rotation is two digits that change places.
--- Assumes nothing.
-use mathlib.Core.Path.{_≡_, refl, sym, ap, ap₂, _∙_}
-use Prim.Native.Nat.{ℕ, _+_, _-_, _*_, _/_, _%_, _^_, _<_}
-use native.Mathlib.Omega.{arith}
-use lib.Pow.{shr-lt}
-use lib.Bits.{bitXor, xor-block, xor-mod, xor-shr}
+use Rattle.block.proofs.Base.{_%_, _*_, _+_, _-_, _/_, _<_, _^_, ℕ, _∙_, _≡_, ap, ap₂, refl, sym, arith, bitXor, xor-block, xor-mod}
+use Rattle.block.proofs.Base.{xor-shr, shr-lt}
 use Rattle.block.specs.Xor.{_⊕_}
 use Rattle.block.proofs.Xor.{xor-swap}
 use Rattle.cipher.specs.Sm4.{rotl, L}
@@ -23,8 +19,7 @@ module _ (a b : ℕ) (ha : a < 2 ^ 32) (hb : b < 2 ^ 32) where
       let e : n + j ≡ 32 = omega arith in
       let la : a < 2 ^ (n + j) = rw e ha in
       let lb : b < 2 ^ (n + j) = rw e hb in
-      rotl-digits j n (a ⊕ b) h
-      ∙ ap₂ (λ (p q : ℕ). p * 2 ^ n + q) (xor-mod a b j) (xor-shr a b j)
+      rotl-digits j n (a ⊕ b) h ∙ ap₂ (λ (p q : ℕ). p * 2 ^ n + q) (xor-mod a b j) (xor-shr a b j)
       ∙ sym (xor-block n (a % 2 ^ j) (b % 2 ^ j) (a / 2 ^ j) (b / 2 ^ j) (shr-lt n j la) (shr-lt n j lb))
       ∙ ap₂ bitXor (sym (rotl-digits j n a h)) (sym (rotl-digits j n b h))
 

@@ -1,11 +1,5 @@
 -- How a call ends: refused by a check, or done with what the work wrote.
--- Assumes nothing.
-use mathlib.Core.Path.{_≡_, refl, sym, ap, ap₂, _∙_}
-use mathlib.Core.Bool.{Bool, _&&_}
-use mathlib.Core.List.{List}
-use Prim.Native.Nat.{ℕ, _<_}
-use lib.Dec.{eqb}
-use lib.ListN.{length, getD}
+use Rattle.block.proofs.Base.{_<_, ℕ, _∙_, _≡_, ap, ap₂, refl, sym, Bool, _&&_, List, eqb, getD, length}
 use Rattle.block.specs.Words.{words, unwords}
 use Rattle.block.proofs.Entries.{below-each}
 use Rattle.block.proofs.WordsBack.{length-unwords, unwords-words}
@@ -26,8 +20,7 @@ use Rattle.cipher_mode.specs.Calls.{keysFor, blockOf}
 pub refused-there : (a : Answer) (n m : ℕ) (k : Checked) (r : Refusal) (o : List ℕ) (next : Outcome)
     → headOf a ≡ under n (refusalHead r) → n ≡ m → k ≡ Refused r → outcome a o ≡ keyed m (checked k o next)
 refused-there a n m k r o next e g f =
-    ap {B = Outcome} (λ (h : Head). leaving h o) e
-    ∙ ap₂ {C = Outcome} (λ (i : ℕ) (x : Checked). keyed i (checked x o next)) g (sym f)
+    ap {B = Outcome} (λ (h : Head). leaving h o) e ∙ ap₂ {C = Outcome} (λ (i : ℕ) (x : Checked). keyed i (checked x o next)) g (sym f)
 
 -- the check passed, and the work left what comes next
 pub went-on : (k : Checked) (o : List ℕ) (x next : Outcome) → k ≡ Passed → x ≡ next → x ≡ checked k o next
@@ -38,7 +31,8 @@ pub reached : (p o o′ : List ℕ) (n : ℕ) → length p ≡ n → o′ ≡ ov
 reached p o o′ n l e = ap₂ {C = Outcome} leaving (ap finished (sym l)) e
 
 -- the answer says what the outcome x is, on the key of number n
-pub on-key : (a : Answer) (n m : ℕ) (o : List ℕ) (h : Head) (x : Outcome) → headOf a ≡ under n h → n ≡ m → leaving h o ≡ x → outcome a o ≡ keyed m x
+pub on-key : (a : Answer) (n m : ℕ) (o : List ℕ) (h : Head) (x : Outcome) → headOf a ≡ under n h → n ≡ m → leaving h o ≡ x → outcome a o ≡
+    keyed m x
 on-key a n m o h x e g f = ap {B = Outcome} (λ (i : Head). leaving i o) e ∙ ap₂ {C = Outcome} keyed g f
 
 -- the work left the outcome x, which is done, and told b of its counter

@@ -1,7 +1,5 @@
 -- A mode number above 3 is Gcm's.
--- Assumes nothing.
-use mathlib.Core.Path.{_≡_, refl}
-use Prim.Native.Nat.{ℕ, zero, suc}
+use Rattle.block.proofs.Base.{suc, zero, ℕ, _≡_, refl}
 use Rattle.cipher_mode.specs.declared.CipherMode.the-variants.{Gcm}
 use Rattle.cipher_mode.specs.Tables.{modeOf}
 

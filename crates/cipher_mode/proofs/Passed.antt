@@ -1,12 +1,6 @@
 -- What is known of the lengths where the checks passed.
--- Assumes nothing.
-use mathlib.Core.Path.{_≡_, refl, sym, ap, _∙_}
-use mathlib.Core.Logic.{_⊎_, inl, inr}
-use mathlib.Core.Bool.{Bool, true, false, not, _&&_}
-use Prim.Native.Nat.{ℕ, _%_, _≤_}
-use native.Mathlib.Omega.{arith}
-use lib.Dec.{eqb, ltb}
-use borrow.Author.Tests.{ltb-false, eqb-true, eqb-false, not-false}
+use Rattle.block.proofs.Base.{_%_, _≤_, ℕ, _∙_, _≡_, ap, refl, sym, _⊎_, inl, inr, Bool, _&&_, false, not, true, arith, eqb-false, eqb-true}
+use Rattle.block.proofs.Base.{ltb-false, not-false, eqb, ltb}
 use Rattle.cipher_mode.specs.declared.KeyAnswer.{KeyAnswer}
 use Rattle.cipher_mode.specs.declared.KeyAnswer.the-variants.{Key, ErrorBlockSize as NoKey, WrongNumber as NoNumber}
 use Rattle.cipher_mode.specs.declared.CipherMode.{CipherMode}
@@ -138,9 +132,4 @@ block-passed a retired dir n room e =
     let from-size = let-through (not (eqb n 16)) _ _ (from-key .1) in
     let from-mark = both (retiredCheck dir retired) _ (from-size .rest) in
     let r = let-through (ltb room 16) _ _ (from-mark .1) in
-    record {
-      key = is-key a (from-key .0);
-      size = sixteen n (from-size .fails);
-      may = from-mark .0;
-      enough = ltb-false room 16 (r .fails);
-    }
+    record { key = is-key a (from-key .0); size = sixteen n (from-size .fails); may = from-mark .0; enough = ltb-false room 16 (r .fails) }

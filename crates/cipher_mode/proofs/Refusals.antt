@@ -1,11 +1,6 @@
 -- Every refusal has a number that is not 0, reports length 0, and says nothing of a counter.
--- Assumes nothing.
-use mathlib.Core.Path.{_≡_, refl, sym, ap}
-use mathlib.Core.Logic.{_≢_}
-use Prim.Native.Nat.{ℕ, _<_}
-use native.Mathlib.Omega.{arith}
+use Rattle.block.proofs.Base.{_<_, ℕ, _≡_, ap, refl, sym, _≢_, false, arith}
 use Rattle.walk.specs.Outcome.{Head, refusal, telling}
-use mathlib.Core.Bool.{false}
 use Rattle.cipher_mode.specs.Answer.{refusalHead, endingHead}
 use Rattle.cipher_mode.specs.declared.answer.Refusal.{Refusal}
 use Rattle.cipher_mode.specs.declared.answer.Refusal.the-variants.{ErrorBlockSize, ErrorDataLen, InvalidLastU8, InvalidTag}

@@ -1,4 +1,4 @@
--- Document 01's number and values for every case of an answer.
+-- Number and values for every case of an answer, as in docs/NUMBERS.md.
 use Prim.Native.Nat.{ℕ}
 use mathlib.Core.List.{List}
 use Rattle.walk.specs.Outcome.{Head, Outcome, finished, refusal, cutShort, under, telling, leaving}

@@ -1,4 +1,4 @@
--- What is refused before a byte is looked at, in document 01's order and by stages: key and IV, which end with
+-- What is refused before a byte is looked at, in the order of docs/REQUIREMENTS.md and by stages: key and IV, which end with
 -- whether the key may encrypt, then label, data and room.
 use Prim.Native.Nat.{ℕ, _-_, _%_}
 use mathlib.Core.Bool.{Bool, not, _&&_, cond}

@@ -13,7 +13,7 @@ use Rattle.cipher_mode.specs.declared.Sm4Cipher.{Sm4Cipher}
 use Rattle.cipher_mode.specs.declared.CipherMode.{CipherMode}
 use Rattle.cipher_mode.specs.declared.Sm4CipherMode.{Sm4CipherMode}
 
--- the papers' number and length for a key's answer
+-- number and length for a key's answer
 abbrev pub keyHead : KeyAnswer → Head
 keyHead Key = finished 0
 keyHead ErrorBlockSize = refusal 1

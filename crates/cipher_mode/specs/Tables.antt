@@ -1,4 +1,4 @@
--- Document 01's tables: the modes by number, the length limits, and the room needed.
+-- The tables of docs/REQUIREMENTS.md: the modes by number, the length limits, and the room needed.
 use Prim.Native.Nat.{ℕ, zero, suc, _+_, _-_, _*_, _/_}
 use Rattle.cipher_mode.specs.declared.CipherMode.{CipherMode}
 use Rattle.cipher_mode.specs.declared.CipherMode.the-variants.{Cfb, Ofb, Ctr, Cbc, Gcm}

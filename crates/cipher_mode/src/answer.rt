@@ -3,7 +3,7 @@ ghost use mathlib.Core.Path.{_≡_};
 ghost use Rattle.walk.specs.Outcome.{finished, under, telling};
 ghost use Rattle.cipher_mode.specs.Answer.{refusalHead, headOf};
 
-// Why a call was refused, by the names of document 01 and, after them, those that tell its lengths apart: Cbc decryption of
+// Why a call was refused, by the names of libsm and, after them, those that tell the lengths apart: Cbc decryption of
 // nothing; a Gcm message or tag that is not as long as it must be, with how many bytes were missing; a wrong IV; a wrong
 // single block. Then come a message in pieces that has come to its end, a key's number out of range, encrypting under a
 // retired key, and a Cbc padding whose bytes are not all its count.
@@ -38,7 +38,7 @@ pub struct Answer {
     pub key: u16,
 }
 
-// Document 01's number of a refusal.
+// The number of a refusal, as in docs/NUMBERS.md.
 pub fn number(refusal: Refusal) -> u32
     ensures { λ r. ⌜ r ≡ refusalHead refusal .number ⌝ }
 {

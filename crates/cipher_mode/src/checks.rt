@@ -1,5 +1,5 @@
 // All that is refused before a byte is looked at: it depends on the key's answer and mark, the mode, the direction and the
-// lengths alone. The stages stand in document 01's order, and a call takes those that it has.
+// lengths alone. The stages stand in the order of docs/REQUIREMENTS.md, and a call takes those that it has.
 ghost use mathlib.Core.Path.{_≡_};
 ghost use Prim.Native.Nat.{_≤_};
 ghost use Rattle.cipher_mode.specs.Tables.{limit, limitOf, roomOf};

@@ -1,12 +1,5 @@
 -- The S-box as a circuit of exclusive ors and ands: one test over the 256 bytes, carried to every lane of words.
--- Assumes nothing.
-use mathlib.Core.Path.{_≡_, sym, ap, _∙_}
-use mathlib.Core.Bool.{Bool}
-use mathlib.Core.List.{List, [], _∷_, map}
-use Prim.Native.Nat.{ℕ, _<_, min}
-use lib.Dec.{eqb, eqb→eq, lit<}
-use lib.ListN.{getD}
-use lib.Bits.{differ, bitAnd, bitXor}
+use Rattle.block.proofs.Base.{_<_, min, ℕ, _∙_, _≡_, ap, sym, Bool, List, [], _∷_, map, bitAnd, bitXor, differ, eqb, eqb→eq, lit<, getD}
 use Rattle.block.proofs.Table.{rule-at}
 use Rattle.lanes.specs.Bits.{bit, pack, byteLane}
 use Rattle.lanes.proofs.Bits.{bit-small, pack-lt, bit-pack, pack-same}

@@ -1,14 +1,6 @@
 -- The two steps agree exactly where the last four bytes are not ff ff ff ff.
--- Assumes nothing.
-use mathlib.Core.Path.{_≡_, ap, sym, _∙_}
-use mathlib.Core.Logic.{_↔_}
-use Prim.Native.Nat.{ℕ, _+_, _-_, _*_, _%_, _^_, _<_}
-use mathlib.Core.List.{List, _++_}
-use native.Mathlib.Nat.{mod-eq-of-lt}
-use native.Mathlib.Omega.{arith}
-use lib.ListN.{length, take, drop, length-drop, take-append-drop}
-use lib.Seq.{length-take-le, take-at}
-use lib.Dec.{lit<, lit≤}
+use Rattle.block.proofs.Base.{_%_, _*_, _+_, _-_, _<_, _^_, ℕ, _∙_, _≡_, ap, sym, _↔_, List, _++_, mod-eq-of-lt, arith, lit<, lit≤, drop}
+use Rattle.block.proofs.Base.{length, length-drop, take, take-append-drop, length-take-le, take-at}
 use Rattle.block.specs.Below.{AreBytes}
 use Rattle.block.specs.BigEndian.{numberOf, bytesOf}
 use Rattle.block.proofs.Entries.{below-take, below-drop}

@@ -1,11 +1,7 @@
 -- More than a number in two parts, where what is added is no more than the low part can be: either the low part wraps and the high one
 -- counts, or the low part counts alone.
--- Assumes nothing.
-use mathlib.Core.Path.{_≡_, ap, _∙_}
-use Prim.Native.Nat.{ℕ, _+_, _-_, _*_, _%_, _≤_, _<_}
-use native.Mathlib.Nat.{add-assoc, add-mul, one-mul, mod-eq-of-lt}
-use native.Mathlib.Omega.{arith}
-use lib.Arith.{mod-mul, digits-lt, digits-div, digits-mod}
+use Rattle.block.proofs.Base.{_%_, _*_, _+_, _-_, _<_, _≤_, ℕ, _∙_, _≡_, ap, add-assoc, add-mul, mod-eq-of-lt, one-mul, arith, digits-div}
+use Rattle.block.proofs.Base.{digits-lt, digits-mod, mod-mul}
 
 -- high below A, low below B
 pub carried : (A B high low k : ℕ) → 0 < A → low < B → k ≤ B → B ≤ low + k

@@ -1,9 +1,5 @@
 -- The formula at its edges, computed: Ctr from all ones on, and GCM from a last word of all ones on.
--- Assumes nothing.
-use mathlib.Core.Path.{_≡_, refl}
-use mathlib.Core.Bool.{true, false}
-use lib.ListN.{replicate}
-use Prim.Native.Nat.{_-_, _^_}
+use Rattle.block.proofs.Base.{_-_, _^_, _≡_, refl, false, true, replicate}
 use Rattle.block.specs.BigEndian.{numberOf}
 use Rattle.counter.specs.CameRound.{ctrCameRound, gcmCameRound}
 

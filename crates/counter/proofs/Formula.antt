@@ -1,12 +1,5 @@
 -- The code's tests are the formula's: Ctr's over the two halves of the IV's number, GCM's over J0's last word.
--- Assumes nothing.
-use mathlib.Core.Path.{_≡_, sym, _∙_}
-use mathlib.Core.Bool.{false}
-use mathlib.Core.List.{List}
-use Prim.Native.Nat.{ℕ, _+_, _-_, _*_, _^_, _<_, _≤_}
-use native.Mathlib.Omega.{arith}
-use lib.Dec.{eqb, leb, ltb}
-use borrow.Author.Tests.{le-leb, ne-eqb}
+use Rattle.block.proofs.Base.{_*_, _+_, _-_, _<_, _^_, _≤_, ℕ, _∙_, _≡_, sym, false, List, arith, le-leb, ne-eqb, eqb, leb, ltb}
 use Rattle.block.specs.Wide.{whole}
 use Rattle.block.specs.BigEndian.{numberOf}
 use Rattle.counter.specs.CameRound.{ctrCameRound, gcmCameRound}

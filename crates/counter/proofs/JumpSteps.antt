@@ -1,12 +1,6 @@
 -- A jump is as many steps, Ctr's and GCM's: none leaves the counter, and one more may be the first.
--- Assumes nothing.
-use mathlib.Core.Path.{_≡_, ap, ap₂, _∙_}
-use mathlib.Core.List.{List, _++_}
-use Prim.Native.Nat.{ℕ, suc, _+_, _%_, _^_, _<_}
-use native.Mathlib.Nat.{mod-eq-of-lt, mod-mod, mod-add-mod, add-zero}
-use native.Mathlib.Omega.{arith}
-use lib.ListN.{length, take, drop, length-drop, take-append-drop}
-use lib.Seq.{length-take-le, take-at, drop-at}
+use Rattle.block.proofs.Base.{_%_, _+_, _<_, _^_, suc, ℕ, _∙_, _≡_, ap, ap₂, List, _++_, add-zero, mod-add-mod, mod-eq-of-lt, mod-mod}
+use Rattle.block.proofs.Base.{arith, drop, length, length-drop, take, take-append-drop, drop-at, length-take-le, take-at}
 use Rattle.block.specs.Below.{AreBytes}
 use Rattle.block.specs.BigEndian.{numberOf, bytesOf}
 use Rattle.block.proofs.Entries.{below-drop}

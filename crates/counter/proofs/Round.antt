@@ -1,14 +1,7 @@
 -- Where a number below a modulus comes round, as the code tests it: one more is 0, and a count is more than what is left.
--- Assumes nothing.
-use mathlib.Core.Path.{_≡_, sym, ap, _∙_}
-use mathlib.Core.Bool.{false}
-use mathlib.Core.Logic.{inl, inr}
-use Prim.Native.Nat.{ℕ, _+_, _-_, _*_, _%_, _<_, _≤_}
-use native.Mathlib.Nat.{mod-eq-of-lt, mod-self, eq-or-lt-of-le, add-mul, one-mul, mul-le-mul-right}
-use native.Mathlib.Omega.{arith}
-use lib.Bits.{bitOr, or-add-and, and-le-l, and-le-r}
-use lib.Dec.{eqb, leb, ltb}
-use borrow.Author.Tests.{eq-eqb, ne-eqb, eqb-true, le-leb, lt-leb, leb-true, lt-ltb, ltb-true}
+use Rattle.block.proofs.Base.{_%_, _*_, _+_, _-_, _<_, _≤_, ℕ, _∙_, _≡_, ap, sym, inl, inr, false, add-mul, eq-or-lt-of-le, mod-eq-of-lt}
+use Rattle.block.proofs.Base.{mod-self, mul-le-mul-right, one-mul, arith, eq-eqb, eqb-true, le-leb, leb-true, lt-leb, lt-ltb, ltb-true}
+use Rattle.block.proofs.Base.{ne-eqb, and-le-l, and-le-r, bitOr, or-add-and, eqb, leb, ltb}
 use Rattle.block.specs.Wide.{whole}
 use Rattle.block.proofs.Same.{test-iff}
 

@@ -1,12 +1,5 @@
 -- The code's four words step as the definitions' sixteen bytes do, and come round where these do.
--- Assumes nothing.
-use mathlib.Core.Path.{_≡_, ap, sym, _∙_}
-use Prim.Native.Nat.{ℕ, _+_, _%_, _^_, _<_}
-use mathlib.Core.List.{List, [], _∷_}
-use native.Mathlib.Nat.{mod-eq-of-lt}
-use lib.Bits.{bitOr}
-use lib.Dec.{eqb}
-use lib.ListN.{getD}
+use Rattle.block.proofs.Base.{_%_, _+_, _<_, _^_, ℕ, _∙_, _≡_, ap, sym, List, [], _∷_, mod-eq-of-lt, bitOr, eqb, getD}
 use Rattle.block.specs.BigEndian.{numberOf, bytesOf}
 use Rattle.block.specs.Wide.{whole}
 use Rattle.block.specs.Words.{words, unwords}

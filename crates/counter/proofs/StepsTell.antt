@@ -1,17 +1,8 @@
 -- The formula says what the steps say. Over any modulus: a number either comes round at once, and both say yes, or the next
 -- one is one more and still below the modulus, and the steps left are one fewer (`any-tells`).
--- Assumes nothing.
-use mathlib.Core.Path.{_≡_, refl, sym, ap, _∙_}
-use mathlib.Core.Logic.{inl, inr}
-use mathlib.Core.Bool.{Bool, true}
-use mathlib.Core.List.{List}
-use Prim.Native.Nat.{ℕ, zero, suc, _+_, _-_, _%_, _^_, _<_}
-use native.Mathlib.Nat.{mod-mod, mod-eq-of-lt, eq-or-lt-of-le}
-use native.Mathlib.Omega.{arith}
-use lib.Dec.{eqb, leb}
-use lib.ListN.{length, take, drop, length-drop, length-append}
-use lib.Seq.{length-take-le, drop-at}
-use borrow.Author.Tests.{eq-eqb, ne-eqb, le-leb, lt-leb}
+use Rattle.block.proofs.Base.{_%_, _+_, _-_, _<_, _^_, suc, zero, ℕ, _∙_, _≡_, ap, refl, sym, inl, inr, Bool, true, List, eq-or-lt-of-le}
+use Rattle.block.proofs.Base.{mod-eq-of-lt, mod-mod, arith, eq-eqb, le-leb, lt-leb, ne-eqb, eqb, leb, drop, length, length-append}
+use Rattle.block.proofs.Base.{length-drop, take, drop-at, length-take-le}
 use Rattle.block.specs.Below.{AreBytes}
 use Rattle.block.specs.BigEndian.{numberOf, bytesOf}
 use Rattle.block.proofs.Entries.{below-take, below-drop, below-append}

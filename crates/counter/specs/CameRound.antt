@@ -1,4 +1,4 @@
--- Whether the counter of a whole message came round: document 02's formula, over b blocks of data.
+-- Whether the counter of a whole message came round: the formula of W8, over b blocks of data.
 use Prim.Native.Nat.{ℕ, zero, suc, _+_, _-_, _/_, _^_}
 use mathlib.Core.Bool.{Bool, false, _&&_, _||_}
 use mathlib.Core.List.{List}

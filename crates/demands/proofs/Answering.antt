@@ -1,146 +1,124 @@
--- An outcome is answered as demand 1 asks: a refusal, or a success whose result has the table's length and fits.
--- Assumes nothing.
-use mathlib.Core.Path.{_≡_, refl, ap, subst, _∙_}
-use mathlib.Core.Logic.{_≢_}
-use mathlib.Core.Bool.{Bool, true, false, cond}
-use mathlib.Core.List.{List}
-use Prim.Native.Nat.{ℕ, _≤_, _<_}
-use native.Mathlib.Omega.{arith}
-use lib.ListN.{length, take, drop, length-append, length-drop}
-use lib.Seq.{drop-at, length-take-le}
-use Rattle.walk.specs.Outcome.{Head, Outcome, finished, refusal, cutShort, leaving, keyed, reporting, refused, refuse, written, done}
-use Rattle.walk.specs.Walk.{over}
-use Rattle.cipher_mode.specs.declared.answer.Refusal.{Refusal}
-use Rattle.cipher_mode.specs.declared.answer.Refusal.the-variants.{ErrorBlockSize, ErrorDataLen, InvalidLastU8, InvalidTag, TooLong, NoRoom}
-use Rattle.cipher_mode.specs.declared.answer.Refusal.the-variants.{EmptyCbc, ShortGcm, WrongIv, WrongBlock, Ended, WrongNumber, Retired, InvalidPadding}
-use Rattle.cipher_mode.specs.declared.checks.Checked.{Checked}
-use Rattle.cipher_mode.specs.declared.checks.Checked.the-variants.{Passed, Refused}
-use Rattle.cipher_mode.specs.Answer.{refusalHead}
-use Rattle.cipher_mode.specs.Checks.{refuse as refuseBy, andThen, checked}
+-- An outcome is answered as demand 1 asks: a refusal, or a success whose result has the table's length and fits. The numbers are those of
+-- the rows that tell which one is answered.
+use Rattle.demands.specs.Names as N
+use N.{Bool, _&&_, cond, false, true, List, [], _∷_, map, _≢_, _⊎_, inl, inr, _∙_, _≡_, ap, refl, _<_, _≤_, ℕ, arith, eqb, drop, getD}
+use N.{length, length-append, length-drop, drop-at, eqb-false, Head, Outcome, finished, refusal, refuseAs, over, refusalHead, checked}
+use N.{Ending, Done, Refused·ending, Refusal, EmptyCbc, Ended, ErrorBlockSize, ErrorDataLen, Refusal·LastU8, Refusal·Padding, Refusal·Tag}
+use N.{NoRoom, Retired, ShortGcm, TooLong, WrongBlock, WrongIv, WrongNumber, Checked, Passed, Refused}
+use Rattle.cipher_mode.proofs.Refusals.{refuses}
 use Rattle.demands.specs.Answered.{oneOf, Answered}
+use Rattle.demands.specs.WhichNumber.{Said, Row, firstOf}
 
-module _ (numbers : List ℕ) where
-  -- a refusal by its head
-  refuses-by : (h : Head) (n : ℕ) (o : List ℕ) → h .key ≡ 0 → 0 < h .number → oneOf (h .number) numbers ≡ true → h .size ≡ 0 → (h .number ≢ 9 → h .missing ≡ 0)
-      → Answered numbers 0 o n (leaving h o)
-  refuses-by h n o no-key some within none told =
-      record {
-        numbered = within;
-        key = no-key;
-        missing = told;
-        refused = λ _. (none, refl);
-        reported = λ e. absurd (omega arith);
-        fits = omega arith;
-        past = λ e. absurd (omega arith);
-        kept = refl;
-      }
+-- the ending of a head, by its number, its size and what was missing: 7 is none of an ending
+abbrev pub endingAt : ℕ → ℕ → ℕ → Ending
+endingAt number size missing =
+    getD (Done size ∷ map Refused·ending
+    (ErrorBlockSize ∷ ErrorDataLen ∷ Refusal·LastU8 ∷ Refusal·Tag ∷ TooLong ∷ NoRoom ∷ NoRoom ∷ EmptyCbc ∷ ShortGcm missing ∷ WrongIv
+    ∷ WrongBlock ∷ Ended ∷ WrongNumber ∷ Retired ∷ Refusal·Padding ∷ [])) number (Done 0)
 
-  pub refuses : (k n : ℕ) (o : List ℕ) → 0 < k → oneOf k numbers ≡ true → Answered numbers 0 o n (refused k o)
-  refuses k n o h l = refuses-by (refusal k) n o refl h l refl (λ _. refl)
+abbrev pub endingOf : Head → Ending
+endingOf h = endingAt (h .number) (h .size) (h .missing)
 
-  pub does : (p o : List ℕ) (n : ℕ) → oneOf 0 numbers ≡ true → length p ≡ n → n ≤ length o → Answered numbers 0 o n (done p o)
-  does p o n within e h =
-      record {
-        numbered = within;
-        key = refl;
-        missing = λ _. refl;
-        refused = λ nz. absurd (nz refl);
-        reported = λ _. e;
-        fits = omega arith;
-        past = λ _. drop-at p (drop (length p) o) (length p) refl;
-        kept = rw (length-append, length-drop) (omega arith);
-      }
+-- every refusal is told back by what it spells, and only 9 says that bytes were missing
+pub spelled : (r : Refusal)
+    → (endingOf (refusalHead r) ≡ Refused·ending r) × (refusalHead r .number ≢ 9 → refusalHead r .missing ≡ 0)
+spelled ErrorBlockSize = (refl, λ _. refl)
+spelled ErrorDataLen = (refl, λ _. refl)
+spelled Refusal·LastU8 = (refl, λ _. refl)
+spelled Refusal·Tag = (refl, λ _. refl)
+spelled TooLong = (refl, λ _. refl)
+spelled NoRoom = (refl, λ _. refl)
+spelled EmptyCbc = (refl, λ _. refl)
+spelled (ShortGcm n) = (refl, λ z. absurd (z refl))
+spelled WrongIv = (refl, λ _. refl)
+spelled WrongBlock = (refl, λ _. refl)
+spelled Ended = (refl, λ _. refl)
+spelled WrongNumber = (refl, λ _. refl)
+spelled Retired = (refl, λ _. refl)
+spelled Refusal·Padding = (refl, λ _. refl)
 
-  -- the first n bytes of a text
-  pub writes : (p o : List ℕ) (n : ℕ) → oneOf 0 numbers ≡ true → n ≤ length p → n ≤ length o → Answered numbers 0 o n (written (finished n) p o)
-  writes p o n within h k =
-      let e = length-take-le n p h in
-      let x : done (take n p) o ≡ written (finished n) p o = ap {B = Outcome} (λ (m : ℕ). leaving (finished m) (over (take n p) o)) e in
-      subst (λ (y : Outcome). Answered numbers 0 o n y) x (does (take n p) o n within e k)
+-- by a test
+pub split : (P : Type 0) (t : Bool) → (t ≡ true → P) → (t ≡ false → P) → P
+split P true a b = a refl
+split P false a b = b refl
 
-  -- a refusal by number k in front, where no key stands yet, or what comes next
-  pub behind : (test : Bool) (k key n : ℕ) (o : List ℕ) (next : Outcome) → 0 < k → oneOf k numbers ≡ true → Answered numbers key o n next
-      → Answered numbers (cond test 0 key) o n (refuse test k o next)
-  behind true k key n o next h l a = refuses k n o h l
-  behind false k key n o next h l a = a
+-- a yes or no that is told as one of two numbers
+pub is-true : (m n : ℕ) → eqb n m ≡ false → (t : Bool) → cond t m n ≡ m → t ≡ true
+is-true m n d true e = refl
+is-true m n d false e = absurd (eqb-false n m d e)
 
-  pub refusal-answers : (r : Refusal) (n : ℕ) (o : List ℕ) → oneOf (refusalHead r .number) numbers ≡ true → Answered numbers 0 o n (leaving (refusalHead r) o)
-  refusal-answers ErrorBlockSize n o h = refuses 1 n o (omega arith) h
-  refusal-answers ErrorDataLen n o h = refuses 2 n o (omega arith) h
-  refusal-answers InvalidLastU8 n o h = refuses 3 n o (omega arith) h
-  refusal-answers InvalidTag n o h = refuses 4 n o (omega arith) h
-  refusal-answers TooLong n o h = refuses 5 n o (omega arith) h
-  refusal-answers NoRoom n o h = refuses 6 n o (omega arith) h
-  refusal-answers EmptyCbc n o h = refuses 8 n o (omega arith) h
-  refusal-answers (ShortGcm k) n o h = refuses-by (cutShort k) n o refl (omega arith) h refl (λ other. absurd (other refl))
-  refusal-answers WrongIv n o h = refuses 10 n o (omega arith) h
-  refusal-answers WrongBlock n o h = refuses 11 n o (omega arith) h
-  refusal-answers Ended n o h = refuses 12 n o (omega arith) h
-  refusal-answers WrongNumber n o h = refuses 13 n o (omega arith) h
-  refusal-answers Retired n o h = refuses 14 n o (omega arith) h
-  refusal-answers InvalidPadding n o h = refuses 15 n o (omega arith) h
+pub is-false : (m n : ℕ) → eqb m n ≡ false → (t : Bool) → cond t m n ≡ n → t ≡ false
+is-false m n d true e = absurd (eqb-false m n d e)
+is-false m n d false e = refl
 
-  -- a check whose refusals have such numbers
-  abbrev pub Within : Checked → Type 0
-  Within Passed = Unit {0}
-  Within (Refused r) = oneOf (refusalHead r .number) numbers ≡ true
+pub one-or-none : (t : Bool) → (_≡_ {A = ℕ} (cond t 1 0) 1) ⊎ (_≡_ {A = ℕ} (cond t 1 0) 0)
+one-or-none true = inl refl
+one-or-none false = inr refl
 
-  pub within-refuse : (test : Bool) (r : Refusal) (k : Checked) → oneOf (refusalHead r .number) numbers ≡ true → Within k → Within (refuseBy test r k)
-  within-refuse true r k h w = h
-  within-refuse false r k h w = w
+-- whether a list of rows gives numbers of a list alone, and then so does a call that says what they say
+abbrev pub within : List Row → List ℕ → Bool
+within [] numbers = oneOf 0 numbers
+within (r ∷ rows) numbers = oneOf (r .says .number) numbers && within rows numbers
 
-  pub within-cond : (test : Bool) (k : Checked) → Within k → Within (cond test Passed k)
-  within-cond true k w = tt
-  within-cond false k w = w
+first-within : (rows : List Row) (numbers : List ℕ) → within rows numbers ≡ true → oneOf (firstOf rows .number) numbers ≡ true
+first-within [] numbers e = e
+first-within (r ∷ rows) numbers e =
+    let (here, there) = both (oneOf (r .says .number) numbers) (within rows numbers) e in
+    either (r .holds) here (first-within rows numbers there)
+  where
+    either : (t : Bool) → oneOf (r .says .number) numbers ≡ true → oneOf (firstOf rows .number) numbers ≡ true
+        → oneOf (cond t (r .says) (firstOf rows) .number) numbers ≡ true
+    either true a b = a
+    either false a b = b
 
-  pub within-then : (a b : Checked) → Within a → Within b → Within (andThen a b)
-  within-then Passed b v w = w
-  within-then (Refused r) b v w = v
+    both : (a b : Bool) → a && b ≡ true → (a ≡ true) × (b ≡ true)
+    both true b f = (refl, f)
+    both false b f = let z : _≡_ {A = ℕ} 0 1 = cc in absurd (omega arith)
 
-  -- a check in front, or what comes next, which may count on it that the check passed
-  pub checks : (k : Checked) (n : ℕ) (o : List ℕ) (next : Outcome) → Within k → (k ≡ Passed → Answered numbers 0 o n next)
-      → Answered numbers 0 o n (checked k o next)
-  checks Passed n o next w f = f refl
-  checks (Refused r) n o next w f = refusal-answers r n o w
+pub numbered : (rows : List Row) (numbers : List ℕ) (s : Said) → within rows numbers ≡ true → s ≡ firstOf rows
+    → oneOf (s .number) numbers ≡ true
+numbered rows numbers s w e = ap (λ (s : Said). oneOf (s .number) numbers) e ∙ first-within rows numbers w
 
-  -- the table's length may be told by what success tells
-  pub told-length : (n k : ℕ) (o : List ℕ) (x : Outcome) → (x .head .number ≡ 0 → n ≡ k) → Answered numbers 0 o n x → Answered numbers 0 o k x
-  told-length n k o x e a =
-      record {
-        numbered = a .numbered;
-        key = a .key;
-        missing = a .missing;
-        refused = a .refused;
-        reported = λ z. a .reported z ∙ e z;
-        fits = a .fits;
-        past = a .past;
-        kept = a .kept;
-      }
+-- what demand 1 asks of a report and of the output's bytes, but for the number and the key
+module _ (o : List ℕ) (n : ℕ) where
+  abbrev pub Fair : Head → List ℕ → Type 0
+  Fair h bytes =
+      (h .number ≢ 9 → h .missing ≡ 0) × (h .number ≢ 0 → (h .size ≡ 0) × (bytes ≡ o)) × (h .number ≡ 0 → h .size ≡ n)
+      × (h .size ≤ length o) × (h .number ≡ 0 → drop (h .size) bytes ≡ drop (h .size) o) × (length bytes ≡ length o)
 
-  -- the key's number is repeated, whatever the outcome is
-  pub on-key : (k n : ℕ) (o : List ℕ) (x : Outcome) → Answered numbers 0 o n x → Answered numbers k o n (keyed k x)
-  on-key k n o x a =
-      record {
-        numbered = a .numbered;
-        key = refl;
-        missing = a .missing;
-        refused = a .refused;
-        reported = a .reported;
-        fits = a .fits;
-        past = a .past;
-        kept = a .kept;
-      }
+  pub answered : (numbers : List ℕ) (k : ℕ) (x : Outcome) → oneOf (x .head .number) numbers ≡ true → x .head .key ≡ k
+      → Fair (x .head) (x .bytes) → Answered numbers k o n x
+  answered numbers k x i e (m, r, t, f, p, l) =
+      record { numbered = i; key = e; missing = m; refused = r; reported = t; fits = f; past = p; kept = l }
 
-  -- and so may be what is said of a counter
-  pub reports : (b : Bool) (k n : ℕ) (o : List ℕ) (x : Outcome) → Answered numbers k o n x → Answered numbers k o n (reporting b x)
-  reports b k n o x a =
-      record {
-        numbered = a .numbered;
-        key = a .key;
-        missing = a .missing;
-        refused = a .refused;
-        reported = a .reported;
-        fits = a .fits;
-        past = a .past;
-        kept = a .kept;
-      }
+  -- a refusal, by its number or by its name
+  pub refused-fair : (k : ℕ) → 0 < k → Fair (refusal k) o
+  refused-fair k h = (λ _. refl, λ _. (refl, refl), λ e. absurd (omega arith), omega arith, λ e. absurd (omega arith), refl)
+
+  pub refusal-fair : (r : Refusal) → Fair (refusalHead r) o
+  refusal-fair r =
+      let q = refuses r in
+      let z = q .no-size in
+      (spelled r .1, λ _. (z, refl), λ e. absurd (q .not-zero e), omega arith, λ e. absurd (q .not-zero e), refl)
+
+  -- done with m bytes p, which the output has room for
+  pub done-fair : (p : List ℕ) (m : ℕ) → length p ≡ m → m ≡ n → m ≤ length o → Fair (finished m) (over p o)
+  done-fair p m e f h = (
+    λ _. refl,
+    λ z. absurd (z refl),
+    λ _. f,
+    h,
+    λ _. rw (← e) (drop-at p (drop (length p) o) (length p) refl),
+    rw (length-append, length-drop) (omega arith),
+  )
+
+  -- a check in front, or what comes next, which may count on it that the check passed; and a refusal by number k
+  pub checks-fair : (k : Checked) (next : Outcome) → (k ≡ Passed → Fair (next .head) (next .bytes))
+      → Fair (checked k o next .head) (checked k o next .bytes)
+  checks-fair Passed next f = f refl
+  checks-fair (Refused r) next f = refusal-fair r
+
+  pub front-fair : (t : Bool) (k : ℕ) (next : Outcome) → 0 < k → (t ≡ false → Fair (next .head) (next .bytes))
+      → Fair (refuseAs t k o next .head) (refuseAs t k o next .bytes)
+  front-fair true k next h f = refused-fair k h
+  front-fair false k next h f = f refl

@@ -1,221 +1,228 @@
--- What the answers say of a counter: where done, document 02's formula, which is what the walk's own steps say; no where refused, in the
--- other modes, at starts and at pieces; and with a 12-byte IV never yes.
--- Assumes nothing.
-use mathlib.Core.Path.{_≡_, refl, ap, _∙_}
-use mathlib.Core.Bool.{Bool, true, false, cond}
-use mathlib.Core.List.{List, [], _∷_}
-use Prim.Native.Nat.{ℕ, _+_, _-_, _/_, _%_, _^_, _≤_}
-use native.Mathlib.Omega.{arith}
-use lib.Dec.{eqb, ltb}
-use lib.ListN.{length}
-use lib.Seq.{drop-at, length-take-le}
-use borrow.Author.Tests.{eq-eqb, ne-eqb, eqb-true, eqb-false, lt-leb}
-use Rattle.block.specs.Below.{AreBytes}
-use Rattle.block.specs.BigEndian.{numberOf}
-use Rattle.block.specs.Same.{same}
-use Rattle.block.specs.Xor.{xors}
+-- Counters: those of a 12-byte IV in Gcm are SP 800-38D's, and what the answers say of a counter. J0 has sixteen bytes, whatever the IV
+-- has.
+use Rattle.demands.specs.Names as N
+use N.{Bool, cond, false, true, List, [], _++_, _∷_, _≢_, _∙_, _≡_, ap, ap₂, refl, _%_, _+_, _-_, _/_, _<_, _^_, _≤_, ℕ, arith, eqb, ltb}
+use N.{length, length-append, drop-at, length-take-le, take-at, eq-eqb, eqb-false, eqb-true, lt-leb, ne-eqb, AreBytes, bytesOf, numberOf}
+use N.{same, xors, blocksOf, ctrCameRound, gcmCameRound, gcmNext, lastFour, Head, Outcome, finished, refusal, refuseAs, reporting, telling}
+use N.{ghash, ctrWalkSays, gcmWalkSays, cbcOpen, cbcText, cbcHead, unpadded, Opened, Cbc·Done, InvalidLastU8, InvalidPadding, J0}
+use N.{firstCounter, hashKey, sealed, tagOf, textOf, textPart, gcmOpen, refusalHead, blockCall, lengthsOf, modeCall, modeResult, checked}
+use N.{messageCheck, keyNumber, limitOf, modeOf, sealedLimit, CipherMode, Cbc, Cfb, Ctr, Gcm, Ofb, Direction, Decrypt, Encrypt, Refusal}
+use N.{Checked, Passed, Refused, Stepped, begun, ctrEnd, ctrPiece, ctrStart, goesOn, opensEnd, opensPiece, opensStart, sealEnd, sealPiece}
+use N.{sealStart, running, tagged, writing, hashEnd, Ctr·state, Opens, Seal, badList, Verdict, checkedVerdict, firstOpening, noneWith}
+use N.{onKey, opensWith, searchCheck, which, planCall, rangeCall, Plan, hostBlockCall, hostModeCall, modeIn, hostCtrStart, hostOpensStart}
+use N.{hostSealStart, cipherIn, hostCtrByPlan, hostCtrRange, hostWhich, LuossavinKey}
+use Rattle.block.proofs.Convert.{length-bytesOf, bytesOf-bytes}
+use Rattle.demands.specs.Call.{inGcm, result}
+use Rattle.demands.specs.CameRound.{followedBy, textFromTwo, CountsFromTwo, roundOf, Says}
+use Rattle.demands.proofs.Through.{result-of-done, through, leaves}
 use Rattle.block.proofs.Entries.{below-append}
-use Rattle.block.proofs.Convert.{bytesOf-bytes}
-use Rattle.counter.specs.Counter.{lastFour}
-use Rattle.counter.specs.CameRound.{blocksOf, ctrCameRound, gcmCameRound}
-use Rattle.walk.specs.Outcome.{Head, Outcome, finished, refusal, under, telling, reporting, refuse}
-use Rattle.stream.specs.Passes.{ctrWalkSays, gcmWalkSays}
 use Rattle.stream.proofs.CounterSteps.{ctr-walk-says, gcm-walk-says}
-use Rattle.cbc.specs.Open.{headOf as cbcHead, unpadded, cbcText, cbcOpen}
-use Rattle.cbc.specs.declared.Opened.{Opened}
-use Rattle.cbc.specs.declared.Opened.the-variants.{Done as Cbc·Done, InvalidLastU8, InvalidPadding}
-use Rattle.gcm.specs.Gcm.{hashKey, firstCounter, J0, textPart}
-use Rattle.gcm.specs.Open.{gcmOpen}
-use Rattle.cipher_mode.specs.declared.CipherMode.{CipherMode}
-use Rattle.cipher_mode.specs.declared.CipherMode.the-variants.{Cfb, Ofb, Ctr, Cbc, Gcm}
-use Rattle.cipher_mode.specs.declared.Direction.{Direction}
-use Rattle.cipher_mode.specs.declared.Direction.the-variants.{Encrypt, Decrypt}
-use Rattle.cipher_mode.specs.declared.Sm4Cipher.{Sm4Cipher}
-use Rattle.cipher_mode.specs.declared.Sm4CipherMode.{Sm4CipherMode}
-use Rattle.cipher_mode.specs.declared.answer.Refusal.{Refusal}
-use Rattle.cipher_mode.specs.declared.checks.Checked.{Checked}
-use Rattle.cipher_mode.specs.declared.checks.Checked.the-variants.{Passed, Refused}
-use Rattle.cipher_mode.specs.Answer.{refusalHead}
-use Rattle.cipher_mode.specs.Key.{keyNumber}
-use Rattle.cipher_mode.specs.Tables.{sealedLimit, limitOf, modeOf}
-use Rattle.cipher_mode.specs.Checks.{keyAndIv, checked, blockCheck, messageCheck}
-use Rattle.cipher_mode.specs.Calls.{blockCall, modeResult, lengthsOf, modeCall}
 use Rattle.cipher_mode.proofs.Passed.{data-within}
 use Rattle.cipher_mode.proofs.Refusals.{refuses}
-use Rattle.pieces.specs.declared.ctr.Ctr.{Ctr as Ctr·state}
-use Rattle.pieces.specs.declared.opens.Opens.{Opens}
-use Rattle.pieces.specs.declared.seal.Seal.{Seal}
-use Rattle.pieces.specs.Hashing.{hashEnd}
-use Rattle.pieces.specs.Checks.{gcmStarting, running, writing, tagged}
-use Rattle.pieces.specs.States.{ctrAfter, ctrShut, sealAfter, sealShut, opensAfter, opensShut}
-use Rattle.pieces.specs.Calls.{Stepped, stepOn, begun, goesOn, ctrStart, sealStart, opensStart}
-use Rattle.pieces.specs.Calls.{ctrPiece, ctrEnd, sealPiece, sealEnd, opensPiece, opensEnd}
-use Rattle.editions.specs.Candidates.{badList}
-use Rattle.editions.specs.Which.{Verdict, noneWith, onKey, searchCheck, checkedVerdict, opensWith, which}
 use Rattle.editions.proofs.FirstOpening.{search-number}
-use Rattle.luossavin.specs.declared.key.LuossavinKey.{LuossavinKey}
-use Rattle.luossavin.specs.Key.{cipherIn}
-use Rattle.luossavin.specs.Host.{modeIn, hostBlockCall, hostModeCall}
-use Rattle.luossavin.specs.Which.{hostWhich}
-use Rattle.demands.specs.Call.{inGcm}
-use Rattle.demands.specs.CameRound.{roundOf, Says}
-use Rattle.demands.proofs.Through.{through}
-use Rattle.demands.proofs.TwelveBytes.{length-counter}
+use Rattle.demands.proofs.Answering.{split}
+
+-- either form of J0 has sixteen bytes
+pub length-counter : (h : ℕ) (iv : List ℕ) → length (firstCounter h iv) ≡ 16
+unfolding firstCounter
+length-counter h iv =
+    split _ (eqb (length iv) 12)
+    (λ e. rw e (length-append iv (0 ∷ 0 ∷ 0 ∷ 1 ∷ []) ∙ ap (λ (n : ℕ). n + 4) (eqb-true (length iv) 12 e)))
+    (λ e. rw e (length-bytesOf 16 (ghash h (numberOf iv ∷ 128 ∷ []))))
+
+first-counter : (rk iv : List ℕ) → length iv ≡ 12 → J0 rk iv ≡ followedBy 1 iv
+unfolding firstCounter
+first-counter rk iv n = rw (eq-eqb (length iv) 12 n)
+
+next-counter : (iv : List ℕ) → length iv ≡ 12 → gcmNext (followedBy 1 iv) ≡ followedBy 2 iv
+unfolding gcmNext numberOf bytesOf
+next-counter iv n =
+    ap₂ (λ (front back : List ℕ). front ++ bytesOf 4 ((numberOf back + 1) % 2 ^ 32))
+    (take-at iv (0 ∷ 0 ∷ 0 ∷ 1 ∷ []) 12 n) (drop-at iv (0 ∷ 0 ∷ 0 ∷ 1 ∷ []) 12 n)
+
+sealed-from-two : (rk label d iv : List ℕ) → length iv ≡ 12
+    → sealed rk (hashKey rk) (J0 rk iv) label d
+    ≡ textFromTwo rk iv d ++ tagOf rk (hashKey rk) (followedBy 1 iv) label (textFromTwo rk iv d)
+unfolding sealed textOf
+sealed-from-two rk label d iv n = rw (first-counter rk iv n, next-counter iv n)
+
+-- What Gcm seals under a 12-byte IV is the text under the counters from 00000002 on, and the tag under 00000001.
+pub twelve-counts-from-two : (k : LuossavinKey) → CountsFromTwo (k .«round_keys») (hostModeCall Encrypt 4 k)
+unfolding hostModeCall modeOf cipherIn
+twelve-counts-from-two k label d iv o n e =
+    let m = inGcm (cipherIn k) in
+    let rk = k .«round_keys» in
+    ap result (leaves Encrypt m label d iv o (through Encrypt m label d iv o e))
+    ∙ result-of-done (sealed rk (hashKey rk) (J0 rk iv) label d) o
+    ∙ sealed-from-two rk label d iv n
+
+-- What the answers say of a counter: where done, the formula of W8, which is what the walk's own steps say; no where refused, in the
+-- other modes, at starts and at pieces; and with a 12-byte IV never yes.
+
+-- what a report says, field by field: `says` puts it together, on whichever key
+abbrev Tells : Bool → Head → Type 0
+Tells b h = (h .number ≡ 0 → h .cameRound ≡ cond b 1 0) × (h .number ≢ 0 → h .cameRound ≡ 0)
+
+says : (b : Bool) (h : Head) → Tells b h → Says b h
+says b h (d, r) = record { done = d; refused = r }
 
 -- what says nothing of a counter says no
 pub quiet : (h : Head) → h .cameRound ≡ 0 → Says false h
 quiet h e = record { done = λ _. e; refused = λ _. e }
 
-refusal-says : (r : Refusal) (b : Bool) → Says b (refusalHead r)
-refusal-says r b = record { done = λ e. absurd (refuses r .not-zero e); refused = λ _. refuses r .no-round }
+refusal-tells : (b : Bool) (r : Refusal) → Tells b (refusalHead r)
+refusal-tells b r = (λ e. absurd (refuses r .not-zero e), λ _. refuses r .no-round)
 
-pub on-key : (b : Bool) (k : ℕ) (h : Head) → Says b h → Says b (under k h)
-on-key b k h s = record { done = s .done; refused = s .refused }
+done-tells : (b : Bool) → Tells b (telling b (finished 0))
+done-tells b = (λ _. refl, λ z. absurd (z refl))
 
-done-says : (b : Bool) (n : ℕ) → Says b (telling b (finished n))
-done-says b n = record { done = λ _. refl; refused = λ z. absurd (z refl) }
+-- by what decides between a success and a refusal
+tag-tells : (b t : Bool) → Tells b (cond t (telling b (finished 0)) (refusal 4))
+tag-tells b true = done-tells b
+tag-tells b false = (λ e. absurd (omega arith), λ _. refl)
 
-reports : (b : Bool) (x : Outcome) → Says b (reporting b x .head)
-reports b x =
-    record {
-      done = λ e. rw (eq-eqb (x .head .number) 0 e);
-      refused = λ n. rw (ne-eqb (x .head .number) 0 n);
-    }
+-- behind a check, and behind a refusal by number
+check-tells : (b : Bool) (k : Checked) (o : List ℕ) (next : Outcome) → Tells b (next .head) → Tells b (checked k o next .head)
+check-tells b Passed o next s = s
+check-tells b (Refused r) o next s = refusal-tells b r
 
--- behind a check, and behind a refusal by number 7
-pub behind : (b : Bool) (k : Checked) (o : List ℕ) (next : Outcome) → Says b (next .head) → Says b (checked k o next .head)
-behind b Passed o next s = s
-behind b (Refused r) o next s = refusal-says r b
+front-tells : (b t : Bool) (k : ℕ) (o : List ℕ) (next : Outcome) → 0 < k → Tells b (next .head) → Tells b (refuseAs t k o next .head)
+front-tells b true k o next h s = (λ e. absurd (omega arith), λ _. refl)
+front-tells b false k o next h s = s
 
-gated : (b t : Bool) (o : List ℕ) (next : Outcome) → Says b (next .head) → Says b (refuse t 7 o next .head)
-gated b true o next s = record { done = λ e. absurd (omega arith); refused = λ _. refl }
-gated b false o next s = s
+reporting-tells : (b : Bool) (x : Outcome) → Tells b (reporting b x .head)
+reporting-tells b x = (λ e. rw (eq-eqb (x .head .number) 0 e), λ n. rw (ne-eqb (x .head .number) 0 n))
 
 cbc-quiet : (a : Opened) → cbcHead a .cameRound ≡ 0
 cbc-quiet (Cbc·Done n) = refl
 cbc-quiet InvalidLastU8 = refl
 cbc-quiet InvalidPadding = refl
 
-result-says : (m : CipherMode) (dir : Direction) (rk aad d iv o : List ℕ)
-    → Says (roundOf m dir rk iv (length d)) (modeResult m dir rk aad d iv o .head)
+result-tells : (m : CipherMode) (dir : Direction) (rk aad d iv o : List ℕ)
+    → Tells (roundOf m dir rk iv (length d)) (modeResult m dir rk aad d iv o .head)
 unfolding cbcOpen
-result-says Cfb dir rk aad d iv o = quiet _ refl
-result-says Ofb dir rk aad d iv o = quiet _ refl
-result-says Ctr dir rk aad d iv o = done-says (roundOf Ctr dir rk iv (length d)) _
-result-says Cbc Encrypt rk aad d iv o = quiet _ refl
-result-says Cbc Decrypt rk aad d iv o = quiet _ (cbc-quiet (unpadded (cbcText rk iv d)))
-result-says Gcm Encrypt rk aad d iv o = done-says (roundOf Gcm Encrypt rk iv (length d)) _
-result-says Gcm Decrypt rk aad d iv o =
-    reports (roundOf Gcm Decrypt rk iv (length d)) (gcmOpen rk (hashKey rk) (J0 rk iv) aad d o)
+result-tells Cfb dir rk aad d iv o = done-tells false
+result-tells Ofb dir rk aad d iv o = done-tells false
+result-tells Ctr dir rk aad d iv o = done-tells (roundOf Ctr dir rk iv (length d))
+result-tells Cbc Encrypt rk aad d iv o = done-tells false
+result-tells Cbc Decrypt rk aad d iv o = let e = cbc-quiet (unpadded (cbcText rk iv d)) in (λ _. e, λ _. e)
+result-tells Gcm Encrypt rk aad d iv o = done-tells (roundOf Gcm Encrypt rk iv (length d))
+result-tells Gcm Decrypt rk aad d iv o =
+    reporting-tells (roundOf Gcm Decrypt rk iv (length d)) (gcmOpen rk (hashKey rk) (J0 rk iv) aad d o)
 
 -- A message says what the formula says where it is done, and no where it is refused, in every mode and under every record;
-pub message-says : (dir : Direction) (m : Sm4CipherMode) (label d iv o : List ℕ)
-    → Says (roundOf (m .mode) dir (m .cipher .rk) iv (length d)) (modeCall dir m label d iv o .head)
-unfolding modeCall
-message-says dir m label d iv o =
-    on-key _ (keyNumber (m .cipher)) _
-    (behind _ (messageCheck (m .cipher .answer) (m .cipher .retired) dir (m .mode) (lengthsOf label d iv o)) o _
-    (result-says (m .mode) dir (m .cipher .rk) label d iv o))
-
-pub exported-message-says : (dir : Direction) (mode : ℕ) (k : LuossavinKey) (label d iv o : List ℕ)
+pub message-says : (dir : Direction) (mode : ℕ) (k : LuossavinKey) (label d iv o : List ℕ)
     → Says (roundOf (modeOf mode) dir (k .«round_keys») iv (length d)) (hostModeCall dir mode k label d iv o .head)
-unfolding hostModeCall cipherIn
-exported-message-says dir mode k label d iv o = gated _ (ltb 4 mode) o _ (message-says dir (modeIn k mode) label d iv o)
+unfolding hostModeCall modeCall cipherIn
+message-says dir mode k label d iv o =
+    let c = cipherIn k in
+    let b = roundOf (modeOf mode) dir (k .«round_keys») iv (length d) in
+    says b _
+    (front-tells b (ltb 4 mode) 7 o (modeCall dir (modeIn k mode) label d iv o) (omega arith)
+    (check-tells b (messageCheck (c .answer) (c .retired) dir (modeOf mode) (lengthsOf label d iv o)) o _
+    (result-tells (modeOf mode) dir (c .rk) label d iv o)))
 
--- a single block says no, and so does the question which label a file opens under.
-pub block-says : (dir : Direction) (c : Sm4Cipher) (b o : List ℕ) → Says false (blockCall dir c b o .head)
-unfolding blockCall
-block-says dir c b o =
-    on-key false (keyNumber c) _ (behind false (blockCheck (c .answer) (c .retired) dir (length b) (length o)) o _ (quiet _ refl))
+-- a single block says no, and so do a range, work by a plan and the question which label a file opens under.
+quiet-check : (k : Checked) (o : List ℕ) (next : Outcome) → next .head .cameRound ≡ 0 → checked k o next .head .cameRound ≡ 0
+quiet-check Passed o next e = e
+quiet-check (Refused r) o next e = refuses r .no-round
 
-pub exported-block-says : (dir : Direction) (k : LuossavinKey) (b o : List ℕ) → Says false (hostBlockCall dir k b o .head)
-unfolding hostBlockCall
-exported-block-says dir k b o = block-says dir (cipherIn k) b o
+quiet-front : (t : Bool) (n : ℕ) (o : List ℕ) (next : Outcome) → next .head .cameRound ≡ 0 → refuseAs t n o next .head .cameRound ≡ 0
+quiet-front true n o next e = refl
+quiet-front false n o next e = e
 
-verdict-says : (bad : Bool) (n : ℕ) (k : Checked) (next : Verdict) → next .head ≡ finished 0
-    → Says false (cond bad (noneWith (refusal 16)) (onKey n (checkedVerdict k next)) .head)
-verdict-says true n k next e = quiet _ refl
-verdict-says false n Passed next e = quiet _ (ap (λ (h : Head). h .cameRound) e)
-verdict-says false n (Refused r) next e = on-key false n _ (refusal-says r false)
+quiet-start : (S : Type 0) (k : Checked) (shut : ℕ → S) (s : S) → begun S k shut s .head .cameRound ≡ 0
+quiet-start S Passed shut s = refl
+quiet-start S (Refused r) shut s = refuses r .no-round
+
+quiet-step : (S : Type 0) (k : Checked) (o : List ℕ) (s : S) (next : Stepped S) → next .head .cameRound ≡ 0
+    → goesOn S k o s next .head .cameRound ≡ 0
+quiet-step S Passed o s next e = e
+quiet-step S (Refused r) o s next e = refuses r .no-round
+
+quiet-verdict : (bad : Bool) (n : ℕ) (k : Checked) (next : Verdict) → next .head ≡ finished 0
+    → cond bad (noneWith (refusal 16)) (onKey n (checkedVerdict k next)) .head .cameRound ≡ 0
+quiet-verdict true n k next e = refl
+quiet-verdict false n Passed next e = ap (λ (h : Head). h .cameRound) e
+quiet-verdict false n (Refused r) next e = refuses r .no-round
+
+pub block-says : (dir : Direction) (k : LuossavinKey) (b o : List ℕ) → Says false (hostBlockCall dir k b o .head)
+unfolding hostBlockCall blockCall
+block-says dir k b o = quiet _ (simp quiet-check)
+
+pub exported-range-says : (k : LuossavinKey) (decrypt : Bool) (iv : List ℕ) (offset : ℕ) (d o : List ℕ)
+    → Says false (hostCtrRange k decrypt iv offset d o .head)
+unfolding hostCtrRange rangeCall
+exported-range-says k decrypt iv offset d o = quiet _ (simp quiet-check)
+
+pub exported-plan-says : (k : LuossavinKey) (decrypt : Bool) (iv : List ℕ) (plan : Plan) (d o : List ℕ)
+    → Says false (hostCtrByPlan k decrypt iv plan d o .head)
+unfolding hostCtrByPlan planCall
+exported-plan-says k decrypt iv plan d o = quiet _ (simp (quiet-check, quiet-front))
 
 pub which-says : (k : LuossavinKey) (file iv labels lengths : List ℕ) → Says false (hostWhich k file iv labels lengths .head)
 unfolding hostWhich which
 which-says k file iv labels lengths =
     let c = cipherIn k in
-    verdict-says (badList labels lengths) (keyNumber c) (searchCheck (c .answer) (c .retired) (length iv) (length file) lengths) _
-    (search-number (opensWith c iv file) labels lengths)
+    quiet _ (quiet-verdict (badList labels lengths) (keyNumber c) (searchCheck (c .answer) (c .retired) (length iv) (length file) lengths)
+    (firstOpening (opensWith c iv file) labels lengths 0 0) (search-number (opensWith c iv file) labels lengths))
 
 -- Of a message in pieces the starts and the pieces say no, whatever the state holds;
-start-says : (S : Type 0) (n : ℕ) (k : Checked) (shut : ℕ → S) (s : S) → Says false (stepOn S n (begun S k shut s) .head)
-start-says S n Passed shut s = quiet _ refl
-start-says S n (Refused r) shut s = on-key false n _ (refusal-says r false)
+pub ctr-start-says : (k : LuossavinKey) (decrypt : Bool) (iv : List ℕ) → Says false (hostCtrStart k decrypt iv .head)
+unfolding hostCtrStart ctrStart
+ctr-start-says k decrypt iv = quiet _ (simp quiet-start)
 
-step-says : (S : Type 0) (b : Bool) (n : ℕ) (k : Checked) (o : List ℕ) (s : S) (next : Stepped S) → Says b (next .head)
-    → Says b (stepOn S n (goesOn S k o s next) .head)
-step-says S b n Passed o s next h = on-key b n _ h
-step-says S b n (Refused r) o s next h = on-key b n _ (refusal-says r b)
+pub seal-start-says : (k : LuossavinKey) (label iv : List ℕ) → Says false (hostSealStart k label iv .head)
+unfolding hostSealStart sealStart
+seal-start-says k label iv = quiet _ (simp quiet-start)
 
-pub ctr-start-says : (dir : Direction) (c : Sm4Cipher) (iv : List ℕ) → Says false (ctrStart dir c iv .head)
-unfolding ctrStart
-ctr-start-says dir c iv =
-    let k = keyNumber c in
-    start-says Ctr·state k (keyAndIv (c .answer) (c .retired) dir Ctr (length iv)) (ctrShut k) (ctrAfter k (c .engine) (c .rk) iv [])
-
-pub seal-start-says : (c : Sm4Cipher) (label iv : List ℕ) → Says false (sealStart c label iv .head)
-unfolding sealStart
-seal-start-says c label iv =
-    let k = keyNumber c in
-    start-says Seal k (gcmStarting (c .answer) (c .retired) Encrypt (length iv) (length label)) (sealShut k) (sealAfter k (c .engine) (c .rk) label iv [])
-
-pub opens-start-says : (c : Sm4Cipher) (label iv : List ℕ) → Says false (opensStart c label iv .head)
-unfolding opensStart
-opens-start-says c label iv =
-    let k = keyNumber c in
-    start-says Opens k (gcmStarting (c .answer) (c .retired) Decrypt (length iv) (length label)) (opensShut k)
-    (opensAfter k (c .rk) label iv [])
+pub opens-start-says : (k : LuossavinKey) (label iv : List ℕ) → Says false (hostOpensStart k label iv .head)
+unfolding hostOpensStart opensStart
+opens-start-says k label iv = quiet _ (simp quiet-start)
 
 pub ctr-piece-says : (s : Ctr·state) (e o : List ℕ) → Says false (ctrPiece s e o .head)
 unfolding ctrPiece
-ctr-piece-says s e o =
-    step-says Ctr·state false _ (writing (s .stands) 0 (s .total) (length e) (length e) (length o)) o s _ (quiet _ refl)
+ctr-piece-says s e o = quiet _ (simp quiet-step)
 
 pub seal-piece-says : (s : Seal) (e o : List ℕ) → Says false (sealPiece s e o .head)
 unfolding sealPiece
-seal-piece-says s e o =
-    step-says Seal false _ (writing (s .stands) (s .label) (s .total) (length e) (length e) (length o)) o s _ (quiet _ refl)
+seal-piece-says s e o = quiet _ (simp quiet-step)
 
 pub opens-piece-says : (s : Opens) (e : List ℕ) → Says false (opensPiece s e .head)
 unfolding opensPiece
-opens-piece-says s e = step-says Opens false _ (running (s .stands) (s .label) (s .total) (length e)) [] s _ (quiet _ refl)
+opens-piece-says s e = quiet _ (simp quiet-step)
+
+step-tells : (S : Type 0) (b : Bool) (k : Checked) (o : List ℕ) (s : S) (next : Stepped S) → Tells b (next .head)
+    → Tells b (goesOn S k o s next .head)
+step-tells S b Passed o s next h = h
+step-tells S b (Refused r) o s next h = refusal-tells b r
 
 -- and the ends what the formula says of the whole: of what came in, counted from the start.
-opened-says : (t b : Bool) → Says b (cond t (telling b (finished 0)) (refusal 4))
-opened-says true b = done-says b 0
-opened-says false b = record { done = λ e. absurd (omega arith); refused = λ _. refl }
-
 pub ctr-end-says : (s : Ctr·state) → Says (ctrCameRound (s .first) (blocksOf (s .total))) (ctrEnd s .head)
 unfolding ctrEnd
 ctr-end-says s =
-    step-says Ctr·state _ _ (running (s .stands) 0 (s .total) 0) [] s _ (done-says (ctrCameRound (s .first) (blocksOf (s .total))) 0)
+    let b = ctrCameRound (s .first) (blocksOf (s .total)) in
+    says b _ (step-tells Ctr·state b (running (s .stands) 0 (s .total) 0) [] s _ (done-tells b))
 
 pub seal-end-says : (s : Seal) (o : List ℕ) → Says (gcmCameRound (s .low) (blocksOf (s .total))) (sealEnd s o .head)
 unfolding sealEnd
 seal-end-says s o =
-    step-says Seal _ _ (writing (s .stands) (s .label) (s .total) 0 16 (length o)) o s _
-    (done-says (gcmCameRound (s .low) (blocksOf (s .total))) 16)
+    let b = gcmCameRound (s .low) (blocksOf (s .total)) in
+    says b _ (step-tells Seal b (writing (s .stands) (s .label) (s .total) 0 16 (length o)) o s _ (done-tells b))
 
 pub opens-end-says : (s : Opens) (tag : List ℕ) → Says (gcmCameRound (s .low) (blocksOf (s .total))) (opensEnd s tag .head)
 unfolding opensEnd
 opens-end-says s tag =
     let b = gcmCameRound (s .low) (blocksOf (s .total)) in
     let test = same tag (xors (s .mask) (hashEnd (s .hashing) (s .total % 16) (s .label) (s .total))) in
-    step-says Opens b _ (tagged (s .stands) (s .label) (s .total) (length tag)) [] s _ (opened-says test b)
+    says b _ (step-tells Opens b (tagged (s .stands) (s .label) (s .total) (length tag)) [] s _ (tag-tells b test))
 
-j0-by : (rk iv : List ℕ) (t : Bool) → eqb (length iv) 12 ≡ t → AreBytes iv → AreBytes (J0 rk iv)
+j0-bytes : (rk iv : List ℕ) → AreBytes iv → AreBytes (J0 rk iv)
 unfolding firstCounter
-j0-by rk iv true e a =
-    rw e (below-append 256 iv (0 ∷ 0 ∷ 0 ∷ 1 ∷ []) a (omega arith, (omega arith, (omega arith, (omega arith, tt)))))
-j0-by rk iv false e a = rw e (bytesOf-bytes 16 _)
+j0-bytes rk iv a =
+    split _ (eqb (length iv) 12)
+    (λ e. rw e (below-append 256 iv (0 ∷ 0 ∷ 0 ∷ 1 ∷ []) a (omega arith, (omega arith, (omega arith, (omega arith, tt))))))
+    (λ e. rw e (bytesOf-bytes 16 _))
 
 -- The formula is what the walk's own steps say: in Ctr those between the blocks, and not the one after the last;
 pub ctr-steps-say : (dir : Direction) (rk iv d : List ℕ) → length iv ≡ 16 → AreBytes iv
@@ -224,8 +231,7 @@ ctr-steps-say dir rk iv d n a = ctr-walk-says rk iv d n a
 
 -- in Gcm the one from J0 to the first block too, over the text alone.
 pub seal-steps-say : (rk iv d : List ℕ) → AreBytes iv → gcmWalkSays rk (J0 rk iv) d ≡ roundOf Gcm Encrypt rk iv (length d)
-seal-steps-say rk iv d a =
-    gcm-walk-says rk (J0 rk iv) d (length-counter (hashKey rk) iv) (j0-by rk iv (eqb (length iv) 12) refl a)
+seal-steps-say rk iv d a = gcm-walk-says rk (J0 rk iv) d (length-counter (hashKey rk) iv) (j0-bytes rk iv a)
 
 pub open-steps-say : (rk iv s : List ℕ) → AreBytes iv → gcmWalkSays rk (J0 rk iv) (textPart s) ≡ roundOf Gcm Decrypt rk iv (length s)
 open-steps-say rk iv s a =
@@ -246,22 +252,21 @@ within : (dir : Direction) (n : ℕ) → n ≤ limitOf dir Gcm → n ≤ sealedL
 within Encrypt n h = omega arith
 within Decrypt n h = h
 
-module _ (dir : Direction) (c : Sm4Cipher) (label d iv o : List ℕ) (n : length iv ≡ 12) where
-  abbrev call : Head
-  call = modeCall dir (inGcm c) label d iv o .head
-
-  by-number : (t : Bool) → eqb (call .number) 0 ≡ t → call .cameRound ≡ 0
-  by-number true e =
-      let z = eqb-true (call .number) 0 e in
-      let p = through dir (inGcm c) label d iv o z in
-      let h = within dir (length d) (data-within dir Gcm (length d) (p .content)) in
-      message-says dir (inGcm c) label d iv o .done z ∙ ap (λ (b : Bool). cond b 1 0) (twelve-no dir (c .rk) iv (length d) n h)
-  by-number false e = message-says dir (inGcm c) label d iv o .refused (eqb-false (call .number) 0 e)
-
-  pub twelve-never : modeCall dir (inGcm c) label d iv o .head .cameRound ≡ 0
-  twelve-never = by-number (eqb (call .number) 0) refl
-
-pub exported-twelve-never : (dir : Direction) (k : LuossavinKey) (label d iv o : List ℕ) → length iv ≡ 12
-    → hostModeCall dir 4 k label d iv o .head .cameRound ≡ 0
+twelve-fits : (dir : Direction) (k : LuossavinKey) (label d iv o : List ℕ) → hostModeCall dir 4 k label d iv o .head .number ≡ 0
+    → length d ≤ limitOf dir Gcm
 unfolding hostModeCall modeOf
-exported-twelve-never dir k label d iv o n = twelve-never dir (cipherIn k) label d iv o n
+twelve-fits dir k label d iv o z = data-within dir Gcm (length d) (through dir (inGcm (cipherIn k)) label d iv o z .content)
+
+pub twelve-never : (dir : Direction) (k : LuossavinKey) (label d iv o : List ℕ) → length iv ≡ 12
+    → hostModeCall dir 4 k label d iv o .head .cameRound ≡ 0
+unfolding modeOf
+twelve-never dir k label d iv o n =
+    let number = hostModeCall dir 4 k label d iv o .head .number in
+    let says = message-says dir 4 k label d iv o in
+    split _ (eqb number 0)
+    (λ e.
+    let z = eqb-true number 0 e in
+    says .done z
+    ∙ ap (λ (b : Bool). cond b 1 0) (twelve-no dir (k .«round_keys») iv (length d) n
+    (within dir (length d) (twelve-fits dir k label d iv o z))))
+    (λ e. says .refused (eqb-false number 0 e))

@@ -1,48 +1,27 @@
 -- Whether a file opens under a job and an edition: the question answers what the opening call does, given room, and a file that opens
--- under one edition is refused as 4 under every other.
--- Assumes nothing.
-use mathlib.Core.Path.{_≡_, refl, sym, ap, _∙_}
-use mathlib.Core.Bool.{Bool, true, false, cond}
-use mathlib.Core.List.{List}
-use Prim.Native.Nat.{ℕ, _-_, _≤_}
-use native.Mathlib.Omega.{arith}
-use lib.Dec.{ltb}
-use lib.ListN.{length}
-use borrow.Author.Tests.{le-ltb}
-use Rattle.walk.specs.Outcome.{Head, Outcome, leaving, finished, refusal, under, keyed, reporting, written}
-use Rattle.gcm.specs.Gcm.{hashKey, J0, textPart, textOf}
-use Rattle.gcm.specs.Open.{headOf as gcmHead, settled, gcmOpen}
-use Rattle.gcm.specs.declared.Opened.the-variants.{Done as Gcm·Done, InvalidTag}
-use Rattle.cipher_mode.specs.declared.KeyAnswer.{KeyAnswer}
-use Rattle.cipher_mode.specs.declared.KeyAnswer.the-variants.{Key, ErrorBlockSize as NoKey, WrongNumber as NoNumber}
-use Rattle.cipher_mode.specs.declared.CipherMode.the-variants.{Gcm}
-use Rattle.cipher_mode.specs.declared.Direction.the-variants.{Decrypt}
-use Rattle.cipher_mode.specs.declared.Sm4Cipher.{Sm4Cipher}
-use Rattle.cipher_mode.specs.declared.answer.Refusal.{Refusal}
-use Rattle.cipher_mode.specs.declared.answer.Refusal.the-variants.{TooLong, ShortGcm, WrongIv}
-use Rattle.cipher_mode.specs.declared.checks.Checked.{Checked}
-use Rattle.cipher_mode.specs.declared.checks.Checked.the-variants.{Passed, Refused}
-use Rattle.cipher_mode.specs.Answer.{refusalHead}
-use Rattle.cipher_mode.specs.Key.{keyNumber}
-use Rattle.cipher_mode.specs.Tables.{limit, sealedLimit, modeOf}
-use Rattle.cipher_mode.specs.Checks.{refuse, andThen, keyCheck, wrongIv, keyAndIv, dataCheck, roomCheck, messageCheck, checked}
-use Rattle.cipher_mode.specs.Calls.{lengthsOf, gcmRound, gcmResult, modeCall}
+-- under one edition is refused as 4 under every other. And which of many labels it opens under.
+use Rattle.demands.specs.Names as N
+use N.{Bool, cond, false, true, List, [], _∷_, _≢_, _⊎_, _∙_, _≡_, ap, refl, subst, sym, _-_, _<_, _^_, _≤_, suc, zero, ℕ, arith, ltb, drop}
+use N.{getD, length, length-take, take, le-ltb, ltb-false, Head, Outcome, finished, keyed, leaving, refusal, reporting, under, written, J0}
+use N.{textOf, textPart, gcmOpen, gcmHead, settled, Gcm·Done, InvalidTag, refusalHead, gcmResult, gcmRound, lengthsOf, modeCall, andThen}
+use N.{checked, dataCheck, keyAndIv, keyCheck, messageCheck, refuse, roomCheck, wrongIv, keyNumber, limit, modeOf, sealedLimit, Gcm}
+use N.{Decrypt, KeyAnswer, NoKey, Key, NoNumber, Sm4Cipher, Refusal, ShortGcm, TooLong, WrongIv, Checked, Passed, Refused, anyTooLong}
+use N.{badList, labelAt, Verdict, checkedVerdict, firstOpening, opensWith, searchCheck, which, labelOf, checkedHead, hostEditionOpens}
+use N.{opensHead, hostModeCall, cipherIn, hostKeyEngine, hostWhich, toldOf, LuossavinKey}
 use Rattle.cipher_mode.proofs.Refusals.{refuses}
-use Rattle.editions.specs.Which.{opensWith}
-use Rattle.label.specs.Label.{labelOf}
 use Rattle.label.proofs.LabelTells.{length-label}
-use Rattle.luossavin.specs.declared.key.LuossavinKey.{LuossavinKey}
-use Rattle.luossavin.specs.Key.{cipherIn, hostKeyEngine}
-use Rattle.luossavin.specs.Host.{hostModeCall}
-use Rattle.luossavin.specs.Edition.{checkedHead, opensHead, hostEditionOpens}
-use Rattle.demands.specs.Call.{inGcm}
+use Rattle.demands.specs.Call.{inGcm, RefusedAs}
 use Rattle.demands.specs.OneBlockRefused.{MovesZero}
-use Rattle.demands.specs.EditionOpens.{Question, WithoutText, AnswersAsOpening, NeverNoRoom, OneEditionAlone}
-use Rattle.demands.proofs.OtherEdition.{other-edition-refused}
-
--- what a key's record is asked
-abbrev asks : Sm4Cipher → Question
-asks c job edition file iv = under (keyNumber c) (opensHead c (labelOf job edition) file iv)
+use Rattle.demands.specs.EditionOpens.{WithoutText, AnswersAsOpening, NeverNoRoom, OneEditionAlone, FirstThatOpens, Tells}
+use Rattle.demands.specs.EditionOpens.{WhichAnswered}
+use Rattle.demands.proofs.OneBlockRefused.{other-edition-refused, Fits, gcm-in-order}
+use Rattle.cipher_mode.proofs.Passed.{data-within, with-tag-passed}
+use Rattle.editions.proofs.Turns.{or-false}
+use Rattle.editions.proofs.Passed.{search-passed}
+use Rattle.editions.proofs.FirstOpening.{IsFirst, search-number}
+use Rattle.editions.proofs.WhichOpens.{Asked, first-opens, none-opens, found-opens, none-found, zero-unless-found, done-asked}
+use Rattle.demands.proofs.Answering.{is-true, is-false, one-or-none, split}
+use Rattle.demands.proofs.Through.{leaves}
 
 on-key : (k : ℕ) (h : Head) (x : Outcome) → WithoutText h x → WithoutText (under k h) (keyed k x)
 on-key k h x w = record { number = w .number; missing = w .missing; key = refl; size = w .size; cameRound = w .cameRound }
@@ -93,9 +72,10 @@ module _ (c : Sm4Cipher) (label file iv o : List ℕ) (short : length label ≤ 
       rw the-checks (on-key (keyNumber c) _ (checked (andThen first second) o next) w)
 
 -- The question answers what the single call answers in Gcm, given room: 0 exactly where that is 0, and otherwise its refusal.
-pub edition-opens : (c : Sm4Cipher) → AnswersAsOpening (asks c) (modeCall Decrypt (inGcm c))
-edition-opens c job edition file iv o room =
-    asked-as-opened c (labelOf job edition) file iv o (omega (arith, length-label job edition)) room
+pub edition-opens : (k : LuossavinKey) → AnswersAsOpening (hostEditionOpens k) (hostModeCall Decrypt 4 k)
+unfolding hostEditionOpens hostModeCall modeOf
+edition-opens k job edition file iv o room =
+    asked-as-opened (cipherIn k) (labelOf job edition) file iv o (omega (arith, length-label job edition)) room
 
 no-six : (a : KeyAnswer) (wrong long short t : Bool) (n : ℕ)
     → checkedHead
@@ -111,37 +91,153 @@ no-six Key false false false true n e = omega arith
 no-six Key false false false false n e = omega arith
 
 -- It is never refused for room.
-pub edition-never-no-room : (c : Sm4Cipher) → NeverNoRoom (asks c)
-unfolding opensHead keyAndIv dataCheck
-edition-never-no-room c job edition file iv e =
+pub edition-never-no-room : (k : LuossavinKey) → NeverNoRoom (hostEditionOpens k)
+unfolding hostEditionOpens opensHead keyAndIv dataCheck
+edition-never-no-room k job edition file iv e =
+    let c = cipherIn k in
     no-six (c .answer) (wrongIv Gcm (length iv)) (ltb sealedLimit (length file)) (ltb (length file) 16)
     (opensWith c iv file (labelOf job edition)) (16 - length file) e
 
 -- Under a key that does not encrypt the all-zero block to itself, a file that opens under one job and edition is answered 4 for every
 -- other.
-pub edition-alone : (c : Sm4Cipher) → MovesZero (c .rk) → OneEditionAlone (asks c)
-edition-alone c moves j₁ j₂ e₁ e₂ file iv hj₁ hj₂ he₁ he₂ other e =
-    let w₁ = edition-opens c j₁ e₁ file iv file (omega arith) in
-    let w₂ = edition-opens c j₂ e₂ file iv file (omega arith) in
-    let refused = other-edition-refused c moves j₁ j₂ e₁ e₂ file iv file file hj₁ hj₂ he₁ he₂ other refl (sym (w₁ .number) ∙ e) in
+pub edition-alone : (k : LuossavinKey) → MovesZero (k .«round_keys») → OneEditionAlone (hostEditionOpens k)
+edition-alone k moves j₁ j₂ e₁ e₂ file iv hj₁ hj₂ he₁ he₂ other e =
+    let w₁ = edition-opens k j₁ e₁ file iv file (omega arith) in
+    let w₂ = edition-opens k j₂ e₂ file iv file (omega arith) in
+    let refused = other-edition-refused k moves j₁ j₂ e₁ e₂ file iv file file hj₁ hj₂ he₁ he₂ other refl (sym (w₁ .number) ∙ e) in
     w₂ .number ∙ refused .number
 
--- The same of the exported calls: `luossavin_edition_opens` beside `luossavin_decrypt` with mode 4.
-module _ (k : LuossavinKey) where
-  pub exported-edition-opens : AnswersAsOpening (hostEditionOpens k) (hostModeCall Decrypt 4 k)
-  unfolding hostEditionOpens hostModeCall modeOf
-  exported-edition-opens = edition-opens (cipherIn k)
+-- The engine is not seen.
+pub exported-edition-engine-unseen : (k : LuossavinKey) (e job edition : ℕ) (file iv : List ℕ)
+    → hostEditionOpens (hostKeyEngine k e) job edition file iv ≡ hostEditionOpens k job edition file iv
+unfolding hostEditionOpens opensHead hostKeyEngine cipherIn
+exported-edition-engine-unseen k e job edition file iv = refl
 
-  pub exported-edition-never-no-room : NeverNoRoom (hostEditionOpens k)
-  unfolding hostEditionOpens
-  exported-edition-never-no-room = edition-never-no-room (cipherIn k)
+-- Which of many labels a file opens under: what is told is what the single call answers to each candidate, and among labels of jobs and
+-- editions it is the one; and demand 1 of the question.
 
-  pub exported-edition-alone : MovesZero (k .«round_keys») → OneEditionAlone (hostEditionOpens k)
-  unfolding hostEditionOpens cipherIn
-  exported-edition-alone moves = edition-alone (cipherIn k) moves
+-- where no label is too long, no candidate is
+short-at : (ns : List ℕ) (i : ℕ) → anyTooLong ns ≡ false → getD ns i 0 ≤ limit
+unfolding anyTooLong
+short-at [] i e = omega arith
+short-at (n ∷ ns) zero e = ltb-false limit n (or-false (ltb limit n) (anyTooLong ns) e .0)
+short-at (n ∷ ns) (suc i) e = short-at ns i (or-false (ltb limit n) (anyTooLong ns) e .1)
 
-  -- The engine is not seen.
-  pub exported-edition-engine-unseen : (e job edition : ℕ) (file iv : List ℕ)
-      → hostEditionOpens (hostKeyEngine k e) job edition file iv ≡ hostEditionOpens k job edition file iv
-  unfolding hostEditionOpens opensHead hostKeyEngine cipherIn
-  exported-edition-engine-unseen e job edition file iv = refl
+short-candidate : (labels lengths : List ℕ) (i : ℕ) → anyTooLong lengths ≡ false → length (labelAt labels lengths i) ≤ limit
+unfolding labelAt
+short-candidate labels lengths i e = let n = short-at lengths i e in simp length-take (omega (arith, n))
+
+-- what the single call answers, by the test that decides
+by-test : (t : Bool) (n : ℕ) → gcmHead (cond t (Gcm·Done n) InvalidTag) .number ≡ cond t 0 4
+by-test true n = refl
+by-test false n = refl
+
+module _ (c : Sm4Cipher) (file iv labels lengths o : List ℕ) (room : length file - 16 ≤ length o) where
+  abbrev test : ℕ → Bool
+  test i = opensWith c iv file (labelAt labels lengths i)
+
+  answers : Asked c file iv labels lengths → (i : ℕ)
+      → modeCall Decrypt (inGcm c) (labelAt labels lengths i) file iv o .head .number ≡ cond (test i) 0 4
+  unfolding gcmOpen settled
+  answers a i =
+      let label = labelAt labels lengths i in
+      let p = search-passed (c .answer) (c .retired) (length iv) (length file) lengths (a .checks) in
+      let fits : Fits label file o =
+      record {
+        label = short-candidate labels lengths i (p .short);
+        longest = data-within Decrypt Gcm (length file) (p .content);
+        shortest = with-tag-passed (length file) (p .content);
+        room = room;
+      } in
+      ap (λ (x : Outcome). x .head .number)
+      (leaves Decrypt (inGcm c) label file iv o (gcm-in-order c label file iv o (p .key) (p .iv-size) fits))
+      ∙ by-test (test i) (length file - 16)
+
+  -- 0 where the test holds, 4 where it does not, and the other way about
+  says : Asked c file iv labels lengths → (i : ℕ) (t : Bool) → test i ≡ t
+      → modeCall Decrypt (inGcm c) (labelAt labels lengths i) file iv o .head .number ≡ cond t 0 4
+  says a i t e = answers a i ∙ ap (λ (t : Bool). cond t 0 4) e
+
+  is-first : Asked c file iv labels lengths → (i : ℕ) → FirstThatOpens (modeCall Decrypt (inGcm c)) file iv labels lengths o i
+      → IsFirst (opensWith c iv file) labels lengths i
+  is-first a i f =
+      record {
+        inside = f .inside;
+        passes = is-true 0 4 refl (test i) (sym (answers a i) ∙ f .opens);
+        none-before = λ j h. is-false 0 4 refl (test j) (sym (answers a j) ∙ f .before j h);
+      }
+
+  tells : Tells (modeCall Decrypt (inGcm c)) file iv labels lengths o (toldOf (which c file iv labels lengths))
+  tells =
+      record {
+        found = λ e.
+            let f = found-opens c file iv labels lengths (is-true 1 0 refl _ e) in
+            record {
+              inside = f .first .inside;
+              opens = says (f .asked) _ true (f .first .passes);
+              before = λ j h. says (f .asked) j false (f .first .none-before j h);
+            };
+        is-found = λ d i f.
+            let a = done-asked c file iv labels lengths d in
+            let v = first-opens c file iv labels lengths a i (is-first a i f) in
+            (ap (λ (v : Verdict). toldOf v .found) v, ap (λ (v : Verdict). v .place) v);
+        none = λ d e i h.
+            let n = none-found c file iv labels lengths (is-false 1 0 refl _ e) d in
+            says (n .asked) i false (n .none i h);
+        is-none = λ d f.
+            let a = done-asked c file iv labels lengths d in
+            let v = none-opens c file iv labels lengths a (λ i h. is-false 0 4 refl (test i) (sym (answers a i) ∙ f i h)) in
+            ap (λ (v : Verdict). toldOf v .found) v;
+        part = λ e. found-opens c file iv labels lengths (is-true 1 0 refl _ e) .there;
+      }
+
+-- What the exported question tells is what the exported single call of mode 4, given room, answers to each candidate: found at i exactly
+-- when it is 0 to candidate i and 4 to each before it, none exactly when it is 4 to all.
+pub which-tells : (k : LuossavinKey) (file iv labels lengths o : List ℕ) → length file - 16 ≤ length o
+    → Tells (hostModeCall Decrypt 4 k) file iv labels lengths o (hostWhich k file iv labels lengths)
+unfolding hostModeCall modeOf hostWhich
+which-tells k file iv labels lengths o room = tells (cipherIn k) file iv labels lengths o room
+
+-- Under a key that does not encrypt the all-zero block to itself, a label of a job and an edition that is found is the only one that
+-- the file opens under.
+pub the-edition : (k : LuossavinKey) (file iv labels lengths o : List ℕ) → length file - 16 ≤ length o → MovesZero (k .«round_keys»)
+    → hostWhich k file iv labels lengths .found ≡ 1
+    → (job₁ job₂ edition₁ edition₂ : ℕ) → job₁ < 2 ^ 32 → job₂ < 2 ^ 32 → edition₁ < 2 ^ 16 → edition₂ < 2 ^ 16
+    → take (hostWhich k file iv labels lengths .size) (drop (hostWhich k file iv labels lengths .start) labels) ≡ labelOf job₁ edition₁
+    → (job₁ ≢ job₂) ⊎ (edition₁ ≢ edition₂)
+    → RefusedAs 4 o (hostModeCall Decrypt 4 k (labelOf job₂ edition₂) file iv o)
+the-edition k file iv labels lengths o room moves e j₁ j₂ e₁ e₂ hj₁ hj₂ he₁ he₂ part other =
+    let t = which-tells k file iv labels lengths o room in
+    let label : labelAt labels lengths (hostWhich k file iv labels lengths .place) ≡ labelOf j₁ e₁ = sym (t .part e) ∙ part in
+    other-edition-refused k moves j₁ j₂ e₁ e₂ file iv o o hj₁ hj₂ he₁ he₂ other refl
+    (subst (λ (l : List ℕ). hostModeCall Decrypt 4 k l file iv o .head .number ≡ 0) label (t .found e .opens))
+
+-- a search reports nothing but that it is done, and a refusal no candidate
+no-size : (k : Checked) (v : Verdict) → v .head ≡ finished 0 → checkedVerdict k v .head .size ≡ 0
+no-size Passed v e = ap (λ (h : Head). h .size) e
+no-size (Refused r) v e = refuses r .no-size
+
+some-place : (k : Checked) (v : Verdict) → v .head ≡ finished 0 → checkedVerdict k v .head .number ≢ 0 → checkedVerdict k v .found ≡ false
+some-place Passed v e n = absurd (n (ap (λ (h : Head). h .number) e))
+some-place (Refused r) v e n = refl
+
+-- Demand 1 of the exported question: length 0, the key's number, a part inside the lent buffer where one is found, and none otherwise.
+pub which-answers : (k : LuossavinKey) (file iv labels lengths : List ℕ)
+    → WhichAnswered (keyNumber (cipherIn k)) labels lengths (hostWhich k file iv labels lengths)
+unfolding hostWhich which
+which-answers k file iv labels lengths =
+    let c = cipherIn k in
+    let check = searchCheck (c .answer) (c .retired) (length iv) (length file) lengths in
+    let v = firstOpening (opensWith c iv file) labels lengths 0 0 in
+    let f = search-number (opensWith c iv file) labels lengths in
+    record {
+      key = λ e. rw e;
+      bad = λ e. rw e;
+      size = split _ (badList labels lengths) (λ e. rw e) (λ e. rw e (no-size check v f));
+      either = one-or-none (which c file iv labels lengths .found);
+      refused = λ n. split _ (badList labels lengths) (λ e. rw e) (λ e. rw (e, some-place check v f (rw e at n)));
+      inside = λ e. found-opens c file iv labels lengths (is-true 1 0 refl _ e) .inside;
+      empty = λ e.
+          let v = zero-unless-found c file iv labels lengths (is-false 1 0 refl _ e) in
+          (ap (λ (v : Verdict). v .place) v, ap (λ (v : Verdict). v .start) v, ap (λ (v : Verdict). v .size) v);
+    }

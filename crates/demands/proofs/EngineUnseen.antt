@@ -1,160 +1,186 @@
 -- The engine is never seen: no definition of an outcome looks at its mark. Where a call leaves a state, the state's mark is all that
 -- differs, whether the call was refused or not.
--- Assumes nothing.
-use mathlib.Core.Path.{_≡_, refl, sym, ap, _∙_}
-use mathlib.Core.List.{List, []}
-use Prim.Native.Nat.{ℕ}
-use lib.Dec.{ltb}
-use lib.ListN.{length}
-use Rattle.walk.specs.Outcome.{Outcome, under, refuse}
-use Rattle.cipher_mode.specs.declared.CipherMode.the-variants.{Ctr as Ctr·mode}
-use Rattle.cipher_mode.specs.declared.Direction.{Direction}
-use Rattle.cipher_mode.specs.declared.Direction.the-variants.{Encrypt}
-use Rattle.cipher_mode.specs.declared.Sm4Cipher.{Sm4Cipher}
-use Rattle.cipher_mode.specs.declared.checks.Checked.{Checked}
-use Rattle.cipher_mode.specs.declared.checks.Checked.the-variants.{Passed, Refused}
-use Rattle.cipher_mode.specs.Answer.{refusalHead}
-use Rattle.cipher_mode.specs.Key.{keyNumber, withEngine}
-use Rattle.cipher_mode.specs.Tables.{modeOf}
-use Rattle.cipher_mode.specs.Checks.{keyAndIv}
-use Rattle.cipher_mode.specs.Calls.{blockCall, modeCall}
-use Rattle.pieces.specs.declared.ctr.Ctr.{Ctr}
-use Rattle.pieces.specs.declared.opens.Opens.{Opens}
-use Rattle.pieces.specs.declared.seal.Seal.{Seal}
-use Rattle.pieces.specs.Checks.{gcmStarting, running, writing}
-use Rattle.pieces.specs.States.{ctrAfter, ctrShut, sealAfter, sealShut}
-use Rattle.pieces.specs.Calls.{Stepped, stepOn, begun, goesOn, ctrStart, ctrPiece, ctrEnd, sealStart, sealPiece, sealEnd, opensStart}
-use Rattle.editions.specs.Which.{Verdict, which as asks}
-use Rattle.ranges.specs.Range.{rangeCall}
-use Rattle.ranges.specs.ByPlan.{planCall}
-use Rattle.luossavin.specs.declared.key.LuossavinKey.{LuossavinKey}
-use Rattle.luossavin.specs.Key.{cipherIn, hostKeyEngine}
-use Rattle.luossavin.specs.Host.{hostBlockCall, hostModeCall}
-use Rattle.luossavin.specs.InPieces.{directionOf, hostCtrStart, hostSealStart, hostOpensStart}
-use Rattle.luossavin.specs.Which.{toldOf, hostWhich}
-use Rattle.luossavin.specs.Ranges.{hostCtrRange, hostCtrByPlan}
-use Rattle.demands.specs.EngineUnseen.{unmarked, unmarkedCtr, unmarkedSeal, seen, AnsweredAlike, CtrAlike, SealAlike, unmarkedHost, ReportedAlike}
+use Rattle.demands.specs.Names as N
+use N.{Bool, _||_, cond, List, [], _∷_, map, _∙_, _≡_, ap, ap₂, refl, sym, _+_, suc, zero, ℕ, eqb, ltb, drop, length, take, Outcome, under}
+use N.{refusalHead, blockCall, modeCall, keyAndIv, keyNumber, withEngine, Ctr as Ctr·mode, Encrypt, Sm4Cipher, Checked, Passed, Refused}
+use N.{Stepped, begun, ctrEnd, ctrPiece, ctrStart, goesOn, opensStart, sealEnd, sealPiece, sealStart, stepOn, gcmStarting, running, writing}
+use N.{ctrAfter, sealAfter, Ctr·state as Ctr, Opens, Seal, which, planCall, rangeCall, Entry, front·journal as front}
+use N.{sizeAt·journal as sizeAt, anyRetired, badKeys, hasNumber, keyAt, keyOf·journal as keyOf, numberTwice, placeOf, callInto, judged}
+use N.{recomputed, countedUnder, replay, replayOne, replayUpTo, counted, nothing, Replayed, Report, hostBlockCall, hostModeCall}
+use N.{directionOf, hostCtrStart, hostOpensStart, hostSealStart, hostReplay, keysOf, toldOf·journal as toldOf, cipherIn, hostKeyEngine}
+use N.{hostCtrByPlan, hostCtrRange, Told, hostWhich, LuossavinKeys, LuossavinKey}
+use Rattle.demands.specs.EngineUnseen.{unmarked, unmarkedCtr, unmarkedSeal, seen, CtrAlike, SealAlike, unmarkedHost, ReportedAlike}
+use Rattle.demands.specs.EngineUnseen.{unmarkedKeys}
+
+-- what does not look at a mark is the same of things that are alike but for it
+by-mark : (R O : Type 0) (without : R → R) (r s : R) → without r ≡ without s → (f : R → O) → ((x : R) → f (without x) ≡ f x) → f r ≡ f s
+by-mark R O without r s alike f e = sym (e r) ∙ ap {B = O} f alike ∙ e s
 
 -- a call that leaves a state, by what its check says
-module _ (S : Type 0) (without : S → S) (n : ℕ) (k : Checked) where
-  starts-alike : (shut : ℕ → S) (s t : S) → without s ≡ without t
-      → seen S without (stepOn S n (begun S k shut s)) ≡ seen S without (stepOn S n (begun S k shut t))
-  starts-alike shut s t e = by k
-    where
-      by : (x : Checked) → seen S without (stepOn S n (begun S x shut s)) ≡ seen S without (stepOn S n (begun S x shut t))
-      by Passed = ap {B = Stepped S} (λ (u : S). seen S (λ y. y) (stepOn S n (begun S Passed shut u))) e
-      by (Refused r) = refl
+starts-alike : (S : Type 0) (without : S → S) (n : ℕ) (k : Checked) (shut : ℕ → S) (s t : S) → without s ≡ without t
+    → seen S without (stepOn S n (begun S k shut s)) ≡ seen S without (stepOn S n (begun S k shut t))
+starts-alike S without n Passed shut s t e = ap {B = Stepped S} (λ (u : S). seen S (λ y. y) (stepOn S n (begun S Passed shut u))) e
+starts-alike S without n (Refused r) shut s t e = refl
 
-  goes-alike : (o : List ℕ) (s t : S) (x y : Stepped S) → without s ≡ without t → seen S without x ≡ seen S without y
-      → seen S without (stepOn S n (goesOn S k o s x)) ≡ seen S without (stepOn S n (goesOn S k o t y))
-  goes-alike o s t x y e f = by k
-    where
-      by : (q : Checked) → seen S without (stepOn S n (goesOn S q o s x)) ≡ seen S without (stepOn S n (goesOn S q o t y))
-      by Passed = ap {B = Stepped S} (stepOn S n) f
-      by (Refused r) = ap {B = Stepped S} (λ (u : S). record { head = under n (refusalHead r); bytes = o; state = u }) e
-
-ctr-start-unmarked : (dir : Direction) (c : Sm4Cipher) (iv : List ℕ)
-    → seen Ctr unmarkedCtr (ctrStart dir (unmarked c) iv) ≡ seen Ctr unmarkedCtr (ctrStart dir c iv)
-unfolding withEngine ctrStart ctrAfter
-ctr-start-unmarked dir c iv =
-    let k = keyNumber c in
-    starts-alike Ctr unmarkedCtr k (keyAndIv (c .answer) (c .retired) dir Ctr·mode (length iv)) (ctrShut k)
-    (ctrAfter k 0 (c .rk) iv []) (ctrAfter k (c .engine) (c .rk) iv []) refl
-
-seal-start-unmarked : (c : Sm4Cipher) (label iv : List ℕ)
-    → seen Seal unmarkedSeal (sealStart (unmarked c) label iv) ≡ seen Seal unmarkedSeal (sealStart c label iv)
-unfolding withEngine sealStart sealAfter
-seal-start-unmarked c label iv =
-    let k = keyNumber c in
-    starts-alike Seal unmarkedSeal k (gcmStarting (c .answer) (c .retired) Encrypt (length iv) (length label)) (sealShut k)
-    (sealAfter k 0 (c .rk) label iv []) (sealAfter k (c .engine) (c .rk) label iv []) refl
+goes-alike : (S : Type 0) (without : S → S) (n : ℕ) (k : Checked) (o : List ℕ) (s t : S) (x y : Stepped S) → without s ≡ without t
+    → seen S without x ≡ seen S without y → seen S without (stepOn S n (goesOn S k o s x)) ≡ seen S without (stepOn S n (goesOn S k o t y))
+goes-alike S without n Passed o s t x y e f = ap {B = Stepped S} (stepOn S n) f
+goes-alike S without n (Refused r) o s t x y e f =
+    ap {B = Stepped S} (λ (u : S). record { head = under n (refusalHead r); bytes = o; state = u }) e
 
 -- Records that are alike but for the engine.
-module _ (c d : Sm4Cipher) (alike : unmarked c ≡ unmarked d) where
-  by-record : (O : Type 0) (f : Sm4Cipher → O) → ((x : Sm4Cipher) → f (unmarked x) ≡ f x) → f c ≡ f d
-  by-record O f e = sym (e c) ∙ ap {B = O} f alike ∙ e d
+module _ (k l : LuossavinKey) (alike : unmarkedHost k ≡ unmarkedHost l) where
+  by-record : (O : Type 0) (f : LuossavinKey → O) → ((x : LuossavinKey) → f (unmarkedHost x) ≡ f x) → f k ≡ f l
+  by-record O = by-mark LuossavinKey O unmarkedHost k l alike
 
-  pub engine-unseen : AnsweredAlike c d
-  unfolding withEngine blockCall modeCall opensStart asks rangeCall planCall
+  pub engine-unseen : ReportedAlike k l
+  unfolding hostKeyEngine cipherIn hostBlockCall blockCall hostModeCall modeCall hostCtrStart ctrStart ctrAfter hostSealStart sealStart
+      sealAfter
+      hostOpensStart opensStart hostWhich which hostCtrRange rangeCall hostCtrByPlan planCall
   engine-unseen =
       record {
-        block = λ dir b o. by-record Outcome (λ x. blockCall dir x b o) (λ x. refl);
-        message = λ dir mode label e iv o. by-record Outcome (λ x. modeCall dir (record { cipher = x; mode = mode }) label e iv o) (λ x. refl);
-        ctr = λ dir iv. by-record (Stepped Ctr) (λ x. seen Ctr unmarkedCtr (ctrStart dir x iv)) (λ x. ctr-start-unmarked dir x iv);
-        sealing = λ label iv. by-record (Stepped Seal) (λ x. seen Seal unmarkedSeal (sealStart x label iv)) (λ x. seal-start-unmarked x label iv);
-        opening = λ label iv. by-record (Stepped Opens) (λ x. opensStart x label iv) (λ x. refl);
-        which = λ file iv labels lengths. by-record Verdict (λ x. asks x file iv labels lengths) (λ x. refl);
-        range = λ dir iv offset e o. by-record Outcome (λ x. rangeCall dir x iv offset e o) (λ x. refl);
-        by-plan = λ dir iv plan e o. by-record Outcome (λ x. planCall dir x iv plan e o) (λ x. refl);
+        block = λ dir b o. by-record Outcome (λ x. hostBlockCall dir x b o) (λ x. refl);
+        message = λ dir mode label e iv o. by-record Outcome (λ x. hostModeCall dir mode x label e iv o) (λ x. refl);
+        ctr = λ decrypt iv. by-record (Stepped Ctr) (λ x. seen Ctr unmarkedCtr (hostCtrStart x decrypt iv)) (λ x.
+            let c = cipherIn x in
+            starts-alike Ctr unmarkedCtr _ (keyAndIv (c .answer) (c .retired) (directionOf decrypt) Ctr·mode (length iv)) _ _ _ refl);
+        sealing = λ label iv. by-record (Stepped Seal) (λ x. seen Seal unmarkedSeal (hostSealStart x label iv)) (λ x.
+            let c = cipherIn x in
+            starts-alike Seal unmarkedSeal _ (gcmStarting (c .answer) (c .retired) Encrypt (length iv) (length label)) _ _ _ refl);
+        opening = λ label iv. by-record (Stepped Opens) (λ x. hostOpensStart x label iv) (λ x. refl);
+        which = λ file iv labels lengths. by-record Told (λ x. hostWhich x file iv labels lengths) (λ x. refl);
+        range = λ decrypt iv offset e o. by-record Outcome (λ x. hostCtrRange x decrypt iv offset e o) (λ x. refl);
+        by-plan = λ decrypt iv plan e o. by-record Outcome (λ x. hostCtrByPlan x decrypt iv plan e o) (λ x. refl);
       }
+
+-- Marking a host's record changes nothing that a call tells.
+pub marked-alike : (k : LuossavinKey) (e : ℕ) → ReportedAlike (hostKeyEngine k e) k
+unfolding hostKeyEngine
+marked-alike k e = engine-unseen (hostKeyEngine k e) k refl
 
 -- States that are.
-ctr-piece-unmarked : (s : Ctr) (e o : List ℕ)
-    → seen Ctr unmarkedCtr (ctrPiece (unmarkedCtr s) e o) ≡ seen Ctr unmarkedCtr (ctrPiece s e o)
-unfolding ctrPiece
-ctr-piece-unmarked s e o =
-    goes-alike Ctr unmarkedCtr (s .key) (writing (s .stands) 0 (s .total) (length e) (length e) (length o)) o (unmarkedCtr s) s _ _ refl refl
+pub engine-unseen-in-ctr : (s t : Ctr) → unmarkedCtr s ≡ unmarkedCtr t → CtrAlike s t
+unfolding ctrPiece ctrEnd
+engine-unseen-in-ctr s t alike =
+    record {
+      piece = λ e o. by-mark Ctr (Stepped Ctr) unmarkedCtr s t alike (λ x. seen Ctr unmarkedCtr (ctrPiece x e o)) (λ x.
+          goes-alike Ctr unmarkedCtr (x .key) (writing (x .stands) 0 (x .total) (length e) (length e) (length o)) o (unmarkedCtr x) x _ _
+          refl refl);
+      end = by-mark Ctr (Stepped Ctr) unmarkedCtr s t alike (λ x. seen Ctr unmarkedCtr (ctrEnd x)) (λ x.
+          goes-alike Ctr unmarkedCtr (x .key) (running (x .stands) 0 (x .total) 0) [] (unmarkedCtr x) x _ _ refl refl);
+    }
 
-ctr-end-unmarked : (s : Ctr) → seen Ctr unmarkedCtr (ctrEnd (unmarkedCtr s)) ≡ seen Ctr unmarkedCtr (ctrEnd s)
-unfolding ctrEnd
-ctr-end-unmarked s = goes-alike Ctr unmarkedCtr (s .key) (running (s .stands) 0 (s .total) 0) [] (unmarkedCtr s) s _ _ refl refl
-
-seal-piece-unmarked : (s : Seal) (e o : List ℕ)
-    → seen Seal unmarkedSeal (sealPiece (unmarkedSeal s) e o) ≡ seen Seal unmarkedSeal (sealPiece s e o)
-unfolding sealPiece
-seal-piece-unmarked s e o =
-    goes-alike Seal unmarkedSeal (s .key) (writing (s .stands) (s .label) (s .total) (length e) (length e) (length o)) o (unmarkedSeal s) s
-    _ _ refl refl
-
-seal-end-unmarked : (s : Seal) (o : List ℕ) → seen Seal unmarkedSeal (sealEnd (unmarkedSeal s) o) ≡ seen Seal unmarkedSeal (sealEnd s o)
-unfolding sealEnd
-seal-end-unmarked s o =
-    goes-alike Seal unmarkedSeal (s .key) (writing (s .stands) (s .label) (s .total) 0 16 (length o)) o (unmarkedSeal s) s _ _ refl refl
-
-module _ (s t : Ctr) (alike : unmarkedCtr s ≡ unmarkedCtr t) where
-  by-ctr : (f : Ctr → Stepped Ctr) → ((x : Ctr) → f (unmarkedCtr x) ≡ f x) → f s ≡ f t
-  by-ctr f e = sym (e s) ∙ ap {B = Stepped Ctr} f alike ∙ e t
-
-  pub engine-unseen-in-ctr : CtrAlike s t
-  engine-unseen-in-ctr =
-      record {
-        piece = λ e o. by-ctr (λ x. seen Ctr unmarkedCtr (ctrPiece x e o)) (λ x. ctr-piece-unmarked x e o);
-        end = by-ctr (λ x. seen Ctr unmarkedCtr (ctrEnd x)) ctr-end-unmarked;
-      }
-
-module _ (s t : Seal) (alike : unmarkedSeal s ≡ unmarkedSeal t) where
-  by-seal : (f : Seal → Stepped Seal) → ((x : Seal) → f (unmarkedSeal x) ≡ f x) → f s ≡ f t
-  by-seal f e = sym (e s) ∙ ap {B = Stepped Seal} f alike ∙ e t
-
-  pub engine-unseen-in-seal : SealAlike s t
-  engine-unseen-in-seal =
-      record {
-        piece = λ e o. by-seal (λ x. seen Seal unmarkedSeal (sealPiece x e o)) (λ x. seal-piece-unmarked x e o);
-        end = λ o. by-seal (λ x. seen Seal unmarkedSeal (sealEnd x o)) (λ x. seal-end-unmarked x o);
-      }
+pub engine-unseen-in-seal : (s t : Seal) → unmarkedSeal s ≡ unmarkedSeal t → SealAlike s t
+unfolding sealPiece sealEnd
+engine-unseen-in-seal s t alike =
+    record {
+      piece = λ e o. by-mark Seal (Stepped Seal) unmarkedSeal s t alike (λ x. seen Seal unmarkedSeal (sealPiece x e o)) (λ x.
+          goes-alike Seal unmarkedSeal (x .key) (writing (x .stands) (x .label) (x .total) (length e) (length e) (length o)) o
+          (unmarkedSeal x) x _ _ refl refl);
+      end = λ o. by-mark Seal (Stepped Seal) unmarkedSeal s t alike (λ x. seen Seal unmarkedSeal (sealEnd x o)) (λ x.
+          goes-alike Seal unmarkedSeal (x .key) (writing (x .stands) (x .label) (x .total) 0 16 (length o)) o (unmarkedSeal x) x _ _ refl
+          refl);
+    }
 
 -- What a host's record is without its mark.
 pub host-unmarked : (k : LuossavinKey) → cipherIn (unmarkedHost k) ≡ unmarked (cipherIn k)
 unfolding cipherIn hostKeyEngine withEngine
 host-unmarked k = refl
 
--- The same of the exported calls.
-pub exported-engine-unseen : (k l : LuossavinKey) → unmarkedHost k ≡ unmarkedHost l → ReportedAlike k l
-unfolding hostBlockCall hostModeCall hostCtrStart hostSealStart hostOpensStart hostWhich hostCtrRange hostCtrByPlan
-exported-engine-unseen k l alike =
-    let a = engine-unseen (cipherIn k) (cipherIn l) (sym (host-unmarked k) ∙ ap {B = Sm4Cipher} cipherIn alike ∙ host-unmarked l) in
-    record {
-      block = a .block;
-      message = λ dir mode label e iv o. ap {B = Outcome} (λ (x : Outcome). refuse (ltb 4 mode) 7 o x) (a .message dir (modeOf mode) label e iv o);
-      ctr = λ decrypt iv. a .ctr (directionOf decrypt) iv;
-      sealing = a .sealing;
-      opening = a .opening;
-      which = λ file iv labels lengths. ap toldOf (a .which file iv labels lengths);
-      range = λ decrypt iv offset e o. a .range (directionOf decrypt) iv offset e o;
-      by-plan = λ decrypt iv plan e o. a .by-plan (directionOf decrypt) iv plan e o;
-    }
+-- Nor is the engine seen in a replay: the keys' numbers and marks of retirement are looked at, and every record is made again by a call
+-- that does not show it.
 
--- Marking a host's record changes nothing that a call tells.
-pub marked-alike : (k : LuossavinKey) (e : ℕ) → ReportedAlike (hostKeyEngine k e) k
-unfolding hostKeyEngine
-marked-alike k e = exported-engine-unseen (hostKeyEngine k e) k refl
+-- keys without their marks
+abbrev plainly : List Sm4Cipher → List Sm4Cipher
+plainly cs = map unmarked cs
+
+length-plainly : (cs : List Sm4Cipher) → length (plainly cs) ≡ length cs
+length-plainly [] = refl
+length-plainly (c ∷ cs) = ap suc (length-plainly cs)
+
+take-plainly : (n : ℕ) (cs : List Sm4Cipher) → take n (plainly cs) ≡ plainly (take n cs)
+take-plainly zero cs = refl
+take-plainly (suc n) [] = refl
+take-plainly (suc n) (c ∷ cs) = ap (λ (l : List Sm4Cipher). unmarked c ∷ l) (take-plainly n cs)
+
+-- the key that a number names
+place-plainly : (n : ℕ) (cs : List Sm4Cipher) → placeOf n (plainly cs) ≡ placeOf n cs
+unfolding placeOf withEngine
+place-plainly n [] = refl
+place-plainly n (c ∷ cs) = ap (λ (i : ℕ). cond (eqb (keyNumber c) n) 0 (1 + i)) (place-plainly n cs)
+
+has-plainly : (n : ℕ) (cs : List Sm4Cipher) → hasNumber n (plainly cs) ≡ hasNumber n cs
+has-plainly n cs = ap₂ {C = Bool} ltb (place-plainly n cs) (length-plainly cs)
+
+at-plainly : (cs : List Sm4Cipher) (i : ℕ) → keyAt (plainly cs) i ≡ unmarked (keyAt cs i)
+unfolding withEngine
+at-plainly [] i = refl
+at-plainly (c ∷ cs) zero = refl
+at-plainly (c ∷ cs) (suc i) = at-plainly cs i
+
+named-plainly : (n : ℕ) (cs : List Sm4Cipher) → keyOf n (plainly cs) ≡ unmarked (keyOf n cs)
+named-plainly n cs = ap {B = Sm4Cipher} (keyAt (plainly cs)) (place-plainly n cs) ∙ at-plainly cs (placeOf n cs)
+
+-- what is bad of keys
+retired-plainly : (cs : List Sm4Cipher) → anyRetired (plainly cs) ≡ anyRetired cs
+unfolding anyRetired withEngine
+retired-plainly [] = refl
+retired-plainly (c ∷ cs) = ap {B = Bool} (λ (b : Bool). c .retired || b) (retired-plainly cs)
+
+twice-plainly : (cs : List Sm4Cipher) → numberTwice (plainly cs) ≡ numberTwice cs
+unfolding numberTwice withEngine
+twice-plainly [] = refl
+twice-plainly (c ∷ cs) = ap₂ {C = Bool} _||_ (has-plainly (keyNumber c) cs) (twice-plainly cs)
+
+-- a record made again
+again-plainly : (c : Sm4Cipher) (e : Entry) → recomputed (unmarked c) e ≡ recomputed c e
+unfolding callInto modeCall withEngine
+again-plainly c e = refl
+
+counted-plainly : (ks : List Sm4Cipher) (e : Entry) (place : ℕ) (r : Report)
+    → countedUnder (plainly ks) e place r ≡ countedUnder ks e place r
+counted-plainly ks e place r =
+    ap {B = Report} (λ (c : Sm4Cipher). counted e (judged e (recomputed c e)) place r) (named-plainly (e .key) ks)
+    ∙ rw (again-plainly (keyOf (e .key) ks) e)
+
+one-plainly : (ks : List Sm4Cipher) (b : List ℕ) (place : ℕ) (r : Report) → replayOne (plainly ks) b place r ≡ replayOne ks b place r
+unfolding replayOne
+one-plainly ks b place r = rw (has-plainly (front b .key) ks, counted-plainly ks (front b) place r)
+
+up-to-plainly : (n : ℕ) (ks : List Sm4Cipher) (b : List ℕ) (place : ℕ) (r : Report)
+    → replayUpTo n (plainly ks) b place r ≡ replayUpTo n ks b place r
+unfolding replayUpTo
+up-to-plainly zero ks b place r = refl
+up-to-plainly (suc n) ks b place r =
+    let next = up-to-plainly n ks (drop (sizeAt b) b) (place + sizeAt b) (replayOne ks b place r .report) in
+    rw (one-plainly ks b place r, next)
+
+replay-plainly : (count : ℕ) (cs : List Sm4Cipher) (journal : List ℕ)
+    → replay (record { count = count; keys = plainly cs }) journal ≡ replay (record { count = count; keys = cs }) journal
+unfolding replay badKeys
+replay-plainly count cs journal =
+    let ks = take count cs in
+    rw (
+      take-plainly count cs,
+      retired-plainly ks,
+      twice-plainly ks,
+      up-to-plainly (length journal) ks journal 0 nothing,
+    )
+
+-- a host's keys
+hosts-plainly : (ks : List LuossavinKey) → map cipherIn (map unmarkedHost ks) ≡ plainly (map cipherIn ks)
+hosts-plainly [] = refl
+hosts-plainly (k ∷ ks) = ap₂ {C = List Sm4Cipher} _∷_ (host-unmarked k) (hosts-plainly ks)
+
+unmarked-replay : (k : LuossavinKeys) (journal : List ℕ) → hostReplay (unmarkedKeys k) journal ≡ hostReplay k journal
+unfolding hostReplay keysOf
+unmarked-replay k journal =
+    ap toldOf
+    (ap {B = Replayed} (λ (cs : List Sm4Cipher). replay (record { count = k .count; keys = cs }) journal) (hosts-plainly (k .keys))
+    ∙ replay-plainly (k .count) (map cipherIn (k .keys)) journal)
+
+-- Keys that are alike but for their engines.
+pub engine-unseen-in-replay : (k l : LuossavinKeys) → unmarkedKeys k ≡ unmarkedKeys l → (journal : List ℕ)
+    → hostReplay k journal ≡ hostReplay l journal
+engine-unseen-in-replay k l alike journal =
+    sym (unmarked-replay k journal) ∙ ap (λ (x : LuossavinKeys). hostReplay x journal) alike ∙ unmarked-replay l journal

@@ -1,112 +1,27 @@
 -- Demand 1: every call ends with an answer. A refusal reports length 0 and leaves the output as it was lent; a success reports
--- the length of document 01's table and leaves what lies past it as it was lent. For all inputs.
--- Assumes nothing.
-use mathlib.Core.Path.{_≡_, refl, ap, _∙_}
-use mathlib.Core.Logic.{_⊎_, ⊎-elim}
-use mathlib.Core.Bool.{Bool, true, false, not, cond, _||_}
-use mathlib.Core.List.{List}
-use Prim.Native.Nat.{ℕ, _-_, _%_, _≤_, _<_}
-use native.Mathlib.Omega.{arith}
-use lib.Dec.{eqb, ltb}
-use lib.ListN.{length}
-use lib.Seq.{length-take-le}
-use borrow.Author.Tests.{eq-eqb, ne-eqb, lt-ltb, le-ltb}
-use Rattle.cipher.specs.Sm4.{roundKeys}
-use Rattle.walk.specs.Outcome.{written, done}
-use Rattle.walk.specs.Walk.{chain}
-use Rattle.stream.specs.Stream.{streamMode}
-use Rattle.stream.specs.declared.Kind.{Kind}
-use Rattle.stream.specs.declared.Kind.the-variants.{Ofb as Ofb·kind, Ctr as Ctr·kind}
+-- the length of the table of lengths and leaves what lies past it as it was lent. For all inputs.
+use Rattle.demands.specs.Names as N
+use N.{Bool, _||_, cond, false, not, true, List, _≢_, _⊎_, ⊎-elim, _∙_, _≡_, ap, refl, subst, sym, _-_, _<_, _≤_, ℕ, arith, eqb, ltb}
+use N.{length, take, length-take-le, eq-eqb, le-ltb, lt-ltb, ltb-false, ne-eqb, Head, done, refusal, written, chain, streamMode, Kind}
+use N.{Ctr·kind, Ofb·kind, cbcSeal, allPadding, cbcOpen, cbcText, cbcHead, lastByte, namesPadding, unpadded, Cbc·Done, InvalidLastU8}
+use N.{InvalidPadding, J0, hashKey, opensUnder, sealed, textOf, textPart, gcmOpen, gcmHead, settled, Gcm·Done, InvalidTag, refusalHead}
+use N.{blockCall, blockOf, cfbKind, lengthsOf, modeCall, modeResult, blockCheck, dataCheck, keyAndIv, keyCheck, labelCheck, messageCheck}
+use N.{wrongIv, keyNumber, newCipher, newCipherMode, wrongNumber, modeOf, roomOf, CipherMode, Cbc, Cfb, Ctr, Gcm, Ofb, Direction, Decrypt}
+use N.{Encrypt, Refusal, ErrorBlockSize, WrongNumber, Passed, Refused, ctrStart, opensStart, sealStart, gcmStarting, searchCheck, which}
+use N.{planCall, rangeCall, rangeCheck, reachCheck, callInto, hostBlockCall, hostModeCall, hostCtrStart, hostOpensStart, hostSealStart}
+use N.{cipherIn, hostKeyNew, keyAnswerOf, keyOf, hostCtrByPlan, hostCtrRange, hostWhich, LuossavinKey}
 use Rattle.stream.proofs.RoundTrip.{length-stream}
-use Rattle.cbc.specs.Cbc.{cbcSeal}
-use Rattle.cbc.specs.Open.{headOf as cbcHead, lastByte, namesPadding, allPadding, unpadded, cbcText, cbcOpen}
-use Rattle.cbc.specs.declared.Opened.the-variants.{Done as Cbc·Done, InvalidLastU8, InvalidPadding}
 use Rattle.cbc.proofs.Blocks.{length-decrypt}
 use Rattle.cbc.proofs.RoundTrip.{length-cbcSeal}
-use Rattle.gcm.specs.Gcm.{hashKey, J0, sealed, textPart, textOf, opensUnder}
-use Rattle.gcm.specs.Open.{headOf as gcmHead, settled, gcmOpen}
-use Rattle.gcm.specs.declared.Opened.the-variants.{Done as Gcm·Done, InvalidTag}
 use Rattle.gcm.proofs.Parts.{length-sealed, length-text}
-use Rattle.cipher_mode.specs.declared.CipherMode.{CipherMode}
-use Rattle.cipher_mode.specs.declared.CipherMode.the-variants.{Cfb, Ofb, Ctr, Cbc, Gcm}
-use Rattle.cipher_mode.specs.declared.Direction.{Direction}
-use Rattle.cipher_mode.specs.declared.Direction.the-variants.{Encrypt, Decrypt}
-use Rattle.cipher_mode.specs.declared.KeyAnswer.{KeyAnswer}
-use Rattle.cipher_mode.specs.declared.KeyAnswer.the-variants.{Key, ErrorBlockSize as NoKey, WrongNumber as NoNumber}
-use Rattle.cipher_mode.specs.declared.answer.Refusal.the-variants.{ErrorDataLen, TooLong, NoRoom}
-use Rattle.cipher_mode.specs.declared.answer.Refusal.the-variants.{EmptyCbc, ShortGcm, WrongIv, WrongBlock, Retired}
-use Rattle.cipher_mode.specs.declared.checks.Checked.the-variants.{Passed}
-use Rattle.cipher_mode.specs.declared.checks.Lengths.{Lengths}
-use Rattle.cipher_mode.specs.declared.Sm4Cipher.{Sm4Cipher}
-use Rattle.cipher_mode.specs.declared.Sm4CipherMode.{Sm4CipherMode}
-use Rattle.cipher_mode.specs.Key.{noCipher, wrongNumber, newCipher, keyNumber, newCipherMode}
-use Rattle.cipher_mode.specs.Tables.{limit, limitOf, roomOf, modeOf}
-use Rattle.cipher_mode.specs.Checks.{keyCheck, wrongIv, retiredCheck, keyAndIv, labelCheck, shapeCheck, dataCheck}
-use Rattle.cipher_mode.specs.Checks.{roomCheck, blockCheck, messageCheck}
-use Rattle.cipher_mode.specs.Calls.{blockOf, blockCall, cfbKind, modeResult, lengthsOf, modeCall}
 use Rattle.cipher_mode.proofs.Passed.{sixteen, message-passed, block-passed, whole-blocks-passed}
 use Rattle.cipher_mode.proofs.Ends.{length-block}
-use Rattle.luossavin.specs.declared.key.LuossavinKey.{LuossavinKey}
-use Rattle.luossavin.specs.Key.{cipherIn, hostKeyNew}
-use Rattle.luossavin.specs.Host.{modeIn, hostBlockCall, hostModeCall}
-use Rattle.demands.specs.CameRound.{roundOf}
 use Rattle.demands.specs.Answered.{oneOf, singleNumbers, Answered, KeyAnswered, lengthOf}
-use Rattle.demands.proofs.Answering.{refuses, does, writes, behind, Within, within-refuse, within-then, checks, told-length, on-key, reports}
-use Rattle.demands.proofs.Exported.{new-is-new}
-
--- the refusals of a call, by the numbers that it may answer
-module _ (numbers : List ℕ) where
-  pub key-within : oneOf 1 numbers ≡ true → oneOf 13 numbers ≡ true → (a : KeyAnswer) → Within numbers (keyCheck a)
-  key-within one thirteen Key = tt
-  key-within one thirteen NoKey = one
-  key-within one thirteen NoNumber = thirteen
-
-  pub retired-within : oneOf 14 numbers ≡ true → (dir : Direction) (retired : Bool) → Within numbers (retiredCheck dir retired)
-  retired-within fourteen Encrypt retired = within-refuse numbers retired Retired Passed fourteen tt
-  retired-within fourteen Decrypt retired = tt
-
-  pub key-and-iv-within : oneOf 1 numbers ≡ true → oneOf 13 numbers ≡ true → oneOf 10 numbers ≡ true → oneOf 14 numbers ≡ true
-      → (a : KeyAnswer) (retired : Bool) (dir : Direction) (m : CipherMode) (iv : ℕ) → Within numbers (keyAndIv a retired dir m iv)
-  unfolding keyAndIv
-  key-and-iv-within one thirteen ten fourteen a retired dir m iv =
-      within-then numbers (keyCheck a) _ (key-within one thirteen a)
-      (within-refuse numbers (wrongIv m iv) WrongIv _ ten (retired-within fourteen dir retired))
-
-  pub label-within : oneOf 5 numbers ≡ true → (m : CipherMode) (n : ℕ) → Within numbers (labelCheck m n)
-  label-within five Cfb n = tt
-  label-within five Ofb n = tt
-  label-within five Ctr n = tt
-  label-within five Cbc n = tt
-  label-within five Gcm n = within-refuse numbers (ltb limit n) TooLong Passed five tt
-
-block-within : (a : KeyAnswer) (retired : Bool) (dir : Direction) (n room : ℕ) → Within singleNumbers (blockCheck a retired dir n room)
-unfolding blockCheck
-block-within a retired dir n room =
-    within-then singleNumbers (keyCheck a) _ (key-within singleNumbers refl refl a)
-    (within-refuse singleNumbers (not (eqb n 16)) WrongBlock _ refl
-    (within-then singleNumbers (retiredCheck dir retired) _ (retired-within singleNumbers refl dir retired)
-    (within-refuse singleNumbers (ltb room 16) NoRoom Passed refl tt)))
-
-shape-within : (dir : Direction) (m : CipherMode) (n : ℕ) → Within singleNumbers (shapeCheck dir m n)
-shape-within Encrypt m n = tt
-shape-within Decrypt Cfb n = tt
-shape-within Decrypt Ofb n = tt
-shape-within Decrypt Ctr n = tt
-shape-within Decrypt Cbc n =
-    within-refuse singleNumbers (eqb n 0) EmptyCbc _ refl
-    (within-refuse singleNumbers (not (eqb (n % 16) 0)) ErrorDataLen Passed refl tt)
-shape-within Decrypt Gcm n = within-refuse singleNumbers (ltb n 16) (ShortGcm (16 - n)) Passed refl tt
-
-message-within : (a : KeyAnswer) (retired : Bool) (dir : Direction) (m : CipherMode) (n : Lengths)
-    → Within singleNumbers (messageCheck a retired dir m n)
-unfolding messageCheck dataCheck roomCheck
-message-within a retired dir m n =
-    within-then singleNumbers (keyAndIv a retired dir m (n .iv)) _
-    (key-and-iv-within singleNumbers refl refl refl refl a retired dir m (n .iv))
-    (within-then singleNumbers (labelCheck m (n .label)) _ (label-within singleNumbers refl m (n .label))
-    (within-then singleNumbers (dataCheck dir m (n .«data»)) _
-    (within-refuse singleNumbers (ltb (limitOf dir m) (n .«data»)) TooLong _ refl (shape-within dir m (n .«data»)))
-    (within-refuse singleNumbers (ltb (n .room) (roomOf m dir (n .«data»))) NoRoom Passed refl tt)))
+use Rattle.demands.proofs.Through.{new-is-new, other-mode}
+use Rattle.demands.specs.WhichNumber.{blockRows, encryptRows, decryptRows}
+use Rattle.demands.proofs.WhichNumber.{exported-block-number, exported-encryption-number, exported-decryption-number}
+use Rattle.demands.proofs.Answering.{numbered, within, Fair, answered, refused-fair, done-fair, checks-fair, front-fair, split}
+use Rattle.demands.specs.NoUsableKey.{NoUsableKey}
 
 -- where one of the two ends of the range is passed, the number is wrong
 out-of-range : (n : ℕ) → (n ≡ 0) ⊎ (65535 < n) → wrongNumber n ≡ true
@@ -126,15 +41,8 @@ new-cipher-answers key n =
           rw (eq-eqb (length key) 16 e, ne-eqb n 0 (λ z. omega arith), le-ltb 65535 n h) (refl, refl, refl);
       refused = λ e. rw (ne-eqb (length key) 16 e);
       out-of-range = λ e o. rw (eq-eqb (length key) 16 e, out-of-range n o);
-      fresh = fresh (not (eqb (length key) 16)) (wrongNumber n);
+      fresh = split _ (not (eqb (length key) 16)) (λ e. rw e) (λ e. split _ (wrongNumber n) (λ f. rw (e, f)) (λ f. rw (e, f)));
     }
-  where
-    fresh : (size range : Bool)
-        → cond size (noCipher NoKey)
-        (cond range (noCipher NoNumber) (record { rk = roundKeys key; answer = Key; number = n; retired = false; engine = 0 })) .retired ≡ false
-    fresh true range = refl
-    fresh false true = refl
-    fresh false false = refl
 
 -- Setting up a key with a mode answers the same, and so does a host's.
 pub new-cipher-mode-answers : (key : List ℕ) (n : ℕ) (mode : CipherMode) → KeyAnswered key n (newCipherMode key n mode .cipher)
@@ -144,83 +52,156 @@ new-cipher-mode-answers key n mode = new-cipher-answers key n
 pub exported-new-answers : (key : List ℕ) (n : ℕ) → KeyAnswered key n (cipherIn (hostKeyNew key n))
 exported-new-answers key n = rw (new-is-new key n) (new-cipher-answers key n)
 
--- One block, either way: a refusal, or a success of 16 bytes.
-pub block-answers : (dir : Direction) (c : Sm4Cipher) (b o : List ℕ) → Answered singleNumbers (keyNumber c) o 16 (blockCall dir c b o)
-unfolding blockCall
-block-answers dir c b o =
-    on-key singleNumbers (keyNumber c) 16 o _
-    (checks singleNumbers (blockCheck (c .answer) (c .retired) dir (length b) (length o)) 16 o (done (blockOf dir (c .rk) b) o)
-    (block-within (c .answer) (c .retired) dir (length b) (length o)) (λ e.
-    does singleNumbers (blockOf dir (c .rk) b) o 16 refl (length-block dir (c .rk) b) (block-passed _ _ _ _ _ e .enough)))
+-- The exported call on one block, either way: a refusal, or a success of 16 bytes.
+pub block-answers : (dir : Direction) (k : LuossavinKey) (b o : List ℕ)
+    → Answered singleNumbers (keyNumber (cipherIn k)) o 16 (hostBlockCall dir k b o)
+unfolding hostBlockCall blockCall
+block-answers dir k b o =
+    let c = cipherIn k in
+    answered o 16 singleNumbers _ _ (numbered (blockRows dir k b o) singleNumbers _ (known dir) (exported-block-number dir k b o)) refl
+    (checks-fair o 16 (blockCheck (c .answer) (c .retired) dir (length b) (length o)) (done (blockOf dir (c .rk) b) o) (λ e.
+    done-fair o 16 (blockOf dir (c .rk) b) _ refl (length-block dir (c .rk) b) (length-room dir e)))
+  where
+    known : (dir : Direction) → within (blockRows dir k b o) singleNumbers ≡ true
+    known Encrypt = refl
+    known Decrypt = refl
 
-stream-answers : (k : Kind) (rk iv d o : List ℕ) → length d ≤ length o → Answered singleNumbers 0 o (length d) (done (chain (streamMode k rk) iv d) o)
-stream-answers k rk iv d o r = does singleNumbers (chain (streamMode k rk) iv d) o (length d) refl (length-stream k rk iv d) r
+    length-room : (dir : Direction) → blockCheck (cipherIn k .answer) (cipherIn k .retired) dir (length b) (length o) ≡ Passed
+        → length (blockOf dir (cipherIn k .rk) b) ≤ length o
+    length-room dir e = rw (length-block dir (cipherIn k .rk) b) (block-passed _ _ _ _ _ e .enough)
+
+stream-fair : (k : Kind) (rk iv d o : List ℕ) → length d ≤ length o
+    → let x = done (chain (streamMode k rk) iv d) o in Fair o (length d) (x .head) (x .bytes)
+stream-fair k rk iv d o r =
+    let e = length-stream k rk iv d in
+    done-fair o (length d) (chain (streamMode k rk) iv d) _ refl e (omega arith)
 
 -- opening in Cbc and in Gcm, by the tests that decide
-cbc-by : (p o : List ℕ) (b : ℕ) (none bad : Bool) → length p ≤ length o
-    → Answered singleNumbers 0 o (length p - b)
-    (written (cbcHead (cond none InvalidLastU8 (cond bad InvalidPadding (Cbc·Done (length p - b))))) p o)
-cbc-by p o b true bad r = refuses singleNumbers 3 (length p - b) o (omega arith) refl
-cbc-by p o b false true r = refuses singleNumbers 15 (length p - b) o (omega arith) refl
-cbc-by p o b false false r = writes singleNumbers p o (length p - b) refl (omega arith) (omega arith)
+cbc-fair : (p o : List ℕ) (n : ℕ) (none bad : Bool) → n ≤ length p → n ≤ length o
+    → let x = written (cbcHead (cond none InvalidLastU8 (cond bad InvalidPadding (Cbc·Done n)))) p o in Fair o n (x .head) (x .bytes)
+cbc-fair p o n true bad h r = refused-fair o n 3 (omega arith)
+cbc-fair p o n false true h r = refused-fair o n 15 (omega arith)
+cbc-fair p o n false false h r = done-fair o n (take n p) n (length-take-le n p h) refl r
 
-gcm-by : (p o : List ℕ) (n : ℕ) (t : Bool) → n ≤ length p → n ≤ length o
-    → Answered singleNumbers 0 o n (written (gcmHead (cond t (Gcm·Done n) InvalidTag)) p o)
-gcm-by p o n true h r = writes singleNumbers p o n refl h r
-gcm-by p o n false h r = refuses singleNumbers 4 n o (omega arith) refl
+gcm-fair : (p o : List ℕ) (n : ℕ) (t : Bool) → n ≤ length p → n ≤ length o
+    → let x = written (gcmHead (cond t (Gcm·Done n) InvalidTag)) p o in Fair o n (x .head) (x .bytes)
+gcm-fair p o n true h r = done-fair o n (take n p) n (length-take-le n p h) refl r
+gcm-fair p o n false h r = refused-fair o n 4 (omega arith)
 
-cbc-answers : (rk iv d o : List ℕ) → length iv ≡ 16 → dataCheck Decrypt Cbc (length d) ≡ Passed → length d ≤ length o
-    → Answered singleNumbers 0 o (length d - lastByte (cbcText rk iv d)) (cbcOpen rk iv d o)
-unfolding cbcOpen unpadded
-cbc-answers rk iv d o n e r =
+result-fair : (m : CipherMode) (dir : Direction) (rk aad d iv o : List ℕ) → wrongIv m (length iv) ≡ false
+    → dataCheck dir m (length d) ≡ Passed → roomOf m dir (length d) ≤ length o
+    → let x = modeResult m dir rk aad d iv o in Fair o (lengthOf m dir rk iv d) (x .head) (x .bytes)
+unfolding cbcOpen unpadded gcmOpen settled
+result-fair Cfb dir rk aad d iv o n e r = stream-fair (cfbKind dir) rk iv d o r
+result-fair Ofb dir rk aad d iv o n e r = stream-fair Ofb·kind rk iv d o r
+result-fair Ctr dir rk aad d iv o n e r = stream-fair Ctr·kind rk iv d o r
+result-fair Cbc Encrypt rk aad d iv o n e r =
+    let l = length-cbcSeal rk iv d in
+    done-fair o _ (cbcSeal rk iv d) _ refl l (omega arith)
+result-fair Cbc Decrypt rk aad d iv o n e r =
     let p = cbcText rk iv d in
-    let l : length p ≡ length d = length-decrypt rk iv d n (whole-blocks-passed (length d) e .1) in
-    told-length singleNumbers _ _ o _ (λ _. ap (λ (k : ℕ). k - lastByte p) l)
-    (cbc-by p o (lastByte p) (not (namesPadding (lastByte p))) (not (allPadding p)) (omega arith))
+    let l = length-decrypt rk iv d (sixteen (length iv) n) (whole-blocks-passed (length d) e .1) in
+    rw (← l) (cbc-fair p o (length p - lastByte p) (not (namesPadding (lastByte p))) (not (allPadding p)) (omega arith) (omega arith))
+result-fair Gcm Encrypt rk aad d iv o n e r =
+    let l = length-sealed rk (hashKey rk) (J0 rk iv) aad d in
+    done-fair o _ (sealed rk (hashKey rk) (J0 rk iv) aad d) _ refl l (omega arith)
+result-fair Gcm Decrypt rk aad d iv o n e r =
+    let l = length-text rk (J0 rk iv) (textPart d) ∙ length-take-le (length d - 16) d (omega arith) in
+    gcm-fair (textOf rk (J0 rk iv) (textPart d)) o (length d - 16) (opensUnder rk (hashKey rk) (J0 rk iv) aad d) (omega arith) r
 
-gcm-answers : (rk : List ℕ) (h : ℕ) (j aad d o : List ℕ) → length d - 16 ≤ length o → Answered singleNumbers 0 o (length d - 16) (gcmOpen rk h j aad d o)
-unfolding gcmOpen settled
-gcm-answers rk h j aad d o r =
-    let n = length-text rk j (textPart d) ∙ length-take-le (length d - 16) d (omega arith) in
-    gcm-by (textOf rk j (textPart d)) o (length d - 16) (opensUnder rk h j aad d) (omega arith) r
+message-numbered : (dir : Direction) (mode : ℕ) (k : LuossavinKey) (label d iv o : List ℕ)
+    → oneOf (hostModeCall dir mode k label d iv o .head .number) singleNumbers ≡ true
+message-numbered Encrypt mode k label d iv o =
+    numbered (encryptRows mode k label d iv o) singleNumbers _ refl (exported-encryption-number mode k label d iv o)
+message-numbered Decrypt mode k label d iv o =
+    numbered (decryptRows mode k label d iv o) singleNumbers _ refl (exported-decryption-number mode k label d iv o)
 
-result-answers : (m : CipherMode) (dir : Direction) (rk aad d iv o : List ℕ) → wrongIv m (length iv) ≡ false
-    → dataCheck dir m (length d) ≡ Passed → roomOf m dir (length d) ≤ length o → Answered singleNumbers 0 o (lengthOf m dir rk iv d) (modeResult m dir rk aad d iv o)
-result-answers Cfb dir rk aad d iv o n e r = stream-answers (cfbKind dir) rk iv d o r
-result-answers Ofb dir rk aad d iv o n e r = stream-answers Ofb·kind rk iv d o r
-result-answers Ctr dir rk aad d iv o n e r =
-    reports singleNumbers (roundOf Ctr dir rk iv (length d)) 0 _ o _ (stream-answers Ctr·kind rk iv d o r)
-result-answers Cbc Encrypt rk aad d iv o n e r = does singleNumbers (cbcSeal rk iv d) o _ refl (length-cbcSeal rk iv d) r
-result-answers Cbc Decrypt rk aad d iv o n e r = cbc-answers rk iv d o (sixteen (length iv) n) e r
-result-answers Gcm Encrypt rk aad d iv o n e r =
-    reports singleNumbers (roundOf Gcm Encrypt rk iv (length d)) 0 _ o _
-    (does singleNumbers (sealed rk (hashKey rk) (J0 rk iv) aad d) o _ refl (length-sealed rk (hashKey rk) (J0 rk iv) aad d) r)
-result-answers Gcm Decrypt rk aad d iv o n e r =
-    reports singleNumbers (roundOf Gcm Decrypt rk iv (length d)) 0 _ o _ (gcm-answers rk (hashKey rk) (J0 rk iv) aad d o r)
-
--- A message, either way: a refusal, or a success of as many bytes as the table says.
-pub message-answers : (dir : Direction) (m : Sm4CipherMode) (label d iv o : List ℕ)
-    → Answered singleNumbers (keyNumber (m .cipher)) o (lengthOf (m .mode) dir (m .cipher .rk) iv d) (modeCall dir m label d iv o)
-unfolding modeCall
-message-answers dir m label d iv o =
-    let c = m .cipher in
-    on-key singleNumbers (keyNumber c) _ o _
-    (checks singleNumbers (messageCheck (c .answer) (c .retired) dir (m .mode) (lengthsOf label d iv o)) _ o
-    (modeResult (m .mode) dir (c .rk) label d iv o)
-    (message-within (c .answer) (c .retired) dir (m .mode) (lengthsOf label d iv o)) (λ e.
-    let p = message-passed _ _ _ _ _ e in
-    result-answers (m .mode) dir (c .rk) label d iv o (p .iv-size) (p .content) (p .room)))
-
--- The exported call on one block, either way: a refusal, or a success of 16 bytes.
-pub exported-block-answers : (dir : Direction) (k : LuossavinKey) (b o : List ℕ)
-    → Answered singleNumbers (keyNumber (cipherIn k)) o 16 (hostBlockCall dir k b o)
-unfolding hostBlockCall
-exported-block-answers dir k b o = block-answers dir (cipherIn k) b o
-
--- The exported call on a message, either way: the same as above, a mode number over 4 being one refusal more, before any key stands.
-pub exported-message-answers : (dir : Direction) (mode : ℕ) (k : LuossavinKey) (label d iv o : List ℕ)
+-- The exported call on a message, either way: a refusal, or a success of as many bytes as the table says; a mode number over 4 is one
+-- refusal more, before any key stands.
+pub message-answers : (dir : Direction) (mode : ℕ) (k : LuossavinKey) (label d iv o : List ℕ)
     → Answered singleNumbers (cond (ltb 4 mode) 0 (keyNumber (cipherIn k))) o (lengthOf (modeOf mode) dir (k .«round_keys») iv d)
     (hostModeCall dir mode k label d iv o)
-unfolding hostModeCall cipherIn
-exported-message-answers dir mode k label d iv o =
-    behind singleNumbers (ltb 4 mode) 7 _ _ o _ (omega arith) refl (message-answers dir (modeIn k mode) label d iv o)
+unfolding hostModeCall modeCall cipherIn
+message-answers dir mode k label d iv o =
+    let c = cipherIn k in
+    let m = modeOf mode in
+    let n = lengthOf m dir (k .«round_keys») iv d in
+    let check = messageCheck (c .answer) (c .retired) dir m (lengthsOf label d iv o) in
+    let next = modeResult m dir (c .rk) label d iv o in
+    answered o n singleNumbers _ _ (message-numbered dir mode k label d iv o) (split _ (ltb 4 mode) (λ e. rw e) (λ e. rw e))
+    (front-fair o n (ltb 4 mode) 7 _ (omega arith) (λ _.
+    checks-fair o n check next (λ e.
+    let p = message-passed _ _ _ _ _ e in
+    result-fair m dir (c .rk) label d iv o (p .iv-size) (p .content) (p .room))))
+
+-- Demand 1, of keys: a key that was refused is no usable key.
+
+-- by what the check of the key says
+module _ (k : LuossavinKey) (n : ℕ) (r : Refusal) (check : keyCheck (cipherIn k .answer) ≡ Refused r) (head : refusalHead r ≡ refusal n)
+    (none : keyNumber (cipherIn k) ≡ 0) where
+  turned-away : NoUsableKey n k
+  unfolding hostBlockCall blockCall blockCheck hostModeCall modeCall messageCheck keyAndIv hostCtrStart ctrStart hostSealStart sealStart
+      gcmStarting hostOpensStart opensStart hostWhich which searchCheck hostCtrRange rangeCall rangeCheck reachCheck hostCtrByPlan planCall
+      callInto
+  turned-away =
+      record {
+        block = λ dir b o. rw (check, head, none);
+        message = λ dir mode h label d iv o. rw (le-ltb 4 mode h, check, head, none);
+        ctr = λ decrypt iv. rw (check, head, none);
+        sealing = λ label iv. rw (check, head, none);
+        opening = λ label iv. rw (check, head, none);
+        which = λ file iv labels lengths good. rw (good, check, head, none);
+        range = λ decrypt iv offset d o. rw (check, head, none);
+        by-plan = λ decrypt iv plan d o. rw (check, head, none);
+        replay = λ keys e named h. rw (le-ltb 4 (e .mode) h, named, check, head, none);
+      }
+
+-- Whatever else a host's record holds: where its answer is not 0, every call on it answers 13 if that is 13, and otherwise 1.
+pub no-usable-key : (k : LuossavinKey) → k .answer ≢ 0 → NoUsableKey (cond (eqb (k .answer) 13) 13 1) k
+unfolding cipherIn keyAnswerOf
+no-usable-key k n =
+    let some = ne-eqb (k .answer) 0 n in
+    split _ (eqb (k .answer) 13) (λ e. rw e (turned-away k 13 WrongNumber (rw (some, e)) refl (rw (some, e))))
+    (λ e. rw e (turned-away k 1 ErrorBlockSize (rw (some, e)) refl (rw (some, e))))
+
+-- what set-up answered is what every call answers
+refused-set-up : (key : List ℕ) (number n : ℕ) → hostKeyNew key number .answer ≡ n → n ≢ 0 → cond (eqb n 13) 13 1 ≡ n
+    → NoUsableKey n (hostKeyNew key number)
+refused-set-up key number n e some same =
+    subst (λ (m : ℕ). NoUsableKey m (hostKeyNew key number)) (ap (λ (a : ℕ). cond (eqb a 13) 13 1) e ∙ same)
+    (no-usable-key (hostKeyNew key number) (λ z. some (sym e ∙ z)))
+
+-- A key that is not 16 bytes gives a record on which every call answers 1.
+pub wrong-size-key-unusable : (key : List ℕ) (n : ℕ) → length key ≢ 16 → NoUsableKey 1 (hostKeyNew key n)
+unfolding hostKeyNew keyOf
+wrong-size-key-unusable key n s =
+    refused-set-up key n 1 (ap (λ (h : Head). h .number) (new-cipher-answers key n .refused s)) (λ z. omega arith) refl
+
+-- A number out of range, 13.
+pub wrong-number-unusable : (key : List ℕ) (n : ℕ) → length key ≡ 16 → (n ≡ 0) ⊎ (65535 < n) → NoUsableKey 13 (hostKeyNew key n)
+unfolding hostKeyNew keyOf
+wrong-number-unusable key n s r =
+    refused-set-up key n 13 (ap (λ (h : Head). h .number) (new-cipher-answers key n .out-of-range s r)) (λ z. omega arith) refl
+
+-- Demand 1, of labels: outside Gcm two calls that differ only in the label have the same outcome, however long it is.
+
+-- the two places where a call looks at the label
+record Ignored (m : CipherMode) (dir : Direction) (a₁ a₂ rk d iv o : List ℕ) : Type 0 where
+  checks : labelCheck m (length a₁) ≡ labelCheck m (length a₂)
+  works : modeResult m dir rk a₁ d iv o ≡ modeResult m dir rk a₂ d iv o
+
+ignored : (m : CipherMode) → m ≢ Gcm → (dir : Direction) (a₁ a₂ rk d iv o : List ℕ) → Ignored m dir a₁ a₂ rk d iv o
+ignored Cfb n dir a₁ a₂ rk d iv o = record { checks = refl; works = refl }
+ignored Ofb n dir a₁ a₂ rk d iv o = record { checks = refl; works = refl }
+ignored Ctr n dir a₁ a₂ rk d iv o = record { checks = refl; works = refl }
+ignored Cbc n dir a₁ a₂ rk d iv o = record { checks = refl; works = refl }
+ignored Gcm n dir a₁ a₂ rk d iv o = absurd (n refl)
+
+-- The exported call of every mode number but 4, either way, has the same outcome under any two labels.
+pub label-ignored : (dir : Direction) (mode : ℕ) → mode ≢ 4 → (k : LuossavinKey) (a₁ a₂ d iv o : List ℕ)
+    → hostModeCall dir mode k a₁ d iv o ≡ hostModeCall dir mode k a₂ d iv o
+unfolding hostModeCall modeCall messageCheck
+label-ignored dir mode n k a₁ a₂ d iv o =
+    split _ (ltb 4 mode) (λ b. rw b) (λ b.
+    let i = ignored (modeOf mode) (other-mode mode Gcm (ltb-false 4 mode b) n) dir a₁ a₂ (cipherIn k .rk) d iv o in
+    rw (i .checks, i .works))

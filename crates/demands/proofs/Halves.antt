@@ -1,73 +1,48 @@
 -- Hashes of halves, joined: over the exported calls they are the hash of the whole, and with two encrypted blocks they make the tag that
 -- the single call makes.
--- Assumes nothing.
-use mathlib.Core.Path.{_≡_, refl, sym, ap, ap₂, _∙_}
-use mathlib.Core.Logic.{⊎-elim}
-use mathlib.Core.Bool.{false, cond}
-use mathlib.Core.List.{List, [], _∷_, _++_, append-assoc}
-use Prim.Native.Nat.{ℕ, _+_, _*_, _/_}
-use native.Mathlib.Nat.{div-add-mod'}
-use native.Mathlib.Omega.{arith}
-use lib.Dec.{lit<, eqb}
-use lib.ListN.{length, length-append, replicate}
-use borrow.Author.Tests.{eq-eqb}
-use Rattle.block.specs.BigEndian.{numberOf, bytesOf}
-use Rattle.block.specs.Xor.{xors}
+use Rattle.demands.specs.Names as N
+use N.{cond, false, List, [], _++_, _∷_, append-assoc, ⊎-elim, _∙_, _≡_, ap, ap₂, refl, sym, _*_, _+_, _/_, ℕ, div-add-mod', arith, eqb}
+use N.{length, length-append, replicate, eq-eqb, bytesOf, numberOf, xors, Element, encryptBlock, authBlocks, blockCount, blocks, ghash}
+use N.{lengthBlock, joined, J0, firstCounter, hashKey, hashedCounter, sealed, tagOf, tagPart, textOf, textPart, retiredCheck, wrongIv}
+use N.{modeOf, Gcm, Encrypt, Key, Passed, value, hashOf, hostHashBlocks, hostHashJoin, hostBlockCall, hostModeCall, cipherIn}
+use N.{U128, LuossavinKey}
 use Rattle.block.proofs.Convert.{length-bytesOf}
-use Rattle.cipher.specs.Sm4.{encryptBlock}
-use Rattle.field.specs.Field.{Element}
 use Rattle.field.proofs.Bounded.{whole-lt}
-use Rattle.ghash.specs.Ghash.{blockCount, blocks, lengthBlock, authBlocks, ghash}
-use Rattle.ghash.specs.Joined.{joined}
 use Rattle.ghash.proofs.Blocks.{blocks-full, blocks-append, length-blocks}
 use Rattle.ghash.proofs.JoinedBytes.{joins, joins-bytes}
-use Rattle.gcm.specs.Gcm.{hashKey, hashedCounter, firstCounter, J0, textOf, tagOf, sealed, textPart, tagPart}
 use Rattle.gcm.proofs.HashKey.{hashKey-lt}
 use Rattle.gcm.proofs.Parts.{parts-text, parts-tag, sealed-text, sealed-tag}
-use Rattle.cipher_mode.specs.declared.KeyAnswer.the-variants.{Key}
-use Rattle.cipher_mode.specs.declared.CipherMode.the-variants.{Gcm}
-use Rattle.cipher_mode.specs.declared.Direction.the-variants.{Encrypt}
-use Rattle.cipher_mode.specs.declared.Sm4Cipher.{Sm4Cipher}
-use Rattle.cipher_mode.specs.declared.checks.Checked.the-variants.{Passed}
-use Rattle.cipher_mode.specs.Tables.{modeOf}
-use Rattle.cipher_mode.specs.Checks.{wrongIv, retiredCheck}
-use Rattle.cipher_mode.specs.Calls.{modeCall}
 use Rattle.cipher_mode.proofs.Passed.{iv-twelve-or-sixteen}
-use Rattle.luossavin.specs.declared.halves.LuossavinHash.{LuossavinHash}
-use Rattle.luossavin.specs.declared.key.LuossavinKey.{LuossavinKey}
-use Rattle.luossavin.specs.Key.{cipherIn}
-use Rattle.luossavin.specs.Halves.{hashIn, hashOf, hostHashBlocks, hostHashJoin}
-use Rattle.luossavin.specs.Host.{hostBlockCall, hostModeCall}
 use Rattle.demands.specs.Call.{inGcm, result}
-use Rattle.demands.specs.Halves.{IsValue, WholeBlocks, JoinsHalves, enciphered, keyOfHash, bytesIn, pair}
-use Rattle.demands.specs.Halves.{counterOf, hashOfAll, tagOfHalves, TagsByHalves}
-use Rattle.demands.specs.TwelveBytes.{followedBy}
-use Rattle.demands.proofs.TwelveBytes.{length-counter}
+use Rattle.demands.specs.Halves.{WholeBlocks, JoinsHalves, enciphered, keyOfHash, bytesIn, pair, counterOf, hashOfAll, tagOfHalves}
+use Rattle.demands.specs.Halves.{TagsByHalves}
+use Rattle.demands.specs.CameRound.{followedBy}
+use Rattle.demands.proofs.CameRound.{length-counter}
 use Rattle.demands.proofs.Through.{result-of-done, through, leaves, block-leaves}
 
 -- a value that a number is is that number
-value-back : (n : ℕ) → hashIn (hashOf n) ≡ n
+value-back : (n : ℕ) → value (hashOf n) ≡ n
 value-back n = div-add-mod' n _
 
 -- the exported calls on the values of numbers
 blocks-of : (h : ℕ) (bs : List ℕ) → hostHashBlocks (hashOf h) bs ≡ hashOf (ghash h (blocks bs))
 unfolding hostHashBlocks
-blocks-of h bs = ap {B = LuossavinHash} (λ (k : ℕ). hashOf (ghash k (blocks bs))) (value-back h)
+blocks-of h bs = ap {B = U128} (λ (k : ℕ). hashOf (ghash k (blocks bs))) (value-back h)
 
 join-of : (h x y n : ℕ) → hostHashJoin (hashOf h) (hashOf x) (hashOf y) n ≡ hashOf (joined h x y n)
 unfolding hostHashJoin
 join-of h x y n =
-    ap {B = LuossavinHash} (λ (k : ℕ). hashOf (joined k (hashIn (hashOf x)) (hashIn (hashOf y)) n)) (value-back h)
-    ∙ ap₂ {C = LuossavinHash} (λ (u v : ℕ). hashOf (joined h u v n)) (value-back x) (value-back y)
+    ap {B = U128} (λ (k : ℕ). hashOf (joined k (value (hashOf x)) (value (hashOf y)) n)) (value-back h)
+    ∙ ap₂ {C = U128} (λ (u v : ℕ). hashOf (joined h u v n)) (value-back x) (value-back y)
 
 -- Where the first half is whole blocks, the halves' hashes joined are the hash of both.
 pub joined-halves : JoinsHalves hostHashBlocks hostHashJoin
 unfolding hostHashBlocks hostHashJoin
 joined-halves h v a b whole =
-    let k = hashIn h in
-    ap₂ {C = LuossavinHash} (λ (x y : ℕ). hashOf (joined k x y (blockCount (length b))))
+    let k = value h in
+    ap₂ {C = U128} (λ (x y : ℕ). hashOf (joined k x y (blockCount (length b))))
     (value-back (ghash k (blocks a))) (value-back (ghash k (blocks b)))
-    ∙ ap {B = LuossavinHash} hashOf (joins-bytes k (whole-lt (h .high) (h .low) (v .high) (v .low)) (length a / 16) a b (omega arith))
+    ∙ ap {B = U128} hashOf (joins-bytes k (whole-lt (h .high) (h .low) (v .high) (v .low)) (length a / 16) a b (omega arith))
 
 length-pair : (a b : ℕ) → length (pair a b) ≡ 16
 length-pair a b = length-append (bytesOf 8 a) (bytesOf 8 b) ∙ ap₂ _+_ (length-bytesOf 8 a) (length-bytesOf 8 b)
@@ -76,54 +51,26 @@ pair-block : (m n : ℕ) → blocks (pair (8 * m) (8 * n)) ≡ lengthBlock m n �
 unfolding lengthBlock
 pair-block m n = blocks-full (pair (8 * m) (8 * n)) (length-pair (8 * m) (8 * n))
 
--- under the value of an element: one more half behind blocks that are hashed
+-- under the value of an element
 module _ (h : ℕ) (element : Element h) where
-  one-more : (xs b : List ℕ) → hostHashJoin (hashOf h) (hashOf (ghash h xs)) (hostHashBlocks (hashOf h) b) (blockCount (length b))
-      ≡ hashOf (ghash h (xs ++ blocks b))
-  one-more xs b =
-      ap₂ {C = LuossavinHash} (hostHashJoin (hashOf h) (hashOf (ghash h xs))) (blocks-of h b) (sym (length-blocks b))
-      ∙ join-of h (ghash h xs) (ghash h (blocks b)) (length (blocks b))
-      ∙ ap {B = LuossavinHash} hashOf (joins h element xs (blocks b))
+  -- one more half behind blocks that are hashed, and one more block
+  joins-half : (xs b : List ℕ) → joined h (ghash h xs) (ghash h (blocks b)) (blockCount (length b)) ≡ ghash h (xs ++ blocks b)
+  joins-half xs b = ap (joined h (ghash h xs) (ghash h (blocks b))) (sym (length-blocks b)) ∙ joins h element xs (blocks b)
+
+  joins-block : (xs : List ℕ) (y : ℕ) → joined h (ghash h xs) (ghash h (y ∷ [])) 1 ≡ ghash h (xs ++ (y ∷ []))
+  joins-block xs y = joins h element xs (y ∷ [])
 
   -- label, halves and lengths
   all-joined : (label a b : List ℕ) → WholeBlocks a → hashOfAll (hashOf h) label a b ≡ hashOf (ghash h (authBlocks label (a ++ b)))
   unfolding authBlocks
   all-joined label a b whole =
-      let H = hashOf h in
-      let lengths = pair (8 * length label) (8 * (length a + length b)) in
-      let end = lengthBlock (length label) (length a + length b) ∷ [] in
-      let join = hostHashJoin H in
-      let hash = hostHashBlocks H in
-      let first : join (hash label) (hash a) (blockCount (length a)) ≡ hashOf (ghash h (blocks label ++ blocks a)) =
-      ap {B = LuossavinHash} (λ (x : LuossavinHash). join x (hash a) (blockCount (length a))) (blocks-of h label)
-      ∙ one-more (blocks label) a in
-      let both : join (hashOf (ghash h (blocks label ++ blocks a))) (hash b) (blockCount (length b))
-      ≡ hashOf (ghash h (blocks label ++ blocks (a ++ b))) =
-      one-more (blocks label ++ blocks a) b
-      ∙ ap {B = LuossavinHash} (λ (l : List ℕ). hashOf (ghash h l))
-      (append-assoc (blocks label) (blocks a) (blocks b) ∙ ap (λ (l : List ℕ). blocks label ++ l) (sym (blocks-append (length a / 16) a b (omega arith)))) in
-      let last : join (hashOf (ghash h (blocks label ++ blocks (a ++ b)))) (hash lengths) 1
-      ≡ hashOf (ghash h ((blocks label ++ blocks (a ++ b)) ++ end)) =
-      ap {B = LuossavinHash} (λ (n : ℕ). join (hashOf (ghash h (blocks label ++ blocks (a ++ b)))) (hash lengths) (blockCount n))
-      (sym (length-pair (8 * length label) (8 * (length a + length b))))
-      ∙ one-more (blocks label ++ blocks (a ++ b)) lengths
-      ∙ ap {B = LuossavinHash} (λ (l : List ℕ). hashOf (ghash h ((blocks label ++ blocks (a ++ b)) ++ l)))
-      (pair-block (length label) (length a + length b)) in
-      ap {B = LuossavinHash} (λ (x : LuossavinHash). join (join x (hash b) (blockCount (length b))) (hash lengths) 1) first
-      ∙ ap {B = LuossavinHash} (λ (x : LuossavinHash). join x (hash lengths) 1) both
-      ∙ last
-      ∙ ap {B = LuossavinHash} (λ (l : List ℕ). hashOf (ghash h l)) (append-assoc (blocks label) (blocks (a ++ b)) end)
-      ∙ ap {B = LuossavinHash} (λ (n : ℕ). hashOf (ghash h (blocks label ++ (blocks (a ++ b) ++ (lengthBlock (length label) n ∷ [])))))
-      (sym (length-append a b))
+      let cut = blocks-append (length a / 16) a b (omega arith) in
+      simp (blocks-of h, join-of h, joins-half, pair-block, joins-block, append-assoc, cut, length-append)
 
   hashed-counter : (iv : List ℕ) → length iv ≡ 16 → bytesIn (hostHashBlocks (hashOf h) (iv ++ pair 0 128)) ≡ hashedCounter h iv
   hashed-counter iv n =
       let number : lengthBlock 0 16 ≡ 128 = unfold lengthBlock numberOf bytesOf in refl in
-      ap bytesIn (blocks-of h (iv ++ pair 0 128))
-      ∙ ap (bytesOf 16) (value-back (ghash h (blocks (iv ++ pair 0 128))))
-      ∙ ap (λ (l : List ℕ). bytesOf 16 (ghash h l))
-      (blocks-append 1 iv (pair 0 128) n
-      ∙ ap₂ _++_ (blocks-full iv n) (pair-block 0 16 ∙ ap (λ (x : ℕ). x ∷ []) number))
+      rw (blocks-of h (iv ++ pair 0 128), value-back, blocks-append 1 iv (pair 0 128) n, blocks-full iv n, pair-block 0 16, number)
 
   counter-is : (iv : List ℕ) → wrongIv Gcm (length iv) ≡ false → counterOf (hashOf h) iv ≡ firstCounter h iv
   unfolding firstCounter
@@ -144,7 +91,7 @@ module _ (k : LuossavinKey) (usable : cipherIn k .answer ≡ Key) (may : retired
 
   key-is : keyOfHash k ≡ hashOf (hashKey (cipherIn k .rk))
   unfolding hashKey
-  key-is = ap {B = LuossavinHash} (λ (b : List ℕ). hashOf (numberOf b)) (enciphers (replicate 16 0) refl)
+  key-is = ap {B = U128} (λ (b : List ℕ). hashOf (numberOf b)) (enciphers (replicate 16 0) refl)
 
   tag-is : (label iv a b : List ℕ) → wrongIv Gcm (length iv) ≡ false → WholeBlocks a
       → let rk = cipherIn k .rk in tagOfHalves k label iv a b ≡ tagOf rk (hashKey rk) (J0 rk iv) label (a ++ b)
@@ -152,9 +99,10 @@ module _ (k : LuossavinKey) (usable : cipherIn k .answer ≡ Key) (may : retired
   tag-is label iv a b e whole =
       let rk = cipherIn k .rk in
       let h = hashKey rk in
-      let counter = ap (λ (x : LuossavinHash). counterOf x iv) key-is ∙ counter-is h (hashKey-lt rk) iv e in
+      let counter = ap (λ (x : U128). counterOf x iv) key-is ∙ counter-is h (hashKey-lt rk) iv e in
       let mask = ap (enciphered k) counter ∙ enciphers (J0 rk iv) (length-counter h iv) in
-      let all = ap {B = LuossavinHash} (λ (x : LuossavinHash). hashOfAll x label a b) key-is ∙ all-joined h (hashKey-lt rk) label a b whole in
+      let all = ap {B = U128} (λ (x : U128). hashOfAll x label a b) key-is
+      ∙ all-joined h (hashKey-lt rk) label a b whole in
       ap₂ xors mask (ap bytesIn all ∙ ap (bytesOf 16) (value-back (ghash h (authBlocks label (a ++ b)))))
 
 -- Where sealing answers 0, the hashes of label, halves and lengths, joined by the exported calls alone, make its tag.

@@ -1,36 +1,17 @@
 -- How many hash keys could ever confuse two files: `roots` has it for all lengths that can be hashed, and here are the limits, the
 -- labels of jobs and editions, and two pairs at which the bound is reached.
--- Assumes nothing.
-use mathlib.Core.Path.{_≡_, refl, sym, ap, subst, _∙_}
-use mathlib.Core.Logic.{_≢_, ⊎-elim}
-use mathlib.Core.List.{List, [], _∷_, _++_, List·Mem, Pairwise·cons, pairwise-singleton, mem-of-ne-of-mem, mem-singleton}
-use Prim.Native.Nat.{ℕ, _+_, _^_, _<_, _≤_}
-use native.Mathlib.Nat.{ℕ-set, eq-zero-or-pos, le-trans, lt-of-le-of-lt, max-le, mul-le-mul-right}
-use native.Mathlib.Omega.{arith}
-use lib.Dec.{lit<, lit≤}
-use lib.ListN.{length, length-append}
-use Rattle.block.specs.BigEndian.{numberOf, bytesOf}
-use Rattle.block.specs.Below.{AreBytes}
-use Rattle.field.specs.Field.{Element, timesX, mulFrom, gmul}
-use Rattle.ghash.specs.Ghash.{blockOf, blocksFrom, blockCount, blocks, lengthBlock, authBlocks, hashFrom}
-use Rattle.roots.specs.AtMost.{AtMost}
-use Rattle.roots.specs.Confused.{Pair, Sound, hashedCount, pairHash, Confuses}
+use Rattle.demands.specs.Names as N
+use N.{List, List·Mem, Pairwise·cons, [], _∷_, mem-of-ne-of-mem, mem-singleton, pairwise-singleton, _≢_, ⊎-elim, _≡_, ap, refl, subst, sym}
+use N.{_+_, _^_, _≤_, ℕ, eq-zero-or-pos, le-trans, lt-of-le-of-lt, max-le, mul-le-mul-right, ℕ-set, arith, lit<, lit≤, length}
+use N.{length-append, AreBytes, bytesOf, numberOf, Element, gmul, mulFrom, timesX, authBlocks, blockCount, Ghash·block as blockOf, blocks}
+use N.{blocksFrom, hashFrom, lengthBlock, AtMost, Confuses, Pair, Sound, hashedCount, pairHash, hashKey, limit, modeOf, Decrypt, labelOf}
+use N.{hostModeCall, cipherIn, LuossavinKey}
 use Rattle.roots.proofs.FewConfuse.{few-confuse, zero-confuses}
 use Rattle.roots.proofs.EveryElement.{more-have}
-use Rattle.gcm.specs.Gcm.{hashKey}
-use Rattle.cipher_mode.specs.declared.Direction.the-variants.{Decrypt}
-use Rattle.cipher_mode.specs.declared.Sm4Cipher.{Sm4Cipher}
-use Rattle.cipher_mode.specs.Calls.{modeCall}
-use Rattle.cipher_mode.specs.Tables.{limit, modeOf}
-use Rattle.label.specs.Label.{labelOf}
 use Rattle.label.proofs.LabelTells.{length-label, label-bytes, label-job, label-edition}
-use Rattle.luossavin.specs.declared.key.LuossavinKey.{LuossavinKey}
-use Rattle.luossavin.specs.Key.{cipherIn}
-use Rattle.luossavin.specs.Host.{hostModeCall}
-use Rattle.demands.specs.Call.{inGcm}
-use Rattle.demands.specs.HashKeys.{WithinLimits, FewKeysConfuse, ZeroKeyConfuses, RarelyConfused}
-use Rattle.demands.specs.HashKeys.{under, FewConfuseEditions, oneBlock, nothing, BoundReached, UnconfusedRefused, withoutLengths}
-use Rattle.demands.proofs.OtherHash.{other-hash-refused}
+use Rattle.demands.specs.HashKeys.{WithinLimits, FewKeysConfuse, ZeroKeyConfuses, RarelyConfused, under, FewConfuseEditions, oneBlock}
+use Rattle.demands.specs.HashKeys.{nothing, BoundReached, UnconfusedRefused, withoutLengths}
+use Rattle.demands.proofs.OneBlockRefused.{other-hash-refused}
 
 sound : (p : Pair) → WithinLimits p → Sound p
 sound p w =
@@ -106,24 +87,14 @@ bound-reached = record { confused = record { different = Pairwise·cons apart (p
         (sym (mem-singleton ℕ-set .0 (mem-of-ne-of-mem (λ z. omega (arith, pos, z)) m))) (lit< tt, confused-at-128))
         (eq-zero-or-pos h)
 
-module _ (c : Sm4Cipher) where
-  pub unconfused-refused : UnconfusedRefused (hashKey (c .rk)) (modeCall Decrypt (inGcm c))
-  unconfused-refused p q t iv o₁ o₂ w n room ne opens =
-      let size : length (q .ciphertext ++ t) ≡ length (q .ciphertext) + 16 =
-      length-append (q .ciphertext) t ∙ ap (λ (k : ℕ). length (q .ciphertext) + k) n in
-      other-hash-refused c (p .label) (q .label) (p .ciphertext) (q .ciphertext) t iv o₁ o₂ n ne
-      (record {
-        label = w .label-limit;
-        longest = omega (arith, size, w .ciphertext-limit);
-        shortest = omega (arith, size);
-        room = omega (arith, size, room);
-      })
-      opens
-
--- The same of the exported call with mode 4.
-pub exported-unconfused-refused : (k : LuossavinKey) → UnconfusedRefused (hashKey (k .«round_keys»)) (hostModeCall Decrypt 4 k)
+pub unconfused-refused : (k : LuossavinKey) → UnconfusedRefused (hashKey (k .«round_keys»)) (hostModeCall Decrypt 4 k)
 unfolding hostModeCall modeOf cipherIn
-exported-unconfused-refused k = unconfused-refused (cipherIn k)
+unconfused-refused k p q t iv o₁ o₂ w n room ne opens =
+    let size = length-append (q .ciphertext) t in
+    let l = w .ciphertext-limit in
+    other-hash-refused (cipherIn k) (p .label) (q .label) (p .ciphertext) (q .ciphertext) t iv o₁ o₂ n ne
+    (record { label = w .label-limit; longest = omega arith; shortest = omega arith; room = omega arith })
+    opens
 
 -- Without the length block the bound does not hold: every H confuses the labels 00 and 00 00, of two blocks each.
 pub without-lengths-contradicts : ¬ FewKeysConfuse withoutLengths

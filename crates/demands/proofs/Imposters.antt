@@ -1,62 +1,23 @@
 -- Imposters put in the place of a call: each breaks a demand or the definition, at an input that is named.
--- Assumes nothing.
-use mathlib.Core.Path.{_≡_, refl, sym, ap, _∙_}
-use mathlib.Core.Logic.{_≢_, inl}
-use mathlib.Core.Bool.{Bool, true, false, cond}
-use mathlib.Core.List.{List, [], _∷_, _++_}
-use Prim.Native.Nat.{ℕ, _+_, _-_, _^_, _≤_}
-use native.Mathlib.Nat.{le-of-eq}
-use native.Mathlib.Omega.{arith}
-use lib.Dec.{lit<}
-use lib.ListN.{length, take, drop, getD, replicate, length-replicate}
-use borrow.Author.Tests.{le-ltb}
-use Rattle.block.specs.Below.{AreBytes}
+use Rattle.demands.specs.Names as N
+use N.{Bool, cond, false, true, List, [], _++_, _∷_, _≢_, inl, _∙_, _≡_, ap, refl, sym, _+_, _-_, _^_, _≤_, ℕ, le-of-eq, arith, eqb, lit<}
+use N.{drop, getD, length, length-replicate, replicate, take, eqb-false, le-ltb, AreBytes, bytesOf, numberOf, gmul, gpow, mulFrom, one}
+use N.{timesX, ctrNext, Head, Outcome, done, keyed, reporting, chain, walk, roundKeys, Ghash·block as blockOf, blocks, blocksFrom, hashFrom}
+use N.{joined, modeCall, dataCheck, keyAndIv, messageCheck, roomCheck, wrongIv, keyNumber, newCipher, limit, modeOf, roomOf, CipherMode}
+use N.{Cbc, Cfb, Ctr, Gcm, Ofb, Decrypt, Encrypt, KeyAnswer, Key, Passed, Seal, anyTooLong, badList, labelAt, sum, Verdict, opensWith}
+use N.{searchCheck, which, planCall, accepts, follows, noPieces, rangeCall, rangeCheck, reachCheck, stretch, laidAt, Plan, labelOf}
+use N.{Shelf·Outcome, putCall, Record, front·shelf as front, marked·shelf as marked, readUpTo, records, sizeAt·shelf as sizeAt}
+use N.{startsRecord·shelf as startsRecord, stored·shelf as stored, written·shelf as written, badShelf, fitted, hasCurrent, notHigher}
+use N.{supersede, those, twoCurrent, withNew, hostHashBlocks, hostHashJoin, hostModeCall, modeIn, cipherIn, hostKeyEngine, hostKeyNew}
+use N.{keyAnswerOf, keyOf, hostCtrByPlan, hostCtrRange, Told, hostWhich, U128, LuossavinKey}
 use Rattle.block.proofs.Entries.{below-replicate}
-use Rattle.block.specs.BigEndian.{numberOf, bytesOf}
-use Rattle.cipher.specs.Sm4.{roundKeys}
-use Rattle.field.specs.Field.{timesX, mulFrom, gmul, one, gpow}
-use Rattle.ghash.specs.Ghash.{blockOf, blocksFrom, blocks, hashFrom}
-use Rattle.ghash.specs.Joined.{joined}
-use Rattle.counter.specs.Counter.{ctrNext}
 use Rattle.counter.proofs.Edges.{ctr-one-block, ctr-two-blocks}
-use Rattle.walk.specs.Walk.{walk, chain}
-use Rattle.walk.specs.Outcome.{Head, Outcome, keyed, reporting, done}
-use Rattle.cipher_mode.specs.declared.CipherMode.{CipherMode}
-use Rattle.cipher_mode.specs.declared.CipherMode.the-variants.{Cfb, Ofb, Ctr, Cbc, Gcm}
-use Rattle.cipher_mode.specs.declared.Direction.the-variants.{Encrypt, Decrypt}
-use Rattle.cipher_mode.specs.declared.KeyAnswer.{KeyAnswer}
-use Rattle.cipher_mode.specs.declared.KeyAnswer.the-variants.{Key}
-use Rattle.cipher_mode.specs.declared.checks.Checked.the-variants.{Passed}
-use Rattle.cipher_mode.specs.Key.{keyNumber, newCipher}
-use Rattle.cipher_mode.specs.Tables.{limit, roomOf, modeOf}
-use Rattle.cipher_mode.specs.Checks.{wrongIv, keyAndIv, dataCheck, roomCheck, messageCheck}
-use Rattle.cipher_mode.specs.Calls.{modeCall}
-use Rattle.pieces.specs.declared.seal.Seal.{Seal}
-use Rattle.editions.specs.Candidates.{sum, badList, anyTooLong, labelAt}
-use Rattle.editions.specs.Which.{Verdict, searchCheck, opensWith, which}
 use Rattle.editions.proofs.FirstOpening.{IsFirst}
 use Rattle.editions.proofs.WhichOpens.{Asked, first-opens}
-use Rattle.ranges.specs.declared.plan.Plan.{Plan}
-use Rattle.ranges.specs.Plan.{follows, accepts, noPieces}
-use Rattle.ranges.specs.Range.{stretch, reachCheck, rangeCheck, rangeCall}
-use Rattle.ranges.specs.ByPlan.{planCall}
-use Rattle.ranges.specs.Shares.{laidAt}
-use Rattle.label.specs.Label.{labelOf}
-use Rattle.shelf.specs.Records.{Record, written, stored, marked, startsRecord, sizeAt, front, readUpTo, records}
-use Rattle.shelf.specs.Shelf.{those, hasCurrent, twoCurrent, notHigher, supersede, withNew, fitted, badShelf}
-use Rattle.shelf.specs.Calls.{Outcome as Shelf·Outcome, putCall}
-use Rattle.luossavin.specs.declared.halves.LuossavinHash.{LuossavinHash}
-use Rattle.luossavin.specs.declared.key.LuossavinKey.{LuossavinKey}
-use Rattle.luossavin.specs.Key.{keyAnswerOf, cipherIn, keyOf, hostKeyNew, hostKeyEngine}
-use Rattle.luossavin.specs.Halves.{hostHashBlocks, hostHashJoin}
-use Rattle.luossavin.specs.Host.{modeIn, hostModeCall}
-use Rattle.luossavin.specs.Which.{Told, hostWhich}
-use Rattle.luossavin.specs.Ranges.{hostCtrRange, hostCtrByPlan}
 use Rattle.demands.specs.Call.{Call, result, inGcm}
 use Rattle.demands.specs.CameRound.{roundOf, Says}
 use Rattle.demands.specs.Answered.{oneOf, singleNumbers, Answered, KeyAnswered, lengthOf}
-use Rattle.demands.specs.Served.{Asks, Served}
-use Rattle.demands.specs.ThereAndBack.{SameKey, Decryptable, ThereAndBack}
+use Rattle.demands.specs.ThereAndBack.{Asks, Served, SameKey, Decryptable, ThereAndBack}
 use Rattle.demands.specs.InPieces.{CheckedAlike}
 use Rattle.demands.specs.OneBlockRefused.{OneBlockRefused}
 use Rattle.demands.specs.Imposters.{zeros, zeroKey, ones, ctr, refusesAll, constant, copies, firstBlockOnly, inventsLength}
@@ -67,15 +28,28 @@ use Rattle.demands.specs.Imposters.{twoEditions}
 use Rattle.demands.specs.Halves.{IsValue, WholeBlocks, hashOfHalves}
 use Rattle.demands.specs.Retired.{StaysRetired, DecryptsAlike}
 use Rattle.demands.specs.EngineUnseen.{unmarkedHost}
-use Rattle.demands.specs.Which.{Tells, WhichAnswered}
+use Rattle.demands.specs.EditionOpens.{Tells, WhichAnswered}
 use Rattle.demands.specs.Workers.{ctrCall, StretchOfWhole, Applying, appliedBy, RangesCommute}
 use Rattle.demands.proofs.Through.{through, leaves}
 use Rattle.demands.proofs.ModesBack.{encrypted}
-use Rattle.demands.proofs.ThereAndBack.{set-up-same-key}
-use Rattle.demands.proofs.Served.{exported-served}
-use Rattle.demands.proofs.OtherHash.{gcm-opens}
-use Rattle.demands.proofs.OtherEdition.{short-label-refused}
-use Rattle.demands.proofs.ZeroCipher.{zero-block, block-of-one, zero-key-moves}
+use Rattle.demands.proofs.ThereAndBack.{set-up-same-key, served}
+use Rattle.demands.proofs.OneBlockRefused.{gcm-opens, short-label-refused}
+use Rattle.demands.proofs.Worked.{zero-block, block-of-one, zero-key-moves}
+
+-- two numbers of two things tell the things apart
+pub apart : (A : Type 0) (f : A → ℕ) (x y : A) (m n : ℕ) → f x ≡ m → f y ≡ n → eqb m n ≡ false → x ≢ y
+apart A f x y m n a b t e = eqb-false m n t (sym a ∙ ap f e ∙ b)
+
+-- there is a list past the limit, which is not to be written out
+long-of : (P : Type 0) (n : ℕ) → n ≡ limit + 1 → ((n : ℕ) → n ≡ limit + 1 → (l : List ℕ) → length l ≡ n → P) → P
+long-of P n past f = f n past (replicate n 0) (length-replicate n 0)
+
+long : (P : Type 0) → ((n : ℕ) → n ≡ limit + 1 → (l : List ℕ) → length l ≡ n → P) → P
+long P f = long-of P (limit + 1) refl f
+
+-- a byte of the output
+abbrev at : ℕ → Outcome → ℕ
+at i x = getD (x .bytes) i 0
 
 -- The call that refuses everything meets demand 3: nothing opens, so there is nothing to refuse.
 pub refusing-all-meets-demand-3 : OneBlockRefused refusesAll
@@ -108,7 +82,7 @@ pub refusing-all-breaks-demand-2 : (mode : ℕ) (k : LuossavinKey) → mode ≤ 
     → ¬ ThereAndBack (λ (n : ℕ) (o : List ℕ). room n ≤ length o) (hostModeCall Encrypt mode k) refusesAll
 refusing-all-breaks-demand-2 mode k h a u room back =
     let same : SameKey k k = record { keys = refl; answer = refl } in
-    let e = exported-served mode k k h a u same .sealing [] [] zeros zeros (nothing-asked (modeOf mode)) .number in
+    let e = served mode k h a u k same .sealing [] [] zeros zeros (nothing-asked (modeOf mode)) .number in
     let n = room (hostModeCall Encrypt mode k [] [] zeros zeros .head .size) in
     let r = back [] [] zeros zeros (replicate n 0) tt zeros-bytes e (le-of-eq (sym (length-replicate n 0))) in
     absurd (omega (arith, r .number))
@@ -153,27 +127,22 @@ constant-contradicts x e f =
     let o : List ℕ = 0 ∷ [] in
     let g = given (0 ∷ []) o (0x9f ∷ []) (omega arith) (omega arith) one-byte in
     let h = given (1 ∷ []) o (0x9e ∷ []) (omega arith) (omega arith) another-byte in
-    let z : _≡_ {A = ℕ} 0x9f 0x9e = ap (λ (y : Outcome). getD (y .bytes) 0 0) (sym (e ∙ g) ∙ f ∙ h) in
-    absurd (omega arith)
+    apart Outcome (at 0) _ _ 0x9f 0x9e (ap (at 0) g) (ap (at 0) h) refl (sym e ∙ f)
 
 -- A copy is wrong at one zero byte, which becomes 9f. (Of no data there is no other result.)
 pub copy-contradicts : copies [] (0 ∷ []) zeros (0 ∷ []) ≢ ctr zeroKey [] (0 ∷ []) zeros (0 ∷ [])
-copy-contradicts e =
+copy-contradicts =
     let o : List ℕ = 0 ∷ [] in
-    let f = given o o (0x9f ∷ []) (omega arith) (omega arith) one-byte in
-    let g : _≡_ {A = ℕ} 0 0x9f = ap (λ (x : Outcome). getD (x .bytes) 0 0) (e ∙ f) in
-    absurd (omega arith)
+    apart Outcome (at 0) (copies [] o zeros o) _ 0 0x9f refl (ap (at 0) (given o o (0x9f ∷ []) (omega arith) (omega arith) one-byte)) refl
 
 -- Ciphering the first block and copying the rest is wrong at seventeen zero bytes: byte 16 becomes 23. (Up to sixteen bytes
 -- there is no rest.)
 pub first-block-only-contradicts :
     firstBlockOnly zeroKey [] (replicate 17 0) zeros (replicate 17 0) ≢ ctr zeroKey [] (replicate 17 0) zeros (replicate 17 0)
-first-block-only-contradicts e =
+first-block-only-contradicts =
     let d : List ℕ = replicate 17 0 in
     let g = given d d _ (omega arith) (omega arith) seventeen-bytes in
-    let f = ap {B = Outcome} (λ (x : Outcome). done (take 16 (result x) ++ drop 16 d) d) g in
-    let z : _≡_ {A = ℕ} 0 0x23 = ap (λ (x : Outcome). getD (x .bytes) 16 0) (sym f ∙ e ∙ g) in
-    absurd (omega arith)
+    apart Outcome (at 16) _ _ 0 0x23 (ap (λ (x : Outcome). at 16 (done (take 16 (result x) ++ drop 16 d) d)) g) (ap (at 16) g) refl
 
 -- A length of its own invention, the output's, breaks the table of lengths at no data with an output of one byte: the table
 -- says 0.
@@ -190,11 +159,9 @@ pub every-step-is-told :
     → Says (roundOf Ctr Encrypt (zeroKey .«round_keys») iv (length d)) (countsEveryStep zeroKey label d iv o .head))
 every-step-is-told claim =
     let o : List ℕ = 0 ∷ [] in
-    let left = ctr-leaves ones o o refl (omega arith) (omega arith) in
-    let number : countsEveryStep zeroKey [] o ones o .head .number ≡ 0 = ap (λ (x : Outcome). x .head .number) left in
-    let z : _≡_ {A = ℕ} 1 0 =
-    sym (ap (λ (b : Bool). cond b 1 0) ctr-two-blocks) ∙ claim [] o ones o .done number ∙ ap (λ (b : Bool). cond b 1 0) ctr-one-block in
-    absurd (omega arith)
+    let number = ap (λ (x : Outcome). x .head .number) (ctr-leaves ones o o refl (omega arith) (omega arith)) in
+    let told : Bool → ℕ = λ b. cond b 1 0 in
+    apart ℕ (λ n. n) _ _ 1 0 (ap told ctr-two-blocks) (ap told ctr-one-block) refl (claim [] o ones o .done number)
 
 -- A yes beside a refusal is told by seventeen bytes under that IV and an output of none: 6 says nothing of a counter.
 pub yes-refused-is-told :
@@ -202,9 +169,8 @@ pub yes-refused-is-told :
     → Says (roundOf Ctr Encrypt (zeroKey .«round_keys») iv (length d)) (saysItRefused zeroKey label d iv o .head))
 unfolding hostModeCall modeOf modeCall messageCheck keyAndIv dataCheck roomCheck hostKeyNew keyOf cipherIn keyAnswerOf newCipher
 yes-refused-is-told claim =
-    let d : List ℕ = replicate 17 0 in
-    let z : _≡_ {A = ℕ} 1 0 = sym (ap (λ (b : Bool). cond b 1 0) ctr-two-blocks) ∙ claim [] d ones [] .refused (λ e. omega arith) in
-    absurd (omega arith)
+    apart ℕ (λ n. n) _ _ 1 0 (ap (λ (b : Bool). cond b 1 0) ctr-two-blocks) refl refl
+    (claim [] (replicate 17 0) ones [] .refused (λ e. omega arith))
 
 -- Setting up a key without its number breaks what set-up answers, at sixteen zero bytes and the number 2: it is 1.
 pub forgotten-number-is-told : ¬ ((key : List ℕ) (n : ℕ) → KeyAnswered key n (forgetsNumber key n))
@@ -266,7 +232,7 @@ unfolding modeOf hostKeyNew keyOf newCipher
 number-in-label-contradicts claim =
     let later = hostKeyNew zeros 2 in
     let same = set-up-same-key zeros 1 2 refl (omega arith) (omega arith) (omega arith) (omega arith) in
-    let s = exported-served 4 zeroKey later (omega arith) refl refl same in
+    let s = served 4 zeroKey (omega arith) refl refl later same in
     let asked : Asks Gcm (1 ∷ []) [] zeros zeros =
     record { iv-size = inl refl; label-fits = λ _. omega arith; data-fits = omega arith; room = omega arith } in
     let sealed = s .sealing (1 ∷ []) [] zeros zeros asked in
@@ -278,28 +244,14 @@ number-in-label-contradicts claim =
 
 -- Not looking at the label's length is told by a label past the limit, with any usable and unretired key: the start answers 0, and the
 -- single call of no data 5.
-module _ (k : LuossavinKey) (a : k .answer ≡ 0) (u : k .retired ≡ 0) (n : ℕ) (past : n ≡ limit + 1) where
-  label-too-long : (label : List ℕ) → length label ≡ n → hostModeCall Encrypt 4 k label [] zeros zeros .head .number ≡ 5
-  unfolding hostModeCall modeOf modeCall messageCheck keyAndIv cipherIn keyAnswerOf
-  label-too-long label e = rw (e, past, a, u)
-
-  starts-anyway : (label : List ℕ) → labelUnseen k label zeros .head .number ≡ 0
-  unfolding keyAndIv cipherIn keyAnswerOf
-  starts-anyway label = rw (a, u)
-
-  label-told : ¬ ((label iv : List ℕ)
-      → CheckedAlike Seal [] 16 (0 ∷ []) (labelUnseen k label iv) (λ d o. hostModeCall Encrypt 4 k label d iv o))
-  label-told claim =
-      let label : List ℕ = replicate n 0 in
-      let z : _≡_ {A = Bool} false true =
-      sym (ap (λ (m : ℕ). oneOf m (0 ∷ [])) (label-too-long label (length-replicate n 0)))
-      ∙ claim label zeros .begun (starts-anyway label) zeros (omega arith) in
-      let y : _≡_ {A = ℕ} 0 1 = ap (λ (b : Bool). cond b 1 0) z in
-      absurd (omega arith)
-
 pub unseen-label-contradicts : (k : LuossavinKey) → k .answer ≡ 0 → k .retired ≡ 0
     → ¬ ((label iv : List ℕ) → CheckedAlike Seal [] 16 (0 ∷ []) (labelUnseen k label iv) (λ d o. hostModeCall Encrypt 4 k label d iv o))
-unseen-label-contradicts k a u = label-told k a u (limit + 1) refl
+unfolding hostModeCall modeOf modeCall messageCheck keyAndIv cipherIn keyAnswerOf
+unseen-label-contradicts k a u claim =
+    long ⊥ (λ n past label e.
+    let five : hostModeCall Encrypt 4 k label [] zeros zeros .head .number ≡ 5 = rw (e, past, a, u) in
+    apart Bool (λ t. cond t 1 0) false true 0 1 refl refl refl
+    (sym (ap (λ (m : ℕ). oneOf m (0 ∷ [])) five) ∙ claim label zeros .begun (rw (a, u)) zeros (omega arith)))
 
 -- A part that is told where none is found is told by a bad list, one byte of labels and no candidate.
 pub left-part-is-told : (k : LuossavinKey)
@@ -325,7 +277,7 @@ counting-from-one-is-told k a u claim =
     let c = cipherIn k in
     let same : SameKey k k = record { keys = refl; answer = refl } in
     let file = result (hostModeCall Encrypt 4 k [] [] zeros zeros) in
-    let s = exported-served 4 k k (omega arith) a u same in
+    let s = served 4 k (omega arith) a u k same in
     let back = s .opening [] [] zeros zeros zeros (nothing-asked Gcm) tt zeros-bytes (omega arith) .number in
     let p = through Decrypt (inGcm c) [] file zeros zeros back in
     let asked : Asked c file zeros [] (0 ∷ []) =
@@ -338,26 +290,12 @@ counting-from-one-is-told k a u claim =
 
 -- Looking at the file's length before the labels' is told by a file of no bytes and one label past the limit, which is 5, with any usable
 -- key: the imposter answers 9.
-module _ (k : LuossavinKey) (a : k .answer ≡ 0) (n : ℕ) (past : n ≡ limit + 1) where
-  too-long : (labels : List ℕ) → length labels ≡ n → hostWhich k [] zeros labels (n ∷ []) .head .number ≡ 5
-  unfolding hostWhich which badList sum searchCheck keyAndIv anyTooLong cipherIn keyAnswerOf
-  too-long labels e = rw (e, past, a)
-
-  short-first : (labels : List ℕ) → fileFirst k [] zeros labels (n ∷ []) .head .number ≡ 9
-  unfolding keyAndIv dataCheck cipherIn keyAnswerOf
-  short-first labels = rw a
-
-  told-apart : ¬ ((file iv labels lengths : List ℕ) → fileFirst k file iv labels lengths ≡ hostWhich k file iv labels lengths)
-  told-apart claim =
-      let labels : List ℕ = replicate n 0 in
-      let z : _≡_ {A = ℕ} 9 5 =
-      sym (short-first labels) ∙ ap (λ (v : Told). v .head .number) (claim [] zeros labels (n ∷ []))
-      ∙ too-long labels (length-replicate n 0) in
-      absurd (omega arith)
-
 pub file-first-contradicts : (k : LuossavinKey) → k .answer ≡ 0
     → ¬ ((file iv labels lengths : List ℕ) → fileFirst k file iv labels lengths ≡ hostWhich k file iv labels lengths)
-file-first-contradicts k a = told-apart k a (limit + 1) refl
+unfolding hostWhich which badList sum searchCheck keyAndIv anyTooLong dataCheck cipherIn keyAnswerOf
+file-first-contradicts k a claim =
+    long ⊥ (λ n past labels e.
+    apart Told (λ v. v .head .number) _ _ 9 5 (rw a) (rw (e, past, a)) refl (claim [] zeros labels (n ∷ [])))
 
 -- A range from the block's start is no stretch of the whole, at the second of two zero bytes under the key of sixteen zero bytes: it
 -- becomes 1f, and 9f at the block's start.
@@ -381,10 +319,8 @@ from-the-block-contradicts claim =
     let single = given o o (0x9f ∷ 0x1f ∷ []) (omega arith) (omega arith) two-bytes in
     let done-there = ap (λ (x : Outcome). x .head .number) single in
     let e = claim .stretch zeroKey false [] zeros (0 ∷ []) (0 ∷ []) [] (0 ∷ []) o (omega arith) done-there .1 in
-    let z : _≡_ {A = ℕ} 0x9f 0x1f =
-    ap (λ (l : List ℕ). getD l 0 0)
-    (sym (first-byte zeros 0x9f refl one-byte) ∙ e ∙ ap (λ (x : Outcome). take 1 (drop 1 (result x))) single) in
-    absurd (omega arith)
+    apart (List ℕ) (λ l. getD l 0 0) _ _ 0x9f 0x1f (ap (λ (l : List ℕ). getD l 0 0) (first-byte zeros 0x9f refl one-byte))
+    (ap (λ (x : Outcome). getD (take 1 (drop 1 (result x))) 0 0) single) refl e
 
 -- The key stream alone does not commute, at one zero byte under the IVs of zeros and of the number 1: the last of the two stands there, 9f
 -- or 23.
@@ -404,31 +340,17 @@ stream-alone-contradicts claim =
     ap (appliedBy streamAlone a) (stream-stands one 0x23 0 refl under-one) ∙ stream-stands zeros 0x9f 0x23 refl one-byte in
     let one-last : appliedBy streamAlone b (appliedBy streamAlone a (0 ∷ [])) ≡ 0x23 ∷ [] =
     ap (appliedBy streamAlone b) (stream-stands zeros 0x9f 0 refl one-byte) ∙ stream-stands one 0x23 0x9f refl under-one in
-    let z : _≡_ {A = ℕ} 0x9f 0x23 = ap (λ (l : List ℕ). getD l 0 0) (sym zeros-last ∙ claim a b (0 ∷ []) ∙ one-last) in
-    absurd (omega arith)
+    let first : List ℕ → ℕ = λ l. getD l 0 0 in
+    apart (List ℕ) first _ _ 0x9f 0x23 (ap first zeros-last) (ap first one-last) refl (claim a b (0 ∷ []))
 
 -- Looking at the plan before the length is told by one byte past the limit and a plan of no pieces, which is 5, with any usable and
 -- unretired key: the imposter answers 18.
-module _ (k : LuossavinKey) (a : k .answer ≡ 0) (u : k .retired ≡ 0) (n : ℕ) (past : n ≡ limit + 1) where
-  length-first : (d : List ℕ) → length d ≡ n → hostCtrByPlan k false zeros noPieces d [] .head .number ≡ 5
-  unfolding hostCtrByPlan planCall reachCheck keyAndIv cipherIn keyAnswerOf
-  length-first d e = rw (e, past, a, u)
-
-  plan-first : (d : List ℕ) → length d ≡ n → planFirst k false zeros noPieces d [] .head .number ≡ 18
-  unfolding keyAndIv accepts follows cipherIn keyAnswerOf
-  plan-first d e = rw (e, past, a, u)
-
-  plan-told : ¬ ((iv : List ℕ) (plan : Plan) (d o : List ℕ) → planFirst k false iv plan d o ≡ hostCtrByPlan k false iv plan d o)
-  plan-told claim =
-      let d : List ℕ = replicate n 0 in
-      let m : length d ≡ n = length-replicate n 0 in
-      let z : _≡_ {A = ℕ} 18 5 =
-      sym (plan-first d m) ∙ ap (λ (x : Outcome). x .head .number) (claim zeros noPieces d []) ∙ length-first d m in
-      absurd (omega arith)
-
 pub plan-first-contradicts : (k : LuossavinKey) → k .answer ≡ 0 → k .retired ≡ 0
     → ¬ ((iv : List ℕ) (plan : Plan) (d o : List ℕ) → planFirst k false iv plan d o ≡ hostCtrByPlan k false iv plan d o)
-plan-first-contradicts k a u = plan-told k a u (limit + 1) refl
+unfolding hostCtrByPlan planCall reachCheck keyAndIv accepts follows cipherIn keyAnswerOf
+plan-first-contradicts k a u claim =
+    long ⊥ (λ n past d e.
+    apart Outcome (λ x. x .head .number) _ _ 18 5 (rw (e, past, a, u)) (rw (e, past, a, u)) refl (claim zeros noPieces d []))
 
 -- what the shelf of two editions reads
 abbrev emptied : ℕ → Bool → Record
@@ -440,70 +362,40 @@ two-read = refl
 
 -- Holding an edition against the current record alone is told by edition 1 of a job whose edition 1 is superseded and whose edition 0 is
 -- current: that is 20, and the imposter puts it in.
-put-refused : putCall twoEditions 24 0 1 [] .number ≡ 20
-unfolding putCall badShelf stored written labelOf bytesOf hasCurrent twoCurrent notHigher
-put-refused = rw two-read
-
-taken-in : againstCurrent twoEditions 24 0 1 [] .number ≡ 0
-unfolding badShelf stored written labelOf bytesOf hasCurrent twoCurrent notHigher those
-taken-in = rw two-read
-
 pub against-current-contradicts : againstCurrent twoEditions 24 0 1 [] ≢ putCall twoEditions 24 0 1 []
-against-current-contradicts e =
-    let z : _≡_ {A = ℕ} 0 20 = sym taken-in ∙ ap (λ (x : Shelf·Outcome). x .number) e ∙ put-refused in
-    absurd (omega arith)
+unfolding putCall badShelf stored written labelOf bytesOf hasCurrent twoCurrent notHigher those
+against-current-contradicts =
+    apart Shelf·Outcome (λ x. x .number) (againstCurrent twoEditions 24 0 1 []) (putCall twoEditions 24 0 1 []) 0 20 (rw two-read)
+    (rw two-read) refl
 
 -- Marking before collecting is told by edition 2 of that job in a buffer that is full: the mark stands behind the used bytes, at byte 13,
 -- which is to be as it was.
-byte-kept : getD (putCall twoEditions 24 0 2 [] .bytes) 13 0 ≡ 0x44
-unfolding putCall badShelf stored written labelOf bytesOf hasCurrent twoCurrent notHigher those supersede withNew fitted
-byte-kept = rw two-read
-
-byte-marked : getD (marksFirst twoEditions 24 0 2 [] .bytes) 13 0 ≡ 0x58
-unfolding stored written labelOf bytesOf those supersede withNew fitted
-byte-marked = rw two-read
-
 pub marks-first-contradicts : marksFirst twoEditions 24 0 2 [] ≢ putCall twoEditions 24 0 2 []
-marks-first-contradicts e =
-    let z : _≡_ {A = ℕ} 0x58 0x44 = sym byte-marked ∙ ap (λ (x : Shelf·Outcome). getD (x .bytes) 13 0) e ∙ byte-kept in
-    absurd (omega arith)
+unfolding putCall badShelf stored written labelOf bytesOf hasCurrent twoCurrent notHigher those supersede withNew fitted
+marks-first-contradicts =
+    apart Shelf·Outcome (λ x. getD (x .bytes) 13 0) (marksFirst twoEditions 24 0 2 []) (putCall twoEditions 24 0 2 []) 0x58 0x44
+    (rw two-read) (rw two-read) refl
 
 -- Counting bytes is told under H = x by a first half of the one, which hashes to x, and two zero bytes behind it: that is x^2, and the
 -- imposter gives x^3.
-abbrev x : LuossavinHash
+abbrev x : U128
 x = record { high = 2 ^ 62; low = 0 }
 
 abbrev oneBlock : List ℕ
 oneBlock = 0x80 ∷ replicate 15 0
 
-two-blocks : hostHashBlocks x (oneBlock ++ (0 ∷ 0 ∷ [])) .high ≡ 2 ^ 61
-unfolding hostHashBlocks hashFrom blocks blocksFrom blockOf numberOf gmul mulFrom timesX
-two-blocks = refl
-
-three-factors : countsBytes x oneBlock (0 ∷ 0 ∷ []) .high ≡ 2 ^ 60
-unfolding hostHashBlocks hostHashJoin joined hashFrom blocks blocksFrom blockOf numberOf gmul mulFrom timesX gpow one
-three-factors = refl
-
 pub counting-bytes-contradicts :
-    ¬ ((h : LuossavinHash) → IsValue h → (a b : List ℕ) → WholeBlocks a → countsBytes h a b ≡ hostHashBlocks h (a ++ b))
+    ¬ ((h : U128) → IsValue h → (a b : List ℕ) → WholeBlocks a → countsBytes h a b ≡ hostHashBlocks h (a ++ b))
+unfolding hostHashBlocks hostHashJoin joined hashFrom blocks blocksFrom blockOf numberOf gmul mulFrom timesX gpow one
 counting-bytes-contradicts claim =
-    let same = claim x (record { high = lit< tt; low = lit< tt }) oneBlock (0 ∷ 0 ∷ []) refl in
-    let z : _≡_ {A = ℕ} (2 ^ 60) (2 ^ 61) = sym three-factors ∙ ap (λ (r : LuossavinHash). r .high) same ∙ two-blocks in
-    absurd (omega arith)
+    apart U128 (λ r. r .high) _ _ (2 ^ 60) (2 ^ 61) refl refl refl
+    (claim x (record { high = lit< tt; low = lit< tt }) oneBlock (0 ∷ 0 ∷ []) refl)
 
 -- A first half that ends inside a block does not join: under H = x two halves of one byte 80 are two blocks, x^2 + x, and both together are
 -- one block, x + x^9.
-cut-joined : hashOfHalves hostHashBlocks hostHashJoin x (0x80 ∷ []) (0x80 ∷ []) .high ≡ 2 ^ 62 + 2 ^ 61
-unfolding hostHashBlocks hostHashJoin joined hashFrom blocks blocksFrom blockOf numberOf gmul mulFrom timesX gpow one
-cut-joined = refl
-
-uncut : hostHashBlocks x (0x80 ∷ 0x80 ∷ []) .high ≡ 2 ^ 62 + 2 ^ 54
-unfolding hostHashBlocks hashFrom blocks blocksFrom blockOf numberOf gmul mulFrom timesX
-uncut = refl
-
 pub cut-inside-a-block-contradicts :
-    ¬ ((h : LuossavinHash) → IsValue h → (a b : List ℕ) → hashOfHalves hostHashBlocks hostHashJoin h a b ≡ hostHashBlocks h (a ++ b))
+    ¬ ((h : U128) → IsValue h → (a b : List ℕ) → hashOfHalves hostHashBlocks hostHashJoin h a b ≡ hostHashBlocks h (a ++ b))
+unfolding hostHashBlocks hostHashJoin joined hashFrom blocks blocksFrom blockOf numberOf gmul mulFrom timesX gpow one
 cut-inside-a-block-contradicts claim =
-    let same = claim x (record { high = lit< tt; low = lit< tt }) (0x80 ∷ []) (0x80 ∷ []) in
-    let z : _≡_ {A = ℕ} (2 ^ 62 + 2 ^ 61) (2 ^ 62 + 2 ^ 54) = sym cut-joined ∙ ap (λ (r : LuossavinHash). r .high) same ∙ uncut in
-    absurd (omega arith)
+    apart U128 (λ r. r .high) _ _ (2 ^ 62 + 2 ^ 61) (2 ^ 62 + 2 ^ 54) refl refl refl
+    (claim x (record { high = lit< tt; low = lit< tt }) (0x80 ∷ []) (0x80 ∷ []))

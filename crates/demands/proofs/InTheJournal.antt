@@ -1,54 +1,23 @@
 -- The replay of a journal, as a host is told of it: demand 1, which number it ends with; two journals joined; and that calls which were
 -- recorded as they were answered agree.
--- Assumes nothing.
-use mathlib.Core.Path.{_≡_, refl, sym, ap, _∙_}
-use mathlib.Core.Logic.{_⊎_, inl, inr, ⊎-elim}
-use mathlib.Core.Bool.{Bool, true, false, not, cond}
-use mathlib.Core.List.{List, [], _∷_, _++_, append-nil}
-use Prim.Native.Nat.{ℕ, zero, suc, _+_, _<_}
-use native.Mathlib.Omega.{arith}
-use lib.Dec.{ltb, eqb}
-use lib.ListN.{length, take, drop}
-use lib.Seq.{take-at}
-use borrow.Author.Tests.{lt-ltb}
-use Rattle.block.specs.Below.{AreBytes}
-use Rattle.walk.specs.Walk.{over}
-use Rattle.walk.specs.Outcome.{Head, Outcome}
-use Rattle.cipher_mode.specs.declared.Sm4Cipher.{Sm4Cipher}
-use Rattle.journal.specs.Format.{Entry, written, stored, startsRecord, sizeAt, front, tooLong}
-use Rattle.journal.specs.KeyList.{keysIn, hasNumber, keyOf, badKeys}
-use Rattle.journal.specs.Recomputed.{callInto, recomputed, result, answeredBy}
-use Rattle.journal.specs.Reports.{nothing}
-use Rattle.journal.specs.Replay.{numberOfEnd, done, refuse, replayOne, replayUpTo, replay}
-use Rattle.journal.specs.Joined.{added, behindReport}
-use Rattle.journal.specs.Ends.{AllReplayable, countedAll, Ends, differs, NoneDiffers, Totals}
-use Rattle.journal.specs.Writer.{write}
-use Rattle.journal.specs.declared.keys.Keys.{Keys}
-use Rattle.journal.specs.declared.report.Report.{Report}
-use Rattle.journal.specs.declared.Ended.{Ended}
-use Rattle.journal.specs.declared.Ended.the-variants.{Done, BadRecord, TooLong, UnknownKey, BadKeys}
-use Rattle.journal.specs.declared.Replayed.{Replayed}
-use Rattle.journal.specs.declared.writer.Wrote.the-variants.{Done as Done·wrote, NoRoom}
+use Rattle.demands.specs.Names as N
+use N.{Bool, cond, false, not, true, List, [], _++_, _∷_, append-nil, inl, inr, ⊎-elim, _∙_, _≡_, ap, refl, sym, _+_, _<_, suc, zero, ℕ}
+use N.{arith, eqb, ltb, drop, length, take, take-at, lt-ltb, AreBytes, Head, Outcome, Sm4Cipher, AllReplayable, Ends, NoneDiffers, Totals}
+use N.{countedAll, differs, Entry, front·journal as front, sizeAt·journal as sizeAt, startsRecord·journal as startsRecord}
+use N.{stored·journal as stored, tooLong, written·journal as written, added, behindReport, badKeys, hasNumber, keyOf·journal as keyOf}
+use N.{keysIn, answeredBy, callInto, recomputed, resultOf as result, done·journal as done, numberOfEnd, journalRefuse as refuse, replay}
+use N.{replayOne, replayUpTo, nothing, write, Journal·end as Ended, BadKeys, BadRecord, Done·journal as Done, TooLong·journal as TooLong}
+use N.{UnknownKey, Replayed, Keys, Report, Done·wrote, NoRoom·wrote as NoRoom, hostModeCall, hostReplay, keysOf, toldOf·journal as toldOf}
+use N.{LuossavinKeys}
 use Rattle.journal.proofs.Sums.{replay-adds-up, first-replayed}
 use Rattle.journal.proofs.Lent.{any-output-head, any-output-result}
 use Rattle.journal.proofs.Joined.{joined}
 use Rattle.journal.proofs.Ending.{bad-keys, ends-so, ends-alone, replayed-whole}
 use Rattle.journal.proofs.Totals.{totals-told}
 use Rattle.journal.proofs.Agrees.{answered-agrees, agrees-so, none-told, all-agree, first-told}
-use Rattle.luossavin.specs.declared.journals.LuossavinKeys.{LuossavinKeys}
-use Rattle.luossavin.specs.Host.{hostModeCall}
-use Rattle.luossavin.specs.Journals.{keysOf, toldOf, hostReplay}
 use Rattle.demands.specs.Answered.{oneOf}
+use Rattle.demands.proofs.Answering.{is-true, is-false, one-or-none, split}
 use Rattle.demands.specs.InTheJournal.{ReplayAnswered, ReplayEnds, Added, Recorded, AllRecorded, AllAnswered}
-
--- what 1 or 0 says
-found-by : (t : Bool) → _≡_ {A = ℕ} (cond t 1 0) 1 → t ≡ true
-found-by true e = refl
-found-by false e = absurd (omega arith)
-
-none-by : (t : Bool) → _≡_ {A = ℕ} (cond t 1 0) 0 → t ≡ false
-none-by true e = absurd (omega arith)
-none-by false e = refl
 
 -- Which number exactly when: the replay ends as keys and journal say, and in no other way.
 end-back : ℕ → Ended
@@ -63,12 +32,9 @@ end-of UnknownKey = refl
 end-of BadKeys = refl
 
 module _ (k : LuossavinKeys) (journal : List ℕ) (small : AreBytes journal) where
-  ends-by : (t : Bool) → badKeys (keysOf k) ≡ t → ReplayEnds k journal (replay (keysOf k) journal)
-  ends-by true e = inl (e, bad-keys (keysOf k) journal e)
-  ends-by false e = inr (e, ends-so (keysOf k) journal e small)
-
   pub exported-replay-ends : ReplayEnds k journal (replay (keysOf k) journal)
-  exported-replay-ends = ends-by (badKeys (keysOf k)) refl
+  exported-replay-ends =
+      split _ (badKeys (keysOf k)) (λ e. inl (e, bad-keys (keysOf k) journal e)) (λ e. inr (e, ends-so (keysOf k) journal e small))
 
   pub exported-replay-alone : (x : Replayed) → ReplayEnds k journal x → hostReplay k journal ≡ toldOf x
   unfolding hostReplay
@@ -108,7 +74,7 @@ module _ (k : LuossavinKeys) (journal : List ℕ) (small : AreBytes journal) (go
   pub exported-none-told : hostReplay k journal .differs ≡ 0 → AllAnswered k (ends .calls)
   unfolding toldOf
   exported-none-told z =
-      all-answered (ends .calls) (all-agree ks journal x ends (none-by (x .report .first .found) (rw told-so at z)))
+      all-answered (ends .calls) (all-agree ks journal x ends (is-false 1 0 refl (x .report .first .found) (rw told-so at z)))
 
 -- Calls recorded as they were answered.
 module _ (keys : LuossavinKeys) (e : Entry) (r : Recorded keys e) where
@@ -179,22 +145,19 @@ module _ (keys : LuossavinKeys) (good : badKeys (keysOf keys) ≡ false) (es : L
 -- so is what the writer wrote of one
 module _ (keys : LuossavinKeys) (good : badKeys (keysOf keys) ≡ false) (e : Entry) (r : Recorded keys e) (o : List ℕ) (n : ℕ)
     (wrote : write e o .wrote ≡ Done·wrote n) where
-  wrote-by : (t : Bool) → ltb (length o) (length (written e)) ≡ t
-      → (n ≡ length (written e)) × (write e o .bytes ≡ over (written e) o)
-  unfolding write
-  wrote-by true f =
+  is-journal : take n (write e o .bytes) ≡ stored (e ∷ [])
+  unfolding write stored
+  is-journal =
+      split _ (ltb (length o) (length (written e)))
+      (λ f.
       let z : NoRoom ≡ Done·wrote n = rw (r .replayable .short, f) at wrote in
       let y : _≡_ {A = ℕ} 0 1 = cc in
-      absurd (omega arith)
-  wrote-by false f =
+      absurd (omega arith))
+      (λ f.
       let z : Done·wrote (length (written e)) ≡ Done·wrote n = rw (r .replayable .short, f) at wrote in
-      (cc, rw (r .replayable .short, f))
-
-  is-journal : take n (write e o .bytes) ≡ stored (e ∷ [])
-  unfolding stored
-  is-journal =
-      let w = wrote-by (ltb (length o) (length (written e))) refl in
-      rw (w .1, w .0) (take-at (written e) (drop (length (written e)) o) (length (written e)) refl ∙ sym (append-nil (written e)))
+      let m : n ≡ length (written e) = cc in
+      rw (r .replayable .short, f, m)
+      (take-at (written e) (drop (length (written e)) o) (length (written e)) refl ∙ sym (append-nil (written e))))
 
   pub exported-written-agrees : (hostReplay keys (take n (write e o .bytes)) .number ≡ 0)
       × (hostReplay keys (take n (write e o .bytes)) .differs ≡ 0)
@@ -213,14 +176,14 @@ behind-added size x y =
       byAnswer = refl;
       bytesIn = refl;
       bytesOut = refl;
-      earlier = λ e. let f = found-by (x .report .first .found) e in rw f (refl, refl, refl);
+      earlier = λ e. let f = is-true 1 0 refl (x .report .first .found) e in rw f (refl, refl, refl);
       later = λ e g.
-          let f = none-by (x .report .first .found) e in
-          let h = found-by (y .report .first .found) g in
+          let f = is-false 1 0 refl (x .report .first .found) e in
+          let h = is-true 1 0 refl (y .report .first .found) g in
           rw (f, h) (refl, refl, refl);
       none = λ e g.
-          let f = none-by (x .report .first .found) e in
-          let h = none-by (y .report .first .found) g in
+          let f = is-false 1 0 refl (x .report .first .found) e in
+          let h = is-false 1 0 refl (y .report .first .found) g in
           rw (f, h) refl;
     }
 
@@ -236,10 +199,6 @@ known-end BadRecord = refl
 known-end TooLong = refl
 known-end UnknownKey = refl
 known-end BadKeys = refl
-
-one-or-none : (t : Bool) → (_≡_ {A = ℕ} (cond t 1 0) 1) ⊎ (_≡_ {A = ℕ} (cond t 1 0) 0)
-one-or-none true = inl refl
-one-or-none false = inr refl
 
 -- no record ends with bad keys, and a journal that is replayed to its end has no place
 abbrev Ending : Replayed → Type 0
@@ -271,22 +230,19 @@ module _ (ks : List Sm4Cipher) where
       (upto-ending n (drop (sizeAt b) b) (place + sizeAt b) (replayOne ks b place r .report)) (one-ending b place r))
 
 module _ (k : Keys) (journal : List ℕ) where
-  ending-by : (t : Bool) → badKeys k ≡ t
-      → (numberOfEnd (replay k journal .ended) ≡ 0 → replay k journal .place ≡ 0)
+  the-ending : (numberOfEnd (replay k journal .ended) ≡ 0 → replay k journal .place ≡ 0)
       × (numberOfEnd (replay k journal .ended) ≡ 26 → replay k journal ≡ record { ended = BadKeys; place = 0; report = nothing })
   unfolding replay
-  ending-by true e = rw e (λ z. refl, λ z. refl)
-  ending-by false e =
-      let u = upto-ending (keysIn k) (length journal) journal 0 nothing in
-      let l = u .1 in
-      rw e (u .0, λ z. absurd (omega arith))
+  the-ending =
+      let (u, l) = upto-ending (keysIn k) (length journal) journal 0 nothing in
+      split _ (badKeys k) (λ e. rw e (λ z. refl, λ z. refl)) (λ e. rw e (u, λ z. absurd (omega arith)))
 
 pub exported-replay-answers : (k : LuossavinKeys) (journal : List ℕ) → ReplayAnswered (hostReplay k journal)
 unfolding hostReplay toldOf
 exported-replay-answers k journal =
     let x = replay (keysOf k) journal in
     let sums = replay-adds-up (keysOf k) journal in
-    let ends = ending-by (keysOf k) journal (badKeys (keysOf k)) refl in
+    let ends = the-ending (keysOf k) journal in
     let first = first-replayed (keysOf k) journal in
     record {
       numbered = known-end (x .ended);
@@ -295,6 +251,6 @@ exported-replay-answers k journal =
       done = ends .0;
       bad-keys = λ z. ap toldOf (ends .1 z);
       differs = one-or-none (x .report .first .found);
-      first = λ z. first .inside (found-by (x .report .first .found) z);
-      none = λ z. first .nowhere (none-by (x .report .first .found) z);
+      first = λ z. first .inside (is-true 1 0 refl (x .report .first .found) z);
+      none = λ z. first .nowhere (is-false 1 0 refl (x .report .first .found) z);
     }

@@ -1,24 +1,12 @@
 -- Imposters put in the place of a replay: each breaks the definition, at a journal that is named.
--- Assumes nothing.
-use mathlib.Core.Path.{_≡_, refl, sym, ap, _∙_}
-use mathlib.Core.Logic.{_≢_}
-use mathlib.Core.Bool.{true, false}
-use mathlib.Core.List.{List, [], _∷_, append-nil}
-use Prim.Native.Nat.{ℕ}
-use native.Mathlib.Omega.{arith}
-use lib.Dec.{lit<}
-use Rattle.block.specs.Below.{AreBytes}
-use Rattle.block.specs.BigEndian.{numberOf}
-use Rattle.journal.specs.Format.{stored, startsPart, marked, startsRecord, pastLimit}
-use Rattle.journal.specs.KeyList.{keysIn, placeOf, anyRetired, numberTwice, badKeys}
-use Rattle.journal.specs.Recomputed.{callInto, differsFrom}
-use Rattle.journal.specs.Reports.{nothing, counted}
-use Rattle.journal.specs.Replay.{numberOfEnd, done, replay}
-use Rattle.journal.specs.Ends.{Replayable, countedAll, differs}
-use Rattle.journal.specs.declared.Ended.the-variants.{BadRecord}
-use Rattle.journal.specs.declared.Replayed.{Replayed}
+use Rattle.demands.specs.Names as N
+use N.{false, true, List, [], _∷_, append-nil, _≢_, _≡_, ap, refl, sym, ℕ, lit<, AreBytes, numberOf, Replayable, countedAll, differs}
+use N.{marked·journal as marked, pastLimit, startsPart, startsRecord·journal as startsRecord, stored·journal as stored, anyRetired, badKeys}
+use N.{keysIn, numberTwice, placeOf, callInto, differsFrom, done·journal as done, numberOfEnd, replay, counted, nothing, BadRecord}
+use N.{Replayed}
 use Rattle.journal.proofs.Ending.{nothing-there, ends-alone, replayed-whole}
 use Rattle.journal.proofs.Agrees.{first-told}
+use Rattle.demands.proofs.Imposters.{apart}
 use Rattle.demands.specs.JournalImposters.{stopsAtDifference, tooLongFirst, oneKey, unknownDone, cutOverlong}
 
 -- what the journals of the two imposters need: the key is good, the call can be replayed, and it is answered 7
@@ -80,9 +68,7 @@ unfolding countedAll stored
 none-counted = rw wrong-first (rw (replayed-whole oneKey one-key-good [] tt))
 
 pub stops-at-difference-contradicts : stopsAtDifference oneKey oneWrong ≢ replay oneKey oneWrong
-stops-at-difference-contradicts e =
-    let z : _≡_ {A = ℕ} 0 1 = sym none-counted ∙ ap (λ (x : Replayed). x .report .records) e ∙ one-counted in
-    absurd (omega arith)
+stops-at-difference-contradicts = apart Replayed (λ x. x .report .records) _ _ 0 1 none-counted one-counted refl
 
 -- Looking at a stated length first is told by a record that is cut: that is 23, and the imposter says 24.
 cut-there : startsRecord cutOverlong ≡ false
@@ -111,7 +97,6 @@ unfolding numberOf
 too-long-told = rw one-key-good
 
 pub too-long-first-contradicts : tooLongFirst oneKey cutOverlong ≢ replay oneKey cutOverlong
-too-long-first-contradicts e =
-    let z : _≡_ {A = ℕ} 24 23 =
-    sym too-long-told ∙ ap (λ (x : Replayed). numberOfEnd (x .ended)) (e ∙ sym cut-refused) in
-    absurd (omega arith)
+too-long-first-contradicts =
+    let number : Replayed → ℕ = λ x. numberOfEnd (x .ended) in
+    apart Replayed number _ _ 24 23 too-long-told (sym (ap number cut-refused)) refl

@@ -1,40 +1,20 @@
 -- In each mode, what encrypting gave is in order for decrypting and decrypts to the message, and the other way about.
--- Assumes nothing.
-use mathlib.Core.Path.{_≡_, refl, sym, ap, subst, _∙_}
-use mathlib.Core.Bool.{Bool, true, false}
-use mathlib.Core.List.{List}
-use Prim.Native.Nat.{ℕ, _%_, _≤_}
-use native.Mathlib.Omega.{arith}
-use lib.ListN.{length, take}
-use lib.Seq.{length-take-le}
-use borrow.Author.Tests.{eq-eqb, ne-eqb, le-ltb}
-use Rattle.block.specs.Below.{AreBytes}
-use Rattle.walk.specs.Outcome.{Outcome, finished, leaving, written, reporting, done}
-use Rattle.walk.specs.Walk.{chain, over}
-use Rattle.stream.specs.Stream.{streamMode}
-use Rattle.stream.specs.declared.Kind.the-variants.{CfbEncrypt, CfbDecrypt, Ofb as Ofb·kind, Ctr as Ctr·kind}
+use Rattle.demands.specs.Names as N
+use N.{false, true, List, _∙_, _≡_, ap, refl, subst, sym, _%_, _≤_, ℕ, arith, length, take, length-take-le, eq-eqb, le-ltb, ne-eqb}
+use N.{AreBytes, Outcome, done, finished, leaving, reporting, written, chain, over, streamMode, CfbDecrypt, CfbEncrypt, Ctr·kind, Ofb·kind}
+use N.{cbcSeal, cbcOpen, cbcText, cbcHead, unpadded, Opened, Cbc·Done, InvalidLastU8, InvalidPadding, J0, hashKey, opensUnder, sealed}
+use N.{textOf, textPart, gcmOpen, modeResult, dataCheck, wrongIv, limit, roomOf, sealedLimit, CipherMode, Cbc, Cfb, Ctr, Gcm, Ofb, Decrypt}
+use N.{Encrypt, Passed}
 use Rattle.stream.proofs.RoundTrip.{length-stream, stream-back, stream-forth}
-use Rattle.cbc.specs.Cbc.{cbcSeal}
-use Rattle.cbc.specs.Open.{headOf as cbcHead, unpadded, cbcText, cbcOpen}
-use Rattle.cbc.specs.declared.Opened.{Opened}
-use Rattle.cbc.specs.declared.Opened.the-variants.{Done as Cbc·Done, InvalidLastU8, InvalidPadding}
 use Rattle.cbc.proofs.RoundTrip.{length-cbcSeal, cbc-back}
 use Rattle.cbc.proofs.SealsBack.{cbc-seals-back}
 use Rattle.cbc.proofs.Unpadded.{unpadded-le}
-use Rattle.gcm.specs.Gcm.{hashKey, J0, sealed, textOf, textPart, opensUnder}
-use Rattle.gcm.specs.Open.{gcmOpen}
 use Rattle.gcm.proofs.Parts.{length-sealed}
 use Rattle.gcm.proofs.RoundTrip.{opens-sealed, text-of-sealed, sealed-of-opened}
 use Rattle.gcm.proofs.Settled.{text-size, open-refused, open-done}
-use Rattle.cipher_mode.specs.declared.CipherMode.{CipherMode}
-use Rattle.cipher_mode.specs.declared.CipherMode.the-variants.{Cfb, Ofb, Ctr, Cbc, Gcm}
-use Rattle.cipher_mode.specs.declared.Direction.the-variants.{Encrypt, Decrypt}
-use Rattle.cipher_mode.specs.declared.checks.Checked.the-variants.{Passed}
-use Rattle.cipher_mode.specs.Tables.{limit, sealedLimit, roomOf}
-use Rattle.cipher_mode.specs.Checks.{wrongIv, dataCheck}
-use Rattle.cipher_mode.specs.Calls.{modeResult}
 use Rattle.cipher_mode.proofs.Passed.{sixteen, data-within, whole-blocks-passed, with-tag-passed}
 use Rattle.demands.specs.CameRound.{roundOf}
+use Rattle.demands.proofs.Answering.{split}
 
 -- the message that d is encrypted to
 abbrev pub encrypted : CipherMode → List ℕ → List ℕ → List ℕ → List ℕ → List ℕ
@@ -100,23 +80,9 @@ module _ (rk aad d iv : List ℕ) (iv-bytes : AreBytes iv) (d-bytes : AreBytes d
   pub back : (m : CipherMode) → wrongIv m (length iv) ≡ false → dataCheck Encrypt m (length d) ≡ Passed
       → Decrypts m rk aad (encrypted m rk aad d iv) iv d
   unfolding dataCheck
-  back Cfb n e =
-      record {
-        content = rw (length-stream CfbEncrypt rk iv d) e;
-        opened = λ o. ap {B = Outcome} (λ (p : List ℕ). done p o) (stream-back CfbEncrypt rk iv d);
-      }
-  back Ofb n e =
-      record {
-        content = rw (length-stream Ofb·kind rk iv d) e;
-        opened = λ o. ap {B = Outcome} (λ (p : List ℕ). done p o) (stream-back Ofb·kind rk iv d);
-      }
-  back Ctr n e =
-      record {
-        content = rw (length-stream Ctr·kind rk iv d) e;
-        opened = λ o.
-            ap {B = Outcome} (λ (p : List ℕ). reporting (roundOf Ctr Decrypt rk iv (length (encrypted Ctr rk aad d iv))) (done p o))
-            (stream-back Ctr·kind rk iv d);
-      }
+  back Cfb n e = record { content = rw (length-stream CfbEncrypt rk iv d) e; opened = λ o. rw (stream-back CfbEncrypt rk iv d) }
+  back Ofb n e = record { content = rw (length-stream Ofb·kind rk iv d) e; opened = λ o. rw (stream-back Ofb·kind rk iv d) }
+  back Ctr n e = record { content = rw (length-stream Ctr·kind rk iv d) e; opened = λ o. rw (stream-back Ctr·kind rk iv d) }
   back Cbc n e = cbc-decrypts (sixteen (length iv) n) (data-within Encrypt Cbc (length d) e)
   back Gcm n e = gcm-decrypts (data-within Encrypt Gcm (length d) e)
 
@@ -128,20 +94,11 @@ pub record Encrypts (m : CipherMode) (rk aad c iv o : List ℕ) : Type 0 where
   pub again : encrypted m rk aad text iv ≡ c
 
 -- a message of Gcm that was opened is one that opens
-opens-by : (rk : List ℕ) (h : ℕ) (j aad c o : List ℕ) (t : Bool) → opensUnder rk h j aad c ≡ t
-    → gcmOpen rk h j aad c o .head .number ≡ 0 → opensUnder rk h j aad c ≡ true
-opens-by rk h j aad c o true e z = e
-opens-by rk h j aad c o false e z =
-    let four : _≡_ {A = ℕ} 4 0 = ap (λ (x : Outcome). x .head .number) (open-refused rk h j aad c o e) ∙ z in
-    absurd (omega arith)
-
 pub opened-opens : (rk : List ℕ) (h : ℕ) (j aad c o : List ℕ) → gcmOpen rk h j aad c o .head .number ≡ 0 → opensUnder rk h j aad c ≡ true
-opened-opens rk h j aad c o = opens-by rk h j aad c o (opensUnder rk h j aad c) refl
-
--- what an opening that answered 0 gave: a text of this size
-record Opens-as (a : Opened) : Type 0 where
-  pub size : ℕ
-  pub done : a ≡ Cbc·Done size
+opened-opens rk h j aad c o z =
+    split _ (opensUnder rk h j aad c) (λ e. e) (λ e.
+    let four : _≡_ {A = ℕ} 4 0 = ap (λ (x : Outcome). x .head .number) (open-refused rk h j aad c o e) ∙ z in
+    absurd (omega arith))
 
 -- a message of Cbc that was opened is one with a padding, of which n bytes are the text
 opened-with : (p o : List ℕ) (n : ℕ) (a : Opened) → a ≡ Cbc·Done n → n ≤ length p → written (cbcHead a) p o ≡ done (take n p) o
@@ -149,8 +106,8 @@ opened-with p o n a e h =
     ap {B = Outcome} (λ (a : Opened). written (cbcHead a) p o) e
     ∙ ap {B = Outcome} (λ (k : ℕ). leaving (finished k) (over (take n p) o)) (sym (length-take-le n p h))
 
-unpadded-by : (p o : List ℕ) (a : Opened) → written (cbcHead a) p o .head .number ≡ 0 → Opens-as a
-unpadded-by p o (Cbc·Done n) z = record { size = n; done = refl }
+unpadded-by : (p o : List ℕ) (a : Opened) → written (cbcHead a) p o .head .number ≡ 0 → (n : ℕ) × (a ≡ Cbc·Done n)
+unpadded-by p o (Cbc·Done n) z = (n, refl)
 unpadded-by p o InvalidLastU8 z = absurd (omega arith)
 unpadded-by p o InvalidPadding z = absurd (omega arith)
 
@@ -178,16 +135,15 @@ module _ (rk aad c iv o : List ℕ) where
   unfolding cbcOpen dataCheck
   cbc-encrypts sixteen-iv bytes e z l =
       let p = cbcText rk iv c in
-      let a = unpadded-by p o (unpadded p) z in
-      let n = a .size in
-      let fits = unpadded-le p n (a .done) in
+      let (n, is-done) = unpadded-by p o (unpadded p) z in
+      let fits = unpadded-le p n is-done in
       let size = length-take-le n p fits in
-      let reported : n ≤ limit = subst (λ (k : ℕ). k ≤ limit) (ap (λ (a : Opened). cbcHead a .size) (a .done)) l in
+      let reported : n ≤ limit = subst (λ (k : ℕ). k ≤ limit) (ap (λ (a : Opened). cbcHead a .size) is-done) l in
       record {
         text = take n p;
-        opened = opened-with p o n (unpadded p) (a .done) fits;
+        opened = opened-with p o n (unpadded p) is-done fits;
         content = rw (le-ltb limit (length (take n p)) (omega arith));
-        again = cbc-seals-back rk iv c n sixteen-iv bytes (whole-blocks-passed (length c) e .1) (a .done);
+        again = cbc-seals-back rk iv c n sixteen-iv bytes (whole-blocks-passed (length c) e .1) is-done;
       }
 
   -- in every mode
@@ -196,25 +152,13 @@ module _ (rk aad c iv o : List ℕ) where
       → Encrypts m rk aad c iv o
   unfolding dataCheck
   forth Cfb n b e z l =
-      record {
-        text = chain (streamMode CfbDecrypt rk) iv c;
-        opened = refl;
-        content = rw (length-stream CfbDecrypt rk iv c) e;
-        again = stream-forth CfbEncrypt rk iv c;
-      }
+      let t = length-stream CfbDecrypt rk iv c in
+      record { text = chain (streamMode CfbDecrypt rk) iv c; opened = refl; content = rw t e; again = stream-forth CfbEncrypt rk iv c }
   forth Ofb n b e z l =
-      record {
-        text = chain (streamMode Ofb·kind rk) iv c;
-        opened = refl;
-        content = rw (length-stream Ofb·kind rk iv c) e;
-        again = stream-forth Ofb·kind rk iv c;
-      }
+      let t = length-stream Ofb·kind rk iv c in
+      record { text = chain (streamMode Ofb·kind rk) iv c; opened = refl; content = rw t e; again = stream-forth Ofb·kind rk iv c }
   forth Ctr n b e z l =
-      record {
-        text = chain (streamMode Ctr·kind rk) iv c;
-        opened = refl;
-        content = rw (length-stream Ctr·kind rk iv c) e;
-        again = stream-forth Ctr·kind rk iv c;
-      }
+      let t = length-stream Ctr·kind rk iv c in
+      record { text = chain (streamMode Ctr·kind rk) iv c; opened = refl; content = rw t e; again = stream-forth Ctr·kind rk iv c }
   forth Cbc n b e z l = cbc-encrypts (sixteen (length iv) n) b e z (l refl)
   forth Gcm n b e z l = gcm-encrypts e z

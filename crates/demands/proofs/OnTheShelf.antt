@@ -1,26 +1,12 @@
 -- A shelf, as a host is handed it: demand 1 of its calls, which number each answers; and that a rough is not shown for its final.
--- Assumes nothing.
-use mathlib.Core.Path.{_≡_, refl, sym, ap, subst, _∙_}
-use mathlib.Core.Logic.{inr}
-use mathlib.Core.Bool.{Bool, true, false, not, cond, _&&_}
-use mathlib.Core.List.{List, [], _∷_, append-nil}
-use Prim.Native.Nat.{ℕ, _^_, _≤_, _<_}
-use native.Mathlib.Omega.{arith}
-use lib.Dec.{leb, ltb, eqb}
-use lib.ListN.{length, take, drop, length-append, length-drop}
-use lib.Seq.{drop-at}
-use borrow.Author.Tests.{ltb-false, leb-true, leb-false, eqb-true, eq-eqb}
-use Rattle.block.specs.Below.{AreBytes}
+use Rattle.demands.specs.Names as N
+use N.{Bool, _&&_, cond, false, true, List, [], _∷_, append-nil, inr, _∙_, _≡_, ap, refl, subst, sym, _<_, _^_, _≤_, ℕ, arith, eqb, leb}
+use N.{ltb, drop, length, length-append, length-drop, take, drop-at, eq-eqb, eqb-true, leb-false, leb-true, ltb-false, AreBytes, Decrypt}
+use N.{labelOf, Shelf·Outcome as Outcome, collectCall, findCall, holding, lookedUp, newRecord, nowhere, putCall, putIn}
+use N.{shelfRefuse as refuse, AllProper, Record, records, stored·shelf as stored, written·shelf as written, badShelf, collected, currentOf}
+use N.{fitted, hasCurrent, isCurrentOf, notHigher, those, twoCurrent, InOrder, hostModeCall, LuossavinKey}
 use Rattle.block.proofs.Entries.{below-take}
 use Rattle.block.proofs.Same.{and-right}
-use Rattle.label.specs.Label.{labelOf}
-use Rattle.cipher_mode.specs.declared.Direction.the-variants.{Decrypt}
-use Rattle.cipher_mode.specs.declared.Sm4Cipher.{Sm4Cipher}
-use Rattle.cipher_mode.specs.Calls.{modeCall}
-use Rattle.shelf.specs.Records.{Record, AllProper, written, stored, records}
-use Rattle.shelf.specs.Shelf.{isCurrentOf, those, currentOf, hasCurrent, twoCurrent, placeOf, sizeOf, notHigher, collected, fitted, badShelf}
-use Rattle.shelf.specs.Steps.{InOrder}
-use Rattle.shelf.specs.Calls.{holding, refuse, newRecord, putIn, nowhere, putCall, collectCall, findCall, lookedUp}
 use Rattle.shelf.proofs.Reading.{written-label, written-sealed}
 use Rattle.shelf.proofs.Walks.{or-left, or-right, none-current, alone}
 use Rattle.shelf.proofs.Sound.{in-order}
@@ -28,67 +14,46 @@ use Rattle.shelf.proofs.Current.{collected-length}
 use Rattle.shelf.proofs.ReadsProper.{records-proper, those-proper}
 use Rattle.shelf.proofs.FoundPart.{stored-part, look-up}
 use Rattle.shelf.proofs.AfterPut.{put-passed, put-look-up}
-use Rattle.luossavin.specs.declared.key.LuossavinKey.{LuossavinKey}
-use Rattle.luossavin.specs.Host.{hostModeCall}
 use Rattle.demands.specs.Answered.{oneOf}
-use Rattle.demands.specs.Call.{Call, inGcm}
 use Rattle.demands.specs.OneBlockRefused.{MovesZero}
-use Rattle.demands.specs.OtherEdition.{OtherEditionRefused}
-use Rattle.demands.specs.WhichNumber.{only, row, firstOf}
+use Rattle.demands.specs.WhichNumber.{Said, only, firstOf}
 use Rattle.demands.specs.OnTheShelf.{ShelfAnswered, PlaceAnswered, putNumbers, collectNumbers, putRows, collectRows, findRows}
 use Rattle.demands.specs.OnTheShelf.{labelIn, fileIn, OneEditionOpens, NoRoughShown, OfEach}
-use Rattle.demands.proofs.OtherEdition.{other-edition-refused, exported-other-edition-refused}
+use Rattle.demands.proofs.OneBlockRefused.{other-edition-refused}
+use Rattle.demands.proofs.Answering.{split}
+
+-- behind a refusal by number, or what comes next
+refuse-said : (t : Bool) (n used : ℕ) (shelf : List ℕ) (x : Outcome) (s : Said) → only (x .number) ≡ s
+    → only (refuse t n shelf used x .number) ≡ cond t (only n) s
+refuse-said true n used shelf x s e = refl
+refuse-said false n used shelf x s e = e
 
 -- Which number: putting says what the first condition says that holds.
 pub exported-put-number : (shelf : List ℕ) (used job edition : ℕ) (sealed : List ℕ)
     → only (putCall shelf used job edition sealed .number) ≡ firstOf (putRows shelf used job edition sealed)
 unfolding putCall
 exported-put-number shelf used job edition sealed =
-    by-tests (badShelf shelf used) (notHigher job edition (records (take used shelf)))
-    (ltb (length shelf) (length (stored (collected (putIn shelf used job edition sealed))))) where
-      by-tests : (bad low full : Bool)
-          → only
-          (refuse bad 19 shelf used
-          (refuse low 20 shelf used
-          (refuse full 21 shelf used (holding (fitted (length shelf) (putIn shelf used job edition sealed)) shelf))) .number)
-          ≡ firstOf (row bad 19 ∷ row low 20 ∷ row full 21 ∷ [])
-      by-tests true low full = refl
-      by-tests false true full = refl
-      by-tests false false true = refl
-      by-tests false false false = refl
+    refuse-said (badShelf shelf used) 19 used shelf _ _
+    (refuse-said (notHigher job edition (records (take used shelf))) 20 used shelf _ _
+    (refuse-said (ltb (length shelf) (length (stored (collected (putIn shelf used job edition sealed))))) 21 used shelf _ _ refl))
 
 pub exported-collect-number : (shelf : List ℕ) (used : ℕ) → only (collectCall shelf used .number) ≡ firstOf (collectRows shelf used)
 unfolding collectCall
-exported-collect-number shelf used = by-test (badShelf shelf used) where
-  by-test : (bad : Bool)
-      → only (refuse bad 19 shelf used (holding (collected (records (take used shelf))) shelf) .number) ≡ firstOf (row bad 19 ∷ [])
-  by-test true = refl
-  by-test false = refl
+exported-collect-number shelf used = refuse-said (badShelf shelf used) 19 used shelf _ _ refl
 
 pub exported-find-number : (shelf : List ℕ) (used job : ℕ) → only (findCall shelf used job .number) ≡ firstOf (findRows shelf used job)
 unfolding findCall
-exported-find-number shelf used job = by-tests (badShelf shelf used) (hasCurrent job (records (take used shelf))) where
-  by-tests : (bad has : Bool)
-      → only
-      (cond bad (nowhere 19)
-      (cond has (record { number = 0; start = placeOf job (records (take used shelf)); size = sizeOf job (records (take used shelf)) })
-      (nowhere 22)) .number)
-      ≡ firstOf (row bad 19 ∷ row (not has) 22 ∷ [])
-  by-tests true has = refl
-  by-tests false true = refl
-  by-tests false false = refl
+exported-find-number shelf used job =
+    let has = hasCurrent job (records (take used shelf)) in
+    split _ (badShelf shelf used) (λ e. rw e) (λ e. split _ has (λ f. rw (e, f)) (λ f. rw (e, f)))
 
 -- Demand 1.
 module _ (numbers : List ℕ) (shelf : List ℕ) (used : ℕ) where
-  refuses : (n : ℕ) → 0 < n → oneOf n numbers ≡ true → ShelfAnswered numbers shelf used (record { number = n; used = used; bytes = shelf })
-  refuses n some within =
-      record {
-        numbered = within;
-        refused = λ _. (refl, refl);
-        fits = λ e. absurd (omega (arith, e, some));
-        past = refl;
-        kept = refl;
-      }
+  refuses : (t : Bool) (n : ℕ) (x : Outcome) → 0 < n → oneOf n numbers ≡ true → (t ≡ false → ShelfAnswered numbers shelf used x)
+      → ShelfAnswered numbers shelf used (refuse t n shelf used x)
+  refuses true n x some within next =
+      record { numbered = within; refused = λ _. (refl, refl); fits = λ e. absurd (omega (arith, e, some)); past = refl; kept = refl }
+  refuses false n x some within next = next refl
 
   holds : (rs : List Record) → oneOf 0 numbers ≡ true → length (stored rs) ≤ length shelf
       → ShelfAnswered numbers shelf used (holding rs shelf)
@@ -104,62 +69,45 @@ module _ (numbers : List ℕ) (shelf : List ℕ) (used : ℕ) where
 -- what is fitted fits where what is current does
 fitted-fits : (room : ℕ) (rs : List Record) → length (stored (collected rs)) ≤ room → length (stored (fitted room rs)) ≤ room
 unfolding fitted
-fitted-fits room rs h = by-test (leb (length (stored rs)) room) refl where
-  by-test : (t : Bool) → leb (length (stored rs)) room ≡ t → length (stored (cond t rs (collected rs))) ≤ room
-  by-test true e = leb-true (length (stored rs)) room e
-  by-test false e = h
+fitted-fits room rs h = split _ (leb (length (stored rs)) room) (λ e. rw e (leb-true (length (stored rs)) room e)) (λ e. rw e h)
 
 pub exported-put-answers : (shelf : List ℕ) (used job edition : ℕ) (sealed : List ℕ)
     → ShelfAnswered putNumbers shelf used (putCall shelf used job edition sealed)
 unfolding putCall
 exported-put-answers shelf used job edition sealed =
-    by-tests (badShelf shelf used) (notHigher job edition (records (take used shelf)))
-    (ltb (length shelf) (length (stored (collected (putIn shelf used job edition sealed))))) refl where
-      by-tests : (bad low full : Bool) → ltb (length shelf) (length (stored (collected (putIn shelf used job edition sealed)))) ≡ full
-          → ShelfAnswered putNumbers shelf used
-          (refuse bad 19 shelf used
-          (refuse low 20 shelf used
-          (refuse full 21 shelf used (holding (fitted (length shelf) (putIn shelf used job edition sealed)) shelf))))
-      by-tests true low full e = refuses putNumbers shelf used 19 (omega arith) refl
-      by-tests false true full e = refuses putNumbers shelf used 20 (omega arith) refl
-      by-tests false false true e = refuses putNumbers shelf used 21 (omega arith) refl
-      by-tests false false false e =
-          let new = putIn shelf used job edition sealed in
-          holds putNumbers shelf used (fitted (length shelf) new) refl
-          (fitted-fits (length shelf) new (ltb-false (length shelf) (length (stored (collected new))) e))
+    let new = putIn shelf used job edition sealed in
+    refuses putNumbers shelf used (badShelf shelf used) 19 _ (omega arith) refl (λ _.
+    refuses putNumbers shelf used (notHigher job edition (records (take used shelf))) 20 _ (omega arith) refl (λ _.
+    refuses putNumbers shelf used (ltb (length shelf) (length (stored (collected new)))) 21 _ (omega arith) refl (λ e.
+    holds putNumbers shelf used (fitted (length shelf) new) refl
+    (fitted-fits (length shelf) new (ltb-false (length shelf) (length (stored (collected new))) e)))))
 
 pub exported-collect-answers : (shelf : List ℕ) (used : ℕ) → ShelfAnswered collectNumbers shelf used (collectCall shelf used)
 unfolding collectCall
-exported-collect-answers shelf used = by-test (badShelf shelf used) refl where
-  by-test : (bad : Bool) → badShelf shelf used ≡ bad
-      → ShelfAnswered collectNumbers shelf used (refuse bad 19 shelf used (holding (collected (records (take used shelf))) shelf))
-  by-test true e = refuses collectNumbers shelf used 19 (omega arith) refl
-  by-test false e =
-      let order = in-order shelf used e in
-      let rs = records (take used shelf) in
-      holds collectNumbers shelf used (collected rs) refl (omega (arith, collected-length rs, order .fills, order .within))
+exported-collect-answers shelf used =
+    refuses collectNumbers shelf used (badShelf shelf used) 19 _ (omega arith) refl (λ e.
+    let order = in-order shelf used e in
+    let rs = records (take used shelf) in
+    holds collectNumbers shelf used (collected rs) refl (omega (arith, collected-length rs, order .fills, order .within)))
 
 pub exported-find-answers : (shelf : List ℕ) (used job : ℕ) → PlaceAnswered shelf used (findCall shelf used job)
 unfolding findCall
-exported-find-answers shelf used job = by-tests (badShelf shelf used) (hasCurrent job (records (take used shelf))) refl where
-  none : (n : ℕ) → 0 < n → oneOf n (0 ∷ 19 ∷ 22 ∷ []) ≡ true → PlaceAnswered shelf used (nowhere n)
-  none n some within = record { numbered = within; refused = λ _. (refl, refl); inside = λ e. absurd (omega (arith, e, some)) }
-
-  by-tests : (bad has : Bool) → badShelf shelf used ≡ bad
-      → PlaceAnswered shelf used
-      (cond bad (nowhere 19)
-      (cond has (record { number = 0; start = placeOf job (records (take used shelf)); size = sizeOf job (records (take used shelf)) })
-      (nowhere 22)))
-  by-tests true has e = none 19 (omega arith) refl
-  by-tests false false e = none 22 (omega arith) refl
-  by-tests false true e =
-      let order = in-order shelf used e in
-      let inside = stored-part job (records (take used shelf)) (order .single) .0 in
-      record {
-        numbered = refl;
-        refused = λ some. absurd (some refl);
-        inside = λ _. (omega (arith, inside, order .fills), order .within);
-      }
+exported-find-answers shelf used job =
+    split _ (badShelf shelf used) (λ e. rw e (none 19 (omega arith) refl)) (λ e.
+    split _ (hasCurrent job (records (take used shelf)))
+    (λ f.
+    let order = in-order shelf used e in
+    let inside = stored-part job (records (take used shelf)) (order .single) .0 in
+    rw (e, f)
+    (record {
+      numbered = refl;
+      refused = λ some. absurd (some refl);
+      inside = λ _. (omega (arith, inside, order .fills), order .within);
+    }))
+    (λ f. rw (e, f) (none 22 (omega arith) refl)))
+  where
+    none : (n : ℕ) → 0 < n → oneOf n (0 ∷ 19 ∷ 22 ∷ []) ≡ true → PlaceAnswered shelf used (nowhere n)
+    none n some within = record { numbered = within; refused = λ _. (refl, refl); inside = λ e. absurd (omega (arith, e, some)) }
 
 -- After a put that is done, looking up the job gives the new record: its label is that of the job and the edition, and its file the one
 -- put in.
@@ -178,34 +126,25 @@ put-is-found shelf used job edition sealed small job-fits edition-fits sealed-sm
 abbrev TheCurrent : ℕ → List Record → Type 0
 TheCurrent job rs = (r : Record) × (currentOf job rs ≡ r ∷ []) × (isCurrentOf job r ≡ true)
 
-current-by : (job : ℕ) (r : Record) (rs : List Record) (t : Bool) → isCurrentOf job r ≡ t → twoCurrent (r ∷ rs) ≡ false
-    → (t ≡ false → TheCurrent job rs) → TheCurrent job (r ∷ rs)
-unfolding those
-current-by job r rs true e f more =
-    (r, rw e (ap {B = List Record} (λ (l : List Record). r ∷ l) (none-current job rs (alone job r rs f e))), e)
-current-by job r rs false e f more = let m = more refl in (m .0, rw e (m .1), m .2)
-
 the-current : (job : ℕ) (rs : List Record) → hasCurrent job rs ≡ true → twoCurrent rs ≡ false → TheCurrent job rs
-unfolding hasCurrent twoCurrent
+unfolding hasCurrent twoCurrent those
 the-current job [] h f = let z : _≡_ {A = ℕ} 0 1 = cc in absurd (omega arith)
 the-current job (r ∷ rs) h f =
-    current-by job r rs (isCurrentOf job r) refl f (λ e.
-    the-current job rs (rw e at h) (or-right (r .current && hasCurrent (r .job) rs) (twoCurrent rs) f))
-
--- what is found is there
-found-there : (shelf : List ℕ) (used job : ℕ) (bad has : Bool) → badShelf shelf used ≡ bad
-    → hasCurrent job (records (take used shelf)) ≡ has → findCall shelf used job .number ≡ 0 → (bad ≡ false) × (has ≡ true)
-unfolding findCall
-found-there shelf used job true has e f z = let n : _≡_ {A = ℕ} 19 0 = rw e at z in absurd (omega arith)
-found-there shelf used job false false e f z = let n : _≡_ {A = ℕ} 22 0 = rw (e, f) at z in absurd (omega arith)
-found-there shelf used job false true e f z = (refl, refl)
+    split _ (isCurrentOf job r)
+    (λ e. (r, rw e (ap {B = List Record} (λ (l : List Record). r ∷ l) (none-current job rs (alone job r rs f e))), e))
+    (λ e.
+    let m = the-current job rs (rw e at h) (or-right (r .current && hasCurrent (r .job) rs) (twoCurrent rs) f) in
+    (m .0, rw e (m .1), m .2))
 
 module _ (shelf : List ℕ) (used job : ℕ) (small : AreBytes shelf) (found : findCall shelf used job .number ≡ 0) where
   abbrev rs : List Record
   rs = records (take used shelf)
 
   there : (badShelf shelf used ≡ false) × (hasCurrent job rs ≡ true)
-  there = found-there shelf used job (badShelf shelf used) (hasCurrent job rs) refl refl found
+  unfolding findCall
+  there =
+      split _ (badShelf shelf used) (λ e. let n : _≡_ {A = ℕ} 19 0 = rw e at found in absurd (omega arith)) (λ e.
+      split _ (hasCurrent job rs) (λ f. (e, f)) (λ f. let n : _≡_ {A = ℕ} 22 0 = rw (e, f) at found in absurd (omega arith)))
 
   order : InOrder shelf used
   order = in-order shelf used (there .0)
@@ -228,10 +167,11 @@ module _ (shelf : List ℕ) (used job : ℕ) (small : AreBytes shelf) (found : f
       let all = those-proper (isCurrentOf job) rs (records-proper (take used shelf) (below-take 256 used shelf small)) in
       subst AllProper (current .1) all .0 .edition
 
-  -- by any call under which other editions are refused
-  alone-under : (opening : Call) → OtherEditionRefused opening → job < 2 ^ 32 → (iv o : List ℕ)
-      → OneEditionOpens opening job (lookedUp shelf used job) iv o
-  alone-under opening others job-fits iv o =
+  -- Under a key that does not encrypt the all-zero block to itself, the current record of a job, where it opens under its own label, is
+  -- refused as 4 under the label of every other edition.
+  pub current-opens-alone : (k : LuossavinKey) → MovesZero (k .«round_keys») → job < 2 ^ 32 → (iv o : List ℕ)
+      → OneEditionOpens (hostModeCall Decrypt 4 k) job (lookedUp shelf used job) iv o
+  current-opens-alone k moves job-fits iv o =
       let part = lookedUp shelf used job in
       let label : labelIn part ≡ labelOf job (r .edition) =
       ap labelIn part-written ∙ written-label r ∙ ap (λ (j : ℕ). labelOf j (r .edition)) its-job in
@@ -239,63 +179,38 @@ module _ (shelf : List ℕ) (used job : ℕ) (small : AreBytes shelf) (found : f
         edition = r .edition;
         label = label;
         alone = λ opens e fits other.
-            others job job (r .edition) e (fileIn part) iv o o job-fits job-fits edition-fits fits (inr (λ same. other (sym same))) refl
-            (subst (λ (l : List ℕ). opening l (fileIn part) iv o .head .number ≡ 0) label opens);
+            other-edition-refused k moves job job (r .edition) e (fileIn part) iv o o job-fits job-fits edition-fits fits
+            (inr (λ same. other (sym same))) refl (subst (λ (l : List ℕ). hostModeCall Decrypt 4 k l (fileIn part) iv o .head .number ≡ 0)
+            label opens);
       }
 
-  -- Under a key that does not encrypt the all-zero block to itself, the current record of a job, where it opens under its own label, is
-  -- refused as 4 under the label of every other edition.
-  pub current-opens-alone : (c : Sm4Cipher) → MovesZero (c .rk) → job < 2 ^ 32 → (iv o : List ℕ)
-      → OneEditionOpens (modeCall Decrypt (inGcm c)) job (lookedUp shelf used job) iv o
-  current-opens-alone c moves = alone-under (modeCall Decrypt (inGcm c)) (other-edition-refused c moves)
-
-  pub exported-current-opens-alone : (k : LuossavinKey) → MovesZero (k .«round_keys») → job < 2 ^ 32 → (iv o : List ℕ)
-      → OneEditionOpens (hostModeCall Decrypt 4 k) job (lookedUp shelf used job) iv o
-  exported-current-opens-alone k moves = alone-under (hostModeCall Decrypt 4 k) (exported-other-edition-refused k moves)
-
 -- every edition of the job on the shelf is lower than one that is not refused as not higher
-module _ (opening : Call) (others : OtherEditionRefused opening) (job e : ℕ) (job-fits : job < 2 ^ 32) (fits : e < 2 ^ 16)
+module _ (k : LuossavinKey) (moves : MovesZero (k .«round_keys»)) (job e : ℕ) (job-fits : job < 2 ^ 32) (fits : e < 2 ^ 16)
     (file iv o : List ℕ) where
   abbrev shown : Record → Type 0
-  shown r = NoRoughShown opening job e file iv o r
-
-  lower : (r : Record) → eqb (r .job) job && leb e (r .edition) ≡ false → r .job ≡ job → r .edition < e
-  lower r f same =
-      let t : leb e (r .edition) ≡ false = rw (eq-eqb (r .job) job same) at f in
-      leb-false e (r .edition) t
+  shown r = NoRoughShown (hostModeCall Decrypt 4 k) job e file iv o r
 
   not-shown : (r : Record) → r .edition < e → shown r
   not-shown r h =
+      let below : r .edition < 2 ^ 16 = omega (arith, h, fits) in
+      let other = other-edition-refused k moves job job in
       record {
         higher = h;
-        new-under-old = λ opens.
-            others job job e (r .edition) file iv o o job-fits job-fits fits (omega (arith, h, fits)) (inr (λ same. omega (arith, same, h)))
-            refl opens;
-        old-under-new = λ opens.
-            others job job (r .edition) e (r .sealed) iv o o job-fits job-fits (omega (arith, h, fits)) fits
-            (inr (λ same. omega (arith, same, h))) refl opens;
+        new-under-old = other e (r .edition) file iv o o job-fits job-fits fits below (inr (λ same. omega (arith, same, h))) refl;
+        old-under-new = other (r .edition) e (r .sealed) iv o o job-fits job-fits below fits (inr (λ same. omega (arith, same, h))) refl;
       }
 
   none-shown : (rs : List Record) → notHigher job e rs ≡ false → OfEach shown job rs
   unfolding notHigher
   none-shown [] f = tt
   none-shown (r ∷ rs) f =
-      let here = eqb (r .job) job && leb e (r .edition) in
-      (λ same. not-shown r (lower r (or-left here (notHigher job e rs) f) same), none-shown rs (or-right here (notHigher job e rs) f))
+      let here = eqb (r .job) job && leb e (r .edition) in (
+        λ same. not-shown r (leb-false e (r .edition) (rw (eq-eqb (r .job) job same) at (or-left here (notHigher job e rs) f))),
+        none-shown rs (or-right here (notHigher job e rs) f),
+      )
 
-  after-put : (shelf : List ℕ) (used : ℕ) → putCall shelf used job e file .number ≡ 0 → OfEach shown job (records (take used shelf))
-  after-put shelf used done = none-shown (records (take used shelf)) (put-passed shelf used job e file done .higher)
-
--- No rough is shown for its final. After a put that is done, under a key that does not encrypt the all-zero block to itself, the file put
--- in does not open under the label of any edition of the job that was on the shelf, and none of their files opens under the new one's.
-module _ (job e : ℕ) (job-fits : job < 2 ^ 32) (fits : e < 2 ^ 16) (file iv o shelf : List ℕ) (used : ℕ)
-    (done : putCall shelf used job e file .number ≡ 0) where
-  pub no-rough-shown : (c : Sm4Cipher) → MovesZero (c .rk)
-      → OfEach (NoRoughShown (modeCall Decrypt (inGcm c)) job e file iv o) job (records (take used shelf))
-  no-rough-shown c moves =
-      after-put (modeCall Decrypt (inGcm c)) (other-edition-refused c moves) job e job-fits fits file iv o shelf used done
-
-  pub exported-no-rough-shown : (k : LuossavinKey) → MovesZero (k .«round_keys»)
+  -- No rough is shown for its final. After a put that is done, under a key that does not encrypt the all-zero block to itself, the file put
+  -- in does not open under the label of any edition of the job that was on the shelf, and none of their files opens under the new one's.
+  pub no-rough-shown : (shelf : List ℕ) (used : ℕ) → putCall shelf used job e file .number ≡ 0
       → OfEach (NoRoughShown (hostModeCall Decrypt 4 k) job e file iv o) job (records (take used shelf))
-  exported-no-rough-shown k moves =
-      after-put (hostModeCall Decrypt 4 k) (exported-other-edition-refused k moves) job e job-fits fits file iv o shelf used done
+  no-rough-shown shelf used done = none-shown (records (take used shelf)) (put-passed shelf used job e file done .higher)

@@ -1,41 +1,15 @@
 -- Keys that open and no longer seal: a retired key encrypts nothing and decrypts as it did, and there is no way back.
--- Assumes nothing.
-use mathlib.Core.Path.{_≡_, refl, sym, ap, subst, _∙_}
-use mathlib.Core.Logic.{_≢_}
-use mathlib.Core.Bool.{Bool, true, false, _||_}
-use mathlib.Core.List.{List, [], _∷_, _++_, map}
-use Prim.Native.Nat.{ℕ, zero, suc}
-use native.Mathlib.Omega.{arith}
-use lib.Dec.{eqb, ltb}
-use lib.ListN.{length, take}
-use borrow.Author.Tests.{eq-eqb, ne-eqb, eqb-true, eqb-false}
-use Rattle.walk.specs.Outcome.{Outcome, refuse}
-use Rattle.cipher_mode.specs.declared.CipherMode.the-variants.{Ctr as Ctr·mode, Gcm}
-use Rattle.cipher_mode.specs.declared.Direction.the-variants.{Encrypt}
-use Rattle.cipher_mode.specs.declared.Sm4Cipher.{Sm4Cipher}
-use Rattle.cipher_mode.specs.declared.checks.Checked.the-variants.{Passed}
-use Rattle.cipher_mode.specs.Checks.{retiredCheck, keyAndIv, blockCheck, messageCheck}
-use Rattle.cipher_mode.specs.Calls.{blockCall, modeCall}
+use Rattle.demands.specs.Names as N
+use N.{Bool, _||_, false, true, List, [], _++_, _∷_, map, _≢_, _∙_, _≡_, ap, refl, subst, sym, suc, zero, ℕ, arith, eqb, ltb, length, take}
+use N.{eq-eqb, eqb-false, eqb-true, ne-eqb, blockCall, modeCall, blockCheck, keyAndIv, messageCheck, retiredCheck, Ctr as Ctr·mode, Gcm}
+use N.{Encrypt, Sm4Cipher, Passed, ctrStart, opensStart, sealStart, gcmStarting, Ctr·state as Ctr, Seal, searchCheck, which, planCall}
+use N.{rangeCall, rangeCheck, reachCheck, anyRetired, badKeys, replay, hostBlockCall, hostModeCall, hostCtrStart, hostOpensStart}
+use N.{hostSealStart, hostReplay, keysOf, cipherIn, hostKeyEngine, hostKeyRetire, keyAnswerOf, hostCtrByPlan, hostCtrRange, hostWhich}
+use N.{LuossavinKeys, LuossavinKey}
 use Rattle.cipher_mode.proofs.Passed.{both, key-and-iv-passed}
-use Rattle.pieces.specs.declared.ctr.Ctr.{Ctr}
-use Rattle.pieces.specs.declared.seal.Seal.{Seal}
-use Rattle.pieces.specs.Checks.{gcmStarting}
-use Rattle.pieces.specs.Calls.{ctrStart, sealStart, opensStart}
-use Rattle.editions.specs.Which.{which, searchCheck}
-use Rattle.ranges.specs.Range.{reachCheck, rangeCheck, rangeCall}
-use Rattle.ranges.specs.ByPlan.{planCall}
-use Rattle.journal.specs.KeyList.{anyRetired, badKeys}
-use Rattle.journal.specs.Replay.{replay}
-use Rattle.luossavin.specs.declared.key.LuossavinKey.{LuossavinKey}
-use Rattle.luossavin.specs.declared.journals.LuossavinKeys.{LuossavinKeys}
-use Rattle.luossavin.specs.Key.{keyAnswerOf, cipherIn, hostKeyRetire, hostKeyEngine}
-use Rattle.luossavin.specs.Host.{modeIn, hostBlockCall, hostModeCall}
-use Rattle.luossavin.specs.InPieces.{hostCtrStart, hostSealStart, hostOpensStart}
-use Rattle.luossavin.specs.Which.{hostWhich}
-use Rattle.luossavin.specs.Ranges.{hostCtrRange, hostCtrByPlan}
-use Rattle.luossavin.specs.Journals.{keysOf, hostReplay}
 use Rattle.demands.specs.Retired.{StaysRetired, DecryptsAlike, EncryptsNothing}
-use Rattle.demands.proofs.Through.{zero-passed, block-through, through, passed-start}
+use Rattle.demands.proofs.Through.{host-through, zero-passed, block-through, passed-start}
+use Rattle.demands.proofs.Answering.{split}
 
 -- A key that is retired keeps all but the mark;
 abbrev pub retiredOf : LuossavinKey → LuossavinKey
@@ -53,11 +27,9 @@ retired-no-key k n = rw (ne-eqb (k .answer) 0 n)
 -- so what holds of either holds of what is retired;
 pub retired-by : (P : LuossavinKey → Type 0) (k : LuossavinKey) → (k .answer ≡ 0 → P (retiredOf k)) → (k .answer ≢ 0 → P k)
     → P (hostKeyRetire k)
-retired-by P k of-key of-none = by (eqb (k .answer) 0) refl
-  where
-    by : (t : Bool) → eqb (k .answer) 0 ≡ t → P (hostKeyRetire k)
-    by true e = let z = eqb-true (k .answer) 0 e in subst P (sym (retired-key k z)) (of-key z)
-    by false e = let n = eqb-false (k .answer) 0 e in subst P (sym (retired-no-key k n)) (of-none n)
+retired-by P k of-key of-none =
+    split _ (eqb (k .answer) 0) (λ e. let z = eqb-true (k .answer) 0 e in subst P (sym (retired-key k z)) (of-key z))
+    (λ e. let n = eqb-false (k .answer) 0 e in subst P (sym (retired-no-key k n)) (of-none n))
 
 -- twice is once;
 pub retired-twice : (k : LuossavinKey) → hostKeyRetire (hostKeyRetire k) ≡ hostKeyRetire k
@@ -73,16 +45,7 @@ engine-stays-retired e k r = r
 
 -- Decryption does not look at the mark.
 same : (k : LuossavinKey) → DecryptsAlike k k
-same k =
-    record {
-      block = λ b o. refl;
-      message = λ mode label s iv o. refl;
-      ctr = λ iv. refl;
-      opens = λ label iv. refl;
-      which = λ file iv labels lengths. refl;
-      range = λ iv offset d o. refl;
-      by-plan = λ iv plan d o. refl;
-    }
+same k = search
 
 alike : (k : LuossavinKey) → k .answer ≡ 0 → DecryptsAlike k (retiredOf k)
 unfolding cipherIn keyAnswerOf hostBlockCall blockCall blockCheck hostModeCall modeCall messageCheck keyAndIv hostCtrStart ctrStart
@@ -148,25 +111,19 @@ bad-keys keys before after k r e =
     ap anyRetired (taken (keys .count) (keys .keys) ∙ ap (map cipherIn) e) ∙ among before k after r in
     rw retired (or-true (ltb 8 (keys .count)))
 
--- behind a refusal by number 7
-not-seven : (b : Bool) (o : List ℕ) (x : Outcome) → refuse b 7 o x .head .number ≡ 0 → x .head .number ≡ 0
-not-seven true o x e = absurd (omega arith)
-not-seven false o x e = e
-
 marked : (k : LuossavinKey) → k .retired ≢ 0 → cipherIn k .retired ≡ true
 unfolding cipherIn
 marked k n = rw (ne-eqb (k .retired) 0 n)
 
 pub retired-encrypts-nothing : (k : LuossavinKey) → k .retired ≢ 0 → EncryptsNothing k
-unfolding hostBlockCall hostModeCall hostCtrStart ctrStart hostSealStart sealStart hostCtrRange rangeCall hostCtrByPlan planCall hostReplay
+unfolding hostBlockCall hostCtrStart ctrStart hostSealStart sealStart hostCtrRange rangeCall hostCtrByPlan planCall hostReplay
     replay
 retired-encrypts-nothing k n =
     let c = cipherIn k in
     let r = marked k n in
     record {
       block = λ b o e. not-allowed (c .retired) r (block-through Encrypt c b o e .may);
-      message = λ mode label d iv o e.
-          not-allowed (c .retired) r (through Encrypt (modeIn k mode) label d iv o (not-seven (ltb 4 mode) o _ e) .may);
+      message = λ mode label d iv o e. not-allowed (c .retired) r (host-through Encrypt mode k label d iv o e .1 .may);
       ctr = λ iv e. no-start c r (length iv) (passed-start Ctr _ _ _ e);
       seal = λ label iv e. no-seal c r (length iv) (length label) (passed-start Seal _ _ _ e);
       range = λ iv offset d o e. no-range c r (length iv) offset (length d) (length o) (zero-passed _ o _ e);

@@ -1,121 +1,52 @@
 -- Demand 1 of the calls on messages in pieces: every value of a state has its answer, a refusal changes nothing, and a refused start
 -- and an ended message are no message's state any more.
--- Assumes nothing.
-use mathlib.Core.Path.{_≡_, refl, sym, ap, subst, _∙_}
-use mathlib.Core.Logic.{_≢_, _⊎_, inl, inr, ⊎-elim}
-use mathlib.Core.Bool.{Bool, true, false, not, cond}
-use mathlib.Core.List.{List, []}
-use Prim.Native.Nat.{ℕ, _+_, _-_, _%_, _≤_, _<_}
-use native.Mathlib.Omega.{arith}
-use lib.Dec.{eqb, ltb}
-use lib.ListN.{length}
-use Rattle.block.specs.Same.{same}
-use Rattle.block.specs.Xor.{xors}
+use Rattle.demands.specs.Names as N
+use N.{Bool, cond, false, not, true, List, [], _++_, _∷_, _≢_, _⊎_, ⊎-elim, _∙_, _≡_, ap, refl, subst, sym, _%_, _-_, ℕ, arith, eqb, length}
+use N.{eqb-true, ne-eqb, same, xors, blocksOf, gcmCameRound, finished, refusal, telling, refusalHead, keyAndIv, keyNumber, Ctr as Ctr·mode}
+use N.{Direction, Decrypt, Encrypt, Sm4Cipher, Refusal, Ended, ErrorBlockSize, Retired, TooLong, WrongIv, WrongNumber, Checked, Passed}
+use N.{Refused, Stepped, begun, ctrEnd, ctrPiece, ctrStart, ended, goesOn, opensEnd, opensPiece, opensStart, sealEnd, sealPiece, sealStart}
+use N.{stepOn, gcmStarting, running, standing, tagged, writing, flowText, hashEnd, ctrAfter, ctrShut, opensAfter, opensShut, sealAfter}
+use N.{sealShut, Ctr·state as Ctr, Ctr·counting, Gcm·counting, Opens, Seal, directionOf, hostCtrStart, hostOpensStart, hostSealStart}
+use N.{cipherIn, LuossavinKey}
 use Rattle.block.proofs.Convert.{length-bytesOf}
 use Rattle.block.proofs.Xors.{length-xors}
-use Rattle.counter.specs.CameRound.{blocksOf, ctrCameRound, gcmCameRound}
-use Rattle.walk.specs.Outcome.{Head, finished, refusal, under, leaving, telling}
-use Rattle.walk.specs.Walk.{over}
-use Rattle.cipher_mode.specs.declared.KeyAnswer.{KeyAnswer}
-use Rattle.cipher_mode.specs.declared.KeyAnswer.the-variants.{Key, ErrorBlockSize as NoKey, WrongNumber as NoNumber}
-use Rattle.cipher_mode.specs.declared.CipherMode.{CipherMode}
-use Rattle.cipher_mode.specs.declared.CipherMode.the-variants.{Ctr as Ctr·mode, Gcm}
-use Rattle.cipher_mode.specs.declared.Direction.{Direction}
-use Rattle.cipher_mode.specs.declared.Direction.the-variants.{Encrypt, Decrypt}
-use Rattle.cipher_mode.specs.declared.Sm4Cipher.{Sm4Cipher}
-use Rattle.cipher_mode.specs.declared.answer.Refusal.{Refusal}
-use Rattle.cipher_mode.specs.declared.answer.Refusal.the-variants.{ErrorBlockSize, TooLong, NoRoom, ShortGcm, WrongIv, Ended, WrongNumber, Retired}
-use Rattle.cipher_mode.specs.declared.checks.Checked.{Checked}
-use Rattle.cipher_mode.specs.declared.checks.Checked.the-variants.{Passed, Refused}
-use Rattle.cipher_mode.specs.Answer.{refusalHead}
-use Rattle.cipher_mode.specs.Key.{keyNumber}
-use Rattle.cipher_mode.specs.Tables.{limit}
-use Rattle.cipher_mode.specs.Checks.{refuse, andThen, keyCheck, wrongIv, retiredCheck, keyAndIv}
 use Rattle.cipher_mode.proofs.Refusals.{refuses as each-refuses}
-use Rattle.pieces.specs.declared.flow.Counting.the-variants.{Ctr as Ctr·counting, Gcm as Gcm·counting}
-use Rattle.pieces.specs.declared.ctr.Ctr.{Ctr}
-use Rattle.pieces.specs.declared.opens.Opens.{Opens}
-use Rattle.pieces.specs.declared.seal.Seal.{Seal}
-use Rattle.pieces.specs.Flow.{flowText}
-use Rattle.pieces.specs.Hashing.{hashEnd}
-use Rattle.pieces.specs.Checks.{gcmStarting, standing, running, writing, tagged}
-use Rattle.pieces.specs.States.{ctrAfter, ctrShut, sealAfter, sealShut, opensAfter, opensShut}
-use Rattle.pieces.specs.Calls.{Stepped, stepOn, ended, begun, goesOn, ctrStart, sealStart, opensStart}
-use Rattle.pieces.specs.Calls.{ctrPiece, ctrEnd, sealPiece, sealEnd, opensPiece, opensEnd}
 use Rattle.pieces.proofs.KeyStream.{text-length}
 use Rattle.pieces.proofs.Passing.{writing-passed}
-use Rattle.demands.specs.Answered.{Answered}
-use Rattle.demands.specs.Steps.{outcomeOf, ctrKey, sealKey, opensKey, pieceNumbers, StepAnswered, turned, NoCtr, NoSeal, NoOpens}
-use Rattle.demands.proofs.Answering.{refuses, does, refusal-answers, Within, within-refuse, within-cond, within-then, on-key, reports}
-use Rattle.demands.proofs.EveryCallAnswers.{key-and-iv-within, label-within}
-
--- the refusals of a piece and of an end
-module _ (mark label total : ℕ) where
-  standing-within : Within pieceNumbers (standing mark)
-  unfolding standing
-  standing-within =
-      within-cond pieceNumbers (eqb mark 0) _
-      (within-refuse pieceNumbers (eqb mark 1) ErrorBlockSize _ refl
-      (within-refuse pieceNumbers (eqb mark 5) TooLong _ refl
-      (within-refuse pieceNumbers (eqb mark 10) WrongIv _ refl
-      (within-refuse pieceNumbers (eqb mark 13) WrongNumber _ refl
-      (within-refuse pieceNumbers (eqb mark 14) Retired _ refl refl)))))
-
-  running-within : (n : ℕ) → Within pieceNumbers (running mark label total n)
-  unfolding running
-  running-within n =
-      within-then pieceNumbers (standing mark) _ standing-within
-      (within-refuse pieceNumbers (ltb limit label) TooLong _ refl
-      (within-refuse pieceNumbers (ltb limit (total + n)) TooLong Passed refl tt))
-
-  writing-within : (n written room : ℕ) → Within pieceNumbers (writing mark label total n written room)
-  unfolding writing
-  writing-within n written room =
-      within-then pieceNumbers (running mark label total n) _ (running-within n)
-      (within-refuse pieceNumbers (ltb room written) NoRoom Passed refl tt)
-
-  tagged-within : (tag : ℕ) → Within pieceNumbers (tagged mark label total tag)
-  unfolding tagged
-  tagged-within tag =
-      within-then pieceNumbers (running mark label total 0) _ (running-within 0)
-      (within-refuse pieceNumbers (not (eqb tag 16)) (ShortGcm (16 - tag)) Passed refl tt)
+use Rattle.demands.specs.Steps.{outcomeOf, ctrKey, sealKey, opensKey, pieceNumbers, StepAnswered, NoCtr, NoSeal, NoOpens}
+use Rattle.demands.specs.Answered.{oneOf, Answered}
+use Rattle.demands.specs.WhichNumber.{Said, saidIn, only, firstOf, runningRows, ctrPieceRows, ctrEndRows, sealPieceRows, sealEndRows}
+use Rattle.demands.specs.WhichNumber.{opensPieceRows, opensEndRows, ctrStartRows, gcmStartRows}
+use Rattle.demands.proofs.WhichNumber.{behind, said·laws, said-standing, ctr-piece-number, ctr-end-number, seal-piece-number}
+use Rattle.demands.proofs.WhichNumber.{seal-end-number, opens-piece-number, opens-end-number, exported-ctr-start-number}
+use Rattle.demands.proofs.WhichNumber.{exported-seal-start-number, exported-opens-start-number}
+use Rattle.demands.proofs.Answering.{numbered, within, Fair, answered, refused-fair, refusal-fair, done-fair, split}
 
 -- a refusal, or what comes next, which may count on it that the check passed
-goes-answers : (S : Type 0) (number : S → ℕ) (k : Checked) (o : List ℕ) (s : S) (n : ℕ) (next : Stepped S) → Within pieceNumbers k
-    → (k ≡ Passed → Answered pieceNumbers 0 o n (outcomeOf S next)) → number (next .state) ≡ number s
+goes-answers : (S : Type 0) (number : S → ℕ) (k : Checked) (o : List ℕ) (s : S) (n : ℕ) (next : Stepped S)
+    → oneOf (goesOn S k o s next .head .number) pieceNumbers ≡ true → (k ≡ Passed → Fair o n (next .head) (next .bytes))
+    → number (next .state) ≡ number s
     → (next .head .number ≢ 0 → next .head .number ≢ 4 → next .state ≡ s)
     → StepAnswered S number s o n (stepOn S (number s) (goesOn S k o s next))
-goes-answers S number Passed o s n next w a c u =
-    record { answered = on-key pieceNumbers (number s) n o _ (a refl); carried = c; unmoved = u }
-goes-answers S number (Refused r) o s n next w a c u =
-    record {
-      answered = on-key pieceNumbers (number s) n o _ (refusal-answers pieceNumbers r n o w);
-      carried = refl;
-      unmoved = λ _ _. refl;
-    }
-
--- done with p, whose length is n
-written-answers : (p o : List ℕ) (n : ℕ) → length p ≡ n → n ≤ length o → Answered pieceNumbers 0 o n (leaving (finished n) (over p o))
-written-answers p o n e h =
-    subst (λ (m : ℕ). Answered pieceNumbers 0 o n (leaving (finished m) (over p o))) e (does pieceNumbers p o n refl e h)
+goes-answers S number Passed o s n next i a c u =
+    record { answered = answered o n pieceNumbers _ _ i refl (a refl); carried = c; unmoved = u }
+goes-answers S number (Refused r) o s n next i a c u =
+    record { answered = answered o n pieceNumbers _ _ i refl (refusal-fair o n r); carried = refl; unmoved = λ _ _. refl }
 
 -- done with no output
-nothing-answers : Answered pieceNumbers 0 [] 0 (leaving (finished 0) [])
-nothing-answers = written-answers [] [] 0 refl (omega arith)
-
-yes-or-no-answers : (t b : Bool) → Answered pieceNumbers 0 [] 0 (leaving (cond t (telling b (finished 0)) (refusal 4)) [])
-yes-or-no-answers true b = reports pieceNumbers b 0 0 [] _ nothing-answers
-yes-or-no-answers false b = refuses pieceNumbers 4 0 [] (omega arith) refl
+nothing-fair : Fair [] 0 (finished 0) []
+nothing-fair = done-fair [] 0 [] 0 refl refl (omega arith)
 
 -- the tag decides between 0 and 4
+yes-or-no-fair : (t b : Bool) → Fair [] 0 (cond t (telling b (finished 0)) (refusal 4)) []
+yes-or-no-fair true b = nothing-fair
+yes-or-no-fair false b = refused-fair [] 0 4 (omega arith)
+
 unmoved-end : (t b : Bool) (s r : Opens)
     → let h = cond t (telling b (finished 0)) (refusal 4) in
     h .number ≢ 0 → h .number ≢ 4 → r ≡ s
 unmoved-end true b s r n m = absurd (n refl)
 unmoved-end false b s r n m = absurd (m refl)
-
-low : (n : ℕ) → n % 16 < 16
-low n = omega arith
 
 -- A piece of Ctr is refused, with state and output as they came, or done with its own length. The pad of a state has sixteen
 -- bytes, as its type says.
@@ -123,26 +54,26 @@ pub ctr-piece-answers : (s : Ctr) (e o : List ℕ) → length (s .flow .pad) ≡
 unfolding ctrPiece
 ctr-piece-answers s e o n =
     goes-answers Ctr ctrKey (writing (s .stands) 0 (s .total) (length e) (length e) (length o)) o s (length e) _
-    (writing-within (s .stands) 0 (s .total) (length e) (length e) (length o))
-    (λ k. written-answers (flowText Ctr·counting (s .rk) (s .flow) (s .total % 16) e) o (length e)
-    (text-length Ctr·counting (s .rk) (s .flow) (s .total % 16) e n (low (s .total)))
+    (numbered (ctrPieceRows s e o) pieceNumbers _ refl (ctr-piece-number s e o))
+    (λ k. done-fair o (length e) (flowText Ctr·counting (s .rk) (s .flow) (s .total % 16) e) (length e)
+    (text-length Ctr·counting (s .rk) (s .flow) (s .total % 16) e n (omega arith)) refl
     (writing-passed (s .stands) 0 (s .total) (length e) (length e) (length o) k .1))
     refl (λ z _. absurd (z refl))
 
 pub ctr-end-answers : (s : Ctr) → StepAnswered Ctr ctrKey s [] 0 (ctrEnd s)
 unfolding ctrEnd ctrShut
 ctr-end-answers s =
-    goes-answers Ctr ctrKey (running (s .stands) 0 (s .total) 0) [] s 0 _ (running-within (s .stands) 0 (s .total) 0)
-    (λ _. reports pieceNumbers (ctrCameRound (s .first) (blocksOf (s .total))) 0 0 [] _ nothing-answers) refl (λ z _. absurd (z refl))
+    goes-answers Ctr ctrKey (running (s .stands) 0 (s .total) 0) [] s 0 _
+    (numbered (ctrEndRows s) pieceNumbers _ refl (ctr-end-number s)) (λ _. nothing-fair) refl (λ z _. absurd (z refl))
 
 -- A piece of a sealing, likewise.
 pub seal-piece-answers : (s : Seal) (e o : List ℕ) → length (s .flow .pad) ≡ 16 → StepAnswered Seal sealKey s o (length e) (sealPiece s e o)
 unfolding sealPiece
 seal-piece-answers s e o n =
     goes-answers Seal sealKey (writing (s .stands) (s .label) (s .total) (length e) (length e) (length o)) o s (length e) _
-    (writing-within (s .stands) (s .label) (s .total) (length e) (length e) (length o))
-    (λ k. written-answers (flowText Gcm·counting (s .rk) (s .flow) (s .total % 16) e) o (length e)
-    (text-length Gcm·counting (s .rk) (s .flow) (s .total % 16) e n (low (s .total)))
+    (numbered (sealPieceRows s e o) pieceNumbers _ refl (seal-piece-number s e o))
+    (λ k. done-fair o (length e) (flowText Gcm·counting (s .rk) (s .flow) (s .total % 16) e) (length e)
+    (text-length Gcm·counting (s .rk) (s .flow) (s .total % 16) e n (omega arith)) refl
     (writing-passed (s .stands) (s .label) (s .total) (length e) (length e) (length o) k .1))
     refl (λ z _. absurd (z refl))
 
@@ -153,10 +84,9 @@ seal-end-answers s o n =
     let hash = hashEnd (s .hashing) (s .total % 16) (s .label) (s .total) in
     let m : length hash ≡ 16 = length-bytesOf 16 _ in
     goes-answers Seal sealKey (writing (s .stands) (s .label) (s .total) 0 16 (length o)) o s 16 _
-    (writing-within (s .stands) (s .label) (s .total) 0 16 (length o))
-    (λ k. reports pieceNumbers (gcmCameRound (s .low) (blocksOf (s .total))) 0 16 o _
-    (written-answers (xors (s .mask) hash) o 16 (length-xors (s .mask) hash (omega arith) ∙ n)
-    (writing-passed (s .stands) (s .label) (s .total) 0 16 (length o) k .1)))
+    (numbered (sealEndRows s o) pieceNumbers _ refl (seal-end-number s o))
+    (λ k. done-fair o 16 (xors (s .mask) hash) 16 (length-xors (s .mask) hash (omega arith) ∙ n) refl
+    (writing-passed (s .stands) (s .label) (s .total) 0 16 (length o) k .1))
     refl (λ z _. absurd (z refl))
 
 -- A piece of an opening is refused or taken; its end is refused, or answers 0 or 4, and only 4 leaves another state.
@@ -164,7 +94,7 @@ pub opens-piece-answers : (s : Opens) (e : List ℕ) → StepAnswered Opens open
 unfolding opensPiece
 opens-piece-answers s e =
     goes-answers Opens opensKey (running (s .stands) (s .label) (s .total) (length e)) [] s 0 _
-    (running-within (s .stands) (s .label) (s .total) (length e)) (λ _. nothing-answers) refl (λ z _. absurd (z refl))
+    (numbered (opensPieceRows s e) pieceNumbers _ refl (opens-piece-number s e)) (λ _. nothing-fair) refl (λ z _. absurd (z refl))
 
 pub opens-end-answers : (s : Opens) (tag : List ℕ) → StepAnswered Opens opensKey s [] 0 (opensEnd s tag)
 unfolding opensEnd opensShut
@@ -172,50 +102,12 @@ opens-end-answers s tag =
     let test = same tag (xors (s .mask) (hashEnd (s .hashing) (s .total % 16) (s .label) (s .total))) in
     let round = gcmCameRound (s .low) (blocksOf (s .total)) in
     goes-answers Opens opensKey (tagged (s .stands) (s .label) (s .total) (length tag)) [] s 0 _
-    (tagged-within (s .stands) (s .label) (s .total) (length tag)) (λ _. yes-or-no-answers test round) refl
+    (numbered (opensEndRows s tag) pieceNumbers _ refl (opens-end-number s tag)) (λ _. yes-or-no-fair test round) refl
     (unmoved-end test round s (opensShut (s .key) ended))
 
--- The starts report length 0, done or refused, and the state carries the key's number.
-start-answers : (S : Type 0) (number : S → ℕ) (n : ℕ) (k : Checked) (shut : ℕ → S) (s : S) → Within pieceNumbers k
-    → ((mark : ℕ) → number (shut mark) ≡ n) → number s ≡ n
-    → Answered pieceNumbers n [] 0 (outcomeOf S (stepOn S n (begun S k shut s))) × (number (begun S k shut s .state) ≡ n)
-start-answers S number n Passed shut s w e f = (on-key pieceNumbers n 0 [] _ nothing-answers, f)
-start-answers S number n (Refused r) shut s w e f =
-    (on-key pieceNumbers n 0 [] _ (refusal-answers pieceNumbers r 0 [] w), e (refusalHead r .number))
-
-gcm-start-within : (a : KeyAnswer) (retired : Bool) (dir : Direction) (iv label : ℕ) → Within pieceNumbers (gcmStarting a retired dir iv label)
-unfolding gcmStarting
-gcm-start-within a retired dir iv label =
-    within-then pieceNumbers (keyAndIv a retired dir Gcm iv) _ (key-and-iv-within pieceNumbers refl refl refl refl a retired dir Gcm iv)
-    (label-within pieceNumbers refl Gcm label)
-
-pub ctr-start-answers : (dir : Direction) (c : Sm4Cipher) (iv : List ℕ)
-    → Answered pieceNumbers (keyNumber c) [] 0 (outcomeOf Ctr (ctrStart dir c iv)) × (ctrStart dir c iv .state .key ≡ keyNumber c)
-unfolding ctrStart ctrAfter ctrShut
-ctr-start-answers dir c iv =
-    let k = keyNumber c in
-    start-answers Ctr ctrKey k (keyAndIv (c .answer) (c .retired) dir Ctr·mode (length iv)) (ctrShut k) (ctrAfter k (c .engine) (c .rk) iv [])
-    (key-and-iv-within pieceNumbers refl refl refl refl (c .answer) (c .retired) dir Ctr·mode (length iv)) (λ _. refl) refl
-
-pub seal-start-answers : (c : Sm4Cipher) (label iv : List ℕ)
-    → Answered pieceNumbers (keyNumber c) [] 0 (outcomeOf Seal (sealStart c label iv)) × (sealStart c label iv .state .key ≡ keyNumber c)
-unfolding sealStart sealAfter sealShut
-seal-start-answers c label iv =
-    let k = keyNumber c in
-    start-answers Seal sealKey k (gcmStarting (c .answer) (c .retired) Encrypt (length iv) (length label)) (sealShut k)
-    (sealAfter k (c .engine) (c .rk) label iv []) (gcm-start-within (c .answer) (c .retired) Encrypt (length iv) (length label)) (λ _. refl) refl
-
-pub opens-start-answers : (c : Sm4Cipher) (label iv : List ℕ)
-    → Answered pieceNumbers (keyNumber c) [] 0 (outcomeOf Opens (opensStart c label iv)) × (opensStart c label iv .state .key ≡ keyNumber c)
-unfolding opensStart opensAfter opensShut
-opens-start-answers c label iv =
-    let k = keyNumber c in
-    start-answers Opens opensKey k (gcmStarting (c .answer) (c .retired) Decrypt (length iv) (length label)) (opensShut k)
-    (opensAfter k (c .rk) label iv []) (gcm-start-within (c .answer) (c .retired) Decrypt (length iv) (length label)) (λ _. refl) refl
-
--- the marks at which a shut state stands: of a refused start, and of an end
-shut-mark : ℕ → Type 0
-shut-mark n = (n ≡ 1) ⊎ ((n ≡ 5) ⊎ ((n ≡ 10) ⊎ ((n ≡ 13) ⊎ ((n ≡ 14) ⊎ (n ≡ 12)))))
+-- what is told of a mark: it is 0, or one of those at which a shut state stands, of a refused start and of an end
+abbrev shutMarks : List ℕ
+shutMarks = 1 ∷ 5 ∷ 10 ∷ 13 ∷ 14 ∷ 12 ∷ []
 
 -- a mark refuses by its own number
 record Refuses (n : ℕ) : Type 0 where
@@ -223,205 +115,160 @@ record Refuses (n : ℕ) : Type 0 where
   pub head : refusalHead by ≡ refusal n
   pub stands : standing n ≡ Refused by
 
-refuses-alike : (n : ℕ) → shut-mark n → Refuses n
-unfolding shut-mark standing
-refuses-alike n m =
-    ⊎-elim (λ e. subst Refuses (sym e) (record { by = ErrorBlockSize; head = refl; stands = refl }))
-    (λ m. ⊎-elim (λ e. subst Refuses (sym e) (record { by = TooLong; head = refl; stands = refl }))
-    (λ m. ⊎-elim (λ e. subst Refuses (sym e) (record { by = WrongIv; head = refl; stands = refl }))
-    (λ m. ⊎-elim (λ e. subst Refuses (sym e) (record { by = WrongNumber; head = refl; stands = refl }))
-    (λ m. ⊎-elim (λ e. subst Refuses (sym e) (record { by = Retired; head = refl; stands = refl }))
-    (λ e. subst Refuses (sym e) (record { by = Ended; head = refl; stands = refl })) m) m) m) m) m
+-- what holds of every number of a list
+abbrev All : (ℕ → Type 0) → List ℕ → Type 0
+All P [] = Unit {0}
+All P (k ∷ ks) = P k × All P ks
 
-module _ (n : ℕ) (m : shut-mark n) (key : ℕ) where
-  -- whatever the lengths are
-  shut-runs : (S : Type 0) (label total k : ℕ) (o : List ℕ) (s : S) (next : Stepped S)
-      → stepOn S key (goesOn S (running n label total k) o s next) ≡ turned S key n s o
-  unfolding running
-  shut-runs S label total k o s next =
-      let r = refuses-alike n m in
-      rw (r .stands) (ap {B = Stepped S} (λ (h : Head). record { head = under key h; bytes = o; state = s }) (r .head))
+each : (P : ℕ → Type 0) (ks : List ℕ) → All P ks → (n : ℕ) → oneOf n ks ≡ true → P n
+each P [] a n e = let z : _≡_ {A = ℕ} 0 1 = cc in absurd (omega arith)
+each P (k ∷ ks) (p, ps) n e = split _ (eqb n k) (λ f. let z = eqb-true n k f in rw z p) (λ f. each P ks ps n (rw f at e))
 
-  shut-writes : (S : Type 0) (label total k written room : ℕ) (o : List ℕ) (s : S) (next : Stepped S)
-      → stepOn S key (goesOn S (writing n label total k written room) o s next) ≡ turned S key n s o
-  unfolding writing running
-  shut-writes S label total k written room o s next =
-      let r = refuses-alike n m in
-      rw (r .stands) (ap {B = Stepped S} (λ (h : Head). record { head = under key h; bytes = o; state = s }) (r .head))
+refuses-alike : (n : ℕ) → oneOf n shutMarks ≡ true → Refuses n
+unfolding standing
+refuses-alike =
+    each Refuses shutMarks (
+      record { by = ErrorBlockSize; head = refl; stands = refl },
+      (
+        record { by = TooLong; head = refl; stands = refl },
+        (
+          record { by = WrongIv; head = refl; stands = refl },
+          (
+            record { by = WrongNumber; head = refl; stands = refl },
+            (
+              record { by = Retired; head = refl; stands = refl },
+              (record { by = Ended; head = refl; stands = refl }, tt),
+            ),
+          ),
+        ),
+      ),
+    )
 
-  shut-tags : (S : Type 0) (label total tag : ℕ) (o : List ℕ) (s : S) (next : Stepped S)
-      → stepOn S key (goesOn S (tagged n label total tag) o s next) ≡ turned S key n s o
-  unfolding tagged running
-  shut-tags S label total tag o s next =
-      let r = refuses-alike n m in
-      rw (r .stands) (ap {B = Stepped S} (λ (h : Head). record { head = under key h; bytes = o; state = s }) (r .head))
-
+module _ (n : ℕ) (m : oneOf n shutMarks ≡ true) (key : ℕ) where
   shut-ctr : NoCtr n (ctrShut key n)
-  unfolding ctrPiece ctrEnd ctrShut
-  shut-ctr =
-      record {
-        piece = λ e o. shut-writes Ctr 0 0 (length e) (length e) (length o) o (ctrShut key n) _;
-        end = shut-runs Ctr 0 0 0 [] (ctrShut key n) _;
-      }
+  unfolding ctrPiece ctrEnd ctrShut writing running
+  shut-ctr = let r = refuses-alike n m in record { piece = λ e o. rw (r .stands, r .head); end = rw (r .stands, r .head) }
 
   shut-seal : NoSeal n (sealShut key n)
-  unfolding sealPiece sealEnd sealShut
-  shut-seal =
-      record {
-        piece = λ e o. shut-writes Seal 0 0 (length e) (length e) (length o) o (sealShut key n) _;
-        end = λ o. shut-writes Seal 0 0 0 16 (length o) o (sealShut key n) _;
-      }
+  unfolding sealPiece sealEnd sealShut writing running
+  shut-seal = let r = refuses-alike n m in record { piece = λ e o. rw (r .stands, r .head); end = λ o. rw (r .stands, r .head) }
 
   shut-opens : NoOpens n (opensShut key n)
-  unfolding opensPiece opensEnd opensShut
-  shut-opens =
-      record {
-        piece = λ e. shut-runs Opens 0 0 (length e) [] (opensShut key n) _;
-        end = λ tag. shut-tags Opens 0 0 (length tag) [] (opensShut key n) _;
-      }
+  unfolding opensPiece opensEnd opensShut tagged running
+  shut-opens = let r = refuses-alike n m in record { piece = λ e. rw (r .stands, r .head); end = λ tag. rw (r .stands, r .head) }
 
--- a start that was refused is shut at its number, and that is 1, 13, 10, 14 or 5
-start-shut : (S : Type 0) (k : Checked) (shut : ℕ → S) (s : S) → begun S k shut s .head .number ≢ 0
-    → begun S k shut s .state ≡ shut (begun S k shut s .head .number)
-start-shut S Passed shut s n = absurd (n refl)
-start-shut S (Refused r) shut s n = refl
+-- The starts report length 0, done or refused, and the state carries the key's number. Where one is refused, the state is shut at the
+-- number of the refusal.
+module _ (S : Type 0) (number : S → ℕ) (n : ℕ) (shut : ℕ → S) (s : S) (carried : (mark : ℕ) → number (shut mark) ≡ n) (first : number s ≡ n)
+  where
+    start-answers : (k : Checked) → oneOf (begun S k shut s .head .number) pieceNumbers ≡ true
+        → Answered pieceNumbers n [] 0 (outcomeOf S (stepOn S n (begun S k shut s))) × (number (begun S k shut s .state) ≡ n)
+    start-answers Passed i = (answered [] 0 pieceNumbers n _ i refl nothing-fair, first)
+    start-answers (Refused r) i = (answered [] 0 pieceNumbers n _ i refl (refusal-fair [] 0 r), carried _)
 
--- a check whose refusals leave such a mark
-Marks : Checked → Type 0
-Marks Passed = Unit {0}
-Marks (Refused r) = shut-mark (refusalHead r .number)
+start-shut : (S : Type 0) (No : ℕ → S → Type 0) (k : Checked) (shut : ℕ → S) (s : S)
+    → oneOf (begun S k shut s .head .number) (0 ∷ shutMarks) ≡ true → ((n : ℕ) → oneOf n shutMarks ≡ true → No n (shut n))
+    → begun S k shut s .head .number ≢ 0 → No (begun S k shut s .head .number) (begun S k shut s .state)
+start-shut S No Passed shut s i all n = absurd (n refl)
+start-shut S No (Refused r) shut s i all n = all _ (rw (ne-eqb (refusalHead r .number) 0 n) at i)
 
-marks-refuse : (test : Bool) (r : Refusal) (k : Checked) → shut-mark (refusalHead r .number) → Marks k → Marks (refuse test r k)
-unfolding Marks
-marks-refuse true r k m w = m
-marks-refuse false r k m w = w
+module _ (k : LuossavinKey) (decrypt : Bool) (iv : List ℕ) where
+  abbrev c : Sm4Cipher
+  c = cipherIn k
 
-marks-then : (a b : Checked) → Marks a → Marks b → Marks (andThen a b)
-unfolding Marks
-marks-then Passed b v w = w
-marks-then (Refused r) b v w = v
+  known-ctr : (numbers : List ℕ) → within (ctrStartRows k true iv) numbers ≡ true → within (ctrStartRows k false iv) numbers ≡ true
+      → oneOf (hostCtrStart k decrypt iv .head .number) numbers ≡ true
+  known-ctr numbers t f =
+      numbered (ctrStartRows k decrypt iv) numbers _ (split _ decrypt (λ e. rw e t) (λ e. rw e f)) (exported-ctr-start-number k decrypt iv)
 
-key-marks : (a : KeyAnswer) → Marks (keyCheck a)
-unfolding Marks shut-mark
-key-marks Key = tt
-key-marks NoKey = inl refl
-key-marks NoNumber = inr (inr (inr (inl refl)))
+  abbrev ctr-check : Checked
+  ctr-check = keyAndIv (c .answer) (c .retired) (directionOf decrypt) Ctr·mode (length iv)
 
-retired-marks : (dir : Direction) (retired : Bool) → Marks (retiredCheck dir retired)
-unfolding Marks shut-mark
-retired-marks Encrypt retired = marks-refuse retired Retired Passed (inr (inr (inr (inr (inl refl))))) tt
-retired-marks Decrypt retired = tt
+  pub ctr-start-answers : Answered pieceNumbers (keyNumber c) [] 0 (outcomeOf Ctr (hostCtrStart k decrypt iv))
+      × (hostCtrStart k decrypt iv .state .key ≡ keyNumber c)
+  unfolding hostCtrStart ctrStart ctrAfter ctrShut
+  ctr-start-answers =
+      start-answers Ctr ctrKey (keyNumber c) (ctrShut (keyNumber c)) (ctrAfter (keyNumber c) (c .engine) (c .rk) iv []) (λ _. refl) refl
+      ctr-check
+      (known-ctr pieceNumbers refl refl)
 
-start-marks : (a : KeyAnswer) (retired : Bool) (dir : Direction) (m : CipherMode) (iv : ℕ) → Marks (keyAndIv a retired dir m iv)
-unfolding keyAndIv shut-mark
-start-marks a retired dir m iv =
-    marks-then (keyCheck a) _ (key-marks a)
-    (marks-refuse (wrongIv m iv) WrongIv _ (inr (inr (inl refl))) (retired-marks dir retired))
+  -- A refused start gives no state: every call on what it gives answers that refusal and changes nothing.
+  pub ctr-refused-start : hostCtrStart k decrypt iv .head .number ≢ 0
+      → NoCtr (hostCtrStart k decrypt iv .head .number) (hostCtrStart k decrypt iv .state)
+  unfolding hostCtrStart ctrStart
+  ctr-refused-start =
+      start-shut Ctr NoCtr ctr-check (ctrShut (keyNumber c)) _ (known-ctr (0 ∷ shutMarks) refl refl) (λ n m. shut-ctr n m (keyNumber c))
 
-gcm-marks : (a : KeyAnswer) (retired : Bool) (dir : Direction) (iv label : ℕ) → Marks (gcmStarting a retired dir iv label)
-unfolding gcmStarting Marks shut-mark
-gcm-marks a retired dir iv label =
-    marks-then (keyAndIv a retired dir Gcm iv) _ (start-marks a retired dir Gcm iv)
-    (marks-refuse (ltb limit label) TooLong Passed (inr (inl refl)) tt)
+module _ (k : LuossavinKey) (label iv : List ℕ) where
+  abbrev d : Sm4Cipher
+  d = cipherIn k
 
--- the mark of a refused start
-refused-mark : (S : Type 0) (k : Checked) (shut : ℕ → S) (s : S) → Marks k → begun S k shut s .head .number ≢ 0
-    → shut-mark (begun S k shut s .head .number)
-unfolding Marks
-refused-mark S Passed shut s m n = absurd (n refl)
-refused-mark S (Refused r) shut s m n = m
+  abbrev gcm-check : Direction → Checked
+  gcm-check dir = gcmStarting (d .answer) (d .retired) dir (length iv) (length label)
 
--- A refused start gives no state: every call on what it gives answers that refusal and changes nothing.
-pub ctr-refused-start : (dir : Direction) (c : Sm4Cipher) (iv : List ℕ) → ctrStart dir c iv .head .number ≢ 0
-    → NoCtr (ctrStart dir c iv .head .number) (ctrStart dir c iv .state)
-unfolding ctrStart
-ctr-refused-start dir c iv n =
-    let i = keyNumber c in
-    let s = ctrAfter i (c .engine) (c .rk) iv [] in
-    let k = keyAndIv (c .answer) (c .retired) dir Ctr·mode (length iv) in
-    subst (NoCtr (ctrStart dir c iv .head .number)) (sym (start-shut Ctr k (ctrShut i) s n))
-    (shut-ctr _ (refused-mark Ctr k (ctrShut i) s (start-marks (c .answer) (c .retired) dir Ctr·mode (length iv)) n) i)
+  pub seal-start-answers : Answered pieceNumbers (keyNumber d) [] 0 (outcomeOf Seal (hostSealStart k label iv))
+      × (hostSealStart k label iv .state .key ≡ keyNumber d)
+  unfolding hostSealStart sealStart sealAfter sealShut
+  seal-start-answers =
+      start-answers Seal sealKey (keyNumber d) (sealShut (keyNumber d)) (sealAfter (keyNumber d) (d .engine) (d .rk) label iv [])
+      (λ _. refl) refl
+      (gcm-check Encrypt) (numbered (gcmStartRows Encrypt k label iv) pieceNumbers _ refl (exported-seal-start-number k label iv))
 
-pub seal-refused-start : (c : Sm4Cipher) (label iv : List ℕ) → sealStart c label iv .head .number ≢ 0
-    → NoSeal (sealStart c label iv .head .number) (sealStart c label iv .state)
-unfolding sealStart
-seal-refused-start c label iv n =
-    let i = keyNumber c in
-    let s = sealAfter i (c .engine) (c .rk) label iv [] in
-    let k = gcmStarting (c .answer) (c .retired) Encrypt (length iv) (length label) in
-    subst (NoSeal (sealStart c label iv .head .number)) (sym (start-shut Seal k (sealShut i) s n))
-    (shut-seal _ (refused-mark Seal k (sealShut i) s (gcm-marks (c .answer) (c .retired) Encrypt (length iv) (length label)) n) i)
+  pub opens-start-answers : Answered pieceNumbers (keyNumber d) [] 0 (outcomeOf Opens (hostOpensStart k label iv))
+      × (hostOpensStart k label iv .state .key ≡ keyNumber d)
+  unfolding hostOpensStart opensStart opensAfter opensShut
+  opens-start-answers =
+      start-answers Opens opensKey (keyNumber d) (opensShut (keyNumber d)) (opensAfter (keyNumber d) (d .rk) label iv []) (λ _. refl) refl
+      (gcm-check Decrypt) (numbered (gcmStartRows Decrypt k label iv) pieceNumbers _ refl (exported-opens-start-number k label iv))
 
-pub opens-refused-start : (c : Sm4Cipher) (label iv : List ℕ) → opensStart c label iv .head .number ≢ 0
-    → NoOpens (opensStart c label iv .head .number) (opensStart c label iv .state)
-unfolding opensStart
-opens-refused-start c label iv n =
-    let i = keyNumber c in
-    let s = opensAfter i (c .rk) label iv [] in
-    let k = gcmStarting (c .answer) (c .retired) Decrypt (length iv) (length label) in
-    subst (NoOpens (opensStart c label iv .head .number)) (sym (start-shut Opens k (opensShut i) s n))
-    (shut-opens _ (refused-mark Opens k (opensShut i) s (gcm-marks (c .answer) (c .retired) Decrypt (length iv) (length label)) n) i)
+  pub seal-refused-start : hostSealStart k label iv .head .number ≢ 0
+      → NoSeal (hostSealStart k label iv .head .number) (hostSealStart k label iv .state)
+  unfolding hostSealStart sealStart
+  seal-refused-start =
+      start-shut Seal NoSeal (gcm-check Encrypt) (sealShut (keyNumber d)) _
+      (numbered (gcmStartRows Encrypt k label iv) (0 ∷ shutMarks) _ refl (exported-seal-start-number k label iv))
+      (λ n m. shut-seal n m (keyNumber d))
 
--- what an end leaves that was not refused by a check
-ended-state : (S : Type 0) (k : Checked) (o : List ℕ) (s : S) (next : Stepped S) → goesOn S k o s next .head .number ≡ 0
-    → goesOn S k o s next .state ≡ next .state
-ended-state S Passed o s next e = refl
-ended-state S (Refused r) o s next e = absurd (each-refuses r .not-zero e)
+  pub opens-refused-start : hostOpensStart k label iv .head .number ≢ 0
+      → NoOpens (hostOpensStart k label iv .head .number) (hostOpensStart k label iv .state)
+  unfolding hostOpensStart opensStart
+  opens-refused-start =
+      start-shut Opens NoOpens (gcm-check Decrypt) (opensShut (keyNumber d)) _
+      (numbered (gcmStartRows Decrypt k label iv) (0 ∷ shutMarks) _ refl (exported-opens-start-number k label iv))
+      (λ n m. shut-opens n m (keyNumber d))
 
-twelve : shut-mark ended
-unfolding shut-mark
-twelve = inr (inr (inr (inr (inr refl))))
+-- what an end leaves that was answered m, which is none of its checks' refusals
+ended-state : (S : Type 0) (k : Checked) (o : List ℕ) (s : S) (next : Stepped S) (m : ℕ)
+    → ((r : Refusal) → k ≡ Refused r → refusalHead r .number ≢ m)
+    → goesOn S k o s next .head .number ≡ m → goesOn S k o s next .state ≡ next .state
+ended-state S Passed o s next m n e = refl
+ended-state S (Refused r) o s next m n e = absurd (n r refl e)
 
 -- After an end that answered 0, and after one of an opening that answered 4, every call answers 12 and changes nothing.
 pub ctr-after-end : (s : Ctr) → ctrEnd s .head .number ≡ 0 → NoCtr 12 (ctrEnd s .state)
 unfolding ctrEnd
-ctr-after-end s e = subst (NoCtr 12) (sym (ended-state Ctr (running (s .stands) 0 (s .total) 0) [] s _ e)) (shut-ctr ended twelve (s .key))
+ctr-after-end s e =
+    let state = ended-state Ctr (running (s .stands) 0 (s .total) 0) [] s _ 0 (λ r _. each-refuses r .not-zero) e in
+    subst (NoCtr 12) (sym state) (shut-ctr ended refl (s .key))
 
 pub seal-after-end : (s : Seal) (o : List ℕ) → sealEnd s o .head .number ≡ 0 → NoSeal 12 (sealEnd s o .state)
 unfolding sealEnd
 seal-after-end s o e =
-    subst (NoSeal 12) (sym (ended-state Seal (writing (s .stands) (s .label) (s .total) 0 16 (length o)) o s _ e)) (shut-seal ended twelve (s .key))
+    let state = ended-state Seal (writing (s .stands) (s .label) (s .total) 0 16 (length o)) o s _ 0 (λ r _. each-refuses r .not-zero) e in
+    subst (NoSeal 12) (sym state) (shut-seal ended refl (s .key))
 
 -- no check of an end refuses by 4
-Other : Checked → Type 0
-Other Passed = Unit {0}
-Other (Refused r) = refusalHead r .number ≢ 4
-
-other-refuse : (t : Bool) (r : Refusal) (k : Checked) → refusalHead r .number ≢ 4 → Other k → Other (refuse t r k)
-unfolding Other
-other-refuse true r k n o = n
-other-refuse false r k n o = o
-
-other-then : (a b : Checked) → Other a → Other b → Other (andThen a b)
-unfolding Other
-other-then Passed b x y = y
-other-then (Refused r) b x y = x
-
-other-standing : (t : Bool) (k : Checked) → Other k → Other (cond t Passed k)
-unfolding Other
-other-standing true k o = tt
-other-standing false k o = o
-
-other-tagged : (mark label total tag : ℕ) → Other (tagged mark label total tag)
-unfolding tagged running standing Other
-other-tagged mark label total tag =
-    other-then (running mark label total 0) _
-    (other-then (standing mark) _
-    (other-standing (eqb mark 0) _
-    (other-refuse (eqb mark 1) ErrorBlockSize _ (λ e. omega arith)
-    (other-refuse (eqb mark 5) TooLong _ (λ e. omega arith)
-    (other-refuse (eqb mark 10) WrongIv _ (λ e. omega arith)
-    (other-refuse (eqb mark 13) WrongNumber _ (λ e. omega arith)
-    (other-refuse (eqb mark 14) Retired _ (λ e. omega arith) (λ e. omega arith)))))))
-    (other-refuse (ltb limit label) TooLong _ (λ e. omega arith)
-    (other-refuse (ltb limit (total + 0)) TooLong Passed (λ e. omega arith) tt)))
-    (other-refuse (not (eqb tag 16)) (ShortGcm (16 - tag)) Passed (λ e. omega arith) tt)
-
-no-state : (k : Checked) (s : Opens) (next : Stepped Opens) → Other k → goesOn Opens k [] s next .head .number ≡ 4
-    → goesOn Opens k [] s next .state ≡ next .state
-unfolding Other
-no-state Passed s next o e = refl
-no-state (Refused r) s next o e = absurd (o e)
+not-four : (mark label total tag : ℕ) (r : Refusal) → tagged mark label total tag ≡ Refused r → refusalHead r .number ≢ 4
+unfolding tagged running behind
+not-four mark label total tag r e four =
+    let rows = runningRows mark label total 0
+    ++ (record { holds = not (eqb tag 16); says = record { number = 9; missing = 16 - tag } } ∷ []) in
+    let said : behind (tagged mark label total tag) (only 0) ≡ firstOf rows = simp (said·laws, said-standing) in
+    let known = numbered rows (0 ∷ 9 ∷ shutMarks) (saidIn (refusalHead r)) refl
+    (sym (ap {B = Said} (λ (k : Checked). behind k (only 0)) e) ∙ said) in
+    let no : false ≡ true = rw four at known in
+    let z : _≡_ {A = ℕ} 0 1 = cc in
+    absurd (omega arith)
 
 pub opens-after-end : (s : Opens) (tag : List ℕ) → (opensEnd s tag .head .number ≡ 0) ⊎ (opensEnd s tag .head .number ≡ 4)
     → NoOpens 12 (opensEnd s tag .state)
@@ -429,6 +276,6 @@ unfolding opensEnd
 opens-after-end s tag e =
     let k = tagged (s .stands) (s .label) (s .total) (length tag) in
     let state =
-    ⊎-elim (λ z. ended-state Opens k [] s _ z)
-    (λ f. no-state k s _ (other-tagged (s .stands) (s .label) (s .total) (length tag)) f) e in
-    subst (NoOpens 12) (sym state) (shut-opens ended twelve (s .key))
+    ⊎-elim (ended-state Opens k [] s _ 0 (λ r _. each-refuses r .not-zero))
+    (ended-state Opens k [] s _ 4 (not-four (s .stands) (s .label) (s .total) (length tag))) e in
+    subst (NoOpens 12) (sym state) (shut-opens ended refl (s .key))

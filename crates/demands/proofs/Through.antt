@@ -1,43 +1,22 @@
--- What a call that answered 0 had in order, and what a call leaves that has all in order.
--- Assumes nothing.
-use mathlib.Core.Path.{_≡_, refl, sym, ap}
-use mathlib.Core.Bool.{Bool}
-use mathlib.Core.List.{List}
-use Prim.Native.Nat.{ℕ}
-use lib.ListN.{length}
-use lib.Seq.{take-append-seam}
-use borrow.Author.Tests.{eq-eqb, le-ltb}
-use Rattle.walk.specs.Outcome.{Outcome, keyed, refused, done}
-use Rattle.cipher_mode.specs.declared.KeyAnswer.{KeyAnswer}
-use Rattle.cipher_mode.specs.declared.CipherMode.{CipherMode}
-use Rattle.cipher_mode.specs.declared.Direction.{Direction}
-use Rattle.cipher_mode.specs.declared.checks.Checked.{Checked}
-use Rattle.cipher_mode.specs.declared.checks.Checked.the-variants.{Passed, Refused}
-use Rattle.cipher_mode.specs.declared.checks.Lengths.{Lengths}
-use Rattle.cipher_mode.specs.declared.Sm4Cipher.{Sm4Cipher}
-use Rattle.cipher_mode.specs.declared.Sm4CipherMode.{Sm4CipherMode}
-use Rattle.cipher_mode.specs.Key.{keyNumber}
-use Rattle.cipher_mode.specs.Tables.{roomOf}
-use Rattle.cipher_mode.specs.Checks.{keyAndIv, roomCheck, blockCheck, messageCheck, checked}
-use Rattle.cipher_mode.specs.Calls.{blockOf, blockCall, modeResult, lengthsOf, modeCall}
+-- What a call that answered 0 had in order, what a call leaves that has all in order, and how a record crosses the boundary.
+use Rattle.demands.specs.Names as N
+use N.{Bool, cond, false, not, true, List, _≢_, _∙_, _≡_, ap, ap₂, refl, sym, _≤_, suc, zero, ℕ, arith, eqb, ltb, length, take-append-seam}
+use N.{eq-eqb, le-ltb, Outcome, done, keyed, refused, blockCall, blockOf, lengthsOf, modeCall, modeResult, blockCheck, checked, keyAndIv}
+use N.{messageCheck, roomCheck, keyHead, keyNumber, newCipher, retire, modeOf, roomOf, CipherMode, Cbc, Cfb, Ctr, Gcm, Ofb, Direction}
+use N.{KeyAnswer, NoKey as ErrorBlockSize, Key, NoNumber as WrongNumber, Sm4Cipher, Sm4CipherMode, Checked, Passed, Refused, Lengths, begun}
+use N.{hostModeCall, modeIn, cipherIn, hostKeyNew, hostKeyRetire, keyAnswerOf, keyOf, LuossavinKey}
 use Rattle.cipher_mode.proofs.Passed.{InOrder, BlockInOrder, message-passed, block-passed}
 use Rattle.cipher_mode.proofs.Ends.{went-on}
 use Rattle.cipher_mode.proofs.Refusals.{refuses}
-use Rattle.pieces.specs.Calls.{begun}
 use Rattle.demands.specs.Call.{result, RefusedAs}
+use Rattle.demands.proofs.Answering.{split}
 
 pub result-of-done : (p o : List ℕ) → result (done p o) ≡ p
 result-of-done p o = take-append-seam p _
 
 -- on whichever key
 pub refused-as : (k n : ℕ) (o : List ℕ) (x : Outcome) → x ≡ keyed k (refused n o) → RefusedAs n o x
-refused-as k n o x e =
-    record {
-      number = ap (λ (y : Outcome). y .head .number) e;
-      size = ap (λ (y : Outcome). y .head .size) e;
-      missing = ap (λ (y : Outcome). y .head .missing) e;
-      bytes = ap (λ (y : Outcome). y .bytes) e;
-    }
+refused-as k n o x e = rw e (record { number = refl; size = refl; missing = refl; bytes = refl })
 
 pub zero-passed : (k : Checked) (o : List ℕ) (next : Outcome) → checked k o next .head .number ≡ 0 → k ≡ Passed
 zero-passed Passed o next e = refl
@@ -70,7 +49,8 @@ in-order a retired dir m n p =
 
 -- a message
 module _ (dir : Direction) (m : Sm4CipherMode) (aad d iv o : List ℕ) where
-  pub through : modeCall dir m aad d iv o .head .number ≡ 0 → InOrder (m .cipher .answer) (m .cipher .retired) dir (m .mode) (lengthsOf aad d iv o)
+  pub through : modeCall dir m aad d iv o .head .number ≡ 0
+      → InOrder (m .cipher .answer) (m .cipher .retired) dir (m .mode) (lengthsOf aad d iv o)
   unfolding modeCall
   through e =
       message-passed _ _ _ _ _
@@ -84,3 +64,72 @@ module _ (dir : Direction) (m : Sm4CipherMode) (aad d iv o : List ℕ) where
       let next = modeResult (m .mode) dir (m .cipher .rk) aad d iv o in
       let k = messageCheck (m .cipher .answer) (m .cipher .retired) dir (m .mode) (lengthsOf aad d iv o) in
       ap {B = Outcome} (keyed (keyNumber (m .cipher))) (sym (went-on k o next next (in-order _ _ _ _ _ p) refl))
+
+-- and an exported call: a mode number above 4 is refused before all else
+module _ (dir : Direction) (mode : ℕ) (k : LuossavinKey) (aad d iv o : List ℕ) where
+  abbrev pub Ready : Type 0
+  Ready = (ltb 4 mode ≡ false) × InOrder (cipherIn k .answer) (cipherIn k .retired) dir (modeOf mode) (lengthsOf aad d iv o)
+
+  pub host-through : hostModeCall dir mode k aad d iv o .head .number ≡ 0 → Ready
+  unfolding hostModeCall
+  host-through e =
+      split _ (ltb 4 mode) (λ f. let z : _≡_ {A = ℕ} 7 0 = rw f at e in absurd (omega arith))
+      (λ f. (f, through dir (modeIn k mode) aad d iv o (rw f at e)))
+
+  pub host-leaves : Ready → hostModeCall dir mode k aad d iv o
+      ≡ keyed (keyNumber (cipherIn k)) (modeResult (modeOf mode) dir (k .«round_keys») aad d iv o)
+  unfolding hostModeCall cipherIn
+  host-leaves (b, p) = rw b (leaves dir (modeIn k mode) aad d iv o p)
+
+-- An exported call is the call on the record that the host holds, unless its mode number is refused. A record crosses the boundary
+-- and back as it is.
+
+answer-back : (a : KeyAnswer) → keyAnswerOf (keyHead a .number) ≡ a
+unfolding keyAnswerOf
+answer-back Key = refl
+answer-back ErrorBlockSize = refl
+answer-back WrongNumber = refl
+
+mark-back : (b : Bool) → not (eqb (cond b 1 0) 0) ≡ b
+mark-back true = refl
+mark-back false = refl
+
+-- a record that was handed out comes back as it was
+pub handed-back : (c : Sm4Cipher) → cipherIn (keyOf c) ≡ c
+unfolding cipherIn keyOf
+handed-back c =
+    ap₂ {C = Sm4Cipher} (λ (a : KeyAnswer) (b : Bool).
+    record { rk = c .rk; answer = a; number = c .number; retired = b; engine = c .engine })
+    (answer-back (c .answer)) (mark-back (c .retired))
+
+-- so what a host set up is the key's record
+pub new-is-new : (key : List ℕ) (n : ℕ) → cipherIn (hostKeyNew key n) ≡ newCipher key n
+unfolding hostKeyNew
+new-is-new key n = handed-back (newCipher key n)
+
+-- and what it retires is that record retired
+pub retired-is-retired : (k : LuossavinKey) → cipherIn (hostKeyRetire k) ≡ retire (cipherIn k)
+unfolding cipherIn keyAnswerOf hostKeyRetire retire
+retired-is-retired k =
+    split _ (eqb (k .answer) 0) (λ e. rw e) (λ e. split _ (eqb (k .answer) 13) (λ f. rw (e, f) (rw e)) (λ f. rw (e, f) (rw e)))
+
+-- the number of a mode
+abbrev pub modeNumber : CipherMode → ℕ
+modeNumber Cfb = 0
+modeNumber Ofb = 1
+modeNumber Ctr = 2
+modeNumber Cbc = 3
+modeNumber Gcm = 4
+
+number-of-mode : (mode : ℕ) → mode ≤ 4 → modeNumber (modeOf mode) ≡ mode
+unfolding modeOf
+number-of-mode zero h = refl
+number-of-mode (suc zero) h = refl
+number-of-mode (suc (suc zero)) h = refl
+number-of-mode (suc (suc (suc zero))) h = refl
+number-of-mode (suc (suc (suc (suc zero)))) h = refl
+number-of-mode (suc (suc (suc (suc (suc n))))) h = absurd (omega arith)
+
+-- another number is another mode's
+pub other-mode : (mode : ℕ) (x : CipherMode) → mode ≤ 4 → mode ≢ modeNumber x → modeOf mode ≢ x
+other-mode mode x h n e = n (sym (number-of-mode mode h) ∙ ap modeNumber e)

@@ -1,59 +1,15 @@
 -- Demand 1, that outcomes can be predicted: any two answers, outputs and states that a contract allows coincide. One theorem for each form
 -- that a public call's contract has, whatever the definition in it gives.
--- Assumes nothing.
-use mathlib.Core.Path.{_≡_, refl, sym, ap, ap₂, _∙_}
-use mathlib.Core.Bool.{Bool, true, false, cond}
-use mathlib.Core.List.{List, [], _∷_}
-use Prim.Native.Nat.{ℕ, _-_, _≤_, _<_}
-use native.Mathlib.Omega.{arith}
-use lib.Dec.{eqb}
-use lib.ListN.{getD}
-use borrow.Author.Tests.{ne-eqb}
-use Rattle.walk.specs.Outcome.{Head, Outcome}
-use Rattle.cipher_mode.specs.declared.answer.Answer.{Answer}
-use Rattle.cipher_mode.specs.declared.answer.Ending.{Ending}
-use Rattle.cipher_mode.specs.declared.answer.Ending.the-variants.{Done, Refused}
-use Rattle.cipher_mode.specs.declared.answer.Refusal.{Refusal}
-use Rattle.cipher_mode.specs.declared.answer.Refusal.the-variants.{ErrorBlockSize, ErrorDataLen, InvalidLastU8, InvalidTag, TooLong, NoRoom}
-use Rattle.cipher_mode.specs.declared.answer.Refusal.the-variants.{EmptyCbc, ShortGcm, WrongIv, WrongBlock, Ended, WrongNumber, Retired}
-use Rattle.cipher_mode.specs.declared.answer.Refusal.the-variants.{InvalidPadding}
-use Rattle.cipher_mode.specs.Answer.{refusalHead, endingHead, headOf, outcome}
-use Rattle.pieces.specs.declared.ctr.Ctr.{Ctr}
-use Rattle.pieces.specs.declared.ctr.CtrStep.{CtrStep}
-use Rattle.pieces.specs.declared.opens.Opens.{Opens}
-use Rattle.pieces.specs.declared.opens.OpensStep.{OpensStep}
-use Rattle.pieces.specs.declared.seal.Seal.{Seal}
-use Rattle.pieces.specs.declared.seal.SealStep.{SealStep}
-use Rattle.pieces.specs.Calls.{Stepped, ctrStepped, sealStepped, opensStepped}
-use Rattle.editions.specs.declared.Ended.{Ended as Asked}
-use Rattle.editions.specs.declared.Ended.the-variants.{Candidate, None, BadList, Refused as Refused·asked}
-use Rattle.editions.specs.declared.Found.{Found}
-use Rattle.editions.specs.Which.{Verdict, endedHead as askedHead, isFound, verdictOf}
-use Rattle.ranges.specs.declared.by_plan.Ended.{Ended as Planned·end}
-use Rattle.ranges.specs.declared.by_plan.Ended.the-variants.{Done as Done·plan, NotAccepted, Refused as Refused·plan}
-use Rattle.ranges.specs.declared.by_plan.ByPlan.{ByPlan}
-use Rattle.ranges.specs.ByPlan.{endedHead as planHead, planned·outcome}
-use Rattle.shelf.specs.declared.Ended.{Ended as Shelf·end}
-use Rattle.shelf.specs.declared.Ended.the-variants.{Done as Done·shelf, BadShelf, NotHigher, NoRoom as NoRoom·shelf, NoCurrent}
-use Rattle.shelf.specs.declared.Found.{Found as Shelf·found}
-use Rattle.shelf.specs.declared.Kept.{Kept}
-use Rattle.shelf.specs.Calls.{Outcome as Shelf·Outcome, Place, numberOfEnd, outcomeOf, placeIn}
-use Rattle.journal.specs.declared.writer.Wrote.{Wrote}
-use Rattle.journal.specs.Writer.{Leaves}
-use Rattle.luossavin.specs.declared.LuossavinAnswer.{LuossavinAnswer}
-use Rattle.luossavin.specs.declared.edition.LuossavinLabel.{LuossavinLabel}
-use Rattle.luossavin.specs.declared.in_pieces.LuossavinCtrStep.{LuossavinCtrStep}
-use Rattle.luossavin.specs.declared.in_pieces.LuossavinOpensStep.{LuossavinOpensStep}
-use Rattle.luossavin.specs.declared.in_pieces.LuossavinSealStep.{LuossavinSealStep}
-use Rattle.luossavin.specs.declared.shelves.LuossavinShelf.{LuossavinShelf}
-use Rattle.luossavin.specs.declared.shelves.LuossavinShelved.{LuossavinShelved}
-use Rattle.luossavin.specs.declared.which.LuossavinFound.{LuossavinFound}
-use Rattle.luossavin.specs.declared.workers.LuossavinPlanned.{LuossavinPlanned}
-use Rattle.luossavin.specs.Host.{headIn, reported}
-use Rattle.luossavin.specs.InPieces.{ctrReported, sealReported, opensReported}
-use Rattle.luossavin.specs.Ranges.{Handed, plannedReported}
-use Rattle.luossavin.specs.Shelves.{shelfReported, shelvedReported}
-use Rattle.luossavin.specs.Which.{Told, foundReported}
+use Rattle.demands.specs.Names as N
+use N.{Bool, cond, false, true, List, [], _∷_, _∙_, _≡_, ap, ap₂, refl, sym, _-_, ℕ, arith, eqb, getD, ne-eqb, Head, Outcome, endingHead}
+use N.{headOf, outcome, refusalHead, Answer, Ending, Done, Refused·ending as Refused, Refusal, Stepped, ctrStepped, opensStepped}
+use N.{sealStepped, Ctr·state as Ctr, CtrStep, Opens, OpensStep, Seal, SealStep, Verdict, askedHead, isFound, verdictOf, Asked, BadList}
+use N.{Candidate, None, Refused·asked, Found, planHead, planned·outcome, ByPlan, Planned·end, Done·plan, NotAccepted, Refused·plan}
+use N.{Shelf·Outcome, Place, shelfNumber as numberOfEnd, outcomeOf, placeIn, Shelf·end, BadShelf, Done·shelf, NoCurrent, NoRoom·shelf}
+use N.{NotHigher, Shelf·found, Kept, Leaves, Wrote, headIn, reported, ctrReported, opensReported, sealReported, Handed, plannedReported}
+use N.{shelfReported, shelvedReported, Told, foundReported, LuossavinAnswer, LuossavinLabel, LuossavinCtrStep, LuossavinOpensStep}
+use N.{LuossavinSealStep, LuossavinShelf, LuossavinShelved, LuossavinFound, LuossavinPlanned}
+use Rattle.demands.proofs.Answering.{endingAt, endingOf, spelled}
 use Rattle.demands.specs.OneOutcome.{One, OneValue}
 
 -- an answer that can be told back from what it spells is one alone
@@ -67,35 +23,19 @@ module _ (R X : Type 0) where
       let e = e₁ ∙ sym e₂ in
       (sym (told r₁ o₁) ∙ ap {B = R} back e ∙ told r₂ o₂, sym (kept r₁ o₁) ∙ ap bytes e ∙ kept r₂ o₂)
 
--- the ending of a head, by its number: 7 is none of an ending
-abbrev endings : ℕ → ℕ → List Ending
-endings n k =
-    Done n ∷ Refused ErrorBlockSize ∷ Refused ErrorDataLen ∷ Refused InvalidLastU8 ∷ Refused InvalidTag ∷ Refused TooLong
-    ∷ Refused NoRoom ∷ Done n ∷ Refused EmptyCbc ∷ Refused (ShortGcm k) ∷ Refused WrongIv ∷ Refused WrongBlock ∷ Refused Ended
-    ∷ Refused WrongNumber ∷ Refused Retired ∷ Refused InvalidPadding ∷ []
-
-abbrev endingOf : Head → Ending
-endingOf h = getD (endings (h .size) (h .missing)) (h .number) (Done 0)
-
-refusal-told : (r : Refusal) → endingOf (refusalHead r) ≡ Refused r
-refusal-told ErrorBlockSize = refl
-refusal-told ErrorDataLen = refl
-refusal-told InvalidLastU8 = refl
-refusal-told InvalidTag = refl
-refusal-told TooLong = refl
-refusal-told NoRoom = refl
-refusal-told EmptyCbc = refl
-refusal-told (ShortGcm n) = refl
-refusal-told WrongIv = refl
-refusal-told WrongBlock = refl
-refusal-told Ended = refl
-refusal-told WrongNumber = refl
-refusal-told Retired = refl
-refusal-told InvalidPadding = refl
-
 ending-told : (e : Ending) → endingOf (endingHead e) ≡ e
 ending-told (Done n) = refl
-ending-told (Refused r) = refusal-told r
+ending-told (Refused r) = spelled r .0
+
+-- a number that is no ending's is no refusal's
+no-refusal : (r : Refusal) (n : ℕ) → ((size missing : ℕ) → endingAt n size missing ≡ Done 0) → eqb (refusalHead r .number) n ≡ false
+no-refusal r n none =
+    ne-eqb (refusalHead r .number) n (λ e.
+    let h = refusalHead r in
+    let f : Refused r ≡ Done 0 =
+    sym (spelled r .0) ∙ ap {B = Ending} (λ (k : ℕ). endingAt k (h .size) (h .missing)) e ∙ none (h .size) (h .missing) in
+    let z : _≡_ {A = ℕ} 0 1 = cc in
+    absurd (omega arith))
 
 -- a yes or no by the number that it is reported as
 round-told : (b : Bool) → eqb (cond b 1 0) 1 ≡ b
@@ -134,36 +74,45 @@ unique-asked x = one-value LuossavinAnswer Head headIn hostAnswerOf (λ a. refl)
 pub unique-label : (x : List ℕ) → OneValue LuossavinLabel (List ℕ) (λ l. l .bytes) x
 unique-label x = one-value LuossavinLabel (List ℕ) (λ l. l .bytes) (λ b. record { bytes = b }) (λ l. refl) x
 
+-- a step: an answer beside the next state
+module _ (A S R : Type 0) (of : A → Head) (back : Head → A) (told : (a : A) → back (of a) ≡ a) (answer : R → A) (state : R → S)
+    (make : A → S → R) (made : (r : R) → make (answer r) (state r) ≡ r) where
+  one-step : (x : Stepped S) → One R (Stepped S) (λ r o. record { head = of (answer r); bytes = o; state = state r }) x
+  one-step =
+      one R (Stepped S) (λ r o. record { head = of (answer r); bytes = o; state = state r }) (λ y. make (back (y .head)) (y .state))
+      (λ y. y .bytes)
+      (λ r o. ap {B = R} (λ (a : A). make a (state r)) (told (answer r)) ∙ made r) (λ r o. refl)
+
 -- Messages in pieces, be it a start, a piece or an end: the next state too.
 pub unique-ctr-step : (x : Stepped Ctr) → One CtrStep (Stepped Ctr) ctrStepped x
-unique-ctr-step x =
-    one CtrStep (Stepped Ctr) ctrStepped (λ y. record { answer = answerOf (y .head); state = y .state }) (λ y. y .bytes)
-    (λ r o. ap {B = CtrStep} (λ (a : Answer). record { answer = a; state = r .state }) (answer-told (r .answer))) (λ r o. refl) x
+unique-ctr-step =
+    one-step Answer Ctr CtrStep headOf answerOf answer-told (λ r. r .answer) (λ r. r .state) (λ a s. record { answer = a; state = s })
+    (λ r. refl)
 
 pub unique-seal-step : (x : Stepped Seal) → One SealStep (Stepped Seal) sealStepped x
-unique-seal-step x =
-    one SealStep (Stepped Seal) sealStepped (λ y. record { answer = answerOf (y .head); state = y .state }) (λ y. y .bytes)
-    (λ r o. ap {B = SealStep} (λ (a : Answer). record { answer = a; state = r .state }) (answer-told (r .answer))) (λ r o. refl) x
+unique-seal-step =
+    one-step Answer Seal SealStep headOf answerOf answer-told (λ r. r .answer) (λ r. r .state) (λ a s. record { answer = a; state = s })
+    (λ r. refl)
 
 pub unique-opens-step : (x : Stepped Opens) → One OpensStep (Stepped Opens) opensStepped x
-unique-opens-step x =
-    one OpensStep (Stepped Opens) opensStepped (λ y. record { answer = answerOf (y .head); state = y .state }) (λ y. y .bytes)
-    (λ r o. ap {B = OpensStep} (λ (a : Answer). record { answer = a; state = r .state }) (answer-told (r .answer))) (λ r o. refl) x
+unique-opens-step =
+    one-step Answer Opens OpensStep headOf answerOf answer-told (λ r. r .answer) (λ r. r .state) (λ a s. record { answer = a; state = s })
+    (λ r. refl)
 
 pub unique-exported-ctr-step : (x : Stepped Ctr) → One LuossavinCtrStep (Stepped Ctr) ctrReported x
-unique-exported-ctr-step x =
-    one LuossavinCtrStep (Stepped Ctr) ctrReported (λ y. record { answer = hostAnswerOf (y .head); state = y .state }) (λ y. y .bytes)
-    (λ r o. refl) (λ r o. refl) x
+unique-exported-ctr-step =
+    one-step LuossavinAnswer Ctr LuossavinCtrStep headIn hostAnswerOf (λ a. refl) (λ r. r .answer) (λ r. r .state)
+    (λ a s. record { answer = a; state = s }) (λ r. refl)
 
 pub unique-exported-seal-step : (x : Stepped Seal) → One LuossavinSealStep (Stepped Seal) sealReported x
-unique-exported-seal-step x =
-    one LuossavinSealStep (Stepped Seal) sealReported (λ y. record { answer = hostAnswerOf (y .head); state = y .state }) (λ y. y .bytes)
-    (λ r o. refl) (λ r o. refl) x
+unique-exported-seal-step =
+    one-step LuossavinAnswer Seal LuossavinSealStep headIn hostAnswerOf (λ a. refl) (λ r. r .answer) (λ r. r .state)
+    (λ a s. record { answer = a; state = s }) (λ r. refl)
 
 pub unique-exported-opens-step : (x : Stepped Opens) → One LuossavinOpensStep (Stepped Opens) opensReported x
-unique-exported-opens-step x =
-    one LuossavinOpensStep (Stepped Opens) opensReported (λ y. record { answer = hostAnswerOf (y .head); state = y .state }) (λ y. y .bytes)
-    (λ r o. refl) (λ r o. refl) x
+unique-exported-opens-step =
+    one-step LuossavinAnswer Opens LuossavinOpensStep headIn hostAnswerOf (λ a. refl) (λ r. r .answer) (λ r. r .state)
+    (λ a s. record { answer = a; state = s }) (λ r. refl)
 
 -- Which label a file opens under.
 abbrev whenAsked : Ending → Asked
@@ -173,54 +122,24 @@ whenAsked (Refused r) = Refused·asked r
 abbrev askedOf : Head → Bool → Asked
 askedOf h found = cond found Candidate (cond (eqb (h .number) 16) BadList (whenAsked (endingOf h)))
 
--- no refusal of a message has the number 16 or 18
-small : (r : Refusal) → refusalHead r .number < 16
-small ErrorBlockSize = omega arith
-small ErrorDataLen = omega arith
-small InvalidLastU8 = omega arith
-small InvalidTag = omega arith
-small TooLong = omega arith
-small NoRoom = omega arith
-small EmptyCbc = omega arith
-small (ShortGcm n) = omega arith
-small WrongIv = omega arith
-small WrongBlock = omega arith
-small Ended = omega arith
-small WrongNumber = omega arith
-small Retired = omega arith
-small InvalidPadding = omega arith
-
-not-of-these : (r : Refusal) (n : ℕ) → 16 ≤ n → eqb (refusalHead r .number) n ≡ false
-not-of-these r n h = ne-eqb (refusalHead r .number) n (λ e. omega (arith, small r, h, e))
-
 asked-told : (e : Asked) → askedOf (askedHead e) (isFound e) ≡ e
 asked-told Candidate = refl
 asked-told None = refl
 asked-told BadList = refl
-asked-told (Refused·asked r) = rw (not-of-these r 16 (omega arith)) (ap {B = Asked} whenAsked (refusal-told r))
+asked-told (Refused·asked r) = rw (no-refusal r 16 (λ _ _. refl)) (ap {B = Asked} whenAsked (spelled r .0))
 
 pub unique-which : (x : Verdict) → OneValue Found Verdict verdictOf x
 unique-which x =
-    one-value Found Verdict verdictOf (λ v. record {
-      ended = askedOf (v .head) (v .found);
-      key = v .head .key;
-      place = v .place;
-      start = v .start;
-      length = v .size;
-    })
+    one-value Found Verdict verdictOf
+    (λ v. record { ended = askedOf (v .head) (v .found); key = v .head .key; place = v .place; start = v .start; length = v .size })
     (λ f. ap {B = Found} (λ (e : Asked). record { ended = e; key = f .key; place = f .place; start = f .start; length = f .length })
     (asked-told (f .ended)))
     x
 
 pub unique-exported-which : (x : Told) → OneValue LuossavinFound Told foundReported x
 unique-exported-which x =
-    one-value LuossavinFound Told foundReported (λ t. record {
-      answer = hostAnswerOf (t .head);
-      found = t .found;
-      place = t .place;
-      start = t .start;
-      length = t .size;
-    }) (λ r. refl) x
+    one-value LuossavinFound Told foundReported
+    (λ t. record { answer = hostAnswerOf (t .head); found = t .found; place = t .place; start = t .start; length = t .size }) (λ r. refl) x
 
 -- Plans.
 abbrev whenPlanned : Ending → Planned·end
@@ -233,7 +152,7 @@ plannedOf h = cond (eqb (h .number) 18) NotAccepted (whenPlanned (endingOf h))
 planned-told : (e : Planned·end) → plannedOf (planHead e) ≡ e
 planned-told (Done·plan n) = refl
 planned-told NotAccepted = refl
-planned-told (Refused·plan r) = rw (not-of-these r 18 (omega arith)) (ap {B = Planned·end} whenPlanned (refusal-told r))
+planned-told (Refused·plan r) = rw (no-refusal r 18 (λ _ _. refl)) (ap {B = Planned·end} whenPlanned (spelled r .0))
 
 pub unique-by-plan : (x : Outcome) → One ByPlan Outcome planned·outcome x
 unique-by-plan x =

@@ -1,17 +1,87 @@
--- Document 01's worked table holds of the definitions, by computation.
--- Assumes nothing.
-use mathlib.Core.Path.{_≡_, refl}
-use mathlib.Core.List.{map}
-use Prim.Native.Nat.{ℕ}
-use Rattle.block.specs.BigEndian.{numberOf, bytesOf}
-use Rattle.cipher.specs.Sm4.{CK, sboxTable, tau, rotl, L, L', T, T'}
-use Rattle.counter.specs.Counter.{ctrNext, gcmNext}
-use Rattle.field.specs.Field.{timesX, mulFrom, gmul}
-use Rattle.ghash.specs.Ghash.{hashFrom}
-use Rattle.cbc.specs.Open.{namesPadding}
+-- The worked table of docs/REQUIREMENTS.md and its edges hold of the definitions, by computation; and two blocks under a key are computed.
+use Rattle.demands.specs.Names as N
+use N.{Bool, _&&_, false, true, List, [], _++_, _∷_, map, _≢_, _∙_, _≡_, ap, refl, sym, ℕ, arith, eqb, getD, length, replicate, ne-eqb}
+use N.{bytesOf, numberOf, same, unwords, words, gmul, mulFrom, timesX, ctrNext, gcmNext, Outcome, finished, telling, under, CK, L, L', T}
+use N.{T', encryptBlock, encryptWords, keysFrom, rotl, roundKeys, rounds, sboxTable, tau, hashFrom, allPadding, namesPadding, unpadded}
+use N.{refusalHead, lengthsOf, modeCall, modeResult, blockCheck, checked, dataCheck, keyAndIv, messageCheck, roomCheck, newCipher}
+use N.{Direction, Encrypt, Key, Sm4CipherMode, Refused·ending, Refusal, Checked, Passed, Refused}
 use Rattle.demands.specs.Worked.{Row, table}
+use Rattle.cipher_mode.proofs.Refusals.{refuses, quiet-ending}
+use Rattle.demands.specs.CameRound.{roundOf, tellingDone}
+use Rattle.demands.specs.Edges.{Row as Edge, verdict, saidOf, edges}
+use Rattle.demands.proofs.ModesBack.{encrypts, length-encrypted}
+use Rattle.demands.specs.OneBlockRefused.{MovesZero}
 
--- All twelve rows: what the definitions give is what the paper says, whatever H is.
+-- All twelve rows: what the definitions give is what docs/REQUIREMENTS.md says, whatever H is.
 pub worked : (h : ℕ) → map (λ (r : Row). r .ours) (table h) ≡ map (λ (r : Row). r .paper) (table h)
 unfolding CK numberOf bytesOf sboxTable tau rotl L L' T T' ctrNext gcmNext timesX mulFrom gmul hashFrom namesPadding
 worked h = refl
+
+-- "At the edges" of docs/REQUIREMENTS.md holds of the definitions, by computation, and what the checks say is what the calls answer.
+
+-- All rows, whether the tag is right or not: what the definitions say is what docs/REQUIREMENTS.md says.
+pub at-the-edges : (right : Bool) → map (λ (r : Edge). r .ours) (edges right) ≡ map (λ (r : Edge). r .paper) (edges right)
+unfolding messageCheck blockCheck keyAndIv dataCheck roomCheck newCipher namesPadding allPadding unpadded same
+at-the-edges true = refl
+at-the-edges false = refl
+
+verdict-refused : (k : Checked) (o : List ℕ) (next : Outcome) (n : ℕ) → k ≢ Passed → checked k o next .head ≡ verdict k n
+verdict-refused Passed o next n h = absurd (h refl)
+verdict-refused (Refused r) o next n h = refl
+
+-- a refusal says nothing of a counter
+refusal-quiet : (r : Refusal) (b : Bool) → refusalHead r ≡ tellingDone b (refusalHead r)
+refusal-quiet r b =
+    let no : (eqb (refusalHead r .number) 0 && b) ≡ false = rw (ne-eqb (refusalHead r .number) 0 (refuses r .not-zero)) in
+    sym (ap (λ (t : Bool). telling t (refusalHead r)) no ∙ quiet-ending (Refused·ending r))
+
+verdict-done : (k : Checked) (o : List ℕ) (next : Outcome) (n : ℕ) (b : Bool) → next .head ≡ telling b (finished n)
+    → checked k o next .head ≡ tellingDone b (verdict k n)
+verdict-done Passed o next n b e = e
+verdict-done (Refused r) o next n b e = refusal-quiet r b
+
+-- Where the checks refuse, every call under a usable key with those lengths answers what is said, with the key's number.
+pub edge-refused : (dir : Direction) (m : Sm4CipherMode) → m .cipher .answer ≡ Key → (label d iv o : List ℕ)
+    → messageCheck Key (m .cipher .retired) dir (m .mode) (lengthsOf label d iv o) ≢ Passed
+    → modeCall dir m label d iv o .head ≡ under (m .cipher .number) (saidOf (m .cipher .retired) dir (m .mode) (lengthsOf label d iv o))
+unfolding modeCall
+edge-refused dir m k label d iv o h =
+    rw k
+    (ap (under (m .cipher .number))
+    (verdict-refused (messageCheck Key (m .cipher .retired) dir (m .mode) (lengthsOf label d iv o)) o
+    (modeResult (m .mode) dir (m .cipher .rk) label d iv o) _ h))
+
+-- And of encryption it is the whole report, where done with what the formula of W8 says of a counter.
+pub edge-encrypted : (m : Sm4CipherMode) → m .cipher .answer ≡ Key → (label d iv o : List ℕ)
+    → modeCall Encrypt m label d iv o .head
+    ≡ under (m .cipher .number)
+    (tellingDone (roundOf (m .mode) Encrypt (m .cipher .rk) iv (length d))
+    (saidOf (m .cipher .retired) Encrypt (m .mode) (lengthsOf label d iv o)))
+unfolding modeCall
+edge-encrypted m k label d iv o =
+    let rk = m .cipher .rk in
+    let b = roundOf (m .mode) Encrypt rk iv (length d) in
+    let size = ap (λ (n : ℕ). telling b (finished n)) (length-encrypted (m .mode) rk label d iv) in
+    let head = ap (λ (x : Outcome). x .head) (encrypts (m .mode) rk label d iv o) ∙ size in
+    rw k
+    (ap (under (m .cipher .number))
+    (verdict-done (messageCheck Key (m .cipher .retired) Encrypt (m .mode) (lengthsOf label d iv o)) o
+    (modeResult (m .mode) Encrypt rk label d iv o) _ b head))
+
+-- Two blocks under the key of sixteen zero bytes, computed: demand 3's condition on keys is met, and imposters can be told.
+
+pub zero-block : encryptBlock (roundKeys (replicate 16 0)) (replicate 16 0)
+    ≡ 0x9f ∷ 0x1f ∷ 0x7b ∷ 0xff ∷ 0x6f ∷ 0x55 ∷ 0x11 ∷ 0x38 ∷ 0x4d ∷ 0x94 ∷ 0x30 ∷ 0x53 ∷ 0x1e ∷ 0x53 ∷ 0x8f ∷ 0xd3 ∷ []
+unfolding CK numberOf bytesOf words unwords sboxTable tau rotl L L' T T' rounds keysFrom roundKeys encryptWords encryptBlock
+zero-block = refl
+
+pub block-of-one : encryptBlock (roundKeys (replicate 16 0)) (replicate 15 0 ++ (1 ∷ []))
+    ≡ 0x23 ∷ 0x2f ∷ 0x0c ∷ 0xfe ∷ 0x30 ∷ 0x8b ∷ 0x49 ∷ 0xea ∷ 0x6f ∷ 0xc8 ∷ 0x82 ∷ 0x29 ∷ 0xb5 ∷ 0xdc ∷ 0x85 ∷ 0x8d ∷ []
+unfolding CK numberOf bytesOf words unwords sboxTable tau rotl L L' T T' rounds keysFrom roundKeys encryptWords encryptBlock
+block-of-one = refl
+
+-- The key of sixteen zero bytes does not encrypt the all-zero block to itself: there are keys that demand 3 speaks of.
+pub zero-key-moves : MovesZero (roundKeys (replicate 16 0))
+zero-key-moves e =
+    let z : _≡_ {A = ℕ} 0x9f 0 = ap (λ (b : List ℕ). getD b 0 0) (sym zero-block ∙ e) in
+    absurd (omega arith)

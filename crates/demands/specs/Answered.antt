@@ -1,20 +1,8 @@
 -- Demand 1 as a property of an outcome: what a caller may count on, refused or done.
-use mathlib.Core.Path.{_≡_}
-use mathlib.Core.Logic.{_≢_, _⊎_}
-use mathlib.Core.Bool.{Bool, true, false, _||_}
-use mathlib.Core.List.{List, [], _∷_}
-use Prim.Native.Nat.{ℕ, _+_, _-_, _*_, _/_, _≤_, _<_}
-use lib.Dec.{eqb}
-use lib.ListN.{length, drop}
-use Rattle.walk.specs.Outcome.{Outcome, finished, refusal}
-use Rattle.cipher.specs.Sm4.{roundKeys}
-use Rattle.cbc.specs.Open.{lastByte, cbcText}
-use Rattle.cipher_mode.specs.declared.CipherMode.{CipherMode}
-use Rattle.cipher_mode.specs.declared.CipherMode.the-variants.{Cfb, Ofb, Ctr, Cbc, Gcm}
-use Rattle.cipher_mode.specs.declared.Direction.{Direction}
-use Rattle.cipher_mode.specs.declared.Direction.the-variants.{Encrypt, Decrypt}
-use Rattle.cipher_mode.specs.declared.Sm4Cipher.{Sm4Cipher}
-use Rattle.cipher_mode.specs.Key.{keyHead, keyNumber}
+use Rattle.demands.specs.Names as N
+use N.{Bool, _||_, false, true, List, [], _∷_, _≢_, _⊎_, _≡_, _*_, _+_, _-_, _/_, _<_, _≤_, ℕ, eqb, drop, length, Outcome, finished}
+use N.{refusal, roundKeys, cbcText, lastByte, keyHead, keyNumber, CipherMode, Cbc, Cfb, Ctr, Gcm, Ofb, Direction, Decrypt, Encrypt}
+use N.{Sm4Cipher}
 
 -- whether a number is one of a list
 abbrev pub oneOf : ℕ → List ℕ → Bool
@@ -25,7 +13,7 @@ oneOf n (k ∷ ks) = eqb n k || oneOf n ks
 abbrev pub singleNumbers : List ℕ
 singleNumbers = 0 ∷ 1 ∷ 2 ∷ 3 ∷ 4 ∷ 5 ∷ 6 ∷ 7 ∷ 8 ∷ 9 ∷ 10 ∷ 11 ∷ 13 ∷ 14 ∷ 15 ∷ []
 
--- x is an answer to a call on the key of number k whose output was lent as o, and of which document 01's table gives the length n
+-- x is an answer to a call on the key of number k whose output was lent as o, and of which the table of lengths gives the length n
 pub record Answered (numbers : List ℕ) (k : ℕ) (o : List ℕ) (n : ℕ) (x : Outcome) : Type 0 where
   -- the number is one of those that the call can answer
   pub numbered : oneOf (x .head .number) numbers ≡ true
@@ -51,7 +39,7 @@ pub record KeyAnswered (key : List ℕ) (n : ℕ) (c : Sm4Cipher) : Type 0 where
   -- a record set up anew is unretired
   pub fresh : c .retired ≡ false
 
--- document 01's table: the length on success, which in Cbc decryption is less by the last decrypted byte
+-- the table of lengths: the length on success, which in Cbc decryption is less by the last decrypted byte
 abbrev pub lengthOf : CipherMode → Direction → List ℕ → List ℕ → List ℕ → ℕ
 lengthOf Cfb dir rk iv d = length d
 lengthOf Ofb dir rk iv d = length d

@@ -1,12 +1,6 @@
 -- Any call, true or an imposter's, by what it leaves.
-use mathlib.Core.Path.{_≡_}
-use mathlib.Core.List.{List}
-use Prim.Native.Nat.{ℕ}
-use lib.ListN.{take}
-use Rattle.walk.specs.Outcome.{Outcome}
-use Rattle.cipher_mode.specs.declared.CipherMode.the-variants.{Gcm}
-use Rattle.cipher_mode.specs.declared.Sm4Cipher.{Sm4Cipher}
-use Rattle.cipher_mode.specs.declared.Sm4CipherMode.{Sm4CipherMode}
+use Rattle.demands.specs.Names as N
+use N.{List, _≡_, ℕ, take, Outcome, Gcm, Sm4Cipher, Sm4CipherMode}
 
 -- a call with its key: the outcome of a label, the data, an IV and the output as it was lent
 abbrev pub Call : Type 0

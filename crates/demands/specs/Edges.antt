@@ -1,25 +1,9 @@
--- Document 01's "At the edges", with document 02's numbers: what the definitions say of a call with these lengths, whatever its
--- bytes are, beside the papers.
-use mathlib.Core.Bool.{Bool, true, false, cond}
-use mathlib.Core.List.{List, [], _∷_, _++_, map}
-use Prim.Native.Nat.{ℕ, _-_}
-use lib.ListN.{replicate}
-use Rattle.walk.specs.Outcome.{Head, finished, refusal, cutShort}
-use Rattle.cbc.specs.Open.{headOf as cbcHead, unpadded}
-use Rattle.gcm.specs.Open.{headOf as gcmHead}
-use Rattle.gcm.specs.declared.Opened.the-variants.{Done as Gcm·Done, InvalidTag}
-use Rattle.cipher_mode.specs.declared.KeyAnswer.the-variants.{Key}
-use Rattle.cipher_mode.specs.declared.CipherMode.{CipherMode}
-use Rattle.cipher_mode.specs.declared.CipherMode.the-variants.{Cfb, Ofb, Ctr, Cbc, Gcm}
-use Rattle.cipher_mode.specs.declared.Direction.{Direction}
-use Rattle.cipher_mode.specs.declared.Direction.the-variants.{Encrypt, Decrypt}
-use Rattle.cipher_mode.specs.declared.checks.Checked.{Checked}
-use Rattle.cipher_mode.specs.declared.checks.Checked.the-variants.{Passed, Refused}
-use Rattle.cipher_mode.specs.declared.checks.Lengths.{Lengths}
-use Rattle.cipher_mode.specs.Answer.{refusalHead}
-use Rattle.cipher_mode.specs.Tables.{roomOf}
-use Rattle.cipher_mode.specs.Key.{keyHead, newCipher}
-use Rattle.cipher_mode.specs.Checks.{messageCheck, blockCheck}
+-- "At the edges" of docs/REQUIREMENTS.md, with the numbers of W1: what the definitions say of a call with these lengths, whatever its
+-- bytes are, beside docs/REQUIREMENTS.md.
+use Rattle.demands.specs.Names as N
+use N.{Bool, cond, false, true, List, [], _++_, _∷_, map, _-_, ℕ, replicate, Head, cutShort, finished, refusal, cbcHead, unpadded, gcmHead}
+use N.{Gcm·Done, InvalidTag, refusalHead, blockCheck, messageCheck, keyHead, newCipher, roomOf, CipherMode, Cbc, Cfb, Ctr, Gcm, Ofb}
+use N.{Direction, Decrypt, Encrypt, Key, Checked, Passed, Refused, Lengths}
 
 -- a message of so many bytes, under an IV of so many, without a label, with so much room
 abbrev pub sizes : ℕ → ℕ → ℕ → Lengths

@@ -1,28 +1,9 @@
 -- What the engine must not show. Records, or states, that are alike but for its mark are answered alike by every public call: the same
 -- number and report, the same bytes, and a next state that is alike again.
-use mathlib.Core.Path.{_≡_}
-use mathlib.Core.Bool.{Bool}
-use mathlib.Core.List.{List, map}
-use Prim.Native.Nat.{ℕ}
-use Rattle.cipher_mode.specs.declared.CipherMode.{CipherMode}
-use Rattle.cipher_mode.specs.declared.Direction.{Direction}
-use Rattle.cipher_mode.specs.declared.Sm4Cipher.{Sm4Cipher}
-use Rattle.cipher_mode.specs.Key.{withEngine}
-use Rattle.cipher_mode.specs.Calls.{blockCall, modeCall}
-use Rattle.pieces.specs.declared.ctr.Ctr.{Ctr}
-use Rattle.pieces.specs.declared.seal.Seal.{Seal}
-use Rattle.pieces.specs.Calls.{Stepped, ctrStart, ctrPiece, ctrEnd, sealStart, sealPiece, sealEnd, opensStart}
-use Rattle.editions.specs.Which.{which as asks}
-use Rattle.ranges.specs.declared.plan.Plan.{Plan}
-use Rattle.ranges.specs.Range.{rangeCall}
-use Rattle.ranges.specs.ByPlan.{planCall}
-use Rattle.luossavin.specs.declared.key.LuossavinKey.{LuossavinKey}
-use Rattle.luossavin.specs.declared.journals.LuossavinKeys.{LuossavinKeys}
-use Rattle.luossavin.specs.Key.{hostKeyEngine}
-use Rattle.luossavin.specs.Host.{hostBlockCall, hostModeCall}
-use Rattle.luossavin.specs.InPieces.{hostCtrStart, hostSealStart, hostOpensStart}
-use Rattle.luossavin.specs.Which.{hostWhich}
-use Rattle.luossavin.specs.Ranges.{hostCtrRange, hostCtrByPlan}
+use Rattle.demands.specs.Names as N
+use N.{Bool, List, map, _≡_, ℕ, withEngine, Direction, Sm4Cipher, Stepped, ctrEnd, ctrPiece, sealEnd, sealPiece, Ctr·state as Ctr, Seal}
+use N.{Plan, hostBlockCall, hostModeCall, hostCtrStart, hostOpensStart, hostSealStart, hostKeyEngine, hostCtrByPlan, hostCtrRange}
+use N.{hostWhich, LuossavinKeys, LuossavinKey}
 
 -- a record whose engine the library chooses, and all else as it was
 abbrev pub unmarked : Sm4Cipher → Sm4Cipher
@@ -58,18 +39,6 @@ unmarkedSeal s = record {
 abbrev pub seen : (S : Type 0) → (S → S) → Stepped S → Stepped S
 seen S without x = record { head = x .head; bytes = x .bytes; state = without (x .state) }
 
--- the calls on a record
-pub record AnsweredAlike (c d : Sm4Cipher) : Type 0 where
-  pub block : (dir : Direction) (b o : List ℕ) → blockCall dir c b o ≡ blockCall dir d b o
-  pub message : (dir : Direction) (mode : CipherMode) (label e iv o : List ℕ)
-      → modeCall dir (record { cipher = c; mode = mode }) label e iv o ≡ modeCall dir (record { cipher = d; mode = mode }) label e iv o
-  pub ctr : (dir : Direction) (iv : List ℕ) → seen Ctr unmarkedCtr (ctrStart dir c iv) ≡ seen Ctr unmarkedCtr (ctrStart dir d iv)
-  pub sealing : (label iv : List ℕ) → seen Seal unmarkedSeal (sealStart c label iv) ≡ seen Seal unmarkedSeal (sealStart d label iv)
-  pub opening : (label iv : List ℕ) → opensStart c label iv ≡ opensStart d label iv
-  pub which : (file iv labels lengths : List ℕ) → asks c file iv labels lengths ≡ asks d file iv labels lengths
-  pub range : (dir : Direction) (iv : List ℕ) (offset : ℕ) (e o : List ℕ) → rangeCall dir c iv offset e o ≡ rangeCall dir d iv offset e o
-  pub by-plan : (dir : Direction) (iv : List ℕ) (plan : Plan) (e o : List ℕ) → planCall dir c iv plan e o ≡ planCall dir d iv plan e o
-
 -- the calls on a state; an opening's has no mark
 pub record CtrAlike (s t : Ctr) : Type 0 where
   pub piece : (e o : List ℕ) → seen Ctr unmarkedCtr (ctrPiece s e o) ≡ seen Ctr unmarkedCtr (ctrPiece t e o)
@@ -89,11 +58,14 @@ unmarkedKeys k = record { count = k .count; keys = map unmarkedHost (k .keys) }
 -- the exported calls on a host's record; those on a state are the library's own
 pub record ReportedAlike (k l : LuossavinKey) : Type 0 where
   pub block : (dir : Direction) (b o : List ℕ) → hostBlockCall dir k b o ≡ hostBlockCall dir l b o
-  pub message : (dir : Direction) (mode : ℕ) (label e iv o : List ℕ) → hostModeCall dir mode k label e iv o ≡ hostModeCall dir mode l label e iv o
+  pub message : (dir : Direction) (mode : ℕ) (label e iv o : List ℕ)
+      → hostModeCall dir mode k label e iv o ≡ hostModeCall dir mode l label e iv o
   pub ctr : (decrypt : Bool) (iv : List ℕ)
       → seen Ctr unmarkedCtr (hostCtrStart k decrypt iv) ≡ seen Ctr unmarkedCtr (hostCtrStart l decrypt iv)
   pub sealing : (label iv : List ℕ) → seen Seal unmarkedSeal (hostSealStart k label iv) ≡ seen Seal unmarkedSeal (hostSealStart l label iv)
   pub opening : (label iv : List ℕ) → hostOpensStart k label iv ≡ hostOpensStart l label iv
   pub which : (file iv labels lengths : List ℕ) → hostWhich k file iv labels lengths ≡ hostWhich l file iv labels lengths
-  pub range : (decrypt : Bool) (iv : List ℕ) (offset : ℕ) (e o : List ℕ) → hostCtrRange k decrypt iv offset e o ≡ hostCtrRange l decrypt iv offset e o
-  pub by-plan : (decrypt : Bool) (iv : List ℕ) (plan : Plan) (e o : List ℕ) → hostCtrByPlan k decrypt iv plan e o ≡ hostCtrByPlan l decrypt iv plan e o
+  pub range : (decrypt : Bool) (iv : List ℕ) (offset : ℕ) (e o : List ℕ)
+      → hostCtrRange k decrypt iv offset e o ≡ hostCtrRange l decrypt iv offset e o
+  pub by-plan : (decrypt : Bool) (iv : List ℕ) (plan : Plan) (e o : List ℕ)
+      → hostCtrByPlan k decrypt iv plan e o ≡ hostCtrByPlan l decrypt iv plan e o

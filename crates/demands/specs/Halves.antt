@@ -1,30 +1,19 @@
 -- Two servers each hold half a long draft: what their hashes give when they are joined, as properties of any calls that hash bytes in
 -- blocks and join two hashes.
-use mathlib.Core.Path.{_≡_}
-use mathlib.Core.Bool.{cond}
-use mathlib.Core.List.{List, _++_}
-use Prim.Native.Nat.{ℕ, _+_, _*_, _%_, _^_, _<_}
-use lib.Dec.{eqb}
-use lib.ListN.{length, replicate}
-use Rattle.block.specs.BigEndian.{numberOf, bytesOf}
-use Rattle.block.specs.Xor.{xors}
-use Rattle.ghash.specs.Ghash.{blockCount}
-use Rattle.cipher_mode.specs.declared.Direction.the-variants.{Encrypt}
-use Rattle.luossavin.specs.declared.halves.LuossavinHash.{LuossavinHash}
-use Rattle.luossavin.specs.declared.key.LuossavinKey.{LuossavinKey}
-use Rattle.luossavin.specs.Halves.{hashIn, hashOf, hostHashBlocks, hostHashJoin}
-use Rattle.luossavin.specs.Host.{hostBlockCall, hostModeCall}
+use Rattle.demands.specs.Names as N
+use N.{cond, List, _++_, _≡_, _%_, _*_, _+_, _<_, _^_, ℕ, eqb, length, replicate, bytesOf, numberOf, xors, blockCount, Encrypt, value}
+use N.{hashOf, hostHashBlocks, hostHashJoin, hostBlockCall, hostModeCall, U128, LuossavinKey}
 use Rattle.demands.specs.Call.{result}
-use Rattle.demands.specs.TwelveBytes.{followedBy}
+use Rattle.demands.specs.CameRound.{followedBy}
 
 abbrev pub Hashes : Type 0
-Hashes = LuossavinHash → List ℕ → LuossavinHash
+Hashes = U128 → List ℕ → U128
 
 abbrev pub Joins : Type 0
-Joins = LuossavinHash → LuossavinHash → LuossavinHash → ℕ → LuossavinHash
+Joins = U128 → U128 → U128 → ℕ → U128
 
 -- a value that a host can hold: two halves of 64 bits
-pub record IsValue (h : LuossavinHash) : Type 0 where
+pub record IsValue (h : U128) : Type 0 where
   pub high : h .high < 2 ^ 64
   pub low : h .low < 2 ^ 64
 
@@ -32,36 +21,36 @@ abbrev pub WholeBlocks : List ℕ → Type 0
 WholeBlocks a = length a % 16 ≡ 0
 
 -- each half hashed by itself, and joined by the second's block count
-abbrev pub hashOfHalves : Hashes → Joins → LuossavinHash → List ℕ → List ℕ → LuossavinHash
+abbrev pub hashOfHalves : Hashes → Joins → U128 → List ℕ → List ℕ → U128
 hashOfHalves hash join h a b = join h (hash h a) (hash h b) (blockCount (length b))
 
 -- where the first half is whole blocks, that is the hash of both; either half may be empty
 abbrev pub JoinsHalves : Hashes → Joins → Type 0
 JoinsHalves hash join =
-    (h : LuossavinHash) → IsValue h → (a b : List ℕ) → WholeBlocks a → hashOfHalves hash join h a b ≡ hash h (a ++ b)
+    (h : U128) → IsValue h → (a b : List ℕ) → WholeBlocks a → hashOfHalves hash join h a b ≡ hash h (a ++ b)
 
 -- What a host makes of a tag by exported calls alone. Sixteen bytes, encrypted under a key's record:
 abbrev pub enciphered : LuossavinKey → List ℕ → List ℕ
 enciphered k b = result (hostBlockCall Encrypt k b (replicate 16 0))
 
 -- H: the cipher of sixteen zero bytes, as a value
-abbrev pub keyOfHash : LuossavinKey → LuossavinHash
+abbrev pub keyOfHash : LuossavinKey → U128
 keyOfHash k = hashOf (numberOf (enciphered k (replicate 16 0)))
 
 -- a value as sixteen bytes
-abbrev pub bytesIn : LuossavinHash → List ℕ
-bytesIn r = bytesOf 16 (hashIn r)
+abbrev pub bytesIn : U128 → List ℕ
+bytesIn r = bytesOf 16 (value r)
 
 -- two numbers of 8 bytes each
 abbrev pub pair : ℕ → ℕ → List ℕ
 pair a b = bytesOf 8 a ++ bytesOf 8 b
 
 -- J0: a 12-byte IV and then 00000001, or the hash of a 16-byte IV and of the number 128
-abbrev pub counterOf : LuossavinHash → List ℕ → List ℕ
+abbrev pub counterOf : U128 → List ℕ → List ℕ
 counterOf h iv = cond (eqb (length iv) 12) (followedBy 1 iv) (bytesIn (hostHashBlocks h (iv ++ pair 0 128)))
 
 -- the hashes of the label, of the ciphertext's two halves and of the lengths in bits, joined from left to right
-abbrev pub hashOfAll : LuossavinHash → List ℕ → List ℕ → List ℕ → LuossavinHash
+abbrev pub hashOfAll : U128 → List ℕ → List ℕ → List ℕ → U128
 hashOfAll h label a b =
     let hash = hostHashBlocks h in
     let first = hostHashJoin h (hash label) (hash a) (blockCount (length a)) in

@@ -1,16 +1,8 @@
 -- How many hash keys could ever confuse two files, as properties of any hash of a label and a ciphertext. Here H is any element
 -- of the field, whether or not a key encrypts the zero block to it.
-use mathlib.Core.Path.{_≡_}
-use mathlib.Core.Logic.{_≢_}
-use mathlib.Core.List.{List, [], _∷_, _++_}
-use Prim.Native.Nat.{ℕ, _+_, _^_, _<_, _≤_, max}
-use lib.ListN.{length, replicate}
-use Rattle.block.specs.Below.{AreBytes}
-use Rattle.ghash.specs.Ghash.{blockCount, blocks, ghash}
-use Rattle.roots.specs.AtMost.{Having, AtMost, FewerThanOneIn}
-use Rattle.roots.specs.Confused.{Pair, hashedCount, PairHash, pairHash, Confuses}
-use Rattle.cipher_mode.specs.Tables.{limit}
-use Rattle.label.specs.Label.{labelOf}
+use Rattle.demands.specs.Names as N
+use N.{List, [], _++_, _∷_, _≢_, _≡_, _+_, _<_, _^_, _≤_, max, ℕ, length, replicate, AreBytes, blockCount, blocks, ghash, AtMost}
+use N.{FewerThanOneIn, Having, Confuses, Pair, PairHash, hashedCount, pairHash, limit, labelOf}
 use Rattle.demands.specs.Call.{Call, RefusedAs}
 
 -- label and ciphertext are bytes, and neither has more than 16,777,216

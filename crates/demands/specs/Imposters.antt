@@ -1,41 +1,12 @@
 -- Calls that look to a careless test like an exported call, and are not: encryption, decryption, setting up a key, retiring one, a start in
 -- pieces, asking for a file's label, a range, work by a plan, putting on a shelf, joining two hashes.
-use mathlib.Core.Bool.{Bool, true, false, not}
-use mathlib.Core.List.{List, [], _∷_, _++_}
-use Prim.Native.Nat.{ℕ, _+_, _-_, _*_, _/_}
-use lib.Dec.{eqb}
-use lib.ListN.{length, take, drop, replicate}
-use Rattle.cipher.specs.Sm4.{roundKeys}
-use Rattle.counter.specs.CameRound.{blocksOf, ctrCameRound}
-use Rattle.walk.specs.Walk.{over}
-use Rattle.walk.specs.Outcome.{Outcome, leaving, telling, refused, refuse as refuseAs, done}
-use Rattle.cipher_mode.specs.declared.KeyAnswer.the-variants.{Key}
-use Rattle.cipher_mode.specs.declared.CipherMode.the-variants.{Ctr, Gcm}
-use Rattle.cipher_mode.specs.declared.Direction.{Direction}
-use Rattle.cipher_mode.specs.declared.Direction.the-variants.{Encrypt, Decrypt}
-use Rattle.cipher_mode.specs.declared.answer.Refusal.the-variants.{TooLong}
-use Rattle.cipher_mode.specs.declared.checks.Checked.the-variants.{Passed}
-use Rattle.cipher_mode.specs.declared.Sm4Cipher.{Sm4Cipher}
-use Rattle.cipher_mode.specs.Key.{keyNumber, newCipher}
-use Rattle.cipher_mode.specs.Checks.{refuse, andThen, keyAndIv, dataCheck, checked}
-use Rattle.pieces.specs.declared.seal.Seal.{Seal}
-use Rattle.pieces.specs.States.{sealAfter, sealShut}
-use Rattle.pieces.specs.Calls.{Stepped, stepOn, begun}
-use Rattle.editions.specs.Candidates.{anyTooLong}
-use Rattle.editions.specs.Which.{onKey, firstOpening, checkedVerdict, opensWith}
-use Rattle.ranges.specs.declared.plan.Plan.{Plan}
-use Rattle.ranges.specs.Plan.{accepts}
-use Rattle.shelf.specs.Records.{stored, records}
-use Rattle.shelf.specs.Shelf.{currentOf, notHigher, supersede, fitted, badShelf}
-use Rattle.shelf.specs.Calls.{Outcome as Shelf·Outcome, refuse as shelfRefuse, holding, putIn}
-use Rattle.luossavin.specs.declared.halves.LuossavinHash.{LuossavinHash}
-use Rattle.luossavin.specs.declared.key.LuossavinKey.{LuossavinKey}
-use Rattle.luossavin.specs.Key.{cipherIn, hostKeyNew}
-use Rattle.luossavin.specs.Halves.{hostHashBlocks, hostHashJoin}
-use Rattle.luossavin.specs.Host.{hostModeCall}
-use Rattle.luossavin.specs.InPieces.{directionOf}
-use Rattle.luossavin.specs.Which.{Told, toldOf, hostWhich}
-use Rattle.luossavin.specs.Ranges.{hostCtrRange, hostCtrByPlan}
+use Rattle.demands.specs.Names as N
+use N.{Bool, false, not, true, List, [], _++_, _∷_, _*_, _+_, _-_, _/_, ℕ, eqb, drop, length, replicate, take, blocksOf, ctrCameRound}
+use N.{Outcome, done, leaving, refuseAs, refused, telling, over, roundKeys, andThen, checked, dataCheck, keyAndIv, refuse, keyNumber}
+use N.{newCipher, Ctr, Gcm, Direction, Decrypt, Encrypt, Key, Sm4Cipher, TooLong, Passed, Stepped, begun, stepOn, sealAfter, sealShut, Seal}
+use N.{anyTooLong, checkedVerdict, firstOpening, onKey, opensWith, accepts, Plan, Shelf·Outcome, holding, putIn, shelfRefuse, records}
+use N.{stored·shelf as stored, badShelf, currentOf, fitted, notHigher, supersede, hostHashBlocks, hostHashJoin, hostModeCall, directionOf}
+use N.{cipherIn, hostKeyNew, hostCtrByPlan, hostCtrRange, Told, hostWhich, toldOf, U128, LuossavinKey}
 use Rattle.demands.specs.Call.{Call, result}
 use Rattle.demands.specs.Workers.{RangeCall}
 
@@ -173,7 +144,7 @@ marksFirst shelf used job edition sealed =
     holding (fitted (length shelf) (putIn shelf used job edition sealed)) (over (stored (supersede job (records (take used shelf)))) shelf)
 
 -- joins two halves, and counts the second's bytes
-abbrev pub countsBytes : LuossavinHash → List ℕ → List ℕ → LuossavinHash
+abbrev pub countsBytes : U128 → List ℕ → List ℕ → U128
 countsBytes h a b = hostHashJoin h (hostHashBlocks h a) (hostHashBlocks h b) (length b)
 
 -- two records without sealed bytes: of job 0 the edition 1, superseded, and then the edition 0, current

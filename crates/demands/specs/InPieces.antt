@@ -1,14 +1,7 @@
 -- A message in pieces, as properties of any calls on states of a kind S: whatever the cuts are, empty ones too, the pieces give
 -- what the single call gives.
-use mathlib.Core.Path.{_≡_}
-use mathlib.Core.Logic.{_≢_}
-use mathlib.Core.Bool.{true}
-use mathlib.Core.List.{List, [], _∷_, _++_}
-use Prim.Native.Nat.{ℕ, _+_, _≤_}
-use lib.ListN.{length, take}
-use Rattle.walk.specs.Outcome.{Outcome, leaving}
-use Rattle.cipher_mode.specs.Tables.{limit}
-use Rattle.pieces.specs.Calls.{Stepped}
+use Rattle.demands.specs.Names as N
+use N.{true, List, [], _++_, _∷_, _≢_, _≡_, _+_, _≤_, ℕ, length, take, Outcome, leaving, limit, Stepped}
 use Rattle.demands.specs.Answered.{oneOf}
 use Rattle.demands.specs.Call.{Call, result}
 
@@ -54,18 +47,29 @@ onto S piece s p = piece s (p .text) (p .out)
 abbrev pub sizeOf : Piece → ℕ
 sizeOf p = length (p .text)
 
+-- what all of them bring, joined, and what holds of each
+abbrev pub gathered : (P : Type 0) → (P → List ℕ) → List P → List ℕ
+gathered P content [] = []
+gathered P content (p ∷ ps) = content p ++ gathered P content ps
+
+abbrev pub Every : (P : Type 0) → (P → Type 0) → List P → Type 0
+Every P Holds [] = Unit {0}
+Every P Holds (p ∷ ps) = Holds p × Every P Holds ps
+
 -- the message that the pieces make
 abbrev pub whole : List Piece → List ℕ
-whole [] = []
-whole (p ∷ ps) = p .text ++ whole ps
+whole ps = gathered Piece (λ p. p .text) ps
 
--- each output has room for its piece
+-- an output has room for its piece, and each does
+abbrev pub Room : Piece → Type 0
+Room p = length (p .text) ≤ length (p .out)
+
 abbrev pub Roomy : List Piece → Type 0
-Roomy [] = Unit {0}
-Roomy (p ∷ ps) = (length (p .text) ≤ length (p .out)) × Roomy ps
+Roomy ps = Every Piece Room ps
 
 -- all answered 0: the start with no bytes, each piece with its own length, the end with n
-pub record AllDone (S : Type 0) (call : S → Piece → Stepped S) (started : Stepped S) (ps : List Piece) (n : ℕ) (ended : Stepped S) : Type 0 where
+pub record AllDone (S : Type 0) (call : S → Piece → Stepped S) (started : Stepped S) (ps : List Piece) (n : ℕ) (ended : Stepped S)
+    : Type 0 where
   pub start : Did S 0 started
   pub pieces : AllDid S Piece call sizeOf (started .state) ps
   pub end : Did S n ended
@@ -120,8 +124,7 @@ SealOfPieces S start piece end single =
 
 -- the ciphertext that the pieces make which an opening takes; they lend no output
 abbrev pub joined : List (List ℕ) → List ℕ
-joined [] = []
-joined (c ∷ cs) = c ++ joined cs
+joined cs = gathered (List ℕ) (λ c. c) cs
 
 abbrev pub none : List ℕ → ℕ
 none c = 0
@@ -129,7 +132,8 @@ none c = 0
 -- Whenever the start answers 0 and the ciphertext is within the limit, every piece of it is taken, and the end, with a tag of
 -- sixteen bytes, answers the number that the single call, given room, answers to the ciphertext and that tag: 0 exactly where
 -- it opens, and otherwise 4; and it tells of the counter what the single call tells.
-abbrev pub OpensInPieces : (S : Type 0) → (List ℕ → List ℕ → Stepped S) → (S → List ℕ → Stepped S) → (S → List ℕ → Stepped S) → Call → Type 0
+abbrev pub OpensInPieces : (S : Type 0) → (List ℕ → List ℕ → Stepped S) → (S → List ℕ → Stepped S) → (S → List ℕ → Stepped S) → Call
+    → Type 0
 OpensInPieces S start piece end single =
     (cs : List (List ℕ)) (label iv tag o : List ℕ) → length (joined cs) ≤ limit → length (joined cs) ≤ length o → length tag ≡ 16
     → start label iv .head .number ≡ 0

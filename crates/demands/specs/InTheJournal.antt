@@ -1,26 +1,9 @@
 -- The exported replay of a journal: demand 1 of it, which number it ends with exactly when, what the reports of two journals make
 -- together, and what it is for, that a night of calls is found as it was.
-use mathlib.Core.Path.{_≡_}
-use mathlib.Core.Logic.{_⊎_}
-use mathlib.Core.Bool.{true, false, cond}
-use mathlib.Core.List.{List, [], _∷_}
-use Prim.Native.Nat.{ℕ, _+_, _≤_, _<_}
-use lib.Dec.{eqb}
-use lib.ListN.{length}
-use Rattle.journal.specs.Format.{Entry, outputLimit}
-use Rattle.journal.specs.KeyList.{keysIn, keyOf, badKeys}
-use Rattle.journal.specs.Reports.{nothing, total}
-use Rattle.journal.specs.Joined.{sums}
-use Rattle.journal.specs.Recomputed.{result as resultOf}
-use Rattle.journal.specs.Ends.{Replayable, Ends, answerNow}
-use Rattle.journal.specs.declared.Ended.the-variants.{BadKeys}
-use Rattle.journal.specs.declared.Replayed.{Replayed}
-use Rattle.luossavin.specs.declared.key.LuossavinKey.{LuossavinKey}
-use Rattle.luossavin.specs.declared.journals.LuossavinKeys.{LuossavinKeys}
-use Rattle.luossavin.specs.declared.journals.LuossavinReplayed.{LuossavinReplayed}
-use Rattle.luossavin.specs.Key.{cipherIn}
-use Rattle.luossavin.specs.Host.{hostModeCall}
-use Rattle.luossavin.specs.Journals.{keysOf, toldOf}
+use Rattle.demands.specs.Names as N
+use N.{cond, false, true, List, [], _∷_, _⊎_, _≡_, _+_, _<_, _≤_, ℕ, eqb, length, Ends, Replayable, answerNow, Entry, outputLimit, sums}
+use N.{badKeys, keyOf·journal as keyOf, keysIn, resultOf, nothing, total, BadKeys, Replayed, hostModeCall, keysOf, toldOf·journal as toldOf}
+use N.{cipherIn, LuossavinKeys, LuossavinReplayed, LuossavinKey}
 use Rattle.demands.specs.Answered.{oneOf}
 
 -- what a host is told where the keys are bad: 26, and nothing else

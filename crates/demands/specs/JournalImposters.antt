@@ -1,19 +1,7 @@
 -- Calls that look like the replay of a journal to a careless test, and are not.
-use mathlib.Core.Bool.{false, cond}
-use mathlib.Core.List.{List, [], _∷_}
-use Prim.Native.Nat.{ℕ}
-use lib.Dec.{ltb}
-use lib.ListN.{take, replicate}
-use Rattle.block.specs.Words.{wordAt}
-use Rattle.cipher_mode.specs.declared.Direction.the-variants.{Encrypt}
-use Rattle.cipher_mode.specs.declared.KeyAnswer.the-variants.{Key}
-use Rattle.journal.specs.Format.{Entry, fromLabel, partLimit}
-use Rattle.journal.specs.KeyList.{badKeys}
-use Rattle.journal.specs.Reports.{nothing}
-use Rattle.journal.specs.Replay.{refuse, replay}
-use Rattle.journal.specs.declared.keys.Keys.{Keys}
-use Rattle.journal.specs.declared.Ended.the-variants.{TooLong, BadKeys}
-use Rattle.journal.specs.declared.Replayed.{Replayed}
+use Rattle.demands.specs.Names as N
+use N.{cond, false, List, [], _∷_, ℕ, ltb, replicate, take, wordAt, Encrypt, Key, Entry, fromLabel, partLimit, badKeys}
+use N.{journalRefuse as refuse, replay, nothing, BadKeys, TooLong·journal as TooLong, Replayed, Keys}
 
 -- replays a journal up to the first record that differs, and stops there
 abbrev pub stopsAtDifference : Keys → List ℕ → Replayed

@@ -1,3 +1,5 @@
+-- what every file below is written with
+pub mod Names
 pub mod Call
 -- demand 1
 pub mod Answered
@@ -7,22 +9,16 @@ pub mod NoUsableKey
 pub mod CameRound
 pub mod Retired
 pub mod Steps
-pub mod WhichNumberInPieces
 -- demand 2
-pub mod Served
 pub mod ThereAndBack
-pub mod TwelveBytes
 pub mod InPieces
 -- demand 3, and what the demands were for
 pub mod OneBlockRefused
-pub mod OtherEdition
 pub mod EditionOpens
-pub mod Which
 pub mod Workers
 pub mod OnTheShelf
 pub mod InTheJournal
 pub mod Halves
-pub mod TrailingZero
 pub mod HashKeys
 pub mod EngineUnseen
 -- the worked table and the imposters

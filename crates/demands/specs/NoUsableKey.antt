@@ -1,25 +1,8 @@
 -- A host's record that no call uses as a key.
-use mathlib.Core.Path.{_≡_}
-use mathlib.Core.Bool.{Bool, false}
-use mathlib.Core.List.{List}
-use Prim.Native.Nat.{ℕ, _≤_}
-use lib.ListN.{replicate}
-use Rattle.walk.specs.Outcome.{refusal, refused}
-use Rattle.cipher_mode.specs.declared.Direction.{Direction}
-use Rattle.editions.specs.Candidates.{badList}
-use Rattle.editions.specs.Which.{noneWith}
-use Rattle.ranges.specs.declared.plan.Plan.{Plan}
-use Rattle.journal.specs.Format.{Entry}
-use Rattle.journal.specs.KeyList.{keysIn, keyOf}
-use Rattle.journal.specs.Ends.{answerNow}
-use Rattle.luossavin.specs.declared.key.LuossavinKey.{LuossavinKey}
-use Rattle.luossavin.specs.declared.journals.LuossavinKeys.{LuossavinKeys}
-use Rattle.luossavin.specs.Key.{cipherIn}
-use Rattle.luossavin.specs.Host.{hostBlockCall, hostModeCall}
-use Rattle.luossavin.specs.InPieces.{hostCtrStart, hostSealStart, hostOpensStart}
-use Rattle.luossavin.specs.Which.{toldOf, hostWhich}
-use Rattle.luossavin.specs.Ranges.{hostCtrRange, hostCtrByPlan}
-use Rattle.luossavin.specs.Journals.{keysOf}
+use Rattle.demands.specs.Names as N
+use N.{Bool, false, List, _≡_, _≤_, ℕ, replicate, refusal, refused, Direction, badList, noneWith, Plan, answerNow, Entry}
+use N.{keyOf·journal as keyOf, keysIn, hostBlockCall, hostModeCall, hostCtrStart, hostOpensStart, hostSealStart, keysOf, cipherIn}
+use N.{hostCtrByPlan, hostCtrRange, hostWhich, toldOf, LuossavinKeys, LuossavinKey}
 
 -- Every call on k is refused as n with the output as it was lent, and on no key. What is told before a key is looked at stands before it:
 -- 7 for a mode above 4, and 16 for a bad list of labels.

@@ -1,16 +1,8 @@
 -- The exported calls on a shelf: demand 1 of them, which number each answers, a row a condition, in the order in which they are asked, and
 -- what a shelf is for, that no rough is shown for its final.
-use mathlib.Core.Path.{_≡_}
-use mathlib.Core.Logic.{_≢_}
-use mathlib.Core.Bool.{true, not}
-use mathlib.Core.List.{List, [], _∷_}
-use Prim.Native.Nat.{ℕ, _+_, _^_, _≤_, _<_}
-use lib.Dec.{ltb}
-use lib.ListN.{length, take, drop}
-use Rattle.label.specs.Label.{labelOf}
-use Rattle.shelf.specs.Records.{Record, stored, records}
-use Rattle.shelf.specs.Shelf.{hasCurrent, notHigher, collected, badShelf}
-use Rattle.shelf.specs.Calls.{Outcome, Place, putIn}
+use Rattle.demands.specs.Names as N
+use N.{not, true, List, [], _∷_, _≢_, _≡_, _+_, _<_, _^_, _≤_, ℕ, ltb, drop, length, take, labelOf, Shelf·Outcome as Outcome, Place, putIn}
+use N.{Record, records, stored·shelf as stored, badShelf, collected, hasCurrent, notHigher}
 use Rattle.demands.specs.Answered.{oneOf}
 use Rattle.demands.specs.Call.{Call, RefusedAs}
 use Rattle.demands.specs.WhichNumber.{Row, row}

@@ -1,20 +1,8 @@
 -- Retired keys, as properties of any function that hands back a host's record and of any record that is retired. Its mark is any byte but
 -- 0.
-use mathlib.Core.Path.{_≡_}
-use mathlib.Core.Logic.{_≢_}
-use mathlib.Core.Bool.{true, false}
-use mathlib.Core.List.{List, _∷_, _++_}
-use Prim.Native.Nat.{ℕ}
-use lib.ListN.{take}
-use Rattle.cipher_mode.specs.declared.Direction.the-variants.{Encrypt, Decrypt}
-use Rattle.ranges.specs.declared.plan.Plan.{Plan}
-use Rattle.luossavin.specs.declared.key.LuossavinKey.{LuossavinKey}
-use Rattle.luossavin.specs.declared.journals.LuossavinKeys.{LuossavinKeys}
-use Rattle.luossavin.specs.Host.{hostBlockCall, hostModeCall}
-use Rattle.luossavin.specs.InPieces.{hostCtrStart, hostSealStart, hostOpensStart}
-use Rattle.luossavin.specs.Which.{hostWhich}
-use Rattle.luossavin.specs.Ranges.{hostCtrRange, hostCtrByPlan}
-use Rattle.luossavin.specs.Journals.{hostReplay}
+use Rattle.demands.specs.Names as N
+use N.{false, true, List, _++_, _∷_, _≢_, _≡_, ℕ, take, Decrypt, Encrypt, Plan, hostBlockCall, hostModeCall, hostCtrStart, hostOpensStart}
+use N.{hostSealStart, hostReplay, hostCtrByPlan, hostCtrRange, hostWhich, LuossavinKeys, LuossavinKey}
 use Rattle.demands.specs.InTheJournal.{badKeysTold}
 
 -- a retired record does not come back unretired

@@ -1,13 +1,7 @@
 -- Demand 1 of the calls on messages in pieces: what a caller may count on, refused or done.
-use mathlib.Core.Path.{_≡_}
-use mathlib.Core.Logic.{_≢_}
-use mathlib.Core.List.{List, [], _∷_}
-use Prim.Native.Nat.{ℕ}
-use Rattle.walk.specs.Outcome.{Outcome, refusal, under, leaving}
-use Rattle.pieces.specs.declared.ctr.Ctr.{Ctr}
-use Rattle.pieces.specs.declared.opens.Opens.{Opens}
-use Rattle.pieces.specs.declared.seal.Seal.{Seal}
-use Rattle.pieces.specs.Calls.{Stepped, ctrPiece, ctrEnd, sealPiece, sealEnd, opensPiece, opensEnd}
+use Rattle.demands.specs.Names as N
+use N.{List, [], _∷_, _≢_, _≡_, ℕ, Outcome, leaving, refusal, under, Stepped, ctrEnd, ctrPiece, opensEnd, opensPiece, sealEnd, sealPiece}
+use N.{Ctr·state as Ctr, Opens, Seal}
 use Rattle.demands.specs.Answered.{Answered}
 
 -- what a step leaves besides its state

@@ -1,21 +1,8 @@
--- Which number a call answers: for each call document 01's conditions, a row each, in the order in which they are asked.
-use mathlib.Core.Path.{_≡_}
-use mathlib.Core.Logic.{_⊎_}
-use mathlib.Core.Bool.{Bool, true, false, not, cond, _&&_, _||_}
-use mathlib.Core.List.{List, [], _∷_, _++_, map}
-use Prim.Native.Nat.{ℕ, _-_, _%_}
-use lib.Dec.{eqb, ltb}
-use lib.ListN.{length}
-use Rattle.walk.specs.Outcome.{Head}
-use Rattle.cbc.specs.Open.{lastByte, namesPadding, allPadding, cbcText}
-use Rattle.gcm.specs.Gcm.{hashKey, J0, opensUnder}
-use Rattle.cipher_mode.specs.declared.CipherMode.{CipherMode}
-use Rattle.cipher_mode.specs.declared.CipherMode.the-variants.{Cfb, Ofb, Ctr, Cbc, Gcm}
-use Rattle.cipher_mode.specs.declared.Direction.{Direction}
-use Rattle.cipher_mode.specs.declared.Direction.the-variants.{Encrypt, Decrypt}
-use Rattle.cipher_mode.specs.Tables.{limit, sealedLimit, limitOf, roomOf, modeOf}
-use Rattle.editions.specs.Candidates.{badList, anyTooLong}
-use Rattle.luossavin.specs.declared.key.LuossavinKey.{LuossavinKey}
+-- Which number a call answers: for each call the conditions of docs/REQUIREMENTS.md, a row each, in the order in which they are asked.
+use Rattle.demands.specs.Names as N
+use N.{Bool, _&&_, _||_, cond, false, not, true, List, [], _++_, _∷_, map, _⊎_, _≡_, _%_, _+_, _-_, ℕ, eqb, ltb, length, same, xors, Head}
+use N.{allPadding, cbcText, lastByte, namesPadding, J0, hashKey, opensUnder, limit, limitOf, modeOf, roomOf, sealedLimit, CipherMode, Cbc}
+use N.{Cfb, Ctr, Gcm, Ofb, Direction, Decrypt, Encrypt, hashEnd, Ctr·state, Opens, Seal, anyTooLong, badList, directionOf, LuossavinKey}
 
 -- what a call says of a refusal: its number, and how many bytes were missing
 pub record Said : Type 0 where
@@ -106,32 +93,97 @@ whichRows k file iv labels lengths =
     ∷ record { holds = ltb (length file) 16; says = record { number = 9; missing = 16 - length file } }
     ∷ [])
 
--- the exported encryption of a message
-abbrev pub encryptRows : ℕ → LuossavinKey → List ℕ → List ℕ → List ℕ → List ℕ → List Row
-encryptRows mode k label d iv o =
-    row (ltb 4 mode) 7
-    ∷ keyRows k
-    ++ (row (not (eqb (length iv) 16) && not (isGcm (modeOf mode) && eqb (length iv) 12)) 10
+-- the exported encryption of a message, and what it asks in its mode
+abbrev pub encryptRowsIn : CipherMode → LuossavinKey → List ℕ → List ℕ → List ℕ → List ℕ → List Row
+encryptRowsIn m k label d iv o =
+    keyRows k
+    ++ (row (not (eqb (length iv) 16) && not (isGcm m && eqb (length iv) 12)) 10
     ∷ retiredRows Encrypt k
-    ++ (row (isGcm (modeOf mode) && ltb limit (length label)) 5
+    ++ (row (isGcm m && ltb limit (length label)) 5
     ∷ row (ltb limit (length d)) 5
-    ∷ row (ltb (length o) (roomOf (modeOf mode) Encrypt (length d))) 6
+    ∷ row (ltb (length o) (roomOf m Encrypt (length d))) 6
     ∷ []))
 
--- the exported decryption of a message
-abbrev pub decryptRows : ℕ → LuossavinKey → List ℕ → List ℕ → List ℕ → List ℕ → List Row
-decryptRows mode k label d iv o =
+abbrev pub encryptRows : ℕ → LuossavinKey → List ℕ → List ℕ → List ℕ → List ℕ → List Row
+encryptRows mode k label d iv o = row (ltb 4 mode) 7 ∷ encryptRowsIn (modeOf mode) k label d iv o
+
+-- the exported decryption of a message, likewise
+abbrev pub decryptRowsIn : CipherMode → LuossavinKey → List ℕ → List ℕ → List ℕ → List ℕ → List Row
+decryptRowsIn m k label d iv o =
     let rk = k .«round_keys» in
-    row (ltb 4 mode) 7
-    ∷ keyRows k
-    ++ (row (not (eqb (length iv) 16) && not (isGcm (modeOf mode) && eqb (length iv) 12)) 10
-    ∷ row (isGcm (modeOf mode) && ltb limit (length label)) 5
-    ∷ row (ltb (limitOf Decrypt (modeOf mode)) (length d)) 5
-    ∷ row (isCbc (modeOf mode) && eqb (length d) 0) 8
-    ∷ row (isCbc (modeOf mode) && not (eqb (length d % 16) 0)) 2
-    ∷ record { holds = isGcm (modeOf mode) && ltb (length d) 16; says = record { number = 9; missing = 16 - length d } }
-    ∷ row (ltb (length o) (roomOf (modeOf mode) Decrypt (length d))) 6
-    ∷ row (isCbc (modeOf mode) && not (namesPadding (lastByte (cbcText rk iv d)))) 3
-    ∷ row (isCbc (modeOf mode) && not (allPadding (cbcText rk iv d))) 15
-    ∷ row (isGcm (modeOf mode) && not (opensUnder rk (hashKey rk) (J0 rk iv) label d)) 4
+    keyRows k
+    ++ (row (not (eqb (length iv) 16) && not (isGcm m && eqb (length iv) 12)) 10
+    ∷ row (isGcm m && ltb limit (length label)) 5
+    ∷ row (ltb (limitOf Decrypt m) (length d)) 5
+    ∷ row (isCbc m && eqb (length d) 0) 8
+    ∷ row (isCbc m && not (eqb (length d % 16) 0)) 2
+    ∷ record { holds = isGcm m && ltb (length d) 16; says = record { number = 9; missing = 16 - length d } }
+    ∷ row (ltb (length o) (roomOf m Decrypt (length d))) 6
+    ∷ row (isCbc m && not (namesPadding (lastByte (cbcText rk iv d)))) 3
+    ∷ row (isCbc m && not (allPadding (cbcText rk iv d))) 15
+    ∷ row (isGcm m && not (opensUnder rk (hashKey rk) (J0 rk iv) label d)) 4
+    ∷ [])
+
+abbrev pub decryptRows : ℕ → LuossavinKey → List ℕ → List ℕ → List ℕ → List ℕ → List Row
+decryptRows mode k label d iv o = row (ltb 4 mode) 7 ∷ decryptRowsIn (modeOf mode) k label d iv o
+
+-- Which number a call on a message in pieces answers: for each call the conditions, a row each, in the order in which they are
+-- asked, for every value of a state.
+
+-- the exported starts
+abbrev pub ctrStartRows : LuossavinKey → Bool → List ℕ → List Row
+ctrStartRows k decrypt iv =
+    keyRows k
+    ++ (row (not (eqb (length iv) 16)) 10
+    ∷ retiredRows (directionOf decrypt) k)
+
+-- Gcm, sealing or opening
+abbrev pub gcmStartRows : Direction → LuossavinKey → List ℕ → List ℕ → List Row
+gcmStartRows dir k label iv =
+    keyRows k
+    ++ (row (not (eqb (length iv) 12) && not (eqb (length iv) 16)) 10
+    ∷ retiredRows dir k
+    ++ (row (ltb limit (length label)) 5
+    ∷ []))
+
+-- what a state stands at: a refused start answers its refusal, and an ended message 12
+abbrev pub standsRows : ℕ → List Row
+standsRows stands =
+    row (eqb stands 1) 1
+    ∷ row (eqb stands 5) 5
+    ∷ row (eqb stands 10) 10
+    ∷ row (eqb stands 13) 13
+    ∷ row (eqb stands 14) 14
+    ∷ row (not (eqb stands 0)) 12
+    ∷ []
+
+-- and the lengths: n bytes more behind a total, under a label
+abbrev pub runningRows : ℕ → ℕ → ℕ → ℕ → List Row
+runningRows stands label total n =
+    standsRows stands
+    ++ (row (ltb limit label) 5
+    ∷ row (ltb limit (total + n)) 5
+    ∷ [])
+
+abbrev pub ctrPieceRows : Ctr·state → List ℕ → List ℕ → List Row
+ctrPieceRows s e o = runningRows (s .stands) 0 (s .total) (length e) ++ (row (ltb (length o) (length e)) 6 ∷ [])
+
+abbrev pub ctrEndRows : Ctr·state → List Row
+ctrEndRows s = runningRows (s .stands) 0 (s .total) 0
+
+abbrev pub sealPieceRows : Seal → List ℕ → List ℕ → List Row
+sealPieceRows s e o = runningRows (s .stands) (s .label) (s .total) (length e) ++ (row (ltb (length o) (length e)) 6 ∷ [])
+
+abbrev pub sealEndRows : Seal → List ℕ → List Row
+sealEndRows s o = runningRows (s .stands) (s .label) (s .total) 0 ++ (row (ltb (length o) 16) 6 ∷ [])
+
+abbrev pub opensPieceRows : Opens → List ℕ → List Row
+opensPieceRows s e = runningRows (s .stands) (s .label) (s .total) (length e)
+
+-- of a tag that is longer none is missing: 16 less more than 16 is 0
+abbrev pub opensEndRows : Opens → List ℕ → List Row
+opensEndRows s tag =
+    runningRows (s .stands) (s .label) (s .total) 0
+    ++ (record { holds = not (eqb (length tag) 16); says = record { number = 9; missing = 16 - length tag } }
+    ∷ row (not (same tag (xors (s .mask) (hashEnd (s .hashing) (s .total % 16) (s .label) (s .total))))) 4
     ∷ [])

@@ -1,15 +1,7 @@
--- Document 01's worked table, P1 to P12: what the definitions give, beside what the paper says.
-use mathlib.Core.Bool.{Bool, true, false}
-use mathlib.Core.List.{List, [], _∷_, _++_}
-use Prim.Native.Nat.{ℕ}
-use lib.ListN.{replicate}
-use Rattle.block.specs.BigEndian.{numberOf, bytesOf}
-use Rattle.cipher.specs.Sm4.{CK, L, L', T, T'}
-use Rattle.counter.specs.Counter.{ctrNext, gcmNext}
-use Rattle.field.specs.Field.{gmul}
-use Rattle.ghash.specs.Ghash.{ghash}
-use Rattle.cbc.specs.Cbc.{padding}
-use Rattle.cbc.specs.Open.{namesPadding}
+-- The worked table of docs/REQUIREMENTS.md, P1 to P12: what the definitions give, beside what docs/REQUIREMENTS.md says.
+use Rattle.demands.specs.Names as N
+use N.{Bool, false, true, List, [], _++_, _∷_, ℕ, replicate, bytesOf, numberOf, gmul, ctrNext, gcmNext, CK, L, L', T, T', ghash, padding}
+use N.{namesPadding}
 
 -- a word or a hash, a list of bytes, or what is accepted
 pub data Value : Type 0 where

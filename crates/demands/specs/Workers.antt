@@ -1,21 +1,9 @@
 -- The exported calls on ranges and plans: which number each answers, a row a condition, in the order in which they are asked; what the
 -- planner hands out; and what workers leave that each do their share.
-use mathlib.Core.Path.{_≡_}
-use mathlib.Core.Logic.{_≢_, _⊎_}
-use mathlib.Core.Bool.{Bool, true, false, not, _||_}
-use mathlib.Core.List.{List, [], _∷_, _++_, foldr}
-use Prim.Native.Nat.{ℕ, _+_, _≤_}
-use lib.Dec.{eqb, ltb}
-use lib.ListN.{length, take, drop, getD}
-use Rattle.walk.specs.Outcome.{Outcome, leaving, telling, finished, refusal}
-use Rattle.cipher_mode.specs.Tables.{limit}
-use Rattle.ranges.specs.declared.plan.Plan.{Plan}
-use Rattle.ranges.specs.Plan.{accepts, pieceSize, noPieces}
-use Rattle.ranges.specs.Shares.{Share, shareOf, laidAt}
-use Rattle.luossavin.specs.declared.key.LuossavinKey.{LuossavinKey}
-use Rattle.luossavin.specs.InPieces.{directionOf}
-use Rattle.luossavin.specs.Host.{hostModeCall}
-use Rattle.luossavin.specs.Ranges.{Handed, hostCtrRange}
+use Rattle.demands.specs.Names as N
+use N.{Bool, _||_, false, not, true, List, [], _++_, _∷_, foldr, _≢_, _⊎_, _≡_, _+_, _≤_, ℕ, eqb, ltb, drop, getD, length, take, Outcome}
+use N.{finished, leaving, refusal, telling, limit, accepts, noPieces, pieceSize, Share, laidAt, shareOf, Plan, hostModeCall, directionOf}
+use N.{Handed, hostCtrRange, LuossavinKey}
 use Rattle.demands.specs.Call.{Call, result}
 use Rattle.demands.specs.WhichNumber.{Row, row, keyRows, retiredRows}
 

@@ -1,12 +1,5 @@
 -- What is known where nothing was refused.
--- Assumes nothing.
-use mathlib.Core.Path.{_≡_}
-use mathlib.Core.Bool.{Bool, false, not}
-use mathlib.Core.List.{List}
-use Prim.Native.Nat.{ℕ, _≤_}
-use lib.Dec.{eqb, ltb}
-use lib.ListN.{length}
-use borrow.Author.Tests.{ltb-false, eqb-true, not-false}
+use Rattle.block.proofs.Base.{_≤_, ℕ, _≡_, Bool, false, List, eqb-true, ltb-false, not-false, ltb, length}
 use Rattle.cipher_mode.specs.declared.KeyAnswer.{KeyAnswer}
 use Rattle.cipher_mode.specs.declared.KeyAnswer.the-variants.{Key}
 use Rattle.cipher_mode.specs.declared.CipherMode.the-variants.{Gcm}
@@ -20,15 +13,13 @@ use Rattle.editions.proofs.Turns.{or-false}
 
 -- a list that is not bad
 module _ (labels lengths : List ℕ) (good : badList labels lengths ≡ false) where
-  few-and-whole : (ltb 64 (length lengths) ≡ false) × (not (eqb (sum lengths) (length labels)) ≡ false)
-  unfolding badList
-  few-and-whole = or-false (ltb 64 (length lengths)) (not (eqb (sum lengths) (length labels))) good
-
   pub at-most-64 : length lengths ≤ 64
-  at-most-64 = ltb-false 64 (length lengths) (few-and-whole .0)
+  unfolding badList
+  at-most-64 = ltb-false 64 (length lengths) (or-false _ _ good .0)
 
   pub adds-up : sum lengths ≡ length labels
-  adds-up = eqb-true (sum lengths) (length labels) (not-false (eqb (sum lengths) (length labels)) (few-and-whole .1))
+  unfolding badList
+  adds-up = eqb-true (sum lengths) (length labels) (not-false _ (or-false (ltb 64 (length lengths)) _ good .1))
 
 -- a search that goes on to look at tags
 pub record InOrder (a : KeyAnswer) (iv file : ℕ) (lengths : List ℕ) : Type 0 where
@@ -44,9 +35,4 @@ search-passed a retired iv file lengths e =
     let from-key = both (keyAndIv a retired Decrypt Gcm iv) _ e in
     let from-labels = let-through (anyTooLong lengths) _ _ (from-key .1) in
     let first = key-and-iv-passed a retired Decrypt Gcm iv (from-key .0) in
-    record {
-      key = first .key;
-      iv-size = first .iv-size;
-      short = from-labels .fails;
-      content = from-labels .rest;
-    }
+    record { key = first .key; iv-size = first .iv-size; short = from-labels .fails; content = from-labels .rest }

@@ -1,34 +1,14 @@
 -- What the definitions over the lengths say at one length, and after the last.
--- Assumes nothing.
-use mathlib.Core.Path.{_≡_, refl, sym, _∙_}
-use mathlib.Core.Bool.{Bool, true, false, _||_, cond}
-use mathlib.Core.List.{List}
-use Prim.Native.Nat.{ℕ, _+_, _-_, _≤_, _<_}
-use native.Mathlib.Numerals.{add-one}
-use native.Mathlib.Omega.{arith}
-use lib.Dec.{eqb, ltb}
-use lib.ListN.{length, getD, take, drop, drop-of-length-le}
-use lib.Seq.{drop-cons, drop-drop}
-use borrow.Author.Tests.{ltb-false, eqb-true, eq-eqb}
+use Rattle.block.proofs.Base.{_+_, _-_, _<_, _≤_, ℕ, _∙_, _≡_, refl, sym, Bool, _||_, cond, false, true, true≢false, List, add-one, arith}
+use Rattle.block.proofs.Base.{ltb-false, ltb, drop, drop-of-length-le, getD, length, take, drop-cons, drop-drop}
 use Rattle.walk.specs.Outcome.{finished}
 use Rattle.cipher_mode.specs.Tables.{limit}
 use Rattle.editions.specs.Candidates.{sum, anyTooLong}
 use Rattle.editions.specs.Which.{Verdict, foundAt, noneWith, firstOpening}
 
-same-answer : (t u : Bool) → (t ≡ true → u ≡ true) → (u ≡ true → t ≡ true) → t ≡ u
-same-answer true u f g = sym (f refl)
-same-answer false true f g = g refl
-same-answer false false f g = refl
-
 pub or-false : (t u : Bool) → t || u ≡ false → (t ≡ false) × (u ≡ false)
-or-false true u e = let z : _≡_ {A = ℕ} 0 1 = cc in absurd (omega arith)
+or-false true u e = absurd (true≢false e)
 or-false false u e = (refl, e)
-
--- nothing is left of n exactly where s is all of it
-pub nothing-left : (s left n : ℕ) → s + left ≡ n → eqb left 0 ≡ eqb s n
-nothing-left s left n e =
-    same-answer (eqb left 0) (eqb s n)
-    (λ f. eq-eqb s n (omega (arith, eqb-true left 0 f))) (λ f. eq-eqb left 0 (omega (arith, eqb-true s n f)))
 
 module _ (ns : List ℕ) (i : ℕ) (inside : i < length ns) where
   pub sum-turn : sum (drop i ns) ≡ getD ns i 0 + sum (drop (i + 1) ns)
@@ -39,9 +19,6 @@ module _ (ns : List ℕ) (i : ℕ) (inside : i < length ns) where
   unfolding anyTooLong
   long-turn = rw (add-one, drop-cons ns i 0 inside)
 
-  pub room-turn : (start room : ℕ) → start + sum (drop i ns) ≡ room → start + getD ns i 0 ≤ room
-  room-turn start room e = omega (arith, sum-turn)
-
   pub short-turn : anyTooLong (drop i ns) ≡ false → (getD ns i 0 ≤ limit) × (anyTooLong (drop (i + 1) ns) ≡ false)
   short-turn e =
       let both = or-false (ltb limit (getD ns i 0)) (anyTooLong (drop (i + 1) ns)) (sym long-turn ∙ e) in
@@ -50,20 +27,13 @@ module _ (ns : List ℕ) (i : ℕ) (inside : i < length ns) where
   -- the part of the buffer is written as the borrow checker has it
   module _ (test : List ℕ → Bool) (labels : List ℕ) (start : ℕ) (v : Verdict)
       (e : firstOpening test (drop start labels) (drop i ns) i start ≡ v) where
-    search-turn : cond (test (take (start + getD ns i 0 - start) (drop start labels))) (foundAt i start (getD ns i 0))
+    pub search-turn : cond (test (take (start + getD ns i 0 - start) (drop start labels))) (foundAt i start (getD ns i 0))
         (firstOpening test (drop (start + getD ns i 0) labels) (drop (i + 1) ns) (i + 1) (start + getD ns i 0))
         ≡ v
     unfolding firstOpening
     search-turn =
         let same : start + getD ns i 0 - start ≡ getD ns i 0 = omega arith in
         rw (same, add-one i) (rw (drop-cons ns i 0 inside, drop-drop, add-one i) at e)
-
-    pub search-hit : test (take (start + getD ns i 0 - start) (drop start labels)) ≡ true → foundAt i start (getD ns i 0) ≡ v
-    search-hit t = rw t at search-turn
-
-    pub search-on : test (take (start + getD ns i 0 - start) (drop start labels)) ≡ false
-        → firstOpening test (drop (start + getD ns i 0) labels) (drop (i + 1) ns) (i + 1) (start + getD ns i 0) ≡ v
-    search-on t = rw t at search-turn
 
 module _ (ns : List ℕ) (i : ℕ) (past : length ns ≤ i) where
   pub sum-end : sum (drop i ns) ≡ 0

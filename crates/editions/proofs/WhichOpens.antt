@@ -1,34 +1,26 @@
 -- Where nothing stands against the question, a candidate is found exactly where it is the first that opens the file, and none
 -- exactly where none opens it; the part handed back is that candidate. An answer of found or of none tells that nothing stood against.
--- Assumes nothing.
-use mathlib.Core.Path.{_≡_, refl, sym, ap, _∙_}
-use mathlib.Core.Bool.{Bool, true, false, cond}
-use mathlib.Core.List.{List, [], _∷_}
-use Prim.Native.Nat.{ℕ, zero, suc, _+_, _≤_, _<_}
-use native.Mathlib.Omega.{arith}
-use lib.ListN.{length, getD, take, drop}
-use Rattle.walk.specs.Outcome.{finished, refusal}
+use Rattle.block.proofs.Base.{_+_, _<_, _≤_, suc, zero, ℕ, _∙_, _≡_, ap, refl, sym, Bool, cond, false, false≢true, true, true≢false, List}
+use Rattle.block.proofs.Base.{[], _∷_, arith, drop, getD, length, take}
+use Rattle.walk.specs.Outcome.{Head, finished, refusal, under}
 use Rattle.cipher_mode.specs.declared.Sm4Cipher.{Sm4Cipher}
 use Rattle.cipher_mode.specs.declared.checks.Checked.{Checked}
 use Rattle.cipher_mode.specs.declared.checks.Checked.the-variants.{Passed, Refused}
+use Rattle.cipher_mode.specs.Answer.{refusalHead}
 use Rattle.cipher_mode.specs.Key.{keyNumber}
+use Rattle.cipher_mode.proofs.Refusals.{refuses}
 use Rattle.editions.specs.Candidates.{sum, badList, labelAt}
 use Rattle.editions.specs.Which.{Verdict, noneWith, onKey, firstOpening, searchCheck, checkedVerdict, opensWith, which, partOf}
 use Rattle.editions.proofs.Passed.{at-most-64, adds-up}
 use Rattle.editions.proofs.Turns.{sum-turn}
 use Rattle.editions.proofs.Parts.{part-inside}
-use Rattle.editions.proofs.Numbers.{zero-passed}
-use Rattle.editions.proofs.FirstOpening.{IsFirst, NonePasses, candidate, first-is-found, none-is-found, found-is-first, found-is-none}
+use Rattle.editions.proofs.FirstOpening.{IsFirst, NonePasses, candidate, by-search, first-is-found, none-is-found}
 
 sum-cut : (ns : List ℕ) (i : ℕ) → sum (take i ns) + sum (drop i ns) ≡ sum ns
 unfolding sum
 sum-cut ns zero = omega arith
 sum-cut [] (suc i) = omega arith
 sum-cut (n ∷ ns) (suc i) = omega (arith, sum-cut ns i)
-
--- a candidate stands in a buffer that the lengths add up to
-candidate-inside : (ns : List ℕ) (i room : ℕ) → i < length ns → sum ns ≡ room → sum (take i ns) + getD ns i 0 ≤ room
-candidate-inside ns i room h e = omega (arith, sum-cut ns i, sum-turn ns i h)
 
 -- nothing stands against the question
 pub record Asked (c : Sm4Cipher) (file iv labels lengths : List ℕ) : Type 0 where
@@ -53,94 +45,81 @@ module _ (c : Sm4Cipher) (file iv labels lengths : List ℕ) where
   abbrev verdict : Verdict
   verdict = which c file iv labels lengths
 
-  abbrev stage : Checked
-  stage = searchCheck (c .answer) (c .retired) (length iv) (length file) lengths
-
   abbrev search : Verdict
   search = firstOpening (opensWith c iv file) labels lengths 0 0
 
-  abbrev told : Bool → Checked → Verdict
-  told bad k = cond bad (noneWith (refusal 16)) (onKey (keyNumber c) (checkedVerdict k search))
+  abbrev k : ℕ
+  k = keyNumber c
 
-  searches : Asked c file iv labels lengths → verdict ≡ onKey (keyNumber c) search
+  -- what holds of a search on this key, and of every refusal, holds of the verdict
+  by-asked : (P : Verdict → Type 0) → (Asked c file iv labels lengths → P (onKey k search))
+      → ((h : Head) → (h .number ≡ 0 → ⊥) → P (noneWith h)) → P verdict
+  unfolding which
+  by-asked P asks refuse = by (badList labels lengths) (searchCheck (c .answer) (c .retired) (length iv) (length file) lengths) refl refl
+    where
+      by : (bad : Bool) (s : Checked) → badList labels lengths ≡ bad
+          → searchCheck (c .answer) (c .retired) (length iv) (length file) lengths ≡ s
+          → P (cond bad (noneWith (refusal 16)) (onKey k (checkedVerdict s search)))
+      by true s e f = refuse (refusal 16) (λ z. omega arith)
+      by false Passed e f = asks (record { list = e; checks = f })
+      by false (Refused r) e f = refuse (under k (refusalHead r)) (refuses r .not-zero)
+
+  -- and of a search, what holds of the first that opens the file, and of none
+  by-opening : (P : Verdict → Type 0) → ((i : ℕ) → IsFirst (opensWith c iv file) labels lengths i → P (onKey k (candidate lengths i)))
+      → (NonePasses (opensWith c iv file) labels lengths → P (onKey k (noneWith (finished 0)))) → P (onKey k search)
+  by-opening P = by-search (opensWith c iv file) labels lengths (λ v. P (onKey k v))
+
+  searches : Asked c file iv labels lengths → verdict ≡ onKey k search
   unfolding which
   searches a = rw (a .list, a .checks)
 
   pub first-opens : Asked c file iv labels lengths → (i : ℕ) → IsFirst (opensWith c iv file) labels lengths i
       → which c file iv labels lengths ≡ onKey (keyNumber c) (candidate lengths i)
-  first-opens a i f = searches a ∙ ap (onKey (keyNumber c)) (first-is-found (opensWith c iv file) labels lengths i f)
+  first-opens a i f = searches a ∙ ap (onKey k) (first-is-found (opensWith c iv file) labels lengths i f)
 
   pub none-opens : Asked c file iv labels lengths → NonePasses (opensWith c iv file) labels lengths
       → which c file iv labels lengths ≡ onKey (keyNumber c) (noneWith (finished 0))
-  none-opens a f = searches a ∙ ap (onKey (keyNumber c)) (none-is-found (opensWith c iv file) labels lengths f)
-
-  found-told : (bad : Bool) (k : Checked) → told bad k .found ≡ true → (bad ≡ false) × (k ≡ Passed)
-  found-told true k e = let z : _≡_ {A = ℕ} 0 1 = cc in absurd (omega arith)
-  found-told false Passed e = (refl, refl)
-  found-told false (Refused r) e = let z : _≡_ {A = ℕ} 0 1 = cc in absurd (omega arith)
-
-  found-asked : verdict .found ≡ true → Asked c file iv labels lengths
-  unfolding which
-  found-asked e =
-      let nothing = found-told (badList labels lengths) stage e in
-      record { list = nothing .0; checks = nothing .1 }
-
-  done-told : (bad : Bool) (k : Checked) → told bad k .head .number ≡ 0 → (bad ≡ false) × (checkedVerdict k search .head .number ≡ 0)
-  done-told true k e = absurd (omega arith)
-  done-told false k e = (refl, e)
+  none-opens a f = searches a ∙ ap (onKey k) (none-is-found (opensWith c iv file) labels lengths f)
 
   -- an answer that is no refusal tells that nothing stood against
   pub done-asked : which c file iv labels lengths .head .number ≡ 0 → Asked c file iv labels lengths
-  unfolding which
-  done-asked e =
-      let nothing = done-told (badList labels lengths) stage e in
-      record { list = nothing .0; checks = zero-passed stage search (nothing .1) }
-
-  part-of : (i : ℕ) → i < length lengths → badList labels lengths ≡ false
-      → partOf (onKey (keyNumber c) (candidate lengths i)) labels ≡ labelAt labels lengths i
-  unfolding labelAt
-  part-of i h good =
-      sym
-      (part-inside (onKey (keyNumber c) (candidate lengths i)) labels refl
-      (candidate-inside lengths i (length labels) h (adds-up labels lengths good)))
+  done-asked = by-asked (λ v. v .head .number ≡ 0 → Asked c file iv labels lengths) (λ a e. a) (λ h no e. absurd (no e))
 
   pub found-opens : which c file iv labels lengths .found ≡ true → FoundThere c file iv labels lengths (which c file iv labels lengths)
   unfolding labelAt
-  found-opens e =
-      let asked = found-asked e in
-      let whole = searches asked in
-      let found = found-is-first (opensWith c iv file) labels lengths (rw whole at e) in
+  found-opens =
+      by-asked (λ v. v .found ≡ true → FoundThere c file iv labels lengths v)
+      (λ a. by-opening (λ v. v .found ≡ true → FoundThere c file iv labels lengths v)
+      (λ i f e.
+      let inside : sum (take i lengths) + getD lengths i 0 ≤ length labels =
+      omega (arith, sum-cut lengths i, sum-turn lengths i (f .inside), adds-up labels lengths (a .list)) in
       record {
-        asked = asked;
-        first = rw whole (found .0);
-        inside = rw whole
-            (rw (found .1) (candidate-inside lengths _ (length labels) (found .0 .inside) (adds-up labels lengths (asked .list))));
-        there = rw whole (rw (found .1));
-        part = rw whole (rw (found .1) (part-of _ (found .0 .inside) (asked .list)));
-      }
+        asked = a;
+        first = f;
+        inside = inside;
+        there = refl;
+        part = sym (part-inside (onKey k (candidate lengths i)) labels refl inside);
+      })
+      (λ f e. absurd (false≢true e)))
+      (λ h no e. absurd (false≢true e))
 
   pub none-found : which c file iv labels lengths .found ≡ false → which c file iv labels lengths .head .number ≡ 0
       → NoneThere c file iv labels lengths
-  none-found e done =
-      let asked = done-asked done in
-      record { asked = asked; none = found-is-none (opensWith c iv file) labels lengths (rw (searches asked) at e) }
-
-  zero-told : (bad : Bool) (k : Checked) → told bad k .found ≡ false → told bad k ≡ noneWith (told bad k .head)
-  zero-told true k e = refl
-  zero-told false (Refused r) e = refl
-  zero-told false Passed e = rw (none-is-found (opensWith c iv file) labels lengths (found-is-none (opensWith c iv file) labels lengths e))
+  none-found =
+      by-asked (λ v. v .found ≡ false → v .head .number ≡ 0 → NoneThere c file iv labels lengths)
+      (λ a. by-opening (λ v. v .found ≡ false → v .head .number ≡ 0 → NoneThere c file iv labels lengths)
+      (λ i f e z. absurd (true≢false e)) (λ f e z. record { asked = a; none = f }))
+      (λ h no e z. absurd (no z))
 
   -- place, start and size are 0 unless a candidate is found
   pub zero-unless-found : which c file iv labels lengths .found ≡ false
       → which c file iv labels lengths ≡ noneWith (which c file iv labels lengths .head)
-  unfolding which
-  zero-unless-found e = zero-told (badList labels lengths) stage e
+  zero-unless-found =
+      by-asked (λ v. v .found ≡ false → v ≡ noneWith (v .head))
+      (λ a. by-opening (λ v. v .found ≡ false → v ≡ noneWith (v .head)) (λ i f e. absurd (true≢false e)) (λ f e. refl)) (λ h no e. refl)
 
   pub place-below-64 : which c file iv labels lengths .place < 64
-  place-below-64 = either (verdict .found) refl
-    where
-      either : (found : Bool) → verdict .found ≡ found → verdict .place < 64
-      either true e =
-          let there = found-opens e in
-          omega (arith, there .first .inside, at-most-64 labels lengths (there .asked .list))
-      either false e = rw (zero-unless-found e) (omega arith)
+  place-below-64 =
+      by-asked (λ v. v .place < 64)
+      (λ a. by-opening (λ v. v .place < 64) (λ i f. omega (arith, f .inside, at-most-64 labels lengths (a .list))) (λ f. omega arith))
+      (λ h no. omega arith)

@@ -1,10 +1,5 @@
 -- H is an element of the field, and it is 0 exactly where the cipher takes the block of zeros to itself.
--- Assumes nothing.
-use mathlib.Core.Path.{_≡_, refl, sym, ap, _∙_}
-use mathlib.Core.List.{List}
-use Prim.Native.Nat.{ℕ, _^_, _<_}
-use lib.Dec.{lit<}
-use lib.ListN.{replicate}
+use Rattle.block.proofs.Base.{_<_, _^_, ℕ, _∙_, _≡_, ap, refl, sym, List, lit<, replicate}
 use Rattle.block.specs.BigEndian.{numberOf}
 use Rattle.block.proofs.Convert.{numberOf-lt, numberOf-same}
 use Rattle.block.proofs.Entries.{below-replicate}

@@ -1,10 +1,5 @@
 -- The code is the definitions: H, J0, the tag, and a sealed message written in two parts.
--- Assumes nothing.
-use mathlib.Core.Path.{_≡_, refl, sym, ap, _∙_}
-use mathlib.Core.List.{List, [], _∷_, _++_}
-use Prim.Native.Nat.{ℕ}
-use lib.Dec.{lit<}
-use lib.ListN.{length, drop}
+use Rattle.block.proofs.Base.{ℕ, _∙_, _≡_, ap, refl, sym, List, [], _++_, _∷_, lit<, drop, length}
 use Rattle.block.specs.Below.{AreBytes}
 use Rattle.block.specs.BigEndian.{numberOf, bytesOf}
 use Rattle.block.specs.Words.{wordAt, words, unwords}
@@ -45,10 +40,8 @@ masked-words mask label text s r h n l en es er =
 
 -- the text at the front of the output, then the tag behind it
 pub sealed-written : (text tag o o₁ t : List ℕ) (n : ℕ) → length text ≡ n → length tag ≡ 16 → o₁ ≡ over text o
-    → t ≡ tag ++ drop 16 (tailed n o₁)
-    → returned n o₁ t ≡ over (text ++ tag) o
-sealed-written text tag o o₁ t n lt lg e f =
-    over-behind text tag o o₁ t n lt e (f ∙ ap (λ (k : ℕ). tag ++ drop k (tailed n o₁)) (sym lg))
+    → t ≡ tag ++ drop 16 (tailed n o₁) → returned n o₁ t ≡ over (text ++ tag) o
+sealed-written text tag o o₁ t n lt lg e f = over-behind text tag o o₁ t n lt e (f ∙ ap (λ (k : ℕ). tag ++ drop k (tailed n o₁)) (sym lg))
 
 -- the counters of the text start one after J0
 pub text-words : (rk j next d : List ℕ) → next ≡ gcmNext j → chain (streamMode Gctr rk) next d ≡ textOf rk j d

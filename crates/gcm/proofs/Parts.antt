@@ -1,11 +1,5 @@
 -- The lengths of text, tag and sealed message, and the two parts of a message and of what was sealed.
--- Assumes nothing.
-use mathlib.Core.Path.{_≡_, ap₂, _∙_}
-use mathlib.Core.List.{List, _++_}
-use Prim.Native.Nat.{ℕ, _+_, _-_}
-use native.Mathlib.Omega.{arith}
-use lib.ListN.{length, length-append}
-use lib.Seq.{take-at, drop-at}
+use Rattle.block.proofs.Base.{_+_, _-_, ℕ, _∙_, _≡_, ap₂, List, _++_, arith, length, length-append, drop-at, take-at}
 use Rattle.block.specs.BigEndian.{bytesOf}
 use Rattle.block.proofs.Convert.{length-bytesOf}
 use Rattle.block.proofs.Xors.{length-xors}

@@ -1,10 +1,5 @@
 -- What was sealed opens, with its text; what opens is sealed again to the same bytes. For any round keys, H and J0.
--- Assumes nothing.
-use mathlib.Core.Path.{_≡_, sym, ap, _∙_}
-use mathlib.Core.Bool.{true}
-use mathlib.Core.List.{List, _++_}
-use Prim.Native.Nat.{ℕ, _-_}
-use lib.ListN.{length, take-append-drop}
+use Rattle.block.proofs.Base.{_-_, ℕ, _∙_, _≡_, ap, sym, true, List, _++_, length, take-append-drop}
 use Rattle.counter.specs.Counter.{gcmNext}
 use Rattle.stream.specs.declared.Kind.the-variants.{Gctr}
 use Rattle.stream.proofs.RoundTrip.{stream-back}

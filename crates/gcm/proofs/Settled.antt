@@ -1,12 +1,5 @@
 -- Both answers of opening, by the test that decides.
--- Assumes nothing.
-use mathlib.Core.Path.{_≡_, _∙_}
-use mathlib.Core.Bool.{true, false}
-use mathlib.Core.List.{List}
-use Prim.Native.Nat.{ℕ, _-_, _≤_}
-use lib.ListN.{length, take}
-use lib.Seq.{length-take-le, take-all}
-use native.Mathlib.Omega.{arith}
+use Rattle.block.proofs.Base.{_-_, _≤_, ℕ, _∙_, _≡_, false, true, List, arith, length, take, length-take-le, take-all}
 use Rattle.walk.specs.Outcome.{refused, done}
 use Rattle.gcm.specs.Gcm.{textPart, textOf, opensUnder}
 use Rattle.gcm.specs.Open.{settled, gcmOpen}

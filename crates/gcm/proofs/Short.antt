@@ -1,13 +1,7 @@
--- A short text in one batch with the zero block and J0: H is the cipher of the one, that of the other is the mask of its tag, and those of the
--- counters behind are what it is xored with.
--- Assumes nothing.
-use mathlib.Core.Path.{_≡_, sym, ap, ap₂, _∙_}
-use mathlib.Core.Bool.{false}
-use mathlib.Core.List.{List, _++_}
-use Prim.Native.Nat.{ℕ, zero, suc, _+_, _-_, _*_, _/_, _<_, _≤_}
-use native.Mathlib.Omega.{arith}
-use lib.ListN.{length, take, drop, replicate, length-drop, take-append-drop}
-use lib.Seq.{drop-drop, drop-at, take-at, length-take-le}
+-- A short text in one batch with the zero block and J0: H is the cipher of the one, that of the other is the mask of its tag, and those of
+-- the counters behind are what it is xored with.
+use Rattle.block.proofs.Base.{_*_, _+_, _-_, _/_, _<_, _≤_, suc, zero, ℕ, _∙_, _≡_, ap, ap₂, sym, false, List, _++_, arith, drop, length}
+use Rattle.block.proofs.Base.{length-drop, replicate, take, take-append-drop, drop-at, drop-drop, length-take-le, take-at}
 use Rattle.block.specs.Below.{AreBytes}
 use Rattle.block.specs.Blocks.{blockAt, cat}
 use Rattle.block.specs.BigEndian.{numberOf}
@@ -44,8 +38,7 @@ module _ (rk : List ℕ) where
       let E = encryptBlock rk s in
       let k = length-encryptBlock rk s in
       ap (xors d) (sym (take-append-drop 16 p) ∙ ap (λ (x : List ℕ). x ++ drop 16 p) (e 0 (omega arith)))
-      ∙ xors-fit d E (drop 16 p) (omega arith)
-      ∙ sym (chain-rest (streamMode Gctr rk) s d (omega arith))
+      ∙ xors-fit d E (drop 16 p) (omega arith) ∙ sym (chain-rest (streamMode Gctr rk) s d (omega arith))
   chain-pads (suc n) s d p h l r e =
       let M = streamMode Gctr rk in
       let b = take 16 d in
@@ -58,8 +51,7 @@ module _ (rk : List ℕ) where
       λ i g.
       let k : 16 + 16 * i ≡ 16 * suc i = omega arith in
       ap (take 16) (drop-drop (16 * i) 16 p ∙ ap (λ (x : ℕ). drop x p) k) ∙ e (suc i) (omega arith) in
-      ap₂ xors (sym (take-append-drop 16 d)) (sym (take-append-drop 16 p))
-      ∙ xors-append b d′ (take 16 p) p′ lb
+      ap₂ xors (sym (take-append-drop 16 d)) (sym (take-append-drop 16 p)) ∙ xors-append b d′ (take 16 p) p′ lb
       ∙ ap₂ _++_ (ap (xors b) (e 0 (omega arith))) (chain-pads n (M .next s b) d′ p′ (omega arith) (omega arith) (omega arith) on)
       ∙ sym (chain-block M s d (omega arith))
 
@@ -70,8 +62,7 @@ module _ (rk j : List ℕ) (hj : length j ≡ 16) (bj : AreBytes j) (m k : ℕ) 
   pad-at : (i : ℕ) → i < k → blockAt pads i ≡ encryptBlock rk (blockAt states i)
   pad-at i h =
       let f : ℕ → List ℕ = λ e. encryptBlock rk (blockAt states e) in
-      ap (λ (x : List ℕ). blockAt x i) ep
-      ∙ block-of k f (drop (length (cat k f)) z) (λ e l. length-encryptBlock rk (blockAt states e)) i h
+      ap (λ (x : List ℕ). blockAt x i) ep ∙ block-of k f (drop (length (cat k f)) z) (λ e l. length-encryptBlock rk (blockAt states e)) i h
 
   -- the states are the zero block, and J0 and the counters behind it
   counter-pad : (i : ℕ) → i < m → blockAt pads (suc i) ≡ encryptBlock rk (gcmJump j i)
@@ -80,14 +71,14 @@ module _ (rk j : List ℕ) (hj : length j ≡ 16) (bj : AreBytes j) (m k : ℕ) 
       let q : 16 + 16 * i ≡ 16 * suc i = omega arith in
       let behind : drop 16 states ≡ over (cat m f) (drop 16 y) =
       ap (drop 16) es ∙ drop-at (take 16 y) (over (cat m f) (drop 16 y)) 16 (ap length ey) in
-      pad-at (suc i) (omega arith)
-      ∙ ap (encryptBlock rk)
-      (sym (ap (take 16) (drop-drop (16 * i) 16 states ∙ ap (λ (x : ℕ). drop x states) q))
-      ∙ ap (λ (x : List ℕ). blockAt x i) behind
+      pad-at (suc i) (omega arith) ∙ ap (encryptBlock rk)
+      (sym (ap (take 16) (drop-drop (16 * i) 16 states ∙ ap (λ (x : ℕ). drop x states) q)) ∙ ap (λ (x : List ℕ). blockAt x i) behind
       ∙ block-of m f (drop (length (cat m f)) (drop 16 y)) (λ e l. length-jumped false j e hj) i h)
 
   zeros-pad : take 16 pads ≡ encryptBlock rk (replicate 16 0)
-  zeros-pad = pad-at 0 (omega arith) ∙ ap (encryptBlock rk) (ap (take 16) es ∙ take-at (take 16 y) (over (cat m (jumped false j)) (drop 16 y)) 16 (ap length ey) ∙ ey)
+  zeros-pad =
+      let o = over (cat m (jumped false j)) (drop 16 y) in
+      pad-at 0 (omega arith) ∙ ap (encryptBlock rk) (ap (take 16) es ∙ take-at (take 16 y) o 16 (ap length ey) ∙ ey)
 
   mask-pad : 0 < m → take 16 (drop 16 pads) ≡ encryptBlock rk j
   mask-pad h = counter-pad 0 h ∙ ap (encryptBlock rk) (no-gcm-jump j hj bj)
@@ -100,22 +91,16 @@ module _ (rk j : List ℕ) (hj : length j ≡ 16) (bj : AreBytes j) (m k : ℕ) 
       chain-pads rk n (gcmNext j) d (drop 32 pads) (omega arith) (omega arith) (omega arith)
       (λ i q.
       let e : 32 + 16 * i ≡ 16 * suc (suc i) = omega arith in
-      ap (take 16) (drop-drop (16 * i) 32 pads ∙ ap (λ (x : ℕ). drop x pads) e)
-      ∙ counter-pad (suc i) (omega arith)
-      ∙ ap (encryptBlock rk)
+      ap (take 16) (drop-drop (16 * i) 32 pads ∙ ap (λ (x : ℕ). drop x pads) e) ∙ counter-pad (suc i) (omega arith) ∙ ap (encryptBlock rk)
       (sym (jumped-stepped rk false i (gcmNext j) d (length-gcmNext j hj) (gcmNext-bytes j bj) ∙ gcm-jump-on j i hj)))
 
   pub pads-ready : (n : ℕ) → n / 16 + 2 ≤ m → length pads ≡ 512 → n < 480 → PadsFor rk j n pads
   pads-ready n h l g =
-      record {
-        room = omega arith;
-        zeros = zeros-pad;
-        mask = mask-pad (omega arith);
-        text = λ d e. text-pad d (omega arith) (omega arith);
-      }
+      record { room = omega arith; zeros = zeros-pad; mask = mask-pad (omega arith); text = λ d e. text-pad d (omega arith) (omega arith) }
 
 -- H is the number of the first of them
-pub hash-key-front : (rk j pads x : List ℕ) (n h : ℕ) → PadsFor rk j n pads → AreBytes pads → x ≡ words pads → h ≡ numberOf (unwords x) → h ≡ hashKey rk
+pub hash-key-front : (rk j pads x : List ℕ) (n h : ℕ) → PadsFor rk j n pads → AreBytes pads → x ≡ words pads → h ≡ numberOf (unwords x)
+    → h ≡ hashKey rk
 unfolding hashKey
 hash-key-front rk j pads x n h p small e f =
     let l = p .room in
@@ -127,9 +112,7 @@ module _ (rk j pads : List ℕ) (n : ℕ) (p : PadsFor rk j n pads) where
   mask-front x small e =
       let l = p .room in
       let k = length-drop 16 pads in
-      ap unwords (e ∙ ap words (tail-is pads 16))
-      ∙ unwords-front (drop 16 pads) (omega arith) (below-drop 256 16 pads small)
-      ∙ p .mask
+      ap unwords (e ∙ ap words (tail-is pads 16)) ∙ unwords-front (drop 16 pads) (omega arith) (below-drop 256 16 pads small) ∙ p .mask
 
   -- and the text is xored with those behind it
   pub text-front : (d : List ℕ) → length d ≡ n → xors d (tailed 32 pads) ≡ textOf rk j d

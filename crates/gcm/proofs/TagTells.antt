@@ -1,12 +1,5 @@
 -- A tag tells the hash: under one J0 equal tags come of equal hashes, and of equal hashes equal tags.
--- Assumes nothing.
-use mathlib.Core.Path.{_≡_, sym, ap, _∙_}
-use mathlib.Core.Bool.{true, false}
-use mathlib.Core.Logic.{_≢_}
-use mathlib.Core.List.{List, _++_}
-use Prim.Native.Nat.{ℕ, _^_, _<_}
-use native.Mathlib.Omega.{arith}
-use lib.ListN.{length}
+use Rattle.block.proofs.Base.{_<_, _^_, ℕ, _∙_, _≡_, ap, sym, _≢_, false, true, List, _++_, arith, length}
 use Rattle.block.specs.BigEndian.{bytesOf}
 use Rattle.block.specs.Xor.{xors}
 use Rattle.block.proofs.Convert.{length-bytesOf, bytesOf-same}
@@ -32,8 +25,7 @@ module _ (rk : List ℕ) (h : ℕ) (hh : h < 2 ^ 128) (j : List ℕ) where
       let y = ghash h (authBlocks b d) in
       let k = encryptBlock rk j in
       bytesOf-same 16 x y (ghash-lt h hh (authBlocks a c)) (ghash-lt h hh (authBlocks b d))
-      (sym (unmask k (bytesOf 16 x) (length-bytesOf 16 x) (length-encryptBlock rk j))
-      ∙ ap (λ (l : List ℕ). xors l k) e
+      (sym (unmask k (bytesOf 16 x) (length-bytesOf 16 x) (length-encryptBlock rk j)) ∙ ap (λ (l : List ℕ). xors l k) e
       ∙ unmask k (bytesOf 16 y) (length-bytesOf 16 y) (length-encryptBlock rk j))
 
   -- where c ++ t opens under a and the hash of b and d is another, d ++ t does not open under b

@@ -1,13 +1,6 @@
 -- Two blocks of four words are the same where the sum of their four xors is 0, and so the code settles a tag.
--- Assumes nothing.
-use mathlib.Core.Path.{_≡_, refl, sym, ap, ap₂, _∙_}
-use mathlib.Core.List.{List, _∷_}
-use Prim.Native.Nat.{ℕ, _+_, _-_, _≤_}
-use native.Mathlib.Omega.{arith}
-use lib.Bits.{xor-self}
-use lib.Dec.{eqb}
-use lib.ListN.{length, getD, length-drop}
-use borrow.Author.Tests.{eq-eqb, eqb-true}
+use Rattle.block.proofs.Base.{_+_, _-_, _≤_, ℕ, _∙_, _≡_, ap, ap₂, refl, sym, List, _∷_, arith, eq-eqb, eqb-true, xor-self, eqb, getD}
+use Rattle.block.proofs.Base.{length, length-drop}
 use Rattle.block.specs.Below.{AreBytes, AreWords}
 use Rattle.block.specs.Words.{words, unwords}
 use Rattle.block.specs.Xor.{_⊕_, xors}
@@ -28,8 +21,7 @@ summed d = getD d 0 0 + getD d 1 0 + getD d 2 0 + getD d 3 0
 -- a block xored with itself leaves nothing
 none : (a : List ℕ) → length a ≡ 4 → summed (xors a a) ≡ 0
 none a n =
-    ap summed (sym (xors-four a a n n))
-    ∙ rw (xor-self (getD a 0 0), xor-self (getD a 1 0), xor-self (getD a 2 0), xor-self (getD a 3 0))
+    ap summed (sym (xors-four a a n n)) ∙ rw (xor-self (getD a 0 0), xor-self (getD a 1 0), xor-self (getD a 2 0), xor-self (getD a 3 0))
 
 module _ (a b : List ℕ) (na : length a ≡ 4) (nb : length b ≡ 4) where
   -- the sum is 0: the words are the same

@@ -8,7 +8,7 @@ use Rattle.gcm.specs.Gcm.{textPart, textOf, opensUnder}
 use Rattle.gcm.specs.declared.Opened.{Opened}
 use Rattle.gcm.specs.declared.Opened.the-variants.{Done, InvalidTag}
 
--- document 01's number and length for each answer
+-- number and length for each answer
 abbrev pub headOf : Opened → Head
 headOf (Done n) = finished n
 headOf InvalidTag = refusal 4

@@ -1,12 +1,6 @@
 -- The hash state over bytes: one step after the other, along the rest of a list.
--- Assumes nothing.
-use mathlib.Core.Path.{_≡_, refl, sym, ap, ap₂, subst, _∙_}
-use mathlib.Core.List.{List, [], _∷_, _++_}
-use Prim.Native.Nat.{ℕ, _+_, _-_, _*_, _<_, _≤_}
-use native.Mathlib.Nat.{le-of-eq}
-use native.Mathlib.Omega.{arith}
-use lib.ListN.{length, take, drop, length-drop, drop-of-length-le}
-use lib.Seq.{take-all, drop-drop}
+use Rattle.block.proofs.Base.{_*_, _+_, _-_, _<_, _≤_, ℕ, _∙_, _≡_, ap, ap₂, sym, List, [], _++_, _∷_, arith, drop, drop-of-length-le}
+use Rattle.block.proofs.Base.{length, length-drop, take, drop-drop}
 use Rattle.block.specs.declared.U128.{U128}
 use Rattle.block.specs.Wide.{value}
 use Rattle.block.specs.Xor.{_⊕_}
@@ -16,13 +10,13 @@ use Rattle.ghash.specs.declared.Ghash.{Ghash}
 use Rattle.ghash.specs.Ghash.{blockOf, blocks, lengthBlock, authBlocks, hashFrom, ghash}
 use Rattle.ghash.specs.Absorbed.{Absorbed}
 use Rattle.ghash.specs.Sets.{upTo, blockNumber}
-use Rattle.ghash.proofs.Blocks.{blocks-nil, blocks-cons}
+use Rattle.ghash.proofs.Blocks.{blocks-nil, blocks-cons, lent-all}
 use Rattle.ghash.proofs.Join.{hash-append}
 use Rattle.ghash.proofs.Sets.{blocks-cut}
 
 -- H stays the same, and so do its parts
 pub parts-same : {h k : U128} {m : List ℕ} → k ≡ h → PartsOf h m → PartsOf k m
-parts-same {m = m} e p = subst (λ (v : U128). PartsOf v m) (sym e) p
+parts-same e p = rw e p
 
 -- one block
 pub absorbed-one : (s r : Ghash) (b m : ℕ) → r .h ≡ s .h → m ≡ value (s .y) ⊕ b → value (r .y) ≡ gmul m (value (s .h))
@@ -43,19 +37,13 @@ absorbed-both s r q xs ys a b = record {
 pub absorbed-cut : (s r q : Ghash) (bs : List ℕ) (k : ℕ) → 16 * k ≤ length bs → Absorbed s (upTo k (blockNumber bs)) r
     → Absorbed r (blocks (take (length bs - 16 * k) (drop (16 * k) bs))) q → Absorbed s (blocks bs) q
 absorbed-cut s r q bs k l a b =
-    let d = drop (16 * k) bs in
-    let rest : take (length bs - 16 * k) d ≡ d = take-all (length bs - 16 * k) d (le-of-eq (length-drop (16 * k) bs)) in
-    subst (λ (x : List ℕ). Absorbed s x q)
-    (ap (λ (x : List ℕ). upTo k (blockNumber bs) ++ blocks x) rest ∙ blocks-cut k bs l)
-    (absorbed-both s r q (upTo k (blockNumber bs)) (blocks (take (length bs - 16 * k) d)) a b)
+    rw (lent-all bs (16 * k), blocks-cut k bs l)
+    at (absorbed-both s r q (upTo k (blockNumber bs)) (blocks (take (length bs - 16 * k) (drop (16 * k) bs))) a b)
 
 -- what is left to take in from place i on
 pub record Walked (s₀ : Ghash) (bs : List ℕ) (s : Ghash) (i : ℕ) : Type 0 where
   pub key : s .h ≡ s₀ .h
   pub hash : hashFrom (value (s₀ .h)) (value (s .y)) (blocks (drop i bs)) ≡ hashFrom (value (s₀ .h)) (value (s₀ .y)) (blocks bs)
-
-pub walk-start : (s : Ghash) (bs : List ℕ) → Walked s bs s 0
-walk-start s bs = record { key = refl; hash = refl }
 
 module _ (s₀ s : Ghash) (bs : List ℕ) (i : ℕ) (w : Walked s₀ bs s i) where
   -- as `&bs[i..]` is lent
@@ -64,14 +52,13 @@ module _ (s₀ s : Ghash) (bs : List ℕ) (i : ℕ) (w : Walked s₀ bs s i) whe
       let k = value (s₀ .h) in
       let d = drop i bs in
       let rest = blocks (drop (i + 16) bs) in
-      let lent : take (length bs - i) d ≡ d = take-all (length bs - i) d (le-of-eq (length-drop i bs)) in
       let cut : blocks d ≡ blockOf d ∷ rest =
       blocks-cons d (simp length-drop (omega arith)) ∙ ap (λ (t : List ℕ). blockOf d ∷ blocks t) (drop-drop 16 i bs) in
       record {
         key = a .key ∙ w .key;
         hash =
             ap (λ (y : ℕ). hashFrom k y rest)
-            (a .hash ∙ ap₂ (λ (m : ℕ) (t : List ℕ). hashFrom m (value (s .y)) (blockOf t ∷ [])) (ap value (w .key)) lent)
+            (a .hash ∙ ap₂ (λ (m : ℕ) (t : List ℕ). hashFrom m (value (s .y)) (blockOf t ∷ [])) (ap value (w .key)) (lent-all bs i))
             ∙ sym (hash-append k (value (s .y)) (blockOf d ∷ []) rest)
             ∙ ap (hashFrom k (value (s .y))) (sym cut)
             ∙ w .hash;

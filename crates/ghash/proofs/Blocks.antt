@@ -1,14 +1,8 @@
 -- Bytes as blocks: block by block, joined at a block's end, and with one more zero byte.
--- Assumes nothing.
-use mathlib.Core.Path.{_≡_, refl, sym, ap, ap₂, _∙_}
-use mathlib.Core.Logic.{_≢_, ⊎-elim}
-use mathlib.Core.List.{List, [], _∷_, _++_, append-assoc}
-use Prim.Native.Nat.{ℕ, zero, suc, _+_, _-_, _*_, _/_, _%_, _^_, _<_, _≤_}
-use native.Mathlib.Nat.{le-of-eq, eq-zero-or-pos}
-use native.Mathlib.Omega.{arith}
-use lib.Dec.{lit<}
-use lib.ListN.{length, take, drop, getD, replicate, length-append, length-drop, drop-of-length-le}
-use lib.Seq.{take-append-le, drop-append-le, take-at, length-take-le}
+use Rattle.block.proofs.Base.{_%_, _*_, _+_, _-_, _/_, _<_, _^_, _≤_, suc, zero, ℕ, _∙_, _≡_, ap, ap₂, refl, sym, _≢_, ⊎-elim, List, []}
+use Rattle.block.proofs.Base.{_++_, _∷_, append-assoc, eq-zero-or-pos, le-of-eq, arith, lit<, drop, drop-of-length-le, getD, length}
+use Rattle.block.proofs.Base.{length-append, length-drop, replicate, take, drop-append-le, length-take-le, take-all, take-append-le}
+use Rattle.block.proofs.Base.{take-at}
 use Rattle.block.specs.Below.{AreBytes}
 use Rattle.block.specs.BigEndian.{numberOf}
 use Rattle.block.specs.Words.{words, unwords}
@@ -44,7 +38,7 @@ padded-full : (p q : List ℕ) → 16 ≤ length p → padded (p ++ q) ≡ take 
 unfolding padded
 padded-full p q h = ap (take 16) (append-assoc p q (replicate 16 0)) ∙ take-append-le 16 p (q ++ replicate 16 0) h
 
-pub blockOf-full : (bs : List ℕ) → length bs ≡ 16 → blockOf bs ≡ numberOf bs
+blockOf-full : (bs : List ℕ) → length bs ≡ 16 → blockOf bs ≡ numberOf bs
 unfolding blockOf
 blockOf-full bs e = ap numberOf (take-at bs (replicate 16 0) 16 e)
 
@@ -82,10 +76,9 @@ blocks-nil = refl
 
 pub blocks-cons : (bs : List ℕ) → 0 < length bs → blocks bs ≡ blockOf bs ∷ blocks (drop 16 bs)
 unfolding blocks blocksFrom
-blocks-cons bs h = ap (λ (n : ℕ). blocksFrom n bs) e
-  where
-    e : (length bs + 15) / 16 ≡ suc ((length (drop 16 bs) + 15) / 16)
-    e = simp length-drop (omega arith)
+blocks-cons bs h =
+    let e : (length bs + 15) / 16 ≡ suc ((length (drop 16 bs) + 15) / 16) = simp length-drop (omega arith) in
+    ap (λ (n : ℕ). blocksFrom n bs) e
 
 pub blocks-full : (bs : List ℕ) → length bs ≡ 16 → blocks bs ≡ numberOf bs ∷ []
 blocks-full bs e =
@@ -106,9 +99,8 @@ blocks-append zero [] q h = ap (λ (l : List ℕ). l ++ blocks q) (sym blocks-ni
 blocks-append zero (x ∷ p) q h = absurd (omega arith)
 blocks-append (suc k) p q h =
     blocks-cons (p ++ q) (simp length-append (omega arith))
-    ∙ ap₂ _∷_ (blockOf-front p q (omega arith))
-    (ap blocks (drop-append-le 16 p q (omega arith)) ∙ blocks-append k (drop 16 p) q (simp length-drop (omega arith)))
-    ∙ ap (λ (l : List ℕ). l ++ blocks q) (sym (blocks-cons p (omega arith)))
+    ∙ rw (blocks-cons p (omega arith), blockOf-front p q (omega arith), drop-append-le 16 p q (omega arith))
+    (ap (λ (l : List ℕ). blockOf p ∷ l) (blocks-append k (drop 16 p) q (simp length-drop (omega arith))))
 
 blocksFrom-zero : (k : ℕ) (bs : List ℕ) → blocksFrom k (bs ++ (0 ∷ [])) ≡ blocksFrom k bs
 unfolding blocksFrom
@@ -127,6 +119,10 @@ unfolding blocks
 blocks-zero bs n =
     let e : (length (bs ++ (0 ∷ [])) + 15) / 16 ≡ (length bs + 15) / 16 = simp length-append (omega (arith, n)) in
     ap (λ (k : ℕ). blocksFrom k (bs ++ (0 ∷ []))) e ∙ blocksFrom-zero ((length bs + 15) / 16) bs
+
+-- the rest from place n on, as `&bs[n..]` is lent
+pub lent-all : (bs : List ℕ) (n : ℕ) → take (length bs - n) (drop n bs) ≡ drop n bs
+lent-all bs n = take-all (length bs - n) (drop n bs) (le-of-eq (length-drop n bs))
 
 pub getD-zeros : (n i : ℕ) → _≡_ {A = ℕ} (getD (replicate n 0) i 0) 0
 getD-zeros zero i = refl

@@ -1,14 +1,8 @@
 -- For H other than 0 the hash of a label and a text changes with a change inside one block of either, and with one
 -- zero byte more at the end of either, which the length block tells.
--- Assumes nothing.
-use mathlib.Core.Path.{_≡_, refl, sym, ap, ap₂, _∙_}
-use mathlib.Core.Logic.{_≢_, ⊎-elim}
-use mathlib.Core.List.{List, [], _∷_, _++_, append-assoc}
-use Prim.Native.Nat.{ℕ, _+_, _-_, _*_, _%_, _<_}
-use native.Mathlib.Nat.{eq-zero-or-pos}
-use native.Mathlib.Omega.{arith}
-use lib.ListN.{length, take, drop, length-append, length-drop, take-append-drop}
-use lib.Seq.{length-take-le, take-all, drop-drop}
+use Rattle.block.proofs.Base.{_%_, _*_, _+_, _-_, _<_, ℕ, _∙_, _≡_, ap, ap₂, refl, sym, _≢_, ⊎-elim, List, [], _++_, _∷_, append-assoc}
+use Rattle.block.proofs.Base.{eq-zero-or-pos, arith, drop, length, length-append, length-drop, take, take-append-drop, drop-drop}
+use Rattle.block.proofs.Base.{length-take-le, take-all}
 use Rattle.block.specs.Below.{AreBytes}
 use Rattle.block.proofs.Entries.{below-drop}
 use Rattle.field.specs.Field.{Element}

@@ -1,11 +1,7 @@
 -- What is hashed for no label and an IV of sixteen bytes: the IV, and then the number 128.
--- Assumes nothing.
-use mathlib.Core.Path.{_≡_, refl, ap, ap₂, _∙_}
-use mathlib.Core.List.{List, [], _∷_, _++_}
-use Prim.Native.Nat.{ℕ}
-use lib.ListN.{length}
+use Rattle.block.proofs.Base.{ℕ, _∙_, _≡_, ap, ap₂, refl, List, [], _++_, _∷_, length}
 use Rattle.block.specs.BigEndian.{numberOf, bytesOf}
-use Rattle.ghash.specs.Ghash.{blocks, lengthBlock, authBlocks}
+use Rattle.ghash.specs.Ghash.{lengthBlock, authBlocks}
 use Rattle.ghash.proofs.Blocks.{blocks-nil, blocks-full}
 
 lengthBlock-iv : lengthBlock 0 16 ≡ 128

@@ -1,11 +1,5 @@
 -- The hash of two lists joined: the first's hash times H to the second's block count, xored with the second's hash.
--- Assumes nothing.
-use mathlib.Core.Path.{_≡_, refl, sym, ap, _∙_}
-use mathlib.Core.List.{List, [], _∷_, _++_}
-use Prim.Native.Nat.{ℕ}
-use lib.Dec.{lit<}
-use lib.ListN.{length}
-use lib.Bits.{xor-zero-r}
+use Rattle.block.proofs.Base.{ℕ, _∙_, _≡_, ap, refl, sym, List, [], _++_, _∷_, xor-zero-r, lit<, length}
 use Rattle.block.specs.Xor.{_⊕_}
 use Rattle.block.proofs.Xor.{xor-assoc}
 use Rattle.field.specs.Field.{Element, gmul, gpow}
@@ -33,9 +27,8 @@ module _ (h : ℕ) (hh : Element h) where
   unfolding hashFrom gpow
   hashFrom-start [] y z k = ap (λ (w : ℕ). w ⊕ z) (sym (gmul-one y k))
   hashFrom-start (b ∷ bs) y z k =
-      ap (λ (w : ℕ). hashFrom h w bs) (ap (λ (w : ℕ). gmul w h) (xor-assoc y z b) ∙ xor-gmul y (z ⊕ b) h)
-      ∙ hashFrom-start bs (gmul y h) (gmul (z ⊕ b) h) (gmul-lt y h hh)
-      ∙ ap (λ (w : ℕ). w ⊕ hashFrom h (gmul (z ⊕ b) h) bs) (gmul-assoc y h (gpow h (length bs)) k hh (gpow-lt h (length bs)))
+      rw (xor-assoc y z b, xor-gmul y (z ⊕ b) h, ← gmul-assoc y h (gpow h (length bs)) k hh (gpow-lt h (length bs)))
+      (hashFrom-start bs (gmul y h) (gmul (z ⊕ b) h) (gmul-lt y h hh))
 
   pub ghash-join : (xs bs : List ℕ) → ghash h (xs ++ bs) ≡ gmul (ghash h xs) (gpow h (length bs)) ⊕ ghash h bs
   ghash-join xs bs =

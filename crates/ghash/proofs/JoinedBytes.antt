@@ -1,14 +1,10 @@
 -- Two halves of bytes, of which the first is whole blocks: their hashes joined are the hash of both. So a label's hash, joined to what is
 -- kept of a text's blocks, is the hash of label and text. Either half may be empty.
--- Assumes nothing.
-use mathlib.Core.Path.{_≡_, sym, ap, ap₂, _∙_}
-use mathlib.Core.List.{List, [], _∷_, _++_, append-assoc}
-use Prim.Native.Nat.{ℕ, _*_}
-use lib.ListN.{length}
+use Rattle.block.proofs.Base.{_*_, ℕ, _∙_, _≡_, ap, ap₂, sym, List, [], _++_, _∷_, append-assoc, length}
 use Rattle.block.specs.declared.U128.{U128}
 use Rattle.block.specs.Wide.{value}
 use Rattle.block.specs.Xor.{_⊕_}
-use Rattle.field.specs.Field.{Element, gmul, gpow}
+use Rattle.field.specs.Field.{Element, gmul}
 use Rattle.ghash.specs.declared.Ghash.{Ghash}
 use Rattle.ghash.specs.declared.halves.Half.{Half}
 use Rattle.ghash.specs.Ghash.{blockCount, blocks, lengthBlock, authBlocks, hashFrom, ghash}
@@ -32,7 +28,7 @@ module _ (h : ℕ) (element : Element h) where
       ∙ ap (ghash h) (sym (blocks-append k a b whole))
 
   -- what is kept of blocks joins any hash before them to theirs
-  pub half-joins : (xs bs : List ℕ) (r : Half) → HalfOf h bs r → gmul (ghash h xs) (value (r .power)) ⊕ value (r .hash) ≡ ghash h (xs ++ bs)
+  half-joins : (xs bs : List ℕ) (r : Half) → HalfOf h bs r → gmul (ghash h xs) (value (r .power)) ⊕ value (r .hash) ≡ ghash h (xs ++ bs)
   half-joins xs bs r k =
       ap₂ (λ (p y : ℕ). gmul (ghash h xs) p ⊕ y) (k .power) (k .hash) ∙ sym (ghash-join h element xs bs)
 

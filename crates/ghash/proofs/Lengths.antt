@@ -1,11 +1,6 @@
 -- The length block: it is two halves of 64 bits where the lengths in bits fit them, and then it tells the lengths.
--- Assumes nothing.
-use mathlib.Core.Path.{_≡_, sym, ap, ap₂, _∙_}
-use Prim.Native.Nat.{ℕ, _*_, _/_, _%_, _^_, _<_}
-use native.Mathlib.Nat.{mod-eq-of-lt, mod-lt}
-use native.Mathlib.Omega.{arith}
-use lib.Arith.{digits-lt, digits-div, digits-mod}
-use lib.Dec.{lit<}
+use Rattle.block.proofs.Base.{_%_, _*_, _/_, _<_, _^_, ℕ, _∙_, _≡_, ap, ap₂, sym, mod-eq-of-lt, mod-lt, arith, digits-div, digits-lt}
+use Rattle.block.proofs.Base.{digits-mod, lit<}
 use Rattle.block.specs.BigEndian.{bytesOf}
 use Rattle.block.specs.Wide.{whole}
 use Rattle.block.proofs.Convert.{length-bytesOf, numberOf-bytesOf, numberOf-append}

@@ -1,10 +1,5 @@
 -- For H other than 0, changing exactly one block of a list changes the hash.
--- Assumes nothing.
-use mathlib.Core.Path.{_≡_, sym, ap, ap₂, _∙_}
-use mathlib.Core.Logic.{_≢_, ⊎-elim}
-use mathlib.Core.List.{List, [], _∷_, _++_}
-use Prim.Native.Nat.{ℕ}
-use lib.Bits.{xor-comm, xor-lt, xor-self}
+use Rattle.block.proofs.Base.{ℕ, _∙_, _≡_, ap, sym, _≢_, ⊎-elim, List, [], _++_, _∷_, xor-comm, xor-lt, xor-self}
 use Rattle.block.specs.Xor.{_⊕_}
 use Rattle.block.proofs.Xor.{xor-same, xor-meet}
 use Rattle.field.specs.Field.{Element, gmul}
@@ -18,11 +13,7 @@ module _ (h : ℕ) (hh : Element h) (nz : h ≢ 0) where
   -- one block's hash comes of one start alone
   step-cancel : (y z b : ℕ) → Element y → Element z → gmul (y ⊕ b) h ≡ gmul (z ⊕ b) h → y ≡ z
   step-cancel y z b hy hz e =
-      let q : gmul (y ⊕ z) h ≡ 0 =
-      ap (λ (w : ℕ). gmul w h) (sym (xor-meet y b z))
-      ∙ xor-gmul (y ⊕ b) (b ⊕ z) h
-      ∙ ap₂ _⊕_ e (ap (λ (w : ℕ). gmul w h) (xor-comm b z))
-      ∙ xor-self (gmul (z ⊕ b) h) in
+      let q : gmul (y ⊕ z) h ≡ 0 = rw (← xor-meet y b z, xor-gmul (y ⊕ b) (b ⊕ z) h, e, xor-comm b z) (xor-self (gmul (z ⊕ b) h)) in
       ⊎-elim (λ s. xor-same y z z (s ∙ sym (xor-self z))) (λ z0. absurd (nz z0)) (zero-product (y ⊕ z) h (xor-lt 128 y z hy hz) hh q)
 
   -- and so does that of many

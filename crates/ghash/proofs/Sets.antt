@@ -1,17 +1,9 @@
 -- Interleaved hashes, joined at the end, are one hash. For lists of one length n, and from 0 on: the hash of sums is the sum of the
 -- hashes, and the hash of multiples the multiple of the hash. So blocks Z times H to the n, with blocks C added, hash as C does from the
 -- hash of Z on.
--- Assumes nothing.
-use mathlib.Core.Path.{_≡_, refl, sym, ap, ap₂, subst, _∙_}
-use mathlib.Core.Logic.{⊎-elim}
-use mathlib.Core.List.{List, [], _∷_, _++_}
-use Prim.Native.Nat.{ℕ, zero, suc, _+_, _-_, _*_, _/_, _<_, _≤_}
-use native.Mathlib.Nat.{add-zero, zero-add, suc-add, le-of-eq}
-use native.Mathlib.Omega.{arith}
-use lib.Dec.{lit<}
-use lib.ListN.{length, take, drop, set, replicate, length-drop}
-use lib.Seq.{take-all, drop-drop}
-use lib.Bits.{xor-lt, xor-zero-r}
+use Rattle.block.proofs.Base.{_*_, _+_, _-_, _/_, _<_, _≤_, suc, zero, ℕ, _∙_, _≡_, ap, ap₂, refl, sym, ⊎-elim, List, [], _++_, _∷_}
+use Rattle.block.proofs.Base.{add-zero, suc-add, zero-add, arith, xor-lt, xor-zero-r, lit<, drop, length, length-drop, replicate, set, take}
+use Rattle.block.proofs.Base.{drop-drop}
 use Rattle.block.specs.Below.{AreBytes}
 use Rattle.block.specs.BigEndian.{numberOf}
 use Rattle.block.specs.Wide.{whole}
@@ -26,7 +18,7 @@ use Rattle.field.proofs.Distributes.{xor-gmul, zero-gmul}
 use Rattle.field.proofs.Commutes.{gmul-comm, gmul-assoc}
 use Rattle.ghash.specs.Ghash.{blockOf, blocks, hashFrom, ghash}
 use Rattle.ghash.specs.Sets.{LaneCount, upTo, blockNumber, Starts, Hashed}
-use Rattle.ghash.proofs.Blocks.{blocks-cons, getD-zeros, blockOf-words}
+use Rattle.ghash.proofs.Blocks.{blocks-cons, getD-zeros, blockOf-words, lent-all}
 use Rattle.ghash.proofs.Join.{hash-append, ghash-lt, hashFrom-start}
 
 pub upTo-same : (n : ℕ) (f g : ℕ → ℕ) → ((i : ℕ) → i < n → f i ≡ g i) → upTo n f ≡ upTo n g
@@ -69,23 +61,16 @@ blocks-cut (suc k) bs h =
 -- block k of the bytes from block b on, as `&bs[16 * b..]` is lent
 pub lent-block : (bs : List ℕ) (b k : ℕ) → blockNumber (take (length bs - 16 * b) (drop (16 * b) bs)) k ≡ blockNumber bs (b + k)
 lent-block bs b k =
-    let e : 16 * b + 16 * k ≡ 16 * (b + k) = omega arith in
-    ap (λ (d : List ℕ). blockNumber d k) (take-all (length bs - 16 * b) (drop (16 * b) bs) (le-of-eq (length-drop (16 * b) bs)))
-    ∙ ap blockOf (drop-drop (16 * k) (16 * b) bs ∙ ap (λ (n : ℕ). drop n bs) e)
+    let e : 16 * b + 16 * k ≡ 16 * (b + k) = omega arith in rw (lent-all bs (16 * b), drop-drop (16 * k) (16 * b) bs, e)
 
 -- it has n blocks
 pub lent-room : (bs : List ℕ) (b n : ℕ) → n ≤ length bs / 16 - b → 16 * n ≤ length (take (length bs - 16 * b) (drop (16 * b) bs))
-lent-room bs b n h =
-    let d = drop (16 * b) bs in
-    subst (λ (l : List ℕ). 16 * n ≤ length l) (sym (take-all (length bs - 16 * b) d (le-of-eq (length-drop (16 * b) bs)))) (simp length-drop (omega arith))
+lent-room bs b n h = rw (lent-all bs (16 * b)) (simp length-drop (omega arith))
 
 -- and the number of block k by its words
 pub lent-number : (bs : List ℕ) (k : ℕ) (w : List ℕ) → AreBytes bs → w ≡ words (take (length bs - 16 * k) (drop (16 * k) bs))
     → numberOf (unwords w) ≡ blockNumber bs k
-lent-number bs k w h e =
-    ap (λ (x : List ℕ). numberOf (unwords x))
-    (e ∙ ap words (take-all (length bs - 16 * k) (drop (16 * k) bs) (le-of-eq (length-drop (16 * k) bs))))
-    ∙ blockOf-words (drop (16 * k) bs) (below-drop 256 (16 * k) bs h)
+lent-number bs k w h e = rw (e, lent-all bs (16 * k)) (blockOf-words (drop (16 * k) bs) (below-drop 256 (16 * k) bs h))
 
 -- y in the first of two arrays of zeros each
 pub starts-first : (n a b : ℕ) → Starts n (whole a b) (lane (set (replicate 16 0) 0 a) (set (replicate 16 0) 0 b))

@@ -1,8 +1,5 @@
 -- Where H is 0 every hash is 0, whatever the label and the text: all that was sealed opens under any label.
--- Assumes nothing.
-use mathlib.Core.Path.{_≡_, refl, ap, _∙_}
-use mathlib.Core.List.{List, [], _∷_}
-use Prim.Native.Nat.{ℕ}
+use Rattle.block.proofs.Base.{ℕ, _∙_, _≡_, ap, refl, List, [], _∷_}
 use Rattle.block.specs.Xor.{_⊕_}
 use Rattle.field.proofs.Distributes.{gmul-zero}
 use Rattle.ghash.specs.Ghash.{hashFrom, ghash}

@@ -1,4 +1,4 @@
--- Two hashes joined, document 02, W12, and what is kept of blocks to join any hash before them to theirs.
+-- Two hashes joined, W12, and what is kept of blocks to join any hash before them to theirs.
 use mathlib.Core.Path.{_≡_}
 use mathlib.Core.List.{List}
 use Prim.Native.Nat.{ℕ}

@@ -14,7 +14,8 @@ ghost use Rattle.ghash.specs.Sets.{LaneCount, upTo, blockNumber, Starts,
 use crate::Ghash;
 use block::U128;
 
-// From how many bytes on sixteen hashes are fewer instructions than eight.
+// From how many bytes on sixteen hashes are fewer instructions than eight. That holds for AVX2 alone: with vectors of another width the
+// turning point is another.
 const SIXTEEN_FROM: usize = 1024;
 
 // How many hashes n bytes are worth. That it is not always the same is also what keeps the back end from knowing it: a loop whose count it

@@ -1,14 +1,6 @@
 -- Calls that were recorded as they were answered agree, and only they do; of those that differ the first is told.
--- Assumes nothing.
-use mathlib.Core.Path.{_≡_, refl, sym, ap, _∙_}
-use mathlib.Core.Bool.{Bool, true, false, not}
-use mathlib.Core.List.{List, [], _∷_, _++_}
-use Prim.Native.Nat.{ℕ, _+_}
-use native.Mathlib.Omega.{arith}
-use lib.Dec.{eqb}
-use lib.ListN.{length, length-append}
-use borrow.Author.Tests.{eqb-true, eq-eqb}
-use Rattle.block.specs.Same.{same}
+use Rattle.block.proofs.Base.{_+_, ℕ, _∙_, _≡_, ap, refl, sym, false, not, true, List, [], _++_, _∷_, arith, eq-eqb, eqb-true, not-false}
+use Rattle.block.proofs.Base.{eqb, length, length-append}
 use Rattle.block.proofs.Same.{same-refl, same-equal}
 use Rattle.cipher_mode.specs.declared.Sm4Cipher.{Sm4Cipher}
 use Rattle.journal.specs.Format.{Entry, written, stored}
@@ -20,10 +12,9 @@ use Rattle.journal.specs.Ends.{countedAll, Ends, answerNow, differs, Non
 use Rattle.journal.specs.declared.report.Difference.{Difference}
 use Rattle.journal.specs.declared.report.Report.{Report}
 use Rattle.journal.specs.declared.Replayed.{Replayed}
-use Rattle.journal.proofs.Limits.{neither}
-use Rattle.journal.proofs.Standing.{clash}
+use Rattle.journal.proofs.Cases.{by-test, clash, neither}
 use Rattle.journal.proofs.Lent.{result-size}
-use Rattle.journal.proofs.Adding.{either-way}
+use Rattle.journal.proofs.Joined.{either-way}
 
 module _ (ks : List Sm4Cipher) (e : Entry) where
   abbrev again : Entry
@@ -46,10 +37,6 @@ module _ (ks : List Sm4Cipher) (e : Entry) where
         same-refl (result x),
       )
 
-  yes : (t : Bool) → not t ≡ false → t ≡ true
-  yes true z = refl
-  yes false z = sym z
-
   -- A call that agrees is answered now as it was recorded.
   pub agrees-so : differs ks e ≡ false → (e .number ≡ answerNow ks e .head .number) × (e .output ≡ result (answerNow ks e))
   unfolding differsFrom
@@ -57,17 +44,9 @@ module _ (ks : List Sm4Cipher) (e : Entry) where
       let x = answerNow ks e in
       let number = neither (not (eqb (e .number) (x .head .number))) _ d in
       let output = neither (not (eqb (length (e .output)) (x .head .size))) _ (number .1) .1 in (
-        eqb-true (e .number) (x .head .number) (yes (eqb (e .number) (x .head .number)) (number .0)),
-        same-equal (e .output) (result x) (yes (same (e .output) (result x)) output),
+        eqb-true (e .number) (x .head .number) (not-false _ (number .0)),
+        same-equal (e .output) (result x) (not-false _ output),
       )
-
--- the first difference, after one more call
-still : (t : Bool) (n p : ℕ) (d : Difference) → d .found ≡ true → firstOf t n p d ≡ d
-still t n p d f = rw f
-
-found-now : (f : Bool) (n p : ℕ) (d : Difference) → d .found ≡ f → firstOf true n p d .found ≡ true
-found-now true n p d e = rw e
-found-now false n p d e = rw e
 
 -- The first difference over calls that stand one behind the other.
 module _ (ks : List Sm4Cipher) where
@@ -75,18 +54,19 @@ module _ (ks : List Sm4Cipher) where
   unfolding counted
   one-first e place r = refl
 
-  one-more : (e : Entry) (place : ℕ) (r : Report) → countedUnder ks e place r .records ≡ r .records + 1
-  unfolding counted
-  one-more e place r = refl
-
   one-agrees : (e : Entry) (place : ℕ) (r : Report) → differs ks e ≡ false → countedUnder ks e place r .first ≡ r .first
   one-agrees e place r n = one-first e place r ∙ rw n (either-way (r .first .found) (r .first))
+
+  one-found : (e : Entry) (place : ℕ) (r : Report) → differs ks e ≡ true → countedUnder ks e place r .first .found ≡ true
+  one-found e place r d =
+      ap (λ (x : Difference). x .found) (one-first e place r)
+      ∙ by-test (r .first .found) (λ f. rw f) (λ f. rw (f, d))
 
   kept : (es : List Entry) (place : ℕ) (r : Report) → r .first .found ≡ true → countedAll ks es place r .first ≡ r .first
   unfolding countedAll
   kept [] place r f = refl
   kept (e ∷ es) place r f =
-      let s = one-first e place r ∙ still (differs ks e) (r .records) place (r .first) f in
+      let s : countedUnder ks e place r .first ≡ r .first = one-first e place r ∙ rw f in
       kept es (place + length (written e)) (countedUnder ks e place r) (ap (λ (d : Difference). d .found) s ∙ f) ∙ s
 
   none : (es : List Entry) (place : ℕ) (r : Report) → NoneDiffers ks es → countedAll ks es place r .first ≡ r .first
@@ -97,36 +77,31 @@ module _ (ks : List Sm4Cipher) where
   first : (es fs : List Entry) (e : Entry) (place : ℕ) (r : Report) → r .first .found ≡ false → NoneDiffers ks es → differs ks e ≡ true
       → countedAll ks (es ++ e ∷ fs) place r .first
       ≡ record { found = true; index = r .records + length es; place = place + length (stored es) }
-  unfolding countedAll stored
+  unfolding countedAll counted stored
   first [] fs e place r f n d =
       let i : r .records + 0 ≡ r .records = omega arith in
       let p : place + 0 ≡ place = omega arith in
-      let s : countedUnder ks e place r .first ≡ record { found = true; index = r .records; place = place } = one-first e place r ∙ rw
-      (f, d) in
+      let s : countedUnder ks e place r .first ≡ record { found = true; index = r .records; place = place } =
+      one-first e place r ∙ rw (f, d) in
       kept fs (place + length (written e)) (countedUnder ks e place r) (ap (λ (x : Difference). x .found) s) ∙ s ∙ rw (i, p)
   first (g ∷ es) fs e place r f (n, ns) d =
-      let s = one-agrees g place r n in
-      let m = one-more g place r in
-      let l = length-append (written g) (stored es) in
-      let i : countedUnder ks g place r .records + length es ≡ r .records + length (g ∷ es) = omega arith in
-      let p : place + length (written g) + length (stored es) ≡ place + length (written g ++ stored es) = omega arith in
-      first es fs e (place + length (written g)) (countedUnder ks g place r) (ap (λ (x : Difference). x .found) s ∙ f) ns d ∙ rw (i, p)
-
-  none-by : (t : Bool) (e : Entry) (es : List Entry) (place : ℕ) (r : Report)
-      → (countedAll ks es (place + length (written e)) (countedUnder ks e place r) .first .found ≡ false → NoneDiffers ks es)
-      → differs ks e ≡ t → countedAll ks (e ∷ es) place r .first .found ≡ false → (differs ks e ≡ false) × NoneDiffers ks es
-  unfolding countedAll
-  none-by true e es place r behind d f =
-      let s : countedUnder ks e place r .first .found ≡ true =
-      ap (λ (x : Difference). x .found) (one-first e place r) ∙ rw d (found-now (r .first .found) (r .records) place (r .first) refl) in
-      let k = kept es (place + length (written e)) (countedUnder ks e place r) s in
-      absurd (clash _ (ap (λ (x : Difference). x .found) k ∙ s) f)
-  none-by false e es place r behind d f = (d, behind f)
+      let found = ap (λ (x : Difference). x .found) (one-agrees g place r n) ∙ f in
+      let i : r .records + 1 + length es ≡ r .records + length (g ∷ es) = omega arith in
+      let p : place + length (written g) + length (stored es) ≡ place + length (written g ++ stored es) =
+      omega (arith, length-append (written g) (stored es)) in
+      first es fs e (place + length (written g)) (countedUnder ks g place r) found ns d ∙ rw (i, p)
 
   none-differs : (es : List Entry) (place : ℕ) (r : Report) → countedAll ks es place r .first .found ≡ false → NoneDiffers ks es
+  unfolding countedAll
   none-differs [] place r f = tt
   none-differs (e ∷ es) place r f =
-      none-by (differs ks e) e es place r (none-differs es (place + length (written e)) (countedUnder ks e place r)) refl f
+      let s = countedUnder ks e place r in
+      let p = place + length (written e) in
+      by-test (differs ks e)
+      (λ d.
+      let k = kept es p s (one-found e place r d) in
+      absurd (clash _ (ap (λ (x : Difference). x .found) k ∙ one-found e place r d) f))
+      (λ d. (d, none-differs es p s f))
 
 -- What is told of the first difference, however the replay ends, by the calls that were replayed.
 module _ (ks : List Sm4Cipher) (b : List ℕ) (x : Replayed) (ends : Ends ks b 0 nothing x) where

@@ -1,15 +1,12 @@
 -- A record that stands whole is read the same, whatever is behind it.
--- Assumes nothing.
-use mathlib.Core.Path.{_≡_, ap, _∙_}
-use mathlib.Core.Bool.{true}
-use mathlib.Core.List.{List, _++_}
-use Prim.Native.Nat.{ℕ, _+_, _≤_, _<_}
-use native.Mathlib.Omega.{arith}
-use lib.ListN.{length, getD, drop, length-append, length-drop, List·getD-append}
-use lib.Seq.{take-append-le, drop-append-le}
+use Rattle.block.proofs.Base.{_+_, _<_, _≤_, ℕ, _∙_, _≡_, ap, true, List, _++_, arith, drop, getD, length, length-append, length-drop}
+use Rattle.block.proofs.Base.{drop-append-le, take-append-le}
+use lib.ListN.{List·getD-append}
 use Rattle.block.specs.Words.{wordAt}
 use Rattle.journal.specs.Format.{startsPart, partAt, behind, fromLabel, fromData, fromIv, fromRoom, fromOutput, afterRecord}
-use Rattle.journal.specs.Format.{marked, startsRecord, sizeAt, front}
+use Rattle.journal.specs.Format.{directionOf, marked, startsRecord, sizeAt, front}
+use Rattle.cipher_mode.specs.declared.Direction.{Direction}
+use Rattle.journal.proofs.BothWays.{same-entry}
 use Rattle.journal.proofs.Standing.{part-starts, part-long, part-fits, Stands, starts, size-is}
 
 module _ (c : List ℕ) where
@@ -18,28 +15,21 @@ module _ (c : List ℕ) where
 
   word-on : (b : List ℕ) → 4 ≤ length b → wordAt (b ++ c) 0 ≡ wordAt b 0
   word-on b h =
-      let w = read-on b 0 (omega arith) in
-      let x = read-on b 1 (omega arith) in
-      let y = read-on b 2 (omega arith) in
-      let z = read-on b 3 (omega arith) in
-      rw (w, x, y, z)
+      rw (read-on b 0 (omega arith), read-on b 1 (omega arith), read-on b 2 (omega arith), read-on b 3 (omega arith))
 
   module _ (b : List ℕ) (e : startsPart b ≡ true) where
     part-starts-on : startsPart (b ++ c) ≡ true
     part-starts-on =
         let h = part-long b e in
-        let k = part-fits b e in
-        let w = word-on b h in
         let l = length-append b c in
-        part-starts (b ++ c) (omega arith) (omega arith)
+        part-starts (b ++ c) (omega arith) (omega (arith, part-fits b e, word-on b h))
 
     part-on : partAt (b ++ c) ≡ partAt b
     unfolding partAt
     part-on =
         let h = part-long b e in
-        let k = part-fits b e in
-        let l = length-drop 4 b in
-        rw (word-on b h, drop-append-le 4 b c h) (take-append-le (wordAt b 0) (drop 4 b) c (omega arith))
+        rw (word-on b h, drop-append-le 4 b c h)
+        (take-append-le (wordAt b 0) (drop 4 b) c (omega (arith, part-fits b e, length-drop 4 b)))
 
     behind-on : behind (b ++ c) ≡ behind b ++ c
     unfolding behind
@@ -89,25 +79,13 @@ module _ (c : List ℕ) where
     front-on =
         let h = s .long in
         let m = s .middle in
-        let r₂ = read-on b 2 (omega arith) in
-        let r₃ = read-on b 3 (omega arith) in
-        let r₄ = read-on b 4 (omega arith) in
-        let r₅ = read-on b 5 (omega arith) in
-        let l : partAt (fromLabel (b ++ c)) ≡ partAt (fromLabel b) = ap partAt label-on ∙ part-on (fromLabel b) (s .label) in
-        let d : partAt (fromData (b ++ c)) ≡ partAt (fromData b) = ap partAt data-on ∙ part-on (fromData b) (s .«data») in
-        let i : partAt (fromIv (b ++ c)) ≡ partAt (fromIv b) = ap partAt iv-on ∙ part-on (fromIv b) (s .iv) in
-        let w : wordAt (fromRoom (b ++ c)) 0 ≡ wordAt (fromRoom b) 0 = ap (λ (t : List ℕ). wordAt t 0) room-on ∙ word-on (fromRoom b)
-        (omega arith) in
-        let n : getD (fromRoom (b ++ c)) 4 0 ≡ getD (fromRoom b) 4 0 = ap (λ (t : List ℕ). getD t 4 0) room-on ∙ read-on (fromRoom b) 4
-        (omega arith) in
-        let o : partAt (fromOutput (b ++ c)) ≡ partAt (fromOutput b) = ap partAt output-on ∙ part-on (fromOutput b) (s .output) in
-        rw (r₂, r₃, r₄, r₅, l, d, i, w, n, o)
+        same-entry (ap {B = Direction} directionOf (read-on b 2 (omega arith))) (read-on b 3 (omega arith))
+        (rw (read-on b 4 (omega arith), read-on b 5 (omega arith))) (ap partAt label-on ∙ part-on (fromLabel b) (s .label))
+        (ap partAt data-on ∙ part-on (fromData b) (s .«data»)) (ap partAt iv-on ∙ part-on (fromIv b) (s .iv))
+        (ap (λ (t : List ℕ). wordAt t 0) room-on ∙ word-on (fromRoom b) (omega arith))
+        (ap (λ (t : List ℕ). getD t 4 0) room-on ∙ read-on (fromRoom b) 4 (omega arith))
+        (ap partAt output-on ∙ part-on (fromOutput b) (s .output))
 
     pub size-on : sizeAt (b ++ c) ≡ sizeAt b
     size-on =
-        let p = size-is (b ++ c) stands-on in
-        let q = size-is b s in
-        let a : length (afterRecord (b ++ c)) ≡ length (afterRecord b ++ c) = ap length after-on in
-        let l = length-append b c in
-        let k = length-append (afterRecord b) c in
-        omega arith
+        omega (arith, size-is (b ++ c) stands-on, size-is b s, ap length after-on, length-append b c, length-append (afterRecord b) c)

@@ -1,20 +1,12 @@
 -- Reading and writing a record are each other's inverse.
--- Assumes nothing.
-use mathlib.Core.Path.{_≡_, refl, sym, ap, ap₂, _∙_}
-use mathlib.Core.Bool.{true}
-use mathlib.Core.List.{List, [], _∷_, _++_, append-assoc}
-use Prim.Native.Nat.{ℕ, zero, suc, _+_, _≤_, _<_}
-use native.Mathlib.Nat.{mod-eq-of-lt}
-use native.Mathlib.Omega.{arith}
-use lib.Dec.{eqb, leb, lit<}
-use lib.ListN.{length, getD, take, drop, length-append, take-append-drop}
-use lib.Seq.{take-at, drop-at, take-add, drop-drop}
-use borrow.Author.Tests.{eqb-true, leb-true}
+use Rattle.block.proofs.Base.{_+_, _<_, _^_, _≤_, suc, zero, ℕ, _∙_, _≡_, ap, refl, sym, true, List, [], _++_, _∷_, append-assoc}
+use Rattle.block.proofs.Base.{mod-eq-of-lt, arith, eqb-true, leb-true, eqb, leb, lit<, drop, getD, length, length-append, take-append-drop}
+use Rattle.block.proofs.Base.{drop-at, drop-cons, drop-drop, take-at}
 use Rattle.block.specs.Below.{AreBytes}
 use Rattle.block.specs.BigEndian.{bytesOf}
 use Rattle.block.specs.Words.{wordAt}
-use Rattle.block.proofs.Convert.{length-bytesOf, numberOf-bytesOf, bytesOf-numberOf}
-use Rattle.block.proofs.Entries.{below-at, below-drop}
+use Rattle.block.proofs.Convert.{numberOf-lt, length-bytesOf, numberOf-bytesOf, bytesOf-numberOf}
+use Rattle.block.proofs.Entries.{below-at, below-take, below-drop}
 use Rattle.block.proofs.Same.{and-left, and-right}
 use Rattle.cipher_mode.specs.declared.Direction.{Direction}
 use Rattle.cipher_mode.specs.declared.Direction.the-variants.{Encrypt, Decrypt}
@@ -29,17 +21,11 @@ module _ (p rest : List ℕ) (proper : ProperPart p) where
   unfolding part bytesOf
   part-word = numberOf-bytesOf 4 (length p) ∙ mod-eq-of-lt (proper .size)
 
-  length-written-part : length (part p ++ rest) ≡ 4 + length p + length rest
-  unfolding part
-  length-written-part =
-      let b = length-bytesOf 4 (length p) in
-      rw (length-append, length-append) (omega arith)
-
   part-whole : startsPart (part p ++ rest) ≡ true
   part-whole =
-      let l = length-written-part in
-      let w = part-word in
-      part-starts (part p ++ rest) (omega arith) (omega arith)
+      let l : length (part p ++ rest) ≡ 4 + length p + length rest = unfold part in
+      simp length-append (omega (arith, length-bytesOf 4 (length p))) in
+      part-starts (part p ++ rest) (omega arith) (omega (arith, part-word))
 
   part-read : partAt (part p ++ rest) ≡ p
   unfolding partAt part bytesOf
@@ -49,20 +35,15 @@ module _ (p rest : List ℕ) (proper : ProperPart p) where
   unfolding behind part bytesOf
   behind-read = rw part-word (sym (drop-drop (length p) 4 (part p ++ rest)) ∙ drop-at p rest (length p) refl)
 
-same-entry : {dir dir′ : Direction} {m m′ k k′ r r′ n n′ : ℕ} {l l′ d d′ i i′ o o′ : List ℕ} → dir ≡ dir′ → m ≡ m′ → k ≡ k′ → l ≡ l′
-    → d ≡ d′
-    → i ≡ i′ → r ≡ r′ → n ≡ n′ → o ≡ o′
+pub same-entry : {dir dir′ : Direction} {m m′ k k′ r r′ n n′ : ℕ} {l l′ d d′ i i′ o o′ : List ℕ} → dir ≡ dir′ → m ≡ m′ → k ≡ k′ → l ≡ l′
+    → d ≡ d′ → i ≡ i′ → r ≡ r′ → n ≡ n′ → o ≡ o′
     → _≡_ {A = Entry} (record { direction = dir; mode = m; key = k; label = l; «data» = d; iv = i; room = r; number = n; output = o })
     (record { direction = dir′; mode = m′; key = k′; label = l′; «data» = d′; iv = i′; room = r′; number = n′; output = o′ })
 same-entry a b c d e f g h i = rw (a, b, c, d, e, f, g, h, i)
 
-direction-back : (dir : Direction) → directionOf (directionByte dir) ≡ dir
-direction-back Encrypt = refl
-direction-back Decrypt = refl
-
-direction-byte : (dir : Direction) → leb (directionByte dir) 1 ≡ true
-direction-byte Encrypt = refl
-direction-byte Decrypt = refl
+direction-back : (dir : Direction) → (directionOf (directionByte dir) ≡ dir) × (leb (directionByte dir) 1 ≡ true)
+direction-back Encrypt = (refl, refl)
+direction-back Decrypt = (refl, refl)
 
 module _ (e : Entry) (proper : Proper e) (rest : List ℕ) where
   -- what is behind its head, its label, its data and its IV
@@ -105,38 +86,27 @@ module _ (e : Entry) (proper : Proper e) (rest : List ℕ) where
   after-there : afterRecord whole ≡ rest
   after-there = ap behind output-there ∙ behind-read (e .output) rest (proper .output)
 
-  middle-long : 5 ≤ length on-room
-  unfolding middle bytesOf
-  middle-long = omega arith
-
   stands-there : Stands whole
-  unfolding head bytesOf marked
+  unfolding head middle bytesOf marked
   stands-there =
       record {
         long = omega arith;
-        mark = direction-byte (e .direction);
+        mark = direction-back (e .direction) .1;
         label = rw label-there (part-whole (e .label) on-data (proper .label));
         «data» = rw data-there (part-whole (e .«data») on-iv (proper .«data»));
         iv = rw iv-there (part-whole (e .iv) on-room (proper .iv));
-        middle = rw room-there middle-long;
+        middle = rw room-there (omega arith);
         output = rw output-there (part-whole (e .output) rest (proper .output));
       }
 
-  room-back : wordAt on-room 0 ≡ e .room
-  unfolding middle bytesOf
-  room-back = numberOf-bytesOf 4 (e .room) ∙ mod-eq-of-lt (proper .room)
-
-  number-back : getD on-room 4 0 ≡ e .number
-  unfolding middle bytesOf
-  number-back = refl
-
   front-there : front whole ≡ e
-  unfolding front head bytesOf
+  unfolding front head middle bytesOf
   front-there =
-      same-entry (direction-back (e .direction)) refl (numberOf-bytesOf 2 (e .key) ∙ mod-eq-of-lt (proper .key))
+      same-entry (direction-back (e .direction) .0) refl (numberOf-bytesOf 2 (e .key) ∙ mod-eq-of-lt (proper .key))
       (ap partAt label-there ∙ part-read (e .label) on-data (proper .label))
       (ap partAt data-there ∙ part-read (e .«data») on-iv (proper .«data»)) (ap partAt iv-there ∙ part-read (e .iv) on-room (proper .iv))
-      (ap (λ (l : List ℕ). wordAt l 0) room-there ∙ room-back) (ap (λ (l : List ℕ). getD l 4 0) room-there ∙ number-back)
+      (ap (λ (l : List ℕ). wordAt l 0) room-there ∙ numberOf-bytesOf 4 (e .room) ∙ mod-eq-of-lt (proper .room))
+      (ap (λ (l : List ℕ). getD l 4 0) room-there)
       (ap partAt output-there ∙ part-read (e .output) rest (proper .output))
 
   -- A record that was written stands whole, whatever is behind it; it reads as it was; and its size is its bytes.
@@ -151,100 +121,105 @@ module _ (e : Entry) (proper : Proper e) (rest : List ℕ) where
 
   pub written-size : sizeAt (written e ++ rest) ≡ length (written e)
   written-size =
-      let n = size-is (written e ++ rest) (stands (written e ++ rest) written-starts) in
-      let l = length-append (written e) rest in
-      let k : length (afterRecord (written e ++ rest)) ≡ length rest = ap length written-behind in
-      omega arith
-
--- the bytes at the front, one by one
-front-four : (b : List ℕ) → 4 ≤ length b → getD b 0 0 ∷ getD b 1 0 ∷ getD b 2 0 ∷ getD b 3 0 ∷ [] ≡ take 4 b
-front-four [] h = absurd (omega arith)
-front-four (p ∷ []) h = absurd (omega arith)
-front-four (p ∷ q ∷ []) h = absurd (omega arith)
-front-four (p ∷ q ∷ r ∷ []) h = absurd (omega arith)
-front-four (p ∷ q ∷ r ∷ s ∷ b) h = refl
-
-front-five : (b : List ℕ) → 5 ≤ length b → take 4 b ++ (getD b 4 0 ∷ []) ≡ take 5 b
-front-five [] h = absurd (omega arith)
-front-five (p ∷ []) h = absurd (omega arith)
-front-five (p ∷ q ∷ []) h = absurd (omega arith)
-front-five (p ∷ q ∷ r ∷ []) h = absurd (omega arith)
-front-five (p ∷ q ∷ r ∷ s ∷ []) h = absurd (omega arith)
-front-five (p ∷ q ∷ r ∷ s ∷ t ∷ b) h = refl
-
-front-six : (b : List ℕ) → 6 ≤ length b
-    → getD b 0 0 ∷ getD b 1 0 ∷ getD b 2 0 ∷ getD b 3 0 ∷ getD b 4 0 ∷ getD b 5 0 ∷ [] ≡ take 6 b
-front-six [] h = absurd (omega arith)
-front-six (p ∷ []) h = absurd (omega arith)
-front-six (p ∷ q ∷ []) h = absurd (omega arith)
-front-six (p ∷ q ∷ r ∷ []) h = absurd (omega arith)
-front-six (p ∷ q ∷ r ∷ s ∷ []) h = absurd (omega arith)
-front-six (p ∷ q ∷ r ∷ s ∷ t ∷ []) h = absurd (omega arith)
-front-six (p ∷ q ∷ r ∷ s ∷ t ∷ u ∷ b) h = refl
+      let w = written e ++ rest in
+      omega (arith, size-is w (stands w written-starts), length-append (written e) rest, ap length written-behind)
 
 byte-back : (n : ℕ) → n ≤ 1 → directionByte (directionOf n) ≡ n
 byte-back zero h = refl
 byte-back (suc zero) h = refl
 byte-back (suc (suc n)) h = absurd (omega arith)
 
+-- what is read of bytes is proper, and written again it is what it was read from
 module _ (b : List ℕ) (small : AreBytes b) where
-  pub byte-at : (i : ℕ) → getD b i 0 < 256
-  byte-at i = below-at 256 b (lit< tt) small i
+  at : (i : ℕ) → getD b i 0 < 256
+  at i = below-at 256 b (lit< tt) small i
 
-  word-back : 4 ≤ length b → bytesOf 4 (wordAt b 0) ≡ take 4 b
+  word-fits : wordAt b 0 < 2 ^ 32
+  word-fits = numberOf-lt (getD b 0 0 ∷ getD b 1 0 ∷ getD b 2 0 ∷ getD b 3 0 ∷ []) (at 0, (at 1, (at 2, (at 3, tt))))
+
+  word-back : 4 ≤ length b → bytesOf 4 (wordAt b 0) ++ drop 4 b ≡ b
   word-back h =
-      bytesOf-numberOf (getD b 0 0 ∷ getD b 1 0 ∷ getD b 2 0 ∷ getD b 3 0 ∷ []) (byte-at 0, (byte-at 1, (byte-at 2, (byte-at 3, tt))))
-      ∙ front-four b h
+      rw (
+        bytesOf-numberOf (getD b 0 0 ∷ getD b 1 0 ∷ getD b 2 0 ∷ getD b 3 0 ∷ []) (at 0, (at 1, (at 2, (at 3, tt)))),
+        ← drop-cons b 3 0 (omega arith),
+        ← drop-cons b 2 0 (omega arith),
+        ← drop-cons b 1 0 (omega arith),
+        ← drop-cons b 0 0 (omega arith),
+      )
 
-  -- a part that was read, written again, is what it was read from
+  part-proper : startsPart b ≡ true → ProperPart (partAt b)
+  unfolding partAt
+  part-proper e =
+      let l : length (partAt b) ≡ wordAt b 0 = length-part b e in
+      record { size = omega (arith, word-fits); bytes = below-take 256 (wordAt b 0) (drop 4 b) (below-drop 256 4 b small) }
+
   part-written : startsPart b ≡ true → part (partAt b) ++ behind b ≡ b
   unfolding part partAt behind
   part-written e =
-      let n : length (partAt b) ≡ wordAt b 0 = length-part b e in
-      ap (λ (k : ℕ). (bytesOf 4 k ++ take (wordAt b 0) (drop 4 b)) ++ drop (4 + wordAt b 0) b) n
-      ∙ ap (λ (l : List ℕ). (l ++ take (wordAt b 0) (drop 4 b)) ++ drop (4 + wordAt b 0) b) (word-back (part-long b e))
-      ∙ ap (λ (l : List ℕ). l ++ drop (4 + wordAt b 0) b) (sym (take-add 4 (wordAt b 0) b))
-      ∙ take-append-drop (4 + wordAt b 0) b
+      rw (length-part b e, append-assoc, ← drop-drop (wordAt b 0) 4 b, take-append-drop (wordAt b 0) (drop 4 b)) (word-back (part-long b e))
 
-  middle-written : 5 ≤ length b → (bytesOf 4 (wordAt b 0) ++ (getD b 4 0 ∷ [])) ++ drop 5 b ≡ b
-  middle-written h =
-      ap (λ (l : List ℕ). (l ++ (getD b 4 0 ∷ [])) ++ drop 5 b) (word-back (omega arith))
-      ∙ ap (λ (l : List ℕ). l ++ drop 5 b) (front-five b h) ∙ take-append-drop 5 b
+  middle-written : 5 ≤ length b → bytesOf 4 (wordAt b 0) ++ (getD b 4 0 ∷ drop 5 b) ≡ b
+  middle-written h = rw (← drop-cons b 4 0 h) (word-back (omega arith))
 
   head-written : 6 ≤ length b → marked b ≡ true → head (front b) ++ drop 6 b ≡ b
   unfolding head front marked
   head-written h m =
-      let first = eqb-true (getD b 0 0) 0x54 (and-left _ _ m) in
       let m₂ = and-right (eqb (getD b 0 0) 0x54) _ m in
-      let second = eqb-true (getD b 1 0) 0x52 (and-left _ _ m₂) in
-      let third = byte-back (getD b 2 0) (leb-true (getD b 2 0) 1 (and-right (eqb (getD b 1 0) 0x52) _ m₂)) in
-      let two = bytesOf-numberOf (getD b 4 0 ∷ getD b 5 0 ∷ []) (byte-at 4, (byte-at 5, tt)) in
-      rw (third, two)
-      (ap₂ (λ (x y : ℕ). (x ∷ y ∷ getD b 2 0 ∷ getD b 3 0 ∷ getD b 4 0 ∷ getD b 5 0 ∷ []) ++ drop 6 b) (sym first) (sym second)
-      ∙ ap (λ (l : List ℕ). l ++ drop 6 b) (front-six b h) ∙ take-append-drop 6 b)
+      rw (
+        byte-back (getD b 2 0) (leb-true (getD b 2 0) 1 (and-right (eqb (getD b 1 0) 0x52) _ m₂)),
+        bytesOf-numberOf (getD b 4 0 ∷ getD b 5 0 ∷ []) (at 4, (at 5, tt)),
+        ← drop-cons b 5 0 h,
+        ← drop-cons b 4 0 (omega arith),
+        ← drop-cons b 3 0 (omega arith),
+        ← drop-cons b 2 0 (omega arith),
+      )
+      (sym (drop-cons b 0 0 (omega arith)
+      ∙ rw (drop-cons b 1 0 (omega arith), eqb-true (getD b 0 0) 0x54 (and-left _ _ m), eqb-true (getD b 1 0) 0x52 (and-left _ _ m₂))))
 
-  pub behind-bytes : AreBytes (behind b)
+  behind-bytes : AreBytes (behind b)
   unfolding behind
   behind-bytes = below-drop 256 (4 + wordAt b 0) b small
 
--- The record that is read, written again, is what it was read from.
-pub front-written : (b : List ℕ) → AreBytes b → Stands b → written (front b) ++ afterRecord b ≡ b
-unfolding written front partAt middle bytesOf
-front-written b small s =
-    let label = below-drop 256 6 b small in
-    let «data» = behind-bytes (fromLabel b) label in
-    let iv = behind-bytes (fromData b) «data» in
-    let room = behind-bytes (fromIv b) iv in
-    let output = below-drop 256 5 (fromRoom b) room in
-    let from-output = part-written (fromOutput b) output (s .output) in
-    let from-room = ap (λ (l : List ℕ). (bytesOf 4 (wordAt (fromRoom b) 0) ++ (getD (fromRoom b) 4 0 ∷ [])) ++ l) from-output
-    ∙ middle-written (fromRoom b) room (s .middle) in
-    let from-iv = ap (λ (l : List ℕ). part (partAt (fromIv b)) ++ l) from-room ∙ part-written (fromIv b) iv (s .iv) in
-    let from-data = ap (λ (l : List ℕ). part (partAt (fromData b)) ++ l) from-iv ∙ part-written (fromData b) «data» (s .«data») in
-    let from-label = ap (λ (l : List ℕ). part (partAt (fromLabel b)) ++ l) from-data ∙ part-written (fromLabel b) label (s .label) in
-    joined from-label
-  where
-    joined : part (front b .label) ++
-        (part (front b .«data») ++ (part (front b .iv) ++ (middle (front b) ++ (part (front b .output) ++ afterRecord b)))) ≡ fromLabel b
-        → written (front b) ++ afterRecord b ≡ b
-    joined e = simp append-assoc (ap (λ (l : List ℕ). head (front b) ++ l) e ∙ head-written b small (s .long) (s .mark))
+module _ (b : List ℕ) (small : AreBytes b) (s : Stands b) where
+  label-bytes : AreBytes (fromLabel b)
+  label-bytes = below-drop 256 6 b small
+
+  data-bytes : AreBytes (fromData b)
+  data-bytes = behind-bytes (fromLabel b) label-bytes
+
+  iv-bytes : AreBytes (fromIv b)
+  iv-bytes = behind-bytes (fromData b) data-bytes
+
+  room-bytes : AreBytes (fromRoom b)
+  room-bytes = behind-bytes (fromIv b) iv-bytes
+
+  output-bytes : AreBytes (fromOutput b)
+  output-bytes = below-drop 256 5 (fromRoom b) room-bytes
+
+  pub front-proper : Proper (front b)
+  unfolding front
+  front-proper =
+      record {
+        mode = at b small 3;
+        key = numberOf-lt (getD b 4 0 ∷ getD b 5 0 ∷ []) (at b small 4, (at b small 5, tt));
+        label = part-proper (fromLabel b) label-bytes (s .label);
+        «data» = part-proper (fromData b) data-bytes (s .«data»);
+        iv = part-proper (fromIv b) iv-bytes (s .iv);
+        room = word-fits (fromRoom b) room-bytes;
+        number = at (fromRoom b) room-bytes 4;
+        output = part-proper (fromOutput b) output-bytes (s .output);
+      }
+
+  -- The record that is read, written again, is what it was read from.
+  pub front-written : written (front b) ++ afterRecord b ≡ b
+  unfolding written front middle
+  front-written =
+      simp append-assoc
+      (rw (
+        part-written (fromOutput b) output-bytes (s .output),
+        middle-written (fromRoom b) room-bytes (s .middle),
+        part-written (fromIv b) iv-bytes (s .iv),
+        part-written (fromData b) data-bytes (s .«data»),
+        part-written (fromLabel b) label-bytes (s .label),
+      )
+      (head-written b small (s .long) (s .mark)))

@@ -1,18 +1,12 @@
 -- No count passes the place that a replay has come to, so no sum wraps.
--- Assumes nothing.
-use mathlib.Core.Path.{_≡_, refl}
-use mathlib.Core.Bool.{Bool, true, false, cond}
-use mathlib.Core.List.{List, [], _∷_}
-use Prim.Native.Nat.{ℕ, zero, suc, _+_, _≤_, _<_}
-use native.Mathlib.Omega.{arith}
-use lib.Dec.{ltb, lit<}
-use lib.ListN.{length, getD, set}
-use borrow.Author.Tests.{ltb-false}
+use Rattle.block.proofs.Base.{_+_, _<_, _≤_, suc, zero, ℕ, _≡_, List, [], _∷_, arith, ltb-false, lit<, ltb, getD, length, set}
 use Rattle.block.specs.Below.{Below}
 use Rattle.block.proofs.Entries.{below-at, below-replicate}
 use Rattle.journal.specs.Format.{Entry}
+use Rattle.journal.proofs.Cases.{by-test}
 use Rattle.journal.specs.Reports.{nothing, oneMore, modePlace, counted, Within}
 use Rattle.journal.specs.declared.again.Recomputed.{Recomputed}
+use Rattle.journal.specs.declared.report.Difference.{Difference}
 use Rattle.journal.specs.declared.report.Report.{Report}
 
 below-more : (n m : ℕ) (l : List ℕ) → n ≤ m → Below n l → Below m l
@@ -29,12 +23,8 @@ one-more-below n m i l h b =
     let x = below-at (suc n) l (omega arith) b i in
     below-set (suc m) i (getD l i 0 + 1) l (omega arith) (below-more (suc n) (suc m) l (omega arith) b)
 
-mode-by : (n : ℕ) (t : Bool) → ltb 4 n ≡ t → cond t 5 n < 6
-mode-by n true e = omega arith
-mode-by n false e = omega (arith, ltb-false 4 n e)
-
 pub mode-below-6 : (n : ℕ) → modePlace n < 6
-mode-below-6 n = mode-by n (ltb 4 n) refl
+mode-below-6 n = by-test (ltb 4 n) (λ e. rw e (omega arith)) (λ e. rw e (omega (arith, ltb-false 4 n e)))
 
 pub within-nothing : Within 0 nothing
 within-nothing =
@@ -45,6 +35,12 @@ within-nothing =
       bytesIn = omega arith;
       bytesOut = omega arith;
     }
+
+-- reports are equal by their fields
+pub same-report : {n n′ i i′ o o′ : ℕ} {m m′ a a′ : List ℕ} {d d′ : Difference} → n ≡ n′ → m ≡ m′ → a ≡ a′ → i ≡ i′ → o ≡ o′ → d ≡ d′
+    → _≡_ {A = Report} (record { records = n; «by_mode» = m; «by_answer» = a; «bytes_in» = i; «bytes_out» = o; first = d })
+    (record { records = n′; «by_mode» = m′; «by_answer» = a′; «bytes_in» = i′; «bytes_out» = o′; first = d′ })
+same-report a b c d e f = rw (a, b, c, d, e, f)
 
 -- one more record, of so many bytes
 pub within-counted : (e : Entry) (x : Recomputed) (place size : ℕ) (r : Report) → Within place r → 27 + length (e .«data») ≤ size

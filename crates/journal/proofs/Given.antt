@@ -1,14 +1,7 @@
 -- What a call gives does not depend on the output that it is lent: a report, and bytes that stand over the output's front. Of data
 -- within the limits these are at most 16 bytes more than the data has.
--- Assumes nothing.
-use mathlib.Core.Path.{_≡_, refl, sym, ap}
-use mathlib.Core.Bool.{Bool, true, false, _&&_, cond}
-use mathlib.Core.List.{List, []}
-use Prim.Native.Nat.{ℕ, _+_, _-_, _≤_, _<_}
-use native.Mathlib.Omega.{arith}
-use lib.Dec.{eqb}
-use lib.ListN.{length, take}
-use lib.Seq.{length-take-le}
+use Rattle.block.proofs.Base.{_+_, _-_, _<_, _≤_, ℕ, _∙_, _≡_, ap, refl, sym, Bool, _&&_, cond, false, true, List, [], arith, eqb, lit<}
+use Rattle.block.proofs.Base.{length, take, length-take-le}
 use Rattle.counter.specs.CameRound.{blocksOf, ctrCameRound}
 use Rattle.walk.specs.Outcome.{Head, Outcome, finished, refusal, under, telling, leaving, keyed, reporting, refuse, written, done}
 use Rattle.walk.specs.Walk.{chain, over}
@@ -67,43 +60,40 @@ gives-written : (most : ℕ) (h : Head) (p : List ℕ) → h .number < 27 → h 
 gives-written most h p k l m =
     record { head = h; front = take (h .size) p; known = k; sized = length-take-le (h .size) p l; fits = m; leaves = λ o. refl }
 
-gives-reporting : (most : ℕ) (b : Bool) (f : List ℕ → Outcome) → Gives most f → Gives most (λ o. reporting b (f o))
-gives-reporting most b f g =
+-- the same with another report of the same number and size
+gives-told : (most : ℕ) (u : Head → Head) → ((h : Head) → u h .number ≡ h .number) → ((h : Head) → u h .size ≡ h .size)
+    → (f : List ℕ → Outcome) → Gives most f → Gives most (λ o. leaving (u (f o .head)) (f o .bytes))
+gives-told most u n s f g =
     record {
-      head = telling (eqb (g .head .number) 0 && b) (g .head);
+      head = u (g .head);
       front = g .front;
-      known = g .known;
-      sized = g .sized;
-      fits = g .fits;
-      leaves = λ o. ap {B = Outcome} (reporting b) (g .leaves o);
+      known = rw (n (g .head)) (g .known);
+      sized = g .sized ∙ sym (s (g .head));
+      fits = rw (s (g .head)) (g .fits);
+      leaves = λ o. ap {B = Outcome} (λ (x : Outcome). leaving (u (x .head)) (x .bytes)) (g .leaves o);
     }
+
+gives-reporting : (most : ℕ) (b : Bool) (f : List ℕ → Outcome) → Gives most f → Gives most (λ o. reporting b (f o))
+gives-reporting most b = gives-told most (λ h. telling (eqb (h .number) 0 && b) h) (λ h. refl) (λ h. refl)
 
 gives-keyed : (most k : ℕ) (f : List ℕ → Outcome) → Gives most f → Gives most (λ o. keyed k (f o))
-gives-keyed most k f g =
-    record {
-      head = under k (g .head);
-      front = g .front;
-      known = g .known;
-      sized = g .sized;
-      fits = g .fits;
-      leaves = λ o. ap {B = Outcome} (keyed k) (g .leaves o);
-    }
+gives-keyed most k = gives-told most (under k) (λ h. refl) (λ h. refl)
 
 refusal-known : (r : Refusal) → refusalHead r .number < 27
-refusal-known ErrorBlockSize = omega arith
-refusal-known ErrorDataLen = omega arith
-refusal-known BadLast = omega arith
-refusal-known InvalidTag = omega arith
-refusal-known TooLong = omega arith
-refusal-known NoRoom = omega arith
-refusal-known EmptyCbc = omega arith
-refusal-known (ShortGcm n) = omega arith
-refusal-known WrongIv = omega arith
-refusal-known WrongBlock = omega arith
-refusal-known Ended = omega arith
-refusal-known WrongNumber = omega arith
-refusal-known Retired = omega arith
-refusal-known BadPadding = omega arith
+refusal-known ErrorBlockSize = lit< tt
+refusal-known ErrorDataLen = lit< tt
+refusal-known BadLast = lit< tt
+refusal-known InvalidTag = lit< tt
+refusal-known TooLong = lit< tt
+refusal-known NoRoom = lit< tt
+refusal-known EmptyCbc = lit< tt
+refusal-known (ShortGcm n) = lit< tt
+refusal-known WrongIv = lit< tt
+refusal-known WrongBlock = lit< tt
+refusal-known Ended = lit< tt
+refusal-known WrongNumber = lit< tt
+refusal-known Retired = lit< tt
+refusal-known BadPadding = lit< tt
 
 -- an opened Cbc message: its padding is no longer than it
 cbc-opened : (most : ℕ) (p : List ℕ) (u : Cbc·Opened) → unpadded p ≡ u → length p ≤ most → Gives most (λ o. written (cbcHead u) p o)
@@ -122,7 +112,7 @@ gcm-opened most p n false e h = gives-written most (refusal 4) p (omega arith) (
 streams : (k : Kind) (rk s d : List ℕ) → Gives (length d) (λ o. done (chain (streamMode k rk) s d) o)
 streams k rk s d = let l = length-stream k rk s d in gives-done (length d) (chain (streamMode k rk) s d) (omega arith)
 
--- what is in order gives no more than document 01's table says
+-- what is in order gives no more than the table of lengths says
 mode-gives : (m : CipherMode) (dir : Direction) (rk aad d iv : List ℕ) → wrongIv m (length iv) ≡ false → dataCheck dir m (length d) ≡ Passed
     → Gives (roomOf m dir (length d)) (λ o. modeResult m dir rk aad d iv o)
 unfolding cbcOpen gcmOpen settled

@@ -1,30 +1,93 @@
--- The report of two journals joined is their reports added, where the first is replayed to its end.
--- Assumes nothing.
-use mathlib.Core.Path.{_≡_, refl, sym, ap, _∙_}
-use mathlib.Core.Bool.{Bool, true, false}
-use mathlib.Core.List.{List, [], _∷_, _++_}
-use Prim.Native.Nat.{ℕ, zero, suc, _+_, _≤_, _<_}
-use native.Mathlib.Omega.{arith}
-use lib.Dec.{eqb}
-use lib.ListN.{length, drop, length-drop, length-append}
-use lib.Seq.{drop-append-le}
-use borrow.Author.Tests.{eqb-true, eqb-false}
-use Rattle.walk.proofs.Loop.{tailed, tail-is}
+-- The report of two journals joined is their reports added, where the first is replayed to its end: what a journal adds to a report does not
+-- depend on the report.
+use Rattle.block.proofs.Base.{_+_, _<_, suc, zero, ℕ, _∙_, _≡_, ap, refl, sym, Bool, cond, false, true, List, [], _++_, _∷_, arith, drop}
+use Rattle.block.proofs.Base.{length, length-drop, replicate, drop-append-le}
 use Rattle.cipher_mode.specs.declared.Sm4Cipher.{Sm4Cipher}
-use Rattle.journal.specs.Format.{sizeAt}
-use Rattle.journal.specs.KeyList.{keysIn, badKeys}
-use Rattle.journal.specs.Reports.{nothing}
-use Rattle.journal.specs.Replay.{numberOfEnd, refuse, replayOne, replayFrom, replay}
-use Rattle.journal.specs.Joined.{behindReport}
-use Rattle.journal.specs.declared.keys.Keys.{Keys}
+use Rattle.walk.proofs.Loop.{tailed, tail-is}
+use Rattle.journal.specs.Format.{Entry, sizeAt, front}
+use Rattle.journal.specs.KeyList.{keyOf, keysIn, badKeys}
+use Rattle.journal.specs.Recomputed.{recomputed, judged}
+use Rattle.journal.specs.Reports.{nothing, oneMore, modePlace, firstOf, counted, AddsUp}
+use Rattle.journal.specs.Replay.{replayFrom, numberOfEnd, countedUnder, replayOne, replay}
+use Rattle.journal.specs.Joined.{sums, earlier, added, behindReport}
+use Rattle.journal.specs.declared.again.Recomputed.{Recomputed}
+use Rattle.journal.specs.declared.report.Difference.{Difference}
 use Rattle.journal.specs.declared.report.Report.{Report}
-use Rattle.journal.specs.declared.Ended.the-variants.{BadKeys}
+use Rattle.journal.specs.declared.keys.Keys.{Keys}
 use Rattle.journal.specs.declared.Replayed.{Replayed}
-use Rattle.journal.proofs.Standing.{Stands, starts, size-within, data-within}
-use Rattle.journal.proofs.Replaying.{one-stands, from-end, from-stop, from-on}
+use Rattle.journal.proofs.Lent.{recomputed-known}
+use Rattle.journal.proofs.Counting.{same-report, mode-below-6}
+use Rattle.journal.proofs.Sums.{adds-counted, replay-adds-up, adds-nothing}
+use Rattle.journal.proofs.Cases.{by-test}
+use Rattle.journal.proofs.Replaying.{from-end, from-bad, from-long, from-unknown, from-on, by-replay, Passes, counts, passed}
+use Rattle.journal.proofs.Replaying.{from-start}
+use Rattle.journal.proofs.Standing.{Stands, stands, starts, size-within}
 use Rattle.journal.proofs.Appended.{starts-on, front-on, size-on}
-use Rattle.journal.proofs.Sums.{replay-adds-up, adds-nothing}
-use Rattle.journal.proofs.Adding.{added-none, upto-added}
+
+sums-more : (a b : List ℕ) (i : ℕ) → i < length a → i < length b → sums a (oneMore i b) ≡ oneMore i (sums a b)
+unfolding sums
+sums-more [] b i h k = absurd (omega arith)
+sums-more (x ∷ a) [] i h k = absurd (omega arith)
+sums-more (x ∷ a) (y ∷ b) zero h k = let e : x + (y + 1) ≡ x + y + 1 = omega arith in rw e
+sums-more (x ∷ a) (y ∷ b) (suc i) h k = ap (λ (l : List ℕ). (x + y) ∷ l) (sums-more a b i (omega arith) (omega arith))
+
+sums-none : (a : List ℕ) → sums a (replicate (length a) 0) ≡ a
+unfolding sums
+sums-none [] = refl
+sums-none (x ∷ a) = let e : x + 0 ≡ x = omega arith in rw (e, sums-none a)
+
+-- the first difference of the two, where the record at a place of the second differs or does not
+first-added : (t : Bool) (d e : Difference) (n m p place : ℕ)
+    → firstOf t (n + m) (p + place) (earlier d n p e) ≡ earlier d n p (firstOf t m place e)
+first-added t d e n m p place =
+    by-test (d .found) (λ f. rw f)
+    (λ f. by-test (e .found) (λ g. rw (f, g)) (λ g. by-test t (λ h. rw (f, g, h)) (λ h. rw (f, g, h))))
+
+pub either-way : (t : Bool) (d : Difference) → cond t d d ≡ d
+either-way true d = refl
+either-way false d = refl
+
+module _ (p : ℕ) (r : Report) (adds : AddsUp r) where
+  pub added-none : added p r nothing ≡ r
+  unfolding added
+  added-none =
+      let m : sums (r .«by_mode») (replicate 6 0) ≡ r .«by_mode» = ap (λ (n : ℕ). sums (r .«by_mode») (replicate n 0)) (sym (adds .modes))
+      ∙ sums-none (r .«by_mode») in
+      let a : sums (r .«by_answer») (replicate 32 0) ≡ r .«by_answer» = ap (λ (n : ℕ). sums (r .«by_answer») (replicate n 0))
+      (sym (adds .answers)) ∙ sums-none (r .«by_answer») in
+      same-report (omega arith) m a (omega arith) (omega arith) (either-way (r .first .found) (r .first))
+
+  added-counted : (e : Entry) (x : Recomputed) (place : ℕ) (s : Report) → AddsUp s → x .number < 27
+      → counted e x (p + place) (added p r s) ≡ added p r (counted e x place s)
+  unfolding added counted
+  added-counted e x place s like known =
+      let m = mode-below-6 (e .mode) in
+      let a = adds .modes in
+      let b = like .modes in
+      let c = adds .answers in
+      let d = like .answers in
+      same-report (omega arith) (sym (sums-more (r .«by_mode») (s .«by_mode») (modePlace (e .mode)) (omega arith) (omega arith)))
+      (sym (sums-more (r .«by_answer») (s .«by_answer») (x .number) (omega arith) (omega arith))) (omega arith) (omega arith)
+      (first-added (x .differs) (r .first) (s .first) (r .records) (s .records) p place)
+
+  pub from-added : (ks : List Sm4Cipher) (b : List ℕ) (place : ℕ) (s : Report) → AddsUp s
+      → replayFrom ks b (p + place) (added p r s) ≡ behindReport p r (replayFrom ks b place s)
+  unfolding behindReport
+  from-added ks =
+      by-replay ks (λ b place s x. AddsUp s → replayFrom ks b (p + place) (added p r s) ≡ behindReport p r x)
+      (λ b place s e like. from-end ks b (p + place) (added p r s) e) (λ b place s h e like. from-bad ks b (p + place) (added p r s) h e)
+      (λ b place s e t like. from-long ks b (p + place) (added p r s) e t)
+      (λ b place s e t n like. from-unknown ks b (p + place) (added p r s) e t n)
+      (λ b place s x q more like.
+      let e : p + place + sizeAt b ≡ p + (place + sizeAt b) = omega arith in
+      let c = keyOf (front b .key) ks in
+      let known = recomputed-known c (front b) in
+      from-on ks b (p + place) (added p r s) q
+      ∙ rw (e, added-counted (front b) (judged (front b) (recomputed c (front b))) place s like known) (more (adds-counted ks (front b) place s like)))
+
+nil-of : (a : List ℕ) → length a ≡ 0 → a ≡ []
+nil-of [] h = refl
+nil-of (x ∷ a) h = absurd (omega arith)
 
 module _ (ks : List Sm4Cipher) (b : List ℕ) where
   -- a record that stands whole is replayed the same, whatever is behind it
@@ -32,98 +95,48 @@ module _ (ks : List Sm4Cipher) (b : List ℕ) where
   unfolding replayOne
   one-appended a place r s = rw (starts-on b a s, front-on b a s, starts a s)
 
-  -- the record in front was counted, and what is behind it goes on
-  module _ (a : List ℕ) (place : ℕ) (r : Report) (some : 0 < length a) (z : numberOfEnd (replayOne ks a place r .ended) ≡ 0) where
-    abbrev behind : List ℕ
-    behind = drop (sizeAt a) a
+  -- a journal can be replayed a part at a time
+  first-on : (a : List ℕ) (place : ℕ) (r : Report) → Passes ks a
+      → replayFrom ks (a ++ b) place r ≡ replayFrom ks (drop (sizeAt a) a ++ b) (place + sizeAt a) (countedUnder ks (front a) place r)
+  first-on a place r p =
+      let s = stands a (p .0) in
+      let f = front-on b a s in
+      from-on ks (a ++ b) place r (starts-on b a s, rw f (p .1), rw f (p .2))
+      ∙ rw (f, size-on b a s, drop-append-le (sizeAt a) a b (size-within a s))
 
-    abbrev so-far : Report
-    so-far = replayOne ks a place r .report
-
-    -- a journal can be replayed a part at a time
-    first-on : replayFrom ks (a ++ b) place r ≡ replayFrom ks (behind ++ b) (place + sizeAt a) so-far
-    first-on =
-        let s = one-stands ks a place r z in
-        let l = length-append a b in
-        from-on ks (a ++ b) place r (omega arith) (rw (one-appended a place r s) z)
-        ∙ rw (one-appended a place r s, size-on b a s, drop-append-le (sizeAt a) a b (size-within a s))
-
-    -- a turn: the record was measured and replayed; what is to come is written as the borrow checker has it
-    pub turn-followed : (n : ℕ) (one : Replayed) → n ≡ sizeAt a → one ≡ replayOne ks a place r
-        → replayFrom ks (tailed n a ++ b) (place + n) (one .report) ≡ replayFrom ks (a ++ b) place r
-    turn-followed n one size replayed = rw (tail-is a n, size, replayed) (sym first-on)
-
-    rest-on : replayFrom ks b (place + sizeAt a + length behind) (replayFrom ks behind (place + sizeAt a) so-far .report)
-        ≡ replayFrom ks b (place + length a) (replayFrom ks a place r .report)
-    rest-on =
-        let s = one-stands ks a place r z in
-        let w = size-within a s in
-        let l = length-drop (sizeAt a) a in
-        let e : place + sizeAt a + length behind ≡ place + length a = omega arith in
-        rw (e, from-on ks a place r some z)
-
-    ends-alike : numberOfEnd (replayFrom ks a place r .ended) ≡ 0 → numberOfEnd (replayFrom ks behind (place + sizeAt a) so-far .ended) ≡ 0
-    ends-alike w = rw (← from-on ks a place r some z) w
-
-    shorter : (n : ℕ) → length a ≤ suc n → length behind ≤ n
-    shorter n h =
-        let s = one-stands ks a place r z in
-        let d = data-within a s in
-        omega (arith, length-drop (sizeAt a) a)
+  -- a turn: the record was measured and replayed; what is to come is written as the borrow checker has it
+  pub turn-followed : (a : List ℕ) (place : ℕ) (r : Report) → 0 < length a → numberOfEnd (replayOne ks a place r .ended) ≡ 0
+      → (n : ℕ) (one : Replayed) → n ≡ sizeAt a → one ≡ replayOne ks a place r
+      → replayFrom ks (tailed n a ++ b) (place + n) (one .report) ≡ replayFrom ks (a ++ b) place r
+  turn-followed a place r some z n one size replayed =
+      let p = passed ks a place r z in
+      rw (tail-is a n, size, replayed, ← counts ks a place r p) (sym (first-on a place r p))
 
   -- a journal that is replayed to its end leaves its report to what is behind it
-  abbrev GoesOn : List ℕ → ℕ → Report → Type 0
-  GoesOn a place r = replayFrom ks (a ++ b) place r ≡ replayFrom ks b (place + length a) (replayFrom ks a place r .report)
-
-  goes-by : (t : Bool) (n : ℕ) (a : List ℕ) (place : ℕ) (r : Report)
-      → ((a : List ℕ) (place : ℕ) (r : Report) → length a ≤ n → numberOfEnd (replayFrom ks a place r .ended) ≡ 0 → GoesOn a place r)
-      → 0 < length a → length a ≤ suc n → numberOfEnd (replayFrom ks a place r .ended) ≡ 0
-      → eqb (numberOfEnd (replayOne ks a place r .ended)) 0 ≡ t → GoesOn a place r
-  goes-by true n a place r before some h w e =
-      let z = eqb-true (numberOfEnd (replayOne ks a place r .ended)) 0 e in
-      first-on a place r some z
-      ∙ before (drop (sizeAt a) a) (place + sizeAt a) (replayOne ks a place r .report) (shorter a place r some z n h)
-      (ends-alike a place r some z w)
-      ∙ rest-on a place r some z
-  goes-by false n a place r before some h w e =
-      let f : numberOfEnd (replayOne ks a place r .ended) ≡ 0 → ⊥ = eqb-false (numberOfEnd (replayOne ks a place r .ended)) 0 e in
-      absurd (f (rw (from-stop ks a place r some f) at w))
-
-  nothing-left : (place : ℕ) (r : Report) → GoesOn [] place r
-  nothing-left place r =
-      let e : place ≡ place + 0 = omega arith in
-      ap {B = Replayed} (λ (i : ℕ). replayFrom ks b i r) e
-      ∙ sym (ap {B = Replayed} (λ (x : Replayed). replayFrom ks b (place + 0) (x .report)) (from-end ks [] place r refl))
-
-  goes-on : (n : ℕ) (a : List ℕ) (place : ℕ) (r : Report) → length a ≤ n → numberOfEnd (replayFrom ks a place r .ended) ≡ 0
-      → GoesOn a place r
-  goes-on zero [] place r h w = nothing-left place r
-  goes-on zero (x ∷ a) place r h w = absurd (omega arith)
-  goes-on (suc n) [] place r h w = nothing-left place r
-  goes-on (suc n) (x ∷ a) place r h w =
-      goes-by (eqb (numberOfEnd (replayOne ks (x ∷ a) place r .ended)) 0) n (x ∷ a) place r (λ a place r h w. goes-on n a place r h w)
-      (omega arith) h w refl
-
--- where it ends with 0 the keys are good
-good-by : (t : Bool) (k : Keys) (x : Replayed) → numberOfEnd (refuse t BadKeys 0 nothing x .ended) ≡ 0 → t ≡ false
-good-by true k x e = absurd (omega arith)
-good-by false k x e = refl
+  goes-on : (a : List ℕ) (place : ℕ) (r : Report) → numberOfEnd (replayFrom ks a place r .ended) ≡ 0
+      → replayFrom ks (a ++ b) place r ≡ replayFrom ks b (place + length a) (replayFrom ks a place r .report)
+  goes-on =
+      by-replay ks
+      (λ a place r x. numberOfEnd (x .ended) ≡ 0 → replayFrom ks (a ++ b) place r ≡ replayFrom ks b (place + length a) (x .report))
+      (λ a place r h w. let e : place + 0 ≡ place = omega arith in rw (nil-of a h, e)) (λ a place r h s w. absurd (omega arith))
+      (λ a place r s t w. absurd (omega arith)) (λ a place r s t n w. absurd (omega arith))
+      (λ a place r x p more w.
+      let e : place + sizeAt a + length (drop (sizeAt a) a) ≡ place + length a =
+      omega (arith, size-within a (stands a (p .0)), length-drop (sizeAt a) a) in
+      first-on a place r p ∙ more w ∙ rw e)
 
 module _ (k : Keys) (a b : List ℕ) (whole : numberOfEnd (replay k a .ended) ≡ 0) where
+  -- where it ends with 0 the keys are good
   good : badKeys k ≡ false
   unfolding replay
-  good = good-by (badKeys k) k (replayFrom (keysIn k) a 0 nothing) whole
-
-  from-start : (j : List ℕ) → replay k j ≡ replayFrom (keysIn k) j 0 nothing
-  unfolding replay
-  from-start j = rw good
+  good = by-test (badKeys k) (λ e. absurd (omega (arith, rw e at whole))) (λ e. e)
 
   pub joined : replay k (a ++ b) ≡ behindReport (length a) (replay k a .report) (replay k b)
   joined =
       let r = replay k a .report in
       let adds = replay-adds-up k a in
       let e : 0 + length a ≡ length a + 0 = omega arith in
-      from-start (a ++ b) ∙ goes-on (keysIn k) b (length a) a 0 nothing (omega arith) (rw (from-start a) at whole)
-      ∙ rw (← from-start a, e, from-start b)
+      from-start k (a ++ b) good ∙ goes-on (keysIn k) b a 0 nothing (rw (from-start k a good) at whole)
+      ∙ rw (← from-start k a good, e, from-start k b good)
       (ap {B = Replayed} (λ (s : Report). replayFrom (keysIn k) b (length a + 0) s) (sym (added-none (length a) r adds))
-      ∙ upto-added (length a) r adds (keysIn k) (length b) b 0 nothing adds-nothing)
+      ∙ from-added (length a) r adds (keysIn k) b 0 nothing adds-nothing)

@@ -1,21 +1,12 @@
 -- The keys are looked at one after another.
--- Assumes nothing.
-use mathlib.Core.Path.{_≡_, refl, sym, _∙_}
-use mathlib.Core.Bool.{false, _||_, cond}
-use mathlib.Core.List.{List, [], _∷_}
-use Prim.Native.Nat.{ℕ, zero, suc, _+_, _≤_, _<_}
-use native.Mathlib.Omega.{arith}
-use native.Mathlib.Numerals.{add-one}
-use lib.Dec.{eqb, ltb}
-use lib.ListN.{length, getD, drop, drop-of-length-le}
-use lib.Seq.{drop-cons, getD-take, length-take-le}
-use borrow.Author.Tests.{ltb-false}
+use Rattle.block.proofs.Base.{_+_, _<_, _≤_, suc, zero, ℕ, _∙_, _≡_, refl, sym, false, List, [], _∷_, add-one, arith, ltb-false, ltb, drop}
+use Rattle.block.proofs.Base.{getD, length, drop-cons, getD-take, length-take-le}
 use Rattle.cipher_mode.specs.declared.KeyAnswer.the-variants.{ErrorBlockSize}
 use Rattle.cipher_mode.specs.declared.Sm4Cipher.{Sm4Cipher}
-use Rattle.cipher_mode.specs.Key.{noCipher, keyNumber}
+use Rattle.cipher_mode.specs.Key.{noCipher}
 use Rattle.journal.specs.declared.keys.Keys.{Keys}
-use Rattle.journal.proofs.Limits.{neither}
-use Rattle.journal.specs.KeyList.{keysIn, placeOf, hasNumber, keyAt, anyRetired, numberTwice, badKeys}
+use Rattle.journal.proofs.Cases.{neither}
+use Rattle.journal.specs.KeyList.{keysIn, keyAt, badKeys}
 
 -- inside a list no default counts
 same-inside : (cs : List Sm4Cipher) (i : ℕ) (c d : Sm4Cipher) → i < length cs → getD cs i c ≡ getD cs i d
@@ -31,35 +22,8 @@ key-lent k i d l h n =
 pub count-keys : (k : Keys) → length (k .keys) ≡ 8 → k .count ≤ 8 → length (keysIn k) ≡ k .count
 count-keys k l n = length-take-le (k .count) (k .keys) (omega arith)
 
-module _ (cs : List Sm4Cipher) (i : ℕ) where
-  module _ (inside : i < length cs) where
-    next : drop i cs ≡ keyAt cs i ∷ drop (i + 1) cs
-    next = rw (add-one i) (drop-cons cs i (noCipher ErrorBlockSize) inside)
-
-    pub place-turn : (n : ℕ) → placeOf n (drop i cs) ≡ cond (eqb (keyNumber (keyAt cs i)) n) 0 (1 + placeOf n (drop (i + 1) cs))
-    unfolding placeOf
-    place-turn n = rw next
-
-    pub retired-turn : anyRetired (drop i cs) ≡ keyAt cs i .retired || anyRetired (drop (i + 1) cs)
-    unfolding anyRetired
-    retired-turn = rw next
-
-    pub twice-turn : numberTwice (drop i cs) ≡ hasNumber (keyNumber (keyAt cs i)) (drop (i + 1) cs) || numberTwice (drop (i + 1) cs)
-    unfolding numberTwice
-    twice-turn = rw next
-
-  module _ (past : length cs ≤ i) where
-    pub place-end : (n : ℕ) → placeOf n (drop i cs) ≡ 0
-    unfolding placeOf
-    place-end n = rw (drop-of-length-le cs past)
-
-    pub retired-end : anyRetired (drop i cs) ≡ false
-    unfolding anyRetired
-    retired-end = rw (drop-of-length-le cs past)
-
-    pub twice-end : numberTwice (drop i cs) ≡ false
-    unfolding numberTwice
-    twice-end = rw (drop-of-length-le cs past)
+pub next-key : (cs : List Sm4Cipher) (i : ℕ) → i < length cs → drop i cs ≡ keyAt cs i ∷ drop (i + 1) cs
+next-key cs i h = rw (add-one i) (drop-cons cs i (noCipher ErrorBlockSize) h)
 
 pub few-keys : (k : Keys) → badKeys k ≡ false → k .count ≤ 8
 unfolding badKeys

@@ -1,15 +1,7 @@
 -- A call within the limits gives the same whether it is lent the recorded room or no more than the longest output.
--- Assumes nothing.
-use mathlib.Core.Path.{_≡_, refl, sym, ap, _∙_}
-use mathlib.Core.Logic.{_⊎_, ⊎-elim}
-use mathlib.Core.Bool.{Bool, true, false, cond}
-use mathlib.Core.List.{List, [], _++_, append-assoc, append-nil}
-use Prim.Native.Nat.{ℕ, _+_, _≤_, _<_}
-use native.Mathlib.Omega.{arith}
-use lib.Dec.{ltb}
-use lib.ListN.{length, take, drop, replicate, length-replicate, length-append, length-drop}
-use lib.Seq.{take-at}
-use borrow.Author.Tests.{ltb-false, ltb-true, le-ltb}
+use Rattle.block.proofs.Base.{_+_, _<_, _≤_, ℕ, _∙_, _≡_, ap, refl, sym, _⊎_, ⊎-elim, Bool, false, List, [], _++_, append-assoc, append-nil}
+use Rattle.block.proofs.Base.{arith, le-ltb, ltb-false, ltb-true, ltb, drop, length, length-append, length-drop, length-replicate}
+use Rattle.block.proofs.Base.{replicate, take, take-at}
 use Rattle.walk.specs.Outcome.{Head, Outcome, keyed, refuse}
 use Rattle.cipher_mode.specs.declared.CipherMode.{CipherMode}
 use Rattle.cipher_mode.specs.declared.Sm4Cipher.{Sm4Cipher}
@@ -23,18 +15,14 @@ use Rattle.journal.specs.Format.{Entry, outputLimit, tooLong}
 use Rattle.journal.specs.Recomputed.{callInto, recomputed, result, differsFrom, judged, lentRoom, Answers}
 use Rattle.journal.specs.declared.again.Answered.{Answered}
 use Rattle.journal.specs.declared.again.Recomputed.{Recomputed}
+use Rattle.journal.proofs.Cases.{by-test, short as within}
 use Rattle.journal.proofs.Given.{Gives, room-16, call-gives, bad-gives}
-use Rattle.journal.proofs.Limits.{short as within}
 
--- the size that an outcome reports, and its number
+-- what an outcome reports, and its result, which stands at the front whatever is behind the output
 module _ (most : ℕ) (f : List ℕ → Outcome) (g : Gives most f) (o : List ℕ) where
   given-size : f o .head .size ≤ most
   given-size = rw (g .leaves o) (g .fits)
 
-  given-number : f o .head .number < 27
-  given-number = rw (g .leaves o) (g .known)
-
-  -- its result stands at the front, whatever is behind the output
   given-result : (rest : List ℕ) → take (f o .head .size) (f o .bytes ++ rest) ≡ g .front
   given-result rest =
       rw (g .leaves o, append-assoc (g .front) (drop (length (g .front)) o) rest)
@@ -65,11 +53,6 @@ module _ (c : Sm4Cipher) (e : Entry) where
   unfolding callInto modeCall
   into-is o = refl
 
-  -- a room that is enough exactly where the other is
-  same-told : (r s : ℕ) → ltb r needed ≡ ltb s needed → told r ≡ told s
-  unfolding messageCheck roomCheck
-  same-told r s x = rw x
-
   gives : (room most : ℕ) → (needed ≤ room → needed ≤ most) → Gives most (called room)
   gives room most h =
       bad-gives most (ltb 4 (e .mode)) _
@@ -77,69 +60,44 @@ module _ (c : Sm4Cipher) (e : Entry) where
       call-gives most (keyNumber c) (told room) mode (e .direction) (c .rk) (e .label) (e .«data») (e .iv)
       (λ p. let q = message-passed _ _ _ _ _ p in (q .iv-size, q .content, h (q .room))))
 
-  -- of any room
-  pub recomputed-known : recomputed c e .head .number < 27
-  recomputed-known =
-      rw (into-is (replicate (e .room) 0))
-      (given-number _ _ (gives (length (replicate (e .room) 0)) (16 + length (e .«data»))
-      (λ h. room-16 mode (e .direction) (length (e .«data»)))) (replicate (e .room) 0))
-
-  pub recomputed-size : recomputed c e .head .size ≤ 16 + length (e .«data»)
-  recomputed-size =
-      rw (into-is (replicate (e .room) 0))
-      (given-size _ _ (gives (length (replicate (e .room) 0)) (16 + length (e .«data»))
-      (λ h. room-16 mode (e .direction) (length (e .«data»)))) (replicate (e .room) 0))
-
-  pub result-size : length (result (recomputed c e)) ≡ recomputed c e .head .size
-  result-size =
-      let o : List ℕ = replicate (e .room) 0 in
-      let g = gives (length o) (16 + length (e .«data»)) (λ h. room-16 mode (e .direction) (length (e .«data»))) in
-      rw (into-is o) (ap length (given-front _ _ g o) ∙ g .sized ∙ sym (ap (λ (x : Outcome). x .head .size) (g .leaves o)))
+  -- with the recorded room
+  abbrev room : List ℕ
+  room = replicate (e .room) 0
 
   same-gives : Gives (16 + length (e .«data»)) (called (e .room))
   same-gives = gives (e .room) (16 + length (e .«data»)) (λ h. room-16 mode (e .direction) (length (e .«data»)))
 
-  room-called : recomputed c e ≡ called (e .room) (replicate (e .room) 0)
-  room-called = into-is (replicate (e .room) 0) ∙ ap {B = Outcome} (λ (n : ℕ). called n (replicate (e .room) 0))
-      (length-replicate (e .room) 0)
+  room-called : recomputed c e ≡ called (e .room) room
+  room-called = into-is room ∙ ap {B = Outcome} (λ (n : ℕ). called n room) (length-replicate (e .room) 0)
+
+  pub recomputed-known : recomputed c e .head .number < 27
+  recomputed-known = rw (room-called, same-gives .leaves room) (same-gives .known)
+
+  pub recomputed-size : recomputed c e .head .size ≤ 16 + length (e .«data»)
+  recomputed-size = rw room-called (given-size _ _ same-gives room)
+
+  pub result-size : length (result (recomputed c e)) ≡ recomputed c e .head .size
+  result-size = rw (room-called, given-front _ _ same-gives room, same-gives .leaves room) (same-gives .sized)
 
   -- an output that is enough exactly where the recorded room is: the two are one function of the output, whatever it holds
   module _ (o : List ℕ) (alike : ltb (length o) needed ≡ ltb (e .room) needed) where
     alike-called : callInto c e o ≡ called (e .room) o
-    alike-called =
-        into-is o
-        ∙ ap {B = Outcome}
-        (λ (x : Checked). refuse (ltb 4 (e .mode)) 7 o
-        (keyed (keyNumber c) (checked x o (modeResult mode (e .direction) (c .rk) (e .label) (e .«data») (e .iv) o))))
-        (same-told (length o) (e .room) alike)
+    unfolding messageCheck roomCheck
+    alike-called = into-is o ∙ rw alike
 
     alike-head : callInto c e o .head ≡ recomputed c e .head
-    alike-head = rw (alike-called, room-called, same-gives .leaves o, same-gives .leaves (replicate (e .room) 0))
+    alike-head = rw (alike-called, room-called, same-gives .leaves o, same-gives .leaves room)
 
     alike-result : (rest : List ℕ) → take (callInto c e o .head .size) (callInto c e o .bytes ++ rest) ≡ result (recomputed c e)
-    alike-result rest =
-        rw (alike-called, room-called)
-        (given-result _ _ same-gives o rest ∙ sym (given-front _ _ same-gives (replicate (e .room) 0)))
+    alike-result rest = rw (alike-called, room-called, given-result _ _ same-gives o rest) (sym (given-front _ _ same-gives room))
 
   module _ (short : tooLong e ≡ false) where
-    needs-little : needed ≤ outputLimit
-    needs-little =
-        let h = room-16 mode (e .direction) (length (e .«data»)) in
-        let k = within e short .«data» in
-        omega arith
-
     -- two rooms of at least the longest output
     both-enough : (r s : ℕ) → outputLimit ≤ r → outputLimit ≤ s → ltb r needed ≡ ltb s needed
     both-enough r s h k =
-        let n = needs-little in
+        let n = room-16 mode (e .direction) (length (e .«data»)) in
+        let m = within e short .«data» in
         le-ltb r needed (omega arith) ∙ sym (le-ltb s needed (omega arith))
-
-    lent-by : (t : Bool) → ltb outputLimit (e .room) ≡ t → ltb (lentRoom e) needed ≡ ltb (e .room) needed
-    unfolding lentRoom
-    lent-by true x =
-        let h = ltb-true outputLimit (e .room) x in
-        rw x (both-enough outputLimit (e .room) (omega arith) (omega arith))
-    lent-by false x = rw x
 
     -- The room that was recorded, or both at least the longest output: report and result are the same, whatever the output held.
     module _ (o : List ℕ) (like : (length o ≡ e .room) ⊎ ((outputLimit ≤ length o) × (outputLimit ≤ e .room))) where
@@ -156,7 +114,11 @@ module _ (c : Sm4Cipher) (e : Entry) where
 
     module _ (o : List ℕ) (size : length o ≡ lentRoom e) where
       lent-alike : ltb (length o) needed ≡ ltb (e .room) needed
-      lent-alike = ap (λ (n : ℕ). ltb n needed) size ∙ lent-by (ltb outputLimit (e .room)) refl
+      unfolding lentRoom
+      lent-alike =
+          by-test (ltb outputLimit (e .room))
+          (λ x. let h = ltb-true outputLimit (e .room) x in rw (size, x) (both-enough outputLimit (e .room) (omega arith) (omega arith)))
+          (λ x. rw (size, x))
 
       -- Lending no more than the longest output changes neither the report nor the result.
       pub lent-head : callInto c e o .head ≡ recomputed c e .head
@@ -181,15 +143,9 @@ module _ (c : Sm4Cipher) (e : Entry) where
       pub lent-length : length (callInto c e o .bytes) ≡ length o
       lent-length =
           let g = gives (length o) (length o) (λ h. h) in
-          let h = g .fits in
-          let k = g .sized in
-          let d = length-drop (length (g .front)) o in
-          rw (into-is o, g .leaves o, length-append) (omega arith)
+          rw (into-is o, g .leaves o, length-append) (omega (arith, g .fits, g .sized, length-drop (length (g .front)) o))
 
 pub lent-most : (e : Entry) → lentRoom e ≤ outputLimit
 unfolding lentRoom
-lent-most e = by-test (ltb outputLimit (e .room)) refl
-  where
-    by-test : (t : Bool) → ltb outputLimit (e .room) ≡ t → cond t outputLimit (e .room) ≤ outputLimit
-    by-test true x = omega arith
-    by-test false x = omega (arith, ltb-false outputLimit (e .room) x)
+lent-most e =
+    by-test (ltb outputLimit (e .room)) (λ x. rw x (omega arith)) (λ x. rw x (omega (arith, ltb-false outputLimit (e .room) x)))

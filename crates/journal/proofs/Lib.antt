@@ -1,4 +1,4 @@
-pub mod Limits
+pub mod Cases
 pub mod Standing
 pub mod KeyTurns
 pub mod Given
@@ -6,12 +6,9 @@ pub mod Lent
 pub mod Counting
 pub mod Replaying
 pub mod BothWays
-pub mod EveryReport
 pub mod Sums
 pub mod Appended
-pub mod Adding
 pub mod Joined
-pub mod ReadsProper
 pub mod Ending
 pub mod Agrees
 pub mod Writing

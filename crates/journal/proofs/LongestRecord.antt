@@ -1,18 +1,11 @@
 -- A record within the limits has at most 65,579 bytes: one that does not stand whole in as many is cut, or a part of it is too long.
--- Assumes nothing.
-use mathlib.Core.Path.{_≡_, refl, sym, ap, _∙_}
-use mathlib.Core.Bool.{Bool, true, false}
-use mathlib.Core.List.{List, _++_}
-use Prim.Native.Nat.{ℕ, _+_, _≤_}
-use native.Mathlib.Omega.{arith}
-use lib.ListN.{length, take, drop, take-append-drop}
-use lib.Seq.{take-at, take-append-le}
+use Rattle.block.proofs.Base.{_≤_, ℕ, _∙_, _≡_, ap, refl, sym, Bool, false, true, List, _++_, arith, drop, length, take, take-append-drop}
+use Rattle.block.proofs.Base.{take-append-le, take-at}
 use Rattle.block.specs.Below.{AreBytes}
 use Rattle.journal.specs.Format.{startsRecord, sizeAt, afterRecord, front, written, tooLong}
-use Rattle.journal.proofs.Limits.{short}
-use Rattle.journal.proofs.Standing.{Stands, stands, clash, size-sum}
-use Rattle.journal.proofs.BothWays.{written-starts, written-size, front-written}
-use Rattle.journal.proofs.ReadsProper.{front-proper}
+use Rattle.journal.proofs.Cases.{short, clash}
+use Rattle.journal.proofs.Standing.{Stands, stands, size-sum}
+use Rattle.journal.proofs.BothWays.{written-starts, written-size, front-proper, front-written}
 
 pub longest : (b : List ℕ) → Stands b → tooLong (front b) ≡ false → sizeAt b ≤ 65579
 unfolding front

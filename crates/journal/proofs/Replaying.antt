@@ -1,129 +1,185 @@
--- Replay goes on record by record.
--- Assumes nothing.
-use mathlib.Core.Path.{_≡_, refl, sym, ap, _∙_}
-use mathlib.Core.Bool.{Bool, true, false, not, cond}
-use mathlib.Core.List.{List}
-use Prim.Native.Nat.{ℕ, zero, suc, _+_, _-_, _≤_, _<_}
-use native.Mathlib.Omega.{arith}
-use lib.Dec.{eqb}
-use lib.ListN.{length, drop, length-drop}
-use borrow.Author.Tests.{eqb-true, eq-eqb, ne-eqb}
+-- Replay goes on record by record: one law by cases of the record in front, and one induction over all of them.
+use Rattle.block.proofs.Base.{_+_, _<_, _≤_, suc, zero, ℕ, _∙_, _≡_, refl, sym, false, true, List, arith, eq-eqb, eqb-false, eqb-true}
+use Rattle.block.proofs.Base.{ne-eqb, eqb, drop, length, length-drop}
 use Rattle.walk.proofs.Loop.{tailed, tail-is}
 use Rattle.cipher_mode.specs.declared.Sm4Cipher.{Sm4Cipher}
-use Rattle.journal.specs.Format.{startsRecord, sizeAt, front, tooLong}
-use Rattle.journal.specs.KeyList.{hasNumber, keyOf}
-use Rattle.journal.specs.Reports.{Within}
-use Rattle.journal.specs.Replay.{numberOfEnd, done, refuse, countedUnder, replayOne, replayUpTo, replayFrom}
+use Rattle.journal.specs.Format.{Entry, startsRecord, sizeAt, front, tooLong}
+use Rattle.journal.specs.KeyList.{keysIn, hasNumber, keyOf, badKeys}
+use Rattle.journal.specs.Reports.{nothing, Within}
+use Rattle.journal.specs.Replay.{numberOfEnd, andThen, done, countedUnder, replayOne, replayUpTo, replayFrom, replay}
+use Rattle.journal.specs.declared.keys.Keys.{Keys}
 use Rattle.journal.specs.declared.report.Report.{Report}
+use Rattle.journal.specs.declared.Ended.{Ended}
 use Rattle.journal.specs.declared.Ended.the-variants.{BadRecord, TooLong, UnknownKey}
 use Rattle.journal.specs.declared.Replayed.{Replayed}
-use Rattle.journal.proofs.Standing.{Stands, stands, size-within, data-within}
+use Rattle.journal.proofs.Cases.{by-test}
+use Rattle.journal.proofs.Standing.{stands, size-within, data-within}
 use Rattle.journal.proofs.Lent.{recomputed-size}
 use Rattle.journal.proofs.Counting.{within-counted}
 
+abbrev pub refused : Ended → ℕ → Report → Replayed
+refused e place r = record { ended = e; place = place; report = r }
+
+-- the record at the front of b is counted
+abbrev pub Passes : List Sm4Cipher → List ℕ → Type 0
+Passes ks b = (startsRecord b ≡ true) × (tooLong (front b) ≡ false) × (hasNumber (front b .key) ks ≡ true)
+
+pub behind-less : (ks : List Sm4Cipher) (b : List ℕ) → Passes ks b → length (drop (sizeAt b) b) < length b
+behind-less ks b p =
+    let s = stands b (p .0) in
+    omega (arith, size-within b s, data-within b s, length-drop (sizeAt b) b)
+
 module _ (ks : List Sm4Cipher) (b : List ℕ) (place : ℕ) (r : Report) where
-  pub bad-record : startsRecord b ≡ false → record { ended = BadRecord; place = place; report = r } ≡ replayOne ks b place r
+  pub bad-record : startsRecord b ≡ false → refused BadRecord place r ≡ replayOne ks b place r
   unfolding replayOne
   bad-record s = rw s
 
-  pub too-long : startsRecord b ≡ true → tooLong (front b) ≡ true
-      → record { ended = TooLong; place = place; report = r } ≡ replayOne ks b place r
+  pub too-long : startsRecord b ≡ true → tooLong (front b) ≡ true → refused TooLong place r ≡ replayOne ks b place r
   unfolding replayOne
   too-long s t = rw (s, t)
 
   pub no-key : startsRecord b ≡ true → tooLong (front b) ≡ false → hasNumber (front b .key) ks ≡ false
-      → record { ended = UnknownKey; place = place; report = r } ≡ replayOne ks b place r
+      → refused UnknownKey place r ≡ replayOne ks b place r
   unfolding replayOne
   no-key s t n = rw (s, t, n)
 
-  pub counts : startsRecord b ≡ true → tooLong (front b) ≡ false → hasNumber (front b .key) ks ≡ true
-      → done (countedUnder ks (front b) place r) ≡ replayOne ks b place r
+  pub counts : Passes ks b → done (countedUnder ks (front b) place r) ≡ replayOne ks b place r
   unfolding replayOne
-  counts s t n = rw (s, t, n)
+  counts (s, t, n) = rw (s, t, n)
+
+  -- The record in front, by cases.
+  by-one : (P : Replayed → Type 0) → (startsRecord b ≡ false → P (refused BadRecord place r))
+      → (startsRecord b ≡ true → tooLong (front b) ≡ true → P (refused TooLong place r))
+      → (startsRecord b ≡ true → tooLong (front b) ≡ false → hasNumber (front b .key) ks ≡ false → P (refused UnknownKey place r))
+      → (Passes ks b → P (done (countedUnder ks (front b) place r))) → P (replayOne ks b place r)
+  by-one P bad long unknown counted =
+      by-test (startsRecord b)
+      (λ s.
+      by-test (tooLong (front b)) (λ t. rw (too-long s t) at (long s t))
+      (λ t.
+      by-test (hasNumber (front b .key) ks) (λ n. rw (counts (s, t, n)) at (counted (s, t, n)))
+      (λ n. rw (no-key s t n) at (unknown s t n))))
+      (λ s. rw (bad-record s) at (bad s))
 
   -- a record that was not refused was counted
-  counted-by : (s t n : Bool)
-      → numberOfEnd (refuse (not s) BadRecord place r (refuse t TooLong place r
-      (refuse (not n) UnknownKey place r (done (countedUnder ks (front b) place r)))) .ended) ≡ 0
-      → (s ≡ true) × (t ≡ false) × (n ≡ true)
-  counted-by false t n e = absurd (omega arith)
-  counted-by true true n e = absurd (omega arith)
-  counted-by true false false e = absurd (omega arith)
-  counted-by true false true e = (refl, refl, refl)
-
-  pub passed : numberOfEnd (replayOne ks b place r .ended) ≡ 0
-      → (startsRecord b ≡ true) × (tooLong (front b) ≡ false) × (hasNumber (front b .key) ks ≡ true)
-  unfolding replayOne
-  passed e = counted-by (startsRecord b) (tooLong (front b)) (hasNumber (front b .key) ks) e
-
-  pub one-stands : numberOfEnd (replayOne ks b place r .ended) ≡ 0 → Stands b
-  one-stands e = stands b (passed e .0)
-
-  pub one-counted : numberOfEnd (replayOne ks b place r .ended) ≡ 0 → replayOne ks b place r ≡ done (countedUnder ks (front b) place r)
-  one-counted e = let p = passed e in sym (counts (p .0) (p .1) (p .2))
-
-  pub one-within : numberOfEnd (replayOne ks b place r .ended) ≡ 0 → Within place r
-      → Within (place + sizeAt b) (replayOne ks b place r .report)
-  one-within e w =
-      rw (one-counted e)
-      (within-counted (front b) _ place (sizeAt b) r w (data-within b (one-stands e)) (recomputed-size (keyOf (front b .key) ks) (front b)))
+  pub passed : numberOfEnd (replayOne ks b place r .ended) ≡ 0 → Passes ks b
+  passed =
+      by-one (λ x. numberOfEnd (x .ended) ≡ 0 → Passes ks b) (λ s e. absurd (omega arith)) (λ s t e. absurd (omega arith))
+      (λ s t n e. absurd (omega arith)) (λ p e. p)
 
 upto-end : (n : ℕ) (ks : List Sm4Cipher) (b : List ℕ) (place : ℕ) (r : Report) → length b ≡ 0 → replayUpTo n ks b place r ≡ done r
 unfolding replayUpTo
 upto-end zero ks b place r h = refl
 upto-end (suc n) ks b place r h = rw (eq-eqb (length b) 0 h)
 
-same-where : (t : Bool) (x y z : Replayed) → (t ≡ true → x ≡ y) → cond t x z ≡ cond t y z
-same-where true x y z f = f refl
-same-where false x y z f = refl
+upto-step : (n m : ℕ) (ks : List Sm4Cipher) (b : List ℕ) (place : ℕ) (r : Report)
+    → ((r′ : Report) → Passes ks b
+    → replayUpTo n ks (drop (sizeAt b) b) (place + sizeAt b) r′ ≡ replayUpTo m ks (drop (sizeAt b) b) (place + sizeAt b) r′)
+    → replayUpTo (suc n) ks b place r ≡ replayUpTo (suc m) ks b place r
+unfolding replayUpTo
+upto-step n m ks b place r more =
+    let x = replayOne ks b place r in
+    by-test (eqb (numberOfEnd (x .ended)) 0)
+    (λ e. rw (e, more (x .report) (passed ks b place r (eqb-true (numberOfEnd (x .ended)) 0 e)))) (λ e. rw e)
 
 -- as many as there are bytes is enough
 enough : (n m : ℕ) (ks : List Sm4Cipher) (b : List ℕ) (place : ℕ) (r : Report) → length b ≤ n → length b ≤ m
     → replayUpTo n ks b place r ≡ replayUpTo m ks b place r
-unfolding replayUpTo
-enough zero m ks b place r h k = sym (upto-end m ks b place r (omega arith))
-enough (suc n) zero ks b place r h k = upto-end (suc n) ks b place r (omega arith)
+enough zero m ks b place r h k =
+    upto-end zero ks b place r (omega arith) ∙ sym (upto-end m ks b place r (omega arith))
+enough (suc n) zero ks b place r h k =
+    upto-end (suc n) ks b place r (omega arith) ∙ sym (upto-end zero ks b place r (omega arith))
 enough (suc n) (suc m) ks b place r h k =
-    ap {B = Replayed} (λ (x : Replayed). cond (eqb (length b) 0) (done r) x)
-    (same-where (eqb (numberOfEnd (replayOne ks b place r .ended)) 0) _ _ (replayOne ks b place r)
-    (λ e.
-    let s = one-stands ks b place r (eqb-true (numberOfEnd (replayOne ks b place r .ended)) 0 e) in
-    let w = size-within b s in
-    let d = data-within b s in
-    let l = length-drop (sizeAt b) b in
-    enough n m ks (drop (sizeAt b) b) (place + sizeAt b) (replayOne ks b place r .report) (omega arith) (omega arith)))
+    upto-step n m ks b place r
+    (λ r′ p. let l = behind-less ks b p in enough n m ks (drop (sizeAt b) b) (place + sizeAt b) r′ (omega arith) (omega arith))
 
 module _ (ks : List Sm4Cipher) (b : List ℕ) (place : ℕ) (r : Report) where
+  one-more : replayFrom ks b place r ≡ replayUpTo (suc (length b)) ks b place r
+  one-more = enough (length b) (suc (length b)) ks b place r (omega arith) (omega arith)
+
   pub from-end : length b ≡ 0 → replayFrom ks b place r ≡ done r
   from-end h = upto-end (length b) ks b place r h
 
-  one-step : (n : ℕ) → length b ≡ suc n
-      → replayFrom ks b place r
-      ≡ cond (eqb (numberOfEnd (replayOne ks b place r .ended)) 0)
-      (replayUpTo n ks (drop (sizeAt b) b) (place + sizeAt b) (replayOne ks b place r .report)) (replayOne ks b place r)
-  unfolding replayUpTo
-  one-step n h = ap {B = Replayed} (λ (k : ℕ). replayUpTo k ks b place r) h ∙ rw (ne-eqb (length b) 0 (λ z. omega arith))
-
   pub from-stop : 0 < length b → (numberOfEnd (replayOne ks b place r .ended) ≡ 0 → ⊥) → replayFrom ks b place r ≡ replayOne ks b place r
-  from-stop h e = one-step (length b - 1) (omega arith) ∙ rw (ne-eqb _ 0 e)
+  unfolding replayUpTo
+  from-stop h e =
+      one-more ∙ rw (ne-eqb (length b) 0 (λ z. omega arith), ne-eqb (numberOfEnd (replayOne ks b place r .ended)) 0 e)
 
-  pub from-on : 0 < length b → numberOfEnd (replayOne ks b place r .ended) ≡ 0
-      → replayFrom ks b place r ≡ replayFrom ks (drop (sizeAt b) b) (place + sizeAt b) (replayOne ks b place r .report)
-  from-on h e =
-      let s = one-stands ks b place r e in
-      let w = size-within b s in
-      let d = data-within b s in
-      let l = length-drop (sizeAt b) b in
-      one-step (length b - 1) (omega arith) ∙ rw (eq-eqb _ 0 e)
-      (enough (length b - 1) (length (drop (sizeAt b) b)) ks (drop (sizeAt b) b) (place + sizeAt b) (replayOne ks b place r .report)
-      (omega arith) (omega arith))
+  pub from-bad : 0 < length b → startsRecord b ≡ false → replayFrom ks b place r ≡ refused BadRecord place r
+  unfolding replayUpTo
+  from-bad h s = one-more ∙ rw (ne-eqb (length b) 0 (λ z. omega arith), ← bad-record ks b place r s)
+
+  module _ (s : startsRecord b ≡ true) where
+    some : length b ≡ 0 → ⊥
+    some z = omega (arith, stands b s .long)
+
+    pub from-long : tooLong (front b) ≡ true → replayFrom ks b place r ≡ refused TooLong place r
+    unfolding replayUpTo
+    from-long t = one-more ∙ rw (ne-eqb (length b) 0 some, ← too-long ks b place r s t)
+
+    pub from-unknown : tooLong (front b) ≡ false → hasNumber (front b .key) ks ≡ false
+        → replayFrom ks b place r ≡ refused UnknownKey place r
+    unfolding replayUpTo
+    from-unknown t n = one-more ∙ rw (ne-eqb (length b) 0 some, ← no-key ks b place r s t n)
+
+  pub from-on : Passes ks b
+      → replayFrom ks b place r ≡ replayFrom ks (drop (sizeAt b) b) (place + sizeAt b) (countedUnder ks (front b) place r)
+  unfolding replayUpTo
+  from-on p =
+      let d = drop (sizeAt b) b in
+      let l = behind-less ks b p in
+      one-more
+      ∙ rw (ne-eqb (length b) 0 (some (p .0)), ← counts ks b place r p)
+      (enough (length b) (length d) ks d (place + sizeAt b) (countedUnder ks (front b) place r) (omega arith) (omega arith))
 
   -- a turn: the record in front was measured and replayed
   module _ (n : ℕ) (one : Replayed) (size : n ≡ sizeAt b) (replayed : one ≡ replayOne ks b place r)
-      (counted-there : numberOfEnd (replayOne ks b place r .ended) ≡ 0) where
+      (p : Passes ks b) where
     pub turn-within : Within place r → Within (place + n) (one .report)
-    turn-within w = rw (size, replayed) (one-within ks b place r counted-there w)
+    turn-within w =
+        rw (size, replayed, ← counts ks b place r p)
+        (within-counted (front b) _ place (sizeAt b) r w (data-within b (stands b (p .0)))
+        (recomputed-size (keyOf (front b .key) ks) (front b)))
 
     -- what is to come is written as the borrow checker has it
-    pub turn-from : 0 < length b → replayFrom ks (tailed n b) (place + n) (one .report) ≡ replayFrom ks b place r
-    turn-from h = rw (tail-is b n, size, replayed) (sym (from-on h counted-there))
+    pub turn-from : replayFrom ks (tailed n b) (place + n) (one .report) ≡ replayFrom ks b place r
+    turn-from = rw (tail-is b n, size, replayed, ← counts ks b place r p) (sym (from-on p))
+
+-- What holds at the end of a journal, and where replay stops, and goes on from what is behind a record to the record, holds of all replays.
+module _ (ks : List Sm4Cipher) (P : List ℕ → ℕ → Report → Replayed → Type 0)
+    (end : (b : List ℕ) (place : ℕ) (r : Report) → length b ≡ 0 → P b place r (done r))
+    (bad : (b : List ℕ) (place : ℕ) (r : Report) → 0 < length b → startsRecord b ≡ false → P b place r (refused BadRecord place r))
+    (long : (b : List ℕ) (place : ℕ) (r : Report) → startsRecord b ≡ true → tooLong (front b) ≡ true → P b place r (refused TooLong place r))
+    (unknown : (b : List ℕ) (place : ℕ) (r : Report) → startsRecord b ≡ true → tooLong (front b) ≡ false
+    → hasNumber (front b .key) ks ≡ false → P b place r (refused UnknownKey place r))
+    (on : (b : List ℕ) (place : ℕ) (r : Report) (x : Replayed) → Passes ks b
+    → P (drop (sizeAt b) b) (place + sizeAt b) (countedUnder ks (front b) place r) x → P b place r x) where
+  up-to : (n : ℕ) (b : List ℕ) (place : ℕ) (r : Report) → length b ≤ n → P b place r (replayUpTo n ks b place r)
+  unfolding replayUpTo
+  up-to zero b place r h = end b place r (omega arith)
+  up-to (suc n) b place r h =
+      by-test (eqb (length b) 0) (λ e. rw e (end b place r (eqb-true (length b) 0 e)))
+      (λ e.
+      let some = eqb-false (length b) 0 e in
+      rw e
+      (by-one ks b place r (λ x. P b place r (andThen x (λ r′. replayUpTo n ks (drop (sizeAt b) b) (place + sizeAt b) r′)))
+      (bad b place r (omega arith)) (long b place r) (unknown b place r)
+      (λ p. on b place r _ p (up-to n (drop (sizeAt b) b) _ _ (omega (arith, behind-less ks b p))))))
+
+  pub by-replay : (b : List ℕ) (place : ℕ) (r : Report) → P b place r (replayFrom ks b place r)
+  by-replay b place r = up-to (length b) b place r (omega arith)
+
+pub from-start : (k : Keys) (journal : List ℕ) → badKeys k ≡ false → replay k journal ≡ replayFrom (keysIn k) journal 0 nothing
+unfolding replay
+from-start k journal good = rw good
+
+-- So does what goes on with each record that is counted, of every report.
+pub every-report : (P : Report → Type 0)
+    → ((ks : List Sm4Cipher) (e : Entry) (place : ℕ) (r : Report) → P r → P (countedUnder ks e place r)) → P nothing
+    → (k : Keys) (journal : List ℕ) → P (replay k journal .report)
+unfolding replay
+every-report P counted p k journal =
+    by-test (badKeys k) (λ e. rw e p)
+    (λ e. rw (from-start k journal e)
+    (by-replay (keysIn k) (λ b place r x. P r → P (x .report)) (λ b place r z q. q) (λ b place r z s q. q) (λ b place r s t q. q)
+    (λ b place r s t n q. q) (λ b place r x z more q. more (counted (keysIn k) (front b) place r q)) journal 0 nothing p))

@@ -1,25 +1,20 @@
 -- Calls by answer, and calls by mode, sum to the records; a first difference is one of them.
--- Assumes nothing.
-use mathlib.Core.Path.{_≡_, refl, ap, _∙_}
-use mathlib.Core.Bool.{Bool, true, false}
-use mathlib.Core.List.{List, [], _∷_}
-use Prim.Native.Nat.{ℕ, zero, suc, _+_, _<_}
-use native.Mathlib.Omega.{arith}
-use lib.ListN.{length, getD, set, length-set}
+use Rattle.block.proofs.Base.{_+_, _<_, suc, zero, ℕ, _∙_, _≡_, ap, refl, Bool, false, true, List, [], _∷_, arith, getD, length, length-set}
+use Rattle.block.proofs.Base.{set}
 use Rattle.cipher_mode.specs.declared.Sm4Cipher.{Sm4Cipher}
 use Rattle.journal.specs.Format.{Entry}
 use Rattle.journal.specs.KeyList.{keyOf}
 use Rattle.journal.specs.Recomputed.{recomputed}
 use Rattle.journal.specs.Reports.{nothing, oneMore, modePlace, firstOf, counted, total, AddsUp, OfRecords}
-use Rattle.journal.specs.Replay.{countedUnder, replayOne, replay}
+use Rattle.journal.specs.Replay.{countedUnder, replay}
 use Rattle.journal.specs.Ends.{differs}
 use Rattle.journal.specs.declared.keys.Keys.{Keys}
 use Rattle.journal.specs.declared.report.Difference.{Difference}
 use Rattle.journal.specs.declared.report.Report.{Report}
-use Rattle.journal.proofs.Standing.{clash}
+use Rattle.journal.proofs.Cases.{by-test, clash}
 use Rattle.journal.proofs.Lent.{recomputed-known}
 use Rattle.journal.proofs.Counting.{mode-below-6}
-use Rattle.journal.proofs.EveryReport.{one-keeps, every-report}
+use Rattle.journal.proofs.Replaying.{every-report}
 
 total-set : (l : List ℕ) (i v : ℕ) → i < length l → total (set l i v) + getD l i 0 ≡ total l + v
 unfolding total
@@ -49,32 +44,22 @@ adds-counted ks e place r a =
       byAnswer = total-one-more (r .«by_answer») (x .head .number) (omega arith) ∙ ap (λ (k : ℕ). k + 1) (a .byAnswer);
     }
 
-pub adds-one : (ks : List Sm4Cipher) (b : List ℕ) (place : ℕ) (r : Report) → AddsUp r → AddsUp (replayOne ks b place r .report)
-adds-one = one-keeps AddsUp adds-counted
-
 -- However a replay ends, the calls by answer sum to the records replayed, and so do the calls by mode.
 pub replay-adds-up : (k : Keys) (journal : List ℕ) → AddsUp (replay k journal .report)
 replay-adds-up = every-report AddsUp adds-counted adds-nothing
 
 -- A first difference is one of the records replayed; where there is none, nothing is said of it.
-one-of-them : (n : ℕ) (d : Difference) → d .found ≡ true → d .index < n → OfRecords n d
-one-of-them n d e h = record { inside = λ z. h; nowhere = λ z. absurd (clash (d .found) e z) }
-
-none-of-them : (n : ℕ) (d : Difference) → d .found ≡ false → (d .index ≡ 0) × (d .place ≡ 0) → OfRecords n d
-none-of-them n d e h = record { inside = λ z. absurd (clash (d .found) z e); nowhere = λ z. h }
-
-first-counted : (t f : Bool) (n place : ℕ) (d : Difference) → d .found ≡ f → OfRecords n d → OfRecords (n + 1) (firstOf t n place d)
-first-counted t true n place d e a = let h = a .inside e in rw e
-    (one-of-them (n + 1) (record { found = true; index = d .index; place = d .place }) refl (omega arith))
-first-counted true false n place d e a = rw e (one-of-them (n + 1) (record { found = true; index = n; place = place }) refl (omega arith))
-first-counted false false n place d e a = rw e
-    (none-of-them (n + 1) (record { found = false; index = d .index; place = d .place }) refl (a .nowhere e))
-
-difference-counted : (ks : List Sm4Cipher) (e : Entry) (place : ℕ) (r : Report) → OfRecords (r .records) (r .first)
-    → OfRecords (countedUnder ks e place r .records) (countedUnder ks e place r .first)
-unfolding counted
-difference-counted ks e place r a = first-counted (differs ks e) (r .first .found) (r .records) place (r .first) refl a
+first-counted : (t : Bool) (n place : ℕ) (d : Difference) → OfRecords n d → OfRecords (n + 1) (firstOf t n place d)
+first-counted t n place d a =
+    by-test (d .found)
+    (λ e. let h = a .inside e in rw e (record { inside = λ z. omega arith; nowhere = λ z. absurd (clash true refl z) }))
+    (λ e.
+    by-test t (λ f. rw (e, f) (record { inside = λ z. omega arith; nowhere = λ z. absurd (clash true refl z) }))
+    (λ f. rw (e, f) (record { inside = λ z. absurd (clash false z refl); nowhere = λ z. a .nowhere e })))
 
 pub first-replayed : (k : Keys) (journal : List ℕ) → OfRecords (replay k journal .report .records) (replay k journal .report .first)
-first-replayed = every-report (λ r. OfRecords (r .records) (r .first)) difference-counted
-    (none-of-them 0 (record { found = false; index = 0; place = 0 }) refl (refl, refl))
+unfolding counted
+first-replayed =
+    every-report (λ r. OfRecords (r .records) (r .first))
+    (λ ks e place r a. first-counted (differs ks e) (r .records) place (r .first) a)
+    (record { inside = λ z. absurd (clash false z refl); nowhere = λ z. (refl, refl) })

@@ -1,14 +1,6 @@
 -- The report has the exact totals of the calls that were replayed.
--- Assumes nothing.
-use mathlib.Core.Path.{_≡_, refl, sym, _∙_}
-use mathlib.Core.Bool.{Bool, true, false, cond}
-use mathlib.Core.List.{List, [], _∷_}
-use Prim.Native.Nat.{ℕ, zero, suc, _+_, _<_}
-use native.Mathlib.Omega.{arith}
-use lib.Dec.{eqb}
-use lib.ListN.{length, getD, replicate}
-use lib.Seq.{getD-set-same, getD-set-other}
-use borrow.Author.Tests.{eqb-true, eqb-false}
+use Rattle.block.proofs.Base.{_+_, _<_, suc, zero, ℕ, _≡_, refl, sym, cond, List, [], _∷_, arith, eqb-false, eqb-true, eqb, getD, length}
+use Rattle.block.proofs.Base.{replicate, getD-set-other, getD-set-same}
 use Rattle.cipher_mode.specs.declared.Sm4Cipher.{Sm4Cipher}
 use Rattle.journal.specs.Format.{Entry, written}
 use Rattle.journal.specs.KeyList.{keyOf}
@@ -17,19 +9,16 @@ use Rattle.journal.specs.Replay.{countedUnder}
 use Rattle.journal.specs.Ends.{countedAll, Ends, answerNow, countIf, sumOf, Totals}
 use Rattle.journal.specs.declared.report.Report.{Report}
 use Rattle.journal.specs.declared.Replayed.{Replayed}
+use Rattle.journal.proofs.Cases.{by-test}
 use Rattle.journal.proofs.Lent.{recomputed-known}
 use Rattle.journal.proofs.Counting.{mode-below-6}
 use Rattle.journal.proofs.Sums.{adds-nothing, adds-counted}
 
 -- a count at i, once one more was counted at j
-one-more-by : (t : Bool) (l : List ℕ) (i j : ℕ) → j < length l → eqb j i ≡ t → getD (oneMore j l) i 0 ≡ getD l i 0 + cond t 1 0
-one-more-by true l i j h e = let q : j ≡ i = eqb-true j i e in rw (← q) (getD-set-same l j (getD l j 0 + 1) 0 h)
-one-more-by false l i j h e =
-    let z : getD l i 0 ≡ getD l i 0 + 0 = omega arith in
-    getD-set-other l j i (getD l j 0 + 1) 0 (λ q. eqb-false j i e (sym q)) ∙ z
-
 one-more-at : (l : List ℕ) (i j : ℕ) → j < length l → getD (oneMore j l) i 0 ≡ getD l i 0 + cond (eqb j i) 1 0
-one-more-at l i j h = one-more-by (eqb j i) l i j h refl
+one-more-at l i j h =
+    by-test (eqb j i) (λ e. let q : j ≡ i = eqb-true j i e in rw (e, ← q) (getD-set-same l j (getD l j 0 + 1) 0 h))
+    (λ e. rw (e, getD-set-other l j i (getD l j 0 + 1) 0 (λ q. eqb-false j i e (sym q))) (omega arith))
 
 none-at : (n i : ℕ) → _≡_ {A = ℕ} (getD (replicate n 0) i 0) 0
 none-at zero i = refl
@@ -50,24 +39,16 @@ more a b c d e p q = omega arith
 module _ (ks : List Sm4Cipher) where
   totals-from : (es : List Entry) (place : ℕ) (r : Report) → AddsUp r → AddedTotals ks es r (countedAll ks es place r)
   unfolding countedAll counted countIf sumOf
-  totals-from [] place r a =
-      record {
-        records = omega arith;
-        byMode = λ i. omega arith;
-        byAnswer = λ i. omega arith;
-        bytesIn = omega arith;
-        bytesOut = omega arith;
-      }
+  totals-from [] place r a = omega arith
   totals-from (e ∷ es) place r a =
       let t = totals-from es (place + length (written e)) (countedUnder ks e place r) (adds-counted ks e place r a) in
-      let m = mode-below-6 (e .mode) in
-      let n = recomputed-known (keyOf (e .key) ks) e in
-      let six = a .modes in
-      let all = a .answers in
+      let six : modePlace (e .mode) < length (r .«by_mode») = omega (arith, mode-below-6 (e .mode), a .modes) in
+      let all : answerNow ks e .head .number < length (r .«by_answer») =
+      omega (arith, recomputed-known (keyOf (e .key) ks) e, a .answers) in
       record {
         records = omega (arith, t .records);
-        byMode = λ i. more _ _ _ _ _ (t .byMode i) (one-more-at (r .«by_mode») i (modePlace (e .mode)) (omega arith));
-        byAnswer = λ i. more _ _ _ _ _ (t .byAnswer i) (one-more-at (r .«by_answer») i (answerNow ks e .head .number) (omega arith));
+        byMode = λ i. more _ _ _ _ _ (t .byMode i) (one-more-at (r .«by_mode») i (modePlace (e .mode)) six);
+        byAnswer = λ i. more _ _ _ _ _ (t .byAnswer i) (one-more-at (r .«by_answer») i (answerNow ks e .head .number) all);
         bytesIn = omega (arith, t .bytesIn);
         bytesOut = omega (arith, t .bytesOut);
       }

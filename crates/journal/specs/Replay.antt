@@ -1,4 +1,4 @@
--- Replay of a journal: the report, and where and why it ended. The numbers are the request's.
+-- Replay of a journal: the report, and where and why it ended. The numbers are those of W11.
 use Prim.Native.Nat.{ℕ, zero, suc, _+_}
 use mathlib.Core.Bool.{Bool, not, cond}
 use mathlib.Core.List.{List}

@@ -1,12 +1,11 @@
 -- Writing a record: what is left in the output, from the call alone.
 use Prim.Native.Nat.{ℕ}
 use mathlib.Core.Bool.{cond}
-use mathlib.Core.List.{List, [], _∷_, _++_}
+use mathlib.Core.List.{List, [], _++_}
 use lib.Dec.{ltb}
 use lib.ListN.{length}
-use Rattle.block.specs.BigEndian.{bytesOf}
 use Rattle.walk.specs.Walk.{over}
-use Rattle.journal.specs.Format.{Entry, directionByte, part, written, tooLong}
+use Rattle.journal.specs.Format.{Entry, part, head, middle, written, tooLong}
 use Rattle.journal.specs.declared.writer.Call.{Call}
 use Rattle.journal.specs.declared.writer.Wrote.{Wrote}
 use Rattle.journal.specs.declared.writer.Wrote.the-variants.{Done, TooLong, NoRoom}
@@ -28,10 +27,10 @@ entryOf c label d iv output =
 
 -- mark, direction, mode and key number; room and number: what a call alone says of its record
 abbrev pub headOf : Call → List ℕ
-headOf c = 0x54 ∷ 0x52 ∷ directionByte (c .direction) ∷ c .mode ∷ bytesOf 2 (c .key)
+headOf c = head (entryOf c [] [] [] [])
 
 abbrev pub middleOf : Call → List ℕ
-middleOf c = bytesOf 4 (c .room) ++ (c .number ∷ [])
+middleOf c = middle (entryOf c [] [] [] [])
 
 -- a record up to its IV, and from its room on
 abbrev pub askedOf : Call → List ℕ → List ℕ → List ℕ → List ℕ

@@ -33,7 +33,7 @@ pub struct Replayed {
     pub report: Report,
 }
 
-// The request's number of how a replay ended.
+// The number of how a replay ended (W11).
 pub fn number(ended: Ended) -> u32
     ensures { λ r. ⌜ r ≡ numberOfEnd ended ⌝ }
 {

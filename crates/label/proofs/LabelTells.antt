@@ -1,10 +1,5 @@
 -- A label is six bytes, and tells its job and its edition: labels of different jobs or editions differ.
--- Assumes nothing.
-use mathlib.Core.Path.{_≡_, ap, sym, _∙_}
-use mathlib.Core.List.{List}
-use Prim.Native.Nat.{ℕ, _^_, _<_}
-use lib.ListN.{length, take, drop, length-append}
-use lib.Seq.{take-at, drop-at}
+use Rattle.block.proofs.Base.{_<_, _^_, ℕ, _∙_, _≡_, ap, sym, List, drop, length, length-append, take, drop-at, take-at}
 use Rattle.block.specs.Below.{AreBytes}
 use Rattle.block.specs.BigEndian.{bytesOf}
 use Rattle.block.proofs.Entries.{below-append}

@@ -1,32 +1,19 @@
 -- A masked swap of bits at a distance changes one binary digit of a word's number with that of a bit's number.
--- Assumes nothing.
-use mathlib.Core.Path.{_≡_, refl, sym, ap, ap₂, _∙_}
-use mathlib.Core.Logic.{_⊎_, inl, inr, ⊎-elim}
-use Prim.Native.Nat.{ℕ, zero, suc, _+_, _-_, _*_, _/_, _%_, _^_, _<_, _≤_, min}
-use native.Mathlib.Nat.{add-zero, add-div-right, div-eq-of-lt}
-use native.Mathlib.Omega.{arith}
-use lib.Pow.{pow-pos}
-use lib.Bits.{differ}
+use Rattle.block.proofs.Base.{_%_, _*_, _+_, _-_, _/_, _<_, _^_, _≤_, min, suc, zero, ℕ, _∙_, _≡_, ap, ap₂, refl, sym, _⊎_, inl, inr}
+use Rattle.block.proofs.Base.{⊎-elim, add-div-right, add-zero, div-eq-of-lt, arith, differ, pow-pos}
 use Rattle.block.specs.Xor.{_⊕_}
+use Rattle.block.proofs.Xor.{two-cases}
 use Rattle.lanes.specs.Bits.{bit}
 use Rattle.lanes.specs.Swaps.{differing, firstSwapped, secondSwapped}
 use Rattle.lanes.proofs.Bits.{bit-small, bit-xor, bit-and, bit-zero, bit-shr, bit-mod, bit-low, bit-high, lt-or-le}
 
 differ-in : (x y : ℕ) → x < 2 → y < 2 → differ y (differ x y) ≡ x
-differ-in zero zero h k = refl
-differ-in zero (suc zero) h k = refl
-differ-in (suc zero) zero h k = refl
-differ-in (suc zero) (suc zero) h k = refl
-differ-in (suc (suc x)) y h k = absurd (omega arith)
-differ-in zero (suc (suc y)) h k = absurd (omega arith)
-differ-in (suc zero) (suc (suc y)) h k = absurd (omega arith)
+differ-in x y h k =
+    two-cases (λ a. differ y (differ a y) ≡ a) (two-cases (λ b. differ b b ≡ 0) refl refl y k)
+    (two-cases (λ b. differ b (differ 1 b) ≡ 1) refl refl y k) x h
 
 differ-out : (x y : ℕ) → x < 2 → y < 2 → differ x (differ x y) ≡ y
-differ-out zero y h k = refl
-differ-out (suc zero) zero h k = refl
-differ-out (suc zero) (suc zero) h k = refl
-differ-out (suc zero) (suc (suc y)) h k = absurd (omega arith)
-differ-out (suc (suc x)) y h k = absurd (omega arith)
+differ-out x y h k = two-cases (λ a. differ a (differ a y) ≡ y) refl (two-cases (λ b. differ 1 (differ 1 b) ≡ b) refl refl y k) x h
 
 differ-none : (x : ℕ) → differ x 0 ≡ x
 differ-none zero = refl
@@ -61,22 +48,18 @@ module _ (d m : ℕ) (hd : 0 < d) (hm : MaskOf d m) where
     differing-0 : digit d c ≡ 0 → bit c (differing d m x y) ≡ differ (bit (d + c) x) (bit c y)
     differing-0 h =
         let l = bit-small c (x / 2 ^ d ⊕ y) in
-        let least : min (bit c (x / 2 ^ d ⊕ y)) 1 ≡ bit c (x / 2 ^ d ⊕ y) = omega arith in
-        masked 1 (omega arith) ∙ least ∙ bit-xor c (x / 2 ^ d) y ∙ ap (λ (u : ℕ). differ u (bit c y)) (bit-shr d c x)
+        masked 1 (omega arith) ∙ omega arith ∙ bit-xor c (x / 2 ^ d) y ∙ rw (bit-shr d c x)
 
     differing-1 : digit d c ≡ 1 → bit c (differing d m x y) ≡ 0
     differing-1 h = masked 0 (omega arith) ∙ omega arith
 
     pub second-0 : digit d c ≡ 0 → bit c (secondSwapped d m x y) ≡ bit (d + c) x
     unfolding secondSwapped
-    second-0 h =
-        bit-xor c y (differing d m x y)
-        ∙ ap (differ (bit c y)) (differing-0 h)
-        ∙ differ-in (bit (d + c) x) (bit c y) (bit-small (d + c) x) (bit-small c y)
+    second-0 h = bit-xor c y (differing d m x y) ∙ rw (differing-0 h) (differ-in _ _ (bit-small (d + c) x) (bit-small c y))
 
     pub second-1 : digit d c ≡ 1 → bit c (secondSwapped d m x y) ≡ bit c y
     unfolding secondSwapped
-    second-1 h = bit-xor c y (differing d m x y) ∙ ap (differ (bit c y)) (differing-1 h) ∙ differ-none (bit c y)
+    second-1 h = bit-xor c y (differing d m x y) ∙ rw (differing-1 h) (differ-none (bit c y))
 
   shl-low : (t c : ℕ) → c < 64 → c < d → bit c (t * 2 ^ d % 2 ^ 64) ≡ 0
   shl-low t c hc h =
@@ -91,29 +74,21 @@ module _ (d m : ℕ) (hd : 0 < d) (hm : MaskOf d m) where
     pub first-0 : digit d c ≡ 0 → bit c (firstSwapped d m x y) ≡ bit c x
     unfolding firstSwapped
     first-0 h =
-        bit-xor c x (differing d m x y * 2 ^ d % 2 ^ 64)
-        ∙ ap (differ (bit c x))
-        (⊎-elim (λ (g : c < d). shl-low (differing d m x y) c hc g)
-        (λ (g : d ≤ c).
-        let b = below c g in
-        let o : digit d (c - d) ≡ 1 = omega arith in
-        shl-high (differing d m x y) c hc g ∙ differing-1 x y (c - d) (omega arith) o)
-        (lt-or-le c d))
-        ∙ differ-none (bit c x)
+        let t = differing d m x y in
+        let z : bit c (t * 2 ^ d % 2 ^ 64) ≡ 0 =
+        ⊎-elim (shl-low t c hc)
+        (λ (g : d ≤ c). let b = below c g in shl-high t c hc g ∙ differing-1 x y (c - d) (omega arith) (omega arith)) (lt-or-le c d) in
+        bit-xor c x (t * 2 ^ d % 2 ^ 64) ∙ rw z (differ-none (bit c x))
 
     pub first-1 : digit d c ≡ 1 → bit c (firstSwapped d m x y) ≡ bit (c - d) y
     unfolding firstSwapped
     first-1 h =
         let g = one-le c h in
         let b = below c g in
-        let o : digit d (c - d) ≡ 0 = omega arith in
         let e : d + (c - d) ≡ c = omega arith in
         bit-xor c x (differing d m x y * 2 ^ d % 2 ^ 64)
-        ∙ ap (differ (bit c x))
-        (shl-high (differing d m x y) c hc g
-        ∙ differing-0 x y (c - d) (omega arith) o
-        ∙ ap (λ (u : ℕ). differ (bit u x) (bit (c - d) y)) e)
-        ∙ differ-out (bit c x) (bit (c - d) y) (bit-small c x) (bit-small (c - d) y)
+        ∙ rw (shl-high (differing d m x y) c hc g, differing-0 x y (c - d) (omega arith) (omega arith), e)
+        (differ-out _ _ (bit-small c x) (bit-small (c - d) y))
 
 -- r with the digit d of c
 abbrev pub dig : ℕ → ℕ → ℕ → ℕ

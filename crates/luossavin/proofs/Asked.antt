@@ -1,43 +1,41 @@
 -- A question with one candidate, of six bytes: its verdict, as an answer, is what is asked of a job and an edition.
--- Assumes nothing.
-use mathlib.Core.Path.{_≡_, refl, sym, ap, _∙_}
-use mathlib.Core.Bool.{Bool, true, false, not, _||_, cond}
-use mathlib.Core.List.{List, [], _∷_}
-use Prim.Native.Nat.{ℕ, _≤_}
-use native.Mathlib.Omega.{arith}
-use lib.Dec.{eqb, ltb}
-use lib.ListN.{length, take, drop}
-use lib.Seq.{take-all}
-use borrow.Author.Tests.{eq-eqb, ne-eqb}
+use Rattle.block.proofs.Base.{ℕ, _≡_, refl, sym, Bool, cond, false, true, List, [], _∷_, arith, ne-eqb, eqb, length, take-all}
 use Rattle.walk.specs.Outcome.{Head, under, finished, refusal}
 use Rattle.cipher_mode.specs.declared.Sm4Cipher.{Sm4Cipher}
 use Rattle.cipher_mode.specs.declared.CipherMode.the-variants.{Gcm}
 use Rattle.cipher_mode.specs.declared.Direction.the-variants.{Decrypt}
 use Rattle.cipher_mode.specs.declared.checks.Checked.{Checked}
 use Rattle.cipher_mode.specs.declared.checks.Checked.the-variants.{Passed, Refused}
-use Rattle.cipher_mode.specs.Answer.{refusalHead}
 use Rattle.cipher_mode.specs.Checks.{andThen, keyAndIv, dataCheck}
 use Rattle.cipher_mode.specs.Key.{keyNumber}
-use Rattle.cipher_mode.specs.Tables.{limit}
 use Rattle.cipher_mode.proofs.Refusals.{refuses}
 use Rattle.editions.specs.Candidates.{sum, badList, anyTooLong}
 use Rattle.editions.specs.Which.{Verdict, noneWith, foundAt, onKey, firstOpening, searchCheck, checkedVerdict, opensWith, which, verdictOf}
+use Rattle.editions.specs.Which.{endedHead as endedHead·there}
 use Rattle.editions.specs.declared.Ended.{Ended}
 use Rattle.editions.specs.declared.Ended.the-variants.{Candidate, None, BadList, Refused as Refused·there}
 use Rattle.editions.specs.declared.Found.{Found}
-use Rattle.luossavin.specs.Edition.{checkedHead, opensHead, askedHead}
+use Rattle.luossavin.specs.Edition.{checkedHead, opensHead}
+use Rattle.luossavin.specs.Which.{endedHead}
+
+-- where no candidate is no refusal, an answer is the verdict's
+pub none-is-done : (e : Ended) → endedHead 0 e ≡ endedHead·there e
+none-is-done Candidate = refl
+none-is-done None = refl
+none-is-done BadList = refl
+none-is-done (Refused·there r) = refl
 
 -- a verdict on one candidate, as an answer
 abbrev pub toOne : Verdict → Head
 toOne v = cond (v .found) (v .head) (cond (eqb (v .head .number) 0) (under (v .head .key) (refusal 4)) (v .head))
 
-to-one : (e : Ended) (f : Found) → f .ended ≡ e → toOne (verdictOf f) ≡ under (f .key) (askedHead e)
+to-one : (e : Ended) (f : Found) → f .ended ≡ e → toOne (verdictOf f) ≡ under (f .key) (endedHead 4 e)
 to-one Candidate f h = rw h
 to-one None f h = rw h
 to-one BadList f h = rw h
 to-one (Refused·there r) f h = rw (h, ne-eqb _ _ (refuses r .not-zero))
 
-pub asked-ended : (f : Found) → under (f .key) (askedHead (f .ended)) ≡ toOne (verdictOf f)
+pub asked-ended : (f : Found) → under (f .key) (endedHead 4 (f .ended)) ≡ toOne (verdictOf f)
 asked-ended f = sym (to-one (f .ended) f refl)
 
 module _ (c : Sm4Cipher) (label file iv : List ℕ) (six : length label ≡ 6) where
@@ -64,4 +62,7 @@ module _ (c : Sm4Cipher) (label file iv : List ℕ) (six : length label ≡ 6) w
 
   pub one-candidate : toOne (which c file iv label (6 ∷ [])) ≡ under (keyNumber c) (opensHead c label file iv)
   unfolding which opensHead
-  one-candidate = rw (no-bad-list, the-checks, the-search) (answered (andThen (keyAndIv (c .answer) (c .retired) Decrypt Gcm (length iv)) (dataCheck Decrypt Gcm (length file))) (opensWith c iv file label))
+  one-candidate =
+      rw (no-bad-list, the-checks, the-search)
+      (answered (andThen (keyAndIv (c .answer) (c .retired) Decrypt Gcm (length iv)) (dataCheck Decrypt Gcm (length file)))
+      (opensWith c iv file label))

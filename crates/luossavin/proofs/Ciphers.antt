@@ -1,11 +1,6 @@
 -- The records of a host are made `cipher_mode`'s, one after another.
--- Assumes nothing.
-use mathlib.Core.Path.{_≡_}
-use mathlib.Core.List.{List, _++_, map, append-assoc, append-nil}
-use Prim.Native.Nat.{ℕ, _+_, _≤_, _<_}
-use native.Mathlib.Numerals.{add-one}
-use lib.ListN.{length, getD, set, take, drop, drop-of-length-le}
-use lib.Seq.{drop-cons, take-suc-set, take-all}
+use Rattle.block.proofs.Base.{_+_, _<_, _≤_, ℕ, _≡_, List, _++_, append-assoc, append-nil, map, add-one, drop, drop-of-length-le, getD}
+use Rattle.block.proofs.Base.{length, set, take, drop-cons, take-all, take-suc-set}
 use Rattle.cipher_mode.specs.declared.Sm4Cipher.{Sm4Cipher}
 use Rattle.luossavin.specs.declared.key.LuossavinKey.{LuossavinKey}
 use Rattle.luossavin.specs.Key.{cipherIn}

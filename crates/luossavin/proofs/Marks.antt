@@ -1,7 +1,5 @@
 -- A yes or no as a host is handed it: 1 or 0.
--- Assumes nothing.
-use mathlib.Core.Path.{_≡_, refl}
-use mathlib.Core.Bool.{Bool, true, false, cond}
+use Rattle.block.proofs.Base.{_≡_, refl, Bool, cond, false, true}
 use mir.Val.{boolByte}
 
 pub mark-byte : (b : Bool) → boolByte b ≡ cond b 1 0

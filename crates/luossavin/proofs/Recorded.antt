@@ -1,11 +1,5 @@
 -- What a writer of records leaves, as a call's outcome.
--- Assumes nothing.
-use mathlib.Core.Path.{_≡_, refl, ap, _∙_}
-use mathlib.Core.Bool.{Bool, true, false, cond}
-use mathlib.Core.List.{List}
-use Prim.Native.Nat.{ℕ}
-use lib.Dec.{ltb}
-use lib.ListN.{length}
+use Rattle.block.proofs.Base.{ℕ, _≡_, refl, Bool, cond, false, true, List, ltb, length}
 use Rattle.walk.specs.Outcome.{Outcome, leaving, refuse, done}
 use Rattle.walk.specs.Walk.{over}
 use Rattle.cipher_mode.specs.declared.Direction.{Direction}

@@ -13,8 +13,6 @@ use Rattle.cipher_mode.specs.Answer.{refusalHead}
 use Rattle.cipher_mode.specs.Checks.{andThen, keyAndIv, dataCheck}
 use Rattle.cipher_mode.specs.Key.{keyNumber}
 use Rattle.editions.specs.Which.{opensWith}
-use Rattle.editions.specs.declared.Ended.{Ended}
-use Rattle.editions.specs.declared.Ended.the-variants.{Candidate, None, BadList, Refused as Refused·there}
 use Rattle.label.specs.Label.{labelOf}
 use Rattle.luossavin.specs.declared.key.LuossavinKey.{LuossavinKey}
 use Rattle.luossavin.specs.Key.{cipherIn}
@@ -34,10 +32,3 @@ opensHead c label file iv =
 
 unfoldable pub hostEditionOpens : LuossavinKey → ℕ → ℕ → List ℕ → List ℕ → Head
 hostEditionOpens k job edition file iv = under (keyNumber (cipherIn k)) (opensHead (cipherIn k) (labelOf job edition) file iv)
-
--- how a question with one candidate ended, as an answer
-abbrev pub askedHead : Ended → Head
-askedHead Candidate = finished 0
-askedHead None = refusal 4
-askedHead BadList = refusal 16
-askedHead (Refused·there r) = refusalHead r

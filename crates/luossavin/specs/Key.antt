@@ -2,7 +2,7 @@
 use Prim.Native.Nat.{ℕ}
 use mathlib.Core.Bool.{not, cond}
 use mathlib.Core.List.{List}
-use lib.Dec.{eqb}
+use lib.Dec.{eqb, ltb}
 use Rattle.cipher_mode.specs.declared.KeyAnswer.{KeyAnswer}
 use Rattle.cipher_mode.specs.declared.KeyAnswer.the-variants.{Key, ErrorBlockSize, WrongNumber}
 use Rattle.cipher_mode.specs.declared.Sm4Cipher.{Sm4Cipher}
@@ -45,7 +45,7 @@ hostKeyRetire k =
 
 -- the mark of an engine: 1 is the four tables, 2 the gates, 3 the plain engine, and all else leaves the choice to the library
 abbrev pub engineMark : ℕ → ℕ
-engineMark e = cond (eqb e 1) 1 (cond (eqb e 2) 2 (cond (eqb e 3) 3 0))
+engineMark e = cond (ltb 3 e) 0 e
 
 -- the record with an engine
 unfoldable pub hostKeyEngine : LuossavinKey → ℕ → LuossavinKey

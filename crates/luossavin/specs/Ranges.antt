@@ -2,7 +2,7 @@
 use Prim.Native.Nat.{ℕ}
 use mathlib.Core.Bool.{Bool}
 use mathlib.Core.List.{List}
-use Rattle.walk.specs.Outcome.{Head, Outcome, finished, refusal}
+use Rattle.walk.specs.Outcome.{Head, Outcome, refusal}
 use Rattle.ranges.specs.declared.plan.Making.{Making}
 use Rattle.ranges.specs.declared.plan.Making.the-variants.{Made, BadWorkers, TooLong}
 use Rattle.ranges.specs.declared.plan.Plan.{Plan}
@@ -15,11 +15,14 @@ use Rattle.luossavin.specs.Key.{cipherIn}
 use Rattle.luossavin.specs.Host.{headIn}
 use Rattle.luossavin.specs.InPieces.{directionOf}
 
--- the papers' number for each answer of the planner, which is on no key
+-- the number for each answer of the planner, which is on no key
+abbrev pub makingNumber : Making → ℕ
+makingNumber Made = 0
+makingNumber BadWorkers = 17
+makingNumber TooLong = 5
+
 abbrev pub makingHead : Making → Head
-makingHead Made = finished 0
-makingHead BadWorkers = refusal 17
-makingHead TooLong = refusal 5
+makingHead m = refusal (makingNumber m)
 
 -- what a host is handed of a plan that was made, or was not
 pub record Handed : Type 0 where

@@ -1,19 +1,14 @@
 -- The exported call that writes the record of a call: what it leaves.
 use Prim.Native.Nat.{ℕ}
-use mathlib.Core.Bool.{Bool, true, false, cond}
+use mathlib.Core.Bool.{Bool, cond}
 use mathlib.Core.List.{List}
 use lib.Dec.{ltb}
 use lib.ListN.{length}
 use Rattle.walk.specs.Outcome.{Head, Outcome, finished, refusal, refuse, done}
-use Rattle.cipher_mode.specs.declared.Direction.{Direction}
-use Rattle.cipher_mode.specs.declared.Direction.the-variants.{Encrypt, Decrypt}
 use Rattle.journal.specs.Format.{Entry, written, tooLong}
 use Rattle.journal.specs.declared.writer.Wrote.{Wrote}
 use Rattle.journal.specs.declared.writer.Wrote.the-variants.{Done, TooLong, NoRoom}
-
-abbrev pub directionIn : Bool → Direction
-directionIn true = Decrypt
-directionIn false = Encrypt
+use Rattle.luossavin.specs.InPieces.{directionOf}
 
 -- n, or the most that there is room for
 unfoldable pub atMost : ℕ → ℕ → ℕ
@@ -23,7 +18,7 @@ atMost most n = cond (ltb most n) most n
 abbrev pub entryIn : Bool → ℕ → ℕ → List ℕ → List ℕ → List ℕ → ℕ → ℕ → List ℕ → Entry
 entryIn decrypt mode key label d iv room number output =
     record {
-      direction = directionIn decrypt;
+      direction = directionOf decrypt;
       mode = atMost 255 mode;
       key = key;
       label = label;

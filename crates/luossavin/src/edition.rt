@@ -1,19 +1,15 @@
 // A job's editions, for a host: the label, sealing and opening under it, and the question whether a file opens under it, which makes
 // no text.
 ghost use mathlib.Core.Path.{_≡_};
-ghost use Rattle.walk.specs.Outcome.{under};
 ghost use Rattle.label.specs.Label.{labelOf};
 ghost use Rattle.luossavin.specs.Host.{headIn, reported, hostModeCall};
-ghost use Rattle.luossavin.specs.Edition.{askedHead, hostEditionOpens};
+ghost use Rattle.luossavin.specs.Edition.{hostEditionOpens};
 use crate::LuossavinAnswer;
 use crate::key::LuossavinKey;
 use crate::key::cipher_of;
 use crate::mode_call;
-use crate::numbered;
-use crate::report;
+use crate::which::report_ended;
 use cipher_mode::Direction;
-use cipher_mode::answer;
-use editions::Ended;
 
 // The six bytes of a label.
 #[repr(C)]
@@ -24,10 +20,8 @@ pub struct LuossavinLabel {
 // The mode that seals.
 const GCM: u32 = 4;
 
-// The refusal of a tag, and that of a list of candidates.
+// The refusal of a tag.
 const INVALID_TAG: u32 = 4;
-
-const BAD_LIST: u32 = 16;
 
 #[no_mangle]
 pub extern "C" fn luossavin_label(job: u32, edition: u16) -> LuossavinLabel
@@ -35,18 +29,6 @@ pub extern "C" fn luossavin_label(job: u32, edition: u16) -> LuossavinLabel
 {
     LuossavinLabel {
         bytes: label::label(job, edition),
-    }
-}
-
-// What a question with one candidate ended with, as a call's answer.
-fn report_asked(ended: Ended, key: u16) -> LuossavinAnswer
-    ensures { λ r. ⌜ headIn r ≡ under key (askedHead ended) ⌝ }
-{
-    match ended {
-        Ended::Candidate => numbered(0, key),
-        Ended::None => numbered(INVALID_TAG, key),
-        Ended::BadList => numbered(BAD_LIST, key),
-        Ended::Refused(reason) => report(answer::refused(key, reason)),
     }
 }
 
@@ -64,7 +46,7 @@ pub extern "C" fn luossavin_edition_opens(
     let lengths = [6usize];
     let found = editions::which(cipher_of(key), sealed, iv, &label, &lengths);
     let ended = found.ended;
-    report_asked(ended, found.key)
+    report_ended(ended, found.key, INVALID_TAG)
 }
 
 #[no_mangle]

@@ -13,13 +13,8 @@ use crate::report;
 use cipher_mode::Direction;
 use pieces::ctr;
 use pieces::ctr::Ctr;
-use pieces::ctr::CtrStep;
 use pieces::opens;
-use pieces::opens::Opens;
-use pieces::opens::OpensStep;
 use pieces::seal;
-use pieces::seal::Seal;
-use pieces::seal::SealStep;
 
 #[repr(C)]
 pub struct LuossavinCtrStep {
@@ -30,44 +25,41 @@ pub struct LuossavinCtrStep {
 #[repr(C)]
 pub struct LuossavinSealStep {
     pub answer: LuossavinAnswer,
-    pub state: Seal,
+    pub state: seal::Seal,
 }
 
 #[repr(C)]
 pub struct LuossavinOpensStep {
     pub answer: LuossavinAnswer,
-    pub state: Opens,
+    pub state: opens::Opens,
 }
 
-fn ctr_step(step: CtrStep) -> LuossavinCtrStep
+fn ctr_step(step: ctr::CtrStep) -> LuossavinCtrStep
     ensures { λ r. ⌜ (headIn (r .answer) ≡ headOf (step .answer)) × (r .state ≡ step .state) ⌝ }
 {
-    let answer = step.answer;
     let state = step.state;
     LuossavinCtrStep {
-        answer: report(answer),
+        answer: report(step.answer),
         state,
     }
 }
 
-fn seal_step(step: SealStep) -> LuossavinSealStep
+fn seal_step(step: seal::SealStep) -> LuossavinSealStep
     ensures { λ r. ⌜ (headIn (r .answer) ≡ headOf (step .answer)) × (r .state ≡ step .state) ⌝ }
 {
-    let answer = step.answer;
     let state = step.state;
     LuossavinSealStep {
-        answer: report(answer),
+        answer: report(step.answer),
         state,
     }
 }
 
-fn opens_step(step: OpensStep) -> LuossavinOpensStep
+fn opens_step(step: opens::OpensStep) -> LuossavinOpensStep
     ensures { λ r. ⌜ (headIn (r .answer) ≡ headOf (step .answer)) × (r .state ≡ step .state) ⌝ }
 {
-    let answer = step.answer;
     let state = step.state;
     LuossavinOpensStep {
-        answer: report(answer),
+        answer: report(step.answer),
         state,
     }
 }
@@ -119,7 +111,7 @@ pub extern "C" fn luossavin_seal_start(
 
 #[no_mangle]
 pub extern "C" fn luossavin_seal_piece(
-    state: Seal,
+    state: seal::Seal,
     data: &[u8],
     out: &mut [u8],
 ) -> LuossavinSealStep
@@ -129,7 +121,7 @@ pub extern "C" fn luossavin_seal_piece(
 }
 
 #[no_mangle]
-pub extern "C" fn luossavin_seal_end(state: Seal, out: &mut [u8]) -> LuossavinSealStep
+pub extern "C" fn luossavin_seal_end(state: seal::Seal, out: &mut [u8]) -> LuossavinSealStep
     ensures { λ r. ⌜ sealReported r (now (out .exit)) ≡ sealEnd state (now (out .entry)) ⌝ }
 {
     seal_step(state.end(out))
@@ -147,14 +139,14 @@ pub extern "C" fn luossavin_opens_start(
 }
 
 #[no_mangle]
-pub extern "C" fn luossavin_opens_piece(state: Opens, data: &[u8]) -> LuossavinOpensStep
+pub extern "C" fn luossavin_opens_piece(state: opens::Opens, data: &[u8]) -> LuossavinOpensStep
     ensures { λ r. ⌜ opensReported r [] ≡ opensPiece state (now («data» .entry)) ⌝ }
 {
     opens_step(state.piece(data))
 }
 
 #[no_mangle]
-pub extern "C" fn luossavin_opens_end(state: Opens, tag: &[u8]) -> LuossavinOpensStep
+pub extern "C" fn luossavin_opens_end(state: opens::Opens, tag: &[u8]) -> LuossavinOpensStep
     ensures { λ r. ⌜ opensReported r [] ≡ opensEnd state (now (tag .entry)) ⌝ }
 {
     opens_step(state.end(tag))

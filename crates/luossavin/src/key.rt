@@ -5,6 +5,7 @@ ghost use Rattle.luossavin.specs.Key.{keyAnswerOf, cipherIn, hostKeyNew,
 use cipher_mode::KeyAnswer;
 use cipher_mode::Sm4Cipher;
 
+// It stands for `Sm4Cipher`, whose answer is an enum and whose mark is a bool, for which a host may hand over any number.
 #[repr(C)]
 pub struct LuossavinKey {
     pub round_keys: [u32; 32],
@@ -29,11 +30,10 @@ pub(crate) fn cipher_of(key: LuossavinKey) -> Sm4Cipher
     ensures { λ r. ⌜ r ≡ cipherIn key ⌝ }
 {
     let rk = key.round_keys;
-    let number = key.number;
     Sm4Cipher {
         rk,
         answer: key_answer_of(key.answer),
-        number,
+        number: key.number,
         retired: key.retired != 0,
         engine: key.engine,
     }
@@ -74,32 +74,19 @@ pub extern "C" fn luossavin_key_retire(key: LuossavinKey) -> LuossavinKey
     if key.answer != 0 {
         return key;
     }
-    let round_keys = key.round_keys;
-    let number = key.number;
-    let engine = key.engine;
-    LuossavinKey {
-        round_keys,
-        answer: 0,
-        number,
-        retired: 1,
-        engine,
-    }
+    let mut retired = key;
+    retired.retired = 1;
+    retired
 }
 
 // The mark of an engine: 1 is the four tables, 2 the gates, 3 the plain engine, and all else leaves the choice to the library.
 fn mark_of(engine: u32) -> u8
     ensures { λ r. ⌜ r ≡ engineMark engine ⌝ }
 {
-    if engine == 1 {
-        return 1;
+    if engine > 3 {
+        return 0;
     }
-    if engine == 2 {
-        return 2;
-    }
-    if engine == 3 {
-        return 3;
-    }
-    0
+    engine as u8
 }
 
 // The record with an engine. Nothing else of it changes.
@@ -107,12 +94,7 @@ fn mark_of(engine: u32) -> u8
 pub extern "C" fn luossavin_key_engine(key: LuossavinKey, engine: u32) -> LuossavinKey
     ensures { λ r. ⌜ r ≡ hostKeyEngine key engine ⌝ }
 {
-    let round_keys = key.round_keys;
-    LuossavinKey {
-        round_keys,
-        answer: key.answer,
-        number: key.number,
-        retired: key.retired,
-        engine: mark_of(engine),
-    }
+    let mut marked = key;
+    marked.engine = mark_of(engine);
+    marked
 }

@@ -1,11 +1,11 @@
 // The host boundary: what a host in C or Rust links, declared in `include/luossavin.h`. Every call ends with an answer, and
-// none has a `requires`: a host that breaks one could not be told.
+// none has a `requires`: a host that breaks one could not be told. A struct of the crates below crosses as it is where its layout is
+// the header's. One that holds an enum or a bool cannot: a struct of numbers stands for it here.
 mod edition;
 mod halves;
 mod in_pieces;
 mod journals;
 pub mod key;
-mod recording;
 mod shelves;
 mod which;
 mod workers;
@@ -13,16 +13,14 @@ mod workers;
 ghost use mathlib.Core.Path.{_≡_};
 ghost use Rattle.walk.specs.Outcome.{under, refusal};
 ghost use Rattle.cipher_mode.specs.Answer.{headOf};
-ghost use Rattle.luossavin.specs.Host.{headIn, reported, modeIn, hostBlockCall, hostModeCall};
+ghost use Rattle.luossavin.specs.Host.{headIn, reported, hostBlockCall, hostModeCall};
 use cipher_mode::Direction;
 use cipher_mode::Sm4CipherMode;
 use cipher_mode::answer;
-use cipher_mode::answer::Answer;
-use cipher_mode::answer::Ending;
 use key::LuossavinKey;
 use key::cipher_of;
 
-// The papers' number, how many bytes were missing where that is refusal 9, 1 where the counter of a message came round, the number
+// The number, how many bytes were missing where that is refusal 9, 1 where the counter of a message came round, the number
 // of the key that stands, and how many bytes of the output are the result.
 #[repr(C)]
 pub struct LuossavinAnswer {
@@ -49,21 +47,21 @@ pub(crate) fn numbered(number: u32, key: u16) -> LuossavinAnswer
     }
 }
 
-pub(crate) fn report(answer: Answer) -> LuossavinAnswer
+pub(crate) fn report(answer: answer::Answer) -> LuossavinAnswer
     ensures { λ r. ⌜ headIn r ≡ headOf answer ⌝ }
 {
     let ending = answer.ending;
     let came_round = answer.came_round as u8;
     let key = answer.key;
     match ending {
-        Ending::Done(n) => LuossavinAnswer {
+        answer::Ending::Done(n) => LuossavinAnswer {
             number: 0,
             missing: 0,
             came_round,
             key,
             length: n,
         },
-        Ending::Refused(reason) => LuossavinAnswer {
+        answer::Ending::Refused(reason) => LuossavinAnswer {
             number: answer::number(reason),
             missing: answer::missing(reason),
             came_round,
@@ -71,27 +69,6 @@ pub(crate) fn report(answer: Answer) -> LuossavinAnswer
             length: 0,
         },
     }
-}
-
-// The record with the mode that it is used in.
-fn mode_in(key: LuossavinKey, mode: u32) -> Sm4CipherMode
-    ensures { λ r. ⌜ r ≡ modeIn key mode ⌝ }
-{
-    Sm4CipherMode {
-        cipher: cipher_of(key),
-        mode: cipher_mode::mode_of(mode),
-    }
-}
-
-fn block_call(
-    direction: Direction,
-    key: LuossavinKey,
-    block: &[u8],
-    out: &mut [u8],
-) -> LuossavinAnswer
-    ensures { λ r. ⌜ reported r (now (out .exit)) ≡ hostBlockCall direction key (now (block .entry)) (now (out .entry)) ⌝ }
-{
-    report(cipher_of(key).call(direction, block, out))
 }
 
 pub(crate) fn mode_call(
@@ -105,10 +82,14 @@ pub(crate) fn mode_call(
 ) -> LuossavinAnswer
     ensures { λ r. ⌜ reported r (now (out .exit)) ≡ hostModeCall direction mode key (now (aad .entry)) (now («data» .entry)) (now (iv .entry)) (now (out .entry)) ⌝ }
 {
-    match mode {
-        0..=4 => report(mode_in(key, mode).call(direction, aad, data, iv, out)),
-        _ => numbered(BAD_MODE, 0),
+    if mode > 4 {
+        return numbered(BAD_MODE, 0);
     }
+    let under = Sm4CipherMode {
+        cipher: cipher_of(key),
+        mode: cipher_mode::mode_of(mode),
+    };
+    report(under.call(direction, aad, data, iv, out))
 }
 
 #[no_mangle]
@@ -119,7 +100,7 @@ pub extern "C" fn luossavin_block_encrypt(
 ) -> LuossavinAnswer
     ensures { λ r. ⌜ reported r (now (out .exit)) ≡ hostBlockCall Direction.Encrypt key (now (block .entry)) (now (out .entry)) ⌝ }
 {
-    block_call(Direction::Encrypt, key, block, out)
+    report(cipher_of(key).call(Direction::Encrypt, block, out))
 }
 
 #[no_mangle]
@@ -130,7 +111,7 @@ pub extern "C" fn luossavin_block_decrypt(
 ) -> LuossavinAnswer
     ensures { λ r. ⌜ reported r (now (out .exit)) ≡ hostBlockCall Direction.Decrypt key (now (block .entry)) (now (out .entry)) ⌝ }
 {
-    block_call(Direction::Decrypt, key, block, out)
+    report(cipher_of(key).call(Direction::Decrypt, block, out))
 }
 
 #[no_mangle]

@@ -2,9 +2,8 @@
 // reference does.
 ghost use mathlib.Core.Path.{_≡_};
 ghost use Rattle.walk.specs.Outcome.{under};
-ghost use Rattle.editions.specs.Which.{endedHead, isFound};
 ghost use Rattle.luossavin.specs.Host.{headIn};
-ghost use Rattle.luossavin.specs.Which.{foundReported, hostWhich};
+ghost use Rattle.luossavin.specs.Which.{endedHead, foundReported, hostWhich};
 use crate::LuossavinAnswer;
 use crate::key::LuossavinKey;
 use crate::key::cipher_of;
@@ -13,7 +12,7 @@ use crate::report;
 use cipher_mode::answer;
 use editions::Ended;
 
-// `found` is 1 or 0, and place, start and length are 0 unless it is 1.
+// It stands for `Found`, which ends with an enum. `found` is 1 or 0, and place, start and length are 0 unless it is 1.
 #[repr(C)]
 pub struct LuossavinFound {
     pub answer: LuossavinAnswer,
@@ -23,16 +22,14 @@ pub struct LuossavinFound {
     pub length: usize,
 }
 
-// The refusal of a list of candidates.
-const BAD_LIST: u32 = 16;
-
-fn report_ended(ended: Ended, key: u16) -> LuossavinAnswer
-    ensures { λ r. ⌜ headIn r ≡ under key (endedHead ended) ⌝ }
+// How a question ended, as an answer; `none` is the number where the file opens under no candidate.
+pub(crate) fn report_ended(ended: Ended, key: u16, none: u32) -> LuossavinAnswer
+    ensures { λ r. ⌜ headIn r ≡ under key (endedHead none ended) ⌝ }
 {
     match ended {
         Ended::Candidate => numbered(0, key),
-        Ended::None => numbered(0, key),
-        Ended::BadList => numbered(BAD_LIST, key),
+        Ended::None => numbered(none, key),
+        Ended::BadList => numbered(16, key),
         Ended::Refused(reason) => report(answer::refused(key, reason)),
     }
 }
@@ -50,7 +47,7 @@ pub extern "C" fn luossavin_which(
     let found = editions::which(cipher_of(key), sealed, iv, labels, lengths);
     let ended = found.ended;
     LuossavinFound {
-        answer: report_ended(ended, found.key),
+        answer: report_ended(ended, found.key, 0),
         found: editions::is_candidate(ended) as u32,
         place: found.place as u32,
         start: found.start,

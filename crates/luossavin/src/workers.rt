@@ -4,7 +4,7 @@ ghost use Rattle.walk.specs.Outcome.{under};
 ghost use Rattle.ranges.specs.ByPlan.{endedHead};
 ghost use Rattle.ranges.specs.Plan.{accepts};
 ghost use Rattle.luossavin.specs.Host.{headIn, reported};
-ghost use Rattle.luossavin.specs.Ranges.{makingHead, plannedReported, hostPlanMake, hostCtrRange, hostCtrByPlan};
+ghost use Rattle.luossavin.specs.Ranges.{makingNumber, plannedReported, hostPlanMake, hostCtrRange, hostCtrByPlan};
 use crate::LuossavinAnswer;
 use crate::in_pieces::direction_of;
 use crate::key::LuossavinKey;
@@ -13,33 +13,23 @@ use crate::numbered;
 use crate::report;
 use cipher_mode::answer;
 use ranges::by_plan;
-use ranges::by_plan::Ended;
 use ranges::plan;
-use ranges::plan::Making;
-use ranges::plan::Plan;
 use ranges::range;
 
 // A plan beside the answer of its making; it has no pieces where that is refused.
 #[repr(C)]
 pub struct LuossavinPlanned {
     pub answer: LuossavinAnswer,
-    pub plan: Plan,
+    pub plan: plan::Plan,
 }
 
-// The refusals of a count of workers, and of a plan.
-const BAD_WORKERS: u32 = 17;
-
-const NOT_ACCEPTED: u32 = 18;
-
-const TOO_LONG: u32 = 5;
-
-fn report_making(making: Making) -> LuossavinAnswer
-    ensures { λ r. ⌜ headIn r ≡ makingHead making ⌝ }
+fn number_of(making: plan::Making) -> u32
+    ensures { λ r. ⌜ r ≡ makingNumber making ⌝ }
 {
     match making {
-        Making::Made => numbered(0, 0),
-        Making::BadWorkers => numbered(BAD_WORKERS, 0),
-        Making::TooLong => numbered(TOO_LONG, 0),
+        plan::Making::Made => 0,
+        plan::Making::BadWorkers => 17,
+        plan::Making::TooLong => 5,
     }
 }
 
@@ -51,13 +41,13 @@ pub extern "C" fn luossavin_plan_make(n: usize, workers: usize) -> LuossavinPlan
     let making = planned.making;
     let made = planned.plan;
     LuossavinPlanned {
-        answer: report_making(making),
+        answer: numbered(number_of(making), 0),
         plan: made,
     }
 }
 
 #[no_mangle]
-pub extern "C" fn luossavin_plan_accepts(plan: Plan, n: usize) -> bool
+pub extern "C" fn luossavin_plan_accepts(plan: plan::Plan, n: usize) -> bool
     ensures { λ r. ⌜ r ≡ accepts plan n ⌝ }
 {
     plan::accepts(plan, n)
@@ -77,13 +67,13 @@ pub extern "C" fn luossavin_ctr_range(
     report(range::range(cipher_of(key), direction_of(decrypt), iv, offset, data, out))
 }
 
-fn report_ended(ended: Ended, key: u16) -> LuossavinAnswer
+fn report_ended(ended: by_plan::Ended, key: u16) -> LuossavinAnswer
     ensures { λ r. ⌜ headIn r ≡ under key (endedHead ended) ⌝ }
 {
     match ended {
-        Ended::Done(n) => report(answer::done(key, n)),
-        Ended::NotAccepted => numbered(NOT_ACCEPTED, key),
-        Ended::Refused(reason) => report(answer::refused(key, reason)),
+        by_plan::Ended::Done(n) => report(answer::done(key, n)),
+        by_plan::Ended::NotAccepted => numbered(18, key),
+        by_plan::Ended::Refused(reason) => report(answer::refused(key, reason)),
     }
 }
 
@@ -92,7 +82,7 @@ pub extern "C" fn luossavin_ctr_by_plan(
     key: LuossavinKey,
     decrypt: bool,
     iv: &[u8],
-    plan: Plan,
+    plan: plan::Plan,
     data: &[u8],
     out: &mut [u8],
 ) -> LuossavinAnswer

@@ -1,11 +1,7 @@
 -- The full blocks of a text and what is begun behind them, also where the text goes on.
--- Assumes nothing.
-use mathlib.Core.Path.{_≡_}
-use mathlib.Core.List.{List, _++_}
-use Prim.Native.Nat.{ℕ, _+_, _*_, _/_, _%_}
-use native.Mathlib.Omega.{arith}
-use lib.ListN.{length, length-append, length-drop, take-append-drop}
-use lib.Seq.{length-take-le, take-append-add, drop-append-add}
+use Rattle.block.proofs.Base.{_%_, _*_, _+_, _-_, _/_, _≤_, ℕ, _≡_, List, _++_, arith, drop, length, length-append, length-drop, take}
+use Rattle.block.proofs.Base.{take-append-drop, drop-append-add, length-take-le}
+use lib.Seq.{take-append-add}
 use Rattle.pieces.specs.Hashing.{fullPart, begunPart}
 
 pub full-length : (c : List ℕ) → length (fullPart c) ≡ 16 * (length c / 16)
@@ -17,13 +13,20 @@ begun-length c = rw length-drop (omega arith)
 pub both-parts : (c : List ℕ) → fullPart c ++ begunPart c ≡ c
 both-parts c = take-append-drop (16 * (length c / 16)) c
 
--- behind full blocks
-module _ (k : ℕ) (a x : List ℕ) (n : length a ≡ 16 * k) where
-  seam : 16 * (length (a ++ x) / 16) ≡ length a + 16 * (length x / 16)
-  seam = rw length-append (omega arith)
+-- a cut of a ++ x behind a, and a cut behind full blocks a
+module _ (a x : List ℕ) where
+  pub take-through : (n : ℕ) → length a ≤ n → take n (a ++ x) ≡ a ++ take (n - length a) x
+  take-through n h = let k : length a + (n - length a) ≡ n = omega arith in rw k at (take-append-add a x (n - length a))
 
-  pub full-behind : fullPart (a ++ x) ≡ a ++ fullPart x
-  full-behind = rw seam (take-append-add a x (16 * (length x / 16)))
+  pub drop-through : (n : ℕ) → length a ≤ n → drop n (a ++ x) ≡ drop (n - length a) x
+  drop-through n h = let k : length a + (n - length a) ≡ n = omega arith in rw k at (drop-append-add a x (n - length a))
 
-  pub begun-behind : begunPart (a ++ x) ≡ begunPart x
-  begun-behind = rw seam (drop-append-add a x (16 * (length x / 16)))
+  module _ (k : ℕ) (n : length a ≡ 16 * k) where
+    seam : 16 * (length (a ++ x) / 16) ≡ length a + 16 * (length x / 16)
+    seam = rw length-append (omega arith)
+
+    pub full-behind : fullPart (a ++ x) ≡ a ++ fullPart x
+    full-behind = rw seam (take-append-add a x (16 * (length x / 16)))
+
+    pub begun-behind : begunPart (a ++ x) ≡ begunPart x
+    begun-behind = rw seam (drop-append-add a x (16 * (length x / 16)))

@@ -1,12 +1,5 @@
 -- Ctr in pieces, cut anywhere, is the single call's: what the pieces give is what their join gives.
--- Assumes nothing.
-use mathlib.Core.Path.{_≡_, refl, sym, ap, ap₂, _∙_}
-use mathlib.Core.List.{List, [], _++_}
-use Prim.Native.Nat.{ℕ, _+_, _≤_}
-use native.Mathlib.Nat.{add-zero}
-use native.Mathlib.Omega.{arith}
-use lib.ListN.{length, drop, length-append}
-use lib.Seq.{drop-at}
+use Rattle.block.proofs.Base.{_+_, _≤_, ℕ, _≡_, List, [], _++_, add-zero, arith, drop, length, length-append, drop-at}
 use Rattle.counter.specs.CameRound.{blocksOf, ctrCameRound}
 use Rattle.walk.specs.Outcome.{finished, under, telling}
 use Rattle.walk.specs.Walk.{chain, over}
@@ -21,19 +14,18 @@ use Rattle.cipher_mode.specs.Key.{keyNumber}
 use Rattle.cipher_mode.specs.Checks.{keyAndIv}
 use Rattle.cipher_mode.specs.Tables.{limit}
 use Rattle.pieces.specs.declared.flow.Counting.the-variants.{Ctr as Ctr·counting}
-use Rattle.pieces.specs.declared.flow.Flow.{Flow}
 use Rattle.pieces.specs.declared.ctr.Ctr.{Ctr}
 use Rattle.pieces.specs.States.{ctrAfter, ctrShut}
 use Rattle.pieces.specs.Calls.{ended, ctrStart, ctrPiece, ctrEnd}
 use Rattle.pieces.proofs.KeyStream.{flow-on, text-on}
 use Rattle.pieces.proofs.Passing.{running-passes, writing-passes}
-use Rattle.pieces.proofs.Stepping.{step, same-step, went-on, begun-there}
+use Rattle.pieces.proofs.Stepping.{step}
 
 -- a start that passes stands before the first byte
 pub ctr-started : (dir : Direction) (c : Sm4Cipher) (iv : List ℕ) → keyAndIv (c .answer) (c .retired) dir Ctr·mode (length iv) ≡ Passed
     → ctrStart dir c iv ≡ step Ctr (under (keyNumber c) (finished 0)) [] (ctrAfter (keyNumber c) (c .engine) (c .rk) iv [])
 unfolding ctrStart
-ctr-started dir c iv e = sym (begun-there Ctr _ ctrShut (λ (k : ℕ). ctrAfter k (c .engine) (c .rk) iv []) _ _ refl _ _ e refl refl)
+ctr-started dir c iv e = rw e
 
 module _ (rk iv d : List ℕ) where
   -- what the single call gives of d and then e, from e's first byte on
@@ -44,9 +36,7 @@ module _ (rk iv d : List ℕ) where
   pub ctr-joined : (e : List ℕ) → chain (streamMode Ctr·kind rk) iv d ++ ctrStretch e ≡ chain (streamMode Ctr·kind rk) iv (d ++ e)
   ctr-joined e =
       let m = streamMode Ctr·kind rk in
-      let text = text-on Ctr·counting rk iv d e in
-      ap (λ (l : List ℕ). chain m iv d ++ l) (ap (drop (length d)) text ∙ drop-at (chain m iv d) _ (length d) (length-stream Ctr·kind rk iv d))
-      ∙ sym text
+      rw (text-on Ctr·counting rk iv d e, drop-at (chain m iv d) _ (length d) (length-stream Ctr·kind rk iv d))
 
 module _ (k mark : ℕ) (rk iv d : List ℕ) where
   -- a piece e behind d gives its stretch of the single call on both, and the state after both
@@ -55,18 +45,13 @@ module _ (k mark : ℕ) (rk iv d : List ℕ) where
       ≡ step Ctr (under k (finished (length e))) (over (ctrStretch rk iv d e) o) (ctrAfter k mark rk iv (d ++ e))
   unfolding ctrPiece ctrAfter
   ctr-goes-on e o within room =
-      let m = streamMode Ctr·kind rk in
-      let text = text-on Ctr·counting rk iv d e in
-      let written = sym (ap (drop (length d)) text ∙ drop-at (chain m iv d) _ (length d) (length-stream Ctr·kind rk iv d)) in
-      sym
-      (went-on Ctr _ _ o _ _ _ (writing-passes 0 (length d) (omega arith) (length e) (length e) (length o) within room)
-      (same-step Ctr _ _ _ _ _ _ refl (ap (λ (l : List ℕ). over l o) (sym written))
-      (ap₂ {C = Ctr} (λ (f : Flow) (n : ℕ). record { rk = rk; flow = f; first = iv; total = n; stands = 0; key = k; engine = mark })
-      (sym (flow-on Ctr·counting rk iv d e)) (length-append d e))))
+      rw (writing-passes 0 (length d) (omega arith) (length e) (length e) (length o) within room, flow-on Ctr·counting rk iv d e)
+      (rw (length-append d e, text-on Ctr·counting rk iv d e)
+      (rw (drop-at (chain (streamMode Ctr·kind rk) iv d) _ (length d) (length-stream Ctr·kind rk iv d))))
 
   -- the end is done, and tells of the counter what the single call does; then every call is refused by 12
   pub ctr-ended : length d ≤ limit
       → ctrEnd (ctrAfter k mark rk iv d)
       ≡ step Ctr (under k (telling (ctrCameRound iv (blocksOf (length d))) (finished 0))) [] (ctrShut k ended)
   unfolding ctrEnd ctrAfter
-  ctr-ended within = sym (went-on Ctr _ _ [] _ _ _ (running-passes 0 (length d) (omega arith) 0 (rw add-zero within)) refl)
+  ctr-ended within = rw (running-passes 0 (length d) (omega arith) 0 (rw add-zero within))

@@ -1,13 +1,7 @@
 -- The hash cut anywhere: from the hash after a text, what is behind it goes on as in the whole.
--- Assumes nothing.
-use mathlib.Core.Path.{_≡_, refl, sym, ap, ap₂, _∙_}
-use mathlib.Core.List.{List, [], _∷_, _++_, append-assoc}
-use Prim.Native.Nat.{ℕ, _+_, _-_, _*_, _/_, _%_, _<_}
-use native.Mathlib.Nat.{mod-eq-of-lt, mod-lt}
-use native.Mathlib.Omega.{arith}
-use lib.Dec.{lit<}
-use lib.ListN.{length, take, drop, replicate}
-use lib.Seq.{take-take, take-at}
+use Rattle.block.proofs.Base.{_%_, _*_, _/_, _<_, ℕ, _∙_, _≡_, ap, refl, sym, List, [], _++_, _∷_, append-assoc, mod-eq-of-lt, mod-lt}
+use Rattle.block.proofs.Base.{arith, lit<, length, replicate, take, take-at}
+use lib.Seq.{take-take}
 use Rattle.block.specs.Below.{AreBytes}
 use Rattle.block.specs.BigEndian.{numberOf, bytesOf}
 use Rattle.block.proofs.Convert.{bytesOf-numberOf, numberOf-bytesOf}
@@ -19,12 +13,15 @@ use Rattle.pieces.specs.declared.hashing.Hashing.{Hashing}
 use Rattle.pieces.specs.Hashing.{fullPart, begunPart, filledUp, hashAfter, hashOf, hashNext, hashEnd}
 use Rattle.pieces.proofs.Begun.{full-length, begun-length, both-parts, full-behind, begun-behind}
 
--- sixteen bytes are those of the number that they spell
+-- sixteen bytes are those of the number that they spell, and the other way round
 respelled : (b : List ℕ) → length b ≡ 16 → AreBytes b → bytesOf 16 (numberOf b) ≡ b
 respelled b n small = ap (λ (k : ℕ). bytesOf k (numberOf b)) (sym n) ∙ bytesOf-numberOf b small
 
-pub spelled-back : (x : ℕ) → Element x → numberOf (bytesOf 16 x) ≡ x
+spelled-back : (x : ℕ) → Element x → numberOf (bytesOf 16 x) ≡ x
 spelled-back x h = numberOf-bytesOf 16 x ∙ mod-eq-of-lt h
+
+element-bytes : (x : ℕ) → Element (numberOf (bytesOf 16 x))
+element-bytes x = rw (numberOf-bytesOf 16 x) (mod-lt x (lit< tt))
 
 -- a text that fills no block is held
 pub held-within : (h y c : List ℕ) → length c < 16 → length y ≡ 16 → AreBytes y
@@ -32,73 +29,48 @@ pub held-within : (h y c : List ℕ) → length c < 16 → length y ≡ 16 → A
 unfolding hashAfter hashFrom
 held-within h y c low n small =
     let z : 16 * (length c / 16) ≡ 0 = omega arith in
-    let none : blocks (fullPart c) ≡ [] = ap (λ (k : ℕ). blocks (take k c)) z ∙ blocks-nil in
-    ap₂ {C = Hashing} (λ (y b : List ℕ). record { h = h; y = y; held = filledUp b })
-    (sym (ap (λ (l : List ℕ). bytesOf 16 (hashFrom (numberOf h) (numberOf y) l)) none ∙ respelled y n small))
-    (sym (ap (λ (k : ℕ). drop k c) z))
+    rw (z, blocks-nil, respelled y n small)
 
 -- a full block, and then the full blocks behind it
 pub full-first : (b c : List ℕ) → length b ≡ 16 → blocks (fullPart (b ++ c)) ≡ blocks b ++ blocks (fullPart c)
-full-first b c n = ap blocks (full-behind 1 b c n) ∙ blocks-append 1 b (fullPart c) n
-
--- what is held before the place where the text ended
-held-part : (b : List ℕ) → length b < 16 → take (length b) (filledUp b) ≡ b
-unfolding filledUp
-held-part b low = take-take (length b) 16 (b ++ replicate 16 0) (omega arith) ∙ take-at b (replicate 16 0) (length b) refl
+full-first b c n = rw (full-behind b c 1 n) (blocks-append 1 b (fullPart c) n)
 
 module _ (h y c : List ℕ) (eh : Element (numberOf h)) (ey : Element (numberOf y)) where
-  low : length (begunPart c) < 16
-  low = omega (arith, begun-length c)
+  -- the full blocks of c, what is begun behind them, and the hash so far
+  abbrev a : List ℕ
+  a = fullPart c
 
-  held-is : take (length c % 16) (filledUp (begunPart c)) ≡ begunPart c
-  held-is = ap (λ (p : ℕ). take p (filledUp (begunPart c))) (sym (begun-length c)) ∙ held-part (begunPart c) low
+  abbrev b : List ℕ
+  b = begunPart c
 
-  so-far : ℕ
-  so-far = hashFrom (numberOf h) (numberOf y) (blocks (fullPart c))
+  so-far : numberOf (bytesOf 16 (hashFrom (numberOf h) (numberOf y) (blocks a))) ≡ hashFrom (numberOf h) (numberOf y) (blocks a)
+  so-far = spelled-back _ (hashFrom-lt (numberOf h) eh (numberOf y) (blocks a) ey)
 
-  so-far-is : numberOf (bytesOf 16 so-far) ≡ so-far
-  unfolding so-far
-  so-far-is = spelled-back so-far (hashFrom-lt (numberOf h) eh (numberOf y) (blocks (fullPart c)) ey)
-
-  -- the blocks behind
-  more : (l : List ℕ) → hashFrom (numberOf h) (numberOf (bytesOf 16 so-far)) l ≡ hashFrom (numberOf h) (numberOf y) (blocks (fullPart c) ++ l)
-  unfolding so-far
-  more l = ap (λ (n : ℕ). hashFrom (numberOf h) n l) so-far-is ∙ sym (hash-append (numberOf h) (numberOf y) (blocks (fullPart c)) l)
-
-  joined : (x : List ℕ) → blocks (fullPart c) ++ blocks x ≡ blocks (fullPart c ++ x)
-  joined x = sym (blocks-append (length c / 16) (fullPart c) x (full-length c))
+  -- what is held before the place where the text ended
+  held-is : take (length c % 16) (filledUp b) ≡ b
+  unfolding filledUp
+  held-is =
+      let n = begun-length c in
+      rw (← n) (take-take (length b) 16 (b ++ replicate 16 0) (omega arith) ∙ take-at b _ (length b) refl)
 
   -- the hash after c and then e is that after both
   pub hash-on : (e : List ℕ) → hashNext (hashAfter h y c) (length c % 16) e ≡ hashAfter h y (c ++ e)
-  unfolding hashNext hashAfter so-far
+  unfolding hashNext hashAfter
   hash-on e =
-      let b = begunPart c in
-      let whole : fullPart c ++ (b ++ e) ≡ c ++ e = sym (append-assoc (fullPart c) b e) ∙ ap (λ (l : List ℕ). l ++ e) (both-parts c) in
-      let full : fullPart c ++ fullPart (b ++ e) ≡ fullPart (c ++ e) =
-      sym (full-behind (length c / 16) (fullPart c) (b ++ e) (full-length c)) ∙ ap fullPart whole in
-      let begun : begunPart (b ++ e) ≡ begunPart (c ++ e) =
-      sym (begun-behind (length c / 16) (fullPart c) (b ++ e) (full-length c)) ∙ ap begunPart whole in
-      ap {B = Hashing} (λ (l : List ℕ). hashAfter h (bytesOf 16 so-far) (l ++ e)) held-is
-      ∙ ap₂ {C = Hashing} (λ (n : ℕ) (l : List ℕ). record { h = h; y = bytesOf 16 n; held = filledUp l })
-      (more (blocks (fullPart (b ++ e))) ∙ ap (hashFrom (numberOf h) (numberOf y)) (joined (fullPart (b ++ e)) ∙ ap blocks full)) begun
+      let k = length c / 16 in
+      let n = full-length c in
+      let whole : c ++ e ≡ a ++ (b ++ e) = ap (λ (l : List ℕ). l ++ e) (sym (both-parts c)) ∙ append-assoc a b e in
+      rw (held-is, so-far, whole, full-behind a (b ++ e) k n, begun-behind a (b ++ e) k n, blocks-append k a (fullPart (b ++ e)) n)
+      (rw (hash-append (numberOf h) (numberOf y) (blocks a) (blocks (fullPart (b ++ e)))))
 
   -- and at the end all blocks of c are hashed
   pub hash-ends : (label text : ℕ)
       → hashEnd (hashAfter h y c) (length c % 16) label text
       ≡ bytesOf 16 (hashFrom (numberOf h) (numberOf y) (blocks c ++ (lengthBlock label text ∷ [])))
-  unfolding hashEnd hashAfter so-far
+  unfolding hashEnd hashAfter
   hash-ends label text =
-      let b = begunPart c in
-      let m = lengthBlock label text ∷ [] in
-      let all : blocks (fullPart c) ++ blocks b ≡ blocks c = joined b ∙ ap blocks (both-parts c) in
-      ap (λ (l : List ℕ). bytesOf 16 (hashFrom (numberOf h) (numberOf (bytesOf 16 so-far)) (blocks l ++ m))) held-is
-      ∙ ap (bytesOf 16)
-      (more (blocks b ++ m)
-      ∙ ap (hashFrom (numberOf h) (numberOf y)) (sym (append-assoc (blocks (fullPart c)) (blocks b) m) ∙ ap (λ (l : List ℕ). l ++ m) all))
-
--- sixteen bytes spell an element of the field
-element-bytes : (x : ℕ) → Element (numberOf (bytesOf 16 x))
-element-bytes x = rw (numberOf-bytesOf 16 x) (mod-lt x (lit< tt))
+      let all : blocks c ≡ blocks a ++ blocks b = ap blocks (sym (both-parts c)) ∙ blocks-append (length c / 16) a b (full-length c) in
+      rw (held-is, so-far, all, append-assoc, hash-append (numberOf h) (numberOf y) (blocks a))
 
 module _ (h : ℕ) (label c : List ℕ) where
   -- from the start
@@ -107,12 +79,10 @@ module _ (h : ℕ) (label c : List ℕ) where
   hash-on-of e = hash-on (bytesOf 16 h) (bytesOf 16 (ghash h (blocks label))) c (element-bytes h) (element-bytes (ghash h (blocks label))) e
 
   -- and at the end it is the hash of label and text
-  pub hash-ends-of : Element h → hashEnd (hashOf h label c) (length c % 16) (length label) (length c) ≡ bytesOf 16 (ghash h (authBlocks label c))
+  pub hash-ends-of : Element h
+      → hashEnd (hashOf h label c) (length c % 16) (length label) (length c) ≡ bytesOf 16 (ghash h (authBlocks label c))
   unfolding hashOf authBlocks
   hash-ends-of hh =
       let y = ghash h (blocks label) in
-      let m = blocks c ++ (lengthBlock (length label) (length c) ∷ []) in
-      hash-ends (bytesOf 16 h) (bytesOf 16 y) c (element-bytes h) (element-bytes y) (length label) (length c)
-      ∙ ap (bytesOf 16)
-      (ap₂ (λ (k x : ℕ). hashFrom k x m) (spelled-back h hh) (spelled-back y (ghash-lt h hh (blocks label)))
-      ∙ sym (hash-append h 0 (blocks label) m))
+      let ends = hash-ends (bytesOf 16 h) (bytesOf 16 y) c (element-bytes h) (element-bytes y) (length label) (length c) in
+      rw (ends, spelled-back h hh, spelled-back y (ghash-lt h hh (blocks label)), hash-append h 0 (blocks label))

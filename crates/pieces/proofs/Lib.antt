@@ -1,13 +1,13 @@
+pub mod Cases
 pub mod Begun
 pub mod Pads
 pub mod KeyStream
 pub mod Filling
+pub mod Fitting
 pub mod HashOn
 pub mod Passing
 pub mod Stepping
-pub mod TagWords
 pub mod Sealing
-pub mod Opening
 pub mod CtrInPieces
 pub mod OpensInPieces
 pub mod SealInPieces

@@ -1,11 +1,7 @@
 -- A text xored with a pad that is shorter or longer: as far as both go, in two parts, and byte by byte.
--- Assumes nothing.
-use mathlib.Core.Path.{_≡_, refl, sym, ap, ap₂, _∙_}
-use mathlib.Core.List.{List, [], _∷_, _++_}
-use Prim.Native.Nat.{ℕ, zero, suc, _+_, _-_, _≤_, _<_, min}
-use native.Mathlib.Omega.{arith}
-use lib.ListN.{length, take, drop, getD, set, length-drop}
-use lib.Seq.{take-nil, getD-drop}
+use Rattle.block.proofs.Base.{_+_, _-_, _<_, _≤_, min, suc, zero, ℕ, _∙_, _≡_, ap, ap₂, refl, sym, List, [], _++_, _∷_, arith, drop, getD}
+use Rattle.block.proofs.Base.{length, length-drop, set, take, take-nil}
+use lib.Seq.{getD-drop}
 use Rattle.block.specs.Xor.{_⊕_, xors}
 use Rattle.walk.specs.Walk.{over}
 use Rattle.walk.proofs.Fill.{xor-turn}

@@ -1,11 +1,5 @@
 -- What is known where the checks of a piece or of an end passed, and that a state that stands at 0 passes.
--- Assumes nothing.
-use mathlib.Core.Path.{_≡_, refl}
-use mathlib.Core.Bool.{Bool, true, false, not, cond}
-use Prim.Native.Nat.{ℕ, _+_, _≤_}
-use native.Mathlib.Omega.{arith}
-use lib.Dec.{eqb, ltb}
-use borrow.Author.Tests.{ltb-false, le-ltb, eqb-true, eq-eqb}
+use Rattle.block.proofs.Base.{_+_, _≤_, ℕ, _≡_, refl, Bool, cond, false, not, true, arith, eq-eqb, eqb-true, le-ltb, ltb-false, eqb, ltb}
 use Rattle.cipher_mode.specs.declared.KeyAnswer.{KeyAnswer}
 use Rattle.cipher_mode.specs.declared.CipherMode.the-variants.{Gcm}
 use Rattle.cipher_mode.specs.declared.Direction.{Direction}

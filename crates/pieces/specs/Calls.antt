@@ -1,5 +1,5 @@
 -- The calls: what each one leaves, from the inputs alone, whatever the state's fields hold.
-use Prim.Native.Nat.{ℕ, _+_, _/_, _%_}
+use Prim.Native.Nat.{ℕ, _+_, _%_}
 use mathlib.Core.Bool.{cond}
 use mathlib.Core.List.{List, []}
 use lib.ListN.{length}

@@ -1,4 +1,4 @@
--- What is refused of a start, a piece and an end, in the request's order: what the state stands at, the lengths, the tag, the room.
+-- What is refused of a start, a piece and an end, in the order of W3: what the state stands at, the lengths, the tag, the room.
 use Prim.Native.Nat.{ℕ, _+_, _-_}
 use mathlib.Core.Bool.{Bool, not, cond}
 use lib.Dec.{eqb, ltb}

@@ -1,54 +1,18 @@
--- What is known of a plan that is accepted, piece by piece, and that no sum wraps in the check.
--- Assumes nothing.
-use mathlib.Core.Path.{_≡_, refl, sym, _∙_}
-use mathlib.Core.Bool.{true, false, not, _||_}
-use mathlib.Core.List.{List, [], _∷_}
-use mathlib.Core.Logic.{_≢_, _⊎_, inl, inr}
-use Prim.Native.Nat.{ℕ, _+_, _%_, _≤_}
-use native.Mathlib.Omega.{arith}
-use lib.Dec.{eqb, leb}
-use lib.ListN.{length, take}
-use lib.Seq.{length-take-le}
-use borrow.Author.Tests.{eqb-true, eqb-false, leb-true, not-true}
+-- What is known of a plan that is accepted, and that no sum wraps in the check.
+use Rattle.block.proofs.Base.{_≤_, ℕ, _∙_, _≡_, refl, sym, false, false≢true, true, List, [], _∷_, arith, eqb-true, leb-true, leb, length}
+use Rattle.block.proofs.Base.{take, length-take-le}
 use Rattle.block.proofs.Same.{and-left, and-right}
-use Rattle.ranges.specs.Plan.{isLast, follows, accepts}
+use Rattle.ranges.specs.Plan.{follows, accepts}
 use Rattle.ranges.specs.declared.plan.Plan.{Plan}
-use Rattle.ranges.proofs.Following.{reaches}
-
--- the first of pieces that follow one another from `at` to n
-pub record First (at n s l : ℕ) (ss ls : List ℕ) : Type 0 where
-  pub starts-here : s ≡ at
-  pub not-empty : l ≢ 0
-  pub last-or-whole : (ss ≡ []) ⊎ (l % 16 ≡ 0)
-  pub inside : at + l ≤ n
-  pub rest : follows (at + l) n ss ls ≡ true
-
-last-or : (ss : List ℕ) (l : ℕ) → (isLast ss || eqb (l % 16) 0) ≡ true → (ss ≡ []) ⊎ (l % 16 ≡ 0)
-last-or [] l e = inl refl
-last-or (s ∷ ss) l e = inr (eqb-true (l % 16) 0 e)
-
-pub first-piece : (at n s l : ℕ) (ss ls : List ℕ) → follows at n (s ∷ ss) (l ∷ ls) ≡ true → First at n s l ss ls
-unfolding follows
-first-piece at n s l ss ls e =
-    let from-length = and-right (eqb s at) _ e in
-    let from-last = and-right (not (eqb l 0)) _ from-length in
-    let rest = and-right (isLast ss || eqb (l % 16) 0) _ from-last in
-    record {
-      starts-here = eqb-true s at (and-left (eqb s at) _ e);
-      not-empty = eqb-false l 0 (not-true (eqb l 0) (and-left (not (eqb l 0)) _ from-length));
-      last-or-whole = last-or ss l (and-left (isLast ss || eqb (l % 16) 0) _ from-last);
-      inside = reaches (at + l) n ss ls rest;
-      rest = rest;
-    }
+use Rattle.ranges.proofs.Following.{first-piece}
 
 nothing-follows : (ss ls : List ℕ) → follows 0 0 ss ls ≡ true → length ss ≡ 0
 unfolding follows
 nothing-follows [] ls e = refl
-nothing-follows (s ∷ ss) [] e = let z : _≡_ {A = ℕ} 0 1 = cc in absurd (omega arith)
+nothing-follows (s ∷ ss) [] e = absurd (false≢true e)
 nothing-follows (s ∷ ss) (l ∷ ls) e =
     let first = first-piece 0 0 s l ss ls e in
-    let inside = first .inside in
-    absurd (first .not-empty (omega (arith, inside)))
+    absurd (first .not-empty (omega (arith, first .inside)))
 
 module _ (p : Plan) (n : ℕ) (accepted : accepts p n ≡ true) where
   pub at-most-64 : p .count ≤ 64

@@ -1,16 +1,12 @@
 -- The shares of a text may be done in any order: what stands in the output is the same. Those of an accepted plan give the single call's
 -- bytes.
--- Assumes nothing.
-use mathlib.Core.Path.{_≡_, refl, sym, ap, _∙_}
+use Rattle.block.proofs.Base.{_+_, _-_, _≤_, min, suc, zero, ℕ, _∙_, _≡_, ap, refl, sym, false≢true, true, List, [], _∷_, arith, eqb-true}
+use Rattle.block.proofs.Base.{drop, length, length-drop, length-take, take}
 use mathlib.Core.HLevel.{hedberg}
-use mathlib.Core.Bool.{true}
-use mathlib.Core.List.{List, [], _∷_, foldr, Perm, Perm·foldr-eq, List·isSet}
-use Prim.Native.Nat.{ℕ, zero, suc, _+_, _-_, _≤_, min}
+use mathlib.Core.List.{foldr, Perm, Perm·foldr-eq, List·isSet}
 use native.Mathlib.Decide.{ℕ-discrete}
-use native.Mathlib.Omega.{arith}
-use lib.ListN.{length, take, drop, length-take, length-drop}
-use borrow.Author.Tests.{eqb-true}
 use Rattle.block.specs.Xor.{_⊕_, xors}
+use Rattle.block.proofs.Xors.{xors-comm}
 use Rattle.walk.specs.Walk.{chain, over}
 use Rattle.stream.specs.Stream.{streamMode}
 use Rattle.stream.specs.declared.Kind.the-variants.{Ctr as Ctr·kind}
@@ -18,16 +14,13 @@ use Rattle.stream.proofs.RoundTrip.{length-stream}
 use Rattle.ranges.specs.declared.plan.Plan.{Plan}
 use Rattle.ranges.specs.Plan.{follows, accepts}
 use Rattle.ranges.specs.Range.{stretch}
-use Rattle.ranges.specs.Shares.{Share, shares, sharesOf, shareOf, laidAt, worked, allWorked}
-use Rattle.ranges.proofs.Accepted.{first-piece, from-0-to-n}
+use Rattle.ranges.specs.Shares.{Share, shares, sharesOf, shareOf, worked, allWorked}
+use Rattle.ranges.proofs.Accepted.{from-0-to-n}
+use Rattle.ranges.proofs.Following.{first-piece}
 use Rattle.ranges.proofs.KeyStream.{pads, chain-pads, stretch-pads}
 use Rattle.ranges.proofs.Copied.{copied, length-copied, none-copied, copies-commute, copies-join, all-copied, laid-copied}
 
 -- a part of what is xored is that part of both
-xors-nothing : (a : List ℕ) → xors a [] ≡ []
-xors-nothing [] = refl
-xors-nothing (x ∷ a) = refl
-
 take-xors : (n : ℕ) (a p : List ℕ) → take n (xors a p) ≡ xors (take n a) p
 take-xors zero a p = refl
 take-xors (suc n) [] p = refl
@@ -37,7 +30,7 @@ take-xors (suc n) (x ∷ a) (y ∷ p) = ap {B = List ℕ} (λ l. (x ⊕ y) ∷ l
 drop-xors : (n : ℕ) (a p : List ℕ) → drop n (xors a p) ≡ xors (drop n a) (drop n p)
 drop-xors zero a p = refl
 drop-xors (suc n) [] p = refl
-drop-xors (suc n) (x ∷ a) [] = sym (xors-nothing (drop n a))
+drop-xors (suc n) (x ∷ a) [] = sym (xors-comm (drop n a) [])
 drop-xors (suc n) (x ∷ a) (y ∷ p) = drop-xors n a p
 
 module _ (rk iv d : List ℕ) where
@@ -50,10 +43,8 @@ module _ (rk iv d : List ℕ) where
       let j = p .start + length d in
       let k = pads rk j iv in
       let size = length-take (p .size) (drop (p .start) d) ∙ ap (λ (n : ℕ). min (p .size) n) (length-drop (p .start) d) in
-      stretch-pads rk iv (p .start) (shareOf p d) j (omega (arith, size))
-      ∙ sym (take-xors (p .size) (drop (p .start) d) (drop (p .start) k))
-      ∙ ap (take (p .size)) (sym (drop-xors (p .start) d k))
-      ∙ ap (λ (l : List ℕ). take (p .size) (drop (p .start) l)) (sym (chain-pads rk j iv d (omega arith)))
+      rw (stretch-pads rk iv (p .start) (shareOf p d) j (omega (arith, size)), chain-pads rk j iv d (omega arith))
+      (rw (drop-xors (p .start) d k, take-xors (p .size) (drop (p .start) d) (drop (p .start) k)))
 
   length-whole : length whole ≡ length d
   length-whole = length-stream Ctr·kind rk iv d
@@ -62,10 +53,8 @@ module _ (rk iv d : List ℕ) where
   abbrev copies : Share → List ℕ → List ℕ
   copies p o = copied (p .start) (p .size) whole o
 
-  worker-copies : (p : Share) (o : List ℕ) → length d ≤ length o → worked rk iv d p o ≡ copies p o
-  worker-copies p o h =
-      ap (λ (s : List ℕ). laidAt (p .start) s o) (share-of-whole p)
-      ∙ laid-copied (p .start) (p .size) whole o (omega (arith, h, length-whole))
+  pub worker-copies : (p : Share) (o : List ℕ) → length d ≤ length o → worked rk iv d p o ≡ copies p o
+  worker-copies p o h = rw (share-of-whole p) (laid-copied (p .start) (p .size) whole o (omega (arith, h, length-whole)))
 
   all-copy : (ps : List Share) (o : List ℕ) → length d ≤ length o
       → (allWorked rk iv d ps o ≡ foldr copies o ps) × (length (foldr copies o ps) ≡ length o)
@@ -93,18 +82,13 @@ module _ (rk iv d : List ℕ) where
       → foldr copies o (shares ss ls) ≡ copied at (length d - at) whole o
   unfolding follows
   following at [] ls o e =
-      let end = eqb-true at (length d) e in
-      let none : length d - at ≡ 0 = omega (arith, end) in
-      sym (ap (λ (n : ℕ). copied at n whole o) none ∙ none-copied at whole o)
-  following at (s ∷ ss) [] o e = let z : _≡_ {A = ℕ} 0 1 = cc in absurd (omega arith)
+      let none : length d - at ≡ 0 = omega (arith, eqb-true at (length d) e) in
+      rw none (sym (none-copied at whole o))
+  following at (s ∷ ss) [] o e = absurd (false≢true e)
   following at (s ∷ ss) (l ∷ ls) o e =
       let f = first-piece at (length d) s l ss ls e in
-      let inside = f .inside in
-      let sum : l + (length d - (at + l)) ≡ length d - at = omega (arith, inside) in
-      ap (λ (k : ℕ). copied k l whole (foldr copies o (shares ss ls))) (f .starts-here)
-      ∙ ap (copied at l whole) (following (at + l) ss ls o (f .rest))
-      ∙ copies-join at l (length d - (at + l)) (at + l) whole o refl
-      ∙ ap (λ (n : ℕ). copied at n whole o) sum
+      let sum : l + (length d - (at + l)) ≡ length d - at = omega (arith, f .inside) in
+      rw (f .starts-here, following (at + l) ss ls o (f .rest), copies-join at l (length d - (at + l)) (at + l) whole o refl, sum)
 
   -- The shares of an accepted plan, whoever made it, done in any order, leave the single call's bytes in the output, and what is past them
   -- as it was.

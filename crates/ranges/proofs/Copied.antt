@@ -1,13 +1,8 @@
 -- Copying stretches of one list into another: in any order, overlapping or not, the same comes of it, and stretches that follow one
 -- another are one.
--- Assumes nothing.
-use mathlib.Core.Path.{_≡_, refl, ap, _∙_}
-use mathlib.Core.List.{List, [], _∷_, _++_}
-use Prim.Native.Nat.{ℕ, zero, suc, _+_, _≤_}
-use native.Mathlib.Nat.{add-zero}
-use native.Mathlib.Omega.{arith}
-use lib.ListN.{length, take, drop, take-append-drop}
-use lib.Seq.{take-nil, drop-nil}
+use Rattle.block.proofs.Base.{_+_, _≤_, suc, zero, ℕ, _∙_, _≡_, ap, refl, List, [], _++_, _∷_, add-zero, arith, drop, length, take}
+use Rattle.block.proofs.Base.{take-append-drop, take-nil}
+use lib.Seq.{drop-nil}
 use Rattle.walk.specs.Walk.{over}
 use Rattle.ranges.specs.Shares.{laidAt}
 

@@ -1,12 +1,7 @@
 -- The flow at a counter that is jumped to goes on as the whole does: the counters of Ctr do not depend on the text, so the one behind any
 -- text of `offset` bytes is the jump's.
--- Assumes nothing.
-use mathlib.Core.Path.{_≡_, refl, sym, ap, ap₂, _∙_}
-use mathlib.Core.List.{List, _++_}
-use Prim.Native.Nat.{ℕ, zero, suc, _/_, _%_}
-use native.Mathlib.Omega.{arith}
-use lib.ListN.{length, drop, replicate, length-append, length-drop, length-replicate}
-use lib.Seq.{drop-at}
+use Rattle.block.proofs.Base.{_%_, _/_, suc, zero, ℕ, _∙_, _≡_, refl, sym, List, _++_, arith, drop, length, length-append, length-drop}
+use Rattle.block.proofs.Base.{length-replicate, replicate, drop-at}
 use Rattle.block.specs.Below.{AreBytes}
 use Rattle.block.proofs.Convert.{length-bytesOf, bytesOf-bytes}
 use Rattle.counter.specs.Counter.{ctrJump, ctrNext}
@@ -16,7 +11,6 @@ use Rattle.stream.specs.Stream.{streamMode}
 use Rattle.stream.specs.declared.Kind.the-variants.{Ctr as Ctr·kind}
 use Rattle.stream.proofs.RoundTrip.{length-stream}
 use Rattle.pieces.specs.declared.flow.Counting.the-variants.{Ctr as Ctr·counting}
-use Rattle.pieces.specs.declared.flow.Flow.{Flow}
 use Rattle.pieces.specs.Flow.{flowAt, flowAfter, flowText}
 use Rattle.pieces.proofs.KeyStream.{text-on}
 use Rattle.ranges.specs.Range.{stretch}
@@ -34,12 +28,8 @@ pub behind : (rk iv pre d : List ℕ) (offset : ℕ) → length iv ≡ 16 → Ar
     ≡ flowText Ctr·counting rk (flowAt rk (ctrJump iv (offset / 16))) (offset % 16) d
 unfolding flowAfter endState
 behind rk iv pre d offset l a n =
-    let m = streamMode Ctr·kind rk in
-    let counter : endState m iv pre ≡ ctrJump iv (offset / 16) =
-    ctr-stepped rk (length pre / 16) iv pre l a ∙ ap (λ (k : ℕ). ctrJump iv (k / 16)) n in
-    ap (drop offset) (text-on Ctr·counting rk iv pre d)
-    ∙ drop-at (chain m iv pre) _ offset (length-stream Ctr·kind rk iv pre ∙ n)
-    ∙ ap₂ (λ (f : Flow) (k : ℕ). flowText Ctr·counting rk f (k % 16) d) (ap {B = Flow} (flowAt rk) counter) n
+    let given = length-stream Ctr·kind rk iv pre ∙ n in
+    rw (text-on Ctr·counting rk iv pre d, drop-at (chain (streamMode Ctr·kind rk) iv pre) _ offset given, ctr-stepped rk _ iv pre l a, n)
 
 pub jumped : (rk iv d : List ℕ) (offset : ℕ) → length iv ≡ 16 → AreBytes iv
     → flowText Ctr·counting rk (flowAt rk (ctrJump iv (offset / 16))) (offset % 16) d ≡ stretch rk iv offset d
@@ -56,5 +46,4 @@ unfolding stretch
 length-stretch rk iv offset d =
     let z : List ℕ = replicate offset 0 in
     let n : length z ≡ offset = length-replicate offset 0 in
-    let m = length-stream Ctr·kind rk iv (z ++ d) ∙ length-append z d in
-    length-drop offset (chain (streamMode Ctr·kind rk) iv (z ++ d)) ∙ omega arith
+    rw (length-drop, length-stream Ctr·kind rk iv (z ++ d), length-append) (omega arith)

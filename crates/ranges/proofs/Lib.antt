@@ -9,7 +9,7 @@ pub mod Sharing
 pub mod Passed
 pub mod Jumped
 pub mod KeyStream
-pub mod Applied
 pub mod Joined
 pub mod Copied
 pub mod AnyOrder
+pub mod Applied

@@ -1,14 +1,9 @@
 -- The planner's plans are accepted, have no more pieces than workers, and no piece is longer than its share.
--- Assumes nothing.
-use mathlib.Core.Path.{_≡_, refl, _∙_}
-use mathlib.Core.Bool.{Bool, true, false, _||_}
-use Prim.Native.Nat.{ℕ, zero, suc, _+_, _-_, _*_, _%_, _≤_, _<_}
-use native.Mathlib.Nat.{suc-mul, mul-le-mul-right}
-use native.Mathlib.Omega.{arith}
-use lib.Dec.{ltb}
-use lib.ListN.{getD, take}
-use borrow.Author.Tests.{ltb-true, ltb-false, lt-ltb, le-ltb, le-leb, eq-eqb, ne-eqb}
-use Rattle.ranges.specs.Plan.{follows, accepts, pieceSize, lengthAt, countFrom, startsFrom, lengthsFrom, planOf}
+use Rattle.block.proofs.Base.{_%_, _*_, _+_, _-_, _<_, _≤_, suc, zero, ℕ, _∙_, _≡_, refl, Bool, _||_, false, true, mul-le-mul-right, arith}
+use Rattle.block.proofs.Base.{eq-eqb, le-leb, le-ltb, lt-ltb, ne-eqb, getD, take}
+use native.Mathlib.Nat.{suc-mul}
+use Rattle.pieces.proofs.Cases.{by-order}
+use Rattle.ranges.specs.Plan.{follows, accepts, pieceSize, countFrom, startsFrom, lengthsFrom, planOf}
 use Rattle.ranges.proofs.Sharing.{whole-blocks, hold-all, none-empty}
 
 or-true : (t : Bool) → t || true ≡ true
@@ -28,19 +23,14 @@ module _ (n size : ℕ) where
   unfolding countFrom
   before k at h = rw (lt-ltb at n h) (omega arith)
 
-  more-or-none : (k at w : ℕ) → n ≤ at + w * size → (t : Bool) → ltb at n ≡ t
-      → ((v : ℕ) → n ≤ at + size + v * size → countFrom n size k (at + size) ≤ v) → countFrom n size (suc k) at ≤ w
-  more-or-none k at w h false e rest = rw (past (suc k) at (ltb-false at n e)) (omega arith)
-  more-or-none k at zero h true e rest = let f = ltb-true at n e in absurd (omega (arith, h, f))
-  more-or-none k at (suc w) h true e rest =
-      let f = rest w (omega (arith, h, suc-mul w size)) in
-      rw (before k at (ltb-true at n e)) (omega (arith, f))
-
   -- where w pieces hold what is left, no more than w begin
   no-more : (k at w : ℕ) → n ≤ at + w * size → countFrom n size k at ≤ w
   unfolding countFrom
   no-more zero at w h = omega arith
-  no-more (suc k) at w h = more-or-none k at w h (ltb at n) refl (no-more k (at + size))
+  no-more (suc k) at zero h = rw (past (suc k) at (omega (arith, h))) (omega arith)
+  no-more (suc k) at (suc w) h =
+      let rest = no-more k (at + size) w (omega (arith, h, suc-mul w size)) in
+      by-order at n (λ f. rw (before k at f) (omega arith)) (λ f. rw (past (suc k) at f) (omega arith))
 
   -- the pieces laid in k places from byte `at` on
   abbrev laid : ℕ → ℕ → Bool
@@ -53,54 +43,33 @@ module _ (n size : ℕ) where
   last-piece : (k at : ℕ) → at < n → n ≤ at + size → laid (suc k) at ≡ true
   unfolding follows startsFrom lengthsFrom
   last-piece k at h g =
+      let some = ne-eqb (n - at) 0 (λ e. omega (arith, e)) in
       let end : at + (n - at) ≡ n = omega arith in
-      rw (
-        before k at h,
-        past k (at + size) g,
-        lt-ltb at n h,
-        le-ltb size (n - at) (omega arith),
-        eq-eqb at at refl,
-        ne-eqb (n - at) 0 (λ e. omega (arith, e)),
-        end,
-        eq-eqb n n refl,
-      )
+      rw (before k at h, past k (at + size) g, lt-ltb at n h, le-ltb size (n - at) (omega arith), eq-eqb at at refl, some, end)
+      (rw (eq-eqb n n refl))
 
   full-piece : size % 16 ≡ 0 → 1 ≤ size → (k at : ℕ) → at + size < n → laid (suc k) at ≡ laid k (at + size)
   unfolding follows startsFrom lengthsFrom
   full-piece whole some k at h =
-      rw (
-        before k at (omega arith),
-        lt-ltb at n (omega arith),
-        lt-ltb size (n - at) (omega arith),
-        eq-eqb at at refl,
-        ne-eqb size 0 (λ e. omega (arith, e)),
-        eq-eqb (size % 16) 0 whole,
-        or-true,
-      )
+      let more = ne-eqb size 0 (λ e. omega (arith, e)) in
+      let less = lt-ltb size (n - at) (omega arith) in
+      rw (before k at (omega arith), lt-ltb at n (omega arith), less, eq-eqb at at refl, more, eq-eqb (size % 16) 0 whole, or-true)
 
-  module _ (whole : size % 16 ≡ 0) (some : 1 ≤ n → 1 ≤ size) where
-    one-more : (k at : ℕ) → at ≤ n → (t u : Bool) → ltb at n ≡ t → ltb (at + size) n ≡ u
-        → (at + size ≤ n → laid k (at + size) ≡ true) → laid (suc k) at ≡ true
-    one-more k at h false u e f rest = let g = ltb-false at n e in no-piece (suc k) at (omega (arith, g))
-    one-more k at h true false e f rest = last-piece k at (ltb-true at n e) (ltb-false (at + size) n f)
-    one-more k at h true true e f rest =
-        let g = ltb-true (at + size) n f in
-        full-piece whole (some (omega (arith, g))) k at g ∙ rest (omega (arith, g))
-
-    -- where k places hold what is left, what is laid in them follows to n
-    all-laid : (k at : ℕ) → at ≤ n → n ≤ at + k * size → laid k at ≡ true
-    all-laid zero at h g = no-piece zero at (omega (arith, g))
-    all-laid (suc k) at h g =
-        one-more k at h (ltb at n) (ltb (at + size) n) refl refl
-        (λ f. all-laid k (at + size) f (omega (arith, g, suc-mul k size)))
+  -- where k places hold what is left, what is laid in them follows to n
+  all-laid : size % 16 ≡ 0 → (1 ≤ n → 1 ≤ size) → (k at : ℕ) → at ≤ n → n ≤ at + k * size → laid k at ≡ true
+  all-laid whole some zero at h g = no-piece zero at (omega (arith, g))
+  all-laid whole some (suc k) at h g =
+      by-order at n
+      (λ e. by-order (at + size) n
+      (λ f. full-piece whole (some (omega arith)) k at f
+      ∙ all-laid whole some k (at + size) (omega arith) (omega (arith, g, suc-mul k size)))
+      (λ f. last-piece k at e f))
+      (λ e. no-piece (suc k) at (omega arith))
 
   no-longer : (k at i : ℕ) → getD (lengthsFrom n size k at) i 0 ≤ size
   unfolding lengthsFrom
   no-longer zero at i = omega arith
-  no-longer (suc k) at zero = smaller (ltb size (n - at)) refl where
-    smaller : (t : Bool) → ltb size (n - at) ≡ t → lengthAt n size at ≤ size
-    smaller true e = rw e (omega arith)
-    smaller false e = let g = ltb-false size (n - at) e in rw e (omega (arith, g))
+  no-longer (suc k) at zero = by-order size (n - at) (λ e. rw (lt-ltb _ _ e) (omega arith)) (λ e. rw (le-ltb _ _ e) (omega arith))
   no-longer (suc k) at (suc i) = no-longer k (at + size) i
 
 -- for 1 to 64 workers

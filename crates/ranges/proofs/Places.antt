@@ -1,14 +1,7 @@
 -- How many of a plan's places are pieces, n over the size rounded up, and that the places past them hold 0.
--- Assumes nothing.
-use mathlib.Core.Path.{_≡_, refl, sym}
-use mathlib.Core.Bool.{Bool, true, false}
-use Prim.Native.Nat.{ℕ, zero, suc, _+_, _-_, _*_, _/_, _≤_, _<_}
-use native.Mathlib.Nat.{suc-mul, mul-le-mul-right, div-eq-of-lt-le}
-use native.Mathlib.Numerals.{add-one}
-use native.Mathlib.Omega.{arith}
-use lib.Dec.{ltb}
-use lib.ListN.{getD}
-use borrow.Author.Tests.{ltb-true, ltb-false, le-ltb}
+use Rattle.block.proofs.Base.{_*_, _+_, _-_, _/_, _<_, _≤_, suc, zero, ℕ, _≡_, refl, sym, mul-le-mul-right, add-one, arith, le-ltb, getD}
+use native.Mathlib.Nat.{suc-mul, div-eq-of-lt-le}
+use Rattle.pieces.proofs.Cases.{by-order}
 use Rattle.ranges.specs.Plan.{pieceSize, countFrom, startsFrom, lengthsFrom, planOf}
 use Rattle.ranges.proofs.Sharing.{hold-all, none-empty}
 use Rattle.ranges.proofs.OwnPlans.{past, before}
@@ -19,20 +12,14 @@ module _ (n size : ℕ) where
   abbrev Reached : ℕ → ℕ → Type 0
   Reached k at = (n ≤ at + countFrom n size k at * size) × (at + countFrom n size k at * size < n + size)
 
-  reached-on : (k at : ℕ) → at < n + size → (t : Bool) → ltb at n ≡ t → (at < n → Reached k (at + size)) → Reached (suc k) at
-  reached-on k at h false e rest =
-      let f = ltb-false at n e in
-      rw (past n size (suc k) at f) (omega (arith, f), omega arith)
-  reached-on k at h true e rest =
-      let f = ltb-true at n e in
-      let next = rest f in
-      rw (before n size k at f, suc-mul (countFrom n size k (at + size)) size) (omega (arith, next .0), omega (arith, next .1))
-
   reached : (k at : ℕ) → n ≤ at + k * size → at < n + size → Reached k at
   unfolding countFrom
   reached zero at h g = (omega (arith, h), omega (arith, g))
   reached (suc k) at h g =
-      reached-on k at g (ltb at n) refl (λ f. reached k (at + size) (omega (arith, h, suc-mul k size)) (omega (arith, f)))
+      by-order at n
+      (λ f. let next = reached k (at + size) (omega (arith, h, suc-mul k size)) (omega arith) in
+      rw (before n size k at f, suc-mul (countFrom n size k (at + size)) size) (omega (arith, next .0), omega (arith, next .1)))
+      (λ f. rw (past n size (suc k) at f) (omega arith, omega arith))
 
   -- k places from `at` on: place i past the pieces holds 0
   abbrev Empty : ℕ → ℕ → ℕ → Type 0
@@ -46,17 +33,12 @@ module _ (n size : ℕ) where
       (rw (le-ltb at n h), rw (none, le-ltb size 0 (omega arith)))
   all-empty (suc k) at (suc i) h = all-empty k (at + size) i (omega arith)
 
-  empty-on : (k at i : ℕ) → countFrom n size (suc k) at ≤ i → (t : Bool) → ltb at n ≡ t
-      → ((j : ℕ) → countFrom n size k (at + size) ≤ j → Empty k (at + size) j) → Empty (suc k) at i
-  unfolding startsFrom lengthsFrom
-  empty-on k at i h false e rest = all-empty (suc k) at i (ltb-false at n e)
-  empty-on k at zero h true e rest = absurd (omega (arith, h, before n size k at (ltb-true at n e)))
-  empty-on k at (suc i) h true e rest = rest i (omega (arith, h, before n size k at (ltb-true at n e)))
-
   empty : (k at i : ℕ) → countFrom n size k at ≤ i → Empty k at i
   unfolding startsFrom lengthsFrom
   empty zero at i h = (refl, refl)
-  empty (suc k) at i h = empty-on k at i h (ltb at n) refl (empty k (at + size))
+  empty (suc k) at zero h = by-order at n (λ f. absurd (omega (arith, h, before n size k at f))) (all-empty (suc k) at 0)
+  empty (suc k) at (suc i) h =
+      by-order at n (λ f. empty k (at + size) i (omega (arith, h, before n size k at f))) (all-empty (suc k) at (suc i))
 
 pub past-the-count : (n w i : ℕ) → planOf n w .count ≤ i → (getD (planOf n w .starts) i 0 ≡ 0) × (getD (planOf n w .lengths) i 0 ≡ 0)
 past-the-count n w i h = empty n (pieceSize n w) 64 0 i h

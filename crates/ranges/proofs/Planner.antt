@@ -1,14 +1,6 @@
 -- What is known where the planner made a plan: the workers are 1 to 64, n is within the limit, and the plan is accepted.
--- Assumes nothing.
-use mathlib.Core.Path.{_≡_, refl, ap, _∙_}
-use mathlib.Core.Bool.{Bool, true, false, _||_, cond}
-use mathlib.Core.List.{[], _∷_}
-use mathlib.Core.Logic.{_≢_}
-use Prim.Native.Nat.{ℕ, _≤_}
-use native.Mathlib.Omega.{arith}
-use lib.Dec.{eqb, ltb}
-use lib.ListN.{take}
-use borrow.Author.Tests.{eqb-false, ltb-false}
+use Rattle.block.proofs.Base.{_≤_, ℕ, _∙_, _≡_, ap, refl, _≢_, Bool, _||_, cond, false, true, [], _∷_, arith, eqb-false, ltb-false, eqb}
+use Rattle.block.proofs.Base.{ltb, take}
 use Rattle.cipher_mode.specs.Tables.{limit}
 use Rattle.ranges.specs.Plan.{accepts, pieceSize, lengthsFrom, planOf, without, planned}
 use Rattle.ranges.specs.declared.plan.Making.the-variants.{Made, BadWorkers, TooLong}

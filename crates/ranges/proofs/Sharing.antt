@@ -1,10 +1,7 @@
 -- A piece's size: the workers' pieces hold all the bytes, each is whole blocks, none is empty unless all are, and none is too long
 -- for its place to be reckoned.
--- Assumes nothing.
-use mathlib.Core.Path.{_≡_}
-use Prim.Native.Nat.{ℕ, zero, suc, _+_, _-_, _*_, _/_, _%_, _≤_}
-use native.Mathlib.Nat.{div-add-mod, div-le-self, mod-lt, mul-left-comm, mul-mod-right}
-use native.Mathlib.Omega.{arith}
+use Rattle.block.proofs.Base.{_%_, _*_, _+_, _-_, _/_, _≤_, suc, zero, ℕ, _≡_, div-le-self, mod-lt, arith}
+use native.Mathlib.Nat.{div-add-mod, mul-left-comm, mul-mod-right}
 use Rattle.counter.specs.CameRound.{blocksOf}
 use Rattle.cipher_mode.specs.Tables.{limit}
 use Rattle.ranges.specs.Plan.{pieceSize}

@@ -1,10 +1,6 @@
 -- The blocks of a list of bytes are elements of the field, and with the list's length they tell it.
--- Assumes nothing.
-use mathlib.Core.Path.{_≡_, refl, sym, ap, ap₂, _∙_}
-use mathlib.Core.List.{List, [], _∷_, _++_}
-use Prim.Native.Nat.{ℕ, zero, suc, _-_, _*_, _≤_}
-use native.Mathlib.Omega.{arith}
-use lib.ListN.{length, drop, length-drop, take-append-drop}
+use Rattle.block.proofs.Base.{_*_, _-_, _≤_, suc, zero, ℕ, _∙_, _≡_, ap, ap₂, refl, sym, List, [], _++_, _∷_, arith, drop, length}
+use Rattle.block.proofs.Base.{length-drop, take-append-drop}
 use Rattle.block.specs.Below.{AreBytes}
 use Rattle.block.proofs.Entries.{below-drop}
 use Rattle.ghash.specs.Ghash.{blocksFrom, blockCount, blocks}

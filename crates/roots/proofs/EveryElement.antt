@@ -1,12 +1,6 @@
 -- What every element of the field has is had by more than n elements, for each n below 2^128: the numbers up to n are that many.
--- Assumes nothing.
-use mathlib.Core.Path.{_≡_, refl, ap}
-use mathlib.Core.Logic.{⊎-elim}
-use mathlib.Core.List.{List, [], _∷_, List·Mem, List·Nodup, not-mem-nil, mem-of-ne-of-mem, Pairwise·nil, Pairwise·cons}
-use Prim.Native.Nat.{ℕ, zero, suc, _-_, _^_, _<_, _≤_}
-use native.Mathlib.Nat.{eq-zero-or-pos, lt-of-lt-of-le}
-use native.Mathlib.Omega.{arith}
-use lib.ListN.{length}
+use Rattle.block.proofs.Base.{_-_, _<_, _^_, _≤_, suc, zero, ℕ, _≡_, ap, refl, ⊎-elim, List, List·Mem, List·Nodup, Pairwise·cons}
+use Rattle.block.proofs.Base.{Pairwise·nil, [], _∷_, mem-of-ne-of-mem, not-mem-nil, eq-zero-or-pos, lt-of-lt-of-le, arith, length}
 use Rattle.roots.specs.AtMost.{Having, AtMost}
 
 numbersTo : ℕ → List ℕ

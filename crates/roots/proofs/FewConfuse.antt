@@ -1,11 +1,6 @@
 -- Two different pairs of label and ciphertext have one hash under no more H than the longer has blocks: with blocks of zeros in
 -- front of the shorter they are two lists of one length that differ, and their hashes are what they were.
--- Assumes nothing.
-use mathlib.Core.Path.{_≡_, sym, _∙_}
-use mathlib.Core.Logic.{_≢_}
-use Prim.Native.Nat.{ℕ, _-_, _≤_, max}
-use native.Mathlib.Nat.{le-max-left, le-max-right}
-use lib.ListN.{length}
+use Rattle.block.proofs.Base.{_-_, _≤_, max, ℕ, _∙_, _≡_, sym, _≢_, le-max-left, le-max-right, length}
 use Rattle.ghash.specs.Ghash.{ghash}
 use Rattle.ghash.proofs.ZeroKey.{ghash-zero-key}
 use Rattle.roots.specs.AtMost.{AtMost}

@@ -1,11 +1,6 @@
 -- The value of a polynomial over the field by Horner's rule, its highest coefficient first, and its quotient by x + r, whose
 -- coefficients are the values on the way to its value at r.
--- Assumes nothing.
-use mathlib.Core.Path.{_≡_, refl, sym, ap, ap₂, _∙_}
-use mathlib.Core.List.{List, [], _∷_}
-use Prim.Native.Nat.{ℕ, suc, _^_}
-use lib.ListN.{length}
-use lib.Bits.{xor-self, xor-zero-r, xor-lt}
+use Rattle.block.proofs.Base.{_^_, suc, ℕ, _∙_, _≡_, ap, ap₂, refl, sym, List, [], _∷_, xor-lt, xor-self, xor-zero-r, length}
 use Rattle.block.specs.Below.{Below}
 use Rattle.block.specs.Xor.{_⊕_}
 use Rattle.block.proofs.Xor.{xor-swap, xor-meet}

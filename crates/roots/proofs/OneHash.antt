@@ -1,16 +1,7 @@
 -- The hash of a list of blocks is a polynomial in H whose last coefficient is 0, and that of two lists xored is both hashes
 -- xored: so different lists of one length have one hash under no more H than they have blocks.
--- Assumes nothing.
-use mathlib.Core.Path.{_≡_, refl, sym, ap, ap₂, _∙_}
-use mathlib.Core.Logic.{_≢_}
-use mathlib.Core.List.{List, [], _∷_, _++_}
-use Prim.Native.Nat.{ℕ, zero, suc, _+_}
-use native.Mathlib.Nat.{le-of-eq, le-of-suc-le-suc}
-use native.Mathlib.Numerals.{add-one}
-use native.Mathlib.Omega.{arith}
-use lib.Dec.{lit<}
-use lib.ListN.{length, replicate, length-append}
-use lib.Bits.{xor-self, xor-zero-r}
+use Rattle.block.proofs.Base.{_+_, suc, zero, ℕ, _∙_, _≡_, ap, ap₂, refl, sym, _≢_, List, [], _++_, _∷_, le-of-eq, le-of-suc-le-suc}
+use Rattle.block.proofs.Base.{add-one, arith, xor-self, xor-zero-r, lit<, length, length-append, replicate}
 use Rattle.block.specs.Xor.{_⊕_, xors}
 use Rattle.block.proofs.Entries.{below-append}
 use Rattle.block.proofs.Xor.{xor-same, xor-swap}

@@ -1,14 +1,7 @@
 -- A polynomial over the field that is not 0 has fewer roots than coefficients: each root other than r is one of the quotient by
 -- x + r, which has one coefficient less and is not 0 either.
--- Assumes nothing.
-use mathlib.Core.Path.{_≡_, sym, ap, ap₂, _∙_}
-use mathlib.Core.Logic.{_≢_, ⊎-elim}
-use mathlib.Core.List.{List, [], _∷_, mem-cons-self, mem-cons-of-mem, rel-of-pairwise-cons, Pairwise·of-cons}
-use Prim.Native.Nat.{ℕ, _<_, suc-le-suc}
-use native.Mathlib.Nat.{zero-lt-suc}
-use lib.Dec.{lit<}
-use lib.ListN.{length}
-use lib.Bits.{xor-self, xor-lt}
+use Rattle.block.proofs.Base.{_<_, suc-le-suc, ℕ, _∙_, _≡_, ap, ap₂, sym, _≢_, ⊎-elim, List, Pairwise·of-cons, [], _∷_, mem-cons-of-mem}
+use Rattle.block.proofs.Base.{mem-cons-self, rel-of-pairwise-cons, zero-lt-suc, xor-lt, xor-self, lit<, length}
 use Rattle.block.specs.Xor.{_⊕_}
 use Rattle.block.proofs.Xor.{xor-same}
 use Rattle.field.specs.Field.{Element, gmul}

@@ -1,13 +1,7 @@
 -- What is hashed tells label and ciphertext, also where blocks of zeros stand in front: the last block tells both lengths, these
 -- tell how many zeros there are and where each part ends, and the blocks of a part tell its bytes.
--- Assumes nothing.
-use mathlib.Core.Path.{_≡_, refl, sym, ap, ap₂, _∙_}
-use mathlib.Core.List.{List, [], _∷_, _++_, append-assoc}
-use Prim.Native.Nat.{ℕ, _+_, _-_, _≤_}
-use native.Mathlib.Omega.{arith}
-use lib.Dec.{lit<}
-use lib.ListN.{length, take, drop, replicate, length-append, length-replicate}
-use lib.Seq.{take-at, drop-at}
+use Rattle.block.proofs.Base.{_+_, _-_, _≤_, ℕ, _∙_, _≡_, ap, ap₂, refl, sym, List, [], _++_, _∷_, append-assoc, arith, lit<, drop, length}
+use Rattle.block.proofs.Base.{length-append, length-replicate, replicate, take, drop-at, take-at}
 use Rattle.block.proofs.Entries.{below-append, below-replicate}
 use Rattle.ghash.specs.Ghash.{blockCount, blocks, lengthBlock, authBlocks}
 use Rattle.ghash.proofs.Blocks.{length-blocks}

@@ -1,13 +1,7 @@
 -- The bytes of blocks in rows, stored one after the other.
--- Assumes nothing.
-use mathlib.Core.Path.{_≡_, refl, sym, ap, ap₂, _∙_}
-use mathlib.Core.List.{List, [], _∷_, _++_, append-assoc}
-use Prim.Native.Nat.{ℕ, suc, _+_, _*_, _/_, _%_, _^_, _<_, _≤_}
-use native.Mathlib.Nat.{add-zero, div-one}
-use native.Mathlib.Omega.{arith}
-use lib.Dec.{lit<}
-use lib.ListN.{length, getD, set, take, drop, length-append, length-drop}
-use lib.Seq.{sets, sets-eq, take-at, drop-at, drop-drop, length-take-le}
+use Rattle.block.proofs.Base.{_%_, _*_, _+_, _/_, _<_, _^_, _≤_, suc, ℕ, _∙_, _≡_, ap, ap₂, refl, sym, List, [], _++_, _∷_, append-assoc}
+use Rattle.block.proofs.Base.{add-zero, div-one, arith, lit<, drop, getD, length, length-append, length-drop, set, take, drop-at, drop-drop}
+use Rattle.block.proofs.Base.{length-take-le, sets, sets-eq, take-at}
 use Rattle.block.specs.Below.{AreBytes}
 use Rattle.block.specs.BigEndian.{bytesOf}
 use Rattle.block.specs.Blocks.{blockAt, cat}
@@ -43,11 +37,8 @@ eight-bytes x = simp div-one
 pub half-stored : (o : List ℕ) (p x : ℕ) → p + 8 ≤ length o
     → storesFrom (set o p (x / 2 ^ 56 % 256)) p 1 (bytesBehind x) ≡ take p o ++ (bytesOf 8 x ++ drop (p + 8) o)
 half-stored o p x h =
-    let z : p + 0 ≡ p = add-zero p in
     let v = x / 2 ^ 56 % 256 ∷ bytesBehind x in
-    ap (λ (q : ℕ). storesFrom (set o q (x / 2 ^ 56 % 256)) p 1 (bytesBehind x)) (sym z)
-    ∙ stores-sets v o p 0
-    ∙ ap (λ (q : ℕ). sets o q v) z
+    (rw (add-zero p) at (stores-sets v o p 0))
     ∙ sets-eq v o p h
     ∙ append-assoc (take p o) v (drop (p + 8) o)
     ∙ ap (λ (l : List ℕ). take p o ++ (l ++ drop (p + 8) o)) (eight-bytes x)
@@ -57,11 +48,8 @@ row-bytes : (x : List ℕ) (hi lo : ℕ) → Row x hi lo → bytesOf 8 hi ++ byt
 unfolding unwords
 row-bytes x hi lo r =
     let b = below-at (2 ^ 32) x (lit< tt) (r .small) in
-    let two : (i k : ℕ) → bytesOf 8 (getD x i 0 * 2 ^ 32 + getD x k 0) ≡ bytesOf 4 (getD x i 0) ++ bytesOf 4 (getD x k 0) =
-    λ i k. bytesOf-append 4 4 (getD x i 0) (getD x k 0) (b k) in
-    ap₂ (λ (u v : ℕ). bytesOf 8 u ++ bytesOf 8 v) (r .high) (r .low)
-    ∙ ap₂ (λ (u v : List ℕ). u ++ v) (two 0 1) (two 2 3)
-    ∙ append-assoc (bytesOf 4 (getD x 0 0)) (bytesOf 4 (getD x 1 0)) (bytesOf 4 (getD x 2 0) ++ bytesOf 4 (getD x 3 0))
+    rw (r .high, r .low, bytesOf-append 4 4 (getD x 0 0) (getD x 1 0) (b 1), bytesOf-append 4 4 (getD x 2 0) (getD x 3 0) (b 3))
+    (append-assoc (bytesOf 4 (getD x 0 0)) (bytesOf 4 (getD x 1 0)) (bytesOf 4 (getD x 2 0) ++ bytesOf 4 (getD x 3 0)))
 
 -- halves xored with those of the block at the front of d
 pub xored-halves : (d : List ℕ) (hi lo u v : ℕ) → Row (words d) hi lo → 16 ≤ length d → AreBytes d
@@ -69,11 +57,18 @@ pub xored-halves : (d : List ℕ) (hi lo u v : ℕ) → Row (words d) hi lo → 
 xored-halves d hi lo u v r full small =
     ap₂ (λ (x y : List ℕ). x ++ y) (bytesOf-xor 8 hi u) (bytesOf-xor 8 lo v)
     ∙ sym (xors-append (bytesOf 8 hi) (bytesOf 8 lo) (bytesOf 8 u) (bytesOf 8 v) (length-bytesOf 8 hi ∙ sym (length-bytesOf 8 u)))
-    ∙ ap (λ (x : List ℕ). xors x (bytesOf 8 u ++ bytesOf 8 v)) (row-bytes (words d) hi lo r ∙ unwords-front d full small)
+    ∙ rw (row-bytes (words d) hi lo r, unwords-front d full small)
 
 -- what is stored for block i
 abbrev pub xoredRow : List ℕ → List ℕ → List ℕ → ℕ → List ℕ
 xoredRow a b d i = xors (blockAt d i) (bytesOf 8 (getD a (place i) 0) ++ bytesOf 8 (getD b (place i) 0))
+
+-- k bytes stored behind C
+stored-behind : (C x o₀ o o′ : List ℕ) (n k : ℕ) → length C ≡ n → o ≡ C ++ drop n o₀ → o′ ≡ take n o ++ (x ++ drop (n + k) o)
+    → o′ ≡ (C ++ x) ++ drop (n + k) o₀
+stored-behind C x o₀ o o′ n k l e h =
+    let d : drop (n + k) o ≡ drop (n + k) o₀ = sym (drop-drop k n o) ∙ rw (e, drop-at C (drop n o₀) n l) (drop-drop k n o₀) in
+    h ∙ rw (d, e, take-at C (drop n o₀) n l) (sym (append-assoc C x (drop (n + k) o₀)))
 
 -- two stores of eight bytes behind e blocks
 module _ (o₀ o o1 o2 x y : List ℕ) (f : ℕ → List ℕ) (e : ℕ) (full : (i : ℕ) → i < e → length (f i) ≡ 16)
@@ -83,28 +78,10 @@ module _ (o₀ o o1 o2 x y : List ℕ) (f : ℕ → List ℕ) (e : ℕ) (full : 
   pub block-stored : o2 ≡ cat (e + 1) f ++ drop (16 * (e + 1)) o₀
   block-stored =
       let C = cat e f in
-      let lc : length C ≡ 16 * e = length-cat e f full in
-      let lx : length (C ++ x) ≡ 16 * e + 8 = length-append C x ∙ omega arith in
-      let t : take (16 * e) o ≡ C = ap (take (16 * e)) ho ∙ take-at C (drop (16 * e) o₀) (16 * e) lc in
-      let k1 : o1 ≡ (C ++ x) ++ drop (16 * e + 8) o =
-      h1 ∙ ap (λ (l : List ℕ). l ++ (x ++ drop (16 * e + 8) o)) t ∙ sym (append-assoc C x (drop (16 * e + 8) o)) in
-      let t1 : take (16 * e + 8) o1 ≡ C ++ x = ap (take (16 * e + 8)) k1 ∙ take-at (C ++ x) (drop (16 * e + 8) o) (16 * e + 8) lx in
-      let d1 : drop (16 * e + 8) o1 ≡ drop (16 * e + 8) o =
-      ap (drop (16 * e + 8)) k1 ∙ drop-at (C ++ x) (drop (16 * e + 8) o) (16 * e + 8) lx in
-      let d2 : drop (16 * e + 8 + 8) o1 ≡ drop (16 * e + 8 + 8) o =
-      sym (drop-drop 8 (16 * e + 8) o1) ∙ ap (drop 8) d1 ∙ drop-drop 8 (16 * e + 8) o in
-      let q : 16 * e + 8 + 8 ≡ 16 * e + 16 = omega arith in
-      let q' : 16 * e + 16 ≡ 16 * (e + 1) = omega arith in
-      let d3 : drop (16 * e + 16) o ≡ drop (16 * e + 16) o₀ =
-      sym (drop-drop 16 (16 * e) o)
-      ∙ ap (drop 16) (ap (drop (16 * e)) ho ∙ drop-at C (drop (16 * e) o₀) (16 * e) lc)
-      ∙ drop-drop 16 (16 * e) o₀ in
-      let D = drop (16 * (e + 1)) o₀ in
-      let d : drop (16 * e + 8 + 8) o1 ≡ D = d2 ∙ ap (λ (n : ℕ). drop n o) q ∙ d3 ∙ ap (λ (n : ℕ). drop n o₀) q' in
-      h2
-      ∙ ap₂ (λ (l r : List ℕ). l ++ (y ++ r)) t1 d
-      ∙ sym (append-assoc (C ++ x) y D)
-      ∙ ap (λ (l : List ℕ). l ++ D) (append-assoc C x y ∙ ap (λ (l : List ℕ). C ++ l) xy ∙ sym (cat-next e f))
+      let l = length-cat e f full in
+      let q : 16 * e + 8 + 8 ≡ 16 * (e + 1) = omega arith in
+      stored-behind (C ++ x) y o₀ o1 o2 (16 * e + 8) 8 (length-append C x ∙ omega arith) (stored-behind C x o₀ o o1 (16 * e) 8 l ho h1) h2
+      ∙ rw (q, append-assoc C x y, xy, cat-next e f)
 
 -- each block that is stored has sixteen bytes
 module _ (d : List ℕ) (m : ℕ) (h : 16 * m ≤ length d) where
@@ -116,8 +93,7 @@ module _ (d : List ℕ) (m : ℕ) (h : 16 * m ≤ length d) where
       let u = bytesOf 8 (getD a (place i) 0) in
       let v = bytesOf 8 (getD b (place i) 0) in
       let k = length-blockAt i g in
-      let n : length (u ++ v) ≡ 16 =
-      length-append u v ∙ ap₂ (λ (x y : ℕ). x + y) (length-bytesOf 8 (getD a (place i) 0)) (length-bytesOf 8 (getD b (place i) 0)) in
+      let n : length (u ++ v) ≡ 16 = simp (length-append, length-bytesOf) in
       length-xors (blockAt d i) (u ++ v) (omega arith) ∙ k
 
   -- rows stored are their blocks stored

@@ -1,15 +1,7 @@
 -- The turns of the two loops of a stage.
--- Assumes nothing.
-use mathlib.Core.Path.{_≡_, refl, ap₂, subst, subst⁻¹, _∙_}
-use mathlib.Core.Logic.{⊎-elim}
-use mathlib.Core.List.{List}
-use Prim.Native.Nat.{ℕ, suc, _+_, _*_, _^_, _<_, _≤_}
-use native.Mathlib.Nat.{mul-le-mul-left, mul-suc}
-use native.Mathlib.Numerals.{add-one}
-use native.Mathlib.Omega.{arith}
-use lib.ListN.{getD, length, set, length-set}
-use lib.Seq.{getD-set-same, getD-set-other}
-use Rattle.lanes.proofs.Bits.{lt-or-le}
+use Rattle.block.proofs.Base.{_*_, _+_, _<_, _^_, _≤_, suc, ℕ, _∙_, _≡_, ap₂, List, mul-le-mul-left, mul-suc, add-one, arith, getD}
+use Rattle.block.proofs.Base.{length-set, set, getD-set-other, getD-set-same}
+use Rattle.lanes.proofs.Filling.{one-more}
 use Rattle.lanes.specs.Swaps.{firstSwapped, secondSwapped}
 use Rattle.rows.specs.Transposed.{Pair, Swapped, Staged}
 
@@ -17,25 +9,16 @@ module _ (d m p q : ℕ) (a₀ a a′ : List ℕ) where
   -- a pair that is left alone
   pair-kept : getD a′ p 0 ≡ getD a p 0 → getD a′ q 0 ≡ getD a q 0 → Pair d m p q a₀ a → Pair d m p q a₀ a′
   pair-kept f g P =
-      record {
-        first = f ∙ P .first;
-        second = g ∙ P .second;
-        first-small = subst⁻¹ (λ (x : ℕ). x < 2 ^ 64) f (P .first-small);
-        second-small = subst⁻¹ (λ (x : ℕ). x < 2 ^ 64) g (P .second-small);
-      }
+      record { first = f ∙ P .first; second = g ∙ P .second; first-small = rw f (P .first-small); second-small = rw g (P .second-small) }
 
   -- and one that was left alone before
   pair-new : getD a p 0 ≡ getD a₀ p 0 → getD a q 0 ≡ getD a₀ q 0 → Pair d m p q a a′ → Pair d m p q a₀ a′
-  pair-new f g P =
-      record {
-        first = P .first ∙ ap₂ (firstSwapped d m) f g;
-        second = P .second ∙ ap₂ (secondSwapped d m) f g;
-        first-small = P .first-small;
-        second-small = P .second-small;
-      }
-
-pub swapped-first : (d m g w : ℕ) (a : List ℕ) → length a ≡ 512 → Swapped d m g w 0 a a
-swapped-first d m g w a n = record { size = n; pairs = λ r h. absurd (omega arith); rest = λ p h. refl }
+  pair-new f g P = record {
+    first = P .first ∙ ap₂ (firstSwapped d m) f g;
+    second = P .second ∙ ap₂ (secondSwapped d m) f g;
+    first-small = P .first-small;
+    second-small = P .second-small;
+  }
 
 -- a turn: u and v are the next pair, swapped
 module _ (d m g w e u v : ℕ) (a₀ a : List ℕ) (he : e < w) (hw : g + w + w ≤ 512) (S : Swapped d m g w e a₀ a)
@@ -47,33 +30,19 @@ module _ (d m g w e u v : ℕ) (a₀ a : List ℕ) (he : e < w) (hw : g + w + w 
       let a′ = set b (g + e + w) v in
       let s = S .size in
       let n = length-set a (g + e) u in
-      let before-first : getD a (g + e) 0 ≡ getD a₀ (g + e) 0 = S .rest (g + e) (λ r h. (λ q. omega arith, λ q. omega arith)) in
-      let before-second : getD a (g + e + w) 0 ≡ getD a₀ (g + e + w) 0 =
-      S .rest (g + e + w) (λ r h. (λ q. omega arith, λ q. omega arith)) in
       let other : (p : ℕ) → (p ≡ g + e → ⊥) → (p ≡ g + e + w → ⊥) → getD a′ p 0 ≡ getD a p 0 =
       λ p f h. getD-set-other b (g + e + w) p v 0 h ∙ getD-set-other a (g + e) p u 0 f in
       let x : getD a′ (g + e) 0 ≡ u =
       getD-set-other b (g + e + w) (g + e) v 0 (λ q. omega arith) ∙ getD-set-same a (g + e) u 0 (omega arith) in
       let y : getD a′ (g + e + w) 0 ≡ v = getD-set-same b (g + e + w) v 0 (omega arith) in
-      let new : Pair d m (g + e) (g + e + w) a a′ =
-      record {
-        first = x ∙ hu;
-        second = y ∙ hv;
-        first-small = subst⁻¹ (λ (z : ℕ). z < 2 ^ 64) x su;
-        second-small = subst⁻¹ (λ (z : ℕ). z < 2 ^ 64) y sv;
-      } in
       record {
         size = length-set b (g + e + w) v ∙ n ∙ s;
-        pairs = λ r h.
-            ⊎-elim
-            (λ (k : r < e).
-            pair-kept d m (g + r) (g + r + w) a₀ a a′ (other (g + r) (λ q. omega arith) (λ q. omega arith))
-            (other (g + r + w) (λ q. omega arith) (λ q. omega arith)) (S .pairs r k))
-            (λ (k : e ≤ r).
-            let q : e ≡ r = omega arith in
-            subst (λ (z : ℕ). Pair d m (g + z) (g + z + w) a₀ a′) q
-            (pair-new d m (g + e) (g + e + w) a₀ a a′ before-first before-second new))
-            (lt-or-le r e);
+        pairs = one-more (λ r. Pair d m (g + r) (g + r + w) a₀ a′) e
+            (pair-new d m (g + e) (g + e + w) a₀ a a′ (S .rest (g + e) (omega arith)) (S .rest (g + e + w) (omega arith))
+            (record { first = x ∙ hu; second = y ∙ hv; first-small = rw x su; second-small = rw y sv }))
+            (λ r k.
+            pair-kept d m (g + r) (g + r + w) a₀ a a′ (other (g + r) (omega arith) (omega arith))
+            (other (g + r + w) (omega arith) (omega arith)) (S .pairs r k));
         rest = λ p h. other p (h e (omega arith) .0) (h e (omega arith) .1) ∙ S .rest p (λ r k. h r (omega arith));
       }
 
@@ -83,26 +52,18 @@ groups w i n h =
     let l : 2 * w * suc i ≤ 2 * w * n = mul-le-mul-left (2 * w) h in
     omega arith
 
-pub staged-first : (d m w : ℕ) (a : List ℕ) → length a ≡ 512 → Staged d m w 0 a a
-staged-first d m w a n = record { size = n; pairs = λ i r h. absurd (omega arith); rest = λ p h. refl }
-
 pub staged-next : (d m w i : ℕ) (a₀ a a′ : List ℕ) → Staged d m w i a₀ a → Swapped d m (2 * w * i) w w a a′ → Staged d m w (i + 1) a₀ a′
 staged-next d m w i a₀ a a′ S W =
-    let below : (p : ℕ) → p < 2 * w * i → getD a′ p 0 ≡ getD a p 0 = λ p h. W .rest p (λ r k. (λ q. omega arith, λ q. omega arith)) in
+    let below : (p : ℕ) → p < 2 * w * i → getD a′ p 0 ≡ getD a p 0 = λ p h. W .rest p (omega arith) in
     let n : 2 * w * (i + 1) ≡ 2 * w * i + 2 * w = rw (add-one i) (mul-suc (2 * w) i) in
     record {
       size = W .size;
       pairs = λ l r h k.
-          ⊎-elim
-          (λ (g : l < i).
-          let b = groups w l i g in
-          pair-kept d m (2 * w * l + r) (2 * w * l + r + w) a₀ a a′ (below (2 * w * l + r) (omega arith))
-          (below (2 * w * l + r + w) (omega arith)) (S .pairs l r g k))
-          (λ (g : i ≤ l).
-          let q : i ≡ l = omega arith in
-          subst (λ (z : ℕ). Pair d m (2 * w * z + r) (2 * w * z + r + w) a₀ a′) q
-          (pair-new d m (2 * w * i + r) (2 * w * i + r + w) a₀ a a′ (S .rest (2 * w * i + r) (omega arith))
-          (S .rest (2 * w * i + r + w) (omega arith)) (W .pairs r k)))
-          (lt-or-le l i);
-      rest = λ p h. W .rest p (λ r k. (λ q. omega arith, λ q. omega arith)) ∙ S .rest p (omega arith);
+          one-more (λ z. Pair d m (2 * w * z + r) (2 * w * z + r + w) a₀ a′) i
+          (pair-new d m (2 * w * i + r) (2 * w * i + r + w) a₀ a a′ (S .rest _ (omega arith)) (S .rest _ (omega arith)) (W .pairs r k))
+          (λ z g.
+          let b = groups w z i g in
+          pair-kept d m (2 * w * z + r) (2 * w * z + r + w) a₀ a a′ (below _ (omega arith)) (below _ (omega arith)) (S .pairs z r g k))
+          l h;
+      rest = λ p h. W .rest p (omega arith) ∙ S .rest p (omega arith);
     }

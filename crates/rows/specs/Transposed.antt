@@ -1,7 +1,7 @@
 -- Eight matrices of 64 x 64 bits side by side, transposed by masked swaps: row r of matrix j is word 8 r + j.
 use mathlib.Core.Path.{_≡_}
 use mathlib.Core.List.{List}
-use Prim.Native.Nat.{ℕ, _+_, _*_, _/_, _%_, _^_, _<_, _≤_}
+use Prim.Native.Nat.{ℕ, _+_, _*_, _^_, _<_, _≤_}
 use lib.ListN.{getD, length}
 use Rattle.lanes.specs.Bits.{bit}
 use Rattle.lanes.specs.Swaps.{firstSwapped, secondSwapped}

@@ -1,15 +1,8 @@
 -- What stands after a put that is done, and after a collection: a shelf in order, the new record under its job, and every other job's
 -- current record as it was.
--- Assumes nothing.
-use mathlib.Core.Path.{_≡_, refl, sym, ap, _∙_}
-use mathlib.Core.Bool.{Bool, true, false}
-use mathlib.Core.List.{List, [], _∷_, _++_, append-nil}
-use Prim.Native.Nat.{ℕ, _+_, _-_, _≤_, _<_, _^_}
-use native.Mathlib.Omega.{arith}
-use lib.Dec.{ltb, eqb, lit<}
-use lib.ListN.{length, take, drop, length-append, length-drop}
-use lib.Seq.{take-at, drop-at}
-use borrow.Author.Tests.{ltb-true, ltb-false, lt-ltb, eqb-true, eqb-false}
+use Rattle.block.proofs.Base.{_<_, _^_, _≤_, ℕ, _∙_, _≡_, ap, refl, sym, false, List, [], _++_, _∷_, append-nil, arith, eqb-false, eqb-true}
+use Rattle.block.proofs.Base.{lt-ltb, ltb-false, ltb-true, eqb, lit<, ltb, length, length-append, length-drop, take, take-append-seam}
+use lib.Seq.{drop-append-seam}
 use Rattle.block.specs.Below.{AreBytes}
 use Rattle.block.specs.BigEndian.{bytesOf}
 use Rattle.block.proofs.Convert.{bytesOf-bytes}
@@ -17,29 +10,24 @@ use Rattle.block.proofs.Entries.{below-append, below-take, below-drop}
 use Rattle.walk.specs.Walk.{over}
 use Rattle.label.specs.Label.{labelOf}
 use Rattle.label.proofs.LabelTells.{label-bytes}
-use Rattle.shelf.specs.Records.{Record, Proper, AllProper, markOf, written, stored, records}
-use Rattle.shelf.specs.Shelf.{currentOf, collected, twoCurrent, notHigher, fitted, badShelf}
+use Rattle.shelf.specs.Records.{Record, Proper, AllProper, written, stored, records}
+use Rattle.shelf.specs.Shelf.{currentOf, collected, notHigher, fitted, badShelf}
 use Rattle.shelf.specs.Steps.{InOrder}
 use Rattle.shelf.specs.Calls.{newRecord, putIn, putCall, collectCall, lookedUp, holding}
-use Rattle.shelf.proofs.Inverse.{records-stored}
+use Rattle.shelf.proofs.ReadsProper.{records-stored, records-proper, those-proper, put-proper}
 use Rattle.shelf.proofs.Sound.{in-order, not-bad}
 use Rattle.shelf.proofs.Putting.{length-made, enough}
-use Rattle.shelf.proofs.Outcomes.{collect-done}
-use Rattle.shelf.proofs.Current.{at-most-one, no-two, collected-length, collected-again}
-use Rattle.shelf.proofs.Current.{current-collected, current-fitted, current-new, current-kept}
-use Rattle.shelf.proofs.ReadsProper.{records-proper, those-proper, put-proper}
+use Rattle.shelf.proofs.Reading.{by-test}
+use Rattle.shelf.proofs.Current.{at-most-one, no-two, collected-length, collected-again, current-collected, current-fitted}
+use Rattle.shelf.proofs.Current.{current-new, current-kept}
 use Rattle.shelf.proofs.FoundPart.{look-up}
-
-mark-byte : (current : Bool) → markOf current < 256
-mark-byte true = omega arith
-mark-byte false = omega arith
 
 written-bytes : (r : Record) → Proper r → AreBytes (written r)
 unfolding written
 written-bytes r p = (
   lit< tt,
   (
-    mark-byte (r .current),
+    by-test (r .current) (λ e. rw e (lit< tt)) (λ e. rw e (lit< tt)),
     below-append 256 (labelOf (r .job) (r .edition)) (bytesOf 4 (length (r .sealed)) ++ r .sealed) (label-bytes (r .job) (r .edition))
         (below-append 256 (bytesOf 4 (length (r .sealed))) (r .sealed) (bytesOf-bytes 4 (length (r .sealed))) (p .bytes)),
   ),
@@ -51,115 +39,107 @@ all-bytes [] h = tt
 all-bytes (r ∷ rs) h = below-append 256 (written r) (stored rs) (written-bytes r (h .0)) (all-bytes rs (h .1))
 
 -- proper records of a shelf, no two of them current of one job, over a buffer that has room for them
-module _ (rs : List Record) (shelf : List ℕ) (proper : AllProper rs) where
+record Fit (rs : List Record) (shelf : List ℕ) : Type 0 where
+  small : AreBytes shelf
+  proper : AllProper rs
+  size : length shelf ≤ 65536
+  room : length (stored rs) ≤ length shelf
+  one : (job : ℕ) → length (currentOf job rs) ≤ 1
+
+module _ (rs : List Record) (shelf : List ℕ) (fit : Fit rs shelf) where
   reads-back : records (take (length (stored rs)) (over (stored rs) shelf)) ≡ rs
-  reads-back =
-      ap records (take-at (stored rs) (drop (length (stored rs)) shelf) (length (stored rs)) refl) ∙ records-stored rs proper
+  reads-back = rw take-append-seam (records-stored rs (fit .proper))
 
-  length-over : length (stored rs) ≤ length shelf → length (over (stored rs) shelf) ≡ length shelf
-  length-over h =
-      let d = length-drop (length (stored rs)) shelf in
-      length-append (stored rs) (drop (length (stored rs)) shelf) ∙ omega arith
+  length-over : length (over (stored rs) shelf) ≡ length shelf
+  length-over = simp (length-append, length-drop) (omega (arith, fit .room))
 
-  holds-in-order : length shelf ≤ 65536 → length (stored rs) ≤ length shelf → ((job : ℕ) → length (currentOf job rs) ≤ 1)
-      → InOrder (over (stored rs) shelf) (length (stored rs))
-  holds-in-order h k one =
-      let l = length-over k in
+  holds-in-order : InOrder (over (stored rs) shelf) (length (stored rs))
+  holds-in-order =
+      let l = length-over in
       record {
-        size = omega arith;
-        within = omega arith;
-        fills = ap (λ (x : List Record). length (stored x)) reads-back;
-        single = ap twoCurrent reads-back ∙ no-two rs one;
+        size = omega (arith, fit .size);
+        within = omega (arith, fit .room);
+        fills = rw reads-back;
+        single = rw reads-back (no-two rs (fit .one));
       }
 
-  holds-bytes : AreBytes shelf → AreBytes (over (stored rs) shelf)
-  holds-bytes small =
-      below-append 256 (stored rs) (drop (length (stored rs)) shelf) (all-bytes rs proper) (below-drop 256 (length (stored rs)) shelf small)
-
   -- looking up a job there gives its current record
-  looks-up : AreBytes shelf → InOrder (over (stored rs) shelf) (length (stored rs)) → (job : ℕ)
-      → lookedUp (over (stored rs) shelf) (length (stored rs)) job ≡ stored (currentOf job rs)
-  looks-up small order job =
-      look-up (over (stored rs) shelf) (length (stored rs)) (holds-bytes small) order job
-      ∙ ap (λ (x : List Record). stored (currentOf job x)) reads-back
+  looks-up : (job : ℕ) → lookedUp (over (stored rs) shelf) (length (stored rs)) job ≡ stored (currentOf job rs)
+  looks-up job =
+      look-up (over (stored rs) shelf) (length (stored rs))
+      (below-append 256 (stored rs) _ (all-bytes rs (fit .proper)) (below-drop 256 (length (stored rs)) shelf (fit .small)))
+      holds-in-order job
+      ∙ rw reads-back
 
 -- a collection that is done: a shelf in order, with every job's current record as it was, that collecting again does not change
 module _ (shelf : List ℕ) (used : ℕ) (small : AreBytes shelf) (order : InOrder shelf used) where
-  collect-is : collectCall shelf used ≡ holding (collected (records (take used shelf))) shelf
+  abbrev rs : List Record
+  rs = records (take used shelf)
+
+  collect-is : collectCall shelf used ≡ holding (collected rs) shelf
   unfolding collectCall
   collect-is = rw (not-bad shelf used order)
 
-  collect-proper : AllProper (collected (records (take used shelf)))
-  collect-proper =
-      those-proper (λ r. r .current) (records (take used shelf)) (records-proper (take used shelf) (below-take 256 used shelf small))
-
-  collect-holds : let p = stored (collected (records (take used shelf))) in InOrder (over p shelf) (length p)
-  collect-holds =
-      let rs = records (take used shelf) in
-      let n = collected-length rs in
-      holds-in-order (collected rs) shelf collect-proper (order .size) (omega (arith, n, order .fills, order .within))
-      (λ job. rw (current-collected job rs) (at-most-one rs (order .single) job))
+  collect-fit : Fit (collected rs) shelf
+  collect-fit =
+      record {
+        small = small;
+        proper = those-proper (λ r. r .current) rs (records-proper (take used shelf) (below-take 256 used shelf small));
+        size = order .size;
+        room = omega (arith, collected-length rs, order .fills, order .within);
+        one = λ job. rw (current-collected job rs) (at-most-one rs (order .single) job);
+      }
 
   pub collect-in-order : let o = collectCall shelf used in InOrder (o .bytes) (o .used)
-  collect-in-order = rw collect-is collect-holds
+  collect-in-order = rw collect-is (holds-in-order (collected rs) shelf collect-fit)
 
   pub collect-look-up : (job : ℕ) → let o = collectCall shelf used in lookedUp (o .bytes) (o .used) job ≡ lookedUp shelf used job
   collect-look-up job =
-      let rs = records (take used shelf) in
-      rw collect-is
-      (looks-up (collected rs) shelf collect-proper small collect-holds job
-      ∙ ap stored (current-collected job rs)
-      ∙ sym (look-up shelf used small order job))
+      rw (collect-is, looks-up (collected rs) shelf collect-fit job, look-up shelf used small order job, current-collected job rs)
 
   pub collect-again : let o = collectCall shelf used in collectCall (o .bytes) (o .used) ≡ o
+  unfolding collectCall
   collect-again =
-      let rs = records (take used shelf) in
       let p = stored (collected rs) in
-      let same : collected (records (take (length p) (over p shelf))) ≡ collected rs =
-      ap collected (reads-back (collected rs) shelf collect-proper) ∙ collected-again rs in
-      rw collect-is
-      (sym
-      (collect-done (over p shelf) (length p) (not-bad (over p shelf) (length p) collect-holds) (over p shelf) (length p)
-      (ap (λ (x : List Record). length (stored x)) (sym same))
-      (ap (λ (l : List ℕ). p ++ l) (sym (drop-at p (drop (length p) shelf) (length p) refl))
-      ∙ ap (λ (x : List Record). over (stored x) (over p shelf)) (sym same))))
-
--- what a put that is done passed
-pub record Passed (shelf : List ℕ) (used job edition : ℕ) (sealed : List ℕ) : Type 0 where
-  pub good : badShelf shelf used ≡ false
-  pub higher : notHigher job edition (records (take used shelf)) ≡ false
-  pub room : ltb (length shelf) (length (stored (collected (putIn shelf used job edition sealed)))) ≡ false
+      rw (
+        not-bad shelf used order,
+        not-bad (over p shelf) (length p) (holds-in-order (collected rs) shelf collect-fit),
+        reads-back (collected rs) shelf collect-fit,
+        collected-again rs,
+        drop-append-seam,
+      )
 
 module _ (shelf : List ℕ) (used job edition : ℕ) (sealed : List ℕ) where
-  passed-by : (b l r : Bool) → badShelf shelf used ≡ b → notHigher job edition (records (take used shelf)) ≡ l
-      → ltb (length shelf) (length (stored (collected (putIn shelf used job edition sealed)))) ≡ r
-      → putCall shelf used job edition sealed .number ≡ 0 → Passed shelf used job edition sealed
-  unfolding putCall
-  passed-by true l r e f g z = let n : _≡_ {A = ℕ} 19 0 = rw e at z in absurd (omega arith)
-  passed-by false true r e f g z = let n : _≡_ {A = ℕ} 20 0 = rw (e, f) at z in absurd (omega arith)
-  passed-by false false true e f g z = let n : _≡_ {A = ℕ} 21 0 = rw (e, f, g) at z in absurd (omega arith)
-  passed-by false false false e f g z = record { good = e; higher = f; room = g }
+  -- the bytes of the records current after the put
+  abbrev needed : ℕ
+  needed = length (stored (collected (putIn shelf used job edition sealed)))
 
-  pub put-passed : putCall shelf used job edition sealed .number ≡ 0 → Passed shelf used job edition sealed
-  put-passed = passed-by _ _ _ refl refl refl
+  -- what a put that is done passed
+  pub record Passed : Type 0 where
+    pub good : badShelf shelf used ≡ false
+    pub higher : notHigher job edition (records (take used shelf)) ≡ false
+    pub room : ltb (length shelf) needed ≡ false
+
+  pub put-passed : putCall shelf used job edition sealed .number ≡ 0 → Passed
+  unfolding putCall
+  put-passed z =
+      by-test (badShelf shelf used) (λ e. absurd (omega (arith, rw e at z)))
+      (λ e.
+      by-test (notHigher job edition (records (take used shelf))) (λ f. absurd (omega (arith, rw (e, f) at z)))
+      (λ f.
+      by-test (ltb (length shelf) needed) (λ g. absurd (omega (arith, rw (e, f, g) at z)))
+      (λ g. record { good = e; higher = f; room = g })))
 
   -- refused for room exactly where the records current after the put do not fit in the buffer
   module _ (good : badShelf shelf used ≡ false) (higher : notHigher job edition (records (take used shelf)) ≡ false) where
-    room-by : (r : Bool) → ltb (length shelf) (length (stored (collected (putIn shelf used job edition sealed)))) ≡ r
-        → putCall shelf used job edition sealed .number ≡ 21 → r ≡ true
+    pub refused-for-room : putCall shelf used job edition sealed .number ≡ 21 → length shelf < needed
     unfolding putCall
-    room-by true g z = refl
-    room-by false g z = let n : _≡_ {A = ℕ} 0 21 = rw (good, higher, g) at z in absurd (omega arith)
-
-    pub refused-for-room : putCall shelf used job edition sealed .number ≡ 21
-        → length shelf < length (stored (collected (putIn shelf used job edition sealed)))
     refused-for-room z =
-        ltb-true (length shelf) (length (stored (collected (putIn shelf used job edition sealed)))) (room-by _ refl z)
+        by-test (ltb (length shelf) needed) (ltb-true (length shelf) needed) (λ g. absurd (omega (arith, rw (good, higher, g) at z)))
 
-    pub no-room-refused : length shelf < length (stored (collected (putIn shelf used job edition sealed)))
-        → putCall shelf used job edition sealed .number ≡ 21
+    pub no-room-refused : length shelf < needed → putCall shelf used job edition sealed .number ≡ 21
     unfolding putCall
-    no-room-refused h = rw (good, higher, lt-ltb (length shelf) (length (stored (collected (putIn shelf used job edition sealed)))) h)
+    no-room-refused h = rw (good, higher, lt-ltb (length shelf) needed h)
 
 -- a put that is done, of a job, an edition and bytes as the call takes them
 module _ (shelf : List ℕ) (used job edition : ℕ) (sealed : List ℕ) (small : AreBytes shelf) (job-fits : job < 2 ^ 32)
@@ -169,6 +149,9 @@ module _ (shelf : List ℕ) (used job edition : ℕ) (sealed : List ℕ) (small 
 
   order : InOrder shelf used
   order = in-order shelf used (passed .good)
+
+  abbrev before : List Record
+  before = records (take used shelf)
 
   abbrev new : Record
   new = newRecord job edition sealed
@@ -180,50 +163,45 @@ module _ (shelf : List ℕ) (used job edition : ℕ) (sealed : List ℕ) (small 
   unfolding putCall
   put-is = rw (passed .good, passed .higher, passed .room)
 
-  final-fits : (length (stored final) ≤ length shelf) × (length sealed < 2 ^ 32)
-  final-fits =
-      let rs = records (take used shelf) in
-      let h = ltb-false (length shelf) (length (stored (collected (putIn shelf used job edition sealed)))) (passed .room) in
-      let e = enough new rs (length shelf) refl h in
-      let l = length-made new rs (length shelf) refl in
-      (omega arith, omega (arith, e, order .size))
-
-  final-proper : AllProper final
-  final-proper =
-      put-proper (length shelf) new (records (take used shelf))
-      (record { job = job-fits; edition = edition-fits; size = final-fits .1; bytes = sealed-small })
-      (records-proper (take used shelf) (below-take 256 used shelf small))
-
   current-here : currentOf job final ≡ new ∷ []
-  current-here = current-fitted job (length shelf) (putIn shelf used job edition sealed) ∙ current-new new refl (records (take used shelf))
+  current-here = current-fitted job (length shelf) (putIn shelf used job edition sealed) ∙ current-new new refl before
 
-  current-there : (other : ℕ) → (other ≡ job → ⊥) → currentOf other final ≡ currentOf other (records (take used shelf))
+  current-there : (other : ℕ) → (other ≡ job → ⊥) → currentOf other final ≡ currentOf other before
   current-there other d =
-      current-fitted other (length shelf) (putIn shelf used job edition sealed) ∙ current-kept new refl (records (take used shelf)) other d
+      current-fitted other (length shelf) (putIn shelf used job edition sealed) ∙ current-kept new refl before other d
 
-  one-by : (other : ℕ) (t : Bool) → eqb other job ≡ t → length (currentOf other final) ≤ 1
-  one-by other true e = rw (eqb-true other job e, current-here) (omega arith)
-  one-by other false e = rw (current-there other (eqb-false other job e)) (at-most-one (records (take used shelf)) (order .single) other)
-
-  holds : InOrder (over (stored final) shelf) (length (stored final))
-  holds = holds-in-order final shelf final-proper (order .size) (final-fits .0) (λ other. one-by other (eqb other job) refl)
+  final-fit : Fit final shelf
+  final-fit =
+      let e = enough new before (length shelf) refl (ltb-false (length shelf) (needed shelf used job edition sealed) (passed .room)) in
+      let short : length sealed < 2 ^ 32 = omega (arith, order .size) in
+      record {
+        small = small;
+        proper =
+            put-proper (length shelf) new before
+            (record { job = job-fits; edition = edition-fits; size = short; bytes = sealed-small })
+            (records-proper (take used shelf) (below-take 256 used shelf small));
+        size = order .size;
+        room = omega (arith, length-made new before (length shelf) refl);
+        one = λ other.
+            by-test (eqb other job) (λ f. rw (eqb-true other job f, current-here) (omega arith))
+            (λ f. rw (current-there other (eqb-false other job f)) (at-most-one before (order .single) other));
+      }
 
   -- the shelf is in order, so no call refuses it with 19, and the used count is within the buffer, which is as long as it was
   pub put-in-order : let o = putCall shelf used job edition sealed in InOrder (o .bytes) (o .used)
-  put-in-order = rw put-is holds
+  put-in-order = rw put-is (holds-in-order final shelf final-fit)
 
   pub put-length : length (putCall shelf used job edition sealed .bytes) ≡ length shelf
-  put-length = rw put-is (length-over final shelf final-proper (final-fits .0))
+  put-length = rw put-is (length-over final shelf final-fit)
 
   -- looking up the job gives exactly the new record
   pub put-look-up : let o = putCall shelf used job edition sealed in lookedUp (o .bytes) (o .used) job ≡ written new
   unfolding stored
-  put-look-up =
-      rw put-is (looks-up final shelf final-proper small holds job ∙ ap stored current-here ∙ append-nil (written new))
+  put-look-up = rw put-is (looks-up final shelf final-fit job ∙ ap stored current-here ∙ append-nil (written new))
 
   -- and looking up another gives what it gave
   pub put-others : (other : ℕ) → (other ≡ job → ⊥)
       → let o = putCall shelf used job edition sealed in lookedUp (o .bytes) (o .used) other ≡ lookedUp shelf used other
   put-others other d =
       rw put-is
-      (looks-up final shelf final-proper small holds other ∙ ap stored (current-there other d) ∙ sym (look-up shelf used small order other))
+      (looks-up final shelf final-fit other ∙ ap stored (current-there other d) ∙ sym (look-up shelf used small order other))

@@ -1,24 +1,19 @@
 -- A collection, record by record: one that stays is moved down behind those that stayed, and what is to come is as it was.
--- Assumes nothing.
-use mathlib.Core.Path.{_≡_, refl, sym, ap, ap₂, _∙_}
-use mathlib.Core.Bool.{Bool, true, false, not, _&&_}
-use mathlib.Core.List.{List, [], _∷_, _++_, append-assoc, append-nil}
-use Prim.Native.Nat.{ℕ, zero, suc, _+_, _-_, _≤_}
-use native.Mathlib.Omega.{arith}
-use lib.Dec.{eqb}
-use lib.ListN.{length, take, drop, length-drop, take-append-drop}
-use lib.Seq.{paste, take-paste, drop-paste, length-paste, drop-drop, take-take, take-nil, length-take-le}
+use Rattle.block.proofs.Base.{_+_, _-_, _≤_, suc, zero, ℕ, _∙_, _≡_, ap, ap₂, refl, sym, Bool, _&&_, false, not, true, List, [], _++_, _∷_}
+use Rattle.block.proofs.Base.{append-assoc, append-nil, arith, eqb, drop, length, length-drop, take, take-append-drop, drop-drop}
+use Rattle.block.proofs.Base.{length-take-le, take-nil}
+use lib.Seq.{paste, take-paste, drop-paste, length-paste, take-take}
 use Rattle.block.specs.Below.{AreBytes}
 use Rattle.block.proofs.Entries.{below-take, below-drop}
 use Rattle.walk.specs.Walk.{over}
 use Rattle.walk.proofs.Loop.{tailed, tail-is}
 use Rattle.shelf.specs.declared.records.Head.{Head}
-use Rattle.shelf.specs.Records.{Record, written, stored, records, headAt}
+use Rattle.shelf.specs.Records.{written, stored, records, headAt}
 use Rattle.shelf.specs.Shelf.{those}
 use Rattle.shelf.specs.Steps.{stays}
 use Rattle.shelf.proofs.Reading.{Turn, entry}
-use Rattle.shelf.proofs.Walks.{kept-here, kept-behind}
-use Rattle.shelf.proofs.Inverse.{entry-written}
+use Rattle.shelf.proofs.Walks.{those-here, those-behind}
+use Rattle.shelf.proofs.ReadsProper.{entry-written}
 
 -- what `&s[at..used]` holds
 abbrev pub between : ℕ → ℕ → List ℕ → List ℕ
@@ -44,8 +39,8 @@ between-on at used n s =
 between-same : (to at used : ℕ) (s s₀ : List ℕ) → to ≤ at → drop to s ≡ drop to s₀ → between at used s ≡ between at used s₀
 between-same to at used s s₀ h e =
     let k : at ≡ to + (at - to) = omega arith in
-    let f : (l : List ℕ) → drop (at - to) (drop to l) ≡ drop at l = λ l. drop-drop (at - to) to l ∙ ap (λ (n : ℕ). drop n l) (sym k) in
-    ap (take (used - at)) (sym (f s) ∙ ap (drop (at - to)) e ∙ f s₀)
+    let f : drop at s ≡ drop at s₀ = rw (k, ← drop-drop (at - to) to s, ← drop-drop (at - to) to s₀, e) in
+    ap (take (used - at)) f
 
 -- how far a collection has come: the records up to `at` are done with, and what stays of them stands before `to`
 pub record Collecting (coming : Bool) (job : ℕ) (s₀ : List ℕ) (used : ℕ) (s : List ℕ) (to at : ℕ) : Type 0 where
@@ -68,10 +63,7 @@ module _ (coming : Bool) (job : ℕ) (s₀ : List ℕ) (used : ℕ) (room : used
     module _ (none : records (between at used s) ≡ []) where
       front-kept : take to s ≡ kept coming job (take used s₀)
       unfolding those stored
-      front-kept =
-          sym (append-nil (take to s))
-          ∙ ap (λ (rs : List Record). take to s ++ stored (those (stays coming job) rs)) (sym none)
-          ∙ so-far .all
+      front-kept = sym (append-nil (take to s)) ∙ rw none at (so-far .all)
 
       pub kept-length : to ≡ length (kept coming job (take used s₀))
       kept-length = sym (length-take-le to s (omega arith)) ∙ ap length front-kept
@@ -83,8 +75,7 @@ module _ (coming : Bool) (job : ℕ) (s₀ : List ℕ) (used : ℕ) (room : used
     module _ (h : Head) (told : h ≡ headAt (between at used s)) (t : Turn (between at used s) h) where
       pub fits : at + h .size ≤ used
       fits =
-          let l = length-drop at s in
-          let n : length (between at used s) ≡ used - at = length-take-le (used - at) (drop at s) (omega arith) in
+          let n : length (between at used s) ≡ used - at = length-take-le (used - at) (drop at s) (omega (arith, length-drop at s)) in
           omega (arith, t .within)
 
       small-here : AreBytes s₀ → AreBytes (between at used s)
@@ -95,11 +86,12 @@ module _ (coming : Bool) (job : ℕ) (s₀ : List ℕ) (used : ℕ) (room : used
       -- it stays
       one-more : AreBytes s₀ → h .current && not (coming && eqb (h .job) job) ≡ true
           → kept coming job (between at used s) ≡ take (h .size) (drop at s) ++ kept coming job (between (at + h .size) used s)
+      unfolding stored
       one-more small stay =
           let f = fits in
           let whole : written (entry (between at used s) h) ≡ take (h .size) (drop at s) =
           entry-written (between at used s) h told t (small-here small) ∙ take-take (h .size) (used - at) (drop at s) (omega arith) in
-          kept-here (between at used s) h t coming job stay
+          ap stored (those-here (between at used s) h t (stays coming job) stay)
           ∙ ap₂ _++_ whole (ap (kept coming job) (between-on at used (h .size) s))
 
       pub stay-turn : AreBytes s₀ → h .current && not (coming && eqb (h .job) job) ≡ true → (s′ : List ℕ) (to′ : ℕ)
@@ -114,8 +106,7 @@ module _ (coming : Bool) (job : ℕ) (s₀ : List ℕ) (used : ℕ) (room : used
             below = omega arith;
             inside = f;
             long = ap length e ∙ length-paste s to (drop at s) n (omega arith) (omega arith) ∙ so-far .long;
-            behind =
-                rw (e, g) (moved ∙ sym (drop-drop n to s) ∙ ap (drop n) (so-far .behind) ∙ drop-drop n to s₀);
+            behind = rw (e, g) (moved ∙ sym (drop-drop n to s) ∙ ap (drop n) (so-far .behind) ∙ drop-drop n to s₀);
             all =
                 rw (e, g, take-paste s to (drop at s) n (omega arith) (omega arith), rest)
                 (append-assoc (take to s) (take n (drop at s)) (kept coming job (between (at + n) used s))
@@ -127,7 +118,7 @@ module _ (coming : Bool) (job : ℕ) (s₀ : List ℕ) (used : ℕ) (room : used
           → Collecting coming job s₀ used s′ to′ (at + h .size)
       gone-turn gone s′ to′ e g =
           let same : kept coming job (between at used s) ≡ kept coming job (between (at + h .size) used s) =
-          kept-behind (between at used s) h t coming job gone ∙ ap (kept coming job) (between-on at used (h .size) s) in
+          ap stored (those-behind (between at used s) h t (stays coming job) gone) ∙ ap (kept coming job) (between-on at used (h .size) s) in
           record {
             below = omega arith;
             inside = fits;

@@ -1,14 +1,9 @@
 pub mod Reading
 pub mod Walks
-pub mod Inverse
-pub mod Superseding
 pub mod Putting
 pub mod Current
 pub mod ReadsProper
-pub mod BreaksOff
 pub mod Sound
 pub mod Keeping
-pub mod Marking
-pub mod Outcomes
 pub mod FoundPart
 pub mod AfterPut

@@ -1,14 +1,6 @@
 -- Records are read one at a time: where one stands whole at the front, it and then what is behind it; otherwise none.
--- Assumes nothing.
-use mathlib.Core.Path.{_≡_, refl, sym, ap, _∙_}
-use mathlib.Core.Bool.{Bool, true, false, cond}
-use mathlib.Core.List.{List, [], _∷_}
-use Prim.Native.Nat.{ℕ, zero, suc, _+_, _-_, _≤_, _<_}
-use native.Mathlib.Omega.{arith}
-use lib.Dec.{leb}
-use lib.ListN.{length, take, drop, length-append, length-drop}
-use lib.Seq.{length-take-le}
-use borrow.Author.Tests.{leb-true, le-leb, lt-leb}
+use Rattle.block.proofs.Base.{_+_, _-_, _<_, _≤_, suc, zero, ℕ, _∙_, _≡_, ap, refl, sym, Bool, false, true, List, [], _∷_, arith, le-leb}
+use Rattle.block.proofs.Base.{leb-true, lt-leb, leb, drop, length, length-append, length-drop, take, length-take-le}
 use Rattle.block.specs.BigEndian.{bytesOf}
 use Rattle.block.specs.Words.{wordAt}
 use Rattle.block.proofs.Convert.{length-bytesOf}
@@ -19,13 +11,14 @@ use Rattle.label.proofs.LabelTells.{length-label}
 use Rattle.shelf.specs.declared.records.Head.{Head}
 use Rattle.shelf.specs.Records.{Record, written, marked, startsRecord, sizeAt, front, readUpTo, records, headAt}
 
+-- a test holds, or it does not
+pub by-test : {A : Type 0} (t : Bool) → (t ≡ true → A) → (t ≡ false → A) → A
+by-test true f g = f refl
+by-test false f g = g refl
+
 pub length-written : (r : Record) → length (written r) ≡ 12 + length (r .sealed)
 unfolding written
-length-written r =
-    let n = length-append (bytesOf 4 (length (r .sealed))) (r .sealed) in
-    let m = length-bytesOf 4 (length (r .sealed)) in
-    let l = length-label (r .job) (r .edition) in
-    rw length-append (omega (arith, n, m, l))
+length-written r = simp length-append (omega (arith, length-bytesOf 4 (length (r .sealed)), length-label (r .job) (r .edition)))
 
 -- what a record says of its file: the label that it is sealed under, and behind the head the sealed bytes
 pub written-label : (r : Record) → take 6 (drop 2 (written r)) ≡ labelOf (r .job) (r .edition)
@@ -36,64 +29,52 @@ pub written-sealed : (r : Record) → drop 12 (written r) ≡ r .sealed
 unfolding written labelOf bytesOf
 written-sealed r = refl
 
-pub never : false ≡ true → ⊥
-never e = let z : _≡_ {A = ℕ} 0 1 = cc in omega arith
-
 module _ (b : List ℕ) where
   pub starts-within : startsRecord b ≡ true → (12 ≤ length b) × (marked b ≡ true) × (12 + wordAt b 8 ≤ length b)
   unfolding startsRecord
   starts-within e =
       let long = leb-true 12 (length b) (and-left _ _ e) in
       let rest = and-right (leb 12 (length b)) _ e in
-      let fits = leb-true (wordAt b 8) (length b - 12) (and-right (marked b) _ rest) in
-      (long, and-left _ _ rest, omega arith)
-
-  pub size-starts : startsRecord b ≡ true → sizeAt b ≡ 12 + wordAt b 8
-  unfolding sizeAt
-  size-starts e = rw e
-
-  pub size-none : startsRecord b ≡ false → sizeAt b ≡ 0
-  unfolding sizeAt
-  size-none e = rw e
-
-  pub too-short : length b < 12 → startsRecord b ≡ false
-  unfolding startsRecord
-  too-short h = rw (lt-leb 12 (length b) h)
-
-  pub no-mark : 12 ≤ length b → marked b ≡ false → startsRecord b ≡ false
-  unfolding startsRecord
-  no-mark h m = rw (le-leb 12 (length b) h, m)
-
-  pub too-long : 12 ≤ length b → marked b ≡ true → length b - 12 < wordAt b 8 → startsRecord b ≡ false
-  unfolding startsRecord
-  too-long h m l = rw (le-leb 12 (length b) h, m, lt-leb (wordAt b 8) (length b - 12) l)
+      (long, and-left _ _ rest, omega (arith, leb-true (wordAt b 8) (length b - 12) (and-right (marked b) _ rest)))
 
   pub stands : 12 ≤ length b → marked b ≡ true → wordAt b 8 ≤ length b - 12 → startsRecord b ≡ true
   unfolding startsRecord
   stands h m l = rw (le-leb 12 (length b) h, m, le-leb (wordAt b 8) (length b - 12) l)
 
-  none-by : (s : Bool) → startsRecord b ≡ s → sizeAt b ≡ 0 → startsRecord b ≡ false
-  none-by true f z = let n = size-starts f in absurd (omega arith)
-  none-by false f z = f
+  too-short : length b < 12 → startsRecord b ≡ false
+  unfolding startsRecord
+  too-short h = rw (lt-leb 12 (length b) h)
 
-  some-by : (s : Bool) → startsRecord b ≡ s → (sizeAt b ≡ 0 → ⊥) → startsRecord b ≡ true
-  some-by true f z = f
-  some-by false f z = absurd (z (size-none f))
+  pub size-starts : startsRecord b ≡ true → sizeAt b ≡ 12 + wordAt b 8
+  unfolding sizeAt
+  size-starts e = rw e
 
   pub size-zero : sizeAt b ≡ 0 → startsRecord b ≡ false
-  size-zero = none-by (startsRecord b) refl
+  size-zero z = by-test (startsRecord b) (λ f. absurd (omega (arith, size-starts f))) (λ f. f)
 
   pub size-some : (sizeAt b ≡ 0 → ⊥) → startsRecord b ≡ true
-  size-some = some-by (startsRecord b) refl
+  unfolding sizeAt
+  size-some z = by-test (startsRecord b) (λ f. f) (λ f. absurd (z (rw f)))
+
+  -- what is behind a record is shorter
+  pub behind-less : startsRecord b ≡ true → length (drop (sizeAt b) b) < length b
+  behind-less e = omega (arith, starts-within e, size-starts e, length-drop (sizeAt b) b)
+
+  pub length-sealed : startsRecord b ≡ true → length (take (wordAt b 8) (drop 12 b)) ≡ wordAt b 8
+  length-sealed e = length-take-le (wordAt b 8) (drop 12 b) (omega (arith, starts-within e, length-drop 12 b))
 
   read-none : (n : ℕ) → startsRecord b ≡ false → readUpTo n b ≡ []
   unfolding readUpTo
   read-none zero e = refl
   read-none (suc n) e = rw e
 
-same-where : (s : Bool) (x y z : List Record) → (s ≡ true → x ≡ y) → cond s x z ≡ cond s y z
-same-where true x y z f = f refl
-same-where false x y z f = refl
+  pub records-none : startsRecord b ≡ false → records b ≡ []
+  unfolding records
+  records-none e = read-none (length b) e
+
+pub records-empty : records [] ≡ []
+unfolding records readUpTo
+records-empty = refl
 
 -- as many as there are bytes is enough
 enough : (n m : ℕ) (b : List ℕ) → length b ≤ n → length b ≤ m → readUpTo n b ≡ readUpTo m b
@@ -101,35 +82,26 @@ unfolding readUpTo
 enough zero m b h k = sym (read-none b m (too-short b (omega arith)))
 enough (suc n) zero b h k = read-none b (suc n) (too-short b (omega arith))
 enough (suc n) (suc m) b h k =
-    same-where (startsRecord b) _ _ _
-    (λ e.
-    let w = starts-within b e in
-    let s = size-starts b e in
-    let l = length-drop (sizeAt b) b in
-    ap {B = List Record} (λ (rs : List Record). front b ∷ rs) (enough n m (drop (sizeAt b) b) (omega arith) (omega arith)))
-
-pub records-empty : records [] ≡ []
-unfolding records readUpTo
-records-empty = refl
-
-pub records-none : (b : List ℕ) → startsRecord b ≡ false → records b ≡ []
-unfolding records
-records-none b e = read-none b (length b) e
-
-read-one : (n : ℕ) (b : List ℕ) → length b ≡ suc n → startsRecord b ≡ true
-    → readUpTo (length b) b ≡ front b ∷ readUpTo n (drop (sizeAt b) b)
-unfolding readUpTo
-read-one n b l e = rw (l, e)
+    by-test (startsRecord b)
+    (λ e. let l = behind-less b e in rw (e, enough n m (drop (sizeAt b) b) (omega arith) (omega arith))) (λ e. rw e)
 
 pub records-one : (b : List ℕ) → startsRecord b ≡ true → records b ≡ front b ∷ records (drop (sizeAt b) b)
-unfolding records
+unfolding records readUpTo
 records-one b e =
-    let w = starts-within b e in
-    let s = size-starts b e in
-    let l = length-drop (sizeAt b) b in
-    read-one (length b - 1) b (omega arith) e
-    ∙ ap {B = List Record} (λ (rs : List Record). front b ∷ rs)
-    (enough (length b - 1) (length (drop (sizeAt b) b)) (drop (sizeAt b) b) (omega arith) (omega arith))
+    let l = behind-less b e in
+    enough (length b) (suc (length b)) b (omega arith) (omega arith)
+    ∙ rw (e, enough (length b) (length (drop (sizeAt b) b)) (drop (sizeAt b) b) (omega arith) (omega arith))
+
+-- What holds where no record stands, and goes on from what is behind a record to the record, holds of all bytes.
+module _ (P : List ℕ → Type 0) (none : (b : List ℕ) → startsRecord b ≡ false → P b)
+    (one : (b : List ℕ) → startsRecord b ≡ true → P (drop (sizeAt b) b) → P b) where
+  up-to : (n : ℕ) (b : List ℕ) → length b ≤ n → P b
+  up-to zero b h = none b (too-short b (omega arith))
+  up-to (suc n) b h =
+      by-test (startsRecord b) (λ f. one b f (up-to n (drop (sizeAt b) b) (omega (arith, behind-less b f)))) (none b)
+
+  pub by-records : (b : List ℕ) → P b
+  by-records b = up-to (length b) b (omega arith)
 
 -- the record that a head tells of
 abbrev pub entry : List ℕ → Head → Record
@@ -151,20 +123,10 @@ module _ (b : List ℕ) (h : Head) (e : h ≡ headAt b) where
   unfolding headAt
   head-starts f = e ∙ rw f
 
-  head-none : startsRecord b ≡ false → h .size ≡ 0
-  unfolding headAt
-  head-none f = ap (λ (x : Head). x .size) e ∙ rw f
-
   -- nothing stands there
-  end-by : (s : Bool) → startsRecord b ≡ s → h .size ≡ 0 → records b ≡ []
-  end-by true f z =
-      let n = ap (λ (x : Head). x .size) (head-starts f) in
-      let s = size-starts b f in
-      absurd (omega arith)
-  end-by false f z = records-none b f
-
   pub at-end : h .size ≡ 0 → records b ≡ []
-  at-end z = end-by (startsRecord b) refl z
+  at-end z =
+      by-test (startsRecord b) (λ f. absurd (omega (arith, ap (λ (x : Head). x .size) (head-starts f), size-starts b f))) (records-none b)
 
   pub entry-front : startsRecord b ≡ true → front b ≡ entry b h
   unfolding front
@@ -173,29 +135,25 @@ module _ (b : List ℕ) (h : Head) (e : h ≡ headAt b) where
       let n : 12 + wordAt b 8 - 12 ≡ wordAt b 8 = omega arith in
       rw (head-starts f, s, n)
 
-  turn-by : (s : Bool) → startsRecord b ≡ s → (h .size ≡ 0 → ⊥) → Turn b h
-  turn-by true f z =
+  turn-at : startsRecord b ≡ true → Turn b h
+  turn-at f =
       let w = starts-within b f in
       let s = size-starts b f in
       let n : h .size ≡ sizeAt b = ap (λ (x : Head). x .size) (head-starts f) in
-      let d = length-drop 12 b in
-      let l : length (take (h .size - 12) (drop 12 b)) ≡ h .size - 12 = length-take-le (h .size - 12) (drop 12 b) (omega arith) in
+      let l : length (take (h .size - 12) (drop 12 b)) ≡ h .size - 12 =
+      length-take-le (h .size - 12) (drop 12 b) (omega (arith, length-drop 12 b)) in
       record {
         starts = f;
         size = n;
         long = omega arith;
         within = omega arith;
-        reads =
-            records-one b f
-            ∙ ap {B = List Record} (λ (r : Record). r ∷ records (drop (sizeAt b) b)) (entry-front f)
-            ∙ ap {B = List Record} (λ (l : List ℕ). entry b h ∷ records l) (sym (tail-is b (h .size) ∙ ap (λ (k : ℕ). drop k b) n));
+        reads = records-one b f ∙ rw (entry-front f, tail-is b (h .size), n);
         whole = length-written (entry b h) ∙ rw l (omega arith);
       }
-  turn-by false f z = absurd (z (head-none f))
 
   pub on : (h .size ≡ 0 → ⊥) → Turn b h
-  on z = turn-by (startsRecord b) refl z
+  unfolding headAt
+  on z = by-test (startsRecord b) turn-at (λ f. absurd (z (ap (λ (x : Head). x .size) e ∙ rw f)))
 
--- what is behind a record is shorter
 pub shrinks : (b : List ℕ) (h : Head) → Turn b h → length (tailed (h .size) b) < length b
-shrinks b h t = let l = length-tailed b (h .size) in omega (arith, t .long, t .within)
+shrinks b h t = omega (arith, length-tailed b (h .size), t .long, t .within)

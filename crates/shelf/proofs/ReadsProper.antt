@@ -1,81 +1,178 @@
--- What is read of bytes is proper, and so is what putting and collecting make of it.
--- Assumes nothing.
-use mathlib.Core.Path.{_≡_, refl}
-use mathlib.Core.Bool.{Bool, true, false, cond}
-use mathlib.Core.List.{List, [], _∷_, _++_}
-use Prim.Native.Nat.{ℕ, zero, suc, _+_, _<_, _^_}
-use native.Mathlib.Omega.{arith}
-use lib.Dec.{leb, lit<}
-use lib.ListN.{length, getD, take, drop, length-drop}
-use lib.Seq.{length-take-le}
+-- What is read of bytes is proper, and so is what putting and collecting make of it; reading and writing are each other's inverse.
+use Rattle.block.proofs.Base.{_+_, _<_, _^_, _≤_, suc, zero, ℕ, _∙_, _≡_, ap, ap₂, refl, sym, Bool, true, List, [], _++_, _∷_, append-assoc}
+use Rattle.block.proofs.Base.{append-nil, mod-eq-of-lt, arith, eqb-true, eqb, leb, lit<, drop, getD, length, length-append, take, drop-at}
+use Rattle.block.proofs.Base.{length-take-le, take-add, take-at, take-length}
 use Rattle.block.specs.Below.{AreBytes}
 use Rattle.block.specs.Words.{wordAt}
-use Rattle.block.proofs.Convert.{numberOf-lt}
+use Rattle.block.proofs.Convert.{numberOf-lt, numberOf-bytesOf, bytesOf-numberOf}
 use Rattle.block.proofs.Entries.{below-at, below-take, below-drop}
-use Rattle.shelf.specs.Records.{Record, Proper, AllProper, stored, startsRecord, sizeAt, front, readUpTo, records}
-use Rattle.shelf.specs.Shelf.{isCurrentOf, those, collected, superseded, supersede, withNew, fitted}
-use Rattle.shelf.proofs.Reading.{starts-within}
+use Rattle.block.specs.BigEndian.{bytesOf}
+use Rattle.block.proofs.Same.{and-left, and-right}
+use Rattle.label.specs.Label.{labelOf}
+use Rattle.shelf.specs.Records.{Record, Proper, AllProper, stored, startsRecord, sizeAt, front, records, markOf, written, marked}
+use Rattle.shelf.specs.Records.{headAt}
+use Rattle.shelf.specs.Shelf.{isCurrentOf, those, supersede, withNew, fitted}
+use Rattle.shelf.specs.declared.records.Head.{Head}
+use Rattle.shelf.proofs.Reading.{by-test, length-sealed, records-none, records-one, by-records, length-written, starts-within}
+use Rattle.shelf.proofs.Reading.{size-starts, stands, records-empty, Turn, entry, entry-front}
 
 module _ (b : List ℕ) (small : AreBytes b) where
-  byte : (i : ℕ) → getD b i 0 < 256
-  byte i = below-at 256 b (lit< tt) small i
+  pub byte-at : (i : ℕ) → getD b i 0 < 256
+  byte-at i = below-at 256 b (lit< tt) small i
 
   word-small : (i : ℕ) → wordAt b i < 2 ^ 32
   word-small i =
       numberOf-lt (getD b i 0 ∷ getD b (i + 1) 0 ∷ getD b (i + 2) 0 ∷ getD b (i + 3) 0 ∷ [])
-      (byte i, (byte (i + 1), (byte (i + 2), (byte (i + 3), tt))))
+      (byte-at i, (byte-at (i + 1), (byte-at (i + 2), (byte-at (i + 3), tt))))
 
   pub front-proper : startsRecord b ≡ true → Proper (front b)
   unfolding front
   front-proper f =
-      let w = starts-within b f in
-      let d = length-drop 12 b in
-      let l : length (take (wordAt b 8) (drop 12 b)) ≡ wordAt b 8 = length-take-le (wordAt b 8) (drop 12 b) (omega arith) in
       record {
         job = word-small 2;
-        edition = numberOf-lt (getD b 6 0 ∷ getD b 7 0 ∷ []) (byte 6, (byte 7, tt));
-        size = rw l (word-small 8);
+        edition = numberOf-lt (getD b 6 0 ∷ getD b 7 0 ∷ []) (byte-at 6, (byte-at 7, tt));
+        size = rw (length-sealed b f) (word-small 8);
         bytes = below-take 256 (wordAt b 8) (drop 12 b) (below-drop 256 12 b small);
       }
 
-proper-by : (b : List ℕ) (rs : List Record) (s : Bool) → (s ≡ true → Proper (front b)) → AllProper rs → AllProper (cond s (front b ∷ rs) [])
-proper-by b rs true p h = (p refl, h)
-proper-by b rs false p h = tt
-
-read-proper : (n : ℕ) (b : List ℕ) → AreBytes b → AllProper (readUpTo n b)
-unfolding readUpTo
-read-proper zero b small = tt
-read-proper (suc n) b small =
-    proper-by b (readUpTo n (drop (sizeAt b) b)) (startsRecord b) (front-proper b small)
-    (read-proper n (drop (sizeAt b) b) (below-drop 256 (sizeAt b) b small))
-
 pub records-proper : (b : List ℕ) → AreBytes b → AllProper (records b)
-unfolding records
-records-proper b small = read-proper (length b) b small
-
-cond-proper : (t : Bool) (r : Record) (rs : List Record) → Proper r → AllProper rs → AllProper (cond t (r ∷ rs) rs)
-cond-proper true r rs p h = (p, h)
-cond-proper false r rs p h = h
+records-proper =
+    by-records (λ b. AreBytes b → AllProper (records b)) (λ b f small. rw (records-none b f) tt)
+    (λ b f more small. rw (records-one b f) (front-proper b small f, more (below-drop 256 (sizeAt b) b small)))
 
 pub those-proper : (test : Record → Bool) (rs : List Record) → AllProper rs → AllProper (those test rs)
 unfolding those
 those-proper test [] h = tt
-those-proper test (r ∷ rs) h = cond-proper (test r) r (those test rs) (h .0) (those-proper test rs (h .1))
-
-marked-proper : (t : Bool) (r : Record) → Proper r → Proper (cond t (superseded r) r)
-marked-proper true r p = record { job = p .job; edition = p .edition; size = p .size; bytes = p .bytes }
-marked-proper false r p = p
+those-proper test (r ∷ rs) h =
+    by-test (test r) (λ e. rw e (h .0, those-proper test rs (h .1))) (λ e. rw e (those-proper test rs (h .1)))
 
 new-proper : (job : ℕ) (new : Record) (rs : List Record) → Proper new → AllProper rs → AllProper (supersede job rs ++ (new ∷ []))
 unfolding supersede
 new-proper job new [] p h = (p, tt)
-new-proper job new (r ∷ rs) p h = (marked-proper (isCurrentOf job r) r (h .0), new-proper job new rs p (h .1))
-
-fit-proper : (t : Bool) (rs : List Record) → AllProper rs → AllProper (cond t rs (collected rs))
-fit-proper true rs h = h
-fit-proper false rs h = those-proper (λ r. r .current) rs h
+new-proper job new (r ∷ rs) p h =
+    let q = h .0 in
+    let rest = new-proper job new rs p (h .1) in
+    by-test (isCurrentOf job r)
+    (λ e. rw e (record { job = q .job; edition = q .edition; size = q .size; bytes = q .bytes }, rest)) (λ e. rw e (q, rest))
 
 pub put-proper : (room : ℕ) (new : Record) (rs : List Record) → Proper new → AllProper rs → AllProper (fitted room (withNew new rs))
 unfolding fitted withNew
 put-proper room new rs p h =
-    fit-proper (leb (length (stored (withNew new rs))) room) (withNew new rs) (new-proper (new .job) new rs p h)
+    let all = new-proper (new .job) new rs p h in
+    by-test (leb (length (stored (withNew new rs))) room) (λ e. rw e all) (λ e. rw e (those-proper (λ r. r .current) _ all))
+
+-- the first n entries, each by its place
+listed : ℕ → (ℕ → ℕ) → List ℕ
+listed zero f = []
+listed (suc n) f = f 0 ∷ listed n (λ i. f (suc i))
+
+listed-take : (n : ℕ) (b : List ℕ) → n ≤ length b → listed n (λ i. getD b i 0) ≡ take n b
+unfolding listed
+listed-take zero b h = refl
+listed-take (suc n) [] h = absurd (omega arith)
+listed-take (suc n) (x ∷ b) h = ap (λ (l : List ℕ). x ∷ l) (listed-take n b (omega arith))
+
+-- a byte list that is read as a number is its bytes again
+module _ (b : List ℕ) (small : AreBytes b) where
+  four-back : (i : ℕ) → bytesOf 4 (wordAt b i) ≡ getD b i 0 ∷ getD b (i + 1) 0 ∷ getD b (i + 2) 0 ∷ getD b (i + 3) 0 ∷ []
+  four-back i =
+      let at = byte-at b small in
+      bytesOf-numberOf (getD b i 0 ∷ getD b (i + 1) 0 ∷ getD b (i + 2) 0 ∷ getD b (i + 3) 0 ∷ [])
+      (at i, (at (i + 1), (at (i + 2), (at (i + 3), tt))))
+
+  marked-back : marked b ≡ true → (0x52 ≡ getD b 0 0) × (markOf (eqb (getD b 1 0) 0x44) ≡ getD b 1 0)
+  unfolding marked
+  marked-back m = (
+    sym (eqb-true (getD b 0 0) 0x52 (and-left _ _ m)),
+    by-test (eqb (getD b 1 0) 0x44) (λ e. rw e (sym (eqb-true (getD b 1 0) 0x44 e)))
+        (λ e. rw e (sym (eqb-true (getD b 1 0) 0x58 (rw e at (and-right (eqb (getD b 0 0) 0x52) _ m))))),
+  )
+
+  -- the record that is read, written, is the bytes that it was read from
+  front-written : startsRecord b ≡ true → written (front b) ≡ take (sizeAt b) b
+  unfolding written front labelOf listed
+  front-written f =
+      let w = starts-within b f in
+      let m = marked-back (w .1) in
+      let two = bytesOf-numberOf (getD b 6 0 ∷ getD b 7 0 ∷ []) (byte-at b small 6, (byte-at b small 7, tt)) in
+      rw (
+        m .1,
+        two,
+        length-sealed b f,
+        four-back 2,
+        four-back 8,
+        size-starts b f,
+        take-add 12 (wordAt b 8) b,
+        ← listed-take 12 b (w .0),
+        ← m .0,
+      )
+
+-- what reads is what is stored of it
+stored-front : (b : List ℕ) → AreBytes b → stored (records b) ≡ take (length (stored (records b))) b
+unfolding stored
+stored-front =
+    by-records (λ b. AreBytes b → stored (records b) ≡ take (length (stored (records b))) b) (λ b f small. rw (records-none b f))
+    (λ b f more small.
+    let l : length (take (sizeAt b) b) ≡ sizeAt b = length-take-le (sizeAt b) b (omega (arith, starts-within b f, size-starts b f)) in
+    rw (records-one b f, front-written b small f, length-append, l, take-add)
+    (ap (λ (x : List ℕ). take (sizeAt b) b ++ x) (more (below-drop 256 (sizeAt b) b small))))
+
+-- records that fill the bytes are the bytes
+pub stored-records : (b : List ℕ) → AreBytes b → length (stored (records b)) ≡ length b → stored (records b) ≡ b
+stored-records b small e = stored-front b small ∙ ap (λ (k : ℕ). take k b) e ∙ take-length b
+
+-- a written record is read
+same-record : {c c′ : Bool} {j j′ e e′ : ℕ} {s s′ : List ℕ} → c ≡ c′ → j ≡ j′ → e ≡ e′ → s ≡ s′
+    → _≡_ {A = Record} (record { current = c; job = j; edition = e; sealed = s })
+    (record { current = c′; job = j′; edition = e′; sealed = s′ })
+same-record p q u v = rw (p, q, u, v)
+
+module _ (r : Record) (proper : Proper r) (rest : List ℕ) where
+  size-field : wordAt (written r ++ rest) 8 ≡ length (r .sealed)
+  unfolding written labelOf bytesOf
+  size-field = numberOf-bytesOf 4 (length (r .sealed)) ∙ mod-eq-of-lt (proper .size)
+
+  written-starts : startsRecord (written r ++ rest) ≡ true
+  unfolding written labelOf bytesOf marked
+  written-starts =
+      let l = length-append (written r) rest in
+      let w = length-written r in
+      stands (written r ++ rest) (omega arith) (by-test (r .current) (λ e. rw e) (λ e. rw e)) (omega (arith, size-field))
+
+  written-size : sizeAt (written r ++ rest) ≡ length (written r)
+  written-size = size-starts (written r ++ rest) written-starts ∙ rw size-field (sym (length-written r))
+
+  written-front : front (written r ++ rest) ≡ r
+  unfolding written labelOf bytesOf front
+  written-front =
+      same-record (by-test (r .current) (λ e. rw e) (λ e. rw e)) (numberOf-bytesOf 4 (r .job) ∙ mod-eq-of-lt (proper .job))
+      (numberOf-bytesOf 2 (r .edition) ∙ mod-eq-of-lt (proper .edition))
+      (ap (λ (k : ℕ). take k (r .sealed ++ rest)) size-field ∙ take-at (r .sealed) rest (length (r .sealed)) refl)
+
+  pub written-reads : records (written r ++ rest) ≡ r ∷ records rest
+  written-reads =
+      records-one (written r ++ rest) written-starts
+      ∙ ap₂ {C = List Record} (λ (x : Record) (l : List ℕ). x ∷ records l) written-front
+      (ap (λ (k : ℕ). drop k (written r ++ rest)) written-size ∙ drop-at (written r) rest (length (written r)) refl)
+
+-- stored records are read, and then what is behind them
+pub records-behind : (rs : List Record) (b : List ℕ) → AllProper rs → records (stored rs ++ b) ≡ rs ++ records b
+unfolding stored
+records-behind [] b h = refl
+records-behind (r ∷ rs) b h =
+    ap records (append-assoc (written r) (stored rs) b)
+    ∙ written-reads r (h .0) (stored rs ++ b)
+    ∙ ap {B = List Record} (λ (l : List Record). r ∷ l) (records-behind rs b (h .1))
+
+-- what was stored is read
+pub records-stored : (rs : List Record) → AllProper rs → records (stored rs) ≡ rs
+records-stored rs h =
+    ap records (sym (append-nil (stored rs)))
+    ∙ records-behind rs [] h
+    ∙ ap {B = List Record} (λ (l : List Record). rs ++ l) records-empty
+    ∙ append-nil rs
+
+-- the entry that a head tells of, written
+pub entry-written : (b : List ℕ) (h : Head) → h ≡ headAt b → Turn b h → AreBytes b → written (entry b h) ≡ take (h .size) b
+entry-written b h e t small =
+    ap written (sym (entry-front b h e (t .starts))) ∙ front-written b small (t .starts) ∙ ap (λ (k : ℕ). take k b) (sym (t .size))

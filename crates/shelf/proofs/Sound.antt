@@ -1,85 +1,159 @@
--- A shelf is bad exactly where it is not in order up to its used count.
--- Assumes nothing.
-use mathlib.Core.Path.{_≡_, refl, sym, ap, _∙_}
-use mathlib.Core.Bool.{Bool, true, false, not, _||_}
-use mathlib.Core.List.{List, []}
-use Prim.Native.Nat.{ℕ, zero, suc, _+_, _-_, _≤_, _<_}
-use native.Mathlib.Omega.{arith}
-use lib.Dec.{eqb, ltb}
-use lib.ListN.{length, take, drop, length-append, length-drop}
-use lib.Seq.{length-take-le}
-use borrow.Author.Tests.{lt-ltb, le-ltb, ltb-false, eqb-true, eq-eqb, ne-eqb, not-false}
-use Rattle.block.specs.Words.{wordAt}
-use Rattle.shelf.specs.Records.{Record, written, stored, startsRecord, sizeAt, front, records}
-use Rattle.shelf.specs.Shelf.{twoCurrent, badShelf}
-use Rattle.shelf.specs.Steps.{soundUpTo, InOrder}
-use Rattle.shelf.proofs.Reading.{length-written, starts-within, size-starts, too-short, never, records-none, records-one}
-use Rattle.shelf.proofs.Walks.{or-left, or-right}
-use Rattle.shelf.proofs.BreaksOff.{sound-all, sound-less}
+-- Where a shelf breaks off: all is in order where no job has two current records, and otherwise less than all; so a shelf is bad exactly where
+-- it is not in order up to its used count.
+use Rattle.block.proofs.Base.{_+_, _<_, _≤_, ℕ, _∙_, _≡_, ap, ap₂, refl, sym, _&&_, _||_, cond, false, not, true, List, [], _++_, _∷_}
+use Rattle.block.proofs.Base.{append-assoc, append-nil, arith, eq-eqb, eqb-true, le-ltb, ltb-false, ne-eqb, not-false, eqb, ltb, drop}
+use Rattle.block.proofs.Base.{length, length-append, length-drop, take, drop-drop, length-take-le, take-add}
+use mathlib.Core.Bool.{or-true, or-false}
+use Rattle.block.specs.Below.{AreBytes}
+use Rattle.block.proofs.Entries.{below-take, below-drop}
+use Rattle.block.proofs.Same.{and-left, and-right}
+use Rattle.walk.proofs.Loop.{tailed, tail-is}
+use Rattle.shelf.specs.declared.records.Head.{Head}
+use Rattle.shelf.specs.Records.{Record, Proper, written, stored, records, headAt, sizeAt, front}
+use Rattle.shelf.specs.Shelf.{isCurrentOf, those, currentOf, hasCurrent, twoCurrent, badShelf}
+use Rattle.shelf.specs.Steps.{soundFrom, soundUpTo, InOrder}
+use Rattle.shelf.proofs.Reading.{by-test, length-written, records-empty, Turn, entry, entry-front, starts-within, size-starts}
+use Rattle.shelf.proofs.Reading.{length-sealed, records-none, records-one, by-records}
+use Rattle.shelf.proofs.Walks.{none-current, or-left, or-right}
+use Rattle.shelf.proofs.ReadsProper.{entry-written, stored-records, written-reads, records-behind, front-proper, records-proper}
+use Rattle.shelf.proofs.Putting.{stored-append, those-append}
+use Rattle.shelf.proofs.Current.{current-none, own-current, at-most-one, no-two}
 
-length-front : (b : List ℕ) → startsRecord b ≡ true → length (written (front b)) ≡ sizeAt b
-unfolding front
-length-front b f =
-    let w = starts-within b f in
-    let d = length-drop 12 b in
-    let l : length (take (wordAt b 8) (drop 12 b)) ≡ wordAt b 8 = length-take-le (wordAt b 8) (drop 12 b) (omega arith) in
-    length-written (front b) ∙ ap (λ (k : ℕ). 12 + k) l ∙ sym (size-starts b f)
+-- how many current records of a job there are, with one more
+length-more : (job : ℕ) (passed : List Record) (r : Record) (rs : List Record)
+    → length (currentOf job (passed ++ (r ∷ rs)))
+    ≡ length (currentOf job passed) + length (cond (isCurrentOf job r) (r ∷ currentOf job rs) (currentOf job rs))
+unfolding those
+length-more job passed r rs = ap length (those-append (isCurrentOf job) passed (r ∷ rs)) ∙ length-append (currentOf job passed) _
+
+-- it is no second one
+first : (passed : List Record) (r : Record) (rs : List Record) → twoCurrent (passed ++ (r ∷ rs)) ≡ false
+    → r .current && hasCurrent (r .job) passed ≡ false
+first passed r rs f =
+    by-test (r .current)
+    (λ e.
+    let all = at-most-one (passed ++ (r ∷ rs)) f (r .job) in
+    rw e (current-none (r .job) passed (omega (arith, rw (own-current r e) at (length-more (r .job) passed r rs)))))
+    (λ e. rw e)
+
+pub sound-all : (passed rs : List Record) → twoCurrent (passed ++ rs) ≡ false → soundFrom passed rs ≡ length (stored rs)
+unfolding soundFrom stored
+sound-all passed [] e = refl
+sound-all passed (r ∷ rs) e =
+    rw (first passed r rs e, sound-all (passed ++ (r ∷ [])) rs (rw append-assoc e)) (sym (length-append (written r) (stored rs)))
+
+-- one more, that is no second one
+still-single : (passed : List Record) (r : Record) → twoCurrent passed ≡ false → r .current && hasCurrent (r .job) passed ≡ false
+    → twoCurrent (passed ++ (r ∷ [])) ≡ false
+unfolding those
+still-single passed r e f =
+    no-two (passed ++ (r ∷ []))
+    (λ job. rw (length-more job passed r [])
+    (by-test (isCurrentOf job r)
+    (λ g.
+    let same : r .job ≡ job = eqb-true (r .job) job (and-right (r .current) _ g) in
+    let none : hasCurrent job passed ≡ false = rw (and-left (r .current) _ g, same) at f in
+    rw (g, none-current job passed none) (omega arith))
+    (λ g. rw g (omega (arith, at-most-one passed e job)))))
+
+pub sound-less : (passed rs : List Record) → twoCurrent passed ≡ false → twoCurrent (passed ++ rs) ≡ true
+    → soundFrom passed rs < length (stored rs)
+unfolding soundFrom stored
+sound-less passed [] e f =
+    let g = rw append-nil at f in
+    let z : _≡_ {A = ℕ} 0 1 = cc in absurd (omega arith)
+sound-less passed (r ∷ rs) e f =
+    by-test (r .current && hasCurrent (r .job) passed) (λ g. rw (g, length-append) (omega (arith, length-written r)))
+    (λ g.
+    let more = sound-less (passed ++ (r ∷ [])) rs (still-single passed r e g) (rw append-assoc f) in
+    rw (g, length-append) (omega arith))
+
+-- how far a walk that looks back has come: `at` bytes are passed, all of them records, and t is to come
+pub record Passing (s t : List ℕ) (at : ℕ) : Type 0 where
+  pub within : at ≤ length s
+  pub rest : t ≡ drop at s
+  pub whole : length (stored (records (take at s))) ≡ at
+  pub sum : at + soundFrom (records (take at s)) (records t) ≡ soundUpTo (records s)
+
+pub passing-starts : (s : List ℕ) → Passing s s 0
+unfolding stored
+passing-starts s =
+    record {
+      within = omega arith;
+      rest = refl;
+      whole = ap (λ (rs : List Record). length (stored rs)) records-empty;
+      sum = ap (λ (rs : List Record). 0 + soundFrom rs (records s)) records-empty ∙ omega arith;
+    }
+
+module _ (s t : List ℕ) (at : ℕ) (p : Passing s t at) where
+  pub passed-all : records t ≡ [] → at ≡ soundUpTo (records s)
+  unfolding soundFrom
+  passed-all e = let z = ap (soundFrom (records (take at s))) e in omega (arith, z, p .sum)
+
+  module _ (h : Head) (told : h ≡ headAt t) (turn : Turn t h) where
+    pub second : h .current && hasCurrent (h .job) (records (take at s)) ≡ true → at ≡ soundUpTo (records s)
+    unfolding soundFrom
+    second e =
+        let z : soundFrom (records (take at s)) (records t) ≡ 0 = ap (soundFrom (records (take at s))) (turn .reads) ∙ rw e in
+        omega (arith, z, p .sum)
+
+    module _ (small : AreBytes s) where
+      small-rest : AreBytes t
+      small-rest = rw (p .rest) (below-drop 256 at s small)
+
+      entry-proper : Proper (entry t h)
+      entry-proper = rw (entry-front t h told (turn .starts)) at (front-proper t small-rest (turn .starts))
+
+      -- the records passed, with this one
+      passed-more : records (take (at + h .size) s) ≡ records (take at s) ++ (entry t h ∷ [])
+      passed-more =
+          let P = records (take at s) in
+          let e = entry t h in
+          let small-passed = below-take 256 at s small in
+          let before : take at s ≡ stored P =
+          sym (stored-records (take at s) small-passed (p .whole ∙ sym (length-take-le at s (p .within)))) in
+          let here : take (h .size) (drop at s) ≡ written e =
+          ap (take (h .size)) (sym (p .rest)) ∙ sym (entry-written t h told turn small-rest) in
+          ap records (take-add at (h .size) s ∙ ap₂ _++_ before (here ∙ sym (append-nil (written e))))
+          ∙ records-behind P (written e ++ []) (records-proper (take at s) small-passed)
+          ∙ ap {B = List Record} (λ (x : List Record). P ++ x)
+          (written-reads e entry-proper [] ∙ ap {B = List Record} (λ (x : List Record). e ∷ x) records-empty)
+
+      pub passing-on : h .current && hasCurrent (h .job) (records (take at s)) ≡ false → Passing s (tailed (h .size) t) (at + h .size)
+      unfolding soundFrom stored
+      passing-on f =
+          let P = records (take at s) in
+          let e = entry t h in
+          let n = h .size in
+          let l = ap length (p .rest) ∙ length-drop at s in
+          let z : soundFrom P (records t) ≡ n + soundFrom (P ++ (e ∷ [])) (records (tailed n t)) =
+          ap (soundFrom P) (turn .reads) ∙ rw (f, turn .whole) in
+          record {
+            within = omega (arith, turn .within);
+            rest = tail-is t n ∙ ap (drop n) (p .rest) ∙ drop-drop n at s;
+            whole = rw (passed-more, stored-append, append-nil, length-append, p .whole, turn .whole);
+            sum = rw passed-more (omega (arith, z, p .sum));
+          }
 
 -- the records have no more bytes than they were read from
-within-step : (b : List ℕ) (s : Bool) → startsRecord b ≡ s
-    → (s ≡ true → length (stored (records (drop (sizeAt b) b))) ≤ length (drop (sizeAt b) b)) → length (stored (records b)) ≤ length b
-unfolding stored
-within-step b false f more = let e = records-none b f in rw e (omega arith)
-within-step b true f more =
-    let w = starts-within b f in
-    let s = size-starts b f in
-    let d = drop (sizeAt b) b in
-    let l = length-drop (sizeAt b) b in
-    let size : length (stored (records b)) ≡ length (written (front b)) + length (stored (records d)) =
-    ap (λ (rs : List Record). length (stored rs)) (records-one b f) ∙ length-append (written (front b)) (stored (records d)) in
-    omega (arith, size, length-front b f, more refl)
-
-within-by : (n : ℕ) (b : List ℕ) → length b ≤ n → length (stored (records b)) ≤ length b
-within-by zero b h = within-step b false (too-short b (omega arith)) (λ e. absurd (never e))
-within-by (suc n) b h =
-    within-step b (startsRecord b) refl
-    (λ f.
-    let w = starts-within b f in
-    let s = size-starts b f in
-    let l = length-drop (sizeAt b) b in
-    within-by n (drop (sizeAt b) b) (omega arith))
-
 stored-within : (b : List ℕ) → length (stored (records b)) ≤ length b
-stored-within b = within-by (length b) b (omega arith)
+unfolding stored front
+stored-within =
+    by-records (λ b. length (stored (records b)) ≤ length b) (λ b f. rw (records-none b f) (omega arith))
+    (λ b f more.
+    let w = starts-within b f in
+    let l : length (written (front b)) ≡ sizeAt b = length-written (front b) ∙ rw (length-sealed b f, size-starts b f) in
+    rw (records-one b f, length-append) (omega (arith, size-starts b f, length-drop (sizeAt b) b)))
 
-or-false : (t : Bool) → t ≡ t || false
-or-false true = refl
-or-false false = refl
-
-or-true : (t : Bool) → true ≡ t || true
-or-true true = refl
-or-true false = refl
-
-none-two : twoCurrent [] ≡ false
+sound-test : (rs : List Record) (used : ℕ) → length (stored rs) ≤ used
+    → not (eqb (soundUpTo rs) used) ≡ not (eqb (length (stored rs)) used) || twoCurrent rs
 unfolding twoCurrent
-none-two = refl
-
-sound-test : (rs : List Record) (used : ℕ) (two : Bool) → twoCurrent rs ≡ two → length (stored rs) ≤ used
-    → not (eqb (soundUpTo rs) used) ≡ not (eqb (length (stored rs)) used) || two
-sound-test rs used false e h = rw (sound-all [] rs e) (or-false (not (eqb (length (stored rs)) used)))
-sound-test rs used true e h =
-    let l = sound-less [] rs none-two e in
-    rw (ne-eqb (soundUpTo rs) used (λ f. omega arith)) (or-true (not (eqb (length (stored rs)) used)))
+sound-test rs used h =
+    by-test (twoCurrent rs)
+    (λ e. let l = sound-less [] rs refl e in rw (e, ne-eqb (soundUpTo rs) used (λ f. omega arith), or-true))
+    (λ e. rw (e, sound-all [] rs e, or-false))
 
 module _ (shelf : List ℕ) (used : ℕ) where
-  pub bad-size : 65536 < length shelf → true ≡ badShelf shelf used
-  unfolding badShelf
-  bad-size h = rw (lt-ltb 65536 (length shelf) h)
-
-  pub bad-used : length shelf ≤ 65536 → length shelf < used → true ≡ badShelf shelf used
-  unfolding badShelf
-  bad-used h k = rw (le-ltb 65536 (length shelf) h, lt-ltb (length shelf) used k)
-
   pub bad-records : length shelf ≤ 65536 → used ≤ length shelf
       → not (eqb (soundUpTo (records (take used shelf))) used) ≡ badShelf shelf used
   unfolding badShelf
@@ -87,7 +161,7 @@ module _ (shelf : List ℕ) (used : ℕ) where
       let n = stored-within (take used shelf) in
       let l : length (take used shelf) ≡ used = length-take-le used shelf k in
       rw (le-ltb 65536 (length shelf) h, le-ltb (length shelf) used k)
-      (sound-test (records (take used shelf)) used (twoCurrent (records (take used shelf))) refl (omega arith))
+      (sound-test (records (take used shelf)) used (omega arith))
 
   pub in-order : badShelf shelf used ≡ false → InOrder shelf used
   unfolding badShelf

@@ -1,4 +1,4 @@
--- What the three calls leave, from the inputs alone. The numbers are the request's.
+-- What the three calls leave, from the inputs alone. The numbers are those of W10.
 use Prim.Native.Nat.{ℕ, _+_}
 use mathlib.Core.Bool.{Bool, true, cond}
 use mathlib.Core.List.{List, []}
@@ -72,7 +72,7 @@ partOf p shelf = cond (ltb (length shelf) (p .start + p .size)) [] (take (p .siz
 abbrev pub lookedUp : List ℕ → ℕ → ℕ → List ℕ
 lookedUp shelf used job = partOf (findCall shelf used job) shelf
 
--- the request's number of an ending
+-- the number of an ending
 abbrev pub numberOfEnd : Ended → ℕ
 numberOfEnd Done = 0
 numberOfEnd BadShelf = 19

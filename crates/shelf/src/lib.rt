@@ -34,7 +34,7 @@ pub struct Found {
     pub length: usize,
 }
 
-// The request's number of how a call ended.
+// The number of how a call ended (W10).
 pub fn number(ended: Ended) -> u32
     ensures { λ r. ⌜ r ≡ numberOfEnd ended ⌝ }
 {

@@ -1,11 +1,5 @@
 -- The block before a place of a message, the IV before the first.
--- Assumes nothing.
-use mathlib.Core.Path.{_≡_, sym, ap, _∙_}
-use Prim.Native.Nat.{ℕ, _+_, _-_, _≤_}
-use mathlib.Core.List.{List, _++_}
-use native.Mathlib.Omega.{arith}
-use lib.ListN.{length, take, drop, length-drop}
-use lib.Seq.{drop-append-add}
+use Rattle.block.proofs.Base.{_+_, _-_, _≤_, ℕ, _∙_, _≡_, ap, sym, List, _++_, arith, drop, length, length-drop, take, drop-append-add}
 use Rattle.block.specs.Below.{AreBytes}
 use Rattle.block.specs.Words.{words, unwords}
 use Rattle.block.proofs.Entries.{below-drop}

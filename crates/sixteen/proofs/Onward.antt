@@ -1,11 +1,6 @@
 -- A walk that goes on over what is left ends as the whole walk does; and where the state is the block before, all states are known ahead.
--- Assumes nothing.
-use mathlib.Core.Path.{_≡_, refl, sym, ap, ap₂, _∙_}
-use Prim.Native.Nat.{ℕ, zero, suc, _+_, _*_}
-use mathlib.Core.List.{List, _++_}
-use native.Mathlib.Omega.{arith}
-use lib.ListN.{length, take, drop}
-use lib.Seq.{drop-drop, take-at, drop-at}
+use Rattle.block.proofs.Base.{_*_, _+_, suc, zero, ℕ, _∙_, _≡_, ap, ap₂, refl, sym, List, _++_, arith, drop, length, take, drop-at}
+use Rattle.block.proofs.Base.{drop-drop, take-at}
 use Rattle.block.specs.Blocks.{blockAt}
 use Rattle.walk.specs.Walk.{Mode, chain, stepped, endState, over}
 use Rattle.walk.specs.Reached.{Reached}
@@ -19,8 +14,7 @@ module _ (m : Mode) (s d o r p : List ℕ) (at : ℕ) (R : Reached m s d o r p a
   pub reached-over : (t : List ℕ) → t ≡ over (chain m r (tailed at d)) (tailed at p) → returned at p t ≡ over (chain m s d) o
   reached-over t e =
       returned-is p t at
-      ∙ ap (λ (x : List ℕ). take at p ++ x) (e ∙ ap₂ (λ (x y : List ℕ). over (chain m r x) y) (tail-is d at) (tail-is p at))
-      ∙ R .leaves
+      ∙ ap (λ (x : List ℕ). take at p ++ x) (e ∙ ap₂ (λ (x y : List ℕ). over (chain m r x) y) (tail-is d at) (tail-is p at)) ∙ R .leaves
 
 module _ (m : Mode) (F : FedBack m) where
   -- the states from a block on are the blocks from there on
@@ -30,8 +24,7 @@ module _ (m : Mode) (F : FedBack m) where
   fed-back (suc i) d =
       let e = drop 16 d in
       let k : 16 + 16 * i ≡ 16 * suc i = omega arith in
-      ap (λ (s : List ℕ). stepped m i s (drop 16 e)) (F .state (take 16 d) (take 16 e))
-      ∙ fed-back i e
+      ap (λ (s : List ℕ). stepped m i s (drop 16 e)) (F .state (take 16 d) (take 16 e)) ∙ fed-back i e
       ∙ ap (take 16) (drop-drop (16 * i) 16 d ∙ ap (λ (n : ℕ). drop n d) k)
 
   pub states-before : (i : ℕ) (s d : List ℕ) → length s ≡ 16 → stepped m i s d ≡ blockAt (s ++ d) i

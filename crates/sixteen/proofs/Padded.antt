@@ -1,12 +1,6 @@
 -- Blocks that stand one after the other: each by its place, and xored with pads.
--- Assumes nothing.
-use mathlib.Core.Path.{_≡_, refl, sym, ap, ap₂, subst, _∙_}
-use mathlib.Core.Logic.{⊎-elim}
-use mathlib.Core.List.{List, [], _∷_, _++_, append-assoc}
-use Prim.Native.Nat.{ℕ, zero, suc, _+_, _*_, _<_, _≤_}
-use native.Mathlib.Omega.{arith}
-use lib.ListN.{length, take, drop}
-use lib.Seq.{take-at, drop-at, take-add, length-take-le}
+use Rattle.block.proofs.Base.{_*_, _+_, _<_, _≤_, suc, zero, ℕ, _∙_, _≡_, ap, refl, sym, ⊎-elim, List, [], _++_, _∷_, append-assoc, arith}
+use Rattle.block.proofs.Base.{drop, length, take, drop-at, length-take-le, take-add, take-at}
 use Rattle.block.specs.Blocks.{blockAt, cat}
 use Rattle.block.specs.Xor.{_⊕_, xors}
 use Rattle.block.proofs.Cat.{length-cat}
@@ -25,13 +19,10 @@ unfolding cat
 block-of zero f z full i h = absurd (omega arith)
 block-of (suc n) f z full i h =
     let front : (j : ℕ) → j < n → length (f j) ≡ 16 = λ j g. full j (omega arith) in
-    ap (λ (l : List ℕ). blockAt l i) (append-assoc (cat n f) (f n) z)
-    ∙ ⊎-elim (λ (g : i < n). block-of n f (f n ++ z) front i g)
+    rw append-assoc (⊎-elim (λ (g : i < n). block-of n f (f n ++ z) front i g)
     (λ (g : n ≤ i).
-    let q : n ≡ i = omega arith in
-    subst (λ (k : ℕ). blockAt (cat n f ++ (f n ++ z)) k ≡ f k) q
-    (ap (take 16) (drop-at (cat n f) (f n ++ z) (16 * n) (length-cat n f front)) ∙ take-at (f n) z 16 (full n (omega arith))))
-    (lt-or-le i n)
+    let q : i ≡ n = omega arith in
+    rw (q, drop-at (cat n f) (f n ++ z) (16 * n) (length-cat n f front)) (take-at (f n) z 16 (full n (omega arith)))) (lt-or-le i n))
 
 -- what is behind the end of a text does not count
 pub xors-fit : (a p q : List ℕ) → length a ≤ length p → xors a (p ++ q) ≡ xors a p
@@ -48,9 +39,7 @@ xors-blocks (suc n) d f h full =
     let k : 16 * suc n ≡ 16 * n + 16 = omega arith in
     let a = take (16 * n) d in
     let l : length a ≡ length (cat n f) = length-take-le (16 * n) d (omega arith) ∙ sym (length-cat n f front) in
-    ap (λ (x : List ℕ). xors x (cat n f ++ f n)) (ap (λ (x : ℕ). take x d) k ∙ take-add (16 * n) 16 d)
-    ∙ xors-append a (blockAt d n) (cat n f) (f n) l
-    ∙ ap (λ (x : List ℕ). x ++ xors (blockAt d n) (f n)) (xors-blocks n d f (omega arith) front)
+    rw (k, take-add (16 * n) 16 d, xors-append a (blockAt d n) (cat n f) (f n) l, xors-blocks n d f (omega arith) front)
 
 -- n blocks, each xored with its pad
 pub xored-blocks : (n : ℕ) (d z : List ℕ) (f : ℕ → List ℕ) → 16 * n ≤ length d → ((i : ℕ) → i < n → length (f i) ≡ 16)

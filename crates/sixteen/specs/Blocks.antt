@@ -5,10 +5,7 @@ use mathlib.Core.List.{List, [], _∷_}
 use Prim.Native.Nat.{ℕ, _+_, _*_, _/_, _%_, _^_, _<_, _≤_}
 use lib.ListN.{getD, length}
 use Rattle.block.specs.Xor.{_⊕_}
-
--- the first n words of a are those of f
-abbrev pub Each : (ℕ → ℕ) → ℕ → List ℕ → Type 0
-Each f n a = (j : ℕ) → j < n → getD a j 0 ≡ f j
+pub use Rattle.lanes.specs.Each.{Each}
 
 -- words 2 i and 2 i + 1 as one
 abbrev pub pairAt : List ℕ → ℕ → ℕ

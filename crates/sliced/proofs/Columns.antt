@@ -1,14 +1,7 @@
 -- The S-boxes of a byte, column by column.
--- Assumes nothing.
-use mathlib.Core.Path.{_≡_, refl, sym, ap, ap₂, _∙_}
-use mathlib.Core.Logic.{_⊎_, inl, inr, ⊎-elim}
-use mathlib.Core.List.{List, [], _∷_}
-use Prim.Native.Nat.{ℕ, zero, suc, _+_, _-_, _*_, _/_, _%_, _^_, _<_, _≤_}
-use native.Mathlib.Nat.{add-zero, mod-lt, mod-eq-of-lt}
-use native.Mathlib.Omega.{arith}
-use lib.Dec.{lit<}
-use lib.ListN.{getD, length, set, length-set}
-use lib.Seq.{getD-set-same, getD-set-other}
+use Rattle.block.proofs.Base.{_%_, _*_, _+_, _-_, _/_, _<_, _^_, _≤_, suc, zero, ℕ, _∙_, _≡_, ap, ap₂, refl, sym, _⊎_, inl, inr, ⊎-elim}
+use Rattle.block.proofs.Base.{List, [], _∷_, add-zero, mod-eq-of-lt, mod-lt, arith, lit<, getD, length, length-set, set, getD-set-other}
+use Rattle.block.proofs.Base.{getD-set-same}
 use Rattle.block.specs.Xor.{_⊕_}
 use Rattle.lanes.specs.Bits.{bit, pack, byteLane, Masks}
 use Rattle.lanes.proofs.Bits.{bit-small, bit-xor, bit-mod, bit-shr, bit-pack, pack-is, lt-or-le}

@@ -1,14 +1,6 @@
 -- The words of a counter with carries between them are the words of its sum.
--- Assumes nothing.
-use mathlib.Core.Path.{_≡_, refl, sym, ap, ap₂, _∙_}
-use mathlib.Core.Bool.{Bool, true, false}
-use mathlib.Core.List.{List, [], _∷_}
-use Prim.Native.Nat.{ℕ, _+_, _*_, _/_, _%_, _^_, _<_}
-use native.Mathlib.Nat.{add-mul, mul-assoc, mul-comm}
-use native.Mathlib.Omega.{arith}
-use lib.Arith.{mod-mul, digits-div, digits-mod}
-use lib.Dec.{lit<}
-use lib.ListN.{getD}
+use Rattle.block.proofs.Base.{_%_, _*_, _+_, _/_, _<_, _^_, ℕ, _∙_, _≡_, ap, ap₂, refl, sym, Bool, false, true, List, [], _∷_, arith}
+use Rattle.block.proofs.Base.{digits-div, digits-mod, mod-mul, lit<, getD}
 use Rattle.block.specs.Below.{AreWords}
 use Rattle.block.specs.BigEndian.{numberOf, bytesOf}
 use Rattle.block.specs.Words.{words, unwords}
@@ -37,8 +29,6 @@ no-carry y h e = ap (bit (e / 8)) (h (e % 8)) ∙ bit-zero (e / 8)
 -- one digit, over any base
 digit : (A B h c k w y : ℕ) → 0 < A → w < B → w + B * y ≡ c + k → (h * B + c + k) % (A * B) ≡ (h + y) % A * B + w
 digit A B h c k w y ha hw e =
-    let r : (h + y) * B ≡ h * B + y * B = add-mul h y B in
-    let s : B * y ≡ y * B = mul-comm B y in
     let t : h * B + c + k ≡ (h + y) * B + w = omega arith in
     let hb : 0 < B = omega arith in
     rw (t, mod-mul ((h + y) * B + w) ha hb, digits-div (h + y) hw, digits-mod (h + y) hw)
@@ -49,9 +39,7 @@ four B a b c d = ((a * B + b) * B + c) * B + d
 
 last-digit : (B c y w z : ℕ) → w < B → w + B * z ≡ c + y → (c + y) % B ≡ w
 last-digit B c y w z hw e =
-    let s : B * z ≡ z * B = mul-comm B z in
-    let t : c + y ≡ z * B + w = omega arith in
-    rw t (digits-mod z hw)
+    let t : c + y ≡ z * B + w = omega arith in rw t (digits-mod z hw)
 
 four-digits : (B a b c d k w0 w1 w2 w3 y0 y1 y2 y3 : ℕ) → 0 < B → 0 < B * B → 0 < B * B * B
     → w0 < B → w1 < B → w2 < B → w3 < B
@@ -65,10 +53,7 @@ four-digits B a b c d k w0 w1 w2 w3 y0 y1 y2 y3 p1 p2 p3 h0 h1 h2 h3 e3 e2 e1 e0
     (digit B B a b y2 w1 y1 p1 h1 e1 ∙ ap (λ (v : ℕ). v * B + w1) (last-digit B a y1 w0 y0 h0 e0)))
 
 halves : (B h c d : ℕ) → h * (B * B) + (c * B + d) ≡ (h * B + c) * B + d
-halves B h c d =
-    let e : (h * B + c) * B ≡ h * B * B + c * B = add-mul (h * B) c B in
-    let f : h * B * B ≡ h * (B * B) = mul-assoc h B B in
-    omega arith
+halves B h c d = omega arith
 
 -- the number of a block by its words
 block-number : (x : List ℕ) → AreWords x → numberOf (unwords x) ≡ four (2 ^ 32) (getD x 0 0) (getD x 1 0) (getD x 2 0) (getD x 3 0)

@@ -1,44 +1,23 @@
 -- Transposed halves of blocks are lanes, and lanes transposed are halves of blocks.
--- Assumes nothing.
-use mathlib.Core.Path.{_≡_, refl, sym, ap, ap₂, subst, _∙_}
-use mathlib.Core.Logic.{⊎-elim}
-use mathlib.Core.List.{List, _∷_}
-use Prim.Native.Nat.{ℕ, _+_, _*_, _/_, _%_, _^_, _<_, _≤_}
-use native.Mathlib.Nat.{mod-lt}
-use native.Mathlib.Omega.{arith}
-use lib.Dec.{lit<}
-use lib.Pow.{pow-pos}
-use lib.ListN.{length, getD, set, length-set}
-use lib.Seq.{getD-set-same, getD-set-other}
+use Rattle.block.proofs.Base.{_%_, _*_, _+_, _/_, _<_, _^_, _≤_, ℕ, _∙_, _≡_, ap, ap₂, refl, subst, sym, List, _∷_, mod-lt, arith, lit<}
+use Rattle.block.proofs.Base.{getD, length, length-set, set, pow-pos, getD-set-other, getD-set-same}
 use Rattle.block.proofs.Entries.{below-at}
 use Rattle.block.proofs.WordsBack.{four-entries}
 use Rattle.lanes.specs.Bits.{bit}
-use Rattle.lanes.proofs.Bits.{bit-mod, bit-shr, bit-ext, lt-or-le}
+use Rattle.lanes.proofs.Bits.{bit-mod, bit-shr, bit-ext}
+use Rattle.lanes.proofs.Filling.{one-more, word-more}
 use Rattle.cipher.specs.Sm4.{rounds, turned, encryptWords}
 use Rattle.rows.specs.Rows.{place, Row, Rows}
 use Rattle.rows.specs.Transposed.{at, Turned}
 use Rattle.sliced.specs.Lanes.{lane, lanes, Parted, Halved}
 use Rattle.sliced.proofs.Held.{lane-lt, lane-bit}
 
-pub none-parted : (a upper lower : List ℕ) → Parted 0 a upper lower
-none-parted a upper lower = record { up = λ m h. absurd (omega arith); low = λ m h. absurd (omega arith) }
-
--- an entry more that is the same in two lists
-same-next : (f g : ℕ → ℕ) (i : ℕ) → f i ≡ g i → ((m : ℕ) → m < i → f m ≡ g m) → (m : ℕ) → m < i + 1 → f m ≡ g m
-same-next f g i e h m hm =
-    ⊎-elim (h m) (λ (k : i ≤ m). let q : i ≡ m = omega arith in subst (λ (z : ℕ). f z ≡ g z) q e) (lt-or-le m i)
-
 pub parted-next : (a upper lower : List ℕ) (i : ℕ) → i < 256 → length upper ≡ 256 → length lower ≡ 256 → Parted i a upper lower
     → Parted (i + 1) a (set upper i (getD a (i + 256) 0)) (set lower i (getD a i 0))
-parted-next a upper lower i h hu hl P =
-    let x = getD a (i + 256) 0 in
-    let y = getD a i 0 in
-    record {
-      up = same-next (λ m. getD a (m + 256) 0) (λ m. getD (set upper i x) m 0) i (sym (getD-set-same upper i x 0 (omega arith)))
-          (λ m g. P .up m g ∙ sym (getD-set-other upper i m x 0 (λ q. omega arith)));
-      low = same-next (λ m. getD a m 0) (λ m. getD (set lower i y) m 0) i (sym (getD-set-same lower i y 0 (omega arith)))
-          (λ m g. P .low m g ∙ sym (getD-set-other lower i m y 0 (λ q. omega arith)));
-    }
+parted-next a upper lower i h hu hl P = record {
+  up = word-more i _ upper (omega arith) (λ m v. getD a (m + 256) 0 ≡ v) refl (P .up);
+  low = word-more i _ lower (omega arith) (λ m v. getD a m 0 ≡ v) refl (P .low);
+}
 
 pub joined-next : (a upper lower : List ℕ) (i : ℕ) → i < 256 → length a ≡ 512 → Parted i a upper lower
     → Parted (i + 1) (set (set a i (getD lower i 0)) (i + 256) (getD upper i 0)) upper lower
@@ -48,11 +27,11 @@ joined-next a upper lower i h ha P =
     let b = set a i x in
     let n = length-set a i x in
     record {
-      up = same-next (λ m. getD (set b (i + 256) y) (m + 256) 0) (λ m. getD upper m 0) i (getD-set-same b (i + 256) y 0 (omega arith))
+      up = one-more _ i (getD-set-same b (i + 256) y 0 (omega arith))
           (λ m g. getD-set-other b (i + 256) (m + 256) y 0 (λ q. omega arith)
           ∙ getD-set-other a i (m + 256) x 0 (λ q. omega arith)
           ∙ P .up m g);
-      low = same-next (λ m. getD (set b (i + 256) y) m 0) (λ m. getD lower m 0) i
+      low = one-more _ i
           (getD-set-other b (i + 256) i y 0 (λ q. omega arith) ∙ getD-set-same a i x 0 (omega arith))
           (λ m g. getD-set-other b (i + 256) m y 0 (λ q. omega arith)
           ∙ getD-set-other a i m x 0 (λ q. omega arith)

@@ -1,12 +1,8 @@
 -- What the words of a plane hold are its lanes.
--- Assumes nothing.
-use mathlib.Core.Path.{_≡_, sym, ap₂, _∙_}
-use mathlib.Core.List.{List}
-use Prim.Native.Nat.{ℕ, _+_, _*_, _/_, _%_, _^_, _<_, _≤_}
-use native.Mathlib.Omega.{arith}
-use lib.ListN.{getD}
+use Rattle.block.proofs.Base.{_%_, _*_, _+_, _/_, _<_, _^_, _≤_, ℕ, _∙_, _≡_, ap₂, sym, List, arith, getD, length, set}
 use Rattle.lanes.specs.Bits.{bit}
 use Rattle.lanes.proofs.Bits.{bit-small, pack-lt, bit-pack, pack-is}
+use Rattle.lanes.proofs.Filling.{word-more}
 use Rattle.sliced.specs.Lanes.{lane, Held}
 
 -- the bits of lane e
@@ -42,6 +38,12 @@ lane-held f n x h e he hc hf =
     let a : p / 8 % 32 ≡ i = omega arith in
     let b : 8 * (e / 8) + p % 8 ≡ e = omega arith in
     h p (e / 8) (omega arith) (omega arith) (omega arith) ∙ ap₂ (λ (u v : ℕ). bit u (f v)) a b)
+
+-- one word more
+pub held-next : (f : ℕ → ℕ) (n i v : ℕ) (s : List ℕ) → i < length s
+    → ((k : ℕ) → i % 8 < n → k < 64 → bit k v ≡ bit (i / 8 % 32) (f (8 * k + i % 8))) → Held f n i s → Held f n (i + 1) (set s i v)
+held-next f n i v s h g H p k hp hc hk =
+    word-more i v s h (λ q x. q % 8 < n → bit k x ≡ bit (q / 8 % 32) (f (8 * k + q % 8))) (λ c. g k c hk) (λ q l c. H q k l c hk) p hp hc
 
 pub held-less : (f : ℕ → ℕ) (n i m : ℕ) (s : List ℕ) → m ≤ i → Held f n i s → Held f n m s
 held-less f n i m s h g p k hp hc hk = g p k (omega arith) hc hk

@@ -1,11 +1,5 @@
 -- The masks of a round key's bits, and a column with them.
--- Assumes nothing.
-use mathlib.Core.Path.{_≡_, refl, sym, ap, ap₂, _∙_}
-use mathlib.Core.List.{List, [], _∷_}
-use Prim.Native.Nat.{ℕ, zero, suc, _+_, _*_, _<_}
-use native.Mathlib.Nat.{add-zero}
-use native.Mathlib.Omega.{arith}
-use lib.ListN.{getD}
+use Rattle.block.proofs.Base.{_*_, _+_, _<_, suc, zero, ℕ, _∙_, _≡_, ap, ap₂, refl, sym, List, [], _∷_, add-zero, arith, getD}
 use Rattle.block.specs.Xor.{_⊕_}
 use Rattle.lanes.specs.Bits.{bit, Masks}
 use Rattle.sliced.specs.Round.{column}

@@ -1,20 +1,13 @@
 -- The plane of lane numbers: six rows that are the same in every column, three that are all ones or zero, and zeros.
--- Assumes nothing.
-use mathlib.Core.Path.{_≡_, sym, ap, ap₂, subst, _∙_}
-use mathlib.Core.Logic.{⊎-elim}
-use mathlib.Core.List.{List, [], _∷_}
-use Prim.Native.Nat.{ℕ, _+_, _-_, _*_, _/_, _%_, _^_, _<_, _≤_}
-use native.Mathlib.Omega.{arith}
-use lib.Dec.{eqb, eqb→eq}
-use lib.ListN.{length, getD, set, length-set, replicate}
-use lib.Seq.{getD-set-same, getD-set-other}
+use Rattle.block.proofs.Base.{_%_, _*_, _+_, _-_, _/_, _<_, _^_, _≤_, ℕ, _∙_, _≡_, ap, ap₂, sym, ⊎-elim, List, [], _∷_, arith, eqb, eqb→eq}
+use Rattle.block.proofs.Base.{getD, length, length-set, replicate, set, getD-set-other}
 use Rattle.block.proofs.Table.{rule-at}
 use Rattle.lanes.specs.Bits.{bit}
 use Rattle.lanes.proofs.Bits.{bit-zero, bit-low, bit-high, bit-past, lt-or-le}
 use Rattle.rows.specs.Rows.{place}
 use Rattle.sliced.specs.Lanes.{lane, Held}
 use Rattle.sliced.specs.Counting.{numberAt, Clear}
-use Rattle.sliced.proofs.Held.{lane-held}
+use Rattle.sliced.proofs.Held.{lane-held, held-next}
 
 -- the six rows: bit k of row q is bit q of k
 abbrev patterns : List ℕ
@@ -24,12 +17,13 @@ patterns =
 pattern-bit : (q k : ℕ) → q < 6 → k < 64 → bit k (getD patterns q 0) ≡ bit q k
 unfolding bit
 pattern-bit q k hq hk =
-    let t = rule-at (λ i x. eqb (bit (i % 64) (getD patterns (i / 64) 0)) (bit (i / 64) (i % 64))) (replicate 384 0) tt (64 * q + k)
-    (omega arith) in
-    let a : (64 * q + k) / 64 ≡ q = omega arith in
-    let b : (64 * q + k) % 64 ≡ k = omega arith in
-    subst (λ (r : ℕ). bit k (getD patterns r 0) ≡ bit r k) a
-    (subst (λ (r : ℕ). bit r (getD patterns ((64 * q + k) / 64) 0) ≡ bit ((64 * q + k) / 64) r) b (eqb→eq _ _ t))
+    let i = 64 * q + k in
+    let a : i / 64 ≡ q = omega arith in
+    let b : i % 64 ≡ k = omega arith in
+    let t : bit (i % 64) (getD patterns (i / 64) 0) ≡ bit (i / 64) (i % 64) =
+    eqb→eq _ _
+    (rule-at (λ i x. eqb (bit (i % 64) (getD patterns (i / 64) 0)) (bit (i / 64) (i % 64))) (replicate 384 0) tt i (omega arith)) in
+    rw (a, b) at t
 
 in-parts : (p k : ℕ) → p % 8 * 2 ^ 6 + k ≡ numberAt (8 * k + p % 8)
 in-parts p k = omega arith
@@ -60,15 +54,8 @@ pub numbered-next : (p v : ℕ) (x : List ℕ) → p < 256 → ((k : ℕ) → k 
 numbered-next p v x hp hv N =
     let l = N .0 in (
       length-set x p v ∙ l,
-      λ q k hq hc hk.
-          ⊎-elim
-          (λ (g : q < p). ap (bit k) (getD-set-other x p q v 0 (λ e. omega arith)) ∙ N .1 q k g hc hk)
-          (λ (g : p ≤ q).
-          let e : p ≡ q = omega arith in
-          let r : p / 8 ≡ p / 8 % 32 = omega arith in
-          subst (λ (z : ℕ). bit k (getD (set x p v) z 0) ≡ bit (z / 8 % 32) (numberAt (8 * k + z % 8))) e
-          (ap (bit k) (getD-set-same x p v 0 (omega arith)) ∙ hv k hk ∙ ap (λ (z : ℕ). bit z (numberAt (8 * k + p % 8))) r))
-          (lt-or-le q p),
+      held-next numberAt 8 p v x (omega arith)
+          (λ k hc hk. let r : p / 8 ≡ p / 8 % 32 = omega arith in hv k hk ∙ ap (λ (z : ℕ). bit z (numberAt (8 * k + p % 8))) r) (N .1),
       λ q h. getD-set-other x p q v 0 (λ e. omega arith) ∙ N .2 q (omega arith),
     )
 

@@ -1,38 +1,26 @@
 -- L in every lane; a round, and four.
--- Assumes nothing.
-use mathlib.Core.Path.{_≡_, refl, sym, ap, ap₂, _∙_}
-use mathlib.Core.Logic.{⊎-elim}
-use mathlib.Core.List.{List, [], _∷_}
-use Prim.Native.Nat.{ℕ, _+_, _*_, _/_, _%_, _^_, _<_, _≤_}
-use native.Mathlib.Omega.{arith}
-use lib.ListN.{getD, length, set}
-use lib.Seq.{getD-set-same, getD-set-other}
-use lib.Bits.{differ, xor-lt}
+use Rattle.block.proofs.Base.{_%_, _*_, _+_, _/_, _<_, _^_, _≤_, ℕ, _∙_, _≡_, ap, ap₂, refl, sym, List, [], _∷_, arith, differ, xor-lt}
+use Rattle.block.proofs.Base.{getD, length, set, getD-set-other}
 use Rattle.block.specs.Xor.{_⊕_}
 use Rattle.lanes.specs.Bits.{bit}
-use Rattle.lanes.proofs.Bits.{bit-xor, lt-or-le}
+use Rattle.lanes.proofs.Bits.{bit-xor}
 use Rattle.cipher.specs.Sm4.{L, T, rounds}
 use Rattle.cipher.proofs.Bounds.{tau-lt, L-lt}
 use Rattle.cipher.proofs.Rounds.{four-by-hand}
 use Rattle.cipher.proofs.WordBits.{L-bit}
 use Rattle.sliced.specs.Lanes.{lane, lanes, Held}
 use Rattle.sliced.specs.Round.{keyed, subbed, mixed}
-use Rattle.sliced.proofs.Held.{lane-lt, held-lane, lane-held}
+use Rattle.sliced.proofs.Held.{lane-lt, held-lane, lane-held, held-next}
 
 pub doubled-next : (f : ℕ → ℕ) (n i : ℕ) (s : List ℕ) → i < 256 → length s ≡ 512 → Held f n (256 + i) s
     → Held f n (256 + (i + 1)) (set s (i + 256) (getD s i 0))
-doubled-next f n i s hi hs h p k hp hc hk =
-    ⊎-elim
-    (λ (g : p < 256 + i). ap (bit k) (getD-set-other s (i + 256) p (getD s i 0) 0 (λ e. omega arith)) ∙ h p k g hc hk)
-    (λ (g : 256 + i ≤ p).
-    let e : p ≡ i + 256 = omega arith in
-    let u : i / 8 % 32 ≡ p / 8 % 32 = omega arith in
-    let v : 8 * k + i % 8 ≡ 8 * k + p % 8 = omega arith in
-    ap (λ (q : ℕ). bit k (getD (set s (i + 256) (getD s i 0)) q 0)) e
-    ∙ ap (bit k) (getD-set-same s (i + 256) (getD s i 0) 0 (omega arith))
-    ∙ h i k (omega arith) (omega arith) hk
-    ∙ ap₂ (λ (a c : ℕ). bit a (f c)) u v)
-    (lt-or-le p (256 + i))
+doubled-next f n i s hi hs h p k hp =
+    held-next f n (i + 256) (getD s i 0) s (omega arith)
+    (λ k hc hk.
+    let u : i / 8 % 32 ≡ (i + 256) / 8 % 32 = omega arith in
+    let v : 8 * k + i % 8 ≡ 8 * k + (i + 256) % 8 = omega arith in
+    h i k (omega arith) (omega arith) hk ∙ ap₂ (λ (a c : ℕ). bit a (f c)) u v)
+    (λ q k hq. h q k (omega arith)) p k (omega arith)
 
 -- the first i words done, the others as they were
 abbrev pub Mixed : (ℕ → ℕ) → ℕ → List ℕ → ℕ → List ℕ → Type 0
@@ -81,16 +69,8 @@ module _ (f : ℕ → ℕ) (n : ℕ) (a₀ s : List ℕ) (hf : (e : ℕ) → f e
       → Mixed f n a₀ (i + 1) (set a i (getD a i 0 ⊕ five s i))
   mixed-next i a hi ha h =
       let v : ℕ → ℕ = λ u. u ⊕ five s i in (
-        λ p k hp hc hk.
-            ⊎-elim
-            (λ (g : p < i). ap (bit k) (getD-set-other a i p (v (getD a i 0)) 0 (λ e. omega arith)) ∙ h .0 p k g hc hk)
-            (λ (g : i ≤ p).
-            let e : p ≡ i = omega arith in
-            ap (λ (q : ℕ). bit k (getD (set a i (v (getD a i 0))) q 0)) e
-            ∙ ap (bit k) (getD-set-same a i (v (getD a i 0)) 0 (omega arith) ∙ ap v (h .1 i (omega arith)))
-            ∙ mixed-bit i k hi (omega arith) hk
-            ∙ ap (λ (q : ℕ). bit (q / 8 % 32) (mixed f a₀ (8 * k + q % 8))) (sym e))
-            (lt-or-le p i),
+        held-next (mixed f a₀) n i (v (getD a i 0)) a (omega arith)
+            (λ k hc hk. ap (λ (u : ℕ). bit k (v u)) (h .1 i (omega arith)) ∙ mixed-bit i k hi hc hk) (h .0),
         λ p hp. getD-set-other a i p (v (getD a i 0)) 0 (λ e. omega arith) ∙ h .1 p (omega arith),
       )
 

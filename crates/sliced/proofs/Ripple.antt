@@ -1,38 +1,22 @@
 -- A word added in every lane, row by row with carries: after i rows the sums of the low i bits and the carries are what was to be added.
--- Assumes nothing.
-use mathlib.Core.Path.{_≡_, refl, sym, ap, ap₂, subst, _∙_}
-use mathlib.Core.Logic.{_⊎_, ⊎-elim}
-use mathlib.Core.List.{List, [], _∷_}
-use Prim.Native.Nat.{ℕ, zero, suc, _+_, _*_, _/_, _%_, _^_, _<_, _≤_, min}
-use native.Mathlib.Nat.{add-zero, mul-add, mul-assoc, mul-comm, pow-suc}
-use native.Mathlib.Numerals.{add-one}
-use native.Mathlib.Omega.{arith}
-use lib.ListN.{length, getD, set, length-set}
-use lib.Seq.{getD-set-same, getD-set-other}
-use lib.Bits.{differ, bitAnd}
+use Rattle.block.proofs.Base.{_%_, _*_, _+_, _/_, _<_, _^_, _≤_, min, suc, zero, ℕ, _∙_, _≡_, ap, ap₂, refl, sym, List, [], _∷_, add-zero}
+use Rattle.block.proofs.Base.{mul-assoc, mul-comm, pow-suc, add-one, arith, bitAnd, differ, getD, length, length-set, set, getD-set-other}
+use Rattle.block.proofs.Base.{getD-set-same}
 use Rattle.block.specs.Xor.{_⊕_}
 use Rattle.lanes.specs.Bits.{bit, pack}
-use Rattle.lanes.proofs.Bits.{bit-small, bit-xor, bit-and, pack-is, lt-or-le}
+use Rattle.block.proofs.Xor.{two-cases}
+use Rattle.lanes.proofs.Bits.{bit-small, bit-xor, bit-and, pack-is}
+use Rattle.lanes.proofs.Filling.{word-more}
 use Rattle.sliced.specs.Lanes.{lane}
 use Rattle.sliced.specs.Counting.{carryAt, WordAdded, RowAdded, Added}
 
 -- three bits: their sum and its carry
 adder : (a b d : ℕ) → a < 2 → b < 2 → d < 2 → differ (differ a b) d + 2 * differ (min a b) (min (differ a b) d) ≡ d + a + b
-adder zero zero zero ha hb hd = refl
-adder zero zero (suc zero) ha hb hd = refl
-adder zero (suc zero) zero ha hb hd = refl
-adder zero (suc zero) (suc zero) ha hb hd = refl
-adder (suc zero) zero zero ha hb hd = refl
-adder (suc zero) zero (suc zero) ha hb hd = refl
-adder (suc zero) (suc zero) zero ha hb hd = refl
-adder (suc zero) (suc zero) (suc zero) ha hb hd = refl
-adder zero zero (suc (suc d)) ha hb hd = absurd (omega arith)
-adder zero (suc zero) (suc (suc d)) ha hb hd = absurd (omega arith)
-adder zero (suc (suc b)) d ha hb hd = absurd (omega arith)
-adder (suc zero) zero (suc (suc d)) ha hb hd = absurd (omega arith)
-adder (suc zero) (suc zero) (suc (suc d)) ha hb hd = absurd (omega arith)
-adder (suc zero) (suc (suc b)) d ha hb hd = absurd (omega arith)
-adder (suc (suc a)) b d ha hb hd = absurd (omega arith)
+adder a b d ha hb hd =
+    let P : ℕ → ℕ → ℕ → Type 0 = λ a b d. differ (differ a b) d + 2 * differ (min a b) (min (differ a b) d) ≡ d + a + b in
+    let third : (a b : ℕ) → P a b 0 → P a b 1 → P a b d = λ a b p q. two-cases (P a b) p q d hd in
+    two-cases (λ a. P a b d) (two-cases (λ b. P 0 b d) (third 0 0 refl refl) (third 0 1 refl refl) b hb)
+    (two-cases (λ b. P 1 b d) (third 1 0 refl refl) (third 1 1 refl refl) b hb) a ha
 
 -- the same in every bit of three words
 word-adder : (k a b m : ℕ) → bit k (a ⊕ b ⊕ m) + 2 * bit k (bitAnd a b ⊕ bitAnd (a ⊕ b) m) ≡ bit k m + bit k a + bit k b
@@ -81,18 +65,9 @@ added-next m i j c a x₀ y₀ x y x′ hj W R =
       size-x = W .size;
       size-y = length-set y j c ∙ ly;
       sum = λ q k hq.
-          ⊎-elim
-          (λ (h : q < j).
-          ap₂ (λ (s t : ℕ). bit k s + 2 * bit k t) (W .same (8 * i + q) (λ e. omega arith)) (getD-set-other y j q c 0 (λ e. omega arith))
-          ∙ R .sum q k h)
-          (λ (h : j ≤ q).
-          let e : j ≡ q = omega arith in
-          subst (λ (z : ℕ). bit k (getD x′ (8 * i + z) 0) + 2 * bit k (getD (set y j c) z 0)
-          ≡ bit k m + bit k (getD a z 0) + bit k (getD y₀ z 0)) e
-          (ap (λ (t : ℕ). bit k (getD x′ p 0) + 2 * bit k t) (getD-set-same y j c 0 (omega arith))
-          ∙ W .sum k
-          ∙ ap (λ (t : ℕ). bit k m + bit k (getD a j 0) + bit k t) (R .same-y j (omega arith))))
-          (lt-or-le q j);
+          word-more j c y (omega arith)
+          (λ z t. bit k (getD x′ (8 * i + z) 0) + 2 * bit k t ≡ bit k m + bit k (getD a z 0) + bit k (getD y₀ z 0))
+          (rw (← R .same-y j (omega arith)) (W .sum k)) (λ z h. rw (W .same (8 * i + z) (λ e. omega arith)) (R .sum z k h)) q hq;
       same-x = λ z h. W .same z (λ e. h j (omega arith) e) ∙ R .same-x z (λ q g e. h q (omega arith) e);
       same-y = λ q h. getD-set-other y j q c 0 (λ e. omega arith) ∙ R .same-y q (omega arith);
     }
@@ -126,12 +101,7 @@ low-next x e i = ap (λ (k : ℕ). low x e k) (add-one i) ∙ pack-next i (λ k.
 ripple : (B C P Q A y₀ y z d a s : ℕ) → C ≡ B * 2 → P + B * y ≡ Q + A + y₀ → s + 2 * z ≡ d + a + y
     → P + B * s + C * z ≡ Q + B * d + (A + B * a) + y₀
 ripple B C P Q A y₀ y z d a s hC hP hs =
-    let e : B * (s + 2 * z) ≡ B * (d + a + y) = ap (λ (v : ℕ). B * v) hs in
-    let l : B * (s + 2 * z) ≡ B * s + B * (2 * z) = mul-add B s (2 * z) in
-    let r : B * (d + a + y) ≡ B * (d + a) + B * y = mul-add B (d + a) y in
-    let t : B * (d + a) ≡ B * d + B * a = mul-add B d a in
-    let c : C * z ≡ B * (2 * z) = ap (λ (v : ℕ). v * z) hC ∙ mul-assoc B 2 z in
-    omega arith
+    let e : B * (s + 2 * z) ≡ B * (d + a + y) = ap (λ (v : ℕ). B * v) hs in rw hC (omega arith)
 
 -- the low i bits of w, added in every lane; the rows from i on stand as they were
 pub record Rippled (w i : ℕ) (x₀ y₀ x y : List ℕ) : Type 0 where
@@ -170,6 +140,4 @@ pub rippled-last : (w i : ℕ) (x₀ y₀ x y : List ℕ) → i ≡ 32 → w < 2
 unfolding low lane
 rippled-last w i x₀ y₀ x y h hw P e he =
     let whole : pack 32 (λ k. bit k w) ≡ w = pack-is 32 (λ k. bit k w) w (λ k. bit-small k w) hw (λ k g. refl) in
-    let s : low x e 32 + 2 ^ 32 * carryAt y e ≡ pack 32 (λ k. bit k w) + low x₀ e 32 + carryAt y₀ e =
-    rw h at (P .sum e he) in
-    s ∙ ap (λ (v : ℕ). v + low x₀ e 32 + carryAt y₀ e) whole
+    (rw h at (P .sum e he)) ∙ ap (λ (v : ℕ). v + low x₀ e 32 + carryAt y₀ e) whole

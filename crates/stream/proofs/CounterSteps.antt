@@ -1,11 +1,6 @@
--- What the steps of a walk in Ctr and in Gctr say, whatever the message is, is what its counter's steps say, by induction on the steps;
--- and that is what document 02's formula says.
--- Assumes nothing.
-use mathlib.Core.Path.{_≡_, refl, ap, _∙_}
-use mathlib.Core.Bool.{Bool, _||_}
-use mathlib.Core.List.{List}
-use Prim.Native.Nat.{ℕ, zero, suc, _-_}
-use lib.ListN.{length, drop}
+-- What the steps of a walk in Ctr and in Gctr say, whatever the message is, is what its counter's steps say, by induction on the steps; and
+-- that is what the formula of W8 says.
+use Rattle.block.proofs.Base.{_-_, suc, zero, ℕ, _∙_, _≡_, ap, refl, Bool, _||_, List, drop, length}
 use Rattle.block.specs.Below.{AreBytes}
 use Rattle.counter.specs.Counter.{ctrNext, ctrPasses, gcmNext, gcmPasses, lastFour}
 use Rattle.counter.specs.CameRound.{blocksOf, ctrCameRound, gcmCameRound, anyPasses}

@@ -1,12 +1,6 @@
 -- The states of a walk whose states are counters: n steps are a jump of n blocks.
--- Assumes nothing.
-use mathlib.Core.Path.{_≡_, sym, _∙_}
-use mathlib.Core.Bool.{Bool, true, false}
-use Prim.Native.Nat.{ℕ, zero, suc, _+_, _%_, _^_}
-use mathlib.Core.List.{List}
-use native.Mathlib.Omega.{arith}
-use lib.ListN.{length, take, drop, length-append}
-use lib.Seq.{length-take-le}
+use Rattle.block.proofs.Base.{_%_, _+_, _^_, suc, zero, ℕ, _∙_, _≡_, sym, Bool, false, true, List, arith, drop, length, length-append, take}
+use Rattle.block.proofs.Base.{length-take-le}
 use Rattle.block.specs.Below.{AreBytes}
 use Rattle.block.specs.BigEndian.{numberOf, bytesOf}
 use Rattle.block.specs.Blocks.{blockAt, cat}
@@ -48,8 +42,7 @@ module _ (rk : List ℕ) where
       → stepped (streamMode (counting wide) rk) n s d ≡ jumped wide s n
   unfolding stepped
   jumped-stepped true zero s d n a = sym (no-jump s n a)
-  jumped-stepped true (suc k) s d n a =
-      jumped-stepped true k (ctrNext s) (drop 16 d) (length-ctrNext s) (ctrNext-bytes s) ∙ jump-on s k
+  jumped-stepped true (suc k) s d n a = jumped-stepped true k (ctrNext s) (drop 16 d) (length-ctrNext s) (ctrNext-bytes s) ∙ jump-on s k
   jumped-stepped false zero s d n a = sym (no-gcm-jump s n a)
   jumped-stepped false (suc k) s d n a =
       jumped-stepped false k (gcmNext s) (drop 16 d) (length-gcmNext s n) (gcmNext-bytes s a) ∙ gcm-jump-on s k n
@@ -60,5 +53,4 @@ module _ (rk : List ℕ) where
       ≡ cat n (gives (streamMode (counting wide) rk) s (drop at d))
   jumped-gives wide n at s d hs hb =
       cat-same n (λ i. xors (blockAt (tailed at d) i) (encryptBlock rk (jumped wide s i)))
-      (gives (streamMode (counting wide) rk) s (drop at d))
-      (λ i g. rw (tail-is d at, jumped-stepped wide i s (drop at d) hs hb))
+      (gives (streamMode (counting wide) rk) s (drop at d)) (λ i g. rw (tail-is d at, jumped-stepped wide i s (drop at d) hs hb))

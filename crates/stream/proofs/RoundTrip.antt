@@ -1,20 +1,14 @@
--- The five kinds: as many bytes come out as go in, bytes give bytes, and the opener takes back what a kind did.
--- Assumes nothing.
-use mathlib.Core.Path.{_≡_, refl, _∙_}
-use Prim.Native.Nat.{ℕ, _≤_}
-use mathlib.Core.List.{List}
-use native.Mathlib.Omega.{arith}
-use lib.ListN.{length}
-use Rattle.block.specs.Below.{AreBytes}
+-- The five kinds: as many bytes come out as go in, and the opener takes back what a kind did.
+use Rattle.block.proofs.Base.{_≤_, ℕ, _∙_, _≡_, refl, List, arith, length}
 use Rattle.block.specs.Xor.{xors}
-use Rattle.block.proofs.Xors.{length-xors, xors-cancel, xors-below}
+use Rattle.block.proofs.Xors.{length-xors, xors-cancel}
 use Rattle.cipher.specs.Sm4.{encryptBlock}
-use Rattle.cipher.proofs.Blocks.{length-encryptBlock, encryptBlock-bytes}
+use Rattle.cipher.proofs.Blocks.{length-encryptBlock}
 use Rattle.walk.specs.Walk.{chain}
 use Rattle.stream.specs.Stream.{stateAfter, streamMode, opener}
 use Rattle.stream.specs.declared.Kind.{Kind}
 use Rattle.stream.specs.declared.Kind.the-variants.{CfbEncrypt, CfbDecrypt, Ofb, Ctr, Gctr}
-use Rattle.walk.proofs.Chain.{Any, Keeps, chain-length, chain-bytes}
+use Rattle.walk.proofs.Chain.{Any, Keeps, chain-length}
 use Rattle.walk.proofs.Undo.{Undoes, undo}
 
 -- a message of at most a block is covered by the cipher's output
@@ -36,12 +30,6 @@ stream-keeps k rk = record {
 
 pub length-stream : (k : Kind) (rk s d : List ℕ) → length (chain (streamMode k rk) s d) ≡ length d
 length-stream k rk s d = chain-length Any Any (streamMode k rk) (stream-keeps k rk) s d tt tt
-
-pub stream-bytes : (k : Kind) (rk s d : List ℕ) → AreBytes d → AreBytes (chain (streamMode k rk) s d)
-stream-bytes k rk s d h =
-    let x : (s d : List ℕ) → AreBytes d → AreBytes (xors d (encryptBlock rk s)) =
-    λ s d g. xors-below 8 d (encryptBlock rk s) g (encryptBlock-bytes rk s) in
-    chain-bytes Any (streamMode k rk) (λ s b hs hb. tt) (λ s b hs hb. x s b hb) (λ s d hs hd. x s d hd) s d tt h
 
 -- with the block and what it became exchanged, the opener goes on in the same state
 same-state : (k : Kind) (s e b c : List ℕ) → stateAfter (opener k) s e c b ≡ stateAfter k s e b c

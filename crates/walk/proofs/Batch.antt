@@ -1,12 +1,7 @@
 -- Many blocks at once: what n full blocks give, each from the state that the walk has there, is what the walk gives. So a loop that writes
 -- one block a turn, or many, goes on where the walk had come to.
--- Assumes nothing.
-use mathlib.Core.Path.{_≡_, refl, sym, ap, ap₂, _∙_}
-use Prim.Native.Nat.{ℕ, zero, suc, _+_, _-_, _*_, _%_, _≤_, _<_}
-use mathlib.Core.List.{List, _++_, append-assoc}
-use native.Mathlib.Omega.{arith}
-use lib.ListN.{length, take, drop, length-append, length-drop}
-use lib.Seq.{drop-drop, length-take-le, take-at, drop-at}
+use Rattle.block.proofs.Base.{_%_, _*_, _+_, _-_, _<_, _≤_, suc, zero, ℕ, _∙_, _≡_, ap, ap₂, refl, sym, List, _++_, append-assoc, arith}
+use Rattle.block.proofs.Base.{drop, length, length-append, length-drop, take, drop-at, drop-drop, length-take-le, take-at}
 use Rattle.block.specs.Blocks.{blockAt, cat}
 use Rattle.block.proofs.Cat.{cat-same, cat-first, length-cat}
 use Rattle.walk.specs.Walk.{Mode, chain, stepped, endState, over}

@@ -1,12 +1,7 @@
 -- The walk, block by block: what a message gives begins with what its first block gives, or is what its short rest gives.
 -- With the lengths and the bytes that a mode keeps.
--- Assumes nothing.
-use mathlib.Core.Path.{_≡_, refl}
-use Prim.Native.Nat.{ℕ, zero, suc, _-_, _/_, _≤_, _<_}
-use mathlib.Core.List.{List, _++_}
-use native.Mathlib.Omega.{arith}
-use lib.ListN.{length, take, drop, length-append, length-drop}
-use lib.Seq.{length-take-le}
+use Rattle.block.proofs.Base.{_-_, _/_, _<_, _≤_, suc, zero, ℕ, _≡_, refl, List, _++_, arith, drop, length, length-append, length-drop}
+use Rattle.block.proofs.Base.{take, length-take-le}
 use Rattle.block.specs.Below.{AreBytes}
 use Rattle.block.proofs.Entries.{below-take, below-drop, below-append}
 use Rattle.walk.specs.Walk.{Mode, walk, chain}

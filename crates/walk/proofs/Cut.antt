@@ -1,12 +1,7 @@
 -- A message cut in two, its front of full blocks: the walk over the whole is the walk over the front and then, from the state
 -- that this ends in, over the back.
--- Assumes nothing.
-use mathlib.Core.Path.{_≡_, refl, sym, ap, _∙_}
-use Prim.Native.Nat.{ℕ, zero, suc, _-_, _/_, _%_, _≤_, _<_}
-use mathlib.Core.List.{List, [], _∷_, _++_, append-assoc}
-use native.Mathlib.Omega.{arith}
-use lib.ListN.{length, take, drop, length-append, length-drop}
-use lib.Seq.{take-append-le, drop-append-le}
+use Rattle.block.proofs.Base.{_%_, _-_, _/_, _<_, _≤_, suc, zero, ℕ, _∙_, _≡_, ap, refl, sym, List, [], _++_, _∷_, append-assoc, arith}
+use Rattle.block.proofs.Base.{drop, length, length-append, length-drop, take, drop-append-le, take-append-le}
 use Rattle.walk.specs.Walk.{Mode, chain, stepped, endState}
 use Rattle.walk.proofs.Chain.{chain-rest, chain-block}
 

@@ -1,12 +1,7 @@
 -- A list that is written from its front, place by place.
--- Assumes nothing.
-use mathlib.Core.Path.{_≡_, refl, ap, _∙_}
-use Prim.Native.Nat.{ℕ, zero, suc, _+_, _≤_, _<_}
-use mathlib.Core.List.{List, [], _∷_, _++_, append-assoc}
-use native.Mathlib.Numerals.{add-one}
-use native.Mathlib.Omega.{arith}
-use lib.ListN.{length, take, drop, getD, set}
-use lib.Seq.{drop-cons, take-suc, set-at, length-take-le, take-length}
+use Rattle.block.proofs.Base.{_+_, _<_, _≤_, suc, zero, ℕ, _∙_, _≡_, ap, refl, List, [], _++_, _∷_, append-assoc, add-one, arith, drop}
+use Rattle.block.proofs.Base.{getD, length, set, take, drop-cons, length-take-le, take-length}
+use lib.Seq.{take-suc, set-at}
 use Rattle.block.specs.Xor.{_⊕_, xors}
 use Rattle.block.proofs.Xors.{length-xors}
 use Rattle.walk.specs.Walk.{over}

@@ -1,11 +1,7 @@
 -- Loops over the tails of a message and of an output: what they read and write there, and what they leave where no full block is left.
--- Assumes nothing.
-use mathlib.Core.Path.{_≡_, sym, ap, ap₂, _∙_}
-use Prim.Native.Nat.{ℕ, _+_, _-_, _≤_, _<_}
-use mathlib.Core.List.{List, [], _++_, append-assoc, append-nil}
-use native.Mathlib.Omega.{arith}
-use lib.ListN.{length, take, drop, length-append, length-drop, drop-of-length-le, take-append-drop}
-use lib.Seq.{take-all, drop-drop, take-at, drop-at}
+use Rattle.block.proofs.Base.{_+_, _-_, _<_, _≤_, ℕ, _∙_, _≡_, ap, ap₂, sym, List, [], _++_, append-assoc, append-nil, arith, drop}
+use Rattle.block.proofs.Base.{drop-of-length-le, length, length-append, length-drop, take, take-append-drop, drop-at, drop-drop, take-all}
+use Rattle.block.proofs.Base.{take-at}
 use Rattle.walk.specs.Walk.{Mode, chain, endState, over}
 use Rattle.walk.proofs.Chain.{chain-rest}
 use Rattle.walk.proofs.Cut.{end-rest}

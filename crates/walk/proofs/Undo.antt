@@ -1,11 +1,6 @@
 -- One round trip for every mode that takes back, block by block, what another gave.
--- Assumes nothing.
-use mathlib.Core.Path.{_≡_, refl}
-use Prim.Native.Nat.{ℕ, zero, suc, _-_, _/_, _≤_, _<_}
-use mathlib.Core.List.{List, _++_}
-use native.Mathlib.Omega.{arith}
-use lib.ListN.{length, take, drop, length-append, length-drop, take-append-drop}
-use lib.Seq.{length-take-le, take-at, drop-at}
+use Rattle.block.proofs.Base.{_-_, _/_, _<_, _≤_, suc, zero, ℕ, _≡_, refl, List, _++_, arith, drop, length, length-append, length-drop}
+use Rattle.block.proofs.Base.{take, take-append-drop, drop-at, length-take-le, take-at}
 use Rattle.walk.specs.Walk.{Mode, chain}
 use Rattle.walk.proofs.Chain.{Keeps, chain-rest, chain-block}
 

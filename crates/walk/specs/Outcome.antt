@@ -1,4 +1,4 @@
--- What a call leaves: its number, its length, and every byte of the output. The numbers are document 01's.
+-- What a call leaves: its number, its length, and every byte of the output. The numbers are those of docs/NUMBERS.md.
 use Prim.Native.Nat.{ℕ}
 use mathlib.Core.Bool.{Bool, _&&_, cond}
 use mathlib.Core.List.{List}

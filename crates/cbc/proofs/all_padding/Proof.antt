@@ -1,14 +1,7 @@
--- `cbc::all_padding` meets its contract. The loop's invariant: the differences that are added, and those that the bytes from i
--- on will add, are those of the whole block.
--- Assumes nothing.
-use mathlib.Core.Path.{_≡_}
-use Prim.Native.Nat.{_+_, _*_, _-_, _≤_}
-use native.Mathlib.Omega.{arith}
-use mir.Val.{Fits}
-use mir.Syntax.{w8}
-use lib.ListN.{length, drop, getD}
+-- `cbc::all_padding` meets its contract. The loop's invariant: the differences that are added, and those that the bytes from i on will add,
+-- are those of the whole block.
+use Rattle.block.proofs.Base.{_*_, _+_, _-_, _≤_, _≡_, arith, needs, drop, getD, length, w8, Fits}
 use Rattle.cbc.proofs.AllPadding.{difference, differences, difference-le, difference-turn, none-left, padding-test}
-use borrow.Author.Needs.{needs}
 use Rattle.cbc.proofs.all_padding.Statement.{statement}
 use Rattle.cbc.proofs.all_padding.Tie as tie
 
@@ -19,9 +12,6 @@ Inv-loop n last differ₀ i₀ differ i =
 abbrev μ-loop : tie.MeasureT-loop
 μ-loop n last differ₀ i₀ differ i = 16 - i
 
-loop-holds : tie.Need-loop-holds Inv-loop μ-loop
-loop-holds c = (omega arith, search needs, omega arith, omega arith)
-
 -- what a turn adds
 small : (c : tie.In-loop Inv-loop μ-loop)
     → difference (c .before .before .args .n) (c .before .loop .i) (getD (c .before .before .args .t1) (c .before .loop .i) 0) ≤ 255
@@ -29,12 +19,6 @@ small c =
     let l = c .before in
     let byte : Fits w8 (getD (l .before .args .t1) (l .loop .i) 0) = search needs in
     difference-le (l .before .args .n) (l .loop .i) _ (l .before .pre) (omega arith) (byte .fits)
-
-mul-differ : tie.Need-mul-differ Inv-loop μ-loop
-mul-differ c = omega (arith, small c)
-
-add-differ : tie.Need-add-differ Inv-loop μ-loop
-add-differ c = omega (arith, small c)
 
 loop-again : tie.Need-loop-again Inv-loop μ-loop
 loop-again c =
@@ -52,8 +36,6 @@ returns c =
     rw e (padding-test n last (l .before .pre) (l .loop .inv .1))
 
 pub all-padding-spec : {M : Type 1} → statement M
-all-padding-spec =
-    tie.close
-    (tie.spec
-    Inv-loop μ-loop loop-holds (λ c. omega arith) (λ c. omega arith) (λ c. search needs) mul-differ add-differ
-    (λ c. omega arith) (λ c. omega arith) loop-again returns)
+all-padding-spec = tie.close (tie.spec Inv-loop μ-loop (λ c. (omega arith, search needs, omega arith, omega arith)) (λ c. omega arith)
+    (λ c. omega arith) (λ c. search needs) (λ c. omega (arith, small c)) (λ c. omega (arith, small c)) (λ c. omega arith) (λ c. omega arith)
+    loop-again returns)

@@ -1,16 +1,8 @@
--- `cbc::decrypt` meets its contract. The last block decides (`unpad`), before a byte is written; then the front and what the
--- padding leaves of the last block are put together (`open-done`). The round keys turned round twice are the round keys.
--- Assumes nothing.
-use mathlib.Core.Path.{_≡_, sym, _∙_}
-use mathlib.Core.List.{[], _∷_, reverse-reverse}
-use mathlib.Core.Logic.{⊎-elim}
-use Prim.Native.Nat.{_-_}
-use native.Mathlib.Nat.{sub-zero}
-use native.Mathlib.Omega.{arith}
+-- `cbc::decrypt` meets its contract. The last block decides (`unpad`), before a byte is written; then the front and what the padding leaves
+-- of the last block are put together (`open-done`). The round keys turned round twice are the round keys.
+use Rattle.block.proofs.Base.{_-_, _∙_, _≡_, sym, ⊎-elim, [], _∷_, reverse-reverse, sub-zero, arith, needs, now, drop, length}
 use denote.Enum.Declared.{tagOf}
-use denote.Ref.{now}
 use types.Run.{OneOf}
-use lib.ListN.{length, drop}
 use Rattle.block.specs.Words.{unwords}
 use Rattle.block.proofs.WordsBack.{length-unwords}
 use Rattle.cbc.specs.Open.{headOf, cbcText}
@@ -19,15 +11,12 @@ use Rattle.cbc.specs.declared.Opened.the-variants.{Done, InvalidLastU8, 
 use Rattle.cbc.proofs.Opened.{the-type}
 use Rattle.cbc.proofs.Unpadded.{unpadded-le}
 use Rattle.cbc.proofs.Opens.{open-refused, open-done}
-use borrow.Author.Needs.{needs}
 use Rattle.cbc.proofs.decrypt.Statement.{statement}
 use Rattle.cbc.proofs.decrypt.Tie as tie
 
 -- the last block, decrypted
-last-is : (x : tie.After-last-block)
-    → x .last-block .result ≡ drop (length (now (x .before .before .before .before .before .args .«data»)) - 16)
-    (cbcText (x .before .before .before .before .before .args .rk) (unwords (x .before .before .before .before .before .args .iv))
-    (now (x .before .before .before .before .before .args .«data»)))
+last-is : (x : tie.After-last-block) → let a = x .before .before .before .before .before .args in
+    x .last-block .result ≡ drop (length (now (a .«data»)) - 16) (cbcText (a .rk) (unwords (a .iv)) (now (a .«data»)))
 last-is x =
     let a = x .before .before .before .before .before .args in
     rw (x .before .reversed .ensures, reverse-reverse (a .rk)) at (x .last-block .ensures)
@@ -85,9 +74,6 @@ returns-2 c =
     (sym (at-unpad .unpad .ensures) ∙ at-opened .opened .given .1) front (at-put-front .put-front .ensures)
 
 pub decrypt-spec : {M : Type 1} → statement M
-decrypt-spec =
-    tie.close
-    (tie.spec
-    (λ c κs. search needs) (λ c κs. search needs) (λ c κs. search needs) (λ c. search needs) returns
-    (λ c. search needs) (λ c. search needs) (λ c. search needs) (λ c. search needs) (λ c κs. search needs)
-    (λ c. search needs) (λ c. search needs) (λ c. search needs) put-front-requires add-t11 (λ c. search needs) returns-2)
+decrypt-spec = tie.close (tie.spec (λ c κs. search needs) (λ c κs. search needs) (λ c κs. search needs) (λ c. search needs) returns
+    (λ c. search needs) (λ c. search needs) (λ c. search needs) (λ c. search needs) (λ c κs. search needs) (λ c. search needs)
+    (λ c. search needs) (λ c. search needs) put-front-requires add-t11 (λ c. search needs) returns-2)

@@ -1,13 +1,6 @@
--- `cbc::decrypt_batches` meets its contract. The first block goes by itself (`fed-reached`), and a turn of the loop goes as many blocks on as
--- the batch has (`fed-on`), each from the ciphertext block before it.
--- Assumes nothing.
-use mathlib.Core.Path.{_≡_, refl}
-use mathlib.Core.List.{List, _++_, reverse}
-use Prim.Native.Nat.{ℕ, _-_}
-use native.Mathlib.Omega.{arith}
-use denote.Ref.{now}
-use lib.ListN.{length, take, drop}
-use lib.Seq.{take-at}
+-- `cbc::decrypt_batches` meets its contract. The first block goes by itself (`fed-reached`), and a turn of the loop goes as many blocks on
+-- as the batch has (`fed-on`), each from the ciphertext block before it.
+use Rattle.block.proofs.Base.{_-_, ℕ, _≡_, refl, List, _++_, reverse, arith, needs, now, drop, length, take, take-at}
 use Rattle.block.specs.Blocks.{blockAt}
 use Rattle.block.specs.Words.{unwords}
 use Rattle.block.proofs.WordsBack.{length-unwords}
@@ -18,7 +11,6 @@ use Rattle.walk.proofs.Loop.{tailed}
 use Rattle.cbc.specs.Cbc.{cbcDecrypt}
 use Rattle.cbc.proofs.Batches.{decrypt-fed, decrypted}
 use Rattle.sixteen.proofs.Before.{block-before}
-use borrow.Author.Needs.{needs}
 use Rattle.cbc.proofs.decrypt_batches.Statement.{statement}
 use Rattle.cbc.proofs.decrypt_batches.Tie as tie
 
@@ -76,11 +68,7 @@ returns-3 c =
     )
 
 pub decrypt-batches-spec : {M : Type 1} → statement M
-decrypt-batches-spec =
-    tie.close
-    (tie.spec
-    Inv-loop μ-loop (λ c κs. search needs) returns returns-2 (λ c κs. search needs) loop-holds (λ c. omega arith) (λ c. omega arith)
-    (λ c κs. omega arith)
-    (λ c. omega arith) (λ c. omega arith) (λ c. omega arith) (λ c. omega arith) (λ c. omega arith) (λ c. omega arith)
-    (λ c. omega arith) (λ c. omega arith) (λ c. omega arith) (λ c. omega arith) (λ c κs. search needs)
+decrypt-batches-spec = tie.close (tie.spec Inv-loop μ-loop (λ c κs. search needs) returns returns-2 (λ c κs. search needs) loop-holds
+    (λ c. omega arith) (λ c. omega arith) (λ c κs. omega arith) (λ c. omega arith) (λ c. omega arith) (λ c. omega arith) (λ c. omega arith)
+    (λ c. omega arith) (λ c. omega arith) (λ c. omega arith) (λ c. omega arith) (λ c. omega arith) (λ c. omega arith) (λ c κs. search needs)
     (λ c. omega arith) (λ c. omega arith) (λ c. omega arith) loop-again (λ c. omega arith) returns-3)

@@ -1,12 +1,6 @@
--- `cbc::decrypt_one_by_one` meets its contract. A turn of the loop goes one block on (`reached-next`); at the end no full block is left, and
--- a rest gives nothing.
--- Assumes nothing.
-use mathlib.Core.Path.{_≡_, refl, _∙_}
-use mathlib.Core.List.{reverse}
-use Prim.Native.Nat.{_-_}
-use native.Mathlib.Omega.{arith}
-use denote.Ref.{now}
-use lib.ListN.{length, take}
+-- `cbc::decrypt_one_by_one` meets its contract. A turn of the loop goes one block on (`reached-next`); at the end no full block is left,
+-- and a rest gives nothing.
+use Rattle.block.proofs.Base.{_-_, _∙_, refl, reverse, arith, needs, now, length, take}
 use Rattle.block.specs.Words.{unwords}
 use Rattle.block.proofs.WordsBack.{length-unwords}
 use Rattle.walk.specs.Reached.{Reached}
@@ -14,7 +8,6 @@ use Rattle.walk.proofs.Batch.{reached-first, reached-next}
 use Rattle.walk.proofs.Loop.{tailed, last-state, nothing-left}
 use Rattle.cbc.specs.Cbc.{cbcDecrypt}
 use Rattle.cbc.proofs.Blocks.{decrypt-block}
-use borrow.Author.Needs.{needs}
 use Rattle.cbc.proofs.decrypt_one_by_one.Statement.{statement}
 use Rattle.cbc.proofs.decrypt_one_by_one.Tie as tie
 
@@ -31,13 +24,17 @@ loop-holds c =
 
 loop-again : tie.Need-loop-again Inv-loop μ-loop
 loop-again c =
-    let a = c .before .before .before .before .before .before .before .before .before .before .args in
-    let l = c .before .before .before .before .before .before .loop in
+    let at-decrypt-step = c .before .before in
+    let at-loop = at-decrypt-step .before .before .before .before in
+    let S = at-loop .before .before .before .before in
+    let a = S .args in
+    let l = at-loop .loop in
     let rk = reverse (a .back) in
     let d = now (a .«data») in
     let full = decrypt-block rk (unwords (l .s)) (take 16 (tailed (l .at) d)) (length-unwords (l .s)) in
-    let stepped = c .before .before .decrypt-step .ensures in
-    reached-next (cbcDecrypt rk) (unwords (a .iv)) d (now (a .out)) (unwords (l .s)) (l .out) (l .at) (l .inv) _ _ (omega arith) (omega arith) full
+    let stepped = at-decrypt-step .decrypt-step .ensures in
+    reached-next (cbcDecrypt rk) (unwords (a .iv)) d (now (a .out)) (unwords (l .s)) (l .out) (l .at) (l .inv) _ _ (omega arith)
+    (omega arith) full
     (stepped .0) (stepped .1)
 
 returns : tie.Need-returns Inv-loop μ-loop
@@ -51,9 +48,6 @@ returns c =
     )
 
 pub decrypt-one-by-one-spec : {M : Type 1} → statement M
-decrypt-one-by-one-spec =
-    tie.close
-    (tie.spec
-    Inv-loop μ-loop loop-holds (λ c. omega arith) (λ c. omega arith) (λ c. omega arith) (λ c. omega arith) (λ c. omega arith)
-    (λ c. omega arith) (λ c. omega arith) (λ c κs. search needs) (λ c. omega arith) (λ c. omega arith) loop-again
-    (λ c. omega arith) returns)
+decrypt-one-by-one-spec = tie.close (tie.spec Inv-loop μ-loop loop-holds (λ c. omega arith) (λ c. omega arith) (λ c. omega arith)
+    (λ c. omega arith) (λ c. omega arith) (λ c. omega arith) (λ c. omega arith) (λ c κs. search needs) (λ c. omega arith) (λ c. omega arith)
+    loop-again (λ c. omega arith) returns)

@@ -1,18 +1,10 @@
 -- `cbc::decrypt_rest` meets its contract: so does either way.
--- Assumes nothing.
 
-use borrow.Author.Needs.{needs}
+use Rattle.block.proofs.Base.{needs}
 use Rattle.cbc.proofs.decrypt_rest.Statement.{statement}
 use Rattle.cbc.proofs.decrypt_rest.Tie as tie
 
-returns : tie.Need-returns
-returns c = c .before .before .decrypt-side-by-side .ensures
-
-returns-2 : tie.Need-returns-2
-returns-2 c = c .before .before .decrypt-one-by-one .ensures
-
 pub decrypt-rest-spec : {M : Type 1} → statement M
-decrypt-rest-spec =
-    tie.close
-    (tie.spec
-    (λ c κs. search needs) (λ c κs. search needs) (λ c. search needs) returns (λ c κs. search needs) (λ c. search needs) returns-2)
+decrypt-rest-spec = tie.close (tie.spec (λ c κs. search needs) (λ c κs. search needs) (λ c. search needs)
+    (λ c. c .before .before .decrypt-side-by-side .ensures) (λ c κs. search needs) (λ c. search needs)
+    (λ c. c .before .before .decrypt-one-by-one .ensures))

@@ -1,18 +1,11 @@
--- `cbc::decrypt_step` meets its contract. The cipher under the round keys turned round is decryption (`decrypt-turned`), and
--- the words that it is given and gives are those of sixteen bytes (`decrypted-front`).
--- Assumes nothing.
-use mathlib.Core.Path.{_≡_, ap, _∙_}
-use mathlib.Core.List.{List, _++_, reverse}
-use Prim.Native.Nat.{ℕ, _<_}
-use native.Mathlib.Omega.{arith}
-use denote.Ref.{now}
-use lib.ListN.{length, drop, getD}
+-- `cbc::decrypt_step` meets its contract. The cipher under the round keys turned round is decryption (`decrypt-turned`), and the words that
+-- it is given and gives are those of sixteen bytes (`decrypted-front`).
+use Rattle.block.proofs.Base.{_<_, ℕ, _∙_, _≡_, ap, List, _++_, reverse, arith, needs, now, drop, getD, length}
 use Rattle.block.proofs.Entries.{below-each}
 use Rattle.block.specs.Words.{words}
 use Rattle.block.proofs.WordsBack.{unwords-front}
 use Rattle.cipher.proofs.Blocks.{decrypt-turned}
 use Rattle.cbc.proofs.InWords.{decrypted-front}
-use borrow.Author.Needs.{needs}
 use Rattle.cbc.proofs.decrypt_step.Statement.{statement}
 use Rattle.cbc.proofs.decrypt_step.Tie as tie
 
@@ -32,14 +25,10 @@ returns c =
     let bytes = below-each 256 d small in
     let decrypted = decrypted-front (reverse (a .back)) d (a .s) (S .pre .1 .0) bytes four in (
       rw (c .split-block2 .ensures) (unwords-front d (S .pre .1 .0) bytes),
-      at-put-block .put-block .ensures
-          ∙ rw (at-xor .block-xor .ensures, at-encrypt .encrypt .ensures, at-split .split-block .ensures)
+      at-put-block .put-block .ensures ∙ rw (at-xor .block-xor .ensures, at-encrypt .encrypt .ensures, at-split .split-block .ensures)
           (rw (decrypt-turned (a .back) (words d)) at (ap (λ (l : List ℕ). l ++ drop 16 (now (a .out))) decrypted)),
     )
 
 pub decrypt-step-spec : {M : Type 1} → statement M
-decrypt-step-spec =
-    tie.close
-    (tie.spec
-    (λ c κs. search needs) (λ c κs. search needs) (λ c κs. search needs) (λ c κs. search needs) (λ c κs. search needs)
-    (λ c. search needs) returns)
+decrypt-step-spec = tie.close (tie.spec (λ c κs. search needs) (λ c κs. search needs) (λ c κs. search needs) (λ c κs. search needs)
+    (λ c κs. search needs) (λ c. search needs) returns)

@@ -1,12 +1,6 @@
--- `cbc::encrypt` meets its contract. The full blocks go first; the step after them takes the padded message's last block, which
--- is the padded rest (`rest-padded`), and then nothing is left.
--- Assumes nothing.
-use mathlib.Core.Path.{_≡_, refl, _∙_}
-use Prim.Native.Nat.{_+_, _≤_, _-_, _%_}
-use native.Mathlib.Nat.{sub-zero}
-use native.Mathlib.Omega.{arith}
-use denote.Ref.{now}
-use lib.ListN.{length, take}
+-- `cbc::encrypt` meets its contract. The full blocks go first; the step after them takes the padded message's last block, which is the
+-- padded rest (`rest-padded`), and then nothing is left.
+use Rattle.block.proofs.Base.{_%_, _+_, _-_, _≤_, _∙_, _≡_, refl, sub-zero, arith, needs, now, length, take}
 use Rattle.block.specs.Words.{unwords}
 use Rattle.block.specs.Xor.{xors}
 use Rattle.cipher.proofs.Blocks.{length-encryptBlock}
@@ -15,7 +9,6 @@ use Rattle.walk.proofs.Loop.{tailed, tail-is, nothing-left}
 use Rattle.cbc.specs.Cbc.{padded, cbcEncrypt, cbcSeal}
 use Rattle.cbc.proofs.Goes.{blocks-reached}
 use Rattle.cbc.proofs.Padding.{length-padded, rest-padded}
-use borrow.Author.Needs.{needs}
 use Rattle.cbc.proofs.encrypt.Statement.{statement}
 use Rattle.cbc.proofs.encrypt.Tie as tie
 
@@ -40,16 +33,14 @@ returns c =
     let inside : at + 16 ≤ length (padded d) = omega (arith, length-padded d) in
     let room : at + 16 ≤ length o = omega (arith, S .pre, at-pad .before .before .before .out, at-blocks .encrypt-blocks) in
     let begun =
-    blocks-reached (a .rk) (unwords (a .iv)) s d (now (a .out)) o at (omega arith) (omega (arith, S .pre)) (omega arith) (front .0) (front .1) in
+    blocks-reached (a .rk) (unwords (a .iv)) s d (now (a .out)) o at (omega arith) (omega (arith, S .pre)) (omega arith) (front .0)
+    (front .1) in
     let done =
     reached-next m (unwords (a .iv)) (padded d) (now (a .out)) s o at begun (unwords (at-step .encrypt-step .result)) _ inside room
     (length-encryptBlock (a .rk) (xors b s)) (stepped .0) (stepped .1) in
     nothing-left m (unwords (at-step .encrypt-step .result)) (padded d) _ (at + 16) (omega (arith, length-padded d)) refl ∙ done .leaves
 
 pub encrypt-spec : {M : Type 1} → statement M
-encrypt-spec =
-    tie.close
-    (tie.spec
-    (λ c. search needs) (λ c. search needs) (λ c. search needs) (λ c. search needs) (λ c κs. search needs)
-    (λ c. search needs) (λ c. search needs) (λ c. search needs) (λ c κs. search needs) (λ c. search needs)
-    (λ c. search needs) (λ c. search needs) (λ c. search needs) (λ c κs. search needs) (λ c. search needs) returns)
+encrypt-spec = tie.close (tie.spec (λ c. search needs) (λ c. search needs) (λ c. search needs) (λ c. search needs) (λ c κs. search needs)
+    (λ c. search needs) (λ c. search needs) (λ c. search needs) (λ c κs. search needs) (λ c. search needs) (λ c. search needs)
+    (λ c. search needs) (λ c. search needs) (λ c κs. search needs) (λ c. search needs) returns)

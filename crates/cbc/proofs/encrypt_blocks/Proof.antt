@@ -1,11 +1,6 @@
 -- `cbc::encrypt_blocks` meets its contract. A turn of the loop goes one block on (`reached-next`); at the end no full block is left, and a
 -- rest gives nothing.
--- Assumes nothing.
-use mathlib.Core.Path.{refl, _∙_}
-use Prim.Native.Nat.{_-_}
-use native.Mathlib.Omega.{arith}
-use denote.Ref.{now}
-use lib.ListN.{length, take}
+use Rattle.block.proofs.Base.{_-_, _∙_, refl, arith, needs, now, length, take}
 use Rattle.block.specs.Words.{unwords}
 use Rattle.block.specs.Xor.{xors}
 use Rattle.cipher.proofs.Blocks.{length-encryptBlock}
@@ -13,7 +8,6 @@ use Rattle.walk.specs.Reached.{Reached}
 use Rattle.walk.proofs.Batch.{reached-first, reached-next}
 use Rattle.walk.proofs.Loop.{tailed, last-state, nothing-left}
 use Rattle.cbc.specs.Cbc.{cbcEncrypt}
-use borrow.Author.Needs.{needs}
 use Rattle.cbc.proofs.encrypt_blocks.Statement.{statement}
 use Rattle.cbc.proofs.encrypt_blocks.Tie as tie
 
@@ -52,9 +46,6 @@ returns c =
     )
 
 pub encrypt-blocks-spec : {M : Type 1} → statement M
-encrypt-blocks-spec =
-    tie.close
-    (tie.spec
-    Inv-loop μ-loop loop-holds (λ c. omega arith) (λ c. omega arith) (λ c. omega arith) (λ c. omega arith)
-    (λ c. omega arith) (λ c. omega arith) (λ c. omega arith) (λ c κs. search needs) (λ c. omega arith)
-    (λ c. omega arith) loop-again (λ c. omega arith) returns)
+encrypt-blocks-spec = tie.close (tie.spec Inv-loop μ-loop loop-holds (λ c. omega arith) (λ c. omega arith) (λ c. omega arith)
+    (λ c. omega arith) (λ c. omega arith) (λ c. omega arith) (λ c. omega arith) (λ c κs. search needs) (λ c. omega arith) (λ c. omega arith)
+    loop-again (λ c. omega arith) returns)

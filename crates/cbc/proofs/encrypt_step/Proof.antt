@@ -1,15 +1,7 @@
 -- `cbc::encrypt_step` meets its contract: the words that are xored and ciphered are those of sixteen bytes (`encrypted-front`).
--- Assumes nothing.
-use mathlib.Core.Path.{_≡_, _∙_}
-use Prim.Native.Nat.{ℕ, _^_, _<_}
-use native.Mathlib.Omega.{arith}
-use mir.Val.{Fits}
-use mir.Syntax.{w32}
-use denote.Ref.{now}
-use lib.ListN.{length, getD}
+use Rattle.block.proofs.Base.{_<_, _^_, ℕ, _∙_, _≡_, arith, needs, now, getD, length, w32, Fits}
 use Rattle.block.proofs.Entries.{below-each}
 use Rattle.cbc.proofs.InWords.{encrypted-front}
-use borrow.Author.Needs.{needs}
 use Rattle.cbc.proofs.encrypt_step.Statement.{statement}
 use Rattle.cbc.proofs.encrypt_step.Tie as tie
 
@@ -35,8 +27,5 @@ returns c =
     )
 
 pub encrypt-step-spec : {M : Type 1} → statement M
-encrypt-step-spec =
-    tie.close
-    (tie.spec
-    (λ c κs. search needs) (λ c κs. search needs) (λ c κs. search needs) (λ c κs. search needs) (λ c. search needs)
-    returns)
+encrypt-step-spec = tie.close (tie.spec (λ c κs. search needs) (λ c κs. search needs) (λ c κs. search needs) (λ c κs. search needs)
+    (λ c. search needs) returns)

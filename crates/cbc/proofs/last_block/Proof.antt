@@ -1,19 +1,12 @@
--- `cbc::last_block` meets its contract: the last block of the decrypted text takes the last two blocks alone (`last-words`), and
--- the cipher under the round keys turned round is decryption.
--- Assumes nothing.
-use mathlib.Core.Path.{_≡_, _∙_}
-use mathlib.Core.List.{reverse}
-use Prim.Native.Nat.{ℕ, _-_, _<_}
-use native.Mathlib.Omega.{arith}
-use denote.Ref.{now}
-use lib.ListN.{length, getD}
+-- `cbc::last_block` meets its contract: the last block of the decrypted text takes the last two blocks alone (`last-words`), and the cipher
+-- under the round keys turned round is decryption.
+use Rattle.block.proofs.Base.{_-_, _<_, ℕ, _∙_, _≡_, reverse, arith, needs, now, getD, length}
 use Rattle.block.specs.Words.{words, unwords}
 use Rattle.block.proofs.Entries.{below-each}
 use Rattle.block.proofs.WordsBack.{length-unwords}
 use Rattle.cipher.proofs.Blocks.{decrypt-turned}
 use Rattle.walk.proofs.Loop.{tailed}
 use Rattle.cbc.proofs.Blocks.{last-words}
-use borrow.Author.Needs.{needs}
 use Rattle.cbc.proofs.last_block.Statement.{statement}
 use Rattle.cbc.proofs.last_block.Tie as tie
 
@@ -31,8 +24,7 @@ returns c =
     let four : length (chained .result) ≡ 4 = search (needs, chained) in
     let small : (i : ℕ) → getD d i 0 < 256 = λ i. omega (arith, at-data .shared-slice-known2 .given i) in
     let words-of-last = words (tailed (length d - 16) d) in
-    c .combine-block .ensures
-    ∙ rw (
+    c .combine-block .ensures ∙ rw (
       at-xor .block-xor .ensures,
       at-encrypt .encrypt .ensures,
       at-split .split-block .ensures,
@@ -42,8 +34,5 @@ returns c =
     (S .pre .1 .0) (S .pre .1 .1) four (chained .ensures))
 
 pub last-block-spec : {M : Type 1} → statement M
-last-block-spec =
-    tie.close
-    (tie.spec
-    (λ c. search needs) (λ c. search needs) (λ c. search needs) (λ c. search needs) (λ c κs. search needs)
+last-block-spec = tie.close (tie.spec (λ c. search needs) (λ c. search needs) (λ c. search needs) (λ c. search needs) (λ c κs. search needs)
     (λ c κs. search needs) (λ c κs. search needs) (λ c κs. search needs) (λ c κs. search needs) returns)

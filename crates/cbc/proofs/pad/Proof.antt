@@ -1,12 +1,6 @@
--- `cbc::pad` meets its contract. The array starts as sixteen times the count; the loop's invariant: the first i bytes are the
--- rest's, and what is left is the padding.
--- Assumes nothing.
-use mathlib.Core.Path.{_≡_, refl}
-use mathlib.Core.List.{_++_}
-use Prim.Native.Nat.{_≤_, _-_}
-use native.Mathlib.Omega.{arith}
-use denote.Ref.{now}
-use lib.ListN.{length, take, drop, replicate, length-set}
+-- `cbc::pad` meets its contract. The array starts as sixteen times the count; the loop's invariant: the first i bytes are the rest's, and
+-- what is left is the padding.
+use Rattle.block.proofs.Base.{_-_, _≤_, _≡_, refl, _++_, arith, now, drop, length, length-set, replicate, take}
 use Rattle.walk.proofs.Fill.{copy-turn}
 use Rattle.cbc.proofs.Padding.{pad-filled}
 use Rattle.cbc.proofs.pad.Statement.{statement}
@@ -17,9 +11,6 @@ Inv-loop rest last₀ i₀ last i = (i ≤ length rest) × (length last ≡ 16) 
 
 abbrev μ-loop : tie.MeasureT-loop
 μ-loop rest last₀ i₀ last i = length rest - i
-
-loop-holds : tie.Need-loop-holds Inv-loop μ-loop
-loop-holds c = (omega arith, refl, refl)
 
 loop-again : tie.Need-loop-again Inv-loop μ-loop
 loop-again c =
@@ -36,8 +27,5 @@ returns c =
     pad-filled (now (l .before .args .rest)) (l .loop .last) (l .loop .i) (omega arith) (l .loop .inv .2) (omega arith)
 
 pub pad-spec : {M : Type 1} → statement M
-pad-spec =
-    tie.close
-    (tie.spec
-    Inv-loop μ-loop (λ c. omega arith) (λ c. omega arith) loop-holds (λ c. omega arith) (λ c. omega arith)
-    (λ c. omega arith) (λ c. omega arith) loop-again returns)
+pad-spec = tie.close (tie.spec Inv-loop μ-loop (λ c. omega arith) (λ c. omega arith) (λ c. (omega arith, refl, refl)) (λ c. omega arith)
+    (λ c. omega arith) (λ c. omega arith) (λ c. omega arith) loop-again returns)

@@ -1,10 +1,5 @@
 -- `cbc::put_front` meets its contract. The loop's invariant: the first i bytes are the block's, the others as they were lent.
--- Assumes nothing.
-use mathlib.Core.Path.{_≡_, refl, _∙_}
-use mathlib.Core.List.{_++_}
-use Prim.Native.Nat.{_≤_, _-_}
-use native.Mathlib.Omega.{arith}
-use lib.ListN.{length, take, drop, length-set}
+use Rattle.block.proofs.Base.{_-_, _≤_, _∙_, _≡_, refl, _++_, arith, drop, length, length-set, take}
 use Rattle.walk.proofs.Fill.{copy-turn}
 use Rattle.cbc.proofs.put_front.Statement.{statement}
 use Rattle.cbc.proofs.put_front.Tie as tie
@@ -14,9 +9,6 @@ Inv-loop n out₀ b i₀ out i = (i ≤ n) × (length out ≡ length out₀) × 
 
 abbrev μ-loop : tie.MeasureT-loop
 μ-loop n out₀ b i₀ out i = n - i
-
-loop-holds : tie.Need-loop-holds Inv-loop μ-loop
-loop-holds c = (omega arith, refl, refl)
 
 loop-again : tie.Need-loop-again Inv-loop μ-loop
 loop-again c = (omega arith, simp length-set (omega arith), copy-turn _ _ _ _ (c .before .loop .inv .2) (omega arith) (omega arith))
@@ -28,8 +20,5 @@ returns c =
     l .loop .inv .2 ∙ rw e
 
 pub put-front-spec : {M : Type 1} → statement M
-put-front-spec =
-    tie.close
-    (tie.spec
-    Inv-loop μ-loop loop-holds (λ c. omega arith) (λ c. omega arith) (λ c. omega arith) (λ c. omega arith) loop-again
-    (λ c. omega arith) returns)
+put-front-spec = tie.close (tie.spec Inv-loop μ-loop (λ c. (omega arith, refl, refl)) (λ c. omega arith) (λ c. omega arith)
+    (λ c. omega arith) (λ c. omega arith) loop-again (λ c. omega arith) returns)

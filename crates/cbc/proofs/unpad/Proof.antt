@@ -1,12 +1,7 @@
--- `cbc::unpad` meets its contract: the range of the last byte tells whether it names a padding, and `all_padding` whether all of
--- the padding holds it.
--- Assumes nothing.
-use mathlib.Core.Path.{refl, sym, _∙_}
-use mathlib.Core.Bool.{true, false}
-use native.Mathlib.Omega.{arith}
-use borrow.Author.Tests.{not-true, not-false}
+-- `cbc::unpad` meets its contract: the range of the last byte tells whether it names a padding, and `all_padding` whether all of the
+-- padding holds it.
+use Rattle.block.proofs.Base.{_∙_, refl, sym, false, true, arith, needs, not-false, not-true}
 use Rattle.cbc.proofs.Unpadded.{names-some, zero-names-none, high-names-none, block-unpadded}
-use borrow.Author.Needs.{needs}
 use Rattle.cbc.proofs.unpad.Statement.{statement}
 use Rattle.cbc.proofs.unpad.Tie as tie
 
@@ -20,14 +15,7 @@ returns-2 c =
     block-unpadded (c .before .before .before .before .args .t1) true true (omega arith) (names-some _ (omega arith) (omega arith))
     (sym (c .before .all-padding .ensures) ∙ not-false _ (c .if3 .left))
 
-returns-3 : tie.Need-returns-3
-returns-3 c = block-unpadded (c .before .args .t1) false _ (omega arith) (zero-names-none _ (omega arith)) refl
-
-returns-4 : tie.Need-returns-4
-returns-4 c = block-unpadded (c .before .before .args .t1) false _ (omega arith) (high-names-none _ (omega arith)) refl
-
 pub unpad-spec : {M : Type 1} → statement M
-unpad-spec =
-    tie.close
-    (tie.spec
-    (λ c. search needs) (λ c. search needs) (λ c κs. search needs) returns (λ c. search needs) returns-2 returns-3 returns-4)
+unpad-spec = tie.close (tie.spec (λ c. search needs) (λ c. search needs) (λ c κs. search needs) returns (λ c. search needs) returns-2
+    (λ c. block-unpadded (c .before .args .t1) false _ (omega arith) (zero-names-none _ (omega arith)) refl)
+    (λ c. block-unpadded (c .before .before .args .t1) false _ (omega arith) (high-names-none _ (omega arith)) refl))

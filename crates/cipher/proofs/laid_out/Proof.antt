@@ -1,18 +1,10 @@
 -- `cipher::laid_out` meets its contract: each engine by its test.
--- Assumes nothing.
-use borrow.Author.Needs.{needs}
+use Rattle.block.proofs.Base.{needs}
 use Rattle.cipher.proofs.Engines.{laid-four, laid-none, laid-plain}
 use Rattle.cipher.proofs.laid_out.Statement.{statement}
 use Rattle.cipher.proofs.laid_out.Tie as tie
 
-returns : tie.Need-returns
-returns c = laid-four _ _ (c .before .if1 .taken) (c .tables .ensures)
-
-returns-2 : tie.Need-returns-2
-returns-2 c = laid-none _ _ (c .before .if1 .left) (c .if2 .taken) (search needs)
-
-returns-3 : tie.Need-returns-3
-returns-3 c = laid-plain _ _ (c .before .before .if1 .left) (c .before .if2 .left) (search needs) (c .plain .ensures)
-
 pub laid-out-spec : {M : Type 1} → statement M
-laid-out-spec = tie.close (tie.spec (λ c κs. search needs) returns returns-2 (λ c κs. search needs) returns-3)
+laid-out-spec = tie.close (tie.spec (λ c κs. search needs) (λ c. laid-four _ _ (c .before .if1 .taken) (c .tables .ensures))
+    (λ c. laid-none _ _ (c .before .if1 .left) (c .if2 .taken) (search needs)) (λ c κs. search needs)
+    (λ c. laid-plain _ _ (c .before .before .if1 .left) (c .before .if2 .left) (search needs) (c .plain .ensures)))

@@ -1,14 +1,9 @@
 -- `cipher::plain` meets its contract. The code's table is the definition's, by one computed test; the loop lays its
 -- entries out, and its invariant says that the first i words are the table's first i bytes.
--- Assumes nothing.
-use mathlib.Core.Path.{_≡_, refl}
-use Prim.Native.Nat.{_≤_, _-_}
-use native.Mathlib.Omega.{arith}
-use lib.ListN.{length, take}
+use Rattle.block.proofs.Base.{_-_, _≤_, _≡_, refl, arith, needs, length, take}
 use Rattle.cipher.specs.Sm4.{sboxTable}
 use Rattle.cipher.proofs.Tables.{sbox-byte}
 use Rattle.cipher.proofs.Engines.{plain-length, laid-more, laid-front}
-use borrow.Author.Needs.{needs}
 use Rattle.cipher.proofs.plain.Statement.{statement}
 use Rattle.cipher.proofs.plain.Tie as tie
 
@@ -32,14 +27,7 @@ loop-again c =
     let n = plain-length _ (l .inv .0) in
     (l .inv .0, omega arith, search needs, laid-more _ (l .wide) (l .i) (omega arith) (omega arith) (l .inv .3))
 
-returns : tie.Need-returns Inv-loop μ-loop
-returns c =
-    let l = c .before .loop in
-    laid-front _ (l .wide) (l .i) (l .inv .0) (omega arith) (l .inv .3)
-
 pub plain-spec : {M : Type 1} → statement M
 plain-spec =
-    tie.close
-    (tie.spec
-    Inv-loop μ-loop loop-holds (λ c. search needs) cast-wide (λ c. search needs) (λ c. search needs) (λ c. search needs)
-    (λ c. search needs) loop-again returns)
+    tie.close (tie.spec Inv-loop μ-loop loop-holds (λ c. search needs) cast-wide (λ c. search needs) (λ c. search needs) (λ c. search needs)
+    (λ c. search needs) loop-again (λ c. let l = c .before .loop in laid-front _ (l .wide) (l .i) (l .inv .0) (omega arith) (l .inv .3)))

@@ -1,14 +1,7 @@
 -- `cipher_mode::wrong_number` meets its contract: the two tests are the definition's.
--- Assumes nothing.
-use borrow.Author.Tests.{eq-eqb, ne-eqb}
+use Rattle.block.proofs.Base.{eq-eqb, ne-eqb}
 use Rattle.cipher_mode.proofs.wrong_number.Statement.{statement}
 use Rattle.cipher_mode.proofs.wrong_number.Tie as tie
 
-returns : tie.Need-returns
-returns c = rw (eq-eqb _ _ (c .if1 .taken))
-
-returns-2 : tie.Need-returns-2
-returns-2 c = rw (ne-eqb _ _ (c .if1 .left))
-
 pub wrong-number-spec : {M : Type 1} → statement M
-wrong-number-spec = tie.close (tie.spec returns returns-2)
+wrong-number-spec = tie.close (tie.spec (λ c. rw (eq-eqb _ _ (c .if1 .taken))) (λ c. rw (ne-eqb _ _ (c .if1 .left))))

@@ -1,7 +1,6 @@
 -- `circuit::sbox` meets its contract: the code's gates are the circuit's, by computing, and the circuit is the S-box in every
 -- lane (`circuit-lanes`).
--- Assumes nothing.
-use borrow.Author.Needs.{needs}
+use Rattle.block.proofs.Base.{needs}
 use Rattle.circuit.proofs.Circuit.{circuit, circuit-lanes}
 use Rattle.circuit.proofs.sbox.Statement.{statement}
 use Rattle.circuit.proofs.sbox.Tie as tie

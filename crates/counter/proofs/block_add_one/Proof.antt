@@ -1,17 +1,18 @@
 -- `counter::block_add_one` meets its contract. `to_u128` ensures the number that the block spells, `u128_add` one more,
 -- and `from_u128` the block that spells that, which is Ctr's next counter (`ctr-words`). It is 0 exactly where it came round
 -- (`ctr-words-pass`).
--- Assumes nothing.
-use mathlib.Core.Path.{ap, _∙_}
-use Prim.Native.Nat.{ℕ, _+_, _%_, _^_}
+use Rattle.block.proofs.Base.{_%_, _+_, _^_, ℕ, _∙_, ap, needs}
 use Rattle.block.specs.Wide.{value}
 use Rattle.counter.proofs.Steps.{ctr-words, ctr-words-pass}
-use borrow.Author.Needs.{needs}
 use Rattle.counter.proofs.block_add_one.Statement.{statement}
 use Rattle.counter.proofs.block_add_one.Tie as tie
 
-returns : tie.Need-returns
-returns c =
+pub block-add-one-spec : {M : Type 1} → statement M
+block-add-one-spec =
+    tie.close
+    (tie.spec
+    (λ c κs. search needs) (λ c κs. search needs) (λ c κs. search needs)
+    (λ c.
     let at-block = c .before in
     let at-add = at-block .before in
     let at-number = at-add .before in
@@ -20,8 +21,4 @@ returns c =
     let more = at-add .u128-add .ensures ∙ ap (λ (v : ℕ). (v + 1) % 2 ^ 128) (at-number .to-u128 .ensures) in (
       ctr-words x (at-block .from-u128 .result) (value sum) more (at-block .from-u128 .ensures),
       ctr-words-pass x (sum .high) (sum .low) more,
-    )
-
-pub block-add-one-spec : {M : Type 1} → statement M
-block-add-one-spec =
-    tie.close (tie.spec (λ c κs. search needs) (λ c κs. search needs) (λ c κs. search needs) returns)
+    )))

@@ -1,25 +1,23 @@
 -- `counter::ctr_came_round` meets its contract. Without a block there is no step; else the blocks but one are more than what
 -- is left up to all ones exactly where they and the IV's number reach 2^128, which takes a high half of all ones.
--- Assumes nothing.
-use mathlib.Core.Path.{ap, _∙_}
-use mir.Val.{Fits}
-use mir.Syntax.{w64}
-use native.Mathlib.Omega.{arith}
+use Rattle.block.proofs.Base.{_∙_, ap, arith, needs, w64, Fits}
 use Rattle.block.specs.Words.{unwords}
 use Rattle.counter.specs.CameRound.{ctrCameRound}
 use Rattle.counter.proofs.Formula.{ctr-none, ctr-full, ctr-short}
-use borrow.Author.Needs.{needs}
 use Rattle.counter.proofs.ctr_came_round.Statement.{statement}
 use Rattle.counter.proofs.ctr_came_round.Tie as tie
 
-returns : tie.Need-returns
-returns c =
+pub ctr-came-round-spec : {M : Type 1} → statement M
+ctr-came-round-spec =
+    tie.close
+    (tie.spec
+    (λ c κs. search needs)
+    (λ c.
     let at-blocks = c .before in
     let iv = unwords (at-blocks .before .args .iv) in
-    ctr-none iv (at-blocks .blocks2 .result) (c .if1 .taken) ∙ ap (ctrCameRound iv) (at-blocks .blocks2 .ensures)
-
-returns-2 : tie.Need-returns-2
-returns-2 c =
+    ctr-none iv (at-blocks .blocks2 .result) (c .if1 .taken) ∙ ap (ctrCameRound iv) (at-blocks .blocks2 .ensures))
+    (λ c κs. search needs) (λ c. search needs) (λ c. search needs)
+    (λ c.
     let at-full = c .before in
     let at-number = at-full .before .before in
     let at-some = at-number .before in
@@ -28,10 +26,8 @@ returns-2 c =
     let first = at-number .to-u128 .result in
     ctr-full iv (at-blocks .blocks2 .result) (first .high) (first .low) (at-some .if1 .left) (at-number .to-u128 .ensures) (omega arith)
     (at-full .if2 .taken)
-    ∙ ap (ctrCameRound iv) (at-blocks .blocks2 .ensures)
-
-returns-3 : tie.Need-returns-3
-returns-3 c =
+    ∙ ap (ctrCameRound iv) (at-blocks .blocks2 .ensures))
+    (λ c.
     let at-number = c .before .before in
     let at-some = at-number .before in
     let at-blocks = at-some .before in
@@ -41,10 +37,4 @@ returns-3 c =
     let low : Fits w64 (first .low) = search needs in
     ctr-short iv (at-blocks .blocks2 .result) (first .high) (first .low) (at-some .if1 .left) (at-number .to-u128 .ensures) (low .fits)
     (c .if2 .left) (high .fits) (omega arith)
-    ∙ ap (ctrCameRound iv) (at-blocks .blocks2 .ensures)
-
-pub ctr-came-round-spec : {M : Type 1} → statement M
-ctr-came-round-spec =
-    tie.close
-    (tie.spec
-    (λ c κs. search needs) returns (λ c κs. search needs) (λ c. search needs) (λ c. search needs) returns-2 returns-3)
+    ∙ ap (ctrCameRound iv) (at-blocks .blocks2 .ensures)))

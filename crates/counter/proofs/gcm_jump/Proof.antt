@@ -1,23 +1,17 @@
 -- `counter::gcm_jump` meets its contract: the last word counts alone (`gcm-jump-words`).
--- Assumes nothing.
-use mir.Val.{Fits}
-use mir.Syntax.{w32}
-use lib.ListN.{getD}
+use Rattle.block.proofs.Base.{needs, getD, w32, Fits}
 use Rattle.counter.proofs.Steps.{gcm-jump-words}
-use borrow.Author.Needs.{needs}
 use Rattle.counter.proofs.gcm_jump.Statement.{statement}
 use Rattle.counter.proofs.gcm_jump.Tie as tie
-
-returns : tie.Need-returns
-returns c =
-    let a = c .before .args in
-    let x = a .t1 in
-    let h : Fits w32 (getD x 3 0) = search needs in
-    let low = c .wrapping-add-u32 in
-    gcm-jump-words x (low .result) (a .blocks) (h .fits) (low .ensures)
 
 pub gcm-jump-spec : {M : Type 1} → statement M
 gcm-jump-spec =
     tie.close
     (tie.spec
-    (λ c. search needs) (λ c. search needs) (λ c. search needs) (λ c. search needs) (λ c κs. search needs) returns)
+    (λ c. search needs) (λ c. search needs) (λ c. search needs) (λ c. search needs) (λ c κs. search needs)
+    (λ c.
+    let a = c .before .args in
+    let x = a .t1 in
+    let h : Fits w32 (getD x 3 0) = search needs in
+    let low = c .wrapping-add-u32 in
+    gcm-jump-words x (low .result) (a .blocks) (h .fits) (low .ensures)))

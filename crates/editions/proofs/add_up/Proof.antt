@@ -1,14 +1,9 @@
 -- `editions::add_up` meets its contract. The loop's invariant: all the lengths and what is left of `n` are together `n` and the lengths
 -- to come. The measure is how many are to come.
--- Assumes nothing.
-use mathlib.Core.Path.{_≡_, sym}
-use Prim.Native.Nat.{_+_, _-_, _≤_}
-use native.Mathlib.Omega.{arith}
-use denote.Ref.{now}
-use lib.ListN.{length, drop}
-use borrow.Author.Tests.{ne-eqb}
+use Rattle.block.proofs.Base.{_+_, _-_, _≤_, _≡_, sym, arith, eq-eqb, eqb-true, ne-eqb, now, drop, length}
+use Rattle.block.proofs.Same.{test-iff}
 use Rattle.editions.specs.Candidates.{sum}
-use Rattle.editions.proofs.Turns.{nothing-left, sum-turn, sum-end}
+use Rattle.editions.proofs.Turns.{sum-turn, sum-end}
 use Rattle.editions.proofs.add_up.Statement.{statement}
 use Rattle.editions.proofs.add_up.Tie as tie
 
@@ -38,11 +33,9 @@ returns-2 c =
     let a = at-loop .before .args in
     let ns = now (a .lengths) in
     let past = sum-end ns (at-loop .loop .i) (omega arith) in
-    nothing-left (sum ns) (at-loop .loop .left) (a .n) (omega arith)
+    test-iff _ _ (λ e. eq-eqb (sum ns) (a .n) (omega (arith, eqb-true)))
+    (λ e. eq-eqb (at-loop .loop .left) 0 (omega (arith, eqb-true)))
 
 pub add-up-spec : {M : Type 1} → statement M
-add-up-spec =
-    tie.close
-    (tie.spec
-    Inv-loop μ-loop (λ c. omega arith) (λ c. omega arith) (λ c. omega arith) returns (λ c. omega arith) (λ c. omega arith)
-    loop-again returns-2)
+add-up-spec = tie.close (tie.spec Inv-loop μ-loop (omega arith) (omega arith) (omega arith) returns (omega arith) (omega arith) loop-again
+    returns-2)

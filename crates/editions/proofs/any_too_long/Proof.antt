@@ -1,11 +1,5 @@
 -- `editions::any_too_long` meets its contract. The loop's invariant: the lengths to come decide. The measure is how many they are.
--- Assumes nothing.
-use mathlib.Core.Path.{_≡_, refl, sym, _∙_}
-use Prim.Native.Nat.{_-_, _≤_}
-use native.Mathlib.Omega.{arith}
-use denote.Ref.{now}
-use lib.ListN.{length, drop}
-use borrow.Author.Tests.{lt-ltb, le-ltb}
+use Rattle.block.proofs.Base.{_-_, _≤_, _∙_, _≡_, refl, sym, arith, le-ltb, lt-ltb, now, drop, length}
 use Rattle.editions.specs.Candidates.{anyTooLong}
 use Rattle.editions.proofs.Turns.{long-turn, long-end}
 use Rattle.editions.proofs.any_too_long.Statement.{statement}
@@ -35,8 +29,5 @@ returns-2 c =
     sym (long-end (now (at-loop .before .args .lengths)) (at-loop .loop .i) (omega arith)) ∙ at-loop .loop .inv .1
 
 pub any-too-long-spec : {M : Type 1} → statement M
-any-too-long-spec =
-    tie.close
-    (tie.spec
-    Inv-loop μ-loop (λ c. (omega arith, refl)) (λ c. omega arith) (λ c. omega arith) returns (λ c. omega arith) (λ c. omega arith)
-    loop-again returns-2)
+any-too-long-spec = tie.close (tie.spec Inv-loop μ-loop (λ c. (omega arith, refl)) (omega arith) (omega arith) returns (omega arith)
+    (omega arith) loop-again returns-2)

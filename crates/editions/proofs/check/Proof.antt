@@ -1,35 +1,15 @@
 -- `editions::check` meets its contract: what is wrong with key and IV ends the list, then the labels answer, and then the file.
--- Assumes nothing.
-use mathlib.Core.Path.{sym, _∙_}
-use Rattle.cipher_mode.proofs.Passed.{stops, goes-on}
 use Rattle.editions.specs.Which.{searchCheck}
-use borrow.Author.Needs.{needs}
+use Rattle.block.proofs.Base.{needs}
 use Rattle.editions.proofs.check.Statement.{statement}
 use Rattle.editions.proofs.check.Tie as tie
 
-returns : tie.Need-returns
-unfolding searchCheck
-returns c = stops _ _ _ _ (c .before .before .key-and-iv .ensures) (c .enum-told2 .given .1)
-
-returns-2 : tie.Need-returns-2
-unfolding searchCheck
-returns-2 c =
-    let at-labels = c .before in
-    let told = at-labels .before in
-    goes-on _ _ _ _ (told .before .before .key-and-iv .ensures) (told .enum-told .given .1)
-    (rw (sym (at-labels .any-too-long .ensures) ∙ c .if1 .taken))
-
-returns-3 : tie.Need-returns-3
-unfolding searchCheck
-returns-3 c =
-    let at-labels = c .before .before in
-    let told = at-labels .before in
-    goes-on _ _ _ _ (told .before .before .key-and-iv .ensures) (told .enum-told .given .1)
-    (rw (sym (at-labels .any-too-long .ensures) ∙ c .before .if1 .left) (c .«data» .ensures))
-
 pub check-spec : {M : Type 1} → statement M
-check-spec =
-    tie.close
-    (tie.spec
-    (λ c κs. search needs) (λ c. search needs) (λ c. search needs) returns (λ c κs. search needs) returns-2 (λ c κs. search needs)
-    returns-3)
+unfolding searchCheck
+check-spec = tie.close (tie.spec (search needs) (search needs) (search needs)
+    (λ c. rw (← c .before .before .key-and-iv .ensures, c .enum-told2 .given .1)) (search needs)
+    (λ c. let told = c .before .before in rw (← told .before .before .key-and-iv .ensures, told .enum-told .given .1)
+    (rw (← c .before .any-too-long .ensures, c .if1 .taken)))
+    (search needs)
+    (λ c. let told = c .before .before .before in rw (← told .before .before .key-and-iv .ensures, told .enum-told .given .1)
+    (rw (← c .before .before .any-too-long .ensures, c .before .if1 .left) (c .«data» .ensures))))

@@ -1,50 +1,36 @@
 -- `editions::part` meets its contract: each return is the definition, by the tests that led there. The start is tested before the
 -- difference is taken, and the two tests are the definition's one.
--- Assumes nothing.
-use mathlib.Core.Path.{_≡_, sym, _∙_}
-use mathlib.Core.Bool.{true}
-use native.Mathlib.Omega.{arith}
-use denote.Ref.{now}
-use borrow.Author.Tests.{not-true, not-false}
-use Rattle.editions.specs.Which.{verdictOf}
-use Rattle.editions.proofs.Parts.{part-none, part-outside, part-lent}
-use borrow.Author.Needs.{needs}
+use Rattle.block.proofs.Base.{_+_, _-_, _∙_, _≡_, sym, true, arith, needs, le-ltb, lt-ltb, not-false, not-true, now, length}
+use Rattle.editions.specs.Which.{isFound, partOf}
 use Rattle.editions.proofs.part.Statement.{statement}
 use Rattle.editions.proofs.part.Tie as tie
 
-returns : tie.Need-returns
-returns c =
-    let at-test = c .before .before in
-    let a = at-test .before .before .args in
-    part-none (verdictOf (a .found)) (now (a .labels))
-    (sym (at-test .is-candidate .ensures) ∙ not-true (at-test .is-candidate .result) (c .before .if1 .taken))
-
-is-found : (x : tie.Else1) → verdictOf (x .before .before .before .args .found) .found ≡ true
+is-found : (x : tie.Else1) → isFound (x .before .before .before .args .found .ended) ≡ true
 is-found x = sym (x .before .is-candidate .ensures) ∙ not-false (x .before .is-candidate .result) (x .if1 .left)
 
 returns-2 : tie.Need-returns-2
+unfolding partOf
 returns-2 c =
-    let found = c .before .before in
-    let a = found .before .before .before .args in
-    part-outside (verdictOf (a .found)) (now (a .labels)) (is-found found) (omega arith)
+    let a = c .before .before .before .before .before .args in
+    rw (is-found (c .before .before), lt-ltb (length (now (a .labels))) (a .found .start + a .found .length) (omega arith))
 
 returns-3 : tie.Need-returns-3
+unfolding partOf
 returns-3 c =
-    let found = c .before .before .before in
-    let a = found .before .before .before .args in
-    part-outside (verdictOf (a .found)) (now (a .labels)) (is-found found) (omega arith)
+    let a = c .before .before .before .before .before .before .args in
+    rw (is-found (c .before .before .before), lt-ltb (length (now (a .labels))) (a .found .start + a .found .length) (omega arith))
 
 returns-4 : tie.Need-returns-4
+unfolding partOf
 returns-4 c =
-    let found = c .before .before .before in
-    let a = found .before .before .before .args in
-    part-lent (verdictOf (a .found)) (now (a .labels)) (is-found found) (omega arith)
+    let a = c .before .before .before .before .before .before .args in
+    let size : a .found .start + a .found .length - a .found .start ≡ a .found .length = omega arith in
+    rw (size, is-found (c .before .before .before), le-ltb (length (now (a .labels))) (a .found .start + a .found .length) (omega arith))
 
 pub part-spec : {M : Type 1} → statement M
-part-spec =
-    tie.close
-    (tie.spec
-    (λ c κs. search needs) (λ c. search needs) (λ c. search needs) (λ c. search needs) returns
-    (λ c. search needs) (λ c. search needs) (λ c. search needs) returns-2 (λ c. search needs)
-    (λ c. search needs) (λ c. search needs) (λ c. search needs) returns-3 (λ c. search needs)
-    (λ c. search needs) (λ c. search needs) (λ c. search needs) returns-4)
+unfolding partOf
+part-spec = tie.close (tie.spec (search needs) (search needs) (search needs) (search needs)
+    (λ c. let at-test = c .before .before in
+    rw (← at-test .is-candidate .ensures, not-true (at-test .is-candidate .result) (c .before .if1 .taken)))
+    (search needs) (search needs) (search needs) returns-2 (search needs) (search needs) (search needs) (search needs) returns-3
+    (search needs) (search needs) (search needs) (search needs) returns-4)

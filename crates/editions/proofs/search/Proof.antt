@@ -1,19 +1,12 @@
 -- `editions::search` meets its contract. The loop's invariant: the lengths to come add up to what is left of the buffer, none of them is
 -- past the limit, and the search among them decides. The measure is how many are to come.
--- Assumes nothing.
-use mathlib.Core.Path.{_≡_, refl, sym, ap, _∙_}
-use mathlib.Core.Bool.{false}
-use Prim.Native.Nat.{_+_, _-_, _≤_}
-use native.Mathlib.Omega.{arith}
-use denote.Ref.{now}
-use lib.ListN.{length, drop, length-take}
+use Rattle.block.proofs.Base.{_+_, _-_, _≤_, _≡_, ap, refl, cond, false, arith, needs, now, drop, getD, length, length-take}
 use Rattle.block.specs.Wide.{value}
 use Rattle.block.specs.Words.{unwords}
 use Rattle.cipher_mode.proofs.Passed.{data-within, with-tag-passed}
 use Rattle.editions.specs.Candidates.{sum, anyTooLong}
-use Rattle.editions.specs.Which.{onKey, firstOpening, opensMasked, verdictOf}
-use Rattle.editions.proofs.Turns.{sum-turn, room-turn, short-turn, search-hit, search-on, search-end}
-use borrow.Author.Needs.{needs}
+use Rattle.editions.specs.Which.{foundAt, onKey, firstOpening, opensMasked}
+use Rattle.editions.proofs.Turns.{sum-turn, short-turn, search-turn, search-end}
 use Rattle.editions.proofs.search.Statement.{statement}
 use Rattle.editions.proofs.search.Tie as tie
 
@@ -28,24 +21,11 @@ Inv-loop mask h half key file labels lengths start₀ i₀ start i =
 abbrev μ-loop : tie.MeasureT-loop
 μ-loop mask h half key file labels lengths start₀ i₀ start i = length lengths - i
 
-loop-holds : tie.Need-loop-holds Inv-loop μ-loop
-loop-holds c =
-    let S = c .before .before .before in
-    (omega arith, omega (arith, S .pre .1 .1 .0), S .pre .1 .1 .1, refl)
-
-add-end : tie.Need-add-end Inv-loop μ-loop
-add-end c =
-    let at-loop = c .before .before in
-    let a = at-loop .before .before .before .before .args in
-    let room = room-turn (now (a .lengths)) (at-loop .loop .i) (omega arith) _ _ (at-loop .loop .inv .1) in
-    omega arith
-
-part-opens-after-end : tie.Need-part-opens-after-end Inv-loop μ-loop
-part-opens-after-end c =
-    let at-loop = c .before .before in
-    let a = at-loop .before .before .before .before .args in
-    let room = room-turn (now (a .lengths)) (at-loop .loop .i) (omega arith) _ _ (at-loop .loop .inv .1) in
-    omega arith
+-- a candidate ends within the buffer
+room : (x : tie.In-loop Inv-loop μ-loop)
+    → let a = x .before .before .before .before .before .args in
+    x .before .loop .start + getD (now (a .lengths)) (x .before .loop .i) 0 ≤ length (now (a .labels))
+room x = omega (arith, sum-turn (now (x .before .before .before .before .before .args .lengths)) (x .before .loop .i) (omega arith))
 
 opens-after-requires : tie.Need-opens-after-requires Inv-loop μ-loop
 opens-after-requires c κs =
@@ -55,41 +35,46 @@ opens-after-requires c κs =
     let within = data-within _ _ _ (S .pre .1 .0) in
     ((simp length-take (omega (arith, short .0)), omega (arith, within)), (with-tag-passed _ (S .pre .1 .0), S .pre .0))
 
+-- what the search comes to, by the test at this turn
+turned : (x : tie.After-opens-after Inv-loop μ-loop)
+    → let at-loop = x .before .before .before .before in
+    let a = at-loop .before .before .before .before .args in
+    let ns = now (a .lengths) in
+    let n = getD ns (at-loop .loop .i) 0 in
+    let start = at-loop .loop .start in
+    let test = opensMasked (unwords (a .mask)) (value (a .h)) (now (a .file)) in
+    cond (x .opens-after .result) (foundAt (at-loop .loop .i) start n)
+    (firstOpening test (drop (start + n) (now (a .labels))) (drop (at-loop .loop .i + 1) ns) (at-loop .loop .i + 1) (start + n))
+    ≡ firstOpening test (now (a .labels)) ns 0 0
+turned x =
+    let at-loop = x .before .before .before .before in
+    let a = at-loop .before .before .before .before .args in
+    let l = at-loop .loop in
+    rw (x .opens-after .ensures) (search-turn (now (a .lengths)) (l .i) (omega arith) _ (now (a .labels)) _ _ (l .inv .3))
+
 returns : tie.Need-returns Inv-loop μ-loop
 returns c =
-    let at-opens = c .before in
-    let at-loop = at-opens .before .before .before .before in
-    let a = at-loop .before .before .before .before .args in
-    ap (onKey (a .key))
-    (search-hit (now (a .lengths)) (at-loop .loop .i) (omega arith) (opensMasked (unwords (a .mask)) (value (a .h)) (now (a .file)))
-    (now (a .labels)) (at-loop .loop .start) _ (at-loop .loop .inv .3) (sym (at-opens .opens-after .ensures) ∙ c .if1 .taken))
+    let key = c .before .before .before .before .before .before .before .before .before .args .key in
+    ap (onKey key) (rw (c .if1 .taken) at (turned (c .before)))
 
 loop-again : tie.Need-loop-again Inv-loop μ-loop
 loop-again c =
-    let at-opens = c .before in
-    let at-loop = at-opens .before .before .before .before in
-    let a = at-loop .before .before .before .before .args in
-    let ns = now (a .lengths) in
-    let i = at-loop .loop .i in
-    let turn = sum-turn ns i (omega arith) in
-    let short = short-turn ns i (omega arith) (at-loop .loop .inv .2) in
-    let on =
-    search-on ns i (omega arith) (opensMasked (unwords (a .mask)) (value (a .h)) (now (a .file))) (now (a .labels)) (at-loop .loop .start) _
-    (at-loop .loop .inv .3) (sym (at-opens .opens-after .ensures) ∙ c .if1 .left) in
-    (omega arith, omega arith, short .1, on)
+    let at-loop = c .before .before .before .before .before in
+    let ns = now (at-loop .before .before .before .before .args .lengths) in
+    let turn = sum-turn ns (at-loop .loop .i) (omega arith) in
+    let short = short-turn ns (at-loop .loop .i) (omega arith) (at-loop .loop .inv .2) in
+    (omega arith, omega arith, short .1, rw (c .if1 .left) at (turned (c .before)))
 
 returns-2 : tie.Need-returns-2 Inv-loop μ-loop
 returns-2 c =
     let at-loop = c .before .before in
     let a = at-loop .before .before .before .before .args in
-    ap verdictOf (c .without .ensures)
-    ∙ ap (onKey (a .key))
-    (search-end (now (a .lengths)) (at-loop .loop .i) (omega arith) (opensMasked (unwords (a .mask)) (value (a .h)) (now (a .file)))
-    (now (a .labels)) (at-loop .loop .start) _ (at-loop .loop .inv .3))
+    let l = at-loop .loop in
+    rw (c .without .ensures)
+    (ap (onKey (a .key)) (search-end (now (a .lengths)) (l .i) (omega arith) _ (now (a .labels)) (l .start) _ (l .inv .3)))
 
 pub search-spec : {M : Type 1} → statement M
-search-spec =
-    tie.close
-    (tie.spec
-    Inv-loop μ-loop loop-holds (λ c. omega arith) (λ c. omega arith) add-end (λ c. omega arith) (λ c. omega arith) part-opens-after-end
-    opens-after-requires returns (λ c. omega arith) (λ c. omega arith) loop-again (λ c κs. search needs) returns-2)
+search-spec = tie.close (tie.spec Inv-loop μ-loop
+    (λ c. let S = c .before .before .before in (omega arith, omega (arith, S .pre .1 .1 .0), S .pre .1 .1 .1, refl)) (omega arith)
+    (omega arith) (λ c. omega (arith, room (c .before))) (omega arith) (omega arith) (λ c. omega (arith, room (c .before)))
+    opens-after-requires returns (omega arith) (omega arith) loop-again (search needs) returns-2)

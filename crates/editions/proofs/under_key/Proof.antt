@@ -1,26 +1,12 @@
 -- `editions::under_key` meets its contract. Without candidates none is found (`search-end`). Otherwise H and J0 are those of the keys and
 -- the IV, the mask is the cipher of J0, and what is kept of the text is its blocks' own.
--- Assumes nothing.
-use mathlib.Core.Path.{_≡_, refl, ap, ap₂, subst, _∙_}
-use mathlib.Core.List.{List}
-use Prim.Native.Nat.{ℕ, _^_}
-use native.Mathlib.Omega.{arith}
-use mir.Val.{Fits}
-use mir.Syntax.{w32}
-use denote.Ref.{now}
-use lib.ListN.{length, getD}
-use Rattle.block.specs.Wide.{value}
-use Rattle.block.specs.Words.{unwords}
+use Rattle.block.proofs.Base.{_^_, ℕ, _≡_, ap, refl, arith, needs, now, getD, length, w32, Fits}
 use Rattle.block.proofs.Entries.{below-each}
-use Rattle.cipher.specs.Sm4.{encryptBlock}
 use Rattle.cipher.proofs.Blocks.{encrypt-unwords}
-use Rattle.ghash.specs.Ghash.{blocks}
-use Rattle.ghash.specs.Joined.{HalfOf}
-use Rattle.gcm.specs.Gcm.{firstCounter, tagOf, opensUnder}
+use Rattle.gcm.specs.Gcm.{tagOf, opensUnder}
 use Rattle.cipher_mode.proofs.Passed.{iv-twelve-or-sixteen, with-tag-passed}
-use Rattle.editions.specs.Which.{Verdict, onKey, firstOpening, opensMasked, verdictOf}
+use Rattle.editions.specs.Which.{onKey}
 use Rattle.editions.proofs.Turns.{search-end}
-use borrow.Author.Needs.{needs}
 use Rattle.editions.proofs.under_key.Statement.{statement}
 use Rattle.editions.proofs.under_key.Tie as tie
 
@@ -36,17 +22,13 @@ text-part-requires c κs =
 
 search-requires : tie.Need-search-requires
 search-requires c κs =
-    let at-part = c .before in
-    let at-key = at-part .before .before .before in
-    let S = at-key .before .before .before .before .before .before .before .before .before .before in
-    let h = value (at-key .hash-key .result) in
-    (subst (λ (text : List ℕ). HalfOf h (blocks text) (c .of .result)) (at-part .text-part .ensures) (c .of .ensures), S .pre .1)
+    let S = c .before .before .before .before .before .before .before .before .before .before .before .before .before .before in
+    (rw (c .before .text-part .ensures) at (c .of .ensures), S .pre .1)
 
 returns : tie.Need-returns
 returns c =
     let a = c .before .before .before .before .before .before .args in
-    ap verdictOf (c .without .ensures)
-    ∙ ap (onKey (a .key)) (search-end (now (a .lengths)) 0 (omega arith) _ (now (a .labels)) 0 _ refl)
+    rw (c .without .ensures) (ap (onKey (a .key)) (search-end (now (a .lengths)) 0 (omega arith) _ (now (a .labels)) 0 _ refl))
 
 returns-2 : tie.Need-returns-2
 unfolding opensUnder tagOf
@@ -54,22 +36,13 @@ returns-2 c =
     let at-mask = c .before .before .before in
     let at-counter = at-mask .before in
     let at-key = at-counter .before in
-    let a = at-key .before .before .before .before .before .before .before .before .before .before .args in
     let j = at-counter .first-counter .result in
     let four : length j ≡ 4 = search needs in
     let fits : (i : ℕ) → Fits w32 (getD j i 0) = λ i. search needs in
-    let h = at-key .hash-key .ensures in
-    let j0 = at-counter .first-counter .ensures ∙ ap (λ (h : ℕ). firstCounter h (now (a .iv))) h in
-    let mask =
-    ap unwords (at-mask .encrypt .ensures)
-    ∙ encrypt-unwords (a .rk) j four (below-each (2 ^ 32) j (λ i. fits i .fits))
-    ∙ ap (encryptBlock (a .rk)) j0 in
-    let given : List ℕ → ℕ → Verdict =
-    λ mask h. onKey (a .key) (firstOpening (opensMasked mask h (now (a .file))) (now (a .labels)) (now (a .lengths)) 0 0) in
-    c .search .ensures ∙ ap₂ given mask h
+    let spelled = below-each (2 ^ 32) j (λ i. fits i .fits) in
+    rw (c .search .ensures, at-mask .encrypt .ensures, encrypt-unwords _ j four spelled, at-counter .first-counter .ensures)
+    (rw (at-key .hash-key .ensures))
 
 pub under-key-spec : {M : Type 1} → statement M
-under-key-spec =
-    tie.close
-    (tie.spec
-    (λ c κs. search needs) returns (λ c κs. search needs) (λ c κs. search needs) (λ c. search needs) (λ c κs. search needs) (λ c κs. search needs) first-counter-requires (λ c κs. search needs) text-part-requires (λ c κs. search needs) search-requires returns-2)
+under-key-spec = tie.close (tie.spec (search needs) returns (search needs) (search needs) (search needs) (λ c κs. search needs)
+    (λ c κs. search needs) first-counter-requires (λ c κs. search needs) text-part-requires (search needs) search-requires returns-2)

@@ -1,16 +1,8 @@
 -- `gcm::has_tag` meets its contract: the four words of the difference are all 0 exactly where the message's tag is the expected one
 -- (`has-tag-words`).
--- Assumes nothing.
-use mathlib.Core.Path.{_≡_, ap, _∙_}
-use Prim.Native.Nat.{ℕ, _-_, _^_, _<_}
-use mir.Val.{Fits}
-use mir.Syntax.{w32}
-use denote.Ref.{now}
-use native.Mathlib.Omega.{arith}
-use lib.ListN.{length, getD, length-drop}
+use Rattle.block.proofs.Base.{_-_, _<_, _^_, ℕ, _∙_, _≡_, ap, arith, needs, now, getD, length, length-drop, w32, Fits}
 use Rattle.block.proofs.Entries.{below-each}
 use Rattle.gcm.proofs.TagTest.{has-tag-words}
-use borrow.Author.Needs.{needs}
 use Rattle.gcm.proofs.has_tag.Statement.{statement}
 use Rattle.gcm.proofs.has_tag.Tie as tie
 
@@ -39,20 +31,12 @@ returns c =
 small-words : (x : tie.After-block-xor) (i : ℕ) → Fits w32 (getD (x .block-xor .result) i 0)
 small-words x i = search needs
 
-add-result : tie.Need-add-result
-add-result c = record { fits = omega (arith, small-words c 0 .fits, small-words c 1 .fits) }
-
-add-result-2 : tie.Need-add-result-2
-add-result-2 c = record { fits = omega (arith, small-words c 0 .fits, small-words c 1 .fits, small-words c 2 .fits) }
-
 add-result-3 : tie.Need-add-result-3
-add-result-3 c =
-    record { fits = omega (arith, small-words c 0 .fits, small-words c 1 .fits, small-words c 2 .fits, small-words c 3 .fits) }
+add-result-3 c = record { fits = omega (arith, small-words c 0 .fits, small-words c 1 .fits, small-words c 2 .fits, small-words c 3 .fits) }
 
 pub has-tag-spec : {M : Type 1} → statement M
-has-tag-spec =
-    tie.close
-    (tie.spec
-    (λ c κs. search needs) split-block-requires (λ c κs. search needs) (λ c. search needs) (λ c. search needs) (λ c. search needs)
-    (λ c. search needs) add-result (λ c. search needs) (λ c. search needs) add-result-2 (λ c. search needs) (λ c. search needs) add-result-3
-    returns)
+has-tag-spec = tie.close (tie.spec (λ c κs. search needs) split-block-requires (λ c κs. search needs) (λ c. search needs)
+    (λ c. search needs) (λ c. search needs) (λ c. search needs)
+    (λ c. record { fits = omega (arith, small-words c 0 .fits, small-words c 1 .fits) }) (λ c. search needs) (λ c. search needs)
+    (λ c. record { fits = omega (arith, small-words c 0 .fits, small-words c 1 .fits, small-words c 2 .fits) }) (λ c. search needs)
+    (λ c. search needs) add-result-3 returns)

@@ -1,12 +1,9 @@
 -- `gcm::hash_key` meets its contract: four zero words are sixteen zero bytes (`hash-key-words`).
--- Assumes nothing.
 use Rattle.gcm.proofs.InWords.{hash-key-words}
-use borrow.Author.Needs.{needs}
+use Rattle.block.proofs.Base.{needs}
 use Rattle.gcm.proofs.hash_key.Statement.{statement}
 use Rattle.gcm.proofs.hash_key.Tie as tie
 
-returns : tie.Need-returns
-returns c = hash-key-words (c .before .before .before .args .rk) _ _ (c .before .encrypt .ensures) (c .to-u128 .ensures)
-
 pub hash-key-spec : {M : Type 1} → statement M
-hash-key-spec = tie.close (tie.spec (λ c κs. search needs) (λ c κs. search needs) returns)
+hash-key-spec = tie.close (tie.spec (λ c κs. search needs) (λ c κs. search needs)
+    (λ c. hash-key-words (c .before .before .before .args .rk) _ _ (c .before .encrypt .ensures) (c .to-u128 .ensures)))

@@ -1,9 +1,7 @@
 -- `gcm::hashed_counter` meets its contract: the blocks of an empty label and a 16-byte IV are those of J0 (`hashed-counter-words`).
--- Assumes nothing.
-use denote.Ref.{now}
+use Rattle.block.proofs.Base.{needs, now}
 use Rattle.block.specs.Wide.{value}
 use Rattle.gcm.proofs.InWords.{hashed-counter-words}
-use borrow.Author.Needs.{needs}
 use Rattle.gcm.proofs.hashed_counter.Statement.{statement}
 use Rattle.gcm.proofs.hashed_counter.Tie as tie
 
@@ -14,6 +12,4 @@ returns c =
 
 pub hashed-counter-spec : {M : Type 1} → statement M
 hashed-counter-spec =
-    tie.close
-    (tie.spec
-    (λ c. search needs) (λ c. search needs) (λ c. search needs) (λ c κs. search needs) (λ c κs. search needs) returns)
+    tie.close (tie.spec (λ c. search needs) (λ c. search needs) (λ c. search needs) (λ c κs. search needs) (λ c κs. search needs) returns)

@@ -1,23 +1,8 @@
 -- `gcm::in_one_batch` meets its contract, which says what it asks.
--- Assumes nothing.
-use mathlib.Core.Path.{_≡_}
-use Prim.Native.Nat.{ℕ}
-use native.Mathlib.Omega.{arith}
-use borrow.Author.Tests.{ltb-true}
-use borrow.Author.Needs.{needs}
+use Rattle.block.proofs.Base.{ℕ, _≡_, arith, needs, ltb-true}
 use Rattle.gcm.proofs.in_one_batch.Statement.{statement}
 use Rattle.gcm.proofs.in_one_batch.Tie as tie
 
-returns : tie.Need-returns
-returns c = λ e.
-    let z : _≡_ {A = ℕ} 0 1 = cc in
-    absurd (omega arith)
-
-returns-2 : tie.Need-returns-2
-returns-2 c = λ e. ltb-true _ _ e
-
 pub in-one-batch-spec : {M : Type 1} → statement M
 in-one-batch-spec =
-    tie.close
-    (tie.spec
-    (λ c κs. search needs) returns returns-2)
+    tie.close (tie.spec (λ c κs. search needs) (λ c e. let z : _≡_ {A = ℕ} 0 1 = cc in absurd (omega arith)) (λ c e. ltb-true _ _ e))

@@ -1,17 +1,10 @@
 -- `gcm::lay_behind` meets its contract: the part behind the first block is lent on, and comes back.
--- Assumes nothing.
-use mathlib.Core.Path.{ap, _∙_}
-use mathlib.Core.Bool.{false}
-use mathlib.Core.List.{List, _++_}
-use Prim.Native.Nat.{ℕ}
-use denote.Ref.{now}
-use lib.ListN.{take}
+use Rattle.block.proofs.Base.{ℕ, _∙_, ap, false, List, _++_, needs, now, take}
 use Rattle.block.specs.Blocks.{cat}
 use Rattle.block.specs.Words.{unwords}
 use Rattle.counter.specs.Counter.{jumped}
 use Rattle.walk.specs.Walk.{over}
 use Rattle.walk.proofs.Loop.{tail-is, returned-is}
-use borrow.Author.Needs.{needs}
 use Rattle.gcm.proofs.lay_behind.Statement.{statement}
 use Rattle.gcm.proofs.lay_behind.Tie as tie
 
@@ -19,13 +12,9 @@ returns : tie.Need-returns
 returns c =
     let a = c .before .before .before .before .before .args in
     let o = now (a .out) in
-    returned-is o _ 16
-    ∙ ap (λ (t : List ℕ). take 16 o ++ t)
-    (c .before .before .lay-counters .ensures
+    returned-is o _ 16 ∙ ap (λ (t : List ℕ). take 16 o ++ t) (c .before .before .lay-counters .ensures
     ∙ ap (λ (x : List ℕ). over (cat (a .m) (jumped false (unwords (a .j0)))) x) (tail-is o 16))
 
 pub lay-behind-spec : {M : Type 1} → statement M
 lay-behind-spec =
-    tie.close
-    (tie.spec
-    (λ c. search needs) (λ c. search needs) (λ c. search needs) (λ c κs. search needs) (λ c. search needs) returns)
+    tie.close (tie.spec (λ c. search needs) (λ c. search needs) (λ c. search needs) (λ c κs. search needs) (λ c. search needs) returns)

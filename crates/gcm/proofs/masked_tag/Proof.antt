@@ -1,11 +1,7 @@
 -- `gcm::masked_tag` meets its contract: the words of the hash and of the mask, xored, are the tag's (`masked-words`).
--- Assumes nothing.
-use mathlib.Core.Path.{_≡_}
-use lib.ListN.{length}
-use denote.Ref.{now}
+use Rattle.block.proofs.Base.{_≡_, needs, now, length}
 use Rattle.block.specs.Wide.{value}
 use Rattle.gcm.proofs.InWords.{masked-words}
-use borrow.Author.Needs.{needs}
 use Rattle.gcm.proofs.masked_tag.Statement.{statement}
 use Rattle.gcm.proofs.masked_tag.Tie as tie
 
@@ -19,7 +15,4 @@ returns c =
     (c .before .before .galois-hash .ensures) (c .before .from-u128 .ensures) (c .block-xor .ensures)
 
 pub masked-tag-spec : {M : Type 1} → statement M
-masked-tag-spec =
-    tie.close
-    (tie.spec
-    (λ c κs. search needs) (λ c κs. search needs) (λ c κs. search needs) returns)
+masked-tag-spec = tie.close (tie.spec (λ c κs. search needs) (λ c κs. search needs) (λ c κs. search needs) returns)

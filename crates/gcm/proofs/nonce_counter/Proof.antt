@@ -1,12 +1,7 @@
 -- `gcm::nonce_counter` meets its contract: the three words of twelve bytes, and 1 behind them (`nonce-counter-words`).
--- Assumes nothing.
-use Prim.Native.Nat.{ℕ, _<_}
-use native.Mathlib.Omega.{arith}
-use denote.Ref.{now}
-use lib.ListN.{getD}
+use Rattle.block.proofs.Base.{_<_, ℕ, arith, needs, now, getD}
 use Rattle.block.proofs.Entries.{below-each}
 use Rattle.gcm.proofs.InWords.{nonce-counter-words}
-use borrow.Author.Needs.{needs}
 use Rattle.gcm.proofs.nonce_counter.Statement.{statement}
 use Rattle.gcm.proofs.nonce_counter.Tie as tie
 
@@ -22,5 +17,4 @@ returns c =
     (at-first .word-at .ensures) (at-second .word-at2 .ensures) (c .word-at3 .ensures)
 
 pub nonce-counter-spec : {M : Type 1} → statement M
-nonce-counter-spec =
-    tie.close (tie.spec (λ c κs. search needs) (λ c κs. search needs) (λ c κs. search needs) returns)
+nonce-counter-spec = tie.close (tie.spec (λ c κs. search needs) (λ c κs. search needs) (λ c κs. search needs) returns)

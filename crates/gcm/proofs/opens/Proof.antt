@@ -1,16 +1,9 @@
 -- `gcm::opens` meets its contract: the tag that is expected is the one of the message's text part.
--- Assumes nothing.
-use mathlib.Core.Path.{_≡_, ap, _∙_}
-use Prim.Native.Nat.{_-_}
-use native.Mathlib.Omega.{arith}
-use denote.Ref.{now}
-use lib.ListN.{length}
-use lib.Seq.{length-take-le}
+use Rattle.block.proofs.Base.{_-_, _∙_, _≡_, ap, arith, needs, now, length, length-take-le}
 use Rattle.block.specs.Same.{same}
 use Rattle.block.specs.Wide.{value}
 use Rattle.block.specs.Words.{unwords}
 use Rattle.gcm.specs.Gcm.{tagOf, tagPart, opensUnder}
-use borrow.Author.Needs.{needs}
 use Rattle.gcm.proofs.opens.Statement.{statement}
 use Rattle.gcm.proofs.opens.Tie as tie
 
@@ -28,8 +21,7 @@ returns c =
     let at-text-part = at-tag .before in
     let a = at-text-part .before .before .before .before .args in
     let tag = tagOf (a .rk) (value (a .h)) (unwords (a .j0)) (now (a .aad)) in
-    c .has-tag .ensures
-    ∙ ap (same (tagPart (now (a .«data»)))) (at-tag .tag .ensures ∙ ap tag (at-text-part .text-part .ensures))
+    c .has-tag .ensures ∙ ap (same (tagPart (now (a .«data»)))) (at-tag .tag .ensures ∙ ap tag (at-text-part .text-part .ensures))
 
 pub opens-spec : {M : Type 1} → statement M
 opens-spec = tie.close (tie.spec (λ c κs. search needs) tag-requires (λ c κs. search needs) returns)

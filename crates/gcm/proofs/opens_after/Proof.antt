@@ -1,21 +1,12 @@
 -- `gcm::opens_after` meets its contract: the hash that is expected is that of label and text (`galois_hash_after`), under the mask
 -- (`masked-words`).
--- Assumes nothing.
-use mathlib.Core.Path.{_≡_, sym, ap, subst, _∙_}
-use mathlib.Core.List.{List}
-use Prim.Native.Nat.{ℕ, _-_}
-use native.Mathlib.Omega.{arith}
-use denote.Ref.{now}
-use lib.ListN.{length}
-use lib.Seq.{length-take-le}
+use Rattle.block.proofs.Base.{_-_, ℕ, _∙_, _≡_, ap, subst, sym, List, arith, needs, now, length, length-take-le}
 use Rattle.block.specs.Same.{same}
 use Rattle.block.specs.Wide.{value}
-use Rattle.block.specs.Words.{unwords}
 use Rattle.ghash.specs.Ghash.{ghash, authBlocks, blocks}
 use Rattle.ghash.specs.Joined.{HalfOf}
 use Rattle.gcm.specs.Gcm.{textPart, tagPart}
 use Rattle.gcm.proofs.InWords.{masked-words}
-use borrow.Author.Needs.{needs}
 use Rattle.gcm.proofs.opens_after.Statement.{statement}
 use Rattle.gcm.proofs.opens_after.Tie as tie
 
@@ -40,16 +31,12 @@ returns c =
     let a = S .args in
     let four : length (a .mask) ≡ 4 = search (needs, S .good .0) in
     let h = value (a .h) in
-    let hash =
-    at-hash .galois-hash-after .ensures
+    let hash = at-hash .galois-hash-after .ensures
     ∙ ap (λ (text : List ℕ). ghash h (authBlocks (now (a .aad)) text)) (at-text-part .text-part .ensures) in
-    c .has-tag .ensures
-    ∙ ap (same (tagPart (now (a .«data»))))
+    c .has-tag .ensures ∙ ap (same (tagPart (now (a .«data»))))
     (masked-words (a .mask) (now (a .aad)) (textPart (now (a .«data»))) _ _ h _ four hash (at-words .from-u128 .ensures)
     (at-xor .block-xor .ensures))
 
 pub opens-after-spec : {M : Type 1} → statement M
-opens-after-spec =
-    tie.close
-    (tie.spec
-    (λ c κs. search needs) galois-hash-after-requires (λ c κs. search needs) (λ c κs. search needs) (λ c κs. search needs) returns)
+opens-after-spec = tie.close (tie.spec (λ c κs. search needs) galois-hash-after-requires (λ c κs. search needs) (λ c κs. search needs)
+    (λ c κs. search needs) returns)

@@ -1,20 +1,9 @@
 -- `gcm::start` meets its contract: H by itself or from the pads (`hash-key-front`), J0 by the length of the IV.
--- Assumes nothing.
-use mathlib.Core.Path.{_≡_, refl, sym, ap, _∙_}
-use mathlib.Core.Bool.{Bool, true, false, not}
-use mathlib.Core.Logic.{⊎-elim}
-use Prim.Native.Nat.{ℕ}
-use native.Mathlib.Omega.{arith}
-use mir.Val.{Fits}
-use mir.Syntax.{w8}
-use denote.Ref.{now}
-use lib.ListN.{getD}
+use Rattle.block.proofs.Base.{ℕ, _∙_, _≡_, ap, refl, sym, ⊎-elim, Bool, false, not, true, arith, needs, eq-eqb, ne-eqb, now, getD, w8, Fits}
 use Rattle.block.specs.Words.{unwords}
 use Rattle.block.proofs.Entries.{below-each}
 use Rattle.gcm.specs.Gcm.{hashedCounter, firstCounter, J0}
 use Rattle.gcm.proofs.Short.{hash-key-front}
-use borrow.Author.Tests.{eq-eqb, ne-eqb}
-use borrow.Author.Needs.{needs}
 use Rattle.gcm.proofs.start.Statement.{statement}
 use Rattle.gcm.proofs.start.Tie as tie
 
@@ -28,14 +17,9 @@ returns c =
       c .before .hash-key .ensures,
       (
         c .first-counter .ensures ∙ ap (λ (h : ℕ). firstCounter h iv) (c .before .hash-key .ensures),
-        λ e.
-            let z : _≡_ {A = ℕ} 0 1 = cc in
-            absurd (omega arith),
+        λ e. let z : _≡_ {A = ℕ} 0 1 = cc in absurd (omega arith),
       ),
     )
-
-pads-from-requires : tie.Need-pads-from-requires
-pads-from-requires c κs = c .before .before .before .in-one-batch .ensures (of-not _ (c .before .before .if1 .left))
 
 returns-2 : tie.Need-returns-2
 unfolding firstCounter
@@ -51,25 +35,21 @@ returns-2 c =
     )
 
 hashed-counter-requires : tie.Need-hashed-counter-requires
-hashed-counter-requires c κs = ⊎-elim (λ twelve. absurd (c .before .if2 .left twelve)) (λ sixteen. sixteen) (c .before .before .before .before .before .before .pre .1)
-
-pads-from-requires-2 : tie.Need-pads-from-requires-2
-pads-from-requires-2 c κs = c .before .before .before .before .in-one-batch .ensures (of-not _ (c .before .before .before .if1 .left))
+hashed-counter-requires c κs =
+    let S = c .before .before .before .before .before .before in
+    ⊎-elim (λ twelve. absurd (c .before .if2 .left twelve)) (λ sixteen. sixteen) (S .pre .1)
 
 returns-3 : tie.Need-returns-3
 unfolding firstCounter
 returns-3 c =
     let a = c .before .before .before .before .before .before .before .before .args in
     let iv = now (a .iv) in
-    let j : unwords (c .before .hashed-counter .result) ≡ J0 (a .rk) iv =
-    rw (ne-eqb _ _ (c .before .before .before .if2 .left))
+    let j : unwords (c .before .hashed-counter .result) ≡ J0 (a .rk) iv = rw (ne-eqb _ _ (c .before .before .before .if2 .left))
     (c .before .hashed-counter .ensures ∙ ap (λ (h : ℕ). hashedCounter h iv) (c .before .before .hash-key2 .ensures)) in
     (c .before .before .hash-key2 .ensures, (j, λ e. c .pads-from2 .ensures))
 
 pub start-spec : {M : Type 1} → statement M
-start-spec =
-    tie.close
-    (tie.spec
-    (λ c κs. search needs) (λ c κs. search needs) (λ c κs. search needs) returns (λ c κs. search needs) pads-from-requires
-    (λ c. search needs) (λ c κs. search needs) (λ c κs. search needs) returns-2 (λ c κs. search needs) hashed-counter-requires
-    pads-from-requires-2 returns-3)
+start-spec = tie.close (tie.spec (λ c κs. search needs) (λ c κs. search needs) (λ c κs. search needs) returns (λ c κs. search needs)
+    (λ c κs. c .before .before .before .in-one-batch .ensures (of-not _ (c .before .before .if1 .left))) (λ c. search needs)
+    (λ c κs. search needs) (λ c κs. search needs) returns-2 (λ c κs. search needs) hashed-counter-requires
+    (λ c κs. c .before .before .before .before .in-one-batch .ensures (of-not _ (c .before .before .before .if1 .left))) returns-3)

@@ -1,18 +1,10 @@
 -- `gcm::tag` meets its contract: the mask is the cipher of J0.
--- Assumes nothing.
-use mathlib.Core.Path.{_≡_, ap, _∙_}
-use mathlib.Core.List.{List}
-use Prim.Native.Nat.{ℕ, _^_}
-use mir.Val.{Fits}
-use mir.Syntax.{w32}
-use lib.ListN.{length, getD}
-use denote.Ref.{now}
+use Rattle.block.proofs.Base.{_^_, ℕ, _∙_, _≡_, ap, List, needs, now, getD, length, w32, Fits}
 use Rattle.block.specs.Wide.{value}
 use Rattle.block.specs.Words.{unwords}
 use Rattle.block.proofs.Entries.{below-each}
 use Rattle.cipher.proofs.Blocks.{encrypt-unwords}
 use Rattle.gcm.specs.Gcm.{maskedTag, tagOf}
-use borrow.Author.Needs.{needs}
 use Rattle.gcm.proofs.tag.Statement.{statement}
 use Rattle.gcm.proofs.tag.Tie as tie
 
@@ -24,12 +16,8 @@ returns c =
     let counter = S .good .1 .1 .1 .0 in
     let four : length (a .j0) ≡ 4 = search (needs, counter) in
     let fits : (i : ℕ) → Fits w32 (getD (a .j0) i 0) = λ i. search (needs, counter) in
-    c .masked-tag .ensures
-    ∙ ap (λ (m : List ℕ). maskedTag m (value (a .h)) (now (a .aad)) (now (a .text)))
+    c .masked-tag .ensures ∙ ap (λ (m : List ℕ). maskedTag m (value (a .h)) (now (a .aad)) (now (a .text)))
     (ap unwords (c .before .encrypt .ensures) ∙ encrypt-unwords (a .rk) (a .j0) four (below-each (2 ^ 32) (a .j0) (λ i. fits i .fits)))
 
 pub tag-spec : {M : Type 1} → statement M
-tag-spec =
-    tie.close
-    (tie.spec
-    (λ c κs. search needs) (λ c κs. search needs) returns)
+tag-spec = tie.close (tie.spec (λ c κs. search needs) (λ c κs. search needs) returns)

@@ -1,16 +1,9 @@
 -- `gcm::tag_part` meets its contract: a slice from a place on is the list without what comes before (`tail-is`).
--- Assumes nothing.
-use Prim.Native.Nat.{_-_}
-use lib.ListN.{length}
+use Rattle.block.proofs.Base.{_-_, needs, length}
 use Rattle.walk.proofs.Loop.{tail-is}
-use borrow.Author.Needs.{needs}
 use Rattle.gcm.proofs.tag_part.Statement.{statement}
 use Rattle.gcm.proofs.tag_part.Tie as tie
 
-returns : tie.Need-returns
-returns c =
-    let d = c .before .args .«data» .now in
-    tail-is d (length d - 16)
-
 pub tag-part-spec : {M : Type 1} → statement M
-tag-part-spec = tie.close (tie.spec (λ c. search needs) (λ c. search needs) (λ c. search needs) (λ c. search needs) returns)
+tag-part-spec = tie.close (tie.spec (λ c. search needs) (λ c. search needs) (λ c. search needs) (λ c. search needs)
+    (λ c. let d = c .before .args .«data» .now in tail-is d (length d - 16)))

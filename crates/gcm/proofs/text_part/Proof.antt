@@ -1,12 +1,7 @@
 -- `gcm::text_part` meets its contract: a slice from 0 to a place is the list up to it.
--- Assumes nothing.
-use native.Mathlib.Nat.{sub-zero}
-use borrow.Author.Needs.{needs}
+use Rattle.block.proofs.Base.{sub-zero, needs}
 use Rattle.gcm.proofs.text_part.Statement.{statement}
 use Rattle.gcm.proofs.text_part.Tie as tie
 
-returns : tie.Need-returns
-returns c = simp sub-zero
-
 pub text-part-spec : {M : Type 1} → statement M
-text-part-spec = tie.close (tie.spec (λ c. search needs) (λ c. search needs) (λ c. search needs) (λ c. search needs) returns)
+text-part-spec = tie.close (tie.spec (λ c. search needs) (λ c. search needs) (λ c. search needs) (λ c. search needs) (λ c. simp sub-zero))

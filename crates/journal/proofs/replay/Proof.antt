@@ -1,26 +1,17 @@
 -- `replay` meets its contract. The loop's invariant: replay from here, with the report so far, ends as replay of the whole journal does,
 -- and no count passes the place. The measure is how many bytes are to come.
--- Assumes nothing.
-use mathlib.Core.Path.{_≡_, sym, ap, _∙_}
-use mathlib.Core.Bool.{false}
-use mathlib.Core.List.{List}
-use Prim.Native.Nat.{ℕ, _+_, _≤_, _<_}
-use native.Mathlib.Omega.{arith}
-use denote.Ref.{now}
-use lib.ListN.{length}
+use Rattle.block.proofs.Base.{_+_, _<_, _≤_, ℕ, _∙_, _≡_, ap, sym, false, List, arith, needs, now, length}
 use Rattle.cipher_mode.specs.declared.Sm4Cipher.{Sm4Cipher}
 use Rattle.walk.proofs.Loop.{length-tailed}
 use Rattle.journal.specs.KeyList.{keysIn, badKeys}
 use Rattle.journal.specs.Reports.{nothing, Within}
 use Rattle.journal.specs.Replay.{numberOfEnd, replayOne, replayFrom, replay}
-use Rattle.journal.specs.declared.keys.Keys.{Keys}
 use Rattle.journal.specs.declared.report.Report.{Report}
 use Rattle.journal.specs.declared.Replayed.{Replayed}
-use Rattle.journal.proofs.Standing.{size-within, data-within}
+use Rattle.journal.proofs.Standing.{stands, size-within, data-within}
 use Rattle.journal.proofs.KeyTurns.{few-keys}
 use Rattle.journal.proofs.Counting.{within-nothing}
-use Rattle.journal.proofs.Replaying.{one-stands, from-end, from-stop, turn-within, turn-from}
-use borrow.Author.Needs.{needs}
+use Rattle.journal.proofs.Replaying.{Passes, passed, from-end, from-stop, turn-within, turn-from, from-start}
 use Rattle.journal.proofs.replay.Statement.{statement}
 use Rattle.journal.proofs.replay.Tie as tie
 
@@ -34,29 +25,18 @@ Inv-loop keys journal report₀ t₀ place₀ report t place =
 abbrev μ-loop : tie.MeasureT-loop
 μ-loop keys journal report₀ t₀ place₀ report t place = length t
 
-returns : tie.Need-returns Inv-loop μ-loop
-unfolding replay
-returns c = rw (sym (c .before .bad .ensures) ∙ c .if1 .taken, c .before .before .nothing .ensures)
-
 good : (x : tie.Else1 Inv-loop μ-loop) → badKeys (x .before .before .before .before .args .keys) ≡ false
 good x = sym (x .before .bad .ensures) ∙ x .if1 .left
 
-from-start : (k : Keys) (journal : List ℕ) → badKeys k ≡ false → replayFrom (keysIn k) journal 0 nothing ≡ replay k journal
-unfolding replay
-from-start k journal e = rw e
-
 loop-holds : tie.Need-loop-holds Inv-loop μ-loop
 loop-holds c =
-    let at-nothing = c .before .before in
-    let a = at-nothing .before .before .args in (
-      few-keys (a .keys) (good c),
-      rw (at-nothing .nothing .ensures) within-nothing,
+    let n = c .before .before .nothing .ensures in
+    let a = c .before .before .before .before .args in (
+      few-keys _ (good c),
+      rw n within-nothing,
       omega arith,
-      ap {B = Replayed} (λ (r : Report). replayFrom (keysIn (a .keys)) (now (a .journal)) 0 r) (at-nothing .nothing .ensures),
+      ap {B = Replayed} (λ (r : Report). replayFrom (keysIn (a .keys)) (now (a .journal)) 0 r) n,
     )
-
-replay-one-requires : tie.Need-replay-one-requires Inv-loop μ-loop
-replay-one-requires c κs = let inv = c .before .loop .inv in (inv .0, (inv .1, omega (arith, inv .2)))
 
 -- the record in front
 module _ (x : tie.After-number Inv-loop μ-loop) where
@@ -69,78 +49,50 @@ module _ (x : tie.After-number Inv-loop μ-loop) where
   abbrev here : List ℕ
   here = now (at-loop .loop .t)
 
-  abbrev one : Replayed
-  one = replayOne ks here (at-loop .loop .place) (at-loop .loop .report)
-
-  number-is : x .number .result ≡ numberOfEnd (one .ended)
+  number-is : x .number .result ≡ numberOfEnd (replayOne ks here (at-loop .loop .place) (at-loop .loop .report) .ended)
   number-is = x .number .ensures ∙ ap (λ (y : Replayed). numberOfEnd (y .ended)) (x .before .replay-one .ensures)
 
 returns-2 : tie.Need-returns-2 Inv-loop μ-loop
 returns-2 c =
     let x = c .before in
-    let l = at-loop x .loop in
-    let a = at-loop x .before .before .before .before .before .args in
-    x .before .replay-one .ensures
-    ∙ sym (from-stop (ks x) (here x) (l .place) (l .report) (omega arith) (λ z. c .if2 .taken (number-is x ∙ z)))
-    ∙ l .inv .3 ∙ from-start (a .keys) (now (a .journal)) (good (at-loop x .before))
+    x .before .replay-one .ensures ∙ sym (from-stop (ks x) (here x) _ _ (omega arith) (λ z. c .if2 .taken (number-is x ∙ z)))
+    ∙ at-loop x .loop .inv .3 ∙ sym (from-start _ _ (good (at-loop x .before)))
 
 -- it was counted
 module _ (c : tie.After-measure Inv-loop μ-loop) where
   abbrev numbered : tie.After-number Inv-loop μ-loop
   numbered = c .before .before .before
 
-  counted-there : numberOfEnd (one numbered .ended) ≡ 0
-  counted-there = sym (number-is numbered) ∙ c .before .before .if2 .left
+  passes : Passes (ks numbered) (here numbered)
+  passes = passed _ _ _ _ (sym (number-is numbered) ∙ c .before .before .if2 .left)
 
-  within : c .measure .result ≤ length (here numbered)
-  within =
-      let s = one-stands _ _ _ _ counted-there in
-      omega (arith, size-within (here numbered) s, c .measure .ensures)
-
-  some : 0 < c .measure .result
-  some =
-      let s = one-stands _ _ _ _ counted-there in
-      omega (arith, data-within (here numbered) s, c .measure .ensures)
-
-sub-t : tie.Need-sub-t Inv-loop μ-loop
-sub-t c = within c
-
-part-t-start : tie.Need-part-t-start Inv-loop μ-loop
-part-t-start c = within c
-
-add-place : tie.Need-add-place Inv-loop μ-loop
-add-place c = omega (arith, within (c .before), at-loop (numbered (c .before)) .loop .inv .2)
-
-loop-less : tie.Need-loop-less Inv-loop μ-loop
-loop-less c =
-    let m = c .before in
-    omega (arith, within m, some m, length-tailed (here (numbered m)) (m .measure .result))
+  size : (0 < c .measure .result) × (c .measure .result ≤ length (here numbered))
+  size =
+      let s = stands (here numbered) (passes .0) in
+      omega (arith, data-within (here numbered) s, size-within (here numbered) s, c .measure .ensures)
 
 loop-again : tie.Need-loop-again Inv-loop μ-loop
 loop-again c =
     let m = c .before in
     let x = numbered m in
     let l = at-loop x .loop in
-    let size = m .measure .ensures in
-    let answer = x .before .replay-one .ensures in (
+    let told = x .before .replay-one .ensures in (
       l .inv .0,
-      turn-within (ks x) (here x) (l .place) (l .report) _ _ size answer (counted-there m) (l .inv .1),
-      omega (arith, within m, length-tailed (here x) (m .measure .result), l .inv .2),
-      turn-from (ks x) (here x) (l .place) (l .report) _ _ size answer (counted-there m) (omega arith) ∙ l .inv .3,
+      turn-within (ks x) (here x) (l .place) (l .report) _ _ (m .measure .ensures) told (passes m) (l .inv .1),
+      omega (arith, size m, length-tailed (here x) (m .measure .result), l .inv .2),
+      turn-from (ks x) (here x) (l .place) (l .report) _ _ (m .measure .ensures) told (passes m) ∙ l .inv .3,
     )
 
 returns-3 : tie.Need-returns-3 Inv-loop μ-loop
 returns-3 c =
     let l = c .before .loop in
-    let else1 = c .before .before in
-    let a = else1 .before .before .before .before .args in
-    sym (from-end (keysIn (a .keys)) (now (l .t)) (l .place) (l .report) (omega arith))
-    ∙ l .inv .3 ∙ from-start (a .keys) (now (a .journal)) (good else1)
+    sym (from-end _ (now (l .t)) (l .place) (l .report) (omega arith)) ∙ l .inv .3 ∙ sym (from-start _ _ (good (c .before .before)))
 
 pub replay-spec : {M : Type 1} → statement M
 replay-spec =
-    tie.close
-    (tie.spec
-    Inv-loop μ-loop (λ c κs. search needs) (λ c κs. search needs) returns loop-holds replay-one-requires (λ c κs. search needs) returns-2
-    (λ c κs. search needs) sub-t part-t-start (λ c. omega arith) add-place loop-less
-    loop-again returns-3)
+    tie.close (tie.spec Inv-loop μ-loop (λ c κs. search needs) (λ c κs. search needs)
+    (λ c. unfold replay in rw (sym (c .before .bad .ensures) ∙ c .if1 .taken, c .before .before .nothing .ensures)) loop-holds
+    (λ c κs. let inv = c .before .loop .inv in (inv .0, (inv .1, omega (arith, inv .2)))) (λ c κs. search needs) returns-2
+    (λ c κs. search needs) (λ c. size c .1) (λ c. size c .1) (λ c. omega arith)
+    (λ c. omega (arith, size (c .before), at-loop (numbered (c .before)) .loop .inv .2))
+    (λ c. let m = c .before in omega (arith, size m, length-tailed (here (numbered m)) (m .measure .result))) loop-again returns-3)

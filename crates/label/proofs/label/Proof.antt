@@ -1,9 +1,8 @@
 -- `label` meets its contract. `split` gives the four bytes of the job, and four of the edition, of which the last two
 -- are its own.
--- Assumes nothing.
 use Rattle.block.specs.BigEndian.{bytesOf}
 use Rattle.label.specs.Label.{labelOf}
-use borrow.Author.Needs.{needs}
+use Rattle.block.proofs.Base.{needs}
 use Rattle.label.proofs.label.Statement.{statement}
 use Rattle.label.proofs.label.Tie as tie
 

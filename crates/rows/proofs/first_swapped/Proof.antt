@@ -1,14 +1,8 @@
 -- `rows::first_swapped` meets its contract, which says what it computes.
--- Assumes nothing.
-use mathlib.Core.Path.{refl}
 use Rattle.lanes.specs.Swaps.{firstSwapped}
-use borrow.Author.Needs.{needs}
+use Rattle.block.proofs.Base.{needs}
 use Rattle.rows.proofs.first_swapped.Statement.{statement}
 use Rattle.rows.proofs.first_swapped.Tie as tie
 
-returns : tie.Need-returns
-unfolding firstSwapped
-returns c = refl
-
 pub first-swapped-spec : {M : Type 1} → statement M
-first-swapped-spec = tie.close (tie.spec (λ c. search needs) (λ c. search needs) returns)
+first-swapped-spec = tie.close (tie.spec (λ c. search needs) (λ c. search needs) (λ c. unfold firstSwapped in search needs))

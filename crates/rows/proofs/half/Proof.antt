@@ -1,13 +1,8 @@
 -- `rows::half` meets its contract: two words side by side have no bit in common (`shl-or`).
--- Assumes nothing.
-use borrow.Author.Needs.{needs}
-use native.Mathlib.Omega.{arith}
+use Rattle.block.proofs.Base.{needs}
 use Rattle.block.proofs.Shift.{shl-or}
 use Rattle.rows.proofs.half.Statement.{statement}
 use Rattle.rows.proofs.half.Tie as tie
 
-returns : tie.Need-returns
-returns c = shl-or 64 32 32 (c .args .high) (c .args .low) (omega arith) (search needs) (search needs)
-
 pub half-spec : {M : Type 1} → statement M
-half-spec = tie.close (tie.spec returns)
+half-spec = tie.close (tie.spec (λ c. search (needs, shl-or)))

@@ -1,21 +1,18 @@
 -- `rows::put` meets its contract: what is stored at the block's place are the halves of its words, and no other block has that place
 -- (`one-more-row`).
--- Assumes nothing.
-use borrow.Author.Needs.{needs}
-use mathlib.Core.Path.{_≡_, subst⁻¹}
-use mathlib.Core.List.{List}
-use Prim.Native.Nat.{ℕ, _^_}
-use mir.Val.{Fits}
-use mir.Syntax.{w32}
-use lib.ListN.{length, getD}
+use Rattle.block.proofs.Base.{ℕ, _≡_, needs, getD, length, w32, Fits}
 use Rattle.block.proofs.Entries.{below-each}
-use Rattle.rows.specs.Rows.{Row}
 use Rattle.rows.proofs.Standing.{one-more-row}
 use Rattle.rows.proofs.put.Statement.{statement}
 use Rattle.rows.proofs.put.Tie as tie
 
-returns : tie.Need-returns
-returns c =
+pub put-spec : {M : Type 1} → statement M
+put-spec =
+    tie.close
+    (tie.spec
+    (λ c κs. search needs) (λ c. search needs) (λ c. search needs) (λ c κs. search needs) (λ c. search needs) (λ c. search needs)
+    (λ c. search needs) (λ c. search needs) (λ c κs. search needs) (λ c. search needs) (λ c. search needs)
+    (λ c.
     let S = c .before .before .before in
     let a = S .args in
     let x = a .t4 in
@@ -23,17 +20,7 @@ returns c =
     let n : length x ≡ 4 = search needs in
     let p = c .before .before .place-of in (
       λ f R e.
-          one-more-row f (a .a .now) (a .b .now) (a .i) (p .result) (c .before .half .result) (c .half2 .result) (S .pre .0) (p .ensures)
-          R
-          (subst⁻¹ (λ (y : List ℕ). Row y (c .before .half .result) (c .half2 .result)) e
-          (record { four = n; small = below-each (2 ^ 32) x (λ i. w i .fits); high = c .before .half .ensures; low = c .half2 .ensures })),
+          one-more-row f (a .a .now) (a .b .now) (a .i) (p .result) _ _ (S .pre .0) (p .ensures) R
+          (rw e (record { four = n; small = below-each _ x (λ i. w i .fits); high = c .before .half .ensures; low = c .half2 .ensures })),
       search needs,
-    )
-
-pub put-spec : {M : Type 1} → statement M
-put-spec =
-    tie.close
-    (tie.spec
-    (λ c κs. search needs) (λ c. search needs) (λ c. search needs) (λ c κs. search needs) (λ c. search needs)
-    (λ c. search needs) (λ c. search needs) (λ c. search needs) (λ c κs. search needs) (λ c. search needs)
-    (λ c. search needs) returns)
+    )))

@@ -1,45 +1,16 @@
 -- `rows::put_half` meets its contract. A store keeps the length (`length-set`), so each of the eight stays inside, and eight bytes stored
 -- side by side are the half's, between what stood before and behind them (`half-stored`).
--- Assumes nothing.
-use borrow.Author.Needs.{needs}
-use native.Mathlib.Omega.{arith}
-use lib.ListN.{length-set}
+use Rattle.block.proofs.Base.{arith, needs, length-set}
 use Rattle.rows.proofs.Storing.{half-stored}
 use Rattle.rows.proofs.put_half.Statement.{statement}
 use Rattle.rows.proofs.put_half.Tie as tie
-
-slice-write-out-2 : tie.Need-slice-write-out-2
-slice-write-out-2 c = simp length-set (omega arith)
-
-slice-write-out-3 : tie.Need-slice-write-out-3
-slice-write-out-3 c = simp length-set (omega arith)
-
-slice-write-out-4 : tie.Need-slice-write-out-4
-slice-write-out-4 c = simp length-set (omega arith)
-
-slice-write-out-5 : tie.Need-slice-write-out-5
-slice-write-out-5 c = simp length-set (omega arith)
-
-slice-write-out-6 : tie.Need-slice-write-out-6
-slice-write-out-6 c = simp length-set (omega arith)
-
-slice-write-out-7 : tie.Need-slice-write-out-7
-slice-write-out-7 c = simp length-set (omega arith)
-
-slice-write-out-8 : tie.Need-slice-write-out-8
-slice-write-out-8 c = simp length-set (omega arith)
-
-same-length : tie.Need-same-length
-same-length c = simp length-set
-
-returns : tie.Need-returns
-returns c = half-stored (c .args .out .now) (c .args .at) (c .args .x) (c .pre)
 
 pub put-half-spec : {M : Type 1} → statement M
 put-half-spec =
     tie.close
     (tie.spec
-    (λ c. search needs) (λ c. search needs) (λ c. search needs) (λ c. search needs) slice-write-out-2 (λ c. search needs)
-    (λ c. search needs) slice-write-out-3 (λ c. search needs) (λ c. search needs) slice-write-out-4 (λ c. search needs)
-    (λ c. search needs) slice-write-out-5 (λ c. search needs) (λ c. search needs) slice-write-out-6 (λ c. search needs)
-    (λ c. search needs) slice-write-out-7 (λ c. search needs) (λ c. search needs) slice-write-out-8 same-length returns)
+    (λ c. search needs) (λ c. search needs) (λ c. search needs) (λ c. search needs) (λ c. simp length-set (omega arith))
+    (λ c. search needs) (λ c. search needs) (λ c. simp length-set (omega arith)) (λ c. search needs) (λ c. search needs)
+    (λ c. simp length-set (omega arith)) (λ c. search needs) (λ c. search needs) (λ c. simp length-set (omega arith)) (λ c. search needs)
+    (λ c. search needs) (λ c. simp length-set (omega arith)) (λ c. search needs) (λ c. search needs) (λ c. simp length-set (omega arith))
+    (λ c. search needs) (λ c. search needs) (λ c. simp length-set (omega arith)) (λ c. simp length-set) (λ c. search (needs, half-stored)))

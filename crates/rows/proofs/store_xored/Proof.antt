@@ -1,15 +1,7 @@
 -- `rows::store_xored` meets its contract. The loop's invariant: the first i blocks are stored, and behind them stands what stood there.
 -- A turn stores the two halves of one block more, each xored with its half of the other block.
--- Assumes nothing.
-use borrow.Author.Needs.{needs}
-use mathlib.Core.Path.{_≡_, refl, ap, subst, _∙_}
-use mathlib.Core.List.{List, _++_}
-use Prim.Native.Nat.{ℕ, _≤_, _+_, _*_, _-_, _^_}
-use native.Mathlib.Omega.{arith}
-use mir.Val.{Fits}
-use mir.Syntax.{w8, w32}
-use lib.ListN.{length, getD, take, drop, length-drop}
-use lib.Seq.{take-all}
+use Rattle.block.proofs.Base.{_*_, _-_, _^_, _≤_, ℕ, _∙_, _≡_, ap, _++_, arith, needs, drop, getD, length, length-drop, take, take-all, w32}
+use Rattle.block.proofs.Base.{w8, Fits}
 use Rattle.block.specs.BigEndian.{bytesOf}
 use Rattle.block.specs.Blocks.{cat}
 use Rattle.block.specs.Words.{words}
@@ -21,18 +13,17 @@ use Rattle.rows.proofs.Storing.{xoredRow, length-xoredRow, xored-halves
 use Rattle.rows.proofs.store_xored.Statement.{statement}
 use Rattle.rows.proofs.store_xored.Tie as tie
 
-abbrev Inv-loop : tie.InvT-loop
-Inv-loop a b m d out₀ i₀ out i = (i ≤ m) × (length out ≡ length out₀) × (out ≡ cat i (xoredRow a b d) ++ drop (16 * i) out₀)
-
-abbrev μ-loop : tie.MeasureT-loop
-μ-loop a b m d out₀ i₀ out i = m - i
-
-loop-holds : tie.Need-loop-holds Inv-loop μ-loop
-unfolding cat
-loop-holds c = (search needs, refl, refl)
-
-loop-again : tie.Need-loop-again Inv-loop μ-loop
-loop-again c =
+pub store-xored-spec : {M : Type 1} → statement M
+store-xored-spec =
+    tie.close
+    (tie.spec
+    (λ a b m d out₀ i₀ out i. (i ≤ m) × (length out ≡ length out₀) × (out ≡ cat i (xoredRow a b d) ++ drop (16 * i) out₀))
+    (λ a b m d out₀ i₀ out i. m - i) (λ c. unfold cat in search needs) (λ c. search needs) (λ c. search needs) (λ c. search needs)
+    (λ c. search needs) (λ c κs. search needs) (λ c κs. search needs) (λ c. search needs) (λ c. search needs) (λ c. search needs)
+    (λ c κs. search needs) (λ c. search needs) (λ c. search needs) (λ c κs. search needs) (λ c. search needs) (λ c. search needs)
+    (λ c. search needs) (λ c. search needs) (λ c κs. search needs) (λ c. search needs) (λ c. search needs) (λ c κs. search needs)
+    (λ c. search needs) (λ c. search needs)
+    (λ c.
     let at-second = c .before .before in
     let at-first = at-second .before .before .before .before .before .before in
     let at-place = at-first .before .before .before .before in
@@ -50,13 +41,12 @@ loop-again c =
     let known : (i : ℕ) → Fits w8 (getD from i 0) = λ i. at-loop .before .before .shared-slice-known .given i in
     let w : (i : ℕ) → Fits w32 (getD x i 0) = λ i. search needs in
     let e : x ≡ words d = at-split .split-block .ensures ∙ ap words (take-all (length from - 16 * l .i) d (omega arith)) in
-    let r : Row (words d) (high .result) (low .result) =
-    subst (λ (y : List ℕ). Row y (high .result) (low .result)) e
-    (record { four = search needs; small = below-each (2 ^ 32) x (λ i. w i .fits); high = high .ensures; low = low .ensures }) in
+    let r : Row x (high .result) (low .result) =
+    record { four = search needs; small = below-each (2 ^ 32) x (λ i. w i .fits); high = high .ensures; low = low .ensures } in
     let u : ℕ → ℕ = λ q. getD (a .a .now) q 0 in
     let v : ℕ → ℕ = λ q. getD (a .b .now) q 0 in
     let xored =
-    xored-halves d (high .result) (low .result) (u (p .result)) (v (p .result)) r (omega arith)
+    xored-halves d (high .result) (low .result) (u (p .result)) (v (p .result)) (rw e at r) (omega arith)
     (below-drop 256 (16 * l .i) from (below-each 256 from (λ i. known i .fits)))
     ∙ ap (λ (q : ℕ). xors (take 16 d) (bytesOf 8 (u q) ++ bytesOf 8 (v q))) (p .ensures) in (
       omega arith,
@@ -66,25 +56,13 @@ loop-again c =
           (l .i)
           (λ i h. length-xoredRow from (a .m) (at-loop .before .before .before .pre .0 .1) (a .a .now) (a .b .now) i (omega arith))
           (length-bytesOf 8 _) xored (l .inv .2) (at-first .put-half .ensures) (at-second .put-half2 .ensures),
-    )
-
-returns : tie.Need-returns Inv-loop μ-loop
-returns c =
+    ))
+    (λ c. search needs)
+    (λ c.
     let l = c .before .loop in
     let S = c .before .before .before .before in
     let a = S .args in
     let e : l .i ≡ a .m = omega arith in
     λ f R.
     all-stored (a .with .now) (a .m) (S .pre .0 .1) (a .a .now) (a .b .now) (a .out .now) (l .out) f R
-    (subst (λ (j : ℕ). l .out ≡ cat j (xoredRow (a .a .now) (a .b .now) (a .with .now)) ++ drop (16 * j) (a .out .now)) e (l .inv .2))
-
-pub store-xored-spec : {M : Type 1} → statement M
-store-xored-spec =
-    tie.close
-    (tie.spec
-    Inv-loop μ-loop loop-holds (λ c. search needs) (λ c. search needs) (λ c. search needs) (λ c. search needs)
-    (λ c κs. search needs) (λ c κs. search needs) (λ c. search needs) (λ c. search needs) (λ c. search needs)
-    (λ c κs. search needs) (λ c. search needs) (λ c. search needs) (λ c κs. search needs) (λ c. search needs)
-    (λ c. search needs) (λ c. search needs) (λ c. search needs) (λ c κs. search needs) (λ c. search needs)
-    (λ c. search needs) (λ c κs. search needs) (λ c. search needs) (λ c. search needs) loop-again (λ c. search needs)
-    returns)
+    (rw e at (l .inv .2))))

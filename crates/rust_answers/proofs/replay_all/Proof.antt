@@ -1,6 +1,5 @@
 -- `rust_answers::replay_all` is safe and ends. The loop's invariant: no more records were seen than the list says it has, so that
 -- the count does not wrap. The measure is the number of records left.
--- Assumes nothing.
 use Prim.Native.Nat.{_≤_, _-_}
 use borrow.Author.Needs.{needs}
 use Rattle.rust_answers.proofs.replay_all.Statement.{statement}

@@ -1,6 +1,5 @@
 -- `rust_answers::untouched` is safe and ends. The loop's test keeps each read inside, so that the invariant has nothing to say.
 -- The measure is what is left of `out`.
--- Assumes nothing.
 use Prim.Native.Nat.{_-_}
 use borrow.Author.Needs.{needs}
 use lib.ListN.{length}

@@ -1,14 +1,6 @@
 -- `shelf::part` meets its contract. The start is tested before the difference is taken, and the two tests are the definition's one.
--- Assumes nothing.
-use mathlib.Core.Path.{_≡_}
-use mathlib.Core.List.{List, []}
-use Prim.Native.Nat.{ℕ, _+_, _-_, _≤_, _<_}
-use native.Mathlib.Omega.{arith}
-use denote.Ref.{now}
-use lib.ListN.{length, take, drop}
-use borrow.Author.Tests.{lt-ltb, le-ltb}
+use Rattle.block.proofs.Base.{_+_, _-_, _<_, _≤_, ℕ, _≡_, List, [], arith, needs, le-ltb, lt-ltb, now, drop, length, take}
 use Rattle.shelf.specs.Calls.{Place, placeIn, partOf}
-use borrow.Author.Needs.{needs}
 use Rattle.shelf.proofs.part.Statement.{statement}
 use Rattle.shelf.proofs.part.Tie as tie
 
@@ -24,25 +16,11 @@ module _ (p : Place) (shelf : List ℕ) where
       let same : p .start + p .size - p .start ≡ p .size = omega arith in
       rw (same, le-ltb _ _ within)
 
-returns : tie.Need-returns
-returns c =
-    let a = c .before .before .args in
-    outside (placeIn (a .found)) (now (a .shelf)) (omega arith)
-
-returns-2 : tie.Need-returns-2
-returns-2 c =
-    let a = c .before .before .before .args in
-    outside (placeIn (a .found)) (now (a .shelf)) (omega arith)
-
-returns-3 : tie.Need-returns-3
-returns-3 c =
-    let a = c .before .before .before .args in
-    inside (placeIn (a .found)) (now (a .shelf)) (omega arith)
-
 pub part-spec : {M : Type 1} → statement M
 part-spec =
-    tie.close
-    (tie.spec
-    (λ c. search needs) (λ c. search needs) (λ c. search needs) returns (λ c. search needs) (λ c. search needs)
-    (λ c. search needs) (λ c. search needs) returns-2 (λ c. search needs) (λ c. search needs) (λ c. search needs)
-    (λ c. search needs) returns-3)
+    tie.close (tie.spec (λ c. search needs) (λ c. search needs) (λ c. search needs)
+    (λ c. let a = c .before .before .args in outside (placeIn (a .found)) (now (a .shelf)) (omega arith)) (λ c. search needs)
+    (λ c. search needs) (λ c. search needs) (λ c. search needs)
+    (λ c. let a = c .before .before .before .args in outside (placeIn (a .found)) (now (a .shelf)) (omega arith)) (λ c. search needs)
+    (λ c. search needs) (λ c. search needs) (λ c. search needs)
+    (λ c. let a = c .before .before .before .args in inside (placeIn (a .found)) (now (a .shelf)) (omega arith)))

@@ -1,29 +1,16 @@
 -- `shelf::put` meets its contract: each refusal is the definition's, and where none is left, room is made and the record written there.
--- Assumes nothing.
-use mathlib.Core.Path.{_≡_, refl, sym, ap, _∙_}
-use mathlib.Core.Bool.{true, false}
-use mathlib.Core.List.{List}
-use Prim.Native.Nat.{ℕ, _+_, _-_, _≤_}
-use native.Mathlib.Omega.{arith}
-use denote.Ref.{now}
-use lib.Dec.{ltb}
-use lib.ListN.{length, take, drop, length-append, length-drop}
-use borrow.Author.Tests.{ltb-false}
+use Rattle.block.proofs.Base.{_+_, _≤_, ℕ, _∙_, _≡_, ap, refl, sym, false, true, List, sub-zero, arith, needs, ltb-false, now, ltb, drop}
+use Rattle.block.proofs.Base.{length, length-append, length-drop, take}
 use Rattle.walk.specs.Walk.{over}
 use Rattle.walk.proofs.Loop.{length-tailed, over-behind}
 use Rattle.shelf.specs.Records.{written, stored, records}
 use Rattle.shelf.specs.Shelf.{those, collected, notHigher, badShelf}
 use Rattle.shelf.specs.Steps.{stays, roomMade, InOrder}
-use Rattle.shelf.specs.Calls.{newRecord, putIn}
+use Rattle.shelf.specs.Calls.{newRecord, putIn, putCall}
 use Rattle.shelf.proofs.Sound.{in-order}
 use Rattle.shelf.proofs.Putting.{length-current, stored-made, length-made, enough}
-use Rattle.shelf.proofs.Outcomes.{put-bad, put-not-higher, put-no-room, put-done}
-use borrow.Author.Needs.{needs}
 use Rattle.shelf.proofs.put.Statement.{statement}
 use Rattle.shelf.proofs.put.Tie as tie
-
-returns : tie.Need-returns
-returns c = put-bad _ _ _ _ _ (sym (c .before .bad .ensures) ∙ c .if1 .taken)
 
 good : (x : tie.Else1) → let a = x .before .before .before .before .before .args in badShelf (now (a .shelf)) (a .used) ≡ false
 good x = sym (x .before .bad .ensures) ∙ x .if1 .left
@@ -35,18 +22,7 @@ order x = in-order _ _ (good x)
 higher : (x : tie.After-not-higher)
     → let a = x .before .before .before .before .before .before .before .before .args in
     x .not-higher .result ≡ notHigher (a .job) (a .edition) (records (take (a .used) (now (a .shelf))))
-higher x =
-    let a = x .before .before .before .before .before .before .before .before .args in
-    let whole : a .used - 0 ≡ a .used = omega arith in
-    x .not-higher .ensures ∙ ap (λ (k : ℕ). notHigher (a .job) (a .edition) (records (take k (now (a .shelf))))) whole
-
-returns-2 : tie.Need-returns-2
-returns-2 c = put-not-higher _ _ _ _ _ (good (c .before .before .before .before)) (sym (higher (c .before)) ∙ c .if2 .taken)
-
-is-higher : (x : tie.Else2)
-    → let a = x .before .before .before .before .before .before .before .before .before .args in
-    notHigher (a .job) (a .edition) (records (take (a .used) (now (a .shelf)))) ≡ false
-is-higher x = sym (higher (x .before)) ∙ x .if2 .left
+higher x = x .not-higher .ensures ∙ rw sub-zero
 
 -- whether there is no room, for all that is current after the put
 no-room : (x : tie.After-short)
@@ -58,16 +34,11 @@ no-room x =
     let a = at-kept .before .before .before .before .before .before .before .before .before .before .before .before .args in
     let s = now (a .shelf) in
     let n = length (now (a .sealed)) in
-    let whole : a .used - 0 ≡ a .used = omega arith in
-    let kept = at-kept .kept-size .ensures ∙ ap (λ (k : ℕ). length (stored (those (stays true (a .job)) (records (take k s))))) whole in
+    let kept : at-kept .kept-size .result ≡ length (stored (those (stays true (a .job)) (records (take (a .used) s)))) =
+    at-kept .kept-size .ensures ∙ rw sub-zero in
     x .short .ensures
     ∙ ap (λ (k : ℕ). ltb (length s) (k + (12 + n))) kept
     ∙ ap (ltb (length s)) (length-current (newRecord (a .job) (a .edition) (now (a .sealed))) (records (take (a .used) s)) refl)
-
-returns-3 : tie.Need-returns-3
-returns-3 c =
-    let at-else2 = c .before .before .before .before .before in
-    put-no-room _ _ _ _ _ (good (at-else2 .before .before .before .before)) (is-higher at-else2) (sym (no-room (c .before)) ∙ c .if3 .taken)
 
 -- the new record finds room
 room : (x : tie.After-make-room)
@@ -91,23 +62,8 @@ room x =
     let l = ap length (x .make-room .ensures .1) ∙ length-append made (drop (length made) s) in
     (omega (arith, inside, at), omega (arith, inside, d, l), order at-else1 .size)
 
-sub-write : tie.Need-sub-write
-sub-write c = let r = room (c .before .before) in omega arith
-
-part-write-start : tie.Need-part-write-start
-part-write-start c = let r = room (c .before .before) in omega arith
-
-write-requires : tie.Need-write-requires
-write-requires c κs =
-    let at-room = c .before .before .before in
-    let r = room at-room in
-    let l = length-tailed (at-room .make-room .last .0) (at-room .make-room .result) in
-    (omega arith, omega arith)
-
-add-t31 : tie.Need-add-t31
-add-t31 c = let r = room (c .before .before .before .before .before .before) in omega arith
-
 returns-4 : tie.Need-returns-4
+unfolding putCall
 returns-4 c =
     let at-write = c .before .before in
     let at-room = at-write .before .before .before .before in
@@ -120,20 +76,28 @@ returns-4 c =
     let rs = records (take (a .used) s) in
     let at = at-room .make-room .ensures .0 in
     let made = stored (roomMade (length s) (length (now (a .sealed))) (a .job) rs) in
-    put-done s (a .used) (a .job) (a .edition) (now (a .sealed)) (good at-else1) (is-higher at-else2)
-    (sym (no-room (at-else3 .before)) ∙ at-else3 .if3 .left) _ _
-    (ap (λ (k : ℕ). k + (12 + length (now (a .sealed)))) at ∙ sym (length-made new rs (length s) refl))
-    (over-behind made (written new) s (at-room .make-room .last .0) _ (at-room .make-room .result) (sym at) (at-room .make-room .ensures .1)
+    let used = ap (λ (k : ℕ). k + (12 + length (now (a .sealed)))) at ∙ sym (length-made new rs (length s) refl) in
+    let bytes =
+    over-behind made (written new) s (at-room .make-room .last .0) _ (at-room .make-room .result) (sym at) (at-room .make-room .ensures .1)
     (at-write .write .ensures)
-    ∙ ap (λ (x : List ℕ). over x s) (sym (stored-made new rs (length s) refl)))
+    ∙ ap (λ (x : List ℕ). over x s) (sym (stored-made new rs (length s) refl)) in
+    rw (good at-else1, sym (higher (at-else2 .before)) ∙ at-else2 .if2 .left, sym (no-room (at-else3 .before)) ∙ at-else3 .if3 .left, used, bytes)
 
 pub put-spec : {M : Type 1} → statement M
 put-spec =
-    tie.close
-    (tie.spec
-    (λ c κs. search needs) (λ c. search needs) returns (λ c. search needs) (λ c. search needs)
-    (λ c. omega (arith, order (c .before) .within)) (λ c κs. search needs) (λ c. search needs) returns-2 (λ c. search needs)
+    tie.close (tie.spec (λ c κs. search needs) (λ c. search needs)
+    (λ c. unfold putCall in rw (sym (c .before .bad .ensures) ∙ c .if1 .taken)) (λ c. search needs) (λ c. search needs)
+    (λ c. omega (arith, order (c .before) .within)) (λ c κs. search needs) (λ c. search needs)
+    (λ c. unfold putCall in rw (good (c .before .before .before .before), sym (higher (c .before)) ∙ c .if2 .taken)) (λ c. search needs)
     (λ c. search needs) (λ c. omega (arith, order (c .before .before .before .before .before) .within)) (λ c κs. search needs)
-    (λ c κs. search needs) (λ c. search needs) returns-3
-    (λ c κs. order (c .before .before .before .before .before .before .before .before .before .before)) sub-write part-write-start
-    (λ c. search needs) write-requires (λ c. search needs) add-t31 (λ c. search needs) returns-4)
+    (λ c κs. search needs) (λ c. search needs)
+    (λ c.
+    let e = c .before .before .before .before .before in
+    unfold putCall in
+    rw (good (e .before .before .before .before), sym (higher (e .before)) ∙ e .if2 .left, sym (no-room (c .before)) ∙ c .if3 .taken))
+    (λ c κs. order (c .before .before .before .before .before .before .before .before .before .before))
+    (λ c. omega (arith, room (c .before .before))) (λ c. omega (arith, room (c .before .before))) (λ c. search needs)
+    (λ c κs.
+    let x = c .before .before .before in
+    omega (arith, room x, length-tailed (x .make-room .last .0) (x .make-room .result)))
+    (λ c. search needs) (λ c. omega (arith, room (c .before .before .before .before .before .before))) (λ c. search needs) returns-4)

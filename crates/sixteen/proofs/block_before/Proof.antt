@@ -1,16 +1,9 @@
 -- `sixteen::block_before` meets its contract: of IV and data together it is the block that ends where place `at` of the data begins.
--- Assumes nothing.
-use mathlib.Core.Path.{_≡_, sym}
-use Prim.Native.Nat.{ℕ, _<_}
-use native.Mathlib.Omega.{arith}
-use denote.Ref.{now}
-use lib.ListN.{getD}
-use lib.Seq.{take-at}
+use Rattle.block.proofs.Base.{_<_, ℕ, _≡_, sym, arith, needs, now, getD, take-at}
 use Rattle.block.specs.Words.{unwords}
 use Rattle.block.proofs.Entries.{below-each}
 use Rattle.block.proofs.WordsBack.{length-unwords}
 use Rattle.sixteen.proofs.Before.{before-words}
-use borrow.Author.Needs.{needs}
 use Rattle.sixteen.proofs.block_before.Statement.{statement}
 use Rattle.sixteen.proofs.block_before.Tie as tie
 
@@ -32,8 +25,5 @@ returns-2 c =
     (omega arith) (S .pre .0) (c .split-block .ensures)
 
 pub block-before-spec : {M : Type 1} → statement M
-block-before-spec =
-    tie.close
-    (tie.spec
-    returns (λ c. search needs) (λ c. search needs) (λ c. search needs) (λ c. search needs) (λ c κs. search needs)
-    returns-2)
+block-before-spec = tie.close (tie.spec returns (λ c. search needs) (λ c. search needs) (λ c. search needs) (λ c. search needs)
+    (λ c κs. search needs) returns-2)

@@ -1,11 +1,5 @@
 -- `sixteen::encrypt` meets its contract: the words that are loaded are those of the blocks, those that are stored their ciphers.
--- Assumes nothing.
-use borrow.Author.Needs.{needs}
-use mathlib.Core.Path.{_≡_, refl, ap, _∙_}
-use mathlib.Core.List.{List}
-use native.Mathlib.Omega.{arith}
-use native.Mathlib.Nat.{lt-of-lt-of-le}
-use denote.Ref.{now}
+use Rattle.block.proofs.Base.{_∙_, ap, refl, List, lt-of-lt-of-le, arith, needs, now}
 use Rattle.block.specs.Blocks.{cat}
 use Rattle.block.specs.Words.{unwords}
 use Rattle.block.proofs.Cat.{cat-same}
@@ -34,16 +28,10 @@ returns-2 c =
     let at-fours = at-rounds .before .before .before in
     let at-load = at-fours .before in
     let a = at-load .before .before .before .before .before .args in
-    at-store .store .ensures
-    ∙ ap (λ (l : List _). over l (now (a .out)))
-    (cat-same (a .m) _ _
-    (λ j h.
-    ap unwords
-    (at-rounds .all-rounds .ensures .0 j (lt-of-lt-of-le h (at-fours .whole-fours .ensures .0))
+    at-store .store .ensures ∙ ap (λ (l : List _). over l (now (a .out))) (cat-same (a .m) _ _
+    (λ j h. ap unwords (at-rounds .all-rounds .ensures .0 j (lt-of-lt-of-le h (at-fours .whole-fours .ensures .0))
     ∙ ap (encryptWords (a .rk)) (at-load .load .ensures .0 j h))))
 
 pub encrypt-spec : {M : Type 1} → statement M
-encrypt-spec =
-    tie.close
-    (tie.spec
-    returns (λ c κs. search needs) (λ c κs. search needs) (λ c κs. search needs) all-rounds-requires (λ c κs. search needs) (λ c. search needs) returns-2)
+encrypt-spec = tie.close (tie.spec returns (λ c κs. search needs) (λ c κs. search needs) (λ c κs. search needs) all-rounds-requires
+    (λ c κs. search needs) (λ c. search needs) returns-2)

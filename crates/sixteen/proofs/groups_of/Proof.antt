@@ -1,13 +1,6 @@
 -- `sixteen::groups_of` meets its contract: the table's rules are one computed test each.
--- Assumes nothing.
-use mathlib.Core.Path.{_≡_}
-use mathlib.Core.List.{List, [], _∷_}
-use Prim.Native.Nat.{ℕ, _+_, _/_, _≤_}
-use native.Mathlib.Omega.{arith}
-use lib.Dec.{leb, leb→le}
-use lib.ListN.{getD}
+use Rattle.block.proofs.Base.{_+_, _/_, _≤_, ℕ, List, [], _∷_, arith, needs, leb, leb→le, getD}
 use Rattle.block.proofs.Table.{rule-at}
-use borrow.Author.Needs.{needs}
 use Rattle.sixteen.proofs.groups_of.Statement.{statement}
 use Rattle.sixteen.proofs.groups_of.Tie as tie
 

@@ -1,11 +1,5 @@
 -- `sixteen::load` meets its contract. The loop's invariant: the first i blocks stand in the rows.
--- Assumes nothing.
-use borrow.Author.Needs.{needs}
-use mathlib.Core.Path.{_≡_, sym, ap, _∙_}
-use Prim.Native.Nat.{ℕ, _≤_, _*_, _-_}
-use native.Mathlib.Omega.{arith}
-use lib.ListN.{length, take, drop, length-drop}
-use lib.Seq.{take-all}
+use Rattle.block.proofs.Base.{_*_, _-_, _≤_, _∙_, _≡_, ap, sym, arith, needs, drop, length, length-drop, take, take-all}
 use Rattle.block.specs.Blocks.{blockAt}
 use Rattle.block.specs.Words.{words}
 use Rattle.block.proofs.WordsBack.{words-take}
@@ -19,9 +13,6 @@ Inv-loop src m x₀ i₀ x i = (i ≤ m) × Held i (λ k. words (blockAt src k))
 abbrev μ-loop : tie.MeasureT-loop
 μ-loop src m x₀ i₀ x i = m - i
 
-loop-holds : tie.Need-loop-holds Inv-loop μ-loop
-loop-holds c = (search needs, λ j h. absurd (omega arith), c .before .pre .1)
-
 loop-again : tie.Need-loop-again Inv-loop μ-loop
 loop-again c =
     let at-loop = c .before .before .before .before .before in
@@ -33,11 +24,7 @@ loop-again c =
     c .before .split-block .ensures ∙ ap words (take-all (length src - 16 * l .i) d k) ∙ sym (words-take d) in
     (omega arith, c .put .ensures .0 (λ j. words (blockAt src j)) (l .inv .1) (sym e), c .put .ensures .1)
 
-returns : tie.Need-returns Inv-loop μ-loop
-returns c = let l = c .before .loop in (λ j h. l .inv .1 j (omega arith), l .inv .2)
-
 pub load-spec : {M : Type 1} → statement M
-load-spec =
-    tie.close
-    (tie.spec
-    Inv-loop μ-loop loop-holds (λ c. search needs) (λ c. search needs) (λ c. search needs) (λ c. search needs) (λ c κs. search needs) (λ c κs. search needs) (λ c. search needs) (λ c. search needs) loop-again returns)
+load-spec = tie.close (tie.spec Inv-loop μ-loop (λ c. (search needs, λ j h. absurd (omega arith), c .before .pre .1)) (λ c. search needs)
+    (λ c. search needs) (λ c. search needs) (λ c. search needs) (λ c κs. search needs) (λ c κs. search needs) (λ c. search needs)
+    (λ c. search needs) loop-again (λ c. let l = c .before .loop in (λ j h. l .inv .1 j (omega arith), l .inv .2)))

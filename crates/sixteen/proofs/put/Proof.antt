@@ -1,8 +1,5 @@
 -- `sixteen::put` meets its contract: one block more stands in its place (`held-next`).
--- Assumes nothing.
-use borrow.Author.Needs.{needs}
-use mathlib.Core.Path.{_≡_}
-use lib.ListN.{length}
+use Rattle.block.proofs.Base.{_≡_, needs, length}
 use Rattle.sixteen.proofs.Blocks.{held-next}
 use Rattle.sixteen.proofs.put.Statement.{statement}
 use Rattle.sixteen.proofs.put.Tie as tie
@@ -14,7 +11,6 @@ returns c =
     (λ f H e. held-next f (a .i) (a .t3) (a .x .now) (c .pre .0) (c .pre .1) n e H, search needs)
 
 pub put-spec : {M : Type 1} → statement M
-put-spec =
-    tie.close
-    (tie.spec
-    (λ c. search needs) (λ c. search needs) (λ c. search needs) (λ c. search needs) (λ c. search needs) (λ c. search needs) (λ c. search needs) (λ c. search needs) (λ c. search needs) (λ c. search needs) (λ c. search needs) (λ c. search needs) (λ c. search needs) (λ c. search needs) (λ c. search needs) returns)
+put-spec = tie.close (tie.spec (λ c. search needs) (λ c. search needs) (λ c. search needs) (λ c. search needs) (λ c. search needs)
+    (λ c. search needs) (λ c. search needs) (λ c. search needs) (λ c. search needs) (λ c. search needs) (λ c. search needs)
+    (λ c. search needs) (λ c. search needs) (λ c. search needs) (λ c. search needs) returns)

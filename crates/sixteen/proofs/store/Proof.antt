@@ -1,10 +1,5 @@
 -- `sixteen::store` meets its contract. The loop's invariant: the first i blocks are stored, and behind them stands what stood there.
--- Assumes nothing.
-use mathlib.Core.Path.{_≡_, refl, ap, subst, _∙_}
-use mathlib.Core.List.{List, _++_}
-use Prim.Native.Nat.{ℕ, _≤_, _*_, _-_}
-use native.Mathlib.Omega.{arith}
-use lib.ListN.{length, take, drop}
+use Rattle.block.proofs.Base.{_*_, _-_, _≤_, ℕ, _∙_, _≡_, ap, refl, List, _++_, arith, needs, drop, length, take}
 use Rattle.block.specs.Blocks.{cat}
 use Rattle.block.specs.Words.{unwords}
 use Rattle.block.proofs.WordsBack.{length-unwords}
@@ -12,7 +7,6 @@ use Rattle.cipher.specs.Sm4.{turned}
 use Rattle.sixteen.specs.Blocks.{block}
 use Rattle.sixteen.proofs.Blocks.{block-stored}
 use Rattle.sixteen.proofs.Padded.{over-stored}
-use borrow.Author.Needs.{needs}
 use Rattle.sixteen.proofs.store.Statement.{statement}
 use Rattle.sixteen.proofs.store.Tie as tie
 
@@ -29,6 +23,8 @@ loop-holds c = (search needs, refl, refl)
 
 loop-again : tie.Need-loop-again Inv-loop μ-loop
 loop-again c =
+    let at-put-block = c .before .before in
+    let at-taken = at-put-block .before .before in
     let at-loop = c .before .before .before .before .before .before in
     let l = at-loop .loop in
     let a = at-loop .before .before .args in
@@ -36,8 +32,9 @@ loop-again c =
       omega arith,
       search needs,
       block-stored (a .out .now) (l .out) _ f (l .i) (λ k h. length-unwords (turned (block (a .x .now) 0 k))) (l .inv .2)
-          (c .before .before .put-block .ensures
-          ∙ ap (λ (x : List ℕ). unwords x ++ drop 16 (take (length (l .out) - 16 * l .i) (drop (16 * l .i) (l .out)))) (c .before .before .before .before .taken .ensures)),
+          (at-put-block .put-block .ensures
+          ∙ ap (λ (x : List ℕ). unwords x ++ drop 16 (take (length (l .out) - 16 * l .i) (drop (16 * l .i) (l .out))))
+          (at-taken .taken .ensures)),
     )
 
 returns : tie.Need-returns Inv-loop μ-loop
@@ -46,12 +43,9 @@ returns c =
     let a = c .before .before .before .args in
     let f : ℕ → List ℕ = λ k. unwords (turned (block (a .x .now) 0 k)) in
     let e : l .i ≡ a .m = omega arith in
-    over-stored (a .m) f (a .out .now) (l .out) (λ k h. length-unwords (turned (block (a .x .now) 0 k)))
-    (subst (λ (j : ℕ). l .out ≡ cat j f ++ drop (16 * j) (a .out .now)) e (l .inv .2))
+    over-stored (a .m) f (a .out .now) (l .out) (λ k h. length-unwords (turned (block (a .x .now) 0 k))) (rw e at (l .inv .2))
 
 pub store-spec : {M : Type 1} → statement M
 store-spec =
-    tie.close
-    (tie.spec
-    Inv-loop μ-loop loop-holds (λ c κs. search needs) (λ c. search needs) (λ c. search needs) (λ c. search needs)
+    tie.close (tie.spec Inv-loop μ-loop loop-holds (λ c κs. search needs) (λ c. search needs) (λ c. search needs) (λ c. search needs)
     (λ c. search needs) (λ c κs. search needs) (λ c. search needs) (λ c. search needs) loop-again (λ c. search needs) returns)

@@ -1,11 +1,5 @@
 -- `sixteen::taken` meets its contract: the four places of a block, the last one first.
--- Assumes nothing.
-use borrow.Author.Needs.{needs}
-use mathlib.Core.Path.{_≡_, ap}
-use mathlib.Core.List.{[], _∷_}
-use Prim.Native.Nat.{ℕ, _+_}
-use native.Mathlib.Omega.{arith}
-use lib.ListN.{getD}
+use Rattle.block.proofs.Base.{_+_, ℕ, _≡_, ap, [], _∷_, arith, needs, getD}
 use Rattle.sixteen.proofs.taken.Statement.{statement}
 use Rattle.sixteen.proofs.taken.Tie as tie
 
@@ -18,7 +12,5 @@ returns c =
     ap (λ (p : ℕ). getD x (192 + i) 0 ∷ getD x (128 + i) 0 ∷ getD x (64 + i) 0 ∷ getD x p 0 ∷ []) z
 
 pub taken-spec : {M : Type 1} → statement M
-taken-spec =
-    tie.close
-    (tie.spec
-    (λ c. search needs) (λ c. search needs) (λ c. search needs) (λ c. search needs) (λ c. search needs) (λ c. search needs) (λ c. search needs) (λ c. search needs) (λ c. search needs) (λ c. search needs) (λ c. search needs) returns)
+taken-spec = tie.close (tie.spec (λ c. search needs) (λ c. search needs) (λ c. search needs) (λ c. search needs) (λ c. search needs)
+    (λ c. search needs) (λ c. search needs) (λ c. search needs) (λ c. search needs) (λ c. search needs) (λ c. search needs) returns)

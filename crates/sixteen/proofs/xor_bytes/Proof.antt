@@ -1,13 +1,7 @@
 -- `sixteen::xor_bytes` meets its contract. The loop's invariant: the first i bytes are xored, and the rest of the output is as it was lent.
--- Assumes nothing.
-use mathlib.Core.Path.{_≡_, refl}
-use mathlib.Core.List.{_++_}
-use Prim.Native.Nat.{_≤_, _-_}
-use native.Mathlib.Omega.{arith}
-use lib.ListN.{length, take, drop, length-set}
+use Rattle.block.proofs.Base.{_-_, _≤_, _≡_, refl, _++_, arith, drop, length, length-set, take}
 use Rattle.block.specs.Xor.{xors}
 use Rattle.walk.proofs.Fill.{xor-turn, xor-filled}
-use borrow.Author.Needs.{needs}
 use Rattle.sixteen.proofs.xor_bytes.Statement.{statement}
 use Rattle.sixteen.proofs.xor_bytes.Tie as tie
 
@@ -17,9 +11,6 @@ Inv-loop pads d out₀ i₀ out i = (i ≤ length d) × (length out ≡ length o
 abbrev μ-loop : tie.MeasureT-loop
 μ-loop pads d out₀ i₀ out i = length d - i
 
-loop-holds : tie.Need-loop-holds Inv-loop μ-loop
-loop-holds c = (omega arith, refl, refl)
-
 loop-again : tie.Need-loop-again Inv-loop μ-loop
 loop-again c = (
   omega arith,
@@ -27,12 +18,7 @@ loop-again c = (
   xor-turn _ _ _ _ _ (c .before .before .before .loop .inv .2) (omega arith) (omega arith) (omega arith),
 )
 
-returns : tie.Need-returns Inv-loop μ-loop
-returns c = let l = c .before .loop in xor-filled _ _ _ (l .out) (l .i) (l .inv .2) (omega arith) (omega arith)
-
 pub xor-bytes-spec : {M : Type 1} → statement M
-xor-bytes-spec =
-    tie.close
-    (tie.spec
-    Inv-loop μ-loop loop-holds (λ c. omega arith) (λ c. omega arith) (λ c. omega arith) (λ c. omega arith) (λ c. omega arith)
-    loop-again (λ c. omega arith) returns)
+xor-bytes-spec = tie.close (tie.spec Inv-loop μ-loop (λ c. (omega arith, refl, refl)) (λ c. omega arith) (λ c. omega arith)
+    (λ c. omega arith) (λ c. omega arith) (λ c. omega arith) loop-again (λ c. omega arith)
+    (λ c. let l = c .before .loop in xor-filled _ _ _ (l .out) (l .i) (l .inv .2) (omega arith) (omega arith)))

@@ -1,31 +1,23 @@
 -- `sliced::all_rounds` meets its contract. The loop's invariant: what the round keys from number i on make of the blocks as they are is
 -- what all round keys make of the blocks as they were; a turn takes four (`rounds-front`).
--- Assumes nothing.
-use borrow.Author.Needs.{needs}
-use Prim.Native.Nat.{ℕ, _≤_, _<_, _+_, _-_, _%_}
-use mathlib.Core.Path.{_≡_, refl, ap, _∙_}
-use mathlib.Core.List.{[]}
-use native.Mathlib.Omega.{arith}
-use lib.ListN.{length, drop, drop-of-length-le}
+use Rattle.block.proofs.Base.{_%_, _+_, _-_, _<_, _≤_, ℕ, _∙_, _≡_, ap, [], arith, needs, drop, drop-of-length-le, length}
 use Rattle.cipher.specs.Sm4.{rounds}
 use Rattle.cipher.proofs.Rounds.{rounds-front}
 use Rattle.sliced.specs.Lanes.{lanes, Planes}
 use Rattle.sliced.proofs.all_rounds.Statement.{statement}
 use Rattle.sliced.proofs.all_rounds.Tie as tie
 
-abbrev Inv-loop : tie.InvT-loop
-Inv-loop a₀ b₀ c₀ d₀ s₀ n rk i₀ a b c d s i =
+pub all-rounds-spec : {M : Type 1} → statement M
+all-rounds-spec =
+    tie.close
+    (tie.spec
+    (λ a₀ b₀ c₀ d₀ s₀ n rk i₀ a b c d s i.
     (i ≤ 32) × (i % 4 ≡ 0) × Planes a b c d s
-    × ((e : ℕ) → e < 512 → e % 8 < n → rounds (drop i rk) (lanes a b c d e) ≡ rounds rk (lanes a₀ b₀ c₀ d₀ e))
-
-abbrev μ-loop : tie.MeasureT-loop
-μ-loop a₀ b₀ c₀ d₀ s₀ n rk i₀ a b c d s i = 32 - i
-
-loop-holds : tie.Need-loop-holds Inv-loop μ-loop
-loop-holds c = (search needs, refl, c .pre .1, λ e h g. refl)
-
-loop-again : tie.Need-loop-again Inv-loop μ-loop
-loop-again c =
+    × ((e : ℕ) → e < 512 → e % 8 < n → rounds (drop i rk) (lanes a b c d e) ≡ rounds rk (lanes a₀ b₀ c₀ d₀ e)))
+    (λ a₀ b₀ c₀ d₀ s₀ n rk i₀ a b c d s i. 32 - i) (λ c. search needs) (λ c. search needs) (λ c. search needs) (λ c. search needs)
+    (λ c. search needs) (λ c. search needs) (λ c. search needs) (λ c. search needs) (λ c. search needs) (λ c. search needs)
+    (λ c. search needs) (λ c. search needs) (λ c κs. search needs) (λ c. search needs) (λ c. search needs)
+    (λ c.
     let at-loop = c .before .before .before .before .before .before .before in
     let l = at-loop .loop in
     let rk = at-loop .before .args .t6 in
@@ -38,21 +30,10 @@ loop-again c =
           ap (rounds (drop (l .i + 4) rk)) (r .0 e h g)
           ∙ rounds-front rk (lanes (l .a) (l .b) (l .c) (l .d) e) (l .i) (omega arith)
           ∙ l .inv .3 e h g,
-    )
-
-returns : tie.Need-returns Inv-loop μ-loop
-unfolding rounds
-returns c =
+    ))
+    (λ c. unfold rounds in
     let l = c .before .loop in
     let rk = c .before .before .args .t6 in
     let n : length rk ≡ 32 = search needs in
     let d : drop (l .i) rk ≡ [] = drop-of-length-le rk {i = l .i} (omega arith) in
-    (λ e h g. rw d at (l .inv .3 e h g), l .inv .2)
-
-pub all-rounds-spec : {M : Type 1} → statement M
-all-rounds-spec =
-    tie.close
-    (tie.spec
-    Inv-loop μ-loop loop-holds (λ c. search needs) (λ c. search needs) (λ c. search needs) (λ c. search needs)
-    (λ c. search needs) (λ c. search needs) (λ c. search needs) (λ c. search needs) (λ c. search needs) (λ c. search needs)
-    (λ c. search needs) (λ c κs. search needs) (λ c. search needs) (λ c. search needs) loop-again returns)
+    (λ e h g. rw d at (l .inv .3 e h g), l .inv .2)))

@@ -1,13 +1,15 @@
 -- `sliced::encrypt` meets its contract: the rows stand in lanes (`rows-in-lanes`), and the rounds work on these.
--- Assumes nothing.
-use borrow.Author.Needs.{needs}
-use native.Mathlib.Omega.{arith}
+use Rattle.block.proofs.Base.{arith, needs}
 use Rattle.sliced.proofs.Halves.{rows-in-lanes}
 use Rattle.sliced.proofs.encrypt.Statement.{statement}
 use Rattle.sliced.proofs.encrypt.Tie as tie
 
-returns : tie.Need-returns
-returns c =
+pub encrypt-spec : {M : Type 1} → statement M
+encrypt-spec =
+    tie.close
+    (tie.spec
+    (λ c κs. search needs) (λ c κs. search needs) (λ c κs. search needs)
+    (λ c.
     let R = c .rounds-to-rows in
     let at-second = c .before .before .before .before .before .before .before in
     let F = at-second .enter2 in
@@ -19,11 +21,4 @@ returns c =
           (rows-in-lanes (a .a .now) (a .b .now) (E .last .1 .0) (E .last .1 .1 .0) (F .last .1 .0) (F .last .1 .1 .0)
           (E .ensures .0) (F .ensures .0) m f (omega arith) G),
       R .ensures .1,
-    )
-
-pub encrypt-spec : {M : Type 1} → statement M
-encrypt-spec =
-    tie.close
-    (tie.spec
-    (λ c κs. search needs) (λ c κs. search needs) (λ c κs. search needs)
-    returns)
+    )))

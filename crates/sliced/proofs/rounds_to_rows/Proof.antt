@@ -1,13 +1,16 @@
 -- `sliced::rounds_to_rows` meets its contract: the rounds work in every lane, and the lanes go back into halves, the last word first
 -- (`rows-encrypted`).
--- Assumes nothing.
-use borrow.Author.Needs.{needs}
+use Rattle.block.proofs.Base.{needs}
 use Rattle.sliced.proofs.Halves.{rows-encrypted}
 use Rattle.sliced.proofs.rounds_to_rows.Statement.{statement}
 use Rattle.sliced.proofs.rounds_to_rows.Tie as tie
 
-returns : tie.Need-returns
-returns c =
+pub rounds-to-rows-spec : {M : Type 1} → statement M
+rounds-to-rows-spec =
+    tie.close
+    (tie.spec
+    (λ c κs. search needs) (λ c κs. search needs) (λ c κs. search needs)
+    (λ c.
     let B = c .leave2 in
     let at-leave = c .before .before .before .before in
     let A = at-leave .leave in
@@ -19,7 +22,4 @@ returns c =
           (R .last .0) (R .last .1 .0) (R .last .1 .1 .0) (R .last .1 .1 .1 .0) (a .n) (S .pre .0 .0)
           (A .ensures .0) (B .ensures .0) (A .ensures .1 .1) (B .ensures .1 .1) (R .ensures .0) (A .ensures .1 .0) (B .ensures .1 .0),
       record { size-a = A .ensures .1 .0; size-b = B .ensures .1 .0 },
-    )
-
-pub rounds-to-rows-spec : {M : Type 1} → statement M
-rounds-to-rows-spec = tie.close (tie.spec (λ c κs. search needs) (λ c κs. search needs) (λ c κs. search needs) returns)
+    )))

@@ -1,11 +1,6 @@
 -- `sliced::sub_byte` meets its contract. The loop's invariant: byte b is done in the first j columns (`Columns`). In each lane of a column
 -- the gates give the S-box's entry for what goes in, and eight stores put it at its place (`columns-next`).
--- Assumes nothing.
-use borrow.Author.Needs.{needs}
-use Prim.Native.Nat.{_<_, _+_, _-_, _*_}
-use mathlib.Core.Path.{_≡_, _∙_}
-use native.Mathlib.Omega.{arith}
-use lib.ListN.{length}
+use Rattle.block.proofs.Base.{_*_, _+_, _-_, _<_, _∙_, _≡_, arith, needs, length}
 use Rattle.circuit.specs.Sbox.{SboxLanes}
 use Rattle.lanes.specs.Bits.{bit, Masks}
 use Rattle.sliced.specs.Round.{subbed, column}
@@ -13,20 +8,19 @@ use Rattle.sliced.proofs.Columns.{Columns, columns-first, columns-next,
 use Rattle.sliced.proofs.sub_byte.Statement.{statement}
 use Rattle.sliced.proofs.sub_byte.Tie as tie
 
-abbrev Inv-loop : tie.InvT-loop
-Inv-loop s₀ x y z k b n m j₀ s j = (length s ≡ 512) × Masks 8 (λ i. bit (8 * b + i) k) m × Columns (subbed x y z k) n b j s
-
-abbrev μ-loop : tie.MeasureT-loop
-μ-loop s₀ x y z k b n m j₀ s j = n - j
-
-loop-holds : tie.Need-loop-holds Inv-loop μ-loop
-loop-holds c =
-    let a = c .before .args in
-    let p = c .before .pre in
-    (p .1 .0 .0, c .masks .ensures, columns-first (subbed (a .x .now) (a .y .now) (a .z .now) (a .k)) (a .n) (a .b) (a .s .now) (p .1 .1))
-
-loop-again : tie.Need-loop-again Inv-loop μ-loop
-loop-again c =
+pub sub-byte-spec : {M : Type 1} → statement M
+sub-byte-spec =
+    tie.close
+    (tie.spec
+    (λ s₀ x y z k b n m j₀ s j. (length s ≡ 512) × Masks 8 (λ i. bit (8 * b + i) k) m × Columns (subbed x y z k) n b j s)
+    (λ s₀ x y z k b n m j₀ s j. n - j) (λ c κs. search needs) (λ c. search (needs, columns-first)) (λ c. search needs) (λ c. search needs)
+    (λ c κs. search needs) (λ c κs. search needs) (λ c. search needs) (λ c. search needs) (λ c. search needs) (λ c. search needs)
+    (λ c. search needs) (λ c. search needs) (λ c. search needs) (λ c. search needs) (λ c. search needs) (λ c. search needs)
+    (λ c. search needs) (λ c. search needs) (λ c. search needs) (λ c. search needs) (λ c. search needs) (λ c. search needs)
+    (λ c. search needs) (λ c. search needs) (λ c. search needs) (λ c. search needs) (λ c. search needs) (λ c. search needs)
+    (λ c. search needs) (λ c. search needs) (λ c. search needs) (λ c. search needs) (λ c. search needs) (λ c. search needs)
+    (λ c. search needs) (λ c. search needs) (λ c. search needs) (λ c. search needs) (λ c. search needs)
+    (λ c.
     let l = c .before .before .before .loop in
     let S = c .before .before .before .before .before in
     let a = S .args in
@@ -39,22 +33,5 @@ loop-again c =
       l .inv .1,
       columns-next (a .x .now) (a .y .now) (a .z .now) m (a .k) (a .n) (a .b) (l .j) (l .s) o (S .pre .0 .0) hj (l .inv .1) (l .inv .0) g
           (l .inv .2),
-    )
-
-returns : tie.Need-returns Inv-loop μ-loop
-returns c =
-    let l = c .before .loop in
-    let a = c .before .before .before .args in
-    (columns-last (subbed (a .x .now) (a .y .now) (a .z .now) (a .k)) (a .n) (a .b) (l .j) (l .s) (omega arith) (l .inv .2), l .inv .0)
-
-pub sub-byte-spec : {M : Type 1} → statement M
-sub-byte-spec =
-    tie.close
-    (tie.spec
-    Inv-loop μ-loop (λ c κs. search needs) loop-holds (λ c. search needs) (λ c. search needs) (λ c κs. search needs)
-    (λ c κs. search needs) (λ c. search needs) (λ c. search needs) (λ c. search needs) (λ c. search needs)
-    (λ c. search needs) (λ c. search needs) (λ c. search needs) (λ c. search needs) (λ c. search needs) (λ c. search needs)
-    (λ c. search needs) (λ c. search needs) (λ c. search needs) (λ c. search needs) (λ c. search needs) (λ c. search needs)
-    (λ c. search needs) (λ c. search needs) (λ c. search needs) (λ c. search needs) (λ c. search needs) (λ c. search needs)
-    (λ c. search needs) (λ c. search needs) (λ c. search needs) (λ c. search needs) (λ c. search needs) (λ c. search needs)
-    (λ c. search needs) (λ c. search needs) (λ c. search needs) (λ c. search needs) (λ c. search needs) loop-again returns)
+    ))
+    (λ c. search (needs, columns-last)))

@@ -1,11 +1,5 @@
 -- `stream::one_by_one` meets its contract. A turn of the loop goes one block on (`reached-next`), and at the end the rest is written.
--- Assumes nothing.
-use mathlib.Core.Path.{_≡_, ap, _∙_}
-use Prim.Native.Nat.{ℕ, _-_}
-use native.Mathlib.Omega.{arith}
-use denote.Ref.{now}
-use lib.ListN.{length, take}
-use lib.Seq.{length-take-le}
+use Rattle.block.proofs.Base.{_-_, _∙_, ap, arith, needs, now, length, take, length-take-le}
 use Rattle.block.specs.Words.{unwords}
 use Rattle.cipher.specs.Sm4.{encryptBlock}
 use Rattle.walk.specs.Reached.{Reached}
@@ -13,7 +7,6 @@ use Rattle.walk.proofs.Batch.{reached-first, reached-next}
 use Rattle.walk.proofs.Loop.{tailed, length-tailed, last-state, rest-written}
 use Rattle.stream.specs.Stream.{streamMode}
 use Rattle.stream.proofs.RoundTrip.{stream-block}
-use borrow.Author.Needs.{needs}
 use Rattle.stream.proofs.one_by_one.Statement.{statement}
 use Rattle.stream.proofs.one_by_one.Tie as tie
 
@@ -30,14 +23,18 @@ loop-holds c =
 
 loop-again : tie.Need-loop-again Inv-loop μ-loop
 loop-again c =
-    let a = c .before .before .before .before .before .before .before .before .before .before .args in
-    let l = c .before .before .before .before .before .before .loop in
+    let at-step = c .before .before in
+    let at-loop = at-step .before .before .before .before in
+    let S = at-loop .before .before .before .before in
+    let a = S .args in
+    let l = at-loop .loop in
     let d = now (a .«data») in
     let s = unwords (l .s) in
     let b = tailed (l .at) d in
     let full = stream-block (a .kind) (a .rk) s (take 16 b) (length-take-le 16 b (omega (arith, length-tailed d (l .at)))) in
-    let stepped = c .before .before .step .ensures in
-    reached-next (streamMode (a .kind) (a .rk)) (unwords (a .iv)) d (now (a .out)) s (l .out) (l .at) (l .inv) _ _ (omega arith) (omega arith) full
+    let stepped = at-step .step .ensures in
+    reached-next (streamMode (a .kind) (a .rk)) (unwords (a .iv)) d (now (a .out)) s (l .out) (l .at) (l .inv) _ _ (omega arith)
+    (omega arith) full
     (stepped .0) (stepped .1)
 
 returns : tie.Need-returns Inv-loop μ-loop
@@ -57,10 +54,7 @@ returns c =
     )
 
 pub one-by-one-spec : {M : Type 1} → statement M
-one-by-one-spec =
-    tie.close
-    (tie.spec
-    Inv-loop μ-loop loop-holds (λ c. omega arith) (λ c. omega arith) (λ c. omega arith) (λ c. omega arith) (λ c. omega arith)
-    (λ c. omega arith) (λ c. omega arith) (λ c κs. search needs) (λ c. omega arith) (λ c. omega arith) loop-again
-    (λ c. omega arith) (λ c. omega arith) (λ c. omega arith) (λ c. omega arith) (λ c. omega arith) (λ c. omega arith)
-    (λ c κs. search needs) (λ c. omega arith) returns)
+one-by-one-spec = tie.close (tie.spec Inv-loop μ-loop loop-holds (λ c. omega arith) (λ c. omega arith) (λ c. omega arith) (λ c. omega arith)
+    (λ c. omega arith) (λ c. omega arith) (λ c. omega arith) (λ c κs. search needs) (λ c. omega arith) (λ c. omega arith) loop-again
+    (λ c. omega arith) (λ c. omega arith) (λ c. omega arith) (λ c. omega arith) (λ c. omega arith) (λ c. omega arith) (λ c κs. search needs)
+    (λ c. omega arith) returns)

@@ -1,19 +1,9 @@
 -- `stream::pad_needed` meets its contract, by both tests.
--- Assumes nothing.
-use mathlib.Core.Path.{refl, sym, _∙_}
-use native.Mathlib.Omega.{arith}
+use Rattle.block.proofs.Base.{_∙_, refl, sym, arith}
 use Rattle.stream.proofs.Ahead.{untrue}
 use Rattle.stream.proofs.pad_needed.Statement.{statement}
 use Rattle.stream.proofs.pad_needed.Tie as tie
 
-returns : tie.Need-returns
-returns c = (λ e. refl, λ e. untrue (sym e))
-
-returns-2 : tie.Need-returns-2
-returns-2 c = (λ e. refl, λ e. untrue (sym e))
-
-returns-3 : tie.Need-returns-3
-returns-3 c = (λ e. untrue (sym (c .before .if1 .left) ∙ e), λ e. omega arith)
-
 pub pad-needed-spec : {M : Type 1} → statement M
-pad-needed-spec = tie.close (tie.spec returns returns-2 returns-3)
+pad-needed-spec = tie.close (tie.spec (λ c. (λ e. refl, λ e. untrue (sym e))) (λ c. (λ e. refl, λ e. untrue (sym e)))
+    (λ c. (λ e. untrue (sym (c .before .if1 .left) ∙ e), λ e. omega arith)))

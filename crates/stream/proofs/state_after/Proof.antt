@@ -1,27 +1,10 @@
 -- `stream::state_after` meets its contract: in each arm the kind is known, and the definition gives that arm's state.
--- Assumes nothing.
-use borrow.Author.Needs.{needs}
+use Rattle.block.proofs.Base.{needs}
 use Rattle.stream.proofs.state_after.Statement.{statement}
 use Rattle.stream.proofs.state_after.Tie as tie
 
-returns : tie.Need-returns
-returns c = rw (c .enum-told .given .1)
-
-returns-2 : tie.Need-returns-2
-returns-2 c = rw (c .enum-told2 .given .1)
-
-returns-3 : tie.Need-returns-3
-returns-3 c = rw (c .enum-told3 .given .1)
-
-returns-4 : tie.Need-returns-4
-returns-4 c = rw (c .before .before .enum-told4 .given .1) (c .before .block-add-one .ensures .0)
-
-returns-5 : tie.Need-returns-5
-returns-5 c = rw (c .before .before .enum-told5 .given .1) (c .before .gcm-block-add-one .ensures .0)
-
 pub state-after-spec : {M : Type 1} → statement M
-state-after-spec =
-    tie.close
-    (tie.spec
-    (λ c. search needs) (λ c. search needs) (λ c. search needs) (λ c. search needs) (λ c κs. search needs)
-    (λ c. search needs) (λ c κs. search needs) returns returns-2 returns-3 returns-4 returns-5)
+state-after-spec = tie.close (tie.spec (λ c. search needs) (λ c. search needs) (λ c. search needs) (λ c. search needs)
+    (λ c κs. search needs) (λ c. search needs) (λ c κs. search needs) (λ c. rw (c .enum-told .given .1)) (λ c. rw (c .enum-told2 .given .1))
+    (λ c. rw (c .enum-told3 .given .1)) (λ c. rw (c .before .before .enum-told4 .given .1) (c .before .block-add-one .ensures .0))
+    (λ c. rw (c .before .before .enum-told5 .given .1) (c .before .gcm-block-add-one .ensures .0)))

@@ -1,20 +1,12 @@
 -- `stream::step` meets its contract. The words that are ciphered, read and xored are those of sixteen bytes (`unwords-front`,
 -- `encrypt-unwords`, `front-xored`), so what is written and the next state are the definition's.
--- Assumes nothing.
-use mathlib.Core.Path.{_≡_, _∙_}
-use Prim.Native.Nat.{ℕ, _^_, _<_}
-use native.Mathlib.Omega.{arith}
-use mir.Val.{Fits}
-use mir.Syntax.{w32}
-use denote.Ref.{now}
-use lib.ListN.{length, getD}
+use Rattle.block.proofs.Base.{_<_, _^_, ℕ, _∙_, _≡_, arith, needs, now, getD, length, w32, Fits}
 use Rattle.block.proofs.Entries.{below-each}
 use Rattle.block.proofs.WordsBack.{unwords-front}
 use Rattle.cipher.specs.Sm4.{encryptWords}
 use Rattle.cipher.proofs.Bounds.{encrypt-four}
 use Rattle.cipher.proofs.Blocks.{encrypt-unwords}
 use Rattle.block.proofs.InWords.{front-xored}
-use borrow.Author.Needs.{needs}
 use Rattle.stream.proofs.step.Statement.{statement}
 use Rattle.stream.proofs.step.Tie as tie
 
@@ -43,8 +35,5 @@ returns c =
     )
 
 pub step-spec : {M : Type 1} → statement M
-step-spec =
-    tie.close
-    (tie.spec
-    (λ c κs. search needs) (λ c κs. search needs) (λ c κs. search needs) (λ c κs. search needs) (λ c κs. search needs)
-    (λ c. search needs) returns)
+step-spec = tie.close (tie.spec (λ c κs. search needs) (λ c κs. search needs) (λ c κs. search needs) (λ c κs. search needs)
+    (λ c κs. search needs) (λ c. search needs) returns)

@@ -1,13 +1,9 @@
 -- `stream::stream` meets its contract: what goes on from where the batches have come to ends the walk (`reached-end`, `reached-over`).
--- Assumes nothing.
-use mathlib.Core.Path.{_≡_, ap, _∙_}
-use native.Mathlib.Omega.{arith}
-use denote.Ref.{now}
+use Rattle.block.proofs.Base.{_∙_, ap, arith, needs, now}
 use Rattle.block.specs.Words.{unwords}
 use Rattle.cipher.specs.Sm4.{encryptBlock}
 use Rattle.sixteen.proofs.Onward.{reached-end, reached-over}
 use Rattle.stream.specs.Stream.{streamMode}
-use borrow.Author.Needs.{needs}
 use Rattle.stream.proofs.stream.Statement.{statement}
 use Rattle.stream.proofs.stream.Tie as tie
 
@@ -24,8 +20,5 @@ returns c =
     )
 
 pub stream-spec : {M : Type 1} → statement M
-stream-spec =
-    tie.close
-    (tie.spec
-    (λ c κs. search needs) (λ c. omega arith) (λ c. omega arith) (λ c. omega arith) (λ c. omega arith) (λ c. omega arith)
-    (λ c. omega arith) (λ c κs. (search needs, omega arith)) (λ c. omega arith) returns)
+stream-spec = tie.close (tie.spec (λ c κs. search needs) (λ c. omega arith) (λ c. omega arith) (λ c. omega arith) (λ c. omega arith)
+    (λ c. omega arith) (λ c. omega arith) (λ c κs. (search needs, omega arith)) (λ c. omega arith) returns)

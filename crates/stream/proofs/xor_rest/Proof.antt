@@ -1,12 +1,5 @@
 -- `stream::xor_rest` meets its contract: the pad is the cipher of the state, and where it is not needed nothing is written.
--- Assumes nothing.
-use mathlib.Core.Path.{_≡_, sym, ap, _∙_}
-use mathlib.Core.List.{List}
-use Prim.Native.Nat.{ℕ, _^_}
-use mir.Val.{Fits}
-use mir.Syntax.{w32}
-use denote.Ref.{now}
-use lib.ListN.{length, getD}
+use Rattle.block.proofs.Base.{_^_, ℕ, _∙_, _≡_, ap, sym, List, needs, not-true, now, getD, length, w32, Fits}
 use Rattle.block.specs.Words.{unwords}
 use Rattle.block.specs.Xor.{xors}
 use Rattle.block.proofs.Entries.{below-each}
@@ -14,17 +7,19 @@ use Rattle.cipher.specs.Sm4.{encryptBlock}
 use Rattle.cipher.proofs.Blocks.{encrypt-unwords}
 use Rattle.walk.specs.Walk.{over}
 use Rattle.stream.proofs.Ahead.{untrue, nothing-written}
-use borrow.Author.Needs.{needs}
-use borrow.Author.Tests.{not-true}
 use Rattle.stream.proofs.xor_rest.Statement.{statement}
 use Rattle.stream.proofs.xor_rest.Tie as tie
 
 returns : tie.Need-returns
 returns c =
+    let S = c .before .before .before .before .before in
     let needed = c .before .pad-needed .ensures in
-    let a = c .before .before .before .before .before .args in
-    let none = not-true _ (c .if1 .taken) in
-    (λ e. untrue (sym none ∙ needed .0 e), nothing-written (now (a .«data»)) (encryptBlock (a .rk) (unwords (a .s))) (now (a .out)) (needed .1 none))
+    let a = S .args in
+    let none = not-true _ (c .if1 .taken) in (
+      λ e. untrue (sym none ∙ needed .0 e),
+      nothing-written (now (a .«data»)) (encryptBlock (a .rk) (unwords (a .s))) (now (a .out))
+          (needed .1 none),
+    )
 
 returns-2 : tie.Need-returns-2
 returns-2 c =
@@ -43,7 +38,5 @@ returns-2 c =
     )
 
 pub xor-rest-spec : {M : Type 1} → statement M
-xor-rest-spec =
-    tie.close
-    (tie.spec
-    (λ c κs. search needs) returns (λ c κs. search needs) (λ c κs. search needs) (λ c. search needs) (λ c κs. search needs) (λ c. search needs) returns-2)
+xor-rest-spec = tie.close (tie.spec (λ c κs. search needs) returns (λ c κs. search needs) (λ c κs. search needs) (λ c. search needs)
+    (λ c κs. search needs) (λ c. search needs) returns-2)

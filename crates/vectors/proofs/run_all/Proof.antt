@@ -1,8 +1,6 @@
 -- `vectors::run_all` is safe and ends. The loop's invariant: no more vectors differ than were run, so that neither count wraps.
 -- The measure is how many are left of a thousand.
--- Assumes nothing.
-use Prim.Native.Nat.{_≤_, _-_}
-use borrow.Author.Needs.{needs}
+use Rattle.block.proofs.Base.{_-_, _≤_, needs}
 use Rattle.vectors.proofs.run_all.Statement.{statement}
 use Rattle.vectors.proofs.run_all.Tie as tie
 

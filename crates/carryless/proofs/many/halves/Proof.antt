@@ -1,40 +1,16 @@
 -- `carryless::many::halves` meets its contract. The loop's invariant: the first g words are there.
--- Assumes nothing.
-use borrow.Author.Needs.{needs}
-use Prim.Native.Nat.{_/_, _%_, _^_, _≤_, _-_}
-use mathlib.Core.Path.{_≡_, refl}
-use native.Mathlib.Omega.{arith}
-use lib.ListN.{length, getD}
+use Rattle.block.proofs.Base.{_%_, _-_, _/_, _^_, _≤_, _≡_, refl, arith, needs, getD, length}
 use Rattle.carryless.specs.Lanes.{Each}
-use Rattle.carryless.proofs.Filling.{each-next}
+use Rattle.lanes.proofs.Filling.{each-next}
 use Rattle.carryless.proofs.many.halves.Statement.{statement}
 use Rattle.carryless.proofs.many.halves.Tie as tie
-
-abbrev Inv-loop : tie.InvT-loop
-Inv-loop x k n r₀ g₀ r g = (g ≤ n) × (length r ≡ 16) × Each (λ i. getD x i 0 / 2 ^ k % 2 ^ 32) g r
-
-abbrev μ-loop : tie.MeasureT-loop
-μ-loop x k n r₀ g₀ r g = n - g
-
-loop-holds : tie.Need-loop-holds Inv-loop μ-loop
-loop-holds c = (search needs, search needs, λ j h. absurd (omega arith))
-
-loop-again : tie.Need-loop-again Inv-loop μ-loop
-loop-again c =
-    let at-loop = c .before .before in
-    let l = at-loop .loop in
-    let a = at-loop .before .args in (
-      omega arith,
-      search needs,
-      each-next (λ i. getD (a .x .now) i 0 / 2 ^ a .k % 2 ^ 32) (l .g) _ (l .r) (omega arith) refl (l .inv .2),
-    )
-
-returns : tie.Need-returns Inv-loop μ-loop
-returns c = λ j h. c .before .loop .inv .2 j (omega arith)
 
 pub halves-spec : {M : Type 1} → statement M
 halves-spec =
     tie.close
     (tie.spec
-    Inv-loop μ-loop loop-holds (λ c. search needs) (λ c. search needs) (λ c. search needs) (λ c. search needs) (λ c. search needs)
-    (λ c. search needs) (λ c. search needs) (λ c. search needs) loop-again returns)
+    (λ x k n r₀ g₀ r g. (g ≤ n) × (length r ≡ 16) × Each (λ i. getD x i 0 / 2 ^ k % 2 ^ 32) g r) (λ x k n r₀ g₀ r g. n - g)
+    (λ c. search needs) (λ c. search needs) (λ c. search needs) (λ c. search needs) (λ c. search needs) (λ c. search needs)
+    (λ c. search needs) (λ c. search needs) (λ c. search needs)
+    (λ c. let l = c .before .before .loop in (omega arith, search needs, each-next _ (l .g) _ (l .r) (omega arith) refl (l .inv .2)))
+    (λ c j h. c .before .loop .inv .2 j (omega arith)))

@@ -1,45 +1,22 @@
 -- `carryless::many::join_each` meets its contract. The loop's invariant: the first g numbers are there.
--- Assumes nothing.
-use borrow.Author.Needs.{needs}
-use Prim.Native.Nat.{_≤_, _-_}
-use mathlib.Core.Path.{_≡_}
-use native.Mathlib.Omega.{arith}
-use lib.ListN.{length, getD}
+use Rattle.block.proofs.Base.{_-_, _≤_, _≡_, arith, needs, getD, length}
 use Rattle.carryless.specs.Carryless.{joining}
 use Rattle.carryless.specs.Lanes.{Both}
 use Rattle.carryless.proofs.Filling.{both-next}
 use Rattle.carryless.proofs.many.join_each.Statement.{statement}
 use Rattle.carryless.proofs.many.join_each.Tie as tie
 
-abbrev Inv-loop : tie.InvT-loop
-Inv-loop p q r n high₀ low₀ g₀ high low g =
-    (g ≤ n) × (length high ≡ 16) × (length low ≡ 16) × Both (λ i. joining (getD p i 0) (getD q i 0) (getD r i 0)) g high low
-
-abbrev μ-loop : tie.MeasureT-loop
-μ-loop p q r n high₀ low₀ g₀ high low g = n - g
-
-loop-holds : tie.Need-loop-holds Inv-loop μ-loop
-loop-holds c = (search needs, search needs, search needs, λ j h. absurd (omega arith))
-
-loop-again : tie.Need-loop-again Inv-loop μ-loop
-loop-again c =
-    let at-loop = c .before .before .before .before .before in
-    let l = at-loop .loop in
-    let a = at-loop .before .args in (
-      omega arith,
-      search needs,
-      search needs,
-      both-next (l .g) _ _ (l .high) (l .low) (omega arith) (omega arith)
-          (λ i. joining (getD (a .p .now) i 0) (getD (a .q .now) i 0) (getD (a .r .now) i 0)) (c .joined .ensures) (l .inv .3),
-    )
-
-returns : tie.Need-returns Inv-loop μ-loop
-returns c = let l = c .before .loop in (λ j h. l .inv .3 j (omega arith), l .inv .1, l .inv .2)
-
 pub join-each-spec : {M : Type 1} → statement M
 join-each-spec =
     tie.close
     (tie.spec
-    Inv-loop μ-loop loop-holds (λ c. search needs) (λ c. search needs) (λ c. search needs) (λ c. search needs) (λ c. search needs)
-    (λ c. search needs) (λ c κs. search needs) (λ c. search needs) (λ c. search needs) (λ c. search needs) (λ c. search needs)
-    (λ c. search needs) (λ c. search needs) loop-again returns)
+    (λ p q r n high₀ low₀ g₀ high low g.
+    (g ≤ n) × (length high ≡ 16) × (length low ≡ 16) × Both (λ i. joining (getD p i 0) (getD q i 0) (getD r i 0)) g high low)
+    (λ p q r n high₀ low₀ g₀ high low g. n - g) (λ c. search needs) (λ c. search needs) (λ c. search needs) (λ c. search needs)
+    (λ c. search needs) (λ c. search needs) (λ c. search needs) (λ c κs. search needs) (λ c. search needs) (λ c. search needs)
+    (λ c. search needs) (λ c. search needs) (λ c. search needs) (λ c. search needs)
+    (λ c.
+    let l = c .before .before .before .before .before .loop in
+    let next = both-next (l .g) _ _ (l .high) (l .low) (omega arith) (omega arith) _ (c .joined .ensures) (l .inv .3) in
+    (omega arith, search needs, search needs, next))
+    (λ c. let l = c .before .loop in (λ j h. l .inv .3 j (omega arith), l .inv .1, l .inv .2)))

@@ -1,46 +1,22 @@
 -- `carryless::many::products` meets its contract. The loop's invariant: the first g products are there, and p, q, r and s are y's parts.
--- Assumes nothing.
-use borrow.Author.Needs.{needs}
-use Prim.Native.Nat.{_≤_, _-_}
-use mathlib.Core.Path.{_≡_}
-use native.Mathlib.Omega.{arith}
-use lib.ListN.{length, getD}
+use Rattle.block.proofs.Base.{_-_, _≤_, _≡_, arith, needs, getD, length}
 use Rattle.carryless.specs.Carryless.{clmul}
 use Rattle.carryless.specs.Lanes.{Each}
 use Rattle.carryless.specs.Lent.{Quarters}
-use Rattle.carryless.proofs.Filling.{each-next}
+use Rattle.lanes.proofs.Filling.{each-next}
 use Rattle.carryless.proofs.many.products.Statement.{statement}
 use Rattle.carryless.proofs.many.products.Tie as tie
-
-abbrev Inv-loop : tie.InvT-loop
-Inv-loop x y m at n p q r s z₀ g₀ z g =
-    (g ≤ n) × (length z ≡ 16) × Quarters y p q r s × Each (λ i. clmul 32 (getD x i 0) y) g z
-
-abbrev μ-loop : tie.MeasureT-loop
-μ-loop x y m at n p q r s z₀ g₀ z g = n - g
-
-loop-holds : tie.Need-loop-holds Inv-loop μ-loop
-loop-holds c = (search needs, search needs, search needs, λ j h. absurd (omega arith))
-
-loop-again : tie.Need-loop-again Inv-loop μ-loop
-loop-again c =
-    let at-loop = c .before .before .before in
-    let l = at-loop .loop in
-    let a = at-loop .before .before .before .before .before .args in (
-      omega arith,
-      search needs,
-      l .inv .2,
-      each-next (λ i. clmul 32 (getD (a .x .now) i 0) (a .y)) (l .g) _ (l .z) (omega arith) (c .clmul32 .ensures) (l .inv .3),
-    )
-
-returns : tie.Need-returns Inv-loop μ-loop
-returns c = λ j h. c .before .loop .inv .3 j (omega arith)
 
 pub products-spec : {M : Type 1} → statement M
 products-spec =
     tie.close
     (tie.spec
-    Inv-loop μ-loop (λ c. search needs) (λ c. search needs) (λ c. search needs) (λ c. search needs) (λ c. search needs)
+    (λ x y m at n p q r s z₀ g₀ z g. (g ≤ n) × (length z ≡ 16) × Quarters y p q r s × Each (λ i. clmul 32 (getD x i 0) y) g z)
+    (λ x y m at n p q r s z₀ g₀ z g. n - g) (λ c. search needs) (λ c. search needs) (λ c. search needs) (λ c. search needs)
     (λ c. search needs) (λ c. search needs) (λ c. search needs) (λ c. search needs) (λ c. search needs) (λ c. search needs)
-    loop-holds (λ c. search needs) (λ c. search needs) (λ c κs. search needs) (λ c. search needs) (λ c. search needs)
-    (λ c. search needs) (λ c. search needs) loop-again returns)
+    (λ c. search needs) (λ c. search needs) (λ c. search needs) (λ c. search needs) (λ c κs. search needs) (λ c. search needs)
+    (λ c. search needs) (λ c. search needs) (λ c. search needs)
+    (λ c.
+    let l = c .before .before .before .loop in
+    (omega arith, search needs, l .inv .2, each-next _ (l .g) _ (l .z) (omega arith) (c .clmul32 .ensures) (l .inv .3)))
+    (λ c j h. c .before .loop .inv .3 j (omega arith)))

@@ -1,41 +1,19 @@
 -- `carryless::many::sums` meets its contract. The loop's invariant: the first g sums are there.
--- Assumes nothing.
-use borrow.Author.Needs.{needs}
-use Prim.Native.Nat.{_≤_, _-_}
-use mathlib.Core.Path.{_≡_, refl}
-use native.Mathlib.Omega.{arith}
-use lib.ListN.{length, getD}
+use Rattle.block.proofs.Base.{_-_, _≤_, _≡_, refl, arith, needs, getD, length}
 use Rattle.block.specs.Xor.{_⊕_}
 use Rattle.carryless.specs.Lanes.{Each}
-use Rattle.carryless.proofs.Filling.{each-next}
+use Rattle.lanes.proofs.Filling.{each-next}
 use Rattle.carryless.proofs.many.sums.Statement.{statement}
 use Rattle.carryless.proofs.many.sums.Tie as tie
-
-abbrev Inv-loop : tie.InvT-loop
-Inv-loop a b n r₀ g₀ r g = (g ≤ n) × (length r ≡ 16) × Each (λ i. getD a i 0 ⊕ getD b i 0) g r
-
-abbrev μ-loop : tie.MeasureT-loop
-μ-loop a b n r₀ g₀ r g = n - g
-
-loop-holds : tie.Need-loop-holds Inv-loop μ-loop
-loop-holds c = (search needs, search needs, λ j h. absurd (omega arith))
-
-loop-again : tie.Need-loop-again Inv-loop μ-loop
-loop-again c =
-    let at-loop = c .before .before .before in
-    let l = at-loop .loop in
-    let a = at-loop .before .args in (
-      omega arith,
-      search needs,
-      each-next (λ i. getD (a .a .now) i 0 ⊕ getD (a .b .now) i 0) (l .g) _ (l .r) (omega arith) refl (l .inv .2),
-    )
-
-returns : tie.Need-returns Inv-loop μ-loop
-returns c = λ j h. c .before .loop .inv .2 j (omega arith)
 
 pub sums-spec : {M : Type 1} → statement M
 sums-spec =
     tie.close
     (tie.spec
-    Inv-loop μ-loop loop-holds (λ c. search needs) (λ c. search needs) (λ c. search needs) (λ c. search needs) (λ c. search needs)
-    (λ c. search needs) (λ c. search needs) (λ c. search needs) loop-again returns)
+    (λ a b n r₀ g₀ r g. (g ≤ n) × (length r ≡ 16) × Each (λ i. getD a i 0 ⊕ getD b i 0) g r) (λ a b n r₀ g₀ r g. n - g)
+    (λ c. search needs) (λ c. search needs) (λ c. search needs) (λ c. search needs) (λ c. search needs) (λ c. search needs)
+    (λ c. search needs) (λ c. search needs) (λ c. search needs)
+    (λ c.
+    let l = c .before .before .before .loop in
+    (omega arith, search needs, each-next _ (l .g) _ (l .r) (omega arith) refl (l .inv .2)))
+    (λ c j h. c .before .loop .inv .2 j (omega arith)))

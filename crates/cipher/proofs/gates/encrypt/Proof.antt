@@ -1,11 +1,6 @@
 -- `cipher::gates::encrypt` meets its contract. The invariant of either loop: the rounds that are left give what they gave where it
 -- began (`rounds-next`).
--- Assumes nothing.
-use borrow.Author.Needs.{needs}
-use mathlib.Core.Path.{_≡_, refl, ap, _∙_}
-use Prim.Native.Nat.{_≤_, _+_, _-_, _%_}
-use native.Mathlib.Omega.{arith}
-use lib.ListN.{length, drop}
+use Rattle.block.proofs.Base.{_%_, _+_, _-_, _≤_, _∙_, _≡_, ap, refl, arith, needs, drop, length}
 use Rattle.cipher.specs.Sm4.{rounds}
 use Rattle.cipher.proofs.Rounds.{rounds-next, rounds-done}
 use Rattle.cipher.proofs.gates.encrypt.Statement.{statement}
@@ -22,12 +17,6 @@ Inv-loop rk x₀ i₀ x i = (i ≤ 32) × (i % 4 ≡ 0) × (rounds (drop i rk) x
 
 abbrev μ-loop : tie.MeasureT-loop
 μ-loop rk x₀ i₀ x i = 32 - i
-
-loop-holds : tie.Need-loop-holds Inv-loop2 μ-loop2 Inv-loop μ-loop
-loop-holds c = (search needs, refl, refl)
-
-loop2-holds : tie.Need-loop2-holds Inv-loop2 μ-loop2 Inv-loop μ-loop
-loop2-holds c = (omega arith, refl)
 
 loop-again : tie.Need-loop-again Inv-loop2 μ-loop2 Inv-loop μ-loop
 loop-again c =
@@ -52,8 +41,6 @@ returns c =
 
 pub encrypt-spec : {M : Type 1} → statement M
 encrypt-spec =
-    tie.close
-    (tie.spec
-    Inv-loop2 μ-loop2 Inv-loop μ-loop loop-holds (λ c. omega arith) loop2-holds (λ c. omega arith) loop-again (λ c. search needs) (λ c. search needs)
-    (λ c κs. search needs) (λ c. omega arith) (λ c. omega arith) loop2-again (λ c. search needs) (λ c. search needs) (λ c. search needs)
-    (λ c. search needs) returns)
+    tie.close (tie.spec Inv-loop2 μ-loop2 Inv-loop μ-loop (λ c. (search needs, refl, refl)) (λ c. omega arith) (λ c. (omega arith, refl))
+    (λ c. omega arith) loop-again (λ c. search needs) (λ c. search needs) (λ c κs. search needs) (λ c. omega arith) (λ c. omega arith)
+    loop2-again (λ c. search needs) (λ c. search needs) (λ c. search needs) (λ c. search needs) returns)

@@ -1,11 +1,7 @@
 -- `cipher::gates::four_lanes` meets its contract: the mask is a one in each of the four lanes (`masked-lanes`).
--- Assumes nothing.
 use Rattle.cipher.proofs.FourLanes.{masked-lanes, masked-lt}
 use Rattle.cipher.proofs.gates.four_lanes.Statement.{statement}
 use Rattle.cipher.proofs.gates.four_lanes.Tie as tie
 
-returns : tie.Need-returns
-returns c = (masked-lanes (c .args .w), masked-lt (c .args .w))
-
 pub four-lanes-spec : {M : Type 1} → statement M
-four-lanes-spec = tie.close (tie.spec returns)
+four-lanes-spec = tie.close (tie.spec (λ c. (masked-lanes (c .args .w), masked-lt (c .args .w))))

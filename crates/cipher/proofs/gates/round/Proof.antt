@@ -1,15 +1,8 @@
 -- `cipher::gates::round` meets its contract: it is the definition's round by T.
--- Assumes nothing.
-use borrow.Author.Needs.{needs}
+use Rattle.block.proofs.Base.{needs}
 use Rattle.cipher.proofs.gates.round.Statement.{statement}
 use Rattle.cipher.proofs.gates.round.Tie as tie
 
-returns : tie.Need-returns
-returns c = rw (c .t-trans .ensures)
-
 pub round-spec : {M : Type 1} → statement M
-round-spec =
-    tie.close
-    (tie.spec
-    (λ c. search needs) (λ c. search needs) (λ c. search needs) (λ c. search needs) (λ c. search needs)
-    (λ c. search needs) (λ c. search needs) (λ c κs. search needs) returns)
+round-spec = tie.close (tie.spec (λ c. search needs) (λ c. search needs) (λ c. search needs) (λ c. search needs) (λ c. search needs)
+    (λ c. search needs) (λ c. search needs) (λ c κs. search needs) (λ c. rw (c .t-trans .ensures)))

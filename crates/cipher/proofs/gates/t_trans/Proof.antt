@@ -1,14 +1,10 @@
 -- `cipher::gates::t_trans` meets its contract: L after tau, as in the definition.
--- Assumes nothing.
-use borrow.Author.Needs.{needs}
-use mathlib.Core.Path.{_∙_}
+use Rattle.block.proofs.Base.{_∙_, needs}
 use Rattle.cipher.specs.Sm4.{T}
 use Rattle.cipher.proofs.gates.t_trans.Statement.{statement}
 use Rattle.cipher.proofs.gates.t_trans.Tie as tie
 
-returns : tie.Need-returns
-unfolding T
-returns c = c .l-trans .ensures ∙ rw (c .before .tau-trans .ensures)
-
 pub t-trans-spec : {M : Type 1} → statement M
-t-trans-spec = tie.close (tie.spec (λ c κs. search needs) (λ c κs. search needs) returns)
+unfolding T
+t-trans-spec =
+    tie.close (tie.spec (λ c κs. search needs) (λ c κs. search needs) (λ c. c .l-trans .ensures ∙ rw (c .before .tau-trans .ensures)))

@@ -1,16 +1,10 @@
 -- `cipher_mode::Sm4Cipher::call` meets its contract: where the check refused, so does the definition; where it passed, the block was
 -- written and is sixteen bytes.
--- Assumes nothing.
-use mathlib.Core.Path.{sym, ap, _∙_}
-use mathlib.Core.List.{_++_}
-use Prim.Native.Nat.{ℕ}
-use denote.Ref.{now}
-use lib.ListN.{drop}
+use Rattle.block.proofs.Base.{ℕ, _∙_, ap, sym, _++_, needs, now, drop}
 use Rattle.walk.specs.Outcome.{done}
 use Rattle.cipher_mode.specs.Calls.{blockOf, blockCall}
 use Rattle.cipher_mode.proofs.Passed.{block-passed}
 use Rattle.cipher_mode.proofs.Ends.{refused-there, went-on, reached, on-key, length-block}
-use borrow.Author.Needs.{needs}
 use Rattle.cipher_mode.proofs.Sm4Cipher.call.Statement.{statement}
 use Rattle.cipher_mode.proofs.Sm4Cipher.call.Tie as tie
 
@@ -47,8 +41,5 @@ returns-2 c =
     (reached b o _ 16 n (at-work .block2 .ensures ∙ ap (λ (k : ℕ). b ++ drop k o) (sym n))))
 
 pub call-spec : {M : Type 1} → statement M
-call-spec =
-    tie.close
-    (tie.spec
-    (λ c κs. search needs) (λ c κs. search needs) (λ c. search needs) (λ c κs. search needs) returns
+call-spec = tie.close (tie.spec (λ c κs. search needs) (λ c κs. search needs) (λ c. search needs) (λ c κs. search needs) returns
     (λ c. search needs) block-requires-2 (λ c κs. search needs) (λ c. search needs) returns-2)

@@ -1,13 +1,6 @@
 -- `cipher_mode::Sm4Cipher::new` meets its contract: the length of the key decides, and then its number, as in the definition.
--- Assumes nothing.
-use mathlib.Core.Path.{_≡_, sym, _∙_}
-use mathlib.Core.Bool.{Bool, true, false, _||_}
-use Prim.Native.Nat.{ℕ, _≤_}
-use native.Mathlib.Omega.{arith}
-use lib.Dec.{eqb, ltb}
-use borrow.Author.Tests.{eq-eqb, ne-eqb, ltb-false}
+use Rattle.block.proofs.Base.{_≤_, ℕ, _∙_, _≡_, sym, Bool, _||_, false, true, arith, needs, eq-eqb, ltb-false, ne-eqb, eqb, ltb}
 use Rattle.cipher_mode.specs.Key.{wrongNumber, newCipher}
-use borrow.Author.Needs.{needs}
 use Rattle.cipher_mode.proofs.Sm4Cipher.new.Statement.{statement}
 use Rattle.cipher_mode.proofs.Sm4Cipher.new.Tie as tie
 
@@ -17,10 +10,6 @@ in-range n e = not-above (eqb n 0) e
     not-above : (none : Bool) → none || ltb 65535 n ≡ false → n ≤ 65535
     not-above true f = let z : _≡_ {A = ℕ} 0 1 = cc in absurd (omega arith)
     not-above false f = ltb-false 65535 n f
-
-returns : tie.Need-returns
-unfolding newCipher
-returns c = rw (ne-eqb _ _ (c .before .if1 .taken)) (c .no-cipher .ensures)
 
 returns-2 : tie.Need-returns-2
 unfolding newCipher
@@ -39,15 +28,9 @@ returns-3 : tie.Need-returns-3
 unfolding newCipher
 returns-3 c =
     let at-number = c .before .before in
-    rw (
-      eq-eqb _ _ (at-number .before .if1 .left),
-      sym (at-number .wrong-number .ensures) ∙ c .before .if2 .left,
-      c .key-schedule .ensures,
-    )
+    rw (eq-eqb _ _ (at-number .before .if1 .left), sym (at-number .wrong-number .ensures) ∙ c .before .if2 .left, c .key-schedule .ensures)
 
 pub new-spec : {M : Type 1} → statement M
-new-spec =
-    tie.close
-    (tie.spec
-    (λ c κs. search needs) returns (λ c κs. search needs) (λ c κs. search needs) returns-2 (λ c κs. search needs)
-    cast-t10 returns-3)
+unfolding newCipher
+new-spec = tie.close (tie.spec (λ c κs. search needs) (λ c. rw (ne-eqb _ _ (c .before .if1 .taken)) (c .no-cipher .ensures))
+    (λ c κs. search needs) (λ c κs. search needs) returns-2 (λ c κs. search needs) cast-t10 returns-3)

@@ -1,12 +1,7 @@
 -- `cipher_mode::Sm4Cipher::retire` meets its contract: what is no key comes back, and of a key the definition gives the record.
--- Assumes nothing.
-use mathlib.Core.Path.{_≡_, refl}
-use mathlib.Core.Logic.{⊎-elim}
-use mathlib.Core.List.{[], _∷_}
-use native.Mathlib.Omega.{arith}
+use Rattle.block.proofs.Base.{_≡_, refl, ⊎-elim, [], _∷_, arith, needs}
 use denote.Enum.Declared.{tagOf}
 use types.Run.{OneOf}
-use borrow.Author.Needs.{needs}
 use Rattle.cipher_mode.specs.declared.KeyAnswer.{KeyAnswer}
 use Rattle.cipher_mode.specs.declared.KeyAnswer.the-variants.{Key, ErrorBlockSize, WrongNumber}
 use Rattle.cipher_mode.specs.declared.Sm4Cipher.{Sm4Cipher}
@@ -20,13 +15,6 @@ no-key c Key told = absurd (⊎-elim (λ t. omega arith) (λ t. omega arith) tol
 no-key c ErrorBlockSize told = refl
 no-key c WrongNumber told = refl
 
-returns : tie.Need-returns
-unfolding retire
-returns c = rw (no-key _ _ (c .match .keys2))
-
-returns-2 : tie.Need-returns-2
-unfolding retire
-returns-2 c = rw (c .before .enum-told .given .1)
-
 pub retire-spec : {M : Type 1} → statement M
-retire-spec = tie.close (tie.spec (λ c. search needs) returns returns-2)
+unfolding retire
+retire-spec = tie.close (tie.spec (λ c. search needs) (λ c. rw (no-key _ _ (c .match .keys2))) (λ c. rw (c .before .enum-told .given .1)))

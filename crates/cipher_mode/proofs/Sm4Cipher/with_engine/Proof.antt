@@ -1,13 +1,9 @@
 -- `cipher_mode::Sm4Cipher::with_engine` meets its contract: every field is the definition's.
--- Assumes nothing.
-use mathlib.Core.Path.{refl}
+use Rattle.block.proofs.Base.{refl}
 use Rattle.cipher_mode.specs.Key.{withEngine}
 use Rattle.cipher_mode.proofs.Sm4Cipher.with_engine.Statement.{statement}
 use Rattle.cipher_mode.proofs.Sm4Cipher.with_engine.Tie as tie
 
-returns : tie.Need-returns
-unfolding withEngine
-returns c = refl
-
 pub with-engine-spec : {M : Type 1} → statement M
-with-engine-spec = tie.close (tie.spec returns)
+unfolding withEngine
+with-engine-spec = tie.close (tie.spec (λ c. refl))

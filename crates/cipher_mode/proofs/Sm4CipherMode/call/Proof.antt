@@ -1,13 +1,10 @@
 -- `cipher_mode::Sm4CipherMode::call` meets its contract: where a check refused, so does the definition; where all passed, the work leaves
 -- what the definition goes on to.
--- Assumes nothing.
-use mathlib.Core.Path.{sym, ap₂, _∙_}
-use denote.Ref.{now}
+use Rattle.block.proofs.Base.{_∙_, ap₂, sym, needs, now}
 use Rattle.walk.specs.Outcome.{Outcome, keyed}
 use Rattle.cipher_mode.specs.Calls.{modeResult, modeCall}
 use Rattle.cipher_mode.proofs.Passed.{message-passed}
 use Rattle.cipher_mode.proofs.Ends.{refused-there, went-on}
-use borrow.Author.Needs.{needs}
 use Rattle.cipher_mode.proofs.Sm4CipherMode.call.Statement.{statement}
 use Rattle.cipher_mode.proofs.Sm4CipherMode.call.Tie as tie
 
@@ -43,8 +40,5 @@ returns-2 c =
     (went-on _ o _ next (sym (at-check .message .ensures) ∙ told .enum-told .given .1) (at-work .message-by .ensures))
 
 pub call-spec : {M : Type 1} → statement M
-call-spec =
-    tie.close
-    (tie.spec
-    (λ c κs. search needs) (λ c κs. search needs) (λ c. search needs) (λ c κs. search needs) returns
+call-spec = tie.close (tie.spec (λ c κs. search needs) (λ c κs. search needs) (λ c. search needs) (λ c κs. search needs) returns
     (λ c. search needs) message-by-requires (λ c. search needs) returns-2)

@@ -1,14 +1,9 @@
 -- `cipher_mode::Sm4CipherMode::new` meets its contract: it is the key's record beside the mode.
--- Assumes nothing.
 use Rattle.cipher_mode.specs.Key.{newCipherMode}
-use borrow.Author.Needs.{needs}
+use Rattle.block.proofs.Base.{needs}
 use Rattle.cipher_mode.proofs.Sm4CipherMode.new.Statement.{statement}
 use Rattle.cipher_mode.proofs.Sm4CipherMode.new.Tie as tie
 
-returns : tie.Need-returns
-unfolding newCipherMode
-returns c = rw (c .new .ensures)
-
 pub new-spec : {M : Type 1} → statement M
-new-spec =
-    tie.close (tie.spec (λ c κs. search needs) returns)
+unfolding newCipherMode
+new-spec = tie.close (tie.spec (λ c κs. search needs) (λ c. rw (c .new .ensures)))

@@ -1,21 +1,13 @@
--- `cipher_mode::checks::block` meets its contract: a stage that refuses ends the list (`stops`), and after one that passed the next
--- answers (`goes-on`).
--- Assumes nothing.
-use mathlib.Core.Path.{_≡_}
-use lib.Dec.{ltb}
-use borrow.Author.Tests.{eq-eqb, ne-eqb, lt-ltb, le-ltb}
+-- `cipher_mode::checks::block` meets its contract: a stage that refuses ends the list (`stops`), and after one that passed the next answers
+-- (`goes-on`).
+use Rattle.block.proofs.Base.{_≡_, needs, eq-eqb, le-ltb, lt-ltb, ne-eqb, ltb}
 use Rattle.cipher_mode.specs.declared.answer.Refusal.the-variants.{NoRoom}
 use Rattle.cipher_mode.specs.declared.checks.Checked.{Checked}
 use Rattle.cipher_mode.specs.declared.checks.Checked.the-variants.{Passed}
 use Rattle.cipher_mode.specs.Checks.{refuse, blockCheck}
 use Rattle.cipher_mode.proofs.Passed.{stops, goes-on}
-use borrow.Author.Needs.{needs}
 use Rattle.cipher_mode.proofs.checks.block.Statement.{statement}
 use Rattle.cipher_mode.proofs.checks.block.Tie as tie
-
-returns : tie.Need-returns
-unfolding blockCheck
-returns c = stops _ _ _ _ (c .before .before .key .ensures) (c .enum-told2 .given .1)
 
 returns-2 : tie.Need-returns-2
 unfolding blockCheck
@@ -32,8 +24,7 @@ returns-3 c =
     (rw (eq-eqb _ _ (at-mark .before .if1 .left)) (stops _ _ _ _ (at-mark .retired .ensures) (c .enum-told4 .given .1)))
 
 -- past key, block and mark the room decides
-to-room : (c : tie.After-enum-told3) (r : Checked)
-    → let a = c .before .before .before .before .before .before .before .args in
+to-room : (c : tie.After-enum-told3) (r : Checked) → let a = c .before .before .before .before .before .before .before .args in
     r ≡ refuse (ltb (a .room) 16) NoRoom Passed → r ≡ blockCheck (a .answer) (a .mark) (a .direction) (a .n) (a .room)
 unfolding blockCheck
 to-room c r e =
@@ -42,15 +33,9 @@ to-room c r e =
     goes-on _ _ _ _ (told .before .before .key .ensures) (told .enum-told .given .1)
     (rw (eq-eqb _ _ (at-mark .before .if1 .left)) (goes-on _ _ _ _ (at-mark .retired .ensures) (c .enum-told3 .given .1) e))
 
-returns-4 : tie.Need-returns-4
-returns-4 c = to-room (c .before) _ (rw (lt-ltb _ _ (c .if2 .taken)))
-
-returns-5 : tie.Need-returns-5
-returns-5 c = to-room (c .before) _ (rw (le-ltb _ _ (c .if2 .left)))
-
 pub block-spec : {M : Type 1} → statement M
-block-spec =
-    tie.close
-    (tie.spec
-    (λ c κs. search needs) (λ c. search needs) (λ c. search needs) returns returns-2 (λ c κs. search needs)
-    (λ c. search needs) (λ c. search needs) returns-3 returns-4 returns-5)
+unfolding blockCheck
+block-spec = tie.close (tie.spec (λ c κs. search needs) (λ c. search needs) (λ c. search needs)
+    (λ c. stops _ _ _ _ (c .before .before .key .ensures) (c .enum-told2 .given .1)) returns-2 (λ c κs. search needs) (λ c. search needs)
+    (λ c. search needs) returns-3 (λ c. to-room (c .before) _ (rw (lt-ltb _ _ (c .if2 .taken))))
+    (λ c. to-room (c .before) _ (rw (le-ltb _ _ (c .if2 .left)))))

@@ -1,19 +1,10 @@
 -- `cipher_mode::checks::data` meets its contract: too long, or as its shape is.
--- Assumes nothing.
-use borrow.Author.Tests.{lt-ltb, le-ltb}
+use Rattle.block.proofs.Base.{needs, le-ltb, lt-ltb}
 use Rattle.cipher_mode.specs.Checks.{dataCheck}
-use borrow.Author.Needs.{needs}
 use Rattle.cipher_mode.proofs.checks.data.Statement.{statement}
 use Rattle.cipher_mode.proofs.checks.data.Tie as tie
 
-returns : tie.Need-returns
-unfolding dataCheck
-returns c = rw (← (c .before .limit-of .ensures), lt-ltb _ _ (c .if1 .taken))
-
-returns-2 : tie.Need-returns-2
-unfolding dataCheck
-returns-2 c = rw (← (c .before .before .limit-of .ensures), le-ltb _ _ (c .before .if1 .left)) (c .shape .ensures)
-
 pub data-spec : {M : Type 1} → statement M
-data-spec =
-    tie.close (tie.spec (λ c κs. search needs) returns (λ c κs. search needs) returns-2)
+unfolding dataCheck
+data-spec = tie.close (tie.spec (λ c κs. search needs) (λ c. rw (← (c .before .limit-of .ensures), lt-ltb _ _ (c .if1 .taken)))
+    (λ c κs. search needs) (λ c. rw (← (c .before .before .limit-of .ensures), le-ltb _ _ (c .before .if1 .left)) (c .shape .ensures)))

@@ -1,20 +1,10 @@
 -- `cipher_mode::checks::decryption_room` meets its contract: the mode picks the table's row, and Gcm's data in order has a tag.
--- Assumes nothing.
-use native.Mathlib.Omega.{arith}
+use Rattle.block.proofs.Base.{arith, needs}
 use Rattle.cipher_mode.proofs.Passed.{with-tag-passed}
-use borrow.Author.Needs.{needs}
 use Rattle.cipher_mode.proofs.checks.decryption_room.Statement.{statement}
 use Rattle.cipher_mode.proofs.checks.decryption_room.Tie as tie
 
-sub-result : tie.Need-sub-result
-sub-result c = omega (arith, with-tag-passed _ (rw (c .enum-told5 .given .1) at (c .before .before .pre)))
-
-returns-5 : tie.Need-returns-5
-returns-5 c = rw (c .enum-told5 .given .1)
-
 pub decryption-room-spec : {M : Type 1} → statement M
-decryption-room-spec =
-    tie.close
-    (tie.spec
-    (λ c. search needs) (λ c. search needs) (λ c. search needs) (λ c. search needs) (λ c. search needs) sub-result
-    (λ c. search needs) (λ c. search needs) (λ c. search needs) (λ c. search needs) returns-5)
+decryption-room-spec = tie.close (tie.spec (λ c. search needs) (λ c. search needs) (λ c. search needs) (λ c. search needs)
+    (λ c. search needs) (λ c. omega (arith, with-tag-passed _ (rw (c .enum-told5 .given .1) at (c .before .before .pre))))
+    (λ c. search needs) (λ c. search needs) (λ c. search needs) (λ c. search needs) (λ c. rw (c .enum-told5 .given .1)))

@@ -1,15 +1,9 @@
 -- `cipher_mode::checks::key_and_iv` meets its contract: each return is the definition, by the tests that led there.
--- Assumes nothing.
-use mathlib.Core.Path.{sym, _∙_}
+use Rattle.block.proofs.Base.{_∙_, sym, needs}
 use Rattle.cipher_mode.specs.Checks.{keyAndIv}
 use Rattle.cipher_mode.proofs.Passed.{stops, goes-on}
-use borrow.Author.Needs.{needs}
 use Rattle.cipher_mode.proofs.checks.key_and_iv.Statement.{statement}
 use Rattle.cipher_mode.proofs.checks.key_and_iv.Tie as tie
-
-returns : tie.Need-returns
-unfolding keyAndIv
-returns c = stops _ _ _ _ (c .before .before .key .ensures) (c .enum-told2 .given .1)
 
 returns-2 : tie.Need-returns-2
 unfolding keyAndIv
@@ -27,5 +21,7 @@ returns-3 c =
     (rw (sym (at-iv .wrong-iv .ensures) ∙ c .before .if1 .left) (c .retired .ensures))
 
 pub key-and-iv-spec : {M : Type 1} → statement M
-key-and-iv-spec =
-    tie.close (tie.spec (λ c κs. search needs) (λ c. search needs) (λ c. search needs) returns (λ c κs. search needs) returns-2 (λ c κs. search needs) returns-3)
+unfolding keyAndIv
+key-and-iv-spec = tie.close (tie.spec (λ c κs. search needs) (λ c. search needs) (λ c. search needs)
+    (λ c. stops _ _ _ _ (c .before .before .key .ensures) (c .enum-told2 .given .1)) (λ c κs. search needs) returns-2 (λ c κs. search needs)
+    returns-3)

@@ -1,19 +1,9 @@
 -- `cipher_mode::checks::label` meets its contract: in each arm the mode is known, and the definition gives that arm.
--- Assumes nothing.
-use borrow.Author.Tests.{lt-ltb, le-ltb}
-use borrow.Author.Needs.{needs}
+use Rattle.block.proofs.Base.{needs, le-ltb, lt-ltb}
 use Rattle.cipher_mode.proofs.checks.label.Statement.{statement}
 use Rattle.cipher_mode.proofs.checks.label.Tie as tie
 
-returns : tie.Need-returns
-returns c = rw (c .before .enum-told5 .given .1, lt-ltb _ _ (c .if1 .taken))
-
-returns-6 : tie.Need-returns-6
-returns-6 c = rw (c .before .enum-told5 .given .1, le-ltb _ _ (c .if1 .left))
-
 pub label-spec : {M : Type 1} → statement M
-label-spec =
-    tie.close
-    (tie.spec
-    (λ c. search needs) (λ c. search needs) (λ c. search needs) (λ c. search needs) (λ c. search needs) returns
-    (λ c. search needs) (λ c. search needs) (λ c. search needs) (λ c. search needs) returns-6)
+label-spec = tie.close (tie.spec (λ c. search needs) (λ c. search needs) (λ c. search needs) (λ c. search needs) (λ c. search needs)
+    (λ c. rw (c .before .enum-told5 .given .1, lt-ltb _ _ (c .if1 .taken))) (λ c. search needs) (λ c. search needs) (λ c. search needs)
+    (λ c. search needs) (λ c. rw (c .before .enum-told5 .given .1, le-ltb _ _ (c .if1 .left))))

@@ -1,16 +1,10 @@
 -- `cipher_mode::checks::message` meets its contract: a stage that refuses ends the list (`stops`), and after one that passed the next
 -- answers (`goes-on`).
--- Assumes nothing.
-use mathlib.Core.Path.{sym, _∙_}
+use Rattle.block.proofs.Base.{_∙_, sym, needs}
 use Rattle.cipher_mode.specs.Checks.{messageCheck}
 use Rattle.cipher_mode.proofs.Passed.{stops, goes-on}
-use borrow.Author.Needs.{needs}
 use Rattle.cipher_mode.proofs.checks.message.Statement.{statement}
 use Rattle.cipher_mode.proofs.checks.message.Tie as tie
-
-returns : tie.Need-returns
-unfolding messageCheck
-returns c = stops _ _ _ _ (c .before .before .key-and-iv .ensures) (c .enum-told2 .given .1)
 
 returns-2 : tie.Need-returns-2
 unfolding messageCheck
@@ -31,9 +25,6 @@ returns-3 c =
     (goes-on _ _ _ _ (at-label .label .ensures) (at-second .enum-told3 .given .1)
     (stops _ _ _ _ (at-data .«data» .ensures) (c .enum-told6 .given .1)))
 
-room-requires : tie.Need-room-requires
-room-requires c κs = sym (c .before .before .«data» .ensures) ∙ c .enum-told5 .given .1
-
 returns-4 : tie.Need-returns-4
 unfolding messageCheck
 returns-4 c =
@@ -47,9 +38,8 @@ returns-4 c =
     (goes-on _ _ _ _ (at-data .«data» .ensures) (at-third .enum-told5 .given .1) (c .room .ensures)))
 
 pub message-spec : {M : Type 1} → statement M
-message-spec =
-    tie.close
-    (tie.spec
-    (λ c κs. search needs) (λ c. search needs) (λ c. search needs) returns (λ c κs. search needs) (λ c. search needs)
-    (λ c. search needs) returns-2 (λ c κs. search needs) (λ c. search needs) (λ c. search needs) returns-3 room-requires
-    returns-4)
+unfolding messageCheck
+message-spec = tie.close (tie.spec (λ c κs. search needs) (λ c. search needs) (λ c. search needs)
+    (λ c. stops _ _ _ _ (c .before .before .key-and-iv .ensures) (c .enum-told2 .given .1)) (λ c κs. search needs) (λ c. search needs)
+    (λ c. search needs) returns-2 (λ c κs. search needs) (λ c. search needs) (λ c. search needs) returns-3
+    (λ c κs. sym (c .before .before .«data» .ensures) ∙ c .enum-told5 .given .1) returns-4)

@@ -1,12 +1,8 @@
 -- `cipher_mode::checks::retired` meets its contract: a key that is retired is refused where it was to encrypt.
--- Assumes nothing.
-use borrow.Author.Needs.{needs}
+use Rattle.block.proofs.Base.{needs}
 use Rattle.cipher_mode.proofs.checks.retired.Statement.{statement}
 use Rattle.cipher_mode.proofs.checks.retired.Tie as tie
 
-returns-2 : tie.Need-returns-2
-returns-2 c = rw (c .before .enum-told .given .1, c .if1 .taken)
-
 pub retired-spec : {M : Type 1} → statement M
-retired-spec =
-    tie.close (tie.spec (λ c. search needs) (λ c. search needs) (λ c. search needs) returns-2 (λ c. search needs))
+retired-spec = tie.close (tie.spec (λ c. search needs) (λ c. search needs) (λ c. search needs)
+    (λ c. rw (c .before .enum-told .given .1, c .if1 .taken)) (λ c. search needs))

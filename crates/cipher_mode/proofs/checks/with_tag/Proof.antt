@@ -1,16 +1,8 @@
 -- `cipher_mode::checks::with_tag` meets its contract: each return is one test of the definition.
--- Assumes nothing.
-use borrow.Author.Tests.{lt-ltb, le-ltb}
-use borrow.Author.Needs.{needs}
+use Rattle.block.proofs.Base.{needs, le-ltb, lt-ltb}
 use Rattle.cipher_mode.proofs.checks.with_tag.Statement.{statement}
 use Rattle.cipher_mode.proofs.checks.with_tag.Tie as tie
 
-returns : tie.Need-returns
-returns c = rw (lt-ltb _ _ (c .if1 .taken))
-
-returns-2 : tie.Need-returns-2
-returns-2 c = rw (le-ltb _ _ (c .if1 .left))
-
 pub with-tag-spec : {M : Type 1} → statement M
-with-tag-spec =
-    tie.close (tie.spec (λ c. search needs) (λ c. search needs) returns returns-2)
+with-tag-spec = tie.close (tie.spec (λ c. search needs) (λ c. search needs) (λ c. rw (lt-ltb _ _ (c .if1 .taken)))
+    (λ c. rw (le-ltb _ _ (c .if1 .left))))

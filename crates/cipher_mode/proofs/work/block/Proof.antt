@@ -1,13 +1,7 @@
 -- `cipher_mode::work::block` meets its contract: the block's words go through the cipher under the direction's round keys (`block-by`).
--- Assumes nothing.
-use mathlib.Core.Path.{ap, _∙_}
-use mathlib.Core.List.{List, _++_}
-use Prim.Native.Nat.{ℕ}
-use denote.Ref.{now}
-use lib.ListN.{drop}
+use Rattle.block.proofs.Base.{ℕ, _∙_, ap, List, _++_, needs, now, drop}
 use Rattle.block.specs.Words.{unwords}
 use Rattle.cipher_mode.proofs.Ends.{block-by}
-use borrow.Author.Needs.{needs}
 use Rattle.cipher_mode.proofs.work.block.Statement.{statement}
 use Rattle.cipher_mode.proofs.work.block.Tie as tie
 
@@ -23,8 +17,5 @@ returns c =
     ∙ ap (λ (l : List ℕ). l ++ drop 16 (now (a .out))) (ap unwords words-of ∙ block-by (a .direction) (a .rk) (now (a .block-in)))
 
 pub block-spec : {M : Type 1} → statement M
-block-spec =
-    tie.close
-    (tie.spec
-    (λ c κs. search needs) (λ c κs. search needs) (λ c κs. search needs) (λ c κs. search needs) (λ c κs. search needs) (λ c. search needs)
-    returns)
+block-spec = tie.close (tie.spec (λ c κs. search needs) (λ c κs. search needs) (λ c κs. search needs) (λ c κs. search needs)
+    (λ c κs. search needs) (λ c. search needs) returns)

@@ -1,11 +1,5 @@
 -- `cipher_mode::work::by_cbc` meets its contract: sealing is as long as the table says, and opening answers as `cbc::decrypt`.
--- Assumes nothing.
-use mathlib.Core.Path.{_≡_, sym, ap, _∙_}
-use mathlib.Core.List.{List}
-use Prim.Native.Nat.{ℕ, _<_}
-use native.Mathlib.Omega.{arith}
-use denote.Ref.{now}
-use lib.ListN.{getD}
+use Rattle.block.proofs.Base.{_<_, ℕ, _∙_, _≡_, ap, sym, List, arith, needs, now, getD}
 use Rattle.block.specs.Words.{unwords}
 use Rattle.walk.specs.Outcome.{Head, Outcome, leaving}
 use Rattle.walk.specs.Walk.{over}
@@ -14,7 +8,6 @@ use Rattle.cbc.specs.Open.{cbcOpen}
 use Rattle.cbc.proofs.RoundTrip.{length-cbcSeal}
 use Rattle.cipher_mode.proofs.Passed.{data-within, whole-blocks-passed}
 use Rattle.cipher_mode.proofs.Ends.{reached, spelled}
-use borrow.Author.Needs.{needs}
 use Rattle.cipher_mode.proofs.work.by_cbc.Statement.{statement}
 use Rattle.cipher_mode.proofs.work.by_cbc.Tie as tie
 
@@ -56,9 +49,7 @@ returns c =
     let iv = now (a .iv) in
     let d = now (a .«data») in
     let o = now (a .out) in
-    rw (told .enum-told .given .1)
-    (reached (cbcSeal (a .rk) iv d) o _ _
-    (length-cbcSeal (a .rk) iv d ∙ sym (c .encrypted-length .ensures))
+    rw (told .enum-told .given .1) (reached (cbcSeal (a .rk) iv d) o _ _ (length-cbcSeal (a .rk) iv d ∙ sym (c .encrypted-length .ensures))
     (at-encrypt .encrypt .ensures ∙ ap (λ (s : List ℕ). over (cbcSeal (a .rk) s d) o) (is-iv at-split)))
 
 returns-2 : tie.Need-returns-2
@@ -72,12 +63,8 @@ returns-2 c =
     let o = now (a .out) in
     rw (told .enum-told2 .given .1)
     (ap {B = Outcome} (λ (h : Head). leaving h (at-decrypt .decrypt .last .1 .1 .1 .1 .0)) (c .cbc-answer .ensures)
-    ∙ at-decrypt .decrypt .ensures
-    ∙ ap {B = Outcome} (λ (s : List ℕ). cbcOpen (a .rk) s d o) (is-iv at-split))
+    ∙ at-decrypt .decrypt .ensures ∙ ap {B = Outcome} (λ (s : List ℕ). cbcOpen (a .rk) s d o) (is-iv at-split))
 
 pub by-cbc-spec : {M : Type 1} → statement M
-by-cbc-spec =
-    tie.close
-    (tie.spec
-    (λ c κs. search needs) (λ c. search needs) encrypt-requires encrypted-length-requires (λ c. search needs)
+by-cbc-spec = tie.close (tie.spec (λ c κs. search needs) (λ c. search needs) encrypt-requires encrypted-length-requires (λ c. search needs)
     decrypt-requires (λ c κs. search needs) (λ c. search needs) returns (λ c. search needs) returns-2)

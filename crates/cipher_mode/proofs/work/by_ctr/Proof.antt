@@ -1,19 +1,12 @@
 -- `cipher_mode::work::by_ctr` meets its contract: it leaves what the stream leaves, and tells of its counter what the formula says of the
 -- IV, whose words spell it.
--- Assumes nothing.
-use mathlib.Core.Path.{refl, ap, _∙_}
-use mathlib.Core.List.{List}
-use Prim.Native.Nat.{ℕ, _<_}
-use native.Mathlib.Omega.{arith}
-use denote.Ref.{now}
-use lib.ListN.{length, getD}
+use Rattle.block.proofs.Base.{_<_, ℕ, _∙_, ap, refl, List, arith, needs, now, getD, length}
 use Rattle.counter.specs.CameRound.{blocksOf, ctrCameRound}
 use Rattle.walk.specs.Outcome.{done}
 use Rattle.walk.specs.Walk.{chain}
 use Rattle.stream.specs.Stream.{streamMode}
 use Rattle.stream.specs.declared.Kind.the-variants.{Ctr}
 use Rattle.cipher_mode.proofs.Ends.{spelled, told-of}
-use borrow.Author.Needs.{needs}
 use Rattle.cipher_mode.proofs.work.by_ctr.Statement.{statement}
 use Rattle.cipher_mode.proofs.work.by_ctr.Tie as tie
 
@@ -32,7 +25,4 @@ returns c =
     (c .ctr-came-round .ensures ∙ ap (λ (v : List ℕ). ctrCameRound v (blocksOf (length d))) is-iv) (at-stream .by-stream .ensures) refl
 
 pub by-ctr-spec : {M : Type 1} → statement M
-by-ctr-spec =
-    tie.close
-    (tie.spec
-    (λ c κs. search needs) (λ c κs. search needs) (λ c κs. search needs) (λ c. search needs) returns)
+by-ctr-spec = tie.close (tie.spec (λ c κs. search needs) (λ c κs. search needs) (λ c κs. search needs) (λ c. search needs) returns)

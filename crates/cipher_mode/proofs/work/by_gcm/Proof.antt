@@ -1,15 +1,5 @@
 -- `cipher_mode::work::by_gcm` meets its contract: with the start of keys and IV, as long as the table says or as `gcm::decrypt`.
--- Assumes nothing.
-use mir.Val.{Fits}
-use mir.Syntax.{w32}
-use mathlib.Core.Path.{_≡_, refl, sym, ap, ap₂, subst, _∙_}
-use mathlib.Core.Bool.{Bool}
-use mathlib.Core.List.{List}
-use Prim.Native.Nat.{ℕ, _-_, _≤_}
-use native.Mathlib.Omega.{arith}
-use denote.Ref.{now}
-use lib.ListN.{length, getD}
-use Rattle.block.specs.Words.{unwords}
+use Rattle.block.proofs.Base.{_-_, _≤_, ℕ, _∙_, _≡_, ap, ap₂, refl, sym, Bool, List, arith, needs, now, getD, length, w32, Fits}
 use Rattle.counter.specs.Counter.{lastFour}
 use Rattle.counter.specs.CameRound.{blocksOf, gcmCameRound}
 use Rattle.counter.proofs.Steps.{last-four}
@@ -17,18 +7,13 @@ use Rattle.walk.specs.Outcome.{Head, Outcome, leaving, reporting}
 use Rattle.walk.specs.Walk.{over}
 use Rattle.gcm.specs.Gcm.{hashKey, J0, sealed}
 use Rattle.gcm.specs.Open.{gcmOpen}
-use Rattle.gcm.specs.Pads.{PadsFor}
 use Rattle.gcm.proofs.Parts.{length-sealed}
 use Rattle.cipher_mode.specs.Tables.{limit}
 use Rattle.cipher_mode.specs.Calls.{gcmRound}
 use Rattle.cipher_mode.proofs.Passed.{iv-twelve-or-sixteen, label-passed, data-within, with-tag-passed}
 use Rattle.cipher_mode.proofs.Ends.{reached, told-of}
-use borrow.Author.Needs.{needs}
 use Rattle.cipher_mode.proofs.work.by_gcm.Statement.{statement}
 use Rattle.cipher_mode.proofs.work.by_gcm.Tie as tie
-
-text-length-requires : tie.Need-text-length-requires
-text-length-requires c κs = λ e. with-tag-passed _ (rw e at (c .before .before .before .before .before .pre .1 .1 .1 .0))
 
 start-requires : tie.Need-start-requires
 start-requires c κs =
@@ -37,44 +22,48 @@ start-requires c κs =
 
 encrypt-requires : tie.Need-encrypt-requires
 encrypt-requires c κs =
+    let at-enum-told = c .before .before in
+    let at-start = at-enum-told .before .before .before .before .before in
+    let at-text-length = at-start .before in
     let S = c .before .before .before .before .before .before .before .before .before .before .before .before .before .before in
-    let way = c .before .before .enum-told .given .1 in
-    let x = c .before .before .before .before .before .before .before .start in
+    let way = at-enum-told .enum-told .given .1 in
+    let x = at-start .start in
     let label = label-passed (length (now (S .args .aad))) (S .pre .1 .1 .0) in
     let within : length (now (S .args .«data»)) ≤ limit = rw way at (data-within _ _ _ (S .pre .1 .1 .1 .0)) in (
       S .pre .0,
       (
-        λ e.
-            subst (λ (n : ℕ). PadsFor (S .args .rk) (unwords (x .result .j0)) n (x .result .pads)) (c .before .before .before .before .before .before .before .before .text-length .ensures .0 way)
-            (x .ensures .1 .1 e),
+        λ e. rw (at-text-length .text-length .ensures .0 way) at (x .ensures .1 .1 e),
         ((omega (arith, label), omega (arith, within)), rw way at (S .pre .1 .1 .1 .1)),
       ),
     )
 
 encrypted-length-requires : tie.Need-encrypted-length-requires
 encrypted-length-requires c κs =
-    rw (c .before .before .before .before .before .enum-told .given .1) at (data-within _ _ _ (c .before .before .before .before .before .before .before .before .before .before .before .before .before .before .before .before .before .pre .1 .1 .1 .0))
+    let at-enum-told = c .before .before .before .before .before in
+    let S = at-enum-told .before .before .before .before .before .before .before .before .before .before .before .before in
+    rw (at-enum-told .enum-told .given .1) at (data-within _ _ _ (S .pre .1 .1 .1 .0))
 
 decrypt-requires : tie.Need-decrypt-requires
 decrypt-requires c κs =
+    let at-enum-told2 = c .before .before in
+    let at-start = at-enum-told2 .before .before .before .before .before in
+    let at-text-length = at-start .before in
     let S = c .before .before .before .before .before .before .before .before .before .before .before .before .before .before in
-    let way = c .before .before .enum-told2 .given .1 in
-    let x = c .before .before .before .before .before .before .before .start in
+    let way = at-enum-told2 .enum-told2 .given .1 in
+    let x = at-start .start in
     let label = label-passed (length (now (S .args .aad))) (S .pre .1 .1 .0) in
     let ordered = rw way at (S .pre .1 .1 .1 .0) in
     let within = data-within _ _ _ ordered in (
       S .pre .0,
       (
-        λ e.
-            subst (λ (n : ℕ). PadsFor (S .args .rk) (unwords (x .result .j0)) n (x .result .pads)) (c .before .before .before .before .before .before .before .before .text-length .ensures .1 way)
-            (x .ensures .1 .1 e),
+        λ e. rw (at-text-length .text-length .ensures .1 way) at (x .ensures .1 .1 e),
         ((omega (arith, label), omega (arith, within)), (with-tag-passed _ ordered, rw way at (S .pre .1 .1 .1 .1))),
       ),
     )
 
 -- what is told of the counter: J0's last word is the number in its last four bytes
 round : (x : tie.After-start) (b : Bool) (m n : ℕ) → m ≡ n → b ≡ gcmCameRound (getD (x .start .result .j0) 3 0) (blocksOf m)
-    → b ≡ gcmRound (x .before .before .before .before .before .before .before .args .rk) (now (x .before .before .before .before .before .before .before .args .iv)) n
+    → let a = x .before .before .before .before .before .before .before .args in b ≡ gcmRound (a .rk) (now (a .iv)) n
 round x b m n k e =
     let j = x .start .result .j0 in
     let h : Fits w32 (getD j 3 0) = search (needs, x .start) in
@@ -82,46 +71,46 @@ round x b m n k e =
 
 returns : tie.Need-returns
 returns c =
+    let at-enum-told = c .before .before .before .before .before .before .before in
+    let at-text-length = at-enum-told .before .before .before .before .before .before in
+    let S = at-text-length .before .before .before .before .before .before in
     let at-encrypt = c .before .before .before .before in
-    let way = c .before .before .before .before .before .before .before .enum-told .given .1 in
+    let way = at-enum-told .enum-told .given .1 in
     let at-start = c .before .before .before .before .before .before .before .before .before .before .before .before in
-    let a = c .before .before .before .before .before .before .before .before .before .before .before .before .before .before .before .before .before .before .before .args in
+    let a = S .args in
     let aad = now (a .aad) in
     let d = now (a .«data») in
     let o = now (a .out) in
     let j = J0 (a .rk) (now (a .iv)) in
-    rw way
-    (told-of _ _ _ _ _
-    (round at-start (c .gcm-came-round .result) _ (length d) (c .before .before .before .before .before .before .before .before .before .before .before .before .before .text-length .ensures .0 way) (c .gcm-came-round .ensures))
+    rw way (told-of _ _ _ _ _
+    (round at-start (c .gcm-came-round .result) _ (length d) (at-text-length .text-length .ensures .0 way) (c .gcm-came-round .ensures))
     (reached (sealed (a .rk) (hashKey (a .rk)) j aad d) o _ _
-    (length-sealed (a .rk) (hashKey (a .rk)) j aad d ∙ sym (c .before .encrypted-length .ensures))
-    (at-encrypt .encrypt .ensures
-    ∙ ap₂ (λ (h : ℕ) (j : List ℕ). over (sealed (a .rk) h j aad d) o) (at-start .start .ensures .0) (at-start .start .ensures .1 .0)))
-    refl)
+    (length-sealed (a .rk) (hashKey (a .rk)) j aad d ∙ sym (c .before .encrypted-length .ensures)) (at-encrypt .encrypt .ensures
+    ∙ ap₂ (λ (h : ℕ) (j : List ℕ). over (sealed (a .rk) h j aad d) o) (at-start .start .ensures .0) (at-start .start .ensures .1 .0))) refl)
 
 returns-2 : tie.Need-returns-2
 returns-2 c =
+    let at-enum-told2 = c .before .before .before .before .before .before .before in
+    let at-text-length = at-enum-told2 .before .before .before .before .before .before in
+    let S = at-text-length .before .before .before .before .before .before in
     let at-round = c .before in
     let at-decrypt = c .before .before .before .before in
-    let way = c .before .before .before .before .before .before .before .enum-told2 .given .1 in
+    let way = at-enum-told2 .enum-told2 .given .1 in
     let at-start = c .before .before .before .before .before .before .before .before .before .before .before .before in
-    let a = c .before .before .before .before .before .before .before .before .before .before .before .before .before .before .before .before .before .before .before .args in
+    let a = S .args in
     let aad = now (a .aad) in
     let d = now (a .«data») in
     let o = now (a .out) in
     let b = at-round .gcm-came-round2 .result in
-    rw way
-    (ap {B = Outcome} (λ (h : Head). leaving h (at-decrypt .decrypt .last .1 .1 .1 .1 .1 .1 .1 .1 .0)) (c .gcm-answer .ensures)
-    ∙ ap {B = Outcome} (reporting b)
-    (at-decrypt .decrypt .ensures
-    ∙ ap₂ {C = Outcome} (λ (h : ℕ) (j : List ℕ). gcmOpen (a .rk) h j aad d o) (at-start .start .ensures .0) (at-start .start .ensures .1 .0))
+    rw way (ap {B = Outcome} (λ (h : Head). leaving h (at-decrypt .decrypt .last .1 .1 .1 .1 .1 .1 .1 .1 .0)) (c .gcm-answer .ensures)
+    ∙ ap {B = Outcome} (reporting b) (at-decrypt .decrypt .ensures
+    ∙ ap₂ {C = Outcome} (λ (h : ℕ) (j : List ℕ). gcmOpen (a .rk) h j aad d o) (at-start .start .ensures .0)
+    (at-start .start .ensures .1 .0))
     ∙ ap {B = Outcome} (λ (t : Bool). reporting t (gcmOpen (a .rk) (hashKey (a .rk)) (J0 (a .rk) (now (a .iv))) aad d o))
-    (round at-start b _ (length d - 16) (c .before .before .before .before .before .before .before .before .before .before .before .before .before .text-length .ensures .1 way) (at-round .gcm-came-round2 .ensures)))
+    (round at-start b _ (length d - 16) (at-text-length .text-length .ensures .1 way) (at-round .gcm-came-round2 .ensures)))
 
 pub by-gcm-spec : {M : Type 1} → statement M
-by-gcm-spec =
-    tie.close
-    (tie.spec
-    text-length-requires start-requires (λ c. search needs) (λ c. search needs) encrypt-requires encrypted-length-requires
-    (λ c. search needs) (λ c κs. search needs) (λ c. search needs) (λ c. search needs) decrypt-requires (λ c. search needs)
-    (λ c κs. search needs) (λ c κs. search needs) (λ c. search needs) returns (λ c. search needs) returns-2)
+by-gcm-spec = tie.close (tie.spec (λ c κs e. with-tag-passed _ (rw e at (c .before .before .before .before .before .pre .1 .1 .1 .0)))
+    start-requires (λ c. search needs) (λ c. search needs) encrypt-requires encrypted-length-requires (λ c. search needs)
+    (λ c κs. search needs) (λ c. search needs) (λ c. search needs) decrypt-requires (λ c. search needs) (λ c κs. search needs)
+    (λ c κs. search needs) (λ c. search needs) returns (λ c. search needs) returns-2)

@@ -1,16 +1,9 @@
 -- `cipher_mode::work::by_stream` meets its contract: the IV's words spell it, and the chain is as long as the data.
--- Assumes nothing.
-use mathlib.Core.Path.{ap, _∙_}
-use mathlib.Core.List.{List}
-use Prim.Native.Nat.{ℕ, _<_}
-use native.Mathlib.Omega.{arith}
-use denote.Ref.{now}
-use lib.ListN.{getD}
+use Rattle.block.proofs.Base.{_<_, ℕ, _∙_, ap, List, arith, needs, now, getD}
 use Rattle.walk.specs.Walk.{chain, over}
 use Rattle.stream.specs.Stream.{streamMode}
 use Rattle.stream.proofs.RoundTrip.{length-stream}
 use Rattle.cipher_mode.proofs.Ends.{reached, spelled}
-use borrow.Author.Needs.{needs}
 use Rattle.cipher_mode.proofs.work.by_stream.Statement.{statement}
 use Rattle.cipher_mode.proofs.work.by_stream.Tie as tie
 
@@ -30,7 +23,4 @@ returns c =
     (at-stream .stream .ensures .1 .1 ∙ ap (λ (s : List ℕ). over (chain (streamMode (a .kind) (a .rk)) s d) o) is-iv)
 
 pub by-stream-spec : {M : Type 1} → statement M
-by-stream-spec =
-    tie.close
-    (tie.spec
-    (λ c κs. search needs) (λ c κs. search needs) (λ c. search needs) returns)
+by-stream-spec = tie.close (tie.spec (λ c κs. search needs) (λ c κs. search needs) (λ c. search needs) returns)

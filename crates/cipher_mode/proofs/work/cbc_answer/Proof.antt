@@ -1,22 +1,10 @@
 -- `cipher_mode::work::cbc_answer` meets its contract: each case is answered under its own number.
--- Assumes nothing.
-use mathlib.Core.Path.{sym, ap}
+use Rattle.block.proofs.Base.{ap, sym, needs}
 use Rattle.cbc.specs.Open.{headOf}
-use borrow.Author.Needs.{needs}
 use Rattle.cipher_mode.proofs.work.cbc_answer.Statement.{statement}
 use Rattle.cipher_mode.proofs.work.cbc_answer.Tie as tie
 
-returns : tie.Need-returns
-returns c = sym (ap headOf (c .before .opened .given .1))
-
-returns-2 : tie.Need-returns-2
-returns-2 c = sym (ap headOf (c .enum-told .given .1))
-
-returns-3 : tie.Need-returns-3
-returns-3 c = sym (ap headOf (c .enum-told2 .given .1))
-
 pub cbc-answer-spec : {M : Type 1} → statement M
 cbc-answer-spec =
-    tie.close
-    (tie.spec
-    (λ c. search needs) (λ c. search needs) (λ c. search needs) returns returns-2 returns-3)
+    tie.close (tie.spec (λ c. search needs) (λ c. search needs) (λ c. search needs) (λ c. sym (ap headOf (c .before .opened .given .1)))
+    (λ c. sym (ap headOf (c .enum-told .given .1))) (λ c. sym (ap headOf (c .enum-told2 .given .1))))

@@ -1,10 +1,6 @@
 -- `field::many::multiply` meets its contract: three products of halves make up each product without carry (`join-128`), and x^127 times that is
 -- the product (`gmul-clmul`).
--- Assumes nothing.
-use borrow.Author.Needs.{needs}
-use Prim.Native.Nat.{ℕ, _^_, _<_}
-use mathlib.Core.Path.{sym, ap, subst, _∙_}
-use lib.ListN.{getD}
+use Rattle.block.proofs.Base.{_<_, _^_, ℕ, _∙_, ap, subst, sym, needs, getD}
 use Rattle.block.specs.Wide.{value}
 use Rattle.block.specs.Xor.{_⊕_}
 use Rattle.carryless.specs.Carryless.{clmul}
@@ -17,23 +13,12 @@ use Rattle.field.proofs.Reduction.{gmul-clmul}
 use Rattle.field.proofs.many.multiply.Statement.{statement}
 use Rattle.field.proofs.many.multiply.Tie as tie
 
-products64-requires : tie.Need-products64-requires
-products64-requires c κs =
-    let S = c .before .before .before .before .before .before in
-    (search needs, search needs, lends-high (S .args .y) (S .args .m .now) (S .pre .1), search needs, search needs)
-
-products64-requires-2 : tie.Need-products64-requires-2
-products64-requires-2 c κs =
-    let S = c .before .before .before .before .before .before .before .before .before .before in
-    (search needs, search needs, lends-low (S .args .y) (S .args .m .now) (S .pre .1), search needs, search needs)
-
-products64-requires-3 : tie.Need-products64-requires-3
-products64-requires-3 c κs =
-    let S = c .before .before .before .before .before .before .before .before .before .before .before .before .before .before .before in
-    (search needs, search needs, lends-both (S .args .y) (S .args .m .now) (S .pre .1), search needs, search needs)
-
-reduce-each-requires : tie.Need-reduce-each-requires
-reduce-each-requires c κs =
+pub multiply-spec : {M : Type 1} → statement M
+multiply-spec =
+    tie.close
+    (tie.spec
+    (λ c κs. search needs) (λ c κs. search (needs, lends-high)) (λ c κs. search (needs, lends-low)) (λ c κs. search (needs, lends-both))
+    (λ c κs.
     let at-both = c .before .before .before .before .before .before .before .before in
     let at-low = at-both .before .before .before .before .before in
     let at-high = at-low .before .before .before .before in
@@ -48,10 +33,8 @@ reduce-each-requires c κs =
         λ g h. subst (λ (v : ℕ). v < 2 ^ 127) (sym (high .0 g h)) (clmul-lt 63 64 (getD (S .args .high .now) g 0) y small),
       ),
       (high .1, high .2, low .1, low .2, both .1, both .2, S .pre .2, S .pre .3),
-    )
-
-returns : tie.Need-returns
-returns c =
+    ))
+    (λ c.
     let at-both = c .before .before .before .before .before .before .before .before .before in
     let at-low = at-both .before .before .before .before .before in
     let at-high = at-low .before .before .before .before in
@@ -73,9 +56,4 @@ returns c =
           ∙ gmul-clmul (lane x1 x0 g) (value y),
       done .1,
       done .2,
-    )
-
-pub multiply-spec : {M : Type 1} → statement M
-multiply-spec =
-    tie.close
-    (tie.spec (λ c κs. search needs) products64-requires products64-requires-2 products64-requires-3 reduce-each-requires returns)
+    )))

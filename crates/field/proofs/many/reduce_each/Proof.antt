@@ -1,10 +1,5 @@
 -- `field::many::reduce_each` meets its contract. The loop's invariant: the first g elements are there.
--- Assumes nothing.
-use borrow.Author.Needs.{needs}
-use Prim.Native.Nat.{_≤_, _-_}
-use mathlib.Core.Path.{_≡_}
-use native.Mathlib.Omega.{arith}
-use lib.ListN.{length}
+use Rattle.block.proofs.Base.{_-_, _≤_, _≡_, arith, needs, length}
 use Rattle.carryless.specs.Carryless.{joining128}
 use Rattle.carryless.specs.Lanes.{lane, Both}
 use Rattle.carryless.proofs.Filling.{both-next}
@@ -12,24 +7,21 @@ use Rattle.field.specs.Field.{timesXs}
 use Rattle.field.proofs.many.reduce_each.Statement.{statement}
 use Rattle.field.proofs.many.reduce_each.Tie as tie
 
-abbrev Inv-loop : tie.InvT-loop
-Inv-loop h1 h0 l1 l0 b1 b0 n high₀ low₀ g₀ high low g =
+pub reduce-each-spec : {M : Type 1} → statement M
+reduce-each-spec =
+    tie.close
+    (tie.spec
+    (λ h1 h0 l1 l0 b1 b0 n high₀ low₀ g₀ high low g.
     (g ≤ n) × (length high ≡ 16) × (length low ≡ 16)
-    × Both (λ i. timesXs 127 (joining128 (lane h1 h0 i) (lane l1 l0 i) (lane b1 b0 i))) g high low
-
-abbrev μ-loop : tie.MeasureT-loop
-μ-loop h1 h0 l1 l0 b1 b0 n high₀ low₀ g₀ high low g = n - g
-
-loop-holds : tie.Need-loop-holds Inv-loop μ-loop
-loop-holds c = (search needs, search needs, search needs, λ j h. absurd (omega arith))
-
-reduced-requires : tie.Need-reduced-requires Inv-loop μ-loop
-reduced-requires c κs =
+    × Both (λ i. timesXs 127 (joining128 (lane h1 h0 i) (lane l1 l0 i) (lane b1 b0 i))) g high low)
+    (λ h1 h0 l1 l0 b1 b0 n high₀ low₀ g₀ high low g. n - g) (λ c. search needs) (λ c. search needs) (λ c. search needs)
+    (λ c. search needs) (λ c. search needs) (λ c. search needs) (λ c. search needs) (λ c. search needs) (λ c. search needs)
+    (λ c. search needs) (λ c. search needs) (λ c. search needs) (λ c. search needs)
+    (λ c κs.
     let in-loop = c .before .before .before .before .before .before in
-    in-loop .before .before .pre .0 .1 (in-loop .before .loop .g) (in-loop .loop-test .taken)
-
-loop-again : tie.Need-loop-again Inv-loop μ-loop
-loop-again c =
+    in-loop .before .before .pre .0 .1 (in-loop .before .loop .g) (in-loop .loop-test .taken))
+    (λ c. search needs) (λ c. search needs) (λ c. search needs) (λ c. search needs) (λ c. search needs) (λ c. search needs)
+    (λ c.
     let in-loop = c .before .before .before .before .before .before .before in
     let at-loop = in-loop .before in
     let l = at-loop .loop in
@@ -42,16 +34,5 @@ loop-again c =
       both-next (l .g) _ _ (l .high) (l .low) (omega arith) (omega arith)
           (λ i. timesXs 127 (joining128 (lane (a .h1 .now) (a .h0 .now) i) (lane (a .l1 .now) (a .l0 .now) i) (lane (a .b1 .now) (a .b0 .now) i)))
           (c .reduced .ensures) (l .inv .3),
-    )
-
-returns : tie.Need-returns Inv-loop μ-loop
-returns c = let l = c .before .loop in (λ j h. l .inv .3 j (omega arith), l .inv .1, l .inv .2)
-
-pub reduce-each-spec : {M : Type 1} → statement M
-reduce-each-spec =
-    tie.close
-    (tie.spec
-    Inv-loop μ-loop loop-holds (λ c. search needs) (λ c. search needs) (λ c. search needs) (λ c. search needs) (λ c. search needs) (λ c. search needs)
-    (λ c. search needs) (λ c. search needs) (λ c. search needs) (λ c. search needs) (λ c. search needs) (λ c. search needs)
-    reduced-requires (λ c. search needs) (λ c. search needs) (λ c. search needs) (λ c. search needs)
-    (λ c. search needs) (λ c. search needs) loop-again returns)
+    ))
+    (λ c. let l = c .before .loop in (λ j h. l .inv .3 j (omega arith), l .inv .1, l .inv .2)))

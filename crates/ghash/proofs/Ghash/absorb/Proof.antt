@@ -1,22 +1,22 @@
 -- `ghash::Ghash::absorb` meets its contract. The words that are loaded spell the number of the block at the front of `rest`,
 -- filled up with zeros (`blockOf-words`), and `step` takes in that number (`absorbed-same`).
--- Assumes nothing.
 use Rattle.ghash.proofs.Absorbing.{absorbed-same}
-use mathlib.Core.Path.{_≡_, ap, _∙_}
-use mathlib.Core.List.{List}
-use Prim.Native.Nat.{ℕ}
+use Rattle.block.proofs.Base.{ℕ, _∙_, _≡_, ap, List, needs}
 use Rattle.block.specs.BigEndian.{numberOf}
 use Rattle.block.specs.Words.{unwords}
 use Rattle.block.specs.Wide.{value}
 use Rattle.block.proofs.Entries.{below-each}
 use Rattle.ghash.specs.Ghash.{blockOf}
 use Rattle.ghash.proofs.Blocks.{blockOf-words}
-use borrow.Author.Needs.{needs}
 use Rattle.ghash.proofs.Ghash.absorb.Statement.{statement}
 use Rattle.ghash.proofs.Ghash.absorb.Tie as tie
 
-returns : tie.Need-returns
-returns c =
+pub absorb-spec : {M : Type 1} → statement M
+absorb-spec =
+    tie.close
+    (tie.spec
+    (λ c κs. search needs) (λ c κs. search needs) (λ c κs. search needs)
+    (λ c.
     let at-number = c .before in
     let at-load = at-number .before in
     let at-slice = at-load .before in
@@ -26,7 +26,4 @@ returns c =
     at-number .to-u128 .ensures
     ∙ ap (λ (w : List ℕ). numberOf (unwords w)) (at-load .load-block .ensures)
     ∙ blockOf-words s bytes in
-    absorbed-same (c .step .ensures) e
-
-pub absorb-spec : {M : Type 1} → statement M
-absorb-spec = tie.close (tie.spec (λ c κs. search needs) (λ c κs. search needs) (λ c κs. search needs) returns)
+    absorbed-same (c .step .ensures) e))

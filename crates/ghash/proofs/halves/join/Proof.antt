@@ -1,20 +1,17 @@
 -- `ghash::halves::join` meets its contract: H to the count is what the first hash counts for.
--- Assumes nothing.
-use mathlib.Core.Path.{ap, _∙_}
-use Prim.Native.Nat.{ℕ}
+use Rattle.block.proofs.Base.{ℕ, _∙_, ap, needs}
 use Rattle.block.specs.Wide.{value}
 use Rattle.block.specs.Xor.{_⊕_}
 use Rattle.field.specs.Field.{gmul}
 use Rattle.ghash.specs.Joined.{joined}
-use borrow.Author.Needs.{needs}
 use Rattle.ghash.proofs.halves.join.Statement.{statement}
 use Rattle.ghash.proofs.halves.join.Tie as tie
 
-returns : tie.Need-returns
-unfolding joined
-returns c =
-    let a = c .before .before .args in
-    c .after .ensures ∙ ap (λ (p : ℕ). gmul (value (a .first)) p ⊕ value (a .second)) (c .before .power .ensures)
-
 pub join-spec : {M : Type 1} → statement M
-join-spec = tie.close (tie.spec (λ c κs. search needs) (λ c κs. search needs) returns)
+join-spec =
+    tie.close
+    (tie.spec
+    (λ c κs. search needs) (λ c κs. search needs)
+    (λ c. unfold joined in
+    let a = c .before .before .args in
+    c .after .ensures ∙ ap (λ (p : ℕ). gmul (value (a .first)) p ⊕ value (a .second)) (c .before .power .ensures)))

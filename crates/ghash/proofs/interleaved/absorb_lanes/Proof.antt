@@ -1,12 +1,6 @@
 -- `ghash::interleaved::absorb_lanes` meets its contract: once the sets are taken in, the hashes join to the hash of their blocks, and the rest is
 -- taken in block by block (`absorbed-cut`).
--- Assumes nothing.
-use borrow.Author.Needs.{needs}
-use mathlib.Core.Path.{_∙_}
-use Prim.Native.Nat.{_*_, _≤_}
-use native.Mathlib.Nat.{lt-of-le-of-lt}
-use native.Mathlib.Omega.{arith}
-use lib.ListN.{length}
+use Rattle.block.proofs.Base.{_*_, _≤_, _∙_, lt-of-le-of-lt, arith, needs, length}
 use Rattle.block.specs.Wide.{value}
 use Rattle.field.proofs.Bounded.{whole-lt}
 use Rattle.ghash.proofs.Absorbing.{absorbed-cut}
@@ -15,29 +9,29 @@ use Rattle.ghash.proofs.Sets.{lanes-few, starts-first}
 use Rattle.ghash.proofs.interleaved.absorb_lanes.Statement.{statement}
 use Rattle.ghash.proofs.interleaved.absorb_lanes.Tie as tie
 
-absorb-sets-requires : tie.Need-absorb-sets-requires
-absorb-sets-requires c κs =
+pub absorb-lanes-spec : {M : Type 1} → statement M
+absorb-lanes-spec =
+    tie.close
+    (tie.spec
+    (λ c κs. search needs) (λ c κs. search needs) (λ c κs. search needs) (λ c. search needs) (λ c. search needs)
+    (λ c κs.
     let at-parts = c .before .before .before in
     let count = at-parts .before .before .lanes-for .ensures in
     let few = lanes-few _ (count .0) in
-    (at-parts .parts .ensures, few .0, few .1, count .1, search needs, search needs)
-
-absorb-hashes-requires : tie.Need-absorb-hashes-requires
-absorb-hashes-requires c κs =
+    (at-parts .parts .ensures, few .0, few .1, count .1, search needs, search needs))
+    (λ c κs. search needs)
+    (λ c κs.
     let at-sets = c .before .before .before in
     let at-parts = at-sets .before .before .before .before in
     let count = at-parts .before .before .lanes-for .ensures in
-    (lanes-few _ (count .0) .1, at-sets .absorb-sets .ensures .2, at-sets .absorb-sets .ensures .3)
-
-mul-at : tie.Need-mul-at
-mul-at c =
+    (lanes-few _ (count .0) .1, at-sets .absorb-sets .ensures .2, at-sets .absorb-sets .ensures .3))
+    (λ c.
     let at-sets = c .before .before .before .before in
     let S = at-sets .before .before .before .before .before .before .before .before in
     let room : 16 * at-sets .absorb-sets .result ≤ length (S .args .bytes .now) = at-sets .absorb-sets .ensures .1 in
-    record { fits = lt-of-le-of-lt room (omega (arith, S .good .1)) }
-
-returns : tie.Need-returns
-returns c =
+    record { fits = lt-of-le-of-lt room (omega (arith, S .good .1)) })
+    (λ c. search needs) (λ c. search needs) (λ c. search needs) (λ c κs. search needs)
+    (λ c.
     let at-hashes = c .before .before in
     let at-new = at-hashes .before .before .before in
     let at-sets = at-new .before in
@@ -54,11 +48,4 @@ returns c =
           hash-of _ _ _ _ (at-new .new .ensures) (at-hashes .absorb-hashes .ensures)
           ∙ sets .0 (value (g .h)) (value (g .y)) element (at-power .lane-power .ensures) (starts-first _ (g .y .high) (g .y .low));
     })
-    (c .absorb-each .ensures)
-
-pub absorb-lanes-spec : {M : Type 1} → statement M
-absorb-lanes-spec =
-    tie.close
-    (tie.spec
-    (λ c κs. search needs) (λ c κs. search needs) (λ c κs. search needs) (λ c. search needs) (λ c. search needs)
-    absorb-sets-requires (λ c κs. search needs) absorb-hashes-requires mul-at (λ c. search needs) (λ c. search needs) (λ c. search needs) (λ c κs. search needs) returns)
+    (c .absorb-each .ensures)))

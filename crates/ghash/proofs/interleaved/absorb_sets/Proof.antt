@@ -1,49 +1,26 @@
 -- `ghash::interleaved::absorb_sets` meets its contract. The loop's invariant: where the first set was hashed (`hashed-first`), the first b blocks are,
 -- and the hashes are elements. In a turn the hashes are multiplied, and the next set is added (`hashed-next`).
--- Assumes nothing.
-use borrow.Author.Needs.{needs}
-use mathlib.Core.Path.{_≡_}
-use Prim.Native.Nat.{ℕ, _<_, _≤_, _-_}
-use native.Mathlib.Omega.{arith}
-use lib.ListN.{length}
+use Rattle.block.proofs.Base.{_-_, _<_, _≤_, ℕ, _≡_, arith, needs, length}
 use Rattle.block.specs.Wide.{value}
 use Rattle.carryless.specs.Lanes.{lane}
 use Rattle.field.specs.Field.{Element, gpow}
 use Rattle.ghash.specs.Sets.{upTo, blockNumber, Hashed}
-use Rattle.ghash.proofs.Sets.{lent-block, lent-room, hashed-first, hashed-next}
+use Rattle.ghash.proofs.Sets.{lent-block, hashed-first, hashed-next}
 use Rattle.ghash.proofs.interleaved.absorb_sets.Statement.{statement}
 use Rattle.ghash.proofs.interleaved.absorb_sets.Tie as tie
 
-abbrev Inv-loop : tie.InvT-loop
-Inv-loop p m n bytes high₀ low₀ all b₀ high low b =
+pub absorb-sets-spec : {M : Type 1} → statement M
+absorb-sets-spec =
+    tie.close
+    (tie.spec
+    (λ p m n bytes high₀ low₀ all b₀ high low b.
     (b ≤ all) × (length high ≡ 16) × (length low ≡ 16) × ((k : ℕ) → k < n → Element (lane high low k))
     × ((h y : ℕ) → Element h → value p ≡ gpow h n → Hashed h y (upTo b₀ (blockNumber bytes)) n (lane high₀ low₀)
-    → Hashed h y (upTo b (blockNumber bytes)) n (lane high low))
-
-abbrev μ-loop : tie.MeasureT-loop
-μ-loop p m n bytes high₀ low₀ all b₀ high low b = all - b
-
-loop-holds : tie.Need-loop-holds Inv-loop μ-loop
-loop-holds c =
-    let first = c .add-set .ensures in
-    (omega arith, first .2, first .3, first .1, λ h y hh power done. done)
-
-multiply-requires : tie.Need-multiply-requires Inv-loop μ-loop
-multiply-requires c κs =
-    let at-loop = c .before .before .before in
-    let S = at-loop .before .before .before .before .before in
-    (S .pre .2, S .pre .0, at-loop .loop .inv .1, at-loop .loop .inv .2)
-
-add-set-requires-2 : tie.Need-add-set-requires-2 Inv-loop μ-loop
-add-set-requires-2 c κs =
-    let at-mul = c .before .before .before in
-    let in-loop = at-mul .before .before .before in
-    let at-loop = in-loop .before in
-    let S = at-loop .before .before .before .before .before in
-    (S .pre .2, lent-room (S .args .bytes .now) (at-loop .loop .b) (S .args .n) (in-loop .loop-test .taken), at-mul .multiply .ensures .1, at-mul .multiply .ensures .2)
-
-loop-again : tie.Need-loop-again Inv-loop μ-loop
-loop-again c =
+    → Hashed h y (upTo b (blockNumber bytes)) n (lane high low)))
+    (λ p m n bytes high₀ low₀ all b₀ high low b. all - b) (λ c κs. search needs) (λ c. search needs) (λ c. search needs)
+    (λ c κs. search needs) (λ c. search needs) (λ c. search needs) (λ c. search needs) (λ c. search needs) (λ c κs. search needs)
+    (λ c. search needs) (λ c. search needs)
+    (λ c.
     let at-mul = c .before .before .before .before in
     let in-loop = at-mul .before .before .before in
     let at-loop = in-loop .before in
@@ -59,10 +36,8 @@ loop-again c =
       λ h y hh power done.
           hashed-next h hh n y (l .b) (value (S .args .p)) (blockNumber bytes) _ (lane (l .high) (l .low)) _ _ power (lent-block bytes (l .b))
           (l .inv .3) (l .inv .4 h y hh power done) (at-mul .multiply .ensures .0) (added .0),
-    )
-
-returns : tie.Need-returns Inv-loop μ-loop
-returns c =
+    ))
+    (λ c.
     let l = c .before .loop in
     let first = c .before .before in
     let S = first .before .before .before .before in
@@ -74,11 +49,4 @@ returns c =
       omega arith,
       l .inv .1,
       l .inv .2,
-    )
-
-pub absorb-sets-spec : {M : Type 1} → statement M
-absorb-sets-spec =
-    tie.close
-    (tie.spec
-    Inv-loop μ-loop (λ c κs. search needs) loop-holds (λ c. search needs) multiply-requires (λ c. search needs) (λ c. search needs)
-    (λ c. search needs) (λ c. search needs) add-set-requires-2 (λ c. search needs) (λ c. search needs) loop-again returns)
+    )))

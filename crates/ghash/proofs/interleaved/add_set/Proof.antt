@@ -1,15 +1,10 @@
 -- `ghash::interleaved::add_set` meets its contract. The loop's invariant: to the first k hashes their blocks are added, and these are elements; the
 -- others are as they were.
--- Assumes nothing.
-use borrow.Author.Needs.{needs}
-use mathlib.Core.Path.{_≡_, refl, sym, ap₂, subst, _∙_}
-use Prim.Native.Nat.{ℕ, _^_, _<_, _≤_, _-_}
-use native.Mathlib.Omega.{arith}
-use lib.ListN.{length, set}
+use Rattle.block.proofs.Base.{_-_, _<_, _≤_, ℕ, _∙_, _≡_, ap₂, refl, arith, needs, length, set}
 use Rattle.block.specs.Xor.{_⊕_}
 use Rattle.block.proofs.Entries.{below-each}
 use Rattle.carryless.specs.Lanes.{lane, Both}
-use Rattle.carryless.proofs.Filling.{below-next, lane-same, lane-other, both-next}
+use Rattle.carryless.proofs.Filling.{one-more, lane-same, lane-other, both-next}
 use Rattle.field.specs.Field.{Element}
 use Rattle.field.proofs.Bounded.{whole-lt}
 use Rattle.ghash.specs.Sets.{blockNumber}
@@ -17,21 +12,21 @@ use Rattle.ghash.proofs.Sets.{lent-number}
 use Rattle.ghash.proofs.interleaved.add_set.Statement.{statement}
 use Rattle.ghash.proofs.interleaved.add_set.Tie as tie
 
-abbrev Inv-loop : tie.InvT-loop
-Inv-loop bytes n high₀ low₀ k₀ high low k =
+pub add-set-spec : {M : Type 1} → statement M
+add-set-spec =
+    tie.close
+    (tie.spec
+    (λ bytes n high₀ low₀ k₀ high low k.
     (k ≤ n) × (length high ≡ 16) × (length low ≡ 16)
     × Both (λ j. lane high₀ low₀ j ⊕ blockNumber bytes j) k high low
     × ((j : ℕ) → j < k → Element (lane high low j))
-    × ((j : ℕ) → k ≤ j → lane high low j ≡ lane high₀ low₀ j)
-
-abbrev μ-loop : tie.MeasureT-loop
-μ-loop bytes n high₀ low₀ k₀ high low k = n - k
-
-loop-holds : tie.Need-loop-holds Inv-loop μ-loop
-loop-holds c = (search needs, search needs, search needs, λ j h. absurd (omega arith), λ j h. absurd (omega arith), λ j h. refl)
-
-loop-again : tie.Need-loop-again Inv-loop μ-loop
-loop-again c =
+    × ((j : ℕ) → k ≤ j → lane high low j ≡ lane high₀ low₀ j))
+    (λ bytes n high₀ low₀ k₀ high low k. n - k)
+    (λ c. (search needs, search needs, search needs, λ j h. absurd (omega arith), λ j h. absurd (omega arith), λ j h. refl))
+    (λ c. search needs) (λ c. search needs) (λ c. search needs) (λ c. search needs) (λ c κs. search needs) (λ c κs. search needs)
+    (λ c. search needs) (λ c. search needs) (λ c. search needs) (λ c. search needs) (λ c κs. search needs) (λ c. search needs)
+    (λ c. search needs) (λ c. search needs) (λ c. search needs) (λ c. search needs) (λ c. search needs)
+    (λ c.
     let at-number = c .before .before .before in
     let at-split = at-number .before in
     let at-loop = at-split .before .before .before in
@@ -54,21 +49,11 @@ loop-again c =
           (c .add .ensures
           ∙ ap₂ _⊕_ (l .inv .5 k (omega arith)) (at-number .to-u128 .ensures ∙ lent-number bytes k _ number (at-split .split-block .ensures)))
           (l .inv .3),
-      below-next (lane high low) k (2 ^ 128)
-          (subst (λ (x : ℕ). x < 2 ^ 128) (sym (lane-same k u v (l .high) (l .low) ha hb)) (whole-lt u v (omega (arith, c .add .ok)) (omega (arith, c .add .ok))))
-          (λ j h. subst (λ (x : ℕ). x < 2 ^ 128) (sym (lane-other k u v (l .high) (l .low) ha hb j (λ e. omega arith))) (l .inv .4 j h)),
+      one-more (λ j. Element (lane high low j)) k
+          (rw (lane-same k u v (l .high) (l .low) ha hb) (whole-lt u v (omega (arith, c .add .ok)) (omega (arith, c .add .ok))))
+          (λ j h. rw (lane-other k u v (l .high) (l .low) ha hb j (λ e. omega arith)) (l .inv .4 j h)),
       λ j h. lane-other k u v (l .high) (l .low) ha hb j (λ e. omega arith) ∙ l .inv .5 j (omega arith),
-    )
-
-returns : tie.Need-returns Inv-loop μ-loop
-returns c =
+    ))
+    (λ c.
     let l = c .before .loop in
-    (λ j h. l .inv .3 j (omega arith), λ j h. l .inv .4 j (omega arith), l .inv .1, l .inv .2)
-
-pub add-set-spec : {M : Type 1} → statement M
-add-set-spec =
-    tie.close
-    (tie.spec
-    Inv-loop μ-loop loop-holds (λ c. search needs) (λ c. search needs) (λ c. search needs) (λ c. search needs) (λ c κs. search needs) (λ c κs. search needs)
-    (λ c. search needs) (λ c. search needs) (λ c. search needs) (λ c. search needs) (λ c κs. search needs)
-    (λ c. search needs) (λ c. search needs) (λ c. search needs) (λ c. search needs) (λ c. search needs) (λ c. search needs) loop-again returns)
+    (λ j h. l .inv .3 j (omega arith), λ j h. l .inv .4 j (omega arith), l .inv .1, l .inv .2)))

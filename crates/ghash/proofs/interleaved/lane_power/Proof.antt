@@ -1,10 +1,5 @@
 -- `ghash::interleaved::lane_power` meets its contract: each square doubles the exponent (`doubled`).
--- Assumes nothing.
-use borrow.Author.Needs.{needs}
-use mathlib.Core.Path.{_≡_, sym, ap, ap₂, _∙_}
-use mathlib.Core.Logic.{⊎-elim}
-use Prim.Native.Nat.{ℕ, _+_}
-use native.Mathlib.Omega.{arith}
+use Rattle.block.proofs.Base.{_+_, ℕ, _∙_, _≡_, ap, ap₂, sym, ⊎-elim, arith, needs}
 use Rattle.block.specs.Wide.{value}
 use Rattle.field.specs.Field.{Element, gmul, gpow}
 use Rattle.field.proofs.Bounded.{whole-lt}
@@ -30,20 +25,20 @@ eight c =
     let e = element S in
     doubled h e 4 _ _ (doubled h e 2 _ _ (doubled h e 1 _ _ (once h e) (c .before .before .squared .ensures)) (c .before .squared2 .ensures)) (c .squared3 .ensures)
 
-returns : tie.Need-returns
-returns c =
+pub lane-power-spec : {M : Type 1} → statement M
+lane-power-spec =
+    tie.close
+    (tie.spec
+    (λ c κs. search needs) (λ c κs. search needs) (λ c κs. search needs)
+    (λ c.
     let S = c .before .before .before .before in
     let is : S .args .n ≡ 8 = omega arith in
-    eight (c .before) ∙ ap (gpow (value (S .args .h))) (sym is)
-
-returns-2 : tie.Need-returns-2
-returns-2 c =
+    eight (c .before) ∙ ap (gpow (value (S .args .h))) (sym is))
+    (λ c κs. search needs)
+    (λ c.
     let at-8 = c .before .before in
     let S = at-8 .before .before .before in
     let h = value (S .args .h) in
     let is : S .args .n ≡ 16 =
     ⊎-elim (λ (e : S .args .n ≡ 8). absurd (omega (arith, c .before .if1 .left))) (λ (e : S .args .n ≡ 16). e) (S .pre) in
-    doubled h (element S) 8 _ _ (eight at-8) (c .squared4 .ensures) ∙ ap (gpow h) (sym is)
-
-pub lane-power-spec : {M : Type 1} → statement M
-lane-power-spec = tie.close (tie.spec (λ c κs. search needs) (λ c κs. search needs) (λ c κs. search needs) returns (λ c κs. search needs) returns-2)
+    doubled h (element S) 8 _ _ (eight at-8) (c .squared4 .ensures) ∙ ap (gpow h) (sym is)))

@@ -1,11 +1,5 @@
 -- `again::call_into` meets its contract: a mode above 4 is refused, and otherwise the call answers.
--- Assumes nothing.
-use mathlib.Core.Path.{_≡_, ap, _∙_}
-use mathlib.Core.List.{List}
-use Prim.Native.Nat.{ℕ, _≤_, _<_}
-use native.Mathlib.Omega.{arith}
-use denote.Ref.{now}
-use borrow.Author.Tests.{lt-ltb, le-ltb}
+use Rattle.block.proofs.Base.{_<_, _≤_, ℕ, _≡_, refl, List, arith, needs, le-ltb, lt-ltb, now}
 use Rattle.walk.specs.Outcome.{Outcome}
 use Rattle.cipher_mode.specs.declared.CipherMode.{CipherMode}
 use Rattle.cipher_mode.specs.declared.Direction.{Direction}
@@ -17,7 +11,6 @@ use Rattle.cipher_mode.specs.Calls.{modeCall}
 use Rattle.journal.specs.Format.{Entry, front}
 use Rattle.journal.specs.Recomputed.{callInto, Answers}
 use Rattle.journal.specs.declared.again.Answered.{Answered}
-use borrow.Author.Needs.{needs}
 use Rattle.journal.proofs.again.call_into.Statement.{statement}
 use Rattle.journal.proofs.again.call_into.Tie as tie
 
@@ -30,12 +23,7 @@ bad-mode c e o h =
 -- an outcome is told by its answer
 told-outcome : (a : Answer) (t : Answered) (o : List ℕ) (x : Outcome) → outcome a o ≡ x
     → t ≡ record { number = headOf a .number; length = headOf a .size } → Answers t o x
-told-outcome a t o x e f =
-    record {
-      number = ap (λ (u : Answered). u .number) f ∙ ap (λ (y : Outcome). y .head .number) e;
-      size = ap (λ (u : Answered). u .length) f ∙ ap (λ (y : Outcome). y .head .size) e;
-      bytes = ap (λ (y : Outcome). y .bytes) e;
-    }
+told-outcome a t o x e f = rw (f, ← e) (record { number = refl; size = refl; bytes = refl })
 
 -- the call with the record's fields is the entry's
 called : (c : Sm4Cipher) (e : Entry) (o : List ℕ) (x : Outcome) (dir : Direction) (mode : CipherMode) (l d iv : List ℕ) (n : ℕ) → n ≤ 4
@@ -45,12 +33,6 @@ unfolding callInto
 called c e o x dir mode l d iv n h en em edir el ed eiv ex =
     let t : _ = le-ltb 4 n h in
     rw (← en, t, ← em, ← edir, ← el, ← ed, ← eiv) ex
-
-returns : tie.Need-returns
-returns c =
-    let at-mode = c .before in
-    let a = at-mode .before .before .before .args in
-    bad-mode (a .cipher) (front (now (a .s))) (now (a .out)) (rw (← at-mode .mode .ensures) (c .if1 .taken))
 
 returns-2 : tie.Need-returns-2
 returns-2 c =
@@ -72,7 +54,7 @@ returns-2 c =
 
 pub call-into-spec : {M : Type 1} → statement M
 call-into-spec =
-    tie.close
-    (tie.spec
-    (λ c κs. search needs) returns (λ c. search needs) (λ c κs. search needs) (λ c κs. search needs) (λ c κs. search needs)
-    (λ c κs. search needs) (λ c κs. search needs) (λ c κs. search needs) (λ c κs. search needs) (λ c. search needs) returns-2)
+    tie.close (tie.spec (λ c κs. search needs)
+    (λ c. let m = c .before in bad-mode (m .before .before .before .args .cipher) _ _ (rw (← m .mode .ensures) (c .if1 .taken)))
+    (λ c. search needs) (λ c κs. search needs) (λ c κs. search needs) (λ c κs. search needs) (λ c κs. search needs) (λ c κs. search needs)
+    (λ c κs. search needs) (λ c κs. search needs) (λ c. search needs) returns-2)

@@ -1,21 +1,8 @@
 -- `again::differs` meets its contract: each return is the definition, by the tests that led there.
--- Assumes nothing.
-use borrow.Author.Tests.{eq-eqb, ne-eqb}
+use Rattle.block.proofs.Base.{needs, eq-eqb, ne-eqb}
 use Rattle.journal.specs.Recomputed.{differsFrom}
-use borrow.Author.Needs.{needs}
 use Rattle.journal.proofs.again.differs.Statement.{statement}
 use Rattle.journal.proofs.again.differs.Tie as tie
-
-returns : tie.Need-returns
-unfolding differsFrom
-returns c = rw (← c .before .before .number .ensures, ne-eqb _ _ (c .if1 .taken))
-
-returns-2 : tie.Need-returns-2
-unfolding differsFrom
-returns-2 c =
-    let at-output = c .before .before in
-    let equal = at-output .before in
-    rw (← equal .before .before .number .ensures, eq-eqb _ _ (equal .if1 .left), ← at-output .output .ensures, ne-eqb _ _ (c .if2 .taken))
 
 returns-3 : tie.Need-returns-3
 unfolding differsFrom
@@ -33,6 +20,11 @@ returns-3 c =
 
 pub differs-spec : {M : Type 1} → statement M
 differs-spec =
-    tie.close
-    (tie.spec
-    (λ c κs. search needs) (λ c. search needs) returns (λ c κs. search needs) returns-2 (λ c κs. search needs) returns-3)
+    tie.close (tie.spec (λ c κs. search needs) (λ c. search needs)
+    (λ c. unfold differsFrom in rw (← c .before .before .number .ensures, ne-eqb _ _ (c .if1 .taken))) (λ c κs. search needs)
+    (λ c.
+    let o = c .before .before in
+    let n = o .before in
+    unfold differsFrom in
+    rw (← n .before .before .number .ensures, eq-eqb _ _ (n .if1 .left), ← o .output .ensures, ne-eqb _ _ (c .if2 .taken)))
+    (λ c κs. search needs) returns-3)

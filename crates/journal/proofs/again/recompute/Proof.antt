@@ -1,17 +1,9 @@
 -- `again::recompute` meets its contract: the room that is lent serves as the recorded one does (`lent-judged`).
--- Assumes nothing.
-use mathlib.Core.Path.{_≡_, ap, _∙_}
-use mathlib.Core.List.{List, _++_}
-use Prim.Native.Nat.{ℕ, _-_, _≤_}
-use native.Mathlib.Nat.{sub-zero}
-use native.Mathlib.Omega.{arith}
-use denote.Ref.{now}
-use lib.ListN.{length, take, drop, length-append, length-drop}
-use lib.Seq.{length-take-le}
+use Rattle.block.proofs.Base.{_-_, _≤_, ℕ, _∙_, _≡_, ap, List, _++_, sub-zero, arith, needs, now, drop, length, length-append, length-drop}
+use Rattle.block.proofs.Base.{take, length-take-le}
 use Rattle.journal.specs.Format.{Entry, front}
 use Rattle.journal.specs.Recomputed.{differsFrom, lentRoom}
 use Rattle.journal.proofs.Lent.{lent-fits, lent-length, lent-judged, lent-most}
-use borrow.Author.Needs.{needs}
 use Rattle.journal.proofs.again.recompute.Statement.{statement}
 use Rattle.journal.proofs.again.recompute.Tie as tie
 
@@ -31,15 +23,7 @@ module _ (x : tie.After-lent-room) where
 
   lent : length (take (x .lent-room .result - 0) buffer) ≡ lentRoom entry
   lent =
-      let l = long in
-      let r = room in
-      length-take-le (x .lent-room .result - 0) buffer (omega arith) ∙ sub-zero (x .lent-room .result) ∙ x .lent-room .ensures
-
-part-out-end : tie.Need-part-out-end
-part-out-end c =
-    let l = long c in
-    let r = room c in
-    omega arith
+      length-take-le (x .lent-room .result - 0) buffer (omega (arith, long, room)) ∙ sub-zero (x .lent-room .result) ∙ x .lent-room .ensures
 
 part-differs-end : tie.Need-part-differs-end
 part-differs-end c =
@@ -49,14 +33,19 @@ part-differs-end c =
     let given = at-call .call-into .last .1 .1 .0 in
     let rest = drop (at-room .lent-room .result - 0) (buffer at-room) in
     let answers = at-call .call-into .ensures in
-    let l = long at-room in
-    let r = room at-room in
     let n = lent at-room in
     let o = take (at-room .lent-room .result - 0) (buffer at-room) in
     let size : length given ≡ length o = ap length (answers .bytes) ∙ lent-length (S .args .cipher) (entry at-room) (S .pre .1) o n in
     let fits : at-call .call-into .result .length ≤ lentRoom (entry at-room) =
     rw (answers .size) (lent-fits (S .args .cipher) (entry at-room) (S .pre .1) o n) in
-    omega (arith, length-append given rest, length-drop (at-room .lent-room .result - 0) (buffer at-room), at-room .lent-room .ensures)
+    omega (
+      arith,
+      length-append given rest,
+      length-drop (at-room .lent-room .result - 0) (buffer at-room),
+      at-room .lent-room .ensures,
+      long at-room,
+      room at-room,
+    )
 
 returns : tie.Need-returns
 returns c =
@@ -73,7 +62,5 @@ returns c =
 
 pub recompute-spec : {M : Type 1} → statement M
 recompute-spec =
-    tie.close
-    (tie.spec
-    (λ c κs. search needs) (λ c κs. search needs) (λ c. search needs) (λ c. search needs) part-out-end (λ c κs. search needs)
-    (λ c. search needs) (λ c. search needs) part-differs-end (λ c κs. search needs) returns)
+    tie.close (tie.spec (λ c κs. search needs) (λ c κs. search needs) (λ c. search needs) (λ c. search needs) (λ c. omega (arith, long c, room c))
+    (λ c κs. search needs) (λ c. search needs) (λ c. search needs) part-differs-end (λ c κs. search needs) returns)

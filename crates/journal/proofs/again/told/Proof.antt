@@ -1,12 +1,9 @@
 -- `again::told` meets its contract: done tells its length, and a refusal its number.
--- Assumes nothing.
-use mathlib.Core.Path.{sym, ap, ap₂, _∙_}
-use Prim.Native.Nat.{ℕ}
+use Rattle.block.proofs.Base.{ℕ, _∙_, ap, ap₂, sym, needs}
 use Rattle.cipher_mode.specs.declared.answer.Ending.{Ending}
 use Rattle.cipher_mode.specs.Answer.{endingHead}
 use Rattle.cipher_mode.proofs.Refusals.{refuses}
 use Rattle.journal.specs.declared.again.Answered.{Answered}
-use borrow.Author.Needs.{needs}
 use Rattle.journal.proofs.again.told.Statement.{statement}
 use Rattle.journal.proofs.again.told.Tie as tie
 
@@ -17,9 +14,6 @@ telling n l = record { number = n; length = l }
 abbrev ends : Ending → Answered
 ends e = telling (endingHead e .number) (endingHead e .size)
 
-returns : tie.Need-returns
-returns c = sym (ap {B = Answered} ends (c .before .ending .given .1))
-
 returns-2 : tie.Need-returns-2
 returns-2 c =
     let at-ending = c .before .before in
@@ -28,6 +22,5 @@ returns-2 c =
 
 pub told-spec : {M : Type 1} → statement M
 told-spec =
-    tie.close
-    (tie.spec
-    (λ c. search needs) (λ c. search needs) (λ c κs. search needs) returns returns-2)
+    tie.close (tie.spec (λ c. search needs) (λ c. search needs) (λ c κs. search needs)
+    (λ c. sym (ap {B = Answered} ends (c .before .ending .given .1))) returns-2)

@@ -1,9 +1,6 @@
 -- `keys::at` meets its contract.
--- Assumes nothing.
-use mathlib.Core.Path.{sym, _∙_}
-use lib.ListN.{length-map}
+use Rattle.block.proofs.Base.{_∙_, sym, needs, length-map}
 use Rattle.journal.proofs.KeyTurns.{key-lent}
-use borrow.Author.Needs.{needs}
 use Rattle.journal.proofs.keys.at.Statement.{statement}
 use Rattle.journal.proofs.keys.at.Tie as tie
 
@@ -14,7 +11,4 @@ returns c =
     key-lent (S .args .keys) (S .args .i) _ eight (S .pre .0) (S .pre .1)
 
 pub at-spec : {M : Type 1} → statement M
-at-spec =
-    tie.close
-    (tie.spec
-    (λ c. search needs) (λ c. search needs) returns)
+at-spec = tie.close (tie.spec (λ c. search needs) (λ c. search needs) returns)

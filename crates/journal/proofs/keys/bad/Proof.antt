@@ -1,19 +1,8 @@
 -- `keys::bad` meets its contract: each return is the definition, by the tests that led there.
--- Assumes nothing.
-use mathlib.Core.Path.{sym, _∙_}
-use borrow.Author.Tests.{lt-ltb, le-ltb}
+use Rattle.block.proofs.Base.{_∙_, sym, needs, le-ltb, lt-ltb}
 use Rattle.journal.specs.KeyList.{badKeys}
-use borrow.Author.Needs.{needs}
 use Rattle.journal.proofs.keys.bad.Statement.{statement}
 use Rattle.journal.proofs.keys.bad.Tie as tie
-
-returns : tie.Need-returns
-unfolding badKeys
-returns c = rw (lt-ltb _ _ (c .if1 .taken))
-
-returns-2 : tie.Need-returns-2
-unfolding badKeys
-returns-2 c = rw (le-ltb _ _ (c .before .before .if1 .left), sym (c .before .any-retired .ensures) ∙ c .if2 .taken)
 
 returns-3 : tie.Need-returns-3
 unfolding badKeys
@@ -24,6 +13,6 @@ returns-3 c =
 
 pub bad-spec : {M : Type 1} → statement M
 bad-spec =
-    tie.close
-    (tie.spec
-    returns (λ c κs. search needs) returns-2 (λ c κs. search needs) returns-3)
+    tie.close (tie.spec (λ c. unfold badKeys in rw (lt-ltb _ _ (c .if1 .taken))) (λ c κs. search needs)
+    (λ c. unfold badKeys in rw (le-ltb _ _ (c .before .before .if1 .left), sym (c .before .any-retired .ensures) ∙ c .if2 .taken))
+    (λ c κs. search needs) returns-3)

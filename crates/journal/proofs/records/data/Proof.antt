@@ -1,24 +1,11 @@
 -- `records::data` meets its contract.
--- Assumes nothing.
-use mathlib.Core.Path.{ap, _∙_}
-use denote.Ref.{now}
+use Rattle.block.proofs.Base.{_∙_, ap, needs}
 use Rattle.journal.specs.Format.{partAt, front}
 use Rattle.journal.proofs.Standing.{stands}
-use borrow.Author.Needs.{needs}
 use Rattle.journal.proofs.records.data.Statement.{statement}
 use Rattle.journal.proofs.records.data.Tie as tie
 
-part-at-requires : tie.Need-part-at-requires
-part-at-requires c κs =
-    let S = c .before .before in
-    rw (c .from-data .ensures) (stands (now (S .args .s)) (S .pre) .«data»)
-
-returns : tie.Need-returns
-unfolding front
-returns c = c .part-at .ensures ∙ ap partAt (c .before .from-data .ensures)
-
 pub data-spec : {M : Type 1} → statement M
 data-spec =
-    tie.close
-    (tie.spec
-    (λ c κs. search needs) part-at-requires returns)
+    tie.close (tie.spec (λ c κs. search needs) (λ c κs. rw (c .from-data .ensures) (stands _ (c .before .before .pre) .«data»))
+    (λ c. unfold front in (c .part-at .ensures ∙ ap partAt (c .before .from-data .ensures))))

@@ -1,23 +1,11 @@
 -- `records::from_room` meets its contract.
--- Assumes nothing.
-use mathlib.Core.Path.{ap, _∙_}
-use denote.Ref.{now}
+use Rattle.block.proofs.Base.{_∙_, ap, needs}
 use Rattle.journal.specs.Format.{behind}
 use Rattle.journal.proofs.Standing.{stands}
-use borrow.Author.Needs.{needs}
 use Rattle.journal.proofs.records.from_room.Statement.{statement}
 use Rattle.journal.proofs.records.from_room.Tie as tie
 
-behind-requires : tie.Need-behind-requires
-behind-requires c κs =
-    let S = c .before .before in
-    rw (c .from-iv .ensures) (stands (now (S .args .s)) (S .pre) .iv)
-
-returns : tie.Need-returns
-returns c = c .behind .ensures ∙ ap behind (c .before .from-iv .ensures)
-
 pub from-room-spec : {M : Type 1} → statement M
 from-room-spec =
-    tie.close
-    (tie.spec
-    (λ c κs. search needs) behind-requires returns)
+    tie.close (tie.spec (λ c κs. search needs) (λ c κs. rw (c .from-iv .ensures) (stands _ (c .before .before .pre) .iv))
+    (λ c. c .behind .ensures ∙ ap behind (c .before .from-iv .ensures)))

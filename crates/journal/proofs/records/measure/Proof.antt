@@ -1,132 +1,83 @@
 -- `records::measure` meets its contract. Each early return is by the test that failed; where none did, the record stands whole.
--- Assumes nothing.
-use mathlib.Core.Path.{_≡_, sym, ap, _∙_}
-use mathlib.Core.Bool.{true}
-use Prim.Native.Nat.{_≤_}
-use native.Mathlib.Omega.{arith}
-use denote.Ref.{now}
-use lib.ListN.{length, drop}
-use borrow.Author.Tests.{not-true, not-false}
-use Rattle.walk.proofs.Loop.{tail-is}
-use Rattle.journal.specs.Format.{startsPart, behind, fromLabel, fromData, fromIv, fromRoom, fromOutput, afterRecord, marked}
-use Rattle.journal.proofs.Standing.{Stands, clash, not-standing, size-is, after-end}
-use borrow.Author.Needs.{needs}
+use Rattle.block.proofs.Base.{_≤_, ℕ, _∙_, _≡_, ap, sym, Bool, false, not, true, List, arith, needs, not-false, not-true, now, drop, length}
+use Rattle.walk.proofs.Loop.{tailed, tail-is}
+use Rattle.journal.specs.Format.{behind, fromData, fromIv, fromRoom, fromOutput, afterRecord, sizeAt}
+use Rattle.journal.proofs.Cases.{clash}
+use Rattle.journal.proofs.Standing.{Stands, not-standing, size-is, size-sum}
 use Rattle.journal.proofs.records.measure.Statement.{statement}
 use Rattle.journal.proofs.records.measure.Tie as tie
 
-returns : tie.Need-returns
-returns c = not-standing _ (λ s. omega (arith, s .long))
+-- a test that failed, and one that held
+no-test : (b : List ℕ) (t r : Bool) → r ≡ t → not r ≡ true → (Stands b → t ≡ true) → 0 ≡ sizeAt b
+no-test b t r e n f = not-standing b (λ s. clash r (e ∙ f s) (not-true r n))
 
-returns-2 : tie.Need-returns-2
-returns-2 c = not-standing _ (λ s. clash _ (s .mark) (sym (c .before .marked .ensures) ∙ not-true _ (c .if2 .taken)))
+held : (t r : Bool) → r ≡ t → not r ≡ false → t ≡ true
+held t r e n = sym e ∙ not-false r n
 
-returns-3 : tie.Need-returns-3
-returns-3 c =
-    let b = now (c .before .before .before .before .before .before .before .args .s) in
-    not-standing b (λ s. clash _ (rw (tail-is b 6) (s .label)) (sym (c .before .starts-part .ensures) ∙ not-true _ (c .if3 .taken)))
+-- the bytes, and what stands behind the label, the data and the IV
+abbrev bytes : tie.After-behind → List ℕ
+bytes x = now (x .before .before .before .before .before .before .before .before .args .s)
 
-label-whole : (x : tie.Else3) → startsPart (fromLabel (now (x .before .before .before .before .before .before .before .args .s))) ≡ true
-label-whole x =
-    let b = now (x .before .before .before .before .before .before .before .args .s) in
-    rw (← tail-is b 6) (sym (x .before .starts-part .ensures) ∙ not-false _ (x .if3 .left))
+data-is : (x : tie.After-behind) → now (x .behind .result) ≡ fromData (bytes x)
+data-is x = x .behind .ensures ∙ ap behind (tail-is (bytes x) 6)
 
-behind-requires : tie.Need-behind-requires
-behind-requires c κs = sym (c .before .starts-part .ensures) ∙ not-false _ (c .if3 .left)
-
-data-is : (x : tie.After-behind)
-    → now (x .behind .result) ≡ fromData (now (x .before .before .before .before .before .before .before .before .args .s))
-data-is x = x .behind .ensures ∙ ap behind (tail-is (now (x .before .before .before .before .before .before .before .before .args .s)) 6)
-
-returns-4 : tie.Need-returns-4
-returns-4 c =
-    let at-data = c .before .before in
-    not-standing _
-    (λ s. clash _ (rw (data-is at-data) (s .«data»)) (sym (c .before .starts-part2 .ensures) ∙ not-true _ (c .if4 .taken)))
-
-behind-requires-2 : tie.Need-behind-requires-2
-behind-requires-2 c κs = sym (c .before .starts-part2 .ensures) ∙ not-false _ (c .if4 .left)
-
-iv-is : (x : tie.After-behind2)
-    → now (x .behind2 .result)
-    ≡ fromIv (now (x .before .before .before .before .before .before .before .before .before .before .before .args .s))
+iv-is : (x : tie.After-behind2) → now (x .behind2 .result) ≡ fromIv (bytes (x .before .before .before))
 iv-is x = x .behind2 .ensures ∙ ap behind (data-is (x .before .before .before))
 
-returns-5 : tie.Need-returns-5
-returns-5 c =
-    not-standing _
-    (λ s. clash _ (rw (iv-is (c .before .before)) (s .iv)) (sym (c .before .starts-part3 .ensures) ∙ not-true _ (c .if5 .taken)))
+module _ (x : tie.After-behind3) where
+  abbrev at-iv : tie.After-behind2
+  at-iv = x .before .before .before
 
-behind-requires-3 : tie.Need-behind-requires-3
-behind-requires-3 c κs = sym (c .before .starts-part3 .ensures) ∙ not-false _ (c .if5 .left)
+  abbrev at-data : tie.After-behind
+  at-data = at-iv .before .before .before
 
-room-is : (x : tie.After-behind3)
-    → now (x .behind3 .result)
-    ≡ fromRoom (now (x .before .before .before .before .before .before .before .before .before .before .before .before .before .before .args .s))
-room-is x = x .behind3 .ensures ∙ ap behind (iv-is (x .before .before .before))
+  abbrev b : List ℕ
+  b = bytes at-data
+
+  room-is : now (x .behind3 .result) ≡ fromRoom b
+  room-is = x .behind3 .ensures ∙ ap behind (iv-is at-iv)
+
+  output-is : tailed 5 (now (x .behind3 .result)) ≡ fromOutput b
+  output-is = tail-is (now (x .behind3 .result)) 5 ∙ ap (drop 5) room-is
 
 returns-6 : tie.Need-returns-6
 returns-6 c = not-standing _
     (λ s. let h : 5 ≤ length (now (c .before .behind3 .result)) = rw (room-is (c .before)) (s .middle) in omega arith)
 
-output-is : (x : tie.After-output)
-    → let at-room = x .before .before in
-    drop 5 (now (at-room .behind3 .result))
-    ≡ fromOutput (now (at-room .before .before .before .before .before .before .before .before .before .before .before .before .before .before .args .s))
-output-is x = ap (drop 5) (room-is (x .before .before))
-
-returns-7 : tie.Need-returns-7
-returns-7 c =
-    let at-output = c .before .before in
-    not-standing _
-    (λ s.
-    clash _ (rw (tail-is (now (at-output .before .before .behind3 .result)) 5, output-is at-output) (s .output))
-    (sym (c .before .starts-part4 .ensures) ∙ not-true _ (c .if7 .taken)))
-
-behind-requires-4 : tie.Need-behind-requires-4
-behind-requires-4 c κs = sym (c .before .starts-part4 .ensures) ∙ not-false _ (c .if7 .left)
-
-whole : (x : tie.Else7)
-    → let at-room = x .before .before .before .before in
-    Stands (now (at-room .before .before .before .before .before .before .before .before .before .before .before .before .before .before .args .s))
+whole : (x : tie.Else7) → Stands (b (x .before .before .before .before))
 whole x =
-    let at-output = x .before .before in
-    let at-room = at-output .before .before in
-    let else5 = at-room .before in
-    let else4 = else5 .before .before .before in
-    let else3 = else4 .before .before .before in
-    let at-mark = else3 .before .before .before .before in
+    let r = x .before .before .before .before in
+    let else5 = r .before in
+    let else4 = at-iv r .before in
+    let else3 = at-data r .before in
     record {
       long = omega arith;
-      mark = sym (at-mark .marked .ensures) ∙ not-false _ (else3 .before .before .before .if2 .left);
-      label = label-whole else3;
-      «data» = rw (← data-is (else4 .before .before)) (sym (else4 .before .starts-part2 .ensures) ∙ not-false _ (else4 .if4 .left));
-      iv = rw (← iv-is (else5 .before .before)) (sym (else5 .before .starts-part3 .ensures) ∙ not-false _ (else5 .if5 .left));
-      middle = rw (← room-is at-room) (omega arith);
-      output =
-          rw (← output-is at-output, ← tail-is (now (at-room .behind3 .result)) 5)
-          (sym (x .before .starts-part4 .ensures) ∙ not-false _ (x .if7 .left));
+      mark = held _ _ (else3 .before .before .before .before .marked .ensures) (else3 .before .before .before .if2 .left);
+      label = rw (← tail-is (b r) 6) (held _ _ (else3 .before .starts-part .ensures) (else3 .if3 .left));
+      «data» = rw (← data-is (at-data r)) (held _ _ (else4 .before .starts-part2 .ensures) (else4 .if4 .left));
+      iv = rw (← iv-is (at-iv r)) (held _ _ (else5 .before .starts-part3 .ensures) (else5 .if5 .left));
+      middle = rw (← room-is r) (omega arith);
+      output = rw (← output-is r) (held _ _ (x .before .starts-part4 .ensures) (x .if7 .left));
     }
 
 after-is : (x : tie.After-behind4)
-    → let at-room = x .before .before .before .before .before in
-    length (now (x .behind4 .result))
-    ≡ length (afterRecord (now (at-room .before .before .before .before .before .before .before .before .before .before .before .before .before .before .args .s)))
-after-is x =
-    let at-output = x .before .before .before in
-    ap length (x .behind4 .ensures ∙ ap behind (tail-is (now (at-output .before .before .behind3 .result)) 5 ∙ output-is at-output))
-
-sub-result : tie.Need-sub-result
-sub-result c = omega (arith, after-is c, after-end _ (whole (c .before)) .shorter)
-
-returns-8 : tie.Need-returns-8
-returns-8 c = omega (arith, after-is c, size-is _ (whole (c .before)))
+    → length (now (x .behind4 .result)) ≡ length (afterRecord (b (x .before .before .before .before .before)))
+after-is x = ap length (x .behind4 .ensures ∙ ap behind (output-is (x .before .before .before .before .before)))
 
 pub measure-spec : {M : Type 1} → statement M
 measure-spec =
-    tie.close
-    (tie.spec
-    returns (λ c κs. search needs) returns-2 (λ c. search needs) (λ c. search needs) (λ c. search needs)
-    (λ c κs. search needs) returns-3 behind-requires (λ c κs. search needs) returns-4 behind-requires-2
-    (λ c κs. search needs) returns-5 behind-requires-3
-    returns-6 (λ c. search needs) (λ c. search needs) (λ c. search needs)
-    (λ c κs. search needs) returns-7 behind-requires-4 sub-result returns-8)
+    tie.close (tie.spec (λ c. not-standing _ (λ s. omega (arith, s .long))) (λ c κs. search needs)
+    (λ c. no-test _ _ _ (c .before .marked .ensures) (c .if2 .taken) (λ s. s .mark)) (λ c. search needs) (λ c. search needs)
+    (λ c. search needs) (λ c κs. search needs)
+    (λ c. no-test _ _ _ (c .before .starts-part .ensures) (c .if3 .taken) (λ s. rw tail-is (s .label)))
+    (λ c κs. held _ _ (c .before .starts-part .ensures) (c .if3 .left)) (λ c κs. search needs)
+    (λ c. no-test _ _ _ (c .before .starts-part2 .ensures) (c .if4 .taken) (λ s. rw (data-is (c .before .before)) (s .«data»)))
+    (λ c κs. held _ _ (c .before .starts-part2 .ensures) (c .if4 .left)) (λ c κs. search needs)
+    (λ c. no-test _ _ _ (c .before .starts-part3 .ensures) (c .if5 .taken) (λ s. rw (iv-is (c .before .before)) (s .iv)))
+    (λ c κs. held _ _ (c .before .starts-part3 .ensures) (c .if5 .left)) returns-6 (λ c. search needs) (λ c. search needs)
+    (λ c. search needs) (λ c κs. search needs)
+    (λ c. no-test _ _ _ (c .before .starts-part4 .ensures) (c .if7 .taken)
+    (λ s. rw (output-is (c .before .before .before .before)) (s .output)))
+    (λ c κs. held _ _ (c .before .starts-part4 .ensures) (c .if7 .left))
+    (λ c. omega (arith, after-is c, size-is _ (whole (c .before)), size-sum _ (whole (c .before))))
+    (λ c. omega (arith, after-is c, size-is _ (whole (c .before)))))

@@ -1,17 +1,8 @@
 -- `records::pair` meets its contract.
--- Assumes nothing.
-use native.Mathlib.Omega.{arith}
+use Rattle.block.proofs.Base.{arith, needs}
 use Rattle.block.specs.BigEndian.{numberOf}
-use borrow.Author.Needs.{needs}
 use Rattle.journal.proofs.records.pair.Statement.{statement}
 use Rattle.journal.proofs.records.pair.Tie as tie
 
-returns : tie.Need-returns
-unfolding numberOf
-returns c = omega arith
-
 pub pair-spec : {M : Type 1} → statement M
-pair-spec =
-    tie.close
-    (tie.spec
-    (λ c. search needs) (λ c. search needs) returns)
+pair-spec = tie.close (tie.spec (λ c. search needs) (λ c. search needs) (λ c. unfold numberOf in omega arith))

@@ -1,7 +1,5 @@
 -- `records::too_long` meets its contract: the lengths are those of the record's parts.
--- Assumes nothing.
-use mathlib.Core.Path.{_∙_}
-use borrow.Author.Needs.{needs}
+use Rattle.block.proofs.Base.{_∙_, needs}
 use Rattle.journal.proofs.records.too_long.Statement.{statement}
 use Rattle.journal.proofs.records.too_long.Tie as tie
 
@@ -15,6 +13,5 @@ returns c =
 
 pub too-long-spec : {M : Type 1} → statement M
 too-long-spec =
-    tie.close
-    (tie.spec
-    (λ c κs. search needs) (λ c κs. search needs) (λ c κs. search needs) (λ c κs. search needs) (λ c κs. search needs) returns)
+    tie.close (tie.spec (λ c κs. search needs) (λ c κs. search needs) (λ c κs. search needs) (λ c κs. search needs) (λ c κs. search needs)
+    returns)

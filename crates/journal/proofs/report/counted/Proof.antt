@@ -1,73 +1,33 @@
 -- `report::counted` meets its contract, field by field. No sum wraps, since every count is at most the place.
--- Assumes nothing.
-use mathlib.Core.Path.{_≡_, refl, ap, _∙_}
-use mathlib.Core.List.{List}
-use Prim.Native.Nat.{ℕ, suc, _+_, _<_, _^_}
-use native.Mathlib.Omega.{arith}
-use denote.Ref.{now}
-use lib.ListN.{length}
+use Rattle.block.proofs.Base.{_+_, _<_, _≤_, suc, ℕ, _∙_, _≡_, ap, refl, true, List, arith, needs, length}
 use Rattle.block.proofs.Entries.{below-at}
-use Rattle.journal.specs.Format.{front}
+use Rattle.journal.specs.Format.{startsRecord, front}
 use Rattle.journal.specs.Reports.{oneMore, modePlace, counted}
-use Rattle.journal.specs.declared.report.Difference.{Difference}
-use Rattle.journal.specs.declared.report.Report.{Report}
 use Rattle.journal.proofs.Standing.{stands, size-within, data-within}
-use Rattle.journal.proofs.Counting.{mode-below-6}
-use borrow.Author.Needs.{needs}
+use Rattle.journal.proofs.Counting.{same-report, mode-below-6}
 use Rattle.journal.proofs.report.counted.Statement.{statement}
 use Rattle.journal.proofs.report.counted.Tie as tie
 
-same-report : {n n′ i i′ o o′ : ℕ} {m m′ a a′ : List ℕ} {d d′ : Difference} → n ≡ n′ → m ≡ m′ → a ≡ a′ → i ≡ i′ → o ≡ o′ → d ≡ d′
-    → _≡_ {A = Report} (record { records = n; «by_mode» = m; «by_answer» = a; «bytes_in» = i; «bytes_out» = o; first = d })
-    (record { records = n′; «by_mode» = m′; «by_answer» = a′; «bytes_in» = i′; «bytes_out» = o′; first = d′ })
-same-report p q u v w x = rw (p, q, u, v, w, x)
-
--- the place behind the record fits
-room : (S : tie.Start) → S .args .place + (27 + length (front (now (S .args .s)) .«data»)) < 2 ^ 64
-room S =
-    let b = now (S .args .s) in
-    let s = stands b (S .pre .0) in
-    let w = size-within b s in
-    let d = data-within b s in
-    omega (arith, S .pre .1 .1 .1 .1)
+-- the record fits, so the place behind it does
+data-inside : (b : List ℕ) → startsRecord b ≡ true → 27 + length (front b .«data») ≤ length b
+data-inside b e = let s = stands b e in omega (arith, size-within b s, data-within b s)
 
 one-more-requires : tie.Need-one-more-requires
 one-more-requires c κs =
     let S = c .before .before .before .before .before in
-    let r = S .args .r in
     let i = c .mode-place .result in
-    let six : length (r .«by_mode») ≡ 6 = search needs in
+    let six : length (S .args .r .«by_mode») ≡ 6 = search needs in
     let inside : i < 6 = rw (c .mode-place .ensures) (mode-below-6 (c .before .mode .result)) in
-    let small = below-at (suc (S .args .place)) (r .«by_mode») (omega arith) (S .pre .1 .1 .1 .0 .byMode) i in
-    let fits = room S in
-    (omega arith, omega arith)
+    let small = below-at (suc (S .args .place)) (S .args .r .«by_mode») (omega arith) (S .pre .1 .1 .1 .0 .byMode) i in
+    (omega arith, omega (arith, data-inside _ (S .pre .0)))
 
 one-more-requires-2 : tie.Need-one-more-requires-2
 one-more-requires-2 c κs =
     let S = c .before .before .before .before .before .before .before .before .before .before in
     let r = S .args .r in
     let n : length (r .«by_answer») ≡ 32 = search needs in
-    let inside = S .pre .1 .0 in
     let small = below-at (suc (S .args .place)) (r .«by_answer») (omega arith) (S .pre .1 .1 .1 .0 .byAnswer) (S .args .x .number) in
-    let fits = room S in
-    (omega arith, omega arith)
-
-add-t15 : tie.Need-add-t15
-add-t15 c =
-    let S = c .before .before .before .before .before .before .before .before .before .before .before .before .before .before in
-    omega (arith, room S, S .pre .1 .1 .1 .0 .records)
-
-add-t20 : tie.Need-add-t20
-add-t20 c =
-    let at-data = c .before in
-    let S = at-data .before .before .before .before .before .before .before .before .before .before .before .before .before .before .before in
-    omega (arith, room S, S .pre .1 .1 .1 .0 .bytesIn, ap length (at-data .«data» .ensures))
-
-add-t22 : tie.Need-add-t22
-add-t22 c =
-    let at-data = c .before .before in
-    let S = at-data .before .before .before .before .before .before .before .before .before .before .before .before .before .before .before in
-    omega (arith, room S, S .pre .1 .1 .1 .0 .bytesOut, S .pre .1 .1 .0)
+    (omega (arith, S .pre .1 .0), omega (arith, data-inside _ (S .pre .0)))
 
 returns : tie.Need-returns
 unfolding counted
@@ -84,7 +44,11 @@ returns c =
 
 pub counted-spec : {M : Type 1} → statement M
 counted-spec =
-    tie.close
-    (tie.spec
-    (λ c. search needs) (λ c κs. search needs) (λ c κs. search needs) one-more-requires (λ c. search needs)
-    (λ c. search needs) one-more-requires-2 add-t15 (λ c κs. search needs) add-t20 add-t22 (λ c κs. search needs) returns)
+    tie.close (tie.spec (λ c. search needs) (λ c κs. search needs) (λ c κs. search needs) one-more-requires (λ c. search needs)
+    (λ c. search needs) one-more-requires-2 (λ c. omega (arith, data-inside)) (λ c κs. search needs)
+    (λ c. omega (arith, data-inside, ap length (c .before .«data» .ensures)))
+    (λ c.
+    let x = c .before .before .before .before .before .before .before .before in
+    let S = x .before .before .before .before .before .before .before .before .before in
+    omega (arith, data-inside, S .pre .1 .1 .1 .0 .bytesOut, S .pre .1 .1 .0))
+    (λ c κs. search needs) returns)

@@ -1,19 +1,8 @@
 -- `report::first_of` meets its contract, by the tests that led there.
--- Assumes nothing.
 use Rattle.journal.proofs.report.first_of.Statement.{statement}
 use Rattle.journal.proofs.report.first_of.Tie as tie
 
-returns : tie.Need-returns
-returns c = rw (c .if1 .taken)
-
-returns-2 : tie.Need-returns-2
-returns-2 c = rw (c .before .if1 .left, c .if2 .taken)
-
-returns-3 : tie.Need-returns-3
-returns-3 c = rw (c .before .if1 .left, c .if2 .left)
-
 pub first-of-spec : {M : Type 1} → statement M
 first-of-spec =
-    tie.close
-    (tie.spec
-    returns returns-2 returns-3)
+    tie.close (tie.spec (λ c. rw (c .if1 .taken)) (λ c. rw (c .before .if1 .left, c .if2 .taken))
+    (λ c. rw (c .before .if1 .left, c .if2 .left)))

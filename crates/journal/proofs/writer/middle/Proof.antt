@@ -1,16 +1,11 @@
 -- `writer::middle` meets its contract: the room's four bytes, and the number.
--- Assumes nothing.
 use Rattle.block.specs.BigEndian.{bytesOf}
-use borrow.Author.Needs.{needs}
+use Rattle.journal.specs.Format.{middle}
+use Rattle.block.proofs.Base.{needs}
 use Rattle.journal.proofs.writer.middle.Statement.{statement}
 use Rattle.journal.proofs.writer.middle.Tie as tie
 
-returns : tie.Need-returns
-unfolding bytesOf
-returns c = rw (c .split .ensures)
-
 pub middle-spec : {M : Type 1} → statement M
 middle-spec =
-    tie.close
-    (tie.spec
-    (λ c κs. search needs) (λ c. search needs) (λ c. search needs) (λ c. search needs) (λ c. search needs) returns)
+    tie.close (tie.spec (λ c κs. search needs) (λ c. search needs) (λ c. search needs) (λ c. search needs) (λ c. search needs)
+    (λ c. unfold middle bytesOf in rw (c .split .ensures)))

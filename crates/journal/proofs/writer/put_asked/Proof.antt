@@ -1,9 +1,10 @@
 -- `writer::put_asked` meets its contract: head, label, data and IV, one behind the other.
--- Assumes nothing.
-use mathlib.Core.List.{[]}
-use denote.Ref.{now}
-use Rattle.journal.proofs.Writing.{asked-put}
-use borrow.Author.Needs.{needs}
+use Rattle.block.proofs.Base.{_+_, ℕ, _∙_, _≡_, ap, List, _++_, arith, needs, now, length, length-append}
+use Rattle.walk.specs.Walk.{over}
+use Rattle.walk.proofs.Loop.{over-behind}
+use Rattle.journal.specs.Format.{part}
+use Rattle.journal.specs.Writer.{headOf}
+use Rattle.journal.proofs.Writing.{copied-then, length-part-of, length-head, four-joined}
 use Rattle.journal.proofs.writer.put_asked.Statement.{statement}
 use Rattle.journal.proofs.writer.put_asked.Tie as tie
 
@@ -15,15 +16,22 @@ returns c =
     let at-copy = at-label .before .before .before .before in
     let at-head = at-copy .before .before .before in
     let a = at-head .before .before .before .before .before .args in
-    asked-put (a .call) (now (a .label)) (now (a .«data»)) (now (a .iv)) [] (at-head .head .result) (now (a .out)) _ _ _ _
-    (at-head .head .ensures) (at-copy .copy .ensures .1) (at-label .put-part .ensures) (at-data .put-part2 .ensures)
-    (at-iv .put-part3 .ensures)
+    let h = headOf (a .call) in
+    let l = part (now (a .label)) in
+    let d = part (now (a .«data»)) in
+    let first = copied-then h l _ (now (a .out)) _ _ 6 (at-head .head .ensures) (length-head (a .call)) (at-copy .copy .ensures .1)
+    (at-label .put-part .ensures) in
+    let n : length (h ++ l) ≡ 10 + length (now (a .label)) =
+    omega (arith, length-append h l, length-head (a .call), length-part-of (now (a .label))) in
+    let second = over-behind (h ++ l) d (now (a .out)) _ _ _ n first (at-data .put-part2 .ensures) in
+    let m : length ((h ++ l) ++ d) ≡ 10 + length (now (a .label)) + 4 + length (now (a .«data»)) =
+    omega (arith, length-append (h ++ l) d, n, length-part-of (now (a .«data»))) in
+    over-behind ((h ++ l) ++ d) (part (now (a .iv))) (now (a .out)) _ _ _ m second (at-iv .put-part3 .ensures)
+    ∙ ap (λ (x : List ℕ). over x (now (a .out))) (four-joined h l d (part (now (a .iv))))
 
 pub put-asked-spec : {M : Type 1} → statement M
 put-asked-spec =
-    tie.close
-    (tie.spec
-    (λ c κs. search needs) (λ c. search needs) (λ c κs. search needs) (λ c. search needs) (λ c. search needs) (λ c. search needs)
-    (λ c κs. search needs) (λ c. search needs) (λ c. search needs) (λ c. search needs) (λ c. search needs) (λ c. search needs)
-    (λ c κs. search needs) (λ c. search needs) (λ c. search needs) (λ c. search needs) (λ c. search needs) (λ c. search needs)
-    (λ c κs. search needs) (λ c. search needs) returns)
+    tie.close (tie.spec (λ c κs. search needs) (λ c. search needs) (λ c κs. search needs) (λ c. search needs) (λ c. search needs)
+    (λ c. search needs) (λ c κs. search needs) (λ c. search needs) (λ c. search needs) (λ c. search needs) (λ c. search needs)
+    (λ c. search needs) (λ c κs. search needs) (λ c. search needs) (λ c. search needs) (λ c. search needs) (λ c. search needs)
+    (λ c. search needs) (λ c κs. search needs) (λ c. search needs) returns)

@@ -1,23 +1,23 @@
 -- `writer::put_part` meets its contract: the length, and behind it the part.
--- Assumes nothing.
-use denote.Ref.{now}
-use Rattle.journal.proofs.Writing.{part-put}
-use borrow.Author.Needs.{needs}
+use Rattle.block.proofs.Base.{needs, now, length}
+use Rattle.block.specs.BigEndian.{bytesOf}
+use Rattle.block.proofs.Convert.{length-bytesOf}
+use Rattle.journal.specs.Format.{part}
+use Rattle.journal.proofs.Writing.{whole-copied, copied-then}
 use Rattle.journal.proofs.writer.put_part.Statement.{statement}
 use Rattle.journal.proofs.writer.put_part.Tie as tie
 
 returns : tie.Need-returns
+unfolding part
 returns c =
-    let at-part = c .before .before in
-    let at-length = at-part .before .before .before .before in
-    let at-split = at-length .before .before .before in
-    let a = at-split .before .before .before .args in
-    part-put (now (a .p)) (at-split .split .result) (now (a .out)) _ _ (at-split .split .ensures) (at-length .copy .ensures .1)
-    (at-part .copy2 .ensures .1)
+    let x = c .before .before in
+    let l = x .before .before .before .before in
+    let s = l .before .before .before in
+    let p = now (s .before .before .before .args .p) in
+    copied-then (bytesOf 4 (length p)) p _ _ _ _ 4 (s .split .ensures) (length-bytesOf 4 (length p)) (l .copy .ensures .1)
+    (whole-copied p _ _ (x .copy2 .ensures .1))
 
 pub put-part-spec : {M : Type 1} → statement M
 put-part-spec =
-    tie.close
-    (tie.spec
-    (λ c. search needs) (λ c κs. search needs) (λ c. search needs) (λ c κs. search needs) (λ c. search needs) (λ c. search needs)
-    (λ c. search needs) (λ c κs. search needs) (λ c. search needs) returns)
+    tie.close (tie.spec (λ c. search needs) (λ c κs. search needs) (λ c. search needs) (λ c κs. search needs) (λ c. search needs)
+    (λ c. search needs) (λ c. search needs) (λ c κs. search needs) (λ c. search needs) returns)

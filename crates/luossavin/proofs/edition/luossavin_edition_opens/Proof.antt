@@ -1,9 +1,5 @@
 -- `luossavin::edition::luossavin_edition_opens` meets its contract: it asks with one candidate, the label of the job and the edition.
--- Assumes nothing.
-use mathlib.Core.Path.{ap, ap₂, _∙_}
-use mathlib.Core.List.{List, [], _∷_}
-use Prim.Native.Nat.{ℕ}
-use denote.Ref.{now}
+use Rattle.block.proofs.Base.{ℕ, _∙_, ap, ap₂, List, [], _∷_, needs, now}
 use Rattle.walk.specs.Outcome.{Head}
 use Rattle.cipher_mode.specs.declared.Sm4Cipher.{Sm4Cipher}
 use Rattle.editions.specs.Which.{which}
@@ -12,7 +8,6 @@ use Rattle.label.proofs.LabelTells.{length-label}
 use Rattle.luossavin.specs.Key.{cipherIn}
 use Rattle.luossavin.specs.Edition.{hostEditionOpens}
 use Rattle.luossavin.proofs.Asked.{toOne, asked-ended, one-candidate}
-use borrow.Author.Needs.{needs}
 use Rattle.luossavin.proofs.edition.luossavin_edition_opens.Statement.{statement}
 use Rattle.luossavin.proofs.edition.luossavin_edition_opens.Tie as tie
 
@@ -25,7 +20,7 @@ returns c =
     let a = at-label .before .before .before .args in
     let file = now (a .sealed) in
     let iv = now (a .iv) in
-    c .report-asked .ensures ∙ asked-ended (at-which .which .result) ∙ ap toOne (at-which .which .ensures)
+    c .report-ended .ensures ∙ asked-ended (at-which .which .result) ∙ ap toOne (at-which .which .ensures)
     ∙ ap₂ {C = Head} (λ (k : Sm4Cipher) (l : List ℕ). toOne (which k file iv l (6 ∷ []))) (at-key .cipher-of .ensures)
     (at-label .label .ensures)
     ∙ one-candidate (cipherIn (a .key)) (labelOf (a .job) (a .edition)) file iv (length-label (a .job) (a .edition))
@@ -33,6 +28,5 @@ returns c =
 pub luossavin-edition-opens-spec : {M : Type 1} → statement M
 luossavin-edition-opens-spec =
     tie.close
-    (tie.spec
-    (λ c κs. search needs) (λ c κs. search needs) (λ c. search needs) (λ c. search needs) (λ c κs. search needs)
+    (tie.spec (λ c κs. search needs) (λ c κs. search needs) (λ c. search needs) (λ c. search needs) (λ c κs. search needs)
     (λ c κs. search needs) returns)

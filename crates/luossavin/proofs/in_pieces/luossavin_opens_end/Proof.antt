@@ -1,14 +1,10 @@
 -- `luossavin::in_pieces::luossavin_opens_end` meets its contract: it hands on the end.
--- Assumes nothing.
-use Rattle.pieces.specs.declared.opens.Opens.{Opens}
 use Rattle.luossavin.proofs.Steps.{handed-on}
-use borrow.Author.Needs.{needs}
+use Rattle.block.proofs.Base.{needs}
 use Rattle.luossavin.proofs.in_pieces.luossavin_opens_end.Statement.{statement}
 use Rattle.luossavin.proofs.in_pieces.luossavin_opens_end.Tie as tie
 
-returns : tie.Need-returns
-returns c = handed-on Opens _ _ _ _ _ _ (c .opens-step .ensures) (c .before .end .ensures)
-
 pub luossavin-opens-end-spec : {M : Type 1} → statement M
 luossavin-opens-end-spec =
-    tie.close (tie.spec (λ c κs. search needs) (λ c κs. search needs) returns)
+    tie.close
+    (tie.spec (λ c κs. search needs) (λ c κs. search needs) (λ c. handed-on (c .opens-step .ensures) (c .before .end .ensures)))

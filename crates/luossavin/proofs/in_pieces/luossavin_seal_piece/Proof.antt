@@ -1,14 +1,11 @@
 -- `luossavin::in_pieces::luossavin_seal_piece` meets its contract: it hands on a piece.
--- Assumes nothing.
-use Rattle.pieces.specs.declared.seal.Seal.{Seal}
 use Rattle.luossavin.proofs.Steps.{handed-on}
-use borrow.Author.Needs.{needs}
+use Rattle.block.proofs.Base.{needs}
 use Rattle.luossavin.proofs.in_pieces.luossavin_seal_piece.Statement.{statement}
 use Rattle.luossavin.proofs.in_pieces.luossavin_seal_piece.Tie as tie
 
-returns : tie.Need-returns
-returns c = handed-on Seal _ _ _ _ _ _ (c .seal-step .ensures) (c .before .before .before .piece .ensures)
-
 pub luossavin-seal-piece-spec : {M : Type 1} → statement M
 luossavin-seal-piece-spec =
-    tie.close (tie.spec (λ c κs. search needs) (λ c κs. search needs) (λ c. search needs) returns)
+    tie.close
+    (tie.spec (λ c κs. search needs) (λ c κs. search needs) (λ c. search needs)
+    (λ c. handed-on (c .seal-step .ensures) (c .before .before .before .piece .ensures)))

@@ -1,17 +1,11 @@
 -- `luossavin::journals::keys_of` meets its contract. The loop's invariant: the records that are made, with those to come, are the
 -- host's. The measure is how many are to come.
--- Assumes nothing.
-use mathlib.Core.Path.{_≡_, refl, sym, ap, _∙_}
-use mathlib.Core.List.{List, [], _∷_, map}
-use Prim.Native.Nat.{_-_, _≤_}
-use native.Mathlib.Omega.{arith}
-use lib.ListN.{length, length-map, length-set}
+use Rattle.block.proofs.Base.{_-_, _≤_, _∙_, _≡_, ap, refl, sym, List, map, arith, needs, length, length-map, length-set}
 use Rattle.cipher_mode.specs.declared.Sm4Cipher.{Sm4Cipher}
 use Rattle.journal.specs.declared.keys.Keys.{Keys}
 use Rattle.luossavin.specs.Key.{cipherIn}
 use Rattle.luossavin.specs.Journals.{keysOf}
 use Rattle.luossavin.proofs.Ciphers.{toBe, one-made, all-made}
-use borrow.Author.Needs.{needs}
 use Rattle.luossavin.proofs.journals.keys_of.Statement.{statement}
 use Rattle.luossavin.proofs.journals.keys_of.Tie as tie
 
@@ -26,11 +20,7 @@ eight : (S : tie.Start Inv-loop μ-loop) → length (S .args .keys .keys) ≡ 8
 eight S = sym (length-map (S .args .keys .keys) _) ∙ S .good .0 .1 .1 .1 .0 .1 .0 .1
 
 loop-holds : tie.Need-loop-holds Inv-loop μ-loop
-loop-holds c =
-    let S = c .before .before .before in
-    let k = c .cipher-of .result in
-    let made = one-made (S .args .keys .keys) (k ∷ []) 0 _ k (omega (arith, eight S)) (omega arith) (c .cipher-of .ensures) in
-    (omega arith, eight S, refl, made)
+loop-holds c = (omega arith, eight (c .before .before .before), refl, refl)
 
 loop-again : tie.Need-loop-again Inv-loop μ-loop
 loop-again c =

@@ -1,8 +1,7 @@
--- `luossavin::journals::report_replayed` meets its contract, field by field.
--- Assumes nothing.
+-- `luossavin::journals::report_replayed` meets its contract: field by field.
 use Rattle.luossavin.specs.Journals.{toldOf}
 use Rattle.luossavin.proofs.Marks.{mark-byte}
-use borrow.Author.Needs.{needs}
+use Rattle.block.proofs.Base.{needs}
 use Rattle.luossavin.proofs.journals.report_replayed.Statement.{statement}
 use Rattle.luossavin.proofs.journals.report_replayed.Tie as tie
 

@@ -1,20 +1,7 @@
--- `luossavin::key::mark_of` meets its contract: each answer is the one that the tests before it lead to.
--- Assumes nothing.
-use borrow.Author.Tests.{eq-eqb, ne-eqb}
+-- `luossavin::key::mark_of` meets its contract: the number, or 0 above 3.
+use Rattle.block.proofs.Base.{needs, le-ltb, lt-ltb}
 use Rattle.luossavin.proofs.key.mark_of.Statement.{statement}
 use Rattle.luossavin.proofs.key.mark_of.Tie as tie
 
-returns : tie.Need-returns
-returns c = rw (eq-eqb _ _ (c .if1 .taken))
-
-returns-2 : tie.Need-returns-2
-returns-2 c = rw (ne-eqb _ _ (c .before .if1 .left), eq-eqb _ _ (c .if2 .taken))
-
-returns-3 : tie.Need-returns-3
-returns-3 c = rw (ne-eqb _ _ (c .before .before .if1 .left), ne-eqb _ _ (c .before .if2 .left), eq-eqb _ _ (c .if3 .taken))
-
-returns-4 : tie.Need-returns-4
-returns-4 c = rw (ne-eqb _ _ (c .before .before .if1 .left), ne-eqb _ _ (c .before .if2 .left), ne-eqb _ _ (c .if3 .left))
-
 pub mark-of-spec : {M : Type 1} → statement M
-mark-of-spec = tie.close (tie.spec returns returns-2 returns-3 returns-4)
+mark-of-spec = tie.close (tie.spec (λ c. rw (lt-ltb _ _ (c .if1 .taken))) (λ c. search needs) (λ c. rw (le-ltb _ _ (c .if1 .left))))

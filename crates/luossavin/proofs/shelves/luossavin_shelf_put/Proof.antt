@@ -1,18 +1,10 @@
 -- `luossavin::shelves::luossavin_shelf_put` meets its contract: it reports what putting leaves.
--- Assumes nothing.
-use mathlib.Core.Path.{ap₂, _∙_}
-use Prim.Native.Nat.{ℕ}
-use Rattle.shelf.specs.Calls.{Outcome}
-use borrow.Author.Needs.{needs}
+use Rattle.block.proofs.Base.{needs}
 use Rattle.luossavin.proofs.shelves.luossavin_shelf_put.Statement.{statement}
 use Rattle.luossavin.proofs.shelves.luossavin_shelf_put.Tie as tie
 
-returns : tie.Need-returns
-returns c =
-    let at-put = c .before .before .before in
-    let told = c .report-kept .ensures in
-    ap₂ {C = Outcome} (λ (n used : ℕ). record { number = n; used = used; bytes = at-put .put .last .0 }) (told .0) (told .1)
-    ∙ at-put .put .ensures
-
 pub luossavin-shelf-put-spec : {M : Type 1} → statement M
-luossavin-shelf-put-spec = tie.close (tie.spec (λ c κs. search needs) (λ c κs. search needs) (λ c. search needs) returns)
+luossavin-shelf-put-spec =
+    tie.close
+    (tie.spec (λ c κs. search needs) (λ c κs. search needs) (λ c. search needs)
+    (λ c. rw (c .report-kept .ensures .0, c .report-kept .ensures .1) (c .before .before .before .put .ensures)))

@@ -1,17 +1,12 @@
 -- `luossavin::which::luossavin_which` meets its contract: it tells the verdict on the host's record, whose place is below 64.
--- Assumes nothing.
-use mathlib.Core.Path.{ap, ap₂, _∙_}
-use mathlib.Core.Bool.{Bool, cond}
-use Prim.Native.Nat.{ℕ, _<_}
-use native.Mathlib.Omega.{arith}
-use denote.Ref.{now}
-use Rattle.walk.specs.Outcome.{Head}
+use Rattle.block.proofs.Base.{_<_, ℕ, _∙_, ap, ap₂, Bool, cond, arith, needs, now}
+use Rattle.walk.specs.Outcome.{Head, under}
 use Rattle.cipher_mode.specs.declared.Sm4Cipher.{Sm4Cipher}
 use Rattle.editions.specs.Which.{Verdict, which}
 use Rattle.editions.proofs.WhichOpens.{place-below-64}
 use Rattle.luossavin.specs.Which.{Told, toldOf, hostWhich}
+use Rattle.luossavin.proofs.Asked.{none-is-done}
 use Rattle.luossavin.proofs.Marks.{mark-byte}
-use borrow.Author.Needs.{needs}
 use Rattle.luossavin.proofs.which.luossavin_which.Statement.{statement}
 use Rattle.luossavin.proofs.which.luossavin_which.Tie as tie
 
@@ -32,7 +27,8 @@ returns c =
     let a = at-key .before .before .before .before .before .args in
     let f = at-which .which .result in
     ap₂ {C = Told} (λ (h : Head) (n : ℕ). record { head = h; found = n; place = f .place; start = f .start; size = f .length })
-    (at-report .report-ended .ensures) (mark-byte (at-candidate .is-candidate .result) ∙ ap (λ (b : Bool). cond b 1 0) (at-candidate .is-candidate .ensures))
+    (at-report .report-ended .ensures ∙ ap {B = Head} (under (f .key)) (none-is-done (f .ended)))
+    (mark-byte (at-candidate .is-candidate .result) ∙ ap (λ (b : Bool). cond b 1 0) (at-candidate .is-candidate .ensures))
     ∙ ap toldOf (at-which .which .ensures)
     ∙ ap {B = Told} (λ (k : Sm4Cipher). toldOf (which k (now (a .sealed)) (now (a .iv)) (now (a .labels)) (now (a .lengths))))
     (at-key .cipher-of .ensures)
@@ -40,6 +36,5 @@ returns c =
 pub luossavin-which-spec : {M : Type 1} → statement M
 luossavin-which-spec =
     tie.close
-    (tie.spec
-    (λ c κs. search needs) (λ c κs. search needs) (λ c κs. search needs) (λ c κs. search needs) (λ c. search needs) cast-t12
+    (tie.spec (λ c κs. search needs) (λ c κs. search needs) (λ c κs. search needs) (λ c κs. search needs) (λ c. search needs) cast-t12
     returns)

@@ -1,21 +1,18 @@
 -- `luossavin::workers::luossavin_plan_make` meets its contract: it hands on the planner's answer and its plan.
--- Assumes nothing.
-use mathlib.Core.Path.{ap, _∙_}
-use Rattle.walk.specs.Outcome.{Head}
+use Rattle.block.proofs.Base.{_∙_, ap, needs}
+use Rattle.walk.specs.Outcome.{Head, refusal}
 use Rattle.ranges.specs.declared.plan.Planned.{Planned}
 use Rattle.luossavin.specs.Ranges.{Handed, makingHead, hostPlanMake}
-use borrow.Author.Needs.{needs}
 use Rattle.luossavin.proofs.workers.luossavin_plan_make.Statement.{statement}
 use Rattle.luossavin.proofs.workers.luossavin_plan_make.Tie as tie
 
 returns : tie.Need-returns
 unfolding hostPlanMake
 returns c =
-    let at-make = c .before .before in
-    let made = at-make .make .result .plan in
-    ap {B = Handed} (λ (h : Head). record { head = h; plan = made }) (c .report-making .ensures)
-    ∙ ap {B = Handed} (λ (p : Planned). record { head = makingHead (p .making); plan = p .plan }) (at-make .make .ensures)
+    let made = c .before .before .before .make in
+    ap {B = Handed} (λ (h : Head). record { head = h; plan = made .result .plan })
+    (c .numbered .ensures ∙ ap {B = Head} refusal (c .before .number-of .ensures))
+    ∙ ap {B = Handed} (λ (p : Planned). record { head = makingHead (p .making); plan = p .plan }) (made .ensures)
 
 pub luossavin-plan-make-spec : {M : Type 1} → statement M
-luossavin-plan-make-spec =
-    tie.close (tie.spec (λ c κs. search needs) (λ c κs. search needs) returns)
+luossavin-plan-make-spec = tie.close (tie.spec (λ c κs. search needs) (λ c κs. search needs) (λ c κs. search needs) returns)

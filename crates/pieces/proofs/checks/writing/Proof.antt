@@ -1,27 +1,15 @@
 -- `pieces::checks::writing` meets its contract: what stands before the room ends the list, and then the room answers.
--- Assumes nothing.
-use borrow.Author.Tests.{lt-ltb, le-ltb}
-use Rattle.cipher_mode.proofs.Passed.{stops, goes-on}
-use Rattle.pieces.specs.Checks.{writing}
-use borrow.Author.Needs.{needs}
+use Rattle.block.proofs.Base.{_∙_, _≡_, sym, needs, le-ltb, lt-ltb}
+use Rattle.cipher_mode.specs.declared.checks.Checked.the-variants.{Passed}
+use Rattle.pieces.specs.Checks.{running, writing}
 use Rattle.pieces.proofs.checks.writing.Statement.{statement}
 use Rattle.pieces.proofs.checks.writing.Tie as tie
 
-returns : tie.Need-returns
-unfolding writing
-returns c = stops _ _ _ _ (c .before .before .running .ensures) (c .enum-told2 .given .1)
-
-returns-2 : tie.Need-returns-2
-unfolding writing
-returns-2 c =
-    let told = c .before in
-    goes-on _ _ _ _ (told .before .before .running .ensures) (told .enum-told .given .1) (rw (lt-ltb _ _ (c .if1 .taken)))
-
-returns-3 : tie.Need-returns-3
-unfolding writing
-returns-3 c =
-    let told = c .before in
-    goes-on _ _ _ _ (told .before .before .running .ensures) (told .enum-told .given .1) (rw (le-ltb _ _ (c .if1 .left)))
+runs : (x : tie.After-enum-told) → let a = x .before .before .before .args in running (a .mark) (a .label) (a .total) (a .n) ≡ Passed
+runs x = sym (x .before .before .running .ensures) ∙ x .enum-told .given .1
 
 pub writing-spec : {M : Type 1} → statement M
-writing-spec = tie.close (tie.spec (λ c κs. search needs) (λ c. search needs) (λ c. search needs) returns returns-2 returns-3)
+unfolding writing
+writing-spec = tie.close (tie.spec (search needs) (search needs) (search needs)
+    (λ c. rw (← c .before .before .running .ensures, c .enum-told2 .given .1)) (λ c. rw (runs (c .before), lt-ltb _ _ (c .if1 .taken)))
+    (λ c. rw (runs (c .before), le-ltb _ _ (c .if1 .left))))

@@ -1,20 +1,11 @@
 -- `pieces::flow::run` meets its contract. Where the text does not fill the begun block, its pad is all that is needed
 -- (`text-short`); where it does, what follows stands behind it in the output (`over-behind`).
--- Assumes nothing.
-use mathlib.Core.Path.{_≡_, sym, ap, _∙_}
-use mathlib.Core.List.{List}
-use Prim.Native.Nat.{ℕ, _-_}
-use native.Mathlib.Omega.{arith}
-use denote.Ref.{now}
-use lib.ListN.{length, drop, length-drop}
-use borrow.Author.Tests.{lt-ltb, le-ltb}
+use Rattle.block.proofs.Base.{_-_, _∙_, _≡_, refl, arith, needs, le-ltb, lt-ltb, now, drop, length, length-drop}
 use Rattle.block.specs.Xor.{xors}
-use Rattle.walk.specs.Walk.{chain, over}
-use Rattle.walk.proofs.Loop.{tailed, tail-is, over-behind}
-use Rattle.pieces.specs.Flow.{nextCounter, flowMode, flowAfter, flowText, flowNext}
+use Rattle.walk.proofs.Loop.{tail-is, over-behind}
+use Rattle.pieces.specs.Flow.{flowText, flowNext}
 use Rattle.pieces.proofs.Pads.{length-both}
 use Rattle.pieces.proofs.KeyStream.{text-short}
-use borrow.Author.Needs.{needs}
 use Rattle.pieces.proofs.flow.run.Statement.{statement}
 use Rattle.pieces.proofs.flow.run.Tie as tie
 
@@ -26,11 +17,8 @@ unfolding flowNext
 returns c =
     let at-pad = c .before .before .before in
     let a = at-pad .before .before .before .before .before .before .args in
-    let d = now (a .«data») in (
-      rw (lt-ltb _ _ (c .if1 .taken)),
-      at-pad .xor-pad .ensures
-          ∙ ap (λ (l : List ℕ). over l (now (a .out))) (sym (text-short (a .counting) (a .rk) (a .flow) (a .p) d (c .if1 .taken))),
-    )
+    let short = text-short (a .counting) (a .rk) (a .flow) (a .p) (now (a .«data»)) (c .if1 .taken) in
+    rw (lt-ltb _ _ (c .if1 .taken), at-pad .xor-pad .ensures, short) (refl, refl)
 
 returns-2 : tie.Need-returns-2
 unfolding flowNext flowText
@@ -41,24 +29,15 @@ returns-2 c =
     let S = at-pad .before .before .before .before .before .before in
     let a = S .args in
     let d = now (a .«data») in
-    let m = 16 - a .p in
-    let mode = flowMode (a .counting) (a .rk) in
-    let next = nextCounter (a .counting) (a .flow .counter) in
     let begun = drop (a .p) (a .flow .pad) in
-    let sixteen : length (a .flow .pad) ≡ 16 = pad-length S in
-    let left : length begun ≡ m = length-drop (a .p) (a .flow .pad) ∙ omega arith in
-    let ended : length (xors d begun) ≡ m = length-both d begun ∙ omega arith in
+    let sixteen = pad-length S in
+    let left = length-drop (a .p) (a .flow .pad) in
+    let ended : length (xors d begun) ≡ 16 - a .p = length-both d begun ∙ omega arith in
+    let onward = rw (tail-is d (16 - a .p)) at (at-onward .onward .ensures) in
     let written = at-pad .xor-pad .last .1 .1 .1 .0 in
-    let onward = at-onward .onward .ensures in (
-      rw (le-ltb _ _ (at-else .if1 .left)) (onward .0 ∙ ap (flowAfter (a .counting) (a .rk) next) (tail-is d m)),
-      over-behind (xors d begun) (chain mode next (drop m d)) (now (a .out)) written _ m ended (at-pad .xor-pad .ensures)
-          (onward .1 ∙ ap (λ (l : List ℕ). over (chain mode next l) (tailed m written)) (tail-is d m)),
-    )
+    let behind = over-behind (xors d begun) _ (now (a .out)) written _ _ ended (at-pad .xor-pad .ensures) (onward .1) in
+    (rw (le-ltb _ _ (at-else .if1 .left)) (onward .0), behind)
 
 pub run-spec : {M : Type 1} → statement M
-run-spec =
-    tie.close
-    (tie.spec
-    (λ c κs. search needs) (λ c. search needs) (λ c. search needs) returns (λ c. search needs) (λ c. search needs)
-    (λ c. search needs) (λ c. search needs) (λ c. search needs) (λ c. search needs) (λ c κs. search needs)
-    (λ c. search needs) returns-2)
+run-spec = tie.close (tie.spec (search needs) (search needs) (search needs) returns (search needs) (search needs) (search needs)
+    (search needs) (search needs) (search needs) (λ c κs. search needs) (search needs) returns-2)

@@ -1,15 +1,8 @@
 -- `pieces::flow::xor_pad` meets its contract. The loop's invariant: the first i bytes are xored with the pad from place p on,
 -- and the rest of the output is as it was lent.
--- Assumes nothing.
-use mathlib.Core.Path.{_≡_, refl}
-use mathlib.Core.List.{_++_}
-use Prim.Native.Nat.{_≤_, _-_}
-use native.Mathlib.Omega.{arith}
-use denote.Ref.{now}
-use lib.ListN.{length, take, drop, length-set}
+use Rattle.block.proofs.Base.{_-_, _≤_, _≡_, refl, _++_, arith, needs, now, drop, length, length-set, take}
 use Rattle.block.specs.Xor.{xors}
 use Rattle.pieces.proofs.Pads.{pad-turn, pad-reached}
-use borrow.Author.Needs.{needs}
 use Rattle.pieces.proofs.flow.xor_pad.Statement.{statement}
 use Rattle.pieces.proofs.flow.xor_pad.Tie as tie
 
@@ -19,9 +12,6 @@ Inv-loop p d out₀ pad n i₀ out i =
 
 abbrev μ-loop : tie.MeasureT-loop
 μ-loop p d out₀ pad n i₀ out i = n - i
-
-loop-holds : tie.Need-loop-holds Inv-loop μ-loop
-loop-holds c = (omega arith, refl, refl)
 
 loop-again : tie.Need-loop-again Inv-loop μ-loop
 loop-again c =
@@ -42,8 +32,5 @@ returns c =
     pad-reached (now (a .«data»)) (a .t1) (now (a .out)) (l .out) (a .p) (l .i) (l .inv .2) (omega arith)
 
 pub xor-pad-spec : {M : Type 1} → statement M
-xor-pad-spec =
-    tie.close
-    (tie.spec
-    Inv-loop μ-loop (λ c. omega arith) (λ c κs. search needs) loop-holds (λ c. omega arith) (λ c. omega arith)
-    (λ c. omega arith) (λ c. omega arith) (λ c. omega arith) (λ c. omega arith) loop-again (λ c. omega arith) returns)
+xor-pad-spec = tie.close (tie.spec Inv-loop μ-loop (omega arith) (search needs) (λ c. (omega arith, refl, refl)) (omega arith)
+    (omega arith) (omega arith) (omega arith) (omega arith) (omega arith) loop-again (omega arith) returns)

@@ -1,34 +1,23 @@
 -- `pieces::hashing::byte_at` meets its contract: before p the byte is held's (`at-held`), from p on the text's (`at-text`).
--- Assumes nothing.
-use mathlib.Core.Path.{_≡_, sym, _∙_}
-use Prim.Native.Nat.{_≤_, _-_}
-use native.Mathlib.Omega.{arith}
-use denote.Ref.{now}
-use lib.ListN.{length, List·getD-eq-default}
+use Rattle.block.proofs.Base.{_-_, arith, needs, now, List·getD-eq-default}
 use Rattle.pieces.proofs.Filling.{at-held, at-text}
-use borrow.Author.Needs.{needs}
 use Rattle.pieces.proofs.hashing.byte_at.Statement.{statement}
 use Rattle.pieces.proofs.hashing.byte_at.Tie as tie
 
 returns : tie.Need-returns
-returns c =
-    let a = c .before .args in
-    let sixteen : length (a .t1) ≡ 16 = search needs in
-    at-held (a .t1) (now (a .«data»)) (a .p) (a .i) (omega arith) (omega arith)
+returns c = let a = c .before .args in at-held (a .t1) (now (a .«data»)) (a .p) (a .i) (search needs) (omega arith) (omega arith)
 
 returns-2 : tie.Need-returns-2
 returns-2 c =
     let a = c .before .before .before .args in
-    let sixteen : length (a .t1) ≡ 16 = search needs in
-    at-text (a .t1) (now (a .«data»)) (a .p) (a .i) (omega arith) (omega arith)
+    at-text (a .t1) (now (a .«data»)) (a .p) (a .i) (search needs) (omega arith) (omega arith)
 
 returns-3 : tie.Need-returns-3
 returns-3 c =
     let a = c .before .before .args in
-    let sixteen : length (a .t1) ≡ 16 = search needs in
-    let past : length (now (a .«data»)) ≤ a .i - a .p = omega arith in
-    sym (List·getD-eq-default (now (a .«data»)) 0 past)
-    ∙ at-text (a .t1) (now (a .«data»)) (a .p) (a .i) (omega arith) (omega arith)
+    let d = now (a .«data») in
+    let past = List·getD-eq-default d 0 {n = a .i - a .p} (omega arith) in
+    rw (← at-text (a .t1) d (a .p) (a .i) (search needs) (omega arith) (omega arith), past)
 
 pub byte-at-spec : {M : Type 1} → statement M
-byte-at-spec = tie.close (tie.spec (λ c. search needs) returns (λ c. search needs) returns-2 returns-3)
+byte-at-spec = tie.close (tie.spec (search needs) returns (search needs) returns-2 returns-3)

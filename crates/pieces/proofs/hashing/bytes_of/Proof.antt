@@ -1,8 +1,6 @@
 -- `pieces::hashing::bytes_of` meets its contract: the words of a number's sixteen bytes spell these bytes.
--- Assumes nothing.
-use mathlib.Core.Path.{_∙_}
+use Rattle.block.proofs.Base.{_∙_, needs}
 use Rattle.block.proofs.WordsBack.{unwords-number}
-use borrow.Author.Needs.{needs}
 use Rattle.pieces.proofs.hashing.bytes_of.Statement.{statement}
 use Rattle.pieces.proofs.hashing.bytes_of.Tie as tie
 

@@ -1,67 +1,41 @@
 -- `pieces::hashing::take_in` meets its contract. Where the text does not fill the begun block, all is held (`held-within`);
 -- where it does, the first block and what is behind it are what was held and the text (`filled-full`).
--- Assumes nothing.
-use mathlib.Core.Path.{_≡_, ap, _∙_}
-use mathlib.Core.List.{List, _++_}
-use Prim.Native.Nat.{ℕ, _-_, _<_}
-use native.Mathlib.Omega.{arith}
-use mir.Val.{Fits}
-use mir.Syntax.{w8}
-use denote.Ref.{now}
-use lib.ListN.{length, take, drop, getD, length-append}
-use lib.Seq.{length-take-le}
-use Rattle.block.proofs.Entries.{below-each}
+use Rattle.block.proofs.Base.{_-_, _<_, _++_, arith, needs, now, length, length-append, take, length-take-le}
 use Rattle.walk.proofs.Loop.{tail-is}
-use Rattle.pieces.specs.declared.hashing.Hashing.{Hashing}
-use Rattle.pieces.specs.Hashing.{hashAfter, hashNext}
+use Rattle.pieces.specs.Hashing.{hashNext}
 use Rattle.pieces.proofs.Filling.{filled-full}
+use Rattle.pieces.proofs.Fitting.{Sixteen, are-bytes}
 use Rattle.pieces.proofs.HashOn.{held-within}
-use borrow.Author.Needs.{needs}
 use Rattle.pieces.proofs.hashing.take_in.Statement.{statement}
 use Rattle.pieces.proofs.hashing.take_in.Tie as tie
 
-held-length : (s : tie.Start) → length (s .args .g .held) ≡ 16
-held-length s = search needs
+held : (s : tie.Start) → Sixteen (s .args .g .held)
+held s = (search needs, λ i. search needs)
 
-y-length : (s : tie.Start) → length (s .args .g .y) ≡ 16
-y-length s = search needs
-
-y-fits : (s : tie.Start) (i : ℕ) → Fits w8 (getD (s .args .g .y) i 0)
-y-fits s i = search needs
+y : (s : tie.Start) → Sixteen (s .args .g .y)
+y s = (search needs, λ i. search needs)
 
 returns : tie.Need-returns
 unfolding hashNext
 returns c =
-    let at-filled = c .before in
-    let S = at-filled .before .before .before .before .before in
+    let S = c .before .before .before .before .before .before in
     let a = S .args in
-    let g = a .g in
-    let n = held-length S in
-    let p = length-take-le (a .p) (g .held) (omega arith) in
-    let low : length (take (a .p) (g .held) ++ now (a .«data»)) < 16 = rw length-append (omega arith) in
-    ap {B = Hashing} (λ (l : List ℕ). record { h = g .h; y = g .y; held = l }) (at-filled .filled .ensures)
-    ∙ held-within (g .h) (g .y) (take (a .p) (g .held) ++ now (a .«data»)) low (y-length S) (below-each 256 (g .y) (λ i. y-fits S i .fits))
+    let n = held S .0 in
+    let p = length-take-le (a .p) (a .g .held) (omega arith) in
+    let low : length (take (a .p) (a .g .held) ++ now (a .«data»)) < 16 = rw length-append (omega arith) in
+    rw (c .before .filled .ensures) (held-within _ _ _ low (y S .0) (are-bytes (a .g .y) (y S)))
 
 returns-2 : tie.Need-returns-2
 unfolding hashNext
 returns-2 c =
-    let at-else = c .before .before in
-    let at-filled = at-else .before in
+    let at-filled = c .before .before .before in
     let S = at-filled .before .before .before .before .before in
     let a = S .args in
-    let g = a .g in
-    let n = held-length S in
+    let n = held S .0 in
     let d = now (a .«data») in
-    let p = length-take-le (a .p) (g .held) (omega arith) in
-    c .full-blocks .ensures
-    ∙ ap (hashAfter (g .h) (g .y))
-    (ap (λ (l : List ℕ). at-filled .filled .result ++ l) (tail-is d (16 - a .p))
-    ∙ ap (λ (l : List ℕ). l ++ drop (16 - a .p) d) (at-filled .filled .ensures)
-    ∙ filled-full (take (a .p) (g .held)) d (a .p) p (omega arith) (omega arith))
+    let p = length-take-le (a .p) (a .g .held) (omega arith) in
+    rw (c .full-blocks .ensures, tail-is d (16 - a .p), at-filled .filled .ensures, filled-full _ d (a .p) p (omega arith) (omega arith))
 
 pub take-in-spec : {M : Type 1} → statement M
-take-in-spec =
-    tie.close
-    (tie.spec
-    (λ c κs. search needs) (λ c. search needs) returns (λ c. search needs) (λ c. search needs) (λ c. search needs)
-    (λ c κs. search needs) returns-2)
+take-in-spec = tie.close (tie.spec (search needs) (search needs) returns (search needs) (search needs) (search needs) (search needs)
+    returns-2)

@@ -1,14 +1,9 @@
 -- `plan::accepts` meets its contract. The loop's invariant: the pieces so far reach `at`, which is not past `n`, and whether those to
 -- come follow one another from there decides. The measure is how many are to come.
--- Assumes nothing.
-use mathlib.Core.Path.{_≡_, refl, sym, _∙_}
-use Prim.Native.Nat.{_-_, _≤_}
-use native.Mathlib.Omega.{arith}
-use lib.ListN.{length}
-use borrow.Author.Needs.{needs}
-use borrow.Author.Tests.{le-leb, lt-leb}
+use Rattle.block.proofs.Base.{_+_, _-_, _≤_, _∙_, _≡_, refl, sym, cond, false, arith, needs, le-leb, lt-leb, not-false, not-true, getD}
+use Rattle.block.proofs.Base.{length}
 use Rattle.ranges.specs.Plan.{accepts}
-use Rattle.ranges.proofs.Following.{followsFrom, goes-on, stops, ends}
+use Rattle.ranges.proofs.Following.{followsFrom, tested, piece-fits, ends}
 use Rattle.ranges.proofs.plan.accepts.Statement.{statement}
 use Rattle.ranges.proofs.plan.accepts.Tie as tie
 
@@ -24,56 +19,56 @@ Inv-loop n count starts lengths at₀ i₀ at i =
 abbrev μ-loop : tie.MeasureT-loop
 μ-loop n count starts lengths at₀ i₀ at i = count - i
 
-returns : tie.Need-returns Inv-loop μ-loop
-unfolding accepts
-returns c = rw (lt-leb _ _ (c .if1 .taken))
+-- the test of the piece at this turn decides
+turn : (x : tie.After-is-piece Inv-loop μ-loop)
+    → let l = x .before .before .loop in
+    let a = x .before .before .before .before .before .before .args in
+    let p = a .plan in
+    let end = l .at + getD (p .lengths) (l .i) 0 in
+    cond (x .is-piece .result) (followsFrom (p .starts) (p .lengths) (p .count) (a .n) (l .i + 1) end) false
+    ≡ followsFrom (p .starts) (p .lengths) (p .count) (a .n) 0 0
+turn x =
+    let l = x .before .before .loop in
+    let a = x .before .before .before .before .before .before .args in
+    let p = a .plan in
+    rw (x .is-piece .ensures)
+    (sym (tested (p .starts) (p .lengths) (p .count) (l .i) (l .at) (a .n) (omega (arith, l .inv)) (omega (arith, l .inv)) (omega arith)
+    (omega arith)) ∙ l .inv .5)
 
-loop-holds : tie.Need-loop-holds Inv-loop μ-loop
-loop-holds c = (omega arith, search needs, search needs, omega arith, omega arith, refl)
+fits : (x : tie.Else2 Inv-loop μ-loop)
+    → let l = x .before .before .before .loop in
+    let a = x .before .before .before .before .before .before .before .args in
+    l .at + getD (a .plan .lengths) (l .i) 0 ≤ a .n
+fits x =
+    let l = x .before .before .before .loop in
+    let a = x .before .before .before .before .before .before .before .args in
+    let p = a .plan in
+    piece-fits (p .starts) (p .lengths) (p .count) (l .i) (l .at) (a .n) (omega (arith, l .inv)) (omega (arith, l .inv)) (omega arith)
+    (omega arith) (sym (x .before .is-piece .ensures) ∙ not-false (x .before .is-piece .result) (x .if2 .left))
 
 returns-2 : tie.Need-returns-2 Inv-loop μ-loop
 unfolding accepts
 returns-2 c =
-    let at-loop = c .before .before .before in
-    let p = at-loop .before .before .before .before .args .plan in
-    let inv = at-loop .loop .inv in
-    let no =
-    stops (p .starts) (p .lengths) (p .count) (at-loop .loop .i) (at-loop .loop .at) _ (omega (arith, inv)) (omega (arith, inv))
-    (omega arith) (omega arith) (c .before .is-piece .ensures) (c .if2 .taken) in
-    rw (le-leb (p .count) 64 (inv .0)) (sym (sym (inv .5) ∙ no))
-
-add-at : tie.Need-add-at Inv-loop μ-loop
-add-at c =
-    let at-loop = c .before .before .before in
-    let p = at-loop .before .before .before .before .args .plan in
-    let inv = at-loop .loop .inv in
-    let on =
-    goes-on (p .starts) (p .lengths) (p .count) (at-loop .loop .i) (at-loop .loop .at) _ (omega (arith, inv)) (omega (arith, inv))
-    (omega arith) (omega arith) (c .before .is-piece .ensures) (c .if2 .left) in
-    record { fits = omega (arith, on .0) }
+    let p = c .before .before .before .before .before .before .before .args .plan in
+    rw (le-leb (p .count) 64 (c .before .before .before .loop .inv .0), ← turn (c .before))
+    (rw (not-true (c .before .is-piece .result) (c .if2 .taken)))
 
 loop-again : tie.Need-loop-again Inv-loop μ-loop
 loop-again c =
-    let at-loop = c .before .before .before in
-    let p = at-loop .before .before .before .before .args .plan in
-    let inv = at-loop .loop .inv in
-    let on =
-    goes-on (p .starts) (p .lengths) (p .count) (at-loop .loop .i) (at-loop .loop .at) _ (omega (arith, inv)) (omega (arith, inv))
-    (omega arith) (omega arith) (c .before .is-piece .ensures) (c .if2 .left) in
-    (inv .0, inv .1, inv .2, on .0, omega arith, on .1 ∙ inv .5)
+    let inv = c .before .before .before .loop .inv in
+    (inv .0, inv .1, inv .2, fits c, omega arith, rw (not-false (c .before .is-piece .result) (c .if2 .left)) at (turn (c .before)))
 
 returns-3 : tie.Need-returns-3 Inv-loop μ-loop
 unfolding accepts
 returns-3 c =
-    let at-loop = c .before in
-    let p = at-loop .before .before .before .before .args .plan in
-    let inv = at-loop .loop .inv in
-    let end = ends (p .starts) (p .lengths) (p .count) (at-loop .loop .i) (at-loop .loop .at) _ (omega (arith, inv)) (omega arith) in
-    rw (le-leb (p .count) 64 (inv .0)) (sym end ∙ inv .5)
+    let l = c .before .loop in
+    let p = c .before .before .before .before .before .args .plan in
+    let end = ends (p .starts) (p .lengths) (p .count) (l .i) (l .at) _ (omega (arith, l .inv)) (omega arith) in
+    rw (le-leb (p .count) 64 (l .inv .0)) (sym end ∙ l .inv .5)
 
 pub accepts-spec : {M : Type 1} → statement M
-accepts-spec =
-    tie.close
-    (tie.spec
-    Inv-loop μ-loop returns loop-holds (λ c. omega arith) (λ c. omega arith) (λ c. omega arith) (λ c. omega arith) (λ c. omega arith)
-    (λ c. omega arith) (λ c κs. search needs) returns-2 add-at (λ c. omega arith) (λ c. omega arith) loop-again returns-3)
+unfolding accepts
+accepts-spec = tie.close (tie.spec Inv-loop μ-loop (λ c. rw (lt-leb _ _ (c .if1 .taken)))
+    (λ c. (omega arith, search needs, search needs, omega arith, omega arith, refl)) (omega arith) (omega arith) (omega arith)
+    (omega arith) (omega arith) (omega arith) (search needs) returns-2 (λ c. record { fits = omega (arith, fits c) }) (omega arith)
+    (omega arith) loop-again returns-3)

@@ -1,9 +1,5 @@
 -- `plan::length_at` meets its contract: past `n` nothing is left, and before it the smaller of the two is the answer.
--- Assumes nothing.
-use mathlib.Core.Path.{_≡_}
-use Prim.Native.Nat.{_-_}
-use native.Mathlib.Omega.{arith}
-use borrow.Author.Tests.{lt-ltb, le-ltb}
+use Rattle.block.proofs.Base.{_-_, _≡_, arith, le-ltb, lt-ltb}
 use Rattle.ranges.proofs.plan.length_at.Statement.{statement}
 use Rattle.ranges.proofs.plan.length_at.Tie as tie
 
@@ -13,11 +9,5 @@ returns c =
     let none : a .n - a .at ≡ 0 = omega arith in
     rw (none, le-ltb (a .size) 0 (omega arith))
 
-returns-2 : tie.Need-returns-2
-returns-2 c = rw (lt-ltb _ _ (c .if2 .taken))
-
-returns-3 : tie.Need-returns-3
-returns-3 c = rw (le-ltb _ _ (c .if2 .left))
-
 pub length-at-spec : {M : Type 1} → statement M
-length-at-spec = tie.close (tie.spec returns (λ c. omega arith) returns-2 returns-3)
+length-at-spec = tie.close (tie.spec returns (omega arith) (λ c. rw (lt-ltb _ _ (c .if2 .taken))) (λ c. rw (le-ltb _ _ (c .if2 .left))))

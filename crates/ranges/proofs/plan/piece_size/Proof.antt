@@ -1,10 +1,5 @@
 -- `plan::piece_size` meets its contract: a share is no more than all the blocks and workers, so nothing wraps.
--- Assumes nothing.
-use mathlib.Core.Path.{refl}
-use Prim.Native.Nat.{_+_, _-_}
-use native.Mathlib.Nat.{div-le-self}
-use native.Mathlib.Omega.{arith}
-use borrow.Author.Needs.{needs}
+use Rattle.block.proofs.Base.{_+_, _-_, refl, div-le-self, arith, needs}
 use Rattle.counter.specs.CameRound.{blocksOf}
 use Rattle.ranges.specs.Plan.{pieceSize}
 use Rattle.ranges.proofs.plan.piece_size.Statement.{statement}
@@ -13,15 +8,8 @@ use Rattle.ranges.proofs.plan.piece_size.Tie as tie
 mul-result : tie.Need-mul-result
 mul-result c =
     let a = c .args in
-    let share = div-le-self (blocksOf (a .n) + (a .workers - 1)) (a .workers) in
-    record { fits = omega (arith, share) }
-
-returns : tie.Need-returns
-unfolding pieceSize
-returns c = refl
+    record { fits = omega (arith, div-le-self (blocksOf (a .n) + (a .workers - 1)) (a .workers)) }
 
 pub piece-size-spec : {M : Type 1} → statement M
-piece-size-spec =
-    tie.close
-    (tie.spec
-    (λ c. search needs) (λ c. search needs) (λ c. search needs) (λ c. search needs) mul-result returns)
+unfolding pieceSize
+piece-size-spec = tie.close (tie.spec (search needs) (search needs) (search needs) (search needs) mul-result (λ c. refl))

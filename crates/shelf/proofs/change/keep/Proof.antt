@@ -1,15 +1,8 @@
 -- `change::keep` meets its contract. The loop's invariant is how far the collection has come, and the measure how many bytes are to come.
--- Assumes nothing.
-use mathlib.Core.Path.{sym, _∙_}
-use mathlib.Core.Logic.{⊎-elim}
-use Prim.Native.Nat.{ℕ, _+_, _-_, _≤_, _<_}
-use native.Mathlib.Omega.{arith}
-use denote.Ref.{now}
-use lib.ListN.{getD}
+use Rattle.block.proofs.Base.{_+_, _-_, _≤_, _∙_, sym, ⊎-elim, arith, needs, now}
 use Rattle.block.proofs.Entries.{below-each}
 use Rattle.shelf.proofs.Reading.{Turn, at-end, on}
 use Rattle.shelf.proofs.Keeping.{between, Collecting, collecting-starts, kept-length, kept-over, fits, stay-turn, gone-turn}
-use borrow.Author.Needs.{needs}
 use Rattle.shelf.proofs.change.keep.Statement.{statement}
 use Rattle.shelf.proofs.change.keep.Tie as tie
 
@@ -18,9 +11,6 @@ Inv-loop shelf₀ used coming job to₀ at₀ shelf to at = Collecting coming jo
 
 abbrev μ-loop : tie.MeasureT-loop
 μ-loop shelf₀ used coming job to₀ at₀ shelf to at = used - at
-
-loop-holds : tie.Need-loop-holds Inv-loop μ-loop
-loop-holds c = collecting-starts _ _ _ _ (c .before .pre)
 
 turn : (x : tie.Else1 Inv-loop μ-loop)
     → let at-loop = x .before .before .before .before in
@@ -42,25 +32,6 @@ returns c =
     let none = at-end _ (at-front .front .result) (at-front .front .ensures) (c .if1 .taken) in
     (kept-length _ _ _ _ (S .pre) _ _ _ (at-loop .loop .inv) none, kept-over _ _ _ _ (S .pre) _ _ _ (at-loop .loop .inv) none)
 
-move-down-requires : tie.Need-move-down-requires Inv-loop μ-loop
-move-down-requires c κs =
-    let at-else = c .before .before .before in
-    let at-loop = at-else .before .before .before .before in
-    let inv = at-loop .loop .inv in
-    (inv .below, omega (arith, room at-else, at-loop .before .before .pre, inv .long))
-
-add-to : tie.Need-add-to Inv-loop μ-loop
-add-to c =
-    let at-else = c .before .before .before .before .before .before in
-    let at-loop = at-else .before .before .before .before in
-    omega (arith, room at-else, at-loop .loop .inv .below)
-
-add-at : tie.Need-add-at Inv-loop μ-loop
-add-at c = omega (arith, room (c .before .before))
-
-loop-less : tie.Need-loop-less Inv-loop μ-loop
-loop-less c = let here = turn (c .before .before) in omega (arith, room (c .before .before), here .long)
-
 loop-again : tie.Need-loop-again Inv-loop μ-loop
 loop-again c =
     let at-stays = c .before in
@@ -69,11 +40,11 @@ loop-again c =
     let at-entry = at-loop .before in
     let S = at-entry .before in
     let s₀ = now (S .args .shelf) in
-    let each : (k : ℕ) → getD s₀ k 0 < 256 = λ k. omega (arith, at-entry .slice-known .given k) in
+    let small = below-each 256 s₀ (λ k. omega (arith, at-entry .slice-known .given k)) in
     let told = at-else .before .front .ensures in
     ⊎-elim
     (λ w.
-    stay-turn _ _ s₀ _ (S .pre) _ _ _ (at-loop .loop .inv) _ told (turn at-else) (below-each 256 s₀ each)
+    stay-turn _ _ s₀ _ (S .pre) _ _ _ (at-loop .loop .inv) _ told (turn at-else) small
     (sym (at-stays .stays .ensures) ∙ w .0 .taken) _ _ (w .5 ∙ w .2 .ensures) (w .6))
     (λ w.
     gone-turn _ _ s₀ _ (S .pre) _ _ _ (at-loop .loop .inv) _ told (turn at-else)
@@ -82,7 +53,14 @@ loop-again c =
 
 pub keep-spec : {M : Type 1} → statement M
 keep-spec =
-    tie.close
-    (tie.spec
-    Inv-loop μ-loop loop-holds (λ c. omega arith) (λ c. omega arith) (λ c. omega arith) (λ c κs. search needs) (λ c. omega arith)
-    returns (λ c κs. search needs) move-down-requires add-to add-at loop-less loop-again)
+    tie.close (tie.spec Inv-loop μ-loop (λ c. collecting-starts _ _ _ _ (c .before .pre)) (λ c. omega arith) (λ c. omega arith)
+    (λ c. omega arith) (λ c κs. search needs) (λ c. omega arith) returns (λ c κs. search needs)
+    (λ c κs.
+    let e = c .before .before .before in
+    let l = e .before .before .before .before in
+    (l .loop .inv .below, omega (arith, room e, l .before .before .pre, l .loop .inv .long)))
+    (λ c.
+    let e = c .before .before .before .before .before .before in
+    omega (arith, room e, e .before .before .before .before .loop .inv .below))
+    (λ c. omega (arith, room (c .before .before)))
+    (λ c. let here = turn (c .before .before) in omega (arith, room (c .before .before), here .long)) loop-again)

@@ -1,46 +1,27 @@
 -- `change::make_room` meets its contract: the definition goes by the same test.
--- Assumes nothing.
-use mathlib.Core.Path.{sym, ap, _∙_}
-use mathlib.Core.List.{List}
-use denote.Ref.{now}
-use lib.ListN.{length, take}
-use Rattle.walk.specs.Walk.{over}
-use Rattle.shelf.specs.Records.{Record, stored, records}
-use Rattle.shelf.proofs.Superseding.{length-supersede}
-use Rattle.shelf.proofs.Putting.{made-short, made-long}
-use borrow.Author.Needs.{needs}
+use Rattle.block.proofs.Base.{_∙_, sym, needs, now, length}
+use Rattle.shelf.proofs.Putting.{length-supersede, made-short, made-long}
 use Rattle.shelf.proofs.change.make_room.Statement.{statement}
 use Rattle.shelf.proofs.change.make_room.Tie as tie
 
 returns : tie.Need-returns
 returns c =
-    let at-keep = c .before .before in
-    let at-then = at-keep .before .before in
-    let S = at-then .before .before .before in
-    let a = S .args in
-    let s = now (a .shelf) in
-    let told = sym (at-then .before .short .ensures) ∙ at-then .if1 .taken in
-    let made = made-short (length s) (a .n) (a .job) (a .used) (records (take (a .used) s)) (S .pre .fills) told in (
-      at-keep .keep .ensures .0 ∙ ap (λ (rs : List Record). length (stored rs)) made,
-      at-keep .keep .ensures .1 ∙ ap (λ (rs : List Record). over (stored rs) s) made,
-    )
+    let k = c .before .before in
+    let t = k .before .before in
+    let S = t .before .before .before in
+    let told = sym (t .before .short .ensures) ∙ t .if1 .taken in
+    rw (← made-short (length (now (S .args .shelf))) (S .args .n) (S .args .job) (S .args .used) _ (S .pre .fills) told) (k .keep .ensures)
 
 returns-2 : tie.Need-returns-2
 returns-2 c =
-    let at-mark = c .before .before in
-    let at-else = at-mark .before .before in
-    let S = at-else .before .before .before in
-    let a = S .args in
-    let s = now (a .shelf) in
-    let told = sym (at-else .before .short .ensures) ∙ at-else .if1 .left in
-    let made = made-long (length s) (a .n) (a .job) (a .used) (records (take (a .used) s)) (S .pre .fills) told in (
-      sym (length-supersede (a .job) (records (take (a .used) s)) ∙ S .pre .fills) ∙ ap (λ (rs : List Record). length (stored rs)) made,
-      at-mark .mark .ensures ∙ ap (λ (rs : List Record). over (stored rs) s) made,
-    )
+    let m = c .before .before in
+    let e = m .before .before in
+    let S = e .before .before .before in
+    let told = sym (e .before .short .ensures) ∙ e .if1 .left in
+    rw (← made-long (length (now (S .args .shelf))) (S .args .n) (S .args .job) (S .args .used) _ (S .pre .fills) told)
+    (sym (length-supersede (S .args .job) _ ∙ S .pre .fills), m .mark .ensures)
 
 pub make-room-spec : {M : Type 1} → statement M
 make-room-spec =
-    tie.close
-    (tie.spec
-    (λ c κs. search needs) (λ c κs. c .before .before .before .before .pre .within) (λ c. search needs) returns
+    tie.close (tie.spec (λ c κs. search needs) (λ c κs. c .before .before .before .before .pre .within) (λ c. search needs) returns
     (λ c κs. c .before .before .before .before .pre) (λ c. search needs) returns-2)

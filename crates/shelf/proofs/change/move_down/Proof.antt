@@ -1,13 +1,7 @@
 -- `change::move_down` meets its contract. The loop's invariant: `i` bytes have moved, and all others stand where they did. The measure is
 -- how many are to move.
--- Assumes nothing.
-use mathlib.Core.Path.{_≡_, refl, sym, ap, _∙_}
-use mathlib.Core.List.{List}
-use Prim.Native.Nat.{ℕ, _+_, _-_, _≤_, _<_}
-use native.Mathlib.Numerals.{add-one}
-use native.Mathlib.Omega.{arith}
-use denote.Ref.{now}
-use lib.ListN.{length, drop, getD, set, length-drop, length-set}
+use Rattle.block.proofs.Base.{_+_, _-_, _<_, _≤_, ℕ, _∙_, _≡_, ap, refl, List, add-one, arith, now, drop, getD, length, length-drop}
+use Rattle.block.proofs.Base.{length-set, set}
 use lib.Seq.{paste, paste-zero, paste-suc, drop-paste, getD-drop}
 use Rattle.shelf.proofs.change.move_down.Statement.{statement}
 use Rattle.shelf.proofs.change.move_down.Tie as tie
@@ -25,21 +19,20 @@ untouched d to from i h k =
     let l = length-drop from d in
     let p = paste d to (drop from d) i in
     let place : from + i ≡ to + i + (from - to) = omega arith in
-    ap (λ (j : ℕ). getD p j 0) place
-    ∙ sym (getD-drop (to + i) p (from - to) 0)
-    ∙ ap (λ (x : List ℕ). getD x (from - to) 0) (drop-paste d to (drop from d) i (omega arith) (omega arith))
-    ∙ getD-drop (to + i) d (from - to) 0
-    ∙ ap (λ (j : ℕ). getD d j 0) (sym place)
-    ∙ sym (getD-drop from d i 0)
+    rw (
+      place,
+      ← getD-drop (to + i) p (from - to) 0,
+      drop-paste d to (drop from d) i (omega arith) (omega arith),
+      getD-drop (to + i) d (from - to) 0,
+      getD-drop from d i 0,
+      place,
+    )
 
 moved : (d s : List ℕ) (to from i : ℕ) → to ≤ from → from + i < length d → s ≡ paste d to (drop from d) i
     → set s (to + i) (getD s (from + i) 0) ≡ paste d to (drop from d) (i + 1)
 moved d s to from i h k e =
     let l = length-drop from d in
     rw (e, untouched d to from i h k, add-one i) (paste-suc d to (drop from d) i 0 (omega arith) (omega arith))
-
-loop-holds : tie.Need-loop-holds Inv-loop μ-loop
-loop-holds c = (omega arith, refl, paste-zero (now (c .args .shelf)) (c .args .to) (drop (c .args .from) (now (c .args .shelf))))
 
 loop-again : tie.Need-loop-again Inv-loop μ-loop
 loop-again c =
@@ -61,7 +54,7 @@ returns c =
 
 pub move-down-spec : {M : Type 1} → statement M
 move-down-spec =
-    tie.close
-    (tie.spec
-    Inv-loop μ-loop loop-holds (λ c. omega arith) (λ c. omega arith) (λ c. omega arith) (λ c. omega arith) (λ c. omega arith)
-    (λ c. omega arith) loop-again (λ c. omega arith) returns)
+    tie.close (tie.spec Inv-loop μ-loop
+    (λ c. (omega arith, refl, paste-zero (now (c .args .shelf)) (c .args .to) (drop (c .args .from) (now (c .args .shelf)))))
+    (λ c. omega arith) (λ c. omega arith) (λ c. omega arith) (λ c. omega arith) (λ c. omega arith) (λ c. omega arith) loop-again
+    (λ c. omega arith) returns)

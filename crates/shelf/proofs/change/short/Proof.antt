@@ -1,19 +1,8 @@
 -- `change::short` meets its contract.
--- Assumes nothing.
-use mathlib.Core.Path.{_≡_, sym}
-use Prim.Native.Nat.{ℕ, _+_, _-_, _≤_}
-use native.Mathlib.Omega.{arith}
-use lib.Dec.{ltb}
-use borrow.Author.Tests.{lt-ltb, ltb-true}
+use Rattle.block.proofs.Base.{_+_, _-_, _≤_, ℕ, _≡_, sym, arith, lt-ltb, ltb-true, ltb}
 use Rattle.block.proofs.Same.{test-iff}
 use Rattle.shelf.proofs.change.short.Statement.{statement}
 use Rattle.shelf.proofs.change.short.Tie as tie
-
-returns : tie.Need-returns
-returns c = let a = c .before .args in sym (lt-ltb (a .room) (a .taken + (12 + a .n)) (omega arith))
-
-returns-2 : tie.Need-returns-2
-returns-2 c = let a = c .before .before .args in sym (lt-ltb (a .room) (a .taken + (12 + a .n)) (omega arith))
 
 -- the test by differences is the test by sums
 by-difference : (room taken n : ℕ) → taken ≤ room → 12 ≤ room - taken → ltb (room - taken - 12) n ≡ ltb room (taken + (12 + n))
@@ -28,4 +17,6 @@ returns-3 c =
     by-difference (a .room) (a .taken) (a .n) (omega arith) (omega arith)
 
 pub short-spec : {M : Type 1} → statement M
-short-spec = tie.close (tie.spec returns returns-2 returns-3)
+short-spec =
+    tie.close (tie.spec (λ c. let a = c .before .args in sym (lt-ltb (a .room) (a .taken + (12 + a .n)) (omega arith)))
+    (λ c. let a = c .before .before .args in sym (lt-ltb (a .room) (a .taken + (12 + a .n)) (omega arith))) returns-3)

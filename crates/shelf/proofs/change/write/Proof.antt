@@ -1,8 +1,6 @@
 -- `change::write` meets its contract: the head, and behind it the sealed bytes.
--- Assumes nothing.
-use denote.Ref.{now}
+use Rattle.block.proofs.Base.{needs, now}
 use Rattle.shelf.proofs.Putting.{record-written}
-use borrow.Author.Needs.{needs}
 use Rattle.shelf.proofs.change.write.Statement.{statement}
 use Rattle.shelf.proofs.change.write.Tie as tie
 
@@ -17,7 +15,5 @@ returns c =
 
 pub write-spec : {M : Type 1} → statement M
 write-spec =
-    tie.close
-    (tie.spec
-    (λ c. search needs) (λ c κs. search needs) (λ c. search needs) (λ c κs. search needs) (λ c. search needs) (λ c. search needs)
-    (λ c. search needs) (λ c κs. search needs) (λ c. search needs) returns)
+    tie.close (tie.spec (λ c. search needs) (λ c κs. search needs) (λ c. search needs) (λ c κs. search needs) (λ c. search needs)
+    (λ c. search needs) (λ c. search needs) (λ c κs. search needs) (λ c. search needs) returns)

@@ -1,15 +1,10 @@
 -- `lookup::has_current` meets its contract. The loop's invariant: what the records to come say is what all say. The measure is how many
 -- bytes are to come.
--- Assumes nothing.
-use mathlib.Core.Path.{_≡_, refl, sym, ap, _∙_}
-use native.Mathlib.Omega.{arith}
-use denote.Ref.{now}
-use lib.ListN.{length}
+use Rattle.block.proofs.Base.{_∙_, _≡_, ap, refl, sym, arith, needs, now, length}
 use Rattle.shelf.specs.Records.{records}
 use Rattle.shelf.specs.Shelf.{hasCurrent}
 use Rattle.shelf.proofs.Reading.{Turn, at-end, on, shrinks}
-use Rattle.shelf.proofs.Walks.{current-here, current-behind}
-use borrow.Author.Needs.{needs}
+use Rattle.shelf.proofs.Walks.{current-turn}
 use Rattle.shelf.proofs.lookup.has_current.Statement.{statement}
 use Rattle.shelf.proofs.lookup.has_current.Tie as tie
 
@@ -25,27 +20,25 @@ turn x = on _ _ (x .before .front .ensures) (x .if1 .left)
 returns : tie.Need-returns Inv-loop μ-loop
 unfolding hasCurrent
 returns c =
-    let at-front = c .before in
-    let at-loop = at-front .before in
-    let end = at-end (now (at-loop .loop .t)) (at-front .front .result) (at-front .front .ensures) (c .if1 .taken) in
-    sym (ap (hasCurrent (at-loop .before .before .args .job)) end) ∙ at-loop .loop .inv
+    let x = c .before in
+    sym (ap (hasCurrent (x .before .before .before .args .job)) (at-end _ _ (x .front .ensures) (c .if1 .taken))) ∙ x .before .loop .inv
 
 returns-2 : tie.Need-returns-2 Inv-loop μ-loop
 returns-2 c =
-    let at-test = c .before in
-    let at-loop = at-test .before .before .before in
-    sym (current-here _ _ (turn (at-test .before)) _ (sym (at-test .is-current-of .ensures) ∙ c .if2 .taken)) ∙ at-loop .loop .inv
+    let x = c .before in
+    let l = x .before .before .before in
+    sym (current-turn _ _ (turn (x .before)) (l .before .before .args .job) ∙ rw (sym (x .is-current-of .ensures) ∙ c .if2 .taken))
+    ∙ l .loop .inv
 
 loop-again : tie.Need-loop-again Inv-loop μ-loop
 loop-again c =
-    let at-test = c .before .before in
-    let at-loop = at-test .before .before .before in
-    sym (current-behind _ _ (turn (at-test .before)) _ (sym (at-test .is-current-of .ensures) ∙ c .before .if2 .left)) ∙ at-loop .loop .inv
+    let x = c .before .before in
+    let l = x .before .before .before in
+    sym (current-turn _ _ (turn (x .before)) (l .before .before .args .job) ∙ rw (sym (x .is-current-of .ensures) ∙ c .before .if2 .left))
+    ∙ l .loop .inv
 
 pub has-current-spec : {M : Type 1} → statement M
 has-current-spec =
-    tie.close
-    (tie.spec
-    Inv-loop μ-loop (λ c. refl) (λ c κs. search needs) returns (λ c κs. search needs) returns-2
-    (λ c. omega (arith, turn (c .before .before) .within)) (λ c. omega (arith, turn (c .before .before) .within))
-    (λ c. omega arith) (λ c. shrinks _ _ (turn (c .before .before .before))) loop-again)
+    tie.close (tie.spec Inv-loop μ-loop (λ c. refl) (λ c κs. search needs) returns (λ c κs. search needs) returns-2
+    (λ c. omega (arith, turn (c .before .before) .within)) (λ c. omega (arith, turn (c .before .before) .within)) (λ c. omega arith)
+    (λ c. shrinks _ _ (turn (c .before .before .before))) loop-again)

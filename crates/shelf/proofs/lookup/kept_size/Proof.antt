@@ -1,19 +1,12 @@
 -- `lookup::kept_size` meets its contract. The loop's invariant: what is counted and what is to be kept of the records to come are together
 -- what is to be kept of all, and no more is counted than was passed. The measure is how many bytes are to come.
--- Assumes nothing.
-use mathlib.Core.Path.{_≡_, sym, ap, _∙_}
-use mathlib.Core.Logic.{⊎-elim}
-use Prim.Native.Nat.{_+_, _≤_}
-use native.Mathlib.Omega.{arith}
-use denote.Ref.{now}
-use lib.ListN.{length}
+use Rattle.block.proofs.Base.{_+_, _≤_, _∙_, _≡_, ap, sym, ⊎-elim, arith, needs, now, length}
 use Rattle.walk.proofs.Loop.{length-tailed}
 use Rattle.shelf.specs.Records.{stored, records}
 use Rattle.shelf.specs.Shelf.{those}
 use Rattle.shelf.specs.Steps.{stays}
 use Rattle.shelf.proofs.Reading.{Turn, at-end, on, shrinks}
-use Rattle.shelf.proofs.Walks.{kept-more, kept-behind}
-use borrow.Author.Needs.{needs}
+use Rattle.shelf.proofs.Walks.{those-more, those-behind}
 use Rattle.shelf.proofs.lookup.kept_size.Statement.{statement}
 use Rattle.shelf.proofs.lookup.kept_size.Tie as tie
 
@@ -31,37 +24,31 @@ turn x = on _ _ (x .before .front .ensures) (x .if1 .left)
 returns : tie.Need-returns Inv-loop μ-loop
 unfolding those stored
 returns c =
-    let at-front = c .before in
-    let at-loop = at-front .before in
-    let a = at-loop .before .before .args in
-    let end = at-end (now (at-loop .loop .t)) (at-front .front .result) (at-front .front .ensures) (c .if1 .taken) in
-    let none = ap (λ rs. length (stored (those (stays (a .coming) (a .job)) rs))) end in
-    omega (arith, none, at-loop .loop .inv .0)
-
-add-kept : tie.Need-add-kept Inv-loop μ-loop
-add-kept c = let here = turn (c .before .before) in omega (arith, here .within, c .before .before .before .before .loop .inv .1)
+    let x = c .before in
+    let a = x .before .before .before .args in
+    let none = ap (λ rs. length (stored (those (stays (a .coming) (a .job)) rs))) (at-end _ _ (x .front .ensures) (c .if1 .taken)) in
+    omega (arith, none, x .before .loop .inv .0)
 
 loop-again : tie.Need-loop-again Inv-loop μ-loop
 loop-again c =
-    let at-test = c .before .before in
-    let at-loop = at-test .before .before .before in
-    let a = at-loop .before .before .args in
-    let here = turn (at-test .before) in
-    let l = length-tailed (now (at-loop .loop .t)) (at-test .before .before .front .result .size) in
-    let inv = at-loop .loop .inv in
+    let x = c .before .before in
+    let l = x .before .before .before in
+    let a = l .before .before .args in
+    let here = turn (x .before) in
+    let less = length-tailed (now (l .loop .t)) (x .before .before .front .result .size) in
+    let test = stays (a .coming) (a .job) in
     ⊎-elim
     (λ w.
-    let more = kept-more _ _ here (a .coming) (a .job) (sym (at-test .stays .ensures) ∙ w .0 .taken) in
-    (omega (arith, more, inv .0), omega (arith, l, here .within, inv .1)))
+    let more = those-more _ _ here test (sym (x .stays .ensures) ∙ w .0 .taken) in
+    (omega (arith, more, l .loop .inv .0), omega (arith, less, here .within, l .loop .inv .1)))
     (λ w.
-    let same = ap length (kept-behind _ _ here (a .coming) (a .job) (sym (at-test .stays .ensures) ∙ w .0 .left)) in
-    (omega (arith, same, inv .0), omega (arith, l, here .within, inv .1)))
+    let same = ap (λ rs. length (stored rs)) (those-behind _ _ here test (sym (x .stays .ensures) ∙ w .0 .left)) in
+    (omega (arith, same, l .loop .inv .0), omega (arith, less, here .within, l .loop .inv .1)))
     (c .before .if2 .came)
 
 pub kept-size-spec : {M : Type 1} → statement M
 kept-size-spec =
-    tie.close
-    (tie.spec
-    Inv-loop μ-loop (λ c. (omega arith, omega arith)) (λ c κs. search needs) returns (λ c κs. search needs) add-kept
-    (λ c. omega (arith, turn (c .before .before) .within)) (λ c. omega (arith, turn (c .before .before) .within))
-    (λ c. omega arith) (λ c. shrinks _ _ (turn (c .before .before .before))) loop-again)
+    tie.close (tie.spec Inv-loop μ-loop (λ c. (omega arith, omega arith)) (λ c κs. search needs) returns (λ c κs. search needs)
+    (λ c. omega (arith, turn (c .before .before) .within, c .before .before .before .before .loop .inv .1))
+    (λ c. omega (arith, turn (c .before .before) .within)) (λ c. omega (arith, turn (c .before .before) .within)) (λ c. omega arith)
+    (λ c. shrinks _ _ (turn (c .before .before .before))) loop-again)

@@ -1,15 +1,10 @@
 -- `lookup::not_higher` meets its contract. The loop's invariant: what the records to come say is what all say. The measure is how many
 -- bytes are to come.
--- Assumes nothing.
-use mathlib.Core.Path.{_≡_, refl, sym, ap, _∙_}
-use native.Mathlib.Omega.{arith}
-use denote.Ref.{now}
-use lib.ListN.{length}
+use Rattle.block.proofs.Base.{_∙_, _≡_, ap, refl, sym, arith, needs, now, length}
 use Rattle.shelf.specs.Records.{records}
 use Rattle.shelf.specs.Shelf.{notHigher}
 use Rattle.shelf.proofs.Reading.{Turn, at-end, on, shrinks}
-use Rattle.shelf.proofs.Walks.{higher-here, higher-behind}
-use borrow.Author.Needs.{needs}
+use Rattle.shelf.proofs.Walks.{higher-turn}
 use Rattle.shelf.proofs.lookup.not_higher.Statement.{statement}
 use Rattle.shelf.proofs.lookup.not_higher.Tie as tie
 
@@ -25,28 +20,28 @@ turn x = on _ _ (x .before .front .ensures) (x .if1 .left)
 returns : tie.Need-returns Inv-loop μ-loop
 unfolding notHigher
 returns c =
-    let at-front = c .before in
-    let at-loop = at-front .before in
-    let a = at-loop .before .before .args in
-    let end = at-end (now (at-loop .loop .t)) (at-front .front .result) (at-front .front .ensures) (c .if1 .taken) in
-    sym (ap (notHigher (a .job) (a .edition)) end) ∙ at-loop .loop .inv
+    let x = c .before in
+    let a = x .before .before .before .args in
+    sym (ap (notHigher (a .job) (a .edition)) (at-end _ _ (x .front .ensures) (c .if1 .taken))) ∙ x .before .loop .inv
 
 returns-2 : tie.Need-returns-2 Inv-loop μ-loop
 returns-2 c =
-    let at-test = c .before in
-    let at-loop = at-test .before .before .before in
-    sym (higher-here _ _ (turn (at-test .before)) _ _ (sym (at-test .reaches .ensures) ∙ c .if2 .taken)) ∙ at-loop .loop .inv
+    let x = c .before in
+    let l = x .before .before .before in
+    let a = l .before .before .args in
+    sym (higher-turn _ _ (turn (x .before)) (a .job) (a .edition) ∙ rw (sym (x .reaches .ensures) ∙ c .if2 .taken))
+    ∙ l .loop .inv
 
 loop-again : tie.Need-loop-again Inv-loop μ-loop
 loop-again c =
-    let at-test = c .before .before in
-    let at-loop = at-test .before .before .before in
-    sym (higher-behind _ _ (turn (at-test .before)) _ _ (sym (at-test .reaches .ensures) ∙ c .before .if2 .left)) ∙ at-loop .loop .inv
+    let x = c .before .before in
+    let l = x .before .before .before in
+    let a = l .before .before .args in
+    sym (higher-turn _ _ (turn (x .before)) (a .job) (a .edition) ∙ rw (sym (x .reaches .ensures) ∙ c .before .if2 .left))
+    ∙ l .loop .inv
 
 pub not-higher-spec : {M : Type 1} → statement M
 not-higher-spec =
-    tie.close
-    (tie.spec
-    Inv-loop μ-loop (λ c. refl) (λ c κs. search needs) returns (λ c κs. search needs) returns-2
-    (λ c. omega (arith, turn (c .before .before) .within)) (λ c. omega (arith, turn (c .before .before) .within))
-    (λ c. omega arith) (λ c. shrinks _ _ (turn (c .before .before .before))) loop-again)
+    tie.close (tie.spec Inv-loop μ-loop (λ c. refl) (λ c κs. search needs) returns (λ c κs. search needs) returns-2
+    (λ c. omega (arith, turn (c .before .before) .within)) (λ c. omega (arith, turn (c .before .before) .within)) (λ c. omega arith)
+    (λ c. shrinks _ _ (turn (c .before .before .before))) loop-again)

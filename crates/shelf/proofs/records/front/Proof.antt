@@ -1,40 +1,15 @@
 -- `records::front` meets its contract. Where the size is not 0, a record stands there whole, and so all its head.
--- Assumes nothing.
-use mathlib.Core.Path.{_≡_, sym, _∙_}
-use mathlib.Core.Bool.{true}
-use Prim.Native.Nat.{_≤_}
-use native.Mathlib.Omega.{arith}
-use denote.Ref.{now}
-use lib.ListN.{length}
+use Rattle.block.proofs.Base.{_≤_, _∙_, _≡_, sym, true, arith, needs, now, length}
 use Rattle.shelf.specs.Records.{startsRecord, front, headAt}
 use Rattle.shelf.proofs.Reading.{starts-within, size-zero, size-some}
-use borrow.Author.Needs.{needs}
 use Rattle.shelf.proofs.records.front.Statement.{statement}
 use Rattle.shelf.proofs.records.front.Tie as tie
 
-returns : tie.Need-returns
-unfolding headAt
-returns c =
-    let at-size = c .before in
-    rw (size-zero (now (at-size .before .before .args .s)) (sym (at-size .size .ensures) ∙ c .if1 .taken))
-
 starts : (x : tie.Else1) → startsRecord (now (x .before .before .before .args .s)) ≡ true
-starts x = size-some (now (x .before .before .before .args .s)) (λ z. x .if1 .left (x .before .size .ensures ∙ z))
+starts x = size-some _ (λ z. x .if1 .left (x .before .size .ensures ∙ z))
 
 long : (x : tie.Else1) → 12 ≤ length (now (x .before .before .before .args .s))
-long x = starts-within (now (x .before .before .before .args .s)) (starts x) .0
-
-shared-slice-read-current : tie.Need-shared-slice-read-current
-shared-slice-read-current c = omega (arith, long (c .before))
-
-word-at-requires : tie.Need-word-at-requires
-word-at-requires c κs = omega (arith, long (c .before))
-
-shared-slice-read-number : tie.Need-shared-slice-read-number
-shared-slice-read-number c = omega (arith, long (c .before .before .before))
-
-shared-slice-read-number-2 : tie.Need-shared-slice-read-number-2
-shared-slice-read-number-2 c = omega (arith, long (c .before .before .before .before))
+long x = starts-within _ (starts x) .0
 
 returns-2 : tie.Need-returns-2
 unfolding headAt front
@@ -45,7 +20,7 @@ returns-2 c =
 
 pub front-spec : {M : Type 1} → statement M
 front-spec =
-    tie.close
-    (tie.spec
-    (λ c κs. search needs) returns shared-slice-read-current word-at-requires shared-slice-read-number shared-slice-read-number-2
+    tie.close (tie.spec (λ c κs. search needs)
+    (λ c. unfold headAt in rw (size-zero _ (sym (c .before .size .ensures) ∙ c .if1 .taken))) (λ c. omega (arith, long (c .before))) (λ c κs. omega (arith, long (c .before)))
+    (λ c. omega (arith, long (c .before .before .before))) (λ c. omega (arith, long (c .before .before .before .before)))
     (λ c κs. search needs) returns-2)

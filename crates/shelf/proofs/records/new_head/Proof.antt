@@ -1,19 +1,12 @@
 -- `records::new_head` meets its contract: the label's bytes, and the length's.
--- Assumes nothing.
 use Rattle.block.specs.BigEndian.{bytesOf}
 use Rattle.label.specs.Label.{labelOf}
-use borrow.Author.Needs.{needs}
+use Rattle.block.proofs.Base.{needs}
 use Rattle.shelf.proofs.records.new_head.Statement.{statement}
 use Rattle.shelf.proofs.records.new_head.Tie as tie
 
-returns : tie.Need-returns
-unfolding labelOf bytesOf
-returns c = rw (c .before .label .ensures, c .split .ensures)
-
 pub new-head-spec : {M : Type 1} → statement M
 new-head-spec =
-    tie.close
-    (tie.spec
-    (λ c κs. search needs) (λ c κs. search needs) (λ c. search needs) (λ c. search needs) (λ c. search needs) (λ c. search needs)
+    tie.close (tie.spec (λ c κs. search needs) (λ c κs. search needs) (λ c. search needs) (λ c. search needs) (λ c. search needs)
     (λ c. search needs) (λ c. search needs) (λ c. search needs) (λ c. search needs) (λ c. search needs) (λ c. search needs)
-    returns)
+    (λ c. search needs) (λ c. unfold labelOf bytesOf in rw (c .before .label .ensures, c .split .ensures)))

@@ -1,14 +1,8 @@
 -- `records::number` meets its contract.
--- Assumes nothing.
-use native.Mathlib.Omega.{arith}
+use Rattle.block.proofs.Base.{arith, needs}
 use Rattle.block.specs.BigEndian.{numberOf}
-use borrow.Author.Needs.{needs}
 use Rattle.shelf.proofs.records.number.Statement.{statement}
 use Rattle.shelf.proofs.records.number.Tie as tie
 
-returns : tie.Need-returns
-unfolding numberOf
-returns c = omega arith
-
 pub number-spec : {M : Type 1} → statement M
-number-spec = tie.close (tie.spec (λ c. search needs) (λ c. search needs) returns)
+number-spec = tie.close (tie.spec (λ c. search needs) (λ c. search needs) (λ c. unfold numberOf in (omega arith)))

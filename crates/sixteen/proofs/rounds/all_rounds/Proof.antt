@@ -1,11 +1,6 @@
--- `sixteen::rounds::all_rounds` meets its contract. The loop's invariant: what the round keys from number i on make of the blocks as they are, is
--- what all round keys make of the blocks as they were (`rounds-next`).
--- Assumes nothing.
-use borrow.Author.Needs.{needs}
-use Prim.Native.Nat.{ℕ, _≤_, _<_, _+_, _-_}
-use mathlib.Core.Path.{_≡_, refl, ap, subst, _∙_}
-use native.Mathlib.Omega.{arith}
-use lib.ListN.{length, drop}
+-- `sixteen::rounds::all_rounds` meets its contract. The loop's invariant: what the round keys from number i on make of the blocks as
+-- they are, is what all round keys make of the blocks as they were (`rounds-next`).
+use Rattle.block.proofs.Base.{_+_, _-_, _<_, _≤_, ℕ, _∙_, _≡_, ap, refl, arith, needs, drop, length}
 use Rattle.cipher.specs.Sm4.{rounds}
 use Rattle.cipher.proofs.Rounds.{rounds-next, rounds-done}
 use Rattle.sixteen.specs.Blocks.{block, Sized}
@@ -19,9 +14,6 @@ Inv-loop x₀ n groups rk t₀ s₀ i₀ x t s i =
 abbrev μ-loop : tie.MeasureT-loop
 μ-loop x₀ n groups rk t₀ s₀ i₀ x t s i = 32 - i
 
-loop-holds : tie.Need-loop-holds Inv-loop μ-loop
-loop-holds c = (search needs, record { lx = c .pre .1; lt = refl; ls = refl }, λ j h. refl)
-
 loop-again : tie.Need-loop-again Inv-loop μ-loop
 loop-again c =
     let at-loop = c .before .before .before .before .before in
@@ -31,28 +23,18 @@ loop-again c =
     let r = c .round .ensures in (
       omega arith,
       r .1,
-      λ j h.
-          ap (rounds (drop (l .i + 1) rk)) (r .0 j h)
-          ∙ rounds-next rk (block (l .x) (l .i) j) (l .i) (omega arith)
-          ∙ l .inv .2 j h,
+      λ j h. ap (rounds (drop (l .i + 1) rk)) (r .0 j h) ∙ rounds-next rk (block (l .x) (l .i) j) (l .i) (omega arith) ∙ l .inv .2 j h,
     )
 
 returns : tie.Need-returns Inv-loop μ-loop
 returns c =
     let l = c .before .loop in
-    let rk = c .before .before .args .t1 in
+    let S = c .before .before in
+    let rk = S .args .t1 in
     let len : length rk ≡ 32 = search needs in
     let e : l .i ≡ 32 = omega arith in
-    (
-      λ j h.
-          rounds-done rk (block (l .x) 0 j) (block (c .before .before .args .x .now) 0 j) 32 (omega arith)
-          (subst (λ (i : ℕ). rounds (drop i rk) (block (l .x) i j) ≡ rounds rk (block (c .before .before .args .x .now) 0 j)) e (l .inv .2 j h)),
-      l .inv .1 .lx,
-    )
+    (λ j h. rounds-done rk (block (l .x) 0 j) (block (S .args .x .now) 0 j) 32 (omega arith) (rw e at (l .inv .2 j h)), l .inv .1 .lx)
 
 pub all-rounds-spec : {M : Type 1} → statement M
-all-rounds-spec =
-    tie.close
-    (tie.spec
-    Inv-loop μ-loop loop-holds (λ c. search needs) (λ c. search needs) (λ c κs. search needs) (λ c. search needs) (λ c. search needs) loop-again
-    returns)
+all-rounds-spec = tie.close (tie.spec Inv-loop μ-loop (λ c. (search needs, record { lx = c .pre .1; lt = refl; ls = refl }, λ j h. refl))
+    (λ c. search needs) (λ c. search needs) (λ c κs. search needs) (λ c. search needs) (λ c. search needs) loop-again returns)

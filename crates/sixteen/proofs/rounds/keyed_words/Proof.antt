@@ -1,12 +1,7 @@
 -- `sixteen::rounds::keyed_words` meets its contract. The loop's invariant: the first j words are there.
--- Assumes nothing.
-use borrow.Author.Needs.{needs}
-use Prim.Native.Nat.{_≤_, _-_}
-use mathlib.Core.Path.{_≡_, refl}
-use native.Mathlib.Omega.{arith}
-use lib.ListN.{length}
+use Rattle.block.proofs.Base.{_-_, _≤_, _≡_, refl, arith, needs, length}
 use Rattle.sixteen.specs.Blocks.{Each, keyed}
-use Rattle.sixteen.proofs.Filling.{each-next}
+use Rattle.lanes.proofs.Filling.{each-next}
 use Rattle.sixteen.proofs.rounds.keyed_words.Statement.{statement}
 use Rattle.sixteen.proofs.rounds.keyed_words.Tie as tie
 
@@ -16,24 +11,18 @@ Inv-loop t₀ x i k n b c d j₀ t j = (j ≤ n) × (length t ≡ 64) × Each (k
 abbrev μ-loop : tie.MeasureT-loop
 μ-loop t₀ x i k n b c d j₀ t j = n - j
 
-loop-holds : tie.Need-loop-holds Inv-loop μ-loop
-loop-holds c = (search needs, search needs, λ j h. absurd (omega arith))
-
 loop-again : tie.Need-loop-again Inv-loop μ-loop
 loop-again c =
     let l = c .before .before .before .before .loop in
     let a = c .before .before .before .before .before .args in (
       omega arith,
       search needs,
-      each-next (keyed (a .x .now) (a .i) (a .k)) (l .j) (keyed (a .x .now) (a .i) (a .k) (l .j)) (l .t)
-          (omega arith) refl (l .inv .2),
+      each-next (keyed (a .x .now) (a .i) (a .k)) (l .j) (keyed (a .x .now) (a .i) (a .k) (l .j)) (l .t) (omega arith) refl (l .inv .2),
     )
 
-returns : tie.Need-returns Inv-loop μ-loop
-returns c = let l = c .before .loop in (λ j h. l .inv .2 j (omega arith), l .inv .1)
-
 pub keyed-words-spec : {M : Type 1} → statement M
-keyed-words-spec =
-    tie.close
-    (tie.spec
-    Inv-loop μ-loop (λ c. search needs) (λ c. search needs) (λ c. search needs) (λ c. search needs) (λ c. search needs) (λ c. search needs) loop-holds (λ c. search needs) (λ c. search needs) (λ c. search needs) (λ c. search needs) (λ c. search needs) (λ c. search needs) (λ c. search needs) (λ c. search needs) (λ c. search needs) (λ c. search needs) (λ c. search needs) (λ c. search needs) (λ c. search needs) loop-again returns)
+keyed-words-spec = tie.close (tie.spec Inv-loop μ-loop (λ c. search needs) (λ c. search needs) (λ c. search needs) (λ c. search needs)
+    (λ c. search needs) (λ c. search needs) (λ c. (search needs, search needs, λ j h. absurd (omega arith))) (λ c. search needs)
+    (λ c. search needs) (λ c. search needs) (λ c. search needs) (λ c. search needs) (λ c. search needs) (λ c. search needs)
+    (λ c. search needs) (λ c. search needs) (λ c. search needs) (λ c. search needs) (λ c. search needs) (λ c. search needs) loop-again
+    (λ c. let l = c .before .loop in (λ j h. l .inv .2 j (omega arith), l .inv .1)))

@@ -1,10 +1,5 @@
 -- `sixteen::rounds::mix` meets its contract. The loop's invariant: the first j words are changed, the others are as they were.
--- Assumes nothing.
-use borrow.Author.Needs.{needs}
-use Prim.Native.Nat.{ℕ, _+_, _≤_, _-_}
-use mathlib.Core.Path.{_≡_, refl, ap₂}
-use native.Mathlib.Omega.{arith}
-use lib.ListN.{length, getD}
+use Rattle.block.proofs.Base.{_+_, _-_, _≤_, ℕ, _≡_, ap₂, refl, arith, needs, getD, length}
 use Rattle.block.specs.Xor.{_⊕_}
 use Rattle.cipher.specs.Sm4.{L}
 use Rattle.sixteen.specs.Blocks.{row, Changed}
@@ -13,8 +8,7 @@ use Rattle.sixteen.proofs.rounds.mix.Statement.{statement}
 use Rattle.sixteen.proofs.rounds.mix.Tie as tie
 
 abbrev Inv-loop : tie.InvT-loop
-Inv-loop x₀ i s n a j₀ x j =
-    (j ≤ n) × (length x ≡ 256) × Changed (row i) j (λ k. getD x₀ (row i + k) 0 ⊕ L (getD s k 0)) x₀ x
+Inv-loop x₀ i s n a j₀ x j = (j ≤ n) × (length x ≡ 256) × Changed (row i) j (λ k. getD x₀ (row i + k) 0 ⊕ L (getD s k 0)) x₀ x
 
 abbrev μ-loop : tie.MeasureT-loop
 μ-loop x₀ i s n a j₀ x j = n - j
@@ -40,7 +34,6 @@ returns c =
     (record { new = λ j h. C .new j (omega arith); below = C .below; above = λ p h. C .above p (omega arith) }, l .inv .1)
 
 pub mix-spec : {M : Type 1} → statement M
-mix-spec =
-    tie.close
-    (tie.spec
-    Inv-loop μ-loop (λ c. search needs) loop-holds (λ c. search needs) (λ c. search needs) (λ c. search needs) (λ c. search needs) (λ c. search needs) (λ c κs. search needs) (λ c. search needs) (λ c. search needs) (λ c. search needs) (λ c. search needs) (λ c. search needs) loop-again returns)
+mix-spec = tie.close (tie.spec Inv-loop μ-loop (λ c. search needs) loop-holds (λ c. search needs) (λ c. search needs) (λ c. search needs)
+    (λ c. search needs) (λ c. search needs) (λ c κs. search needs) (λ c. search needs) (λ c. search needs) (λ c. search needs)
+    (λ c. search needs) (λ c. search needs) loop-again returns)

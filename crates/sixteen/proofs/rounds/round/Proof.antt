@@ -1,8 +1,5 @@
 -- `sixteen::rounds::round` meets its contract: the three steps, put together by `round-done`.
--- Assumes nothing.
-use borrow.Author.Needs.{needs}
-use Prim.Native.Nat.{_*_}
-use native.Mathlib.Omega.{arith}
+use Rattle.block.proofs.Base.{_*_, arith, needs}
 use Rattle.sixteen.proofs.Filling.{round-done}
 use Rattle.sixteen.proofs.rounds.round.Statement.{statement}
 use Rattle.sixteen.proofs.rounds.round.Tie as tie
@@ -14,12 +11,10 @@ returns c =
     let S = at-keyed .before .before .before in
     let a = S .args in (
       round-done (a .x .now) (c .mix .last .0) (at-keyed .keyed-words .last .0) (at-sub .sub-groups .last .1 .0) (a .i) (a .k) (a .n)
-          (16 * a .groups) (S .pre .0 .0) (omega arith) (at-keyed .keyed-words .ensures .0) (at-sub .sub-groups .ensures .0) (c .mix .ensures .0),
+          (16 * a .groups) (S .pre .0 .0) (omega arith) (at-keyed .keyed-words .ensures .0) (at-sub .sub-groups .ensures .0)
+          (c .mix .ensures .0),
       record { lx = c .mix .ensures .1; lt = at-keyed .keyed-words .ensures .1; ls = at-sub .sub-groups .ensures .1 },
     )
 
 pub round-spec : {M : Type 1} → statement M
-round-spec =
-    tie.close
-    (tie.spec
-    (λ c κs. search needs) (λ c κs. search needs) (λ c κs. search needs) returns)
+round-spec = tie.close (tie.spec (λ c κs. search needs) (λ c κs. search needs) (λ c κs. search needs) returns)

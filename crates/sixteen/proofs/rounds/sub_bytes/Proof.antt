@@ -1,18 +1,16 @@
 -- `sixteen::rounds::sub_bytes` meets its contract: the S-box in every lane of the transposed bytes (`all-subbed`).
--- Assumes nothing.
-use borrow.Author.Needs.{needs}
+use Rattle.block.proofs.Base.{needs}
 use Rattle.sixteen.proofs.Bytes.{all-subbed}
 use Rattle.sixteen.proofs.rounds.sub_bytes.Statement.{statement}
 use Rattle.sixteen.proofs.rounds.sub_bytes.Tie as tie
 
 returns : tie.Need-returns
 returns c =
-    let t = c .before .before .transpose in
+    let at-transpose = c .before .before in
+    let S = at-transpose .before in
+    let t = at-transpose .transpose in
     let s = c .before .sbox in
-    all-subbed (c .before .before .before .args .w) (t .result) (s .result) (c .transpose2 .result) (t .ensures) (s .ensures) (c .transpose2 .ensures)
+    all-subbed (S .args .w) (t .result) (s .result) (c .transpose2 .result) (t .ensures) (s .ensures) (c .transpose2 .ensures)
 
 pub sub-bytes-spec : {M : Type 1} → statement M
-sub-bytes-spec =
-    tie.close
-    (tie.spec
-    (λ c κs. search needs) (λ c κs. search needs) (λ c κs. search needs) returns)
+sub-bytes-spec = tie.close (tie.spec (λ c κs. search needs) (λ c κs. search needs) (λ c κs. search needs) returns)

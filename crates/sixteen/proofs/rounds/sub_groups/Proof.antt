@@ -1,10 +1,5 @@
 -- `sixteen::rounds::sub_groups` meets its contract. The loop's invariant: the groups so far are there.
--- Assumes nothing.
-use borrow.Author.Needs.{needs}
-use Prim.Native.Nat.{ℕ, _≤_, _<_, _+_, _*_, _-_, _^_}
-use mathlib.Core.Path.{_≡_, sym, ap, _∙_}
-use native.Mathlib.Omega.{arith}
-use lib.ListN.{length, getD}
+use Rattle.block.proofs.Base.{_*_, _+_, _-_, _<_, _^_, _≤_, ℕ, _∙_, _≡_, ap, sym, arith, needs, getD, length}
 use Rattle.circuit.specs.Sbox.{Sbox}
 use Rattle.cipher.specs.Sm4.{tau}
 use Rattle.sixteen.specs.Blocks.{Each, Halves}
@@ -18,9 +13,6 @@ Inv-loop t s₀ groups g₀ s g = (g ≤ groups) × (length s ≡ 64) × Each (�
 
 abbrev μ-loop : tie.MeasureT-loop
 μ-loop t s₀ groups g₀ s g = groups - g
-
-loop-holds : tie.Need-loop-holds Inv-loop μ-loop
-loop-holds c = (search needs, search needs, λ j h. absurd (omega arith))
 
 loop-again : tie.Need-loop-again Inv-loop μ-loop
 loop-again c =
@@ -45,11 +37,7 @@ loop-again c =
     (ap f e ∙ sym (low-half z hi lo (p .1) b), ap f e′ ∙ sym (high-half z hi lo (p .1) b)) in
     (omega arith, c .put-group .ensures .1, λ j h. c .put-group .ensures .0 f (l .inv .2) halves j (omega arith))
 
-returns : tie.Need-returns Inv-loop μ-loop
-returns c = let l = c .before .loop in (λ j h. l .inv .2 j (omega arith), l .inv .1)
-
 pub sub-groups-spec : {M : Type 1} → statement M
-sub-groups-spec =
-    tie.close
-    (tie.spec
-    Inv-loop μ-loop loop-holds (λ c κs. search needs) (λ c κs. search needs) (λ c κs. search needs) (λ c. search needs) (λ c. search needs) loop-again returns)
+sub-groups-spec = tie.close (tie.spec Inv-loop μ-loop (λ c. (search needs, search needs, λ j h. absurd (omega arith)))
+    (λ c κs. search needs) (λ c κs. search needs) (λ c κs. search needs) (λ c. search needs) (λ c. search needs) loop-again
+    (λ c. let l = c .before .loop in (λ j h. l .inv .2 j (omega arith), l .inv .1)))

@@ -1,6 +1,5 @@
 -- `sixteen::rounds::transpose` meets its contract: the code's swaps are the three stages, by computing, and these transpose (`three`).
--- Assumes nothing.
-use borrow.Author.Needs.{needs}
+use Rattle.block.proofs.Base.{needs}
 use Rattle.lanes.specs.Swaps.{firstSwapped, secondSwapped}
 use Rattle.sixteen.proofs.Stages.{three}
 use Rattle.sixteen.proofs.rounds.transpose.Statement.{statement}
@@ -11,8 +10,5 @@ unfolding firstSwapped secondSwapped
 returns c = three (c .args .t1)
 
 pub transpose-spec : {M : Type 1} → statement M
-transpose-spec =
-    tie.close
-    (tie.spec
-    (λ c. search needs) (λ c. search needs) (λ c. search needs) (λ c. search needs) (λ c. search needs) (λ c. search needs)
-    (λ c. search needs) (λ c. search needs) returns)
+transpose-spec = tie.close (tie.spec (λ c. search needs) (λ c. search needs) (λ c. search needs) (λ c. search needs) (λ c. search needs)
+    (λ c. search needs) (λ c. search needs) (λ c. search needs) returns)

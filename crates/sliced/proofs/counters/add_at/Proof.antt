@@ -1,14 +1,8 @@
 -- `sliced::counters::add_at` meets its contract: the gates are an adder of three bits in every lane (`word-added`).
--- Assumes nothing.
-use borrow.Author.Needs.{needs}
+use Rattle.block.proofs.Base.{needs}
 use Rattle.sliced.proofs.Ripple.{word-added}
 use Rattle.sliced.proofs.counters.add_at.Statement.{statement}
 use Rattle.sliced.proofs.counters.add_at.Tie as tie
 
-returns : tie.Need-returns
-returns c =
-    let a = c .args in
-    word-added (a .p) (a .a) (a .b) (a .m) (a .x .now) (c .pre .0) (c .pre .1)
-
 pub add-at-spec : {M : Type 1} → statement M
-add-at-spec = tie.close (tie.spec (λ c. search needs) (λ c. search needs) returns)
+add-at-spec = tie.close (tie.spec (λ c. search needs) (λ c. search needs) (λ c. search (needs, word-added)))

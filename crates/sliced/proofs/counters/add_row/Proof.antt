@@ -1,26 +1,29 @@
 -- `sliced::counters::add_row` meets its contract: the eight words are added one after the other (`added-next`).
--- Assumes nothing.
-use borrow.Author.Needs.{needs}
-use Prim.Native.Nat.{ℕ, _*_}
-use mathlib.Core.Path.{sym, subst}
-use native.Mathlib.Nat.{add-zero}
-use native.Mathlib.Omega.{arith}
-use lib.ListN.{getD}
+use Rattle.block.proofs.Base.{_*_, ℕ, subst, sym, add-zero, arith, needs, getD}
 use Rattle.sliced.specs.Counting.{WordAdded}
 use Rattle.sliced.proofs.Ripple.{added-first, added-next}
 use Rattle.sliced.proofs.counters.add_row.Statement.{statement}
 use Rattle.sliced.proofs.counters.add_row.Tie as tie
 
-add-at-requires-8 : tie.Need-add-at-requires-8
-add-at-requires-8 c κs =
+pub add-row-spec : {M : Type 1} → statement M
+add-row-spec =
+    tie.close
+    (tie.spec
+    (λ c. search needs) (λ c. search needs) (λ c. search needs) (λ c κs. search needs) (λ c. search needs) (λ c. search needs)
+    (λ c. search needs) (λ c. search needs) (λ c κs. search needs) (λ c. search needs) (λ c. search needs) (λ c. search needs)
+    (λ c. search needs) (λ c κs. search needs) (λ c. search needs) (λ c. search needs) (λ c. search needs) (λ c. search needs)
+    (λ c κs. search needs) (λ c. search needs) (λ c. search needs) (λ c. search needs) (λ c. search needs) (λ c κs. search needs)
+    (λ c. search needs) (λ c. search needs) (λ c. search needs) (λ c. search needs) (λ c κs. search needs) (λ c. search needs)
+    (λ c. search needs) (λ c. search needs) (λ c. search needs) (λ c κs. search needs) (λ c. search needs) (λ c. search needs)
+    (λ c. search needs) (λ c. search needs)
+    (λ c κs.
     let at7 = c .before .before in
     let at4 = at7 .before .before .before .before .before .before .before .before .before in
     let at1 = at4 .before .before .before .before .before .before .before .before .before in
     let i = at1 .before .before .before .pre .0 in
-    (omega arith, at7 .add-at7 .ensures .size)
-
-returns : tie.Need-returns
-returns c =
+    (omega arith, at7 .add-at7 .ensures .size))
+    (λ c. search needs)
+    (λ c.
     let at7 = c .before .before .before in
     let at6 = at7 .before .before .before in
     let at5 = at6 .before .before .before in
@@ -44,18 +47,4 @@ returns c =
     (next 0 _ a x y _ _ _ (omega arith)
     (subst (λ (p : ℕ). WordAdded p (getD a 0 0) (getD y 0 0) (g .m) x (at1 .add-at .last .0) (at1 .add-at .result))
     (sym (add-zero (8 * g .i))) (at1 .add-at .ensures))
-    (added-first (g .m) (g .i) a x y (S .pre .1) (S .pre .2)))))))))
-
-pub add-row-spec : {M : Type 1} → statement M
-add-row-spec =
-    tie.close
-    (tie.spec
-    (λ c. search needs) (λ c. search needs) (λ c. search needs) (λ c κs. search needs) (λ c. search needs)
-    (λ c. search needs) (λ c. search needs) (λ c. search needs) (λ c κs. search needs) (λ c. search needs)
-    (λ c. search needs) (λ c. search needs) (λ c. search needs) (λ c κs. search needs) (λ c. search needs)
-    (λ c. search needs) (λ c. search needs) (λ c. search needs) (λ c κs. search needs) (λ c. search needs)
-    (λ c. search needs) (λ c. search needs) (λ c. search needs) (λ c κs. search needs) (λ c. search needs)
-    (λ c. search needs) (λ c. search needs) (λ c. search needs) (λ c κs. search needs) (λ c. search needs)
-    (λ c. search needs) (λ c. search needs) (λ c. search needs) (λ c κs. search needs) (λ c. search needs)
-    (λ c. search needs) (λ c. search needs) (λ c. search needs) add-at-requires-8 (λ c. search needs)
-    returns)
+    (added-first (g .m) (g .i) a x y (S .pre .1) (S .pre .2)))))))))))

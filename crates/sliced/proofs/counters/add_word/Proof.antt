@@ -1,40 +1,24 @@
 -- `sliced::counters::add_word` meets its contract. The invariant of both loops: the low i bits are added (`Rippled`). A turn adds one row
 -- more (`rippled-next`): in the first loop to the row that stands in x, in the second, where it is empty, to zeros.
--- Assumes nothing.
-use borrow.Author.Needs.{needs}
-use Prim.Native.Nat.{ℕ, _≤_, _<_, _+_, _-_, _*_, _^_}
-use mathlib.Core.Path.{_≡_, sym, _∙_}
-use mathlib.Core.List.{List}
-use native.Mathlib.Omega.{arith}
-use lib.ListN.{length}
+use Rattle.block.proofs.Base.{_*_, _+_, _-_, _<_, _^_, _≤_, ℕ, _∙_, _≡_, sym, List, arith, needs, length}
 use Rattle.lanes.specs.Bits.{bit, Masks}
 use Rattle.lanes.proofs.Masks.{blank-room}
 use Rattle.sliced.proofs.Ripple.{Rippled, rippled-first, rippled-next, rippled-last}
 use Rattle.sliced.proofs.counters.add_word.Statement.{statement}
 use Rattle.sliced.proofs.counters.add_word.Tie as tie
 
-abbrev Inv-loop : tie.InvT-loop
-Inv-loop x₀ n w m y₀ i₀ x y i = (i ≤ n) × (length x ≡ 256) × (length y ≡ 8) × Masks 32 (λ k. bit k w) m × Rippled w i x₀ y₀ x y
-
-abbrev μ-loop : tie.MeasureT-loop
-μ-loop x₀ n w m y₀ i₀ x y i = n - i
-
-abbrev Inv-loop2 : tie.InvT-loop2
-Inv-loop2 x₁ n w m y₁ i₁ x y i =
+pub add-word-spec : {M : Type 1} → statement M
+add-word-spec =
+    tie.close
+    (tie.spec
+    (λ x₀ n w m y₀ i₀ x y i. (i ≤ n) × (length x ≡ 256) × (length y ≡ 8) × Masks 32 (λ k. bit k w) m × Rippled w i x₀ y₀ x y)
+    (λ x₀ n w m y₀ i₀ x y i. n - i)
+    (λ x₁ n w m y₁ i₁ x y i.
     (i₁ ≤ i) × (i ≤ 32) × (length x ≡ 256) × (length y ≡ 8) × Masks 32 (λ k. bit k w) m
-    × ((x₀ y₀ : List ℕ) → Rippled w i₁ x₀ y₀ x₁ y₁ → Rippled w i x₀ y₀ x y)
-
-abbrev μ-loop2 : tie.MeasureT-loop2
-μ-loop2 x₁ n w m y₁ i₁ x y i = 32 - i
-
-loop-holds : tie.Need-loop-holds Inv-loop μ-loop Inv-loop2 μ-loop2
-loop-holds c =
-    let S = c .before .before in
-    let a = S .args in
-    (search needs, S .pre .1, search needs, c .word-masks .ensures .0, rippled-first (a .w) (a .x .now) (a .y))
-
-loop-again : tie.Need-loop-again Inv-loop μ-loop Inv-loop2 μ-loop2
-loop-again c =
+    × ((x₀ y₀ : List ℕ) → Rippled w i₁ x₀ y₀ x₁ y₁ → Rippled w i x₀ y₀ x y))
+    (λ x₁ n w m y₁ i₁ x y i. 32 - i) (λ c κs. search needs) (λ c. search (needs, rippled-first)) (λ c κs. search needs)
+    (λ c. search needs) (λ c. search needs) (λ c κs. search needs) (λ c. search needs) (λ c. search needs)
+    (λ c.
     let at-row = c .before .before in
     let at-loop = at-row .before .before .before .before in
     let l = at-loop .loop in
@@ -48,17 +32,9 @@ loop-again c =
       l .inv .3,
       rippled-next (a .w) (l .i) _ _ (a .x .now) (a .y) (l .x) (l .carries) _ _ (λ k h. l .inv .3 (l .i) k (omega arith) h)
           (at-row .row .ensures) (l .inv .4) R,
-    )
-
-loop2-holds : tie.Need-loop2-holds Inv-loop μ-loop Inv-loop2 μ-loop2
-loop2-holds c =
-    let at-loop = c .before in
-    let l = at-loop .loop in
-    let n = at-loop .before .before .before .pre .0 in
-    (omega arith, omega arith, l .inv .1, l .inv .2, l .inv .3, λ x₀ y₀ P. P)
-
-loop2-again : tie.Need-loop2-again Inv-loop μ-loop Inv-loop2 μ-loop2
-loop2-again c =
+    ))
+    (λ c. search needs) (λ c. search needs) (λ c. search needs) (λ c κs. search needs) (λ c. search needs) (λ c. search needs)
+    (λ c.
     let at-loop2 = c .before .before .before .before in
     let l = at-loop2 .loop2 in
     let at-loop = at-loop2 .before .before in
@@ -76,22 +52,12 @@ loop2-again c =
           rippled-next (a .w) (l .i) _ _ x₀ y₀ (l .x) (l .carries) _ _ (λ k h. l .inv .4 (l .i) k (omega arith) h)
           (λ q h. blank-room 8 q ∙ sym (P .rest (8 * l .i + q) (omega arith) ∙ S .pre .2 (8 * l .i + q) (omega arith)))
           (l .inv .5 x₀ y₀ Q) R,
-    )
-
-returns : tie.Need-returns Inv-loop μ-loop Inv-loop2 μ-loop2
-returns c =
+    ))
+    (λ c.
     let l = c .before .loop2 in
     let at-loop = c .before .before .before in
     let a = at-loop .before .before .before .args in
     let h : a .w < 2 ^ 32 = search needs in (
       rippled-last (a .w) (l .i) (a .x .now) (a .y) (l .x) (l .carries) (omega arith) h (l .inv .5 (a .x .now) (a .y) (at-loop .loop .inv .4)),
       l .inv .2,
-    )
-
-pub add-word-spec : {M : Type 1} → statement M
-add-word-spec =
-    tie.close
-    (tie.spec
-    Inv-loop μ-loop Inv-loop2 μ-loop2 (λ c κs. search needs) loop-holds (λ c κs. search needs) (λ c. search needs) (λ c. search needs)
-    (λ c κs. search needs) (λ c. search needs) (λ c. search needs) loop-again loop2-holds (λ c. search needs) (λ c. search needs)
-    (λ c κs. search needs) (λ c. search needs) (λ c. search needs) loop2-again returns)
+    )))

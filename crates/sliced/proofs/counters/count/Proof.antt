@@ -1,37 +1,28 @@
 -- `sliced::counters::count` meets its contract: in each lane the last word of c and the lane's number are added, and what is carried to
 -- the other words (`lanes-count`).
--- Assumes nothing.
-use Prim.Native.Nat.{ℕ, _^_}
-use mir.Val.{Fits}
-use mir.Syntax.{w32}
-use lib.ListN.{getD, replicate}
+use Rattle.block.proofs.Base.{_^_, ℕ, needs, getD, replicate, w32, Fits}
 use Rattle.block.specs.Below.{AreWords}
 use Rattle.block.proofs.Entries.{below-each}
 use Rattle.lanes.proofs.Masks.{blank-room}
 use Rattle.sliced.specs.Counting.{numberAt, carryAt}
 use Rattle.sliced.proofs.CounterDigits.{added-number, added-carry, lanes-count, in-words}
-use borrow.Author.Needs.{needs}
 use Rattle.sliced.proofs.counters.count.Statement.{statement}
 use Rattle.sliced.proofs.counters.count.Tie as tie
 
-add-word-requires : tie.Need-add-word-requires
-add-word-requires c κs = let N = c .before .numbers .ensures .1 in (search needs, N .0, N .1)
-
-add-word-requires-2 : tie.Need-add-word-requires-2
-add-word-requires-2 c κs = let x = c .before .before .before .before .before .before .pre .2 in (search needs, x .0, λ p h. x .1 p)
-
-add-word-requires-3 : tie.Need-add-word-requires-3
-add-word-requires-3 c κs =
+pub count-spec : {M : Type 1} → statement M
+count-spec =
+    tie.close
+    (tie.spec
+    (λ c κs. search needs) (λ c. search needs) (λ c κs. search needs) (λ c κs. search needs) (λ c. search needs)
+    (λ c κs. let x = c .before .before .before .before .before .before .pre .2 in (search needs, x .0, λ p h. x .1 p)) (λ c. search needs)
+    (λ c κs.
     let x = c .before .before .before .before .before .before .before .before .pre .1 in
-    (search needs, x .0, λ p h. x .1 p)
-
-add-word-requires-4 : tie.Need-add-word-requires-4
-add-word-requires-4 c κs =
+    (search needs, x .0, λ p h. x .1 p))
+    (λ c. search needs)
+    (λ c κs.
     let x = c .before .before .before .before .before .before .before .before .before .before .pre .0 in
-    (search needs, x .0, λ p h. x .1 p)
-
-returns : tie.Need-returns
-returns c =
+    (search needs, x .0, λ p h. x .1 p))
+    (λ c.
     let W0 = c .add-word4 in
     let at1 = c .before .before in
     let W1 = at1 .add-word3 in
@@ -58,11 +49,4 @@ returns c =
           (added-carry (getD x 1 0) (a .x1 .now) (W2 .result) (W1 .last .0) (W1 .result) e (W1 .ensures .0) he (S .pre .1 .1))
           (added-carry (getD x 0 0) (a .x0 .now) (W1 .result) (W0 .last .0) (W0 .result) e (W0 .ensures .0) he (S .pre .0 .1))),
       (W0 .ensures .1, W1 .ensures .1, W2 .ensures .1, W3 .ensures .1),
-    )
-
-pub count-spec : {M : Type 1} → statement M
-count-spec =
-    tie.close
-    (tie.spec
-    (λ c κs. search needs) (λ c. search needs) add-word-requires (λ c κs. search needs) (λ c. search needs) add-word-requires-2
-    (λ c. search needs) add-word-requires-3 (λ c. search needs) add-word-requires-4 returns)
+    )))

@@ -1,27 +1,21 @@
 -- `sliced::counters::encrypt_counters` meets its contract: the lanes are the words of the counters, and once they are encrypted the rows
 -- are those of their ciphers.
--- Assumes nothing.
-use mathlib.Core.Path.{ap, _∙_}
-use mathlib.Core.List.{List}
-use Prim.Native.Nat.{ℕ}
-use native.Mathlib.Omega.{arith}
+use Rattle.block.proofs.Base.{ℕ, _∙_, ap, List, arith, needs}
 use Rattle.block.specs.Words.{words, unwords}
 use Rattle.cipher.specs.Sm4.{encryptBlock}
 use Rattle.counter.specs.Counter.{jumped}
 use Rattle.rows.specs.Rows.{place}
 use Rattle.lanes.proofs.Masks.{blank-room}
 use Rattle.sliced.proofs.LaneNumbers.{number-place}
-use borrow.Author.Needs.{needs}
 use Rattle.sliced.proofs.counters.encrypt_counters.Statement.{statement}
 use Rattle.sliced.proofs.counters.encrypt_counters.Tie as tie
 
-count-requires : tie.Need-count-requires
-count-requires c κs =
-    ((search needs, blank-room 256), (search needs, blank-room 256), (search needs, blank-room 256), (search needs, blank-room 256))
-
-returns : tie.Need-returns
-unfolding encryptBlock
-returns c =
+pub encrypt-counters-spec : {M : Type 1} → statement M
+encrypt-counters-spec =
+    tie.close
+    (tie.spec
+    (λ c κs. search needs) (λ c κs. search (needs, blank-room)) (λ c κs. search needs) (λ c κs. search needs) (λ c. search needs)
+    (λ c. unfold encryptBlock in
     let at-store = c .before .before in
     let at-rounds = at-store .before .before .before .before in
     let at-count = at-rounds .before .before .before .before .before .before .before in
@@ -34,9 +28,4 @@ returns c =
     (at-rounds .rounds-to-rows .ensures .0 (a .m) f (omega arith)
     (λ i h.
     let p = number-place i (omega (arith, S .pre .0)) in
-    at-count .count .ensures .0 (place i) (p .0) ∙ ap f (p .1)))
-
-pub encrypt-counters-spec : {M : Type 1} → statement M
-encrypt-counters-spec =
-    tie.close
-    (tie.spec (λ c κs. search needs) count-requires (λ c κs. search needs) (λ c κs. search needs) (λ c. search needs) returns)
+    at-count .count .ensures .0 (place i) (p .0) ∙ ap f (p .1)))))

@@ -1,11 +1,5 @@
 -- `stream::batches::counters` meets its contract. A turn of the loop goes as many blocks on as the batch has (`reached-on`).
--- Assumes nothing.
-use mathlib.Core.Path.{sym, ap, _∙_}
-use mathlib.Core.List.{List}
-use Prim.Native.Nat.{ℕ, _+_, _-_, _*_, _≤_}
-use native.Mathlib.Omega.{arith}
-use denote.Ref.{now}
-use lib.ListN.{length, drop, length-drop}
+use Rattle.block.proofs.Base.{_*_, _+_, _-_, _≤_, ℕ, _∙_, ap, sym, List, arith, needs, now, drop, length, length-drop}
 use Rattle.block.specs.Words.{unwords}
 use Rattle.block.specs.Blocks.{blockAt}
 use Rattle.block.proofs.WordsBack.{length-unwords, unwords-bytes}
@@ -16,7 +10,6 @@ use Rattle.walk.proofs.Loop.{tailed}
 use Rattle.stream.specs.Stream.{streamMode, counting}
 use Rattle.stream.proofs.Counters.{jumped-stepped, jumped-gives}
 use Rattle.stream.proofs.RoundTrip.{stream-block}
-use borrow.Author.Needs.{needs}
 use Rattle.stream.proofs.batches.counters.Statement.{statement}
 use Rattle.stream.proofs.batches.counters.Tie as tie
 
@@ -52,13 +45,8 @@ loop-again c =
     (at-batch .encrypt-counters .ensures ∙ ap (λ (x : List ℕ). over x (tailed (l .at) (l .out)))
     (jumped-gives (a .rk) (a .wide) n (l .at) s d (length-unwords (l .s)) (unwords-bytes (l .s))))
 
-returns : tie.Need-returns Inv-loop μ-loop
-returns c = c .before .loop .inv
-
 pub counters-spec : {M : Type 1} → statement M
-counters-spec =
-    tie.close
-    (tie.spec
-    Inv-loop μ-loop loop-holds (λ c. omega arith) (λ c. omega arith) (λ c κs. omega arith) (λ c. omega arith)
-    (λ c. omega arith) (λ c. omega arith) (λ c. omega arith) (λ c. omega arith) (λ c. omega arith) (λ c κs. search needs) (λ c κs. search needs)
-    (λ c. omega arith) (λ c. omega arith) (λ c. omega arith) loop-again (λ c. omega arith) returns)
+counters-spec = tie.close (tie.spec Inv-loop μ-loop loop-holds (λ c. omega arith) (λ c. omega arith) (λ c κs. omega arith)
+    (λ c. omega arith) (λ c. omega arith) (λ c. omega arith) (λ c. omega arith) (λ c. omega arith) (λ c. omega arith) (λ c κs. search needs)
+    (λ c κs. search needs) (λ c. omega arith) (λ c. omega arith) (λ c. omega arith) loop-again (λ c. omega arith)
+    (λ c. c .before .loop .inv))

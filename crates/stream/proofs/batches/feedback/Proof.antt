@@ -1,12 +1,6 @@
 -- `stream::batches::feedback` meets its contract. The first block goes by itself (`fed-reached`), and a turn of the loop goes as many
 -- blocks on as the batch has (`fed-on`), each from the block before it.
--- Assumes nothing.
-use mathlib.Core.Path.{_≡_, ap, _∙_}
-use mathlib.Core.List.{List}
-use Prim.Native.Nat.{ℕ, _-_, _<_}
-use native.Mathlib.Omega.{arith}
-use denote.Ref.{now}
-use lib.ListN.{length, getD, take, drop, length-drop}
+use Rattle.block.proofs.Base.{_-_, _<_, ℕ, _∙_, _≡_, ap, arith, needs, now, drop, getD, length, length-drop, take}
 use Rattle.block.specs.Words.{unwords}
 use Rattle.block.proofs.Entries.{below-each, below-drop}
 use Rattle.block.proofs.WordsBack.{length-unwords, unwords-front}
@@ -15,7 +9,6 @@ use Rattle.walk.proofs.Loop.{tail-is}
 use Rattle.stream.specs.declared.Kind.the-variants.{CfbDecrypt}
 use Rattle.stream.specs.Stream.{streamMode}
 use Rattle.stream.proofs.Ahead.{cfb-fed}
-use borrow.Author.Needs.{needs}
 use Rattle.stream.proofs.batches.feedback.Statement.{statement}
 use Rattle.stream.proofs.batches.feedback.Tie as tie
 
@@ -58,16 +51,12 @@ returns-2 c =
     let bytes = below-drop 256 (l .at - 16) d (below-each 256 d small) in
     let state : unwords (c .split-block .result) ≡ take 16 tail =
     ap unwords (c .split-block .ensures) ∙ rw (tail-is d (l .at - 16)) (unwords-front tail (rw length-drop (omega arith)) bytes) in
-    rw state
-    (fed-reached (streamMode CfbDecrypt (a .rk)) (cfb-fed (a .rk)) d _ (unwords (a .iv)) (now (a .out)) (l .out) (l .at) (l .inv)
+    rw state (fed-reached (streamMode CfbDecrypt (a .rk)) (cfb-fed (a .rk)) d _ (unwords (a .iv)) (now (a .out)) (l .out) (l .at) (l .inv)
     (length-unwords (a .iv)) (omega arith) (omega arith) (at-step .step .ensures .1))
 
 pub feedback-spec : {M : Type 1} → statement M
-feedback-spec =
-    tie.close
-    (tie.spec
-    Inv-loop μ-loop returns (λ c κs. search needs) loop-holds (λ c. omega arith) (λ c. omega arith) (λ c κs. omega arith)
-    (λ c. omega arith) (λ c. omega arith) (λ c. omega arith) (λ c. omega arith) (λ c. omega arith) (λ c. omega arith)
-    (λ c. omega arith) (λ c. omega arith) (λ c. omega arith) (λ c. omega arith) (λ c κs. search needs)
-    (λ c. omega arith) (λ c. omega arith) (λ c. omega arith) loop-again (λ c. omega arith) (λ c. omega arith)
-    (λ c. omega arith) (λ c. omega arith) (λ c κs. search needs) (λ c. omega arith) returns-2)
+feedback-spec = tie.close (tie.spec Inv-loop μ-loop returns (λ c κs. search needs) loop-holds (λ c. omega arith) (λ c. omega arith)
+    (λ c κs. omega arith) (λ c. omega arith) (λ c. omega arith) (λ c. omega arith) (λ c. omega arith) (λ c. omega arith) (λ c. omega arith)
+    (λ c. omega arith) (λ c. omega arith) (λ c. omega arith) (λ c. omega arith) (λ c κs. search needs) (λ c. omega arith) (λ c. omega arith)
+    (λ c. omega arith) loop-again (λ c. omega arith) (λ c. omega arith) (λ c. omega arith) (λ c. omega arith) (λ c κs. search needs)
+    (λ c. omega arith) returns-2)

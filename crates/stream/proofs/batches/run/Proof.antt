@@ -1,22 +1,12 @@
 -- `stream::batches::run` meets its contract: where no batch is made the walk stands at its start, and each kind's batches are its own.
--- Assumes nothing.
-use borrow.Author.Needs.{needs}
+use Rattle.block.proofs.Base.{needs}
 use Rattle.stream.proofs.batches.run.Statement.{statement}
 use Rattle.stream.proofs.batches.run.Tie as tie
 
-returns-3 : tie.Need-returns-3
-returns-3 c = let done = c .before .before in rw (done .before .before .enum-told2 .given .1) (done .feedback .ensures)
-
-returns-5 : tie.Need-returns-5
-returns-5 c = let done = c .before .before in rw (done .before .before .enum-told4 .given .1) (done .counters .ensures)
-
-returns-6 : tie.Need-returns-6
-returns-6 c = let done = c .before .before in rw (done .before .before .enum-told5 .given .1) (done .counters2 .ensures)
-
 pub run-spec : {M : Type 1} → statement M
-run-spec =
-    tie.close
-    (tie.spec
-    (λ c κs. search needs) (λ c. search needs) (λ c. search needs) (λ c. search needs) (λ c κs. search needs)
+run-spec = tie.close (tie.spec (λ c κs. search needs) (λ c. search needs) (λ c. search needs) (λ c. search needs) (λ c κs. search needs)
     (λ c. search needs) (λ c. search needs) (λ c κs. search needs) (λ c. search needs) (λ c κs. search needs) (λ c. search needs)
-    (λ c. search needs) returns-3 (λ c. search needs) (λ c. search needs) returns-5 (λ c. search needs) returns-6)
+    (λ c. search needs) (λ c. let done = c .before .before in rw (done .before .before .enum-told2 .given .1) (done .feedback .ensures))
+    (λ c. search needs) (λ c. search needs)
+    (λ c. let done = c .before .before in rw (done .before .before .enum-told4 .given .1) (done .counters .ensures)) (λ c. search needs)
+    (λ c. let done = c .before .before in rw (done .before .before .enum-told5 .given .1) (done .counters2 .ensures)))

@@ -1,17 +1,9 @@
 -- `stream::few::ciphered` meets its contract, by its test.
--- Assumes nothing.
-use mathlib.Core.Path.{refl, sym, _∙_}
-use mathlib.Core.Logic.{inl, inr}
-use borrow.Author.Needs.{needs}
+use Rattle.block.proofs.Base.{_∙_, refl, sym, inl, inr, needs}
 use Rattle.stream.proofs.Ahead.{untrue}
 use Rattle.stream.proofs.few.ciphered.Statement.{statement}
 use Rattle.stream.proofs.few.ciphered.Tie as tie
 
-returns : tie.Need-returns
-returns c = (inr refl, λ e. refl, λ e. untrue (sym e ∙ c .if1 .taken))
-
-returns-2 : tie.Need-returns-2
-returns-2 c = (inl refl, λ e. untrue (sym (c .if1 .left) ∙ e), λ e. refl)
-
 pub ciphered-spec : {M : Type 1} → statement M
-ciphered-spec = tie.close (tie.spec (λ c. search needs) returns returns-2)
+ciphered-spec = tie.close (tie.spec (λ c. search needs) (λ c. (inr refl, λ e. refl, λ e. untrue (sym e ∙ c .if1 .taken)))
+    (λ c. (inl refl, λ e. untrue (sym (c .if1 .left) ∙ e), λ e. refl)))

@@ -1,15 +1,8 @@
 -- `stream::few::few` meets its contract: the ciphers of the states that were laid, xored with the blocks (`few-written`), and the one
 -- behind them (`few-pad`).
--- Assumes nothing.
-use mathlib.Core.Path.{_≡_, ap, _∙_}
-use Prim.Native.Nat.{_*_, _≤_}
-use native.Mathlib.Nat.{sub-zero}
-use native.Mathlib.Omega.{arith}
-use denote.Ref.{now}
-use lib.ListN.{length}
+use Rattle.block.proofs.Base.{_*_, _≤_, _∙_, sub-zero, arith, needs, now, length}
 use Rattle.block.specs.Words.{unwords}
 use Rattle.stream.proofs.Ahead.{at-most, few-written, few-pad}
-use borrow.Author.Needs.{needs}
 use Rattle.stream.proofs.few.few.Statement.{statement}
 use Rattle.stream.proofs.few.few.Tie as tie
 
@@ -22,6 +15,8 @@ encrypt-requires c κs =
 
 returns : tie.Need-returns
 returns c =
+    let at-block-at = c .before .before .before in
+    let at-xor-bytes = at-block-at .before .before .before .before in
     let at-encrypt = c .before .before .before .before .before .before .before .before .before .before .before .before in
     let at-count = at-encrypt .before .before .before in
     let at-lay = at-count .before .before in
@@ -33,16 +28,17 @@ returns c =
     let n = at-count .ciphered .ensures in
     let laid = at-lay .lay .ensures (a .rk) in
     let ciphered = at-encrypt .encrypt .ensures in
-    let xored = rw (sub-zero (16 * a .m)) at (c .before .before .before .before .before .before .before .xor-bytes .ensures) in (
-      c .before .before .before .block-at .ensures ∙ laid (a .m) (omega arith),
+    let xored = rw (sub-zero (16 * a .m)) at (at-xor-bytes .xor-bytes .ensures) in (
+      at-block-at .block-at .ensures ∙ laid (a .m) (omega arith),
       (
-        λ e. c .combine-block .ensures ∙ c .before .block-at2 .ensures ∙ few-pad (a .kind) (a .rk) s d (a .m) h _ _ _ _ laid ciphered (n .1 e),
+        λ e. c .combine-block .ensures ∙ c .before .block-at2 .ensures ∙ few-pad (a .kind) (a .rk) s d (a .m) h _ _ _ _ laid ciphered
+            (n .1 e),
         few-written (a .kind) (a .rk) s d (a .m) h _ _ _ _ laid ciphered (n .0) (now (a .out)) _ xored,
       ),
     )
 
 pub few-spec : {M : Type 1} → statement M
-few-spec =
-    tie.close
-    (tie.spec
-    (λ c. search needs) (λ c. search needs) (λ c κs. search needs) (λ c κs. search needs) (λ c. search needs) (λ c. search needs) encrypt-requires (λ c. search needs) (λ c. search needs) (λ c. search needs) (λ c. search needs) (λ c. search needs) (λ c κs. search needs) (λ c. search needs) (λ c κs. search needs) (λ c. search needs) (λ c κs. search needs) (λ c κs. search needs) (λ c. search needs) returns)
+few-spec = tie.close (tie.spec (λ c. search needs) (λ c. search needs) (λ c κs. search needs) (λ c κs. search needs) (λ c. search needs)
+    (λ c. search needs) encrypt-requires (λ c. search needs) (λ c. search needs) (λ c. search needs) (λ c. search needs) (λ c. search needs)
+    (λ c κs. search needs) (λ c. search needs) (λ c κs. search needs) (λ c. search needs) (λ c κs. search needs) (λ c κs. search needs)
+    (λ c. search needs) returns)

@@ -1,17 +1,11 @@
--- `stream::few::last` meets its contract: the walk comes behind the full blocks (`few-reached`), and the rest is xored with the pad
--- behind them (`few-ended`), if there is one.
--- Assumes nothing.
-use mathlib.Core.Path.{_≡_, sym, ap, _∙_}
-use Prim.Native.Nat.{_*_, _/_, _%_, _≤_}
-use native.Mathlib.Omega.{arith}
-use denote.Ref.{now}
-use lib.ListN.{length}
+-- `stream::few::last` meets its contract: the walk comes behind the full blocks (`few-reached`), and the rest is xored with the pad behind
+-- them (`few-ended`), if there is one.
+use Rattle.block.proofs.Base.{_%_, _*_, _/_, _≤_, _∙_, _≡_, ap, sym, arith, needs, now, length}
 use Rattle.block.specs.Words.{unwords}
 use Rattle.cipher.specs.Sm4.{encryptBlock}
 use Rattle.walk.specs.Walk.{endState}
 use Rattle.walk.proofs.Loop.{tailed, length-tailed}
 use Rattle.stream.proofs.Ahead.{few-reached, few-ended, rest-xored}
-use borrow.Author.Needs.{needs}
 use Rattle.stream.proofs.few.last.Statement.{statement}
 use Rattle.stream.proofs.few.last.Tie as tie
 
@@ -50,7 +44,6 @@ returns c =
     )
 
 pub last-spec : {M : Type 1} → statement M
-last-spec =
-    tie.close
-    (tie.spec
-    (λ c κs. search needs) (λ c κs. search needs) (λ c. search needs) (λ c. search needs) (λ c. search needs) (λ c. search needs) (λ c. search needs) (λ c. search needs) (λ c. search needs) (λ c. search needs) xor-bytes-requires (λ c. search needs) returns)
+last-spec = tie.close (tie.spec (λ c κs. search needs) (λ c κs. search needs) (λ c. search needs) (λ c. search needs) (λ c. search needs)
+    (λ c. search needs) (λ c. search needs) (λ c. search needs) (λ c. search needs) (λ c. search needs) xor-bytes-requires
+    (λ c. search needs) returns)

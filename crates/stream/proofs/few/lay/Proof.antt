@@ -1,30 +1,18 @@
 -- `stream::few::lay` meets its contract: the states of each kind are laid as they are known ahead, and the other kinds are not asked for.
--- Assumes nothing.
-use mathlib.Core.Path.{_≡_, refl}
-use mathlib.Core.Bool.{true, false}
-use native.Mathlib.Omega.{arith}
-use denote.Ref.{now}
+use Rattle.block.proofs.Base.{refl, false, true, arith, needs, now}
 use Rattle.block.specs.Words.{unwords}
 use Rattle.block.proofs.WordsBack.{length-unwords, unwords-bytes}
 use Rattle.stream.specs.declared.Kind.the-variants.{CfbEncrypt, Ofb}
 use Rattle.stream.proofs.Ahead.{never-ahead, laid-counters, laid-before}
-use borrow.Author.Needs.{needs}
 use Rattle.stream.proofs.few.lay.Statement.{statement}
 use Rattle.stream.proofs.few.lay.Tie as tie
-
-returns : tie.Need-returns
-returns c = absurd (never-ahead _ CfbEncrypt (c .before .before .before .before .pre .0) (c .enum-told .given .1) refl)
 
 returns-2 : tie.Need-returns-2
 returns-2 c =
     let a = c .before .before .before .before .before .before .before .before .args in
     rw (c .before .before .before .before .enum-told2 .given .1)
-    (λ rk.
-    laid-before rk (a .n) (unwords (a .iv)) (now (a .«data»)) (now (a .out)) _ (length-unwords (a .iv)) (omega arith)
+    (λ rk. laid-before rk (a .n) (unwords (a .iv)) (now (a .«data»)) (now (a .out)) _ (length-unwords (a .iv)) (omega arith)
     (c .before .before .lay-before .ensures))
-
-returns-3 : tie.Need-returns-3
-returns-3 c = absurd (never-ahead _ Ofb (c .before .before .before .before .pre .0) (c .enum-told3 .given .1) refl)
 
 returns-4 : tie.Need-returns-4
 returns-4 c =
@@ -43,9 +31,8 @@ returns-5 c =
     (c .before .before .lay-counters2 .ensures))
 
 pub lay-spec : {M : Type 1} → statement M
-lay-spec =
-    tie.close
-    (tie.spec
-    (λ c. search needs) (λ c. search needs) (λ c κs. search needs) (λ c. search needs) (λ c. search needs) (λ c κs. search needs)
-    (λ c. search needs) (λ c κs. search needs) returns (λ c. search needs) returns-2 returns-3 (λ c. search needs) returns-4
-    (λ c. search needs) returns-5)
+lay-spec = tie.close (tie.spec (λ c. search needs) (λ c. search needs) (λ c κs. search needs) (λ c. search needs) (λ c. search needs)
+    (λ c κs. search needs) (λ c. search needs) (λ c κs. search needs)
+    (λ c. absurd (never-ahead _ CfbEncrypt (c .before .before .before .before .pre .0) (c .enum-told .given .1) refl)) (λ c. search needs)
+    returns-2 (λ c. absurd (never-ahead _ Ofb (c .before .before .before .before .pre .0) (c .enum-told3 .given .1) refl))
+    (λ c. search needs) returns-4 (λ c. search needs) returns-5)

@@ -1,10 +1,6 @@
--- `stream::few::lay_counters` meets its contract. The loop's invariant: the first i counters are laid, and behind them stands what stood there.
--- Assumes nothing.
-use mathlib.Core.Path.{_≡_, refl, ap, subst, _∙_}
-use mathlib.Core.List.{List, _++_}
-use Prim.Native.Nat.{ℕ, _≤_, _*_, _-_}
-use native.Mathlib.Omega.{arith}
-use lib.ListN.{length, take, drop}
+-- `stream::few::lay_counters` meets its contract. The loop's invariant: the first i counters are laid, and behind them stands what stood
+-- there.
+use Rattle.block.proofs.Base.{_*_, _-_, _≤_, ℕ, _∙_, _≡_, ap, refl, List, _++_, arith, needs, drop, length, take}
 use Rattle.block.specs.Blocks.{cat}
 use Rattle.block.specs.Words.{unwords}
 use Rattle.block.proofs.WordsBack.{length-unwords}
@@ -12,31 +8,29 @@ use Rattle.counter.specs.Counter.{jumped}
 use Rattle.sixteen.proofs.Blocks.{block-stored}
 use Rattle.sixteen.proofs.Padded.{over-stored}
 use Rattle.stream.proofs.Ahead.{length-jumped}
-use borrow.Author.Needs.{needs}
 use Rattle.stream.proofs.few.lay_counters.Statement.{statement}
 use Rattle.stream.proofs.few.lay_counters.Tie as tie
 
 abbrev Inv-loop : tie.InvT-loop
-Inv-loop wide c n out₀ i₀ out i =
-    (i ≤ n) × (length out ≡ length out₀) × (out ≡ cat i (jumped wide (unwords c)) ++ drop (16 * i) out₀)
+Inv-loop wide c n out₀ i₀ out i = (i ≤ n) × (length out ≡ length out₀) × (out ≡ cat i (jumped wide (unwords c)) ++ drop (16 * i) out₀)
 
 abbrev μ-loop : tie.MeasureT-loop
 μ-loop wide c n out₀ i₀ out i = n - i
 
-loop-holds : tie.Need-loop-holds Inv-loop μ-loop
-unfolding cat
-loop-holds c = (search needs, refl, refl)
-
 loop-again : tie.Need-loop-again Inv-loop μ-loop
 loop-again c =
-    let l = c .before .before .before .before .before .before .loop in
-    let a = c .before .before .before .before .before .before .before .before .args in (
+    let at-put-block = c .before .before in
+    let at-counter-after = at-put-block .before .before in
+    let at-loop = at-counter-after .before .before in
+    let S = at-loop .before .before in
+    let l = at-loop .loop in
+    let a = S .args in (
       omega arith,
       search needs,
       block-stored (a .out .now) (l .out) _ (jumped (a .wide) (unwords (a .c))) (l .i)
-          (λ k h. length-jumped (a .wide) (unwords (a .c)) k (length-unwords (a .c))) (l .inv .2)
-          (c .before .before .put-block .ensures
-          ∙ ap (λ (x : List ℕ). x ++ drop 16 (take (length (l .out) - 16 * l .i) (drop (16 * l .i) (l .out)))) (c .before .before .before .before .counter-after .ensures)),
+          (λ k h. length-jumped (a .wide) (unwords (a .c)) k (length-unwords (a .c))) (l .inv .2) (at-put-block .put-block .ensures
+          ∙ ap (λ (x : List ℕ). x ++ drop 16 (take (length (l .out) - 16 * l .i) (drop (16 * l .i) (l .out))))
+          (at-counter-after .counter-after .ensures)),
     )
 
 returns : tie.Need-returns Inv-loop μ-loop
@@ -46,11 +40,10 @@ returns c =
     let f = jumped (a .wide) (unwords (a .c)) in
     let e : l .i ≡ a .n = omega arith in
     over-stored (a .n) f (a .out .now) (l .out) (λ k h. length-jumped (a .wide) (unwords (a .c)) k (length-unwords (a .c)))
-    (subst (λ (j : ℕ). l .out ≡ cat j f ++ drop (16 * j) (a .out .now)) e (l .inv .2))
+    (rw e at (l .inv .2))
 
 pub lay-counters-spec : {M : Type 1} → statement M
-lay-counters-spec =
-    tie.close
-    (tie.spec
-    Inv-loop μ-loop loop-holds (λ c κs. search needs) (λ c. search needs) (λ c. search needs) (λ c. search needs)
-    (λ c. search needs) (λ c κs. search needs) (λ c. search needs) (λ c. search needs) loop-again (λ c. search needs) returns)
+unfolding cat
+lay-counters-spec = tie.close (tie.spec Inv-loop μ-loop (λ c. (search needs, refl, refl)) (λ c κs. search needs) (λ c. search needs)
+    (λ c. search needs) (λ c. search needs) (λ c. search needs) (λ c κs. search needs) (λ c. search needs) (λ c. search needs) loop-again
+    (λ c. search needs) returns)

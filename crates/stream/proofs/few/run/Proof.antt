@@ -1,11 +1,6 @@
 -- `stream::few::run` meets its contract. A turn of the loop goes 64 blocks on (`reached-on`), and what is left ends the walk
 -- (`reached-end`, `reached-over`).
--- Assumes nothing.
-use mathlib.Core.Path.{_≡_, ap, _∙_}
-use Prim.Native.Nat.{ℕ, _-_, _*_, _≤_}
-use native.Mathlib.Omega.{arith}
-use denote.Ref.{now}
-use lib.ListN.{length, drop, length-drop}
+use Rattle.block.proofs.Base.{_*_, _-_, _≤_, _∙_, ap, arith, needs, now, drop, length, length-drop}
 use Rattle.block.specs.Words.{unwords}
 use Rattle.block.specs.Blocks.{blockAt}
 use Rattle.cipher.specs.Sm4.{encryptBlock}
@@ -17,7 +12,6 @@ use Rattle.sixteen.proofs.Onward.{reached-end, reached-over}
 use Rattle.stream.specs.Stream.{streamMode}
 use Rattle.stream.proofs.RoundTrip.{stream-block}
 use Rattle.stream.proofs.Ahead.{untrue}
-use borrow.Author.Needs.{needs}
 use Rattle.stream.proofs.few.run.Statement.{statement}
 use Rattle.stream.proofs.few.run.Tie as tie
 
@@ -60,14 +54,9 @@ returns c =
       ),
     )
 
-few-requires : tie.Need-few-requires Inv-loop μ-loop
-few-requires c κs = (search needs, ((omega arith, λ e. untrue e), (omega arith, omega arith)))
-
 pub run-spec : {M : Type 1} → statement M
-run-spec =
-    tie.close
-    (tie.spec
-    Inv-loop μ-loop loop-holds (λ c. omega arith) (λ c. omega arith) (λ c. omega arith) (λ c. omega arith) (λ c. omega arith)
-    (λ c. omega arith) (λ c. omega arith) few-requires (λ c. omega arith)
-    (λ c. omega arith) loop-again (λ c. omega arith) (λ c. omega arith) (λ c. omega arith) (λ c. omega arith) (λ c. omega arith)
-    (λ c. omega arith) (λ c κs. (search needs, (omega arith, omega arith))) (λ c. omega arith) returns)
+run-spec = tie.close (tie.spec Inv-loop μ-loop loop-holds (λ c. omega arith) (λ c. omega arith) (λ c. omega arith) (λ c. omega arith)
+    (λ c. omega arith) (λ c. omega arith) (λ c. omega arith)
+    (λ c κs. (search needs, ((omega arith, λ e. untrue e), (omega arith, omega arith)))) (λ c. omega arith) (λ c. omega arith) loop-again
+    (λ c. omega arith) (λ c. omega arith) (λ c. omega arith) (λ c. omega arith) (λ c. omega arith) (λ c. omega arith)
+    (λ c κs. (search needs, (omega arith, omega arith))) (λ c. omega arith) returns)

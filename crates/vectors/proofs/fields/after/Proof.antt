@@ -1,8 +1,6 @@
 -- `vectors::fields::after` is safe and ends. `end` asks nothing of its place, so that the invariant has nothing to say. The measure
 -- is the number of fields left.
--- Assumes nothing.
-use Prim.Native.Nat.{_-_}
-use borrow.Author.Needs.{needs}
+use Rattle.block.proofs.Base.{_-_, needs}
 use Rattle.vectors.proofs.fields.after.Statement.{statement}
 use Rattle.vectors.proofs.fields.after.Tie as tie
 

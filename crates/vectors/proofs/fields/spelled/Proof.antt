@@ -1,10 +1,6 @@
 -- `vectors::fields::spelled` meets its contract. The loop's invariant: `i` is at most the length, no more digits were read than bytes,
 -- and `s` is as long as it was lent, so that each store lies inside. The measure is what is left of `s`.
--- Assumes nothing.
-use mathlib.Core.Path.{_≡_}
-use Prim.Native.Nat.{_≤_, _-_}
-use borrow.Author.Needs.{needs}
-use lib.ListN.{length}
+use Rattle.block.proofs.Base.{_-_, _≤_, _≡_, needs, length}
 use Rattle.vectors.proofs.fields.spelled.Statement.{statement}
 use Rattle.vectors.proofs.fields.spelled.Tie as tie
 

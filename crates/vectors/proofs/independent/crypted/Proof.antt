@@ -1,8 +1,6 @@
 -- `vectors::independent::crypted` is safe and ends. The loop's invariant is that at most 32 rounds have gone by, so that each has
 -- its constant. The measure is the number of rounds left.
--- Assumes nothing.
-use Prim.Native.Nat.{_≤_, _-_}
-use borrow.Author.Needs.{needs}
+use Rattle.block.proofs.Base.{_-_, _≤_, needs}
 use Rattle.vectors.proofs.independent.crypted.Statement.{statement}
 use Rattle.vectors.proofs.independent.crypted.Tie as tie
 

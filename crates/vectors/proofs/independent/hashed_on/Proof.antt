@@ -1,8 +1,6 @@
 -- `vectors::independent::hashed_on` is safe and ends. The loop's invariant: at most as many blocks were hashed as `n` bytes fill, so
 -- that each has its number. The measure is the number of blocks left.
--- Assumes nothing.
-use Prim.Native.Nat.{_≤_, _-_, _+_, _/_}
-use borrow.Author.Needs.{needs}
+use Rattle.block.proofs.Base.{_+_, _-_, _/_, _≤_, needs}
 use Rattle.vectors.proofs.independent.hashed_on.Statement.{statement}
 use Rattle.vectors.proofs.independent.hashed_on.Tie as tie
 

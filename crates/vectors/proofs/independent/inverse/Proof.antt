@@ -1,8 +1,6 @@
 -- `vectors::independent::inverse` is safe and ends. The loop's invariant is that at most 254 turns have gone by, and the
 -- measure is the number of turns left.
--- Assumes nothing.
-use Prim.Native.Nat.{_≤_, _-_}
-use borrow.Author.Needs.{needs}
+use Rattle.block.proofs.Base.{_-_, _≤_, needs}
 use Rattle.vectors.proofs.independent.inverse.Statement.{statement}
 use Rattle.vectors.proofs.independent.inverse.Tie as tie
 

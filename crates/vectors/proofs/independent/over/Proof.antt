@@ -1,7 +1,5 @@
 -- `vectors::independent::over` is safe and ends. The invariant has nothing to say, and the measure is the number of turns left.
--- Assumes nothing.
-use Prim.Native.Nat.{_-_}
-use borrow.Author.Needs.{needs}
+use Rattle.block.proofs.Base.{_-_, needs}
 use Rattle.vectors.proofs.independent.over.Statement.{statement}
 use Rattle.vectors.proofs.independent.over.Tie as tie
 

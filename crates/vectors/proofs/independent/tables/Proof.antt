@@ -1,10 +1,6 @@
 -- `vectors::independent::tables` is safe and ends. The loop's invariant: `i` is at most 256, and the table has its 512 entries, so
 -- that both stores lie inside. The measure is the number of turns left.
--- Assumes nothing.
-use mathlib.Core.Path.{_≡_}
-use Prim.Native.Nat.{_≤_, _-_}
-use borrow.Author.Needs.{needs}
-use lib.ListN.{length}
+use Rattle.block.proofs.Base.{_-_, _≤_, _≡_, needs, length}
 use Rattle.vectors.proofs.independent.tables.Statement.{statement}
 use Rattle.vectors.proofs.independent.tables.Tie as tie
 

@@ -1,8 +1,6 @@
 -- `vectors::independent::times` is safe and ends. The loop's invariant is that at most 128 turns have gone by, and the measure
 -- is the number of turns left.
--- Assumes nothing.
-use Prim.Native.Nat.{_≤_, _-_}
-use borrow.Author.Needs.{needs}
+use Rattle.block.proofs.Base.{_-_, _≤_, needs}
 use Rattle.vectors.proofs.independent.times.Statement.{statement}
 use Rattle.vectors.proofs.independent.times.Tie as tie
 

@@ -1,8 +1,6 @@
 -- `vectors::independent::walked` is safe and ends. The loop's invariant: at most as many blocks were taken as the text has, and these
 -- are few enough for their numbers. The measure is the number of blocks left.
--- Assumes nothing.
-use Prim.Native.Nat.{_<_, _≤_, _-_, _^_}
-use borrow.Author.Needs.{needs}
+use Rattle.block.proofs.Base.{_-_, _<_, _^_, _≤_, needs}
 use Rattle.vectors.proofs.independent.walked.Statement.{statement}
 use Rattle.vectors.proofs.independent.walked.Tie as tie
 

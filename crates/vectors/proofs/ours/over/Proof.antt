@@ -1,10 +1,6 @@
 -- `vectors::ours::over` is safe and ends. The loop's invariant is that `x` is a block, which `call` keeps, and the measure
 -- is the number of turns left.
--- Assumes nothing.
-use mathlib.Core.Path.{_≡_}
-use Prim.Native.Nat.{_-_}
-use borrow.Author.Needs.{needs}
-use lib.ListN.{length}
+use Rattle.block.proofs.Base.{_-_, _≡_, needs, length}
 use Rattle.vectors.proofs.ours.over.Statement.{statement}
 use Rattle.vectors.proofs.ours.over.Tie as tie
 

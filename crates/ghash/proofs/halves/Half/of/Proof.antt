@@ -1,16 +1,17 @@
 -- `ghash::halves::Half::of` meets its contract: the count is how many blocks there are (`length-blocks`).
--- Assumes nothing.
-use mathlib.Core.Path.{sym, ap, _∙_}
-use denote.Ref.{now}
+use Rattle.block.proofs.Base.{_∙_, ap, sym, needs, now}
 use Rattle.block.specs.Wide.{value}
 use Rattle.field.specs.Field.{gpow}
 use Rattle.ghash.proofs.Blocks.{length-blocks}
-use borrow.Author.Needs.{needs}
 use Rattle.ghash.proofs.halves.Half.of.Statement.{statement}
 use Rattle.ghash.proofs.halves.Half.of.Tie as tie
 
-returns : tie.Need-returns
-returns c =
+pub of-spec : {M : Type 1} → statement M
+of-spec =
+    tie.close
+    (tie.spec
+    (λ c κs. search needs) (λ c κs. search needs) (λ c κs. search needs)
+    (λ c.
     let at-hash = c .before in
     let at-count = at-hash .before in
     let a = at-count .before .before .args in
@@ -19,7 +20,4 @@ returns c =
       power =
           c .power .ensures
           ∙ ap (gpow (value (a .h))) (at-count .block-count .ensures ∙ sym (length-blocks (now (a .bytes))));
-    }
-
-pub of-spec : {M : Type 1} → statement M
-of-spec = tie.close (tie.spec (λ c κs. search needs) (λ c κs. search needs) (λ c κs. search needs) returns)
+    }))

@@ -1,41 +1,15 @@
 -- `pieces::seal::Seal::end` meets its contract: what the checks refuse leaves output and state, and otherwise the tag is written and
 -- the state is shut.
--- Assumes nothing.
-use mathlib.Core.Path.{_≡_, sym, ap, _∙_}
-use mathlib.Core.Bool.{Bool}
-use mathlib.Core.List.{List}
-use Prim.Native.Nat.{ℕ, _≤_}
-use native.Mathlib.Omega.{arith}
-use denote.Ref.{now}
-use lib.ListN.{length}
-use Rattle.block.specs.Xor.{xors}
-use Rattle.walk.specs.Outcome.{Head, finished, under, telling}
-use Rattle.walk.specs.Walk.{over}
-use Rattle.pieces.specs.declared.seal.Seal.{Seal}
+use Rattle.block.proofs.Base.{_≤_, _∙_, _≡_, sym, arith, needs, now, length}
 use Rattle.pieces.specs.Calls.{sealEnd}
 use Rattle.pieces.proofs.Passing.{Runs, writing-passed}
-use Rattle.pieces.proofs.Stepping.{same-step, refused-there, went-on}
-use borrow.Author.Needs.{needs}
 use Rattle.pieces.proofs.seal.Seal.end.Statement.{statement}
 use Rattle.pieces.proofs.seal.Seal.end.Tie as tie
-
-returns : tie.Need-returns
-unfolding sealEnd
-returns c =
-    let told = c .before .before in
-    let at-check = told .before .before in
-    let a = at-check .before .before .args in
-    refused-there Seal _ _ (now (a .out)) (a .self) _ _ _ (sym (at-check .writing .ensures) ∙ told .checked .given .1) (c .refused .ensures)
 
 passed : (x : tie.After-enum-told)
     → let a = x .before .before .before .before .args in
     Runs (a .self .stands) (a .self .label) (a .self .total) 0 × (16 ≤ length (now (a .out)))
 passed x = writing-passed _ _ _ _ _ _ (sym (x .before .before .writing .ensures) ∙ x .enum-told .given .1)
-
-end-requires : tie.Need-end-requires
-end-requires c κs =
-    let runs = passed (c .before .before) .0 in
-    (omega arith, (omega (arith, runs .labelled), omega (arith, runs .within)))
 
 mask-length : (s : tie.Start) → length (s .args .self .mask) ≡ 16
 mask-length s = search needs
@@ -50,24 +24,17 @@ xor-pad-requires c κs =
 returns-2 : tie.Need-returns-2
 unfolding sealEnd
 returns-2 c =
-    let at-done = c .before in
-    let at-round = at-done .before in
+    let at-round = c .before .before in
     let at-tag = at-round .before .before .before in
     let at-end = at-tag .before .before .before in
     let told = at-end .before .before .before in
-    let at-check = told .before .before in
-    let a = at-check .before .before .args in
-    let s = a .self in
-    let o = now (a .out) in
-    went-on Seal _ _ o s _ _ (sym (at-check .writing .ensures) ∙ told .enum-told .given .1)
-    (same-step Seal _ _ _ _ _ _
-    (at-done .done-round .ensures
-    ∙ ap {B = Head} (λ (b : Bool). under (s .key) (telling b (finished 16))) (at-round .gcm-came-round .ensures))
-    (at-tag .xor-pad .ensures ∙ ap (λ (l : List ℕ). over (xors (s .mask) l) o) (at-end .end .ensures)) (c .shut .ensures))
+    rw (← told .before .before .writing .ensures, told .enum-told .given .1, c .before .done-round .ensures)
+    (rw (at-round .gcm-came-round .ensures, at-tag .xor-pad .ensures, at-end .end .ensures, c .shut .ensures))
 
 pub end-spec : {M : Type 1} → statement M
-end-spec =
-    tie.close
-    (tie.spec
-    (λ c κs. search needs) (λ c. search needs) (λ c κs. search needs) returns (λ c. search needs) end-requires
-    (λ c. search needs) xor-pad-requires (λ c κs. search needs) (λ c κs. search needs) (λ c κs. search needs) (λ c. search needs) returns-2)
+unfolding sealEnd
+end-spec = tie.close (tie.spec (search needs) (search needs) (search needs)
+    (λ c. let told = c .before .before in rw (← told .before .before .writing .ensures, told .checked .given .1, c .refused .ensures))
+    (search needs)
+    (λ c κs. let runs = passed (c .before .before) .0 in (omega arith, (omega (arith, runs .labelled), omega (arith, runs .within))))
+    (λ c. search needs) xor-pad-requires (search needs) (search needs) (search needs) (search needs) returns-2)
