@@ -137,13 +137,13 @@ impl fmt::Debug for Key {
 #[non_exhaustive]
 pub enum Engine {
     // numbers.txt: engines of Rust
-    /// The library chooses: gates where blocks do not wait for one another, four tables elsewhere.
+    /// The library chooses: gates where blocks do not depend on one another, otherwise four tables.
     Chosen = 0,
-    /// Four tables of 1 KiB, which are looked up by key and text.
+    /// Four tables of 1 KiB, looked up by key and text (a cache side channel).
     Tables = 1,
-    /// Gates alone: no look-up and no branch by key or text.
+    /// Gates: bitsliced, with no look-up and no branch by key or text (constant-time).
     Gates = 2,
-    /// One table of 1 KiB, which is looked up by key and text.
+    /// One table of 1 KiB, looked up by key and text (a cache side channel).
     Plain = 3,
     // numbers.txt: end
 }

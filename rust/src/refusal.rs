@@ -33,13 +33,13 @@ pub enum Refusal {
     // numbers.txt: refusals of Rust
     /// 1: the key is not 16 bytes.
     ErrorBlockSize,
-    /// 2: Cbc decryption of a length that does not divide by 16.
+    /// 2: Cbc decryption: the length is not a multiple of 16.
     ErrorDataLen,
     /// 3: Cbc decryption: the last decrypted byte is 0 or above 16.
     InvalidLastU8,
     /// 4: Gcm decryption: the 16 bytes at the end are not the tag.
     InvalidTag,
-    /// 5: a length limit is passed.
+    /// 5: a length is over its limit.
     TooLong,
     /// 6: the output buffer is shorter than the room needed.
     NoRoom,
@@ -47,7 +47,7 @@ pub enum Refusal {
     BadMode,
     /// 8: Cbc decryption of 0 bytes.
     EmptyCbc,
-    /// 9: Gcm decryption of fewer than 16 bytes; in pieces, a tag that has not 16.
+    /// 9: Gcm decryption of fewer than 16 bytes; in streaming, a tag that is not 16 bytes.
     ShortGcm {
         /// How many bytes are missing of 16; 0 for a tag of more than 16.
         missing: u8,
@@ -56,21 +56,21 @@ pub enum Refusal {
     WrongIv,
     /// 11: the single block is not 16 bytes.
     WrongBlock,
-    /// 12: the message in pieces has come to its end.
+    /// 12: streaming: the message has already ended.
     Ended,
     /// 13: the key's number is not from 1 to 65,535.
     WrongNumber,
     /// 14: encryption under a retired key.
     Retired,
-    /// 15: Cbc decryption: the last decrypted byte p is 1 to 16, and not all p last bytes are p.
+    /// 15: Cbc decryption: the last decrypted byte p is 1 to 16, but not all of the last p bytes are p.
     InvalidPadding,
     /// 16: more than 64 candidate labels, or lengths that do not add up to the labels' buffer.
     BadList,
-    /// 17: a plan for no workers, or for more than 64.
+    /// 17: a plan for 0 workers, or for more than 64.
     BadWorkers,
-    /// 18: work by a plan that is none for so many bytes.
+    /// 18: the plan is not accepted for so many bytes.
     NotAccepted,
-    /// 19: the buffer has more than 65,536 bytes, or its used bytes are no shelf.
+    /// 19: the buffer has more than 65,536 bytes, or its used bytes are not a shelf.
     BadShelf,
     /// 20: the shelf has that edition of the job already, or a higher one.
     NotHigher,
@@ -78,13 +78,13 @@ pub enum Refusal {
     NoShelfRoom,
     /// 22: the shelf has no current record of the job.
     NoCurrent,
-    /// 23: a recorded call is cut or not marked, or its direction is neither 0 nor 1.
+    /// 23: a recorded call is cut off or has no mark, or its direction is neither 0 nor 1.
     BadRecord,
     /// 24: a recorded label, data or IV has more than 16,384 bytes, or an output more than 16,400.
     PartTooLong,
-    /// 25: a recorded call has the number of no key.
+    /// 25: a recorded call names a key that was not given.
     UnknownKey,
-    /// 26: a replay with more than eight keys, with a retired one, or with a number twice.
+    /// 26: a replay with more than eight keys, with a retired key, or with two keys of one number.
     BadKeys,
     // numbers.txt: end
     /// A number that this package does not know, of an archive that is newer than it.
