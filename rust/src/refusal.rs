@@ -1,4 +1,4 @@
-//! What a call answers: done, or a refusal by its number.
+//! Answers: done, or a refusal.
 
 use crate::ffi;
 use core::fmt;
@@ -6,12 +6,15 @@ use core::mem::discriminant;
 #[cfg(feature = "std")]
 use std::io;
 
-/// Why a call was refused. Each has the number that `include/luossavin.h` gives it; nothing was written, and the
-/// state of a message in pieces is as it was.
+/// Why a call was refused. Nothing was written, and the state of a message in pieces is as it was. The numbers are
+/// those of `include/luossavin.h`.
 ///
-/// The first four are libsm's names. libsm has `ErrorBlockSize` for a wrong IV and a wrong block too; these have
-/// names of their own here. Some are of the library alone: [`CipherMode`](crate::sm4::cipher_mode::CipherMode) has no
-/// [`BadMode`](Refusal::BadMode), though a journal may, and a state that has [`Ended`](Refusal::Ended) is consumed.
+/// The first four are libsm's names. libsm uses `ErrorBlockSize` for a wrong IV and a wrong block too; here these have
+/// their own names. Two never come from this package's own calls: [`BadMode`](Refusal::BadMode), which a journal may
+/// contain, and [`Ended`](Refusal::Ended), since an end consumes the state.
+///
+/// Padding oracle: never show [`InvalidLastU8`](Refusal::InvalidLastU8) or [`InvalidPadding`](Refusal::InvalidPadding)
+/// of Cbc to untrusted callers.
 ///
 /// ```
 /// use luossavin::sm4::cipher_mode::{CipherMode, Sm4CipherMode};
@@ -87,14 +90,14 @@ pub enum Refusal {
     /// 26: a replay with more than eight keys, with a retired key, or with two keys of one number.
     BadKeys,
     // numbers.txt: end
-    /// A number that this package does not know, of an archive that is newer than it.
+    /// A number that this package does not know, from a newer library.
     Unknown(u32),
 }
 
 use Refusal::*;
 
-/// The refusals by their numbers from 1 on: name, sentence, and what to do next where that helps. `Display` and the tool
-/// take their words from here; the tool puts what it knows of a file in the place of a sentence's general words.
+/// The refusals by their numbers from 1 on: name, sentence, and what to do next where that helps. `Display` and the
+/// tool take their words from here; the tool puts what it knows of a file in the place of a sentence's general words.
 #[rustfmt::skip]
 const BY_NUMBER: [(Refusal, &str, &str, &str); 26] = [
     // numbers.txt: texts of Rust
@@ -128,7 +131,7 @@ const BY_NUMBER: [(Refusal, &str, &str, &str); 26] = [
 ];
 
 impl Refusal {
-    /// The number of the refusal, as the header has it and the tool ends with.
+    /// The number of the refusal, as in the header. It is also the exit status of the tool.
     #[must_use]
     pub fn number(self) -> u32 {
         match self {
@@ -137,7 +140,7 @@ impl Refusal {
         }
     }
 
-    /// The name of the refusal, as the header has it.
+    /// The name of the refusal, as in the header.
     ///
     /// ```
     /// assert_eq!(luossavin::Refusal::NoShelfRoom.name(), "NoShelfRoom");
@@ -147,20 +150,19 @@ impl Refusal {
         self.row().map_or("Unknown", |row| row.1)
     }
 
-    /// What the refusal says, in one sentence, of a message in general.
+    /// What the refusal means, in one sentence.
     #[must_use]
     pub fn sentence(self) -> &'static str {
         self.row().map_or("a refusal that this package does not know", |row| row.2)
     }
 
-    /// What to do next, where there is something that helps.
+    /// What to do next, if something helps.
     #[must_use]
     pub fn next(self) -> Option<&'static str> {
         self.row().map(|row| row.3).filter(|next| !next.is_empty())
     }
 
-    /// The refusal with a number, as a journal has it: none for 0, which is no refusal, and for a number that is not
-    /// known.
+    /// The refusal with this number, as in a journal. `None` for 0, which is no refusal, and for an unknown number.
     #[must_use]
     pub fn with_number(number: u32) -> Option<Refusal> {
         match Refusal::of(number, 0) {
@@ -169,7 +171,7 @@ impl Refusal {
         }
     }
 
-    /// How many bytes were missing, of [`Refusal::ShortGcm`]; of every other refusal 0.
+    /// How many bytes were missing, for [`Refusal::ShortGcm`]; 0 for every other refusal.
     #[must_use]
     pub fn missing(self) -> u8 {
         match self {
@@ -178,7 +180,7 @@ impl Refusal {
         }
     }
 
-    /// The refusal that an error of [`std::io`] is about, where it is about one.
+    /// The refusal inside an error of [`std::io`], if there is one.
     ///
     /// ```
     /// use luossavin::Refusal;
@@ -252,7 +254,7 @@ impl From<Refusal> for io::Error {
     }
 }
 
-/// What is said of a call that was done.
+/// The answer of a call that was done.
 #[derive(Clone, Copy, Debug, PartialEq, Eq)]
 #[non_exhaustive]
 pub struct Done {
@@ -260,8 +262,8 @@ pub struct Done {
     pub length: usize,
     /// The number of the key.
     pub key: u16,
-    /// Whether a counter came round within the message. The work is right all the same; whoever encrypted takes
-    /// another IV for the next message, and not one that is counted on from this one's.
+    /// Whether the counter of a Ctr or Gcm message wrapped from all ones to zero. The output is right all the same. If
+    /// you encrypt, take an unrelated IV for the next message, not one counted on from this one.
     pub came_round: bool,
 }
 
