@@ -134,7 +134,7 @@ enum luossavin_size {
  * alone:
  *
  *   number      0 when the call is done; otherwise the refusal: the first that applies, in the order below
- *   missing     in refusal 9: how many bytes are missing to 16 (0 for a tag of more than 16 bytes); otherwise 0
+ *   missing     in refusal 9: how many of 16 bytes are missing (0 for a tag of more than 16 bytes); otherwise 0
  *   came_round  1 if the counter of a Ctr or Gcm message wrapped from all ones to zero (see below); otherwise 0
  *   key         the key's number, also in a refusal; 0 where there is no key: in refusals 1, 7, 13 and 16, for a plan
  *               and for a record
