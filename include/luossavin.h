@@ -51,7 +51,7 @@ extern "C" {
  *
  * The version of this header. luossavin_version() returns the version of the library. */
 /* numbers.txt: version */
-#define LUOSSAVIN_VERSION "1.2.0"
+#define LUOSSAVIN_VERSION "1.3.0"
 /* numbers.txt: end */
 
 /* The values of `number` in an answer. A later version may have more, up to 31: treat an unknown number as a refusal. */
