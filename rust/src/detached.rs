@@ -1,4 +1,4 @@
-//! Gcm with the tag apart from the ciphertext, and sealing in place.
+//! Gcm with a detached tag, and sealing in place.
 //!
 //! ```
 //! use luossavin::detached::{open, opens, seal_in_place};
@@ -13,30 +13,30 @@
 //! # Ok::<(), Refusal>(())
 //! ```
 //!
-//! No call of the library writes over its own input: that an output overlaps no input is what the proofs stand on. So sealing in
-//! place goes by [`Seal::piece_in_place`](crate::pieces::Seal::piece_in_place), through a small buffer. Opening in place is not
-//! there: what opens settles the tag over all of the ciphertext before it writes a byte, and writes to an output of its own.
+//! Sealing in place works through a small buffer ([`Seal::piece_in_place`](crate::pieces::Seal::piece_in_place)): in
+//! the proofs no output overlaps an input. There is no opening in place: an opening verifies the tag over the whole
+//! ciphertext first, and writes to an output of its own.
 
 use crate::pieces::{Opens, Seal};
 use crate::sm4::cipher_mode::{decrypted, CipherMode};
 use crate::{Key, Refusal, LONGEST_TEXT};
 use alloc::vec::Vec;
 
-/// Seals a text in its place, and gives the tag. In a refusal the text is as it was.
+/// Seals a text in place, and returns the tag. A refusal leaves the text as it was.
 pub fn seal_in_place(key: &Key, label: &[u8], iv: &[u8], text: &mut [u8]) -> Result<[u8; 16], Refusal> {
     let mut seal = Seal::start(key, label, iv)?;
     seal.piece_in_place(text)?;
     Ok(seal.end()?.0)
 }
 
-/// Whether a ciphertext opens with a tag. Nothing is copied, and no text is made.
+/// Does a ciphertext open with this tag? Nothing is copied, and no text is made.
 pub fn opens(key: &Key, label: &[u8], iv: &[u8], ciphertext: &[u8], tag: &[u8]) -> Result<bool, Refusal> {
     let mut question = Opens::start(key, label, iv)?;
     question.piece(ciphertext)?;
     question.end(tag)
 }
 
-/// Opens a ciphertext with its tag of 16 bytes. The two are joined in a buffer for this: the call that opens takes them so.
+/// Opens a ciphertext with its tag of 16 bytes. It copies both into one buffer: the library's call takes them so.
 pub fn open(key: &Key, label: &[u8], iv: &[u8], ciphertext: &[u8], tag: &[u8]) -> Result<Vec<u8>, Refusal> {
     // what is too long is refused at any length over the limit: no more than that is copied
     let lent = &ciphertext[..ciphertext.len().min(LONGEST_TEXT + 1)];

@@ -17,8 +17,8 @@ pub fn label(job: u32, edition: u16) -> [u8; 6] {
     ffi::label(job, edition)
 }
 
-/// The number of an edition: 1 for a rough, and 2 for the final that supersedes it, for instance. It is a type of its own, so
-/// that a job and an edition do not change places.
+/// The number of an edition, for example 1 for a rough and 2 for the final that supersedes it. It is a type of its own,
+/// so that job and edition cannot be swapped by mistake.
 ///
 /// ```
 /// use luossavin::Edition;
@@ -65,12 +65,12 @@ impl fmt::Display for Edition {
 /// # Ok::<(), Refusal>(())
 /// ```
 impl Key {
-    /// Does this file open under this edition? It is `true` where [`open`](Key::open) opens it, and `false` where that is
-    /// refused with [`InvalidTag`](Refusal::InvalidTag); every other refusal of it is one here. No text is made, and the file
-    /// is read once. The key may be retired.
+    /// Does this file open under this edition? Returns `true` if [`open`](Key::open) would open it, and `false` if that
+    /// would be refused with [`InvalidTag`](Refusal::InvalidTag). Any other refusal is returned as an error. No text is
+    /// made, and the file is read once. The key may be retired.
     ///
-    /// A file that opens under one edition opens under no other: that is proved, for every key that does not encrypt the
-    /// all-zero block to itself.
+    /// A file that opens under one edition opens under no other. That is proved for every key that does not encrypt the
+    /// all-zero block to zero.
     pub fn opens(&self, job: u32, edition: Edition, sealed: &[u8], iv: &[u8]) -> Result<bool, Refusal> {
         match ffi::edition_opens(self.record(), job, edition.0, sealed, iv).result() {
             Ok(_) => Ok(true),
@@ -79,14 +79,14 @@ impl Key {
         }
     }
 
-    /// Seals a text under an edition, with an IV of 12 or 16 bytes that no other text under this key has. The tag of 16 bytes
-    /// is at the end.
+    /// Seals a text under an edition. The IV (nonce) has 12 or 16 bytes; never use it for another text under this key.
+    /// The last 16 bytes of the result are the tag.
     pub fn seal(&self, job: u32, edition: Edition, text: &[u8], iv: &[u8]) -> Result<Vec<u8>, Refusal> {
         let room = CipherMode::Gcm.room_to_encrypt(text.len());
         self.under(Direction::Encrypt, job, edition, text, iv, room)
     }
 
-    /// Opens a file that was sealed under this edition and IV. There is no text before its tag is found to be right.
+    /// Opens a file that was sealed under this edition and IV. You get a text only if the tag is right.
     pub fn open(&self, job: u32, edition: Edition, sealed: &[u8], iv: &[u8]) -> Result<Vec<u8>, Refusal> {
         let room = CipherMode::Gcm.room_to_decrypt(sealed.len());
         self.under(Direction::Decrypt, job, edition, sealed, iv, room)
@@ -103,8 +103,8 @@ impl Key {
     }
 }
 
-/// Which of up to 64 labels a sealed message opens under: the place of the first, counted from 0, or none. The key
-/// may be retired.
+/// Which of up to 64 labels does a sealed message open under? Returns the index of the first, or `None`. The key may be
+/// retired.
 ///
 /// ```
 /// use luossavin::editions::{label, which};
@@ -120,8 +120,8 @@ impl Key {
 /// # Ok::<(), luossavin::Refusal>(())
 /// ```
 ///
-/// It is refused with [`BadList`](Refusal::BadList) for more than 64 labels, and otherwise as decryption is, but for
-/// its tag: where none is right, it is none.
+/// Refused with [`BadList`](Refusal::BadList) for more than 64 labels, and otherwise like decryption, but never with
+/// [`InvalidTag`](Refusal::InvalidTag): then the answer is `None`.
 pub fn which<L: AsRef<[u8]>>(key: &Key, sealed: &[u8], iv: &[u8], labels: &[L]) -> Result<Option<usize>, Refusal> {
     // more than 64 are refused whatever they are, and so is a label at any length over the limit: no more than that
     // is copied

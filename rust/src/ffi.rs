@@ -1,10 +1,10 @@
-//! The boundary: the records and calls of `include/luossavin.h`. It alone has `unsafe` in it.
+//! The boundary: the records and calls of `include/luossavin.h`. Only this module has `unsafe` in it.
 //!
-//! Each call stands here twice: as the header declares it, and as a safe function over slices. What the header leaves
-//! to a host, slices and borrows see to: a slice's pointer leads to as many bytes as its length says, an output is
-//! borrowed alone and so overlaps no input, and nobody writes to an input while it is lent. An empty slice has a
-//! pointer that leads nowhere, with length 0. Records go by value, and there is an answer for every value of every
-//! field. The library keeps nothing, and every call returns.
+//! Each call is here twice: as the header declares it, and as a safe function over slices. Slices and borrows fulfil
+//! the duties that the header leaves to the caller: a slice points to as many bytes as its length says, an output is
+//! borrowed exclusively and so overlaps no input, and nobody writes to an input meanwhile. An empty slice has a
+//! dangling pointer, with length 0. Records go by value, and every value of every field has an answer. The library has
+//! no state, and every call returns.
 
 use crate::sm4::cipher_mode::CipherMode;
 use crate::Direction;

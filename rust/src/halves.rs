@@ -1,6 +1,6 @@
-//! Hash the halves and join them: Gcm's hash of a whole, made of the hashes of its halves.
+//! GHASH of a message from the hashes of its halves.
 //!
-//! Two servers each hold half of a ciphertext. Each hashes its own, and what they tell each other is two [`Half`]s:
+//! Two servers each hold half of a ciphertext. Each hashes its own half, and they exchange two [`Half`]s:
 //!
 //! ```
 //! use luossavin::halves::HashKey;
@@ -33,12 +33,11 @@ use crate::sm4::cipher_mode::CipherMode;
 use crate::{Direction, Key, Refusal};
 use core::fmt;
 
-/// The key of the hash, H: what a key encrypts sixteen zero bytes to. It is as secret as the key: with it tags are
-/// forged.
+/// The hash key H: the encryption of sixteen zero bytes. It is as secret as the key: with it tags can be forged.
 pub struct HashKey(Secret<ffi::Hash>);
 
 impl HashKey {
-    /// The H of a key. A retired key encrypts nothing, and is refused with [`Retired`](Refusal::Retired).
+    /// The H of a key. Refused with [`Retired`](Refusal::Retired) for a retired key, which cannot encrypt.
     pub fn of(key: &Key) -> Result<HashKey, Refusal> {
         let mut block = [0; 16];
         // zeros in Ctr, and not a single block: that looks nothing up by the key where the library chooses the engine
@@ -50,25 +49,24 @@ impl HashKey {
         Ok(HashKey(h))
     }
 
-    /// The hash of bytes, in blocks of 16 with zeros to the last one's end.
+    /// The hash of bytes, in blocks of 16; the last block is filled up with zeros.
     #[must_use]
     pub fn half(&self, bytes: &[u8]) -> Half {
         let blocks = (bytes.len() / 16 + usize::from(bytes.len() % 16 != 0)) as u64;
         Half { hash: ffi::hash_blocks(&self.0, bytes), blocks }
     }
 
-    /// The hash of the block with which a message ends: the lengths of label and ciphertext, in bits.
+    /// The hash of the length block at the end of a message. Pass the lengths of label and ciphertext in bytes.
     #[must_use]
     pub fn lengths(&self, label: usize, text: usize) -> Half {
         let bits = |n: usize| (n as u64).wrapping_mul(8).to_be_bytes();
         self.half(&[bits(label), bits(text)].concat())
     }
 
-    /// Two hashes joined: that of the first's blocks with the second's behind them. It is refused with
-    /// [`TooLong`](Refusal::TooLong) where both have 2^64 blocks or more.
+    /// Joins two hashes: the result is the hash of the blocks of the first and then those of the second. Refused with
+    /// [`TooLong`](Refusal::TooLong) if both have 2^64 blocks or more together.
     ///
-    /// Bytes that end inside a block were filled up with zeros, so that only a half of whole blocks can be the first
-    /// of a text that was cut.
+    /// The first half of a text must be whole blocks, a multiple of 16 bytes: a shorter block was filled up with zeros.
     pub fn join(&self, first: &Half, second: &Half) -> Result<Half, Refusal> {
         let blocks = first.blocks.checked_add(second.blocks).ok_or(Refusal::TooLong)?;
         Ok(Half { hash: ffi::hash_join(&self.0, &first.hash, &second.hash, second.blocks), blocks })
@@ -81,21 +79,20 @@ impl fmt::Debug for HashKey {
     }
 }
 
-/// A hash, with how many blocks it is of, so that no host has to count. Whoever has the bytes too can work out H from
-/// it: it is as secret as the key.
+/// A hash, and how many blocks it is of. It is as secret as the key: who also has the bytes can compute H from it.
 pub struct Half {
     hash: Secret<ffi::Hash>,
     blocks: u64,
 }
 
 impl Half {
-    /// The hash that another host has told, of so many blocks.
+    /// The hash that another host has sent, of so many blocks.
     #[must_use]
     pub fn from_parts(bytes: [u8; 16], blocks: u64) -> Half {
         Half { hash: hash_of(bytes), blocks }
     }
 
-    /// The sixteen bytes of the hash, to be told to another host.
+    /// The sixteen bytes of the hash, to send to another host.
     #[must_use]
     pub fn to_bytes(&self) -> [u8; 16] {
         (u128::from(self.hash.high) << 64 | u128::from(self.hash.low)).to_be_bytes()

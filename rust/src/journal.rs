@@ -1,4 +1,4 @@
-//! A journal: recorded calls, which are made again and added up.
+//! A journal: recorded calls, to be replayed and added up.
 //!
 //! ```
 //! use luossavin::journal::{replay, Call};
@@ -18,7 +18,7 @@
 //! # Ok::<(), Refusal>(())
 //! ```
 //!
-//! A journal has the texts of its calls in it, and is as secret as these. It is not sealed: who can write to it can
+//! A journal contains the texts of its calls: keep it as secret as they are. It is not sealed: who can write to it can
 //! make a record agree.
 
 use crate::ffi::{self, Secret};
@@ -40,7 +40,7 @@ pub struct Call<'a> {
 }
 
 impl<'a> Call<'a> {
-    /// The call of encryption or decryption under `cipher` into an output of `room` bytes.
+    /// A call of `cipher`, with an output buffer of `room` bytes.
     #[must_use]
     pub fn of(
         cipher: &Sm4CipherMode, direction: Direction, aad: &'a [u8], data: &'a [u8], iv: &'a [u8], room: usize,
@@ -48,9 +48,8 @@ impl<'a> Call<'a> {
         Call { direction, mode: cipher.mode(), key: cipher.key().number(), parts: [aad, data, iv], room }
     }
 
-    /// Puts the record of the call and its answer at the end of a journal. It is refused with
-    /// [`PartTooLong`](Refusal::PartTooLong) where label, data, IV or output is longer than can be recorded, and the
-    /// journal is as it was then.
+    /// Appends the record of the call and its answer to a journal. Refused with [`PartTooLong`](Refusal::PartTooLong)
+    /// if label, data, IV or output is too long to be recorded; the journal is then as it was.
     pub fn record(&self, answer: Result<&[u8], Refusal>, journal: &mut Vec<u8>) -> Result<(), Refusal> {
         let (number, output) = match answer {
             Ok(output) => (0, output),
@@ -78,10 +77,10 @@ impl fmt::Debug for Call<'_> {
     }
 }
 
-/// Makes the calls of a journal again, each on the key with its number, of up to eight. A key that was retired since
-/// is given as it was before.
+/// Replays a journal: makes each call again, on the key with its number. Pass up to eight keys; pass a key that was
+/// retired since as it was before.
 ///
-/// A record that cannot be made again stops the replay; what was before it is in the error.
+/// A record that cannot be replayed stops the replay. The error then has the report of the records before it.
 pub fn replay(keys: &[&Key], journal: &[u8]) -> Result<Report, Stopped> {
     let none = ffi::Key { round_keys: [0; 32], answer: 0, number: 0, retired: 0, engine: 0 };
     // a count above eight is refused, so that the keys behind it are not missed
@@ -98,21 +97,21 @@ pub fn replay(keys: &[&Key], journal: &[u8]) -> Result<Report, Stopped> {
     }
 }
 
-/// What a replay adds up, all of it of the calls as they answer now.
+/// The totals of a replay. They count the answers of now.
 #[derive(Clone, Debug, PartialEq, Eq)]
 #[non_exhaustive]
 pub struct Report {
     /// How many records there are.
     pub records: u64,
-    /// How many in each mode, Cfb to Gcm, and at place 5 those of no known mode.
+    /// How many in each mode, Cfb to Gcm; at index 5 those of an unknown mode.
     pub by_mode: [u64; 6],
     /// How many with each number.
     pub by_answer: [u64; 32],
-    /// The bytes of their data, of refused calls too.
+    /// The bytes of their data, refused calls included.
     pub bytes_in: u64,
-    /// The lengths that they answer.
+    /// The bytes of their outputs.
     pub bytes_out: u64,
-    /// The first record whose number, length or output is another now than was recorded.
+    /// The first record whose number, length or output now differs from what was recorded.
     pub first_difference: Option<Difference>,
 }
 
@@ -130,10 +129,10 @@ impl Report {
     }
 }
 
-/// A record that is answered otherwise than it was.
+/// A record whose answer differs.
 #[derive(Clone, Copy, Debug, PartialEq, Eq)]
 pub struct Difference {
-    /// Which record it is, counted from 0.
+    /// The index of the record, from 0.
     pub record: u64,
     /// Where its first byte stands in the journal.
     pub place: usize,

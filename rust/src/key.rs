@@ -4,10 +4,9 @@ use crate::ffi::{self, Secret};
 use crate::Refusal;
 use core::fmt;
 
-/// A key that was set up, with a number of its own.
+/// A key, set up, with its number.
 ///
-/// A key that another has taken the place of is retired: it opens and decrypts as before, and encryption under it is
-/// refused.
+/// Retire a key when a new one replaces it: it can still open and decrypt, and encryption under it is refused.
 ///
 /// ```
 /// use luossavin::sm4::cipher_mode::{CipherMode, Sm4CipherMode};
@@ -23,28 +22,27 @@ use core::fmt;
 /// # Ok::<(), Refusal>(())
 /// ```
 ///
-/// There is no `Clone`, since a copy that was made before a key is retired would still encrypt: share a key by
-/// reference, in an [`Arc`](alloc::sync::Arc), or in a `Keyring`, in which one can be retired while others use it. What no type can see is the host's to keep: which numbers are
-/// retired, since a key that is set up anew from its bytes is not, and that no two keys have one number.
+/// Share a key by reference, in an [`Arc`](alloc::sync::Arc), or in a `Keyring`, where it can be retired while other
+/// threads use it. There is no `Clone`: a copy made before the key is retired would still encrypt. Two things are up to
+/// you: keep track of which numbers are retired, since a key that is set up again from its bytes is not; and give no
+/// two keys one number.
 ///
-/// # What becomes of its bytes
+/// # Wiping
 ///
-/// `Debug` shows number, mark and engine, and nothing else. The record is on the heap, so that moving a key copies
-/// nothing, and is overwritten there when the key is dropped, by writes that the compiler may not leave out. That
-/// does not cover
+/// A key is on the heap, so moving it copies nothing, and it is overwritten when it is dropped. `Debug` shows no
+/// secret. This does not cover:
 ///
-/// - the copies on the stack: a call takes the record by value, and the compiler may make others. [`wipe_stack`](crate::wipe_stack)
-///   overwrites them;
-/// - the bytes that [`Key::new`] was given, which are the caller's to [`wipe`](crate::wipe);
-/// - a key that is never dropped, as by [`core::mem::forget`], in a `static`, or where the process is killed.
+/// - Copies on the stack: a call takes the record by value. [`wipe_stack`](crate::wipe_stack) overwrites them.
+/// - The bytes that you passed to [`Key::new`]. Use [`wipe`](crate::wipe).
+/// - A key that is never dropped: [`core::mem::forget`], a `static`, a killed process.
 ///
-/// All of it holds for the states of messages in pieces, for a [`HashKey`](crate::halves::HashKey) and for a
-/// [`Half`](crate::halves::Half) as well.
+/// The same holds for the states of [`pieces`](crate::pieces), for a [`HashKey`](crate::halves::HashKey) and for a
+/// [`Half`](crate::halves::Half).
 pub struct Key(Secret<ffi::Key>);
 
 impl Key {
-    /// Sets up a key of 16 bytes under a number from 1 to 65,535, not retired, with the engine that the library chooses. It is
-    /// refused with [`ErrorBlockSize`](Refusal::ErrorBlockSize) or [`WrongNumber`](Refusal::WrongNumber).
+    /// Sets up a key of 16 bytes under a number from 1 to 65,535. It is not retired, and has the default engine.
+    /// Refused with [`ErrorBlockSize`](Refusal::ErrorBlockSize) or [`WrongNumber`](Refusal::WrongNumber).
     ///
     /// ```
     /// use luossavin::{Key, Refusal};
@@ -62,21 +60,21 @@ impl Key {
         }
     }
 
-    /// The key retired. The one that was not is gone.
+    /// Retires the key.
     #[must_use = "the key that was not retired is gone"]
     pub fn retire(mut self) -> Key {
         ffi::key_retire(&mut self.0);
         self
     }
 
-    /// Another record of the key, retired.
+    /// A second record of the key, retired.
     #[cfg(feature = "std")]
     pub(crate) fn retired(&self) -> Key {
         let mut record = *self.record();
         Key(Secret::take(&mut record)).retire()
     }
 
-    /// The key with another engine. No answer and no byte depends on it.
+    /// Sets another engine. No answer and no output byte depends on it.
     ///
     /// ```
     /// use luossavin::{Engine, Key};
@@ -91,7 +89,7 @@ impl Key {
         self
     }
 
-    /// The key's number, by which answers and journals name it.
+    /// The key's number: answers and journals name the key by it.
     #[must_use]
     pub fn number(&self) -> u16 {
         self.0.number
@@ -103,7 +101,7 @@ impl Key {
         self.0.retired != 0
     }
 
-    /// The engine that the key has.
+    /// The engine of the key.
     #[must_use]
     pub fn engine(&self) -> Engine {
         match self.0.engine {
@@ -130,25 +128,27 @@ impl fmt::Debug for Key {
     }
 }
 
-/// How the rounds of SM4 are made, and nothing else: `docs/SPEED.md` has what each takes. Tables are read at places that
-/// depend on the key and the text, and so are not for a machine on which others may watch the caches. The gates are
-/// written so that they are not, which is looked at in the compiled library (`host/secrets`) and proved by nothing.
+/// How the rounds of SM4 are computed. No answer depends on it; `docs/SPEED.md` has figures.
+///
+/// Use [`Gates`](Engine::Gates) if untrusted code shares your processor. Tables are read at addresses that depend on
+/// key and text, and can leak through the cache (a side channel). The gates are written to be constant-time; that is
+/// tested on the compiled library (`host/secrets`), not proved.
 #[derive(Clone, Copy, Debug, PartialEq, Eq, Hash)]
 #[non_exhaustive]
 pub enum Engine {
     // numbers.txt: engines of Rust
-    /// The library chooses: gates where blocks do not wait for one another, four tables elsewhere.
+    /// The library chooses: gates where blocks do not depend on one another, otherwise four tables.
     Chosen = 0,
-    /// Four tables of 1 KiB, which are looked up by key and text.
+    /// Four tables of 1 KiB, looked up by key and text (a cache side channel).
     Tables = 1,
-    /// Gates alone: no look-up and no branch by key or text.
+    /// Gates: bitsliced, with no look-up and no branch by key or text (constant-time).
     Gates = 2,
-    /// One table of 1 KiB, which is looked up by key and text.
+    /// One table of 1 KiB, looked up by key and text (a cache side channel).
     Plain = 3,
     // numbers.txt: end
 }
 
-/// Which way a call goes, where encryption and decryption are one call. A retired key decrypts alone.
+/// The direction, for calls that do both. A retired key can only decrypt.
 #[derive(Clone, Copy, Debug, PartialEq, Eq, Hash)]
 pub enum Direction {
     /// From text to ciphertext.

@@ -1,12 +1,12 @@
-//! The keys of a server, by their numbers: every one of them opens, the current one seals, and any thread may retire one
-//! while others work.
+//! The keys of a server, by their numbers. Every key opens, the current one seals, and any thread may retire one while
+//! others work.
 
 use crate::{Edition, Key, Refusal};
 use std::collections::BTreeMap;
 use std::fmt;
 use std::sync::{Arc, RwLock, RwLockReadGuard, RwLockWriteGuard};
 
-/// Keys by their numbers, of which one may be current. It is shared by reference, or in an [`Arc`].
+/// Keys by their numbers; one of them may be current. Share a keyring by reference, or in an [`Arc`].
 ///
 /// ```
 /// use luossavin::keyring::Keyring;
@@ -24,9 +24,9 @@ use std::sync::{Arc, RwLock, RwLockReadGuard, RwLockWriteGuard};
 /// # Ok::<(), Refusal>(())
 /// ```
 ///
-/// A call that begins after [`retire`](Keyring::retire) has come back finds the key retired, in every thread. One that was
-/// begun before goes on to its end, and so does a message in pieces. Keys are not handed out, so that no copy is left that
-/// was not retired: [`with`](Keyring::with) and [`with_current`](Keyring::with_current) lend one to whatever takes a key.
+/// Once [`retire`](Keyring::retire) has returned, every call that begins finds the key retired, in every thread. A call
+/// or a stream that began before is finished. A keyring only lends its keys ([`with`](Keyring::with),
+/// [`with_current`](Keyring::with_current)), so no copy is left that is not retired.
 #[derive(Default)]
 pub struct Keyring(RwLock<Keys>);
 
@@ -43,7 +43,7 @@ impl Keyring {
         Keyring::default()
     }
 
-    /// Adds a key that opens. It is refused with [`BadKeys`](Refusal::BadKeys) where its number is taken.
+    /// Adds a key that opens. Refused with [`BadKeys`](Refusal::BadKeys) if its number is taken.
     pub fn add(&self, key: Key) -> Result<(), Refusal> {
         let mut keys = self.change();
         if keys.by_number.contains_key(&key.number()) {
@@ -53,8 +53,8 @@ impl Keyring {
         Ok(())
     }
 
-    /// Adds a key, which is then the current one. The one that was current before still opens, and is to be retired.
-    /// It is refused with [`BadKeys`](Refusal::BadKeys) where its number is taken, and with [`Retired`](Refusal::Retired).
+    /// Adds a key, and makes it the current one. The one before still opens; retire it. Refused with
+    /// [`BadKeys`](Refusal::BadKeys) if its number is taken, and with [`Retired`](Refusal::Retired).
     pub fn add_current(&self, key: Key) -> Result<(), Refusal> {
         let number = key.number();
         if key.is_retired() {
@@ -69,8 +69,8 @@ impl Keyring {
         Ok(())
     }
 
-    /// Retires a key: from now on it opens alone. Where it is the current one, sealing is refused with
-    /// [`Retired`](Refusal::Retired) until another is current. It is refused with [`UnknownKey`](Refusal::UnknownKey).
+    /// Retires a key: from now on it can open but not seal. If it is the current one, sealing is refused with
+    /// [`Retired`](Refusal::Retired) until another is current. Refused with [`UnknownKey`](Refusal::UnknownKey).
     pub fn retire(&self, number: u16) -> Result<(), Refusal> {
         let mut keys = self.change();
         let key = keys.by_number.get_mut(&number).ok_or(Refusal::UnknownKey)?;
@@ -78,7 +78,7 @@ impl Keyring {
         Ok(())
     }
 
-    /// Takes a key away: its files no longer open. It is overwritten once the calls that it is lent to have ended.
+    /// Removes a key: its files no longer open. It is overwritten when the calls that use it have ended.
     pub fn remove(&self, number: u16) -> Result<(), Refusal> {
         let mut keys = self.change();
         keys.by_number.remove(&number).ok_or(Refusal::UnknownKey)?;
@@ -88,7 +88,7 @@ impl Keyring {
         Ok(())
     }
 
-    /// The numbers of the keys, in their order, each with whether it is retired.
+    /// The numbers of the keys, in ascending order, each with whether it is retired.
     #[must_use]
     pub fn numbers(&self) -> Vec<(u16, bool)> {
         self.keys().by_number.iter().map(|(number, key)| (*number, key.is_retired())).collect()
@@ -100,13 +100,13 @@ impl Keyring {
         self.keys().current
     }
 
-    /// Lends the key with a number. It is refused with [`UnknownKey`](Refusal::UnknownKey).
+    /// Lends the key with this number. Refused with [`UnknownKey`](Refusal::UnknownKey).
     pub fn with<T>(&self, number: u16, work: impl FnOnce(&Key) -> T) -> Result<T, Refusal> {
         Ok(work(&*self.key(number)?))
     }
 
-    /// Lends the current key, to start a [`SealWriter`](crate::streams::SealWriter) for instance. It is refused with
-    /// [`UnknownKey`](Refusal::UnknownKey) where none is current.
+    /// Lends the current key, for example to start a [`SealWriter`](crate::streams::SealWriter). Refused with
+    /// [`UnknownKey`](Refusal::UnknownKey) if none is current.
     pub fn with_current<T>(&self, work: impl FnOnce(&Key) -> T) -> Result<T, Refusal> {
         let key = {
             let keys = self.keys();
@@ -115,23 +115,24 @@ impl Keyring {
         Ok(work(&key))
     }
 
-    /// Seals a text under an edition with the current key, and says which that is: the number is to be kept beside the sealed bytes.
+    /// Seals a text under an edition with the current key. Keep the number that is returned with the sealed bytes: it
+    /// names the key.
     pub fn seal(&self, job: u32, edition: Edition, text: &[u8], iv: &[u8]) -> Result<(u16, Vec<u8>), Refusal> {
         self.with_current(|key| Ok((key.number(), key.seal(job, edition, text, iv)?)))?
     }
 
-    /// Opens a sealed message with the key that it was sealed under, retired or not.
+    /// Opens a sealed message with the key of this number, retired or not.
     pub fn open(&self, number: u16, job: u32, edition: Edition, sealed: &[u8], iv: &[u8]) -> Result<Vec<u8>, Refusal> {
         self.with(number, |key| key.open(job, edition, sealed, iv))?
     }
 
-    /// Whether a sealed message opens under an edition, with the key that it was sealed under, retired or not.
+    /// Does a sealed message open under this edition, with the key of this number? The key may be retired.
     pub fn opens(&self, number: u16, job: u32, edition: Edition, sealed: &[u8], iv: &[u8]) -> Result<bool, Refusal> {
         self.with(number, |key| key.opens(job, edition, sealed, iv))?
     }
 
-    /// Which of the keys opens a sealed message, where its number was not kept: each is asked, in the order of their
-    /// numbers, the current one first. No text is made.
+    /// Which of the keys opens a sealed message? For messages whose key number was not kept. It tries the current key
+    /// first, then the others in the order of their numbers. No text is made.
     pub fn which(&self, job: u32, edition: Edition, sealed: &[u8], iv: &[u8]) -> Result<Option<u16>, Refusal> {
         let keys: Vec<Arc<Key>> = {
             let keys = self.keys();

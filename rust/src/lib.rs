@@ -1,6 +1,6 @@
-//! SM4 (GB/T 32907-2016) with Cfb, Ofb, Ctr, Cbc and Gcm, by libsm's names, over the proved library of Luossavin.
+//! SM4 (GB/T 32907-2016) in Cfb, Ofb, Ctr, Cbc and Gcm, with libsm's names, over the proved library of Luossavin.
 //!
-//! Does this file open under this edition?
+//! Seal a transcript under its job and edition, and ask before you show it: does this file open under this edition?
 //!
 //! ```
 //! use luossavin::{Edition, Key};
@@ -12,8 +12,8 @@
 //! # Ok::<(), luossavin::Refusal>(())
 //! ```
 //!
-//! A server that seals with libsm goes over by changing an import. A message has at most 16 MiB here, and a `match` on the
-//! errors that names libsm's four needs a fifth arm.
+//! If your server uses libsm, change the import. Two things differ: a message has at most 16 MiB, and a `match` on
+//! libsm's four errors needs a fifth arm, `_ =>`.
 //!
 //! ```
 //! // before: use libsm::sm4::cipher_mode::{CipherMode, Sm4CipherMode};
@@ -27,23 +27,23 @@
 //!
 //! | | |
 //! |---|---|
-//! | [`sm4`] | libsm's names and shapes, and messages into a buffer that is lent |
-//! | [`Key`], [`Engine`] | keys with numbers, retired or not, and how their rounds are made |
-//! | `keyring` | the keys of a server, by their numbers, which any thread may retire |
-//! | `streams` | sealing through `Write`, asking whether a `Read` opens, opening to a `Write` |
-//! | [`pieces`] | messages in pieces, cut anywhere |
-//! | [`detached`] | tags apart from the ciphertext, and sealing in place |
+//! | [`sm4`] | libsm's names and signatures, and messages into your own buffer |
+//! | [`Key`], [`Engine`] | keys with numbers; retiring a key; how the rounds are computed (tables, or constant-time gates) |
+//! | `keyring` | the keys of a server, by number; any thread may retire one |
+//! | `streams` | streaming with `Write` and `Read`: seal, ask, open |
+//! | [`pieces`] | streaming without `std::io`: messages in pieces, cut anywhere |
+//! | [`detached`] | the tag apart from the ciphertext, and sealing in place |
 //! | [`editions`] | [`Edition`], with [`Key::opens`], [`Key::seal`] and [`Key::open`]; which of up to 64 labels a file opens under |
 //! | [`ranges`] | one Ctr message among several workers |
-//! | [`shelf`] | sealed files in one buffer, of which the newest edition of each job is current |
-//! | [`reference`](mod@reference) | an IV and a tag, which stand on a shelf for a sealed file in a store |
-//! | [`journal`] | recorded calls, made again and added up |
-//! | [`halves`] | hashes of halves of a message, joined to the whole's |
+//! | [`shelf`] | sealed files in one buffer; the newest edition of each job is current |
+//! | [`reference`](mod@reference) | an IV and a tag, kept on a shelf for a sealed file that is stored elsewhere |
+//! | [`journal`] | recorded calls, to be replayed and added up |
+//! | [`halves`] | GHASH of halves of a message, joined |
 //!
-//! What the library promises is proved, and `include/luossavin.h` says it. It is included as the assembly that was made of
-//! the proved code, for Linux on x86-64 and aarch64. This package is not proved: it hands slices over and takes answers
-//! apart, and its tests hold it to that. The library keeps nothing between calls, so that all of it may be used from any
-//! thread. Its names are C's, so that a program has one copy of it: link either this package or the C library.
+//! The library is proved; `include/luossavin.h` has what it promises. It is included as assembly that was made from the
+//! proved code, for Linux on x86-64 and aarch64. This package is a thin layer over it: it passes slices and converts
+//! answers. It is tested, not proved. The library has no state, so all of it may be used from any thread. Its symbols
+//! are C's: link either this package or the C library into a program, not both.
 
 #![cfg_attr(not(feature = "std"), no_std)]
 #![deny(unsafe_code, unsafe_op_in_unsafe_fn)]
@@ -57,7 +57,7 @@ extern crate alloc;
     target_endian = "little",
     any(target_arch = "x86_64", target_arch = "aarch64")
 )))]
-compile_error!("Luossavin's library is there as assembly for Linux on x86-64 and on aarch64");
+compile_error!("Luossavin supports Linux on x86-64 and aarch64: the library is included as assembly");
 
 pub mod detached;
 pub mod editions;

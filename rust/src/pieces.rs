@@ -1,18 +1,18 @@
-//! Messages in pieces, cut anywhere: Ctr, Gcm sealing, and whether a Gcm message opens.
+//! Streaming: messages in pieces, cut anywhere. Ctr, sealing in Gcm, and whether a Gcm message opens. If you have a
+//! `Write` or a `Read`, use `streams`.
 //!
-//! A start that is refused gives no state, a piece takes the state by `&mut`, and an end consumes it, so that nothing
-//! comes after an end. A state has no `Clone`: two texts that go through copies of one state use one key stream
-//! twice. The pieces of a message have at most 16,777,216 bytes together; the one that would pass this is refused
-//! with [`TooLong`](Refusal::TooLong). A refused piece leaves the state as it was, and may come again.
+//! Start, pass pieces, end. The end consumes the state, so nothing can come after it. There is no `Clone`: two texts
+//! through copies of one state would use the same key stream. The pieces of a message have at most 16,777,216 bytes
+//! together; the piece that would pass this is refused with [`TooLong`](Refusal::TooLong). A refused piece leaves the
+//! state as it was: you may pass it again.
 //!
-//! A state that is dropped before its end ends nothing: what was sealed so far has no tag, and opens for nobody.
-//! `streams` has the same for whoever has a `Write` or a `Read`.
+//! If a state is dropped before its end, there is no tag, and what was sealed so far does not open.
 
 use crate::ffi::{self, Secret};
 use crate::{Direction, Done, Key, Refusal, LONGEST_TEXT};
 use core::fmt;
 
-/// Ctr in pieces, either way. The pieces' outputs, joined, are what the single call makes of the joined pieces.
+/// Ctr in pieces, either way. The outputs, joined, are the output of the single call.
 ///
 /// ```
 /// use luossavin::pieces::Ctr;
@@ -33,32 +33,31 @@ use core::fmt;
 pub struct Ctr(Secret<ffi::Ctr>);
 
 impl Ctr {
-    /// Starts a message under an IV of 16 bytes. A retired key starts decryption alone.
+    /// Starts a message under an IV of 16 bytes. A retired key can only decrypt.
     pub fn start(key: &Key, direction: Direction, iv: &[u8]) -> Result<Ctr, Refusal> {
         let (answer, state) = ffi::ctr_start(key.record(), direction, iv);
         answer.result()?;
         Ok(Ctr(state))
     }
 
-    /// The next piece, into as many bytes of `out`.
+    /// The next piece. Writes as many bytes to `out`.
     pub fn piece(&mut self, data: &[u8], out: &mut [u8]) -> Result<Done, Refusal> {
         ffi::ctr_piece(&mut self.0, data, out).result()
     }
 
-    /// The next piece, in its place, through a small buffer. In a refusal it is as it was.
+    /// The next piece, in place. A refusal leaves it as it was.
     pub fn piece_in_place(&mut self, data: &mut [u8]) -> Result<(), Refusal> {
         fits(self.0.total, data)?;
         in_place(data, |portion, out| self.piece(portion, out))
     }
 
-    /// The end of the message, which says whether a counter came round in all of it.
+    /// Ends the message. Says whether the counter came round in all of it.
     pub fn end(mut self) -> Result<Done, Refusal> {
         ffi::ctr_end(&mut self.0).result()
     }
 }
 
-/// Gcm sealing in pieces. The pieces' outputs, joined, and the tag behind them are what the single call makes of the
-/// joined pieces.
+/// Sealing in Gcm in pieces. The outputs, joined, and then the tag, are the output of the single call.
 ///
 /// ```
 /// use luossavin::pieces::Seal;
@@ -97,12 +96,12 @@ impl Seal {
         Ok(Seal(state))
     }
 
-    /// The next piece of the text, into as many bytes of `out`.
+    /// The next piece of the text. Writes as many bytes to `out`.
     pub fn piece(&mut self, text: &[u8], out: &mut [u8]) -> Result<Done, Refusal> {
         ffi::seal_piece(&mut self.0, text, out).result()
     }
 
-    /// The next piece of the text, in its place, through a small buffer. In a refusal it is as it was.
+    /// The next piece of the text, in place. A refusal leaves it as it was.
     ///
     /// ```
     /// use luossavin::pieces::Seal;
@@ -120,7 +119,7 @@ impl Seal {
         in_place(text, |portion, out| self.piece(portion, out))
     }
 
-    /// The end of the message: its tag, and whether a counter came round in all of it.
+    /// Ends the message: returns its tag, and whether the counter came round in all of it.
     pub fn end(mut self) -> Result<([u8; 16], Done), Refusal> {
         let mut tag = [0; 16];
         let done = ffi::seal_end(&mut self.0, &mut tag).result()?;
@@ -128,7 +127,7 @@ impl Seal {
     }
 }
 
-/// Whether a Gcm message opens, in pieces. No text is made.
+/// Does a Gcm message open? In pieces; no text is made.
 ///
 /// ```
 /// use luossavin::pieces::Opens;
@@ -147,7 +146,7 @@ impl Seal {
 pub struct Opens(Secret<ffi::Opens>);
 
 impl Opens {
-    /// Starts the question under the whole label and an IV of 12 or 16 bytes. The key may be retired.
+    /// Starts with the whole label and an IV of 12 or 16 bytes. The key may be retired.
     pub fn start(key: &Key, label: &[u8], iv: &[u8]) -> Result<Opens, Refusal> {
         let (answer, state) = ffi::opens_start(key.record(), label, iv);
         answer.result()?;
@@ -160,8 +159,8 @@ impl Opens {
         Ok(())
     }
 
-    /// The end of the question, with the tag of 16 bytes: whether the message opens. A tag of another length is
-    /// refused with [`ShortGcm`](Refusal::ShortGcm), and the question is over then too.
+    /// Ends with the tag of 16 bytes: does the message open? A tag of another length is refused with
+    /// [`ShortGcm`](Refusal::ShortGcm); start again then.
     pub fn end(mut self, tag: &[u8]) -> Result<bool, Refusal> {
         match ffi::opens_end(&mut self.0, tag).result() {
             Ok(_) => Ok(true),

@@ -1,6 +1,6 @@
 //! One Ctr message among several workers.
 //!
-//! A [`Plan`] shares a message out, and each worker does its [`Share`], in any order and at the same time:
+//! A [`Plan`] divides a message. Each worker does its [`Share`], in any order, also at the same time:
 //!
 //! ```
 //! use luossavin::ranges::Plan;
@@ -25,7 +25,7 @@
 //! # Ok::<(), Refusal>(())
 //! ```
 //!
-//! None of these says that a counter came round: a range does not know the message's end.
+//! None of these says whether the counter came round: a range does not know where the message ends.
 
 use crate::sizes::MOST_WORKERS;
 use crate::{ffi, Direction, Done, Key, Refusal};
@@ -34,13 +34,13 @@ use alloc::vec::Vec;
 use core::fmt;
 use core::ops::Range;
 
-/// Who does what of a message: pieces one behind another, each but the last of whole blocks. A plan is always one
-/// that work may go by.
+/// How a message is divided: pieces one after another, each but the last of whole blocks. A `Plan` is always a valid
+/// one.
 #[derive(Clone)]
 pub struct Plan(Box<ffi::Plan>);
 
 impl Plan {
-    /// A plan of `n` bytes for 1 to 64 workers, of up to as many pieces. It is refused with
+    /// Makes a plan of `n` bytes for 1 to 64 workers, with at most that many pieces. Refused with
     /// [`BadWorkers`](Refusal::BadWorkers) or [`TooLong`](Refusal::TooLong).
     pub fn make(n: usize, workers: usize) -> Result<Plan, Refusal> {
         let planned = ffi::plan_make(n, workers);
@@ -48,8 +48,8 @@ impl Plan {
         Ok(Plan(Box::new(planned.plan)))
     }
 
-    /// A plan of one's own, of pieces of these lengths. It is refused with [`NotAccepted`](Refusal::NotAccepted)
-    /// where there are more than 64, where one is empty, or where another than the last does not divide by 16.
+    /// Your own plan, with pieces of these lengths. Refused with [`NotAccepted`](Refusal::NotAccepted) if there are
+    /// more than 64, if one is empty, or if a length other than the last is not a multiple of 16.
     ///
     /// ```
     /// use luossavin::ranges::Plan;
@@ -76,21 +76,20 @@ impl Plan {
         }
     }
 
-    /// Where each piece stands in the message.
+    /// The range of each piece in the message.
     #[must_use]
     pub fn pieces(&self) -> impl ExactSizeIterator<Item = Range<usize>> + '_ {
         (0..self.0.count).map(|at| self.0.starts[at]..self.0.starts[at] + self.0.lengths[at])
     }
 
-    /// Whether the plan is one for `n` bytes.
+    /// Is the plan one for `n` bytes?
     #[must_use]
     pub fn accepts(&self, n: usize) -> bool {
         ffi::plan_accepts(&self.0, n)
     }
 
-    /// The message and its output shared out, a share for each piece. It is refused with
-    /// [`NotAccepted`](Refusal::NotAccepted) where the plan is for another length than the data's, and then with
-    /// [`NoRoom`](Refusal::NoRoom) where `out` is shorter than the data.
+    /// Divides a message and its output: one share for each piece. Refused with [`NotAccepted`](Refusal::NotAccepted)
+    /// if the plan is for another length, and then with [`NoRoom`](Refusal::NoRoom) if `out` is shorter than the data.
     pub fn shares<'a>(&self, data: &'a [u8], out: &'a mut [u8]) -> Result<Vec<Share<'a>>, Refusal> {
         if !self.accepts(data.len()) {
             return Err(Refusal::NotAccepted);
@@ -104,7 +103,7 @@ impl Plan {
         Ok(self.pieces().map(share).collect())
     }
 
-    /// The whole message by one worker, range by range.
+    /// Does the whole message in one call, range by range.
     pub fn work(
         &self, key: &Key, direction: Direction, iv: &[u8], data: &[u8], out: &mut [u8],
     ) -> Result<Done, Refusal> {
@@ -118,7 +117,7 @@ impl fmt::Debug for Plan {
     }
 }
 
-/// One worker's part of a message and of its output, which no other share has.
+/// One worker's part of a message and of its output. No two shares overlap.
 #[must_use = "a share that nobody works on leaves its part of the output as it was"]
 pub struct Share<'a> {
     offset: usize,
@@ -127,7 +126,7 @@ pub struct Share<'a> {
 }
 
 impl Share<'_> {
-    /// Does the share, under the key and the IV of the message.
+    /// Does the share. Pass the key and the IV of the message.
     pub fn work(self, key: &Key, direction: Direction, iv: &[u8]) -> Result<Done, Refusal> {
         ctr_range(key, direction, iv, self.offset, self.data, self.out)
     }
@@ -140,9 +139,8 @@ impl fmt::Debug for Share<'_> {
     }
 }
 
-/// Ctr of `data`, which stands at `offset` of its message, under the message's IV of 16 bytes: that stretch of what
-/// the single call makes of the message. That no two texts have one stretch of a key and an IV is the caller's to see
-/// to.
+/// Ctr of `data`, which is at `offset` of its message, under the message's IV of 16 bytes. The result is that part of
+/// the single call's output. Never encrypt two texts at the same offset under one key and IV.
 ///
 /// ```
 /// use luossavin::ranges::ctr_range;

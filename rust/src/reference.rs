@@ -1,9 +1,9 @@
-//! References: an IV and a tag, 32 bytes that stand on a shelf for a sealed file that is kept elsewhere.
+//! References: an IV and a tag, 32 bytes, kept on a shelf for a sealed file that is stored elsewhere.
 //!
-//! A [shelf](crate::shelf) has room for 65,536 bytes, which is less than one long transcript. With references in the
-//! place of the sealed files it says which edition of some 1,490 jobs is current, and the files are in a store, each
-//! with its IV in front. Whoever is about to show one takes job and edition from the shelf, opens the file under them,
-//! and sees to it that it is the file that is named.
+//! A [shelf](crate::shelf) has room for 65,536 bytes, which is less than one long transcript. With references instead
+//! of sealed files it can say which edition of up to 1,489 jobs is current. The files are in a store, each after its
+//! IV. To show one, take job and edition from the shelf, open the file under them, and check that it is the file that
+//! the reference names ([`is_named`]).
 //!
 //! ```
 //! use luossavin::editions::label;
@@ -15,7 +15,7 @@
 //! let gcm = Sm4CipherMode::new(&[7; 16], CipherMode::Gcm)?;
 //! let (mut shelf, mut store) = (Shelf::new(), Vec::new());
 //! for (edition, text) in [(1, "the rough"), (2, "the final")] {
-//!     let iv = [edition as u8; 16]; // a random one, elsewhere than here
+//!     let iv = [edition as u8; 16]; // random in your program
 //!     let sealed = gcm.encrypt(&label(4711, edition), text.as_bytes(), &iv)?;
 //!     shelf.put(4711, edition, &reference(&iv, &sealed)?)?;
 //!     store.push([&iv[..], &sealed].concat());
@@ -37,14 +37,14 @@ use crate::Refusal;
 /// How many bytes a reference has.
 pub const LENGTH: usize = IV + TAG;
 
-/// How many bytes an IV has that stands in a reference, or in front of a file.
+/// How many bytes the IV has, in a reference and in front of a file.
 const IV: usize = 16;
 
 /// How many bytes a tag has.
 const TAG: usize = 16;
 
-/// The reference to a sealed file: its IV, and the tag at its end. It is refused with [`WrongIv`](Refusal::WrongIv)
-/// for an IV that does not have 16 bytes, and with [`ShortGcm`](Refusal::ShortGcm) for fewer than 16 sealed bytes.
+/// The reference to a sealed file: its IV, and the tag at its end. Refused with [`WrongIv`](Refusal::WrongIv) if the IV
+/// is not 16 bytes, and with [`ShortGcm`](Refusal::ShortGcm) for fewer than 16 sealed bytes.
 pub fn reference(iv: &[u8], sealed: &[u8]) -> Result<[u8; LENGTH], Refusal> {
     let mut reference = [0; LENGTH];
     let (front, end) = reference.split_at_mut(IV);
@@ -56,7 +56,7 @@ pub fn reference(iv: &[u8], sealed: &[u8]) -> Result<[u8; LENGTH], Refusal> {
     Ok(reference)
 }
 
-/// The IV and the sealed bytes of a file that has its IV in front. It is refused as [`reference()`] is.
+/// Splits a stored file into its IV and the sealed bytes. Refused like [`reference()`].
 pub fn split(stored: &[u8]) -> Result<(&[u8], &[u8]), Refusal> {
     if stored.len() < IV {
         return Err(Refusal::WrongIv);
@@ -65,12 +65,12 @@ pub fn split(stored: &[u8]) -> Result<(&[u8], &[u8]), Refusal> {
     tag(sealed).map(|_| (iv, sealed))
 }
 
-/// Whether an entry of a shelf is a sealed file itself, or the reference to it.
+/// Is this entry of a shelf the sealed file itself, or the reference to it?
 pub fn is_named(entry: &[u8], iv: &[u8], sealed: &[u8]) -> bool {
     entry == sealed || reference(iv, sealed).map_or(false, |reference| entry == reference)
 }
 
-/// The current records of a shelf in its order: job, edition, and the entry.
+/// The current records of a shelf, in its order: job, edition, and the entry.
 ///
 /// ```
 /// use luossavin::{reference::current, shelf::Shelf};

@@ -1,4 +1,4 @@
-//! What a call answers: done, or a refusal by its number.
+//! Answers: done, or a refusal.
 
 use crate::ffi;
 use core::fmt;
@@ -6,12 +6,15 @@ use core::mem::discriminant;
 #[cfg(feature = "std")]
 use std::io;
 
-/// Why a call was refused. Each has the number that `include/luossavin.h` gives it; nothing was written, and the
-/// state of a message in pieces is as it was.
+/// Why a call was refused. Nothing was written, and the state of a message in pieces is as it was. The numbers are
+/// those of `include/luossavin.h`.
 ///
-/// The first four are libsm's names. libsm has `ErrorBlockSize` for a wrong IV and a wrong block too; these have
-/// names of their own here. Some are of the library alone: [`CipherMode`](crate::sm4::cipher_mode::CipherMode) has no
-/// [`BadMode`](Refusal::BadMode), though a journal may, and a state that has [`Ended`](Refusal::Ended) is consumed.
+/// The first four are libsm's names. libsm uses `ErrorBlockSize` for a wrong IV and a wrong block too; here these have
+/// their own names. Two never come from this package's own calls: [`BadMode`](Refusal::BadMode), which a journal may
+/// contain, and [`Ended`](Refusal::Ended), since an end consumes the state.
+///
+/// Padding oracle: never show [`InvalidLastU8`](Refusal::InvalidLastU8) or [`InvalidPadding`](Refusal::InvalidPadding)
+/// of Cbc to untrusted callers.
 ///
 /// ```
 /// use luossavin::sm4::cipher_mode::{CipherMode, Sm4CipherMode};
@@ -33,13 +36,13 @@ pub enum Refusal {
     // numbers.txt: refusals of Rust
     /// 1: the key is not 16 bytes.
     ErrorBlockSize,
-    /// 2: Cbc decryption of a length that does not divide by 16.
+    /// 2: Cbc decryption: the length is not a multiple of 16.
     ErrorDataLen,
     /// 3: Cbc decryption: the last decrypted byte is 0 or above 16.
     InvalidLastU8,
     /// 4: Gcm decryption: the 16 bytes at the end are not the tag.
     InvalidTag,
-    /// 5: a length limit is passed.
+    /// 5: a length is over its limit.
     TooLong,
     /// 6: the output buffer is shorter than the room needed.
     NoRoom,
@@ -47,7 +50,7 @@ pub enum Refusal {
     BadMode,
     /// 8: Cbc decryption of 0 bytes.
     EmptyCbc,
-    /// 9: Gcm decryption of fewer than 16 bytes; in pieces, a tag that has not 16.
+    /// 9: Gcm decryption of fewer than 16 bytes; in streaming, a tag that is not 16 bytes.
     ShortGcm {
         /// How many bytes are missing of 16; 0 for a tag of more than 16.
         missing: u8,
@@ -56,21 +59,21 @@ pub enum Refusal {
     WrongIv,
     /// 11: the single block is not 16 bytes.
     WrongBlock,
-    /// 12: the message in pieces has come to its end.
+    /// 12: streaming: the message has already ended.
     Ended,
     /// 13: the key's number is not from 1 to 65,535.
     WrongNumber,
     /// 14: encryption under a retired key.
     Retired,
-    /// 15: Cbc decryption: the last decrypted byte p is 1 to 16, and not all p last bytes are p.
+    /// 15: Cbc decryption: the last decrypted byte p is 1 to 16, but not all of the last p bytes are p.
     InvalidPadding,
     /// 16: more than 64 candidate labels, or lengths that do not add up to the labels' buffer.
     BadList,
-    /// 17: a plan for no workers, or for more than 64.
+    /// 17: a plan for 0 workers, or for more than 64.
     BadWorkers,
-    /// 18: work by a plan that is none for so many bytes.
+    /// 18: the plan is not accepted for so many bytes.
     NotAccepted,
-    /// 19: the buffer has more than 65,536 bytes, or its used bytes are no shelf.
+    /// 19: the buffer has more than 65,536 bytes, or its used bytes are not a shelf.
     BadShelf,
     /// 20: the shelf has that edition of the job already, or a higher one.
     NotHigher,
@@ -78,23 +81,23 @@ pub enum Refusal {
     NoShelfRoom,
     /// 22: the shelf has no current record of the job.
     NoCurrent,
-    /// 23: a recorded call is cut or not marked, or its direction is neither 0 nor 1.
+    /// 23: a recorded call is cut off or has no mark, or its direction is neither 0 nor 1.
     BadRecord,
     /// 24: a recorded label, data or IV has more than 16,384 bytes, or an output more than 16,400.
     PartTooLong,
-    /// 25: a recorded call has the number of no key.
+    /// 25: a recorded call names a key that was not given.
     UnknownKey,
-    /// 26: a replay with more than eight keys, with a retired one, or with a number twice.
+    /// 26: a replay with more than eight keys, with a retired key, or with two keys of one number.
     BadKeys,
     // numbers.txt: end
-    /// A number that this package does not know, of an archive that is newer than it.
+    /// A number that this package does not know, from a newer library.
     Unknown(u32),
 }
 
 use Refusal::*;
 
-/// The refusals by their numbers from 1 on: name, sentence, and what to do next where that helps. `Display` and the tool
-/// take their words from here; the tool puts what it knows of a file in the place of a sentence's general words.
+/// The refusals by their numbers from 1 on: name, sentence, and what to do next where that helps. `Display` and the
+/// tool take their words from here; the tool puts what it knows of a file in the place of a sentence's general words.
 #[rustfmt::skip]
 const BY_NUMBER: [(Refusal, &str, &str, &str); 26] = [
     // numbers.txt: texts of Rust
@@ -103,19 +106,19 @@ const BY_NUMBER: [(Refusal, &str, &str, &str); 26] = [
     (InvalidLastU8, "InvalidLastU8", "this message was not encrypted with cbc, this key and IV, or it was changed since", ""),
     (InvalidTag, "InvalidTag", "this message was not sealed under this label, with this key and IV, or it was changed since", "`luossavin which` says which edition it is"),
     (TooLong, "TooLong", "this message, or its label, is longer than the 16777216 bytes that the cipher takes", "split the text, and give each part an IV of its own"),
-    (NoRoom, "NoRoom", "what comes of this message is longer than there is room for", ""),
+    (NoRoom, "NoRoom", "the output is longer than the room that was given", ""),
     (BadMode, "BadMode", "there is no such mode", ""),
     (EmptyCbc, "EmptyCbc", "this message is empty, and cbc writes at least 16 bytes: was it cut off?", ""),
     (ShortGcm { missing: 0 }, "ShortGcm", "a tag has 16 bytes, and a sealed message at least 16", ""),
     (WrongIv, "WrongIv", "the IV has another size, not 16 bytes, nor 12 in gcm", ""),
-    (WrongBlock, "WrongBlock", "a single block has 16 bytes, and this does not", ""),
-    (Ended, "Ended", "this message has come to its end", ""),
+    (WrongBlock, "WrongBlock", "a single block is 16 bytes, and this one is not", ""),
+    (Ended, "Ended", "this message has already ended", ""),
     (WrongNumber, "WrongNumber", "the key's number is 1 to 65535", ""),
     (Retired, "Retired", "this key is retired: old files still open with it, and nothing new is sealed or encrypted under it; take the current key", ""),
     (InvalidPadding, "InvalidPadding", "the end of this message is damaged: it was changed since, or not encrypted with cbc, this key and IV", ""),
     (BadList, "BadList", "there are more than 64 candidates, and up to 64 are asked about at once: ask about 64 at a time", ""),
     (BadWorkers, "BadWorkers", "a plan is for 1 to 64 workers", ""),
-    (NotAccepted, "NotAccepted", "this is no plan for a message of so many bytes", ""),
+    (NotAccepted, "NotAccepted", "this plan is not accepted for a message of so many bytes", ""),
     (BadShelf, "BadShelf", "this shelf breaks off: there is no whole record, or a second current one of its job, or it has more than 65536 bytes; it was changed or cut off, or is no shelf", "take the shelf from a backup, or put the sealed files on a new one"),
     (NotHigher, "NotHigher", "this shelf has that edition of the job already, or a higher one, and takes only a higher one", "`luossavin shelf list` shows what it has"),
     (NoShelfRoom, "NoShelfRoom", "a shelf has 65536 bytes, and this file and the current ones of the other jobs, with 12 bytes more for each, have more", "begin another shelf"),
@@ -128,7 +131,7 @@ const BY_NUMBER: [(Refusal, &str, &str, &str); 26] = [
 ];
 
 impl Refusal {
-    /// The number of the refusal, as the header has it and the tool ends with.
+    /// The number of the refusal, as in the header. It is also the exit status of the tool.
     #[must_use]
     pub fn number(self) -> u32 {
         match self {
@@ -137,7 +140,7 @@ impl Refusal {
         }
     }
 
-    /// The name of the refusal, as the header has it.
+    /// The name of the refusal, as in the header.
     ///
     /// ```
     /// assert_eq!(luossavin::Refusal::NoShelfRoom.name(), "NoShelfRoom");
@@ -147,20 +150,19 @@ impl Refusal {
         self.row().map_or("Unknown", |row| row.1)
     }
 
-    /// What the refusal says, in one sentence, of a message in general.
+    /// What the refusal means, in one sentence.
     #[must_use]
     pub fn sentence(self) -> &'static str {
         self.row().map_or("a refusal that this package does not know", |row| row.2)
     }
 
-    /// What to do next, where there is something that helps.
+    /// What to do next, if something helps.
     #[must_use]
     pub fn next(self) -> Option<&'static str> {
         self.row().map(|row| row.3).filter(|next| !next.is_empty())
     }
 
-    /// The refusal with a number, as a journal has it: none for 0, which is no refusal, and for a number that is not
-    /// known.
+    /// The refusal with this number, as in a journal. `None` for 0, which is no refusal, and for an unknown number.
     #[must_use]
     pub fn with_number(number: u32) -> Option<Refusal> {
         match Refusal::of(number, 0) {
@@ -169,7 +171,7 @@ impl Refusal {
         }
     }
 
-    /// How many bytes were missing, of [`Refusal::ShortGcm`]; of every other refusal 0.
+    /// How many bytes were missing, for [`Refusal::ShortGcm`]; 0 for every other refusal.
     #[must_use]
     pub fn missing(self) -> u8 {
         match self {
@@ -178,7 +180,7 @@ impl Refusal {
         }
     }
 
-    /// The refusal that an error of [`std::io`] is about, where it is about one.
+    /// The refusal inside an error of [`std::io`], if there is one.
     ///
     /// ```
     /// use luossavin::Refusal;
@@ -252,7 +254,7 @@ impl From<Refusal> for io::Error {
     }
 }
 
-/// What is said of a call that was done.
+/// The answer of a call that was done.
 #[derive(Clone, Copy, Debug, PartialEq, Eq)]
 #[non_exhaustive]
 pub struct Done {
@@ -260,8 +262,8 @@ pub struct Done {
     pub length: usize,
     /// The number of the key.
     pub key: u16,
-    /// Whether a counter came round within the message. The work is right all the same; whoever encrypted takes
-    /// another IV for the next message, and not one that is counted on from this one's.
+    /// Whether the counter of a Ctr or Gcm message wrapped from all ones to zero. The output is right all the same. If
+    /// you encrypt, take an unrelated IV for the next message, not one counted on from this one.
     pub came_round: bool,
 }
 

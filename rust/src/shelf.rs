@@ -1,4 +1,4 @@
-//! A shelf: sealed files in one buffer, of which the newest edition of each job is current.
+//! A shelf: sealed files in one buffer. The newest edition of each job is current.
 
 use crate::editions::label;
 use crate::sizes::SHELF_HEAD;
@@ -11,7 +11,7 @@ use core::fmt;
 /// The most bytes that a shelf has.
 pub const LARGEST: usize = crate::sizes::LARGEST_SHELF;
 
-/// A shelf with its buffer and the count of bytes that are used.
+/// A shelf, with its buffer.
 ///
 /// ```
 /// use luossavin::editions::label;
@@ -45,9 +45,9 @@ impl Shelf {
         Shelf { buffer: vec![0; LARGEST], used: 0 }
     }
 
-    /// The shelf that was kept as `bytes`, with room for `size` bytes in all. It is refused with
-    /// [`BadShelf`](Refusal::BadShelf) where `bytes` are no shelf, or where `size` is less than they are or more than
-    /// the largest.
+    /// Loads a shelf from the `bytes` that [`as_bytes`](Shelf::as_bytes) gave, with room for `size` bytes in all.
+    /// Refused with [`BadShelf`](Refusal::BadShelf) if `bytes` are not a shelf, or if `size` is less than their length
+    /// or more than [`LARGEST`].
     ///
     /// ```
     /// use luossavin::shelf::{Shelf, LARGEST};
@@ -72,21 +72,20 @@ impl Shelf {
         }
     }
 
-    /// The bytes that are used: what is to be kept of a shelf.
+    /// The used bytes: store these to keep the shelf.
     #[must_use]
     pub fn as_bytes(&self) -> &[u8] {
         &self.buffer[..self.used]
     }
 
-    /// Puts in an edition of a job, which is then the current one. Where it does not fit, what is superseded is
-    /// thrown out first. It is refused with [`NotHigher`](Refusal::NotHigher) or
-    /// [`NoShelfRoom`](Refusal::NoShelfRoom).
+    /// Puts in an edition of a job, and makes it the current one. If it does not fit, superseded records are removed
+    /// first. Refused with [`NotHigher`](Refusal::NotHigher) or [`NoShelfRoom`](Refusal::NoShelfRoom).
     pub fn put(&mut self, job: u32, edition: u16, sealed: &[u8]) -> Result<(), Refusal> {
         let answer = ffi::shelf_put(&mut self.buffer, self.used, job, edition, sealed);
         self.take_up(answer)
     }
 
-    /// Throws out every superseded record.
+    /// Removes every superseded record.
     pub fn collect(&mut self) -> Result<(), Refusal> {
         let answer = ffi::shelf_collect(&mut self.buffer, self.used);
         self.take_up(answer)

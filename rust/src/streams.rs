@@ -1,6 +1,6 @@
-//! Sealing through [`Write`], asking whether a message opens of any [`Read`], and opening to a [`Write`].
+//! Streaming: seal through a [`Write`], ask whether a message from a [`Read`] opens, open it to a [`Write`].
 //!
-//! A refusal comes as an [`io::Error`] with the refusal in it: [`Refusal::in_error`] finds it.
+//! A refusal is returned as an [`io::Error`]; [`Refusal::in_error`] gets it out.
 
 use crate::pieces::{Opens, Seal};
 use crate::sm4::cipher_mode::{decrypted, CipherMode};
@@ -11,7 +11,7 @@ use std::io::{self, ErrorKind, Read, Write};
 /// How many bytes go through at a time.
 const PORTION: usize = 65_536;
 
-/// Seals what is written to it, and writes ciphertext and then the tag to another [`Write`].
+/// Seals what you write to it, and writes the ciphertext and then the tag to another [`Write`].
 ///
 /// ```
 /// use luossavin::editions::label;
@@ -33,12 +33,12 @@ const PORTION: usize = 65_536;
 /// # Ok::<(), std::io::Error>(())
 /// ```
 ///
-/// It buffers by itself: lines may be written as they come, and no [`BufWriter`](std::io::BufWriter) is needed. What is
-/// buffered is sealed and passed on when there are 64 KiB of it, and by `flush`.
+/// It has a buffer of 64 KiB: write line by line, without a [`BufWriter`](std::io::BufWriter). `flush` seals and writes
+/// what is in the buffer.
 ///
-/// Only [`finish`](SealWriter::finish) makes a sealed message of it. A writer that is dropped before writes nothing
-/// more, not even what it has kept back, and what came out opens for nobody: a text that broke off is not to look
-/// whole. Nor does `finish` seal a message after a write that was refused, since some of its text is missing.
+/// Call [`finish`](SealWriter::finish) at the end: it writes the tag. A writer that is dropped without it writes
+/// nothing more, and its output does not open, so that a text that broke off cannot pass for a whole one. For the same
+/// reason `finish` is refused after a write that was refused.
 #[must_use = "without `finish` there is no tag, and what was written opens for nobody"]
 pub struct SealWriter<W: Write> {
     /// The state, until the tag is made.
@@ -56,8 +56,8 @@ pub struct SealWriter<W: Write> {
     to: W,
 }
 
-/// Text, which is overwritten when it is taken out and when it is dropped. It never grows past its first capacity, so that no
-/// copy is left behind.
+/// Text, which is overwritten when it is taken out and when it is dropped. It never grows past its first capacity, so
+/// that no copy is left behind.
 struct Buffered(Vec<u8>);
 
 impl Buffered {
@@ -81,11 +81,10 @@ impl<W: Write> SealWriter<W> {
         Ok(SealWriter { seal, done: None, text, total: 0, kept: Vec::new(), refused: None, to })
     }
 
-    /// Writes what is left and the tag, and gives back the writer below, with whether a counter came round. That
-    /// writer is not flushed.
+    /// Writes the rest and the tag. Returns the writer below, which is not flushed, and whether the counter came round.
     ///
-    /// After an error of the writer below, as `WouldBlock`, it can be tried again: the error has the writer in it. `?`
-    /// takes it for an [`io::Error`].
+    /// After an error of the writer below, such as `WouldBlock`, try again: the error contains the writer. `?` converts
+    /// it to an [`io::Error`].
     ///
     /// ```
     /// # use luossavin::{streams::SealWriter, Key};
@@ -168,7 +167,7 @@ impl<W: Write> SealWriter<W> {
 }
 
 impl<W: Write> Write for SealWriter<W> {
-    /// Takes some of the text. After an error of the writer below none of it was taken, and it may come again.
+    /// Takes some of the text. After an error of the writer below none of it was taken: write it again.
     fn write(&mut self, text: &[u8]) -> io::Result<usize> {
         self.go_on()?;
         if self.text.0.len() == PORTION {
@@ -203,8 +202,8 @@ impl<W: Write> fmt::Debug for SealWriter<W> {
     }
 }
 
-/// What [`SealWriter::finish`] gives where the writer below has an error, or where a write was refused: the error, and the
-/// writer, with which it can be tried again.
+/// The error of [`SealWriter::finish`]: the writer below had an error, or a write was refused. It contains the writer,
+/// to try again.
 pub struct Unfinished<W: Write> {
     error: io::Error,
     writer: Box<SealWriter<W>>,
@@ -217,7 +216,7 @@ impl<W: Write> Unfinished<W> {
         &self.error
     }
 
-    /// The writer as it is: what was written to the one below is not written again.
+    /// The writer, to try again: what was already written is not written twice.
     pub fn into_writer(self) -> SealWriter<W> {
         *self.writer
     }
@@ -247,10 +246,10 @@ impl<W: Write> std::error::Error for Unfinished<W> {
     }
 }
 
-/// Whether a sealed message opens, which is read to its end, portion by portion. No text is made.
+/// Does a sealed message open? Reads it to its end, 64 KiB at a time. No text is made.
 ///
-/// It is `true` where the tag is right, `false` where it is not, and an error where the message cannot be asked
-/// about: one of fewer than 16 bytes is refused with [`ShortGcm`](Refusal::ShortGcm).
+/// Returns `true` if the tag is right, `false` if it is not, and an error for anything else: a message of fewer than 16
+/// bytes is refused with [`ShortGcm`](Refusal::ShortGcm).
 pub fn opens(key: &Key, label: &[u8], iv: &[u8], mut sealed: impl Read) -> io::Result<bool> {
     let mut question = Opens::start(key, label, iv)?;
     let mut held = vec![0; PORTION + 16];
@@ -272,11 +271,10 @@ pub fn opens(key: &Key, label: &[u8], iv: &[u8], mut sealed: impl Read) -> io::R
     Ok(question.end(&held[..filled])?)
 }
 
-/// Opens a sealed message, which is read to its end, and writes its text: all of it, once the tag is found to be
-/// right, and otherwise not a byte.
+/// Opens a sealed message: reads it to its end, verifies the tag, and only then writes the text.
 ///
-/// The message is kept in memory, up to the 16,777,232 bytes that one may have; of a longer one no more is read. An
-/// error of `text` may leave some of the text written.
+/// The message is kept in memory, up to the limit of 16,777,232 bytes; no more is read of a longer one. After an error
+/// of `text`, a part of the text may have been written.
 pub fn open_to(key: &Key, label: &[u8], iv: &[u8], sealed: impl Read, mut text: impl Write) -> io::Result<Done> {
     let mut whole = Vec::new();
     // a byte more than a sealed message may have, so that a longer one is refused

@@ -1,9 +1,9 @@
-//! Wiping: of bytes, and of what calls have left on the stack.
+//! Wiping of bytes, and of what calls leave on the stack.
 
 use crate::ffi;
 
-/// Overwrites bytes with zeros, by writes that the compiler may not leave out: a key's bytes, a text that is no longer
-/// shown.
+/// Overwrites bytes with zeros; the compiler cannot drop the writes. Use it for a key's bytes, and for a text that is
+/// no longer needed.
 ///
 /// ```
 /// let mut bytes = [7; 16];
@@ -16,9 +16,8 @@ pub fn wipe(bytes: &mut [u8]) {
     ffi::overwrite_bytes(bytes);
 }
 
-/// Overwrites what calls before this one have left below the caller's own part of the stack, 64 KiB of it: the library
-/// takes records by value, and copies of round keys are left there. It is for the function above the one that made the
-/// calls. It does not reach what is in registers.
+/// Overwrites 64 KiB of the stack below the caller, where calls leave copies of round keys: the library takes records
+/// by value. Call it from the function above the one that made the calls. It does not reach registers.
 ///
 /// ```
 /// use luossavin::{wipe_stack, Key};
@@ -36,10 +35,10 @@ pub fn wipe_stack() {
     ffi::overwrite_bytes(&mut stack);
 }
 
-/// What is overwritten when it is dropped: keys, states, and whatever else is as secret as a key.
+/// Types that are wiped on drop: keys, states, and whatever else is as secret as a key.
 ///
-/// It says what `ZeroizeOnDrop` of the crate `zeroize` says, without that dependency: this package has none. A host that
-/// goes by `zeroize` says it of its own type that holds one of these.
+/// It means the same as `ZeroizeOnDrop` of the crate `zeroize`, without the dependency. If your code relies on
+/// `zeroize`, implement its marker for your own type that holds one of these.
 ///
 /// ```
 /// fn is_wiped<T: luossavin::WipedOnDrop>(_: &T) {}

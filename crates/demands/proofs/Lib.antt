@@ -2,6 +2,7 @@
 pub mod Through
 -- demand 1
 pub mod Answering
+pub mod WhichNumber
 pub mod EveryCallAnswers
 pub mod UniqueOutcomes
 pub mod CameRound
@@ -9,18 +10,17 @@ pub mod Retired
 pub mod Steps
 -- demand 2
 pub mod ModesBack
-pub mod WhichNumber
 pub mod ThereAndBack
--- demand 3, and what the demands were for
 pub mod InPieces
+pub mod Workers
+pub mod Halves
+pub mod EngineUnseen
+-- demand 3, and what the demands were for
 pub mod OneBlockRefused
 pub mod EditionOpens
-pub mod Workers
 pub mod OnTheShelf
 pub mod InTheJournal
-pub mod Halves
 pub mod HashKeys
-pub mod EngineUnseen
 -- the worked table and the imposters
 pub mod Worked
 pub mod Imposters

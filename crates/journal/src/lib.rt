@@ -1,5 +1,8 @@
 // A journal of recorded calls, one after another, is replayed: each call is made again and held against what was recorded, and
 // the report adds them up.
+//
+// A record is measured whole by the lengths that it states before anything else is asked of it: what is cut is 23, however long it says that
+// its parts are. The recorded length of an output is that of the recorded output.
 mod again;
 pub mod keys;
 pub mod records;

@@ -1,4 +1,4 @@
-//! What is current: the shelf, which is read for every request, held against the editions that were seen.
+//! What is current: reads the shelf for every request, and compares it with the editions that were seen.
 
 use crate::seen::Seen;
 use crate::{files, log};
@@ -37,8 +37,8 @@ impl fmt::Display for Trouble {
     }
 }
 
-/// The shelf as it was read last. Asking the library takes milliseconds on a full one, so what it says is kept for as long
-/// as the bytes are the same.
+/// The shelf as it was read last. Asking the library takes milliseconds on a full one, so what it says is kept for as
+/// long as the bytes are the same.
 #[derive(Default)]
 struct Held {
     bytes: Vec<u8>,
@@ -121,8 +121,8 @@ impl Current {
     }
 }
 
-/// The tag by which a browser asks whether its copy is current: of job, edition, and the IV and tag of the sealed file. Of
-/// a file that stands on the shelf itself, its last 32 bytes take their place.
+/// The tag by which a browser asks whether its copy is current: of job, edition, and the IV and tag of the sealed file.
+/// Of a file that stands on the shelf itself, its last 32 bytes take their place.
 pub fn etag(job: u32, entry: &Entry) -> String {
     let from = entry.bytes.len().saturating_sub(reference::LENGTH);
     let end: String = entry.bytes.iter().skip(from).map(|byte| format!("{byte:02x}")).collect();

@@ -1,4 +1,4 @@
-//! The keys that are held, by their numbers. A retired one opens what it sealed, as before.
+//! The keys, by their numbers. A retired key can open but not seal.
 
 use crate::files;
 use luossavin::sm4::cipher_mode::{CipherMode, Sm4CipherMode};

@@ -1,7 +1,8 @@
-//! `luossavin-opener`: shows transcripts behind nginx. The cache behind it holds sealed files; for every request it asks
-//! which edition is current, opens the file under that edition's label, and shows the text, or says that nothing is shown.
+//! `luossavin-opener`: shows transcripts behind nginx. The cache behind it holds sealed files; for every request it
+//! asks which edition is current, opens the file under that edition's label, and shows the text, or says that nothing
+//! is shown.
 //!
-//! This program is not proved. What opens under which label is the library's to say; `host/morning` tests the rest.
+//! This program is not proved. The library decides what opens under which label; `host/morning` tests the rest.
 
 #![deny(unsafe_code)]
 
@@ -53,7 +54,7 @@ const WATCH: Duration = Duration::from_secs(1);
 const USAGE: i32 = 64;
 const FILES: i32 = 66;
 
-/// Says a line in the log. Where nobody hears it, there is nothing to be done.
+/// Writes a line to the log. Errors are ignored: there is nowhere to report them.
 fn log(text: &str) {
     let _ = io::stderr().write_all(format!("luossavin-opener: {text}\n").as_bytes());
 }
@@ -145,7 +146,7 @@ fn listen(path: &Path) -> Result<UnixListener, String> {
     UnixListener::bind(path).map_err(|error| format!("cannot listen at {}: {error}", path.display()))
 }
 
-/// Answers a connection. What becomes of a client that goes, or is too slow, is nobody else's matter.
+/// Answers a connection. A client that leaves, or is too slow, does not affect others.
 fn serve(opener: &Opener, stream: &UnixStream) {
     thread_local!(static ROOM: RefCell<Room> = RefCell::default());
     ROOM.with(|room| {

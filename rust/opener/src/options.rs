@@ -1,4 +1,4 @@
-//! The words that the opener is started with.
+//! The command line.
 
 use crate::upstream::Upstream;
 use std::ffi::OsString;
@@ -10,7 +10,7 @@ pub struct Options {
     pub seen: PathBuf,
     pub keys: PathBuf,
     pub upstream: Upstream,
-    /// Read what there is to be read, say what it is, and end.
+    /// `--check`: read keys and shelf, say what they are, and exit.
     pub is_check: bool,
 }
 

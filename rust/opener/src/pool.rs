@@ -1,4 +1,4 @@
-//! Who does the work: threads that take connections, and permits for what takes memory and time.
+//! A pool of threads for connections, and permits that limit work which takes memory and time.
 
 use crate::log;
 use std::os::unix::net::{UnixListener, UnixStream};

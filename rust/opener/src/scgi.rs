@@ -80,7 +80,8 @@ impl Request {
         })
     }
 
-    /// Whether a tag is among those that the request names. A proxy that has packed the text may have marked it as weak.
+    /// Whether a tag is among those that the request names. A proxy that has packed the text may have marked it as
+    /// weak.
     pub fn names(&self, tag: &str) -> bool {
         self.tags.split(',').map(str::trim).any(|named| named.strip_prefix("W/").unwrap_or(named) == tag)
     }

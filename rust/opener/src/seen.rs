@@ -1,4 +1,4 @@
-//! The highest edition that was seen of each job, on disk: an old shelf that is put back is told by it.
+//! The highest edition that was seen of each job, on disk: it shows that an old shelf was put back.
 
 use crate::{files, sys};
 use std::collections::BTreeMap;
@@ -38,8 +38,8 @@ impl Seen {
         self.editions.get(&job).copied()
     }
 
-    /// Keeps the editions that are higher than those that are kept. They are on disk once this has come to its end, and
-    /// where that is an error none of them counts.
+    /// Stores the editions that are higher than before. They are on disk when this returns; after an error none of them
+    /// counts.
     pub fn note(&mut self, current: impl IntoIterator<Item = (u32, u16)>) -> Result<(), String> {
         let is_new = |(job, edition): &(u32, u16)| self.highest(*job).map_or(true, |highest| highest < *edition);
         let new: Vec<(u32, u16)> = current.into_iter().filter(is_new).collect();

@@ -16,8 +16,8 @@ pub enum Upstream {
 }
 
 impl Upstream {
-    /// Fetches the file of a job, of up to `most` bytes; `again` has the cache ask the store. The file begins at the place
-    /// in `into` that is answered.
+    /// Fetches the file of a job, of up to `most` bytes; `again` has the cache ask the store. The file begins at the
+    /// place in `into` that is answered.
     pub fn fetch(
         &self, job: u32, again: bool, until: Instant, most: usize, into: &mut Vec<u8>,
     ) -> Result<usize, String> {

@@ -4,7 +4,8 @@ use super::error::Sm4Error;
 use crate::{ffi, Direction, Key};
 use alloc::sync::Arc;
 
-/// The block cipher under a key, as GB/T 32907-2016 has it.
+/// The block cipher SM4 (GB/T 32907-2016) under a key. By default it uses tables, a cache side channel: see
+/// [`Engine`](crate::Engine).
 #[derive(Clone, Debug)]
 pub struct Sm4Cipher {
     key: Arc<Key>,
@@ -16,7 +17,7 @@ impl Sm4Cipher {
         Ok(Sm4Cipher::with_key(Key::new(key, 1)?))
     }
 
-    /// The cipher under a key that was set up, which may be shared.
+    /// The cipher under a key, which may be shared.
     pub fn with_key(key: impl Into<Arc<Key>>) -> Sm4Cipher {
         Sm4Cipher { key: key.into() }
     }

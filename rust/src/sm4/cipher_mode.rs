@@ -28,7 +28,7 @@ pub enum CipherMode {
 const LONGEST: usize = LONGEST_SEALED;
 
 impl CipherMode {
-    /// The room that `n` bytes to encrypt need, which is also how many they become.
+    /// The room needed to encrypt `n` bytes, which is also the length of the result.
     #[must_use]
     pub fn room_to_encrypt(self, n: usize) -> usize {
         match self {
@@ -38,7 +38,7 @@ impl CipherMode {
         }
     }
 
-    /// The room that `n` bytes to decrypt need. In Cbc they become fewer.
+    /// The room needed to decrypt `n` bytes. In Cbc the result is shorter.
     #[must_use]
     pub fn room_to_decrypt(self, n: usize) -> usize {
         match self {
@@ -61,7 +61,7 @@ impl Sm4CipherMode {
         Ok(Sm4CipherMode::with_key(Key::new(key, 1)?, mode))
     }
 
-    /// The mode under a key that was set up, which may be shared.
+    /// A mode under a key, which may be shared.
     ///
     /// ```
     /// use luossavin::sm4::cipher_mode::{CipherMode, Sm4CipherMode};
@@ -79,10 +79,10 @@ impl Sm4CipherMode {
         Sm4CipherMode { key: key.into(), mode }
     }
 
-    /// Encrypts `data`, in Gcm together with the label `aad`, which the other modes ignore. The IV has 16 bytes, or
-    /// in Gcm 12. That no two messages have the same key and IV is the caller's to see to.
+    /// Encrypts `data`. In Gcm it also authenticates the label `aad` (the associated data), which other modes ignore.
+    /// The IV (nonce) has 16 bytes; in Gcm 12 are allowed too. Never use a key and an IV twice.
     ///
-    /// Whether a counter came round is told by [`encrypt_into`](Sm4CipherMode::encrypt_into).
+    /// [`encrypt_into`](Sm4CipherMode::encrypt_into) also says whether the counter came round.
     pub fn encrypt(&self, aad: &[u8], data: &[u8], iv: &[u8]) -> Sm4Result<Vec<u8>> {
         let mut out = vec![0; self.mode.room_to_encrypt(data.len()).min(LONGEST)];
         let done = self.encrypt_into(aad, data, iv, &mut out)?;
@@ -90,14 +90,14 @@ impl Sm4CipherMode {
         Ok(out)
     }
 
-    /// Decrypts `data`, which was encrypted under the same label and IV. In Gcm there is no text before the tag is
-    /// found to be right, and in Cbc none before the padding is.
+    /// Decrypts `data`. Use the label and IV that it was encrypted under. In Gcm you get a text only if the tag is
+    /// right, and in Cbc only if the padding is.
     pub fn decrypt(&self, aad: &[u8], data: &[u8], iv: &[u8]) -> Sm4Result<Vec<u8>> {
         Ok(decrypted(&self.key, self.mode, aad, data, iv)?.0)
     }
 
-    /// Encrypts `data` into a buffer that is lent, which needs [`room_to_encrypt`](CipherMode::room_to_encrypt).
-    /// Bytes behind the result are as they were, and in a refusal all of them.
+    /// Encrypts `data` into your buffer, which needs [`room_to_encrypt`](CipherMode::room_to_encrypt). The bytes after
+    /// the result are not changed; in a refusal, none are.
     ///
     /// ```
     /// use luossavin::sm4::cipher_mode::{CipherMode, Sm4CipherMode};
@@ -113,19 +113,19 @@ impl Sm4CipherMode {
         ffi::message(Direction::Encrypt, self.mode, self.key.record(), aad, data, iv, out).result()
     }
 
-    /// Decrypts `data` into a buffer that is lent, which needs [`room_to_decrypt`](CipherMode::room_to_decrypt).
-    /// Bytes behind the result are as they were, and in a refusal all of them.
+    /// Decrypts `data` into your buffer, which needs [`room_to_decrypt`](CipherMode::room_to_decrypt). The bytes after
+    /// the result are not changed; in a refusal, none are.
     pub fn decrypt_into(&self, aad: &[u8], data: &[u8], iv: &[u8], out: &mut [u8]) -> Sm4Result<Done> {
         ffi::message(Direction::Decrypt, self.mode, self.key.record(), aad, data, iv, out).result()
     }
 
-    /// The key that it is under.
+    /// The key.
     #[must_use]
     pub fn key(&self) -> &Key {
         &self.key
     }
 
-    /// The mode that it is in.
+    /// The mode.
     #[must_use]
     pub fn mode(&self) -> CipherMode {
         self.mode

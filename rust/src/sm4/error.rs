@@ -3,5 +3,5 @@
 /// libsm's name for a [`Refusal`](crate::Refusal).
 pub use crate::Refusal as Sm4Error;
 
-/// What the calls of [`sm4`](crate::sm4) give back.
+/// The result of the calls of [`sm4`](crate::sm4).
 pub type Sm4Result<T> = Result<T, Sm4Error>;

@@ -1,4 +1,4 @@
-//! SM4 by libsm's names and shapes: what was `use libsm::sm4::..` becomes `use luossavin::sm4::..`.
+//! SM4 with libsm's names and signatures: change `use libsm::sm4::..` to `use luossavin::sm4::..`.
 //!
 //! ```
 //! use luossavin::sm4::cipher::Sm4Cipher;
@@ -13,9 +13,9 @@
 //! # Ok::<(), luossavin::sm4::error::Sm4Error>(())
 //! ```
 //!
-//! Where the two answer otherwise, `docs/DIFFERENCES.md` says why: no input ends the caller's process, lengths have a
-//! limit, Cbc reads all of its padding, Gcm takes an IV of 12 bytes too, and wrong sizes of key, IV and block have a
-//! name each.
+//! Differences from libsm (`docs/DIFFERENCES.md` has all): no input makes it panic, lengths have a limit, Cbc checks
+//! all of the padding, Gcm also takes an IV of 12 bytes, and wrong sizes of key, IV and block each have a name of their
+//! own.
 
 pub mod cipher;
 pub mod cipher_mode;

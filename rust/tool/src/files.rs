@@ -1,4 +1,4 @@
-//! Files: what is read is read once, into one buffer; what is written appears whole or not at all.
+//! Files: each input is read once, into one buffer; an output appears whole or not at all.
 
 use crate::progress::Progress;
 use crate::say::{cannot, input, shown, why, Fail};
@@ -12,7 +12,7 @@ use std::os::unix::fs::{FileTypeExt, MetadataExt, OpenOptionsExt, PermissionsExt
 use std::os::unix::io::{AsRawFd, RawFd};
 use std::path::{Path, PathBuf};
 
-/// How many bytes are read at a time where it is not known how many there are.
+/// How many bytes are read at a time if the length is not known.
 pub const PORTION: usize = 65_536;
 
 /// Bytes that are overwritten when they are dropped: keys, and texts.
@@ -20,7 +20,7 @@ pub const PORTION: usize = 65_536;
 pub struct Secret(pub Vec<u8>);
 
 impl Secret {
-    /// The bytes, of which there are no more than `n` from now on.
+    /// Shortens it to at most `n` bytes.
     pub fn shorten(&mut self, n: usize) {
         if let Some(rest) = self.0.get_mut(n..) {
             sys::wipe(rest);
@@ -60,7 +60,7 @@ impl Drop for Secret {
 /// A file that is read, once.
 pub struct Source {
     file: File,
-    /// What it is called where it cannot be read: "the key team.key".
+    /// Its name in error messages: "the key team.key".
     called: String,
     pub about: Metadata,
 }
@@ -80,7 +80,7 @@ impl Source {
         }
     }
 
-    /// Opens a shelf, which is a file and nothing that could keep us waiting.
+    /// Opens a shelf, which must be a regular file: a pipe could block.
     pub fn open_shelf(word: &OsStr) -> Result<Source, Fail> {
         let source = Source::of(OpenOptions::new().read(true).custom_flags(sys::O_NONBLOCK).open(word), shown(word))?;
         if !source.about.is_file() && !source.about.is_dir() {
@@ -89,7 +89,7 @@ impl Source {
         Ok(source)
     }
 
-    /// How many bytes the file has, where the system tells.
+    /// How many bytes the file has, if the system knows.
     pub fn size(&self) -> Option<u64> {
         self.about.is_file().then_some(self.about.len())
     }
@@ -104,7 +104,7 @@ impl Source {
         }
     }
 
-    /// All of it, but no more than `most` bytes and one, so that what is longer is seen to be.
+    /// All of it, up to `most` + 1 bytes: one byte more shows that it is too long.
     pub fn read(&mut self, most: usize, progress: &mut Progress) -> Result<Secret, Fail> {
         let expected = self.size().and_then(|size| usize::try_from(size).ok()).unwrap_or(PORTION);
         let mut held = Secret(vec![0; expected.min(most) + 1]);
@@ -131,7 +131,7 @@ pub fn read_small(word: &OsStr, what: &str, most: usize) -> Result<Secret, Fail>
     Source::open(word, what)?.read(most, &mut Progress::none())
 }
 
-/// Whether two are one file.
+/// Whether two names are the same file.
 pub fn are_one(a: &Metadata, b: &Metadata) -> bool {
     (a.dev(), a.ino()) == (b.dev(), b.ino())
 }
@@ -140,8 +140,8 @@ pub fn are_one(a: &Metadata, b: &Metadata) -> bool {
 const READ: [Thing; 7] =
     [Thing::Key, Thing::IvFile, Thing::Candidates, Thing::Keys, Thing::Ivs, Thing::Shelf, Thing::In];
 
-/// Sees to it that standard input is for one word alone, that a shelf is named once, and that what goes to standard
-/// output, or to a descriptor, does not go to a file that is read.
+/// Checks that standard input is used for one argument only, that a shelf is named once, and that standard output or a
+/// descriptor is not a file that is read.
 pub fn mind(line: &Line) -> Result<(), Fail> {
     let said: Vec<(Thing, &OsStr)> = READ.iter().filter_map(|thing| Some((*thing, line.value(*thing)?))).collect();
     let mut from_input = said.iter().filter(|said| said.1 == "-");
@@ -178,11 +178,11 @@ pub fn mind(line: &Line) -> Result<(), Fail> {
 
 /// Where OUT goes.
 enum Target {
-    /// A descriptor, a device or a pipe with a name, all of which are written straight.
+    /// A descriptor, a device or a named pipe: written directly.
     Descriptor(RawFd),
     Device,
     Pipe,
-    /// A file that is there, and one that is not.
+    /// A file that exists, and one that does not.
     Old(Metadata),
     New,
 }
@@ -205,8 +205,8 @@ pub fn descriptor(word: &OsStr) -> Option<RawFd> {
 }
 
 impl Output {
-    /// Looks at what OUT is: it is no folder, no link, and holds nothing of what it is made with. A terminal is spared
-    /// what is no text.
+    /// Checks OUT: it must not be a folder or a link, nor the file of the key or the IV; and a terminal gets no binary
+    /// output without `--force`.
     pub fn look(line: &Line, is_text: bool, held: &[(&str, &[u8])]) -> Result<Output, Fail> {
         let word = line.word(Thing::Out).to_os_string();
         let called = if word == "-" { "standard output".to_string() } else { shown(&word) };
@@ -242,12 +242,12 @@ impl Output {
         Ok(Output { word, called, target, is_terminal })
     }
 
-    /// Whether what is written goes on at once, and cannot be taken back.
+    /// Whether output is written directly, and cannot be taken back.
     pub fn is_straight(&self) -> bool {
         !matches!(self.target, Target::Old(_) | Target::New)
     }
 
-    /// Opens what is written straight.
+    /// Opens an output that is written directly.
     pub fn straight(&self) -> Result<File, Fail> {
         let opened = match self.target {
             Target::Descriptor(fd) => sys::copy_of(fd),
@@ -256,12 +256,12 @@ impl Output {
         opened.map_err(|error| cannot("write", &self.called, &error))
     }
 
-    /// Writes some of what is written straight.
+    /// Writes a part of an output that is written directly.
     pub fn put(&self, to: &mut File, bytes: &[u8]) -> Result<(), Fail> {
         to.write_all(bytes).map_err(|error| cannot("write", &self.called, &error))
     }
 
-    /// The sentence for a run that fails after some of OUT went on.
+    /// The error message of a run that fails after a part of OUT was written.
     pub fn not_whole(&self, fail: Fail) -> Fail {
         let text = format!("{}\nluossavin: what was written to {} is not whole", fail.text, self.called);
         Fail { text, ..fail }
@@ -277,7 +277,7 @@ impl Output {
     }
 }
 
-/// Whether a file is there that has just these bytes.
+/// Whether a file exists with exactly these bytes.
 fn holds(path: &Path, bytes: &[u8]) -> bool {
     let is_as_long = |about: Metadata| about.is_file() && about.len() == bytes.len() as u64;
     let mut here = Secret(vec![0; bytes.len()]);
@@ -294,7 +294,7 @@ pub fn random(n: usize) -> io::Result<String> {
     Ok(random.iter().map(|byte| format!("{byte:02x}")).collect())
 }
 
-/// A name in a folder that nobody guesses.
+/// A name in a folder that nobody can guess.
 fn unguessed(folder: &Path) -> io::Result<PathBuf> {
     Ok(folder.join(format!(".luossavin-{}", random(8)?)))
 }
@@ -304,7 +304,7 @@ fn folder_of(path: &Path) -> &Path {
     path.parent().filter(|folder| !folder.as_os_str().is_empty()).unwrap_or_else(|| Path::new("."))
 }
 
-/// A new file that has no name, or one that is taken away again unless it gets another.
+/// A new file without a name; or, if there are no such files, with a temporary name that is removed again.
 struct Unfinished {
     file: File,
     name: Option<PathBuf>,

@@ -33,7 +33,7 @@ pub fn page(word: Option<&OsString>, called: &str) -> Result<String, Fail> {
     Ok(page.1.replace("{tool}", called))
 }
 
-/// What this is, with what whoever built it has to say of it.
+/// The version, and what the build added to it (kit, commit, gate).
 pub fn version() -> String {
     let about = option_env!("LUOSSAVIN_ABOUT").unwrap_or("").trim_end();
     let more = if about.is_empty() { String::new() } else { format!("{about}\n") };

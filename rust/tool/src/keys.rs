@@ -23,7 +23,7 @@ fn trimmed(text: &[u8]) -> &[u8] {
     text.get(..end).unwrap_or_default()
 }
 
-/// What a key file holds: 32 hex digits and after them at most blanks, or the key's own bytes.
+/// The key in a key file: 32 hex digits with blanks at most after them, or else the bytes of the file.
 fn spelled(file: &[u8]) -> Secret {
     match Some(trimmed(file)).filter(|digits| digits.len() == 32).and_then(hex) {
         Some(key) => Secret(key),
@@ -31,7 +31,7 @@ fn spelled(file: &[u8]) -> Secret {
     }
 }
 
-/// How long a key file is that holds no key.
+/// The size of a key file that holds no key, for an error message.
 fn size_of(file: &[u8], size: Option<u64>) -> String {
     let digits = trimmed(file);
     if file.len() > MOST {
@@ -43,7 +43,7 @@ fn size_of(file: &[u8], size: Option<u64>) -> String {
     bytes(file.len() as u64)
 }
 
-/// The number of the key: 1 where none is said. One that is out of range is refused where the key is set up.
+/// The number of the key: 1 by default. A number out of range is refused when the key is set up.
 pub fn number(line: &Line) -> Result<u32, Fail> {
     let number: u64 = line.number(Thing::Number)?.unwrap_or(1);
     Ok(u32::try_from(number).unwrap_or(u32::MAX))
@@ -106,7 +106,7 @@ pub fn iv(line: &Line) -> Result<(Vec<u8>, Secret), Fail> {
     }
 }
 
-/// Warns of an IV that nobody should have taken.
+/// Warns of an IV that should not be used.
 pub fn warn(line: &Line, held: &Held, iv: &[u8]) {
     let start = line.start();
     if !iv.is_empty() && iv.iter().all(|byte| *byte == 0) {

@@ -1,8 +1,8 @@
 //! `luossavin`: seals transcripts under their job and edition, and opens them. Each command reads its inputs, makes one
 //! call of the proved library, and writes the result.
 //!
-//! This program is not proved. What it says and which files it touches is tested by `tool/test`; what becomes of the
-//! bytes is the library's.
+//! This program is not proved. `tool/test` tests what it says and which files it touches; the library computes the
+//! bytes.
 
 #![deny(unsafe_code)]
 #![cfg_attr(not(test), no_main)]
@@ -26,7 +26,7 @@ use say::{answer, say, Fail, BROKE, USAGE};
 use std::ffi::OsString;
 use words::{Line, Thing, COMMANDS};
 
-/// Runs the tool on its words, and answers the status that it ends with.
+/// Runs the tool on its arguments, and returns the exit status.
 #[cfg_attr(test, allow(dead_code))]
 fn run(words: &[OsString]) -> u8 {
     std::panic::set_hook(Box::new(|broken| {

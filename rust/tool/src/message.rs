@@ -82,7 +82,7 @@ impl<'a> Asked<'a> {
         }
     }
 
-    /// Reads the key. What stands against it, or against the IV, is said before IN is looked at.
+    /// Reads the key. A wrong key or IV is reported before IN is read.
     pub fn key(&self) -> Result<Held, Fail> {
         let held = keys::read(self.line, &self.name)?;
         keys::warn(self.line, &held, &self.iv);
@@ -92,7 +92,7 @@ impl<'a> Asked<'a> {
         }
     }
 
-    /// What comes of a message.
+    /// The result of a message.
     pub fn work(&self, key: &Arc<Key>, data: &[u8]) -> Result<(Secret, Done), Fail> {
         let room = match self.direction {
             Direction::Encrypt => self.mode.room_to_encrypt(data.len()),
@@ -126,7 +126,7 @@ impl<'a> Asked<'a> {
         Fail::refused(refusal, format!("{}{}", self.line.about(&self.name), told(refusal, &facts)))
     }
 
-    /// Says where a counter came round. The work is done all the same.
+    /// Warns if the counter came round. The output is right all the same.
     pub fn warn(&self, done: Done) {
         let next = match (self.mode, self.direction) {
             (CipherMode::Gcm, Direction::Encrypt) => "seal the file anew",
@@ -141,8 +141,8 @@ impl<'a> Asked<'a> {
         }
     }
 
-    /// Does the work: IN is read, one call is made, and OUT is written once nothing stands against it. Only what is
-    /// sealed, or goes through Ctr, from a pipe to a pipe goes on piece by piece.
+    /// Does the work: reads IN, makes one call, and writes OUT if it is done. Only seal and Ctr stream, and only from a
+    /// pipe to a pipe.
     fn run(&self) -> Result<u8, Fail> {
         let held = self.key()?;
         let mut source = Source::open(self.line.word(Thing::In), "")?;
@@ -179,7 +179,7 @@ impl<'a> Asked<'a> {
         Ok(sealed)
     }
 
-    /// Piece by piece, each passed on as it comes.
+    /// Streaming: each piece is written as it comes.
     fn stream(&self, key: &Key, source: &mut Source, output: &Output, progress: &mut Progress) -> Result<Done, Fail> {
         let mut pieces = match self.mode {
             CipherMode::Gcm => Seal::start(key, &self.label_bytes(), &self.iv).map(Pieces::Seal),
@@ -257,7 +257,7 @@ pub fn opened(line: &Line, status: u8, job: u32, edition: u16, more: &str) -> St
     format!("{} opens under job {job}, edition {edition}{with}{more}\n", input(line.word(Thing::In)))
 }
 
-/// Prints who does what of a text.
+/// Prints a plan.
 pub fn plan(line: &Line) -> Result<u8, Fail> {
     let (workers, length) = (line.number(Thing::Workers)?, line.number(Thing::Length)?);
     let plan = Plan::make(length.unwrap_or(0), workers.unwrap_or(0)).map_err(|refusal| {

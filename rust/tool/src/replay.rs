@@ -1,4 +1,4 @@
-//! A journal, made again: read once, portion by portion, whose reports are added up.
+//! Replays a journal: reads it once, in portions, and adds up their reports.
 
 use crate::files::{Secret, Source};
 use crate::keys;

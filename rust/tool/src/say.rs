@@ -1,4 +1,4 @@
-//! What is said: to a person on standard error, and as an answer on standard output.
+//! Output: messages on standard error, and answers on standard output.
 
 use crate::sys;
 use luossavin::Refusal;
@@ -51,7 +51,7 @@ pub fn why(error: &io::Error) -> String {
     }
 }
 
-/// Says a line on standard error. Where nobody hears it, there is nothing to be done.
+/// Writes a line to standard error. Errors are ignored: there is nowhere to report them.
 pub fn say(text: &str) {
     if !text.is_empty() {
         let _ = io::stderr().write_all(format!("{text}\n").as_bytes());
@@ -64,8 +64,8 @@ pub fn answer(text: &str) -> Result<u8, Fail> {
     written.map(|()| 0).map_err(|error| cannot("write", "standard output", &error))
 }
 
-/// Whether a character is kept from a terminal: it would move the cursor, turn the text round, or is not seen. Those
-/// that are not seen are Unicode's default ignorable ones.
+/// Whether a character must be escaped: it could move the cursor or change the direction of text, or it is invisible
+/// (Unicode: default ignorable).
 pub fn does_harm(c: char) -> bool {
     c.is_control()
         || matches!(u32::from(c), 0xad | 0x34f | 0x61c | 0x115f..=0x1160 | 0x17b4..=0x17b5 | 0x180b..=0x180f)
@@ -74,7 +74,7 @@ pub fn does_harm(c: char) -> bool {
         || matches!(u32::from(c), 0xe0000..=0xe0fff)
 }
 
-/// A name as it is shown: bytes that could do harm, or are no UTF-8, are spelled out.
+/// A name as it is shown: dangerous characters, and bytes that are not UTF-8, are escaped.
 pub fn shown(name: &OsStr) -> String {
     let mut text = String::new();
     let mut rest = name.as_bytes();
@@ -130,7 +130,7 @@ pub fn bytes(n: impl Into<u64>) -> String {
     }
 }
 
-/// What a refusal says, with what is known of a file in the place of its general words.
+/// The sentence of a refusal, with facts about the file instead of its general words.
 pub fn told(refusal: Refusal, facts: &[(&str, String)]) -> String {
     let general = refusal.to_string();
     facts.iter().fold(general, |text, (words, fact)| text.replacen(words, fact, 1))

@@ -144,7 +144,7 @@ pub fn open(line: &Line) -> Result<u8, Fail> {
     Ok(0)
 }
 
-/// Asks of every current record whether it opens under its own label, with the IV that the list has for it.
+/// Checks that every current record opens under its own label, with its IV in the list.
 pub fn verify(line: &Line) -> Result<u8, Fail> {
     let mut asked = Asked::read(line, Direction::Decrypt)?;
     let ivs = keys::ivs(line)?;
@@ -185,8 +185,8 @@ pub fn verify(line: &Line) -> Result<u8, Fail> {
     }
 }
 
-/// The lock of a shelf: a file beside it that can be written and not read, so that only who may change the shelf can
-/// take it. It is removed at the end; the system gives up the lock of a run that was killed.
+/// The lock of a shelf: a file beside it that can be written but not read, so that only who may change the shelf can
+/// take it. It is removed at the end; the system releases the lock of a run that was killed.
 struct Turn {
     path: PathBuf,
     _file: File,

@@ -42,8 +42,8 @@ pub const O_TMPFILE: c_int = 0o20_040_000;
 #[cfg(not(any(target_arch = "aarch64", target_arch = "arm")))]
 pub const O_TMPFILE: c_int = 0o20_200_000;
 
-/// What the system calls instead of Rust's own start, which would hide from us that a descriptor is closed, and would
-/// have writing to a closed pipe be an error.
+/// Replaces Rust's own start-up code, which hides that a descriptor is closed, and makes writing to a closed pipe an
+/// error.
 #[cfg(not(test))]
 #[no_mangle]
 pub extern "C" fn main(count: c_int, words: *const *const c_char) -> c_int {
@@ -125,7 +125,7 @@ pub fn umask() -> u32 {
     }
 }
 
-/// Has HUP, INT and TERM wait from now on: what is left to be done is short, and would leave a file behind.
+/// Blocks HUP, INT and TERM from now on: the rest is short, and would leave a file behind if interrupted.
 pub fn hold_signals() {
     let set = [1 | 1 << 1 | 1 << 14, 0, 0, 0, 0, 0, 0, 0, 0, 0, 0, 0, 0, 0, 0, 0];
     // SAFETY: a set of signals has 128 bytes, of which a bit stands for each signal from 1 on; nothing is handed back.
