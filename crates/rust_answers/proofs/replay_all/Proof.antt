@@ -1,6 +1,7 @@
 -- `rust_answers::replay_all` is safe and ends. The loop's invariant: no more records were seen than the list says it has, so that
 -- the count does not wrap. The measure is the number of records left.
-use Rattle.block.proofs.Base.{_-_, _≤_, needs}
+use Prim.Native.Nat.{_≤_, _-_}
+use borrow.Author.Needs.{needs}
 use Rattle.rust_answers.proofs.replay_all.Statement.{statement}
 use Rattle.rust_answers.proofs.replay_all.Tie as tie
 

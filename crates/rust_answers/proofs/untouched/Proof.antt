@@ -1,6 +1,8 @@
 -- `rust_answers::untouched` is safe and ends. The loop's test keeps each read inside, so that the invariant has nothing to say.
 -- The measure is what is left of `out`.
-use Rattle.block.proofs.Base.{_-_, needs, length}
+use Prim.Native.Nat.{_-_}
+use borrow.Author.Needs.{needs}
+use lib.ListN.{length}
 use Rattle.rust_answers.proofs.untouched.Statement.{statement}
 use Rattle.rust_answers.proofs.untouched.Tie as tie
 

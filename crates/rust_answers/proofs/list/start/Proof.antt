@@ -1,6 +1,7 @@
 -- `rust_answers::list::start` is safe and ends. The loop's invariant: a length takes four bytes, so that after `before` of them, at
 -- most five, the place has not wrapped. The measure is the number of fields left.
-use Rattle.block.proofs.Base.{_*_, _+_, _-_, _≤_, needs}
+use Prim.Native.Nat.{_≤_, _-_, _+_, _*_}
+use borrow.Author.Needs.{needs}
 use Rattle.rust_answers.proofs.list.start.Statement.{statement}
 use Rattle.rust_answers.proofs.list.start.Tie as tie
 
