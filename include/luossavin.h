@@ -816,7 +816,7 @@ struct luossavin_hash luossavin_hash_join(struct luossavin_hash h, struct luossa
 void luossavin_wipe(void *bytes, size_t size);
 void luossavin_wipe_stack(void);
 
-/* The version of the library, such as "1.2.0". */
+/* The version of the library, such as "1.3.0". */
 const char *luossavin_version(void);
 
 /* The name of a number: "InvalidTag" for 4, "Done" for 0, "Unknown" for a number that has no name. */
