@@ -170,7 +170,9 @@ pub fn mind(line: &Line) -> Result<(), Fail> {
     for (fd, what) in [(1, "standard output"), (out, "OUT")] {
         let about = sys::copy_of(fd).and_then(|file| file.metadata());
         if about.map_or(false, |about| about.is_file() && files.iter().any(|file| are_one(&file.1, &about))) {
-            return Err(Fail::files(format!("{what} is a file that is named elsewhere on the command line; expected another")));
+            return Err(Fail::files(format!(
+                "{what} is a file that is named elsewhere on the command line; expected another"
+            )));
         }
     }
     Ok(())
