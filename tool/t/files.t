@@ -34,7 +34,7 @@ done
 try 'OUT is the key that a link leads to' 66 'cannot write mykey: it holds the key' open --key way/soft "$@" rough.sealed mykey
 for words in --key=mykey '--key mykey'; do
     "$program" open $words "$@" rough.sealed - >>mykey 2>"$said"
-    judge "standard output is the key: $words" $? 66 'standard output is a file that the words name too'
+    judge "standard output is the key: $words" $? 66 'standard output is a file that is named elsewhere on the command line'
 done
 same 'the key is as it was' key mykey
 kept
@@ -94,7 +94,7 @@ same 'it has the text' rough out
 try 'OUT is a descriptor that is closed' 66 'cannot write /dev/fd/9: Bad file descriptor' open --key key "$@" rough.sealed /dev/fd/9 9>&-
 cp rough.sealed both
 cp sound.shelf before
-again='OUT is a file that the words name too; expected another'
+again='OUT is a file that is named elsewhere on the command line; expected another'
 try 'OUT is a descriptor of IN' 66 "$again" open --key key "$@" both /dev/fd/9 9<>both
 same 'which is as it was' rough.sealed both
 try 'and of the shelf' 66 "$again" shelf find --job 4711 sound.shelf /dev/fd/9 9<>sound.shelf

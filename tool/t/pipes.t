@@ -12,9 +12,9 @@ cp rough both
 gives 'seal a file in its own place' 'it is the sealed file' rough.sealed seal "$@" both both
 gives 'open it in its own place' 'it is the text' rough open "$@" both both
 "$program" seal "$@" both - >>both 2>"$said"
-judge 'standard output behind its own text' $? 66 'standard output is a file that the words name too'
+judge 'standard output behind its own text' $? 66 'standard output is a file that is named elsewhere on the command line'
 "$program" seal "$@" - - <both >>both 2>"$said"
-judge 'and on standard input' $? 66 'standard output is a file that the words name too'
+judge 'and on standard input' $? 66 'standard output is a file that is named elsewhere on the command line'
 same 'it is as it was' rough both
 # a reader that goes away ends the run, as with other tools
 head -c 1000000 /dev/zero >zeros

@@ -5,10 +5,10 @@
 set -- --key key --iv $iv
 make_editions 4711.1 4711.2 4712.1
 
-try 'put without a key, or a word that says so' 64 'expected --key FILE and --iv HEX, by which it is seen that IN opens as this edition, '\
-'or --unchecked, which puts any file on the shelf' shelf put --job 4711 --edition 1 asked.shelf 4711.1
+try 'put without a key, or a word that says so' 64 'expected --key FILE and --iv HEX, to check that IN opens as this edition, '\
+'or --unchecked to put it on the shelf without that check' shelf put --job 4711 --edition 1 asked.shelf 4711.1
 for alone in '--key key' "--iv $iv" --retired '--number 7'; do
-    try "nor with $alone alone" 64 'or --unchecked, which puts any file on the shelf' shelf put $alone --job 4711 --edition 1 asked.shelf 4711.1
+    try "nor with $alone alone" 64 'or --unchecked to put it on the shelf without that check' shelf put $alone --job 4711 --edition 1 asked.shelf 4711.1
     try 'nor beside --unchecked' 64 "expected --unchecked, or --key and --iv, not both: \"${alone%% *}\"" \
         shelf put --unchecked $alone --job 4711 --edition 1 asked.shelf 4711.1
 done

@@ -83,8 +83,8 @@ another IV|4|4 InvalidTag: $sealed job 4711, edition 2, with key 7 and this IV|o
 number 0|13|13 WrongNumber: the key's number is 1 to 65535, not 0|open --key key --number 0 --iv 00 --job 4711 team.shelf out
 a short IV|10|10 WrongIv: the IV has 1 byte, not 12 or 16|open --key key --iv 00 --job 4711 team.shelf out
 what is wrong with the shelf before the key|22|22 NoCurrent|open --key short --iv 00 --job 5 team.shelf out
-OUT is SHELF|66|the shelf is a file that the words name twice|find --job 4711 team.shelf ./team.shelf
-IN is SHELF|66|the shelf is a file that the words name twice|put --unchecked --job 4711 --edition 3 team.shelf team.shelf
+OUT is SHELF|66|the shelf is named twice on the command line|find --job 4711 team.shelf ./team.shelf
+IN is SHELF|66|the shelf is named twice on the command line|put --unchecked --job 4711 --edition 3 team.shelf team.shelf
 OUT holds the key|66|it holds the key|open --key keyfile --iv $iv --job 4711 team.shelf keyfile
 SHELF is a link|66|cannot write link.shelf: it is a link|put --unchecked --job 9 --edition 1 link.shelf 4711.1
 end

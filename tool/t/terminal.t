@@ -42,7 +42,7 @@ done
 judge 'and how much of a file' "$status" 0 '% of '
 
 # what is no text
-expected='expected OUT that is no terminal, since what is written is no text, or --force'
+expected='expected a file for OUT, not a terminal, since the output is binary; or --force'
 typed 'sealed bytes and a terminal' 64 "$expected" "./luossavin seal $* --edition 1 rough -"
 typed 'with --force' 0 "$(head -c 20 rough.sealed | tr -d '\n\r\000')" "./luossavin seal --force $* --edition 1 rough -"
 typed 'text is written to a terminal' 0 'ROUGH DRAFT' "./luossavin open $* --edition 1 rough.sealed -"

@@ -163,14 +163,16 @@ pub fn mind(line: &Line) -> Result<(), Fail> {
         .collect();
     if let Some((_, shelf)) = files.iter().find(|file| file.0 == Thing::Shelf) {
         if files.iter().any(|file| file.0 != Thing::Shelf && are_one(&file.1, shelf)) {
-            return Err(Fail::files("the shelf is a file that the words name twice; expected another".to_string()));
+            return Err(Fail::files("the shelf is named twice on the command line; expected another file".to_string()));
         }
     }
     let out = line.value(Thing::Out).and_then(descriptor).unwrap_or(1);
     for (fd, what) in [(1, "standard output"), (out, "OUT")] {
         let about = sys::copy_of(fd).and_then(|file| file.metadata());
         if about.map_or(false, |about| about.is_file() && files.iter().any(|file| are_one(&file.1, &about))) {
-            return Err(Fail::files(format!("{what} is a file that the words name too; expected another")));
+            return Err(Fail::files(format!(
+                "{what} is a file that is named elsewhere on the command line; expected another"
+            )));
         }
     }
     Ok(())
@@ -230,7 +232,7 @@ impl Output {
             _ => false,
         };
         if is_terminal && !is_text && !line.says(Thing::Force) {
-            let text = "expected OUT that is no terminal, since what is written is no text, or --force";
+            let text = "expected a file for OUT, not a terminal, since the output is binary; or --force";
             return Err(line.fault(text));
         }
         let path = fd.map_or(PathBuf::from(&word), |fd| PathBuf::from(format!("/proc/self/fd/{fd}")));

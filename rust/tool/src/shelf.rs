@@ -290,7 +290,7 @@ pub fn put(line: &Line) -> Result<u8, Fail> {
     let (job, edition) = asked.label;
     let is_checked = line.says(Thing::Key) && (line.says(Thing::Iv) || line.says(Thing::IvFile));
     if !is_checked && !line.says(Thing::Unchecked) {
-        let text = "expected --key FILE and --iv HEX, by which it is seen that IN opens as this edition, or --unchecked, which puts any file on the shelf";
+        let text = "expected --key FILE and --iv HEX, to check that IN opens as this edition, or --unchecked to put it on the shelf without that check";
         return Err(line.fault(text));
     }
     look_at_shelf(line.word(Thing::Shelf))?;
