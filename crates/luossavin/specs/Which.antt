@@ -3,7 +3,7 @@
 use Prim.Native.Nat.{ℕ}
 use mathlib.Core.Bool.{cond}
 use mathlib.Core.List.{List}
-use Rattle.walk.specs.Outcome.{Head, refusal}
+use Rattle.walk.specs.Outcome.{Head, finished, refusal}
 use Rattle.cipher_mode.specs.Answer.{refusalHead}
 use Rattle.editions.specs.Which.{Verdict, which}
 use Rattle.editions.specs.declared.Ended.{Ended}
@@ -30,9 +30,9 @@ toldOf v = record { head = v .head; found = cond (v .found) 1 0; place = v .plac
 unfoldable pub hostWhich : LuossavinKey → List ℕ → List ℕ → List ℕ → List ℕ → Told
 hostWhich k file iv labels lengths = toldOf (which (cipherIn k) file iv labels lengths)
 
--- how a question ended, as an answer, where n is the number that says that no candidate was: 0 is done
+-- how a question ended, as an answer, where n is the number that says that no candidate opens: 0 or 4
 abbrev pub endedHead : ℕ → Ended → Head
-endedHead n Candidate = refusal 0
+endedHead n Candidate = finished 0
 endedHead n None = refusal n
 endedHead n BadList = refusal 16
 endedHead n (Refused r) = refusalHead r

@@ -13,7 +13,7 @@ mod workers;
 ghost use mathlib.Core.Path.{_≡_};
 ghost use Rattle.walk.specs.Outcome.{under, refusal};
 ghost use Rattle.cipher_mode.specs.Answer.{headOf};
-ghost use Rattle.luossavin.specs.Host.{headIn, reported, hostBlockCall, hostModeCall};
+ghost use Rattle.luossavin.specs.Host.{headIn, reported, modeIn, hostBlockCall, hostModeCall};
 use cipher_mode::Direction;
 use cipher_mode::Sm4CipherMode;
 use cipher_mode::answer;
@@ -71,6 +71,17 @@ pub(crate) fn report(answer: answer::Answer) -> LuossavinAnswer
     }
 }
 
+// The record with the mode that it is used in.
+fn mode_in(key: LuossavinKey, mode: u32) -> Sm4CipherMode
+    ensures { λ r. ⌜ r ≡ modeIn key mode ⌝ }
+{
+    Sm4CipherMode {
+        cipher: cipher_of(key),
+        mode: cipher_mode::mode_of(mode),
+    }
+}
+
+// A mode number from 0 to 4 names its mode, and any other is refused.
 pub(crate) fn mode_call(
     direction: Direction,
     mode: u32,
@@ -82,14 +93,10 @@ pub(crate) fn mode_call(
 ) -> LuossavinAnswer
     ensures { λ r. ⌜ reported r (now (out .exit)) ≡ hostModeCall direction mode key (now (aad .entry)) (now («data» .entry)) (now (iv .entry)) (now (out .entry)) ⌝ }
 {
-    if mode > 4 {
-        return numbered(BAD_MODE, 0);
+    match mode {
+        0..=4 => report(mode_in(key, mode).call(direction, aad, data, iv, out)),
+        _ => numbered(BAD_MODE, 0),
     }
-    let under = Sm4CipherMode {
-        cipher: cipher_of(key),
-        mode: cipher_mode::mode_of(mode),
-    };
-    report(under.call(direction, aad, data, iv, out))
 }
 
 #[no_mangle]
