@@ -5,8 +5,9 @@ use Rattle.walk.specs.Reached.{Reached}
 use Rattle.walk.specs.Walk.{chain, endState, over}
 use Rattle.walk.proofs.Cut.{end-cut, chain-cut}
 use Rattle.walk.proofs.Loop.{over-append}
-use Rattle.cbc.specs.Cbc.{padding, padded, cbcEncrypt}
-use Rattle.cbc.proofs.Padding.{length-padded}
+use Rattle.padding.specs.Padding.{padding, padded}
+use Rattle.padding.proofs.Filled.{length-padded}
+use Rattle.cbc.specs.Cbc.{cbcEncrypt}
 use Rattle.cbc.proofs.RoundTrip.{length-encrypt}
 
 -- the full blocks of d gave the front of o, from the state s on

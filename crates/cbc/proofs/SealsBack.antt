@@ -6,11 +6,11 @@ use Rattle.cipher.specs.Sm4.{decryptBlock}
 use Rattle.cipher.proofs.Blocks.{length-decryptBlock, block-encrypt-decrypt}
 use Rattle.walk.specs.Walk.{chain}
 use Rattle.walk.proofs.Undo.{Undoes, undo}
-use Rattle.cbc.specs.Cbc.{cbcEncrypt, cbcDecrypt, cbcSeal}
-use Rattle.cbc.specs.Open.{unpadded, cbcText}
-use Rattle.cbc.specs.declared.Opened.the-variants.{Done}
+use Rattle.padding.specs.Padding.{unpadded}
+use Rattle.padding.specs.declared.Opened.the-variants.{Done}
+use Rattle.padding.proofs.Unpadded.{unpadded-padded}
+use Rattle.cbc.specs.Cbc.{cbcEncrypt, cbcDecrypt, cbcSeal, cbcText}
 use Rattle.cbc.proofs.Blocks.{Sixteen, Text, whole-short, whole-empty, text-front, text-back, decrypt-block, length-decrypt}
-use Rattle.cbc.proofs.Unpadded.{unpadded-padded}
 
 block-back : (rk s c : List ℕ) → Sixteen s → Text c → length c ≡ 16 → cbcEncrypt rk .block s (cbcDecrypt rk .block s c) ≡ c
 block-back rk s c hs hc n =

@@ -6,9 +6,10 @@ use Rattle.block.specs.Xor.{xors}
 use Rattle.cipher.proofs.Blocks.{length-encryptBlock}
 use Rattle.walk.proofs.Batch.{reached-next}
 use Rattle.walk.proofs.Loop.{tailed, tail-is, nothing-left}
-use Rattle.cbc.specs.Cbc.{padded, cbcEncrypt, cbcSeal}
+use Rattle.padding.specs.Padding.{padded}
+use Rattle.padding.proofs.Filled.{length-padded, rest-padded}
+use Rattle.cbc.specs.Cbc.{cbcEncrypt, cbcSeal}
 use Rattle.cbc.proofs.Goes.{blocks-reached}
-use Rattle.cbc.proofs.Padding.{length-padded, rest-padded}
 use Rattle.cbc.proofs.encrypt.Statement.{statement}
 use Rattle.cbc.proofs.encrypt.Tie as tie
 

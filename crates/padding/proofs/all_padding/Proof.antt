@@ -1,9 +1,9 @@
--- `cbc::all_padding` meets its contract. The loop's invariant: the differences that are added, and those that the bytes from i on will add,
+-- `padding::all_padding` meets its contract. The loop's invariant: the differences that are added, and those that the bytes from i on will add,
 -- are those of the whole block.
 use Rattle.block.proofs.Base.{_*_, _+_, _-_, _≤_, _≡_, arith, needs, drop, getD, length, w8, Fits}
-use Rattle.cbc.proofs.AllPadding.{difference, differences, difference-le, difference-turn, none-left, padding-test}
-use Rattle.cbc.proofs.all_padding.Statement.{statement}
-use Rattle.cbc.proofs.all_padding.Tie as tie
+use Rattle.padding.proofs.AllPadding.{difference, differences, difference-le, difference-turn, none-left, padding-test}
+use Rattle.padding.proofs.all_padding.Statement.{statement}
+use Rattle.padding.proofs.all_padding.Tie as tie
 
 abbrev Inv-loop : tie.InvT-loop
 Inv-loop n last differ₀ i₀ differ i =

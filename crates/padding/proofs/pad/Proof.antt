@@ -1,10 +1,10 @@
--- `cbc::pad` meets its contract. The array starts as sixteen times the count; the loop's invariant: the first i bytes are the rest's, and
+-- `padding::pad` meets its contract. The array starts as sixteen times the count; the loop's invariant: the first i bytes are the rest's, and
 -- what is left is the padding.
 use Rattle.block.proofs.Base.{_-_, _≤_, _≡_, refl, _++_, arith, now, drop, length, length-set, replicate, take}
 use Rattle.walk.proofs.Fill.{copy-turn}
-use Rattle.cbc.proofs.Padding.{pad-filled}
-use Rattle.cbc.proofs.pad.Statement.{statement}
-use Rattle.cbc.proofs.pad.Tie as tie
+use Rattle.padding.proofs.Filled.{pad-filled}
+use Rattle.padding.proofs.pad.Statement.{statement}
+use Rattle.padding.proofs.pad.Tie as tie
 
 abbrev Inv-loop : tie.InvT-loop
 Inv-loop rest last₀ i₀ last i = (i ≤ length rest) × (length last ≡ 16) × (last ≡ take i rest ++ drop i last₀)

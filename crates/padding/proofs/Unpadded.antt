@@ -7,10 +7,10 @@ use lib.ListN.{getD-replicate}
 use lib.Seq.{getD-append-add}
 use Rattle.block.specs.Same.{same}
 use Rattle.block.proofs.Same.{and-left, and-right, same-refl, same-equal}
-use Rattle.cbc.specs.Cbc.{padding, padded}
-use Rattle.cbc.specs.Open.{lastByte, namesPadding, allPadding, unpadded}
-use Rattle.cbc.specs.declared.Opened.{Opened}
-use Rattle.cbc.specs.declared.Opened.the-variants.{Done, InvalidLastU8, InvalidPadding}
+use Rattle.padding.specs.Padding.{padding, padded}
+use Rattle.padding.specs.Padding.{lastByte, namesPadding, allPadding, unpadded}
+use Rattle.padding.specs.declared.Opened.{Opened}
+use Rattle.padding.specs.declared.Opened.the-variants.{Done, InvalidLastU8, InvalidPadding}
 
 pub names-some : (b : ℕ) → 1 ≤ b → b ≤ 16 → namesPadding b ≡ true
 unfolding namesPadding

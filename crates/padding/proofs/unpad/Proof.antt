@@ -1,9 +1,9 @@
--- `cbc::unpad` meets its contract: the range of the last byte tells whether it names a padding, and `all_padding` whether all of the
+-- `padding::unpad` meets its contract: the range of the last byte tells whether it names a padding, and `all_padding` whether all of the
 -- padding holds it.
 use Rattle.block.proofs.Base.{_∙_, refl, sym, false, true, arith, needs, not-false, not-true}
-use Rattle.cbc.proofs.Unpadded.{names-some, zero-names-none, high-names-none, block-unpadded}
-use Rattle.cbc.proofs.unpad.Statement.{statement}
-use Rattle.cbc.proofs.unpad.Tie as tie
+use Rattle.padding.proofs.Unpadded.{names-some, zero-names-none, high-names-none, block-unpadded}
+use Rattle.padding.proofs.unpad.Statement.{statement}
+use Rattle.padding.proofs.unpad.Tie as tie
 
 returns : tie.Need-returns
 returns c =
