@@ -216,14 +216,22 @@ pub fn tag_part(data: &[u8]) -> &[u8]
     &data[n..]
 }
 
-// Whether a sealed message has this tag. All sixteen bytes are looked at, whatever the first ones are: the differences are added up, since of
-// an `|` of them the back end can make a jump for each.
+// Whether sixteen bytes are this tag. All of them are looked at, whatever the first ones are: the differences are added up, since of an
+// `|` of them the back end can make a jump for each.
+pub fn is_tag(bytes: &[u8], expected: [u32; 4]) -> bool
+    requires { ⌜ length (now bytes) ≡ 16 ⌝ }
+    ensures { λ r. ⌜ r ≡ same (now (bytes .entry)) (unwords expected) ⌝ }
+{
+    let d = block::block_xor(block::split_block(bytes), expected);
+    d[0] as u64 + d[1] as u64 + d[2] as u64 + d[3] as u64 == 0
+}
+
+// Whether a sealed message has this tag.
 fn has_tag(data: &[u8], expected: [u32; 4]) -> bool
     requires { ⌜ 16 ≤ length (now «data») ⌝ }
     ensures { λ r. ⌜ r ≡ same (tagPart (now («data» .entry))) (unwords expected) ⌝ }
 {
-    let d = block::block_xor(block::split_block(tag_part(data)), expected);
-    d[0] as u64 + d[1] as u64 + d[2] as u64 + d[3] as u64 == 0
+    is_tag(tag_part(data), expected)
 }
 
 // Whether a sealed message opens under a label.
