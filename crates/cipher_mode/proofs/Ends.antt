@@ -4,7 +4,7 @@ use Rattle.block.specs.Words.{words, unwords}
 use Rattle.block.proofs.Entries.{below-each}
 use Rattle.block.proofs.WordsBack.{length-unwords, unwords-words}
 use Rattle.cipher.specs.Sm4.{encryptWords, decryptWords, encryptBlock, decryptBlock}
-use Rattle.cipher_mode.specs.Outcome.{Head, Outcome, finished, under, telling, leaving, keyed, reporting, done}
+use Rattle.walk.specs.Outcome.{Head, Outcome, finished, under, telling, leaving, keyed, reporting, done}
 use Rattle.walk.specs.Walk.{over}
 use Rattle.cipher_mode.specs.declared.answer.Refusal.{Refusal}
 use Rattle.cipher_mode.specs.declared.answer.Answer.{Answer}

@@ -10,7 +10,7 @@ use Rattle.cbc.specs.Cbc.{cbcSeal, cbcText}
 use Rattle.cbc.proofs.RoundTrip.{cbc-back}
 use Rattle.gcm.specs.Gcm.{textPart, textOf, opensUnder, textInto}
 use Rattle.gcm.proofs.Settled.{into-refused, into-opened, text-size}
-use Rattle.cipher_mode.specs.Outcome.{Head, Outcome, finished, refusal, refused, telling, leaving, reporting, written, done}
+use Rattle.walk.specs.Outcome.{Head, Outcome, finished, refusal, refused, telling, leaving, reporting, written, done}
 use Rattle.cipher_mode.specs.Calls.{cbcHead, cbcOpen, gcmOpen}
 
 -- what is reported is what is written

@@ -1,4 +1,3 @@
-pub mod Outcome
 pub mod Answer
 pub mod Engines
 pub mod Key

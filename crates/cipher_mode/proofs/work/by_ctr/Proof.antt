@@ -2,7 +2,7 @@
 -- IV, whose words spell it.
 use Rattle.block.proofs.Base.{_<_, ℕ, _∙_, ap, refl, List, arith, needs, now, getD, length}
 use Rattle.counter.specs.CameRound.{blocksOf, ctrCameRound}
-use Rattle.cipher_mode.specs.Outcome.{done}
+use Rattle.walk.specs.Outcome.{done}
 use Rattle.walk.specs.Walk.{chain}
 use Rattle.stream.specs.Stream.{streamMode}
 use Rattle.stream.specs.declared.Kind.the-variants.{Ctr}

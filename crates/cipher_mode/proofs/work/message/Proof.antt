@@ -1,6 +1,6 @@
 -- `cipher_mode::work::message` meets its contract: in each arm the mode is known, and the definition gives what that arm's function leaves.
 use Rattle.block.proofs.Base.{_∙_, ap, needs, now}
-use Rattle.cipher_mode.specs.Outcome.{Head, Outcome, leaving, done}
+use Rattle.walk.specs.Outcome.{Head, Outcome, leaving, done}
 use Rattle.walk.specs.Walk.{chain}
 use Rattle.stream.specs.Stream.{streamMode}
 use Rattle.stream.specs.declared.Kind.{Kind}
