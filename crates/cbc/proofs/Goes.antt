@@ -1,10 +1,10 @@
 -- Sealing goes on behind the full blocks: what they gave, and then, from the state that they end in, what the padded rest gives.
-use Rattle.block.proofs.Base.{_%_, _+_, _<_, _≤_, ℕ, _∙_, _≡_, ap, refl, sym, List, [], _++_, arith, drop, length, length-append, length-drop, take}
+use Rattle.block.proofs.Base.{_%_, _≤_, ℕ, _∙_, _≡_, ap, refl, sym, List, _++_, arith, drop, length, length-append, length-drop, take}
 use Rattle.block.proofs.Base.{take-append-drop, drop-at, length-take-le, take-append-le, take-at}
 use Rattle.walk.specs.Reached.{Reached}
-use Rattle.walk.specs.Walk.{Mode, chain, endState, over}
+use Rattle.walk.specs.Walk.{chain, endState, over}
 use Rattle.walk.proofs.Cut.{end-cut, chain-cut}
-use Rattle.walk.proofs.Loop.{over-append, last-state, nothing-left}
+use Rattle.walk.proofs.Loop.{over-append}
 use Rattle.padding.specs.Padding.{padding, padded}
 use Rattle.padding.proofs.Filled.{length-padded}
 use Rattle.cbc.specs.Cbc.{cbcEncrypt}
@@ -35,8 +35,3 @@ blocks-reached rk s s′ d o o′ at h r w fs fo =
       ends = sym (ap (endState m s) e ∙ end-cut m b s a (rw l w) ∙ ap (λ (x : List ℕ). endState m x b) (sym fs));
       leaves = rw (x, y, z) (sym (over-append C P o));
     }
-
--- the walk has come to where no full block is left, and the rest gives nothing: it has ended
-pub reached-end : {m : Mode} {s d o s′ o′ : List ℕ} {at : ℕ} → Reached m s d o s′ o′ at → length d < at + 16 → m .rest s′ (drop at d) ≡ []
-    → (s′ ≡ endState m s d) × (o′ ≡ over (chain m s d) o)
-reached-end {m} {s} {d} {o} {s′} {o′} {at} R h e = (last-state m s′ d at h ∙ R .ends, nothing-left m s′ d o′ at h e ∙ R .leaves)

@@ -1,6 +1,6 @@
 -- Many blocks at once: what n full blocks give, each from the state that the walk has there, is what the walk gives. So a loop that writes
 -- one block a turn, or many, goes on where the walk had come to.
-use Rattle.block.proofs.Base.{_%_, _*_, _+_, _-_, _<_, _≤_, suc, zero, ℕ, _∙_, _≡_, ap, ap₂, refl, sym, List, _++_, append-assoc, arith}
+use Rattle.block.proofs.Base.{_%_, _*_, _+_, _-_, _<_, _≤_, suc, zero, ℕ, _∙_, _≡_, ap, ap₂, refl, sym, List, [], _++_, append-assoc, arith}
 use Rattle.block.proofs.Base.{drop, length, length-append, length-drop, take, drop-at, drop-drop, length-take-le, take-at}
 use Rattle.block.specs.Blocks.{blockAt, cat}
 use Rattle.block.proofs.Cat.{cat-same, cat-first, length-cat}
@@ -8,7 +8,7 @@ use Rattle.walk.specs.Walk.{Mode, chain, stepped, endState, over}
 use Rattle.walk.specs.Reached.{Reached}
 use Rattle.walk.proofs.Chain.{chain-block}
 use Rattle.walk.proofs.Cut.{end-block}
-use Rattle.walk.proofs.Loop.{tailed, tail-is, returned, returned-is, over-append}
+use Rattle.walk.proofs.Loop.{tailed, tail-is, returned, returned-is, over-append, last-state, nothing-left}
 
 -- what block i gives, from the state that the walk has there
 abbrev pub gives : Mode → List ℕ → List ℕ → ℕ → List ℕ
@@ -55,6 +55,11 @@ end-blocks m (suc n) s d h =
 -- before the first block
 pub reached-first : (m : Mode) (s d o : List ℕ) → Reached m s d o s o 0
 reached-first m s d o = record { within = omega arith; size = refl; ends = refl; leaves = refl }
+
+-- the walk has come to where no full block is left, and the rest gives nothing: it has ended
+pub reached-end : {m : Mode} {s d o s′ o′ : List ℕ} {at : ℕ} → Reached m s d o s′ o′ at → length d < at + 16 → m .rest s′ (drop at d) ≡ []
+    → (s′ ≡ endState m s d) × (o′ ≡ over (chain m s d) o)
+reached-end {m} {s} {d} {o} {s′} {o′} {at} R h e = (last-state m s′ d at h ∙ R .ends, nothing-left m s′ d o′ at h e ∙ R .leaves)
 
 -- n blocks more were written where the walk had come to
 module _ (m : Mode) (s d o r p : List ℕ) (at : ℕ) (R : Reached m s d o r p at) where

@@ -4,10 +4,9 @@ use Rattle.block.proofs.Base.{_-_, refl, reverse, arith, needs, length}
 use Rattle.block.specs.Words.{unwords}
 use Rattle.block.proofs.WordsBack.{length-unwords}
 use Rattle.walk.specs.Reached.{Reached}
-use Rattle.walk.proofs.Batch.{reached-first, reached-next}
+use Rattle.walk.proofs.Batch.{reached-first, reached-next, reached-end}
 use Rattle.cbc.specs.Cbc.{cbcDecrypt}
 use Rattle.cbc.proofs.Blocks.{decrypt-block}
-use Rattle.cbc.proofs.Goes.{reached-end}
 use Rattle.cbc.proofs.decrypt_one_by_one.Statement.{statement}
 use Rattle.cbc.proofs.decrypt_one_by_one.Tie as tie
 

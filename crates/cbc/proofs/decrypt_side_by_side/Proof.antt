@@ -4,12 +4,11 @@ use Rattle.block.proofs.Base.{_%_, _*_, _-_, _≤_, _∙_, _≡_, refl, reverse
 use Rattle.block.specs.Words.{unwords}
 use Rattle.block.proofs.WordsBack.{length-unwords}
 use Rattle.walk.specs.Reached.{Reached}
-use Rattle.walk.proofs.Batch.{reached-first, reached-on}
+use Rattle.walk.proofs.Batch.{reached-first, reached-on, reached-end}
 use Rattle.walk.proofs.Loop.{tail-is}
 use Rattle.cbc.specs.Cbc.{cbcDecrypt}
 use Rattle.cbc.proofs.Batches.{fed-next, full-state}
 use Rattle.cbc.proofs.Blocks.{decrypt-block}
-use Rattle.cbc.proofs.Goes.{reached-end}
 use Rattle.cbc.proofs.decrypt_side_by_side.Statement.{statement}
 use Rattle.cbc.proofs.decrypt_side_by_side.Tie as tie
 

@@ -4,9 +4,8 @@ use Rattle.block.proofs.Base.{_-_, refl, arith, needs, length}
 use Rattle.block.specs.Words.{unwords}
 use Rattle.cipher.proofs.Blocks.{length-encryptBlock}
 use Rattle.walk.specs.Reached.{Reached}
-use Rattle.walk.proofs.Batch.{reached-first, reached-next}
+use Rattle.walk.proofs.Batch.{reached-first, reached-next, reached-end}
 use Rattle.cbc.specs.Cbc.{cbcEncrypt}
-use Rattle.cbc.proofs.Goes.{reached-end}
 use Rattle.cbc.proofs.encrypt_blocks.Statement.{statement}
 use Rattle.cbc.proofs.encrypt_blocks.Tie as tie
 

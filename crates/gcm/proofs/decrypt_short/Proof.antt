@@ -57,9 +57,11 @@ returns c =
     let o = now (a .out) in
     let opens = sym (told (at-if1 .before) rk j p) ∙ at-if1 .if1 .taken in
     let is-text : xors (now (at-text .text-part .result)) (tailed 32 (now (a .pads))) ≡ textOf rk j (textPart d) =
-    text-front rk j (now (a .pads)) _ p _ (text-long at-text) ∙ ap (textOf rk j) (at-text .text-part .ensures) in
-    (sym opens, at-xor-bytes .xor-bytes .ensures ∙ ap (λ (q : List ℕ). over q o) is-text
-    ∙ into-opened rk (value (a .h)) j (now (a .aad)) d o opens)
+    text-front rk j (now (a .pads)) _ p _ (text-long at-text) ∙ ap (textOf rk j) (at-text .text-part .ensures) in (
+      sym opens,
+      at-xor-bytes .xor-bytes .ensures ∙ ap (λ (q : List ℕ). over q o) is-text
+          ∙ into-opened rk (value (a .h)) j (now (a .aad)) d o opens,
+    )
 
 returns-2 : tie.Need-returns-2
 returns-2 c =
