@@ -57,9 +57,9 @@ pub reached-first : (m : Mode) (s d o : List ℕ) → Reached m s d o s o 0
 reached-first m s d o = record { within = omega arith; size = refl; ends = refl; leaves = refl }
 
 -- the walk has come to where no full block is left, and the rest gives nothing: it has ended
-pub reached-end : {m : Mode} {s d o s′ o′ : List ℕ} {at : ℕ} → Reached m s d o s′ o′ at → length d < at + 16 → m .rest s′ (drop at d) ≡ []
+pub walk-ended : {m : Mode} {s d o s′ o′ : List ℕ} {at : ℕ} → Reached m s d o s′ o′ at → length d < at + 16 → m .rest s′ (drop at d) ≡ []
     → (s′ ≡ endState m s d) × (o′ ≡ over (chain m s d) o)
-reached-end {m} {s} {d} {o} {s′} {o′} {at} R h e = (last-state m s′ d at h ∙ R .ends, nothing-left m s′ d o′ at h e ∙ R .leaves)
+walk-ended {m} {s} {d} {o} {s′} {o′} {at} R h e = (last-state m s′ d at h ∙ R .ends, nothing-left m s′ d o′ at h e ∙ R .leaves)
 
 -- n blocks more were written where the walk had come to
 module _ (m : Mode) (s d o r p : List ℕ) (at : ℕ) (R : Reached m s d o r p at) where

@@ -4,7 +4,7 @@ use Rattle.block.proofs.Base.{_-_, refl, reverse, arith, needs, length}
 use Rattle.block.specs.Words.{unwords}
 use Rattle.block.proofs.WordsBack.{length-unwords}
 use Rattle.walk.specs.Reached.{Reached}
-use Rattle.walk.proofs.Batch.{reached-first, reached-next, reached-end}
+use Rattle.walk.proofs.Batch.{reached-first, reached-next, walk-ended}
 use Rattle.cbc.specs.Cbc.{cbcDecrypt}
 use Rattle.cbc.proofs.Blocks.{decrypt-block}
 use Rattle.cbc.proofs.decrypt_one_by_one.Statement.{statement}
@@ -26,4 +26,4 @@ loop-again c =
 pub decrypt-one-by-one-spec : {M : Type 1} → statement M
 decrypt-one-by-one-spec = tie.close (tie.spec Inv-loop μ-loop (λ c. reached-first _ _ _ _) (omega arith) (omega arith) (omega arith)
     (omega arith) (omega arith) (omega arith) (omega arith) (λ c κs. search needs) (omega arith) (omega arith) loop-again (omega arith)
-    (λ c. reached-end (c .before .loop .inv) (omega arith) refl))
+    (λ c. walk-ended (c .before .loop .inv) (omega arith) refl))

@@ -4,7 +4,7 @@ use Rattle.block.proofs.Base.{_%_, _*_, _-_, _≤_, _∙_, _≡_, refl, reverse
 use Rattle.block.specs.Words.{unwords}
 use Rattle.block.proofs.WordsBack.{length-unwords}
 use Rattle.walk.specs.Reached.{Reached}
-use Rattle.walk.proofs.Batch.{reached-first, reached-on, reached-end}
+use Rattle.walk.proofs.Batch.{reached-first, reached-on, walk-ended}
 use Rattle.walk.proofs.Loop.{tail-is}
 use Rattle.cbc.specs.Cbc.{cbcDecrypt}
 use Rattle.cbc.proofs.Batches.{fed-next, full-state}
@@ -40,4 +40,4 @@ pub decrypt-side-by-side-spec : {M : Type 1} → statement M
 decrypt-side-by-side-spec = tie.close (tie.spec Inv-loop μ-loop (λ c. (reached-first _ _ _ _, refl)) (omega arith) (omega arith)
     (omega arith) (omega arith) (omega arith) (omega arith) (omega arith) (omega arith) (omega arith)
     (λ c κs. (omega arith, omega arith, omega arith)) (omega arith) (omega arith) (λ c κs. (omega arith, omega arith)) (omega arith)
-    loop-again (omega arith) (λ c. reached-end (c .before .loop .inv .0) (omega arith) refl))
+    loop-again (omega arith) (λ c. walk-ended (c .before .loop .inv .0) (omega arith) refl))

@@ -4,7 +4,7 @@ use Rattle.block.proofs.Base.{_-_, refl, arith, needs, length}
 use Rattle.block.specs.Words.{unwords}
 use Rattle.cipher.proofs.Blocks.{length-encryptBlock}
 use Rattle.walk.specs.Reached.{Reached}
-use Rattle.walk.proofs.Batch.{reached-first, reached-next, reached-end}
+use Rattle.walk.proofs.Batch.{reached-first, reached-next, walk-ended}
 use Rattle.cbc.specs.Cbc.{cbcEncrypt}
 use Rattle.cbc.proofs.encrypt_blocks.Statement.{statement}
 use Rattle.cbc.proofs.encrypt_blocks.Tie as tie
@@ -24,4 +24,4 @@ loop-again c =
 pub encrypt-blocks-spec : {M : Type 1} → statement M
 encrypt-blocks-spec = tie.close (tie.spec Inv-loop μ-loop (λ c. reached-first _ _ _ _) (omega arith) (omega arith) (omega arith) (omega arith)
     (omega arith) (omega arith) (omega arith) (λ c κs. search needs) (omega arith) (omega arith) loop-again (omega arith)
-    (λ c. reached-end (c .before .loop .inv) (omega arith) refl))
+    (λ c. walk-ended (c .before .loop .inv) (omega arith) refl))
