@@ -1,16 +1,17 @@
 -- The engine is never seen: no definition of an outcome looks at its mark. Where a call leaves a state, the state's mark is all that
 -- differs, whether the call was refused or not.
 use Rattle.demands.specs.Names as N
-use N.{Bool, _||_, cond, List, [], _∷_, map, _∙_, _≡_, ap, ap₂, refl, sym, _+_, suc, zero, ℕ, eqb, ltb, drop, length, take, Outcome, under}
+use N.{Bool, _||_, cond, List, [], _∷_, map, _∙_, _≡_, ap, ap₂, refl, sym, _+_, suc, zero, ℕ, eqb, drop, length, take, Outcome, under}
 use N.{refusalHead, blockCall, modeCall, keyAndIv, keyNumber, withEngine, Ctr as Ctr·mode, Encrypt, Sm4Cipher, Checked, Passed, Refused}
-use N.{Stepped, begun, ctrEnd, ctrPiece, ctrStart, goesOn, opensStart, sealEnd, sealPiece, sealStart, stepOn, gcmStarting, running, writing}
-use N.{ctrAfter, sealAfter, Ctr·state as Ctr, Opens, Seal, which, planCall, rangeCall, Entry, front·journal as front}
-use N.{sizeAt·journal as sizeAt, anyRetired, badKeys, hasNumber, keyAt, keyOf·journal as keyOf, numberTwice, placeOf, callInto, judged}
-use N.{recomputed, countedUnder, replay, replayOne, replayUpTo, counted, nothing, Replayed, Report, hostBlockCall, hostModeCall}
-use N.{directionOf, hostCtrStart, hostOpensStart, hostSealStart, hostReplay, keysOf, toldOf·journal as toldOf, cipherIn, hostKeyEngine}
-use N.{hostCtrByPlan, hostCtrRange, Told, hostWhich, LuossavinKeys, LuossavinKey}
+use N.{Stepped, begun, goesOn, stepOn, ctrEnd, ctrPiece, ctrStart, opensStart, sealEnd, sealPiece, sealStart, gcmStarting, running, writing}
+use N.{ctrAfter, sealAfter, Ctr·state as Ctr, Opens, Seal, which, planCall, rangeCall, front·journal as front, sizeAt·journal as sizeAt}
+use N.{hasNumber, keyAt, anyRetired, badKeys, numberTwice, placeOf, callInto, replay, replayOne, replayUpTo, nothing, Report, hostBlockCall}
+use N.{hostModeCall, directionOf, hostCtrStart, hostOpensStart, hostSealStart, hostReplay, keysOf, cipherIn, hostKeyEngine, hostCtrByPlan}
+use N.{hostCtrRange, Told, hostWhich, LuossavinKeys, LuossavinKey}
 use Rattle.demands.specs.EngineUnseen.{unmarked, unmarkedCtr, unmarkedSeal, seen, CtrAlike, SealAlike, unmarkedHost, ReportedAlike}
 use Rattle.demands.specs.EngineUnseen.{unmarkedKeys}
+use mathlib.Core.List.{map-map}
+use lib.ListN.{length-map}
 
 -- what does not look at a mark is the same of things that are alike but for it
 by-mark : (R O : Type 0) (without : R → R) (r s : R) → without r ≡ without s → (f : R → O) → ((x : R) → f (without x) ≡ f x) → f r ≡ f s
@@ -94,10 +95,6 @@ host-unmarked k = refl
 abbrev plainly : List Sm4Cipher → List Sm4Cipher
 plainly cs = map unmarked cs
 
-length-plainly : (cs : List Sm4Cipher) → length (plainly cs) ≡ length cs
-length-plainly [] = refl
-length-plainly (c ∷ cs) = ap suc (length-plainly cs)
-
 take-plainly : (n : ℕ) (cs : List Sm4Cipher) → take n (plainly cs) ≡ plainly (take n cs)
 take-plainly zero cs = refl
 take-plainly (suc n) [] = refl
@@ -110,16 +107,13 @@ place-plainly n [] = refl
 place-plainly n (c ∷ cs) = ap (λ (i : ℕ). cond (eqb (keyNumber c) n) 0 (1 + i)) (place-plainly n cs)
 
 has-plainly : (n : ℕ) (cs : List Sm4Cipher) → hasNumber n (plainly cs) ≡ hasNumber n cs
-has-plainly n cs = ap₂ {C = Bool} ltb (place-plainly n cs) (length-plainly cs)
+has-plainly n cs = rw (place-plainly n cs, length-map cs unmarked)
 
 at-plainly : (cs : List Sm4Cipher) (i : ℕ) → keyAt (plainly cs) i ≡ unmarked (keyAt cs i)
 unfolding withEngine
 at-plainly [] i = refl
 at-plainly (c ∷ cs) zero = refl
 at-plainly (c ∷ cs) (suc i) = at-plainly cs i
-
-named-plainly : (n : ℕ) (cs : List Sm4Cipher) → keyOf n (plainly cs) ≡ unmarked (keyOf n cs)
-named-plainly n cs = ap {B = Sm4Cipher} (keyAt (plainly cs)) (place-plainly n cs) ∙ at-plainly cs (placeOf n cs)
 
 -- what is bad of keys
 retired-plainly : (cs : List Sm4Cipher) → anyRetired (plainly cs) ≡ anyRetired cs
@@ -133,19 +127,11 @@ twice-plainly [] = refl
 twice-plainly (c ∷ cs) = ap₂ {C = Bool} _||_ (has-plainly (keyNumber c) cs) (twice-plainly cs)
 
 -- a record made again
-again-plainly : (c : Sm4Cipher) (e : Entry) → recomputed (unmarked c) e ≡ recomputed c e
-unfolding callInto modeCall withEngine
-again-plainly c e = refl
-
-counted-plainly : (ks : List Sm4Cipher) (e : Entry) (place : ℕ) (r : Report)
-    → countedUnder (plainly ks) e place r ≡ countedUnder ks e place r
-counted-plainly ks e place r =
-    ap {B = Report} (λ (c : Sm4Cipher). counted e (judged e (recomputed c e)) place r) (named-plainly (e .key) ks)
-    ∙ rw (again-plainly (keyOf (e .key) ks) e)
-
 one-plainly : (ks : List Sm4Cipher) (b : List ℕ) (place : ℕ) (r : Report) → replayOne (plainly ks) b place r ≡ replayOne ks b place r
-unfolding replayOne
-one-plainly ks b place r = rw (has-plainly (front b .key) ks, counted-plainly ks (front b) place r)
+unfolding replayOne callInto modeCall withEngine
+one-plainly ks b place r =
+    let n = front b .key in
+    rw (has-plainly n ks, place-plainly n ks, at-plainly ks (placeOf n ks))
 
 up-to-plainly : (n : ℕ) (ks : List Sm4Cipher) (b : List ℕ) (place : ℕ) (r : Report)
     → replayUpTo n (plainly ks) b place r ≡ replayUpTo n ks b place r
@@ -155,32 +141,15 @@ up-to-plainly (suc n) ks b place r =
     let next = up-to-plainly n ks (drop (sizeAt b) b) (place + sizeAt b) (replayOne ks b place r .report) in
     rw (one-plainly ks b place r, next)
 
-replay-plainly : (count : ℕ) (cs : List Sm4Cipher) (journal : List ℕ)
-    → replay (record { count = count; keys = plainly cs }) journal ≡ replay (record { count = count; keys = cs }) journal
-unfolding replay badKeys
-replay-plainly count cs journal =
-    let ks = take count cs in
-    rw (
-      take-plainly count cs,
-      retired-plainly ks,
-      twice-plainly ks,
-      up-to-plainly (length journal) ks journal 0 nothing,
-    )
-
--- a host's keys
-hosts-plainly : (ks : List LuossavinKey) → map cipherIn (map unmarkedHost ks) ≡ plainly (map cipherIn ks)
-hosts-plainly [] = refl
-hosts-plainly (k ∷ ks) = ap₂ {C = List Sm4Cipher} _∷_ (host-unmarked k) (hosts-plainly ks)
-
 unmarked-replay : (k : LuossavinKeys) (journal : List ℕ) → hostReplay (unmarkedKeys k) journal ≡ hostReplay k journal
-unfolding hostReplay keysOf
+unfolding hostReplay keysOf cipherIn hostKeyEngine withEngine replay badKeys
 unmarked-replay k journal =
-    ap toldOf
-    (ap {B = Replayed} (λ (cs : List Sm4Cipher). replay (record { count = k .count; keys = cs }) journal) (hosts-plainly (k .keys))
-    ∙ replay-plainly (k .count) (map cipherIn (k .keys)) journal)
+    let ks = take (k .count) (map cipherIn (k .keys)) in
+    let hosts : map cipherIn (map unmarkedHost (k .keys)) ≡ plainly (map cipherIn (k .keys)) =
+    map-map cipherIn unmarkedHost (k .keys) ∙ sym (map-map unmarked cipherIn (k .keys)) in
+    rw (hosts, take-plainly (k .count), retired-plainly ks, twice-plainly ks, up-to-plainly (length journal) ks journal 0 nothing)
 
 -- Keys that are alike but for their engines.
 pub engine-unseen-in-replay : (k l : LuossavinKeys) → unmarkedKeys k ≡ unmarkedKeys l → (journal : List ℕ)
     → hostReplay k journal ≡ hostReplay l journal
-engine-unseen-in-replay k l alike journal =
-    sym (unmarked-replay k journal) ∙ ap (λ (x : LuossavinKeys). hostReplay x journal) alike ∙ unmarked-replay l journal
+engine-unseen-in-replay k l alike journal = by-mark _ _ unmarkedKeys k l alike (λ x. hostReplay x journal) (λ x. unmarked-replay x journal)

@@ -21,7 +21,6 @@ use Rattle.ranges.proofs.Planner.{in-order}
 use Rattle.demands.specs.Answered.{Answered}
 use Rattle.demands.proofs.Answering.{split, numbered, answered, done-fair, checks-fair, front-fair}
 use Rattle.cipher_mode.proofs.Refusals.{refuses, quiet-ending}
-use Rattle.ranges.proofs.Passed.{has-room}
 use Rattle.ranges.proofs.Applied.{length-applied, ranges-commute}
 use Rattle.ranges.proofs.Copied.{nothing-laid}
 use Rattle.ranges.proofs.AnyOrder.{share-of-whole, length-worked, plan-in-any-order}
@@ -180,13 +179,13 @@ module _ (k : LuossavinKey) (decrypt : Bool) (label d iv o : List ℕ) (e : ctrC
   unfolding hostModeCall modeOf cipherIn
   call-gives = leaves (directionOf decrypt) (modeIn k 2) label d iv o call-in-order
 
-  -- so every stretch of the text is reached
-  reached : (end : ℕ) → end ≤ length d → reachOf k decrypt iv end ≡ Passed
-  unfolding reachCheck keyAndIv
-  reached end h =
+  -- so every range within the text passes, given room
+  within-passes : (offset n room : ℕ) → offset + n ≤ length d → n ≤ room → rangeOf k decrypt iv offset n room ≡ Passed
+  unfolding rangeCheck reachCheck keyAndIv
+  within-passes offset n room h g =
       let q = call-in-order in
       let within = ltb-false limit (length d) (let-through _ TooLong Passed (rw ctr-data at (q .content)) .fails) in
-      rw (q .key, q .iv-size, q .may, le-ltb limit end (omega arith))
+      rw (q .key, q .iv-size, q .may, le-ltb limit (offset + n) (omega arith), le-ltb room n g)
 
 -- a stretch of the whole is that stretch of what Ctr gives of it
 stretched : (rk iv pre d post : List ℕ)
@@ -198,39 +197,30 @@ stretched rk iv pre d post =
       take-at d post (length d) refl,
     )
 
-stretch-in : (k : LuossavinKey) (decrypt : Bool) (label iv pre d post o o′ : List ℕ) → length d ≤ length o
-    → ctrCall k decrypt label (pre ++ (d ++ post)) iv o′ .head .number ≡ 0
-    → (hostCtrRange k decrypt iv (length pre) d o .head .number ≡ 0)
-    × (result (hostCtrRange k decrypt iv (length pre) d o)
-    ≡ take (length d) (drop (length pre) (result (ctrCall k decrypt label (pre ++ (d ++ post)) iv o′))))
-unfolding hostCtrRange rangeCall cipherIn
-stretch-in k decrypt label iv pre d post o o′ room e =
-    let text = pre ++ (d ++ post) in
-    let n : length text ≡ length pre + (length d + length post) = rw (length-append pre (d ++ post), length-append d post) in
-    let reach = reached k decrypt label text iv o′ e (length pre + length d) (omega arith) in
-    rw (has-room (cipherIn k .answer) (cipherIn k .retired) (directionOf decrypt) (length iv) (length pre) (length d) (length o) reach room) (
-      refl,
-      result-of-done (stretch (k .«round_keys») iv (length pre) d) o
-          ∙ stretched (k .«round_keys») iv pre d post
-          ∙ ap (λ (l : List ℕ). take (length d) (drop (length pre) l))
-          (sym (ap result (call-gives k decrypt label text iv o′ e) ∙ result-of-done (chain (streamMode Ctr·kind (k .«round_keys»)) iv text) o′)),
-    )
-
-whole-of : (k : LuossavinKey) (decrypt : Bool) (label iv pre d o o′ : List ℕ) → length (pre ++ d) ≤ length o′
-    → hostCtrRange k decrypt iv (length pre) d o .head .number ≡ 0
-    → ctrCall k decrypt label (pre ++ d) iv o′ .head .number ≡ 0
-unfolding hostModeCall modeOf hostCtrRange rangeCall
-whole-of k decrypt label iv pre d o o′ room e =
-    let (p, within, _) = in-range k decrypt iv (length pre) (length d) (length o) (zero-passed _ o _ e) in
-    let n = length-append pre d in
-    let short = le-ltb limit (length (pre ++ d)) (omega arith) in
-    ap (λ (x : Outcome). x .head .number)
-    (leaves (directionOf decrypt) (modeIn k 2) label (pre ++ d) iv o′
-    (record { key = p .key; iv-size = p .iv-size; may = p .may; label = refl; content = rw (ctr-data, short); room = room }))
-
 -- The exported range is its stretch of what the exported single call gives of the whole, whatever is before and behind it.
 pub stretch-of-the-call : StretchOfWhole hostCtrRange ctrCall
-stretch-of-the-call = record { stretch = stretch-in; whole = whole-of }
+unfolding hostCtrRange rangeCall cipherIn hostModeCall modeOf
+stretch-of-the-call =
+    record {
+      stretch = λ k decrypt label iv pre d post o o′ room e.
+          let text = pre ++ (d ++ post) in
+          let n : length text ≡ length pre + (length d + length post) = rw (length-append pre (d ++ post), length-append d post) in
+          let whole = chain (streamMode Ctr·kind (k .«round_keys»)) iv text in
+          rw (within-passes k decrypt label text iv o′ e (length pre) (length d) (length o) (omega arith) room) (
+            refl,
+            result-of-done (stretch (k .«round_keys») iv (length pre) d) o
+                ∙ stretched (k .«round_keys») iv pre d post
+                ∙ ap (λ (l : List ℕ). take (length d) (drop (length pre) l))
+                (sym (ap result (call-gives k decrypt label text iv o′ e) ∙ result-of-done whole o′)),
+          );
+      whole = λ k decrypt label iv pre d o o′ room e.
+          let (p, within, _) = in-range k decrypt iv (length pre) (length d) (length o) (zero-passed _ o _ e) in
+          let n = length-append pre d in
+          let short = le-ltb limit (length (pre ++ d)) (omega arith) in
+          ap (λ (x : Outcome). x .head .number)
+          (leaves (directionOf decrypt) (modeIn k 2) label (pre ++ d) iv o′
+          (record { key = p .key; iv-size = p .iv-size; may = p .may; label = refl; content = rw (ctr-data, short); room = room }));
+    }
 
 -- by what the check says: the text with the range in it, or the text
 abbrev does : Checked → (List ℕ → List ℕ) → List ℕ → List ℕ
@@ -316,13 +306,11 @@ module _ (k : LuossavinKey) (decrypt : Bool) (label d iv o₀ : List ℕ)
       let n = length-share p d in
       let m = length-share p o in
       let size = length-stretch rk iv (p .start) (shareOf p d) in
-      let passes : p .start ≤ length d → check ≡ Passed = λ h.
-      has-room (cipherIn k .answer) (cipherIn k .retired) (directionOf decrypt) (length iv) (p .start) (length (shareOf p d))
-      (length (shareOf p o)) (reached k decrypt label d iv o₀ e (p .start + length (shareOf p d)) (omega arith)) (omega arith) in
+      let passes = within-passes k decrypt label d iv o₀ e (p .start) (length (shareOf p d)) (length (shareOf p o)) in
       let by-start : checked check (shareOf p o) (done here (shareOf p o)) .bytes ≡ over here (shareOf p o) =
       split _ (ltb (length d) (p .start))
       (λ f. nothing-done check here (shareOf p o) (size ∙ omega (arith, ltb-true (length d) (p .start) f)))
-      (λ f. rw (passes (ltb-false (length d) (p .start) f))) in
+      (λ f. let h = ltb-false (length d) (p .start) f in rw (passes (omega arith) (omega arith))) in
       rw by-start (laid-over (p .start) (p .size) here o (omega arith))
 
   all-worked : (ps : List Share) (o : List ℕ) → length d ≤ length o → allWorkedBy k decrypt iv d ps o ≡ allWorked rk iv d ps o
