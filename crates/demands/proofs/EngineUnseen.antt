@@ -1,58 +1,52 @@
 -- The engine is never seen: no definition of an outcome looks at its mark. Where a call leaves a state, the state's mark is all that
 -- differs, whether the call was refused or not.
 use Rattle.demands.specs.Names as N
-use N.{Bool, _||_, cond, List, [], _∷_, map, _∙_, _≡_, ap, ap₂, refl, sym, _+_, suc, zero, ℕ, eqb, drop, length, take, Outcome, under}
-use N.{refusalHead, blockCall, modeCall, keyAndIv, keyNumber, withEngine, Ctr as Ctr·mode, Encrypt, Sm4Cipher, Checked, Passed, Refused}
-use N.{Stepped, begun, goesOn, stepOn, ctrEnd, ctrPiece, ctrStart, opensStart, sealEnd, sealPiece, sealStart, gcmStarting, running, writing}
-use N.{ctrAfter, sealAfter, Ctr·state as Ctr, Opens, Seal, which, planCall, rangeCall, front·journal as front, sizeAt·journal as sizeAt}
-use N.{hasNumber, keyAt, anyRetired, badKeys, numberTwice, placeOf, callInto, replay, replayOne, replayUpTo, nothing, Report, hostBlockCall}
-use N.{hostModeCall, directionOf, hostCtrStart, hostOpensStart, hostSealStart, hostReplay, keysOf, cipherIn, hostKeyEngine, hostCtrByPlan}
-use N.{hostCtrRange, Told, hostWhich, LuossavinKeys, LuossavinKey}
+use N.{Bool, _||_, cond, List, [], _∷_, map, _∙_, _≡_, ap, ap₂, refl, sym, _+_, suc, zero, ℕ, eqb, drop, length, take, blockCall, modeCall}
+use N.{keyAndIv, keyNumber, withEngine, Ctr as Ctr·mode, Encrypt, Sm4Cipher, Checked, Passed, Refused, Stepped, begun, goesOn, stepOn}
+use N.{ctrEnd, ctrPiece, ctrStart, opensStart, sealEnd, sealPiece, sealStart, gcmStarting, running, writing, ctrAfter, sealAfter}
+use N.{Ctr·state as Ctr, Seal, which, planCall, rangeCall, front·journal as front, sizeAt·journal as sizeAt, hasNumber, keyAt, anyRetired}
+use N.{badKeys, numberTwice, placeOf, callInto, replay, replayOne, replayUpTo, nothing, Report, hostBlockCall, hostModeCall, directionOf}
+use N.{hostCtrStart, hostOpensStart, hostSealStart, hostReplay, keysOf, cipherIn, hostKeyEngine, hostCtrByPlan, hostCtrRange, hostWhich}
+use N.{LuossavinKeys, LuossavinKey}
 use Rattle.demands.specs.EngineUnseen.{unmarked, unmarkedCtr, unmarkedSeal, seen, CtrAlike, SealAlike, unmarkedHost, ReportedAlike}
 use Rattle.demands.specs.EngineUnseen.{unmarkedKeys}
 use mathlib.Core.List.{map-map}
 use lib.ListN.{length-map}
 
 -- what does not look at a mark is the same of things that are alike but for it
-by-mark : (R O : Type 0) (without : R → R) (r s : R) → without r ≡ without s → (f : R → O) → ((x : R) → f (without x) ≡ f x) → f r ≡ f s
-by-mark R O without r s alike f e = sym (e r) ∙ ap {B = O} f alike ∙ e s
+by-mark : {R O : Type 0} (without : R → R) (r s : R) → without r ≡ without s → (f : R → O) → ((x : R) → f (without x) ≡ f x) → f r ≡ f s
+by-mark without r s alike f e = sym (e r) ∙ ap f alike ∙ e s
 
 -- a call that leaves a state, by what its check says
-starts-alike : (S : Type 0) (without : S → S) (n : ℕ) (k : Checked) (shut : ℕ → S) (s t : S) → without s ≡ without t
+starts-alike : {S : Type 0} (without : S → S) (n : ℕ) (k : Checked) (shut : ℕ → S) (s t : S) → without s ≡ without t
     → seen S without (stepOn S n (begun S k shut s)) ≡ seen S without (stepOn S n (begun S k shut t))
-starts-alike S without n Passed shut s t e = ap {B = Stepped S} (λ (u : S). seen S (λ y. y) (stepOn S n (begun S Passed shut u))) e
-starts-alike S without n (Refused r) shut s t e = refl
+starts-alike without n Passed shut s t e = rw e
+starts-alike without n (Refused r) shut s t e = refl
 
-goes-alike : (S : Type 0) (without : S → S) (n : ℕ) (k : Checked) (o : List ℕ) (s t : S) (x y : Stepped S) → without s ≡ without t
+goes-alike : {S : Type 0} (without : S → S) (n : ℕ) (k : Checked) (o : List ℕ) (s t : S) (x y : Stepped S) → without s ≡ without t
     → seen S without x ≡ seen S without y → seen S without (stepOn S n (goesOn S k o s x)) ≡ seen S without (stepOn S n (goesOn S k o t y))
-goes-alike S without n Passed o s t x y e f = ap {B = Stepped S} (stepOn S n) f
-goes-alike S without n (Refused r) o s t x y e f =
-    ap {B = Stepped S} (λ (u : S). record { head = under n (refusalHead r); bytes = o; state = u }) e
+goes-alike {S} without n Passed o s t x y e f = ap (stepOn S n) f
+goes-alike without n (Refused r) o s t x y e f = rw e
 
 -- Records that are alike but for the engine.
-module _ (k l : LuossavinKey) (alike : unmarkedHost k ≡ unmarkedHost l) where
-  by-record : (O : Type 0) (f : LuossavinKey → O) → ((x : LuossavinKey) → f (unmarkedHost x) ≡ f x) → f k ≡ f l
-  by-record O = by-mark LuossavinKey O unmarkedHost k l alike
-
-  pub engine-unseen : ReportedAlike k l
-  unfolding hostKeyEngine cipherIn hostBlockCall blockCall hostModeCall modeCall hostCtrStart ctrStart ctrAfter hostSealStart sealStart
-      sealAfter
-      hostOpensStart opensStart hostWhich which hostCtrRange rangeCall hostCtrByPlan planCall
-  engine-unseen =
-      record {
-        block = λ dir b o. by-record Outcome (λ x. hostBlockCall dir x b o) (λ x. refl);
-        message = λ dir mode label e iv o. by-record Outcome (λ x. hostModeCall dir mode x label e iv o) (λ x. refl);
-        ctr = λ decrypt iv. by-record (Stepped Ctr) (λ x. seen Ctr unmarkedCtr (hostCtrStart x decrypt iv)) (λ x.
-            let c = cipherIn x in
-            starts-alike Ctr unmarkedCtr _ (keyAndIv (c .answer) (c .retired) (directionOf decrypt) Ctr·mode (length iv)) _ _ _ refl);
-        sealing = λ label iv. by-record (Stepped Seal) (λ x. seen Seal unmarkedSeal (hostSealStart x label iv)) (λ x.
-            let c = cipherIn x in
-            starts-alike Seal unmarkedSeal _ (gcmStarting (c .answer) (c .retired) Encrypt (length iv) (length label)) _ _ _ refl);
-        opening = λ label iv. by-record (Stepped Opens) (λ x. hostOpensStart x label iv) (λ x. refl);
-        which = λ file iv labels lengths. by-record Told (λ x. hostWhich x file iv labels lengths) (λ x. refl);
-        range = λ decrypt iv offset e o. by-record Outcome (λ x. hostCtrRange x decrypt iv offset e o) (λ x. refl);
-        by-plan = λ decrypt iv plan e o. by-record Outcome (λ x. hostCtrByPlan x decrypt iv plan e o) (λ x. refl);
-      }
+pub engine-unseen : (k l : LuossavinKey) → unmarkedHost k ≡ unmarkedHost l → ReportedAlike k l
+unfolding hostKeyEngine cipherIn hostBlockCall blockCall hostModeCall modeCall hostCtrStart ctrStart ctrAfter hostSealStart sealStart sealAfter
+    hostOpensStart opensStart hostWhich which hostCtrRange rangeCall hostCtrByPlan planCall
+engine-unseen k l alike =
+    record {
+      block = λ dir b o. by-mark unmarkedHost k l alike (λ x. hostBlockCall dir x b o) (λ x. refl);
+      message = λ dir mode label e iv o. by-mark unmarkedHost k l alike (λ x. hostModeCall dir mode x label e iv o) (λ x. refl);
+      ctr = λ decrypt iv. by-mark unmarkedHost k l alike (λ x. seen Ctr unmarkedCtr (hostCtrStart x decrypt iv)) (λ x.
+          let c = cipherIn x in
+          starts-alike unmarkedCtr _ (keyAndIv (c .answer) (c .retired) (directionOf decrypt) Ctr·mode (length iv)) _ _ _ refl);
+      sealing = λ label iv. by-mark unmarkedHost k l alike (λ x. seen Seal unmarkedSeal (hostSealStart x label iv)) (λ x.
+          let c = cipherIn x in
+          starts-alike unmarkedSeal _ (gcmStarting (c .answer) (c .retired) Encrypt (length iv) (length label)) _ _ _ refl);
+      opening = λ label iv. by-mark unmarkedHost k l alike (λ x. hostOpensStart x label iv) (λ x. refl);
+      which = λ file iv labels lengths. by-mark unmarkedHost k l alike (λ x. hostWhich x file iv labels lengths) (λ x. refl);
+      range = λ decrypt iv offset e o. by-mark unmarkedHost k l alike (λ x. hostCtrRange x decrypt iv offset e o) (λ x. refl);
+      by-plan = λ decrypt iv plan e o. by-mark unmarkedHost k l alike (λ x. hostCtrByPlan x decrypt iv plan e o) (λ x. refl);
+    }
 
 -- Marking a host's record changes nothing that a call tells.
 pub marked-alike : (k : LuossavinKey) (e : ℕ) → ReportedAlike (hostKeyEngine k e) k
@@ -64,23 +58,21 @@ pub engine-unseen-in-ctr : (s t : Ctr) → unmarkedCtr s ≡ unmarkedCtr t → C
 unfolding ctrPiece ctrEnd
 engine-unseen-in-ctr s t alike =
     record {
-      piece = λ e o. by-mark Ctr (Stepped Ctr) unmarkedCtr s t alike (λ x. seen Ctr unmarkedCtr (ctrPiece x e o)) (λ x.
-          goes-alike Ctr unmarkedCtr (x .key) (writing (x .stands) 0 (x .total) (length e) (length e) (length o)) o (unmarkedCtr x) x _ _
-          refl refl);
-      end = by-mark Ctr (Stepped Ctr) unmarkedCtr s t alike (λ x. seen Ctr unmarkedCtr (ctrEnd x)) (λ x.
-          goes-alike Ctr unmarkedCtr (x .key) (running (x .stands) 0 (x .total) 0) [] (unmarkedCtr x) x _ _ refl refl);
+      piece = λ e o. by-mark unmarkedCtr s t alike (λ x. seen Ctr unmarkedCtr (ctrPiece x e o)) (λ x.
+          goes-alike unmarkedCtr _ (writing (x .stands) 0 (x .total) (length e) (length e) (length o)) o (unmarkedCtr x) x _ _ refl refl);
+      end = by-mark unmarkedCtr s t alike (λ x. seen Ctr unmarkedCtr (ctrEnd x)) (λ x.
+          goes-alike unmarkedCtr _ (running (x .stands) 0 (x .total) 0) [] (unmarkedCtr x) x _ _ refl refl);
     }
 
 pub engine-unseen-in-seal : (s t : Seal) → unmarkedSeal s ≡ unmarkedSeal t → SealAlike s t
 unfolding sealPiece sealEnd
 engine-unseen-in-seal s t alike =
     record {
-      piece = λ e o. by-mark Seal (Stepped Seal) unmarkedSeal s t alike (λ x. seen Seal unmarkedSeal (sealPiece x e o)) (λ x.
-          goes-alike Seal unmarkedSeal (x .key) (writing (x .stands) (x .label) (x .total) (length e) (length e) (length o)) o
-          (unmarkedSeal x) x _ _ refl refl);
-      end = λ o. by-mark Seal (Stepped Seal) unmarkedSeal s t alike (λ x. seen Seal unmarkedSeal (sealEnd x o)) (λ x.
-          goes-alike Seal unmarkedSeal (x .key) (writing (x .stands) (x .label) (x .total) 0 16 (length o)) o (unmarkedSeal x) x _ _ refl
-          refl);
+      piece = λ e o. by-mark unmarkedSeal s t alike (λ x. seen Seal unmarkedSeal (sealPiece x e o)) (λ x.
+          let k = writing (x .stands) (x .label) (x .total) (length e) (length e) (length o) in
+          goes-alike unmarkedSeal _ k o (unmarkedSeal x) x _ _ refl refl);
+      end = λ o. by-mark unmarkedSeal s t alike (λ x. seen Seal unmarkedSeal (sealEnd x o)) (λ x.
+          goes-alike unmarkedSeal _ (writing (x .stands) (x .label) (x .total) 0 16 (length o)) o (unmarkedSeal x) x _ _ refl refl);
     }
 
 -- What a host's record is without its mark.
@@ -152,4 +144,4 @@ unmarked-replay k journal =
 -- Keys that are alike but for their engines.
 pub engine-unseen-in-replay : (k l : LuossavinKeys) → unmarkedKeys k ≡ unmarkedKeys l → (journal : List ℕ)
     → hostReplay k journal ≡ hostReplay l journal
-engine-unseen-in-replay k l alike journal = by-mark _ _ unmarkedKeys k l alike (λ x. hostReplay x journal) (λ x. unmarked-replay x journal)
+engine-unseen-in-replay k l alike journal = by-mark unmarkedKeys k l alike (λ x. hostReplay x journal) (λ x. unmarked-replay x journal)

@@ -2,8 +2,8 @@
 use Rattle.demands.specs.Names as N
 use N.{false, true, List, [], _++_, _∷_, _≢_, ⊎-elim, _∙_, _≡_, ap, refl, sym, _+_, _-_, _≤_, ℕ, arith, drop-of-length-le, length}
 use N.{length-append, length-drop, replicate, take-append-drop, length-take-le, le-ltb, AreBytes, Outcome, keyed, reporting, encryptBlock}
-use N.{authBlocks, ghash, OneBlock, J0, hashKey, opensUnder, tagPart, textPart, gcmOpen, settled, lengthsOf, modeCall, wrongIv, keyNumber}
-use N.{limit, modeOf, sealedLimit, Gcm, Decrypt, Key, Sm4Cipher, labelOf, hostModeCall, cipherIn, LuossavinKey}
+use N.{ghash, authBlocks, OneBlock, J0, tagPart, textPart, hashKey, opensUnder, gcmOpen, settled, lengthsOf, modeCall, wrongIv, keyNumber}
+use N.{limit, sealedLimit, modeOf, Gcm, Decrypt, Key, Sm4Cipher, labelOf, hostModeCall, cipherIn, LuossavinKey}
 use Rattle.ghash.proofs.Changed.{label-changed, text-changed, label-zero, text-zero}
 use Rattle.gcm.proofs.HashKey.{hashKey-lt, hashKey-tells, hashKey-zero}
 use Rattle.demands.specs.Call.{inGcm, RefusedAs}
@@ -81,49 +81,35 @@ module _ (c : Sm4Cipher) where
   other-label-refused a₁ a₂ s iv o₁ o₂ la eo ne e =
       let l = gcm-fits a₁ s iv o₁ e in
       let whole : textPart s ++ tagPart s ≡ s = take-append-drop (length s - 16) s in
-      let n : length (tagPart s) ≡ 16 = length-drop (length s - 16) s ∙ omega (arith, l .shortest) in
-      let fits : Fits a₂ s o₂ = record { label = la; longest = l .longest; shortest = l .shortest; room = rw eo at (l .room) } in
-      let opens = ap (λ (x : List ℕ). modeCall Decrypt (inGcm c) a₁ x iv o₁ .head .number) whole ∙ e in
-      rw whole at (other-hash-refused a₁ a₂ (textPart s) (textPart s) (tagPart s) iv o₁ o₂ n ne (rw whole fits) opens)
-
--- a list of another label and ciphertext of the same lengths passes where the first does
-same-lengths : (a₁ a₂ c₁ c₂ t o₁ o₂ : List ℕ) → length a₁ ≡ length a₂ → length c₁ ≡ length c₂ → length o₁ ≡ length o₂
-    → Fits a₁ (c₁ ++ t) o₁ → Fits a₂ (c₂ ++ t) o₂
-same-lengths a₁ a₂ c₁ c₂ t o₁ o₂ ea ec eo l =
-    let s : length (c₁ ++ t) ≡ length (c₂ ++ t) = length-append c₁ t ∙ ap (λ (n : ℕ). n + length t) ec ∙ sym (length-append c₂ t) in
-    record {
-      label = rw ea at (l .label);
-      longest = rw s at (l .longest);
-      shortest = rw s at (l .shortest);
-      room = rw (s, eo) at (l .room);
-    }
+      let n : length (tagPart s) ≡ 16 = length-drop (length s - 16) s ∙ omega arith in
+      let fits : Fits a₂ s o₂ = record { label = la; longest = l .longest; shortest = l .shortest; room = omega arith } in
+      rw whole at (other-hash-refused a₁ a₂ (textPart s) (textPart s) (tagPart s) iv o₁ o₂ n ne (rw whole fits) (rw whole e))
 
 -- Under a key that does not encrypt the all-zero block to itself, Gcm refuses a message that differs from one that opens
 -- inside exactly one block of its ciphertext or of its label: as 4, with length 0 and the output as it was lent.
 pub one-block-refused : (k : LuossavinKey) → MovesZero (k .«round_keys») → OneBlockRefused (hostModeCall Decrypt 4 k)
 unfolding hostModeCall modeOf cipherIn
 one-block-refused k moves a₁ a₂ c₁ c₂ t iv o₁ o₂ ba₁ ba₂ bc₁ bc₂ n eo change opens =
-    ⊎-elim in-the-text in-the-label change
+    let rk = k .«round_keys» in
+    let some = hash-key-nonzero rk moves in
+    ⊎-elim
+    (λ x. let (e, o) = x in
+    refused (ap length e) (o .lengths) (rw (← e) (text-changed (hashKey rk) (hashKey-lt rk) some a₁ c₁ c₂ bc₁ bc₂ o)))
+    (λ x. let (e, o) = x in
+    refused (o .lengths) (ap length e) (rw (← e) (label-changed (hashKey rk) (hashKey-lt rk) some a₁ a₂ c₁ ba₁ ba₂ o)))
+    change
   where
-    c : Sm4Cipher
-    c = cipherIn k
-
-    rk : List ℕ
-    rk = k .«round_keys»
-
-    in-the-text : (a₁ ≡ a₂) × OneBlock c₁ c₂ → RefusedAs 4 o₂ (modeCall Decrypt (inGcm c) a₂ (c₂ ++ t) iv o₂)
-    in-the-text (e, o) =
-        other-hash-refused c a₁ a₂ c₁ c₂ t iv o₁ o₂ n
-        (rw (← e) (text-changed (hashKey rk) (hashKey-lt rk) (hash-key-nonzero rk moves) a₁ c₁ c₂ bc₁ bc₂ o))
-        (same-lengths a₁ a₂ c₁ c₂ t o₁ o₂ (ap length e) (o .lengths) eo (gcm-fits c a₁ (c₁ ++ t) iv o₁ opens))
-        opens
-
-    in-the-label : (c₁ ≡ c₂) × OneBlock a₁ a₂ → RefusedAs 4 o₂ (modeCall Decrypt (inGcm c) a₂ (c₂ ++ t) iv o₂)
-    in-the-label (e, o) =
-        other-hash-refused c a₁ a₂ c₁ c₂ t iv o₁ o₂ n
-        (rw (← e) (label-changed (hashKey rk) (hashKey-lt rk) (hash-key-nonzero rk moves) a₁ a₂ c₁ ba₁ ba₂ o))
-        (same-lengths a₁ a₂ c₁ c₂ t o₁ o₂ (o .lengths) (ap length e) eo (gcm-fits c a₁ (c₁ ++ t) iv o₁ opens))
-        opens
+    -- what has the same lengths passes where the first does
+    refused : length a₁ ≡ length a₂ → length c₁ ≡ length c₂
+        → ghash (hashKey (k .«round_keys»)) (authBlocks a₁ c₁) ≢ ghash (hashKey (k .«round_keys»)) (authBlocks a₂ c₂)
+        → RefusedAs 4 o₂ (modeCall Decrypt (inGcm (cipherIn k)) a₂ (c₂ ++ t) iv o₂)
+    refused ea ec ne =
+        let l = gcm-fits (cipherIn k) a₁ (c₁ ++ t) iv o₁ opens in
+        let m = length-append c₁ t in
+        let m′ = length-append c₂ t in
+        let fits : Fits a₂ (c₂ ++ t) o₂ =
+        record { label = omega arith; longest = omega arith; shortest = omega arith; room = omega arith } in
+        other-hash-refused (cipherIn k) a₁ a₂ c₁ c₂ t iv o₁ o₂ n ne fits opens
 
 -- A final's label does not open a rough: under another job or edition a file is refused.
 
