@@ -256,14 +256,14 @@ file-first-contradicts k a claim =
     long (λ n past labels e.
     apart Told (λ v. v .head .number) _ _ 9 5 (rw a) (rw (e, past, a)) refl (claim [] zeros labels (n ∷ [])))
 
--- A range from the block's start is no stretch of the whole, at the second of two zero bytes under the key of sixteen zero bytes: it
--- becomes 1f, and 9f at the block's start.
 -- what a range of one zero byte at the text's start gives
 first-byte : (iv : List ℕ) (b : ℕ) → wrongIv Ctr (length iv) ≡ false → encrypted Ctr (roundKeys zeros) [] (0 ∷ []) iv ≡ b ∷ []
     → result (hostCtrRange zeroKey false iv 0 (0 ∷ []) (0 ∷ [])) ≡ b ∷ []
 unfolding hostCtrRange rangeCall rangeCheck reachCheck keyAndIv stretch hostKeyNew keyOf cipherIn keyAnswerOf newCipher
 first-byte iv b i e = rw (i, e)
 
+-- A range from the block's start is no stretch of the whole, at the second of two zero bytes under the key of sixteen zero bytes: it
+-- becomes 1f, and 9f at the block's start.
 pub from-the-block-contradicts : ¬ StretchOfWhole fromTheBlock ctrCall
 unfolding chain walk
 from-the-block-contradicts claim =

@@ -94,11 +94,7 @@ module _ {S : Type 0} {i : ℕ} {text : List ℕ → List ℕ} {after : List ℕ
       alike starts ends size left =
           let (all, state) = went (w .pieces) [] ps (omega arith) roomy in
           rw (starts, left) (rw (state, ends) (
-            record {
-              start = record { number = refl; size = refl };
-              pieces = all;
-              end = record { number = refl; size = refl };
-            },
+            record { start = record { number = refl; size = refl }; pieces = all; end = record { number = refl; size = refl } },
             all-wrote [] ps (omega arith) roomy,
             take-at tag _ n size,
             result-of-done p o,
@@ -139,40 +135,40 @@ seal-writes i mark rk label iv hl =
       };
     }
 
--- Ctr's data has a limit and no shape
+-- data in Ctr has a limit and no shape
 pub ctr-data : (dir : Direction) (n : ℕ) → dataCheck dir Ctr·mode n ≡ refuse (ltb limit n) TooLong Passed
 unfolding dataCheck
 ctr-data Encrypt n = refl
 ctr-data Decrypt n = refl
 
 -- The check of a start is where the single call's begins.
-module _ (dir : Direction) (m : Sm4CipherMode) (label iv : List ℕ) where
-  record Begins (first : Checked) : Type 0 where
-    check : (d o : List ℕ)
-        → messageCheck (m .cipher .answer) (m .cipher .retired) dir (m .mode) (lengthsOf label d iv o)
-        ≡ andThen first (andThen (dataCheck dir (m .mode) (length d)) (roomCheck dir (m .mode) (length d) (length o)))
+record Begins (dir : Direction) (m : Sm4CipherMode) (label iv : List ℕ) (first : Checked) : Type 0 where
+  check : (d o : List ℕ)
+      → messageCheck (m .cipher .answer) (m .cipher .retired) dir (m .mode) (lengthsOf label d iv o)
+      ≡ andThen first (andThen (dataCheck dir (m .mode) (length d)) (roomCheck dir (m .mode) (length d) (length o)))
 
-  -- so where it passes, and data and room do, the single call is done
-  single-done : (first : Checked) → Begins first → first ≡ Passed → (d o : List ℕ) → dataCheck dir (m .mode) (length d) ≡ Passed
-      → roomOf (m .mode) dir (length d) ≤ length o
-      → modeCall dir m label d iv o ≡ keyed (keyNumber (m .cipher)) (modeResult (m .mode) dir (m .cipher .rk) label d iv o)
-  unfolding modeCall roomCheck
-  single-done first f passed d o content room =
-      rw (f .check d o, passed, content, le-ltb (length o) (roomOf (m .mode) dir (length d)) room)
+-- so where it passes, and data and room do, the single call is done
+single-done : {dir : Direction} {m : Sm4CipherMode} {label iv : List ℕ} {first : Checked} → Begins dir m label iv first → first ≡ Passed
+    → (d o : List ℕ) → dataCheck dir (m .mode) (length d) ≡ Passed → roomOf (m .mode) dir (length d) ≤ length o
+    → modeCall dir m label d iv o ≡ keyed (keyNumber (m .cipher)) (modeResult (m .mode) dir (m .cipher .rk) label d iv o)
+unfolding modeCall roomCheck
+single-done {dir} {m} f passed d o content room =
+    rw (f .check d o, passed, content, le-ltb (length o) (roomOf (m .mode) dir (length d)) room)
 
-  -- and a start is checked as it is
-  checked-alike : (S : Type 0) (first : Checked) (shut : ℕ → S) (s : S) (least : List ℕ) (room : ℕ) (answers : List ℕ) → Begins first
-      → dataCheck dir (m .mode) (length least) ≡ Passed → roomOf (m .mode) dir (length least) ≤ room
-      → ((o : List ℕ) → oneOf (modeResult (m .mode) dir (m .cipher .rk) label least iv o .head .number) answers ≡ true)
-      → CheckedAlike S least room answers (stepOn S (keyNumber (m .cipher)) (begun S first shut s)) (λ d o. modeCall dir m label d iv o)
-  unfolding modeCall
-  checked-alike S Passed shut s least room answers f content h answer =
-      record {
-        refused = λ n. absurd (n refl);
-        begun = λ e o r. ap (λ (x : Outcome). oneOf (x .head .number) answers) (single-done Passed f refl least o content (omega arith)) ∙ answer o;
-      }
-  checked-alike S (Refused r) shut s least room answers f content h answer =
-      record { refused = λ n d o. rw (f .check d o); begun = λ e. absurd (refuses r .not-zero e) }
+-- and a start is checked as it is
+checked-alike : (S : Type 0) (first : Checked) (shut : ℕ → S) (s : S) (least : List ℕ) (room : ℕ) (answers : List ℕ)
+    {dir : Direction} {m : Sm4CipherMode} {label iv : List ℕ} → Begins dir m label iv first
+    → dataCheck dir (m .mode) (length least) ≡ Passed → roomOf (m .mode) dir (length least) ≤ room
+    → ((o : List ℕ) → oneOf (modeResult (m .mode) dir (m .cipher .rk) label least iv o .head .number) answers ≡ true)
+    → CheckedAlike S least room answers (stepOn S (keyNumber (m .cipher)) (begun S first shut s)) (λ d o. modeCall dir m label d iv o)
+unfolding modeCall
+checked-alike S Passed shut s least room answers f content h answer =
+    record {
+      refused = λ n. absurd (n refl);
+      begun = λ e o r. ap (λ (x : Outcome). oneOf (x .head .number) answers) (single-done f refl least o content (omega arith)) ∙ answer o;
+    }
+checked-alike S (Refused r) shut s least room answers f content h answer =
+    record { refused = λ n d o. rw (f .check d o); begun = λ e. absurd (refuses r .not-zero e) }
 
 ctr-begins : (dir : Direction) (c : Sm4Cipher) (label iv : List ℕ)
     → Begins dir (record { cipher = c; mode = Ctr·mode }) label iv (keyAndIv (c .answer) (c .retired) dir Ctr·mode (length iv))
@@ -220,7 +216,7 @@ seal-in-pieces k ps label iv t o r room e =
     (leaves Encrypt (inGcm c) label (whole ps) iv o p) in
     (all, ap₂ _++_ bytes tagged ∙ sym gives, told)
 
--- Pieces of a ciphertext write nothing, and fit into no output.
+-- pieces of a ciphertext write nothing, and fit into no output
 abbrev Free : List ℕ → Type 0
 Free c = Unit {0}
 
@@ -237,6 +233,7 @@ opens-goes i rk label iv hl =
       fits = λ d e z. (running-passed 0 (length label) (length d) (length e) (passed-on Opens _ [] _ _ z) .within, tt);
     }
 
+-- a start that answered 0 has passed
 pub opens-starts : (c : Sm4Cipher) (label iv : List ℕ) → opensStart c label iv .head .number ≡ 0
     → gcmStarting (c .answer) (c .retired) Decrypt (length iv) (length label) ≡ Passed
 unfolding opensStart
@@ -262,8 +259,8 @@ opens-in-pieces key cs label iv tag o fits room n e =
     let (all, state) = went (opens-goes (keyNumber c) rk label iv hl) [] cs (omega arith) (free cs) in
     let m : length (text ++ tag) ≡ length text + length tag = length-append text tag in
     let size : length (text ++ tag) - 16 ≡ length text = omega arith in
-    let left = single-done Decrypt (inGcm c) label iv _ (gcm-begins Decrypt c label iv) passed (text ++ tag) o
-    (tagged-passes (length (text ++ tag)) (omega arith) (omega arith)) (omega arith) in
+    let content = tagged-passes (length (text ++ tag)) (omega arith) (omega arith) in
+    let left = single-done (gcm-begins Decrypt c label iv) passed (text ++ tag) o content (omega arith) in
     let end = ap (λ (y : Opens). opensEnd y tag) state ∙ opens-ended (keyNumber c) rk label iv text hl tag fits n in
     let same = by-test (opensUnder rk (hashKey rk) (J0 rk iv) label (text ++ tag)) (gcmRound rk iv (length text)) (length text) in
     rw (opens-started c label iv passed) (all, rw (end, left, size) (same .0), rw (end, left, size) (same .1))
@@ -279,8 +276,7 @@ ctr-of-pieces decrypt k ps label iv o room e z _ =
     let (within, roomy) =
     all-fit (ctr-writes (keyNumber c) (c .engine) (c .rk) iv .pieces) [] ps (omega arith) (rw passed at z) in
     let zero = ap (λ (x : Outcome). x .head .number)
-    (single-done dir (record { cipher = c; mode = Ctr·mode }) label iv _ (ctr-begins dir c label iv) passed (whole ps) o
-    (ctr-data dir (length (whole ps)) ∙ rw (le-ltb limit (length (whole ps)) (omega arith))) room) in
+    (single-done (ctr-begins dir c label iv) passed (whole ps) o (rw (ctr-data, le-ltb limit (length (whole ps)) (omega arith))) room) in
     let made = ctr-in-pieces decrypt k ps label iv o roomy zero in
     (zero, made .1, made .2)
 
@@ -295,8 +291,7 @@ seal-of-pieces k ps label iv t o room e z last =
     let ended = rw (passed, went goes [] ps (omega arith) roomy .1) at last in
     let sixteen = writing-passed 0 (length label) (length (whole ps)) 0 16 (length t) (passed-on Seal _ t _ _ ended) .1 in
     let zero = ap (λ (x : Outcome). x .head .number)
-    (single-done Encrypt (inGcm c) label iv _ (gcm-begins Encrypt c label iv) passed (whole ps) o
-    (rw (le-ltb limit (length (whole ps)) (omega arith))) room) in
+    (single-done (gcm-begins Encrypt c label iv) passed (whole ps) o (rw (le-ltb limit (length (whole ps)) (omega arith))) room) in
     let made = seal-in-pieces k ps label iv t o roomy sixteen zero in
     (zero, made .1, made .2)
 
@@ -318,21 +313,20 @@ pub ctr-checked : (decrypt : Bool) (k : LuossavinKey) (label iv : List ℕ)
     → CheckedAlike Ctr [] 0 (0 ∷ []) (hostCtrStart k decrypt iv) (λ d o. hostModeCall (directionOf decrypt) 2 k label d iv o)
 unfolding hostCtrStart ctrStart hostModeCall modeOf
 ctr-checked decrypt k label iv =
-    let dir = directionOf decrypt in
-    checked-alike dir (record { cipher = cipherIn k; mode = Ctr·mode }) label iv Ctr _ _ _ [] 0 (0 ∷ []) (ctr-begins dir (cipherIn k) label iv)
-    (ctr-data dir 0) (omega arith) (λ o. refl)
+    checked-alike Ctr _ _ _ [] 0 (0 ∷ []) (ctr-begins (directionOf decrypt) (cipherIn k) label iv) (ctr-data (directionOf decrypt) 0)
+    (omega arith) (λ o. refl)
 
 pub seal-checked : (k : LuossavinKey) (label iv : List ℕ)
     → CheckedAlike Seal [] 16 (0 ∷ []) (hostSealStart k label iv) (λ d o. hostModeCall Encrypt 4 k label d iv o)
 unfolding hostSealStart sealStart hostModeCall modeOf dataCheck
 seal-checked k label iv =
-    checked-alike Encrypt (inGcm (cipherIn k)) label iv Seal _ _ _ [] 16 (0 ∷ []) (gcm-begins Encrypt (cipherIn k) label iv) refl (omega arith)
-    (λ o. refl)
+    checked-alike Seal _ _ _ [] 16 (0 ∷ []) (gcm-begins Encrypt (cipherIn k) label iv) refl (omega arith) (λ o. refl)
 
 pub opens-checked : (k : LuossavinKey) (label iv tag : List ℕ) → length tag ≡ 16
     → CheckedAlike Opens tag 0 (0 ∷ 4 ∷ []) (hostOpensStart k label iv) (λ d o. hostModeCall Decrypt 4 k label d iv o)
 unfolding hostOpensStart opensStart hostModeCall modeOf gcmOpen settled
 opens-checked k label iv tag n =
-    checked-alike Decrypt (inGcm (cipherIn k)) label iv Opens _ _ _ tag 0 (0 ∷ 4 ∷ []) (gcm-begins Decrypt (cipherIn k) label iv)
+    let rk = cipherIn k .rk in
+    checked-alike Opens _ _ _ tag 0 (0 ∷ 4 ∷ []) (gcm-begins Decrypt (cipherIn k) label iv)
     (tagged-passes (length tag) (omega arith) (omega arith)) (omega arith)
-    (λ o. split _ (opensUnder (cipherIn k .rk) (hashKey (cipherIn k .rk)) (J0 (cipherIn k .rk) iv) label tag) (λ f. rw f) (λ f. rw f))
+    (λ o. split _ (opensUnder rk (hashKey rk) (J0 rk iv) label tag) (λ f. rw f) (λ f. rw f))

@@ -25,34 +25,25 @@ use Rattle.demands.proofs.WhichNumber.{exported-seal-start-number, expo
 use Rattle.demands.proofs.Answering.{numbered, within, Fair, answered, refused-fair, refusal-fair, done-fair, split}
 
 -- a refusal, or what comes next, which may count on it that the check passed
-goes-answers : (S : Type 0) (number : S → ℕ) (k : Checked) (o : List ℕ) (s : S) (n : ℕ) (next : Stepped S) (rows : List Row)
-    → within rows pieceNumbers ≡ true → saidIn (goesOn S k o s next .head) ≡ firstOf rows
-    → (k ≡ Passed → Fair o n (next .head) (next .bytes)) → number (next .state) ≡ number s
-    → (next .head .number ≢ 0 → next .head .number ≢ 4 → next .state ≡ s)
+goes-answers : {S : Type 0} {number : S → ℕ} {o : List ℕ} {s : S} {n : ℕ} (k : Checked) (next : Stepped S)
+    → oneOf (goesOn S k o s next .head .number) pieceNumbers ≡ true → (k ≡ Passed → Fair o n (next .head) (next .bytes))
+    → (next .head .number ≢ 0 → next .head .number ≢ 4 → next .state ≡ s) → number (next .state) ≡ number s
     → StepAnswered S number s o n (stepOn S (number s) (goesOn S k o s next))
-goes-answers S number Passed o s n next rows w i a c u =
-    record { answered = answered o n pieceNumbers _ _ (numbered rows pieceNumbers _ w i) refl (a refl); carried = c; unmoved = u }
-goes-answers S number (Refused r) o s n next rows w i a c u =
-    record {
-      answered = answered o n pieceNumbers _ _ (numbered rows pieceNumbers _ w i) refl (refusal-fair o n r);
-      carried = refl;
-      unmoved = λ _ _. refl;
-    }
+goes-answers {o = o} {n = n} Passed next i a u c =
+    record { answered = answered o n pieceNumbers _ _ i refl (a refl); carried = c; unmoved = u }
+goes-answers {o = o} {n = n} (Refused r) next i a u c =
+    record { answered = answered o n pieceNumbers _ _ i refl (refusal-fair o n r); carried = refl; unmoved = λ _ _. refl }
 
 -- done with no output
 nothing-fair : Fair [] 0 (finished 0) []
 nothing-fair = done-fair [] 0 [] 0 refl refl (omega arith)
 
 -- the tag decides between 0 and 4
-yes-or-no-fair : (t b : Bool) → Fair [] 0 (cond t (telling b (finished 0)) (refusal 4)) []
-yes-or-no-fair true b = nothing-fair
-yes-or-no-fair false b = refused-fair [] 0 4 (omega arith)
-
-unmoved-end : (t b : Bool) (s r : Opens)
+yes-or-no : (t b : Bool) (s r : Opens)
     → let h = cond t (telling b (finished 0)) (refusal 4) in
-    h .number ≢ 0 → h .number ≢ 4 → r ≡ s
-unmoved-end true b s r n m = absurd (n refl)
-unmoved-end false b s r n m = absurd (m refl)
+    Fair [] 0 h [] × (h .number ≢ 0 → h .number ≢ 4 → r ≡ s)
+yes-or-no true b s r = (nothing-fair, λ n m. absurd (n refl))
+yes-or-no false b s r = (refused-fair [] 0 4 (omega arith), λ n m. absurd (m refl))
 
 -- done with a piece of its own length; the pad of a state has sixteen bytes
 piece-fair : (counting : Counting) (rk : List ℕ) (flow : Flow) (mark label total : ℕ) (e o : List ℕ) → length (flow .pad) ≡ 16
@@ -68,21 +59,23 @@ piece-fair counting rk flow mark label total e o n k =
 pub ctr-piece-answers : (s : Ctr) (e o : List ℕ) → length (s .flow .pad) ≡ 16 → StepAnswered Ctr ctrKey s o (length e) (ctrPiece s e o)
 unfolding ctrPiece
 ctr-piece-answers s e o n =
-    goes-answers Ctr ctrKey _ o s (length e) _ (ctrPieceRows s e o) refl (ctr-piece-number s e o)
-    (piece-fair Ctr·counting (s .rk) (s .flow) (s .stands) 0 (s .total) e o n) refl (λ z _. absurd (z refl))
+    goes-answers (writing (s .stands) 0 (s .total) (length e) (length e) (length o)) _
+    (numbered (ctrPieceRows s e o) pieceNumbers _ refl (ctr-piece-number s e o))
+    (piece-fair Ctr·counting (s .rk) (s .flow) (s .stands) 0 (s .total) e o n) (λ z _. absurd (z refl)) refl
 
 pub ctr-end-answers : (s : Ctr) → StepAnswered Ctr ctrKey s [] 0 (ctrEnd s)
 unfolding ctrEnd ctrShut
 ctr-end-answers s =
-    goes-answers Ctr ctrKey (running (s .stands) 0 (s .total) 0) [] s 0 _ (ctrEndRows s) refl (ctr-end-number s) (λ _. nothing-fair) refl
-    (λ z _. absurd (z refl))
+    goes-answers (running (s .stands) 0 (s .total) 0) _ (numbered (ctrEndRows s) pieceNumbers _ refl (ctr-end-number s))
+    (λ _. nothing-fair) (λ z _. absurd (z refl)) refl
 
 -- A piece of a sealing, likewise.
 pub seal-piece-answers : (s : Seal) (e o : List ℕ) → length (s .flow .pad) ≡ 16 → StepAnswered Seal sealKey s o (length e) (sealPiece s e o)
 unfolding sealPiece
 seal-piece-answers s e o n =
-    goes-answers Seal sealKey _ o s (length e) _ (sealPieceRows s e o) refl (seal-piece-number s e o)
-    (piece-fair Gcm·counting (s .rk) (s .flow) (s .stands) (s .label) (s .total) e o n) refl (λ z _. absurd (z refl))
+    goes-answers (writing (s .stands) (s .label) (s .total) (length e) (length e) (length o)) _
+    (numbered (sealPieceRows s e o) pieceNumbers _ refl (seal-piece-number s e o))
+    (piece-fair Gcm·counting (s .rk) (s .flow) (s .stands) (s .label) (s .total) e o n) (λ z _. absurd (z refl)) refl
 
 -- Its end is refused, or done with the sixteen bytes of a tag.
 pub seal-end-answers : (s : Seal) (o : List ℕ) → length (s .mask) ≡ 16 → StepAnswered Seal sealKey s o 16 (sealEnd s o)
@@ -90,26 +83,26 @@ unfolding sealEnd sealShut hashEnd
 seal-end-answers s o n =
     let hash = hashEnd (s .hashing) (s .total % 16) (s .label) (s .total) in
     let m : length hash ≡ 16 = length-bytesOf 16 _ in
-    goes-answers Seal sealKey (writing (s .stands) (s .label) (s .total) 0 16 (length o)) o s 16 _ (sealEndRows s o) refl
-    (seal-end-number s o)
+    goes-answers (writing (s .stands) (s .label) (s .total) 0 16 (length o)) _
+    (numbered (sealEndRows s o) pieceNumbers _ refl (seal-end-number s o))
     (λ k. done-fair o 16 (xors (s .mask) hash) 16 (length-xors (s .mask) hash (omega arith) ∙ n) refl
     (writing-passed (s .stands) (s .label) (s .total) 0 16 (length o) k .1))
-    refl (λ z _. absurd (z refl))
+    (λ z _. absurd (z refl)) refl
 
 -- A piece of an opening is refused or taken; its end is refused, or answers 0 or 4, and only 4 leaves another state.
 pub opens-piece-answers : (s : Opens) (e : List ℕ) → StepAnswered Opens opensKey s [] 0 (opensPiece s e)
 unfolding opensPiece
 opens-piece-answers s e =
-    goes-answers Opens opensKey (running (s .stands) (s .label) (s .total) (length e)) [] s 0 _ (opensPieceRows s e) refl
-    (opens-piece-number s e) (λ _. nothing-fair) refl (λ z _. absurd (z refl))
+    goes-answers (running (s .stands) (s .label) (s .total) (length e)) _
+    (numbered (opensPieceRows s e) pieceNumbers _ refl (opens-piece-number s e)) (λ _. nothing-fair) (λ z _. absurd (z refl)) refl
 
 pub opens-end-answers : (s : Opens) (tag : List ℕ) → StepAnswered Opens opensKey s [] 0 (opensEnd s tag)
 unfolding opensEnd opensShut
 opens-end-answers s tag =
     let test = same tag (xors (s .mask) (hashEnd (s .hashing) (s .total % 16) (s .label) (s .total))) in
-    let round = gcmCameRound (s .low) (blocksOf (s .total)) in
-    goes-answers Opens opensKey (tagged (s .stands) (s .label) (s .total) (length tag)) [] s 0 _ (opensEndRows s tag) refl
-    (opens-end-number s tag) (λ _. yes-or-no-fair test round) refl (unmoved-end test round s (opensShut (s .key) ended))
+    let (fair, moved) = yes-or-no test (gcmCameRound (s .low) (blocksOf (s .total))) s (opensShut (s .key) ended) in
+    goes-answers (tagged (s .stands) (s .label) (s .total) (length tag)) _
+    (numbered (opensEndRows s tag) pieceNumbers _ refl (opens-end-number s tag)) (λ _. fair) moved refl
 
 -- what holds of every number of a list
 abbrev All : (ℕ → Type 0) → List ℕ → Type 0
