@@ -3,11 +3,11 @@
 use Rattle.demands.specs.Names as N
 use N.{Bool, cond, false, not, true, List, [], _++_, _∷_, _≢_, _⊎_, ⊎-elim, _∙_, _≡_, refl, _%_, _-_, ℕ, arith, eqb, length, eqb-true}
 use N.{ne-eqb, same, xors, blocksOf, gcmCameRound, finished, refusal, telling, over, refusalHead, keyAndIv, keyNumber, Ctr as Ctr·mode}
-use N.{Direction, Decrypt, Encrypt, Sm4Cipher, Refusal, Ended, ErrorBlockSize, Retired, TooLong, WrongIv, WrongNumber, Checked, Passed}
-use N.{Refused, Stepped, begun, ended, goesOn, stepOn, ctrEnd, ctrPiece, ctrStart, opensEnd, opensPiece, opensStart, sealEnd, sealPiece}
-use N.{sealStart, gcmStarting, running, standing, tagged, writing, flowText, hashEnd, ctrAfter, ctrShut, opensAfter, opensShut, sealAfter}
-use N.{sealShut, Ctr·state as Ctr, Ctr·counting, Gcm·counting, Opens, Seal, directionOf, hostCtrStart, hostOpensStart, hostSealStart}
-use N.{cipherIn, LuossavinKey}
+use N.{Decrypt, Encrypt, Refusal, Ended, ErrorBlockSize, Retired, TooLong, WrongIv, WrongNumber, Checked, Passed, Refused, Stepped, begun}
+use N.{ended, goesOn, stepOn, ctrEnd, ctrPiece, ctrStart, opensEnd, opensPiece, opensStart, sealEnd, sealPiece, sealStart, gcmStarting}
+use N.{running, standing, tagged, writing, flowText, hashEnd, ctrAfter, ctrShut, opensAfter, opensShut, sealAfter, sealShut}
+use N.{Ctr·state as Ctr, Ctr·counting, Gcm·counting, Opens, Seal, directionOf, hostCtrStart, hostOpensStart, hostSealStart, cipherIn}
+use N.{LuossavinKey}
 use Rattle.pieces.specs.declared.flow.Counting.{Counting}
 use Rattle.pieces.specs.declared.flow.Flow.{Flow}
 use Rattle.block.proofs.Convert.{length-bytesOf}
@@ -123,19 +123,8 @@ Refuses n = (r : Refusal) × (refusalHead r ≡ refusal n) × (standing n ≡ Re
 refuses : (n : ℕ) → oneOf n shutMarks ≡ true → Refuses n
 unfolding standing
 refuses =
-    each Refuses shutMarks (
-      (ErrorBlockSize, refl, refl),
-      (
-        (TooLong, refl, refl),
-        (
-          (WrongIv, refl, refl),
-          (
-            (WrongNumber, refl, refl),
-            ((Retired, refl, refl), ((Ended, refl, refl), tt)),
-          ),
-        ),
-      ),
-    )
+    let last : All Refuses (13 ∷ 14 ∷ 12 ∷ []) = ((WrongNumber, refl, refl), ((Retired, refl, refl), ((Ended, refl, refl), tt))) in
+    each Refuses shutMarks ((ErrorBlockSize, refl, refl), ((TooLong, refl, refl), ((WrongIv, refl, refl), last)))
 
 module _ (key n : ℕ) (m : oneOf n shutMarks ≡ true) where
   shut-ctr : NoCtr n (ctrShut key n)
@@ -168,18 +157,16 @@ starts S number No n shut s (Refused r) rows carried first all w i =
     ((answered [] 0 pieceNumbers n _ known refl (refusal-fair [] 0 r), carried _), λ _. all _ m)
 
 module _ (k : LuossavinKey) (decrypt : Bool) (iv : List ℕ) where
-  abbrev c : Sm4Cipher
-  c = cipherIn k
-
-  ctr-starts : Starts Ctr ctrKey NoCtr (keyNumber c) (hostCtrStart k decrypt iv)
+  ctr-starts : Starts Ctr ctrKey NoCtr (keyNumber (cipherIn k)) (hostCtrStart k decrypt iv)
   unfolding hostCtrStart ctrStart ctrAfter ctrShut
   ctr-starts =
+      let c = cipherIn k in
       starts Ctr ctrKey NoCtr (keyNumber c) (ctrShut (keyNumber c)) _
       (keyAndIv (c .answer) (c .retired) (directionOf decrypt) Ctr·mode (length iv)) (ctrStartRows k decrypt iv) (λ _. refl) refl
       (shut-ctr (keyNumber c)) (split _ decrypt (λ e. rw e) (λ e. rw e)) (exported-ctr-start-number k decrypt iv)
 
-  pub ctr-start-answers : Answered pieceNumbers (keyNumber c) [] 0 (outcomeOf Ctr (hostCtrStart k decrypt iv))
-      × (hostCtrStart k decrypt iv .state .key ≡ keyNumber c)
+  pub ctr-start-answers : Answered pieceNumbers (keyNumber (cipherIn k)) [] 0 (outcomeOf Ctr (hostCtrStart k decrypt iv))
+      × (hostCtrStart k decrypt iv .state .key ≡ keyNumber (cipherIn k))
   ctr-start-answers = ctr-starts .0
 
   -- A refused start gives no state: every call on what it gives answers that refusal and changes nothing.
@@ -188,30 +175,28 @@ module _ (k : LuossavinKey) (decrypt : Bool) (iv : List ℕ) where
   ctr-refused-start = ctr-starts .1
 
 module _ (k : LuossavinKey) (label iv : List ℕ) where
-  abbrev d : Sm4Cipher
-  d = cipherIn k
-
-  abbrev gcm-check : Direction → Checked
-  gcm-check dir = gcmStarting (d .answer) (d .retired) dir (length iv) (length label)
-
-  seal-starts : Starts Seal sealKey NoSeal (keyNumber d) (hostSealStart k label iv)
+  seal-starts : Starts Seal sealKey NoSeal (keyNumber (cipherIn k)) (hostSealStart k label iv)
   unfolding hostSealStart sealStart sealAfter sealShut
   seal-starts =
-      starts Seal sealKey NoSeal (keyNumber d) (sealShut (keyNumber d)) _ (gcm-check Encrypt) (gcmStartRows Encrypt k label iv) (λ _. refl)
-      refl (shut-seal (keyNumber d)) refl (exported-seal-start-number k label iv)
+      let c = cipherIn k in
+      starts Seal sealKey NoSeal (keyNumber c) (sealShut (keyNumber c)) _
+      (gcmStarting (c .answer) (c .retired) Encrypt (length iv) (length label)) (gcmStartRows Encrypt k label iv) (λ _. refl) refl
+      (shut-seal (keyNumber c)) refl (exported-seal-start-number k label iv)
 
-  opens-starts : Starts Opens opensKey NoOpens (keyNumber d) (hostOpensStart k label iv)
+  opens-starts : Starts Opens opensKey NoOpens (keyNumber (cipherIn k)) (hostOpensStart k label iv)
   unfolding hostOpensStart opensStart opensAfter opensShut
   opens-starts =
-      starts Opens opensKey NoOpens (keyNumber d) (opensShut (keyNumber d)) _ (gcm-check Decrypt) (gcmStartRows Decrypt k label iv)
-      (λ _. refl) refl (shut-opens (keyNumber d)) refl (exported-opens-start-number k label iv)
+      let c = cipherIn k in
+      starts Opens opensKey NoOpens (keyNumber c) (opensShut (keyNumber c)) _
+      (gcmStarting (c .answer) (c .retired) Decrypt (length iv) (length label)) (gcmStartRows Decrypt k label iv) (λ _. refl) refl
+      (shut-opens (keyNumber c)) refl (exported-opens-start-number k label iv)
 
-  pub seal-start-answers : Answered pieceNumbers (keyNumber d) [] 0 (outcomeOf Seal (hostSealStart k label iv))
-      × (hostSealStart k label iv .state .key ≡ keyNumber d)
+  pub seal-start-answers : Answered pieceNumbers (keyNumber (cipherIn k)) [] 0 (outcomeOf Seal (hostSealStart k label iv))
+      × (hostSealStart k label iv .state .key ≡ keyNumber (cipherIn k))
   seal-start-answers = seal-starts .0
 
-  pub opens-start-answers : Answered pieceNumbers (keyNumber d) [] 0 (outcomeOf Opens (hostOpensStart k label iv))
-      × (hostOpensStart k label iv .state .key ≡ keyNumber d)
+  pub opens-start-answers : Answered pieceNumbers (keyNumber (cipherIn k)) [] 0 (outcomeOf Opens (hostOpensStart k label iv))
+      × (hostOpensStart k label iv .state .key ≡ keyNumber (cipherIn k))
   opens-start-answers = opens-starts .0
 
   pub seal-refused-start : hostSealStart k label iv .head .number ≢ 0
