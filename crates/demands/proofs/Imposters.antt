@@ -1,21 +1,21 @@
 -- Imposters put in the place of a call: each breaks a demand or the definition, at an input that is named.
 use Rattle.demands.specs.Names as N
-use N.{Bool, cond, false, true, List, [], _++_, _∷_, _≢_, inl, _∙_, _≡_, ap, refl, sym, _+_, _-_, _^_, _≤_, ℕ, le-of-eq, arith, eqb, lit<}
-use N.{drop, getD, length, length-replicate, replicate, take, eqb-false, le-ltb, AreBytes, bytesOf, numberOf, U128, gmul, gpow, mulFrom}
-use N.{one, timesX, ctrNext, Head, Outcome, done, keyed, reporting, chain, walk, roundKeys, Ghash·block as blockOf, blocks, blocksFrom}
-use N.{hashFrom, joined, modeCall, wrongIv, dataCheck, keyAndIv, messageCheck, roomCheck, keyNumber, newCipher, limit, roomOf, modeOf}
-use N.{CipherMode, Cbc, Cfb, Ctr, Gcm, Ofb, Decrypt, Encrypt, Seal, anyTooLong, badList, labelAt, sum, searchCheck, which, planCall}
-use N.{noPieces, accepts, follows, rangeCall, rangeCheck, reachCheck, stretch, laidAt, Plan, labelOf, Shelf·Outcome, putCall, Record}
-use N.{front·shelf as front, marked·shelf as marked, readUpTo, records, sizeAt·shelf as sizeAt, startsRecord·shelf as startsRecord}
-use N.{stored·shelf as stored, written·shelf as written, badShelf, fitted, hasCurrent, notHigher, supersede, those, twoCurrent, withNew}
-use N.{hostHashBlocks, hostHashJoin, modeIn, hostModeCall, cipherIn, hostKeyEngine, hostKeyNew, keyAnswerOf, keyOf, hostCtrByPlan}
-use N.{hostCtrRange, Told, hostWhich, LuossavinKey}
+use N.{false, true, List, [], _++_, _∷_, _≢_, inl, _∙_, _≡_, ap, refl, sym, _+_, _-_, _^_, _≤_, ℕ, le-of-eq, arith, eqb, lit<, drop, getD}
+use N.{length, length-replicate, replicate, take, eqb-false, le-ltb, AreBytes, bytesOf, numberOf, U128, gmul, gpow, mulFrom, one, timesX}
+use N.{ctrNext, Head, Outcome, done, keyed, reporting, chain, walk, roundKeys, Ghash·block as blockOf, blocks, blocksFrom, hashFrom, joined}
+use N.{modeCall, wrongIv, dataCheck, keyAndIv, messageCheck, roomCheck, keyNumber, newCipher, limit, roomOf, modeOf, CipherMode, Cbc, Cfb}
+use N.{Ctr, Gcm, Ofb, Decrypt, Encrypt, Seal, anyTooLong, badList, labelAt, sum, searchCheck, which, planCall, noPieces, accepts, follows}
+use N.{rangeCall, rangeCheck, reachCheck, stretch, laidAt, Plan, labelOf, Shelf·Outcome, putCall, front·shelf as front}
+use N.{marked·shelf as marked, readUpTo, records, sizeAt·shelf as sizeAt, startsRecord·shelf as startsRecord, stored·shelf as stored}
+use N.{written·shelf as written, badShelf, fitted, hasCurrent, notHigher, supersede, those, twoCurrent, withNew, hostHashBlocks}
+use N.{hostHashJoin, modeIn, hostModeCall, cipherIn, hostKeyEngine, hostKeyNew, keyAnswerOf, keyOf, hostCtrByPlan, hostCtrRange, Told}
+use N.{hostWhich, LuossavinKey}
 use Rattle.block.proofs.Entries.{below-replicate}
 use Rattle.counter.proofs.Edges.{ctr-one-block, ctr-two-blocks}
 use Rattle.editions.proofs.FirstOpening.{search-number}
 use Rattle.demands.specs.Call.{Call, result, inGcm}
 use Rattle.demands.specs.CameRound.{roundOf, Says}
-use Rattle.demands.specs.Answered.{oneOf, singleNumbers, Answered, KeyAnswered, lengthOf}
+use Rattle.demands.specs.Answered.{singleNumbers, Answered, KeyAnswered, lengthOf}
 use Rattle.demands.specs.ThereAndBack.{Asks, Served, SameKey, Decryptable, ThereAndBack}
 use Rattle.demands.specs.InPieces.{CheckedAlike}
 use Rattle.demands.specs.OneBlockRefused.{OneBlockRefused}
@@ -142,8 +142,7 @@ pub every-step-is-told :
 every-step-is-told claim =
     let o : List ℕ = 0 ∷ [] in
     let number = ap (λ (x : Outcome). x .head .number) (given ones o o _ refl (omega arith) (omega arith) refl) in
-    let told : Bool → ℕ = λ b. cond b 1 0 in
-    apart ℕ (λ n. n) _ _ 1 0 (ap told ctr-two-blocks) (ap told ctr-one-block) refl (claim [] o ones o .done number)
+    eqb-false 1 0 refl (rw (ctr-two-blocks, ctr-one-block) at (claim [] o ones o .done number))
 
 -- A yes beside a refusal is told by seventeen bytes under that IV and an output of none: 6 says nothing of a counter.
 pub yes-refused-is-told :
@@ -151,8 +150,7 @@ pub yes-refused-is-told :
     → Says (roundOf Ctr Encrypt (zeroKey .«round_keys») iv (length d)) (saysItRefused zeroKey label d iv o .head))
 unfolding hostModeCall modeOf modeCall messageCheck keyAndIv dataCheck roomCheck hostKeyNew keyOf cipherIn keyAnswerOf newCipher
 yes-refused-is-told claim =
-    apart ℕ (λ n. n) _ _ 1 0 (ap (λ (b : Bool). cond b 1 0) ctr-two-blocks) refl refl
-    (claim [] (replicate 17 0) ones [] .refused (λ e. omega arith))
+    eqb-false 1 0 refl (rw ctr-two-blocks at (claim [] (replicate 17 0) ones [] .refused (λ e. omega arith)))
 
 -- Setting up a key without its number breaks what set-up answers, at sixteen zero bytes and the number 2: it is 1.
 pub forgotten-number-is-told : ¬ ((key : List ℕ) (n : ℕ) → KeyAnswered key n (forgetsNumber key n))
@@ -220,8 +218,8 @@ unfolding hostModeCall modeOf modeCall messageCheck keyAndIv cipherIn keyAnswerO
 unseen-label-contradicts k a u claim =
     long (λ n past label e.
     let five : hostModeCall Encrypt 4 k label [] zeros zeros .head .number ≡ 5 = rw (e, past, a, u) in
-    apart Bool (λ t. cond t 1 0) false true 0 1 refl refl refl
-    (sym (ap (λ (m : ℕ). oneOf m (0 ∷ [])) five) ∙ claim label zeros .begun (rw (a, u)) zeros (omega arith)))
+    let no : false ≡ true = rw five at (claim label zeros .begun (rw (a, u)) zeros (omega arith)) in
+    let z : _≡_ {A = ℕ} 0 1 = cc in omega arith)
 
 -- A part that is told where none is found is told by a bad list, one byte of labels and no candidate.
 pub left-part-is-told : (k : LuossavinKey)
@@ -302,44 +300,33 @@ plan-first-contradicts k a u claim =
     long (λ n past d e.
     apart Outcome (λ x. x .head .number) _ _ 18 5 (rw (e, past, a, u)) (rw (e, past, a, u)) refl (claim zeros noPieces d []))
 
--- what the shelf of two editions reads
-abbrev emptied : ℕ → Bool → Record
-emptied n current = record { current = current; job = 0; edition = n; sealed = [] }
-
-two-read : records twoEditions ≡ emptied 1 false ∷ emptied 0 true ∷ []
-unfolding records readUpTo startsRecord marked sizeAt front numberOf
-two-read = refl
-
 -- Holding an edition against the current record alone is told by edition 1 of a job whose edition 1 is superseded and whose edition 0 is
 -- current: that is 20, and the imposter puts it in.
 pub against-current-contradicts : againstCurrent twoEditions 24 0 1 [] ≢ putCall twoEditions 24 0 1 []
-unfolding putCall badShelf stored written labelOf bytesOf hasCurrent twoCurrent notHigher those
+unfolding putCall badShelf stored written labelOf bytesOf hasCurrent twoCurrent notHigher those records readUpTo startsRecord marked sizeAt
+    front numberOf
 against-current-contradicts =
-    apart Shelf·Outcome (λ x. x .number) (againstCurrent twoEditions 24 0 1 []) (putCall twoEditions 24 0 1 []) 0 20 (rw two-read)
-    (rw two-read) refl
+    apart Shelf·Outcome (λ x. x .number) (againstCurrent twoEditions 24 0 1 []) (putCall twoEditions 24 0 1 []) 0 20 refl refl refl
 
 -- Marking before collecting is told by edition 2 of that job in a buffer that is full: the mark stands behind the used bytes, at byte 13,
 -- which is to be as it was.
 pub marks-first-contradicts : marksFirst twoEditions 24 0 2 [] ≢ putCall twoEditions 24 0 2 []
-unfolding putCall badShelf stored written labelOf bytesOf hasCurrent twoCurrent notHigher those supersede withNew fitted
+unfolding putCall badShelf stored written labelOf bytesOf hasCurrent twoCurrent notHigher those supersede withNew fitted records readUpTo
+    startsRecord marked sizeAt front numberOf
 marks-first-contradicts =
-    apart Shelf·Outcome (λ x. getD (x .bytes) 13 0) (marksFirst twoEditions 24 0 2 []) (putCall twoEditions 24 0 2 []) 0x58 0x44
-    (rw two-read) (rw two-read) refl
+    apart Shelf·Outcome (λ x. getD (x .bytes) 13 0) (marksFirst twoEditions 24 0 2 []) (putCall twoEditions 24 0 2 []) 0x58 0x44 refl refl refl
 
 -- Counting bytes is told under H = x by a first half of the one, which hashes to x, and two zero bytes behind it: that is x^2, and the
 -- imposter gives x^3.
 abbrev x : U128
 x = record { high = 2 ^ 62; low = 0 }
 
-abbrev oneBlock : List ℕ
-oneBlock = 0x80 ∷ replicate 15 0
-
 pub counting-bytes-contradicts :
     ¬ ((h : U128) → IsValue h → (a b : List ℕ) → WholeBlocks a → countsBytes h a b ≡ hostHashBlocks h (a ++ b))
 unfolding hostHashBlocks hostHashJoin joined hashFrom blocks blocksFrom blockOf numberOf gmul mulFrom timesX gpow one
 counting-bytes-contradicts claim =
     apart U128 (λ r. r .high) _ _ (2 ^ 60) (2 ^ 61) refl refl refl
-    (claim x (record { high = lit< tt; low = lit< tt }) oneBlock (0 ∷ 0 ∷ []) refl)
+    (claim x (record { high = lit< tt; low = lit< tt }) (0x80 ∷ replicate 15 0) (0 ∷ 0 ∷ []) refl)
 
 -- A first half that ends inside a block does not join: under H = x two halves of one byte 80 are two blocks, x^2 + x, and both together are
 -- one block, x + x^9.
