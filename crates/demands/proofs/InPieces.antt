@@ -141,14 +141,14 @@ unfolding dataCheck
 ctr-data Encrypt n = refl
 ctr-data Decrypt n = refl
 
--- The check of a start is where the single call's begins.
-record Begins (dir : Direction) (m : Sm4CipherMode) (label iv : List ℕ) (first : Checked) : Type 0 where
-  check : (d o : List ℕ)
+-- the check of a start is where the single call's begins
+pub record Begins (dir : Direction) (m : Sm4CipherMode) (label iv : List ℕ) (first : Checked) : Type 0 where
+  pub check : (d o : List ℕ)
       → messageCheck (m .cipher .answer) (m .cipher .retired) dir (m .mode) (lengthsOf label d iv o)
       ≡ andThen first (andThen (dataCheck dir (m .mode) (length d)) (roomCheck dir (m .mode) (length d) (length o)))
 
 -- so where it passes, and data and room do, the single call is done
-single-done : {dir : Direction} {m : Sm4CipherMode} {label iv : List ℕ} {first : Checked} → Begins dir m label iv first → first ≡ Passed
+pub single-done : {dir : Direction} {m : Sm4CipherMode} {label iv : List ℕ} {first : Checked} → Begins dir m label iv first → first ≡ Passed
     → (d o : List ℕ) → dataCheck dir (m .mode) (length d) ≡ Passed → roomOf (m .mode) dir (length d) ≤ length o
     → modeCall dir m label d iv o ≡ keyed (keyNumber (m .cipher)) (modeResult (m .mode) dir (m .cipher .rk) label d iv o)
 unfolding modeCall roomCheck
@@ -170,7 +170,7 @@ checked-alike S Passed shut s least room answers f content h answer =
 checked-alike S (Refused r) shut s least room answers f content h answer =
     record { refused = λ n d o. rw (f .check d o); begun = λ e. absurd (refuses r .not-zero e) }
 
-ctr-begins : (dir : Direction) (c : Sm4Cipher) (label iv : List ℕ)
+pub ctr-begins : (dir : Direction) (c : Sm4Cipher) (label iv : List ℕ)
     → Begins dir (record { cipher = c; mode = Ctr·mode }) label iv (keyAndIv (c .answer) (c .retired) dir Ctr·mode (length iv))
 unfolding messageCheck
 ctr-begins dir c label iv = record { check = λ d o. refl }

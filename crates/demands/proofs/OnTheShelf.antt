@@ -47,7 +47,7 @@ module _ (numbers : List ℕ) (shelf : List ℕ) (used : ℕ) where
   refuses : (t : Bool) (n : ℕ) (x : Outcome) → 0 < n → oneOf n numbers ≡ true → (t ≡ false → ShelfAnswered numbers shelf used x)
       → ShelfAnswered numbers shelf used (refuse t n shelf used x)
   refuses true n x some within next =
-      record { numbered = within; refused = λ _. (refl, refl); fits = λ e. absurd (omega (arith, e, some)); past = refl; kept = refl }
+      record { numbered = within; refused = λ _. (refl, refl); fits = λ e. absurd (omega arith); past = refl; kept = refl }
   refuses false n x some within next = next refl
 
   holds : (rs : List Record) → oneOf 0 numbers ≡ true → length (stored rs) ≤ length shelf
@@ -58,7 +58,7 @@ module _ (numbers : List ℕ) (shelf : List ℕ) (used : ℕ) where
         refused = λ some. absurd (some refl);
         fits = λ _. h;
         past = drop-at (stored rs) (drop (length (stored rs)) shelf) (length (stored rs)) refl;
-        kept = rw (length-append, length-drop) (omega (arith, h));
+        kept = rw (length-append, length-drop) (omega arith);
       }
 
 -- what is fitted fits where what is current does
@@ -83,7 +83,7 @@ exported-collect-answers shelf used =
     refuses collectNumbers shelf used (badShelf shelf used) 19 _ (omega arith) refl (λ e.
     let order = in-order shelf used e in
     let rs = records (take used shelf) in
-    holds collectNumbers shelf used (collected rs) refl (omega (arith, collected-length rs, order .fills, order .within)))
+    holds collectNumbers shelf used (collected rs) refl (omega (arith, collected-length rs)))
 
 pub exported-find-answers : (shelf : List ℕ) (used job : ℕ) → PlaceAnswered shelf used (findCall shelf used job)
 unfolding findCall
@@ -94,15 +94,11 @@ exported-find-answers shelf used job =
     let order = in-order shelf used e in
     let inside = stored-part job (records (take used shelf)) (order .single) .0 in
     rw (e, f)
-    (record {
-      numbered = refl;
-      refused = λ some. absurd (some refl);
-      inside = λ _. (omega (arith, inside, order .fills), order .within);
-    }))
+    (record { numbered = refl; refused = λ some. absurd (some refl); inside = λ _. (omega arith, order .within) }))
     (λ f. rw (e, f) (none 22 (omega arith) refl)))
   where
     none : (n : ℕ) → 0 < n → oneOf n (0 ∷ 19 ∷ 22 ∷ []) ≡ true → PlaceAnswered shelf used (nowhere n)
-    none n some within = record { numbered = within; refused = λ _. (refl, refl); inside = λ e. absurd (omega (arith, e, some)) }
+    none n some within = record { numbered = within; refused = λ _. (refl, refl); inside = λ e. absurd (omega arith) }
 
 -- After a put that is done, looking up the job gives the new record: its label is that of the job and the edition, and its file the one
 -- put in.

@@ -1,9 +1,9 @@
 -- Demand 3: one changed block, of the ciphertext or of the label, is refused; and what follows, of editions and of trailing zeros.
 use Rattle.demands.specs.Names as N
-use N.{false, true, List, [], _++_, _∷_, _≢_, ⊎-elim, _∙_, _≡_, ap, refl, sym, _+_, _-_, _≤_, ℕ, arith, drop-of-length-le, length}
-use N.{length-append, length-drop, replicate, take-append-drop, length-take-le, le-ltb, AreBytes, Outcome, keyed, reporting, encryptBlock}
-use N.{ghash, authBlocks, OneBlock, J0, tagPart, textPart, hashKey, opensUnder, gcmOpen, settled, lengthsOf, modeCall, wrongIv, keyNumber}
-use N.{limit, sealedLimit, modeOf, Gcm, Decrypt, Key, Sm4Cipher, labelOf, hostModeCall, cipherIn, LuossavinKey}
+use N.{false, true, List, [], _++_, _∷_, _≢_, ⊎-elim, _∙_, _≡_, ap, refl, sym, _-_, _≤_, ℕ, arith, drop-of-length-le, length, length-append}
+use N.{length-drop, replicate, take-append-drop, length-take-le, le-ltb, AreBytes, Outcome, keyed, reporting, encryptBlock, ghash}
+use N.{authBlocks, OneBlock, J0, tagPart, textPart, hashKey, opensUnder, gcmOpen, settled, lengthsOf, modeCall, wrongIv, keyNumber, limit}
+use N.{sealedLimit, modeOf, Gcm, Decrypt, Key, Sm4Cipher, labelOf, hostModeCall, cipherIn, LuossavinKey}
 use Rattle.ghash.proofs.Changed.{label-changed, text-changed, label-zero, text-zero}
 use Rattle.gcm.proofs.HashKey.{hashKey-lt, hashKey-tells, hashKey-zero}
 use Rattle.demands.specs.Call.{inGcm, RefusedAs}
@@ -107,9 +107,8 @@ one-block-refused k moves a₁ a₂ c₁ c₂ t iv o₁ o₂ ba₁ ba₂ bc₁ b
         let l = gcm-fits (cipherIn k) a₁ (c₁ ++ t) iv o₁ opens in
         let m = length-append c₁ t in
         let m′ = length-append c₂ t in
-        let fits : Fits a₂ (c₂ ++ t) o₂ =
-        record { label = omega arith; longest = omega arith; shortest = omega arith; room = omega arith } in
-        other-hash-refused (cipherIn k) a₁ a₂ c₁ c₂ t iv o₁ o₂ n ne fits opens
+        other-hash-refused (cipherIn k) a₁ a₂ c₁ c₂ t iv o₁ o₂ n ne
+        (record { label = omega arith; longest = omega arith; shortest = omega arith; room = omega arith }) opens
 
 -- A final's label does not open a rough: under another job or edition a file is refused.
 
@@ -126,8 +125,7 @@ pub short-label-refused : (c : Sm4Cipher) → MovesZero (c .rk) → (a₁ a₂ f
 short-label-refused c moves a₁ a₂ file iv o₁ o₂ b₁ b₂ ne e l eo opens =
     let rk = c .rk in
     other-label-refused c a₁ a₂ file iv o₁ o₂ (omega arith) eo
-    (label-changed (hashKey rk) (hashKey-lt rk) (hash-key-nonzero rk moves) a₁ a₂ (textPart file) b₁ b₂ (one-block a₁ a₂ ne e l))
-    opens
+    (label-changed (hashKey rk) (hashKey-lt rk) (hash-key-nonzero rk moves) a₁ a₂ (textPart file) b₁ b₂ (one-block a₁ a₂ ne e l)) opens
 
 -- Under a key that does not encrypt the all-zero block to itself, a file that opens in Gcm under one job and edition is
 -- refused as 4 under every other job or edition.
@@ -147,14 +145,11 @@ pub label-zero-refused : (k : LuossavinKey) → MovesZero (k .«round_keys») �
 unfolding hostModeCall modeOf cipherIn
 label-zero-refused k moves a file iv o₁ o₂ odd eo opens =
     let rk = k .«round_keys» in
-    let c = cipherIn k in
-    let l = gcm-fits c a file iv o₁ opens in
-    let longer : length (a ++ (0 ∷ [])) ≡ length a + 1 = length-append a (0 ∷ []) in
-    let text : length (textPart file) ≡ length file - 16 = length-take-le (length file - 16) file (omega arith) in
-    other-label-refused c a (a ++ (0 ∷ [])) file iv o₁ o₂ (omega (arith, l .label)) eo
-    (label-zero (hashKey rk) (hashKey-lt rk) (hash-key-nonzero rk moves) a (textPart file)
-    (omega (arith, l .label)) (omega (arith, l .longest)) odd)
-    opens
+    let l = gcm-fits (cipherIn k) a file iv o₁ opens in
+    let longer = length-append a (0 ∷ []) in
+    let text = length-take-le (length file - 16) file (omega arith) in
+    other-label-refused (cipherIn k) a (a ++ (0 ∷ [])) file iv o₁ o₂ (omega arith) eo
+    (label-zero (hashKey rk) (hashKey-lt rk) (hash-key-nonzero rk moves) a (textPart file) (omega arith) (omega arith) odd) opens
 
 -- Under such a key a file that opens in Gcm and whose ciphertext's length is not divisible by 16 is refused as 4 with one zero
 -- byte more between ciphertext and tag, given room.
@@ -163,13 +158,12 @@ unfolding hostModeCall modeOf cipherIn
 text-zero-refused k moves a c t iv o₁ o₂ n odd room opens =
     let rk = k .«round_keys» in
     let l = gcm-fits (cipherIn k) a (c ++ t) iv o₁ opens in
-    let file : length (c ++ t) ≡ length c + length t = length-append c t in
-    let longer : length (c ++ (0 ∷ [])) ≡ length c + 1 = length-append c (0 ∷ []) in
-    let whole : length (c ++ (0 ∷ []) ++ t) ≡ length (c ++ (0 ∷ [])) + length t = length-append (c ++ (0 ∷ [])) t in
+    let file = length-append c t in
+    let longer = length-append c (0 ∷ []) in
+    let whole = length-append (c ++ (0 ∷ [])) t in
     other-hash-refused (cipherIn k) a a c (c ++ (0 ∷ [])) t iv o₁ o₂ n
-    (text-zero (hashKey rk) (hashKey-lt rk) (hash-key-nonzero rk moves) a c (omega (arith, l .label)) (omega (arith, l .longest)) odd)
-    (record { label = l .label; longest = omega (arith, l .longest); shortest = omega arith; room = omega arith })
-    opens
+    (text-zero (hashKey rk) (hashKey-lt rk) (hash-key-nonzero rk moves) a c (omega arith) (omega arith) odd)
+    (record { label = l .label; longest = omega arith; shortest = omega arith; room = omega arith }) opens
 
 -- Why demand 3 speaks of keys that do not encrypt the all-zero block to itself: under any other
 -- key a tag says nothing of the label.
@@ -186,11 +180,9 @@ unfolding gcmOpen settled hostModeCall modeOf cipherIn
 any-label-opens k e a₁ a₂ s iv o l opens =
     let c = cipherIn k in
     let rk = k .«round_keys» in
-    let h = hashKey rk in
     let p = through Decrypt (inGcm c) a₁ s iv o opens in
     let f = gcm-fits c a₁ s iv o opens in
     let fits : Fits a₂ s o = record { label = l; longest = f .longest; shortest = f .shortest; room = f .room } in
-    let same : ghash h (authBlocks a₂ (textPart s)) ≡ ghash h (authBlocks a₁ (textPart s)) =
-    every-hash-zero rk _ e ∙ sym (every-hash-zero rk _ e) in
+    let same = every-hash-zero rk (authBlocks a₂ (textPart s)) e ∙ sym (every-hash-zero rk (authBlocks a₁ (textPart s)) e) in
     leaves Decrypt (inGcm c) a₂ s iv o (gcm-in-order c a₂ s iv o (p .key) (p .iv-size) fits)
-    ∙ rw (opens-alike rk h (J0 rk iv) a₂ a₁ s same) (sym (leaves Decrypt (inGcm c) a₁ s iv o p))
+    ∙ rw (opens-alike rk (hashKey rk) (J0 rk iv) a₂ a₁ s same) (sym (leaves Decrypt (inGcm c) a₁ s iv o p))

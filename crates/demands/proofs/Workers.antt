@@ -13,7 +13,7 @@ use Rattle.demands.specs.Workers.{rangeRows, planRows, makeRows, rangeNu
 use Rattle.demands.specs.Workers.{StretchOfWhole, Applying, appliedBy, RangesCommute, workedBy, allWorkedBy}
 use Rattle.demands.proofs.WhichNumber.{behind, said·laws, checked-said, front-said}
 use Rattle.stream.proofs.RoundTrip.{length-stream}
-use Rattle.cipher_mode.proofs.Passed.{both, let-through, InOrder, KeyInOrder, key-and-iv-passed}
+use Rattle.cipher_mode.proofs.Passed.{both, let-through, InOrder}
 use Rattle.ranges.proofs.Jumped.{length-stretch}
 use Rattle.ranges.proofs.OwnPlans.{no-more-than-workers, no-longer-than-share, own-accepted}
 use Rattle.ranges.proofs.Places.{past-the-count}
@@ -26,7 +26,7 @@ use Rattle.ranges.proofs.Copied.{nothing-laid}
 use Rattle.ranges.proofs.AnyOrder.{share-of-whole, length-worked, plan-in-any-order}
 use Rattle.demands.specs.Call.{result}
 use Rattle.demands.proofs.Through.{zero-passed, through, leaves, result-of-done}
-use Rattle.demands.proofs.InPieces.{ctr-data}
+use Rattle.demands.proofs.InPieces.{ctr-data, ctr-begins, single-done}
 use Rattle.ghash.proofs.Blocks.{getD-zeros}
 
 -- what is checked of a stretch that ends at a byte, and of a range
@@ -67,15 +67,12 @@ exported-make-number n workers =
 
 -- what a range that passes has in order
 in-range : (k : LuossavinKey) (decrypt : Bool) (iv : List ℕ) (offset n room : ℕ) → rangeOf k decrypt iv offset n room ≡ Passed
-    → KeyInOrder (cipherIn k .answer) (cipherIn k .retired) (directionOf decrypt) Ctr (length iv) × (offset + n ≤ limit) × (n ≤ room)
+    → (keyAndIv (cipherIn k .answer) (cipherIn k .retired) (directionOf decrypt) Ctr (length iv) ≡ Passed) × (offset + n ≤ limit) × (n ≤ room)
 unfolding rangeCheck reachCheck
 in-range k decrypt iv offset n room e =
     let (reach, roomy) = both (reachOf k decrypt iv (offset + n)) _ e in
-    let (first, within) = both (keyAndIv (cipherIn k .answer) (cipherIn k .retired) (directionOf decrypt) Ctr (length iv)) _ reach in (
-      key-and-iv-passed _ _ _ _ _ first,
-      ltb-false limit (offset + n) (let-through (ltb limit (offset + n)) _ _ within .fails),
-      ltb-false room n (let-through (ltb room n) _ _ roomy .fails),
-    )
+    let (first, within) = both (keyAndIv (cipherIn k .answer) (cipherIn k .retired) (directionOf decrypt) Ctr (length iv)) _ reach in
+    (first, ltb-false limit _ (let-through (ltb limit (offset + n)) _ _ within .fails), ltb-false room n (let-through _ _ _ roomy .fails))
 
 -- A range: a refusal, or a success of as many bytes as it was handed.
 pub exported-range-answers : (k : LuossavinKey) (decrypt : Bool) (iv : List ℕ) (offset : ℕ) (d o : List ℕ)
@@ -214,12 +211,11 @@ stretch-of-the-call =
                 (sym (ap result (call-gives k decrypt label text iv o′ e) ∙ result-of-done whole o′)),
           );
       whole = λ k decrypt label iv pre d o o′ room e.
-          let (p, within, _) = in-range k decrypt iv (length pre) (length d) (length o) (zero-passed _ o _ e) in
+          let (first, within, _) = in-range k decrypt iv (length pre) (length d) (length o) (zero-passed _ o _ e) in
           let n = length-append pre d in
-          let short = le-ltb limit (length (pre ++ d)) (omega arith) in
           ap (λ (x : Outcome). x .head .number)
-          (leaves (directionOf decrypt) (modeIn k 2) label (pre ++ d) iv o′
-          (record { key = p .key; iv-size = p .iv-size; may = p .may; label = refl; content = rw (ctr-data, short); room = room }));
+          (single-done (ctr-begins (directionOf decrypt) (cipherIn k) label iv) first (pre ++ d) o′
+          (rw (ctr-data, le-ltb limit (length (pre ++ d)) (omega arith))) room);
     }
 
 -- by what the check says: the text with the range in it, or the text
