@@ -1,25 +1,24 @@
 -- Whether a file opens under a job and an edition: the question answers what the opening call does, given room, and a file that opens
 -- under one edition is refused as 4 under every other. And which of many labels it opens under.
 use Rattle.demands.specs.Names as N
-use N.{Bool, cond, false, true, List, [], _∷_, _≢_, _⊎_, _∙_, _≡_, ap, refl, subst, sym, _-_, _<_, _^_, _≤_, suc, zero, ℕ, arith, ltb, drop}
-use N.{getD, length, length-take, take, le-ltb, ltb-false, Head, Outcome, finished, keyed, refusal, reporting, under, written, J0, textPart}
-use N.{textOf, gcmHead, gcmOpen, settled, Gcm·Done, InvalidTag, gcmRound, modeCall, andThen, checked, keyCheck, refuse, wrongIv, dataCheck}
-use N.{keyAndIv, messageCheck, roomCheck, keyNumber, limit, sealedLimit, modeOf, Gcm, Decrypt, KeyAnswer, NoKey, Key, NoNumber, Sm4Cipher}
-use N.{ShortGcm, TooLong, WrongIv, Checked, Passed, Refused, anyTooLong, badList, labelAt, Verdict, checkedVerdict, opensWith, searchCheck}
-use N.{which, labelOf, checkedHead, hostEditionOpens, opensHead, hostModeCall, cipherIn, hostKeyEngine, toldOf, hostWhich, LuossavinKey}
+use N.{Bool, cond, false, true, List, [], _∷_, _≢_, _⊎_, _∙_, _≡_, ap, refl, sym, _-_, _<_, _^_, _≤_, suc, zero, ℕ, arith, ltb, drop, getD}
+use N.{length, length-take, take, le-ltb, ltb-false, Head, Outcome, finished, keyed, refusal, under, gcmOpen, settled, modeCall, andThen}
+use N.{checked, keyCheck, refuse, wrongIv, dataCheck, keyAndIv, messageCheck, roomCheck, keyNumber, limit, sealedLimit, modeOf, Gcm}
+use N.{Decrypt, KeyAnswer, NoKey, Key, NoNumber, Sm4Cipher, ShortGcm, TooLong, WrongIv, Checked, Passed, Refused, gcmStarting, anyTooLong}
+use N.{badList, labelAt, Verdict, checkedVerdict, opensWith, searchCheck, which, labelOf, checkedHead, hostEditionOpens, opensHead}
+use N.{hostModeCall, cipherIn, hostKeyEngine, hostWhich, LuossavinKey}
 use Rattle.cipher_mode.proofs.Refusals.{refuses}
 use Rattle.label.proofs.LabelTells.{length-label}
-use Rattle.demands.specs.Call.{inGcm, RefusedAs}
+use Rattle.demands.specs.Call.{RefusedAs}
 use Rattle.demands.specs.OneBlockRefused.{MovesZero}
 use Rattle.demands.specs.EditionOpens.{WithoutText, AnswersAsOpening, NeverNoRoom, OneEditionAlone, Tells, WhichAnswered}
-use Rattle.demands.proofs.OneBlockRefused.{other-edition-refused, Fits, gcm-in-order}
-use Rattle.cipher_mode.proofs.Passed.{data-within, with-tag-passed}
+use Rattle.demands.proofs.OneBlockRefused.{other-edition-refused}
 use Rattle.editions.proofs.Turns.{or-false}
 use Rattle.editions.proofs.Passed.{search-passed}
 use Rattle.editions.proofs.FirstOpening.{search-number}
 use Rattle.editions.proofs.WhichOpens.{Asked, first-opens, none-opens, found-opens, none-found, zero-unless-found, done-asked}
 use Rattle.demands.proofs.Answering.{is-true, is-false, one-or-none, split}
-use Rattle.demands.proofs.Through.{leaves}
+use Rattle.demands.proofs.InPieces.{single-done, gcm-begins}
 
 -- by the checks a refusal is told alike, and what comes next if that is
 by-checks : (k : Checked) (n : ℕ) (o : List ℕ) (h : Head) (x : Outcome) → WithoutText h x
@@ -27,12 +26,6 @@ by-checks : (k : Checked) (n : ℕ) (o : List ℕ) (h : Head) (x : Outcome) → 
 by-checks Passed n o h x w = record { number = w .number; missing = w .missing; key = refl; size = w .size; cameRound = w .cameRound }
 by-checks (Refused r) n o h x w =
     record { number = refl; missing = refl; key = refl; size = refuses r .no-size; cameRound = refuses r .no-round }
-
--- and so is what the tag decides
-by-tag : (t b : Bool) (n : ℕ) (p o : List ℕ)
-    → WithoutText (cond t (finished 0) (refusal 4)) (reporting b (written (gcmHead (cond t (Gcm·Done n) InvalidTag)) p o))
-by-tag true b n p o = record { number = refl; missing = refl; key = refl; size = refl; cameRound = refl }
-by-tag false b n p o = record { number = refl; missing = refl; key = refl; size = refl; cameRound = refl }
 
 then-passed : (k : Checked) → andThen k Passed ≡ k
 then-passed Passed = refl
@@ -48,8 +41,9 @@ edition-opens k job edition file iv o room =
     let second = dataCheck Decrypt Gcm (length file) in
     rw (le-ltb limit (length label) (omega arith), le-ltb (length o) (length file - 16) room, then-passed second)
     (by-checks (andThen (keyAndIv (c .answer) (c .retired) Decrypt Gcm (length iv)) second) (keyNumber c) o _ _
-    (by-tag (opensWith c iv file label) (gcmRound (c .rk) iv (length file - 16)) (length file - 16)
-    (textOf (c .rk) (J0 (c .rk) iv) (textPart file)) o))
+    (split _ (opensWith c iv file label)
+    (λ e. rw e (record { number = refl; missing = refl; key = refl; size = refl; cameRound = refl }))
+    (λ e. rw e (record { number = refl; missing = refl; key = refl; size = refl; cameRound = refl }))))
 
 no-six : (a : KeyAnswer) (wrong long short t : Bool) (n : ℕ)
     → checkedHead
@@ -97,36 +91,31 @@ short-at [] i e = omega arith
 short-at (n ∷ ns) zero e = ltb-false limit n (or-false (ltb limit n) (anyTooLong ns) e .0)
 short-at (n ∷ ns) (suc i) e = short-at ns i (or-false (ltb limit n) (anyTooLong ns) e .1)
 
--- what the single call answers, by the test that decides
-by-test : (t : Bool) (n : ℕ) → gcmHead (cond t (Gcm·Done n) InvalidTag) .number ≡ cond t 0 4
-by-test true n = refl
-by-test false n = refl
+module _ (k : LuossavinKey) (file iv labels lengths o : List ℕ) (room : length file - 16 ≤ length o) where
+  abbrev c : Sm4Cipher
+  c = cipherIn k
 
-module _ (c : Sm4Cipher) (file iv labels lengths o : List ℕ) (room : length file - 16 ≤ length o) where
   abbrev test : ℕ → Bool
   test i = opensWith c iv file (labelAt labels lengths i)
 
   -- 0 where the test holds, and 4 where it does not
   answers : Asked c file iv labels lengths → (i : ℕ)
-      → modeCall Decrypt (inGcm c) (labelAt labels lengths i) file iv o .head .number ≡ cond (test i) 0 4
-  unfolding gcmOpen settled labelAt
+      → hostModeCall Decrypt 4 k (labelAt labels lengths i) file iv o .head .number ≡ cond (test i) 0 4
+  unfolding hostModeCall modeOf gcmOpen settled labelAt gcmStarting keyAndIv
   answers a i =
       let label = labelAt labels lengths i in
       let p = search-passed (c .answer) (c .retired) (length iv) (length file) lengths (a .checks) in
       let n = short-at lengths i (p .short) in
-      let fits : Fits label file o =
-      record {
-        label = simp length-take (omega arith);
-        longest = data-within Decrypt Gcm (length file) (p .content);
-        shortest = with-tag-passed (length file) (p .content);
-        room = room;
-      } in
+      let small : length label ≤ limit = simp length-take (omega arith) in
       ap (λ (x : Outcome). x .head .number)
-      (leaves Decrypt (inGcm c) label file iv o (gcm-in-order c label file iv o (p .key) (p .iv-size) fits))
-      ∙ by-test (test i) (length file - 16)
+      (single-done (gcm-begins Decrypt c label iv) (rw (p .key, p .iv-size, le-ltb limit (length label) small)) file o (p .content) room)
+      ∙ split _ (test i) (λ e. rw e) (λ e. rw e)
 
-  tells : Tells (modeCall Decrypt (inGcm c)) file iv labels lengths o (toldOf (which c file iv labels lengths))
-  tells =
+  -- What the exported question tells is what the exported single call of mode 4, given room, answers to each candidate: found at i exactly
+  -- when it is 0 to candidate i and 4 to each before it, none exactly when it is 4 to all.
+  pub which-tells : Tells (hostModeCall Decrypt 4 k) file iv labels lengths o (hostWhich k file iv labels lengths)
+  unfolding hostWhich
+  which-tells =
       record {
         found = λ e.
             let f = found-opens c file iv labels lengths (is-true 1 0 refl _ e) in
@@ -153,13 +142,6 @@ module _ (c : Sm4Cipher) (file iv labels lengths o : List ℕ) (room : length fi
         part = λ e. found-opens c file iv labels lengths (is-true 1 0 refl _ e) .there;
       }
 
--- What the exported question tells is what the exported single call of mode 4, given room, answers to each candidate: found at i exactly
--- when it is 0 to candidate i and 4 to each before it, none exactly when it is 4 to all.
-pub which-tells : (k : LuossavinKey) (file iv labels lengths o : List ℕ) → length file - 16 ≤ length o
-    → Tells (hostModeCall Decrypt 4 k) file iv labels lengths o (hostWhich k file iv labels lengths)
-unfolding hostModeCall modeOf hostWhich
-which-tells k file iv labels lengths o room = tells (cipherIn k) file iv labels lengths o room
-
 -- Under a key that does not encrypt the all-zero block to itself, a label of a job and an edition that is found is the only one that
 -- the file opens under.
 pub the-edition : (k : LuossavinKey) (file iv labels lengths o : List ℕ) → length file - 16 ≤ length o → MovesZero (k .«round_keys»)
@@ -172,7 +154,7 @@ the-edition k file iv labels lengths o room moves e j₁ j₂ e₁ e₂ hj₁ hj
     let t = which-tells k file iv labels lengths o room in
     let label : labelAt labels lengths (hostWhich k file iv labels lengths .place) ≡ labelOf j₁ e₁ = sym (t .part e) ∙ part in
     other-edition-refused k moves j₁ j₂ e₁ e₂ file iv o o hj₁ hj₂ he₁ he₂ other refl
-    (subst (λ (l : List ℕ). hostModeCall Decrypt 4 k l file iv o .head .number ≡ 0) label (t .found e .opens))
+    (rw label at (t .found e .opens))
 
 -- a search reports nothing but that it is done, and a refusal no candidate
 searched : (k : Checked) (v : Verdict) → v .head ≡ finished 0

@@ -1,14 +1,14 @@
 -- A message in pieces: whatever the cuts are, the pieces give what the single call gives. One induction over the pieces, from
 -- any text that has gone before.
 use Rattle.demands.specs.Names as N
-use N.{Bool, cond, false, true, List, [], _++_, _∷_, append-assoc, append-nil, _∙_, _≡_, ap, ap₂, refl, sym, _+_, _-_, _≤_, ℕ, arith, ltb}
-use N.{drop, drop-of-length-le, length, length-append, length-drop, drop-append-le, take-at, le-ltb, ltb-false, blocksOf, ctrCameRound}
-use N.{Outcome, done, finished, keyed, refusal, reporting, telling, under, over, chain, streamMode, Ctr·kind, J0, hashKey, opensUnder}
-use N.{sealed, textOf, gcmHead, gcmOpen, settled, Gcm·Done, InvalidTag, gcmRound, lengthsOf, modeResult, modeCall, andThen, refuse}
-use N.{dataCheck, keyAndIv, messageCheck, roomCheck, keyNumber, limit, roomOf, modeOf, Ctr as Ctr·mode, Gcm, Direction, Decrypt, Encrypt}
-use N.{Sm4Cipher, Sm4CipherMode, TooLong, Checked, Passed, Refused, Stepped, begun, goesOn, stepOn, ctrEnd, ctrPiece, ctrStart, opensEnd}
-use N.{opensPiece, opensStart, sealEnd, sealPiece, sealStart, gcmStarting, ctrAfter, opensAfter, sealAfter, Ctr·state as Ctr, Opens, Seal}
-use N.{hostModeCall, directionOf, hostCtrStart, hostOpensStart, hostSealStart, cipherIn, LuossavinKey}
+use N.{Bool, true, List, [], _++_, _∷_, append-assoc, append-nil, _∙_, _≡_, ap, ap₂, refl, sym, _+_, _-_, _≤_, ℕ, arith, ltb, drop}
+use N.{drop-of-length-le, length, length-append, length-drop, drop-append-le, take-at, le-ltb, ltb-false, blocksOf, ctrCameRound, Outcome}
+use N.{done, finished, keyed, reporting, telling, under, over, chain, streamMode, Ctr·kind, J0, hashKey, opensUnder, sealed, textOf}
+use N.{gcmOpen, settled, gcmRound, lengthsOf, modeResult, modeCall, andThen, refuse, dataCheck, keyAndIv, messageCheck, roomCheck}
+use N.{keyNumber, limit, roomOf, modeOf, Ctr as Ctr·mode, Gcm, Direction, Decrypt, Encrypt, Sm4Cipher, Sm4CipherMode, TooLong, Checked}
+use N.{Passed, Refused, Stepped, begun, goesOn, stepOn, ctrEnd, ctrPiece, ctrStart, opensEnd, opensPiece, opensStart, sealEnd, sealPiece}
+use N.{sealStart, gcmStarting, ctrAfter, opensAfter, sealAfter, Ctr·state as Ctr, Opens, Seal, hostModeCall, directionOf, hostCtrStart}
+use N.{hostOpensStart, hostSealStart, cipherIn, LuossavinKey}
 use Rattle.stream.proofs.RoundTrip.{length-stream}
 use Rattle.gcm.proofs.Parts.{length-text, length-tag, length-text}
 use Rattle.cipher_mode.proofs.Passed.{label-passed, data-within, let-through}
@@ -16,7 +16,6 @@ use Rattle.pieces.proofs.CtrInPieces.{ctr-started, ctr-goes-on, ctr-joined, ctr
 use Rattle.pieces.proofs.SealInPieces.{seal-started, seal-joined, seal-goes-on, seal-ended, seal-joined, seal-goes-on}
 use Rattle.pieces.proofs.OpensInPieces.{opens-started, opens-goes-on, opens-ended}
 use Rattle.demands.specs.Call.{inGcm, result, result, inGcm}
-use Rattle.demands.specs.CameRound.{tellingDone}
 use Rattle.demands.specs.InPieces.{gathered, Every, Room, written, stateAfter, wrote, AllDid, Piece, onto, sizeOf, whole, Roomy}
 use Rattle.demands.specs.InPieces.{joined, none, CtrInPieces, SealInPieces, OpensInPieces, AllZero, CtrOfPieces, SealOfPieces}
 use Rattle.demands.specs.InPieces.{OpensOfPieces, CheckedAlike, AllZero, AllDone, TellsAlike, none}
@@ -179,7 +178,7 @@ then-then : (a b c : Checked) → andThen a (andThen b c) ≡ andThen (andThen a
 then-then Passed b c = refl
 then-then (Refused r) b c = refl
 
-gcm-begins : (dir : Direction) (c : Sm4Cipher) (label iv : List ℕ)
+pub gcm-begins : (dir : Direction) (c : Sm4Cipher) (label iv : List ℕ)
     → Begins dir (inGcm c) label iv (gcmStarting (c .answer) (c .retired) dir (length iv) (length label))
 unfolding messageCheck gcmStarting
 gcm-begins dir c label iv = record { check = λ d o. then-then (keyAndIv (c .answer) (c .retired) dir Gcm (length iv)) _ _ }
@@ -239,14 +238,6 @@ pub opens-starts : (c : Sm4Cipher) (label iv : List ℕ) → opensStart c label 
 unfolding opensStart
 opens-starts c label iv e = passed-start Opens _ _ _ e
 
--- the same test decides the single call, and what it tells of the counter
-by-test : (t b : Bool) (n : ℕ)
-    → let single = tellingDone b (gcmHead (cond t (Gcm·Done n) InvalidTag)) in
-    let end = cond t (telling b (finished 0)) (refusal 4) in
-    (end .number ≡ single .number) × (end .cameRound ≡ single .cameRound)
-by-test true b n = (refl, refl)
-by-test false b n = (refl, refl)
-
 -- Under any record: Gcm opening in pieces answers as the single call does.
 pub opens-in-pieces : (k : LuossavinKey) → OpensInPieces Opens (hostOpensStart k) opensPiece opensEnd (hostModeCall Decrypt 4 k)
 unfolding gcmOpen settled hostOpensStart hostModeCall modeOf
@@ -262,8 +253,13 @@ opens-in-pieces key cs label iv tag o fits room n e =
     let content = tagged-passes (length (text ++ tag)) (omega arith) (omega arith) in
     let left = single-done (gcm-begins Decrypt c label iv) passed (text ++ tag) o content (omega arith) in
     let end = ap (λ (y : Opens). opensEnd y tag) state ∙ opens-ended (keyNumber c) rk label iv text hl tag fits n in
-    let same = by-test (opensUnder rk (hashKey rk) (J0 rk iv) label (text ++ tag)) (gcmRound rk iv (length text)) (length text) in
-    rw (opens-started c label iv passed) (all, rw (end, left, size) (same .0), rw (end, left, size) (same .1))
+    -- the same test decides the single call
+    let test = opensUnder rk (hashKey rk) (J0 rk iv) label (text ++ tag) in
+    rw (opens-started c label iv passed) (
+      all,
+      rw (end, left, size) (split _ test (λ f. rw f) (λ f. rw f)),
+      rw (end, left, size) (split _ test (λ f. rw f) (λ f. rw f)),
+    )
 
 -- Where start, pieces and end all answer 0, the exported single call, given room, does too, with the same bytes.
 pub ctr-of-pieces : (decrypt : Bool) (k : LuossavinKey)

@@ -1,13 +1,12 @@
 -- Demand 1 of the calls on messages in pieces: every value of a state has its answer, a refusal changes nothing, and a refused start
 -- and an ended message are no message's state any more.
 use Rattle.demands.specs.Names as N
-use N.{Bool, cond, false, not, true, List, [], _++_, _∷_, _≢_, _⊎_, ⊎-elim, _∙_, _≡_, refl, _%_, _-_, ℕ, arith, eqb, length, eqb-true}
-use N.{ne-eqb, same, xors, blocksOf, gcmCameRound, finished, refusal, telling, over, refusalHead, keyAndIv, keyNumber, Ctr as Ctr·mode}
-use N.{Decrypt, Encrypt, Refusal, Ended, ErrorBlockSize, Retired, TooLong, WrongIv, WrongNumber, Checked, Passed, Refused, Stepped, begun}
-use N.{ended, goesOn, stepOn, ctrEnd, ctrPiece, ctrStart, opensEnd, opensPiece, opensStart, sealEnd, sealPiece, sealStart, gcmStarting}
-use N.{running, standing, tagged, writing, flowText, hashEnd, ctrAfter, ctrShut, opensAfter, opensShut, sealAfter, sealShut}
-use N.{Ctr·state as Ctr, Ctr·counting, Gcm·counting, Opens, Seal, directionOf, hostCtrStart, hostOpensStart, hostSealStart, cipherIn}
-use N.{LuossavinKey}
+use N.{Bool, false, not, true, List, [], _++_, _∷_, _≢_, _⊎_, ⊎-elim, _∙_, _≡_, refl, _%_, _-_, ℕ, arith, eqb, length, eqb-true, ne-eqb}
+use N.{same, xors, finished, refusal, over, refusalHead, keyAndIv, keyNumber, Ctr as Ctr·mode, Decrypt, Encrypt, Refusal, Ended}
+use N.{ErrorBlockSize, Retired, TooLong, WrongIv, WrongNumber, Checked, Passed, Refused, Stepped, begun, ended, goesOn, stepOn, ctrEnd}
+use N.{ctrPiece, ctrStart, opensEnd, opensPiece, opensStart, sealEnd, sealPiece, sealStart, gcmStarting, running, standing, tagged, writing}
+use N.{flowText, hashEnd, ctrAfter, ctrShut, opensAfter, opensShut, sealAfter, sealShut, Ctr·state as Ctr, Ctr·counting, Gcm·counting}
+use N.{Opens, Seal, directionOf, hostCtrStart, hostOpensStart, hostSealStart, cipherIn, LuossavinKey}
 use Rattle.pieces.specs.declared.flow.Counting.{Counting}
 use Rattle.pieces.specs.declared.flow.Flow.{Flow}
 use Rattle.block.proofs.Convert.{length-bytesOf}
@@ -37,13 +36,6 @@ goes-answers {o = o} {n = n} (Refused r) next i a u c =
 -- done with no output
 nothing-fair : Fair [] 0 (finished 0) []
 nothing-fair = done-fair [] 0 [] 0 refl refl (omega arith)
-
--- the tag decides between 0 and 4
-yes-or-no : (t b : Bool) (s r : Opens)
-    → let h = cond t (telling b (finished 0)) (refusal 4) in
-    Fair [] 0 h [] × (h .number ≢ 0 → h .number ≢ 4 → r ≡ s)
-yes-or-no true b s r = (nothing-fair, λ n m. absurd (n refl))
-yes-or-no false b s r = (refused-fair [] 0 4 (omega arith), λ n m. absurd (m refl))
 
 -- done with a piece of its own length; the pad of a state has sixteen bytes
 piece-fair : (counting : Counting) (rk : List ℕ) (flow : Flow) (mark label total : ℕ) (e o : List ℕ) → length (flow .pad) ≡ 16
@@ -100,9 +92,10 @@ pub opens-end-answers : (s : Opens) (tag : List ℕ) → StepAnswered Opens open
 unfolding opensEnd opensShut
 opens-end-answers s tag =
     let test = same tag (xors (s .mask) (hashEnd (s .hashing) (s .total % 16) (s .label) (s .total))) in
-    let (fair, moved) = yes-or-no test (gcmCameRound (s .low) (blocksOf (s .total))) s (opensShut (s .key) ended) in
     goes-answers (tagged (s .stands) (s .label) (s .total) (length tag)) _
-    (numbered (opensEndRows s tag) pieceNumbers _ refl (opens-end-number s tag)) (λ _. fair) moved refl
+    (numbered (opensEndRows s tag) pieceNumbers _ refl (opens-end-number s tag))
+    (λ _. split _ test (λ e. rw e nothing-fair) (λ e. rw e (refused-fair [] 0 4 (omega arith))))
+    (λ n m. split _ test (λ e. absurd (n (rw e))) (λ e. absurd (m (rw e)))) refl
 
 -- what holds of every number of a list
 abbrev All : (ℕ → Type 0) → List ℕ → Type 0
