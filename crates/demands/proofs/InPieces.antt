@@ -169,6 +169,7 @@ checked-alike S Passed shut s least room answers f content h answer =
 checked-alike S (Refused r) shut s least room answers f content h answer =
     record { refused = λ n d o. rw (f .check d o); begun = λ e. absurd (refuses r .not-zero e) }
 
+-- in Ctr it is that of key and IV
 pub ctr-begins : (dir : Direction) (c : Sm4Cipher) (label iv : List ℕ)
     → Begins dir (record { cipher = c; mode = Ctr·mode }) label iv (keyAndIv (c .answer) (c .retired) dir Ctr·mode (length iv))
 unfolding messageCheck
@@ -178,6 +179,7 @@ then-then : (a b c : Checked) → andThen a (andThen b c) ≡ andThen (andThen a
 then-then Passed b c = refl
 then-then (Refused r) b c = refl
 
+-- and in Gcm that of the label too
 pub gcm-begins : (dir : Direction) (c : Sm4Cipher) (label iv : List ℕ)
     → Begins dir (inGcm c) label iv (gcmStarting (c .answer) (c .retired) dir (length iv) (length label))
 unfolding messageCheck gcmStarting

@@ -50,14 +50,9 @@ module _ (c : Sm4Cipher) where
   pub gcm-in-order : (aad d iv o : List ℕ) → c .answer ≡ Key → wrongIv Gcm (length iv) ≡ false → Fits aad d o
       → InOrder (c .answer) (c .retired) Decrypt Gcm (lengthsOf aad d iv o)
   gcm-in-order aad d iv o k n l =
-      record {
-        key = k;
-        iv-size = n;
-        may = refl;
-        label = rw (le-ltb limit (length aad) (l .label));
-        content = tagged-passes (length d) (l .longest) (l .shortest);
-        room = l .room;
-      }
+      let label = le-ltb limit (length aad) (l .label) in
+      let content = tagged-passes (length d) (l .longest) (l .shortest) in
+      record { key = k; iv-size = n; may = refl; label = rw label; content = content; room = l .room }
 
   pub other-hash-refused : (a₁ a₂ c₁ c₂ t iv o₁ o₂ : List ℕ) → length t ≡ 16
       → ghash (hashKey (c .rk)) (authBlocks a₁ c₁) ≢ ghash (hashKey (c .rk)) (authBlocks a₂ c₂)
@@ -91,24 +86,19 @@ pub one-block-refused : (k : LuossavinKey) → MovesZero (k .«round_keys») →
 unfolding hostModeCall modeOf cipherIn
 one-block-refused k moves a₁ a₂ c₁ c₂ t iv o₁ o₂ ba₁ ba₂ bc₁ bc₂ n eo change opens =
     let rk = k .«round_keys» in
+    let h = hashKey rk in
     let some = hash-key-nonzero rk moves in
+    let changed : (length a₁ ≡ length a₂) × (length c₁ ≡ length c₂) × (ghash h (authBlocks a₁ c₁) ≢ ghash h (authBlocks a₂ c₂)) =
     ⊎-elim
-    (λ x. let (e, o) = x in
-    refused (ap length e) (o .lengths) (rw (← e) (text-changed (hashKey rk) (hashKey-lt rk) some a₁ c₁ c₂ bc₁ bc₂ o)))
-    (λ x. let (e, o) = x in
-    refused (o .lengths) (ap length e) (rw (← e) (label-changed (hashKey rk) (hashKey-lt rk) some a₁ a₂ c₁ ba₁ ba₂ o)))
-    change
-  where
+    (λ x. let (e, o) = x in (ap length e, o .lengths, rw (← e) (text-changed h (hashKey-lt rk) some a₁ c₁ c₂ bc₁ bc₂ o)))
+    (λ x. let (e, o) = x in (o .lengths, ap length e, rw (← e) (label-changed h (hashKey-lt rk) some a₁ a₂ c₁ ba₁ ba₂ o))) change in
+    let (ea, ec, ne) = changed in
     -- what has the same lengths passes where the first does
-    refused : length a₁ ≡ length a₂ → length c₁ ≡ length c₂
-        → ghash (hashKey (k .«round_keys»)) (authBlocks a₁ c₁) ≢ ghash (hashKey (k .«round_keys»)) (authBlocks a₂ c₂)
-        → RefusedAs 4 o₂ (modeCall Decrypt (inGcm (cipherIn k)) a₂ (c₂ ++ t) iv o₂)
-    refused ea ec ne =
-        let l = gcm-fits (cipherIn k) a₁ (c₁ ++ t) iv o₁ opens in
-        let m = length-append c₁ t in
-        let m′ = length-append c₂ t in
-        other-hash-refused (cipherIn k) a₁ a₂ c₁ c₂ t iv o₁ o₂ n ne
-        (record { label = omega arith; longest = omega arith; shortest = omega arith; room = omega arith }) opens
+    let l = gcm-fits (cipherIn k) a₁ (c₁ ++ t) iv o₁ opens in
+    let m = length-append c₁ t in
+    let m′ = length-append c₂ t in
+    other-hash-refused (cipherIn k) a₁ a₂ c₁ c₂ t iv o₁ o₂ n ne
+    (record { label = omega arith; longest = omega arith; shortest = omega arith; room = omega arith }) opens
 
 -- A final's label does not open a rough: under another job or edition a file is refused.
 

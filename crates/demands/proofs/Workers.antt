@@ -1,13 +1,13 @@
 -- Ranges and plans, as a host is handed them: which number each call answers, demand 1 of them, and what they are beside the single call.
 use Rattle.demands.specs.Names as N
 use N.{Bool, _||_, false, not, true, List, Perm, [], _++_, _∷_, append-assoc, _≢_, _⊎_, inl, inr, _∙_, _≡_, ap, refl, sym, _+_, _-_, _≤_}
-use N.{min, suc, zero, ℕ, arith, eqb, ltb, drop, length, length-append, length-drop, length-take, take, drop-append-le, drop-at, drop-drop}
-use N.{take-at, le-ltb, ltb-false, ltb-true, blocksOf, ctrCameRound, Head, Outcome, done, keyed, leaving, refusal, refuseAs, reporting}
-use N.{under, over, chain, streamMode, Ctr·kind, lengthsOf, modeResult, modeCall, andThen, checked, refuse, keyAndIv, messageCheck}
-use N.{roomCheck, keyNumber, limit, modeOf, Ctr, Refused·ending, NoRoom, TooLong, Checked, Passed, Refused, planCall, noPieces, planOf}
-use N.{accepts, planned, rangeCall, rangeCheck, reachCheck, stretch, Share, allWorked, applied, laidAt, shareOf, sharesOf, worked, Making}
-use N.{BadWorkers, Made, TooLong·made, Plan, modeIn, hostModeCall, directionOf, cipherIn, makingHead, hostCtrByPlan, hostCtrRange}
-use N.{hostPlanMake, LuossavinKey}
+use N.{min, suc, zero, ℕ, arith, eqb, ltb, drop, length, length-append, length-drop, length-take, take, drop-append-le, drop-drop}
+use N.{take-append-seam, le-ltb, ltb-false, ltb-true, blocksOf, ctrCameRound, Head, Outcome, done, keyed, leaving, refusal, refuseAs}
+use N.{reporting, under, over, chain, streamMode, Ctr·kind, lengthsOf, modeResult, modeCall, andThen, checked, refuse, keyAndIv}
+use N.{messageCheck, roomCheck, keyNumber, limit, modeOf, Ctr, Refused·ending, NoRoom, TooLong, Checked, Passed, Refused, planCall}
+use N.{noPieces, planOf, accepts, planned, rangeCall, rangeCheck, reachCheck, stretch, Share, allWorked, applied, laidAt, shareOf, sharesOf}
+use N.{worked, Making, BadWorkers, Made, TooLong·made, Plan, modeIn, hostModeCall, directionOf, cipherIn, makingHead, hostCtrByPlan}
+use N.{hostCtrRange, hostPlanMake, LuossavinKey}
 use Rattle.demands.specs.WhichNumber.{Said, saidIn, only, firstOf}
 use Rattle.demands.specs.Workers.{rangeRows, planRows, makeRows, rangeNumbers, planNumbers, PlanHanded, unsaid, ctrCall}
 use Rattle.demands.specs.Workers.{StretchOfWhole, Applying, appliedBy, RangesCommute, workedBy, allWorkedBy}
@@ -28,6 +28,7 @@ use Rattle.demands.specs.Call.{result}
 use Rattle.demands.proofs.Through.{zero-passed, through, leaves, result-of-done}
 use Rattle.demands.proofs.InPieces.{ctr-data, ctr-begins, single-done}
 use Rattle.ghash.proofs.Blocks.{getD-zeros}
+use lib.Seq.{drop-append-seam}
 
 -- what is checked of a stretch that ends at a byte, and of a range
 abbrev reachOf : LuossavinKey → Bool → List ℕ → ℕ → Checked
@@ -184,31 +185,21 @@ module _ (k : LuossavinKey) (decrypt : Bool) (label d iv o : List ℕ) (e : ctrC
       let within = ltb-false limit (length d) (let-through _ TooLong Passed (rw ctr-data at (q .content)) .fails) in
       rw (q .key, q .iv-size, q .may, le-ltb limit (offset + n) (omega arith), le-ltb room n g)
 
--- a stretch of the whole is that stretch of what Ctr gives of it
-stretched : (rk iv pre d post : List ℕ)
-    → stretch rk iv (length pre) d ≡ take (length d) (drop (length pre) (chain (streamMode Ctr·kind rk) iv (pre ++ (d ++ post))))
-stretched rk iv pre d post =
-    rw (
-      ← share-of-whole rk iv (pre ++ (d ++ post)) (record { start = length pre; size = length d }),
-      drop-at pre (d ++ post) (length pre) refl,
-      take-at d post (length d) refl,
-    )
-
 -- The exported range is its stretch of what the exported single call gives of the whole, whatever is before and behind it.
 pub stretch-of-the-call : StretchOfWhole hostCtrRange ctrCall
 unfolding hostCtrRange rangeCall cipherIn hostModeCall modeOf
 stretch-of-the-call =
     record {
       stretch = λ k decrypt label iv pre d post o o′ room e.
+          let rk = k .«round_keys» in
           let text = pre ++ (d ++ post) in
           let n : length text ≡ length pre + (length d + length post) = rw (length-append pre (d ++ post), length-append d post) in
-          let whole = chain (streamMode Ctr·kind (k .«round_keys»)) iv text in
+          let whole = chain (streamMode Ctr·kind rk) iv text in
+          let gives = ap result (call-gives k decrypt label text iv o′ e) ∙ result-of-done whole o′ in
           rw (within-passes k decrypt label text iv o′ e (length pre) (length d) (length o) (omega arith) room) (
             refl,
-            result-of-done (stretch (k .«round_keys») iv (length pre) d) o
-                ∙ stretched (k .«round_keys») iv pre d post
-                ∙ ap (λ (l : List ℕ). take (length d) (drop (length pre) l))
-                (sym (ap result (call-gives k decrypt label text iv o′ e) ∙ result-of-done whole o′)),
+            rw (gives, ← share-of-whole rk iv text (record { start = length pre; size = length d }))
+                (simp (drop-append-seam, take-append-seam)),
           );
       whole = λ k decrypt label iv pre d o o′ room e.
           let (first, within, _) = in-range k decrypt iv (length pre) (length d) (length o) (zero-passed _ o _ e) in
@@ -273,14 +264,8 @@ laid-over : (at n : ℕ) (s o : List ℕ) → length s ≤ length (take n (drop 
 laid-over at n s o h =
     let v = take n (drop at o) in
     let size : length (over s v) ≡ length v = rw (length-append, length-drop) (omega arith) in
-    rw (
-      size,
-      append-assoc s,
-      ← drop-append-le (length s) v (drop (at + length v) o) h,
-      ← drop-drop (length v) at o,
-      front-and-rest n (drop at o),
-      drop-drop (length s) at o,
-    )
+    rw (size, append-assoc s, ← drop-append-le (length s) v (drop (at + length v) o) h)
+    (rw (← drop-drop (length v) at o, front-and-rest n (drop at o), drop-drop (length s) at o))
 
 -- what a check leaves of nothing
 nothing-done : (c : Checked) (s v : List ℕ) → length s ≡ 0 → checked c v (done s v) .bytes ≡ over s v
