@@ -1,8 +1,8 @@
 -- Imposters put in the place of a call: each breaks a demand or the definition, at an input that is named.
 use Rattle.demands.specs.Names as N
-use N.{false, true, List, [], _++_, _∷_, _≢_, inl, _∙_, _≡_, ap, refl, sym, _+_, _-_, _^_, _≤_, ℕ, le-of-eq, arith, eqb, lit<, drop, getD}
-use N.{length, length-replicate, replicate, take, eqb-false, le-ltb, AreBytes, bytesOf, numberOf, U128, gmul, gpow, mulFrom, one, timesX}
-use N.{ctrNext, Head, Outcome, done, keyed, reporting, chain, walk, roundKeys, Ghash·block as blockOf, blocks, blocksFrom, hashFrom, joined}
+use N.{false, List, [], _++_, _∷_, _≢_, inl, _∙_, _≡_, ap, refl, sym, _+_, _-_, _^_, _≤_, ℕ, le-of-eq, arith, eqb, lit<, drop, getD, length}
+use N.{length-replicate, replicate, take, eqb-false, le-ltb, AreBytes, bytesOf, numberOf, U128, gmul, gpow, mulFrom, one, timesX, ctrNext}
+use N.{Head, Outcome, done, keyed, reporting, chain, walk, roundKeys, Ghash·block as blockOf, blocks, blocksFrom, hashFrom, joined}
 use N.{modeCall, wrongIv, dataCheck, keyAndIv, messageCheck, roomCheck, keyNumber, newCipher, limit, roomOf, modeOf, CipherMode, Cbc, Cfb}
 use N.{Ctr, Gcm, Ofb, Decrypt, Encrypt, Seal, anyTooLong, badList, labelAt, sum, searchCheck, which, planCall, noPieces, accepts, follows}
 use N.{rangeCall, rangeCheck, reachCheck, stretch, laidAt, Plan, labelOf, Shelf·Outcome, putCall, front·shelf as front}
@@ -34,6 +34,7 @@ use Rattle.demands.proofs.ModesBack.{encrypted}
 use Rattle.demands.proofs.ThereAndBack.{set-up-same-key, served}
 use Rattle.demands.proofs.OneBlockRefused.{short-label-refused}
 use Rattle.demands.proofs.Worked.{zero-block, block-of-one, zero-key-moves}
+use mathlib.Core.Bool.{false≢true}
 
 -- two numbers of two things tell the things apart
 pub apart : (A : Type 0) (f : A → ℕ) (x y : A) (m n : ℕ) → f x ≡ m → f y ≡ n → eqb m n ≡ false → x ≢ y
@@ -41,10 +42,7 @@ apart A f x y m n a b t e = eqb-false m n t (sym a ∙ ap f e ∙ b)
 
 -- there is a list past the limit, which is not to be written out
 long : ((n : ℕ) → n ≡ limit + 1 → (l : List ℕ) → length l ≡ n → ⊥) → ⊥
-long f = past (limit + 1) refl
-  where
-    past : (n : ℕ) → n ≡ limit + 1 → ⊥
-    past n e = f n e (replicate n 0) (length-replicate n 0)
+long f = let past : (n : ℕ) → n ≡ limit + 1 → ⊥ = λ n e. f n e (replicate n 0) (length-replicate n 0) in past (limit + 1) refl
 
 -- a byte of the output
 abbrev at : ℕ → Outcome → ℕ
@@ -218,8 +216,7 @@ unfolding hostModeCall modeOf modeCall messageCheck keyAndIv cipherIn keyAnswerO
 unseen-label-contradicts k a u claim =
     long (λ n past label e.
     let five : hostModeCall Encrypt 4 k label [] zeros zeros .head .number ≡ 5 = rw (e, past, a, u) in
-    let no : false ≡ true = rw five at (claim label zeros .begun (rw (a, u)) zeros (omega arith)) in
-    let z : _≡_ {A = ℕ} 0 1 = cc in omega arith)
+    false≢true (rw five at (claim label zeros .begun (rw (a, u)) zeros (omega arith))))
 
 -- A part that is told where none is found is told by a bad list, one byte of labels and no candidate.
 pub left-part-is-told : (k : LuossavinKey)

@@ -21,6 +21,7 @@ use Rattle.demands.specs.OnTheShelf.{ShelfAnswered, PlaceAnswered, putNu
 use Rattle.demands.specs.OnTheShelf.{labelIn, fileIn, OneEditionOpens, NoRoughShown, OfEach}
 use Rattle.demands.proofs.OneBlockRefused.{other-edition-refused}
 use Rattle.demands.proofs.Answering.{split}
+use mathlib.Core.Bool.{false≢true}
 
 -- Which number: putting says what the first condition says that holds.
 pub exported-put-number : (shelf : List ℕ) (used job edition : ℕ) (sealed : List ℕ)
@@ -119,7 +120,7 @@ TheCurrent job rs = (r : Record) × (currentOf job rs ≡ r ∷ []) × (r .job �
 
 the-current : (job : ℕ) (rs : List Record) → AllProper rs → hasCurrent job rs ≡ true → twoCurrent rs ≡ false → TheCurrent job rs
 unfolding hasCurrent those
-the-current job [] p h f = let z : _≡_ {A = ℕ} 0 1 = cc in absurd (omega arith)
+the-current job [] p h f = absurd (false≢true h)
 the-current job (r ∷ rs) (p, ps) h f =
     split _ (isCurrentOf job r)
     (λ e. (r, rw (e, none-current job rs (alone job r rs f e)), eqb-true (r .job) job (and-right (r .current) _ e), p .edition))

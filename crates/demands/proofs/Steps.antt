@@ -1,12 +1,12 @@
 -- Demand 1 of the calls on messages in pieces: every value of a state has its answer, a refusal changes nothing, and a refused start
 -- and an ended message are no message's state any more.
 use Rattle.demands.specs.Names as N
-use N.{Bool, false, not, true, List, [], _++_, _∷_, _≢_, _⊎_, ⊎-elim, _∙_, _≡_, refl, _%_, _-_, ℕ, arith, eqb, length, eqb-true, ne-eqb}
-use N.{same, xors, finished, refusal, over, refusalHead, keyAndIv, keyNumber, Ctr as Ctr·mode, Decrypt, Encrypt, Refusal, Ended}
-use N.{ErrorBlockSize, Retired, TooLong, WrongIv, WrongNumber, Checked, Passed, Refused, Stepped, begun, ended, goesOn, stepOn, ctrEnd}
-use N.{ctrPiece, ctrStart, opensEnd, opensPiece, opensStart, sealEnd, sealPiece, sealStart, gcmStarting, running, standing, tagged, writing}
-use N.{flowText, hashEnd, ctrAfter, ctrShut, opensAfter, opensShut, sealAfter, sealShut, Ctr·state as Ctr, Ctr·counting, Gcm·counting}
-use N.{Opens, Seal, directionOf, hostCtrStart, hostOpensStart, hostSealStart, cipherIn, LuossavinKey}
+use N.{Bool, not, true, List, [], _++_, _∷_, _≢_, _⊎_, ⊎-elim, _∙_, _≡_, refl, _%_, _-_, ℕ, arith, eqb, length, eqb-true, ne-eqb, same}
+use N.{xors, finished, refusal, over, refusalHead, keyAndIv, keyNumber, Ctr as Ctr·mode, Decrypt, Encrypt, Refusal, Ended, ErrorBlockSize}
+use N.{Retired, TooLong, WrongIv, WrongNumber, Checked, Passed, Refused, Stepped, begun, ended, goesOn, stepOn, ctrEnd, ctrPiece, ctrStart}
+use N.{opensEnd, opensPiece, opensStart, sealEnd, sealPiece, sealStart, gcmStarting, running, standing, tagged, writing, flowText, hashEnd}
+use N.{ctrAfter, ctrShut, opensAfter, opensShut, sealAfter, sealShut, Ctr·state as Ctr, Ctr·counting, Gcm·counting, Opens, Seal}
+use N.{directionOf, hostCtrStart, hostOpensStart, hostSealStart, cipherIn, LuossavinKey}
 use Rattle.pieces.specs.declared.flow.Counting.{Counting}
 use Rattle.pieces.specs.declared.flow.Flow.{Flow}
 use Rattle.block.proofs.Convert.{length-bytesOf}
@@ -22,6 +22,7 @@ use Rattle.demands.proofs.WhichNumber.{behind, said·laws, said-standin
 use Rattle.demands.proofs.WhichNumber.{seal-end-number, opens-piece-number, opens-end-number, exported-ctr-start-number}
 use Rattle.demands.proofs.WhichNumber.{exported-seal-start-number, exported-opens-start-number}
 use Rattle.demands.proofs.Answering.{numbered, within, Fair, answered, refused-fair, refusal-fair, done-fair, split}
+use mathlib.Core.Bool.{false≢true}
 
 -- a refusal, or what comes next, which may count on it that the check passed
 goes-answers : {S : Type 0} {number : S → ℕ} {o : List ℕ} {s : S} {n : ℕ} (k : Checked) (next : Stepped S)
@@ -103,7 +104,7 @@ All P [] = Unit {0}
 All P (k ∷ ks) = P k × All P ks
 
 each : (P : ℕ → Type 0) (ks : List ℕ) → All P ks → (n : ℕ) → oneOf n ks ≡ true → P n
-each P [] a n e = let z : _≡_ {A = ℕ} 0 1 = cc in absurd (omega arith)
+each P [] a n e = absurd (false≢true e)
 each P (k ∷ ks) (p, ps) n e = split _ (eqb n k) (λ f. let z = eqb-true n k f in rw z p) (λ f. each P ks ps n (rw f at e))
 
 -- the marks at which a shut state stands, of a refused start and of an end: each refuses by its own number
@@ -227,10 +228,7 @@ not-four mark label total tag r e four =
     let nine : Row = record { holds = not (eqb tag 16); says = record { number = 9; missing = 16 - tag } } in
     let rows = runningRows mark label total 0 ++ (nine ∷ []) in
     let said : behind (tagged mark label total tag) (only 0) ≡ firstOf rows = simp (said·laws, said-standing) in
-    let known = numbered rows (0 ∷ 9 ∷ shutMarks) (saidIn (refusalHead r)) refl (rw e at said) in
-    let no : false ≡ true = rw four at known in
-    let z : _≡_ {A = ℕ} 0 1 = cc in
-    absurd (omega arith)
+    false≢true (rw four at (numbered rows (0 ∷ 9 ∷ shutMarks) (saidIn (refusalHead r)) refl (rw e at said)))
 
 pub opens-after-end : (s : Opens) (tag : List ℕ) → (opensEnd s tag .head .number ≡ 0) ⊎ (opensEnd s tag .head .number ≡ 4)
     → NoOpens 12 (opensEnd s tag .state)

@@ -2,12 +2,12 @@
 use Rattle.demands.specs.Names as N
 use N.{Bool, _||_, false, not, true, List, Perm, [], _++_, _∷_, append-assoc, _≢_, _⊎_, inl, inr, _∙_, _≡_, ap, refl, sym, _+_, _-_, _≤_}
 use N.{min, suc, zero, ℕ, arith, eqb, ltb, drop, length, length-append, length-drop, length-take, take, drop-append-le, drop-drop}
-use N.{take-append-seam, le-ltb, ltb-false, ltb-true, blocksOf, ctrCameRound, Head, Outcome, done, keyed, leaving, refusal, refuseAs}
-use N.{reporting, under, over, chain, streamMode, Ctr·kind, lengthsOf, modeResult, modeCall, andThen, checked, refuse, keyAndIv}
-use N.{messageCheck, roomCheck, keyNumber, limit, modeOf, Ctr, Refused·ending, NoRoom, TooLong, Checked, Passed, Refused, planCall}
-use N.{noPieces, planOf, accepts, planned, rangeCall, rangeCheck, reachCheck, stretch, Share, allWorked, applied, laidAt, shareOf, sharesOf}
-use N.{worked, Making, BadWorkers, Made, TooLong·made, Plan, modeIn, hostModeCall, directionOf, cipherIn, makingHead, hostCtrByPlan}
-use N.{hostCtrRange, hostPlanMake, LuossavinKey}
+use N.{take-append-seam, le-ltb, ltb-false, blocksOf, ctrCameRound, Head, Outcome, done, keyed, leaving, refusal, refuseAs, reporting}
+use N.{under, over, chain, streamMode, Ctr·kind, lengthsOf, modeResult, modeCall, andThen, checked, refuse, keyAndIv, messageCheck}
+use N.{roomCheck, keyNumber, limit, modeOf, Ctr, Refused·ending, NoRoom, TooLong, Checked, Passed, Refused, planCall, noPieces, planOf}
+use N.{accepts, planned, rangeCall, rangeCheck, reachCheck, stretch, Share, allWorked, applied, laidAt, shareOf, sharesOf, worked, Making}
+use N.{BadWorkers, Made, TooLong·made, Plan, modeIn, hostModeCall, directionOf, cipherIn, makingHead, hostCtrByPlan, hostCtrRange}
+use N.{hostPlanMake, LuossavinKey}
 use Rattle.demands.specs.WhichNumber.{Said, saidIn, only, firstOf}
 use Rattle.demands.specs.Workers.{rangeRows, planRows, makeRows, rangeNumbers, planNumbers, PlanHanded, unsaid, ctrCall}
 use Rattle.demands.specs.Workers.{StretchOfWhole, Applying, appliedBy, RangesCommute, workedBy, allWorkedBy}
@@ -267,11 +267,11 @@ laid-over at n s o h =
     rw (size, append-assoc s, ← drop-append-le (length s) v (drop (at + length v) o) h)
     (rw (← drop-drop (length v) at o, front-and-rest n (drop at o), drop-drop (length s) at o))
 
--- what a check leaves of nothing
-nothing-done : (c : Checked) (s v : List ℕ) → length s ≡ 0 → checked c v (done s v) .bytes ≡ over s v
-nothing-done Passed s v e = refl
-nothing-done (Refused r) [] v e = refl
-nothing-done (Refused r) (x ∷ s) v e = absurd (omega arith)
+-- what a call leaves that passes where there is something to do
+done-or-nothing : (c : Checked) (s v : List ℕ) → (1 ≤ length s → c ≡ Passed) → checked c v (done s v) .bytes ≡ over s v
+done-or-nothing c (x ∷ s) v h = rw (h (omega arith))
+done-or-nothing Passed [] v h = refl
+done-or-nothing (Refused r) [] v h = refl
 
 module _ (k : LuossavinKey) (decrypt : Bool) (label d iv o₀ : List ℕ)
     (e : hostModeCall (directionOf decrypt) 2 k label d iv o₀ .head .number ≡ 0) where
@@ -283,16 +283,12 @@ module _ (k : LuossavinKey) (decrypt : Bool) (label d iv o₀ : List ℕ)
   unfolding hostCtrRange rangeCall cipherIn
   share-worked p o room =
       let here = stretch rk iv (p .start) (shareOf p d) in
-      let check = rangeOf k decrypt iv (p .start) (length (shareOf p d)) (length (shareOf p o)) in
       let n = length-share p d in
       let m = length-share p o in
       let size = length-stretch rk iv (p .start) (shareOf p d) in
       let passes = within-passes k decrypt label d iv o₀ e (p .start) (length (shareOf p d)) (length (shareOf p o)) in
-      let by-start : checked check (shareOf p o) (done here (shareOf p o)) .bytes ≡ over here (shareOf p o) =
-      split _ (ltb (length d) (p .start))
-      (λ f. nothing-done check here (shareOf p o) (size ∙ omega (arith, ltb-true (length d) (p .start) f)))
-      (λ f. let h = ltb-false (length d) (p .start) f in rw (passes (omega arith) (omega arith))) in
-      rw by-start (laid-over (p .start) (p .size) here o (omega arith))
+      rw (done-or-nothing (rangeOf k decrypt iv (p .start) (length (shareOf p d)) (length (shareOf p o))) here (shareOf p o)
+      (λ some. passes (omega arith) (omega arith))) (laid-over (p .start) (p .size) here o (omega arith))
 
   all-worked : (ps : List Share) (o : List ℕ) → length d ≤ length o → allWorkedBy k decrypt iv d ps o ≡ allWorked rk iv d ps o
   all-worked [] o h = refl
