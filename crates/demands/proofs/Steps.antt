@@ -2,13 +2,11 @@
 -- and an ended message are no message's state any more.
 use Rattle.demands.specs.Names as N
 use N.{Bool, not, true, List, [], _++_, _∷_, _≢_, _⊎_, ⊎-elim, _∙_, _≡_, refl, _%_, _-_, ℕ, arith, eqb, length, eqb-true, ne-eqb, same}
-use N.{xors, finished, refusal, over, refusalHead, keyAndIv, keyNumber, Ctr as Ctr·mode, Decrypt, Encrypt, Refusal, Ended, ErrorBlockSize}
+use N.{xors, finished, refusal, refusalHead, keyAndIv, keyNumber, Ctr as Ctr·mode, Decrypt, Encrypt, Refusal, Ended, ErrorBlockSize}
 use N.{Retired, TooLong, WrongIv, WrongNumber, Checked, Passed, Refused, Stepped, begun, ended, goesOn, stepOn, ctrEnd, ctrPiece, ctrStart}
 use N.{opensEnd, opensPiece, opensStart, sealEnd, sealPiece, sealStart, gcmStarting, running, standing, tagged, writing, flowText, hashEnd}
 use N.{ctrAfter, ctrShut, opensAfter, opensShut, sealAfter, sealShut, Ctr·state as Ctr, Ctr·counting, Gcm·counting, Opens, Seal}
 use N.{directionOf, hostCtrStart, hostOpensStart, hostSealStart, cipherIn, LuossavinKey}
-use Rattle.pieces.specs.declared.flow.Counting.{Counting}
-use Rattle.pieces.specs.declared.flow.Flow.{Flow}
 use Rattle.block.proofs.Convert.{length-bytesOf}
 use Rattle.block.proofs.Xors.{length-xors}
 use Rattle.cipher_mode.proofs.Refusals.{refuses as each-refuses}
@@ -38,15 +36,6 @@ goes-answers {o = o} {n = n} (Refused r) next i a u c =
 nothing-fair : Fair [] 0 (finished 0) []
 nothing-fair = done-fair [] 0 [] 0 refl refl (omega arith)
 
--- done with a piece of its own length; the pad of a state has sixteen bytes
-piece-fair : (counting : Counting) (rk : List ℕ) (flow : Flow) (mark label total : ℕ) (e o : List ℕ) → length (flow .pad) ≡ 16
-    → writing mark label total (length e) (length e) (length o) ≡ Passed
-    → Fair o (length e) (finished (length e)) (over (flowText counting rk flow (total % 16) e) o)
-piece-fair counting rk flow mark label total e o n k =
-    done-fair o (length e) (flowText counting rk flow (total % 16) e) (length e)
-    (text-length counting rk flow (total % 16) e n (omega arith)) refl
-    (writing-passed mark label total (length e) (length e) (length o) k .1)
-
 -- A piece of Ctr is refused, with state and output as they came, or done with its own length. The pad of a state has sixteen
 -- bytes, as its type says.
 pub ctr-piece-answers : (s : Ctr) (e o : List ℕ) → length (s .flow .pad) ≡ 16 → StepAnswered Ctr ctrKey s o (length e) (ctrPiece s e o)
@@ -54,7 +43,9 @@ unfolding ctrPiece
 ctr-piece-answers s e o n =
     goes-answers (writing (s .stands) 0 (s .total) (length e) (length e) (length o)) _
     (numbered (ctrPieceRows s e o) pieceNumbers _ refl (ctr-piece-number s e o))
-    (piece-fair Ctr·counting (s .rk) (s .flow) (s .stands) 0 (s .total) e o n) (λ z _. absurd (z refl)) refl
+    (λ k. done-fair o (length e) (flowText Ctr·counting (s .rk) (s .flow) (s .total % 16) e) (length e)
+    (text-length Ctr·counting (s .rk) (s .flow) (s .total % 16) e n (omega arith)) refl (writing-passed _ _ _ _ _ _ k .1))
+    (λ z _. absurd (z refl)) refl
 
 pub ctr-end-answers : (s : Ctr) → StepAnswered Ctr ctrKey s [] 0 (ctrEnd s)
 unfolding ctrEnd ctrShut
@@ -68,7 +59,9 @@ unfolding sealPiece
 seal-piece-answers s e o n =
     goes-answers (writing (s .stands) (s .label) (s .total) (length e) (length e) (length o)) _
     (numbered (sealPieceRows s e o) pieceNumbers _ refl (seal-piece-number s e o))
-    (piece-fair Gcm·counting (s .rk) (s .flow) (s .stands) (s .label) (s .total) e o n) (λ z _. absurd (z refl)) refl
+    (λ k. done-fair o (length e) (flowText Gcm·counting (s .rk) (s .flow) (s .total % 16) e) (length e)
+    (text-length Gcm·counting (s .rk) (s .flow) (s .total % 16) e n (omega arith)) refl (writing-passed _ _ _ _ _ _ k .1))
+    (λ z _. absurd (z refl)) refl
 
 -- Its end is refused, or done with the sixteen bytes of a tag.
 pub seal-end-answers : (s : Seal) (o : List ℕ) → length (s .mask) ≡ 16 → StepAnswered Seal sealKey s o 16 (sealEnd s o)
@@ -78,8 +71,7 @@ seal-end-answers s o n =
     let m : length hash ≡ 16 = length-bytesOf 16 _ in
     goes-answers (writing (s .stands) (s .label) (s .total) 0 16 (length o)) _
     (numbered (sealEndRows s o) pieceNumbers _ refl (seal-end-number s o))
-    (λ k. done-fair o 16 (xors (s .mask) hash) 16 (length-xors (s .mask) hash (omega arith) ∙ n) refl
-    (writing-passed (s .stands) (s .label) (s .total) 0 16 (length o) k .1))
+    (λ k. done-fair o 16 (xors (s .mask) hash) 16 (length-xors (s .mask) hash (omega arith) ∙ n) refl (writing-passed _ _ _ _ _ _ k .1))
     (λ z _. absurd (z refl)) refl
 
 -- A piece of an opening is refused or taken; its end is refused, or answers 0 or 4, and only 4 leaves another state.
