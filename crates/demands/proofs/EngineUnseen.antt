@@ -1,17 +1,16 @@
 -- The engine is never seen: no definition of an outcome looks at its mark. Where a call leaves a state, the state's mark is all that
 -- differs, whether the call was refused or not.
 use Rattle.demands.specs.Names as N
-use N.{Bool, _||_, cond, List, [], _∷_, map, _∙_, _≡_, ap, ap₂, refl, sym, _+_, suc, zero, ℕ, eqb, drop, length, take, blockCall, modeCall}
-use N.{keyAndIv, keyNumber, withEngine, Ctr as Ctr·mode, Encrypt, Sm4Cipher, Checked, Passed, Refused, Stepped, begun, goesOn, stepOn}
-use N.{ctrEnd, ctrPiece, ctrStart, opensStart, sealEnd, sealPiece, sealStart, gcmStarting, running, writing, ctrAfter, sealAfter}
-use N.{Ctr·state as Ctr, Seal, which, planCall, rangeCall, front·journal as front, sizeAt·journal as sizeAt, hasNumber, keyAt, anyRetired}
-use N.{badKeys, numberTwice, placeOf, callInto, replay, replayOne, replayUpTo, nothing, Report, hostBlockCall, hostModeCall, directionOf}
-use N.{hostCtrStart, hostOpensStart, hostSealStart, hostReplay, keysOf, cipherIn, hostKeyEngine, hostCtrByPlan, hostCtrRange, hostWhich}
-use N.{LuossavinKeys, LuossavinKey}
+use N.{cond, List, [], _∷_, map, _∙_, _≡_, ap, refl, sym, _+_, suc, zero, ℕ, eqb, drop, length, take, blockCall, modeCall, keyAndIv}
+use N.{keyNumber, withEngine, Ctr as Ctr·mode, Encrypt, Sm4Cipher, Checked, Passed, Refused, Stepped, begun, goesOn, stepOn, ctrEnd}
+use N.{ctrPiece, ctrStart, opensStart, sealEnd, sealPiece, sealStart, gcmStarting, running, writing, ctrAfter, sealAfter, Ctr·state as Ctr}
+use N.{Seal, which, planCall, rangeCall, front·journal as front, sizeAt·journal as sizeAt, keyAt, anyRetired, badKeys, numberTwice, placeOf}
+use N.{callInto, replay, replayOne, replayUpTo, nothing, Report, hostBlockCall, hostModeCall, directionOf, hostCtrStart, hostOpensStart}
+use N.{hostSealStart, hostReplay, keysOf, cipherIn, hostKeyEngine, hostCtrByPlan, hostCtrRange, hostWhich, LuossavinKeys, LuossavinKey}
 use Rattle.demands.specs.EngineUnseen.{unmarked, unmarkedCtr, unmarkedSeal, seen, CtrAlike, SealAlike, unmarkedHost, ReportedAlike}
 use Rattle.demands.specs.EngineUnseen.{unmarkedKeys}
 use mathlib.Core.List.{map-map}
-use lib.ListN.{length-map}
+use lib.ListN.{length-map, List·getD-map}
 
 -- what does not look at a mark is the same of things that are alike but for it
 by-mark : {R O : Type 0} (without : R → R) (r s : R) → without r ≡ without s → (f : R → O) → ((x : R) → f (without x) ≡ f x) → f r ≡ f s
@@ -98,40 +97,27 @@ unfolding placeOf withEngine
 place-plainly n [] = refl
 place-plainly n (c ∷ cs) = ap (λ (i : ℕ). cond (eqb (keyNumber c) n) 0 (1 + i)) (place-plainly n cs)
 
-has-plainly : (n : ℕ) (cs : List Sm4Cipher) → hasNumber n (plainly cs) ≡ hasNumber n cs
-has-plainly n cs = rw (place-plainly n cs, length-map cs unmarked)
-
-at-plainly : (cs : List Sm4Cipher) (i : ℕ) → keyAt (plainly cs) i ≡ unmarked (keyAt cs i)
-unfolding withEngine
-at-plainly [] i = refl
-at-plainly (c ∷ cs) zero = refl
-at-plainly (c ∷ cs) (suc i) = at-plainly cs i
-
 -- what is bad of keys
-retired-plainly : (cs : List Sm4Cipher) → anyRetired (plainly cs) ≡ anyRetired cs
-unfolding anyRetired withEngine
-retired-plainly [] = refl
-retired-plainly (c ∷ cs) = ap {B = Bool} (λ (b : Bool). c .retired || b) (retired-plainly cs)
-
-twice-plainly : (cs : List Sm4Cipher) → numberTwice (plainly cs) ≡ numberTwice cs
-unfolding numberTwice withEngine
-twice-plainly [] = refl
-twice-plainly (c ∷ cs) = ap₂ {C = Bool} _||_ (has-plainly (keyNumber c) cs) (twice-plainly cs)
+bad-plainly : (cs : List Sm4Cipher) → (anyRetired (plainly cs) ≡ anyRetired cs) × (numberTwice (plainly cs) ≡ numberTwice cs)
+unfolding anyRetired numberTwice withEngine
+bad-plainly [] = (refl, refl)
+bad-plainly (c ∷ cs) =
+    let (retired, twice) = bad-plainly cs in
+    (rw retired, rw (place-plainly (keyNumber c) cs, length-map cs unmarked, twice))
 
 -- a record made again
 one-plainly : (ks : List Sm4Cipher) (b : List ℕ) (place : ℕ) (r : Report) → replayOne (plainly ks) b place r ≡ replayOne ks b place r
 unfolding replayOne callInto modeCall withEngine
 one-plainly ks b place r =
     let n = front b .key in
-    rw (has-plainly n ks, place-plainly n ks, at-plainly ks (placeOf n ks))
+    rw (place-plainly n ks, length-map ks unmarked, List·getD-map unmarked ks (placeOf n ks) (keyAt [] 0))
 
 up-to-plainly : (n : ℕ) (ks : List Sm4Cipher) (b : List ℕ) (place : ℕ) (r : Report)
     → replayUpTo n (plainly ks) b place r ≡ replayUpTo n ks b place r
 unfolding replayUpTo
 up-to-plainly zero ks b place r = refl
 up-to-plainly (suc n) ks b place r =
-    let next = up-to-plainly n ks (drop (sizeAt b) b) (place + sizeAt b) (replayOne ks b place r .report) in
-    rw (one-plainly ks b place r, next)
+    rw (one-plainly ks b place r, up-to-plainly n ks (drop (sizeAt b) b) (place + sizeAt b) (replayOne ks b place r .report))
 
 unmarked-replay : (k : LuossavinKeys) (journal : List ℕ) → hostReplay (unmarkedKeys k) journal ≡ hostReplay k journal
 unfolding hostReplay keysOf cipherIn hostKeyEngine withEngine replay badKeys
@@ -139,7 +125,7 @@ unmarked-replay k journal =
     let ks = take (k .count) (map cipherIn (k .keys)) in
     let hosts : map cipherIn (map unmarkedHost (k .keys)) ≡ plainly (map cipherIn (k .keys)) =
     map-map cipherIn unmarkedHost (k .keys) ∙ sym (map-map unmarked cipherIn (k .keys)) in
-    rw (hosts, take-plainly (k .count), retired-plainly ks, twice-plainly ks, up-to-plainly (length journal) ks journal 0 nothing)
+    rw (hosts, take-plainly (k .count), bad-plainly ks .0, bad-plainly ks .1, up-to-plainly (length journal) ks journal 0 nothing)
 
 -- Keys that are alike but for their engines.
 pub engine-unseen-in-replay : (k l : LuossavinKeys) → unmarkedKeys k ≡ unmarkedKeys l → (journal : List ℕ)
