@@ -315,15 +315,12 @@ marks-first-contradicts =
 
 -- Counting bytes is told under H = x by a first half of the one, which hashes to x, and two zero bytes behind it: that is x^2, and the
 -- imposter gives x^3.
-abbrev x : U128
-x = record { high = 2 ^ 62; low = 0 }
-
 pub counting-bytes-contradicts :
     ¬ ((h : U128) → IsValue h → (a b : List ℕ) → WholeBlocks a → countsBytes h a b ≡ hostHashBlocks h (a ++ b))
 unfolding hostHashBlocks hostHashJoin joined hashFrom blocks blocksFrom blockOf numberOf gmul mulFrom timesX gpow one
 counting-bytes-contradicts claim =
     apart U128 (λ r. r .high) _ _ (2 ^ 60) (2 ^ 61) refl refl refl
-    (claim x (record { high = lit< tt; low = lit< tt }) (0x80 ∷ replicate 15 0) (0 ∷ 0 ∷ []) refl)
+    (claim (record { high = 2 ^ 62; low = 0 }) (record { high = lit< tt; low = lit< tt }) (0x80 ∷ replicate 15 0) (0 ∷ 0 ∷ []) refl)
 
 -- A first half that ends inside a block does not join: under H = x two halves of one byte 80 are two blocks, x^2 + x, and both together are
 -- one block, x + x^9.
@@ -332,4 +329,4 @@ pub cut-inside-a-block-contradicts :
 unfolding hostHashBlocks hostHashJoin joined hashFrom blocks blocksFrom blockOf numberOf gmul mulFrom timesX gpow one
 cut-inside-a-block-contradicts claim =
     apart U128 (λ r. r .high) _ _ (2 ^ 62 + 2 ^ 61) (2 ^ 62 + 2 ^ 54) refl refl refl
-    (claim x (record { high = lit< tt; low = lit< tt }) (0x80 ∷ []) (0x80 ∷ []))
+    (claim (record { high = 2 ^ 62; low = 0 }) (record { high = lit< tt; low = lit< tt }) (0x80 ∷ []) (0x80 ∷ []))

@@ -218,15 +218,12 @@ seal-in-pieces k ps label iv t o r room e =
     (all, ap₂ _++_ bytes tagged ∙ sym gives, told)
 
 -- pieces of a ciphertext write nothing, and fit into no output
-abbrev Free : List ℕ → Type 0
-Free c = Unit {0}
-
-free : (cs : List (List ℕ)) → Every (List ℕ) Free cs
+free : (cs : List (List ℕ)) → Every (List ℕ) (λ _. Unit {0}) cs
 free [] = tt
 free (c ∷ cs) = (tt, free cs)
 
 opens-goes : (i : ℕ) (rk label iv : List ℕ) → length label ≤ limit
-    → Goes i (λ c. c) none Free (λ _ _. []) (opensAfter i rk label iv) opensPiece
+    → Goes i (λ c. c) none (λ _. Unit {0}) (λ _ _. []) (opensAfter i rk label iv) opensPiece
 unfolding opensPiece opensAfter
 opens-goes i rk label iv hl =
     record {
@@ -257,11 +254,8 @@ opens-in-pieces key cs label iv tag o fits room n e =
     let end = ap (λ (y : Opens). opensEnd y tag) state ∙ opens-ended (keyNumber c) rk label iv text hl tag fits n in
     -- the same test decides the single call
     let test = opensUnder rk (hashKey rk) (J0 rk iv) label (text ++ tag) in
-    rw (opens-started c label iv passed) (
-      all,
-      rw (end, left, size) (split _ test (λ f. rw f) (λ f. rw f)),
-      rw (end, left, size) (split _ test (λ f. rw f) (λ f. rw f)),
-    )
+    rw (opens-started c label iv passed) (rw (end, left, size)
+    (all, split _ test (λ f. rw f) (λ f. rw f), split _ test (λ f. rw f) (λ f. rw f)))
 
 -- Where start, pieces and end all answer 0, the exported single call, given room, does too, with the same bytes.
 pub ctr-of-pieces : (decrypt : Bool) (k : LuossavinKey)

@@ -62,21 +62,16 @@ module _ (numbers : List ℕ) (shelf : List ℕ) (used : ℕ) where
         kept = rw (length-append, length-drop) (omega arith);
       }
 
--- what is fitted fits where what is current does
-fitted-fits : (room : ℕ) (rs : List Record) → length (stored (collected rs)) ≤ room → length (stored (fitted room rs)) ≤ room
-unfolding fitted
-fitted-fits room rs h = split _ (leb (length (stored rs)) room) (λ e. rw e (leb-true (length (stored rs)) room e)) (λ e. rw e h)
-
 pub exported-put-answers : (shelf : List ℕ) (used job edition : ℕ) (sealed : List ℕ)
     → ShelfAnswered putNumbers shelf used (putCall shelf used job edition sealed)
-unfolding putCall
+unfolding putCall fitted
 exported-put-answers shelf used job edition sealed =
     let new = putIn shelf used job edition sealed in
     refuses putNumbers shelf used (badShelf shelf used) 19 _ (omega arith) refl (λ _.
     refuses putNumbers shelf used (notHigher job edition (records (take used shelf))) 20 _ (omega arith) refl (λ _.
     refuses putNumbers shelf used (ltb (length shelf) (length (stored (collected new)))) 21 _ (omega arith) refl (λ e.
     holds putNumbers shelf used (fitted (length shelf) new) refl
-    (fitted-fits (length shelf) new (ltb-false (length shelf) (length (stored (collected new))) e)))))
+    (split _ (leb (length (stored new)) (length shelf)) (λ f. rw f (leb-true _ _ f)) (λ f. rw f (ltb-false _ _ e))))))
 
 pub exported-collect-answers : (shelf : List ℕ) (used : ℕ) → ShelfAnswered collectNumbers shelf used (collectCall shelf used)
 unfolding collectCall

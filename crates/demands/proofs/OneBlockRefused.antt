@@ -102,20 +102,17 @@ one-block-refused k moves a₁ a₂ c₁ c₂ t iv o₁ o₂ ba₁ ba₂ bc₁ b
 
 -- A final's label does not open a rough: under another job or edition a file is refused.
 
--- two lists of a block or less that differ do so inside one block
-one-block : (a b : List ℕ) → a ≢ b → length a ≡ length b → length a ≤ 16 → OneBlock a b
-one-block a b ne e l =
-    let k : length b ≤ 16 = omega arith in
-    record { apart = ne; lengths = e; place = 0; before = refl; after = drop-of-length-le a l ∙ sym (drop-of-length-le b k) }
-
 -- a file under another label of a block or less
 pub short-label-refused : (c : Sm4Cipher) → MovesZero (c .rk) → (a₁ a₂ file iv o₁ o₂ : List ℕ) → AreBytes a₁ → AreBytes a₂
     → a₁ ≢ a₂ → length a₁ ≡ length a₂ → length a₁ ≤ 16 → length o₁ ≡ length o₂
     → modeCall Decrypt (inGcm c) a₁ file iv o₁ .head .number ≡ 0 → RefusedAs 4 o₂ (modeCall Decrypt (inGcm c) a₂ file iv o₂)
 short-label-refused c moves a₁ a₂ file iv o₁ o₂ b₁ b₂ ne e l eo opens =
     let rk = c .rk in
+    let k : length a₂ ≤ 16 = omega arith in
+    let none-after = drop-of-length-le a₁ l ∙ sym (drop-of-length-le a₂ k) in
+    let inside : OneBlock a₁ a₂ = record { apart = ne; lengths = e; place = 0; before = refl; after = none-after } in
     other-label-refused c a₁ a₂ file iv o₁ o₂ (omega arith) eo
-    (label-changed (hashKey rk) (hashKey-lt rk) (hash-key-nonzero rk moves) a₁ a₂ (textPart file) b₁ b₂ (one-block a₁ a₂ ne e l)) opens
+    (label-changed (hashKey rk) (hashKey-lt rk) (hash-key-nonzero rk moves) a₁ a₂ (textPart file) b₁ b₂ inside) opens
 
 -- Under a key that does not encrypt the all-zero block to itself, a file that opens in Gcm under one job and edition is
 -- refused as 4 under every other job or edition.
