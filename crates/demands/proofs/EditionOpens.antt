@@ -178,7 +178,5 @@ which-answers k file iv labels lengths =
       either = one-or-none (which c file iv labels lengths .found);
       refused = λ n. split _ bad (λ e. rw e) (λ e. rw (e, place (rw e at n)));
       inside = λ e. found-opens c file iv labels lengths (is-true 1 0 refl _ e) .inside;
-      empty = λ e.
-          let v = zero-unless-found c file iv labels lengths (is-false 1 0 refl _ e) in
-          (ap (λ (v : Verdict). v .place) v, ap (λ (v : Verdict). v .start) v, ap (λ (v : Verdict). v .size) v);
+      empty = λ e. rw (zero-unless-found c file iv labels lengths (is-false 1 0 refl _ e)) (refl, refl, refl);
     }

@@ -83,49 +83,46 @@ host-unmarked k = refl
 -- that does not show it.
 
 -- keys without their marks
-abbrev plainly : List Sm4Cipher → List Sm4Cipher
-plainly cs = map unmarked cs
-
-take-plainly : (n : ℕ) (cs : List Sm4Cipher) → take n (plainly cs) ≡ plainly (take n cs)
-take-plainly zero cs = refl
-take-plainly (suc n) [] = refl
-take-plainly (suc n) (c ∷ cs) = ap (λ (l : List Sm4Cipher). unmarked c ∷ l) (take-plainly n cs)
+take-unmarked : (n : ℕ) (cs : List Sm4Cipher) → take n (map unmarked cs) ≡ map unmarked (take n cs)
+take-unmarked zero cs = refl
+take-unmarked (suc n) [] = refl
+take-unmarked (suc n) (c ∷ cs) = ap (λ (l : List Sm4Cipher). unmarked c ∷ l) (take-unmarked n cs)
 
 -- the key that a number names
-place-plainly : (n : ℕ) (cs : List Sm4Cipher) → placeOf n (plainly cs) ≡ placeOf n cs
+place-unmarked : (n : ℕ) (cs : List Sm4Cipher) → placeOf n (map unmarked cs) ≡ placeOf n cs
 unfolding placeOf withEngine
-place-plainly n [] = refl
-place-plainly n (c ∷ cs) = ap (λ (i : ℕ). cond (eqb (keyNumber c) n) 0 (1 + i)) (place-plainly n cs)
+place-unmarked n [] = refl
+place-unmarked n (c ∷ cs) = ap (λ (i : ℕ). cond (eqb (keyNumber c) n) 0 (1 + i)) (place-unmarked n cs)
 
 -- what is bad of keys
-bad-plainly : (cs : List Sm4Cipher) → (anyRetired (plainly cs) ≡ anyRetired cs) × (numberTwice (plainly cs) ≡ numberTwice cs)
+bad-unmarked : (cs : List Sm4Cipher) → (anyRetired (map unmarked cs) ≡ anyRetired cs) × (numberTwice (map unmarked cs) ≡ numberTwice cs)
 unfolding anyRetired numberTwice withEngine
-bad-plainly [] = (refl, refl)
-bad-plainly (c ∷ cs) =
-    let (retired, twice) = bad-plainly cs in
-    (rw retired, rw (place-plainly (keyNumber c) cs, length-map cs unmarked, twice))
+bad-unmarked [] = (refl, refl)
+bad-unmarked (c ∷ cs) =
+    let (retired, twice) = bad-unmarked cs in
+    (rw retired, rw (place-unmarked (keyNumber c) cs, length-map cs unmarked, twice))
 
 -- a record made again
-one-plainly : (ks : List Sm4Cipher) (b : List ℕ) (place : ℕ) (r : Report) → replayOne (plainly ks) b place r ≡ replayOne ks b place r
+one-unmarked : (ks : List Sm4Cipher) (b : List ℕ) (place : ℕ) (r : Report) → replayOne (map unmarked ks) b place r ≡ replayOne ks b place r
 unfolding replayOne callInto modeCall withEngine
-one-plainly ks b place r =
+one-unmarked ks b place r =
     let n = front b .key in
-    rw (place-plainly n ks, length-map ks unmarked, List·getD-map unmarked ks (placeOf n ks) (keyAt [] 0))
+    rw (place-unmarked n ks, length-map ks unmarked, List·getD-map unmarked ks (placeOf n ks) (keyAt [] 0))
 
-up-to-plainly : (n : ℕ) (ks : List Sm4Cipher) (b : List ℕ) (place : ℕ) (r : Report)
-    → replayUpTo n (plainly ks) b place r ≡ replayUpTo n ks b place r
+up-to-unmarked : (n : ℕ) (ks : List Sm4Cipher) (b : List ℕ) (place : ℕ) (r : Report)
+    → replayUpTo n (map unmarked ks) b place r ≡ replayUpTo n ks b place r
 unfolding replayUpTo
-up-to-plainly zero ks b place r = refl
-up-to-plainly (suc n) ks b place r =
-    rw (one-plainly ks b place r, up-to-plainly n ks (drop (sizeAt b) b) (place + sizeAt b) (replayOne ks b place r .report))
+up-to-unmarked zero ks b place r = refl
+up-to-unmarked (suc n) ks b place r =
+    rw (one-unmarked ks b place r, up-to-unmarked n ks (drop (sizeAt b) b) (place + sizeAt b) (replayOne ks b place r .report))
 
 unmarked-replay : (k : LuossavinKeys) (journal : List ℕ) → hostReplay (unmarkedKeys k) journal ≡ hostReplay k journal
 unfolding hostReplay keysOf cipherIn hostKeyEngine withEngine replay badKeys
 unmarked-replay k journal =
     let ks = take (k .count) (map cipherIn (k .keys)) in
-    let hosts : map cipherIn (map unmarkedHost (k .keys)) ≡ plainly (map cipherIn (k .keys)) =
+    let hosts : map cipherIn (map unmarkedHost (k .keys)) ≡ map unmarked (map cipherIn (k .keys)) =
     map-map cipherIn unmarkedHost (k .keys) ∙ sym (map-map unmarked cipherIn (k .keys)) in
-    rw (hosts, take-plainly (k .count), bad-plainly ks .0, bad-plainly ks .1, up-to-plainly (length journal) ks journal 0 nothing)
+    rw (hosts, take-unmarked (k .count), bad-unmarked ks .0, bad-unmarked ks .1, up-to-unmarked (length journal) ks journal 0 nothing)
 
 -- Keys that are alike but for their engines.
 pub engine-unseen-in-replay : (k l : LuossavinKeys) → unmarkedKeys k ≡ unmarkedKeys l → (journal : List ℕ)

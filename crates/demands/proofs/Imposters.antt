@@ -264,8 +264,7 @@ unfolding chain walk
 from-the-block-contradicts claim =
     let o : List ℕ = 0 ∷ 0 ∷ [] in
     let single = given zeros o o (0x9f ∷ 0x1f ∷ []) refl (omega arith) (omega arith) (rw zero-block) in
-    let done-there = ap (λ (x : Outcome). x .head .number) single in
-    let e = claim .stretch zeroKey false [] zeros (0 ∷ []) (0 ∷ []) [] (0 ∷ []) o (omega arith) done-there .1 in
+    let e = claim .stretch zeroKey false [] zeros (0 ∷ []) (0 ∷ []) [] (0 ∷ []) o (omega arith) (ap (λ (x : Outcome). x .head .number) single) .1 in
     apart (List ℕ) (λ l. getD l 0 0) _ _ 0x9f 0x1f (ap (λ (l : List ℕ). getD l 0 0) (first-byte zeros 0x9f refl (rw zero-block)))
     (ap (λ (x : Outcome). getD (take 1 (drop 1 (result x))) 0 0) single) refl e
 
