@@ -29,8 +29,8 @@ goes-alike without n (Refused r) o s t x y e f = rw e
 
 -- Records that are alike but for the engine.
 pub engine-unseen : (k l : LuossavinKey) → unmarkedHost k ≡ unmarkedHost l → ReportedAlike k l
-unfolding hostKeyEngine cipherIn hostBlockCall blockCall hostModeCall modeCall hostCtrStart ctrStart ctrAfter hostSealStart sealStart sealAfter
-    hostOpensStart opensStart hostWhich which hostCtrRange rangeCall hostCtrByPlan planCall
+unfolding hostKeyEngine cipherIn hostBlockCall blockCall hostModeCall modeCall hostCtrStart ctrStart ctrAfter hostSealStart sealStart
+    sealAfter hostOpensStart opensStart hostWhich which hostCtrRange rangeCall hostCtrByPlan planCall
 engine-unseen k l alike =
     record {
       block = λ dir b o. by-mark unmarkedHost k l alike (λ x. hostBlockCall dir x b o) (λ x. refl);

@@ -264,7 +264,8 @@ unfolding chain walk
 from-the-block-contradicts claim =
     let o : List ℕ = 0 ∷ 0 ∷ [] in
     let single = given zeros o o (0x9f ∷ 0x1f ∷ []) refl (omega arith) (omega arith) (rw zero-block) in
-    let e = claim .stretch zeroKey false [] zeros (0 ∷ []) (0 ∷ []) [] (0 ∷ []) o (omega arith) (ap (λ (x : Outcome). x .head .number) single) .1 in
+    let done-there = ap (λ (x : Outcome). x .head .number) single in
+    let e = claim .stretch zeroKey false [] zeros (0 ∷ []) (0 ∷ []) [] (0 ∷ []) o (omega arith) done-there .1 in
     apart (List ℕ) (λ l. getD l 0 0) _ _ 0x9f 0x1f (ap (λ (l : List ℕ). getD l 0 0) (first-byte zeros 0x9f refl (rw zero-block)))
     (ap (λ (x : Outcome). getD (take 1 (drop 1 (result x))) 0 0) single) refl e
 
@@ -301,16 +302,14 @@ plan-first-contradicts k a u claim =
 pub against-current-contradicts : againstCurrent twoEditions 24 0 1 [] ≢ putCall twoEditions 24 0 1 []
 unfolding putCall badShelf stored written labelOf bytesOf hasCurrent twoCurrent notHigher those records readUpTo startsRecord marked sizeAt
     front numberOf
-against-current-contradicts =
-    apart Shelf·Outcome (λ x. x .number) (againstCurrent twoEditions 24 0 1 []) (putCall twoEditions 24 0 1 []) 0 20 refl refl refl
+against-current-contradicts = apart Shelf·Outcome (λ x. x .number) _ _ 0 20 refl refl refl
 
 -- Marking before collecting is told by edition 2 of that job in a buffer that is full: the mark stands behind the used bytes, at byte 13,
 -- which is to be as it was.
 pub marks-first-contradicts : marksFirst twoEditions 24 0 2 [] ≢ putCall twoEditions 24 0 2 []
 unfolding putCall badShelf stored written labelOf bytesOf hasCurrent twoCurrent notHigher those supersede withNew fitted records readUpTo
     startsRecord marked sizeAt front numberOf
-marks-first-contradicts =
-    apart Shelf·Outcome (λ x. getD (x .bytes) 13 0) (marksFirst twoEditions 24 0 2 []) (putCall twoEditions 24 0 2 []) 0x58 0x44 refl refl refl
+marks-first-contradicts = apart Shelf·Outcome (λ x. getD (x .bytes) 13 0) _ _ 0x58 0x44 refl refl refl
 
 -- Counting bytes is told under H = x by a first half of the one, which hashes to x, and two zero bytes behind it: that is x^2, and the
 -- imposter gives x^3.

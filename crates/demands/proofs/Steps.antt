@@ -139,7 +139,8 @@ starts S number No n shut s Passed rows carried first all w i =
     ((answered [] 0 pieceNumbers n _ refl refl nothing-fair, first), λ z. absurd (z refl))
 starts S number No n shut s (Refused r) rows carried first all w i =
     let m = rw (ne-eqb (refusalHead r .number) 0 (each-refuses r .not-zero)) at (numbered rows (0 ∷ shutMarks) _ w i) in
-    let known = each (λ n. oneOf n pieceNumbers ≡ true) shutMarks (refl, (refl, (refl, (refl, (refl, (refl, tt)))))) (refusalHead r .number) m in
+    let known = each (λ n. oneOf n pieceNumbers ≡ true) shutMarks (refl, (refl, (refl, (refl, (refl, (refl, tt))))))
+    (refusalHead r .number) m in
     ((answered [] 0 pieceNumbers n _ known refl (refusal-fair [] 0 r), carried _), λ _. all _ m)
 
 module _ (k : LuossavinKey) (decrypt : Bool) (iv : List ℕ) where

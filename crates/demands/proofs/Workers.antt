@@ -68,7 +68,8 @@ exported-make-number n workers =
 
 -- what a range that passes has in order
 in-range : (k : LuossavinKey) (decrypt : Bool) (iv : List ℕ) (offset n room : ℕ) → rangeOf k decrypt iv offset n room ≡ Passed
-    → (keyAndIv (cipherIn k .answer) (cipherIn k .retired) (directionOf decrypt) Ctr (length iv) ≡ Passed) × (offset + n ≤ limit) × (n ≤ room)
+    → (keyAndIv (cipherIn k .answer) (cipherIn k .retired) (directionOf decrypt) Ctr (length iv) ≡ Passed)
+    × (offset + n ≤ limit) × (n ≤ room)
 unfolding rangeCheck reachCheck
 in-range k decrypt iv offset n room e =
     let (reach, roomy) = both (reachOf k decrypt iv (offset + n)) _ e in
