@@ -65,8 +65,7 @@ zeros-bytes = below-replicate 256 16 0 (lit< tt)
 
 -- the empty message is asked for in order in every mode
 nothing-asked : (m : CipherMode) → Asks m [] [] zeros zeros
-nothing-asked m =
-    record { iv-size = inl refl; label-fits = λ _. omega arith; data-fits = omega arith; room = room-for-nothing m }
+nothing-asked m = record { iv-size = inl refl; label-fits = λ _. omega arith; data-fits = omega arith; room = room-for-nothing m }
 
 -- But it does not serve: nobody's empty message, without a label and under an IV of zeros, is encrypted, in any mode and whatever
 -- stands beside it for decryption.
@@ -147,8 +146,7 @@ pub yes-refused-is-told :
     ¬ ((label d iv o : List ℕ)
     → Says (roundOf Ctr Encrypt (zeroKey .«round_keys») iv (length d)) (saysItRefused zeroKey label d iv o .head))
 unfolding hostModeCall modeOf modeCall messageCheck keyAndIv dataCheck roomCheck hostKeyNew keyOf cipherIn keyAnswerOf newCipher
-yes-refused-is-told claim =
-    eqb-false 1 0 refl (rw ctr-two-blocks at (claim [] (replicate 17 0) ones [] .refused (λ e. omega arith)))
+yes-refused-is-told claim = eqb-false 1 0 refl (rw ctr-two-blocks at (claim [] (replicate 17 0) ones [] .refused (λ e. omega arith)))
 
 -- Setting up a key without its number breaks what set-up answers, at sixteen zero bytes and the number 2: it is 1.
 pub forgotten-number-is-told : ¬ ((key : List ℕ) (n : ℕ) → KeyAnswered key n (forgetsNumber key n))
@@ -187,8 +185,7 @@ unseen-mark-encrypts claim = claim retiredKey (λ z. omega arith) zeros 0 [] [] 
 pub told-engine-is-seen :
     ¬ ((k l : LuossavinKey) → unmarkedHost k ≡ unmarkedHost l → tellsEngine k [] [] [] [] ≡ tellsEngine l [] [] [] [])
 unfolding hostKeyEngine hostKeyNew keyOf newCipher
-told-engine-is-seen claim =
-    eqb-false 0 1 refl (ap (λ (x : Outcome). x .head .cameRound) (claim zeroKey (hostKeyEngine zeroKey 1) refl))
+told-engine-is-seen claim = eqb-false 0 1 refl (ap (λ (x : Outcome). x .head .cameRound) (claim zeroKey (hostKeyEngine zeroKey 1) refl))
 
 -- Putting the number in front of the label takes back what it did under one record, retired or not, and breaks that under the same key with
 -- another number, at the empty message under the key of sixteen zero bytes, sealed under the number 1 and opened under 2.

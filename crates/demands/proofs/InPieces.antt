@@ -311,8 +311,7 @@ ctr-checked decrypt k label iv =
 pub seal-checked : (k : LuossavinKey) (label iv : List ℕ)
     → CheckedAlike Seal [] 16 (0 ∷ []) (hostSealStart k label iv) (λ d o. hostModeCall Encrypt 4 k label d iv o)
 unfolding hostSealStart sealStart hostModeCall modeOf dataCheck
-seal-checked k label iv =
-    checked-alike Seal _ _ _ [] 16 (0 ∷ []) (gcm-begins Encrypt (cipherIn k) label iv) refl (omega arith) (λ o. refl)
+seal-checked k label iv = checked-alike Seal _ _ _ [] 16 (0 ∷ []) (gcm-begins Encrypt (cipherIn k) label iv) refl (omega arith) (λ o. refl)
 
 pub opens-checked : (k : LuossavinKey) (label iv tag : List ℕ) → length tag ≡ 16
     → CheckedAlike Opens tag 0 (0 ∷ 4 ∷ []) (hostOpensStart k label iv) (λ d o. hostModeCall Decrypt 4 k label d iv o)

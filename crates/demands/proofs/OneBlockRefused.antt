@@ -1,9 +1,9 @@
 -- Demand 3: one changed block, of the ciphertext or of the label, is refused; and what follows, of editions and of trailing zeros.
 use Rattle.demands.specs.Names as N
 use N.{false, true, List, [], _++_, _∷_, _≢_, ⊎-elim, _∙_, _≡_, ap, refl, sym, _-_, _≤_, ℕ, arith, drop-of-length-le, length, length-append}
-use N.{length-drop, replicate, take-append-drop, length-take-le, le-ltb, AreBytes, Outcome, keyed, reporting, encryptBlock, ghash}
-use N.{authBlocks, OneBlock, J0, tagPart, textPart, hashKey, opensUnder, gcmOpen, settled, lengthsOf, modeCall, wrongIv, keyNumber, limit}
-use N.{sealedLimit, modeOf, Gcm, Decrypt, Key, Sm4Cipher, labelOf, hostModeCall, cipherIn, LuossavinKey}
+use N.{length-drop, replicate, take-append-drop, length-take-le, le-ltb, AreBytes, encryptBlock, ghash, authBlocks, OneBlock, J0, tagPart}
+use N.{textPart, hashKey, opensUnder, gcmOpen, settled, lengthsOf, modeCall, wrongIv, limit, sealedLimit, modeOf, Gcm, Decrypt, Key}
+use N.{Sm4Cipher, labelOf, hostModeCall, cipherIn, LuossavinKey}
 use Rattle.ghash.proofs.Changed.{label-changed, text-changed, label-zero, text-zero}
 use Rattle.gcm.proofs.HashKey.{hashKey-lt, hashKey-tells, hashKey-zero}
 use Rattle.demands.specs.Call.{inGcm, RefusedAs}
@@ -11,8 +11,7 @@ use Rattle.demands.specs.OneBlockRefused.{MovesZero, OneBlockRefused, Ot
 use Rattle.gcm.proofs.TagTells.{opens-not, opens-alike}
 use Rattle.gcm.proofs.Settled.{open-refused}
 use Rattle.cipher_mode.proofs.Passed.{InOrder, label-passed, data-within, with-tag-passed}
-use Rattle.demands.specs.CameRound.{roundOf}
-use Rattle.demands.proofs.Through.{refused-as, through, leaves}
+use Rattle.demands.proofs.Through.{through, leaves}
 use Rattle.demands.proofs.ModesBack.{tagged-passes, opened-opens}
 use Rattle.label.proofs.LabelTells.{length-label, label-bytes, label-job, label-edition}
 use Rattle.ghash.proofs.ZeroKey.{ghash-zero-key}
@@ -61,13 +60,10 @@ module _ (c : Sm4Cipher) where
   other-hash-refused a₁ a₂ c₁ c₂ t iv o₁ o₂ n ne l e =
       let rk = c .rk in
       let h = hashKey rk in
-      let j = J0 rk iv in
       let p = through Decrypt (inGcm c) a₁ (c₁ ++ t) iv o₁ e in
-      let closed = opens-not rk h (hashKey-lt rk) j a₁ c₁ a₂ c₂ t n ne (gcm-opens a₁ (c₁ ++ t) iv o₁ e) in
-      refused-as (keyNumber c) 4 o₂ _
-      (leaves Decrypt (inGcm c) a₂ (c₂ ++ t) iv o₂ (gcm-in-order a₂ (c₂ ++ t) iv o₂ (p .key) (p .iv-size) l)
-      ∙ ap {B = Outcome} (λ (x : Outcome). keyed (keyNumber c) (reporting (roundOf Gcm Decrypt rk iv (length (c₂ ++ t))) x))
-      (sym (open-refused rk h j a₂ (c₂ ++ t) o₂ closed)))
+      let closed = opens-not rk h (hashKey-lt rk) (J0 rk iv) a₁ c₁ a₂ c₂ t n ne (gcm-opens a₁ (c₁ ++ t) iv o₁ e) in
+      rw (leaves Decrypt (inGcm c) a₂ (c₂ ++ t) iv o₂ (gcm-in-order a₂ (c₂ ++ t) iv o₂ (p .key) (p .iv-size) l))
+      (rw (← open-refused rk h (J0 rk iv) a₂ (c₂ ++ t) o₂ closed) (record { number = refl; size = refl; missing = refl; bytes = refl }))
 
   -- the same of a whole message, where only the label is another
   pub other-label-refused : (a₁ a₂ s iv o₁ o₂ : List ℕ) → length a₂ ≤ limit → length o₁ ≡ length o₂

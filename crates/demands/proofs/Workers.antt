@@ -232,8 +232,7 @@ length-share p l = rw (length-take, length-drop)
 module _ (a : Applying) where
   -- the check of the range depends on the text's length alone
   abbrev checkOf : ℕ → Checked
-  checkOf n =
-      rangeOf (a .key) (a .decrypt) (a .iv) (a .share .start) (min (a .share .size) (n - a .share .start)) (length (a .out))
+  checkOf n = rangeOf (a .key) (a .decrypt) (a .iv) (a .share .start) (min (a .share .size) (n - a .share .start)) (length (a .out))
 
   abbrev into : List ℕ → List ℕ
   into t = applied (a .key .«round_keys») (a .iv) (a .share) t
