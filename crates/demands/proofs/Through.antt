@@ -90,7 +90,7 @@ answer-back Key = refl
 answer-back ErrorBlockSize = refl
 answer-back WrongNumber = refl
 
-mark-back : (b : Bool) → not (eqb (cond b 1 0) 0) ≡ b
+pub mark-back : (b : Bool) → not (eqb (cond b 1 0) 0) ≡ b
 mark-back true = refl
 mark-back false = refl
 
