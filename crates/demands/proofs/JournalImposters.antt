@@ -1,12 +1,13 @@
 -- Imposters put in the place of a replay: each breaks the definition, at a journal that is named.
 use Rattle.demands.specs.Names as N
-use N.{false, true, List, [], _∷_, append-nil, _≢_, _≡_, ap, refl, sym, ℕ, lit<, AreBytes, numberOf, Replayable, countedAll, differs}
+use N.{arith, false, true, List, [], _∷_, append-nil, _≢_, _≡_, ap, refl, sym, ℕ, lit<, AreBytes, numberOf, Replayable, countedAll, differs}
 use N.{marked·journal as marked, pastLimit, startsPart, startsRecord·journal as startsRecord, stored·journal as stored, anyRetired, badKeys}
 use N.{keysIn, numberTwice, placeOf, callInto, differsFrom, done·journal as done, numberOfEnd, replay, counted, nothing, BadRecord}
 use N.{Replayed}
 use Rattle.journal.proofs.Ending.{nothing-there, ends-alone, replayed-whole}
 use Rattle.journal.proofs.Agrees.{first-told}
 use Rattle.demands.proofs.Imposters.{apart}
+use Rattle.demands.proofs.InTheJournal.{stored-ends}
 use Rattle.demands.specs.JournalImposters.{stopsAtDifference, tooLongFirst, oneKey, unknownDone, cutOverlong}
 
 -- what the journals of the two imposters need: the key is good, the call can be replayed, and it is answered 7
@@ -16,22 +17,7 @@ one-key-good = refl
 
 unknown-replayable : Replayable (keysIn oneKey) unknownDone
 unfolding pastLimit placeOf
-unknown-replayable =
-    record {
-      proper =
-          record {
-            mode = lit< tt;
-            key = lit< tt;
-            label = record { size = lit< tt; bytes = tt };
-            «data» = record { size = lit< tt; bytes = tt };
-            iv = record { size = lit< tt; bytes = tt };
-            room = lit< tt;
-            number = lit< tt;
-            output = record { size = lit< tt; bytes = tt };
-          };
-      short = refl;
-      known = refl;
-    }
+unknown-replayable = record { proper = omega arith; short = refl; known = refl }
 
 unknown-differs : differs (keysIn oneKey) unknownDone ≡ true
 unfolding callInto differsFrom
@@ -49,19 +35,10 @@ unfolding countedAll counted
 one-counted = rw wrong-whole
 
 wrong-first : replay oneKey oneWrong .report .first ≡ record { found = true; index = 0; place = 0 }
-unfolding stored
+unfolding stored stored-ends
 wrong-first =
-    first-told (keysIn oneKey) oneWrong (replay oneKey oneWrong)
-    (record {
-      calls = unknownDone ∷ [];
-      rest = [];
-      split = sym (append-nil oneWrong);
-      replayable = (unknown-replayable, tt);
-      why = rw wrong-whole refl;
-      place = rw wrong-whole refl;
-      report = rw wrong-whole refl;
-    })
-    [] [] unknownDone refl tt unknown-differs
+    let ends = stored-ends (keysIn oneKey) (unknownDone ∷ []) (unknown-replayable, tt) in
+    rw wrong-whole (first-told (keysIn oneKey) oneWrong _ ends [] [] unknownDone refl tt unknown-differs)
 
 none-counted : stopsAtDifference oneKey oneWrong .report .records ≡ 0
 unfolding countedAll stored
@@ -78,7 +55,7 @@ cut-there = refl
 cut-refused : record { ended = BadRecord; place = 0; report = nothing } ≡ replay oneKey cutOverlong
 unfolding stored countedAll
 cut-refused =
-    ends-alone oneKey cutOverlong one-key-good _ small
+    ends-alone oneKey cutOverlong one-key-good _ (omega arith)
     (record {
       calls = [];
       rest = cutOverlong;
@@ -88,9 +65,6 @@ cut-refused =
       place = refl;
       report = refl;
     })
-  where
-    small : AreBytes cutOverlong
-    small = (lit< tt, (lit< tt, (lit< tt, (lit< tt, (lit< tt, (lit< tt, (lit< tt, (lit< tt, (lit< tt, (lit< tt, tt))))))))))
 
 too-long-told : numberOfEnd (tooLongFirst oneKey cutOverlong .ended) ≡ 24
 unfolding numberOf

@@ -60,10 +60,7 @@ module _ (dir : Direction) (m : Sm4CipherMode) (aad d iv o : List ℕ) where
   pub leaves : InOrder (m .cipher .answer) (m .cipher .retired) dir (m .mode) (lengthsOf aad d iv o)
       → modeCall dir m aad d iv o ≡ keyed (keyNumber (m .cipher)) (modeResult (m .mode) dir (m .cipher .rk) aad d iv o)
   unfolding modeCall
-  leaves p =
-      let next = modeResult (m .mode) dir (m .cipher .rk) aad d iv o in
-      let k = messageCheck (m .cipher .answer) (m .cipher .retired) dir (m .mode) (lengthsOf aad d iv o) in
-      ap {B = Outcome} (keyed (keyNumber (m .cipher))) (sym (went-on k o next next (in-order _ _ _ _ _ p) refl))
+  leaves p = rw (in-order _ _ _ _ _ p)
 
 -- and an exported call: a mode number above 4 is refused before all else
 module _ (dir : Direction) (mode : ℕ) (k : LuossavinKey) (aad d iv o : List ℕ) where
@@ -86,21 +83,15 @@ module _ (dir : Direction) (mode : ℕ) (k : LuossavinKey) (aad d iv o : List �
 
 answer-back : (a : KeyAnswer) → keyAnswerOf (keyHead a .number) ≡ a
 unfolding keyAnswerOf
-answer-back Key = refl
-answer-back ErrorBlockSize = refl
-answer-back WrongNumber = refl
+answer-back a = elim a [ Key ↦ refl | ErrorBlockSize ↦ refl | WrongNumber ↦ refl ]
 
 pub mark-back : (b : Bool) → not (eqb (cond b 1 0) 0) ≡ b
-mark-back true = refl
-mark-back false = refl
+mark-back b = elim b [ true ↦ refl | false ↦ refl ]
 
 -- a record that was handed out comes back as it was
 pub handed-back : (c : Sm4Cipher) → cipherIn (keyOf c) ≡ c
 unfolding cipherIn keyOf
-handed-back c =
-    ap₂ {C = Sm4Cipher} (λ (a : KeyAnswer) (b : Bool).
-    record { rk = c .rk; answer = a; number = c .number; retired = b; engine = c .engine })
-    (answer-back (c .answer)) (mark-back (c .retired))
+handed-back c = rw (answer-back (c .answer), mark-back (c .retired))
 
 -- so what a host set up is the key's record
 pub new-is-new : (key : List ℕ) (n : ℕ) → cipherIn (hostKeyNew key n) ≡ newCipher key n
@@ -112,24 +103,3 @@ pub retired-is-retired : (k : LuossavinKey) → cipherIn (hostKeyRetire k) ≡ r
 unfolding cipherIn keyAnswerOf hostKeyRetire retire
 retired-is-retired k =
     split _ (eqb (k .answer) 0) (λ e. rw e) (λ e. split _ (eqb (k .answer) 13) (λ f. rw (e, f) (rw e)) (λ f. rw (e, f) (rw e)))
-
--- the number of a mode
-abbrev pub modeNumber : CipherMode → ℕ
-modeNumber Cfb = 0
-modeNumber Ofb = 1
-modeNumber Ctr = 2
-modeNumber Cbc = 3
-modeNumber Gcm = 4
-
-number-of-mode : (mode : ℕ) → mode ≤ 4 → modeNumber (modeOf mode) ≡ mode
-unfolding modeOf
-number-of-mode zero h = refl
-number-of-mode (suc zero) h = refl
-number-of-mode (suc (suc zero)) h = refl
-number-of-mode (suc (suc (suc zero))) h = refl
-number-of-mode (suc (suc (suc (suc zero)))) h = refl
-number-of-mode (suc (suc (suc (suc (suc n))))) h = absurd (omega arith)
-
--- another number is another mode's
-pub other-mode : (mode : ℕ) (x : CipherMode) → mode ≤ 4 → mode ≢ modeNumber x → modeOf mode ≢ x
-other-mode mode x h n e = n (sym (number-of-mode mode h) ∙ ap modeNumber e)
