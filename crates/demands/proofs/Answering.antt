@@ -46,16 +46,13 @@ split P false a b = b refl
 
 -- a yes or no that is told as one of two numbers
 pub is-true : (m n : ℕ) → eqb n m ≡ false → (t : Bool) → cond t m n ≡ m → t ≡ true
-is-true m n d true e = refl
-is-true m n d false e = absurd (eqb-false n m d e)
+is-true m n d t e = split _ t (λ f. f) (λ f. absurd (eqb-false n m d (rw f at e)))
 
 pub is-false : (m n : ℕ) → eqb m n ≡ false → (t : Bool) → cond t m n ≡ n → t ≡ false
-is-false m n d true e = absurd (eqb-false m n d e)
-is-false m n d false e = refl
+is-false m n d t e = split _ t (λ f. absurd (eqb-false m n d (rw f at e))) (λ f. f)
 
 pub one-or-none : (t : Bool) → (_≡_ {A = ℕ} (cond t 1 0) 1) ⊎ (_≡_ {A = ℕ} (cond t 1 0) 0)
-one-or-none true = inl refl
-one-or-none false = inr refl
+one-or-none t = elim t [ true ↦ inl refl | false ↦ inr refl ]
 
 -- the report behind a check, h being that of what comes next
 unfoldable pub headBehind : Checked → Head → Head
@@ -94,17 +91,9 @@ within (r ∷ rows) numbers = oneOf (r .says .number) numbers && within rows num
 first-within : (rows : List Row) (numbers : List ℕ) → within rows numbers ≡ true → oneOf (firstOf rows .number) numbers ≡ true
 first-within [] numbers e = e
 first-within (r ∷ rows) numbers e =
-    let (here, there) = both (oneOf (r .says .number) numbers) (within rows numbers) e in
-    either (r .holds) here (first-within rows numbers there)
-  where
-    either : (t : Bool) → oneOf (r .says .number) numbers ≡ true → oneOf (firstOf rows .number) numbers ≡ true
-        → oneOf (cond t (r .says) (firstOf rows) .number) numbers ≡ true
-    either true a b = a
-    either false a b = b
-
-    both : (a b : Bool) → a && b ≡ true → (a ≡ true) × (b ≡ true)
-    both true b f = (refl, f)
-    both false b f = let z : _≡_ {A = ℕ} 0 1 = cc in absurd (omega arith)
+    split _ (oneOf (r .says .number) numbers)
+    (λ here. let there = first-within rows numbers (rw here at e) in split _ (r .holds) (λ h. rw h here) (λ h. rw h there))
+    (λ none. let y : false ≡ true = rw none at e in let z : _≡_ {A = ℕ} 0 1 = cc in absurd (omega arith))
 
 pub numbered : (rows : List Row) (numbers : List ℕ) (s : Said) → within rows numbers ≡ true → s ≡ firstOf rows
     → oneOf (s .number) numbers ≡ true

@@ -27,25 +27,20 @@ value-back n = div-add-mod' n _
 -- the exported calls on the values of numbers
 blocks-of : (h : ℕ) (bs : List ℕ) → hostHashBlocks (hashOf h) bs ≡ hashOf (ghash h (blocks bs))
 unfolding hostHashBlocks
-blocks-of h bs = ap {B = U128} (λ (k : ℕ). hashOf (ghash k (blocks bs))) (value-back h)
+blocks-of h bs = rw value-back
 
 join-of : (h x y n : ℕ) → hostHashJoin (hashOf h) (hashOf x) (hashOf y) n ≡ hashOf (joined h x y n)
 unfolding hostHashJoin
-join-of h x y n =
-    ap {B = U128} (λ (k : ℕ). hashOf (joined k (value (hashOf x)) (value (hashOf y)) n)) (value-back h)
-    ∙ ap₂ {C = U128} (λ (u v : ℕ). hashOf (joined h u v n)) (value-back x) (value-back y)
+join-of h x y n = simp value-back
 
 -- Where the first half is whole blocks, the halves' hashes joined are the hash of both.
 pub joined-halves : JoinsHalves hostHashBlocks hostHashJoin
 unfolding hostHashBlocks hostHashJoin
 joined-halves h v a b whole =
-    let k = value h in
-    ap₂ {C = U128} (λ (x y : ℕ). hashOf (joined k x y (blockCount (length b))))
-    (value-back (ghash k (blocks a))) (value-back (ghash k (blocks b)))
-    ∙ ap {B = U128} hashOf (joins-bytes k (whole-lt (h .high) (h .low) (v .high) (v .low)) (length a / 16) a b (omega arith))
+    simp (value-back, joins-bytes (value h) (whole-lt (h .high) (h .low) (v .high) (v .low)) (length a / 16) a b (omega arith))
 
 length-pair : (a b : ℕ) → length (pair a b) ≡ 16
-length-pair a b = length-append (bytesOf 8 a) (bytesOf 8 b) ∙ ap₂ _+_ (length-bytesOf 8 a) (length-bytesOf 8 b)
+length-pair a b = simp (length-append, length-bytesOf)
 
 pair-block : (m n : ℕ) → blocks (pair (8 * m) (8 * n)) ≡ lengthBlock m n ∷ []
 unfolding lengthBlock
@@ -86,12 +81,12 @@ module _ (k : LuossavinKey) (usable : cipherIn k .answer ≡ Key) (may : retired
   unfolding hostBlockCall
   enciphers b n =
       let room : List ℕ = replicate 16 0 in
-      ap result (block-leaves Encrypt (cipherIn k) b room (record { key = usable; size = n; may = may; enough = omega arith }))
-      ∙ result-of-done (encryptBlock (cipherIn k .rk) b) room
+      rw (block-leaves Encrypt (cipherIn k) b room (record { key = usable; size = n; may = may; enough = omega arith }))
+      (result-of-done (encryptBlock (cipherIn k .rk) b) room)
 
   key-is : keyOfHash k ≡ hashOf (hashKey (cipherIn k .rk))
   unfolding hashKey
-  key-is = ap {B = U128} (λ (b : List ℕ). hashOf (numberOf b)) (enciphers (replicate 16 0) refl)
+  key-is = rw (enciphers (replicate 16 0) refl)
 
   tag-is : (label iv a b : List ℕ) → wrongIv Gcm (length iv) ≡ false → WholeBlocks a
       → let rk = cipherIn k .rk in tagOfHalves k label iv a b ≡ tagOf rk (hashKey rk) (J0 rk iv) label (a ++ b)
@@ -99,11 +94,13 @@ module _ (k : LuossavinKey) (usable : cipherIn k .answer ≡ Key) (may : retired
   tag-is label iv a b e whole =
       let rk = cipherIn k .rk in
       let h = hashKey rk in
-      let counter = ap (λ (x : U128). counterOf x iv) key-is ∙ counter-is h (hashKey-lt rk) iv e in
-      let mask = ap (enciphered k) counter ∙ enciphers (J0 rk iv) (length-counter h iv) in
-      let all = ap {B = U128} (λ (x : U128). hashOfAll x label a b) key-is
-      ∙ all-joined h (hashKey-lt rk) label a b whole in
-      ap₂ xors mask (ap bytesIn all ∙ ap (bytesOf 16) (value-back (ghash h (authBlocks label (a ++ b)))))
+      rw (
+        key-is,
+        counter-is h (hashKey-lt rk) iv e,
+        enciphers (J0 rk iv) (length-counter h iv),
+        all-joined h (hashKey-lt rk) label a b whole,
+        value-back (ghash h (authBlocks label (a ++ b))),
+      )
 
 -- Where sealing answers 0, the hashes of label, halves and lengths, joined by the exported calls alone, make its tag.
 pub tags-by-halves : (k : LuossavinKey) → TagsByHalves k

@@ -153,19 +153,8 @@ module _ (keys : LuossavinKeys) (good : badKeys (keysOf keys) ≡ false) (e : En
 behind-added : (size : ℕ) (x y : Replayed) → Added size (toldOf x) (toldOf y) (toldOf (behindReport size (x .report) y))
 unfolding toldOf behindReport added
 behind-added size x y =
-    record {
-      number = refl;
-      place = refl;
-      records = refl;
-      byMode = refl;
-      byAnswer = refl;
-      bytesIn = refl;
-      bytesOut = refl;
-      earlier = λ e. rw (is-true 1 0 refl (x .report .first .found) e) (refl, refl, refl);
-      later = λ e g.
-          rw (is-false 1 0 refl (x .report .first .found) e, is-true 1 0 refl (y .report .first .found) g) (refl, refl, refl);
-      none = λ e g. rw (is-false 1 0 refl (x .report .first .found) e, is-false 1 0 refl (y .report .first .found) g);
-    }
+    split _ (x .report .first .found) (λ f. rw f (search arith))
+    (λ f. rw f (split _ (y .report .first .found) (λ g. rw g (search arith)) (λ g. rw g (search arith))))
 
 pub exported-joined : (k : LuossavinKeys) (a b : List ℕ) → hostReplay k a .number ≡ 0
     → Added (length a) (hostReplay k a) (hostReplay k b) (hostReplay k (a ++ b))

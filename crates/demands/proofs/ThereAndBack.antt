@@ -124,11 +124,8 @@ set-up-same-key key n m size n₁ n₂ m₁ m₂ =
 -- Whoever asks in order is served.
 
 label-in-order : (m : CipherMode) (n : ℕ) → (m ≡ Gcm → n ≤ limit) → labelCheck m n ≡ Passed
-label-in-order Cfb n h = refl
-label-in-order Ofb n h = refl
-label-in-order Ctr n h = refl
-label-in-order Cbc n h = refl
-label-in-order Gcm n h = rw (le-ltb limit n (h refl))
+label-in-order m n =
+    elim m [ Cfb ↦ λ _. refl | Ofb ↦ λ _. refl | Ctr ↦ λ _. refl | Cbc ↦ λ _. refl | Gcm ↦ λ h. rw (le-ltb limit n (h refl)) ]
 
 iv-in-order : (m : CipherMode) (n : ℕ) → (n ≡ 16) ⊎ ((m ≡ Gcm) × (n ≡ 12)) → wrongIv m n ≡ false
 iv-in-order m n s =
