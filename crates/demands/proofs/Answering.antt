@@ -123,14 +123,9 @@ module _ (o : List ℕ) (n : ℕ) where
 
   -- done with m bytes p, which the output has room for
   pub done-fair : (p : List ℕ) (m : ℕ) → length p ≡ m → m ≡ n → m ≤ length o → Fair (finished m) (over p o)
-  done-fair p m e f h = (
-    λ _. refl,
-    λ z. absurd (z refl),
-    λ _. f,
-    h,
-    λ _. rw (← e) (drop-at p (drop (length p) o) (length p) refl),
-    rw (length-append, length-drop) (omega arith),
-  )
+  done-fair p m e f h =
+      let past : drop m (over p o) ≡ drop m o = rw (← e) (drop-at p (drop (length p) o) (length p) refl) in
+      (λ _. refl, λ z. absurd (z refl), λ _. f, h, λ _. past, rw (length-append, length-drop) (omega arith))
 
   -- a check in front, or what comes next, which may count on it that the check passed; and a refusal by number k
   pub checks-fair : (k : Checked) (next : Outcome) → (k ≡ Passed → Fair (next .head) (next .bytes))

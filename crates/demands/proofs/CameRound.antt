@@ -42,9 +42,7 @@ first-counter rk iv n = rw (eq-eqb (length iv) 12 n)
 
 next-counter : (iv : List ℕ) → length iv ≡ 12 → gcmNext (followedBy 1 iv) ≡ followedBy 2 iv
 unfolding gcmNext numberOf bytesOf
-next-counter iv n =
-    ap₂ (λ (front back : List ℕ). front ++ bytesOf 4 ((numberOf back + 1) % 2 ^ 32))
-    (take-at iv (0 ∷ 0 ∷ 0 ∷ 1 ∷ []) 12 n) (drop-at iv (0 ∷ 0 ∷ 0 ∷ 1 ∷ []) 12 n)
+next-counter iv n = rw (take-at iv (0 ∷ 0 ∷ 0 ∷ 1 ∷ []) 12 n, drop-at iv (0 ∷ 0 ∷ 0 ∷ 1 ∷ []) 12 n)
 
 -- What Gcm seals under a 12-byte IV is the text under the counters from 00000002 on, and the tag under 00000001.
 pub twelve-counts-from-two : (k : LuossavinKey) → CountsFromTwo (k .«round_keys») (hostModeCall Encrypt 4 k)

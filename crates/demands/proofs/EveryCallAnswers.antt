@@ -64,9 +64,7 @@ block-answers dir k b o =
 
 stream-fair : (k : Kind) (rk iv d o : List ℕ) → length d ≤ length o
     → let x = done (chain (streamMode k rk) iv d) o in Fair o (length d) (x .head) (x .bytes)
-stream-fair k rk iv d o r =
-    let e = length-stream k rk iv d in
-    done-fair o (length d) (chain (streamMode k rk) iv d) _ refl e (omega arith)
+stream-fair k rk iv d o r = done-fair o (length d) (chain (streamMode k rk) iv d) _ refl (length-stream k rk iv d) (rw length-stream r)
 
 -- opening in Cbc and in Gcm, by the tests that decide: n bytes of a text p
 module _ (p o : List ℕ) (n : ℕ) (h : n ≤ length p) (r : n ≤ length o) where
@@ -90,26 +88,16 @@ unfolding cbcOpen unpadded gcmOpen settled
 result-fair Cfb dir rk aad d iv o n e r = stream-fair (cfbKind dir) rk iv d o r
 result-fair Ofb dir rk aad d iv o n e r = stream-fair Ofb·kind rk iv d o r
 result-fair Ctr dir rk aad d iv o n e r = stream-fair Ctr·kind rk iv d o r
-result-fair Cbc Encrypt rk aad d iv o n e r =
-    let l = length-cbcSeal rk iv d in
-    done-fair o _ (cbcSeal rk iv d) _ refl l (omega arith)
+result-fair Cbc Encrypt rk aad d iv o n e r = done-fair o _ (cbcSeal rk iv d) _ refl (length-cbcSeal rk iv d) (rw length-cbcSeal r)
 result-fair Cbc Decrypt rk aad d iv o n e r =
     let p = cbcText rk iv d in
     let l = length-decrypt rk iv d (sixteen (length iv) n) (whole-blocks-passed (length d) e .1) in
     rw (← l) (cbc-fair p o (length p - lastByte p) (omega arith) (omega arith) (not (namesPadding (lastByte p))) (not (allPadding p)))
 result-fair Gcm Encrypt rk aad d iv o n e r =
-    let l = length-sealed rk (hashKey rk) (J0 rk iv) aad d in
-    done-fair o _ (sealed rk (hashKey rk) (J0 rk iv) aad d) _ refl l (omega arith)
+    done-fair o _ (sealed rk (hashKey rk) (J0 rk iv) aad d) _ refl (length-sealed rk (hashKey rk) (J0 rk iv) aad d) (rw length-sealed r)
 result-fair Gcm Decrypt rk aad d iv o n e r =
     let l = length-text rk (J0 rk iv) (textPart d) ∙ length-take-le (length d - 16) d (omega arith) in
     gcm-fair (textOf rk (J0 rk iv) (textPart d)) o (length d - 16) (omega arith) r (opensUnder rk (hashKey rk) (J0 rk iv) aad d)
-
-message-numbered : (dir : Direction) (mode : ℕ) (k : LuossavinKey) (label d iv o : List ℕ)
-    → oneOf (hostModeCall dir mode k label d iv o .head .number) singleNumbers ≡ true
-message-numbered Encrypt mode k label d iv o =
-    numbered (encryptRows mode k label d iv o) singleNumbers _ refl (exported-encryption-number mode k label d iv o)
-message-numbered Decrypt mode k label d iv o =
-    numbered (decryptRows mode k label d iv o) singleNumbers _ refl (exported-decryption-number mode k label d iv o)
 
 -- The exported call on a message, either way: a refusal, or a success of as many bytes as the table says; a mode number over 4 is one
 -- refusal more, before any key stands.
@@ -121,7 +109,12 @@ message-answers dir mode k label d iv o =
     let c = cipherIn k in
     let m = modeOf mode in
     let n = lengthOf m dir (k .«round_keys») iv d in
-    answered o n singleNumbers _ _ (message-numbered dir mode k label d iv o) (split _ (ltb 4 mode) (λ e. rw e) (λ e. rw e))
+    answered o n singleNumbers _ _
+    (elim dir [
+      | Encrypt ↦ numbered (encryptRows mode k label d iv o) singleNumbers _ refl (exported-encryption-number mode k label d iv o)
+      | Decrypt ↦ numbered (decryptRows mode k label d iv o) singleNumbers _ refl (exported-decryption-number mode k label d iv o)
+    ])
+    (split _ (ltb 4 mode) (λ e. rw e) (λ e. rw e))
     (front-fair o n (ltb 4 mode) 7 _ (omega arith) (λ _.
     checks-fair o n (messageCheck (c .answer) (c .retired) dir m (lengthsOf label d iv o)) (modeResult m dir (c .rk) label d iv o) (λ e.
     let p = message-passed _ _ _ _ _ e in

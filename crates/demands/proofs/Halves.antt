@@ -39,19 +39,13 @@ unfolding hostHashBlocks hostHashJoin
 joined-halves h v a b whole =
     simp (value-back, joins-bytes (value h) (whole-lt (h .high) (h .low) (v .high) (v .low)) (length a / 16) a b (omega arith))
 
-length-pair : (a b : ℕ) → length (pair a b) ≡ 16
-length-pair a b = simp (length-append, length-bytesOf)
-
 pair-block : (m n : ℕ) → blocks (pair (8 * m) (8 * n)) ≡ lengthBlock m n ∷ []
 unfolding lengthBlock
-pair-block m n = blocks-full (pair (8 * m) (8 * n)) (length-pair (8 * m) (8 * n))
+pair-block m n = blocks-full (pair (8 * m) (8 * n)) (simp (length-append, length-bytesOf))
 
 -- under the value of an element
 module _ (h : ℕ) (element : Element h) where
-  -- one more half behind blocks that are hashed, and one more block
-  joins-half : (xs b : List ℕ) → joined h (ghash h xs) (ghash h (blocks b)) (blockCount (length b)) ≡ ghash h (xs ++ blocks b)
-  joins-half xs b = ap (joined h (ghash h xs) (ghash h (blocks b))) (sym (length-blocks b)) ∙ joins h element xs (blocks b)
-
+  -- one more block
   joins-block : (xs : List ℕ) (y : ℕ) → joined h (ghash h xs) (ghash h (y ∷ [])) 1 ≡ ghash h (xs ++ (y ∷ []))
   joins-block xs y = joins h element xs (y ∷ [])
 
@@ -60,19 +54,14 @@ module _ (h : ℕ) (element : Element h) where
   unfolding authBlocks
   all-joined label a b whole =
       let cut = blocks-append (length a / 16) a b (omega arith) in
-      simp (blocks-of h, join-of h, joins-half, pair-block, joins-block, append-assoc, cut, length-append)
-
-  hashed-counter : (iv : List ℕ) → length iv ≡ 16 → bytesIn (hostHashBlocks (hashOf h) (iv ++ pair 0 128)) ≡ hashedCounter h iv
-  hashed-counter iv n =
-      let number : lengthBlock 0 16 ≡ 128 = unfold lengthBlock numberOf bytesOf in refl in
-      rw (blocks-of h (iv ++ pair 0 128), value-back, blocks-append 1 iv (pair 0 128) n, blocks-full iv n, pair-block 0 16, number)
+      simp (blocks-of h, join-of h, ← length-blocks, joins h element, joins-block, pair-block, append-assoc, cut, length-append)
 
   counter-is : (iv : List ℕ) → wrongIv Gcm (length iv) ≡ false → counterOf (hashOf h) iv ≡ firstCounter h iv
   unfolding firstCounter
   counter-is iv e =
-      ⊎-elim
-      (λ n. rw (eq-eqb (length iv) 12 n))
-      (λ n. ap (cond (eqb (length iv) 12) (followedBy 1 iv)) (hashed-counter iv n))
+      let number : lengthBlock 0 16 ≡ 128 = unfold lengthBlock numberOf bytesOf in refl in
+      ⊎-elim (λ n. rw (eq-eqb (length iv) 12 n))
+      (λ n. rw (blocks-of h (iv ++ pair 0 128), value-back, blocks-append 1 iv (pair 0 128) n, blocks-full iv n, pair-block 0 16, number))
       (iv-twelve-or-sixteen (length iv) e)
 
 -- a usable and unretired key encrypts a block
@@ -112,11 +101,7 @@ tags-by-halves k label d iv o a b t e cut n whole =
     let j = J0 rk iv in
     let p = through Encrypt (inGcm c) label d iv o e in
     let message : (a ++ b) ++ t ≡ sealed rk h j label d =
-    sym cut ∙ ap result (leaves Encrypt (inGcm c) label d iv o p) ∙ result-of-done (sealed rk h j label d) o in
-    let text : textOf rk j d ≡ a ++ b =
-    sym (sealed-text rk h j label d) ∙ ap textPart (sym message) ∙ parts-text (a ++ b) t n in
+    sym cut ∙ rw (leaves Encrypt (inGcm c) label d iv o p) (result-of-done (sealed rk h j label d) o) in
+    let text : textOf rk j d ≡ a ++ b = sym (rw (← message) at (sealed-text rk h j label d)) ∙ parts-text (a ++ b) t n in
     tag-is k (p .key) (p .may) label iv a b (p .iv-size) whole
-    ∙ ap (tagOf rk h j label) (sym text)
-    ∙ sym (sealed-tag rk h j label d)
-    ∙ ap tagPart (sym message)
-    ∙ parts-tag (a ++ b) t n
+    ∙ rw (← text) (sym (rw (← message) at (sealed-tag rk h j label d)) ∙ parts-tag (a ++ b) t n)

@@ -45,9 +45,6 @@ unfolding hostKeyEngine
 engine-stays-retired e k r = r
 
 -- Decryption does not look at the mark.
-same : (k : LuossavinKey) → DecryptsAlike k k
-same k = search
-
 alike : (k : LuossavinKey) → k .answer ≡ 0 → DecryptsAlike k (retiredOf k)
 unfolding cipherIn keyAnswerOf hostBlockCall blockCall blockCheck hostModeCall modeCall messageCheck keyAndIv hostCtrStart ctrStart
     hostOpensStart opensStart gcmStarting hostWhich which searchCheck hostCtrRange rangeCall rangeCheck reachCheck hostCtrByPlan planCall
@@ -63,7 +60,7 @@ alike k e =
     }
 
 pub retired-decrypts-alike : (k : LuossavinKey) → DecryptsAlike k (hostKeyRetire k)
-retired-decrypts-alike k = retired-by (DecryptsAlike k) k (alike k) (λ _. same k)
+retired-decrypts-alike k = retired-by (DecryptsAlike k) k (alike k) (λ _. search)
 
 -- And nothing is encrypted under a retired record, whatever else it holds.
 not-allowed : (r : Bool) → r ≡ true → retiredCheck Encrypt r ≡ Passed → ⊥

@@ -31,9 +31,7 @@ passed-start S (Refused r) shut s e = absurd (refuses r .not-zero e)
 module _ (dir : Direction) (c : Sm4Cipher) (b o : List ℕ) where
   pub block-through : blockCall dir c b o .head .number ≡ 0 → BlockInOrder (c .answer) (c .retired) dir (length b) (length o)
   unfolding blockCall
-  block-through e =
-      block-passed _ _ _ _ _
-      (zero-passed (blockCheck (c .answer) (c .retired) dir (length b) (length o)) o (done (blockOf dir (c .rk) b) o) e)
+  block-through e = block-passed _ _ _ _ _ (zero-passed _ o _ e)
 
   pub block-leaves : BlockInOrder (c .answer) (c .retired) dir (length b) (length o)
       → blockCall dir c b o ≡ keyed (keyNumber c) (done (blockOf dir (c .rk) b) o)
@@ -52,10 +50,7 @@ module _ (dir : Direction) (m : Sm4CipherMode) (aad d iv o : List ℕ) where
   pub through : modeCall dir m aad d iv o .head .number ≡ 0
       → InOrder (m .cipher .answer) (m .cipher .retired) dir (m .mode) (lengthsOf aad d iv o)
   unfolding modeCall
-  through e =
-      message-passed _ _ _ _ _
-      (zero-passed (messageCheck (m .cipher .answer) (m .cipher .retired) dir (m .mode) (lengthsOf aad d iv o)) o
-      (modeResult (m .mode) dir (m .cipher .rk) aad d iv o) e)
+  through e = message-passed _ _ _ _ _ (zero-passed _ o _ e)
 
   pub leaves : InOrder (m .cipher .answer) (m .cipher .retired) dir (m .mode) (lengthsOf aad d iv o)
       → modeCall dir m aad d iv o ≡ keyed (keyNumber (m .cipher)) (modeResult (m .mode) dir (m .cipher .rk) aad d iv o)

@@ -44,7 +44,7 @@ unique-value A = one-value (λ r. r) (λ r. refl)
 
 -- Blocks, messages and ranges: the library's own, and the exported ones, work by a plan among them.
 pub unique-outcome : (x : Outcome) → One Answer Outcome outcome x
-unique-outcome = one (λ y. (answerOf (y .head), y .bytes)) (λ a o. rw (answer-told a))
+unique-outcome = one (λ y. (answerOf (y .head), y .bytes)) (λ a o. rw answer-told)
 
 pub unique-report : (x : Outcome) → One LuossavinAnswer Outcome reported x
 unique-report = one (λ y. (hostAnswerOf (y .head), y .bytes)) (λ a o. refl)
@@ -58,16 +58,13 @@ unique-label = one-value (λ b. record { bytes = b }) (λ l. refl)
 
 -- Messages in pieces, be it a start, a piece or an end: the next state too.
 pub unique-ctr-step : (x : Stepped Ctr) → One CtrStep (Stepped Ctr) ctrStepped x
-unique-ctr-step =
-    one (λ y. (record { answer = answerOf (y .head); state = y .state }, y .bytes)) (λ r o. rw (answer-told (r .answer)))
+unique-ctr-step = one (λ y. (record { answer = answerOf (y .head); state = y .state }, y .bytes)) (λ r o. rw answer-told)
 
 pub unique-seal-step : (x : Stepped Seal) → One SealStep (Stepped Seal) sealStepped x
-unique-seal-step =
-    one (λ y. (record { answer = answerOf (y .head); state = y .state }, y .bytes)) (λ r o. rw (answer-told (r .answer)))
+unique-seal-step = one (λ y. (record { answer = answerOf (y .head); state = y .state }, y .bytes)) (λ r o. rw answer-told)
 
 pub unique-opens-step : (x : Stepped Opens) → One OpensStep (Stepped Opens) opensStepped x
-unique-opens-step =
-    one (λ y. (record { answer = answerOf (y .head); state = y .state }, y .bytes)) (λ r o. rw (answer-told (r .answer)))
+unique-opens-step = one (λ y. (record { answer = answerOf (y .head); state = y .state }, y .bytes)) (λ r o. rw answer-told)
 
 pub unique-exported-ctr-step : (x : Stepped Ctr) → One LuossavinCtrStep (Stepped Ctr) ctrReported x
 unique-exported-ctr-step = one (λ y. (record { answer = hostAnswerOf (y .head); state = y .state }, y .bytes)) (λ r o. refl)
@@ -92,7 +89,7 @@ pub unique-which : (x : Verdict) → OneValue Found Verdict verdictOf x
 unique-which =
     one-value
     (λ v. record { ended = askedOf (v .head) (v .found); key = v .head .key; place = v .place; start = v .start; length = v .size })
-    (λ f. rw (asked-told (f .ended)))
+    (λ f. rw asked-told)
 
 pub unique-exported-which : (x : Told) → OneValue LuossavinFound Told foundReported x
 unique-exported-which =
@@ -109,8 +106,7 @@ planned-told NotAccepted = refl
 planned-told (Refused·plan r) = told-back Planned·end Done·plan Refused·plan NotAccepted r .0
 
 pub unique-by-plan : (x : Outcome) → One ByPlan Outcome planned·outcome x
-unique-by-plan =
-    one (λ y. (record { ended = plannedOf (y .head); key = y .head .key }, y .bytes)) (λ a o. rw (planned-told (a .ended)))
+unique-by-plan = one (λ y. (record { ended = plannedOf (y .head); key = y .head .key }, y .bytes)) (λ a o. rw planned-told)
 
 pub unique-exported-plan : (x : Handed) → OneValue LuossavinPlanned Handed plannedReported x
 unique-exported-plan = one-value (λ h. record { answer = hostAnswerOf (h .head); plan = h .plan }) (λ r. refl)
@@ -123,11 +119,10 @@ shelf-told : (e : Shelf·end) → shelfEnd (numberOfEnd e) ≡ e
 shelf-told e = elim e [ Done·shelf ↦ refl | BadShelf ↦ refl | NotHigher ↦ refl | NoRoom·shelf ↦ refl | NoCurrent ↦ refl ]
 
 pub unique-kept : (x : Shelf·Outcome) → One Kept Shelf·Outcome outcomeOf x
-unique-kept = one (λ y. (record { ended = shelfEnd (y .number); used = y .used }, y .bytes)) (λ k o. rw (shelf-told (k .ended)))
+unique-kept = one (λ y. (record { ended = shelfEnd (y .number); used = y .used }, y .bytes)) (λ k o. rw shelf-told)
 
 pub unique-found : (x : Place) → OneValue Shelf·found Place placeIn x
-unique-found =
-    one-value (λ p. record { ended = shelfEnd (p .number); start = p .start; length = p .size }) (λ f. rw (shelf-told (f .ended)))
+unique-found = one-value (λ p. record { ended = shelfEnd (p .number); start = p .start; length = p .size }) (λ f. rw shelf-told)
 
 pub unique-exported-shelf : (x : Shelf·Outcome) → One LuossavinShelf Shelf·Outcome shelfReported x
 unique-exported-shelf = one (λ y. (record { number = y .number; used = y .used }, y .bytes)) (λ r o. refl)

@@ -26,19 +26,14 @@ at-the-edges true = refl
 at-the-edges false = refl
 
 verdict-refused : (k : Checked) (o : List ℕ) (next : Outcome) (n : ℕ) → k ≢ Passed → checked k o next .head ≡ verdict k n
-verdict-refused Passed o next n h = absurd (h refl)
-verdict-refused (Refused r) o next n h = refl
+verdict-refused k o next n = elim k [ Passed ↦ λ h. absurd (h refl) | Refused r ↦ λ _. refl ]
 
 -- a refusal says nothing of a counter
-refusal-quiet : (r : Refusal) (b : Bool) → refusalHead r ≡ tellingDone b (refusalHead r)
-refusal-quiet r b =
-    let no : (eqb (refusalHead r .number) 0 && b) ≡ false = rw (ne-eqb (refusalHead r .number) 0 (refuses r .not-zero)) in
-    sym (ap (λ (t : Bool). telling t (refusalHead r)) no ∙ quiet-ending (Refused·ending r))
-
 verdict-done : (k : Checked) (o : List ℕ) (next : Outcome) (n : ℕ) (b : Bool) → next .head ≡ telling b (finished n)
     → checked k o next .head ≡ tellingDone b (verdict k n)
 verdict-done Passed o next n b e = e
-verdict-done (Refused r) o next n b e = refusal-quiet r b
+verdict-done (Refused r) o next n b e =
+    rw (ne-eqb (refusalHead r .number) 0 (refuses r .not-zero)) (sym (quiet-ending (Refused·ending r)))
 
 -- Where the checks refuse, every call under a usable key with those lengths answers what is said, with the key's number.
 pub edge-refused : (dir : Direction) (m : Sm4CipherMode) → m .cipher .answer ≡ Key → (label d iv o : List ℕ)
@@ -60,13 +55,11 @@ pub edge-encrypted : (m : Sm4CipherMode) → m .cipher .answer ≡ Key → (labe
 unfolding modeCall
 edge-encrypted m k label d iv o =
     let rk = m .cipher .rk in
-    let b = roundOf (m .mode) Encrypt rk iv (length d) in
-    let size = ap (λ (n : ℕ). telling b (finished n)) (length-encrypted (m .mode) rk label d iv) in
-    let head = ap (λ (x : Outcome). x .head) (encrypts (m .mode) rk label d iv o) ∙ size in
     rw k
     (ap (under (m .cipher .number))
     (verdict-done (messageCheck Key (m .cipher .retired) Encrypt (m .mode) (lengthsOf label d iv o)) o
-    (modeResult (m .mode) Encrypt rk label d iv o) _ b head))
+    (modeResult (m .mode) Encrypt rk label d iv o) _ (roundOf (m .mode) Encrypt rk iv (length d))
+    (rw (encrypts (m .mode) rk label d iv o, length-encrypted (m .mode) rk label d iv))))
 
 -- Two blocks under the key of sixteen zero bytes, computed: demand 3's condition on keys is met, and imposters can be told.
 
