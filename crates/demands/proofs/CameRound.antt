@@ -3,7 +3,7 @@
 use Rattle.demands.specs.Names as N
 use N.{Bool, cond, false, true, List, [], _++_, _∷_, _≢_, _∙_, _≡_, ap, ap₂, refl, _%_, _+_, _-_, _/_, _<_, _^_, _≤_, ℕ, arith, eqb, ltb}
 use N.{length, length-append, drop-at, length-take-le, take-at, eq-eqb, eqb-false, eqb-true, lt-leb, ne-eqb, AreBytes, bytesOf, numberOf}
-use N.{same, xors, blocksOf, ctrCameRound, gcmCameRound, gcmNext, lastFour, Head, Outcome, finished, refusal, refuseAs, reporting, telling, under}
+use N.{same, xors, blocksOf, ctrCameRound, gcmCameRound, gcmNext, lastFour, Head, Outcome, finished, refusal, reporting, telling, under}
 use N.{ghash, ctrWalkSays, gcmWalkSays, cbcOpen, cbcText, cbcHead, unpadded, Opened, Cbc·Done, InvalidLastU8, InvalidPadding, J0}
 use N.{firstCounter, hashKey, sealed, tagOf, textOf, textPart, gcmOpen, refusalHead, blockCall, lengthsOf, modeCall, modeResult, checked}
 use N.{messageCheck, keyNumber, limitOf, modeOf, sealedLimit, CipherMode, Cbc, Cfb, Ctr, Gcm, Ofb, Direction, Decrypt, Encrypt, Refusal}
@@ -22,13 +22,14 @@ use Rattle.cipher_mode.proofs.Refusals.{refuses}
 use Rattle.editions.proofs.FirstOpening.{search-number}
 use Rattle.demands.proofs.Answering.{split, headBehind, heads}
 
--- either form of J0 has sixteen bytes
+-- what holds of either form holds of J0
 by-counter : (P : List ℕ → Type 0) (h : ℕ) (iv : List ℕ) → (length iv ≡ 12 → P (followedBy 1 iv)) → ((n : ℕ) → P (bytesOf 16 n))
     → P (firstCounter h iv)
 unfolding firstCounter
 by-counter P h iv twelve hashed =
     split _ (eqb (length iv) 12) (λ e. rw e (twelve (eqb-true (length iv) 12 e))) (λ e. rw e (hashed _))
 
+-- either form has sixteen bytes
 pub length-counter : (h : ℕ) (iv : List ℕ) → length (firstCounter h iv) ≡ 16
 length-counter h iv = by-counter (λ j. length j ≡ 16) h iv (λ n. rw (length-append, n)) (length-bytesOf 16)
 

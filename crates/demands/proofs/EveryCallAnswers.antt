@@ -1,7 +1,8 @@
 -- Demand 1: every call ends with an answer. A refusal reports length 0 and leaves the output as it was lent; a success reports
 -- the length of the table of lengths and leaves what lies past it as it was lent. For all inputs.
 use Rattle.demands.specs.Names as N
-use N.{finished, over, suc, zero, Bool, _||_, cond, false, not, true, List, _≢_, _⊎_, ⊎-elim, _∙_, _≡_, ap, refl, subst, sym, _-_, _<_, _≤_, ℕ, arith, eqb, ltb}
+use N.{finished, over, suc, zero}
+use N.{Bool, _||_, cond, false, not, true, List, _≢_, _⊎_, ⊎-elim, _∙_, _≡_, ap, refl, subst, sym, _-_, _<_, _≤_, ℕ, arith, eqb, ltb}
 use N.{length, take, length-take-le, eq-eqb, le-ltb, lt-ltb, ltb-false, ne-eqb, Head, done, refusal, written, chain, streamMode, Kind}
 use N.{Ctr·kind, Ofb·kind, cbcSeal, allPadding, cbcOpen, cbcText, cbcHead, lastByte, namesPadding, unpadded, Cbc·Done, InvalidLastU8}
 use N.{InvalidPadding, J0, hashKey, opensUnder, sealed, textOf, textPart, gcmOpen, gcmHead, settled, Gcm·Done, InvalidTag, refusalHead}

@@ -2,7 +2,8 @@
 -- recorded as they were answered agree.
 use Rattle.demands.specs.Names as N
 use N.{Bool, cond, false, not, true, List, [], _++_, _∷_, append-nil, inl, inr, ⊎-elim, _∙_, _≡_, ap, refl, sym, _+_, _<_, suc, zero, ℕ}
-use N.{arith, eqb, ltb, drop, getD, length, take, take-append-seam, _-_, lt-ltb, AreBytes, Head, Outcome, Sm4Cipher, AllReplayable, Ends, NoneDiffers, Totals}
+use N.{getD, take-append-seam, _-_}
+use N.{arith, eqb, ltb, drop, length, take, lt-ltb, AreBytes, Head, Outcome, Sm4Cipher, AllReplayable, Ends, NoneDiffers, Totals}
 use N.{countedAll, differs, Entry, front·journal as front, sizeAt·journal as sizeAt, startsRecord·journal as startsRecord}
 use N.{stored·journal as stored, tooLong, written·journal as written, added, behindReport, badKeys, hasNumber, keyOf·journal as keyOf}
 use N.{keysIn, answeredBy, callInto, recomputed, resultOf as result, done·journal as done, numberOfEnd, journalRefuse as refuse, replay}
@@ -78,11 +79,8 @@ module _ (keys : LuossavinKeys) (e : Entry) (r : Recorded keys e) where
   abbrev c : Sm4Cipher
   c = keyOf (e .key) (keysIn (keysOf keys))
 
-  abbrev asked : Outcome
-  asked = hostModeCall (e .direction) (r .mode) (r .key) (e .label) (e .«data») (e .iv) (r .out)
-
   -- the exported call on the record's fields is the journal's
-  host-is : asked ≡ callInto c e (r .out)
+  host-is : hostModeCall (e .direction) (r .mode) (r .key) (e .label) (e .«data») (e .iv) (r .out) ≡ callInto c e (r .out)
   unfolding hostModeCall callInto
   host-is =
       ⊎-elim (λ (m : r .mode ≡ e .mode). rw (m, r .lent))
@@ -100,7 +98,7 @@ module _ (keys : LuossavinKeys) (e : Entry) (r : Recorded keys e) where
   recorded-agrees = rw as-answered at (answered-agrees (keysIn (keysOf keys)) e)
 
 -- calls that stand in a journal are replayed to the end
-unfoldable pub stored-ends : (ks : List Sm4Cipher) (es : List Entry) → AllReplayable ks es
+stored-ends : (ks : List Sm4Cipher) (es : List Entry) → AllReplayable ks es
     → Ends ks (stored es) 0 nothing (done (countedAll ks es 0 nothing))
 stored-ends ks es all =
     record { calls = es; rest = []; split = sym (append-nil (stored es)); replayable = all; why = refl; place = refl; report = refl }
@@ -113,10 +111,7 @@ all-good keys (e ∷ es) (r, a) = let (p, q) = all-good keys es a in ((r .replay
 -- Calls that a host made under keys that are lent, recorded one behind the other as they were answered, are replayed to the end, and
 -- none differs.
 module _ (keys : LuossavinKeys) (good : badKeys (keysOf keys) ≡ false) (es : List Entry) (all : AllRecorded keys es) where
-  abbrev night : Replayed
-  night = done (countedAll (keysIn (keysOf keys)) es 0 nothing)
-
-  night-told : hostReplay keys (stored es) ≡ toldOf night
+  night-told : hostReplay keys (stored es) ≡ toldOf (done (countedAll (keysIn (keysOf keys)) es 0 nothing))
   unfolding hostReplay
   night-told = rw (replayed-whole (keysOf keys) good es (all-good keys es all .0))
 
@@ -128,7 +123,7 @@ module _ (keys : LuossavinKeys) (good : badKeys (keysOf keys) ≡ false) (es : L
   unfolding toldOf stored-ends
   exported-night-agrees =
       let (p, q) = all-good keys es all in
-      rw (night-told, none-told (keysIn (keysOf keys)) (stored es) night (stored-ends (keysIn (keysOf keys)) es p) q)
+      rw (night-told, none-told (keysIn (keysOf keys)) (stored es) _ (stored-ends (keysIn (keysOf keys)) es p) q)
 
 -- so is what the writer wrote of one
 module _ (keys : LuossavinKeys) (good : badKeys (keysOf keys) ≡ false) (e : Entry) (r : Recorded keys e) (o : List ℕ) (n : ℕ)
@@ -175,8 +170,8 @@ the-ending k journal =
     split _ (badKeys k) (λ e. rw (bad-keys k journal e) (λ _. refl, λ _. refl))
     (λ e.
     let (place, known) =
-    by-replay (keysIn k) (λ b place r x. Ending x) (λ b place r z. omega arith) (λ b place r z s. omega arith) (λ b place r s t. omega arith)
-    (λ b place r s t n. omega arith) (λ b place r x p q. q) journal 0 nothing in
+    by-replay (keysIn k) (λ b place r x. Ending x) (λ b place r z. omega arith) (λ b place r z s. omega arith)
+    (λ b place r s t. omega arith) (λ b place r s t n. omega arith) (λ b place r x p q. q) journal 0 nothing in
     rw (from-start k journal e) (place, λ z. absurd (omega arith)))
 
 pub exported-replay-answers : (k : LuossavinKeys) (journal : List ℕ) → ReplayAnswered (hostReplay k journal)

@@ -1,6 +1,6 @@
 -- In each mode, what encrypting gave is in order for decrypting and decrypts to the message, and the other way about.
 use Rattle.demands.specs.Names as N
-use N.{false, true, List, _∙_, _≡_, ap, refl, subst, sym, _%_, _≤_, ℕ, arith, length, take, length-take-le, eq-eqb, le-ltb, ne-eqb}
+use N.{Kind, false, true, List, _∙_, _≡_, ap, refl, subst, sym, _%_, _≤_, ℕ, arith, length, take, length-take-le, eq-eqb, le-ltb, ne-eqb}
 use N.{AreBytes, Outcome, done, finished, leaving, reporting, written, chain, over, streamMode, CfbDecrypt, CfbEncrypt, Ctr·kind, Ofb·kind}
 use N.{cbcSeal, cbcOpen, cbcText, cbcHead, unpadded, Opened, Cbc·Done, InvalidLastU8, InvalidPadding, J0, hashKey, opensUnder, sealed}
 use N.{textOf, textPart, gcmOpen, modeResult, dataCheck, wrongIv, limit, roomOf, sealedLimit, CipherMode, Cbc, Cfb, Ctr, Gcm, Ofb, Decrypt}
@@ -94,17 +94,20 @@ unpadded-by p o InvalidLastU8 z = absurd (omega arith)
 unpadded-by p o InvalidPadding z = absurd (omega arith)
 
 module _ (rk aad c iv o : List ℕ) where
+  abbrev streamed : Kind → List ℕ
+  streamed k = chain (streamMode k rk) iv c
+
   -- in every mode
   pub forth : (m : CipherMode) → wrongIv m (length iv) ≡ false → AreBytes c → dataCheck Decrypt m (length c) ≡ Passed
       → modeResult m Decrypt rk aad c iv o .head .number ≡ 0 → (m ≡ Cbc → modeResult m Decrypt rk aad c iv o .head .size ≤ limit)
       → Encrypts m rk aad c iv o
   unfolding dataCheck cbcOpen
   forth Cfb n b e z l =
-      record { text = chain (streamMode CfbDecrypt rk) iv c; opened = refl; content = rw length-stream e; again = stream-forth CfbEncrypt rk iv c }
+      record { text = streamed CfbDecrypt; opened = refl; content = rw length-stream e; again = stream-forth CfbEncrypt rk iv c }
   forth Ofb n b e z l =
-      record { text = chain (streamMode Ofb·kind rk) iv c; opened = refl; content = rw length-stream e; again = stream-forth Ofb·kind rk iv c }
+      record { text = streamed Ofb·kind; opened = refl; content = rw length-stream e; again = stream-forth Ofb·kind rk iv c }
   forth Ctr n b e z l =
-      record { text = chain (streamMode Ctr·kind rk) iv c; opened = refl; content = rw length-stream e; again = stream-forth Ctr·kind rk iv c }
+      record { text = streamed Ctr·kind; opened = refl; content = rw length-stream e; again = stream-forth Ctr·kind rk iv c }
   forth Cbc n b e z l =
       let p = cbcText rk iv c in
       let (n₁, is-done, opened) = unpadded-by p o (unpadded p) z in

@@ -1,6 +1,7 @@
 -- Keys that open and no longer seal: a retired key encrypts nothing and decrypts as it did, and there is no way back.
 use Rattle.demands.specs.Names as N
-use N.{_+_, CipherMode, Checked, andThen, Bool, _||_, false, true, List, [], _++_, _∷_, map, _≢_, _∙_, _≡_, ap, refl, subst, sym, suc, zero, ℕ, arith, eqb, ltb, length, take}
+use N.{_+_, CipherMode, Checked, andThen}
+use N.{Bool, _||_, false, true, List, [], _++_, _∷_, map, _≢_, _∙_, _≡_, ap, refl, subst, sym, suc, zero, ℕ, arith, eqb, ltb, length, take}
 use N.{eq-eqb, eqb-false, eqb-true, ne-eqb, blockCall, modeCall, blockCheck, keyAndIv, messageCheck, retiredCheck, Ctr as Ctr·mode, Gcm}
 use N.{Encrypt, Sm4Cipher, Passed, ctrStart, opensStart, sealStart, gcmStarting, Ctr·state as Ctr, Seal, searchCheck, which, planCall}
 use N.{rangeCall, rangeCheck, reachCheck, anyRetired, badKeys, replay, hostBlockCall, hostModeCall, hostCtrStart, hostOpensStart}

@@ -1,6 +1,7 @@
 -- Demand 2, there and back: what a call did, its counterpart takes back; and whoever asks in order is served.
 use Rattle.demands.specs.Names as N
-use N.{AreBytes, Sm4Cipher, Bool, false, List, _⊎_, ⊎-elim, _∙_, _≡_, ap, refl, sym, _≤_, ℕ, length, le-ltb, Head, Outcome, done, keyed, leaving, reporting}
+use N.{AreBytes, Sm4Cipher}
+use N.{Bool, false, List, _⊎_, ⊎-elim, _∙_, _≡_, ap, refl, sym, _≤_, ℕ, length, le-ltb, Head, Outcome, done, keyed, leaving, reporting}
 use N.{over, blockCall, blockOf, modeResult, dataCheck, labelCheck, retiredCheck, wrongIv, keyNumber, limit, modeOf, roomOf, CipherMode}
 use N.{Cbc, Cfb, Ctr, Gcm, Ofb, Direction, Decrypt, Encrypt, Passed, hostBlockCall, hostModeCall, cipherIn, hostKeyEngine, hostKeyNew}
 use N.{hostKeyRetire, keyAnswerOf, keyOf, LuossavinKey}
@@ -29,7 +30,8 @@ allowed Encrypt k u = rw (u refl)
 allowed Decrypt k u = refl
 
 -- a block that was worked in one direction, worked in the other under the same key
-block-takes-back : (there back : Direction) (c l : Sm4Cipher) → l .answer ≡ c .answer → l .rk ≡ c .rk → retiredCheck back (l .retired) ≡ Passed
+block-takes-back : (there back : Direction) (c l : Sm4Cipher) → l .answer ≡ c .answer → l .rk ≡ c .rk
+    → retiredCheck back (l .retired) ≡ Passed
     → ((b : List ℕ) → length b ≡ 16 → AreBytes b → blockOf back (c .rk) (blockOf there (c .rk) b) ≡ b)
     → ThereAndBack Sixteen (single (blockCall there c)) (single (blockCall back l))
 block-takes-back there back c l answer keys may undone label b iv o o′ bb ib e r =
@@ -40,13 +42,9 @@ block-takes-back there back c l answer keys may undone label b iv o o′ bb ib e
     (record { number = refl; size = refl; message = result-of-done b o′ })
 
 module _ (k later : LuossavinKey) (s : SameKey k later) where
-  same-answer : cipherIn later .answer ≡ cipherIn k .answer
+  same-key : (cipherIn later .answer ≡ cipherIn k .answer) × (cipherIn later .rk ≡ cipherIn k .rk)
   unfolding cipherIn
-  same-answer = ap keyAnswerOf (s .answer)
-
-  same-keys : cipherIn later .rk ≡ cipherIn k .rk
-  unfolding cipherIn
-  same-keys = s .keys
+  same-key = (ap keyAnswerOf (s .answer), s .keys)
 
   -- For every mode number and every two records of one key: if encryption answers 0, decryption of its result, with the same IV and label,
   -- given room, answers 0 with the message and its length.
@@ -59,7 +57,7 @@ module _ (k later : LuossavinKey) (s : SameKey k later) where
       let t = back (k .«round_keys») label d iv ib db (modeOf mode) (p .iv-size) (p .content) in
       let q : Ready Decrypt mode later label text iv o′ = (
         b,
-        record { key = same-answer ∙ p .key; iv-size = p .iv-size; may = refl; label = p .label; content = t .content; room = rw x at r },
+        record { key = same-key .0 ∙ p .key; iv-size = p .iv-size; may = refl; label = p .label; content = t .content; room = rw x at r },
       ) in
       rw (x, result-of-done text o, host-leaves Decrypt mode later label text iv o′ q, s .keys, t .opened o′)
       (record { number = refl; size = refl; message = result-of-done d o′ })
@@ -76,16 +74,11 @@ module _ (k later : LuossavinKey) (s : SameKey k later) where
       host-leaves Decrypt mode later label text iv o (b, p) ∙ rw (s .keys) in
       let t = forth rk label text iv o (modeOf mode) (p .iv-size) cb (p .content) (rw y at e) (rw y at (r .0)) in
       let x = rw (t .opened) at y in
+      let key = sym (same-key .0) ∙ p .key in
+      let may = allowed Encrypt k (λ _. u) in
       let q : Ready Encrypt mode k label (t .text) iv o′ = (
         b,
-        record {
-          key = sym same-answer ∙ p .key;
-          iv-size = p .iv-size;
-          may = allowed Encrypt k (λ _. u);
-          label = p .label;
-          content = t .content;
-          room = rw x at (r .1);
-        },
+        record { key = key; iv-size = p .iv-size; may = may; label = p .label; content = t .content; room = rw x at (r .1) },
       ) in
       rw (x, result-of-done (t .text) o, host-encrypts mode k label (t .text) iv o′ q, t .again)
       (record { number = refl; size = refl; message = result-of-done text o′ })
@@ -94,24 +87,24 @@ module _ (k later : LuossavinKey) (s : SameKey k later) where
   pub block-decryption-takes-back : ThereAndBack Sixteen (single (hostBlockCall Encrypt k)) (single (hostBlockCall Decrypt later))
   unfolding hostBlockCall
   block-decryption-takes-back =
-      block-takes-back Encrypt Decrypt (cipherIn k) (cipherIn later) same-answer same-keys refl (block-decrypt-encrypt (cipherIn k .rk))
+      block-takes-back Encrypt Decrypt (cipherIn k) (cipherIn later) (same-key .0) (same-key .1) refl
+      (block-decrypt-encrypt (cipherIn k .rk))
 
   -- and the other way about, where the key is not retired.
   pub block-encryption-takes-back : k .retired ≡ 0
       → ThereAndBack Sixteen (single (hostBlockCall Decrypt later)) (single (hostBlockCall Encrypt k))
   unfolding hostBlockCall
   block-encryption-takes-back u =
-      block-takes-back Decrypt Encrypt (cipherIn later) (cipherIn k) (sym same-answer) (sym same-keys) (allowed Encrypt k (λ _. u))
+      block-takes-back Decrypt Encrypt (cipherIn later) (cipherIn k) (sym (same-key .0)) (sym (same-key .1)) (allowed Encrypt k (λ _. u))
       (block-encrypt-decrypt (cipherIn later .rk))
 
 -- One key: a record that is retired, one that is marked with another engine, and the same 16 bytes set up under another number.
 pub retired-same-key : (k : LuossavinKey) → SameKey k (hostKeyRetire k)
-retired-same-key k =
-    retired-by (SameKey k) k (λ e. record { keys = refl; answer = sym e }) (λ _. record { keys = refl; answer = refl })
+retired-same-key k = retired-by (SameKey k) k (λ e. record { keys = refl; answer = sym e }) (λ _. search)
 
 pub engine-same-key : (k : LuossavinKey) (e : ℕ) → SameKey k (hostKeyEngine k e)
 unfolding hostKeyEngine
-engine-same-key k e = record { keys = refl; answer = refl }
+engine-same-key k e = search
 
 pub set-up-same-key : (key : List ℕ) (n m : ℕ) → length key ≡ 16 → 1 ≤ n → n ≤ 65535 → 1 ≤ m → m ≤ 65535
     → SameKey (hostKeyNew key n) (hostKeyNew key m)

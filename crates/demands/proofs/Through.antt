@@ -38,13 +38,6 @@ module _ (dir : Direction) (c : Sm4Cipher) (b o : List ℕ) where
   unfolding blockCall blockCheck
   block-leaves p = rw (p .key, eq-eqb (length b) 16 (p .size), p .may, le-ltb (length o) 16 (p .enough))
 
--- what is in order passes
-in-order : (a : KeyAnswer) (retired : Bool) (dir : Direction) (m : CipherMode) (n : Lengths)
-    → InOrder a retired dir m n → messageCheck a retired dir m n ≡ Passed
-unfolding messageCheck keyAndIv roomCheck
-in-order a retired dir m n p =
-    rw (p .key, p .iv-size, p .may, p .label, p .content, le-ltb (n .room) (roomOf m dir (n .«data»)) (p .room))
-
 -- a message
 module _ (dir : Direction) (m : Sm4CipherMode) (aad d iv o : List ℕ) where
   pub through : modeCall dir m aad d iv o .head .number ≡ 0
@@ -54,8 +47,9 @@ module _ (dir : Direction) (m : Sm4CipherMode) (aad d iv o : List ℕ) where
 
   pub leaves : InOrder (m .cipher .answer) (m .cipher .retired) dir (m .mode) (lengthsOf aad d iv o)
       → modeCall dir m aad d iv o ≡ keyed (keyNumber (m .cipher)) (modeResult (m .mode) dir (m .cipher .rk) aad d iv o)
-  unfolding modeCall
-  leaves p = rw (in-order _ _ _ _ _ p)
+  unfolding modeCall messageCheck keyAndIv roomCheck
+  leaves p =
+      rw (p .key, p .iv-size, p .may, p .label, p .content, le-ltb (length o) (roomOf (m .mode) dir (length d)) (p .room))
 
 -- and an exported call: a mode number above 4 is refused before all else
 module _ (dir : Direction) (mode : ℕ) (k : LuossavinKey) (aad d iv o : List ℕ) where

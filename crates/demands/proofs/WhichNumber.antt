@@ -53,8 +53,22 @@ said-head k h = elim k [ Passed ↦ refl | Refused r ↦ refl ]
 pub said-cond : (t : Bool) (g h : Head) → saidIn (cond t g h) ≡ cond t (saidIn g) (saidIn h)
 said-cond t g h = elim t [ true ↦ refl | false ↦ refl ]
 
+-- the IV that Gcm takes, in either order of its two lengths
+pub said-iv : (n : ℕ) → not (eqb n 12) && not (eqb n 16) ≡ not (eqb n 16) && not (eqb n 12)
+said-iv n = and-comm (not (eqb n 12)) (not (eqb n 16))
+
+-- opening, by the tests that decide
+pub cbc-said : (n : ℕ) (none bad : Bool)
+    → saidIn (cbcHead (cond none InvalidLastU8 (cond bad InvalidPadding (Cbc·Done n)))) ≡ cond none (only 3) (cond bad (only 15) (only 0))
+cbc-said n none bad = elim none [ true ↦ refl | false ↦ elim bad [ true ↦ refl | false ↦ refl ] ]
+
+pub gcm-said : (n : ℕ) (t : Bool) → saidIn (gcmHead (cond t (Gcm·Done n) InvalidTag)) ≡ cond (not t) (only 4) (only 0)
+gcm-said n t = elim t [ true ↦ refl | false ↦ refl ]
+
 -- so a chain of checks is read as a list of rows
-pub ruleset said·laws = (said-passed, said-refused, said-refuse, said-then, said-key, heads, said-head, said-cond)
+pub ruleset check·laws = (said-passed, said-refused, said-refuse, said-then, said-key, said-iv, and-true)
+
+pub ruleset said·laws = (check·laws, heads, said-head, said-cond, cbc-said, gcm-said)
 
 -- a call by its checks, and behind a refusal by number
 pub checked-said : (k : Checked) (o : List ℕ) (next : Outcome) (s : Said) → behind k (saidIn (next .head)) ≡ s
@@ -79,35 +93,21 @@ unfolding hostBlockCall blockCall blockCheck cipherIn
 exported-block-number Encrypt k b o = simp said·laws
 exported-block-number Decrypt k b o = simp said·laws
 
--- opening, by the tests that decide
-cbc-said : (n : ℕ) (none bad : Bool)
-    → saidIn (cbcHead (cond none InvalidLastU8 (cond bad InvalidPadding (Cbc·Done n)))) ≡ cond none (only 3) (cond bad (only 15) (only 0))
-cbc-said n none bad = elim none [ true ↦ refl | false ↦ elim bad [ true ↦ refl | false ↦ refl ] ]
-
-gcm-said : (n : ℕ) (t : Bool) → saidIn (gcmHead (cond t (Gcm·Done n) InvalidTag)) ≡ cond (not t) (only 4) (only 0)
-gcm-said n t = elim t [ true ↦ refl | false ↦ refl ]
-
 module _ (k : LuossavinKey) (label d iv o : List ℕ) where
   abbrev check : Direction → CipherMode → Checked
   check dir m = messageCheck (keyAnswerOf (k .answer)) (isRetired k) dir m (lengthsOf label d iv o)
 
   encryption-said : (m : CipherMode) → behind (check Encrypt m) (only 0) ≡ firstOf (encryptRowsIn m k label d iv o)
   unfolding messageCheck keyAndIv dataCheck roomCheck
-  encryption-said Cfb = simp (said·laws, and-true)
-  encryption-said Ofb = simp (said·laws, and-true)
-  encryption-said Ctr = simp (said·laws, and-true)
-  encryption-said Cbc = simp (said·laws, and-true)
-  encryption-said Gcm = simp (said·laws, and-comm (not (eqb (length iv) 12)))
+  encryption-said m =
+      elim m [ Cfb ↦ simp said·laws | Ofb ↦ simp said·laws | Ctr ↦ simp said·laws | Cbc ↦ simp said·laws | Gcm ↦ simp said·laws ]
 
   decryption-said : (m : CipherMode)
       → behind (check Decrypt m) (saidIn (modeResult m Decrypt (k .«round_keys») label d iv o .head))
       ≡ firstOf (decryptRowsIn m k label d iv o)
   unfolding messageCheck keyAndIv dataCheck roomCheck cbcOpen unpadded gcmOpen settled
-  decryption-said Cfb = simp (said·laws, and-true)
-  decryption-said Ofb = simp (said·laws, and-true)
-  decryption-said Ctr = simp (said·laws, and-true)
-  decryption-said Cbc = simp (said·laws, and-true, cbc-said)
-  decryption-said Gcm = simp (said·laws, and-comm (not (eqb (length iv) 12)), gcm-said)
+  decryption-said m =
+      elim m [ Cfb ↦ simp said·laws | Ofb ↦ simp said·laws | Ctr ↦ simp said·laws | Cbc ↦ simp said·laws | Gcm ↦ simp said·laws ]
 
 -- The exported encryption says what the first condition says that holds: mode, key, IV, whether the key is retired, label, data, room.
 pub exported-encryption-number : (mode : ℕ) (k : LuossavinKey) (label d iv o : List ℕ)
