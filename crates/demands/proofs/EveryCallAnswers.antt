@@ -1,7 +1,7 @@
 -- Demand 1: every call ends with an answer. A refusal reports length 0 and leaves the output as it was lent; a success reports
 -- the length of the table of lengths and leaves what lies past it as it was lent. For all inputs.
 use Rattle.demands.specs.Names as N
-use N.{finished, over, suc, zero}
+use N.{finished, over, suc, zero, NoKey, NoNumber}
 use N.{Bool, _||_, cond, false, not, true, List, _≢_, _⊎_, ⊎-elim, _∙_, _≡_, ap, refl, subst, sym, _-_, _<_, _≤_, ℕ, arith, eqb, ltb}
 use N.{length, take, length-take-le, eq-eqb, le-ltb, lt-ltb, ltb-false, ne-eqb, Head, done, refusal, written, chain, streamMode, Kind}
 use N.{Ctr·kind, Ofb·kind, cbcSeal, allPadding, cbcOpen, cbcText, cbcHead, lastByte, namesPadding, unpadded, Cbc·Done, InvalidLastU8}
@@ -20,6 +20,7 @@ use Rattle.cipher_mode.proofs.Ends.{length-block}
 use Rattle.demands.specs.Answered.{oneOf, singleNumbers, Answered, KeyAnswered, lengthOf}
 use Rattle.demands.proofs.Through.{new-is-new}
 use mathlib.Core.Bool.{or-true}
+use Rattle.cipher_mode.specs.Key.{noCipher}
 use Rattle.demands.specs.WhichNumber.{blockRows, encryptRows, decryptRows}
 use Rattle.demands.proofs.WhichNumber.{exported-block-number, exported-encryption-number, exported-decryption-number}
 use Rattle.demands.proofs.Answering.{numbered, within, Fair, answered, refused-fair, done-fair, checks-fair, front-fair, split}
@@ -151,24 +152,19 @@ no-usable-key k n =
     split _ (eqb (k .answer) 13) (λ e. rw e (turned-away k 13 WrongNumber (rw (some, e)) refl (rw (some, e))))
     (λ e. rw e (turned-away k 1 ErrorBlockSize (rw (some, e)) refl (rw (some, e))))
 
--- what set-up answered is what every call answers
-refused-set-up : (key : List ℕ) (number n : ℕ) → hostKeyNew key number .answer ≡ n → n ≢ 0 → cond (eqb n 13) 13 1 ≡ n
-    → NoUsableKey n (hostKeyNew key number)
-refused-set-up key number n e some same =
-    let k = hostKeyNew key number in
-    subst (λ (m : ℕ). NoUsableKey m k) (rw e same) (no-usable-key k (λ z. some (sym e ∙ z)))
-
 -- A key that is not 16 bytes gives a record on which every call answers 1.
 pub wrong-size-key-unusable : (key : List ℕ) (n : ℕ) → length key ≢ 16 → NoUsableKey 1 (hostKeyNew key n)
-unfolding hostKeyNew keyOf
+unfolding newCipher
 wrong-size-key-unusable key n s =
-    refused-set-up key n 1 (ap (λ (h : Head). h .number) (new-cipher-answers key n .refused s)) (λ z. omega arith) refl
+    let e : cipherIn (hostKeyNew key n) ≡ noCipher NoKey = new-is-new key n ∙ rw (ne-eqb (length key) 16 s) in
+    turned-away (hostKeyNew key n) 1 ErrorBlockSize (rw e) refl (rw e)
 
 -- A number out of range, 13.
 pub wrong-number-unusable : (key : List ℕ) (n : ℕ) → length key ≡ 16 → (n ≡ 0) ⊎ (65535 < n) → NoUsableKey 13 (hostKeyNew key n)
-unfolding hostKeyNew keyOf
+unfolding newCipher
 wrong-number-unusable key n s r =
-    refused-set-up key n 13 (ap (λ (h : Head). h .number) (new-cipher-answers key n .out-of-range s r)) (λ z. omega arith) refl
+    let e : cipherIn (hostKeyNew key n) ≡ noCipher NoNumber = new-is-new key n ∙ rw (eq-eqb (length key) 16 s, out-of-range n r) in
+    turned-away (hostKeyNew key n) 13 WrongNumber (rw e) refl (rw e)
 
 -- Demand 1, of labels: outside Gcm two calls that differ only in the label have the same outcome, however long it is.
 

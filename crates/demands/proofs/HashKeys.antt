@@ -22,10 +22,6 @@ few-keys-confuse p q wp wq = few-confuse p q (sound p wp) (sound q wq)
 pub zero-key-confuses : ZeroKeyConfuses pairHash
 zero-key-confuses = zero-confuses
 
--- 1,048,576 blocks of label, as many of ciphertext, and the length block
-most-blocks : (p : Pair) → WithinLimits p → hashedCount p ≤ 2097153
-most-blocks p w = omega (arith, w .label-limit, w .ciphertext-limit)
-
 -- no more than both have blocks
 at-most : (n : ℕ) (p q : Pair) → WithinLimits p → WithinLimits q → hashedCount p ≤ n → hashedCount q ≤ n → p ≢ q
     → AtMost n (Confuses pairHash p q)
@@ -33,7 +29,8 @@ at-most n p q wp wq hp hq ne hs g = le-trans (few-keys-confuse p q wp wq ne hs g
 
 pub rarely-confused : RarelyConfused pairHash
 rarely-confused p q wp wq ne =
-    let few = at-most 2097153 p q wp wq (most-blocks p wp) (most-blocks q wq) ne in
+    -- 1,048,576 blocks of label, as many of ciphertext, and the length block
+    let few = at-most 2097153 p q wp wq (omega arith) (omega arith) ne in
     (few, λ hs g. lt-of-le-of-lt (mul-le-mul-right (10 ^ 32) (few hs g)) (lit< tt))
 
 pub few-confuse-editions : FewConfuseEditions pairHash

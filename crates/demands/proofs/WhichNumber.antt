@@ -132,12 +132,10 @@ exported-which-number k file iv labels lengths = simp (said·laws, search-number
 pub no-other-number : (rows : List Row) (s : Said) → s ≡ firstOf rows → Among (s .number) (numbersOf rows)
 no-other-number rows s e = rw e (one-of rows)
   where
-    one-more : (t : Bool) (r n : Said) (ks : List ℕ) → Among (n .number) (0 ∷ ks) → Among (cond t r n .number) (0 ∷ r .number ∷ ks)
-    one-more t r n ks a = elim t [ true ↦ inr (inl refl) | false ↦ ⊎-elim inl (λ later. inr (inr later)) a ]
-
     one-of : (rows : List Row) → Among (firstOf rows .number) (numbersOf rows)
     one-of [] = inl refl
-    one-of (r ∷ rows) = one-more (r .holds) (r .says) (firstOf rows) (map (λ (r : Row). r .says .number) rows) (one-of rows)
+    one-of (r ∷ rows) =
+        split _ (r .holds) (λ h. rw h (inr (inl refl))) (λ h. rw h (⊎-elim inl (λ later. inr (inr later)) (one-of rows)))
 
 -- Which number a call on a message in pieces answers: that of the first condition that holds, and no other.
 
@@ -146,16 +144,12 @@ yes-or-no : (t b : Bool) → saidIn (cond t (telling b (finished 0)) (refusal 4)
 yes-or-no t b = elim t [ true ↦ refl | false ↦ refl ]
 
 -- what a mark says
-module _ (mark : ℕ) (s : Said) where
-  abbrev pub marked : Said
-  marked =
-      cond (eqb mark 1) (only 1)
-      (cond (eqb mark 5) (only 5)
-      (cond (eqb mark 10) (only 10) (cond (eqb mark 13) (only 13) (cond (eqb mark 14) (only 14) (cond (not (eqb mark 0)) (only 12) s)))))
-
-  pub said-standing : behind (standing mark) s ≡ marked
-  unfolding standing behind
-  said-standing = split _ (eqb mark 0) (λ e. let z = eqb-true mark 0 e in rw z) (λ e. rw e (simp said·laws))
+pub said-standing : (mark : ℕ) (s : Said) → behind (standing mark) s
+    ≡ cond (eqb mark 1) (only 1)
+    (cond (eqb mark 5) (only 5)
+    (cond (eqb mark 10) (only 10) (cond (eqb mark 13) (only 13) (cond (eqb mark 14) (only 14) (cond (not (eqb mark 0)) (only 12) s)))))
+unfolding standing behind
+said-standing mark s = split _ (eqb mark 0) (λ e. let z = eqb-true mark 0 e in rw z) (λ e. rw e (simp said·laws))
 
 -- Every piece and every end says what the first condition says that holds: what the state stands at, the lengths, the tag's
 -- size, the room, and last the tag.
