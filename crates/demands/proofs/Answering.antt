@@ -1,7 +1,7 @@
 -- An outcome is answered as demand 1 asks: a refusal, or a success whose result has the table's length and fits. The numbers are those of
 -- the rows that tell which one is answered.
 use Rattle.demands.specs.Names as N
-use N.{Bool, _&&_, cond, false, true, List, [], _∷_, map, _≢_, _⊎_, inl, inr, _∙_, _≡_, ap, refl, _<_, _≤_, ℕ, arith, eqb, drop, getD}
+use N.{not, Bool, _&&_, cond, false, true, List, [], _∷_, map, _≢_, _⊎_, inl, inr, _∙_, _≡_, ap, refl, _<_, _≤_, ℕ, arith, eqb, drop, getD}
 use N.{length, length-append, length-drop, drop-at, eqb-false, Head, Outcome, finished, refusal, refuseAs, over, refusalHead, checked}
 use N.{Ending, Done, Refused·ending, Refusal, EmptyCbc, Ended, ErrorBlockSize, ErrorDataLen, Refusal·LastU8, Refusal·Padding, Refusal·Tag}
 use N.{NoRoom, Retired, ShortGcm, TooLong, WrongBlock, WrongIv, WrongNumber, Checked, Passed, Refused, Stepped, begun, goesOn, under}
@@ -53,6 +53,9 @@ is-false m n d t e = split _ t (λ f. absurd (eqb-false m n d (rw f at e))) (λ 
 
 pub one-or-none : (t : Bool) → (_≡_ {A = ℕ} (cond t 1 0) 1) ⊎ (_≡_ {A = ℕ} (cond t 1 0) 0)
 one-or-none t = elim t [ true ↦ inl refl | false ↦ inr refl ]
+
+pub mark-back : (t : Bool) → not (eqb (cond t 1 0) 0) ≡ t
+mark-back t = elim t [ true ↦ refl | false ↦ refl ]
 
 -- the report behind a check, h being that of what comes next
 unfoldable pub headBehind : Checked → Head → Head

@@ -9,7 +9,7 @@ use Rattle.cipher_mode.proofs.Passed.{InOrder, BlockInOrder, message-passed, bl
 use Rattle.cipher_mode.proofs.Ends.{went-on}
 use Rattle.cipher_mode.proofs.Refusals.{refuses}
 use Rattle.demands.specs.Call.{result, RefusedAs}
-use Rattle.demands.proofs.Answering.{split}
+use Rattle.demands.proofs.Answering.{split, mark-back}
 
 pub result-of-done : (p o : List ℕ) → result (done p o) ≡ p
 result-of-done p o = take-append-seam p _
@@ -73,9 +73,6 @@ module _ (dir : Direction) (mode : ℕ) (k : LuossavinKey) (aad d iv o : List �
 answer-back : (a : KeyAnswer) → keyAnswerOf (keyHead a .number) ≡ a
 unfolding keyAnswerOf
 answer-back a = elim a [ Key ↦ refl | ErrorBlockSize ↦ refl | WrongNumber ↦ refl ]
-
-pub mark-back : (b : Bool) → not (eqb (cond b 1 0) 0) ≡ b
-mark-back b = elim b [ true ↦ refl | false ↦ refl ]
 
 -- a record that was handed out comes back as it was
 pub handed-back : (c : Sm4Cipher) → cipherIn (keyOf c) ≡ c

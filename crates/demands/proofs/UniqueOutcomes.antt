@@ -9,8 +9,7 @@ use N.{Shelf·Outcome, Place, shelfNumber as numberOfEnd, outcomeOf, placeIn, Sh
 use N.{NotHigher, Shelf·found, Kept, Leaves, Wrote, headIn, reported, ctrReported, opensReported, sealReported, Handed, plannedReported}
 use N.{shelfReported, shelvedReported, Told, foundReported, LuossavinAnswer, LuossavinLabel, LuossavinCtrStep, LuossavinOpensStep}
 use N.{LuossavinSealStep, LuossavinShelf, LuossavinShelved, LuossavinFound, LuossavinPlanned}
-use Rattle.demands.proofs.Answering.{toldBy, told-back}
-use Rattle.demands.proofs.Through.{mark-back}
+use Rattle.demands.proofs.Answering.{toldBy, told-back, mark-back}
 use Rattle.demands.specs.OneOutcome.{One, OneValue}
 
 -- an answer that can be told back from what it spells is one alone, with its output or without

@@ -53,22 +53,8 @@ said-head k h = elim k [ Passed ↦ refl | Refused r ↦ refl ]
 pub said-cond : (t : Bool) (g h : Head) → saidIn (cond t g h) ≡ cond t (saidIn g) (saidIn h)
 said-cond t g h = elim t [ true ↦ refl | false ↦ refl ]
 
--- the IV that Gcm takes, in either order of its two lengths
-pub said-iv : (n : ℕ) → not (eqb n 12) && not (eqb n 16) ≡ not (eqb n 16) && not (eqb n 12)
-said-iv n = and-comm (not (eqb n 12)) (not (eqb n 16))
-
--- opening, by the tests that decide
-pub cbc-said : (n : ℕ) (none bad : Bool)
-    → saidIn (cbcHead (cond none InvalidLastU8 (cond bad InvalidPadding (Cbc·Done n)))) ≡ cond none (only 3) (cond bad (only 15) (only 0))
-cbc-said n none bad = elim none [ true ↦ refl | false ↦ elim bad [ true ↦ refl | false ↦ refl ] ]
-
-pub gcm-said : (n : ℕ) (t : Bool) → saidIn (gcmHead (cond t (Gcm·Done n) InvalidTag)) ≡ cond (not t) (only 4) (only 0)
-gcm-said n t = elim t [ true ↦ refl | false ↦ refl ]
-
 -- so a chain of checks is read as a list of rows
-pub ruleset check·laws = (said-passed, said-refused, said-refuse, said-then, said-key, said-iv, and-true)
-
-pub ruleset said·laws = (check·laws, heads, said-head, said-cond, cbc-said, gcm-said)
+pub ruleset said·laws = (said-passed, said-refused, said-refuse, said-then, said-key, heads, said-head, said-cond)
 
 -- a call by its checks, and behind a refusal by number
 pub checked-said : (k : Checked) (o : List ℕ) (next : Outcome) (s : Said) → behind k (saidIn (next .head)) ≡ s
@@ -93,6 +79,20 @@ unfolding hostBlockCall blockCall blockCheck cipherIn
 exported-block-number Encrypt k b o = simp said·laws
 exported-block-number Decrypt k b o = simp said·laws
 
+-- opening, by the tests that decide
+cbc-said : (n : ℕ) (none bad : Bool)
+    → saidIn (cbcHead (cond none InvalidLastU8 (cond bad InvalidPadding (Cbc·Done n)))) ≡ cond none (only 3) (cond bad (only 15) (only 0))
+cbc-said n none bad = elim none [ true ↦ refl | false ↦ elim bad [ true ↦ refl | false ↦ refl ] ]
+
+gcm-said : (n : ℕ) (t : Bool) → saidIn (gcmHead (cond t (Gcm·Done n) InvalidTag)) ≡ cond (not t) (only 4) (only 0)
+gcm-said n t = elim t [ true ↦ refl | false ↦ refl ]
+
+-- the lengths of an IV that Gcm takes, the other way round
+iv-said : (n : ℕ) → not (eqb n 12) && not (eqb n 16) ≡ not (eqb n 16) && not (eqb n 12)
+iv-said n = and-comm (not (eqb n 12)) (not (eqb n 16))
+
+ruleset mode·laws = (said·laws, cbc-said, gcm-said, iv-said, and-true)
+
 module _ (k : LuossavinKey) (label d iv o : List ℕ) where
   abbrev check : Direction → CipherMode → Checked
   check dir m = messageCheck (keyAnswerOf (k .answer)) (isRetired k) dir m (lengthsOf label d iv o)
@@ -100,14 +100,14 @@ module _ (k : LuossavinKey) (label d iv o : List ℕ) where
   encryption-said : (m : CipherMode) → behind (check Encrypt m) (only 0) ≡ firstOf (encryptRowsIn m k label d iv o)
   unfolding messageCheck keyAndIv dataCheck roomCheck
   encryption-said m =
-      elim m [ Cfb ↦ simp said·laws | Ofb ↦ simp said·laws | Ctr ↦ simp said·laws | Cbc ↦ simp said·laws | Gcm ↦ simp said·laws ]
+      elim m [ Cfb ↦ simp mode·laws | Ofb ↦ simp mode·laws | Ctr ↦ simp mode·laws | Cbc ↦ simp mode·laws | Gcm ↦ simp mode·laws ]
 
   decryption-said : (m : CipherMode)
       → behind (check Decrypt m) (saidIn (modeResult m Decrypt (k .«round_keys») label d iv o .head))
       ≡ firstOf (decryptRowsIn m k label d iv o)
   unfolding messageCheck keyAndIv dataCheck roomCheck cbcOpen unpadded gcmOpen settled
   decryption-said m =
-      elim m [ Cfb ↦ simp said·laws | Ofb ↦ simp said·laws | Ctr ↦ simp said·laws | Cbc ↦ simp said·laws | Gcm ↦ simp said·laws ]
+      elim m [ Cfb ↦ simp mode·laws | Ofb ↦ simp mode·laws | Ctr ↦ simp mode·laws | Cbc ↦ simp mode·laws | Gcm ↦ simp mode·laws ]
 
 -- The exported encryption says what the first condition says that holds: mode, key, IV, whether the key is retired, label, data, room.
 pub exported-encryption-number : (mode : ℕ) (k : LuossavinKey) (label d iv o : List ℕ)
@@ -137,13 +137,11 @@ no-other-number rows s e = rw e (one-of rows)
     one-of (r ∷ rows) =
         split _ (r .holds) (λ h. rw h (inr (inl refl))) (λ h. rw h (⊎-elim inl (λ later. inr (inr later)) (one-of rows)))
 
--- Which number a call on a message in pieces answers: that of the first condition that holds, and no other.
-
 -- the last question of an opening
 yes-or-no : (t b : Bool) → saidIn (cond t (telling b (finished 0)) (refusal 4)) ≡ cond (not t) (only 4) (only 0)
 yes-or-no t b = elim t [ true ↦ refl | false ↦ refl ]
 
--- what a mark says
+-- Which number a call on a message in pieces answers: that of the first condition that holds, and no other.
 pub said-standing : (mark : ℕ) (s : Said) → behind (standing mark) s
     ≡ cond (eqb mark 1) (only 1)
     (cond (eqb mark 5) (only 5)
