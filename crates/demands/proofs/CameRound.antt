@@ -17,7 +17,9 @@ use Rattle.demands.specs.CameRound.{followedBy, textFromTwo, CountsFromT
 use Rattle.demands.proofs.Through.{result-of-done, host-through, host-leaves}
 use Rattle.block.proofs.Entries.{below-append}
 use Rattle.stream.proofs.CounterSteps.{ctr-walk-says, gcm-walk-says}
-use Rattle.cipher_mode.proofs.Passed.{data-within}
+use Rattle.cipher_mode.proofs.Passed.{data-within, message-passed}
+use Rattle.demands.proofs.ModesBack.{encrypts, opening}
+use N.{⊎-elim, dataCheck, wrongIv}
 use Rattle.cipher_mode.proofs.Refusals.{refuses}
 use Rattle.editions.proofs.FirstOpening.{search-number}
 use Rattle.demands.proofs.Answering.{split, headBehind, heads}
@@ -68,30 +70,19 @@ module _ {b : Bool} where
   either-says : (t : Bool) {g h : Head} → Says b g → Says b h → Says b (cond t g h)
   either-says t p q = elim t [ true ↦ p | false ↦ q ]
 
-  behind-says : (k : Checked) {h : Head} → Says b h → Says b (headBehind k h)
+  behind-says : (k : Checked) {h : Head} → (k ≡ Passed → Says b h) → Says b (headBehind k h)
   unfolding headBehind
-  behind-says Passed s = s
+  behind-says Passed s = s refl
   behind-says (Refused r) s = record { done = λ e. absurd (refuses r .not-zero e); refused = λ _. refuses r .no-round }
 
   key-says : {n : ℕ} {h : Head} → Says b h → Says b (under n h)
   key-says s = record { done = s .done; refused = s .refused }
 
-  reporting-says : (x : Outcome) → Says b (reporting b x .head)
-  reporting-says x = record { done = λ e. rw (eq-eqb (x .head .number) 0 e); refused = λ n. rw (ne-eqb (x .head .number) 0 n) }
-
-cbc-says : (a : Opened) → Says false (cbcHead a)
-cbc-says a = elim a [ Cbc·Done n ↦ done-says | InvalidLastU8 ↦ number-says 3 (omega arith) | InvalidPadding ↦ number-says 15 (omega arith) ]
-
-result-says : (m : CipherMode) (dir : Direction) (rk aad d iv o : List ℕ)
+result-says : (m : CipherMode) (dir : Direction) (rk aad d iv o : List ℕ) → wrongIv m (length iv) ≡ false → dataCheck dir m (length d) ≡ Passed
     → Says (roundOf m dir rk iv (length d)) (modeResult m dir rk aad d iv o .head)
-unfolding cbcOpen
-result-says Cfb dir rk aad d iv o = done-says
-result-says Ofb dir rk aad d iv o = done-says
-result-says Ctr dir rk aad d iv o = done-says
-result-says Cbc Encrypt rk aad d iv o = done-says
-result-says Cbc Decrypt rk aad d iv o = cbc-says (unpadded (cbcText rk iv d))
-result-says Gcm Encrypt rk aad d iv o = done-says
-result-says Gcm Decrypt rk aad d iv o = reporting-says (gcmOpen rk (hashKey rk) (J0 rk iv) aad d o)
+result-says m Encrypt rk aad d iv o n e = rw (encrypts m rk aad d iv o) done-says
+result-says m Decrypt rk aad d iv o n e =
+    ⊎-elim (λ (k, some, x). rw x (number-says k some)) (λ t. rw (t .opened) done-says) (opening rk aad d iv o m n e)
 
 -- A message says what the formula says where it is done, and no where it is refused, in every mode and under every record;
 pub message-says : (dir : Direction) (mode : ℕ) (k : LuossavinKey) (label d iv o : List ℕ)
@@ -99,70 +90,73 @@ pub message-says : (dir : Direction) (mode : ℕ) (k : LuossavinKey) (label d iv
 unfolding hostModeCall modeCall cipherIn
 message-says dir mode k label d iv o =
     simp heads
-    (either-says (ltb 4 mode) (number-says 7 (omega arith)) (key-says (behind-says _ (result-says (modeOf mode) dir _ label d iv o))))
+    (either-says (ltb 4 mode) (number-says 7 (omega arith))
+    (key-says (behind-says _ (λ e.
+    let p = message-passed _ _ _ _ _ e in
+    result-says (modeOf mode) dir _ label d iv o (p .iv-size) (p .content)))))
 
 -- a single block says no, and so do a range, work by a plan and the question which label a file opens under.
 pub block-says : (dir : Direction) (k : LuossavinKey) (b o : List ℕ) → Says false (hostBlockCall dir k b o .head)
 unfolding hostBlockCall blockCall
-block-says dir k b o = simp heads (key-says (behind-says _ done-says))
+block-says dir k b o = simp heads (key-says (behind-says _ (λ _. done-says)))
 
 pub exported-range-says : (k : LuossavinKey) (decrypt : Bool) (iv : List ℕ) (offset : ℕ) (d o : List ℕ)
     → Says false (hostCtrRange k decrypt iv offset d o .head)
 unfolding hostCtrRange rangeCall
-exported-range-says k decrypt iv offset d o = simp heads (key-says (behind-says _ done-says))
+exported-range-says k decrypt iv offset d o = simp heads (key-says (behind-says _ (λ _. done-says)))
 
 pub exported-plan-says : (k : LuossavinKey) (decrypt : Bool) (iv : List ℕ) (plan : Plan) (d o : List ℕ)
     → Says false (hostCtrByPlan k decrypt iv plan d o .head)
 unfolding hostCtrByPlan planCall
 exported-plan-says k decrypt iv plan d o =
     let room = either-says (ltb (length o) (length d)) (number-says 6 (omega arith)) done-says in
-    simp heads (key-says (behind-says _ (either-says (not (accepts plan (length d))) (number-says 18 (omega arith)) room)))
+    simp heads (key-says (behind-says _ (λ _. either-says (not (accepts plan (length d))) (number-says 18 (omega arith)) room)))
 
 pub which-says : (k : LuossavinKey) (file iv labels lengths : List ℕ) → Says false (hostWhich k file iv labels lengths .head)
 unfolding hostWhich which
 which-says k file iv labels lengths =
     simp (heads, search-number)
-    (either-says (badList labels lengths) (number-says 16 (omega arith)) (key-says (behind-says _ done-says)))
+    (either-says (badList labels lengths) (number-says 16 (omega arith)) (key-says (behind-says _ (λ _. done-says))))
 
 -- Of a message in pieces the starts and the pieces say no, whatever the state holds;
 pub ctr-start-says : (k : LuossavinKey) (decrypt : Bool) (iv : List ℕ) → Says false (hostCtrStart k decrypt iv .head)
 unfolding hostCtrStart ctrStart
-ctr-start-says k decrypt iv = simp heads (key-says (behind-says _ done-says))
+ctr-start-says k decrypt iv = simp heads (key-says (behind-says _ (λ _. done-says)))
 
 pub seal-start-says : (k : LuossavinKey) (label iv : List ℕ) → Says false (hostSealStart k label iv .head)
 unfolding hostSealStart sealStart
-seal-start-says k label iv = simp heads (key-says (behind-says _ done-says))
+seal-start-says k label iv = simp heads (key-says (behind-says _ (λ _. done-says)))
 
 pub opens-start-says : (k : LuossavinKey) (label iv : List ℕ) → Says false (hostOpensStart k label iv .head)
 unfolding hostOpensStart opensStart
-opens-start-says k label iv = simp heads (key-says (behind-says _ done-says))
+opens-start-says k label iv = simp heads (key-says (behind-says _ (λ _. done-says)))
 
 pub ctr-piece-says : (s : Ctr·state) (e o : List ℕ) → Says false (ctrPiece s e o .head)
 unfolding ctrPiece
-ctr-piece-says s e o = simp heads (key-says (behind-says _ done-says))
+ctr-piece-says s e o = simp heads (key-says (behind-says _ (λ _. done-says)))
 
 pub seal-piece-says : (s : Seal) (e o : List ℕ) → Says false (sealPiece s e o .head)
 unfolding sealPiece
-seal-piece-says s e o = simp heads (key-says (behind-says _ done-says))
+seal-piece-says s e o = simp heads (key-says (behind-says _ (λ _. done-says)))
 
 pub opens-piece-says : (s : Opens) (e : List ℕ) → Says false (opensPiece s e .head)
 unfolding opensPiece
-opens-piece-says s e = simp heads (key-says (behind-says _ done-says))
+opens-piece-says s e = simp heads (key-says (behind-says _ (λ _. done-says)))
 
 -- and the ends what the formula says of the whole: of what came in, counted from the start.
 pub ctr-end-says : (s : Ctr·state) → Says (ctrCameRound (s .first) (blocksOf (s .total))) (ctrEnd s .head)
 unfolding ctrEnd
-ctr-end-says s = simp heads (key-says (behind-says _ done-says))
+ctr-end-says s = simp heads (key-says (behind-says _ (λ _. done-says)))
 
 pub seal-end-says : (s : Seal) (o : List ℕ) → Says (gcmCameRound (s .low) (blocksOf (s .total))) (sealEnd s o .head)
 unfolding sealEnd
-seal-end-says s o = simp heads (key-says (behind-says _ done-says))
+seal-end-says s o = simp heads (key-says (behind-says _ (λ _. done-says)))
 
 pub opens-end-says : (s : Opens) (tag : List ℕ) → Says (gcmCameRound (s .low) (blocksOf (s .total))) (opensEnd s tag .head)
 unfolding opensEnd
 opens-end-says s tag =
     let test = same tag (xors (s .mask) (hashEnd (s .hashing) (s .total % 16) (s .label) (s .total))) in
-    simp heads (key-says (behind-says _ (either-says test done-says (number-says 4 (omega arith)))))
+    simp heads (key-says (behind-says _ (λ _. either-says test done-says (number-says 4 (omega arith)))))
 
 -- The formula is what the walk's own steps say: in Ctr those between the blocks, and not the one after the last;
 pub ctr-steps-say : (dir : Direction) (rk iv d : List ℕ) → length iv ≡ 16 → AreBytes iv

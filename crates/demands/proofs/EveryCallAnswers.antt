@@ -11,10 +11,7 @@ use N.{wrongIv, keyNumber, newCipher, newCipherMode, wrongNumber, modeOf, roomOf
 use N.{Encrypt, Refusal, ErrorBlockSize, WrongNumber, Passed, Refused, ctrStart, opensStart, sealStart, gcmStarting, searchCheck, which}
 use N.{planCall, rangeCall, rangeCheck, reachCheck, callInto, hostBlockCall, hostModeCall, hostCtrStart, hostOpensStart, hostSealStart}
 use N.{cipherIn, hostKeyNew, keyAnswerOf, keyOf, hostCtrByPlan, hostCtrRange, hostWhich, LuossavinKey}
-use Rattle.stream.proofs.RoundTrip.{length-stream}
-use Rattle.cbc.proofs.Blocks.{length-decrypt}
-use Rattle.cbc.proofs.RoundTrip.{length-cbcSeal}
-use Rattle.gcm.proofs.Parts.{length-sealed, length-text}
+use Rattle.demands.proofs.ModesBack.{encrypted, encrypts, length-encrypted, opening}
 use Rattle.cipher_mode.proofs.Passed.{sixteen, message-passed, block-passed, whole-blocks-passed}
 use Rattle.cipher_mode.proofs.Ends.{length-block}
 use Rattle.demands.specs.Answered.{oneOf, singleNumbers, Answered, KeyAnswered, lengthOf}
@@ -64,42 +61,22 @@ block-answers dir k b o =
     (checks-fair o 16 (blockCheck (c .answer) (c .retired) dir (length b) (length o)) (done block o) (λ e.
     done-fair o 16 block _ refl size (rw size (block-passed _ _ _ _ _ e .enough))))
 
-stream-fair : (k : Kind) (rk iv d o : List ℕ) → length d ≤ length o
-    → let x = done (chain (streamMode k rk) iv d) o in Fair o (length d) (x .head) (x .bytes)
-stream-fair k rk iv d o r = done-fair o (length d) (chain (streamMode k rk) iv d) _ refl (length-stream k rk iv d) (rw length-stream r)
-
--- opening in Cbc and in Gcm, by the tests that decide: n bytes of a text p
-module _ (p o : List ℕ) (n : ℕ) (h : n ≤ length p) (r : n ≤ length o) where
-  text-fair : Fair o n (finished n) (over (take n p) o)
-  text-fair = done-fair o n (take n p) n (length-take-le n p h) refl r
-
-  cbc-fair : (none bad : Bool)
-      → let x = written (cbcHead (cond none InvalidLastU8 (cond bad InvalidPadding (Cbc·Done n)))) p o in Fair o n (x .head) (x .bytes)
-  cbc-fair true bad = refused-fair o n 3 (omega arith)
-  cbc-fair false true = refused-fair o n 15 (omega arith)
-  cbc-fair false false = text-fair
-
-  gcm-fair : (t : Bool) → let x = written (gcmHead (cond t (Gcm·Done n) InvalidTag)) p o in Fair o n (x .head) (x .bytes)
-  gcm-fair true = text-fair
-  gcm-fair false = refused-fair o n 4 (omega arith)
+-- what encrypting gives is the table's room, and what decrypting gives has room in it
+lengths-fit : (m : CipherMode) (rk iv d : List ℕ)
+    → (roomOf m Encrypt (length d) ≡ lengthOf m Encrypt rk iv d) × (lengthOf m Decrypt rk iv d ≤ roomOf m Decrypt (length d))
+lengths-fit m rk iv d =
+    elim m [ Cfb ↦ omega arith | Ofb ↦ omega arith | Ctr ↦ omega arith | Cbc ↦ omega arith | Gcm ↦ omega arith ]
 
 result-fair : (m : CipherMode) (dir : Direction) (rk aad d iv o : List ℕ) → wrongIv m (length iv) ≡ false
     → dataCheck dir m (length d) ≡ Passed → roomOf m dir (length d) ≤ length o
     → let x = modeResult m dir rk aad d iv o in Fair o (lengthOf m dir rk iv d) (x .head) (x .bytes)
-unfolding cbcOpen unpadded gcmOpen settled
-result-fair Cfb dir rk aad d iv o n e r = stream-fair (cfbKind dir) rk iv d o r
-result-fair Ofb dir rk aad d iv o n e r = stream-fair Ofb·kind rk iv d o r
-result-fair Ctr dir rk aad d iv o n e r = stream-fair Ctr·kind rk iv d o r
-result-fair Cbc Encrypt rk aad d iv o n e r = done-fair o _ (cbcSeal rk iv d) _ refl (length-cbcSeal rk iv d) (rw length-cbcSeal r)
-result-fair Cbc Decrypt rk aad d iv o n e r =
-    let p = cbcText rk iv d in
-    let l = length-decrypt rk iv d (sixteen (length iv) n) (whole-blocks-passed (length d) e .1) in
-    rw (← l) (cbc-fair p o (length p - lastByte p) (omega arith) (omega arith) (not (namesPadding (lastByte p))) (not (allPadding p)))
-result-fair Gcm Encrypt rk aad d iv o n e r =
-    done-fair o _ (sealed rk (hashKey rk) (J0 rk iv) aad d) _ refl (length-sealed rk (hashKey rk) (J0 rk iv) aad d) (rw length-sealed r)
-result-fair Gcm Decrypt rk aad d iv o n e r =
-    let l = length-text rk (J0 rk iv) (textPart d) ∙ length-take-le (length d - 16) d (omega arith) in
-    gcm-fair (textOf rk (J0 rk iv) (textPart d)) o (length d - 16) (omega arith) r (opensUnder rk (hashKey rk) (J0 rk iv) aad d)
+result-fair m Encrypt rk aad d iv o n e r =
+    let size = length-encrypted m rk aad d iv in
+    rw (encrypts m rk aad d iv o) (done-fair o _ (encrypted m rk aad d iv) _ refl (size ∙ lengths-fit m rk iv d .0) (omega arith))
+result-fair m Decrypt rk aad d iv o n e r =
+    let fits = lengths-fit m rk iv d .1 in
+    ⊎-elim (λ (k, some, x). rw x (refused-fair o _ k some))
+    (λ t. let size = t .size in rw (t .opened) (done-fair o _ (t .text) _ refl size (omega arith))) (opening rk aad d iv o m n e)
 
 -- The exported call on a message, either way: a refusal, or a success of as many bytes as the table says; a mode number over 4 is one
 -- refusal more, before any key stands.

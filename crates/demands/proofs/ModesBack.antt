@@ -1,6 +1,7 @@
 -- In each mode, what encrypting gave is in order for decrypting and decrypts to the message, and the other way about.
 use Rattle.demands.specs.Names as N
-use N.{Kind, false, true, List, _∙_, _≡_, ap, refl, subst, sym, _%_, _≤_, ℕ, arith, length, take, length-take-le, eq-eqb, le-ltb, ne-eqb}
+use N.{Kind, not, inl, inr, _⊎_, ⊎-elim, _-_, _<_, allPadding, lastByte, namesPadding, limitOf, refused}
+use N.{false, true, List, _∙_, _≡_, ap, refl, subst, sym, _%_, _≤_, ℕ, arith, length, take, length-take-le, eq-eqb, le-ltb, ne-eqb}
 use N.{AreBytes, Outcome, done, finished, leaving, reporting, written, chain, over, streamMode, CfbDecrypt, CfbEncrypt, Ctr·kind, Ofb·kind}
 use N.{cbcSeal, cbcOpen, cbcText, cbcHead, unpadded, Opened, Cbc·Done, InvalidLastU8, InvalidPadding, J0, hashKey, opensUnder, sealed}
 use N.{textOf, textPart, gcmOpen, modeResult, dataCheck, wrongIv, limit, roomOf, sealedLimit, CipherMode, Cbc, Cfb, Ctr, Gcm, Ofb, Decrypt}
@@ -8,7 +9,8 @@ use N.{Encrypt, Passed}
 use Rattle.stream.proofs.RoundTrip.{length-stream, stream-back, stream-forth}
 use Rattle.cbc.proofs.RoundTrip.{length-cbcSeal, cbc-back}
 use Rattle.cbc.proofs.SealsBack.{cbc-seals-back}
-use Rattle.cbc.proofs.Unpadded.{unpadded-le}
+use Rattle.cbc.proofs.Blocks.{length-decrypt}
+use Rattle.demands.specs.Answered.{lengthOf}
 use Rattle.gcm.proofs.Parts.{length-sealed}
 use Rattle.gcm.proofs.RoundTrip.{opens-sealed, text-of-sealed, sealed-of-opened}
 use Rattle.gcm.proofs.Settled.{text-size, open-refused, open-done}
@@ -72,64 +74,72 @@ module _ (rk aad d iv : List ℕ) (iv-bytes : AreBytes iv) (d-bytes : AreBytes d
             rw (← open-done rk h j aad (sealed rk h j aad d) o (omega arith) (opens-sealed rk h j aad d), text-of-sealed rk h j aad d);
       }
 
--- the data c decrypted to a text that is in order for encrypting, and encrypts to c
-pub record Encrypts (m : CipherMode) (rk aad c iv o : List ℕ) : Type 0 where
-  pub text : List ℕ
-  pub opened : modeResult m Decrypt rk aad c iv o ≡ reporting (roundOf m Decrypt rk iv (length c)) (done text o)
-  pub content : dataCheck Encrypt m (length text) ≡ Passed
-  pub again : encrypted m rk aad text iv ≡ c
-
 -- a message of Gcm that was opened is one that opens
 pub opened-opens : (rk : List ℕ) (h : ℕ) (j aad c o : List ℕ) → gcmOpen rk h j aad c o .head .number ≡ 0 → opensUnder rk h j aad c ≡ true
 opened-opens rk h j aad c o z =
     split _ (opensUnder rk h j aad c) (λ e. e) (λ e.
-    let four : _≡_ {A = ℕ} 4 0 = ap (λ (x : Outcome). x .head .number) (open-refused rk h j aad c o e) ∙ z in
+    let four : _≡_ {A = ℕ} 4 0 = rw (← open-refused rk h j aad c o e) at z in
     absurd (omega arith))
 
--- a message of Cbc that was opened is one with a padding, of which n bytes are the text
-unpadded-by : (p o : List ℕ) (a : Opened) → written (cbcHead a) p o .head .number ≡ 0
-    → (n : ℕ) × (a ≡ Cbc·Done n) × (n ≤ length p → written (cbcHead a) p o ≡ done (take n p) o)
-unpadded-by p o (Cbc·Done n) z = (n, refl, λ h. rw (length-take-le n p h))
-unpadded-by p o InvalidLastU8 z = absurd (omega arith)
-unpadded-by p o InvalidPadding z = absurd (omega arith)
+-- the data c decrypted to a text of the table's length, which encrypts to c
+pub record Encrypts (m : CipherMode) (rk aad c iv o : List ℕ) : Type 0 where
+  pub text : List ℕ
+  pub opened : modeResult m Decrypt rk aad c iv o ≡ reporting (roundOf m Decrypt rk iv (length c)) (done text o)
+  pub size : length text ≡ lengthOf m Decrypt rk iv c
+  pub again : AreBytes c → encrypted m rk aad text iv ≡ c
 
 module _ (rk aad c iv o : List ℕ) where
   abbrev streamed : Kind → List ℕ
   streamed k = chain (streamMode k rk) iv c
 
-  -- in every mode
-  pub forth : (m : CipherMode) → wrongIv m (length iv) ≡ false → AreBytes c → dataCheck Decrypt m (length c) ≡ Passed
-      → modeResult m Decrypt rk aad c iv o .head .number ≡ 0 → (m ≡ Cbc → modeResult m Decrypt rk aad c iv o .head .size ≤ limit)
-      → Encrypts m rk aad c iv o
-  unfolding dataCheck cbcOpen
-  forth Cfb n b e z l =
-      record { text = streamed CfbDecrypt; opened = refl; content = rw length-stream e; again = stream-forth CfbEncrypt rk iv c }
-  forth Ofb n b e z l =
-      record { text = streamed Ofb·kind; opened = refl; content = rw length-stream e; again = stream-forth Ofb·kind rk iv c }
-  forth Ctr n b e z l =
-      record { text = streamed Ctr·kind; opened = refl; content = rw length-stream e; again = stream-forth Ctr·kind rk iv c }
-  forth Cbc n b e z l =
+  -- decrypting refuses, with the output as it was lent, or gives such a text
+  pub opening : (m : CipherMode) → wrongIv m (length iv) ≡ false → dataCheck Decrypt m (length c) ≡ Passed
+      → ((n : ℕ) × (0 < n) × (modeResult m Decrypt rk aad c iv o ≡ refused n o)) ⊎ Encrypts m rk aad c iv o
+  unfolding cbcOpen unpadded
+  opening Cfb n e =
+      inr (record { text = streamed CfbDecrypt; opened = refl; size = simp length-stream; again = λ _. stream-forth CfbEncrypt rk iv c })
+  opening Ofb n e =
+      inr (record { text = streamed Ofb·kind; opened = refl; size = simp length-stream; again = λ _. stream-forth Ofb·kind rk iv c })
+  opening Ctr n e =
+      inr (record { text = streamed Ctr·kind; opened = refl; size = simp length-stream; again = λ _. stream-forth Ctr·kind rk iv c })
+  opening Cbc n e =
       let p = cbcText rk iv c in
-      let (n₁, is-done, opened) = unpadded-by p o (unpadded p) z in
-      let fits = unpadded-le p n₁ is-done in
-      let size = length-take-le n₁ p fits in
-      let small : n₁ ≤ limit = rw is-done at (l refl) in
-      record {
-        text = take n₁ p;
-        opened = opened fits;
-        content = rw (le-ltb limit (length (take n₁ p)) (omega arith));
-        again = cbc-seals-back rk iv c n₁ (sixteen (length iv) n) b (whole-blocks-passed (length c) e .1) is-done;
-      }
-  forth Gcm n b e z l =
+      let k = length p - lastByte p in
+      let whole = whole-blocks-passed (length c) e .1 in
+      let size = length-take-le k p (omega arith) in
+      split _ (not (namesPadding (lastByte p))) (λ f. inl (3, omega arith, rw f))
+      (λ f. split _ (not (allPadding p)) (λ g. inl (15, omega arith, rw (f, g)))
+      (λ g. inr (record {
+        text = take k p;
+        opened = rw (f, g, size);
+        size = size ∙ rw (length-decrypt rk iv c (sixteen (length iv) n) whole);
+        again = λ b. cbc-seals-back rk iv c k (sixteen (length iv) n) b whole (rw (f, g));
+      })))
+  opening Gcm n e =
       let h = hashKey rk in
       let j = J0 rk iv in
       let long = with-tag-passed (length c) e in
-      let short = data-within Decrypt Gcm (length c) e in
-      let t = opened-opens rk h j aad c o z in
-      let size = text-size rk h j aad c o long in
-      record {
+      split _ (opensUnder rk h j aad c)
+      (λ t. inr (record {
         text = textOf rk j (textPart c);
         opened = rw (← open-done rk h j aad c o long t);
-        content = rw (le-ltb limit (length (textOf rk j (textPart c))) (omega arith));
-        again = sealed-of-opened rk h j aad c t;
-      }
+        size = text-size rk h j aad c o long;
+        again = λ _. sealed-of-opened rk h j aad c t;
+      }))
+      (λ t. inl (4, omega arith, rw (← open-refused rk h j aad c o t)))
+
+  -- such a text may be encrypted, in Cbc if it is no longer than that allows
+  within : (m : CipherMode) → length c ≤ limitOf Decrypt m → (m ≡ Cbc → lengthOf m Decrypt rk iv c ≤ limit)
+      → lengthOf m Decrypt rk iv c ≤ limit
+  within m = elim m [ Cfb ↦ λ h _. h | Ofb ↦ λ h _. h | Ctr ↦ λ h _. h | Cbc ↦ λ _ l. l refl | Gcm ↦ λ h _. omega arith ]
+
+  pub forth : (m : CipherMode) → wrongIv m (length iv) ≡ false → dataCheck Decrypt m (length c) ≡ Passed
+      → modeResult m Decrypt rk aad c iv o .head .number ≡ 0 → (m ≡ Cbc → modeResult m Decrypt rk aad c iv o .head .size ≤ limit)
+      → (t : Encrypts m rk aad c iv o) × (dataCheck Encrypt m (length (t .text)) ≡ Passed)
+  unfolding dataCheck
+  forth m n e z l =
+      ⊎-elim (λ (k, some, x). let none : k ≡ 0 = rw x at z in absurd (omega arith))
+      (λ t.
+      let small = within m (data-within Decrypt m (length c) e) (λ f. rw (t .opened, t .size) at (l f)) in
+      (t, rw (t .size, le-ltb limit (lengthOf m Decrypt rk iv c) small)))
+      (opening m n e)

@@ -72,15 +72,15 @@ module _ (k later : LuossavinKey) (s : SameKey k later) where
       let y : hostModeCall Decrypt mode later label text iv o
       ≡ keyed (keyNumber (cipherIn later)) (modeResult (modeOf mode) Decrypt rk label text iv o) =
       host-leaves Decrypt mode later label text iv o (b, p) ∙ rw (s .keys) in
-      let t = forth rk label text iv o (modeOf mode) (p .iv-size) cb (p .content) (rw y at e) (rw y at (r .0)) in
+      let (t, fits) = forth rk label text iv o (modeOf mode) (p .iv-size) (p .content) (rw y at e) (rw y at (r .0)) in
       let x = rw (t .opened) at y in
       let key = sym (same-key .0) ∙ p .key in
       let may = allowed Encrypt k (λ _. u) in
       let q : Ready Encrypt mode k label (t .text) iv o′ = (
         b,
-        record { key = key; iv-size = p .iv-size; may = may; label = p .label; content = t .content; room = rw x at (r .1) },
+        record { key = key; iv-size = p .iv-size; may = may; label = p .label; content = fits; room = rw x at (r .1) },
       ) in
-      rw (x, result-of-done (t .text) o, host-encrypts mode k label (t .text) iv o′ q, t .again)
+      rw (x, result-of-done (t .text) o, host-encrypts mode k label (t .text) iv o′ q, t .again cb)
       (record { number = refl; size = refl; message = result-of-done text o′ })
 
   -- If encryption of one block answers 0, decryption of the result, given room, answers 0 with the block;
