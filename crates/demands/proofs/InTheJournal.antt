@@ -97,12 +97,6 @@ module _ (keys : LuossavinKeys) (e : Entry) (r : Recorded keys e) where
   recorded-agrees : differs (keysIn (keysOf keys)) e ≡ false
   recorded-agrees = rw as-answered at (answered-agrees (keysIn (keysOf keys)) e)
 
--- calls that stand in a journal are replayed to the end
-stored-ends : (ks : List Sm4Cipher) (es : List Entry) → AllReplayable ks es
-    → Ends ks (stored es) 0 nothing (done (countedAll ks es 0 nothing))
-stored-ends ks es all =
-    record { calls = es; rest = []; split = sym (append-nil (stored es)); replayable = all; why = refl; place = refl; report = refl }
-
 all-good : (keys : LuossavinKeys) (es : List Entry) → AllRecorded keys es
     → AllReplayable (keysIn (keysOf keys)) es × NoneDiffers (keysIn (keysOf keys)) es
 all-good keys [] a = (tt, tt)
@@ -120,10 +114,13 @@ module _ (keys : LuossavinKeys) (good : badKeys (keysOf keys) ≡ false) (es : L
   exported-night-replayed = rw night-told
 
   pub exported-night-agrees : hostReplay keys (stored es) .differs ≡ 0
-  unfolding toldOf stored-ends
+  unfolding toldOf
   exported-night-agrees =
+      let ks = keysIn (keysOf keys) in
       let (p, q) = all-good keys es all in
-      rw (night-told, none-told (keysIn (keysOf keys)) (stored es) _ (stored-ends (keysIn (keysOf keys)) es p) q)
+      let ends : Ends ks (stored es) 0 nothing (done (countedAll ks es 0 nothing)) =
+      record { calls = es; rest = []; split = sym (append-nil (stored es)); replayable = p; why = refl; place = refl; report = refl } in
+      rw (night-told, none-told ks (stored es) _ ends q)
 
 -- so is what the writer wrote of one
 module _ (keys : LuossavinKeys) (good : badKeys (keysOf keys) ≡ false) (e : Entry) (r : Recorded keys e) (o : List ℕ) (n : ℕ)
@@ -161,17 +158,15 @@ known-end : (e : Ended) → oneOf (numberOfEnd e) (0 ∷ 23 ∷ 24 ∷ 25 ∷ 26
 known-end e = elim e [ Done ↦ refl | BadRecord ↦ refl | TooLong ↦ refl | UnknownKey ↦ refl | BadKeys ↦ refl ]
 
 -- a journal that is replayed to its end has no place, and no record ends with bad keys
-abbrev Ending : Replayed → Type 0
-Ending x = (numberOfEnd (x .ended) ≡ 0 → x .place ≡ 0) × (numberOfEnd (x .ended) < 26)
-
 the-ending : (k : Keys) (journal : List ℕ) → (numberOfEnd (replay k journal .ended) ≡ 0 → replay k journal .place ≡ 0)
     × (numberOfEnd (replay k journal .ended) ≡ 26 → replay k journal ≡ record { ended = BadKeys; place = 0; report = nothing })
 the-ending k journal =
     split _ (badKeys k) (λ e. rw (bad-keys k journal e) (λ _. refl, λ _. refl))
     (λ e.
     let (place, known) =
-    by-replay (keysIn k) (λ b place r x. Ending x) (λ b place r z. omega arith) (λ b place r z s. omega arith)
-    (λ b place r s t. omega arith) (λ b place r s t n. omega arith) (λ b place r x p q. q) journal 0 nothing in
+    by-replay (keysIn k) (λ b place r x. (numberOfEnd (x .ended) ≡ 0 → x .place ≡ 0) × (numberOfEnd (x .ended) < 26))
+    (λ b place r z. omega arith) (λ b place r z s. omega arith) (λ b place r s t. omega arith) (λ b place r s t n. omega arith)
+    (λ b place r x p q. q) journal 0 nothing in
     rw (from-start k journal e) (place, λ z. absurd (omega arith)))
 
 pub exported-replay-answers : (k : LuossavinKeys) (journal : List ℕ) → ReplayAnswered (hostReplay k journal)

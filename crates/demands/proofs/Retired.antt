@@ -87,14 +87,9 @@ unfolding anyRetired
 among [] k after r = rw r
 among (j ∷ before) k after r = rw (among before k after r) (or-true (cipherIn j .retired))
 
-bad-keys : (keys : LuossavinKeys) (before after : List LuossavinKey) (k : LuossavinKey) → cipherIn k .retired ≡ true
-    → take (keys .count) (keys .keys) ≡ before ++ (k ∷ after) → badKeys (keysOf keys) ≡ true
-unfolding badKeys keysOf
-bad-keys keys before after k r e = rw (taken (keys .count) (keys .keys), e, among before k after r) (or-true (ltb 8 (keys .count)))
-
 pub retired-encrypts-nothing : (k : LuossavinKey) → k .retired ≢ 0 → EncryptsNothing k
 unfolding cipherIn hostBlockCall hostCtrStart ctrStart hostSealStart sealStart gcmStarting hostCtrRange rangeCall rangeCheck hostCtrByPlan
-    planCall reachCheck hostReplay replay
+    planCall reachCheck hostReplay replay keysOf badKeys
 retired-encrypts-nothing k n =
     let c = cipherIn k in
     let r : cipherIn k .retired ≡ true = rw (ne-eqb (k .retired) 0 n) in
@@ -107,5 +102,6 @@ retired-encrypts-nothing k n =
           let reach = reachCheck (c .answer) (c .retired) Encrypt (length iv) (offset + length d) in
           no-more c r Ctr·mode (length iv) _ (both reach _ (zero-passed _ o _ e) .0);
       by-plan = λ iv plan d o e. no-more c r Ctr·mode (length iv) _ (zero-passed _ o _ e);
-      replay = λ keys before after journal e. rw (bad-keys keys before after k r e);
+      replay = λ keys before after journal e.
+          rw (taken (keys .count) (keys .keys), e, among before k after r, or-true (ltb 8 (keys .count)));
     }
