@@ -3,9 +3,9 @@
 use Rattle.demands.specs.Names as N
 use N.{not, Bool, _&&_, cond, false, true, List, [], _∷_, map, _≢_, _⊎_, inl, inr, _∙_, _≡_, ap, refl, _<_, _≤_, ℕ, arith, eqb, drop, getD}
 use N.{length, length-append, length-drop, drop-at, eqb-false, Head, Outcome, finished, refusal, refuseAs, over, refusalHead, checked}
-use N.{Ending, Done, Refused·ending, Refusal, EmptyCbc, Ended, ErrorBlockSize, ErrorDataLen, Refusal·LastU8, Refusal·Padding, Refusal·Tag}
-use N.{NoRoom, Retired, ShortGcm, TooLong, WrongBlock, WrongIv, WrongNumber, Checked, Passed, Refused, Stepped, begun, goesOn, under}
-use N.{Verdict, checkedVerdict, noneWith, onKey}
+use N.{Refusal, EmptyCbc, Ended, ErrorBlockSize, ErrorDataLen, Refusal·LastU8, Refusal·Padding, Refusal·Tag, NoRoom, Retired, ShortGcm}
+use N.{TooLong, WrongBlock, WrongIv, WrongNumber, Checked, Passed, Refused, Stepped, begun, goesOn, under, Verdict, checkedVerdict}
+use N.{noneWith, onKey}
 use Rattle.cipher_mode.proofs.Refusals.{refuses}
 use Rattle.demands.specs.Answered.{oneOf, Answered}
 use Rattle.demands.specs.WhichNumber.{Said, Row, firstOf}

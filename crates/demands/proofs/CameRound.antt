@@ -1,25 +1,21 @@
 -- Counters: those of a 12-byte IV in Gcm are SP 800-38D's, and what the answers say of a counter. J0 has sixteen bytes, whatever the IV
 -- has.
 use Rattle.demands.specs.Names as N
-use N.{Bool, cond, false, true, List, [], _++_, _∷_, _≢_, _∙_, _≡_, ap, ap₂, refl, _%_, _+_, _-_, _/_, _<_, _^_, _≤_, ℕ, arith, eqb, ltb}
-use N.{length, length-append, drop-at, length-take-le, take-at, eq-eqb, eqb-false, eqb-true, lt-leb, ne-eqb, AreBytes, bytesOf, numberOf}
-use N.{same, xors, blocksOf, ctrCameRound, gcmCameRound, gcmNext, lastFour, Head, Outcome, finished, refusal, reporting, telling, under}
-use N.{ghash, ctrWalkSays, gcmWalkSays, cbcOpen, cbcText, cbcHead, unpadded, Opened, Cbc·Done, InvalidLastU8, InvalidPadding, J0}
-use N.{firstCounter, hashKey, sealed, tagOf, textOf, textPart, gcmOpen, refusalHead, blockCall, lengthsOf, modeCall, modeResult, checked}
-use N.{messageCheck, keyNumber, limitOf, modeOf, sealedLimit, CipherMode, Cbc, Cfb, Ctr, Gcm, Ofb, Direction, Decrypt, Encrypt, Refusal}
-use N.{Checked, Passed, Refused, Stepped, begun, ctrEnd, ctrPiece, ctrStart, goesOn, opensEnd, opensPiece, opensStart, sealEnd, sealPiece}
-use N.{sealStart, running, tagged, writing, hashEnd, Ctr·state, Opens, Seal, badList, Verdict, checkedVerdict, firstOpening, noneWith}
-use N.{onKey, opensWith, searchCheck, which, planCall, rangeCall, Plan, hostBlockCall, hostModeCall, modeIn, hostCtrStart, hostOpensStart}
-use N.{accepts, not, hostSealStart, cipherIn, hostCtrByPlan, hostCtrRange, hostWhich, LuossavinKey}
+use N.{Bool, cond, false, true, List, [], _∷_, _∙_, _≡_, ap, refl, _%_, _+_, _-_, _/_, _<_, _^_, _≤_, ℕ, arith, eqb, ltb, length}
+use N.{length-append, drop-at, length-take-le, take-at, eq-eqb, eqb-false, eqb-true, lt-leb, AreBytes, bytesOf, numberOf, same, xors}
+use N.{blocksOf, ctrCameRound, gcmCameRound, gcmNext, lastFour, Head, finished, refusal, telling, under, ctrWalkSays, gcmWalkSays, J0}
+use N.{firstCounter, hashKey, sealed, textOf, textPart, blockCall, modeCall, modeResult, limitOf, modeOf, CipherMode, Ctr, Gcm, Direction}
+use N.{Decrypt, Encrypt, Checked, Passed, Refused, ctrEnd, ctrPiece, ctrStart, opensEnd, opensPiece, opensStart, sealEnd, sealPiece}
+use N.{sealStart, hashEnd, Ctr·state, Opens, Seal, badList, which, planCall, rangeCall, Plan, hostBlockCall, hostModeCall, hostCtrStart}
+use N.{hostOpensStart, accepts, not, hostSealStart, cipherIn, hostCtrByPlan, hostCtrRange, hostWhich, LuossavinKey, ⊎-elim, dataCheck}
+use N.{wrongIv}
 use Rattle.block.proofs.Convert.{length-bytesOf, bytesOf-bytes}
-use Rattle.demands.specs.Call.{result}
-use Rattle.demands.specs.CameRound.{followedBy, textFromTwo, CountsFromTwo, roundOf, Says}
+use Rattle.demands.specs.CameRound.{followedBy, CountsFromTwo, roundOf, Says}
 use Rattle.demands.proofs.Through.{result-of-done, host-through, host-leaves}
 use Rattle.block.proofs.Entries.{below-append}
 use Rattle.stream.proofs.CounterSteps.{ctr-walk-says, gcm-walk-says}
 use Rattle.cipher_mode.proofs.Passed.{data-within, message-passed}
 use Rattle.demands.proofs.ModesBack.{encrypts, opening}
-use N.{⊎-elim, dataCheck, wrongIv}
 use Rattle.cipher_mode.proofs.Refusals.{refuses}
 use Rattle.editions.proofs.FirstOpening.{search-number}
 use Rattle.demands.proofs.Answering.{split, headBehind, heads}
@@ -169,9 +165,7 @@ pub seal-steps-say : (rk iv d : List ℕ) → AreBytes iv → gcmWalkSays rk (J0
 seal-steps-say rk iv d a = gcm-walk-says rk (J0 rk iv) d (length-counter (hashKey rk) iv) (j0-bytes rk iv a)
 
 pub open-steps-say : (rk iv s : List ℕ) → AreBytes iv → gcmWalkSays rk (J0 rk iv) (textPart s) ≡ roundOf Gcm Decrypt rk iv (length s)
-open-steps-say rk iv s a =
-    seal-steps-say rk iv (textPart s) a
-    ∙ ap (λ (n : ℕ). roundOf Gcm Encrypt rk iv n) (length-take-le (length s - 16) s (omega arith))
+open-steps-say rk iv s a = rw (length-take-le (length s - 16) s (omega arith)) at (seal-steps-say rk iv (textPart s) a)
 
 -- With a 12-byte IV Gcm says no, whatever it is asked: the counters begin at 1 and the limit ends them long before.
 twelve-low : (rk iv : List ℕ) → length iv ≡ 12 → lastFour (J0 rk iv) ≡ 1

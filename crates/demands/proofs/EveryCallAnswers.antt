@@ -1,26 +1,22 @@
 -- Demand 1: every call ends with an answer. A refusal reports length 0 and leaves the output as it was lent; a success reports
 -- the length of the table of lengths and leaves what lies past it as it was lent. For all inputs.
 use Rattle.demands.specs.Names as N
-use N.{finished, over, suc, zero, NoKey, NoNumber}
-use N.{Bool, _||_, cond, false, not, true, List, _≢_, _⊎_, ⊎-elim, _∙_, _≡_, ap, refl, subst, sym, _-_, _<_, _≤_, ℕ, arith, eqb, ltb}
-use N.{length, take, length-take-le, eq-eqb, le-ltb, lt-ltb, ltb-false, ne-eqb, Head, done, refusal, written, chain, streamMode, Kind}
-use N.{Ctr·kind, Ofb·kind, cbcSeal, allPadding, cbcOpen, cbcText, cbcHead, lastByte, namesPadding, unpadded, Cbc·Done, InvalidLastU8}
-use N.{InvalidPadding, J0, hashKey, opensUnder, sealed, textOf, textPart, gcmOpen, gcmHead, settled, Gcm·Done, InvalidTag, refusalHead}
-use N.{blockCall, blockOf, cfbKind, lengthsOf, modeCall, modeResult, blockCheck, dataCheck, keyAndIv, keyCheck, labelCheck, messageCheck}
-use N.{wrongIv, keyNumber, newCipher, newCipherMode, wrongNumber, modeOf, roomOf, CipherMode, Cbc, Cfb, Ctr, Gcm, Ofb, Direction, Decrypt}
-use N.{Encrypt, Refusal, ErrorBlockSize, WrongNumber, Passed, Refused, ctrStart, opensStart, sealStart, gcmStarting, searchCheck, which}
-use N.{planCall, rangeCall, rangeCheck, reachCheck, callInto, hostBlockCall, hostModeCall, hostCtrStart, hostOpensStart, hostSealStart}
-use N.{cipherIn, hostKeyNew, keyAnswerOf, keyOf, hostCtrByPlan, hostCtrRange, hostWhich, LuossavinKey}
+use N.{suc, zero, NoKey, NoNumber, cond, false, not, true, List, _≢_, _⊎_, ⊎-elim, _∙_, _≡_, refl, _<_, _≤_, ℕ, arith, eqb, ltb, length}
+use N.{eq-eqb, le-ltb, lt-ltb, ne-eqb, done, refusal, refusalHead, blockCall, blockOf, lengthsOf, modeCall, modeResult, blockCheck}
+use N.{dataCheck, keyAndIv, keyCheck, messageCheck, wrongIv, keyNumber, newCipher, newCipherMode, wrongNumber, modeOf, roomOf, CipherMode}
+use N.{Cbc, Cfb, Ctr, Gcm, Ofb, Direction, Decrypt, Encrypt, Refusal, ErrorBlockSize, WrongNumber, Passed, Refused, ctrStart, opensStart}
+use N.{sealStart, gcmStarting, searchCheck, which, planCall, rangeCall, rangeCheck, reachCheck, callInto, hostBlockCall, hostModeCall}
+use N.{hostCtrStart, hostOpensStart, hostSealStart, cipherIn, hostKeyNew, keyAnswerOf, hostCtrByPlan, hostCtrRange, hostWhich, LuossavinKey}
 use Rattle.demands.proofs.ModesBack.{encrypted, encrypts, length-encrypted, opening}
-use Rattle.cipher_mode.proofs.Passed.{sixteen, message-passed, block-passed, whole-blocks-passed}
+use Rattle.cipher_mode.proofs.Passed.{message-passed, block-passed}
 use Rattle.cipher_mode.proofs.Ends.{length-block}
-use Rattle.demands.specs.Answered.{oneOf, singleNumbers, Answered, KeyAnswered, lengthOf}
+use Rattle.demands.specs.Answered.{singleNumbers, Answered, KeyAnswered, lengthOf}
 use Rattle.demands.proofs.Through.{new-is-new}
 use mathlib.Core.Bool.{or-true}
 use Rattle.cipher_mode.specs.Key.{noCipher}
 use Rattle.demands.specs.WhichNumber.{blockRows, encryptRows, decryptRows}
 use Rattle.demands.proofs.WhichNumber.{exported-block-number, exported-encryption-number, exported-decryption-number}
-use Rattle.demands.proofs.Answering.{numbered, within, Fair, answered, refused-fair, done-fair, checks-fair, front-fair, split}
+use Rattle.demands.proofs.Answering.{numbered, Fair, answered, refused-fair, done-fair, checks-fair, front-fair, split}
 use Rattle.demands.specs.NoUsableKey.{NoUsableKey}
 
 -- where one of the two ends of the range is passed, the number is wrong

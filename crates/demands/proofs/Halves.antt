@@ -1,11 +1,10 @@
 -- Hashes of halves, joined: over the exported calls they are the hash of the whole, and with two encrypted blocks they make the tag that
 -- the single call makes.
 use Rattle.demands.specs.Names as N
-use N.{cond, false, List, [], _++_, _∷_, append-assoc, ⊎-elim, _∙_, _≡_, ap, ap₂, refl, sym, _*_, _+_, _/_, ℕ, div-add-mod', arith, eqb}
-use N.{length, length-append, replicate, eq-eqb, bytesOf, numberOf, xors, Element, encryptBlock, authBlocks, blockCount, blocks, ghash}
-use N.{lengthBlock, joined, J0, firstCounter, hashKey, hashedCounter, sealed, tagOf, tagPart, textOf, textPart, retiredCheck, wrongIv}
-use N.{modeOf, Gcm, Encrypt, Key, Passed, value, hashOf, hostHashBlocks, hostHashJoin, hostBlockCall, hostModeCall, cipherIn}
-use N.{U128, LuossavinKey}
+use N.{false, List, [], _++_, _∷_, append-assoc, ⊎-elim, _∙_, _≡_, refl, sym, _*_, _/_, ℕ, div-add-mod', arith, length, length-append}
+use N.{replicate, eq-eqb, bytesOf, numberOf, Element, encryptBlock, authBlocks, blocks, ghash, lengthBlock, joined, J0, firstCounter}
+use N.{hashKey, sealed, tagOf, textOf, retiredCheck, wrongIv, modeOf, Gcm, Encrypt, Key, Passed, value, hashOf, hostHashBlocks}
+use N.{hostHashJoin, hostBlockCall, hostModeCall, cipherIn, LuossavinKey}
 use Rattle.block.proofs.Convert.{length-bytesOf}
 use Rattle.field.proofs.Bounded.{whole-lt}
 use Rattle.ghash.proofs.Blocks.{blocks-full, blocks-append, length-blocks}
@@ -13,10 +12,9 @@ use Rattle.ghash.proofs.JoinedBytes.{joins, joins-bytes}
 use Rattle.gcm.proofs.HashKey.{hashKey-lt}
 use Rattle.gcm.proofs.Parts.{parts-text, parts-tag, sealed-text, sealed-tag}
 use Rattle.cipher_mode.proofs.Passed.{iv-twelve-or-sixteen}
-use Rattle.demands.specs.Call.{inGcm, result}
-use Rattle.demands.specs.Halves.{WholeBlocks, JoinsHalves, enciphered, keyOfHash, bytesIn, pair, counterOf, hashOfAll, tagOfHalves}
+use Rattle.demands.specs.Call.{inGcm}
+use Rattle.demands.specs.Halves.{WholeBlocks, JoinsHalves, enciphered, keyOfHash, pair, counterOf, hashOfAll, tagOfHalves}
 use Rattle.demands.specs.Halves.{TagsByHalves}
-use Rattle.demands.specs.CameRound.{followedBy}
 use Rattle.demands.proofs.CameRound.{length-counter}
 use Rattle.demands.proofs.Through.{result-of-done, through, leaves, block-leaves}
 

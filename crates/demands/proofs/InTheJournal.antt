@@ -1,15 +1,12 @@
 -- The replay of a journal, as a host is told of it: demand 1, which number it ends with; two journals joined; and that calls which were
 -- recorded as they were answered agree.
 use Rattle.demands.specs.Names as N
-use N.{Bool, cond, false, not, true, List, [], _++_, _∷_, append-nil, inl, inr, ⊎-elim, _∙_, _≡_, ap, refl, sym, _+_, _<_, suc, zero, ℕ}
-use N.{getD, take-append-seam, _-_}
-use N.{arith, eqb, ltb, drop, length, take, lt-ltb, AreBytes, Head, Outcome, Sm4Cipher, AllReplayable, Ends, NoneDiffers, Totals}
-use N.{countedAll, differs, Entry, front·journal as front, sizeAt·journal as sizeAt, startsRecord·journal as startsRecord}
-use N.{stored·journal as stored, tooLong, written·journal as written, added, behindReport, badKeys, hasNumber, keyOf·journal as keyOf}
-use N.{keysIn, answeredBy, callInto, recomputed, resultOf as result, done·journal as done, numberOfEnd, journalRefuse as refuse, replay}
-use N.{replayOne, replayUpTo, nothing, write, Journal·end as Ended, BadKeys, BadRecord, Done·journal as Done, TooLong·journal as TooLong}
-use N.{UnknownKey, Replayed, Keys, Report, Done·wrote, NoRoom·wrote as NoRoom, hostModeCall, hostReplay, keysOf, toldOf·journal as toldOf}
-use N.{LuossavinKeys}
+use N.{false, true, List, [], _++_, _∷_, append-nil, inl, inr, ⊎-elim, _∙_, _≡_, ap, refl, sym, _<_, ℕ, getD, take-append-seam, _-_, arith}
+use N.{ltb, length, take, lt-ltb, AreBytes, Head, Sm4Cipher, AllReplayable, Ends, NoneDiffers, Totals, countedAll, differs, Entry}
+use N.{stored·journal as stored, written·journal as written, added, behindReport, badKeys, keyOf·journal as keyOf, keysIn, answeredBy}
+use N.{callInto, recomputed, resultOf as result, done·journal as done, numberOfEnd, replay, nothing, write, Journal·end as Ended, BadKeys}
+use N.{BadRecord, Done·journal as Done, TooLong·journal as TooLong, UnknownKey, Replayed, Keys, Done·wrote, NoRoom·wrote as NoRoom}
+use N.{hostModeCall, hostReplay, keysOf, toldOf·journal as toldOf, LuossavinKeys}
 use Rattle.journal.proofs.Sums.{replay-adds-up, first-replayed}
 use Rattle.journal.proofs.Lent.{any-output-head, any-output-result}
 use Rattle.journal.proofs.Joined.{joined}

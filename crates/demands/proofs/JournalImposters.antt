@@ -1,10 +1,8 @@
 -- Imposters put in the place of a replay: each breaks the definition, at a journal that is named.
 use Rattle.demands.specs.Names as N
-use N.{arith, _∙_}
-use N.{false, true, List, [], _∷_, append-nil, _≢_, _≡_, ap, refl, sym, ℕ, lit<, AreBytes, numberOf, Replayable, countedAll, differs}
-use N.{marked·journal as marked, pastLimit, startsPart, startsRecord·journal as startsRecord, stored·journal as stored, anyRetired, badKeys}
-use N.{keysIn, numberTwice, placeOf, callInto, differsFrom, done·journal as done, numberOfEnd, replay, counted, nothing, BadRecord}
-use N.{Replayed}
+use N.{arith, _∙_, false, List, [], _∷_, _≢_, _≡_, refl, ℕ, lit<, numberOf, Replayable, countedAll, marked·journal as marked, pastLimit}
+use N.{startsPart, startsRecord·journal as startsRecord, stored·journal as stored, anyRetired, badKeys, keysIn, numberTwice, placeOf}
+use N.{callInto, differsFrom, done·journal as done, numberOfEnd, replay, counted, nothing, BadRecord, Replayed}
 use Rattle.journal.proofs.Ending.{replayed-whole}
 use Rattle.journal.proofs.Replaying.{from-start, from-bad}
 use Rattle.demands.proofs.Imposters.{apart}

@@ -1,11 +1,9 @@
 -- In each mode, what encrypting gave is in order for decrypting and decrypts to the message, and the other way about.
 use Rattle.demands.specs.Names as N
-use N.{Kind, not, inl, inr, _⊎_, ⊎-elim, _-_, _<_, allPadding, lastByte, namesPadding, limitOf, refused}
-use N.{false, true, List, _∙_, _≡_, ap, refl, subst, sym, _%_, _≤_, ℕ, arith, length, take, length-take-le, eq-eqb, le-ltb, ne-eqb}
-use N.{AreBytes, Outcome, done, finished, leaving, reporting, written, chain, over, streamMode, CfbDecrypt, CfbEncrypt, Ctr·kind, Ofb·kind}
-use N.{cbcSeal, cbcOpen, cbcText, cbcHead, unpadded, Opened, Cbc·Done, InvalidLastU8, InvalidPadding, J0, hashKey, opensUnder, sealed}
-use N.{textOf, textPart, gcmOpen, modeResult, dataCheck, wrongIv, limit, roomOf, sealedLimit, CipherMode, Cbc, Cfb, Ctr, Gcm, Ofb, Decrypt}
-use N.{Encrypt, Passed}
+use N.{Kind, not, inl, inr, _⊎_, ⊎-elim, _-_, _<_, allPadding, lastByte, namesPadding, limitOf, refused, false, true, List, _∙_, _≡_, refl}
+use N.{_%_, _≤_, ℕ, arith, length, take, length-take-le, eq-eqb, le-ltb, ne-eqb, AreBytes, done, reporting, chain, streamMode, CfbDecrypt}
+use N.{CfbEncrypt, Ctr·kind, Ofb·kind, cbcSeal, cbcOpen, cbcText, unpadded, J0, hashKey, opensUnder, sealed, textOf, textPart, gcmOpen}
+use N.{modeResult, dataCheck, wrongIv, limit, roomOf, sealedLimit, CipherMode, Cbc, Cfb, Ctr, Gcm, Ofb, Decrypt, Encrypt, Passed}
 use Rattle.stream.proofs.RoundTrip.{length-stream, stream-back, stream-forth}
 use Rattle.cbc.proofs.RoundTrip.{length-cbcSeal, cbc-back}
 use Rattle.cbc.proofs.SealsBack.{cbc-seals-back}

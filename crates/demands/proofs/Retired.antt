@@ -1,12 +1,11 @@
 -- Keys that open and no longer seal: a retired key encrypts nothing and decrypts as it did, and there is no way back.
 use Rattle.demands.specs.Names as N
-use N.{_+_, CipherMode, Checked, andThen}
-use N.{Bool, _||_, false, true, List, [], _++_, _∷_, map, _≢_, _∙_, _≡_, ap, refl, subst, sym, suc, zero, ℕ, arith, eqb, ltb, length, take}
-use N.{eq-eqb, eqb-false, eqb-true, ne-eqb, blockCall, modeCall, blockCheck, keyAndIv, messageCheck, retiredCheck, Ctr as Ctr·mode, Gcm}
-use N.{Encrypt, Sm4Cipher, Passed, ctrStart, opensStart, sealStart, gcmStarting, Ctr·state as Ctr, Seal, searchCheck, which, planCall}
-use N.{rangeCall, rangeCheck, reachCheck, anyRetired, badKeys, replay, hostBlockCall, hostModeCall, hostCtrStart, hostOpensStart}
-use N.{hostSealStart, hostReplay, keysOf, cipherIn, hostKeyEngine, hostKeyRetire, keyAnswerOf, hostCtrByPlan, hostCtrRange, hostWhich}
-use N.{LuossavinKeys, LuossavinKey}
+use N.{_+_, CipherMode, Checked, andThen, Bool, true, List, [], _++_, _∷_, map, _≢_, _≡_, refl, subst, sym, suc, zero, ℕ, arith, eqb, ltb}
+use N.{length, take, eq-eqb, eqb-false, eqb-true, ne-eqb, blockCall, modeCall, blockCheck, keyAndIv, messageCheck, retiredCheck}
+use N.{Ctr as Ctr·mode, Gcm, Encrypt, Sm4Cipher, Passed, ctrStart, opensStart, sealStart, gcmStarting, Ctr·state as Ctr, Seal, searchCheck}
+use N.{which, planCall, rangeCall, rangeCheck, reachCheck, anyRetired, badKeys, replay, hostBlockCall, hostModeCall, hostCtrStart}
+use N.{hostOpensStart, hostSealStart, hostReplay, keysOf, cipherIn, hostKeyEngine, hostKeyRetire, keyAnswerOf, hostCtrByPlan, hostCtrRange}
+use N.{hostWhich, LuossavinKey}
 use Rattle.cipher_mode.proofs.Passed.{both, key-and-iv-passed}
 use Rattle.demands.specs.Retired.{StaysRetired, DecryptsAlike, EncryptsNothing}
 use Rattle.demands.proofs.Through.{host-through, zero-passed, block-through, passed-start}

@@ -1,16 +1,14 @@
 -- Demand 2, there and back: what a call did, its counterpart takes back; and whoever asks in order is served.
 use Rattle.demands.specs.Names as N
-use N.{AreBytes, Sm4Cipher}
-use N.{Bool, false, List, _⊎_, ⊎-elim, _∙_, _≡_, ap, refl, sym, _≤_, ℕ, length, le-ltb, Head, Outcome, done, keyed, leaving, reporting}
-use N.{over, blockCall, blockOf, modeResult, dataCheck, labelCheck, retiredCheck, wrongIv, keyNumber, limit, modeOf, roomOf, CipherMode}
-use N.{Cbc, Cfb, Ctr, Gcm, Ofb, Direction, Decrypt, Encrypt, Passed, hostBlockCall, hostModeCall, cipherIn, hostKeyEngine, hostKeyNew}
-use N.{hostKeyRetire, keyAnswerOf, keyOf, LuossavinKey}
+use N.{AreBytes, Sm4Cipher, false, List, _⊎_, ⊎-elim, _∙_, _≡_, ap, refl, sym, _≤_, ℕ, length, le-ltb, Head, done, keyed, reporting}
+use N.{blockCall, blockOf, modeResult, dataCheck, labelCheck, retiredCheck, wrongIv, keyNumber, limit, modeOf, roomOf, CipherMode, Cbc, Cfb}
+use N.{Ctr, Gcm, Ofb, Direction, Decrypt, Encrypt, Passed, hostBlockCall, hostModeCall, cipherIn, hostKeyEngine, hostKeyNew, hostKeyRetire}
+use N.{keyAnswerOf, keyOf, LuossavinKey}
 use Rattle.cipher.proofs.Blocks.{block-decrypt-encrypt, block-encrypt-decrypt}
 use Rattle.cipher_mode.proofs.Ends.{length-block}
-use Rattle.demands.specs.Call.{single, result, Call}
+use Rattle.demands.specs.Call.{single}
 use Rattle.demands.specs.CameRound.{roundOf}
-use Rattle.demands.specs.ThereAndBack.{SameKey, Returns, Decryptable, Encryptable, Sixteen, ThereAndBack, Serves, Asks, Served}
-use Rattle.demands.specs.ThereAndBack.{BlockServed}
+use Rattle.demands.specs.ThereAndBack.{SameKey, Decryptable, Encryptable, Sixteen, ThereAndBack, Serves, Asks, Served, BlockServed}
 use Rattle.demands.proofs.Through.{result-of-done, block-through, block-leaves, host-through, host-leaves, Ready}
 use Rattle.demands.proofs.EveryCallAnswers.{new-cipher-answers}
 use Rattle.demands.proofs.Retired.{retired-by}

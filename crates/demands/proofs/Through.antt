@@ -1,12 +1,10 @@
 -- What a call that answered 0 had in order, what a call leaves that has all in order, and how a record crosses the boundary.
 use Rattle.demands.specs.Names as N
-use N.{Bool, cond, false, not, true, List, _≢_, _∙_, _≡_, ap, ap₂, refl, sym, _≤_, suc, zero, ℕ, arith, eqb, ltb, length, take-append-seam}
-use N.{eq-eqb, le-ltb, Outcome, done, keyed, refused, blockCall, blockOf, lengthsOf, modeCall, modeResult, blockCheck, checked, keyAndIv}
-use N.{messageCheck, roomCheck, keyHead, keyNumber, newCipher, retire, modeOf, roomOf, CipherMode, Cbc, Cfb, Ctr, Gcm, Ofb, Direction}
-use N.{KeyAnswer, NoKey as ErrorBlockSize, Key, NoNumber as WrongNumber, Sm4Cipher, Sm4CipherMode, Checked, Passed, Refused, Lengths, begun}
-use N.{hostModeCall, modeIn, cipherIn, hostKeyNew, hostKeyRetire, keyAnswerOf, keyOf, LuossavinKey}
+use N.{false, List, _≡_, refl, ℕ, arith, eqb, ltb, length, take-append-seam, eq-eqb, le-ltb, Outcome, done, keyed, refused, blockCall}
+use N.{blockOf, lengthsOf, modeCall, modeResult, blockCheck, checked, keyAndIv, messageCheck, roomCheck, keyHead, keyNumber, newCipher}
+use N.{retire, modeOf, roomOf, Direction, KeyAnswer, NoKey as ErrorBlockSize, Key, NoNumber as WrongNumber, Sm4Cipher, Sm4CipherMode}
+use N.{Checked, Passed, Refused, begun, hostModeCall, modeIn, cipherIn, hostKeyNew, hostKeyRetire, keyAnswerOf, keyOf, LuossavinKey}
 use Rattle.cipher_mode.proofs.Passed.{InOrder, BlockInOrder, message-passed, block-passed}
-use Rattle.cipher_mode.proofs.Ends.{went-on}
 use Rattle.cipher_mode.proofs.Refusals.{refuses}
 use Rattle.demands.specs.Call.{result, RefusedAs}
 use Rattle.demands.proofs.Answering.{split, mark-back}

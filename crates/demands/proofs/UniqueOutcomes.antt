@@ -1,14 +1,14 @@
 -- Demand 1, that outcomes can be predicted: any two answers, outputs and states that a contract allows coincide. One theorem for each form
 -- that a public call's contract has, whatever the definition in it gives.
 use Rattle.demands.specs.Names as N
-use N.{Bool, cond, not, List, [], _∷_, _∙_, _≡_, ap, refl, sym, _-_, ℕ, eqb, getD, Head, Outcome, endingHead}
-use N.{headOf, outcome, Answer, Ending, Done, Refused·ending as Refused, Stepped, ctrStepped, opensStepped}
-use N.{sealStepped, Ctr·state as Ctr, CtrStep, Opens, OpensStep, Seal, SealStep, Verdict, askedHead, isFound, verdictOf, Asked, BadList}
-use N.{Candidate, None, Refused·asked, Found, planHead, planned·outcome, ByPlan, Planned·end, Done·plan, NotAccepted, Refused·plan}
-use N.{Shelf·Outcome, Place, shelfNumber as numberOfEnd, outcomeOf, placeIn, Shelf·end, BadShelf, Done·shelf, NoCurrent, NoRoom·shelf}
-use N.{NotHigher, Shelf·found, Kept, Leaves, Wrote, headIn, reported, ctrReported, opensReported, sealReported, Handed, plannedReported}
-use N.{shelfReported, shelvedReported, Told, foundReported, LuossavinAnswer, LuossavinLabel, LuossavinCtrStep, LuossavinOpensStep}
-use N.{LuossavinSealStep, LuossavinShelf, LuossavinShelved, LuossavinFound, LuossavinPlanned}
+use N.{Bool, cond, not, List, [], _∷_, _∙_, _≡_, ap, refl, sym, _-_, ℕ, eqb, getD, Head, Outcome, endingHead, headOf, outcome, Answer}
+use N.{Ending, Done, Refused·ending as Refused, Stepped, ctrStepped, opensStepped, sealStepped, Ctr·state as Ctr, CtrStep, Opens, OpensStep}
+use N.{Seal, SealStep, Verdict, askedHead, isFound, verdictOf, Asked, BadList, Candidate, None, Refused·asked, Found, planHead}
+use N.{planned·outcome, ByPlan, Planned·end, Done·plan, NotAccepted, Refused·plan, Shelf·Outcome, Place, shelfNumber as numberOfEnd}
+use N.{outcomeOf, placeIn, Shelf·end, BadShelf, Done·shelf, NoCurrent, NoRoom·shelf, NotHigher, Shelf·found, Kept, Leaves, Wrote, headIn}
+use N.{reported, ctrReported, opensReported, sealReported, Handed, plannedReported, shelfReported, shelvedReported, Told, foundReported}
+use N.{LuossavinAnswer, LuossavinLabel, LuossavinCtrStep, LuossavinOpensStep, LuossavinSealStep, LuossavinShelf, LuossavinShelved}
+use N.{LuossavinFound, LuossavinPlanned}
 use Rattle.demands.proofs.Answering.{toldBy, told-back, mark-back}
 use Rattle.demands.specs.OneOutcome.{One, OneValue}
 

@@ -1,14 +1,12 @@
 -- Which number an exported call answers: that of the first of the conditions of docs/REQUIREMENTS.md that holds, and no other.
 use Rattle.demands.specs.Names as N
-use N.{Bool, _&&_, cond, false, not, true, List, [], _∷_, map, inl, inr, ⊎-elim, _∙_, _≡_, ap, refl, _%_, ℕ, eqb, ltb, length, eqb-true}
-use N.{Head, Outcome, finished, refusal, refuseAs, telling, cbcOpen, cbcHead, unpadded, Cbc·Done}
-use N.{InvalidLastU8, InvalidPadding, gcmOpen, gcmHead, settled, Gcm·Done, InvalidTag, refusalHead, blockCall, lengthsOf, modeCall}
-use N.{modeResult, andThen, blockCheck, checked, dataCheck, keyAndIv, keyCheck, messageCheck, refuse, roomCheck, keyNumber, newCipher}
-use N.{wrongNumber, modeOf, CipherMode, Cbc, Cfb, Ctr, Gcm, Ofb, Direction, Decrypt, Encrypt, Refusal, Checked, Passed, Refused, Stepped}
-use N.{begun, ctrEnd, ctrPiece, ctrStart, goesOn, opensEnd, opensPiece, opensStart, sealEnd, sealPiece, sealStart, gcmStarting, running}
-use N.{standing, tagged, writing, hashEnd, Ctr·state, Opens, Seal, badList, Verdict, checkedVerdict, noneWith, onKey, opensWith}
-use N.{searchCheck, which, hostBlockCall, hostModeCall, hostCtrStart, hostOpensStart, hostSealStart, cipherIn, hostKeyNew, keyAnswerOf}
-use N.{keyOf, hostWhich, LuossavinKey}
+use N.{Bool, _&&_, cond, false, not, true, List, [], _∷_, inl, inr, ⊎-elim, _≡_, refl, ℕ, eqb, length, eqb-true, Head, Outcome, finished}
+use N.{refusal, refuseAs, telling, cbcOpen, cbcHead, unpadded, Cbc·Done, InvalidLastU8, InvalidPadding, gcmOpen, gcmHead, settled, Gcm·Done}
+use N.{InvalidTag, refusalHead, blockCall, lengthsOf, modeCall, modeResult, andThen, blockCheck, checked, dataCheck, keyAndIv, keyCheck}
+use N.{messageCheck, refuse, roomCheck, newCipher, wrongNumber, CipherMode, Cbc, Cfb, Ctr, Gcm, Ofb, Direction, Decrypt, Encrypt, Refusal}
+use N.{Checked, Passed, Refused, ctrEnd, ctrPiece, ctrStart, opensEnd, opensPiece, opensStart, sealEnd, sealPiece, sealStart, gcmStarting}
+use N.{running, standing, tagged, writing, Ctr·state, Opens, Seal, searchCheck, which, hostBlockCall, hostModeCall, hostCtrStart}
+use N.{hostOpensStart, hostSealStart, cipherIn, hostKeyNew, keyAnswerOf, keyOf, hostWhich, LuossavinKey}
 use Rattle.editions.proofs.FirstOpening.{search-number}
 use Rattle.demands.specs.WhichNumber.{Said, saidIn, only, Row, Among, isRetired, encryptRowsIn, decryptRowsIn, firstOf, numbersOf}
 use Rattle.demands.specs.WhichNumber.{newRows, blockRows, whichRows, encryptRows, decryptRows, ctrPieceRows, ctrEndRows}

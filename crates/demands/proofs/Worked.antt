@@ -1,10 +1,10 @@
 -- The worked table of docs/REQUIREMENTS.md and its edges hold of the definitions, by computation; and two blocks under a key are computed.
 use Rattle.demands.specs.Names as N
-use N.{Bool, _&&_, false, true, List, [], _++_, _∷_, map, _≢_, _∙_, _≡_, ap, refl, sym, ℕ, arith, eqb, getD, length, replicate, ne-eqb}
-use N.{bytesOf, numberOf, same, unwords, words, gmul, mulFrom, timesX, ctrNext, gcmNext, Outcome, finished, telling, under, CK, L, L', T}
-use N.{T', encryptBlock, encryptWords, keysFrom, rotl, roundKeys, rounds, sboxTable, tau, hashFrom, allPadding, namesPadding, unpadded}
+use N.{Bool, false, true, List, [], _++_, _∷_, map, _≢_, _∙_, _≡_, ap, refl, sym, ℕ, arith, getD, length, replicate, ne-eqb, bytesOf}
+use N.{numberOf, same, unwords, words, gmul, mulFrom, timesX, ctrNext, gcmNext, Outcome, finished, telling, under, CK, L, L', T, T'}
+use N.{encryptBlock, encryptWords, keysFrom, rotl, roundKeys, rounds, sboxTable, tau, hashFrom, allPadding, namesPadding, unpadded}
 use N.{refusalHead, lengthsOf, modeCall, modeResult, blockCheck, checked, dataCheck, keyAndIv, messageCheck, roomCheck, newCipher}
-use N.{Direction, Encrypt, Key, Sm4CipherMode, Refused·ending, Refusal, Checked, Passed, Refused}
+use N.{Direction, Encrypt, Key, Sm4CipherMode, Refused·ending, Checked, Passed, Refused}
 use Rattle.demands.specs.Worked.{Row, table}
 use Rattle.cipher_mode.proofs.Refusals.{refuses, quiet-ending}
 use Rattle.demands.specs.CameRound.{roundOf, tellingDone}
