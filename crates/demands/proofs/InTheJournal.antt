@@ -47,9 +47,6 @@ module _ (k : LuossavinKeys) (journal : List ℕ) (small : AreBytes journal) (go
   abbrev ks : List Sm4Cipher
   ks = keysIn (keysOf k)
 
-  told-so : hostReplay k journal ≡ toldOf x
-  told-so = exported-replay-alone k journal small x (inr (good, ends))
-
   -- the totals are theirs
   pub exported-totals : Totals ks (ends .calls) (x .report)
   exported-totals = totals-told ks journal x ends
@@ -59,7 +56,7 @@ module _ (k : LuossavinKeys) (journal : List ℕ) (small : AreBytes journal) (go
       → (hostReplay k journal .differs ≡ 1) × (hostReplay k journal .«first_record» ≡ length es)
       × (hostReplay k journal .«first_place» ≡ length (stored es))
   unfolding toldOf
-  exported-first-told es fs e c n d = rw (told-so, first-told ks journal x ends es fs e c n d) (refl, refl, refl)
+  exported-first-told es fs e c n d = rw (exported-replay-alone k journal small x (inr (good, ends)), first-told ks journal x ends es fs e c n d) (refl, refl, refl)
 
   all-answered : (es : List Entry) → NoneDiffers ks es → AllAnswered k es
   all-answered [] n = tt
@@ -69,7 +66,8 @@ module _ (k : LuossavinKeys) (journal : List ℕ) (small : AreBytes journal) (go
   pub exported-none-told : hostReplay k journal .differs ≡ 0 → AllAnswered k (ends .calls)
   unfolding toldOf
   exported-none-told z =
-      all-answered (ends .calls) (all-agree ks journal x ends (is-false 1 0 refl (x .report .first .found) (rw told-so at z)))
+      let told = rw (exported-replay-alone k journal small x (inr (good, ends))) at z in
+      all-answered (ends .calls) (all-agree ks journal x ends (is-false 1 0 refl (x .report .first .found) told))
 
 -- Calls recorded as they were answered.
 module _ (keys : LuossavinKeys) (e : Entry) (r : Recorded keys e) where
@@ -86,8 +84,7 @@ module _ (keys : LuossavinKeys) (e : Entry) (r : Recorded keys e) where
   as-answered : answeredBy (recomputed c e) e ≡ e
   as-answered =
       let short = r .replayable .short in
-      let n : recomputed c e .head .number ≡ e .number =
-      sym (r .number ∙ rw host-is (ap (λ (h : Head). h .number) (any-output-head c e short (r .out) (r .room)))) in
+      let n : recomputed c e .head .number ≡ e .number = sym (r .number ∙ rw (host-is, any-output-head c e short (r .out) (r .room))) in
       let t : result (recomputed c e) ≡ e .output = sym (r .output ∙ rw host-is (any-output-result c e short (r .out) (r .room))) in
       rw (n, t)
 
@@ -170,15 +167,13 @@ pub exported-replay-answers : (k : LuossavinKeys) (journal : List ℕ) → Repla
 unfolding hostReplay toldOf
 exported-replay-answers k journal =
     let x = replay (keysOf k) journal in
-    let sums = replay-adds-up (keysOf k) journal in
-    let ends = the-ending (keysOf k) journal in
     let first = first-replayed (keysOf k) journal in
     record {
       numbered = known-end (x .ended);
-      byMode = sums .byMode;
-      byAnswer = sums .byAnswer;
-      done = ends .0;
-      bad-keys = λ z. ap toldOf (ends .1 z);
+      byMode = replay-adds-up (keysOf k) journal .byMode;
+      byAnswer = replay-adds-up (keysOf k) journal .byAnswer;
+      done = the-ending (keysOf k) journal .0;
+      bad-keys = λ z. ap toldOf (the-ending (keysOf k) journal .1 z);
       differs = one-or-none (x .report .first .found);
       first = λ z. first .inside (is-true 1 0 refl (x .report .first .found) z);
       none = λ z. first .nowhere (is-false 1 0 refl (x .report .first .found) z);

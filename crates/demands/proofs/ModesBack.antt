@@ -75,9 +75,7 @@ module _ (rk aad d iv : List ℕ) (iv-bytes : AreBytes iv) (d-bytes : AreBytes d
 -- a message of Gcm that was opened is one that opens
 pub opened-opens : (rk : List ℕ) (h : ℕ) (j aad c o : List ℕ) → gcmOpen rk h j aad c o .head .number ≡ 0 → opensUnder rk h j aad c ≡ true
 opened-opens rk h j aad c o z =
-    split _ (opensUnder rk h j aad c) (λ e. e) (λ e.
-    let four : _≡_ {A = ℕ} 4 0 = rw (← open-refused rk h j aad c o e) at z in
-    absurd (omega arith))
+    split _ (opensUnder rk h j aad c) (λ e. e) (λ e. absurd (omega (arith, rw (← open-refused rk h j aad c o e) at z)))
 
 -- the data c decrypted to a text of the table's length, which encrypts to c
 pub record Encrypts (m : CipherMode) (rk aad c iv o : List ℕ) : Type 0 where
@@ -136,7 +134,7 @@ module _ (rk aad c iv o : List ℕ) where
       → (t : Encrypts m rk aad c iv o) × (dataCheck Encrypt m (length (t .text)) ≡ Passed)
   unfolding dataCheck
   forth m n e z l =
-      ⊎-elim (λ (k, some, x). let none : k ≡ 0 = rw x at z in absurd (omega arith))
+      ⊎-elim (λ (k, some, x). absurd (omega (arith, rw x at z)))
       (λ t.
       let small = within m (data-within Decrypt m (length c) e) (λ f. rw (t .opened, t .size) at (l f)) in
       (t, rw (t .size, le-ltb limit (lengthOf m Decrypt rk iv c) small)))
