@@ -133,10 +133,8 @@ module _ (o : List ℕ) (n : ℕ) where
   -- a check in front, or what comes next, which may count on it that the check passed; and a refusal by number k
   pub checks-fair : (k : Checked) (next : Outcome) → (k ≡ Passed → Fair (next .head) (next .bytes))
       → Fair (checked k o next .head) (checked k o next .bytes)
-  checks-fair Passed next f = f refl
-  checks-fair (Refused r) next f = refusal-fair r
+  checks-fair k next = elim k [ Passed ↦ λ f. f refl | Refused r ↦ λ _. refusal-fair r ]
 
   pub front-fair : (t : Bool) (k : ℕ) (next : Outcome) → 0 < k → (t ≡ false → Fair (next .head) (next .bytes))
       → Fair (refuseAs t k o next .head) (refuseAs t k o next .bytes)
-  front-fair true k next h f = refused-fair k h
-  front-fair false k next h f = f refl
+  front-fair t k next h = elim t [ true ↦ λ _. refused-fair k h | false ↦ λ f. f refl ]

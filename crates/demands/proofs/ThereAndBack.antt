@@ -24,8 +24,7 @@ host-encrypts mode k label d iv o p =
 -- who may work in a direction
 allowed : (dir : Direction) (k : LuossavinKey) → (dir ≡ Encrypt → k .retired ≡ 0) → retiredCheck dir (cipherIn k .retired) ≡ Passed
 unfolding cipherIn
-allowed Encrypt k u = rw (u refl)
-allowed Decrypt k u = refl
+allowed dir k = elim dir [ Encrypt ↦ λ u. rw (u refl) | Decrypt ↦ λ _. refl ]
 
 -- a block that was worked in one direction, worked in the other under the same key
 block-takes-back : (there back : Direction) (c l : Sm4Cipher) → l .answer ≡ c .answer → l .rk ≡ c .rk

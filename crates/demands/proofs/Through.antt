@@ -17,13 +17,11 @@ pub refused-as : (k n : ℕ) (o : List ℕ) (x : Outcome) → x ≡ keyed k (ref
 refused-as k n o x e = rw e (record { number = refl; size = refl; missing = refl; bytes = refl })
 
 pub zero-passed : (k : Checked) (o : List ℕ) (next : Outcome) → checked k o next .head .number ≡ 0 → k ≡ Passed
-zero-passed Passed o next e = refl
-zero-passed (Refused r) o next e = absurd (refuses r .not-zero e)
+zero-passed k o next = elim k [ Passed ↦ λ _. refl | Refused r ↦ λ e. absurd (refuses r .not-zero e) ]
 
 -- a start that answers 0 has passed
 pub passed-start : (S : Type 0) (k : Checked) (shut : ℕ → S) (s : S) → begun S k shut s .head .number ≡ 0 → k ≡ Passed
-passed-start S Passed shut s e = refl
-passed-start S (Refused r) shut s e = absurd (refuses r .not-zero e)
+passed-start S k shut s = elim k [ Passed ↦ λ _. refl | Refused r ↦ λ e. absurd (refuses r .not-zero e) ]
 
 -- a single block
 module _ (dir : Direction) (c : Sm4Cipher) (b o : List ℕ) where

@@ -27,8 +27,7 @@ abbrev answerOf : Head → Answer
 answerOf h = record { ending = toldBy Ending Done Refused (Done 0) h; «came_round» = not (eqb (h .cameRound) 0); key = h .key }
 
 ending-told : (e : Ending) → toldBy Ending Done Refused (Done 0) (endingHead e) ≡ e
-ending-told (Done n) = refl
-ending-told (Refused r) = told-back Ending Done Refused (Done 0) r .0
+ending-told e = elim e [ Done n ↦ refl | Refused r ↦ told-back Ending Done Refused (Done 0) r .0 ]
 
 answer-told : (a : Answer) → answerOf (headOf a) ≡ a
 answer-told a = rw (ending-told (a .ending), mark-back (a .«came_round»))
@@ -79,10 +78,8 @@ abbrev askedOf : Head → Bool → Asked
 askedOf h found = cond found Candidate (toldBy Asked (λ _. None) Refused·asked BadList h)
 
 asked-told : (e : Asked) → askedOf (askedHead e) (isFound e) ≡ e
-asked-told Candidate = refl
-asked-told None = refl
-asked-told BadList = refl
-asked-told (Refused·asked r) = told-back Asked (λ _. None) Refused·asked BadList r .0
+asked-told e =
+    elim e [ Candidate ↦ refl | None ↦ refl | BadList ↦ refl | Refused·asked r ↦ told-back Asked (λ _. None) Refused·asked BadList r .0 ]
 
 pub unique-which : (x : Verdict) → OneValue Found Verdict verdictOf x
 unique-which =
@@ -100,9 +97,8 @@ abbrev plannedOf : Head → Planned·end
 plannedOf = toldBy Planned·end Done·plan Refused·plan NotAccepted
 
 planned-told : (e : Planned·end) → plannedOf (planHead e) ≡ e
-planned-told (Done·plan n) = refl
-planned-told NotAccepted = refl
-planned-told (Refused·plan r) = told-back Planned·end Done·plan Refused·plan NotAccepted r .0
+planned-told e =
+    elim e [ Done·plan n ↦ refl | NotAccepted ↦ refl | Refused·plan r ↦ told-back Planned·end Done·plan Refused·plan NotAccepted r .0 ]
 
 pub unique-by-plan : (x : Outcome) → One ByPlan Outcome planned·outcome x
 unique-by-plan = one (λ y. (record { ended = plannedOf (y .head); key = y .head .key }, y .bytes)) (λ a o. rw planned-told)

@@ -16,43 +16,33 @@ use Rattle.demands.proofs.Answering.{split, headBehind, heads}
 use mathlib.Core.Bool.{and-comm, and-true}
 
 -- what is said behind a check, s being what comes next
-unfoldable pub behind : Checked → Said → Said
+abbrev pub behind : Checked → Said → Said
 behind Passed s = s
 behind (Refused r) s = saidIn (refusalHead r)
 
-pub said-passed : (s : Said) → behind Passed s ≡ s
-unfolding behind
-said-passed s = refl
-
-pub said-refused : (r : Refusal) (s : Said) → behind (Refused r) s ≡ saidIn (refusalHead r)
-unfolding behind
-said-refused r s = refl
-
 pub said-refuse : (t : Bool) (r : Refusal) (k : Checked) (s : Said) → behind (refuse t r k) s ≡ cond t (saidIn (refusalHead r)) (behind k s)
-unfolding behind
 said-refuse t r k s = elim t [ true ↦ refl | false ↦ refl ]
 
 pub said-then : (a b : Checked) (s : Said) → behind (andThen a b) s ≡ behind a (behind b s)
-unfolding behind
 said-then a b s = elim a [ Passed ↦ refl | Refused r ↦ refl ]
 
 -- a record's answer that is no key
 pub said-key : (n : ℕ) (s : Said)
     → behind (keyCheck (keyAnswerOf n)) s ≡ cond (not (eqb n 0) && not (eqb n 13)) (only 1) (cond (eqb n 13) (only 13) s)
-unfolding keyAnswerOf behind
+unfolding keyAnswerOf
 said-key n s =
     split _ (eqb n 0) (λ e. let z = eqb-true n 0 e in rw z) (λ e. split _ (eqb n 13) (λ f. rw (e, f)) (λ f. rw (e, f)))
 
 -- a report that was behind a check, or behind a test
 pub said-head : (k : Checked) (h : Head) → saidIn (headBehind k h) ≡ behind k (saidIn h)
-unfolding headBehind behind
+unfolding headBehind
 said-head k h = elim k [ Passed ↦ refl | Refused r ↦ refl ]
 
 pub said-cond : (t : Bool) (g h : Head) → saidIn (cond t g h) ≡ cond t (saidIn g) (saidIn h)
 said-cond t g h = elim t [ true ↦ refl | false ↦ refl ]
 
 -- so a chain of checks is read as a list of rows
-pub ruleset said·laws = (said-passed, said-refused, said-refuse, said-then, said-key, heads, said-head, said-cond)
+pub ruleset said·laws = (said-refuse, said-then, said-key, heads, said-head, said-cond)
 
 -- a call by its checks, and behind a refusal by number
 pub checked-said : (k : Checked) (o : List ℕ) (next : Outcome) (s : Said) → behind k (saidIn (next .head)) ≡ s
@@ -74,8 +64,7 @@ exported-new-number key n =
 pub exported-block-number : (dir : Direction) (k : LuossavinKey) (b o : List ℕ)
     → saidIn (hostBlockCall dir k b o .head) ≡ firstOf (blockRows dir k b o)
 unfolding hostBlockCall blockCall blockCheck cipherIn
-exported-block-number Encrypt k b o = simp said·laws
-exported-block-number Decrypt k b o = simp said·laws
+exported-block-number dir k b o = elim dir [ Encrypt ↦ simp said·laws | Decrypt ↦ simp said·laws ]
 
 -- opening, by the tests that decide
 cbc-said : (n : ℕ) (none bad : Bool)
@@ -144,7 +133,7 @@ pub said-standing : (mark : ℕ) (s : Said) → behind (standing mark) s
     ≡ cond (eqb mark 1) (only 1)
     (cond (eqb mark 5) (only 5)
     (cond (eqb mark 10) (only 10) (cond (eqb mark 13) (only 13) (cond (eqb mark 14) (only 14) (cond (not (eqb mark 0)) (only 12) s)))))
-unfolding standing behind
+unfolding standing
 said-standing mark s = split _ (eqb mark 0) (λ e. let z = eqb-true mark 0 e in rw z) (λ e. rw e (simp said·laws))
 
 -- Every piece and every end says what the first condition says that holds: what the state stands at, the lengths, the tag's
@@ -177,8 +166,7 @@ opens-end-number s tag = simp (yes-or-no, said·laws, said-standing)
 pub exported-ctr-start-number : (k : LuossavinKey) (decrypt : Bool) (iv : List ℕ)
     → saidIn (hostCtrStart k decrypt iv .head) ≡ firstOf (ctrStartRows k decrypt iv)
 unfolding hostCtrStart ctrStart keyAndIv cipherIn
-exported-ctr-start-number k true iv = simp said·laws
-exported-ctr-start-number k false iv = simp said·laws
+exported-ctr-start-number k decrypt iv = elim decrypt [ true ↦ simp said·laws | false ↦ simp said·laws ]
 
 pub exported-seal-start-number : (k : LuossavinKey) (label iv : List ℕ)
     → saidIn (hostSealStart k label iv .head) ≡ firstOf (gcmStartRows Encrypt k label iv)

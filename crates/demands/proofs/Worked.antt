@@ -22,8 +22,7 @@ worked h = refl
 -- All rows, whether the tag is right or not: what the definitions say is what docs/REQUIREMENTS.md says.
 pub at-the-edges : (right : Bool) → map (λ (r : Edge). r .ours) (edges right) ≡ map (λ (r : Edge). r .paper) (edges right)
 unfolding messageCheck blockCheck keyAndIv dataCheck roomCheck newCipher namesPadding allPadding unpadded same
-at-the-edges true = refl
-at-the-edges false = refl
+at-the-edges right = elim right [ true ↦ refl | false ↦ refl ]
 
 verdict-refused : (k : Checked) (o : List ℕ) (next : Outcome) (n : ℕ) → k ≢ Passed → checked k o next .head ≡ verdict k n
 verdict-refused k o next n = elim k [ Passed ↦ λ h. absurd (h refl) | Refused r ↦ λ _. refl ]
