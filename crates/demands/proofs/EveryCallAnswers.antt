@@ -29,8 +29,7 @@ pub new-cipher-answers : (key : List ℕ) (n : ℕ) → KeyAnswered key n (newCi
 unfolding newCipher
 new-cipher-answers key n =
     record {
-      done = λ e l h.
-          rw (eq-eqb (length key) 16 e, ne-eqb n 0 (λ z. omega arith), le-ltb 65535 n h) (refl, refl, refl);
+      done = λ e l h. rw (eq-eqb (length key) 16 e, ne-eqb n 0 (λ z. omega arith), le-ltb 65535 n h) (refl, refl, refl);
       refused = λ e. rw (ne-eqb (length key) 16 e);
       out-of-range = λ e o. rw (eq-eqb (length key) 16 e, out-of-range n o);
       fresh = split _ (not (eqb (length key) 16)) (λ e. rw e) (λ e. split _ (wrongNumber n) (λ f. rw (e, f)) (λ f. rw (e, f)));

@@ -81,13 +81,8 @@ module _ (k : LuossavinKey) (usable : cipherIn k .answer ≡ Key) (may : retired
   tag-is label iv a b e whole =
       let rk = cipherIn k .rk in
       let h = hashKey rk in
-      rw (
-        key-is,
-        counter-is h (hashKey-lt rk) iv e,
-        enciphers (J0 rk iv) (length-counter h iv),
-        all-joined h (hashKey-lt rk) label a b whole,
-        value-back (ghash h (authBlocks label (a ++ b))),
-      )
+      let el = hashKey-lt rk in
+      rw (key-is, counter-is h el iv e, enciphers (J0 rk iv) (length-counter h iv), all-joined h el label a b whole, value-back)
 
 -- Where sealing answers 0, the hashes of label, halves and lengths, joined by the exported calls alone, make its tag.
 pub tags-by-halves : (k : LuossavinKey) → TagsByHalves k

@@ -38,11 +38,9 @@ few-confuse-editions job₁ job₂ edition₁ edition₂ n c₁ c₂ hj₁ hj₂
     at-most (blockCount n + 2) (under job₁ edition₁ c₁) (under job₂ edition₂ c₂) (within job₁ edition₁ c₁ b₁ l₁)
     (within job₂ edition₂ c₂ b₂ l₂) (count job₁ edition₁ c₁ l₁) (count job₂ edition₂ c₂ l₂) (λ e.
     let labels : labelOf job₁ edition₁ ≡ labelOf job₂ edition₂ = ap (λ (p : Pair). p .label) e in
-    ne (
-      label-job job₁ edition₁ job₂ edition₂ labels hj₁ hj₂,
-      label-edition job₁ edition₁ job₂ edition₂ labels he₁ he₂,
-      ap (λ (p : Pair). p .ciphertext) e,
-    ))
+    let job = label-job job₁ edition₁ job₂ edition₂ labels hj₁ hj₂ in
+    let edition = label-edition job₁ edition₁ job₂ edition₂ labels he₁ he₂ in
+    ne (job, edition, ap (λ (p : Pair). p .ciphertext) e))
   where
     within : (job edition : ℕ) (c : List ℕ) → AreBytes c → length c ≤ n → WithinLimits (under job edition c)
     within job edition c b k = let size = length-label job edition in search (label-bytes, arith)

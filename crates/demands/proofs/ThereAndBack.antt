@@ -3,9 +3,10 @@ use Rattle.demands.specs.Names as N
 use N.{AreBytes, Sm4Cipher, false, List, _⊎_, ⊎-elim, _∙_, _≡_, ap, refl, sym, _≤_, ℕ, length, le-ltb, Head, done, keyed, reporting}
 use N.{blockCall, blockOf, modeResult, dataCheck, labelCheck, retiredCheck, wrongIv, keyNumber, limit, modeOf, roomOf, CipherMode, Cbc, Cfb}
 use N.{Ctr, Gcm, Ofb, Direction, Decrypt, Encrypt, Passed, hostBlockCall, hostModeCall, cipherIn, hostKeyEngine, hostKeyNew, hostKeyRetire}
-use N.{keyAnswerOf, keyOf, LuossavinKey}
+use N.{keyAnswerOf, keyOf, LuossavinKey, lengthsOf}
 use Rattle.cipher.proofs.Blocks.{block-decrypt-encrypt, block-encrypt-decrypt}
 use Rattle.cipher_mode.proofs.Ends.{length-block}
+use Rattle.cipher_mode.proofs.Passed.{InOrder}
 use Rattle.demands.specs.Call.{single}
 use Rattle.demands.specs.CameRound.{roundOf}
 use Rattle.demands.specs.ThereAndBack.{SameKey, Decryptable, Encryptable, Sixteen, ThereAndBack, Serves, Asks, Served, BlockServed}
@@ -52,11 +53,9 @@ module _ (k later : LuossavinKey) (s : SameKey k later) where
       let (b, p) = host-through Encrypt mode k label d iv o e in
       let x = host-encrypts mode k label d iv o (b, p) in
       let t = back (k .«round_keys») label d iv ib db (modeOf mode) (p .iv-size) (p .content) in
-      let q : Ready Decrypt mode later label text iv o′ = (
-        b,
-        record { key = same-key .0 ∙ p .key; iv-size = p .iv-size; may = refl; label = p .label; content = t .content; room = rw x at r },
-      ) in
-      rw (x, result-of-done text o, host-leaves Decrypt mode later label text iv o′ q, s .keys, t .opened o′)
+      let q : InOrder (cipherIn later .answer) (cipherIn later .retired) Decrypt (modeOf mode) (lengthsOf label text iv o′) =
+      record { key = same-key .0 ∙ p .key; iv-size = p .iv-size; may = refl; label = p .label; content = t .content; room = rw x at r } in
+      rw (x, result-of-done text o, host-leaves Decrypt mode later label text iv o′ (b, q), s .keys, t .opened o′)
       (record { number = refl; size = refl; message = result-of-done d o′ })
 
   -- If decryption answers 0, encryption of its result, where that key is not retired, with the same IV and label, given room and in Cbc no
@@ -73,11 +72,9 @@ module _ (k later : LuossavinKey) (s : SameKey k later) where
       let x = rw (t .opened) at y in
       let key = sym (same-key .0) ∙ p .key in
       let may = allowed Encrypt k (λ _. u) in
-      let q : Ready Encrypt mode k label (t .text) iv o′ = (
-        b,
-        record { key = key; iv-size = p .iv-size; may = may; label = p .label; content = fits; room = rw x at (r .1) },
-      ) in
-      rw (x, result-of-done (t .text) o, host-encrypts mode k label (t .text) iv o′ q, t .again cb)
+      let q : InOrder (cipherIn k .answer) (cipherIn k .retired) Encrypt (modeOf mode) (lengthsOf label (t .text) iv o′) =
+      record { key = key; iv-size = p .iv-size; may = may; label = p .label; content = fits; room = rw x at (r .1) } in
+      rw (x, result-of-done (t .text) o, host-encrypts mode k label (t .text) iv o′ (b, q), t .again cb)
       (record { number = refl; size = refl; message = result-of-done text o′ })
 
   -- If encryption of one block answers 0, decryption of the result, given room, answers 0 with the block;

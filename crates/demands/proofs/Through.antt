@@ -55,8 +55,7 @@ module _ (dir : Direction) (mode : ℕ) (k : LuossavinKey) (aad d iv o : List �
   pub host-through : hostModeCall dir mode k aad d iv o .head .number ≡ 0 → Ready
   unfolding hostModeCall
   host-through e =
-      split _ (ltb 4 mode) (λ f. absurd (omega (arith, rw f at e)))
-      (λ f. (f, through dir (modeIn k mode) aad d iv o (rw f at e)))
+      split _ (ltb 4 mode) (λ f. absurd (omega (arith, rw f at e))) (λ f. (f, through dir (modeIn k mode) aad d iv o (rw f at e)))
 
   pub host-leaves : Ready → hostModeCall dir mode k aad d iv o
       ≡ keyed (keyNumber (cipherIn k)) (modeResult (modeOf mode) dir (k .«round_keys») aad d iv o)

@@ -93,15 +93,14 @@ unique-exported-which =
     (λ r. refl)
 
 -- Plans.
-abbrev plannedOf : Head → Planned·end
-plannedOf = toldBy Planned·end Done·plan Refused·plan NotAccepted
-
-planned-told : (e : Planned·end) → plannedOf (planHead e) ≡ e
+planned-told : (e : Planned·end) → toldBy Planned·end Done·plan Refused·plan NotAccepted (planHead e) ≡ e
 planned-told e =
     elim e [ Done·plan n ↦ refl | NotAccepted ↦ refl | Refused·plan r ↦ told-back Planned·end Done·plan Refused·plan NotAccepted r .0 ]
 
 pub unique-by-plan : (x : Outcome) → One ByPlan Outcome planned·outcome x
-unique-by-plan = one (λ y. (record { ended = plannedOf (y .head); key = y .head .key }, y .bytes)) (λ a o. rw planned-told)
+unique-by-plan =
+    one (λ y. (record { ended = toldBy Planned·end Done·plan Refused·plan NotAccepted (y .head); key = y .head .key }, y .bytes))
+    (λ a o. rw planned-told)
 
 pub unique-exported-plan : (x : Handed) → OneValue LuossavinPlanned Handed plannedReported x
 unique-exported-plan = one-value (λ h. record { answer = hostAnswerOf (h .head); plan = h .plan }) (λ r. refl)
