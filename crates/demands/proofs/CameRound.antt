@@ -20,20 +20,16 @@ use Rattle.cipher_mode.proofs.Refusals.{refuses}
 use Rattle.editions.proofs.FirstOpening.{search-number}
 use Rattle.demands.proofs.Answering.{split, headBehind, heads}
 
--- what holds of either form holds of J0
-by-counter : (P : List ℕ → Type 0) (h : ℕ) (iv : List ℕ) → (length iv ≡ 12 → P (followedBy 1 iv)) → ((n : ℕ) → P (bytesOf 16 n))
-    → P (firstCounter h iv)
-unfolding firstCounter
-by-counter P h iv twelve hashed =
-    split _ (eqb (length iv) 12) (λ e. rw e (twelve (eqb-true (length iv) 12 e))) (λ e. rw e (hashed _))
-
--- either form has sixteen bytes
+-- either form of J0 has sixteen bytes
 pub length-counter : (h : ℕ) (iv : List ℕ) → length (firstCounter h iv) ≡ 16
-length-counter h iv = by-counter (λ j. length j ≡ 16) h iv (λ n. rw (length-append, n)) (length-bytesOf 16)
+unfolding firstCounter
+length-counter h iv =
+    split _ (eqb (length iv) 12) (λ e. rw (e, length-append, eqb-true (length iv) 12 e)) (λ e. rw e (length-bytesOf 16 _))
 
 j0-bytes : (rk iv : List ℕ) → AreBytes iv → AreBytes (J0 rk iv)
+unfolding firstCounter
 j0-bytes rk iv a =
-    by-counter AreBytes (hashKey rk) iv (λ _. below-append 256 iv (0 ∷ 0 ∷ 0 ∷ 1 ∷ []) a (omega arith)) (bytesOf-bytes 16)
+    split _ (eqb (length iv) 12) (λ e. rw e (below-append 256 iv (0 ∷ 0 ∷ 0 ∷ 1 ∷ []) a (omega arith))) (λ e. rw e (bytesOf-bytes 16 _))
 
 first-counter : (rk iv : List ℕ) → length iv ≡ 12 → J0 rk iv ≡ followedBy 1 iv
 unfolding firstCounter

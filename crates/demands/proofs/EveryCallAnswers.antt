@@ -56,20 +56,17 @@ block-answers dir k b o =
     (checks-fair o 16 (blockCheck (c .answer) (c .retired) dir (length b) (length o)) (done block o) (λ e.
     done-fair o 16 block _ refl size (rw size (block-passed _ _ _ _ _ e .enough))))
 
--- what encrypting gives is the table's room, and what decrypting gives has room in it
-lengths-fit : (m : CipherMode) (rk iv d : List ℕ)
-    → (roomOf m Encrypt (length d) ≡ lengthOf m Encrypt rk iv d) × (lengthOf m Decrypt rk iv d ≤ roomOf m Decrypt (length d))
-lengths-fit m rk iv d =
-    elim m [ Cfb ↦ omega arith | Ofb ↦ omega arith | Ctr ↦ omega arith | Cbc ↦ omega arith | Gcm ↦ omega arith ]
-
 result-fair : (m : CipherMode) (dir : Direction) (rk aad d iv o : List ℕ) → wrongIv m (length iv) ≡ false
     → dataCheck dir m (length d) ≡ Passed → roomOf m dir (length d) ≤ length o
     → let x = modeResult m dir rk aad d iv o in Fair o (lengthOf m dir rk iv d) (x .head) (x .bytes)
 result-fair m Encrypt rk aad d iv o n e r =
     let size = length-encrypted m rk aad d iv in
-    rw (encrypts m rk aad d iv o) (done-fair o _ (encrypted m rk aad d iv) _ refl (size ∙ lengths-fit m rk iv d .0) (omega arith))
+    let same : roomOf m Encrypt (length d) ≡ lengthOf m Encrypt rk iv d =
+    elim m [ Cfb ↦ refl | Ofb ↦ refl | Ctr ↦ refl | Cbc ↦ refl | Gcm ↦ refl ] in
+    rw (encrypts m rk aad d iv o) (done-fair o _ (encrypted m rk aad d iv) _ refl (size ∙ same) (omega arith))
 result-fair m Decrypt rk aad d iv o n e r =
-    let fits = lengths-fit m rk iv d .1 in
+    let fits : lengthOf m Decrypt rk iv d ≤ roomOf m Decrypt (length d) =
+    elim m [ Cfb ↦ omega arith | Ofb ↦ omega arith | Ctr ↦ omega arith | Cbc ↦ omega arith | Gcm ↦ omega arith ] in
     ⊎-elim (λ (k, some, x). rw x (refused-fair o _ k some))
     (λ t. let size = t .size in rw (t .opened) (done-fair o _ (t .text) _ refl size (omega arith))) (opening rk aad d iv o m n e)
 

@@ -4,8 +4,7 @@ use Rattle.demands.specs.Names as N
 use N.{List, List·Mem, Pairwise·cons, [], _∷_, mem-of-ne-of-mem, mem-singleton, pairwise-singleton, _≢_, ⊎-elim, _≡_, ap, refl, _+_, _^_}
 use N.{_≤_, ℕ, eq-zero-or-pos, le-trans, lt-of-le-of-lt, max-le, mul-le-mul-right, ℕ-set, arith, lit<, length, length-append, AreBytes}
 use N.{bytesOf, numberOf, Element, gmul, mulFrom, timesX, authBlocks, blockCount, Ghash·block as blockOf, blocks, blocksFrom, hashFrom}
-use N.{lengthBlock, AtMost, Confuses, Pair, Sound, hashedCount, pairHash, hashKey, modeOf, Decrypt, labelOf, hostModeCall, cipherIn}
-use N.{LuossavinKey}
+use N.{lengthBlock, AtMost, Confuses, Pair, hashedCount, pairHash, hashKey, modeOf, Decrypt, labelOf, hostModeCall, cipherIn, LuossavinKey}
 use Rattle.roots.proofs.FewConfuse.{few-confuse, zero-confuses}
 use Rattle.roots.proofs.EveryElement.{more-have}
 use Rattle.label.proofs.LabelTells.{length-label, label-bytes, label-job, label-edition}
@@ -13,11 +12,8 @@ use Rattle.demands.specs.HashKeys.{WithinLimits, FewKeysConfuse, ZeroKey
 use Rattle.demands.specs.HashKeys.{nothing, BoundReached, UnconfusedRefused, withoutLengths}
 use Rattle.demands.proofs.OneBlockRefused.{other-hash-refused}
 
-sound : (p : Pair) → WithinLimits p → Sound p
-sound p w = search arith
-
 pub few-keys-confuse : FewKeysConfuse pairHash
-few-keys-confuse p q wp wq = few-confuse p q (sound p wp) (sound q wq)
+few-keys-confuse p q wp wq = few-confuse p q (search arith) (search arith)
 
 pub zero-key-confuses : ZeroKeyConfuses pairHash
 zero-key-confuses = zero-confuses

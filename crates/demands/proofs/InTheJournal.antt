@@ -2,7 +2,7 @@
 -- recorded as they were answered agree.
 use Rattle.demands.specs.Names as N
 use N.{false, true, List, [], _++_, _∷_, append-nil, inl, inr, ⊎-elim, _∙_, _≡_, ap, refl, sym, _<_, ℕ, getD, take-append-seam, _-_, arith}
-use N.{ltb, length, take, lt-ltb, AreBytes, Head, Sm4Cipher, AllReplayable, Ends, NoneDiffers, Totals, countedAll, differs, Entry}
+use N.{ltb, length, take, lt-ltb, AreBytes, Sm4Cipher, AllReplayable, Ends, NoneDiffers, Totals, countedAll, differs, Entry}
 use N.{stored·journal as stored, written·journal as written, added, behindReport, badKeys, keyOf·journal as keyOf, keysIn, answeredBy}
 use N.{callInto, recomputed, resultOf as result, done·journal as done, numberOfEnd, replay, nothing, write, Journal·end as Ended, BadKeys}
 use N.{BadRecord, Done·journal as Done, TooLong·journal as TooLong, UnknownKey, Replayed, Keys, Done·wrote, NoRoom·wrote as NoRoom}
@@ -19,11 +19,10 @@ use Rattle.demands.proofs.Answering.{is-true, is-false, one-or-none, sp
 use Rattle.demands.specs.InTheJournal.{ReplayAnswered, ReplayEnds, Added, Recorded, AllRecorded, AllAnswered}
 
 -- Which number exactly when: the replay ends as keys and journal say, and in no other way.
-end-back : ℕ → Ended
+abbrev end-back : ℕ → Ended
 end-back n = getD (Done ∷ BadRecord ∷ TooLong ∷ UnknownKey ∷ BadKeys ∷ []) (n - 22) Done
 
 end-of : (e : Ended) → end-back (numberOfEnd e) ≡ e
-unfolding end-back
 end-of e = elim e [ Done ↦ refl | BadRecord ↦ refl | TooLong ↦ refl | UnknownKey ↦ refl | BadKeys ↦ refl ]
 
 module _ (k : LuossavinKeys) (journal : List ℕ) (small : AreBytes journal) where
@@ -56,7 +55,9 @@ module _ (k : LuossavinKeys) (journal : List ℕ) (small : AreBytes journal) (go
       → (hostReplay k journal .differs ≡ 1) × (hostReplay k journal .«first_record» ≡ length es)
       × (hostReplay k journal .«first_place» ≡ length (stored es))
   unfolding toldOf
-  exported-first-told es fs e c n d = rw (exported-replay-alone k journal small x (inr (good, ends)), first-told ks journal x ends es fs e c n d) (refl, refl, refl)
+  exported-first-told es fs e c n d =
+      let told = exported-replay-alone k journal small x (inr (good, ends)) in
+      rw (told, first-told ks journal x ends es fs e c n d) (refl, refl, refl)
 
   all-answered : (es : List Entry) → NoneDiffers ks es → AllAnswered k es
   all-answered [] n = tt
