@@ -12,9 +12,13 @@ use Rattle.demands.proofs.Through.{host-through, zero-passed, block-thr
 use Rattle.demands.proofs.Answering.{split}
 use mathlib.Core.Bool.{or-true}
 
+-- a record with the mark, and with an answer
+abbrev pub markedWith : ℕ → LuossavinKey → LuossavinKey
+markedWith a k = record { «round_keys» = k .«round_keys»; answer = a; number = k .number; retired = 1; engine = k .engine }
+
 -- A key that is retired keeps all but the mark;
 abbrev pub retiredOf : LuossavinKey → LuossavinKey
-retiredOf k = record { «round_keys» = k .«round_keys»; answer = 0; number = k .number; retired = 1; engine = k .engine }
+retiredOf k = markedWith 0 k
 
 pub retired-key : (k : LuossavinKey) → k .answer ≡ 0 → hostKeyRetire k ≡ retiredOf k
 unfolding hostKeyRetire
@@ -48,16 +52,7 @@ engine-stays-retired e k r = r
 alike : (k : LuossavinKey) → k .answer ≡ 0 → DecryptsAlike k (retiredOf k)
 unfolding cipherIn keyAnswerOf hostBlockCall blockCall blockCheck hostModeCall modeCall messageCheck keyAndIv hostCtrStart ctrStart
     hostOpensStart opensStart gcmStarting hostWhich which searchCheck hostCtrRange rangeCall rangeCheck reachCheck hostCtrByPlan planCall
-alike k e =
-    record {
-      block = λ b o. rw e;
-      message = λ mode label s iv o. rw e;
-      ctr = λ iv. rw e;
-      opens = λ label iv. rw e;
-      which = λ file iv labels lengths. rw e;
-      range = λ iv offset d o. rw e;
-      by-plan = λ iv plan d o. rw e;
-    }
+alike k e = subst (λ (a : ℕ). DecryptsAlike k (markedWith a k)) e (search)
 
 pub retired-decrypts-alike : (k : LuossavinKey) → DecryptsAlike k (hostKeyRetire k)
 retired-decrypts-alike k = retired-by (DecryptsAlike k) k (alike k) (λ _. search)
