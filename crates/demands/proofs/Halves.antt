@@ -22,15 +22,6 @@ use Rattle.demands.proofs.Through.{result-of-done, through, leaves, blo
 value-back : (n : ℕ) → value (hashOf n) ≡ n
 value-back n = div-add-mod' n _
 
--- the exported calls on the values of numbers
-blocks-of : (h : ℕ) (bs : List ℕ) → hostHashBlocks (hashOf h) bs ≡ hashOf (ghash h (blocks bs))
-unfolding hostHashBlocks
-blocks-of h bs = rw value-back
-
-join-of : (h x y n : ℕ) → hostHashJoin (hashOf h) (hashOf x) (hashOf y) n ≡ hashOf (joined h x y n)
-unfolding hostHashJoin
-join-of h x y n = simp value-back
-
 -- Where the first half is whole blocks, the halves' hashes joined are the hash of both.
 pub joined-halves : JoinsHalves hostHashBlocks hostHashJoin
 unfolding hostHashBlocks hostHashJoin
@@ -49,17 +40,17 @@ module _ (h : ℕ) (element : Element h) where
 
   -- label, halves and lengths
   all-joined : (label a b : List ℕ) → WholeBlocks a → hashOfAll (hashOf h) label a b ≡ hashOf (ghash h (authBlocks label (a ++ b)))
-  unfolding authBlocks
+  unfolding authBlocks hostHashBlocks hostHashJoin
   all-joined label a b whole =
       let cut = blocks-append (length a / 16) a b (omega arith) in
-      simp (blocks-of h, join-of h, ← length-blocks, joins h element, joins-block, pair-block, append-assoc, cut, length-append)
+      simp (value-back, ← length-blocks, joins h element, joins-block, pair-block, append-assoc, cut, length-append)
 
   counter-is : (iv : List ℕ) → wrongIv Gcm (length iv) ≡ false → counterOf (hashOf h) iv ≡ firstCounter h iv
-  unfolding firstCounter
+  unfolding firstCounter hostHashBlocks
   counter-is iv e =
       let number : lengthBlock 0 16 ≡ 128 = unfold lengthBlock numberOf bytesOf in refl in
       ⊎-elim (λ n. rw (eq-eqb (length iv) 12 n))
-      (λ n. rw (blocks-of h (iv ++ pair 0 128), value-back, blocks-append 1 iv (pair 0 128) n, blocks-full iv n, pair-block 0 16, number))
+      (λ n. simp (value-back, blocks-append 1 iv (pair 0 128) n, blocks-full iv n, pair-block 0 16, number))
       (iv-twelve-or-sixteen (length iv) e)
 
 -- a usable and unretired key encrypts a block
