@@ -70,6 +70,7 @@ module _ {b : Bool} where
   key-says : {n : ℕ} {h : Head} → Says b h → Says b (under n h)
   key-says s = record { done = s .done; refused = s .refused }
 
+-- what the modes give, either way
 result-says : (m : CipherMode) (dir : Direction) (rk aad d iv o : List ℕ) → wrongIv m (length iv) ≡ false
     → dataCheck dir m (length d) ≡ Passed
     → Says (roundOf m dir rk iv (length d)) (modeResult m dir rk aad d iv o .head)

@@ -56,6 +56,7 @@ block-answers dir k b o =
     (checks-fair o 16 (blockCheck (c .answer) (c .retired) dir (length b) (length o)) (done block o) (λ e.
     done-fair o 16 block _ refl size (rw size (block-passed _ _ _ _ _ e .enough))))
 
+-- what the modes give, either way
 result-fair : (m : CipherMode) (dir : Direction) (rk aad d iv o : List ℕ) → wrongIv m (length iv) ≡ false
     → dataCheck dir m (length d) ≡ Passed → roomOf m dir (length d) ≤ length o
     → let x = modeResult m dir rk aad d iv o in Fair o (lengthOf m dir rk iv d) (x .head) (x .bytes)
