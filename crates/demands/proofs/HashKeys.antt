@@ -31,19 +31,15 @@ rarely-confused p q wp wq ne =
 
 pub few-confuse-editions : FewConfuseEditions pairHash
 few-confuse-editions job₁ job₂ edition₁ edition₂ n c₁ c₂ hj₁ hj₂ he₁ he₂ b₁ b₂ l₁ l₂ l ne =
-    at-most (blockCount n + 2) (under job₁ edition₁ c₁) (under job₂ edition₂ c₂) (within job₁ edition₁ c₁ b₁ l₁)
-    (within job₂ edition₂ c₂ b₂ l₂) (count job₁ edition₁ c₁ l₁) (count job₂ edition₂ c₂ l₂) (λ e.
+    -- a label is one block
+    let size₁ = length-label job₁ edition₁ in
+    let size₂ = length-label job₂ edition₂ in
+    at-most (blockCount n + 2) (under job₁ edition₁ c₁) (under job₂ edition₂ c₂) (search (label-bytes, arith)) (search (label-bytes, arith))
+    (omega arith) (omega arith) (λ e.
     let labels : labelOf job₁ edition₁ ≡ labelOf job₂ edition₂ = ap (λ (p : Pair). p .label) e in
     let job = label-job job₁ edition₁ job₂ edition₂ labels hj₁ hj₂ in
     let edition = label-edition job₁ edition₁ job₂ edition₂ labels he₁ he₂ in
     ne (job, edition, ap (λ (p : Pair). p .ciphertext) e))
-  where
-    within : (job edition : ℕ) (c : List ℕ) → AreBytes c → length c ≤ n → WithinLimits (under job edition c)
-    within job edition c b k = let size = length-label job edition in search (label-bytes, arith)
-
-    -- a label is one block
-    count : (job edition : ℕ) (c : List ℕ) → length c ≤ n → hashedCount (under job edition c) ≤ blockCount n + 2
-    count job edition c k = omega (arith, length-label job edition)
 
 -- 80 and fifteen 00 is the one of the field and the length block of 16 bytes 128, so the hash is (H + 128) times H
 confused-at-128 : Confuses pairHash oneBlock nothing 128
