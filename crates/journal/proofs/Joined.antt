@@ -1,7 +1,7 @@
 -- The report of two journals joined is their reports added, where the first is replayed to its end: what a journal adds to a report does not
 -- depend on the report.
 use Rattle.block.proofs.Base.{_+_, _<_, suc, zero, ℕ, _∙_, _≡_, ap, refl, sym, Bool, cond, false, true, List, [], _++_, _∷_, arith, drop}
-use Rattle.block.proofs.Base.{length, length-drop, replicate, drop-append-le}
+use Rattle.block.proofs.Base.{length, length-drop, replicate, take, drop-append-le, take-append-le}
 use Rattle.cipher_mode.specs.declared.Sm4Cipher.{Sm4Cipher}
 use Rattle.walk.proofs.Loop.{tailed, tail-is}
 use Rattle.journal.specs.Format.{Entry, sizeAt, front}
@@ -21,8 +21,7 @@ use Rattle.journal.proofs.Sums.{adds-counted, replay-adds-up, adds-noth
 use Rattle.journal.proofs.Cases.{by-test}
 use Rattle.journal.proofs.Replaying.{from-end, from-bad, from-long, from-unknown, from-on, by-replay, Passes, counts, passed}
 use Rattle.journal.proofs.Replaying.{from-start}
-use Rattle.journal.proofs.Standing.{Stands, stands, starts, size-within}
-use Rattle.journal.proofs.Appended.{starts-on, front-on, size-on}
+use Rattle.journal.proofs.Standing.{Stands, stands, starts, size-within, starts-in, front-in, size-in}
 
 sums-more : (a b : List ℕ) (i : ℕ) → i < length a → i < length b → sums a (oneMore i b) ≡ oneMore i (sums a b)
 unfolding sums
@@ -90,19 +89,25 @@ nil-of [] h = refl
 nil-of (x ∷ a) h = absurd (omega arith)
 
 module _ (ks : List Sm4Cipher) (b : List ℕ) where
+  same-bytes : (a : List ℕ) → Stands a → take (sizeAt a) (a ++ b) ≡ take (sizeAt a) a
+  same-bytes a s = take-append-le (sizeAt a) a b (size-within a s)
+
   -- a record that stands whole is replayed the same, whatever is behind it
   pub one-appended : (a : List ℕ) (place : ℕ) (r : Report) → Stands a → replayOne ks (a ++ b) place r ≡ replayOne ks a place r
   unfolding replayOne
-  one-appended a place r s = rw (starts-on b a s, front-on b a s, starts a s)
+  one-appended a place r s =
+      let h = same-bytes a s in
+      rw (starts-in a (a ++ b) s h, front-in a (a ++ b) s h, starts a s)
 
   -- a journal can be replayed a part at a time
   first-on : (a : List ℕ) (place : ℕ) (r : Report) → Passes ks a
       → replayFrom ks (a ++ b) place r ≡ replayFrom ks (drop (sizeAt a) a ++ b) (place + sizeAt a) (countedUnder ks (front a) place r)
   first-on a place r p =
       let s = stands a (p .0) in
-      let f = front-on b a s in
-      from-on ks (a ++ b) place r (starts-on b a s, rw f (p .1), rw f (p .2))
-      ∙ rw (f, size-on b a s, drop-append-le (sizeAt a) a b (size-within a s))
+      let h = same-bytes a s in
+      let f = front-in a (a ++ b) s h in
+      from-on ks (a ++ b) place r (starts-in a (a ++ b) s h, rw f (p .1), rw f (p .2))
+      ∙ rw (f, size-in a (a ++ b) s h, drop-append-le (sizeAt a) a b (size-within a s))
 
   -- a turn: the record was measured and replayed; what is to come is written as the borrow checker has it
   pub turn-followed : (a : List ℕ) (place : ℕ) (r : Report) → 0 < length a → numberOfEnd (replayOne ks a place r .ended) ≡ 0

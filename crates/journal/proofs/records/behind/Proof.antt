@@ -2,7 +2,7 @@
 use Rattle.block.proofs.Base.{_+_, ℕ, _∙_, ap, arith, needs, now, drop}
 use Rattle.walk.proofs.Loop.{tail-is}
 use Rattle.journal.specs.Format.{behind}
-use Rattle.journal.proofs.Standing.{part-long, part-fits}
+use Rattle.journal.proofs.Standing.{part-fits}
 use Rattle.journal.proofs.records.behind.Statement.{statement}
 use Rattle.journal.proofs.records.behind.Tie as tie
 
@@ -14,5 +14,5 @@ returns c =
 
 pub behind-spec : {M : Type 1} → statement M
 behind-spec =
-    tie.close (tie.spec (λ c κs. omega (arith, part-long)) (λ c. search needs) (λ c. search needs)
+    tie.close (tie.spec (λ c κs. omega (arith, part-fits)) (λ c. search needs) (λ c. search needs)
     (λ c. omega (arith, part-fits, c .word-at .ensures)) (λ c. omega (arith, part-fits, c .word-at .ensures)) (λ c. search needs) returns)

@@ -3,7 +3,7 @@ use Rattle.block.proofs.Base.{_≤_, ℕ, _∙_, _≡_, ap, sym, Bool, false, n
 use Rattle.walk.proofs.Loop.{tailed, tail-is}
 use Rattle.journal.specs.Format.{behind, fromData, fromIv, fromRoom, fromOutput, afterRecord, sizeAt}
 use Rattle.journal.proofs.Cases.{clash}
-use Rattle.journal.proofs.Standing.{Stands, not-standing, size-is, size-sum}
+use Rattle.journal.proofs.Standing.{Stands, not-standing, size-rest}
 use Rattle.journal.proofs.records.measure.Statement.{statement}
 use Rattle.journal.proofs.records.measure.Tie as tie
 
@@ -79,5 +79,4 @@ measure-spec =
     (λ c. no-test _ _ _ (c .before .starts-part4 .ensures) (c .if7 .taken)
     (λ s. rw (output-is (c .before .before .before .before)) (s .output)))
     (λ c κs. held _ _ (c .before .starts-part4 .ensures) (c .if7 .left))
-    (λ c. omega (arith, after-is c, size-is _ (whole (c .before)), size-sum _ (whole (c .before))))
-    (λ c. omega (arith, after-is c, size-is _ (whole (c .before)))))
+    (λ c. omega (arith, after-is c, size-rest _ (whole (c .before)))) (λ c. omega (arith, after-is c, size-rest _ (whole (c .before)))))
