@@ -58,16 +58,14 @@ module _ (ks : List Sm4Cipher) where
   one-agrees e place r n = one-first e place r ∙ rw n (either-way (r .first .found) (r .first))
 
   one-found : (e : Entry) (place : ℕ) (r : Report) → differs ks e ≡ true → countedUnder ks e place r .first .found ≡ true
-  one-found e place r d =
-      ap (λ (x : Difference). x .found) (one-first e place r)
-      ∙ by-test (r .first .found) (λ f. rw f) (λ f. rw (f, d))
+  one-found e place r d = by-test (r .first .found) (λ f. rw (one-first e place r, f)) (λ f. rw (one-first e place r, f, d))
 
   kept : (es : List Entry) (place : ℕ) (r : Report) → r .first .found ≡ true → countedAll ks es place r .first ≡ r .first
   unfolding countedAll
   kept [] place r f = refl
   kept (e ∷ es) place r f =
       let s : countedUnder ks e place r .first ≡ r .first = one-first e place r ∙ rw f in
-      kept es (place + length (written e)) (countedUnder ks e place r) (ap (λ (d : Difference). d .found) s ∙ f) ∙ s
+      kept es (place + length (written e)) (countedUnder ks e place r) (cc) ∙ s
 
   none : (es : List Entry) (place : ℕ) (r : Report) → NoneDiffers ks es → countedAll ks es place r .first ≡ r .first
   unfolding countedAll
@@ -83,9 +81,9 @@ module _ (ks : List Sm4Cipher) where
       let p : place + 0 ≡ place = omega arith in
       let s : countedUnder ks e place r .first ≡ record { found = true; index = r .records; place = place } =
       one-first e place r ∙ rw (f, d) in
-      kept fs (place + length (written e)) (countedUnder ks e place r) (ap (λ (x : Difference). x .found) s) ∙ s ∙ rw (i, p)
+      kept fs (place + length (written e)) (countedUnder ks e place r) (cc) ∙ s ∙ rw (i, p)
   first (g ∷ es) fs e place r f (n, ns) d =
-      let found = ap (λ (x : Difference). x .found) (one-agrees g place r n) ∙ f in
+      let found : countedUnder ks g place r .first .found ≡ false = rw (one-agrees g place r n) f in
       let i : r .records + 1 + length es ≡ r .records + length (g ∷ es) = omega arith in
       let p : place + length (written g) + length (stored es) ≡ place + length (written g ++ stored es) =
       omega (arith, length-append (written g) (stored es)) in
@@ -98,9 +96,7 @@ module _ (ks : List Sm4Cipher) where
       let s = countedUnder ks e place r in
       let p = place + length (written e) in
       by-test (differs ks e)
-      (λ d.
-      let k = kept es p s (one-found e place r d) in
-      absurd (clash _ (ap (λ (x : Difference). x .found) k ∙ one-found e place r d) f))
+      (λ d. let g = one-found e place r d in absurd (clash (s .first .found) g (rw (kept es p s g) at f)))
       (λ d. (d, none-differs es p s f))
 
 -- What is told of the first difference, however the replay ends, by the calls that were replayed.

@@ -1,6 +1,6 @@
 -- Reading and writing a record are each other's inverse.
-use Rattle.block.proofs.Base.{_+_, _<_, _^_, _≤_, suc, zero, ℕ, _∙_, _≡_, ap, refl, sym, true, List, [], _++_, _∷_, append-assoc}
-use Rattle.block.proofs.Base.{mod-eq-of-lt, arith, eqb-true, leb-true, eqb, leb, lit<, drop, getD, length, length-append, take}
+use Rattle.block.proofs.Base.{_+_, _<_, _^_, _≤_, suc, zero, ℕ, _∙_, _≡_, ap, refl, sym, true, List, [], _++_, _∷_, append-assoc, append-nil}
+use Rattle.block.proofs.Base.{mod-eq-of-lt, arith, eqb-true, leb-true, eqb, leb, lit<, drop, getD, length, take}
 use Rattle.block.proofs.Base.{drop-cons, take-add}
 use lib.Seq.{take-suc}
 use Rattle.block.specs.Below.{AreBytes}
@@ -14,8 +14,8 @@ use Rattle.cipher_mode.specs.declared.Direction.the-variants.{Encrypt, Decrypt}
 use Rattle.journal.specs.Format.{Entry, ProperPart, Proper, directionByte, part, head, middle, written, startsPart, partAt, behind}
 use Rattle.journal.specs.Format.{fromLabel, fromData, fromIv, fromRoom, fromOutput, afterRecord, marked, startsRecord, sizeAt}
 use Rattle.journal.specs.Format.{directionOf, front}
-use Rattle.journal.proofs.Fields.{Is, counted, Row, row, past, past-below, fields, joined, joined-fields}
-use Rattle.journal.proofs.Standing.{part-fits, length-part, row-of, read, Stands, starts, front-read, fit-stands, size-rest}
+use Rattle.journal.proofs.Fields.{Is, counted, Fit, row, past, past-below, fields, joined, joined-fields}
+use Rattle.journal.proofs.Standing.{part-fits, length-part, row-of, read, Stands, starts, front-read, fit-stands, size-by}
 
 -- the fields of an entry
 abbrev fields-of : Entry → List (List ℕ)
@@ -47,7 +47,7 @@ module _ (e : Entry) (proper : Proper e) (rest : List ℕ) where
   abbrev w : List ℕ
   w = written e ++ rest
 
-  written-row : Row row-of w (fields-of e) rest
+  written-row : Fit row-of w × (fields row-of w ≡ fields-of e)
   unfolding head middle bytesOf
   written-row =
       let p = proper in
@@ -65,12 +65,10 @@ module _ (e : Entry) (proper : Proper e) (rest : List ℕ) where
   pub written-front : front w ≡ e
   written-front = sym (front-read w (written-row .0)) ∙ ap {B = Entry} read (written-row .1) ∙ fields-read e proper
 
-  pub written-behind : afterRecord w ≡ rest
-  unfolding behind
-  written-behind = written-row .2
-
   pub written-size : sizeAt w ≡ length (written e)
-  written-size = omega (arith, size-rest w stands-written, ap length written-behind, length-append (written e) rest)
+  written-size =
+      size-by w stands-written ∙ ap (λ (ps : List (List ℕ)). length (joined ps [])) (written-row .1)
+      ∙ ap length (sym (joined-of e []) ∙ append-nil (written e))
 
 byte-back : (n : ℕ) → n ≤ 1 → directionByte (directionOf n) ≡ n
 byte-back zero h = refl

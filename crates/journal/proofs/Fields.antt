@@ -52,6 +52,11 @@ pub past-length : (fs : List Field) (b : List ℕ) → Fit fs b → sizes fs b +
 past-length [] b h = omega arith
 past-length (f ∷ fs) b (h, k) = omega (arith, past-length fs (drop (sizeOf f b) b) k, length-drop (sizeOf f b) b)
 
+pub sizes-are : (fs : List Field) (b : List ℕ) → Fit fs b → length (joined (fields fs b) []) ≡ sizes fs b
+sizes-are [] b h = refl
+sizes-are (f ∷ fs) b (h, k) =
+    rw (length-append, length-take-le (sizeOf f b) b h, sizes-are fs (drop (sizeOf f b) b) k)
+
 -- p is the field f, and ps are the fields fs, whatever is behind them
 abbrev pub Is : Field → List ℕ → Type 0
 Is f p = (c : List ℕ) → sizeOf f (p ++ c) ≡ length p
@@ -79,33 +84,29 @@ pub fields-are : (fs : List Field) (b : List ℕ) → Fit fs b → Are fs (field
 fields-are [] b h = tt
 fields-are (f ∷ fs) b (h, k) = (field-is f b h, fields-are fs (drop (sizeOf f b) b) k)
 
--- b is the row ps, and the rest behind it
-abbrev pub Row : List Field → List ℕ → List (List ℕ) → List ℕ → Type 0
-Row fs b ps rest = Fit fs b × (fields fs b ≡ ps) × (past fs b ≡ rest)
-
-pub row : (fs : List Field) (ps : List (List ℕ)) (rest : List ℕ) → Are fs ps → Row fs (joined ps rest) ps rest
-row [] [] rest a = (tt, refl, refl)
+-- what was joined is read field by field
+pub row : (fs : List Field) (ps : List (List ℕ)) (rest : List ℕ) → Are fs ps
+    → Fit fs (joined ps rest) × (fields fs (joined ps rest) ≡ ps)
+row [] [] rest a = (tt, refl)
 row [] (p ∷ ps) rest a = absurd a
 row (f ∷ fs) [] rest a = absurd a
 row (f ∷ fs) (p ∷ ps) rest (is, are) =
     let t = joined ps rest in
     let r = row fs ps rest are in
     rw (is t, drop-at p t (length p) refl, take-at p t (length p) refl)
-    ((omega (arith, length-append p t), r .0), ap (λ (l : List (List ℕ)). p ∷ l) (r .1), r .2)
+    ((omega (arith, length-append p t), r .0), ap (λ (l : List (List ℕ)). p ∷ l) (r .1))
 
-joined-append : (ps : List (List ℕ)) (rest c : List ℕ) → joined ps rest ++ c ≡ joined ps (rest ++ c)
-joined-append [] rest c = refl
-joined-append (p ∷ ps) rest c = rw (append-assoc, joined-append ps rest c)
+joined-append : (ps : List (List ℕ)) (rest : List ℕ) → joined ps [] ++ rest ≡ joined ps rest
+joined-append [] rest = refl
+joined-append (p ∷ ps) rest = rw (append-assoc, joined-append ps rest)
 
 -- whatever has the bytes of a row in front has the row in front
 pub row-in : (fs : List Field) (b s : List ℕ) → Fit fs b → take (sizes fs b) s ≡ take (sizes fs b) b
-    → Row fs s (fields fs b) (drop (sizes fs b) s)
+    → Fit fs s × (fields fs s ≡ fields fs b)
 row-in fs b s fit h =
     let n = sizes fs b in
-    let w = joined (fields fs b) [] in
-    let f : w ++ past fs b ≡ b = joined-append (fields fs b) [] (past fs b) ∙ joined-fields fs b in
-    let m : length w ≡ n = omega (arith, length-append w (past fs b), ap length f, past-length fs b fit) in
-    let t : take n s ≡ w = h ∙ ap (take n) (sym f) ∙ take-at w (past fs b) n m in
-    let e : joined (fields fs b) (drop n s) ≡ s =
-    sym (joined-append (fields fs b) [] (drop n s)) ∙ rw (← t) (take-append-drop n s) in
-    rw e at (row fs (fields fs b) (drop n s) (fields-are fs b fit))
+    let ps = fields fs b in
+    let f : joined ps [] ++ past fs b ≡ b = joined-append ps (past fs b) ∙ joined-fields fs b in
+    let t : take n s ≡ joined ps [] = h ∙ ap (take n) (sym f) ∙ take-at (joined ps []) (past fs b) n (sizes-are fs b fit) in
+    let e : joined ps (drop n s) ≡ s = sym (joined-append ps (drop n s)) ∙ rw (← t) (take-append-drop n s) in
+    rw e at (row fs ps (drop n s) (fields-are fs b fit))

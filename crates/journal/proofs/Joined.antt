@@ -1,6 +1,6 @@
 -- The report of two journals joined is their reports added, where the first is replayed to its end: what a journal adds to a report does not
 -- depend on the report.
-use Rattle.block.proofs.Base.{_+_, _<_, suc, zero, ℕ, _∙_, _≡_, ap, refl, sym, Bool, cond, false, true, List, [], _++_, _∷_, arith, drop}
+use Rattle.block.proofs.Base.{_+_, _<_, suc, zero, ℕ, _∙_, _≡_, ap, refl, sym, Bool, cond, false, true, List, [], _++_, _∷_, arith, ne-eqb, drop}
 use Rattle.block.proofs.Base.{length, length-drop, replicate, take, drop-append-le, take-append-le}
 use Rattle.cipher_mode.specs.declared.Sm4Cipher.{Sm4Cipher}
 use Rattle.walk.proofs.Loop.{tailed, tail-is}
@@ -19,7 +19,7 @@ use Rattle.journal.proofs.Lent.{recomputed-known}
 use Rattle.journal.proofs.Counting.{same-report, mode-below-6}
 use Rattle.journal.proofs.Sums.{adds-counted, replay-adds-up, adds-nothing}
 use Rattle.journal.proofs.Cases.{by-test}
-use Rattle.journal.proofs.Replaying.{from-end, from-bad, from-long, from-unknown, from-on, by-replay, Passes, counts, passed}
+use Rattle.journal.proofs.Replaying.{from-end, from-refused, from-on, by-replay, Passes, refuses, counts, passed}
 use Rattle.journal.proofs.Replaying.{from-start}
 use Rattle.journal.proofs.Standing.{Stands, stands, starts, size-within, starts-in, front-in, size-in}
 
@@ -74,9 +74,9 @@ module _ (p : ℕ) (r : Report) (adds : AddsUp r) where
   unfolding behindReport
   from-added ks =
       by-replay ks (λ b place s x. AddsUp s → replayFrom ks b (p + place) (added p r s) ≡ behindReport p r x)
-      (λ b place s e like. from-end ks b (p + place) (added p r s) e) (λ b place s h e like. from-bad ks b (p + place) (added p r s) h e)
-      (λ b place s e t like. from-long ks b (p + place) (added p r s) e t)
-      (λ b place s e t n like. from-unknown ks b (p + place) (added p r s) e t n)
+      (λ b place s e like. from-end ks b (p + place) (added p r s) e)
+      (λ b place s h e w like.
+      from-refused ks b (p + place) (added p r s) h e w ∙ sym (rw (ne-eqb (numberOfEnd e) 0 (refuses ks b place s e w .1))))
       (λ b place s x q more like.
       let e : p + place + sizeAt b ≡ p + (place + sizeAt b) = omega arith in
       let c = keyOf (front b .key) ks in
@@ -123,8 +123,8 @@ module _ (ks : List Sm4Cipher) (b : List ℕ) where
   goes-on =
       by-replay ks
       (λ a place r x. numberOfEnd (x .ended) ≡ 0 → replayFrom ks (a ++ b) place r ≡ replayFrom ks b (place + length a) (x .report))
-      (λ a place r h w. let e : place + 0 ≡ place = omega arith in rw (nil-of a h, e)) (λ a place r h s w. absurd (omega arith))
-      (λ a place r s t w. absurd (omega arith)) (λ a place r s t n w. absurd (omega arith))
+      (λ a place r h w. let e : place + 0 ≡ place = omega arith in rw (nil-of a h, e))
+      (λ a place r h e w z. absurd (refuses ks a place r e w .1 z))
       (λ a place r x p more w.
       let e : place + sizeAt a + length (drop (sizeAt a) a) ≡ place + length a =
       omega (arith, size-within a (stands a (p .0)), length-drop (sizeAt a) a) in

@@ -1,7 +1,7 @@
 -- What is known of a record that stands whole: its parts stand whole one behind the other, they make up its size, and what is read of it is
 -- told by the bytes of its fields alone.
 use Rattle.block.proofs.Base.{_+_, _-_, _≤_, ℕ, _∙_, _≡_, ap, refl, sym, false, true, List, [], _++_, _∷_, arith, le-leb, leb-true, leb, lit<}
-use Rattle.block.proofs.Base.{drop, getD, length, length-drop, length-take, take, drop-at, getD-take, length-take-le, take-add}
+use Rattle.block.proofs.Base.{drop, getD, length, length-drop, take, drop-at, getD-take, length-take-le, take-add}
 use Rattle.block.specs.BigEndian.{numberOf}
 use Rattle.block.specs.Words.{wordAt}
 use Rattle.block.proofs.Same.{and-left, and-right}
@@ -9,7 +9,7 @@ use Rattle.cipher_mode.specs.declared.Direction.{Direction}
 use Rattle.journal.specs.Format.{Entry, startsPart, partAt, behind, fromLabel, fromData, fromIv, fromRoom, fromOutput, afterRecord}
 use Rattle.journal.specs.Format.{directionOf, marked, startsRecord, sizeAt, front}
 use Rattle.journal.proofs.Cases.{by-test}
-use Rattle.journal.proofs.Fields.{Field, fixed, counted, Fit, Row, fields, sizes, past-drops, past-length, row-in}
+use Rattle.journal.proofs.Fields.{Field, fixed, counted, Fit, fields, joined, sizes, sizes-are, past-drops, past-length, row-in}
 
 -- a part
 module _ (b : List ℕ) where
@@ -81,27 +81,12 @@ module _ (b : List ℕ) where
 
   mark-read : marked (take 6 b) ≡ marked b
   unfolding marked
-  mark-read = rw (getD-take 6 b 0 0 (lit< tt), getD-take 6 b 1 0 (lit< tt), getD-take 6 b 2 0 (lit< tt))
+  mark-read = simp (getD-take, lit<, tt {0})
 
   pub front-read : Fit row-of b → read (fields row-of b) ≡ front b
   unfolding front behind
   front-read (a, (l, (d, (i, (m, (o, z)))))) =
-      let r = fromRoom b in
-      rw (
-        getD-take 6 b 2 0 (lit< tt),
-        getD-take 6 b 3 0 (lit< tt),
-        getD-take 6 b 4 0 (lit< tt),
-        getD-take 6 b 5 0 (lit< tt),
-        part-of-field (fromLabel b) l,
-        part-of-field (fromData b) d,
-        part-of-field (fromIv b) i,
-        part-of-field (fromOutput b) o,
-        getD-take 5 r 0 0 (lit< tt),
-        getD-take 5 r 1 0 (lit< tt),
-        getD-take 5 r 2 0 (lit< tt),
-        getD-take 5 r 3 0 (lit< tt),
-        getD-take 5 r 4 0 (lit< tt),
-      )
+      rw (getD-take 6 b 2 0 (lit< tt)) (simp (getD-take, part-of-field, lit<, tt {0}))
 
   size-none : startsRecord b ≡ false → sizeAt b ≡ 0
   unfolding sizeAt
@@ -111,6 +96,9 @@ module _ (b : List ℕ) where
     size-is : sizeAt b ≡ sizes row-of b
     unfolding sizeAt behind
     size-is = rw (starts s) (omega (arith, past-length row-of b (fits s)))
+
+    pub size-by : sizeAt b ≡ length (joined (fields row-of b) [])
+    size-by = size-is ∙ sym (sizes-are row-of b (fits s))
 
     -- its bytes but for the parts are 27
     pub size-sum : length (partAt (fromLabel b)) + length (partAt (fromData b)) + length (partAt (fromIv b)) + length
@@ -153,7 +141,7 @@ module _ (b : List ℕ) where
 
 -- Bytes that start with those of a record start with the record, whatever is behind it.
 module _ (b t : List ℕ) (s : Stands b) (h : take (sizeAt b) t ≡ take (sizeAt b) b) where
-  again : Row row-of t (fields row-of b) (drop (sizes row-of b) t)
+  again : Fit row-of t × (fields row-of t ≡ fields row-of b)
   again = row-in row-of b t (fits b s) (rw (size-is b s) at h)
 
   stands-in : Stands t
@@ -168,18 +156,7 @@ module _ (b t : List ℕ) (s : Stands b) (h : take (sizeAt b) t ≡ take (sizeAt
   front-in = sym (front-read t (again .0)) ∙ ap {B = Entry} read (again .1) ∙ front-read b (fits b s)
 
   pub size-in : sizeAt t ≡ sizeAt b
-  size-in =
-      omega (
-        arith,
-        size-is t stands-in,
-        size-is b s,
-        past-length row-of t (again .0),
-        ap length (again .2),
-        length-drop (sizes row-of b) t,
-        ap length h,
-        length-take (sizeAt b) t,
-        length-take-le (sizeAt b) b (size-within b s),
-      )
+  size-in = size-by t stands-in ∙ ap (λ (ps : List (List ℕ)). length (joined ps [])) (again .1) ∙ sym (size-by b s)
 
 -- the same as the code holds it
 pub in-room : (b t : List ℕ) → startsRecord b ≡ true → t ≡ fromRoom b → 5 ≤ length t

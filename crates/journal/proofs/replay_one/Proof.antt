@@ -6,7 +6,8 @@ use Rattle.journal.specs.KeyList.{keysIn, placeOf, hasNumber}
 use Rattle.journal.proofs.Standing.{size-zero, size-some}
 use Rattle.journal.proofs.KeyTurns.{count-keys}
 use Rattle.journal.proofs.Lent.{recomputed-known, recomputed-size}
-use Rattle.journal.proofs.Replaying.{bad-record, too-long, no-key, counts}
+use Rattle.journal.proofs.Replaying.{refuses, counts}
+use Rattle.journal.specs.declared.Ended.the-variants.{BadRecord, TooLong, UnknownKey}
 use Rattle.journal.proofs.replay_one.Statement.{statement}
 use Rattle.journal.proofs.replay_one.Tie as tie
 
@@ -58,12 +59,13 @@ returns-4 c =
 
 pub replay-one-spec : {M : Type 1} → statement M
 replay-one-spec =
-    tie.close (tie.spec (λ c κs. search needs) (λ c. bad-record _ _ _ _ (size-zero _ (sym (c .before .measure .ensures) ∙ c .if1 .taken)))
-    (λ c κs. starts c) (λ c. too-long _ _ _ _ (starts (c .before .before)) (sym (c .before .too-long .ensures) ∙ c .if2 .taken))
+    tie.close (tie.spec (λ c κs. search needs)
+    (λ c. sym (refuses _ _ _ _ BadRecord (size-zero _ (sym (c .before .measure .ensures) ∙ c .if1 .taken)) .0)) (λ c κs. starts c)
+    (λ c. sym (refuses _ _ _ _ TooLong (starts (c .before .before), sym (c .before .too-long .ensures) ∙ c .if2 .taken) .0))
     (λ c κs. starts (c .before .before)) (λ c κs. search needs)
     (λ c.
     let x = c .before .before in
     let else2 = x .before .before in
-    no-key _ _ _ _ (starts (else2 .before .before)) (short else2) (has x ∙ le-ltb _ _ (c .if3 .taken)))
+    sym (refuses _ _ _ _ UnknownKey (starts (else2 .before .before), short else2, has x ∙ le-ltb _ _ (c .if3 .taken)) .0))
     (λ c κs. search needs) (λ c κs. let else2 = c .before .before .before .before .before in (starts (else2 .before .before), short else2))
     counted-requires returns-4)
