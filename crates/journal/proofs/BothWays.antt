@@ -12,10 +12,10 @@ use Rattle.block.proofs.Same.{and-left, and-right}
 use Rattle.cipher_mode.specs.declared.Direction.{Direction}
 use Rattle.cipher_mode.specs.declared.Direction.the-variants.{Encrypt, Decrypt}
 use Rattle.journal.specs.Format.{Entry, ProperPart, Proper, directionByte, part, head, middle, written, startsPart, partAt, behind}
-use Rattle.journal.specs.Format.{fromLabel, fromData, fromIv, fromRoom, fromOutput, afterRecord, marked, startsRecord, sizeAt}
+use Rattle.journal.specs.Format.{fromLabel, fromData, fromIv, fromRoom, fromOutput, afterRecord, marked, startsRecord, Stands, sizeAt}
 use Rattle.journal.specs.Format.{directionOf, front}
 use Rattle.journal.proofs.Fields.{Is, counted, Fit, row, past, past-below, fields, joined, joined-fields}
-use Rattle.journal.proofs.Standing.{part-fits, length-part, row-of, read, Stands, starts, front-read, fit-stands, size-by}
+use Rattle.journal.proofs.Standing.{part-fits, length-part, row-of, read, starts, front-read, fit-stands, size-by}
 
 -- the fields of an entry
 abbrev fields-of : Entry → List (List ℕ)

@@ -15,7 +15,7 @@ use Rattle.journal.specs.declared.Ended.{Ended}
 use Rattle.journal.specs.declared.Ended.the-variants.{Done, BadRecord, TooLong, UnknownKey, BadKeys}
 use Rattle.journal.specs.declared.Replayed.{Replayed}
 use Rattle.journal.proofs.Cases.{by-test, clash}
-use Rattle.journal.proofs.Standing.{stands, behind-size, long}
+use Rattle.journal.proofs.Standing.{stands, behind-size}
 use Rattle.journal.proofs.Replaying.{Passes, Refuses, from-end, from-refused, from-on, by-replay, from-start}
 use Rattle.journal.proofs.BothWays.{written-starts, written-front, written-size, front-proper, front-written}
 
@@ -42,7 +42,7 @@ module _ (ks : List Sm4Cipher) where
       record { calls = []; rest = b; split = refl; replayable = tt; why = why; place = told; report = report }
 
   some : (b : List ℕ) → startsRecord b ≡ true → 0 < length b
-  some b s = omega (arith, long b s)
+  some b s = omega (arith, stands b s .long)
 
   -- what is read there is what stands there
   begins-there : (b : List ℕ) → AreBytes b → startsRecord b ≡ true → Begins b (front b)

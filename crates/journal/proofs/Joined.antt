@@ -4,7 +4,7 @@ use Rattle.block.proofs.Base.{_+_, _<_, suc, zero, ℕ, _∙_, _≡_, ap, refl,
 use Rattle.block.proofs.Base.{length, length-drop, replicate, take, drop-append-le, take-append-le}
 use Rattle.cipher_mode.specs.declared.Sm4Cipher.{Sm4Cipher}
 use Rattle.walk.proofs.Loop.{tailed, tail-is}
-use Rattle.journal.specs.Format.{Entry, sizeAt, front}
+use Rattle.journal.specs.Format.{Entry, Stands, sizeAt, front}
 use Rattle.journal.specs.KeyList.{keyOf, keysIn, badKeys}
 use Rattle.journal.specs.Recomputed.{recomputed, judged}
 use Rattle.journal.specs.Reports.{nothing, oneMore, modePlace, firstOf, counted, AddsUp}
@@ -21,7 +21,7 @@ use Rattle.journal.proofs.Sums.{adds-counted, replay-adds-up, adds-noth
 use Rattle.journal.proofs.Cases.{by-test}
 use Rattle.journal.proofs.Replaying.{from-end, from-refused, from-on, by-replay, Passes, refuses, counts, passed}
 use Rattle.journal.proofs.Replaying.{from-start}
-use Rattle.journal.proofs.Standing.{Stands, stands, starts, size-within, starts-in, front-in, size-in}
+use Rattle.journal.proofs.Standing.{stands, starts, size-within, starts-in, front-in, size-in}
 
 sums-more : (a b : List ℕ) (i : ℕ) → i < length a → i < length b → sums a (oneMore i b) ≡ oneMore i (sums a b)
 unfolding sums

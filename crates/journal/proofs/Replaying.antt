@@ -1,7 +1,6 @@
 -- Replay goes on record by record: one law by cases of the record in front, and one induction over all of them.
 use Rattle.block.proofs.Base.{_+_, _<_, _≤_, suc, zero, ℕ, _∙_, _≡_, refl, sym, false, true, List, arith, eq-eqb, eqb-false, eqb-true}
 use Rattle.block.proofs.Base.{ne-eqb, eqb, drop, length, length-drop}
-use Rattle.walk.proofs.Loop.{tailed, tail-is}
 use Rattle.cipher_mode.specs.declared.Sm4Cipher.{Sm4Cipher}
 use Rattle.journal.specs.Format.{Entry, startsRecord, sizeAt, front, tooLong}
 use Rattle.journal.specs.KeyList.{keysIn, hasNumber, keyOf, badKeys}
@@ -123,9 +122,8 @@ module _ (ks : List Sm4Cipher) (b : List ℕ) (place : ℕ) (r : Report) where
         (within-counted (front b) _ place (sizeAt b) r w (data-within b (stands b (p .0)))
         (recomputed-size (keyOf (front b .key) ks) (front b)))
 
-    -- what is to come is written as the borrow checker has it
-    pub turn-from : replayFrom ks (tailed n b) (place + n) (one .report) ≡ replayFrom ks b place r
-    turn-from = rw (tail-is b n, size, replayed, ← counts ks b place r p) (sym (from-on p))
+    pub turn-from : replayFrom ks (drop n b) (place + n) (one .report) ≡ replayFrom ks b place r
+    turn-from = rw (size, replayed, ← counts ks b place r p) (sym (from-on p))
 
 -- What holds at the end of a journal, and where replay stops, and goes on from what is behind a record to the record, holds of all replays.
 module _ (ks : List Sm4Cipher) (P : List ℕ → ℕ → Report → Replayed → Type 0)

@@ -1,13 +1,13 @@
 -- What is known of a record that stands whole: its parts stand whole one behind the other, they make up its size, and what is read of it is
 -- told by the bytes of its fields alone.
-use Rattle.block.proofs.Base.{_+_, _-_, _≤_, ℕ, _∙_, _≡_, ap, refl, sym, false, true, List, [], _++_, _∷_, arith, le-leb, leb-true, leb, lit<}
+use Rattle.block.proofs.Base.{_+_, _-_, _<_, _≤_, ℕ, _∙_, _≡_, ap, refl, sym, false, true, List, [], _++_, _∷_, arith, le-leb, leb-true, leb, lit<}
 use Rattle.block.proofs.Base.{drop, getD, length, length-drop, take, drop-at, getD-take, length-take-le, take-add}
 use Rattle.block.specs.BigEndian.{numberOf}
 use Rattle.block.specs.Words.{wordAt}
 use Rattle.block.proofs.Same.{and-left, and-right}
 use Rattle.cipher_mode.specs.declared.Direction.{Direction}
-use Rattle.journal.specs.Format.{Entry, startsPart, partAt, behind, fromLabel, fromData, fromIv, fromRoom, fromOutput, afterRecord}
-use Rattle.journal.specs.Format.{directionOf, marked, startsRecord, sizeAt, front}
+use Rattle.journal.specs.Format.{Entry, startsPart, partAt, behind, pastPart, fromLabel, fromData, fromIv, fromRoom, fromOutput, afterRecord}
+use Rattle.journal.specs.Format.{directionOf, marked, startsRecord, Stands, sizeAt, front}
 use Rattle.journal.proofs.Cases.{by-test}
 use Rattle.journal.proofs.Fields.{Field, fixed, counted, Fit, fields, joined, sizes, sizes-are, past-drops, past-length, row-in}
 
@@ -33,16 +33,6 @@ module _ (b : List ℕ) where
 -- the fields of a record
 abbrev pub row-of : List Field
 row-of = fixed 6 ∷ counted ∷ counted ∷ counted ∷ fixed 5 ∷ counted ∷ []
-
--- what is told by a record that stands whole
-pub record Stands (b : List ℕ) : Type 0 where
-  pub long : 6 ≤ length b
-  pub mark : marked b ≡ true
-  pub label : startsPart (fromLabel b) ≡ true
-  pub «data» : startsPart (fromData b) ≡ true
-  pub iv : startsPart (fromIv b) ≡ true
-  pub middle : 5 ≤ length (fromRoom b)
-  pub output : startsPart (fromOutput b) ≡ true
 
 -- what they say
 abbrev pub read : List (List ℕ) → Entry
@@ -139,6 +129,29 @@ module _ (b : List ℕ) where
   pub not-standing : (Stands b → ⊥) → 0 ≡ sizeAt b
   not-standing z = by-test (startsRecord b) (λ f. absurd (z (stands f))) (λ f. sym (size-none f))
 
+-- a record is measured from part to part: what is behind its third part, if all three stand whole
+module _ (t : List ℕ) (h : 0 < length (pastPart t)) where
+  past-some : (startsPart t ≡ true) × (pastPart t ≡ behind t) × (0 < length t)
+  unfolding pastPart
+  past-some =
+      by-test (startsPart t) (λ e. (e, rw e, omega (arith, part-fits t e))) (λ e. absurd (omega (arith, rw e at h)))
+
+module _ (b : List ℕ) where
+  abbrev pub measured : List ℕ
+  measured = pastPart (pastPart (pastPart (fromLabel b)))
+
+  pub measured-is : Stands b → measured ≡ fromRoom b
+  unfolding pastPart
+  measured-is s = rw (s .label, s .«data», s .iv)
+
+  pub measured-stands : 6 ≤ length b → marked b ≡ true → 5 ≤ length measured → startsPart (drop 5 measured) ≡ true → Stands b
+  measured-stands h m l o =
+      let i = past-some (pastPart (pastPart (fromLabel b))) (omega arith) in
+      let d = past-some (pastPart (fromLabel b)) (i .2) in
+      let a = past-some (fromLabel b) (d .2) in
+      let e : measured ≡ fromRoom b = cc in
+      record { long = h; mark = m; label = a .0; «data» = cc; iv = cc; middle = rw (← e) l; output = cc }
+
 -- Bytes that start with those of a record start with the record, whatever is behind it.
 module _ (b t : List ℕ) (s : Stands b) (h : take (sizeAt b) t ≡ take (sizeAt b) b) where
   again : Fit row-of t × (fields row-of t ≡ fields row-of b)
@@ -157,10 +170,3 @@ module _ (b t : List ℕ) (s : Stands b) (h : take (sizeAt b) t ≡ take (sizeAt
 
   pub size-in : sizeAt t ≡ sizeAt b
   size-in = size-by t stands-in ∙ ap (λ (ps : List (List ℕ)). length (joined ps [])) (again .1) ∙ sym (size-by b s)
-
--- the same as the code holds it
-pub in-room : (b t : List ℕ) → startsRecord b ≡ true → t ≡ fromRoom b → 5 ≤ length t
-in-room b t s e = rw e (stands b s .middle)
-
-pub long : (b : List ℕ) → startsRecord b ≡ true → 6 ≤ length b
-long b s = stands b s .long

@@ -3,7 +3,7 @@ ghost use mathlib.Core.Path.{_≡_};
 ghost use Prim.Native.Nat.{_+_, _≤_, _<_};
 ghost use lib.ListN.{drop};
 ghost use Rattle.cipher_mode.specs.Key.{keyNumber};
-ghost use Rattle.journal.specs.KeyList.{keysIn, placeOf, keyAt, anyRetired, numberTwice, badKeys};
+ghost use Rattle.journal.specs.KeyList.{keysIn, placeOf, keyAt, badKeys};
 use cipher_mode::Sm4Cipher;
 
 // The most keys of a replay.
@@ -55,36 +55,6 @@ pub(crate) fn find(keys: Keys, number: u16) -> usize
     find_from(keys, 0, number)
 }
 
-fn any_retired(keys: Keys) -> bool
-    requires { ⌜ keys .count ≤ 8 ⌝ }
-    ensures { λ r. ⌜ r ≡ anyRetired (keysIn keys) ⌝ }
-{
-    let mut i = 0;
-    while i < keys.count {
-        let key = at(keys, i);
-        if key.retired {
-            return true;
-        }
-        i += 1;
-    }
-    false
-}
-
-fn number_twice(keys: Keys) -> bool
-    requires { ⌜ keys .count ≤ 8 ⌝ }
-    ensures { λ r. ⌜ r ≡ numberTwice (keysIn keys) ⌝ }
-{
-    let mut i = 0;
-    while i < keys.count {
-        let number = number_of(at(keys, i));
-        i += 1;
-        if find_from(keys, i, number) < keys.count {
-            return true;
-        }
-    }
-    false
-}
-
 // Over eight keys, a retired one, or a number twice.
 pub fn bad(keys: Keys) -> bool
     ensures { λ r. ⌜ r ≡ badKeys keys ⌝ }
@@ -92,8 +62,17 @@ pub fn bad(keys: Keys) -> bool
     if keys.count > MOST {
         return true;
     }
-    if any_retired(keys) {
-        return true;
+    let mut i = 0;
+    while i < keys.count {
+        let key = at(keys, i);
+        if key.retired {
+            return true;
+        }
+        let number = number_of(key);
+        i += 1;
+        if find_from(keys, i, number) < keys.count {
+            return true;
+        }
     }
-    number_twice(keys)
+    false
 }

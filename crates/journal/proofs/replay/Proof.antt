@@ -1,8 +1,7 @@
 -- `replay` meets its contract. The loop's invariant: replay from here, with the report so far, ends as replay of the whole journal does,
 -- and no count passes the place. The measure is how many bytes are to come.
-use Rattle.block.proofs.Base.{_+_, _<_, _≤_, ℕ, _∙_, _≡_, ap, sym, false, List, arith, needs, now, length}
+use Rattle.block.proofs.Base.{_+_, _<_, _≤_, ℕ, _∙_, _≡_, ap, sym, false, List, arith, needs, now, length, length-drop}
 use Rattle.cipher_mode.specs.declared.Sm4Cipher.{Sm4Cipher}
-use Rattle.walk.proofs.Loop.{length-tailed}
 use Rattle.journal.specs.KeyList.{keysIn, badKeys}
 use Rattle.journal.specs.Reports.{nothing, Within}
 use Rattle.journal.specs.Replay.{numberOfEnd, replayOne, replayFrom, replay}
@@ -76,11 +75,12 @@ loop-again c =
     let m = c .before in
     let x = numbered m in
     let l = at-loop x .loop in
+    let next = c .skip .ensures in
     let told = x .before .replay-one .ensures in (
       l .inv .0,
       turn-within (ks x) (here x) (l .place) (l .report) _ _ (m .measure .ensures) told (passes m) (l .inv .1),
-      omega (arith, size m, length-tailed (here x) (m .measure .result), l .inv .2),
-      turn-from (ks x) (here x) (l .place) (l .report) _ _ (m .measure .ensures) told (passes m) ∙ l .inv .3,
+      omega (arith, size m, ap length next, length-drop (m .measure .result) (here x), l .inv .2),
+      rw next (turn-from (ks x) (here x) (l .place) (l .report) _ _ (m .measure .ensures) told (passes m) ∙ l .inv .3),
     )
 
 returns-3 : tie.Need-returns-3 Inv-loop μ-loop
@@ -93,6 +93,8 @@ replay-spec =
     tie.close (tie.spec Inv-loop μ-loop (λ c κs. search needs) (λ c κs. search needs)
     (λ c. unfold replay in rw (sym (c .before .bad .ensures) ∙ c .if1 .taken, c .before .before .nothing .ensures)) loop-holds
     (λ c κs. let inv = c .before .loop .inv in (inv .0, (inv .1, omega (arith, inv .2)))) (λ c κs. search needs) returns-2
-    (λ c κs. search needs) (λ c. size c .1) (λ c. size c .1) (λ c. omega arith)
+    (λ c κs. search needs) (λ c κs. size c .1)
     (λ c. omega (arith, size (c .before), at-loop (numbered (c .before)) .loop .inv .2))
-    (λ c. let m = c .before in omega (arith, size m, length-tailed (here (numbered m)) (m .measure .result))) loop-again returns-3)
+    (λ c.
+    let m = c .before in
+    omega (arith, size m, ap length (c .skip .ensures), length-drop (m .measure .result) (here (numbered m)))) loop-again returns-3)

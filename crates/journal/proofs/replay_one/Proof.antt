@@ -3,7 +3,7 @@ use Rattle.block.proofs.Base.{ℕ, _∙_, _≡_, ap, sym, false, true, List, ne
 use Rattle.cipher_mode.specs.declared.Sm4Cipher.{Sm4Cipher}
 use Rattle.journal.specs.Format.{startsRecord, front, tooLong}
 use Rattle.journal.specs.KeyList.{keysIn, placeOf, hasNumber}
-use Rattle.journal.proofs.Standing.{size-zero, size-some}
+use Rattle.journal.proofs.Standing.{stands, size-zero, size-some}
 use Rattle.journal.proofs.KeyTurns.{count-keys}
 use Rattle.journal.proofs.Lent.{recomputed-known, recomputed-size}
 use Rattle.journal.proofs.Replaying.{refuses, counts}
@@ -29,6 +29,7 @@ module _ (x : tie.After-find) where
   key = front (now (start .args .s)) .key
 
   place-is : x .find .result ≡ placeOf key ks
+  unfolding front
   place-is = x .find .ensures ∙ ap (λ (n : ℕ). placeOf n ks) (x .before .key-number .ensures)
 
   has : hasNumber key ks ≡ ltb (x .find .result) (start .args .keys .count)
@@ -42,7 +43,7 @@ counted-requires c κs =
     let S = start x in
     let e = front (now (S .args .s)) in
     let cipher = c .before .at .result in (
-      starts (x .before .before .before .before),
+      stands _ (starts (x .before .before .before .before)),
       (
         rw (c .recompute .ensures) (recomputed-known cipher e),
         (rw (c .recompute .ensures) (recomputed-size cipher e), S .pre .1),
@@ -60,12 +61,12 @@ returns-4 c =
 pub replay-one-spec : {M : Type 1} → statement M
 replay-one-spec =
     tie.close (tie.spec (λ c κs. search needs)
-    (λ c. sym (refuses _ _ _ _ BadRecord (size-zero _ (sym (c .before .measure .ensures) ∙ c .if1 .taken)) .0)) (λ c κs. starts c)
+    (λ c. sym (refuses _ _ _ _ BadRecord (size-zero _ (sym (c .before .measure .ensures) ∙ c .if1 .taken)) .0)) (λ c κs. stands _ (starts c))
     (λ c. sym (refuses _ _ _ _ TooLong (starts (c .before .before), sym (c .before .too-long .ensures) ∙ c .if2 .taken) .0))
-    (λ c κs. starts (c .before .before)) (λ c κs. search needs)
+    (λ c κs. stands _ (starts (c .before .before))) (λ c κs. search needs)
     (λ c.
     let x = c .before .before in
     let else2 = x .before .before in
     sym (refuses _ _ _ _ UnknownKey (starts (else2 .before .before), short else2, has x ∙ le-ltb _ _ (c .if3 .taken)) .0))
-    (λ c κs. search needs) (λ c κs. let else2 = c .before .before .before .before .before in (starts (else2 .before .before), short else2))
+    (λ c κs. search needs) (λ c κs. let else2 = c .before .before .before .before .before in (stands _ (starts (else2 .before .before)), short else2))
     counted-requires returns-4)

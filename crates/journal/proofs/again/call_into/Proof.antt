@@ -35,6 +35,7 @@ called c e o x dir mode l d iv n h en em edir el ed eiv ex =
     rw (← en, t, ← em, ← edir, ← el, ← ed, ← eiv) ex
 
 returns-2 : tie.Need-returns-2
+unfolding front
 returns-2 c =
     let at-call = c .before .before .before in
     let at-iv = at-call .before .before in
@@ -55,6 +56,6 @@ returns-2 c =
 pub call-into-spec : {M : Type 1} → statement M
 call-into-spec =
     tie.close (tie.spec (λ c κs. search needs)
-    (λ c. let m = c .before in bad-mode (m .before .before .before .args .cipher) _ _ (rw (← m .mode .ensures) (c .if1 .taken)))
+    (λ c. let m = c .before in unfold front in bad-mode (m .before .before .before .args .cipher) _ _ (rw (← m .mode .ensures) (c .if1 .taken)))
     (λ c. search needs) (λ c κs. search needs) (λ c κs. search needs) (λ c κs. search needs) (λ c κs. search needs) (λ c κs. search needs)
     (λ c κs. search needs) (λ c κs. search needs) (λ c. search needs) returns-2)

@@ -1,9 +1,11 @@
 -- `records::too_long` meets its contract: the lengths are those of the record's parts.
 use Rattle.block.proofs.Base.{_∙_, needs}
+use Rattle.journal.specs.Format.{front}
 use Rattle.journal.proofs.records.too_long.Statement.{statement}
 use Rattle.journal.proofs.records.too_long.Tie as tie
 
 returns : tie.Need-returns
+unfolding front
 returns c =
     let at-output = c .before in
     let at-iv = at-output .before in

@@ -1,16 +1,16 @@
 -- `report::counted` meets its contract, field by field. No sum wraps, since every count is at most the place.
-use Rattle.block.proofs.Base.{_+_, _<_, _≤_, suc, ℕ, _∙_, _≡_, ap, refl, true, List, arith, needs, length}
+use Rattle.block.proofs.Base.{_+_, _<_, _≤_, suc, ℕ, _∙_, _≡_, ap, refl, List, arith, needs, length}
 use Rattle.block.proofs.Entries.{below-at}
-use Rattle.journal.specs.Format.{startsRecord, front}
+use Rattle.journal.specs.Format.{Stands, front}
 use Rattle.journal.specs.Reports.{oneMore, modePlace, counted}
-use Rattle.journal.proofs.Standing.{stands, size-within, data-within}
+use Rattle.journal.proofs.Standing.{size-within, data-within}
 use Rattle.journal.proofs.Counting.{same-report, mode-below-6}
 use Rattle.journal.proofs.report.counted.Statement.{statement}
 use Rattle.journal.proofs.report.counted.Tie as tie
 
 -- the record fits, so the place behind it does
-data-inside : (b : List ℕ) → startsRecord b ≡ true → 27 + length (front b .«data») ≤ length b
-data-inside b e = let s = stands b e in omega (arith, size-within b s, data-within b s)
+data-inside : (b : List ℕ) → Stands b → 27 + length (front b .«data») ≤ length b
+data-inside b s = omega (arith, size-within b s, data-within b s)
 
 one-more-requires : tie.Need-one-more-requires
 one-more-requires c κs =
@@ -30,7 +30,7 @@ one-more-requires-2 c κs =
     (omega (arith, S .pre .1 .0), omega (arith, data-inside _ (S .pre .0)))
 
 returns : tie.Need-returns
-unfolding counted
+unfolding counted front
 returns c =
     let at-data = c .before .before .before in
     let at-answer = at-data .before .before .before .before in
@@ -46,7 +46,7 @@ pub counted-spec : {M : Type 1} → statement M
 counted-spec =
     tie.close (tie.spec (λ c. search needs) (λ c κs. search needs) (λ c κs. search needs) one-more-requires (λ c. search needs)
     (λ c. search needs) one-more-requires-2 (λ c. omega (arith, data-inside)) (λ c κs. search needs)
-    (λ c. omega (arith, data-inside, ap length (c .before .«data» .ensures)))
+    (λ c. unfold front in omega (arith, data-inside, ap length (c .before .«data» .ensures)))
     (λ c.
     let x = c .before .before .before .before .before .before .before .before in
     let S = x .before .before .before .before .before .before .before .before .before in
