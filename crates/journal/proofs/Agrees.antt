@@ -12,7 +12,7 @@ use Rattle.journal.specs.Ends.{countedAll, Ends, answerNow, differs, Non
 use Rattle.journal.specs.declared.report.Difference.{Difference}
 use Rattle.journal.specs.declared.report.Report.{Report}
 use Rattle.journal.specs.declared.Replayed.{Replayed}
-use Rattle.journal.proofs.Cases.{by-test, clash, neither}
+use Rattle.journal.proofs.Cases.{by-test, clash, or-left, or-right}
 use Rattle.journal.proofs.Lent.{result-size}
 use Rattle.journal.proofs.Joined.{either-way}
 
@@ -40,13 +40,7 @@ module _ (ks : List Sm4Cipher) (e : Entry) where
   -- A call that agrees is answered now as it was recorded.
   pub agrees-so : differs ks e ≡ false → (e .number ≡ answerNow ks e .head .number) × (e .output ≡ result (answerNow ks e))
   unfolding differsFrom
-  agrees-so d =
-      let x = answerNow ks e in
-      let number = neither (not (eqb (e .number) (x .head .number))) _ d in
-      let output = neither (not (eqb (length (e .output)) (x .head .size))) _ (number .1) .1 in (
-        eqb-true (e .number) (x .head .number) (not-false _ (number .0)),
-        same-equal (e .output) (result x) (not-false _ output),
-      )
+  agrees-so d = search (or-left, or-right, not-false, eqb-true, same-equal)
 
 -- The first difference over calls that stand one behind the other.
 module _ (ks : List Sm4Cipher) where

@@ -1,9 +1,11 @@
 // The keys of a replay.
 ghost use mathlib.Core.Path.{_≡_};
 ghost use Prim.Native.Nat.{_+_, _≤_, _<_};
+ghost use mathlib.Core.List.{_∷_};
+ghost use lib.Dec.{ltb};
 ghost use lib.ListN.{drop};
 ghost use Rattle.cipher_mode.specs.Key.{keyNumber};
-ghost use Rattle.journal.specs.KeyList.{keysIn, placeOf, keyAt, badKeys};
+ghost use Rattle.journal.specs.KeyList.{keysIn, placeOf, hasNumber, keyAt, badKeys};
 use cipher_mode::Sm4Cipher;
 
 // The most keys of a replay.
@@ -27,6 +29,7 @@ pub(crate) fn at(keys: Keys, i: usize) -> Sm4Cipher
     requires { ⌜ i < keys .count ⌝ }
     requires { ⌜ keys .count ≤ 8 ⌝ }
     ensures { λ r. ⌜ r ≡ keyAt (keysIn keys) i ⌝ }
+    ensures { λ r. ⌜ drop i (keysIn keys) ≡ r ∷ drop (i + 1) (keysIn keys) ⌝ }
 {
     let all = keys.keys;
     all[i]
@@ -37,6 +40,7 @@ fn find_from(keys: Keys, from: usize, number: u16) -> usize
     requires { ⌜ from ≤ keys .count ⌝ }
     requires { ⌜ keys .count ≤ 8 ⌝ }
     ensures { λ r. ⌜ r ≡ from + placeOf number (drop from (keysIn keys)) ⌝ }
+    ensures { λ r. ⌜ ltb r (keys .count) ≡ hasNumber number (drop from (keysIn keys)) ⌝ }
 {
     let mut i = from;
     while i < keys.count {
@@ -51,6 +55,7 @@ fn find_from(keys: Keys, from: usize, number: u16) -> usize
 pub(crate) fn find(keys: Keys, number: u16) -> usize
     requires { ⌜ keys .count ≤ 8 ⌝ }
     ensures { λ r. ⌜ r ≡ placeOf number (keysIn keys) ⌝ }
+    ensures { λ r. ⌜ ltb r (keys .count) ≡ hasNumber number (keysIn keys) ⌝ }
 {
     find_from(keys, 0, number)
 }

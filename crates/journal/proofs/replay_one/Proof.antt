@@ -1,10 +1,9 @@
 -- `replay_one` meets its contract: each return is the definition, by the tests that led there.
-use Rattle.block.proofs.Base.{ℕ, _∙_, _≡_, ap, sym, false, true, List, needs, le-ltb, lt-ltb, now, ltb, length-map}
+use Rattle.block.proofs.Base.{ℕ, _∙_, _≡_, ap, sym, false, true, List, needs, le-ltb, lt-ltb, now, ltb}
 use Rattle.cipher_mode.specs.declared.Sm4Cipher.{Sm4Cipher}
 use Rattle.journal.specs.Format.{startsRecord, front, tooLong}
 use Rattle.journal.specs.KeyList.{keysIn, placeOf, hasNumber}
 use Rattle.journal.proofs.Standing.{stands, size-zero, size-some}
-use Rattle.journal.proofs.KeyTurns.{count-keys}
 use Rattle.journal.proofs.Lent.{recomputed-known, recomputed-size}
 use Rattle.journal.proofs.Replaying.{refuses, counts}
 use Rattle.journal.specs.declared.Ended.the-variants.{BadRecord, TooLong, UnknownKey}
@@ -30,12 +29,11 @@ module _ (x : tie.After-find) where
 
   place-is : x .find .result ≡ placeOf key ks
   unfolding front
-  place-is = x .find .ensures ∙ ap (λ (n : ℕ). placeOf n ks) (x .before .key-number .ensures)
+  place-is = x .find .ensures .0 ∙ ap (λ (n : ℕ). placeOf n ks) (x .before .key-number .ensures)
 
   has : hasNumber key ks ≡ ltb (x .find .result) (start .args .keys .count)
-  has =
-      let eight = sym (length-map (start .args .keys .keys) _) ∙ start .good .0 .1 .1 .1 .0 .1 .0 .1 in
-      rw (← place-is, count-keys (start .args .keys) eight (start .pre .0))
+  unfolding front
+  has = sym (x .find .ensures .1 ∙ ap (λ (n : ℕ). hasNumber n ks) (x .before .key-number .ensures))
 
 counted-requires : tie.Need-counted-requires
 counted-requires c κs =
@@ -55,7 +53,7 @@ returns-4 c =
     let k = c .before .before in
     let x = k .before .before .before in
     let else2 = x .before .before in
-    rw (c .counted .ensures, c .before .recompute .ensures, k .at .ensures, place-is x)
+    rw (c .counted .ensures, c .before .recompute .ensures, k .at .ensures .0, place-is x)
     (counts _ _ _ _ (starts (else2 .before .before), short else2, has x ∙ lt-ltb _ _ (k .before .if3 .left)))
 
 pub replay-one-spec : {M : Type 1} → statement M
