@@ -61,23 +61,26 @@ gives-written most h p k l m =
     record { head = h; front = take (h .size) p; known = k; sized = length-take-le (h .size) p l; fits = m; leaves = λ o. refl }
 
 -- the same with another report of the same number and size
-gives-told : (most : ℕ) (u : Head → Head) → ((h : Head) → u h .number ≡ h .number) → ((h : Head) → u h .size ≡ h .size)
-    → (f : List ℕ → Outcome) → Gives most f → Gives most (λ o. leaving (u (f o .head)) (f o .bytes))
-gives-told most u n s f g =
+abbrev telling′ : (Head → ℕ) → (Head → ℕ) → Head → Head
+telling′ round key h = record { number = h .number; size = h .size; missing = h .missing; cameRound = round h; key = key h }
+
+gives-told : (most : ℕ) (round key : Head → ℕ) (f : List ℕ → Outcome) → Gives most f
+    → Gives most (λ o. leaving (telling′ round key (f o .head)) (f o .bytes))
+gives-told most round key f g =
     record {
-      head = u (g .head);
+      head = telling′ round key (g .head);
       front = g .front;
-      known = rw (n (g .head)) (g .known);
-      sized = g .sized ∙ sym (s (g .head));
-      fits = rw (s (g .head)) (g .fits);
-      leaves = λ o. ap {B = Outcome} (λ (x : Outcome). leaving (u (x .head)) (x .bytes)) (g .leaves o);
+      known = g .known;
+      sized = g .sized;
+      fits = g .fits;
+      leaves = λ o. ap {B = Outcome} (λ (x : Outcome). leaving (telling′ round key (x .head)) (x .bytes)) (g .leaves o);
     }
 
 gives-reporting : (most : ℕ) (b : Bool) (f : List ℕ → Outcome) → Gives most f → Gives most (λ o. reporting b (f o))
-gives-reporting most b = gives-told most (λ h. telling (eqb (h .number) 0 && b) h) (λ h. refl) (λ h. refl)
+gives-reporting most b = gives-told most (λ h. cond (eqb (h .number) 0 && b) 1 0) (λ h. h .key)
 
 gives-keyed : (most k : ℕ) (f : List ℕ → Outcome) → Gives most f → Gives most (λ o. keyed k (f o))
-gives-keyed most k = gives-told most (under k) (λ h. refl) (λ h. refl)
+gives-keyed most k = gives-told most (λ h. h .cameRound) (λ h. k)
 
 refusal-known : (r : Refusal) → refusalHead r .number < 27
 refusal-known ErrorBlockSize = lit< tt
