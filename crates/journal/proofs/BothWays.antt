@@ -15,7 +15,7 @@ use Rattle.journal.specs.Format.{Entry, ProperPart, Proper, directionByt
 use Rattle.journal.specs.Format.{fromLabel, fromData, fromIv, fromRoom, fromOutput, afterRecord, marked, startsRecord, Stands, sizeAt}
 use Rattle.journal.specs.Format.{directionOf, front}
 use Rattle.journal.proofs.Fields.{Is, counted, Fit, row, past, past-below, fields, joined, joined-fields}
-use Rattle.journal.proofs.Standing.{part-fits, length-part, row-of, read, starts, front-read, fit-stands, size-by}
+use Rattle.journal.proofs.Standing.{part-fits, length-part, row-of, read, starts, front-read, fit-stands, size-is}
 
 -- the fields of an entry
 abbrev fields-of : Entry → List (List ℕ)
@@ -38,9 +38,9 @@ fields-read e proper =
     let r = numberOf-bytesOf 4 (e .room) ∙ mod-eq-of-lt (proper .room) in
     rw (direction-back (e .direction) .0, k, r)
 
-joined-of : (e : Entry) (rest : List ℕ) → written e ++ rest ≡ joined (fields-of e) rest
+written-is : (e : Entry) → written e ≡ joined (fields-of e)
 unfolding written
-joined-of e rest = simp append-assoc
+written-is e = simp append-nil
 
 -- A record that was written stands whole, whatever is behind it; it reads as it was; and its size is its bytes.
 module _ (e : Entry) (proper : Proper e) (rest : List ℕ) where
@@ -51,7 +51,7 @@ module _ (e : Entry) (proper : Proper e) (rest : List ℕ) where
   unfolding head middle bytesOf
   written-row =
       let p = proper in
-      rw (joined-of e rest)
+      rw (written-is e)
       (row row-of (fields-of e) rest
       (λ c. refl, (part-is _ (p .label), (part-is _ (p .«data»), (part-is _ (p .iv), (λ c. refl, (part-is _ (p .output), tt)))))))
 
@@ -67,8 +67,7 @@ module _ (e : Entry) (proper : Proper e) (rest : List ℕ) where
 
   pub written-size : sizeAt w ≡ length (written e)
   written-size =
-      size-by w stands-written ∙ ap (λ (ps : List (List ℕ)). length (joined ps [])) (written-row .1)
-      ∙ ap length (sym (joined-of e []) ∙ append-nil (written e))
+      size-is w stands-written ∙ ap (λ (ps : List (List ℕ)). length (joined ps)) (written-row .1) ∙ ap length (sym (written-is e))
 
 byte-back : (n : ℕ) → n ≤ 1 → directionByte (directionOf n) ≡ n
 byte-back zero h = refl
@@ -156,4 +155,4 @@ module _ (b : List ℕ) (small : AreBytes b) (s : Stands b) where
   pub front-written : written (front b) ++ afterRecord b ≡ b
   unfolding behind
   front-written =
-      joined-of (front b) (afterRecord b) ∙ ap (λ (ps : List (List ℕ)). joined ps (afterRecord b)) same-fields ∙ joined-fields row-of b
+      ap (λ (w : List ℕ). w ++ afterRecord b) (written-is (front b) ∙ ap joined same-fields) ∙ joined-fields row-of b

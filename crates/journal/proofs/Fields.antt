@@ -32,27 +32,19 @@ abbrev pub past : List Field → List ℕ → List ℕ
 past [] b = b
 past (f ∷ fs) b = past fs (drop (sizeOf f b) b)
 
-abbrev pub joined : List (List ℕ) → List ℕ → List ℕ
-joined [] rest = rest
-joined (p ∷ ps) rest = p ++ joined ps rest
+abbrev pub joined : List (List ℕ) → List ℕ
+joined [] = []
+joined (p ∷ ps) = p ++ joined ps
 
-pub joined-fields : (fs : List Field) (b : List ℕ) → joined (fields fs b) (past fs b) ≡ b
+pub joined-fields : (fs : List Field) (b : List ℕ) → joined (fields fs b) ++ past fs b ≡ b
 joined-fields [] b = refl
-joined-fields (f ∷ fs) b = rw (joined-fields fs (drop (sizeOf f b) b)) (take-append-drop (sizeOf f b) b)
-
-pub past-drops : (fs : List Field) (b : List ℕ) → drop (sizes fs b) b ≡ past fs b
-past-drops [] b = refl
-past-drops (f ∷ fs) b = rw (← drop-drop) (past-drops fs (drop (sizeOf f b) b))
+joined-fields (f ∷ fs) b = rw (append-assoc, joined-fields fs (drop (sizeOf f b) b)) (take-append-drop (sizeOf f b) b)
 
 pub past-below : (n : ℕ) (fs : List Field) (b : List ℕ) → Below n b → Below n (past fs b)
 past-below n [] b h = h
 past-below n (f ∷ fs) b h = past-below n fs (drop (sizeOf f b) b) (below-drop n (sizeOf f b) b h)
 
-pub past-length : (fs : List Field) (b : List ℕ) → Fit fs b → sizes fs b + length (past fs b) ≡ length b
-past-length [] b h = omega arith
-past-length (f ∷ fs) b (h, k) = omega (arith, past-length fs (drop (sizeOf f b) b) k, length-drop (sizeOf f b) b)
-
-pub sizes-are : (fs : List Field) (b : List ℕ) → Fit fs b → length (joined (fields fs b) []) ≡ sizes fs b
+pub sizes-are : (fs : List Field) (b : List ℕ) → Fit fs b → length (joined (fields fs b)) ≡ sizes fs b
 sizes-are [] b h = refl
 sizes-are (f ∷ fs) b (h, k) =
     rw (length-append, length-take-le (sizeOf f b) b h, sizes-are fs (drop (sizeOf f b) b) k)
@@ -86,27 +78,20 @@ fields-are (f ∷ fs) b (h, k) = (field-is f b h, fields-are fs (drop (sizeOf f 
 
 -- what was joined is read field by field
 pub row : (fs : List Field) (ps : List (List ℕ)) (rest : List ℕ) → Are fs ps
-    → Fit fs (joined ps rest) × (fields fs (joined ps rest) ≡ ps)
+    → Fit fs (joined ps ++ rest) × (fields fs (joined ps ++ rest) ≡ ps)
 row [] [] rest a = (tt, refl)
 row [] (p ∷ ps) rest a = absurd a
 row (f ∷ fs) [] rest a = absurd a
 row (f ∷ fs) (p ∷ ps) rest (is, are) =
-    let t = joined ps rest in
+    let t = joined ps ++ rest in
     let r = row fs ps rest are in
-    rw (is t, drop-at p t (length p) refl, take-at p t (length p) refl)
+    rw (append-assoc p (joined ps) rest, is t, drop-at p t (length p) refl, take-at p t (length p) refl)
     ((omega (arith, length-append p t), r .0), ap (λ (l : List (List ℕ)). p ∷ l) (r .1))
 
-joined-append : (ps : List (List ℕ)) (rest : List ℕ) → joined ps [] ++ rest ≡ joined ps rest
-joined-append [] rest = refl
-joined-append (p ∷ ps) rest = rw (append-assoc, joined-append ps rest)
-
 -- whatever has the bytes of a row in front has the row in front
-pub row-in : (fs : List Field) (b s : List ℕ) → Fit fs b → take (sizes fs b) s ≡ take (sizes fs b) b
+pub row-in : (fs : List Field) (b s : List ℕ) → Fit fs b → take (length (joined (fields fs b))) s ≡ joined (fields fs b)
     → Fit fs s × (fields fs s ≡ fields fs b)
 row-in fs b s fit h =
-    let n = sizes fs b in
-    let ps = fields fs b in
-    let f : joined ps [] ++ past fs b ≡ b = joined-append ps (past fs b) ∙ joined-fields fs b in
-    let t : take n s ≡ joined ps [] = h ∙ ap (take n) (sym f) ∙ take-at (joined ps []) (past fs b) n (sizes-are fs b fit) in
-    let e : joined ps (drop n s) ≡ s = sym (joined-append ps (drop n s)) ∙ rw (← t) (take-append-drop n s) in
-    rw e at (row fs ps (drop n s) (fields-are fs b fit))
+    let n = length (joined (fields fs b)) in
+    let e : joined (fields fs b) ++ drop n s ≡ s = ap (λ (w : List ℕ). w ++ drop n s) (sym h) ∙ take-append-drop n s in
+    rw e at (row fs (fields fs b) (drop n s) (fields-are fs b fit))

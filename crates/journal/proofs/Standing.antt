@@ -1,7 +1,7 @@
 -- What is known of a record that stands whole: its parts stand whole one behind the other, they make up its size, and what is read of it is
 -- told by the bytes of its fields alone.
 use Rattle.block.proofs.Base.{_+_, _-_, _<_, _≤_, ℕ, _∙_, _≡_, ap, refl, sym, false, true, List, [], _++_, _∷_, arith, le-leb, leb-true, leb, lit<}
-use Rattle.block.proofs.Base.{drop, getD, length, length-drop, take, drop-at, getD-take, length-take-le, take-add}
+use Rattle.block.proofs.Base.{drop, getD, length, length-append, length-drop, take, take-at, drop-at, getD-take, length-take-le, take-add}
 use Rattle.block.specs.BigEndian.{numberOf}
 use Rattle.block.specs.Words.{wordAt}
 use Rattle.block.proofs.Same.{and-left, and-right}
@@ -9,7 +9,7 @@ use Rattle.cipher_mode.specs.declared.Direction.{Direction}
 use Rattle.journal.specs.Format.{Entry, startsPart, partAt, behind, pastPart, fromLabel, fromData, fromIv, fromRoom, fromOutput, afterRecord}
 use Rattle.journal.specs.Format.{directionOf, marked, startsRecord, Stands, sizeAt, front}
 use Rattle.journal.proofs.Cases.{by-test}
-use Rattle.journal.proofs.Fields.{Field, fixed, counted, Fit, fields, joined, sizes, sizes-are, past-drops, past-length, row-in}
+use Rattle.journal.proofs.Fields.{Field, fixed, counted, Fit, fields, joined, past, sizes-are, joined-fields, row-in}
 
 -- a part
 module _ (b : List ℕ) where
@@ -83,12 +83,9 @@ module _ (b : List ℕ) where
   size-none e = rw e
 
   module _ (s : Stands b) where
-    size-is : sizeAt b ≡ sizes row-of b
+    pub size-is : sizeAt b ≡ length (joined (fields row-of b))
     unfolding sizeAt behind
-    size-is = rw (starts s) (omega (arith, past-length row-of b (fits s)))
-
-    pub size-by : sizeAt b ≡ length (joined (fields row-of b) [])
-    size-by = size-is ∙ sym (sizes-are row-of b (fits s))
+    size-is = rw (starts s) (omega (arith, length-append (joined (fields row-of b)) (past row-of b), ap length (joined-fields row-of b)))
 
     -- its bytes but for the parts are 27
     pub size-sum : length (partAt (fromLabel b)) + length (partAt (fromData b)) + length (partAt (fromIv b)) + length
@@ -102,11 +99,12 @@ module _ (b : List ℕ) where
           length-part (fromIv b) (s .iv),
           length-part (fromOutput b) (s .output),
           size-is,
+          sizes-are row-of b (fits s),
         )
 
     pub size-rest : sizeAt b + length (afterRecord b) ≡ length b
     unfolding behind
-    size-rest = omega (arith, size-is, past-length row-of b (fits s))
+    size-rest = omega (arith, size-is, length-append (joined (fields row-of b)) (past row-of b), ap length (joined-fields row-of b))
 
     pub size-within : sizeAt b ≤ length b
     size-within = omega (arith, size-rest)
@@ -117,7 +115,12 @@ module _ (b : List ℕ) where
 
     pub behind-size : drop (sizeAt b) b ≡ afterRecord b
     unfolding behind
-    behind-size = rw size-is (past-drops row-of b)
+    behind-size =
+        ap (drop (sizeAt b)) (sym (joined-fields row-of b)) ∙ drop-at (joined (fields row-of b)) (past row-of b) (sizeAt b) (sym size-is)
+
+    front-bytes : take (sizeAt b) b ≡ joined (fields row-of b)
+    front-bytes =
+        ap (take (sizeAt b)) (sym (joined-fields row-of b)) ∙ take-at (joined (fields row-of b)) (past row-of b) (sizeAt b) (sym size-is)
 
   -- a size of 0 tells that none stands, and another that one does
   pub size-zero : sizeAt b ≡ 0 → startsRecord b ≡ false
@@ -155,7 +158,7 @@ module _ (b : List ℕ) where
 -- Bytes that start with those of a record start with the record, whatever is behind it.
 module _ (b t : List ℕ) (s : Stands b) (h : take (sizeAt b) t ≡ take (sizeAt b) b) where
   again : Fit row-of t × (fields row-of t ≡ fields row-of b)
-  again = row-in row-of b t (fits b s) (rw (size-is b s) at h)
+  again = row-in row-of b t (fits b s) (rw (size-is b s) at (h ∙ front-bytes b s))
 
   stands-in : Stands t
   stands-in =
@@ -169,4 +172,4 @@ module _ (b t : List ℕ) (s : Stands b) (h : take (sizeAt b) t ≡ take (sizeAt
   front-in = sym (front-read t (again .0)) ∙ ap {B = Entry} read (again .1) ∙ front-read b (fits b s)
 
   pub size-in : sizeAt t ≡ sizeAt b
-  size-in = size-by t stands-in ∙ ap (λ (ps : List (List ℕ)). length (joined ps [])) (again .1) ∙ sym (size-by b s)
+  size-in = size-is t stands-in ∙ ap (λ (ps : List (List ℕ)). length (joined ps)) (again .1) ∙ sym (size-is b s)
