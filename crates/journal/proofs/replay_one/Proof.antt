@@ -29,11 +29,11 @@ module _ (x : tie.After-find) where
 
   place-is : x .find .result ≡ placeOf key ks
   unfolding front
-  place-is = x .find .ensures .0 ∙ ap (λ (n : ℕ). placeOf n ks) (x .before .key-number .ensures)
+  place-is = cc
 
   has : hasNumber key ks ≡ ltb (x .find .result) (start .args .keys .count)
   unfolding front
-  has = sym (x .find .ensures .1 ∙ ap (λ (n : ℕ). hasNumber n ks) (x .before .key-number .ensures))
+  has = cc
 
 counted-requires : tie.Need-counted-requires
 counted-requires c κs =

@@ -28,19 +28,11 @@ told-outcome a t o x e f = rw (f, ← e) (record { number = refl; size = refl; b
 returns-2 : tie.Need-returns-2
 unfolding callInto front
 returns-2 c =
-    let at-call = c .before .before .before in
-    let at-iv = at-call .before .before in
-    let at-data = at-iv .before in
-    let at-label = at-data .before in
-    let at-direction = at-label .before in
-    let at-mode-of = at-direction .before in
-    let small = at-mode-of .before in
-    let at-mode = small .before in
-    let a = at-mode .before .before .before .args in
-    let t : ltb 4 (front (now (a .s)) .mode) ≡ false = rw (← at-mode .mode .ensures) (le-ltb 4 _ (small .if1 .left)) in
-    told-outcome (at-call .call .result) (c .told .result) _ _
-    (cc t)
-    (c .told .ensures)
+    let small = c .before .before .before .before .before .before .before .before .before .before in
+    let mode = small .before .mode in
+    let t : ltb 4 (front (now (small .before .before .before .before .args .s)) .mode) ≡ false =
+    rw (← mode .ensures) (le-ltb 4 (mode .result) (small .if1 .left)) in
+    told-outcome (c .before .before .before .call .result) (c .told .result) _ _ (cc t) (c .told .ensures)
 
 pub call-into-spec : {M : Type 1} → statement M
 call-into-spec =
