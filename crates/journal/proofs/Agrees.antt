@@ -44,21 +44,19 @@ module _ (ks : List Sm4Cipher) (e : Entry) where
 
 -- The first difference over calls that stand one behind the other.
 module _ (ks : List Sm4Cipher) where
-  one-first : (e : Entry) (place : ℕ) (r : Report) → countedUnder ks e place r .first ≡ firstOf (differs ks e) (r .records) place (r .first)
-  unfolding counted
-  one-first e place r = refl
-
   one-agrees : (e : Entry) (place : ℕ) (r : Report) → differs ks e ≡ false → countedUnder ks e place r .first ≡ r .first
-  one-agrees e place r n = one-first e place r ∙ rw n (either-way (r .first .found) (r .first))
+  unfolding counted
+  one-agrees e place r n = rw n (either-way (r .first .found) (r .first))
 
   one-found : (e : Entry) (place : ℕ) (r : Report) → differs ks e ≡ true → countedUnder ks e place r .first .found ≡ true
-  one-found e place r d = by-test (r .first .found) (λ f. rw (one-first e place r, f)) (λ f. rw (one-first e place r, f, d))
+  unfolding counted
+  one-found e place r d = by-test (r .first .found) (λ f. rw f) (λ f. rw (f, d))
 
   kept : (es : List Entry) (place : ℕ) (r : Report) → r .first .found ≡ true → countedAll ks es place r .first ≡ r .first
-  unfolding countedAll
+  unfolding countedAll counted
   kept [] place r f = refl
   kept (e ∷ es) place r f =
-      let s : countedUnder ks e place r .first ≡ r .first = one-first e place r ∙ rw f in
+      let s : countedUnder ks e place r .first ≡ r .first = rw f in
       kept es (place + length (written e)) (countedUnder ks e place r) (cc) ∙ s
 
   none : (es : List Entry) (place : ℕ) (r : Report) → NoneDiffers ks es → countedAll ks es place r .first ≡ r .first
@@ -73,8 +71,7 @@ module _ (ks : List Sm4Cipher) where
   first [] fs e place r f n d =
       let i : r .records + 0 ≡ r .records = omega arith in
       let p : place + 0 ≡ place = omega arith in
-      let s : countedUnder ks e place r .first ≡ record { found = true; index = r .records; place = place } =
-      one-first e place r ∙ rw (f, d) in
+      let s : countedUnder ks e place r .first ≡ record { found = true; index = r .records; place = place } = rw (f, d) in
       kept fs (place + length (written e)) (countedUnder ks e place r) (cc) ∙ s ∙ rw (i, p)
   first (g ∷ es) fs e place r f (n, ns) d =
       let found : countedUnder ks g place r .first .found ≡ false = rw (one-agrees g place r n) f in

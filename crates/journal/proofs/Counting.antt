@@ -47,9 +47,6 @@ pub within-counted : (e : Entry) (x : Recomputed) (place size : ℕ) (r : Report
     → x .length ≤ 16 + length (e .«data») → Within (place + size) (counted e x place r)
 unfolding counted
 within-counted e x place size r w h k =
-    let a = w .records in
-    let b = w .bytesIn in
-    let c = w .bytesOut in
     record {
       records = omega arith;
       byMode = one-more-below place (place + size) (modePlace (e .mode)) (r .«by_mode») (omega arith) (w .byMode);

@@ -41,9 +41,6 @@ module _ (ks : List Sm4Cipher) where
   ends-here b place r x why told report =
       record { calls = []; rest = b; split = refl; replayable = tt; why = why; place = told; report = report }
 
-  some : (b : List ℕ) → startsRecord b ≡ true → 0 < length b
-  some b s = omega (arith, stands b s .long)
-
   -- what is read there is what stands there
   begins-there : (b : List ℕ) → AreBytes b → startsRecord b ≡ true → Begins b (front b)
   begins-there b small e =
@@ -100,11 +97,11 @@ module _ (ks : List Sm4Cipher) where
       sym (from-refused ks b place r (why .0) BadRecord none)
   at-end b place r TooLong small why =
       let s = starts-so (why .entry) (why .begins) in
-      sym (from-refused ks b place r (some b s) TooLong (s, rw (front-so (why .entry) (why .begins)) (why .holds)))
+      sym (from-refused ks b place r (omega (arith, stands b s .long)) TooLong (s, rw (front-so (why .entry) (why .begins)) (why .holds)))
   at-end b place r UnknownKey small why =
       let s = starts-so (why .entry) (why .begins) in
       let f = front-so (why .entry) (why .begins) in
-      sym (from-refused ks b place r (some b s) UnknownKey (s, rw f (why .holds .0), rw f (why .holds .1)))
+      sym (from-refused ks b place r (omega (arith, stands b s .long)) UnknownKey (s, rw f (why .holds .0), rw f (why .holds .1)))
   at-end b place r BadKeys small why = absurd why
 
   -- a call that stands in front is counted

@@ -30,10 +30,10 @@ sums-more (x ∷ a) [] i h k = absurd (omega arith)
 sums-more (x ∷ a) (y ∷ b) zero h k = let e : x + (y + 1) ≡ x + y + 1 = omega arith in rw e
 sums-more (x ∷ a) (y ∷ b) (suc i) h k = ap (λ (l : List ℕ). (x + y) ∷ l) (sums-more a b i (omega arith) (omega arith))
 
-sums-none : (a : List ℕ) → sums a (replicate (length a) 0) ≡ a
+sums-none : (a : List ℕ) (n : ℕ) → length a ≡ n → sums a (replicate n 0) ≡ a
 unfolding sums
-sums-none [] = refl
-sums-none (x ∷ a) = let e : x + 0 ≡ x = omega arith in rw (e, sums-none a)
+sums-none [] n h = refl
+sums-none (x ∷ a) n h = let e : x + 0 ≡ x = omega arith in rw (← h, e, sums-none a (length a) refl)
 
 -- the first difference of the two, where the record at a place of the second differs or does not
 first-added : (t : Bool) (d e : Difference) (n m p place : ℕ)
@@ -50,21 +50,14 @@ module _ (p : ℕ) (r : Report) (adds : AddsUp r) where
   pub added-none : added p r nothing ≡ r
   unfolding added
   added-none =
-      let m : sums (r .«by_mode») (replicate 6 0) ≡ r .«by_mode» = ap (λ (n : ℕ). sums (r .«by_mode») (replicate n 0)) (sym (adds .modes))
-      ∙ sums-none (r .«by_mode») in
-      let a : sums (r .«by_answer») (replicate 32 0) ≡ r .«by_answer» = ap (λ (n : ℕ). sums (r .«by_answer») (replicate n 0))
-      (sym (adds .answers)) ∙ sums-none (r .«by_answer») in
-      same-report (omega arith) m a (omega arith) (omega arith) (either-way (r .first .found) (r .first))
+      same-report (omega arith) (sums-none (r .«by_mode») 6 (adds .modes)) (sums-none (r .«by_answer») 32 (adds .answers)) (omega arith)
+      (omega arith) (either-way (r .first .found) (r .first))
 
   added-counted : (e : Entry) (x : Recomputed) (place : ℕ) (s : Report) → AddsUp s → x .number < 27
       → counted e x (p + place) (added p r s) ≡ added p r (counted e x place s)
   unfolding added counted
   added-counted e x place s like known =
       let m = mode-below-6 (e .mode) in
-      let a = adds .modes in
-      let b = like .modes in
-      let c = adds .answers in
-      let d = like .answers in
       same-report (omega arith) (sym (sums-more (r .«by_mode») (s .«by_mode») (modePlace (e .mode)) (omega arith) (omega arith)))
       (sym (sums-more (r .«by_answer») (s .«by_answer») (x .number) (omega arith) (omega arith))) (omega arith) (omega arith)
       (first-added (x .differs) (r .first) (s .first) (r .records) (s .records) p place)

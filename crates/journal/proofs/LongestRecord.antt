@@ -10,7 +10,7 @@ unfolding front
 longest b s t =
     let w = short (front b) t in
     let n = size-sum b s in
-    omega (arith, w .label, w .«data», w .iv, w .output)
+    omega arith
 
 module _ (s rest : List ℕ) (small : AreBytes (s ++ rest)) (window : 65579 ≤ length s) (none : startsRecord s ≡ false)
     (whole : startsRecord (s ++ rest) ≡ true) where

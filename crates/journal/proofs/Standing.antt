@@ -91,16 +91,7 @@ module _ (b : List ℕ) where
     pub size-sum : length (partAt (fromLabel b)) + length (partAt (fromData b)) + length (partAt (fromIv b)) + length
         (partAt (fromOutput b)) + 27 ≡ sizeAt b
     unfolding behind
-    size-sum =
-        omega (
-          arith,
-          length-part (fromLabel b) (s .label),
-          length-part (fromData b) (s .«data»),
-          length-part (fromIv b) (s .iv),
-          length-part (fromOutput b) (s .output),
-          size-is,
-          sizes-are row-of b (fits s),
-        )
+    size-sum = omega (arith, length-part, size-is, sizes-are row-of b (fits s))
 
     pub size-rest : sizeAt b + length (afterRecord b) ≡ length b
     unfolding behind
