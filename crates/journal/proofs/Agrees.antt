@@ -29,13 +29,8 @@ module _ (ks : List Sm4Cipher) (e : Entry) where
   unfolding differsFrom
   answered-agrees =
       let x = answerNow ks e in
-      rw (
-        same-call,
-        eq-eqb (x .head .number) (x .head .number) refl,
-        eq-eqb (length (result x)) (x .head .size)
-            (result-size (keyOf (e .key) ks) e),
-        same-refl (result x),
-      )
+      let l = result-size (keyOf (e .key) ks) e in
+      rw (same-call, eq-eqb (x .head .number) (x .head .number) refl, eq-eqb (length (result x)) (x .head .size) l, same-refl)
 
   -- A call that agrees is answered now as it was recorded.
   pub agrees-so : differs ks e ≡ false → (e .number ≡ answerNow ks e .head .number) × (e .output ≡ result (answerNow ks e))

@@ -1,7 +1,7 @@
 -- The report of two journals joined is their reports added, where the first is replayed to its end: what a journal adds to a report does not
 -- depend on the report.
 use Rattle.block.proofs.Base.{_+_, _<_, suc, zero, ℕ, _∙_, _≡_, ap, refl, sym, Bool, cond, false, true, List, [], _++_, _∷_, arith, ne-eqb, drop}
-use Rattle.block.proofs.Base.{length, length-drop, replicate, take, drop-append-le, take-append-le}
+use Rattle.block.proofs.Base.{drop-of-length-le, length, length-drop, replicate, take, drop-append-le, take-append-le}
 use Rattle.cipher_mode.specs.declared.Sm4Cipher.{Sm4Cipher}
 use Rattle.walk.proofs.Loop.{tailed, tail-is}
 use Rattle.journal.specs.Format.{Entry, Stands, sizeAt, front}
@@ -77,10 +77,6 @@ module _ (p : ℕ) (r : Report) (adds : AddsUp r) where
       from-on ks b (p + place) (added p r s) q
       ∙ rw (e, added-counted (front b) (judged (front b) (recomputed c (front b))) place s like known) (more (adds-counted ks (front b) place s like)))
 
-nil-of : (a : List ℕ) → length a ≡ 0 → a ≡ []
-nil-of [] h = refl
-nil-of (x ∷ a) h = absurd (omega arith)
-
 module _ (ks : List Sm4Cipher) (b : List ℕ) where
   same-bytes : (a : List ℕ) → Stands a → take (sizeAt a) (a ++ b) ≡ take (sizeAt a) a
   same-bytes a s = take-append-le (sizeAt a) a b (size-within a s)
@@ -116,7 +112,10 @@ module _ (ks : List Sm4Cipher) (b : List ℕ) where
   goes-on =
       by-replay ks
       (λ a place r x. numberOfEnd (x .ended) ≡ 0 → replayFrom ks (a ++ b) place r ≡ replayFrom ks b (place + length a) (x .report))
-      (λ a place r h w. let e : place + 0 ≡ place = omega arith in rw (nil-of a h, e))
+      (λ a place r h w.
+      let none : a ≡ [] = drop-of-length-le a {i = 0} (omega arith) in
+      let e : place + 0 ≡ place = omega arith in
+      rw (none, e))
       (λ a place r h e w z. absurd (refuses ks a place r e w .1 z))
       (λ a place r x p more w.
       let e : place + sizeAt a + length (drop (sizeAt a) a) ≡ place + length a =

@@ -83,11 +83,6 @@ loop-again c =
       rw next (turn-from (ks x) (here x) (l .place) (l .report) _ _ (m .measure .ensures) told (passes m) ∙ l .inv .3),
     )
 
-returns-3 : tie.Need-returns-3 Inv-loop μ-loop
-returns-3 c =
-    let l = c .before .loop in
-    sym (from-end _ (now (l .t)) (l .place) (l .report) (omega arith)) ∙ l .inv .3 ∙ sym (from-start _ _ (good (c .before .before)))
-
 pub replay-spec : {M : Type 1} → statement M
 replay-spec =
     tie.close (tie.spec Inv-loop μ-loop (λ c κs. search needs) (λ c κs. search needs)
@@ -95,6 +90,8 @@ replay-spec =
     (λ c κs. let inv = c .before .loop .inv in (inv .0, (inv .1, omega (arith, inv .2)))) (λ c κs. search needs) returns-2
     (λ c κs. search needs) (λ c κs. size c .1)
     (λ c. omega (arith, size (c .before), at-loop (numbered (c .before)) .loop .inv .2))
+    (λ c. let m = c .before in omega (arith, size m, ap length (c .skip .ensures), length-drop (m .measure .result) (here (numbered m))))
+    loop-again
     (λ c.
-    let m = c .before in
-    omega (arith, size m, ap length (c .skip .ensures), length-drop (m .measure .result) (here (numbered m)))) loop-again returns-3)
+    let l = c .before .loop in
+    sym (from-end _ (now (l .t)) (l .place) (l .report) (omega arith)) ∙ l .inv .3 ∙ sym (from-start _ _ (good (c .before .before)))))
