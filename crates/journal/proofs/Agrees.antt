@@ -1,5 +1,5 @@
 -- Calls that were recorded as they were answered agree, and only they do; of those that differ the first is told.
-use Rattle.block.proofs.Base.{_+_, ℕ, _∙_, _≡_, ap, refl, sym, false, not, true, List, [], _++_, _∷_, arith, eq-eqb, eqb-true, not-false}
+use Rattle.block.proofs.Base.{_+_, ℕ, _∙_, _≡_, ap, refl, sym, false, not, true, List, [], _++_, _∷_, add-zero, zero-add, arith, eq-eqb, eqb-true, not-false}
 use Rattle.block.proofs.Base.{eqb, length, length-append}
 use Rattle.block.proofs.Same.{same-refl, same-equal}
 use Rattle.cipher_mode.specs.declared.Sm4Cipher.{Sm4Cipher}
@@ -64,10 +64,8 @@ module _ (ks : List Sm4Cipher) where
       ≡ record { found = true; index = r .records + length es; place = place + length (stored es) }
   unfolding countedAll counted stored
   first [] fs e place r f n d =
-      let i : r .records + 0 ≡ r .records = omega arith in
-      let p : place + 0 ≡ place = omega arith in
       let s : countedUnder ks e place r .first ≡ record { found = true; index = r .records; place = place } = rw (f, d) in
-      kept fs (place + length (written e)) (countedUnder ks e place r) (cc) ∙ s ∙ rw (i, p)
+      kept fs (place + length (written e)) (countedUnder ks e place r) (cc) ∙ s ∙ rw (add-zero (r .records), add-zero place)
   first (g ∷ es) fs e place r f (n, ns) d =
       let found : countedUnder ks g place r .first .found ≡ false = rw (one-agrees g place r n) f in
       let i : r .records + 1 + length es ≡ r .records + length (g ∷ es) = omega arith in
@@ -96,7 +94,5 @@ module _ (ks : List Sm4Cipher) (b : List ℕ) (x : Replayed) (ends : Ends ks b 0
   pub first-told : (es fs : List Entry) (e : Entry) → ends .calls ≡ es ++ e ∷ fs → NoneDiffers ks es → differs ks e ≡ true
       → x .report .first ≡ record { found = true; index = length es; place = length (stored es) }
   first-told es fs e c n d =
-      let i : 0 + length es ≡ length es = omega arith in
-      let p : 0 + length (stored es) ≡ length (stored es) = omega arith in
       ap (λ (r : Report). r .first) (ends .report ∙ ap {B = Report} (λ (l : List Entry). countedAll ks l 0 nothing) c)
-      ∙ first ks es fs e 0 nothing refl n d ∙ rw (i, p)
+      ∙ first ks es fs e 0 nothing refl n d ∙ rw (zero-add (length es), zero-add (length (stored es)))

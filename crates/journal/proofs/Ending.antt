@@ -1,5 +1,5 @@
 -- Which number a replay ends with exactly when: it ends as the bytes say that stand there, and in no other way.
-use Rattle.block.proofs.Base.{_+_, _<_, ℕ, _∙_, _≡_, ap, refl, sym, false, true, List, [], _++_, _∷_, append-assoc, append-nil, arith, drop}
+use Rattle.block.proofs.Base.{_+_, _<_, ℕ, _∙_, _≡_, ap, refl, sym, false, true, List, [], _++_, _∷_, append-assoc, append-nil, add-zero, arith, drop}
 use Rattle.block.proofs.Base.{length, length-append, drop-at}
 use Rattle.block.specs.Below.{AreBytes}
 use Rattle.block.proofs.Entries.{below-drop}
@@ -117,7 +117,7 @@ module _ (ks : List Sm4Cipher) where
   all-written : (es : List Entry) (b : List ℕ) (place : ℕ) (r : Report) → AllReplayable ks es
       → replayFrom ks (stored es ++ b) place r ≡ replayFrom ks b (place + length (stored es)) (countedAll ks es place r)
   unfolding stored countedAll
-  all-written [] b place r good = let e : place ≡ place + 0 = omega arith in ap {B = Replayed} (λ (i : ℕ). replayFrom ks b i r) e
+  all-written [] b place r good = rw (add-zero place)
   all-written (e ∷ es) b place r (good, goods) =
       let n : place + length (written e) + length (stored es) ≡ place + length (written e ++ stored es) =
       omega (arith, length-append (written e) (stored es)) in
@@ -149,7 +149,5 @@ module _ (k : Keys) (journal : List ℕ) where
 pub replayed-whole : (k : Keys) → badKeys k ≡ false → (es : List Entry) → AllReplayable (keysIn k) es
     → replay k (stored es) ≡ done (countedAll (keysIn k) es 0 nothing)
 replayed-whole k good es all =
-    from-start k (stored es) good
-    ∙ ap {B = Replayed} (λ (b : List ℕ). replayFrom (keysIn k) b 0 nothing) (sym (append-nil (stored es)))
-    ∙ all-written (keysIn k) es [] 0 nothing all
+    from-start k (stored es) good ∙ (rw (append-nil (stored es)) at (all-written (keysIn k) es [] 0 nothing all))
     ∙ from-end (keysIn k) [] (0 + length (stored es)) (countedAll (keysIn k) es 0 nothing) refl

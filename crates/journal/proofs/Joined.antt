@@ -1,6 +1,6 @@
 -- The report of two journals joined is their reports added, where the first is replayed to its end: what a journal adds to a report does not
 -- depend on the report.
-use Rattle.block.proofs.Base.{_+_, _<_, suc, zero, ℕ, _∙_, _≡_, ap, refl, sym, Bool, cond, false, true, List, [], _++_, _∷_, arith, ne-eqb, drop}
+use Rattle.block.proofs.Base.{_+_, _<_, suc, zero, ℕ, _∙_, _≡_, ap, refl, sym, Bool, cond, false, true, List, [], _++_, _∷_, add-assoc, add-zero, arith, ne-eqb, drop}
 use Rattle.block.proofs.Base.{drop-of-length-le, length, length-drop, replicate, take, drop-append-le, take-append-le}
 use Rattle.cipher_mode.specs.declared.Sm4Cipher.{Sm4Cipher}
 use Rattle.walk.proofs.Loop.{tailed, tail-is}
@@ -27,13 +27,13 @@ sums-more : (a b : List ℕ) (i : ℕ) → i < length a → i < length b → sum
 unfolding sums
 sums-more [] b i h k = absurd (omega arith)
 sums-more (x ∷ a) [] i h k = absurd (omega arith)
-sums-more (x ∷ a) (y ∷ b) zero h k = let e : x + (y + 1) ≡ x + y + 1 = omega arith in rw e
+sums-more (x ∷ a) (y ∷ b) zero h k = rw (add-assoc x y 1)
 sums-more (x ∷ a) (y ∷ b) (suc i) h k = ap (λ (l : List ℕ). (x + y) ∷ l) (sums-more a b i (omega arith) (omega arith))
 
 sums-none : (a : List ℕ) (n : ℕ) → length a ≡ n → sums a (replicate n 0) ≡ a
 unfolding sums
 sums-none [] n h = refl
-sums-none (x ∷ a) n h = let e : x + 0 ≡ x = omega arith in rw (← h, e, sums-none a (length a) refl)
+sums-none (x ∷ a) n h = rw (← h, add-zero x, sums-none a (length a) refl)
 
 -- the first difference of the two, where the record at a place of the second differs or does not
 first-added : (t : Bool) (d e : Difference) (n m p place : ℕ)
@@ -71,11 +71,10 @@ module _ (p : ℕ) (r : Report) (adds : AddsUp r) where
       (λ b place s h e w like.
       from-refused ks b (p + place) (added p r s) h e w ∙ sym (rw (ne-eqb (numberOfEnd e) 0 (refuses ks b place s e w .1))))
       (λ b place s x q more like.
-      let e : p + place + sizeAt b ≡ p + (place + sizeAt b) = omega arith in
       let c = keyOf (front b .key) ks in
       let known = recomputed-known c (front b) in
       from-on ks b (p + place) (added p r s) q
-      ∙ rw (e, added-counted (front b) (judged (front b) (recomputed c (front b))) place s like known) (more (adds-counted ks (front b) place s like)))
+      ∙ rw (add-assoc p place (sizeAt b), added-counted (front b) (judged (front b) (recomputed c (front b))) place s like known) (more (adds-counted ks (front b) place s like)))
 
 module _ (ks : List Sm4Cipher) (b : List ℕ) where
   same-bytes : (a : List ℕ) → Stands a → take (sizeAt a) (a ++ b) ≡ take (sizeAt a) a
@@ -112,10 +111,7 @@ module _ (ks : List Sm4Cipher) (b : List ℕ) where
   goes-on =
       by-replay ks
       (λ a place r x. numberOfEnd (x .ended) ≡ 0 → replayFrom ks (a ++ b) place r ≡ replayFrom ks b (place + length a) (x .report))
-      (λ a place r h w.
-      let none : a ≡ [] = drop-of-length-le a {i = 0} (omega arith) in
-      let e : place + 0 ≡ place = omega arith in
-      rw (none, e))
+      (λ a place r h w. let none : a ≡ [] = drop-of-length-le a {i = 0} (omega arith) in rw (none, add-zero place))
       (λ a place r h e w z. absurd (refuses ks a place r e w .1 z))
       (λ a place r x p more w.
       let e : place + sizeAt a + length (drop (sizeAt a) a) ≡ place + length a =

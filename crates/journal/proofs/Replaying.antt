@@ -39,9 +39,7 @@ by-one ks b stop on =
     (stop BadRecord)
 
 pub behind-less : (ks : List Sm4Cipher) (b : List ℕ) → Passes ks b → length (drop (sizeAt b) b) < length b
-behind-less ks b p =
-    let s = stands b (p .0) in
-    omega (arith, size-within b s, data-within b s, length-drop (sizeAt b) b)
+behind-less ks b p = omega (arith, size-within b (stands b (p .0)), data-within b (stands b (p .0)), length-drop (sizeAt b) b)
 
 module _ (ks : List Sm4Cipher) (b : List ℕ) (place : ℕ) (r : Report) where
   -- a refusal has a number
