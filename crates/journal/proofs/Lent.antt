@@ -136,12 +136,13 @@ module _ (c : Sm4Cipher) (e : Entry) where
       -- so it is judged as with the recorded room
       pub lent-judged : (a : Answered) (p rest : List ℕ) (d : Bool) → Answers a p (callInto c e o)
           → d ≡ differsFrom e (a .number) (a .length) (take (a .length) (p ++ rest))
-          → _≡_ {A = Recomputed} (record { number = a .number; length = a .length; differs = d }) (judged e (recomputed c e))
+          → (_≡_ {A = Recomputed} (record { number = a .number; length = a .length; differs = d }) (judged e (recomputed c e)))
+          × ((a .number < 27) × (a .length ≤ 16 + length (e .«data»)))
       lent-judged a p rest d x y =
           let n : a .number ≡ recomputed c e .head .number = cc lent-head in
           let l : a .length ≡ recomputed c e .head .size = cc lent-head in
           let r : take (a .length) (p ++ rest) ≡ result (recomputed c e) = rw (x .size, x .bytes) (lent-result rest) in
-          rw (y, r, n, l)
+          (rw (y, r, n, l), (rw n recomputed-known, rw l recomputed-size))
 
 pub lent-most : (e : Entry) → lentRoom e ≤ outputLimit
 unfolding lentRoom

@@ -1,6 +1,8 @@
 // A recorded call, made again.
 ghost use mathlib.Core.Path.{_≡_};
 ghost use mathlib.Core.Bool.{false};
+ghost use Prim.Native.Nat.{_+_, _≤_, _<_};
+ghost use lib.ListN.{length};
 ghost use Rattle.cipher_mode.specs.Answer.{headOf};
 ghost use Rattle.journal.specs.Format.{Stands, front, tooLong};
 ghost use Rattle.journal.specs.Recomputed.{callInto, Answers, recomputed, differsFrom, lentRoom, judged};
@@ -100,6 +102,8 @@ pub(crate) fn recompute(cipher: Sm4Cipher, s: &[u8]) -> Recomputed
     requires { ⌜ Stands (now s) ⌝ }
     requires { ⌜ tooLong (front (now s)) ≡ false ⌝ }
     ensures { λ r. ⌜ r ≡ judged (front (now (s .entry))) (recomputed cipher (front (now (s .entry)))) ⌝ }
+    ensures { λ r. ⌜ r .number < 27 ⌝ }
+    ensures { λ r. ⌜ r .length ≤ 16 + length (front (now (s .entry)) .«data») ⌝ }
 {
     let mut out = longest_output();
     let n = lent_room(s);

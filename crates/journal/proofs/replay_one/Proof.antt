@@ -4,7 +4,6 @@ use Rattle.cipher_mode.specs.declared.Sm4Cipher.{Sm4Cipher}
 use Rattle.journal.specs.Format.{startsRecord, front, tooLong}
 use Rattle.journal.specs.KeyList.{keysIn, placeOf, hasNumber}
 use Rattle.journal.proofs.Standing.{stands, size-zero, size-some}
-use Rattle.journal.proofs.Lent.{recomputed-known, recomputed-size}
 use Rattle.journal.proofs.Replaying.{refuses, counts}
 use Rattle.journal.specs.declared.Ended.the-variants.{BadRecord, TooLong, UnknownKey}
 use Rattle.journal.proofs.replay_one.Statement.{statement}
@@ -35,25 +34,12 @@ module _ (x : tie.After-find) where
   unfolding front
   has = cc
 
-counted-requires : tie.Need-counted-requires
-counted-requires c κs =
-    let x = c .before .before .before .before in
-    let S = start x in
-    let e = front (now (S .args .s)) in
-    let cipher = c .before .at .result in (
-      stands _ (starts (x .before .before .before .before)),
-      (
-        rw (c .recompute .ensures) (recomputed-known cipher e),
-        (rw (c .recompute .ensures) (recomputed-size cipher e), S .pre .1),
-      ),
-    )
-
 returns-4 : tie.Need-returns-4
 returns-4 c =
     let k = c .before .before in
     let x = k .before .before .before in
     let else2 = x .before .before in
-    rw (c .counted .ensures, c .before .recompute .ensures, k .at .ensures .0, place-is x)
+    rw (c .counted .ensures, c .before .recompute .ensures .0, k .at .ensures .0, place-is x)
     (counts _ _ _ _ (starts (else2 .before .before), short else2, has x ∙ lt-ltb _ _ (k .before .if3 .left)))
 
 pub replay-one-spec : {M : Type 1} → statement M
@@ -67,4 +53,6 @@ replay-one-spec =
     let else2 = x .before .before in
     sym (refuses _ _ _ _ UnknownKey (starts (else2 .before .before), short else2, has x ∙ le-ltb _ _ (c .if3 .taken)) .0))
     (λ c κs. search needs) (λ c κs. let else2 = c .before .before .before .before .before in (stands _ (starts (else2 .before .before)), short else2))
-    counted-requires returns-4)
+    (λ c κs.
+    let s = stands _ (starts (c .before .before .before .before .before .before .before .before)) in
+    search needs) returns-4)
