@@ -45,6 +45,7 @@ pub fn nothing() -> Report
 
 fn mode_place(mode: u8) -> usize
     ensures { λ r. ⌜ r ≡ modePlace mode ⌝ }
+    ensures { λ r. ⌜ r < 6 ⌝ }
 {
     if mode > 4 {
         return 5;
