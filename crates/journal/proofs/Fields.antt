@@ -1,4 +1,4 @@
--- A row of fields, one behind the other: each is so many bytes, or a part that tells its length. What is behind a row changes nothing of it.
+-- A row of fields, one behind the other: each is so many bytes, or a part that tells its length. What is behind it changes nothing of it.
 use Rattle.block.proofs.Base.{_+_, _<_, _≤_, ℕ, _∙_, _≡_, ap, refl, sym, List, [], _++_, _∷_, append-assoc, arith, drop, getD, length}
 use Rattle.block.proofs.Base.{length-append, length-drop, take, take-append-drop, drop-at, drop-drop, getD-take, length-take-le, take-at}
 use Rattle.block.proofs.Entries.{below-drop}

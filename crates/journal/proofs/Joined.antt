@@ -1,5 +1,5 @@
--- The report of two journals joined is their reports added, where the first is replayed to its end: what a journal adds to a report does not
--- depend on the report.
+-- The report of two journals joined is their reports added, where the first is replayed to its end: what a journal adds to a report does
+-- not depend on the report.
 use Rattle.block.proofs.Base.{_+_, _<_, suc, zero, ℕ, _∙_, _≡_, ap, refl, sym, Bool, cond, false, true, List, [], _++_, _∷_, add-assoc, add-zero, arith, ne-eqb, drop}
 use Rattle.block.proofs.Base.{drop-of-length-le, length, length-drop, replicate, take, drop-append-le, take-append-le}
 use Rattle.cipher_mode.specs.declared.Sm4Cipher.{Sm4Cipher}
@@ -74,7 +74,8 @@ module _ (p : ℕ) (r : Report) (adds : AddsUp r) where
       let c = keyOf (front b .key) ks in
       let known = recomputed-known c (front b) in
       from-on ks b (p + place) (added p r s) q
-      ∙ rw (add-assoc p place (sizeAt b), added-counted (front b) (judged (front b) (recomputed c (front b))) place s like known) (more (adds-counted ks (front b) place s like)))
+      ∙ rw (add-assoc p place (sizeAt b), added-counted (front b) (judged (front b) (recomputed c (front b))) place s like known)
+      (more (adds-counted ks (front b) place s like)))
 
 module _ (ks : List Sm4Cipher) (b : List ℕ) where
   same-bytes : (a : List ℕ) → Stands a → take (sizeAt a) (a ++ b) ≡ take (sizeAt a) a

@@ -23,36 +23,31 @@ module _ (x : tie.After-find) where
   abbrev ks : List Sm4Cipher
   ks = keysIn (start .args .keys)
 
-  abbrev key : ℕ
-  key = front (now (start .args .s)) .key
-
-  place-is : x .find .result ≡ placeOf key ks
+  place-is : x .find .result ≡ placeOf (front (now (start .args .s)) .key) ks
   unfolding front
   place-is = cc
 
-  has : hasNumber key ks ≡ ltb (x .find .result) (start .args .keys .count)
+  has : hasNumber (front (now (start .args .s)) .key) ks ≡ ltb (x .find .result) (start .args .keys .count)
   unfolding front
   has = cc
-
-returns-4 : tie.Need-returns-4
-returns-4 c =
-    let k = c .before .before in
-    let x = k .before .before .before in
-    let else2 = x .before .before in
-    rw (c .counted .ensures, c .before .recompute .ensures .0, k .at .ensures .0, place-is x)
-    (counts _ _ _ _ (starts (else2 .before .before), short else2, has x ∙ lt-ltb _ _ (k .before .if3 .left)))
 
 pub replay-one-spec : {M : Type 1} → statement M
 replay-one-spec =
     tie.close (tie.spec (λ c κs. search needs)
-    (λ c. sym (refuses _ _ _ _ BadRecord (size-zero _ (sym (c .before .measure .ensures) ∙ c .if1 .taken)) .0)) (λ c κs. stands _ (starts c))
+    (λ c. sym (refuses _ _ _ _ BadRecord (size-zero _ (sym (c .before .measure .ensures) ∙ c .if1 .taken)) .0))
+    (λ c κs. stands _ (starts c))
     (λ c. sym (refuses _ _ _ _ TooLong (starts (c .before .before), sym (c .before .too-long .ensures) ∙ c .if2 .taken) .0))
     (λ c κs. stands _ (starts (c .before .before))) (λ c κs. search needs)
     (λ c.
     let x = c .before .before in
     let else2 = x .before .before in
     sym (refuses _ _ _ _ UnknownKey (starts (else2 .before .before), short else2, has x ∙ le-ltb _ _ (c .if3 .taken)) .0))
-    (λ c κs. search needs) (λ c κs. let else2 = c .before .before .before .before .before in (stands _ (starts (else2 .before .before)), short else2))
-    (λ c κs.
-    let s = stands _ (starts (c .before .before .before .before .before .before .before .before)) in
-    search needs) returns-4)
+    (λ c κs. search needs)
+    (λ c κs. let else2 = c .before .before .before .before .before in (stands _ (starts (else2 .before .before)), short else2))
+    (λ c κs. let s = stands _ (starts (c .before .before .before .before .before .before .before .before)) in search needs)
+    (λ c.
+    let k = c .before .before in
+    let x = k .before .before .before in
+    let else2 = x .before .before in
+    rw (c .counted .ensures, c .before .recompute .ensures .0, k .at .ensures .0, place-is x)
+    (counts _ _ _ _ (starts (else2 .before .before), short else2, has x ∙ lt-ltb _ _ (k .before .if3 .left)))))

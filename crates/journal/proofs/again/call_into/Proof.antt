@@ -37,6 +37,8 @@ returns-2 c =
 pub call-into-spec : {M : Type 1} → statement M
 call-into-spec =
     tie.close (tie.spec (λ c κs. search needs)
-    (λ c. let m = c .before in unfold front in bad-mode (m .before .before .before .args .cipher) _ _ (rw (← m .mode .ensures) (c .if1 .taken)))
+    (λ c.
+    let m = c .before in
+    unfold front in bad-mode (m .before .before .before .args .cipher) _ _ (rw (← m .mode .ensures) (c .if1 .taken)))
     (λ c. search needs) (λ c κs. search needs) (λ c κs. search needs) (λ c κs. search needs) (λ c κs. search needs) (λ c κs. search needs)
     (λ c κs. search needs) (λ c κs. search needs) (λ c. search needs) returns-2)

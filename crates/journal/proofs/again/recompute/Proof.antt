@@ -47,12 +47,13 @@ returns c =
     let a = at-call .call-into .result in
     let given = at-call .call-into .last .1 .1 .0 in
     let rest = drop (at-room .lent-room .result - 0) (buffer at-room) in
-    lent-judged (S .args .cipher) (entry at-room) (S .pre .1) _ (size at-room ∙ at-room .lent-room .ensures) a given rest (c .differs .result)
-    (at-call .call-into .ensures)
+    lent-judged (S .args .cipher) (entry at-room) (S .pre .1) _ (size at-room ∙ at-room .lent-room .ensures) a given rest
+    (c .differs .result) (at-call .call-into .ensures)
     (c .differs .ensures
     ∙ ap (λ (k : ℕ). differsFrom (entry at-room) (a .number) (a .length) (take k (given ++ rest))) (sub-zero (a .length)))
 
 pub recompute-spec : {M : Type 1} → statement M
 recompute-spec =
-    tie.close (tie.spec (λ c κs. search needs) (λ c κs. search needs) (λ c. search needs) (λ c. search needs) (λ c. omega (arith, long c, room c))
-    (λ c κs. search needs) (λ c. search needs) (λ c. search needs) part-differs-end (λ c κs. search needs) returns)
+    tie.close (tie.spec (λ c κs. search needs) (λ c κs. search needs) (λ c. search needs) (λ c. search needs)
+    (λ c. omega (arith, long c, room c)) (λ c κs. search needs) (λ c. search needs) (λ c. search needs) part-differs-end
+    (λ c κs. search needs) returns)

@@ -11,6 +11,9 @@ past-part-spec =
     (λ c.
     let x = c .before in
     unfold pastPart in
-    rw (c .skip .ensures, sym (x .before .starts-part .ensures) ∙ not-true _ (x .if1 .taken)) (drop-length (now (x .before .before .before .args .s))))
+    rw (c .skip .ensures, sym (x .before .starts-part .ensures) ∙ not-true _ (x .if1 .taken))
+    (drop-length (now (x .before .before .before .args .s))))
     (λ c κs. sym (c .before .starts-part .ensures) ∙ not-false _ (c .if1 .left))
-    (λ c. let x = c .before in unfold pastPart in rw (sym (x .before .starts-part .ensures) ∙ not-false _ (x .if1 .left)) (c .behind .ensures)))
+    (λ c.
+    let x = c .before in
+    unfold pastPart in rw (sym (x .before .starts-part .ensures) ∙ not-false _ (x .if1 .left)) (c .behind .ensures)))

@@ -15,8 +15,9 @@ data-inside b s = omega (arith, size-within b s, data-within b s)
 one-more-requires : tie.Need-one-more-requires
 one-more-requires c κs =
     let S = c .before .before .before .before .before in
-    let six : length (S .args .r .«by_mode») ≡ 6 = search needs in
-    let small = below-at (suc (S .args .place)) (S .args .r .«by_mode») (omega arith) (S .pre .1 .1 .1 .0 .byMode) (c .mode-place .result) in
+    let r = S .args .r in
+    let six : length (r .«by_mode») ≡ 6 = search needs in
+    let small = below-at (suc (S .args .place)) (r .«by_mode») (omega arith) (S .pre .1 .1 .1 .0 .byMode) (c .mode-place .result) in
     (omega arith, omega (arith, data-inside _ (S .pre .0)))
 
 one-more-requires-2 : tie.Need-one-more-requires-2
