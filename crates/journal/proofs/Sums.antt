@@ -35,11 +35,9 @@ adds-counted ks e place r a =
     let x = recomputed (keyOf (e .key) ks) e in
     let m = mode-below-6 (e .mode) in
     let n = recomputed-known (keyOf (e .key) ks) e in
-    let six = a .modes in
-    let all = a .answers in
     record {
-      modes = length-set (r .«by_mode») _ _ ∙ six;
-      answers = length-set (r .«by_answer») _ _ ∙ all;
+      modes = length-set (r .«by_mode») _ _ ∙ a .modes;
+      answers = length-set (r .«by_answer») _ _ ∙ a .answers;
       byMode = total-one-more (r .«by_mode») (modePlace (e .mode)) (omega arith) ∙ ap (λ (k : ℕ). k + 1) (a .byMode);
       byAnswer = total-one-more (r .«by_answer») (x .head .number) (omega arith) ∙ ap (λ (k : ℕ). k + 1) (a .byAnswer);
     }

@@ -33,22 +33,18 @@ record AddedTotals (ks : List Sm4Cipher) (es : List Entry) (r r′ : Report) : T
   bytesIn : r′ .«bytes_in» ≡ r .«bytes_in» + sumOf (λ e. length (e .«data»)) es
   bytesOut : r′ .«bytes_out» ≡ r .«bytes_out» + sumOf (λ e. answerNow ks e .head .size) es
 
-more : (a b c d e : ℕ) → a ≡ b + c → b ≡ d + e → a ≡ d + (e + c)
-more a b c d e p q = omega arith
-
 module _ (ks : List Sm4Cipher) where
   totals-from : (es : List Entry) (place : ℕ) (r : Report) → AddsUp r → AddedTotals ks es r (countedAll ks es place r)
   unfolding countedAll counted countIf sumOf
   totals-from [] place r a = omega arith
   totals-from (e ∷ es) place r a =
       let t = totals-from es (place + length (written e)) (countedUnder ks e place r) (adds-counted ks e place r a) in
-      let six : modePlace (e .mode) < length (r .«by_mode») = omega (arith, mode-below-6 (e .mode), a .modes) in
-      let all : answerNow ks e .head .number < length (r .«by_answer») =
-      omega (arith, recomputed-known (keyOf (e .key) ks) e, a .answers) in
+      let m = mode-below-6 (e .mode) in
+      let n = recomputed-known (keyOf (e .key) ks) e in
       record {
         records = omega (arith, t .records);
-        byMode = λ i. more _ _ _ _ _ (t .byMode i) (one-more-at (r .«by_mode») i (modePlace (e .mode)) six);
-        byAnswer = λ i. more _ _ _ _ _ (t .byAnswer i) (one-more-at (r .«by_answer») i (answerNow ks e .head .number) all);
+        byMode = λ i. omega (arith, t .byMode i, one-more-at (r .«by_mode») i (modePlace (e .mode)) (omega arith));
+        byAnswer = λ i. omega (arith, t .byAnswer i, one-more-at (r .«by_answer») i (answerNow ks e .head .number) (omega arith));
         bytesIn = omega (arith, t .bytesIn);
         bytesOut = omega (arith, t .bytesOut);
       }

@@ -35,9 +35,6 @@ unfolding written head middle
 length-written e =
     simp (length-append, length-part-of) (omega (arith, length-bytesOf 2 (e .key), length-bytesOf 4 (e .room)))
 
-pub four-joined : (a b c d : List ℕ) → ((a ++ b) ++ c) ++ d ≡ a ++ (b ++ (c ++ d))
-four-joined a b c d = simp append-assoc
-
 halves-joined : (h l d i m o : List ℕ) → (h ++ (l ++ (d ++ i))) ++ (m ++ o) ≡ h ++ (l ++ (d ++ (i ++ (m ++ o))))
 halves-joined h l d i m o = simp append-assoc
 

@@ -2,7 +2,7 @@
 use Rattle.block.proofs.Base.{_+_, _-_, ℕ, _≡_, ap, arith, needs, now, drop, take}
 use Rattle.block.specs.Words.{wordAt}
 use Rattle.journal.specs.Format.{partAt}
-use Rattle.journal.proofs.Standing.{part-long, part-fits}
+use Rattle.journal.proofs.Standing.{part-fits}
 use Rattle.journal.proofs.records.part_at.Statement.{statement}
 use Rattle.journal.proofs.records.part_at.Tie as tie
 
@@ -16,5 +16,5 @@ returns c =
 
 pub part-at-spec : {M : Type 1} → statement M
 part-at-spec =
-    tie.close (tie.spec (λ c κs. omega (arith, part-long)) (λ c. search needs) (λ c. search needs) (λ c. search needs) (λ c. search needs)
+    tie.close (tie.spec (λ c κs. omega (arith, part-fits)) (λ c. search needs) (λ c. search needs) (λ c. search needs) (λ c. search needs)
     (λ c. omega (arith, part-fits, c .word-at .ensures)) returns)
