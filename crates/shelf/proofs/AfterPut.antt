@@ -16,7 +16,7 @@ use Rattle.shelf.specs.Steps.{InOrder}
 use Rattle.shelf.specs.Calls.{newRecord, putIn, putCall, collectCall, lookedUp, holding}
 use Rattle.shelf.proofs.ReadsProper.{records-stored, records-proper, those-proper, put-proper}
 use Rattle.shelf.proofs.Sound.{in-order, not-bad}
-use Rattle.shelf.proofs.Putting.{length-made, enough}
+use Rattle.shelf.proofs.Putting.{length-current, fitted-fits}
 use Rattle.shelf.proofs.Reading.{by-test}
 use Rattle.shelf.proofs.Current.{at-most-one, no-two, collected-length, collected-again, current-collected, current-fitted}
 use Rattle.shelf.proofs.Current.{current-new, current-kept}
@@ -172,7 +172,8 @@ module _ (shelf : List ℕ) (used job edition : ℕ) (sealed : List ℕ) (small 
 
   final-fit : Fit final shelf
   final-fit =
-      let e = enough new before (length shelf) refl (ltb-false (length shelf) (needed shelf used job edition sealed) (passed .room)) in
+      let fits = ltb-false (length shelf) (needed shelf used job edition sealed) (passed .room) in
+      let l = length-current new refl before refl in
       let short : length sealed < 2 ^ 32 = omega (arith, order .size) in
       record {
         small = small;
@@ -181,7 +182,7 @@ module _ (shelf : List ℕ) (used job edition : ℕ) (sealed : List ℕ) (small 
             (record { job = job-fits; edition = edition-fits; size = short; bytes = sealed-small })
             (records-proper (take used shelf) (below-take 256 used shelf small));
         size = order .size;
-        room = omega (arith, length-made new before (length shelf) refl);
+        room = fitted-fits (length shelf) (putIn shelf used job edition sealed) fits;
         one = λ other.
             by-test (eqb other job) (λ f. rw (eqb-true other job f, current-here) (omega arith))
             (λ f. rw (current-there other (eqb-false other job f)) (at-most-one before (order .single) other));

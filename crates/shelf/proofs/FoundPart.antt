@@ -40,11 +40,9 @@ module _ (shelf : List ℕ) (used : ℕ) (small : AreBytes shelf) (order : InOrd
       let inside = stored-part job rs (order .single) in
       let fills = order .fills in
       let fits = order .within in
-      let whole : shelf ≡ stored rs ++ drop used shelf =
-      sym (take-append-drop used shelf) ∙ ap (λ (l : List ℕ). l ++ drop used shelf) (sym (used-stored shelf used small order)) in
       -- the same part, in the buffer
       let there : take m (drop n shelf) ≡ stored (currentOf job rs) =
-      ap (λ (l : List ℕ). take m (drop n l)) whole
+      ap (λ (l : List ℕ). take m (drop n l)) (used-stored shelf used small order)
       ∙ ap (take m) (drop-append-le n (stored rs) (drop used shelf) (omega arith))
       ∙ take-append-le m (drop n (stored rs)) (drop used shelf) (omega (arith, length-drop n (stored rs)))
       ∙ inside .1 in

@@ -1,7 +1,8 @@
 -- What is read of bytes is proper, and so is what putting and collecting make of it; reading and writing are each other's inverse.
-use Rattle.block.proofs.Base.{_+_, _<_, _^_, _≤_, suc, zero, ℕ, _∙_, _≡_, ap, ap₂, refl, sym, Bool, true, List, [], _++_, _∷_, append-assoc}
+use Rattle.block.proofs.Base.{_+_, _-_, _<_, _≤_, suc, zero, ℕ, _∙_, _≡_, ap, ap₂, refl, sym, Bool, true, List, [], _++_, _∷_, append-assoc}
 use Rattle.block.proofs.Base.{append-nil, mod-eq-of-lt, arith, eqb-true, eqb, leb, lit<, drop, getD, length, length-append, take, drop-at}
 use Rattle.block.proofs.Base.{length-take-le, take-add, take-at, take-length}
+use lib.Seq.{take-take}
 use Rattle.block.specs.Below.{AreBytes}
 use Rattle.block.specs.Words.{wordAt}
 use Rattle.block.proofs.Convert.{numberOf-lt, numberOf-bytesOf, bytesOf-numberOf}
@@ -14,24 +15,28 @@ use Rattle.shelf.specs.Records.{headAt}
 use Rattle.shelf.specs.Shelf.{isCurrentOf, those, supersede, withNew, fitted}
 use Rattle.shelf.specs.declared.records.Head.{Head}
 use Rattle.shelf.proofs.Reading.{by-test, length-sealed, records-none, records-one, by-records, length-written, starts-within}
-use Rattle.shelf.proofs.Reading.{size-starts, stands, records-empty, Turn, entry, entry-front}
+use Rattle.shelf.proofs.Reading.{size-starts, stands, records-empty, between, Turn, entry}
 
 module _ (b : List ℕ) (small : AreBytes b) where
-  pub byte-at : (i : ℕ) → getD b i 0 < 256
-  byte-at i = below-at 256 b (lit< tt) small i
+  abbrev four : ℕ → List ℕ
+  four i = getD b i 0 ∷ getD b (i + 1) 0 ∷ getD b (i + 2) 0 ∷ getD b (i + 3) 0 ∷ []
 
-  word-small : (i : ℕ) → wordAt b i < 2 ^ 32
-  word-small i =
-      numberOf-lt (getD b i 0 ∷ getD b (i + 1) 0 ∷ getD b (i + 2) 0 ∷ getD b (i + 3) 0 ∷ [])
-      (byte-at i, (byte-at (i + 1), (byte-at (i + 2), (byte-at (i + 3), tt))))
+  abbrev two : List ℕ
+  two = getD b 6 0 ∷ getD b 7 0 ∷ []
+
+  byte-at : (i : ℕ) → getD b i 0 < 256
+  byte-at = below-at 256 b (lit< tt) small
+
+  four-bytes : (i : ℕ) → AreBytes (four i)
+  four-bytes i = (byte-at i, (byte-at (i + 1), (byte-at (i + 2), (byte-at (i + 3), tt))))
 
   pub front-proper : startsRecord b ≡ true → Proper (front b)
   unfolding front
   front-proper f =
       record {
-        job = word-small 2;
-        edition = numberOf-lt (getD b 6 0 ∷ getD b 7 0 ∷ []) (byte-at 6, (byte-at 7, tt));
-        size = rw (length-sealed b f) (word-small 8);
+        job = numberOf-lt (four 2) (four-bytes 2);
+        edition = numberOf-lt two (byte-at 6, (byte-at 7, tt));
+        size = rw (length-sealed b f) (numberOf-lt (four 8) (four-bytes 8));
         bytes = below-take 256 (wordAt b 8) (drop 12 b) (below-drop 256 12 b small);
       }
 
@@ -46,19 +51,23 @@ those-proper test [] h = tt
 those-proper test (r ∷ rs) h =
     by-test (test r) (λ e. rw e (h .0, those-proper test rs (h .1))) (λ e. rw e (those-proper test rs (h .1)))
 
-new-proper : (job : ℕ) (new : Record) (rs : List Record) → Proper new → AllProper rs → AllProper (supersede job rs ++ (new ∷ []))
+supersede-proper : (job : ℕ) (rs : List Record) → AllProper rs → AllProper (supersede job rs)
 unfolding supersede
-new-proper job new [] p h = (p, tt)
-new-proper job new (r ∷ rs) p h =
+supersede-proper job [] h = tt
+supersede-proper job (r ∷ rs) h =
     let q = h .0 in
-    let rest = new-proper job new rs p (h .1) in
+    let rest = supersede-proper job rs (h .1) in
     by-test (isCurrentOf job r)
     (λ e. rw e (record { job = q .job; edition = q .edition; size = q .size; bytes = q .bytes }, rest)) (λ e. rw e (q, rest))
+
+pub more-proper : (rs : List Record) {r : Record} → AllProper rs → Proper r → AllProper (rs ++ (r ∷ []))
+more-proper [] h p = (p, tt)
+more-proper (x ∷ rs) h p = (h .0, more-proper rs (h .1) p)
 
 pub put-proper : (room : ℕ) (new : Record) (rs : List Record) → Proper new → AllProper rs → AllProper (fitted room (withNew new rs))
 unfolding fitted withNew
 put-proper room new rs p h =
-    let all = new-proper (new .job) new rs p h in
+    let all = more-proper (supersede (new .job) rs) (supersede-proper (new .job) rs h) p in
     by-test (leb (length (stored (withNew new rs))) room) (λ e. rw e all) (λ e. rw e (those-proper (λ r. r .current) _ all))
 
 -- the first n entries, each by its place
@@ -72,40 +81,31 @@ listed-take zero b h = refl
 listed-take (suc n) [] h = absurd (omega arith)
 listed-take (suc n) (x ∷ b) h = ap (λ (l : List ℕ). x ∷ l) (listed-take n b (omega arith))
 
--- a byte list that is read as a number is its bytes again
-module _ (b : List ℕ) (small : AreBytes b) where
-  four-back : (i : ℕ) → bytesOf 4 (wordAt b i) ≡ getD b i 0 ∷ getD b (i + 1) 0 ∷ getD b (i + 2) 0 ∷ getD b (i + 3) 0 ∷ []
-  four-back i =
-      let at = byte-at b small in
-      bytesOf-numberOf (getD b i 0 ∷ getD b (i + 1) 0 ∷ getD b (i + 2) 0 ∷ getD b (i + 3) 0 ∷ [])
-      (at i, (at (i + 1), (at (i + 2), (at (i + 3), tt))))
+marked-back : (b : List ℕ) → marked b ≡ true → (0x52 ≡ getD b 0 0) × (markOf (eqb (getD b 1 0) 0x44) ≡ getD b 1 0)
+unfolding marked
+marked-back b m = (
+  sym (eqb-true (getD b 0 0) 0x52 (and-left _ _ m)),
+  by-test (eqb (getD b 1 0) 0x44) (λ e. rw e (sym (eqb-true (getD b 1 0) 0x44 e)))
+      (λ e. rw e (sym (eqb-true (getD b 1 0) 0x58 (rw e at (and-right (eqb (getD b 0 0) 0x52) _ m))))),
+)
 
-  marked-back : marked b ≡ true → (0x52 ≡ getD b 0 0) × (markOf (eqb (getD b 1 0) 0x44) ≡ getD b 1 0)
-  unfolding marked
-  marked-back m = (
-    sym (eqb-true (getD b 0 0) 0x52 (and-left _ _ m)),
-    by-test (eqb (getD b 1 0) 0x44) (λ e. rw e (sym (eqb-true (getD b 1 0) 0x44 e)))
-        (λ e. rw e (sym (eqb-true (getD b 1 0) 0x58 (rw e at (and-right (eqb (getD b 0 0) 0x52) _ m))))),
-  )
-
-  -- the record that is read, written, is the bytes that it was read from
-  front-written : startsRecord b ≡ true → written (front b) ≡ take (sizeAt b) b
-  unfolding written front labelOf listed
-  front-written f =
-      let w = starts-within b f in
-      let m = marked-back (w .1) in
-      let two = bytesOf-numberOf (getD b 6 0 ∷ getD b 7 0 ∷ []) (byte-at b small 6, (byte-at b small 7, tt)) in
-      rw (
-        m .1,
-        two,
-        length-sealed b f,
-        four-back 2,
-        four-back 8,
-        size-starts b f,
-        take-add 12 (wordAt b 8) b,
-        ← listed-take 12 b (w .0),
-        ← m .0,
-      )
+-- the record that is read, written, is the bytes that it was read from
+front-written : (b : List ℕ) → AreBytes b → startsRecord b ≡ true → written (front b) ≡ take (sizeAt b) b
+unfolding written front labelOf listed
+front-written b small f =
+    let w = starts-within b f in
+    let m = marked-back b (w .1) in
+    rw (
+      m .1,
+      bytesOf-numberOf (two b small) (byte-at b small 6, (byte-at b small 7, tt)),
+      length-sealed b f,
+      bytesOf-numberOf (four b small 2) (four-bytes b small 2),
+      bytesOf-numberOf (four b small 8) (four-bytes b small 8),
+      size-starts b f,
+      take-add 12 (wordAt b 8) b,
+      ← listed-take 12 b (w .0),
+      ← m .0,
+    )
 
 -- what reads is what is stored of it
 stored-front : (b : List ℕ) → AreBytes b → stored (records b) ≡ take (length (stored (records b))) b
@@ -155,24 +155,19 @@ module _ (r : Record) (proper : Proper r) (rest : List ℕ) where
       ∙ ap₂ {C = List Record} (λ (x : Record) (l : List ℕ). x ∷ records l) written-front
       (ap (λ (k : ℕ). drop k (written r ++ rest)) written-size ∙ drop-at (written r) rest (length (written r)) refl)
 
--- stored records are read, and then what is behind them
-pub records-behind : (rs : List Record) (b : List ℕ) → AllProper rs → records (stored rs ++ b) ≡ rs ++ records b
-unfolding stored
-records-behind [] b h = refl
-records-behind (r ∷ rs) b h =
-    ap records (append-assoc (written r) (stored rs) b)
-    ∙ written-reads r (h .0) (stored rs ++ b)
-    ∙ ap {B = List Record} (λ (l : List Record). r ∷ l) (records-behind rs b (h .1))
-
 -- what was stored is read
 pub records-stored : (rs : List Record) → AllProper rs → records (stored rs) ≡ rs
-records-stored rs h =
-    ap records (sym (append-nil (stored rs)))
-    ∙ records-behind rs [] h
-    ∙ ap {B = List Record} (λ (l : List Record). rs ++ l) records-empty
-    ∙ append-nil rs
+unfolding stored
+records-stored [] h = records-empty
+records-stored (r ∷ rs) h =
+    written-reads r (h .0) (stored rs) ∙ ap {B = List Record} (λ (l : List Record). r ∷ l) (records-stored rs (h .1))
 
--- the entry that a head tells of, written
-pub entry-written : (b : List ℕ) (h : Head) → h ≡ headAt b → Turn b h → AreBytes b → written (entry b h) ≡ take (h .size) b
-entry-written b h e t small =
-    ap written (sym (entry-front b h e (t .starts))) ∙ front-written b small (t .starts) ∙ ap (λ (k : ℕ). take k b) (sym (t .size))
+-- the entry that a head tells of is proper, and written it is the bytes that it was read from
+module _ {s : List ℕ} {used at : ℕ} {h : Head} (t : Turn s used at h) (small : AreBytes (between at used s)) where
+  pub entry-proper : Proper (entry (between at used s) h)
+  entry-proper = rw (t .same) at (front-proper (between at used s) small (t .starts))
+
+  pub entry-written : written (entry (between at used s) h) ≡ take (h .size) (drop at s)
+  entry-written =
+      let f : h .size ≤ used - at = omega (arith, t .long, t .within) in
+      rw (← t .same, front-written (between at used s) small (t .starts), ← t .size) (take-take (h .size) (used - at) (drop at s) f)
