@@ -20,27 +20,10 @@ use Rattle.shelf.proofs.Putting.{length-current, fitted-fits}
 use Rattle.shelf.proofs.Reading.{by-test}
 use Rattle.shelf.proofs.Current.{at-most-one, no-two, collected-length, collected-again, current-collected, current-fitted}
 use Rattle.shelf.proofs.Current.{current-new, current-kept}
-use Rattle.shelf.proofs.FoundPart.{look-up}
-
-written-bytes : (r : Record) → Proper r → AreBytes (written r)
-unfolding written
-written-bytes r p = (
-  lit< tt,
-  (
-    by-test (r .current) (λ e. rw e (lit< tt)) (λ e. rw e (lit< tt)),
-    below-append 256 (labelOf (r .job) (r .edition)) (bytesOf 4 (length (r .sealed)) ++ r .sealed) (label-bytes (r .job) (r .edition))
-        (below-append 256 (bytesOf 4 (length (r .sealed))) (r .sealed) (bytesOf-bytes 4 (length (r .sealed))) (p .bytes)),
-  ),
-)
-
-all-bytes : (rs : List Record) → AllProper rs → AreBytes (stored rs)
-unfolding stored
-all-bytes [] h = tt
-all-bytes (r ∷ rs) h = below-append 256 (written r) (stored rs) (written-bytes r (h .0)) (all-bytes rs (h .1))
+use Rattle.shelf.proofs.FoundPart.{look-up-in, look-up}
 
 -- proper records of a shelf, no two of them current of one job, over a buffer that has room for them
 record Fit (rs : List Record) (shelf : List ℕ) : Type 0 where
-  small : AreBytes shelf
   proper : AllProper rs
   size : length shelf ≤ 65536
   room : length (stored rs) ≤ length shelf
@@ -66,10 +49,7 @@ module _ (rs : List Record) (shelf : List ℕ) (fit : Fit rs shelf) where
   -- looking up a job there gives its current record
   looks-up : (job : ℕ) → lookedUp (over (stored rs) shelf) (length (stored rs)) job ≡ stored (currentOf job rs)
   looks-up job =
-      look-up (over (stored rs) shelf) (length (stored rs))
-      (below-append 256 (stored rs) _ (all-bytes rs (fit .proper)) (below-drop 256 (length (stored rs)) shelf (fit .small)))
-      holds-in-order job
-      ∙ rw reads-back
+      look-up-in (over (stored rs) shelf) (length (stored rs)) holds-in-order job (rw (reads-back, drop-append-seam)) ∙ rw reads-back
 
 -- a collection that is done: a shelf in order, with every job's current record as it was, that collecting again does not change
 module _ (shelf : List ℕ) (used : ℕ) (small : AreBytes shelf) (order : InOrder shelf used) where
@@ -83,7 +63,6 @@ module _ (shelf : List ℕ) (used : ℕ) (small : AreBytes shelf) (order : InOrd
   collect-fit : Fit (collected rs) shelf
   collect-fit =
       record {
-        small = small;
         proper = those-proper (λ r. r .current) rs (records-proper (take used shelf) (below-take 256 used shelf small));
         size = order .size;
         room = omega (arith, collected-length rs, order .fills, order .within);
@@ -176,7 +155,6 @@ module _ (shelf : List ℕ) (used job edition : ℕ) (sealed : List ℕ) (small 
       let l = length-current new refl before refl in
       let short : length sealed < 2 ^ 32 = omega (arith, order .size) in
       record {
-        small = small;
         proper =
             put-proper (length shelf) new before
             (record { job = job-fits; edition = edition-fits; size = short; bytes = sealed-small })

@@ -1,5 +1,5 @@
 -- Records are read one at a time: where one stands whole at the front, it and then what is behind it; otherwise none.
-use Rattle.block.proofs.Base.{_+_, _-_, _<_, _≤_, suc, zero, ℕ, _∙_, _≡_, ap, refl, sym, Bool, false, true, List, [], _∷_, arith, le-leb}
+use Rattle.block.proofs.Base.{_+_, _-_, _<_, _≤_, suc, zero, ℕ, _∙_, _≡_, cond, refl, sym, Bool, false, true, List, [], _∷_, arith, le-leb}
 use Rattle.block.proofs.Base.{leb-true, lt-leb, leb, drop, length, length-append, length-drop, take, length-take, length-take-le, drop-drop, take-nil, eqb, not, ne-eqb}
 use Rattle.block.specs.BigEndian.{bytesOf}
 use Rattle.block.specs.Words.{wordAt}
@@ -36,10 +36,6 @@ module _ (b : List ℕ) where
       let rest = and-right (leb 12 (length b)) _ e in
       (long, and-left _ _ rest, omega (arith, leb-true (wordAt b 8) (length b - 12) (and-right (marked b) _ rest)))
 
-  pub stands : 12 ≤ length b → marked b ≡ true → wordAt b 8 ≤ length b - 12 → startsRecord b ≡ true
-  unfolding startsRecord
-  stands h m l = rw (le-leb 12 (length b) h, m, le-leb (wordAt b 8) (length b - 12) l)
-
   too-short : length b < 12 → startsRecord b ≡ false
   unfolding startsRecord
   too-short h = rw (lt-leb 12 (length b) h)
@@ -47,6 +43,10 @@ module _ (b : List ℕ) where
   pub size-starts : startsRecord b ≡ true → sizeAt b ≡ 12 + wordAt b 8
   unfolding sizeAt
   size-starts e = rw e
+
+  pub size-marked : 12 ≤ length b → marked b ≡ true → {n : ℕ} → n ≡ wordAt b 8 → sizeAt b ≡ cond (leb n (length b - 12)) (12 + n) 0
+  unfolding sizeAt startsRecord
+  size-marked h m e = rw (e, le-leb 12 (length b) h, m)
 
   -- one stands there exactly where its size is not 0
   pub starts-size : startsRecord b ≡ not (eqb (sizeAt b) 0)

@@ -1,6 +1,6 @@
 -- What is read of bytes is proper, and so is what putting and collecting make of it; reading and writing are each other's inverse.
 use Rattle.block.proofs.Base.{_+_, _-_, _<_, _≤_, suc, zero, ℕ, _∙_, _≡_, ap, ap₂, refl, sym, Bool, true, List, [], _++_, _∷_, append-assoc}
-use Rattle.block.proofs.Base.{append-nil, mod-eq-of-lt, arith, eqb-true, eqb, leb, lit<, drop, getD, length, length-append, take, drop-at}
+use Rattle.block.proofs.Base.{append-nil, mod-eq-of-lt, le-leb, arith, eqb-true, eqb, leb, lit<, drop, getD, length, length-append, take, drop-at}
 use Rattle.block.proofs.Base.{length-take-le, take-add, take-at, take-length}
 use lib.Seq.{take-take}
 use Rattle.block.specs.Below.{AreBytes}
@@ -15,7 +15,7 @@ use Rattle.shelf.specs.Records.{headAt}
 use Rattle.shelf.specs.Shelf.{isCurrentOf, those, supersede, withNew, fitted}
 use Rattle.shelf.specs.declared.records.Head.{Head}
 use Rattle.shelf.proofs.Reading.{by-test, length-sealed, records-none, records-one, by-records, length-written, starts-within}
-use Rattle.shelf.proofs.Reading.{size-starts, stands, records-empty, between, Turn, entry}
+use Rattle.shelf.proofs.Reading.{size-starts, records-empty, between, Turn, entry}
 
 module _ (b : List ℕ) (small : AreBytes b) where
   abbrev four : ℕ → List ℕ
@@ -133,11 +133,13 @@ module _ (r : Record) (proper : Proper r) (rest : List ℕ) where
   size-field = numberOf-bytesOf 4 (length (r .sealed)) ∙ mod-eq-of-lt (proper .size)
 
   written-starts : startsRecord (written r ++ rest) ≡ true
-  unfolding written labelOf bytesOf marked
+  unfolding written labelOf bytesOf marked startsRecord
   written-starts =
       let l = length-append (written r) rest in
       let w = length-written r in
-      stands (written r ++ rest) (omega arith) (by-test (r .current) (λ e. rw e) (λ e. rw e)) (omega (arith, size-field))
+      let fits : wordAt (written r ++ rest) 8 ≤ length (written r ++ rest) - 12 = omega (arith, size-field) in
+      rw (le-leb 12 (length (written r ++ rest)) (omega arith), le-leb _ _ (fits))
+      (by-test (r .current) (λ e. rw e) (λ e. rw e))
 
   written-size : sizeAt (written r ++ rest) ≡ length (written r)
   written-size = size-starts (written r ++ rest) written-starts ∙ rw size-field (sym (length-written r))

@@ -18,21 +18,15 @@ use Rattle.shelf.proofs.ReadsProper.{entry-written, entry-proper, store
 use Rattle.shelf.proofs.Putting.{stored-new, those-append}
 use Rattle.shelf.proofs.Current.{current-none, own-current, at-most-one, no-two}
 
--- how many current records of a job there are, with one more
-length-more : (job : ℕ) (passed : List Record) (r : Record) (rs : List Record)
-    → length (currentOf job (passed ++ (r ∷ rs)))
-    ≡ length (currentOf job passed) + length (cond (isCurrentOf job r) (r ∷ currentOf job rs) (currentOf job rs))
-unfolding those
-length-more job passed r rs = ap length (those-append (isCurrentOf job) passed (r ∷ rs)) ∙ length-append (currentOf job passed) _
-
 -- it is no second one
 first : (passed : List Record) (r : Record) (rs : List Record) → twoCurrent (passed ++ (r ∷ rs)) ≡ false
     → r .current && hasCurrent (r .job) passed ≡ false
+unfolding those
 first passed r rs f =
     by-test (r .current)
     (λ e.
-    let all = at-most-one (passed ++ (r ∷ rs)) f (r .job) in
-    rw e (current-none (r .job) passed (omega (arith, rw (own-current r e) at (length-more (r .job) passed r rs)))))
+    let all = rw (those-append, length-append, own-current r e) at (at-most-one (passed ++ (r ∷ rs)) f (r .job)) in
+    rw e (current-none (r .job) passed (omega arith)))
     (λ e. rw e)
 
 pub sound-all : (passed rs : List Record) → twoCurrent (passed ++ rs) ≡ false → soundFrom passed rs ≡ length (stored rs)
@@ -47,7 +41,7 @@ still-single : (passed : List Record) (r : Record) → twoCurrent passed ≡ fal
 unfolding those
 still-single passed r e f =
     no-two (passed ++ (r ∷ []))
-    (λ job. rw (length-more job passed r [])
+    (λ job. rw (those-append, length-append)
     (by-test (isCurrentOf job r)
     (λ g.
     let same : r .job ≡ job = eqb-true (r .job) job (and-right (r .current) _ g) in
@@ -139,26 +133,16 @@ module _ (shelf : List ℕ) (used : ℕ) where
   pub in-order : badShelf shelf used ≡ false → InOrder shelf used
   unfolding badShelf
   in-order e =
-      let first = or-left (ltb 65536 (length shelf)) _ e in
       let e₁ = or-right (ltb 65536 (length shelf)) _ e in
-      let second = or-left (ltb (length shelf) used) _ e₁ in
       let e₂ = or-right (ltb (length shelf) used) _ e₁ in
-      let n = length (stored (records (take used shelf))) in
-      let filled = or-left (not (eqb n used)) _ e₂ in
       record {
-        size = ltb-false 65536 (length shelf) first;
-        within = ltb-false (length shelf) used second;
-        fills = eqb-true n used (not-false (eqb n used) filled);
-        single = or-right (not (eqb n used)) _ e₂;
+        size = ltb-false _ _ (or-left _ _ e);
+        within = ltb-false _ _ (or-left _ _ e₁);
+        fills = eqb-true _ _ (not-false _ (or-left _ _ e₂));
+        single = or-right (not (eqb (length (stored (records (take used shelf)))) used)) _ e₂;
       }
 
   -- and the other way round
   pub not-bad : InOrder shelf used → badShelf shelf used ≡ false
   unfolding badShelf
-  not-bad o =
-      rw (
-        le-ltb 65536 (length shelf) (o .size),
-        le-ltb (length shelf) used (o .within),
-        eq-eqb (length (stored (records (take used shelf)))) used (o .fills),
-        o .single,
-      )
+  not-bad o = rw (le-ltb _ _ (o .size), le-ltb _ _ (o .within), eq-eqb _ _ (o .fills), o .single)
