@@ -152,7 +152,7 @@ module _ (shelf : List ℕ) (used job edition : ℕ) (sealed : List ℕ) (small 
   final-fit : Fit final shelf
   final-fit =
       let fits = ltb-false (length shelf) (needed shelf used job edition sealed) (passed .room) in
-      let l = length-current new refl before refl in
+      let l = length-current shelf used order new refl refl in
       let short : length sealed < 2 ^ 32 = omega (arith, order .size) in
       record {
         proper =

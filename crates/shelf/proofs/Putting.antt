@@ -121,33 +121,8 @@ pub fitted-fits : (room : ℕ) (rs : List Record) → length (stored (collected 
 unfolding fitted
 fitted-fits room rs h = by-test (leb (length (stored rs)) room) (λ e. rw e (leb-true (length (stored rs)) room e)) (λ e. rw e h)
 
-module _ (new : Record) (current : new .current ≡ true) (rs : List Record) where
-  length-new : (a : List Record) → length (stored (a ++ (new ∷ []))) ≡ length (stored a) + (12 + length (new .sealed))
-  length-new a = rw (stored-new new a, length-append, length-written)
-
-  collected-new : collected (withNew new rs) ≡ collected (supersede (new .job) rs) ++ (new ∷ [])
-  unfolding withNew those
-  collected-new = those-append (λ r. r .current) (supersede (new .job) rs) (new ∷ []) ∙ rw current
-
-  -- the bytes of the records current after the put
-  pub length-current : {kept : ℕ} → kept ≡ length (stored (those (stays true (new .job)) rs))
-      → kept + (12 + length (new .sealed)) ≡ length (stored (collected (withNew new rs)))
-  length-current e = rw (e, those-coming (new .job) rs, collected-new) (sym (length-new (collected (supersede (new .job) rs))))
-
-  -- the room that is made, whether or not the new record fits behind all the others
-  stored-made : (room : ℕ)
-      → stored (fitted room (withNew new rs)) ≡ stored (roomMade room (length (new .sealed)) (new .job) rs) ++ written new
-  unfolding fitted roomMade withNew
-  stored-made room =
-      let needed = length (stored rs) + (12 + length (new .sealed)) in
-      let all = length (stored (withNew new rs)) in
-      let n : all ≡ needed = length-new (supersede (new .job) rs) ∙ rw (length-supersede (new .job) rs) in
-      by-test (ltb room needed)
-      (λ f. rw (f, lt-leb all room (omega (arith, ltb-true room needed f))) (ap stored collected-new ∙ stored-new new _))
-      (λ f. rw (f, le-leb all room (omega (arith, ltb-false room needed f))) (stored-new new _))
-
--- what stands where room is made for a new record of a job with n sealed bytes: where it goes, and the buffer
 module _ (shelf : List ℕ) (used : ℕ) (o : InOrder shelf used) where
+  -- what stands where room is made for a new record of a job with n sealed bytes: where it goes, and the buffer
   abbrev pub Made : ℕ → ℕ → ℕ → List ℕ → Type 0
   Made n job at s =
       let m = stored (roomMade (length shelf) n job (records (take used shelf))) in (at ≡ length m) × (s ≡ over m shelf)
@@ -163,27 +138,55 @@ module _ (shelf : List ℕ) (used : ℕ) (o : InOrder shelf used) where
     unfolding roomMade
     made-long f e = rw (o .fills, f) (sym (length-supersede job (records (take used shelf)) ∙ o .fills), e)
 
-  module _ (new : Record) (current : new .current ≡ true) {at : ℕ} {s : List ℕ} (m : Made (length (new .sealed)) (new .job) at s) where
+  module _ (new : Record) (current : new .current ≡ true) where
+    abbrev old : List Record
+    old = records (take used shelf)
+
     abbrev after : List Record
-    after = withNew new (records (take used shelf))
+    after = withNew new old
 
-    pub made-used : at + (12 + length (new .sealed)) ≡ length (stored (fitted (length shelf) after))
-    made-used = rw (stored-made new current (records (take used shelf)) (length shelf), length-append, length-written, m .0)
+    length-new : (a : List Record) → length (stored (a ++ (new ∷ []))) ≡ length (stored a) + (12 + length (new .sealed))
+    length-new a = rw (stored-new new a, length-append, length-written)
 
-    -- where the records current after the put fit, the new one finds room
-    pub made-room : ltb (length shelf) (length (stored (collected after))) ≡ false
-        → (at + (12 + length (new .sealed)) ≤ length s) × (length s ≡ length shelf) × (length shelf ≤ 65536)
-    made-room f =
-        let fits = fitted-fits (length shelf) after (ltb-false (length shelf) _ f) in
-        let u = made-used in
-        let l : length s ≡ length shelf = rw (m .1, length-append, length-drop) (omega (arith, m .0)) in
-        (omega arith, l, o .size)
+    collected-new : collected after ≡ collected (supersede (new .job) old) ++ (new ∷ [])
+    unfolding withNew those
+    collected-new = those-append (λ r. r .current) (supersede (new .job) old) (new ∷ []) ∙ rw current
 
-    pub made-bytes : {t : List ℕ} → t ≡ over (written new) (tailed at s)
-        → returned at s t ≡ over (stored (fitted (length shelf) after)) shelf
-    made-bytes e =
-        over-behind (stored (roomMade (length shelf) (length (new .sealed)) (new .job) (records (take used shelf)))) (written new) shelf s _ at (sym (m .0)) (m .1) e
-        ∙ ap (λ (x : List ℕ). over x shelf) (sym (stored-made new current (records (take used shelf)) (length shelf)))
+    -- the bytes of the records current after the put
+    pub length-current : {kept : ℕ} → kept ≡ length (stored (those (stays true (new .job)) old))
+        → kept + (12 + length (new .sealed)) ≡ length (stored (collected after))
+    length-current e = rw (e, those-coming (new .job) old, collected-new) (sym (length-new (collected (supersede (new .job) old))))
+
+    -- the room that is made, whether or not the new record fits behind all the others
+    abbrev made : List ℕ
+    made = stored (roomMade (length shelf) (length (new .sealed)) (new .job) old)
+
+    stored-made : stored (fitted (length shelf) after) ≡ made ++ written new
+    unfolding fitted roomMade withNew
+    stored-made =
+        let needed = length (stored old) + (12 + length (new .sealed)) in
+        let n : length (stored after) ≡ needed = length-new (supersede (new .job) old) ∙ rw (length-supersede (new .job) old) in
+        by-test (ltb (length shelf) needed)
+        (λ f. rw (f, lt-leb (length (stored after)) (length shelf) (omega (arith, ltb-true (length shelf) needed f))) (ap stored collected-new ∙ stored-new new _))
+        (λ f. rw (f, le-leb (length (stored after)) (length shelf) (omega (arith, ltb-false (length shelf) needed f))) (stored-new new _))
+
+    module _ {at : ℕ} {s : List ℕ} (m : Made (length (new .sealed)) (new .job) at s) where
+      pub made-used : at + (12 + length (new .sealed)) ≡ length (stored (fitted (length shelf) after))
+      made-used = rw (stored-made, length-append, length-written, m .0)
+
+      -- where the records current after the put fit, the new one finds room
+      pub made-room : ltb (length shelf) (length (stored (collected after))) ≡ false
+          → (at + (12 + length (new .sealed)) ≤ length s) × (length s ≡ length shelf) × (length shelf ≤ 65536)
+      made-room f =
+          let fits = fitted-fits (length shelf) after (ltb-false (length shelf) _ f) in
+          let u = made-used in
+          let l : length s ≡ length shelf = rw (m .1, length-append, length-drop) (omega (arith, m .0)) in
+          (omega arith, l, o .size)
+
+      pub made-bytes : {t : List ℕ} → t ≡ over (written new) (tailed at s)
+          → returned at s t ≡ over (stored (fitted (length shelf) after)) shelf
+      made-bytes e =
+          over-behind made (written new) shelf s _ at (sym (m .0)) (m .1) e ∙ ap (λ (x : List ℕ). over x shelf) (sym stored-made)
 
 -- head and sealed bytes written one behind the other
 pub record-written : (job edition : ℕ) (sealed head o o₁ t : List ℕ)

@@ -1,8 +1,8 @@
 -- What is read of bytes is proper, and so is what putting and collecting make of it; reading and writing are each other's inverse.
 use Rattle.block.proofs.Base.{_+_, _-_, _<_, _≤_, suc, zero, ℕ, _∙_, _≡_, ap, ap₂, refl, sym, Bool, true, List, [], _++_, _∷_, append-assoc}
 use Rattle.block.proofs.Base.{append-nil, mod-eq-of-lt, le-leb, arith, eqb-true, eqb, leb, lit<, drop, getD, length, length-append, take, drop-at}
-use Rattle.block.proofs.Base.{length-take-le, take-add, take-at, take-length}
-use lib.Seq.{take-take}
+use Rattle.block.proofs.Base.{length-take, length-take-le, take-add, take-at, take-length}
+use lib.Seq.{take-take, take-append-seam, drop-append-seam}
 use Rattle.block.specs.Below.{AreBytes}
 use Rattle.block.specs.Words.{wordAt}
 use Rattle.block.proofs.Convert.{numberOf-lt, numberOf-bytesOf, bytesOf-numberOf}
@@ -117,16 +117,15 @@ stored-front =
     rw (records-one b f, front-written b small f, length-append, l, take-add)
     (ap (λ (x : List ℕ). take (sizeAt b) b ++ x) (more (below-drop 256 (sizeAt b) b small))))
 
+-- there is no more of that than there are bytes
+pub stored-within : (b : List ℕ) → AreBytes b → length (stored (records b)) ≤ length b
+stored-within b small = omega (arith, ap length (stored-front b small) ∙ length-take (length (stored (records b))) b)
+
 -- records that fill the bytes are the bytes
 pub stored-records : (b : List ℕ) → AreBytes b → length (stored (records b)) ≡ length b → stored (records b) ≡ b
 stored-records b small e = stored-front b small ∙ ap (λ (k : ℕ). take k b) e ∙ take-length b
 
 -- a written record is read
-same-record : {c c′ : Bool} {j j′ e e′ : ℕ} {s s′ : List ℕ} → c ≡ c′ → j ≡ j′ → e ≡ e′ → s ≡ s′
-    → _≡_ {A = Record} (record { current = c; job = j; edition = e; sealed = s })
-    (record { current = c′; job = j′; edition = e′; sealed = s′ })
-same-record p q u v = rw (p, q, u, v)
-
 module _ (r : Record) (proper : Proper r) (rest : List ℕ) where
   size-field : wordAt (written r ++ rest) 8 ≡ length (r .sealed)
   unfolding written labelOf bytesOf
@@ -137,8 +136,8 @@ module _ (r : Record) (proper : Proper r) (rest : List ℕ) where
   written-starts =
       let l = length-append (written r) rest in
       let w = length-written r in
-      let fits : wordAt (written r ++ rest) 8 ≤ length (written r ++ rest) - 12 = omega (arith, size-field) in
-      rw (le-leb 12 (length (written r ++ rest)) (omega arith), le-leb _ _ (fits))
+      let b = written r ++ rest in
+      rw (le-leb 12 (length b) (omega arith), le-leb (wordAt b 8) (length b - 12) (omega (arith, size-field)))
       (by-test (r .current) (λ e. rw e) (λ e. rw e))
 
   written-size : sizeAt (written r ++ rest) ≡ length (written r)
@@ -147,22 +146,19 @@ module _ (r : Record) (proper : Proper r) (rest : List ℕ) where
   written-front : front (written r ++ rest) ≡ r
   unfolding written labelOf bytesOf front
   written-front =
-      same-record (by-test (r .current) (λ e. rw e) (λ e. rw e)) (numberOf-bytesOf 4 (r .job) ∙ mod-eq-of-lt (proper .job))
-      (numberOf-bytesOf 2 (r .edition) ∙ mod-eq-of-lt (proper .edition))
-      (ap (λ (k : ℕ). take k (r .sealed ++ rest)) size-field ∙ take-at (r .sealed) rest (length (r .sealed)) refl)
+      let mark : eqb (markOf (r .current)) 0x44 ≡ r .current = by-test (r .current) (λ e. rw e) (λ e. rw e) in
+      let job = numberOf-bytesOf 4 (r .job) ∙ mod-eq-of-lt (proper .job) in
+      let edition = numberOf-bytesOf 2 (r .edition) ∙ mod-eq-of-lt (proper .edition) in
+      rw (mark, job, edition, size-field, take-append-seam (r .sealed) rest)
 
-  pub written-reads : records (written r ++ rest) ≡ r ∷ records rest
-  written-reads =
-      records-one (written r ++ rest) written-starts
-      ∙ ap₂ {C = List Record} (λ (x : Record) (l : List ℕ). x ∷ records l) written-front
-      (ap (λ (k : ℕ). drop k (written r ++ rest)) written-size ∙ drop-at (written r) rest (length (written r)) refl)
+  written-reads : records (written r ++ rest) ≡ r ∷ records rest
+  written-reads = rw (records-one (written r ++ rest) written-starts, written-front, written-size, drop-append-seam)
 
 -- what was stored is read
 pub records-stored : (rs : List Record) → AllProper rs → records (stored rs) ≡ rs
 unfolding stored
 records-stored [] h = records-empty
-records-stored (r ∷ rs) h =
-    written-reads r (h .0) (stored rs) ∙ ap {B = List Record} (λ (l : List Record). r ∷ l) (records-stored rs (h .1))
+records-stored (r ∷ rs) h = rw (written-reads r (h .0) (stored rs), records-stored rs (h .1))
 
 -- the entry that a head tells of is proper, and written it is the bytes that it was read from
 module _ {s : List ℕ} {used at : ℕ} {h : Head} (t : Turn s used at h) (small : AreBytes (between at used s)) where

@@ -11,10 +11,9 @@ use Rattle.shelf.specs.declared.records.Head.{Head}
 use Rattle.shelf.specs.Records.{Record, written, stored, records, sizeAt, front, headAt}
 use Rattle.shelf.specs.Shelf.{isCurrentOf, those, currentOf, hasCurrent, twoCurrent, badShelf}
 use Rattle.shelf.specs.Steps.{soundFrom, soundUpTo, InOrder}
-use Rattle.shelf.proofs.Reading.{by-test, length-written, records-empty, between, Turn, entry, at-end, starts-within, size-starts}
-use Rattle.shelf.proofs.Reading.{length-sealed, records-none, records-one, by-records}
+use Rattle.shelf.proofs.Reading.{by-test, length-written, records-empty, between, Turn, entry, at-end}
 use Rattle.shelf.proofs.Walks.{none-current, or-left, or-right}
-use Rattle.shelf.proofs.ReadsProper.{entry-written, entry-proper, stored-records, records-stored, more-proper, records-proper}
+use Rattle.shelf.proofs.ReadsProper.{entry-written, entry-proper, stored-records, records-stored, more-proper, records-proper, stored-within}
 use Rattle.shelf.proofs.Putting.{stored-new, those-append}
 use Rattle.shelf.proofs.Current.{current-none, own-current, at-most-one, no-two}
 
@@ -102,16 +101,6 @@ module _ {s : List ℕ} {at : ℕ} (p : Passing s at) where
             sum = rw passed-more (omega (arith, rw (turn .reads, f, turn .whole) at (p .sum)));
           }
 
--- the records have no more bytes than they were read from
-stored-within : (b : List ℕ) → length (stored (records b)) ≤ length b
-unfolding stored front
-stored-within =
-    by-records (λ b. length (stored (records b)) ≤ length b) (λ b f. rw (records-none b f) (omega arith))
-    (λ b f more.
-    let w = starts-within b f in
-    let l : length (written (front b)) ≡ sizeAt b = length-written (front b) ∙ rw (length-sealed b f, size-starts b f) in
-    rw (records-one b f, length-append) (omega (arith, size-starts b f, length-drop (sizeAt b) b)))
-
 sound-test : (rs : List Record) (used : ℕ) → length (stored rs) ≤ used
     → not (eqb (soundUpTo rs) used) ≡ not (eqb (length (stored rs)) used) || twoCurrent rs
 unfolding twoCurrent
@@ -121,11 +110,11 @@ sound-test rs used h =
     (λ e. rw (e, sound-all [] rs e, or-false))
 
 module _ (shelf : List ℕ) (used : ℕ) where
-  pub bad-records : length shelf ≤ 65536 → used ≤ length shelf
+  pub bad-records : AreBytes shelf → length shelf ≤ 65536 → used ≤ length shelf
       → not (eqb (soundUpTo (records (take used shelf))) used) ≡ badShelf shelf used
   unfolding badShelf
-  bad-records h k =
-      let n = stored-within (take used shelf) in
+  bad-records small h k =
+      let n = stored-within (take used shelf) (below-take 256 used shelf small) in
       let l : length (take used shelf) ≡ used = length-take-le used shelf k in
       rw (le-ltb 65536 (length shelf) h, le-ltb (length shelf) used k)
       (sound-test (records (take used shelf)) used (omega arith))

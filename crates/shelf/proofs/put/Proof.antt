@@ -39,7 +39,7 @@ no-room : (x : tie.After-short)
 no-room x =
     let e = first (x .before) in
     x .short .ensures
-    ∙ ap (ltb (length (now (S e .args .shelf)))) (length-current (new e) refl _ (x .before .before .before .survey .ensures .kept))
+    ∙ ap (ltb (length (now (S e .args .shelf)))) (length-current _ _ (order e) (new e) refl (x .before .before .before .survey .ensures .kept))
 
 module _ (x : tie.After-make-room) where
   abbrev third : tie.Else3
