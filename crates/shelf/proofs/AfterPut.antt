@@ -1,16 +1,12 @@
 -- What stands after a put that is done, and after a collection: a shelf in order, the new record under its job, and every other job's
 -- current record as it was.
-use Rattle.block.proofs.Base.{_<_, _^_, _≤_, ℕ, _∙_, _≡_, ap, refl, sym, false, List, [], _++_, _∷_, append-nil, arith, eqb-false, eqb-true}
-use Rattle.block.proofs.Base.{lt-ltb, ltb-false, ltb-true, eqb, lit<, ltb, length, length-append, length-drop, take, take-append-seam}
+use Rattle.block.proofs.Base.{_<_, _^_, _≤_, ℕ, _∙_, _≡_, ap, refl, sym, false, List, [], _∷_, append-nil, arith, eqb-false, eqb-true}
+use Rattle.block.proofs.Base.{lt-ltb, ltb-false, ltb-true, eqb, ltb, length, length-append, length-drop, take, take-append-seam}
 use lib.Seq.{drop-append-seam}
 use Rattle.block.specs.Below.{AreBytes}
-use Rattle.block.specs.BigEndian.{bytesOf}
-use Rattle.block.proofs.Convert.{bytesOf-bytes}
-use Rattle.block.proofs.Entries.{below-append, below-take, below-drop}
+use Rattle.block.proofs.Entries.{below-take}
 use Rattle.walk.specs.Walk.{over}
-use Rattle.label.specs.Label.{labelOf}
-use Rattle.label.proofs.LabelTells.{label-bytes}
-use Rattle.shelf.specs.Records.{Record, Proper, AllProper, written, stored, records}
+use Rattle.shelf.specs.Records.{Record, AllProper, written, stored, records}
 use Rattle.shelf.specs.Shelf.{currentOf, collected, notHigher, fitted, badShelf}
 use Rattle.shelf.specs.Steps.{InOrder}
 use Rattle.shelf.specs.Calls.{newRecord, putIn, putCall, collectCall, lookedUp, holding}

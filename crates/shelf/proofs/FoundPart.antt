@@ -1,6 +1,6 @@
 -- Looking up a job gives its whole current record, byte for byte, as a part of the buffer; of a job that has none, nothing.
-use Rattle.block.proofs.Base.{_+_, _≤_, ℕ, _∙_, _≡_, ap, refl, sym, false, List, [], _++_, _∷_, append-nil, arith, le-ltb, drop, length}
-use Rattle.block.proofs.Base.{length-append, length-drop, take, take-append-drop, drop-append-add, drop-append-le, take-append-le}
+use Rattle.block.proofs.Base.{_+_, _≤_, ℕ, _∙_, _≡_, ap, refl, false, List, [], _++_, _∷_, append-nil, arith, le-ltb, drop, length}
+use Rattle.block.proofs.Base.{length-append, length-drop, take, drop-append-add, drop-append-le, take-append-le}
 use Rattle.block.proofs.Base.{take-append-seam}
 use Rattle.block.specs.Below.{AreBytes}
 use Rattle.shelf.specs.Records.{Record, written, stored, records}
@@ -31,7 +31,8 @@ stored-part job (r ∷ rs) f =
     (λ e. rw e (omega arith, rw drop-append-add (more .1)))
 
 -- where the used bytes are the records
-pub look-up-in : (shelf : List ℕ) (used : ℕ) → InOrder shelf used → (job : ℕ) → shelf ≡ stored (records (take used shelf)) ++ drop used shelf
+pub look-up-in : (shelf : List ℕ) (used : ℕ) → InOrder shelf used → (job : ℕ)
+    → shelf ≡ stored (records (take used shelf)) ++ drop used shelf
     → lookedUp shelf used job ≡ stored (currentOf job (records (take used shelf)))
 unfolding findCall partOf stored
 look-up-in shelf used order job whole =

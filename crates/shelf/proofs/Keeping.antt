@@ -1,5 +1,5 @@
 -- A collection, record by record: one that stays is moved down behind those that stayed, and what is to come is as it was.
-use Rattle.block.proofs.Base.{_+_, _-_, _≤_, suc, zero, ℕ, _∙_, _≡_, ap, ap₂, refl, sym, Bool, _&&_, false, not, true, List, [], _++_, _∷_}
+use Rattle.block.proofs.Base.{_+_, _-_, _≤_, ℕ, _∙_, _≡_, ap, ap₂, refl, sym, Bool, _&&_, false, not, true, List, _++_}
 use Rattle.block.proofs.Base.{append-assoc, append-nil, arith, eqb, drop, length, length-drop, take, take-append-drop, drop-drop}
 use Rattle.block.proofs.Base.{length-take-le, sub-zero}
 use lib.Seq.{paste, take-paste, drop-paste, length-paste}
@@ -7,7 +7,7 @@ use Rattle.block.specs.Below.{AreBytes}
 use Rattle.block.proofs.Entries.{below-take, below-drop}
 use Rattle.walk.specs.Walk.{over}
 use Rattle.shelf.specs.declared.records.Head.{Head}
-use Rattle.shelf.specs.Records.{written, stored, records, headAt}
+use Rattle.shelf.specs.Records.{stored, records, headAt}
 use Rattle.shelf.specs.Shelf.{those}
 use Rattle.shelf.specs.Steps.{stays}
 use Rattle.shelf.proofs.Reading.{between, Turn, at-end}

@@ -1,7 +1,8 @@
--- What a put changes: marking the current record of a job changes one byte of the buffer; where a new record goes, and what it takes to find
--- room for it.
+-- What a put changes: marking the current record of a job changes one byte of the buffer; where a new record goes, and what it takes
+-- to find room for it.
 use Rattle.block.proofs.Base.{_+_, _<_, _≤_, ℕ, _∙_, _≡_, ap, refl, sym, Bool, cond, false, true, List, [], _++_, _∷_, append-assoc}
-use Rattle.block.proofs.Base.{append-nil, suc-add, zero-add, arith, leb, leb-true, length-drop, le-ltb, le-leb, lt-leb, ltb-false, ltb-true, eqb, ltb, drop, length}
+use Rattle.block.proofs.Base.{append-nil, suc-add, zero-add, arith, leb, leb-true, length-drop, le-ltb, le-leb, lt-leb, ltb-false, ltb-true}
+use Rattle.block.proofs.Base.{eqb, ltb, drop, length}
 use Rattle.block.proofs.Base.{length-append, set, take, take-append-drop, length-take-le, take-length}
 use mathlib.Core.Bool.{and-true}
 use lib.Seq.{set-append-left}
@@ -165,10 +166,12 @@ module _ (shelf : List ℕ) (used : ℕ) (o : InOrder shelf used) where
     unfolding fitted roomMade withNew
     stored-made =
         let needed = length (stored old) + (12 + length (new .sealed)) in
-        let n : length (stored after) ≡ needed = length-new (supersede (new .job) old) ∙ rw (length-supersede (new .job) old) in
-        by-test (ltb (length shelf) needed)
-        (λ f. rw (f, lt-leb (length (stored after)) (length shelf) (omega (arith, ltb-true (length shelf) needed f))) (ap stored collected-new ∙ stored-new new _))
-        (λ f. rw (f, le-leb (length (stored after)) (length shelf) (omega (arith, ltb-false (length shelf) needed f))) (stored-new new _))
+        let all = length (stored after) in
+        let n : all ≡ needed = length-new (supersede (new .job) old) ∙ rw (length-supersede (new .job) old) in
+        let room = length shelf in
+        by-test (ltb room needed)
+        (λ f. rw (f, lt-leb all room (omega (arith, ltb-true room needed f))) (ap stored collected-new ∙ stored-new new _))
+        (λ f. rw (f, le-leb all room (omega (arith, ltb-false room needed f))) (stored-new new _))
 
     module _ {at : ℕ} {s : List ℕ} (m : Made (length (new .sealed)) (new .job) at s) where
       pub made-used : at + (12 + length (new .sealed)) ≡ length (stored (fitted (length shelf) after))

@@ -1,6 +1,7 @@
 -- Records are read one at a time: where one stands whole at the front, it and then what is behind it; otherwise none.
 use Rattle.block.proofs.Base.{_+_, _-_, _<_, _≤_, suc, zero, ℕ, _∙_, _≡_, cond, refl, sym, Bool, false, true, List, [], _∷_, arith, le-leb}
-use Rattle.block.proofs.Base.{leb-true, lt-leb, leb, drop, length, length-append, length-drop, take, length-take, length-take-le, drop-drop, take-nil, eqb, not, ne-eqb}
+use Rattle.block.proofs.Base.{leb-true, lt-leb, leb, drop, length, length-append, length-drop, take, length-take, length-take-le, drop-drop}
+use Rattle.block.proofs.Base.{take-nil, eqb, not, ne-eqb}
 use Rattle.block.specs.BigEndian.{bytesOf}
 use Rattle.block.specs.Words.{wordAt}
 use Rattle.block.proofs.Convert.{length-bytesOf}

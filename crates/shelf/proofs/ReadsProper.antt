@@ -1,7 +1,7 @@
 -- What is read of bytes is proper, and so is what putting and collecting make of it; reading and writing are each other's inverse.
-use Rattle.block.proofs.Base.{_+_, _-_, _<_, _≤_, suc, zero, ℕ, _∙_, _≡_, ap, ap₂, refl, sym, Bool, true, List, [], _++_, _∷_, append-assoc}
-use Rattle.block.proofs.Base.{append-nil, mod-eq-of-lt, le-leb, arith, eqb-true, eqb, leb, lit<, drop, getD, length, length-append, take, drop-at}
-use Rattle.block.proofs.Base.{length-take, length-take-le, take-add, take-at, take-length}
+use Rattle.block.proofs.Base.{_+_, _-_, _<_, _≤_, suc, zero, ℕ, _∙_, _≡_, ap, refl, sym, Bool, true, List, [], _++_, _∷_}
+use Rattle.block.proofs.Base.{mod-eq-of-lt, le-leb, arith, eqb-true, eqb, leb, lit<, drop, getD, length, length-append, take}
+use Rattle.block.proofs.Base.{length-take, length-take-le, take-add, take-length}
 use lib.Seq.{take-take, take-append-seam, drop-append-seam}
 use Rattle.block.specs.Below.{AreBytes}
 use Rattle.block.specs.Words.{wordAt}
@@ -11,7 +11,6 @@ use Rattle.block.specs.BigEndian.{bytesOf}
 use Rattle.block.proofs.Same.{and-left, and-right}
 use Rattle.label.specs.Label.{labelOf}
 use Rattle.shelf.specs.Records.{Record, Proper, AllProper, stored, startsRecord, sizeAt, front, records, markOf, written, marked}
-use Rattle.shelf.specs.Records.{headAt}
 use Rattle.shelf.specs.Shelf.{isCurrentOf, those, supersede, withNew, fitted}
 use Rattle.shelf.specs.declared.records.Head.{Head}
 use Rattle.shelf.proofs.Reading.{by-test, length-sealed, records-none, records-one, by-records, length-written, starts-within}

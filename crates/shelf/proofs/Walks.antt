@@ -1,5 +1,5 @@
 -- What the definitions over a shelf's records say at one record, and after the last.
-use Rattle.block.proofs.Base.{_+_, ℕ, _∙_, _≡_, ap, refl, sym, Bool, _&&_, _||_, cond, false, true, List, [], _∷_, append-nil, arith}
+use Rattle.block.proofs.Base.{_+_, ℕ, _∙_, _≡_, refl, sym, Bool, _&&_, _||_, cond, false, true, List, [], _∷_, arith}
 use Rattle.block.proofs.Base.{_≤_, _++_, not, leb, sub-zero, zero-add, take, _<_, eqb-true, eqb, ltb, lt-ltb, ne-eqb, length, length-append}
 use Rattle.block.proofs.Same.{and-left, and-right}
 use Rattle.shelf.specs.Records.{Record, written, stored, records, headAt}
@@ -35,13 +35,15 @@ unfolding twoCurrent
 two-rest r rs e = or-right (r .current && hasCurrent (r .job) rs) _ e
 
 -- some record passes a test exactly where those that pass have bytes
-some-size : (test : Record → Bool) (any : List Record → Bool) → any [] ≡ false → ((r : Record) (rs : List Record) → any (r ∷ rs) ≡ test r || any rs)
-    → (rs : List Record) → any rs ≡ ltb 0 (length (stored (those test rs)))
+some-size : (test : Record → Bool) (any : List Record → Bool) → any [] ≡ false
+    → ((r : Record) (rs : List Record) → any (r ∷ rs) ≡ test r || any rs) → (rs : List Record)
+    → any rs ≡ ltb 0 (length (stored (those test rs)))
 unfolding those stored
 some-size test any none one [] = none
 some-size test any none one (r ∷ rs) =
+    let n = length (written r ++ stored (those test rs)) in
     one r rs
-    ∙ by-test (test r) (λ e. rw e (sym (lt-ltb 0 (length (written r ++ stored (those test rs))) (rw length-append (omega (arith, length-written r))))))
+    ∙ by-test (test r) (λ e. rw e (sym (lt-ltb 0 n (rw length-append (omega (arith, length-written r))))))
     (λ e. rw e (some-size test any none one rs))
 
 -- and so a walk tells whether a job has a current record, and whether some edition of it is at least the one asked for
@@ -105,7 +107,8 @@ counting-starts job edition s used =
       keeping = rw (sub-zero, zero-add);
     }
 
-module _ {job edition : ℕ} {s : List ℕ} {used at start size reached kept : ℕ} (c : Counting job edition s used at start size reached kept) where
+module _ {job edition : ℕ} {s : List ℕ} {used at start size reached kept : ℕ}
+    (c : Counting job edition s used at start size reached kept) where
   pub counted : {h : Head} → h ≡ headAt (between at used s) → h .size ≡ 0
       → Surveyed job edition (records (take used s)) (record { start = start; length = size; reached = reached; kept = kept })
   unfolding those stored

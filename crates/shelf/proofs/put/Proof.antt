@@ -38,8 +38,8 @@ no-room : (x : tie.After-short)
     ≡ ltb (length (now (a .shelf))) (length (stored (collected (putIn (now (a .shelf)) (a .used) (a .job) (a .edition) (now (a .sealed))))))
 no-room x =
     let e = first (x .before) in
-    x .short .ensures
-    ∙ ap (ltb (length (now (S e .args .shelf)))) (length-current _ _ (order e) (new e) refl (x .before .before .before .survey .ensures .kept))
+    let kept = x .before .before .before .survey .ensures .kept in
+    x .short .ensures ∙ ap (ltb (length (now (S e .args .shelf)))) (length-current _ _ (order e) (new e) refl kept)
 
 module _ (x : tie.After-make-room) where
   abbrev third : tie.Else3
@@ -73,7 +73,7 @@ put-spec =
     (λ c. unfold putCall in rw (sym (c .before .bad .ensures) ∙ c .if1 .taken)) (λ c κs. order (c .before) .within) (λ c. search needs)
     (λ c.
     let v = c .before .before in
-    unfold putCall in rw (good (v .before .before), higher-told (v .survey .ensures), lt-ltb 0 (v .survey .result .reached) (c .if2 .taken)))
+    unfold putCall in rw (good (v .before .before), higher-told (v .survey .ensures) ∙ lt-ltb 0 _ (c .if2 .taken)))
     (λ c κs. order (first c) .size) (λ c. search needs)
     (λ c.
     let s = c .before in

@@ -4,4 +4,5 @@ use Rattle.luossavin.proofs.edition.luossavin_edition_open.Statement.{s
 use Rattle.luossavin.proofs.edition.luossavin_edition_open.Tie as tie
 
 pub luossavin-edition-open-spec : {M : Type 1} → statement M
-luossavin-edition-open-spec = tie.close (tie.spec (λ c κs. search needs) (λ c. search needs) (λ c κs. search needs) (λ c. search needs) (λ c. cc))
+luossavin-edition-open-spec =
+    tie.close (tie.spec (λ c κs. search needs) (λ c. search needs) (λ c κs. search needs) (λ c. search needs) (λ c. cc))

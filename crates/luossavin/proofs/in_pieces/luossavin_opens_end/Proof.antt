@@ -1,5 +1,4 @@
 -- `luossavin::in_pieces::luossavin_opens_end` meets its contract: it hands on the end.
-use Rattle.luossavin.proofs.Steps.{handed-on}
 use Rattle.block.proofs.Base.{needs}
 use Rattle.luossavin.proofs.in_pieces.luossavin_opens_end.Statement.{statement}
 use Rattle.luossavin.proofs.in_pieces.luossavin_opens_end.Tie as tie

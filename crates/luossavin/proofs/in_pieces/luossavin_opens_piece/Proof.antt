@@ -1,5 +1,4 @@
 -- `luossavin::in_pieces::luossavin_opens_piece` meets its contract: it hands on a piece.
-use Rattle.luossavin.proofs.Steps.{handed-on}
 use Rattle.block.proofs.Base.{needs}
 use Rattle.luossavin.proofs.in_pieces.luossavin_opens_piece.Statement.{statement}
 use Rattle.luossavin.proofs.in_pieces.luossavin_opens_piece.Tie as tie

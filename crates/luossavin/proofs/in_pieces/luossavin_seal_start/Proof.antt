@@ -1,6 +1,5 @@
 -- `luossavin::in_pieces::luossavin_seal_start` meets its contract: it hands on a start on the host's record.
 use Rattle.luossavin.specs.InPieces.{hostSealStart}
-use Rattle.luossavin.proofs.Steps.{handed-on}
 use Rattle.block.proofs.Base.{needs}
 use Rattle.luossavin.proofs.in_pieces.luossavin_seal_start.Statement.{statement}
 use Rattle.luossavin.proofs.in_pieces.luossavin_seal_start.Tie as tie

@@ -1,6 +1,6 @@
 -- `luossavin::journals::luossavin_replay` meets its contract: it tells what replay gives on the host's records.
-use Rattle.block.proofs.Base.{_∙_, ap, needs}
-use Rattle.luossavin.specs.Journals.{toldOf, hostReplay}
+use Rattle.block.proofs.Base.{needs}
+use Rattle.luossavin.specs.Journals.{hostReplay}
 use Rattle.luossavin.proofs.journals.luossavin_replay.Statement.{statement}
 use Rattle.luossavin.proofs.journals.luossavin_replay.Tie as tie
 

@@ -1,5 +1,5 @@
 -- `change::keep` meets its contract. The loop's invariant is how far the collection has come, and the measure how many bytes are to come.
-use Rattle.block.proofs.Base.{_+_, _-_, _≤_, _∙_, sym, ⊎-elim, arith, needs, now}
+use Rattle.block.proofs.Base.{_-_, _∙_, sym, ⊎-elim, arith, needs, now}
 use Rattle.block.proofs.Entries.{below-each}
 use Rattle.shelf.proofs.Reading.{Turn, on}
 use Rattle.shelf.proofs.Keeping.{Collecting, collecting-starts, all-kept, stay-turn, gone-turn}
@@ -13,7 +13,8 @@ abbrev μ-loop : tie.MeasureT-loop
 μ-loop shelf₀ used coming job to₀ at₀ shelf to at = used - at
 
 turn : (x : tie.Else1 Inv-loop μ-loop)
-    → let l = x .before .before .before .before in Turn (l .loop .shelf) (l .before .before .args .used) (l .loop .at) (x .before .front .result)
+    → let l = x .before .before .before .before in
+    Turn (l .loop .shelf) (l .before .before .args .used) (l .loop .at) (x .before .front .result)
 turn x = on _ _ _ _ (x .before .front .ensures) (x .if1 .left)
 
 loop-again : tie.Need-loop-again Inv-loop μ-loop

@@ -1,6 +1,7 @@
 -- `change::move_down` meets its contract. The loop's invariant: `i` bytes have moved, and all others stand where they did. The measure is
 -- how many are to move.
-use Rattle.block.proofs.Base.{_+_, _-_, _<_, _≤_, ℕ, _∙_, _≡_, ap, refl, List, [], _∷_, append-assoc, suc, take, take-suc-set, drop-cons, add-zero, sub-zero, add-one, arith, now, drop, getD, length, length-drop}
+use Rattle.block.proofs.Base.{_+_, _-_, _<_, _≤_, ℕ, _∙_, _≡_, refl, List, [], _∷_, append-assoc, suc, take, take-suc-set, drop-cons}
+use Rattle.block.proofs.Base.{add-zero, sub-zero, arith, drop, getD, length}
 use Rattle.block.proofs.Base.{length-set, set}
 use lib.Seq.{paste, paste-zero, drop-set-lt}
 use Rattle.shelf.proofs.change.move_down.Statement.{statement}
@@ -36,12 +37,13 @@ loop-again c =
     let l = c .before .before in
     let a = l .before .args in
     let i = l .loop .i in
-    let n : a .n - i ≡ suc (a .n - (i + 1)) = omega arith in
+    let m = a .n - (i + 1) in
+    let n : a .n - i ≡ suc m = omega arith in
     let p : a .to + (i + 1) ≡ suc (a .to + i) = omega arith in
     let q : a .from + (i + 1) ≡ suc (a .from + i) = omega arith in (
       omega arith,
       simp length-set (l .loop .inv .1),
-      rw (p, q) (moved (l .loop .shelf) (a .to + i) (a .from + i) (a .n - (i + 1)) (omega arith) (omega arith) ∙ (rw n at (l .loop .inv .2))),
+      rw (p, q) (moved (l .loop .shelf) (a .to + i) (a .from + i) m (omega arith) (omega arith) ∙ (rw n at (l .loop .inv .2))),
     )
 
 returns : tie.Need-returns Inv-loop μ-loop

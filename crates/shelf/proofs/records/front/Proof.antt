@@ -21,6 +21,7 @@ returns-2 c =
 pub front-spec : {M : Type 1} → statement M
 front-spec =
     tie.close (tie.spec (λ c κs. search needs)
-    (λ c. unfold headAt in rw (starts-size (now (c .before .before .before .args .s)), sym (c .before .size .ensures) ∙ c .if1 .taken)) (λ c. omega (arith, long (c .before))) (λ c κs. omega (arith, long (c .before)))
+    (λ c. unfold headAt in rw (starts-size (now (c .before .before .before .args .s)), sym (c .before .size .ensures) ∙ c .if1 .taken))
+    (λ c. omega (arith, long (c .before))) (λ c κs. omega (arith, long (c .before)))
     (λ c. omega (arith, long (c .before .before .before))) (λ c. omega (arith, long (c .before .before .before .before)))
     (λ c κs. search needs) returns-2)
