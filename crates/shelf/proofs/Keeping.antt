@@ -53,7 +53,7 @@ module _ {coming : Bool} {job : ℕ} {s₀ : List ℕ} {used : ℕ} {s : List �
   -- a turn
   module _ {h : Head} (t : Turn s used at h) {s′ : List ℕ} {to′ : ℕ} where
     -- it stays
-    pub stay-turn : AreBytes s₀ → h .current && not (coming && eqb (h .job) job) ≡ true → s′ ≡ paste s to (drop at s) (h .size)
+    pub stay-turn : AreBytes s₀ → not (coming && eqb (h .job) job) && h .current ≡ true → s′ ≡ paste s to (drop at s) (h .size)
         → to′ ≡ to + h .size → Collecting coming job s₀ used s′ to′ (at + h .size)
     unfolding those stored
     stay-turn small stay e g =
@@ -81,7 +81,7 @@ module _ {coming : Bool} {job : ℕ} {s₀ : List ℕ} {used : ℕ} {s : List �
         }
 
     -- it does not
-    pub gone-turn : h .current && not (coming && eqb (h .job) job) ≡ false → s′ ≡ s → to′ ≡ to
+    pub gone-turn : not (coming && eqb (h .job) job) && h .current ≡ false → s′ ≡ s → to′ ≡ to
         → Collecting coming job s₀ used s′ to′ (at + h .size)
     unfolding those
     gone-turn gone e g =

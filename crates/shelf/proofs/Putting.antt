@@ -1,10 +1,10 @@
 -- What a put changes: marking the current record of a job changes one byte of the buffer; where a new record goes, and what it takes
 -- to find room for it.
-use Rattle.block.proofs.Base.{_+_, _<_, _≤_, ℕ, _∙_, _≡_, ap, refl, sym, Bool, cond, false, true, List, [], _++_, _∷_, append-assoc}
+use Rattle.block.proofs.Base.{not, _+_, _<_, _≤_, ℕ, _∙_, _≡_, ap, refl, sym, Bool, cond, false, true, List, [], _++_, _∷_, append-assoc}
 use Rattle.block.proofs.Base.{append-nil, suc-add, zero-add, arith, leb, leb-true, length-drop, le-ltb, le-leb, lt-leb, ltb-false, ltb-true}
 use Rattle.block.proofs.Base.{eqb, ltb, drop, length}
 use Rattle.block.proofs.Base.{length-append, set, take, take-append-drop, length-take-le, take-length}
-use mathlib.Core.Bool.{and-true}
+use mathlib.Core.Bool.{and-false}
 use lib.Seq.{set-append-left}
 use Rattle.block.specs.Below.{AreBytes}
 use Rattle.block.proofs.Entries.{below-take}
@@ -105,12 +105,7 @@ those-marked p q job each (r ∷ rs) = rw (those-marked p q job each rs) (each r
 those-coming : (job : ℕ) (rs : List Record) → those (stays true job) rs ≡ collected (supersede job rs)
 those-coming job rs =
     sym (those-marked (λ r. r .current) (stays true job) job
-    (λ r a. by-test (r .current) (λ e. by-test (eqb (r .job) job) (λ f. rw (e, f)) (λ f. rw (e, f))) (λ e. rw e)) rs)
-
-pub those-current : (job : ℕ) (rs : List Record) → those (stays false job) rs ≡ collected rs
-unfolding those
-those-current job [] = refl
-those-current job (r ∷ rs) = rw (and-true (r .current), those-current job rs)
+    (λ r a. by-test (r .current) (λ e. by-test (eqb (r .job) job) (λ f. rw (e, f)) (λ f. rw (e, f))) (λ e. rw (e, and-false (not (eqb (r .job) job))))) rs)
 
 pub stored-new : (new : Record) (a : List Record) → stored (a ++ (new ∷ [])) ≡ stored a ++ written new
 unfolding stored

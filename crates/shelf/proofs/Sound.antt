@@ -1,6 +1,6 @@
 -- Where a shelf breaks off: all is in order where no job has two current records, and otherwise less than all; so a shelf is bad
 -- exactly where it is not in order up to its used count.
-use Rattle.block.proofs.Base.{_+_, _-_, _<_, _≤_, ℕ, zero-add, sub-zero, take-length, _∙_, _≡_, ap, ap₂, refl, sym, _&&_, _||_, false, not}
+use Rattle.block.proofs.Base.{_+_, _-_, _<_, _≤_, ℕ, zero-add, sub-zero, take-length, _∙_, _≡_, ap, ap₂, refl, sym, _&&_, false, not}
 use Rattle.block.proofs.Base.{true, List, [], _++_, _∷_}
 use Rattle.block.proofs.Base.{append-assoc, append-nil, arith, eq-eqb, eqb-true, le-ltb, ltb-false, ne-eqb, not-false, eqb, ltb, drop}
 use Rattle.block.proofs.Base.{length, length-append, take, length-take-le, take-add}
@@ -103,23 +103,18 @@ module _ {s : List ℕ} {at : ℕ} (p : Passing s at) where
             sum = rw passed-more (omega (arith, rw (turn .reads, f, turn .whole) at (p .sum)));
           }
 
-sound-test : (rs : List Record) (used : ℕ) → length (stored rs) ≤ used
-    → not (eqb (soundUpTo rs) used) ≡ not (eqb (length (stored rs)) used) || twoCurrent rs
-unfolding twoCurrent
-sound-test rs used h =
-    by-test (twoCurrent rs)
-    (λ e. let l = sound-less [] rs refl e in rw (e, ne-eqb (soundUpTo rs) used (λ f. omega arith), or-true))
-    (λ e. rw (e, sound-all [] rs e, or-false))
-
 module _ (shelf : List ℕ) (used : ℕ) where
   pub bad-records : AreBytes shelf → length shelf ≤ 65536 → used ≤ length shelf
       → not (eqb (soundUpTo (records (take used shelf))) used) ≡ badShelf shelf used
-  unfolding badShelf
+  unfolding badShelf twoCurrent
   bad-records small h k =
+      let rs = records (take used shelf) in
       let n = stored-within (take used shelf) (below-take 256 used shelf small) in
       let l : length (take used shelf) ≡ used = length-take-le used shelf k in
       rw (le-ltb 65536 (length shelf) h, le-ltb (length shelf) used k)
-      (sound-test (records (take used shelf)) used (omega arith))
+      (by-test (twoCurrent rs)
+      (λ e. let less = sound-less [] rs refl e in rw (e, ne-eqb (soundUpTo rs) used (λ f. omega arith), or-true))
+      (λ e. rw (e, sound-all [] rs e, or-false)))
 
   pub in-order : badShelf shelf used ≡ false → InOrder shelf used
   unfolding badShelf

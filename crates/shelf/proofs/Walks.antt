@@ -123,7 +123,7 @@ module _ {job edition : ℕ} {s : List ℕ} {used at start size reached kept : �
 
   pub counting-on : {h : Head} {start′ size′ reached′ kept′ : ℕ} {p q r : Bool} → Turn s used at h → p ≡ h .current && eqb (h .job) job
       → Added size p (h .size) size′ → Added start (eqb size′ 0) (h .size) start′ → q ≡ eqb (h .job) job && leb edition (h .edition)
-      → Added reached q (h .size) reached′ → r ≡ h .current && not (true && eqb (h .job) job) → Added kept r (h .size) kept′
+      → Added reached q (h .size) reached′ → r ≡ not (true && eqb (h .job) job) && h .current → Added kept r (h .size) kept′
       → Counting job edition s used (at + h .size) start′ size′ reached′ kept′
   counting-on {h} t e₁ a₁ a₂ e₃ a₃ e₄ a₄ =
       let r = entry (between at used s) h in

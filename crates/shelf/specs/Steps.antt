@@ -29,7 +29,7 @@ soundUpTo rs = soundFrom [] rs
 
 -- what a collection keeps: the current records, but not that of a job whose new record is coming
 abbrev pub stays : Bool → ℕ → Record → Bool
-stays coming job r = r .current && not (coming && eqb (r .job) job)
+stays coming job r = not (coming && eqb (r .job) job) && r .current
 
 -- what stands before a new record with so many sealed bytes
 unfoldable pub roomMade : ℕ → ℕ → ℕ → List Record → List Record

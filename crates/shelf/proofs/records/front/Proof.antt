@@ -11,17 +11,14 @@ starts x = starts-size (now (x .before .before .before .args .s)) ∙ rw (ne-eqb
 long : (x : tie.Else1) → 12 ≤ length (now (x .before .before .before .args .s))
 long x = starts-within _ (starts x) .0
 
-returns-2 : tie.Need-returns-2
-unfolding headAt front
-returns-2 c =
-    let at-word = c .before .before .before in
-    let at-else = at-word .before .before in
-    rw (starts at-else, at-else .before .size .ensures, at-word .word-at .ensures, c .number .ensures)
-
 pub front-spec : {M : Type 1} → statement M
 front-spec =
     tie.close (tie.spec (λ c κs. search needs)
     (λ c. unfold headAt in rw (starts-size (now (c .before .before .before .args .s)), sym (c .before .size .ensures) ∙ c .if1 .taken))
     (λ c. omega (arith, long (c .before))) (λ c κs. omega (arith, long (c .before)))
     (λ c. omega (arith, long (c .before .before .before))) (λ c. omega (arith, long (c .before .before .before .before)))
-    (λ c κs. search needs) returns-2)
+    (λ c κs. search needs)
+    (λ c.
+    let w = c .before .before .before in
+    let e = w .before .before in
+    unfold headAt front in rw (starts e, e .before .size .ensures, w .word-at .ensures, c .number .ensures)))
