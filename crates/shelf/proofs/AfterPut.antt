@@ -25,7 +25,7 @@ record Fit (rs : List Record) (shelf : List ℕ) : Type 0 where
   room : length (stored rs) ≤ length shelf
   one : (job : ℕ) → length (currentOf job rs) ≤ 1
 
-module _ (rs : List Record) (shelf : List ℕ) (fit : Fit rs shelf) where
+module _ {rs : List Record} {shelf : List ℕ} (fit : Fit rs shelf) where
   reads-back : records (take (length (stored rs)) (over (stored rs) shelf)) ≡ rs
   reads-back = rw take-append-seam (records-stored rs (fit .proper))
 
@@ -66,23 +66,17 @@ module _ (shelf : List ℕ) (used : ℕ) (small : AreBytes shelf) (order : InOrd
       }
 
   pub collect-in-order : let o = collectCall shelf used in InOrder (o .bytes) (o .used)
-  collect-in-order = rw collect-is (holds-in-order (collected rs) shelf collect-fit)
+  collect-in-order = rw collect-is (holds-in-order collect-fit)
 
   pub collect-look-up : (job : ℕ) → let o = collectCall shelf used in lookedUp (o .bytes) (o .used) job ≡ lookedUp shelf used job
   collect-look-up job =
-      rw (collect-is, looks-up (collected rs) shelf collect-fit job, look-up shelf used small order job, current-collected job rs)
+      rw (collect-is, looks-up collect-fit job, look-up shelf used small order job, current-collected job rs)
 
   pub collect-again : let o = collectCall shelf used in collectCall (o .bytes) (o .used) ≡ o
   unfolding collectCall
   collect-again =
-      let p = stored (collected rs) in
-      rw (
-        not-bad shelf used order,
-        not-bad (over p shelf) (length p) (holds-in-order (collected rs) shelf collect-fit),
-        reads-back (collected rs) shelf collect-fit,
-        collected-again rs,
-        drop-append-seam,
-      )
+      let again = not-bad _ _ (holds-in-order collect-fit) in
+      rw (not-bad shelf used order, again, reads-back collect-fit, collected-again rs, drop-append-seam)
 
 module _ (shelf : List ℕ) (used job edition : ℕ) (sealed : List ℕ) where
   -- the bytes of the records current after the put
@@ -164,19 +158,18 @@ module _ (shelf : List ℕ) (used job edition : ℕ) (sealed : List ℕ) (small 
 
   -- the shelf is in order, so no call refuses it with 19, and the used count is within the buffer, which is as long as it was
   pub put-in-order : let o = putCall shelf used job edition sealed in InOrder (o .bytes) (o .used)
-  put-in-order = rw put-is (holds-in-order final shelf final-fit)
+  put-in-order = rw put-is (holds-in-order final-fit)
 
   pub put-length : length (putCall shelf used job edition sealed .bytes) ≡ length shelf
-  put-length = rw put-is (length-over final shelf final-fit)
+  put-length = rw put-is (length-over final-fit)
 
   -- looking up the job gives exactly the new record
   pub put-look-up : let o = putCall shelf used job edition sealed in lookedUp (o .bytes) (o .used) job ≡ written new
   unfolding stored
-  put-look-up = rw put-is (looks-up final shelf final-fit job ∙ ap stored current-here ∙ append-nil (written new))
+  put-look-up = rw put-is (looks-up final-fit job ∙ ap stored current-here ∙ append-nil (written new))
 
   -- and looking up another gives what it gave
   pub put-others : (other : ℕ) → (other ≡ job → ⊥)
       → let o = putCall shelf used job edition sealed in lookedUp (o .bytes) (o .used) other ≡ lookedUp shelf used other
   put-others other d =
-      rw put-is
-      (looks-up final shelf final-fit other ∙ ap stored (current-there other d) ∙ sym (look-up shelf used small order other))
+      rw put-is (looks-up final-fit other ∙ ap stored (current-there other d) ∙ sym (look-up shelf used small order other))

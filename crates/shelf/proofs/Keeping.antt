@@ -10,8 +10,7 @@ use Rattle.shelf.specs.declared.records.Head.{Head}
 use Rattle.shelf.specs.Records.{stored, records, headAt}
 use Rattle.shelf.specs.Shelf.{those}
 use Rattle.shelf.specs.Steps.{stays}
-use Rattle.shelf.proofs.Reading.{between, Turn, at-end}
-use Rattle.shelf.proofs.ReadsProper.{entry-written}
+use Rattle.shelf.proofs.ReadsProper.{between, Turn, at-end}
 
 -- the bytes that are kept of b
 abbrev pub kept : Bool → ℕ → List ℕ → List ℕ
@@ -77,7 +76,7 @@ module _ {coming : Bool} {job : ℕ} {s₀ : List ℕ} {used : ℕ} {s : List �
                 between-same (to + n) (at + n) used (paste s to (drop at s) n) s (omega arith) moved,
                 append-assoc,
               )
-              (rw (t .reads, stay, entry-written t here) at (so-far .all));
+              (rw (t .reads, stay, t .bytes here) at (so-far .all));
         }
 
     -- it does not

@@ -35,7 +35,7 @@ supersede-none job [] e = refl
 supersede-none job (r ∷ rs) e =
     rw (or-left (isCurrentOf job r) _ e, supersede-none job rs (or-right (isCurrentOf job r) _ e))
 
-pub length-supersede : (job : ℕ) (rs : List Record) → length (stored (supersede job rs)) ≡ length (stored rs)
+length-supersede : (job : ℕ) (rs : List Record) → length (stored (supersede job rs)) ≡ length (stored rs)
 unfolding supersede stored
 length-supersede job [] = refl
 length-supersede job (r ∷ rs) =
@@ -105,7 +105,10 @@ those-marked p q job each (r ∷ rs) = rw (those-marked p q job each rs) (each r
 those-coming : (job : ℕ) (rs : List Record) → those (stays true job) rs ≡ collected (supersede job rs)
 those-coming job rs =
     sym (those-marked (λ r. r .current) (stays true job) job
-    (λ r a. by-test (r .current) (λ e. by-test (eqb (r .job) job) (λ f. rw (e, f)) (λ f. rw (e, f))) (λ e. rw (e, and-false (not (eqb (r .job) job))))) rs)
+    (λ r a.
+    by-test (r .current) (λ e. by-test (eqb (r .job) job) (λ f. rw (e, f)) (λ f. rw (e, f)))
+    (λ e. rw (e, and-false (not (eqb (r .job) job)))))
+    rs)
 
 pub stored-new : (new : Record) (a : List Record) → stored (a ++ (new ∷ [])) ≡ stored a ++ written new
 unfolding stored

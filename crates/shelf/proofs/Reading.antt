@@ -1,15 +1,14 @@
 -- Records are read one at a time: where one stands whole at the front, it and then what is behind it; otherwise none.
 use Rattle.block.proofs.Base.{_+_, _-_, _<_, _≤_, suc, zero, ℕ, _∙_, _≡_, cond, refl, sym, Bool, false, true, List, [], _∷_, arith, le-leb}
-use Rattle.block.proofs.Base.{leb-true, lt-leb, leb, drop, length, length-append, length-drop, take, length-take, length-take-le, drop-drop}
-use Rattle.block.proofs.Base.{take-nil, eqb, not, ne-eqb}
+use Rattle.block.proofs.Base.{leb-true, lt-leb, leb, drop, length, length-append, length-drop, take, length-take-le}
+use Rattle.block.proofs.Base.{eqb, not, ne-eqb}
 use Rattle.block.specs.BigEndian.{bytesOf}
 use Rattle.block.specs.Words.{wordAt}
 use Rattle.block.proofs.Convert.{length-bytesOf}
 use Rattle.block.proofs.Same.{and-left, and-right}
 use Rattle.label.specs.Label.{labelOf}
 use Rattle.label.proofs.LabelTells.{length-label}
-use Rattle.shelf.specs.declared.records.Head.{Head}
-use Rattle.shelf.specs.Records.{Record, written, marked, startsRecord, sizeAt, front, readUpTo, records, headAt}
+use Rattle.shelf.specs.Records.{Record, written, marked, startsRecord, sizeAt, front, readUpTo, records}
 
 -- a test holds, or it does not
 pub by-test : {A : Type 0} (t : Bool) → (t ≡ true → A) → (t ≡ false → A) → A
@@ -56,7 +55,7 @@ module _ (b : List ℕ) where
       (λ f. rw f (unfold sizeAt in rw f))
 
   -- what is behind a record is shorter
-  pub behind-less : startsRecord b ≡ true → length (drop (sizeAt b) b) < length b
+  behind-less : startsRecord b ≡ true → length (drop (sizeAt b) b) < length b
   behind-less e = omega (arith, starts-within e, size-starts e, length-drop (sizeAt b) b)
 
   pub length-sealed : startsRecord b ≡ true → length (take (wordAt b 8) (drop 12 b)) ≡ wordAt b 8
@@ -101,64 +100,3 @@ module _ (P : List ℕ → Type 0) (none : (b : List ℕ) → startsRecord b ≡
 
   pub by-records : (b : List ℕ) → P b
   by-records b = up-to (length b) b (omega arith)
-
--- what `&s[at..used]` holds
-abbrev pub between : ℕ → ℕ → List ℕ → List ℕ
-between at used s = take (used - at) (drop at s)
-
-drop-take : (n k : ℕ) (l : List ℕ) → drop n (take k l) ≡ take (k - n) (drop n l)
-drop-take zero k l = let e : k - 0 ≡ k = omega arith in rw e
-drop-take (suc n) zero l = let e : 0 - suc n ≡ 0 = omega arith in rw e
-drop-take (suc n) (suc k) [] = sym (take-nil (suc k - suc n))
-drop-take (suc n) (suc k) (x ∷ l) = let e : suc k - suc n ≡ k - n = omega arith in rw e (drop-take n k l)
-
--- behind the record at the front of it
-between-on : (at used n : ℕ) (s : List ℕ) → drop n (between at used s) ≡ between (at + n) used s
-between-on at used n s =
-    let e : used - at - n ≡ used - (at + n) = omega arith in
-    drop-take n (used - at) (drop at s) ∙ rw (e, drop-drop)
-
--- the record that a head tells of
-abbrev pub entry : List ℕ → Head → Record
-entry b h = record { current = h .current; job = h .job; edition = h .edition; sealed = take (h .size - 12) (drop 12 b) }
-
--- what a walk over the records finds where one stands
-pub record Turn (s : List ℕ) (used at : ℕ) (h : Head) : Type 0 where
-  pub starts : startsRecord (between at used s) ≡ true
-  pub size : h .size ≡ sizeAt (between at used s)
-  pub same : front (between at used s) ≡ entry (between at used s) h
-  pub long : 12 ≤ h .size
-  pub within : at + h .size ≤ used
-  pub inside : at + h .size ≤ length s
-  pub reads : records (between at used s) ≡ entry (between at used s) h ∷ records (between (at + h .size) used s)
-  pub whole : length (written (entry (between at used s) h)) ≡ h .size
-
-module _ (s : List ℕ) (used at : ℕ) (h : Head) (e : h ≡ headAt (between at used s)) where
-  head-size : h .size ≡ sizeAt (between at used s)
-  unfolding headAt sizeAt
-  head-size = rw e (by-test (startsRecord (between at used s)) (λ f. rw f) (λ f. rw f))
-
-  -- nothing stands there
-  pub at-end : h .size ≡ 0 → records (between at used s) ≡ []
-  at-end z = records-none (between at used s) (starts-size (between at used s) ∙ rw (sym head-size ∙ z))
-
-  pub on : (h .size ≡ 0 → ⊥) → Turn s used at h
-  unfolding front headAt
-  on z =
-      let b = between at used s in
-      let f : startsRecord b ≡ true = starts-size b ∙ rw (ne-eqb (sizeAt b) 0 (λ y. z (head-size ∙ y))) in
-      let w = starts-within b f in
-      let n : h .size ≡ 12 + wordAt b 8 = head-size ∙ size-starts b f in
-      let k : h .size - 12 ≡ wordAt b 8 = omega arith in
-      let l = simp (length-take, length-drop) at (w .2) in
-      let same : front b ≡ entry b h = rw k (rw (e, f)) in
-      record {
-        starts = f;
-        size = head-size;
-        same = same;
-        long = omega arith;
-        within = omega arith;
-        inside = omega arith;
-        reads = records-one b f ∙ rw (same, ← head-size, between-on at used (h .size) s);
-        whole = rw (← same) (length-written (front b) ∙ rw (length-sealed b f, n));
-      }

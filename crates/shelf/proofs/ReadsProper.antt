@@ -1,5 +1,6 @@
 -- What is read of bytes is proper, and so is what putting and collecting make of it; reading and writing are each other's inverse.
-use Rattle.block.proofs.Base.{_+_, _-_, _<_, _≤_, suc, zero, ℕ, _∙_, _≡_, ap, refl, sym, Bool, true, List, [], _++_, _∷_}
+use Rattle.block.proofs.Base.{drop-drop, length-drop, take-nil, ne-eqb, _+_, _-_, _<_, _≤_, suc, zero, ℕ, _∙_, _≡_, ap, refl, sym, Bool}
+use Rattle.block.proofs.Base.{true, List, [], _++_, _∷_}
 use Rattle.block.proofs.Base.{mod-eq-of-lt, le-leb, arith, eqb-true, eqb, leb, lit<, drop, getD, length, length-append, take}
 use Rattle.block.proofs.Base.{length-take, length-take-le, take-add, take-length}
 use lib.Seq.{take-take, take-append-seam, drop-append-seam}
@@ -11,10 +12,12 @@ use Rattle.block.specs.BigEndian.{bytesOf}
 use Rattle.block.proofs.Same.{and-left, and-right}
 use Rattle.label.specs.Label.{labelOf}
 use Rattle.shelf.specs.Records.{Record, Proper, AllProper, stored, startsRecord, sizeAt, front, records, markOf, written, marked}
+use Rattle.shelf.specs.Records.{headAt}
 use Rattle.shelf.specs.Shelf.{isCurrentOf, those, supersede, withNew, fitted}
 use Rattle.shelf.specs.declared.records.Head.{Head}
-use Rattle.shelf.proofs.Reading.{by-test, length-sealed, records-none, records-one, by-records, length-written, starts-within}
-use Rattle.shelf.proofs.Reading.{size-starts, records-empty, between, Turn, entry}
+use Rattle.shelf.proofs.Reading.{starts-size, by-test, length-sealed, records-none, records-one, by-records, length-written}
+use Rattle.shelf.proofs.Reading.{starts-within}
+use Rattle.shelf.proofs.Reading.{size-starts, records-empty}
 
 module _ (b : List ℕ) (small : AreBytes b) where
   abbrev four : ℕ → List ℕ
@@ -29,7 +32,7 @@ module _ (b : List ℕ) (small : AreBytes b) where
   four-bytes : (i : ℕ) → AreBytes (four i)
   four-bytes i = (byte-at i, (byte-at (i + 1), (byte-at (i + 2), (byte-at (i + 3), tt))))
 
-  pub front-proper : startsRecord b ≡ true → Proper (front b)
+  front-proper : startsRecord b ≡ true → Proper (front b)
   unfolding front
   front-proper f =
       record {
@@ -159,12 +162,62 @@ unfolding stored
 records-stored [] h = records-empty
 records-stored (r ∷ rs) h = rw (written-reads r (h .0) (stored rs), records-stored rs (h .1))
 
--- the entry that a head tells of is proper, and written it is the bytes that it was read from
-module _ {s : List ℕ} {used at : ℕ} {h : Head} (t : Turn s used at h) (small : AreBytes (between at used s)) where
-  pub entry-proper : Proper (entry (between at used s) h)
-  entry-proper = rw (t .same) at (front-proper (between at used s) small (t .starts))
+-- what `&s[at..used]` holds
+abbrev pub between : ℕ → ℕ → List ℕ → List ℕ
+between at used s = take (used - at) (drop at s)
 
-  pub entry-written : written (entry (between at used s) h) ≡ take (h .size) (drop at s)
-  entry-written =
-      let f : h .size ≤ used - at = omega (arith, t .long, t .within) in
-      rw (← t .same, front-written (between at used s) small (t .starts), ← t .size) (take-take (h .size) (used - at) (drop at s) f)
+drop-take : (n k : ℕ) (l : List ℕ) → drop n (take k l) ≡ take (k - n) (drop n l)
+drop-take zero k l = let e : k - 0 ≡ k = omega arith in rw e
+drop-take (suc n) zero l = let e : 0 - suc n ≡ 0 = omega arith in rw e
+drop-take (suc n) (suc k) [] = sym (take-nil (suc k - suc n))
+drop-take (suc n) (suc k) (x ∷ l) = let e : suc k - suc n ≡ k - n = omega arith in rw e (drop-take n k l)
+
+-- behind the record at the front of it
+between-on : (at used n : ℕ) (s : List ℕ) → drop n (between at used s) ≡ between (at + n) used s
+between-on at used n s =
+    let e : used - at - n ≡ used - (at + n) = omega arith in
+    drop-take n (used - at) (drop at s) ∙ rw (e, drop-drop)
+
+-- the record that a head tells of
+abbrev pub entry : List ℕ → Head → Record
+entry b h = record { current = h .current; job = h .job; edition = h .edition; sealed = take (h .size - 12) (drop 12 b) }
+
+-- what a walk over the records finds where one stands
+pub record Turn (s : List ℕ) (used at : ℕ) (h : Head) : Type 0 where
+  -- of bytes, it is proper, and written it is the bytes that it was read from
+  pub proper : AreBytes (between at used s) → Proper (entry (between at used s) h)
+  pub bytes : AreBytes (between at used s) → written (entry (between at used s) h) ≡ take (h .size) (drop at s)
+  pub long : 12 ≤ h .size
+  pub within : at + h .size ≤ used
+  pub inside : at + h .size ≤ length s
+  pub reads : records (between at used s) ≡ entry (between at used s) h ∷ records (between (at + h .size) used s)
+  pub whole : length (written (entry (between at used s) h)) ≡ h .size
+
+module _ (s : List ℕ) (used at : ℕ) (h : Head) (e : h ≡ headAt (between at used s)) where
+  head-size : h .size ≡ sizeAt (between at used s)
+  unfolding headAt sizeAt
+  head-size = rw e (by-test (startsRecord (between at used s)) (λ f. rw f) (λ f. rw f))
+
+  -- nothing stands there
+  pub at-end : h .size ≡ 0 → records (between at used s) ≡ []
+  at-end z = records-none (between at used s) (starts-size (between at used s) ∙ rw (sym head-size ∙ z))
+
+  pub on : (h .size ≡ 0 → ⊥) → Turn s used at h
+  unfolding front headAt
+  on z =
+      let b = between at used s in
+      let f : startsRecord b ≡ true = starts-size b ∙ rw (ne-eqb (sizeAt b) 0 (λ y. z (head-size ∙ y))) in
+      let w = starts-within b f in
+      let n : h .size ≡ 12 + wordAt b 8 = head-size ∙ size-starts b f in
+      let k : h .size - 12 ≡ wordAt b 8 = omega arith in
+      let l = simp (length-take, length-drop) at (w .2) in
+      let same : front b ≡ entry b h = rw k (rw (e, f)) in
+      record {
+        proper = λ small. rw (← same) (front-proper b small f);
+        bytes = λ small. rw (← same, front-written b small f, ← head-size) (take-take (h .size) (used - at) (drop at s) (omega arith));
+        long = omega arith;
+        within = omega arith;
+        inside = omega arith;
+        reads = records-one b f ∙ rw (same, ← head-size, between-on at used (h .size) s);
+        whole = rw (← same) (length-written (front b) ∙ rw (length-sealed b f, n));
+      }

@@ -12,9 +12,10 @@ use Rattle.shelf.specs.declared.records.Head.{Head}
 use Rattle.shelf.specs.Records.{Record, written, stored, records, headAt}
 use Rattle.shelf.specs.Shelf.{isCurrentOf, those, hasCurrent, twoCurrent, badShelf}
 use Rattle.shelf.specs.Steps.{soundFrom, soundUpTo, InOrder}
-use Rattle.shelf.proofs.Reading.{by-test, length-written, records-empty, between, Turn, entry, at-end}
+use Rattle.shelf.proofs.Reading.{by-test, length-written, records-empty}
+use Rattle.shelf.proofs.ReadsProper.{between, Turn, entry, at-end}
 use Rattle.shelf.proofs.Walks.{none-current, or-left, or-right}
-use Rattle.shelf.proofs.ReadsProper.{entry-written, entry-proper, stored-records, records-stored, more-proper, records-proper}
+use Rattle.shelf.proofs.ReadsProper.{stored-records, records-stored, more-proper, records-proper}
 use Rattle.shelf.proofs.ReadsProper.{stored-within}
 use Rattle.shelf.proofs.Putting.{stored-new, those-append}
 use Rattle.shelf.proofs.Current.{current-none, own-current, at-most-one, no-two}
@@ -30,7 +31,7 @@ first passed r rs f =
     rw e (current-none (r .job) passed (omega arith)))
     (λ e. rw e)
 
-pub sound-all : (passed rs : List Record) → twoCurrent (passed ++ rs) ≡ false → soundFrom passed rs ≡ length (stored rs)
+sound-all : (passed rs : List Record) → twoCurrent (passed ++ rs) ≡ false → soundFrom passed rs ≡ length (stored rs)
 unfolding soundFrom stored
 sound-all passed [] e = refl
 sound-all passed (r ∷ rs) e =
@@ -50,7 +51,7 @@ still-single passed r e f =
     rw (g, none-current job passed none) (omega arith))
     (λ g. rw g (omega (arith, at-most-one passed e job)))))
 
-pub sound-less : (passed rs : List Record) → twoCurrent passed ≡ false → twoCurrent (passed ++ rs) ≡ true
+sound-less : (passed rs : List Record) → twoCurrent passed ≡ false → twoCurrent (passed ++ rs) ≡ true
     → soundFrom passed rs < length (stored rs)
 unfolding soundFrom stored
 sound-less passed [] e f =
@@ -91,8 +92,8 @@ module _ {s : List ℕ} {at : ℕ} (p : Passing s at) where
           let passed = below-take 256 at s small in
           let here = below-take 256 (length s - at) (drop at s) (below-drop 256 at s small) in
           let before = stored-records (take at s) passed (p .whole ∙ sym (length-take-le at s (p .within))) in
-          ap records (take-add at (h .size) s ∙ ap₂ _++_ (sym before) (sym (entry-written turn here)) ∙ sym (stored-new _ P))
-          ∙ records-stored _ (more-proper P (records-proper (take at s) passed) (entry-proper turn here))
+          ap records (take-add at (h .size) s ∙ ap₂ _++_ (sym before) (sym (turn .bytes here)) ∙ sym (stored-new _ P))
+          ∙ records-stored _ (more-proper P (records-proper (take at s) passed) (turn .proper here))
 
       pub passing-on : h .current && hasCurrent (h .job) (records (take at s)) ≡ false → Passing s (at + h .size)
       unfolding soundFrom

@@ -7,7 +7,8 @@ use Rattle.shelf.specs.declared.records.Head.{Head}
 use Rattle.shelf.specs.declared.lookup.Told.{Told}
 use Rattle.shelf.specs.Shelf.{isCurrentOf, those, hasCurrent, twoCurrent, placeOf, sizeOf, notHigher}
 use Rattle.shelf.specs.Steps.{reaches, stays, Surveyed}
-use Rattle.shelf.proofs.Reading.{by-test, length-written, between, entry, Turn, at-end}
+use Rattle.shelf.proofs.Reading.{by-test, length-written}
+use Rattle.shelf.proofs.ReadsProper.{between, entry, Turn, at-end}
 
 pub or-left : (a b : Bool) → a || b ≡ false → a ≡ false
 or-left true b e = e

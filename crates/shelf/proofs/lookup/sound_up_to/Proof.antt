@@ -1,7 +1,7 @@
 -- `lookup::sound_up_to` meets its contract. The loop's invariant is how far the walk has come, and the measure how many bytes are to come.
 use Rattle.block.proofs.Base.{_-_, _∙_, sym, arith, needs, now, length}
 use Rattle.block.proofs.Entries.{below-each}
-use Rattle.shelf.proofs.Reading.{Turn, on}
+use Rattle.shelf.proofs.ReadsProper.{Turn, on}
 use Rattle.shelf.proofs.Sound.{Passing, passing-starts, passed-all, second, passing-on}
 use Rattle.shelf.proofs.lookup.sound_up_to.Statement.{statement}
 use Rattle.shelf.proofs.lookup.sound_up_to.Tie as tie

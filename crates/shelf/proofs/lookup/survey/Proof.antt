@@ -1,6 +1,6 @@
 -- `lookup::survey` meets its contract. The loop's invariant is how far the walk has come, and the measure how many bytes are to come.
 use Rattle.block.proofs.Base.{_-_, arith, needs, now}
-use Rattle.shelf.proofs.Reading.{Turn, on}
+use Rattle.shelf.proofs.ReadsProper.{Turn, on}
 use Rattle.shelf.proofs.Walks.{Counting, counting-starts, counted, counting-on}
 use Rattle.shelf.proofs.lookup.survey.Statement.{statement}
 use Rattle.shelf.proofs.lookup.survey.Tie as tie
