@@ -40,8 +40,6 @@ look-up-in shelf used order job whole =
     let n = placeOf job rs in
     let m = sizeOf job rs in
     let inside = stored-part job rs (order .single) in
-    let fills = order .fills in
-    let fits = order .within in
     let first : n ≤ length (stored rs) = omega arith in
     let last : m ≤ length (drop n (stored rs)) = rw length-drop (omega arith) in
     -- the same part, in the buffer

@@ -58,14 +58,13 @@ module _ {coming : Bool} {job : ℕ} {s₀ : List ℕ} {used : ℕ} {s : List �
     stay-turn small stay e g =
         let n = h .size in
         let l = length-drop at s in
-        let f = t .within in
         let moved = drop-paste s to (drop at s) n (omega arith) (omega arith) in
         let here : AreBytes (between at used s) =
         rw (between-same to at used s s₀ (so-far .below) (so-far .behind))
         (below-take 256 (used - at) (drop at s₀) (below-drop 256 at s₀ small)) in
         record {
           below = omega arith;
-          inside = f;
+          inside = t .within;
           long = ap length e ∙ length-paste s to (drop at s) n (omega arith) (omega arith) ∙ so-far .long;
           behind = rw (e, g) (moved ∙ sym (drop-drop n to s) ∙ ap (drop n) (so-far .behind) ∙ drop-drop n to s₀);
           all =

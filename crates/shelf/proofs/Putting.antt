@@ -77,12 +77,11 @@ module _ (shelf : List ℕ) (used : ℕ) (small : AreBytes shelf) (o : InOrder s
         → (told .start + 12 ≤ used) × (set shelf (told .start + 1) 0x58 ≡ over (stored (supersede job rs)) shelf)
     marked-over has =
         let m = mark-one job rs (rw (s .size) at has) (o .single) in
-        let f = o .fills in
         rw (s .start) (
           omega arith,
           ap (λ (x : List ℕ). set x (placeOf job rs + 1) 0x58) used-stored
               ∙ set-append-left (stored rs) (drop used shelf) (placeOf job rs + 1) 0x58 (omega arith)
-              ∙ rw (m .1, length-supersede job rs, f),
+              ∙ rw (m .1, length-supersede job rs, o .fills),
         )
 
     pub unmarked-over : told .length ≤ 0 → shelf ≡ over (stored (supersede job rs)) shelf

@@ -23,9 +23,6 @@ module _ (b : List ℕ) (small : AreBytes b) where
   abbrev four : ℕ → List ℕ
   four i = getD b i 0 ∷ getD b (i + 1) 0 ∷ getD b (i + 2) 0 ∷ getD b (i + 3) 0 ∷ []
 
-  abbrev two : List ℕ
-  two = getD b 6 0 ∷ getD b 7 0 ∷ []
-
   byte-at : (i : ℕ) → getD b i 0 < 256
   byte-at = below-at 256 b (lit< tt) small
 
@@ -37,7 +34,7 @@ module _ (b : List ℕ) (small : AreBytes b) where
   front-proper f =
       record {
         job = numberOf-lt (four 2) (four-bytes 2);
-        edition = numberOf-lt two (byte-at 6, (byte-at 7, tt));
+        edition = numberOf-lt (getD b 6 0 ∷ getD b 7 0 ∷ []) (byte-at 6, (byte-at 7, tt));
         size = rw (length-sealed b f) (numberOf-lt (four 8) (four-bytes 8));
         bytes = below-take 256 (wordAt b 8) (drop 12 b) (below-drop 256 12 b small);
       }
@@ -99,7 +96,7 @@ front-written b small f =
     let m = marked-back b (w .1) in
     rw (
       m .1,
-      bytesOf-numberOf (two b small) (byte-at b small 6, (byte-at b small 7, tt)),
+      bytesOf-numberOf (getD b 6 0 ∷ getD b 7 0 ∷ []) (byte-at b small 6, (byte-at b small 7, tt)),
       length-sealed b f,
       bytesOf-numberOf (four b small 2) (four-bytes b small 2),
       bytesOf-numberOf (four b small 8) (four-bytes b small 8),

@@ -129,7 +129,6 @@ module _ {job edition : ℕ} {s : List ℕ} {used at start size reached kept : �
   counting-on {h} t e₁ a₁ a₂ e₃ a₃ e₄ a₄ =
       let r = entry (between at used s) h in
       let rs = records (between (at + h .size) used s) in
-      let long = t .long in
       record {
         inside = t .within;
         most = omega arith;

@@ -1,6 +1,6 @@
 -- `change::move_down` meets its contract. The loop's invariant: `i` bytes have moved, and all others stand where they did. The measure is
 -- how many are to move.
-use Rattle.block.proofs.Base.{_+_, _-_, _<_, _≤_, ℕ, _∙_, _≡_, refl, List, [], _∷_, append-assoc, suc, take, take-suc-set, drop-cons}
+use Rattle.block.proofs.Base.{_+_, _-_, _<_, _≤_, ℕ, _∙_, _≡_, refl, List, append-assoc, suc, take, take-suc-set, drop-cons}
 use Rattle.block.proofs.Base.{add-zero, sub-zero, arith, drop, getD, length}
 use Rattle.block.proofs.Base.{length-set, set}
 use lib.Seq.{paste, paste-zero, drop-set-lt}
@@ -21,16 +21,10 @@ moved s to from n h k =
     let v = getD s from 0 in
     let a : to < length s = omega arith in
     let b : to < suc from = omega arith in
-    let d : to < suc to + n = omega arith in
-    let e : suc to + n ≡ to + suc n = omega arith in
-    rw (
-      take-suc-set s to v a,
-      drop-set-lt (suc from) s to v b,
-      drop-set-lt (suc to + n) s to v d,
-      drop-cons s from 0 k,
-      e,
-      append-assoc (take to s) (v ∷ []),
-    )
+    let d : to < to + suc n = omega arith in
+    let m = to + suc n in
+    let e : suc to + n ≡ m = omega arith in
+    rw (e, take-suc-set s to v, drop-set-lt (suc from) s to v, drop-set-lt m s to v, drop-cons s from 0, append-assoc (take to s))
 
 loop-again : tie.Need-loop-again Inv-loop μ-loop
 loop-again c =
@@ -46,14 +40,12 @@ loop-again c =
       rw (p, q) (moved (l .loop .shelf) (a .to + i) (a .from + i) m (omega arith) (omega arith) ∙ (rw n at (l .loop .inv .2))),
     )
 
-returns : tie.Need-returns Inv-loop μ-loop
-returns c =
-    let l = c .before in
-    let a = l .before .args in
-    let z : a .n - l .loop .i ≡ 0 = omega arith in
-    paste-zero (l .loop .shelf) (a .to + l .loop .i) (drop (a .from + l .loop .i) (l .loop .shelf)) ∙ (rw z at (l .loop .inv .2))
-
 pub move-down-spec : {M : Type 1} → statement M
 move-down-spec =
     tie.close (tie.spec Inv-loop μ-loop (λ c. (omega arith, refl, simp (add-zero, sub-zero))) (λ c. omega arith) (λ c. omega arith)
-    (λ c. omega arith) (λ c. omega arith) (λ c. omega arith) (λ c. omega arith) loop-again (λ c. omega arith) returns)
+    (λ c. omega arith) (λ c. omega arith) (λ c. omega arith) (λ c. omega arith) loop-again (λ c. omega arith)
+    (λ c.
+    let l = c .before in
+    let a = l .before .args in
+    let z : a .n - l .loop .i ≡ 0 = omega arith in
+    paste-zero (l .loop .shelf) (a .to + l .loop .i) (drop (a .from + l .loop .i) (l .loop .shelf)) ∙ (rw z at (l .loop .inv .2))))

@@ -17,13 +17,6 @@ turn : (x : tie.Else1 Inv-loop μ-loop)
     let s = now (l .before .before .args .s) in Turn s (length s) (l .loop .at) (x .before .front .result)
 turn x = on _ _ _ _ (x .before .front .ensures) (x .if1 .left)
 
-loop-again : tie.Need-loop-again Inv-loop μ-loop
-loop-again c =
-    let e = c .before .before in
-    let l = e .before .before .before in
-    let small = below-each 256 (now (l .before .before .args .s)) (λ k. omega (arith, l .before .shared-slice-known .given k)) in
-    passing-on (l .loop .inv) (turn e) small (sym (c .before .is-second .ensures) ∙ c .if2 .left)
-
 pub sound-up-to-spec : {M : Type 1} → statement M
 sound-up-to-spec =
     tie.close (tie.spec Inv-loop μ-loop (λ c. passing-starts (now (c .before .args .s))) (λ c. omega arith) (λ c. omega arith)
@@ -33,4 +26,9 @@ sound-up-to-spec =
     (λ c.
     let e = c .before .before in
     second (e .before .before .before .loop .inv) (turn e) (sym (c .before .is-second .ensures) ∙ c .if2 .taken))
-    (λ c. omega (arith, turn (c .before .before))) (λ c. omega (arith, turn (c .before .before))) loop-again)
+    (λ c. omega (arith, turn (c .before .before))) (λ c. omega (arith, turn (c .before .before)))
+    (λ c.
+    let e = c .before .before in
+    let l = e .before .before .before in
+    let small = below-each 256 (now (l .before .before .args .s)) (λ k. omega (arith, l .before .shared-slice-known .given k)) in
+    passing-on (l .loop .inv) (turn e) small (sym (c .before .is-second .ensures) ∙ c .if2 .left)))
