@@ -1,23 +1,26 @@
 -- A text xored with a pad that is shorter or longer: as far as both go, in two parts, and byte by byte.
 use Rattle.block.proofs.Base.{_+_, _-_, _<_, _≤_, min, suc, zero, ℕ, _∙_, _≡_, ap, ap₂, refl, sym, List, [], _++_, _∷_, arith, drop, getD}
-use Rattle.block.proofs.Base.{length, length-drop, set, take, take-nil}
+use Rattle.block.proofs.Base.{length, length-drop, set, take, take-all}
 use lib.Seq.{getD-drop}
 use Rattle.block.specs.Xor.{_⊕_, xors}
 use Rattle.walk.specs.Walk.{over}
 use Rattle.walk.proofs.Fill.{xor-turn}
 
--- bytes past the end of either do not count
-pub xors-front : (n : ℕ) (a b : List ℕ) → min (length a) (length b) ≤ n → xors (take n a) b ≡ xors a b
-xors-front n [] b h = ap (λ (l : List ℕ). xors l b) (take-nil n)
-xors-front zero (x ∷ a) [] h = refl
-xors-front zero (x ∷ a) (y ∷ b) h = absurd (omega arith)
-xors-front (suc n) (x ∷ a) [] h = refl
-xors-front (suc n) (x ∷ a) (y ∷ b) h = ap (λ (l : List ℕ). (x ⊕ y) ∷ l) (xors-front n a b (omega arith))
+-- a part of what is xored is that part of the text
+pub take-xors : (n : ℕ) (a p : List ℕ) → take n (xors a p) ≡ xors (take n a) p
+take-xors zero a p = refl
+take-xors (suc n) [] p = refl
+take-xors (suc n) (x ∷ a) [] = refl
+take-xors (suc n) (x ∷ a) (y ∷ p) = ap {B = List ℕ} (λ l. (x ⊕ y) ∷ l) (take-xors n a p)
 
 pub length-both : (a b : List ℕ) → length (xors a b) ≡ min (length a) (length b)
 length-both [] b = omega arith
 length-both (x ∷ a) [] = omega arith
 length-both (x ∷ a) (y ∷ b) = let i = length-both a b in omega arith
+
+-- bytes past the end of either do not count
+pub xors-front : (n : ℕ) (a b : List ℕ) → min (length a) (length b) ≤ n → xors (take n a) b ≡ xors a b
+xors-front n a b h = sym (take-xors n a b) ∙ take-all n (xors a b) (rw length-both h)
 
 -- a text in two parts goes on in the pad
 pub xors-cut : (a b p : List ℕ) → length a ≤ length p → xors (a ++ b) p ≡ xors a p ++ xors b (drop (length a) p)

@@ -88,7 +88,10 @@ pub(crate) fn running(mark: u32, label: usize, total: usize, n: usize) -> Checke
     ensures { λ r. ⌜ r ≡ running mark label total n ⌝ }
 {
     let text = refuse(past_limit(total, n), Refusal::TooLong, Checked::Passed);
-    and_then(standing(mark), refuse(label > LIMIT, Refusal::TooLong, text))
+    and_then(
+        standing(mark),
+        refuse(label > LIMIT, Refusal::TooLong, text),
+    )
 }
 
 // And `written` bytes are to be written.

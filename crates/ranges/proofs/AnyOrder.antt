@@ -5,12 +5,13 @@ use Rattle.block.proofs.Base.{drop, length, length-drop, length-take, take}
 use mathlib.Core.HLevel.{hedberg}
 use mathlib.Core.List.{foldr, Perm, Perm·foldr-eq, List·isSet}
 use native.Mathlib.Decide.{ℕ-discrete}
-use Rattle.block.specs.Xor.{_⊕_, xors}
+use Rattle.block.specs.Xor.{xors}
 use Rattle.block.proofs.Xors.{xors-comm}
 use Rattle.walk.specs.Walk.{chain, over}
 use Rattle.stream.specs.Stream.{streamMode}
 use Rattle.stream.specs.declared.Kind.the-variants.{Ctr as Ctr·kind}
 use Rattle.stream.proofs.RoundTrip.{length-stream}
+use Rattle.pieces.proofs.Pads.{take-xors}
 use Rattle.ranges.specs.declared.plan.Plan.{Plan}
 use Rattle.ranges.specs.Plan.{follows, accepts}
 use Rattle.ranges.specs.Range.{stretch}
@@ -21,12 +22,6 @@ use Rattle.ranges.proofs.KeyStream.{pads, chain-pads, stretch-pads}
 use Rattle.ranges.proofs.Copied.{copied, length-copied, none-copied, copies-commute, copies-join, all-copied, laid-copied}
 
 -- a part of what is xored is that part of both
-take-xors : (n : ℕ) (a p : List ℕ) → take n (xors a p) ≡ xors (take n a) p
-take-xors zero a p = refl
-take-xors (suc n) [] p = refl
-take-xors (suc n) (x ∷ a) [] = refl
-take-xors (suc n) (x ∷ a) (y ∷ p) = ap {B = List ℕ} (λ l. (x ⊕ y) ∷ l) (take-xors n a p)
-
 drop-xors : (n : ℕ) (a p : List ℕ) → drop n (xors a p) ≡ xors (drop n a) (drop n p)
 drop-xors zero a p = refl
 drop-xors (suc n) [] p = refl
