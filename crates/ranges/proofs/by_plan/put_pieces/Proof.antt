@@ -16,8 +16,6 @@ use Rattle.ranges.proofs.by_plan.put_pieces.Tie as tie
 abbrev Inv-loop : tie.InvT-loop
 Inv-loop t rk iv d out₀ count starts lengths at₀ i₀ out at i =
     (count ≤ 64)
-    × (length starts ≡ 64)
-    × (length lengths ≡ 64)
     × (at ≤ length d)
     × (length out ≡ length out₀)
     × (followsFrom starts lengths count (length d) i at ≡ true)
@@ -30,7 +28,10 @@ loop-holds : tie.Need-loop-holds Inv-loop μ-loop
 loop-holds c =
     let S = c .before .before .before .before .before .before in
     let yes = S .pre .1 .1 .0 in
-    (at-most-64 _ _ yes, search needs, search needs, omega arith, refl, from-0-to-n _ _ yes, nothing-yet _ _ (now (S .args .«data»)) _)
+    (at-most-64 _ _ yes, omega arith, refl, from-0-to-n _ _ yes, nothing-yet _ _ (now (S .args .«data»)) _)
+
+sixty-four : (s : tie.Start Inv-loop μ-loop) → (length (s .args .plan .starts) ≡ 64) × (length (s .args .plan .lengths) ≡ 64)
+sixty-four s = (search needs, search needs)
 
 -- what the pieces to come say of the next one
 turn : (x : tie.In-loop Inv-loop μ-loop)
@@ -41,15 +42,17 @@ turn : (x : tie.In-loop Inv-loop μ-loop)
     (drop (l .i + 1) (take (p .count) (p .starts))) (drop (l .i + 1) (take (p .count) (p .lengths)))
 turn x =
     let l = x .before .loop in
-    let a = x .before .before .before .before .before .before .before .before .args in
+    let S = x .before .before .before .before .before .before .before .before in
+    let a = S .args in
+    let n = sixty-four S in
     follows-on (a .plan .starts) (a .plan .lengths) (a .plan .count) (l .i) (l .at) (length (now (a .«data»)))
-    (omega (arith, l .inv .0, l .inv .1)) (omega (arith, l .inv .0, l .inv .2)) (omega arith) (l .inv .5)
+    (omega (arith, l .inv .0, n .0)) (omega (arith, l .inv .0, n .1)) (omega arith) (l .inv .3)
 
 part-put-stretch-start-2 : tie.Need-part-put-stretch-start-2 Inv-loop μ-loop
 part-put-stretch-start-2 c =
     let inv = c .before .before .loop .inv in
     let S = c .before .before .before .before .before .before .before .before .before in
-    omega (arith, inv .3, inv .4, S .pre .1 .1 .1)
+    omega (arith, inv .1, inv .2, S .pre .1 .1 .1)
 
 put-stretch-requires : tie.Need-put-stretch-requires Inv-loop μ-loop
 put-stretch-requires c κs =
@@ -61,7 +64,7 @@ put-stretch-requires c κs =
     let here = length-take (l .at + size - l .at) (drop (l .at) d) in
     let there = length-tailed (l .out) (l .at) in
     let left = length-drop (l .at) d in
-    (S .pre .0, (S .pre .1 .0, omega (arith, here, there, left, turn tested .inside, l .inv .3, l .inv .4, S .pre .1 .1 .1)))
+    (S .pre .0, (S .pre .1 .0, omega (arith, here, there, left, turn tested .inside, l .inv .1, l .inv .2, S .pre .1 .1 .1)))
 
 loop-again : tie.Need-loop-again Inv-loop μ-loop
 loop-again c =
@@ -80,24 +83,23 @@ loop-again c =
     let size : l .at + n - l .at ≡ n = omega arith in
     let stretched = rw (on .starts-here, size) at (at-put .put-stretch .ensures) in (
       inv .0,
-      inv .1,
-      inv .2,
       on .inside,
-      omega (arith, inv .4),
+      omega (arith, inv .2),
       on .rest,
-      joined (a .rk) iv (S .pre .1 .0) (below-each 256 iv small) d (now (a .out)) (l .out) _ (l .at) n (inv .3) (inv .6) stretched,
+      joined (a .rk) iv (S .pre .1 .0) (below-each 256 iv small) d (now (a .out)) (l .out) _ (l .at) n (inv .1) (inv .4) stretched,
     )
 
 returns : tie.Need-returns Inv-loop μ-loop
 returns c =
     let l = c .before .loop in
-    let a = c .before .before .before .before .before .before .before .before .args in
+    let S = c .before .before .before .before .before .before .before .before in
+    let a = S .args in
     let d = now (a .«data») in
     let inv = l .inv in
     let p = a .plan in
-    let last = ends (p .starts) (p .lengths) (p .count) (l .i) (l .at) (length d) (omega (arith, inv .0, inv .1)) (omega arith) in
-    let end = eqb-true (l .at) (length d) (sym last ∙ inv .5) in
-    rw (take-all (l .at) d (omega (arith, end))) at (inv .6)
+    let last = ends (p .starts) (p .lengths) (p .count) (l .i) (l .at) (length d) (omega (arith, inv .0, sixty-four S .0)) (omega arith) in
+    let end = eqb-true (l .at) (length d) (sym last ∙ inv .3) in
+    rw (take-all (l .at) d (omega (arith, end))) at (inv .4)
 
 pub put-pieces-spec : {M : Type 1} → statement M
 put-pieces-spec = tie.close (tie.spec Inv-loop μ-loop loop-holds (omega arith) (omega arith) (omega arith) (omega arith)
