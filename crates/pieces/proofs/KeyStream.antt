@@ -56,9 +56,9 @@ module _ (c : Counting) (rk : List ℕ) where
         let left = length-drop (length b) pad in
         by-order (length e) (16 - length b)
         (λ h. rw (chain-rest m s (b ++ e) (omega arith), chain-rest m s b low, text-short (flowAt rk s) (length b) e h)
-        (xors-cut b e pad (omega arith)))
+        (xors-cut b e pad))
         (λ h. rw (chain-block m s (b ++ e) (omega arith), chain-rest m s b low, counts c rk s (take 16 (b ++ e)))
-        (rw (take-through b e 16 (omega arith), drop-through b e 16 (omega arith), xors-cut b (take (16 - length b) e) pad (omega arith))
+        (rw (take-through b e 16 (omega arith), drop-through b e 16 (omega arith), xors-cut b (take (16 - length b) e) pad)
         (rw (xors-front (16 - length b) e (drop (length b) pad) (omega arith), append-assoc))))
 
     next-begun : flowNext c rk (flowAt rk s) (length b) e ≡ flowAfter c rk s (b ++ e)

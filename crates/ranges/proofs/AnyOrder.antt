@@ -1,17 +1,15 @@
 -- The shares of a text may be done in any order: what stands in the output is the same. Those of an accepted plan give the single call's
 -- bytes.
-use Rattle.block.proofs.Base.{_+_, _-_, _≤_, min, suc, zero, ℕ, _∙_, _≡_, ap, refl, sym, false≢true, true, List, [], _∷_, arith, eqb-true}
+use Rattle.block.proofs.Base.{_+_, _-_, _≤_, min, ℕ, _∙_, _≡_, ap, refl, sym, false≢true, true, List, [], _∷_, arith, eqb-true}
 use Rattle.block.proofs.Base.{drop, length, length-drop, length-take, take}
 use mathlib.Core.HLevel.{hedberg}
 use mathlib.Core.List.{foldr, Perm, Perm·foldr-eq, List·isSet}
 use native.Mathlib.Decide.{ℕ-discrete}
-use Rattle.block.specs.Xor.{xors}
-use Rattle.block.proofs.Xors.{xors-comm}
 use Rattle.walk.specs.Walk.{chain, over}
 use Rattle.stream.specs.Stream.{streamMode}
 use Rattle.stream.specs.declared.Kind.the-variants.{Ctr as Ctr·kind}
 use Rattle.stream.proofs.RoundTrip.{length-stream}
-use Rattle.pieces.proofs.Pads.{take-xors}
+use Rattle.pieces.proofs.Pads.{take-xors, drop-xors}
 use Rattle.ranges.specs.declared.plan.Plan.{Plan}
 use Rattle.ranges.specs.Plan.{follows, accepts}
 use Rattle.ranges.specs.Range.{stretch}
@@ -20,13 +18,6 @@ use Rattle.ranges.proofs.Accepted.{from-0-to-n}
 use Rattle.ranges.proofs.Following.{first-piece}
 use Rattle.ranges.proofs.KeyStream.{pads, chain-pads, stretch-pads}
 use Rattle.ranges.proofs.Copied.{copied, length-copied, none-copied, copies-commute, copies-join, all-copied, laid-copied}
-
--- a part of what is xored is that part of both
-drop-xors : (n : ℕ) (a p : List ℕ) → drop n (xors a p) ≡ xors (drop n a) (drop n p)
-drop-xors zero a p = refl
-drop-xors (suc n) [] p = refl
-drop-xors (suc n) (x ∷ a) [] = sym (xors-comm (drop n a) [])
-drop-xors (suc n) (x ∷ a) (y ∷ p) = drop-xors n a p
 
 module _ (rk iv d : List ℕ) where
   abbrev whole : List ℕ

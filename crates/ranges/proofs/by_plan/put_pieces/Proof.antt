@@ -1,8 +1,7 @@
 -- `ranges::by_plan::put_pieces` meets its contract. The loop's invariant: what stands in the output is what the single call gives of the
 -- text up to `at`, and the pieces to come follow one another from there to the text's end. The measure is how many are to come.
-use Rattle.block.proofs.Base.{_+_, _-_, _<_, _≤_, ℕ, _∙_, _≡_, refl, sym, true, arith, needs, eqb-true, now, drop, getD, length}
+use Rattle.block.proofs.Base.{_+_, _-_, _≤_, _∙_, _≡_, refl, sym, true, arith, needs, eqb-true, now, drop, getD, length}
 use Rattle.block.proofs.Base.{length-drop, length-take, take, take-all}
-use Rattle.block.proofs.Entries.{below-each}
 use Rattle.walk.specs.Walk.{chain, over}
 use Rattle.walk.proofs.Loop.{length-tailed}
 use Rattle.stream.specs.Stream.{streamMode}
@@ -71,22 +70,17 @@ loop-again c =
     let at-put = c .before .before in
     let tested = at-put .before .before .before in
     let l = tested .before .loop in
-    let at-iv = tested .before .before .before .before .before .before in
-    let S = at-iv .before .before in
-    let a = S .args in
-    let iv = now (a .iv) in
-    let d = now (a .«data») in
+    let a = tested .before .before .before .before .before .before .before .before .args in
     let n = getD (a .plan .lengths) (l .i) 0 in
     let inv = l .inv in
     let on = turn tested in
-    let small : (k : ℕ) → getD iv k 0 < 256 = λ k. omega (arith, at-iv .shared-slice-known2 .given k) in
     let size : l .at + n - l .at ≡ n = omega arith in
     let stretched = rw (on .starts-here, size) at (at-put .put-stretch .ensures) in (
       inv .0,
       on .inside,
       omega (arith, inv .2),
       on .rest,
-      joined (a .rk) iv (S .pre .1 .0) (below-each 256 iv small) d (now (a .out)) (l .out) _ (l .at) n (inv .1) (inv .4) stretched,
+      joined (a .rk) (now (a .iv)) (now (a .«data»)) (now (a .out)) (l .out) _ (l .at) n (inv .1) (inv .4) stretched,
     )
 
 returns : tie.Need-returns Inv-loop μ-loop
