@@ -1,6 +1,6 @@
 -- Key stream cut anywhere: from the flow after a text, what is behind it goes on as in the whole.
 use Rattle.block.proofs.Base.{_%_, _-_, _<_, ℕ, _∙_, _≡_, ap, refl, sym, List, [], _++_, append-assoc, append-nil, arith, le-ltb, lt-ltb}
-use Rattle.block.proofs.Base.{drop, drop-of-length-le, length, length-append, length-drop, take}
+use Rattle.block.proofs.Base.{drop, drop-at, drop-of-length-le, length, length-append, length-drop, take}
 use Rattle.block.specs.Xor.{xors}
 use Rattle.cipher.specs.Sm4.{encryptBlock}
 use Rattle.cipher.proofs.Blocks.{length-encryptBlock}
@@ -101,3 +101,10 @@ module _ (c : Counting) (rk : List ℕ) where
         ap (chain m s) (sym (both-parts d)) ∙ chain-cut m (begunPart d) (λ _. refl) s (fullPart d) full in
         rw (whole, before, here, ← begun-length d, chain-cut m (begunPart d ++ e) (λ _. refl) s (fullPart d) full)
         (rw (text-begun t (begunPart d) e low, append-assoc))
+
+    -- so from e's first byte on both give that stretch, and what d gave stands before it
+    pub text-behind : drop (length d) (chain (flowMode c rk) s (d ++ e)) ≡ flowText c rk (flowAfter c rk s d) (length d % 16) e
+    text-behind = rw (text-on, drop-at (chain m s d) _ (length d) (length-stream (kindOf c) rk s d))
+
+    pub text-joined : chain (flowMode c rk) s d ++ drop (length d) (chain (flowMode c rk) s (d ++ e)) ≡ chain (flowMode c rk) s (d ++ e)
+    text-joined = rw text-behind (sym text-on)

@@ -17,7 +17,7 @@ use Rattle.ranges.specs.Shares.{Share, shares, sharesOf, shareOf, worked
 use Rattle.ranges.proofs.Accepted.{from-0-to-n}
 use Rattle.ranges.proofs.Following.{first-piece}
 use Rattle.ranges.proofs.KeyStream.{pads, chain-pads, stretch-pads}
-use Rattle.ranges.proofs.Copied.{copied, length-copied, none-copied, copies-commute, copies-join, all-copied, laid-copied}
+use Rattle.ranges.proofs.Copied.{copied, length-zipped, none-zipped, zips-commute, copies-join, all-copied, laid-copied}
 
 module _ (rk iv d : List ℕ) where
   abbrev whole : List ℕ
@@ -49,7 +49,7 @@ module _ (rk iv d : List ℕ) where
       let rest = all-copy ps o h in
       let u = foldr copies o ps in (
         ap (worked rk iv d p) (rest .0) ∙ worker-copies p u (omega (arith, h, rest .1)),
-        length-copied (p .start) (p .size) whole u ∙ rest .1,
+        length-zipped _ (p .start) (p .size) whole u ∙ rest .1,
       )
 
   pub length-worked : (ps : List Share) (o : List ℕ) → length d ≤ length o → length (allWorked rk iv d ps o) ≡ length o
@@ -60,7 +60,7 @@ module _ (rk iv d : List ℕ) where
   any-order o h ps qs e =
       all-copy ps o h .0
       ∙ Perm·foldr-eq (List·isSet (hedberg ℕ-discrete)) copies
-      (λ p q u. copies-commute (p .start) (p .size) (q .start) (q .size) whole u) e o
+      (λ p q u. zips-commute _ (p .start) (p .size) (q .start) (q .size) whole whole u (λ i x. refl)) e o
       ∙ sym (all-copy qs o h .0)
 
   -- shares that follow one another from `at` to the text's end copy all that is from there on
@@ -69,7 +69,7 @@ module _ (rk iv d : List ℕ) where
   unfolding follows
   following at [] ls o e =
       let none : length d - at ≡ 0 = omega (arith, eqb-true at (length d) e) in
-      rw none (sym (none-copied at whole o))
+      rw none (sym (none-zipped _ at whole o))
   following at (s ∷ ss) [] o e = absurd (false≢true e)
   following at (s ∷ ss) (l ∷ ls) o e =
       let f = first-piece at (length d) s l ss ls e in

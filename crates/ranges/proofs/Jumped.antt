@@ -12,7 +12,7 @@ use Rattle.stream.specs.declared.Kind.the-variants.{Ctr as Ctr·kind}
 use Rattle.stream.proofs.RoundTrip.{length-stream}
 use Rattle.pieces.specs.declared.flow.Counting.the-variants.{Ctr as Ctr·counting}
 use Rattle.pieces.specs.Flow.{flowAt, flowAfter, flowText}
-use Rattle.pieces.proofs.KeyStream.{text-on}
+use Rattle.pieces.proofs.KeyStream.{text-behind}
 use Rattle.ranges.specs.Range.{stretch}
 
 -- n steps of Ctr's walk are a jump
@@ -29,8 +29,7 @@ unfolding stretch flowAfter endState
 jumped rk iv d offset l a =
     let z : List ℕ = replicate offset 0 in
     let n : length z ≡ offset = length-replicate offset 0 in
-    let given = length-stream Ctr·kind rk iv z ∙ n in
-    rw (text-on Ctr·counting rk iv z d, drop-at (chain (streamMode Ctr·kind rk) iv z) _ offset given, ctr-stepped rk _ iv z l a, n)
+    sym (rw (ctr-stepped rk _ iv z l a, n) at (text-behind Ctr·counting rk iv z d))
 
 pub length-stretch : (rk iv : List ℕ) (offset : ℕ) (d : List ℕ) → length (stretch rk iv offset d) ≡ length d
 unfolding stretch
