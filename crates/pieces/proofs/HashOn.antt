@@ -11,7 +11,7 @@ use Rattle.ghash.proofs.Join.{hash-append, hashFrom-lt, ghash-lt}
 use Rattle.pieces.specs.declared.hashing.Hashing.{Hashing}
 use Rattle.pieces.specs.Hashing.{fullPart, begunPart, filledUp, hashAfter, hashOf, hashNext, hashEnd}
 use Rattle.pieces.proofs.Filling.{filled-front}
-use Rattle.pieces.proofs.Begun.{full-length, begun-length, both-parts, full-behind, begun-behind}
+use Rattle.pieces.proofs.Begun.{full-length, begun-length, both-parts, parts-behind, full-behind, begun-behind}
 
 -- sixteen bytes are those of the number that they spell, and the other way round
 respelled : (b : List ℕ) → length b ≡ 16 → AreBytes b → bytesOf 16 (numberOf b) ≡ b
@@ -56,8 +56,7 @@ module _ (h y c : List ℕ) (eh : Element (numberOf h)) (ey : Element (numberOf 
   hash-on e =
       let k = length c / 16 in
       let n = full-length c in
-      let whole : c ++ e ≡ a ++ (b ++ e) = ap (λ (l : List ℕ). l ++ e) (sym (both-parts c)) ∙ append-assoc a b e in
-      rw (held-is, so-far, whole, full-behind a (b ++ e) k n, begun-behind a (b ++ e) k n, blocks-append k a (fullPart (b ++ e)) n)
+      rw (held-is, so-far, parts-behind c e, full-behind a (b ++ e) k n, begun-behind a (b ++ e) k n, blocks-append k a (fullPart (b ++ e)) n)
       (rw (hash-append (numberOf h) (numberOf y) (blocks a) (blocks (fullPart (b ++ e)))))
 
   -- and at the end all blocks of c are hashed

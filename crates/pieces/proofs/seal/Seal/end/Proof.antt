@@ -1,8 +1,8 @@
 -- `pieces::seal::Seal::end` meets its contract: what the checks refuse leaves output and state, and otherwise the tag is written and
 -- the state is shut.
-use Rattle.block.proofs.Base.{_≤_, _∙_, _≡_, sym, arith, needs, now, length}
+use Rattle.block.proofs.Base.{_≤_, _∙_, _≡_, sym, mod-lt, arith, needs, lit<, now, length}
 use Rattle.pieces.specs.Calls.{sealEnd}
-use Rattle.pieces.proofs.Passing.{Runs, writing-passed}
+use Rattle.pieces.proofs.Passing.{Runs, both-hashable, writing-passed}
 use Rattle.pieces.proofs.seal.Seal.end.Statement.{statement}
 use Rattle.pieces.proofs.seal.Seal.end.Tie as tie
 
@@ -35,6 +35,5 @@ pub end-spec : {M : Type 1} → statement M
 unfolding sealEnd
 end-spec = tie.close (tie.spec (search needs) (search needs) (search needs)
     (λ c. let told = c .before .before in rw (← told .before .before .writing .ensures, told .checked .given .1, c .refused .ensures))
-    (search needs)
-    (λ c κs. let runs = passed (c .before .before) .0 in (omega arith, (omega (arith, runs .labelled), omega (arith, runs .within))))
+    (search needs) (λ c κs. (mod-lt _ (lit< tt), both-hashable (passed (c .before .before) .0)))
     (λ c. search needs) xor-pad-requires (search needs) (search needs) (search needs) (search needs) returns-2)
