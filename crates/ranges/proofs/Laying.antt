@@ -3,13 +3,6 @@ use Rattle.block.proofs.Base.{_+_, _-_, _<_, _≤_, suc, ℕ, _≡_, Bool, cond
 use Rattle.block.proofs.Base.{arith, ltb, length, set, take, take-all, take-suc-set}
 use Rattle.ranges.specs.Plan.{begins, startAt, lengthAt, countFrom, startsFrom, lengthsFrom}
 
-one-or-none : (t : Bool) → cond t 1 0 ≤ 1
-one-or-none true = omega arith
-one-or-none false = omega arith
-
-pub at-most-one : (n at b : ℕ) → b ≡ begins n at → b ≤ 1
-at-most-one n at b e = rw e (one-or-none (ltb at n))
-
 -- place i of 64 is at byte `at`
 module _ (n size at i : ℕ) (h : i < 64) where
   one-less : 64 - i ≡ suc (64 - (i + 1))

@@ -47,12 +47,6 @@ turn x =
     follows-on (a .plan .starts) (a .plan .lengths) (a .plan .count) (l .i) (l .at) (length (now (a .«data»)))
     (omega (arith, l .inv .0, n .0)) (omega (arith, l .inv .0, n .1)) (omega arith) (l .inv .3)
 
-part-put-stretch-start-2 : tie.Need-part-put-stretch-start-2 Inv-loop μ-loop
-part-put-stretch-start-2 c =
-    let inv = c .before .before .loop .inv in
-    let S = c .before .before .before .before .before .before .before .before .before in
-    omega (arith, inv .1, inv .2, S .pre .1 .1 .1)
-
 put-stretch-requires : tie.Need-put-stretch-requires Inv-loop μ-loop
 put-stretch-requires c κs =
     let tested = c .before .before in
@@ -98,4 +92,6 @@ returns c =
 pub put-pieces-spec : {M : Type 1} → statement M
 put-pieces-spec = tie.close (tie.spec Inv-loop μ-loop loop-holds (omega arith) (omega arith) (omega arith) (omega arith)
     (λ c. record { fits = omega (arith, turn c .inside) }) (omega arith) (omega arith) (λ c. omega (arith, turn c .inside)) (omega arith)
-    part-put-stretch-start-2 (omega arith) put-stretch-requires (omega arith) (omega arith) loop-again (omega arith) returns)
+    (λ c. let at-loop = c .before .before in
+    let S = at-loop .before .before .before .before .before .before .before in
+    omega (arith, at-loop .loop .inv .1, at-loop .loop .inv .2, S .pre .1 .1 .1)) (omega arith) put-stretch-requires (omega arith) (omega arith) loop-again (omega arith) returns)

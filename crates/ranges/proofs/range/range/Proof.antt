@@ -17,13 +17,6 @@ checks : (x : tie.After-and-then)
 unfolding rangeCheck
 checks x = rw (x .and-then .ensures, x .before .refuse .ensures, x .before .before .reach .ensures)
 
-returns : tie.Need-returns
-unfolding rangeCall
-returns c =
-    let told = c .before .before in
-    rw (← checks (told .before .before), told .checked .given .1, c .refused .ensures)
-    (rw (told .before .before .before .before .before .number-in .ensures))
-
 returns-2 : tie.Need-returns-2
 unfolding rangeCall
 returns-2 c =
@@ -35,7 +28,10 @@ returns-2 c =
     (rw (length-stretch (a .cipher .rk) (now (a .iv)) (a .offset) (now (a .«data»)), at-number .number-in .ensures))
 
 pub range-spec : {M : Type 1} → statement M
-range-spec = tie.close (tie.spec (search needs) (search needs) (search needs) (search needs) (search needs) (search needs) returns
+unfolding rangeCall
+range-spec = tie.close (tie.spec (search needs) (search needs) (search needs) (search needs) (search needs) (search needs)
+    (λ c. let told = c .before .before in rw (← checks (told .before .before), told .checked .given .1, c .refused .ensures)
+    (rw (told .before .before .before .before .before .number-in .ensures)))
     (search needs)
     (λ c κs. let told = c .before .before in range-passed _ _ _ _ _ _ _ (sym (checks (told .before .before)) ∙ told .enum-told .given .1))
     (search needs)
