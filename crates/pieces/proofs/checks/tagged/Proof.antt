@@ -4,14 +4,9 @@ use Rattle.pieces.specs.Checks.{tagged}
 use Rattle.pieces.proofs.checks.tagged.Statement.{statement}
 use Rattle.pieces.proofs.checks.tagged.Tie as tie
 
-returns : tie.Need-returns
-unfolding tagged
-returns c =
-    let at-tag = c .before .before in
-    let n = at-tag .before .before .args .tag in
-    let missing : 16 - at-tag .before .least .result ≡ 16 - n = omega arith in
-    rw (c .and-then .ensures, c .before .running .ensures, at-tag .refuse .ensures, missing)
-
 pub tagged-spec : {M : Type 1} → statement M
 unfolding tagged
-tagged-spec = tie.close (tie.spec (search needs) (search needs) (search needs) (search needs) (search needs) (search needs) returns)
+tagged-spec = tie.close (tie.spec (search needs) (search needs) (search needs) (search needs) (search needs) (search needs)
+    (λ c. let at-tag = c .before .before in
+    let missing : 16 - at-tag .before .least .result ≡ 16 - at-tag .before .before .args .tag = omega arith in
+    rw (c .and-then .ensures, c .before .running .ensures, at-tag .refuse .ensures, missing)))
