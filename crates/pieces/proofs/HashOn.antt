@@ -56,8 +56,8 @@ module _ (h y c : List ℕ) (eh : Element (numberOf h)) (ey : Element (numberOf 
   hash-on e =
       let k = length c / 16 in
       let n = full-length c in
-      rw (held-is, so-far, parts-behind c e, full-behind a (b ++ e) k n, begun-behind a (b ++ e) k n, blocks-append k a (fullPart (b ++ e)) n)
-      (rw (hash-append (numberOf h) (numberOf y) (blocks a) (blocks (fullPart (b ++ e)))))
+      rw (held-is, so-far, parts-behind c e, full-behind a (b ++ e) k n, begun-behind a (b ++ e) k n)
+      (rw (blocks-append k a (fullPart (b ++ e)) n, hash-append (numberOf h) (numberOf y) (blocks a) (blocks (fullPart (b ++ e)))))
 
   -- and at the end all blocks of c are hashed
   pub hash-ends : (label text : ℕ)

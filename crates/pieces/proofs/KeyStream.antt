@@ -89,7 +89,8 @@ module _ (c : Counting) (rk : List ℕ) where
     -- the flow after d and then e is that after both
     pub flow-on : flowNext c rk (flowAfter c rk s d) (length d % 16) e ≡ flowAfter c rk s (d ++ e)
     unfolding flowAfter
-    flow-on = rw (parts-behind d e, end-cut m (begunPart d ++ e) s (fullPart d) full, here, ← begun-length d) (next-begun t (begunPart d) e low)
+    flow-on =
+        rw (parts-behind d e, end-cut m (begunPart d ++ e) s (fullPart d) full, here, ← begun-length d) (next-begun t (begunPart d) e low)
 
     -- and what e gives there is its stretch of what both give
     pub text-on : chain (flowMode c rk) s (d ++ e) ≡ chain (flowMode c rk) s d ++ flowText c rk (flowAfter c rk s d) (length d % 16) e

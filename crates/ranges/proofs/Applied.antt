@@ -1,12 +1,15 @@
 -- A range applied to a text xors key stream into it there, and leaves the rest; so two of them give the same in either order, overlapping
 -- or not.
-use Rattle.block.proofs.Base.{_≤_, suc, zero, ℕ, _≡_, refl, sym, List, [], _∷_, arith, xor-comm, getD, length}
+use Rattle.block.proofs.Base.{_≤_, suc, zero, ℕ, _≡_, refl, List, [], _∷_, arith, xor-comm, length}
 use Rattle.block.specs.Xor.{_⊕_, xors}
 use Rattle.block.proofs.Xor.{xor-assoc}
 use Rattle.ranges.specs.Shares.{Share, applied}
 use Rattle.ranges.proofs.KeyStream.{pads, chain-pads}
 use Rattle.ranges.proofs.Copied.{copied, zipped, length-zipped, zips-commute}
 use Rattle.ranges.proofs.AnyOrder.{worker-copies}
+
+either : (x y z : ℕ) → (x ⊕ y) ⊕ z ≡ (x ⊕ z) ⊕ y
+either x y z = rw (xor-assoc x y z, xor-assoc x z y, xor-comm y z)
 
 -- what is xored all over and copied in part is xored in part
 xored-in-part : (at n : ℕ) (k u : List ℕ) → copied at n (xors u k) u ≡ zipped _⊕_ at n k u
@@ -35,5 +38,4 @@ ranges-commute rk₁ iv₁ rk₂ iv₂ p q t =
     let m′ = length-applied rk₂ iv₂ q t in
     rw (flips rk₁ iv₁ p n (applied rk₂ iv₂ q t) (omega arith), flips rk₂ iv₂ q n (applied rk₁ iv₁ p t) (omega arith))
     (rw (flips rk₂ iv₂ q n t (omega arith), flips rk₁ iv₁ p n t (omega arith))
-    (zips-commute _⊕_ (p .start) (p .size) (q .start) (q .size) (pads rk₁ n iv₁) (pads rk₂ n iv₂) t
-    (λ i x. rw (xor-assoc x (getD (pads rk₂ n iv₂) i 0) (getD (pads rk₁ n iv₁) i 0), xor-comm (getD (pads rk₂ n iv₂) i 0)) (sym (xor-assoc x _ _)))))
+    (zips-commute _⊕_ (p .start) (p .size) (q .start) (q .size) (pads rk₁ n iv₁) (pads rk₂ n iv₂) t (λ i x. either x _ _)))

@@ -1,5 +1,5 @@
 -- The check accepts a plan exactly when the plan reads, piece by piece, as it should.
-use Rattle.block.proofs.Base.{_%_, _+_, _<_, _≤_, suc, zero, ℕ, _∙_, _≡_, refl, sym, true, List, Bool, add-one, arith, eq-eqb, eqb-true}
+use Rattle.block.proofs.Base.{_+_, _<_, suc, zero, ℕ, _∙_, _≡_, refl, sym, true, Bool, add-one, arith, eq-eqb, eqb-true}
 use Rattle.block.proofs.Base.{le-leb, ne-eqb, drop, getD, length, take}
 use Rattle.ranges.specs.Plan.{follows, accepts}
 use Rattle.ranges.specs.Reading.{Piece, Reading}
@@ -64,7 +64,9 @@ module _ (p : Plan) (n : ℕ) (room : length (p .starts) ≡ 64) where
     where
       -- from the last piece to the first, k of them from piece i on
       back : (k i at : ℕ) → i + k ≡ p .count → (k ≡ 0 → at ≡ n) → (0 < k → start i ≡ at) → from i at ≡ true
-      back zero i at e none first = rw (ends (p .starts) (p .lengths) (p .count) i at n (omega (arith, r .few)) (omega arith)) (eq-eqb at n (none refl))
+      back zero i at e none first =
+          let few = r .few in
+          rw (ends (p .starts) (p .lengths) (p .count) i at n (omega arith) (omega arith)) (eq-eqb at n (none refl))
       back (suc k) i at e none first =
           let few = r .few in
           let q = r .piece i (omega arith) in

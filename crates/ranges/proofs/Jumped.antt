@@ -1,12 +1,12 @@
 -- The flow at a counter that is jumped to goes on as the whole does: the counters of Ctr do not depend on the text, so the one behind
 -- `offset` zeros is the jump's.
-use Rattle.block.proofs.Base.{_%_, _/_, suc, zero, ℕ, _∙_, _≡_, refl, sym, List, _++_, arith, drop, length, length-append, length-drop}
-use Rattle.block.proofs.Base.{length-replicate, replicate, drop-at}
+use Rattle.block.proofs.Base.{_%_, _/_, suc, zero, ℕ, _∙_, _≡_, sym, List, _++_, arith, drop, length, length-append, length-drop}
+use Rattle.block.proofs.Base.{length-replicate, replicate}
 use Rattle.block.specs.Below.{AreBytes}
 use Rattle.block.proofs.Convert.{length-bytesOf, bytesOf-bytes}
 use Rattle.counter.specs.Counter.{ctrJump, ctrNext}
 use Rattle.counter.proofs.JumpSteps.{no-jump, jump-on}
-use Rattle.walk.specs.Walk.{chain, stepped, endState}
+use Rattle.walk.specs.Walk.{stepped, endState}
 use Rattle.stream.specs.Stream.{streamMode}
 use Rattle.stream.specs.declared.Kind.the-variants.{Ctr as Ctr·kind}
 use Rattle.stream.proofs.RoundTrip.{length-stream}

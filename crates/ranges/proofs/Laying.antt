@@ -1,6 +1,6 @@
 -- One more place of a plan, stored in the arrays and counted, and all 64.
-use Rattle.block.proofs.Base.{_+_, _-_, _<_, _≤_, suc, ℕ, _≡_, Bool, cond, false, true, List, _++_, append-assoc, append-nil, add-one}
-use Rattle.block.proofs.Base.{arith, ltb, length, set, take, take-all, take-suc-set}
+use Rattle.block.proofs.Base.{_+_, _-_, _<_, _≤_, suc, ℕ, _≡_, List, _++_, append-assoc, append-nil, add-one}
+use Rattle.block.proofs.Base.{arith, length, set, take, take-all, take-suc-set}
 use Rattle.ranges.specs.Plan.{begins, startAt, lengthAt, countFrom, startsFrom, lengthsFrom}
 
 -- place i of 64 is at byte `at`

@@ -1,5 +1,5 @@
 -- The planner's plans are accepted, have no more pieces than workers, and no piece is longer than its share.
-use Rattle.block.proofs.Base.{_%_, _*_, _+_, _-_, _<_, _≤_, suc, zero, ℕ, _∙_, _≡_, refl, Bool, _||_, false, true, mul-le-mul-right, arith}
+use Rattle.block.proofs.Base.{_%_, _*_, _+_, _-_, _<_, _≤_, suc, zero, ℕ, _∙_, _≡_, refl, Bool, true, mul-le-mul-right, arith}
 use Rattle.block.proofs.Base.{eq-eqb, le-leb, le-ltb, lt-ltb, ne-eqb, getD, take}
 use mathlib.Core.Bool.{or-true}
 use native.Mathlib.Nat.{suc-mul}

@@ -2,7 +2,7 @@
 use Rattle.block.proofs.Base.{_+_, _-_, _≤_, suc, zero, ℕ, _≡_, refl, arith, le-ltb, getD}
 use Rattle.pieces.proofs.Cases.{by-order}
 use Rattle.ranges.specs.Plan.{pieceSize, countFrom, startsFrom, lengthsFrom, planOf}
-use Rattle.ranges.proofs.OwnPlans.{past, before}
+use Rattle.ranges.proofs.OwnPlans.{before}
 
 -- n bytes in pieces of `size`
 module _ (n size : ℕ) where

@@ -1,6 +1,6 @@
 -- A piece's size: the workers' pieces hold all the bytes, each is whole blocks, none is empty unless all are, and none is too long
 -- for its place to be reckoned.
-use Rattle.block.proofs.Base.{_%_, _*_, _+_, _-_, _/_, _≤_, suc, zero, ℕ, _≡_, div-le-self, mod-lt, arith}
+use Rattle.block.proofs.Base.{_%_, _*_, _+_, _-_, _/_, _≤_, ℕ, _≡_, div-le-self, mod-lt, arith}
 use native.Mathlib.Nat.{div-add-mod, mul-left-comm, mul-mod-right}
 use Rattle.counter.specs.CameRound.{blocksOf}
 use Rattle.cipher_mode.specs.Tables.{limit}

@@ -1,5 +1,4 @@
 -- `pieces::checks::refuse` meets its contract: each branch is the test that led to it.
-use Rattle.block.proofs.Base.{needs}
 use Rattle.pieces.proofs.checks.refuse.Statement.{statement}
 use Rattle.pieces.proofs.checks.refuse.Tie as tie
 

@@ -1,6 +1,6 @@
 -- `pieces::hashing::filled` meets its contract. The loop's invariant: the first i bytes are those of the block, and the rest are as they
 -- were held.
-use Rattle.block.proofs.Base.{_-_, _≤_, ℕ, _∙_, _≡_, refl, sym, [], _++_, append-nil, arith, needs, now, drop, drop-of-length-le, getD}
+use Rattle.block.proofs.Base.{_-_, _≤_, _∙_, _≡_, sym, _++_, append-nil, arith, needs, now, drop, drop-of-length-le, getD}
 use Rattle.block.proofs.Base.{length, length-append, length-set, take, take-all, take-append-drop, length-take-le, take-at}
 use Rattle.walk.proofs.Fill.{copy-turn}
 use Rattle.pieces.specs.Hashing.{filledUp}
@@ -48,4 +48,5 @@ returns c =
     rw (take-all (l .i) (filledUp s) (omega arith), drop-of-length-le (a .held) {i = l .i} (omega arith), append-nil) at (l .inv .4)
 
 pub filled-spec : {M : Type 1} → statement M
-filled-spec = tie.close (tie.spec Inv-loop μ-loop loop-holds (omega arith) (search needs) (omega arith) (omega arith) (omega arith) loop-again returns)
+filled-spec = tie.close (tie.spec Inv-loop μ-loop loop-holds (omega arith) (search needs) (omega arith) (omega arith) (omega arith)
+    loop-again returns)

@@ -21,8 +21,9 @@ returns-2 c =
 pub start-spec : {M : Type 1} → statement M
 unfolding opensStart
 start-spec = tie.close (tie.spec (search needs) (search needs) (search needs) (search needs) (search needs) (search needs)
-    (λ c. let told = c .before .before .before .before in rw (← told .before .before .gcm-start .ensures, told .checked .given .1)
-    (rw (c .before .before .refused .ensures, c .shut .ensures, c .before .number .ensures, told .before .before .before .number-in .ensures)))
+    (λ c. let told = c .before .before .before .before in
+    rw (← told .before .before .gcm-start .ensures, told .checked .given .1, c .before .before .refused .ensures, c .shut .ensures)
+    (rw (c .before .number .ensures, told .before .before .before .number-in .ensures)))
     (search needs) (search needs) (search needs) (search needs) (λ c κs. search needs)
     (λ c κs. let told = c .before .before .before .before .before in
     let iv = starting-passed _ _ _ _ _ (sym (told .before .before .gcm-start .ensures) ∙ told .enum-told .given .1) .taken in

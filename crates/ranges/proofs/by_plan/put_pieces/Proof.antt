@@ -94,4 +94,5 @@ put-pieces-spec = tie.close (tie.spec Inv-loop μ-loop loop-holds (omega arith) 
     (λ c. record { fits = omega (arith, turn c .inside) }) (omega arith) (omega arith) (λ c. omega (arith, turn c .inside)) (omega arith)
     (λ c. let at-loop = c .before .before in
     let S = at-loop .before .before .before .before .before .before .before in
-    omega (arith, at-loop .loop .inv .1, at-loop .loop .inv .2, S .pre .1 .1 .1)) (omega arith) put-stretch-requires (omega arith) (omega arith) loop-again (omega arith) returns)
+    omega (arith, at-loop .loop .inv .1, at-loop .loop .inv .2, S .pre .1 .1 .1))
+    (omega arith) put-stretch-requires (omega arith) (omega arith) loop-again (omega arith) returns)

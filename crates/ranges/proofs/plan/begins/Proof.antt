@@ -4,4 +4,5 @@ use Rattle.ranges.proofs.plan.begins.Statement.{statement}
 use Rattle.ranges.proofs.plan.begins.Tie as tie
 
 pub begins-spec : {M : Type 1} → statement M
-begins-spec = tie.close (tie.spec (λ c. (rw (lt-ltb _ _ (c .if1 .taken)), omega arith)) (λ c. (rw (le-ltb _ _ (c .if1 .left)), omega arith)))
+begins-spec = tie.close (tie.spec
+    (λ c. (rw (lt-ltb _ _ (c .if1 .taken)), omega arith)) (λ c. (rw (le-ltb _ _ (c .if1 .left)), omega arith)))

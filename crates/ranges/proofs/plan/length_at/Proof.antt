@@ -5,5 +5,6 @@ use Rattle.ranges.proofs.plan.length_at.Tie as tie
 
 pub length-at-spec : {M : Type 1} → statement M
 length-at-spec = tie.close (tie.spec
-    (λ c. let none : c .before .args .n - c .before .args .at ≡ 0 = omega arith in rw (none, le-ltb (c .before .args .size) 0 (omega arith)))
+    (λ c. let a = c .before .args in
+    let none : a .n - a .at ≡ 0 = omega arith in rw (none, le-ltb (a .size) 0 (omega arith)))
     (omega arith) (λ c. rw (lt-ltb _ _ (c .if2 .taken))) (λ c. rw (le-ltb _ _ (c .if2 .left))))
