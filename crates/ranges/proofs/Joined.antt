@@ -1,7 +1,6 @@
 -- A piece written behind what came before it gives what the single call gives of both.
-use Rattle.block.proofs.Base.{_+_, _≤_, ℕ, _∙_, _≡_, List, [], _++_, arith, drop, length, take, length-take-le, take-add}
+use Rattle.block.proofs.Base.{_+_, _≤_, ℕ, _∙_, _≡_, List, _++_, drop, length, take, length-take-le, take-add}
 use Rattle.walk.specs.Walk.{chain, over}
-use Rattle.walk.proofs.Chain.{chain-rest}
 use Rattle.walk.proofs.Loop.{tailed, returned, over-behind}
 use Rattle.stream.specs.Stream.{streamMode}
 use Rattle.stream.specs.declared.Kind.the-variants.{Ctr as Ctr·kind}
@@ -9,10 +8,6 @@ use Rattle.stream.proofs.RoundTrip.{length-stream}
 use Rattle.pieces.proofs.CtrInPieces.{ctr-joined}
 use Rattle.ranges.specs.Range.{stretch}
 use Rattle.ranges.proofs.KeyStream.{stretch-of-whole}
-
--- before the first piece nothing is written
-pub nothing-yet : (rk iv d o : List ℕ) → o ≡ over (chain (streamMode Ctr·kind rk) iv (take 0 d)) o
-nothing-yet rk iv d o = rw (chain-rest (streamMode Ctr·kind rk) iv [] (omega arith))
 
 -- the text d up to `at`, and then the stretch of n bytes there
 pub joined : (rk iv d o o₁ t : List ℕ) (at n : ℕ) → at ≤ length d

@@ -1,8 +1,8 @@
 -- Ctr xors a text with key stream: the ciphers of its counters, as far as they are needed. So a range xors its stretch with that part.
-use Rattle.block.proofs.Base.{_*_, _+_, _≤_, suc, zero, ℕ, _∙_, _≡_, refl, sym, List, [], _++_, _∷_, arith, drop, length, length-append}
+use Rattle.block.proofs.Base.{_*_, _+_, _≤_, suc, zero, ℕ, _∙_, _≡_, refl, sym, List, [], _++_, _∷_, append-nil, arith, drop, drop-of-length-le, length, length-append}
 use Rattle.block.proofs.Base.{length-drop, length-replicate, replicate, take, take-append-drop, drop-at, length-take-le}
 use Rattle.block.specs.Xor.{xors}
-use Rattle.block.proofs.Xors.{xors-append}
+use Rattle.block.proofs.Xors.{xors-append, xors-comm}
 use Rattle.cipher.specs.Sm4.{encryptBlock}
 use Rattle.cipher.proofs.Blocks.{length-encryptBlock}
 use Rattle.counter.specs.Counter.{ctrNext}
@@ -11,7 +11,7 @@ use Rattle.walk.proofs.Chain.{chain-rest, chain-block}
 use Rattle.stream.specs.Stream.{streamMode}
 use Rattle.stream.specs.declared.Kind.the-variants.{Ctr as Ctr·kind}
 use Rattle.pieces.proofs.Cases.{by-order}
-use Rattle.pieces.proofs.Pads.{drop-xors}
+use Rattle.pieces.proofs.Pads.{drop-xors, xors-cut}
 use Rattle.ranges.specs.Range.{stretch}
 
 -- the ciphers of j counters from s on
@@ -26,9 +26,8 @@ length-pads rk (suc j) s = rw length-append (omega (arith, length-encryptBlock r
 
 -- what is past the text's end does not count
 xors-longer : (a p q : List ℕ) → length a ≤ length p → xors a (p ++ q) ≡ xors a p
-xors-longer [] p q h = refl
-xors-longer (x ∷ a) [] q h = absurd (omega arith)
-xors-longer (x ∷ a) (y ∷ p) q h = rw (xors-longer a p q (omega arith))
+xors-longer a p q h =
+    rw (xors-comm a (p ++ q), xors-cut p q a, drop-of-length-le a {i = length p} h, xors-comm q [], append-nil, xors-comm p a)
 
 module _ (rk : List ℕ) where
   pub chain-pads : (j : ℕ) (s d : List ℕ) → length d ≤ 16 * j → chain (streamMode Ctr·kind rk) s d ≡ xors d (pads rk j s)

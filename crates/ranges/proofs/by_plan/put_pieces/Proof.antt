@@ -1,14 +1,15 @@
 -- `ranges::by_plan::put_pieces` meets its contract. The loop's invariant: what stands in the output is what the single call gives of the
 -- text up to `at`, and the pieces to come follow one another from there to the text's end. The measure is how many are to come.
-use Rattle.block.proofs.Base.{_+_, _-_, _≤_, _∙_, _≡_, refl, sym, true, arith, needs, eqb-true, now, drop, getD, length}
+use Rattle.block.proofs.Base.{_+_, _-_, _≤_, _∙_, _≡_, refl, sym, true, [], arith, needs, eqb-true, now, drop, getD, length}
 use Rattle.block.proofs.Base.{length-drop, length-take, take, take-all}
 use Rattle.walk.specs.Walk.{chain, over}
+use Rattle.walk.proofs.Chain.{chain-rest}
 use Rattle.walk.proofs.Loop.{length-tailed}
 use Rattle.stream.specs.Stream.{streamMode}
 use Rattle.stream.specs.declared.Kind.the-variants.{Ctr}
 use Rattle.ranges.proofs.Accepted.{at-most-64, from-0-to-n}
 use Rattle.ranges.proofs.Following.{First, followsFrom, follows-on, ends}
-use Rattle.ranges.proofs.Joined.{joined, nothing-yet}
+use Rattle.ranges.proofs.Joined.{joined}
 use Rattle.ranges.proofs.by_plan.put_pieces.Statement.{statement}
 use Rattle.ranges.proofs.by_plan.put_pieces.Tie as tie
 
@@ -27,7 +28,8 @@ loop-holds : tie.Need-loop-holds Inv-loop μ-loop
 loop-holds c =
     let S = c .before .before .before .before .before .before in
     let yes = S .pre .1 .1 .0 in
-    (at-most-64 _ _ yes, omega arith, refl, from-0-to-n _ _ yes, nothing-yet _ _ (now (S .args .«data»)) _)
+    let nothing-yet = chain-rest (streamMode Ctr (S .args .rk)) (now (S .args .iv)) [] (omega arith) in
+    (at-most-64 _ _ yes, omega arith, refl, from-0-to-n _ _ yes, rw nothing-yet)
 
 sixty-four : (s : tie.Start Inv-loop μ-loop) → (length (s .args .plan .starts) ≡ 64) × (length (s .args .plan .lengths) ≡ 64)
 sixty-four s = (search needs, search needs)
