@@ -14,13 +14,6 @@ passed x = writing-passed _ _ _ _ _ _ (sym (x .before .before .writing .ensures)
 mask-length : (s : tie.Start) → length (s .args .self .mask) ≡ 16
 mask-length s = search needs
 
-xor-pad-requires : tie.Need-xor-pad-requires
-xor-pad-requires c κs =
-    let told = c .before .before .before .before .before in
-    let room = passed told .1 in
-    let n = mask-length (told .before .before .before .before) in
-    (omega arith, omega arith)
-
 returns-2 : tie.Need-returns-2
 unfolding sealEnd
 returns-2 c =
@@ -36,4 +29,8 @@ unfolding sealEnd
 end-spec = tie.close (tie.spec (search needs) (search needs) (search needs)
     (λ c. let told = c .before .before in rw (← told .before .before .writing .ensures, told .checked .given .1, c .refused .ensures))
     (search needs) (λ c κs. (mod-lt _ (lit< tt), both-hashable (passed (c .before .before) .0)))
-    (λ c. search needs) xor-pad-requires (search needs) (search needs) (search needs) (search needs) returns-2)
+    (λ c. search needs)
+    (λ c κs. let told = c .before .before .before .before .before in
+    let room = passed told .1 in
+    let n = mask-length (told .before .before .before .before) in (omega arith, omega arith))
+    (search needs) (search needs) (search needs) (search needs) returns-2)
