@@ -1,5 +1,6 @@
 -- What is known where the checks of a piece or of an end passed, and that a state that stands at 0 passes.
-use Rattle.block.proofs.Base.{_+_, _≤_, ℕ, _≡_, refl, Bool, cond, false, not, true, arith, eq-eqb, eqb-true, le-ltb, ltb-false, eqb, ltb}
+use Rattle.block.proofs.Base.{_+_, _≤_, ℕ, _≡_, refl, Bool, cond, false, not, true, arith, eq-eqb, eqb-true, le-ltb, ltb-false, eqb, ltb, w64, Fits}
+use Rattle.ghash.specs.Ghash.{Hashable}
 use Rattle.cipher_mode.specs.declared.KeyAnswer.{KeyAnswer}
 use Rattle.cipher_mode.specs.declared.CipherMode.the-variants.{Gcm}
 use Rattle.cipher_mode.specs.declared.Direction.{Direction}
@@ -15,6 +16,13 @@ pub record Runs (mark label total n : ℕ) : Type 0 where
   pub stands : mark ≡ 0
   pub labelled : label ≤ limit
   pub within : total + n ≤ limit
+
+-- so no sum wraps, and both lengths can be hashed
+pub sum-fits : {mark label total n : ℕ} → Runs mark label total n → Fits w64 (total + n)
+sum-fits r = record { fits = omega (arith, r .within) }
+
+pub both-hashable : {mark label total : ℕ} → Runs mark label total 0 → Hashable label × Hashable total
+both-hashable r = (omega (arith, r .labelled), omega (arith, r .within))
 
 -- an IV that Gcm takes, and a label within the limit
 pub record GcmStarts (iv label : ℕ) : Type 0 where

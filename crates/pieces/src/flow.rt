@@ -44,7 +44,7 @@ fn next_counter(counting: Counting, s: [u32; 4]) -> [u32; 4]
 }
 
 // The smaller one.
-fn least(a: usize, b: usize) -> usize
+pub(crate) fn least(a: usize, b: usize) -> usize
     ensures { λ r. ⌜ r ≡ min a b ⌝ }
 {
     if a < b { a } else { b }

@@ -1,14 +1,7 @@
 -- One more place of a plan, stored in the arrays and counted, and all 64.
-use Rattle.block.proofs.Base.{_+_, _-_, _<_, _≤_, suc, ℕ, _≡_, Bool, cond, false, true, List, _++_, append-assoc, append-nil, add-one}
-use Rattle.block.proofs.Base.{arith, ltb, length, set, take, take-all, take-suc-set}
+use Rattle.block.proofs.Base.{_+_, _-_, _<_, _≤_, suc, ℕ, _≡_, List, _++_, append-assoc, append-nil, add-one}
+use Rattle.block.proofs.Base.{arith, length, set, take, take-all, take-suc-set}
 use Rattle.ranges.specs.Plan.{begins, startAt, lengthAt, countFrom, startsFrom, lengthsFrom}
-
-one-or-none : (t : Bool) → cond t 1 0 ≤ 1
-one-or-none true = omega arith
-one-or-none false = omega arith
-
-pub at-most-one : (n at b : ℕ) → b ≡ begins n at → b ≤ 1
-at-most-one n at b e = rw e (one-or-none (ltb at n))
 
 -- place i of 64 is at byte `at`
 module _ (n size at i : ℕ) (h : i < 64) where

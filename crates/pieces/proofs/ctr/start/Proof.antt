@@ -9,15 +9,6 @@ use Rattle.pieces.proofs.KeyStream.{flow-start}
 use Rattle.pieces.proofs.ctr.start.Statement.{statement}
 use Rattle.pieces.proofs.ctr.start.Tie as tie
 
-returns : tie.Need-returns
-unfolding ctrStart
-returns c =
-    let at-refused = c .before .before in
-    let told = at-refused .before .before in
-    let at-check = told .before .before in
-    rw (← at-check .key-and-iv .ensures, told .checked .given .1, at-refused .refused .ensures, c .shut .ensures)
-    (rw (c .before .number .ensures, at-check .before .number-in .ensures))
-
 passed : (x : tie.After-enum-told) → length (now (x .before .before .before .before .before .args .iv)) ≡ 16
 passed x =
     sixteen _ (key-and-iv-passed _ _ _ _ _ (sym (x .before .before .key-and-iv .ensures) ∙ x .enum-told .given .1) .iv-size)
@@ -38,6 +29,10 @@ returns-2 c =
     (rw (← flow-start Ctr·counting (a .cipher .rk) iv, at-number .number-in .ensures))
 
 pub start-spec : {M : Type 1} → statement M
-start-spec = tie.close (tie.spec (search needs) (search needs) (search needs) (search needs) (search needs) (search needs) returns
+unfolding ctrStart
+start-spec = tie.close (tie.spec (search needs) (search needs) (search needs) (search needs) (search needs) (search needs)
+    (λ c. let told = c .before .before .before .before in
+    rw (← told .before .before .key-and-iv .ensures, told .checked .given .1, c .before .before .refused .ensures, c .shut .ensures)
+    (rw (c .before .number .ensures, told .before .before .before .number-in .ensures)))
     (search needs) (search needs) (search needs) (search needs) (λ c κs. search needs)
     (λ c κs. let n = passed (c .before .before .before .before .before) in omega arith) (λ c κs. search needs) (search needs) returns-2)

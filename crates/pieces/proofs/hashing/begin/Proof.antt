@@ -6,13 +6,10 @@ use Rattle.pieces.proofs.HashOn.{held-within}
 use Rattle.pieces.proofs.hashing.begin.Statement.{statement}
 use Rattle.pieces.proofs.hashing.begin.Tie as tie
 
-returns : tie.Need-returns
+pub begin-spec : {M : Type 1} → statement M
 unfolding hashOf filledUp
-returns c =
-    let at-label = c .before .before .before in
+begin-spec = tie.close (tie.spec (search needs) (search needs) (search needs) (search needs)
+    (λ c. let at-label = c .before .before .before in
     let new = at-label .before .new .ensures in
     rw (c .before .bytes-of .ensures, c .bytes-of2 .ensures, at-label .absorb-all .ensures .hash, new .0, new .1)
-    (held-within _ _ [] (omega arith) (length-bytesOf 16 _) (bytesOf-bytes 16 _))
-
-pub begin-spec : {M : Type 1} → statement M
-begin-spec = tie.close (tie.spec (search needs) (search needs) (search needs) (search needs) returns)
+    (held-within _ _ [] (omega arith) (length-bytesOf 16 _) (bytesOf-bytes 16 _))))

@@ -4,8 +4,6 @@ use Rattle.block.proofs.WordsBack.{unwords-number}
 use Rattle.pieces.proofs.hashing.bytes_of.Statement.{statement}
 use Rattle.pieces.proofs.hashing.bytes_of.Tie as tie
 
-returns : tie.Need-returns
-returns c = c .combine-block .ensures ∙ unwords-number _ _ (c .before .from-u128 .ensures)
-
 pub bytes-of-spec : {M : Type 1} → statement M
-bytes-of-spec = tie.close (tie.spec (λ c κs. search needs) (λ c κs. search needs) returns)
+bytes-of-spec = tie.close (tie.spec (λ c κs. search needs) (λ c κs. search needs)
+    (λ c. c .combine-block .ensures ∙ unwords-number _ _ (c .before .from-u128 .ensures)))

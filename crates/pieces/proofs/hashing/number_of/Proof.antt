@@ -4,10 +4,7 @@ use Rattle.block.proofs.Base.{needs}
 use Rattle.pieces.proofs.hashing.number_of.Statement.{statement}
 use Rattle.pieces.proofs.hashing.number_of.Tie as tie
 
-returns : tie.Need-returns
-returns c =
-    let b = c .before .before .before .args .t1 in
-    rw (c .to-u128 .ensures, c .before .split-block .ensures, spelt b (search needs, λ i. search needs))
-
 pub number-of-spec : {M : Type 1} → statement M
-number-of-spec = tie.close (tie.spec (search needs) (search needs) (search needs) returns)
+number-of-spec = tie.close (tie.spec (search needs) (search needs) (search needs)
+    (λ c. let b = c .before .before .before .args .t1 in
+    rw (c .to-u128 .ensures, c .before .split-block .ensures, spelt b (search needs, λ i. search needs))))

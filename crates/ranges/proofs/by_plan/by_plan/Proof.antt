@@ -15,20 +15,6 @@ passed : (x : tie.After-enum-told)
     reachCheck (a .cipher .answer) (a .cipher .retired) (a .direction) (length (now (a .iv))) (length (now (a .«data»))) ≡ Passed
 passed x = sym (rw zero-add at (x .before .before .reach .ensures)) ∙ x .enum-told .given .1
 
-returns-2 : tie.Need-returns-2
-unfolding planCall
-returns-2 c =
-    let told = c .before .before in
-    rw (passed told, ← c .before .accepts .ensures, c .if1 .taken, told .before .before .before .number-in .ensures)
-
-returns-3 : tie.Need-returns-3
-unfolding planCall
-returns-3 c =
-    let at-accepts = c .before .before in
-    let told = at-accepts .before in
-    rw (passed told, ← at-accepts .accepts .ensures, c .before .if1 .left, lt-ltb _ _ (c .if2 .taken))
-    (rw (told .before .before .before .number-in .ensures))
-
 pieces-by-requires : tie.Need-pieces-by-requires
 pieces-by-requires c κs =
     let at-room = c .before .before in
@@ -53,4 +39,10 @@ unfolding planCall
 by-plan-spec = tie.close (tie.spec (search needs) (search needs) (search needs)
     (λ c. let at-reach = c .before .before .before in rw (← (rw zero-add at (at-reach .reach .ensures)), c .before .checked .given .1)
     (rw (at-reach .before .number-in .ensures)))
-    (search needs) (search needs) returns-2 returns-3 pieces-by-requires (search needs) returns-4)
+    (search needs) (search needs)
+    (λ c. let told = c .before .before in rw (passed told, ← c .before .accepts .ensures, c .if1 .taken)
+    (rw (told .before .before .before .number-in .ensures)))
+    (λ c. let told = c .before .before .before in
+    rw (passed told, ← c .before .before .accepts .ensures, c .before .if1 .left, lt-ltb _ _ (c .if2 .taken))
+    (rw (told .before .before .before .number-in .ensures)))
+    pieces-by-requires (search needs) returns-4)

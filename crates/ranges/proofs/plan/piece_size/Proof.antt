@@ -5,11 +5,7 @@ use Rattle.ranges.specs.Plan.{pieceSize}
 use Rattle.ranges.proofs.plan.piece_size.Statement.{statement}
 use Rattle.ranges.proofs.plan.piece_size.Tie as tie
 
-mul-result : tie.Need-mul-result
-mul-result c =
-    let a = c .args in
-    record { fits = omega (arith, div-le-self (blocksOf (a .n) + (a .workers - 1)) (a .workers)) }
-
 pub piece-size-spec : {M : Type 1} → statement M
 unfolding pieceSize
-piece-size-spec = tie.close (tie.spec (search needs) (search needs) (search needs) (search needs) mul-result (λ c. refl))
+piece-size-spec = tie.close (tie.spec (search needs) (search needs) (search needs) (search needs)
+    (λ c. let a = c .args in record { fits = omega (arith, div-le-self (blocksOf (a .n) + (a .workers - 1)) (a .workers)) }) (λ c. refl))

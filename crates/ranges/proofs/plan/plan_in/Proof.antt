@@ -2,7 +2,7 @@
 -- plan. The measure is how many are to come.
 use Rattle.block.proofs.Base.{_*_, _+_, _-_, _≤_, _∙_, _≡_, refl, _++_, arith, needs, length, length-set, take}
 use Rattle.ranges.specs.Plan.{countFrom, startsFrom, lengthsFrom}
-use Rattle.ranges.proofs.Laying.{start-more, length-more, count-more, at-most-one, starts-done, lengths-done, count-done}
+use Rattle.ranges.proofs.Laying.{start-more, length-more, count-more, starts-done, lengths-done, count-done}
 use Rattle.ranges.proofs.plan.plan_in.Statement.{statement}
 use Rattle.ranges.proofs.plan.plan_in.Tie as tie
 
@@ -24,16 +24,15 @@ loop-again : tie.Need-loop-again Inv-loop μ-loop
 loop-again c =
     let l = c .before .before .before .before .loop in
     let a = c .before .before .before .before .before .args in
-    let one = at-most-one (a .n) (l .at) _ (c .begins .ensures) in
     let h : l .i + 1 ≤ 64 = omega arith in (
       omega arith,
-      omega (arith, one),
+      omega arith,
       omega arith,
       length-set (l .starts) (l .i) _ ∙ l .inv .3,
       length-set (l .lengths) (l .i) _ ∙ l .inv .4,
       start-more (a .n) (a .size) (l .at) (l .i) (omega arith) _ _ (c .before .before .start-at .ensures) (l .inv .3) ∙ l .inv .5,
       length-more (a .n) (a .size) (l .at) (l .i) (omega arith) _ _ (c .before .length-at .ensures) (l .inv .4) ∙ l .inv .6,
-      count-more (a .n) (a .size) (l .at) (l .i) (omega arith) _ _ (c .begins .ensures) ∙ l .inv .7,
+      count-more (a .n) (a .size) (l .at) (l .i) (omega arith) _ _ (c .begins .ensures .0) ∙ l .inv .7,
     )
 
 returns : tie.Need-returns Inv-loop μ-loop
@@ -48,5 +47,5 @@ pub plan-in-spec : {M : Type 1} → statement M
 plan-in-spec = tie.close (tie.spec Inv-loop μ-loop
     (λ c. (omega arith, omega arith, omega arith, search needs, search needs, refl, refl, omega arith)) (search needs) (omega arith)
     (omega arith) (search needs) (omega arith) (omega arith) (search needs)
-    (λ c. let l = c .before .before .before .before .loop in record { fits = omega (arith, at-most-one _ (l .at) _ (c .begins .ensures)) })
+    (λ c. record { fits = omega arith })
     (omega arith) (omega arith) (omega arith) loop-again returns)
