@@ -23,7 +23,7 @@ differ-none (suc x) = refl
 abbrev pub digit : ℕ → ℕ → ℕ
 digit d c = c / d % 2
 
-pub zero-or-one : (x : ℕ) → (x % 2 ≡ 0) ⊎ (x % 2 ≡ 1)
+zero-or-one : (x : ℕ) → (x % 2 ≡ 0) ⊎ (x % 2 ≡ 1)
 zero-or-one x = ⊎-elim (λ (h : x % 2 < 1). inl (omega arith)) (λ (h : 1 ≤ x % 2). inr (omega arith)) (lt-or-le (x % 2) 1)
 
 -- the mask has the bits whose digit d is 0
@@ -34,7 +34,7 @@ module _ (d m : ℕ) (hd : 0 < d) (hm : MaskOf d m) where
   below : (c : ℕ) → d ≤ c → c / d ≡ (c - d) / d + 1
   below c h = let e : c ≡ c - d + d = omega arith in ap (λ (x : ℕ). x / d) e ∙ add-div-right (c - d) hd
 
-  pub one-le : (c : ℕ) → digit d c ≡ 1 → d ≤ c
+  one-le : (c : ℕ) → digit d c ≡ 1 → d ≤ c
   one-le c h =
       ⊎-elim
       (λ (g : c < d). let f : c / d % 2 ≡ 0 = ap (λ (x : ℕ). x % 2) (div-eq-of-lt g) in absurd (omega arith))
@@ -53,11 +53,11 @@ module _ (d m : ℕ) (hd : 0 < d) (hm : MaskOf d m) where
     differing-1 : digit d c ≡ 1 → bit c (differing d m x y) ≡ 0
     differing-1 h = masked 0 (omega arith) ∙ omega arith
 
-    pub second-0 : digit d c ≡ 0 → bit c (secondSwapped d m x y) ≡ bit (d + c) x
+    second-0 : digit d c ≡ 0 → bit c (secondSwapped d m x y) ≡ bit (d + c) x
     unfolding secondSwapped
     second-0 h = bit-xor c y (differing d m x y) ∙ rw (differing-0 h) (differ-in _ _ (bit-small (d + c) x) (bit-small c y))
 
-    pub second-1 : digit d c ≡ 1 → bit c (secondSwapped d m x y) ≡ bit c y
+    second-1 : digit d c ≡ 1 → bit c (secondSwapped d m x y) ≡ bit c y
     unfolding secondSwapped
     second-1 h = bit-xor c y (differing d m x y) ∙ rw (differing-1 h) (differ-none (bit c y))
 
@@ -71,7 +71,7 @@ module _ (d m : ℕ) (hd : 0 < d) (hm : MaskOf d m) where
       bit-mod 64 c (t * 2 ^ d) hc ∙ ap₂ bit e (sym (add-zero (t * 2 ^ d))) ∙ bit-high d (c - d) t 0 (pow-pos d)
 
   module _ (x y c : ℕ) (hc : c < 64) where
-    pub first-0 : digit d c ≡ 0 → bit c (firstSwapped d m x y) ≡ bit c x
+    first-0 : digit d c ≡ 0 → bit c (firstSwapped d m x y) ≡ bit c x
     unfolding firstSwapped
     first-0 h =
         let t = differing d m x y in
@@ -80,7 +80,7 @@ module _ (d m : ℕ) (hd : 0 < d) (hm : MaskOf d m) where
         (λ (g : d ≤ c). let b = below c g in shl-high t c hc g ∙ differing-1 x y (c - d) (omega arith) (omega arith)) (lt-or-le c d) in
         bit-xor c x (t * 2 ^ d % 2 ^ 64) ∙ rw z (differ-none (bit c x))
 
-    pub first-1 : digit d c ≡ 1 → bit c (firstSwapped d m x y) ≡ bit (c - d) y
+    first-1 : digit d c ≡ 1 → bit c (firstSwapped d m x y) ≡ bit (c - d) y
     unfolding firstSwapped
     first-1 h =
         let g = one-le c h in
@@ -93,3 +93,32 @@ module _ (d m : ℕ) (hd : 0 < d) (hm : MaskOf d m) where
 -- r with the digit d of c
 abbrev pub dig : ℕ → ℕ → ℕ → ℕ
 dig d r c = r - d * digit d r + d * digit d c
+
+-- of the first n words f, those whose numbers differ in digit d alone change bits under the mask m; g are the words then
+pub record Step (d m n : ℕ) (f g : ℕ → ℕ) : Type 0 where
+  pub upper : (r : ℕ) → r < n → digit d r ≡ 0 → g r ≡ firstSwapped d m (f r) (f (r + d))
+  pub lower : (r : ℕ) → r < n → digit d r ≡ 1 → g r ≡ secondSwapped d m (f (r - d)) (f r)
+
+module _ (d m n : ℕ) (hd : 0 < d) (hm : MaskOf d m) (f g : ℕ → ℕ) (S : Step d m n f g) (r c : ℕ) (hr : r < n) (hc : c < 64) where
+  -- x and y are the digits of r and c
+  digits-are : (x y u v : ℕ) → digit d r ≡ x → digit d c ≡ y → r - d * x + d * y ≡ u → c - d * y + d * x ≡ v
+      → bit v (f u) ≡ bit (dig d c r) (f (dig d r c))
+  digits-are x y u v p q h k = rw (p, q, h, k)
+
+  pub swapped : bit c (g r) ≡ bit (dig d c r) (f (dig d r c))
+  swapped =
+      ⊎-elim
+      (λ (p : digit d r ≡ 0).
+      ap (bit c) (S .upper r hr p)
+      ∙ ⊎-elim (λ (q : digit d c ≡ 0). first-0 d m hd hm _ _ c hc q ∙ digits-are 0 0 r c p q (omega arith) (omega arith))
+      (λ (q : digit d c ≡ 1).
+      let l = one-le d m hd hm c q in
+      first-1 d m hd hm _ _ c hc q ∙ digits-are 0 1 (r + d) (c - d) p q (omega arith) (omega arith)) (zero-or-one (c / d)))
+      (λ (p : digit d r ≡ 1).
+      let k = one-le d m hd hm r p in
+      ap (bit c) (S .lower r hr p)
+      ∙ ⊎-elim (λ (q : digit d c ≡ 0). second-0 d m hd hm _ _ c hc q ∙ digits-are 1 0 (r - d) (d + c) p q (omega arith) (omega arith))
+      (λ (q : digit d c ≡ 1).
+      let l = one-le d m hd hm c q in
+      second-1 d m hd hm _ _ c hc q ∙ digits-are 1 1 r c p q (omega arith) (omega arith)) (zero-or-one (c / d)))
+      (zero-or-one (r / d))

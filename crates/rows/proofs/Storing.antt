@@ -12,14 +12,11 @@ use Rattle.block.proofs.Convert.{length-bytesOf, bytesOf-append, bytesOf-xor}
 use Rattle.block.proofs.Entries.{below-at}
 use Rattle.block.proofs.WordsBack.{unwords-front}
 use Rattle.block.proofs.Xors.{length-xors, xors-append}
+use Rattle.lanes.proofs.Filling.{puts}
 use Rattle.rows.specs.Rows.{place, Row, Rows, xoredBlocks}
 
 -- stores at p + k, p + k + 1 and so on, as the code writes them
-abbrev storesFrom : List ℕ → ℕ → ℕ → List ℕ → List ℕ
-storesFrom s p k [] = s
-storesFrom s p k (v ∷ vs) = storesFrom (set s (p + k) v) p (k + 1) vs
-
-stores-sets : (vs s : List ℕ) (p k : ℕ) → storesFrom s p k vs ≡ sets s (p + k) vs
+stores-sets : (vs s : List ℕ) (p k : ℕ) → puts 1 s p k vs ≡ sets s (p + k) vs
 stores-sets [] s p k = refl
 stores-sets (v ∷ vs) s p k =
     let e : p + (k + 1) ≡ suc (p + k) = omega arith in
@@ -35,7 +32,7 @@ unfolding bytesOf
 eight-bytes x = simp div-one
 
 pub half-stored : (o : List ℕ) (p x : ℕ) → p + 8 ≤ length o
-    → storesFrom (set o p (x / 2 ^ 56 % 256)) p 1 (bytesBehind x) ≡ take p o ++ (bytesOf 8 x ++ drop (p + 8) o)
+    → puts 1 (set o p (x / 2 ^ 56 % 256)) p 1 (bytesBehind x) ≡ take p o ++ (bytesOf 8 x ++ drop (p + 8) o)
 half-stored o p x h =
     let v = x / 2 ^ 56 % 256 ∷ bytesBehind x in
     (rw (add-zero p) at (stores-sets v o p 0))
