@@ -38,16 +38,11 @@ module _ (t : ℕ) where
       puts-out vs (set s (p + k) v) p (k + t) q (λ i e. h (suc i) (omega arith))
       ∙ getD-set-other s (p + k) q v 0 (λ e. h 0 (omega arith))
 
-  pub puts-in : (vs s : List ℕ) (p k i : ℕ) → 0 < t → i < length vs → p + k + t * length vs < length s + t
-      → getD (puts t s p k vs) (p + k + t * i) 0 ≡ getD vs i 0
-  puts-in [] s p k i ht h g = absurd (omega arith)
-  puts-in (v ∷ vs) s p k zero ht h g =
-      let e : p + k + t * 0 ≡ p + k = omega arith in
-      ap (λ (q : ℕ). getD (puts t (set s (p + k) v) p (k + t) vs) q 0) e
-      ∙ puts-out vs (set s (p + k) v) p (k + t) (p + k) (λ i e. omega arith)
-      ∙ getD-set-same s (p + k) v 0 (omega arith)
-  puts-in (v ∷ vs) s p k (suc i) ht h g =
-      let e : p + k + t * suc i ≡ p + (k + t) + t * i = omega arith in
-      let l = length-set s (p + k) v in
-      ap (λ (q : ℕ). getD (puts t (set s (p + k) v) p (k + t) vs) q 0) e
-      ∙ puts-in vs (set s (p + k) v) p (k + t) i ht (omega arith) (omega arith)
+  pub puts-in : (vs s : List ℕ) (p k i q : ℕ) → q ≡ p + k + t * i → 0 < t → i < length vs → p + k + t * length vs < length s + t
+      → getD (puts t s p k vs) q 0 ≡ getD vs i 0
+  puts-in [] s p k i q e ht h g = absurd (omega arith)
+  puts-in (v ∷ vs) s p k zero q e ht h g =
+      let f : q ≡ p + k = omega arith in
+      rw f (puts-out vs (set s (p + k) v) p (k + t) (p + k) (λ i e. omega arith) ∙ getD-set-same s (p + k) v 0 (omega arith))
+  puts-in (v ∷ vs) s p k (suc i) q e ht h g =
+      let l = length-set s (p + k) v in puts-in vs (set s (p + k) v) p (k + t) i q (omega arith) ht (omega arith) (omega arith)

@@ -15,8 +15,7 @@ module _ (f : ℕ → List ℕ) (i : ℕ) (w x : List ℕ) (hi : i < 64) (lx : l
 
   -- a word at its place, and at another
   here : (r : ℕ) → r < 4 → getD y (r * 64 + i) 0 ≡ getD w r 0
-  here r h =
-      let p : r * 64 + i ≡ i + 0 + 64 * r = omega arith in rw p (puts-in 64 w x i 0 r (lit< tt) (omega arith) (omega arith))
+  here r h = puts-in 64 w x i 0 r (r * 64 + i) (omega arith) (lit< tt) (omega arith) (omega arith)
 
   other : (j r : ℕ) → j < i → getD y (r * 64 + j) 0 ≡ getD x (r * 64 + j) 0
   other j r h = puts-out 64 w x i 0 (r * 64 + j) (λ k q. omega arith)

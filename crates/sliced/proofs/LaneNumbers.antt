@@ -1,9 +1,9 @@
 -- The plane of lane numbers: six rows that are the same in every column, three that are all ones or zero, and zeros.
 use Rattle.block.proofs.Base.{_%_, _*_, _+_, _-_, _/_, _<_, _^_, _≤_, ℕ, _∙_, _≡_, ap, ap₂, sym, ⊎-elim, List, [], _∷_, arith, eqb, eqb→eq}
 use Rattle.block.proofs.Base.{getD, length, length-set, replicate, set, getD-set-other}
-use Rattle.block.proofs.Table.{rule-at}
 use Rattle.lanes.specs.Bits.{bit}
 use Rattle.lanes.proofs.Bits.{bit-zero, bit-low, bit-high, bit-past, lt-or-le}
+use Rattle.lanes.proofs.Stages.{same-at}
 use Rattle.rows.specs.Rows.{place}
 use Rattle.sliced.specs.Lanes.{lane, Held}
 use Rattle.sliced.specs.Counting.{numberAt, Clear}
@@ -16,14 +16,7 @@ patterns =
 
 pattern-bit : (q k : ℕ) → q < 6 → k < 64 → bit k (getD patterns q 0) ≡ bit q k
 unfolding bit
-pattern-bit q k hq hk =
-    let i = 64 * q + k in
-    let a : i / 64 ≡ q = omega arith in
-    let b : i % 64 ≡ k = omega arith in
-    let t : bit (i % 64) (getD patterns (i / 64) 0) ≡ bit (i / 64) (i % 64) =
-    eqb→eq _ _
-    (rule-at (λ i x. eqb (bit (i % 64) (getD patterns (i / 64) 0)) (bit (i / 64) (i % 64))) (replicate 384 0) tt i (omega arith)) in
-    rw (a, b) at t
+pattern-bit = same-at 6 (λ q k. bit k (getD patterns q 0)) bit tt
 
 in-parts : (p k : ℕ) → p % 8 * 2 ^ 6 + k ≡ numberAt (8 * k + p % 8)
 in-parts p k = omega arith

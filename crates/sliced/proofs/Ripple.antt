@@ -5,8 +5,8 @@ use Rattle.block.proofs.Base.{getD-set-same}
 use Rattle.block.specs.Xor.{_⊕_}
 use Rattle.lanes.specs.Bits.{bit, pack}
 use Rattle.block.proofs.Xor.{two-cases}
-use Rattle.lanes.proofs.Bits.{bit-small, bit-xor, bit-and, pack-is}
-use Rattle.lanes.proofs.Filling.{word-more}
+use Rattle.lanes.proofs.Bits.{bit-small, bit-xor, bit-and, pack-is, pack-below}
+use Rattle.lanes.proofs.Filling.{each8, word-more}
 use Rattle.sliced.specs.Lanes.{lane}
 use Rattle.sliced.specs.Counting.{carryAt, WordAdded, RowAdded, Added}
 
@@ -41,15 +41,8 @@ pub eight-words : (x : List ℕ) (p q : ℕ) → q < 8
     → getD (getD x p 0 ∷ getD x (p + 1) 0 ∷ getD x (p + 2) 0 ∷ getD x (p + 3) 0
     ∷ getD x (p + 4) 0 ∷ getD x (p + 5) 0 ∷ getD x (p + 6) 0 ∷ getD x (p + 7) 0 ∷ []) q 0
     ≡ getD x (p + q) 0
-eight-words x p zero h = ap (λ (z : ℕ). getD x z 0) (sym (add-zero p))
-eight-words x p (suc zero) h = refl
-eight-words x p (suc (suc zero)) h = refl
-eight-words x p (suc (suc (suc zero))) h = refl
-eight-words x p (suc (suc (suc (suc zero)))) h = refl
-eight-words x p (suc (suc (suc (suc (suc zero))))) h = refl
-eight-words x p (suc (suc (suc (suc (suc (suc zero)))))) h = refl
-eight-words x p (suc (suc (suc (suc (suc (suc (suc zero))))))) h = refl
-eight-words x p (suc (suc (suc (suc (suc (suc (suc (suc q)))))))) h = absurd (omega arith)
+eight-words x p =
+    each8 _ (ap (λ (z : ℕ). getD x z 0) (sym (add-zero p))) refl refl refl refl refl refl refl
 
 -- a row of which j words are added
 pub added-first : (m i : ℕ) (a x y : List ℕ) → length x ≡ 256 → length y ≡ 8 → RowAdded m i 0 a x y x y
@@ -72,7 +65,7 @@ added-next m i j c a x₀ y₀ x y x′ hj W R =
       same-y = λ q h. getD-set-other y j q c 0 (λ e. omega arith) ∙ R .same-y q (omega arith);
     }
 
--- the number of one bit more, and of bits that are the same
+-- the number of one bit more
 pack-next : (k : ℕ) (f : ℕ → ℕ) → pack (suc k) f ≡ pack k f + 2 ^ k * f k
 unfolding pack
 pack-next zero f = omega arith
@@ -82,12 +75,6 @@ pack-next (suc k) f =
     rw pow-suc (mul-assoc (2 ^ k) 2 (f (suc k)) ∙ ap (λ (z : ℕ). 2 ^ k * z) (mul-comm 2 (f (suc k))) ∙ sym (mul-assoc (2 ^ k) (f (suc k)) 2)) in
     let h = pack-next k (λ i. f (suc i)) in
     ap (λ (z : ℕ). z * 2 + f 0) h ∙ omega arith
-
-pack-below : (k : ℕ) (f g : ℕ → ℕ) → ((i : ℕ) → i < k → f i ≡ g i) → pack k f ≡ pack k g
-unfolding pack
-pack-below zero f g h = refl
-pack-below (suc k) f g h =
-    ap₂ (λ (x y : ℕ). x * 2 + y) (pack-below k (λ i. f (suc i)) (λ i. g (suc i)) (λ i l. h (suc i) (omega arith))) (h 0 (omega arith))
 
 -- the low i bits of lane e
 pub low : List ℕ → ℕ → ℕ → ℕ

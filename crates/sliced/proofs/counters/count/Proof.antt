@@ -5,7 +5,7 @@ use Rattle.block.specs.Below.{AreWords}
 use Rattle.block.proofs.Entries.{below-each}
 use Rattle.lanes.proofs.Masks.{blank-room}
 use Rattle.sliced.specs.Counting.{numberAt, carryAt}
-use Rattle.sliced.proofs.CounterDigits.{added-number, added-carry, lanes-count, in-words}
+use Rattle.sliced.proofs.CounterDigits.{added-number, added-carry, lanes-counted}
 use Rattle.sliced.proofs.counters.count.Statement.{statement}
 use Rattle.sliced.proofs.counters.count.Tie as tie
 
@@ -40,13 +40,12 @@ count-spec =
     let fits : (i : ℕ) → Fits w32 (getD x i 0) = λ i. search (needs, S .good .1 .0) in
     let small : AreWords x = below-each (2 ^ 32) x (λ i. fits i .fits) in (
       λ e he.
-          in-words _ _ _ _ _ e
-          (lanes-count (a .wide) x (W0 .last .0) (W1 .last .0) (W2 .last .0) (W3 .last .0) (W3 .result) (K .result)
-          (numberAt e) e small (K .ensures) (carryAt (W0 .result) e) (carryAt (W1 .result) e) (carryAt (W2 .result) e)
+          lanes-counted x (W0 .last .0) (W1 .last .0) (W2 .last .0) (W3 .last .0) (W3 .result) (K .result)
+          (numberAt e) e (carryAt (W0 .result) e) (carryAt (W1 .result) e) (carryAt (W2 .result) e) small
           (added-number (getD x 3 0) (N .last .0) (replicate 8 0) (W3 .last .0) (W3 .result) (numberAt e) e (W3 .ensures .0) he
           (N .ensures .0 e he) (blank-room 8))
           (added-carry (getD x 2 0) (a .x2 .now) (K .result) (W2 .last .0) (W2 .result) e (W2 .ensures .0) he (S .pre .2 .1))
           (added-carry (getD x 1 0) (a .x1 .now) (W2 .result) (W1 .last .0) (W1 .result) e (W1 .ensures .0) he (S .pre .1 .1))
-          (added-carry (getD x 0 0) (a .x0 .now) (W1 .result) (W0 .last .0) (W0 .result) e (W0 .ensures .0) he (S .pre .0 .1))),
+          (added-carry (getD x 0 0) (a .x0 .now) (W1 .result) (W0 .last .0) (W0 .result) e (W0 .ensures .0) he (S .pre .0 .1)) (a .wide) (K .ensures),
       (W0 .ensures .1, W1 .ensures .1, W2 .ensures .1, W3 .ensures .1),
     )))
