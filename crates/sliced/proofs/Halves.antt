@@ -1,11 +1,11 @@
 -- Transposed halves of blocks are lanes, and lanes transposed are halves of blocks.
-use Rattle.block.proofs.Base.{_%_, _*_, _+_, _/_, _<_, _^_, _≤_, ℕ, _∙_, _≡_, ap, ap₂, refl, subst, sym, List, _∷_, mod-lt, arith, lit<}
+use Rattle.block.proofs.Base.{_%_, _*_, _+_, _/_, _<_, _^_, _≤_, ℕ, _∙_, _≡_, ap, ap₂, refl, subst, sym, List, [], _∷_, add-zero, mod-lt, arith, lit<}
 use Rattle.block.proofs.Base.{getD, length, length-set, set, pow-pos, getD-set-other, getD-set-same}
 use Rattle.block.proofs.Entries.{below-at}
 use Rattle.block.proofs.WordsBack.{four-entries}
 use Rattle.lanes.specs.Bits.{bit}
 use Rattle.lanes.proofs.Bits.{bit-shr, mod-is}
-use Rattle.lanes.proofs.Filling.{one-more, word-more}
+use Rattle.lanes.proofs.Filling.{one-more, puts, puts-in, puts-out, word-more}
 use Rattle.cipher.specs.Sm4.{rounds, turned, encryptWords}
 use Rattle.rows.specs.Rows.{place, Row, Rows}
 use Rattle.rows.specs.Transposed.{at, Turned}
@@ -22,21 +22,14 @@ parted-next a upper lower i h hu hl P = record {
 pub joined-next : (a upper lower : List ℕ) (i : ℕ) → i < 256 → length a ≡ 512 → Parted i a upper lower
     → Parted (i + 1) (set (set a i (getD lower i 0)) (i + 256) (getD upper i 0)) upper lower
 joined-next a upper lower i h ha P =
-    let x = getD lower i 0 in
-    let y = getD upper i 0 in
-    let b = set a i x in
-    let n = length-set a i x in
-    record {
-      up = one-more _ i (getD-set-same b (i + 256) y 0 (omega arith))
-          (λ m g. getD-set-other b (i + 256) (m + 256) y 0 (λ q. omega arith)
-          ∙ getD-set-other a i (m + 256) x 0 (λ q. omega arith)
-          ∙ P .up m g);
-      low = one-more _ i
-          (getD-set-other b (i + 256) i y 0 (λ q. omega arith) ∙ getD-set-same a i x 0 (omega arith))
-          (λ m g. getD-set-other b (i + 256) m y 0 (λ q. omega arith)
-          ∙ getD-set-other a i m x 0 (λ q. omega arith)
-          ∙ P .low m g);
-    }
+    let v = getD lower i 0 ∷ getD upper i 0 ∷ [] in
+    let J : Parted (i + 1) (puts 256 a i 0 v) upper lower = record {
+      up = one-more _ i (puts-in 256 v a i 0 1 (i + 256) (omega arith) (lit< tt) (lit< tt) (omega arith))
+          (λ m g. puts-out 256 v a i 0 (m + 256) (λ k q. omega arith) ∙ P .up m g);
+      low = one-more _ i (puts-in 256 v a i 0 0 i (omega arith) (lit< tt) (lit< tt) (omega arith))
+          (λ m g. puts-out 256 v a i 0 m (λ k q. omega arith) ∙ P .low m g);
+    } in
+    rw add-zero at J
 
 -- what is transposed is transposed back
 pub turned-back : (a₀ a : List ℕ) → Turned a₀ a → Turned a a₀

@@ -4,19 +4,15 @@ use Rattle.block.proofs.Base.{mul-assoc, mul-comm, pow-suc, add-one, arith, bit
 use Rattle.block.proofs.Base.{getD-set-same}
 use Rattle.block.specs.Xor.{_⊕_}
 use Rattle.lanes.specs.Bits.{bit, pack}
-use Rattle.block.proofs.Xor.{two-cases}
-use Rattle.lanes.proofs.Bits.{bit-small, bit-xor, bit-and, pack-is, pack-below}
+use Rattle.lanes.proofs.Bits.{bit-small, bit-xor, bit-and, three-bits, pack-is, pack-below}
 use Rattle.lanes.proofs.Filling.{each8, word-more}
 use Rattle.sliced.specs.Lanes.{lane}
 use Rattle.sliced.specs.Counting.{carryAt, WordAdded, RowAdded, Added}
 
 -- three bits: their sum and its carry
 adder : (a b d : ℕ) → a < 2 → b < 2 → d < 2 → differ (differ a b) d + 2 * differ (min a b) (min (differ a b) d) ≡ d + a + b
-adder a b d ha hb hd =
-    let P : ℕ → ℕ → ℕ → Type 0 = λ a b d. differ (differ a b) d + 2 * differ (min a b) (min (differ a b) d) ≡ d + a + b in
-    let third : (a b : ℕ) → P a b 0 → P a b 1 → P a b d = λ a b p q. two-cases (P a b) p q d hd in
-    two-cases (λ a. P a b d) (two-cases (λ b. P 0 b d) (third 0 0 refl refl) (third 0 1 refl refl) b hb)
-    (two-cases (λ b. P 1 b d) (third 1 0 refl refl) (third 1 1 refl refl) b hb) a ha
+adder =
+    three-bits (λ a b d. differ (differ a b) d + 2 * differ (min a b) (min (differ a b) d) ≡ d + a + b) refl refl refl refl refl refl refl refl
 
 -- the same in every bit of three words
 word-adder : (k a b m : ℕ) → bit k (a ⊕ b ⊕ m) + 2 * bit k (bitAnd a b ⊕ bitAnd (a ⊕ b) m) ≡ bit k m + bit k a + bit k b
@@ -49,10 +45,9 @@ pub added-first : (m i : ℕ) (a x y : List ℕ) → length x ≡ 256 → length
 added-first m i a x y hx hy =
     record { size-x = hx; size-y = hy; sum = λ q k hq. absurd (omega arith); same-x = λ p h. refl; same-y = λ q h. refl }
 
-pub added-next : (m i j c : ℕ) (a x₀ y₀ x y x′ : List ℕ) → j < 8 → WordAdded (8 * i + j) (getD a j 0) (getD y j 0) m x x′ c
-    → RowAdded m i j a x₀ y₀ x y → RowAdded m i (j + 1) a x₀ y₀ x′ (set y j c)
-added-next m i j c a x₀ y₀ x y x′ hj W R =
-    let p = 8 * i + j in
+pub added-next : (m i : ℕ) (a x₀ y₀ : List ℕ) (j : ℕ) {c : ℕ} {x y x′ : List ℕ} → j < 8
+    → WordAdded (8 * i + j) (getD a j 0) (getD y j 0) m x x′ c → RowAdded m i j a x₀ y₀ x y → RowAdded m i (j + 1) a x₀ y₀ x′ (set y j c)
+added-next m i a x₀ y₀ j {c} {x} {y} {x′} hj W R =
     let ly = R .size-y in
     record {
       size-x = W .size;
@@ -66,23 +61,17 @@ added-next m i j c a x₀ y₀ x y x′ hj W R =
     }
 
 -- the number of one bit more
-pack-next : (k : ℕ) (f : ℕ → ℕ) → pack (suc k) f ≡ pack k f + 2 ^ k * f k
+pack-suc : (k : ℕ) (f : ℕ → ℕ) → pack (suc k) f ≡ pack k f + 2 ^ k * f k
 unfolding pack
-pack-next zero f = omega arith
-pack-next (suc k) f =
-    let t = 2 ^ k * f (suc k) in
-    let e : 2 ^ suc k * f (suc k) ≡ t * 2 =
-    rw pow-suc (mul-assoc (2 ^ k) 2 (f (suc k)) ∙ ap (λ (z : ℕ). 2 ^ k * z) (mul-comm 2 (f (suc k))) ∙ sym (mul-assoc (2 ^ k) (f (suc k)) 2)) in
-    let h = pack-next k (λ i. f (suc i)) in
-    ap (λ (z : ℕ). z * 2 + f 0) h ∙ omega arith
+pack-suc zero f = omega arith
+pack-suc (suc k) f = ap (λ (z : ℕ). z * 2 + f 0) (pack-suc k (λ i. f (suc i))) ∙ rw (pow-suc 2 k) (omega arith)
+
+pack-next : (k : ℕ) (f : ℕ → ℕ) → pack (k + 1) f ≡ pack k f + 2 ^ k * f k
+pack-next k f = rw (add-one k) (pack-suc k f)
 
 -- the low i bits of lane e
 pub low : List ℕ → ℕ → ℕ → ℕ
 low x e i = pack i (λ k. bit (e / 8) (getD x (8 * k + e % 8) 0))
-
-low-next : (x : List ℕ) (e i : ℕ) → low x e (i + 1) ≡ low x e i + 2 ^ i * bit (e / 8) (getD x (8 * i + e % 8) 0)
-unfolding low
-low-next x e i = ap (λ (k : ℕ). low x e k) (add-one i) ∙ pack-next i (λ k. bit (e / 8) (getD x (8 * k + e % 8) 0))
 
 -- one row more, over any weight of its bits
 ripple : (B C P Q A y₀ y z d a s : ℕ) → C ≡ B * 2 → P + B * y ≡ Q + A + y₀ → s + 2 * z ≡ d + a + y
@@ -114,10 +103,8 @@ rippled-next w i m a x₀ y₀ x y x′ y′ hm ha P R =
           ap (bit (e / 8)) (ha (e % 8) (omega arith) ∙ P .rest p (omega arith)) in
           let row : bit (e / 8) (getD x′ p 0) + 2 * carryAt y′ e ≡ bit i w + bit (e / 8) (getD x₀ p 0) + carryAt y e =
           R .sum (e % 8) (e / 8) (omega arith) ∙ ap₂ (λ (u v : ℕ). u + v + carryAt y e) (hm (e / 8) (omega arith)) was in
-          let words : pack (i + 1) (λ k. bit k w) ≡ pack i (λ k. bit k w) + 2 ^ i * bit i w =
-          ap (λ (k : ℕ). pack k (λ j. bit j w)) (add-one i) ∙ pack-next i (λ k. bit k w) in
-          let double : 2 ^ (i + 1) ≡ 2 ^ i * 2 = ap (λ (k : ℕ). 2 ^ k) (add-one i) ∙ pow-suc 2 i in
-          rw (low-next x′ e i, low-next x₀ e i, words, kept)
+          let double : 2 ^ (i + 1) ≡ 2 ^ i * 2 = rw (add-one i) (pow-suc 2 i) in
+          rw (pack-next i (f x′), pack-next i (f x₀), pack-next i (λ k. bit k w), kept)
           (ripple (2 ^ i) (2 ^ (i + 1)) (low x e i) (pack i (λ k. bit k w)) (low x₀ e i) (carryAt y₀ e) (carryAt y e) (carryAt y′ e)
           (bit i w) (bit (e / 8) (getD x₀ p 0)) (bit (e / 8) (getD x′ p 0)) double (P .sum e he) row);
       rest = λ p h. R .same-x p (λ q g e. omega arith) ∙ P .rest p (omega arith);
