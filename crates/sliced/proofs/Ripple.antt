@@ -45,9 +45,9 @@ pub added-first : (m i : ℕ) (a x y : List ℕ) → length x ≡ 256 → length
 added-first m i a x y hx hy =
     record { size-x = hx; size-y = hy; sum = λ q k hq. absurd (omega arith); same-x = λ p h. refl; same-y = λ q h. refl }
 
-pub added-next : (m i : ℕ) (a x₀ y₀ : List ℕ) (j : ℕ) {c : ℕ} {x y x′ : List ℕ} → j < 8
+pub added-next : (m i : ℕ) (a x₀ y₀ : List ℕ) (j c : ℕ) (x y x′ : List ℕ) → j < 8
     → WordAdded (8 * i + j) (getD a j 0) (getD y j 0) m x x′ c → RowAdded m i j a x₀ y₀ x y → RowAdded m i (j + 1) a x₀ y₀ x′ (set y j c)
-added-next m i a x₀ y₀ j {c} {x} {y} {x′} hj W R =
+added-next m i a x₀ y₀ j c x y x′ hj W R =
     let ly = R .size-y in
     record {
       size-x = W .size;

@@ -29,8 +29,8 @@ add-row-spec =
     let S = at1 .before .before .before in
     let g = S .args in
     let next = added-next (g .m) (g .i) (g .t2) (g .x .now) (g .y .now) in
-    next 7 (omega arith) (c .add-at8 .ensures) (next 6 (omega arith) (at7 .add-at7 .ensures)
-    (next 5 (omega arith) (at6 .add-at6 .ensures) (next 4 (omega arith) (at5 .add-at5 .ensures)
-    (next 3 (omega arith) (at4 .add-at4 .ensures) (next 2 (omega arith) (at3 .add-at3 .ensures)
-    (next 1 (omega arith) (at2 .add-at2 .ensures) (next 0 (omega arith) (rw (add-zero (8 * g .i)) (at1 .add-at .ensures))
+    next 7 _ _ _ _ (omega arith) (c .add-at8 .ensures) (next 6 _ _ _ _ (omega arith) (at7 .add-at7 .ensures)
+    (next 5 _ _ _ _ (omega arith) (at6 .add-at6 .ensures) (next 4 _ _ _ _ (omega arith) (at5 .add-at5 .ensures)
+    (next 3 _ _ _ _ (omega arith) (at4 .add-at4 .ensures) (next 2 _ _ _ _ (omega arith) (at3 .add-at3 .ensures)
+    (next 1 _ _ _ _ (omega arith) (at2 .add-at2 .ensures) (next 0 _ _ _ _ (omega arith) (rw (add-zero (8 * g .i)) (at1 .add-at .ensures))
     (added-first (g .m) (g .i) (g .t2) (g .x .now) (g .y .now) (S .pre .1) (S .pre .2)))))))))))
