@@ -7,6 +7,7 @@ use Rattle.block.proofs.Base.{lt-of-lt-of-le, lt-suc-self, lt-trans, mod-eq-of-
 use Rattle.block.proofs.Base.{one-mul, pow-le-pow-right, suc-add, zero-add, zero-div, zero-mod, zero-mul, add-one, one-add, arith}
 use Rattle.block.proofs.Base.{digits-div, digits-mod, and-block, and-mask, and-zero-r, bitAnd, shifted-even, xor-block, lit<, mod-mod-pow}
 use Rattle.block.proofs.Base.{pow-pos, split}
+use lib.Bits.{xor-add-and, xor-mod}
 use Rattle.block.specs.Xor.{_⊕_}
 use Rattle.block.proofs.Xor.{bit-lt}
 use Rattle.block.proofs.Bit.{bit-cases}
@@ -15,21 +16,18 @@ use Rattle.carryless.proofs.Laws.{clmul-split, clmul-mod, zero-clmul, o
 
 -- the digits of a sum where nothing is carried
 module _ (B u v : ℕ) (h : u % B + v % B < B) where
-  sum-split : u + v ≡ (u / B + v / B) * B + (u % B + v % B)
-  sum-split =
+  sum-div : (u + v) / B ≡ u / B + v / B
+  sum-div =
       let a = div-add-mod' u B in
       let b = div-add-mod' v B in
-      let c = add-mul (u / B) (v / B) B in
-      omega arith
-
-  sum-div : (u + v) / B ≡ u / B + v / B
-  sum-div = ap (λ (x : ℕ). x / B) sum-split ∙ digits-div (u / B + v / B) h
+      let e : u + v ≡ (u / B + v / B) * B + (u % B + v % B) = omega arith in
+      rw e (digits-div (u / B + v / B) h)
 
   sum-mod : (u + v) % B ≡ u % B + v % B
-  sum-mod = ap (λ (x : ℕ). x % B) sum-split ∙ digits-mod (u / B + v / B) h
+  sum-mod = add-mod u v B ∙ mod-eq-of-lt h
 
 odd-sum : (u v : ℕ) → (u + v) % 2 ≡ u % 2 ⊕ v % 2
-odd-sum u v = add-mod u v 2 ∙ bit-cases (λ x. (x + v % 2) % 2 ≡ x ⊕ v % 2) (bit-cases (λ y. (0 + y) % 2 ≡ 0 ⊕ y) refl refl v) (bit-cases (λ y. (1 + y) % 2 ≡ 1 ⊕ y) refl refl v) u
+odd-sum u v = let e = xor-add-and u v in let f : (u + v) % 2 ≡ (u ⊕ v) % 2 = omega arith in f ∙ xor-mod u v 1
 
 module _ (w : ℕ) where
   abbrev base : ℕ
@@ -48,14 +46,11 @@ module _ (w : ℕ) where
   bit-base : (z : ℕ) → z % 2 < base
   bit-base z = lt-of-lt-of-le (bit-lt z) (pow-le-pow-right (lit< tt) (suc-le-suc zero-le))
 
-  one-base : 1 < base
-  one-base = bit-base 1
-
   -- the lowest bits of n digits
   pick-step : (n z : ℕ) → bitAnd z (ones (suc n)) ≡ bitAnd (z / base) (ones n) * base + z % 2
   pick-step n z =
       ap (λ (x : ℕ). bitAnd x (ones n * base + 1)) (sym (split z (suc w)))
-      ∙ and-block (suc w) (z / base) (ones n) (z % base) 1 (mod-lt z (pow-pos (suc w))) one-base
+      ∙ and-block (suc w) (z / base) (ones n) (z % base) 1 (mod-lt z (pow-pos (suc w))) (bit-base 1)
       ∙ ap (λ (x : ℕ). bitAnd (z / base) (ones n) * base + x)
       (and-mask (z % base) 1 ∙ ap (λ (x : ℕ). z % 2 ^ x % 2) (sym (add-one w)) ∙ mod-mod-pow z w 1)
 

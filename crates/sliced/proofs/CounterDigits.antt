@@ -30,27 +30,11 @@ digit A B h c k w y ha hw e =
     let hb : 0 < B = omega arith in
     rw (t, mod-mul ((h + y) * B + w) ha hb, digits-div (h + y) hw, digits-mod (h + y) hw)
 
--- the number of four digits
-abbrev four : ℕ → ℕ → ℕ → ℕ → ℕ → ℕ
-four B a b c d = ((a * B + b) * B + c) * B + d
-
 last-digit : (B c y w z : ℕ) → w < B → w + B * z ≡ c + y → (c + y) % B ≡ w
-last-digit B c y w z hw e =
-    let t : c + y ≡ z * B + w = omega arith in rw t (digits-mod z hw)
-
-four-digits : (B a b c d k w0 w1 w2 w3 y0 y1 y2 y3 : ℕ) → 0 < B → 0 < B * B → 0 < B * B * B
-    → w0 < B → w1 < B → w2 < B → w3 < B
-    → w3 + B * y3 ≡ d + k → w2 + B * y2 ≡ c + y3 → w1 + B * y1 ≡ b + y2 → w0 + B * y0 ≡ a + y1
-    → (four B a b c d + k) % (B * B * B * B) ≡ four B w0 w1 w2 w3
-four-digits B a b c d k w0 w1 w2 w3 y0 y1 y2 y3 p1 p2 p3 h0 h1 h2 h3 e3 e2 e1 e0 =
-    digit (B * B * B) B ((a * B + b) * B + c) d k w3 y3 p3 h3 e3
-    ∙ ap (λ (v : ℕ). v * B + w3)
-    (digit (B * B) B (a * B + b) c y3 w2 y2 p2 h2 e2
-    ∙ ap (λ (v : ℕ). v * B + w2)
-    (digit B B a b y2 w1 y1 p1 h1 e1 ∙ ap (λ (v : ℕ). v * B + w1) (last-digit B a y1 w0 y0 h0 e0)))
+last-digit B c y w z hw e = let t : c + y ≡ z * B + w = omega arith in rw t (digits-mod z hw)
 
 -- the number of a block by its words
-block-number : (x : List ℕ) → AreWords x → numberOf (unwords x) ≡ four (2 ^ 32) (getD x 0 0) (getD x 1 0) (getD x 2 0) (getD x 3 0)
+block-number : (x : List ℕ) → AreWords x → numberOf (unwords x) ≡ ((getD x 0 0 * 2 ^ 32 + getD x 1 0) * 2 ^ 32 + getD x 2 0) * 2 ^ 32 + getD x 3 0
 block-number x h = numberOf-unwords x h ∙ omega arith
 
 block-bytes : (x : List ℕ) → bytesOf 16 (numberOf (unwords x)) ≡ unwords x
@@ -58,9 +42,7 @@ block-bytes x = rw (length-unwords x) at (bytesOf-numberOf (unwords x) (unwords-
 
 -- a word to which nothing is carried
 alone : (w c y u : ℕ) → c < 2 ^ 32 → u ≡ 0 → w + 2 ^ 32 * y ≡ c + u → (w ≡ c) × (y ≡ 0)
-alone w c y u h z e =
-    let n : y ≡ 0 = omega arith in
-    (omega arith, n)
+alone w c y u h z e = omega arith
 
 -- a word added to a number alone, and to a carry alone
 pub added-number : (w : ℕ) (x₀ y₀ x y : List ℕ) (k e : ℕ) → Added w x₀ y₀ x y → e < 512 → lane x₀ e ≡ k → Blank y₀
@@ -81,8 +63,10 @@ module _ (c x0 x1 x2 x3 y y′ : List ℕ) (k e y0 y1 y2 : ℕ) (hc : AreWords c
       let w = lanes x0 x1 x2 x3 e in
       let n : (numberOf (unwords c) + k) % 2 ^ 128 ≡ numberOf (unwords w) =
       ap (λ (v : ℕ). (v + k) % 2 ^ 128) (block-number c hc)
-      ∙ four-digits (2 ^ 32) _ _ _ _ k _ _ _ _ y0 y1 y2 (carryAt y e) (lit< tt) (lit< tt) (lit< tt)
-      (lane-lt x0 e) (lane-lt x1 e) (lane-lt x2 e) (lane-lt x3 e) e3 (rw h at e2) e1 e0
+      ∙ digit (2 ^ 96) (2 ^ 32) _ _ k _ (carryAt y e) (lit< tt) (lane-lt x3 e) e3
+      ∙ ap (λ (v : ℕ). v * 2 ^ 32 + lane x3 e) (digit (2 ^ 64) (2 ^ 32) _ _ _ _ y2 (lit< tt) (lane-lt x2 e) (rw h at e2)
+      ∙ ap (λ (v : ℕ). v * 2 ^ 32 + lane x2 e) (digit (2 ^ 32) (2 ^ 32) _ _ _ _ y1 (lit< tt) (lane-lt x1 e) e1
+      ∙ ap (λ (v : ℕ). v * 2 ^ 32 + lane x1 e) (last-digit (2 ^ 32) _ _ _ y0 (lane-lt x0 e) e0)))
       ∙ sym (block-number w (lanes-words x0 x1 x2 x3 e)) in
       sym (ap (bytesOf 16) n ∙ block-bytes w)
   lanes-count false h =

@@ -1,5 +1,5 @@
 -- L in every lane; a round, and four.
-use Rattle.block.proofs.Base.{_%_, _*_, _+_, _/_, _<_, _^_, _≤_, ℕ, _∙_, _≡_, ap, ap₂, refl, sym, List, [], _∷_, arith, differ, xor-lt}
+use Rattle.block.proofs.Base.{_%_, _*_, _+_, _/_, _<_, _^_, _≤_, ℕ, _∙_, _≡_, ap, ap₂, refl, sym, List, [], _∷_, arith, differ, lit<, xor-lt}
 use Rattle.block.proofs.Base.{getD, length, set, getD-set-other}
 use Rattle.block.specs.Xor.{_⊕_}
 use Rattle.lanes.specs.Bits.{bit}
@@ -36,22 +36,14 @@ module _ (f : ℕ → ℕ) (n : ℕ) (a₀ s : List ℕ) (hf : (e : ℕ) → f e
   mixed-bit i k hi hc hk =
       let e = 8 * k + i % 8 in
       let r = i / 8 % 32 in
-      let g : (d t : ℕ) → d < 33 → d * 8 ≡ t → bit k (getD s (i + t) 0) ≡ bit ((r + d) % 32) (f e) =
-      λ d t hd et.
-      let u : (i + t) / 8 % 32 ≡ (r + d) % 32 = omega arith in
-      let v : 8 * k + (i + t) % 8 ≡ e = omega arith in
-      hs (i + t) k (omega arith) (omega arith) hk ∙ ap₂ (λ (a c : ℕ). bit a (f c)) u v in
+      let g : (d : ℕ) → d < 33 → bit k (getD s (i + d * 8) 0) ≡ bit ((r + d) % 32) (f e) =
+      λ d h.
+      let u : (i + d * 8) / 8 % 32 ≡ (r + d) % 32 = omega arith in
+      let v : 8 * k + (i + d * 8) % 8 ≡ e = omega arith in
+      hs (i + d * 8) k (omega arith) (omega arith) hk ∙ ap₂ (λ (a c : ℕ). bit a (f c)) u v in
       let z : (r + 32) % 32 ≡ r = omega arith in
       let q : bit k (five s i) ≡ bit r (L (f e)) =
-      simp (
-        bit-xor,
-        g 32 256 (omega arith) refl,
-        z,
-        g 30 240 (omega arith) refl,
-        g 22 176 (omega arith) refl,
-        g 14 112 (omega arith) refl,
-        g 8 64 (omega arith) refl,
-      ) (L-bit (f e) r (hf e) (omega arith)) in
+      simp (bit-xor, g 32 (lit< tt), z, g 30 (lit< tt), g 22 (lit< tt), g 14 (lit< tt), g 8 (lit< tt)) (L-bit (f e) r (hf e) (omega arith)) in
       bit-xor k (getD a₀ i 0) (five s i) ∙ ap₂ differ (held-lane a₀ n i k hi hc hk) q ∙ sym (bit-xor r (lane a₀ e) (L (f e)))
 
   pub mixed-next : (i : ℕ) (a : List ℕ) → i < 256 → length a ≡ 256 → Mixed f n a₀ i a

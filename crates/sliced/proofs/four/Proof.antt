@@ -1,6 +1,6 @@
 -- `sliced::four` meets its contract: each round takes the planes that the rounds before it left, and four rounds in each lane are put
 -- together by `four-done`.
-use Rattle.block.proofs.Base.{needs}
+use Rattle.block.proofs.Base.{arith, needs}
 use Rattle.sliced.proofs.Mixing.{four-done}
 use Rattle.sliced.proofs.four.Statement.{statement}
 use Rattle.sliced.proofs.four.Tie as tie
@@ -11,15 +11,9 @@ four-spec =
     (tie.spec
     (λ c κs. search needs) (λ c κs. search needs) (λ c κs. search needs)
     (λ c κs.
-    let at-third = c .before .before .before .before .before in
-    let at-second = at-third .before .before .before .before .before .before in
-    let at-first = at-second .before .before .before .before .before .before in
-    let S = at-first .before .before .before .before .before .before in
-    let P = S .pre .1 in
-    let r = at-first .round .ensures .1 in
-    let q = at-second .round2 .ensures .1 in
-    let t = at-third .round3 .ensures .1 in
-    (S .pre .0, record { la = P .ld; lb = r .0; lc = q .0; ld = t .0; ls = t .1 }))
+    let at-second = c .before .before .before .before .before .before .before .before .before .before .before in
+    let P = at-second .before .before .before .before .before .before .before .before .before .before .before .before .pre .1 in
+    omega (arith, P))
     (λ c.
     let at-third = c .before .before .before .before .before .before in
     let at-second = at-third .before .before .before .before .before .before in

@@ -14,14 +14,9 @@ count-spec =
     tie.close
     (tie.spec
     (λ c κs. search needs) (λ c. search needs) (λ c κs. search needs) (λ c κs. search needs) (λ c. search needs)
-    (λ c κs. let x = c .before .before .before .before .before .before .pre .2 in (search needs, x .0, λ p h. x .1 p)) (λ c. search needs)
-    (λ c κs.
-    let x = c .before .before .before .before .before .before .before .before .pre .1 in
-    (search needs, x .0, λ p h. x .1 p))
-    (λ c. search needs)
-    (λ c κs.
-    let x = c .before .before .before .before .before .before .before .before .before .before .pre .0 in
-    (search needs, x .0, λ p h. x .1 p))
+    (λ c κs. search (needs, c .before .before .before .before .before .before .pre .2 .1)) (λ c. search needs)
+    (λ c κs. search (needs, c .before .before .before .before .before .before .before .before .pre .1 .1)) (λ c. search needs)
+    (λ c κs. search (needs, c .before .before .before .before .before .before .before .before .before .before .pre .0 .1))
     (λ c.
     let W0 = c .add-word4 in
     let at1 = c .before .before in
