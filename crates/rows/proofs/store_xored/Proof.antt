@@ -8,6 +8,7 @@ use Rattle.block.specs.Words.{words}
 use Rattle.block.specs.Xor.{_⊕_, xors}
 use Rattle.block.proofs.Convert.{length-bytesOf}
 use Rattle.block.proofs.Entries.{below-each, below-drop}
+use Rattle.lanes.proofs.Needs.{next16}
 use Rattle.rows.specs.Rows.{Row}
 use Rattle.rows.proofs.Storing.{xoredRow, length-xoredRow, xored-row, block-stored, all-stored}
 use Rattle.rows.proofs.store_xored.Statement.{statement}
@@ -16,13 +17,10 @@ use Rattle.rows.proofs.store_xored.Tie as tie
 pub store-xored-spec : {M : Type 1} → statement M
 store-xored-spec =
     tie.close
-    (tie.spec
+    (next16 (tie.spec
     (λ a b m d out₀ i₀ out i. (i ≤ m) × (length out ≡ length out₀) × (out ≡ cat i (xoredRow a b d) ++ drop (16 * i) out₀))
-    (λ a b m d out₀ i₀ out i. m - i) (λ c. unfold cat in search needs) (λ c. search needs) (λ c. search needs) (λ c. search needs)
-    (λ c. search needs) (λ c κs. search needs) (λ c κs. search needs) (λ c. search needs) (λ c. search needs) (λ c. search needs)
-    (λ c κs. search needs) (λ c. search needs) (λ c. search needs) (λ c κs. search needs) (λ c. search needs) (λ c. search needs)
-    (λ c. search needs) (λ c. search needs) (λ c κs. search needs) (λ c. search needs) (λ c. search needs) (λ c κs. search needs)
-    (λ c. search needs) (λ c. search needs)
+    (λ a b m d out₀ i₀ out i. m - i) (λ c. unfold cat in search needs)) (omega arith) (λ c. search needs) (λ c κs. search needs)
+    (λ c. search needs) (λ c. search needs) (λ c κs. search needs) (λ c. search needs) (λ c. search needs)
     (λ c.
     let at-second = c .before .before in
     let at-first = at-second .before .before .before .before .before .before in

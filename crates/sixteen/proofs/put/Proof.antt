@@ -1,5 +1,6 @@
 -- `sixteen::put` meets its contract: one block more stands in its place (`held-next`).
-use Rattle.block.proofs.Base.{_≡_, needs, length}
+use Rattle.block.proofs.Base.{_≡_, arith, needs, length}
+use Rattle.lanes.proofs.Needs.{next8}
 use Rattle.sixteen.proofs.Blocks.{held-next}
 use Rattle.sixteen.proofs.put.Statement.{statement}
 use Rattle.sixteen.proofs.put.Tie as tie
@@ -7,10 +8,8 @@ use Rattle.sixteen.proofs.put.Tie as tie
 pub put-spec : {M : Type 1} → statement M
 put-spec =
     tie.close
-    (tie.spec
-    (λ c. search needs) (λ c. search needs) (λ c. search needs) (λ c. search needs) (λ c. search needs) (λ c. search needs)
-    (λ c. search needs) (λ c. search needs) (λ c. search needs) (λ c. search needs) (λ c. search needs) (λ c. search needs)
-    (λ c. search needs) (λ c. search needs) (λ c. search needs)
+    (next8 tie.spec (omega arith) (λ c. search needs) (λ c. search needs) (λ c. search needs) (λ c. search needs) (λ c. search needs)
+    (λ c. search needs) (λ c. search needs)
     (λ c.
     let a = c .args in
     let n : length (a .t3) ≡ 4 = search needs in

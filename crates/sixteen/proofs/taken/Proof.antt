@@ -1,12 +1,11 @@
 -- `sixteen::taken` meets its contract: the four places of a block, the last one first.
 use Rattle.block.proofs.Base.{_+_, ℕ, _≡_, ap, [], _∷_, arith, needs, getD}
+use Rattle.lanes.proofs.Needs.{next8}
 use Rattle.sixteen.proofs.taken.Statement.{statement}
 use Rattle.sixteen.proofs.taken.Tie as tie
 
 pub taken-spec : {M : Type 1} → statement M
 taken-spec =
     tie.close
-    (tie.spec
-    (λ c. search needs) (λ c. search needs) (λ c. search needs) (λ c. search needs) (λ c. search needs) (λ c. search needs)
-    (λ c. search needs) (λ c. search needs) (λ c. search needs) (λ c. search needs) (λ c. search needs)
+    (next8 tie.spec (omega arith) (λ c. search needs) (λ c. search needs) (λ c. search needs)
     (λ c. let i = c .before .before .before .before .args .i in let z : 0 + i ≡ i = omega arith in rw z))

@@ -2,6 +2,7 @@
 use Rattle.block.proofs.Base.{_+_, _-_, _≤_, ℕ, _≡_, ap₂, refl, arith, needs, getD, length}
 use Rattle.block.specs.Xor.{_⊕_}
 use Rattle.cipher.specs.Sm4.{L}
+use Rattle.lanes.proofs.Needs.{next8}
 use Rattle.sixteen.specs.Blocks.{row, Changed}
 use Rattle.sixteen.proofs.Filling.{changed-next}
 use Rattle.sixteen.proofs.rounds.mix.Statement.{statement}
@@ -10,11 +11,10 @@ use Rattle.sixteen.proofs.rounds.mix.Tie as tie
 pub mix-spec : {M : Type 1} → statement M
 mix-spec =
     tie.close
-    (tie.spec
+    (next8 (tie.spec
     (λ x₀ i s n a j₀ x j. (j ≤ n) × (length x ≡ 256) × Changed (row i) j (λ k. getD x₀ (row i + k) 0 ⊕ L (getD s k 0)) x₀ x)
-    (λ x₀ i s n a j₀ x j. n - j) (λ c. search needs) (λ c. search needs) (λ c. search needs) (λ c. search needs) (λ c. search needs)
-    (λ c. search needs) (λ c. search needs) (λ c κs. search needs) (λ c. search needs) (λ c. search needs) (λ c. search needs)
-    (λ c. search needs) (λ c. search needs)
+    (λ x₀ i s n a j₀ x j. n - j)) (omega arith) (λ c. search needs) (λ c. search needs) (λ c. search needs) (λ c. search needs)
+    (λ c. search needs)
     (λ c.
     let l = c .before .before .before .before .loop in
     let a = c .before .before .before .before .before .args in

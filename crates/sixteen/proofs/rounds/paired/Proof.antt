@@ -1,5 +1,6 @@
 -- `sixteen::rounds::paired` meets its contract: one pair after the other.
 use Rattle.block.proofs.Base.{_*_, _+_, _<_, _^_, ℕ, _≡_, subst, arith, needs, getD}
+use Rattle.lanes.proofs.Needs.{next16}
 use Rattle.sixteen.specs.Blocks.{pairAt}
 use Rattle.lanes.proofs.Filling.{each8}
 use Rattle.sixteen.proofs.rounds.paired.Statement.{statement}
@@ -8,10 +9,7 @@ use Rattle.sixteen.proofs.rounds.paired.Tie as tie
 pub paired-spec : {M : Type 1} → statement M
 paired-spec =
     tie.close
-    (tie.spec
-    (λ c. search needs) (λ c κs. search needs) (λ c. search needs) (λ c κs. search needs) (λ c. search needs) (λ c κs. search needs)
-    (λ c. search needs) (λ c κs. search needs) (λ c. search needs) (λ c κs. search needs) (λ c. search needs) (λ c κs. search needs)
-    (λ c. search needs) (λ c κs. search needs) (λ c. search needs) (λ c κs. search needs)
+    (next16 tie.spec (omega arith)
     (λ c.
     let at-second = c .before .before .before .before .before .before in
     let at-first = at-second .before in
