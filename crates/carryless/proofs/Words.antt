@@ -1,13 +1,14 @@
 -- Numbers of 32 bits as four parts of every fourth bit each: the sixteen products of the parts, summed up by their places, are the product
 -- without carry (`by-quarters`); of a square four of them are enough (`squares`).
 use Rattle.block.proofs.Base.{_%_, _*_, _+_, _-_, _/_, _<_, _^_, _≤_, min, suc, zero, ℕ, _∙_, _≡_, ap, ap₂, refl, sym, ⊎-elim, List, add-zero}
-use Rattle.block.proofs.Base.{lt-of-le-of-lt, lt-trans, mod-eq-of-lt, mod-lt, mul-assoc, mul-le-mul, mul-mul-mul-comm, arith, bin-ind}
+use Rattle.block.proofs.Base.{lt-of-le-of-lt, lt-trans, mod-eq-of-lt, mod-lt, mul-assoc, mul-le-mul, mul-mul-mul-comm, pow-suc, arith}
 use Rattle.block.proofs.Base.{and-block, and-comm, and-le-l, and-mask, and-shr, and-step, and-zero-r, bitAnd, differ, xor-lt, xor-shr}
 use Rattle.block.proofs.Base.{xor-step, T, ltb, lit<, getD, length, pow-add, pow-pos, shl-shr, split}
 use Rattle.block.specs.declared.U128.{U128}
 use Rattle.block.specs.Xor.{_⊕_}
 use Rattle.block.proofs.Xor.{bit-lt, xor-odd, xor-sums}
-use Rattle.lanes.proofs.Bits.{and-odd, three-bits, lt-or-le}
+use Rattle.lanes.proofs.Bits.{bit-and, bit-ext, bit-small, bit-xor, three-bits, lt-or-le}
+use Rattle.lanes.specs.Bits.{bit}
 use Rattle.lanes.proofs.Filling.{one-more, each8}
 use Rattle.carryless.specs.Carryless.{clmul}
 use Rattle.carryless.specs.Lent.{parts128, words128, PartsOf, Quarters, Lends, Lends64}
@@ -17,22 +18,16 @@ use Rattle.carryless.proofs.Holes.{ones, Few, few-pick, pick-more, pick
 min-differ : (x y z : ℕ) → x < 2 → y < 2 → z < 2 → min x (differ y z) ≡ differ (min x y) (min x z)
 min-differ = three-bits (λ x y z. min x (differ y z) ≡ differ (min x y) (min x z)) refl refl refl refl refl refl refl refl
 
+below-pow : (n : ℕ) → n < 2 ^ n
+below-pow zero = lit< tt
+below-pow (suc n) = let h = below-pow n in rw (pow-suc 2 n) (omega arith)
+
 -- `&` over exclusive or
 and-xor : (c a b : ℕ) → bitAnd c (a ⊕ b) ≡ bitAnd c a ⊕ bitAnd c b
-and-xor =
-    bin-ind (λ (n : ℕ). (a b : ℕ) → bitAnd n (a ⊕ b) ≡ bitAnd n a ⊕ bitAnd n b) (λ a b. refl)
-    (λ n ih a b.
-    rw (
-      and-step n (a ⊕ b),
-      xor-step (bitAnd n a) (bitAnd n b),
-      and-shr n a 1,
-      and-shr n b 1,
-      xor-shr a b 1,
-      and-odd n a,
-      and-odd n b,
-      xor-odd a b,
-      ih (a / 2) (b / 2),
-    ) (ap (λ (x : ℕ). (bitAnd (n / 2) (a / 2) ⊕ bitAnd (n / 2) (b / 2)) * 2 + x) (min-differ _ _ _ (bit-lt n) (bit-lt a) (bit-lt b))))
+and-xor c a b =
+    let s : (x : ℕ) → bitAnd c x < 2 ^ c = λ x. lt-of-le-of-lt (and-le-l c x) (below-pow c) in
+    bit-ext c (bitAnd c (a ⊕ b)) (bitAnd c a ⊕ bitAnd c b) (s (a ⊕ b)) (xor-lt c (bitAnd c a) (bitAnd c b) (s a) (s b))
+    (λ i g. simp (bit-and, bit-xor) (min-differ (bit i c) (bit i a) (bit i b) (bit-small i c) (bit-small i a) (bit-small i b)))
 
 xor-and : (c a b : ℕ) → bitAnd (a ⊕ b) c ≡ bitAnd a c ⊕ bitAnd b c
 xor-and c a b = and-comm (a ⊕ b) c ∙ and-xor c a b ∙ ap₂ _⊕_ (and-comm c a) (and-comm c b)
@@ -130,7 +125,8 @@ module _ (y : U128) (m : List ℕ) (p : PartsOf y m) where
   pub lends-word : (k : ℕ) → k < 9 → Lends (getD (words128 y) k 0) m (4 * k)
   lends-word k h =
       let q = parts128 y in
-      let P : ℕ → Type 0 = λ k. Quarters (getD (words128 y) k 0) (getD q (4 * k) 0) (getD q (4 * k + 1) 0) (getD q (4 * k + 2) 0) (getD q (4 * k + 3) 0) in
+      let P : ℕ → Type 0 = λ k.
+      Quarters (getD (words128 y) k 0) (getD q (4 * k) 0) (getD q (4 * k + 1) 0) (getD q (4 * k + 2) 0) (getD q (4 * k + 3) 0) in
       let e = one-more P 8 (four _) (each8 P (four _) (four _) (four _) (four _) (four _) (four _) (four _) (four _)) k h in
       record { size = ap length (p .words); place = omega arith; words = rw (p .words) e }
 

@@ -67,8 +67,8 @@ columns-last f n b j s hb hj C p k hp hc hk =
     ap (λ (q : ℕ). bit k (getD s q 0)) e ∙ C .1 (p % 8) i k (omega arith) (omega arith) hk
     ∙ ap (λ (r : ℕ). bit r (f (8 * k + p % 8))) (u ∙ sym (mod-eq-of-lt r))) (lt-or-le p (64 * b))
 
-module _ (x y z m : List ℕ) (key n b j : ℕ) (s o : List ℕ) (hb : b < 4) (hj : j < 8) (hm : Masks 8 (λ i. bit (8 * b + i) key) m) (hs : length s ≡ 512)
-    (ho : SboxLanes (column x y z m (64 * b + j)) o) where
+module _ (x y z m : List ℕ) (key n b j : ℕ) (s o : List ℕ) (hb : b < 4) (hj : j < 8) (hm : Masks 8 (λ i. bit (8 * b + i) key) m)
+    (hs : length s ≡ 512) (ho : SboxLanes (column x y z m (64 * b + j)) o) where
   pub columns-next : Columns (subbed x y z key) n b j s → Columns (subbed x y z key) n b (j + 1) (puts 8 s (64 * b + j) 0 (eight o))
   columns-next C =
       let q = 64 * b + j in

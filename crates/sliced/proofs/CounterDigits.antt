@@ -34,7 +34,8 @@ last-digit : (B c y w z : ℕ) → w < B → w + B * z ≡ c + y → (c + y) % B
 last-digit B c y w z hw e = let t : c + y ≡ z * B + w = omega arith in rw t (digits-mod z hw)
 
 -- the number of a block by its words
-block-number : (x : List ℕ) → AreWords x → numberOf (unwords x) ≡ ((getD x 0 0 * 2 ^ 32 + getD x 1 0) * 2 ^ 32 + getD x 2 0) * 2 ^ 32 + getD x 3 0
+block-number : (x : List ℕ) → AreWords x
+    → numberOf (unwords x) ≡ ((getD x 0 0 * 2 ^ 32 + getD x 1 0) * 2 ^ 32 + getD x 2 0) * 2 ^ 32 + getD x 3 0
 block-number x h = numberOf-unwords x h ∙ omega arith
 
 block-bytes : (x : List ℕ) → bytesOf 16 (numberOf (unwords x)) ≡ unwords x

@@ -14,7 +14,8 @@ pub eight-masks : (k q a b c d e f g h : ℕ)
     → Spread k (8 * q + 4) e → Spread k (8 * q + 5) f → Spread k (8 * q + 6) g → Spread k (8 * q + 7) h
     → Masks 8 (λ i. bit (8 * q + i) k) (a ∷ b ∷ c ∷ d ∷ e ∷ f ∷ g ∷ h ∷ [])
 eight-masks k q a b c d e f g h ha hb hc hd he hf hg hh i n hi hn =
-    each8 (λ i. Spread k (8 * q + i) (getD (a ∷ b ∷ c ∷ d ∷ e ∷ f ∷ g ∷ h ∷ []) i 0)) (rw (add-zero (8 * q)) ha) hb hc hd he hf hg hh i hi n hn
+    each8 (λ i. Spread k (8 * q + i) (getD (a ∷ b ∷ c ∷ d ∷ e ∷ f ∷ g ∷ h ∷ []) i 0)) (rw (add-zero (8 * q)) ha) hb hc hd he hf hg hh
+    i hi n hn
 
 -- a column from its eight sums
 pub eight-sums : (x y z m : List ℕ) (p a b c d e f g h : ℕ)

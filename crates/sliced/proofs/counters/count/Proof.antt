@@ -37,10 +37,8 @@ count-spec =
       λ e he.
           lanes-counted x (W0 .last .0) (W1 .last .0) (W2 .last .0) (W3 .last .0) (W3 .result) (K .result)
           (numberAt e) e (carryAt (W0 .result) e) (carryAt (W1 .result) e) (carryAt (W2 .result) e) small
-          (added-number (getD x 3 0) (N .last .0) (replicate 8 0) (W3 .last .0) (W3 .result) (numberAt e) e (W3 .ensures .0) he
-          (N .ensures .0 e he) (blank-room 8))
-          (added-carry (getD x 2 0) (a .x2 .now) (K .result) (W2 .last .0) (W2 .result) e (W2 .ensures .0) he (S .pre .2 .1))
-          (added-carry (getD x 1 0) (a .x1 .now) (W2 .result) (W1 .last .0) (W1 .result) e (W1 .ensures .0) he (S .pre .1 .1))
-          (added-carry (getD x 0 0) (a .x0 .now) (W1 .result) (W0 .last .0) (W0 .result) e (W0 .ensures .0) he (S .pre .0 .1)) (a .wide) (K .ensures),
+          (added-number _ _ _ _ _ (numberAt e) e (W3 .ensures .0) he (N .ensures .0 e he) (blank-room 8))
+          (added-carry _ _ _ _ _ e (W2 .ensures .0) he (S .pre .2 .1)) (added-carry _ _ _ _ _ e (W1 .ensures .0) he (S .pre .1 .1))
+          (added-carry _ _ _ _ _ e (W0 .ensures .0) he (S .pre .0 .1)) (a .wide) (K .ensures),
       (W0 .ensures .1, W1 .ensures .1, W2 .ensures .1, W3 .ensures .1),
     )))
