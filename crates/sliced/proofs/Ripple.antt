@@ -9,16 +9,12 @@ use Rattle.lanes.proofs.Filling.{each8, word-more}
 use Rattle.sliced.specs.Lanes.{lane}
 use Rattle.sliced.specs.Counting.{carryAt, WordAdded, RowAdded, Added}
 
--- three bits: their sum and its carry
-adder : (a b d : ℕ) → a < 2 → b < 2 → d < 2 → differ (differ a b) d + 2 * differ (min a b) (min (differ a b) d) ≡ d + a + b
-adder =
-    three-bits (λ a b d. differ (differ a b) d + 2 * differ (min a b) (min (differ a b) d) ≡ d + a + b) refl refl refl refl refl refl refl refl
-
--- the same in every bit of three words
+-- three bits, their sum and its carry, in every bit of three words
 word-adder : (k a b m : ℕ) → bit k (a ⊕ b ⊕ m) + 2 * bit k (bitAnd a b ⊕ bitAnd (a ⊕ b) m) ≡ bit k m + bit k a + bit k b
 word-adder k a b m =
-    rw (bit-xor k (a ⊕ b) m, bit-xor k (bitAnd a b) (bitAnd (a ⊕ b) m), bit-and k a b, bit-and k (a ⊕ b) m, bit-xor k a b)
-    (adder (bit k a) (bit k b) (bit k m) (bit-small k a) (bit-small k b) (bit-small k m))
+    simp (bit-xor, bit-and)
+    (three-bits (λ a b d. differ (differ a b) d + 2 * differ (min a b) (min (differ a b) d) ≡ d + a + b)
+    refl refl refl refl refl refl refl refl (bit k a) (bit k b) (bit k m) (bit-small k a) (bit-small k b) (bit-small k m))
 
 -- as the code stores it
 pub word-added : (p a b m : ℕ) (x : List ℕ) → p < 256 → length x ≡ 256
@@ -73,12 +69,6 @@ pack-next k f = rw (add-one k) (pack-suc k f)
 pub low : List ℕ → ℕ → ℕ → ℕ
 low x e i = pack i (λ k. bit (e / 8) (getD x (8 * k + e % 8) 0))
 
--- one row more, over any weight of its bits
-ripple : (B C P Q A y₀ y z d a s : ℕ) → C ≡ B * 2 → P + B * y ≡ Q + A + y₀ → s + 2 * z ≡ d + a + y
-    → P + B * s + C * z ≡ Q + B * d + (A + B * a) + y₀
-ripple B C P Q A y₀ y z d a s hC hP hs =
-    let e : B * (s + 2 * z) ≡ B * (d + a + y) = ap (λ (v : ℕ). B * v) hs in rw hC (omega arith)
-
 -- the low i bits of w, added in every lane; the rows from i on stand as they were
 pub record Rippled (w i : ℕ) (x₀ y₀ x y : List ℕ) : Type 0 where
   pub sum : (e : ℕ) → e < 512 → low x e i + 2 ^ i * carryAt y e ≡ pack i (λ k. bit k w) + low x₀ e i + carryAt y₀ e
@@ -104,9 +94,9 @@ rippled-next w i m a x₀ y₀ x y x′ y′ hm ha P R =
           let row : bit (e / 8) (getD x′ p 0) + 2 * carryAt y′ e ≡ bit i w + bit (e / 8) (getD x₀ p 0) + carryAt y e =
           R .sum (e % 8) (e / 8) (omega arith) ∙ ap₂ (λ (u v : ℕ). u + v + carryAt y e) (hm (e / 8) (omega arith)) was in
           let double : 2 ^ (i + 1) ≡ 2 ^ i * 2 = rw (add-one i) (pow-suc 2 i) in
-          rw (pack-next i (f x′), pack-next i (f x₀), pack-next i (λ k. bit k w), kept)
-          (ripple (2 ^ i) (2 ^ (i + 1)) (low x e i) (pack i (λ k. bit k w)) (low x₀ e i) (carryAt y₀ e) (carryAt y e) (carryAt y′ e)
-          (bit i w) (bit (e / 8) (getD x₀ p 0)) (bit (e / 8) (getD x′ p 0)) double (P .sum e he) row);
+          let weighed = ap (λ (v : ℕ). 2 ^ i * v) row in
+          let before = P .sum e he in
+          rw (pack-next i (f x′), pack-next i (f x₀), pack-next i (λ k. bit k w), kept, double) (omega arith);
       rest = λ p h. R .same-x p (λ q g e. omega arith) ∙ P .rest p (omega arith);
     }
 
