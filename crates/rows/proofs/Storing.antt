@@ -86,11 +86,10 @@ module _ (d : List ℕ) (m : ℕ) (h : 16 * m ≤ length d) where
 
   pub length-xoredRow : (a b : List ℕ) (i : ℕ) → i < m → length (xoredRow a b d i) ≡ 16
   length-xoredRow a b i g =
-      let u = bytesOf 8 (getD a (place i) 0) in
-      let v = bytesOf 8 (getD b (place i) 0) in
+      let l = bytesOf 8 (getD a (place i) 0) ++ bytesOf 8 (getD b (place i) 0) in
       let k = length-blockAt i g in
-      let n : length (u ++ v) ≡ 16 = simp (length-append, length-bytesOf) in
-      length-xors (blockAt d i) (u ++ v) (omega arith) ∙ k
+      let n : length l ≡ 16 = simp (length-append, length-bytesOf) in
+      length-xors (blockAt d i) l (omega arith) ∙ k
 
   -- rows stored are their blocks stored
   pub all-stored : (a b o₀ o : List ℕ) (f : ℕ → List ℕ) → Rows m f a b → o ≡ cat m (xoredRow a b d) ++ drop (16 * m) o₀

@@ -23,17 +23,13 @@ in-parts p k = omega arith
 
 pub low-rows : (p : ℕ) → p < 48 → (k : ℕ) → k < 64 → bit k (getD patterns (p / 8) 0) ≡ bit (p / 8) (numberAt (8 * k + p % 8))
 low-rows p hp k hk =
-    pattern-bit (p / 8) k (omega arith) hk
-    ∙ sym (bit-low 6 (p / 8) (p % 8) k (omega arith) (omega arith))
-    ∙ ap (bit (p / 8)) (in-parts p k)
+    pattern-bit (p / 8) k (omega arith) hk ∙ sym (bit-low 6 (p / 8) (p % 8) k (omega arith) (omega arith)) ∙ ap (bit (p / 8)) (in-parts p k)
 
 pub high-rows : (p r : ℕ) → 48 ≤ p → ((k : ℕ) → k < 64 → bit k r ≡ bit (p / 8 - 6) (p % 8))
     → (k : ℕ) → k < 64 → bit k r ≡ bit (p / 8) (numberAt (8 * k + p % 8))
 high-rows p r hp h k hk =
     let e : 6 + (p / 8 - 6) ≡ p / 8 = omega arith in
-    h k hk
-    ∙ sym (bit-high 6 (p / 8 - 6) (p % 8) k (omega arith))
-    ∙ ap₂ bit e (in-parts p k)
+    h k hk ∙ sym (bit-high 6 (p / 8 - 6) (p % 8) k (omega arith)) ∙ ap₂ bit e (in-parts p k)
 
 -- the first p words hold the lanes' numbers, the others nothing
 abbrev pub Numbered : ℕ → List ℕ → Type 0
@@ -57,12 +53,10 @@ pub numbered-last : (x : List ℕ) (p : ℕ) → 72 ≤ p → Numbered p x → (
 numbered-last x p hp N e he =
     lane-held numberAt 8 x
     (λ q k hq hc hk.
-    ⊎-elim
-    (λ (g : q < p). N .1 q k g hc hk)
+    ⊎-elim (λ (g : q < p). N .1 q k g hc hk)
     (λ (g : p ≤ q).
     let small : numberAt (8 * k + q % 8) < 2 ^ 9 = omega arith in
-    ap (bit k) (N .2 q g) ∙ bit-zero k ∙ sym (bit-past 9 (q / 8 % 32) (numberAt (8 * k + q % 8)) small (omega arith)))
-    (lt-or-le q p))
+    ap (bit k) (N .2 q g) ∙ bit-zero k ∙ sym (bit-past 9 (q / 8 % 32) (numberAt (8 * k + q % 8)) small (omega arith))) (lt-or-le q p))
     e he (omega arith) (omega arith)
 
 -- the lane of block i

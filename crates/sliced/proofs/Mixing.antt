@@ -43,7 +43,8 @@ module _ (f : ℕ → ℕ) (n : ℕ) (a₀ s : List ℕ) (hf : (e : ℕ) → f e
       hs (i + d * 8) k (omega arith) (omega arith) hk ∙ ap₂ (λ (a c : ℕ). bit a (f c)) u v in
       let z : (r + 32) % 32 ≡ r = omega arith in
       let q : bit k (five s i) ≡ bit r (L (f e)) =
-      simp (bit-xor, g 32 (lit< tt), z, g 30 (lit< tt), g 22 (lit< tt), g 14 (lit< tt), g 8 (lit< tt)) (L-bit (f e) r (hf e) (omega arith)) in
+      simp (bit-xor, g 32 (lit< tt), z, g 30 (lit< tt), g 22 (lit< tt), g 14 (lit< tt), g 8 (lit< tt))
+      (L-bit (f e) r (hf e) (omega arith)) in
       bit-xor k (getD a₀ i 0) (five s i) ∙ ap₂ differ (held-lane a₀ n i k hi hc hk) q ∙ sym (bit-xor r (lane a₀ e) (L (f e)))
 
   pub mixed-next : (i : ℕ) (a : List ℕ) → i < 256 → length a ≡ 256 → Mixed f n a₀ i a

@@ -8,9 +8,8 @@ use Rattle.rows.proofs.put.Statement.{statement}
 use Rattle.rows.proofs.put.Tie as tie
 
 pub put-spec : {M : Type 1} → statement M
-put-spec =
-    tie.close
-    (next8 tie.spec (omega arith) (λ c κs. search needs) (λ c. search needs) (λ c. search needs)
+put-spec = tie.close (next8 tie.spec (omega arith)
+    (λ c κs. search needs) (λ c. search needs) (λ c. search needs)
     (λ c.
     let S = c .before .before .before in
     let a = S .args in

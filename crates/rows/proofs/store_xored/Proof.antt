@@ -15,9 +15,7 @@ use Rattle.rows.proofs.store_xored.Statement.{statement}
 use Rattle.rows.proofs.store_xored.Tie as tie
 
 pub store-xored-spec : {M : Type 1} → statement M
-store-xored-spec =
-    tie.close
-    (next16 (tie.spec
+store-xored-spec = tie.close (next16 (tie.spec
     (λ a b m d out₀ i₀ out i. (i ≤ m) × (length out ≡ length out₀) × (out ≡ cat i (xoredRow a b d) ++ drop (16 * i) out₀))
     (λ a b m d out₀ i₀ out i. m - i) (λ c. unfold cat in search needs)) (omega arith) (λ c. search needs) (λ c κs. search needs)
     (λ c. search needs) (λ c. search needs) (λ c κs. search needs) (λ c. search needs) (λ c. search needs)

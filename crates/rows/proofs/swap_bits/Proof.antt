@@ -8,9 +8,7 @@ use Rattle.rows.proofs.swap_bits.Statement.{statement}
 use Rattle.rows.proofs.swap_bits.Tie as tie
 
 pub swap-bits-spec : {M : Type 1} → statement M
-swap-bits-spec =
-    tie.close
-    (next16 (tie.spec
+swap-bits-spec = tie.close (next16 (tie.spec
     (λ a₀ g w d m e₀ a e. (e ≤ w) × Swapped d m g w e a₀ a) (λ a₀ g w d m e₀ a e. w - e) (λ c. search needs)) (omega arith)
     (λ c. search needs) (λ c. search needs)
     (λ c. search (needs, swapped-next))

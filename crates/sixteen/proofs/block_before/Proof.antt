@@ -8,9 +8,7 @@ use Rattle.sixteen.proofs.block_before.Statement.{statement}
 use Rattle.sixteen.proofs.block_before.Tie as tie
 
 pub block-before-spec : {M : Type 1} → statement M
-block-before-spec =
-    tie.close
-    (tie.spec
+block-before-spec = tie.close (tie.spec
     (λ c.
     let a = c .before .before .args in
     let e : a .at ≡ 0 = omega arith in

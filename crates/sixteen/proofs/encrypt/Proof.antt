@@ -9,9 +9,7 @@ use Rattle.sixteen.proofs.encrypt.Statement.{statement}
 use Rattle.sixteen.proofs.encrypt.Tie as tie
 
 pub encrypt-spec : {M : Type 1} → statement M
-encrypt-spec =
-    tie.close
-    (tie.spec
+encrypt-spec = tie.close (tie.spec
     (λ c. unfold cat in rw (c .if1 .taken) refl) (λ c κs. search needs) (λ c κs. search needs) (λ c κs. search needs)
     (λ c κs. omega arith) (λ c κs. search needs) (λ c. search needs)
     (λ c. unfold encryptBlock in

@@ -8,9 +8,7 @@ counts : List ℕ
 counts = 1 ∷ 1 ∷ 2 ∷ 4 ∷ 4 ∷ []
 
 pub groups-of-spec : {M : Type 1} → statement M
-groups-of-spec =
-    tie.close
-    (tie.spec
+groups-of-spec = tie.close (tie.spec
     (λ c. search needs) (λ c. search needs) (λ c. search needs)
     (λ c. unfold counts in
     let i = (c .args .m + 15) / 16 in

@@ -10,9 +10,7 @@ use Rattle.sixteen.proofs.lay_before.Statement.{statement}
 use Rattle.sixteen.proofs.lay_before.Tie as tie
 
 pub lay-before-spec : {M : Type 1} → statement M
-lay-before-spec =
-    tie.close
-    (tie.spec
+lay-before-spec = tie.close (tie.spec
     (λ iv d n out₀ i₀ out i. (i ≤ n) × (length out ≡ length out₀) × (out ≡ cat i (blockAt (unwords iv ++ d)) ++ drop (16 * i) out₀))
     (λ iv d n out₀ i₀ out i. n - i) (λ c. unfold cat in search needs) (λ c. search needs) (λ c κs. search needs) (λ c. search needs)
     (λ c. search needs) (λ c. search needs) (λ c. search needs) (λ c κs. search needs) (λ c. search needs) (λ c. search needs)

@@ -8,9 +8,7 @@ use Rattle.sixteen.proofs.load.Statement.{statement}
 use Rattle.sixteen.proofs.load.Tie as tie
 
 pub load-spec : {M : Type 1} → statement M
-load-spec =
-    tie.close
-    (tie.spec
+load-spec = tie.close (tie.spec
     (λ src m x₀ i₀ x i. (i ≤ m) × Held i (λ k. words (blockAt src k)) x × (length x ≡ 256)) (λ src m x₀ i₀ x i. m - i)
     (λ c. (search needs, λ j h. absurd (omega arith), c .before .pre .1)) (λ c. search needs) (λ c. search needs) (λ c. search needs)
     (λ c. search needs) (λ c κs. search needs) (λ c κs. search needs) (λ c. search needs) (λ c. search needs)

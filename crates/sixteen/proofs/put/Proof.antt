@@ -6,10 +6,9 @@ use Rattle.sixteen.proofs.put.Statement.{statement}
 use Rattle.sixteen.proofs.put.Tie as tie
 
 pub put-spec : {M : Type 1} → statement M
-put-spec =
-    tie.close
-    (next8 tie.spec (omega arith) (λ c. search needs) (λ c. search needs) (λ c. search needs) (λ c. search needs) (λ c. search needs)
-    (λ c. search needs) (λ c. search needs)
+put-spec = tie.close (next8 tie.spec (omega arith)
+    (λ c. search needs) (λ c. search needs) (λ c. search needs) (λ c. search needs) (λ c. search needs) (λ c. search needs)
+    (λ c. search needs)
     (λ c.
     let a = c .args in
     let n : length (a .t3) ≡ 4 = search needs in

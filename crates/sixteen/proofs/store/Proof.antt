@@ -11,9 +11,7 @@ use Rattle.sixteen.proofs.store.Statement.{statement}
 use Rattle.sixteen.proofs.store.Tie as tie
 
 pub store-spec : {M : Type 1} → statement M
-store-spec =
-    tie.close
-    (tie.spec
+store-spec = tie.close (tie.spec
     (λ x m out₀ i₀ out i.
     (i ≤ m) × (length out ≡ length out₀) × (out ≡ cat i (λ k. unwords (turned (block x 0 k))) ++ drop (16 * i) out₀))
     (λ x m out₀ i₀ out i. m - i) (λ c. unfold cat in search needs) (λ c κs. search needs) (λ c. search needs) (λ c. search needs)

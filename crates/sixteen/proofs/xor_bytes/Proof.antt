@@ -6,9 +6,7 @@ use Rattle.sixteen.proofs.xor_bytes.Statement.{statement}
 use Rattle.sixteen.proofs.xor_bytes.Tie as tie
 
 pub xor-bytes-spec : {M : Type 1} → statement M
-xor-bytes-spec =
-    tie.close
-    (tie.spec
+xor-bytes-spec = tie.close (tie.spec
     (λ pads d out₀ i₀ out i. (i ≤ length d) × (length out ≡ length out₀) × (out ≡ xors (take i d) pads ++ drop i out₀))
     (λ pads d out₀ i₀ out i. length d - i) (λ c. (omega arith, refl, refl)) (λ c. omega arith) (λ c. omega arith) (λ c. omega arith)
     (λ c. omega arith) (λ c. omega arith)

@@ -9,9 +9,7 @@ use Rattle.sliced.proofs.all_rounds.Statement.{statement}
 use Rattle.sliced.proofs.all_rounds.Tie as tie
 
 pub all-rounds-spec : {M : Type 1} → statement M
-all-rounds-spec =
-    tie.close
-    (next8 (tie.spec
+all-rounds-spec = tie.close (next8 (tie.spec
     (λ a₀ b₀ c₀ d₀ s₀ n rk i₀ a b c d s i.
     (i ≤ 32) × (i % 4 ≡ 0) × Planes a b c d s
     × ((e : ℕ) → e < 512 → e % 8 < n → rounds (drop i rk) (lanes a b c d e) ≡ rounds rk (lanes a₀ b₀ c₀ d₀ e)))

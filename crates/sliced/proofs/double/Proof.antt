@@ -8,9 +8,7 @@ use Rattle.sliced.proofs.double.Statement.{statement}
 use Rattle.sliced.proofs.double.Tie as tie
 
 pub double-spec : {M : Type 1} → statement M
-double-spec =
-    tie.close
-    (tie.spec
+double-spec = tie.close (tie.spec
     (λ s₀ i₀ s i. (i ≤ 256) × (length s ≡ 512) × ((f : ℕ → ℕ) (n : ℕ) → Held f n 256 s₀ → Held f n (256 + i) s)) (λ s₀ i₀ s i. 256 - i)
     (λ c. search needs) (λ c. search needs) (λ c. search needs) (λ c. search needs) (λ c. search needs) (λ c. search needs)
     (λ c. search needs) (λ c. search needs)

@@ -5,9 +5,7 @@ use Rattle.sliced.proofs.encrypt.Statement.{statement}
 use Rattle.sliced.proofs.encrypt.Tie as tie
 
 pub encrypt-spec : {M : Type 1} → statement M
-encrypt-spec =
-    tie.close
-    (tie.spec
+encrypt-spec = tie.close (tie.spec
     (λ c κs. search needs) (λ c κs. search needs) (λ c κs. search needs)
     (λ c.
     let R = c .rounds-to-rows in

@@ -6,9 +6,7 @@ use Rattle.sliced.proofs.four.Statement.{statement}
 use Rattle.sliced.proofs.four.Tie as tie
 
 pub four-spec : {M : Type 1} → statement M
-four-spec =
-    tie.close
-    (tie.spec
+four-spec = tie.close (tie.spec
     (λ c κs. search needs) (λ c κs. search needs) (λ c κs. search needs)
     (λ c κs.
     let at-second = c .before .before .before .before .before .before .before .before .before .before .before in

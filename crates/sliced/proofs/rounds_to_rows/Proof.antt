@@ -6,9 +6,7 @@ use Rattle.sliced.proofs.rounds_to_rows.Statement.{statement}
 use Rattle.sliced.proofs.rounds_to_rows.Tie as tie
 
 pub rounds-to-rows-spec : {M : Type 1} → statement M
-rounds-to-rows-spec =
-    tie.close
-    (tie.spec
+rounds-to-rows-spec = tie.close (tie.spec
     (λ c κs. search needs) (λ c κs. search needs) (λ c κs. search needs)
     (λ c.
     let B = c .leave2 in

@@ -10,9 +10,7 @@ use Rattle.sliced.proofs.sub_byte.Statement.{statement}
 use Rattle.sliced.proofs.sub_byte.Tie as tie
 
 pub sub-byte-spec : {M : Type 1} → statement M
-sub-byte-spec =
-    tie.close
-    (next16 (next16 (tie.spec
+sub-byte-spec = tie.close (next16 (next16 (tie.spec
     (λ s₀ x y z k b n m j₀ s j. (length s ≡ 512) × Masks 8 (λ i. bit (8 * b + i) k) m × Columns (subbed x y z k) n b j s)
     (λ s₀ x y z k b n m j₀ s j. n - j) (λ c κs. search needs) (λ c. search (needs, columns-first)) (λ c. search needs) (λ c. search needs)
     (λ c κs. search needs) (λ c κs. search needs)) (omega arith)) (omega arith) (λ c. search needs)

@@ -8,9 +8,7 @@ use Rattle.carryless.proofs.many.sums.Statement.{statement}
 use Rattle.carryless.proofs.many.sums.Tie as tie
 
 pub sums-spec : {M : Type 1} → statement M
-sums-spec =
-    tie.close
-    (next8 (tie.spec
+sums-spec = tie.close (next8 (tie.spec
     (λ a b n r₀ g₀ r g. (g ≤ n) × (length r ≡ 16) × Each (λ i. getD a i 0 ⊕ getD b i 0) g r) (λ a b n r₀ g₀ r g. n - g) (λ c. search needs))
     (omega arith)
     (λ c.

@@ -8,9 +8,7 @@ use Rattle.sixteen.proofs.rounds.all_rounds.Statement.{statement}
 use Rattle.sixteen.proofs.rounds.all_rounds.Tie as tie
 
 pub all-rounds-spec : {M : Type 1} → statement M
-all-rounds-spec =
-    tie.close
-    (tie.spec
+all-rounds-spec = tie.close (tie.spec
     (λ x₀ n groups rk t₀ s₀ i₀ x t s i.
     (i ≤ 32) × Sized x t s × ((j : ℕ) → j < n → rounds (drop i rk) (block x i j) ≡ rounds rk (block x₀ 0 j)))
     (λ x₀ n groups rk t₀ s₀ i₀ x t s i. 32 - i) (λ c. search needs) (λ c. search needs) (λ c. search needs) (λ c κs. search needs)

@@ -7,9 +7,7 @@ use Rattle.sixteen.proofs.rounds.keyed_words.Statement.{statement}
 use Rattle.sixteen.proofs.rounds.keyed_words.Tie as tie
 
 pub keyed-words-spec : {M : Type 1} → statement M
-keyed-words-spec =
-    tie.close
-    (next16 (tie.spec
+keyed-words-spec = tie.close (next16 (tie.spec
     (λ t₀ x i k n b c d j₀ t j. (j ≤ n) × (length t ≡ 64) × Each (keyed x i k) j t) (λ t₀ x i k n b c d j₀ t j. n - j)) (omega arith)
     (λ c. search needs) (λ c. search needs) (λ c. search needs) (λ c. search needs)
     (λ c.

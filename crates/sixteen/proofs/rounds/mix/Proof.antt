@@ -9,9 +9,7 @@ use Rattle.sixteen.proofs.rounds.mix.Statement.{statement}
 use Rattle.sixteen.proofs.rounds.mix.Tie as tie
 
 pub mix-spec : {M : Type 1} → statement M
-mix-spec =
-    tie.close
-    (next8 (tie.spec
+mix-spec = tie.close (next8 (tie.spec
     (λ x₀ i s n a j₀ x j. (j ≤ n) × (length x ≡ 256) × Changed (row i) j (λ k. getD x₀ (row i + k) 0 ⊕ L (getD s k 0)) x₀ x)
     (λ x₀ i s n a j₀ x j. n - j)) (omega arith) (λ c. search needs) (λ c. search needs) (λ c. search needs) (λ c. search needs)
     (λ c. search needs)

@@ -7,9 +7,7 @@ use Rattle.sixteen.proofs.rounds.paired.Statement.{statement}
 use Rattle.sixteen.proofs.rounds.paired.Tie as tie
 
 pub paired-spec : {M : Type 1} → statement M
-paired-spec =
-    tie.close
-    (next16 tie.spec (omega arith)
+paired-spec = tie.close (next16 tie.spec (omega arith)
     (λ c.
     let at-second = c .before .before .before .before .before .before in
     let at-first = at-second .before in

@@ -7,9 +7,7 @@ use Rattle.sixteen.proofs.rounds.put_group.Statement.{statement}
 use Rattle.sixteen.proofs.rounds.put_group.Tie as tie
 
 pub put-group-spec : {M : Type 1} → statement M
-put-group-spec =
-    tie.close
-    (next8 (tie.spec
+put-group-spec = tie.close (next8 (tie.spec
     (λ g s₀ z i₀ s i. (i ≤ 8) × (length s ≡ 64) × ((f : ℕ → ℕ) → Each f (16 * g) s₀ → Halves f g z → Each f (16 * g + 2 * i) s))
     (λ g s₀ z i₀ s i. 8 - i) (λ c. (search needs, search needs, λ f E H j h. E j (omega arith)))) (omega arith) (λ c. search needs)
     (λ c. search needs) (λ c. search needs) (λ c. search needs) (λ c. search needs) (λ c. search needs)

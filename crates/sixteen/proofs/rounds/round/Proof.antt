@@ -5,9 +5,7 @@ use Rattle.sixteen.proofs.rounds.round.Statement.{statement}
 use Rattle.sixteen.proofs.rounds.round.Tie as tie
 
 pub round-spec : {M : Type 1} → statement M
-round-spec =
-    tie.close
-    (tie.spec
+round-spec = tie.close (tie.spec
     (λ c κs. search needs) (λ c κs. search needs) (λ c κs. search needs)
     (λ c.
     let at-sub = c .before .before .before in

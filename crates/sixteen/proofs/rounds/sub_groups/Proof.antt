@@ -9,9 +9,7 @@ use Rattle.sixteen.proofs.rounds.sub_groups.Statement.{statement}
 use Rattle.sixteen.proofs.rounds.sub_groups.Tie as tie
 
 pub sub-groups-spec : {M : Type 1} → statement M
-sub-groups-spec =
-    tie.close
-    (tie.spec
+sub-groups-spec = tie.close (tie.spec
     (λ t s₀ groups g₀ s g. (g ≤ groups) × (length s ≡ 64) × Each (λ j. tau (getD t j 0)) (16 * g) s) (λ t s₀ groups g₀ s g. groups - g)
     (λ c. search needs) (λ c κs. search needs) (λ c κs. search needs) (λ c κs. search needs) (λ c. search needs) (λ c. search needs)
     (λ c.

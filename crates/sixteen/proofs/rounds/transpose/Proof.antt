@@ -6,8 +6,6 @@ use Rattle.sixteen.proofs.rounds.transpose.Statement.{statement}
 use Rattle.sixteen.proofs.rounds.transpose.Tie as tie
 
 pub transpose-spec : {M : Type 1} → statement M
-transpose-spec =
-    tie.close
-    (tie.spec
+transpose-spec = tie.close (tie.spec
     (λ c. search needs) (λ c. search needs) (λ c. search needs) (λ c. search needs) (λ c. search needs) (λ c. search needs)
     (λ c. search needs) (λ c. search needs) (λ c. unfold firstSwapped secondSwapped in three (c .args .t1)))

@@ -8,9 +8,7 @@ use Rattle.sliced.proofs.counters.add_word.Statement.{statement}
 use Rattle.sliced.proofs.counters.add_word.Tie as tie
 
 pub add-word-spec : {M : Type 1} → statement M
-add-word-spec =
-    tie.close
-    (tie.spec
+add-word-spec = tie.close (tie.spec
     (λ x₀ n w m y₀ i₀ x y i. (i ≤ n) × (length x ≡ 256) × (length y ≡ 8) × Masks 32 (λ k. bit k w) m × Rippled w i x₀ y₀ x y)
     (λ x₀ n w m y₀ i₀ x y i. n - i)
     (λ x₁ n w m y₁ i₁ x y i.
@@ -58,6 +56,6 @@ add-word-spec =
     let at-loop = c .before .before .before in
     let a = at-loop .before .before .before .args in
     let h : a .w < 2 ^ 32 = search needs in (
-      rippled-last (a .w) (l .i) (a .x .now) (a .y) (l .x) (l .carries) (omega arith) h (l .inv .5 (a .x .now) (a .y) (at-loop .loop .inv .4)),
+      rippled-last (a .w) (l .i) _ _ (l .x) (l .carries) (omega arith) h (l .inv .5 (a .x .now) (a .y) (at-loop .loop .inv .4)),
       l .inv .2,
     )))

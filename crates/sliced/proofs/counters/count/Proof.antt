@@ -10,9 +10,7 @@ use Rattle.sliced.proofs.counters.count.Statement.{statement}
 use Rattle.sliced.proofs.counters.count.Tie as tie
 
 pub count-spec : {M : Type 1} → statement M
-count-spec =
-    tie.close
-    (tie.spec
+count-spec = tie.close (tie.spec
     (λ c κs. search needs) (λ c. search needs) (λ c κs. search needs) (λ c κs. search needs) (λ c. search needs)
     (λ c κs. search (needs, c .before .before .before .before .before .before .pre .2 .1)) (λ c. search needs)
     (λ c κs. search (needs, c .before .before .before .before .before .before .before .before .pre .1 .1)) (λ c. search needs)

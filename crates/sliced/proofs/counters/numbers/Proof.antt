@@ -6,9 +6,7 @@ use Rattle.sliced.proofs.counters.numbers.Statement.{statement}
 use Rattle.sliced.proofs.counters.numbers.Tie as tie
 
 pub numbers-spec : {M : Type 1} → statement M
-numbers-spec =
-    tie.close
-    (tie.spec
+numbers-spec = tie.close (tie.spec
     (λ x₀ low p₀ x p. (p ≤ 48) × Numbered p x) (λ x₀ low p₀ x p. 48 - p) (λ x₀ p₀ x p. (48 ≤ p) × (p ≤ 72) × Numbered p x)
     (λ x₀ p₀ x p. 72 - p) (λ c. search (needs, numbered-first)) (λ c. search needs) (λ c. search needs) (λ c. search needs)
     (λ c. search needs) (λ c. search needs) (λ c. search needs)
