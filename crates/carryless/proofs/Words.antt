@@ -1,6 +1,7 @@
 -- Numbers of 32 bits as four parts of every fourth bit each: the sixteen products of the parts, summed up by their places, are the product
 -- without carry (`by-quarters`); of a square four of them are enough (`squares`).
-use Rattle.block.proofs.Base.{_%_, _*_, _+_, _-_, _/_, _<_, _^_, _≤_, min, suc, zero, ℕ, _∙_, _≡_, ap, ap₂, refl, sym, ⊎-elim, List, add-zero}
+use Rattle.block.proofs.Base.{_%_, _*_, _+_, _-_, _/_, _<_, _^_, _≤_, min, suc, zero, ℕ, _∙_, _≡_, ap, ap₂, refl, sym, ⊎-elim, List}
+use Rattle.block.proofs.Base.{add-zero}
 use Rattle.block.proofs.Base.{lt-of-le-of-lt, lt-trans, mod-eq-of-lt, mod-lt, mul-assoc, mul-le-mul, mul-mul-mul-comm, pow-suc, arith}
 use Rattle.block.proofs.Base.{and-block, and-comm, and-le-l, and-mask, and-shr, and-step, and-zero-r, bitAnd, differ, xor-lt, xor-shr}
 use Rattle.block.proofs.Base.{xor-step, T, ltb, lit<, getD, length, pow-add, pow-pos, shl-shr, split}
@@ -15,9 +16,6 @@ use Rattle.carryless.specs.Lent.{parts128, words128, PartsOf, Quarters, 
 use Rattle.carryless.proofs.Laws.{clmul-xor, xor-clmul, clmul-up, up-clmul, square-xor}
 use Rattle.carryless.proofs.Holes.{ones, Few, few-pick, pick-more, pick-up, hole-product}
 
-min-differ : (x y z : ℕ) → x < 2 → y < 2 → z < 2 → min x (differ y z) ≡ differ (min x y) (min x z)
-min-differ = three-bits (λ x y z. min x (differ y z) ≡ differ (min x y) (min x z)) refl refl refl refl refl refl refl refl
-
 below-pow : (n : ℕ) → n < 2 ^ n
 below-pow zero = lit< tt
 below-pow (suc n) = let h = below-pow n in rw (pow-suc 2 n) (omega arith)
@@ -27,7 +25,8 @@ and-xor : (c a b : ℕ) → bitAnd c (a ⊕ b) ≡ bitAnd c a ⊕ bitAnd c b
 and-xor c a b =
     let s : (x : ℕ) → bitAnd c x < 2 ^ c = λ x. lt-of-le-of-lt (and-le-l c x) (below-pow c) in
     bit-ext c (bitAnd c (a ⊕ b)) (bitAnd c a ⊕ bitAnd c b) (s (a ⊕ b)) (xor-lt c (bitAnd c a) (bitAnd c b) (s a) (s b))
-    (λ i g. simp (bit-and, bit-xor) (min-differ (bit i c) (bit i a) (bit i b) (bit-small i c) (bit-small i a) (bit-small i b)))
+    (λ i g. simp (bit-and, bit-xor) (three-bits (λ x y z. min x (differ y z) ≡ differ (min x y) (min x z))
+    refl refl refl refl refl refl refl refl (bit i c) (bit i a) (bit i b) (bit-small i c) (bit-small i a) (bit-small i b)))
 
 xor-and : (c a b : ℕ) → bitAnd (a ⊕ b) c ≡ bitAnd a c ⊕ bitAnd b c
 xor-and c a b = and-comm (a ⊕ b) c ∙ and-xor c a b ∙ ap₂ _⊕_ (and-comm c a) (and-comm c b)

@@ -1,5 +1,6 @@
 -- What holds at every place below i, and at i, holds below i + 1: so a list is filled word by word.
-use Rattle.block.proofs.Base.{_*_, _+_, _<_, _≤_, suc, zero, ℕ, _∙_, _≡_, ap, refl, subst, ⊎-elim, List, [], _∷_, arith, getD, length, length-set, set}
+use Rattle.block.proofs.Base.{_*_, _+_, _<_, _≤_, suc, zero, ℕ, _∙_, _≡_, ap, refl, subst, ⊎-elim, List, [], _∷_, arith, getD, length}
+use Rattle.block.proofs.Base.{length-set, set}
 use Rattle.block.proofs.Base.{getD-set-other, getD-set-same}
 use Rattle.lanes.specs.Each.{Each}
 use Rattle.lanes.proofs.Bits.{lt-or-le}
@@ -28,10 +29,6 @@ puts t s p k [] = s
 puts t s p k (v ∷ vs) = puts t (set s (p + k) v) p (k + t) vs
 
 module _ (t : ℕ) where
-  pub length-puts : (vs s : List ℕ) (p k : ℕ) → length (puts t s p k vs) ≡ length s
-  length-puts [] s p k = refl
-  length-puts (v ∷ vs) s p k = length-puts vs (set s (p + k) v) p (k + t) ∙ length-set s (p + k) v
-
   pub puts-out : (vs s : List ℕ) (p k q : ℕ) → ((i : ℕ) → q ≡ p + k + t * i → ⊥) → getD (puts t s p k vs) q 0 ≡ getD s q 0
   puts-out [] s p k q h = refl
   puts-out (v ∷ vs) s p k q h =

@@ -1,6 +1,7 @@
 -- The bytes of blocks in rows, stored one after the other.
 use Rattle.block.proofs.Base.{_%_, _*_, _+_, _/_, _<_, _^_, _≤_, suc, ℕ, _∙_, _≡_, ap, ap₂, refl, sym, List, [], _++_, _∷_, append-assoc}
-use Rattle.block.proofs.Base.{add-one, add-two, add-three, div-one, arith, lit<, drop, getD, length, length-append, length-drop, set, take, drop-at, drop-drop}
+use Rattle.block.proofs.Base.{add-one, add-two, add-three, div-one, arith, lit<, drop, getD, length, length-append, length-drop, set, take}
+use Rattle.block.proofs.Base.{drop-at, drop-drop}
 use Rattle.block.proofs.Base.{length-take-le, sets, sets-eq, take-at}
 use native.Mathlib.Numerals.{add-four, add-five, add-six, add-seven}
 use Rattle.block.specs.Below.{AreBytes}
@@ -13,6 +14,7 @@ use Rattle.block.proofs.Convert.{length-bytesOf, bytesOf-append, bytesOf-xor}
 use Rattle.block.proofs.Entries.{below-at, below-drop}
 use Rattle.block.proofs.WordsBack.{unwords-front}
 use Rattle.block.proofs.Xors.{length-xors, xors-append}
+use Rattle.walk.proofs.Batch.{length-blockAt}
 use Rattle.lanes.proofs.Filling.{puts}
 use Rattle.rows.specs.Rows.{place, Row, Rows, xoredBlocks}
 
@@ -81,13 +83,10 @@ module _ (o₀ o o1 o2 : List ℕ) (u v : ℕ) (f : ℕ → List ℕ) (e : ℕ) 
 
 -- each block that is stored has sixteen bytes
 module _ (d : List ℕ) (m : ℕ) (h : 16 * m ≤ length d) where
-  length-blockAt : (i : ℕ) → i < m → length (blockAt d i) ≡ 16
-  length-blockAt i g = let n = length-drop (16 * i) d in length-take-le 16 (drop (16 * i) d) (omega arith)
-
   pub length-xoredRow : (a b : List ℕ) (i : ℕ) → i < m → length (xoredRow a b d i) ≡ 16
   length-xoredRow a b i g =
       let l = bytesOf 8 (getD a (place i) 0) ++ bytesOf 8 (getD b (place i) 0) in
-      let k = length-blockAt i g in
+      let k = length-blockAt d i m g h in
       let n : length l ≡ 16 = simp (length-append, length-bytesOf) in
       length-xors (blockAt d i) l (omega arith) ∙ k
 

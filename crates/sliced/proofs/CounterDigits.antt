@@ -38,9 +38,6 @@ block-number : (x : List ℕ) → AreWords x
     → numberOf (unwords x) ≡ ((getD x 0 0 * 2 ^ 32 + getD x 1 0) * 2 ^ 32 + getD x 2 0) * 2 ^ 32 + getD x 3 0
 block-number x h = numberOf-unwords x h ∙ omega arith
 
-block-bytes : (x : List ℕ) → bytesOf 16 (numberOf (unwords x)) ≡ unwords x
-block-bytes x = rw (length-unwords x) at (bytesOf-numberOf (unwords x) (unwords-bytes x))
-
 -- a word to which nothing is carried
 alone : (w c y u : ℕ) → c < 2 ^ 32 → u ≡ 0 → w + 2 ^ 32 * y ≡ c + u → (w ≡ c) × (y ≡ 0)
 alone w c y u h z e = omega arith
@@ -69,7 +66,7 @@ module _ (c x0 x1 x2 x3 y y′ : List ℕ) (k e y0 y1 y2 : ℕ) (hc : AreWords c
       ∙ ap (λ (v : ℕ). v * 2 ^ 32 + lane x2 e) (digit (2 ^ 32) (2 ^ 32) _ _ _ _ y1 (lit< tt) (lane-lt x1 e) e1
       ∙ ap (λ (v : ℕ). v * 2 ^ 32 + lane x1 e) (last-digit (2 ^ 32) _ _ _ y0 (lane-lt x0 e) e0)))
       ∙ sym (block-number w (lanes-words x0 x1 x2 x3 e)) in
-      sym (ap (bytesOf 16) n ∙ block-bytes w)
+      sym (ap (bytesOf 16) n ∙ (rw (length-unwords w) at (bytesOf-numberOf (unwords w) (unwords-bytes w))))
   lanes-count false h =
       let b = below-at (2 ^ 32) c (lit< tt) hc in
       let r2 = alone (lane x2 e) (getD c 2 0) y2 (carryAt y′ e) (b 2) (no-carry y′ h e) e2 in

@@ -1,5 +1,6 @@
 -- Transposed halves of blocks are lanes, and lanes transposed are halves of blocks.
-use Rattle.block.proofs.Base.{_%_, _*_, _+_, _/_, _<_, _^_, _≤_, ℕ, _∙_, _≡_, ap, ap₂, refl, subst, sym, List, [], _∷_, add-zero, mod-lt, arith, lit<}
+use Rattle.block.proofs.Base.{_%_, _*_, _+_, _/_, _<_, _^_, _≤_, ℕ, _∙_, _≡_, ap, ap₂, refl, subst, sym, List, [], _∷_, add-zero, mod-lt}
+use Rattle.block.proofs.Base.{arith, lit<}
 use Rattle.block.proofs.Base.{getD, length, length-set, set, pow-pos, getD-set-other, getD-set-same}
 use Rattle.block.proofs.Entries.{below-at}
 use Rattle.block.proofs.WordsBack.{four-entries}

@@ -1,5 +1,6 @@
 -- L in every lane; a round, and four.
-use Rattle.block.proofs.Base.{_%_, _*_, _+_, _/_, _<_, _^_, _≤_, ℕ, _∙_, _≡_, ap, ap₂, refl, sym, List, [], _∷_, arith, differ, lit<, xor-lt}
+use Rattle.block.proofs.Base.{_%_, _*_, _+_, _/_, _<_, _^_, _≤_, ℕ, _∙_, _≡_, ap, ap₂, refl, sym, List, [], _∷_, arith, differ, lit<}
+use Rattle.block.proofs.Base.{xor-lt}
 use Rattle.block.proofs.Base.{getD, length, set, getD-set-other}
 use Rattle.block.specs.Xor.{_⊕_}
 use Rattle.lanes.specs.Bits.{bit}
