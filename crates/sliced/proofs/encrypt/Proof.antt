@@ -16,7 +16,6 @@ encrypt-spec = tie.close (tie.spec
     let a = at-first .before .before .before .before .args in (
       λ m f h G.
           R .ensures .0 m f h
-          (rows-in-lanes (a .a .now) (a .b .now) (E .last .1 .0) (E .last .1 .1 .0) (F .last .1 .0) (F .last .1 .1 .0)
-          (E .ensures .0) (F .ensures .0) m f (omega arith) G),
+          (rows-in-lanes (a .a .now) (a .b .now) _ _ _ _ (E .ensures .0) (F .ensures .0) m f (omega arith) G),
       R .ensures .1,
     )))

@@ -1,5 +1,5 @@
 -- `sliced::counters::count` meets its contract: in each lane the last word of c and the lane's number are added, and what is carried to
--- the other words (`lanes-count`).
+-- the other words (`lanes-counted`).
 use Rattle.block.proofs.Base.{_^_, ℕ, needs, getD, replicate, w32, Fits}
 use Rattle.block.specs.Below.{AreWords}
 use Rattle.block.proofs.Entries.{below-each}
@@ -33,8 +33,7 @@ count-spec = tie.close (tie.spec
     let fits : (i : ℕ) → Fits w32 (getD x i 0) = λ i. search (needs, S .good .1 .0) in
     let small : AreWords x = below-each (2 ^ 32) x (λ i. fits i .fits) in (
       λ e he.
-          lanes-counted x (W0 .last .0) (W1 .last .0) (W2 .last .0) (W3 .last .0) (W3 .result) (K .result)
-          (numberAt e) e (carryAt (W0 .result) e) (carryAt (W1 .result) e) (carryAt (W2 .result) e) small
+          lanes-counted x _ _ _ _ (W3 .result) (K .result) (numberAt e) e _ _ _ small
           (added-number _ _ _ _ _ (numberAt e) e (W3 .ensures .0) he (N .ensures .0 e he) (blank-room 8))
           (added-carry _ _ _ _ _ e (W2 .ensures .0) he (S .pre .2 .1)) (added-carry _ _ _ _ _ e (W1 .ensures .0) he (S .pre .1 .1))
           (added-carry _ _ _ _ _ e (W0 .ensures .0) he (S .pre .0 .1)) (a .wide) (K .ensures),
