@@ -47,6 +47,3 @@ pub held-next : (f : ℕ → ℕ) (n i v : ℕ) (s : List ℕ) → i < length s
     → ((k : ℕ) → i % 8 < n → k < 64 → bit k v ≡ bit (i / 8 % 32) (f (8 * k + i % 8))) → Held f n i s → Held f n (i + 1) (set s i v)
 held-next f n i v s h g H p k hp hc hk =
     word-more i v s h (λ q x. q % 8 < n → bit k x ≡ bit (q / 8 % 32) (f (8 * k + q % 8))) (λ c. g k c hk) (λ q l c. H q k l c hk) p hp hc
-
-pub held-less : (f : ℕ → ℕ) (n i m : ℕ) (s : List ℕ) → m ≤ i → Held f n i s → Held f n m s
-held-less f n i m s h g p k hp hc hk = g p k (omega arith) hc hk

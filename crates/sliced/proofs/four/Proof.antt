@@ -22,7 +22,7 @@ four-spec = tie.close (tie.spec
     let t = at-third .round3 in
     let u = c .round4 in (
       λ e h g.
-          four-done (a .a .now) (a .b .now) (a .c .now) (a .d .now) (r .last .0) (q .last .0) (t .last .0) (u .last .0) (a .k) (a .l) (a .m)
-          (a .o) e (r .ensures .0 e h g) (q .ensures .0 e h g) (t .ensures .0 e h g) (u .ensures .0 e h g),
+          four-done _ _ _ _ _ _ _ _ (a .k) (a .l) (a .m) (a .o) e
+          (r .ensures .0 e h g) (q .ensures .0 e h g) (t .ensures .0 e h g) (u .ensures .0 e h g),
       record { la = r .ensures .1 .0; lb = q .ensures .1 .0; lc = t .ensures .1 .0; ld = u .ensures .1 .0; ls = u .ensures .1 .1 },
     )))

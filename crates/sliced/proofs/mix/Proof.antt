@@ -4,7 +4,6 @@ use Rattle.block.proofs.Base.{_-_, _<_, _^_, _≤_, ℕ, _≡_, arith, needs, l
 use Rattle.lanes.proofs.Needs.{next16}
 use Rattle.sliced.specs.Lanes.{Held}
 use Rattle.sliced.specs.Round.{mixed}
-use Rattle.sliced.proofs.Held.{held-less}
 use Rattle.sliced.proofs.Mixing.{Mixed, mixed-next}
 use Rattle.sliced.proofs.mix.Statement.{statement}
 use Rattle.sliced.proofs.mix.Tie as tie
@@ -21,8 +20,4 @@ mix-spec = tie.close (next16 (tie.spec
       search needs,
       λ f n h g. mixed-next f n (a .a .now) (a .s .now) h g (l .i) (l .a) (search needs) (l .inv .1) (l .inv .2 f n h g),
     ))
-    (λ c.
-    let l = c .before .loop in (
-      λ f n h g. held-less (mixed f (c .before .before .args .a .now)) n (l .i) 256 (l .a) (omega arith) (l .inv .2 f n h g .0),
-      l .inv .1,
-    )))
+    (λ c. let l = c .before .loop in (λ f n h g p k hp. l .inv .2 f n h g .0 p k (omega arith), l .inv .1)))
