@@ -28,8 +28,7 @@ add-word-spec = tie.close (tie.spec
       R .size-x,
       R .size-y,
       l .inv .3,
-      rippled-next (a .w) (l .i) _ _ (a .x .now) (a .y) (l .x) (l .carries) _ _ (λ k h. l .inv .3 (l .i) k (omega arith) h)
-          (at-row .row .ensures) (l .inv .4) R,
+      rippled-next (a .w) (l .i) _ _ _ _ _ _ _ _ (λ k h. l .inv .3 (l .i) k (omega arith) h) (at-row .row .ensures) (l .inv .4) R,
     ))
     (λ c. search needs) (λ c. search needs) (λ c. search needs) (λ c κs. search needs) (λ c. search needs) (λ c. search needs)
     (λ c.
@@ -47,7 +46,7 @@ add-word-spec = tie.close (tie.spec
       R .size-y,
       l .inv .4,
       λ x₀ y₀ Q.
-          rippled-next (a .w) (l .i) _ _ x₀ y₀ (l .x) (l .carries) _ _ (λ k h. l .inv .4 (l .i) k (omega arith) h)
+          rippled-next (a .w) (l .i) _ _ _ _ _ _ _ _ (λ k h. l .inv .4 (l .i) k (omega arith) h)
           (λ q h. blank-room 8 q ∙ sym (P .rest (8 * l .i + q) (omega arith) ∙ S .pre .2 (8 * l .i + q) (omega arith)))
           (l .inv .5 x₀ y₀ Q) R,
     ))
