@@ -41,14 +41,13 @@ store-xored-spec = tie.close (next16 (tie.spec
     record { four = search needs; small = below-each (2 ^ 32) x (λ i. w i .fits); high = high .ensures; low = low .ensures } in
     let xored =
     xored-row (a .a .now) (a .b .now) from (l .i) (p .result) (high .result) (low .result) (omega arith)
-    (below-each 256 from (λ i. known i .fits)) (p .ensures) (rw e at r) in (
-      omega arith,
-      search needs,
-      block-stored (a .out .now) (l .out) (at-first .put-half .last .0) (at-second .put-half2 .last .0) _ _
-          (xoredRow (a .a .now) (a .b .now) from) (l .i)
-          (λ i h. length-xoredRow from (a .m) (at-loop .before .before .before .pre .0 .1) (a .a .now) (a .b .now) i (omega arith))
-          xored (l .inv .2) (at-first .put-half .ensures) (at-second .put-half2 .ensures),
-    ))
+    (below-each 256 from (λ i. known i .fits)) (p .ensures) (rw e at r) in
+    let stored =
+    block-stored (a .out .now) (l .out) (at-first .put-half .last .0) (at-second .put-half2 .last .0) _ _
+    (xoredRow (a .a .now) (a .b .now) from) (l .i)
+    (λ i h. length-xoredRow from (a .m) (at-loop .before .before .before .pre .0 .1) (a .a .now) (a .b .now) i (omega arith))
+    xored (l .inv .2) (at-first .put-half .ensures) (at-second .put-half2 .ensures) in
+    (omega arith, search needs, stored))
     (λ c. search needs)
     (λ c.
     let l = c .before .loop in

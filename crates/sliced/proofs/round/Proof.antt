@@ -22,7 +22,5 @@ round-spec = tie.close (tie.spec
     let a = c .before .before .before .before .before .before .before .args in
     let f = subbed (a .b .now) (a .c .now) (a .d .now) (a .k) in
     let h : Held f (a .n) 256 (l .s) = λ p k hp. l .inv .2 p k (omega arith) in
-    let m = c .mix .ensures .0 f (a .n) (λ e. tau-lt (keyed (a .b .now) (a .c .now) (a .d .now) (a .k) e)) (D .ensures .0 f (a .n) h) in (
-      round-done (a .a .now) (a .b .now) (a .c .now) (a .d .now) (c .mix .last .0) (a .k) (a .n) m,
-      (c .mix .ensures .1, D .ensures .1),
-    )))
+    let m = c .mix .ensures .0 f (a .n) (λ e. tau-lt (keyed (a .b .now) (a .c .now) (a .d .now) (a .k) e)) (D .ensures .0 f (a .n) h) in
+    (round-done (a .a .now) (a .b .now) (a .c .now) (a .d .now) _ (a .k) (a .n) m, (c .mix .ensures .1, D .ensures .1))))

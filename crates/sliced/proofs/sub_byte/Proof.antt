@@ -22,10 +22,9 @@ sub-byte-spec = tie.close (next16 (next16 (tie.spec
     let o = c .sbox .result in
     let g : SboxLanes (column (a .x .now) (a .y .now) (a .z .now) m (64 * a .b + l .j)) o =
     rw (c .before .column-at .ensures) at (c .sbox .ensures) in
-    let hj : l .j < 8 = omega (arith, S .pre .0) in (
-      simp length-set (l .inv .0),
-      l .inv .1,
-      rw add-zero at (columns-next (a .x .now) (a .y .now) (a .z .now) m (a .k) (a .n) (a .b) (l .j) (l .s) o (S .pre .0 .0) hj
-          (l .inv .1) (l .inv .0) g (l .inv .2)),
-    ))
+    let hj : l .j < 8 = omega (arith, S .pre .0) in
+    let next =
+    columns-next (a .x .now) (a .y .now) (a .z .now) m (a .k) (a .n) (a .b) (l .j) (l .s) o (S .pre .0 .0) hj (l .inv .1) (l .inv .0) g
+    (l .inv .2) in
+    (simp length-set (l .inv .0), l .inv .1, rw add-zero at next))
     (λ c. search (needs, columns-last)))

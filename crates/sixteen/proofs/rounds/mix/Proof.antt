@@ -16,12 +16,11 @@ mix-spec = tie.close (next8 (tie.spec
     (λ c.
     let l = c .before .before .before .before .loop in
     let a = c .before .before .before .before .before .args in
-    let r = row (a .i) in (
-      omega arith,
-      search needs,
-      changed-next r (l .j) _ _ (a .x .now) (l .x) (omega arith)
-          (ap₂ (λ (x y : ℕ). x ⊕ y) (l .inv .2 .above (r + l .j) (omega arith)) (c .l-trans .ensures)) (l .inv .2),
-    ))
+    let r = row (a .i) in
+    let next =
+    changed-next r (l .j) _ _ (a .x .now) (l .x) (omega arith)
+    (ap₂ (λ (x y : ℕ). x ⊕ y) (l .inv .2 .above (r + l .j) (omega arith)) (c .l-trans .ensures)) (l .inv .2) in
+    (omega arith, search needs, next))
     (λ c.
     let l = c .before .loop in
     let C = l .inv .2 in

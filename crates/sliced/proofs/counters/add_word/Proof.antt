@@ -23,13 +23,9 @@ add-word-spec = tie.close (tie.spec
     let S = at-loop .before .before .before in
     let a = S .args in
     let R = c .add-row .ensures in
-    let n = S .pre .0 in (
-      omega arith,
-      R .size-x,
-      R .size-y,
-      l .inv .3,
-      rippled-next (a .w) (l .i) _ _ _ _ _ _ _ _ (λ k h. l .inv .3 (l .i) k (omega arith) h) (at-row .row .ensures) (l .inv .4) R,
-    ))
+    let n = S .pre .0 in
+    let next = rippled-next (a .w) (l .i) _ _ _ _ _ _ _ _ (λ k h. l .inv .3 (l .i) k (omega arith) h) (at-row .row .ensures) (l .inv .4) R in
+    (omega arith, R .size-x, R .size-y, l .inv .3, next))
     (λ c. search needs) (λ c. search needs) (λ c. search needs) (λ c κs. search needs) (λ c. search needs) (λ c. search needs)
     (λ c.
     let at-loop2 = c .before .before .before .before in
@@ -54,7 +50,5 @@ add-word-spec = tie.close (tie.spec
     let l = c .before .loop2 in
     let at-loop = c .before .before .before in
     let a = at-loop .before .before .before .args in
-    let h : a .w < 2 ^ 32 = search needs in (
-      rippled-last (a .w) (l .i) _ _ (l .x) (l .carries) (omega arith) h (l .inv .5 (a .x .now) (a .y) (at-loop .loop .inv .4)),
-      l .inv .2,
-    )))
+    let h : a .w < 2 ^ 32 = search needs in
+    (rippled-last (a .w) (l .i) _ _ _ _ (omega arith) h (l .inv .5 (a .x .now) (a .y) (at-loop .loop .inv .4)), l .inv .2)))

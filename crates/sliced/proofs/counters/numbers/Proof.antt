@@ -16,11 +16,9 @@ numbers-spec = tie.close (tie.spec
     (λ c. search needs) (λ c. search needs) (λ c κs. search needs) (λ c. search needs) (λ c. search needs) (λ c. search needs)
     (λ c. search needs)
     (λ c.
-    let l = c .before .before .loop2 in (
-      omega arith,
-      omega arith,
-      numbered-next (l .p) _ (l .x) (omega arith) (high-rows (l .p) _ (l .inv .0) (c .spread .ensures)) (l .inv .2),
-    ))
+    let l = c .before .before .loop2 in
+    let next = numbered-next (l .p) _ (l .x) (omega arith) (high-rows (l .p) _ (l .inv .0) (c .spread .ensures)) (l .inv .2) in
+    (omega arith, omega arith, next))
     (λ c.
     let l = c .before .loop2 in
     (numbered-last (l .x) (l .p) (omega arith) (l .inv .2), (l .inv .2 .0, λ q h. l .inv .2 .2 q (omega arith)))))
