@@ -39,14 +39,5 @@ block-stored o₀ o t f e full ho ht =
     let n = length-cat e f full in
     let q : 16 * e + 16 ≡ 16 * (e + 1) = omega arith in
     returned-is o t (16 * e)
-    ∙ rw (
-      ht,
-      tail-is o (16 * e),
-      ho,
-      take-at C D (16 * e) n,
-      drop-at C D (16 * e) n,
-      drop-drop 16 (16 * e) o₀,
-      q,
-      cat-next e f,
-      append-assoc,
-    )
+    ∙ rw (ht, tail-is o (16 * e), ho, take-at C D (16 * e) n, drop-at C D (16 * e) n)
+    (rw (drop-drop 16 (16 * e) o₀, q, cat-next e f, append-assoc))

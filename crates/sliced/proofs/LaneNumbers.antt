@@ -41,12 +41,10 @@ numbered-first x h = (h .0, λ q k hq hc hk. absurd (omega arith), λ q g. h .1 
 pub numbered-next : (p v : ℕ) (x : List ℕ) → p < 256 → ((k : ℕ) → k < 64 → bit k v ≡ bit (p / 8) (numberAt (8 * k + p % 8)))
     → Numbered p x → Numbered (p + 1) (set x p v)
 numbered-next p v x hp hv N =
-    let l = N .0 in (
-      length-set x p v ∙ l,
-      held-next numberAt 8 p v x (omega arith)
-          (λ k hc hk. let r : p / 8 ≡ p / 8 % 32 = omega arith in hv k hk ∙ ap (λ (z : ℕ). bit z (numberAt (8 * k + p % 8))) r) (N .1),
-      λ q h. getD-set-other x p q v 0 (λ e. omega arith) ∙ N .2 q (omega arith),
-    )
+    let l = N .0 in
+    let next = held-next numberAt 8 p v x (omega arith)
+    (λ k hc hk. let r : p / 8 ≡ p / 8 % 32 = omega arith in hv k hk ∙ ap (λ (z : ℕ). bit z (numberAt (8 * k + p % 8))) r) (N .1) in
+    (length-set x p v ∙ l, next, λ q h. getD-set-other x p q v 0 (λ e. omega arith) ∙ N .2 q (omega arith))
 
 -- the rows that are left hold nothing
 pub numbered-last : (x : List ℕ) (p : ℕ) → 72 ≤ p → Numbered p x → (e : ℕ) → e < 512 → lane x e ≡ numberAt e

@@ -51,11 +51,10 @@ module _ (f : ℕ → ℕ) (n : ℕ) (a₀ s : List ℕ) (hf : (e : ℕ) → f e
   pub mixed-next : (i : ℕ) (a : List ℕ) → i < 256 → length a ≡ 256 → Mixed f n a₀ i a
       → Mixed f n a₀ (i + 1) (set a i (getD a i 0 ⊕ five s i))
   mixed-next i a hi ha h =
-      let v : ℕ → ℕ = λ u. u ⊕ five s i in (
-        held-next (mixed f a₀) n i (v (getD a i 0)) a (omega arith)
-            (λ k hc hk. ap (λ (u : ℕ). bit k (v u)) (h .1 i (omega arith)) ∙ mixed-bit i k hi hc hk) (h .0),
-        λ p hp. getD-set-other a i p (v (getD a i 0)) 0 (λ e. omega arith) ∙ h .1 p (omega arith),
-      )
+      let v : ℕ → ℕ = λ u. u ⊕ five s i in
+      let next = held-next (mixed f a₀) n i (v (getD a i 0)) a (omega arith)
+      (λ k hc hk. ap (λ (u : ℕ). bit k (v u)) (h .1 i (omega arith)) ∙ mixed-bit i k hi hc hk) (h .0) in
+      (next, λ p hp. getD-set-other a i p (v (getD a i 0)) 0 (λ e. omega arith) ∙ h .1 p (omega arith))
 
 pub round-done : (a b c d a′ : List ℕ) (k n : ℕ) → Held (mixed (subbed b c d k) a) n 256 a′
     → (e : ℕ) → e < 512 → e % 8 < n → lane a′ e ≡ lane a e ⊕ T (keyed b c d k e)

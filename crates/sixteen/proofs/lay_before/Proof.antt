@@ -22,12 +22,11 @@ lay-before-spec = tie.close (tie.spec
     let a = at-loop .before .before .before .args in
     let whole = unwords (a .iv) ++ now (a .«data») in
     let s = length-unwords (a .iv) in
-    let room : 16 * a .n ≤ length whole = rw length-append (omega arith) in (
-      omega arith,
-      search needs,
-      block-stored (a .out .now) (l .out) _ (blockAt whole) (l .i) (λ k h. length-blockAt whole k (a .n) (omega arith) room) (l .inv .2)
-          (at-put-block .put-block .ensures ∙ rw (at-block-before .block-before .ensures)),
-    ))
+    let room : 16 * a .n ≤ length whole = rw length-append (omega arith) in
+    let stored =
+    block-stored (a .out .now) (l .out) _ (blockAt whole) (l .i) (λ k h. length-blockAt whole k (a .n) (omega arith) room) (l .inv .2)
+    (at-put-block .put-block .ensures ∙ rw (at-block-before .block-before .ensures)) in
+    (omega arith, search needs, stored))
     (λ c. search needs)
     (λ c.
     let l = c .before .loop in

@@ -21,12 +21,11 @@ store-spec = tie.close (tie.spec
     let at-taken = at-put-block .before .before in
     let at-loop = at-taken .before .before in
     let l = at-loop .loop in
-    let a = at-loop .before .before .args in (
-      omega arith,
-      search needs,
-      block-stored (a .out .now) (l .out) _ (λ k. unwords (turned (block (a .x .now) 0 k))) (l .i) (λ k h. length-unwords _) (l .inv .2)
-          (at-put-block .put-block .ensures ∙ rw (at-taken .taken .ensures)),
-    ))
+    let a = at-loop .before .before .args in
+    let stored =
+    block-stored (a .out .now) (l .out) _ (λ k. unwords (turned (block (a .x .now) 0 k))) (l .i) (λ k h. length-unwords _) (l .inv .2)
+    (at-put-block .put-block .ensures ∙ rw (at-taken .taken .ensures)) in
+    (omega arith, search needs, stored))
     (λ c. search needs)
     (λ c.
     let l = c .before .loop in
