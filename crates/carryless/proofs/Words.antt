@@ -146,10 +146,7 @@ squares x h =
     let ab = xor-lt 32 (part x 0) (part x 1) (l 0) (l 1) in
     let s : clmul 32 (part x 0 ⊕ part x 1 ⊕ part x 2 ⊕ part x 3) (part x 0 ⊕ part x 1 ⊕ part x 2 ⊕ part x 3)
     ≡ clmul 32 (part x 0) (part x 0) ⊕ clmul 32 (part x 1) (part x 1) ⊕ clmul 32 (part x 2) (part x 2) ⊕ clmul 32 (part x 3) (part x 3) =
-    rw (
-      square-xor 32 (part x 0 ⊕ part x 1 ⊕ part x 2) (part x 3) (xor-lt 32 _ _ ab (l 2)) (l 3),
-      square-xor 32 (part x 0 ⊕ part x 1) (part x 2) ab (l 2),
-      square-xor 32 (part x 0) (part x 1) (l 0) (l 1),
-    ) in
+    rw (square-xor 32 (part x 0 ⊕ part x 1 ⊕ part x 2) (part x 3) (xor-lt 32 _ _ ab (l 2)) (l 3))
+    (rw (square-xor 32 (part x 0 ⊕ part x 1) (part x 2) ab (l 2), square-xor 32 (part x 0) (part x 1) (l 0) (l 1))) in
     simp (xor-and, meet x x h h 0 0 tt, meet x x h h 2 2 tt, meet x x h h 1 1 tt, meet x x h h 3 3 tt)
     (simp xor-sums (simp xor-sums at (sym s ∙ ap (λ (v : ℕ). clmul 32 v v) (whole-of x h))))

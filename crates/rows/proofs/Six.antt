@@ -27,12 +27,8 @@ six a b c d e f g hb hc hd he hf hg j r s hj hr hs =
 -- the last stage has stored every word
 pub all-small : (d m : ℕ) (a₀ a : List ℕ) → Staged d m 8 32 a₀ a → (p : ℕ) → getD a p 0 < 2 ^ 64
 all-small d m a₀ a S p =
-    ⊎-elim
-    (λ (h : p < 512).
+    ⊎-elim (λ (h : p < 512).
     let P = S .pairs (p / 16) (p % 8) (omega arith) (omega arith) in
-    ⊎-elim
-    (λ (g : p % 16 < 8). let e : p ≡ 2 * 8 * (p / 16) + p % 8 = omega arith in rw e (P .first-small))
-    (λ (g : 8 ≤ p % 16). let e : p ≡ 2 * 8 * (p / 16) + p % 8 + 8 = omega arith in rw e (P .second-small))
-    (lt-or-le (p % 16) 8))
-    (λ (h : 512 ≤ p). let n = S .size in rw (List·getD-eq-default a 0 {n = p} (omega arith)) (lit< tt))
-    (lt-or-le p 512)
+    ⊎-elim (λ (g : p % 16 < 8). let e : p ≡ 2 * 8 * (p / 16) + p % 8 = omega arith in rw e (P .first-small))
+    (λ (g : 8 ≤ p % 16). let e : p ≡ 2 * 8 * (p / 16) + p % 8 + 8 = omega arith in rw e (P .second-small)) (lt-or-le (p % 16) 8))
+    (λ (h : 512 ≤ p). let n = S .size in rw (List·getD-eq-default a 0 {n = p} (omega arith)) (lit< tt)) (lt-or-le p 512)
