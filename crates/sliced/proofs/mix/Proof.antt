@@ -15,9 +15,7 @@ mix-spec = tie.close (next16 (tie.spec
     (λ c. search needs) (λ c. search needs)
     (λ c.
     let l = c .before .before .before .before .before .before .before .loop in
-    let a = c .before .before .before .before .before .before .before .before .args in (
-      omega arith,
-      search needs,
-      λ f n h g. mixed-next f n (a .a .now) (a .s .now) h g (l .i) (l .a) (search needs) (l .inv .1) (l .inv .2 f n h g),
-    ))
+    let a = c .before .before .before .before .before .before .before .before .args in
+    let i = l .inv in
+    (omega arith, search needs, λ f n h g. mixed-next f n (a .a .now) (a .s .now) h g (l .i) (l .a) (search needs) (i .1) (i .2 f n h g)))
     (λ c. let l = c .before .loop in (λ f n h g p k hp. l .inv .2 f n h g .0 p k (omega arith), l .inv .1)))
