@@ -9,10 +9,7 @@ use Rattle.walk.proofs.Loop.{tailed, tail-is}
 -- of the IV s and the data d together, the block that ends where place `at` of d begins
 pub block-before : (s d : List ℕ) (at : ℕ) → length s ≡ 16 → 16 ≤ at → take 16 (drop at (s ++ d)) ≡ take 16 (drop (at - 16) d)
 block-before s d at hs h =
-    let f = at - 16 in
-    let m : at ≡ 16 + f = omega arith in
-    let x : drop (16 + f) (s ++ d) ≡ drop f d = rw hs at (drop-append-add s d f) in
-    ap (λ (n : ℕ). take 16 (drop n (s ++ d))) m ∙ ap (take 16) x
+    let m : 16 + (at - 16) ≡ at = omega arith in ap (take 16) (rw (hs, m) at (drop-append-add s d (at - 16)))
 
 -- in the code's words
 pub before-words : (s d r : List ℕ) (at : ℕ) → length s ≡ 16 → AreBytes d → 16 ≤ at → at ≤ length d

@@ -1,4 +1,3 @@
-pub mod Swap
 pub mod Stages
 pub mod Bytes
 pub mod Filling

@@ -8,9 +8,7 @@ counts : List ℕ
 counts = 0 ∷ 2 ∷ 2 ∷ 4 ∷ 4 ∷ 6 ∷ 6 ∷ 8 ∷ 8 ∷ []
 
 pub columns-of-spec : {M : Type 1} → statement M
-columns-of-spec =
-    tie.close
-    (tie.spec
+columns-of-spec = tie.close (tie.spec
     (λ c. search needs) (λ c. search needs) (λ c. search needs)
     (λ c. unfold counts in
     let i = (c .args .m + 63) / 64 in

@@ -5,9 +5,7 @@ use Rattle.sliced.proofs.encrypt_xored.Statement.{statement}
 use Rattle.sliced.proofs.encrypt_xored.Tie as tie
 
 pub encrypt-xored-spec : {M : Type 1} → statement M
-encrypt-xored-spec =
-    tie.close
-    (tie.spec
+encrypt-xored-spec = tie.close (tie.spec
     (λ c κs. search needs) (λ c κs. search needs) (λ c κs. search needs) (λ c κs. search needs) (λ c. search needs)
     (λ c. unfold encryptBlock in
     let at-store = c .before .before in

@@ -5,5 +5,4 @@ use Rattle.sixteen.proofs.rounds.half.Statement.{statement}
 use Rattle.sixteen.proofs.rounds.half.Tie as tie
 
 pub half-spec : {M : Type 1} → statement M
-half-spec = tie.close (tie.spec
-    (λ c. (shl-or 64 32 32 (c .args .high) (c .args .low) (omega arith) (search needs) (search needs), c .fits .low .fits)))
+half-spec = tie.close (tie.spec (λ c. search (needs, shl-or)))

@@ -5,10 +5,7 @@ use Rattle.sixteen.proofs.Stages.{three}
 use Rattle.sixteen.proofs.rounds.transpose.Statement.{statement}
 use Rattle.sixteen.proofs.rounds.transpose.Tie as tie
 
-returns : tie.Need-returns
-unfolding firstSwapped secondSwapped
-returns c = three (c .args .t1)
-
 pub transpose-spec : {M : Type 1} → statement M
-transpose-spec = tie.close (tie.spec (λ c. search needs) (λ c. search needs) (λ c. search needs) (λ c. search needs) (λ c. search needs)
-    (λ c. search needs) (λ c. search needs) (λ c. search needs) returns)
+transpose-spec = tie.close (tie.spec
+    (λ c. search needs) (λ c. search needs) (λ c. search needs) (λ c. search needs) (λ c. search needs) (λ c. search needs)
+    (λ c. search needs) (λ c. search needs) (λ c. unfold firstSwapped secondSwapped in three (c .args .t1)))

@@ -11,9 +11,7 @@ use Rattle.sliced.proofs.counters.encrypt_counters.Statement.{statement
 use Rattle.sliced.proofs.counters.encrypt_counters.Tie as tie
 
 pub encrypt-counters-spec : {M : Type 1} → statement M
-encrypt-counters-spec =
-    tie.close
-    (tie.spec
+encrypt-counters-spec = tie.close (tie.spec
     (λ c κs. search needs) (λ c κs. search (needs, blank-room)) (λ c κs. search needs) (λ c κs. search needs) (λ c. search needs)
     (λ c. unfold encryptBlock in
     let at-store = c .before .before in
