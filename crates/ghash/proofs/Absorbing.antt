@@ -10,7 +10,7 @@ use Rattle.ghash.specs.declared.Ghash.{Ghash}
 use Rattle.ghash.specs.Ghash.{blockOf, blocks, lengthBlock, authBlocks, hashFrom, ghash}
 use Rattle.ghash.specs.Absorbed.{Absorbed}
 use Rattle.ghash.specs.Sets.{upTo, blockNumber}
-use Rattle.ghash.proofs.Blocks.{blocks-nil, blocks-cons, lent-all}
+use Rattle.ghash.proofs.Blocks.{blocks-nil, blocks-at, lent-all}
 use Rattle.ghash.proofs.Join.{hash-append}
 use Rattle.ghash.proofs.Sets.{blocks-cut}
 
@@ -30,7 +30,7 @@ absorbed-same {s} a e = record { key = a .key; hash = a .hash ∙ ap (λ (x : �
 pub absorbed-both : (s r q : Ghash) (xs ys : List ℕ) → Absorbed s xs r → Absorbed r ys q → Absorbed s (xs ++ ys) q
 absorbed-both s r q xs ys a b = record {
   key = b .key ∙ a .key;
-  hash = b .hash ∙ ap₂ (λ (k y : ℕ). hashFrom k y ys) (ap value (a .key)) (a .hash) ∙ sym (hash-append (value (s .h)) (value (s .y)) xs ys);
+  hash = b .hash ∙ rw (a .key, a .hash) (sym (hash-append (value (s .h)) (value (s .y)) xs ys));
 }
 
 -- the first k blocks and the rest, as `&bs[16 * k..]` is lent
@@ -49,27 +49,16 @@ module _ (s₀ s : Ghash) (bs : List ℕ) (i : ℕ) (w : Walked s₀ bs s i) whe
   -- as `&bs[i..]` is lent
   pub walk-on : i < length bs → (r : Ghash) → Absorbed s (blockOf (take (length bs - i) (drop i bs)) ∷ []) r → Walked s₀ bs r (i + 16)
   walk-on l r a =
-      let k = value (s₀ .h) in
-      let d = drop i bs in
-      let rest = blocks (drop (i + 16) bs) in
-      let cut : blocks d ≡ blockOf d ∷ rest =
-      blocks-cons d (simp length-drop (omega arith)) ∙ ap (λ (t : List ℕ). blockOf d ∷ blocks t) (drop-drop 16 i bs) in
-      record {
-        key = a .key ∙ w .key;
-        hash =
-            ap (λ (y : ℕ). hashFrom k y rest)
-            (a .hash ∙ ap₂ (λ (m : ℕ) (t : List ℕ). hashFrom m (value (s .y)) (blockOf t ∷ [])) (ap value (w .key)) (lent-all bs i))
-            ∙ sym (hash-append k (value (s .y)) (blockOf d ∷ []) rest)
-            ∙ ap (hashFrom k (value (s .y))) (sym cut)
-            ∙ w .hash;
-      }
+      let joint = hash-append (value (s₀ .h)) (value (s .y)) (blockOf (drop i bs) ∷ []) (blocks (drop (i + 16) bs)) in
+      record { key = a .key ∙ w .key; hash = rw (a .hash, w .key, lent-all bs i, ← joint, ← blocks-at bs i l) (w .hash) }
 
   pub walk-end : length bs ≤ i → Absorbed s₀ (blocks bs) s
   unfolding hashFrom
-  walk-end l = record {
-    key = w .key;
-    hash = ap (hashFrom (value (s₀ .h)) (value (s .y))) (sym (ap blocks (drop-of-length-le bs l) ∙ blocks-nil)) ∙ w .hash;
-  }
+  walk-end l = record { key = w .key; hash = rw (drop-of-length-le bs l, blocks-nil) at (w .hash) }
+
+-- a state that began at 0
+pub hash-of : (h : U128) (s r : Ghash) (bs : List ℕ) → (s .h ≡ h) × (value (s .y) ≡ 0) → Absorbed s bs r → value (r .y) ≡ ghash (value h) bs
+hash-of h s r bs e a = a .hash ∙ ap₂ (λ (k y : ℕ). hashFrom k y bs) (ap value (e .0)) (e .1)
 
 -- a label, a text and their lengths, from the start
 pub absorbed-auth : (h : U128) (s a b r : Ghash) (label text : List ℕ) → (s .h ≡ h) × (value (s .y) ≡ 0)
@@ -78,5 +67,4 @@ pub absorbed-auth : (h : U128) (s a b r : Ghash) (label text : List ℕ) → (s 
 unfolding authBlocks
 absorbed-auth h s a b r label text e p q l =
     let m = lengthBlock (length label) (length text) ∷ [] in
-    absorbed-both s a r (blocks label) (blocks text ++ m) p (absorbed-both a b r (blocks text) m q l) .hash
-    ∙ ap₂ (λ (k y : ℕ). hashFrom k y (authBlocks label text)) (ap value (e .0)) (e .1)
+    hash-of h s r (authBlocks label text) e (absorbed-both s a r (blocks label) (blocks text ++ m) p (absorbed-both a b r (blocks text) m q l))

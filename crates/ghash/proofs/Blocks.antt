@@ -1,7 +1,7 @@
 -- Bytes as blocks: block by block, joined at a block's end, and with one more zero byte.
 use Rattle.block.proofs.Base.{_%_, _*_, _+_, _-_, _/_, _<_, _^_, _≤_, suc, zero, ℕ, _∙_, _≡_, ap, ap₂, refl, sym, _≢_, ⊎-elim, List, []}
 use Rattle.block.proofs.Base.{_++_, _∷_, append-assoc, eq-zero-or-pos, le-of-eq, arith, lit<, drop, drop-of-length-le, getD, length}
-use Rattle.block.proofs.Base.{length-append, length-drop, replicate, take, drop-append-le, getD-take, length-take-le, take-all, take-append-le}
+use Rattle.block.proofs.Base.{length-append, length-drop, replicate, take, drop-append-le, drop-drop, getD-take, take-append-drop, length-take-le, take-all, take-append-le}
 use Rattle.block.proofs.Base.{take-at}
 use lib.Seq.{ext-getD, getD-drop}
 use Rattle.block.specs.Below.{AreBytes}
@@ -83,6 +83,10 @@ blocks-cons bs h =
     let e : (length bs + 15) / 16 ≡ suc ((length (drop 16 bs) + 15) / 16) = simp length-drop (omega arith) in
     ap (λ (n : ℕ). blocksFrom n bs) e
 
+-- from place i on
+pub blocks-at : (bs : List ℕ) (i : ℕ) → i < length bs → blocks (drop i bs) ≡ blockOf (drop i bs) ∷ blocks (drop (i + 16) bs)
+blocks-at bs i h = blocks-cons (drop i bs) (simp length-drop (omega arith)) ∙ rw (drop-drop 16 i bs)
+
 pub blocks-full : (bs : List ℕ) → length bs ≡ 16 → blocks bs ≡ numberOf bs ∷ []
 unfolding blockOf
 blocks-full bs e = blocks-cons bs (omega arith) ∙ rw (take-at bs (replicate 16 0) 16 e, drop-of-length-le bs (le-of-eq e), blocks-nil)
@@ -114,6 +118,10 @@ unfolding blocks
 blocks-zero bs n =
     let e : (length (bs ++ (0 ∷ [])) + 15) / 16 ≡ (length bs + 15) / 16 = simp length-append (omega (arith, n)) in
     rw e (blocksFrom-alike _ (bs ++ (0 ∷ [])) bs (getD-before-zeros bs 1))
+
+-- lists of which two parts are the same
+pub parts-same : (n : ℕ) (a b : List ℕ) → take n a ≡ take n b → drop n a ≡ drop n b → a ≡ b
+parts-same n a b p q = sym (take-append-drop n a) ∙ ap₂ _++_ p q ∙ take-append-drop n b
 
 -- the rest from place n on, as `&bs[n..]` is lent
 pub lent-all : (bs : List ℕ) (n : ℕ) → take (length bs - n) (drop n bs) ≡ drop n bs

@@ -10,6 +10,4 @@ lengthBlock-iv = refl
 
 pub iv-blocks : (iv : List ℕ) → length iv ≡ 16 → authBlocks [] iv ≡ numberOf iv ∷ 128 ∷ []
 unfolding authBlocks
-iv-blocks iv e =
-    ap₂ (λ (l t : List ℕ). l ++ (t ++ (lengthBlock 0 (length iv) ∷ []))) blocks-nil (blocks-full iv e)
-    ∙ ap (λ (n : ℕ). numberOf iv ∷ n ∷ []) (ap (lengthBlock 0) e ∙ lengthBlock-iv)
+iv-blocks iv e = rw (blocks-nil, blocks-full iv e, e, lengthBlock-iv)

@@ -3,8 +3,7 @@
 use Rattle.block.proofs.Base.{_*_, _≤_, _∙_, lt-of-le-of-lt, arith, needs, length}
 use Rattle.block.specs.Wide.{value}
 use Rattle.field.proofs.Bounded.{whole-lt}
-use Rattle.ghash.proofs.Absorbing.{absorbed-cut}
-use Rattle.ghash.proofs.JoinedBytes.{hash-of}
+use Rattle.ghash.proofs.Absorbing.{absorbed-cut, hash-of}
 use Rattle.ghash.proofs.Sets.{lanes-few, starts-first}
 use Rattle.ghash.proofs.interleaved.absorb_lanes.Statement.{statement}
 use Rattle.ghash.proofs.interleaved.absorb_lanes.Tie as tie
