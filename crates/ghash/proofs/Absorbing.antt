@@ -1,6 +1,6 @@
 -- The hash state over bytes: one step after the other, along the rest of a list.
-use Rattle.block.proofs.Base.{_*_, _+_, _-_, _<_, _≤_, ℕ, _∙_, _≡_, ap, ap₂, sym, List, [], _++_, _∷_, arith, drop, drop-of-length-le}
-use Rattle.block.proofs.Base.{length, length-drop, take, drop-drop}
+use Rattle.block.proofs.Base.{_*_, _+_, _-_, _<_, _≤_, ℕ, _∙_, _≡_, ap, ap₂, sym, List, [], _++_, _∷_, drop, drop-of-length-le}
+use Rattle.block.proofs.Base.{length, take}
 use Rattle.block.specs.declared.U128.{U128}
 use Rattle.block.specs.Wide.{value}
 use Rattle.block.specs.Xor.{_⊕_}

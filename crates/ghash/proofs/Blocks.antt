@@ -1,6 +1,6 @@
 -- Bytes as blocks: block by block, joined at a block's end, and with one more zero byte.
-use Rattle.block.proofs.Base.{_%_, _*_, _+_, _-_, _/_, _<_, _^_, _≤_, suc, zero, ℕ, _∙_, _≡_, ap, ap₂, refl, sym, _≢_, ⊎-elim, List, []}
-use Rattle.block.proofs.Base.{_++_, _∷_, append-assoc, eq-zero-or-pos, le-of-eq, arith, lit<, drop, drop-of-length-le, getD, length}
+use Rattle.block.proofs.Base.{_%_, _*_, _+_, _-_, _/_, _<_, _≤_, suc, zero, ℕ, _∙_, _≡_, ap, ap₂, refl, sym, _≢_, List, []}
+use Rattle.block.proofs.Base.{_++_, _∷_, append-assoc, le-of-eq, arith, lit<, drop, drop-of-length-le, getD, length}
 use Rattle.block.proofs.Base.{length-append, length-drop, replicate, take, drop-append-le, drop-drop, getD-take, take-append-drop, length-take-le, take-all, take-append-le}
 use Rattle.block.proofs.Base.{take-at}
 use lib.Seq.{ext-getD, getD-drop}

@@ -1,6 +1,6 @@
 -- For H other than 0 the hash of a label and a text changes with a change inside one block of either, and with one
 -- zero byte more at the end of either, which the length block tells.
-use Rattle.block.proofs.Base.{_%_, _*_, _+_, _-_, _<_, ℕ, _∙_, _≡_, ap, ap₂, refl, sym, _≢_, ⊎-elim, List, [], _++_, _∷_, append-assoc}
+use Rattle.block.proofs.Base.{_%_, _*_, _+_, _-_, _<_, ℕ, _∙_, _≡_, ap, refl, sym, _≢_, ⊎-elim, List, [], _++_, _∷_, append-assoc}
 use Rattle.block.proofs.Base.{eq-zero-or-pos, arith, drop, length, length-append, length-drop, take, take-append-drop, drop-drop}
 use Rattle.block.proofs.Base.{length-take-le, take-all}
 use Rattle.block.specs.Below.{AreBytes}

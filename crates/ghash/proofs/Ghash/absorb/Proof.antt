@@ -1,9 +1,7 @@
 -- `ghash::Ghash::absorb` meets its contract. The words that are loaded spell the number of the block at the front of `rest`,
 -- filled up with zeros (`blockOf-words`), and `step` takes in that number (`absorbed-same`).
 use Rattle.ghash.proofs.Absorbing.{absorbed-same}
-use Rattle.block.proofs.Base.{ℕ, _∙_, _≡_, ap, List, needs}
-use Rattle.block.specs.BigEndian.{numberOf}
-use Rattle.block.specs.Words.{unwords}
+use Rattle.block.proofs.Base.{_∙_, _≡_, needs}
 use Rattle.block.specs.Wide.{value}
 use Rattle.block.proofs.Entries.{below-each}
 use Rattle.ghash.specs.Ghash.{blockOf}
@@ -23,7 +21,5 @@ absorb-spec =
     let s = at-slice .before .args .rest .now in
     let bytes = below-each 256 s (λ i. at-slice .shared-slice-known .given i .fits) in
     let e : value (at-number .to-u128 .result) ≡ blockOf s =
-    at-number .to-u128 .ensures
-    ∙ ap (λ (w : List ℕ). numberOf (unwords w)) (at-load .load-block .ensures)
-    ∙ blockOf-words s bytes in
+    at-number .to-u128 .ensures ∙ rw (at-load .load-block .ensures) (blockOf-words s bytes) in
     absorbed-same (c .step .ensures) e))

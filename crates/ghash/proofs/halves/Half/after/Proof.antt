@@ -1,7 +1,5 @@
 -- `ghash::halves::Half::after` meets its contract: `galois_mul` ensures the product, and `add` its sum with the hash.
-use Rattle.block.proofs.Base.{ℕ, _∙_, ap, needs}
-use Rattle.block.specs.Wide.{value}
-use Rattle.block.specs.Xor.{_⊕_}
+use Rattle.block.proofs.Base.{_∙_, needs}
 use Rattle.ghash.proofs.halves.Half.after.Statement.{statement}
 use Rattle.ghash.proofs.halves.Half.after.Tie as tie
 
@@ -10,4 +8,4 @@ after-spec =
     tie.close
     (tie.spec
     (λ c κs. search needs) (λ c κs. search needs)
-    (λ c. c .add .ensures ∙ ap (λ (p : ℕ). p ⊕ value (c .before .before .args .self .hash)) (c .before .galois-mul .ensures)))
+    (λ c. c .add .ensures ∙ rw (c .before .galois-mul .ensures)))
