@@ -1,9 +1,9 @@
 -- What is hashed tells label and ciphertext, also where blocks of zeros stand in front: the last block tells both lengths, these
 -- tell how many zeros there are and where each part ends, and the blocks of a part tell its bytes.
-use Rattle.block.proofs.Base.{_+_, _-_, _≤_, ℕ, _∙_, _≡_, ap, ap₂, refl, sym, List, [], _++_, _∷_, append-assoc, arith, lit<, drop, length}
+use Rattle.block.proofs.Base.{_-_, _≤_, ℕ, _∙_, _≡_, ap, ap₂, refl, sym, List, [], _++_, _∷_, append-assoc, arith, lit<, drop, length}
 use Rattle.block.proofs.Base.{length-append, length-replicate, replicate, take, drop-at, take-at}
 use Rattle.block.proofs.Entries.{below-append, below-replicate}
-use Rattle.ghash.specs.Ghash.{blockCount, blocks, lengthBlock, authBlocks}
+use Rattle.ghash.specs.Ghash.{blocks, lengthBlock, authBlocks}
 use Rattle.ghash.proofs.Blocks.{length-blocks}
 use Rattle.ghash.proofs.Lengths.{lengthBlock-lt, lengthBlock-same}
 use Rattle.roots.specs.Confused.{Pair, Sound, hashed, hashedCount}
@@ -51,9 +51,7 @@ hashed-elements p s =
 pub filled-length : (n : ℕ) (p : Pair) → hashedCount p ≤ n → length (filled n p) ≡ n
 unfolding filled
 filled-length n p l =
-    length-append (replicate (n - hashedCount p) 0) (hashed p)
-    ∙ ap₂ _+_ (length-replicate (n - hashedCount p) 0) (hashed-length p)
-    ∙ omega arith
+    simp (length-append, length-replicate, hashed-length p) (omega arith)
 
 pub filled-elements : (n : ℕ) (p : Pair) → Sound p → Elements (filled n p)
 unfolding filled
@@ -70,18 +68,14 @@ module _ (n : ℕ) (p q : Pair) (sp : Sound p) (sq : Sound q) (same : filled n p
   hashed-same : hashed p ≡ hashed q
   unfolding filled
   hashed-same =
-      let zeros : List ℕ = replicate (n - hashedCount p) 0 in
-      let counts : hashedCount p ≡ hashedCount q = ap₂ (λ (a t : ℕ). blockCount a + blockCount t + 1) (lengths .0) (lengths .1) in
-      ends-same zeros (hashed p) zeros (hashed q) refl
-      (same ∙ ap (λ (k : ℕ). replicate (n - k) 0 ++ hashed q) (sym counts))
+      let zeros : List ℕ = replicate (n - hashedCount q) 0 in
+      ends-same zeros (hashed p) zeros (hashed q) refl (rw (lengths .0, lengths .1) at same)
 
   pub told : p ≡ q
   unfolding authBlocks
   told =
-      let long : (a b : List ℕ) → length a ≡ length b → length (blocks a) ≡ length (blocks b) =
-      λ a b e. length-blocks a ∙ ap blockCount e ∙ sym (length-blocks b) in
-      let la = long (p .label) (q .label) (lengths .0) in
-      let lt = long (p .ciphertext) (q .ciphertext) (lengths .1) in
+      let la : length (blocks (p .label)) ≡ length (blocks (q .label)) = simp length-blocks (rw (lengths .0)) in
+      let lt : length (blocks (p .ciphertext)) ≡ length (blocks (q .ciphertext)) = simp length-blocks (rw (lengths .1)) in
       let labels = fronts-same (blocks (p .label)) _ (blocks (q .label)) _ la hashed-same in
       let rests = ends-same (blocks (p .label)) _ (blocks (q .label)) _ la hashed-same in
       let texts = fronts-same (blocks (p .ciphertext)) _ (blocks (q .ciphertext)) _ lt rests in
