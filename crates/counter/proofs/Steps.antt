@@ -12,13 +12,7 @@ use Rattle.counter.proofs.Round.{zero-tells, no-bit}
 pub ctr-jump-words : (x r : List ℕ) (k m : ℕ) → m ≡ (numberOf (unwords x) + k) % 2 ^ 128 → r ≡ words (bytesOf 16 m)
     → unwords r ≡ ctrJump (unwords x) k
 unfolding ctrJump
-ctr-jump-words x r k m e f = unwords-number r m f ∙ ap (bytesOf 16) e
-
--- and its step, which is one block on
-pub ctr-words : (x r : List ℕ) (m : ℕ) → m ≡ (numberOf (unwords x) + 1) % 2 ^ 128 → r ≡ words (bytesOf 16 m)
-    → unwords r ≡ ctrNext (unwords x)
-unfolding ctrNext ctrJump
-ctr-words x r m e f = ctr-jump-words x r 1 m e f
+ctr-jump-words x r k m e f = unwords-number r m f ∙ rw e
 
 pub ctr-words-pass : (x : List ℕ) (high low : ℕ) → whole high low ≡ (numberOf (unwords x) + 1) % 2 ^ 128
     → eqb (bitOr high low) 0 ≡ ctrPasses (unwords x)
@@ -40,15 +34,9 @@ pub gcm-jump-words : (x : List ℕ) (w k : ℕ) → getD x 3 0 < 2 ^ 32 → w �
     → unwords (getD x 0 0 ∷ getD x 1 0 ∷ getD x 2 0 ∷ w ∷ []) ≡ gcmJump (unwords x) k
 unfolding gcmJump unwords bytesOf
 gcm-jump-words x w k h e =
-    ap (λ (v : ℕ). unwords (getD x 0 0 ∷ getD x 1 0 ∷ getD x 2 0 ∷ v ∷ [])) (e ∙ ap (λ (v : ℕ). (v + k) % 2 ^ 32) (sym (last-word x h)))
-
--- and its step, which is one block on
-pub gcm-words : (x : List ℕ) (w : ℕ) → getD x 3 0 < 2 ^ 32 → w ≡ (getD x 3 0 + 1) % 2 ^ 32
-    → unwords (getD x 0 0 ∷ getD x 1 0 ∷ getD x 2 0 ∷ w ∷ []) ≡ gcmNext (unwords x)
-unfolding gcmNext gcmJump
-gcm-words x w h e = gcm-jump-words x w 1 h e
+    rw (e, last-word x h)
 
 pub gcm-words-pass : (x : List ℕ) (w : ℕ) → getD x 3 0 < 2 ^ 32 → w ≡ (getD x 3 0 + 1) % 2 ^ 32 → eqb w 0 ≡ gcmPasses (unwords x)
 unfolding gcmPasses unwords bytesOf
 gcm-words-pass x w h e =
-    zero-tells (2 ^ 32) (getD x 3 0) w h e ∙ ap (λ (v : ℕ). eqb (v + 1) (2 ^ 32)) (sym (last-word x h))
+    zero-tells (2 ^ 32) (getD x 3 0) w h e ∙ rw (last-word x h)

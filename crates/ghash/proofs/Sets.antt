@@ -1,5 +1,5 @@
 -- Interleaved hashes, joined at the end, are one hash. For lists of one length n, and from 0 on: the hash of sums is the sum of the
--- hashes (`hash-xors`), and the hash of multiples the multiple of the hash. So blocks Z times H to the n, with blocks C added, hash as C does from the
+-- hashes, and the hash of multiples the multiple of the hash. So blocks Z times H to the n, with blocks C added, hash as C does from the
 -- hash of Z on.
 use Rattle.block.proofs.Base.{_*_, _+_, _-_, _<_, _≤_, suc, zero, ℕ, _∙_, _≡_, ap, ap₂, refl, sym, ⊎-elim, List, [], _++_, _∷_}
 use Rattle.block.proofs.Base.{add-zero, suc-add, zero-add, arith, xor-lt, xor-zero-r, lit<, drop, length, length-drop, replicate, set, take}

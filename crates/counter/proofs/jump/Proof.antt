@@ -16,4 +16,4 @@ jump-spec =
     let at-number = at-add .before in
     let a = at-number .before .args in
     ctr-jump-words (a .a) (c .from-u128 .result) (a .blocks) (value (at-add .u128-add .result))
-    (at-add .u128-add .ensures ∙ ap (λ (v : ℕ). (v + a .blocks) % 2 ^ 128) (at-number .to-u128 .ensures)) (c .from-u128 .ensures)))
+    (cc) (c .from-u128 .ensures)))
