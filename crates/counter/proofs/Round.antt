@@ -1,6 +1,6 @@
 -- Where a number below a modulus comes round, as the code tests it: one more is 0, and a count is more than what is left.
-use Rattle.block.proofs.Base.{_%_, _*_, _+_, _-_, _<_, _≤_, ℕ, _∙_, _≡_, ap, sym, inl, inr, false, add-mul, eq-or-lt-of-le, mod-eq-of-lt}
-use Rattle.block.proofs.Base.{mod-self, mul-le-mul-right, one-mul, arith, eq-eqb, eqb-true, le-leb, leb-true, lt-leb, lt-ltb, ltb-true}
+use Rattle.block.proofs.Base.{_%_, _*_, _+_, _-_, _<_, _≤_, ℕ, _∙_, _≡_, ap, sym, inl, inr, false, eq-or-lt-of-le, mod-eq-of-lt}
+use Rattle.block.proofs.Base.{mod-self, mul-le-mul-right, arith, eq-eqb, eqb-true, le-leb, leb-true, lt-leb, lt-ltb, ltb-true}
 use Rattle.block.proofs.Base.{ne-eqb, and-le-l, and-le-r, bitOr, or-add-and, eqb, leb, ltb}
 use Rattle.block.specs.Wide.{whole}
 use Rattle.block.proofs.Same.{test-iff}

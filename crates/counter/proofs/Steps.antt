@@ -1,11 +1,11 @@
 -- The code's four words step as the definitions' sixteen bytes do, and come round where these do.
-use Rattle.block.proofs.Base.{_%_, _+_, _<_, _^_, ℕ, _∙_, _≡_, ap, sym, List, [], _∷_, mod-eq-of-lt, bitOr, eqb, getD}
+use Rattle.block.proofs.Base.{_%_, _+_, _<_, _^_, ℕ, _∙_, _≡_, List, [], _∷_, mod-eq-of-lt, bitOr, eqb, getD}
 use Rattle.block.specs.BigEndian.{numberOf, bytesOf}
 use Rattle.block.specs.Wide.{whole}
 use Rattle.block.specs.Words.{words, unwords}
 use Rattle.block.proofs.Convert.{numberOf-bytesOf, numberOf-lt}
 use Rattle.block.proofs.WordsBack.{unwords-number, unwords-bytes, length-unwords}
-use Rattle.counter.specs.Counter.{lastFour, ctrJump, ctrNext, ctrPasses, gcmJump, gcmNext, gcmPasses}
+use Rattle.counter.specs.Counter.{lastFour, ctrJump, ctrPasses, gcmJump, gcmPasses}
 use Rattle.counter.proofs.Round.{zero-tells, no-bit}
 
 -- Ctr's counter k blocks on, over the number of four words

@@ -1,12 +1,12 @@
 -- The formula says what the steps say. In any number of bytes: a number either comes round at once, and both say yes, or the next
 -- one is one more and still below the modulus, and the steps left are one fewer (`any-tells`).
-use Rattle.block.proofs.Base.{_%_, _+_, _-_, _<_, _^_, suc, zero, ℕ, _∙_, _≡_, ap, refl, sym, inl, inr, Bool, true, List, eq-or-lt-of-le}
-use Rattle.block.proofs.Base.{mod-eq-of-lt, mod-mod, arith, eq-eqb, le-leb, lt-leb, ne-eqb, eqb, leb, drop, length, length-append}
-use Rattle.block.proofs.Base.{length-drop, take, drop-at, length-take-le}
+use Rattle.block.proofs.Base.{_+_, _-_, _<_, _^_, suc, zero, ℕ, _∙_, _≡_, ap, refl, sym, inl, inr, List, eq-or-lt-of-le}
+use Rattle.block.proofs.Base.{mod-eq-of-lt, arith, eq-eqb, le-leb, lt-leb, ne-eqb, eqb, leb, drop, length, length-append}
+use Rattle.block.proofs.Base.{take, length-take-le}
 use Rattle.block.specs.Below.{AreBytes}
-use Rattle.block.specs.BigEndian.{numberOf, bytesOf}
-use Rattle.block.proofs.Entries.{below-take, below-drop, below-append}
-use Rattle.block.proofs.Convert.{length-bytesOf, bytesOf-bytes, numberOf-lt, numberOf-bytesOf}
+use Rattle.block.specs.BigEndian.{numberOf}
+use Rattle.block.proofs.Entries.{below-take, below-append}
+use Rattle.block.proofs.Convert.{length-bytesOf, bytesOf-bytes}
 use Rattle.counter.specs.Counter.{ctrNext, ctrPasses, gcmNext, gcmPasses, lastFour}
 use Rattle.counter.proofs.JumpSteps.{jumpIn, last-lt, jump-last}
 use Rattle.counter.specs.CameRound.{ctrCameRound, gcmCameRound, anyPasses}

@@ -1,6 +1,6 @@
 -- `counter::jump` meets its contract. `to_u128` ensures the number that the block spells, `u128_add` so many more, and `from_u128` the
 -- block that spells that, which is Ctr's counter so many blocks on (`ctr-jump-words`).
-use Rattle.block.proofs.Base.{_%_, _+_, _^_, ℕ, _∙_, ap, needs}
+use Rattle.block.proofs.Base.{needs}
 use Rattle.block.specs.Wide.{value}
 use Rattle.counter.proofs.Steps.{ctr-jump-words}
 use Rattle.counter.proofs.jump.Statement.{statement}

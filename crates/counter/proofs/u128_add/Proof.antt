@@ -1,6 +1,6 @@
 -- `counter::u128_add` meets its contract. Where the low half is less than what was added it came round, and one is carried to the high
 -- half, which may come round itself; else the low half counts up alone (`carry`).
-use Rattle.block.proofs.Base.{_%_, _/_, _+_, _-_, _<_, _^_, _≤_, _≡_, sym, arith, needs, lit<}
+use Rattle.block.proofs.Base.{_%_, _/_, _+_, _^_, _≡_, sym, arith, needs, lit<}
 use Rattle.counter.proofs.Carry.{carry}
 use Rattle.counter.proofs.u128_add.Statement.{statement}
 use Rattle.counter.proofs.u128_add.Tie as tie
