@@ -37,10 +37,9 @@ absorb-lanes-spec =
     let at-power = at-sets .before .before .before .before .before in
     let S = at-power .before .before .before in
     let g = S .args .g in
-    let bytes = S .args .bytes .now in
     let element = whole-lt (g .h .high) (g .h .low) (omega (arith, S .good .0)) (omega (arith, S .good .0)) in
     let sets = at-sets .absorb-sets .ensures in
-    absorbed-cut g _ _ bytes (at-sets .absorb-sets .result) (sets .1)
+    absorbed-cut g _ _ _ _ (sets .1)
     (record {
       key = at-hashes .absorb-hashes .ensures .key ∙ at-new .new .ensures .0;
       hash =
