@@ -50,7 +50,7 @@ unfolding upTo
 blocks-cut zero bs h = refl
 blocks-cut (suc k) bs h =
     let next : (i : ℕ) → drop (16 * suc i) bs ≡ drop (16 * i) (drop 16 bs) =
-    λ i. let e : 16 + 16 * i ≡ 16 * suc i = omega arith in sym (drop-drop (16 * i) 16 bs ∙ ap (λ (n : ℕ). drop n bs) e) in
+    λ i. let e : 16 + 16 * i ≡ 16 * suc i = omega arith in rw (drop-drop (16 * i) 16 bs, e) in
     simp (next, blocks-cut k (drop 16 bs) (simp length-drop (omega arith))) (sym (blocks-cons bs (omega arith)))
 
 -- block k of the bytes from block b on, as `&bs[16 * b..]` is lent
@@ -71,17 +71,14 @@ pub lanes-few : (n : ℕ) → LaneCount n → (1 ≤ n) × (n ≤ 16)
 lanes-few n h = ⊎-elim (λ (e : n ≡ 8). (omega arith, omega arith)) (λ (e : n ≡ 16). (omega arith, omega arith)) h
 
 module _ (h : ℕ) where
-  -- at first y waits
-  first-hash : (n y : ℕ) (f c : ℕ → ℕ) → Starts (suc n) y f → ghash h (upTo (suc n) (λ k. f k ⊕ c k)) ≡ hashFrom h y (upTo (suc n) c)
-  unfolding upTo hashFrom
-  first-hash n y f c s =
-      ap₂ (λ (x : ℕ) (l : List ℕ). hashFrom h (gmul (0 ⊕ (x ⊕ c 0)) h) l) (s .first)
-      (upTo-same n (λ k. f (suc k) ⊕ c (suc k)) (λ k. c (suc k)) (λ k g. ap (λ (x : ℕ). x ⊕ c (suc k)) (s .others k (omega arith))))
-
-  -- a first set added is hashed
+  -- a first set added is hashed: at first y waits
   pub hashed-first : (n y : ℕ) (f g c : ℕ → ℕ) → 1 ≤ n → Starts n y f → ((k : ℕ) → k < n → g k ≡ f k ⊕ c k) → Hashed h y (upTo n c) n g
+  unfolding upTo hashFrom
   hashed-first zero y f g c l s e = absurd (omega arith)
-  hashed-first (suc n) y f g c l s e = ap (ghash h) (upTo-same (suc n) g (λ k. f k ⊕ c k) e) ∙ first-hash n y f c s
+  hashed-first (suc n) y f g c l s e =
+      let z : g 0 ≡ y ⊕ c 0 = e 0 (omega arith) ∙ rw (s .first) in
+      ap₂ (λ (x : ℕ) (l : List ℕ). hashFrom h (gmul x h) l) z
+      (upTo-same n (λ k. g (suc k)) (λ k. c (suc k)) (λ k i. e (suc k) (omega arith) ∙ rw (s .others k (omega arith))))
 
   module _ (hh : Element h) where
     hash-times : (k : ℕ) → Element k → (n y : ℕ) (f : ℕ → ℕ) → Element y → ((i : ℕ) → i < n → Element (f i))
@@ -111,8 +108,6 @@ module _ (h : ℕ) where
     hashed-next n y b p a c f g q power from hf done times added =
         ap (ghash h)
         (upTo-same n q (λ k. gmul (f k) (gpow h n) ⊕ a (b + k))
-        (λ k l. added k l ∙ ap₂ _⊕_ (times k l ∙ ap (gmul (f k)) power) (from k)))
+        (λ k l. added k l ∙ rw (times k l, power, from k)))
         ∙ interleaved n f (λ k. a (b + k)) hf
-        ∙ ap (λ (x : ℕ). hashFrom h x (upTo n (λ k. a (b + k)))) done
-        ∙ sym (hash-append h y (upTo b a) (upTo n (λ k. a (b + k))))
-        ∙ ap (hashFrom h y) (upTo-append b n a)
+        ∙ rw (done, ← hash-append h y (upTo b a), upTo-append b n a)
