@@ -12,6 +12,7 @@ use Rattle.block.proofs.Convert.{numberOf-lt, numberOf-same}
 use Rattle.block.proofs.WordsBack.{words-same, words-take, unwords-words}
 use Rattle.field.specs.Field.{Element}
 use Rattle.ghash.specs.Ghash.{blockOf, blocksFrom, blockCount, blocks}
+use Rattle.ghash.specs.Sets.{upTo, blockNumber}
 
 -- the zeros after a list read like its end
 pub getD-zeros : (n i : ℕ) → _≡_ {A = ℕ} (getD (replicate n 0) i 0) 0
@@ -91,14 +92,26 @@ pub blocks-full : (bs : List ℕ) → length bs ≡ 16 → blocks bs ≡ numberO
 unfolding blockOf
 blocks-full bs e = blocks-cons bs (omega arith) ∙ rw (take-at bs (replicate 16 0) 16 e, drop-of-length-le bs (le-of-eq e), blocks-nil)
 
-length-blocksFrom : (k : ℕ) (bs : List ℕ) → length (blocksFrom k bs) ≡ k
-unfolding blocksFrom
-length-blocksFrom zero bs = refl
-length-blocksFrom (suc k) bs = ap suc (length-blocksFrom k (drop 16 bs))
+pub length-upTo : (n : ℕ) (f : ℕ → ℕ) → length (upTo n f) ≡ n
+unfolding upTo
+length-upTo zero f = refl
+length-upTo (suc n) f = ap suc (length-upTo n (λ i. f (suc i)))
+
+-- one by one
+blocksFrom-upTo : (k : ℕ) (bs : List ℕ) → blocksFrom k bs ≡ upTo k (blockNumber bs)
+unfolding blocksFrom upTo
+blocksFrom-upTo zero bs = refl
+blocksFrom-upTo (suc k) bs =
+    let next : (i : ℕ) → drop (16 * suc i) bs ≡ drop (16 * i) (drop 16 bs) =
+    λ i. let e : 16 + 16 * i ≡ 16 * suc i = omega arith in rw (drop-drop (16 * i) 16 bs, e) in
+    simp (next, blocksFrom-upTo k (drop 16 bs))
+
+pub blocks-upTo : (bs : List ℕ) → blocks bs ≡ upTo (blockCount (length bs)) (blockNumber bs)
+unfolding blocks
+blocks-upTo bs = blocksFrom-upTo (blockCount (length bs)) bs
 
 pub length-blocks : (bs : List ℕ) → length (blocks bs) ≡ blockCount (length bs)
-unfolding blocks
-length-blocks bs = length-blocksFrom (blockCount (length bs)) bs
+length-blocks bs = rw (blocks-upTo bs) (length-upTo _ (blockNumber bs))
 
 pub blocks-append : (k : ℕ) (p q : List ℕ) → length p ≡ 16 * k → blocks (p ++ q) ≡ blocks p ++ blocks q
 blocks-append zero [] q h = ap (λ (l : List ℕ). l ++ blocks q) (sym blocks-nil)

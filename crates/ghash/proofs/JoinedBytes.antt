@@ -1,6 +1,6 @@
 -- Two halves of bytes, of which the first is whole blocks: their hashes joined are the hash of both. So a label's hash, joined to what is
 -- kept of a text's blocks, is the hash of label and text. Either half may be empty.
-use Rattle.block.proofs.Base.{_*_, ℕ, _∙_, _≡_, ap, sym, List, [], _++_, _∷_, append-assoc, length}
+use Rattle.block.proofs.Base.{_*_, ℕ, _∙_, _≡_, sym, List, [], _++_, _∷_, append-assoc, length}
 use Rattle.block.specs.Wide.{value}
 use Rattle.block.specs.Xor.{_⊕_}
 use Rattle.field.specs.Field.{Element, gmul}
@@ -26,8 +26,7 @@ module _ (h : ℕ) (element : Element h) where
 
   -- what is kept of blocks joins any hash before them to theirs
   half-joins : (xs bs : List ℕ) (r : Half) → HalfOf h bs r → gmul (ghash h xs) (value (r .power)) ⊕ value (r .hash) ≡ ghash h (xs ++ bs)
-  half-joins xs bs r k =
-      rw (k .power, k .hash) (sym (ghash-join h element xs bs))
+  half-joins xs bs r k = rw (k .power, k .hash) (sym (ghash-join h element xs bs))
 
 -- a label's hash, what is kept of a text, and the length block
 pub half-auth : (s r : Ghash) (k : Half) (label text : List ℕ) (first : ℕ) → Element (value (s .h)) → HalfOf (value (s .h)) (blocks text) k
@@ -35,8 +34,5 @@ pub half-auth : (s r : Ghash) (k : Half) (label text : List ℕ) (first : ℕ) �
     → Absorbed s (lengthBlock (length label) (length text) ∷ []) r → value (r .y) ≡ ghash (value (s .h)) (authBlocks label text)
 unfolding authBlocks
 half-auth s r k label text first element half ef ey a =
-    let h = value (s .h) in
-    let end = lengthBlock (length label) (length text) ∷ [] in
     a .hash
-    ∙ rw (ey, ef, half-joins h element (blocks label) (blocks text) k half)
-    (sym (hash-append h 0 (blocks label ++ blocks text) end) ∙ ap (ghash h) (append-assoc (blocks label) (blocks text) end))
+    ∙ rw (ey, ef, half-joins _ element (blocks label) (blocks text) k half, ← hash-append, append-assoc (blocks label))

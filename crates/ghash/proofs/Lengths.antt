@@ -1,5 +1,5 @@
 -- The length block: it is two halves of 64 bits where the lengths in bits fit them, and then it tells the lengths.
-use Rattle.block.proofs.Base.{_%_, _*_, _/_, _<_, _^_, ℕ, _∙_, _≡_, ap, ap₂, sym, mod-eq-of-lt, mod-lt, arith, digits-div, digits-lt}
+use Rattle.block.proofs.Base.{_%_, _*_, _<_, _^_, ℕ, _∙_, _≡_, ap₂, sym, mod-eq-of-lt, mod-lt, arith, digits-div, digits-lt}
 use Rattle.block.proofs.Base.{digits-mod, lit<}
 use Rattle.block.specs.BigEndian.{bytesOf}
 use Rattle.block.specs.Wide.{whole}

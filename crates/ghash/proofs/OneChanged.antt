@@ -1,5 +1,5 @@
 -- For H other than 0, changing exactly one block of a list changes the hash.
-use Rattle.block.proofs.Base.{ℕ, _∙_, _≡_, ap, sym, _≢_, ⊎-elim, List, [], _++_, _∷_, xor-comm, xor-lt, xor-self}
+use Rattle.block.proofs.Base.{ℕ, _∙_, _≡_, sym, _≢_, ⊎-elim, List, [], _++_, _∷_, xor-comm, xor-lt, xor-self}
 use Rattle.block.specs.Xor.{_⊕_}
 use Rattle.block.proofs.Xor.{xor-same, xor-meet}
 use Rattle.field.specs.Field.{Element, gmul}

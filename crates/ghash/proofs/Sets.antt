@@ -15,20 +15,15 @@ use Rattle.field.specs.Field.{Element, gmul, gpow}
 use Rattle.field.proofs.Bounded.{gmul-lt, gpow-lt}
 use Rattle.field.proofs.Distributes.{xor-gmul, zero-gmul}
 use Rattle.field.proofs.Commutes.{gmul-comm, gmul-assoc}
-use Rattle.ghash.specs.Ghash.{blocks, hashFrom, ghash}
+use Rattle.ghash.specs.Ghash.{blockCount, blocks, hashFrom, ghash}
 use Rattle.ghash.specs.Sets.{LaneCount, upTo, blockNumber, Starts, Hashed}
-use Rattle.ghash.proofs.Blocks.{blocks-cons, getD-zeros, blockOf-words, lent-all}
+use Rattle.ghash.proofs.Blocks.{length-upTo, blocks-upTo, getD-zeros, blockOf-words, lent-all}
 use Rattle.ghash.proofs.Join.{hash-append, hash-xors, ghash-lt, hashFrom-start}
 
 pub upTo-same : (n : ℕ) (f g : ℕ → ℕ) → ((i : ℕ) → i < n → f i ≡ g i) → upTo n f ≡ upTo n g
 unfolding upTo
 upTo-same zero f g h = refl
 upTo-same (suc n) f g h = ap₂ _∷_ (h 0 (omega arith)) (upTo-same n (λ i. f (suc i)) (λ i. g (suc i)) (λ i k. h (suc i) (omega arith)))
-
-length-upTo : (n : ℕ) (f : ℕ → ℕ) → length (upTo n f) ≡ n
-unfolding upTo
-length-upTo zero f = refl
-length-upTo (suc n) f = ap suc (length-upTo n (λ i. f (suc i)))
 
 pub upTo-append : (m n : ℕ) (f : ℕ → ℕ) → upTo m f ++ upTo n (λ i. f (m + i)) ≡ upTo (m + n) f
 unfolding upTo
@@ -44,19 +39,20 @@ unfolding upTo
 upTo-xors zero f g = refl
 upTo-xors (suc n) f g = ap (λ (l : List ℕ). (f 0 ⊕ g 0) ∷ l) (upTo-xors n (λ i. f (suc i)) (λ i. g (suc i)))
 
+-- block k of the bytes from block b on
+drop-block : (bs : List ℕ) (b k : ℕ) → blockNumber (drop (16 * b) bs) k ≡ blockNumber bs (b + k)
+drop-block bs b k =
+    let e : 16 * b + 16 * k ≡ 16 * (b + k) = omega arith in rw (drop-drop (16 * k) (16 * b) bs, e)
+
 -- the first k blocks of bytes, one by one, and the rest
 pub blocks-cut : (k : ℕ) (bs : List ℕ) → 16 * k ≤ length bs → upTo k (blockNumber bs) ++ blocks (drop (16 * k) bs) ≡ blocks bs
-unfolding upTo
-blocks-cut zero bs h = refl
-blocks-cut (suc k) bs h =
-    let next : (i : ℕ) → drop (16 * suc i) bs ≡ drop (16 * i) (drop 16 bs) =
-    λ i. let e : 16 + 16 * i ≡ 16 * suc i = omega arith in rw (drop-drop (16 * i) 16 bs, e) in
-    simp (next, blocks-cut k (drop 16 bs) (simp length-drop (omega arith))) (sym (blocks-cons bs (omega arith)))
+blocks-cut k bs h =
+    let n : k + blockCount (length (drop (16 * k) bs)) ≡ blockCount (length bs) = simp length-drop (omega arith) in
+    rw (blocks-upTo (drop (16 * k) bs), blocks-upTo bs, ← n, upTo-same _ _ _ (λ i l. drop-block bs k i)) (upTo-append k _ (blockNumber bs))
 
--- block k of the bytes from block b on, as `&bs[16 * b..]` is lent
+-- as `&bs[16 * b..]` is lent
 pub lent-block : (bs : List ℕ) (b k : ℕ) → blockNumber (take (length bs - 16 * b) (drop (16 * b) bs)) k ≡ blockNumber bs (b + k)
-lent-block bs b k =
-    let e : 16 * b + 16 * k ≡ 16 * (b + k) = omega arith in rw (lent-all bs (16 * b), drop-drop (16 * k) (16 * b) bs, e)
+lent-block bs b k = rw (lent-all bs (16 * b)) (drop-block bs b k)
 
 -- and the number of block k by its words
 pub lent-number : (bs : List ℕ) (k : ℕ) (w : List ℕ) → AreBytes bs → w ≡ words (take (length bs - 16 * k) (drop (16 * k) bs))
