@@ -9,17 +9,17 @@ use Rattle.counter.specs.Counter.{lastFour, ctrJump, ctrPasses, gcmJump,
 use Rattle.counter.proofs.Round.{zero-tells, no-bit}
 
 -- Ctr's counter k blocks on, over the number of four words
-pub ctr-jump-words : (x r : List ℕ) (k m : ℕ) → m ≡ (numberOf (unwords x) + k) % 2 ^ 128 → r ≡ words (bytesOf 16 m)
+pub ctr-jump-words : (x r : List ℕ) (k v m : ℕ) → v ≡ numberOf (unwords x) → m ≡ (v + k) % 2 ^ 128 → r ≡ words (bytesOf 16 m)
     → unwords r ≡ ctrJump (unwords x) k
 unfolding ctrJump
-ctr-jump-words x r k m e f = unwords-number r m f ∙ rw e
+ctr-jump-words x r k v m n e f = unwords-number r m f ∙ rw (e, n)
 
-pub ctr-words-pass : (x : List ℕ) (high low : ℕ) → whole high low ≡ (numberOf (unwords x) + 1) % 2 ^ 128
+pub ctr-words-pass : (x : List ℕ) (v high low : ℕ) → v ≡ numberOf (unwords x) → whole high low ≡ (v + 1) % 2 ^ 128
     → eqb (bitOr high low) 0 ≡ ctrPasses (unwords x)
 unfolding ctrPasses
-ctr-words-pass x high low e =
+ctr-words-pass x v high low n e =
     let h : numberOf (unwords x) < 2 ^ 128 = rw (length-unwords x) at (numberOf-lt (unwords x) (unwords-bytes x)) in
-    no-bit high low ∙ zero-tells (2 ^ 128) (numberOf (unwords x)) (whole high low) h e
+    no-bit high low ∙ zero-tells (2 ^ 128) (numberOf (unwords x)) (whole high low) h (rw n at e)
 
 -- the last of four words is the number that its bytes spell
 last-word : (x : List ℕ) → getD x 3 0 < 2 ^ 32 → numberOf (bytesOf 4 (getD x 3 0)) ≡ getD x 3 0

@@ -13,7 +13,6 @@ gcm-block-add-one-spec =
     (tie.spec
     (λ c. search needs) (λ c κs. search needs) (λ c. search needs) (λ c. search needs) (λ c. search needs)
     (λ c. unfold gcmNext gcmJump in
-    let x = c .before .args .t1 in
-    let h : Fits w32 (getD x 3 0) = search needs in
-    let low = c .wrapping-add-u32 in
-    (gcm-jump-words x (low .result) 1 (h .fits) (low .ensures), gcm-words-pass x (low .result) (h .fits) (low .ensures))))
+    let h : Fits w32 (getD (c .before .args .t1) 3 0) = search needs in
+    let e = c .wrapping-add-u32 .ensures in
+    (gcm-jump-words _ _ 1 (h .fits) e, gcm-words-pass _ _ (h .fits) e)))

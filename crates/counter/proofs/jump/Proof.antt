@@ -1,7 +1,6 @@
 -- `counter::jump` meets its contract. `to_u128` ensures the number that the block spells, `u128_add` so many more, and `from_u128` the
 -- block that spells that, which is Ctr's counter so many blocks on (`ctr-jump-words`).
 use Rattle.block.proofs.Base.{needs}
-use Rattle.block.specs.Wide.{value}
 use Rattle.counter.proofs.Steps.{ctr-jump-words}
 use Rattle.counter.proofs.jump.Statement.{statement}
 use Rattle.counter.proofs.jump.Tie as tie
@@ -11,9 +10,4 @@ jump-spec =
     tie.close
     (tie.spec
     (λ c κs. search needs) (λ c κs. search needs) (λ c κs. search needs)
-    (λ c.
-    let at-add = c .before in
-    let at-number = at-add .before in
-    let a = at-number .before .args in
-    ctr-jump-words (a .a) (c .from-u128 .result) (a .blocks) (value (at-add .u128-add .result))
-    (cc) (c .from-u128 .ensures)))
+    (λ c. search (needs, ctr-jump-words)))
