@@ -1,6 +1,6 @@
 -- The two steps agree exactly where the last four bytes are not ff ff ff ff.
-use Rattle.block.proofs.Base.{_%_, _*_, _+_, _-_, _/_, _<_, _^_, ℕ, _∙_, _≡_, ap, sym, _↔_, List, _++_, add-zero, mod-eq-of-lt, mod-lt, arith}
-use Rattle.block.proofs.Base.{lit<, drop, length, length-drop, take, take-append-drop, length-take-le, take-at}
+use Rattle.block.proofs.Base.{_%_, _*_, _+_, _-_, _/_, _<_, _^_, ℕ, _∙_, _≡_, ap, sym, _↔_, List, _++_, add-zero}
+use Rattle.block.proofs.Base.{mod-eq-of-lt, mod-lt, arith, lit<, drop, length, length-drop, take, take-append-drop, length-take-le, take-at}
 use Rattle.block.specs.Below.{AreBytes}
 use Rattle.block.specs.BigEndian.{numberOf, bytesOf}
 use Rattle.block.proofs.Entries.{below-take}
@@ -39,7 +39,9 @@ module _ (c : List ℕ) (n : length c ≡ 16) (b : AreBytes c) where
       let k = (firstTwelve c + 1) % 2 ^ 96 in
       let one : (lastFour c + 1) / 2 ^ 32 ≡ 1 = omega arith in
       let z : bytesOf 12 k ≡ take 12 c =
-      sym (take-at (bytesOf 12 k) _ 12 (length-bytesOf 12 k)) ∙ ap (take 12) (sym (rw one at in-parts) ∙ q) ∙ take-at (take 12 c) _ 12 twelve in
+      sym (take-at (bytesOf 12 k) _ 12 (length-bytesOf 12 k))
+      ∙ ap (take 12) (sym (rw one at in-parts) ∙ q)
+      ∙ take-at (take 12 c) _ 12 twelve in
       no-turn (firstTwelve c) high-lt (sym (numberOf-bytesOf 12 k) ∙ ap numberOf z)
 
   same : (lastFour c ≡ 2 ^ 32 - 1 → ⊥) → ctrNext c ≡ gcmNext c

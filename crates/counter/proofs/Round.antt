@@ -35,7 +35,7 @@ left-tells m low k h =
     (λ t. le-leb m (low + k) (omega (arith, ltb-true (m - 1 - low) k t)))
     (λ t. lt-ltb (m - 1 - low) k (omega (arith, leb-true m (low + k) t)))
 
--- the same over two halves, for all blocks but one: the high half is as large as it can be, or it leaves more than any count of a half's size
+-- the same over two halves, for all blocks but one: the high half is as large as it can be, or it leaves more than any count
 module _ (base high low b : ℕ) (lows : low < base) where
   pub high-full : high ≡ base - 1 → ltb (base - 1 - low) (b - 1) ≡ leb (base * base) (high * base + low + (b - 1))
   high-full e =

@@ -1,8 +1,8 @@
 -- Bytes as blocks: block by block, joined at a block's end, and with one more zero byte.
 use Rattle.block.proofs.Base.{_%_, _*_, _+_, _-_, _/_, _<_, _≤_, suc, zero, ℕ, _∙_, _≡_, ap, ap₂, refl, sym, _≢_, List, []}
 use Rattle.block.proofs.Base.{_++_, _∷_, append-assoc, le-of-eq, arith, lit<, drop, drop-of-length-le, getD, length}
-use Rattle.block.proofs.Base.{length-append, length-drop, replicate, take, drop-append-le, drop-drop, getD-take, take-append-drop, length-take-le, take-all, take-append-le}
-use Rattle.block.proofs.Base.{take-at}
+use Rattle.block.proofs.Base.{length-append, length-drop, replicate, take, drop-append-le, drop-drop, getD-take, take-append-drop}
+use Rattle.block.proofs.Base.{length-take-le, take-all, take-append-le, take-at}
 use lib.Seq.{ext-getD, getD-drop}
 use Rattle.block.specs.Below.{AreBytes}
 use Rattle.block.specs.BigEndian.{numberOf}
@@ -42,7 +42,7 @@ blockOf-lt bs h = rw (padded-length bs) at (numberOf-lt (padded bs) (padded-byte
 -- a block that is full stands for itself, whatever follows
 blockOf-front : (p q : List ℕ) → 16 ≤ length p → blockOf (p ++ q) ≡ blockOf p
 unfolding blockOf
-blockOf-front p q h = rw (append-assoc p q (replicate 16 0), take-append-le 16 p (q ++ replicate 16 0), take-append-le 16 p (replicate 16 0))
+blockOf-front p q h = rw (append-assoc p, take-append-le 16 p (q ++ replicate 16 0), take-append-le 16 p (replicate 16 0))
 
 -- lists that read alike make the same blocks
 blockOf-alike : (a b : List ℕ) → ((i : ℕ) → getD a i 0 ≡ getD b i 0) → blockOf a ≡ blockOf b
@@ -52,13 +52,14 @@ blockOf-alike a b e =
     (ext-getD 0 (padded a) (padded b) (padded-length a ∙ sym (padded-length b))
     (λ i l.
     let h : i < 16 = rw (padded-length a) at l in
-    rw (getD-take 16 (a ++ replicate 16 0) i 0, getD-take 16 (b ++ replicate 16 0) i 0, getD-before-zeros a 16 i, getD-before-zeros b 16 i) (e i)))
+    let at : (c : List ℕ) → getD (padded c) i 0 ≡ getD c i 0 = λ c. getD-take 16 (c ++ replicate 16 0) i 0 h ∙ getD-before-zeros c 16 i in
+    rw (at a, at b) (e i)))
 
 blocksFrom-alike : (k : ℕ) (a b : List ℕ) → ((i : ℕ) → getD a i 0 ≡ getD b i 0) → blocksFrom k a ≡ blocksFrom k b
 unfolding blocksFrom
 blocksFrom-alike zero a b e = refl
 blocksFrom-alike (suc k) a b e =
-    ap₂ _∷_ (blockOf-alike a b e) (blocksFrom-alike k (drop 16 a) (drop 16 b) (λ i. rw (getD-drop 16 a i 0, getD-drop 16 b i 0) (e (16 + i))))
+    ap₂ _∷_ (blockOf-alike a b e) (blocksFrom-alike k _ _ (λ i. rw (getD-drop 16 a i 0, getD-drop 16 b i 0) (e (16 + i))))
 
 -- the same zeros after two lists of one length can be taken off
 same-front : (n : ℕ) (a b z : List ℕ) → length a ≡ length b → take n (a ++ z) ≡ take n (b ++ z) → take n a ≡ take n b

@@ -28,6 +28,6 @@ module _ (h : ℕ) (hh : Element h) (nz : h ≢ 0) where
   unfolding hashFrom
   one-changed xs b c ys hb hc n e =
       let y = ghash h xs in
-      let s : gmul (y ⊕ b) h ≡ gmul (y ⊕ c) h =
-      start-cancel ys _ _ (gmul-lt (y ⊕ b) h hh) (gmul-lt (y ⊕ c) h hh) (rw (hash-append h 0 xs (b ∷ ys), hash-append h 0 xs (c ∷ ys)) at e) in
+      let ends = rw (hash-append h 0 xs (b ∷ ys), hash-append h 0 xs (c ∷ ys)) at e in
+      let s : gmul (y ⊕ b) h ≡ gmul (y ⊕ c) h = start-cancel ys _ _ (gmul-lt (y ⊕ b) h hh) (gmul-lt (y ⊕ c) h hh) ends in
       n (step-cancel b c y hb hc (rw (xor-comm b y, xor-comm c y) s))

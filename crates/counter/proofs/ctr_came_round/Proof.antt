@@ -25,4 +25,4 @@ ctr-came-round-spec =
     let high : Fits w64 (first .high) = search needs in
     let low : Fits w64 (first .low) = search needs in
     rw (← at-some .before .blocks2 .ensures)
-    (ctr-short _ _ (first .high) (first .low) (at-some .if1 .left) (at-number .to-u128 .ensures) (low .fits) (c .if2 .left) (high .fits) (omega arith))))
+    (ctr-short _ _ _ _ (at-some .if1 .left) (at-number .to-u128 .ensures) (low .fits) (c .if2 .left) (high .fits) (omega arith))))

@@ -21,4 +21,5 @@ u128-add-spec =
     let at-low = c .before in
     let a = at-low .before .args in
     let none : (a .n .high + (a .n .low + a .k) / 2 ^ 64) % 2 ^ 64 ≡ a .n .high = omega (arith, c .if1 .left) in
-    rw (at-low .wrapping-add-u64 .ensures) (sym (rw none at (carry (2 ^ 64) (2 ^ 64) (a .n .high) (a .n .low) (a .k) (lit< tt) (lit< tt))))))
+    rw (at-low .wrapping-add-u64 .ensures)
+    (sym (rw none at (carry (2 ^ 64) (2 ^ 64) (a .n .high) (a .n .low) (a .k) (lit< tt) (lit< tt))))))
