@@ -25,6 +25,6 @@ halves-same a t b u ht hu e =
 pub lengthBlock-same : (a t b u : ℕ) → Hashable a → Hashable t → Hashable b → Hashable u → lengthBlock a t ≡ lengthBlock b u
     → (a ≡ b) × (t ≡ u)
 lengthBlock-same a t b u ha ht hb hu e =
-    let same = rw (lengthBlock-whole a t, lengthBlock-whole b u) at e in
-    let w = halves-same (8 * a) (8 * t) (8 * b) (8 * u) (omega arith) (omega arith) same in
+    let w = halves-same (8 * a) (8 * t) (8 * b) (8 * u) (omega arith) (omega arith)
+    (rw (lengthBlock-whole a t, lengthBlock-whole b u) at e) in
     (omega arith, omega arith)
