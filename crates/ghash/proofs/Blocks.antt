@@ -2,7 +2,7 @@
 use Rattle.block.proofs.Base.{_%_, _*_, _+_, _-_, _/_, _<_, _≤_, suc, zero, ℕ, _∙_, _≡_, ap, ap₂, refl, sym, _≢_, List, []}
 use Rattle.block.proofs.Base.{_++_, _∷_, append-assoc, le-of-eq, arith, lit<, drop, drop-of-length-le, getD, length}
 use Rattle.block.proofs.Base.{length-append, length-drop, replicate, take, drop-append-le, drop-drop, getD-take, take-append-drop}
-use Rattle.block.proofs.Base.{length-take-le, take-all, take-append-le, take-at}
+use Rattle.block.proofs.Base.{length-take, length-take-le, take-all, take-append-le, take-at}
 use lib.Seq.{ext-getD, getD-drop}
 use Rattle.block.specs.Below.{AreBytes}
 use Rattle.block.specs.BigEndian.{numberOf}
@@ -44,16 +44,16 @@ blockOf-front : (p q : List ℕ) → 16 ≤ length p → blockOf (p ++ q) ≡ bl
 unfolding blockOf
 blockOf-front p q h = rw (append-assoc p, take-append-le 16 p (q ++ replicate 16 0), take-append-le 16 p (replicate 16 0))
 
+padded-at : (bs : List ℕ) (i : ℕ) → i < 16 → getD (padded bs) i 0 ≡ getD bs i 0
+padded-at bs i h = getD-take 16 (bs ++ replicate 16 0) i 0 h ∙ getD-before-zeros bs 16 i
+
 -- lists that read alike make the same blocks
 blockOf-alike : (a b : List ℕ) → ((i : ℕ) → getD a i 0 ≡ getD b i 0) → blockOf a ≡ blockOf b
 unfolding blockOf
 blockOf-alike a b e =
     ap numberOf
     (ext-getD 0 (padded a) (padded b) (padded-length a ∙ sym (padded-length b))
-    (λ i l.
-    let h : i < 16 = rw (padded-length a) at l in
-    let at : (c : List ℕ) → getD (padded c) i 0 ≡ getD c i 0 = λ c. getD-take 16 (c ++ replicate 16 0) i 0 h ∙ getD-before-zeros c 16 i in
-    rw (at a, at b) (e i)))
+    (λ i l. let h : i < 16 = rw (padded-length a) at l in rw (padded-at a i h, padded-at b i h) (e i)))
 
 blocksFrom-alike : (k : ℕ) (a b : List ℕ) → ((i : ℕ) → getD a i 0 ≡ getD b i 0) → blocksFrom k a ≡ blocksFrom k b
 unfolding blocksFrom
@@ -61,19 +61,14 @@ blocksFrom-alike zero a b e = refl
 blocksFrom-alike (suc k) a b e =
     ap₂ _∷_ (blockOf-alike a b e) (blocksFrom-alike k _ _ (λ i. rw (getD-drop 16 a i 0, getD-drop 16 b i 0) (e (16 + i))))
 
--- the same zeros after two lists of one length can be taken off
-same-front : (n : ℕ) (a b z : List ℕ) → length a ≡ length b → take n (a ++ z) ≡ take n (b ++ z) → take n a ≡ take n b
-same-front zero a b z l e = refl
-same-front (suc n) [] [] z l e = refl
-same-front (suc n) [] (y ∷ b) z l e = absurd (omega arith)
-same-front (suc n) (x ∷ a) [] z l e = absurd (omega arith)
-same-front (suc n) (x ∷ a) (y ∷ b) z l e = ap₂ _∷_ (cc) (same-front n a b z (omega arith) (cc))
-
 pub blockOf-same : (a b : List ℕ) → length a ≡ length b → AreBytes a → AreBytes b → blockOf a ≡ blockOf b → take 16 a ≡ take 16 b
 unfolding blockOf
 blockOf-same a b l ha hb e =
-    same-front 16 a b (replicate 16 0) l
-    (numberOf-same (padded a) (padded b) (padded-length a ∙ sym (padded-length b)) (padded-bytes a ha) (padded-bytes b hb) e)
+    let same = numberOf-same (padded a) (padded b) (padded-length a ∙ sym (padded-length b)) (padded-bytes a ha) (padded-bytes b hb) e in
+    ext-getD 0 (take 16 a) (take 16 b) (simp length-take (rw l))
+    (λ i h.
+    let k : i < 16 = omega (arith, length-take 16 a) in
+    rw (getD-take 16 a i 0, getD-take 16 b i 0, ← padded-at a i k, ← padded-at b i k, same))
 
 pub blocks-nil : blocks [] ≡ []
 unfolding blocks blocksFrom
