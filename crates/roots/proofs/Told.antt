@@ -26,20 +26,9 @@ lasts-same p q x y e =
 unfoldable pub filled : ℕ → Pair → List ℕ
 filled n p = replicate (n - hashedCount p) 0 ++ hashed p
 
--- the blocks before the length block, which is the last
-before : ℕ → Pair → List ℕ
-before n p = replicate (n - hashedCount p) 0 ++ (blocks (p .label) ++ blocks (p .ciphertext))
-
-filled-ends : (n : ℕ) (p : Pair) → filled n p ≡ before n p ++ (lengthBlock (length (p .label)) (length (p .ciphertext)) ∷ [])
-unfolding filled before authBlocks
-filled-ends n p = simp append-assoc
-
 hashed-length : (p : Pair) → length (hashed p) ≡ hashedCount p
 unfolding authBlocks
-hashed-length p =
-    let la = length-blocks (p .label) in
-    let lt = length-blocks (p .ciphertext) in
-    simp length-append (omega arith)
+hashed-length p = simp (length-append, length-blocks) (omega arith)
 
 hashed-elements : (p : Pair) → Sound p → Elements (hashed p)
 unfolding authBlocks
@@ -61,9 +50,11 @@ filled-elements n p s =
 
 module _ (n : ℕ) (p q : Pair) (sp : Sound p) (sq : Sound q) (same : filled n p ≡ filled n q) where
   lengths : (length (p .label) ≡ length (q .label)) × (length (p .ciphertext) ≡ length (q .ciphertext))
+  unfolding filled authBlocks
   lengths =
+      let before : Pair → List ℕ = λ r. replicate (n - hashedCount r) 0 ++ (blocks (r .label) ++ blocks (r .ciphertext)) in
       lengthBlock-same _ _ _ _ (sp .label-length) (sp .ciphertext-length) (sq .label-length) (sq .ciphertext-length)
-      (lasts-same (before n p) (before n q) _ _ (sym (filled-ends n p) ∙ same ∙ filled-ends n q))
+      (lasts-same (before p) (before q) _ _ (simp append-assoc same))
 
   hashed-same : hashed p ≡ hashed q
   unfolding filled
