@@ -20,8 +20,7 @@ module _ (iv : List ℕ) (b high low : ℕ) (some : b ≡ 0 → ⊥) (v : whole 
   ctr-full e = high-full (2 ^ 64) high low b lows e ∙ by-halves
 
   pub ctr-short : (high ≡ 2 ^ 64 - 1 → ⊥) → high < 2 ^ 64 → b ≤ 2 ^ 64 → eqb high (2 ^ 64 - 1) ≡ ctrCameRound iv b
-  ctr-short n h l =
-      ne-eqb high (2 ^ 64 - 1) n ∙ sym (high-short (2 ^ 64) high low b lows n h l) ∙ by-halves
+  ctr-short n h l = ne-eqb high (2 ^ 64 - 1) n ∙ sym (high-short (2 ^ 64) high low b lows n h l) ∙ by-halves
 
 -- GCM's word and b more reach 2^32
 pub gcm-left : (low b : ℕ) → low < 2 ^ 32 → ltb (2 ^ 32 - 1 - low) b ≡ gcmCameRound low b

@@ -33,10 +33,8 @@ last-four x h = last-word x h
 pub gcm-jump-words : (x : List ℕ) (w k : ℕ) → getD x 3 0 < 2 ^ 32 → w ≡ (getD x 3 0 + k) % 2 ^ 32
     → unwords (getD x 0 0 ∷ getD x 1 0 ∷ getD x 2 0 ∷ w ∷ []) ≡ gcmJump (unwords x) k
 unfolding gcmJump unwords bytesOf
-gcm-jump-words x w k h e =
-    rw (e, last-word x h)
+gcm-jump-words x w k h e = rw (e, last-word x h)
 
 pub gcm-words-pass : (x : List ℕ) (w : ℕ) → getD x 3 0 < 2 ^ 32 → w ≡ (getD x 3 0 + 1) % 2 ^ 32 → eqb w 0 ≡ gcmPasses (unwords x)
 unfolding gcmPasses unwords bytesOf
-gcm-words-pass x w h e =
-    zero-tells (2 ^ 32) (getD x 3 0) w h e ∙ rw (last-word x h)
+gcm-words-pass x w h e = zero-tells (2 ^ 32) (getD x 3 0) w h e ∙ rw (last-word x h)

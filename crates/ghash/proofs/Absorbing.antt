@@ -36,8 +36,7 @@ absorbed-both s r q xs ys a b = record {
 -- the first k blocks and the rest, as `&bs[16 * k..]` is lent
 pub absorbed-cut : (s r q : Ghash) (bs : List ℕ) (k : ℕ) → 16 * k ≤ length bs → Absorbed s (upTo k (blockNumber bs)) r
     → Absorbed r (blocks (take (length bs - 16 * k) (drop (16 * k) bs))) q → Absorbed s (blocks bs) q
-absorbed-cut s r q bs k l a b =
-    rw (lent-all bs (16 * k), blocks-cut k bs l) at (absorbed-both s r q _ _ a b)
+absorbed-cut s r q bs k l a b = rw (lent-all bs (16 * k), blocks-cut k bs l) at (absorbed-both s r q _ _ a b)
 
 -- a state that began at 0
 pub hash-of : (h : U128) (s r : Ghash) (bs : List ℕ) → (s .h ≡ h) × (value (s .y) ≡ 0) → Absorbed s bs r → value (r .y) ≡ ghash (value h) bs

@@ -41,13 +41,11 @@ module _ (h : ℕ) (hh : Element h) (nz : h ≢ 0) where
 
   pub label-changed : (a b t : List ℕ) → AreBytes a → AreBytes b → OneBlock a b → ghash h (authBlocks a t) ≢ ghash h (authBlocks b t)
   unfolding authBlocks
-  label-changed a b t ha hb o e =
-      changed [] a b (blocks t ++ (lengthBlock (length b) (length t) ∷ [])) ha hb o (rw (o .lengths) at e)
+  label-changed a b t ha hb o e = changed [] a b (blocks t ++ (lengthBlock (length b) (length t) ∷ [])) ha hb o (rw (o .lengths) at e)
 
   pub text-changed : (a t u : List ℕ) → AreBytes t → AreBytes u → OneBlock t u → ghash h (authBlocks a t) ≢ ghash h (authBlocks a u)
   unfolding authBlocks
-  text-changed a t u ht hu o e =
-      changed (blocks a) t u (lengthBlock (length a) (length u) ∷ []) ht hu o (rw (o .lengths) at e)
+  text-changed a t u ht hu o e = changed (blocks a) t u (lengthBlock (length a) (length u) ∷ []) ht hu o (rw (o .lengths) at e)
 
   -- lists that make the same blocks are told apart by their lengths
   lengths-told : (a t b u : List ℕ) → blocks a ≡ blocks b → blocks t ≡ blocks u

@@ -21,8 +21,7 @@ module _ (h : ℕ) (element : Element h) where
   -- over bytes, of which the first k blocks are the first half
   pub joins-bytes : (k : ℕ) (a b : List ℕ) → length a ≡ 16 * k
       → joined h (ghash h (blocks a)) (ghash h (blocks b)) (blockCount (length b)) ≡ ghash h (blocks (a ++ b))
-  joins-bytes k a b whole =
-      rw (← length-blocks b, blocks-append k a b whole) (joins (blocks a) (blocks b))
+  joins-bytes k a b whole = rw (← length-blocks b, blocks-append k a b whole) (joins (blocks a) (blocks b))
 
   -- what is kept of blocks joins any hash before them to theirs
   half-joins : (xs bs : List ℕ) (r : Half) → HalfOf h bs r → gmul (ghash h xs) (value (r .power)) ⊕ value (r .hash) ≡ ghash h (xs ++ bs)

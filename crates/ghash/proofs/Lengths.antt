@@ -19,8 +19,7 @@ lengthBlock-whole a t ha ht = halves a t ∙ ap₂ whole (mod-eq-of-lt (omega ar
 
 -- a number tells its halves
 halves-same : (a t b u : ℕ) → t < 2 ^ 64 → u < 2 ^ 64 → whole a t ≡ whole b u → (a ≡ b) × (t ≡ u)
-halves-same a t b u ht hu e =
-    (sym (digits-div a ht) ∙ rw e (digits-div b hu), sym (digits-mod a ht) ∙ rw e (digits-mod b hu))
+halves-same a t b u ht hu e = (sym (digits-div a ht) ∙ rw e (digits-div b hu), sym (digits-mod a ht) ∙ rw e (digits-mod b hu))
 
 pub lengthBlock-same : (a t b u : ℕ) → Hashable a → Hashable t → Hashable b → Hashable u → lengthBlock a t ≡ lengthBlock b u
     → (a ≡ b) × (t ≡ u)

@@ -20,8 +20,7 @@ module _ (h : ℕ) (hh : Element h) (nz : h ≢ 0) where
   start-cancel : (bs : List ℕ) (y z : ℕ) → Element y → Element z → hashFrom h y bs ≡ hashFrom h z bs → y ≡ z
   unfolding hashFrom
   start-cancel [] y z hy hz e = e
-  start-cancel (b ∷ bs) y z hy hz e =
-      step-cancel y z b hy hz (start-cancel bs _ _ (gmul-lt (y ⊕ b) h hh) (gmul-lt (z ⊕ b) h hh) e)
+  start-cancel (b ∷ bs) y z hy hz e = step-cancel y z b hy hz (start-cancel bs _ _ (gmul-lt (y ⊕ b) h hh) (gmul-lt (z ⊕ b) h hh) e)
 
   pub one-changed : (xs : List ℕ) (b c : ℕ) (ys : List ℕ) → Element b → Element c → b ≢ c
       → ghash h (xs ++ (b ∷ ys)) ≢ ghash h (xs ++ (c ∷ ys))

@@ -30,5 +30,4 @@ blocksFrom-same (suc k) a b h l ha hb e =
 -- lists of one length that make the same blocks are the same
 pub blocks-same : (a b : List ℕ) → length a ≡ length b → AreBytes a → AreBytes b → blocks a ≡ blocks b → a ≡ b
 unfolding blocks
-blocks-same a b l ha hb e =
-    blocksFrom-same (blockCount (length a)) a b (omega arith) l ha hb (e ∙ rw l)
+blocks-same a b l ha hb e = blocksFrom-same (blockCount (length a)) a b (omega arith) l ha hb (e ∙ rw l)

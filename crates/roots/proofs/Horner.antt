@@ -33,8 +33,7 @@ step-lt y r d hr hd = xor-lt 128 (gmul y r) d (gmul-lt y r hr) hd
 pub quotient-elements : (r y : ℕ) (ds : List ℕ) → Element r → Element y → Elements ds → Elements (quotient r y ds)
 unfolding quotient
 quotient-elements r y [] hr hy hd = tt
-quotient-elements r y (d ∷ ds) hr hy hd =
-    (hy, quotient-elements r (gmul y r ⊕ d) ds hr (step-lt y r d hr (hd .0)) (hd .1))
+quotient-elements r y (d ∷ ds) hr hy hd = (hy, quotient-elements r (gmul y r ⊕ d) ds hr (step-lt y r d hr (hd .0)) (hd .1))
 
 pub horner-lt : (h y : ℕ) (ds : List ℕ) → Element h → Element y → Elements ds → Element (horner h y ds)
 unfolding horner

@@ -41,8 +41,7 @@ zeros-front (x ∷ xs) ys z = (z .0, zeros-front xs ys (z .1))
 
 -- what follows from a property is had by the same elements
 pub having-too : (P Q : ℕ → Type 0) (hs : List ℕ) → ((h : ℕ) → P h → Q h) → Having P hs → Having Q hs
-having-too P Q hs f g =
-    record { different = g .different; each = λ h m. let (e, p) = g .each h m in (e, f h p) }
+having-too P Q hs f g = record { different = g .different; each = λ h m. let (e, p) = g .each h m in (e, f h p) }
 
 module _ (xs ys : List ℕ) (same : length xs ≡ length ys) where
   -- the polynomial that is 0 where the hashes agree
@@ -55,8 +54,7 @@ module _ (xs ys : List ℕ) (same : length xs ≡ length ys) where
 
   agreeing-root : (h : ℕ) → ghash h xs ≡ ghash h ys → Root difference h
   unfolding difference
-  agreeing-root h e =
-      sym (ghash-horner h (xors xs ys)) ∙ hash-xors h 0 0 xs ys same ∙ rw e (xor-self (ghash h ys))
+  agreeing-root h e = sym (ghash-horner h (xors xs ys)) ∙ hash-xors h 0 0 xs ys same ∙ rw e (xor-self (ghash h ys))
 
   pub few-agree : Elements xs → Elements ys → xs ≢ ys → AtMost (length xs) (λ h. ghash h xs ≡ ghash h ys)
   unfolding difference

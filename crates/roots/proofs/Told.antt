@@ -39,8 +39,7 @@ hashed-elements p s =
 
 pub filled-length : (n : ℕ) (p : Pair) → hashedCount p ≤ n → length (filled n p) ≡ n
 unfolding filled
-filled-length n p l =
-    simp (length-append, length-replicate, hashed-length p) (omega arith)
+filled-length n p l = simp (length-append, length-replicate, hashed-length p) (omega arith)
 
 pub filled-elements : (n : ℕ) (p : Pair) → Sound p → Elements (filled n p)
 unfolding filled
