@@ -114,12 +114,8 @@ blocks-append zero [] q h = ap (λ (l : List ℕ). l ++ blocks q) (sym blocks-ni
 blocks-append zero (x ∷ p) q h = absurd (omega arith)
 blocks-append (suc k) p q h =
     blocks-cons (p ++ q) (simp length-append (omega arith))
-    ∙ rw (
-      blocks-cons p (omega arith),
-      blockOf-front p q (omega arith),
-      drop-append-le 16 p q (omega arith),
-      blocks-append k (drop 16 p) q (simp length-drop (omega arith)),
-    )
+    ∙ rw (blocks-cons p (omega arith), blockOf-front p q (omega arith), drop-append-le 16 p q (omega arith))
+    (rw (blocks-append k (drop 16 p) q (simp length-drop (omega arith))))
 
 -- one more zero byte makes no other blocks, where the last one has room for it
 pub blocks-zero : (bs : List ℕ) → length bs % 16 ≢ 0 → blocks (bs ++ (0 ∷ [])) ≡ blocks bs
