@@ -6,8 +6,4 @@ use Rattle.counter.proofs.jump.Statement.{statement}
 use Rattle.counter.proofs.jump.Tie as tie
 
 pub jump-spec : {M : Type 1} → statement M
-jump-spec =
-    tie.close
-    (tie.spec
-    (λ c κs. search needs) (λ c κs. search needs) (λ c κs. search needs)
-    (λ c. search (needs, ctr-jump-words)))
+jump-spec = tie.close (tie.spec (λ c κs. search needs) (λ c κs. search needs) (λ c κs. search needs) (λ c. search (needs, ctr-jump-words)))

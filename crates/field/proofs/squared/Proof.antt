@@ -7,6 +7,4 @@ use Rattle.field.proofs.squared.Statement.{statement}
 use Rattle.field.proofs.squared.Tie as tie
 
 pub squared-spec : {M : Type 1} → statement M
-squared-spec =
-    tie.close
-    (tie.spec (λ c κs. search needs) (λ c κs. search (needs, top-lt, whole-lt)) (λ c. search (needs, reduced-product)))
+squared-spec = tie.close (tie.spec (λ c κs. search needs) (λ c κs. search (needs, top-lt, whole-lt)) (λ c. search (needs, reduced-product)))

@@ -7,6 +7,4 @@ use Rattle.field.proofs.times.Statement.{statement}
 use Rattle.field.proofs.times.Tie as tie
 
 pub times-spec : {M : Type 1} → statement M
-times-spec =
-    tie.close
-    (tie.spec (λ c κs. search needs) (λ c κs. search (needs, top-lt, whole-lt)) (λ c. search (needs, reduced-product)))
+times-spec = tie.close (tie.spec (λ c κs. search needs) (λ c κs. search (needs, top-lt, whole-lt)) (λ c. search (needs, reduced-product)))
