@@ -12,10 +12,9 @@ galois-hash-after-spec =
     (tie.spec
     (λ c κs. search needs) (λ c κs. search needs) (λ c κs. search needs)
     (λ c.
-    let at-lengths = c .before in
-    let at-after = at-lengths .before in
+    let at-after = c .before .before in
     let at-label = at-after .before in
     let S = at-label .before .before .before in
-    let a = S .args in
-    half-auth _ _ (a .half) _ _ _ (whole-lt (a .h .high) (a .h .low) (omega (arith, S .good .0)) (omega (arith, S .good .0))) (S .pre .1)
-    (at-label .hash-blocks .ensures) (at-after .after .ensures) (at-lengths .absorb-lengths .ensures)))
+    let h = S .args .h in
+    half-auth _ _ _ _ _ _ (whole-lt (h .high) (h .low) (omega (arith, S .good .0)) (omega (arith, S .good .0))) (S .pre .1)
+    (at-label .hash-blocks .ensures) (at-after .after .ensures) (c .before .absorb-lengths .ensures)))

@@ -1,8 +1,5 @@
 -- `ghash::halves::join` meets its contract: H to the count is what the first hash counts for.
-use Rattle.block.proofs.Base.{ℕ, _∙_, ap, needs}
-use Rattle.block.specs.Wide.{value}
-use Rattle.block.specs.Xor.{_⊕_}
-use Rattle.field.specs.Field.{gmul}
+use Rattle.block.proofs.Base.{_∙_, needs}
 use Rattle.ghash.specs.Joined.{joined}
 use Rattle.ghash.proofs.halves.join.Statement.{statement}
 use Rattle.ghash.proofs.halves.join.Tie as tie
@@ -12,6 +9,4 @@ join-spec =
     tie.close
     (tie.spec
     (λ c κs. search needs) (λ c κs. search needs)
-    (λ c. unfold joined in
-    let a = c .before .before .args in
-    c .after .ensures ∙ ap (λ (p : ℕ). gmul (value (a .first)) p ⊕ value (a .second)) (c .before .power .ensures)))
+    (λ c. unfold joined in c .after .ensures ∙ rw (c .before .power .ensures)))
