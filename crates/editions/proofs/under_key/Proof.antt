@@ -10,25 +10,9 @@ use Rattle.editions.proofs.Turns.{search-end}
 use Rattle.editions.proofs.under_key.Statement.{statement}
 use Rattle.editions.proofs.under_key.Tie as tie
 
-first-counter-requires : tie.Need-first-counter-requires
-first-counter-requires c κs =
-    let S = c .before .before .before .before .before .before .before .before .before .before in
-    iv-twelve-or-sixteen (length (now (S .args .iv))) (S .pre .0)
-
-text-part-requires : tie.Need-text-part-requires
-text-part-requires c κs =
-    let S = c .before .before .before .before .before .before .before .before .before .before .before .before in
-    with-tag-passed _ (S .pre .1 .0)
-
-search-requires : tie.Need-search-requires
-search-requires c κs =
-    let S = c .before .before .before .before .before .before .before .before .before .before .before .before .before .before in
-    (rw (c .before .text-part .ensures) at (c .of .ensures), S .pre .1)
-
 returns : tie.Need-returns
 returns c =
-    let a = c .before .before .before .before .before .before .args in
-    rw (c .without .ensures) (ap (onKey (a .key)) (search-end (now (a .lengths)) 0 (omega arith) _ (now (a .labels)) 0 _ refl))
+    rw (c .without .ensures) (ap (onKey _) (search-end _ 0 (omega arith) _ _ 0 _ refl))
 
 returns-2 : tie.Need-returns-2
 unfolding opensUnder tagOf
@@ -45,4 +29,5 @@ returns-2 c =
 
 pub under-key-spec : {M : Type 1} → statement M
 under-key-spec = tie.close (tie.spec (search needs) returns (search needs) (search needs) (search needs) (λ c κs. search needs)
-    (λ c κs. search needs) first-counter-requires (λ c κs. search needs) text-part-requires (search needs) search-requires returns-2)
+    (λ c κs. search needs) (λ c κs. search (needs, iv-twelve-or-sixteen)) (λ c κs. search needs) (λ c κs. search (needs, with-tag-passed))
+    (search needs) (λ c κs. (rw (c .before .text-part .ensures) at (c .of .ensures), search needs)) returns-2)
