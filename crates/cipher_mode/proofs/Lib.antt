@@ -1,4 +1,3 @@
 pub mod Passed
 pub mod Ends
 pub mod Refusals
-pub mod Modes

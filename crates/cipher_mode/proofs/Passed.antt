@@ -28,14 +28,6 @@ pub both : (a b : Checked) → andThen a b ≡ Passed → (a ≡ Passed) × (b �
 both Passed b e = (refl, e)
 both (Refused r) b e = let z : _≡_ {A = ℕ} 0 1 = cc in absurd (omega arith)
 
--- a stage that refused ends the list; b is its definition
-pub stops : (a b next : Checked) (r : Refusal) → a ≡ b → a ≡ Refused r → a ≡ andThen b next
-stops a b next r e f = f ∙ sym (ap (λ (x : Checked). andThen x next) (sym e ∙ f))
-
--- after one that passed, what comes next is the answer
-pub goes-on : (a b next x : Checked) → a ≡ b → a ≡ Passed → x ≡ next → x ≡ andThen b next
-goes-on a b next x e f g = g ∙ sym (ap (λ (y : Checked). andThen y next) (sym e ∙ f))
-
 is-key : (a : KeyAnswer) → keyCheck a ≡ Passed → a ≡ Key
 is-key Key e = refl
 is-key NoKey e = let z : _≡_ {A = ℕ} 0 1 = cc in absurd (omega arith)

@@ -5,6 +5,5 @@ use Rattle.cipher_mode.proofs.work.cbc_answer.Statement.{statement}
 use Rattle.cipher_mode.proofs.work.cbc_answer.Tie as tie
 
 pub cbc-answer-spec : {M : Type 1} → statement M
-cbc-answer-spec =
-    tie.close (tie.spec (λ c. search needs) (λ c. search needs) (λ c. search needs) (λ c. sym (ap headOf (c .before .opened .given .1)))
+cbc-answer-spec = tie.close (tie.spec (search needs) (search needs) (search needs) (λ c. sym (ap headOf (c .before .opened .given .1)))
     (λ c. sym (ap headOf (c .enum-told .given .1))) (λ c. sym (ap headOf (c .enum-told2 .given .1))))

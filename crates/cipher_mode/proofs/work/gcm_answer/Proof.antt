@@ -4,5 +4,5 @@ use Rattle.cipher_mode.proofs.work.gcm_answer.Statement.{statement}
 use Rattle.cipher_mode.proofs.work.gcm_answer.Tie as tie
 
 pub gcm-answer-spec : {M : Type 1} → statement M
-gcm-answer-spec =
-    tie.close (tie.spec (λ c. search needs) (λ c. search needs) (λ c. rw (c .before .opened .given .1)) (λ c. rw (c .enum-told .given .1)))
+gcm-answer-spec = tie.close (tie.spec (search needs) (search needs) (λ c. rw (c .before .opened .given .1))
+    (λ c. rw (c .enum-told .given .1)))
