@@ -20,5 +20,5 @@ new-spec = tie.close (tie.spec (search needs) (λ c. rw (ne-eqb _ _ (c .before .
     (λ c. let at-number = c .before .before in
     rw (eq-eqb _ _ (at-number .before .if1 .left), sym (at-number .wrong-number .ensures) ∙ c .before .if2 .taken) (c .no-cipher2 .ensures))
     (search needs) cast-t10
-    (λ c. let at-number = c .before .before in
-    rw (eq-eqb _ _ (at-number .before .if1 .left), sym (at-number .wrong-number .ensures) ∙ c .before .if2 .left, c .key-schedule .ensures)))
+    (λ c. let number = c .before .before in
+    rw (eq-eqb _ _ (number .before .if1 .left), sym (number .wrong-number .ensures) ∙ c .before .if2 .left, c .key-schedule .ensures)))

@@ -19,4 +19,4 @@ returns c =
     (below-drop 256 (a .at) s (below-each 256 s small)))
 
 pub block-at-spec : {M : Type 1} → statement M
-block-at-spec = tie.close (tie.spec (λ c. search needs) (λ c. search needs) (λ c. search needs) (λ c κs. search needs) returns)
+block-at-spec = tie.close (tie.spec (search needs) (search needs) (search needs) (search needs) returns)
