@@ -40,7 +40,6 @@ returns c =
     rounds-done rk (l .x) _ (l .i) (omega arith) (l .inv .2)
 
 pub encrypt-spec : {M : Type 1} → statement M
-encrypt-spec =
-    tie.close (tie.spec Inv-loop2 μ-loop2 Inv-loop μ-loop (λ c. (search needs, refl, refl)) (λ c. omega arith) (λ c. (omega arith, refl))
-    (λ c. omega arith) loop-again (λ c. search needs) (λ c. search needs) (λ c κs. search needs) (λ c. omega arith) (λ c. omega arith)
-    loop2-again (λ c. search needs) (λ c. search needs) (λ c. search needs) (λ c. search needs) returns)
+encrypt-spec = tie.close (tie.spec Inv-loop2 μ-loop2 Inv-loop μ-loop (λ c. (search needs, refl, refl)) (omega arith)
+    (λ c. (omega arith, refl)) (omega arith) loop-again (search needs) (search needs) (search needs) (omega arith) (omega arith) loop2-again
+    (search needs) (search needs) (search needs) (search needs) returns)
