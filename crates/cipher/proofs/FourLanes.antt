@@ -22,12 +22,8 @@ mask-more x m k = mask-byte (x / 2 ^ k) m ∙ ap (λ (y : ℕ). bitAnd y m * 2 ^
 
 pub masked-lanes : (x : ℕ) → bitAnd x 0x01010101 ≡ fourLanes x
 masked-lanes x =
-    let e0 = mask-more x 0x010101 0 in
-    let e1 = mask-more x 0x0101 8 in
-    let e2 = mask-more x 1 16 in
-    let e3 = mask-more x 0 24 in
-    let e4 = and-zero-r (x / 2 ^ 32) in
-    ap (λ (y : ℕ). bitAnd y 0x01010101) (sym (div-one x)) ∙ omega arith
+    ap (λ (y : ℕ). bitAnd y 0x01010101) (sym (div-one x))
+    ∙ omega (arith, mask-more x 0x010101 0, mask-more x 0x0101 8, mask-more x 1 16, mask-more x 0 24, and-zero-r (x / 2 ^ 32))
 
 pub masked-lt : (x : ℕ) → bitAnd x 0x01010101 < 2 ^ 25
 masked-lt x = omega (arith, and-le-r x 0x01010101)
@@ -47,11 +43,7 @@ joined o = omega arith
 
 pub lanes-joined : (o : List ℕ) → doubled (λ i. fourLanes (getD o i 0)) % 2 ^ 32 ≡ fourBytes o
 lanes-joined o =
-    let h0 = lane-lt o 0 in
-    let h1 = lane-lt o 8 in
-    let h2 = lane-lt o 16 in
-    let h3 = lane-lt o 24 in
-    ap (λ (x : ℕ). x % 2 ^ 32) (joined o) ∙ mod-eq-of-lt (omega arith)
+    ap (λ (x : ℕ). x % 2 ^ 32) (joined o) ∙ mod-eq-of-lt (omega (arith, lane-lt o 0, lane-lt o 8, lane-lt o 16, lane-lt o 24))
 
 -- a word shifted by 0 to 7
 abbrev pub shifted : ℕ → List ℕ

@@ -32,15 +32,9 @@ pub L-bit : (w i : ℕ) → w < 2 ^ 32 → i < 32
 unfolding L
 L-bit w i hw hi =
     let r : (n : ℕ) → n ≤ 32 → bit i (rotl w n) ≡ bit ((i + (32 - n)) % 32) w = λ n g. rotl-bit w n i g hw hi in
-    sym (bit-xor i (w ⊕ rotl w 2 ⊕ rotl w 10 ⊕ rotl w 18) (rotl w 24) ∙ rw (
-      bit-xor i (w ⊕ rotl w 2 ⊕ rotl w 10) (rotl w 18),
-      bit-xor i (w ⊕ rotl w 2) (rotl w 10),
-      bit-xor i w (rotl w 2),
-      r 2 (omega arith),
-      r 10 (omega arith),
-      r 18 (omega arith),
-      r 24 (omega arith),
-    ))
+    sym (bit-xor i (w ⊕ rotl w 2 ⊕ rotl w 10 ⊕ rotl w 18) (rotl w 24)
+    ∙ rw (bit-xor i (w ⊕ rotl w 2 ⊕ rotl w 10) (rotl w 18), bit-xor i (w ⊕ rotl w 2) (rotl w 10), bit-xor i w (rotl w 2))
+    (rw (r 2 (omega arith), r 10 (omega arith), r 18 (omega arith), r 24 (omega arith))))
 
 -- each byte of tau is the S-box's
 pub tau-byte : (b w : ℕ) → b < 4 → tau w / 2 ^ (8 * b) % 256 ≡ Sbox (w / 2 ^ (8 * b) % 256)

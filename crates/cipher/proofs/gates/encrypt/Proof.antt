@@ -20,9 +20,7 @@ abbrev μ-loop : tie.MeasureT-loop
 
 loop-again : tie.Need-loop-again Inv-loop2 μ-loop2 Inv-loop μ-loop
 loop-again c =
-    let m = c .before .loop2 in
-    let l = c .before .before .before .loop in
-    (omega arith, omega arith, m .inv .1 ∙ l .inv .2)
+    (omega arith, omega arith, c .before .loop2 .inv .1 ∙ c .before .before .before .loop .inv .2)
 
 loop2-again : tie.Need-loop2-again Inv-loop2 μ-loop2 Inv-loop μ-loop
 loop2-again c =
@@ -30,7 +28,7 @@ loop2-again c =
     let m = at-loop2 .loop2 in
     let rk = at-loop2 .before .before .before .args .t1 in
     let n : length rk ≡ 32 = search needs in
-    (omega arith, ap (rounds (drop (m .i + 1) rk)) (c .round .ensures) ∙ rounds-next rk (m .x) (m .i) (omega arith) ∙ m .inv .1)
+    (omega arith, rw (c .round .ensures) (rounds-next rk (m .x) (m .i) (omega arith) ∙ m .inv .1))
 
 returns : tie.Need-returns Inv-loop2 μ-loop2 Inv-loop μ-loop
 returns c =
