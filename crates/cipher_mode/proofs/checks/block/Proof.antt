@@ -14,13 +14,8 @@ unfolding blockCheck
 to-room c r e =
     let at-mark = c .before .before in
     let told = at-mark .before .before in
-    rw (
-      ← told .before .before .key .ensures,
-      told .enum-told .given .1,
-      eq-eqb _ _ (at-mark .before .if1 .left),
-      ← at-mark .retired .ensures,
-      c .enum-told3 .given .1,
-    ) e
+    rw (← told .before .before .key .ensures, told .enum-told .given .1, eq-eqb _ _ (at-mark .before .if1 .left))
+    (rw (← at-mark .retired .ensures, c .enum-told3 .given .1) e)
 
 pub block-spec : {M : Type 1} → statement M
 unfolding blockCheck
@@ -31,11 +26,6 @@ block-spec = tie.close (tie.spec (search needs) (search needs) (search needs)
     (search needs) (search needs) (search needs)
     (λ c. let at-mark = c .before .before in
     let told = at-mark .before .before in
-    rw (
-      ← told .before .before .key .ensures,
-      told .enum-told .given .1,
-      eq-eqb _ _ (at-mark .before .if1 .left),
-      ← at-mark .retired .ensures,
-      c .enum-told4 .given .1,
-    ))
+    rw (← told .before .before .key .ensures, told .enum-told .given .1, eq-eqb _ _ (at-mark .before .if1 .left))
+    (rw (← at-mark .retired .ensures, c .enum-told4 .given .1)))
     (λ c. to-room (c .before) _ (rw (lt-ltb _ _ (c .if2 .taken)))) (λ c. to-room (c .before) _ (rw (le-ltb _ _ (c .if2 .left)))))

@@ -10,14 +10,8 @@ returns-3 c =
     let at-data = c .before .before in
     let second = at-data .before in
     let first = second .before .before .before in
-    rw (
-      ← first .before .before .key-and-iv .ensures,
-      first .enum-told .given .1,
-      ← second .before .before .label .ensures,
-      second .enum-told3 .given .1,
-      ← at-data .«data» .ensures,
-      c .enum-told6 .given .1,
-    )
+    rw (← first .before .before .key-and-iv .ensures, first .enum-told .given .1)
+    (rw (← second .before .before .label .ensures, second .enum-told3 .given .1, ← at-data .«data» .ensures, c .enum-told6 .given .1))
 
 returns-4 : tie.Need-returns-4
 unfolding messageCheck
@@ -25,14 +19,9 @@ returns-4 c =
     let third = c .before in
     let second = third .before .before .before in
     let first = second .before .before .before in
-    rw (
-      ← first .before .before .key-and-iv .ensures,
-      first .enum-told .given .1,
-      ← second .before .before .label .ensures,
-      second .enum-told3 .given .1,
-      ← third .before .before .«data» .ensures,
-      third .enum-told5 .given .1,
-    ) (c .room .ensures)
+    rw (← first .before .before .key-and-iv .ensures, first .enum-told .given .1)
+    (rw (← second .before .before .label .ensures, second .enum-told3 .given .1)
+    (rw (← third .before .before .«data» .ensures, third .enum-told5 .given .1) (c .room .ensures)))
 
 pub message-spec : {M : Type 1} → statement M
 unfolding messageCheck

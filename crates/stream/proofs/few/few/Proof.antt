@@ -18,14 +18,12 @@ returns c =
     let n = at-count .ciphered .ensures in
     let laid = at-lay .lay .ensures (a .rk) in
     let done = at-encrypt .encrypt .ensures in
-    let xored = rw (sub-zero (16 * a .m)) at (at-block-at .before .before .before .before .xor-bytes .ensures) in (
-      at-block-at .block-at .ensures ∙ laid (a .m) (omega arith),
-      (
-        λ e. c .combine-block .ensures ∙ c .before .block-at2 .ensures
-            ∙ few-pad (a .kind) (a .rk) (unwords (a .iv)) d (a .m) (S .pre .1 .1 .0) _ _ _ _ laid done (n .1 e),
-        few-written (a .kind) (a .rk) (unwords (a .iv)) d (a .m) (S .pre .1 .1 .0) _ _ _ _ laid done (n .0) _ _ xored,
-      ),
-    )
+    let xored = rw (sub-zero (16 * a .m)) at (at-block-at .before .before .before .before .xor-bytes .ensures) in
+    let s = unwords (a .iv) in
+    let written = few-written (a .kind) (a .rk) s d (a .m) (S .pre .1 .1 .0) _ _ _ _ laid done (n .0) (now (a .out)) _ xored in
+    let pad = few-pad (a .kind) (a .rk) s d (a .m) (S .pre .1 .1 .0) _ _ _ _ laid done in
+    let read = c .combine-block .ensures ∙ c .before .block-at2 .ensures in
+    (at-block-at .block-at .ensures ∙ laid (a .m) (omega arith), (λ e. read ∙ pad (n .1 e), written))
 
 pub few-spec : {M : Type 1} → statement M
 few-spec = tie.close (tie.spec (search needs) (search needs) (λ c κs. search needs) (λ c κs. search needs) (search needs) (search needs)
