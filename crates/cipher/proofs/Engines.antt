@@ -10,14 +10,9 @@ pub length-sbox : length sboxTable ≡ 256
 unfolding sboxTable
 length-sbox = refl
 
-length-from : (n k : ℕ) → length (mixedFrom n k) ≡ n
-unfolding mixedFrom
-length-from zero k = refl
-length-from (suc n) k = ap suc (length-from n (suc k))
-
 pub length-mixed : length mixedTable ≡ 1024
-unfolding mixedTable
-length-mixed = length-from 1024 0
+unfolding mixedTable mixedFrom
+length-mixed = refl
 
 pub plain-length : (t : List ℕ) → t ≡ sboxTable → length t ≡ 256
 plain-length t e = ap length e ∙ length-sbox
