@@ -4,14 +4,8 @@ use Rattle.block.proofs.Base.{_-_, suc, _≡_, arith}
 use Rattle.cipher_mode.proofs.mode_of.Statement.{statement}
 use Rattle.cipher_mode.proofs.mode_of.Tie as tie
 
--- a number that is none of the first four is above them
-returns-5 : tie.Need-returns-5
-unfolding modeOf
-returns-5 c =
-    let n = c .before .args .mode in
-    let above : n ≡ suc (suc (suc (suc (n - 4)))) = omega arith in rw above
-
 pub mode-of-spec : {M : Type 1} → statement M
 unfolding modeOf
 mode-of-spec = tie.close (tie.spec (λ c. rw (c .match .keys1)) (λ c. rw (c .match .keys2)) (λ c. rw (c .match .keys3))
-    (λ c. rw (c .match .keys4)) returns-5)
+    (λ c. rw (c .match .keys4))
+    (λ c. let n = c .before .args .mode in let above : n ≡ suc (suc (suc (suc (n - 4)))) = omega arith in rw above))
