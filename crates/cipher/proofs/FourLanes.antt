@@ -1,6 +1,6 @@
 -- The four bytes of a word in lanes 0, 8, 16 and 24 of eight words: how they are laid there, and how they are read off.
 use Rattle.block.proofs.Base.{_%_, _*_, _+_, _/_, _<_, _^_, suc, zero, ℕ, _∙_, _≡_, ap, refl, sym, List, [], _∷_, add-comm, div-one}
-use Rattle.block.proofs.Base.{mod-eq-of-lt, mod-lt, arith, and-block, and-le-r, and-mask, and-zero-r, bitAnd, lit<, getD, pow-pos, shr-shr}
+use Rattle.block.proofs.Base.{mod-eq-of-lt, mod-lt, arith, and-block, and-mask, and-zero-r, bitAnd, lit<, getD, pow-pos, shr-shr}
 use Rattle.block.proofs.Base.{split}
 use Rattle.lanes.specs.Bits.{bit, pack, byteLane}
 use Rattle.lanes.proofs.Bits.{bit-small, bit-mod, bit-shr, pack-lt, pack-is}
@@ -24,9 +24,6 @@ pub masked-lanes : (x : ℕ) → bitAnd x 0x01010101 ≡ fourLanes x
 masked-lanes x =
     ap (λ (y : ℕ). bitAnd y 0x01010101) (sym (div-one x))
     ∙ omega (arith, mask-more x 0x010101 0, mask-more x 0x0101 8, mask-more x 1 16, mask-more x 0 24, and-zero-r (x / 2 ^ 32))
-
-pub masked-lt : (x : ℕ) → bitAnd x 0x01010101 < 2 ^ 25
-masked-lt x = omega (arith, and-le-r x 0x01010101)
 
 lane-lt : (o : List ℕ) (n : ℕ) → byteLane o n < 2 ^ 8
 unfolding byteLane

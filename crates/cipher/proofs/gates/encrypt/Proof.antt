@@ -18,10 +18,6 @@ Inv-loop rk x₀ i₀ x i = (i ≤ 32) × (i % 4 ≡ 0) × (rounds (drop i rk) x
 abbrev μ-loop : tie.MeasureT-loop
 μ-loop rk x₀ i₀ x i = 32 - i
 
-loop-again : tie.Need-loop-again Inv-loop2 μ-loop2 Inv-loop μ-loop
-loop-again c =
-    (omega arith, omega arith, c .before .loop2 .inv .1 ∙ c .before .before .before .loop .inv .2)
-
 loop2-again : tie.Need-loop2-again Inv-loop2 μ-loop2 Inv-loop μ-loop
 loop2-again c =
     let at-loop2 = c .before .before in
@@ -39,5 +35,6 @@ returns c =
 
 pub encrypt-spec : {M : Type 1} → statement M
 encrypt-spec = tie.close (tie.spec Inv-loop2 μ-loop2 Inv-loop μ-loop (λ c. (search needs, refl, refl)) (omega arith)
-    (λ c. (omega arith, refl)) (omega arith) loop-again (search needs) (search needs) (search needs) (omega arith) (omega arith) loop2-again
-    (search needs) (search needs) (search needs) (search needs) returns)
+    (λ c. (omega arith, refl)) (omega arith)
+    (λ c. (omega arith, omega arith, c .before .loop2 .inv .1 ∙ c .before .before .before .loop .inv .2)) (search needs) (search needs)
+    (search needs) (omega arith) (omega arith) loop2-again (search needs) (search needs) (search needs) (search needs) returns)

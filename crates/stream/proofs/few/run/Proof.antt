@@ -23,13 +23,10 @@ loop-again c =
     let x = rw (tail-is (now (a .«data»)) (l .at)) at (c .before .before .before .few .ensures) in
     blocks-on (a .kind) (a .rk) (l .inv) 64 _ _ (omega arith) (omega arith) (x .0) (x .1 .1)
 
-returns : tie.Need-returns Inv-loop μ-loop
-returns c =
-    let a = c .before .before .before .before .before .before .before .before .before .args in
-    onward (a .kind) (a .rk) (c .before .before .before .before .before .before .loop .inv) _ _ _ _ (c .before .before .last .ensures)
-
 pub run-spec : {M : Type 1} → statement M
 run-spec = tie.close (tie.spec Inv-loop μ-loop (λ c. reached-first _ _ _ _) (omega arith) (omega arith) (omega arith) (omega arith)
     (omega arith) (omega arith) (omega arith) (λ c κs. (search needs, ((omega arith, λ e. untrue e), (omega arith, omega arith))))
     (omega arith) (omega arith) loop-again (omega arith) (omega arith) (omega arith) (omega arith) (omega arith) (omega arith)
-    (λ c κs. (search needs, (omega arith, omega arith))) (omega arith) returns)
+    (λ c κs. (search needs, (omega arith, omega arith))) (omega arith)
+    (λ c. let a = c .before .before .before .before .before .before .before .before .before .args in
+    onward (a .kind) (a .rk) (c .before .before .before .before .before .before .loop .inv) _ _ _ _ (c .before .before .last .ensures)))
