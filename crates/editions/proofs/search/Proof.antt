@@ -1,11 +1,11 @@
 -- `editions::search` meets its contract. The loop's invariant: the lengths to come add up to what is left of the buffer, none of them is
 -- past the limit, and the search among them decides. The measure is how many are to come.
-use Rattle.block.proofs.Base.{_+_, _-_, _≤_, _≡_, ap, refl, cond, false, arith, needs, now, drop, getD, length, length-take}
+use Rattle.block.proofs.Base.{_+_, _-_, _≤_, _≡_, ap, refl, false, arith, needs, now, drop, getD, length, length-take}
 use Rattle.block.specs.Wide.{value}
 use Rattle.block.specs.Words.{unwords}
 use Rattle.cipher_mode.proofs.Passed.{data-within, with-tag-passed}
 use Rattle.editions.specs.Candidates.{sum, anyTooLong}
-use Rattle.editions.specs.Which.{foundAt, onKey, firstOpening, opensMasked}
+use Rattle.editions.specs.Which.{onKey, firstOpening, opensMasked}
 use Rattle.editions.proofs.Turns.{sum-turn, short-turn, search-turn, search-end}
 use Rattle.editions.proofs.search.Statement.{statement}
 use Rattle.editions.proofs.search.Tie as tie

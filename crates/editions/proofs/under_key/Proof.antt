@@ -1,6 +1,6 @@
 -- `editions::under_key` meets its contract. Without candidates none is found (`search-end`). Otherwise H and J0 are those of the keys and
 -- the IV, the mask is the cipher of J0, and what is kept of the text is its blocks' own.
-use Rattle.block.proofs.Base.{_^_, ℕ, _≡_, ap, refl, arith, needs, now, getD, length, w32, Fits}
+use Rattle.block.proofs.Base.{_^_, ℕ, _≡_, ap, refl, arith, needs, getD, length, w32, Fits}
 use Rattle.block.proofs.Entries.{below-each}
 use Rattle.cipher.proofs.Blocks.{encrypt-unwords}
 use Rattle.gcm.specs.Gcm.{tagOf, opensUnder}
