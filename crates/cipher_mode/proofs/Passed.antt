@@ -1,5 +1,5 @@
 -- What is known of the lengths where the checks passed.
-use Rattle.block.proofs.Base.{_%_, _≤_, ℕ, _∙_, _≡_, ap, refl, sym, _⊎_, inl, inr, Bool, _&&_, false, not, true, arith, eqb-false, eqb-true}
+use Rattle.block.proofs.Base.{_%_, _≤_, ℕ, _≡_, refl, _⊎_, inl, inr, Bool, _&&_, false, not, true, arith, eqb-false, eqb-true}
 use Rattle.block.proofs.Base.{ltb-false, not-false, eqb, ltb}
 use Rattle.cipher_mode.specs.declared.KeyAnswer.{KeyAnswer}
 use Rattle.cipher_mode.specs.declared.KeyAnswer.the-variants.{Key, ErrorBlockSize as NoKey, WrongNumber as NoNumber}
