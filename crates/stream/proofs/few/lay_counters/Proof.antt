@@ -1,6 +1,6 @@
 -- `stream::few::lay_counters` meets its contract. The loop's invariant: the first i counters are laid, and behind them stands what stood
 -- there.
-use Rattle.block.proofs.Base.{_*_, _-_, _<_, _≤_, ℕ, _≡_, refl, _++_, arith, needs, drop, length}
+use Rattle.block.proofs.Base.{_*_, _-_, _≤_, _≡_, refl, _++_, arith, needs, drop, length}
 use Rattle.block.specs.Blocks.{cat}
 use Rattle.block.specs.Words.{unwords}
 use Rattle.block.proofs.WordsBack.{length-unwords}
