@@ -1,6 +1,6 @@
 -- The engine that is lent: its length tells which it is. The plain one is the S-box, whose bytes are laid out as words one by
 -- one.
-use Rattle.block.proofs.Base.{_+_, _<_, suc, zero, ℕ, _∙_, _≡_, ap, refl, sym, inl, inr, Bool, cond, false, true, List, [], add-one}
+use Rattle.block.proofs.Base.{_+_, _<_, ℕ, _∙_, _≡_, ap, refl, sym, inl, inr, Bool, cond, false, true, List, [], add-one}
 use Rattle.block.proofs.Base.{arith, eq-eqb, ne-eqb, eqb, getD, length, set, take, take-all, take-suc-set}
 use lib.Seq.{take-suc}
 use Rattle.cipher.specs.Sm4.{sboxTable}
