@@ -9,12 +9,6 @@ use Rattle.stream.proofs.Walks.{ended}
 use Rattle.stream.proofs.few.last.Statement.{statement}
 use Rattle.stream.proofs.few.last.Tie as tie
 
-xor-bytes-requires : tie.Need-xor-bytes-requires
-xor-bytes-requires c κs =
-    let x = c .before .before .before .before .before .before .few in
-    let p : length (x .result .pad) ≡ 16 = search needs in
-    (omega arith, omega arith)
-
 returns : tie.Need-returns
 returns c =
     let at-few = c .before .before .before .before .before .before .before .before .before in
@@ -33,5 +27,7 @@ returns c =
 
 pub last-spec : {M : Type 1} → statement M
 last-spec = tie.close (tie.spec (λ c κs. search needs) (λ c κs. search needs) (λ c. search needs) (λ c. search needs) (λ c. search needs)
-    (λ c. search needs) (λ c. search needs) (λ c. search needs) (λ c. search needs) (λ c. search needs) xor-bytes-requires
+    (λ c. search needs) (λ c. search needs) (λ c. search needs) (λ c. search needs) (λ c. search needs)
+    (λ c κs. let p : length (c .before .before .before .before .before .before .few .result .pad) ≡ 16 = search needs in
+    (omega arith, omega arith))
     (λ c. search needs) returns)
