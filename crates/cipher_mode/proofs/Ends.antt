@@ -4,12 +4,10 @@ use Rattle.block.specs.Words.{words, unwords}
 use Rattle.block.proofs.Entries.{below-each}
 use Rattle.block.proofs.WordsBack.{length-unwords, unwords-words}
 use Rattle.cipher.specs.Sm4.{encryptWords, decryptWords, encryptBlock, decryptBlock}
-use Rattle.walk.specs.Outcome.{Head, Outcome, finished, under, telling, leaving, keyed, reporting, done}
+use Rattle.walk.specs.Outcome.{Head, Outcome, finished, telling, leaving, reporting, done}
 use Rattle.walk.specs.Walk.{over}
-use Rattle.cipher_mode.specs.declared.answer.Answer.{Answer}
 use Rattle.cipher_mode.specs.declared.checks.Checked.{Checked}
 use Rattle.cipher_mode.specs.declared.checks.Checked.the-variants.{Passed}
-use Rattle.cipher_mode.specs.Answer.{headOf, outcome}
 use Rattle.cipher_mode.specs.declared.Direction.{Direction}
 use Rattle.cipher_mode.specs.declared.Direction.the-variants.{Encrypt, Decrypt}
 use Rattle.cipher_mode.specs.Checks.{checked}
@@ -26,11 +24,6 @@ went-on k o x next f e = e ∙ sym (ap {B = Outcome} (λ (y : Checked). checked 
 -- the result p was written to the front of the output, and n is its length
 pub reached : (p o o′ : List ℕ) (n : ℕ) → length p ≡ n → o′ ≡ over p o → leaving (finished n) o′ ≡ done p o
 reached p o o′ n l e = ap₂ {C = Outcome} leaving (ap finished (sym l)) e
-
--- the answer says what the outcome x is, on the key of number n
-pub on-key : (a : Answer) (n m : ℕ) (o : List ℕ) (h : Head) (x : Outcome) → headOf a ≡ under n h → n ≡ m → leaving h o ≡ x → outcome a o ≡
-    keyed m x
-on-key a n m o h x e g f = leaves o e (ap₂ {C = Outcome} keyed g f)
 
 -- the work left the outcome x, which is done, and told b of its counter
 pub told-of : (b t : Bool) (h : Head) (o : List ℕ) (x : Outcome) → b ≡ t → leaving h o ≡ x → x .head .number ≡ 0

@@ -1,9 +1,10 @@
 -- `cipher_mode::Sm4Cipher::call` meets its contract: where the check refused, so does the definition; where it passed, the block was
 -- written and is sixteen bytes.
-use Rattle.block.proofs.Base.{_∙_, refl, sym, needs, now}
+use Rattle.block.proofs.Base.{_∙_, ap, refl, sym, needs, now}
+use Rattle.walk.specs.Outcome.{Outcome, keyed}
 use Rattle.cipher_mode.specs.Calls.{blockOf, blockCall}
 use Rattle.cipher_mode.proofs.Passed.{block-passed}
-use Rattle.cipher_mode.proofs.Ends.{leaves, reached, on-key, length-block}
+use Rattle.cipher_mode.proofs.Ends.{leaves, reached, length-block}
 use Rattle.cipher_mode.proofs.Sm4Cipher.call.Statement.{statement}
 use Rattle.cipher_mode.proofs.Sm4Cipher.call.Tie as tie
 
@@ -30,8 +31,8 @@ returns-2 c =
     let a = at-number .before .before .before .args in
     let n = length-block (a .direction) (a .self .rk) (now (a .block-in)) in
     rw (← told .before .before .block .ensures, told .enum-told .given .1)
-    (on-key (c .done .result) _ _ _ _ _ (c .done .ensures) (at-number .number-in .ensures)
-    (reached (blockOf (a .direction) (a .self .rk) (now (a .block-in))) (now (a .out)) _ 16 n (rw n (at-work .block2 .ensures))))
+    (leaves _ (rw (at-number .number-in .ensures) at (c .done .ensures)) (ap {B = Outcome} (keyed _)
+    (reached (blockOf (a .direction) (a .self .rk) (now (a .block-in))) (now (a .out)) _ 16 n (rw n (at-work .block2 .ensures)))))
 
 pub call-spec : {M : Type 1} → statement M
 call-spec = tie.close (tie.spec (search needs) (search needs) (search needs) (search needs) returns (search needs) block-requires-2
