@@ -22,25 +22,17 @@ rotl-bit-at w m n i e hw hi =
     ap (λ (x : ℕ). bit x (w % 2 ^ m * 2 ^ n + w / 2 ^ m)) q ∙ bit-high n (i - n) (w % 2 ^ m) (w / 2 ^ m) l
     ∙ bit-mod m (i - n) w (omega arith) ∙ ap (λ (x : ℕ). bit x w) r) (lt-or-le i n)
 
-rotl-bit : (w n i : ℕ) → n ≤ 32 → w < 2 ^ 32 → i < 32 → bit i (rotl w n) ≡ bit ((i + (32 - n)) % 32) w
-rotl-bit w n i h hw hi = rotl-bit-at w (32 - n) n i (omega arith) hw hi
-
 -- a bit of L from five bits, as they stand
 pub L-bit : (w i : ℕ) → w < 2 ^ 32 → i < 32
     → differ (differ (differ (differ (bit i w) (bit ((i + 30) % 32) w)) (bit ((i + 22) % 32) w)) (bit ((i + 14) % 32) w))
     (bit ((i + 8) % 32) w) ≡ bit i (L w)
 unfolding L
 L-bit w i hw hi =
-    let r : (n : ℕ) → n ≤ 32 → bit i (rotl w n) ≡ bit ((i + (32 - n)) % 32) w = λ n g. rotl-bit w n i g hw hi in
-    sym (bit-xor i (w ⊕ rotl w 2 ⊕ rotl w 10 ⊕ rotl w 18) (rotl w 24) ∙ rw (
-      bit-xor i (w ⊕ rotl w 2 ⊕ rotl w 10) (rotl w 18),
-      bit-xor i (w ⊕ rotl w 2) (rotl w 10),
-      bit-xor i w (rotl w 2),
-      r 2 (omega arith),
-      r 10 (omega arith),
-      r 18 (omega arith),
-      r 24 (omega arith),
-    ))
+    let r : (n : ℕ) → n ≤ 32 → bit i (rotl w n) ≡ bit ((i + (32 - n)) % 32) w =
+    λ n g. rotl-bit-at w (32 - n) n i (omega arith) hw hi in
+    sym (bit-xor i (w ⊕ rotl w 2 ⊕ rotl w 10 ⊕ rotl w 18) (rotl w 24)
+    ∙ rw (bit-xor i (w ⊕ rotl w 2 ⊕ rotl w 10) (rotl w 18), bit-xor i (w ⊕ rotl w 2) (rotl w 10), bit-xor i w (rotl w 2))
+    (rw (r 2 (omega arith), r 10 (omega arith), r 18 (omega arith), r 24 (omega arith))))
 
 -- each byte of tau is the S-box's
 pub tau-byte : (b w : ℕ) → b < 4 → tau w / 2 ^ (8 * b) % 256 ≡ Sbox (w / 2 ^ (8 * b) % 256)

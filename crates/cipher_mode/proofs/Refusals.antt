@@ -33,11 +33,10 @@ refuses WrongNumber = by-number 13 (omega arith)
 refuses Retired = by-number 14 (omega arith)
 refuses InvalidPadding = by-number 15 (omega arith)
 
--- a report that says this of a counter
-abbrev silenced : Head → ℕ → Head
-silenced h c = record { number = h .number; size = h .size; missing = h .missing; cameRound = c; key = h .key }
-
 -- so no ending says anything of a counter by itself
 pub quiet-ending : (e : Ending) → telling false (endingHead e) ≡ endingHead e
 quiet-ending (Done n) = refl
-quiet-ending (Refused r) = ap {B = Head} (silenced (refusalHead r)) (sym (refuses r .no-round))
+quiet-ending (Refused r) =
+    let h = refusalHead r in
+    ap {B = Head} (λ (c : ℕ). record { number = h .number; size = h .size; missing = h .missing; cameRound = c; key = h .key })
+    (sym (refuses r .no-round))

@@ -24,16 +24,15 @@ module _ (ns : List ℕ) (i : ℕ) (inside : i < length ns) where
       let both = or-false (ltb limit (getD ns i 0)) (anyTooLong (drop (i + 1) ns)) (sym long-turn ∙ e) in
       (ltb-false limit (getD ns i 0) (both .0), both .1)
 
-  -- the part of the buffer is written as the borrow checker has it
-  module _ (test : List ℕ → Bool) (labels : List ℕ) (start : ℕ) (v : Verdict)
-      (e : firstOpening test (drop start labels) (drop i ns) i start ≡ v) where
-    pub search-turn : cond (test (take (start + getD ns i 0 - start) (drop start labels))) (foundAt i start (getD ns i 0))
-        (firstOpening test (drop (start + getD ns i 0) labels) (drop (i + 1) ns) (i + 1) (start + getD ns i 0))
-        ≡ v
-    unfolding firstOpening
-    search-turn =
-        let same : start + getD ns i 0 - start ≡ getD ns i 0 = omega arith in
-        rw (same, add-one i) (rw (drop-cons ns i 0 inside, drop-drop, add-one i) at e)
+  -- what the search comes to by the test t of this turn; the part of the buffer is written as the borrow checker has it
+  pub search-turn : (test : List ℕ → Bool) (labels : List ℕ) (start : ℕ) (v : Verdict) (t : Bool)
+      → firstOpening test (drop start labels) (drop i ns) i start ≡ v
+      → t ≡ test (take (start + getD ns i 0 - start) (drop start labels)) → cond t (foundAt i start (getD ns i 0))
+      (firstOpening test (drop (start + getD ns i 0) labels) (drop (i + 1) ns) (i + 1) (start + getD ns i 0)) ≡ v
+  unfolding firstOpening
+  search-turn test labels start v t e f =
+      let same : start + getD ns i 0 - start ≡ getD ns i 0 = omega arith in
+      rw (f, same, add-one i) (rw (drop-cons ns i 0 inside, drop-drop, add-one i) at e)
 
 module _ (ns : List ℕ) (i : ℕ) (past : length ns ≤ i) where
   pub sum-end : sum (drop i ns) ≡ 0

@@ -27,12 +27,11 @@ returns c =
     let bytes = below-each 256 d small in
     let read = unwords-front d (S .pre .1 .0) bytes in
     let ciphered = encrypt-unwords (a .rk) (a .s) four (below-each (2 ^ 32) (a .s) (λ i. fits i .fits)) in
-    let xored = rw ciphered at (front-xored d (encryptWords (a .rk) (a .s)) (S .pre .1 .0) bytes (encrypt-four (a .rk) (a .s))) in (
-      c .state-after .ensures
-          ∙ rw (at-xor .block-xor .ensures, at-split .split-block .ensures, at-encrypt .encrypt .ensures, read, ciphered, xored),
-      at-put-block .put-block .ensures
-          ∙ rw (at-xor .block-xor .ensures, at-split .split-block .ensures, at-encrypt .encrypt .ensures, xored),
-    )
+    let xored = rw ciphered at (front-xored d (encryptWords (a .rk) (a .s)) (S .pre .1 .0) bytes (encrypt-four (a .rk) (a .s))) in
+    let x = at-xor .block-xor .ensures in
+    let b = at-split .split-block .ensures in
+    let e = at-encrypt .encrypt .ensures in
+    (c .state-after .ensures ∙ rw (x, b, e, read, ciphered, xored), at-put-block .put-block .ensures ∙ rw (x, b, e, xored))
 
 pub step-spec : {M : Type 1} → statement M
 step-spec = tie.close (tie.spec (λ c κs. search needs) (λ c κs. search needs) (λ c κs. search needs) (λ c κs. search needs)
