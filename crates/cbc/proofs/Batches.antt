@@ -9,7 +9,8 @@ use Rattle.block.proofs.Cat.{cat-same, length-cat}
 use Rattle.block.proofs.Xors.{xors-comm}
 use Rattle.cipher.specs.Sm4.{encryptBlock, decryptBlock}
 use Rattle.cipher.proofs.Blocks.{decrypt-turned, length-encryptBlock}
-use Rattle.walk.specs.Walk.{stepped, over}
+use Rattle.block.specs.Over.{over}
+use Rattle.walk.specs.Walk.{stepped}
 use Rattle.walk.proofs.Batch.{FedBack, length-blockAt}
 use Rattle.sixteen.proofs.Before.{block-before}
 use Rattle.sixteen.proofs.Onward.{states-before}

@@ -12,7 +12,7 @@ use Rattle.cipher.proofs.Blocks.{length-decryptBlock}
 use Rattle.walk.specs.Walk.{chain, endState}
 use Rattle.walk.proofs.Chain.{chain-rest, chain-block, chain-length}
 use Rattle.walk.proofs.Cut.{chain-cut}
-use Rattle.walk.proofs.Loop.{tailed, tail-is}
+use Rattle.block.proofs.Tails.{tailed, tail-is}
 use Rattle.cbc.specs.Cbc.{cbcDecrypt}
 use Rattle.cbc.proofs.InWords.{decrypted-front}
 

@@ -2,9 +2,10 @@
 use Rattle.block.proofs.Base.{_%_, _≤_, ℕ, _∙_, _≡_, ap, refl, sym, List, _++_, arith, drop, length, length-append, length-drop, take}
 use Rattle.block.proofs.Base.{take-append-drop, drop-at, length-take-le, take-append-le, take-at}
 use Rattle.walk.specs.Reached.{Reached}
-use Rattle.walk.specs.Walk.{chain, endState, over}
+use Rattle.block.specs.Over.{over}
+use Rattle.walk.specs.Walk.{chain, endState}
 use Rattle.walk.proofs.Cut.{end-cut, chain-cut}
-use Rattle.walk.proofs.Loop.{over-append}
+use Rattle.block.proofs.Tails.{over-append}
 use Rattle.padding.specs.Padding.{padding, padded}
 use Rattle.padding.proofs.Filled.{length-padded}
 use Rattle.cbc.specs.Cbc.{cbcEncrypt}

@@ -3,8 +3,8 @@ use Rattle.block.proofs.Base.{_%_, _+_, _-_, _≤_, ℕ, _∙_, _≡_, sym, Lis
 use Rattle.block.proofs.Base.{take, take-append-drop, drop-at, drop-drop, length-take-le, take-add, take-at}
 use denote.Enum.Declared.{tagOf}
 use types.Run.{OneOf}
-use Rattle.walk.specs.Walk.{over}
-use Rattle.walk.proofs.Loop.{tailed, returned, tail-is, returned-is}
+use Rattle.block.specs.Over.{over}
+use Rattle.block.proofs.Tails.{tailed, returned, tail-is, returned-is}
 use Rattle.padding.specs.Padding.{unpadded, openedInto}
 use Rattle.padding.specs.declared.Opened.{Opened}
 use Rattle.padding.specs.declared.Opened.the-variants.{Done}

@@ -5,7 +5,8 @@ use Rattle.block.specs.Xor.{xors}
 use Rattle.block.proofs.Entries.{below-append, below-replicate}
 use Rattle.block.proofs.Xors.{length-xors, xors-cancel, xors-below}
 use Rattle.cipher.proofs.Blocks.{length-encryptBlock, encryptBlock-bytes, block-decrypt-encrypt}
-use Rattle.walk.specs.Walk.{chain, over}
+use Rattle.block.specs.Over.{over}
+use Rattle.walk.specs.Walk.{chain}
 use Rattle.walk.proofs.Chain.{Any, chain-length}
 use Rattle.walk.proofs.Undo.{Undoes, undo}
 use Rattle.padding.specs.Padding.{padding, padded, unpadded, openedInto}

@@ -4,8 +4,8 @@ use Rattle.block.specs.Words.{words, unwords}
 use Rattle.block.proofs.Entries.{below-each}
 use Rattle.block.proofs.WordsBack.{length-unwords, unwords-words}
 use Rattle.cipher.specs.Sm4.{encryptWords, decryptWords, encryptBlock, decryptBlock}
-use Rattle.walk.specs.Outcome.{Head, Outcome, finished, telling, leaving, reporting, done}
-use Rattle.walk.specs.Walk.{over}
+use Rattle.cipher_mode.specs.Outcome.{Head, Outcome, finished, telling, leaving, reporting, done}
+use Rattle.block.specs.Over.{over}
 use Rattle.cipher_mode.specs.declared.checks.Checked.{Checked}
 use Rattle.cipher_mode.specs.declared.checks.Checked.the-variants.{Passed}
 use Rattle.cipher_mode.specs.declared.Direction.{Direction}

@@ -1,7 +1,7 @@
 -- Opening: what the call leaves, by what is decided of a padding or of a tag.
 use Rattle.block.proofs.Base.{_-_, ℕ, _∙_, _≡_, ap, ap₂, refl, sym, Bool, cond, false, true, List, arith, length, take, take-all}
 use Rattle.block.specs.Below.{AreBytes}
-use Rattle.walk.specs.Walk.{over}
+use Rattle.block.specs.Over.{over}
 use Rattle.padding.specs.Padding.{unpadded, kept, openedInto}
 use Rattle.padding.specs.declared.Opened.{Opened}
 use Rattle.padding.specs.declared.Opened.the-variants.{Done, InvalidLastU8, InvalidPadding}
@@ -10,7 +10,7 @@ use Rattle.cbc.specs.Cbc.{cbcSeal, cbcText}
 use Rattle.cbc.proofs.RoundTrip.{cbc-back}
 use Rattle.gcm.specs.Gcm.{textPart, textOf, opensUnder, textInto}
 use Rattle.gcm.proofs.Settled.{into-refused, into-opened, text-size}
-use Rattle.walk.specs.Outcome.{Head, Outcome, finished, refusal, refused, telling, leaving, reporting, written, done}
+use Rattle.cipher_mode.specs.Outcome.{Head, Outcome, finished, refusal, refused, telling, leaving, reporting, written, done}
 use Rattle.cipher_mode.specs.Calls.{cbcHead, cbcOpen, gcmOpen}
 
 -- what is reported is what is written

@@ -1,6 +1,6 @@
 -- Every refusal has a number that is not 0, reports length 0, and says nothing of a counter.
 use Rattle.block.proofs.Base.{_<_, ℕ, _≡_, ap, refl, sym, _≢_, false, arith}
-use Rattle.walk.specs.Outcome.{Head, refusal, telling}
+use Rattle.cipher_mode.specs.Outcome.{Head, refusal, telling}
 use Rattle.cipher_mode.specs.Answer.{refusalHead, endingHead}
 use Rattle.cipher_mode.specs.declared.answer.Refusal.{Refusal}
 use Rattle.cipher_mode.specs.declared.answer.Refusal.the-variants.{ErrorBlockSize, ErrorDataLen, InvalidLastU8, InvalidTag}

@@ -15,7 +15,7 @@ use Rattle.padding.specs.declared.Opened.{Opened}
 use Rattle.padding.specs.declared.Opened.the-variants.{Done, InvalidLastU8, InvalidPadding}
 use Rattle.cbc.specs.Cbc.{cbcSeal, cbcText}
 use Rattle.gcm.specs.Gcm.{hashKey, J0, sealed, textPart, textOf, opensUnder}
-use Rattle.walk.specs.Outcome.{Head, Outcome, finished, refusal, keyed, reporting, written, done}
+use Rattle.cipher_mode.specs.Outcome.{Head, Outcome, finished, refusal, keyed, reporting, written, done}
 use Rattle.cipher_mode.specs.declared.CipherMode.{CipherMode}
 use Rattle.cipher_mode.specs.declared.CipherMode.the-variants.{Cfb, Ofb, Ctr, Cbc, Gcm}
 use Rattle.cipher_mode.specs.declared.Direction.{Direction}

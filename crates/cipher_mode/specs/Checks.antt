@@ -4,7 +4,7 @@ use Prim.Native.Nat.{ℕ, _-_, _%_}
 use mathlib.Core.Bool.{Bool, not, _&&_, cond}
 use mathlib.Core.List.{List}
 use lib.Dec.{eqb, ltb}
-use Rattle.walk.specs.Outcome.{Outcome, leaving}
+use Rattle.cipher_mode.specs.Outcome.{Outcome, leaving}
 use Rattle.cipher_mode.specs.declared.KeyAnswer.{KeyAnswer}
 use Rattle.cipher_mode.specs.declared.KeyAnswer.the-variants.{Key, ErrorBlockSize as NoKey, WrongNumber as NoNumber}
 use Rattle.cipher_mode.specs.declared.CipherMode.{CipherMode}

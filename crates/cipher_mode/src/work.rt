@@ -8,7 +8,7 @@ ghost use Rattle.cipher.specs.Engine.{Engine};
 ghost use Rattle.counter.specs.CameRound.{blocksOf, ctrCameRound};
 ghost use Rattle.walk.specs.Walk.{chain};
 ghost use Rattle.stream.specs.Stream.{streamMode};
-ghost use Rattle.walk.specs.Outcome.{finished, refusal, telling, reporting, done};
+ghost use Rattle.cipher_mode.specs.Outcome.{finished, refusal, telling, reporting, done};
 ghost use Rattle.cipher_mode.specs.Tables.{roomOf};
 ghost use Rattle.cipher_mode.specs.Answer.{endingHead, ended, workedHead, worked};
 ghost use Rattle.cipher_mode.specs.Checks.{wrongIv, labelCheck, dataCheck};

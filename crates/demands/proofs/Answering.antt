@@ -6,6 +6,7 @@ use N.{length, length-append, length-drop, drop-at, eqb-false, Head, Outcome, fi
 use N.{Refusal, EmptyCbc, Ended, ErrorBlockSize, ErrorDataLen, Refusal·LastU8, Refusal·Padding, Refusal·Tag, NoRoom, Retired, ShortGcm}
 use N.{TooLong, WrongBlock, WrongIv, WrongNumber, Checked, Passed, Refused, Stepped, begun, goesOn, under, Verdict, checkedVerdict}
 use N.{noneWith, onKey}
+use Rattle.block.proofs.Same.{by-test}
 use Rattle.cipher_mode.proofs.Refusals.{refuses}
 use Rattle.demands.specs.Answered.{oneOf, Answered}
 use Rattle.demands.specs.WhichNumber.{Said, Row, firstOf}
@@ -39,17 +40,12 @@ module _ (A : Type 0) (done : ℕ → A) (refused : Refusal → A) (other : A) w
   told-back Retired = (refl, λ _. refl)
   told-back Refusal·Padding = (refl, λ _. refl)
 
--- by a test
-pub split : (P : Type 0) (t : Bool) → (t ≡ true → P) → (t ≡ false → P) → P
-split P true a b = a refl
-split P false a b = b refl
-
 -- a yes or no that is told as one of two numbers
 pub is-true : (m n : ℕ) → eqb n m ≡ false → (t : Bool) → cond t m n ≡ m → t ≡ true
-is-true m n d t e = split _ t (λ f. f) (λ f. absurd (eqb-false n m d (rw f at e)))
+is-true m n d t e = by-test t (λ f. f) (λ f. absurd (eqb-false n m d (rw f at e)))
 
 pub is-false : (m n : ℕ) → eqb m n ≡ false → (t : Bool) → cond t m n ≡ n → t ≡ false
-is-false m n d t e = split _ t (λ f. absurd (eqb-false m n d (rw f at e))) (λ f. f)
+is-false m n d t e = by-test t (λ f. absurd (eqb-false m n d (rw f at e))) (λ f. f)
 
 pub one-or-none : (t : Bool) → (_≡_ {A = ℕ} (cond t 1 0) 1) ⊎ (_≡_ {A = ℕ} (cond t 1 0) 0)
 one-or-none t = elim t [ true ↦ inl refl | false ↦ inr refl ]
@@ -94,8 +90,8 @@ within (r ∷ rows) numbers = oneOf (r .says .number) numbers && within rows num
 first-within : (rows : List Row) (numbers : List ℕ) → within rows numbers ≡ true → oneOf (firstOf rows .number) numbers ≡ true
 first-within [] numbers e = e
 first-within (r ∷ rows) numbers e =
-    split _ (oneOf (r .says .number) numbers)
-    (λ here. let there = first-within rows numbers (rw here at e) in split _ (r .holds) (λ h. rw h here) (λ h. rw h there))
+    by-test (oneOf (r .says .number) numbers)
+    (λ here. let there = first-within rows numbers (rw here at e) in by-test (r .holds) (λ h. rw h here) (λ h. rw h there))
     (λ none. let y : false ≡ true = rw none at e in let z : _≡_ {A = ℕ} 0 1 = cc in absurd (omega arith))
 
 pub numbered : (rows : List Row) (numbers : List ℕ) (s : Said) → within rows numbers ≡ true → s ≡ firstOf rows

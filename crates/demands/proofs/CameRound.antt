@@ -13,23 +13,24 @@ use Rattle.block.proofs.Convert.{length-bytesOf, bytesOf-bytes}
 use Rattle.demands.specs.CameRound.{followedBy, CountsFromTwo, roundOf, Says}
 use Rattle.demands.proofs.Through.{result-of-done, host-through, host-leaves}
 use Rattle.block.proofs.Entries.{below-append}
+use Rattle.block.proofs.Same.{by-test}
 use Rattle.stream.proofs.CounterSteps.{ctr-walk-says, gcm-walk-says}
 use Rattle.cipher_mode.proofs.Passed.{data-within, message-passed}
 use Rattle.demands.proofs.ModesBack.{encrypts, opening}
 use Rattle.cipher_mode.proofs.Refusals.{refuses}
 use Rattle.editions.proofs.FirstOpening.{search-number}
-use Rattle.demands.proofs.Answering.{split, headBehind, heads}
+use Rattle.demands.proofs.Answering.{headBehind, heads}
 
 -- either form of J0 has sixteen bytes
 pub length-counter : (h : ℕ) (iv : List ℕ) → length (firstCounter h iv) ≡ 16
 unfolding firstCounter
 length-counter h iv =
-    split _ (eqb (length iv) 12) (λ e. rw (e, length-append, eqb-true (length iv) 12 e)) (λ e. rw e (length-bytesOf 16 _))
+    by-test (eqb (length iv) 12) (λ e. rw (e, length-append, eqb-true (length iv) 12 e)) (λ e. rw e (length-bytesOf 16 _))
 
 j0-bytes : (rk iv : List ℕ) → AreBytes iv → AreBytes (J0 rk iv)
 unfolding firstCounter
 j0-bytes rk iv a =
-    split _ (eqb (length iv) 12) (λ e. rw e (below-append 256 iv (0 ∷ 0 ∷ 0 ∷ 1 ∷ []) a (omega arith))) (λ e. rw e (bytesOf-bytes 16 _))
+    by-test (eqb (length iv) 12) (λ e. rw e (below-append 256 iv (0 ∷ 0 ∷ 0 ∷ 1 ∷ []) a (omega arith))) (λ e. rw e (bytesOf-bytes 16 _))
 
 first-counter : (rk iv : List ℕ) → length iv ≡ 12 → J0 rk iv ≡ followedBy 1 iv
 unfolding firstCounter
@@ -179,7 +180,7 @@ pub twelve-never : (dir : Direction) (k : LuossavinKey) (label d iv o : List ℕ
 unfolding modeOf
 twelve-never dir k label d iv o n =
     let says = message-says dir 4 k label d iv o in
-    split _ (eqb (hostModeCall dir 4 k label d iv o .head .number) 0)
+    by-test (eqb (hostModeCall dir 4 k label d iv o .head .number) 0)
     (λ e.
     let z = eqb-true _ 0 e in
     let fits = data-within dir Gcm (length d) (host-through dir 4 k label d iv o z .1 .content) in

@@ -2,11 +2,12 @@
 -- under one edition is refused as 4 under every other. And which of many labels it opens under.
 use Rattle.demands.specs.Names as N
 use N.{Bool, cond, false, true, List, [], _∷_, _≢_, _⊎_, _∙_, _≡_, ap, refl, sym, _-_, _<_, _^_, _≤_, suc, zero, ℕ, arith, ltb, drop, getD}
-use N.{length, length-take, take, le-ltb, ltb-false, Head, Outcome, finished, keyed, refusal, under, gcmOpen, settled, modeCall, andThen}
+use N.{length, length-take, take, le-ltb, ltb-false, Head, Outcome, finished, keyed, refusal, under, gcmOpen, modeCall, andThen}
 use N.{checked, keyCheck, refuse, wrongIv, dataCheck, keyAndIv, messageCheck, roomCheck, keyNumber, limit, sealedLimit, modeOf, Gcm}
 use N.{Decrypt, KeyAnswer, NoKey, Key, NoNumber, Sm4Cipher, ShortGcm, TooLong, WrongIv, Checked, Passed, Refused, gcmStarting, anyTooLong}
 use N.{badList, labelAt, Verdict, checkedVerdict, opensWith, searchCheck, which, labelOf, checkedHead, hostEditionOpens, opensHead}
 use N.{hostModeCall, cipherIn, hostKeyEngine, hostWhich, LuossavinKey}
+use Rattle.block.proofs.Same.{by-test}
 use Rattle.cipher_mode.proofs.Refusals.{refuses}
 use Rattle.label.proofs.LabelTells.{length-label}
 use Rattle.demands.specs.Call.{RefusedAs}
@@ -17,7 +18,7 @@ use Rattle.editions.proofs.Turns.{or-false}
 use Rattle.editions.proofs.Passed.{search-passed}
 use Rattle.editions.proofs.FirstOpening.{search-number}
 use Rattle.editions.proofs.WhichOpens.{Asked, first-opens, none-opens, found-opens, none-found, zero-unless-found, done-asked}
-use Rattle.demands.proofs.Answering.{is-true, is-false, one-or-none, split}
+use Rattle.demands.proofs.Answering.{is-true, is-false, one-or-none}
 use Rattle.demands.proofs.InPieces.{single-done, gcm-begins}
 
 -- by the checks a refusal is told alike, and what comes next if that is
@@ -33,7 +34,7 @@ then-passed (Refused r) = refl
 
 -- The question answers what the single call answers in Gcm, given room: 0 exactly where that is 0, and otherwise its refusal.
 pub edition-opens : (k : LuossavinKey) → AnswersAsOpening (hostEditionOpens k) (hostModeCall Decrypt 4 k)
-unfolding hostEditionOpens opensHead hostModeCall modeOf modeCall messageCheck roomCheck gcmOpen settled
+unfolding hostEditionOpens opensHead hostModeCall modeOf modeCall messageCheck roomCheck gcmOpen
 edition-opens k job edition file iv o room =
     let c = cipherIn k in
     let label = labelOf job edition in
@@ -41,7 +42,7 @@ edition-opens k job edition file iv o room =
     let second = dataCheck Decrypt Gcm (length file) in
     rw (le-ltb limit (length label) (omega arith), le-ltb (length o) (length file - 16) room, then-passed second)
     (by-checks (andThen (keyAndIv (c .answer) (c .retired) Decrypt Gcm (length iv)) second) (keyNumber c) o _ _
-    (split _ (opensWith c iv file label)
+    (by-test (opensWith c iv file label)
     (λ e. rw e (record { number = refl; missing = refl; key = refl; size = refl; cameRound = refl }))
     (λ e. rw e (record { number = refl; missing = refl; key = refl; size = refl; cameRound = refl }))))
 
@@ -101,7 +102,7 @@ module _ (k : LuossavinKey) (file iv labels lengths o : List ℕ) (room : length
   -- 0 where the test holds, and 4 where it does not
   answers : Asked c file iv labels lengths → (i : ℕ)
       → hostModeCall Decrypt 4 k (labelAt labels lengths i) file iv o .head .number ≡ cond (test i) 0 4
-  unfolding hostModeCall modeOf gcmOpen settled labelAt gcmStarting keyAndIv
+  unfolding hostModeCall modeOf gcmOpen labelAt gcmStarting keyAndIv
   answers a i =
       let label = labelAt labels lengths i in
       let p = search-passed (c .answer) (c .retired) (length iv) (length file) lengths (a .checks) in
@@ -109,7 +110,7 @@ module _ (k : LuossavinKey) (file iv labels lengths o : List ℕ) (room : length
       let small : length label ≤ limit = simp length-take (omega arith) in
       ap (λ (x : Outcome). x .head .number)
       (single-done (gcm-begins Decrypt c label iv) (rw (p .key, p .iv-size, le-ltb limit (length label) small)) file o (p .content) room)
-      ∙ split _ (test i) (λ e. rw e) (λ e. rw e)
+      ∙ by-test (test i) (λ e. rw e) (λ e. rw e)
 
   -- What the exported question tells is what the exported single call of mode 4, given room, answers to each candidate: found at i exactly
   -- when it is 0 to candidate i and 4 to each before it, none exactly when it is 4 to all.
@@ -174,9 +175,9 @@ which-answers k file iv labels lengths =
     record {
       key = λ e. rw e;
       bad = λ e. rw e;
-      size = split _ bad (λ e. rw e) (λ e. rw e size);
+      size = by-test bad (λ e. rw e) (λ e. rw e size);
       either = one-or-none (which c file iv labels lengths .found);
-      refused = λ n. split _ bad (λ e. rw e) (λ e. rw (e, place (rw e at n)));
+      refused = λ n. by-test bad (λ e. rw e) (λ e. rw (e, place (rw e at n)));
       inside = λ e. found-opens c file iv labels lengths (is-true 1 0 refl _ e) .inside;
       empty = λ e. rw (zero-unless-found c file iv labels lengths (is-false 1 0 refl _ e)) (refl, refl, refl);
     }

@@ -7,6 +7,7 @@ use N.{dataCheck, keyAndIv, keyCheck, messageCheck, wrongIv, keyNumber, newCiphe
 use N.{Cbc, Cfb, Ctr, Gcm, Ofb, Direction, Decrypt, Encrypt, Refusal, ErrorBlockSize, WrongNumber, Passed, Refused, ctrStart, opensStart}
 use N.{sealStart, gcmStarting, searchCheck, which, planCall, rangeCall, rangeCheck, reachCheck, callInto, hostBlockCall, hostModeCall}
 use N.{hostCtrStart, hostOpensStart, hostSealStart, cipherIn, hostKeyNew, keyAnswerOf, hostCtrByPlan, hostCtrRange, hostWhich, LuossavinKey}
+use Rattle.block.proofs.Same.{by-test}
 use Rattle.demands.proofs.ModesBack.{encrypted, encrypts, length-encrypted, opening}
 use Rattle.cipher_mode.proofs.Passed.{message-passed, block-passed}
 use Rattle.cipher_mode.proofs.Ends.{length-block}
@@ -16,7 +17,7 @@ use mathlib.Core.Bool.{or-true}
 use Rattle.cipher_mode.specs.Key.{noCipher}
 use Rattle.demands.specs.WhichNumber.{blockRows, encryptRows, decryptRows}
 use Rattle.demands.proofs.WhichNumber.{exported-block-number, exported-encryption-number, exported-decryption-number}
-use Rattle.demands.proofs.Answering.{numbered, Fair, answered, refused-fair, done-fair, checks-fair, front-fair, split}
+use Rattle.demands.proofs.Answering.{numbered, Fair, answered, refused-fair, done-fair, checks-fair, front-fair}
 use Rattle.demands.specs.NoUsableKey.{NoUsableKey}
 
 -- where one of the two ends of the range is passed, the number is wrong
@@ -32,7 +33,7 @@ new-cipher-answers key n =
       done = λ e l h. rw (eq-eqb (length key) 16 e, ne-eqb n 0 (λ z. omega arith), le-ltb 65535 n h) (refl, refl, refl);
       refused = λ e. rw (ne-eqb (length key) 16 e);
       out-of-range = λ e o. rw (eq-eqb (length key) 16 e, out-of-range n o);
-      fresh = split _ (not (eqb (length key) 16)) (λ e. rw e) (λ e. split _ (wrongNumber n) (λ f. rw (e, f)) (λ f. rw (e, f)));
+      fresh = by-test (not (eqb (length key) 16)) (λ e. rw e) (λ e. by-test (wrongNumber n) (λ f. rw (e, f)) (λ f. rw (e, f)));
     }
 
 -- Setting up a key with a mode answers the same, and so does a host's.
@@ -86,7 +87,7 @@ message-answers dir mode k label d iv o =
       | Encrypt ↦ numbered (encryptRows mode k label d iv o) singleNumbers _ refl (exported-encryption-number mode k label d iv o)
       | Decrypt ↦ numbered (decryptRows mode k label d iv o) singleNumbers _ refl (exported-decryption-number mode k label d iv o)
     ])
-    (split _ (ltb 4 mode) (λ e. rw e) (λ e. rw e))
+    (by-test (ltb 4 mode) (λ e. rw e) (λ e. rw e))
     (front-fair o n (ltb 4 mode) 7 _ (omega arith) (λ _.
     checks-fair o n (messageCheck (c .answer) (c .retired) dir m (lengthsOf label d iv o)) (modeResult m dir (c .rk) label d iv o) (λ e.
     let p = message-passed _ _ _ _ _ e in
@@ -119,7 +120,7 @@ pub no-usable-key : (k : LuossavinKey) → k .answer ≢ 0 → NoUsableKey (cond
 unfolding cipherIn keyAnswerOf
 no-usable-key k n =
     let some = ne-eqb (k .answer) 0 n in
-    split _ (eqb (k .answer) 13) (λ e. rw e (turned-away k 13 WrongNumber (rw (some, e)) refl (rw (some, e))))
+    by-test (eqb (k .answer) 13) (λ e. rw e (turned-away k 13 WrongNumber (rw (some, e)) refl (rw (some, e))))
     (λ e. rw e (turned-away k 1 ErrorBlockSize (rw (some, e)) refl (rw (some, e))))
 
 -- A key that is not 16 bytes gives a record on which every call answers 1.

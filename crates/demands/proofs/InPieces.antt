@@ -4,11 +4,12 @@ use Rattle.demands.specs.Names as N
 use N.{Bool, true, List, [], _++_, _∷_, append-assoc, append-nil, _∙_, _≡_, ap, ap₂, refl, sym, _+_, _-_, _≤_, ℕ, arith, ltb, drop}
 use N.{drop-of-length-le, length, length-append, length-drop, drop-append-le, take-at, le-ltb, ltb-false, blocksOf, ctrCameRound, Outcome}
 use N.{done, finished, keyed, reporting, telling, under, over, chain, streamMode, Ctr·kind, J0, hashKey, opensUnder, sealed, textOf}
-use N.{gcmOpen, settled, gcmRound, lengthsOf, modeResult, modeCall, andThen, refuse, dataCheck, keyAndIv, messageCheck, roomCheck}
+use N.{gcmOpen, gcmRound, lengthsOf, modeResult, modeCall, andThen, refuse, dataCheck, keyAndIv, messageCheck, roomCheck}
 use N.{keyNumber, limit, roomOf, modeOf, Ctr as Ctr·mode, Gcm, Direction, Decrypt, Encrypt, Sm4Cipher, Sm4CipherMode, TooLong, Checked}
 use N.{Passed, Refused, Stepped, begun, goesOn, stepOn, ctrEnd, ctrPiece, ctrStart, opensEnd, opensPiece, opensStart, sealEnd, sealPiece}
 use N.{sealStart, gcmStarting, ctrAfter, opensAfter, sealAfter, Ctr·state as Ctr, Opens, Seal, hostModeCall, directionOf, hostCtrStart}
 use N.{hostOpensStart, hostSealStart, cipherIn, LuossavinKey}
+use Rattle.block.proofs.Same.{by-test}
 use Rattle.stream.proofs.RoundTrip.{length-stream}
 use Rattle.gcm.proofs.Parts.{length-text, length-tag, length-text}
 use Rattle.cipher_mode.proofs.Passed.{label-passed, data-within, let-through}
@@ -23,7 +24,6 @@ use Rattle.demands.proofs.Through.{result-of-done, passed-start, throug
 use Rattle.cipher_mode.proofs.Refusals.{refuses}
 use Rattle.pieces.proofs.Passing.{starting-passed, running-passed, writing-passed, tagged-passed, writing-passed}
 use Rattle.demands.specs.Answered.{oneOf}
-use Rattle.demands.proofs.Answering.{split}
 use Rattle.demands.proofs.ModesBack.{tagged-passes}
 
 -- Pieces of a kind P on states of a kind S, under the key of number i. One behind the text d that is within the limit and fits is done with
@@ -239,7 +239,7 @@ opens-starts c label iv e = passed-start Opens _ _ _ e
 
 -- Under any record: Gcm opening in pieces answers as the single call does.
 pub opens-in-pieces : (k : LuossavinKey) → OpensInPieces Opens (hostOpensStart k) opensPiece opensEnd (hostModeCall Decrypt 4 k)
-unfolding gcmOpen settled hostOpensStart hostModeCall modeOf
+unfolding gcmOpen hostOpensStart hostModeCall modeOf
 opens-in-pieces key cs label iv tag o fits room n e =
     let c = cipherIn key in
     let rk = c .rk in
@@ -255,7 +255,7 @@ opens-in-pieces key cs label iv tag o fits room n e =
     -- the same test decides the single call
     let test = opensUnder rk (hashKey rk) (J0 rk iv) label (text ++ tag) in
     rw (opens-started c label iv passed) (rw (end, left, size)
-    (all, split _ test (λ f. rw f) (λ f. rw f), split _ test (λ f. rw f) (λ f. rw f)))
+    (all, by-test test (λ f. rw f) (λ f. rw f), by-test test (λ f. rw f) (λ f. rw f)))
 
 -- Where start, pieces and end all answer 0, the exported single call, given room, does too, with the same bytes.
 pub ctr-of-pieces : (decrypt : Bool) (k : LuossavinKey)
@@ -315,9 +315,9 @@ seal-checked k label iv = checked-alike Seal _ _ _ [] 16 (0 ∷ []) (gcm-begins 
 
 pub opens-checked : (k : LuossavinKey) (label iv tag : List ℕ) → length tag ≡ 16
     → CheckedAlike Opens tag 0 (0 ∷ 4 ∷ []) (hostOpensStart k label iv) (λ d o. hostModeCall Decrypt 4 k label d iv o)
-unfolding hostOpensStart opensStart hostModeCall modeOf gcmOpen settled
+unfolding hostOpensStart opensStart hostModeCall modeOf gcmOpen
 opens-checked k label iv tag n =
     let rk = cipherIn k .rk in
     checked-alike Opens _ _ _ tag 0 (0 ∷ 4 ∷ []) (gcm-begins Decrypt (cipherIn k) label iv)
     (tagged-passes (length tag) (omega arith) (omega arith)) (omega arith)
-    (λ o. split _ (opensUnder rk (hashKey rk) (J0 rk iv) label tag) (λ f. rw f) (λ f. rw f))
+    (λ o. by-test (opensUnder rk (hashKey rk) (J0 rk iv) label tag) (λ f. rw f) (λ f. rw f))

@@ -7,6 +7,7 @@ use N.{stored·journal as stored, written·journal as written, added, behindRepo
 use N.{callInto, recomputed, resultOf as result, done·journal as done, numberOfEnd, replay, nothing, write, Journal·end as Ended, BadKeys}
 use N.{BadRecord, Done·journal as Done, TooLong·journal as TooLong, UnknownKey, Replayed, Keys, Done·wrote, NoRoom·wrote as NoRoom}
 use N.{hostModeCall, hostReplay, keysOf, toldOf·journal as toldOf, LuossavinKeys}
+use Rattle.block.proofs.Same.{by-test}
 use Rattle.journal.proofs.Sums.{replay-adds-up, first-replayed}
 use Rattle.journal.proofs.Lent.{any-output-head, any-output-result}
 use Rattle.journal.proofs.Joined.{joined}
@@ -15,7 +16,7 @@ use Rattle.journal.proofs.Replaying.{by-replay, from-start}
 use Rattle.journal.proofs.Totals.{totals-told}
 use Rattle.journal.proofs.Agrees.{answered-agrees, agrees-so, none-told, all-agree, first-told}
 use Rattle.demands.specs.Answered.{oneOf}
-use Rattle.demands.proofs.Answering.{is-true, is-false, one-or-none, split}
+use Rattle.demands.proofs.Answering.{is-true, is-false, one-or-none}
 use Rattle.demands.specs.InTheJournal.{ReplayAnswered, ReplayEnds, Added, Recorded, AllRecorded, AllAnswered}
 
 -- Which number exactly when: the replay ends as keys and journal say, and in no other way.
@@ -28,7 +29,7 @@ end-of e = elim e [ Done ↦ refl | BadRecord ↦ refl | TooLong ↦ refl | Unkn
 module _ (k : LuossavinKeys) (journal : List ℕ) (small : AreBytes journal) where
   pub exported-replay-ends : ReplayEnds k journal (replay (keysOf k) journal)
   exported-replay-ends =
-      split _ (badKeys (keysOf k)) (λ e. inl (e, bad-keys (keysOf k) journal e)) (λ e. inr (e, ends-so (keysOf k) journal e small))
+      by-test (badKeys (keysOf k)) (λ e. inl (e, bad-keys (keysOf k) journal e)) (λ e. inr (e, ends-so (keysOf k) journal e small))
 
   pub exported-replay-alone : (x : Replayed) → ReplayEnds k journal x → hostReplay k journal ≡ toldOf x
   unfolding hostReplay
@@ -124,7 +125,7 @@ module _ (keys : LuossavinKeys) (good : badKeys (keysOf keys) ≡ false) (e : En
   unfolding write stored
   is-journal =
       let short = r .replayable .short in
-      split _ (ltb (length o) (length (written e)))
+      by-test (ltb (length o) (length (written e)))
       (λ f. let z : NoRoom ≡ Done·wrote n = rw (short, f) at wrote in let y : _≡_ {A = ℕ} 0 1 = cc in absurd (omega arith))
       (λ f.
       let z : Done·wrote (length (written e)) ≡ Done·wrote n = rw (short, f) at wrote in
@@ -140,8 +141,8 @@ module _ (keys : LuossavinKeys) (good : badKeys (keysOf keys) ≡ false) (e : En
 behind-added : (size : ℕ) (x y : Replayed) → Added size (toldOf x) (toldOf y) (toldOf (behindReport size (x .report) y))
 unfolding toldOf behindReport added
 behind-added size x y =
-    split _ (x .report .first .found) (λ f. rw f (search arith))
-    (λ f. rw f (split _ (y .report .first .found) (λ g. rw g (search arith)) (λ g. rw g (search arith))))
+    by-test (x .report .first .found) (λ f. rw f (search arith))
+    (λ f. rw f (by-test (y .report .first .found) (λ g. rw g (search arith)) (λ g. rw g (search arith))))
 
 pub exported-joined : (k : LuossavinKeys) (a b : List ℕ) → hostReplay k a .number ≡ 0
     → Added (length a) (hostReplay k a) (hostReplay k b) (hostReplay k (a ++ b))
@@ -156,7 +157,7 @@ known-end e = elim e [ Done ↦ refl | BadRecord ↦ refl | TooLong ↦ refl | U
 the-ending : (k : Keys) (journal : List ℕ) → (numberOfEnd (replay k journal .ended) ≡ 0 → replay k journal .place ≡ 0)
     × (numberOfEnd (replay k journal .ended) ≡ 26 → replay k journal ≡ record { ended = BadKeys; place = 0; report = nothing })
 the-ending k journal =
-    split _ (badKeys k) (λ e. rw (bad-keys k journal e) (λ _. refl, λ _. refl))
+    by-test (badKeys k) (λ e. rw (bad-keys k journal e) (λ _. refl, λ _. refl))
     (λ e.
     let (place, known) =
     by-replay (keysIn k) (λ b place r x. (numberOfEnd (x .ended) ≡ 0 → x .place ≡ 0) × (numberOfEnd (x .ended) < 26))

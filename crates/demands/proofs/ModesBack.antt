@@ -4,17 +4,19 @@ use N.{Kind, not, inl, inr, _⊎_, ⊎-elim, _-_, _<_, allPadding, lastByte, nam
 use N.{_%_, _≤_, ℕ, arith, length, take, length-take-le, eq-eqb, le-ltb, ne-eqb, AreBytes, done, reporting, chain, streamMode, CfbDecrypt}
 use N.{CfbEncrypt, Ctr·kind, Ofb·kind, cbcSeal, cbcOpen, cbcText, unpadded, J0, hashKey, opensUnder, sealed, textOf, textPart, gcmOpen}
 use N.{modeResult, dataCheck, wrongIv, limit, roomOf, sealedLimit, CipherMode, Cbc, Cfb, Ctr, Gcm, Ofb, Decrypt, Encrypt, Passed}
+use Rattle.block.proofs.Same.{by-test}
 use Rattle.stream.proofs.RoundTrip.{length-stream, stream-back, stream-forth}
-use Rattle.cbc.proofs.RoundTrip.{length-cbcSeal, cbc-back}
+use Rattle.cbc.proofs.RoundTrip.{length-cbcSeal}
+use Rattle.cipher_mode.proofs.Opens.{cbc-opens-back}
 use Rattle.cbc.proofs.SealsBack.{cbc-seals-back}
 use Rattle.cbc.proofs.Blocks.{length-decrypt}
 use Rattle.demands.specs.Answered.{lengthOf}
 use Rattle.gcm.proofs.Parts.{length-sealed}
 use Rattle.gcm.proofs.RoundTrip.{opens-sealed, text-of-sealed, sealed-of-opened}
-use Rattle.gcm.proofs.Settled.{text-size, open-refused, open-done}
+use Rattle.gcm.proofs.Settled.{text-size}
+use Rattle.cipher_mode.proofs.Opens.{open-refused, open-done}
 use Rattle.cipher_mode.proofs.Passed.{sixteen, data-within, whole-blocks-passed, with-tag-passed}
 use Rattle.demands.specs.CameRound.{roundOf}
-use Rattle.demands.proofs.Answering.{split}
 
 -- the message that d is encrypted to
 abbrev pub encrypted : CipherMode → List ℕ → List ℕ → List ℕ → List ℕ → List ℕ
@@ -59,7 +61,7 @@ module _ (rk aad d iv : List ℕ) (iv-bytes : AreBytes iv) (d-bytes : AreBytes d
       let size = length-cbcSeal rk iv d in
       record {
         content = rw (le-ltb sealedLimit c (omega arith), ne-eqb c 0 (λ z. omega arith), eq-eqb (c % 16) 0 (omega arith));
-        opened = cbc-back rk iv d (sixteen (length iv) n) iv-bytes d-bytes;
+        opened = cbc-opens-back rk iv d (sixteen (length iv) n) iv-bytes d-bytes;
       }
   back Gcm n e =
       let h = hashKey rk in
@@ -69,13 +71,13 @@ module _ (rk aad d iv : List ℕ) (iv-bytes : AreBytes iv) (d-bytes : AreBytes d
       record {
         content = tagged-passes (length (sealed rk h j aad d)) (omega arith) (omega arith);
         opened = λ o.
-            rw (← open-done rk h j aad (sealed rk h j aad d) o (omega arith) (opens-sealed rk h j aad d), text-of-sealed rk h j aad d);
+            rw (← open-done rk h j aad (sealed rk h j aad d) o (opens-sealed rk h j aad d), text-of-sealed rk h j aad d);
       }
 
 -- a message of Gcm that was opened is one that opens
 pub opened-opens : (rk : List ℕ) (h : ℕ) (j aad c o : List ℕ) → gcmOpen rk h j aad c o .head .number ≡ 0 → opensUnder rk h j aad c ≡ true
 opened-opens rk h j aad c o z =
-    split _ (opensUnder rk h j aad c) (λ e. e) (λ e. absurd (omega (arith, rw (← open-refused rk h j aad c o e) at z)))
+    by-test (opensUnder rk h j aad c) (λ e. e) (λ e. absurd (omega (arith, rw (← open-refused rk h j aad c o e) at z)))
 
 -- the data c decrypted to a text of the table's length, which encrypts to c
 pub record Encrypts (m : CipherMode) (rk aad c iv o : List ℕ) : Type 0 where
@@ -103,8 +105,8 @@ module _ (rk aad c iv o : List ℕ) where
       let k = length p - lastByte p in
       let whole = whole-blocks-passed (length c) e .1 in
       let size = length-take-le k p (omega arith) in
-      split _ (not (namesPadding (lastByte p))) (λ f. inl (3, omega arith, rw f))
-      (λ f. split _ (not (allPadding p)) (λ g. inl (15, omega arith, rw (f, g)))
+      by-test (not (namesPadding (lastByte p))) (λ f. inl (3, omega arith, rw f))
+      (λ f. by-test (not (allPadding p)) (λ g. inl (15, omega arith, rw (f, g)))
       (λ g. inr (record {
         text = take k p;
         opened = rw (f, g, size);
@@ -115,11 +117,11 @@ module _ (rk aad c iv o : List ℕ) where
       let h = hashKey rk in
       let j = J0 rk iv in
       let long = with-tag-passed (length c) e in
-      split _ (opensUnder rk h j aad c)
+      by-test (opensUnder rk h j aad c)
       (λ t. inr (record {
         text = textOf rk j (textPart c);
-        opened = rw (← open-done rk h j aad c o long t);
-        size = text-size rk h j aad c o long;
+        opened = rw (← open-done rk h j aad c o t);
+        size = text-size rk j c;
         again = λ _. sealed-of-opened rk h j aad c t;
       }))
       (λ t. inl (4, omega arith, rw (← open-refused rk h j aad c o t)))

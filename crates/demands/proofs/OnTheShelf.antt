@@ -6,7 +6,7 @@ use N.{labelOf, Shelf·Outcome as Outcome, holding, lookedUp, newRecord, nowhere
 use N.{putCall, AllProper, Record, records, stored·shelf as stored, written·shelf as written, collected, currentOf, isCurrentOf, badShelf}
 use N.{fitted, hasCurrent, notHigher, those, twoCurrent, InOrder, hostModeCall, LuossavinKey}
 use Rattle.block.proofs.Entries.{below-take}
-use Rattle.block.proofs.Same.{and-right}
+use Rattle.block.proofs.Same.{by-test, and-right}
 use Rattle.shelf.proofs.Reading.{written-label, written-sealed}
 use Rattle.shelf.proofs.Walks.{or-left, or-right, none-current, alone, two-rest}
 use Rattle.shelf.proofs.Sound.{in-order}
@@ -20,7 +20,6 @@ use Rattle.demands.specs.WhichNumber.{only, firstOf}
 use Rattle.demands.specs.OnTheShelf.{ShelfAnswered, PlaceAnswered, putNumbers, collectNumbers, putRows, collectRows, findRows}
 use Rattle.demands.specs.OnTheShelf.{labelIn, fileIn, OneEditionOpens, NoRoughShown, OfEach}
 use Rattle.demands.proofs.OneBlockRefused.{other-edition-refused}
-use Rattle.demands.proofs.Answering.{split}
 use mathlib.Core.Bool.{false≢true}
 
 -- Which number: putting says what the first condition says that holds.
@@ -29,19 +28,19 @@ pub exported-put-number : (shelf : List ℕ) (used job edition : ℕ) (sealed : 
 unfolding putCall
 exported-put-number shelf used job edition sealed =
     let long = ltb (length shelf) (length (stored (collected (putIn shelf used job edition sealed)))) in
-    split _ (badShelf shelf used) (λ e. rw e) (λ e.
-    split _ (notHigher job edition (records (take used shelf))) (λ f. rw (e, f)) (λ f.
-    split _ long (λ g. rw (e, f, g)) (λ g. rw (e, f, g))))
+    by-test (badShelf shelf used) (λ e. rw e) (λ e.
+    by-test (notHigher job edition (records (take used shelf))) (λ f. rw (e, f)) (λ f.
+    by-test long (λ g. rw (e, f, g)) (λ g. rw (e, f, g))))
 
 pub exported-collect-number : (shelf : List ℕ) (used : ℕ) → only (collectCall shelf used .number) ≡ firstOf (collectRows shelf used)
 unfolding collectCall
-exported-collect-number shelf used = split _ (badShelf shelf used) (λ e. rw e) (λ e. rw e)
+exported-collect-number shelf used = by-test (badShelf shelf used) (λ e. rw e) (λ e. rw e)
 
 pub exported-find-number : (shelf : List ℕ) (used job : ℕ) → only (findCall shelf used job .number) ≡ firstOf (findRows shelf used job)
 unfolding findCall
 exported-find-number shelf used job =
     let has = hasCurrent job (records (take used shelf)) in
-    split _ (badShelf shelf used) (λ e. rw e) (λ e. split _ has (λ f. rw (e, f)) (λ f. rw (e, f)))
+    by-test (badShelf shelf used) (λ e. rw e) (λ e. by-test has (λ f. rw (e, f)) (λ f. rw (e, f)))
 
 -- Demand 1.
 module _ (numbers : List ℕ) (shelf : List ℕ) (used : ℕ) where
@@ -71,7 +70,7 @@ exported-put-answers shelf used job edition sealed =
     refuses putNumbers shelf used (notHigher job edition (records (take used shelf))) 20 _ (omega arith) refl (λ _.
     refuses putNumbers shelf used (ltb (length shelf) (length (stored (collected new)))) 21 _ (omega arith) refl (λ e.
     holds putNumbers shelf used (fitted (length shelf) new) refl
-    (split _ (leb (length (stored new)) (length shelf)) (λ f. rw f (leb-true _ _ f)) (λ f. rw f (ltb-false _ _ e))))))
+    (by-test (leb (length (stored new)) (length shelf)) (λ f. rw f (leb-true _ _ f)) (λ f. rw f (ltb-false _ _ e))))))
 
 pub exported-collect-answers : (shelf : List ℕ) (used : ℕ) → ShelfAnswered collectNumbers shelf used (collectCall shelf used)
 unfolding collectCall
@@ -84,8 +83,8 @@ exported-collect-answers shelf used =
 pub exported-find-answers : (shelf : List ℕ) (used job : ℕ) → PlaceAnswered shelf used (findCall shelf used job)
 unfolding findCall
 exported-find-answers shelf used job =
-    split _ (badShelf shelf used) (λ e. rw e (none 19 (omega arith) refl)) (λ e.
-    split _ (hasCurrent job (records (take used shelf)))
+    by-test (badShelf shelf used) (λ e. rw e (none 19 (omega arith) refl)) (λ e.
+    by-test (hasCurrent job (records (take used shelf)))
     (λ f.
     let order = in-order shelf used e in
     let inside = stored-part job (records (take used shelf)) (order .single) .0 in
@@ -117,7 +116,7 @@ the-current : (job : ℕ) (rs : List Record) → AllProper rs → hasCurrent job
 unfolding hasCurrent those
 the-current job [] p h f = absurd (false≢true h)
 the-current job (r ∷ rs) (p, ps) h f =
-    split _ (isCurrentOf job r)
+    by-test (isCurrentOf job r)
     (λ e. (r, rw (e, none-current job rs (alone job r rs f e)), eqb-true (r .job) job (and-right (r .current) _ e), p .edition))
     (λ e. let (m, one, its-job, fits) = the-current job rs ps (rw e at h) (two-rest r rs f) in (m, rw e one, its-job, fits))
 
@@ -127,8 +126,8 @@ found-current : (shelf : List ℕ) (used job : ℕ) → findCall shelf used job 
 unfolding findCall
 found-current shelf used job found small =
     let rs = records (take used shelf) in
-    split _ (badShelf shelf used) (λ e. absurd (eqb-false 19 0 refl (rw e at found))) (λ e.
-    split _ (hasCurrent job rs) (λ f.
+    by-test (badShelf shelf used) (λ e. absurd (eqb-false 19 0 refl (rw e at found))) (λ e.
+    by-test (hasCurrent job rs) (λ f.
     let order = in-order shelf used e in
     (order, the-current job rs (records-proper (take used shelf) (below-take 256 used shelf small)) f (order .single)))
     (λ f. absurd (eqb-false 22 0 refl (rw (e, f) at found))))

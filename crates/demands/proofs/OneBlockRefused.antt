@@ -2,14 +2,14 @@
 use Rattle.demands.specs.Names as N
 use N.{false, true, List, [], _++_, _∷_, _≢_, ⊎-elim, _∙_, _≡_, ap, refl, sym, _-_, _≤_, ℕ, arith, drop-of-length-le, length, length-append}
 use N.{length-drop, replicate, take-append-drop, length-take-le, le-ltb, AreBytes, encryptBlock, ghash, authBlocks, OneBlock, J0, tagPart}
-use N.{textPart, hashKey, opensUnder, gcmOpen, settled, lengthsOf, modeCall, wrongIv, limit, sealedLimit, modeOf, Gcm, Decrypt, Key}
+use N.{textPart, hashKey, opensUnder, gcmOpen, lengthsOf, modeCall, wrongIv, limit, sealedLimit, modeOf, Gcm, Decrypt, Key}
 use N.{Sm4Cipher, labelOf, hostModeCall, cipherIn, LuossavinKey}
 use Rattle.ghash.proofs.Changed.{label-changed, text-changed, label-zero, text-zero}
 use Rattle.gcm.proofs.HashKey.{hashKey-lt, hashKey-tells, hashKey-zero}
 use Rattle.demands.specs.Call.{inGcm, RefusedAs}
 use Rattle.demands.specs.OneBlockRefused.{MovesZero, OneBlockRefused, OtherEditionRefused, LabelZeroRefused, TextZeroRefused}
 use Rattle.gcm.proofs.TagTells.{opens-not, opens-alike}
-use Rattle.gcm.proofs.Settled.{open-refused}
+use Rattle.cipher_mode.proofs.Opens.{open-refused}
 use Rattle.cipher_mode.proofs.Passed.{InOrder, label-passed, data-within, with-tag-passed}
 use Rattle.demands.proofs.Through.{through, leaves}
 use Rattle.demands.proofs.ModesBack.{tagged-passes, opened-opens}
@@ -159,7 +159,7 @@ every-hash-zero rk bs e = ap (λ (h : ℕ). ghash h bs) (hashKey-zero rk e) ∙ 
 pub any-label-opens : (k : LuossavinKey) → encryptBlock (k .«round_keys») (replicate 16 0) ≡ replicate 16 0
     → (a₁ a₂ s iv o : List ℕ) → length a₂ ≤ limit
     → hostModeCall Decrypt 4 k a₁ s iv o .head .number ≡ 0 → hostModeCall Decrypt 4 k a₂ s iv o ≡ hostModeCall Decrypt 4 k a₁ s iv o
-unfolding gcmOpen settled hostModeCall modeOf cipherIn
+unfolding gcmOpen hostModeCall modeOf cipherIn
 any-label-opens k e a₁ a₂ s iv o l opens =
     let c = cipherIn k in
     let rk = k .«round_keys» in

@@ -6,10 +6,10 @@ use N.{Ctr as Ctr·mode, Gcm, Encrypt, Sm4Cipher, Passed, ctrStart, opensStart, 
 use N.{which, planCall, rangeCall, rangeCheck, reachCheck, anyRetired, badKeys, replay, hostBlockCall, hostModeCall, hostCtrStart}
 use N.{hostOpensStart, hostSealStart, hostReplay, keysOf, cipherIn, hostKeyEngine, hostKeyRetire, keyAnswerOf, hostCtrByPlan, hostCtrRange}
 use N.{hostWhich, LuossavinKey}
+use Rattle.block.proofs.Same.{by-test}
 use Rattle.cipher_mode.proofs.Passed.{both, key-and-iv-passed}
 use Rattle.demands.specs.Retired.{StaysRetired, DecryptsAlike, EncryptsNothing}
 use Rattle.demands.proofs.Through.{host-through, zero-passed, block-through, passed-start}
-use Rattle.demands.proofs.Answering.{split}
 use mathlib.Core.Bool.{or-true}
 
 -- a record with the mark, and with an answer
@@ -33,7 +33,7 @@ retired-no-key k n = rw (ne-eqb (k .answer) 0 n)
 pub retired-by : (P : LuossavinKey → Type 0) (k : LuossavinKey) → (k .answer ≡ 0 → P (retiredOf k)) → (k .answer ≢ 0 → P k)
     → P (hostKeyRetire k)
 retired-by P k of-key of-none =
-    split _ (eqb (k .answer) 0) (λ e. let z = eqb-true (k .answer) 0 e in subst P (sym (retired-key k z)) (of-key z))
+    by-test (eqb (k .answer) 0) (λ e. let z = eqb-true (k .answer) 0 e in subst P (sym (retired-key k z)) (of-key z))
     (λ e. let n = eqb-false (k .answer) 0 e in subst P (sym (retired-no-key k n)) (of-none n))
 
 -- twice is once;

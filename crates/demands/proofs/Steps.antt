@@ -9,6 +9,7 @@ use N.{ctrAfter, ctrShut, opensAfter, opensShut, sealAfter, sealShut, Ctr·state
 use N.{directionOf, hostCtrStart, hostOpensStart, hostSealStart, cipherIn, LuossavinKey}
 use Rattle.block.proofs.Convert.{length-bytesOf}
 use Rattle.block.proofs.Xors.{length-xors}
+use Rattle.block.proofs.Same.{by-test}
 use Rattle.cipher_mode.proofs.Refusals.{refuses as each-refuses}
 use Rattle.pieces.proofs.KeyStream.{text-length}
 use Rattle.pieces.proofs.Passing.{writing-passed}
@@ -19,7 +20,7 @@ use Rattle.demands.specs.WhichNumber.{opensPieceRows, opensEndRows, ctrS
 use Rattle.demands.proofs.WhichNumber.{behind, said·laws, said-standing, ctr-piece-number, ctr-end-number, seal-piece-number}
 use Rattle.demands.proofs.WhichNumber.{seal-end-number, opens-piece-number, opens-end-number, exported-ctr-start-number}
 use Rattle.demands.proofs.WhichNumber.{exported-seal-start-number, exported-opens-start-number}
-use Rattle.demands.proofs.Answering.{numbered, within, Fair, answered, refused-fair, refusal-fair, done-fair, split}
+use Rattle.demands.proofs.Answering.{numbered, within, Fair, answered, refused-fair, refusal-fair, done-fair}
 use mathlib.Core.Bool.{false≢true}
 
 -- a refusal, or what comes next, which may count on it that the check passed
@@ -87,8 +88,8 @@ opens-end-answers s tag =
     let test = same tag (xors (s .mask) (hashEnd (s .hashing) (s .total % 16) (s .label) (s .total))) in
     goes-answers (tagged (s .stands) (s .label) (s .total) (length tag)) _
     (numbered (opensEndRows s tag) pieceNumbers _ refl (opens-end-number s tag))
-    (λ _. split _ test (λ e. rw e nothing-fair) (λ e. rw e (refused-fair [] 0 4 (omega arith))))
-    (λ n m. split _ test (λ e. absurd (n (rw e))) (λ e. absurd (m (rw e)))) refl
+    (λ _. by-test test (λ e. rw e nothing-fair) (λ e. rw e (refused-fair [] 0 4 (omega arith))))
+    (λ n m. by-test test (λ e. absurd (n (rw e))) (λ e. absurd (m (rw e)))) refl
 
 -- what holds of every number of a list
 abbrev All : (ℕ → Type 0) → List ℕ → Type 0
@@ -97,7 +98,7 @@ All P (k ∷ ks) = P k × All P ks
 
 each : (P : ℕ → Type 0) (ks : List ℕ) → All P ks → (n : ℕ) → oneOf n ks ≡ true → P n
 each P [] a n e = absurd (false≢true e)
-each P (k ∷ ks) (p, ps) n e = split _ (eqb n k) (λ f. let z = eqb-true n k f in rw z p) (λ f. each P ks ps n (rw f at e))
+each P (k ∷ ks) (p, ps) n e = by-test (eqb n k) (λ f. let z = eqb-true n k f in rw z p) (λ f. each P ks ps n (rw f at e))
 
 -- the marks at which a shut state stands, of a refused start and of an end: each refuses by its own number
 abbrev shutMarks : List ℕ
@@ -150,7 +151,7 @@ module _ (k : LuossavinKey) (decrypt : Bool) (iv : List ℕ) where
       let c = cipherIn k in
       starts Ctr ctrKey NoCtr (keyNumber c) (ctrShut (keyNumber c)) _
       (keyAndIv (c .answer) (c .retired) (directionOf decrypt) Ctr·mode (length iv)) (ctrStartRows k decrypt iv) (λ _. refl) refl
-      (shut-ctr (keyNumber c)) (split _ decrypt (λ e. rw e) (λ e. rw e)) (exported-ctr-start-number k decrypt iv)
+      (shut-ctr (keyNumber c)) (by-test decrypt (λ e. rw e) (λ e. rw e)) (exported-ctr-start-number k decrypt iv)
 
   pub ctr-start-answers : Answered pieceNumbers (keyNumber (cipherIn k)) [] 0 (outcomeOf Ctr (hostCtrStart k decrypt iv))
       × (hostCtrStart k decrypt iv .state .key ≡ keyNumber (cipherIn k))

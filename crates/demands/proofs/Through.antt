@@ -4,10 +4,11 @@ use N.{false, List, _≡_, refl, ℕ, arith, eqb, ltb, length, take-append-seam,
 use N.{blockOf, lengthsOf, modeCall, modeResult, blockCheck, checked, keyAndIv, messageCheck, roomCheck, keyHead, keyNumber, newCipher}
 use N.{retire, modeOf, roomOf, Direction, KeyAnswer, NoKey as ErrorBlockSize, Key, NoNumber as WrongNumber, Sm4Cipher, Sm4CipherMode}
 use N.{Checked, Passed, Refused, begun, hostModeCall, modeIn, cipherIn, hostKeyNew, hostKeyRetire, keyAnswerOf, keyOf, LuossavinKey}
+use Rattle.block.proofs.Same.{by-test}
 use Rattle.cipher_mode.proofs.Passed.{InOrder, BlockInOrder, message-passed, block-passed}
 use Rattle.cipher_mode.proofs.Refusals.{refuses}
 use Rattle.demands.specs.Call.{result, RefusedAs}
-use Rattle.demands.proofs.Answering.{split, mark-back}
+use Rattle.demands.proofs.Answering.{mark-back}
 
 pub result-of-done : (p o : List ℕ) → result (done p o) ≡ p
 result-of-done p o = take-append-seam p _
@@ -55,7 +56,7 @@ module _ (dir : Direction) (mode : ℕ) (k : LuossavinKey) (aad d iv o : List �
   pub host-through : hostModeCall dir mode k aad d iv o .head .number ≡ 0 → Ready
   unfolding hostModeCall
   host-through e =
-      split _ (ltb 4 mode) (λ f. absurd (omega (arith, rw f at e))) (λ f. (f, through dir (modeIn k mode) aad d iv o (rw f at e)))
+      by-test (ltb 4 mode) (λ f. absurd (omega (arith, rw f at e))) (λ f. (f, through dir (modeIn k mode) aad d iv o (rw f at e)))
 
   pub host-leaves : Ready → hostModeCall dir mode k aad d iv o
       ≡ keyed (keyNumber (cipherIn k)) (modeResult (modeOf mode) dir (k .«round_keys») aad d iv o)
@@ -83,4 +84,4 @@ new-is-new key n = handed-back (newCipher key n)
 pub retired-is-retired : (k : LuossavinKey) → cipherIn (hostKeyRetire k) ≡ retire (cipherIn k)
 unfolding cipherIn keyAnswerOf hostKeyRetire retire
 retired-is-retired k =
-    split _ (eqb (k .answer) 0) (λ e. rw e) (λ e. split _ (eqb (k .answer) 13) (λ f. rw (e, f) (rw e)) (λ f. rw (e, f) (rw e)))
+    by-test (eqb (k .answer) 0) (λ e. rw e) (λ e. by-test (eqb (k .answer) 13) (λ f. rw (e, f) (rw e)) (λ f. rw (e, f) (rw e)))

@@ -1,18 +1,19 @@
 -- Which number an exported call answers: that of the first of the conditions of docs/REQUIREMENTS.md that holds, and no other.
 use Rattle.demands.specs.Names as N
 use N.{Bool, _&&_, cond, false, not, true, List, [], _∷_, inl, inr, ⊎-elim, _≡_, refl, ℕ, eqb, length, eqb-true, Head, Outcome, finished}
-use N.{refusal, refuseAs, telling, cbcOpen, cbcHead, unpadded, Cbc·Done, InvalidLastU8, InvalidPadding, gcmOpen, gcmHead, settled, Gcm·Done}
-use N.{InvalidTag, refusalHead, blockCall, lengthsOf, modeCall, modeResult, andThen, blockCheck, checked, dataCheck, keyAndIv, keyCheck}
+use N.{refusal, refuseAs, telling, cbcOpen, cbcHead, unpadded, Cbc·Done, InvalidLastU8, InvalidPadding, gcmOpen, gcmHead}
+use N.{refusalHead, blockCall, lengthsOf, modeCall, modeResult, andThen, blockCheck, checked, dataCheck, keyAndIv, keyCheck}
 use N.{messageCheck, refuse, roomCheck, newCipher, wrongNumber, CipherMode, Cbc, Cfb, Ctr, Gcm, Ofb, Direction, Decrypt, Encrypt, Refusal}
 use N.{Checked, Passed, Refused, ctrEnd, ctrPiece, ctrStart, opensEnd, opensPiece, opensStart, sealEnd, sealPiece, sealStart, gcmStarting}
 use N.{running, standing, tagged, writing, Ctr·state, Opens, Seal, searchCheck, which, hostBlockCall, hostModeCall, hostCtrStart}
 use N.{hostOpensStart, hostSealStart, cipherIn, hostKeyNew, keyAnswerOf, keyOf, hostWhich, LuossavinKey}
+use Rattle.block.proofs.Same.{by-test}
 use Rattle.editions.proofs.FirstOpening.{search-number}
 use Rattle.demands.specs.WhichNumber.{Said, saidIn, only, Row, Among, isRetired, encryptRowsIn, decryptRowsIn, firstOf, numbersOf}
 use Rattle.demands.specs.WhichNumber.{newRows, blockRows, whichRows, encryptRows, decryptRows, ctrPieceRows, ctrEndRows}
 use Rattle.demands.specs.WhichNumber.{sealPieceRows, sealEndRows, opensPieceRows, opensEndRows, ctrStartRows, gcmStartRows}
 use Rattle.demands.proofs.ModesBack.{encrypts}
-use Rattle.demands.proofs.Answering.{split, headBehind, heads}
+use Rattle.demands.proofs.Answering.{headBehind, heads}
 use mathlib.Core.Bool.{and-comm, and-true}
 
 -- what is said behind a check, s being what comes next
@@ -31,7 +32,7 @@ pub said-key : (n : ℕ) (s : Said)
     → behind (keyCheck (keyAnswerOf n)) s ≡ cond (not (eqb n 0) && not (eqb n 13)) (only 1) (cond (eqb n 13) (only 13) s)
 unfolding keyAnswerOf
 said-key n s =
-    split _ (eqb n 0) (λ e. let z = eqb-true n 0 e in rw z) (λ e. split _ (eqb n 13) (λ f. rw (e, f)) (λ f. rw (e, f)))
+    by-test (eqb n 0) (λ e. let z = eqb-true n 0 e in rw z) (λ e. by-test (eqb n 13) (λ f. rw (e, f)) (λ f. rw (e, f)))
 
 -- a report that was behind a check, or behind a test
 pub said-head : (k : Checked) (h : Head) → saidIn (headBehind k h) ≡ behind k (saidIn h)
@@ -57,7 +58,7 @@ front-said t k o x s e = elim t [ true ↦ refl | false ↦ e ]
 pub exported-new-number : (key : List ℕ) (n : ℕ) → hostKeyNew key n .answer ≡ firstOf (newRows key n) .number
 unfolding hostKeyNew keyOf newCipher
 exported-new-number key n =
-    split _ (not (eqb (length key) 16)) (λ e. rw e) (λ e. split _ (wrongNumber n) (λ f. rw (e, f)) (λ f. rw (e, f)))
+    by-test (not (eqb (length key) 16)) (λ e. rw e) (λ e. by-test (wrongNumber n) (λ f. rw (e, f)) (λ f. rw (e, f)))
 
 -- The exported call on one block says what the first condition says that holds: the key, the block's size, where it encrypts whether
 -- the key is retired, the room.
@@ -71,7 +72,7 @@ cbc-said : (n : ℕ) (none bad : Bool)
     → saidIn (cbcHead (cond none InvalidLastU8 (cond bad InvalidPadding (Cbc·Done n)))) ≡ cond none (only 3) (cond bad (only 15) (only 0))
 cbc-said n none bad = elim none [ true ↦ refl | false ↦ elim bad [ true ↦ refl | false ↦ refl ] ]
 
-gcm-said : (n : ℕ) (t : Bool) → saidIn (gcmHead (cond t (Gcm·Done n) InvalidTag)) ≡ cond (not t) (only 4) (only 0)
+gcm-said : (n : ℕ) (t : Bool) → saidIn (gcmHead t n) ≡ cond (not t) (only 4) (only 0)
 gcm-said n t = elim t [ true ↦ refl | false ↦ refl ]
 
 -- the lengths of an IV that Gcm takes, the other way round
@@ -92,7 +93,7 @@ module _ (k : LuossavinKey) (label d iv o : List ℕ) where
   decryption-said : (m : CipherMode)
       → behind (check Decrypt m) (saidIn (modeResult m Decrypt (k .«round_keys») label d iv o .head))
       ≡ firstOf (decryptRowsIn m k label d iv o)
-  unfolding messageCheck keyAndIv dataCheck roomCheck cbcOpen unpadded gcmOpen settled
+  unfolding messageCheck keyAndIv dataCheck roomCheck cbcOpen unpadded gcmOpen
   decryption-said m =
       elim m [ Cfb ↦ simp mode·laws | Ofb ↦ simp mode·laws | Ctr ↦ simp mode·laws | Cbc ↦ simp mode·laws | Gcm ↦ simp mode·laws ]
 
@@ -122,7 +123,7 @@ no-other-number rows s e = rw e (one-of rows)
     one-of : (rows : List Row) → Among (firstOf rows .number) (numbersOf rows)
     one-of [] = inl refl
     one-of (r ∷ rows) =
-        split _ (r .holds) (λ h. rw h (inr (inl refl))) (λ h. rw h (⊎-elim inl (λ later. inr (inr later)) (one-of rows)))
+        by-test (r .holds) (λ h. rw h (inr (inl refl))) (λ h. rw h (⊎-elim inl (λ later. inr (inr later)) (one-of rows)))
 
 -- the last question of an opening
 yes-or-no : (t b : Bool) → saidIn (cond t (telling b (finished 0)) (refusal 4)) ≡ cond (not t) (only 4) (only 0)
@@ -134,7 +135,7 @@ pub said-standing : (mark : ℕ) (s : Said) → behind (standing mark) s
     (cond (eqb mark 5) (only 5)
     (cond (eqb mark 10) (only 10) (cond (eqb mark 13) (only 13) (cond (eqb mark 14) (only 14) (cond (not (eqb mark 0)) (only 12) s)))))
 unfolding standing
-said-standing mark s = split _ (eqb mark 0) (λ e. let z = eqb-true mark 0 e in rw z) (λ e. rw e (simp said·laws))
+said-standing mark s = by-test (eqb mark 0) (λ e. let z = eqb-true mark 0 e in rw z) (λ e. rw e (simp said·laws))
 
 -- Every piece and every end says what the first condition says that holds: what the state stands at, the lengths, the tag's
 -- size, the room, and last the tag.

@@ -8,6 +8,7 @@ use N.{roomCheck, keyNumber, limit, modeOf, Ctr, Refused·ending, NoRoom, TooLon
 use N.{accepts, planned, rangeCall, rangeCheck, reachCheck, stretch, Share, allWorked, applied, laidAt, shareOf, sharesOf, worked, Making}
 use N.{BadWorkers, Made, TooLong·made, Plan, modeIn, hostModeCall, directionOf, cipherIn, makingHead, hostCtrByPlan, hostCtrRange}
 use N.{hostPlanMake, LuossavinKey}
+use Rattle.block.proofs.Same.{by-test}
 use Rattle.demands.specs.WhichNumber.{Said, saidIn, only, firstOf}
 use Rattle.demands.specs.Workers.{rangeRows, planRows, makeRows, rangeNumbers, planNumbers, PlanHanded, unsaid, ctrCall}
 use Rattle.demands.specs.Workers.{StretchOfWhole, Applying, appliedBy, RangesCommute, workedBy, allWorkedBy}
@@ -19,7 +20,7 @@ use Rattle.ranges.proofs.OwnPlans.{no-more-than-workers, no-longer-than-share, 
 use Rattle.ranges.proofs.Places.{past-the-count}
 use Rattle.ranges.proofs.Planner.{in-order}
 use Rattle.demands.specs.Answered.{Answered}
-use Rattle.demands.proofs.Answering.{split, numbered, answered, done-fair, checks-fair, front-fair}
+use Rattle.demands.proofs.Answering.{numbered, answered, done-fair, checks-fair, front-fair}
 use Rattle.cipher_mode.proofs.Refusals.{refuses, quiet-ending}
 use Rattle.ranges.proofs.Applied.{length-applied, ranges-commute}
 use Rattle.ranges.proofs.Copied.{nothing-laid}
@@ -44,7 +45,7 @@ pub exported-range-number : (k : LuossavinKey) (decrypt : Bool) (iv : List ℕ) 
 unfolding hostCtrRange rangeCall rangeCheck reachCheck keyAndIv cipherIn
 exported-range-number k decrypt iv offset d o =
     checked-said (rangeOf k decrypt iv offset (length d) (length o)) o _ _
-    (split _ decrypt (λ e. rw e (simp said·laws)) (λ e. rw e (simp said·laws)))
+    (by-test decrypt (λ e. rw e (simp said·laws)) (λ e. rw e (simp said·laws)))
 
 -- Work by a plan the same, with the plan between the length and the room.
 pub exported-plan-number : (k : LuossavinKey) (decrypt : Bool) (iv : List ℕ) (plan : Plan) (d o : List ℕ)
@@ -54,13 +55,13 @@ exported-plan-number k decrypt iv plan d o =
     checked-said (reachOf k decrypt iv (length d)) o _ _
     (ap {B = Said} (behind (reachOf k decrypt iv (length d)))
     (front-said (not (accepts plan (length d))) 18 o _ _ (front-said (ltb (length o) (length d)) 6 o _ (only 0) refl))
-    ∙ split _ decrypt (λ e. rw e (simp said·laws)) (λ e. rw e (simp said·laws)))
+    ∙ by-test decrypt (λ e. rw e (simp said·laws)) (λ e. rw e (simp said·laws)))
 
 -- The planner says 17 for a count of workers outside 1 to 64, and then 5.
 pub exported-make-number : (n workers : ℕ) → saidIn (hostPlanMake n workers .head) ≡ firstOf (makeRows n workers)
 unfolding hostPlanMake planned
 exported-make-number n workers =
-    split _ (eqb workers 0 || ltb 64 workers) (λ e. rw e) (λ e. split _ (ltb limit n) (λ f. rw (e, f)) (λ f. rw (e, f)))
+    by-test (eqb workers 0 || ltb 64 workers) (λ e. rw e) (λ e. by-test (ltb limit n) (λ f. rw (e, f)) (λ f. rw (e, f)))
 
 -- Demand 1 of ranges and plans: every call ends with an answer, for all inputs. A refusal reports length 0 and leaves the output as it was
 -- lent, or hands out a plan of no pieces; a success reports the data's length and leaves what lies past it as it was lent, or hands out a
@@ -84,7 +85,7 @@ exported-range-answers k decrypt iv offset d o =
     let p = stretch (cipherIn k .rk) iv offset d in
     let l = length-stretch (cipherIn k .rk) iv offset d in
     answered o (length d) rangeNumbers _ _
-    (numbered (rangeRows k decrypt iv offset d o) rangeNumbers _ (split _ decrypt (λ e. rw e) (λ e. rw e))
+    (numbered (rangeRows k decrypt iv offset d o) rangeNumbers _ (by-test decrypt (λ e. rw e) (λ e. rw e))
     (exported-range-number k decrypt iv offset d o)) refl
     (checks-fair o (length d) (rangeOf k decrypt iv offset (length d) (length o)) (done p o) (λ e.
     let (_, _, room) = in-range k decrypt iv offset (length d) (length o) e in
@@ -99,7 +100,7 @@ exported-plan-answers k decrypt iv plan d o =
     let l = length-stream Ctr·kind (cipherIn k .rk) iv d in
     let n = length d in
     answered o n planNumbers _ _
-    (numbered (planRows k decrypt iv plan d o) planNumbers _ (split _ decrypt (λ e. rw e) (λ e. rw e))
+    (numbered (planRows k decrypt iv plan d o) planNumbers _ (by-test decrypt (λ e. rw e) (λ e. rw e))
     (exported-plan-number k decrypt iv plan d o)) refl
     (checks-fair o n (reachOf k decrypt iv n) _ (λ _.
     front-fair o n (not (accepts plan n)) 18 _ (omega arith) (λ _.
@@ -137,8 +138,8 @@ module _ (n workers : ℕ) where
   pub exported-make-answers : PlanHanded n workers (hostPlanMake n workers)
   unfolding hostPlanMake planned
   exported-make-answers =
-      split _ (eqb workers 0 || ltb 64 workers) (λ e. rw e (none-handed BadWorkers (inr refl) (λ z. omega arith))) (λ e.
-      split _ (ltb limit n) (λ f. rw (e, f) (none-handed TooLong·made (inl refl) (λ z. omega arith))) (λ f.
+      by-test (eqb workers 0 || ltb 64 workers) (λ e. rw e (none-handed BadWorkers (inr refl) (λ z. omega arith))) (λ e.
+      by-test (ltb limit n) (λ f. rw (e, f) (none-handed TooLong·made (inl refl) (λ z. omega arith))) (λ f.
       let sound = in-order n workers (rw (e, f)) in rw (e, f) (one-handed (sound .least) (sound .most))))
 
 -- Ranges and plans beside the single call: work by an accepted plan has its outcome, but for the report of a counter; a range is its

@@ -1,7 +1,7 @@
 -- The search finds candidate i exactly where the test holds of it and of none before it, and none exactly where it holds of none.
 use Rattle.block.proofs.Base.{_+_, _<_, suc, zero, ℕ, _≡_, refl, subst, Bool, cond, false, true, true≢false, List, [], _∷_, arith, drop}
 use Rattle.block.proofs.Base.{getD, length, take, drop-drop}
-use Rattle.walk.specs.Outcome.{finished}
+use Rattle.cipher_mode.specs.Outcome.{finished}
 use Rattle.editions.specs.Candidates.{sum, labelAt}
 use Rattle.editions.specs.Which.{Verdict, foundAt, noneWith, firstOpening}
 

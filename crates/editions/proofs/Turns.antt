@@ -1,7 +1,7 @@
 -- What the definitions over the lengths say at one length, and after the last.
 use Rattle.block.proofs.Base.{_+_, _-_, _<_, _≤_, ℕ, _∙_, _≡_, refl, sym, Bool, _||_, cond, false, true, true≢false, List, add-one, arith}
 use Rattle.block.proofs.Base.{ltb-false, ltb, drop, drop-of-length-le, getD, length, take, drop-cons, drop-drop}
-use Rattle.walk.specs.Outcome.{finished}
+use Rattle.cipher_mode.specs.Outcome.{finished}
 use Rattle.cipher_mode.specs.Tables.{limit}
 use Rattle.editions.specs.Candidates.{sum, anyTooLong}
 use Rattle.editions.specs.Which.{Verdict, foundAt, noneWith, firstOpening}

@@ -2,7 +2,7 @@
 -- exactly where none opens it; the part handed back is that candidate. An answer of found or of none tells that nothing stood against.
 use Rattle.block.proofs.Base.{_+_, _<_, _≤_, suc, zero, ℕ, _≡_, ap, refl, Bool, cond, false, false≢true, true, true≢false, List}
 use Rattle.block.proofs.Base.{[], _∷_, arith, le-ltb, drop, getD, length, take}
-use Rattle.walk.specs.Outcome.{Head, finished, refusal, under}
+use Rattle.cipher_mode.specs.Outcome.{Head, finished, refusal, under}
 use Rattle.cipher_mode.specs.declared.Sm4Cipher.{Sm4Cipher}
 use Rattle.cipher_mode.specs.declared.checks.Checked.{Checked}
 use Rattle.cipher_mode.specs.declared.checks.Checked.the-variants.{Passed, Refused}

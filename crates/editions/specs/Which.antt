@@ -4,7 +4,7 @@ use mathlib.Core.Bool.{Bool, true, false, cond}
 use mathlib.Core.List.{List, [], _∷_}
 use lib.Dec.{ltb}
 use lib.ListN.{length, take, drop}
-use Rattle.walk.specs.Outcome.{Head, finished, refusal, under}
+use Rattle.cipher_mode.specs.Outcome.{Head, finished, refusal, under}
 use Rattle.block.specs.Same.{same}
 use Rattle.gcm.specs.Gcm.{hashKey, J0, maskedTag, textPart, tagPart, opensUnder}
 use Rattle.cipher_mode.specs.declared.KeyAnswer.{KeyAnswer}

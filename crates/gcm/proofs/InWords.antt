@@ -9,8 +9,9 @@ use Rattle.cipher.specs.Sm4.{encryptWords}
 use Rattle.cipher.proofs.Blocks.{encrypt-unwords}
 use Rattle.ghash.specs.Ghash.{ghash, authBlocks}
 use Rattle.ghash.proofs.IvBlocks.{iv-blocks}
-use Rattle.walk.specs.Walk.{chain, over}
-use Rattle.walk.proofs.Loop.{tailed, returned, over-behind}
+use Rattle.block.specs.Over.{over}
+use Rattle.walk.specs.Walk.{chain}
+use Rattle.block.proofs.Tails.{tailed, returned, over-behind}
 use Rattle.stream.specs.Stream.{streamMode}
 use Rattle.stream.specs.declared.Kind.the-variants.{Gctr}
 use Rattle.counter.specs.Counter.{gcmNext}

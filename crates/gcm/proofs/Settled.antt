@@ -1,6 +1,6 @@
 -- What opening leaves, by the test that decides; and how long the text is.
 use Rattle.block.proofs.Base.{_-_, _∙_, ℕ, _≡_, false, true, List, arith, length, length-take-le}
-use Rattle.walk.specs.Walk.{over}
+use Rattle.block.specs.Over.{over}
 use Rattle.gcm.specs.Gcm.{textPart, textOf, opensUnder, textInto}
 use Rattle.gcm.proofs.Parts.{length-text}
 

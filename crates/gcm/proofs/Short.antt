@@ -19,9 +19,10 @@ use Rattle.stream.specs.declared.Kind.the-variants.{Gctr}
 use Rattle.stream.specs.Stream.{streamMode}
 use Rattle.stream.proofs.Ahead.{length-jumped}
 use Rattle.stream.proofs.Counters.{jumped-stepped, length-gcmNext, gcmNext-bytes}
-use Rattle.walk.specs.Walk.{chain, stepped, over}
+use Rattle.block.specs.Over.{over}
+use Rattle.walk.specs.Walk.{chain, stepped}
 use Rattle.walk.proofs.Chain.{chain-rest, chain-block}
-use Rattle.walk.proofs.Loop.{tailed, tail-is}
+use Rattle.block.proofs.Tails.{tailed, tail-is}
 use Rattle.gcm.specs.Gcm.{hashKey, textOf}
 use Rattle.gcm.specs.Pads.{PadsFor}
 

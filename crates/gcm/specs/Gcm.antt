@@ -10,7 +10,8 @@ use Rattle.block.specs.Xor.{xors}
 use Rattle.cipher.specs.Sm4.{encryptBlock}
 use Rattle.counter.specs.Counter.{gcmNext}
 use Rattle.ghash.specs.Ghash.{ghash, authBlocks}
-use Rattle.walk.specs.Walk.{chain, over}
+use Rattle.block.specs.Over.{over}
+use Rattle.walk.specs.Walk.{chain}
 use Rattle.stream.specs.Stream.{streamMode}
 use Rattle.stream.specs.declared.Kind.the-variants.{Gctr}
 

@@ -13,7 +13,7 @@ ghost use Rattle.cipher.specs.Engine.{Engine};
 ghost use Rattle.counter.specs.Counter.{jumped};
 ghost use Rattle.ghash.specs.Ghash.{Hashable, blocks};
 ghost use Rattle.ghash.specs.Joined.{HalfOf};
-ghost use Rattle.walk.specs.Walk.{over};
+ghost use Rattle.block.specs.Over.{over};
 ghost use Rattle.gcm.specs.Gcm.{hashKey, nonceCounter, hashedCounter, firstCounter, J0, maskedTag, tagOf, sealed, textPart, tagPart, opensUnder, textInto};
 ghost use Rattle.gcm.specs.Pads.{PadsFor};
 use block::U128;

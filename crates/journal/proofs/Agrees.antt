@@ -1,7 +1,7 @@
 -- Calls that were recorded as they were answered agree, and only they do; of those that differ the first is told.
 use Rattle.block.proofs.Base.{_+_, ℕ, _∙_, _≡_, ap, refl, sym, false, not, true, List, [], _++_, _∷_, add-zero, zero-add, arith, eq-eqb, eqb-true, not-false}
 use Rattle.block.proofs.Base.{eqb, length, length-append}
-use Rattle.block.proofs.Same.{same-refl, same-equal}
+use Rattle.block.proofs.Same.{by-test, same-refl, same-equal}
 use Rattle.cipher_mode.specs.declared.Sm4Cipher.{Sm4Cipher}
 use Rattle.journal.specs.Format.{Entry, written, stored}
 use Rattle.journal.specs.KeyList.{keyOf}
@@ -12,7 +12,7 @@ use Rattle.journal.specs.Ends.{countedAll, Ends, answerNow, differs, Non
 use Rattle.journal.specs.declared.report.Difference.{Difference}
 use Rattle.journal.specs.declared.report.Report.{Report}
 use Rattle.journal.specs.declared.Replayed.{Replayed}
-use Rattle.journal.proofs.Cases.{by-test, clash, or-left, or-right}
+use Rattle.journal.proofs.Cases.{clash, or-left, or-right}
 use Rattle.journal.proofs.Lent.{result-size}
 use Rattle.journal.proofs.Joined.{either-way}
 

@@ -2,11 +2,6 @@
 use Rattle.block.proofs.Base.{_≤_, ℕ, _≡_, refl, Bool, _||_, false, true, arith, ltb-false, ltb, length}
 use Rattle.journal.specs.Format.{Entry, partLimit, outputLimit, pastLimit, tooLong}
 
--- it holds, or it does not
-pub by-test : {A : Type 0} (t : Bool) → (t ≡ true → A) → (t ≡ false → A) → A
-by-test true f g = f refl
-by-test false f g = g refl
-
 -- not both
 pub clash : (t : Bool) → t ≡ true → t ≡ false → ⊥
 clash t e f = let z : _≡_ {A = ℕ} 0 1 = cc in omega arith

@@ -2,8 +2,8 @@
 use Rattle.block.proofs.Base.{_+_, _<_, _≤_, suc, zero, ℕ, _≡_, List, [], _∷_, arith, ltb-false, lit<, ltb, getD, length, set}
 use Rattle.block.specs.Below.{Below}
 use Rattle.block.proofs.Entries.{below-at, below-replicate}
+use Rattle.block.proofs.Same.{by-test}
 use Rattle.journal.specs.Format.{Entry}
-use Rattle.journal.proofs.Cases.{by-test}
 use Rattle.journal.specs.Reports.{nothing, oneMore, modePlace, counted, Within}
 use Rattle.journal.specs.declared.again.Recomputed.{Recomputed}
 use Rattle.journal.specs.declared.report.Difference.{Difference}

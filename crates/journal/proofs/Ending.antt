@@ -3,6 +3,7 @@ use Rattle.block.proofs.Base.{_+_, _<_, ℕ, _∙_, _≡_, ap, refl, sym, false
 use Rattle.block.proofs.Base.{length, length-append, drop-at}
 use Rattle.block.specs.Below.{AreBytes}
 use Rattle.block.proofs.Entries.{below-drop}
+use Rattle.block.proofs.Same.{by-test}
 use Rattle.cipher_mode.specs.declared.Sm4Cipher.{Sm4Cipher}
 use Rattle.journal.specs.Format.{Entry, written, stored, startsRecord, sizeAt, afterRecord, front}
 use Rattle.journal.specs.KeyList.{keysIn, badKeys}
@@ -14,7 +15,7 @@ use Rattle.journal.specs.declared.report.Report.{Report}
 use Rattle.journal.specs.declared.Ended.{Ended}
 use Rattle.journal.specs.declared.Ended.the-variants.{Done, BadRecord, TooLong, UnknownKey, BadKeys}
 use Rattle.journal.specs.declared.Replayed.{Replayed}
-use Rattle.journal.proofs.Cases.{by-test, clash}
+use Rattle.journal.proofs.Cases.{clash}
 use Rattle.journal.proofs.Standing.{stands, behind-size}
 use Rattle.journal.proofs.Replaying.{Passes, Refuses, from-end, from-refused, from-on, by-replay, from-start}
 use Rattle.journal.proofs.BothWays.{written-starts, written-front, written-size, front-proper, front-written}

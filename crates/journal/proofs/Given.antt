@@ -3,22 +3,21 @@
 use Rattle.block.proofs.Base.{_+_, _-_, _<_, _≤_, ℕ, _∙_, _≡_, ap, refl, sym, Bool, _&&_, cond, false, true, List, [], arith, eqb, lit<}
 use Rattle.block.proofs.Base.{length, take, length-take-le}
 use Rattle.counter.specs.CameRound.{blocksOf, ctrCameRound}
-use Rattle.walk.specs.Outcome.{Head, Outcome, finished, refusal, under, telling, leaving, keyed, reporting, refuse, written, done}
-use Rattle.walk.specs.Walk.{chain, over}
+use Rattle.cipher_mode.specs.Outcome.{Head, Outcome, finished, refusal, under, telling, leaving, keyed, reporting, refuse, written, done}
+use Rattle.block.specs.Over.{over}
+use Rattle.walk.specs.Walk.{chain}
 use Rattle.stream.specs.Stream.{streamMode}
 use Rattle.stream.specs.declared.Kind.{Kind}
 use Rattle.stream.specs.declared.Kind.the-variants.{Ofb as Ofb·kind, Ctr as Ctr·kind}
 use Rattle.stream.proofs.RoundTrip.{length-stream}
-use Rattle.cbc.specs.Cbc.{cbcSeal}
-use Rattle.cbc.specs.Open.{headOf as cbcHead, unpadded, cbcText, cbcOpen}
-use Rattle.cbc.specs.declared.Opened.{Opened as Cbc·Opened}
-use Rattle.cbc.specs.declared.Opened.the-variants.{Done as Cbc·Done, InvalidLastU8, InvalidPadding}
+use Rattle.padding.specs.Padding.{unpadded}
+use Rattle.cbc.specs.Cbc.{cbcSeal, cbcText}
+use Rattle.padding.specs.declared.Opened.{Opened as Cbc·Opened}
+use Rattle.padding.specs.declared.Opened.the-variants.{Done as Cbc·Done, InvalidLastU8, InvalidPadding}
 use Rattle.cbc.proofs.Blocks.{length-decrypt}
 use Rattle.cbc.proofs.RoundTrip.{length-cbcSeal}
-use Rattle.cbc.proofs.Unpadded.{unpadded-le}
+use Rattle.padding.proofs.Unpadded.{unpadded-le}
 use Rattle.gcm.specs.Gcm.{hashKey, J0, sealed, textPart, textOf, opensUnder}
-use Rattle.gcm.specs.Open.{headOf as gcmHead, settled, gcmOpen}
-use Rattle.gcm.specs.declared.Opened.the-variants.{Done as Gcm·Done, InvalidTag as Gcm·InvalidTag}
 use Rattle.gcm.proofs.Parts.{length-sealed}
 use Rattle.gcm.proofs.Settled.{text-size}
 use Rattle.cipher_mode.specs.declared.CipherMode.{CipherMode}
@@ -34,7 +33,7 @@ use Rattle.cipher_mode.specs.declared.checks.Checked.the-variants.{Passed, Refu
 use Rattle.cipher_mode.specs.Answer.{refusalHead}
 use Rattle.cipher_mode.specs.Tables.{roomOf}
 use Rattle.cipher_mode.specs.Checks.{wrongIv, dataCheck, checked}
-use Rattle.cipher_mode.specs.Calls.{cfbKind, gcmRound, modeResult}
+use Rattle.cipher_mode.specs.Calls.{cbcHead, cbcOpen, gcmHead, gcmOpen, cfbKind, gcmRound, modeResult}
 use Rattle.cipher_mode.proofs.Passed.{sixteen, whole-blocks-passed, with-tag-passed}
 use Rattle.cipher_mode.proofs.Refusals.{refuses}
 
@@ -108,7 +107,7 @@ cbc-opened most p InvalidPadding e h = gives-written most (refusal 15) p (omega 
 
 -- an opened Gcm message, by what its tag says
 gcm-opened : (most : ℕ) (p : List ℕ) (n : ℕ) (t : Bool) → length p ≡ n → n ≤ most
-    → Gives most (λ o. written (gcmHead (cond t (Gcm·Done n) Gcm·InvalidTag)) p o)
+    → Gives most (λ o. written (gcmHead t n) p o)
 gcm-opened most p n true e h = gives-written most (finished n) p (omega arith) (omega arith) h
 gcm-opened most p n false e h = gives-written most (refusal 4) p (omega arith) (omega arith) (omega arith)
 
@@ -118,7 +117,7 @@ streams most k rk s d h = let l = length-stream k rk s d in gives-done most (cha
 -- what is in order gives no more than the table of lengths says
 mode-gives : (most : ℕ) (m : CipherMode) (dir : Direction) (rk aad d iv : List ℕ) → wrongIv m (length iv) ≡ false
     → dataCheck dir m (length d) ≡ Passed → roomOf m dir (length d) ≤ most → Gives most (λ o. modeResult m dir rk aad d iv o)
-unfolding cbcOpen gcmOpen settled
+unfolding cbcOpen gcmOpen
 mode-gives most Cfb dir rk aad d iv i e r = streams most (cfbKind dir) rk iv d r
 mode-gives most Ofb dir rk aad d iv i e r = streams most Ofb·kind rk iv d r
 mode-gives most Ctr dir rk aad d iv i e r =
@@ -135,7 +134,7 @@ mode-gives most Gcm Decrypt rk aad d iv i e r =
     let j = J0 rk iv in
     gives-reporting most (gcmRound rk iv (length d - 16)) _
     (gcm-opened most (textOf rk j (textPart d)) (length d - 16) (opensUnder rk h j aad d)
-    (text-size rk h j aad d [] (with-tag-passed (length d) e)) (omega arith))
+    (text-size rk j d) (omega arith))
 
 -- the table asks for at most 16 bytes more than there are
 pub room-16 : (m : CipherMode) (dir : Direction) (n : ℕ) → roomOf m dir n ≤ 16 + n

@@ -3,7 +3,8 @@
 use Rattle.block.proofs.Base.{_+_, _<_, suc, zero, ℕ, _∙_, _≡_, ap, refl, sym, Bool, cond, false, true, List, [], _++_, _∷_, add-assoc, add-zero, arith, ne-eqb, drop}
 use Rattle.block.proofs.Base.{drop-of-length-le, length, length-drop, replicate, take, drop-append-le, take-append-le}
 use Rattle.cipher_mode.specs.declared.Sm4Cipher.{Sm4Cipher}
-use Rattle.walk.proofs.Loop.{tailed, tail-is}
+use Rattle.block.proofs.Tails.{tailed, tail-is}
+use Rattle.block.proofs.Same.{by-test}
 use Rattle.journal.specs.Format.{Entry, Stands, sizeAt, front}
 use Rattle.journal.specs.KeyList.{keyOf, keysIn, badKeys}
 use Rattle.journal.specs.Recomputed.{recomputed, judged}
@@ -18,7 +19,6 @@ use Rattle.journal.specs.declared.Replayed.{Replayed}
 use Rattle.journal.proofs.Lent.{recomputed-known}
 use Rattle.journal.proofs.Counting.{same-report, mode-below-6}
 use Rattle.journal.proofs.Sums.{adds-counted, replay-adds-up, adds-nothing}
-use Rattle.journal.proofs.Cases.{by-test}
 use Rattle.journal.proofs.Replaying.{from-end, from-refused, from-on, by-replay, Passes, refuses, counts, passed}
 use Rattle.journal.proofs.Replaying.{from-start}
 use Rattle.journal.proofs.Standing.{stands, starts, size-within, starts-in, front-in, size-in}

@@ -2,7 +2,8 @@
 use Rattle.block.proofs.Base.{_+_, _<_, _≤_, ℕ, _∙_, _≡_, ap, refl, sym, _⊎_, inl, inr, ⊎-elim, Bool, false, List, [], _++_, append-assoc, append-nil}
 use Rattle.block.proofs.Base.{arith, le-ltb, ltb-false, ltb-true, ltb, drop, length, length-append, length-drop, length-replicate}
 use Rattle.block.proofs.Base.{replicate, take, take-at}
-use Rattle.walk.specs.Outcome.{Head, Outcome, keyed, refuse}
+use Rattle.block.proofs.Same.{by-test}
+use Rattle.cipher_mode.specs.Outcome.{Head, Outcome, keyed, refuse}
 use Rattle.cipher_mode.specs.declared.CipherMode.{CipherMode}
 use Rattle.cipher_mode.specs.declared.Sm4Cipher.{Sm4Cipher}
 use Rattle.cipher_mode.specs.declared.checks.Checked.{Checked}
@@ -15,7 +16,7 @@ use Rattle.journal.specs.Format.{Entry, outputLimit, tooLong}
 use Rattle.journal.specs.Recomputed.{callInto, recomputed, result, differsFrom, judged, lentRoom, Answers}
 use Rattle.journal.specs.declared.again.Answered.{Answered}
 use Rattle.journal.specs.declared.again.Recomputed.{Recomputed}
-use Rattle.journal.proofs.Cases.{by-test, short as within}
+use Rattle.journal.proofs.Cases.{short as within}
 use Rattle.journal.proofs.Given.{Gives, room-16, call-gives, bad-gives}
 
 -- what an outcome reports, and its result, which stands at the front whatever is behind the output

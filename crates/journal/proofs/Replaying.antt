@@ -1,6 +1,7 @@
 -- Replay goes on record by record: one law by cases of the record in front, and one induction over all of them.
 use Rattle.block.proofs.Base.{_+_, _<_, _≤_, suc, zero, ℕ, _∙_, _≡_, refl, sym, false, true, List, arith, eq-eqb, eqb-false, eqb-true}
 use Rattle.block.proofs.Base.{ne-eqb, eqb, drop, length, length-drop}
+use Rattle.block.proofs.Same.{by-test}
 use Rattle.cipher_mode.specs.declared.Sm4Cipher.{Sm4Cipher}
 use Rattle.journal.specs.Format.{Entry, startsRecord, sizeAt, front, tooLong}
 use Rattle.journal.specs.KeyList.{keysIn, hasNumber, keyOf, badKeys}
@@ -11,7 +12,6 @@ use Rattle.journal.specs.declared.report.Report.{Report}
 use Rattle.journal.specs.declared.Ended.{Ended}
 use Rattle.journal.specs.declared.Ended.the-variants.{Done, BadRecord, TooLong, UnknownKey, BadKeys}
 use Rattle.journal.specs.declared.Replayed.{Replayed}
-use Rattle.journal.proofs.Cases.{by-test}
 use Rattle.journal.proofs.Standing.{stands, size-within, data-within}
 use Rattle.journal.proofs.Lent.{recomputed-size}
 use Rattle.journal.proofs.Counting.{within-counted}

@@ -4,11 +4,10 @@ use Rattle.block.proofs.Base.{_+_, _-_, _<_, _≤_, ℕ, _∙_, _≡_, ap, refl
 use Rattle.block.proofs.Base.{drop, getD, length, length-append, length-drop, take, take-at, drop-at, getD-take, length-take-le, take-add}
 use Rattle.block.specs.BigEndian.{numberOf}
 use Rattle.block.specs.Words.{wordAt}
-use Rattle.block.proofs.Same.{and-left, and-right}
+use Rattle.block.proofs.Same.{by-test, and-left, and-right}
 use Rattle.cipher_mode.specs.declared.Direction.{Direction}
 use Rattle.journal.specs.Format.{Entry, startsPart, partAt, behind, pastPart, fromLabel, fromData, fromIv, fromRoom, fromOutput, afterRecord}
 use Rattle.journal.specs.Format.{directionOf, marked, startsRecord, Stands, sizeAt, front}
-use Rattle.journal.proofs.Cases.{by-test}
 use Rattle.journal.proofs.Fields.{Field, fixed, counted, Fit, fields, joined, past, sizes-are, joined-fields, row-in}
 
 -- a part

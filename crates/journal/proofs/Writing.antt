@@ -2,8 +2,8 @@
 use Rattle.block.proofs.Base.{_+_, _≤_, ℕ, _∙_, _≡_, ap, sym, false, List, _++_, append-assoc, arith, le-ltb, drop, length, length-append}
 use Rattle.block.proofs.Base.{take, take-length}
 use Rattle.block.proofs.Convert.{length-bytesOf}
-use Rattle.walk.specs.Walk.{over}
-use Rattle.walk.proofs.Loop.{tailed, returned, over-behind}
+use Rattle.block.specs.Over.{over}
+use Rattle.block.proofs.Tails.{tailed, returned, over-behind}
 use Rattle.journal.specs.Format.{Entry, part, head, middle, written, tooLong}
 use Rattle.journal.specs.Writer.{headOf, middleOf, askedOf, answeredOf, entryOf, write}
 use Rattle.journal.specs.declared.writer.Call.{Call}

@@ -1,6 +1,6 @@
 -- A question with one candidate, of six bytes: its verdict, as an answer, is what is asked of a job and an edition.
 use Rattle.block.proofs.Base.{ℕ, _≡_, refl, sym, Bool, cond, false, true, List, [], _∷_, arith, ne-eqb, eqb, length, take-all}
-use Rattle.walk.specs.Outcome.{Head, under, finished, refusal}
+use Rattle.cipher_mode.specs.Outcome.{Head, under, finished, refusal}
 use Rattle.cipher_mode.specs.declared.Sm4Cipher.{Sm4Cipher}
 use Rattle.cipher_mode.specs.declared.CipherMode.the-variants.{Gcm}
 use Rattle.cipher_mode.specs.declared.Direction.the-variants.{Decrypt}

@@ -1,7 +1,7 @@
 -- What a writer of records leaves, as a call's outcome.
 use Rattle.block.proofs.Base.{ℕ, _≡_, refl, Bool, cond, false, true, List, ltb, length}
-use Rattle.walk.specs.Outcome.{Outcome, leaving, refuse, done}
-use Rattle.walk.specs.Walk.{over}
+use Rattle.cipher_mode.specs.Outcome.{Outcome, leaving, refuse, done}
+use Rattle.block.specs.Over.{over}
 use Rattle.journal.specs.Format.{Entry, written, tooLong}
 use Rattle.journal.specs.Writer.{Leaves, write}
 use Rattle.journal.specs.declared.writer.Wrote.the-variants.{Done, TooLong, NoRoom}

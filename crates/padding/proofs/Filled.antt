@@ -1,7 +1,7 @@
 -- The padding: it fills the last block, wherever full blocks were cut off before.
 use Rattle.block.proofs.Base.{_%_, _*_, _+_, _-_, _/_, _<_, _≤_, suc, zero, ℕ, _∙_, _≡_, List, _++_, arith, drop, length, length-append}
 use Rattle.block.proofs.Base.{length-drop, length-replicate, replicate, take, drop-append-le, take-length}
-use Rattle.walk.proofs.Loop.{tailed, tail-is}
+use Rattle.block.proofs.Tails.{tailed, tail-is}
 use Rattle.padding.specs.Padding.{padding, padded}
 
 pub length-padded : (d : List ℕ) → length (padded d) ≡ 16 * (length d / 16 + 1)

@@ -2,7 +2,7 @@
 use Rattle.block.proofs.Base.{_≤_, ℕ, _≡_, refl, ⊎-elim, List, [], _∷_, arith, drop, length, take, drop-at, length-take-le}
 use denote.Enum.Declared.{tagOf}
 use types.Run.{OneOf}
-use Rattle.walk.specs.Walk.{over}
+use Rattle.block.specs.Over.{over}
 use Rattle.padding.specs.Padding.{unpadded, kept, openedInto}
 use Rattle.padding.specs.declared.Opened.{Opened}
 use Rattle.padding.specs.declared.Opened.the-variants.{Done, InvalidLastU8, InvalidPadding}

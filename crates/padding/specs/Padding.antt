@@ -5,7 +5,7 @@ use mathlib.Core.List.{List, _++_}
 use lib.Dec.{leb}
 use lib.ListN.{length, take, drop, getD, replicate}
 use Rattle.block.specs.Same.{same}
-use Rattle.walk.specs.Walk.{over}
+use Rattle.block.specs.Over.{over}
 use Rattle.padding.specs.declared.Opened.{Opened}
 use Rattle.padding.specs.declared.Opened.the-variants.{Done, InvalidLastU8, InvalidPadding}
 

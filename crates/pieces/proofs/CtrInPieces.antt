@@ -1,8 +1,9 @@
 -- Ctr in pieces, cut anywhere, is the single call's: what the pieces give is what their join gives.
 use Rattle.block.proofs.Base.{_+_, _≤_, ℕ, _≡_, List, [], _++_, add-zero, arith, drop, length, length-append}
 use Rattle.counter.specs.CameRound.{blocksOf, ctrCameRound}
-use Rattle.walk.specs.Outcome.{finished, under, telling}
-use Rattle.walk.specs.Walk.{chain, over}
+use Rattle.cipher_mode.specs.Outcome.{finished, under, telling}
+use Rattle.block.specs.Over.{over}
+use Rattle.walk.specs.Walk.{chain}
 use Rattle.stream.specs.Stream.{streamMode}
 use Rattle.stream.specs.declared.Kind.the-variants.{Ctr as Ctr·kind}
 use Rattle.cipher_mode.specs.declared.CipherMode.the-variants.{Ctr as Ctr·mode}

@@ -1,6 +1,6 @@
 -- Opening in pieces, cut anywhere, answers as the single call does: yes exactly where the joined pieces open with the tag.
 use Rattle.block.proofs.Base.{_+_, _≤_, ℕ, _≡_, cond, List, [], _++_, add-zero, length, length-append}
-use Rattle.walk.specs.Outcome.{Head, finished, refusal, under, telling}
+use Rattle.cipher_mode.specs.Outcome.{Head, finished, refusal, under, telling}
 use Rattle.gcm.specs.Gcm.{hashKey, J0, tagOf, opensUnder}
 use Rattle.gcm.proofs.HashKey.{hashKey-lt}
 use Rattle.gcm.proofs.Parts.{parts-text, parts-tag}

@@ -4,8 +4,8 @@ use Rattle.block.proofs.Base.{length, length-drop, set, take, take-all, take-ap
 use Rattle.block.proofs.Xors.{xors-comm}
 use lib.Seq.{getD-drop}
 use Rattle.block.specs.Xor.{_⊕_, xors}
-use Rattle.walk.specs.Walk.{over}
-use Rattle.walk.proofs.Fill.{xor-turn}
+use Rattle.block.specs.Over.{over}
+use Rattle.block.proofs.Fill.{xor-turn}
 
 -- a part of what is xored is that part of both
 pub take-xors : (n : ℕ) (a p : List ℕ) → take n (xors a p) ≡ xors (take n a) p

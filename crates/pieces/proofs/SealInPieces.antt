@@ -1,8 +1,8 @@
 -- Sealing in pieces, cut anywhere, is the single call's: what the pieces give is the ciphertext of their join, and the end its tag.
 use Rattle.block.proofs.Base.{_%_, _+_, _≤_, ℕ, _≡_, sym, List, [], _++_, add-zero, drop, length, length-append}
 use Rattle.counter.specs.Counter.{gcmNext}
-use Rattle.walk.specs.Outcome.{finished, under, telling}
-use Rattle.walk.specs.Walk.{over}
+use Rattle.cipher_mode.specs.Outcome.{finished, under, telling}
+use Rattle.block.specs.Over.{over}
 use Rattle.gcm.specs.Gcm.{hashKey, J0, textOf, tagOf}
 use Rattle.gcm.proofs.HashKey.{hashKey-lt}
 use Rattle.gcm.proofs.Parts.{length-text}

@@ -1,6 +1,6 @@
 -- What a call leaves, by its parts.
 use Rattle.block.proofs.Base.{ℕ, _≡_, List}
-use Rattle.walk.specs.Outcome.{Head}
+use Rattle.cipher_mode.specs.Outcome.{Head}
 use Rattle.pieces.specs.Calls.{Stepped}
 
 module _ (S : Type 0) where

@@ -6,8 +6,8 @@ use lib.ListN.{length}
 use Rattle.block.specs.Same.{same}
 use Rattle.block.specs.Xor.{xors}
 use Rattle.counter.specs.CameRound.{blocksOf, ctrCameRound, gcmCameRound}
-use Rattle.walk.specs.Outcome.{Head, finished, refusal, under, telling}
-use Rattle.walk.specs.Walk.{over}
+use Rattle.cipher_mode.specs.Outcome.{Head, finished, refusal, under, telling}
+use Rattle.block.specs.Over.{over}
 use Rattle.cipher_mode.specs.declared.CipherMode.the-variants.{Ctr as Ctr·mode}
 use Rattle.cipher_mode.specs.declared.Direction.{Direction}
 use Rattle.cipher_mode.specs.declared.Direction.the-variants.{Encrypt, Decrypt}

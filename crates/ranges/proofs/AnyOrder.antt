@@ -5,7 +5,8 @@ use Rattle.block.proofs.Base.{drop, length, length-drop, length-take, take}
 use mathlib.Core.HLevel.{hedberg}
 use mathlib.Core.List.{foldr, Perm, Perm·foldr-eq, List·isSet}
 use native.Mathlib.Decide.{ℕ-discrete}
-use Rattle.walk.specs.Walk.{chain, over}
+use Rattle.block.specs.Over.{over}
+use Rattle.walk.specs.Walk.{chain}
 use Rattle.stream.specs.Stream.{streamMode}
 use Rattle.stream.specs.declared.Kind.the-variants.{Ctr as Ctr·kind}
 use Rattle.stream.proofs.RoundTrip.{length-stream}

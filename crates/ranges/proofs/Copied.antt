@@ -3,7 +3,7 @@
 use Rattle.block.proofs.Base.{_+_, _≤_, suc, zero, ℕ, _∙_, _≡_, ap, refl, List, [], _++_, _∷_, add-zero, arith, drop, getD, length, take}
 use Rattle.block.proofs.Base.{take-append-drop, take-nil}
 use lib.Seq.{drop-nil}
-use Rattle.walk.specs.Walk.{over}
+use Rattle.block.specs.Over.{over}
 use Rattle.ranges.specs.Shares.{laidAt}
 
 -- u with n bytes from `at` on put through f with those of t, as far as both go

@@ -1,7 +1,8 @@
 -- A piece written behind what came before it gives what the single call gives of both.
 use Rattle.block.proofs.Base.{_+_, _≤_, ℕ, _∙_, _≡_, List, _++_, drop, length, take, length-take-le, take-add}
-use Rattle.walk.specs.Walk.{chain, over}
-use Rattle.walk.proofs.Loop.{tailed, returned, over-behind}
+use Rattle.block.specs.Over.{over}
+use Rattle.walk.specs.Walk.{chain}
+use Rattle.block.proofs.Tails.{tailed, returned, over-behind}
 use Rattle.stream.specs.Stream.{streamMode}
 use Rattle.stream.specs.declared.Kind.the-variants.{Ctr as Ctr·kind}
 use Rattle.stream.proofs.RoundTrip.{length-stream}

@@ -3,7 +3,7 @@ ghost use mathlib.Core.Path.{_≡_};
 ghost use Prim.Native.Nat.{_+_, _≤_};
 ghost use lib.ListN.{length};
 ghost use Rattle.cipher.specs.Engine.{Engine};
-ghost use Rattle.walk.specs.Walk.{over};
+ghost use Rattle.block.specs.Over.{over};
 ghost use Rattle.cipher_mode.specs.Answer.{outcome};
 ghost use Rattle.ranges.specs.Range.{stretch, reachCheck, rangeCall};
 use cipher_mode::CipherMode;

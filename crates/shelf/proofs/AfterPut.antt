@@ -5,7 +5,8 @@ use Rattle.block.proofs.Base.{lt-ltb, ltb-false, ltb-true, eqb, ltb, length, le
 use lib.Seq.{drop-append-seam}
 use Rattle.block.specs.Below.{AreBytes}
 use Rattle.block.proofs.Entries.{below-take}
-use Rattle.walk.specs.Walk.{over}
+use Rattle.block.specs.Over.{over}
+use Rattle.block.proofs.Same.{by-test}
 use Rattle.shelf.specs.Records.{Record, AllProper, written, stored, records}
 use Rattle.shelf.specs.Shelf.{currentOf, collected, notHigher, fitted, badShelf}
 use Rattle.shelf.specs.Steps.{InOrder}
@@ -13,7 +14,6 @@ use Rattle.shelf.specs.Calls.{newRecord, putIn, putCall, collectCall, lo
 use Rattle.shelf.proofs.ReadsProper.{records-stored, records-proper, those-proper, put-proper}
 use Rattle.shelf.proofs.Sound.{in-order, not-bad}
 use Rattle.shelf.proofs.Putting.{length-current, fitted-fits}
-use Rattle.shelf.proofs.Reading.{by-test}
 use Rattle.shelf.proofs.Current.{at-most-one, no-two, collected-length, collected-again, current-collected, current-fitted}
 use Rattle.shelf.proofs.Current.{current-new, current-kept}
 use Rattle.shelf.proofs.FoundPart.{look-up-in, look-up}

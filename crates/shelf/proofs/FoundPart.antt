@@ -3,11 +3,11 @@ use Rattle.block.proofs.Base.{_+_, _≤_, ℕ, _∙_, _≡_, ap, refl, false, L
 use Rattle.block.proofs.Base.{length-append, length-drop, take, drop-append-add, drop-append-le, take-append-le}
 use Rattle.block.proofs.Base.{take-append-seam}
 use Rattle.block.specs.Below.{AreBytes}
+use Rattle.block.proofs.Same.{by-test}
 use Rattle.shelf.specs.Records.{Record, written, stored, records}
 use Rattle.shelf.specs.Shelf.{isCurrentOf, those, currentOf, hasCurrent, twoCurrent, placeOf, sizeOf}
 use Rattle.shelf.specs.Steps.{InOrder}
 use Rattle.shelf.specs.Calls.{findCall, partOf, lookedUp}
-use Rattle.shelf.proofs.Reading.{by-test}
 use Rattle.shelf.proofs.Walks.{none-current, alone, two-rest}
 use Rattle.shelf.proofs.Sound.{not-bad}
 use Rattle.shelf.proofs.Putting.{used-stored}

@@ -5,7 +5,7 @@ use Rattle.block.proofs.Base.{length-take-le, sub-zero}
 use lib.Seq.{paste, take-paste, drop-paste, length-paste}
 use Rattle.block.specs.Below.{AreBytes}
 use Rattle.block.proofs.Entries.{below-take, below-drop}
-use Rattle.walk.specs.Walk.{over}
+use Rattle.block.specs.Over.{over}
 use Rattle.shelf.specs.declared.records.Head.{Head}
 use Rattle.shelf.specs.Records.{stored, records, headAt}
 use Rattle.shelf.specs.Shelf.{those}

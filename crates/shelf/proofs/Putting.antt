@@ -10,8 +10,9 @@ use Rattle.block.specs.Below.{AreBytes}
 use Rattle.block.proofs.Entries.{below-take}
 use Rattle.block.specs.BigEndian.{bytesOf}
 use Rattle.block.proofs.Convert.{length-bytesOf}
-use Rattle.walk.specs.Walk.{over}
-use Rattle.walk.proofs.Loop.{tailed, returned, over-behind}
+use Rattle.block.specs.Over.{over}
+use Rattle.block.proofs.Tails.{tailed, returned, over-behind}
+use Rattle.block.proofs.Same.{by-test}
 use Rattle.label.specs.Label.{labelOf}
 use Rattle.label.proofs.LabelTells.{length-label}
 use Rattle.shelf.specs.Records.{Record, written, stored, records}
@@ -20,7 +21,7 @@ use Rattle.shelf.specs.Shelf.{fitted}
 use Rattle.shelf.specs.Steps.{InOrder, stays, roomMade, Surveyed}
 use Rattle.shelf.specs.declared.lookup.Told.{Told}
 use Rattle.shelf.specs.Calls.{newRecord}
-use Rattle.shelf.proofs.Reading.{by-test, length-written}
+use Rattle.shelf.proofs.Reading.{length-written}
 use Rattle.shelf.proofs.Walks.{or-left, or-right, alone, two-rest, has-told}
 use Rattle.shelf.proofs.ReadsProper.{stored-records}
 

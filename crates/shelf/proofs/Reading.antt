@@ -5,15 +5,10 @@ use Rattle.block.proofs.Base.{eqb, not, ne-eqb}
 use Rattle.block.specs.BigEndian.{bytesOf}
 use Rattle.block.specs.Words.{wordAt}
 use Rattle.block.proofs.Convert.{length-bytesOf}
-use Rattle.block.proofs.Same.{and-left, and-right}
+use Rattle.block.proofs.Same.{by-test, and-left, and-right}
 use Rattle.label.specs.Label.{labelOf}
 use Rattle.label.proofs.LabelTells.{length-label}
 use Rattle.shelf.specs.Records.{Record, written, marked, startsRecord, sizeAt, front, readUpTo, records}
-
--- a test holds, or it does not
-pub by-test : {A : Type 0} (t : Bool) → (t ≡ true → A) → (t ≡ false → A) → A
-by-test true f g = f refl
-by-test false f g = g refl
 
 pub length-written : (r : Record) → length (written r) ≡ 12 + length (r .sealed)
 unfolding written

@@ -9,13 +9,13 @@ use Rattle.block.specs.Words.{wordAt}
 use Rattle.block.proofs.Convert.{numberOf-lt, numberOf-bytesOf, bytesOf-numberOf}
 use Rattle.block.proofs.Entries.{below-at, below-take, below-drop}
 use Rattle.block.specs.BigEndian.{bytesOf}
-use Rattle.block.proofs.Same.{and-left, and-right}
+use Rattle.block.proofs.Same.{by-test, and-left, and-right}
 use Rattle.label.specs.Label.{labelOf}
 use Rattle.shelf.specs.Records.{Record, Proper, AllProper, stored, startsRecord, sizeAt, front, records, markOf, written, marked}
 use Rattle.shelf.specs.Records.{headAt}
 use Rattle.shelf.specs.Shelf.{isCurrentOf, those, supersede, withNew, fitted}
 use Rattle.shelf.specs.declared.records.Head.{Head}
-use Rattle.shelf.proofs.Reading.{starts-size, by-test, length-sealed, records-none, records-one, by-records, length-written}
+use Rattle.shelf.proofs.Reading.{starts-size, length-sealed, records-none, records-one, by-records, length-written}
 use Rattle.shelf.proofs.Reading.{starts-within}
 use Rattle.shelf.proofs.Reading.{size-starts, records-empty}
 

@@ -7,12 +7,12 @@ use Rattle.block.proofs.Base.{length, length-append, take, length-take-le, take
 use mathlib.Core.Bool.{or-true, or-false}
 use Rattle.block.specs.Below.{AreBytes}
 use Rattle.block.proofs.Entries.{below-take, below-drop}
-use Rattle.block.proofs.Same.{and-left, and-right}
+use Rattle.block.proofs.Same.{by-test, and-left, and-right}
 use Rattle.shelf.specs.declared.records.Head.{Head}
 use Rattle.shelf.specs.Records.{Record, written, stored, records, headAt}
 use Rattle.shelf.specs.Shelf.{isCurrentOf, those, hasCurrent, twoCurrent, badShelf}
 use Rattle.shelf.specs.Steps.{soundFrom, soundUpTo, InOrder}
-use Rattle.shelf.proofs.Reading.{by-test, length-written, records-empty}
+use Rattle.shelf.proofs.Reading.{length-written, records-empty}
 use Rattle.shelf.proofs.ReadsProper.{between, Turn, entry, at-end}
 use Rattle.shelf.proofs.Walks.{none-current, or-left, or-right}
 use Rattle.shelf.proofs.ReadsProper.{stored-records, records-stored, more-proper, records-proper}

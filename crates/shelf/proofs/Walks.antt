@@ -1,13 +1,13 @@
 -- What the definitions over a shelf's records say at one record, and after the last.
 use Rattle.block.proofs.Base.{_+_, ℕ, _∙_, _≡_, refl, sym, Bool, _&&_, _||_, cond, false, true, List, [], _∷_, arith}
 use Rattle.block.proofs.Base.{_≤_, _++_, not, leb, sub-zero, zero-add, take, _<_, eqb-true, eqb, ltb, lt-ltb, ne-eqb, length, length-append}
-use Rattle.block.proofs.Same.{and-left, and-right}
+use Rattle.block.proofs.Same.{by-test, and-left, and-right}
 use Rattle.shelf.specs.Records.{Record, written, stored, records, headAt}
 use Rattle.shelf.specs.declared.records.Head.{Head}
 use Rattle.shelf.specs.declared.lookup.Told.{Told}
 use Rattle.shelf.specs.Shelf.{isCurrentOf, those, hasCurrent, twoCurrent, placeOf, sizeOf, notHigher}
 use Rattle.shelf.specs.Steps.{reaches, stays, Surveyed}
-use Rattle.shelf.proofs.Reading.{by-test, length-written}
+use Rattle.shelf.proofs.Reading.{length-written}
 use Rattle.shelf.proofs.ReadsProper.{between, entry, Turn, at-end}
 
 pub or-left : (a b : Bool) → a || b ≡ false → a ≡ false

@@ -4,7 +4,7 @@ ghost use Prim.Native.Nat.{_+_, _≤_};
 ghost use lib.Dec.{ltb};
 ghost use lib.ListN.{length, take, drop};
 ghost use lib.Seq.{paste};
-ghost use Rattle.walk.specs.Walk.{over};
+ghost use Rattle.block.specs.Over.{over};
 ghost use Rattle.shelf.specs.Records.{written, stored, records};
 ghost use Rattle.shelf.specs.Shelf.{those};
 ghost use Rattle.shelf.specs.Steps.{stays, roomMade, InOrder};

@@ -4,7 +4,7 @@ use Rattle.block.specs.Below.{AreBytes}
 use Rattle.block.specs.Words.{words, unwords}
 use Rattle.block.proofs.Entries.{below-drop}
 use Rattle.block.proofs.WordsBack.{unwords-front}
-use Rattle.walk.proofs.Loop.{tailed, tail-is}
+use Rattle.block.proofs.Tails.{tailed, tail-is}
 
 -- of the IV s and the data d together, the block that ends where place `at` of d begins
 pub block-before : (s d : List ℕ) (at : ℕ) → length s ≡ 16 → 16 ≤ at → take 16 (drop at (s ++ d)) ≡ take 16 (drop (at - 16) d)

@@ -5,7 +5,7 @@ use Rattle.block.specs.Blocks.{cat}
 use Rattle.block.proofs.Cat.{cat-next, length-cat}
 use Rattle.block.proofs.WordsBack.{four-entries}
 use Rattle.lanes.proofs.Filling.{one-more, puts, puts-in, puts-out}
-use Rattle.walk.proofs.Loop.{tail-is, returned-is}
+use Rattle.block.proofs.Tails.{tail-is, returned-is}
 use Rattle.sixteen.specs.Blocks.{block, Held}
 
 -- one block more

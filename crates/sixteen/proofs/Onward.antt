@@ -2,10 +2,11 @@
 use Rattle.block.proofs.Base.{_*_, _+_, suc, zero, ℕ, _∙_, _≡_, ap, ap₂, refl, sym, List, _++_, arith, drop, length, take, drop-at}
 use Rattle.block.proofs.Base.{drop-drop, take-at}
 use Rattle.block.specs.Blocks.{blockAt}
-use Rattle.walk.specs.Walk.{Mode, chain, stepped, endState, over}
+use Rattle.block.specs.Over.{over}
+use Rattle.walk.specs.Walk.{Mode, chain, stepped, endState}
 use Rattle.walk.specs.Reached.{Reached}
 use Rattle.walk.proofs.Batch.{FedBack}
-use Rattle.walk.proofs.Loop.{tailed, tail-is, returned, returned-is}
+use Rattle.block.proofs.Tails.{tailed, tail-is, returned, returned-is}
 
 module _ (m : Mode) (s d o r p : List ℕ) (at : ℕ) (R : Reached m s d o r p at) where
   pub reached-end : endState m r (tailed at d) ≡ endState m s d

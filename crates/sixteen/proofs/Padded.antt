@@ -6,7 +6,7 @@ use Rattle.block.specs.Xor.{_⊕_, xors}
 use Rattle.block.proofs.Cat.{length-cat}
 use Rattle.block.proofs.Xors.{xors-append}
 use Rattle.lanes.proofs.Bits.{lt-or-le}
-use Rattle.walk.specs.Walk.{over}
+use Rattle.block.specs.Over.{over}
 
 -- n blocks were stored
 pub over-stored : (n : ℕ) (f : ℕ → List ℕ) (o₀ o : List ℕ) → ((i : ℕ) → i < n → length (f i) ≡ 16) → o ≡ cat n f ++ drop (16 * n) o₀

@@ -10,9 +10,10 @@ use Rattle.cipher.specs.Sm4.{encryptBlock}
 use Rattle.cipher.proofs.Blocks.{length-encryptBlock}
 use Rattle.counter.specs.Counter.{jumped}
 use Rattle.walk.specs.Reached.{Reached}
-use Rattle.walk.specs.Walk.{stepped, over}
+use Rattle.block.specs.Over.{over}
+use Rattle.walk.specs.Walk.{stepped}
 use Rattle.walk.proofs.Batch.{FedBack, gives, length-blockAt, reached-first}
-use Rattle.walk.proofs.Loop.{tail-is, returned-is}
+use Rattle.block.proofs.Tails.{tail-is, returned-is}
 use Rattle.sixteen.proofs.Onward.{states-before}
 use Rattle.sixteen.proofs.Padded.{block-of, xored-blocks}
 use Rattle.stream.specs.declared.Kind.{Kind}

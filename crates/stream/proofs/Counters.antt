@@ -12,9 +12,10 @@ use Rattle.cipher.specs.Sm4.{encryptBlock}
 use Rattle.counter.specs.Counter.{ctrNext, gcmNext, ctrJump, gcmJump, jumped}
 use Rattle.counter.proofs.JumpSteps.{no-jump, jump-on, no-gcm-jump, gcm-jump-on}
 use Rattle.walk.specs.Reached.{Reached}
-use Rattle.walk.specs.Walk.{stepped, over}
+use Rattle.block.specs.Over.{over}
+use Rattle.walk.specs.Walk.{stepped}
 use Rattle.walk.proofs.Batch.{gives}
-use Rattle.walk.proofs.Loop.{tailed, tail-is, returned}
+use Rattle.block.proofs.Tails.{tailed, tail-is, returned}
 use Rattle.stream.specs.Stream.{streamMode, counting}
 use Rattle.stream.proofs.Walks.{blocks-on}
 

@@ -4,9 +4,11 @@ use Rattle.block.specs.Blocks.{blockAt, cat}
 use Rattle.block.specs.Xor.{xors}
 use Rattle.cipher.specs.Sm4.{encryptBlock}
 use Rattle.walk.specs.Reached.{Reached}
-use Rattle.walk.specs.Walk.{chain, stepped, endState, over}
+use Rattle.block.specs.Over.{over}
+use Rattle.walk.specs.Walk.{chain, stepped, endState}
 use Rattle.walk.proofs.Batch.{gives, length-blockAt, reached-on}
-use Rattle.walk.proofs.Loop.{tailed, returned, last-state, rest-written}
+use Rattle.block.proofs.Tails.{tailed, returned}
+use Rattle.walk.proofs.Loop.{last-state, rest-written}
 use Rattle.sixteen.proofs.Onward.{reached-end, reached-over}
 use Rattle.stream.specs.declared.Kind.{Kind}
 use Rattle.stream.specs.Stream.{streamMode}

@@ -4,11 +4,13 @@ use Rattle.block.proofs.Base.{_%_, _*_, _+_, _-_, _<_, _≤_, suc, zero, ℕ, _
 use Rattle.block.proofs.Base.{drop, length, length-append, length-drop, take, drop-at, drop-drop, length-take-le, take-at}
 use Rattle.block.specs.Blocks.{blockAt, cat}
 use Rattle.block.proofs.Cat.{cat-same, cat-first, length-cat}
-use Rattle.walk.specs.Walk.{Mode, chain, stepped, endState, over}
+use Rattle.block.specs.Over.{over}
+use Rattle.walk.specs.Walk.{Mode, chain, stepped, endState}
 use Rattle.walk.specs.Reached.{Reached}
 use Rattle.walk.proofs.Chain.{chain-block}
 use Rattle.walk.proofs.Cut.{end-block}
-use Rattle.walk.proofs.Loop.{tailed, tail-is, returned, returned-is, over-append, last-state, nothing-left}
+use Rattle.block.proofs.Tails.{tailed, tail-is, returned, returned-is, over-append}
+use Rattle.walk.proofs.Loop.{last-state, nothing-left}
 
 -- what block i gives, from the state that the walk has there
 abbrev pub gives : Mode → List ℕ → List ℕ → ℕ → List ℕ

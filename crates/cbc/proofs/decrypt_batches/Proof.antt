@@ -7,7 +7,7 @@ use Rattle.block.proofs.WordsBack.{length-unwords}
 use Rattle.walk.specs.Reached.{Reached}
 use Rattle.walk.specs.Walk.{Mode}
 use Rattle.walk.proofs.Batch.{Fed, reached-first, fed-first, fed-on, fed-reached}
-use Rattle.walk.proofs.Loop.{tailed}
+use Rattle.block.proofs.Tails.{tailed}
 use Rattle.cbc.specs.Cbc.{cbcDecrypt}
 use Rattle.cbc.proofs.Batches.{decrypt-fed, decrypted}
 use Rattle.sixteen.proofs.Before.{block-before}

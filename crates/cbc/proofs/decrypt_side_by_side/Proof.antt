@@ -5,7 +5,7 @@ use Rattle.block.specs.Words.{unwords}
 use Rattle.block.proofs.WordsBack.{length-unwords}
 use Rattle.walk.specs.Reached.{Reached}
 use Rattle.walk.proofs.Batch.{reached-first, reached-on, walk-ended}
-use Rattle.walk.proofs.Loop.{tail-is}
+use Rattle.block.proofs.Tails.{tail-is}
 use Rattle.cbc.specs.Cbc.{cbcDecrypt}
 use Rattle.cbc.proofs.Batches.{fed-next, full-state}
 use Rattle.cbc.proofs.Blocks.{decrypt-block}

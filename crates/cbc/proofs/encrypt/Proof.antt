@@ -5,7 +5,8 @@ use Rattle.block.specs.Words.{unwords}
 use Rattle.block.specs.Xor.{xors}
 use Rattle.cipher.proofs.Blocks.{length-encryptBlock}
 use Rattle.walk.proofs.Batch.{reached-next}
-use Rattle.walk.proofs.Loop.{tailed, tail-is, nothing-left}
+use Rattle.block.proofs.Tails.{tailed, tail-is}
+use Rattle.walk.proofs.Loop.{nothing-left}
 use Rattle.padding.specs.Padding.{padded}
 use Rattle.padding.proofs.Filled.{length-padded, rest-padded}
 use Rattle.cbc.specs.Cbc.{cbcEncrypt, cbcSeal}

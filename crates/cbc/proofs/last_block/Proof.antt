@@ -5,7 +5,7 @@ use Rattle.block.specs.Words.{words, unwords}
 use Rattle.block.proofs.Entries.{below-each}
 use Rattle.block.proofs.WordsBack.{length-unwords}
 use Rattle.cipher.proofs.Blocks.{decrypt-turned}
-use Rattle.walk.proofs.Loop.{tailed}
+use Rattle.block.proofs.Tails.{tailed}
 use Rattle.cbc.proofs.Blocks.{last-words}
 use Rattle.cbc.proofs.last_block.Statement.{statement}
 use Rattle.cbc.proofs.last_block.Tie as tie

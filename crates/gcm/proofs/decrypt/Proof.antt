@@ -3,7 +3,7 @@
 use Rattle.block.proofs.Base.{_-_, ℕ, _∙_, _≡_, ap, sym, List, arith, needs, now, length, length-take-le}
 use Rattle.block.specs.Wide.{value}
 use Rattle.block.specs.Words.{unwords}
-use Rattle.walk.specs.Walk.{over}
+use Rattle.block.specs.Over.{over}
 use Rattle.gcm.specs.Gcm.{textOf}
 use Rattle.gcm.proofs.InWords.{text-words}
 use Rattle.gcm.proofs.Settled.{into-refused, into-opened}

@@ -6,8 +6,8 @@ use Rattle.block.specs.Words.{unwords}
 use Rattle.block.specs.Xor.{xors}
 use Rattle.block.proofs.Entries.{below-each}
 use Rattle.cipher.specs.Sm4.{encryptBlock}
-use Rattle.walk.specs.Walk.{over}
-use Rattle.walk.proofs.Loop.{tailed, length-tailed}
+use Rattle.block.specs.Over.{over}
+use Rattle.block.proofs.Tails.{tailed, length-tailed}
 use Rattle.gcm.specs.Gcm.{textOf, textPart, tagPart, maskedTag, tagOf, opensUnder}
 use Rattle.gcm.specs.Pads.{PadsFor}
 use Rattle.gcm.proofs.Settled.{into-refused, into-opened}

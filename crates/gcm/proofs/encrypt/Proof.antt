@@ -3,7 +3,7 @@
 use Rattle.block.proofs.Base.{_∙_, ap, List, ℕ, needs, now}
 use Rattle.block.specs.Wide.{value}
 use Rattle.block.specs.Words.{unwords}
-use Rattle.walk.specs.Walk.{over}
+use Rattle.block.specs.Over.{over}
 use Rattle.gcm.proofs.InWords.{text-words, sealed-written}
 use Rattle.gcm.proofs.encrypt.Statement.{statement}
 use Rattle.gcm.proofs.encrypt.Tie as tie

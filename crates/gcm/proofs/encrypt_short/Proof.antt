@@ -2,7 +2,7 @@
 use Rattle.block.proofs.Base.{_-_, _<_, ℕ, _∙_, ap, refl, List, arith, needs, now, getD, length, take}
 use Rattle.block.specs.Wide.{value}
 use Rattle.block.proofs.Entries.{below-each}
-use Rattle.walk.specs.Walk.{over}
+use Rattle.block.specs.Over.{over}
 use Rattle.gcm.specs.Gcm.{maskedTag, tagOf}
 use Rattle.gcm.proofs.InWords.{sealed-written}
 use Rattle.gcm.proofs.Short.{mask-front, text-front}

@@ -3,8 +3,8 @@ use Rattle.block.proofs.Base.{ℕ, _∙_, ap, false, List, _++_, needs, now, ta
 use Rattle.block.specs.Blocks.{cat}
 use Rattle.block.specs.Words.{unwords}
 use Rattle.counter.specs.Counter.{jumped}
-use Rattle.walk.specs.Walk.{over}
-use Rattle.walk.proofs.Loop.{tail-is, returned-is}
+use Rattle.block.specs.Over.{over}
+use Rattle.block.proofs.Tails.{tail-is, returned-is}
 use Rattle.gcm.proofs.lay_behind.Statement.{statement}
 use Rattle.gcm.proofs.lay_behind.Tie as tie
 

@@ -1,6 +1,6 @@
 -- `shelf::put` meets its contract: each refusal is the definition's, and where none is left, room is made and the record written there.
 use Rattle.block.proofs.Base.{_+_, _≤_, _∙_, _≡_, ap, refl, sym, false, arith, needs, now, le-ltb, lt-ltb, ltb, length, take}
-use Rattle.walk.proofs.Loop.{length-tailed}
+use Rattle.block.proofs.Tails.{length-tailed}
 use Rattle.shelf.specs.Records.{Record, stored, records}
 use Rattle.shelf.specs.Shelf.{collected, notHigher, badShelf}
 use Rattle.shelf.specs.Steps.{InOrder}

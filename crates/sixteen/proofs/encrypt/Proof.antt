@@ -3,7 +3,7 @@ use Rattle.block.proofs.Base.{_∙_, ap, refl, List, lt-of-lt-of-le, arith, nee
 use Rattle.block.specs.Blocks.{cat}
 use Rattle.block.specs.Words.{unwords}
 use Rattle.block.proofs.Cat.{cat-same}
-use Rattle.walk.specs.Walk.{over}
+use Rattle.block.specs.Over.{over}
 use Rattle.cipher.specs.Sm4.{encryptWords, encryptBlock}
 use Rattle.sixteen.proofs.encrypt.Statement.{statement}
 use Rattle.sixteen.proofs.encrypt.Tie as tie

@@ -1,7 +1,7 @@
 -- `sixteen::xor_bytes` meets its contract. The loop's invariant: the first i bytes are xored, and the rest of the output is as it was lent.
 use Rattle.block.proofs.Base.{_-_, _≤_, _≡_, refl, _++_, arith, drop, length, length-set, take}
 use Rattle.block.specs.Xor.{xors}
-use Rattle.walk.proofs.Fill.{xor-turn, xor-filled}
+use Rattle.block.proofs.Fill.{xor-turn, xor-filled}
 use Rattle.sixteen.proofs.xor_bytes.Statement.{statement}
 use Rattle.sixteen.proofs.xor_bytes.Tie as tie
 

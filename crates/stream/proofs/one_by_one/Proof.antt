@@ -3,7 +3,7 @@ use Rattle.block.proofs.Base.{_-_, arith, needs, now, length, take, length-take
 use Rattle.block.specs.Words.{unwords}
 use Rattle.walk.specs.Reached.{Reached}
 use Rattle.walk.proofs.Batch.{reached-first, reached-next}
-use Rattle.walk.proofs.Loop.{tailed, length-tailed}
+use Rattle.block.proofs.Tails.{tailed, length-tailed}
 use Rattle.stream.specs.Stream.{streamMode}
 use Rattle.stream.proofs.RoundTrip.{stream-block}
 use Rattle.stream.proofs.Walks.{ended}

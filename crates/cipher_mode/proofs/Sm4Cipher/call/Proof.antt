@@ -1,7 +1,7 @@
 -- `cipher_mode::Sm4Cipher::call` meets its contract: where the check refused, so does the definition; where it passed, the block was
 -- written and is sixteen bytes.
 use Rattle.block.proofs.Base.{_∙_, ap, refl, sym, needs, now}
-use Rattle.walk.specs.Outcome.{Outcome, keyed}
+use Rattle.cipher_mode.specs.Outcome.{Outcome, keyed}
 use Rattle.cipher_mode.specs.Calls.{blockOf, blockCall}
 use Rattle.cipher_mode.proofs.Passed.{block-passed}
 use Rattle.cipher_mode.proofs.Ends.{leaves, reached, length-block}

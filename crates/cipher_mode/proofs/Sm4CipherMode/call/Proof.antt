@@ -1,7 +1,7 @@
 -- `cipher_mode::Sm4CipherMode::call` meets its contract: where a check refused, so does the definition; where all passed, the work leaves
 -- what the definition goes on to.
 use Rattle.block.proofs.Base.{_∙_, ap₂, refl, sym, needs}
-use Rattle.walk.specs.Outcome.{Outcome, keyed}
+use Rattle.cipher_mode.specs.Outcome.{Outcome, keyed}
 use Rattle.cipher_mode.specs.Calls.{modeCall}
 use Rattle.cipher_mode.proofs.Passed.{message-passed}
 use Rattle.cipher_mode.proofs.Ends.{leaves}

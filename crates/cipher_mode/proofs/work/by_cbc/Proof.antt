@@ -1,8 +1,8 @@
 -- `cipher_mode::work::by_cbc` meets its contract: sealing is as long as the table says, and opening answers as `cbc::decrypt`.
 use Rattle.block.proofs.Base.{_<_, ℕ, _∙_, _≡_, ap, sym, List, arith, needs, now, getD}
 use Rattle.block.specs.Words.{unwords}
-use Rattle.walk.specs.Outcome.{Head, Outcome, leaving}
-use Rattle.walk.specs.Walk.{over}
+use Rattle.cipher_mode.specs.Outcome.{Head, Outcome, leaving}
+use Rattle.block.specs.Over.{over}
 use Rattle.cbc.specs.Cbc.{cbcSeal}
 use Rattle.cipher_mode.specs.Calls.{cbcOpen}
 use Rattle.cbc.proofs.RoundTrip.{length-cbcSeal}

@@ -3,8 +3,8 @@ use Rattle.block.proofs.Base.{_-_, _≤_, ℕ, _∙_, _≡_, ap, ap₂, refl, s
 use Rattle.counter.specs.Counter.{lastFour}
 use Rattle.counter.specs.CameRound.{blocksOf, gcmCameRound}
 use Rattle.counter.proofs.Steps.{last-four}
-use Rattle.walk.specs.Outcome.{Outcome, finished, refusal, telling, reporting}
-use Rattle.walk.specs.Walk.{over}
+use Rattle.cipher_mode.specs.Outcome.{Outcome, finished, refusal, telling, reporting}
+use Rattle.block.specs.Over.{over}
 use Rattle.gcm.specs.Gcm.{hashKey, J0, sealed}
 use Rattle.gcm.proofs.Parts.{length-sealed}
 use Rattle.cipher_mode.specs.Tables.{limit}

@@ -1,6 +1,6 @@
 -- `again::call_into` meets its contract: a mode above 4 is refused, and otherwise the call answers.
 use Rattle.block.proofs.Base.{_<_, _≤_, ℕ, _≡_, refl, false, List, arith, needs, le-ltb, lt-ltb, ltb, now}
-use Rattle.walk.specs.Outcome.{Outcome}
+use Rattle.cipher_mode.specs.Outcome.{Outcome}
 use Rattle.cipher_mode.specs.declared.CipherMode.{CipherMode}
 use Rattle.cipher_mode.specs.declared.Direction.{Direction}
 use Rattle.cipher_mode.specs.declared.Sm4Cipher.{Sm4Cipher}

@@ -2,11 +2,11 @@
 -- keys are to come.
 use Rattle.block.proofs.Base.{_+_, _-_, _≤_, ℕ, _∙_, _≡_, ap, refl, sym, List, _∷_, arith, needs, eq-eqb, le-ltb, lt-ltb, ltb-false}
 use Rattle.block.proofs.Base.{ltb-true, ne-eqb, ltb, drop, drop-of-length-le, length, length-drop, length-map}
+use Rattle.block.proofs.Same.{by-test}
 use Rattle.cipher_mode.specs.declared.Sm4Cipher.{Sm4Cipher}
 use Rattle.cipher_mode.specs.Key.{keyNumber}
 use Rattle.journal.specs.KeyList.{keysIn, placeOf, hasNumber}
 use Rattle.journal.specs.declared.keys.Keys.{Keys}
-use Rattle.journal.proofs.Cases.{by-test}
 use Rattle.journal.proofs.KeyTurns.{count-keys}
 use Rattle.journal.proofs.keys.find_from.Statement.{statement}
 use Rattle.journal.proofs.keys.find_from.Tie as tie

@@ -1,7 +1,7 @@
 -- `writer::put_asked` meets its contract: head, label, data and IV, one behind the other.
 use Rattle.block.proofs.Base.{_+_, ℕ, _∙_, _≡_, ap, List, _++_, append-assoc, arith, needs, now, length, length-append}
-use Rattle.walk.specs.Walk.{over}
-use Rattle.walk.proofs.Loop.{over-behind}
+use Rattle.block.specs.Over.{over}
+use Rattle.block.proofs.Tails.{over-behind}
 use Rattle.journal.specs.Format.{part}
 use Rattle.journal.specs.Writer.{headOf}
 use Rattle.journal.proofs.Writing.{copied-then, length-part-of, length-head}

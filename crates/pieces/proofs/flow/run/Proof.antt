@@ -2,7 +2,7 @@
 -- (`text-short`); where it does, what follows stands behind it in the output (`over-behind`).
 use Rattle.block.proofs.Base.{_-_, _∙_, _≡_, refl, arith, needs, le-ltb, lt-ltb, now, drop, length, length-drop}
 use Rattle.block.specs.Xor.{xors}
-use Rattle.walk.proofs.Loop.{tail-is, over-behind}
+use Rattle.block.proofs.Tails.{tail-is, over-behind}
 use Rattle.pieces.specs.Flow.{flowText, flowNext}
 use Rattle.pieces.proofs.Pads.{length-both}
 use Rattle.pieces.proofs.KeyStream.{text-short}

@@ -2,7 +2,7 @@
 -- were held.
 use Rattle.block.proofs.Base.{_-_, _≤_, _∙_, _≡_, sym, _++_, append-nil, arith, needs, now, drop, drop-of-length-le, getD}
 use Rattle.block.proofs.Base.{length, length-append, length-set, take, take-all, take-append-drop, length-take-le, take-at}
-use Rattle.walk.proofs.Fill.{copy-turn}
+use Rattle.block.proofs.Fill.{copy-turn}
 use Rattle.pieces.specs.Hashing.{filledUp}
 use Rattle.pieces.proofs.Filling.{at-text, filled-length, filled-at, filled-front}
 use Rattle.pieces.proofs.hashing.filled.Statement.{statement}

@@ -2,7 +2,7 @@
 -- (`full-first`), and what is held is what is begun behind them (`begun-behind`).
 use Rattle.block.proofs.Base.{_%_, _*_, _-_, _/_, _≡_, sub-zero, arith, needs, now, length}
 use Rattle.ghash.proofs.Absorbing.{absorbed-both}
-use Rattle.walk.proofs.Loop.{tail-is}
+use Rattle.block.proofs.Tails.{tail-is}
 use Rattle.pieces.specs.Hashing.{hashAfter}
 use Rattle.pieces.proofs.Begun.{begun-behind}
 use Rattle.pieces.proofs.HashOn.{full-first}

@@ -2,9 +2,10 @@
 -- text up to `at`, and the pieces to come follow one another from there to the text's end. The measure is how many are to come.
 use Rattle.block.proofs.Base.{_+_, _-_, _≤_, _∙_, _≡_, refl, sym, true, [], arith, needs, eqb-true, now, drop, getD, length}
 use Rattle.block.proofs.Base.{length-drop, length-take, take, take-all}
-use Rattle.walk.specs.Walk.{chain, over}
+use Rattle.block.specs.Over.{over}
+use Rattle.walk.specs.Walk.{chain}
 use Rattle.walk.proofs.Chain.{chain-rest}
-use Rattle.walk.proofs.Loop.{length-tailed}
+use Rattle.block.proofs.Tails.{length-tailed}
 use Rattle.stream.specs.Stream.{streamMode}
 use Rattle.stream.specs.declared.Kind.the-variants.{Ctr}
 use Rattle.ranges.proofs.Accepted.{at-most-64, from-0-to-n}

@@ -2,7 +2,7 @@
 use Rattle.block.proofs.Base.{_+_, _≤_, _≡_, _∙_, sym, arith, needs, now, set, take}
 use Rattle.block.specs.Below.{AreBytes}
 use Rattle.block.proofs.Entries.{below-each}
-use Rattle.walk.specs.Walk.{over}
+use Rattle.block.specs.Over.{over}
 use Rattle.shelf.specs.Records.{stored, records}
 use Rattle.shelf.specs.Shelf.{supersede}
 use Rattle.shelf.proofs.Putting.{made-short, made-long, marked-over, unmarked-over}

@@ -3,7 +3,7 @@ use Rattle.block.proofs.Base.{_<_, ℕ, _∙_, ap, arith, needs, now, getD, len
 use Rattle.block.specs.Words.{unwords}
 use Rattle.block.proofs.Entries.{below-each, below-drop}
 use Rattle.block.proofs.WordsBack.{unwords-front}
-use Rattle.walk.proofs.Loop.{tail-is}
+use Rattle.block.proofs.Tails.{tail-is}
 use Rattle.stream.proofs.few.block_at.Statement.{statement}
 use Rattle.stream.proofs.few.block_at.Tie as tie
 

@@ -3,7 +3,7 @@
 use Rattle.block.proofs.Base.{_*_, _/_, _≤_, _∙_, _≡_, ap, sym, true, arith, needs, now, length}
 use Rattle.block.specs.Words.{unwords}
 use Rattle.cipher.specs.Sm4.{encryptBlock}
-use Rattle.walk.proofs.Loop.{tailed, length-tailed}
+use Rattle.block.proofs.Tails.{tailed, length-tailed}
 use Rattle.stream.proofs.Ahead.{few-reached, rest-xored}
 use Rattle.stream.proofs.Walks.{ended}
 use Rattle.stream.proofs.few.last.Statement.{statement}

@@ -3,7 +3,7 @@ use Rattle.block.proofs.Base.{_-_, arith, needs, now, length}
 use Rattle.block.specs.Words.{unwords}
 use Rattle.walk.specs.Reached.{Reached}
 use Rattle.walk.proofs.Batch.{reached-first}
-use Rattle.walk.proofs.Loop.{tail-is}
+use Rattle.block.proofs.Tails.{tail-is}
 use Rattle.stream.specs.Stream.{streamMode}
 use Rattle.stream.proofs.Walks.{blocks-on, onward}
 use Rattle.stream.proofs.Ahead.{untrue}

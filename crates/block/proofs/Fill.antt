@@ -1,10 +1,10 @@
 -- A list that is written from its front, place by place.
 use Rattle.block.proofs.Base.{_+_, _<_, _≤_, suc, zero, ℕ, _∙_, _≡_, ap, refl, List, [], _++_, _∷_, append-assoc, add-one, arith, drop}
 use Rattle.block.proofs.Base.{getD, length, set, take, drop-cons, length-take-le, take-length}
 use lib.Seq.{take-suc, set-at}
 use Rattle.block.specs.Xor.{_⊕_, xors}
 use Rattle.block.proofs.Xors.{length-xors}
-use Rattle.walk.specs.Walk.{over}
+use Rattle.block.specs.Over.{over}
 
 -- p is written, and the rest is o's
 fill-turn : (p o : List ℕ) (i v : ℕ) → length p ≡ i → i < length o → set (p ++ drop i o) i v ≡ (p ++ (v ∷ [])) ++ drop (i + 1) o

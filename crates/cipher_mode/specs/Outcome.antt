@@ -4,7 +4,7 @@ use mathlib.Core.Bool.{Bool, _&&_, cond}
 use mathlib.Core.List.{List}
 use lib.Dec.{eqb}
 use lib.ListN.{length, take}
-use Rattle.walk.specs.Walk.{over}
+use Rattle.block.specs.Over.{over}
 
 -- what a call reports
 pub record Head : Type 0 where
