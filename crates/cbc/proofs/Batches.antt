@@ -5,13 +5,13 @@ use Rattle.block.proofs.Base.{take, drop-drop}
 use Rattle.block.specs.Blocks.{blockAt, cat}
 use Rattle.block.specs.Words.{words, unwords}
 use Rattle.block.specs.Xor.{xors}
-use Rattle.block.proofs.Cat.{cat-same, length-cat}
+use Rattle.block.proofs.Cat.{cat-same, length-cat, length-blockAt}
 use Rattle.block.proofs.Xors.{xors-comm}
 use Rattle.cipher.specs.Sm4.{encryptBlock, decryptBlock}
 use Rattle.cipher.proofs.Blocks.{decrypt-turned, length-encryptBlock}
 use Rattle.block.specs.Over.{over}
 use Rattle.walk.specs.Walk.{stepped}
-use Rattle.walk.proofs.Batch.{FedBack, length-blockAt}
+use Rattle.walk.proofs.Batch.{FedBack}
 use Rattle.sixteen.proofs.Before.{block-before}
 use Rattle.sixteen.proofs.Onward.{states-before}
 use Rattle.sixteen.proofs.Padded.{block-of, xored-blocks}

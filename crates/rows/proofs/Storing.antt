@@ -9,12 +9,11 @@ use Rattle.block.specs.BigEndian.{bytesOf}
 use Rattle.block.specs.Blocks.{blockAt, cat}
 use Rattle.block.specs.Words.{words, unwords}
 use Rattle.block.specs.Xor.{_⊕_, xors}
-use Rattle.block.proofs.Cat.{cat-same, cat-next, length-cat}
+use Rattle.block.proofs.Cat.{cat-same, cat-next, length-cat, length-blockAt}
 use Rattle.block.proofs.Convert.{length-bytesOf, bytesOf-append, bytesOf-xor}
 use Rattle.block.proofs.Entries.{below-at, below-drop}
 use Rattle.block.proofs.WordsBack.{unwords-front}
 use Rattle.block.proofs.Xors.{length-xors, xors-append}
-use Rattle.walk.proofs.Batch.{length-blockAt}
 use Rattle.lanes.proofs.Filling.{puts}
 use Rattle.rows.specs.Rows.{place, Row, Rows, xoredBlocks}
 

@@ -5,14 +5,14 @@ use Rattle.block.proofs.Base.{append-assoc, arith, drop, length, length-append,
 use Rattle.block.specs.Below.{AreBytes}
 use Rattle.block.specs.Blocks.{blockAt, cat}
 use Rattle.block.specs.Xor.{xors}
-use Rattle.block.proofs.Cat.{cat-same, cat-next}
+use Rattle.block.proofs.Cat.{cat-same, cat-next, length-blockAt}
 use Rattle.cipher.specs.Sm4.{encryptBlock}
 use Rattle.cipher.proofs.Blocks.{length-encryptBlock}
 use Rattle.counter.specs.Counter.{jumped}
 use Rattle.walk.specs.Reached.{Reached}
 use Rattle.block.specs.Over.{over}
 use Rattle.walk.specs.Walk.{stepped}
-use Rattle.walk.proofs.Batch.{FedBack, gives, length-blockAt, reached-first}
+use Rattle.walk.proofs.Batch.{FedBack, gives, reached-first}
 use Rattle.block.proofs.Tails.{tail-is, returned-is}
 use Rattle.sixteen.proofs.Onward.{states-before}
 use Rattle.sixteen.proofs.Padded.{block-of, xored-blocks}

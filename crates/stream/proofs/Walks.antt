@@ -6,8 +6,9 @@ use Rattle.cipher.specs.Sm4.{encryptBlock}
 use Rattle.walk.specs.Reached.{Reached}
 use Rattle.block.specs.Over.{over}
 use Rattle.walk.specs.Walk.{chain, stepped, endState}
-use Rattle.walk.proofs.Batch.{gives, length-blockAt, reached-on}
+use Rattle.walk.proofs.Batch.{gives, reached-on}
 use Rattle.block.proofs.Tails.{tailed, returned}
+use Rattle.block.proofs.Cat.{length-blockAt}
 use Rattle.walk.proofs.Loop.{last-state, rest-written}
 use Rattle.sixteen.proofs.Onward.{reached-end, reached-over}
 use Rattle.stream.specs.declared.Kind.{Kind}

@@ -3,7 +3,7 @@
 use Rattle.block.proofs.Base.{_%_, _*_, _+_, _-_, _<_, _≤_, suc, zero, ℕ, _∙_, _≡_, ap, ap₂, refl, sym, List, [], _++_, append-assoc, arith}
 use Rattle.block.proofs.Base.{drop, length, length-append, length-drop, take, drop-at, drop-drop, length-take-le, take-at}
 use Rattle.block.specs.Blocks.{blockAt, cat}
-use Rattle.block.proofs.Cat.{cat-same, cat-first, length-cat}
+use Rattle.block.proofs.Cat.{cat-same, cat-first, length-cat, length-blockAt}
 use Rattle.block.specs.Over.{over}
 use Rattle.walk.specs.Walk.{Mode, chain, stepped, endState}
 use Rattle.walk.specs.Reached.{Reached}
@@ -15,10 +15,6 @@ use Rattle.walk.proofs.Loop.{last-state, nothing-left}
 -- what block i gives, from the state that the walk has there
 abbrev pub gives : Mode → List ℕ → List ℕ → ℕ → List ℕ
 gives m s d i = m .block (stepped m i s d) (blockAt d i)
-
--- a block that stands whole in d
-pub length-blockAt : (d : List ℕ) (i n : ℕ) → i < n → 16 * n ≤ length d → length (blockAt d i) ≡ 16
-length-blockAt d i n h g = length-take-le 16 (drop (16 * i) d) (rw length-drop (omega arith))
 
 -- the same tail, one block further on
 tail-on : (d : List ℕ) (i : ℕ) → drop (16 * i) (drop 16 d) ≡ drop (16 * suc i) d

@@ -3,7 +3,7 @@ use Rattle.block.proofs.Base.{_*_, _-_, _≤_, ℕ, _∙_, _≡_, ap, refl, Lis
 use Rattle.block.specs.Blocks.{blockAt, cat}
 use Rattle.block.specs.Words.{unwords}
 use Rattle.block.proofs.WordsBack.{length-unwords}
-use Rattle.walk.proofs.Batch.{length-blockAt}
+use Rattle.block.proofs.Cat.{length-blockAt}
 use Rattle.sixteen.proofs.Blocks.{block-stored}
 use Rattle.sixteen.proofs.Padded.{over-stored}
 use Rattle.sixteen.proofs.lay_before.Statement.{statement}
