@@ -1,6 +1,6 @@
 -- The full blocks of a text and what is begun behind them, also where the text goes on.
-use Rattle.block.proofs.Base.{_%_, _*_, _+_, _-_, _/_, _≤_, ℕ, _∙_, _≡_, ap, sym, List, _++_, append-assoc, arith, drop, length, length-append, length-drop, take}
-use Rattle.block.proofs.Base.{take-append-drop, drop-append-add, length-take-le}
+use Rattle.block.proofs.Base.{_%_, _*_, _+_, _-_, _/_, _≤_, ℕ, _∙_, _≡_, ap, sym, List, _++_, append-assoc, arith, drop, length}
+use Rattle.block.proofs.Base.{length-append, length-drop, take, take-append-drop, drop-append-add, length-take-le}
 use lib.Seq.{take-append-add}
 use Rattle.pieces.specs.Hashing.{fullPart, begunPart}
 

@@ -1,5 +1,6 @@
 -- What is known where the checks of a piece or of an end passed, and that a state that stands at 0 passes.
-use Rattle.block.proofs.Base.{_+_, _≤_, ℕ, _≡_, refl, Bool, cond, false, not, true, arith, eq-eqb, eqb-true, le-ltb, ltb-false, eqb, ltb, w64, Fits}
+use Rattle.block.proofs.Base.{_+_, _≤_, ℕ, _≡_, refl, Bool, cond, false, not, true, arith, eq-eqb, eqb-true, le-ltb, ltb-false, eqb, ltb}
+use Rattle.block.proofs.Base.{w64, Fits}
 use Rattle.ghash.specs.Ghash.{Hashable}
 use Rattle.cipher_mode.specs.declared.KeyAnswer.{KeyAnswer}
 use Rattle.cipher_mode.specs.declared.CipherMode.the-variants.{Gcm}

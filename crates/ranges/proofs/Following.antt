@@ -1,7 +1,8 @@
 -- What it says of a piece that the pieces from it on follow one another to n, and that the check's test of one piece tells it.
 use Rattle.block.proofs.Base.{_%_, _+_, _-_, _<_, _≤_, ℕ, _∙_, _≡_, refl, sym, _≢_, Bool, _&&_, _||_, cond, false}
 use Rattle.block.proofs.Base.{false≢true, not, true, List, [], _∷_, add-one, arith, eq-eqb, eqb-false, eqb-true, le-leb, leb-true, ne-eqb}
-use Rattle.block.proofs.Base.{not-true, eqb, leb, drop, drop-of-length-le, getD, length, length-drop, take, drop-cons, getD-take, length-take-le}
+use Rattle.block.proofs.Base.{not-true, eqb, leb, drop, drop-of-length-le, getD, length, length-drop, take, drop-cons, getD-take}
+use Rattle.block.proofs.Base.{length-take-le}
 use Rattle.block.proofs.Same.{and-left, and-right}
 use Rattle.pieces.proofs.Cases.{by-order}
 use Rattle.ranges.specs.Plan.{isLast, follows, isPiece}

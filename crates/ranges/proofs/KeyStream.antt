@@ -1,5 +1,6 @@
 -- Ctr xors a text with key stream: the ciphers of its counters, as far as they are needed. So a range xors its stretch with that part.
-use Rattle.block.proofs.Base.{_*_, _+_, _≤_, suc, zero, ℕ, _∙_, _≡_, refl, sym, List, [], _++_, _∷_, append-nil, arith, drop, drop-of-length-le, length, length-append}
+use Rattle.block.proofs.Base.{_*_, _+_, _≤_, suc, zero, ℕ, _∙_, _≡_, refl, sym, List, [], _++_, _∷_, append-nil, arith, drop}
+use Rattle.block.proofs.Base.{drop-of-length-le, length, length-append}
 use Rattle.block.proofs.Base.{length-drop, length-replicate, replicate, take, take-append-drop, drop-at, length-take-le}
 use Rattle.block.specs.Xor.{xors}
 use Rattle.block.proofs.Xors.{xors-append, xors-comm}
