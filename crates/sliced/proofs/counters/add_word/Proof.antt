@@ -24,7 +24,7 @@ add-word-spec = tie.close (tie.spec
     let a = S .args in
     let R = c .add-row .ensures in
     let n = S .pre .0 in
-    let next = rippled-next (a .w) (l .i) _ _ _ _ _ _ _ _ (λ k h. l .inv .3 (l .i) k (omega arith) h) (at-row .row .ensures) (l .inv .4) R in
+    let next = rippled-next (a .w) (l .i) _ _ _ _ _ _ _ _ (λ k. l .inv .3 (l .i) k (omega arith)) (at-row .row .ensures) (l .inv .4) R in
     (omega arith, R .size-x, R .size-y, l .inv .3, next))
     (λ c. search needs) (λ c. search needs) (λ c. search needs) (λ c κs. search needs) (λ c. search needs) (λ c. search needs)
     (λ c.
