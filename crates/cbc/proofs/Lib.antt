@@ -1,3 +1,4 @@
+mod Names
 pub mod InWords
 pub mod Blocks
 pub mod Opens

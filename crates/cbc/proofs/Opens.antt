@@ -1,17 +1,8 @@
 -- Opening by parts: the last block decides, then the front is written, and then what the padding leaves of the last block.
-use Rattle.block.proofs.Base.{_%_, _+_, _-_, _≤_, ℕ, _∙_, _≡_, sym, List, [], _++_, _∷_, append-assoc, arith, drop, length, length-drop}
-use Rattle.block.proofs.Base.{take, take-append-drop, drop-at, drop-drop, length-take-le, take-add, take-at}
-use denote.Enum.Declared.{tagOf}
-use types.Run.{OneOf}
-use Rattle.block.specs.Over.{over}
-use Rattle.block.proofs.Tails.{tailed, returned, tail-is, returned-is}
-use Rattle.padding.specs.Padding.{unpadded, openedInto}
-use Rattle.padding.specs.declared.Opened.{Opened}
-use Rattle.padding.specs.declared.Opened.the-variants.{Done}
-use Rattle.padding.proofs.Opened.{the-type}
-use Rattle.padding.proofs.Into.{into, refusing}
-use Rattle.padding.proofs.Unpadded.{behind, unpadded-behind, unpadded-le}
-use Rattle.cbc.specs.Cbc.{cbcText}
+use Rattle.cbc.proofs.Names.{Done, List, OneOf, Opened, [], _%_, _++_, _+_, _-_, _∙_, _∷_, _≡_, _≤_, append-assoc, arith, behind}
+use Rattle.cbc.proofs.Names.{cbcText, drop, drop-at, drop-drop, into, length, length-drop, length-take-le, openedInto, over}
+use Rattle.cbc.proofs.Names.{refusing, returned, returned-is, sym, tagOf, tail-is, tailed, take, take-add, take-append-drop, take-at}
+use Rattle.cbc.proofs.Names.{the-type, unpadded, unpadded-behind, unpadded-le, ℕ}
 use Rattle.cbc.proofs.Blocks.{decrypt-front, length-decrypt}
 
 module _ (rk s d last o : List ℕ) (hs : length s ≡ 16) (full : 16 ≤ length d) (whole : length d % 16 ≡ 0)

@@ -1,20 +1,9 @@
 -- What Cbc seals, Cbc opens, for any round keys; and what sealing gives: full blocks.
-use Rattle.block.proofs.Base.{_%_, _*_, _+_, _-_, _/_, _≤_, ℕ, _∙_, _≡_, ap, refl, List, arith, length, take, take-append-seam}
-use Rattle.block.specs.Below.{AreBytes}
-use Rattle.block.specs.Xor.{xors}
-use Rattle.block.proofs.Entries.{below-append, below-replicate}
-use Rattle.block.proofs.Xors.{length-xors, xors-cancel, xors-below}
-use Rattle.cipher.proofs.Blocks.{length-encryptBlock, encryptBlock-bytes, block-decrypt-encrypt}
-use Rattle.block.specs.Over.{over}
-use Rattle.walk.specs.Walk.{chain}
-use Rattle.walk.proofs.Chain.{Any, chain-length}
-use Rattle.walk.proofs.Undo.{Undoes, undo}
-use Rattle.padding.specs.Padding.{padding, padded, unpadded, openedInto}
-use Rattle.padding.specs.declared.Opened.the-variants.{Done}
-use Rattle.padding.proofs.Filled.{length-padded}
-use Rattle.padding.proofs.Into.{into}
-use Rattle.padding.proofs.Unpadded.{padded-unpadded}
-use Rattle.cbc.specs.Cbc.{cbcEncrypt, cbcDecrypt, cbcSeal, cbcText}
+use Rattle.cbc.proofs.Names.{Any, AreBytes, Done, List, Undoes, _%_, _*_, _+_, _-_, _/_, _∙_, _≡_, _≤_, ap, arith, below-append}
+use Rattle.cbc.proofs.Names.{below-replicate, block-decrypt-encrypt, cbcDecrypt, cbcEncrypt, cbcSeal, cbcText, chain, chain-length}
+use Rattle.cbc.proofs.Names.{encryptBlock-bytes, into, length, length-encryptBlock, length-padded, length-xors, openedInto, over}
+use Rattle.cbc.proofs.Names.{padded, padded-unpadded, padding, refl, take, take-append-seam, undo, unpadded, xors, xors-below}
+use Rattle.cbc.proofs.Names.{xors-cancel, ℕ}
 use Rattle.cbc.proofs.Blocks.{Sixteen, Whole, Text, whole-front, whole-back, whole-short, whole-empty, text-front, text-back}
 
 pub padded-bytes : (d : List ℕ) → AreBytes d → AreBytes (padded d)

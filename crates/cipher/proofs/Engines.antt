@@ -1,10 +1,8 @@
 -- The engine that is lent: its length tells which it is. The plain one is the S-box, whose bytes are laid out as words one by
 -- one.
-use Rattle.block.proofs.Base.{_+_, _<_, ℕ, _∙_, _≡_, ap, refl, sym, inl, inr, Bool, cond, false, true, List, [], add-one}
-use Rattle.block.proofs.Base.{arith, eq-eqb, ne-eqb, eqb, getD, length, set, take, take-all, take-suc-set}
-use lib.Seq.{take-suc}
-use Rattle.cipher.specs.Sm4.{sboxTable}
-use Rattle.cipher.specs.Engine.{mixedFrom, mixedTable, Engine, tableOf, LaidOut}
+use Rattle.cipher.proofs.Names.{Bool, Engine, LaidOut, List, [], _+_, _<_, _∙_, _≡_, add-one, ap, arith, cond, eq-eqb, eqb, false}
+use Rattle.cipher.proofs.Names.{getD, inl, inr, length, mixedFrom, mixedTable, ne-eqb, refl, sboxTable, set, sym, tableOf, take}
+use Rattle.cipher.proofs.Names.{take-all, take-suc, take-suc-set, true, ℕ}
 
 pub length-sbox : length sboxTable ≡ 256
 unfolding sboxTable

@@ -1,12 +1,8 @@
 -- The four bytes of a word in lanes 0, 8, 16 and 24 of eight words: how they are laid there, and how they are read off.
-use Rattle.block.proofs.Base.{_%_, _*_, _+_, _/_, _<_, _^_, suc, zero, ℕ, _∙_, _≡_, ap, refl, sym, List, [], _∷_, add-comm, div-one}
-use Rattle.block.proofs.Base.{mod-eq-of-lt, mod-lt, arith, and-block, and-mask, and-zero-r, bitAnd, lit<, getD, pow-pos, shr-shr}
-use Rattle.block.proofs.Base.{split}
-use Rattle.lanes.specs.Bits.{bit, pack, byteLane}
-use Rattle.lanes.proofs.Bits.{bit-small, bit-mod, bit-shr, pack-lt, pack-is}
-use Rattle.circuit.specs.Sbox.{SboxLanes}
-use Rattle.cipher.specs.Sm4.{Sbox, tau}
-use Rattle.cipher.specs.Gates.{fourLanes, fourBytes}
+use Rattle.cipher.proofs.Names.{List, Sbox, SboxLanes, [], _%_, _*_, _+_, _/_, _<_, _^_, _∙_, _∷_, _≡_, add-comm, and-block}
+use Rattle.cipher.proofs.Names.{and-mask, and-zero-r, ap, arith, bit, bit-mod, bit-shr, bit-small, bitAnd, byteLane, div-one}
+use Rattle.cipher.proofs.Names.{fourBytes, fourLanes, getD, lit<, mod-eq-of-lt, mod-lt, pack, pack-is, pack-lt, pow-pos, refl}
+use Rattle.cipher.proofs.Names.{shr-shr, split, suc, sym, tau, zero, ℕ}
 use Rattle.cipher.proofs.FourTables.{tau-bytes}
 
 -- a mask whose lowest byte is 1

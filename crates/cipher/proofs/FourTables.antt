@@ -1,11 +1,8 @@
 -- T of a word is one entry of each of the four tables, xored: tau's four bytes stand at places of their own, so their sum is their
 -- xor, and L distributes over it.
-use Rattle.block.proofs.Base.{_%_, _*_, _+_, _-_, _/_, _<_, _^_, ℕ, _∙_, _≡_, ap, ap₂, refl, sym, add-zero, zero-add}
-use Rattle.block.proofs.Base.{arith, bitXor, xor-shifted, getD, split}
-use Rattle.block.specs.BigEndian.{numberOf, bytesOf}
-use Rattle.block.specs.Xor.{_⊕_}
-use Rattle.cipher.specs.Sm4.{Sbox, tau, L, T}
-use Rattle.cipher.specs.Engine.{mixed, mixedFrom, mixedTable}
+use Rattle.cipher.proofs.Names.{L, Sbox, T, _%_, _*_, _+_, _-_, _/_, _<_, _^_, _∙_, _≡_, _⊕_, add-zero, ap, ap₂, arith, bitXor}
+use Rattle.cipher.proofs.Names.{bytesOf, getD, mixed, mixedFrom, mixedTable, numberOf, refl, split, sym, tau, xor-shifted, zero-add}
+use Rattle.cipher.proofs.Names.{ℕ}
 use Rattle.cipher.proofs.Tables.{sbox-byte, from-at}
 use Rattle.cipher.proofs.Linear.{L-xor}
 

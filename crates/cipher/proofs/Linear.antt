@@ -1,9 +1,6 @@
 -- L distributes over xor: each of its rotations does, since a rotation is two digits that change places.
-use Rattle.block.proofs.Base.{_%_, _*_, _+_, _-_, _/_, _<_, _^_, ℕ, _∙_, _≡_, ap, ap₂, refl, sym, arith, bitXor, xor-block, xor-mod}
-use Rattle.block.proofs.Base.{xor-shr, shr-lt}
-use Rattle.block.specs.Xor.{_⊕_}
-use Rattle.block.proofs.Xor.{xor-swap}
-use Rattle.cipher.specs.Sm4.{rotl, L}
+use Rattle.cipher.proofs.Names.{L, _%_, _*_, _+_, _-_, _/_, _<_, _^_, _∙_, _≡_, _⊕_, ap, ap₂, arith, bitXor, refl, rotl, shr-lt, sym}
+use Rattle.cipher.proofs.Names.{xor-block, xor-mod, xor-shr, xor-swap, ℕ}
 use Rattle.cipher.proofs.Rotation.{shl-mod}
 
 -- what stands below bit 32 - n goes up by n, the rest comes down

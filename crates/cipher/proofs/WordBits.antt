@@ -1,11 +1,7 @@
 -- The bits of a rotated word, of L and of tau.
-use Rattle.block.proofs.Base.{_%_, _*_, _+_, _-_, _/_, _<_, _^_, _≤_, suc, zero, ℕ, _∙_, _≡_, ap, sym, ⊎-elim, List, add-comm, arith}
-use Rattle.block.proofs.Base.{differ, getD, shr-lt}
-use Rattle.block.specs.Xor.{_⊕_}
-use Rattle.block.specs.BigEndian.{bytesOf}
-use Rattle.lanes.specs.Bits.{bit}
-use Rattle.lanes.proofs.Bits.{bit-xor, bit-low, bit-high, bit-mod, bit-shr, lt-or-le}
-use Rattle.cipher.specs.Sm4.{Sbox, tau, rotl, L}
+use Rattle.cipher.proofs.Names.{L, List, Sbox, _%_, _*_, _+_, _-_, _/_, _<_, _^_, _∙_, _≡_, _≤_, _⊕_, add-comm, ap, arith, bit}
+use Rattle.cipher.proofs.Names.{bit-high, bit-low, bit-mod, bit-shr, bit-xor, bytesOf, differ, getD, lt-or-le, rotl, shr-lt, suc}
+use Rattle.cipher.proofs.Names.{sym, tau, zero, ℕ, ⊎-elim}
 use Rattle.cipher.proofs.Linear.{rotl-digits}
 use Rattle.cipher.proofs.Bounds.{tau-entries}
 

@@ -1,21 +1,9 @@
 -- The code is the definitions: H, J0, the tag, and a sealed message written in two parts.
-use Rattle.block.proofs.Base.{_-_, ℕ, _∙_, _≡_, ap, refl, List, [], _++_, _∷_, sub-zero, lit<, drop, length, take, take-at}
-use Rattle.block.specs.Below.{AreBytes}
-use Rattle.block.specs.BigEndian.{numberOf, bytesOf}
-use Rattle.block.specs.Words.{wordAt, words, unwords}
-use Rattle.block.specs.Xor.{xors}
-use Rattle.block.proofs.WordsBack.{length-words, unwords-twelve, unwords-number, unwords-xors}
-use Rattle.cipher.specs.Sm4.{encryptWords}
-use Rattle.cipher.proofs.Blocks.{encrypt-unwords}
-use Rattle.ghash.specs.Ghash.{ghash, authBlocks}
-use Rattle.ghash.proofs.IvBlocks.{iv-blocks}
-use Rattle.block.specs.Over.{over}
-use Rattle.walk.specs.Walk.{chain}
-use Rattle.block.proofs.Tails.{tailed, returned, over-behind}
-use Rattle.stream.specs.Stream.{streamMode}
-use Rattle.stream.specs.declared.Kind.the-variants.{Gctr}
-use Rattle.counter.specs.Counter.{gcmNext}
-use Rattle.gcm.specs.Gcm.{hashKey, nonceCounter, hashedCounter, textOf, maskedTag, tagOf, sealed}
+use Rattle.gcm.proofs.Names.{AreBytes, Gctr, List, [], _++_, _-_, _∙_, _∷_, _≡_, ap, authBlocks, bytesOf, chain, drop}
+use Rattle.gcm.proofs.Names.{encrypt-unwords, encryptWords, gcmNext, ghash, hashKey, hashedCounter, iv-blocks, length, length-words}
+use Rattle.gcm.proofs.Names.{lit<, maskedTag, nonceCounter, numberOf, over, over-behind, refl, returned, sealed, streamMode}
+use Rattle.gcm.proofs.Names.{sub-zero, tagOf, tailed, take, take-at, textOf, unwords, unwords-number, unwords-twelve, unwords-xors}
+use Rattle.gcm.proofs.Names.{wordAt, words, xors, ℕ}
 use Rattle.gcm.proofs.Parts.{length-text, length-tag}
 
 pub hash-key-words : (rk x : List ℕ) (n : ℕ) → x ≡ encryptWords rk (0 ∷ 0 ∷ 0 ∷ 0 ∷ []) → n ≡ numberOf (unwords x) → n ≡ hashKey rk

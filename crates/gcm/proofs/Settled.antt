@@ -1,7 +1,6 @@
 -- What opening leaves, by the test that decides; and how long the text is.
-use Rattle.block.proofs.Base.{_-_, _∙_, ℕ, _≡_, false, true, List, arith, length, length-take-le}
-use Rattle.block.specs.Over.{over}
-use Rattle.gcm.specs.Gcm.{textPart, textOf, opensUnder, textInto}
+use Rattle.gcm.proofs.Names.{List, _-_, _∙_, _≡_, arith, false, length, length-take-le, opensUnder, over, textInto, textOf, textPart}
+use Rattle.gcm.proofs.Names.{true, ℕ}
 use Rattle.gcm.proofs.Parts.{length-text}
 
 module _ (rk : List ℕ) (h : ℕ) (j label s o : List ℕ) where

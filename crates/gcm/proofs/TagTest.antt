@@ -1,12 +1,7 @@
 -- Two blocks of four words are the same where the sum of their four xors is 0, and so the code settles a tag.
-use Rattle.block.proofs.Base.{_+_, ℕ, _∙_, _≡_, ap, ap₂, refl, sym, List, _∷_, arith, eq-eqb, eqb-true, xor-self, eqb, getD, length}
-use Rattle.block.specs.Below.{AreBytes, AreWords}
-use Rattle.block.specs.Words.{words, unwords}
-use Rattle.block.specs.Xor.{_⊕_, xors}
-use Rattle.block.proofs.Xor.{xor-same}
-use Rattle.block.proofs.WordsBack.{four-entries, xors-four, words-unwords, unwords-words, length-words, words-below}
-use Rattle.block.specs.Same.{same}
-use Rattle.block.proofs.Same.{same-refl, same-equal, test-iff}
+use Rattle.gcm.proofs.Names.{AreBytes, AreWords, List, _+_, _∙_, _∷_, _≡_, _⊕_, ap, ap₂, arith, eq-eqb, eqb, eqb-true, four-entries}
+use Rattle.gcm.proofs.Names.{getD, length, length-words, refl, same, same-equal, same-refl, sym, test-iff, unwords, unwords-words}
+use Rattle.gcm.proofs.Names.{words, words-below, words-unwords, xor-same, xor-self, xors, xors-four, ℕ}
 
 xor-none : (a b : ℕ) → a ⊕ b ≡ 0 → a ≡ b
 xor-none a b e = xor-same a b b (e ∙ sym (xor-self b))

@@ -1,15 +1,6 @@
 -- The hash state over bytes: one step after the other, along the rest of a list.
-use Rattle.block.proofs.Base.{_*_, _-_, _≤_, ℕ, _∙_, _≡_, sym, List, [], _++_, _∷_, drop}
-use Rattle.block.proofs.Base.{length, take}
-use Rattle.block.specs.declared.U128.{U128}
-use Rattle.block.specs.Wide.{value}
-use Rattle.block.specs.Xor.{_⊕_}
-use Rattle.carryless.specs.Lent.{PartsOf}
-use Rattle.field.specs.Field.{gmul}
-use Rattle.ghash.specs.declared.Ghash.{Ghash}
-use Rattle.ghash.specs.Ghash.{blocks, lengthBlock, authBlocks, hashFrom, ghash}
-use Rattle.ghash.specs.Absorbed.{Absorbed}
-use Rattle.ghash.specs.Sets.{upTo, blockNumber}
+use Rattle.ghash.proofs.Names.{Absorbed, Ghash, List, PartsOf, U128, [], _*_, _++_, _-_, _∙_, _∷_, _≡_, _≤_, _⊕_, authBlocks}
+use Rattle.ghash.proofs.Names.{blockNumber, blocks, drop, ghash, gmul, hashFrom, length, lengthBlock, sym, take, upTo, value, ℕ}
 use Rattle.ghash.proofs.Blocks.{lent-all}
 use Rattle.ghash.proofs.Join.{hash-append}
 use Rattle.ghash.proofs.Sets.{blocks-cut}

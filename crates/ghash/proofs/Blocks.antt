@@ -1,18 +1,10 @@
 -- Bytes as blocks: block by block, joined at a block's end, and with one more zero byte.
-use Rattle.block.proofs.Base.{_%_, _*_, _+_, _-_, _/_, _<_, _≤_, suc, zero, ℕ, _∙_, _≡_, ap, ap₂, refl, sym, _≢_, List, []}
-use Rattle.block.proofs.Base.{_++_, _∷_, append-assoc, le-of-eq, arith, lit<, drop, drop-of-length-le, getD, length}
-use Rattle.block.proofs.Base.{length-append, length-drop, replicate, take, drop-append-le, drop-drop, getD-take, take-append-drop}
-use Rattle.block.proofs.Base.{length-take, length-take-le, take-all, take-append-le, take-at}
-use lib.Seq.{ext-getD, getD-drop}
-use Rattle.block.specs.Below.{AreBytes}
-use Rattle.block.specs.BigEndian.{numberOf}
-use Rattle.block.specs.Words.{words, unwords}
-use Rattle.block.proofs.Entries.{below-take, below-append, below-replicate}
-use Rattle.block.proofs.Convert.{numberOf-lt, numberOf-same}
-use Rattle.block.proofs.WordsBack.{words-same, words-take, unwords-words}
-use Rattle.field.specs.Field.{Element}
-use Rattle.ghash.specs.Ghash.{blockOf, blocksFrom, blockCount, blocks}
-use Rattle.ghash.specs.Sets.{upTo, blockNumber}
+use Rattle.ghash.proofs.Names.{AreBytes, Element, List, [], _%_, _*_, _++_, _+_, _-_, _/_, _<_, _∙_, _∷_, _≡_, _≢_, _≤_, ap}
+use Rattle.ghash.proofs.Names.{append-assoc, ap₂, arith, below-append, below-replicate, below-take, blockCount, blockNumber, blockOf}
+use Rattle.ghash.proofs.Names.{blocks, blocksFrom, drop, drop-append-le, drop-drop, drop-of-length-le, ext-getD, getD, getD-drop}
+use Rattle.ghash.proofs.Names.{getD-take, le-of-eq, length, length-append, length-drop, length-take, length-take-le, lit<, numberOf}
+use Rattle.ghash.proofs.Names.{numberOf-lt, numberOf-same, refl, replicate, suc, sym, take, take-all, take-append-drop}
+use Rattle.ghash.proofs.Names.{take-append-le, take-at, unwords, unwords-words, upTo, words, words-same, words-take, zero, ℕ}
 
 -- the zeros after a list read like its end
 pub getD-zeros : (n i : ℕ) → _≡_ {A = ℕ} (getD (replicate n 0) i 0) 0

@@ -1,13 +1,9 @@
 -- For H other than 0 the hash of a label and a text changes with a change inside one block of either, and with one
 -- zero byte more at the end of either, which the length block tells.
-use Rattle.block.proofs.Base.{_%_, _*_, _+_, _-_, _<_, ℕ, _∙_, _≡_, ap, refl, sym, _≢_, ⊎-elim, List, [], _++_, _∷_, append-assoc}
-use Rattle.block.proofs.Base.{eq-zero-or-pos, arith, drop, length, length-append, length-drop, take, take-append-drop, drop-drop}
-use Rattle.block.proofs.Base.{length-take-le, take-all}
-use Rattle.block.specs.Below.{AreBytes}
-use Rattle.block.proofs.Entries.{below-drop}
-use Rattle.field.specs.Field.{Element}
-use Rattle.ghash.specs.Ghash.{Hashable, blockOf, blocks, lengthBlock, authBlocks, ghash}
-use Rattle.ghash.specs.OneBlock.{OneBlock}
+use Rattle.ghash.proofs.Names.{AreBytes, Element, Hashable, List, OneBlock, [], _%_, _*_, _++_, _+_, _-_, _<_, _∙_, _∷_, _≡_, _≢_}
+use Rattle.ghash.proofs.Names.{ap, append-assoc, arith, authBlocks, below-drop, blockOf, blocks, drop, drop-drop, eq-zero-or-pos}
+use Rattle.ghash.proofs.Names.{ghash, length, length-append, length-drop, length-take-le, lengthBlock, refl, sym, take, take-all}
+use Rattle.ghash.proofs.Names.{take-append-drop, ℕ, ⊎-elim}
 use Rattle.ghash.proofs.Blocks.{blockOf-lt, blockOf-same, blocks-at, blocks-append, blocks-zero, parts-same}
 use Rattle.ghash.proofs.Lengths.{lengthBlock-lt, lengthBlock-same}
 use Rattle.ghash.proofs.OneChanged.{one-changed}

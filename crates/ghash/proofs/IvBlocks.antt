@@ -1,7 +1,5 @@
 -- What is hashed for no label and an IV of sixteen bytes: the IV, and then the number 128.
-use Rattle.block.proofs.Base.{ℕ, _≡_, refl, List, [], _∷_, length}
-use Rattle.block.specs.BigEndian.{numberOf, bytesOf}
-use Rattle.ghash.specs.Ghash.{lengthBlock, authBlocks}
+use Rattle.ghash.proofs.Names.{List, [], _∷_, _≡_, authBlocks, bytesOf, length, lengthBlock, numberOf, refl, ℕ}
 use Rattle.ghash.proofs.Blocks.{blocks-nil, blocks-full}
 
 lengthBlock-iv : lengthBlock 0 16 ≡ 128

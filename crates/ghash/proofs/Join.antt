@@ -1,12 +1,6 @@
 -- The hash of two lists joined: the first's hash times H to the second's block count, xored with the second's hash.
-use Rattle.block.proofs.Base.{ℕ, _∙_, _≡_, ap, refl, sym, List, [], _++_, _∷_, xor-zero-r, lit<, arith, length}
-use Rattle.block.specs.Xor.{_⊕_, xors}
-use Rattle.block.proofs.Xor.{xor-assoc, xor-swap}
-use Rattle.field.specs.Field.{Element, gmul, gpow}
-use Rattle.field.proofs.Bounded.{gmul-lt, gpow-lt}
-use Rattle.field.proofs.Distributes.{xor-gmul}
-use Rattle.field.proofs.Commutes.{gmul-one, gmul-assoc}
-use Rattle.ghash.specs.Ghash.{hashFrom, ghash}
+use Rattle.ghash.proofs.Names.{Element, List, [], _++_, _∙_, _∷_, _≡_, _⊕_, ap, arith, ghash, gmul, gmul-assoc, gmul-lt, gmul-one}
+use Rattle.ghash.proofs.Names.{gpow, gpow-lt, hashFrom, length, lit<, refl, sym, xor-assoc, xor-gmul, xor-swap, xor-zero-r, xors, ℕ}
 
 pub hash-append : (h y : ℕ) (xs bs : List ℕ) → hashFrom h y (xs ++ bs) ≡ hashFrom h (hashFrom h y xs) bs
 unfolding hashFrom

@@ -1,14 +1,7 @@
 -- Two halves of bytes, of which the first is whole blocks: their hashes joined are the hash of both. So a label's hash, joined to what is
 -- kept of a text's blocks, is the hash of label and text. Either half may be empty.
-use Rattle.block.proofs.Base.{_*_, ℕ, _∙_, _≡_, sym, List, [], _++_, _∷_, append-assoc, length}
-use Rattle.block.specs.Wide.{value}
-use Rattle.block.specs.Xor.{_⊕_}
-use Rattle.field.specs.Field.{Element, gmul}
-use Rattle.ghash.specs.declared.Ghash.{Ghash}
-use Rattle.ghash.specs.declared.halves.Half.{Half}
-use Rattle.ghash.specs.Ghash.{blockCount, blocks, lengthBlock, authBlocks, ghash}
-use Rattle.ghash.specs.Absorbed.{Absorbed}
-use Rattle.ghash.specs.Joined.{joined, HalfOf}
+use Rattle.ghash.proofs.Names.{Absorbed, Element, Ghash, Half, HalfOf, List, [], _*_, _++_, _∙_, _∷_, _≡_, _⊕_, append-assoc}
+use Rattle.ghash.proofs.Names.{authBlocks, blockCount, blocks, ghash, gmul, joined, length, lengthBlock, sym, value, ℕ}
 use Rattle.ghash.proofs.Blocks.{length-blocks, blocks-append}
 use Rattle.ghash.proofs.Join.{hash-append, ghash-join}
 

@@ -1,11 +1,7 @@
 -- The length block: it is two halves of 64 bits where the lengths in bits fit them, and then it tells the lengths.
-use Rattle.block.proofs.Base.{_%_, _*_, _<_, _^_, ℕ, _∙_, _≡_, ap₂, sym, mod-eq-of-lt, mod-lt, arith, digits-div, digits-lt}
-use Rattle.block.proofs.Base.{digits-mod, lit<}
-use Rattle.block.specs.BigEndian.{bytesOf}
-use Rattle.block.specs.Wide.{whole}
-use Rattle.block.proofs.Convert.{length-bytesOf, numberOf-bytesOf, numberOf-append}
-use Rattle.field.specs.Field.{Element}
-use Rattle.ghash.specs.Ghash.{Hashable, lengthBlock}
+use Rattle.ghash.proofs.Names.{Element, Hashable, _%_, _*_, _<_, _^_, _∙_, _≡_, ap₂, arith, bytesOf, digits-div, digits-lt}
+use Rattle.ghash.proofs.Names.{digits-mod, length-bytesOf, lengthBlock, lit<, mod-eq-of-lt, mod-lt, numberOf-append}
+use Rattle.ghash.proofs.Names.{numberOf-bytesOf, sym, whole, ℕ}
 
 halves : (a t : ℕ) → lengthBlock a t ≡ whole (8 * a % 2 ^ 64) (8 * t % 2 ^ 64)
 unfolding lengthBlock

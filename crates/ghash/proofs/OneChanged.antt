@@ -1,12 +1,6 @@
 -- For H other than 0, changing exactly one block of a list changes the hash.
-use Rattle.block.proofs.Base.{ℕ, _∙_, _≡_, sym, _≢_, ⊎-elim, List, [], _++_, _∷_, xor-comm, xor-lt, xor-self}
-use Rattle.block.specs.Xor.{_⊕_}
-use Rattle.block.proofs.Xor.{xor-same, xor-meet}
-use Rattle.field.specs.Field.{Element, gmul}
-use Rattle.field.proofs.Bounded.{gmul-lt}
-use Rattle.field.proofs.Distributes.{xor-gmul}
-use Rattle.field.proofs.Inverse.{zero-product}
-use Rattle.ghash.specs.Ghash.{hashFrom, ghash}
+use Rattle.ghash.proofs.Names.{Element, List, [], _++_, _∙_, _∷_, _≡_, _≢_, _⊕_, ghash, gmul, gmul-lt, hashFrom, sym, xor-comm}
+use Rattle.ghash.proofs.Names.{xor-gmul, xor-lt, xor-meet, xor-same, xor-self, zero-product, ℕ, ⊎-elim}
 use Rattle.ghash.proofs.Join.{hash-append}
 
 module _ (h : ℕ) (hh : Element h) (nz : h ≢ 0) where

@@ -1,22 +1,11 @@
 -- Interleaved hashes, joined at the end, are one hash. For lists of one length n, and from 0 on: the hash of sums is the sum of the
 -- hashes, and the hash of multiples the multiple of the hash. So blocks Z times H to the n, with blocks C added, hash as C does from the
 -- hash of Z on.
-use Rattle.block.proofs.Base.{_*_, _+_, _-_, _<_, _≤_, suc, zero, ℕ, _∙_, _≡_, ap, ap₂, refl, sym, ⊎-elim, List, [], _++_, _∷_}
-use Rattle.block.proofs.Base.{add-zero, suc-add, zero-add, arith, xor-lt, xor-zero-r, lit<, drop, length, length-drop, replicate, set, take}
-use Rattle.block.proofs.Base.{drop-drop}
-use Rattle.block.specs.Below.{AreBytes}
-use Rattle.block.specs.BigEndian.{numberOf}
-use Rattle.block.specs.Wide.{whole}
-use Rattle.block.specs.Words.{words, unwords}
-use Rattle.block.specs.Xor.{_⊕_, xors}
-use Rattle.block.proofs.Entries.{below-drop}
-use Rattle.carryless.specs.Lanes.{lane}
-use Rattle.field.specs.Field.{Element, gmul, gpow}
-use Rattle.field.proofs.Bounded.{gmul-lt, gpow-lt}
-use Rattle.field.proofs.Distributes.{xor-gmul, zero-gmul}
-use Rattle.field.proofs.Commutes.{gmul-comm, gmul-assoc}
-use Rattle.ghash.specs.Ghash.{blockCount, blocks, hashFrom, ghash}
-use Rattle.ghash.specs.Sets.{LaneCount, upTo, blockNumber, Starts, Hashed}
+use Rattle.ghash.proofs.Names.{AreBytes, Element, Hashed, LaneCount, List, Starts, [], _*_, _++_, _+_, _-_, _<_, _∙_, _∷_, _≡_, _≤_}
+use Rattle.ghash.proofs.Names.{_⊕_, add-zero, ap, ap₂, arith, below-drop, blockCount, blockNumber, blocks, drop, drop-drop, ghash}
+use Rattle.ghash.proofs.Names.{gmul, gmul-assoc, gmul-comm, gmul-lt, gpow, gpow-lt, hashFrom, lane, length, length-drop, lit<}
+use Rattle.ghash.proofs.Names.{numberOf, refl, replicate, set, suc, suc-add, sym, take, unwords, upTo, whole, words, xor-gmul}
+use Rattle.ghash.proofs.Names.{xor-lt, xor-zero-r, xors, zero, zero-add, zero-gmul, ℕ, ⊎-elim}
 use Rattle.ghash.proofs.Blocks.{length-upTo, blocks-upTo, getD-zeros, blockOf-words, lent-all}
 use Rattle.ghash.proofs.Join.{hash-append, hash-xors, ghash-lt, hashFrom-start}
 

@@ -1,8 +1,7 @@
 -- The full blocks of a text and what is begun behind them, also where the text goes on.
-use Rattle.block.proofs.Base.{_%_, _*_, _+_, _-_, _/_, _≤_, ℕ, _∙_, _≡_, ap, sym, List, _++_, append-assoc, arith, drop, length}
-use Rattle.block.proofs.Base.{length-append, length-drop, take, take-append-drop, drop-append-add, length-take-le}
-use lib.Seq.{take-append-add}
-use Rattle.pieces.specs.Hashing.{fullPart, begunPart}
+use Rattle.pieces.proofs.Names.{List, _%_, _*_, _++_, _+_, _-_, _/_, _∙_, _≡_, _≤_, ap, append-assoc, arith, begunPart, drop}
+use Rattle.pieces.proofs.Names.{drop-append-add, fullPart, length, length-append, length-drop, length-take-le, sym, take}
+use Rattle.pieces.proofs.Names.{take-append-add, take-append-drop, ℕ}
 
 pub full-length : (c : List ℕ) → length (fullPart c) ≡ 16 * (length c / 16)
 full-length c = length-take-le (16 * (length c / 16)) c (omega arith)

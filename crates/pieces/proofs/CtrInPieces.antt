@@ -1,22 +1,8 @@
 -- Ctr in pieces, cut anywhere, is the single call's: what the pieces give is what their join gives.
-use Rattle.block.proofs.Base.{_+_, _≤_, ℕ, _≡_, List, [], _++_, add-zero, arith, drop, length, length-append}
-use Rattle.counter.specs.CameRound.{blocksOf, ctrCameRound}
-use Rattle.cipher_mode.specs.Outcome.{finished, under, telling}
-use Rattle.block.specs.Over.{over}
-use Rattle.walk.specs.Walk.{chain}
-use Rattle.stream.specs.Stream.{streamMode}
-use Rattle.stream.specs.declared.Kind.the-variants.{Ctr as Ctr·kind}
-use Rattle.cipher_mode.specs.declared.CipherMode.the-variants.{Ctr as Ctr·mode}
-use Rattle.cipher_mode.specs.declared.Direction.{Direction}
-use Rattle.cipher_mode.specs.declared.Sm4Cipher.{Sm4Cipher}
-use Rattle.cipher_mode.specs.declared.checks.Checked.the-variants.{Passed}
-use Rattle.cipher_mode.specs.Key.{keyNumber}
-use Rattle.cipher_mode.specs.Checks.{keyAndIv}
-use Rattle.cipher_mode.specs.Tables.{limit}
-use Rattle.pieces.specs.declared.flow.Counting.the-variants.{Ctr as Ctr·counting}
-use Rattle.pieces.specs.declared.ctr.Ctr.{Ctr}
-use Rattle.pieces.specs.States.{ctrAfter, ctrShut}
-use Rattle.pieces.specs.Calls.{ended, ctrStart, ctrPiece, ctrEnd}
+use Rattle.pieces.proofs.Names.{Ctr, Ctr·counting, Ctr·kind, Ctr·mode, Direction, List, Passed, Sm4Cipher, [], _++_, _+_, _≡_, _≤_}
+use Rattle.pieces.proofs.Names.{add-zero, arith, blocksOf, chain, ctrAfter, ctrCameRound, ctrEnd, ctrPiece, ctrShut, ctrStart, drop}
+use Rattle.pieces.proofs.Names.{ended, finished, keyAndIv, keyNumber, length, length-append, limit, over, streamMode, telling, under}
+use Rattle.pieces.proofs.Names.{ℕ}
 use Rattle.pieces.proofs.KeyStream.{flow-on, text-behind, text-joined}
 use Rattle.pieces.proofs.Passing.{running-passes, writing-passes}
 use Rattle.pieces.proofs.Stepping.{step}

@@ -1,9 +1,7 @@
 -- A block filled from what is held and from the text behind it, zeros to its end.
-use Rattle.block.proofs.Base.{_+_, _-_, _<_, _≤_, ℕ, _∙_, _≡_, List, _++_, append-assoc, arith, drop, getD, length, length-append}
-use Rattle.block.proofs.Base.{replicate, take, take-append-drop, getD-take, length-take-le, take-append-le}
-use lib.Seq.{getD-append-add, take-take}
-use Rattle.ghash.proofs.Blocks.{getD-before-zeros}
-use Rattle.pieces.specs.Hashing.{filledUp}
+use Rattle.pieces.proofs.Names.{List, _++_, _+_, _-_, _<_, _∙_, _≡_, _≤_, append-assoc, arith, drop, filledUp, getD, getD-append-add}
+use Rattle.pieces.proofs.Names.{getD-before-zeros, getD-take, length, length-append, length-take-le, replicate, take}
+use Rattle.pieces.proofs.Names.{take-append-drop, take-append-le, take-take, ℕ}
 use Rattle.pieces.proofs.Begun.{take-through}
 
 -- from place p on the bytes are those of the text

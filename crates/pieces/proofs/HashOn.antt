@@ -1,15 +1,8 @@
 -- The hash cut anywhere: from the hash after a text, what is behind it goes on as in the whole.
-use Rattle.block.proofs.Base.{_%_, _*_, _/_, _<_, ℕ, _∙_, _≡_, ap, sym, List, [], _++_, _∷_, append-assoc, mod-eq-of-lt, mod-lt}
-use Rattle.block.proofs.Base.{arith, lit<, length, take, take-all}
-use Rattle.block.specs.Below.{AreBytes}
-use Rattle.block.specs.BigEndian.{numberOf, bytesOf}
-use Rattle.block.proofs.Convert.{bytesOf-numberOf, numberOf-bytesOf}
-use Rattle.field.specs.Field.{Element}
-use Rattle.ghash.specs.Ghash.{blocks, lengthBlock, authBlocks, hashFrom, ghash}
-use Rattle.ghash.proofs.Blocks.{blocks-nil, blocks-append}
-use Rattle.ghash.proofs.Join.{hash-append, hashFrom-lt, ghash-lt}
-use Rattle.pieces.specs.declared.hashing.Hashing.{Hashing}
-use Rattle.pieces.specs.Hashing.{fullPart, begunPart, filledUp, hashAfter, hashOf, hashNext, hashEnd}
+use Rattle.pieces.proofs.Names.{AreBytes, Element, Hashing, List, [], _%_, _*_, _++_, _/_, _<_, _∙_, _∷_, _≡_, ap, append-assoc}
+use Rattle.pieces.proofs.Names.{arith, authBlocks, begunPart, blocks, blocks-append, blocks-nil, bytesOf, bytesOf-numberOf, filledUp}
+use Rattle.pieces.proofs.Names.{fullPart, ghash, ghash-lt, hash-append, hashAfter, hashEnd, hashFrom, hashFrom-lt, hashNext, hashOf}
+use Rattle.pieces.proofs.Names.{length, lengthBlock, lit<, mod-eq-of-lt, mod-lt, numberOf, numberOf-bytesOf, sym, take, take-all, ℕ}
 use Rattle.pieces.proofs.Filling.{filled-front}
 use Rattle.pieces.proofs.Begun.{full-length, begun-length, both-parts, parts-behind, full-behind, begun-behind}
 

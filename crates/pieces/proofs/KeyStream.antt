@@ -1,18 +1,10 @@
 -- Key stream cut anywhere: from the flow after a text, what is behind it goes on as in the whole.
-use Rattle.block.proofs.Base.{_%_, _-_, _<_, ℕ, _∙_, _≡_, ap, refl, sym, List, [], _++_, append-assoc, append-nil, arith, le-ltb, lt-ltb}
-use Rattle.block.proofs.Base.{drop, drop-at, drop-of-length-le, length, length-append, length-drop, take}
-use Rattle.block.specs.Xor.{xors}
-use Rattle.cipher.specs.Sm4.{encryptBlock}
-use Rattle.cipher.proofs.Blocks.{length-encryptBlock}
-use Rattle.walk.specs.Walk.{Mode, chain, endState}
-use Rattle.walk.proofs.Chain.{chain-rest, chain-block}
-use Rattle.walk.proofs.Cut.{end-rest, end-block, end-cut, chain-cut}
-use Rattle.stream.proofs.RoundTrip.{length-stream}
-use Rattle.pieces.specs.declared.flow.Counting.{Counting}
-use Rattle.pieces.specs.declared.flow.Counting.the-variants.{Ctr, Gcm}
-use Rattle.pieces.specs.declared.flow.Flow.{Flow}
-use Rattle.pieces.specs.Flow.{kindOf, nextCounter, flowMode, flowAt, flowAfter, flowText, flowNext}
-use Rattle.pieces.specs.Hashing.{fullPart, begunPart}
+use Rattle.pieces.proofs.Names.{Counting, Flow, Gcm, List, Mode, [], _%_, _++_, _-_, _<_, _∙_, _≡_, ap, append-assoc, append-nil}
+use Rattle.pieces.proofs.Names.{arith, begunPart, chain, chain-block, chain-cut, chain-rest, drop, drop-at, drop-of-length-le}
+use Rattle.pieces.proofs.Names.{encryptBlock, end-block, end-cut, end-rest, endState, flowAfter, flowAt, flowMode, flowNext}
+use Rattle.pieces.proofs.Names.{flowText, fullPart, kindOf, le-ltb, length, length-append, length-drop, length-encryptBlock}
+use Rattle.pieces.proofs.Names.{length-stream, lt-ltb, nextCounter, refl, sym, take, xors, ℕ}
+use Rattle.pieces.specs.declared.flow.Counting.the-variants.{Ctr}
 use Rattle.pieces.proofs.Cases.{by-order}
 use Rattle.pieces.proofs.Pads.{xors-front, xors-cut, length-both}
 use Rattle.pieces.proofs.Begun.{full-length, begun-length, both-parts, parts-behind, take-through, drop-through}

@@ -1,11 +1,7 @@
 -- A text xored with a pad that is shorter or longer: as far as both go, in two parts, and byte by byte.
-use Rattle.block.proofs.Base.{_+_, _-_, _<_, _≤_, min, suc, zero, ℕ, _∙_, _≡_, ap, ap₂, refl, sym, List, [], _++_, _∷_, arith, drop, getD}
-use Rattle.block.proofs.Base.{length, length-drop, set, take, take-all, take-append-drop, drop-at, take-at}
-use Rattle.block.proofs.Xors.{xors-comm}
-use lib.Seq.{getD-drop}
-use Rattle.block.specs.Xor.{_⊕_, xors}
-use Rattle.block.specs.Over.{over}
-use Rattle.block.proofs.Fill.{xor-turn}
+use Rattle.pieces.proofs.Names.{List, [], _++_, _+_, _-_, _<_, _∙_, _∷_, _≡_, _≤_, _⊕_, ap, ap₂, arith, drop, drop-at, getD}
+use Rattle.pieces.proofs.Names.{getD-drop, length, length-drop, min, over, refl, set, suc, sym, take, take-all, take-append-drop}
+use Rattle.pieces.proofs.Names.{take-at, xor-turn, xors, xors-comm, zero, ℕ}
 
 -- a part of what is xored is that part of both
 pub take-xors : (n : ℕ) (a p : List ℕ) → take n (xors a p) ≡ xors (take n a) p

@@ -1,23 +1,8 @@
 -- Sealing in pieces, cut anywhere, is the single call's: what the pieces give is the ciphertext of their join, and the end its tag.
-use Rattle.block.proofs.Base.{_%_, _+_, _≤_, ℕ, _≡_, sym, List, [], _++_, add-zero, drop, length, length-append}
-use Rattle.counter.specs.Counter.{gcmNext}
-use Rattle.cipher_mode.specs.Outcome.{finished, under, telling}
-use Rattle.block.specs.Over.{over}
-use Rattle.gcm.specs.Gcm.{hashKey, J0, textOf, tagOf}
-use Rattle.gcm.proofs.HashKey.{hashKey-lt}
-use Rattle.gcm.proofs.Parts.{length-text}
-use Rattle.cipher_mode.specs.declared.Direction.the-variants.{Encrypt}
-use Rattle.cipher_mode.specs.declared.Sm4Cipher.{Sm4Cipher}
-use Rattle.cipher_mode.specs.declared.checks.Checked.the-variants.{Passed}
-use Rattle.cipher_mode.specs.Key.{keyNumber}
-use Rattle.cipher_mode.specs.Tables.{limit}
-use Rattle.cipher_mode.specs.Calls.{gcmRound}
-use Rattle.pieces.specs.declared.flow.Counting.the-variants.{Gcm as Gcm·counting}
-use Rattle.pieces.specs.declared.seal.Seal.{Seal}
-use Rattle.pieces.specs.Flow.{flowAfter, flowText}
-use Rattle.pieces.specs.Checks.{gcmStarting}
-use Rattle.pieces.specs.States.{sealAfter, sealShut}
-use Rattle.pieces.specs.Calls.{ended, sealStart, sealPiece, sealEnd}
+use Rattle.pieces.proofs.Names.{Encrypt, Gcm·counting, J0, List, Passed, Seal, Sm4Cipher, [], _%_, _++_, _+_, _≡_, _≤_, add-zero}
+use Rattle.pieces.proofs.Names.{drop, ended, finished, flowAfter, flowText, gcmNext, gcmRound, gcmStarting, hashKey, hashKey-lt}
+use Rattle.pieces.proofs.Names.{keyNumber, length, length-append, length-text, limit, over, sealAfter, sealEnd, sealPiece, sealShut}
+use Rattle.pieces.proofs.Names.{sealStart, sym, tagOf, telling, textOf, under, ℕ}
 use Rattle.pieces.proofs.KeyStream.{flow-on, text-on, text-behind}
 use Rattle.pieces.proofs.HashOn.{hash-on-of, hash-ends-of}
 use Rattle.pieces.proofs.Passing.{writing-passes}

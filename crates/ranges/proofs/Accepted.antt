@@ -1,10 +1,6 @@
 -- What is known of a plan that is accepted, and that no sum wraps in the check.
-use Rattle.block.proofs.Base.{_+_, _≤_, ℕ, _≡_, refl, sym, false, false≢true, true, List, [], _∷_, arith, eqb-true, leb-true, leb, length}
-use Rattle.block.proofs.Base.{take, length-take}
-use Rattle.block.proofs.Same.{and-left, and-right}
-use Rattle.pieces.proofs.Cases.{by-order}
-use Rattle.ranges.specs.Plan.{follows, accepts}
-use Rattle.ranges.specs.declared.plan.Plan.{Plan}
+use Rattle.ranges.proofs.Names.{List, Plan, [], _+_, _∷_, _≡_, _≤_, accepts, and-left, and-right, arith, by-order, eqb-true, false}
+use Rattle.ranges.proofs.Names.{false≢true, follows, leb, leb-true, length, length-take, refl, sym, take, true, ℕ}
 use Rattle.ranges.proofs.Following.{first-piece, follows-on}
 
 as-many : (at n : ℕ) (ss ls : List ℕ) → follows at n ss ls ≡ true → length ss ≤ length ls

@@ -1,20 +1,9 @@
 -- The shares of a text may be done in any order: what stands in the output is the same. Those of an accepted plan give the single call's
 -- bytes.
-use Rattle.block.proofs.Base.{_+_, _-_, _≤_, min, ℕ, _∙_, _≡_, ap, refl, sym, false≢true, true, List, [], _∷_, arith, eqb-true}
-use Rattle.block.proofs.Base.{drop, length, length-drop, length-take, take}
-use mathlib.Core.HLevel.{hedberg}
-use mathlib.Core.List.{foldr, Perm, Perm·foldr-eq, List·isSet}
-use native.Mathlib.Decide.{ℕ-discrete}
-use Rattle.block.specs.Over.{over}
-use Rattle.walk.specs.Walk.{chain}
-use Rattle.stream.specs.Stream.{streamMode}
-use Rattle.stream.specs.declared.Kind.the-variants.{Ctr as Ctr·kind}
-use Rattle.stream.proofs.RoundTrip.{length-stream}
-use Rattle.pieces.proofs.Pads.{take-xors, drop-xors}
-use Rattle.ranges.specs.declared.plan.Plan.{Plan}
-use Rattle.ranges.specs.Plan.{follows, accepts}
-use Rattle.ranges.specs.Range.{stretch}
-use Rattle.ranges.specs.Shares.{Share, shares, sharesOf, shareOf, worked, allWorked}
+use Rattle.ranges.proofs.Names.{Ctr·kind, List, List·isSet, Perm, Perm·foldr-eq, Plan, Share, [], _+_, _-_, _∙_, _∷_, _≡_, _≤_}
+use Rattle.ranges.proofs.Names.{accepts, allWorked, ap, arith, chain, drop, drop-xors, eqb-true, false≢true, foldr, follows, hedberg}
+use Rattle.ranges.proofs.Names.{length, length-drop, length-stream, length-take, min, over, refl, shareOf, shares, sharesOf}
+use Rattle.ranges.proofs.Names.{streamMode, stretch, sym, take, take-xors, true, worked, ℕ, ℕ-discrete}
 use Rattle.ranges.proofs.Accepted.{from-0-to-n}
 use Rattle.ranges.proofs.Following.{first-piece}
 use Rattle.ranges.proofs.KeyStream.{pads, chain-pads, stretch-pads}

@@ -1,9 +1,7 @@
 -- A range applied to a text xors key stream into it there, and leaves the rest; so two of them give the same in either order, overlapping
 -- or not.
-use Rattle.block.proofs.Base.{_≤_, suc, zero, ℕ, _≡_, refl, List, [], _∷_, arith, xor-comm, length}
-use Rattle.block.specs.Xor.{_⊕_, xors}
-use Rattle.block.proofs.Xor.{xor-assoc}
-use Rattle.ranges.specs.Shares.{Share, applied}
+use Rattle.ranges.proofs.Names.{List, Share, [], _∷_, _≡_, _≤_, _⊕_, applied, arith, length, refl, suc, xor-assoc, xor-comm, xors}
+use Rattle.ranges.proofs.Names.{zero, ℕ}
 use Rattle.ranges.proofs.KeyStream.{pads, chain-pads}
 use Rattle.ranges.proofs.Copied.{copied, zipped, length-zipped, zips-commute}
 use Rattle.ranges.proofs.AnyOrder.{worker-copies}

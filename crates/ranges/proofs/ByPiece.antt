@@ -1,9 +1,6 @@
 -- The check accepts a plan exactly when the plan reads, piece by piece, as it should.
-use Rattle.block.proofs.Base.{_+_, _<_, suc, zero, ℕ, _∙_, _≡_, refl, sym, true, Bool, add-one, arith, eq-eqb, eqb-true}
-use Rattle.block.proofs.Base.{le-leb, ne-eqb, drop, getD, length, take}
-use Rattle.ranges.specs.Plan.{follows, accepts}
-use Rattle.ranges.specs.Reading.{Piece, Reading}
-use Rattle.ranges.specs.declared.plan.Plan.{Plan}
+use Rattle.ranges.proofs.Names.{Bool, Piece, Plan, Reading, _+_, _<_, _∙_, _≡_, accepts, add-one, arith, drop, eq-eqb, eqb-true}
+use Rattle.ranges.proofs.Names.{follows, getD, le-leb, length, ne-eqb, refl, suc, sym, take, true, zero, ℕ}
 use Rattle.ranges.proofs.Accepted.{at-most-64, from-0-to-n, no-pieces, in-arrays}
 use Rattle.ranges.proofs.Following.{First, followsFrom, turn, follows-on, not-yet-last, last-or-whole, ends}
 

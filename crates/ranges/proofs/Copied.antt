@@ -1,10 +1,7 @@
 -- Stretches of one list put into another: in any order, overlapping or not, the same comes of it, and stretches that are copied and
 -- follow one another are one.
-use Rattle.block.proofs.Base.{_+_, _≤_, suc, zero, ℕ, _∙_, _≡_, ap, refl, List, [], _++_, _∷_, add-zero, arith, drop, getD, length, take}
-use Rattle.block.proofs.Base.{take-append-drop, take-nil}
-use lib.Seq.{drop-nil}
-use Rattle.block.specs.Over.{over}
-use Rattle.ranges.specs.Shares.{laidAt}
+use Rattle.ranges.proofs.Names.{List, [], _++_, _+_, _∙_, _∷_, _≡_, _≤_, add-zero, ap, arith, drop, drop-nil, getD, laidAt, length}
+use Rattle.ranges.proofs.Names.{over, refl, suc, take, take-append-drop, take-nil, zero, ℕ}
 
 -- u with n bytes from `at` on put through f with those of t, as far as both go
 unfoldable pub zipped : (ℕ → ℕ → ℕ) → ℕ → ℕ → List ℕ → List ℕ → List ℕ

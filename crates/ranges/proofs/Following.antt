@@ -1,11 +1,8 @@
 -- What it says of a piece that the pieces from it on follow one another to n, and that the check's test of one piece tells it.
-use Rattle.block.proofs.Base.{_%_, _+_, _-_, _<_, _≤_, ℕ, _∙_, _≡_, refl, sym, _≢_, Bool, _&&_, _||_, cond, false}
-use Rattle.block.proofs.Base.{false≢true, not, true, List, [], _∷_, add-one, arith, eq-eqb, eqb-false, eqb-true, le-leb, leb-true, ne-eqb}
-use Rattle.block.proofs.Base.{not-true, eqb, leb, drop, drop-of-length-le, getD, length, length-drop, take, drop-cons, getD-take}
-use Rattle.block.proofs.Base.{length-take-le}
-use Rattle.block.proofs.Same.{and-left, and-right}
-use Rattle.pieces.proofs.Cases.{by-order}
-use Rattle.ranges.specs.Plan.{isLast, follows, isPiece}
+use Rattle.ranges.proofs.Names.{Bool, List, [], _%_, _&&_, _+_, _-_, _<_, _||_, _∙_, _∷_, _≡_, _≢_, _≤_, add-one, and-left}
+use Rattle.ranges.proofs.Names.{and-right, arith, by-order, cond, drop, drop-cons, drop-of-length-le, eq-eqb, eqb, eqb-false}
+use Rattle.ranges.proofs.Names.{eqb-true, false, false≢true, follows, getD, getD-take, isLast, isPiece, le-leb, leb, leb-true}
+use Rattle.ranges.proofs.Names.{length, length-drop, length-take-le, ne-eqb, not, not-true, refl, sym, take, true, ℕ}
 
 -- the first of pieces that follow one another from `at` to n
 pub record First (at n s l : ℕ) (ss ls : List ℕ) : Type 0 where

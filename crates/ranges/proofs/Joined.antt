@@ -1,13 +1,6 @@
 -- A piece written behind what came before it gives what the single call gives of both.
-use Rattle.block.proofs.Base.{_+_, _≤_, ℕ, _∙_, _≡_, List, _++_, drop, length, take, length-take-le, take-add}
-use Rattle.block.specs.Over.{over}
-use Rattle.walk.specs.Walk.{chain}
-use Rattle.block.proofs.Tails.{tailed, returned, over-behind}
-use Rattle.stream.specs.Stream.{streamMode}
-use Rattle.stream.specs.declared.Kind.the-variants.{Ctr as Ctr·kind}
-use Rattle.stream.proofs.RoundTrip.{length-stream}
-use Rattle.pieces.proofs.CtrInPieces.{ctr-joined}
-use Rattle.ranges.specs.Range.{stretch}
+use Rattle.ranges.proofs.Names.{Ctr·kind, List, _++_, _+_, _∙_, _≡_, _≤_, chain, ctr-joined, drop, length, length-stream}
+use Rattle.ranges.proofs.Names.{length-take-le, over, over-behind, returned, streamMode, stretch, tailed, take, take-add, ℕ}
 use Rattle.ranges.proofs.KeyStream.{stretch-of-whole}
 
 -- the text d up to `at`, and then the stretch of n bytes there

@@ -1,19 +1,9 @@
 -- The flow at a counter that is jumped to goes on as the whole does: the counters of Ctr do not depend on the text, so the one behind
 -- `offset` zeros is the jump's.
-use Rattle.block.proofs.Base.{_%_, _/_, suc, zero, ℕ, _∙_, _≡_, sym, List, _++_, arith, drop, length, length-append, length-drop}
-use Rattle.block.proofs.Base.{length-replicate, replicate}
-use Rattle.block.specs.Below.{AreBytes}
-use Rattle.block.proofs.Convert.{length-bytesOf, bytesOf-bytes}
-use Rattle.counter.specs.Counter.{ctrJump, ctrNext}
-use Rattle.counter.proofs.JumpSteps.{no-jump, jump-on}
-use Rattle.walk.specs.Walk.{stepped, endState}
-use Rattle.stream.specs.Stream.{streamMode}
-use Rattle.stream.specs.declared.Kind.the-variants.{Ctr as Ctr·kind}
-use Rattle.stream.proofs.RoundTrip.{length-stream}
-use Rattle.pieces.specs.declared.flow.Counting.the-variants.{Ctr as Ctr·counting}
-use Rattle.pieces.specs.Flow.{flowAt, flowAfter, flowText}
-use Rattle.pieces.proofs.KeyStream.{text-behind}
-use Rattle.ranges.specs.Range.{stretch}
+use Rattle.ranges.proofs.Names.{AreBytes, Ctr·counting, Ctr·kind, List, _%_, _++_, _/_, _∙_, _≡_, arith, bytesOf-bytes, ctrJump}
+use Rattle.ranges.proofs.Names.{ctrNext, drop, endState, flowAfter, flowAt, flowText, jump-on, length, length-append, length-bytesOf}
+use Rattle.ranges.proofs.Names.{length-drop, length-replicate, length-stream, no-jump, replicate, stepped, streamMode, stretch, suc}
+use Rattle.ranges.proofs.Names.{sym, text-behind, zero, ℕ}
 
 -- n steps of Ctr's walk are a jump
 ctr-stepped : (rk : List ℕ) (n : ℕ) (s d : List ℕ) → length s ≡ 16 → AreBytes s → stepped (streamMode Ctr·kind rk) n s d ≡ ctrJump s n

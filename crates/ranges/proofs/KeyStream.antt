@@ -1,19 +1,9 @@
 -- Ctr xors a text with key stream: the ciphers of its counters, as far as they are needed. So a range xors its stretch with that part.
-use Rattle.block.proofs.Base.{_*_, _+_, _≤_, suc, zero, ℕ, _∙_, _≡_, refl, sym, List, [], _++_, _∷_, append-nil, arith, drop}
-use Rattle.block.proofs.Base.{drop-of-length-le, length, length-append}
-use Rattle.block.proofs.Base.{length-drop, length-replicate, replicate, take, take-append-drop, drop-at, length-take-le}
-use Rattle.block.specs.Xor.{xors}
-use Rattle.block.proofs.Xors.{xors-append, xors-comm}
-use Rattle.cipher.specs.Sm4.{encryptBlock}
-use Rattle.cipher.proofs.Blocks.{length-encryptBlock}
-use Rattle.counter.specs.Counter.{ctrNext}
-use Rattle.walk.specs.Walk.{chain}
-use Rattle.walk.proofs.Chain.{chain-rest, chain-block}
-use Rattle.stream.specs.Stream.{streamMode}
-use Rattle.stream.specs.declared.Kind.the-variants.{Ctr as Ctr·kind}
-use Rattle.pieces.proofs.Cases.{by-order}
-use Rattle.pieces.proofs.Pads.{drop-xors, xors-cut}
-use Rattle.ranges.specs.Range.{stretch}
+use Rattle.ranges.proofs.Names.{Ctr·kind, List, [], _*_, _++_, _+_, _∙_, _∷_, _≡_, _≤_, append-nil, arith, by-order, chain}
+use Rattle.ranges.proofs.Names.{chain-block, chain-rest, ctrNext, drop, drop-at, drop-of-length-le, drop-xors, encryptBlock, length}
+use Rattle.ranges.proofs.Names.{length-append, length-drop, length-encryptBlock, length-replicate, length-take-le, refl, replicate}
+use Rattle.ranges.proofs.Names.{streamMode, stretch, suc, sym, take, take-append-drop, xors, xors-append, xors-comm, xors-cut, zero}
+use Rattle.ranges.proofs.Names.{ℕ}
 
 -- the ciphers of j counters from s on
 unfoldable pub pads : List ℕ → ℕ → List ℕ → List ℕ

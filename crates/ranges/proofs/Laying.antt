@@ -1,9 +1,7 @@
 -- One more place of a plan, stored in the arrays and counted, and all 64.
-use Rattle.block.proofs.Base.{_+_, _-_, _<_, _≤_, suc, ℕ, _≡_, List, _++_, append-assoc, append-nil, add-one, add-zero, arith, length}
-use Rattle.block.proofs.Base.{set, take, take-all, take-suc-set}
-use native.Mathlib.Nat.{add-assoc}
-use Rattle.ranges.specs.declared.plan.Plan.{Plan}
-use Rattle.ranges.specs.Plan.{begins, startAt, lengthAt, countFrom, startsFrom, lengthsFrom}
+use Rattle.ranges.proofs.Names.{List, Plan, _++_, _+_, _-_, _<_, _≡_, _≤_, add-assoc, add-one, add-zero, append-assoc, append-nil}
+use Rattle.ranges.proofs.Names.{arith, begins, countFrom, length, lengthAt, lengthsFrom, set, startAt, startsFrom, suc, take}
+use Rattle.ranges.proofs.Names.{take-all, take-suc-set, ℕ}
 
 -- the places before place i, which is at byte `at`, and those still to come
 abbrev pub laid : ℕ → ℕ → ℕ → List ℕ → List ℕ → ℕ → ℕ → Plan

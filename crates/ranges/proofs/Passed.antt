@@ -1,12 +1,7 @@
 -- What is known where a range goes on to its work.
-use Rattle.block.proofs.Base.{_+_, _≤_, ℕ, _≡_, Bool, le-ltb, ltb-false, ltb}
-use Rattle.cipher_mode.specs.declared.KeyAnswer.{KeyAnswer}
+use Rattle.ranges.proofs.Names.{Bool, Direction, KeyAnswer, Passed, _+_, _≡_, _≤_, both, key-and-iv-passed, keyAndIv, le-ltb}
+use Rattle.ranges.proofs.Names.{let-through, ltb, ltb-false, rangeCheck, reachCheck, sixteen, ℕ}
 use Rattle.cipher_mode.specs.declared.CipherMode.the-variants.{Ctr}
-use Rattle.cipher_mode.specs.declared.Direction.{Direction}
-use Rattle.cipher_mode.specs.declared.checks.Checked.the-variants.{Passed}
-use Rattle.cipher_mode.specs.Checks.{keyAndIv}
-use Rattle.cipher_mode.proofs.Passed.{let-through, sixteen, both, key-and-iv-passed}
-use Rattle.ranges.specs.Range.{reachCheck, rangeCheck}
 
 module _ (a : KeyAnswer) (retired : Bool) (dir : Direction) (iv : ℕ) where
   -- the IV of a stretch that is reached is a block

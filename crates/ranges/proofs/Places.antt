@@ -1,7 +1,6 @@
 -- The places of a plan past its pieces hold 0.
-use Rattle.block.proofs.Base.{_+_, _-_, _≤_, suc, zero, ℕ, _≡_, refl, arith, le-ltb, getD}
-use Rattle.pieces.proofs.Cases.{by-order}
-use Rattle.ranges.specs.Plan.{pieceSize, countFrom, startsFrom, lengthsFrom, planOf}
+use Rattle.ranges.proofs.Names.{_+_, _-_, _≡_, _≤_, arith, by-order, countFrom, getD, le-ltb, lengthsFrom, pieceSize, planOf, refl}
+use Rattle.ranges.proofs.Names.{startsFrom, suc, zero, ℕ}
 use Rattle.ranges.proofs.OwnPlans.{before}
 
 -- n bytes in pieces of `size`

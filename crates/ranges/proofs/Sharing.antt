@@ -1,11 +1,7 @@
 -- A piece's size: the workers' pieces hold all the bytes, each is whole blocks, none is empty unless all are, and none is too long
 -- for its place to be reckoned.
-use Rattle.block.proofs.Base.{_%_, _*_, _+_, _-_, _/_, _≤_, ℕ, _≡_, div-le-self, mod-lt, arith}
-use native.Mathlib.Nat.{div-add-mod, mul-left-comm, mul-mod-right}
-use Rattle.counter.specs.CameRound.{blocksOf}
-use Rattle.cipher_mode.specs.Tables.{limit}
-use Rattle.pieces.proofs.Cases.{by-order}
-use Rattle.ranges.specs.Plan.{pieceSize}
+use Rattle.ranges.proofs.Names.{_%_, _*_, _+_, _-_, _/_, _≡_, _≤_, arith, blocksOf, by-order, div-add-mod, div-le-self, limit}
+use Rattle.ranges.proofs.Names.{mod-lt, mul-left-comm, mul-mod-right, pieceSize, ℕ}
 
 module _ (n w : ℕ) where
   abbrev share : ℕ

@@ -1,12 +1,8 @@
 -- Blocks put into four rows, and stored one after the other.
-use Rattle.block.proofs.Base.{_*_, _+_, _-_, _<_, _≤_, ℕ, _∙_, _≡_, ap, ap₂, refl, sym, ⊎-elim, List, _++_, _∷_, append-assoc, arith, drop}
-use Rattle.block.proofs.Base.{add-comm, add-zero, lit<, getD, length, set, take, drop-at, drop-drop, getD-set-other, getD-set-same, take-at}
-use Rattle.block.specs.Blocks.{cat}
-use Rattle.block.proofs.Cat.{cat-next, length-cat}
-use Rattle.block.proofs.WordsBack.{four-entries}
-use Rattle.lanes.proofs.Filling.{one-more, puts, puts-in, puts-out}
-use Rattle.block.proofs.Tails.{tail-is, returned-is}
-use Rattle.sixteen.specs.Blocks.{block, Held}
+use Rattle.sixteen.proofs.Names.{Held, List, _*_, _++_, _+_, _-_, _<_, _∙_, _∷_, _≡_, _≤_, add-comm, add-zero, ap, append-assoc, ap₂}
+use Rattle.sixteen.proofs.Names.{arith, block, cat, cat-next, drop, drop-at, drop-drop, four-entries, getD, getD-set-other}
+use Rattle.sixteen.proofs.Names.{getD-set-same, length, length-cat, lit<, one-more, puts, puts-in, puts-out, refl, returned-is, set}
+use Rattle.sixteen.proofs.Names.{sym, tail-is, take, take-at, ℕ, ⊎-elim}
 
 -- one block more
 module _ (f : ℕ → List ℕ) (i : ℕ) (w x : List ℕ) (hi : i < 64) (lx : length x ≡ 256) (four : length w ≡ 4) (e : f i ≡ w) where

@@ -1,3 +1,4 @@
+mod Names
 pub mod Stages
 pub mod Bytes
 pub mod Filling

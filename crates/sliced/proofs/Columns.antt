@@ -1,15 +1,9 @@
 -- The S-boxes of a byte, column by column.
-use Rattle.block.proofs.Base.{_%_, _*_, _+_, _-_, _/_, _<_, _^_, _≤_, suc, zero, ℕ, _∙_, _≡_, ap, ap₂, refl, sym, _⊎_, inl, inr, ⊎-elim}
-use Rattle.block.proofs.Base.{List, [], _∷_, add-zero, mod-eq-of-lt, mod-lt, arith, lit<, getD, length, length-set, set, getD-set-other}
-use Rattle.block.proofs.Base.{getD-set-same}
-use Rattle.block.specs.Xor.{_⊕_}
-use Rattle.lanes.specs.Bits.{bit, pack, byteLane, Masks}
-use Rattle.lanes.proofs.Bits.{bit-small, bit-xor, bit-mod, bit-shr, bit-pack, pack-is, lt-or-le}
-use Rattle.lanes.proofs.Filling.{one-more, each8, puts, puts-in, puts-out}
-use Rattle.circuit.specs.Sbox.{Sbox, SboxLanes}
-use Rattle.cipher.proofs.WordBits.{tau-bit}
-use Rattle.sliced.specs.Lanes.{lane, Held}
-use Rattle.sliced.specs.Round.{keyed, subbed, summed, column}
+use Rattle.sliced.proofs.Names.{Held, List, Masks, Sbox, SboxLanes, [], _%_, _*_, _+_, _-_, _/_, _<_, _^_, _∙_, _∷_, _≡_, _≤_, _⊎_}
+use Rattle.sliced.proofs.Names.{_⊕_, add-zero, ap, ap₂, arith, bit, bit-mod, bit-pack, bit-shr, bit-small, bit-xor, byteLane, column}
+use Rattle.sliced.proofs.Names.{each8, getD, getD-set-other, getD-set-same, inl, inr, keyed, lane, length, length-set, lit<}
+use Rattle.sliced.proofs.Names.{lt-or-le, mod-eq-of-lt, mod-lt, one-more, pack, pack-is, puts, puts-in, puts-out, refl, set, subbed}
+use Rattle.sliced.proofs.Names.{suc, summed, sym, tau-bit, zero, ℕ, ⊎-elim}
 use Rattle.sliced.proofs.Held.{held-lane}
 
 -- the first eight entries

@@ -1,18 +1,9 @@
 -- The words of a counter with carries between them are the words of its sum.
-use Rattle.block.proofs.Base.{_%_, _*_, _+_, _/_, _<_, _^_, ℕ, _∙_, _≡_, ap, ap₂, refl, sym, Bool, false, true, List, [], _∷_, arith}
-use Rattle.block.proofs.Base.{digits-div, digits-mod, mod-mul, lit<, getD}
-use Rattle.block.specs.Below.{AreWords}
-use Rattle.block.specs.BigEndian.{numberOf, bytesOf}
-use Rattle.block.specs.Words.{words, unwords}
-use Rattle.block.proofs.Convert.{bytesOf-numberOf}
-use Rattle.block.proofs.Entries.{below-at}
-use Rattle.block.proofs.WordsBack.{length-unwords, unwords-bytes, numberOf-unwords, words-unwords}
-use Rattle.counter.specs.Counter.{ctrJump, gcmJump, jumped}
-use Rattle.counter.proofs.Steps.{gcm-jump-words}
-use Rattle.lanes.proofs.Bits.{bit-zero, bit-small, pack-is}
-use Rattle.lanes.specs.Bits.{bit, Blank}
-use Rattle.sliced.specs.Lanes.{lane, lanes}
-use Rattle.sliced.specs.Counting.{carryAt, Added, Kept}
+use Rattle.sliced.proofs.Names.{Added, AreWords, Blank, Bool, Kept, List, [], _%_, _*_, _+_, _/_, _<_, _^_, _∙_, _∷_, _≡_, ap, ap₂}
+use Rattle.sliced.proofs.Names.{arith, below-at, bit, bit-small, bit-zero, bytesOf, bytesOf-numberOf, carryAt, ctrJump, digits-div}
+use Rattle.sliced.proofs.Names.{digits-mod, false, gcm-jump-words, gcmJump, getD, jumped, lane, lanes, length-unwords, lit<, mod-mul}
+use Rattle.sliced.proofs.Names.{numberOf, numberOf-unwords, pack-is, refl, sym, true, unwords, unwords-bytes, words, words-unwords}
+use Rattle.sliced.proofs.Names.{ℕ}
 use Rattle.sliced.proofs.Held.{lane-lt, lane-is, lanes-words}
 
 -- nothing in a lane, and no carry

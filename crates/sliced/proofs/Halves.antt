@@ -1,16 +1,8 @@
 -- Transposed halves of blocks are lanes, and lanes transposed are halves of blocks.
-use Rattle.block.proofs.Base.{_%_, _*_, _+_, _/_, _<_, _^_, _≤_, ℕ, _∙_, _≡_, ap, ap₂, refl, subst, sym, List, [], _∷_, add-zero, mod-lt}
-use Rattle.block.proofs.Base.{arith, lit<}
-use Rattle.block.proofs.Base.{getD, length, length-set, set, pow-pos, getD-set-other, getD-set-same}
-use Rattle.block.proofs.Entries.{below-at}
-use Rattle.block.proofs.WordsBack.{four-entries}
-use Rattle.lanes.specs.Bits.{bit}
-use Rattle.lanes.proofs.Bits.{bit-shr, mod-is}
-use Rattle.lanes.proofs.Filling.{one-more, puts, puts-in, puts-out, word-more}
-use Rattle.cipher.specs.Sm4.{rounds, turned, encryptWords}
-use Rattle.rows.specs.Rows.{place, Row, Rows}
-use Rattle.rows.specs.Transposed.{at, Turned}
-use Rattle.sliced.specs.Lanes.{lane, lanes, Parted, Halved}
+use Rattle.sliced.proofs.Names.{Halved, List, Parted, Row, Rows, Turned, [], _%_, _*_, _+_, _/_, _<_, _^_, _∙_, _∷_, _≡_, _≤_}
+use Rattle.sliced.proofs.Names.{add-zero, ap, ap₂, arith, at, below-at, bit, bit-shr, encryptWords, four-entries, getD}
+use Rattle.sliced.proofs.Names.{getD-set-other, getD-set-same, lane, lanes, length, length-set, lit<, mod-is, mod-lt, one-more}
+use Rattle.sliced.proofs.Names.{place, pow-pos, puts, puts-in, puts-out, refl, rounds, set, subst, sym, turned, word-more, ℕ}
 use Rattle.sliced.proofs.Held.{lane-lt, lane-bit, lanes-words}
 
 pub parted-next : (a upper lower : List ℕ) (i : ℕ) → i < 256 → length upper ≡ 256 → length lower ≡ 256 → Parted i a upper lower

@@ -1,10 +1,6 @@
 -- What the words of a plane hold are its lanes.
-use Rattle.block.proofs.Base.{_%_, _*_, _+_, _/_, _<_, _^_, _≤_, ℕ, _∙_, _≡_, ap₂, sym, List, arith, getD, length, set}
-use Rattle.block.specs.Below.{AreWords}
-use Rattle.lanes.specs.Bits.{bit}
-use Rattle.lanes.proofs.Bits.{bit-small, pack-lt, bit-pack, pack-is}
-use Rattle.lanes.proofs.Filling.{word-more}
-use Rattle.sliced.specs.Lanes.{lane, lanes, Held}
+use Rattle.sliced.proofs.Names.{AreWords, Held, List, _%_, _*_, _+_, _/_, _<_, _^_, _∙_, _≡_, _≤_, ap₂, arith, bit, bit-pack}
+use Rattle.sliced.proofs.Names.{bit-small, getD, lane, lanes, length, pack-is, pack-lt, set, sym, word-more, ℕ}
 
 -- the bits of lane e
 module _ (x : List ℕ) (e : ℕ) where

@@ -1,9 +1,6 @@
 -- The masks of a round key's bits, and a column with them.
-use Rattle.block.proofs.Base.{_*_, _+_, _<_, suc, zero, ℕ, _∙_, _≡_, ap, ap₂, refl, sym, List, [], _∷_, add-zero, arith, getD}
-use Rattle.block.specs.Xor.{_⊕_}
-use Rattle.lanes.specs.Bits.{bit, Masks}
-use Rattle.lanes.proofs.Filling.{each8}
-use Rattle.sliced.specs.Round.{column}
+use Rattle.sliced.proofs.Names.{List, Masks, [], _*_, _+_, _<_, _∙_, _∷_, _≡_, _⊕_, add-zero, ap, ap₂, arith, bit, column, each8}
+use Rattle.sliced.proofs.Names.{getD, refl, suc, sym, zero, ℕ}
 
 -- in every lane the bit i of k
 abbrev Spread : ℕ → ℕ → ℕ → Type 0

@@ -1,12 +1,7 @@
 -- The plane of lane numbers: six rows that are the same in every column, three that are all ones or zero, and zeros.
-use Rattle.block.proofs.Base.{_%_, _*_, _+_, _-_, _/_, _<_, _^_, _≤_, ℕ, _∙_, _≡_, ap, ap₂, sym, ⊎-elim, List, [], _∷_, arith, eqb, eqb→eq}
-use Rattle.block.proofs.Base.{getD, length, length-set, replicate, set, getD-set-other}
-use Rattle.lanes.specs.Bits.{bit}
-use Rattle.lanes.proofs.Bits.{bit-zero, bit-low, bit-high, bit-past, lt-or-le}
-use Rattle.lanes.proofs.Stages.{same-at}
-use Rattle.rows.specs.Rows.{place}
-use Rattle.sliced.specs.Lanes.{lane, Held}
-use Rattle.sliced.specs.Counting.{numberAt, Clear}
+use Rattle.sliced.proofs.Names.{Clear, Held, List, [], _%_, _*_, _+_, _-_, _/_, _<_, _^_, _∙_, _∷_, _≡_, _≤_, ap, ap₂, arith, bit}
+use Rattle.sliced.proofs.Names.{bit-high, bit-low, bit-past, bit-zero, eqb, eqb→eq, getD, getD-set-other, lane, length, length-set}
+use Rattle.sliced.proofs.Names.{lt-or-le, numberAt, place, replicate, same-at, set, sym, ℕ, ⊎-elim}
 use Rattle.sliced.proofs.Held.{lane-held, held-next}
 
 -- the six rows: bit k of row q is bit q of k

@@ -1,15 +1,7 @@
 -- L in every lane; a round, and four.
-use Rattle.block.proofs.Base.{_%_, _*_, _+_, _/_, _<_, _^_, _≤_, ℕ, _∙_, _≡_, ap, ap₂, refl, sym, List, [], _∷_, arith, differ, lit<}
-use Rattle.block.proofs.Base.{xor-lt}
-use Rattle.block.proofs.Base.{getD, length, set, getD-set-other}
-use Rattle.block.specs.Xor.{_⊕_}
-use Rattle.lanes.specs.Bits.{bit}
-use Rattle.lanes.proofs.Bits.{bit-xor}
-use Rattle.cipher.specs.Sm4.{L, T, rounds}
-use Rattle.cipher.proofs.Bounds.{tau-lt, L-lt}
-use Rattle.cipher.proofs.WordBits.{L-bit}
-use Rattle.sliced.specs.Lanes.{lane, lanes, Held}
-use Rattle.sliced.specs.Round.{keyed, subbed, mixed}
+use Rattle.sliced.proofs.Names.{Held, L, L-bit, L-lt, List, T, [], _%_, _*_, _+_, _/_, _<_, _^_, _∙_, _∷_, _≡_, _≤_, _⊕_, ap, ap₂}
+use Rattle.sliced.proofs.Names.{arith, bit, bit-xor, differ, getD, getD-set-other, keyed, lane, lanes, length, lit<, mixed, refl}
+use Rattle.sliced.proofs.Names.{rounds, set, subbed, sym, tau-lt, xor-lt, ℕ}
 use Rattle.sliced.proofs.Held.{lane-lt, held-lane, lane-held, held-next}
 
 pub doubled-next : (f : ℕ → ℕ) (n i : ℕ) (s : List ℕ) → i < 256 → length s ≡ 512 → Held f n (256 + i) s

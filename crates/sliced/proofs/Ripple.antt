@@ -1,13 +1,8 @@
 -- A word added in every lane, row by row with carries: after i rows the sums of the low i bits and the carries are what was to be added.
-use Rattle.block.proofs.Base.{_%_, _*_, _+_, _/_, _<_, _^_, _≤_, min, suc, zero, ℕ, _∙_, _≡_, ap, ap₂, refl, sym, List, [], _∷_, add-zero}
-use Rattle.block.proofs.Base.{mul-assoc, mul-comm, pow-suc, add-one, arith, bitAnd, differ, getD, length, length-set, set, getD-set-other}
-use Rattle.block.proofs.Base.{getD-set-same}
-use Rattle.block.specs.Xor.{_⊕_}
-use Rattle.lanes.specs.Bits.{bit, pack}
-use Rattle.lanes.proofs.Bits.{bit-small, bit-xor, bit-and, three-bits, pack-is, pack-below}
-use Rattle.lanes.proofs.Filling.{each8, word-more}
-use Rattle.sliced.specs.Lanes.{lane}
-use Rattle.sliced.specs.Counting.{carryAt, WordAdded, RowAdded, Added}
+use Rattle.sliced.proofs.Names.{Added, List, RowAdded, WordAdded, [], _%_, _*_, _+_, _/_, _<_, _^_, _∙_, _∷_, _≡_, _≤_, _⊕_, add-one}
+use Rattle.sliced.proofs.Names.{add-zero, ap, ap₂, arith, bit, bit-and, bit-small, bit-xor, bitAnd, carryAt, differ, each8, getD}
+use Rattle.sliced.proofs.Names.{getD-set-other, getD-set-same, lane, length, length-set, min, mul-assoc, mul-comm, pack, pack-below}
+use Rattle.sliced.proofs.Names.{pack-is, pow-suc, refl, set, suc, sym, three-bits, word-more, zero, ℕ}
 
 -- three bits, their sum and its carry, in every bit of three words
 word-adder : (k a b m : ℕ) → bit k (a ⊕ b ⊕ m) + 2 * bit k (bitAnd a b ⊕ bitAnd (a ⊕ b) m) ≡ bit k m + bit k a + bit k b

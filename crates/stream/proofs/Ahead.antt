@@ -1,28 +1,14 @@
 -- States that are known before a block is ciphered: those of Cfb decryption are the blocks before, those of Ctr and Gctr counters. The
 -- ciphers of all of them, xored with the message, are what the walk gives.
-use Rattle.block.proofs.Base.{_*_, _+_, _<_, _≤_, ℕ, _∙_, _≡_, ap, refl, sym, _⊎_, inl, inr, Bool, false, true, List, [], _++_, _∷_}
-use Rattle.block.proofs.Base.{append-assoc, arith, drop, length, length-append, take}
-use Rattle.block.specs.Below.{AreBytes}
-use Rattle.block.specs.Blocks.{blockAt, cat}
-use Rattle.block.specs.Xor.{xors}
-use Rattle.block.proofs.Cat.{cat-same, cat-next, length-blockAt}
-use Rattle.cipher.specs.Sm4.{encryptBlock}
-use Rattle.cipher.proofs.Blocks.{length-encryptBlock}
-use Rattle.counter.specs.Counter.{jumped}
-use Rattle.walk.specs.Reached.{Reached}
-use Rattle.block.specs.Over.{over}
-use Rattle.walk.specs.Walk.{stepped}
-use Rattle.walk.proofs.Batch.{FedBack, gives, reached-first}
-use Rattle.block.proofs.Tails.{tail-is, returned-is}
-use Rattle.sixteen.proofs.Onward.{states-before}
-use Rattle.sixteen.proofs.Padded.{block-of, xored-blocks}
-use Rattle.stream.specs.declared.Kind.{Kind}
-use Rattle.stream.specs.declared.Kind.the-variants.{CfbDecrypt}
-use Rattle.stream.specs.Stream.{streamMode, counting}
+use Rattle.stream.proofs.Names.{AreBytes, Bool, CfbDecrypt, FedBack, Kind, List, Reached, [], _*_, _++_, _+_, _<_, _∙_, _∷_, _≡_}
+use Rattle.stream.proofs.Names.{_≤_, _⊎_, ap, append-assoc, arith, block-of, blockAt, cat, cat-next, cat-same, counting, drop}
+use Rattle.stream.proofs.Names.{encryptBlock, false, gives, inl, inr, jumped, length, length-append, length-blockAt}
+use Rattle.stream.proofs.Names.{length-encryptBlock, over, reached-first, refl, returned-is, states-before, stepped, streamMode, sym}
+use Rattle.stream.proofs.Names.{tail-is, take, true, xored-blocks, xors, ℕ}
 use Rattle.stream.proofs.Counters.{jumped-stepped}
-pub use Rattle.stream.proofs.Counters.{length-jumped}
 use Rattle.stream.proofs.Walks.{blocks-on}
 use Rattle.stream.proofs.RoundTrip.{stream-block}
+pub use Rattle.stream.proofs.Counters.{length-jumped}
 
 -- what is false is not true
 pub untrue : {A : Type 0} → false ≡ true → A

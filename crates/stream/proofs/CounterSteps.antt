@@ -1,14 +1,8 @@
 -- What the steps of a walk in Ctr and in Gctr say, whatever the message is, is what its counter's steps say, by induction on the steps; and
 -- that is what the formula of W8 says.
-use Rattle.block.proofs.Base.{_-_, suc, zero, ℕ, _∙_, _≡_, refl, Bool, List, drop, length, take}
-use Rattle.block.specs.Below.{AreBytes}
-use Rattle.counter.specs.Counter.{ctrNext, ctrPasses, gcmNext, gcmPasses, lastFour}
-use Rattle.counter.specs.CameRound.{blocksOf, ctrCameRound, gcmCameRound, anyPasses}
-use Rattle.counter.proofs.StepsTell.{ctr-steps-tell, gcm-steps-tell}
-use Rattle.walk.specs.Walk.{Mode}
-use Rattle.stream.specs.declared.Kind.the-variants.{Ctr, Gctr}
-use Rattle.stream.specs.Stream.{streamMode}
-use Rattle.stream.specs.Passes.{walkPasses, ctrWalkSays, gcmBlocksSay, gcmWalkSays}
+use Rattle.stream.proofs.Names.{AreBytes, Bool, Ctr, Gctr, List, Mode, _-_, _∙_, _≡_, anyPasses, blocksOf, ctr-steps-tell}
+use Rattle.stream.proofs.Names.{ctrCameRound, ctrNext, ctrPasses, ctrWalkSays, drop, gcm-steps-tell, gcmBlocksSay, gcmCameRound}
+use Rattle.stream.proofs.Names.{gcmNext, gcmPasses, gcmWalkSays, lastFour, length, refl, streamMode, suc, take, walkPasses, zero, ℕ}
 
 -- a walk whose next state does not depend on the message
 walk-passes : (m : Mode) (next : List ℕ → List ℕ) (passes : List ℕ → Bool) → ((s b : List ℕ) → m .next s b ≡ next s)

@@ -1,22 +1,9 @@
 -- The states of a walk whose states are counters: n steps are a jump of n blocks.
-use Rattle.block.proofs.Base.{_%_, _*_, _+_, _^_, _≤_, suc, zero, ℕ, _∙_, _≡_, sym, Bool, false, true, List, arith, drop, length, take}
-use Rattle.block.proofs.Base.{length-append, length-take-le}
-use Rattle.block.specs.Below.{AreBytes}
-use Rattle.block.specs.BigEndian.{numberOf, bytesOf}
-use Rattle.block.specs.Blocks.{blockAt, cat}
-use Rattle.block.specs.Xor.{xors}
-use Rattle.block.proofs.Cat.{cat-same}
-use Rattle.block.proofs.Convert.{length-bytesOf, bytesOf-bytes}
-use Rattle.block.proofs.Entries.{below-take, below-append}
-use Rattle.cipher.specs.Sm4.{encryptBlock}
-use Rattle.counter.specs.Counter.{ctrNext, gcmNext, ctrJump, gcmJump, jumped}
-use Rattle.counter.proofs.JumpSteps.{no-jump, jump-on, no-gcm-jump, gcm-jump-on}
-use Rattle.walk.specs.Reached.{Reached}
-use Rattle.block.specs.Over.{over}
-use Rattle.walk.specs.Walk.{stepped}
-use Rattle.walk.proofs.Batch.{gives}
-use Rattle.block.proofs.Tails.{tailed, tail-is, returned}
-use Rattle.stream.specs.Stream.{streamMode, counting}
+use Rattle.stream.proofs.Names.{AreBytes, Bool, List, Reached, _%_, _*_, _+_, _^_, _∙_, _≡_, _≤_, arith, below-append, below-take}
+use Rattle.stream.proofs.Names.{blockAt, bytesOf, bytesOf-bytes, cat, cat-same, counting, ctrJump, ctrNext, drop, encryptBlock}
+use Rattle.stream.proofs.Names.{false, gcm-jump-on, gcmJump, gcmNext, gives, jump-on, jumped, length, length-append, length-bytesOf}
+use Rattle.stream.proofs.Names.{length-take-le, no-gcm-jump, no-jump, numberOf, over, returned, stepped, streamMode, suc, sym}
+use Rattle.stream.proofs.Names.{tail-is, tailed, take, true, xors, zero, ℕ}
 use Rattle.stream.proofs.Walks.{blocks-on}
 
 -- a jump gives a block of bytes

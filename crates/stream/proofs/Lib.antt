@@ -1,3 +1,4 @@
+mod Names
 pub mod RoundTrip
 pub mod CounterSteps
 pub mod Walks

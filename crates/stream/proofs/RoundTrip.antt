@@ -1,15 +1,7 @@
 -- The five kinds: as many bytes come out as go in, and the opener takes back what a kind did.
-use Rattle.block.proofs.Base.{_≤_, ℕ, _∙_, _≡_, refl, sym, List, arith, length}
-use Rattle.block.specs.Xor.{xors}
-use Rattle.block.proofs.Xors.{length-xors, xors-cancel}
-use Rattle.cipher.specs.Sm4.{encryptBlock}
-use Rattle.cipher.proofs.Blocks.{length-encryptBlock}
-use Rattle.walk.specs.Walk.{chain}
-use Rattle.stream.specs.Stream.{stateAfter, streamMode, opener}
-use Rattle.stream.specs.declared.Kind.{Kind}
-use Rattle.stream.specs.declared.Kind.the-variants.{CfbEncrypt, CfbDecrypt, Ofb, Ctr, Gctr}
-use Rattle.walk.proofs.Chain.{Any, Keeps, chain-length}
-use Rattle.walk.proofs.Undo.{Undoes, undo}
+use Rattle.stream.proofs.Names.{Any, CfbDecrypt, CfbEncrypt, Ctr, Gctr, Keeps, Kind, List, Ofb, Undoes, _∙_, _≡_, _≤_, arith, chain}
+use Rattle.stream.proofs.Names.{chain-length, encryptBlock, length, length-encryptBlock, length-xors, opener, refl, stateAfter}
+use Rattle.stream.proofs.Names.{streamMode, sym, undo, xors, xors-cancel, ℕ}
 
 -- a message of at most a block is covered by the cipher's output
 covered : (rk s d : List ℕ) → length d ≤ 16 → length d ≤ length (encryptBlock rk s)

@@ -1,18 +1,7 @@
 -- The walk of a kind goes on from where it had come to: by blocks, by a walk over what is left, or by a rest that is no full block.
-use Rattle.block.proofs.Base.{_*_, _+_, _<_, _≤_, ℕ, _∙_, _≡_, ap, Bool, true, List, arith, drop, length, length-drop}
-use Rattle.block.specs.Blocks.{blockAt, cat}
-use Rattle.block.specs.Xor.{xors}
-use Rattle.cipher.specs.Sm4.{encryptBlock}
-use Rattle.walk.specs.Reached.{Reached}
-use Rattle.block.specs.Over.{over}
-use Rattle.walk.specs.Walk.{chain, stepped, endState}
-use Rattle.walk.proofs.Batch.{gives, reached-on}
-use Rattle.block.proofs.Tails.{tailed, returned}
-use Rattle.block.proofs.Cat.{length-blockAt}
-use Rattle.walk.proofs.Loop.{last-state, rest-written}
-use Rattle.sixteen.proofs.Onward.{reached-end, reached-over}
-use Rattle.stream.specs.declared.Kind.{Kind}
-use Rattle.stream.specs.Stream.{streamMode}
+use Rattle.stream.proofs.Names.{Bool, Kind, List, Reached, _*_, _+_, _<_, _∙_, _≡_, _≤_, ap, arith, blockAt, cat, chain, drop}
+use Rattle.stream.proofs.Names.{encryptBlock, endState, gives, last-state, length, length-blockAt, length-drop, over, reached-end}
+use Rattle.stream.proofs.Names.{reached-on, reached-over, rest-written, returned, stepped, streamMode, tailed, true, xors, ℕ}
 use Rattle.stream.proofs.RoundTrip.{stream-block}
 
 -- a walk has ended in the state r with the output t, and, where the message goes on, with the cipher q of that state

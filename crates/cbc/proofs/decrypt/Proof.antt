@@ -1,10 +1,7 @@
 -- `cbc::decrypt` meets its contract. The last block decides (`unpad`), before a byte is written; then the front and what the padding leaves
 -- of the last block are put together (`open-done`). The round keys turned round twice are the round keys.
-use Rattle.block.proofs.Base.{_-_, _∙_, _≡_, sym, reverse-reverse, sub-zero, arith, needs, now, drop, length}
-use Rattle.block.specs.Words.{unwords}
-use Rattle.block.proofs.WordsBack.{length-unwords}
-use Rattle.padding.proofs.Unpadded.{unpadded-le}
-use Rattle.cbc.specs.Cbc.{cbcText}
+use Rattle.cbc.proofs.Names.{_-_, _∙_, _≡_, arith, cbcText, drop, length, length-unwords, needs, now, reverse-reverse, sub-zero, sym}
+use Rattle.cbc.proofs.Names.{unpadded-le, unwords}
 use Rattle.cbc.proofs.Opens.{open-refused, open-done}
 use Rattle.cbc.proofs.decrypt.Statement.{statement}
 use Rattle.cbc.proofs.decrypt.Tie as tie

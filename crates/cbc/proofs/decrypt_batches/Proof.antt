@@ -1,16 +1,9 @@
 -- `cbc::decrypt_batches` meets its contract. The first block goes by itself (`fed-reached`), and a turn of the loop goes as many blocks on
 -- as the batch has (`fed-on`), each from the ciphertext block before it.
-use Rattle.block.proofs.Base.{_-_, ℕ, _≡_, refl, List, _++_, reverse, arith, needs, now, drop, length, take, take-at}
-use Rattle.block.specs.Blocks.{blockAt}
-use Rattle.block.specs.Words.{unwords}
-use Rattle.block.proofs.WordsBack.{length-unwords}
-use Rattle.walk.specs.Reached.{Reached}
-use Rattle.walk.specs.Walk.{Mode}
-use Rattle.walk.proofs.Batch.{Fed, reached-first, fed-first, fed-on, fed-reached}
-use Rattle.block.proofs.Tails.{tailed}
-use Rattle.cbc.specs.Cbc.{cbcDecrypt}
+use Rattle.cbc.proofs.Names.{Fed, List, Mode, Reached, _++_, _-_, _≡_, arith, block-before, blockAt, cbcDecrypt, drop, fed-first}
+use Rattle.cbc.proofs.Names.{fed-on, fed-reached, length, length-unwords, needs, now, reached-first, refl, reverse, tailed, take}
+use Rattle.cbc.proofs.Names.{take-at, unwords, ℕ}
 use Rattle.cbc.proofs.Batches.{decrypt-fed, decrypted}
-use Rattle.sixteen.proofs.Before.{block-before}
 use Rattle.cbc.proofs.decrypt_batches.Statement.{statement}
 use Rattle.cbc.proofs.decrypt_batches.Tie as tie
 

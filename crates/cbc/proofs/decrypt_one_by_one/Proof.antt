@@ -1,11 +1,7 @@
 -- `cbc::decrypt_one_by_one` meets its contract. A turn of the loop goes one block on (`reached-next`); at the end no full block is left,
 -- and a rest gives nothing.
-use Rattle.block.proofs.Base.{_-_, refl, reverse, arith, needs, length}
-use Rattle.block.specs.Words.{unwords}
-use Rattle.block.proofs.WordsBack.{length-unwords}
-use Rattle.walk.specs.Reached.{Reached}
-use Rattle.walk.proofs.Batch.{reached-first, reached-next, walk-ended}
-use Rattle.cbc.specs.Cbc.{cbcDecrypt}
+use Rattle.cbc.proofs.Names.{Reached, _-_, arith, cbcDecrypt, length, length-unwords, needs, reached-first, reached-next, refl}
+use Rattle.cbc.proofs.Names.{reverse, unwords, walk-ended}
 use Rattle.cbc.proofs.Blocks.{decrypt-block}
 use Rattle.cbc.proofs.decrypt_one_by_one.Statement.{statement}
 use Rattle.cbc.proofs.decrypt_one_by_one.Tie as tie

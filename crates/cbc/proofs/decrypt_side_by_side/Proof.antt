@@ -1,12 +1,7 @@
 -- `cbc::decrypt_side_by_side` meets its contract. A turn of the loop goes as many blocks on as go side by side (`reached-on`); at the end
 -- no full block is left, and a rest gives nothing.
-use Rattle.block.proofs.Base.{_%_, _*_, _-_, _≤_, _∙_, _≡_, refl, reverse, arith, now, drop, length, length-drop}
-use Rattle.block.specs.Words.{unwords}
-use Rattle.block.proofs.WordsBack.{length-unwords}
-use Rattle.walk.specs.Reached.{Reached}
-use Rattle.walk.proofs.Batch.{reached-first, reached-on, walk-ended}
-use Rattle.block.proofs.Tails.{tail-is}
-use Rattle.cbc.specs.Cbc.{cbcDecrypt}
+use Rattle.cbc.proofs.Names.{Reached, _%_, _*_, _-_, _∙_, _≡_, _≤_, arith, cbcDecrypt, drop, length, length-drop, length-unwords}
+use Rattle.cbc.proofs.Names.{now, reached-first, reached-on, refl, reverse, tail-is, unwords, walk-ended}
 use Rattle.cbc.proofs.Batches.{fed-next, full-state}
 use Rattle.cbc.proofs.Blocks.{decrypt-block}
 use Rattle.cbc.proofs.decrypt_side_by_side.Statement.{statement}

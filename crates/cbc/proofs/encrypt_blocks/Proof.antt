@@ -1,11 +1,7 @@
 -- `cbc::encrypt_blocks` meets its contract. A turn of the loop goes one block on (`reached-next`); at the end no full block is left, and a
 -- rest gives nothing.
-use Rattle.block.proofs.Base.{_-_, refl, arith, needs, length}
-use Rattle.block.specs.Words.{unwords}
-use Rattle.cipher.proofs.Blocks.{length-encryptBlock}
-use Rattle.walk.specs.Reached.{Reached}
-use Rattle.walk.proofs.Batch.{reached-first, reached-next, walk-ended}
-use Rattle.cbc.specs.Cbc.{cbcEncrypt}
+use Rattle.cbc.proofs.Names.{Reached, _-_, arith, cbcEncrypt, length, length-encryptBlock, needs, reached-first, reached-next, refl}
+use Rattle.cbc.proofs.Names.{unwords, walk-ended}
 use Rattle.cbc.proofs.encrypt_blocks.Statement.{statement}
 use Rattle.cbc.proofs.encrypt_blocks.Tie as tie
 

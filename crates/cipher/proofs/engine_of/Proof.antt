@@ -1,6 +1,5 @@
 -- `cipher::engine_of` meets its contract: each mark by its test.
-use Rattle.block.proofs.Base.{_≡_, cond, eq-eqb, ne-eqb}
-use Rattle.cipher.specs.Engine.{chosen}
+use Rattle.cipher.proofs.Names.{_≡_, chosen, cond, eq-eqb, ne-eqb}
 use Rattle.cipher.proofs.engine_of.Statement.{statement}
 use Rattle.cipher.proofs.engine_of.Tie as tie
 

@@ -1,5 +1,5 @@
 -- `cipher::four_plain` meets its contract: the four results of T are put together by `four-by-hand`.
-use Rattle.block.proofs.Base.{needs}
+use Rattle.cipher.proofs.Names.{needs}
 use Rattle.cipher.proofs.Rounds.{four-by-hand}
 use Rattle.cipher.proofs.four_plain.Statement.{statement}
 use Rattle.cipher.proofs.four_plain.Tie as tie

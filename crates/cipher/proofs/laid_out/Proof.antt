@@ -1,7 +1,6 @@
 -- `cipher::laid_out` meets its contract: each engine by its test.
-use Rattle.block.proofs.Base.{refl, needs, take-length}
+use Rattle.cipher.proofs.Names.{mixedTable, needs, refl, take-length}
 use Rattle.cipher.proofs.Engines.{length-sbox, mixed-length, table-four, table-none, table-plain, laid}
-use Rattle.cipher.specs.Engine.{mixedTable}
 use Rattle.cipher.proofs.laid_out.Statement.{statement}
 use Rattle.cipher.proofs.laid_out.Tie as tie
 

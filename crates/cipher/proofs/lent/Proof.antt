@@ -1,5 +1,5 @@
 -- `cipher::lent` meets its contract: of what is laid out it lends the engine's own table.
-use Rattle.block.proofs.Base.{refl, needs}
+use Rattle.cipher.proofs.Names.{needs, refl}
 use Rattle.cipher.proofs.Engines.{length-sbox, length-mixed, table-four, table-none, table-plain, lends}
 use Rattle.cipher.proofs.lent.Statement.{statement}
 use Rattle.cipher.proofs.lent.Tie as tie

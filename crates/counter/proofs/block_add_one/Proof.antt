@@ -8,8 +8,5 @@ use Rattle.counter.proofs.block_add_one.Statement.{statement}
 use Rattle.counter.proofs.block_add_one.Tie as tie
 
 pub block-add-one-spec : {M : Type 1} → statement M
-block-add-one-spec =
-    tie.close
-    (tie.spec
-    (λ c κs. search needs) (λ c κs. search needs) (λ c κs. search needs)
+block-add-one-spec = tie.close (tie.spec (λ c κs. search needs) (λ c κs. search needs) (λ c κs. search needs)
     (λ c. unfold ctrNext ctrJump in search (needs, ctr-jump-words, ctr-words-pass)))

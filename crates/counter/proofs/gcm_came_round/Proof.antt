@@ -6,8 +6,5 @@ use Rattle.counter.proofs.gcm_came_round.Statement.{statement}
 use Rattle.counter.proofs.gcm_came_round.Tie as tie
 
 pub gcm-came-round-spec : {M : Type 1} → statement M
-gcm-came-round-spec =
-    tie.close
-    (tie.spec
-    (λ c κs. search needs) (λ c. search needs) (λ c. search needs)
+gcm-came-round-spec = tie.close (tie.spec (λ c κs. search needs) (λ c. search needs) (λ c. search needs)
     (λ c. rw (← c .blocks2 .ensures) (gcm-left _ _ (c .before .fits .low .fits))))

@@ -1,10 +1,7 @@
 -- `gcm::decrypt` meets its contract. A text whose pads are ready goes by them. Else, where the tag is the message's, the stream writes its
 -- text (`into-opened`); otherwise nothing is written (`into-refused`).
-use Rattle.block.proofs.Base.{_-_, ℕ, _∙_, _≡_, ap, sym, List, arith, needs, now, length, length-take-le}
-use Rattle.block.specs.Wide.{value}
-use Rattle.block.specs.Words.{unwords}
-use Rattle.block.specs.Over.{over}
-use Rattle.gcm.specs.Gcm.{textOf}
+use Rattle.gcm.proofs.Names.{List, _-_, _∙_, _≡_, ap, arith, length, length-take-le, needs, now, over, sym, textOf, unwords, value}
+use Rattle.gcm.proofs.Names.{ℕ}
 use Rattle.gcm.proofs.InWords.{text-words}
 use Rattle.gcm.proofs.Settled.{into-refused, into-opened}
 use Rattle.gcm.proofs.decrypt.Statement.{statement}

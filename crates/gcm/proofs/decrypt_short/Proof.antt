@@ -1,15 +1,7 @@
 -- `gcm::decrypt_short` meets its contract: as `decrypt` does, with the mask and the pads that stand ready.
-use Rattle.block.proofs.Base.{_-_, _<_, ℕ, _∙_, _≡_, ap, ap₂, sym, List, arith, needs, now, getD, length, length-take-le}
-use Rattle.block.specs.Same.{same}
-use Rattle.block.specs.Wide.{value}
-use Rattle.block.specs.Words.{unwords}
-use Rattle.block.specs.Xor.{xors}
-use Rattle.block.proofs.Entries.{below-each}
-use Rattle.cipher.specs.Sm4.{encryptBlock}
-use Rattle.block.specs.Over.{over}
-use Rattle.block.proofs.Tails.{tailed, length-tailed}
-use Rattle.gcm.specs.Gcm.{textOf, textPart, tagPart, maskedTag, tagOf, opensUnder}
-use Rattle.gcm.specs.Pads.{PadsFor}
+use Rattle.gcm.proofs.Names.{List, PadsFor, _-_, _<_, _∙_, _≡_, ap, ap₂, arith, below-each, encryptBlock, getD, length}
+use Rattle.gcm.proofs.Names.{length-tailed, length-take-le, maskedTag, needs, now, opensUnder, over, same, sym, tagOf, tagPart}
+use Rattle.gcm.proofs.Names.{tailed, textOf, textPart, unwords, value, xors, ℕ}
 use Rattle.gcm.proofs.Settled.{into-refused, into-opened}
 use Rattle.gcm.proofs.Short.{mask-front, text-front}
 use Rattle.gcm.proofs.decrypt_short.Statement.{statement}

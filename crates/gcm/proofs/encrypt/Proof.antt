@@ -1,9 +1,6 @@
 -- `gcm::encrypt` meets its contract. A text whose pads are ready goes by them; else the stream writes the text, the tag is that of what
 -- stands there now, and it is put behind the text (`sealed-written`).
-use Rattle.block.proofs.Base.{_∙_, ap, List, ℕ, needs, now}
-use Rattle.block.specs.Wide.{value}
-use Rattle.block.specs.Words.{unwords}
-use Rattle.block.specs.Over.{over}
+use Rattle.gcm.proofs.Names.{List, _∙_, ap, needs, now, over, unwords, value, ℕ}
 use Rattle.gcm.proofs.InWords.{text-words, sealed-written}
 use Rattle.gcm.proofs.encrypt.Statement.{statement}
 use Rattle.gcm.proofs.encrypt.Tie as tie

@@ -1,9 +1,6 @@
 -- `gcm::encrypt_short` meets its contract: the text is xored with its pads, and its tag is put behind it (`sealed-written`).
-use Rattle.block.proofs.Base.{_-_, _<_, ℕ, _∙_, ap, refl, List, arith, needs, now, getD, length, take}
-use Rattle.block.specs.Wide.{value}
-use Rattle.block.proofs.Entries.{below-each}
-use Rattle.block.specs.Over.{over}
-use Rattle.gcm.specs.Gcm.{maskedTag, tagOf}
+use Rattle.gcm.proofs.Names.{List, _-_, _<_, _∙_, ap, arith, below-each, getD, length, maskedTag, needs, now, over, refl, tagOf}
+use Rattle.gcm.proofs.Names.{take, value, ℕ}
 use Rattle.gcm.proofs.InWords.{sealed-written}
 use Rattle.gcm.proofs.Short.{mask-front, text-front}
 use Rattle.gcm.proofs.encrypt_short.Statement.{statement}

@@ -1,6 +1,5 @@
 -- `gcm::is_tag` meets its contract: the four words of the difference are all 0 exactly where the bytes are the expected tag (`is-tag-words`).
-use Rattle.block.proofs.Base.{_<_, _^_, ℕ, _≡_, arith, needs, now, getD, length, w32, Fits}
-use Rattle.block.proofs.Entries.{below-each}
+use Rattle.gcm.proofs.Names.{Fits, _<_, _^_, _≡_, arith, below-each, getD, length, needs, now, w32, ℕ}
 use Rattle.gcm.proofs.TagTest.{is-tag-words}
 use Rattle.gcm.proofs.is_tag.Statement.{statement}
 use Rattle.gcm.proofs.is_tag.Tie as tie
@@ -25,8 +24,7 @@ add-result-3 : tie.Need-add-result-3
 add-result-3 c = record { fits = omega (arith, small-words c 0 .fits, small-words c 1 .fits, small-words c 2 .fits, small-words c 3 .fits) }
 
 pub is-tag-spec : {M : Type 1} → statement M
-is-tag-spec = tie.close (tie.spec (λ c κs. search needs) (λ c κs. search needs) (λ c. search needs)
-    (λ c. search needs) (λ c. search needs) (λ c. search needs)
-    (λ c. record { fits = omega (arith, small-words c 0 .fits, small-words c 1 .fits) }) (λ c. search needs) (λ c. search needs)
-    (λ c. record { fits = omega (arith, small-words c 0 .fits, small-words c 1 .fits, small-words c 2 .fits) }) (λ c. search needs)
-    (λ c. search needs) add-result-3 returns)
+is-tag-spec = tie.close (tie.spec (λ c κs. search needs) (λ c κs. search needs) (λ c. search needs) (λ c. search needs) (λ c. search needs)
+    (λ c. search needs) (λ c. record { fits = omega (arith, small-words c 0 .fits, small-words c 1 .fits) }) (λ c. search needs)
+    (λ c. search needs) (λ c. record { fits = omega (arith, small-words c 0 .fits, small-words c 1 .fits, small-words c 2 .fits) })
+    (λ c. search needs) (λ c. search needs) add-result-3 returns)

@@ -1,10 +1,6 @@
 -- `sixteen::encrypt` meets its contract: the words that are loaded are those of the blocks, those that are stored their ciphers.
-use Rattle.block.proofs.Base.{_∙_, ap, refl, List, lt-of-lt-of-le, arith, needs, now}
-use Rattle.block.specs.Blocks.{cat}
-use Rattle.block.specs.Words.{unwords}
-use Rattle.block.proofs.Cat.{cat-same}
-use Rattle.block.specs.Over.{over}
-use Rattle.cipher.specs.Sm4.{encryptWords, encryptBlock}
+use Rattle.sixteen.proofs.Names.{List, _∙_, ap, arith, cat, cat-same, encryptBlock, encryptWords, lt-of-lt-of-le, needs, now, over}
+use Rattle.sixteen.proofs.Names.{refl, unwords}
 use Rattle.sixteen.proofs.encrypt.Statement.{statement}
 use Rattle.sixteen.proofs.encrypt.Tie as tie
 

@@ -1,9 +1,6 @@
 -- `sixteen::lay_before` meets its contract. The loop's invariant: the first i blocks are laid, and behind them stands what stood there.
-use Rattle.block.proofs.Base.{_*_, _-_, _≤_, ℕ, _∙_, _≡_, ap, refl, List, _++_, arith, needs, now, drop, length, length-append, take}
-use Rattle.block.specs.Blocks.{blockAt, cat}
-use Rattle.block.specs.Words.{unwords}
-use Rattle.block.proofs.WordsBack.{length-unwords}
-use Rattle.block.proofs.Cat.{length-blockAt}
+use Rattle.sixteen.proofs.Names.{List, _*_, _++_, _-_, _∙_, _≡_, _≤_, ap, arith, blockAt, cat, drop, length, length-append}
+use Rattle.sixteen.proofs.Names.{length-blockAt, length-unwords, needs, now, refl, take, unwords, ℕ}
 use Rattle.sixteen.proofs.Blocks.{block-stored}
 use Rattle.sixteen.proofs.Padded.{over-stored}
 use Rattle.sixteen.proofs.lay_before.Statement.{statement}

@@ -1,9 +1,6 @@
 -- `sixteen::load` meets its contract. The loop's invariant: the first i blocks stand in the rows.
-use Rattle.block.proofs.Base.{_*_, _-_, _≤_, _∙_, _≡_, ap, sym, arith, needs, drop, length, length-drop, take, take-all}
-use Rattle.block.specs.Blocks.{blockAt}
-use Rattle.block.specs.Words.{words}
-use Rattle.block.proofs.WordsBack.{words-take}
-use Rattle.sixteen.specs.Blocks.{Held}
+use Rattle.sixteen.proofs.Names.{Held, _*_, _-_, _∙_, _≡_, _≤_, ap, arith, blockAt, drop, length, length-drop, needs, sym, take}
+use Rattle.sixteen.proofs.Names.{take-all, words, words-take}
 use Rattle.sixteen.proofs.load.Statement.{statement}
 use Rattle.sixteen.proofs.load.Tie as tie
 

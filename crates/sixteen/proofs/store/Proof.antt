@@ -1,10 +1,6 @@
 -- `sixteen::store` meets its contract. The loop's invariant: the first i blocks are stored, and behind them stands what stood there.
-use Rattle.block.proofs.Base.{_*_, _-_, _≤_, ℕ, _∙_, _≡_, ap, refl, List, _++_, arith, needs, drop, length, take}
-use Rattle.block.specs.Blocks.{cat}
-use Rattle.block.specs.Words.{unwords}
-use Rattle.block.proofs.WordsBack.{length-unwords}
-use Rattle.cipher.specs.Sm4.{turned}
-use Rattle.sixteen.specs.Blocks.{block}
+use Rattle.sixteen.proofs.Names.{List, _*_, _++_, _-_, _∙_, _≡_, _≤_, ap, arith, block, cat, drop, length, length-unwords, needs}
+use Rattle.sixteen.proofs.Names.{refl, take, turned, unwords, ℕ}
 use Rattle.sixteen.proofs.Blocks.{block-stored}
 use Rattle.sixteen.proofs.Padded.{over-stored}
 use Rattle.sixteen.proofs.store.Statement.{statement}

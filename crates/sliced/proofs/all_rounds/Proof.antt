@@ -1,10 +1,7 @@
 -- `sliced::all_rounds` meets its contract. The loop's invariant: what the round keys from number i on make of the blocks as they are is
 -- what all round keys make of the blocks as they were; a turn takes four (`rounds-front`).
-use Rattle.block.proofs.Base.{_%_, _+_, _-_, _<_, _≤_, ℕ, _∙_, _≡_, ap, [], arith, needs, drop, drop-of-length-le, length}
-use Rattle.cipher.specs.Sm4.{rounds}
-use Rattle.cipher.proofs.Rounds.{rounds-front}
-use Rattle.lanes.proofs.Needs.{next8}
-use Rattle.sliced.specs.Lanes.{lanes, Planes}
+use Rattle.sliced.proofs.Names.{Planes, [], _%_, _+_, _-_, _<_, _∙_, _≡_, _≤_, ap, arith, drop, drop-of-length-le, lanes, length}
+use Rattle.sliced.proofs.Names.{needs, next8, rounds, rounds-front, ℕ}
 use Rattle.sliced.proofs.all_rounds.Statement.{statement}
 use Rattle.sliced.proofs.all_rounds.Tie as tie
 

@@ -1,6 +1,5 @@
 -- `sliced::column_at` meets its contract: each of the eight words is the sum of three planes at its place, and its mask (`eight-sums`).
-use Rattle.block.proofs.Base.{needs}
-use Rattle.lanes.proofs.Needs.{next8}
+use Rattle.sliced.proofs.Names.{needs, next8}
 use Rattle.sliced.proofs.KeyBits.{eight-sums}
 use Rattle.sliced.proofs.column_at.Statement.{statement}
 use Rattle.sliced.proofs.column_at.Tie as tie

@@ -1,6 +1,5 @@
 -- `sliced::columns_of` meets its contract: the table's rule, that an entry is at least its place and at most 8, is one computed test each.
-use Rattle.block.proofs.Base.{_+_, _/_, _≤_, ℕ, List, [], _∷_, arith, needs, leb, leb→le, getD}
-use Rattle.block.proofs.Table.{rule-at}
+use Rattle.sliced.proofs.Names.{List, [], _+_, _/_, _∷_, _≤_, arith, getD, leb, leb→le, needs, rule-at, ℕ}
 use Rattle.sliced.proofs.columns_of.Statement.{statement}
 use Rattle.sliced.proofs.columns_of.Tie as tie
 

@@ -1,7 +1,6 @@
 -- `sliced::double` meets its contract. The loop's invariant: what is held in the first half is held once more in i words behind it; a turn
 -- copies one word more (`doubled-next`).
-use Rattle.block.proofs.Base.{_+_, _-_, _≤_, ℕ, _≡_, arith, needs, length}
-use Rattle.sliced.specs.Lanes.{Held}
+use Rattle.sliced.proofs.Names.{Held, _+_, _-_, _≡_, _≤_, arith, length, needs, ℕ}
 use Rattle.sliced.proofs.Mixing.{doubled-next}
 use Rattle.sliced.proofs.double.Statement.{statement}
 use Rattle.sliced.proofs.double.Tie as tie

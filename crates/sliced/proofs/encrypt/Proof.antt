@@ -1,5 +1,5 @@
 -- `sliced::encrypt` meets its contract: the rows stand in lanes (`rows-in-lanes`), and the rounds work on these.
-use Rattle.block.proofs.Base.{arith, needs}
+use Rattle.sliced.proofs.Names.{arith, needs}
 use Rattle.sliced.proofs.Halves.{rows-in-lanes}
 use Rattle.sliced.proofs.encrypt.Statement.{statement}
 use Rattle.sliced.proofs.encrypt.Tie as tie

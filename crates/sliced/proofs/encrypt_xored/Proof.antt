@@ -1,6 +1,5 @@
 -- `sliced::encrypt_xored` meets its contract: the rows that are loaded are the words of the blocks, those that are stored their ciphers.
-use Rattle.block.proofs.Base.{arith, needs}
-use Rattle.cipher.specs.Sm4.{encryptBlock}
+use Rattle.sliced.proofs.Names.{arith, encryptBlock, needs}
 use Rattle.sliced.proofs.encrypt_xored.Statement.{statement}
 use Rattle.sliced.proofs.encrypt_xored.Tie as tie
 

@@ -1,6 +1,6 @@
 -- `sliced::four` meets its contract: each round takes the planes that the rounds before it left, and four rounds in each lane are put
 -- together by `four-done`.
-use Rattle.block.proofs.Base.{arith, needs}
+use Rattle.sliced.proofs.Names.{arith, needs}
 use Rattle.sliced.proofs.Mixing.{four-done}
 use Rattle.sliced.proofs.four.Statement.{statement}
 use Rattle.sliced.proofs.four.Tie as tie

@@ -1,8 +1,6 @@
 -- `sliced::join` meets its contract. The loop's invariant: the first i rows of each half are in place; a turn puts one more
 -- (`joined-next`).
-use Rattle.block.proofs.Base.{_-_, _≤_, _≡_, arith, needs, length}
-use Rattle.lanes.proofs.Needs.{next8}
-use Rattle.sliced.specs.Lanes.{Parted}
+use Rattle.sliced.proofs.Names.{Parted, _-_, _≡_, _≤_, arith, length, needs, next8}
 use Rattle.sliced.proofs.Halves.{joined-next}
 use Rattle.sliced.proofs.join.Statement.{statement}
 use Rattle.sliced.proofs.join.Tie as tie

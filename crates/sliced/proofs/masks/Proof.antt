@@ -1,6 +1,5 @@
 -- `sliced::masks` meets its contract: each of the eight words is spread from its bit of the byte (`eight-masks`).
-use Rattle.block.proofs.Base.{needs}
-use Rattle.lanes.proofs.Needs.{next8}
+use Rattle.sliced.proofs.Names.{needs, next8}
 use Rattle.sliced.proofs.KeyBits.{eight-masks}
 use Rattle.sliced.proofs.masks.Statement.{statement}
 use Rattle.sliced.proofs.masks.Tie as tie

@@ -1,8 +1,6 @@
 -- `sliced::part` meets its contract. The loop's invariant: the first i rows of each half are copied; a turn copies one more
 -- (`parted-next`).
-use Rattle.block.proofs.Base.{_-_, _≤_, _≡_, arith, needs, length}
-use Rattle.lanes.proofs.Needs.{next8}
-use Rattle.sliced.specs.Lanes.{Parted}
+use Rattle.sliced.proofs.Names.{Parted, _-_, _≡_, _≤_, arith, length, needs, next8}
 use Rattle.sliced.proofs.Halves.{parted-next}
 use Rattle.sliced.proofs.part.Statement.{statement}
 use Rattle.sliced.proofs.part.Tie as tie

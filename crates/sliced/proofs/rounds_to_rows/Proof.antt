@@ -1,6 +1,6 @@
 -- `sliced::rounds_to_rows` meets its contract: the rounds work in every lane, and the lanes go back into halves, the last word first
 -- (`rows-encrypted`).
-use Rattle.block.proofs.Base.{needs}
+use Rattle.sliced.proofs.Names.{needs}
 use Rattle.sliced.proofs.Halves.{rows-encrypted}
 use Rattle.sliced.proofs.rounds_to_rows.Statement.{statement}
 use Rattle.sliced.proofs.rounds_to_rows.Tie as tie

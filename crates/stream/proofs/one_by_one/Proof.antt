@@ -1,10 +1,6 @@
 -- `stream::one_by_one` meets its contract. A turn of the loop goes one block on (`reached-next`), and then the rest is xored (`ended`).
-use Rattle.block.proofs.Base.{_-_, arith, needs, now, length, take, length-take-le}
-use Rattle.block.specs.Words.{unwords}
-use Rattle.walk.specs.Reached.{Reached}
-use Rattle.walk.proofs.Batch.{reached-first, reached-next}
-use Rattle.block.proofs.Tails.{tailed, length-tailed}
-use Rattle.stream.specs.Stream.{streamMode}
+use Rattle.stream.proofs.Names.{Reached, _-_, arith, length, length-tailed, length-take-le, needs, now, reached-first, reached-next}
+use Rattle.stream.proofs.Names.{streamMode, tailed, take, unwords}
 use Rattle.stream.proofs.RoundTrip.{stream-block}
 use Rattle.stream.proofs.Walks.{ended}
 use Rattle.stream.proofs.one_by_one.Statement.{statement}

@@ -1,12 +1,7 @@
 -- `stream::step` meets its contract. The words that are ciphered, read and xored are those of sixteen bytes (`unwords-front`,
 -- `encrypt-unwords`, `front-xored`), so what is written and the next state are the definition's.
-use Rattle.block.proofs.Base.{_<_, _^_, ℕ, _∙_, _≡_, arith, needs, now, getD, length, w32, Fits}
-use Rattle.block.proofs.Entries.{below-each}
-use Rattle.block.proofs.WordsBack.{unwords-front}
-use Rattle.cipher.specs.Sm4.{encryptWords}
-use Rattle.cipher.proofs.Bounds.{encrypt-four}
-use Rattle.cipher.proofs.Blocks.{encrypt-unwords}
-use Rattle.block.proofs.InWords.{front-xored}
+use Rattle.stream.proofs.Names.{Fits, _<_, _^_, _∙_, _≡_, arith, below-each, encrypt-four, encrypt-unwords, encryptWords}
+use Rattle.stream.proofs.Names.{front-xored, getD, length, needs, now, unwords-front, w32, ℕ}
 use Rattle.stream.proofs.step.Statement.{statement}
 use Rattle.stream.proofs.step.Tie as tie
 

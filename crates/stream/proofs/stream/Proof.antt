@@ -1,5 +1,5 @@
 -- `stream::stream` meets its contract: what goes on from where the batches have come to ends the walk (`onward`).
-use Rattle.block.proofs.Base.{arith, needs}
+use Rattle.stream.proofs.Names.{arith, needs}
 use Rattle.stream.proofs.Walks.{onward}
 use Rattle.stream.proofs.stream.Statement.{statement}
 use Rattle.stream.proofs.stream.Tie as tie

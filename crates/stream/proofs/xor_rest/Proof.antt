@@ -1,9 +1,6 @@
 -- `stream::xor_rest` meets its contract: the pad is the cipher of the state, and where it is not needed nothing is written.
-use Rattle.block.proofs.Base.{_^_, ℕ, _∙_, _≡_, sym, needs, not-true, now, getD, length, w32, Fits}
-use Rattle.block.specs.Words.{unwords}
-use Rattle.block.proofs.Entries.{below-each}
-use Rattle.cipher.specs.Sm4.{encryptBlock}
-use Rattle.cipher.proofs.Blocks.{encrypt-unwords}
+use Rattle.stream.proofs.Names.{Fits, _^_, _∙_, _≡_, below-each, encrypt-unwords, encryptBlock, getD, length, needs, not-true, now}
+use Rattle.stream.proofs.Names.{sym, unwords, w32, ℕ}
 use Rattle.stream.proofs.Ahead.{untrue, nothing-written}
 use Rattle.stream.proofs.xor_rest.Statement.{statement}
 use Rattle.stream.proofs.xor_rest.Tie as tie

@@ -1,7 +1,6 @@
 -- `cipher::gates::encrypt` meets its contract. The invariant of either loop: the rounds that are left give what they gave where it
 -- began (`rounds-next`).
-use Rattle.block.proofs.Base.{_%_, _-_, _≤_, _∙_, _≡_, refl, arith, needs, drop, length}
-use Rattle.cipher.specs.Sm4.{rounds}
+use Rattle.cipher.proofs.Names.{_%_, _-_, _∙_, _≡_, _≤_, arith, drop, length, needs, refl, rounds}
 use Rattle.cipher.proofs.Rounds.{rounds-next, rounds-done}
 use Rattle.cipher.proofs.gates.encrypt.Statement.{statement}
 use Rattle.cipher.proofs.gates.encrypt.Tie as tie

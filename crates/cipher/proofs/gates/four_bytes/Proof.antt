@@ -1,6 +1,6 @@
 -- `cipher::gates::four_bytes` meets its contract: the four lanes of eight words, each doubled onto the one before, are the bytes
 -- that stand in those lanes (`lanes-joined`).
-use Rattle.block.proofs.Base.{needs}
+use Rattle.cipher.proofs.Names.{needs}
 use Rattle.cipher.proofs.FourLanes.{lanes-joined}
 use Rattle.cipher.proofs.gates.four_bytes.Statement.{statement}
 use Rattle.cipher.proofs.gates.four_bytes.Tie as tie

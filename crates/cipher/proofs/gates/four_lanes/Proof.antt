@@ -1,5 +1,5 @@
 -- `cipher::gates::four_lanes` meets its contract: the mask is a one in each of the four lanes (`masked-lanes`).
-use Rattle.block.proofs.Base.{arith, and-le-r}
+use Rattle.cipher.proofs.Names.{and-le-r, arith}
 use Rattle.cipher.proofs.FourLanes.{masked-lanes}
 use Rattle.cipher.proofs.gates.four_lanes.Statement.{statement}
 use Rattle.cipher.proofs.gates.four_lanes.Tie as tie

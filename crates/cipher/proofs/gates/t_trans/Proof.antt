@@ -1,6 +1,5 @@
 -- `cipher::gates::t_trans` meets its contract: L after tau, as in the definition.
-use Rattle.block.proofs.Base.{_∙_, needs}
-use Rattle.cipher.specs.Sm4.{T}
+use Rattle.cipher.proofs.Names.{T, _∙_, needs}
 use Rattle.cipher.proofs.gates.t_trans.Statement.{statement}
 use Rattle.cipher.proofs.gates.t_trans.Tie as tie
 

@@ -1,5 +1,5 @@
 -- `cipher::mixed::four_rounds` meets its contract: the four results of T are put together by `four-by-hand`.
-use Rattle.block.proofs.Base.{needs}
+use Rattle.cipher.proofs.Names.{needs}
 use Rattle.cipher.proofs.Rounds.{four-by-hand}
 use Rattle.cipher.proofs.mixed.four_rounds.Statement.{statement}
 use Rattle.cipher.proofs.mixed.four_rounds.Tie as tie

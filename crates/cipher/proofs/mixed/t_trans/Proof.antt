@@ -1,6 +1,6 @@
 -- `cipher::mixed::t_trans` meets its contract: what is lent has an entry for every byte in each of its four tables, and their xor is
 -- T (`mixed-T`).
-use Rattle.block.proofs.Base.{arith, needs}
+use Rattle.cipher.proofs.Names.{arith, needs}
 use Rattle.cipher.proofs.Engines.{mixed-length}
 use Rattle.cipher.proofs.FourTables.{mixed-T}
 use Rattle.cipher.proofs.mixed.t_trans.Statement.{statement}

@@ -1,9 +1,6 @@
 -- `field::many::multiply` meets its contract: three products of halves make up each product without carry (`join-128`), and x^127 times that is
 -- the product (`reduced-product`).
-use Rattle.block.proofs.Base.{_∙_, needs}
-use Rattle.carryless.proofs.Joins.{join-128}
-use Rattle.carryless.proofs.Words.{lends-high, lends-low, lends-both}
-use Rattle.carryless.proofs.Laws.{clmul-lt}
+use Rattle.field.proofs.Names.{_∙_, clmul-lt, join-128, lends-both, lends-high, lends-low, needs}
 use Rattle.field.proofs.Reduction.{reduced-product}
 use Rattle.field.proofs.many.multiply.Statement.{statement}
 use Rattle.field.proofs.many.multiply.Tie as tie

@@ -1,9 +1,5 @@
 -- `field::many::reduce_each` meets its contract. The loop's invariant: the first g elements are there.
-use Rattle.block.proofs.Base.{_-_, _≤_, _≡_, arith, needs, length}
-use Rattle.carryless.specs.Carryless.{joining128}
-use Rattle.carryless.specs.Lanes.{lane, Both}
-use Rattle.carryless.proofs.Filling.{both-next}
-use Rattle.field.specs.Field.{timesXs}
+use Rattle.field.proofs.Names.{Both, _-_, _≡_, _≤_, arith, both-next, joining128, lane, length, needs, timesXs}
 use Rattle.field.proofs.many.reduce_each.Statement.{statement}
 use Rattle.field.proofs.many.reduce_each.Tie as tie
 

@@ -1,8 +1,5 @@
 -- `field::many::sums` meets its contract. The loop's invariant: the first g sums are there, and what was read are words.
-use Rattle.block.proofs.Base.{_-_, _<_, _^_, _≤_, ℕ, _≡_, arith, needs, getD, length}
-use Rattle.block.specs.Xor.{_⊕_}
-use Rattle.carryless.specs.Lanes.{Each}
-use Rattle.carryless.proofs.Filling.{one-more, each-next}
+use Rattle.field.proofs.Names.{Each, _-_, _<_, _^_, _≡_, _≤_, _⊕_, arith, each-next, getD, length, needs, one-more, ℕ}
 use Rattle.field.proofs.many.sums.Statement.{statement}
 use Rattle.field.proofs.many.sums.Tie as tie
 

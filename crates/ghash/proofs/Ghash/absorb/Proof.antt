@@ -1,8 +1,7 @@
 -- `ghash::Ghash::absorb` meets its contract. The words that are loaded spell the number of the block at the front of `rest`,
 -- filled up with zeros (`blockOf-words`), and `step` takes in that number (`absorbed-same`).
+use Rattle.ghash.proofs.Names.{_∙_, below-each, needs}
 use Rattle.ghash.proofs.Absorbing.{absorbed-same}
-use Rattle.block.proofs.Base.{_∙_, needs}
-use Rattle.block.proofs.Entries.{below-each}
 use Rattle.ghash.proofs.Blocks.{blockOf-words}
 use Rattle.ghash.proofs.Ghash.absorb.Statement.{statement}
 use Rattle.ghash.proofs.Ghash.absorb.Tie as tie

@@ -1,10 +1,6 @@
 -- `ghash::Ghash::absorb_each` meets its contract. The loop's invariant: the first i blocks are taken in, and m is the parts of H. A turn
 -- takes in the one that comes next (`absorbed-both`), and at the end these are all (`blocks-upTo`). The measure is how many are to come.
-use Rattle.block.proofs.Base.{_-_, _≤_, _≡_, arith, length, needs}
-use Rattle.carryless.specs.Lent.{PartsOf}
-use Rattle.ghash.specs.Absorbed.{Absorbed}
-use Rattle.ghash.specs.Ghash.{blockCount, hashFrom}
-use Rattle.ghash.specs.Sets.{upTo, blockNumber}
+use Rattle.ghash.proofs.Names.{Absorbed, PartsOf, _-_, _≡_, _≤_, arith, blockCount, blockNumber, hashFrom, length, needs, upTo}
 use Rattle.ghash.proofs.Absorbing.{parts-same, absorbed-both}
 use Rattle.ghash.proofs.Blocks.{blocks-upTo, lent-all}
 use Rattle.ghash.proofs.Sets.{upTo-next}

@@ -1,7 +1,6 @@
 -- `ghash::halves::galois_hash_after` meets its contract: the label's hash joined to what is kept of the text, and then the length block, is
 -- the hash of both (`half-auth`).
-use Rattle.block.proofs.Base.{arith, needs}
-use Rattle.field.proofs.Bounded.{whole-lt}
+use Rattle.ghash.proofs.Names.{arith, needs, whole-lt}
 use Rattle.ghash.proofs.JoinedBytes.{half-auth}
 use Rattle.ghash.proofs.halves.galois_hash_after.Statement.{statement}
 use Rattle.ghash.proofs.halves.galois_hash_after.Tie as tie

@@ -1,11 +1,6 @@
 -- `ghash::interleaved::absorb_hashes` meets its contract. The loop's invariant: the first k hashes are taken in, and m is the parts of H. A turn
 -- takes in the one that comes next (`absorbed-both`).
-use Rattle.block.proofs.Base.{_-_, _≤_, _≡_, arith, needs}
-use Rattle.carryless.specs.Lanes.{lane}
-use Rattle.carryless.specs.Lent.{PartsOf}
-use Rattle.ghash.specs.Absorbed.{Absorbed}
-use Rattle.ghash.specs.Ghash.{hashFrom}
-use Rattle.ghash.specs.Sets.{upTo}
+use Rattle.ghash.proofs.Names.{Absorbed, PartsOf, _-_, _≡_, _≤_, arith, hashFrom, lane, needs, upTo}
 use Rattle.ghash.proofs.Absorbing.{parts-same, absorbed-both}
 use Rattle.ghash.proofs.Sets.{upTo-next}
 use Rattle.ghash.proofs.interleaved.absorb_hashes.Statement.{statement}

@@ -1,8 +1,6 @@
 -- `ghash::interleaved::absorb_lanes` meets its contract: once the sets are taken in, the hashes join to the hash of their blocks, and the rest is
 -- taken in block by block (`absorbed-cut`).
-use Rattle.block.proofs.Base.{_*_, _≤_, _∙_, lt-of-le-of-lt, arith, needs, length}
-use Rattle.block.specs.Wide.{value}
-use Rattle.field.proofs.Bounded.{whole-lt}
+use Rattle.ghash.proofs.Names.{_*_, _∙_, _≤_, arith, length, lt-of-le-of-lt, needs, value, whole-lt}
 use Rattle.ghash.proofs.Absorbing.{absorbed-cut, hash-of}
 use Rattle.ghash.proofs.Sets.{lanes-few, starts-first}
 use Rattle.ghash.proofs.interleaved.absorb_lanes.Statement.{statement}

@@ -1,10 +1,6 @@
 -- `ghash::interleaved::absorb_sets` meets its contract. The loop's invariant: where the first set was hashed (`hashed-first`), the first b blocks are,
 -- and the hashes are elements. In a turn the hashes are multiplied, and the next set is added (`hashed-next`).
-use Rattle.block.proofs.Base.{_-_, _<_, _≤_, ℕ, _≡_, arith, needs, length}
-use Rattle.block.specs.Wide.{value}
-use Rattle.carryless.specs.Lanes.{lane}
-use Rattle.field.specs.Field.{Element, gpow}
-use Rattle.ghash.specs.Sets.{upTo, blockNumber, Hashed}
+use Rattle.ghash.proofs.Names.{Element, Hashed, _-_, _<_, _≡_, _≤_, arith, blockNumber, gpow, lane, length, needs, upTo, value, ℕ}
 use Rattle.ghash.proofs.Sets.{lent-block, hashed-first, hashed-next}
 use Rattle.ghash.proofs.interleaved.absorb_sets.Statement.{statement}
 use Rattle.ghash.proofs.interleaved.absorb_sets.Tie as tie

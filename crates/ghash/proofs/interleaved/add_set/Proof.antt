@@ -1,13 +1,7 @@
 -- `ghash::interleaved::add_set` meets its contract. The loop's invariant: to the first k hashes their blocks are added, and these are elements; the
 -- others are as they were.
-use Rattle.block.proofs.Base.{_-_, _<_, _≤_, ℕ, _∙_, _≡_, ap₂, refl, arith, needs, length}
-use Rattle.block.specs.Xor.{_⊕_}
-use Rattle.block.proofs.Entries.{below-each}
-use Rattle.carryless.specs.Lanes.{lane, Both}
-use Rattle.carryless.proofs.Filling.{one-more, lane-same, lane-other, both-next}
-use Rattle.field.specs.Field.{Element}
-use Rattle.field.proofs.Bounded.{whole-lt}
-use Rattle.ghash.specs.Sets.{blockNumber}
+use Rattle.ghash.proofs.Names.{Both, Element, _-_, _<_, _∙_, _≡_, _≤_, _⊕_, ap₂, arith, below-each, blockNumber, both-next, lane}
+use Rattle.ghash.proofs.Names.{lane-other, lane-same, length, needs, one-more, refl, whole-lt, ℕ}
 use Rattle.ghash.proofs.Sets.{lent-number}
 use Rattle.ghash.proofs.interleaved.add_set.Statement.{statement}
 use Rattle.ghash.proofs.interleaved.add_set.Tie as tie

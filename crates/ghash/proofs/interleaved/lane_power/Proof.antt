@@ -1,9 +1,6 @@
 -- `ghash::interleaved::lane_power` meets its contract: each square doubles the exponent (`doubled`).
-use Rattle.block.proofs.Base.{_+_, ℕ, _∙_, _≡_, sym, ⊎-elim, arith, needs}
-use Rattle.block.specs.Wide.{value}
-use Rattle.field.specs.Field.{Element, gmul, gpow}
-use Rattle.field.proofs.Bounded.{whole-lt}
-use Rattle.field.proofs.Powers.{gpow-add, power-one}
+use Rattle.ghash.proofs.Names.{Element, _+_, _∙_, _≡_, arith, gmul, gpow, gpow-add, needs, power-one, sym, value, whole-lt, ℕ}
+use Rattle.ghash.proofs.Names.{⊎-elim}
 use Rattle.ghash.proofs.interleaved.lane_power.Statement.{statement}
 use Rattle.ghash.proofs.interleaved.lane_power.Tie as tie
 

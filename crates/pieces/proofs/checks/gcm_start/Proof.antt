@@ -1,6 +1,5 @@
 -- `pieces::checks::gcm_start` meets its contract: key and IV, and then the label.
-use Rattle.pieces.specs.Checks.{gcmStarting}
-use Rattle.block.proofs.Base.{needs}
+use Rattle.pieces.proofs.Names.{gcmStarting, needs}
 use Rattle.pieces.proofs.checks.gcm_start.Statement.{statement}
 use Rattle.pieces.proofs.checks.gcm_start.Tie as tie
 

@@ -1,6 +1,5 @@
 -- `pieces::checks::past_limit` meets its contract. The total is tested before the difference is taken, and the two tests are the one.
-use Rattle.block.proofs.Base.{_+_, _-_, arith, le-ltb, lt-ltb}
-use Rattle.cipher_mode.specs.Tables.{limit}
+use Rattle.pieces.proofs.Names.{_+_, _-_, arith, le-ltb, limit, lt-ltb}
 use Rattle.pieces.proofs.Cases.{by-order}
 use Rattle.pieces.proofs.checks.past_limit.Statement.{statement}
 use Rattle.pieces.proofs.checks.past_limit.Tie as tie

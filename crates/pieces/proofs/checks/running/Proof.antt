@@ -1,6 +1,5 @@
 -- `pieces::checks::running` meets its contract: what the state stands at, and then the two lengths.
-use Rattle.block.proofs.Base.{needs}
-use Rattle.pieces.specs.Checks.{running}
+use Rattle.pieces.proofs.Names.{needs, running}
 use Rattle.pieces.proofs.checks.running.Statement.{statement}
 use Rattle.pieces.proofs.checks.running.Tie as tie
 

@@ -1,6 +1,5 @@
 -- `pieces::checks::tagged` meets its contract: what is refused of a state that runs, and then the tag's length.
-use Rattle.block.proofs.Base.{_-_, _≡_, arith, needs}
-use Rattle.pieces.specs.Checks.{tagged}
+use Rattle.pieces.proofs.Names.{_-_, _≡_, arith, needs, tagged}
 use Rattle.pieces.proofs.checks.tagged.Statement.{statement}
 use Rattle.pieces.proofs.checks.tagged.Tie as tie
 

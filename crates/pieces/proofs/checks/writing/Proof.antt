@@ -1,6 +1,5 @@
 -- `pieces::checks::writing` meets its contract: what is refused of a state that runs, and then the room.
-use Rattle.block.proofs.Base.{needs}
-use Rattle.pieces.specs.Checks.{writing}
+use Rattle.pieces.proofs.Names.{needs, writing}
 use Rattle.pieces.proofs.checks.writing.Statement.{statement}
 use Rattle.pieces.proofs.checks.writing.Tie as tie
 

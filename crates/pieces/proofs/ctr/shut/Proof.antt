@@ -1,6 +1,5 @@
 -- `pieces::ctr::shut` meets its contract: every field is the definition's.
-use Rattle.pieces.specs.States.{ctrShut}
-use Rattle.block.proofs.Base.{needs}
+use Rattle.pieces.proofs.Names.{ctrShut, needs}
 use Rattle.pieces.proofs.ctr.shut.Statement.{statement}
 use Rattle.pieces.proofs.ctr.shut.Tie as tie
 

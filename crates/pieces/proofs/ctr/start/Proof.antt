@@ -1,10 +1,6 @@
 -- `pieces::ctr::start` meets its contract: what the checks refuse is refused, and otherwise the IV is the first counter.
-use Rattle.block.proofs.Base.{_<_, ℕ, _∙_, _≡_, sym, arith, needs, now, getD, length}
-use Rattle.cipher_mode.proofs.Passed.{sixteen, key-and-iv-passed}
-use Rattle.cipher_mode.proofs.Ends.{spelled}
-use Rattle.pieces.specs.declared.flow.Counting.the-variants.{Ctr as Ctr·counting}
-use Rattle.pieces.specs.States.{ctrAfter}
-use Rattle.pieces.specs.Calls.{ctrStart}
+use Rattle.pieces.proofs.Names.{Ctr·counting, _<_, _∙_, _≡_, arith, ctrAfter, ctrStart, getD, key-and-iv-passed, length, needs, now}
+use Rattle.pieces.proofs.Names.{sixteen, spelled, sym, ℕ}
 use Rattle.pieces.proofs.KeyStream.{flow-start}
 use Rattle.pieces.proofs.ctr.start.Statement.{statement}
 use Rattle.pieces.proofs.ctr.start.Tie as tie

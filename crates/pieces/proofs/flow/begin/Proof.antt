@@ -1,5 +1,5 @@
 -- `pieces::flow::begin` meets its contract: the counter's bytes, and its cipher.
-use Rattle.block.proofs.Base.{needs}
+use Rattle.pieces.proofs.Names.{needs}
 use Rattle.pieces.proofs.flow.begin.Statement.{statement}
 use Rattle.pieces.proofs.flow.begin.Tie as tie
 

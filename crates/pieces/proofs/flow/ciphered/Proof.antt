@@ -1,6 +1,6 @@
 -- `pieces::flow::ciphered` meets its contract: the cipher of four words is that of the bytes that they spell.
+use Rattle.pieces.proofs.Names.{needs}
 use Rattle.pieces.proofs.Fitting.{ciphered-words}
-use Rattle.block.proofs.Base.{needs}
 use Rattle.pieces.proofs.flow.ciphered.Statement.{statement}
 use Rattle.pieces.proofs.flow.ciphered.Tie as tie
 

@@ -1,6 +1,5 @@
 -- `pieces::flow::onward` meets its contract: the stream starts at the next counter, and its end is the flow's.
-use Rattle.block.proofs.Base.{refl, needs}
-use Rattle.pieces.specs.Flow.{flowAfter}
+use Rattle.pieces.proofs.Names.{flowAfter, needs, refl}
 use Rattle.pieces.proofs.Fitting.{spelt}
 use Rattle.pieces.proofs.flow.onward.Statement.{statement}
 use Rattle.pieces.proofs.flow.onward.Tie as tie

@@ -1,7 +1,6 @@
 -- `pieces::flow::xor_pad` meets its contract. The loop's invariant: the first i bytes are xored with the pad from place p on,
 -- and the rest of the output is as it was lent.
-use Rattle.block.proofs.Base.{_-_, _≤_, _≡_, refl, _++_, arith, needs, now, drop, length, length-set, take}
-use Rattle.block.specs.Xor.{xors}
+use Rattle.pieces.proofs.Names.{_++_, _-_, _≡_, _≤_, arith, drop, length, length-set, needs, now, refl, take, xors}
 use Rattle.pieces.proofs.Pads.{pad-turn, pad-reached}
 use Rattle.pieces.proofs.flow.xor_pad.Statement.{statement}
 use Rattle.pieces.proofs.flow.xor_pad.Tie as tie

@@ -1,7 +1,5 @@
 -- `pieces::hashing::begin` meets its contract: before the first byte nothing is held (`held-within`).
-use Rattle.block.proofs.Base.{[], arith, needs}
-use Rattle.block.proofs.Convert.{length-bytesOf, bytesOf-bytes}
-use Rattle.pieces.specs.Hashing.{filledUp, hashOf}
+use Rattle.pieces.proofs.Names.{[], arith, bytesOf-bytes, filledUp, hashOf, length-bytesOf, needs}
 use Rattle.pieces.proofs.HashOn.{held-within}
 use Rattle.pieces.proofs.hashing.begin.Statement.{statement}
 use Rattle.pieces.proofs.hashing.begin.Tie as tie

@@ -1,5 +1,5 @@
 -- `pieces::hashing::byte_at` meets its contract: past the end the default is read.
-use Rattle.block.proofs.Base.{sym, arith, needs, now, List·getD-eq-default}
+use Rattle.pieces.proofs.Names.{List·getD-eq-default, arith, needs, now, sym}
 use Rattle.pieces.proofs.hashing.byte_at.Statement.{statement}
 use Rattle.pieces.proofs.hashing.byte_at.Tie as tie
 

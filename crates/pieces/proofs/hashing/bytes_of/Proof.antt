@@ -1,6 +1,5 @@
 -- `pieces::hashing::bytes_of` meets its contract: the words of a number's sixteen bytes spell these bytes.
-use Rattle.block.proofs.Base.{_∙_, needs}
-use Rattle.block.proofs.WordsBack.{unwords-number}
+use Rattle.pieces.proofs.Names.{_∙_, needs, unwords-number}
 use Rattle.pieces.proofs.hashing.bytes_of.Statement.{statement}
 use Rattle.pieces.proofs.hashing.bytes_of.Tie as tie
 

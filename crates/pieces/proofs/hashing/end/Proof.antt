@@ -1,7 +1,5 @@
 -- `pieces::hashing::end` meets its contract: what is held is one block or none, and the length block is behind it.
-use Rattle.block.proofs.Base.{_≡_, sub-zero, arith, needs, length}
-use Rattle.ghash.proofs.Absorbing.{absorbed-both}
-use Rattle.pieces.specs.Hashing.{hashEnd}
+use Rattle.pieces.proofs.Names.{_≡_, absorbed-both, arith, hashEnd, length, needs, sub-zero}
 use Rattle.pieces.proofs.hashing.end.Statement.{statement}
 use Rattle.pieces.proofs.hashing.end.Tie as tie
 

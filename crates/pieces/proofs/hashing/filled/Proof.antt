@@ -1,9 +1,8 @@
 -- `pieces::hashing::filled` meets its contract. The loop's invariant: the first i bytes are those of the block, and the rest are as they
 -- were held.
-use Rattle.block.proofs.Base.{_-_, _≤_, _∙_, _≡_, sym, _++_, append-nil, arith, needs, now, drop, drop-of-length-le, getD}
-use Rattle.block.proofs.Base.{length, length-append, length-set, take, take-all, take-append-drop, length-take-le, take-at}
-use Rattle.block.proofs.Fill.{copy-turn}
-use Rattle.pieces.specs.Hashing.{filledUp}
+use Rattle.pieces.proofs.Names.{_++_, _-_, _∙_, _≡_, _≤_, append-nil, arith, copy-turn, drop, drop-of-length-le, filledUp, getD}
+use Rattle.pieces.proofs.Names.{length, length-append, length-set, length-take-le, needs, now, sym, take, take-all, take-append-drop}
+use Rattle.pieces.proofs.Names.{take-at}
 use Rattle.pieces.proofs.Filling.{at-text, filled-length, filled-at, filled-front}
 use Rattle.pieces.proofs.hashing.filled.Statement.{statement}
 use Rattle.pieces.proofs.hashing.filled.Tie as tie

@@ -1,9 +1,6 @@
 -- `pieces::hashing::full_blocks` meets its contract: the block, and then the full blocks behind it, are those of both joined
 -- (`full-first`), and what is held is what is begun behind them (`begun-behind`).
-use Rattle.block.proofs.Base.{_%_, _*_, _-_, _/_, _≡_, sub-zero, arith, needs, now, length}
-use Rattle.ghash.proofs.Absorbing.{absorbed-both}
-use Rattle.block.proofs.Tails.{tail-is}
-use Rattle.pieces.specs.Hashing.{hashAfter}
+use Rattle.pieces.proofs.Names.{_%_, _*_, _-_, _/_, _≡_, absorbed-both, arith, hashAfter, length, needs, now, sub-zero, tail-is}
 use Rattle.pieces.proofs.Begun.{begun-behind}
 use Rattle.pieces.proofs.HashOn.{full-first}
 use Rattle.pieces.proofs.hashing.full_blocks.Statement.{statement}

@@ -1,6 +1,6 @@
 -- `pieces::hashing::number_of` meets its contract: the words of sixteen bytes spell the number that these spell.
+use Rattle.pieces.proofs.Names.{needs}
 use Rattle.pieces.proofs.Fitting.{spelt}
-use Rattle.block.proofs.Base.{needs}
 use Rattle.pieces.proofs.hashing.number_of.Statement.{statement}
 use Rattle.pieces.proofs.hashing.number_of.Tie as tie
 

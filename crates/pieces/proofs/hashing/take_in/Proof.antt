@@ -1,8 +1,6 @@
 -- `pieces::hashing::take_in` meets its contract. Where the text does not fill the begun block, all is held (`held-within`);
 -- where it does, the first block and what is behind it are what was held and the text (`filled-full`).
-use Rattle.block.proofs.Base.{_-_, _<_, _++_, arith, needs, now, length, length-append, take, length-take-le}
-use Rattle.block.proofs.Tails.{tail-is}
-use Rattle.pieces.specs.Hashing.{hashNext}
+use Rattle.pieces.proofs.Names.{_++_, _-_, _<_, arith, hashNext, length, length-append, length-take-le, needs, now, tail-is, take}
 use Rattle.pieces.proofs.Filling.{filled-full}
 use Rattle.pieces.proofs.Fitting.{Sixteen, are-bytes}
 use Rattle.pieces.proofs.HashOn.{held-within}

@@ -1,7 +1,5 @@
 -- `pieces::opens::same_tag` meets its contract: it compares the tag with mask and hash xored.
-use Rattle.block.proofs.Base.{_∙_, needs}
-use Rattle.block.specs.Words.{words}
-use Rattle.block.proofs.WordsBack.{length-words, unwords-xors}
+use Rattle.pieces.proofs.Names.{_∙_, length-words, needs, unwords-xors, words}
 use Rattle.pieces.proofs.Fitting.{Sixteen, spelt}
 use Rattle.pieces.proofs.opens.same_tag.Statement.{statement}
 use Rattle.pieces.proofs.opens.same_tag.Tie as tie

@@ -1,6 +1,5 @@
 -- `pieces::opens::shut` meets its contract: every field is the definition's.
-use Rattle.pieces.specs.States.{opensShut}
-use Rattle.block.proofs.Base.{needs}
+use Rattle.pieces.proofs.Names.{needs, opensShut}
 use Rattle.pieces.proofs.opens.shut.Statement.{statement}
 use Rattle.pieces.proofs.opens.shut.Tie as tie
 

@@ -1,9 +1,6 @@
 -- `pieces::opens::start` meets its contract: what the checks refuse is refused, and otherwise the label's hash and the cipher of J0
 -- are `tagging::begin`'s.
-use Rattle.block.proofs.Base.{_∙_, sym, needs}
-use Rattle.cipher_mode.proofs.Passed.{iv-twelve-or-sixteen}
-use Rattle.pieces.specs.States.{opensAfter}
-use Rattle.pieces.specs.Calls.{opensStart}
+use Rattle.pieces.proofs.Names.{_∙_, iv-twelve-or-sixteen, needs, opensAfter, opensStart, sym}
 use Rattle.pieces.proofs.Passing.{starting-passed}
 use Rattle.pieces.proofs.opens.start.Statement.{statement}
 use Rattle.pieces.proofs.opens.start.Tie as tie

@@ -1,6 +1,5 @@
 -- `pieces::seal::shut` meets its contract: every field is the definition's.
-use Rattle.pieces.specs.States.{sealShut}
-use Rattle.block.proofs.Base.{needs}
+use Rattle.pieces.proofs.Names.{needs, sealShut}
 use Rattle.pieces.proofs.seal.shut.Statement.{statement}
 use Rattle.pieces.proofs.seal.shut.Tie as tie
 

@@ -1,12 +1,6 @@
 -- `pieces::seal::start` meets its contract: what the checks refuse is refused, and otherwise the flow is at the counter after J0,
 -- and J0, the label's hash and the cipher of J0 are `tagging::begin`'s.
-use Rattle.block.proofs.Base.{_∙_, sym, needs, now}
-use Rattle.counter.specs.Counter.{gcmNext}
-use Rattle.gcm.specs.Gcm.{J0}
-use Rattle.cipher_mode.proofs.Passed.{iv-twelve-or-sixteen}
-use Rattle.pieces.specs.declared.flow.Counting.the-variants.{Gcm as Gcm·counting}
-use Rattle.pieces.specs.States.{sealAfter}
-use Rattle.pieces.specs.Calls.{sealStart}
+use Rattle.pieces.proofs.Names.{Gcm·counting, J0, _∙_, gcmNext, iv-twelve-or-sixteen, needs, now, sealAfter, sealStart, sym}
 use Rattle.pieces.proofs.KeyStream.{flow-start}
 use Rattle.pieces.proofs.Passing.{starting-passed}
 use Rattle.pieces.proofs.Sealing.{no-text}

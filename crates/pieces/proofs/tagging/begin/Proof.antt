@@ -1,7 +1,6 @@
 -- `pieces::tagging::begin` meets its contract: H and J0 are those of the keys and the IV, and J0's last word is the number in its last four
 -- bytes.
-use Rattle.block.proofs.Base.{refl, needs, getD, w32, Fits}
-use Rattle.counter.proofs.Steps.{last-four}
+use Rattle.pieces.proofs.Names.{Fits, getD, last-four, needs, refl, w32}
 use Rattle.pieces.proofs.tagging.begin.Statement.{statement}
 use Rattle.pieces.proofs.tagging.begin.Tie as tie
 

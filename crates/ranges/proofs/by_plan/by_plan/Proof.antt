@@ -1,11 +1,7 @@
 -- `ranges::by_plan::by_plan` meets its contract: where the key, the IV or the length refused, or the plan is not accepted, or the room is
 -- short, so says the definition; where none did, the pieces gave what the single call gives.
-use Rattle.block.proofs.Base.{_∙_, _≡_, sym, zero-add, needs, le-ltb, lt-ltb, not-false, now, length}
-use Rattle.stream.specs.declared.Kind.the-variants.{Ctr}
-use Rattle.stream.proofs.RoundTrip.{length-stream}
-use Rattle.cipher_mode.specs.declared.checks.Checked.the-variants.{Passed}
-use Rattle.ranges.specs.Range.{reachCheck}
-use Rattle.ranges.specs.ByPlan.{planCall}
+use Rattle.ranges.proofs.Names.{Ctr, Passed, _∙_, _≡_, le-ltb, length, length-stream, lt-ltb, needs, not-false, now, planCall}
+use Rattle.ranges.proofs.Names.{reachCheck, sym, zero-add}
 use Rattle.ranges.proofs.Passed.{reach-passed}
 use Rattle.ranges.proofs.by_plan.by_plan.Statement.{statement}
 use Rattle.ranges.proofs.by_plan.by_plan.Tie as tie

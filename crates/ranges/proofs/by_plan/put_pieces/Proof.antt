@@ -1,13 +1,8 @@
 -- `ranges::by_plan::put_pieces` meets its contract. The loop's invariant: what stands in the output is what the single call gives of the
 -- text up to `at`, and the pieces to come follow one another from there to the text's end. The measure is how many are to come.
-use Rattle.block.proofs.Base.{_+_, _-_, _≤_, _∙_, _≡_, refl, sym, true, [], arith, needs, eqb-true, now, drop, getD, length}
-use Rattle.block.proofs.Base.{length-drop, length-take, take, take-all}
-use Rattle.block.specs.Over.{over}
-use Rattle.walk.specs.Walk.{chain}
-use Rattle.walk.proofs.Chain.{chain-rest}
-use Rattle.block.proofs.Tails.{length-tailed}
-use Rattle.stream.specs.Stream.{streamMode}
-use Rattle.stream.specs.declared.Kind.the-variants.{Ctr}
+use Rattle.ranges.proofs.Names.{Ctr, [], _+_, _-_, _∙_, _≡_, _≤_, arith, chain, chain-rest, drop, eqb-true, getD, length}
+use Rattle.ranges.proofs.Names.{length-drop, length-tailed, length-take, needs, now, over, refl, streamMode, sym, take, take-all}
+use Rattle.ranges.proofs.Names.{true}
 use Rattle.ranges.proofs.Accepted.{at-most-64, from-0-to-n}
 use Rattle.ranges.proofs.Following.{First, followsFrom, follows-on, ends}
 use Rattle.ranges.proofs.Joined.{joined}

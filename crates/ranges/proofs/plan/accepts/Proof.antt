@@ -1,8 +1,7 @@
 -- `plan::accepts` meets its contract. The loop's invariant: the pieces so far reach `at`, which is not past `n`, and whether those to
 -- come follow one another from there decides. The measure is how many are to come.
-use Rattle.block.proofs.Base.{_+_, _-_, _≤_, _∙_, _≡_, refl, sym, cond, false, true, arith, needs, le-leb, lt-leb, not-false, not-true}
-use Rattle.block.proofs.Base.{getD, length}
-use Rattle.ranges.specs.Plan.{accepts}
+use Rattle.ranges.proofs.Names.{_+_, _-_, _∙_, _≡_, _≤_, accepts, arith, cond, false, getD, le-leb, length, lt-leb, needs, not-false}
+use Rattle.ranges.proofs.Names.{not-true, refl, sym, true}
 use Rattle.ranges.proofs.Following.{followsFrom, tested, piece-fits, ends}
 use Rattle.ranges.proofs.plan.accepts.Statement.{statement}
 use Rattle.ranges.proofs.plan.accepts.Tie as tie

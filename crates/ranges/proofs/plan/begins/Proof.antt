@@ -1,5 +1,5 @@
 -- `plan::begins` meets its contract: each branch is the test that led to it.
-use Rattle.block.proofs.Base.{arith, le-ltb, lt-ltb}
+use Rattle.ranges.proofs.Names.{arith, le-ltb, lt-ltb}
 use Rattle.ranges.proofs.plan.begins.Statement.{statement}
 use Rattle.ranges.proofs.plan.begins.Tie as tie
 

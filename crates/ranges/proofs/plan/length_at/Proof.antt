@@ -1,5 +1,5 @@
 -- `plan::length_at` meets its contract: past `n` nothing is left, and before it the smaller of the two is the answer.
-use Rattle.block.proofs.Base.{_-_, _≡_, arith, le-ltb, lt-ltb}
+use Rattle.ranges.proofs.Names.{_-_, _≡_, arith, le-ltb, lt-ltb}
 use Rattle.ranges.proofs.plan.length_at.Statement.{statement}
 use Rattle.ranges.proofs.plan.length_at.Tie as tie
 

@@ -1,6 +1,5 @@
 -- `plan::make` meets its contract: each return is the tests that led to it, and a piece is short enough for a plan of 64.
-use Rattle.block.proofs.Base.{arith, needs, eq-eqb, le-ltb, lt-ltb, ne-eqb}
-use Rattle.ranges.specs.Plan.{planned}
+use Rattle.ranges.proofs.Names.{arith, eq-eqb, le-ltb, lt-ltb, ne-eqb, needs, planned}
 use Rattle.ranges.proofs.Sharing.{short-enough}
 use Rattle.ranges.proofs.plan.make.Statement.{statement}
 use Rattle.ranges.proofs.plan.make.Tie as tie

@@ -1,7 +1,5 @@
 -- `plan::piece_size` meets its contract: a share is no more than all the blocks and workers, so nothing wraps.
-use Rattle.block.proofs.Base.{_+_, _-_, refl, div-le-self, arith, needs}
-use Rattle.counter.specs.CameRound.{blocksOf}
-use Rattle.ranges.specs.Plan.{pieceSize}
+use Rattle.ranges.proofs.Names.{_+_, _-_, arith, blocksOf, div-le-self, needs, pieceSize, refl}
 use Rattle.ranges.proofs.plan.piece_size.Statement.{statement}
 use Rattle.ranges.proofs.plan.piece_size.Tie as tie
 

@@ -1,7 +1,6 @@
 -- `plan::plan_in` meets its contract. The loop's invariant: the places so far, and those still to come from byte `at` on, are the
 -- plan. The measure is how many are to come.
-use Rattle.block.proofs.Base.{_*_, _+_, _-_, _≤_, _∙_, _≡_, zero-add, arith, needs, length, length-set}
-use Rattle.ranges.specs.Plan.{planIn}
+use Rattle.ranges.proofs.Names.{_*_, _+_, _-_, _∙_, _≡_, _≤_, arith, length, length-set, needs, planIn, zero-add}
 use Rattle.ranges.proofs.Laying.{laid, laid-more, laid-all}
 use Rattle.ranges.proofs.plan.plan_in.Statement.{statement}
 use Rattle.ranges.proofs.plan.plan_in.Tie as tie
@@ -39,7 +38,6 @@ returns c =
     laid-all (a .n) (a .size) (l .count) (l .starts) (l .lengths) (l .at) (l .i) (l .inv .3) (l .inv .4) (omega arith) ∙ l .inv .5
 
 pub plan-in-spec : {M : Type 1} → statement M
-plan-in-spec = tie.close (tie.spec Inv-loop μ-loop
-    (λ c. (omega arith, omega arith, omega arith, search needs, search needs, rw zero-add)) (search needs) (omega arith) (omega arith)
-    (search needs) (omega arith) (omega arith) (search needs) (λ c. record { fits = omega arith }) (omega arith) (omega arith) (omega arith)
-    loop-again returns)
+plan-in-spec = tie.close (tie.spec Inv-loop μ-loop (λ c. (omega arith, omega arith, omega arith, search needs, search needs, rw zero-add))
+    (search needs) (omega arith) (omega arith) (search needs) (omega arith) (omega arith) (search needs)
+    (λ c. record { fits = omega arith }) (omega arith) (omega arith) (omega arith) loop-again returns)

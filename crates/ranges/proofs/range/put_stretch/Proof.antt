@@ -1,8 +1,6 @@
 -- `ranges::range::put_stretch` meets its contract: the flow begins at the counter that is jumped to, and from there on gives the stretch
 -- (`jumped`).
-use Rattle.block.proofs.Base.{_<_, ℕ, mod-lt, arith, needs, lit<, now, getD}
-use Rattle.block.proofs.Entries.{below-each}
-use Rattle.cipher_mode.proofs.Ends.{spelled}
+use Rattle.ranges.proofs.Names.{_<_, arith, below-each, getD, lit<, mod-lt, needs, now, spelled, ℕ}
 use Rattle.ranges.proofs.Jumped.{jumped}
 use Rattle.ranges.proofs.range.put_stretch.Statement.{statement}
 use Rattle.ranges.proofs.range.put_stretch.Tie as tie

@@ -1,7 +1,6 @@
 -- `ranges::range::range` meets its contract: where the key, the IV, the end of the stretch or the room refused, so does the definition;
 -- where they did not, the stretch was written and is as long as the data.
-use Rattle.block.proofs.Base.{_∙_, _≡_, sym, needs, now, length}
-use Rattle.ranges.specs.Range.{rangeCheck, rangeCall}
+use Rattle.ranges.proofs.Names.{_∙_, _≡_, length, needs, now, rangeCall, rangeCheck, sym}
 use Rattle.ranges.proofs.Passed.{range-passed}
 use Rattle.ranges.proofs.Jumped.{length-stretch}
 use Rattle.ranges.proofs.range.range.Statement.{statement}

@@ -1,6 +1,5 @@
 -- `ranges::range::reach` meets its contract: key and IV, and then where the stretch ends.
-use Rattle.block.proofs.Base.{needs}
-use Rattle.ranges.specs.Range.{reachCheck}
+use Rattle.ranges.proofs.Names.{needs, reachCheck}
 use Rattle.ranges.proofs.range.reach.Statement.{statement}
 use Rattle.ranges.proofs.range.reach.Tie as tie
 

@@ -1,7 +1,5 @@
 -- `sliced::counters::add_row` meets its contract: the eight words are added one after the other (`added-next`).
-use Rattle.block.proofs.Base.{_*_, ℕ, subst, sym, add-zero, arith, needs, getD}
-use Rattle.lanes.proofs.Needs.{next16}
-use Rattle.sliced.specs.Counting.{WordAdded}
+use Rattle.sliced.proofs.Names.{WordAdded, _*_, add-zero, arith, getD, needs, next16, subst, sym, ℕ}
 use Rattle.sliced.proofs.Ripple.{added-first, added-next}
 use Rattle.sliced.proofs.counters.add_row.Statement.{statement}
 use Rattle.sliced.proofs.counters.add_row.Tie as tie

@@ -1,8 +1,6 @@
 -- `sliced::counters::add_word` meets its contract. The invariant of both loops: the low i bits are added (`Rippled`). A turn adds one row
 -- more (`rippled-next`): in the first loop to the row that stands in x, in the second, where it is empty, to zeros.
-use Rattle.block.proofs.Base.{_*_, _+_, _-_, _<_, _^_, _≤_, ℕ, _∙_, _≡_, sym, List, arith, needs, length}
-use Rattle.lanes.specs.Bits.{bit, Masks}
-use Rattle.lanes.proofs.Masks.{blank-room}
+use Rattle.sliced.proofs.Names.{List, Masks, _*_, _+_, _-_, _<_, _^_, _∙_, _≡_, _≤_, arith, bit, blank-room, length, needs, sym, ℕ}
 use Rattle.sliced.proofs.Ripple.{Rippled, rippled-first, rippled-next, rippled-last}
 use Rattle.sliced.proofs.counters.add_word.Statement.{statement}
 use Rattle.sliced.proofs.counters.add_word.Tie as tie

@@ -1,10 +1,6 @@
 -- `sliced::counters::count` meets its contract: in each lane the last word of c and the lane's number are added, and what is carried to
 -- the other words (`lanes-counted`).
-use Rattle.block.proofs.Base.{_^_, ℕ, needs, getD, replicate, w32, Fits}
-use Rattle.block.specs.Below.{AreWords}
-use Rattle.block.proofs.Entries.{below-each}
-use Rattle.lanes.proofs.Masks.{blank-room}
-use Rattle.sliced.specs.Counting.{numberAt, carryAt}
+use Rattle.sliced.proofs.Names.{AreWords, Fits, _^_, below-each, blank-room, carryAt, getD, needs, numberAt, replicate, w32, ℕ}
 use Rattle.sliced.proofs.CounterDigits.{added-number, added-carry, lanes-counted}
 use Rattle.sliced.proofs.counters.count.Statement.{statement}
 use Rattle.sliced.proofs.counters.count.Tie as tie

@@ -1,6 +1,6 @@
 -- `sliced::counters::numbers` meets its contract. The invariant of both loops: the first p words hold the lanes' numbers, the others
 -- nothing. The low six rows are the patterns (`low-rows`), the others the bits of the column (`high-rows`).
-use Rattle.block.proofs.Base.{_-_, _≤_, arith, needs}
+use Rattle.sliced.proofs.Names.{_-_, _≤_, arith, needs}
 use Rattle.sliced.proofs.LaneNumbers.{low-rows, high-rows, Numbered, numbered-first, numbered-next, numbered-last}
 use Rattle.sliced.proofs.counters.numbers.Statement.{statement}
 use Rattle.sliced.proofs.counters.numbers.Tie as tie

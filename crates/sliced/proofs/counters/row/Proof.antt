@@ -1,6 +1,5 @@
 -- `sliced::counters::row` meets its contract (`eight-words`).
-use Rattle.block.proofs.Base.{needs}
-use Rattle.lanes.proofs.Needs.{next8, next16}
+use Rattle.sliced.proofs.Names.{needs, next16, next8}
 use Rattle.sliced.proofs.Ripple.{eight-words}
 use Rattle.sliced.proofs.counters.row.Statement.{statement}
 use Rattle.sliced.proofs.counters.row.Tie as tie

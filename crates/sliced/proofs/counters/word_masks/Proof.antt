@@ -1,7 +1,5 @@
 -- `sliced::counters::word_masks` meets its contract. The loop's invariant: the masks of the first i bits are there (`masks-next`).
-use Rattle.block.proofs.Base.{_-_, _≤_, _≡_, arith, needs, length}
-use Rattle.lanes.specs.Bits.{bit, Masks}
-use Rattle.lanes.proofs.Masks.{masks-next}
+use Rattle.sliced.proofs.Names.{Masks, _-_, _≡_, _≤_, arith, bit, length, masks-next, needs}
 use Rattle.sliced.proofs.counters.word_masks.Statement.{statement}
 use Rattle.sliced.proofs.counters.word_masks.Tie as tie
 

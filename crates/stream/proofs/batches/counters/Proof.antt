@@ -1,10 +1,6 @@
 -- `stream::batches::counters` meets its contract. A turn of the loop goes as many blocks on as the batch has (`counted-on`).
-use Rattle.block.proofs.Base.{_-_, arith, needs, length}
-use Rattle.block.specs.Words.{unwords}
-use Rattle.block.proofs.WordsBack.{length-unwords, unwords-bytes}
-use Rattle.walk.specs.Reached.{Reached}
-use Rattle.walk.proofs.Batch.{reached-first}
-use Rattle.stream.specs.Stream.{streamMode, counting}
+use Rattle.stream.proofs.Names.{Reached, _-_, arith, counting, length, length-unwords, needs, reached-first, streamMode, unwords}
+use Rattle.stream.proofs.Names.{unwords-bytes}
 use Rattle.stream.proofs.Counters.{counted-on}
 use Rattle.stream.proofs.batches.counters.Statement.{statement}
 use Rattle.stream.proofs.batches.counters.Tie as tie

@@ -1,10 +1,7 @@
 -- `stream::batches::feedback` meets its contract. The first block goes by itself (`fed-reached`), and a turn of the loop goes as many
 -- blocks on as the batch has (`fed-on`), each from the block before it.
-use Rattle.block.proofs.Base.{_-_, arith, needs, length}
-use Rattle.block.proofs.WordsBack.{length-unwords}
-use Rattle.walk.proofs.Batch.{Fed, reached-first, fed-first, fed-on, fed-reached}
-use Rattle.stream.specs.declared.Kind.the-variants.{CfbDecrypt}
-use Rattle.stream.specs.Stream.{streamMode}
+use Rattle.stream.proofs.Names.{CfbDecrypt, Fed, _-_, arith, fed-first, fed-on, fed-reached, length, length-unwords, needs}
+use Rattle.stream.proofs.Names.{reached-first, streamMode}
 use Rattle.stream.proofs.Ahead.{cfb-fed}
 use Rattle.stream.proofs.batches.feedback.Statement.{statement}
 use Rattle.stream.proofs.batches.feedback.Tie as tie

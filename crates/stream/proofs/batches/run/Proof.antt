@@ -1,5 +1,5 @@
 -- `stream::batches::run` meets its contract: where no batch is made the walk stands at its start, and each kind's batches are its own.
-use Rattle.block.proofs.Base.{needs}
+use Rattle.stream.proofs.Names.{needs}
 use Rattle.stream.proofs.batches.run.Statement.{statement}
 use Rattle.stream.proofs.batches.run.Tie as tie
 

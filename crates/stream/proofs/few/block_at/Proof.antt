@@ -1,9 +1,6 @@
 -- `stream::few::block_at` meets its contract: the words at a place are those of the sixteen bytes there.
-use Rattle.block.proofs.Base.{_<_, ℕ, _∙_, ap, arith, needs, now, getD, length-drop}
-use Rattle.block.specs.Words.{unwords}
-use Rattle.block.proofs.Entries.{below-each, below-drop}
-use Rattle.block.proofs.WordsBack.{unwords-front}
-use Rattle.block.proofs.Tails.{tail-is}
+use Rattle.stream.proofs.Names.{_<_, _∙_, ap, arith, below-drop, below-each, getD, length-drop, needs, now, tail-is, unwords}
+use Rattle.stream.proofs.Names.{unwords-front, ℕ}
 use Rattle.stream.proofs.few.block_at.Statement.{statement}
 use Rattle.stream.proofs.few.block_at.Tie as tie
 

@@ -1,5 +1,5 @@
 -- `stream::few::ciphered` meets its contract, by its test.
-use Rattle.block.proofs.Base.{_∙_, refl, sym, inl, inr, arith, needs}
+use Rattle.stream.proofs.Names.{_∙_, arith, inl, inr, needs, refl, sym}
 use Rattle.stream.proofs.Ahead.{untrue}
 use Rattle.stream.proofs.few.ciphered.Statement.{statement}
 use Rattle.stream.proofs.few.ciphered.Tie as tie

@@ -1,7 +1,6 @@
 -- `stream::few::few` meets its contract: the ciphers of the states that were laid, xored with the blocks (`few-written`), and the one
 -- behind them (`few-pad`).
-use Rattle.block.proofs.Base.{_*_, _∙_, sub-zero, arith, needs, now}
-use Rattle.block.specs.Words.{unwords}
+use Rattle.stream.proofs.Names.{_*_, _∙_, arith, needs, now, sub-zero, unwords}
 use Rattle.stream.proofs.Ahead.{few-written, few-pad}
 use Rattle.stream.proofs.few.few.Statement.{statement}
 use Rattle.stream.proofs.few.few.Tie as tie

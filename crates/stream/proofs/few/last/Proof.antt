@@ -1,9 +1,7 @@
 -- `stream::few::last` meets its contract: the walk comes behind the full blocks (`few-reached`), and the rest is xored with the pad behind
 -- them (`ended`), if there is one.
-use Rattle.block.proofs.Base.{_*_, _/_, _≤_, _∙_, _≡_, ap, sym, true, arith, needs, now, length}
-use Rattle.block.specs.Words.{unwords}
-use Rattle.cipher.specs.Sm4.{encryptBlock}
-use Rattle.block.proofs.Tails.{tailed, length-tailed}
+use Rattle.stream.proofs.Names.{_*_, _/_, _∙_, _≡_, _≤_, ap, arith, encryptBlock, length, length-tailed, needs, now, sym, tailed}
+use Rattle.stream.proofs.Names.{true, unwords}
 use Rattle.stream.proofs.Ahead.{few-reached, rest-xored}
 use Rattle.stream.proofs.Walks.{ended}
 use Rattle.stream.proofs.few.last.Statement.{statement}

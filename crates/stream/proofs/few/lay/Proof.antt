@@ -1,7 +1,5 @@
 -- `stream::few::lay` meets its contract: the states of each kind are laid as they are known ahead, and the other kinds are not asked for.
-use Rattle.block.proofs.Base.{_∙_, ap, sym, false, true, arith, needs}
-use Rattle.block.proofs.WordsBack.{length-unwords, unwords-bytes}
-use Rattle.stream.specs.Stream.{ahead}
+use Rattle.stream.proofs.Names.{_∙_, ahead, ap, arith, false, length-unwords, needs, sym, true, unwords-bytes}
 use Rattle.stream.proofs.Ahead.{untrue, laid-counters, laid-before}
 use Rattle.stream.proofs.few.lay.Statement.{statement}
 use Rattle.stream.proofs.few.lay.Tie as tie

@@ -1,12 +1,7 @@
 -- `stream::few::lay_counters` meets its contract. The loop's invariant: the first i counters are laid, and behind them stands what stood
 -- there.
-use Rattle.block.proofs.Base.{_*_, _-_, _≤_, _≡_, refl, _++_, arith, needs, drop, length}
-use Rattle.block.specs.Blocks.{cat}
-use Rattle.block.specs.Words.{unwords}
-use Rattle.block.proofs.WordsBack.{length-unwords}
-use Rattle.counter.specs.Counter.{jumped}
-use Rattle.sixteen.proofs.Blocks.{block-stored}
-use Rattle.sixteen.proofs.Padded.{over-stored}
+use Rattle.stream.proofs.Names.{_*_, _++_, _-_, _≡_, _≤_, arith, block-stored, cat, drop, jumped, length, length-unwords, needs}
+use Rattle.stream.proofs.Names.{over-stored, refl, unwords}
 use Rattle.stream.proofs.Ahead.{length-jumped}
 use Rattle.stream.proofs.few.lay_counters.Statement.{statement}
 use Rattle.stream.proofs.few.lay_counters.Tie as tie

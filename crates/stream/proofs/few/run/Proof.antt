@@ -1,10 +1,5 @@
 -- `stream::few::run` meets its contract. A turn of the loop goes 64 blocks on (`blocks-on`), and what is left ends the walk (`onward`).
-use Rattle.block.proofs.Base.{_-_, arith, needs, now, length}
-use Rattle.block.specs.Words.{unwords}
-use Rattle.walk.specs.Reached.{Reached}
-use Rattle.walk.proofs.Batch.{reached-first}
-use Rattle.block.proofs.Tails.{tail-is}
-use Rattle.stream.specs.Stream.{streamMode}
+use Rattle.stream.proofs.Names.{Reached, _-_, arith, length, needs, now, reached-first, streamMode, tail-is, unwords}
 use Rattle.stream.proofs.Walks.{blocks-on, onward}
 use Rattle.stream.proofs.Ahead.{untrue}
 use Rattle.stream.proofs.few.run.Statement.{statement}

@@ -1,5 +1,5 @@
 -- `ghash::halves::Half::after` meets its contract: `galois_mul` ensures the product, and `add` its sum with the hash.
-use Rattle.block.proofs.Base.{_∙_, needs}
+use Rattle.ghash.proofs.Names.{_∙_, needs}
 use Rattle.ghash.proofs.halves.Half.after.Statement.{statement}
 use Rattle.ghash.proofs.halves.Half.after.Tie as tie
 

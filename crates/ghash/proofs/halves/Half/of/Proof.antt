@@ -1,5 +1,5 @@
 -- `ghash::halves::Half::of` meets its contract: the count is how many blocks there are (`length-blocks`).
-use Rattle.block.proofs.Base.{needs}
+use Rattle.ghash.proofs.Names.{needs}
 use Rattle.ghash.proofs.Blocks.{length-blocks}
 use Rattle.ghash.proofs.halves.Half.of.Statement.{statement}
 use Rattle.ghash.proofs.halves.Half.of.Tie as tie

@@ -1,7 +1,6 @@
 -- `pieces::ctr::Ctr::end` meets its contract: a state that does not run is refused, and one that runs is shut, and tells what the formula
 -- says of the first counter, whose words spell it.
-use Rattle.block.proofs.Base.{arith, needs}
-use Rattle.pieces.specs.Calls.{ctrEnd}
+use Rattle.pieces.proofs.Names.{arith, ctrEnd, needs}
 use Rattle.pieces.proofs.Fitting.{Sixteen, spelt}
 use Rattle.pieces.proofs.ctr.Ctr.end.Statement.{statement}
 use Rattle.pieces.proofs.ctr.Ctr.end.Tie as tie

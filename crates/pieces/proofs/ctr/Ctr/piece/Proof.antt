@@ -1,6 +1,5 @@
 -- `pieces::ctr::Ctr::piece` meets its contract: what the checks refuse leaves output and state, and otherwise the flow runs on.
-use Rattle.block.proofs.Base.{_≤_, _∙_, sym, mod-lt, needs, lit<, now, length}
-use Rattle.pieces.specs.Calls.{ctrPiece}
+use Rattle.pieces.proofs.Names.{_∙_, _≤_, ctrPiece, length, lit<, mod-lt, needs, now, sym}
 use Rattle.pieces.proofs.Passing.{Runs, sum-fits, writing-passed}
 use Rattle.pieces.proofs.ctr.Ctr.piece.Statement.{statement}
 use Rattle.pieces.proofs.ctr.Ctr.piece.Tie as tie

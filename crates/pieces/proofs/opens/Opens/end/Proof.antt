@@ -1,7 +1,6 @@
 -- `pieces::opens::Opens::end` meets its contract: what the checks refuse leaves the state, and otherwise the tag decides and the
 -- state is shut.
-use Rattle.block.proofs.Base.{_∙_, _≡_, sym, mod-lt, needs, lit<, now, length}
-use Rattle.pieces.specs.Calls.{opensEnd}
+use Rattle.pieces.proofs.Names.{_∙_, _≡_, length, lit<, mod-lt, needs, now, opensEnd, sym}
 use Rattle.pieces.proofs.Passing.{Runs, both-hashable, tagged-passed}
 use Rattle.pieces.proofs.opens.Opens.end.Statement.{statement}
 use Rattle.pieces.proofs.opens.Opens.end.Tie as tie

@@ -1,6 +1,5 @@
 -- `pieces::opens::Opens::piece` meets its contract: what the checks refuse leaves the state, and otherwise the piece is hashed.
-use Rattle.block.proofs.Base.{_∙_, sym, needs}
-use Rattle.pieces.specs.Calls.{opensPiece}
+use Rattle.pieces.proofs.Names.{_∙_, needs, opensPiece, sym}
 use Rattle.pieces.proofs.Passing.{sum-fits, running-passed}
 use Rattle.pieces.proofs.opens.Opens.piece.Statement.{statement}
 use Rattle.pieces.proofs.opens.Opens.piece.Tie as tie

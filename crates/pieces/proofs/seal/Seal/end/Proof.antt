@@ -1,7 +1,6 @@
 -- `pieces::seal::Seal::end` meets its contract: what the checks refuse leaves output and state, and otherwise the tag is written and
 -- the state is shut.
-use Rattle.block.proofs.Base.{_≤_, _∙_, _≡_, sym, mod-lt, arith, needs, lit<, now, length}
-use Rattle.pieces.specs.Calls.{sealEnd}
+use Rattle.pieces.proofs.Names.{_∙_, _≡_, _≤_, arith, length, lit<, mod-lt, needs, now, sealEnd, sym}
 use Rattle.pieces.proofs.Passing.{Runs, both-hashable, writing-passed}
 use Rattle.pieces.proofs.seal.Seal.end.Statement.{statement}
 use Rattle.pieces.proofs.seal.Seal.end.Tie as tie

@@ -1,10 +1,7 @@
 -- `pieces::seal::Seal::piece` meets its contract: what the checks refuse leaves output and state, and otherwise the flow runs on
 -- and what it wrote, as many bytes as the piece has (`text-length`), is hashed.
-use Rattle.block.proofs.Base.{_%_, _-_, _≤_, _∙_, _≡_, sym, sub-zero, mod-lt, arith, lit<, needs, now, length, take, take-at}
-use Rattle.block.specs.Over.{over}
-use Rattle.pieces.specs.declared.flow.Counting.the-variants.{Gcm as Gcm·counting}
-use Rattle.pieces.specs.Flow.{flowText}
-use Rattle.pieces.specs.Calls.{sealPiece}
+use Rattle.pieces.proofs.Names.{Gcm·counting, _%_, _-_, _∙_, _≡_, _≤_, arith, flowText, length, lit<, mod-lt, needs, now, over}
+use Rattle.pieces.proofs.Names.{sealPiece, sub-zero, sym, take, take-at}
 use Rattle.pieces.proofs.KeyStream.{text-length}
 use Rattle.pieces.proofs.Passing.{Runs, sum-fits, writing-passed}
 use Rattle.pieces.proofs.seal.Seal.piece.Statement.{statement}
