@@ -1,17 +1,9 @@
 -- Calls that were recorded as they were answered agree, and only they do; of those that differ the first is told.
-use Rattle.block.proofs.Base.{_+_, ℕ, _∙_, _≡_, ap, refl, sym, false, not, true, List, [], _++_, _∷_, add-zero, zero-add, arith, eq-eqb, eqb-true, not-false}
-use Rattle.block.proofs.Base.{eqb, length, length-append}
-use Rattle.block.proofs.Same.{by-test, same-refl, same-equal}
-use Rattle.cipher_mode.specs.declared.Sm4Cipher.{Sm4Cipher}
-use Rattle.journal.specs.Format.{Entry, written, stored}
-use Rattle.journal.specs.KeyList.{keyOf}
-use Rattle.journal.specs.Recomputed.{callInto, result, differsFrom, answeredBy}
-use Rattle.journal.specs.Reports.{nothing, firstOf, counted}
-use Rattle.journal.specs.Replay.{countedUnder}
-use Rattle.journal.specs.Ends.{countedAll, Ends, answerNow, differs, NoneDiffers}
-use Rattle.journal.specs.declared.report.Difference.{Difference}
-use Rattle.journal.specs.declared.report.Report.{Report}
-use Rattle.journal.specs.declared.Replayed.{Replayed}
+use Rattle.journal.proofs.Names.{Difference, Ends, Entry, List, NoneDiffers, Replayed, Report, Sm4Cipher, [], _++_, _+_, _∙_, _∷_}
+use Rattle.journal.proofs.Names.{_≡_, add-zero, answerNow, answeredBy, ap, arith, by-test, callInto, counted, countedAll}
+use Rattle.journal.proofs.Names.{countedUnder, differs, differsFrom, eq-eqb, eqb, eqb-true, false, firstOf, keyOf, length}
+use Rattle.journal.proofs.Names.{length-append, not, not-false, nothing, refl, result, same-equal, same-refl, stored, sym, true}
+use Rattle.journal.proofs.Names.{written, zero-add, ℕ}
 use Rattle.journal.proofs.Cases.{clash, or-left, or-right}
 use Rattle.journal.proofs.Lent.{result-size}
 use Rattle.journal.proofs.Joined.{either-way}

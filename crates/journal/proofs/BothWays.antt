@@ -1,19 +1,11 @@
 -- Reading and writing a record are each other's inverse.
-use Rattle.block.proofs.Base.{_+_, _<_, _^_, _≤_, suc, zero, ℕ, _∙_, _≡_, ap, refl, sym, true, List, [], _++_, _∷_, append-assoc, append-nil}
-use Rattle.block.proofs.Base.{mod-eq-of-lt, arith, eqb-true, leb-true, eqb, leb, lit<, drop, getD, length, take}
-use Rattle.block.proofs.Base.{drop-cons, take-add}
-use lib.Seq.{take-suc}
-use Rattle.block.specs.Below.{AreBytes}
-use Rattle.block.specs.BigEndian.{bytesOf}
-use Rattle.block.specs.Words.{wordAt}
-use Rattle.block.proofs.Convert.{numberOf-lt, length-bytesOf, numberOf-bytesOf, bytesOf-numberOf}
-use Rattle.block.proofs.Entries.{below-at, below-take, below-drop}
-use Rattle.block.proofs.Same.{and-left, and-right}
-use Rattle.cipher_mode.specs.declared.Direction.{Direction}
-use Rattle.cipher_mode.specs.declared.Direction.the-variants.{Encrypt, Decrypt}
-use Rattle.journal.specs.Format.{Entry, ProperPart, Proper, directionByte, part, head, middle, written, startsPart, partAt, behind}
-use Rattle.journal.specs.Format.{fromLabel, fromData, fromIv, fromRoom, fromOutput, afterRecord, marked, startsRecord, Stands, sizeAt}
-use Rattle.journal.specs.Format.{directionOf, front}
+use Rattle.journal.proofs.Names.{AreBytes, Decrypt, Direction, Encrypt, Entry, List, Proper, ProperPart, Stands, [], _++_, _+_, _<_}
+use Rattle.journal.proofs.Names.{_^_, _∙_, _∷_, _≡_, _≤_, afterRecord, and-left, and-right, ap, append-assoc, append-nil, arith}
+use Rattle.journal.proofs.Names.{behind, below-at, below-drop, below-take, bytesOf, bytesOf-numberOf, directionByte, directionOf}
+use Rattle.journal.proofs.Names.{drop, drop-cons, eqb, eqb-true, fromData, fromIv, fromLabel, fromOutput, fromRoom, front, getD}
+use Rattle.journal.proofs.Names.{head, leb, leb-true, length, length-bytesOf, lit<, marked, middle, mod-eq-of-lt, numberOf-bytesOf}
+use Rattle.journal.proofs.Names.{numberOf-lt, part, partAt, refl, sizeAt, startsPart, startsRecord, suc, sym, take, take-add}
+use Rattle.journal.proofs.Names.{take-suc, true, wordAt, written, zero, ℕ}
 use Rattle.journal.proofs.Fields.{Is, counted, Fit, row, past, past-below, fields, joined, joined-fields}
 use Rattle.journal.proofs.Standing.{part-fits, length-part, row-of, read, starts, front-read, fit-stands, size-is}
 

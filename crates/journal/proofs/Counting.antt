@@ -1,13 +1,7 @@
 -- No count passes the place that a replay has come to, so no sum wraps.
-use Rattle.block.proofs.Base.{_+_, _<_, _≤_, suc, zero, ℕ, _≡_, List, [], _∷_, arith, ltb-false, lit<, ltb, getD, length, set}
-use Rattle.block.specs.Below.{Below}
-use Rattle.block.proofs.Entries.{below-at, below-replicate}
-use Rattle.block.proofs.Same.{by-test}
-use Rattle.journal.specs.Format.{Entry}
-use Rattle.journal.specs.Reports.{nothing, oneMore, modePlace, counted, Within}
-use Rattle.journal.specs.declared.again.Recomputed.{Recomputed}
-use Rattle.journal.specs.declared.report.Difference.{Difference}
-use Rattle.journal.specs.declared.report.Report.{Report}
+use Rattle.journal.proofs.Names.{Below, Difference, Entry, List, Recomputed, Report, Within, [], _+_, _<_, _∷_, _≡_, _≤_, arith}
+use Rattle.journal.proofs.Names.{below-at, below-replicate, by-test, counted, getD, length, lit<, ltb, ltb-false, modePlace, nothing}
+use Rattle.journal.proofs.Names.{oneMore, set, suc, zero, ℕ}
 
 below-more : (n m : ℕ) (l : List ℕ) → n ≤ m → Below n l → Below m l
 below-more n m [] h b = tt

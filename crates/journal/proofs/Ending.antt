@@ -1,20 +1,9 @@
 -- Which number a replay ends with exactly when: it ends as the bytes say that stand there, and in no other way.
-use Rattle.block.proofs.Base.{_+_, _<_, ℕ, _∙_, _≡_, ap, refl, sym, false, true, List, [], _++_, _∷_, append-assoc, append-nil, add-zero, arith, drop}
-use Rattle.block.proofs.Base.{length, length-append, drop-at}
-use Rattle.block.specs.Below.{AreBytes}
-use Rattle.block.proofs.Entries.{below-drop}
-use Rattle.block.proofs.Same.{by-test}
-use Rattle.cipher_mode.specs.declared.Sm4Cipher.{Sm4Cipher}
-use Rattle.journal.specs.Format.{Entry, written, stored, startsRecord, sizeAt, afterRecord, front}
-use Rattle.journal.specs.KeyList.{keysIn, badKeys}
-use Rattle.journal.specs.Reports.{nothing}
-use Rattle.journal.specs.Replay.{done, countedUnder, replayFrom, replay}
-use Rattle.journal.specs.Ends.{Replayable, AllReplayable, countedAll, Begins, Why, toldPlace, Ends}
-use Rattle.journal.specs.declared.keys.Keys.{Keys}
-use Rattle.journal.specs.declared.report.Report.{Report}
-use Rattle.journal.specs.declared.Ended.{Ended}
-use Rattle.journal.specs.declared.Ended.the-variants.{Done, BadRecord, TooLong, UnknownKey, BadKeys}
-use Rattle.journal.specs.declared.Replayed.{Replayed}
+use Rattle.journal.proofs.Names.{AllReplayable, AreBytes, BadKeys, BadRecord, Begins, Done, Ended, Ends, Entry, Keys, List}
+use Rattle.journal.proofs.Names.{Replayable, Replayed, Report, Sm4Cipher, TooLong, UnknownKey, Why, [], _++_, _+_, _<_, _∙_, _∷_}
+use Rattle.journal.proofs.Names.{_≡_, add-zero, afterRecord, ap, append-assoc, append-nil, arith, badKeys, below-drop, by-test}
+use Rattle.journal.proofs.Names.{countedAll, countedUnder, done, drop, drop-at, false, front, keysIn, length, length-append, nothing}
+use Rattle.journal.proofs.Names.{refl, replay, replayFrom, sizeAt, startsRecord, stored, sym, toldPlace, true, written, ℕ}
 use Rattle.journal.proofs.Cases.{clash}
 use Rattle.journal.proofs.Standing.{stands, behind-size}
 use Rattle.journal.proofs.Replaying.{Passes, Refuses, from-end, from-refused, from-on, by-replay, from-start}

@@ -1,10 +1,7 @@
 -- A row of fields, one behind the other: each is so many bytes, or a part that tells its length. What is behind it changes nothing of it.
-use Rattle.block.proofs.Base.{_+_, _<_, _≤_, ℕ, _∙_, _≡_, ap, refl, sym, List, [], _++_, _∷_, append-assoc, arith, drop, getD, length}
-use Rattle.block.proofs.Base.{length-append, length-drop, take, take-append-drop, drop-at, drop-drop, getD-take, length-take-le, take-at}
-use Rattle.block.proofs.Entries.{below-drop}
-use Rattle.block.specs.Below.{Below}
-use Rattle.block.specs.Words.{wordAt}
-use lib.ListN.{List·getD-append}
+use Rattle.journal.proofs.Names.{Below, List, List·getD-append, [], _++_, _+_, _<_, _∙_, _∷_, _≡_, _≤_, ap, append-assoc, arith}
+use Rattle.journal.proofs.Names.{below-drop, drop, drop-at, drop-drop, getD, getD-take, length, length-append, length-drop}
+use Rattle.journal.proofs.Names.{length-take-le, refl, sym, take, take-append-drop, take-at, wordAt, ℕ}
 
 pub data Field : Type 0 where
   fixed : ℕ → Field

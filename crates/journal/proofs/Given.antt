@@ -1,41 +1,17 @@
 -- What a call gives does not depend on the output that it is lent: a report, and bytes that stand over the output's front. Of data
 -- within the limits these are at most 16 bytes more than the data has.
-use Rattle.block.proofs.Base.{_+_, _-_, _<_, _≤_, ℕ, _∙_, _≡_, ap, refl, sym, Bool, _&&_, cond, false, true, List, [], arith, eqb, lit<}
-use Rattle.block.proofs.Base.{length, take, length-take-le}
-use Rattle.counter.specs.CameRound.{blocksOf, ctrCameRound}
-use Rattle.cipher_mode.specs.Outcome.{Head, Outcome, finished, refusal, under, telling, leaving, keyed, reporting, refuse, written, done}
-use Rattle.block.specs.Over.{over}
-use Rattle.walk.specs.Walk.{chain}
-use Rattle.stream.specs.Stream.{streamMode}
-use Rattle.stream.specs.declared.Kind.{Kind}
-use Rattle.stream.specs.declared.Kind.the-variants.{Ofb as Ofb·kind, Ctr as Ctr·kind}
-use Rattle.stream.proofs.RoundTrip.{length-stream}
-use Rattle.padding.specs.Padding.{unpadded}
-use Rattle.cbc.specs.Cbc.{cbcSeal, cbcText}
-use Rattle.padding.specs.declared.Opened.{Opened as Cbc·Opened}
-use Rattle.padding.specs.declared.Opened.the-variants.{Done as Cbc·Done, InvalidLastU8, InvalidPadding}
-use Rattle.cbc.proofs.Blocks.{length-decrypt}
-use Rattle.cbc.proofs.RoundTrip.{length-cbcSeal}
-use Rattle.padding.proofs.Unpadded.{unpadded-le}
-use Rattle.gcm.specs.Gcm.{hashKey, J0, sealed, textPart, textOf, opensUnder}
-use Rattle.gcm.proofs.Parts.{length-sealed}
-use Rattle.gcm.proofs.Settled.{text-size}
-use Rattle.cipher_mode.specs.declared.CipherMode.{CipherMode}
-use Rattle.cipher_mode.specs.declared.CipherMode.the-variants.{Cfb, Ofb, Ctr, Cbc, Gcm}
-use Rattle.cipher_mode.specs.declared.Direction.{Direction}
-use Rattle.cipher_mode.specs.declared.Direction.the-variants.{Encrypt, Decrypt}
-use Rattle.cipher_mode.specs.declared.answer.Refusal.{Refusal}
-use Rattle.cipher_mode.specs.declared.answer.Refusal.the-variants.{ErrorBlockSize, ErrorDataLen, InvalidLastU8 as BadLast, InvalidTag}
-use Rattle.cipher_mode.specs.declared.answer.Refusal.the-variants.{TooLong, NoRoom, EmptyCbc, ShortGcm, WrongIv, WrongBlock, Ended}
-use Rattle.cipher_mode.specs.declared.answer.Refusal.the-variants.{WrongNumber, Retired, InvalidPadding as BadPadding}
-use Rattle.cipher_mode.specs.declared.checks.Checked.{Checked}
-use Rattle.cipher_mode.specs.declared.checks.Checked.the-variants.{Passed, Refused}
-use Rattle.cipher_mode.specs.Answer.{refusalHead}
-use Rattle.cipher_mode.specs.Tables.{roomOf}
-use Rattle.cipher_mode.specs.Checks.{wrongIv, dataCheck, checked}
-use Rattle.cipher_mode.specs.Calls.{cbcHead, cbcOpen, gcmHead, gcmOpen, cfbKind, gcmRound, modeResult}
-use Rattle.cipher_mode.proofs.Passed.{sixteen, whole-blocks-passed, with-tag-passed}
-use Rattle.cipher_mode.proofs.Refusals.{refuses}
+use Rattle.journal.proofs.Names.{BadLast, BadPadding, Bool, Cbc, Cbc·Done, Cbc·Opened, Cfb, Checked, CipherMode, Ctr, Ctr·kind}
+use Rattle.journal.proofs.Names.{Decrypt, Direction, EmptyCbc, Encrypt, ErrorDataLen, Gcm, Head, InvalidLastU8, InvalidPadding}
+use Rattle.journal.proofs.Names.{InvalidTag, J0, Kind, List, NoRoom, Ofb, Ofb·kind, Outcome, Passed, Refusal, Refused, Retired}
+use Rattle.journal.proofs.Names.{ShortGcm, WrongBlock, WrongIv, WrongNumber, [], _&&_, _+_, _-_, _<_, _∙_, _≡_, _≤_, ap, arith}
+use Rattle.journal.proofs.Names.{blocksOf, cbcHead, cbcOpen, cbcSeal, cbcText, cfbKind, chain, checked, cond, ctrCameRound}
+use Rattle.journal.proofs.Names.{dataCheck, eqb, false, finished, gcmHead, gcmOpen, gcmRound, hashKey, keyed, leaving, length}
+use Rattle.journal.proofs.Names.{length-cbcSeal, length-decrypt, length-sealed, length-stream, length-take-le, lit<, modeResult}
+use Rattle.journal.proofs.Names.{opensUnder, over, refl, refusal, refusalHead, refuse, refuses, reporting, roomOf, sealed, sixteen}
+use Rattle.journal.proofs.Names.{streamMode, sym, take, telling, text-size, textOf, textPart, true, under, unpadded, unpadded-le}
+use Rattle.journal.proofs.Names.{whole-blocks-passed, with-tag-passed, wrongIv, ℕ}
+use Rattle.cipher_mode.specs.Outcome.{written, done}
+use Rattle.cipher_mode.specs.declared.answer.Refusal.the-variants.{ErrorBlockSize, TooLong, Ended}
 
 -- one report and one result, of at most so many bytes, whatever output is lent; the number has a place among the counts
 pub record Gives (most : ℕ) (f : List ℕ → Outcome) : Type 0 where

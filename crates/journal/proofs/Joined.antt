@@ -1,26 +1,15 @@
 -- The report of two journals joined is their reports added, where the first is replayed to its end: what a journal adds to a report does
 -- not depend on the report.
-use Rattle.block.proofs.Base.{_+_, _<_, suc, zero, ℕ, _∙_, _≡_, ap, refl, sym, Bool, cond, false, true, List, [], _++_, _∷_, add-assoc, add-zero, arith, ne-eqb, drop}
-use Rattle.block.proofs.Base.{drop-of-length-le, length, length-drop, replicate, take, drop-append-le, take-append-le}
-use Rattle.cipher_mode.specs.declared.Sm4Cipher.{Sm4Cipher}
-use Rattle.block.proofs.Tails.{tailed, tail-is}
-use Rattle.block.proofs.Same.{by-test}
-use Rattle.journal.specs.Format.{Entry, Stands, sizeAt, front}
-use Rattle.journal.specs.KeyList.{keyOf, keysIn, badKeys}
-use Rattle.journal.specs.Recomputed.{recomputed, judged}
-use Rattle.journal.specs.Reports.{nothing, oneMore, modePlace, firstOf, counted, AddsUp}
-use Rattle.journal.specs.Replay.{replayFrom, numberOfEnd, countedUnder, replayOne, replay}
-use Rattle.journal.specs.Joined.{sums, earlier, added, behindReport}
-use Rattle.journal.specs.declared.again.Recomputed.{Recomputed}
-use Rattle.journal.specs.declared.report.Difference.{Difference}
-use Rattle.journal.specs.declared.report.Report.{Report}
-use Rattle.journal.specs.declared.keys.Keys.{Keys}
-use Rattle.journal.specs.declared.Replayed.{Replayed}
+use Rattle.journal.proofs.Names.{AddsUp, Bool, Difference, Entry, Keys, List, Recomputed, Replayed, Report, Sm4Cipher, Stands, []}
+use Rattle.journal.proofs.Names.{_++_, _+_, _<_, _∙_, _∷_, _≡_, add-assoc, add-zero, added, ap, arith, badKeys, behindReport}
+use Rattle.journal.proofs.Names.{by-test, cond, counted, countedUnder, drop, drop-append-le, drop-of-length-le, earlier, false}
+use Rattle.journal.proofs.Names.{firstOf, front, judged, keyOf, keysIn, length, length-drop, modePlace, ne-eqb, nothing, numberOfEnd}
+use Rattle.journal.proofs.Names.{oneMore, recomputed, refl, replay, replayFrom, replayOne, replicate, sizeAt, suc, sums, sym}
+use Rattle.journal.proofs.Names.{tail-is, tailed, take, take-append-le, true, zero, ℕ}
 use Rattle.journal.proofs.Lent.{recomputed-known}
 use Rattle.journal.proofs.Counting.{same-report, mode-below-6}
 use Rattle.journal.proofs.Sums.{adds-counted, replay-adds-up, adds-nothing}
-use Rattle.journal.proofs.Replaying.{from-end, from-refused, from-on, by-replay, Passes, refuses, counts, passed}
-use Rattle.journal.proofs.Replaying.{from-start}
+use Rattle.journal.proofs.Replaying.{from-end, from-refused, from-on, by-replay, Passes, refuses, counts, passed, from-start}
 use Rattle.journal.proofs.Standing.{stands, starts, size-within, starts-in, front-in, size-in}
 
 sums-more : (a b : List ℕ) (i : ℕ) → i < length a → i < length b → sums a (oneMore i b) ≡ oneMore i (sums a b)

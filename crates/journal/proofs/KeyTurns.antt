@@ -1,12 +1,8 @@
 -- The keys are looked at one after another.
-use Rattle.block.proofs.Base.{_+_, _<_, _≤_, suc, zero, ℕ, _∙_, _≡_, refl, sym, false, List, [], _∷_, add-one, arith, ltb-false, ltb, drop}
-use Rattle.block.proofs.Base.{getD, length, drop-cons, getD-take, length-take-le}
-use Rattle.cipher_mode.specs.declared.KeyAnswer.the-variants.{ErrorBlockSize}
-use Rattle.cipher_mode.specs.declared.Sm4Cipher.{Sm4Cipher}
-use Rattle.cipher_mode.specs.Key.{noCipher}
-use Rattle.journal.specs.declared.keys.Keys.{Keys}
+use Rattle.journal.proofs.Names.{ErrorBlockSize, Keys, List, Sm4Cipher, [], _+_, _<_, _∙_, _∷_, _≡_, _≤_, add-one, arith, badKeys}
+use Rattle.journal.proofs.Names.{drop, drop-cons, false, getD, getD-take, keyAt, keysIn, length, length-take-le, ltb, ltb-false}
+use Rattle.journal.proofs.Names.{noCipher, refl, suc, sym, zero, ℕ}
 use Rattle.journal.proofs.Cases.{or-left}
-use Rattle.journal.specs.KeyList.{keysIn, keyAt, badKeys}
 
 -- inside a list no default counts
 same-inside : (cs : List Sm4Cipher) (i : ℕ) (c d : Sm4Cipher) → i < length cs → getD cs i c ≡ getD cs i d

@@ -1,21 +1,10 @@
 -- A call within the limits gives the same whether it is lent the recorded room or no more than the longest output.
-use Rattle.block.proofs.Base.{_+_, _<_, _≤_, ℕ, _∙_, _≡_, ap, refl, sym, _⊎_, inl, inr, ⊎-elim, Bool, false, List, [], _++_, append-assoc, append-nil}
-use Rattle.block.proofs.Base.{arith, le-ltb, ltb-false, ltb-true, ltb, drop, length, length-append, length-drop, length-replicate}
-use Rattle.block.proofs.Base.{replicate, take, take-at}
-use Rattle.block.proofs.Same.{by-test}
-use Rattle.cipher_mode.specs.Outcome.{Head, Outcome, keyed, refuse}
-use Rattle.cipher_mode.specs.declared.CipherMode.{CipherMode}
-use Rattle.cipher_mode.specs.declared.Sm4Cipher.{Sm4Cipher}
-use Rattle.cipher_mode.specs.declared.checks.Checked.{Checked}
-use Rattle.cipher_mode.specs.Key.{keyNumber}
-use Rattle.cipher_mode.specs.Tables.{modeOf, roomOf}
-use Rattle.cipher_mode.specs.Checks.{roomCheck, messageCheck, checked}
-use Rattle.cipher_mode.specs.Calls.{modeResult, modeCall}
-use Rattle.cipher_mode.proofs.Passed.{message-passed}
-use Rattle.journal.specs.Format.{Entry, outputLimit, tooLong}
-use Rattle.journal.specs.Recomputed.{callInto, recomputed, result, differsFrom, judged, lentRoom, Answers}
-use Rattle.journal.specs.declared.again.Answered.{Answered}
-use Rattle.journal.specs.declared.again.Recomputed.{Recomputed}
+use Rattle.journal.proofs.Names.{Answered, Answers, Bool, Checked, CipherMode, Entry, Head, List, Outcome, Recomputed, Sm4Cipher, []}
+use Rattle.journal.proofs.Names.{_++_, _+_, _<_, _∙_, _≡_, _≤_, _⊎_, ap, append-assoc, append-nil, arith, by-test, callInto, checked}
+use Rattle.journal.proofs.Names.{differsFrom, drop, false, inl, inr, judged, keyNumber, keyed, le-ltb, length, length-append}
+use Rattle.journal.proofs.Names.{length-drop, length-replicate, lentRoom, ltb, ltb-false, ltb-true, message-passed, messageCheck}
+use Rattle.journal.proofs.Names.{modeCall, modeOf, modeResult, outputLimit, recomputed, refl, refuse, replicate, result, roomCheck}
+use Rattle.journal.proofs.Names.{roomOf, sym, take, take-at, tooLong, ℕ, ⊎-elim}
 use Rattle.journal.proofs.Cases.{short as within}
 use Rattle.journal.proofs.Given.{Gives, room-16, call-gives, bad-gives}
 

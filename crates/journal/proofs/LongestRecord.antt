@@ -1,8 +1,6 @@
 -- A record within the limits has at most 65,579 bytes: one that does not stand whole in as many is cut, or a part of it is too long.
-use Rattle.block.proofs.Base.{_≤_, _≡_, sym, false, true, List, ℕ, _++_, arith, length, take-append-le}
-use Rattle.block.specs.Below.{AreBytes}
-use Rattle.block.proofs.Same.{by-test}
-use Rattle.journal.specs.Format.{startsRecord, Stands, sizeAt, front, tooLong}
+use Rattle.journal.proofs.Names.{AreBytes, List, Stands, _++_, _≡_, _≤_, arith, by-test, false, front, length, sizeAt, startsRecord}
+use Rattle.journal.proofs.Names.{sym, take-append-le, tooLong, true, ℕ}
 use Rattle.journal.proofs.Cases.{clash, short}
 use Rattle.journal.proofs.Standing.{stands, size-sum, starts-in}
 

@@ -1,13 +1,10 @@
 -- What is known of a record that stands whole: its parts stand whole one behind the other, they make up its size, and what is read of it is
 -- told by the bytes of its fields alone.
-use Rattle.block.proofs.Base.{_+_, _-_, _<_, _≤_, ℕ, _∙_, _≡_, ap, refl, sym, false, true, List, [], _++_, _∷_, arith, le-leb, leb-true, leb, lit<}
-use Rattle.block.proofs.Base.{drop, getD, length, length-append, length-drop, take, take-at, drop-at, getD-take, length-take-le, take-add}
-use Rattle.block.specs.BigEndian.{numberOf}
-use Rattle.block.specs.Words.{wordAt}
-use Rattle.block.proofs.Same.{by-test, and-left, and-right}
-use Rattle.cipher_mode.specs.declared.Direction.{Direction}
-use Rattle.journal.specs.Format.{Entry, startsPart, partAt, behind, pastPart, fromLabel, fromData, fromIv, fromRoom, fromOutput, afterRecord}
-use Rattle.journal.specs.Format.{directionOf, marked, startsRecord, Stands, sizeAt, front}
+use Rattle.journal.proofs.Names.{Direction, Entry, List, Stands, [], _++_, _+_, _-_, _<_, _∙_, _∷_, _≡_, _≤_, afterRecord, and-left}
+use Rattle.journal.proofs.Names.{and-right, ap, arith, behind, by-test, directionOf, drop, drop-at, false, fromData, fromIv}
+use Rattle.journal.proofs.Names.{fromLabel, fromOutput, fromRoom, front, getD, getD-take, le-leb, leb, leb-true, length}
+use Rattle.journal.proofs.Names.{length-append, length-drop, length-take-le, lit<, marked, numberOf, partAt, pastPart, refl, sizeAt}
+use Rattle.journal.proofs.Names.{startsPart, startsRecord, sym, take, take-add, take-at, true, wordAt, ℕ}
 use Rattle.journal.proofs.Fields.{Field, fixed, counted, Fit, fields, joined, past, sizes-are, joined-fields, row-in}
 
 -- a part

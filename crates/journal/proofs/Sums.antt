@@ -1,17 +1,7 @@
 -- Calls by answer, and calls by mode, sum to the records; a first difference is one of them.
-use Rattle.block.proofs.Base.{_+_, _<_, suc, zero, ℕ, _∙_, _≡_, ap, refl, Bool, false, true, List, [], _∷_, arith, getD, length, length-set}
-use Rattle.block.proofs.Base.{set}
-use Rattle.block.proofs.Same.{by-test}
-use Rattle.cipher_mode.specs.declared.Sm4Cipher.{Sm4Cipher}
-use Rattle.journal.specs.Format.{Entry}
-use Rattle.journal.specs.KeyList.{keyOf}
-use Rattle.journal.specs.Recomputed.{recomputed}
-use Rattle.journal.specs.Reports.{nothing, oneMore, modePlace, firstOf, counted, total, AddsUp, OfRecords}
-use Rattle.journal.specs.Replay.{countedUnder, replay}
-use Rattle.journal.specs.Ends.{differs}
-use Rattle.journal.specs.declared.keys.Keys.{Keys}
-use Rattle.journal.specs.declared.report.Difference.{Difference}
-use Rattle.journal.specs.declared.report.Report.{Report}
+use Rattle.journal.proofs.Names.{AddsUp, Bool, Difference, Entry, Keys, List, OfRecords, Report, Sm4Cipher, [], _+_, _<_, _∙_, _∷_}
+use Rattle.journal.proofs.Names.{_≡_, ap, arith, by-test, counted, countedUnder, differs, false, firstOf, getD, keyOf, length}
+use Rattle.journal.proofs.Names.{length-set, modePlace, nothing, oneMore, recomputed, refl, replay, set, suc, total, true, zero, ℕ}
 use Rattle.journal.proofs.Cases.{clash}
 use Rattle.journal.proofs.Lent.{recomputed-known}
 use Rattle.journal.proofs.Counting.{mode-below-6}

@@ -1,15 +1,8 @@
 -- The report has the exact totals of the calls that were replayed.
-use Rattle.block.proofs.Base.{_+_, _<_, suc, zero, ℕ, _≡_, refl, sym, cond, List, [], _∷_, arith, eqb-false, eqb-true, eqb, getD, length}
-use Rattle.block.proofs.Base.{replicate, getD-set-other, getD-set-same}
-use Rattle.block.proofs.Same.{by-test}
-use Rattle.cipher_mode.specs.declared.Sm4Cipher.{Sm4Cipher}
-use Rattle.journal.specs.Format.{Entry, written}
-use Rattle.journal.specs.KeyList.{keyOf}
-use Rattle.journal.specs.Reports.{nothing, oneMore, modePlace, counted, AddsUp}
-use Rattle.journal.specs.Replay.{countedUnder}
-use Rattle.journal.specs.Ends.{countedAll, Ends, answerNow, countIf, sumOf, Totals}
-use Rattle.journal.specs.declared.report.Report.{Report}
-use Rattle.journal.specs.declared.Replayed.{Replayed}
+use Rattle.journal.proofs.Names.{AddsUp, Ends, Entry, List, Replayed, Report, Sm4Cipher, Totals, [], _+_, _<_, _∷_, _≡_, answerNow}
+use Rattle.journal.proofs.Names.{arith, by-test, cond, countIf, counted, countedAll, countedUnder, eqb, eqb-false, eqb-true, getD}
+use Rattle.journal.proofs.Names.{getD-set-other, getD-set-same, keyOf, length, modePlace, nothing, oneMore, refl, replicate, suc}
+use Rattle.journal.proofs.Names.{sumOf, sym, written, zero, ℕ}
 use Rattle.journal.proofs.Lent.{recomputed-known}
 use Rattle.journal.proofs.Counting.{mode-below-6}
 use Rattle.journal.proofs.Sums.{adds-nothing, adds-counted}

@@ -1,12 +1,7 @@
 -- The parts of a record are written one behind the other.
-use Rattle.block.proofs.Base.{_+_, _≤_, ℕ, _∙_, _≡_, ap, sym, false, List, _++_, append-assoc, arith, le-ltb, drop, length, length-append}
-use Rattle.block.proofs.Base.{take, take-length}
-use Rattle.block.proofs.Convert.{length-bytesOf}
-use Rattle.block.specs.Over.{over}
-use Rattle.block.proofs.Tails.{tailed, returned, over-behind}
-use Rattle.journal.specs.Format.{Entry, part, head, middle, written, tooLong}
-use Rattle.journal.specs.Writer.{headOf, middleOf, askedOf, answeredOf, entryOf, write}
-use Rattle.journal.specs.declared.writer.Call.{Call}
+use Rattle.journal.proofs.Names.{Call, Entry, List, _++_, _+_, _∙_, _≡_, _≤_, answeredOf, ap, append-assoc, arith, askedOf, drop}
+use Rattle.journal.proofs.Names.{entryOf, false, head, headOf, le-ltb, length, length-append, length-bytesOf, middle, middleOf, over}
+use Rattle.journal.proofs.Names.{over-behind, part, returned, sym, tailed, take, take-length, tooLong, write, written, ℕ}
 use Rattle.journal.specs.declared.writer.Wrote.the-variants.{Done}
 
 -- a whole list that was copied

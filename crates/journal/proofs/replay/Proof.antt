@@ -1,12 +1,8 @@
 -- `replay` meets its contract. The loop's invariant: replay from here, with the report so far, ends as replay of the whole journal does,
 -- and no count passes the place. The measure is how many bytes are to come.
-use Rattle.block.proofs.Base.{_+_, _<_, _≤_, ℕ, _∙_, _≡_, ap, sym, false, List, arith, needs, now, length, length-drop}
-use Rattle.cipher_mode.specs.declared.Sm4Cipher.{Sm4Cipher}
-use Rattle.journal.specs.KeyList.{keysIn, badKeys}
-use Rattle.journal.specs.Reports.{nothing, Within}
-use Rattle.journal.specs.Replay.{numberOfEnd, replayOne, replayFrom, replay}
-use Rattle.journal.specs.declared.report.Report.{Report}
-use Rattle.journal.specs.declared.Replayed.{Replayed}
+use Rattle.journal.proofs.Names.{List, Replayed, Report, Sm4Cipher, Within, _+_, _<_, _∙_, _≡_, _≤_, ap, arith, badKeys, false}
+use Rattle.journal.proofs.Names.{keysIn, length, length-drop, needs, nothing, now, numberOfEnd, replay, replayFrom, replayOne, sym}
+use Rattle.journal.proofs.Names.{ℕ}
 use Rattle.journal.proofs.Standing.{stands, size-within, data-within}
 use Rattle.journal.proofs.KeyTurns.{few-keys}
 use Rattle.journal.proofs.Counting.{within-nothing}

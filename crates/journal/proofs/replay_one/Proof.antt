@@ -1,11 +1,8 @@
 -- `replay_one` meets its contract: each return is the definition, by the tests that led there.
-use Rattle.block.proofs.Base.{ℕ, _∙_, _≡_, ap, sym, false, true, List, needs, le-ltb, lt-ltb, now, ltb}
-use Rattle.cipher_mode.specs.declared.Sm4Cipher.{Sm4Cipher}
-use Rattle.journal.specs.Format.{startsRecord, front, tooLong}
-use Rattle.journal.specs.KeyList.{keysIn, placeOf, hasNumber}
+use Rattle.journal.proofs.Names.{BadRecord, List, Sm4Cipher, TooLong, UnknownKey, _∙_, _≡_, ap, false, front, hasNumber, keysIn}
+use Rattle.journal.proofs.Names.{le-ltb, lt-ltb, ltb, needs, now, placeOf, startsRecord, sym, tooLong, true, ℕ}
 use Rattle.journal.proofs.Standing.{stands, size-zero, size-some}
 use Rattle.journal.proofs.Replaying.{refuses, counts}
-use Rattle.journal.specs.declared.Ended.the-variants.{BadRecord, TooLong, UnknownKey}
 use Rattle.journal.proofs.replay_one.Statement.{statement}
 use Rattle.journal.proofs.replay_one.Tie as tie
 

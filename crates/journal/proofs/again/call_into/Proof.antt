@@ -1,16 +1,7 @@
 -- `again::call_into` meets its contract: a mode above 4 is refused, and otherwise the call answers.
-use Rattle.block.proofs.Base.{_<_, _≤_, ℕ, _≡_, refl, false, List, arith, needs, le-ltb, lt-ltb, ltb, now}
-use Rattle.cipher_mode.specs.Outcome.{Outcome}
-use Rattle.cipher_mode.specs.declared.CipherMode.{CipherMode}
-use Rattle.cipher_mode.specs.declared.Direction.{Direction}
-use Rattle.cipher_mode.specs.declared.Sm4Cipher.{Sm4Cipher}
-use Rattle.cipher_mode.specs.declared.answer.Answer.{Answer}
-use Rattle.cipher_mode.specs.Answer.{headOf, outcome}
-use Rattle.cipher_mode.specs.Tables.{modeOf}
-use Rattle.cipher_mode.specs.Calls.{modeCall}
-use Rattle.journal.specs.Format.{Entry, front}
-use Rattle.journal.specs.Recomputed.{callInto, Answers}
-use Rattle.journal.specs.declared.again.Answered.{Answered}
+use Rattle.journal.proofs.Names.{Answer, Answered, Answers, CipherMode, Direction, Entry, List, Outcome, Sm4Cipher, _<_, _≡_, _≤_}
+use Rattle.journal.proofs.Names.{arith, callInto, false, front, le-ltb, lt-ltb, ltb, modeCall, modeOf, needs, now, outcome, refl, ℕ}
+use Rattle.cipher_mode.specs.Answer.{headOf}
 use Rattle.journal.proofs.again.call_into.Statement.{statement}
 use Rattle.journal.proofs.again.call_into.Tie as tie
 

@@ -1,7 +1,5 @@
 -- `again::differs` meets its contract: each return is the definition, by the tests that led there.
-use Rattle.block.proofs.Base.{needs, eq-eqb, ne-eqb}
-use Rattle.journal.specs.Format.{front}
-use Rattle.journal.specs.Recomputed.{differsFrom}
+use Rattle.journal.proofs.Names.{differsFrom, eq-eqb, front, ne-eqb, needs}
 use Rattle.journal.proofs.again.differs.Statement.{statement}
 use Rattle.journal.proofs.again.differs.Tie as tie
 

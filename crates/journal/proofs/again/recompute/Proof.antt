@@ -1,8 +1,6 @@
 -- `again::recompute` meets its contract: the room that is lent serves as the recorded one does (`lent-judged`).
-use Rattle.block.proofs.Base.{_-_, _≤_, ℕ, _∙_, _≡_, ap, List, _++_, sub-zero, arith, needs, now, drop, length, length-append, length-drop}
-use Rattle.block.proofs.Base.{take, length-take-le}
-use Rattle.journal.specs.Format.{Entry, front}
-use Rattle.journal.specs.Recomputed.{differsFrom, lentRoom}
+use Rattle.journal.proofs.Names.{Entry, List, _++_, _-_, _∙_, _≡_, _≤_, ap, arith, differsFrom, drop, front, length, length-append}
+use Rattle.journal.proofs.Names.{length-drop, length-take-le, lentRoom, needs, now, sub-zero, take, ℕ}
 use Rattle.journal.proofs.Lent.{into-fits, into-length, lent-judged, lent-most}
 use Rattle.journal.proofs.again.recompute.Statement.{statement}
 use Rattle.journal.proofs.again.recompute.Tie as tie
@@ -53,7 +51,6 @@ returns c =
     ∙ ap (λ (k : ℕ). differsFrom (entry at-room) (a .number) (a .length) (take k (given ++ rest))) (sub-zero (a .length)))
 
 pub recompute-spec : {M : Type 1} → statement M
-recompute-spec =
-    tie.close (tie.spec (λ c κs. search needs) (λ c κs. search needs) (λ c. search needs) (λ c. search needs)
+recompute-spec = tie.close (tie.spec (λ c κs. search needs) (λ c κs. search needs) (λ c. search needs) (λ c. search needs)
     (λ c. omega (arith, long c, room c)) (λ c κs. search needs) (λ c. search needs) (λ c. search needs) part-differs-end
     (λ c κs. search needs) returns)

@@ -1,9 +1,5 @@
 -- `again::told` meets its contract: done tells its length, and a refusal its number.
-use Rattle.block.proofs.Base.{ℕ, _∙_, ap, ap₂, sym, needs}
-use Rattle.cipher_mode.specs.declared.answer.Ending.{Ending}
-use Rattle.cipher_mode.specs.Answer.{endingHead}
-use Rattle.cipher_mode.proofs.Refusals.{refuses}
-use Rattle.journal.specs.declared.again.Answered.{Answered}
+use Rattle.journal.proofs.Names.{Answered, Ending, _∙_, ap, ap₂, endingHead, needs, refuses, sym, ℕ}
 use Rattle.journal.proofs.again.told.Statement.{statement}
 use Rattle.journal.proofs.again.told.Tie as tie
 

@@ -1,5 +1,5 @@
 -- `keys::at` meets its contract.
-use Rattle.block.proofs.Base.{_∙_, sym, needs, length-map}
+use Rattle.journal.proofs.Names.{_∙_, length-map, needs, sym}
 use Rattle.journal.proofs.KeyTurns.{key-lent}
 use Rattle.journal.proofs.keys.at.Statement.{statement}
 use Rattle.journal.proofs.keys.at.Tie as tie

@@ -1,11 +1,7 @@
 -- `keys::bad` meets its contract. The loop's invariant: the keys to come decide. The measure is how many they are.
-use Rattle.block.proofs.Base.{_+_, _-_, _≤_, ℕ, _∙_, _≡_, ap, refl, sym, Bool, _||_, false, true, List, [], _∷_, arith, needs, le-ltb, lt-ltb}
-use Rattle.block.proofs.Base.{drop, drop-of-length-le, length, length-map}
-use Rattle.block.proofs.Same.{by-test}
-use Rattle.cipher_mode.specs.declared.Sm4Cipher.{Sm4Cipher}
-use Rattle.cipher_mode.specs.Key.{keyNumber}
-use Rattle.journal.specs.KeyList.{keysIn, hasNumber, anyRetired, numberTwice, badKeys}
-use Rattle.journal.specs.declared.keys.Keys.{Keys}
+use Rattle.journal.proofs.Names.{Bool, Keys, List, Sm4Cipher, [], _+_, _-_, _||_, _∙_, _∷_, _≡_, _≤_, anyRetired, ap, arith, badKeys}
+use Rattle.journal.proofs.Names.{by-test, drop, drop-of-length-le, false, hasNumber, keyNumber, keysIn, le-ltb, length, length-map}
+use Rattle.journal.proofs.Names.{lt-ltb, needs, numberTwice, refl, sym, true, ℕ}
 use Rattle.journal.proofs.KeyTurns.{count-keys}
 use Rattle.journal.proofs.keys.bad.Statement.{statement}
 use Rattle.journal.proofs.keys.bad.Tie as tie

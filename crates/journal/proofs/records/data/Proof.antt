@@ -1,5 +1,5 @@
 -- `records::data` meets its contract.
-use Rattle.block.proofs.Base.{needs}
+use Rattle.journal.proofs.Names.{needs}
 use Rattle.journal.proofs.records.data.Statement.{statement}
 use Rattle.journal.proofs.records.data.Tie as tie
 

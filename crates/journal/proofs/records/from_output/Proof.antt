@@ -1,5 +1,5 @@
 -- `records::from_output` meets its contract.
-use Rattle.block.proofs.Base.{needs}
+use Rattle.journal.proofs.Names.{needs}
 use Rattle.journal.proofs.records.from_output.Statement.{statement}
 use Rattle.journal.proofs.records.from_output.Tie as tie
 

@@ -1,5 +1,5 @@
 -- `records::iv` meets its contract.
-use Rattle.block.proofs.Base.{needs}
+use Rattle.journal.proofs.Names.{needs}
 use Rattle.journal.proofs.records.iv.Statement.{statement}
 use Rattle.journal.proofs.records.iv.Tie as tie
 

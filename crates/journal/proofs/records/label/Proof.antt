@@ -1,5 +1,5 @@
 -- `records::label` meets its contract.
-use Rattle.block.proofs.Base.{needs}
+use Rattle.journal.proofs.Names.{needs}
 use Rattle.journal.proofs.records.label.Statement.{statement}
 use Rattle.journal.proofs.records.label.Tie as tie
 

@@ -1,6 +1,6 @@
 -- `records::measure` meets its contract. Each early return is by the test that failed; where none did, the record stands whole.
-use Rattle.block.proofs.Base.{_≤_, ℕ, _∙_, _≡_, ap, sym, Bool, false, not, true, List, arith, needs, not-false, not-true, now, drop, length}
-use Rattle.journal.specs.Format.{behind, afterRecord, Stands, sizeAt}
+use Rattle.journal.proofs.Names.{Bool, List, Stands, _∙_, _≡_, _≤_, afterRecord, ap, arith, behind, drop, false, length, needs, not}
+use Rattle.journal.proofs.Names.{not-false, not-true, now, sizeAt, sym, true, ℕ}
 use Rattle.journal.proofs.Cases.{clash}
 use Rattle.journal.proofs.Standing.{not-standing, size-rest, measured, measured-is, measured-stands}
 use Rattle.journal.proofs.records.measure.Statement.{statement}

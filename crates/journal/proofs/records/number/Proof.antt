@@ -1,5 +1,5 @@
 -- `records::number` meets its contract.
-use Rattle.block.proofs.Base.{needs}
+use Rattle.journal.proofs.Names.{needs}
 use Rattle.journal.proofs.records.number.Statement.{statement}
 use Rattle.journal.proofs.records.number.Tie as tie
 

@@ -1,5 +1,5 @@
 -- `records::output` meets its contract.
-use Rattle.block.proofs.Base.{needs}
+use Rattle.journal.proofs.Names.{needs}
 use Rattle.journal.proofs.records.output.Statement.{statement}
 use Rattle.journal.proofs.records.output.Tie as tie
 

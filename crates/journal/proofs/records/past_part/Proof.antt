@@ -1,7 +1,5 @@
 -- `records::past_part` meets its contract, by the test that led there.
-use Rattle.block.proofs.Base.{_∙_, sym, needs, now, not-false, not-true}
-use lib.Seq.{drop-length}
-use Rattle.journal.specs.Format.{pastPart}
+use Rattle.journal.proofs.Names.{_∙_, drop-length, needs, not-false, not-true, now, pastPart, sym}
 use Rattle.journal.proofs.records.past_part.Statement.{statement}
 use Rattle.journal.proofs.records.past_part.Tie as tie
 

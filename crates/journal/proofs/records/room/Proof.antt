@@ -1,5 +1,5 @@
 -- `records::room` meets its contract.
-use Rattle.block.proofs.Base.{needs}
+use Rattle.journal.proofs.Names.{needs}
 use Rattle.journal.proofs.records.room.Statement.{statement}
 use Rattle.journal.proofs.records.room.Tie as tie
 

@@ -1,6 +1,5 @@
 -- `records::skip` meets its contract: what is lent is the end of the list.
-use Rattle.block.proofs.Base.{needs, now}
-use Rattle.block.proofs.Tails.{tail-is}
+use Rattle.journal.proofs.Names.{needs, now, tail-is}
 use Rattle.journal.proofs.records.skip.Statement.{statement}
 use Rattle.journal.proofs.records.skip.Tie as tie
 

@@ -1,10 +1,8 @@
 -- `records::too_long` meets its contract: the lengths are those of the record's parts.
-use Rattle.block.proofs.Base.{_∙_, needs}
-use Rattle.journal.specs.Format.{front}
+use Rattle.journal.proofs.Names.{_∙_, front, needs}
 use Rattle.journal.proofs.records.too_long.Statement.{statement}
 use Rattle.journal.proofs.records.too_long.Tie as tie
 
 pub too-long-spec : {M : Type 1} → statement M
-too-long-spec =
-    tie.close (tie.spec (λ c κs. search needs) (λ c κs. search needs) (λ c κs. search needs) (λ c κs. search needs) (λ c κs. search needs)
-    (λ c. unfold front in cc))
+too-long-spec = tie.close (tie.spec (λ c κs. search needs) (λ c κs. search needs) (λ c κs. search needs) (λ c κs. search needs)
+    (λ c κs. search needs) (λ c. unfold front in cc))

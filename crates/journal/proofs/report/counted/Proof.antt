@@ -1,8 +1,6 @@
 -- `report::counted` meets its contract, field by field. No sum wraps, since every count is at most the place.
-use Rattle.block.proofs.Base.{_+_, _<_, _≤_, suc, ℕ, _∙_, _≡_, ap, refl, List, arith, needs, length}
-use Rattle.block.proofs.Entries.{below-at}
-use Rattle.journal.specs.Format.{Stands, front}
-use Rattle.journal.specs.Reports.{oneMore, modePlace, counted}
+use Rattle.journal.proofs.Names.{List, Stands, _+_, _<_, _∙_, _≡_, _≤_, ap, arith, below-at, counted, front, length, modePlace}
+use Rattle.journal.proofs.Names.{needs, oneMore, refl, suc, ℕ}
 use Rattle.journal.proofs.Standing.{size-within, data-within}
 use Rattle.journal.proofs.Counting.{same-report, mode-below-6}
 use Rattle.journal.proofs.report.counted.Statement.{statement}

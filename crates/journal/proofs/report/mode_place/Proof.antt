@@ -1,5 +1,5 @@
 -- `report::mode_place` meets its contract, by the test that led there.
-use Rattle.block.proofs.Base.{arith, le-ltb, lt-ltb}
+use Rattle.journal.proofs.Names.{arith, le-ltb, lt-ltb}
 use Rattle.journal.proofs.report.mode_place.Statement.{statement}
 use Rattle.journal.proofs.report.mode_place.Tie as tie
 

@@ -1,6 +1,6 @@
 -- `writer::put_answered` meets its contract: room and number, and behind them the output.
+use Rattle.journal.proofs.Names.{needs}
 use Rattle.journal.proofs.Writing.{copied-then, length-middle}
-use Rattle.block.proofs.Base.{needs}
 use Rattle.journal.proofs.writer.put_answered.Statement.{statement}
 use Rattle.journal.proofs.writer.put_answered.Tie as tie
 

@@ -1,9 +1,6 @@
 -- `writer::put_asked` meets its contract: head, label, data and IV, one behind the other.
-use Rattle.block.proofs.Base.{_+_, ℕ, _∙_, _≡_, ap, List, _++_, append-assoc, arith, needs, now, length, length-append}
-use Rattle.block.specs.Over.{over}
-use Rattle.block.proofs.Tails.{over-behind}
-use Rattle.journal.specs.Format.{part}
-use Rattle.journal.specs.Writer.{headOf}
+use Rattle.journal.proofs.Names.{List, _++_, _+_, _∙_, _≡_, ap, append-assoc, arith, headOf, length, length-append, needs, now, over}
+use Rattle.journal.proofs.Names.{over-behind, part, ℕ}
 use Rattle.journal.proofs.Writing.{copied-then, length-part-of, length-head}
 use Rattle.journal.proofs.writer.put_asked.Statement.{statement}
 use Rattle.journal.proofs.writer.put_asked.Tie as tie
@@ -30,8 +27,7 @@ returns c =
     ∙ simp append-assoc
 
 pub put-asked-spec : {M : Type 1} → statement M
-put-asked-spec =
-    tie.close (tie.spec (λ c κs. search needs) (λ c. search needs) (λ c κs. search needs) (λ c. search needs) (λ c. search needs)
-    (λ c. search needs) (λ c κs. search needs) (λ c. search needs) (λ c. search needs) (λ c. search needs) (λ c. search needs)
-    (λ c. search needs) (λ c κs. search needs) (λ c. search needs) (λ c. search needs) (λ c. search needs) (λ c. search needs)
-    (λ c. search needs) (λ c κs. search needs) (λ c. search needs) returns)
+put-asked-spec = tie.close (tie.spec (λ c κs. search needs) (λ c. search needs) (λ c κs. search needs) (λ c. search needs)
+    (λ c. search needs) (λ c. search needs) (λ c κs. search needs) (λ c. search needs) (λ c. search needs) (λ c. search needs)
+    (λ c. search needs) (λ c. search needs) (λ c κs. search needs) (λ c. search needs) (λ c. search needs) (λ c. search needs)
+    (λ c. search needs) (λ c. search needs) (λ c κs. search needs) (λ c. search needs) returns)

@@ -1,8 +1,5 @@
 -- `writer::put_part` meets its contract: the length, and behind it the part.
-use Rattle.block.proofs.Base.{needs, now, length}
-use Rattle.block.specs.BigEndian.{bytesOf}
-use Rattle.block.proofs.Convert.{length-bytesOf}
-use Rattle.journal.specs.Format.{part}
+use Rattle.journal.proofs.Names.{bytesOf, length, length-bytesOf, needs, now, part}
 use Rattle.journal.proofs.Writing.{whole-copied, copied-then}
 use Rattle.journal.proofs.writer.put_part.Statement.{statement}
 use Rattle.journal.proofs.writer.put_part.Tie as tie

@@ -1,8 +1,7 @@
 -- `writer::write` meets its contract: what is within the limits fits sixteen bits and a few, and no sum wraps; each return is the
 -- definition.
-use Rattle.block.proofs.Base.{_∙_, sym, arith, needs, lt-ltb, now, length, length-drop, length-take}
-use Rattle.journal.specs.Format.{Entry, written}
-use Rattle.journal.specs.Writer.{entryOf, write}
+use Rattle.journal.proofs.Names.{Entry, _∙_, arith, entryOf, length, length-drop, length-take, lt-ltb, needs, now, sym, write}
+use Rattle.journal.proofs.Names.{written}
 use Rattle.journal.proofs.Cases.{Short, short}
 use Rattle.journal.proofs.Writing.{length-written, both-put}
 use Rattle.journal.proofs.writer.write.Statement.{statement}
