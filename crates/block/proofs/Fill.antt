@@ -1,5 +1,6 @@
 -- A list that is written from its front, place by place.
-use Rattle.block.proofs.Base.{_+_, _<_, _≤_, suc, zero, ℕ, _∙_, _≡_, ap, refl, List, [], _++_, _∷_, append-assoc, add-one, arith, drop}
+use Rattle.block.proofs.Base.{_+_, _<_, _≤_, suc, zero, ℕ, _∙_, _≡_, ap, refl, List, [], _++_, _∷_, append-assoc, add-one, arith}
+use Rattle.block.proofs.Base.{drop}
 use Rattle.block.proofs.Base.{getD, length, set, take, drop-cons, length-take-le, take-length}
 use lib.Seq.{take-suc, set-at}
 use Rattle.block.specs.Xor.{_⊕_, xors}

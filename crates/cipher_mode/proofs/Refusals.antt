@@ -4,7 +4,8 @@ use Rattle.cipher_mode.specs.Outcome.{Head, refusal, telling}
 use Rattle.cipher_mode.specs.Answer.{refusalHead, endingHead}
 use Rattle.cipher_mode.specs.declared.answer.Refusal.{Refusal}
 use Rattle.cipher_mode.specs.declared.answer.Refusal.the-variants.{ErrorBlockSize, ErrorDataLen, InvalidLastU8, InvalidTag}
-use Rattle.cipher_mode.specs.declared.answer.Refusal.the-variants.{TooLong, NoRoom, EmptyCbc, ShortGcm, WrongIv, WrongBlock, Ended, WrongNumber, Retired, InvalidPadding}
+use Rattle.cipher_mode.specs.declared.answer.Refusal.the-variants.{TooLong, NoRoom, EmptyCbc, ShortGcm, WrongIv, WrongBlock, Ended}
+use Rattle.cipher_mode.specs.declared.answer.Refusal.the-variants.{WrongNumber, Retired, InvalidPadding}
 use Rattle.cipher_mode.specs.declared.answer.Ending.{Ending}
 use Rattle.cipher_mode.specs.declared.answer.Ending.the-variants.{Done, Refused}
 

@@ -12,7 +12,8 @@ use Rattle.cipher_mode.specs.declared.CipherMode.the-variants.{Cfb, Ofb,
 use Rattle.cipher_mode.specs.declared.Direction.{Direction}
 use Rattle.cipher_mode.specs.declared.Direction.the-variants.{Encrypt, Decrypt}
 use Rattle.cipher_mode.specs.declared.answer.Refusal.{Refusal}
-use Rattle.cipher_mode.specs.declared.answer.Refusal.the-variants.{ErrorBlockSize, ErrorDataLen, TooLong, NoRoom, EmptyCbc, ShortGcm, WrongIv, WrongBlock, WrongNumber, Retired}
+use Rattle.cipher_mode.specs.declared.answer.Refusal.the-variants.{ErrorBlockSize, ErrorDataLen, TooLong, NoRoom, EmptyCbc, ShortGcm}
+use Rattle.cipher_mode.specs.declared.answer.Refusal.the-variants.{WrongIv, WrongBlock, WrongNumber, Retired}
 use Rattle.cipher_mode.specs.declared.checks.Checked.{Checked}
 use Rattle.cipher_mode.specs.declared.checks.Checked.the-variants.{Passed, Refused}
 use Rattle.cipher_mode.specs.declared.checks.Lengths.{Lengths}

@@ -104,4 +104,5 @@ isFound (Refused·here r) = false
 -- the verdict that an answer spells
 abbrev pub verdictOf : Found → Verdict
 verdictOf f =
-    record { head = under (f .key) (endedHead (f .ended)); found = isFound (f .ended); place = f .place; start = f .start; size = f .length }
+    let h = under (f .key) (endedHead (f .ended)) in
+    record { head = h; found = isFound (f .ended); place = f .place; start = f .start; size = f .length }

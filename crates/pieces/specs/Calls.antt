@@ -106,7 +106,8 @@ unfoldable pub sealStart : Sm4Cipher → List ℕ → List ℕ → Stepped Seal
 sealStart c label iv =
     let k = keyNumber c in
     stepOn Seal k
-    (begun Seal (gcmStarting (c .answer) (c .retired) Encrypt (length iv) (length label)) (sealShut k) (sealAfter k (c .engine) (c .rk) label iv []))
+    (begun Seal (gcmStarting (c .answer) (c .retired) Encrypt (length iv) (length label)) (sealShut k)
+    (sealAfter k (c .engine) (c .rk) label iv []))
 
 -- the piece e, into the output o: what is written is hashed
 unfoldable pub sealPiece : Seal → List ℕ → List ℕ → Stepped Seal

@@ -167,5 +167,5 @@ module _ (m : Mode) (F : FedBack m) where
         let b = take 16 d in
         R .reached s o₀
         (rw (returned-is o₀ p 0) at
-        (reached-next m s d o₀ s o₀ 0 (reached-first m s d o₀) b p hd ho (rw x (F .full s b hs (length-take-le 16 d hd))) (rw x (sym (F .state s b)))
-        (rw (x, y) e)))
+        (reached-next m s d o₀ s o₀ 0 (reached-first m s d o₀) b p hd ho (rw x (F .full s b hs (length-take-le 16 d hd)))
+        (rw x (sym (F .state s b))) (rw (x, y) e)))

@@ -37,7 +37,8 @@ returns-2 c =
     let d = now (a .«data») in
     let j = unwords (a .j0) in
     let opens = sym (at-opens .opens .ensures) ∙ at-if2 .if2 .taken in
-    let is-text = text-words (a .rk) j _ _ (at-add-one .gcm-block-add-one .ensures .0) ∙ ap (textOf (a .rk) j) (at-text-part .text-part .ensures) in (
+    let part = at-text-part .text-part .ensures in
+    let is-text = text-words (a .rk) j _ _ (at-add-one .gcm-block-add-one .ensures .0) ∙ ap (textOf (a .rk) j) part in (
       sym opens,
       at-stream .stream .ensures .1 .1 ∙ ap (λ (p : List ℕ). over p (now (a .out))) is-text
           ∙ into-opened (a .rk) (value (a .h)) j (now (a .aad)) d (now (a .out)) opens,

@@ -1,4 +1,5 @@
--- `gcm::is_tag` meets its contract: the four words of the difference are all 0 exactly where the bytes are the expected tag (`is-tag-words`).
+-- `gcm::is_tag` meets its contract: the four words of the difference are all 0 exactly where the bytes are the expected tag
+-- (`is-tag-words`).
 use Rattle.gcm.proofs.Names.{Fits, _<_, _^_, _≡_, arith, below-each, getD, length, needs, now, w32, ℕ}
 use Rattle.gcm.proofs.TagTest.{is-tag-words}
 use Rattle.gcm.proofs.is_tag.Statement.{statement}

@@ -1,5 +1,5 @@
--- `padding::all_padding` meets its contract. The loop's invariant: the differences that are added, and those that the bytes from i on will add,
--- are those of the whole block.
+-- `padding::all_padding` meets its contract. The loop's invariant: the differences that are added, and those that the bytes from i on will
+-- add, are those of the whole block.
 use Rattle.block.proofs.Base.{_*_, _+_, _-_, _≤_, _≡_, arith, needs, drop, getD, length, w8, Fits}
 use Rattle.padding.proofs.AllPadding.{difference, differences, difference-le, difference-turn, none-left, padding-test}
 use Rattle.padding.proofs.all_padding.Statement.{statement}

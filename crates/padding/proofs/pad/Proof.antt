@@ -1,5 +1,5 @@
--- `padding::pad` meets its contract. The array starts as sixteen times the count; the loop's invariant: the first i bytes are the rest's, and
--- what is left is the padding.
+-- `padding::pad` meets its contract. The array starts as sixteen times the count; the loop's invariant: the first i bytes are the rest's,
+-- and what is left is the padding.
 use Rattle.block.proofs.Base.{_-_, _≤_, _≡_, refl, _++_, arith, now, drop, length, length-set, replicate, take}
 use Rattle.block.proofs.Fill.{copy-turn}
 use Rattle.padding.proofs.Filled.{pad-filled}

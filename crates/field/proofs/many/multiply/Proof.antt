@@ -1,5 +1,5 @@
--- `field::many::multiply` meets its contract: three products of halves make up each product without carry (`join-128`), and x^127 times that is
--- the product (`reduced-product`).
+-- `field::many::multiply` meets its contract: three products of halves make up each product without carry (`join-128`), and x^127 times
+-- that is the product (`reduced-product`).
 use Rattle.field.proofs.Names.{_∙_, clmul-lt, join-128, lends-both, lends-high, lends-low, needs}
 use Rattle.field.proofs.Reduction.{reduced-product}
 use Rattle.field.proofs.many.multiply.Statement.{statement}

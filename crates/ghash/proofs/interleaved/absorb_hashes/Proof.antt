@@ -1,5 +1,5 @@
--- `ghash::interleaved::absorb_hashes` meets its contract. The loop's invariant: the first k hashes are taken in, and m is the parts of H. A turn
--- takes in the one that comes next (`absorbed-both`).
+-- `ghash::interleaved::absorb_hashes` meets its contract. The loop's invariant: the first k hashes are taken in, and m is the parts of H. A
+-- turn takes in the one that comes next (`absorbed-both`).
 use Rattle.ghash.proofs.Names.{Absorbed, PartsOf, _-_, _≡_, _≤_, arith, hashFrom, lane, needs, upTo}
 use Rattle.ghash.proofs.Absorbing.{parts-same, absorbed-both}
 use Rattle.ghash.proofs.Sets.{upTo-next}

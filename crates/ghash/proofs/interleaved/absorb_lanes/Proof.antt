@@ -1,5 +1,5 @@
--- `ghash::interleaved::absorb_lanes` meets its contract: once the sets are taken in, the hashes join to the hash of their blocks, and the rest is
--- taken in block by block (`absorbed-cut`).
+-- `ghash::interleaved::absorb_lanes` meets its contract: once the sets are taken in, the hashes join to the hash of their blocks, and the
+-- rest is taken in block by block (`absorbed-cut`).
 use Rattle.ghash.proofs.Names.{_*_, _∙_, _≤_, arith, length, lt-of-le-of-lt, needs, value, whole-lt}
 use Rattle.ghash.proofs.Absorbing.{absorbed-cut, hash-of}
 use Rattle.ghash.proofs.Sets.{lanes-few, starts-first}

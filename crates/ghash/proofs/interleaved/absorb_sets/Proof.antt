@@ -1,5 +1,5 @@
--- `ghash::interleaved::absorb_sets` meets its contract. The loop's invariant: where the first set was hashed (`hashed-first`), the first b blocks are,
--- and the hashes are elements. In a turn the hashes are multiplied, and the next set is added (`hashed-next`).
+-- `ghash::interleaved::absorb_sets` meets its contract. The loop's invariant: where the first set was hashed (`hashed-first`), the first b
+-- blocks are, and the hashes are elements. In a turn the hashes are multiplied, and the next set is added (`hashed-next`).
 use Rattle.ghash.proofs.Names.{Element, Hashed, _-_, _<_, _≡_, _≤_, arith, blockNumber, gpow, lane, length, needs, upTo, value, ℕ}
 use Rattle.ghash.proofs.Sets.{lent-block, hashed-first, hashed-next}
 use Rattle.ghash.proofs.interleaved.absorb_sets.Statement.{statement}

@@ -1,5 +1,5 @@
--- `ghash::interleaved::add_set` meets its contract. The loop's invariant: to the first k hashes their blocks are added, and these are elements; the
--- others are as they were.
+-- `ghash::interleaved::add_set` meets its contract. The loop's invariant: to the first k hashes their blocks are added, and these are
+-- elements; the others are as they were.
 use Rattle.ghash.proofs.Names.{Both, Element, _-_, _<_, _∙_, _≡_, _≤_, _⊕_, ap₂, arith, below-each, blockNumber, both-next, lane}
 use Rattle.ghash.proofs.Names.{lane-other, lane-same, length, needs, one-more, refl, whole-lt, ℕ}
 use Rattle.ghash.proofs.Sets.{lent-number}
@@ -38,7 +38,8 @@ add-set-spec =
       search needs,
       both-next k u v (l .high) (l .low) ha hb _
           (c .add .ensures
-          ∙ ap₂ _⊕_ (l .inv .5 k (omega arith)) (at-number .to-u128 .ensures ∙ lent-number bytes k _ number (at-split .split-block .ensures)))
+          ∙ ap₂ _⊕_ (l .inv .5 k (omega arith))
+          (at-number .to-u128 .ensures ∙ lent-number bytes k _ number (at-split .split-block .ensures)))
           (l .inv .3),
       one-more _ k
           (rw (lane-same k u v (l .high) (l .low) ha hb) (whole-lt u v (omega (arith, c .add .ok)) (omega (arith, c .add .ok))))

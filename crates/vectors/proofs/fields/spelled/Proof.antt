@@ -5,7 +5,8 @@ use Rattle.vectors.proofs.fields.spelled.Statement.{statement}
 use Rattle.vectors.proofs.fields.spelled.Tie as tie
 
 abbrev Inv-loop : tie.InvT-loop
-Inv-loop s₀ comment₀ byte₀ digits₀ i₀ i-end s comment byte digits i = (i ≤ i-end) × (digits ≤ i) × (i-end ≡ length s₀) × (length s ≡ length s₀)
+Inv-loop s₀ comment₀ byte₀ digits₀ i₀ i-end s comment byte digits i =
+    (i ≤ i-end) × (digits ≤ i) × (i-end ≡ length s₀) × (length s ≡ length s₀)
 
 abbrev μ-loop : tie.MeasureT-loop
 μ-loop s₀ comment₀ byte₀ digits₀ i₀ i-end s comment byte digits i = i-end - i
