@@ -4,4 +4,5 @@ use Rattle.luossavin.proofs.mode_in.Statement.{statement}
 use Rattle.luossavin.proofs.mode_in.Tie as tie
 
 pub mode-in-spec : {M : Type 1} → statement M
-mode-in-spec = tie.close (tie.spec (λ c κs. search needs) (λ c κs. search needs) (λ c. cc))
+mode-in-spec =
+    tie.close (tie.spec (λ c κs. search needs) (λ c κs. search needs) (λ c. rw (c .before .cipher-of .ensures, c .mode-of .ensures)))

@@ -5,8 +5,12 @@ use Rattle.block.proofs.Base.{needs}
 use Rattle.luossavin.proofs.journals.report_replayed.Statement.{statement}
 use Rattle.luossavin.proofs.journals.report_replayed.Tie as tie
 
-pub report-replayed-spec : {M : Type 1} → statement M
+returns : tie.Need-returns
 unfolding toldOf
-report-replayed-spec =
-    tie.close (tie.spec (λ c κs. search needs) (λ c. search needs)
-    (λ c. cc (mark-byte (c .before .before .before .before .before .before .args .replayed .report .first .found))))
+returns c =
+    let at-number = c .before in
+    let x = at-number .before .before .before .before .before .args .replayed in
+    rw (at-number .number .ensures, mark-byte (x .report .first .found))
+
+pub report-replayed-spec : {M : Type 1} → statement M
+report-replayed-spec = tie.close (tie.spec (λ c κs. search needs) (λ c. search needs) returns)

@@ -6,4 +6,4 @@ use Rattle.luossavin.proofs.key.cipher_of.Tie as tie
 
 pub cipher-of-spec : {M : Type 1} → statement M
 unfolding cipherIn
-cipher-of-spec = tie.close (tie.spec (λ c κs. search needs) (λ c. cc))
+cipher-of-spec = tie.close (tie.spec (λ c κs. search needs) (λ c. rw (c .before .key-answer-of .ensures)))

@@ -6,4 +6,4 @@ use Rattle.luossavin.proofs.key.luossavin_key_engine.Tie as tie
 
 pub luossavin-key-engine-spec : {M : Type 1} → statement M
 unfolding hostKeyEngine
-luossavin-key-engine-spec = tie.close (tie.spec (λ c κs. search needs) (λ c. cc))
+luossavin-key-engine-spec = tie.close (tie.spec (λ c κs. search needs) (λ c. rw (c .mark-of .ensures)))

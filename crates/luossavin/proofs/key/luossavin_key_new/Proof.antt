@@ -5,8 +5,11 @@ use Rattle.block.proofs.Base.{needs}
 use Rattle.luossavin.proofs.key.luossavin_key_new.Statement.{statement}
 use Rattle.luossavin.proofs.key.luossavin_key_new.Tie as tie
 
-pub luossavin-key-new-spec : {M : Type 1} → statement M
+returns : tie.Need-returns
 unfolding hostKeyNew keyOf
-luossavin-key-new-spec =
-    tie.close (tie.spec (λ c κs. search needs) (λ c κs. search needs) (λ c. search needs)
-    (λ c. cc (mark-byte (c .before .before .before .new .result .retired))))
+returns c =
+    let made = c .before .before .before .new in
+    rw (← made .ensures, c .before .answer-number .ensures, mark-byte (made .result .retired))
+
+pub luossavin-key-new-spec : {M : Type 1} → statement M
+luossavin-key-new-spec = tie.close (tie.spec (λ c κs. search needs) (λ c κs. search needs) (λ c. search needs) returns)

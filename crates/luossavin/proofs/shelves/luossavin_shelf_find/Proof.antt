@@ -4,4 +4,5 @@ use Rattle.luossavin.proofs.shelves.luossavin_shelf_find.Statement.{sta
 use Rattle.luossavin.proofs.shelves.luossavin_shelf_find.Tie as tie
 
 pub luossavin-shelf-find-spec : {M : Type 1} → statement M
-luossavin-shelf-find-spec = tie.close (tie.spec (λ c κs. search needs) (λ c κs. search needs) (λ c. cc))
+luossavin-shelf-find-spec =
+    tie.close (tie.spec (λ c κs. search needs) (λ c κs. search needs) (λ c. rw (c .number .ensures) (c .before .find .ensures)))
