@@ -1,16 +1,10 @@
 -- What stands after a put that is done, and after a collection: a shelf in order, the new record under its job, and every other job's
 -- current record as it was.
-use Rattle.block.proofs.Base.{_<_, _^_, _≤_, ℕ, _∙_, _≡_, ap, refl, sym, false, List, [], _∷_, append-nil, arith, eqb-false, eqb-true}
-use Rattle.block.proofs.Base.{lt-ltb, ltb-false, ltb-true, eqb, ltb, length, length-append, length-drop, take, take-append-seam}
-use lib.Seq.{drop-append-seam}
-use Rattle.block.specs.Below.{AreBytes}
-use Rattle.block.proofs.Entries.{below-take}
-use Rattle.block.specs.Over.{over}
-use Rattle.block.proofs.Same.{by-test}
-use Rattle.shelf.specs.Records.{Record, AllProper, written, stored, records}
-use Rattle.shelf.specs.Shelf.{currentOf, collected, notHigher, fitted, badShelf}
-use Rattle.shelf.specs.Steps.{InOrder}
-use Rattle.shelf.specs.Calls.{newRecord, putIn, putCall, collectCall, lookedUp, holding}
+use Rattle.shelf.proofs.Names.{AllProper, AreBytes, InOrder, List, Record, [], _<_, _^_, _∙_, _∷_, _≡_, _≤_, ap, append-nil, arith}
+use Rattle.shelf.proofs.Names.{badShelf, below-take, by-test, collectCall, collected, currentOf, drop-append-seam, eqb, eqb-false}
+use Rattle.shelf.proofs.Names.{eqb-true, false, fitted, holding, length, length-append, length-drop, lookedUp, lt-ltb, ltb}
+use Rattle.shelf.proofs.Names.{ltb-false, ltb-true, newRecord, notHigher, over, putCall, putIn, records, refl, stored, sym, take}
+use Rattle.shelf.proofs.Names.{take-append-seam, written, ℕ}
 use Rattle.shelf.proofs.ReadsProper.{records-stored, records-proper, those-proper, put-proper}
 use Rattle.shelf.proofs.Sound.{in-order, not-bad}
 use Rattle.shelf.proofs.Putting.{length-current, fitted-fits}

@@ -1,13 +1,8 @@
 -- Looking up a job gives its whole current record, byte for byte, as a part of the buffer; of a job that has none, nothing.
-use Rattle.block.proofs.Base.{_+_, _≤_, ℕ, _∙_, _≡_, ap, refl, false, List, [], _++_, _∷_, append-nil, arith, le-ltb, drop, length}
-use Rattle.block.proofs.Base.{length-append, length-drop, take, drop-append-add, drop-append-le, take-append-le}
-use Rattle.block.proofs.Base.{take-append-seam}
-use Rattle.block.specs.Below.{AreBytes}
-use Rattle.block.proofs.Same.{by-test}
-use Rattle.shelf.specs.Records.{Record, written, stored, records}
-use Rattle.shelf.specs.Shelf.{isCurrentOf, those, currentOf, hasCurrent, twoCurrent, placeOf, sizeOf}
-use Rattle.shelf.specs.Steps.{InOrder}
-use Rattle.shelf.specs.Calls.{findCall, partOf, lookedUp}
+use Rattle.shelf.proofs.Names.{AreBytes, InOrder, List, Record, [], _++_, _+_, _∙_, _∷_, _≡_, _≤_, ap, append-nil, arith, by-test}
+use Rattle.shelf.proofs.Names.{currentOf, drop, drop-append-add, drop-append-le, false, findCall, hasCurrent, isCurrentOf, le-ltb}
+use Rattle.shelf.proofs.Names.{length, length-append, length-drop, lookedUp, partOf, placeOf, records, refl, sizeOf, stored, take}
+use Rattle.shelf.proofs.Names.{take-append-le, take-append-seam, those, twoCurrent, written, ℕ}
 use Rattle.shelf.proofs.Walks.{none-current, alone, two-rest}
 use Rattle.shelf.proofs.Sound.{not-bad}
 use Rattle.shelf.proofs.Putting.{used-stored}

@@ -1,15 +1,8 @@
 -- A collection, record by record: one that stays is moved down behind those that stayed, and what is to come is as it was.
-use Rattle.block.proofs.Base.{_+_, _-_, _≤_, ℕ, _∙_, _≡_, ap, ap₂, refl, sym, Bool, _&&_, false, not, true, List, _++_}
-use Rattle.block.proofs.Base.{append-assoc, append-nil, arith, eqb, drop, length, length-drop, take, take-append-drop, drop-drop}
-use Rattle.block.proofs.Base.{length-take-le, sub-zero}
-use lib.Seq.{paste, take-paste, drop-paste, length-paste}
-use Rattle.block.specs.Below.{AreBytes}
-use Rattle.block.proofs.Entries.{below-take, below-drop}
-use Rattle.block.specs.Over.{over}
-use Rattle.shelf.specs.declared.records.Head.{Head}
-use Rattle.shelf.specs.Records.{stored, records, headAt}
-use Rattle.shelf.specs.Shelf.{those}
-use Rattle.shelf.specs.Steps.{stays}
+use Rattle.shelf.proofs.Names.{AreBytes, Bool, Head, List, _&&_, _++_, _+_, _-_, _∙_, _≡_, _≤_, ap, append-assoc, append-nil, ap₂}
+use Rattle.shelf.proofs.Names.{arith, below-drop, below-take, drop, drop-drop, drop-paste, eqb, false, headAt, length, length-drop}
+use Rattle.shelf.proofs.Names.{length-paste, length-take-le, not, over, paste, records, refl, stays, stored, sub-zero, sym, take}
+use Rattle.shelf.proofs.Names.{take-append-drop, take-paste, those, true, ℕ}
 use Rattle.shelf.proofs.ReadsProper.{between, Turn, at-end}
 
 -- the bytes that are kept of b

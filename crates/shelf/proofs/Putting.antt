@@ -1,26 +1,12 @@
 -- What a put changes: marking the current record of a job changes one byte of the buffer; where a new record goes, and what it takes
 -- to find room for it.
-use Rattle.block.proofs.Base.{not, _+_, _<_, _≤_, ℕ, _∙_, _≡_, ap, refl, sym, Bool, cond, false, true, List, [], _++_, _∷_, append-assoc}
-use Rattle.block.proofs.Base.{append-nil, suc-add, zero-add, arith, leb, leb-true, length-drop, le-ltb, le-leb, lt-leb, ltb-false, ltb-true}
-use Rattle.block.proofs.Base.{eqb, ltb, drop, length}
-use Rattle.block.proofs.Base.{length-append, set, take, take-append-drop, length-take-le, take-length}
-use mathlib.Core.Bool.{and-false}
-use lib.Seq.{set-append-left}
-use Rattle.block.specs.Below.{AreBytes}
-use Rattle.block.proofs.Entries.{below-take}
-use Rattle.block.specs.BigEndian.{bytesOf}
-use Rattle.block.proofs.Convert.{length-bytesOf}
-use Rattle.block.specs.Over.{over}
-use Rattle.block.proofs.Tails.{tailed, returned, over-behind}
-use Rattle.block.proofs.Same.{by-test}
-use Rattle.label.specs.Label.{labelOf}
-use Rattle.label.proofs.LabelTells.{length-label}
-use Rattle.shelf.specs.Records.{Record, written, stored, records}
-use Rattle.shelf.specs.Shelf.{isCurrentOf, those, hasCurrent, twoCurrent, placeOf, sizeOf, superseded, supersede, collected, withNew}
-use Rattle.shelf.specs.Shelf.{fitted}
-use Rattle.shelf.specs.Steps.{InOrder, stays, roomMade, Surveyed}
-use Rattle.shelf.specs.declared.lookup.Told.{Told}
-use Rattle.shelf.specs.Calls.{newRecord}
+use Rattle.shelf.proofs.Names.{AreBytes, Bool, InOrder, List, Record, Surveyed, Told, [], _++_, _+_, _<_, _∙_, _∷_, _≡_, _≤_}
+use Rattle.shelf.proofs.Names.{and-false, ap, append-assoc, append-nil, arith, below-take, by-test, bytesOf, collected, cond, drop}
+use Rattle.shelf.proofs.Names.{eqb, false, fitted, hasCurrent, isCurrentOf, labelOf, le-leb, le-ltb, leb, leb-true, length}
+use Rattle.shelf.proofs.Names.{length-append, length-bytesOf, length-drop, length-label, length-take-le, lt-leb, ltb, ltb-false}
+use Rattle.shelf.proofs.Names.{ltb-true, newRecord, not, over, over-behind, placeOf, records, refl, returned, roomMade, set}
+use Rattle.shelf.proofs.Names.{set-append-left, sizeOf, stays, stored, suc-add, supersede, superseded, sym, tailed, take}
+use Rattle.shelf.proofs.Names.{take-append-drop, take-length, those, true, twoCurrent, withNew, written, zero-add, ℕ}
 use Rattle.shelf.proofs.Reading.{length-written}
 use Rattle.shelf.proofs.Walks.{or-left, or-right, alone, two-rest, has-told}
 use Rattle.shelf.proofs.ReadsProper.{stored-records}

@@ -1,14 +1,8 @@
 -- Records are read one at a time: where one stands whole at the front, it and then what is behind it; otherwise none.
-use Rattle.block.proofs.Base.{_+_, _-_, _<_, _≤_, suc, zero, ℕ, _∙_, _≡_, cond, refl, sym, Bool, false, true, List, [], _∷_, arith, le-leb}
-use Rattle.block.proofs.Base.{leb-true, lt-leb, leb, drop, length, length-append, length-drop, take, length-take-le}
-use Rattle.block.proofs.Base.{eqb, not, ne-eqb}
-use Rattle.block.specs.BigEndian.{bytesOf}
-use Rattle.block.specs.Words.{wordAt}
-use Rattle.block.proofs.Convert.{length-bytesOf}
-use Rattle.block.proofs.Same.{by-test, and-left, and-right}
-use Rattle.label.specs.Label.{labelOf}
-use Rattle.label.proofs.LabelTells.{length-label}
-use Rattle.shelf.specs.Records.{Record, written, marked, startsRecord, sizeAt, front, readUpTo, records}
+use Rattle.shelf.proofs.Names.{Bool, List, Record, [], _+_, _-_, _<_, _∙_, _∷_, _≡_, _≤_, and-left, and-right, arith, by-test}
+use Rattle.shelf.proofs.Names.{bytesOf, cond, drop, eqb, false, front, labelOf, le-leb, leb, leb-true, length, length-append}
+use Rattle.shelf.proofs.Names.{length-bytesOf, length-drop, length-label, length-take-le, lt-leb, marked, ne-eqb, not, readUpTo}
+use Rattle.shelf.proofs.Names.{records, refl, sizeAt, startsRecord, suc, sym, take, true, wordAt, written, zero, ℕ}
 
 pub length-written : (r : Record) → length (written r) ≡ 12 + length (r .sealed)
 unfolding written

@@ -1,22 +1,13 @@
 -- What is read of bytes is proper, and so is what putting and collecting make of it; reading and writing are each other's inverse.
-use Rattle.block.proofs.Base.{drop-drop, length-drop, take-nil, ne-eqb, _+_, _-_, _<_, _≤_, suc, zero, ℕ, _∙_, _≡_, ap, refl, sym, Bool}
-use Rattle.block.proofs.Base.{true, List, [], _++_, _∷_}
-use Rattle.block.proofs.Base.{mod-eq-of-lt, le-leb, arith, eqb-true, eqb, leb, lit<, drop, getD, length, length-append, take}
-use Rattle.block.proofs.Base.{length-take, length-take-le, take-add, take-length}
-use lib.Seq.{take-take, take-append-seam, drop-append-seam}
-use Rattle.block.specs.Below.{AreBytes}
-use Rattle.block.specs.Words.{wordAt}
-use Rattle.block.proofs.Convert.{numberOf-lt, numberOf-bytesOf, bytesOf-numberOf}
-use Rattle.block.proofs.Entries.{below-at, below-take, below-drop}
-use Rattle.block.specs.BigEndian.{bytesOf}
-use Rattle.block.proofs.Same.{by-test, and-left, and-right}
-use Rattle.label.specs.Label.{labelOf}
-use Rattle.shelf.specs.Records.{Record, Proper, AllProper, stored, startsRecord, sizeAt, front, records, markOf, written, marked}
-use Rattle.shelf.specs.Records.{headAt}
-use Rattle.shelf.specs.Shelf.{isCurrentOf, those, supersede, withNew, fitted}
-use Rattle.shelf.specs.declared.records.Head.{Head}
-use Rattle.shelf.proofs.Reading.{starts-size, length-sealed, records-none, records-one, by-records, length-written}
-use Rattle.shelf.proofs.Reading.{starts-within}
+use Rattle.shelf.proofs.Names.{AllProper, AreBytes, Bool, Head, List, Proper, Record, [], _++_, _+_, _-_, _<_, _∙_, _∷_, _≡_, _≤_}
+use Rattle.shelf.proofs.Names.{and-left, and-right, ap, arith, below-at, below-drop, below-take, by-test, bytesOf, bytesOf-numberOf}
+use Rattle.shelf.proofs.Names.{drop, drop-append-seam, drop-drop, eqb, eqb-true, fitted, front, getD, headAt, isCurrentOf, labelOf}
+use Rattle.shelf.proofs.Names.{le-leb, leb, length, length-append, length-drop, length-take, length-take-le, lit<, markOf, marked}
+use Rattle.shelf.proofs.Names.{mod-eq-of-lt, ne-eqb, numberOf-bytesOf, numberOf-lt, records, refl, sizeAt, startsRecord, stored, suc}
+use Rattle.shelf.proofs.Names.{supersede, sym, take, take-add, take-length, take-nil, take-take, those, true, withNew, wordAt}
+use Rattle.shelf.proofs.Names.{written, zero, ℕ}
+use lib.Seq.{take-append-seam}
+use Rattle.shelf.proofs.Reading.{starts-size, length-sealed, records-none, records-one, by-records, length-written, starts-within}
 use Rattle.shelf.proofs.Reading.{size-starts, records-empty}
 
 module _ (b : List ℕ) (small : AreBytes b) where

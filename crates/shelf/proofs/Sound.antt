@@ -1,22 +1,15 @@
 -- Where a shelf breaks off: all is in order where no job has two current records, and otherwise less than all; so a shelf is bad
 -- exactly where it is not in order up to its used count.
-use Rattle.block.proofs.Base.{_+_, _-_, _<_, _≤_, ℕ, zero-add, sub-zero, take-length, _∙_, _≡_, ap, ap₂, refl, sym, _&&_, false, not}
-use Rattle.block.proofs.Base.{true, List, [], _++_, _∷_}
-use Rattle.block.proofs.Base.{append-assoc, append-nil, arith, eq-eqb, eqb-true, le-ltb, ltb-false, ne-eqb, not-false, eqb, ltb, drop}
-use Rattle.block.proofs.Base.{length, length-append, take, length-take-le, take-add}
-use mathlib.Core.Bool.{or-true, or-false}
-use Rattle.block.specs.Below.{AreBytes}
-use Rattle.block.proofs.Entries.{below-take, below-drop}
-use Rattle.block.proofs.Same.{by-test, and-left, and-right}
-use Rattle.shelf.specs.declared.records.Head.{Head}
-use Rattle.shelf.specs.Records.{Record, written, stored, records, headAt}
-use Rattle.shelf.specs.Shelf.{isCurrentOf, those, hasCurrent, twoCurrent, badShelf}
-use Rattle.shelf.specs.Steps.{soundFrom, soundUpTo, InOrder}
+use Rattle.shelf.proofs.Names.{AreBytes, Head, InOrder, List, Record, [], _&&_, _++_, _+_, _-_, _<_, _∙_, _∷_, _≡_, _≤_, and-left}
+use Rattle.shelf.proofs.Names.{and-right, ap, append-assoc, append-nil, ap₂, arith, badShelf, below-drop, below-take, by-test, drop}
+use Rattle.shelf.proofs.Names.{eq-eqb, eqb, eqb-true, false, hasCurrent, headAt, isCurrentOf, le-ltb, length, length-append}
+use Rattle.shelf.proofs.Names.{length-take-le, ltb, ltb-false, ne-eqb, not, not-false, or-false, or-true, records, refl, soundFrom}
+use Rattle.shelf.proofs.Names.{soundUpTo, stored, sub-zero, sym, take, take-add, take-length, those, true, twoCurrent, written}
+use Rattle.shelf.proofs.Names.{zero-add, ℕ}
 use Rattle.shelf.proofs.Reading.{length-written, records-empty}
-use Rattle.shelf.proofs.ReadsProper.{between, Turn, entry, at-end}
-use Rattle.shelf.proofs.Walks.{none-current, or-left, or-right}
-use Rattle.shelf.proofs.ReadsProper.{stored-records, records-stored, more-proper, records-proper}
+use Rattle.shelf.proofs.ReadsProper.{between, Turn, entry, at-end, stored-records, records-stored, more-proper, records-proper}
 use Rattle.shelf.proofs.ReadsProper.{stored-within}
+use Rattle.shelf.proofs.Walks.{none-current, or-left, or-right}
 use Rattle.shelf.proofs.Putting.{stored-new, those-append}
 use Rattle.shelf.proofs.Current.{current-none, own-current, at-most-one, no-two}
 

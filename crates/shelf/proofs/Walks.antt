@@ -1,12 +1,8 @@
 -- What the definitions over a shelf's records say at one record, and after the last.
-use Rattle.block.proofs.Base.{_+_, ℕ, _∙_, _≡_, refl, sym, Bool, _&&_, _||_, cond, false, true, List, [], _∷_, arith}
-use Rattle.block.proofs.Base.{_≤_, _++_, not, leb, sub-zero, zero-add, take, _<_, eqb-true, eqb, ltb, lt-ltb, ne-eqb, length, length-append}
-use Rattle.block.proofs.Same.{by-test, and-left, and-right}
-use Rattle.shelf.specs.Records.{Record, written, stored, records, headAt}
-use Rattle.shelf.specs.declared.records.Head.{Head}
-use Rattle.shelf.specs.declared.lookup.Told.{Told}
-use Rattle.shelf.specs.Shelf.{isCurrentOf, those, hasCurrent, twoCurrent, placeOf, sizeOf, notHigher}
-use Rattle.shelf.specs.Steps.{reaches, stays, Surveyed}
+use Rattle.shelf.proofs.Names.{Bool, Head, List, Record, Surveyed, Told, [], _&&_, _++_, _+_, _<_, _||_, _∙_, _∷_, _≡_, _≤_}
+use Rattle.shelf.proofs.Names.{and-left, and-right, arith, by-test, cond, eqb, eqb-true, false, hasCurrent, headAt, isCurrentOf, leb}
+use Rattle.shelf.proofs.Names.{length, length-append, lt-ltb, ltb, ne-eqb, not, notHigher, placeOf, reaches, records, refl, sizeOf}
+use Rattle.shelf.proofs.Names.{stays, stored, sub-zero, sym, take, those, true, twoCurrent, written, zero-add, ℕ}
 use Rattle.shelf.proofs.Reading.{length-written}
 use Rattle.shelf.proofs.ReadsProper.{between, entry, Turn, at-end}
 

@@ -1,7 +1,5 @@
 -- `shelf::bad` meets its contract: what is in order up to the used count is the definition's last two tests.
-use Rattle.block.proofs.Base.{sub-zero, arith, needs, le-ltb, lt-ltb, now}
-use Rattle.block.proofs.Entries.{below-each}
-use Rattle.shelf.specs.Shelf.{badShelf}
+use Rattle.shelf.proofs.Names.{arith, badShelf, below-each, le-ltb, lt-ltb, needs, now, sub-zero}
 use Rattle.shelf.proofs.Sound.{bad-records}
 use Rattle.shelf.proofs.bad.Statement.{statement}
 use Rattle.shelf.proofs.bad.Tie as tie

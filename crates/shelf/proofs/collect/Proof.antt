@@ -1,7 +1,6 @@
 -- `shelf::collect` meets its contract: refused, or what `keep` leaves.
-use Rattle.block.proofs.Base.{_∙_, sym, needs}
+use Rattle.shelf.proofs.Names.{_∙_, collectCall, needs, sym}
 use Rattle.shelf.proofs.Sound.{in-order}
-use Rattle.shelf.specs.Calls.{collectCall}
 use Rattle.shelf.proofs.collect.Statement.{statement}
 use Rattle.shelf.proofs.collect.Tie as tie
 

@@ -1,7 +1,5 @@
 -- `shelf::find` meets its contract: each return is the definition, by the tests that led there.
-use Rattle.block.proofs.Base.{_∙_, _≡_, sym, false, arith, needs, now, lt-ltb}
-use Rattle.shelf.specs.Shelf.{badShelf}
-use Rattle.shelf.specs.Calls.{findCall}
+use Rattle.shelf.proofs.Names.{_∙_, _≡_, arith, badShelf, false, findCall, lt-ltb, needs, now, sym}
 use Rattle.shelf.proofs.Sound.{in-order}
 use Rattle.shelf.proofs.Walks.{has-told}
 use Rattle.shelf.proofs.find.Statement.{statement}

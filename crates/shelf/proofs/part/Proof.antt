@@ -1,6 +1,5 @@
 -- `shelf::part` meets its contract. The start is tested before the difference is taken, and the two tests are the definition's one.
-use Rattle.block.proofs.Base.{_+_, _-_, _≡_, arith, needs, le-ltb, lt-ltb, now, length}
-use Rattle.shelf.specs.Calls.{partOf}
+use Rattle.shelf.proofs.Names.{_+_, _-_, _≡_, arith, le-ltb, length, lt-ltb, needs, now, partOf}
 use Rattle.shelf.proofs.part.Statement.{statement}
 use Rattle.shelf.proofs.part.Tie as tie
 

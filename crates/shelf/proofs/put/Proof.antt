@@ -1,10 +1,7 @@
 -- `shelf::put` meets its contract: each refusal is the definition's, and where none is left, room is made and the record written there.
-use Rattle.block.proofs.Base.{_+_, _≤_, _∙_, _≡_, ap, refl, sym, false, arith, needs, now, le-ltb, lt-ltb, ltb, length, take}
-use Rattle.block.proofs.Tails.{length-tailed}
-use Rattle.shelf.specs.Records.{Record, stored, records}
-use Rattle.shelf.specs.Shelf.{collected, notHigher, badShelf}
-use Rattle.shelf.specs.Steps.{InOrder}
-use Rattle.shelf.specs.Calls.{newRecord, putIn, putCall}
+use Rattle.shelf.proofs.Names.{InOrder, Record, _+_, _∙_, _≡_, _≤_, ap, arith, badShelf, collected, false, le-ltb, length}
+use Rattle.shelf.proofs.Names.{length-tailed, lt-ltb, ltb, needs, newRecord, notHigher, now, putCall, putIn, records, refl, stored}
+use Rattle.shelf.proofs.Names.{sym, take}
 use Rattle.shelf.proofs.Sound.{in-order}
 use Rattle.shelf.proofs.Walks.{higher-told}
 use Rattle.shelf.proofs.Putting.{length-current, made-used, made-room, made-bytes}

@@ -1,6 +1,5 @@
 -- `change::keep` meets its contract. The loop's invariant is how far the collection has come, and the measure how many bytes are to come.
-use Rattle.block.proofs.Base.{_-_, _∙_, sym, ⊎-elim, arith, needs, now}
-use Rattle.block.proofs.Entries.{below-each}
+use Rattle.shelf.proofs.Names.{_-_, _∙_, arith, below-each, needs, now, sym, ⊎-elim}
 use Rattle.shelf.proofs.ReadsProper.{Turn, on}
 use Rattle.shelf.proofs.Keeping.{Collecting, collecting-starts, all-kept, stay-turn, gone-turn}
 use Rattle.shelf.proofs.change.keep.Statement.{statement}

@@ -1,10 +1,6 @@
 -- `change::make_room` meets its contract: the definition goes by the same test.
-use Rattle.block.proofs.Base.{_+_, _≤_, _≡_, _∙_, sym, arith, needs, now, set, take}
-use Rattle.block.specs.Below.{AreBytes}
-use Rattle.block.proofs.Entries.{below-each}
-use Rattle.block.specs.Over.{over}
-use Rattle.shelf.specs.Records.{stored, records}
-use Rattle.shelf.specs.Shelf.{supersede}
+use Rattle.shelf.proofs.Names.{AreBytes, _+_, _∙_, _≡_, _≤_, arith, below-each, needs, now, over, records, set, stored, supersede}
+use Rattle.shelf.proofs.Names.{sym, take}
 use Rattle.shelf.proofs.Putting.{made-short, made-long, marked-over, unmarked-over}
 use Rattle.shelf.proofs.change.make_room.Statement.{statement}
 use Rattle.shelf.proofs.change.make_room.Tie as tie

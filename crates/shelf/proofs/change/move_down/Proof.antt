@@ -1,9 +1,7 @@
 -- `change::move_down` meets its contract. The loop's invariant: `i` bytes have moved, and all others stand where they did. The measure is
 -- how many are to move.
-use Rattle.block.proofs.Base.{_+_, _-_, _<_, _≤_, ℕ, _∙_, _≡_, refl, List, append-assoc, suc, take, take-suc-set, drop-cons}
-use Rattle.block.proofs.Base.{add-zero, sub-zero, arith, drop, getD, length}
-use Rattle.block.proofs.Base.{length-set, set}
-use lib.Seq.{paste, paste-zero, drop-set-lt}
+use Rattle.shelf.proofs.Names.{List, _+_, _-_, _<_, _∙_, _≡_, _≤_, add-zero, append-assoc, arith, drop, drop-cons, drop-set-lt, getD}
+use Rattle.shelf.proofs.Names.{length, length-set, paste, paste-zero, refl, set, sub-zero, suc, take, take-suc-set, ℕ}
 use Rattle.shelf.proofs.change.move_down.Statement.{statement}
 use Rattle.shelf.proofs.change.move_down.Tie as tie
 

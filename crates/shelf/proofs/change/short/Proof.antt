@@ -1,5 +1,5 @@
 -- `change::short` meets its contract.
-use Rattle.block.proofs.Base.{_+_, sym, arith, needs, lt-ltb}
+use Rattle.shelf.proofs.Names.{_+_, arith, lt-ltb, needs, sym}
 use Rattle.shelf.proofs.change.short.Statement.{statement}
 use Rattle.shelf.proofs.change.short.Tie as tie
 

@@ -1,5 +1,5 @@
 -- `change::write` meets its contract: the head, and behind it the sealed bytes.
-use Rattle.block.proofs.Base.{needs, now}
+use Rattle.shelf.proofs.Names.{needs, now}
 use Rattle.shelf.proofs.Putting.{record-written}
 use Rattle.shelf.proofs.change.write.Statement.{statement}
 use Rattle.shelf.proofs.change.write.Tie as tie

@@ -1,5 +1,5 @@
 -- `lookup::survey` meets its contract. The loop's invariant is how far the walk has come, and the measure how many bytes are to come.
-use Rattle.block.proofs.Base.{_-_, arith, needs, now}
+use Rattle.shelf.proofs.Names.{_-_, arith, needs, now}
 use Rattle.shelf.proofs.ReadsProper.{Turn, on}
 use Rattle.shelf.proofs.Walks.{Counting, counting-starts, counted, counting-on}
 use Rattle.shelf.proofs.lookup.survey.Statement.{statement}
@@ -28,10 +28,8 @@ loop-again c =
     (r .reaches .ensures) (k .add3 .ensures) (c .before .stays .ensures) (c .add4 .ensures)
 
 pub survey-spec : {M : Type 1} → statement M
-survey-spec =
-    tie.close (tie.spec Inv-loop μ-loop (λ c. counting-starts _ _ _ _) (λ c. omega arith) (λ c. omega arith) (λ c. omega arith)
-    (λ c κs. search needs)
-    (λ c. counted (c .before .before .before .loop .inv) (c .before .front .ensures) (c .if1 .taken))
+survey-spec = tie.close (tie.spec Inv-loop μ-loop (λ c. counting-starts _ _ _ _) (λ c. omega arith) (λ c. omega arith) (λ c. omega arith)
+    (λ c κs. search needs) (λ c. counted (c .before .before .before .loop .inv) (c .before .front .ensures) (c .if1 .taken))
     (λ c κs. search needs) (λ c κs. omega (arith, turn (c .before))) (λ c κs. omega (arith, turn (c .before .before)))
     (λ c κs. search needs) (λ c κs. omega (arith, turn (c .before .before .before .before))) (λ c κs. search needs)
     (λ c κs. omega (arith, turn (c .before .before .before .before .before .before)))

@@ -1,6 +1,5 @@
 -- `records::front` meets its contract. Where the size is not 0, a record stands there whole, and so all its head.
-use Rattle.block.proofs.Base.{_≤_, _∙_, _≡_, sym, true, ne-eqb, arith, needs, now, length}
-use Rattle.shelf.specs.Records.{startsRecord, front, headAt}
+use Rattle.shelf.proofs.Names.{_∙_, _≡_, _≤_, arith, front, headAt, length, ne-eqb, needs, now, startsRecord, sym, true}
 use Rattle.shelf.proofs.Reading.{starts-within, starts-size}
 use Rattle.shelf.proofs.records.front.Statement.{statement}
 use Rattle.shelf.proofs.records.front.Tie as tie

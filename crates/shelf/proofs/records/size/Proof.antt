@@ -1,6 +1,6 @@
 -- `records::size` meets its contract: each return is the definition, by the tests that led there.
-use Rattle.block.proofs.Base.{_+_, _-_, _∙_, _≡_, sym, cond, leb, now, length, needs, le-leb, lt-leb, not-false, not-true}
-use Rattle.shelf.specs.Records.{startsRecord, sizeAt}
+use Rattle.shelf.proofs.Names.{_+_, _-_, _∙_, _≡_, cond, le-leb, leb, length, lt-leb, needs, not-false, not-true, now, sizeAt}
+use Rattle.shelf.proofs.Names.{startsRecord, sym}
 use Rattle.shelf.proofs.Reading.{size-marked}
 use Rattle.shelf.proofs.records.size.Statement.{statement}
 use Rattle.shelf.proofs.records.size.Tie as tie
