@@ -13,7 +13,8 @@ pub use Rattle.block.proofs.Xor.{xor-assoc, xor-meet, xor-same, xor-swap}
 pub use Rattle.block.specs.Below.{AreBytes}
 unfoldable pub use Rattle.block.specs.BigEndian.{bytesOf, numberOf}
 pub use Rattle.block.specs.Wide.{value, whole}
-pub use Rattle.block.specs.Words.{unwords, words}
+pub use Rattle.block.specs.Words.{unwords}
+unfoldable pub use Rattle.block.specs.Words.{words}
 pub use Rattle.block.specs.Xor.{_⊕_, xors}
 pub use Rattle.block.specs.declared.U128.{U128}
 pub use Rattle.carryless.proofs.Filling.{both-next, lane-other, lane-same, one-more}

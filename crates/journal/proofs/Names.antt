@@ -14,7 +14,7 @@ pub use Rattle.block.proofs.Entries.{below-at, below-drop, below-replicate, bel
 pub use Rattle.block.proofs.Same.{and-left, and-right, by-test, same-equal, same-refl}
 pub use Rattle.block.proofs.Tails.{over-behind, returned, tail-is, tailed}
 pub use Rattle.block.specs.Below.{AreBytes, Below}
-pub use Rattle.block.specs.BigEndian.{numberOf}
+unfoldable pub use Rattle.block.specs.BigEndian.{numberOf}
 unfoldable pub use Rattle.block.specs.BigEndian.{bytesOf}
 pub use Rattle.block.specs.Over.{over}
 pub use Rattle.block.specs.Words.{wordAt}

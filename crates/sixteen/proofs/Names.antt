@@ -21,7 +21,8 @@ pub use Rattle.block.specs.Xor.{_⊕_, xors}
 pub use Rattle.cipher.proofs.Bounds.{tau-lt}
 pub use Rattle.cipher.proofs.Rounds.{rounds-done, rounds-next}
 pub use Rattle.cipher.proofs.WordBits.{tau-bit}
-pub use Rattle.cipher.specs.Sm4.{L, encryptBlock, encryptWords, roundBy, rounds, tau, turned}
+pub use Rattle.cipher.specs.Sm4.{L, encryptWords, roundBy, rounds, tau, turned}
+unfoldable pub use Rattle.cipher.specs.Sm4.{encryptBlock}
 unfoldable pub use Rattle.cipher.specs.Sm4.{T}
 pub use Rattle.circuit.specs.Sbox.{Sbox, SboxLanes}
 pub use Rattle.lanes.proofs.Bits.{bit-ext, bit-high, bit-low, bit-mod, bit-shr, bit-small, lt-or-le, mod-is, pack-is}
@@ -31,7 +32,7 @@ pub use Rattle.lanes.proofs.Stages.{By, by-none, by-stage, digs, masks, same-at
 pub use Rattle.lanes.proofs.Swaps.{Step, digit}
 pub use Rattle.lanes.specs.Bits.{bit}
 unfoldable pub use Rattle.lanes.specs.Bits.{byteLane}
-pub use Rattle.lanes.specs.Swaps.{firstSwapped, secondSwapped}
+unfoldable pub use Rattle.lanes.specs.Swaps.{firstSwapped, secondSwapped}
 pub use Rattle.walk.proofs.Batch.{FedBack}
 pub use Rattle.walk.specs.Reached.{Reached}
 pub use Rattle.walk.specs.Walk.{Mode, chain, endState}

@@ -15,7 +15,8 @@ pub use Rattle.block.specs.Xor.{_⊕_}
 pub use Rattle.cipher.proofs.Bounds.{L-lt, tau-lt}
 pub use Rattle.cipher.proofs.Rounds.{rounds-front}
 pub use Rattle.cipher.proofs.WordBits.{L-bit, tau-bit}
-pub use Rattle.cipher.specs.Sm4.{L, encryptBlock, turned}
+pub use Rattle.cipher.specs.Sm4.{L, turned}
+unfoldable pub use Rattle.cipher.specs.Sm4.{encryptBlock}
 unfoldable pub use Rattle.cipher.specs.Sm4.{T, encryptWords, rounds}
 pub use Rattle.circuit.specs.Sbox.{Sbox, SboxLanes}
 pub use Rattle.counter.proofs.Steps.{gcm-jump-words}
