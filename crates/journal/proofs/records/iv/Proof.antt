@@ -4,4 +4,5 @@ use Rattle.journal.proofs.records.iv.Statement.{statement}
 use Rattle.journal.proofs.records.iv.Tie as tie
 
 pub iv-spec : {M : Type 1} → statement M
-iv-spec = tie.close (tie.spec (λ c κs. search needs) (λ c κs. cc) (λ c. cc))
+iv-spec = tie.close (tie.spec (λ c κs. search needs) (λ c κs. rw (c .from-iv .ensures) (c .before .before .pre .iv))
+    (λ c. rw (c .part-at .ensures, c .before .from-iv .ensures)))
