@@ -12,7 +12,7 @@ use Rattle.journal.proofs.Sums.{replay-adds-up, first-replayed}
 use Rattle.journal.proofs.Lent.{any-output-head, any-output-result}
 use Rattle.journal.proofs.Joined.{joined}
 use Rattle.journal.proofs.Ending.{bad-keys, ends-so, ends-alone, replayed-whole}
-use Rattle.journal.proofs.Replaying.{by-replay, from-start}
+use Rattle.journal.proofs.Replaying.{Refuses, by-replay, from-start}
 use Rattle.journal.proofs.Totals.{totals-told}
 use Rattle.journal.proofs.Agrees.{answered-agrees, agrees-so, none-told, all-agree, first-told}
 use Rattle.demands.specs.Answered.{oneOf}
@@ -153,6 +153,12 @@ exported-joined k a b whole = rw (joined (keysOf k) a b whole) (behind-added (le
 known-end : (e : Ended) → oneOf (numberOfEnd e) (0 ∷ 23 ∷ 24 ∷ 25 ∷ 26 ∷ []) ≡ true
 known-end e = elim e [ Done ↦ refl | BadRecord ↦ refl | TooLong ↦ refl | UnknownKey ↦ refl | BadKeys ↦ refl ]
 
+-- a record that is refused is so as 23, 24 or 25
+stopped : (ks : List Sm4Cipher) (b : List ℕ) (e : Ended) → Refuses ks b e → (numberOfEnd e ≡ 0 → ⊥) × (numberOfEnd e < 26)
+stopped ks b BadRecord w = (λ z. omega arith, omega arith)
+stopped ks b TooLong w = (λ z. omega arith, omega arith)
+stopped ks b UnknownKey w = (λ z. omega arith, omega arith)
+
 -- a journal that is replayed to its end has no place, and no record ends with bad keys
 the-ending : (k : Keys) (journal : List ℕ) → (numberOfEnd (replay k journal .ended) ≡ 0 → replay k journal .place ≡ 0)
     × (numberOfEnd (replay k journal .ended) ≡ 26 → replay k journal ≡ record { ended = BadKeys; place = 0; report = nothing })
@@ -161,7 +167,7 @@ the-ending k journal =
     (λ e.
     let (place, known) =
     by-replay (keysIn k) (λ b place r x. (numberOfEnd (x .ended) ≡ 0 → x .place ≡ 0) × (numberOfEnd (x .ended) < 26))
-    (λ b place r z. omega arith) (λ b place r z s. omega arith) (λ b place r s t. omega arith) (λ b place r s t n. omega arith)
+    (λ b place r z. omega arith) (λ b place r some e w. let s = stopped (keysIn k) b e w in (λ z. absurd (s .0 z), s .1))
     (λ b place r x p q. q) journal 0 nothing in
     rw (from-start k journal e) (place, λ z. absurd (omega arith)))
 

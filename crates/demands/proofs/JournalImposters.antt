@@ -4,7 +4,7 @@ use N.{arith, _∙_, false, List, [], _∷_, _≢_, _≡_, refl, ℕ, lit<, numb
 use N.{startsPart, startsRecord·journal as startsRecord, stored·journal as stored, anyRetired, badKeys, keysIn, numberTwice, placeOf}
 use N.{callInto, differsFrom, done·journal as done, numberOfEnd, replay, counted, nothing, BadRecord, Replayed}
 use Rattle.journal.proofs.Ending.{replayed-whole}
-use Rattle.journal.proofs.Replaying.{from-start, from-bad}
+use Rattle.journal.proofs.Replaying.{from-start, from-refused}
 use Rattle.demands.proofs.Imposters.{apart}
 use Rattle.demands.specs.JournalImposters.{stopsAtDifference, tooLongFirst, oneKey, unknownDone, cutOverlong}
 
@@ -32,7 +32,7 @@ stops-at-difference-contradicts =
 -- Looking at a stated length first is told by a record that is cut: that is 23, and the imposter says 24.
 cut-refused : replay oneKey cutOverlong ≡ record { ended = BadRecord; place = 0; report = nothing }
 unfolding startsRecord marked startsPart numberOf
-cut-refused = from-start oneKey cutOverlong one-key-good ∙ from-bad (keysIn oneKey) cutOverlong 0 nothing (lit< tt) refl
+cut-refused = from-start oneKey cutOverlong one-key-good ∙ from-refused (keysIn oneKey) cutOverlong 0 nothing (lit< tt) BadRecord refl
 
 pub too-long-first-contradicts : tooLongFirst oneKey cutOverlong ≢ replay oneKey cutOverlong
 unfolding numberOf

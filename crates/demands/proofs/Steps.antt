@@ -217,7 +217,7 @@ seal-after-end s o =
 
 -- no check of an end refuses by 4
 not-four : (mark label total tag : ℕ) (r : Refusal) → tagged mark label total tag ≡ Refused r → refusalHead r .number ≢ 4
-unfolding tagged running behind
+unfolding tagged running
 not-four mark label total tag r e four =
     let nine : Row = record { holds = not (eqb tag 16); says = record { number = 9; missing = 16 - tag } } in
     let rows = runningRows mark label total 0 ++ (nine ∷ []) in

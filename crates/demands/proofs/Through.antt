@@ -1,21 +1,17 @@
 -- What a call that answered 0 had in order, what a call leaves that has all in order, and how a record crosses the boundary.
 use Rattle.demands.specs.Names as N
-use N.{false, List, _≡_, refl, ℕ, arith, eqb, ltb, length, take-append-seam, eq-eqb, le-ltb, Outcome, done, keyed, refused, blockCall}
+use N.{false, List, _≡_, refl, ℕ, arith, eqb, ltb, length, take-append-seam, eq-eqb, le-ltb, Outcome, done, keyed, blockCall}
 use N.{blockOf, lengthsOf, modeCall, modeResult, blockCheck, checked, keyAndIv, messageCheck, roomCheck, keyHead, keyNumber, newCipher}
 use N.{retire, modeOf, roomOf, Direction, KeyAnswer, NoKey as ErrorBlockSize, Key, NoNumber as WrongNumber, Sm4Cipher, Sm4CipherMode}
 use N.{Checked, Passed, Refused, begun, hostModeCall, modeIn, cipherIn, hostKeyNew, hostKeyRetire, keyAnswerOf, keyOf, LuossavinKey}
 use Rattle.block.proofs.Same.{by-test}
 use Rattle.cipher_mode.proofs.Passed.{InOrder, BlockInOrder, message-passed, block-passed}
 use Rattle.cipher_mode.proofs.Refusals.{refuses}
-use Rattle.demands.specs.Call.{result, RefusedAs}
+use Rattle.demands.specs.Call.{result}
 use Rattle.demands.proofs.Answering.{mark-back}
 
 pub result-of-done : (p o : List ℕ) → result (done p o) ≡ p
 result-of-done p o = take-append-seam p _
-
--- on whichever key
-pub refused-as : (k n : ℕ) (o : List ℕ) (x : Outcome) → x ≡ keyed k (refused n o) → RefusedAs n o x
-refused-as k n o x e = rw e (record { number = refl; size = refl; missing = refl; bytes = refl })
 
 pub zero-passed : (k : Checked) (o : List ℕ) (next : Outcome) → checked k o next .head .number ≡ 0 → k ≡ Passed
 zero-passed k o next = elim k [ Passed ↦ λ _. refl | Refused r ↦ λ e. absurd (refuses r .not-zero e) ]

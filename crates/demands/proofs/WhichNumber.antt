@@ -72,8 +72,8 @@ cbc-said : (n : ℕ) (none bad : Bool)
     → saidIn (cbcHead (cond none InvalidLastU8 (cond bad InvalidPadding (Cbc·Done n)))) ≡ cond none (only 3) (cond bad (only 15) (only 0))
 cbc-said n none bad = elim none [ true ↦ refl | false ↦ elim bad [ true ↦ refl | false ↦ refl ] ]
 
-gcm-said : (n : ℕ) (t : Bool) → saidIn (gcmHead t n) ≡ cond (not t) (only 4) (only 0)
-gcm-said n t = elim t [ true ↦ refl | false ↦ refl ]
+gcm-said : (t : Bool) → cond t (only 0) (only 4) ≡ cond (not t) (only 4) (only 0)
+gcm-said t = elim t [ true ↦ refl | false ↦ refl ]
 
 -- the lengths of an IV that Gcm takes, the other way round
 iv-said : (n : ℕ) → not (eqb n 12) && not (eqb n 16) ≡ not (eqb n 16) && not (eqb n 12)
