@@ -48,6 +48,7 @@ pub decrypt-batches-spec : {M : Type 1} → statement M
 decrypt-batches-spec = tie.close (tie.spec Inv-loop μ-loop (λ c κs. search needs)
     (λ c. (refl, at-start (length-unwords (c .before .before .before .before .before .args .iv))))
     (λ c. (refl, at-start (length-unwords (c .before .before .before .before .before .before .args .iv)))) (λ c κs. search needs)
-    (λ c. fed-first _ _ _ (omega arith) (omega arith)) (omega arith) (omega arith) (omega arith) (omega arith) (omega arith) (omega arith)
-    (omega arith) (omega arith) (omega arith) (omega arith) (omega arith) (omega arith) (omega arith) (λ c κs. search needs) (omega arith)
-    (omega arith) (omega arith) loop-again (omega arith) returns-3)
+    (λ c. fed-first _ _ _ (omega arith) (omega arith)) (λ c. omega arith) (λ c. omega arith) (λ c κs. omega arith) (λ c. omega arith)
+    (λ c. omega arith) (λ c. omega arith) (λ c. omega arith) (λ c. omega arith) (λ c. omega arith) (λ c. omega arith) (λ c. omega arith)
+    (λ c. omega arith) (λ c. omega arith) (λ c κs. search needs) (λ c. omega arith) (λ c. omega arith) (λ c. omega arith) loop-again
+    (λ c. omega arith) returns-3)

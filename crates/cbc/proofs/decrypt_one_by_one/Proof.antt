@@ -20,6 +20,6 @@ loop-again c =
     (at-step .decrypt-step .ensures .0) (at-step .decrypt-step .ensures .1)
 
 pub decrypt-one-by-one-spec : {M : Type 1} → statement M
-decrypt-one-by-one-spec = tie.close (tie.spec Inv-loop μ-loop (λ c. reached-first _ _ _ _) (omega arith) (omega arith) (omega arith)
-    (omega arith) (omega arith) (omega arith) (omega arith) (λ c κs. search needs) (omega arith) (omega arith) loop-again (omega arith)
-    (λ c. walk-ended (c .before .loop .inv) (omega arith) refl))
+decrypt-one-by-one-spec = tie.close (tie.spec Inv-loop μ-loop (λ c. reached-first _ _ _ _) (λ c. omega arith) (λ c. omega arith)
+    (λ c. omega arith) (λ c. omega arith) (λ c. omega arith) (λ c. omega arith) (λ c. omega arith) (λ c κs. search needs) (λ c. omega arith)
+    (λ c. omega arith) loop-again (λ c. omega arith) (λ c. walk-ended (c .before .loop .inv) (omega arith) refl))

@@ -32,7 +32,7 @@ loop-again c =
     )
 
 pub decrypt-side-by-side-spec : {M : Type 1} → statement M
-decrypt-side-by-side-spec = tie.close (tie.spec Inv-loop μ-loop (λ c. (reached-first _ _ _ _, refl)) (omega arith) (omega arith)
-    (omega arith) (omega arith) (omega arith) (omega arith) (omega arith) (omega arith) (omega arith)
-    (λ c κs. (omega arith, omega arith, omega arith)) (omega arith) (omega arith) (λ c κs. (omega arith, omega arith)) (omega arith)
-    loop-again (omega arith) (λ c. walk-ended (c .before .loop .inv .0) (omega arith) refl))
+decrypt-side-by-side-spec = tie.close (tie.spec Inv-loop μ-loop (λ c. (reached-first _ _ _ _, refl)) (λ c. omega arith) (λ c. omega arith)
+    (λ c κs. omega arith) (λ c. omega arith) (λ c. omega arith) (λ c. omega arith) (λ c. omega arith) (λ c. omega arith) (λ c. omega arith)
+    (λ c κs. (omega arith, omega arith, omega arith)) (λ c. omega arith) (λ c. omega arith) (λ c κs. (omega arith, omega arith))
+    (λ c. omega arith) loop-again (λ c. omega arith) (λ c. walk-ended (c .before .loop .inv .0) (omega arith) refl))

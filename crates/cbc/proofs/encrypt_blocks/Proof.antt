@@ -18,6 +18,6 @@ loop-again c =
     (length-encryptBlock _ _) (at-step .encrypt-step .ensures .0) (at-step .encrypt-step .ensures .1)
 
 pub encrypt-blocks-spec : {M : Type 1} → statement M
-encrypt-blocks-spec = tie.close (tie.spec Inv-loop μ-loop (λ c. reached-first _ _ _ _) (omega arith) (omega arith) (omega arith)
-    (omega arith) (omega arith) (omega arith) (omega arith) (λ c κs. search needs) (omega arith) (omega arith) loop-again (omega arith)
-    (λ c. walk-ended (c .before .loop .inv) (omega arith) refl))
+encrypt-blocks-spec = tie.close (tie.spec Inv-loop μ-loop (λ c. reached-first _ _ _ _) (λ c. omega arith) (λ c. omega arith)
+    (λ c. omega arith) (λ c. omega arith) (λ c. omega arith) (λ c. omega arith) (λ c. omega arith) (λ c κs. search needs) (λ c. omega arith)
+    (λ c. omega arith) loop-again (λ c. omega arith) (λ c. walk-ended (c .before .loop .inv) (omega arith) refl))

@@ -5,10 +5,10 @@ use Rattle.cipher.proofs.lent.Statement.{statement}
 use Rattle.cipher.proofs.lent.Tie as tie
 
 pub lent-spec : {M : Type 1} → statement M
-lent-spec = tie.close (tie.spec (search needs) (search needs) (search needs)
-    (λ c. lends _ 1024 _ (c .before .before .pre) (rw (table-four _ (c .before .if1 .taken)) length-mixed)) (search needs) (search needs)
-    (search needs)
+lent-spec = tie.close (tie.spec (λ c. search needs) (λ c. search needs) (λ c. search needs)
+    (λ c. lends _ 1024 _ (c .before .before .pre) (rw (table-four _ (c .before .if1 .taken)) length-mixed)) (λ c. search needs) (λ c. search needs)
+    (λ c. search needs)
     (λ c. lends _ 0 _ (c .before .before .before .pre) (rw (table-none _ (c .before .before .if1 .left) (c .before .if2 .taken)) refl))
-    (search needs) (search needs) (search needs)
+    (λ c. search needs) (λ c. search needs) (λ c. search needs)
     (λ c. lends _ 256 _ (c .before .before .before .pre)
     (rw (table-plain _ (c .before .before .if1 .left) (c .before .if2 .left)) length-sbox)))

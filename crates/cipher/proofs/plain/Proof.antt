@@ -27,5 +27,6 @@ loop-again c =
     (l .inv .0, omega arith, search needs, laid-more _ (l .wide) (l .i) (omega arith) (omega arith) (l .inv .3))
 
 pub plain-spec : {M : Type 1} → statement M
-plain-spec = tie.close (tie.spec Inv-loop μ-loop loop-holds (search needs) cast-wide (search needs) (search needs) (search needs)
-    (search needs) loop-again (λ c. let l = c .before .loop in laid-front _ (l .wide) (l .i) (l .inv .0) (omega arith) (l .inv .3)))
+plain-spec = tie.close (tie.spec Inv-loop μ-loop loop-holds (λ c. search needs) cast-wide (λ c. search needs) (λ c. search needs)
+    (λ c. search needs)
+    (λ c. search needs) loop-again (λ c. let l = c .before .loop in laid-front _ (l .wide) (l .i) (l .inv .0) (omega arith) (l .inv .3)))

@@ -34,5 +34,5 @@ returns-2 c =
     (λ e. eq-eqb (c .before .loop .left) 0 (omega (arith, eqb-true)))
 
 pub add-up-spec : {M : Type 1} → statement M
-add-up-spec = tie.close (tie.spec Inv-loop μ-loop (omega arith) (omega arith) (omega arith) returns (omega arith) (omega arith) loop-again
-    returns-2)
+add-up-spec = tie.close (tie.spec Inv-loop μ-loop (λ c. omega arith) (λ c. omega arith) (λ c. omega arith) returns (λ c. omega arith)
+    (λ c. omega arith) loop-again returns-2)

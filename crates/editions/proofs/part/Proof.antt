@@ -24,9 +24,11 @@ returns-4 c =
 
 pub part-spec : {M : Type 1} → statement M
 unfolding partOf
-part-spec = tie.close (tie.spec (search needs) (search needs) (search needs) (search needs)
+part-spec = tie.close (tie.spec (λ c. search needs) (λ c. search needs) (λ c. search needs) (λ c. search needs)
     (λ c. let at-test = c .before .before in
     rw (← at-test .is-candidate .ensures, not-true (at-test .is-candidate .result) (c .before .if1 .taken)))
-    (search needs) (search needs) (search needs) (λ c. outside (c .before .before) (omega arith)) (search needs) (search needs)
-    (search needs) (search needs) (λ c. outside (c .before .before .before) (omega arith)) (search needs) (search needs) (search needs)
-    (search needs) returns-4)
+    (λ c. search needs) (λ c. search needs) (λ c. search needs) (λ c. outside (c .before .before) (omega arith)) (λ c. search needs)
+    (λ c. search needs)
+    (λ c. search needs) (λ c. search needs) (λ c. outside (c .before .before .before) (omega arith)) (λ c. search needs)
+    (λ c. search needs) (λ c. search needs)
+    (λ c. search needs) returns-4)

@@ -59,6 +59,6 @@ returns-2 c =
 
 pub search-spec : {M : Type 1} → statement M
 search-spec = tie.close (tie.spec Inv-loop μ-loop
-    (λ c. let S = c .before .before .before in (omega arith, omega (arith, S .pre .1 .1 .0), S .pre .1 .1 .1, refl)) (omega arith)
-    (omega arith) (λ c. omega (arith, room (c .before))) (omega arith) (omega arith) (λ c. omega (arith, room (c .before)))
-    opens-after-requires returns (omega arith) (omega arith) loop-again (search needs) returns-2)
+    (λ c. let S = c .before .before .before in (omega arith, omega (arith, S .pre .1 .1 .0), S .pre .1 .1 .1, refl)) (λ c. omega arith)
+    (λ c. omega arith) (λ c. omega (arith, room (c .before))) (λ c. omega arith) (λ c. omega arith) (λ c. omega (arith, room (c .before)))
+    opens-after-requires returns (λ c. omega arith) (λ c. omega arith) loop-again (λ c. search needs) returns-2)

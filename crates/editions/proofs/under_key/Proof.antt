@@ -24,8 +24,8 @@ returns-2 c =
     (rw (at-key .hash-key .ensures))
 
 pub under-key-spec : {M : Type 1} → statement M
-under-key-spec = tie.close (tie.spec (search needs)
-    (λ c. rw (c .without .ensures) (ap (onKey _) (search-end _ 0 (omega arith) _ _ 0 _ refl))) (search needs) (search needs) (search needs)
-    (λ c κs. search needs) (λ c κs. search needs) (λ c κs. search (needs, iv-twelve-or-sixteen)) (λ c κs. search needs)
-    (λ c κs. search (needs, with-tag-passed)) (search needs)
+under-key-spec = tie.close (tie.spec (λ c. search needs)
+    (λ c. rw (c .without .ensures) (ap (onKey _) (search-end _ 0 (omega arith) _ _ 0 _ refl))) (λ c. search needs) (λ c. search needs)
+    (λ c. search needs) (λ c κs. search needs) (λ c κs. search needs) (λ c κs. search (needs, iv-twelve-or-sixteen)) (λ c κs. search needs)
+    (λ c κs. search (needs, with-tag-passed)) (λ c. search needs)
     (λ c κs. (rw (c .before .text-part .ensures) at (c .of .ensures), search needs)) returns-2)

@@ -6,5 +6,5 @@ use Rattle.stream.proofs.finish.Tie as tie
 
 pub finish-spec : {M : Type 1} → statement M
 finish-spec = tie.close (tie.spec (λ c κs. search needs)
-    (λ c κs. (c .before .before .side-by-side .ensures (c .before .if1 .taken), search needs)) (search needs)
-    (λ c. c .before .before .run .ensures) (λ c κs. search needs) (search needs) (λ c. c .before .before .one-by-one .ensures))
+    (λ c κs. (c .before .before .side-by-side .ensures (c .before .if1 .taken), search needs)) (λ c. search needs)
+    (λ c. c .before .before .run .ensures) (λ c κs. search needs) (λ c. search needs) (λ c. c .before .before .one-by-one .ensures))

@@ -31,6 +31,7 @@ returns c =
     ended (a .kind) (a .rk) (l .inv) _ _ _ (omega arith) (rested .0) (rested .1)
 
 pub one-by-one-spec : {M : Type 1} → statement M
-one-by-one-spec = tie.close (tie.spec Inv-loop μ-loop (λ c. reached-first _ _ _ _) (omega arith) (omega arith) (omega arith) (omega arith)
-    (omega arith) (omega arith) (omega arith) (λ c κs. search needs) (omega arith) (omega arith) loop-again (omega arith) (omega arith)
-    (omega arith) (omega arith) (omega arith) (omega arith) (λ c κs. search needs) (omega arith) returns)
+one-by-one-spec = tie.close (tie.spec Inv-loop μ-loop (λ c. reached-first _ _ _ _) (λ c. omega arith) (λ c. omega arith) (λ c. omega arith)
+    (λ c. omega arith) (λ c. omega arith) (λ c. omega arith) (λ c. omega arith) (λ c κs. search needs) (λ c. omega arith) (λ c. omega arith)
+    loop-again (λ c. omega arith) (λ c. omega arith) (λ c. omega arith) (λ c. omega arith) (λ c. omega arith) (λ c. omega arith)
+    (λ c κs. search needs) (λ c. omega arith) returns)

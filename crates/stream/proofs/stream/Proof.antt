@@ -11,5 +11,5 @@ returns c =
     onward (a .kind) (a .rk) (at-run .run .ensures) _ _ _ _ (c .before .before .finish .ensures)
 
 pub stream-spec : {M : Type 1} → statement M
-stream-spec = tie.close (tie.spec (λ c κs. search needs) (omega arith) (omega arith) (omega arith) (omega arith) (omega arith) (omega arith)
-    (λ c κs. (search needs, omega arith)) (omega arith) returns)
+stream-spec = tie.close (tie.spec (λ c κs. search needs) (λ c. omega arith) (λ c. omega arith) (λ c. omega arith) (λ c. omega arith)
+    (λ c. omega arith) (λ c. omega arith) (λ c κs. (search needs, omega arith)) (λ c. omega arith) returns)

@@ -26,9 +26,11 @@ loop2-again c =
     (omega arith, rw (c .round .ensures) (rounds-next rk (m .x) (m .i) (omega arith) ∙ m .inv .1))
 
 pub encrypt-spec : {M : Type 1} → statement M
-encrypt-spec = tie.close (tie.spec Inv-loop2 μ-loop2 Inv-loop μ-loop (λ c. (search needs, refl, refl)) (omega arith)
-    (λ c. (omega arith, refl)) (omega arith)
-    (λ c. (omega arith, omega arith, c .before .loop2 .inv .1 ∙ c .before .before .before .loop .inv .2)) (search needs) (search needs)
-    (search needs) (omega arith) (omega arith) loop2-again (search needs) (search needs) (search needs) (search needs)
+encrypt-spec = tie.close (tie.spec Inv-loop2 μ-loop2 Inv-loop μ-loop (λ c. (search needs, refl, refl)) (λ c. omega arith)
+    (λ c. (omega arith, refl)) (λ c. omega arith)
+    (λ c. (omega arith, omega arith, c .before .loop2 .inv .1 ∙ c .before .before .before .loop .inv .2)) (λ c. search needs)
+    (λ c. search needs)
+    (λ c κs. search needs) (λ c. omega arith) (λ c. omega arith) loop2-again (λ c. search needs) (λ c. search needs) (λ c. search needs)
+    (λ c. search needs)
     (λ c. let n : length (c .before .before .args .t1) ≡ 32 = search needs in
     rounds-done _ _ _ (c .before .loop .i) (omega arith) (c .before .loop .inv .2)))

@@ -4,5 +4,5 @@ use Rattle.cipher.proofs.gates.round.Statement.{statement}
 use Rattle.cipher.proofs.gates.round.Tie as tie
 
 pub round-spec : {M : Type 1} → statement M
-round-spec = tie.close (tie.spec (search needs) (search needs) (search needs) (search needs) (search needs) (search needs) (search needs)
-    (search needs) (λ c. rw (c .t-trans .ensures)))
+round-spec = tie.close (tie.spec (λ c. search needs) (λ c. search needs) (λ c. search needs) (λ c. search needs) (λ c. search needs)
+    (λ c. search needs) (λ c. search needs) (λ c κs. search needs) (λ c. rw (c .t-trans .ensures)))

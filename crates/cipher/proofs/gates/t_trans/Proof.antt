@@ -5,4 +5,5 @@ use Rattle.cipher.proofs.gates.t_trans.Tie as tie
 
 pub t-trans-spec : {M : Type 1} → statement M
 unfolding T
-t-trans-spec = tie.close (tie.spec (search needs) (search needs) (λ c. c .l-trans .ensures ∙ rw (c .before .tau-trans .ensures)))
+t-trans-spec = tie.close (tie.spec (λ c κs. search needs) (λ c κs. search needs)
+    (λ c. c .l-trans .ensures ∙ rw (c .before .tau-trans .ensures)))

@@ -5,5 +5,5 @@ use Rattle.cipher.proofs.gates.tau_trans.Statement.{statement}
 use Rattle.cipher.proofs.gates.tau_trans.Tie as tie
 
 pub tau-trans-spec : {M : Type 1} → statement M
-tau-trans-spec = tie.close (tie.spec (search needs) (search needs)
+tau-trans-spec = tie.close (tie.spec (λ c κs. search needs) (λ c κs. search needs)
     (λ c. c .four-bytes .ensures ∙ tau-lanes (c .before .before .args .input) _ (search needs) (c .before .sbox .ensures)))

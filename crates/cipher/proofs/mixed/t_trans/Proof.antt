@@ -7,8 +7,10 @@ use Rattle.cipher.proofs.mixed.t_trans.Statement.{statement}
 use Rattle.cipher.proofs.mixed.t_trans.Tie as tie
 
 pub t-trans-spec : {M : Type 1} → statement M
-t-trans-spec = tie.close (tie.spec (search needs) (search needs) (λ c. omega (arith, mixed-length _ (c .before .pre))) (search needs)
-    (search needs) (search needs) (λ c. omega (arith, mixed-length _ (c .before .before .pre))) (search needs) (search needs) (search needs)
-    (λ c. omega (arith, mixed-length _ (c .before .before .before .pre))) (search needs) (search needs) (search needs)
+t-trans-spec = tie.close (tie.spec (λ c. search needs) (λ c. search needs) (λ c. omega (arith, mixed-length _ (c .before .pre)))
+    (λ c. search needs)
+    (λ c. search needs) (λ c. search needs) (λ c. omega (arith, mixed-length _ (c .before .before .pre))) (λ c. search needs)
+    (λ c. search needs) (λ c. search needs)
+    (λ c. omega (arith, mixed-length _ (c .before .before .before .pre))) (λ c. search needs) (λ c. search needs) (λ c. search needs)
     (λ c. omega (arith, mixed-length _ (c .before .before .before .before .pre)))
     (λ c. let start = c .before .before .before .before in rw (start .pre) (mixed-T (start .args .input) (omega arith))))

@@ -35,5 +35,5 @@ returns-2 c =
     (reached (blockOf (a .direction) (a .self .rk) (now (a .block-in))) (now (a .out)) _ 16 n (rw n (at-work .block2 .ensures)))))
 
 pub call-spec : {M : Type 1} → statement M
-call-spec = tie.close (tie.spec (search needs) (search needs) (search needs) (search needs) returns (search needs) block-requires-2
-    (search needs) (search needs) returns-2)
+call-spec = tie.close (tie.spec (λ c κs. search needs) (λ c κs. search needs) (λ c. search needs) (λ c κs. search needs) returns
+    (λ c. search needs) block-requires-2 (λ c κs. search needs) (λ c. search needs) returns-2)

@@ -13,9 +13,10 @@ returns-4 c =
 
 pub new-spec : {M : Type 1} → statement M
 unfolding newCipher
-new-spec = tie.close (tie.spec (search needs) (λ c. rw (ne-eqb _ _ (c .before .if1 .taken)) (c .no-cipher .ensures)) (search needs)
-    (λ c. rw (eq-eqb _ _ (c .before .before .if1 .left), eq-eqb _ _ (c .before .if2 .taken)) (c .no-cipher2 .ensures)) (search needs)
+new-spec = tie.close (tie.spec (λ c. search needs) (λ c. rw (ne-eqb _ _ (c .before .if1 .taken)) (c .no-cipher .ensures))
+    (λ c. search needs)
+    (λ c. rw (eq-eqb _ _ (c .before .before .if1 .left), eq-eqb _ _ (c .before .if2 .taken)) (c .no-cipher2 .ensures)) (λ c. search needs)
     (λ c. let above = c .before in
     rw (eq-eqb _ _ (above .before .before .if1 .left), ne-eqb _ _ (above .before .if2 .left), lt-ltb _ _ (above .if3 .taken))
     (c .no-cipher3 .ensures))
-    (search needs) (search needs) returns-4)
+    (λ c. search needs) (λ c. search needs) returns-4)

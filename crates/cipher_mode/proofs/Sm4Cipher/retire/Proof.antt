@@ -17,4 +17,4 @@ no-key c WrongNumber told = refl
 
 pub retire-spec : {M : Type 1} → statement M
 unfolding retire
-retire-spec = tie.close (tie.spec (search needs) (λ c. rw (no-key _ _ (c .match .keys2))) (λ c. rw (c .before .enum-told .given .1)))
+retire-spec = tie.close (tie.spec (λ c. search needs) (λ c. rw (no-key _ _ (c .match .keys2))) (λ c. rw (c .before .enum-told .given .1)))

@@ -30,5 +30,5 @@ returns-2 c =
     (ap₂ {C = Outcome} keyed (told .before .before .before .number-in .ensures) (c .before .before .message-by .ensures))
 
 pub call-spec : {M : Type 1} → statement M
-call-spec = tie.close (tie.spec (search needs) (search needs) (search needs) (search needs) returns (search needs) message-by-requires
-    (search needs) returns-2)
+call-spec = tie.close (tie.spec (λ c κs. search needs) (λ c κs. search needs) (λ c. search needs) (λ c κs. search needs) returns
+    (λ c. search needs) message-by-requires (λ c. search needs) returns-2)

@@ -6,4 +6,4 @@ use Rattle.cipher_mode.proofs.Sm4CipherMode.new.Tie as tie
 
 pub new-spec : {M : Type 1} → statement M
 unfolding newCipherMode
-new-spec = tie.close (tie.spec (search needs) (λ c. rw (c .new .ensures)))
+new-spec = tie.close (tie.spec (λ c κs. search needs) (λ c. rw (c .new .ensures)))

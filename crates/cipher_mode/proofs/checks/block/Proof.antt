@@ -19,11 +19,11 @@ to-room c r e =
 
 pub block-spec : {M : Type 1} → statement M
 unfolding blockCheck
-block-spec = tie.close (tie.spec (search needs) (search needs) (search needs)
+block-spec = tie.close (tie.spec (λ c κs. search needs) (λ c. search needs) (λ c. search needs)
     (λ c. rw (← c .before .before .key .ensures, c .enum-told2 .given .1))
     (λ c. let told = c .before in
     rw (← told .before .before .key .ensures, told .enum-told .given .1, ne-eqb _ _ (c .if1 .taken)))
-    (search needs) (search needs) (search needs)
+    (λ c κs. search needs) (λ c. search needs) (λ c. search needs)
     (λ c. let at-mark = c .before .before in
     let told = at-mark .before .before in
     rw (← told .before .before .key .ensures, told .enum-told .given .1, eq-eqb _ _ (at-mark .before .if1 .left))

@@ -6,5 +6,5 @@ use Rattle.cipher_mode.proofs.checks.data.Tie as tie
 
 pub data-spec : {M : Type 1} → statement M
 unfolding dataCheck
-data-spec = tie.close (tie.spec (search needs) (λ c. rw (← (c .before .limit-of .ensures), lt-ltb _ _ (c .if1 .taken))) (search needs)
-    (λ c. rw (← (c .before .before .limit-of .ensures), le-ltb _ _ (c .before .if1 .left)) (c .shape .ensures)))
+data-spec = tie.close (tie.spec (λ c κs. search needs) (λ c. rw (← (c .before .limit-of .ensures), lt-ltb _ _ (c .if1 .taken)))
+    (λ c κs. search needs) (λ c. rw (← (c .before .before .limit-of .ensures), le-ltb _ _ (c .before .if1 .left)) (c .shape .ensures)))

@@ -6,11 +6,11 @@ use Rattle.cipher_mode.proofs.checks.key_and_iv.Tie as tie
 
 pub key-and-iv-spec : {M : Type 1} → statement M
 unfolding keyAndIv
-key-and-iv-spec = tie.close (tie.spec (search needs) (search needs) (search needs)
-    (λ c. rw (← c .before .before .key .ensures, c .enum-told2 .given .1)) (search needs)
+key-and-iv-spec = tie.close (tie.spec (λ c κs. search needs) (λ c. search needs) (λ c. search needs)
+    (λ c. rw (← c .before .before .key .ensures, c .enum-told2 .given .1)) (λ c κs. search needs)
     (λ c. let told = c .before .before in
     rw (← told .before .before .key .ensures, told .enum-told .given .1, sym (c .before .wrong-iv .ensures) ∙ c .if1 .taken))
-    (search needs)
+    (λ c κs. search needs)
     (λ c. let at-iv = c .before .before in
     let told = at-iv .before in
     rw (← told .before .before .key .ensures, told .enum-told .given .1, sym (at-iv .wrong-iv .ensures) ∙ c .before .if1 .left)

@@ -25,10 +25,11 @@ returns-4 c =
 
 pub message-spec : {M : Type 1} → statement M
 unfolding messageCheck
-message-spec = tie.close (tie.spec (search needs) (search needs) (search needs)
-    (λ c. rw (← c .before .before .key-and-iv .ensures, c .enum-told2 .given .1)) (search needs) (search needs) (search needs)
+message-spec = tie.close (tie.spec (λ c κs. search needs) (λ c. search needs) (λ c. search needs)
+    (λ c. rw (← c .before .before .key-and-iv .ensures, c .enum-told2 .given .1)) (λ c κs. search needs) (λ c. search needs)
+    (λ c. search needs)
     (λ c. let at-label = c .before .before in
     let first = at-label .before in
     rw (← first .before .before .key-and-iv .ensures, first .enum-told .given .1, ← at-label .label .ensures, c .enum-told4 .given .1))
-    (search needs) (search needs) (search needs) returns-3
+    (λ c κs. search needs) (λ c. search needs) (λ c. search needs) returns-3
     (λ c κs. sym (c .before .before .«data» .ensures) ∙ c .enum-told5 .given .1) returns-4)

@@ -10,7 +10,7 @@ sub-result c =
     omega (arith, with-tag-passed _ (rw (dir .enum-told2 .given .1, c .enum-told7 .given .1) at (dir .before .before .pre)))
 
 pub room-of-spec : {M : Type 1} → statement M
-room-of-spec = tie.close (tie.spec (search needs) (λ c κs. rw (c .enum-told .given .1) at (data-within _ _ _ (c .before .before .pre)))
-    (search needs) (search needs) (search needs) (search needs) (search needs) (search needs) sub-result
+room-of-spec = tie.close (tie.spec (λ c. search needs) (λ c κs. rw (c .enum-told .given .1) at (data-within _ _ _ (c .before .before .pre)))
+    (λ c. search needs) (λ c. search needs) (λ c. search needs) (λ c. search needs) (λ c. search needs) (λ c. search needs) sub-result
     (λ c. rw (c .before .enum-told .given .1) (c .encrypted-length .ensures)) (λ c. search needs) (λ c. search needs) (λ c. search needs)
     (λ c. search needs) (λ c. rw (c .before .before .enum-told2 .given .1, c .enum-told7 .given .1)))

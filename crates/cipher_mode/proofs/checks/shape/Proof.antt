@@ -4,11 +4,17 @@ use Rattle.cipher_mode.proofs.checks.shape.Statement.{statement}
 use Rattle.cipher_mode.proofs.checks.shape.Tie as tie
 
 pub shape-spec : {M : Type 1} → statement M
-shape-spec = tie.close (tie.spec (search needs) (search needs) (λ c. search needs) (search needs) (search needs) (search needs)
-    (search needs) (λ c. rw (c .before .before .before .enum-told .given .1, c .before .enum-told6 .given .1, eq-eqb _ _ (c .if1 .taken)))
+shape-spec = tie.close (tie.spec (λ c. search needs) (λ c. search needs) (λ c. search needs) (λ c. search needs) (λ c. search needs)
+    (λ c. search needs)
+    (λ c. search needs) (λ c. rw (
+      c .before .before .before .enum-told .given .1,
+      c .before .enum-told6 .given .1,
+      eq-eqb _ _
+          (c .if1 .taken),
+    ))
     (λ c. let m = c .before .before in
     rw (m .before .before .enum-told .given .1, m .enum-told6 .given .1, ne-eqb _ _ (c .before .if1 .left), ne-eqb _ _ (c .if2 .taken)))
-    (search needs) (search needs) (search needs)
+    (λ c. search needs) (λ c. search needs) (λ c. search needs)
     (λ c. rw (c .before .before .before .enum-told .given .1, c .before .enum-told7 .given .1, lt-ltb _ _ (c .if3 .taken)))
     (λ c. search needs) (λ c. search needs) (λ c. search needs)
     (λ c. let m = c .before .before in

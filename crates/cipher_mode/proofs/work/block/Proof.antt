@@ -13,4 +13,5 @@ returns c =
     (c .before .before .put-block .ensures)
 
 pub block-spec : {M : Type 1} → statement M
-block-spec = tie.close (tie.spec (search needs) (search needs) (search needs) (search needs) (search needs) (search needs) returns)
+block-spec = tie.close (tie.spec (λ c κs. search needs) (λ c κs. search needs) (λ c κs. search needs) (λ c κs. search needs)
+    (λ c κs. search needs) (λ c. search needs) returns)

@@ -22,22 +22,23 @@ returns c =
     (leaves _ (c .quiet .ensures) (rw (at-kind .cfb-kind .ensures) at (at-stream .by-stream .ensures)))
 
 pub message-spec : {M : Type 1} → statement M
-message-spec = tie.close (tie.spec (search needs) (search needs)
+message-spec = tie.close (tie.spec (λ c. search needs) (λ c κs. search needs)
     (λ c κs. let S = c .before .before .before .before .before .before .before .before .before in
     streamed _ (rw (c .before .before .enum-told .given .1) at (S .pre)))
-    (search needs) (search needs)
+    (λ c κs. search needs) (λ c. search needs)
     (λ c κs. let S = c .before .before .before .before .before .before .before .before in
     streamed _ (rw (c .before .enum-told2 .given .1) at (S .pre)))
-    (search needs) (search needs)
+    (λ c κs. search needs) (λ c. search needs)
     (λ c κs. let S = c .before .before .before .before .before .before .before .before in
     streamed _ (rw (c .before .enum-told3 .given .1) at (S .pre)))
-    (search needs) by-cbc-requires (search needs) (search needs)
+    (λ c. search needs) by-cbc-requires (λ c κs. search needs) (λ c. search needs)
     (λ c κs. rw (c .before .enum-told5 .given .1) at (c .before .before .before .before .before .before .before .before .pre))
-    (search needs) returns (search needs)
+    (λ c. search needs) returns (λ c. search needs)
     (λ c. let at-stream = c .before .before .before in
     rw (at-stream .before .before .enum-told2 .given .1) (leaves _ (c .quiet2 .ensures) (at-stream .by-stream2 .ensures)))
-    (search needs) (λ c. let at-ctr = c .before .before in rw (at-ctr .before .before .enum-told3 .given .1) (at-ctr .by-ctr .ensures))
-    (search needs)
+    (λ c. search needs) (λ c. let at-ctr = c .before .before in rw (at-ctr .before .before .enum-told3 .given .1) (at-ctr .by-ctr .ensures))
+    (λ c. search needs)
     (λ c. let at-cbc = c .before .before .before in
     rw (at-cbc .before .before .enum-told4 .given .1) (leaves _ (c .quiet3 .ensures) (at-cbc .by-cbc .ensures)))
-    (search needs) (λ c. let at-gcm = c .before .before in rw (at-gcm .before .before .enum-told5 .given .1) (at-gcm .by-gcm .ensures)))
+    (λ c. search needs) (λ c. let at-gcm = c .before .before in rw (at-gcm .before .before .enum-told5 .given .1)
+    (at-gcm .by-gcm .ensures)))

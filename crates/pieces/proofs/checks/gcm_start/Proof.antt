@@ -5,5 +5,5 @@ use Rattle.pieces.proofs.checks.gcm_start.Tie as tie
 
 pub gcm-start-spec : {M : Type 1} → statement M
 unfolding gcmStarting
-gcm-start-spec = tie.close (tie.spec (search needs) (search needs) (search needs)
+gcm-start-spec = tie.close (tie.spec (λ c. search needs) (λ c. search needs) (λ c. search needs)
     (λ c. rw (c .and-then .ensures, c .before .label .ensures, c .before .before .key-and-iv .ensures)))

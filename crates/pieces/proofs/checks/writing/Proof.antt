@@ -5,5 +5,5 @@ use Rattle.pieces.proofs.checks.writing.Tie as tie
 
 pub writing-spec : {M : Type 1} → statement M
 unfolding writing
-writing-spec = tie.close (tie.spec (search needs) (search needs) (search needs)
+writing-spec = tie.close (tie.spec (λ c. search needs) (λ c. search needs) (λ c. search needs)
     (λ c. rw (c .and-then .ensures, c .before .running .ensures, c .before .before .refuse .ensures)))

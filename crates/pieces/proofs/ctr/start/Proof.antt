@@ -26,9 +26,11 @@ returns-2 c =
 
 pub start-spec : {M : Type 1} → statement M
 unfolding ctrStart
-start-spec = tie.close (tie.spec (search needs) (search needs) (search needs) (search needs) (search needs) (search needs)
+start-spec = tie.close (tie.spec (λ c. search needs) (λ c. search needs) (λ c. search needs) (λ c. search needs) (λ c. search needs)
+    (λ c. search needs)
     (λ c. let told = c .before .before .before .before in
     rw (← told .before .before .key-and-iv .ensures, told .checked .given .1, c .before .before .refused .ensures, c .shut .ensures)
     (rw (c .before .number .ensures, told .before .before .before .number-in .ensures)))
-    (search needs) (search needs) (search needs) (search needs) (λ c κs. search needs)
-    (λ c κs. let n = passed (c .before .before .before .before .before) in omega arith) (λ c κs. search needs) (search needs) returns-2)
+    (λ c. search needs) (λ c. search needs) (λ c. search needs) (λ c. search needs) (λ c κs. search needs)
+    (λ c κs. let n = passed (c .before .before .before .before .before) in omega arith) (λ c κs. search needs)
+    (λ c. search needs) returns-2)

@@ -18,5 +18,5 @@ returns c =
     (rw (spelt (S .args .t4) (search (needs, start), λ i. search (needs, start))) (refl, refl)))
 
 pub onward-spec : {M : Type 1} → statement M
-onward-spec = tie.close (tie.spec (search needs) (search needs) (search needs) (search needs) (λ c κs. search needs) (search needs)
-    (search needs) returns)
+onward-spec = tie.close (tie.spec (λ c. search needs) (λ c. search needs) (λ c. search needs) (λ c. search needs) (λ c κs. search needs)
+    (λ c. search needs) (λ c. search needs) returns)

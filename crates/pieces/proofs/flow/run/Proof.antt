@@ -37,5 +37,5 @@ returns-2 c =
     (rw (le-ltb _ _ (at-else .if1 .left)) (onward .0), behind)
 
 pub run-spec : {M : Type 1} → statement M
-run-spec = tie.close (tie.spec (search needs) (search needs) (search needs) returns (search needs) (search needs) (search needs)
-    (search needs) (search needs) (search needs) (λ c κs. search needs) (search needs) returns-2)
+run-spec = tie.close (tie.spec (λ c. search needs) (λ c. search needs) (λ c. search needs) returns (λ c. search needs) (λ c. search needs)
+    (λ c. search needs) (λ c. search needs) (λ c. search needs) (λ c. search needs) (λ c κs. search needs) (λ c. search needs) returns-2)

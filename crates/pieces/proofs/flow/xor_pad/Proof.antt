@@ -31,5 +31,6 @@ returns c =
     pad-reached (now (a .«data»)) (a .t1) (now (a .out)) (l .out) (a .p) (l .i) (l .inv .2) (omega arith)
 
 pub xor-pad-spec : {M : Type 1} → statement M
-xor-pad-spec = tie.close (tie.spec Inv-loop μ-loop (omega arith) (search needs) (λ c. (omega arith, refl, refl)) (omega arith)
-    (omega arith) (omega arith) (omega arith) (omega arith) (omega arith) loop-again (omega arith) returns)
+xor-pad-spec = tie.close (tie.spec Inv-loop μ-loop (λ c. omega arith) (λ c. search needs) (λ c. (omega arith, refl, refl))
+    (λ c. omega arith) (λ c. omega arith) (λ c. omega arith) (λ c. omega arith) (λ c. omega arith) (λ c. omega arith) loop-again
+    (λ c. omega arith) returns)

@@ -6,7 +6,7 @@ use Rattle.pieces.proofs.hashing.begin.Tie as tie
 
 pub begin-spec : {M : Type 1} → statement M
 unfolding hashOf filledUp
-begin-spec = tie.close (tie.spec (search needs) (search needs) (search needs) (search needs)
+begin-spec = tie.close (tie.spec (λ c. search needs) (λ c. search needs) (λ c. search needs) (λ c. search needs)
     (λ c. let at-label = c .before .before .before in
     let new = at-label .before .new .ensures in
     rw (c .before .bytes-of .ensures, c .bytes-of2 .ensures, at-label .absorb-all .ensures .hash, new .0, new .1)

@@ -15,6 +15,6 @@ returns c =
     rw (c .bytes-of .ensures, hashed, sub-zero, at-y .before .number-of .ensures, at-y .number-of2 .ensures)
 
 pub end-spec : {M : Type 1} → statement M
-end-spec = tie.close (tie.spec (search needs) (search needs) (search needs) (search needs)
-    (λ c. let n = held-length (c .before .before .before .before .before .before) in omega arith) (search needs) (search needs)
-    (search needs) returns)
+end-spec = tie.close (tie.spec (λ c. search needs) (λ c. search needs) (λ c. search needs) (λ c. search needs)
+    (λ c. let n = held-length (c .before .before .before .before .before .before) in omega arith) (λ c. search needs) (λ c. search needs)
+    (λ c. search needs) returns)

@@ -47,5 +47,5 @@ returns c =
     rw (take-all (l .i) (filledUp s) (omega arith), drop-of-length-le (a .held) {i = l .i} (omega arith), append-nil) at (l .inv .4)
 
 pub filled-spec : {M : Type 1} → statement M
-filled-spec = tie.close (tie.spec Inv-loop μ-loop loop-holds (omega arith) (search needs) (omega arith) (omega arith) (omega arith)
-    loop-again returns)
+filled-spec = tie.close (tie.spec Inv-loop μ-loop loop-holds (λ c. omega arith) (λ c. search needs) (λ c. omega arith) (λ c. omega arith)
+    (λ c. omega arith) loop-again returns)

@@ -24,5 +24,6 @@ returns c =
     (rw (begun-behind _ d 1 (first-length S), at-y .before .number-of .ensures, at-y .number-of2 .ensures))
 
 pub full-blocks-spec : {M : Type 1} → statement M
-full-blocks-spec = tie.close (tie.spec (search needs) (search needs) (search needs) (search needs) (search needs) (search needs)
-    (search needs) (search needs) (search needs) (search needs) (search needs) (search needs) (search needs) (search needs) returns)
+full-blocks-spec = tie.close (tie.spec (λ c. search needs) (λ c. search needs) (λ c. search needs) (λ c. search needs) (λ c. search needs)
+    (λ c. search needs) (λ c. search needs) (λ c. search needs) (λ c. search needs) (λ c. search needs) (λ c. search needs)
+    (λ c. search needs) (λ c. search needs) (λ c. search needs) returns)

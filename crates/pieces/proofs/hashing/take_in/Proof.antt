@@ -35,5 +35,5 @@ returns-2 c =
     rw (c .full-blocks .ensures, tail-is d (16 - a .p), at-filled .filled .ensures, filled-full _ d (a .p) p (omega arith) (omega arith))
 
 pub take-in-spec : {M : Type 1} → statement M
-take-in-spec = tie.close (tie.spec (search needs) (search needs) returns (search needs) (search needs) (search needs) (search needs)
-    returns-2)
+take-in-spec = tie.close (tie.spec (λ c. search needs) (λ c. search needs) returns (λ c. search needs) (λ c. search needs)
+    (λ c. search needs) (λ c. search needs) returns-2)

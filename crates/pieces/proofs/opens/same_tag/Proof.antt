@@ -21,5 +21,5 @@ returns c =
     (rw (unwords-xors (words mask) (words hash) (length-words mask) (length-words hash), spelt mask (mask-is S), spelt hash (hash-is S)))
 
 pub same-tag-spec : {M : Type 1} → statement M
-same-tag-spec =
-    tie.close (tie.spec (search needs) (search needs) (search needs) (search needs) (search needs) (search needs) returns)
+same-tag-spec = tie.close (tie.spec (λ c. search needs) (λ c. search needs) (λ c. search needs) (λ c. search needs) (λ c. search needs)
+    (λ c. search needs) returns)

@@ -5,4 +5,4 @@ use Rattle.pieces.proofs.opens.shut.Tie as tie
 
 pub shut-spec : {M : Type 1} → statement M
 unfolding opensShut
-shut-spec = tie.close (tie.spec (search needs) (λ c. rw (c .none .ensures)))
+shut-spec = tie.close (tie.spec (λ c. search needs) (λ c. rw (c .none .ensures)))

@@ -5,4 +5,4 @@ use Rattle.pieces.proofs.seal.shut.Tie as tie
 
 pub shut-spec : {M : Type 1} → statement M
 unfolding sealShut
-shut-spec = tie.close (tie.spec (search needs) (search needs) (λ c. rw (c .before .none .ensures, c .none2 .ensures)))
+shut-spec = tie.close (tie.spec (λ c. search needs) (λ c. search needs) (λ c. rw (c .before .none .ensures, c .none2 .ensures)))

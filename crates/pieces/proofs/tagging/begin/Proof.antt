@@ -13,5 +13,5 @@ returns c =
     (rw (at-counter .before .hash-key .ensures) (refl, (refl, (refl, refl))))
 
 pub begin-spec : {M : Type 1} → statement M
-begin-spec = tie.close (tie.spec (λ c κs. search needs) (λ c κs. c .before .before .before .before .pre .1) (search needs) (search needs)
-    (λ c κs. search needs) returns)
+begin-spec = tie.close (tie.spec (λ c κs. search needs) (λ c κs. c .before .before .before .before .pre .1) (λ c. search needs)
+    (λ c. search needs) (λ c κs. search needs) returns)

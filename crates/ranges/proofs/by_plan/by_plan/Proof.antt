@@ -32,13 +32,13 @@ returns-4 c =
 
 pub by-plan-spec : {M : Type 1} → statement M
 unfolding planCall
-by-plan-spec = tie.close (tie.spec (search needs) (search needs) (search needs)
+by-plan-spec = tie.close (tie.spec (λ c. search needs) (λ c. search needs) (λ c. search needs)
     (λ c. let at-reach = c .before .before .before in rw (← (rw zero-add at (at-reach .reach .ensures)), c .before .checked .given .1)
     (rw (at-reach .before .number-in .ensures)))
-    (search needs) (search needs)
+    (λ c. search needs) (λ c. search needs)
     (λ c. let told = c .before .before in rw (passed told, ← c .before .accepts .ensures, c .if1 .taken)
     (rw (told .before .before .before .number-in .ensures)))
     (λ c. let told = c .before .before .before in
     rw (passed told, ← c .before .before .accepts .ensures, c .before .if1 .left, lt-ltb _ _ (c .if2 .taken))
     (rw (told .before .before .before .number-in .ensures)))
-    pieces-by-requires (search needs) returns-4)
+    pieces-by-requires (λ c. search needs) returns-4)

@@ -88,9 +88,10 @@ returns c =
     rw (take-all (l .at) d (omega (arith, end))) at (inv .4)
 
 pub put-pieces-spec : {M : Type 1} → statement M
-put-pieces-spec = tie.close (tie.spec Inv-loop μ-loop loop-holds (omega arith) (omega arith) (omega arith) (omega arith)
-    (λ c. record { fits = omega (arith, turn c .inside) }) (omega arith) (omega arith) (λ c. omega (arith, turn c .inside)) (omega arith)
+put-pieces-spec = tie.close (tie.spec Inv-loop μ-loop loop-holds (λ c. omega arith) (λ c. omega arith) (λ c. omega arith) (λ c. omega arith)
+    (λ c. record { fits = omega (arith, turn c .inside) }) (λ c. omega arith) (λ c. omega arith) (λ c. omega (arith, turn c .inside))
+    (λ c. omega arith)
     (λ c. let at-loop = c .before .before in
     let S = at-loop .before .before .before .before .before .before .before in
     omega (arith, at-loop .loop .inv .1, at-loop .loop .inv .2, S .pre .1 .1 .1))
-    (omega arith) put-stretch-requires (omega arith) (omega arith) loop-again (omega arith) returns)
+    (λ c. omega arith) put-stretch-requires (λ c. omega arith) (λ c. omega arith) loop-again (λ c. omega arith) returns)

@@ -69,6 +69,6 @@ returns-3 c =
 pub accepts-spec : {M : Type 1} → statement M
 unfolding accepts
 accepts-spec = tie.close (tie.spec Inv-loop μ-loop (λ c. rw (lt-leb _ _ (c .if1 .taken)))
-    (λ c. (omega arith, omega arith, omega arith, refl)) (omega arith) (omega arith) (omega arith) (omega arith) (omega arith) (omega arith)
-    (search needs) returns-2 (λ c. record { fits = omega (arith, turn (c .before) .1 (passed c)) }) (omega arith) (omega arith) loop-again
-    returns-3)
+    (λ c. (omega arith, omega arith, omega arith, refl)) (λ c. omega arith) (λ c. omega arith) (λ c. omega arith) (λ c. omega arith)
+    (λ c. omega arith) (λ c. omega arith) (λ c. search needs) returns-2
+    (λ c. record { fits = omega (arith, turn (c .before) .1 (passed c)) }) (λ c. omega arith) (λ c. omega arith) loop-again returns-3)

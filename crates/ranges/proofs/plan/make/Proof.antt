@@ -13,10 +13,10 @@ returns-4 c =
 
 pub make-spec : {M : Type 1} → statement M
 unfolding planned
-make-spec = tie.close (tie.spec (search needs) (λ c. rw (c .without .ensures, eq-eqb _ _ (c .before .if1 .taken))) (search needs)
-    (λ c. rw (c .without2 .ensures, ne-eqb _ _ (c .before .before .if1 .left), lt-ltb _ _ (c .before .if2 .taken))) (search needs)
+make-spec = tie.close (tie.spec (λ c. search needs) (λ c. rw (c .without .ensures, eq-eqb _ _ (c .before .if1 .taken))) (λ c. search needs)
+    (λ c. rw (c .without2 .ensures, ne-eqb _ _ (c .before .before .if1 .left), lt-ltb _ _ (c .before .if2 .taken))) (λ c. search needs)
     (λ c. let b = c .before in rw (c .without3 .ensures, ne-eqb _ _ (b .before .before .if1 .left), le-ltb _ _ (b .before .if2 .left))
     (rw (lt-ltb _ _ (b .if3 .taken))))
-    (search needs)
+    (λ c. search needs)
     (λ c κs. let a = c .before .before .before .before .args in
     omega (arith, short-enough (a .n) (a .workers) (omega arith) (omega arith), c .piece-size .ensures)) returns-4)

@@ -39,5 +39,5 @@ returns c =
 
 pub plan-in-spec : {M : Type 1} → statement M
 plan-in-spec = tie.close (tie.spec Inv-loop μ-loop (λ c. (omega arith, omega arith, omega arith, search needs, search needs, rw zero-add))
-    (search needs) (omega arith) (omega arith) (search needs) (omega arith) (omega arith) (search needs)
-    (λ c. record { fits = omega arith }) (omega arith) (omega arith) (omega arith) loop-again returns)
+    (λ c. search needs) (λ c. omega arith) (λ c. omega arith) (λ c. search needs) (λ c. omega arith) (λ c. omega arith) (λ c. search needs)
+    (λ c. record { fits = omega arith }) (λ c. omega arith) (λ c. omega arith) (λ c. omega arith) loop-again returns)

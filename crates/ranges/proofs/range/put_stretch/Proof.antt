@@ -20,6 +20,6 @@ returns c =
     rw (at-run .run .ensures .1, at-begin .begin .ensures, at-begin .before .jump .ensures, is-iv, stretched)
 
 pub put-stretch-spec : {M : Type 1} → statement M
-put-stretch-spec = tie.close (tie.spec (search needs) (search needs) (λ c κs. search needs)
+put-stretch-spec = tie.close (tie.spec (λ c. search needs) (λ c. search needs) (λ c κs. search needs)
     (λ c κs. let S = c .before .before .before .before .before .before .before .before in (S .pre .0, (mod-lt _ (lit< tt), S .pre .1 .1)))
-    (search needs) returns)
+    (λ c. search needs) returns)

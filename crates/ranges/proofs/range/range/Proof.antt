@@ -27,10 +27,11 @@ returns-2 c =
 
 pub range-spec : {M : Type 1} → statement M
 unfolding rangeCall
-range-spec = tie.close (tie.spec (search needs) (search needs) (search needs) (search needs) (search needs) (search needs)
+range-spec = tie.close (tie.spec (λ c. search needs) (λ c. search needs) (λ c. search needs) (λ c. search needs) (λ c. search needs)
+    (λ c. search needs)
     (λ c. let told = c .before .before in rw (← checks (told .before .before), told .checked .given .1, c .refused .ensures)
     (rw (told .before .before .before .before .before .number-in .ensures)))
-    (search needs)
+    (λ c. search needs)
     (λ c κs. let told = c .before .before in range-passed _ _ _ _ _ _ _ (sym (checks (told .before .before)) ∙ told .enum-told .given .1))
-    (search needs)
-    (search needs) returns-2)
+    (λ c. search needs)
+    (λ c. search needs) returns-2)

@@ -4,5 +4,5 @@ use Rattle.stream.proofs.batches.counter_after.Statement.{statement}
 use Rattle.stream.proofs.batches.counter_after.Tie as tie
 
 pub counter-after-spec : {M : Type 1} → statement M
-counter-after-spec = tie.close (tie.spec (search needs) (λ c. rw (c .before .if1 .taken) (c .jump .ensures)) (search needs) (search needs)
-    (λ c. rw (c .before .if1 .left) (c .«gcm-jump» .ensures)))
+counter-after-spec = tie.close (tie.spec (λ c κs. search needs) (λ c. rw (c .before .if1 .taken) (c .jump .ensures)) (λ c. search needs)
+    (λ c κs. search needs) (λ c. rw (c .before .if1 .left) (c .«gcm-jump» .ensures)))

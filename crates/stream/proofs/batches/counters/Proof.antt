@@ -22,6 +22,7 @@ loop-again c =
     (unwords-bytes (l .s)) (c .counter-after .ensures) (at-batch .encrypt-counters .ensures)
 
 pub counters-spec : {M : Type 1} → statement M
-counters-spec = tie.close (tie.spec Inv-loop μ-loop (λ c. reached-first _ _ _ _) (omega arith) (omega arith) (omega arith) (omega arith)
-    (omega arith) (omega arith) (omega arith) (omega arith) (omega arith) (search needs) (search needs) (omega arith) (omega arith)
-    (omega arith) loop-again (omega arith) (λ c. c .before .loop .inv))
+counters-spec = tie.close (tie.spec Inv-loop μ-loop (λ c. reached-first _ _ _ _) (λ c. omega arith) (λ c. omega arith) (λ c κs. omega arith)
+    (λ c. omega arith) (λ c. omega arith) (λ c. omega arith) (λ c. omega arith) (λ c. omega arith) (λ c. omega arith) (λ c κs. search needs)
+    (λ c κs. search needs) (λ c. omega arith) (λ c. omega arith) (λ c. omega arith) loop-again (λ c. omega arith)
+    (λ c. c .before .loop .inv))

@@ -31,6 +31,7 @@ returns-2 c =
 
 pub feedback-spec : {M : Type 1} → statement M
 feedback-spec = tie.close (tie.spec Inv-loop μ-loop (λ c. reached-first _ _ _ _) (λ c κs. search needs)
-    (λ c. fed-first _ _ _ (omega arith) (omega arith)) (omega arith) (omega arith) (omega arith) (omega arith) (omega arith) (omega arith)
-    (omega arith) (omega arith) (omega arith) (omega arith) (omega arith) (omega arith) (omega arith) (search needs) (omega arith)
-    (omega arith) (omega arith) loop-again (omega arith) (omega arith) (omega arith) returns-2)
+    (λ c. fed-first _ _ _ (omega arith) (omega arith)) (λ c. omega arith) (λ c. omega arith) (λ c. omega arith) (λ c. omega arith)
+    (λ c. omega arith) (λ c. omega arith) (λ c. omega arith) (λ c. omega arith) (λ c. omega arith) (λ c. omega arith) (λ c. omega arith)
+    (λ c. omega arith) (λ c. omega arith) (λ c. search needs) (λ c. omega arith) (λ c. omega arith) (λ c. omega arith) loop-again
+    (λ c. omega arith) (λ c. omega arith) (λ c. omega arith) returns-2)

@@ -14,4 +14,4 @@ returns c =
     ap unwords (c .split-block .ensures) ∙ rw (tail-is s (a .at)) (unwords-front _ (rw length-drop (omega arith)) bytes)
 
 pub block-at-spec : {M : Type 1} → statement M
-block-at-spec = tie.close (tie.spec (search needs) (search needs) (search needs) (search needs) returns)
+block-at-spec = tie.close (tie.spec (λ c. search needs) (λ c. search needs) (λ c. search needs) (λ c κs. search needs) returns)

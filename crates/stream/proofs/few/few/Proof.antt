@@ -25,6 +25,7 @@ returns c =
     (at-block-at .block-at .ensures ∙ laid (a .m) (omega arith), (λ e. read ∙ pad (n .1 e), written))
 
 pub few-spec : {M : Type 1} → statement M
-few-spec = tie.close (tie.spec (search needs) (search needs) (λ c κs. search needs) (λ c κs. search needs) (search needs) (search needs)
-    (search needs) (search needs) (search needs) (search needs) (search needs) (search needs) (λ c κs. search needs) (search needs)
-    (λ c κs. search needs) (search needs) (λ c κs. search needs) (λ c κs. search needs) (search needs) returns)
+few-spec = tie.close (tie.spec (λ c. search needs) (λ c. search needs) (λ c κs. search needs) (λ c κs. search needs) (λ c. search needs)
+    (λ c. search needs) (λ c. search needs) (λ c. search needs) (λ c. search needs) (λ c. search needs) (λ c. search needs)
+    (λ c. search needs) (λ c κs. search needs) (λ c. search needs) (λ c κs. search needs) (λ c. search needs) (λ c κs. search needs)
+    (λ c κs. search needs) (λ c. search needs) returns)

@@ -33,5 +33,6 @@ returns c =
 
 pub lay-counters-spec : {M : Type 1} → statement M
 unfolding cat
-lay-counters-spec = tie.close (tie.spec Inv-loop μ-loop (λ c. (search needs, refl, refl)) (search needs) (search needs) (search needs)
-    (search needs) (search needs) (search needs) (search needs) (search needs) loop-again (search needs) returns)
+lay-counters-spec = tie.close (tie.spec Inv-loop μ-loop (λ c. (search needs, refl, refl)) (λ c κs. search needs) (λ c. search needs)
+    (λ c. search needs) (λ c. search needs) (λ c. search needs) (λ c κs. search needs) (λ c. search needs) (λ c. search needs) loop-again
+    (λ c. search needs) returns)

@@ -19,9 +19,17 @@ loop-again c =
     blocks-on (a .kind) (a .rk) (l .inv) 64 _ _ (omega arith) (omega arith) (x .0) (x .1 .1)
 
 pub run-spec : {M : Type 1} → statement M
-run-spec = tie.close (tie.spec Inv-loop μ-loop (λ c. reached-first _ _ _ _) (omega arith) (omega arith) (omega arith) (omega arith)
-    (omega arith) (omega arith) (omega arith) (λ c κs. (search needs, ((omega arith, λ e. untrue e), (omega arith, omega arith))))
-    (omega arith) (omega arith) loop-again (omega arith) (omega arith) (omega arith) (omega arith) (omega arith) (omega arith)
-    (λ c κs. (search needs, (omega arith, omega arith))) (omega arith)
+run-spec = tie.close (tie.spec Inv-loop μ-loop (λ c. reached-first _ _ _ _) (λ c. omega arith) (λ c. omega arith) (λ c. omega arith)
+    (λ c. omega arith)
+    (λ c. omega arith) (λ c. omega arith) (λ c. omega arith) (λ c κs. (
+      search needs,
+      (
+        (omega arith, λ e. untrue e),
+        (omega arith, omega arith),
+      ),
+    ))
+    (λ c. omega arith) (λ c. omega arith) loop-again (λ c. omega arith) (λ c. omega arith) (λ c. omega arith) (λ c. omega arith)
+    (λ c. omega arith) (λ c. omega arith)
+    (λ c κs. (search needs, (omega arith, omega arith))) (λ c. omega arith)
     (λ c. let a = c .before .before .before .before .before .before .before .before .before .args in
     onward (a .kind) (a .rk) (c .before .before .before .before .before .before .loop .inv) _ _ _ _ (c .before .before .last .ensures)))

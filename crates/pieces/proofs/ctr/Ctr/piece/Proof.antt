@@ -11,10 +11,10 @@ passed x = writing-passed _ _ _ _ _ _ (sym (x .before .before .writing .ensures)
 
 pub piece-spec : {M : Type 1} → statement M
 unfolding ctrPiece
-piece-spec = tie.close (tie.spec (search needs) (search needs) (search needs)
+piece-spec = tie.close (tie.spec (λ c. search needs) (λ c. search needs) (λ c. search needs)
     (λ c. let told = c .before .before in rw (← told .before .before .writing .ensures, told .checked .given .1, c .refused .ensures))
-    (search needs) (λ c κs. (mod-lt _ (lit< tt), passed (c .before .before .before .before) .1))
-    (λ c. sum-fits (passed (c .before .before .before .before .before .before .before) .0)) (search needs) (search needs)
+    (λ c. search needs) (λ c κs. (mod-lt _ (lit< tt), passed (c .before .before .before .before) .1))
+    (λ c. sum-fits (passed (c .before .before .before .before .before .before .before) .0)) (λ c. search needs) (λ c. search needs)
     (λ c. let ran = c .before .before .before .run-by .ensures in
     let told = c .before .before .before .before .before .before .before .before in
     rw (← told .before .before .writing .ensures, told .enum-told .given .1, c .done .ensures, ran .0, ran .1)))

@@ -29,7 +29,8 @@ returns-3 c =
 
 pub end-spec : {M : Type 1} → statement M
 unfolding opensEnd
-end-spec = tie.close (tie.spec (search needs) (search needs) (search needs)
+end-spec = tie.close (tie.spec (λ c. search needs) (λ c. search needs) (λ c. search needs)
     (λ c. let told = c .before .before in rw (← told .before .before .tagged .ensures, told .checked .given .1, c .refused .ensures))
-    (search needs) (λ c κs. (mod-lt _ (lit< tt), both-hashable (passed (c .before .before) .0)))
-    (search needs) (λ c κs. passed (c .before .before .before .before) .1) (search needs) (search needs) returns-2 (search needs) returns-3)
+    (λ c. search needs) (λ c κs. (mod-lt _ (lit< tt), both-hashable (passed (c .before .before) .0)))
+    (λ c. search needs) (λ c κs. passed (c .before .before .before .before) .1) (λ c. search needs) (λ c. search needs) returns-2
+    (λ c. search needs) returns-3)

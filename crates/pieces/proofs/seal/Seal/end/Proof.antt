@@ -25,10 +25,10 @@ returns-2 c =
 
 pub end-spec : {M : Type 1} → statement M
 unfolding sealEnd
-end-spec = tie.close (tie.spec (search needs) (search needs) (search needs)
+end-spec = tie.close (tie.spec (λ c. search needs) (λ c. search needs) (λ c. search needs)
     (λ c. let told = c .before .before in rw (← told .before .before .writing .ensures, told .checked .given .1, c .refused .ensures))
-    (search needs) (λ c κs. (mod-lt _ (lit< tt), both-hashable (passed (c .before .before) .0))) (λ c. search needs)
+    (λ c. search needs) (λ c κs. (mod-lt _ (lit< tt), both-hashable (passed (c .before .before) .0))) (λ c. search needs)
     (λ c κs. let told = c .before .before .before .before .before in
     let room = passed told .1 in
     let n = mask-length (told .before .before .before .before) in (omega arith, omega arith))
-    (search needs) (search needs) (search needs) (search needs) returns-2)
+    (λ c. search needs) (λ c. search needs) (λ c. search needs) (λ c. search needs) returns-2)

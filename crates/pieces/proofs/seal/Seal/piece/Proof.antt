@@ -32,11 +32,12 @@ returns-2 c =
 
 pub piece-spec : {M : Type 1} → statement M
 unfolding sealPiece
-piece-spec = tie.close (tie.spec (search needs) (search needs) (search needs)
+piece-spec = tie.close (tie.spec (λ c. search needs) (λ c. search needs) (λ c. search needs)
     (λ c. let told = c .before .before in rw (← told .before .before .writing .ensures, told .checked .given .1, c .refused .ensures))
-    (search needs) (λ c κs. (mod-lt _ (lit< tt), passed (c .before .before .before .before .before) .1)) (search needs) (search needs)
+    (λ c. search needs) (λ c κs. (mod-lt _ (lit< tt), passed (c .before .before .before .before .before) .1)) (λ c. search needs)
+    (λ c. search needs)
     (λ c. let room = passed (c .before .before .before .before .before .before .before .before .before) .1 in
     omega (arith, c .before .before .before .run-by .kept))
-    (search needs)
+    (λ c. search needs)
     (λ c. sum-fits (passed (c .before .before .before .before .before .before .before .before .before .before .before) .0))
-    (search needs) (search needs) returns-2)
+    (λ c. search needs) (λ c. search needs) returns-2)
