@@ -5,8 +5,10 @@ use Rattle.stream.proofs.few.lay.Statement.{statement}
 use Rattle.stream.proofs.few.lay.Tie as tie
 
 pub lay-spec : {M : Type 1} → statement M
-lay-spec = tie.close (tie.spec (λ c. search needs) (λ c. search needs) (λ c κs. search needs) (λ c. search needs) (λ c. search needs) (λ c κs. search needs) (λ c. search needs)
-    (λ c κs. search needs) (λ c. untrue (sym (ap ahead (c .enum-told .given .1)) ∙ c .before .before .before .before .pre .0)) (λ c. search needs)
+lay-spec = tie.close (tie.spec (λ c. search needs) (λ c. search needs) (λ c κs. search needs) (λ c. search needs) (λ c. search needs)
+    (λ c κs. search needs) (λ c. search needs)
+    (λ c κs. search needs) (λ c. untrue (sym (ap ahead (c .enum-told .given .1)) ∙ c .before .before .before .before .pre .0))
+    (λ c. search needs)
     (λ c. rw (c .before .before .before .before .enum-told2 .given .1)
     (λ rk. laid-before rk _ _ _ _ _ (length-unwords _) (omega arith) (c .before .before .lay-before .ensures)))
     (λ c. untrue (sym (ap ahead (c .enum-told3 .given .1)) ∙ c .before .before .before .before .pre .0)) (λ c. search needs)
