@@ -26,6 +26,19 @@ one-more-requires-2 c κs =
     let small = below-at (suc (S .args .place)) (r .«by_answer») (omega arith) (S .pre .1 .1 .1 .0 .byAnswer) (S .args .x .number) in
     (omega (arith, S .pre .1 .0), omega (arith, data-inside _ (S .pre .0)))
 
+returns : tie.Need-returns
+unfolding counted front
+returns c =
+    let at-data = c .before .before .before in
+    let at-answer = at-data .before .before .before .before in
+    let at-mode-count = at-answer .before .before .before .before .before in
+    let at-place = at-mode-count .before in
+    let r = at-place .before .before .before .before .before .args .r in
+    same-report refl
+    (at-mode-count .one-more .ensures
+    ∙ ap (λ (i : ℕ). oneMore i (r .«by_mode»)) (at-place .mode-place .ensures .0 ∙ ap modePlace (at-place .before .mode .ensures)))
+    (at-answer .one-more2 .ensures) (ap (λ (l : List ℕ). r .«bytes_in» + length l) (at-data .«data» .ensures)) refl (c .first-of .ensures)
+
 pub counted-spec : {M : Type 1} → statement M
 counted-spec =
     tie.close (tie.spec (λ c. search needs) (λ c κs. search needs) (λ c κs. search needs) one-more-requires (λ c. search needs)
@@ -35,4 +48,4 @@ counted-spec =
     let x = c .before .before .before .before .before .before .before .before in
     let S = x .before .before .before .before .before .before .before .before .before in
     omega (arith, data-inside, S .pre .1 .1 .1 .0 .bytesOut, S .pre .1 .1 .0))
-    (λ c κs. search needs) (λ c. unfold counted front in (same-report refl (cc) (cc) (cc) refl (c .first-of .ensures))))
+    (λ c κs. search needs) returns)
