@@ -7,6 +7,7 @@ use Rattle.block.proofs.Base.{lt-of-lt-of-le, lt-suc-self, lt-trans, mod-eq-of-
 use Rattle.block.proofs.Base.{one-mul, pow-le-pow-right, suc-add, zero-add, zero-div, zero-mod, zero-mul, add-one, one-add, arith}
 use Rattle.block.proofs.Base.{digits-div, digits-mod, and-block, and-mask, and-zero-r, bitAnd, shifted-even, xor-block, lit<, mod-mod-pow}
 use Rattle.block.proofs.Base.{pow-pos, split}
+use lib.Bits.{xor-add-and, xor-mod}
 use Rattle.block.specs.Xor.{_⊕_}
 use Rattle.block.proofs.Xor.{bit-lt}
 use Rattle.block.proofs.Bit.{bit-cases}
@@ -15,21 +16,18 @@ use Rattle.carryless.proofs.Laws.{clmul-split, clmul-mod, zero-clmul, o
 
 -- the digits of a sum where nothing is carried
 module _ (B u v : ℕ) (h : u % B + v % B < B) where
-  sum-split : u + v ≡ (u / B + v / B) * B + (u % B + v % B)
-  sum-split =
+  sum-div : (u + v) / B ≡ u / B + v / B
+  sum-div =
       let a = div-add-mod' u B in
       let b = div-add-mod' v B in
-      let c = add-mul (u / B) (v / B) B in
-      omega arith
-
-  sum-div : (u + v) / B ≡ u / B + v / B
-  sum-div = ap (λ (x : ℕ). x / B) sum-split ∙ digits-div (u / B + v / B) h
+      let e : u + v ≡ (u / B + v / B) * B + (u % B + v % B) = omega arith in
+      rw e (digits-div (u / B + v / B) h)
 
   sum-mod : (u + v) % B ≡ u % B + v % B
-  sum-mod = ap (λ (x : ℕ). x % B) sum-split ∙ digits-mod (u / B + v / B) h
+  sum-mod = add-mod u v B ∙ mod-eq-of-lt h
 
 odd-sum : (u v : ℕ) → (u + v) % 2 ≡ u % 2 ⊕ v % 2
-odd-sum u v = add-mod u v 2 ∙ bit-cases (λ x. (x + v % 2) % 2 ≡ x ⊕ v % 2) (bit-cases (λ y. (0 + y) % 2 ≡ 0 ⊕ y) refl refl v) (bit-cases (λ y. (1 + y) % 2 ≡ 1 ⊕ y) refl refl v) u
+odd-sum u v = let e = xor-add-and u v in let f : (u + v) % 2 ≡ (u ⊕ v) % 2 = omega arith in f ∙ xor-mod u v 1
 
 module _ (w : ℕ) where
   abbrev base : ℕ
@@ -48,35 +46,25 @@ module _ (w : ℕ) where
   bit-base : (z : ℕ) → z % 2 < base
   bit-base z = lt-of-lt-of-le (bit-lt z) (pow-le-pow-right (lit< tt) (suc-le-suc zero-le))
 
-  one-base : 1 < base
-  one-base = bit-base 1
-
   -- the lowest bits of n digits
   pick-step : (n z : ℕ) → bitAnd z (ones (suc n)) ≡ bitAnd (z / base) (ones n) * base + z % 2
   pick-step n z =
       ap (λ (x : ℕ). bitAnd x (ones n * base + 1)) (sym (split z (suc w)))
-      ∙ and-block (suc w) (z / base) (ones n) (z % base) 1 (mod-lt z (pow-pos (suc w))) one-base
+      ∙ and-block (suc w) (z / base) (ones n) (z % base) 1 (mod-lt z (pow-pos (suc w))) (bit-base 1)
       ∙ ap (λ (x : ℕ). bitAnd (z / base) (ones n) * base + x)
       (and-mask (z % base) 1 ∙ ap (λ (x : ℕ). z % 2 ^ x % 2) (sym (add-one w)) ∙ mod-mod-pow z w 1)
 
-  pick-sum : (p q : ℕ) → p + q < base → (n u v : ℕ) → Few p n u → Few q n v → bitAnd (u + v) (ones n) ≡ bitAnd u (ones n) ⊕ bitAnd v (ones n)
-  pick-sum p q h zero u v a b = and-zero-r (u + v) ∙ sym (ap₂ _⊕_ (and-zero-r u) (and-zero-r v))
-  pick-sum p q h (suc n) u v a b =
+  -- sums of digits, and their lowest bits
+  sums : (p q : ℕ) → p + q < base → (n u v : ℕ) → Few p n u → Few q n v
+      → Few (p + q) n (u + v) × (bitAnd (u + v) (ones n) ≡ bitAnd u (ones n) ⊕ bitAnd v (ones n))
+  sums p q h zero u v a b = (ap₂ _+_ a b, and-zero-r (u + v) ∙ sym (ap₂ _⊕_ (and-zero-r u) (and-zero-r v)))
+  sums p q h (suc n) u v a b =
       let l : u % base + v % base < base = lt-of-le-of-lt (add-le-add (a .0) (b .0)) h in
-      rw (
-        pick-step n (u + v),
-        pick-step n u,
-        pick-step n v,
-        odd-sum u v,
-        sum-div base u v l,
-        pick-sum p q h n (u / base) (v / base) (a .1) (b .1),
-      ) (sym (xor-block (suc w) _ _ (u % 2) (v % 2) (bit-base u) (bit-base v)))
-
-  few-sum : (p q : ℕ) → p + q < base → (n u v : ℕ) → Few p n u → Few q n v → Few (p + q) n (u + v)
-  few-sum p q h zero u v a b = ap₂ _+_ a b
-  few-sum p q h (suc n) u v a b =
-      let l : u % base + v % base < base = lt-of-le-of-lt (add-le-add (a .0) (b .0)) h in
-      (rw (sum-mod base u v l) (add-le-add (a .0) (b .0)), rw (sum-div base u v l) (few-sum p q h n _ _ (a .1) (b .1)))
+      let r = sums p q h n (u / base) (v / base) (a .1) (b .1) in (
+        (rw (sum-mod base u v l) (add-le-add (a .0) (b .0)), rw (sum-div base u v l) (r .0)),
+        rw (pick-step n (u + v), pick-step n u, pick-step n v, odd-sum u v, sum-div base u v l, r .1)
+            (sym (xor-block (suc w) _ _ (u % 2) (v % 2) (bit-base u) (bit-base v))),
+      )
 
   few-zero : (m n : ℕ) → Few m n 0
   few-zero m zero = refl
@@ -162,12 +150,12 @@ module _ (w : ℕ) where
       let e = product-split x y (hx .0) in
       let f : Few 1 (suc (k + m)) (x % 2 * y) = few-more 1 (k + m) (x % 2 * y) (few-plus 1 m k (x % 2 * y) (few-bit 1 m x y hy)) in
       let g : Few (suc k) (suc (k + m)) (X * y * base) = few-up (suc k) (k + m) (X * y) (r .few) in
-      let p : 1 + suc k < base = rw (one-add (suc k)) l in
+      let s = sums 1 (suc k) (rw (one-add (suc k)) l) (suc (k + m)) (x % 2 * y) (X * y * base) f g in
       record {
-        few = rw (suc-add k m, e) (rw (one-add (suc k)) at (few-sum 1 (suc k) p (suc (k + m)) (x % 2 * y) (X * y * base) f g));
+        few = rw (suc-add k m, e) (rw (one-add (suc k)) at (s .0));
         bits =
             ap₂ (λ (v j : ℕ). bitAnd v (ones j)) e (suc-add k m)
-            ∙ pick-sum 1 (suc k) p (suc (k + m)) (x % 2 * y) (X * y * base) f g
+            ∙ s .1
             ∙ ap₂ _⊕_ (pick-whole (suc (k + m)) (x % 2 * y) f) (pick-up (k + m) (X * y) ∙ ap (λ (v : ℕ). v * base) (r .bits))
             ∙ sym (digits-product (span k) x y (hx .0));
       }

@@ -16,13 +16,8 @@ spill j k z =
 join : (k h m l : ℕ) → l < 2 ^ (k + k)
     → (h ⊕ m / 2 ^ k) * 2 ^ (k + k) + (l ⊕ m * 2 ^ k % 2 ^ (k + k)) ≡ h * 2 ^ k * 2 ^ k ⊕ m * 2 ^ k ⊕ l
 join k h m l hl =
-    rw (
-      ← xor-block (k + k) h (m / 2 ^ k) l (m * 2 ^ k % 2 ^ (k + k)) hl (mod-lt (m * 2 ^ k) (pow-pos (k + k))),
-      spill k k m,
-      ← xor-shifted h (k + k) l hl,
-      pow-add 2 k k,
-      mul-assoc h (2 ^ k) (2 ^ k),
-    ) (simp xor-sums)
+    rw (← xor-block (k + k) h (m / 2 ^ k) l (m * 2 ^ k % 2 ^ (k + k)) hl (mod-lt (m * 2 ^ k) (pow-pos (k + k))), spill k k m)
+    (rw (← xor-shifted h (k + k) l hl, pow-add 2 k k, mul-assoc h (2 ^ k) (2 ^ k)) (simp xor-sums))
 
 pub xor-whole : (a b c d : ℕ) → b < 2 ^ 64 → d < 2 ^ 64 → whole (a ⊕ c) (b ⊕ d) ≡ whole a b ⊕ whole c d
 xor-whole a b c d hb hd = sym (xor-block 64 a c b d hb hd)

@@ -1,42 +1,32 @@
 -- Numbers of 32 bits as four parts of every fourth bit each: the sixteen products of the parts, summed up by their places, are the product
 -- without carry (`by-quarters`); of a square four of them are enough (`squares`).
-use Rattle.block.proofs.Base.{_%_, _*_, _+_, _-_, _/_, _<_, _^_, _≤_, min, suc, zero, ℕ, _∙_, _≡_, ap, ap₂, refl, sym, List, add-zero}
-use Rattle.block.proofs.Base.{lt-of-le-of-lt, lt-trans, mod-eq-of-lt, mod-lt, mul-assoc, mul-le-mul, mul-mul-mul-comm, arith, bin-ind}
+use Rattle.block.proofs.Base.{_%_, _*_, _+_, _-_, _/_, _<_, _^_, _≤_, min, suc, zero, ℕ, _∙_, _≡_, ap, ap₂, refl, sym, ⊎-elim, List}
+use Rattle.block.proofs.Base.{add-zero}
+use Rattle.block.proofs.Base.{lt-of-le-of-lt, lt-trans, mod-eq-of-lt, mod-lt, mul-assoc, mul-le-mul, mul-mul-mul-comm, pow-suc, arith}
 use Rattle.block.proofs.Base.{and-block, and-comm, and-le-l, and-mask, and-shr, and-step, and-zero-r, bitAnd, differ, xor-lt, xor-shr}
-use Rattle.block.proofs.Base.{xor-step, lit<, getD, length, pow-add, pow-pos, shl-shr, split}
+use Rattle.block.proofs.Base.{xor-step, T, ltb, lit<, getD, length, pow-add, pow-pos, shl-shr, split}
 use Rattle.block.specs.declared.U128.{U128}
 use Rattle.block.specs.Xor.{_⊕_}
-use Rattle.block.proofs.Xor.{two-cases, bit-lt, xor-odd, xor-sums}
-use Rattle.lanes.proofs.Bits.{and-odd}
+use Rattle.block.proofs.Xor.{bit-lt, xor-odd, xor-sums}
+use Rattle.lanes.proofs.Bits.{bit-and, bit-ext, bit-small, bit-xor, three-bits, lt-or-le}
+use Rattle.lanes.specs.Bits.{bit}
+use Rattle.lanes.proofs.Filling.{one-more, each8}
 use Rattle.carryless.specs.Carryless.{clmul}
 use Rattle.carryless.specs.Lent.{parts128, words128, PartsOf, Quarters, Lends, Lends64}
 use Rattle.carryless.proofs.Laws.{clmul-xor, xor-clmul, clmul-up, up-clmul, square-xor}
 use Rattle.carryless.proofs.Holes.{ones, Few, few-pick, pick-more, pick-up, hole-product}
 
-min-differ : (x y z : ℕ) → x < 2 → y < 2 → z < 2 → min x (differ y z) ≡ differ (min x y) (min x z)
-min-differ x y z hx hy hz =
-    two-cases (λ a. min a (differ y z) ≡ differ (min a y) (min a z))
-    (two-cases (λ b. min 0 (differ b z) ≡ differ (min 0 b) (min 0 z)) (two-cases (λ c. min 0 c ≡ differ 0 (min 0 c)) refl refl z hz)
-    (two-cases (λ c. min 0 (differ 1 c) ≡ differ 0 (min 0 c)) refl refl z hz) y hy)
-    (two-cases (λ b. min 1 (differ b z) ≡ differ (min 1 b) (min 1 z)) (two-cases (λ c. min 1 c ≡ differ 0 (min 1 c)) refl refl z hz)
-    (two-cases (λ c. min 1 (differ 1 c) ≡ differ 1 (min 1 c)) refl refl z hz) y hy) x hx
+below-pow : (n : ℕ) → n < 2 ^ n
+below-pow zero = lit< tt
+below-pow (suc n) = let h = below-pow n in rw (pow-suc 2 n) (omega arith)
 
 -- `&` over exclusive or
 and-xor : (c a b : ℕ) → bitAnd c (a ⊕ b) ≡ bitAnd c a ⊕ bitAnd c b
-and-xor =
-    bin-ind (λ (n : ℕ). (a b : ℕ) → bitAnd n (a ⊕ b) ≡ bitAnd n a ⊕ bitAnd n b) (λ a b. refl)
-    (λ n ih a b.
-    rw (
-      and-step n (a ⊕ b),
-      xor-step (bitAnd n a) (bitAnd n b),
-      and-shr n a 1,
-      and-shr n b 1,
-      xor-shr a b 1,
-      and-odd n a,
-      and-odd n b,
-      xor-odd a b,
-      ih (a / 2) (b / 2),
-    ) (ap (λ (x : ℕ). (bitAnd (n / 2) (a / 2) ⊕ bitAnd (n / 2) (b / 2)) * 2 + x) (min-differ _ _ _ (bit-lt n) (bit-lt a) (bit-lt b))))
+and-xor c a b =
+    let s : (x : ℕ) → bitAnd c x < 2 ^ c = λ x. lt-of-le-of-lt (and-le-l c x) (below-pow c) in
+    bit-ext c (bitAnd c (a ⊕ b)) (bitAnd c a ⊕ bitAnd c b) (s (a ⊕ b)) (xor-lt c (bitAnd c a) (bitAnd c b) (s a) (s b))
+    (λ i g. simp (bit-and, bit-xor) (three-bits (λ x y z. min x (differ y z) ≡ differ (min x y) (min x z))
+    refl refl refl refl refl refl refl refl (bit i c) (bit i a) (bit i b) (bit-small i c) (bit-small i a) (bit-small i b)))
 
 xor-and : (c a b : ℕ) → bitAnd (a ⊕ b) c ≡ bitAnd a c ⊕ bitAnd b c
 xor-and c a b = and-comm (a ⊕ b) c ∙ and-xor c a b ∙ ap₂ _⊕_ (and-comm c a) (and-comm c b)
@@ -102,13 +92,15 @@ module _ (x y : ℕ) (hx : x < 2 ^ 32) (hy : y < 2 ^ 32) where
   part-lt : (i : ℕ) → bitAnd (x / 2 ^ i) (ones 3 8) * 2 ^ i < 2 ^ 32
   part-lt i = rw (and-shl i x (ones 3 8)) at (lt-of-le-of-lt (and-le-l x (some i)) hx)
 
-  meet : (i j : ℕ) → bitAnd (part x i * part y j) (all (i + j)) ≡ clmul 32 (part x i) (part y j)
-  meet i j =
-      rw (and-shl i x (ones 3 8), and-shl j y (ones 3 8)) (below _ _ i j (few-pick 3 8 (x / 2 ^ i)) (few-pick 3 8 (y / 2 ^ j)) (part-lt i))
-
-  meet-past : (i j k : ℕ) → i + j ≡ 4 + k → bitAnd (part x i * part y j) (all k) ≡ clmul 32 (part x i) (part y j)
-  meet-past i j k e =
-      rw (and-shl i x (ones 3 8), and-shl j y (ones 3 8)) (past _ _ i j (few-pick 3 8 (x / 2 ^ i)) (few-pick 3 8 (y / 2 ^ j)) (part-lt i) k e)
+  -- two parts meet where i + j says, or four places on
+  meet : (i j : ℕ) → T (ltb (i + j) 8) → bitAnd (part x i * part y j) (all ((i + j) % 4)) ≡ clmul 32 (part x i) (part y j)
+  meet i j t =
+      let h : i + j < 8 = lit< t in
+      let f = few-pick 3 8 in
+      rw (and-shl i x (ones 3 8), and-shl j y (ones 3 8))
+      (⊎-elim
+      (λ (g : i + j < 4). rw (mod-eq-of-lt g) (below _ _ i j (f (x / 2 ^ i)) (f (y / 2 ^ j)) (part-lt i)))
+      (λ (g : 4 ≤ i + j). past _ _ i j (f (x / 2 ^ i)) (f (y / 2 ^ j)) (part-lt i) ((i + j) % 4) (omega arith)) (lt-or-le (i + j) 4))
 
   -- products whose bits have the same places, summed up
   pub by-quarters : (p q r s : ℕ) → Quarters y p q r s → (z0 z1 z2 z3 : ℕ)
@@ -119,48 +111,23 @@ module _ (x y : ℕ) (hx : x < 2 ^ 32) (hy : y < 2 ^ 32) where
       → bitAnd z0 (all 0) ⊕ bitAnd z1 (all 1) ⊕ bitAnd z2 (all 2) ⊕ bitAnd z3 (all 3) ≡ clmul 32 x y
   by-quarters p q r s l z0 z1 z2 z3 e0 e1 e2 e3 =
       rw (e0, e1, e2, e3, l .first, l .second, l .third, l .fourth)
-      (simp (
-        xor-and,
-        meet 0 0,
-        meet-past 1 3 0 refl,
-        meet-past 2 2 0 refl,
-        meet-past 3 1 0 refl,
-        meet 0 1,
-        meet 1 0,
-        meet-past 2 3 1 refl,
-        meet-past 3 2 1 refl,
-        meet 0 2,
-        meet 1 1,
-        meet 2 0,
-        meet-past 3 3 2 refl,
-        meet 0 3,
-        meet 1 2,
-        meet 2 1,
-        meet 3 0,
-      ) (simp xor-sums (simp (xor-clmul, clmul-xor, xor-sums) at (ap₂ (clmul 32) (whole-of x hx) (whole-of y hy)))))
+      (simp (xor-and, meet 0 0 tt, meet 1 3 tt, meet 2 2 tt, meet 3 1 tt, meet 0 1 tt, meet 1 0 tt, meet 2 3 tt, meet 3 2 tt)
+      (simp (meet 0 2 tt, meet 1 1 tt, meet 2 0 tt, meet 3 3 tt, meet 0 3 tt, meet 1 2 tt, meet 2 1 tt, meet 3 0 tt, xor-sums)
+      (simp (xor-clmul, clmul-xor, xor-sums) at (ap₂ (clmul 32) (whole-of x hx) (whole-of y hy)))))
 
 -- parts that are lent: nine times four are the parts of a number of 128 bits
 module _ (y : U128) (m : List ℕ) (p : PartsOf y m) where
-  lends : (at v : ℕ) → at ≤ 32
-      → Quarters v (getD (parts128 y) at 0) (getD (parts128 y) (at + 1) 0) (getD (parts128 y) (at + 2) 0) (getD (parts128 y) (at + 3) 0)
-      → Lends v m at
-  lends at v h e = record { size = ap length (p .words); place = h; words = rw (p .words) e }
-
   four : (v : ℕ) → Quarters v (bitAnd v (some 0)) (bitAnd v (some 1)) (bitAnd v (some 2)) (bitAnd v (some 3))
   four v = record { first = refl; second = refl; third = refl; fourth = refl }
 
   -- word by word
   pub lends-word : (k : ℕ) → k < 9 → Lends (getD (words128 y) k 0) m (4 * k)
-  lends-word zero h = lends 0 _ (omega arith) (four _)
-  lends-word (suc zero) h = lends 4 _ (omega arith) (four _)
-  lends-word (suc (suc zero)) h = lends 8 _ (omega arith) (four _)
-  lends-word (suc (suc (suc zero))) h = lends 12 _ (omega arith) (four _)
-  lends-word (suc (suc (suc (suc zero)))) h = lends 16 _ (omega arith) (four _)
-  lends-word (suc (suc (suc (suc (suc zero))))) h = lends 20 _ (omega arith) (four _)
-  lends-word (suc (suc (suc (suc (suc (suc zero)))))) h = lends 24 _ (omega arith) (four _)
-  lends-word (suc (suc (suc (suc (suc (suc (suc zero))))))) h = lends 28 _ (omega arith) (four _)
-  lends-word (suc (suc (suc (suc (suc (suc (suc (suc zero)))))))) h = lends 32 _ (omega arith) (four _)
-  lends-word (suc (suc (suc (suc (suc (suc (suc (suc (suc k))))))))) h = absurd (omega arith)
+  lends-word k h =
+      let q = parts128 y in
+      let P : ℕ → Type 0 = λ k.
+      Quarters (getD (words128 y) k 0) (getD q (4 * k) 0) (getD q (4 * k + 1) 0) (getD q (4 * k + 2) 0) (getD q (4 * k + 3) 0) in
+      let e = one-more P 8 (four _) (each8 P (four _) (four _) (four _) (four _) (four _) (four _) (four _) (four _)) k h in
+      record { size = ap length (p .words); place = omega arith; words = rw (p .words) e }
 
   pub lends-high : Lends64 (y .high) m 0
   lends-high = record { high = lends-word 0 (lit< tt); low = lends-word 1 (lit< tt); both = lends-word 2 (lit< tt) }
@@ -179,10 +146,7 @@ squares x h =
     let ab = xor-lt 32 (part x 0) (part x 1) (l 0) (l 1) in
     let s : clmul 32 (part x 0 ⊕ part x 1 ⊕ part x 2 ⊕ part x 3) (part x 0 ⊕ part x 1 ⊕ part x 2 ⊕ part x 3)
     ≡ clmul 32 (part x 0) (part x 0) ⊕ clmul 32 (part x 1) (part x 1) ⊕ clmul 32 (part x 2) (part x 2) ⊕ clmul 32 (part x 3) (part x 3) =
-    rw (
-      square-xor 32 (part x 0 ⊕ part x 1 ⊕ part x 2) (part x 3) (xor-lt 32 _ _ ab (l 2)) (l 3),
-      square-xor 32 (part x 0 ⊕ part x 1) (part x 2) ab (l 2),
-      square-xor 32 (part x 0) (part x 1) (l 0) (l 1),
-    ) in
-    simp (xor-and, meet x x h h 0 0, meet-past x x h h 2 2 0 refl, meet x x h h 1 1, meet-past x x h h 3 3 2 refl)
+    rw (square-xor 32 (part x 0 ⊕ part x 1 ⊕ part x 2) (part x 3) (xor-lt 32 _ _ ab (l 2)) (l 3))
+    (rw (square-xor 32 (part x 0 ⊕ part x 1) (part x 2) ab (l 2), square-xor 32 (part x 0) (part x 1) (l 0) (l 1))) in
+    simp (xor-and, meet x x h h 0 0 tt, meet x x h h 2 2 tt, meet x x h h 1 1 tt, meet x x h h 3 3 tt)
     (simp xor-sums (simp xor-sums at (sym s ∙ ap (λ (v : ℕ). clmul 32 v v) (whole-of x h))))

@@ -1,20 +1,9 @@
 -- Decryption of many blocks at once: the state of a block is the ciphertext block before it, and the cipher under the round keys turned
 -- round is decryption.
-use Rattle.block.proofs.Base.{_*_, _+_, _-_, _<_, _≤_, ℕ, _∙_, _≡_, ap, refl, sym, List, _++_, reverse, arith, drop, length, length-append}
-use Rattle.block.proofs.Base.{take, drop-drop}
-use Rattle.block.specs.Blocks.{blockAt, cat}
-use Rattle.block.specs.Words.{words, unwords}
-use Rattle.block.specs.Xor.{xors}
-use Rattle.block.proofs.Cat.{cat-same, length-cat}
-use Rattle.block.proofs.Xors.{xors-comm}
-use Rattle.cipher.specs.Sm4.{encryptBlock, decryptBlock}
-use Rattle.cipher.proofs.Blocks.{decrypt-turned, length-encryptBlock}
-use Rattle.walk.specs.Walk.{stepped, over}
-use Rattle.walk.proofs.Batch.{FedBack, length-blockAt}
-use Rattle.sixteen.proofs.Before.{block-before}
-use Rattle.sixteen.proofs.Onward.{states-before}
-use Rattle.sixteen.proofs.Padded.{block-of, xored-blocks}
-use Rattle.cbc.specs.Cbc.{cbcDecrypt}
+use Rattle.cbc.proofs.Names.{FedBack, List, _*_, _++_, _+_, _-_, _<_, _∙_, _≡_, _≤_, ap, arith, block-before, block-of, blockAt, cat}
+use Rattle.cbc.proofs.Names.{cat-same, cbcDecrypt, decrypt-turned, decryptBlock, drop, drop-drop, encryptBlock, length}
+use Rattle.cbc.proofs.Names.{length-append, length-blockAt, length-cat, length-encryptBlock, over, refl, reverse, states-before}
+use Rattle.cbc.proofs.Names.{stepped, sym, take, unwords, words, xored-blocks, xors, xors-comm, ℕ}
 use Rattle.cbc.proofs.Blocks.{decrypt-block}
 
 turned-block : (back s : List ℕ) → encryptBlock back s ≡ decryptBlock (reverse back) s

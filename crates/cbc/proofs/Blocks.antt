@@ -1,19 +1,9 @@
 -- Cbc decryption of full blocks: its front is the decrypted front, and its last block takes the last two blocks alone.
-use Rattle.block.proofs.Base.{_%_, _*_, _+_, _-_, _/_, _<_, _≤_, suc, zero, ℕ, _∙_, _≡_, refl, sym, List, [], _++_, _∷_, append-nil, arith}
-use Rattle.block.proofs.Base.{drop, length, length-drop, take, take-append-drop, drop-append-add, drop-drop, length-take-le, take-all}
-use Rattle.block.proofs.Base.{take-at}
-use Rattle.block.specs.Below.{AreBytes}
-use Rattle.block.specs.Words.{words, unwords}
-use Rattle.block.specs.Xor.{xors}
-use Rattle.block.proofs.Entries.{below-take, below-drop}
-use Rattle.block.proofs.Xors.{length-xors}
-use Rattle.cipher.specs.Sm4.{decryptWords, decryptBlock}
-use Rattle.cipher.proofs.Blocks.{length-decryptBlock}
-use Rattle.walk.specs.Walk.{chain, endState}
-use Rattle.walk.proofs.Chain.{chain-rest, chain-block, chain-length}
-use Rattle.walk.proofs.Cut.{chain-cut}
-use Rattle.walk.proofs.Loop.{tailed, tail-is}
-use Rattle.cbc.specs.Cbc.{cbcDecrypt}
+use Rattle.cbc.proofs.Names.{AreBytes, List, [], _%_, _*_, _++_, _+_, _-_, _/_, _<_, _∙_, _∷_, _≡_, _≤_, append-nil, arith}
+use Rattle.cbc.proofs.Names.{below-drop, below-take, cbcDecrypt, chain, chain-block, chain-cut, chain-length, chain-rest}
+use Rattle.cbc.proofs.Names.{decryptBlock, decryptWords, drop, drop-append-add, drop-drop, endState, length, length-decryptBlock}
+use Rattle.cbc.proofs.Names.{length-drop, length-take-le, length-xors, refl, suc, sym, tail-is, tailed, take, take-all}
+use Rattle.cbc.proofs.Names.{take-append-drop, take-at, unwords, words, xors, zero, ℕ}
 use Rattle.cbc.proofs.InWords.{decrypted-front}
 
 -- what `chain-length` and `undo` are to be told: states of sixteen bytes, messages of full blocks

@@ -1,12 +1,7 @@
 -- Sealing goes on behind the full blocks: what they gave, and then, from the state that they end in, what the padded rest gives.
-use Rattle.block.proofs.Base.{_%_, _≤_, ℕ, _∙_, _≡_, ap, refl, sym, List, _++_, arith, drop, length, length-append, length-drop, take}
-use Rattle.block.proofs.Base.{take-append-drop, drop-at, length-take-le, take-append-le, take-at}
-use Rattle.walk.specs.Reached.{Reached}
-use Rattle.walk.specs.Walk.{chain, endState, over}
-use Rattle.walk.proofs.Cut.{end-cut, chain-cut}
-use Rattle.walk.proofs.Loop.{over-append}
-use Rattle.cbc.specs.Cbc.{padding, padded, cbcEncrypt}
-use Rattle.cbc.proofs.Padding.{length-padded}
+use Rattle.cbc.proofs.Names.{List, Reached, _%_, _++_, _∙_, _≡_, _≤_, ap, arith, cbcEncrypt, chain, chain-cut, drop, drop-at}
+use Rattle.cbc.proofs.Names.{end-cut, endState, length, length-append, length-drop, length-padded, length-take-le, over, over-append}
+use Rattle.cbc.proofs.Names.{padded, padding, refl, sym, take, take-append-drop, take-append-le, take-at, ℕ}
 use Rattle.cbc.proofs.RoundTrip.{length-encrypt}
 
 -- the full blocks of d gave the front of o, from the state s on

@@ -1,14 +1,7 @@
 -- A block of the message and a state in words, encrypted or decrypted, are their sixteen bytes encrypted or decrypted.
-use Rattle.block.proofs.Base.{_≤_, ℕ, _∙_, _≡_, ap, List, arith, length, take}
-use Rattle.block.specs.Below.{AreBytes, AreWords}
-use Rattle.block.specs.Words.{words, unwords}
-use Rattle.block.specs.Xor.{xors}
-use Rattle.block.proofs.Xors.{length-xors, xors-below}
-use Rattle.block.proofs.WordsBack.{length-words, words-below, unwords-front, unwords-xors}
-use Rattle.cipher.specs.Sm4.{encryptWords, decryptWords, encryptBlock, decryptBlock}
-use Rattle.cipher.proofs.Bounds.{decrypt-four}
-use Rattle.cipher.proofs.Blocks.{encrypt-unwords, decrypt-unwords}
-use Rattle.block.proofs.InWords.{front-xored}
+use Rattle.cbc.proofs.Names.{AreBytes, AreWords, List, _∙_, _≡_, _≤_, ap, arith, decrypt-four, decrypt-unwords, decryptBlock}
+use Rattle.cbc.proofs.Names.{decryptWords, encrypt-unwords, encryptBlock, encryptWords, front-xored, length, length-words}
+use Rattle.cbc.proofs.Names.{length-xors, take, unwords, unwords-front, unwords-xors, words, words-below, xors, xors-below, ℕ}
 
 module _ (rk d s : List ℕ) (full : 16 ≤ length d) (d-bytes : AreBytes d) (four : length s ≡ 4) where
   pub encrypted-front : AreWords s → unwords (encryptWords rk (xors (words d) s)) ≡ encryptBlock rk (xors (take 16 d) (unwords s))

@@ -1,8 +1,6 @@
+mod Names
 pub mod InWords
 pub mod Blocks
-pub mod Padding
-pub mod AllPadding
-pub mod Unpadded
 pub mod Opens
 pub mod RoundTrip
 pub mod SealsBack

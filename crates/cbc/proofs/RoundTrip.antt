@@ -1,20 +1,10 @@
 -- What Cbc seals, Cbc opens, for any round keys; and what sealing gives: full blocks.
-use Rattle.block.proofs.Base.{_%_, _*_, _+_, _-_, _/_, _≤_, ℕ, _∙_, _≡_, ap, refl, List, arith, length, take, take-append-seam}
-use Rattle.block.specs.Below.{AreBytes}
-use Rattle.block.specs.Xor.{xors}
-use Rattle.block.proofs.Entries.{below-append, below-replicate}
-use Rattle.block.proofs.Xors.{length-xors, xors-cancel, xors-below}
-use Rattle.cipher.proofs.Blocks.{length-encryptBlock, encryptBlock-bytes, block-decrypt-encrypt}
-use Rattle.walk.specs.Outcome.{Outcome, done, leaving, written, finished}
-use Rattle.walk.specs.Walk.{chain, over}
-use Rattle.walk.proofs.Chain.{Any, chain-length}
-use Rattle.walk.proofs.Undo.{Undoes, undo}
-use Rattle.cbc.specs.Cbc.{padding, padded, cbcEncrypt, cbcDecrypt, cbcSeal}
-use Rattle.cbc.specs.Open.{headOf, unpadded, cbcText, cbcOpen}
-use Rattle.cbc.specs.declared.Opened.{Opened}
+use Rattle.cbc.proofs.Names.{Any, AreBytes, Done, List, Undoes, _%_, _*_, _+_, _-_, _/_, _∙_, _≡_, _≤_, ap, arith, below-append}
+use Rattle.cbc.proofs.Names.{below-replicate, block-decrypt-encrypt, cbcDecrypt, cbcEncrypt, cbcSeal, cbcText, chain, chain-length}
+use Rattle.cbc.proofs.Names.{encryptBlock-bytes, into, length, length-encryptBlock, length-padded, length-xors, openedInto, over}
+use Rattle.cbc.proofs.Names.{padded, padded-unpadded, padding, refl, take, take-append-seam, undo, unpadded, xors, xors-below}
+use Rattle.cbc.proofs.Names.{xors-cancel, ℕ}
 use Rattle.cbc.proofs.Blocks.{Sixteen, Whole, Text, whole-front, whole-back, whole-short, whole-empty, text-front, text-back}
-use Rattle.cbc.proofs.Padding.{length-padded}
-use Rattle.cbc.proofs.Unpadded.{padded-unpadded}
 
 pub padded-bytes : (d : List ℕ) → AreBytes d → AreBytes (padded d)
 padded-bytes d h = below-append 256 d (padding (length d)) h (below-replicate 256 (16 - length d % 16) (16 - length d % 16) (omega arith))
@@ -64,10 +54,7 @@ module _ (rk iv d : List ℕ) (sixteen : length iv ≡ 16) (iv-bytes : AreBytes 
       (sixteen, iv-bytes) (padded-whole d, padded-bytes d d-bytes)
 
   -- the message comes back, and no byte past it is written
-  pub cbc-back : (o : List ℕ) → cbcOpen rk iv (cbcSeal rk iv d) o ≡ done d o
-  unfolding cbcOpen
+  pub cbc-back : (o : List ℕ) → let p = cbcText rk iv (cbcSeal rk iv d) in (unpadded p ≡ Done (length d)) × (openedInto p o ≡ over d o)
   cbc-back o =
-      let e : take (length d) (padded d) ≡ d = take-append-seam d (padding (length d)) in
-      ap {B = Outcome} (λ (p : List ℕ). written (headOf (unpadded p)) p o) cbc-decrypted
-      ∙ ap {B = Outcome} (λ (x : Opened). written (headOf x) (padded d) o) (padded-unpadded d)
-      ∙ ap {B = Outcome} (λ (p : List ℕ). leaving (finished (length d)) (over p o)) e
+      rw cbc-decrypted
+      (padded-unpadded d, into (padded d) o (Done (length d)) (padded-unpadded d) ∙ rw (take-append-seam d (padding (length d))))

@@ -1,16 +1,8 @@
 -- What Cbc opens, Cbc seals back to the same ciphertext, for any round keys.
-use Rattle.block.proofs.Base.{_%_, ℕ, _∙_, _≡_, ap, List, arith, length, take}
-use Rattle.block.specs.Below.{AreBytes}
-use Rattle.block.proofs.Xors.{xors-cancel}
-use Rattle.cipher.specs.Sm4.{decryptBlock}
-use Rattle.cipher.proofs.Blocks.{length-decryptBlock, block-encrypt-decrypt}
-use Rattle.walk.specs.Walk.{chain}
-use Rattle.walk.proofs.Undo.{Undoes, undo}
-use Rattle.cbc.specs.Cbc.{cbcEncrypt, cbcDecrypt, cbcSeal}
-use Rattle.cbc.specs.Open.{unpadded, cbcText}
-use Rattle.cbc.specs.declared.Opened.the-variants.{Done}
+use Rattle.cbc.proofs.Names.{AreBytes, Done, List, Undoes, _%_, _∙_, _≡_, ap, arith, block-encrypt-decrypt, cbcDecrypt, cbcEncrypt}
+use Rattle.cbc.proofs.Names.{cbcSeal, cbcText, chain, decryptBlock, length, length-decryptBlock, take, undo, unpadded}
+use Rattle.cbc.proofs.Names.{unpadded-padded, xors-cancel, ℕ}
 use Rattle.cbc.proofs.Blocks.{Sixteen, Text, whole-short, whole-empty, text-front, text-back, decrypt-block, length-decrypt}
-use Rattle.cbc.proofs.Unpadded.{unpadded-padded}
 
 block-back : (rk s c : List ℕ) → Sixteen s → Text c → length c ≡ 16 → cbcEncrypt rk .block s (cbcDecrypt rk .block s c) ≡ c
 block-back rk s c hs hc n =

@@ -1,17 +1,10 @@
 -- Cbc of SP 800-38A, and sealing with the padding of RFC 5652, section 6.3.
-use Prim.Native.Nat.{ℕ, _-_, _%_}
-use mathlib.Core.List.{List, [], _++_}
-use lib.ListN.{length, replicate}
+use Prim.Native.Nat.{ℕ}
+use mathlib.Core.List.{List, []}
 use Rattle.block.specs.Xor.{xors}
 use Rattle.cipher.specs.Sm4.{encryptBlock, decryptBlock}
 use Rattle.walk.specs.Walk.{Mode, chain}
-
--- the padding of a message of n bytes: always there, 1 to 16 bytes, each holding their count
-abbrev pub padding : ℕ → List ℕ
-padding n = replicate (16 - n % 16) (16 - n % 16)
-
-abbrev pub padded : List ℕ → List ℕ
-padded d = d ++ padding (length d)
+use Rattle.padding.specs.Padding.{padded}
 
 -- the state is the ciphertext block before, first the IV; a padded message has no rest
 abbrev pub cbcEncrypt : List ℕ → Mode
@@ -23,3 +16,7 @@ cbcDecrypt rk = record { block = λ s c. xors (decryptBlock rk c) s; next = λ s
 -- the message d, padded and encrypted
 unfoldable pub cbcSeal : List ℕ → List ℕ → List ℕ → List ℕ
 cbcSeal rk iv d = chain (cbcEncrypt rk) iv (padded d)
+
+-- the ciphertext d with its padding, decrypted
+abbrev pub cbcText : List ℕ → List ℕ → List ℕ → List ℕ
+cbcText rk iv d = chain (cbcDecrypt rk) iv d

@@ -2,31 +2,17 @@
 ghost use mathlib.Core.Path.{_≡_};
 ghost use mathlib.Core.List.{_++_, reverse};
 ghost use Prim.Native.Nat.{_+_, _-_, _*_, _/_, _%_, _<_, _≤_};
-ghost use lib.ListN.{length, take, drop, replicate};
+ghost use lib.ListN.{length, take, drop};
 ghost use Rattle.block.specs.Blocks.{blockAt, cat};
-ghost use Rattle.block.specs.Same.{same};
 ghost use Rattle.block.specs.Words.{unwords};
 ghost use Rattle.cipher.specs.Engine.{Engine};
-ghost use Rattle.walk.specs.Outcome.{leaving};
 ghost use Rattle.walk.specs.Reached.{Reached};
-ghost use Rattle.walk.specs.Walk.{chain, stepped, endState, over};
-ghost use Rattle.cbc.specs.Cbc.{padded, cbcEncrypt, cbcDecrypt, cbcSeal};
-ghost use Rattle.cbc.specs.Open.{headOf, unpadded, cbcOpen};
+ghost use Rattle.block.specs.Over.{over};
+ghost use Rattle.walk.specs.Walk.{chain, stepped, endState};
+ghost use Rattle.padding.specs.Padding.{unpadded, openedInto};
+ghost use Rattle.cbc.specs.Cbc.{cbcEncrypt, cbcDecrypt, cbcSeal, cbcText};
+use padding::Opened;
 use sliced::LEAST;
-
-// A rest shorter than a block, with its padding.
-fn pad(rest: &[u8]) -> [u8; 16]
-    requires { ⌜ length (now rest) < 16 ⌝ }
-    ensures { λ r. ⌜ r ≡ padded (now (rest .entry)) ⌝ }
-{
-    let mut last = [(16 - rest.len()) as u8; 16];
-    let mut i: usize = 0;
-    while i < rest.len() {
-        last[i] = rest[i];
-        i += 1;
-    }
-    last
-}
 
 // The block at the front of `data`, encrypted to the front of `out`. Returns the next state, the ciphertext block.
 fn encrypt_step(t: &[u32], rk: [u32; 32], s: [u32; 4], data: &[u8], out: &mut [u8]) -> [u32; 4]
@@ -72,47 +58,8 @@ pub fn encrypt(t: &[u32], rk: [u32; 32], iv: [u32; 4], data: &[u8], out: &mut [u
 {
     let at = data.len() - data.len() % 16;
     let s = encrypt_blocks(t, rk, iv, &data[0..at], out);
-    let last = pad(&data[at..]);
+    let last = padding::pad(&data[at..]);
     encrypt_step(t, rk, s, &last, &mut out[at..]);
-}
-
-// What opening answers: the length of the message, that the last byte names no padding, or that another byte of the padding
-// that it names differs from it.
-pub enum Opened {
-    Done(usize),
-    InvalidLastU8,
-    InvalidPadding,
-}
-
-// Whether the last `n` bytes of a block all hold `n`. All sixteen bytes are read, and no branch is taken on what they hold.
-fn all_padding(last: [u8; 16], n: usize) -> bool
-    requires { ⌜ n ≤ 16 ⌝ }
-    ensures { λ r. ⌜ r ≡ same (drop (16 - n) last) (replicate n n) ⌝ }
-{
-    let mut differ: usize = 0;
-    for i in 0..16 {
-        // 1 at a byte of the padding, 0 before it
-        let counts = (i + n) / 16;
-        differ += counts * (last[i] as usize ^ n);
-    }
-    differ == 0
-}
-
-// The decision over the padding: how much of the last decrypted block belongs to the message.
-fn unpad(last: [u8; 16]) -> Opened
-    ensures { λ r. ⌜ r ≡ unpadded last ⌝ }
-{
-    let b = last[15];
-    match b {
-        1..=16 => {
-            let n = b as usize;
-            if !all_padding(last, n) {
-                return Opened::InvalidPadding;
-            }
-            Opened::Done(16 - n)
-        }
-        _ => Opened::InvalidLastU8,
-    }
 }
 
 // The block at the front of `data`, decrypted to the front of `out` by the round keys turned round. Returns the next state,
@@ -281,11 +228,12 @@ pub fn decrypt(t: &[u32], rk: [u32; 32], iv: [u32; 4], data: &[u8], out: &mut [u
     requires { ⌜ 16 ≤ length (now «data») ⌝ }
     requires { ⌜ length (now «data») % 16 ≡ 0 ⌝ }
     requires { ⌜ length (now «data») ≤ length (now out) ⌝ }
-    ensures { λ r. ⌜ leaving (headOf r) (now (out .exit)) ≡ cbcOpen rk (unwords iv) (now («data» .entry)) (now (out .entry)) ⌝ }
+    ensures { λ r. ⌜ r ≡ unpadded (cbcText rk (unwords iv) (now («data» .entry))) ⌝ }
+    ensures { λ _. ⌜ now (out .exit) ≡ openedInto (cbcText rk (unwords iv) (now («data» .entry))) (now (out .entry)) ⌝ }
 {
     let back = cipher::reversed(rk);
     let last = last_block(t, back, iv, data);
-    let opened = unpad(last);
+    let opened = padding::unpad(last);
     let Opened::Done(keep) = opened else {
         return opened;
     };

@@ -1,23 +1,16 @@
 -- The engine that is lent: its length tells which it is. The plain one is the S-box, whose bytes are laid out as words one by
 -- one.
-use Rattle.block.proofs.Base.{_+_, _<_, suc, zero, ℕ, _∙_, _≡_, ap, refl, subst, sym, inl, inr, Bool, cond, false, true, List, [], add-one}
-use Rattle.block.proofs.Base.{arith, eq-eqb, ne-eqb, eqb, getD, length, set, take, take-all, take-suc-set}
-use lib.Seq.{take-suc}
-use Rattle.cipher.specs.Sm4.{sboxTable}
-use Rattle.cipher.specs.Engine.{mixedFrom, mixedTable, Engine, tableOf, LaidOut}
+use Rattle.cipher.proofs.Names.{Bool, Engine, LaidOut, List, [], _+_, _<_, _∙_, _≡_, add-one, ap, arith, cond, eq-eqb, eqb, false}
+use Rattle.cipher.proofs.Names.{getD, inl, inr, length, mixedFrom, mixedTable, ne-eqb, refl, sboxTable, set, sym, tableOf, take}
+use Rattle.cipher.proofs.Names.{take-all, take-suc, take-suc-set, true, ℕ}
 
-length-sbox : length sboxTable ≡ 256
+pub length-sbox : length sboxTable ≡ 256
 unfolding sboxTable
 length-sbox = refl
 
-length-from : (n k : ℕ) → length (mixedFrom n k) ≡ n
-unfolding mixedFrom
-length-from zero k = refl
-length-from (suc n) k = ap suc (length-from n (suc k))
-
-length-mixed : length mixedTable ≡ 1024
-unfolding mixedTable
-length-mixed = length-from 1024 0
+pub length-mixed : length mixedTable ≡ 1024
+unfolding mixedTable mixedFrom
+length-mixed = refl
 
 pub plain-length : (t : List ℕ) → t ≡ sboxTable → length t ≡ 256
 plain-length t e = ap length e ∙ length-sbox
@@ -49,39 +42,21 @@ pub laid-front : (t w : List ℕ) (i : ℕ) → t ≡ sboxTable → i ≡ 256 �
 laid-front t w i s n e = let m = plain-length t s in ap (λ (k : ℕ). take k w) (sym n) ∙ e ∙ take-all i t (omega arith) ∙ s
 
 -- the table of each engine
-table-four : (e : ℕ) → e ≡ 1 → tableOf e ≡ mixedTable
+pub table-four : (e : ℕ) → e ≡ 1 → tableOf e ≡ mixedTable
 unfolding tableOf
 table-four e h = rw (eq-eqb e 1 h)
 
-table-none : (e : ℕ) → (e ≡ 1 → ⊥) → e ≡ 2 → tableOf e ≡ []
+pub table-none : (e : ℕ) → (e ≡ 1 → ⊥) → e ≡ 2 → tableOf e ≡ []
 unfolding tableOf
 table-none e n h = rw (ne-eqb e 1 n, eq-eqb e 2 h)
 
-table-plain : (e : ℕ) → (e ≡ 1 → ⊥) → (e ≡ 2 → ⊥) → tableOf e ≡ sboxTable
+pub table-plain : (e : ℕ) → (e ≡ 1 → ⊥) → (e ≡ 2 → ⊥) → tableOf e ≡ sboxTable
 unfolding tableOf
 table-plain e n m = rw (ne-eqb e 1 n, ne-eqb e 2 m)
 
--- laid out
-pub laid-four : (e : ℕ) (t : List ℕ) → e ≡ 1 → t ≡ mixedTable → LaidOut e t
-laid-four e t h s =
-    let n = mixed-length t s in
-    record { size = n; front = rw (table-four e h) (ap (λ (k : ℕ). take k t) length-mixed ∙ take-all 1024 t (omega arith) ∙ s) }
-
-pub laid-none : (e : ℕ) (t : List ℕ) → (e ≡ 1 → ⊥) → e ≡ 2 → length t ≡ 1024 → LaidOut e t
-laid-none e t n h s = record { size = s; front = rw (table-none e n h) refl }
-
-pub laid-plain : (e : ℕ) (t : List ℕ) → (e ≡ 1 → ⊥) → (e ≡ 2 → ⊥) → length t ≡ 1024 → take 256 t ≡ sboxTable → LaidOut e t
-laid-plain e t n m s f = record { size = s; front = rw (table-plain e n m) (ap (λ (k : ℕ). take k t) length-sbox ∙ f) }
-
--- and lent
-pub lent-four : (e : ℕ) (t : List ℕ) → e ≡ 1 → LaidOut e t → take 1024 t ≡ tableOf e
-lent-four e t h l = ap (λ (k : ℕ). take k t) (sym (ap length (table-four e h) ∙ length-mixed)) ∙ l .front
-
-pub lent-none : (e : ℕ) → (e ≡ 1 → ⊥) → e ≡ 2 → [] ≡ tableOf e
-lent-none e n h = sym (table-none e n h)
-
-pub lent-plain : (e : ℕ) (t : List ℕ) → (e ≡ 1 → ⊥) → (e ≡ 2 → ⊥) → LaidOut e t → take 256 t ≡ tableOf e
-lent-plain e t n m l = ap (λ (k : ℕ). take k t) (sym (ap length (table-plain e n m) ∙ length-sbox)) ∙ l .front
+-- so it is laid out where it stands at the front
+pub laid : (e : ℕ) (t u : List ℕ) → tableOf e ≡ u → length t ≡ 1024 → take (length u) t ≡ u → LaidOut e t
+laid e t u h s f = record { size = s; front = rw h f }
 
 engine-by : (a b : Bool) → Engine (cond a mixedTable (cond b [] sboxTable))
 unfolding Engine
@@ -93,5 +68,6 @@ table-lent : (e : ℕ) → Engine (tableOf e)
 unfolding tableOf
 table-lent e = engine-by (eqb e 1) (eqb e 2)
 
-pub lends : (e : ℕ) (t : List ℕ) → t ≡ tableOf e → Engine t × (t ≡ tableOf e)
-lends e t h = (subst Engine (sym h) (table-lent e), h)
+-- and as many words as it has are lent
+pub lends : (e n : ℕ) (t : List ℕ) → LaidOut e t → length (tableOf e) ≡ n → Engine (take n t) × (take n t ≡ tableOf e)
+lends e n t l h = let f = rw h at (l .front) in (rw f (table-lent e), f)

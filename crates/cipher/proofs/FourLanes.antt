@@ -1,12 +1,8 @@
 -- The four bytes of a word in lanes 0, 8, 16 and 24 of eight words: how they are laid there, and how they are read off.
-use Rattle.block.proofs.Base.{_%_, _*_, _+_, _/_, _<_, _^_, suc, zero, ℕ, _∙_, _≡_, ap, refl, sym, List, [], _∷_, add-comm, div-one}
-use Rattle.block.proofs.Base.{mod-eq-of-lt, mod-lt, arith, and-block, and-le-r, and-mask, and-zero-r, bitAnd, lit<, getD, pow-pos, shr-shr}
-use Rattle.block.proofs.Base.{split}
-use Rattle.lanes.specs.Bits.{bit, pack, byteLane}
-use Rattle.lanes.proofs.Bits.{bit-small, bit-mod, bit-shr, pack-lt, pack-is}
-use Rattle.circuit.specs.Sbox.{SboxLanes}
-use Rattle.cipher.specs.Sm4.{Sbox, tau}
-use Rattle.cipher.specs.Gates.{fourLanes, fourBytes}
+use Rattle.cipher.proofs.Names.{List, Sbox, SboxLanes, [], _%_, _*_, _+_, _/_, _<_, _^_, _∙_, _∷_, _≡_, add-comm, and-block}
+use Rattle.cipher.proofs.Names.{and-mask, and-zero-r, ap, arith, bit, bit-mod, bit-shr, bit-small, bitAnd, byteLane, div-one}
+use Rattle.cipher.proofs.Names.{fourBytes, fourLanes, getD, lit<, mod-eq-of-lt, mod-lt, pack, pack-is, pack-lt, pow-pos, refl}
+use Rattle.cipher.proofs.Names.{shr-shr, split, suc, sym, tau, zero, ℕ}
 use Rattle.cipher.proofs.FourTables.{tau-bytes}
 
 -- a mask whose lowest byte is 1
@@ -22,15 +18,8 @@ mask-more x m k = mask-byte (x / 2 ^ k) m ∙ ap (λ (y : ℕ). bitAnd y m * 2 ^
 
 pub masked-lanes : (x : ℕ) → bitAnd x 0x01010101 ≡ fourLanes x
 masked-lanes x =
-    let e0 = mask-more x 0x010101 0 in
-    let e1 = mask-more x 0x0101 8 in
-    let e2 = mask-more x 1 16 in
-    let e3 = mask-more x 0 24 in
-    let e4 = and-zero-r (x / 2 ^ 32) in
-    ap (λ (y : ℕ). bitAnd y 0x01010101) (sym (div-one x)) ∙ omega arith
-
-pub masked-lt : (x : ℕ) → bitAnd x 0x01010101 < 2 ^ 25
-masked-lt x = omega (arith, and-le-r x 0x01010101)
+    ap (λ (y : ℕ). bitAnd y 0x01010101) (sym (div-one x))
+    ∙ omega (arith, mask-more x 0x010101 0, mask-more x 0x0101 8, mask-more x 1 16, mask-more x 0 24, and-zero-r (x / 2 ^ 32))
 
 lane-lt : (o : List ℕ) (n : ℕ) → byteLane o n < 2 ^ 8
 unfolding byteLane
@@ -47,11 +36,7 @@ joined o = omega arith
 
 pub lanes-joined : (o : List ℕ) → doubled (λ i. fourLanes (getD o i 0)) % 2 ^ 32 ≡ fourBytes o
 lanes-joined o =
-    let h0 = lane-lt o 0 in
-    let h1 = lane-lt o 8 in
-    let h2 = lane-lt o 16 in
-    let h3 = lane-lt o 24 in
-    ap (λ (x : ℕ). x % 2 ^ 32) (joined o) ∙ mod-eq-of-lt (omega arith)
+    ap (λ (x : ℕ). x % 2 ^ 32) (joined o) ∙ mod-eq-of-lt (omega (arith, lane-lt o 0, lane-lt o 8, lane-lt o 16, lane-lt o 24))
 
 -- a word shifted by 0 to 7
 abbrev pub shifted : ℕ → List ℕ

@@ -1,27 +1,18 @@
 -- T of a word is one entry of each of the four tables, xored: tau's four bytes stand at places of their own, so their sum is their
 -- xor, and L distributes over it.
-use Rattle.block.proofs.Base.{_%_, _*_, _+_, _-_, _/_, _<_, _^_, suc, zero, ℕ, _∙_, _≡_, ap, ap₂, sym, add-suc, add-zero, suc-add, zero-add}
-use Rattle.block.proofs.Base.{arith, bitXor, xor-shifted, getD, split}
-use Rattle.block.specs.BigEndian.{numberOf, bytesOf}
-use Rattle.block.specs.Xor.{_⊕_}
-use Rattle.cipher.specs.Sm4.{Sbox, tau, L, T}
-use Rattle.cipher.specs.Engine.{mixed, mixedFrom, mixedTable}
-use Rattle.cipher.proofs.Tables.{sbox-byte}
+use Rattle.cipher.proofs.Names.{L, Sbox, T, _%_, _*_, _+_, _-_, _/_, _<_, _^_, _∙_, _≡_, _⊕_, add-zero, ap, ap₂, arith, bitXor}
+use Rattle.cipher.proofs.Names.{bytesOf, getD, mixed, mixedFrom, mixedTable, numberOf, refl, split, sym, tau, xor-shifted, zero-add}
+use Rattle.cipher.proofs.Names.{ℕ}
+use Rattle.cipher.proofs.Tables.{sbox-byte, from-at}
 use Rattle.cipher.proofs.Linear.{L-xor}
-
-mixed-from : (n i k : ℕ) → k < n → getD (mixedFrom n i) k 0 ≡ mixed (i + k)
-unfolding mixedFrom
-mixed-from zero i k h = absurd (omega arith)
-mixed-from (suc n) i zero h = ap mixed (sym (add-zero i))
-mixed-from (suc n) i (suc k) h = mixed-from n (suc i) k (omega arith) ∙ ap mixed (suc-add i k ∙ sym (add-suc i k))
 
 -- entry b of table j
 mixed-at : (j b k : ℕ) → b < 256 → j < 4 → k ≡ 256 * j + b → getD mixedTable k 0 ≡ L (Sbox b * 256 ^ (3 - j))
-unfolding mixedTable
+unfolding mixedTable mixedFrom
 mixed-at j b k h g e =
     let d : k / 256 ≡ j = omega arith in
     let m : k % 256 ≡ b = omega arith in
-    mixed-from 1024 0 k (omega arith) ∙ ap mixed (zero-add k) ∙ ap₂ (λ (x y : ℕ). L (Sbox x * 256 ^ (3 - y))) m d
+    from-at mixed mixedFrom (λ n i. refl) 1024 0 k (omega arith) ∙ ap mixed (zero-add k) ∙ ap₂ (λ (x y : ℕ). L (Sbox x * 256 ^ (3 - y))) m d
 
 -- a multiple of 2 ^ k, and what is below 2 ^ k, have no bit in common
 xor-sum : (k a b : ℕ) → a % 2 ^ k ≡ 0 → b < 2 ^ k → a ⊕ b ≡ a + b
@@ -58,9 +49,6 @@ mixed-T w h =
     let b1 : w / 2 ^ 16 % 256 < 256 = omega arith in
     let b2 : w / 2 ^ 8 % 256 < 256 = omega arith in
     let b3 : w % 256 < 256 = omega arith in
-    let e0 = mixed-at 0 (w / 2 ^ 24) (w / 2 ^ 24) b0 (omega arith) (omega arith) in
-    let e1 = mixed-at 1 (w / 2 ^ 16 % 256) (256 + w / 2 ^ 16 % 256) b1 (omega arith) (omega arith) in
-    let e2 = mixed-at 2 (w / 2 ^ 8 % 256) (512 + w / 2 ^ 8 % 256) b2 (omega arith) (omega arith) in
-    let e3 = mixed-at 3 (w % 256) (768 + w % 256) b3 (omega arith) (omega arith) in
-    ap₂ bitXor (ap₂ bitXor (ap₂ bitXor e0 e1) e2) (e3 ∙ ap L (omega arith))
+    ap₂ bitXor (ap₂ bitXor (ap₂ bitXor (mixed-at 0 _ _ b0 (omega arith) (omega arith)) (mixed-at 1 _ _ b1 (omega arith) (omega arith)))
+    (mixed-at 2 _ _ b2 (omega arith) (omega arith))) (mixed-at 3 _ _ b3 (omega arith) (omega arith) ∙ ap L (omega arith))
     ∙ sym (L-bytes _ _ _ _ (sbox-byte _ b0) (sbox-byte _ b1) (sbox-byte _ b2) (sbox-byte _ b3)) ∙ ap L (sym (tau-bytes w h))

@@ -1,9 +1,6 @@
 -- L distributes over xor: each of its rotations does, since a rotation is two digits that change places.
-use Rattle.block.proofs.Base.{_%_, _*_, _+_, _-_, _/_, _<_, _^_, ℕ, _∙_, _≡_, ap, ap₂, refl, sym, arith, bitXor, xor-block, xor-mod}
-use Rattle.block.proofs.Base.{xor-shr, shr-lt}
-use Rattle.block.specs.Xor.{_⊕_}
-use Rattle.block.proofs.Xor.{xor-swap}
-use Rattle.cipher.specs.Sm4.{rotl, L}
+use Rattle.cipher.proofs.Names.{L, _%_, _*_, _+_, _-_, _/_, _<_, _^_, _∙_, _≡_, _⊕_, ap, ap₂, arith, bitXor, refl, rotl, shr-lt, sym}
+use Rattle.cipher.proofs.Names.{xor-block, xor-mod, xor-shr, xor-swap, ℕ}
 use Rattle.cipher.proofs.Rotation.{shl-mod}
 
 -- what stands below bit 32 - n goes up by n, the rest comes down
@@ -23,20 +20,14 @@ module _ (a b : ℕ) (ha : a < 2 ^ 32) (hb : b < 2 ^ 32) where
       ∙ sym (xor-block n (a % 2 ^ j) (b % 2 ^ j) (a / 2 ^ j) (b / 2 ^ j) (shr-lt n j la) (shr-lt n j lb))
       ∙ ap₂ bitXor (sym (rotl-digits j n a h)) (sym (rotl-digits j n b h))
 
-  -- one rotation more
-  more : (s p q j n : ℕ) → j + n ≡ 32 → s ≡ p ⊕ q → s ⊕ rotl (a ⊕ b) n ≡ p ⊕ rotl a n ⊕ (q ⊕ rotl b n)
-  more s p q j n h e = ap₂ bitXor e (rotl-xor j n h) ∙ xor-swap p q (rotl a n) (rotl b n)
+  -- one rotation more of a map that distributes
+  more : (f : ℕ → ℕ) (j n : ℕ) → j + n ≡ 32 → f (a ⊕ b) ≡ f a ⊕ f b → f (a ⊕ b) ⊕ rotl (a ⊕ b) n ≡ f a ⊕ rotl a n ⊕ (f b ⊕ rotl b n)
+  more f j n h e = ap₂ bitXor e (rotl-xor j n h) ∙ xor-swap (f a) (f b) (rotl a n) (rotl b n)
 
   pub L-xor : L (a ⊕ b) ≡ L a ⊕ L b
   unfolding L
   L-xor =
-      let x1 = a ⊕ b ⊕ rotl (a ⊕ b) 2 in
-      let x2 = x1 ⊕ rotl (a ⊕ b) 10 in
-      let x3 = x2 ⊕ rotl (a ⊕ b) 18 in
-      let a1 = a ⊕ rotl a 2 in
-      let b1 = b ⊕ rotl b 2 in
-      let a2 = a1 ⊕ rotl a 10 in
-      let b2 = b1 ⊕ rotl b 10 in
-      let a3 = a2 ⊕ rotl a 18 in
-      let b3 = b2 ⊕ rotl b 18 in
-      more x3 a3 b3 8 24 refl (more x2 a2 b2 14 18 refl (more x1 a1 b1 22 10 refl (more (a ⊕ b) a b 30 2 refl refl)))
+      let one : ℕ → ℕ = λ x. x ⊕ rotl x 2 in
+      let two : ℕ → ℕ = λ x. one x ⊕ rotl x 10 in
+      let three : ℕ → ℕ = λ x. two x ⊕ rotl x 18 in
+      more three 8 24 refl (more two 14 18 refl (more one 22 10 refl (more (λ x. x) 30 2 refl refl)))

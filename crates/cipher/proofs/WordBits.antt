@@ -1,11 +1,7 @@
 -- The bits of a rotated word, of L and of tau.
-use Rattle.block.proofs.Base.{_%_, _*_, _+_, _-_, _/_, _<_, _^_, _≤_, suc, zero, ℕ, _∙_, _≡_, ap, sym, ⊎-elim, List, add-comm, arith}
-use Rattle.block.proofs.Base.{differ, getD, shr-lt}
-use Rattle.block.specs.Xor.{_⊕_}
-use Rattle.block.specs.BigEndian.{bytesOf}
-use Rattle.lanes.specs.Bits.{bit}
-use Rattle.lanes.proofs.Bits.{bit-xor, bit-low, bit-high, bit-mod, bit-shr, lt-or-le}
-use Rattle.cipher.specs.Sm4.{Sbox, tau, rotl, L}
+use Rattle.cipher.proofs.Names.{L, List, Sbox, _%_, _*_, _+_, _-_, _/_, _<_, _^_, _∙_, _≡_, _≤_, _⊕_, add-comm, ap, arith, bit}
+use Rattle.cipher.proofs.Names.{bit-high, bit-low, bit-mod, bit-shr, bit-xor, bytesOf, differ, getD, lt-or-le, rotl, shr-lt, suc}
+use Rattle.cipher.proofs.Names.{sym, tau, zero, ℕ, ⊎-elim}
 use Rattle.cipher.proofs.Linear.{rotl-digits}
 use Rattle.cipher.proofs.Bounds.{tau-entries}
 
@@ -22,25 +18,17 @@ rotl-bit-at w m n i e hw hi =
     ap (λ (x : ℕ). bit x (w % 2 ^ m * 2 ^ n + w / 2 ^ m)) q ∙ bit-high n (i - n) (w % 2 ^ m) (w / 2 ^ m) l
     ∙ bit-mod m (i - n) w (omega arith) ∙ ap (λ (x : ℕ). bit x w) r) (lt-or-le i n)
 
-rotl-bit : (w n i : ℕ) → n ≤ 32 → w < 2 ^ 32 → i < 32 → bit i (rotl w n) ≡ bit ((i + (32 - n)) % 32) w
-rotl-bit w n i h hw hi = rotl-bit-at w (32 - n) n i (omega arith) hw hi
-
 -- a bit of L from five bits, as they stand
 pub L-bit : (w i : ℕ) → w < 2 ^ 32 → i < 32
     → differ (differ (differ (differ (bit i w) (bit ((i + 30) % 32) w)) (bit ((i + 22) % 32) w)) (bit ((i + 14) % 32) w))
     (bit ((i + 8) % 32) w) ≡ bit i (L w)
 unfolding L
 L-bit w i hw hi =
-    let r : (n : ℕ) → n ≤ 32 → bit i (rotl w n) ≡ bit ((i + (32 - n)) % 32) w = λ n g. rotl-bit w n i g hw hi in
-    sym (bit-xor i (w ⊕ rotl w 2 ⊕ rotl w 10 ⊕ rotl w 18) (rotl w 24) ∙ rw (
-      bit-xor i (w ⊕ rotl w 2 ⊕ rotl w 10) (rotl w 18),
-      bit-xor i (w ⊕ rotl w 2) (rotl w 10),
-      bit-xor i w (rotl w 2),
-      r 2 (omega arith),
-      r 10 (omega arith),
-      r 18 (omega arith),
-      r 24 (omega arith),
-    ))
+    let r : (n : ℕ) → n ≤ 32 → bit i (rotl w n) ≡ bit ((i + (32 - n)) % 32) w =
+    λ n g. rotl-bit-at w (32 - n) n i (omega arith) hw hi in
+    sym (bit-xor i (w ⊕ rotl w 2 ⊕ rotl w 10 ⊕ rotl w 18) (rotl w 24)
+    ∙ rw (bit-xor i (w ⊕ rotl w 2 ⊕ rotl w 10) (rotl w 18), bit-xor i (w ⊕ rotl w 2) (rotl w 10), bit-xor i w (rotl w 2))
+    (rw (r 2 (omega arith), r 10 (omega arith), r 18 (omega arith), r 24 (omega arith))))
 
 -- each byte of tau is the S-box's
 pub tau-byte : (b w : ℕ) → b < 4 → tau w / 2 ^ (8 * b) % 256 ≡ Sbox (w / 2 ^ (8 * b) % 256)

@@ -26,8 +26,8 @@ mixedTable = mixedFrom 1024 0
 unfoldable pub Engine : List ℕ → Type 0
 Engine t = (t ≡ sboxTable) ⊎ ((t ≡ mixedTable) ⊎ (t ≡ []))
 
--- the engine of a mark: 1 the four tables, 2 the gates, 3 the plain engine. Under any other the library chooses: the gates, or the four tables
--- where each block waits for the one before it.
+-- the engine of a mark: 1 the four tables, 2 the gates, 3 the plain engine. Under any other the library chooses: the gates, or the four
+-- tables where each block waits for the one before it.
 unfoldable pub chosen : ℕ → Bool → ℕ
 chosen mark waits = cond (eqb mark 1) 1 (cond (eqb mark 2) 2 (cond (eqb mark 3) 3 (cond waits 1 2)))
 

@@ -4,23 +4,18 @@ use Rattle.block.specs.Words.{words, unwords}
 use Rattle.block.proofs.Entries.{below-each}
 use Rattle.block.proofs.WordsBack.{length-unwords, unwords-words}
 use Rattle.cipher.specs.Sm4.{encryptWords, decryptWords, encryptBlock, decryptBlock}
-use Rattle.walk.specs.Outcome.{Head, Outcome, finished, under, telling, leaving, keyed, reporting, done}
-use Rattle.walk.specs.Walk.{over}
-use Rattle.cipher_mode.specs.declared.answer.Refusal.{Refusal}
-use Rattle.cipher_mode.specs.declared.answer.Answer.{Answer}
+use Rattle.cipher_mode.specs.Outcome.{Head, Outcome, finished, telling, leaving, reporting, done}
+use Rattle.block.specs.Over.{over}
 use Rattle.cipher_mode.specs.declared.checks.Checked.{Checked}
-use Rattle.cipher_mode.specs.declared.checks.Checked.the-variants.{Passed, Refused}
-use Rattle.cipher_mode.specs.Answer.{refusalHead, headOf, outcome}
+use Rattle.cipher_mode.specs.declared.checks.Checked.the-variants.{Passed}
 use Rattle.cipher_mode.specs.declared.Direction.{Direction}
 use Rattle.cipher_mode.specs.declared.Direction.the-variants.{Encrypt, Decrypt}
 use Rattle.cipher_mode.specs.Checks.{checked}
 use Rattle.cipher_mode.specs.Calls.{keysFor, blockOf}
 
--- the check refused, and the answer says so, on the key of number n
-pub refused-there : (a : Answer) (n m : ℕ) (k : Checked) (r : Refusal) (o : List ℕ) (next : Outcome)
-    → headOf a ≡ under n (refusalHead r) → n ≡ m → k ≡ Refused r → outcome a o ≡ keyed m (checked k o next)
-refused-there a n m k r o next e g f =
-    ap {B = Outcome} (λ (h : Head). leaving h o) e ∙ ap₂ {C = Outcome} (λ (i : ℕ) (x : Checked). keyed i (checked x o next)) g (sym f)
+-- a report that is another leaves what that leaves
+pub leaves : {h i : Head} {x : Outcome} (o : List ℕ) → h ≡ i → leaving i o ≡ x → leaving h o ≡ x
+leaves o e f = ap {B = Outcome} (λ (h : Head). leaving h o) e ∙ f
 
 -- the check passed, and the work left what comes next
 pub went-on : (k : Checked) (o : List ℕ) (x next : Outcome) → k ≡ Passed → x ≡ next → x ≡ checked k o next
@@ -29,11 +24,6 @@ went-on k o x next f e = e ∙ sym (ap {B = Outcome} (λ (y : Checked). checked 
 -- the result p was written to the front of the output, and n is its length
 pub reached : (p o o′ : List ℕ) (n : ℕ) → length p ≡ n → o′ ≡ over p o → leaving (finished n) o′ ≡ done p o
 reached p o o′ n l e = ap₂ {C = Outcome} leaving (ap finished (sym l)) e
-
--- the answer says what the outcome x is, on the key of number n
-pub on-key : (a : Answer) (n m : ℕ) (o : List ℕ) (h : Head) (x : Outcome) → headOf a ≡ under n h → n ≡ m → leaving h o ≡ x → outcome a o ≡
-    keyed m x
-on-key a n m o h x e g f = ap {B = Outcome} (λ (i : Head). leaving i o) e ∙ ap₂ {C = Outcome} keyed g f
 
 -- the work left the outcome x, which is done, and told b of its counter
 pub told-of : (b t : Bool) (h : Head) (o : List ℕ) (x : Outcome) → b ≡ t → leaving h o ≡ x → x .head .number ≡ 0

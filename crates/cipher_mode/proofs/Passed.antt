@@ -1,5 +1,5 @@
 -- What is known of the lengths where the checks passed.
-use Rattle.block.proofs.Base.{_%_, _≤_, ℕ, _∙_, _≡_, ap, refl, sym, _⊎_, inl, inr, Bool, _&&_, false, not, true, arith, eqb-false, eqb-true}
+use Rattle.block.proofs.Base.{_%_, _≤_, ℕ, _≡_, refl, _⊎_, inl, inr, Bool, _&&_, false, not, true, arith, eqb-false, eqb-true}
 use Rattle.block.proofs.Base.{ltb-false, not-false, eqb, ltb}
 use Rattle.cipher_mode.specs.declared.KeyAnswer.{KeyAnswer}
 use Rattle.cipher_mode.specs.declared.KeyAnswer.the-variants.{Key, ErrorBlockSize as NoKey, WrongNumber as NoNumber}
@@ -27,14 +27,6 @@ let-through false r next e = record { fails = refl; rest = e }
 pub both : (a b : Checked) → andThen a b ≡ Passed → (a ≡ Passed) × (b ≡ Passed)
 both Passed b e = (refl, e)
 both (Refused r) b e = let z : _≡_ {A = ℕ} 0 1 = cc in absurd (omega arith)
-
--- a stage that refused ends the list; b is its definition
-pub stops : (a b next : Checked) (r : Refusal) → a ≡ b → a ≡ Refused r → a ≡ andThen b next
-stops a b next r e f = f ∙ sym (ap (λ (x : Checked). andThen x next) (sym e ∙ f))
-
--- after one that passed, what comes next is the answer
-pub goes-on : (a b next x : Checked) → a ≡ b → a ≡ Passed → x ≡ next → x ≡ andThen b next
-goes-on a b next x e f g = g ∙ sym (ap (λ (y : Checked). andThen y next) (sym e ∙ f))
 
 is-key : (a : KeyAnswer) → keyCheck a ≡ Passed → a ≡ Key
 is-key Key e = refl
@@ -88,10 +80,6 @@ whole-blocks-passed n e =
 pub with-tag-passed : (n : ℕ) → dataCheck Decrypt Gcm n ≡ Passed → 16 ≤ n
 with-tag-passed n e = ltb-false n 16 (let-through (ltb n 16) _ _ (shaped Decrypt Gcm n e) .fails)
 
-pub room-passed : (dir : Direction) (m : CipherMode) (n room : ℕ) → roomCheck dir m n room ≡ Passed → roomOf m dir n ≤ room
-unfolding roomCheck
-room-passed dir m n room e = ltb-false room (roomOf m dir n) (let-through (ltb room (roomOf m dir n)) _ _ e .fails)
-
 -- a message whose call goes on to work
 pub record InOrder (a : KeyAnswer) (retired : Bool) (dir : Direction) (m : CipherMode) (n : Lengths) : Type 0 where
   pub key : a ≡ Key
@@ -103,20 +91,14 @@ pub record InOrder (a : KeyAnswer) (retired : Bool) (dir : Direction) (m : Ciphe
 
 pub message-passed : (a : KeyAnswer) (retired : Bool) (dir : Direction) (m : CipherMode) (n : Lengths)
     → messageCheck a retired dir m n ≡ Passed → InOrder a retired dir m n
-unfolding messageCheck
+unfolding messageCheck roomCheck
 message-passed a retired dir m n e =
-    let from-key = both (keyAndIv a retired dir m (n .iv)) _ e in
-    let from-label = both (labelCheck m (n .label)) _ (from-key .1) in
-    let from-data = both (dataCheck dir m (n .«data»)) _ (from-label .1) in
-    let first = key-and-iv-passed a retired dir m (n .iv) (from-key .0) in
-    record {
-      key = first .key;
-      iv-size = first .iv-size;
-      may = first .may;
-      label = from-label .0;
-      content = from-data .0;
-      room = room-passed dir m (n .«data») (n .room) (from-data .1);
-    }
+    let k = both (keyAndIv a retired dir m (n .iv)) _ e in
+    let l = both (labelCheck m (n .label)) _ (k .1) in
+    let d = both (dataCheck dir m (n .«data»)) _ (l .1) in
+    let first = key-and-iv-passed a retired dir m (n .iv) (k .0) in
+    let enough = ltb-false _ _ (let-through (ltb (n .room) (roomOf m dir (n .«data»))) _ _ (d .1) .fails) in
+    record { key = first .key; iv-size = first .iv-size; may = first .may; label = l .0; content = d .0; room = enough }
 
 pub record BlockInOrder (a : KeyAnswer) (retired : Bool) (dir : Direction) (n room : ℕ) : Type 0 where
   pub key : a ≡ Key

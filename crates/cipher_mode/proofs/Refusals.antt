@@ -1,10 +1,11 @@
 -- Every refusal has a number that is not 0, reports length 0, and says nothing of a counter.
 use Rattle.block.proofs.Base.{_<_, ℕ, _≡_, ap, refl, sym, _≢_, false, arith}
-use Rattle.walk.specs.Outcome.{Head, refusal, telling}
+use Rattle.cipher_mode.specs.Outcome.{Head, refusal, telling}
 use Rattle.cipher_mode.specs.Answer.{refusalHead, endingHead}
 use Rattle.cipher_mode.specs.declared.answer.Refusal.{Refusal}
 use Rattle.cipher_mode.specs.declared.answer.Refusal.the-variants.{ErrorBlockSize, ErrorDataLen, InvalidLastU8, InvalidTag}
-use Rattle.cipher_mode.specs.declared.answer.Refusal.the-variants.{TooLong, NoRoom, EmptyCbc, ShortGcm, WrongIv, WrongBlock, Ended, WrongNumber, Retired, InvalidPadding}
+use Rattle.cipher_mode.specs.declared.answer.Refusal.the-variants.{TooLong, NoRoom, EmptyCbc, ShortGcm, WrongIv, WrongBlock, Ended}
+use Rattle.cipher_mode.specs.declared.answer.Refusal.the-variants.{WrongNumber, Retired, InvalidPadding}
 use Rattle.cipher_mode.specs.declared.answer.Ending.{Ending}
 use Rattle.cipher_mode.specs.declared.answer.Ending.the-variants.{Done, Refused}
 
@@ -33,11 +34,10 @@ refuses WrongNumber = by-number 13 (omega arith)
 refuses Retired = by-number 14 (omega arith)
 refuses InvalidPadding = by-number 15 (omega arith)
 
--- a report that says this of a counter
-abbrev silenced : Head → ℕ → Head
-silenced h c = record { number = h .number; size = h .size; missing = h .missing; cameRound = c; key = h .key }
-
 -- so no ending says anything of a counter by itself
 pub quiet-ending : (e : Ending) → telling false (endingHead e) ≡ endingHead e
 quiet-ending (Done n) = refl
-quiet-ending (Refused r) = ap {B = Head} (silenced (refusalHead r)) (sym (refuses r .no-round))
+quiet-ending (Refused r) =
+    let h = refusalHead r in
+    ap {B = Head} (λ (c : ℕ). record { number = h .number; size = h .size; missing = h .missing; cameRound = c; key = h .key })
+    (sym (refuses r .no-round))

@@ -1,9 +1,11 @@
 -- Number and values for every case of an answer, as in docs/NUMBERS.md.
 use Prim.Native.Nat.{ℕ}
 use mathlib.Core.List.{List}
-use Rattle.walk.specs.Outcome.{Head, Outcome, finished, refusal, cutShort, under, telling, leaving}
+use Rattle.cipher_mode.specs.Outcome.{Head, Outcome, finished, refusal, cutShort, under, telling, leaving}
 use Rattle.cipher_mode.specs.declared.answer.Refusal.{Refusal}
-use Rattle.cipher_mode.specs.declared.answer.Refusal.the-variants.{ErrorBlockSize, ErrorDataLen, InvalidLastU8, InvalidTag, TooLong, NoRoom, EmptyCbc, ShortGcm, WrongIv, WrongBlock, Ended, WrongNumber, Retired, InvalidPadding}
+use Rattle.cipher_mode.specs.declared.answer.Refusal.the-variants.{ErrorBlockSize, ErrorDataLen, InvalidLastU8, InvalidTag, TooLong}
+use Rattle.cipher_mode.specs.declared.answer.Refusal.the-variants.{NoRoom, EmptyCbc, ShortGcm, WrongIv, WrongBlock, Ended}
+use Rattle.cipher_mode.specs.declared.answer.Refusal.the-variants.{WrongNumber, Retired, InvalidPadding}
 use Rattle.cipher_mode.specs.declared.answer.Ending.{Ending}
 use Rattle.cipher_mode.specs.declared.answer.Ending.the-variants.{Done, Refused}
 use Rattle.cipher_mode.specs.declared.answer.Answer.{Answer}

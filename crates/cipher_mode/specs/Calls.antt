@@ -1,20 +1,21 @@
 -- The public calls: what each one leaves, from the inputs alone.
 use Prim.Native.Nat.{ℕ, _-_}
-use mathlib.Core.Bool.{Bool}
+use mathlib.Core.Bool.{Bool, cond}
 use mathlib.Core.List.{List, reverse}
 use lib.ListN.{length}
 use Rattle.cipher.specs.Sm4.{encryptBlock, decryptBlock}
 use Rattle.counter.specs.Counter.{lastFour}
 use Rattle.counter.specs.CameRound.{blocksOf, ctrCameRound, gcmCameRound}
-use Rattle.walk.specs.Outcome.{Outcome, keyed, reporting, done}
 use Rattle.walk.specs.Walk.{chain}
 use Rattle.stream.specs.Stream.{streamMode}
 use Rattle.stream.specs.declared.Kind.{Kind}
 use Rattle.stream.specs.declared.Kind.the-variants.{CfbEncrypt, CfbDecrypt, Ofb as Ofb·kind, Ctr as Ctr·kind}
-use Rattle.cbc.specs.Cbc.{cbcSeal}
-use Rattle.cbc.specs.Open.{cbcOpen}
-use Rattle.gcm.specs.Gcm.{hashKey, J0, sealed}
-use Rattle.gcm.specs.Open.{gcmOpen}
+use Rattle.padding.specs.Padding.{unpadded}
+use Rattle.padding.specs.declared.Opened.{Opened}
+use Rattle.padding.specs.declared.Opened.the-variants.{Done, InvalidLastU8, InvalidPadding}
+use Rattle.cbc.specs.Cbc.{cbcSeal, cbcText}
+use Rattle.gcm.specs.Gcm.{hashKey, J0, sealed, textPart, textOf, opensUnder}
+use Rattle.cipher_mode.specs.Outcome.{Head, Outcome, finished, refusal, keyed, reporting, written, done}
 use Rattle.cipher_mode.specs.declared.CipherMode.{CipherMode}
 use Rattle.cipher_mode.specs.declared.CipherMode.the-variants.{Cfb, Ofb, Ctr, Cbc, Gcm}
 use Rattle.cipher_mode.specs.declared.Direction.{Direction}
@@ -46,6 +47,16 @@ abbrev pub cfbKind : Direction → Kind
 cfbKind Encrypt = CfbEncrypt
 cfbKind Decrypt = CfbDecrypt
 
+-- what an opening in Cbc reports, by what is decided of the padding
+abbrev pub cbcHead : Opened → Head
+cbcHead (Done n) = finished n
+cbcHead InvalidLastU8 = refusal 3
+cbcHead InvalidPadding = refusal 15
+
+-- opening the Cbc message d into the output o
+unfoldable pub cbcOpen : List ℕ → List ℕ → List ℕ → List ℕ → Outcome
+cbcOpen rk iv d o = written (cbcHead (unpadded (cbcText rk iv d))) (cbcText rk iv d) o
+
 -- Cbc pads and opens by its padding
 abbrev pub cbcResult : Direction → List ℕ → List ℕ → List ℕ → List ℕ → Outcome
 cbcResult Encrypt rk d iv o = done (cbcSeal rk iv d) o
@@ -54,6 +65,14 @@ cbcResult Decrypt rk d iv o = cbcOpen rk iv d o
 -- whether Gcm's counter came round over a text of n bytes
 abbrev pub gcmRound : List ℕ → List ℕ → ℕ → Bool
 gcmRound rk iv n = gcmCameRound (lastFour (J0 rk iv)) (blocksOf n)
+
+-- what an opening in Gcm of a text of n bytes reports: the tag alone decides
+abbrev pub gcmHead : Bool → ℕ → Head
+gcmHead opens n = cond opens (finished n) (refusal 4)
+
+-- opening the Gcm message s under a label into the output o
+unfoldable pub gcmOpen : List ℕ → ℕ → List ℕ → List ℕ → List ℕ → List ℕ → Outcome
+gcmOpen rk h j label s o = written (gcmHead (opensUnder rk h j label s) (length s - 16)) (textOf rk j (textPart s)) o
 
 -- Gcm seals and opens under the label aad; the tag is no part of the text
 abbrev pub gcmResult : Direction → List ℕ → List ℕ → List ℕ → List ℕ → List ℕ → Outcome

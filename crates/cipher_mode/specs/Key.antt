@@ -6,7 +6,7 @@ use mathlib.Core.List.{List}
 use lib.Dec.{eqb, ltb}
 use lib.ListN.{length, replicate}
 use Rattle.cipher.specs.Sm4.{roundKeys}
-use Rattle.walk.specs.Outcome.{Head, finished, refusal}
+use Rattle.cipher_mode.specs.Outcome.{Head, finished, refusal}
 use Rattle.cipher_mode.specs.declared.KeyAnswer.{KeyAnswer}
 use Rattle.cipher_mode.specs.declared.KeyAnswer.the-variants.{Key, ErrorBlockSize, WrongNumber}
 use Rattle.cipher_mode.specs.declared.Sm4Cipher.{Sm4Cipher}

@@ -1,3 +1,4 @@
+pub mod Outcome
 pub mod Answer
 pub mod Engines
 pub mod Key

@@ -1,6 +1,6 @@
 // What a call answers. Every head is made here.
 ghost use mathlib.Core.Path.{_≡_};
-ghost use Rattle.walk.specs.Outcome.{finished, under, telling};
+ghost use Rattle.cipher_mode.specs.Outcome.{finished, under, telling};
 ghost use Rattle.cipher_mode.specs.Answer.{refusalHead, headOf};
 
 // Why a call was refused, by the names of libsm and, after them, those that tell the lengths apart: Cbc decryption of

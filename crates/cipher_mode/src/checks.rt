@@ -118,30 +118,8 @@ pub fn limit_of(direction: Direction, mode: CipherMode) -> usize
     }
 }
 
-// Cbc gives full blocks, and at least one.
-fn whole_blocks(n: usize) -> Checked
-    ensures { λ r. ⌜ r ≡ shapeCheck Direction.Decrypt CipherMode.Cbc n ⌝ }
-{
-    if n == 0 {
-        return Checked::Refused(Refusal::EmptyCbc);
-    }
-    if n % 16 != 0 {
-        return Checked::Refused(Refusal::ErrorDataLen);
-    }
-    Checked::Passed
-}
-
-// Gcm gives a tag, and before it the text.
-fn with_tag(n: usize) -> Checked
-    ensures { λ r. ⌜ r ≡ shapeCheck Direction.Decrypt CipherMode.Gcm n ⌝ }
-{
-    if n < 16 {
-        return Checked::Refused(Refusal::ShortGcm((16 - n) as u8));
-    }
-    Checked::Passed
-}
-
-// The lengths of data to decrypt that nothing was ever encrypted to.
+// The lengths of data to decrypt that nothing was ever encrypted to: Cbc gives full blocks, and at least one, and Gcm a tag, and before it
+// the text.
 fn shape(direction: Direction, mode: CipherMode, n: usize) -> Checked
     ensures { λ r. ⌜ r ≡ shapeCheck direction mode n ⌝ }
 {
@@ -152,8 +130,21 @@ fn shape(direction: Direction, mode: CipherMode, n: usize) -> Checked
         CipherMode::Cfb => Checked::Passed,
         CipherMode::Ofb => Checked::Passed,
         CipherMode::Ctr => Checked::Passed,
-        CipherMode::Cbc => whole_blocks(n),
-        CipherMode::Gcm => with_tag(n),
+        CipherMode::Cbc => {
+            if n == 0 {
+                return Checked::Refused(Refusal::EmptyCbc);
+            }
+            if n % 16 != 0 {
+                return Checked::Refused(Refusal::ErrorDataLen);
+            }
+            Checked::Passed
+        }
+        CipherMode::Gcm => {
+            if n < 16 {
+                return Checked::Refused(Refusal::ShortGcm((16 - n) as u8));
+            }
+            Checked::Passed
+        }
     }
 }
 
@@ -180,27 +171,19 @@ pub fn encrypted_length(mode: CipherMode, n: usize) -> usize
     }
 }
 
-// The room that `n` bytes need to be decrypted.
-fn decryption_room(mode: CipherMode, n: usize) -> usize
-    requires { ⌜ dataCheck Direction.Decrypt mode n ≡ Checked.Passed ⌝ }
-    ensures { λ r. ⌜ r ≡ roomOf mode Direction.Decrypt n ⌝ }
-{
-    match mode {
-        CipherMode::Cfb => n,
-        CipherMode::Ofb => n,
-        CipherMode::Ctr => n,
-        CipherMode::Cbc => n,
-        CipherMode::Gcm => n - 16,
-    }
-}
-
 fn room_of(direction: Direction, mode: CipherMode, n: usize) -> usize
     requires { ⌜ dataCheck direction mode n ≡ Checked.Passed ⌝ }
     ensures { λ r. ⌜ r ≡ roomOf mode direction n ⌝ }
 {
     match direction {
         Direction::Encrypt => encrypted_length(mode, n),
-        Direction::Decrypt => decryption_room(mode, n),
+        Direction::Decrypt => match mode {
+            CipherMode::Cfb => n,
+            CipherMode::Ofb => n,
+            CipherMode::Ctr => n,
+            CipherMode::Cbc => n,
+            CipherMode::Gcm => n - 16,
+        },
     }
 }
 

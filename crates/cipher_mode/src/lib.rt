@@ -6,7 +6,7 @@ mod work;
 
 ghost use mathlib.Core.Path.{_≡_};
 ghost use Rattle.cipher_mode.specs.Answer.{outcome};
-ghost use Rattle.cipher_mode.specs.Key.{noCipher, wrongNumber, newCipher, retire, withEngine, numberIn, newCipherMode};
+ghost use Rattle.cipher_mode.specs.Key.{noCipher, newCipher, retire, withEngine, numberIn, newCipherMode};
 ghost use Rattle.cipher_mode.specs.Engines.{forwards, waits, engineFor};
 ghost use Rattle.cipher_mode.specs.Tables.{modeOf};
 ghost use Rattle.cipher_mode.specs.Calls.{blockCall, modeCall};
@@ -103,13 +103,6 @@ pub fn engine_for(mark: u8, mode: CipherMode, direction: Direction) -> u8
     cipher::engine_of(mark, waits(mode, direction))
 }
 
-// A key's number is 1 to 65,535.
-fn wrong_number(n: u32) -> bool
-    ensures { λ r. ⌜ r ≡ wrongNumber n ⌝ }
-{
-    n == 0 || n > 65535
-}
-
 // A record that every call refuses.
 fn no_cipher(answer: KeyAnswer) -> Sm4Cipher
     ensures { λ r. ⌜ r ≡ noCipher answer ⌝ }
@@ -131,7 +124,10 @@ impl Sm4Cipher {
         if key.len() != 16 {
             return no_cipher(KeyAnswer::ErrorBlockSize);
         }
-        if wrong_number(number) {
+        if number == 0 {
+            return no_cipher(KeyAnswer::WrongNumber);
+        }
+        if number > 65535 {
             return no_cipher(KeyAnswer::WrongNumber);
         }
         let rk = cipher::key_schedule(key);

@@ -1,21 +1,18 @@
 // What is done once nothing stands against it: bytes to bytes.
 ghost use mathlib.Core.Path.{_≡_};
-ghost use mathlib.Core.Bool.{false, _&&_};
-ghost use lib.Dec.{eqb};
+ghost use mathlib.Core.Bool.{cond, false};
 ghost use mathlib.Core.List.{_++_};
 ghost use Prim.Native.Nat.{_-_, _≤_};
 ghost use lib.ListN.{length, drop};
 ghost use Rattle.cipher.specs.Engine.{Engine};
 ghost use Rattle.counter.specs.CameRound.{blocksOf, ctrCameRound};
-ghost use Rattle.walk.specs.Outcome.{telling, reporting, done};
 ghost use Rattle.walk.specs.Walk.{chain};
 ghost use Rattle.stream.specs.Stream.{streamMode};
-ghost use Rattle.cbc.specs.Open.{headOf as cbcHead};
-ghost use Rattle.gcm.specs.Open.{headOf as gcmHead};
+ghost use Rattle.cipher_mode.specs.Outcome.{finished, refusal, telling, reporting, done};
 ghost use Rattle.cipher_mode.specs.Tables.{roomOf};
 ghost use Rattle.cipher_mode.specs.Answer.{endingHead, ended, workedHead, worked};
 ghost use Rattle.cipher_mode.specs.Checks.{wrongIv, labelCheck, dataCheck};
-ghost use Rattle.cipher_mode.specs.Calls.{keysFor, blockOf, cfbKind, cbcResult, gcmResult, modeResult};
+ghost use Rattle.cipher_mode.specs.Calls.{keysFor, blockOf, cfbKind, cbcHead, cbcResult, gcmResult, modeResult};
 use crate::CipherMode;
 use crate::Direction;
 use crate::answer::Ending;
@@ -23,6 +20,7 @@ use crate::answer::Refusal;
 use crate::checks;
 use crate::checks::Checked;
 use crate::engine_for;
+use padding::Opened;
 use stream::Kind;
 
 // How work ended, and whether the counter of the message came round.
@@ -100,13 +98,13 @@ fn by_ctr(t: &[u32], rk: [u32; 32], iv: &[u8], data: &[u8], out: &mut [u8]) -> W
     }
 }
 
-fn cbc_answer(opened: cbc::Opened) -> Ending
+fn cbc_answer(opened: Opened) -> Ending
     ensures { λ r. ⌜ endingHead r ≡ cbcHead opened ⌝ }
 {
     match opened {
-        cbc::Opened::Done(n) => Ending::Done(n),
-        cbc::Opened::InvalidLastU8 => Ending::Refused(Refusal::InvalidLastU8),
-        cbc::Opened::InvalidPadding => Ending::Refused(Refusal::InvalidPadding),
+        Opened::Done(n) => Ending::Done(n),
+        Opened::InvalidLastU8 => Ending::Refused(Refusal::InvalidLastU8),
+        Opened::InvalidPadding => Ending::Refused(Refusal::InvalidPadding),
     }
 }
 
@@ -134,20 +132,17 @@ fn by_cbc(
     }
 }
 
-// What opening answers, and where it opened whether the counter came round.
-fn gcm_answer(opened: gcm::Opened, came_round: bool) -> Worked
-    ensures { λ r. ⌜ workedHead r ≡ telling (eqb (gcmHead opened .number) 0 && «came_round») (gcmHead opened) ⌝ }
+// How opening ended: with a text of n bytes, and whether the counter came round; or refused.
+fn gcm_answer(opened: bool, n: usize, came_round: bool) -> Worked
+    ensures { λ r. ⌜ workedHead r ≡ cond opened (telling «came_round» (finished n)) (refusal 4) ⌝ }
 {
-    match opened {
-        gcm::Opened::Done(n) => Worked {
+    if opened {
+        return Worked {
             ending: Ending::Done(n),
             came_round,
-        },
-        gcm::Opened::InvalidTag => Worked {
-            ending: Ending::Refused(Refusal::InvalidTag),
-            came_round: false,
-        },
+        };
     }
+    quiet(Ending::Refused(Refusal::InvalidTag))
 }
 
 // How many bytes of a Gcm message of n bytes are its text: a sealed one has its tag behind it.
@@ -193,7 +188,7 @@ fn by_gcm(
         }
         Direction::Decrypt => {
             let opened = gcm::decrypt(t, rk, h, j0, ready, &pads, aad, data, out);
-            gcm_answer(opened, counter::gcm_came_round(j0[3], n))
+            gcm_answer(opened, n, counter::gcm_came_round(j0[3], n))
         }
     }
 }

@@ -1,7 +1,7 @@
--- The formula at its edges, computed: Ctr from all ones on, and GCM from a last word of all ones on.
-use Rattle.block.proofs.Base.{_-_, _^_, _≡_, refl, false, true, replicate}
+-- The formula at its edges, computed: Ctr from all ones on.
+use Rattle.block.proofs.Base.{_≡_, refl, false, true, replicate}
 use Rattle.block.specs.BigEndian.{numberOf}
-use Rattle.counter.specs.CameRound.{ctrCameRound, gcmCameRound}
+use Rattle.counter.specs.CameRound.{ctrCameRound}
 
 pub ctr-one-block : ctrCameRound (replicate 16 255) 1 ≡ false
 unfolding ctrCameRound numberOf
@@ -10,11 +10,3 @@ ctr-one-block = refl
 pub ctr-two-blocks : ctrCameRound (replicate 16 255) 2 ≡ true
 unfolding ctrCameRound numberOf
 ctr-two-blocks = refl
-
-pub gcm-no-block : gcmCameRound (2 ^ 32 - 1) 0 ≡ false
-unfolding gcmCameRound
-gcm-no-block = refl
-
-pub gcm-one-block : gcmCameRound (2 ^ 32 - 1) 1 ≡ true
-unfolding gcmCameRound
-gcm-one-block = refl

@@ -10,15 +10,6 @@ pub ctr-none : (iv : List ℕ) (b : ℕ) → b ≡ 0 → false ≡ ctrCameRound 
 unfolding ctrCameRound
 ctr-none iv b e = rw e
 
-full : (high : ℕ) → high ≡ 2 ^ 64 - 1 → high + 1 ≡ 2 ^ 64
-full high e = omega arith
-
-not-full : (high : ℕ) → high < 2 ^ 64 → (high ≡ 2 ^ 64 - 1 → ⊥) → high + 1 < 2 ^ 64
-not-full high h n = omega (arith, n)
-
-one-less : (b : ℕ) → b ≤ 2 ^ 64 → b - 1 < 2 ^ 64
-one-less b h = omega arith
-
 -- some blocks, from an IV whose number has these halves on
 module _ (iv : List ℕ) (b high low : ℕ) (some : b ≡ 0 → ⊥) (v : whole high low ≡ numberOf iv) (lows : low < 2 ^ 64) where
   by-halves : leb (2 ^ 64 * 2 ^ 64) (high * 2 ^ 64 + low + (b - 1)) ≡ ctrCameRound iv b
@@ -26,13 +17,10 @@ module _ (iv : List ℕ) (b high low : ℕ) (some : b ≡ 0 → ⊥) (v : whole 
   by-halves = rw (le-leb 1 b (omega (arith, some)), ← v)
 
   pub ctr-full : high ≡ 2 ^ 64 - 1 → ltb (2 ^ 64 - 1 - low) (b - 1) ≡ ctrCameRound iv b
-  ctr-full e = high-full (2 ^ 64) high low (b - 1) lows (full high e) ∙ by-halves
+  ctr-full e = high-full (2 ^ 64) high low b lows e ∙ by-halves
 
   pub ctr-short : (high ≡ 2 ^ 64 - 1 → ⊥) → high < 2 ^ 64 → b ≤ 2 ^ 64 → eqb high (2 ^ 64 - 1) ≡ ctrCameRound iv b
-  ctr-short n h l =
-      ne-eqb high (2 ^ 64 - 1) n
-      ∙ sym (high-short (2 ^ 64) high low (b - 1) lows (not-full high h n) (one-less b l))
-      ∙ by-halves
+  ctr-short n h l = ne-eqb high (2 ^ 64 - 1) n ∙ sym (high-short (2 ^ 64) high low b lows n h l) ∙ by-halves
 
 -- GCM's word and b more reach 2^32
 pub gcm-left : (low b : ℕ) → low < 2 ^ 32 → ltb (2 ^ 32 - 1 - low) b ≡ gcmCameRound low b

@@ -1,31 +1,25 @@
 -- The code's four words step as the definitions' sixteen bytes do, and come round where these do.
-use Rattle.block.proofs.Base.{_%_, _+_, _<_, _^_, ℕ, _∙_, _≡_, ap, sym, List, [], _∷_, mod-eq-of-lt, bitOr, eqb, getD}
+use Rattle.block.proofs.Base.{_%_, _+_, _<_, _^_, ℕ, _∙_, _≡_, List, [], _∷_, mod-eq-of-lt, bitOr, eqb, getD}
 use Rattle.block.specs.BigEndian.{numberOf, bytesOf}
 use Rattle.block.specs.Wide.{whole}
 use Rattle.block.specs.Words.{words, unwords}
 use Rattle.block.proofs.Convert.{numberOf-bytesOf, numberOf-lt}
 use Rattle.block.proofs.WordsBack.{unwords-number, unwords-bytes, length-unwords}
-use Rattle.counter.specs.Counter.{lastFour, ctrJump, ctrNext, ctrPasses, gcmJump, gcmNext, gcmPasses}
+use Rattle.counter.specs.Counter.{lastFour, ctrJump, ctrPasses, gcmJump, gcmPasses}
 use Rattle.counter.proofs.Round.{zero-tells, no-bit}
 
 -- Ctr's counter k blocks on, over the number of four words
-pub ctr-jump-words : (x r : List ℕ) (k m : ℕ) → m ≡ (numberOf (unwords x) + k) % 2 ^ 128 → r ≡ words (bytesOf 16 m)
+pub ctr-jump-words : (x r : List ℕ) (k v m : ℕ) → v ≡ numberOf (unwords x) → m ≡ (v + k) % 2 ^ 128 → r ≡ words (bytesOf 16 m)
     → unwords r ≡ ctrJump (unwords x) k
 unfolding ctrJump
-ctr-jump-words x r k m e f = unwords-number r m f ∙ ap (bytesOf 16) e
+ctr-jump-words x r k v m n e f = unwords-number r m f ∙ rw (e, n)
 
--- and its step, which is one block on
-pub ctr-words : (x r : List ℕ) (m : ℕ) → m ≡ (numberOf (unwords x) + 1) % 2 ^ 128 → r ≡ words (bytesOf 16 m)
-    → unwords r ≡ ctrNext (unwords x)
-unfolding ctrNext ctrJump
-ctr-words x r m e f = ctr-jump-words x r 1 m e f
-
-pub ctr-words-pass : (x : List ℕ) (high low : ℕ) → whole high low ≡ (numberOf (unwords x) + 1) % 2 ^ 128
+pub ctr-words-pass : (x : List ℕ) (v high low : ℕ) → v ≡ numberOf (unwords x) → whole high low ≡ (v + 1) % 2 ^ 128
     → eqb (bitOr high low) 0 ≡ ctrPasses (unwords x)
 unfolding ctrPasses
-ctr-words-pass x high low e =
+ctr-words-pass x v high low n e =
     let h : numberOf (unwords x) < 2 ^ 128 = rw (length-unwords x) at (numberOf-lt (unwords x) (unwords-bytes x)) in
-    no-bit high low ∙ zero-tells (2 ^ 128) (numberOf (unwords x)) (whole high low) h e
+    no-bit high low ∙ zero-tells (2 ^ 128) (numberOf (unwords x)) (whole high low) h (rw n at e)
 
 -- the last of four words is the number that its bytes spell
 last-word : (x : List ℕ) → getD x 3 0 < 2 ^ 32 → numberOf (bytesOf 4 (getD x 3 0)) ≡ getD x 3 0
@@ -39,16 +33,8 @@ last-four x h = last-word x h
 pub gcm-jump-words : (x : List ℕ) (w k : ℕ) → getD x 3 0 < 2 ^ 32 → w ≡ (getD x 3 0 + k) % 2 ^ 32
     → unwords (getD x 0 0 ∷ getD x 1 0 ∷ getD x 2 0 ∷ w ∷ []) ≡ gcmJump (unwords x) k
 unfolding gcmJump unwords bytesOf
-gcm-jump-words x w k h e =
-    ap (λ (v : ℕ). unwords (getD x 0 0 ∷ getD x 1 0 ∷ getD x 2 0 ∷ v ∷ [])) (e ∙ ap (λ (v : ℕ). (v + k) % 2 ^ 32) (sym (last-word x h)))
-
--- and its step, which is one block on
-pub gcm-words : (x : List ℕ) (w : ℕ) → getD x 3 0 < 2 ^ 32 → w ≡ (getD x 3 0 + 1) % 2 ^ 32
-    → unwords (getD x 0 0 ∷ getD x 1 0 ∷ getD x 2 0 ∷ w ∷ []) ≡ gcmNext (unwords x)
-unfolding gcmNext gcmJump
-gcm-words x w h e = gcm-jump-words x w 1 h e
+gcm-jump-words x w k h e = rw (e, last-word x h)
 
 pub gcm-words-pass : (x : List ℕ) (w : ℕ) → getD x 3 0 < 2 ^ 32 → w ≡ (getD x 3 0 + 1) % 2 ^ 32 → eqb w 0 ≡ gcmPasses (unwords x)
 unfolding gcmPasses unwords bytesOf
-gcm-words-pass x w h e =
-    zero-tells (2 ^ 32) (getD x 3 0) w h e ∙ ap (λ (v : ℕ). eqb (v + 1) (2 ^ 32)) (sym (last-word x h))
+gcm-words-pass x w h e = zero-tells (2 ^ 32) (getD x 3 0) w h e ∙ rw (last-word x h)

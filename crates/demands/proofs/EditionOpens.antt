@@ -1,81 +1,50 @@
 -- Whether a file opens under a job and an edition: the question answers what the opening call does, given room, and a file that opens
 -- under one edition is refused as 4 under every other. And which of many labels it opens under.
 use Rattle.demands.specs.Names as N
-use N.{Bool, cond, false, true, List, [], _∷_, _≢_, _⊎_, _∙_, _≡_, ap, refl, subst, sym, _-_, _<_, _^_, _≤_, suc, zero, ℕ, arith, ltb, drop}
-use N.{getD, length, length-take, take, le-ltb, ltb-false, Head, Outcome, finished, keyed, leaving, refusal, reporting, under, written, J0}
-use N.{textOf, textPart, gcmOpen, gcmHead, settled, Gcm·Done, InvalidTag, refusalHead, gcmResult, gcmRound, lengthsOf, modeCall, andThen}
-use N.{checked, dataCheck, keyAndIv, keyCheck, messageCheck, refuse, roomCheck, wrongIv, keyNumber, limit, modeOf, sealedLimit, Gcm}
-use N.{Decrypt, KeyAnswer, NoKey, Key, NoNumber, Sm4Cipher, Refusal, ShortGcm, TooLong, WrongIv, Checked, Passed, Refused, anyTooLong}
-use N.{badList, labelAt, Verdict, checkedVerdict, firstOpening, opensWith, searchCheck, which, labelOf, checkedHead, hostEditionOpens}
-use N.{opensHead, hostModeCall, cipherIn, hostKeyEngine, hostWhich, toldOf, LuossavinKey}
+use N.{Bool, cond, false, true, List, [], _∷_, _≢_, _⊎_, _∙_, _≡_, ap, refl, sym, _-_, _<_, _^_, _≤_, suc, zero, ℕ, arith, ltb, drop, getD}
+use N.{length, length-take, take, le-ltb, ltb-false, Head, Outcome, finished, keyed, refusal, under, gcmOpen, modeCall, andThen}
+use N.{checked, keyCheck, refuse, wrongIv, dataCheck, keyAndIv, messageCheck, roomCheck, keyNumber, limit, sealedLimit, modeOf, Gcm}
+use N.{Decrypt, KeyAnswer, NoKey, Key, NoNumber, Sm4Cipher, ShortGcm, TooLong, WrongIv, Checked, Passed, Refused, gcmStarting, anyTooLong}
+use N.{badList, labelAt, Verdict, checkedVerdict, opensWith, searchCheck, which, labelOf, checkedHead, hostEditionOpens, opensHead}
+use N.{hostModeCall, cipherIn, hostKeyEngine, hostWhich, LuossavinKey}
+use Rattle.block.proofs.Same.{by-test}
 use Rattle.cipher_mode.proofs.Refusals.{refuses}
 use Rattle.label.proofs.LabelTells.{length-label}
-use Rattle.demands.specs.Call.{inGcm, RefusedAs}
+use Rattle.demands.specs.Call.{RefusedAs}
 use Rattle.demands.specs.OneBlockRefused.{MovesZero}
-use Rattle.demands.specs.EditionOpens.{WithoutText, AnswersAsOpening, NeverNoRoom, OneEditionAlone, FirstThatOpens, Tells}
-use Rattle.demands.specs.EditionOpens.{WhichAnswered}
-use Rattle.demands.proofs.OneBlockRefused.{other-edition-refused, Fits, gcm-in-order}
-use Rattle.cipher_mode.proofs.Passed.{data-within, with-tag-passed}
+use Rattle.demands.specs.EditionOpens.{WithoutText, AnswersAsOpening, NeverNoRoom, OneEditionAlone, Tells, WhichAnswered}
+use Rattle.demands.proofs.OneBlockRefused.{other-edition-refused}
 use Rattle.editions.proofs.Turns.{or-false}
 use Rattle.editions.proofs.Passed.{search-passed}
-use Rattle.editions.proofs.FirstOpening.{IsFirst, search-number}
+use Rattle.editions.proofs.FirstOpening.{search-number}
 use Rattle.editions.proofs.WhichOpens.{Asked, first-opens, none-opens, found-opens, none-found, zero-unless-found, done-asked}
-use Rattle.demands.proofs.Answering.{is-true, is-false, one-or-none, split}
-use Rattle.demands.proofs.Through.{leaves}
+use Rattle.demands.proofs.Answering.{is-true, is-false, one-or-none}
+use Rattle.demands.proofs.InPieces.{single-done, gcm-begins}
 
-on-key : (k : ℕ) (h : Head) (x : Outcome) → WithoutText h x → WithoutText (under k h) (keyed k x)
-on-key k h x w = record { number = w .number; missing = w .missing; key = refl; size = w .size; cameRound = w .cameRound }
-
--- a refusal is told alike
-told : (r : Refusal) (o : List ℕ) → WithoutText (refusalHead r) (leaving (refusalHead r) o)
-told r o = record { number = refl; missing = refl; key = refl; size = refuses r .no-size; cameRound = refuses r .no-round }
-
-by-checks : (k d : Checked) (o : List ℕ) (h : Head) (x : Outcome) → WithoutText h x
-    → WithoutText (checkedHead (andThen k d) h) (checked (andThen k d) o x)
-by-checks Passed Passed o h x w = w
-by-checks Passed (Refused r) o h x w = told r o
-by-checks (Refused r) d o h x w = told r o
-
--- and so is what the tag decides
-by-tag : (t b : Bool) (n : ℕ) (p o : List ℕ)
-    → WithoutText (cond t (finished 0) (refusal 4)) (reporting b (written (gcmHead (cond t (Gcm·Done n) InvalidTag)) p o))
-by-tag true b n p o = record { number = refl; missing = refl; key = refl; size = refl; cameRound = refl }
-by-tag false b n p o = record { number = refl; missing = refl; key = refl; size = refl; cameRound = refl }
+-- by the checks a refusal is told alike, and what comes next if that is
+by-checks : (k : Checked) (n : ℕ) (o : List ℕ) (h : Head) (x : Outcome) → WithoutText h x
+    → WithoutText (under n (checkedHead k h)) (keyed n (checked k o x))
+by-checks Passed n o h x w = record { number = w .number; missing = w .missing; key = refl; size = w .size; cameRound = w .cameRound }
+by-checks (Refused r) n o h x w =
+    record { number = refl; missing = refl; key = refl; size = refuses r .no-size; cameRound = refuses r .no-round }
 
 then-passed : (k : Checked) → andThen k Passed ≡ k
 then-passed Passed = refl
 then-passed (Refused r) = refl
 
-module _ (c : Sm4Cipher) (label file iv o : List ℕ) (short : length label ≤ limit) (room : length file - 16 ≤ length o) where
-  abbrev first : Checked
-  first = keyAndIv (c .answer) (c .retired) Decrypt Gcm (length iv)
-
-  abbrev second : Checked
-  second = dataCheck Decrypt Gcm (length file)
-
-  -- with a label that is short enough, and room
-  the-checks : messageCheck (c .answer) (c .retired) Decrypt Gcm (lengthsOf label file iv o) ≡ andThen first second
-  unfolding messageCheck roomCheck
-  the-checks = rw (le-ltb limit (length label) short, le-ltb (length o) (length file - 16) room, then-passed second)
-
-  the-tag : WithoutText (cond (opensWith c iv file label) (finished 0) (refusal 4)) (gcmResult Decrypt (c .rk) label file iv o)
-  unfolding gcmOpen settled
-  the-tag =
-      by-tag (opensWith c iv file label) (gcmRound (c .rk) iv (length file - 16)) (length file - 16)
-      (textOf (c .rk) (J0 (c .rk) iv) (textPart file)) o
-
-  asked-as-opened : WithoutText (under (keyNumber c) (opensHead c label file iv)) (modeCall Decrypt (inGcm c) label file iv o)
-  unfolding opensHead modeCall
-  asked-as-opened =
-      let next = gcmResult Decrypt (c .rk) label file iv o in
-      let w = by-checks first second o (cond (opensWith c iv file label) (finished 0) (refusal 4)) next the-tag in
-      rw the-checks (on-key (keyNumber c) _ (checked (andThen first second) o next) w)
-
 -- The question answers what the single call answers in Gcm, given room: 0 exactly where that is 0, and otherwise its refusal.
 pub edition-opens : (k : LuossavinKey) → AnswersAsOpening (hostEditionOpens k) (hostModeCall Decrypt 4 k)
-unfolding hostEditionOpens hostModeCall modeOf
+unfolding hostEditionOpens opensHead hostModeCall modeOf modeCall messageCheck roomCheck gcmOpen
 edition-opens k job edition file iv o room =
-    asked-as-opened (cipherIn k) (labelOf job edition) file iv o (omega (arith, length-label job edition)) room
+    let c = cipherIn k in
+    let label = labelOf job edition in
+    let n = length-label job edition in
+    let second = dataCheck Decrypt Gcm (length file) in
+    rw (le-ltb limit (length label) (omega arith), le-ltb (length o) (length file - 16) room, then-passed second)
+    (by-checks (andThen (keyAndIv (c .answer) (c .retired) Decrypt Gcm (length iv)) second) (keyNumber c) o _ _
+    (by-test (opensWith c iv file label)
+    (λ e. rw e (record { number = refl; missing = refl; key = refl; size = refl; cameRound = refl }))
+    (λ e. rw e (record { number = refl; missing = refl; key = refl; size = refl; cameRound = refl }))))
 
 no-six : (a : KeyAnswer) (wrong long short t : Bool) (n : ℕ)
     → checkedHead
@@ -123,80 +92,56 @@ short-at [] i e = omega arith
 short-at (n ∷ ns) zero e = ltb-false limit n (or-false (ltb limit n) (anyTooLong ns) e .0)
 short-at (n ∷ ns) (suc i) e = short-at ns i (or-false (ltb limit n) (anyTooLong ns) e .1)
 
-short-candidate : (labels lengths : List ℕ) (i : ℕ) → anyTooLong lengths ≡ false → length (labelAt labels lengths i) ≤ limit
-unfolding labelAt
-short-candidate labels lengths i e = let n = short-at lengths i e in simp length-take (omega (arith, n))
+module _ (k : LuossavinKey) (file iv labels lengths o : List ℕ) (room : length file - 16 ≤ length o) where
+  abbrev c : Sm4Cipher
+  c = cipherIn k
 
--- what the single call answers, by the test that decides
-by-test : (t : Bool) (n : ℕ) → gcmHead (cond t (Gcm·Done n) InvalidTag) .number ≡ cond t 0 4
-by-test true n = refl
-by-test false n = refl
-
-module _ (c : Sm4Cipher) (file iv labels lengths o : List ℕ) (room : length file - 16 ≤ length o) where
   abbrev test : ℕ → Bool
   test i = opensWith c iv file (labelAt labels lengths i)
 
+  -- 0 where the test holds, and 4 where it does not
   answers : Asked c file iv labels lengths → (i : ℕ)
-      → modeCall Decrypt (inGcm c) (labelAt labels lengths i) file iv o .head .number ≡ cond (test i) 0 4
-  unfolding gcmOpen settled
+      → hostModeCall Decrypt 4 k (labelAt labels lengths i) file iv o .head .number ≡ cond (test i) 0 4
+  unfolding hostModeCall modeOf gcmOpen labelAt gcmStarting keyAndIv
   answers a i =
       let label = labelAt labels lengths i in
       let p = search-passed (c .answer) (c .retired) (length iv) (length file) lengths (a .checks) in
-      let fits : Fits label file o =
-      record {
-        label = short-candidate labels lengths i (p .short);
-        longest = data-within Decrypt Gcm (length file) (p .content);
-        shortest = with-tag-passed (length file) (p .content);
-        room = room;
-      } in
+      let n = short-at lengths i (p .short) in
+      let small : length label ≤ limit = simp length-take (omega arith) in
       ap (λ (x : Outcome). x .head .number)
-      (leaves Decrypt (inGcm c) label file iv o (gcm-in-order c label file iv o (p .key) (p .iv-size) fits))
-      ∙ by-test (test i) (length file - 16)
+      (single-done (gcm-begins Decrypt c label iv) (rw (p .key, p .iv-size, le-ltb limit (length label) small)) file o (p .content) room)
+      ∙ by-test (test i) (λ e. rw e) (λ e. rw e)
 
-  -- 0 where the test holds, 4 where it does not, and the other way about
-  says : Asked c file iv labels lengths → (i : ℕ) (t : Bool) → test i ≡ t
-      → modeCall Decrypt (inGcm c) (labelAt labels lengths i) file iv o .head .number ≡ cond t 0 4
-  says a i t e = answers a i ∙ ap (λ (t : Bool). cond t 0 4) e
-
-  is-first : Asked c file iv labels lengths → (i : ℕ) → FirstThatOpens (modeCall Decrypt (inGcm c)) file iv labels lengths o i
-      → IsFirst (opensWith c iv file) labels lengths i
-  is-first a i f =
-      record {
-        inside = f .inside;
-        passes = is-true 0 4 refl (test i) (sym (answers a i) ∙ f .opens);
-        none-before = λ j h. is-false 0 4 refl (test j) (sym (answers a j) ∙ f .before j h);
-      }
-
-  tells : Tells (modeCall Decrypt (inGcm c)) file iv labels lengths o (toldOf (which c file iv labels lengths))
-  tells =
+  -- What the exported question tells is what the exported single call of mode 4, given room, answers to each candidate: found at i exactly
+  -- when it is 0 to candidate i and 4 to each before it, none exactly when it is 4 to all.
+  pub which-tells : Tells (hostModeCall Decrypt 4 k) file iv labels lengths o (hostWhich k file iv labels lengths)
+  unfolding hostWhich
+  which-tells =
       record {
         found = λ e.
             let f = found-opens c file iv labels lengths (is-true 1 0 refl _ e) in
             record {
               inside = f .first .inside;
-              opens = says (f .asked) _ true (f .first .passes);
-              before = λ j h. says (f .asked) j false (f .first .none-before j h);
+              opens = rw (answers (f .asked) (which c file iv labels lengths .place), f .first .passes);
+              before = λ j h. rw (answers (f .asked) j, f .first .none-before j h);
             };
         is-found = λ d i f.
             let a = done-asked c file iv labels lengths d in
-            let v = first-opens c file iv labels lengths a i (is-first a i f) in
-            (ap (λ (v : Verdict). toldOf v .found) v, ap (λ (v : Verdict). v .place) v);
+            let v = first-opens c file iv labels lengths a i
+            (record {
+              inside = f .inside;
+              passes = is-true 0 4 refl (test i) (sym (answers a i) ∙ f .opens);
+              none-before = λ j h. is-false 0 4 refl (test j) (sym (answers a j) ∙ f .before j h);
+            }) in
+            rw v (refl, refl);
         none = λ d e i h.
             let n = none-found c file iv labels lengths (is-false 1 0 refl _ e) d in
-            says (n .asked) i false (n .none i h);
+            rw (answers (n .asked) i, n .none i h);
         is-none = λ d f.
             let a = done-asked c file iv labels lengths d in
-            let v = none-opens c file iv labels lengths a (λ i h. is-false 0 4 refl (test i) (sym (answers a i) ∙ f i h)) in
-            ap (λ (v : Verdict). toldOf v .found) v;
+            rw (none-opens c file iv labels lengths a (λ i h. is-false 0 4 refl (test i) (sym (answers a i) ∙ f i h)));
         part = λ e. found-opens c file iv labels lengths (is-true 1 0 refl _ e) .there;
       }
-
--- What the exported question tells is what the exported single call of mode 4, given room, answers to each candidate: found at i exactly
--- when it is 0 to candidate i and 4 to each before it, none exactly when it is 4 to all.
-pub which-tells : (k : LuossavinKey) (file iv labels lengths o : List ℕ) → length file - 16 ≤ length o
-    → Tells (hostModeCall Decrypt 4 k) file iv labels lengths o (hostWhich k file iv labels lengths)
-unfolding hostModeCall modeOf hostWhich
-which-tells k file iv labels lengths o room = tells (cipherIn k) file iv labels lengths o room
 
 -- Under a key that does not encrypt the all-zero block to itself, a label of a job and an edition that is found is the only one that
 -- the file opens under.
@@ -210,16 +155,13 @@ the-edition k file iv labels lengths o room moves e j₁ j₂ e₁ e₂ hj₁ hj
     let t = which-tells k file iv labels lengths o room in
     let label : labelAt labels lengths (hostWhich k file iv labels lengths .place) ≡ labelOf j₁ e₁ = sym (t .part e) ∙ part in
     other-edition-refused k moves j₁ j₂ e₁ e₂ file iv o o hj₁ hj₂ he₁ he₂ other refl
-    (subst (λ (l : List ℕ). hostModeCall Decrypt 4 k l file iv o .head .number ≡ 0) label (t .found e .opens))
+    (rw label at (t .found e .opens))
 
 -- a search reports nothing but that it is done, and a refusal no candidate
-no-size : (k : Checked) (v : Verdict) → v .head ≡ finished 0 → checkedVerdict k v .head .size ≡ 0
-no-size Passed v e = ap (λ (h : Head). h .size) e
-no-size (Refused r) v e = refuses r .no-size
-
-some-place : (k : Checked) (v : Verdict) → v .head ≡ finished 0 → checkedVerdict k v .head .number ≢ 0 → checkedVerdict k v .found ≡ false
-some-place Passed v e n = absurd (n (ap (λ (h : Head). h .number) e))
-some-place (Refused r) v e n = refl
+searched : (k : Checked) (v : Verdict) → v .head ≡ finished 0
+    → (checkedVerdict k v .head .size ≡ 0) × (checkedVerdict k v .head .number ≢ 0 → checkedVerdict k v .found ≡ false)
+searched Passed v e = rw e (refl, λ n. absurd (n refl))
+searched (Refused r) v e = (refuses r .no-size, λ _. refl)
 
 -- Demand 1 of the exported question: length 0, the key's number, a part inside the lent buffer where one is found, and none otherwise.
 pub which-answers : (k : LuossavinKey) (file iv labels lengths : List ℕ)
@@ -227,17 +169,15 @@ pub which-answers : (k : LuossavinKey) (file iv labels lengths : List ℕ)
 unfolding hostWhich which
 which-answers k file iv labels lengths =
     let c = cipherIn k in
-    let check = searchCheck (c .answer) (c .retired) (length iv) (length file) lengths in
-    let v = firstOpening (opensWith c iv file) labels lengths 0 0 in
-    let f = search-number (opensWith c iv file) labels lengths in
+    let bad = badList labels lengths in
+    let (size, place) = searched (searchCheck (c .answer) (c .retired) (length iv) (length file) lengths) _
+    (search-number (opensWith c iv file) labels lengths) in
     record {
       key = λ e. rw e;
       bad = λ e. rw e;
-      size = split _ (badList labels lengths) (λ e. rw e) (λ e. rw e (no-size check v f));
+      size = by-test bad (λ e. rw e) (λ e. rw e size);
       either = one-or-none (which c file iv labels lengths .found);
-      refused = λ n. split _ (badList labels lengths) (λ e. rw e) (λ e. rw (e, some-place check v f (rw e at n)));
+      refused = λ n. by-test bad (λ e. rw e) (λ e. rw (e, place (rw e at n)));
       inside = λ e. found-opens c file iv labels lengths (is-true 1 0 refl _ e) .inside;
-      empty = λ e.
-          let v = zero-unless-found c file iv labels lengths (is-false 1 0 refl _ e) in
-          (ap (λ (v : Verdict). v .place) v, ap (λ (v : Verdict). v .start) v, ap (λ (v : Verdict). v .size) v);
+      empty = λ e. rw (zero-unless-found c file iv labels lengths (is-false 1 0 refl _ e)) (refl, refl, refl);
     }

@@ -1,57 +1,51 @@
 -- The engine is never seen: no definition of an outcome looks at its mark. Where a call leaves a state, the state's mark is all that
 -- differs, whether the call was refused or not.
 use Rattle.demands.specs.Names as N
-use N.{Bool, _||_, cond, List, [], _∷_, map, _∙_, _≡_, ap, ap₂, refl, sym, _+_, suc, zero, ℕ, eqb, ltb, drop, length, take, Outcome, under}
-use N.{refusalHead, blockCall, modeCall, keyAndIv, keyNumber, withEngine, Ctr as Ctr·mode, Encrypt, Sm4Cipher, Checked, Passed, Refused}
-use N.{Stepped, begun, ctrEnd, ctrPiece, ctrStart, goesOn, opensStart, sealEnd, sealPiece, sealStart, stepOn, gcmStarting, running, writing}
-use N.{ctrAfter, sealAfter, Ctr·state as Ctr, Opens, Seal, which, planCall, rangeCall, Entry, front·journal as front}
-use N.{sizeAt·journal as sizeAt, anyRetired, badKeys, hasNumber, keyAt, keyOf·journal as keyOf, numberTwice, placeOf, callInto, judged}
-use N.{recomputed, countedUnder, replay, replayOne, replayUpTo, counted, nothing, Replayed, Report, hostBlockCall, hostModeCall}
-use N.{directionOf, hostCtrStart, hostOpensStart, hostSealStart, hostReplay, keysOf, toldOf·journal as toldOf, cipherIn, hostKeyEngine}
-use N.{hostCtrByPlan, hostCtrRange, Told, hostWhich, LuossavinKeys, LuossavinKey}
+use N.{cond, List, [], _∷_, map, _∙_, _≡_, ap, refl, sym, _+_, suc, zero, ℕ, eqb, drop, length, take, blockCall, modeCall, keyAndIv}
+use N.{keyNumber, withEngine, Ctr as Ctr·mode, Encrypt, Sm4Cipher, Checked, Passed, Refused, Stepped, begun, goesOn, stepOn, ctrEnd}
+use N.{ctrPiece, ctrStart, opensStart, sealEnd, sealPiece, sealStart, gcmStarting, running, writing, ctrAfter, sealAfter, Ctr·state as Ctr}
+use N.{Seal, which, planCall, rangeCall, front·journal as front, sizeAt·journal as sizeAt, keyAt, anyRetired, badKeys, numberTwice, placeOf}
+use N.{callInto, replay, replayOne, replayUpTo, nothing, Report, hostBlockCall, hostModeCall, directionOf, hostCtrStart, hostOpensStart}
+use N.{hostSealStart, hostReplay, keysOf, cipherIn, hostKeyEngine, hostCtrByPlan, hostCtrRange, hostWhich, LuossavinKeys, LuossavinKey}
 use Rattle.demands.specs.EngineUnseen.{unmarked, unmarkedCtr, unmarkedSeal, seen, CtrAlike, SealAlike, unmarkedHost, ReportedAlike}
 use Rattle.demands.specs.EngineUnseen.{unmarkedKeys}
+use mathlib.Core.List.{map-map}
+use lib.ListN.{length-map, List·getD-map}
 
 -- what does not look at a mark is the same of things that are alike but for it
-by-mark : (R O : Type 0) (without : R → R) (r s : R) → without r ≡ without s → (f : R → O) → ((x : R) → f (without x) ≡ f x) → f r ≡ f s
-by-mark R O without r s alike f e = sym (e r) ∙ ap {B = O} f alike ∙ e s
+by-mark : {R O : Type 0} (without : R → R) (r s : R) → without r ≡ without s → (f : R → O) → ((x : R) → f (without x) ≡ f x) → f r ≡ f s
+by-mark without r s alike f e = sym (e r) ∙ ap f alike ∙ e s
 
 -- a call that leaves a state, by what its check says
-starts-alike : (S : Type 0) (without : S → S) (n : ℕ) (k : Checked) (shut : ℕ → S) (s t : S) → without s ≡ without t
+starts-alike : {S : Type 0} (without : S → S) (n : ℕ) (k : Checked) (shut : ℕ → S) (s t : S) → without s ≡ without t
     → seen S without (stepOn S n (begun S k shut s)) ≡ seen S without (stepOn S n (begun S k shut t))
-starts-alike S without n Passed shut s t e = ap {B = Stepped S} (λ (u : S). seen S (λ y. y) (stepOn S n (begun S Passed shut u))) e
-starts-alike S without n (Refused r) shut s t e = refl
+starts-alike without n Passed shut s t e = rw e
+starts-alike without n (Refused r) shut s t e = refl
 
-goes-alike : (S : Type 0) (without : S → S) (n : ℕ) (k : Checked) (o : List ℕ) (s t : S) (x y : Stepped S) → without s ≡ without t
+goes-alike : {S : Type 0} (without : S → S) (n : ℕ) (k : Checked) (o : List ℕ) (s t : S) (x y : Stepped S) → without s ≡ without t
     → seen S without x ≡ seen S without y → seen S without (stepOn S n (goesOn S k o s x)) ≡ seen S without (stepOn S n (goesOn S k o t y))
-goes-alike S without n Passed o s t x y e f = ap {B = Stepped S} (stepOn S n) f
-goes-alike S without n (Refused r) o s t x y e f =
-    ap {B = Stepped S} (λ (u : S). record { head = under n (refusalHead r); bytes = o; state = u }) e
+goes-alike {S} without n Passed o s t x y e f = ap (stepOn S n) f
+goes-alike without n (Refused r) o s t x y e f = rw e
 
 -- Records that are alike but for the engine.
-module _ (k l : LuossavinKey) (alike : unmarkedHost k ≡ unmarkedHost l) where
-  by-record : (O : Type 0) (f : LuossavinKey → O) → ((x : LuossavinKey) → f (unmarkedHost x) ≡ f x) → f k ≡ f l
-  by-record O = by-mark LuossavinKey O unmarkedHost k l alike
-
-  pub engine-unseen : ReportedAlike k l
-  unfolding hostKeyEngine cipherIn hostBlockCall blockCall hostModeCall modeCall hostCtrStart ctrStart ctrAfter hostSealStart sealStart
-      sealAfter
-      hostOpensStart opensStart hostWhich which hostCtrRange rangeCall hostCtrByPlan planCall
-  engine-unseen =
-      record {
-        block = λ dir b o. by-record Outcome (λ x. hostBlockCall dir x b o) (λ x. refl);
-        message = λ dir mode label e iv o. by-record Outcome (λ x. hostModeCall dir mode x label e iv o) (λ x. refl);
-        ctr = λ decrypt iv. by-record (Stepped Ctr) (λ x. seen Ctr unmarkedCtr (hostCtrStart x decrypt iv)) (λ x.
-            let c = cipherIn x in
-            starts-alike Ctr unmarkedCtr _ (keyAndIv (c .answer) (c .retired) (directionOf decrypt) Ctr·mode (length iv)) _ _ _ refl);
-        sealing = λ label iv. by-record (Stepped Seal) (λ x. seen Seal unmarkedSeal (hostSealStart x label iv)) (λ x.
-            let c = cipherIn x in
-            starts-alike Seal unmarkedSeal _ (gcmStarting (c .answer) (c .retired) Encrypt (length iv) (length label)) _ _ _ refl);
-        opening = λ label iv. by-record (Stepped Opens) (λ x. hostOpensStart x label iv) (λ x. refl);
-        which = λ file iv labels lengths. by-record Told (λ x. hostWhich x file iv labels lengths) (λ x. refl);
-        range = λ decrypt iv offset e o. by-record Outcome (λ x. hostCtrRange x decrypt iv offset e o) (λ x. refl);
-        by-plan = λ decrypt iv plan e o. by-record Outcome (λ x. hostCtrByPlan x decrypt iv plan e o) (λ x. refl);
-      }
+pub engine-unseen : (k l : LuossavinKey) → unmarkedHost k ≡ unmarkedHost l → ReportedAlike k l
+unfolding hostKeyEngine cipherIn hostBlockCall blockCall hostModeCall modeCall hostCtrStart ctrStart ctrAfter hostSealStart sealStart
+    sealAfter hostOpensStart opensStart hostWhich which hostCtrRange rangeCall hostCtrByPlan planCall
+engine-unseen k l alike =
+    record {
+      block = λ dir b o. by-mark unmarkedHost k l alike (λ x. hostBlockCall dir x b o) (λ x. refl);
+      message = λ dir mode label e iv o. by-mark unmarkedHost k l alike (λ x. hostModeCall dir mode x label e iv o) (λ x. refl);
+      ctr = λ decrypt iv. by-mark unmarkedHost k l alike (λ x. seen Ctr unmarkedCtr (hostCtrStart x decrypt iv)) (λ x.
+          let c = cipherIn x in
+          starts-alike unmarkedCtr _ (keyAndIv (c .answer) (c .retired) (directionOf decrypt) Ctr·mode (length iv)) _ _ _ refl);
+      sealing = λ label iv. by-mark unmarkedHost k l alike (λ x. seen Seal unmarkedSeal (hostSealStart x label iv)) (λ x.
+          let c = cipherIn x in
+          starts-alike unmarkedSeal _ (gcmStarting (c .answer) (c .retired) Encrypt (length iv) (length label)) _ _ _ refl);
+      opening = λ label iv. by-mark unmarkedHost k l alike (λ x. hostOpensStart x label iv) (λ x. refl);
+      which = λ file iv labels lengths. by-mark unmarkedHost k l alike (λ x. hostWhich x file iv labels lengths) (λ x. refl);
+      range = λ decrypt iv offset e o. by-mark unmarkedHost k l alike (λ x. hostCtrRange x decrypt iv offset e o) (λ x. refl);
+      by-plan = λ decrypt iv plan e o. by-mark unmarkedHost k l alike (λ x. hostCtrByPlan x decrypt iv plan e o) (λ x. refl);
+    }
 
 -- Marking a host's record changes nothing that a call tells.
 pub marked-alike : (k : LuossavinKey) (e : ℕ) → ReportedAlike (hostKeyEngine k e) k
@@ -63,23 +57,21 @@ pub engine-unseen-in-ctr : (s t : Ctr) → unmarkedCtr s ≡ unmarkedCtr t → C
 unfolding ctrPiece ctrEnd
 engine-unseen-in-ctr s t alike =
     record {
-      piece = λ e o. by-mark Ctr (Stepped Ctr) unmarkedCtr s t alike (λ x. seen Ctr unmarkedCtr (ctrPiece x e o)) (λ x.
-          goes-alike Ctr unmarkedCtr (x .key) (writing (x .stands) 0 (x .total) (length e) (length e) (length o)) o (unmarkedCtr x) x _ _
-          refl refl);
-      end = by-mark Ctr (Stepped Ctr) unmarkedCtr s t alike (λ x. seen Ctr unmarkedCtr (ctrEnd x)) (λ x.
-          goes-alike Ctr unmarkedCtr (x .key) (running (x .stands) 0 (x .total) 0) [] (unmarkedCtr x) x _ _ refl refl);
+      piece = λ e o. by-mark unmarkedCtr s t alike (λ x. seen Ctr unmarkedCtr (ctrPiece x e o)) (λ x.
+          goes-alike unmarkedCtr _ (writing (x .stands) 0 (x .total) (length e) (length e) (length o)) o (unmarkedCtr x) x _ _ refl refl);
+      end = by-mark unmarkedCtr s t alike (λ x. seen Ctr unmarkedCtr (ctrEnd x)) (λ x.
+          goes-alike unmarkedCtr _ (running (x .stands) 0 (x .total) 0) [] (unmarkedCtr x) x _ _ refl refl);
     }
 
 pub engine-unseen-in-seal : (s t : Seal) → unmarkedSeal s ≡ unmarkedSeal t → SealAlike s t
 unfolding sealPiece sealEnd
 engine-unseen-in-seal s t alike =
     record {
-      piece = λ e o. by-mark Seal (Stepped Seal) unmarkedSeal s t alike (λ x. seen Seal unmarkedSeal (sealPiece x e o)) (λ x.
-          goes-alike Seal unmarkedSeal (x .key) (writing (x .stands) (x .label) (x .total) (length e) (length e) (length o)) o
-          (unmarkedSeal x) x _ _ refl refl);
-      end = λ o. by-mark Seal (Stepped Seal) unmarkedSeal s t alike (λ x. seen Seal unmarkedSeal (sealEnd x o)) (λ x.
-          goes-alike Seal unmarkedSeal (x .key) (writing (x .stands) (x .label) (x .total) 0 16 (length o)) o (unmarkedSeal x) x _ _ refl
-          refl);
+      piece = λ e o. by-mark unmarkedSeal s t alike (λ x. seen Seal unmarkedSeal (sealPiece x e o)) (λ x.
+          let k = writing (x .stands) (x .label) (x .total) (length e) (length e) (length o) in
+          goes-alike unmarkedSeal _ k o (unmarkedSeal x) x _ _ refl refl);
+      end = λ o. by-mark unmarkedSeal s t alike (λ x. seen Seal unmarkedSeal (sealEnd x o)) (λ x.
+          goes-alike unmarkedSeal _ (writing (x .stands) (x .label) (x .total) 0 16 (length o)) o (unmarkedSeal x) x _ _ refl refl);
     }
 
 -- What a host's record is without its mark.
@@ -91,96 +83,48 @@ host-unmarked k = refl
 -- that does not show it.
 
 -- keys without their marks
-abbrev plainly : List Sm4Cipher → List Sm4Cipher
-plainly cs = map unmarked cs
-
-length-plainly : (cs : List Sm4Cipher) → length (plainly cs) ≡ length cs
-length-plainly [] = refl
-length-plainly (c ∷ cs) = ap suc (length-plainly cs)
-
-take-plainly : (n : ℕ) (cs : List Sm4Cipher) → take n (plainly cs) ≡ plainly (take n cs)
-take-plainly zero cs = refl
-take-plainly (suc n) [] = refl
-take-plainly (suc n) (c ∷ cs) = ap (λ (l : List Sm4Cipher). unmarked c ∷ l) (take-plainly n cs)
+take-unmarked : (n : ℕ) (cs : List Sm4Cipher) → take n (map unmarked cs) ≡ map unmarked (take n cs)
+take-unmarked zero cs = refl
+take-unmarked (suc n) [] = refl
+take-unmarked (suc n) (c ∷ cs) = ap (λ (l : List Sm4Cipher). unmarked c ∷ l) (take-unmarked n cs)
 
 -- the key that a number names
-place-plainly : (n : ℕ) (cs : List Sm4Cipher) → placeOf n (plainly cs) ≡ placeOf n cs
+place-unmarked : (n : ℕ) (cs : List Sm4Cipher) → placeOf n (map unmarked cs) ≡ placeOf n cs
 unfolding placeOf withEngine
-place-plainly n [] = refl
-place-plainly n (c ∷ cs) = ap (λ (i : ℕ). cond (eqb (keyNumber c) n) 0 (1 + i)) (place-plainly n cs)
-
-has-plainly : (n : ℕ) (cs : List Sm4Cipher) → hasNumber n (plainly cs) ≡ hasNumber n cs
-has-plainly n cs = ap₂ {C = Bool} ltb (place-plainly n cs) (length-plainly cs)
-
-at-plainly : (cs : List Sm4Cipher) (i : ℕ) → keyAt (plainly cs) i ≡ unmarked (keyAt cs i)
-unfolding withEngine
-at-plainly [] i = refl
-at-plainly (c ∷ cs) zero = refl
-at-plainly (c ∷ cs) (suc i) = at-plainly cs i
-
-named-plainly : (n : ℕ) (cs : List Sm4Cipher) → keyOf n (plainly cs) ≡ unmarked (keyOf n cs)
-named-plainly n cs = ap {B = Sm4Cipher} (keyAt (plainly cs)) (place-plainly n cs) ∙ at-plainly cs (placeOf n cs)
+place-unmarked n [] = refl
+place-unmarked n (c ∷ cs) = ap (λ (i : ℕ). cond (eqb (keyNumber c) n) 0 (1 + i)) (place-unmarked n cs)
 
 -- what is bad of keys
-retired-plainly : (cs : List Sm4Cipher) → anyRetired (plainly cs) ≡ anyRetired cs
-unfolding anyRetired withEngine
-retired-plainly [] = refl
-retired-plainly (c ∷ cs) = ap {B = Bool} (λ (b : Bool). c .retired || b) (retired-plainly cs)
-
-twice-plainly : (cs : List Sm4Cipher) → numberTwice (plainly cs) ≡ numberTwice cs
-unfolding numberTwice withEngine
-twice-plainly [] = refl
-twice-plainly (c ∷ cs) = ap₂ {C = Bool} _||_ (has-plainly (keyNumber c) cs) (twice-plainly cs)
+bad-unmarked : (cs : List Sm4Cipher) → (anyRetired (map unmarked cs) ≡ anyRetired cs) × (numberTwice (map unmarked cs) ≡ numberTwice cs)
+unfolding anyRetired numberTwice withEngine
+bad-unmarked [] = (refl, refl)
+bad-unmarked (c ∷ cs) =
+    let (retired, twice) = bad-unmarked cs in
+    (rw retired, rw (place-unmarked (keyNumber c) cs, length-map cs unmarked, twice))
 
 -- a record made again
-again-plainly : (c : Sm4Cipher) (e : Entry) → recomputed (unmarked c) e ≡ recomputed c e
-unfolding callInto modeCall withEngine
-again-plainly c e = refl
+one-unmarked : (ks : List Sm4Cipher) (b : List ℕ) (place : ℕ) (r : Report) → replayOne (map unmarked ks) b place r ≡ replayOne ks b place r
+unfolding replayOne callInto modeCall withEngine
+one-unmarked ks b place r =
+    let n = front b .key in
+    rw (place-unmarked n ks, length-map ks unmarked, List·getD-map unmarked ks (placeOf n ks) (keyAt [] 0))
 
-counted-plainly : (ks : List Sm4Cipher) (e : Entry) (place : ℕ) (r : Report)
-    → countedUnder (plainly ks) e place r ≡ countedUnder ks e place r
-counted-plainly ks e place r =
-    ap {B = Report} (λ (c : Sm4Cipher). counted e (judged e (recomputed c e)) place r) (named-plainly (e .key) ks)
-    ∙ rw (again-plainly (keyOf (e .key) ks) e)
-
-one-plainly : (ks : List Sm4Cipher) (b : List ℕ) (place : ℕ) (r : Report) → replayOne (plainly ks) b place r ≡ replayOne ks b place r
-unfolding replayOne
-one-plainly ks b place r = rw (has-plainly (front b .key) ks, counted-plainly ks (front b) place r)
-
-up-to-plainly : (n : ℕ) (ks : List Sm4Cipher) (b : List ℕ) (place : ℕ) (r : Report)
-    → replayUpTo n (plainly ks) b place r ≡ replayUpTo n ks b place r
+up-to-unmarked : (n : ℕ) (ks : List Sm4Cipher) (b : List ℕ) (place : ℕ) (r : Report)
+    → replayUpTo n (map unmarked ks) b place r ≡ replayUpTo n ks b place r
 unfolding replayUpTo
-up-to-plainly zero ks b place r = refl
-up-to-plainly (suc n) ks b place r =
-    let next = up-to-plainly n ks (drop (sizeAt b) b) (place + sizeAt b) (replayOne ks b place r .report) in
-    rw (one-plainly ks b place r, next)
-
-replay-plainly : (count : ℕ) (cs : List Sm4Cipher) (journal : List ℕ)
-    → replay (record { count = count; keys = plainly cs }) journal ≡ replay (record { count = count; keys = cs }) journal
-unfolding replay badKeys
-replay-plainly count cs journal =
-    let ks = take count cs in
-    rw (
-      take-plainly count cs,
-      retired-plainly ks,
-      twice-plainly ks,
-      up-to-plainly (length journal) ks journal 0 nothing,
-    )
-
--- a host's keys
-hosts-plainly : (ks : List LuossavinKey) → map cipherIn (map unmarkedHost ks) ≡ plainly (map cipherIn ks)
-hosts-plainly [] = refl
-hosts-plainly (k ∷ ks) = ap₂ {C = List Sm4Cipher} _∷_ (host-unmarked k) (hosts-plainly ks)
+up-to-unmarked zero ks b place r = refl
+up-to-unmarked (suc n) ks b place r =
+    rw (one-unmarked ks b place r, up-to-unmarked n ks (drop (sizeAt b) b) (place + sizeAt b) (replayOne ks b place r .report))
 
 unmarked-replay : (k : LuossavinKeys) (journal : List ℕ) → hostReplay (unmarkedKeys k) journal ≡ hostReplay k journal
-unfolding hostReplay keysOf
+unfolding hostReplay keysOf cipherIn hostKeyEngine withEngine replay badKeys
 unmarked-replay k journal =
-    ap toldOf
-    (ap {B = Replayed} (λ (cs : List Sm4Cipher). replay (record { count = k .count; keys = cs }) journal) (hosts-plainly (k .keys))
-    ∙ replay-plainly (k .count) (map cipherIn (k .keys)) journal)
+    let ks = take (k .count) (map cipherIn (k .keys)) in
+    let hosts : map cipherIn (map unmarkedHost (k .keys)) ≡ map unmarked (map cipherIn (k .keys)) =
+    map-map cipherIn unmarkedHost (k .keys) ∙ sym (map-map unmarked cipherIn (k .keys)) in
+    rw (hosts, take-unmarked (k .count), bad-unmarked ks .0, bad-unmarked ks .1, up-to-unmarked (length journal) ks journal 0 nothing)
 
 -- Keys that are alike but for their engines.
 pub engine-unseen-in-replay : (k l : LuossavinKeys) → unmarkedKeys k ≡ unmarkedKeys l → (journal : List ℕ)
     → hostReplay k journal ≡ hostReplay l journal
-engine-unseen-in-replay k l alike journal =
-    sym (unmarked-replay k journal) ∙ ap (λ (x : LuossavinKeys). hostReplay x journal) alike ∙ unmarked-replay l journal
+engine-unseen-in-replay k l alike journal = by-mark unmarkedKeys k l alike (λ x. hostReplay x journal) (λ x. unmarked-replay x journal)

@@ -1,11 +1,10 @@
 -- Hashes of halves, joined: over the exported calls they are the hash of the whole, and with two encrypted blocks they make the tag that
 -- the single call makes.
 use Rattle.demands.specs.Names as N
-use N.{cond, false, List, [], _++_, _∷_, append-assoc, ⊎-elim, _∙_, _≡_, ap, ap₂, refl, sym, _*_, _+_, _/_, ℕ, div-add-mod', arith, eqb}
-use N.{length, length-append, replicate, eq-eqb, bytesOf, numberOf, xors, Element, encryptBlock, authBlocks, blockCount, blocks, ghash}
-use N.{lengthBlock, joined, J0, firstCounter, hashKey, hashedCounter, sealed, tagOf, tagPart, textOf, textPart, retiredCheck, wrongIv}
-use N.{modeOf, Gcm, Encrypt, Key, Passed, value, hashOf, hostHashBlocks, hostHashJoin, hostBlockCall, hostModeCall, cipherIn}
-use N.{U128, LuossavinKey}
+use N.{false, List, [], _++_, _∷_, append-assoc, ⊎-elim, _∙_, _≡_, refl, sym, _*_, _/_, ℕ, div-add-mod', arith, length, length-append}
+use N.{replicate, eq-eqb, bytesOf, numberOf, Element, encryptBlock, authBlocks, blocks, ghash, lengthBlock, joined, J0, firstCounter}
+use N.{hashKey, sealed, tagOf, textOf, retiredCheck, wrongIv, modeOf, Gcm, Encrypt, Key, Passed, value, hashOf, hostHashBlocks}
+use N.{hostHashJoin, hostBlockCall, hostModeCall, cipherIn, LuossavinKey}
 use Rattle.block.proofs.Convert.{length-bytesOf}
 use Rattle.field.proofs.Bounded.{whole-lt}
 use Rattle.ghash.proofs.Blocks.{blocks-full, blocks-append, length-blocks}
@@ -13,10 +12,9 @@ use Rattle.ghash.proofs.JoinedBytes.{joins, joins-bytes}
 use Rattle.gcm.proofs.HashKey.{hashKey-lt}
 use Rattle.gcm.proofs.Parts.{parts-text, parts-tag, sealed-text, sealed-tag}
 use Rattle.cipher_mode.proofs.Passed.{iv-twelve-or-sixteen}
-use Rattle.demands.specs.Call.{inGcm, result}
-use Rattle.demands.specs.Halves.{WholeBlocks, JoinsHalves, enciphered, keyOfHash, bytesIn, pair, counterOf, hashOfAll, tagOfHalves}
+use Rattle.demands.specs.Call.{inGcm}
+use Rattle.demands.specs.Halves.{WholeBlocks, JoinsHalves, enciphered, keyOfHash, pair, counterOf, hashOfAll, tagOfHalves}
 use Rattle.demands.specs.Halves.{TagsByHalves}
-use Rattle.demands.specs.CameRound.{followedBy}
 use Rattle.demands.proofs.CameRound.{length-counter}
 use Rattle.demands.proofs.Through.{result-of-done, through, leaves, block-leaves}
 
@@ -24,60 +22,35 @@ use Rattle.demands.proofs.Through.{result-of-done, through, leaves, blo
 value-back : (n : ℕ) → value (hashOf n) ≡ n
 value-back n = div-add-mod' n _
 
--- the exported calls on the values of numbers
-blocks-of : (h : ℕ) (bs : List ℕ) → hostHashBlocks (hashOf h) bs ≡ hashOf (ghash h (blocks bs))
-unfolding hostHashBlocks
-blocks-of h bs = ap {B = U128} (λ (k : ℕ). hashOf (ghash k (blocks bs))) (value-back h)
-
-join-of : (h x y n : ℕ) → hostHashJoin (hashOf h) (hashOf x) (hashOf y) n ≡ hashOf (joined h x y n)
-unfolding hostHashJoin
-join-of h x y n =
-    ap {B = U128} (λ (k : ℕ). hashOf (joined k (value (hashOf x)) (value (hashOf y)) n)) (value-back h)
-    ∙ ap₂ {C = U128} (λ (u v : ℕ). hashOf (joined h u v n)) (value-back x) (value-back y)
-
 -- Where the first half is whole blocks, the halves' hashes joined are the hash of both.
 pub joined-halves : JoinsHalves hostHashBlocks hostHashJoin
 unfolding hostHashBlocks hostHashJoin
 joined-halves h v a b whole =
-    let k = value h in
-    ap₂ {C = U128} (λ (x y : ℕ). hashOf (joined k x y (blockCount (length b))))
-    (value-back (ghash k (blocks a))) (value-back (ghash k (blocks b)))
-    ∙ ap {B = U128} hashOf (joins-bytes k (whole-lt (h .high) (h .low) (v .high) (v .low)) (length a / 16) a b (omega arith))
-
-length-pair : (a b : ℕ) → length (pair a b) ≡ 16
-length-pair a b = length-append (bytesOf 8 a) (bytesOf 8 b) ∙ ap₂ _+_ (length-bytesOf 8 a) (length-bytesOf 8 b)
+    simp (value-back, joins-bytes (value h) (whole-lt (h .high) (h .low) (v .high) (v .low)) (length a / 16) a b (omega arith))
 
 pair-block : (m n : ℕ) → blocks (pair (8 * m) (8 * n)) ≡ lengthBlock m n ∷ []
 unfolding lengthBlock
-pair-block m n = blocks-full (pair (8 * m) (8 * n)) (length-pair (8 * m) (8 * n))
+pair-block m n = blocks-full (pair (8 * m) (8 * n)) (simp (length-append, length-bytesOf))
 
 -- under the value of an element
 module _ (h : ℕ) (element : Element h) where
-  -- one more half behind blocks that are hashed, and one more block
-  joins-half : (xs b : List ℕ) → joined h (ghash h xs) (ghash h (blocks b)) (blockCount (length b)) ≡ ghash h (xs ++ blocks b)
-  joins-half xs b = ap (joined h (ghash h xs) (ghash h (blocks b))) (sym (length-blocks b)) ∙ joins h element xs (blocks b)
-
+  -- one more block
   joins-block : (xs : List ℕ) (y : ℕ) → joined h (ghash h xs) (ghash h (y ∷ [])) 1 ≡ ghash h (xs ++ (y ∷ []))
   joins-block xs y = joins h element xs (y ∷ [])
 
   -- label, halves and lengths
   all-joined : (label a b : List ℕ) → WholeBlocks a → hashOfAll (hashOf h) label a b ≡ hashOf (ghash h (authBlocks label (a ++ b)))
-  unfolding authBlocks
+  unfolding authBlocks hostHashBlocks hostHashJoin
   all-joined label a b whole =
       let cut = blocks-append (length a / 16) a b (omega arith) in
-      simp (blocks-of h, join-of h, joins-half, pair-block, joins-block, append-assoc, cut, length-append)
-
-  hashed-counter : (iv : List ℕ) → length iv ≡ 16 → bytesIn (hostHashBlocks (hashOf h) (iv ++ pair 0 128)) ≡ hashedCounter h iv
-  hashed-counter iv n =
-      let number : lengthBlock 0 16 ≡ 128 = unfold lengthBlock numberOf bytesOf in refl in
-      rw (blocks-of h (iv ++ pair 0 128), value-back, blocks-append 1 iv (pair 0 128) n, blocks-full iv n, pair-block 0 16, number)
+      simp (value-back, ← length-blocks, joins h element, joins-block, pair-block, append-assoc, cut, length-append)
 
   counter-is : (iv : List ℕ) → wrongIv Gcm (length iv) ≡ false → counterOf (hashOf h) iv ≡ firstCounter h iv
-  unfolding firstCounter
+  unfolding firstCounter hostHashBlocks
   counter-is iv e =
-      ⊎-elim
-      (λ n. rw (eq-eqb (length iv) 12 n))
-      (λ n. ap (cond (eqb (length iv) 12) (followedBy 1 iv)) (hashed-counter iv n))
+      let number : lengthBlock 0 16 ≡ 128 = unfold lengthBlock numberOf bytesOf in refl in
+      ⊎-elim (λ n. rw (eq-eqb (length iv) 12 n))
+      (λ n. simp (value-back, blocks-append 1 iv (pair 0 128) n, blocks-full iv n, pair-block 0 16, number))
       (iv-twelve-or-sixteen (length iv) e)
 
 -- a usable and unretired key encrypts a block
@@ -86,12 +59,12 @@ module _ (k : LuossavinKey) (usable : cipherIn k .answer ≡ Key) (may : retired
   unfolding hostBlockCall
   enciphers b n =
       let room : List ℕ = replicate 16 0 in
-      ap result (block-leaves Encrypt (cipherIn k) b room (record { key = usable; size = n; may = may; enough = omega arith }))
-      ∙ result-of-done (encryptBlock (cipherIn k .rk) b) room
+      rw (block-leaves Encrypt (cipherIn k) b room (record { key = usable; size = n; may = may; enough = omega arith }))
+      (result-of-done (encryptBlock (cipherIn k .rk) b) room)
 
   key-is : keyOfHash k ≡ hashOf (hashKey (cipherIn k .rk))
   unfolding hashKey
-  key-is = ap {B = U128} (λ (b : List ℕ). hashOf (numberOf b)) (enciphers (replicate 16 0) refl)
+  key-is = rw (enciphers (replicate 16 0) refl)
 
   tag-is : (label iv a b : List ℕ) → wrongIv Gcm (length iv) ≡ false → WholeBlocks a
       → let rk = cipherIn k .rk in tagOfHalves k label iv a b ≡ tagOf rk (hashKey rk) (J0 rk iv) label (a ++ b)
@@ -99,11 +72,8 @@ module _ (k : LuossavinKey) (usable : cipherIn k .answer ≡ Key) (may : retired
   tag-is label iv a b e whole =
       let rk = cipherIn k .rk in
       let h = hashKey rk in
-      let counter = ap (λ (x : U128). counterOf x iv) key-is ∙ counter-is h (hashKey-lt rk) iv e in
-      let mask = ap (enciphered k) counter ∙ enciphers (J0 rk iv) (length-counter h iv) in
-      let all = ap {B = U128} (λ (x : U128). hashOfAll x label a b) key-is
-      ∙ all-joined h (hashKey-lt rk) label a b whole in
-      ap₂ xors mask (ap bytesIn all ∙ ap (bytesOf 16) (value-back (ghash h (authBlocks label (a ++ b)))))
+      let el = hashKey-lt rk in
+      rw (key-is, counter-is h el iv e, enciphers (J0 rk iv) (length-counter h iv), all-joined h el label a b whole, value-back)
 
 -- Where sealing answers 0, the hashes of label, halves and lengths, joined by the exported calls alone, make its tag.
 pub tags-by-halves : (k : LuossavinKey) → TagsByHalves k
@@ -115,11 +85,7 @@ tags-by-halves k label d iv o a b t e cut n whole =
     let j = J0 rk iv in
     let p = through Encrypt (inGcm c) label d iv o e in
     let message : (a ++ b) ++ t ≡ sealed rk h j label d =
-    sym cut ∙ ap result (leaves Encrypt (inGcm c) label d iv o p) ∙ result-of-done (sealed rk h j label d) o in
-    let text : textOf rk j d ≡ a ++ b =
-    sym (sealed-text rk h j label d) ∙ ap textPart (sym message) ∙ parts-text (a ++ b) t n in
+    sym cut ∙ rw (leaves Encrypt (inGcm c) label d iv o p) (result-of-done (sealed rk h j label d) o) in
+    let text : textOf rk j d ≡ a ++ b = sym (rw (← message) at (sealed-text rk h j label d)) ∙ parts-text (a ++ b) t n in
     tag-is k (p .key) (p .may) label iv a b (p .iv-size) whole
-    ∙ ap (tagOf rk h j label) (sym text)
-    ∙ sym (sealed-tag rk h j label d)
-    ∙ ap tagPart (sym message)
-    ∙ parts-tag (a ++ b) t n
+    ∙ rw (← text) (sym (rw (← message) at (sealed-tag rk h j label d)) ∙ parts-tag (a ++ b) t n)

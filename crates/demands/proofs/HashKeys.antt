@@ -1,11 +1,10 @@
 -- How many hash keys could ever confuse two files: `roots` has it for all lengths that can be hashed, and here are the limits, the
 -- labels of jobs and editions, and two pairs at which the bound is reached.
 use Rattle.demands.specs.Names as N
-use N.{List, List·Mem, Pairwise·cons, [], _∷_, mem-of-ne-of-mem, mem-singleton, pairwise-singleton, _≢_, ⊎-elim, _≡_, ap, refl, subst, sym}
-use N.{_+_, _^_, _≤_, ℕ, eq-zero-or-pos, le-trans, lt-of-le-of-lt, max-le, mul-le-mul-right, ℕ-set, arith, lit<, lit≤, length}
-use N.{length-append, AreBytes, bytesOf, numberOf, Element, gmul, mulFrom, timesX, authBlocks, blockCount, Ghash·block as blockOf, blocks}
-use N.{blocksFrom, hashFrom, lengthBlock, AtMost, Confuses, Pair, Sound, hashedCount, pairHash, hashKey, limit, modeOf, Decrypt, labelOf}
-use N.{hostModeCall, cipherIn, LuossavinKey}
+use N.{List, List·Mem, Pairwise·cons, [], _∷_, mem-of-ne-of-mem, mem-singleton, pairwise-singleton, _≢_, ⊎-elim, _≡_, ap, refl, _+_, _^_}
+use N.{_≤_, ℕ, eq-zero-or-pos, le-trans, lt-of-le-of-lt, max-le, mul-le-mul-right, ℕ-set, arith, lit<, length, length-append, AreBytes}
+use N.{bytesOf, numberOf, Element, gmul, mulFrom, timesX, authBlocks, blockCount, Ghash·block as blockOf, blocks, blocksFrom, hashFrom}
+use N.{lengthBlock, AtMost, Confuses, Pair, hashedCount, pairHash, hashKey, modeOf, Decrypt, labelOf, hostModeCall, cipherIn, LuossavinKey}
 use Rattle.roots.proofs.FewConfuse.{few-confuse, zero-confuses}
 use Rattle.roots.proofs.EveryElement.{more-have}
 use Rattle.label.proofs.LabelTells.{length-label, label-bytes, label-job, label-edition}
@@ -13,60 +12,34 @@ use Rattle.demands.specs.HashKeys.{WithinLimits, FewKeysConfuse, ZeroKey
 use Rattle.demands.specs.HashKeys.{nothing, BoundReached, UnconfusedRefused, withoutLengths}
 use Rattle.demands.proofs.OneBlockRefused.{other-hash-refused}
 
-sound : (p : Pair) → WithinLimits p → Sound p
-sound p w =
-    record {
-      label-bytes = w .label-bytes;
-      ciphertext-bytes = w .ciphertext-bytes;
-      label-length = omega (arith, w .label-limit);
-      ciphertext-length = omega (arith, w .ciphertext-limit);
-    }
-
 pub few-keys-confuse : FewKeysConfuse pairHash
-few-keys-confuse p q wp wq = few-confuse p q (sound p wp) (sound q wq)
+few-keys-confuse p q wp wq = few-confuse p q (search arith) (search arith)
 
 pub zero-key-confuses : ZeroKeyConfuses pairHash
 zero-key-confuses = zero-confuses
 
--- 1,048,576 blocks of label, as many of ciphertext, and the length block
-most-blocks : (p : Pair) → WithinLimits p → hashedCount p ≤ 2097153
-most-blocks p w = omega (arith, w .label-limit, w .ciphertext-limit)
+-- no more than both have blocks
+at-most : (n : ℕ) (p q : Pair) → WithinLimits p → WithinLimits q → hashedCount p ≤ n → hashedCount q ≤ n → p ≢ q
+    → AtMost n (Confuses pairHash p q)
+at-most n p q wp wq hp hq ne hs g = le-trans (few-keys-confuse p q wp wq ne hs g) (max-le hp hq)
 
 pub rarely-confused : RarelyConfused pairHash
 rarely-confused p q wp wq ne =
+    -- 1,048,576 blocks of label, as many of ciphertext, and the length block
+    let few = at-most 2097153 p q wp wq (omega arith) (omega arith) ne in
     (few, λ hs g. lt-of-le-of-lt (mul-le-mul-right (10 ^ 32) (few hs g)) (lit< tt))
-  where
-    few : AtMost 2097153 (Confuses pairHash p q)
-    few hs g = le-trans (few-keys-confuse p q wp wq ne hs g) (max-le (most-blocks p wp) (most-blocks q wq))
 
 pub few-confuse-editions : FewConfuseEditions pairHash
-few-confuse-editions job₁ job₂ edition₁ edition₂ n c₁ c₂ hj₁ hj₂ he₁ he₂ b₁ b₂ l₁ l₂ l ne hs g =
-    le-trans
-    (few-keys-confuse (under job₁ edition₁ c₁) (under job₂ edition₂ c₂) (within job₁ edition₁ c₁ b₁ l₁) (within job₂ edition₂ c₂ b₂ l₂)
-    different hs g)
-    (max-le (count job₁ edition₁ c₁ l₁) (count job₂ edition₂ c₂ l₂))
-  where
-    within : (job edition : ℕ) (c : List ℕ) → AreBytes c → length c ≤ n → WithinLimits (under job edition c)
-    within job edition c b k =
-        record {
-          label-bytes = label-bytes job edition;
-          ciphertext-bytes = b;
-          label-limit = omega (arith, length-label job edition);
-          ciphertext-limit = le-trans k l;
-        }
-
+few-confuse-editions job₁ job₂ edition₁ edition₂ n c₁ c₂ hj₁ hj₂ he₁ he₂ b₁ b₂ l₁ l₂ l ne =
     -- a label is one block
-    count : (job edition : ℕ) (c : List ℕ) → length c ≤ n → hashedCount (under job edition c) ≤ blockCount n + 2
-    count job edition c k = omega (arith, length-label job edition)
-
-    different : under job₁ edition₁ c₁ ≢ under job₂ edition₂ c₂
-    different e =
-        let labels : labelOf job₁ edition₁ ≡ labelOf job₂ edition₂ = ap (λ (p : Pair). p .label) e in
-        ne (
-          label-job job₁ edition₁ job₂ edition₂ labels hj₁ hj₂,
-          label-edition job₁ edition₁ job₂ edition₂ labels he₁ he₂,
-          ap (λ (p : Pair). p .ciphertext) e,
-        )
+    let size₁ = length-label job₁ edition₁ in
+    let size₂ = length-label job₂ edition₂ in
+    at-most (blockCount n + 2) (under job₁ edition₁ c₁) (under job₂ edition₂ c₂) (search (label-bytes, arith)) (search (label-bytes, arith))
+    (omega arith) (omega arith) (λ e.
+    let labels : labelOf job₁ edition₁ ≡ labelOf job₂ edition₂ = ap (λ (p : Pair). p .label) e in
+    let job = label-job job₁ edition₁ job₂ edition₂ labels hj₁ hj₂ in
+    let edition = label-edition job₁ edition₁ job₂ edition₂ labels he₁ he₂ in
+    ne (job, edition, ap (λ (p : Pair). p .ciphertext) e))
 
 -- 80 and fifteen 00 is the one of the field and the length block of 16 bytes 128, so the hash is (H + 128) times H
 confused-at-128 : Confuses pairHash oneBlock nothing 128
@@ -81,11 +54,8 @@ bound-reached = record { confused = record { different = Pairwise·cons apart (p
 
     each : (h : ℕ) → List·Mem h (0 ∷ 128 ∷ []) → Element h × Confuses pairHash oneBlock nothing h
     each h m =
-        ⊎-elim
-        (λ z. subst (λ (x : ℕ). Element x × Confuses pairHash oneBlock nothing x) (sym z) (lit< tt, zero-confuses oneBlock nothing))
-        (λ pos. subst (λ (x : ℕ). Element x × Confuses pairHash oneBlock nothing x)
-        (sym (mem-singleton ℕ-set .0 (mem-of-ne-of-mem (λ z. omega (arith, pos, z)) m))) (lit< tt, confused-at-128))
-        (eq-zero-or-pos h)
+        ⊎-elim (λ z. rw z (lit< tt, zero-confuses oneBlock nothing))
+        (λ pos. rw (mem-singleton ℕ-set .0 (mem-of-ne-of-mem (λ z. omega (arith, pos, z)) m)) (lit< tt, confused-at-128)) (eq-zero-or-pos h)
 
 pub unconfused-refused : (k : LuossavinKey) → UnconfusedRefused (hashKey (k .«round_keys»)) (hostModeCall Decrypt 4 k)
 unfolding hostModeCall modeOf cipherIn
@@ -100,14 +70,7 @@ unconfused-refused k p q t iv o₁ o₂ w n room ne opens =
 pub without-lengths-contradicts : ¬ FewKeysConfuse withoutLengths
 unfolding numberOf blockOf blocksFrom blocks
 without-lengths-contradicts few =
-    let p = only (0 ∷ []) in
-    let q = only (0 ∷ 0 ∷ []) in
-    let wp = within (0 ∷ []) (lit< tt, tt) (lit≤ tt) in
-    let wq = within (0 ∷ 0 ∷ []) (lit< tt, (lit< tt, tt)) (lit≤ tt) in
-    more-have _ (λ h. refl) 2 (lit< tt) (few p q wp wq (λ e. omega (arith, ap (λ (r : Pair). length (r .label)) e)))
-  where
-    only : List ℕ → Pair
-    only l = record { label = l; ciphertext = [] }
-
-    within : (l : List ℕ) → AreBytes l → length l ≤ limit → WithinLimits (only l)
-    within l b k = record { label-bytes = b; ciphertext-bytes = tt; label-limit = k; ciphertext-limit = lit≤ tt }
+    let p : Pair = record { label = 0 ∷ []; ciphertext = [] } in
+    let q : Pair = record { label = 0 ∷ 0 ∷ []; ciphertext = [] } in
+    more-have _ (λ h. refl) 2 (lit< tt)
+    (few p q (omega arith) (omega arith) (λ e. omega (arith, ap (λ (r : Pair). length (r .label)) e)))

@@ -1,19 +1,24 @@
 -- Keys that open and no longer seal: a retired key encrypts nothing and decrypts as it did, and there is no way back.
 use Rattle.demands.specs.Names as N
-use N.{Bool, _||_, false, true, List, [], _++_, _∷_, map, _≢_, _∙_, _≡_, ap, refl, subst, sym, suc, zero, ℕ, arith, eqb, ltb, length, take}
-use N.{eq-eqb, eqb-false, eqb-true, ne-eqb, blockCall, modeCall, blockCheck, keyAndIv, messageCheck, retiredCheck, Ctr as Ctr·mode, Gcm}
-use N.{Encrypt, Sm4Cipher, Passed, ctrStart, opensStart, sealStart, gcmStarting, Ctr·state as Ctr, Seal, searchCheck, which, planCall}
-use N.{rangeCall, rangeCheck, reachCheck, anyRetired, badKeys, replay, hostBlockCall, hostModeCall, hostCtrStart, hostOpensStart}
-use N.{hostSealStart, hostReplay, keysOf, cipherIn, hostKeyEngine, hostKeyRetire, keyAnswerOf, hostCtrByPlan, hostCtrRange, hostWhich}
-use N.{LuossavinKeys, LuossavinKey}
+use N.{_+_, CipherMode, Checked, andThen, Bool, true, List, [], _++_, _∷_, map, _≢_, _≡_, refl, subst, sym, suc, zero, ℕ, arith, eqb, ltb}
+use N.{length, take, eq-eqb, eqb-false, eqb-true, ne-eqb, blockCall, modeCall, blockCheck, keyAndIv, messageCheck, retiredCheck}
+use N.{Ctr as Ctr·mode, Gcm, Encrypt, Sm4Cipher, Passed, ctrStart, opensStart, sealStart, gcmStarting, Ctr·state as Ctr, Seal, searchCheck}
+use N.{which, planCall, rangeCall, rangeCheck, reachCheck, anyRetired, badKeys, replay, hostBlockCall, hostModeCall, hostCtrStart}
+use N.{hostOpensStart, hostSealStart, hostReplay, keysOf, cipherIn, hostKeyEngine, hostKeyRetire, keyAnswerOf, hostCtrByPlan, hostCtrRange}
+use N.{hostWhich, LuossavinKey}
+use Rattle.block.proofs.Same.{by-test}
 use Rattle.cipher_mode.proofs.Passed.{both, key-and-iv-passed}
 use Rattle.demands.specs.Retired.{StaysRetired, DecryptsAlike, EncryptsNothing}
 use Rattle.demands.proofs.Through.{host-through, zero-passed, block-through, passed-start}
-use Rattle.demands.proofs.Answering.{split}
+use mathlib.Core.Bool.{or-true}
+
+-- a record with the mark, and with an answer
+abbrev pub markedWith : ℕ → LuossavinKey → LuossavinKey
+markedWith a k = record { «round_keys» = k .«round_keys»; answer = a; number = k .number; retired = 1; engine = k .engine }
 
 -- A key that is retired keeps all but the mark;
 abbrev pub retiredOf : LuossavinKey → LuossavinKey
-retiredOf k = record { «round_keys» = k .«round_keys»; answer = 0; number = k .number; retired = 1; engine = k .engine }
+retiredOf k = markedWith 0 k
 
 pub retired-key : (k : LuossavinKey) → k .answer ≡ 0 → hostKeyRetire k ≡ retiredOf k
 unfolding hostKeyRetire
@@ -28,7 +33,7 @@ retired-no-key k n = rw (ne-eqb (k .answer) 0 n)
 pub retired-by : (P : LuossavinKey → Type 0) (k : LuossavinKey) → (k .answer ≡ 0 → P (retiredOf k)) → (k .answer ≢ 0 → P k)
     → P (hostKeyRetire k)
 retired-by P k of-key of-none =
-    split _ (eqb (k .answer) 0) (λ e. let z = eqb-true (k .answer) 0 e in subst P (sym (retired-key k z)) (of-key z))
+    by-test (eqb (k .answer) 0) (λ e. let z = eqb-true (k .answer) 0 e in subst P (sym (retired-key k z)) (of-key z))
     (λ e. let n = eqb-false (k .answer) 0 e in subst P (sym (retired-no-key k n)) (of-none n))
 
 -- twice is once;
@@ -44,58 +49,31 @@ unfolding hostKeyEngine
 engine-stays-retired e k r = r
 
 -- Decryption does not look at the mark.
-same : (k : LuossavinKey) → DecryptsAlike k k
-same k = search
-
 alike : (k : LuossavinKey) → k .answer ≡ 0 → DecryptsAlike k (retiredOf k)
 unfolding cipherIn keyAnswerOf hostBlockCall blockCall blockCheck hostModeCall modeCall messageCheck keyAndIv hostCtrStart ctrStart
     hostOpensStart opensStart gcmStarting hostWhich which searchCheck hostCtrRange rangeCall rangeCheck reachCheck hostCtrByPlan planCall
-alike k e =
-    record {
-      block = λ b o. rw e;
-      message = λ mode label s iv o. rw e;
-      ctr = λ iv. rw e;
-      opens = λ label iv. rw e;
-      which = λ file iv labels lengths. rw e;
-      range = λ iv offset d o. rw e;
-      by-plan = λ iv plan d o. rw e;
-    }
+alike k e = subst (λ (a : ℕ). DecryptsAlike k (markedWith a k)) e (search)
 
 pub retired-decrypts-alike : (k : LuossavinKey) → DecryptsAlike k (hostKeyRetire k)
-retired-decrypts-alike k = retired-by (DecryptsAlike k) k (alike k) (λ _. same k)
+retired-decrypts-alike k = retired-by (DecryptsAlike k) k (alike k) (λ _. search)
 
 -- And nothing is encrypted under a retired record, whatever else it holds.
 not-allowed : (r : Bool) → r ≡ true → retiredCheck Encrypt r ≡ Passed → ⊥
-not-allowed true e p = let z : _≡_ {A = ℕ} 0 1 = cc in absurd (omega arith)
-not-allowed false e p = let z : _≡_ {A = ℕ} 0 1 = cc in absurd (omega arith)
+not-allowed r e p = let z : _≡_ {A = ℕ} 0 1 = cc in omega arith
 
-module _ (c : Sm4Cipher) (r : c .retired ≡ true) where
-  no-start : (n : ℕ) → keyAndIv (c .answer) (c .retired) Encrypt Ctr·mode n ≡ Passed → ⊥
-  no-start n p = not-allowed (c .retired) r (key-and-iv-passed (c .answer) (c .retired) Encrypt Ctr·mode n p .may)
+-- no check passes that begins with such a key
+module _ (c : Sm4Cipher) (r : c .retired ≡ true) (m : CipherMode) (n : ℕ) where
+  no-start : keyAndIv (c .answer) (c .retired) Encrypt m n ≡ Passed → ⊥
+  no-start p = not-allowed (c .retired) r (key-and-iv-passed (c .answer) (c .retired) Encrypt m n p .may)
 
-  no-reach : (n end : ℕ) → reachCheck (c .answer) (c .retired) Encrypt n end ≡ Passed → ⊥
-  unfolding reachCheck
-  no-reach n end p = no-start n (both (keyAndIv (c .answer) (c .retired) Encrypt Ctr·mode n) _ p .0)
-
-  no-range : (n offset size room : ℕ) → rangeCheck (c .answer) (c .retired) Encrypt n offset size room ≡ Passed → ⊥
-  unfolding rangeCheck
-  no-range n offset size room p = no-reach n _ (both (reachCheck (c .answer) (c .retired) Encrypt n _) _ p .0)
-
-  no-seal : (n label : ℕ) → gcmStarting (c .answer) (c .retired) Encrypt n label ≡ Passed → ⊥
-  unfolding gcmStarting
-  no-seal n label p =
-      not-allowed (c .retired) r
-      (key-and-iv-passed (c .answer) (c .retired) Encrypt Gcm n (both (keyAndIv (c .answer) (c .retired) Encrypt Gcm n) _ p .0) .may)
+  no-more : (next : Checked) → andThen (keyAndIv (c .answer) (c .retired) Encrypt m n) next ≡ Passed → ⊥
+  no-more next p = no-start (both (keyAndIv (c .answer) (c .retired) Encrypt m n) next p .0)
 
 -- a retired key among those of a replay
 taken : (n : ℕ) (ks : List LuossavinKey) → take n (map cipherIn ks) ≡ map cipherIn (take n ks)
 taken zero ks = refl
 taken (suc n) [] = refl
-taken (suc n) (k ∷ ks) = ap {B = List Sm4Cipher} (λ l. cipherIn k ∷ l) (taken n ks)
-
-or-true : (b : Bool) → b || true ≡ true
-or-true true = refl
-or-true false = refl
+taken (suc n) (k ∷ ks) = rw (taken n ks)
 
 among : (before : List LuossavinKey) (k : LuossavinKey) (after : List LuossavinKey) → cipherIn k .retired ≡ true
     → anyRetired (map cipherIn (before ++ (k ∷ after))) ≡ true
@@ -103,30 +81,21 @@ unfolding anyRetired
 among [] k after r = rw r
 among (j ∷ before) k after r = rw (among before k after r) (or-true (cipherIn j .retired))
 
-bad-keys : (keys : LuossavinKeys) (before after : List LuossavinKey) (k : LuossavinKey) → cipherIn k .retired ≡ true
-    → take (keys .count) (keys .keys) ≡ before ++ (k ∷ after) → badKeys (keysOf keys) ≡ true
-unfolding badKeys keysOf
-bad-keys keys before after k r e =
-    let retired : anyRetired (take (keys .count) (map cipherIn (keys .keys))) ≡ true =
-    ap anyRetired (taken (keys .count) (keys .keys) ∙ ap (map cipherIn) e) ∙ among before k after r in
-    rw retired (or-true (ltb 8 (keys .count)))
-
-marked : (k : LuossavinKey) → k .retired ≢ 0 → cipherIn k .retired ≡ true
-unfolding cipherIn
-marked k n = rw (ne-eqb (k .retired) 0 n)
-
 pub retired-encrypts-nothing : (k : LuossavinKey) → k .retired ≢ 0 → EncryptsNothing k
-unfolding hostBlockCall hostCtrStart ctrStart hostSealStart sealStart hostCtrRange rangeCall hostCtrByPlan planCall hostReplay
-    replay
+unfolding cipherIn hostBlockCall hostCtrStart ctrStart hostSealStart sealStart gcmStarting hostCtrRange rangeCall rangeCheck hostCtrByPlan
+    planCall reachCheck hostReplay replay keysOf badKeys
 retired-encrypts-nothing k n =
     let c = cipherIn k in
-    let r = marked k n in
+    let r : cipherIn k .retired ≡ true = rw (ne-eqb (k .retired) 0 n) in
     record {
       block = λ b o e. not-allowed (c .retired) r (block-through Encrypt c b o e .may);
       message = λ mode label d iv o e. not-allowed (c .retired) r (host-through Encrypt mode k label d iv o e .1 .may);
-      ctr = λ iv e. no-start c r (length iv) (passed-start Ctr _ _ _ e);
-      seal = λ label iv e. no-seal c r (length iv) (length label) (passed-start Seal _ _ _ e);
-      range = λ iv offset d o e. no-range c r (length iv) offset (length d) (length o) (zero-passed _ o _ e);
-      by-plan = λ iv plan d o e. no-reach c r (length iv) (length d) (zero-passed _ o _ e);
-      replay = λ keys before after journal e. rw (bad-keys keys before after k r e);
+      ctr = λ iv e. no-start c r Ctr·mode (length iv) (passed-start Ctr _ _ _ e);
+      seal = λ label iv e. no-more c r Gcm (length iv) _ (passed-start Seal _ _ _ e);
+      range = λ iv offset d o e.
+          let reach = reachCheck (c .answer) (c .retired) Encrypt (length iv) (offset + length d) in
+          no-more c r Ctr·mode (length iv) _ (both reach _ (zero-passed _ o _ e) .0);
+      by-plan = λ iv plan d o e. no-more c r Ctr·mode (length iv) _ (zero-passed _ o _ e);
+      replay = λ keys before after journal e.
+          rw (taken (keys .count) (keys .keys), e, among before k after r, or-true (ltb 8 (keys .count)));
     }

@@ -1,69 +1,48 @@
 -- What a call that answered 0 had in order, what a call leaves that has all in order, and how a record crosses the boundary.
 use Rattle.demands.specs.Names as N
-use N.{Bool, cond, false, not, true, List, _≢_, _∙_, _≡_, ap, ap₂, refl, sym, _≤_, suc, zero, ℕ, arith, eqb, ltb, length, take-append-seam}
-use N.{eq-eqb, le-ltb, Outcome, done, keyed, refused, blockCall, blockOf, lengthsOf, modeCall, modeResult, blockCheck, checked, keyAndIv}
-use N.{messageCheck, roomCheck, keyHead, keyNumber, newCipher, retire, modeOf, roomOf, CipherMode, Cbc, Cfb, Ctr, Gcm, Ofb, Direction}
-use N.{KeyAnswer, NoKey as ErrorBlockSize, Key, NoNumber as WrongNumber, Sm4Cipher, Sm4CipherMode, Checked, Passed, Refused, Lengths, begun}
-use N.{hostModeCall, modeIn, cipherIn, hostKeyNew, hostKeyRetire, keyAnswerOf, keyOf, LuossavinKey}
+use N.{false, List, _≡_, refl, ℕ, arith, eqb, ltb, length, take-append-seam, eq-eqb, le-ltb, Outcome, done, keyed, blockCall}
+use N.{blockOf, lengthsOf, modeCall, modeResult, blockCheck, checked, keyAndIv, messageCheck, roomCheck, keyHead, keyNumber, newCipher}
+use N.{retire, modeOf, roomOf, Direction, KeyAnswer, NoKey as ErrorBlockSize, Key, NoNumber as WrongNumber, Sm4Cipher, Sm4CipherMode}
+use N.{Checked, Passed, Refused, begun, hostModeCall, modeIn, cipherIn, hostKeyNew, hostKeyRetire, keyAnswerOf, keyOf, LuossavinKey}
+use Rattle.block.proofs.Same.{by-test}
 use Rattle.cipher_mode.proofs.Passed.{InOrder, BlockInOrder, message-passed, block-passed}
-use Rattle.cipher_mode.proofs.Ends.{went-on}
 use Rattle.cipher_mode.proofs.Refusals.{refuses}
-use Rattle.demands.specs.Call.{result, RefusedAs}
-use Rattle.demands.proofs.Answering.{split}
+use Rattle.demands.specs.Call.{result}
+use Rattle.demands.proofs.Answering.{mark-back}
 
 pub result-of-done : (p o : List ℕ) → result (done p o) ≡ p
 result-of-done p o = take-append-seam p _
 
--- on whichever key
-pub refused-as : (k n : ℕ) (o : List ℕ) (x : Outcome) → x ≡ keyed k (refused n o) → RefusedAs n o x
-refused-as k n o x e = rw e (record { number = refl; size = refl; missing = refl; bytes = refl })
-
 pub zero-passed : (k : Checked) (o : List ℕ) (next : Outcome) → checked k o next .head .number ≡ 0 → k ≡ Passed
-zero-passed Passed o next e = refl
-zero-passed (Refused r) o next e = absurd (refuses r .not-zero e)
+zero-passed k o next = elim k [ Passed ↦ λ _. refl | Refused r ↦ λ e. absurd (refuses r .not-zero e) ]
 
 -- a start that answers 0 has passed
 pub passed-start : (S : Type 0) (k : Checked) (shut : ℕ → S) (s : S) → begun S k shut s .head .number ≡ 0 → k ≡ Passed
-passed-start S Passed shut s e = refl
-passed-start S (Refused r) shut s e = absurd (refuses r .not-zero e)
+passed-start S k shut s = elim k [ Passed ↦ λ _. refl | Refused r ↦ λ e. absurd (refuses r .not-zero e) ]
 
 -- a single block
 module _ (dir : Direction) (c : Sm4Cipher) (b o : List ℕ) where
   pub block-through : blockCall dir c b o .head .number ≡ 0 → BlockInOrder (c .answer) (c .retired) dir (length b) (length o)
   unfolding blockCall
-  block-through e =
-      block-passed _ _ _ _ _
-      (zero-passed (blockCheck (c .answer) (c .retired) dir (length b) (length o)) o (done (blockOf dir (c .rk) b) o) e)
+  block-through e = block-passed _ _ _ _ _ (zero-passed _ o _ e)
 
   pub block-leaves : BlockInOrder (c .answer) (c .retired) dir (length b) (length o)
       → blockCall dir c b o ≡ keyed (keyNumber c) (done (blockOf dir (c .rk) b) o)
   unfolding blockCall blockCheck
   block-leaves p = rw (p .key, eq-eqb (length b) 16 (p .size), p .may, le-ltb (length o) 16 (p .enough))
 
--- what is in order passes
-in-order : (a : KeyAnswer) (retired : Bool) (dir : Direction) (m : CipherMode) (n : Lengths)
-    → InOrder a retired dir m n → messageCheck a retired dir m n ≡ Passed
-unfolding messageCheck keyAndIv roomCheck
-in-order a retired dir m n p =
-    rw (p .key, p .iv-size, p .may, p .label, p .content, le-ltb (n .room) (roomOf m dir (n .«data»)) (p .room))
-
 -- a message
 module _ (dir : Direction) (m : Sm4CipherMode) (aad d iv o : List ℕ) where
   pub through : modeCall dir m aad d iv o .head .number ≡ 0
       → InOrder (m .cipher .answer) (m .cipher .retired) dir (m .mode) (lengthsOf aad d iv o)
   unfolding modeCall
-  through e =
-      message-passed _ _ _ _ _
-      (zero-passed (messageCheck (m .cipher .answer) (m .cipher .retired) dir (m .mode) (lengthsOf aad d iv o)) o
-      (modeResult (m .mode) dir (m .cipher .rk) aad d iv o) e)
+  through e = message-passed _ _ _ _ _ (zero-passed _ o _ e)
 
   pub leaves : InOrder (m .cipher .answer) (m .cipher .retired) dir (m .mode) (lengthsOf aad d iv o)
       → modeCall dir m aad d iv o ≡ keyed (keyNumber (m .cipher)) (modeResult (m .mode) dir (m .cipher .rk) aad d iv o)
-  unfolding modeCall
+  unfolding modeCall messageCheck keyAndIv roomCheck
   leaves p =
-      let next = modeResult (m .mode) dir (m .cipher .rk) aad d iv o in
-      let k = messageCheck (m .cipher .answer) (m .cipher .retired) dir (m .mode) (lengthsOf aad d iv o) in
-      ap {B = Outcome} (keyed (keyNumber (m .cipher))) (sym (went-on k o next next (in-order _ _ _ _ _ p) refl))
+      rw (p .key, p .iv-size, p .may, p .label, p .content, le-ltb (length o) (roomOf (m .mode) dir (length d)) (p .room))
 
 -- and an exported call: a mode number above 4 is refused before all else
 module _ (dir : Direction) (mode : ℕ) (k : LuossavinKey) (aad d iv o : List ℕ) where
@@ -73,8 +52,7 @@ module _ (dir : Direction) (mode : ℕ) (k : LuossavinKey) (aad d iv o : List �
   pub host-through : hostModeCall dir mode k aad d iv o .head .number ≡ 0 → Ready
   unfolding hostModeCall
   host-through e =
-      split _ (ltb 4 mode) (λ f. let z : _≡_ {A = ℕ} 7 0 = rw f at e in absurd (omega arith))
-      (λ f. (f, through dir (modeIn k mode) aad d iv o (rw f at e)))
+      by-test (ltb 4 mode) (λ f. absurd (omega (arith, rw f at e))) (λ f. (f, through dir (modeIn k mode) aad d iv o (rw f at e)))
 
   pub host-leaves : Ready → hostModeCall dir mode k aad d iv o
       ≡ keyed (keyNumber (cipherIn k)) (modeResult (modeOf mode) dir (k .«round_keys») aad d iv o)
@@ -86,21 +64,12 @@ module _ (dir : Direction) (mode : ℕ) (k : LuossavinKey) (aad d iv o : List �
 
 answer-back : (a : KeyAnswer) → keyAnswerOf (keyHead a .number) ≡ a
 unfolding keyAnswerOf
-answer-back Key = refl
-answer-back ErrorBlockSize = refl
-answer-back WrongNumber = refl
-
-mark-back : (b : Bool) → not (eqb (cond b 1 0) 0) ≡ b
-mark-back true = refl
-mark-back false = refl
+answer-back a = elim a [ Key ↦ refl | ErrorBlockSize ↦ refl | WrongNumber ↦ refl ]
 
 -- a record that was handed out comes back as it was
 pub handed-back : (c : Sm4Cipher) → cipherIn (keyOf c) ≡ c
 unfolding cipherIn keyOf
-handed-back c =
-    ap₂ {C = Sm4Cipher} (λ (a : KeyAnswer) (b : Bool).
-    record { rk = c .rk; answer = a; number = c .number; retired = b; engine = c .engine })
-    (answer-back (c .answer)) (mark-back (c .retired))
+handed-back c = rw (answer-back (c .answer), mark-back (c .retired))
 
 -- so what a host set up is the key's record
 pub new-is-new : (key : List ℕ) (n : ℕ) → cipherIn (hostKeyNew key n) ≡ newCipher key n
@@ -111,25 +80,4 @@ new-is-new key n = handed-back (newCipher key n)
 pub retired-is-retired : (k : LuossavinKey) → cipherIn (hostKeyRetire k) ≡ retire (cipherIn k)
 unfolding cipherIn keyAnswerOf hostKeyRetire retire
 retired-is-retired k =
-    split _ (eqb (k .answer) 0) (λ e. rw e) (λ e. split _ (eqb (k .answer) 13) (λ f. rw (e, f) (rw e)) (λ f. rw (e, f) (rw e)))
-
--- the number of a mode
-abbrev pub modeNumber : CipherMode → ℕ
-modeNumber Cfb = 0
-modeNumber Ofb = 1
-modeNumber Ctr = 2
-modeNumber Cbc = 3
-modeNumber Gcm = 4
-
-number-of-mode : (mode : ℕ) → mode ≤ 4 → modeNumber (modeOf mode) ≡ mode
-unfolding modeOf
-number-of-mode zero h = refl
-number-of-mode (suc zero) h = refl
-number-of-mode (suc (suc zero)) h = refl
-number-of-mode (suc (suc (suc zero))) h = refl
-number-of-mode (suc (suc (suc (suc zero)))) h = refl
-number-of-mode (suc (suc (suc (suc (suc n))))) h = absurd (omega arith)
-
--- another number is another mode's
-pub other-mode : (mode : ℕ) (x : CipherMode) → mode ≤ 4 → mode ≢ modeNumber x → modeOf mode ≢ x
-other-mode mode x h n e = n (sym (number-of-mode mode h) ∙ ap modeNumber e)
+    by-test (eqb (k .answer) 0) (λ e. rw e) (λ e. by-test (eqb (k .answer) 13) (λ f. rw (e, f) (rw e)) (λ f. rw (e, f) (rw e)))

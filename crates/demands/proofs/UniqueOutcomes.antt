@@ -1,198 +1,129 @@
 -- Demand 1, that outcomes can be predicted: any two answers, outputs and states that a contract allows coincide. One theorem for each form
 -- that a public call's contract has, whatever the definition in it gives.
 use Rattle.demands.specs.Names as N
-use N.{Bool, cond, false, true, List, [], _∷_, _∙_, _≡_, ap, ap₂, refl, sym, _-_, ℕ, arith, eqb, getD, ne-eqb, Head, Outcome, endingHead}
-use N.{headOf, outcome, refusalHead, Answer, Ending, Done, Refused·ending as Refused, Refusal, Stepped, ctrStepped, opensStepped}
-use N.{sealStepped, Ctr·state as Ctr, CtrStep, Opens, OpensStep, Seal, SealStep, Verdict, askedHead, isFound, verdictOf, Asked, BadList}
-use N.{Candidate, None, Refused·asked, Found, planHead, planned·outcome, ByPlan, Planned·end, Done·plan, NotAccepted, Refused·plan}
-use N.{Shelf·Outcome, Place, shelfNumber as numberOfEnd, outcomeOf, placeIn, Shelf·end, BadShelf, Done·shelf, NoCurrent, NoRoom·shelf}
-use N.{NotHigher, Shelf·found, Kept, Leaves, Wrote, headIn, reported, ctrReported, opensReported, sealReported, Handed, plannedReported}
-use N.{shelfReported, shelvedReported, Told, foundReported, LuossavinAnswer, LuossavinLabel, LuossavinCtrStep, LuossavinOpensStep}
-use N.{LuossavinSealStep, LuossavinShelf, LuossavinShelved, LuossavinFound, LuossavinPlanned}
-use Rattle.demands.proofs.Answering.{endingAt, endingOf, spelled}
+use N.{Bool, cond, not, List, [], _∷_, _∙_, _≡_, ap, refl, sym, _-_, ℕ, eqb, getD, Head, Outcome, endingHead, headOf, outcome, Answer}
+use N.{Ending, Done, Refused·ending as Refused, Stepped, ctrStepped, opensStepped, sealStepped, Ctr·state as Ctr, CtrStep, Opens, OpensStep}
+use N.{Seal, SealStep, Verdict, askedHead, isFound, verdictOf, Asked, BadList, Candidate, None, Refused·asked, Found, planHead}
+use N.{planned·outcome, ByPlan, Planned·end, Done·plan, NotAccepted, Refused·plan, Shelf·Outcome, Place, shelfNumber as numberOfEnd}
+use N.{outcomeOf, placeIn, Shelf·end, BadShelf, Done·shelf, NoCurrent, NoRoom·shelf, NotHigher, Shelf·found, Kept, Leaves, Wrote, headIn}
+use N.{reported, ctrReported, opensReported, sealReported, Handed, plannedReported, shelfReported, shelvedReported, Told, foundReported}
+use N.{LuossavinAnswer, LuossavinLabel, LuossavinCtrStep, LuossavinOpensStep, LuossavinSealStep, LuossavinShelf, LuossavinShelved}
+use N.{LuossavinFound, LuossavinPlanned}
+use Rattle.demands.proofs.Answering.{toldBy, told-back, mark-back}
 use Rattle.demands.specs.OneOutcome.{One, OneValue}
 
--- an answer that can be told back from what it spells is one alone
-module _ (R X : Type 0) where
-  one-value : (of : R → X) (back : X → R) → ((r : R) → back (of r) ≡ r) → (x : X) → OneValue R X of x
-  one-value of back told x r₁ r₂ e₁ e₂ = sym (told r₁) ∙ ap {B = R} back (e₁ ∙ sym e₂) ∙ told r₂
+-- an answer that can be told back from what it spells is one alone, with its output or without
+one-value : {R X : Type 0} {of : R → X} (back : X → R) → ((r : R) → back (of r) ≡ r) → (x : X) → OneValue R X of x
+one-value {R} back told x r₁ r₂ e₁ e₂ = sym (told r₁) ∙ ap {B = R} back (e₁ ∙ sym e₂) ∙ told r₂
 
-  one : (of : R → List ℕ → X) (back : X → R) (bytes : X → List ℕ) → ((r : R) (o : List ℕ) → back (of r o) ≡ r)
-      → ((r : R) (o : List ℕ) → bytes (of r o) ≡ o) → (x : X) → One R X of x
-  one of back bytes told kept x r₁ r₂ o₁ o₂ e₁ e₂ =
-      let e = e₁ ∙ sym e₂ in
-      (sym (told r₁ o₁) ∙ ap {B = R} back e ∙ told r₂ o₂, sym (kept r₁ o₁) ∙ ap bytes e ∙ kept r₂ o₂)
+one : {R X : Type 0} {of : R → List ℕ → X} (back : X → R × List ℕ) → ((r : R) (o : List ℕ) → back (of r o) ≡ (r, o)) → (x : X)
+    → One R X of x
+one {R} back told x r₁ r₂ o₁ o₂ e₁ e₂ =
+    let e = sym (told r₁ o₁) ∙ ap {B = R × List ℕ} back (e₁ ∙ sym e₂) ∙ told r₂ o₂ in
+    (ap (λ (p : R × List ℕ). p .0) e, ap (λ (p : R × List ℕ). p .1) e)
 
-ending-told : (e : Ending) → endingOf (endingHead e) ≡ e
-ending-told (Done n) = refl
-ending-told (Refused r) = spelled r .0
-
--- a number that is no ending's is no refusal's
-no-refusal : (r : Refusal) (n : ℕ) → ((size missing : ℕ) → endingAt n size missing ≡ Done 0) → eqb (refusalHead r .number) n ≡ false
-no-refusal r n none =
-    ne-eqb (refusalHead r .number) n (λ e.
-    let h = refusalHead r in
-    let f : Refused r ≡ Done 0 =
-    sym (spelled r .0) ∙ ap {B = Ending} (λ (k : ℕ). endingAt k (h .size) (h .missing)) e ∙ none (h .size) (h .missing) in
-    let z : _≡_ {A = ℕ} 0 1 = cc in
-    absurd (omega arith))
-
--- a yes or no by the number that it is reported as
-round-told : (b : Bool) → eqb (cond b 1 0) 1 ≡ b
-round-told true = refl
-round-told false = refl
-
--- and so an answer
+-- an answer by its report, and a host's, field by field
 abbrev answerOf : Head → Answer
-answerOf h = record { ending = endingOf h; «came_round» = eqb (h .cameRound) 1; key = h .key }
+answerOf h = record { ending = toldBy Ending Done Refused (Done 0) h; «came_round» = not (eqb (h .cameRound) 0); key = h .key }
+
+ending-told : (e : Ending) → toldBy Ending Done Refused (Done 0) (endingHead e) ≡ e
+ending-told e = elim e [ Done n ↦ refl | Refused r ↦ told-back Ending Done Refused (Done 0) r .0 ]
 
 answer-told : (a : Answer) → answerOf (headOf a) ≡ a
-answer-told a =
-    ap₂ {C = Answer} (λ (e : Ending) (b : Bool). record { ending = e; «came_round» = b; key = a .key })
-    (ending-told (a .ending)) (round-told (a .«came_round»))
+answer-told a = rw (ending-told (a .ending), mark-back (a .«came_round»))
 
--- a host's is told field by field
 abbrev hostAnswerOf : Head → LuossavinAnswer
 hostAnswerOf h = record { number = h .number; missing = h .missing; «came_round» = h .cameRound; key = h .key; length = h .size }
 
 -- Contracts that say what the result is: a key's record set up, retired or marked, a host's too, a plan that is accepted or made, hashes, a
 -- replay, a part of a buffer, and every number or place.
 pub unique-value : (A : Type 0) (x : A) → OneValue A A (λ r. r) x
-unique-value A x = one-value A A (λ r. r) (λ r. r) (λ r. refl) x
+unique-value A = one-value (λ r. r) (λ r. refl)
 
 -- Blocks, messages and ranges: the library's own, and the exported ones, work by a plan among them.
 pub unique-outcome : (x : Outcome) → One Answer Outcome outcome x
-unique-outcome x = one Answer Outcome outcome (λ y. answerOf (y .head)) (λ y. y .bytes) (λ a o. answer-told a) (λ a o. refl) x
+unique-outcome = one (λ y. (answerOf (y .head), y .bytes)) (λ a o. rw answer-told)
 
 pub unique-report : (x : Outcome) → One LuossavinAnswer Outcome reported x
-unique-report x = one LuossavinAnswer Outcome reported (λ y. hostAnswerOf (y .head)) (λ y. y .bytes) (λ a o. refl) (λ a o. refl) x
+unique-report = one (λ y. (hostAnswerOf (y .head), y .bytes)) (λ a o. refl)
 
 -- Whether a file opens under an edition, which writes nothing, and a label.
 pub unique-asked : (x : Head) → OneValue LuossavinAnswer Head headIn x
-unique-asked x = one-value LuossavinAnswer Head headIn hostAnswerOf (λ a. refl) x
+unique-asked = one-value hostAnswerOf (λ a. refl)
 
 pub unique-label : (x : List ℕ) → OneValue LuossavinLabel (List ℕ) (λ l. l .bytes) x
-unique-label x = one-value LuossavinLabel (List ℕ) (λ l. l .bytes) (λ b. record { bytes = b }) (λ l. refl) x
-
--- a step: an answer beside the next state
-module _ (A S R : Type 0) (of : A → Head) (back : Head → A) (told : (a : A) → back (of a) ≡ a) (answer : R → A) (state : R → S)
-    (make : A → S → R) (made : (r : R) → make (answer r) (state r) ≡ r) where
-  one-step : (x : Stepped S) → One R (Stepped S) (λ r o. record { head = of (answer r); bytes = o; state = state r }) x
-  one-step =
-      one R (Stepped S) (λ r o. record { head = of (answer r); bytes = o; state = state r }) (λ y. make (back (y .head)) (y .state))
-      (λ y. y .bytes)
-      (λ r o. ap {B = R} (λ (a : A). make a (state r)) (told (answer r)) ∙ made r) (λ r o. refl)
+unique-label = one-value (λ b. record { bytes = b }) (λ l. refl)
 
 -- Messages in pieces, be it a start, a piece or an end: the next state too.
 pub unique-ctr-step : (x : Stepped Ctr) → One CtrStep (Stepped Ctr) ctrStepped x
-unique-ctr-step =
-    one-step Answer Ctr CtrStep headOf answerOf answer-told (λ r. r .answer) (λ r. r .state) (λ a s. record { answer = a; state = s })
-    (λ r. refl)
+unique-ctr-step = one (λ y. (record { answer = answerOf (y .head); state = y .state }, y .bytes)) (λ r o. rw answer-told)
 
 pub unique-seal-step : (x : Stepped Seal) → One SealStep (Stepped Seal) sealStepped x
-unique-seal-step =
-    one-step Answer Seal SealStep headOf answerOf answer-told (λ r. r .answer) (λ r. r .state) (λ a s. record { answer = a; state = s })
-    (λ r. refl)
+unique-seal-step = one (λ y. (record { answer = answerOf (y .head); state = y .state }, y .bytes)) (λ r o. rw answer-told)
 
 pub unique-opens-step : (x : Stepped Opens) → One OpensStep (Stepped Opens) opensStepped x
-unique-opens-step =
-    one-step Answer Opens OpensStep headOf answerOf answer-told (λ r. r .answer) (λ r. r .state) (λ a s. record { answer = a; state = s })
-    (λ r. refl)
+unique-opens-step = one (λ y. (record { answer = answerOf (y .head); state = y .state }, y .bytes)) (λ r o. rw answer-told)
 
 pub unique-exported-ctr-step : (x : Stepped Ctr) → One LuossavinCtrStep (Stepped Ctr) ctrReported x
-unique-exported-ctr-step =
-    one-step LuossavinAnswer Ctr LuossavinCtrStep headIn hostAnswerOf (λ a. refl) (λ r. r .answer) (λ r. r .state)
-    (λ a s. record { answer = a; state = s }) (λ r. refl)
+unique-exported-ctr-step = one (λ y. (record { answer = hostAnswerOf (y .head); state = y .state }, y .bytes)) (λ r o. refl)
 
 pub unique-exported-seal-step : (x : Stepped Seal) → One LuossavinSealStep (Stepped Seal) sealReported x
-unique-exported-seal-step =
-    one-step LuossavinAnswer Seal LuossavinSealStep headIn hostAnswerOf (λ a. refl) (λ r. r .answer) (λ r. r .state)
-    (λ a s. record { answer = a; state = s }) (λ r. refl)
+unique-exported-seal-step = one (λ y. (record { answer = hostAnswerOf (y .head); state = y .state }, y .bytes)) (λ r o. refl)
 
 pub unique-exported-opens-step : (x : Stepped Opens) → One LuossavinOpensStep (Stepped Opens) opensReported x
-unique-exported-opens-step =
-    one-step LuossavinAnswer Opens LuossavinOpensStep headIn hostAnswerOf (λ a. refl) (λ r. r .answer) (λ r. r .state)
-    (λ a s. record { answer = a; state = s }) (λ r. refl)
+unique-exported-opens-step = one (λ y. (record { answer = hostAnswerOf (y .head); state = y .state }, y .bytes)) (λ r o. refl)
 
 -- Which label a file opens under.
-abbrev whenAsked : Ending → Asked
-whenAsked (Done n) = None
-whenAsked (Refused r) = Refused·asked r
-
 abbrev askedOf : Head → Bool → Asked
-askedOf h found = cond found Candidate (cond (eqb (h .number) 16) BadList (whenAsked (endingOf h)))
+askedOf h found = cond found Candidate (toldBy Asked (λ _. None) Refused·asked BadList h)
 
 asked-told : (e : Asked) → askedOf (askedHead e) (isFound e) ≡ e
-asked-told Candidate = refl
-asked-told None = refl
-asked-told BadList = refl
-asked-told (Refused·asked r) = rw (no-refusal r 16 (λ _ _. refl)) (ap {B = Asked} whenAsked (spelled r .0))
+asked-told e =
+    elim e [ Candidate ↦ refl | None ↦ refl | BadList ↦ refl | Refused·asked r ↦ told-back Asked (λ _. None) Refused·asked BadList r .0 ]
 
 pub unique-which : (x : Verdict) → OneValue Found Verdict verdictOf x
-unique-which x =
-    one-value Found Verdict verdictOf
+unique-which =
+    one-value
     (λ v. record { ended = askedOf (v .head) (v .found); key = v .head .key; place = v .place; start = v .start; length = v .size })
-    (λ f. ap {B = Found} (λ (e : Asked). record { ended = e; key = f .key; place = f .place; start = f .start; length = f .length })
-    (asked-told (f .ended)))
-    x
+    (λ f. rw asked-told)
 
 pub unique-exported-which : (x : Told) → OneValue LuossavinFound Told foundReported x
-unique-exported-which x =
-    one-value LuossavinFound Told foundReported
-    (λ t. record { answer = hostAnswerOf (t .head); found = t .found; place = t .place; start = t .start; length = t .size }) (λ r. refl) x
+unique-exported-which =
+    one-value (λ t. record { answer = hostAnswerOf (t .head); found = t .found; place = t .place; start = t .start; length = t .size })
+    (λ r. refl)
 
 -- Plans.
-abbrev whenPlanned : Ending → Planned·end
-whenPlanned (Done n) = Done·plan n
-whenPlanned (Refused r) = Refused·plan r
-
-abbrev plannedOf : Head → Planned·end
-plannedOf h = cond (eqb (h .number) 18) NotAccepted (whenPlanned (endingOf h))
-
-planned-told : (e : Planned·end) → plannedOf (planHead e) ≡ e
-planned-told (Done·plan n) = refl
-planned-told NotAccepted = refl
-planned-told (Refused·plan r) = rw (no-refusal r 18 (λ _ _. refl)) (ap {B = Planned·end} whenPlanned (spelled r .0))
+planned-told : (e : Planned·end) → toldBy Planned·end Done·plan Refused·plan NotAccepted (planHead e) ≡ e
+planned-told e =
+    elim e [ Done·plan n ↦ refl | NotAccepted ↦ refl | Refused·plan r ↦ told-back Planned·end Done·plan Refused·plan NotAccepted r .0 ]
 
 pub unique-by-plan : (x : Outcome) → One ByPlan Outcome planned·outcome x
-unique-by-plan x =
-    one ByPlan Outcome planned·outcome (λ y. record { ended = plannedOf (y .head); key = y .head .key }) (λ y. y .bytes)
-    (λ a o. ap {B = ByPlan} (λ (e : Planned·end). record { ended = e; key = a .key }) (planned-told (a .ended))) (λ a o. refl) x
+unique-by-plan =
+    one (λ y. (record { ended = toldBy Planned·end Done·plan Refused·plan NotAccepted (y .head); key = y .head .key }, y .bytes))
+    (λ a o. rw planned-told)
 
 pub unique-exported-plan : (x : Handed) → OneValue LuossavinPlanned Handed plannedReported x
-unique-exported-plan x =
-    one-value LuossavinPlanned Handed plannedReported (λ h. record { answer = hostAnswerOf (h .head); plan = h .plan }) (λ r. refl) x
+unique-exported-plan = one-value (λ h. record { answer = hostAnswerOf (h .head); plan = h .plan }) (λ r. refl)
 
 -- A shelf: what putting, collecting and looking up answer.
 abbrev shelfEnd : ℕ → Shelf·end
 shelfEnd n = getD (Done·shelf ∷ BadShelf ∷ NotHigher ∷ NoRoom·shelf ∷ NoCurrent ∷ []) (n - 18) Done·shelf
 
 shelf-told : (e : Shelf·end) → shelfEnd (numberOfEnd e) ≡ e
-shelf-told Done·shelf = refl
-shelf-told BadShelf = refl
-shelf-told NotHigher = refl
-shelf-told NoRoom·shelf = refl
-shelf-told NoCurrent = refl
+shelf-told e = elim e [ Done·shelf ↦ refl | BadShelf ↦ refl | NotHigher ↦ refl | NoRoom·shelf ↦ refl | NoCurrent ↦ refl ]
 
 pub unique-kept : (x : Shelf·Outcome) → One Kept Shelf·Outcome outcomeOf x
-unique-kept x =
-    one Kept Shelf·Outcome outcomeOf (λ y. record { ended = shelfEnd (y .number); used = y .used }) (λ y. y .bytes)
-    (λ k o. ap {B = Kept} (λ (e : Shelf·end). record { ended = e; used = k .used }) (shelf-told (k .ended))) (λ k o. refl) x
+unique-kept = one (λ y. (record { ended = shelfEnd (y .number); used = y .used }, y .bytes)) (λ k o. rw shelf-told)
 
 pub unique-found : (x : Place) → OneValue Shelf·found Place placeIn x
-unique-found x =
-    one-value Shelf·found Place placeIn (λ p. record { ended = shelfEnd (p .number); start = p .start; length = p .size })
-    (λ f. ap {B = Shelf·found} (λ (e : Shelf·end). record { ended = e; start = f .start; length = f .length }) (shelf-told (f .ended))) x
+unique-found = one-value (λ p. record { ended = shelfEnd (p .number); start = p .start; length = p .size }) (λ f. rw shelf-told)
 
 pub unique-exported-shelf : (x : Shelf·Outcome) → One LuossavinShelf Shelf·Outcome shelfReported x
-unique-exported-shelf x =
-    one LuossavinShelf Shelf·Outcome shelfReported (λ y. record { number = y .number; used = y .used }) (λ y. y .bytes)
-    (λ r o. refl) (λ r o. refl) x
+unique-exported-shelf = one (λ y. (record { number = y .number; used = y .used }, y .bytes)) (λ r o. refl)
 
 pub unique-exported-shelved : (x : Place) → OneValue LuossavinShelved Place shelvedReported x
-unique-exported-shelved x =
-    one-value LuossavinShelved Place shelvedReported (λ p. record { number = p .number; start = p .start; length = p .size }) (λ r. refl) x
+unique-exported-shelved = one-value (λ p. record { number = p .number; start = p .start; length = p .size }) (λ r. refl)
 
 -- The writer of a journal.
 pub unique-written : (x : Leaves) → One Wrote Leaves (λ r o. record { wrote = r; bytes = o }) x
-unique-written x = one Wrote Leaves (λ r o. record { wrote = r; bytes = o }) (λ y. y .wrote) (λ y. y .bytes) (λ r o. refl) (λ r o. refl) x
+unique-written = one (λ y. (y .wrote, y .bytes)) (λ r o. refl)

@@ -1,102 +1,85 @@
 -- Which number an exported call answers: that of the first of the conditions of docs/REQUIREMENTS.md that holds, and no other.
 use Rattle.demands.specs.Names as N
-use N.{Bool, _&&_, cond, false, not, true, List, [], _∷_, map, inl, inr, ⊎-elim, _∙_, _≡_, ap, refl, _%_, ℕ, eqb, ltb, length, eqb-true}
-use N.{same, xors, blocksOf, gcmCameRound, Outcome, finished, refusal, refuseAs, telling, cbcOpen, cbcHead, unpadded, Cbc·Done}
-use N.{InvalidLastU8, InvalidPadding, gcmOpen, gcmHead, settled, Gcm·Done, InvalidTag, refusalHead, blockCall, lengthsOf, modeCall}
-use N.{modeResult, andThen, blockCheck, checked, dataCheck, keyAndIv, keyCheck, messageCheck, refuse, roomCheck, keyNumber, newCipher}
-use N.{wrongNumber, modeOf, CipherMode, Cbc, Cfb, Ctr, Gcm, Ofb, Direction, Decrypt, Encrypt, Refusal, Checked, Passed, Refused, Stepped}
-use N.{begun, ctrEnd, ctrPiece, ctrStart, goesOn, opensEnd, opensPiece, opensStart, sealEnd, sealPiece, sealStart, gcmStarting, running}
-use N.{standing, tagged, writing, hashEnd, Ctr·state, Opens, Seal, badList, Verdict, checkedVerdict, noneWith, onKey, opensWith}
-use N.{searchCheck, which, hostBlockCall, hostModeCall, hostCtrStart, hostOpensStart, hostSealStart, cipherIn, hostKeyNew, keyAnswerOf}
-use N.{keyOf, hostWhich, LuossavinKey}
+use N.{Bool, _&&_, cond, false, not, true, List, [], _∷_, inl, inr, ⊎-elim, _≡_, refl, ℕ, eqb, length, eqb-true, Head, Outcome, finished}
+use N.{refusal, refuseAs, telling, cbcOpen, cbcHead, unpadded, Cbc·Done, InvalidLastU8, InvalidPadding, gcmOpen, gcmHead}
+use N.{refusalHead, blockCall, lengthsOf, modeCall, modeResult, andThen, blockCheck, checked, dataCheck, keyAndIv, keyCheck}
+use N.{messageCheck, refuse, roomCheck, newCipher, wrongNumber, CipherMode, Cbc, Cfb, Ctr, Gcm, Ofb, Direction, Decrypt, Encrypt, Refusal}
+use N.{Checked, Passed, Refused, ctrEnd, ctrPiece, ctrStart, opensEnd, opensPiece, opensStart, sealEnd, sealPiece, sealStart, gcmStarting}
+use N.{running, standing, tagged, writing, Ctr·state, Opens, Seal, searchCheck, which, hostBlockCall, hostModeCall, hostCtrStart}
+use N.{hostOpensStart, hostSealStart, cipherIn, hostKeyNew, keyAnswerOf, keyOf, hostWhich, LuossavinKey}
+use Rattle.block.proofs.Same.{by-test}
 use Rattle.editions.proofs.FirstOpening.{search-number}
 use Rattle.demands.specs.WhichNumber.{Said, saidIn, only, Row, Among, isRetired, encryptRowsIn, decryptRowsIn, firstOf, numbersOf}
 use Rattle.demands.specs.WhichNumber.{newRows, blockRows, whichRows, encryptRows, decryptRows, ctrPieceRows, ctrEndRows}
 use Rattle.demands.specs.WhichNumber.{sealPieceRows, sealEndRows, opensPieceRows, opensEndRows, ctrStartRows, gcmStartRows}
 use Rattle.demands.proofs.ModesBack.{encrypts}
-use Rattle.demands.proofs.Answering.{split}
+use Rattle.demands.proofs.Answering.{headBehind, heads}
+use mathlib.Core.Bool.{and-comm, and-true}
 
 -- what is said behind a check, s being what comes next
-unfoldable pub behind : Checked → Said → Said
+abbrev pub behind : Checked → Said → Said
 behind Passed s = s
 behind (Refused r) s = saidIn (refusalHead r)
 
-pub said-passed : (s : Said) → behind Passed s ≡ s
-unfolding behind
-said-passed s = refl
-
-pub said-refused : (r : Refusal) (s : Said) → behind (Refused r) s ≡ saidIn (refusalHead r)
-unfolding behind
-said-refused r s = refl
-
 pub said-refuse : (t : Bool) (r : Refusal) (k : Checked) (s : Said) → behind (refuse t r k) s ≡ cond t (saidIn (refusalHead r)) (behind k s)
-unfolding behind
-said-refuse true r k s = refl
-said-refuse false r k s = refl
+said-refuse t r k s = elim t [ true ↦ refl | false ↦ refl ]
 
 pub said-then : (a b : Checked) (s : Said) → behind (andThen a b) s ≡ behind a (behind b s)
-unfolding behind
-said-then Passed b s = refl
-said-then (Refused r) b s = refl
+said-then a b s = elim a [ Passed ↦ refl | Refused r ↦ refl ]
 
 -- a record's answer that is no key
 pub said-key : (n : ℕ) (s : Said)
     → behind (keyCheck (keyAnswerOf n)) s ≡ cond (not (eqb n 0) && not (eqb n 13)) (only 1) (cond (eqb n 13) (only 13) s)
-unfolding keyAnswerOf behind
+unfolding keyAnswerOf
 said-key n s =
-    split _ (eqb n 0) (λ e. let z = eqb-true n 0 e in rw z) (λ e. split _ (eqb n 13) (λ f. rw (e, f)) (λ f. rw (e, f)))
+    by-test (eqb n 0) (λ e. let z = eqb-true n 0 e in rw z) (λ e. by-test (eqb n 13) (λ f. rw (e, f)) (λ f. rw (e, f)))
+
+-- a report that was behind a check, or behind a test
+pub said-head : (k : Checked) (h : Head) → saidIn (headBehind k h) ≡ behind k (saidIn h)
+unfolding headBehind
+said-head k h = elim k [ Passed ↦ refl | Refused r ↦ refl ]
+
+pub said-cond : (t : Bool) (g h : Head) → saidIn (cond t g h) ≡ cond t (saidIn g) (saidIn h)
+said-cond t g h = elim t [ true ↦ refl | false ↦ refl ]
 
 -- so a chain of checks is read as a list of rows
-pub ruleset said·laws = (said-passed, said-refused, said-refuse, said-then, said-key)
+pub ruleset said·laws = (said-refuse, said-then, said-key, heads, said-head, said-cond)
 
 -- a call by its checks, and behind a refusal by number
 pub checked-said : (k : Checked) (o : List ℕ) (next : Outcome) (s : Said) → behind k (saidIn (next .head)) ≡ s
     → saidIn (checked k o next .head) ≡ s
-unfolding behind
-checked-said Passed o next s e = e
-checked-said (Refused r) o next s e = e
+checked-said k o next s e = simp (heads, said-head) e
 
 pub front-said : (t : Bool) (k : ℕ) (o : List ℕ) (x : Outcome) (s : Said) → saidIn (x .head) ≡ s
     → saidIn (refuseAs t k o x .head) ≡ cond t (only k) s
-front-said true k o x s e = refl
-front-said false k o x s e = e
+front-said t k o x s e = elim t [ true ↦ refl | false ↦ e ]
 
 -- Setting up a key says what the first condition says that holds: the key's size, its number.
 pub exported-new-number : (key : List ℕ) (n : ℕ) → hostKeyNew key n .answer ≡ firstOf (newRows key n) .number
 unfolding hostKeyNew keyOf newCipher
 exported-new-number key n =
-    split _ (not (eqb (length key) 16)) (λ e. rw e) (λ e. split _ (wrongNumber n) (λ f. rw (e, f)) (λ f. rw (e, f)))
+    by-test (not (eqb (length key) 16)) (λ e. rw e) (λ e. by-test (wrongNumber n) (λ f. rw (e, f)) (λ f. rw (e, f)))
 
 -- The exported call on one block says what the first condition says that holds: the key, the block's size, where it encrypts whether
 -- the key is retired, the room.
 pub exported-block-number : (dir : Direction) (k : LuossavinKey) (b o : List ℕ)
     → saidIn (hostBlockCall dir k b o .head) ≡ firstOf (blockRows dir k b o)
 unfolding hostBlockCall blockCall blockCheck cipherIn
-exported-block-number Encrypt k b o =
-    checked-said (blockCheck (cipherIn k .answer) (cipherIn k .retired) Encrypt (length b) (length o)) o _ _ (simp said·laws)
-exported-block-number Decrypt k b o =
-    checked-said (blockCheck (cipherIn k .answer) (cipherIn k .retired) Decrypt (length b) (length o)) o _ _ (simp said·laws)
-
-and-true : (b : Bool) → b && true ≡ b
-and-true true = refl
-and-true false = refl
-
-and-swap : (a b : Bool) → a && b ≡ b && a
-and-swap true true = refl
-and-swap true false = refl
-and-swap false true = refl
-and-swap false false = refl
+exported-block-number dir k b o = elim dir [ Encrypt ↦ simp said·laws | Decrypt ↦ simp said·laws ]
 
 -- opening, by the tests that decide
 cbc-said : (n : ℕ) (none bad : Bool)
     → saidIn (cbcHead (cond none InvalidLastU8 (cond bad InvalidPadding (Cbc·Done n)))) ≡ cond none (only 3) (cond bad (only 15) (only 0))
-cbc-said n true bad = refl
-cbc-said n false true = refl
-cbc-said n false false = refl
+cbc-said n none bad = elim none [ true ↦ refl | false ↦ elim bad [ true ↦ refl | false ↦ refl ] ]
 
-gcm-said : (n : ℕ) (t : Bool) → saidIn (gcmHead (cond t (Gcm·Done n) InvalidTag)) ≡ cond (not t) (only 4) (only 0)
-gcm-said n true = refl
-gcm-said n false = refl
+gcm-said : (t : Bool) → cond t (only 0) (only 4) ≡ cond (not t) (only 4) (only 0)
+gcm-said t = elim t [ true ↦ refl | false ↦ refl ]
+
+-- the lengths of an IV that Gcm takes, the other way round
+iv-said : (n : ℕ) → not (eqb n 12) && not (eqb n 16) ≡ not (eqb n 16) && not (eqb n 12)
+iv-said n = and-comm (not (eqb n 12)) (not (eqb n 16))
+
+ruleset mode·laws = (said·laws, cbc-said, gcm-said, iv-said, and-true)
 
 module _ (k : LuossavinKey) (label d iv o : List ℕ) where
   abbrev check : Direction → CipherMode → Checked
@@ -104,153 +87,94 @@ module _ (k : LuossavinKey) (label d iv o : List ℕ) where
 
   encryption-said : (m : CipherMode) → behind (check Encrypt m) (only 0) ≡ firstOf (encryptRowsIn m k label d iv o)
   unfolding messageCheck keyAndIv dataCheck roomCheck
-  encryption-said Cfb = simp (said·laws, and-true)
-  encryption-said Ofb = simp (said·laws, and-true)
-  encryption-said Ctr = simp (said·laws, and-true)
-  encryption-said Cbc = simp (said·laws, and-true)
-  encryption-said Gcm = simp (said·laws, and-swap (not (eqb (length iv) 12)))
+  encryption-said m =
+      elim m [ Cfb ↦ simp mode·laws | Ofb ↦ simp mode·laws | Ctr ↦ simp mode·laws | Cbc ↦ simp mode·laws | Gcm ↦ simp mode·laws ]
 
   decryption-said : (m : CipherMode)
       → behind (check Decrypt m) (saidIn (modeResult m Decrypt (k .«round_keys») label d iv o .head))
       ≡ firstOf (decryptRowsIn m k label d iv o)
-  unfolding messageCheck keyAndIv dataCheck roomCheck cbcOpen unpadded gcmOpen settled
-  decryption-said Cfb = simp (said·laws, and-true)
-  decryption-said Ofb = simp (said·laws, and-true)
-  decryption-said Ctr = simp (said·laws, and-true)
-  decryption-said Cbc = simp (said·laws, and-true, cbc-said)
-  decryption-said Gcm = simp (said·laws, and-swap (not (eqb (length iv) 12)), gcm-said)
+  unfolding messageCheck keyAndIv dataCheck roomCheck cbcOpen unpadded gcmOpen
+  decryption-said m =
+      elim m [ Cfb ↦ simp mode·laws | Ofb ↦ simp mode·laws | Ctr ↦ simp mode·laws | Cbc ↦ simp mode·laws | Gcm ↦ simp mode·laws ]
 
 -- The exported encryption says what the first condition says that holds: mode, key, IV, whether the key is retired, label, data, room.
 pub exported-encryption-number : (mode : ℕ) (k : LuossavinKey) (label d iv o : List ℕ)
     → saidIn (hostModeCall Encrypt mode k label d iv o .head) ≡ firstOf (encryptRows mode k label d iv o)
 unfolding hostModeCall modeCall cipherIn
-exported-encryption-number mode k label d iv o =
-    let m = modeOf mode in
-    let n = ap {B = Said} (λ (x : Outcome). saidIn (x .head)) (encrypts m (k .«round_keys») label d iv o) in
-    front-said (ltb 4 mode) 7 o _ _
-    (checked-said (check k label d iv o Encrypt m) o _ _
-    (ap {B = Said} (behind (check k label d iv o Encrypt m)) n ∙ encryption-said k label d iv o m))
+exported-encryption-number mode k label d iv o = simp (said·laws, encrypts, encryption-said)
 
 -- The exported decryption says what the first condition says that holds: mode, key, IV, label, data, room, padding, tag.
 pub exported-decryption-number : (mode : ℕ) (k : LuossavinKey) (label d iv o : List ℕ)
     → saidIn (hostModeCall Decrypt mode k label d iv o .head) ≡ firstOf (decryptRows mode k label d iv o)
 unfolding hostModeCall modeCall cipherIn
-exported-decryption-number mode k label d iv o =
-    front-said (ltb 4 mode) 7 o _ _
-    (checked-said (check k label d iv o Decrypt (modeOf mode)) o _ _ (decryption-said k label d iv o (modeOf mode)))
-
--- a verdict by its checks, and behind a bad list
-verdict-said : (bad : Bool) (n : ℕ) (k : Checked) (v : Verdict) (s : Said) → v .head ≡ finished 0 → behind k (only 0) ≡ s
-    → saidIn (cond bad (noneWith (refusal 16)) (onKey n (checkedVerdict k v)) .head) ≡ cond bad (only 16) s
-unfolding behind
-verdict-said true n k v s f e = refl
-verdict-said false n Passed v s f e = ap saidIn f ∙ e
-verdict-said false n (Refused r) v s f e = e
+exported-decryption-number mode k label d iv o = simp (said·laws, decryption-said)
 
 -- The exported question says what the first condition says that holds: the list, the key, the IV, the labels, the file; and 0 where a
 -- candidate is found or none opens.
 pub exported-which-number : (k : LuossavinKey) (file iv labels lengths : List ℕ)
     → saidIn (hostWhich k file iv labels lengths .head) ≡ firstOf (whichRows k file iv labels lengths)
 unfolding hostWhich which searchCheck keyAndIv dataCheck cipherIn
-exported-which-number k file iv labels lengths =
-    let c = cipherIn k in
-    verdict-said (badList labels lengths) (keyNumber c) (searchCheck (c .answer) (c .retired) (length iv) (length file) lengths) _ _
-    (search-number (opensWith c iv file) labels lengths) (simp said·laws)
+exported-which-number k file iv labels lengths = simp (said·laws, search-number)
 
 -- So a call answers 0 or a number of its rows, and nothing else.
 pub no-other-number : (rows : List Row) (s : Said) → s ≡ firstOf rows → Among (s .number) (numbersOf rows)
 no-other-number rows s e = rw e (one-of rows)
   where
-    one-more : (t : Bool) (r n : Said) (ks : List ℕ) → Among (n .number) (0 ∷ ks) → Among (cond t r n .number) (0 ∷ r .number ∷ ks)
-    one-more true r n ks a = inr (inl refl)
-    one-more false r n ks a = ⊎-elim inl (λ later. inr (inr later)) a
-
     one-of : (rows : List Row) → Among (firstOf rows .number) (numbersOf rows)
     one-of [] = inl refl
-    one-of (r ∷ rows) = one-more (r .holds) (r .says) (firstOf rows) (map (λ (r : Row). r .says .number) rows) (one-of rows)
-
--- Which number a call on a message in pieces answers: that of the first condition that holds, and no other.
-
--- a piece or an end by its checks, and a start
-step-said : (S : Type 0) (k : Checked) (o : List ℕ) (s : S) (next : Stepped S) (x : Said) → behind k (saidIn (next .head)) ≡ x
-    → saidIn (goesOn S k o s next .head) ≡ x
-unfolding behind
-step-said S Passed o s next x e = e
-step-said S (Refused r) o s next x e = e
-
-start-said : (S : Type 0) (k : Checked) (shut : ℕ → S) (s : S) (x : Said) → behind k (only 0) ≡ x → saidIn (begun S k shut s .head) ≡ x
-unfolding behind
-start-said S Passed shut s x e = e
-start-said S (Refused r) shut s x e = e
+    one-of (r ∷ rows) =
+        by-test (r .holds) (λ h. rw h (inr (inl refl))) (λ h. rw h (⊎-elim inl (λ later. inr (inr later)) (one-of rows)))
 
 -- the last question of an opening
 yes-or-no : (t b : Bool) → saidIn (cond t (telling b (finished 0)) (refusal 4)) ≡ cond (not t) (only 4) (only 0)
-yes-or-no true b = refl
-yes-or-no false b = refl
+yes-or-no t b = elim t [ true ↦ refl | false ↦ refl ]
 
--- what a mark says
-module _ (mark : ℕ) (s : Said) where
-  abbrev pub marked : Said
-  marked =
-      cond (eqb mark 1) (only 1)
-      (cond (eqb mark 5) (only 5)
-      (cond (eqb mark 10) (only 10) (cond (eqb mark 13) (only 13) (cond (eqb mark 14) (only 14) (cond (not (eqb mark 0)) (only 12) s)))))
-
-  pub said-standing : behind (standing mark) s ≡ marked
-  unfolding standing behind
-  said-standing = split _ (eqb mark 0) (λ e. let z = eqb-true mark 0 e in rw z) (λ e. rw e (simp said·laws))
+-- Which number a call on a message in pieces answers: that of the first condition that holds, and no other.
+pub said-standing : (mark : ℕ) (s : Said) → behind (standing mark) s
+    ≡ cond (eqb mark 1) (only 1)
+    (cond (eqb mark 5) (only 5)
+    (cond (eqb mark 10) (only 10) (cond (eqb mark 13) (only 13) (cond (eqb mark 14) (only 14) (cond (not (eqb mark 0)) (only 12) s)))))
+unfolding standing
+said-standing mark s = by-test (eqb mark 0) (λ e. let z = eqb-true mark 0 e in rw z) (λ e. rw e (simp said·laws))
 
 -- Every piece and every end says what the first condition says that holds: what the state stands at, the lengths, the tag's
 -- size, the room, and last the tag.
 pub ctr-piece-number : (s : Ctr·state) (e o : List ℕ) → saidIn (ctrPiece s e o .head) ≡ firstOf (ctrPieceRows s e o)
 unfolding ctrPiece writing running
-ctr-piece-number s e o =
-    step-said Ctr·state (writing (s .stands) 0 (s .total) (length e) (length e) (length o)) o s _ _ (simp (said·laws, said-standing))
+ctr-piece-number s e o = simp (said·laws, said-standing)
 
 pub ctr-end-number : (s : Ctr·state) → saidIn (ctrEnd s .head) ≡ firstOf (ctrEndRows s)
 unfolding ctrEnd running
-ctr-end-number s = step-said Ctr·state (running (s .stands) 0 (s .total) 0) [] s _ _ (simp (said·laws, said-standing))
+ctr-end-number s = simp (said·laws, said-standing)
 
 pub seal-piece-number : (s : Seal) (e o : List ℕ) → saidIn (sealPiece s e o .head) ≡ firstOf (sealPieceRows s e o)
 unfolding sealPiece writing running
-seal-piece-number s e o =
-    step-said Seal (writing (s .stands) (s .label) (s .total) (length e) (length e) (length o)) o s _ _ (simp (said·laws, said-standing))
+seal-piece-number s e o = simp (said·laws, said-standing)
 
 pub seal-end-number : (s : Seal) (o : List ℕ) → saidIn (sealEnd s o .head) ≡ firstOf (sealEndRows s o)
 unfolding sealEnd writing running
-seal-end-number s o =
-    step-said Seal (writing (s .stands) (s .label) (s .total) 0 16 (length o)) o s _ _ (simp (said·laws, said-standing))
+seal-end-number s o = simp (said·laws, said-standing)
 
 pub opens-piece-number : (s : Opens) (e : List ℕ) → saidIn (opensPiece s e .head) ≡ firstOf (opensPieceRows s e)
 unfolding opensPiece running
-opens-piece-number s e =
-    step-said Opens (running (s .stands) (s .label) (s .total) (length e)) [] s _ _ (simp (said·laws, said-standing))
+opens-piece-number s e = simp (said·laws, said-standing)
 
 pub opens-end-number : (s : Opens) (tag : List ℕ) → saidIn (opensEnd s tag .head) ≡ firstOf (opensEndRows s tag)
 unfolding opensEnd tagged running
-opens-end-number s tag =
-    let test = same tag (xors (s .mask) (hashEnd (s .hashing) (s .total % 16) (s .label) (s .total))) in
-    let check = tagged (s .stands) (s .label) (s .total) (length tag) in
-    step-said Opens check [] s _ _
-    (ap {B = Said} (behind check) (yes-or-no test (gcmCameRound (s .low) (blocksOf (s .total)))) ∙ simp (said·laws, said-standing))
+opens-end-number s tag = simp (yes-or-no, said·laws, said-standing)
 
 -- The exported starts say what the first condition says that holds: key, IV, where they encrypt whether the key is retired, label.
 pub exported-ctr-start-number : (k : LuossavinKey) (decrypt : Bool) (iv : List ℕ)
     → saidIn (hostCtrStart k decrypt iv .head) ≡ firstOf (ctrStartRows k decrypt iv)
 unfolding hostCtrStart ctrStart keyAndIv cipherIn
-exported-ctr-start-number k true iv =
-    start-said Ctr·state (keyAndIv (keyAnswerOf (k .answer)) (isRetired k) Decrypt Ctr (length iv)) _ _ _ (simp said·laws)
-exported-ctr-start-number k false iv =
-    start-said Ctr·state (keyAndIv (keyAnswerOf (k .answer)) (isRetired k) Encrypt Ctr (length iv)) _ _ _ (simp said·laws)
+exported-ctr-start-number k decrypt iv = elim decrypt [ true ↦ simp said·laws | false ↦ simp said·laws ]
 
-module _ (k : LuossavinKey) (label iv : List ℕ) where
-  abbrev starting : Direction → Checked
-  starting dir = gcmStarting (keyAnswerOf (k .answer)) (isRetired k) dir (length iv) (length label)
+pub exported-seal-start-number : (k : LuossavinKey) (label iv : List ℕ)
+    → saidIn (hostSealStart k label iv .head) ≡ firstOf (gcmStartRows Encrypt k label iv)
+unfolding hostSealStart sealStart gcmStarting keyAndIv cipherIn
+exported-seal-start-number k label iv = simp said·laws
 
-  pub exported-seal-start-number : saidIn (hostSealStart k label iv .head) ≡ firstOf (gcmStartRows Encrypt k label iv)
-  unfolding hostSealStart sealStart gcmStarting keyAndIv cipherIn
-  exported-seal-start-number = start-said Seal (starting Encrypt) _ _ _ (simp said·laws)
-
-  pub exported-opens-start-number : saidIn (hostOpensStart k label iv .head) ≡ firstOf (gcmStartRows Decrypt k label iv)
-  unfolding hostOpensStart opensStart gcmStarting keyAndIv cipherIn
-  exported-opens-start-number = start-said Opens (starting Decrypt) _ _ _ (simp said·laws)
+pub exported-opens-start-number : (k : LuossavinKey) (label iv : List ℕ)
+    → saidIn (hostOpensStart k label iv .head) ≡ firstOf (gcmStartRows Decrypt k label iv)
+unfolding hostOpensStart opensStart gcmStarting keyAndIv cipherIn
+exported-opens-start-number k label iv = simp said·laws

@@ -1,11 +1,12 @@
 -- The worked table of docs/REQUIREMENTS.md and its edges hold of the definitions, by computation; and two blocks under a key are computed.
 use Rattle.demands.specs.Names as N
-use N.{Bool, _&&_, false, true, List, [], _++_, _∷_, map, _≢_, _∙_, _≡_, ap, refl, sym, ℕ, arith, eqb, getD, length, replicate, ne-eqb}
-use N.{bytesOf, numberOf, same, unwords, words, gmul, mulFrom, timesX, ctrNext, gcmNext, Outcome, finished, telling, under, CK, L, L', T}
-use N.{T', encryptBlock, encryptWords, keysFrom, rotl, roundKeys, rounds, sboxTable, tau, hashFrom, allPadding, namesPadding, unpadded}
-use N.{refusalHead, lengthsOf, modeCall, modeResult, blockCheck, checked, dataCheck, keyAndIv, messageCheck, roomCheck, newCipher}
-use N.{Direction, Encrypt, Key, Sm4CipherMode, Refused·ending, Refusal, Checked, Passed, Refused}
+use N.{Bool, false, true, List, [], _++_, _∷_, map, _≢_, _∙_, _≡_, ap, refl, sym, ℕ, arith, getD, length, replicate, ne-eqb, bytesOf}
+use N.{numberOf, same, unwords, words, gmul, mulFrom, timesX, ctrNext, gcmNext, finished, telling, under, CK, L, L', T, T', encryptBlock}
+use N.{encryptWords, keysFrom, rotl, roundKeys, rounds, sboxTable, tau, hashFrom, allPadding, namesPadding, unpadded, refusalHead}
+use N.{lengthsOf, modeCall, blockCheck, dataCheck, keyAndIv, messageCheck, roomCheck, newCipher, Direction, Encrypt, Key, Sm4CipherMode}
+use N.{Refused·ending, Checked, Passed, Refused, Head}
 use Rattle.demands.specs.Worked.{Row, table}
+use Rattle.demands.proofs.Answering.{headBehind, heads}
 use Rattle.cipher_mode.proofs.Refusals.{refuses, quiet-ending}
 use Rattle.demands.specs.CameRound.{roundOf, tellingDone}
 use Rattle.demands.specs.Edges.{Row as Edge, verdict, saidOf, edges}
@@ -22,34 +23,25 @@ worked h = refl
 -- All rows, whether the tag is right or not: what the definitions say is what docs/REQUIREMENTS.md says.
 pub at-the-edges : (right : Bool) → map (λ (r : Edge). r .ours) (edges right) ≡ map (λ (r : Edge). r .paper) (edges right)
 unfolding messageCheck blockCheck keyAndIv dataCheck roomCheck newCipher namesPadding allPadding unpadded same
-at-the-edges true = refl
-at-the-edges false = refl
+at-the-edges right = elim right [ true ↦ refl | false ↦ refl ]
 
-verdict-refused : (k : Checked) (o : List ℕ) (next : Outcome) (n : ℕ) → k ≢ Passed → checked k o next .head ≡ verdict k n
-verdict-refused Passed o next n h = absurd (h refl)
-verdict-refused (Refused r) o next n h = refl
+verdict-refused : (k : Checked) (h : Head) (n : ℕ) → k ≢ Passed → headBehind k h ≡ verdict k n
+unfolding headBehind
+verdict-refused k h n = elim k [ Passed ↦ λ z. absurd (z refl) | Refused r ↦ λ _. refl ]
 
 -- a refusal says nothing of a counter
-refusal-quiet : (r : Refusal) (b : Bool) → refusalHead r ≡ tellingDone b (refusalHead r)
-refusal-quiet r b =
-    let no : (eqb (refusalHead r .number) 0 && b) ≡ false = rw (ne-eqb (refusalHead r .number) 0 (refuses r .not-zero)) in
-    sym (ap (λ (t : Bool). telling t (refusalHead r)) no ∙ quiet-ending (Refused·ending r))
-
-verdict-done : (k : Checked) (o : List ℕ) (next : Outcome) (n : ℕ) (b : Bool) → next .head ≡ telling b (finished n)
-    → checked k o next .head ≡ tellingDone b (verdict k n)
-verdict-done Passed o next n b e = e
-verdict-done (Refused r) o next n b e = refusal-quiet r b
+verdict-done : (k : Checked) (n : ℕ) (b : Bool) → headBehind k (telling b (finished n)) ≡ tellingDone b (verdict k n)
+unfolding headBehind
+verdict-done Passed n b = refl
+verdict-done (Refused r) n b =
+    rw (ne-eqb (refusalHead r .number) 0 (refuses r .not-zero)) (sym (quiet-ending (Refused·ending r)))
 
 -- Where the checks refuse, every call under a usable key with those lengths answers what is said, with the key's number.
 pub edge-refused : (dir : Direction) (m : Sm4CipherMode) → m .cipher .answer ≡ Key → (label d iv o : List ℕ)
     → messageCheck Key (m .cipher .retired) dir (m .mode) (lengthsOf label d iv o) ≢ Passed
     → modeCall dir m label d iv o .head ≡ under (m .cipher .number) (saidOf (m .cipher .retired) dir (m .mode) (lengthsOf label d iv o))
 unfolding modeCall
-edge-refused dir m k label d iv o h =
-    rw k
-    (ap (under (m .cipher .number))
-    (verdict-refused (messageCheck Key (m .cipher .retired) dir (m .mode) (lengthsOf label d iv o)) o
-    (modeResult (m .mode) dir (m .cipher .rk) label d iv o) _ h))
+edge-refused dir m k label d iv o h = rw k (simp heads (ap (under (m .cipher .number)) (verdict-refused _ _ _ h)))
 
 -- And of encryption it is the whole report, where done with what the formula of W8 says of a counter.
 pub edge-encrypted : (m : Sm4CipherMode) → m .cipher .answer ≡ Key → (label d iv o : List ℕ)
@@ -59,14 +51,8 @@ pub edge-encrypted : (m : Sm4CipherMode) → m .cipher .answer ≡ Key → (labe
     (saidOf (m .cipher .retired) Encrypt (m .mode) (lengthsOf label d iv o)))
 unfolding modeCall
 edge-encrypted m k label d iv o =
-    let rk = m .cipher .rk in
-    let b = roundOf (m .mode) Encrypt rk iv (length d) in
-    let size = ap (λ (n : ℕ). telling b (finished n)) (length-encrypted (m .mode) rk label d iv) in
-    let head = ap (λ (x : Outcome). x .head) (encrypts (m .mode) rk label d iv o) ∙ size in
-    rw k
-    (ap (under (m .cipher .number))
-    (verdict-done (messageCheck Key (m .cipher .retired) Encrypt (m .mode) (lengthsOf label d iv o)) o
-    (modeResult (m .mode) Encrypt rk label d iv o) _ b head))
+    let round = roundOf (m .mode) Encrypt (m .cipher .rk) iv (length d) in
+    rw k (simp (heads, encrypts, length-encrypted) (ap (under (m .cipher .number)) (verdict-done _ _ round)))
 
 -- Two blocks under the key of sixteen zero bytes, computed: demand 3's condition on keys is met, and imposters can be told.
 
@@ -82,6 +68,4 @@ block-of-one = refl
 
 -- The key of sixteen zero bytes does not encrypt the all-zero block to itself: there are keys that demand 3 speaks of.
 pub zero-key-moves : MovesZero (roundKeys (replicate 16 0))
-zero-key-moves e =
-    let z : _≡_ {A = ℕ} 0x9f 0 = ap (λ (b : List ℕ). getD b 0 0) (sym zero-block ∙ e) in
-    absurd (omega arith)
+zero-key-moves e = omega (arith, ap (λ (b : List ℕ). getD b 0 0) (sym zero-block ∙ e))

@@ -2,7 +2,7 @@
 -- bytes are, beside docs/REQUIREMENTS.md.
 use Rattle.demands.specs.Names as N
 use N.{Bool, cond, false, true, List, [], _++_, _∷_, map, _-_, ℕ, replicate, Head, cutShort, finished, refusal, cbcHead, unpadded, gcmHead}
-use N.{Gcm·Done, InvalidTag, refusalHead, blockCheck, messageCheck, keyHead, newCipher, roomOf, CipherMode, Cbc, Cfb, Ctr, Gcm, Ofb}
+use N.{refusalHead, blockCheck, messageCheck, keyHead, newCipher, roomOf, CipherMode, Cbc, Cfb, Ctr, Gcm, Ofb}
 use N.{Direction, Decrypt, Encrypt, Key, Checked, Passed, Refused, Lengths}
 
 -- a message of so many bytes, under an IV of so many, without a label, with so much room
@@ -62,7 +62,7 @@ edges right =
     ∷ row (said Decrypt Gcm (sizes 16 15 16)) (cutShort 1)
     ∷ row (said Decrypt Gcm (sizes 16 0 16)) (cutShort 16)
     ∷ row (said Decrypt Gcm (sizes 16 16 0)) (finished 0)
-    ∷ row (gcmHead (cond right (Gcm·Done (16 - 16)) InvalidTag)) (cond right (finished 0) (refusal 4))
+    ∷ row (gcmHead right (16 - 16)) (cond right (finished 0) (refusal 4))
     -- Gcm encryption of nothing is done, and so is Cbc's; Cbc decryption of nothing is 8, of 17 bytes 2
     ∷ row (said Encrypt Gcm (sizes 16 0 16)) (finished 16)
     ∷ row (said Decrypt Cbc (sizes 16 0 16)) (refusal 8)

@@ -26,9 +26,10 @@ pub use Rattle.counter.specs.CameRound.{blocksOf}
 unfoldable pub use Rattle.counter.specs.CameRound.{ctrCameRound, gcmCameRound}
 pub use Rattle.counter.specs.Counter.{lastFour}
 unfoldable pub use Rattle.counter.specs.Counter.{ctrNext, gcmNext}
-pub use Rattle.walk.specs.Outcome.{Head, Outcome, cutShort, done, finished, keyed, leaving, refusal, refuse as refuseAs, refused, reporting}
-pub use Rattle.walk.specs.Outcome.{telling, under, written}
-pub use Rattle.walk.specs.Walk.{over}
+pub use Rattle.cipher_mode.specs.Outcome.{Head, Outcome, cutShort, done, finished, keyed, leaving, refusal, refuse as refuseAs, refused}
+pub use Rattle.cipher_mode.specs.Outcome.{reporting}
+pub use Rattle.cipher_mode.specs.Outcome.{telling, under, written}
+pub use Rattle.block.specs.Over.{over}
 unfoldable pub use Rattle.walk.specs.Walk.{chain, walk}
 unfoldable pub use Rattle.cipher.specs.Sm4.{CK, L, L', T, T', encryptBlock, encryptWords, keysFrom, rotl, roundKeys, rounds, sboxTable, tau}
 pub use Rattle.ghash.specs.Ghash.{blockCount, ghash}
@@ -41,17 +42,16 @@ unfoldable pub use Rattle.stream.specs.Passes.{ctrWalkSays, gcmWalkSays}
 pub use Rattle.stream.specs.Stream.{streamMode}
 pub use Rattle.stream.specs.declared.Kind.{Kind}
 pub use Rattle.stream.specs.declared.Kind.the-variants.{CfbDecrypt, CfbEncrypt, Ctr as Ctr·kind, Gctr, Ofb as Ofb·kind}
-pub use Rattle.cbc.specs.Cbc.{padding}
+pub use Rattle.padding.specs.Padding.{lastByte, padding}
+unfoldable pub use Rattle.padding.specs.Padding.{allPadding, namesPadding, unpadded}
+pub use Rattle.cbc.specs.Cbc.{cbcText}
 unfoldable pub use Rattle.cbc.specs.Cbc.{cbcSeal}
-pub use Rattle.cbc.specs.Open.{cbcText, headOf as cbcHead, lastByte}
-unfoldable pub use Rattle.cbc.specs.Open.{allPadding, cbcOpen, namesPadding, unpadded}
-pub use Rattle.cbc.specs.declared.Opened.{Opened}
-pub use Rattle.cbc.specs.declared.Opened.the-variants.{Done as Cbc·Done, InvalidLastU8, InvalidPadding}
+pub use Rattle.padding.specs.declared.Opened.{Opened}
+pub use Rattle.padding.specs.declared.Opened.the-variants.{Done as Cbc·Done, InvalidLastU8, InvalidPadding}
 pub use Rattle.gcm.specs.Gcm.{J0, hashedCounter, tagPart, textPart}
 unfoldable pub use Rattle.gcm.specs.Gcm.{firstCounter, hashKey, opensUnder, sealed, tagOf, textOf}
-pub use Rattle.gcm.specs.Open.{headOf as gcmHead}
-unfoldable pub use Rattle.gcm.specs.Open.{gcmOpen, settled}
-pub use Rattle.gcm.specs.declared.Opened.the-variants.{Done as Gcm·Done, InvalidTag}
+pub use Rattle.cipher_mode.specs.Calls.{cbcHead, gcmHead}
+unfoldable pub use Rattle.cipher_mode.specs.Calls.{cbcOpen, gcmOpen}
 pub use Rattle.cipher_mode.specs.Answer.{endingHead, headOf, outcome, refusalHead}
 pub use Rattle.cipher_mode.specs.Calls.{blockOf, cfbKind, gcmResult, gcmRound, lengthsOf, modeResult}
 unfoldable pub use Rattle.cipher_mode.specs.Calls.{blockCall, modeCall}

@@ -1,7 +1,7 @@
 -- The search finds candidate i exactly where the test holds of it and of none before it, and none exactly where it holds of none.
 use Rattle.block.proofs.Base.{_+_, _<_, suc, zero, ℕ, _≡_, refl, subst, Bool, cond, false, true, true≢false, List, [], _∷_, arith, drop}
 use Rattle.block.proofs.Base.{getD, length, take, drop-drop}
-use Rattle.walk.specs.Outcome.{finished}
+use Rattle.cipher_mode.specs.Outcome.{finished}
 use Rattle.editions.specs.Candidates.{sum, labelAt}
 use Rattle.editions.specs.Which.{Verdict, foundAt, noneWith, firstOpening}
 
@@ -22,6 +22,11 @@ candidate lengths i = foundAt i (sum (take i lengths)) (getD lengths i 0)
 found-at : {i i′ s s′ : ℕ} (n : ℕ) → i ≡ i′ → s ≡ s′ → foundAt i s n ≡ foundAt i′ s′ n
 found-at n e f = rw (e, f)
 
+-- what a test decides holds if each of the two does where it is decided so
+by-test : {A : Type 0} (P : A → Type 0) {x y : A} (t : Bool) → (t ≡ true → P x) → (t ≡ false → P y) → P (cond t x y)
+by-test P true f g = f refl
+by-test P false f g = g refl
+
 module _ (test : List ℕ → Bool) where
   -- none before candidate k of the others, nor the one before them
   none-yet : (labels ns : List ℕ) (n k : ℕ) → test (labelAt labels (n ∷ ns) 0) ≡ false
@@ -31,21 +36,17 @@ module _ (test : List ℕ → Bool) where
   none-yet labels ns n k e f zero h = e
   none-yet labels ns n k e f (suc j) h = rw (← drop-drop (sum (take j ns)) n labels) (f j (omega arith))
 
-  -- what holds of the first candidate that passes, if there is one, and of none, if none does, holds of v
-  abbrev Searched : List ℕ → List ℕ → ℕ → ℕ → Verdict → Type 1
-  Searched labels lengths place start v =
-      (P : Verdict → Type 0)
+  -- what holds of the first candidate that passes, if there is one, and of none, if none does, holds of what the search gives
+  searched : (labels lengths : List ℕ) (place start : ℕ) (P : Verdict → Type 0)
       → ((i : ℕ) → IsFirst test labels lengths i → P (foundAt (place + i) (start + sum (take i lengths)) (getD lengths i 0)))
-      → (NonePasses test labels lengths → P (noneWith (finished 0))) → P v
-
-  at-first : (labels ns : List ℕ) (n place start : ℕ) (t : Bool) (v : Verdict) → test (take n labels) ≡ t
-      → Searched (drop n labels) ns (place + 1) (start + n) v → Searched labels (n ∷ ns) place start (cond t (foundAt place start n) v)
-  unfolding labelAt sum
-  at-first labels ns n place start true v e rest P hit miss =
-      subst P (found-at n (omega arith) (omega arith))
-      (hit 0 (record { inside = omega arith; passes = e; none-before = λ j h. absurd (omega arith) }))
-  at-first labels ns n place start false v e rest P hit miss =
-      rest P
+      → (NonePasses test labels lengths → P (noneWith (finished 0))) → P (firstOpening test labels lengths place start)
+  unfolding firstOpening labelAt sum
+  searched labels [] place start P hit miss = miss (λ i h. absurd (omega arith))
+  searched labels (n ∷ ns) place start P hit miss =
+      by-test P (test (take n labels))
+      (λ e. subst P (found-at n (omega arith) (omega arith))
+      (hit 0 (record { inside = omega arith; passes = e; none-before = λ j h. absurd (omega arith) })))
+      (λ e. searched (drop n labels) ns (place + 1) (start + n) P
       (λ i f. subst P (found-at (getD ns i 0) (omega arith) (omega arith))
       (hit (suc i)
       (record {
@@ -53,14 +54,7 @@ module _ (test : List ℕ → Bool) where
         passes = rw (← drop-drop (sum (take i ns)) n labels) (f .passes);
         none-before = none-yet labels ns n i e (f .none-before);
       })))
-      (λ f. miss (none-yet labels ns n (length ns) e f))
-
-  searched : (labels lengths : List ℕ) (place start : ℕ)
-      → Searched labels lengths place start (firstOpening test labels lengths place start)
-  unfolding firstOpening
-  searched labels [] place start P hit miss = miss (λ i h. absurd (omega arith))
-  searched labels (n ∷ ns) place start P hit miss =
-      at-first labels ns n place start (test (take n labels)) _ refl (searched (drop n labels) ns (place + 1) (start + n)) P hit miss
+      (λ f. miss (none-yet labels ns n (length ns) e f)))
 
   module _ (labels lengths : List ℕ) where
     pub by-search : (P : Verdict → Type 0) → ((i : ℕ) → IsFirst test labels lengths i → P (candidate lengths i))

@@ -4,7 +4,7 @@ use mathlib.Core.Bool.{Bool, true, false, cond}
 use mathlib.Core.List.{List, [], _∷_}
 use lib.Dec.{ltb}
 use lib.ListN.{length, take, drop}
-use Rattle.walk.specs.Outcome.{Head, finished, refusal, under}
+use Rattle.cipher_mode.specs.Outcome.{Head, finished, refusal, under}
 use Rattle.block.specs.Same.{same}
 use Rattle.gcm.specs.Gcm.{hashKey, J0, maskedTag, textPart, tagPart, opensUnder}
 use Rattle.cipher_mode.specs.declared.KeyAnswer.{KeyAnswer}
@@ -104,4 +104,5 @@ isFound (Refused·here r) = false
 -- the verdict that an answer spells
 abbrev pub verdictOf : Found → Verdict
 verdictOf f =
-    record { head = under (f .key) (endedHead (f .ended)); found = isFound (f .ended); place = f .place; start = f .start; size = f .length }
+    let h = under (f .key) (endedHead (f .ended)) in
+    record { head = h; found = isFound (f .ended); place = f .place; start = f .start; size = f .length }

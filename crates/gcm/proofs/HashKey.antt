@@ -1,11 +1,6 @@
 -- H is an element of the field, and it is 0 exactly where the cipher takes the block of zeros to itself.
-use Rattle.block.proofs.Base.{_<_, _^_, ℕ, _∙_, _≡_, ap, refl, sym, List, lit<, replicate}
-use Rattle.block.specs.BigEndian.{numberOf}
-use Rattle.block.proofs.Convert.{numberOf-lt, numberOf-same}
-use Rattle.block.proofs.Entries.{below-replicate}
-use Rattle.cipher.specs.Sm4.{encryptBlock}
-use Rattle.cipher.proofs.Blocks.{length-encryptBlock, encryptBlock-bytes}
-use Rattle.gcm.specs.Gcm.{hashKey}
+use Rattle.gcm.proofs.Names.{List, _<_, _^_, _∙_, _≡_, ap, below-replicate, encryptBlock, encryptBlock-bytes, hashKey}
+use Rattle.gcm.proofs.Names.{length-encryptBlock, lit<, numberOf, numberOf-lt, numberOf-same, refl, replicate, sym, ℕ}
 
 spells-zero : numberOf (replicate 16 0) ≡ 0
 unfolding numberOf

@@ -1,20 +1,10 @@
 -- The code is the definitions: H, J0, the tag, and a sealed message written in two parts.
-use Rattle.block.proofs.Base.{ℕ, _∙_, _≡_, ap, refl, sym, List, [], _++_, _∷_, lit<, drop, length}
-use Rattle.block.specs.Below.{AreBytes}
-use Rattle.block.specs.BigEndian.{numberOf, bytesOf}
-use Rattle.block.specs.Words.{wordAt, words, unwords}
-use Rattle.block.specs.Xor.{xors}
-use Rattle.block.proofs.WordsBack.{length-words, unwords-twelve, unwords-number, unwords-xors}
-use Rattle.cipher.specs.Sm4.{encryptWords}
-use Rattle.cipher.proofs.Blocks.{encrypt-unwords}
-use Rattle.ghash.specs.Ghash.{ghash, authBlocks}
-use Rattle.ghash.proofs.IvBlocks.{iv-blocks}
-use Rattle.walk.specs.Walk.{chain, over}
-use Rattle.walk.proofs.Loop.{tailed, returned, over-behind}
-use Rattle.stream.specs.Stream.{streamMode}
-use Rattle.stream.specs.declared.Kind.the-variants.{Gctr}
-use Rattle.counter.specs.Counter.{gcmNext}
-use Rattle.gcm.specs.Gcm.{hashKey, nonceCounter, hashedCounter, textOf, maskedTag}
+use Rattle.gcm.proofs.Names.{AreBytes, Gctr, List, [], _++_, _-_, _∙_, _∷_, _≡_, ap, authBlocks, bytesOf, chain, drop}
+use Rattle.gcm.proofs.Names.{encrypt-unwords, encryptWords, gcmNext, ghash, hashKey, hashedCounter, iv-blocks, length, length-words}
+use Rattle.gcm.proofs.Names.{lit<, maskedTag, nonceCounter, numberOf, over, over-behind, refl, returned, sealed, streamMode}
+use Rattle.gcm.proofs.Names.{sub-zero, tagOf, tailed, take, take-at, textOf, unwords, unwords-number, unwords-twelve, unwords-xors}
+use Rattle.gcm.proofs.Names.{wordAt, words, xors, ℕ}
+use Rattle.gcm.proofs.Parts.{length-text, length-tag}
 
 pub hash-key-words : (rk x : List ℕ) (n : ℕ) → x ≡ encryptWords rk (0 ∷ 0 ∷ 0 ∷ 0 ∷ []) → n ≡ numberOf (unwords x) → n ≡ hashKey rk
 unfolding hashKey unwords bytesOf
@@ -38,10 +28,17 @@ masked-words mask label text s r h n l en es er =
     ap unwords er ∙ unwords-xors mask s l (ap length es ∙ length-words (bytesOf 16 n))
     ∙ ap (xors (unwords mask)) (unwords-number s n es ∙ ap (bytesOf 16) en)
 
--- the text at the front of the output, then the tag behind it
-pub sealed-written : (text tag o o₁ t : List ℕ) (n : ℕ) → length text ≡ n → length tag ≡ 16 → o₁ ≡ over text o
-    → t ≡ tag ++ drop 16 (tailed n o₁) → returned n o₁ t ≡ over (text ++ tag) o
-sealed-written text tag o o₁ t n lt lg e f = over-behind text tag o o₁ t n lt e (f ∙ ap (λ (k : ℕ). tag ++ drop k (tailed n o₁)) (sym lg))
+-- the text was written to the front of the output, and the tag of what stands there behind it
+pub sealed-written : (rk : List ℕ) (h : ℕ) (j label d o o₁ t tag : List ℕ) → o₁ ≡ over (textOf rk j d) o
+    → tag ≡ tagOf rk h j label (take (length d - 0) o₁) → t ≡ tag ++ drop 16 (tailed (length d) o₁)
+    → returned (length d) o₁ t ≡ over (sealed rk h j label d) o
+unfolding sealed
+sealed-written rk h j label d o o₁ t tag e g f =
+    let text = textOf rk j d in
+    let n = length-text rk j d in
+    let front : take (length d - 0) o₁ ≡ text = rw (sub-zero, e) (take-at text (drop (length text) o) (length d) n) in
+    let is-tag : tag ≡ tagOf rk h j label text = g ∙ ap (tagOf rk h j label) front in
+    over-behind text (tagOf rk h j label text) o o₁ t (length d) n e (f ∙ rw (is-tag, length-tag rk h j label text))
 
 -- the counters of the text start one after J0
 pub text-words : (rk j next d : List ℕ) → next ≡ gcmNext j → chain (streamMode Gctr rk) next d ≡ textOf rk j d

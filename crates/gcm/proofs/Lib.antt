@@ -1,3 +1,4 @@
+mod Names
 pub mod TagTest
 pub mod Parts
 pub mod RoundTrip

@@ -1,15 +1,7 @@
 -- The lengths of text, tag and sealed message, and the two parts of a message and of what was sealed.
-use Rattle.block.proofs.Base.{_+_, _-_, ℕ, _∙_, _≡_, ap₂, List, _++_, arith, length, length-append, drop-at, take-at}
-use Rattle.block.specs.BigEndian.{bytesOf}
-use Rattle.block.proofs.Convert.{length-bytesOf}
-use Rattle.block.proofs.Xors.{length-xors}
-use Rattle.cipher.specs.Sm4.{encryptBlock}
-use Rattle.cipher.proofs.Blocks.{length-encryptBlock}
-use Rattle.counter.specs.Counter.{gcmNext}
-use Rattle.ghash.specs.Ghash.{ghash, authBlocks}
-use Rattle.stream.specs.declared.Kind.the-variants.{Gctr}
-use Rattle.stream.proofs.RoundTrip.{length-stream}
-use Rattle.gcm.specs.Gcm.{textOf, tagOf, sealed, textPart, tagPart}
+use Rattle.gcm.proofs.Names.{Gctr, List, _++_, _+_, _-_, _∙_, _≡_, ap₂, arith, authBlocks, bytesOf, drop-at, encryptBlock, gcmNext}
+use Rattle.gcm.proofs.Names.{ghash, length, length-append, length-bytesOf, length-encryptBlock, length-stream, length-xors, sealed}
+use Rattle.gcm.proofs.Names.{tagOf, tagPart, take-at, textOf, textPart, ℕ}
 
 pub length-text : (rk j d : List ℕ) → length (textOf rk j d) ≡ length d
 unfolding textOf

@@ -1,10 +1,6 @@
 -- What was sealed opens, with its text; what opens is sealed again to the same bytes. For any round keys, H and J0.
-use Rattle.block.proofs.Base.{_-_, ℕ, _∙_, _≡_, ap, sym, true, List, _++_, length, take-append-drop}
-use Rattle.counter.specs.Counter.{gcmNext}
-use Rattle.stream.specs.declared.Kind.the-variants.{Gctr}
-use Rattle.stream.proofs.RoundTrip.{stream-back}
-use Rattle.gcm.specs.Gcm.{textOf, tagOf, sealed, textPart, tagPart, opensUnder}
-use Rattle.block.proofs.Same.{same-refl, same-equal}
+use Rattle.gcm.proofs.Names.{Gctr, List, _++_, _-_, _∙_, _≡_, ap, gcmNext, length, opensUnder, same-equal, same-refl, sealed}
+use Rattle.gcm.proofs.Names.{stream-back, sym, tagOf, tagPart, take-append-drop, textOf, textPart, true, ℕ}
 use Rattle.gcm.proofs.Parts.{sealed-text, sealed-tag}
 
 text-back : (rk j d : List ℕ) → textOf rk j (textOf rk j d) ≡ d

@@ -1,29 +1,11 @@
 -- A short text in one batch with the zero block and J0: H is the cipher of the one, that of the other is the mask of its tag, and those of
 -- the counters behind are what it is xored with.
-use Rattle.block.proofs.Base.{_*_, _+_, _-_, _/_, _<_, _≤_, suc, zero, ℕ, _∙_, _≡_, ap, ap₂, sym, false, List, _++_, arith, drop, length}
-use Rattle.block.proofs.Base.{length-drop, replicate, take, take-append-drop, drop-at, drop-drop, length-take-le, take-at}
-use Rattle.block.specs.Below.{AreBytes}
-use Rattle.block.specs.Blocks.{blockAt, cat}
-use Rattle.block.specs.BigEndian.{numberOf}
-use Rattle.block.specs.Words.{words, unwords}
-use Rattle.block.specs.Xor.{xors}
-use Rattle.block.proofs.Entries.{below-drop}
-use Rattle.block.proofs.WordsBack.{unwords-front}
-use Rattle.block.proofs.Xors.{xors-append}
-use Rattle.cipher.specs.Sm4.{encryptBlock}
-use Rattle.cipher.proofs.Blocks.{length-encryptBlock}
-use Rattle.counter.specs.Counter.{gcmJump, gcmNext, jumped}
-use Rattle.counter.proofs.JumpSteps.{no-gcm-jump, gcm-jump-on}
-use Rattle.sixteen.proofs.Padded.{block-of, xors-fit}
-use Rattle.stream.specs.declared.Kind.the-variants.{Gctr}
-use Rattle.stream.specs.Stream.{streamMode}
-use Rattle.stream.proofs.Ahead.{length-jumped}
-use Rattle.stream.proofs.Counters.{jumped-stepped, length-gcmNext, gcmNext-bytes}
-use Rattle.walk.specs.Walk.{chain, stepped, over}
-use Rattle.walk.proofs.Chain.{chain-rest, chain-block}
-use Rattle.walk.proofs.Loop.{tailed, tail-is}
-use Rattle.gcm.specs.Gcm.{hashKey, textOf}
-use Rattle.gcm.specs.Pads.{PadsFor}
+use Rattle.gcm.proofs.Names.{AreBytes, Gctr, List, PadsFor, _*_, _++_, _+_, _-_, _/_, _<_, _∙_, _≡_, _≤_, ap, ap₂, arith, below-drop}
+use Rattle.gcm.proofs.Names.{block-of, blockAt, cat, chain, chain-block, chain-rest, drop, drop-at, drop-drop, encryptBlock, false}
+use Rattle.gcm.proofs.Names.{gcm-jump-on, gcmJump, gcmNext, gcmNext-bytes, hashKey, jumped, jumped-stepped, length, length-drop}
+use Rattle.gcm.proofs.Names.{length-encryptBlock, length-gcmNext, length-jumped, length-take-le, no-gcm-jump, numberOf, over}
+use Rattle.gcm.proofs.Names.{replicate, stepped, streamMode, suc, sym, tail-is, tailed, take, take-append-drop, take-at, textOf}
+use Rattle.gcm.proofs.Names.{unwords, unwords-front, words, xors, xors-append, xors-fit, zero, ℕ}
 
 -- the state of block i
 abbrev stateAt : List ℕ → List ℕ → List ℕ → ℕ → List ℕ

@@ -1,16 +1,7 @@
 -- A tag tells the hash: under one J0 equal tags come of equal hashes, and of equal hashes equal tags.
-use Rattle.block.proofs.Base.{_<_, _^_, ℕ, _∙_, _≡_, ap, sym, _≢_, false, true, List, _++_, arith, length}
-use Rattle.block.specs.BigEndian.{bytesOf}
-use Rattle.block.specs.Xor.{xors}
-use Rattle.block.proofs.Convert.{length-bytesOf, bytesOf-same}
-use Rattle.block.proofs.Xors.{xors-comm, xors-cancel}
-use Rattle.cipher.specs.Sm4.{encryptBlock}
-use Rattle.cipher.proofs.Blocks.{length-encryptBlock}
-use Rattle.ghash.specs.Ghash.{ghash, authBlocks}
-use Rattle.ghash.proofs.Join.{ghash-lt}
-use Rattle.gcm.specs.Gcm.{tagOf, textPart, tagPart, opensUnder}
-use Rattle.block.specs.Same.{same}
-use Rattle.block.proofs.Same.{same-equal, same-not}
+use Rattle.gcm.proofs.Names.{List, _++_, _<_, _^_, _∙_, _≡_, _≢_, ap, arith, authBlocks, bytesOf, bytesOf-same, encryptBlock, false}
+use Rattle.gcm.proofs.Names.{ghash, ghash-lt, length, length-bytesOf, length-encryptBlock, opensUnder, same, same-equal, same-not}
+use Rattle.gcm.proofs.Names.{sym, tagOf, tagPart, textPart, true, xors, xors-cancel, xors-comm, ℕ}
 use Rattle.gcm.proofs.Parts.{parts-text, parts-tag}
 
 -- what is xored with a block comes back

@@ -1,21 +1,13 @@
 -- Two blocks of four words are the same where the sum of their four xors is 0, and so the code settles a tag.
-use Rattle.block.proofs.Base.{_+_, _-_, _≤_, ℕ, _∙_, _≡_, ap, ap₂, refl, sym, List, _∷_, arith, eq-eqb, eqb-true, xor-self, eqb, getD}
-use Rattle.block.proofs.Base.{length, length-drop}
-use Rattle.block.specs.Below.{AreBytes, AreWords}
-use Rattle.block.specs.Words.{words, unwords}
-use Rattle.block.specs.Xor.{_⊕_, xors}
-use Rattle.block.proofs.Entries.{below-drop}
-use Rattle.block.proofs.Xor.{xor-same}
-use Rattle.block.proofs.WordsBack.{four-entries, xors-four, words-unwords, unwords-words, length-words, words-below}
-use Rattle.gcm.specs.Gcm.{tagPart}
-use Rattle.block.specs.Same.{same}
-use Rattle.block.proofs.Same.{same-refl, same-equal, test-iff}
+use Rattle.gcm.proofs.Names.{AreBytes, AreWords, List, _+_, _∙_, _∷_, _≡_, _⊕_, ap, ap₂, arith, eq-eqb, eqb, eqb-true, four-entries}
+use Rattle.gcm.proofs.Names.{getD, length, length-words, refl, same, same-equal, same-refl, sym, test-iff, unwords, unwords-words}
+use Rattle.gcm.proofs.Names.{words, words-below, words-unwords, xor-same, xor-self, xors, xors-four, ℕ}
 
 xor-none : (a b : ℕ) → a ⊕ b ≡ 0 → a ≡ b
 xor-none a b e = xor-same a b b (e ∙ sym (xor-self b))
 
 -- as the code has it, d being the xor of the two blocks
-abbrev pub summed : List ℕ → ℕ
+abbrev summed : List ℕ → ℕ
 summed d = getD d 0 0 + getD d 1 0 + getD d 2 0 + getD d 3 0
 
 -- a block xored with itself leaves nothing
@@ -36,7 +28,7 @@ module _ (a b : List ℕ) (na : length a ≡ 4) (nb : length b ≡ 4) where
       let e3 = xor-none (getD a 3 0) (getD b 3 0) (omega arith) in
       sym (four-entries a na) ∙ ap₂ _∷_ e0 (ap₂ _∷_ e1 (ap₂ _∷_ e2 (ap₂ _∷_ e3 refl))) ∙ four-entries b nb
 
-  pub tag-test : AreWords a → AreWords b → eqb (summed (xors a b)) 0 ≡ same (unwords a) (unwords b)
+  tag-test : AreWords a → AreWords b → eqb (summed (xors a b)) 0 ≡ same (unwords a) (unwords b)
   tag-test ha hb =
       let back : unwords a ≡ unwords b → a ≡ b = λ e. sym (words-unwords a na ha) ∙ ap words e ∙ words-unwords b nb hb in
       test-iff (eqb (summed (xors a b)) 0) (same (unwords a) (unwords b))
@@ -45,14 +37,11 @@ module _ (a b : List ℕ) (na : length a ≡ 4) (nb : length b ≡ 4) where
       let ab = back (same-equal (unwords a) (unwords b) e) in
       eq-eqb (summed (xors a b)) 0 (ap (λ (l : List ℕ). summed (xors a l)) (sym ab) ∙ none a na))
 
--- as `has_tag` has it: f the words of the message's tag part, e those of the expected tag, d the xor of the two
-pub has-tag-words : (s f e d p : List ℕ) → 16 ≤ length s → AreBytes s → p ≡ tagPart s → f ≡ words p → length e ≡ 4 → AreWords e
-    → d ≡ xors f e → eqb (summed d) 0 ≡ same (tagPart s) (unwords e)
-has-tag-words s f e d p n b ep ef le we ed =
-    let bt : AreBytes (tagPart s) = below-drop 256 (length s - 16) s b in
-    let lt : length (tagPart s) ≡ 16 = length-drop (length s - 16) s ∙ omega arith in
-    let g : f ≡ words (tagPart s) = ef ∙ ap words ep in
-    let lf : length f ≡ 4 = ap length g ∙ length-words (tagPart s) in
-    let wf : AreWords f = rw g (words-below (tagPart s) bt) in
+-- as `is_tag` has it: f the words of the sixteen bytes, e those of the expected tag, d the xor of the two
+pub is-tag-words : (s f e d : List ℕ) → length s ≡ 16 → AreBytes s → f ≡ words s → length e ≡ 4 → AreWords e → d ≡ xors f e
+    → eqb (summed d) 0 ≡ same s (unwords e)
+is-tag-words s f e d n b ef le we ed =
+    let lf : length f ≡ 4 = ap length ef ∙ length-words s in
+    let wf : AreWords f = rw ef (words-below s b) in
     ap (λ (l : List ℕ). eqb (summed l) 0) ed ∙ tag-test f e lf le wf we
-    ∙ ap (λ (l : List ℕ). same l (unwords e)) (ap unwords g ∙ unwords-words (tagPart s) lt bt)
+    ∙ ap (λ (l : List ℕ). same l (unwords e)) (ap unwords ef ∙ unwords-words s n b)

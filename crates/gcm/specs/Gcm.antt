@@ -10,6 +10,7 @@ use Rattle.block.specs.Xor.{xors}
 use Rattle.cipher.specs.Sm4.{encryptBlock}
 use Rattle.counter.specs.Counter.{gcmNext}
 use Rattle.ghash.specs.Ghash.{ghash, authBlocks}
+use Rattle.block.specs.Over.{over}
 use Rattle.walk.specs.Walk.{chain}
 use Rattle.stream.specs.Stream.{streamMode}
 use Rattle.stream.specs.declared.Kind.the-variants.{Gctr}
@@ -60,3 +61,7 @@ tagPart s = drop (length s - 16) s
 -- whether a sealed message opens under a label
 unfoldable pub opensUnder : List ℕ → ℕ → List ℕ → List ℕ → List ℕ → Bool
 opensUnder rk h j label s = same (tagPart s) (tagOf rk h j label (textPart s))
+
+-- opening the message s into the output o: where it opens its text over the front; otherwise o is as it was lent
+unfoldable pub textInto : List ℕ → ℕ → List ℕ → List ℕ → List ℕ → List ℕ → List ℕ
+textInto rk h j label s o = cond (opensUnder rk h j label s) (over (textOf rk j (textPart s)) o) o

@@ -1,3 +1,2 @@
 pub mod Gcm
-pub mod Open
 pub mod Pads

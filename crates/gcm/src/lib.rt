@@ -13,21 +13,13 @@ ghost use Rattle.cipher.specs.Engine.{Engine};
 ghost use Rattle.counter.specs.Counter.{jumped};
 ghost use Rattle.ghash.specs.Ghash.{Hashable, blocks};
 ghost use Rattle.ghash.specs.Joined.{HalfOf};
-ghost use Rattle.walk.specs.Outcome.{leaving};
-ghost use Rattle.walk.specs.Walk.{over};
-ghost use Rattle.gcm.specs.Gcm.{hashKey, nonceCounter, hashedCounter, firstCounter, J0, maskedTag, tagOf, sealed, textPart, tagPart, opensUnder};
-ghost use Rattle.gcm.specs.Open.{headOf, gcmOpen};
+ghost use Rattle.block.specs.Over.{over};
+ghost use Rattle.gcm.specs.Gcm.{hashKey, nonceCounter, hashedCounter, firstCounter, J0, maskedTag, tagOf, sealed, textPart, tagPart, opensUnder, textInto};
 ghost use Rattle.gcm.specs.Pads.{PadsFor};
 use block::U128;
 use ghash::halves;
 use ghash::halves::Half;
 use stream::Kind;
-
-// What opening answers: done, with the length of the text, or the tag is not the message's.
-pub enum Opened {
-    Done(usize),
-    InvalidTag,
-}
 
 // H, the cipher of sixteen zero bytes.
 pub fn hash_key(t: &[u32], rk: [u32; 32]) -> U128
@@ -224,14 +216,22 @@ pub fn tag_part(data: &[u8]) -> &[u8]
     &data[n..]
 }
 
-// Whether a sealed message has this tag. All sixteen bytes are looked at, whatever the first ones are: the differences are added up, since of
-// an `|` of them the back end can make a jump for each.
+// Whether sixteen bytes are this tag. All of them are looked at, whatever the first ones are: the differences are added up, since of an
+// `|` of them the back end can make a jump for each.
+pub fn is_tag(bytes: &[u8], expected: [u32; 4]) -> bool
+    requires { ⌜ length (now bytes) ≡ 16 ⌝ }
+    ensures { λ r. ⌜ r ≡ same (now (bytes .entry)) (unwords expected) ⌝ }
+{
+    let d = block::block_xor(block::split_block(bytes), expected);
+    d[0] as u64 + d[1] as u64 + d[2] as u64 + d[3] as u64 == 0
+}
+
+// Whether a sealed message has this tag.
 fn has_tag(data: &[u8], expected: [u32; 4]) -> bool
     requires { ⌜ 16 ≤ length (now «data») ⌝ }
     ensures { λ r. ⌜ r ≡ same (tagPart (now («data» .entry))) (unwords expected) ⌝ }
 {
-    let d = block::block_xor(block::split_block(tag_part(data)), expected);
-    d[0] as u64 + d[1] as u64 + d[2] as u64 + d[3] as u64 == 0
+    is_tag(tag_part(data), expected)
 }
 
 // Whether a sealed message opens under a label.
@@ -255,22 +255,23 @@ pub fn opens_after(mask: [u32; 4], h: U128, half: Half, aad: &[u8], data: &[u8])
     has_tag(data, block::block_xor(mask, block::from_u128(hash)))
 }
 
-// Opens a sealed message with a short text, by its pads.
-fn decrypt_short(h: U128, pads: &[u8], aad: &[u8], data: &[u8], out: &mut [u8]) -> Opened
+// Opens a sealed message with a short text, by its pads. Returns whether it opens.
+fn decrypt_short(h: U128, pads: &[u8], aad: &[u8], data: &[u8], out: &mut [u8]) -> bool
     requires { ⌜ Hashable (length (now aad)) × Hashable (length (now «data»)) ⌝ }
     requires { ⌜ (16 ≤ length (now «data»)) × (length (now «data») + 16 ≤ length (now pads)) × (length (now «data») - 16 ≤ length (now out)) ⌝ }
-    ensures { λ r. ⌜ ((rk j : List ℕ) → PadsFor rk j (length (now («data» .entry)) - 16) (now (pads .entry)) → leaving (headOf r) (now (out .exit)) ≡ gcmOpen rk (value h) j (now (aad .entry)) (now («data» .entry)) (now (out .entry))) ⌝ }
+    ensures { λ r. ⌜ ((rk j : List ℕ) → PadsFor rk j (length (now («data» .entry)) - 16) (now (pads .entry)) → (r ≡ opensUnder rk (value h) j (now (aad .entry)) (now («data» .entry))) × (now (out .exit) ≡ textInto rk (value h) j (now (aad .entry)) (now («data» .entry)) (now (out .entry)))) ⌝ }
 {
     let text = text_part(data);
     let mask = block::split_block(&pads[16..]);
     if has_tag(data, masked_tag(mask, h, aad, text)) {
         sixteen::xor_bytes(&pads[32..], text, out);
-        return Opened::Done(text.len());
+        return true;
     }
-    Opened::InvalidTag
+    false
 }
 
-// Opens a sealed message: the text, once the tag is settled; otherwise `out` stays as it is. The pads count where they are ready.
+// Opens a sealed message: the text, once the tag is settled; otherwise `out` stays as it is. Returns whether it opens. The pads count
+// where they are ready.
 pub fn decrypt(
     t: &[u32],
     rk: [u32; 32],
@@ -281,21 +282,21 @@ pub fn decrypt(
     aad: &[u8],
     data: &[u8],
     out: &mut [u8],
-) -> Opened
+) -> bool
     requires { ⌜ Engine (now t) ⌝ }
     requires { ⌜ (ready ≡ true → PadsFor rk (unwords j0) (length (now «data») - 16) (now pads)) ⌝ }
     requires { ⌜ Hashable (length (now aad)) × Hashable (length (now «data»)) ⌝ }
     requires { ⌜ (16 ≤ length (now «data»)) × (length (now «data») - 16 ≤ length (now out)) ⌝ }
-    ensures { λ r. ⌜ leaving (headOf r) (now (out .exit)) ≡ gcmOpen rk (value h) (unwords j0) (now (aad .entry)) (now («data» .entry)) (now (out .entry)) ⌝ }
+    ensures { λ r. ⌜ r ≡ opensUnder rk (value h) (unwords j0) (now (aad .entry)) (now («data» .entry)) ⌝ }
+    ensures { λ _. ⌜ now (out .exit) ≡ textInto rk (value h) (unwords j0) (now (aad .entry)) (now («data» .entry)) (now (out .entry)) ⌝ }
 {
     if ready {
         return decrypt_short(h, pads, aad, data, out);
     }
     if opens(t, rk, h, j0, aad, data) {
-        let text = text_part(data);
         let first = counter::gcm_block_add_one(j0).counter;
-        stream::stream(t, rk, Kind::Gctr, first, false, text, out);
-        return Opened::Done(text.len());
+        stream::stream(t, rk, Kind::Gctr, first, false, text_part(data), out);
+        return true;
     }
-    Opened::InvalidTag
+    false
 }

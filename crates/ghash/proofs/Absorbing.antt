@@ -1,16 +1,7 @@
 -- The hash state over bytes: one step after the other, along the rest of a list.
-use Rattle.block.proofs.Base.{_*_, _+_, _-_, _<_, _≤_, ℕ, _∙_, _≡_, ap, ap₂, sym, List, [], _++_, _∷_, arith, drop, drop-of-length-le}
-use Rattle.block.proofs.Base.{length, length-drop, take, drop-drop}
-use Rattle.block.specs.declared.U128.{U128}
-use Rattle.block.specs.Wide.{value}
-use Rattle.block.specs.Xor.{_⊕_}
-use Rattle.carryless.specs.Lent.{PartsOf}
-use Rattle.field.specs.Field.{gmul}
-use Rattle.ghash.specs.declared.Ghash.{Ghash}
-use Rattle.ghash.specs.Ghash.{blockOf, blocks, lengthBlock, authBlocks, hashFrom, ghash}
-use Rattle.ghash.specs.Absorbed.{Absorbed}
-use Rattle.ghash.specs.Sets.{upTo, blockNumber}
-use Rattle.ghash.proofs.Blocks.{blocks-nil, blocks-cons, lent-all}
+use Rattle.ghash.proofs.Names.{Absorbed, Ghash, List, PartsOf, U128, [], _*_, _++_, _-_, _∙_, _∷_, _≡_, _≤_, _⊕_, authBlocks}
+use Rattle.ghash.proofs.Names.{blockNumber, blocks, drop, ghash, gmul, hashFrom, length, lengthBlock, sym, take, upTo, value, ℕ}
+use Rattle.ghash.proofs.Blocks.{lent-all}
 use Rattle.ghash.proofs.Join.{hash-append}
 use Rattle.ghash.proofs.Sets.{blocks-cut}
 
@@ -22,54 +13,25 @@ parts-same e p = rw e p
 pub absorbed-one : (s r : Ghash) (b m : ℕ) → r .h ≡ s .h → m ≡ value (s .y) ⊕ b → value (r .y) ≡ gmul m (value (s .h))
     → Absorbed s (b ∷ []) r
 unfolding hashFrom
-absorbed-one s r b m k a e = record { key = k; hash = e ∙ ap (λ (x : ℕ). gmul x (value (s .h))) a }
+absorbed-one s r b m k a e = record { key = k; hash = e ∙ rw a }
 
 pub absorbed-same : {s r : Ghash} {b c : ℕ} → Absorbed s (b ∷ []) r → b ≡ c → Absorbed s (c ∷ []) r
-absorbed-same {s} a e = record { key = a .key; hash = a .hash ∙ ap (λ (x : ℕ). hashFrom (value (s .h)) (value (s .y)) (x ∷ [])) e }
+absorbed-same a e = rw e at a
 
 pub absorbed-both : (s r q : Ghash) (xs ys : List ℕ) → Absorbed s xs r → Absorbed r ys q → Absorbed s (xs ++ ys) q
 absorbed-both s r q xs ys a b = record {
   key = b .key ∙ a .key;
-  hash = b .hash ∙ ap₂ (λ (k y : ℕ). hashFrom k y ys) (ap value (a .key)) (a .hash) ∙ sym (hash-append (value (s .h)) (value (s .y)) xs ys);
+  hash = b .hash ∙ rw (a .key, a .hash) (sym (hash-append (value (s .h)) (value (s .y)) xs ys));
 }
 
 -- the first k blocks and the rest, as `&bs[16 * k..]` is lent
 pub absorbed-cut : (s r q : Ghash) (bs : List ℕ) (k : ℕ) → 16 * k ≤ length bs → Absorbed s (upTo k (blockNumber bs)) r
     → Absorbed r (blocks (take (length bs - 16 * k) (drop (16 * k) bs))) q → Absorbed s (blocks bs) q
-absorbed-cut s r q bs k l a b =
-    rw (lent-all bs (16 * k), blocks-cut k bs l)
-    at (absorbed-both s r q (upTo k (blockNumber bs)) (blocks (take (length bs - 16 * k) (drop (16 * k) bs))) a b)
+absorbed-cut s r q bs k l a b = rw (lent-all bs (16 * k), blocks-cut k bs l) at (absorbed-both s r q _ _ a b)
 
--- what is left to take in from place i on
-pub record Walked (s₀ : Ghash) (bs : List ℕ) (s : Ghash) (i : ℕ) : Type 0 where
-  pub key : s .h ≡ s₀ .h
-  pub hash : hashFrom (value (s₀ .h)) (value (s .y)) (blocks (drop i bs)) ≡ hashFrom (value (s₀ .h)) (value (s₀ .y)) (blocks bs)
-
-module _ (s₀ s : Ghash) (bs : List ℕ) (i : ℕ) (w : Walked s₀ bs s i) where
-  -- as `&bs[i..]` is lent
-  pub walk-on : i < length bs → (r : Ghash) → Absorbed s (blockOf (take (length bs - i) (drop i bs)) ∷ []) r → Walked s₀ bs r (i + 16)
-  walk-on l r a =
-      let k = value (s₀ .h) in
-      let d = drop i bs in
-      let rest = blocks (drop (i + 16) bs) in
-      let cut : blocks d ≡ blockOf d ∷ rest =
-      blocks-cons d (simp length-drop (omega arith)) ∙ ap (λ (t : List ℕ). blockOf d ∷ blocks t) (drop-drop 16 i bs) in
-      record {
-        key = a .key ∙ w .key;
-        hash =
-            ap (λ (y : ℕ). hashFrom k y rest)
-            (a .hash ∙ ap₂ (λ (m : ℕ) (t : List ℕ). hashFrom m (value (s .y)) (blockOf t ∷ [])) (ap value (w .key)) (lent-all bs i))
-            ∙ sym (hash-append k (value (s .y)) (blockOf d ∷ []) rest)
-            ∙ ap (hashFrom k (value (s .y))) (sym cut)
-            ∙ w .hash;
-      }
-
-  pub walk-end : length bs ≤ i → Absorbed s₀ (blocks bs) s
-  unfolding hashFrom
-  walk-end l = record {
-    key = w .key;
-    hash = ap (hashFrom (value (s₀ .h)) (value (s .y))) (sym (ap blocks (drop-of-length-le bs l) ∙ blocks-nil)) ∙ w .hash;
-  }
+-- a state that began at 0
+pub hash-of : (h : U128) (s r : Ghash) (bs : List ℕ) → (s .h ≡ h) × (value (s .y) ≡ 0) → Absorbed s bs r → value (r .y) ≡ ghash (value h) bs
+hash-of h s r bs e a = a .hash ∙ rw (e .1, e .0)
 
 -- a label, a text and their lengths, from the start
 pub absorbed-auth : (h : U128) (s a b r : Ghash) (label text : List ℕ) → (s .h ≡ h) × (value (s .y) ≡ 0)
@@ -77,6 +39,4 @@ pub absorbed-auth : (h : U128) (s a b r : Ghash) (label text : List ℕ) → (s 
     → value (r .y) ≡ ghash (value h) (authBlocks label text)
 unfolding authBlocks
 absorbed-auth h s a b r label text e p q l =
-    let m = lengthBlock (length label) (length text) ∷ [] in
-    absorbed-both s a r (blocks label) (blocks text ++ m) p (absorbed-both a b r (blocks text) m q l) .hash
-    ∙ ap₂ (λ (k y : ℕ). hashFrom k y (authBlocks label text)) (ap value (e .0)) (e .1)
+    hash-of h s r (authBlocks label text) e (absorbed-both s a r _ _ p (absorbed-both a b r _ _ q l))

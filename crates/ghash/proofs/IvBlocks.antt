@@ -1,7 +1,5 @@
 -- What is hashed for no label and an IV of sixteen bytes: the IV, and then the number 128.
-use Rattle.block.proofs.Base.{ℕ, _∙_, _≡_, ap, ap₂, refl, List, [], _++_, _∷_, length}
-use Rattle.block.specs.BigEndian.{numberOf, bytesOf}
-use Rattle.ghash.specs.Ghash.{lengthBlock, authBlocks}
+use Rattle.ghash.proofs.Names.{List, [], _∷_, _≡_, authBlocks, bytesOf, length, lengthBlock, numberOf, refl, ℕ}
 use Rattle.ghash.proofs.Blocks.{blocks-nil, blocks-full}
 
 lengthBlock-iv : lengthBlock 0 16 ≡ 128
@@ -10,6 +8,4 @@ lengthBlock-iv = refl
 
 pub iv-blocks : (iv : List ℕ) → length iv ≡ 16 → authBlocks [] iv ≡ numberOf iv ∷ 128 ∷ []
 unfolding authBlocks
-iv-blocks iv e =
-    ap₂ (λ (l t : List ℕ). l ++ (t ++ (lengthBlock 0 (length iv) ∷ []))) blocks-nil (blocks-full iv e)
-    ∙ ap (λ (n : ℕ). numberOf iv ∷ n ∷ []) (ap (lengthBlock 0) e ∙ lengthBlock-iv)
+iv-blocks iv e = rw (blocks-nil, blocks-full iv e, e, lengthBlock-iv)

@@ -1,17 +1,21 @@
 -- The hash of two lists joined: the first's hash times H to the second's block count, xored with the second's hash.
-use Rattle.block.proofs.Base.{ℕ, _∙_, _≡_, ap, refl, sym, List, [], _++_, _∷_, xor-zero-r, lit<, length}
-use Rattle.block.specs.Xor.{_⊕_}
-use Rattle.block.proofs.Xor.{xor-assoc}
-use Rattle.field.specs.Field.{Element, gmul, gpow}
-use Rattle.field.proofs.Bounded.{gmul-lt, gpow-lt}
-use Rattle.field.proofs.Distributes.{xor-gmul}
-use Rattle.field.proofs.Commutes.{gmul-one, gmul-assoc}
-use Rattle.ghash.specs.Ghash.{hashFrom, ghash}
+use Rattle.ghash.proofs.Names.{Element, List, [], _++_, _∙_, _∷_, _≡_, _⊕_, ap, arith, ghash, gmul, gmul-assoc, gmul-lt, gmul-one}
+use Rattle.ghash.proofs.Names.{gpow, gpow-lt, hashFrom, length, lit<, refl, sym, xor-assoc, xor-gmul, xor-swap, xor-zero-r, xors, ℕ}
 
 pub hash-append : (h y : ℕ) (xs bs : List ℕ) → hashFrom h y (xs ++ bs) ≡ hashFrom h (hashFrom h y xs) bs
 unfolding hashFrom
 hash-append h y [] bs = refl
 hash-append h y (a ∷ xs) bs = hash-append h (gmul (y ⊕ a) h) xs bs
+
+-- the hash of sums is the sum of the hashes
+pub hash-xors : (h y z : ℕ) (xs ys : List ℕ) → length xs ≡ length ys
+    → hashFrom h (y ⊕ z) (xors xs ys) ≡ hashFrom h y xs ⊕ hashFrom h z ys
+unfolding hashFrom
+hash-xors h y z [] [] e = refl
+hash-xors h y z [] (b ∷ ys) e = absurd (omega arith)
+hash-xors h y z (a ∷ xs) [] e = absurd (omega arith)
+hash-xors h y z (a ∷ xs) (b ∷ ys) e =
+    rw (hashFrom, xor-swap y z a b, xor-gmul (y ⊕ a) (z ⊕ b) h) (hash-xors h (gmul (y ⊕ a) h) (gmul (z ⊕ b) h) xs ys (omega arith))
 
 module _ (h : ℕ) (hh : Element h) where
   pub hashFrom-lt : (y : ℕ) (bs : List ℕ) → Element y → Element (hashFrom h y bs)

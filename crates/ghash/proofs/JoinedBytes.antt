@@ -1,15 +1,7 @@
 -- Two halves of bytes, of which the first is whole blocks: their hashes joined are the hash of both. So a label's hash, joined to what is
 -- kept of a text's blocks, is the hash of label and text. Either half may be empty.
-use Rattle.block.proofs.Base.{_*_, ℕ, _∙_, _≡_, ap, ap₂, sym, List, [], _++_, _∷_, append-assoc, length}
-use Rattle.block.specs.declared.U128.{U128}
-use Rattle.block.specs.Wide.{value}
-use Rattle.block.specs.Xor.{_⊕_}
-use Rattle.field.specs.Field.{Element, gmul}
-use Rattle.ghash.specs.declared.Ghash.{Ghash}
-use Rattle.ghash.specs.declared.halves.Half.{Half}
-use Rattle.ghash.specs.Ghash.{blockCount, blocks, lengthBlock, authBlocks, hashFrom, ghash}
-use Rattle.ghash.specs.Absorbed.{Absorbed}
-use Rattle.ghash.specs.Joined.{joined, HalfOf}
+use Rattle.ghash.proofs.Names.{Absorbed, Element, Ghash, Half, HalfOf, List, [], _*_, _++_, _∙_, _∷_, _≡_, _⊕_, append-assoc}
+use Rattle.ghash.proofs.Names.{authBlocks, blockCount, blocks, ghash, gmul, joined, length, lengthBlock, sym, value, ℕ}
 use Rattle.ghash.proofs.Blocks.{length-blocks, blocks-append}
 use Rattle.ghash.proofs.Join.{hash-append, ghash-join}
 
@@ -22,19 +14,11 @@ module _ (h : ℕ) (element : Element h) where
   -- over bytes, of which the first k blocks are the first half
   pub joins-bytes : (k : ℕ) (a b : List ℕ) → length a ≡ 16 * k
       → joined h (ghash h (blocks a)) (ghash h (blocks b)) (blockCount (length b)) ≡ ghash h (blocks (a ++ b))
-  joins-bytes k a b whole =
-      ap (joined h (ghash h (blocks a)) (ghash h (blocks b))) (sym (length-blocks b))
-      ∙ joins (blocks a) (blocks b)
-      ∙ ap (ghash h) (sym (blocks-append k a b whole))
+  joins-bytes k a b whole = rw (← length-blocks b, blocks-append k a b whole) (joins (blocks a) (blocks b))
 
   -- what is kept of blocks joins any hash before them to theirs
   half-joins : (xs bs : List ℕ) (r : Half) → HalfOf h bs r → gmul (ghash h xs) (value (r .power)) ⊕ value (r .hash) ≡ ghash h (xs ++ bs)
-  half-joins xs bs r k =
-      ap₂ (λ (p y : ℕ). gmul (ghash h xs) p ⊕ y) (k .power) (k .hash) ∙ sym (ghash-join h element xs bs)
-
--- a state that began at 0
-pub hash-of : (h : U128) (s r : Ghash) (bs : List ℕ) → (s .h ≡ h) × (value (s .y) ≡ 0) → Absorbed s bs r → value (r .y) ≡ ghash (value h) bs
-hash-of h s r bs e a = a .hash ∙ ap₂ (λ (k y : ℕ). hashFrom k y bs) (ap value (e .0)) (e .1)
+  half-joins xs bs r k = rw (k .power, k .hash) (sym (ghash-join h element xs bs))
 
 -- a label's hash, what is kept of a text, and the length block
 pub half-auth : (s r : Ghash) (k : Half) (label text : List ℕ) (first : ℕ) → Element (value (s .h)) → HalfOf (value (s .h)) (blocks text) k
@@ -42,10 +26,5 @@ pub half-auth : (s r : Ghash) (k : Half) (label text : List ℕ) (first : ℕ) �
     → Absorbed s (lengthBlock (length label) (length text) ∷ []) r → value (r .y) ≡ ghash (value (s .h)) (authBlocks label text)
 unfolding authBlocks
 half-auth s r k label text first element half ef ey a =
-    let h = value (s .h) in
-    let end = lengthBlock (length label) (length text) ∷ [] in
     a .hash
-    ∙ ap (λ (y : ℕ). hashFrom h y end)
-    (ey ∙ ap (λ (f : ℕ). gmul f (value (k .power)) ⊕ value (k .hash)) ef ∙ half-joins h element (blocks label) (blocks text) k half)
-    ∙ sym (hash-append h 0 (blocks label ++ blocks text) end)
-    ∙ ap (ghash h) (append-assoc (blocks label) (blocks text) end)
+    ∙ rw (ey, ef, half-joins _ element (blocks label) (blocks text) k half, ← hash-append, append-assoc (blocks label))

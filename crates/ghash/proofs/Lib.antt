@@ -1,3 +1,4 @@
+mod Names
 pub mod Blocks
 pub mod Lengths
 pub mod Join

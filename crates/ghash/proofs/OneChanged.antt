@@ -1,12 +1,6 @@
 -- For H other than 0, changing exactly one block of a list changes the hash.
-use Rattle.block.proofs.Base.{ℕ, _∙_, _≡_, ap, sym, _≢_, ⊎-elim, List, [], _++_, _∷_, xor-comm, xor-lt, xor-self}
-use Rattle.block.specs.Xor.{_⊕_}
-use Rattle.block.proofs.Xor.{xor-same, xor-meet}
-use Rattle.field.specs.Field.{Element, gmul}
-use Rattle.field.proofs.Bounded.{gmul-lt}
-use Rattle.field.proofs.Distributes.{xor-gmul}
-use Rattle.field.proofs.Inverse.{zero-product}
-use Rattle.ghash.specs.Ghash.{hashFrom, ghash}
+use Rattle.ghash.proofs.Names.{Element, List, [], _++_, _∙_, _∷_, _≡_, _≢_, _⊕_, ghash, gmul, gmul-lt, hashFrom, sym, xor-comm}
+use Rattle.ghash.proofs.Names.{xor-gmul, xor-lt, xor-meet, xor-same, xor-self, zero-product, ℕ, ⊎-elim}
 use Rattle.ghash.proofs.Join.{hash-append}
 
 module _ (h : ℕ) (hh : Element h) (nz : h ≢ 0) where
@@ -20,15 +14,13 @@ module _ (h : ℕ) (hh : Element h) (nz : h ≢ 0) where
   start-cancel : (bs : List ℕ) (y z : ℕ) → Element y → Element z → hashFrom h y bs ≡ hashFrom h z bs → y ≡ z
   unfolding hashFrom
   start-cancel [] y z hy hz e = e
-  start-cancel (b ∷ bs) y z hy hz e =
-      step-cancel y z b hy hz (start-cancel bs (gmul (y ⊕ b) h) (gmul (z ⊕ b) h) (gmul-lt (y ⊕ b) h hh) (gmul-lt (z ⊕ b) h hh) e)
+  start-cancel (b ∷ bs) y z hy hz e = step-cancel y z b hy hz (start-cancel bs _ _ (gmul-lt (y ⊕ b) h hh) (gmul-lt (z ⊕ b) h hh) e)
 
   pub one-changed : (xs : List ℕ) (b c : ℕ) (ys : List ℕ) → Element b → Element c → b ≢ c
       → ghash h (xs ++ (b ∷ ys)) ≢ ghash h (xs ++ (c ∷ ys))
   unfolding hashFrom
   one-changed xs b c ys hb hc n e =
       let y = ghash h xs in
-      let ends = sym (hash-append h 0 xs (b ∷ ys)) ∙ e ∙ hash-append h 0 xs (c ∷ ys) in
-      let s : gmul (y ⊕ b) h ≡ gmul (y ⊕ c) h =
-      start-cancel ys (gmul (y ⊕ b) h) (gmul (y ⊕ c) h) (gmul-lt (y ⊕ b) h hh) (gmul-lt (y ⊕ c) h hh) ends in
-      n (step-cancel b c y hb hc (ap (λ (w : ℕ). gmul w h) (xor-comm b y) ∙ s ∙ ap (λ (w : ℕ). gmul w h) (xor-comm y c)))
+      let ends = rw (hash-append h 0 xs (b ∷ ys), hash-append h 0 xs (c ∷ ys)) at e in
+      let s : gmul (y ⊕ b) h ≡ gmul (y ⊕ c) h = start-cancel ys _ _ (gmul-lt (y ⊕ b) h hh) (gmul-lt (y ⊕ c) h hh) ends in
+      n (step-cancel b c y hb hc (rw (xor-comm b y, xor-comm c y) s))

@@ -1,18 +1,10 @@
 -- Calls that were recorded as they were answered agree, and only they do; of those that differ the first is told.
-use Rattle.block.proofs.Base.{_+_, ℕ, _∙_, _≡_, ap, refl, sym, false, not, true, List, [], _++_, _∷_, arith, eq-eqb, eqb-true, not-false}
-use Rattle.block.proofs.Base.{eqb, length, length-append}
-use Rattle.block.proofs.Same.{same-refl, same-equal}
-use Rattle.cipher_mode.specs.declared.Sm4Cipher.{Sm4Cipher}
-use Rattle.journal.specs.Format.{Entry, written, stored}
-use Rattle.journal.specs.KeyList.{keyOf}
-use Rattle.journal.specs.Recomputed.{callInto, result, differsFrom, answeredBy}
-use Rattle.journal.specs.Reports.{nothing, firstOf, counted}
-use Rattle.journal.specs.Replay.{countedUnder}
-use Rattle.journal.specs.Ends.{countedAll, Ends, answerNow, differs, NoneDiffers}
-use Rattle.journal.specs.declared.report.Difference.{Difference}
-use Rattle.journal.specs.declared.report.Report.{Report}
-use Rattle.journal.specs.declared.Replayed.{Replayed}
-use Rattle.journal.proofs.Cases.{by-test, clash, neither}
+use Rattle.journal.proofs.Names.{Difference, Ends, Entry, List, NoneDiffers, Replayed, Report, Sm4Cipher, [], _++_, _+_, _∙_, _∷_}
+use Rattle.journal.proofs.Names.{_≡_, add-zero, answerNow, answeredBy, ap, arith, by-test, callInto, counted, countedAll}
+use Rattle.journal.proofs.Names.{countedUnder, differs, differsFrom, eq-eqb, eqb, eqb-true, false, firstOf, keyOf, length}
+use Rattle.journal.proofs.Names.{length-append, not, not-false, nothing, refl, result, same-equal, same-refl, stored, sym, true}
+use Rattle.journal.proofs.Names.{written, zero-add, ℕ}
+use Rattle.journal.proofs.Cases.{clash, or-left, or-right}
 use Rattle.journal.proofs.Lent.{result-size}
 use Rattle.journal.proofs.Joined.{either-way}
 
@@ -29,45 +21,30 @@ module _ (ks : List Sm4Cipher) (e : Entry) where
   unfolding differsFrom
   answered-agrees =
       let x = answerNow ks e in
-      rw (
-        same-call,
-        eq-eqb (x .head .number) (x .head .number) refl,
-        eq-eqb (length (result x)) (x .head .size)
-            (result-size (keyOf (e .key) ks) e),
-        same-refl (result x),
-      )
+      let l = result-size (keyOf (e .key) ks) e in
+      rw (same-call, eq-eqb (x .head .number) (x .head .number) refl, eq-eqb (length (result x)) (x .head .size) l, same-refl)
 
   -- A call that agrees is answered now as it was recorded.
   pub agrees-so : differs ks e ≡ false → (e .number ≡ answerNow ks e .head .number) × (e .output ≡ result (answerNow ks e))
   unfolding differsFrom
-  agrees-so d =
-      let x = answerNow ks e in
-      let number = neither (not (eqb (e .number) (x .head .number))) _ d in
-      let output = neither (not (eqb (length (e .output)) (x .head .size))) _ (number .1) .1 in (
-        eqb-true (e .number) (x .head .number) (not-false _ (number .0)),
-        same-equal (e .output) (result x) (not-false _ output),
-      )
+  agrees-so d = search (or-left, or-right, not-false, eqb-true, same-equal)
 
 -- The first difference over calls that stand one behind the other.
 module _ (ks : List Sm4Cipher) where
-  one-first : (e : Entry) (place : ℕ) (r : Report) → countedUnder ks e place r .first ≡ firstOf (differs ks e) (r .records) place (r .first)
-  unfolding counted
-  one-first e place r = refl
-
   one-agrees : (e : Entry) (place : ℕ) (r : Report) → differs ks e ≡ false → countedUnder ks e place r .first ≡ r .first
-  one-agrees e place r n = one-first e place r ∙ rw n (either-way (r .first .found) (r .first))
+  unfolding counted
+  one-agrees e place r n = rw n (either-way (r .first .found) (r .first))
 
   one-found : (e : Entry) (place : ℕ) (r : Report) → differs ks e ≡ true → countedUnder ks e place r .first .found ≡ true
-  one-found e place r d =
-      ap (λ (x : Difference). x .found) (one-first e place r)
-      ∙ by-test (r .first .found) (λ f. rw f) (λ f. rw (f, d))
+  unfolding counted
+  one-found e place r d = by-test (r .first .found) (λ f. rw f) (λ f. rw (f, d))
 
   kept : (es : List Entry) (place : ℕ) (r : Report) → r .first .found ≡ true → countedAll ks es place r .first ≡ r .first
-  unfolding countedAll
+  unfolding countedAll counted
   kept [] place r f = refl
   kept (e ∷ es) place r f =
-      let s : countedUnder ks e place r .first ≡ r .first = one-first e place r ∙ rw f in
-      kept es (place + length (written e)) (countedUnder ks e place r) (ap (λ (d : Difference). d .found) s ∙ f) ∙ s
+      let s : countedUnder ks e place r .first ≡ r .first = rw f in
+      kept es (place + length (written e)) (countedUnder ks e place r) (cc) ∙ s
 
   none : (es : List Entry) (place : ℕ) (r : Report) → NoneDiffers ks es → countedAll ks es place r .first ≡ r .first
   unfolding countedAll
@@ -79,13 +56,10 @@ module _ (ks : List Sm4Cipher) where
       ≡ record { found = true; index = r .records + length es; place = place + length (stored es) }
   unfolding countedAll counted stored
   first [] fs e place r f n d =
-      let i : r .records + 0 ≡ r .records = omega arith in
-      let p : place + 0 ≡ place = omega arith in
-      let s : countedUnder ks e place r .first ≡ record { found = true; index = r .records; place = place } =
-      one-first e place r ∙ rw (f, d) in
-      kept fs (place + length (written e)) (countedUnder ks e place r) (ap (λ (x : Difference). x .found) s) ∙ s ∙ rw (i, p)
+      let s : countedUnder ks e place r .first ≡ record { found = true; index = r .records; place = place } = rw (f, d) in
+      kept fs (place + length (written e)) (countedUnder ks e place r) (cc) ∙ s ∙ rw (add-zero (r .records), add-zero place)
   first (g ∷ es) fs e place r f (n, ns) d =
-      let found = ap (λ (x : Difference). x .found) (one-agrees g place r n) ∙ f in
+      let found : countedUnder ks g place r .first .found ≡ false = rw (one-agrees g place r n) f in
       let i : r .records + 1 + length es ≡ r .records + length (g ∷ es) = omega arith in
       let p : place + length (written g) + length (stored es) ≡ place + length (written g ++ stored es) =
       omega (arith, length-append (written g) (stored es)) in
@@ -98,9 +72,7 @@ module _ (ks : List Sm4Cipher) where
       let s = countedUnder ks e place r in
       let p = place + length (written e) in
       by-test (differs ks e)
-      (λ d.
-      let k = kept es p s (one-found e place r d) in
-      absurd (clash _ (ap (λ (x : Difference). x .found) k ∙ one-found e place r d) f))
+      (λ d. let g = one-found e place r d in absurd (clash (s .first .found) g (rw (kept es p s g) at f)))
       (λ d. (d, none-differs es p s f))
 
 -- What is told of the first difference, however the replay ends, by the calls that were replayed.
@@ -114,7 +86,5 @@ module _ (ks : List Sm4Cipher) (b : List ℕ) (x : Replayed) (ends : Ends ks b 0
   pub first-told : (es fs : List Entry) (e : Entry) → ends .calls ≡ es ++ e ∷ fs → NoneDiffers ks es → differs ks e ≡ true
       → x .report .first ≡ record { found = true; index = length es; place = length (stored es) }
   first-told es fs e c n d =
-      let i : 0 + length es ≡ length es = omega arith in
-      let p : 0 + length (stored es) ≡ length (stored es) = omega arith in
       ap (λ (r : Report). r .first) (ends .report ∙ ap {B = Report} (λ (l : List Entry). countedAll ks l 0 nothing) c)
-      ∙ first ks es fs e 0 nothing refl n d ∙ rw (i, p)
+      ∙ first ks es fs e 0 nothing refl n d ∙ rw (zero-add (length es), zero-add (length (stored es)))

@@ -1,19 +1,18 @@
 -- What a test tells, and what it tells of an entry that is not too long.
-use Rattle.block.proofs.Base.{_≤_, ℕ, _≡_, refl, Bool, _||_, false, true, arith, ltb-false, ltb, length}
-use Rattle.journal.specs.Format.{Entry, partLimit, outputLimit, pastLimit, tooLong}
-
--- it holds, or it does not
-pub by-test : {A : Type 0} (t : Bool) → (t ≡ true → A) → (t ≡ false → A) → A
-by-test true f g = f refl
-by-test false f g = g refl
+use Rattle.journal.proofs.Names.{Bool, Entry, _||_, _≡_, _≤_, arith, false, length, ltb, ltb-false, outputLimit, partLimit}
+use Rattle.journal.proofs.Names.{pastLimit, refl, tooLong, true, ℕ}
 
 -- not both
 pub clash : (t : Bool) → t ≡ true → t ≡ false → ⊥
 clash t e f = let z : _≡_ {A = ℕ} 0 1 = cc in omega arith
 
-pub neither : (a b : Bool) → (a || b) ≡ false → (a ≡ false) × (b ≡ false)
-neither true b e = absurd (clash true refl e)
-neither false b e = (refl, e)
+pub or-left : (a b : Bool) → (a || b) ≡ false → a ≡ false
+or-left true b e = e
+or-left false b e = refl
+
+pub or-right : (a b : Bool) → (a || b) ≡ false → b ≡ false
+or-right true b e = absurd (clash true refl e)
+or-right false b e = e
 
 pub record Short (e : Entry) : Type 0 where
   pub label : length (e .label) ≤ partLimit
@@ -23,13 +22,4 @@ pub record Short (e : Entry) : Type 0 where
 
 pub short : (e : Entry) → tooLong e ≡ false → Short e
 unfolding pastLimit
-short e t =
-    let a = neither (ltb partLimit (length (e .label))) _ t in
-    let b = neither (ltb partLimit (length (e .«data»))) _ (a .1) in
-    let c = neither (ltb partLimit (length (e .iv))) _ (b .1) in
-    record {
-      label = ltb-false partLimit (length (e .label)) (a .0);
-      «data» = ltb-false partLimit (length (e .«data»)) (b .0);
-      iv = ltb-false partLimit (length (e .iv)) (c .0);
-      output = ltb-false outputLimit (length (e .output)) (c .1);
-    }
+short e t = search (or-left, or-right, ltb-false)

@@ -1,13 +1,7 @@
 -- No count passes the place that a replay has come to, so no sum wraps.
-use Rattle.block.proofs.Base.{_+_, _<_, _≤_, suc, zero, ℕ, _≡_, List, [], _∷_, arith, ltb-false, lit<, ltb, getD, length, set}
-use Rattle.block.specs.Below.{Below}
-use Rattle.block.proofs.Entries.{below-at, below-replicate}
-use Rattle.journal.specs.Format.{Entry}
-use Rattle.journal.proofs.Cases.{by-test}
-use Rattle.journal.specs.Reports.{nothing, oneMore, modePlace, counted, Within}
-use Rattle.journal.specs.declared.again.Recomputed.{Recomputed}
-use Rattle.journal.specs.declared.report.Difference.{Difference}
-use Rattle.journal.specs.declared.report.Report.{Report}
+use Rattle.journal.proofs.Names.{Below, Difference, Entry, List, Recomputed, Report, Within, [], _+_, _<_, _∷_, _≡_, _≤_, arith}
+use Rattle.journal.proofs.Names.{below-at, below-replicate, by-test, counted, getD, length, lit<, ltb, ltb-false, modePlace, nothing}
+use Rattle.journal.proofs.Names.{oneMore, set, suc, zero, ℕ}
 
 below-more : (n m : ℕ) (l : List ℕ) → n ≤ m → Below n l → Below m l
 below-more n m [] h b = tt
@@ -27,14 +21,7 @@ pub mode-below-6 : (n : ℕ) → modePlace n < 6
 mode-below-6 n = by-test (ltb 4 n) (λ e. rw e (omega arith)) (λ e. rw e (omega (arith, ltb-false 4 n e)))
 
 pub within-nothing : Within 0 nothing
-within-nothing =
-    record {
-      records = omega arith;
-      byMode = below-replicate 1 6 0 (lit< tt);
-      byAnswer = below-replicate 1 32 0 (lit< tt);
-      bytesIn = omega arith;
-      bytesOut = omega arith;
-    }
+within-nothing = search (arith, below-replicate 1 6 0 (lit< tt), below-replicate 1 32 0 (lit< tt))
 
 -- reports are equal by their fields
 pub same-report : {n n′ i i′ o o′ : ℕ} {m m′ a a′ : List ℕ} {d d′ : Difference} → n ≡ n′ → m ≡ m′ → a ≡ a′ → i ≡ i′ → o ≡ o′ → d ≡ d′
@@ -47,9 +34,6 @@ pub within-counted : (e : Entry) (x : Recomputed) (place size : ℕ) (r : Report
     → x .length ≤ 16 + length (e .«data») → Within (place + size) (counted e x place r)
 unfolding counted
 within-counted e x place size r w h k =
-    let a = w .records in
-    let b = w .bytesIn in
-    let c = w .bytesOut in
     record {
       records = omega arith;
       byMode = one-more-below place (place + size) (modePlace (e .mode)) (r .«by_mode») (omega arith) (w .byMode);

@@ -1,23 +1,13 @@
 -- Which number a replay ends with exactly when: it ends as the bytes say that stand there, and in no other way.
-use Rattle.block.proofs.Base.{_+_, ℕ, _∙_, _≡_, ap, refl, sym, false, true, List, [], _++_, _∷_, append-assoc, append-nil, arith, drop}
-use Rattle.block.proofs.Base.{length, length-append, drop-at}
-use Rattle.block.specs.Below.{AreBytes}
-use Rattle.block.proofs.Entries.{below-drop}
-use Rattle.cipher_mode.specs.declared.Sm4Cipher.{Sm4Cipher}
-use Rattle.journal.specs.Format.{Entry, written, stored, startsRecord, sizeAt, afterRecord, front}
-use Rattle.journal.specs.KeyList.{keysIn, badKeys}
-use Rattle.journal.specs.Reports.{nothing}
-use Rattle.journal.specs.Replay.{done, countedUnder, replayFrom, replay}
-use Rattle.journal.specs.Ends.{Replayable, AllReplayable, countedAll, Begins, Why, toldPlace, Ends}
-use Rattle.journal.specs.declared.keys.Keys.{Keys}
-use Rattle.journal.specs.declared.report.Report.{Report}
-use Rattle.journal.specs.declared.Ended.{Ended}
-use Rattle.journal.specs.declared.Ended.the-variants.{Done, BadRecord, TooLong, UnknownKey, BadKeys}
-use Rattle.journal.specs.declared.Replayed.{Replayed}
-use Rattle.journal.proofs.Cases.{by-test, clash}
+use Rattle.journal.proofs.Names.{AllReplayable, AreBytes, BadKeys, BadRecord, Begins, Done, Ended, Ends, Entry, Keys, List}
+use Rattle.journal.proofs.Names.{Replayable, Replayed, Report, Sm4Cipher, TooLong, UnknownKey, Why, [], _++_, _+_, _<_, _∙_, _∷_}
+use Rattle.journal.proofs.Names.{_≡_, add-zero, afterRecord, ap, append-assoc, append-nil, arith, badKeys, below-drop, by-test}
+use Rattle.journal.proofs.Names.{countedAll, countedUnder, done, drop, drop-at, false, front, keysIn, length, length-append, nothing}
+use Rattle.journal.proofs.Names.{refl, replay, replayFrom, sizeAt, startsRecord, stored, sym, toldPlace, true, written, ℕ}
+use Rattle.journal.proofs.Cases.{clash}
 use Rattle.journal.proofs.Standing.{stands, behind-size}
-use Rattle.journal.proofs.Replaying.{Passes, from-end, from-bad, from-long, from-unknown, from-on, by-replay, from-start}
-use Rattle.journal.proofs.BothWays.{written-starts, written-front, written-behind, written-size, front-proper, front-written}
+use Rattle.journal.proofs.Replaying.{Passes, Refuses, from-end, from-refused, from-on, by-replay, from-start}
+use Rattle.journal.proofs.BothWays.{written-starts, written-front, written-size, front-proper, front-written}
 
 rest-bytes : (a b : List ℕ) → AreBytes (a ++ b) → AreBytes b
 rest-bytes a b small = rw (drop-at a b (length a) refl) at (below-drop 256 (length a) (a ++ b) small)
@@ -47,43 +37,41 @@ module _ (ks : List Sm4Cipher) where
       let s = stands b e in
       record { proper = front-proper b small s; rest = afterRecord b; split = sym (front-written b small s) }
 
+  why-so : (b : List ℕ) (place : ℕ) → AreBytes b → 0 < length b → (e : Ended) → Refuses ks b e
+      → Why ks b e × (place ≡ toldPlace e (place + 0))
+  why-so b place small h Done w = absurd w
+  why-so b place small h BadRecord s = ((h, λ e y. nothing-there e y s), omega arith)
+  why-so b place small h TooLong (s, t) = (record { entry = front b; begins = begins-there b small s; holds = t }, omega arith)
+  why-so b place small h UnknownKey (s, t, n) =
+      (record { entry = front b; begins = begins-there b small s; holds = (t, n) }, omega arith)
+  why-so b place small h BadKeys w = absurd w
+
   -- one more call before it
-  one-before : (e : Entry) (b : List ℕ) (place : ℕ) (r : Report) (x : Replayed) → Replayable ks e
-      → Ends ks b (place + length (written e)) (countedUnder ks e place r) x → Ends ks (written e ++ b) place r x
+  goes-before : (b : List ℕ) (place : ℕ) (r : Report) (x : Replayed) → AreBytes b → Passes ks b
+      → Ends ks (drop (sizeAt b) b) (place + sizeAt b) (countedUnder ks (front b) place r) x → Ends ks b place r x
   unfolding stored countedAll
-  one-before e b place r x good ends =
+  goes-before b place r x small p ends =
+      let e = front b in
+      let t = stands b (p .0) in
+      let proper = front-proper b small t in
+      let whole = front-written b small t in
+      let size : sizeAt b ≡ length (written e) = ap sizeAt (sym whole) ∙ written-size e proper (afterRecord b) in
       let s = stored (ends .calls) in
-      let n : place + length (written e) + length s ≡ place + length (written e ++ s) = omega (arith, length-append (written e) s) in
+      let n : place + sizeAt b + length s ≡ place + length (written e ++ s) = omega (arith, length-append (written e) s) in
       record {
         calls = e ∷ ends .calls;
         rest = ends .rest;
-        split = ap (λ (t : List ℕ). written e ++ t) (ends .split) ∙ sym (append-assoc (written e) s (ends .rest));
-        replayable = (good, ends .replayable);
+        split = sym whole ∙ rw (← behind-size b t, ends .split, append-assoc);
+        replayable = (record { proper = proper; short = p .1; known = p .2 }, ends .replayable);
         why = ends .why;
         place = ends .place ∙ ap (λ (i : ℕ). toldPlace (x .ended) i) n;
-        report = ends .report;
+        report = ends .report ∙ rw size;
       }
-
-  goes-before : (b : List ℕ) (place : ℕ) (r : Report) (x : Replayed) → AreBytes b → Passes ks b
-      → Ends ks (drop (sizeAt b) b) (place + sizeAt b) (countedUnder ks (front b) place r) x → Ends ks b place r x
-  goes-before b place r x small p ends =
-      let s = stands b (p .0) in
-      let e = front b in
-      let proper = front-proper b small s in
-      let whole = front-written b small s in
-      let size : sizeAt b ≡ length (written e) = ap sizeAt (sym whole) ∙ written-size e proper (afterRecord b) in
-      let behind : written e ++ drop (sizeAt b) b ≡ b = rw (behind-size b s) whole in
-      let f : Ends ks (drop (sizeAt b) b) (place + length (written e)) (countedUnder ks e place r) x = rw (← size) ends in
-      rw behind at (one-before e (drop (sizeAt b) b) place r x (record { proper = proper; short = p .1; known = p .2 }) f)
 
   ends-from : (b : List ℕ) (place : ℕ) (r : Report) → AreBytes b → Ends ks b place r (replayFrom ks b place r)
   ends-from =
       by-replay ks (λ b place r x. AreBytes b → Ends ks b place r x) (λ b place r z small. ends-here b place r (done r) z refl refl)
-      (λ b place r h s small. ends-here b place r _ (h, λ e y. nothing-there e y s) (omega arith) refl)
-      (λ b place r s t small.
-      ends-here b place r _ (record { entry = front b; begins = begins-there b small s; holds = t }) (omega arith) refl)
-      (λ b place r s t n small.
-      ends-here b place r _ (record { entry = front b; begins = begins-there b small s; holds = (t, n) }) (omega arith) refl)
+      (λ b place r h e w small. let y = why-so b place small h e w in ends-here b place r _ (y .0) (y .1) refl)
       (λ b place r x p more small. goes-before b place r x small p (more (below-drop 256 (sizeAt b) b small)))
 
   -- the other way: what ends so is what replay ends with
@@ -96,13 +84,14 @@ module _ (ks : List Sm4Cipher) where
   at-end b place r Done small why = sym (from-end ks b place r why)
   at-end b place r BadRecord small why =
       let none = by-test (startsRecord b) (λ s. absurd (why .1 (front b) (begins-there b small s))) (λ s. s) in
-      sym (from-bad ks b place r (why .0) none)
+      sym (from-refused ks b place r (why .0) BadRecord none)
   at-end b place r TooLong small why =
-      let f = front-so (why .entry) (why .begins) in
-      sym (from-long ks b place r (starts-so (why .entry) (why .begins)) (rw f (why .holds)))
+      let s = starts-so (why .entry) (why .begins) in
+      sym (from-refused ks b place r (omega (arith, stands b s .long)) TooLong (s, rw (front-so (why .entry) (why .begins)) (why .holds)))
   at-end b place r UnknownKey small why =
+      let s = starts-so (why .entry) (why .begins) in
       let f = front-so (why .entry) (why .begins) in
-      sym (from-unknown ks b place r (starts-so (why .entry) (why .begins)) (rw f (why .holds .0)) (rw f (why .holds .1)))
+      sym (from-refused ks b place r (omega (arith, stands b s .long)) UnknownKey (s, rw f (why .holds .0), rw f (why .holds .1)))
   at-end b place r BadKeys small why = absurd why
 
   -- a call that stands in front is counted
@@ -112,13 +101,13 @@ module _ (ks : List Sm4Cipher) where
       let w = written e ++ b in
       let f = written-front e (good .proper) b in
       let starts = written-starts e (good .proper) b in
-      let behind : drop (sizeAt w) w ≡ b = behind-size w (stands w starts) ∙ written-behind e (good .proper) b in
-      from-on ks w place r (starts, rw f (good .short), rw f (good .known)) ∙ rw (behind, f, written-size e (good .proper) b)
+      from-on ks w place r (starts, rw f (good .short), rw f (good .known))
+      ∙ rw (f, written-size e (good .proper) b, drop-at (written e) b (length (written e)) refl)
 
   all-written : (es : List Entry) (b : List ℕ) (place : ℕ) (r : Report) → AllReplayable ks es
       → replayFrom ks (stored es ++ b) place r ≡ replayFrom ks b (place + length (stored es)) (countedAll ks es place r)
   unfolding stored countedAll
-  all-written [] b place r good = let e : place ≡ place + 0 = omega arith in ap {B = Replayed} (λ (i : ℕ). replayFrom ks b i r) e
+  all-written [] b place r good = rw (add-zero place)
   all-written (e ∷ es) b place r (good, goods) =
       let n : place + length (written e) + length (stored es) ≡ place + length (written e ++ stored es) =
       omega (arith, length-append (written e) (stored es)) in
@@ -150,7 +139,5 @@ module _ (k : Keys) (journal : List ℕ) where
 pub replayed-whole : (k : Keys) → badKeys k ≡ false → (es : List Entry) → AllReplayable (keysIn k) es
     → replay k (stored es) ≡ done (countedAll (keysIn k) es 0 nothing)
 replayed-whole k good es all =
-    from-start k (stored es) good
-    ∙ ap {B = Replayed} (λ (b : List ℕ). replayFrom (keysIn k) b 0 nothing) (sym (append-nil (stored es)))
-    ∙ all-written (keysIn k) es [] 0 nothing all
+    from-start k (stored es) good ∙ (rw (append-nil (stored es)) at (all-written (keysIn k) es [] 0 nothing all))
     ∙ from-end (keysIn k) [] (0 + length (stored es)) (countedAll (keysIn k) es 0 nothing) refl

@@ -1,42 +1,17 @@
 -- What a call gives does not depend on the output that it is lent: a report, and bytes that stand over the output's front. Of data
 -- within the limits these are at most 16 bytes more than the data has.
-use Rattle.block.proofs.Base.{_+_, _-_, _<_, _≤_, ℕ, _∙_, _≡_, ap, refl, sym, Bool, _&&_, cond, false, true, List, [], arith, eqb, lit<}
-use Rattle.block.proofs.Base.{length, take, length-take-le}
-use Rattle.counter.specs.CameRound.{blocksOf, ctrCameRound}
-use Rattle.walk.specs.Outcome.{Head, Outcome, finished, refusal, under, telling, leaving, keyed, reporting, refuse, written, done}
-use Rattle.walk.specs.Walk.{chain, over}
-use Rattle.stream.specs.Stream.{streamMode}
-use Rattle.stream.specs.declared.Kind.{Kind}
-use Rattle.stream.specs.declared.Kind.the-variants.{Ofb as Ofb·kind, Ctr as Ctr·kind}
-use Rattle.stream.proofs.RoundTrip.{length-stream}
-use Rattle.cbc.specs.Cbc.{cbcSeal}
-use Rattle.cbc.specs.Open.{headOf as cbcHead, unpadded, cbcText, cbcOpen}
-use Rattle.cbc.specs.declared.Opened.{Opened as Cbc·Opened}
-use Rattle.cbc.specs.declared.Opened.the-variants.{Done as Cbc·Done, InvalidLastU8, InvalidPadding}
-use Rattle.cbc.proofs.Blocks.{length-decrypt}
-use Rattle.cbc.proofs.RoundTrip.{length-cbcSeal}
-use Rattle.cbc.proofs.Unpadded.{unpadded-le}
-use Rattle.gcm.specs.Gcm.{hashKey, J0, sealed, textPart, textOf, opensUnder}
-use Rattle.gcm.specs.Open.{headOf as gcmHead, settled, gcmOpen}
-use Rattle.gcm.specs.declared.Opened.the-variants.{Done as Gcm·Done, InvalidTag as Gcm·InvalidTag}
-use Rattle.gcm.proofs.Parts.{length-sealed}
-use Rattle.gcm.proofs.Settled.{text-size}
-use Rattle.cipher_mode.specs.declared.CipherMode.{CipherMode}
-use Rattle.cipher_mode.specs.declared.CipherMode.the-variants.{Cfb, Ofb, Ctr, Cbc, Gcm}
-use Rattle.cipher_mode.specs.declared.Direction.{Direction}
-use Rattle.cipher_mode.specs.declared.Direction.the-variants.{Encrypt, Decrypt}
-use Rattle.cipher_mode.specs.declared.answer.Refusal.{Refusal}
-use Rattle.cipher_mode.specs.declared.answer.Refusal.the-variants.{ErrorBlockSize, ErrorDataLen, InvalidLastU8 as BadLast, InvalidTag}
-use Rattle.cipher_mode.specs.declared.answer.Refusal.the-variants.{TooLong, NoRoom, EmptyCbc, ShortGcm, WrongIv, WrongBlock, Ended}
-use Rattle.cipher_mode.specs.declared.answer.Refusal.the-variants.{WrongNumber, Retired, InvalidPadding as BadPadding}
-use Rattle.cipher_mode.specs.declared.checks.Checked.{Checked}
-use Rattle.cipher_mode.specs.declared.checks.Checked.the-variants.{Passed, Refused}
-use Rattle.cipher_mode.specs.Answer.{refusalHead}
-use Rattle.cipher_mode.specs.Tables.{roomOf}
-use Rattle.cipher_mode.specs.Checks.{wrongIv, dataCheck, checked}
-use Rattle.cipher_mode.specs.Calls.{cfbKind, gcmRound, modeResult}
-use Rattle.cipher_mode.proofs.Passed.{sixteen, whole-blocks-passed, with-tag-passed}
-use Rattle.cipher_mode.proofs.Refusals.{refuses}
+use Rattle.journal.proofs.Names.{BadLast, BadPadding, Bool, Cbc, Cbc·Done, Cbc·Opened, Cfb, Checked, CipherMode, Ctr, Ctr·kind}
+use Rattle.journal.proofs.Names.{Decrypt, Direction, EmptyCbc, Encrypt, ErrorDataLen, Gcm, Head, InvalidLastU8, InvalidPadding}
+use Rattle.journal.proofs.Names.{InvalidTag, J0, Kind, List, NoRoom, Ofb, Ofb·kind, Outcome, Passed, Refusal, Refused, Retired}
+use Rattle.journal.proofs.Names.{ShortGcm, WrongBlock, WrongIv, WrongNumber, [], _&&_, _+_, _-_, _<_, _∙_, _≡_, _≤_, ap, arith}
+use Rattle.journal.proofs.Names.{blocksOf, cbcHead, cbcOpen, cbcSeal, cbcText, cfbKind, chain, checked, cond, ctrCameRound}
+use Rattle.journal.proofs.Names.{dataCheck, eqb, false, finished, gcmHead, gcmOpen, gcmRound, hashKey, keyed, leaving, length}
+use Rattle.journal.proofs.Names.{length-cbcSeal, length-decrypt, length-sealed, length-stream, length-take-le, lit<, modeResult}
+use Rattle.journal.proofs.Names.{opensUnder, over, refl, refusal, refusalHead, refuse, refuses, reporting, roomOf, sealed, sixteen}
+use Rattle.journal.proofs.Names.{streamMode, sym, take, telling, text-size, textOf, textPart, true, under, unpadded, unpadded-le}
+use Rattle.journal.proofs.Names.{whole-blocks-passed, with-tag-passed, wrongIv, ℕ}
+use Rattle.cipher_mode.specs.Outcome.{written, done}
+use Rattle.cipher_mode.specs.declared.answer.Refusal.the-variants.{ErrorBlockSize, TooLong, Ended}
 
 -- one report and one result, of at most so many bytes, whatever output is lent; the number has a place among the counts
 pub record Gives (most : ℕ) (f : List ℕ → Outcome) : Type 0 where
@@ -61,23 +36,26 @@ gives-written most h p k l m =
     record { head = h; front = take (h .size) p; known = k; sized = length-take-le (h .size) p l; fits = m; leaves = λ o. refl }
 
 -- the same with another report of the same number and size
-gives-told : (most : ℕ) (u : Head → Head) → ((h : Head) → u h .number ≡ h .number) → ((h : Head) → u h .size ≡ h .size)
-    → (f : List ℕ → Outcome) → Gives most f → Gives most (λ o. leaving (u (f o .head)) (f o .bytes))
-gives-told most u n s f g =
+abbrev telling′ : (Head → ℕ) → (Head → ℕ) → Head → Head
+telling′ round key h = record { number = h .number; size = h .size; missing = h .missing; cameRound = round h; key = key h }
+
+gives-told : (most : ℕ) (round key : Head → ℕ) (f : List ℕ → Outcome) → Gives most f
+    → Gives most (λ o. leaving (telling′ round key (f o .head)) (f o .bytes))
+gives-told most round key f g =
     record {
-      head = u (g .head);
+      head = telling′ round key (g .head);
       front = g .front;
-      known = rw (n (g .head)) (g .known);
-      sized = g .sized ∙ sym (s (g .head));
-      fits = rw (s (g .head)) (g .fits);
-      leaves = λ o. ap {B = Outcome} (λ (x : Outcome). leaving (u (x .head)) (x .bytes)) (g .leaves o);
+      known = g .known;
+      sized = g .sized;
+      fits = g .fits;
+      leaves = λ o. ap {B = Outcome} (λ (x : Outcome). leaving (telling′ round key (x .head)) (x .bytes)) (g .leaves o);
     }
 
 gives-reporting : (most : ℕ) (b : Bool) (f : List ℕ → Outcome) → Gives most f → Gives most (λ o. reporting b (f o))
-gives-reporting most b = gives-told most (λ h. telling (eqb (h .number) 0 && b) h) (λ h. refl) (λ h. refl)
+gives-reporting most b = gives-told most (λ h. cond (eqb (h .number) 0 && b) 1 0) (λ h. h .key)
 
 gives-keyed : (most k : ℕ) (f : List ℕ → Outcome) → Gives most f → Gives most (λ o. keyed k (f o))
-gives-keyed most k = gives-told most (under k) (λ h. refl) (λ h. refl)
+gives-keyed most k = gives-told most (λ h. h .cameRound) (λ h. k)
 
 refusal-known : (r : Refusal) → refusalHead r .number < 27
 refusal-known ErrorBlockSize = lit< tt
@@ -105,33 +83,34 @@ cbc-opened most p InvalidPadding e h = gives-written most (refusal 15) p (omega 
 
 -- an opened Gcm message, by what its tag says
 gcm-opened : (most : ℕ) (p : List ℕ) (n : ℕ) (t : Bool) → length p ≡ n → n ≤ most
-    → Gives most (λ o. written (gcmHead (cond t (Gcm·Done n) Gcm·InvalidTag)) p o)
+    → Gives most (λ o. written (gcmHead t n) p o)
 gcm-opened most p n true e h = gives-written most (finished n) p (omega arith) (omega arith) h
 gcm-opened most p n false e h = gives-written most (refusal 4) p (omega arith) (omega arith) (omega arith)
 
-streams : (k : Kind) (rk s d : List ℕ) → Gives (length d) (λ o. done (chain (streamMode k rk) s d) o)
-streams k rk s d = let l = length-stream k rk s d in gives-done (length d) (chain (streamMode k rk) s d) (omega arith)
+streams : (most : ℕ) (k : Kind) (rk s d : List ℕ) → length d ≤ most → Gives most (λ o. done (chain (streamMode k rk) s d) o)
+streams most k rk s d h = let l = length-stream k rk s d in gives-done most (chain (streamMode k rk) s d) (omega arith)
 
 -- what is in order gives no more than the table of lengths says
-mode-gives : (m : CipherMode) (dir : Direction) (rk aad d iv : List ℕ) → wrongIv m (length iv) ≡ false → dataCheck dir m (length d) ≡ Passed
-    → Gives (roomOf m dir (length d)) (λ o. modeResult m dir rk aad d iv o)
-unfolding cbcOpen gcmOpen settled
-mode-gives Cfb dir rk aad d iv i e = streams (cfbKind dir) rk iv d
-mode-gives Ofb dir rk aad d iv i e = streams Ofb·kind rk iv d
-mode-gives Ctr dir rk aad d iv i e = gives-reporting (length d) (ctrCameRound iv (blocksOf (length d))) _ (streams Ctr·kind rk iv d)
-mode-gives Cbc Encrypt rk aad d iv i e = let l = length-cbcSeal rk iv d in gives-done _ (cbcSeal rk iv d) (omega arith)
-mode-gives Cbc Decrypt rk aad d iv i e =
+mode-gives : (most : ℕ) (m : CipherMode) (dir : Direction) (rk aad d iv : List ℕ) → wrongIv m (length iv) ≡ false
+    → dataCheck dir m (length d) ≡ Passed → roomOf m dir (length d) ≤ most → Gives most (λ o. modeResult m dir rk aad d iv o)
+unfolding cbcOpen gcmOpen
+mode-gives most Cfb dir rk aad d iv i e r = streams most (cfbKind dir) rk iv d r
+mode-gives most Ofb dir rk aad d iv i e r = streams most Ofb·kind rk iv d r
+mode-gives most Ctr dir rk aad d iv i e r =
+    gives-reporting most (ctrCameRound iv (blocksOf (length d))) _ (streams most Ctr·kind rk iv d r)
+mode-gives most Cbc Encrypt rk aad d iv i e r = let l = length-cbcSeal rk iv d in gives-done most (cbcSeal rk iv d) (omega arith)
+mode-gives most Cbc Decrypt rk aad d iv i e r =
     let l = length-decrypt rk iv d (sixteen (length iv) i) (whole-blocks-passed (length d) e .1) in
-    cbc-opened (length d) (cbcText rk iv d) (unpadded (cbcText rk iv d)) refl (omega arith)
-mode-gives Gcm Encrypt rk aad d iv i e =
+    cbc-opened most (cbcText rk iv d) (unpadded (cbcText rk iv d)) refl (omega arith)
+mode-gives most Gcm Encrypt rk aad d iv i e r =
     let l = length-sealed rk (hashKey rk) (J0 rk iv) aad d in
-    gives-reporting _ (gcmRound rk iv (length d)) _ (gives-done _ (sealed rk (hashKey rk) (J0 rk iv) aad d) (omega arith))
-mode-gives Gcm Decrypt rk aad d iv i e =
+    gives-reporting most (gcmRound rk iv (length d)) _ (gives-done most (sealed rk (hashKey rk) (J0 rk iv) aad d) (omega arith))
+mode-gives most Gcm Decrypt rk aad d iv i e r =
     let h = hashKey rk in
     let j = J0 rk iv in
-    gives-reporting _ (gcmRound rk iv (length d - 16)) _
-    (gcm-opened _ (textOf rk j (textPart d)) (length d - 16) (opensUnder rk h j aad d)
-    (text-size rk h j aad d [] (with-tag-passed (length d) e)) (omega arith))
+    gives-reporting most (gcmRound rk iv (length d - 16)) _
+    (gcm-opened most (textOf rk j (textPart d)) (length d - 16) (opensUnder rk h j aad d)
+    (text-size rk j d) (omega arith))
 
 -- the table asks for at most 16 bytes more than there are
 pub room-16 : (m : CipherMode) (dir : Direction) (n : ℕ) → roomOf m dir n ≤ 16 + n
@@ -143,18 +122,13 @@ room-16 Cbc Decrypt n = omega arith
 room-16 Gcm Encrypt n = omega arith
 room-16 Gcm Decrypt n = omega arith
 
-gives-more : (n most : ℕ) (f : List ℕ → Outcome) → n ≤ most → Gives n f → Gives most f
-gives-more n most f h g =
-    let l = g .fits in
-    record { head = g .head; front = g .front; known = g .known; sized = g .sized; fits = omega arith; leaves = g .leaves }
-
 -- a call by what its checks say
 pub call-gives : (most k : ℕ) (x : Checked) (m : CipherMode) (dir : Direction) (rk aad d iv : List ℕ)
     → (x ≡ Passed → (wrongIv m (length iv) ≡ false) × (dataCheck dir m (length d) ≡ Passed) × (roomOf m dir (length d) ≤ most))
     → Gives most (λ o. keyed k (checked x o (modeResult m dir rk aad d iv o)))
 call-gives most k Passed m dir rk aad d iv p =
     let in-order = p refl in
-    gives-keyed most k _ (gives-more _ most _ (in-order .2) (mode-gives m dir rk aad d iv (in-order .0) (in-order .1)))
+    gives-keyed most k _ (mode-gives most m dir rk aad d iv (in-order .0) (in-order .1) (in-order .2))
 call-gives most k (Refused r) m dir rk aad d iv p =
     gives-keyed most k _ (gives-none most (refusalHead r) (refusal-known r) (refuses r .no-size))
 

@@ -1,40 +1,28 @@
--- The report of two journals joined is their reports added, where the first is replayed to its end: what a journal adds to a report does not
--- depend on the report.
-use Rattle.block.proofs.Base.{_+_, _<_, suc, zero, ℕ, _∙_, _≡_, ap, refl, sym, Bool, cond, false, true, List, [], _++_, _∷_, arith, drop}
-use Rattle.block.proofs.Base.{length, length-drop, replicate, drop-append-le}
-use Rattle.cipher_mode.specs.declared.Sm4Cipher.{Sm4Cipher}
-use Rattle.walk.proofs.Loop.{tailed, tail-is}
-use Rattle.journal.specs.Format.{Entry, sizeAt, front}
-use Rattle.journal.specs.KeyList.{keyOf, keysIn, badKeys}
-use Rattle.journal.specs.Recomputed.{recomputed, judged}
-use Rattle.journal.specs.Reports.{nothing, oneMore, modePlace, firstOf, counted, AddsUp}
-use Rattle.journal.specs.Replay.{replayFrom, numberOfEnd, countedUnder, replayOne, replay}
-use Rattle.journal.specs.Joined.{sums, earlier, added, behindReport}
-use Rattle.journal.specs.declared.again.Recomputed.{Recomputed}
-use Rattle.journal.specs.declared.report.Difference.{Difference}
-use Rattle.journal.specs.declared.report.Report.{Report}
-use Rattle.journal.specs.declared.keys.Keys.{Keys}
-use Rattle.journal.specs.declared.Replayed.{Replayed}
+-- The report of two journals joined is their reports added, where the first is replayed to its end: what a journal adds to a report does
+-- not depend on the report.
+use Rattle.journal.proofs.Names.{AddsUp, Bool, Difference, Entry, Keys, List, Recomputed, Replayed, Report, Sm4Cipher, Stands, []}
+use Rattle.journal.proofs.Names.{_++_, _+_, _<_, _∙_, _∷_, _≡_, add-assoc, add-zero, added, ap, arith, badKeys, behindReport}
+use Rattle.journal.proofs.Names.{by-test, cond, counted, countedUnder, drop, drop-append-le, drop-of-length-le, earlier, false}
+use Rattle.journal.proofs.Names.{firstOf, front, judged, keyOf, keysIn, length, length-drop, modePlace, ne-eqb, nothing, numberOfEnd}
+use Rattle.journal.proofs.Names.{oneMore, recomputed, refl, replay, replayFrom, replayOne, replicate, sizeAt, suc, sums, sym}
+use Rattle.journal.proofs.Names.{tail-is, tailed, take, take-append-le, true, zero, ℕ}
 use Rattle.journal.proofs.Lent.{recomputed-known}
 use Rattle.journal.proofs.Counting.{same-report, mode-below-6}
 use Rattle.journal.proofs.Sums.{adds-counted, replay-adds-up, adds-nothing}
-use Rattle.journal.proofs.Cases.{by-test}
-use Rattle.journal.proofs.Replaying.{from-end, from-bad, from-long, from-unknown, from-on, by-replay, Passes, counts, passed}
-use Rattle.journal.proofs.Replaying.{from-start}
-use Rattle.journal.proofs.Standing.{Stands, stands, starts, size-within}
-use Rattle.journal.proofs.Appended.{starts-on, front-on, size-on}
+use Rattle.journal.proofs.Replaying.{from-end, from-refused, from-on, by-replay, Passes, refuses, counts, passed, from-start}
+use Rattle.journal.proofs.Standing.{stands, starts, size-within, starts-in, front-in, size-in}
 
 sums-more : (a b : List ℕ) (i : ℕ) → i < length a → i < length b → sums a (oneMore i b) ≡ oneMore i (sums a b)
 unfolding sums
 sums-more [] b i h k = absurd (omega arith)
 sums-more (x ∷ a) [] i h k = absurd (omega arith)
-sums-more (x ∷ a) (y ∷ b) zero h k = let e : x + (y + 1) ≡ x + y + 1 = omega arith in rw e
+sums-more (x ∷ a) (y ∷ b) zero h k = rw (add-assoc x y 1)
 sums-more (x ∷ a) (y ∷ b) (suc i) h k = ap (λ (l : List ℕ). (x + y) ∷ l) (sums-more a b i (omega arith) (omega arith))
 
-sums-none : (a : List ℕ) → sums a (replicate (length a) 0) ≡ a
+sums-none : (a : List ℕ) (n : ℕ) → length a ≡ n → sums a (replicate n 0) ≡ a
 unfolding sums
-sums-none [] = refl
-sums-none (x ∷ a) = let e : x + 0 ≡ x = omega arith in rw (e, sums-none a)
+sums-none [] n h = refl
+sums-none (x ∷ a) n h = rw (← h, add-zero x, sums-none a (length a) refl)
 
 -- the first difference of the two, where the record at a place of the second differs or does not
 first-added : (t : Bool) (d e : Difference) (n m p place : ℕ)
@@ -51,21 +39,14 @@ module _ (p : ℕ) (r : Report) (adds : AddsUp r) where
   pub added-none : added p r nothing ≡ r
   unfolding added
   added-none =
-      let m : sums (r .«by_mode») (replicate 6 0) ≡ r .«by_mode» = ap (λ (n : ℕ). sums (r .«by_mode») (replicate n 0)) (sym (adds .modes))
-      ∙ sums-none (r .«by_mode») in
-      let a : sums (r .«by_answer») (replicate 32 0) ≡ r .«by_answer» = ap (λ (n : ℕ). sums (r .«by_answer») (replicate n 0))
-      (sym (adds .answers)) ∙ sums-none (r .«by_answer») in
-      same-report (omega arith) m a (omega arith) (omega arith) (either-way (r .first .found) (r .first))
+      same-report (omega arith) (sums-none (r .«by_mode») 6 (adds .modes)) (sums-none (r .«by_answer») 32 (adds .answers)) (omega arith)
+      (omega arith) (either-way (r .first .found) (r .first))
 
   added-counted : (e : Entry) (x : Recomputed) (place : ℕ) (s : Report) → AddsUp s → x .number < 27
       → counted e x (p + place) (added p r s) ≡ added p r (counted e x place s)
   unfolding added counted
   added-counted e x place s like known =
       let m = mode-below-6 (e .mode) in
-      let a = adds .modes in
-      let b = like .modes in
-      let c = adds .answers in
-      let d = like .answers in
       same-report (omega arith) (sym (sums-more (r .«by_mode») (s .«by_mode») (modePlace (e .mode)) (omega arith) (omega arith)))
       (sym (sums-more (r .«by_answer») (s .«by_answer») (x .number) (omega arith) (omega arith))) (omega arith) (omega arith)
       (first-added (x .differs) (r .first) (s .first) (r .records) (s .records) p place)
@@ -75,34 +56,36 @@ module _ (p : ℕ) (r : Report) (adds : AddsUp r) where
   unfolding behindReport
   from-added ks =
       by-replay ks (λ b place s x. AddsUp s → replayFrom ks b (p + place) (added p r s) ≡ behindReport p r x)
-      (λ b place s e like. from-end ks b (p + place) (added p r s) e) (λ b place s h e like. from-bad ks b (p + place) (added p r s) h e)
-      (λ b place s e t like. from-long ks b (p + place) (added p r s) e t)
-      (λ b place s e t n like. from-unknown ks b (p + place) (added p r s) e t n)
+      (λ b place s e like. from-end ks b (p + place) (added p r s) e)
+      (λ b place s h e w like.
+      from-refused ks b (p + place) (added p r s) h e w ∙ sym (rw (ne-eqb (numberOfEnd e) 0 (refuses ks b place s e w .1))))
       (λ b place s x q more like.
-      let e : p + place + sizeAt b ≡ p + (place + sizeAt b) = omega arith in
       let c = keyOf (front b .key) ks in
       let known = recomputed-known c (front b) in
       from-on ks b (p + place) (added p r s) q
-      ∙ rw (e, added-counted (front b) (judged (front b) (recomputed c (front b))) place s like known) (more (adds-counted ks (front b) place s like)))
-
-nil-of : (a : List ℕ) → length a ≡ 0 → a ≡ []
-nil-of [] h = refl
-nil-of (x ∷ a) h = absurd (omega arith)
+      ∙ rw (add-assoc p place (sizeAt b), added-counted (front b) (judged (front b) (recomputed c (front b))) place s like known)
+      (more (adds-counted ks (front b) place s like)))
 
 module _ (ks : List Sm4Cipher) (b : List ℕ) where
+  same-bytes : (a : List ℕ) → Stands a → take (sizeAt a) (a ++ b) ≡ take (sizeAt a) a
+  same-bytes a s = take-append-le (sizeAt a) a b (size-within a s)
+
   -- a record that stands whole is replayed the same, whatever is behind it
   pub one-appended : (a : List ℕ) (place : ℕ) (r : Report) → Stands a → replayOne ks (a ++ b) place r ≡ replayOne ks a place r
   unfolding replayOne
-  one-appended a place r s = rw (starts-on b a s, front-on b a s, starts a s)
+  one-appended a place r s =
+      let h = same-bytes a s in
+      rw (starts-in a (a ++ b) s h, front-in a (a ++ b) s h, starts a s)
 
   -- a journal can be replayed a part at a time
   first-on : (a : List ℕ) (place : ℕ) (r : Report) → Passes ks a
       → replayFrom ks (a ++ b) place r ≡ replayFrom ks (drop (sizeAt a) a ++ b) (place + sizeAt a) (countedUnder ks (front a) place r)
   first-on a place r p =
       let s = stands a (p .0) in
-      let f = front-on b a s in
-      from-on ks (a ++ b) place r (starts-on b a s, rw f (p .1), rw f (p .2))
-      ∙ rw (f, size-on b a s, drop-append-le (sizeAt a) a b (size-within a s))
+      let h = same-bytes a s in
+      let f = front-in a (a ++ b) s h in
+      from-on ks (a ++ b) place r (starts-in a (a ++ b) s h, rw f (p .1), rw f (p .2))
+      ∙ rw (f, size-in a (a ++ b) s h, drop-append-le (sizeAt a) a b (size-within a s))
 
   -- a turn: the record was measured and replayed; what is to come is written as the borrow checker has it
   pub turn-followed : (a : List ℕ) (place : ℕ) (r : Report) → 0 < length a → numberOfEnd (replayOne ks a place r .ended) ≡ 0
@@ -118,8 +101,8 @@ module _ (ks : List Sm4Cipher) (b : List ℕ) where
   goes-on =
       by-replay ks
       (λ a place r x. numberOfEnd (x .ended) ≡ 0 → replayFrom ks (a ++ b) place r ≡ replayFrom ks b (place + length a) (x .report))
-      (λ a place r h w. let e : place + 0 ≡ place = omega arith in rw (nil-of a h, e)) (λ a place r h s w. absurd (omega arith))
-      (λ a place r s t w. absurd (omega arith)) (λ a place r s t n w. absurd (omega arith))
+      (λ a place r h w. let none : a ≡ [] = drop-of-length-le a {i = 0} (omega arith) in rw (none, add-zero place))
+      (λ a place r h e w z. absurd (refuses ks a place r e w .1 z))
       (λ a place r x p more w.
       let e : place + sizeAt a + length (drop (sizeAt a) a) ≡ place + length a =
       omega (arith, size-within a (stands a (p .0)), length-drop (sizeAt a) a) in

@@ -1,21 +1,11 @@
 -- A call within the limits gives the same whether it is lent the recorded room or no more than the longest output.
-use Rattle.block.proofs.Base.{_+_, _<_, _≤_, ℕ, _∙_, _≡_, ap, refl, sym, _⊎_, ⊎-elim, Bool, false, List, [], _++_, append-assoc, append-nil}
-use Rattle.block.proofs.Base.{arith, le-ltb, ltb-false, ltb-true, ltb, drop, length, length-append, length-drop, length-replicate}
-use Rattle.block.proofs.Base.{replicate, take, take-at}
-use Rattle.walk.specs.Outcome.{Head, Outcome, keyed, refuse}
-use Rattle.cipher_mode.specs.declared.CipherMode.{CipherMode}
-use Rattle.cipher_mode.specs.declared.Sm4Cipher.{Sm4Cipher}
-use Rattle.cipher_mode.specs.declared.checks.Checked.{Checked}
-use Rattle.cipher_mode.specs.Key.{keyNumber}
-use Rattle.cipher_mode.specs.Tables.{modeOf, roomOf}
-use Rattle.cipher_mode.specs.Checks.{roomCheck, messageCheck, checked}
-use Rattle.cipher_mode.specs.Calls.{modeResult, modeCall}
-use Rattle.cipher_mode.proofs.Passed.{message-passed}
-use Rattle.journal.specs.Format.{Entry, outputLimit, tooLong}
-use Rattle.journal.specs.Recomputed.{callInto, recomputed, result, differsFrom, judged, lentRoom, Answers}
-use Rattle.journal.specs.declared.again.Answered.{Answered}
-use Rattle.journal.specs.declared.again.Recomputed.{Recomputed}
-use Rattle.journal.proofs.Cases.{by-test, short as within}
+use Rattle.journal.proofs.Names.{Answered, Answers, Bool, Checked, CipherMode, Entry, Head, List, Outcome, Recomputed, Sm4Cipher, []}
+use Rattle.journal.proofs.Names.{_++_, _+_, _<_, _∙_, _≡_, _≤_, _⊎_, ap, append-assoc, append-nil, arith, by-test, callInto, checked}
+use Rattle.journal.proofs.Names.{differsFrom, drop, false, inl, inr, judged, keyNumber, keyed, le-ltb, length, length-append}
+use Rattle.journal.proofs.Names.{length-drop, length-replicate, lentRoom, ltb, ltb-false, ltb-true, message-passed, messageCheck}
+use Rattle.journal.proofs.Names.{modeCall, modeOf, modeResult, outputLimit, recomputed, refl, refuse, replicate, result, roomCheck}
+use Rattle.journal.proofs.Names.{roomOf, sym, take, take-at, tooLong, ℕ, ⊎-elim}
+use Rattle.journal.proofs.Cases.{short as within}
 use Rattle.journal.proofs.Given.{Gives, room-16, call-gives, bad-gives}
 
 -- what an outcome reports, and its result, which stands at the front whatever is behind the output
@@ -79,71 +69,70 @@ module _ (c : Sm4Cipher) (e : Entry) where
   pub result-size : length (result (recomputed c e)) ≡ recomputed c e .head .size
   result-size = rw (room-called, given-front _ _ same-gives room, same-gives .leaves room) (same-gives .sized)
 
-  -- an output that is enough exactly where the recorded room is: the two are one function of the output, whatever it holds
-  module _ (o : List ℕ) (alike : ltb (length o) needed ≡ ltb (e .room) needed) where
-    alike-called : callInto c e o ≡ called (e .room) o
-    unfolding messageCheck roomCheck
-    alike-called = into-is o ∙ rw alike
+  -- what is lent is filled at most
+  module _ (o : List ℕ) where
+    filled : Gives (length o) (called (length o))
+    filled = gives (length o) (length o) (λ h. h)
 
-    alike-head : callInto c e o .head ≡ recomputed c e .head
-    alike-head = rw (alike-called, room-called, same-gives .leaves o, same-gives .leaves room)
+    pub into-fits : callInto c e o .head .size ≤ length o
+    into-fits = rw (into-is o) (given-size _ _ filled o)
 
-    alike-result : (rest : List ℕ) → take (callInto c e o .head .size) (callInto c e o .bytes ++ rest) ≡ result (recomputed c e)
-    alike-result rest = rw (alike-called, room-called, given-result _ _ same-gives o rest) (sym (given-front _ _ same-gives room))
+    pub into-length : length (callInto c e o .bytes) ≡ length o
+    into-length =
+        rw (into-is o, filled .leaves o, length-append)
+        (omega (arith, filled .fits, filled .sized, length-drop (length (filled .front)) o))
 
   module _ (short : tooLong e ≡ false) where
-    -- two rooms of at least the longest output
-    both-enough : (r s : ℕ) → outputLimit ≤ r → outputLimit ≤ s → ltb r needed ≡ ltb s needed
-    both-enough r s h k =
-        let n = room-16 mode (e .direction) (length (e .«data»)) in
-        let m = within e short .«data» in
-        le-ltb r needed (omega arith) ∙ sym (le-ltb s needed (omega arith))
-
     -- The room that was recorded, or both at least the longest output: report and result are the same, whatever the output held.
     module _ (o : List ℕ) (like : (length o ≡ e .room) ⊎ ((outputLimit ≤ length o) × (outputLimit ≤ e .room))) where
       room-alike : ltb (length o) needed ≡ ltb (e .room) needed
       room-alike =
           ⊎-elim (λ (h : length o ≡ e .room). ap (λ (n : ℕ). ltb n needed) h)
-          (λ (h : (outputLimit ≤ length o) × (outputLimit ≤ e .room)). both-enough (length o) (e .room) (h .0) (h .1)) like
+          (λ (h : (outputLimit ≤ length o) × (outputLimit ≤ e .room)).
+          let n = room-16 mode (e .direction) (length (e .«data»)) in
+          let m = within e short .«data» in
+          le-ltb (length o) needed (omega arith) ∙ sym (le-ltb (e .room) needed (omega arith)))
+          like
+
+      -- the two are one function of the output
+      same-called : callInto c e o ≡ called (e .room) o
+      unfolding messageCheck roomCheck
+      same-called = into-is o ∙ rw room-alike
 
       pub any-output-head : callInto c e o .head ≡ recomputed c e .head
-      any-output-head = alike-head o room-alike
+      any-output-head = rw (same-called, room-called, same-gives .leaves o, same-gives .leaves room)
+
+      result-on : (rest : List ℕ) → take (callInto c e o .head .size) (callInto c e o .bytes ++ rest) ≡ result (recomputed c e)
+      result-on rest = rw (same-called, room-called, given-result _ _ same-gives o rest) (sym (given-front _ _ same-gives room))
 
       pub any-output-result : result (callInto c e o) ≡ result (recomputed c e)
-      any-output-result = rw (← append-nil (callInto c e o .bytes)) (alike-result o room-alike [])
+      any-output-result = rw (← append-nil (callInto c e o .bytes)) (result-on [])
 
     module _ (o : List ℕ) (size : length o ≡ lentRoom e) where
-      lent-alike : ltb (length o) needed ≡ ltb (e .room) needed
+      lent-like : (length o ≡ e .room) ⊎ ((outputLimit ≤ length o) × (outputLimit ≤ e .room))
       unfolding lentRoom
-      lent-alike =
+      lent-like =
           by-test (ltb outputLimit (e .room))
-          (λ x. let h = ltb-true outputLimit (e .room) x in rw (size, x) (both-enough outputLimit (e .room) (omega arith) (omega arith)))
-          (λ x. rw (size, x))
+          (λ x. let n : length o ≡ outputLimit = size ∙ rw x in inr (omega arith, omega (arith, ltb-true outputLimit (e .room) x)))
+          (λ x. inl (size ∙ rw x))
 
       -- Lending no more than the longest output changes neither the report nor the result.
       pub lent-head : callInto c e o .head ≡ recomputed c e .head
-      lent-head = alike-head o lent-alike
+      lent-head = any-output-head o lent-like
 
       pub lent-result : (rest : List ℕ) → take (callInto c e o .head .size) (callInto c e o .bytes ++ rest) ≡ result (recomputed c e)
-      lent-result = alike-result o lent-alike
-
-      pub lent-fits : callInto c e o .head .size ≤ lentRoom e
-      lent-fits = rw (into-is o) (given-size _ _ (gives (length o) (lentRoom e) (λ h. omega arith)) o)
+      lent-result = result-on o lent-like
 
       -- so it is judged as with the recorded room
       pub lent-judged : (a : Answered) (p rest : List ℕ) (d : Bool) → Answers a p (callInto c e o)
           → d ≡ differsFrom e (a .number) (a .length) (take (a .length) (p ++ rest))
-          → _≡_ {A = Recomputed} (record { number = a .number; length = a .length; differs = d }) (judged e (recomputed c e))
+          → (_≡_ {A = Recomputed} (record { number = a .number; length = a .length; differs = d }) (judged e (recomputed c e)))
+          × ((a .number < 27) × (a .length ≤ 16 + length (e .«data»)))
       lent-judged a p rest d x y =
-          let n : a .number ≡ recomputed c e .head .number = x .number ∙ ap (λ (h : Head). h .number) lent-head in
-          let l : a .length ≡ recomputed c e .head .size = x .size ∙ ap (λ (h : Head). h .size) lent-head in
+          let n : a .number ≡ recomputed c e .head .number = cc lent-head in
+          let l : a .length ≡ recomputed c e .head .size = cc lent-head in
           let r : take (a .length) (p ++ rest) ≡ result (recomputed c e) = rw (x .size, x .bytes) (lent-result rest) in
-          rw (y, r, n, l)
-
-      pub lent-length : length (callInto c e o .bytes) ≡ length o
-      lent-length =
-          let g = gives (length o) (length o) (λ h. h) in
-          rw (into-is o, g .leaves o, length-append) (omega (arith, g .fits, g .sized, length-drop (length (g .front)) o))
+          (rw (y, r, n, l), (rw n recomputed-known, rw l recomputed-size))
 
 pub lent-most : (e : Entry) → lentRoom e ≤ outputLimit
 unfolding lentRoom

@@ -1,4 +1,6 @@
+mod Names
 pub mod Cases
+pub mod Fields
 pub mod Standing
 pub mod KeyTurns
 pub mod Given
@@ -7,7 +9,6 @@ pub mod Counting
 pub mod Replaying
 pub mod BothWays
 pub mod Sums
-pub mod Appended
 pub mod Joined
 pub mod Ending
 pub mod Agrees

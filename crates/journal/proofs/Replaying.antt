@@ -1,18 +1,9 @@
 -- Replay goes on record by record: one law by cases of the record in front, and one induction over all of them.
-use Rattle.block.proofs.Base.{_+_, _<_, _≤_, suc, zero, ℕ, _∙_, _≡_, refl, sym, false, true, List, arith, eq-eqb, eqb-false, eqb-true}
-use Rattle.block.proofs.Base.{ne-eqb, eqb, drop, length, length-drop}
-use Rattle.walk.proofs.Loop.{tailed, tail-is}
-use Rattle.cipher_mode.specs.declared.Sm4Cipher.{Sm4Cipher}
-use Rattle.journal.specs.Format.{Entry, startsRecord, sizeAt, front, tooLong}
-use Rattle.journal.specs.KeyList.{keysIn, hasNumber, keyOf, badKeys}
-use Rattle.journal.specs.Reports.{nothing, Within}
-use Rattle.journal.specs.Replay.{numberOfEnd, andThen, done, countedUnder, replayOne, replayUpTo, replayFrom, replay}
-use Rattle.journal.specs.declared.keys.Keys.{Keys}
-use Rattle.journal.specs.declared.report.Report.{Report}
-use Rattle.journal.specs.declared.Ended.{Ended}
-use Rattle.journal.specs.declared.Ended.the-variants.{BadRecord, TooLong, UnknownKey}
-use Rattle.journal.specs.declared.Replayed.{Replayed}
-use Rattle.journal.proofs.Cases.{by-test}
+use Rattle.journal.proofs.Names.{BadKeys, BadRecord, Done, Ended, Entry, Keys, List, Replayed, Report, Sm4Cipher, TooLong}
+use Rattle.journal.proofs.Names.{UnknownKey, Within, _+_, _<_, _∙_, _≡_, _≤_, arith, badKeys, by-test, countedUnder, done, drop}
+use Rattle.journal.proofs.Names.{eq-eqb, eqb, eqb-false, eqb-true, false, front, hasNumber, keyOf, keysIn, length, length-drop}
+use Rattle.journal.proofs.Names.{ne-eqb, nothing, numberOfEnd, refl, replay, replayFrom, replayOne, replayUpTo, sizeAt, startsRecord}
+use Rattle.journal.proofs.Names.{suc, sym, tooLong, true, zero, ℕ}
 use Rattle.journal.proofs.Standing.{stands, size-within, data-within}
 use Rattle.journal.proofs.Lent.{recomputed-size}
 use Rattle.journal.proofs.Counting.{within-counted}
@@ -20,52 +11,45 @@ use Rattle.journal.proofs.Counting.{within-counted}
 abbrev pub refused : Ended → ℕ → Report → Replayed
 refused e place r = record { ended = e; place = place; report = r }
 
--- the record at the front of b is counted
+-- the record at the front of b is counted; or it is refused, and why
 abbrev pub Passes : List Sm4Cipher → List ℕ → Type 0
 Passes ks b = (startsRecord b ≡ true) × (tooLong (front b) ≡ false) × (hasNumber (front b .key) ks ≡ true)
 
+abbrev pub Refuses : List Sm4Cipher → List ℕ → Ended → Type 0
+Refuses ks b Done = ⊥
+Refuses ks b BadRecord = startsRecord b ≡ false
+Refuses ks b TooLong = (startsRecord b ≡ true) × (tooLong (front b) ≡ true)
+Refuses ks b UnknownKey = (startsRecord b ≡ true) × (tooLong (front b) ≡ false) × (hasNumber (front b .key) ks ≡ false)
+Refuses ks b BadKeys = ⊥
+
+pub by-one : {A : Type 0} (ks : List Sm4Cipher) (b : List ℕ) → ((e : Ended) → Refuses ks b e → A) → (Passes ks b → A) → A
+by-one ks b stop on =
+    by-test (startsRecord b)
+    (λ s.
+    by-test (tooLong (front b)) (λ t. stop TooLong (s, t))
+    (λ t. by-test (hasNumber (front b .key) ks) (λ n. on (s, t, n)) (λ n. stop UnknownKey (s, t, n))))
+    (stop BadRecord)
+
 pub behind-less : (ks : List Sm4Cipher) (b : List ℕ) → Passes ks b → length (drop (sizeAt b) b) < length b
-behind-less ks b p =
-    let s = stands b (p .0) in
-    omega (arith, size-within b s, data-within b s, length-drop (sizeAt b) b)
+behind-less ks b p = omega (arith, size-within b (stands b (p .0)), data-within b (stands b (p .0)), length-drop (sizeAt b) b)
 
 module _ (ks : List Sm4Cipher) (b : List ℕ) (place : ℕ) (r : Report) where
-  pub bad-record : startsRecord b ≡ false → refused BadRecord place r ≡ replayOne ks b place r
+  -- a refusal has a number
+  pub refuses : (e : Ended) → Refuses ks b e → (replayOne ks b place r ≡ refused e place r) × (numberOfEnd e ≡ 0 → ⊥)
   unfolding replayOne
-  bad-record s = rw s
-
-  pub too-long : startsRecord b ≡ true → tooLong (front b) ≡ true → refused TooLong place r ≡ replayOne ks b place r
-  unfolding replayOne
-  too-long s t = rw (s, t)
-
-  pub no-key : startsRecord b ≡ true → tooLong (front b) ≡ false → hasNumber (front b .key) ks ≡ false
-      → refused UnknownKey place r ≡ replayOne ks b place r
-  unfolding replayOne
-  no-key s t n = rw (s, t, n)
+  refuses Done w = absurd w
+  refuses BadRecord s = (rw s, λ z. omega arith)
+  refuses TooLong (s, t) = (rw (s, t), λ z. omega arith)
+  refuses UnknownKey (s, t, n) = (rw (s, t, n), λ z. omega arith)
+  refuses BadKeys w = absurd w
 
   pub counts : Passes ks b → done (countedUnder ks (front b) place r) ≡ replayOne ks b place r
   unfolding replayOne
   counts (s, t, n) = rw (s, t, n)
 
-  -- The record in front, by cases.
-  by-one : (P : Replayed → Type 0) → (startsRecord b ≡ false → P (refused BadRecord place r))
-      → (startsRecord b ≡ true → tooLong (front b) ≡ true → P (refused TooLong place r))
-      → (startsRecord b ≡ true → tooLong (front b) ≡ false → hasNumber (front b .key) ks ≡ false → P (refused UnknownKey place r))
-      → (Passes ks b → P (done (countedUnder ks (front b) place r))) → P (replayOne ks b place r)
-  by-one P bad long unknown counted =
-      by-test (startsRecord b)
-      (λ s.
-      by-test (tooLong (front b)) (λ t. rw (too-long s t) at (long s t))
-      (λ t.
-      by-test (hasNumber (front b .key) ks) (λ n. rw (counts (s, t, n)) at (counted (s, t, n)))
-      (λ n. rw (no-key s t n) at (unknown s t n))))
-      (λ s. rw (bad-record s) at (bad s))
-
   -- a record that was not refused was counted
   pub passed : numberOfEnd (replayOne ks b place r .ended) ≡ 0 → Passes ks b
-  passed =
-      by-one (λ x. numberOfEnd (x .ended) ≡ 0 → Passes ks b) (λ s e. absurd (omega arith)) (λ s t e. absurd (omega arith))
-      (λ s t n e. absurd (omega arith)) (λ p e. p)
+  passed z = by-one ks b (λ e w. let f = refuses e w in absurd (f .1 (rw (f .0) at z))) (λ p. p)
 
 upto-end : (n : ℕ) (ks : List Sm4Cipher) (b : List ℕ) (place : ℕ) (r : Report) → length b ≡ 0 → replayUpTo n ks b place r ≡ done r
 unfolding replayUpTo
@@ -105,22 +89,10 @@ module _ (ks : List Sm4Cipher) (b : List ℕ) (place : ℕ) (r : Report) where
   from-stop h e =
       one-more ∙ rw (ne-eqb (length b) 0 (λ z. omega arith), ne-eqb (numberOfEnd (replayOne ks b place r .ended)) 0 e)
 
-  pub from-bad : 0 < length b → startsRecord b ≡ false → replayFrom ks b place r ≡ refused BadRecord place r
-  unfolding replayUpTo
-  from-bad h s = one-more ∙ rw (ne-eqb (length b) 0 (λ z. omega arith), ← bad-record ks b place r s)
-
-  module _ (s : startsRecord b ≡ true) where
-    some : length b ≡ 0 → ⊥
-    some z = omega (arith, stands b s .long)
-
-    pub from-long : tooLong (front b) ≡ true → replayFrom ks b place r ≡ refused TooLong place r
-    unfolding replayUpTo
-    from-long t = one-more ∙ rw (ne-eqb (length b) 0 some, ← too-long ks b place r s t)
-
-    pub from-unknown : tooLong (front b) ≡ false → hasNumber (front b .key) ks ≡ false
-        → replayFrom ks b place r ≡ refused UnknownKey place r
-    unfolding replayUpTo
-    from-unknown t n = one-more ∙ rw (ne-eqb (length b) 0 some, ← no-key ks b place r s t n)
+  pub from-refused : 0 < length b → (e : Ended) → Refuses ks b e → replayFrom ks b place r ≡ refused e place r
+  from-refused h e w =
+      let f = refuses ks b place r e w in
+      from-stop h (λ z. f .1 (rw (f .0) at z)) ∙ f .0
 
   pub from-on : Passes ks b
       → replayFrom ks b place r ≡ replayFrom ks (drop (sizeAt b) b) (place + sizeAt b) (countedUnder ks (front b) place r)
@@ -129,45 +101,38 @@ module _ (ks : List Sm4Cipher) (b : List ℕ) (place : ℕ) (r : Report) where
       let d = drop (sizeAt b) b in
       let l = behind-less ks b p in
       one-more
-      ∙ rw (ne-eqb (length b) 0 (some (p .0)), ← counts ks b place r p)
+      ∙ rw (ne-eqb (length b) 0 (λ z. omega arith), ← counts ks b place r p)
       (enough (length b) (length d) ks d (place + sizeAt b) (countedUnder ks (front b) place r) (omega arith) (omega arith))
 
   -- a turn: the record in front was measured and replayed
-  module _ (n : ℕ) (one : Replayed) (size : n ≡ sizeAt b) (replayed : one ≡ replayOne ks b place r)
-      (p : Passes ks b) where
+  module _ (n : ℕ) (one : Replayed) (size : n ≡ sizeAt b) (replayed : one ≡ replayOne ks b place r) (p : Passes ks b) where
     pub turn-within : Within place r → Within (place + n) (one .report)
     turn-within w =
         rw (size, replayed, ← counts ks b place r p)
         (within-counted (front b) _ place (sizeAt b) r w (data-within b (stands b (p .0)))
         (recomputed-size (keyOf (front b .key) ks) (front b)))
 
-    -- what is to come is written as the borrow checker has it
-    pub turn-from : replayFrom ks (tailed n b) (place + n) (one .report) ≡ replayFrom ks b place r
-    turn-from = rw (tail-is b n, size, replayed, ← counts ks b place r p) (sym (from-on p))
+    pub turn-from : replayFrom ks (drop n b) (place + n) (one .report) ≡ replayFrom ks b place r
+    turn-from = rw (size, replayed, ← counts ks b place r p) (sym (from-on p))
 
 -- What holds at the end of a journal, and where replay stops, and goes on from what is behind a record to the record, holds of all replays.
 module _ (ks : List Sm4Cipher) (P : List ℕ → ℕ → Report → Replayed → Type 0)
     (end : (b : List ℕ) (place : ℕ) (r : Report) → length b ≡ 0 → P b place r (done r))
-    (bad : (b : List ℕ) (place : ℕ) (r : Report) → 0 < length b → startsRecord b ≡ false → P b place r (refused BadRecord place r))
-    (long : (b : List ℕ) (place : ℕ) (r : Report) → startsRecord b ≡ true → tooLong (front b) ≡ true → P b place r (refused TooLong place r))
-    (unknown : (b : List ℕ) (place : ℕ) (r : Report) → startsRecord b ≡ true → tooLong (front b) ≡ false
-    → hasNumber (front b .key) ks ≡ false → P b place r (refused UnknownKey place r))
+    (stop : (b : List ℕ) (place : ℕ) (r : Report) → 0 < length b → (e : Ended) → Refuses ks b e → P b place r (refused e place r))
     (on : (b : List ℕ) (place : ℕ) (r : Report) (x : Replayed) → Passes ks b
     → P (drop (sizeAt b) b) (place + sizeAt b) (countedUnder ks (front b) place r) x → P b place r x) where
-  up-to : (n : ℕ) (b : List ℕ) (place : ℕ) (r : Report) → length b ≤ n → P b place r (replayUpTo n ks b place r)
-  unfolding replayUpTo
-  up-to zero b place r h = end b place r (omega arith)
+  up-to : (n : ℕ) (b : List ℕ) (place : ℕ) (r : Report) → length b < n → P b place r (replayFrom ks b place r)
+  up-to zero b place r h = absurd (omega arith)
   up-to (suc n) b place r h =
-      by-test (eqb (length b) 0) (λ e. rw e (end b place r (eqb-true (length b) 0 e)))
+      by-test (eqb (length b) 0)
+      (λ e. let z = eqb-true (length b) 0 e in rw (from-end ks b place r z) (end b place r z))
       (λ e.
-      let some = eqb-false (length b) 0 e in
-      rw e
-      (by-one ks b place r (λ x. P b place r (andThen x (λ r′. replayUpTo n ks (drop (sizeAt b) b) (place + sizeAt b) r′)))
-      (bad b place r (omega arith)) (long b place r) (unknown b place r)
-      (λ p. on b place r _ p (up-to n (drop (sizeAt b) b) _ _ (omega (arith, behind-less ks b p))))))
+      let some : 0 < length b = omega (arith, eqb-false (length b) 0 e) in
+      by-one ks b (λ x w. rw (from-refused ks b place r some x w) (stop b place r some x w))
+      (λ p. rw (from-on ks b place r p) (on b place r _ p (up-to n (drop (sizeAt b) b) _ _ (omega (arith, behind-less ks b p))))))
 
   pub by-replay : (b : List ℕ) (place : ℕ) (r : Report) → P b place r (replayFrom ks b place r)
-  by-replay b place r = up-to (length b) b place r (omega arith)
+  by-replay b place r = up-to (suc (length b)) b place r (omega arith)
 
 pub from-start : (k : Keys) (journal : List ℕ) → badKeys k ≡ false → replay k journal ≡ replayFrom (keysIn k) journal 0 nothing
 unfolding replay
@@ -181,5 +146,5 @@ unfolding replay
 every-report P counted p k journal =
     by-test (badKeys k) (λ e. rw e p)
     (λ e. rw (from-start k journal e)
-    (by-replay (keysIn k) (λ b place r x. P r → P (x .report)) (λ b place r z q. q) (λ b place r z s q. q) (λ b place r s t q. q)
-    (λ b place r s t n q. q) (λ b place r x z more q. more (counted (keysIn k) (front b) place r q)) journal 0 nothing p))
+    (by-replay (keysIn k) (λ b place r x. P r → P (x .report)) (λ b place r z q. q) (λ b place r z s w q. q)
+    (λ b place r x z more q. more (counted (keysIn k) (front b) place r q)) journal 0 nothing p))

@@ -1,15 +1,8 @@
 -- The report has the exact totals of the calls that were replayed.
-use Rattle.block.proofs.Base.{_+_, _<_, suc, zero, ℕ, _≡_, refl, sym, cond, List, [], _∷_, arith, eqb-false, eqb-true, eqb, getD, length}
-use Rattle.block.proofs.Base.{replicate, getD-set-other, getD-set-same}
-use Rattle.cipher_mode.specs.declared.Sm4Cipher.{Sm4Cipher}
-use Rattle.journal.specs.Format.{Entry, written}
-use Rattle.journal.specs.KeyList.{keyOf}
-use Rattle.journal.specs.Reports.{nothing, oneMore, modePlace, counted, AddsUp}
-use Rattle.journal.specs.Replay.{countedUnder}
-use Rattle.journal.specs.Ends.{countedAll, Ends, answerNow, countIf, sumOf, Totals}
-use Rattle.journal.specs.declared.report.Report.{Report}
-use Rattle.journal.specs.declared.Replayed.{Replayed}
-use Rattle.journal.proofs.Cases.{by-test}
+use Rattle.journal.proofs.Names.{AddsUp, Ends, Entry, List, Replayed, Report, Sm4Cipher, Totals, [], _+_, _<_, _∷_, _≡_, answerNow}
+use Rattle.journal.proofs.Names.{arith, by-test, cond, countIf, counted, countedAll, countedUnder, eqb, eqb-false, eqb-true, getD}
+use Rattle.journal.proofs.Names.{getD-set-other, getD-set-same, keyOf, length, modePlace, nothing, oneMore, refl, replicate, suc}
+use Rattle.journal.proofs.Names.{sumOf, sym, written, zero, ℕ}
 use Rattle.journal.proofs.Lent.{recomputed-known}
 use Rattle.journal.proofs.Counting.{mode-below-6}
 use Rattle.journal.proofs.Sums.{adds-nothing, adds-counted}
@@ -33,22 +26,18 @@ record AddedTotals (ks : List Sm4Cipher) (es : List Entry) (r r′ : Report) : T
   bytesIn : r′ .«bytes_in» ≡ r .«bytes_in» + sumOf (λ e. length (e .«data»)) es
   bytesOut : r′ .«bytes_out» ≡ r .«bytes_out» + sumOf (λ e. answerNow ks e .head .size) es
 
-more : (a b c d e : ℕ) → a ≡ b + c → b ≡ d + e → a ≡ d + (e + c)
-more a b c d e p q = omega arith
-
 module _ (ks : List Sm4Cipher) where
   totals-from : (es : List Entry) (place : ℕ) (r : Report) → AddsUp r → AddedTotals ks es r (countedAll ks es place r)
   unfolding countedAll counted countIf sumOf
   totals-from [] place r a = omega arith
   totals-from (e ∷ es) place r a =
       let t = totals-from es (place + length (written e)) (countedUnder ks e place r) (adds-counted ks e place r a) in
-      let six : modePlace (e .mode) < length (r .«by_mode») = omega (arith, mode-below-6 (e .mode), a .modes) in
-      let all : answerNow ks e .head .number < length (r .«by_answer») =
-      omega (arith, recomputed-known (keyOf (e .key) ks) e, a .answers) in
+      let m = mode-below-6 (e .mode) in
+      let n = recomputed-known (keyOf (e .key) ks) e in
       record {
         records = omega (arith, t .records);
-        byMode = λ i. more _ _ _ _ _ (t .byMode i) (one-more-at (r .«by_mode») i (modePlace (e .mode)) six);
-        byAnswer = λ i. more _ _ _ _ _ (t .byAnswer i) (one-more-at (r .«by_answer») i (answerNow ks e .head .number) all);
+        byMode = λ i. omega (arith, t .byMode i, one-more-at (r .«by_mode») i (modePlace (e .mode)) (omega arith));
+        byAnswer = λ i. omega (arith, t .byAnswer i, one-more-at (r .«by_answer») i (answerNow ks e .head .number) (omega arith));
         bytesIn = omega (arith, t .bytesIn);
         bytesOut = omega (arith, t .bytesOut);
       }

@@ -6,7 +6,7 @@ use mathlib.Core.Bool.{Bool, true, false, cond}
 use mathlib.Core.List.{List, [], _∷_, _++_}
 use lib.Dec.{eqb}
 use lib.ListN.{length, getD}
-use Rattle.walk.specs.Outcome.{Outcome}
+use Rattle.cipher_mode.specs.Outcome.{Outcome}
 use Rattle.cipher_mode.specs.declared.Sm4Cipher.{Sm4Cipher}
 use Rattle.journal.specs.Format.{Entry, Proper, written, stored, tooLong}
 use Rattle.journal.specs.KeyList.{hasNumber, keyOf}

@@ -1,6 +1,7 @@
 -- The recorded calls of a journal: how they are written, one after another, and how they are read. Numbers are big-endian.
-use Prim.Native.Nat.{ℕ, zero, suc, _+_, _-_, _<_, _^_}
-use mathlib.Core.Bool.{Bool, _&&_, _||_, cond}
+use Prim.Native.Nat.{ℕ, zero, suc, _+_, _-_, _<_, _^_, _≤_}
+use mathlib.Core.Path.{_≡_}
+use mathlib.Core.Bool.{Bool, true, _&&_, _||_, cond}
 use mathlib.Core.List.{List, [], _∷_, _++_}
 use lib.Dec.{leb, ltb, eqb}
 use lib.ListN.{length, getD, take, drop}
@@ -73,6 +74,10 @@ partAt b = take (wordAt b 0) (drop 4 b)
 unfoldable pub behind : List ℕ → List ℕ
 behind b = drop (4 + wordAt b 0) b
 
+-- the same where a part stands whole, otherwise nothing
+unfoldable pub pastPart : List ℕ → List ℕ
+pastPart b = cond (startsPart b) (behind b) []
+
 -- a record b from its label on, from its data on, and so forth
 abbrev pub fromLabel : List ℕ → List ℕ
 fromLabel b = drop 6 b
@@ -107,6 +112,16 @@ startsRecord b =
     && (startsPart (fromIv b)
     && (leb 5 (length (fromRoom b))
     && startsPart (fromOutput b))))))
+
+-- what such a record tells: its parts stand whole one behind the other
+pub record Stands (b : List ℕ) : Type 0 where
+  pub long : 6 ≤ length b
+  pub mark : marked b ≡ true
+  pub label : startsPart (fromLabel b) ≡ true
+  pub «data» : startsPart (fromData b) ≡ true
+  pub iv : startsPart (fromIv b) ≡ true
+  pub middle : 5 ≤ length (fromRoom b)
+  pub output : startsPart (fromOutput b) ≡ true
 
 -- how many bytes it has; 0 where there is none
 unfoldable pub sizeAt : List ℕ → ℕ

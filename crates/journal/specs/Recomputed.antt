@@ -6,7 +6,7 @@ use mathlib.Core.List.{List}
 use lib.Dec.{ltb, eqb}
 use lib.ListN.{length, take, replicate}
 use Rattle.block.specs.Same.{same}
-use Rattle.walk.specs.Outcome.{Outcome, refuse}
+use Rattle.cipher_mode.specs.Outcome.{Outcome, refuse}
 use Rattle.cipher_mode.specs.declared.Sm4Cipher.{Sm4Cipher}
 use Rattle.cipher_mode.specs.Tables.{modeOf}
 use Rattle.cipher_mode.specs.Calls.{modeCall}

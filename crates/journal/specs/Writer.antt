@@ -4,7 +4,7 @@ use mathlib.Core.Bool.{cond}
 use mathlib.Core.List.{List, [], _++_}
 use lib.Dec.{ltb}
 use lib.ListN.{length}
-use Rattle.walk.specs.Walk.{over}
+use Rattle.block.specs.Over.{over}
 use Rattle.journal.specs.Format.{Entry, part, head, middle, written, tooLong}
 use Rattle.journal.specs.declared.writer.Call.{Call}
 use Rattle.journal.specs.declared.writer.Wrote.{Wrote}

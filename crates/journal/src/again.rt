@@ -1,8 +1,10 @@
 // A recorded call, made again.
 ghost use mathlib.Core.Path.{_≡_};
-ghost use mathlib.Core.Bool.{true, false};
+ghost use mathlib.Core.Bool.{false};
+ghost use Prim.Native.Nat.{_+_, _≤_, _<_};
+ghost use lib.ListN.{length};
 ghost use Rattle.cipher_mode.specs.Answer.{headOf};
-ghost use Rattle.journal.specs.Format.{startsRecord, front, tooLong};
+ghost use Rattle.journal.specs.Format.{Stands, front, tooLong};
 ghost use Rattle.journal.specs.Recomputed.{callInto, Answers, recomputed, differsFrom, lentRoom, judged};
 use crate::records;
 use cipher_mode::Sm4Cipher;
@@ -44,7 +46,7 @@ fn told(answer: Answer) -> Answered
 }
 
 fn call_into(cipher: Sm4Cipher, s: &[u8], out: &mut [u8]) -> Answered
-    requires { ⌜ startsRecord (now s) ≡ true ⌝ }
+    requires { ⌜ Stands (now s) ⌝ }
     ensures { λ r. ⌜ Answers r (now (out .exit)) (callInto cipher (front (now (s .entry))) (now (out .entry))) ⌝ }
 {
     let number = records::mode(s);
@@ -67,7 +69,7 @@ fn call_into(cipher: Sm4Cipher, s: &[u8], out: &mut [u8]) -> Answered
 }
 
 fn differs(s: &[u8], answered: Answered, result: &[u8]) -> bool
-    requires { ⌜ startsRecord (now s) ≡ true ⌝ }
+    requires { ⌜ Stands (now s) ⌝ }
     ensures { λ r. ⌜ r ≡ differsFrom (front (now (s .entry))) (answered .number) (answered .length) (now (result .entry)) ⌝ }
 {
     if records::number(s) as u32 != answered.number {
@@ -82,7 +84,7 @@ fn differs(s: &[u8], answered: Answered, result: &[u8]) -> bool
 
 // How much room the call is lent: never more than the longest output, whatever was recorded.
 fn lent_room(s: &[u8]) -> usize
-    requires { ⌜ startsRecord (now s) ≡ true ⌝ }
+    requires { ⌜ Stands (now s) ⌝ }
     ensures { λ r. ⌜ r ≡ lentRoom (front (now (s .entry))) ⌝ }
 {
     let room = records::room(s) as usize;
@@ -97,9 +99,11 @@ fn longest_output() -> [u8; records::OUTPUT_LIMIT] {
 }
 
 pub(crate) fn recompute(cipher: Sm4Cipher, s: &[u8]) -> Recomputed
-    requires { ⌜ startsRecord (now s) ≡ true ⌝ }
+    requires { ⌜ Stands (now s) ⌝ }
     requires { ⌜ tooLong (front (now s)) ≡ false ⌝ }
     ensures { λ r. ⌜ r ≡ judged (front (now (s .entry))) (recomputed cipher (front (now (s .entry)))) ⌝ }
+    ensures { λ r. ⌜ r .number < 27 ⌝ }
+    ensures { λ r. ⌜ r .length ≤ 16 + length (front (now (s .entry)) .«data») ⌝ }
 {
     let mut out = longest_output();
     let n = lent_room(s);

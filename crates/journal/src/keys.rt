@@ -1,9 +1,11 @@
 // The keys of a replay.
 ghost use mathlib.Core.Path.{_≡_};
 ghost use Prim.Native.Nat.{_+_, _≤_, _<_};
+ghost use mathlib.Core.List.{_∷_};
+ghost use lib.Dec.{ltb};
 ghost use lib.ListN.{drop};
 ghost use Rattle.cipher_mode.specs.Key.{keyNumber};
-ghost use Rattle.journal.specs.KeyList.{keysIn, placeOf, keyAt, anyRetired, numberTwice, badKeys};
+ghost use Rattle.journal.specs.KeyList.{keysIn, placeOf, hasNumber, keyAt, badKeys};
 use cipher_mode::Sm4Cipher;
 
 // The most keys of a replay.
@@ -27,6 +29,7 @@ pub(crate) fn at(keys: Keys, i: usize) -> Sm4Cipher
     requires { ⌜ i < keys .count ⌝ }
     requires { ⌜ keys .count ≤ 8 ⌝ }
     ensures { λ r. ⌜ r ≡ keyAt (keysIn keys) i ⌝ }
+    ensures { λ r. ⌜ drop i (keysIn keys) ≡ r ∷ drop (i + 1) (keysIn keys) ⌝ }
 {
     let all = keys.keys;
     all[i]
@@ -37,6 +40,7 @@ fn find_from(keys: Keys, from: usize, number: u16) -> usize
     requires { ⌜ from ≤ keys .count ⌝ }
     requires { ⌜ keys .count ≤ 8 ⌝ }
     ensures { λ r. ⌜ r ≡ from + placeOf number (drop from (keysIn keys)) ⌝ }
+    ensures { λ r. ⌜ ltb r (keys .count) ≡ hasNumber number (drop from (keysIn keys)) ⌝ }
 {
     let mut i = from;
     while i < keys.count {
@@ -51,38 +55,9 @@ fn find_from(keys: Keys, from: usize, number: u16) -> usize
 pub(crate) fn find(keys: Keys, number: u16) -> usize
     requires { ⌜ keys .count ≤ 8 ⌝ }
     ensures { λ r. ⌜ r ≡ placeOf number (keysIn keys) ⌝ }
+    ensures { λ r. ⌜ ltb r (keys .count) ≡ hasNumber number (keysIn keys) ⌝ }
 {
     find_from(keys, 0, number)
-}
-
-fn any_retired(keys: Keys) -> bool
-    requires { ⌜ keys .count ≤ 8 ⌝ }
-    ensures { λ r. ⌜ r ≡ anyRetired (keysIn keys) ⌝ }
-{
-    let mut i = 0;
-    while i < keys.count {
-        let key = at(keys, i);
-        if key.retired {
-            return true;
-        }
-        i += 1;
-    }
-    false
-}
-
-fn number_twice(keys: Keys) -> bool
-    requires { ⌜ keys .count ≤ 8 ⌝ }
-    ensures { λ r. ⌜ r ≡ numberTwice (keysIn keys) ⌝ }
-{
-    let mut i = 0;
-    while i < keys.count {
-        let number = number_of(at(keys, i));
-        i += 1;
-        if find_from(keys, i, number) < keys.count {
-            return true;
-        }
-    }
-    false
 }
 
 // Over eight keys, a retired one, or a number twice.
@@ -92,8 +67,17 @@ pub fn bad(keys: Keys) -> bool
     if keys.count > MOST {
         return true;
     }
-    if any_retired(keys) {
-        return true;
+    let mut i = 0;
+    while i < keys.count {
+        let key = at(keys, i);
+        if key.retired {
+            return true;
+        }
+        let number = number_of(key);
+        i += 1;
+        if find_from(keys, i, number) < keys.count {
+            return true;
+        }
     }
-    number_twice(keys)
+    false
 }

@@ -114,7 +114,8 @@ pub fn replay(keys: Keys, journal: &[u8]) -> Replayed
         }
         report = one.report;
         let n = records::measure(t);
-        t = &t[n..];
+        let next = records::skip(t, n);
+        t = next;
         place += n;
     }
     let ended = Ended::Done;

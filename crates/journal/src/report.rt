@@ -1,9 +1,8 @@
 // The report of a replay, as a running value.
 ghost use mathlib.Core.Path.{_≡_};
-ghost use mathlib.Core.Bool.{true};
 ghost use Prim.Native.Nat.{_+_, _≤_, _<_, _^_};
 ghost use lib.ListN.{length, getD};
-ghost use Rattle.journal.specs.Format.{startsRecord, front};
+ghost use Rattle.journal.specs.Format.{Stands, front};
 ghost use Rattle.journal.specs.Reports.{nothing, oneMore, modePlace, firstOf, counted, Within};
 use crate::again::Recomputed;
 use crate::records;
@@ -46,6 +45,7 @@ pub fn nothing() -> Report
 
 fn mode_place(mode: u8) -> usize
     ensures { λ r. ⌜ r ≡ modePlace mode ⌝ }
+    ensures { λ r. ⌜ r < 6 ⌝ }
 {
     if mode > 4 {
         return 5;
@@ -79,7 +79,7 @@ fn first_of(differs: bool, index: u64, place: usize, first: Difference) -> Diffe
 
 // The report with one more record, which stands at `place`.
 pub(crate) fn counted(s: &[u8], x: Recomputed, place: usize, r: Report) -> Report
-    requires { ⌜ startsRecord (now s) ≡ true ⌝ }
+    requires { ⌜ Stands (now s) ⌝ }
     requires { ⌜ x .number < 27 ⌝ }
     requires { ⌜ x .length ≤ 16 + length (front (now s) .«data») ⌝ }
     requires { ⌜ Within place r ⌝ }

@@ -2,7 +2,7 @@
 ghost use mathlib.Core.Path.{_≡_};
 ghost use Prim.Native.Nat.{_+_, _≤_};
 ghost use lib.ListN.{length};
-ghost use Rattle.walk.specs.Walk.{over};
+ghost use Rattle.block.specs.Over.{over};
 ghost use Rattle.journal.specs.Format.{directionByte, part};
 ghost use Rattle.journal.specs.Writer.{headOf, middleOf, askedOf, answeredOf, entryOf, write};
 use crate::records;

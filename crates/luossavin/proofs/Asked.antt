@@ -1,6 +1,6 @@
 -- A question with one candidate, of six bytes: its verdict, as an answer, is what is asked of a job and an edition.
 use Rattle.block.proofs.Base.{ℕ, _≡_, refl, sym, Bool, cond, false, true, List, [], _∷_, arith, ne-eqb, eqb, length, take-all}
-use Rattle.walk.specs.Outcome.{Head, under, finished, refusal}
+use Rattle.cipher_mode.specs.Outcome.{Head, under, finished, refusal}
 use Rattle.cipher_mode.specs.declared.Sm4Cipher.{Sm4Cipher}
 use Rattle.cipher_mode.specs.declared.CipherMode.the-variants.{Gcm}
 use Rattle.cipher_mode.specs.declared.Direction.the-variants.{Decrypt}
@@ -39,20 +39,6 @@ pub asked-ended : (f : Found) → under (f .key) (endedHead 4 (f .ended)) ≡ to
 asked-ended f = sym (to-one (f .ended) f refl)
 
 module _ (c : Sm4Cipher) (label file iv : List ℕ) (six : length label ≡ 6) where
-  no-bad-list : badList label (6 ∷ []) ≡ false
-  unfolding badList sum
-  no-bad-list = rw (six)
-
-  the-checks : searchCheck (c .answer) (c .retired) (length iv) (length file) (6 ∷ [])
-      ≡ andThen (keyAndIv (c .answer) (c .retired) Decrypt Gcm (length iv)) (dataCheck Decrypt Gcm (length file))
-  unfolding searchCheck anyTooLong
-  the-checks = refl
-
-  the-search : firstOpening (opensWith c iv file) label (6 ∷ []) 0 0
-      ≡ cond (opensWith c iv file label) (foundAt 0 0 6) (noneWith (finished 0))
-  unfolding firstOpening
-  the-search = rw (take-all 6 label (omega (arith, six)))
-
   answered : (k : Checked) (t : Bool)
       → toOne (onKey (keyNumber c) (checkedVerdict k (cond t (foundAt 0 0 6) (noneWith (finished 0)))))
       ≡ under (keyNumber c) (checkedHead k (cond t (finished 0) (refusal 4)))
@@ -61,8 +47,8 @@ module _ (c : Sm4Cipher) (label file iv : List ℕ) (six : length label ≡ 6) w
   answered (Refused r) t = rw (ne-eqb _ _ (refuses r .not-zero))
 
   pub one-candidate : toOne (which c file iv label (6 ∷ [])) ≡ under (keyNumber c) (opensHead c label file iv)
-  unfolding which opensHead
+  unfolding which opensHead badList sum searchCheck anyTooLong firstOpening
   one-candidate =
-      rw (no-bad-list, the-checks, the-search)
+      rw (six, take-all 6 label (omega (arith, six)))
       (answered (andThen (keyAndIv (c .answer) (c .retired) Decrypt Gcm (length iv)) (dataCheck Decrypt Gcm (length file)))
       (opensWith c iv file label))

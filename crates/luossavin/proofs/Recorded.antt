@@ -1,8 +1,7 @@
 -- What a writer of records leaves, as a call's outcome.
 use Rattle.block.proofs.Base.{ℕ, _≡_, refl, Bool, cond, false, true, List, ltb, length}
-use Rattle.walk.specs.Outcome.{Outcome, leaving, refuse, done}
-use Rattle.walk.specs.Walk.{over}
-use Rattle.cipher_mode.specs.declared.Direction.{Direction}
+use Rattle.cipher_mode.specs.Outcome.{Outcome, leaving, refuse, done}
+use Rattle.block.specs.Over.{over}
 use Rattle.journal.specs.Format.{Entry, written, tooLong}
 use Rattle.journal.specs.Writer.{Leaves, write}
 use Rattle.journal.specs.declared.writer.Wrote.the-variants.{Done, TooLong, NoRoom}
@@ -22,11 +21,3 @@ by-tests false false p o = refl
 pub written-recorded : (e : Entry) (o : List ℕ) → leavesOutcome (write e o) ≡ recorded e o
 unfolding write recorded
 written-recorded e o = by-tests (tooLong e) (ltb (length o) (length (written e))) (written e) o
-
--- entries whose fields are the same
-pub same-entry : {dir dir′ : Direction} {m m′ r r′ n n′ : ℕ} (key : ℕ) (label d iv output : List ℕ) → dir ≡ dir′ → m ≡ m′ → r ≡ r′
-    → n ≡ n′
-    → _≡_ {A = Entry}
-    (record { direction = dir; mode = m; key = key; label = label; «data» = d; iv = iv; room = r; number = n; output = output })
-    (record { direction = dir′; mode = m′; key = key; label = label; «data» = d; iv = iv; room = r′; number = n′; output = output })
-same-entry key label d iv output p q u v = rw (p, q, u, v)

@@ -1,6 +1,6 @@
 -- A host's answer is the call's: the same report, the same output, and in pieces the same state.
 use Rattle.block.proofs.Base.{ℕ, _∙_, _≡_, ap, refl, List}
-use Rattle.walk.specs.Outcome.{Head, Outcome, leaving}
+use Rattle.cipher_mode.specs.Outcome.{Head, Outcome, leaving}
 use Rattle.pieces.specs.Calls.{Stepped}
 use Rattle.pieces.proofs.Stepping.{step, same-step}
 

@@ -1,11 +1,8 @@
 -- A number tells its halves.
-use Rattle.block.proofs.Base.{ℕ, _∙_, _≡_, ap, ap₂, sym, digits-div, digits-mod, w64, Fits}
+use Rattle.block.proofs.Base.{ℕ, _≡_, digits-div, digits-mod, w64, Fits}
 use Rattle.block.specs.Wide.{value}
 use Rattle.block.specs.declared.U128.{U128}
 use Rattle.luossavin.specs.Halves.{hashOf}
 
 pub of-value : (r : U128) {n : ℕ} → Fits w64 (r .low) → value r ≡ n → r ≡ hashOf n
-of-value r small e =
-    ap₂ {C = U128} (λ (a b : ℕ). record { high = a; low = b }) (sym (digits-div (r .high) (small .fits)))
-    (sym (digits-mod (r .high) (small .fits)))
-    ∙ ap hashOf e
+of-value r small e = rw (← e, digits-div (r .high) (small .fits), digits-mod (r .high) (small .fits))

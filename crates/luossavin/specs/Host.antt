@@ -2,7 +2,7 @@
 use Prim.Native.Nat.{ℕ}
 use mathlib.Core.List.{List}
 use lib.Dec.{ltb}
-use Rattle.walk.specs.Outcome.{Head, Outcome, leaving, refuse}
+use Rattle.cipher_mode.specs.Outcome.{Head, Outcome, leaving, refuse}
 use Rattle.cipher_mode.specs.declared.Direction.{Direction}
 use Rattle.cipher_mode.specs.declared.Sm4CipherMode.{Sm4CipherMode}
 use Rattle.cipher_mode.specs.Tables.{modeOf}

@@ -2,7 +2,7 @@
 use Prim.Native.Nat.{ℕ}
 use mathlib.Core.Bool.{Bool}
 use mathlib.Core.List.{List}
-use Rattle.walk.specs.Outcome.{Head, Outcome, refusal}
+use Rattle.cipher_mode.specs.Outcome.{Head, Outcome, refusal}
 use Rattle.ranges.specs.declared.plan.Making.{Making}
 use Rattle.ranges.specs.declared.plan.Making.the-variants.{Made, BadWorkers, TooLong}
 use Rattle.ranges.specs.declared.plan.Plan.{Plan}

@@ -4,7 +4,7 @@ use mathlib.Core.Bool.{Bool, cond}
 use mathlib.Core.List.{List}
 use lib.Dec.{ltb}
 use lib.ListN.{length}
-use Rattle.walk.specs.Outcome.{Head, Outcome, finished, refusal, refuse, done}
+use Rattle.cipher_mode.specs.Outcome.{Head, Outcome, finished, refusal, refuse, done}
 use Rattle.journal.specs.Format.{Entry, written, tooLong}
 use Rattle.journal.specs.declared.writer.Wrote.{Wrote}
 use Rattle.journal.specs.declared.writer.Wrote.the-variants.{Done, TooLong, NoRoom}

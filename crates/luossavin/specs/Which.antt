@@ -3,7 +3,7 @@
 use Prim.Native.Nat.{ℕ}
 use mathlib.Core.Bool.{cond}
 use mathlib.Core.List.{List}
-use Rattle.walk.specs.Outcome.{Head, finished, refusal}
+use Rattle.cipher_mode.specs.Outcome.{Head, finished, refusal}
 use Rattle.cipher_mode.specs.Answer.{refusalHead}
 use Rattle.editions.specs.Which.{Verdict, which}
 use Rattle.editions.specs.declared.Ended.{Ended}

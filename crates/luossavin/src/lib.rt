@@ -11,7 +11,7 @@ mod which;
 mod workers;
 
 ghost use mathlib.Core.Path.{_≡_};
-ghost use Rattle.walk.specs.Outcome.{under, refusal};
+ghost use Rattle.cipher_mode.specs.Outcome.{under, refusal};
 ghost use Rattle.cipher_mode.specs.Answer.{headOf};
 ghost use Rattle.luossavin.specs.Host.{headIn, reported, modeIn, hostBlockCall, hostModeCall};
 use cipher_mode::Direction;

@@ -1,7 +1,7 @@
 // Which of many labels a file opens under, for a host. The part of the lent buffer crosses as its start and length, since no
 // reference does.
 ghost use mathlib.Core.Path.{_≡_};
-ghost use Rattle.walk.specs.Outcome.{under};
+ghost use Rattle.cipher_mode.specs.Outcome.{under};
 ghost use Rattle.luossavin.specs.Host.{headIn};
 ghost use Rattle.luossavin.specs.Which.{endedHead, foundReported, hostWhich};
 use crate::LuossavinAnswer;

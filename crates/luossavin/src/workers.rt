@@ -1,6 +1,6 @@
 // Ranges and plans, for a host: the calls of the crate `ranges` on the host's record.
 ghost use mathlib.Core.Path.{_≡_};
-ghost use Rattle.walk.specs.Outcome.{under};
+ghost use Rattle.cipher_mode.specs.Outcome.{under};
 ghost use Rattle.ranges.specs.ByPlan.{endedHead};
 ghost use Rattle.ranges.specs.Plan.{accepts};
 ghost use Rattle.luossavin.specs.Host.{headIn, reported};

@@ -1,8 +1,7 @@
 -- The full blocks of a text and what is begun behind them, also where the text goes on.
-use Rattle.block.proofs.Base.{_%_, _*_, _+_, _-_, _/_, _≤_, ℕ, _≡_, List, _++_, arith, drop, length, length-append, length-drop, take}
-use Rattle.block.proofs.Base.{take-append-drop, drop-append-add, length-take-le}
-use lib.Seq.{take-append-add}
-use Rattle.pieces.specs.Hashing.{fullPart, begunPart}
+use Rattle.pieces.proofs.Names.{List, _%_, _*_, _++_, _+_, _-_, _/_, _∙_, _≡_, _≤_, ap, append-assoc, arith, begunPart, drop}
+use Rattle.pieces.proofs.Names.{drop-append-add, fullPart, length, length-append, length-drop, length-take-le, sym, take}
+use Rattle.pieces.proofs.Names.{take-append-add, take-append-drop, ℕ}
 
 pub full-length : (c : List ℕ) → length (fullPart c) ≡ 16 * (length c / 16)
 full-length c = length-take-le (16 * (length c / 16)) c (omega arith)
@@ -12,6 +11,10 @@ begun-length c = rw length-drop (omega arith)
 
 pub both-parts : (c : List ℕ) → fullPart c ++ begunPart c ≡ c
 both-parts c = take-append-drop (16 * (length c / 16)) c
+
+-- and a text behind
+pub parts-behind : (c e : List ℕ) → c ++ e ≡ fullPart c ++ (begunPart c ++ e)
+parts-behind c e = ap (λ (l : List ℕ). l ++ e) (sym (both-parts c)) ∙ append-assoc (fullPart c) (begunPart c) e
 
 -- a cut of a ++ x behind a, and a cut behind full blocks a
 module _ (a x : List ℕ) where

@@ -1,5 +1,5 @@
 -- Of two numbers, either the first is the smaller, or it is not.
-use Rattle.block.proofs.Base.{_<_, _≤_, ℕ, _≡_, refl, Bool, false, true, ltb-false, ltb-true, ltb}
+use Rattle.pieces.proofs.Names.{Bool, _<_, _≡_, _≤_, false, ltb, ltb-false, ltb-true, refl, true, ℕ}
 
 pub by-order : {P : Type 0} (a b : ℕ) → (a < b → P) → (b ≤ a → P) → P
 by-order {P} a b less more = by (ltb a b) refl

@@ -1,23 +1,9 @@
 -- Ctr in pieces, cut anywhere, is the single call's: what the pieces give is what their join gives.
-use Rattle.block.proofs.Base.{_+_, _≤_, ℕ, _≡_, List, [], _++_, add-zero, arith, drop, length, length-append, drop-at}
-use Rattle.counter.specs.CameRound.{blocksOf, ctrCameRound}
-use Rattle.walk.specs.Outcome.{finished, under, telling}
-use Rattle.walk.specs.Walk.{chain, over}
-use Rattle.stream.specs.Stream.{streamMode}
-use Rattle.stream.specs.declared.Kind.the-variants.{Ctr as Ctr·kind}
-use Rattle.stream.proofs.RoundTrip.{length-stream}
-use Rattle.cipher_mode.specs.declared.CipherMode.the-variants.{Ctr as Ctr·mode}
-use Rattle.cipher_mode.specs.declared.Direction.{Direction}
-use Rattle.cipher_mode.specs.declared.Sm4Cipher.{Sm4Cipher}
-use Rattle.cipher_mode.specs.declared.checks.Checked.the-variants.{Passed}
-use Rattle.cipher_mode.specs.Key.{keyNumber}
-use Rattle.cipher_mode.specs.Checks.{keyAndIv}
-use Rattle.cipher_mode.specs.Tables.{limit}
-use Rattle.pieces.specs.declared.flow.Counting.the-variants.{Ctr as Ctr·counting}
-use Rattle.pieces.specs.declared.ctr.Ctr.{Ctr}
-use Rattle.pieces.specs.States.{ctrAfter, ctrShut}
-use Rattle.pieces.specs.Calls.{ended, ctrStart, ctrPiece, ctrEnd}
-use Rattle.pieces.proofs.KeyStream.{flow-on, text-on}
+use Rattle.pieces.proofs.Names.{Ctr, Ctr·counting, Ctr·kind, Ctr·mode, Direction, List, Passed, Sm4Cipher, [], _++_, _+_, _≡_, _≤_}
+use Rattle.pieces.proofs.Names.{add-zero, arith, blocksOf, chain, ctrAfter, ctrCameRound, ctrEnd, ctrPiece, ctrShut, ctrStart, drop}
+use Rattle.pieces.proofs.Names.{ended, finished, keyAndIv, keyNumber, length, length-append, limit, over, streamMode, telling, under}
+use Rattle.pieces.proofs.Names.{ℕ}
+use Rattle.pieces.proofs.KeyStream.{flow-on, text-behind, text-joined}
 use Rattle.pieces.proofs.Passing.{running-passes, writing-passes}
 use Rattle.pieces.proofs.Stepping.{step}
 
@@ -34,9 +20,7 @@ module _ (rk iv d : List ℕ) where
 
   -- what d gave stands before it
   pub ctr-joined : (e : List ℕ) → chain (streamMode Ctr·kind rk) iv d ++ ctrStretch e ≡ chain (streamMode Ctr·kind rk) iv (d ++ e)
-  ctr-joined e =
-      let m = streamMode Ctr·kind rk in
-      rw (text-on Ctr·counting rk iv d e, drop-at (chain m iv d) _ (length d) (length-stream Ctr·kind rk iv d))
+  ctr-joined e = text-joined Ctr·counting rk iv d e
 
 module _ (k mark : ℕ) (rk iv d : List ℕ) where
   -- a piece e behind d gives its stretch of the single call on both, and the state after both
@@ -46,8 +30,7 @@ module _ (k mark : ℕ) (rk iv d : List ℕ) where
   unfolding ctrPiece ctrAfter
   ctr-goes-on e o within room =
       rw (writing-passes 0 (length d) (omega arith) (length e) (length e) (length o) within room, flow-on Ctr·counting rk iv d e)
-      (rw (length-append d e, text-on Ctr·counting rk iv d e)
-      (rw (drop-at (chain (streamMode Ctr·kind rk) iv d) _ (length d) (length-stream Ctr·kind rk iv d))))
+      (rw (length-append d e, text-behind Ctr·counting rk iv d e))
 
   -- the end is done, and tells of the counter what the single call does; then every call is refused by 12
   pub ctr-ended : length d ≤ limit

@@ -1,11 +1,6 @@
 -- Blocks as arrays hand them over: so many entries, each of which fits its type.
-use Rattle.block.proofs.Base.{_^_, ℕ, _≡_, List, getD, length, w32, w8, Fits}
-use Rattle.block.specs.Below.{AreBytes}
-use Rattle.block.specs.Words.{words, unwords}
-use Rattle.block.proofs.Entries.{below-each}
-use Rattle.block.proofs.WordsBack.{unwords-words}
-use Rattle.cipher.specs.Sm4.{encryptWords, encryptBlock}
-use Rattle.cipher.proofs.Blocks.{encrypt-unwords}
+use Rattle.pieces.proofs.Names.{AreBytes, Fits, List, _^_, _≡_, below-each, encrypt-unwords, encryptBlock, encryptWords, getD}
+use Rattle.pieces.proofs.Names.{length, unwords, unwords-words, w32, w8, words, ℕ}
 
 -- sixteen bytes
 abbrev pub Sixteen : List ℕ → Type 0

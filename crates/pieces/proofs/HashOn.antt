@@ -1,17 +1,10 @@
 -- The hash cut anywhere: from the hash after a text, what is behind it goes on as in the whole.
-use Rattle.block.proofs.Base.{_%_, _*_, _/_, _<_, ℕ, _∙_, _≡_, ap, refl, sym, List, [], _++_, _∷_, append-assoc, mod-eq-of-lt, mod-lt}
-use Rattle.block.proofs.Base.{arith, lit<, length, replicate, take, take-at}
-use lib.Seq.{take-take}
-use Rattle.block.specs.Below.{AreBytes}
-use Rattle.block.specs.BigEndian.{numberOf, bytesOf}
-use Rattle.block.proofs.Convert.{bytesOf-numberOf, numberOf-bytesOf}
-use Rattle.field.specs.Field.{Element}
-use Rattle.ghash.specs.Ghash.{blocks, lengthBlock, authBlocks, hashFrom, ghash}
-use Rattle.ghash.proofs.Blocks.{blocks-nil, blocks-append}
-use Rattle.ghash.proofs.Join.{hash-append, hashFrom-lt, ghash-lt}
-use Rattle.pieces.specs.declared.hashing.Hashing.{Hashing}
-use Rattle.pieces.specs.Hashing.{fullPart, begunPart, filledUp, hashAfter, hashOf, hashNext, hashEnd}
-use Rattle.pieces.proofs.Begun.{full-length, begun-length, both-parts, full-behind, begun-behind}
+use Rattle.pieces.proofs.Names.{AreBytes, Element, Hashing, List, [], _%_, _*_, _++_, _/_, _<_, _∙_, _∷_, _≡_, ap, append-assoc}
+use Rattle.pieces.proofs.Names.{arith, authBlocks, begunPart, blocks, blocks-append, blocks-nil, bytesOf, bytesOf-numberOf, filledUp}
+use Rattle.pieces.proofs.Names.{fullPart, ghash, ghash-lt, hash-append, hashAfter, hashEnd, hashFrom, hashFrom-lt, hashNext, hashOf}
+use Rattle.pieces.proofs.Names.{length, lengthBlock, lit<, mod-eq-of-lt, mod-lt, numberOf, numberOf-bytesOf, sym, take, take-all, ℕ}
+use Rattle.pieces.proofs.Filling.{filled-front}
+use Rattle.pieces.proofs.Begun.{full-length, begun-length, both-parts, parts-behind, full-behind, begun-behind}
 
 -- sixteen bytes are those of the number that they spell, and the other way round
 respelled : (b : List ℕ) → length b ≡ 16 → AreBytes b → bytesOf 16 (numberOf b) ≡ b
@@ -48,10 +41,7 @@ module _ (h y c : List ℕ) (eh : Element (numberOf h)) (ey : Element (numberOf 
 
   -- what is held before the place where the text ended
   held-is : take (length c % 16) (filledUp b) ≡ b
-  unfolding filledUp
-  held-is =
-      let n = begun-length c in
-      rw (← n) (take-take (length b) 16 (b ++ replicate 16 0) (omega arith) ∙ take-at b _ (length b) refl)
+  held-is = let n = begun-length c in filled-front b (length c % 16) (omega arith) (omega arith) ∙ take-all (length c % 16) b (omega arith)
 
   -- the hash after c and then e is that after both
   pub hash-on : (e : List ℕ) → hashNext (hashAfter h y c) (length c % 16) e ≡ hashAfter h y (c ++ e)
@@ -59,9 +49,8 @@ module _ (h y c : List ℕ) (eh : Element (numberOf h)) (ey : Element (numberOf 
   hash-on e =
       let k = length c / 16 in
       let n = full-length c in
-      let whole : c ++ e ≡ a ++ (b ++ e) = ap (λ (l : List ℕ). l ++ e) (sym (both-parts c)) ∙ append-assoc a b e in
-      rw (held-is, so-far, whole, full-behind a (b ++ e) k n, begun-behind a (b ++ e) k n, blocks-append k a (fullPart (b ++ e)) n)
-      (rw (hash-append (numberOf h) (numberOf y) (blocks a) (blocks (fullPart (b ++ e)))))
+      rw (held-is, so-far, parts-behind c e, full-behind a (b ++ e) k n, begun-behind a (b ++ e) k n)
+      (rw (blocks-append k a (fullPart (b ++ e)) n, hash-append (numberOf h) (numberOf y) (blocks a) (blocks (fullPart (b ++ e)))))
 
   -- and at the end all blocks of c are hashed
   pub hash-ends : (label text : ℕ)

@@ -1,21 +1,13 @@
 -- Key stream cut anywhere: from the flow after a text, what is behind it goes on as in the whole.
-use Rattle.block.proofs.Base.{_%_, _-_, _<_, ℕ, _∙_, _≡_, ap, refl, sym, List, [], _++_, append-assoc, append-nil, arith, le-ltb, lt-ltb}
-use Rattle.block.proofs.Base.{drop, drop-of-length-le, length, length-append, length-drop, take}
-use Rattle.block.specs.Xor.{xors}
-use Rattle.cipher.specs.Sm4.{encryptBlock}
-use Rattle.cipher.proofs.Blocks.{length-encryptBlock}
-use Rattle.walk.specs.Walk.{Mode, chain, endState}
-use Rattle.walk.proofs.Chain.{chain-rest, chain-block}
-use Rattle.walk.proofs.Cut.{end-rest, end-block, end-cut, chain-cut}
-use Rattle.stream.proofs.RoundTrip.{length-stream}
-use Rattle.pieces.specs.declared.flow.Counting.{Counting}
-use Rattle.pieces.specs.declared.flow.Counting.the-variants.{Ctr, Gcm}
-use Rattle.pieces.specs.declared.flow.Flow.{Flow}
-use Rattle.pieces.specs.Flow.{kindOf, nextCounter, flowMode, flowAt, flowAfter, flowText, flowNext}
-use Rattle.pieces.specs.Hashing.{fullPart, begunPart}
+use Rattle.pieces.proofs.Names.{Counting, Flow, Gcm, List, Mode, [], _%_, _++_, _-_, _<_, _∙_, _≡_, ap, append-assoc, append-nil}
+use Rattle.pieces.proofs.Names.{arith, begunPart, chain, chain-block, chain-cut, chain-rest, drop, drop-at, drop-of-length-le}
+use Rattle.pieces.proofs.Names.{encryptBlock, end-block, end-cut, end-rest, endState, flowAfter, flowAt, flowMode, flowNext}
+use Rattle.pieces.proofs.Names.{flowText, fullPart, kindOf, le-ltb, length, length-append, length-drop, length-encryptBlock}
+use Rattle.pieces.proofs.Names.{length-stream, lt-ltb, nextCounter, refl, sym, take, xors, ℕ}
+use Rattle.pieces.specs.declared.flow.Counting.the-variants.{Ctr}
 use Rattle.pieces.proofs.Cases.{by-order}
 use Rattle.pieces.proofs.Pads.{xors-front, xors-cut, length-both}
-use Rattle.pieces.proofs.Begun.{full-length, begun-length, both-parts, take-through, drop-through}
+use Rattle.pieces.proofs.Begun.{full-length, begun-length, both-parts, parts-behind, take-through, drop-through}
 
 -- the next state is the next counter, whatever the block is
 counts : (c : Counting) (rk s b : List ℕ) → flowMode c rk .next s b ≡ nextCounter c s
@@ -56,9 +48,9 @@ module _ (c : Counting) (rk : List ℕ) where
         let left = length-drop (length b) pad in
         by-order (length e) (16 - length b)
         (λ h. rw (chain-rest m s (b ++ e) (omega arith), chain-rest m s b low, text-short (flowAt rk s) (length b) e h)
-        (xors-cut b e pad (omega arith)))
+        (xors-cut b e pad))
         (λ h. rw (chain-block m s (b ++ e) (omega arith), chain-rest m s b low, counts c rk s (take 16 (b ++ e)))
-        (rw (take-through b e 16 (omega arith), drop-through b e 16 (omega arith), xors-cut b (take (16 - length b) e) pad (omega arith))
+        (rw (take-through b e 16 (omega arith), drop-through b e 16 (omega arith), xors-cut b (take (16 - length b) e) pad)
         (rw (xors-front (16 - length b) e (drop (length b) pad) (omega arith), append-assoc))))
 
     next-begun : flowNext c rk (flowAt rk s) (length b) e ≡ flowAfter c rk s (b ++ e)
@@ -86,18 +78,23 @@ module _ (c : Counting) (rk : List ℕ) where
         ap {B = Flow} (flowAt rk)
         (ap (endState m s) (sym (both-parts d)) ∙ end-cut m (begunPart d) s (fullPart d) full ∙ end-rest m t (begunPart d) low)
 
-    whole : d ++ e ≡ fullPart d ++ (begunPart d ++ e)
-    whole = ap (λ (l : List ℕ). l ++ e) (sym (both-parts d)) ∙ append-assoc (fullPart d) (begunPart d) e
-
     -- the flow after d and then e is that after both
     pub flow-on : flowNext c rk (flowAfter c rk s d) (length d % 16) e ≡ flowAfter c rk s (d ++ e)
     unfolding flowAfter
-    flow-on = rw (whole, end-cut m (begunPart d ++ e) s (fullPart d) full, here, ← begun-length d) (next-begun t (begunPart d) e low)
+    flow-on =
+        rw (parts-behind d e, end-cut m (begunPart d ++ e) s (fullPart d) full, here, ← begun-length d) (next-begun t (begunPart d) e low)
 
     -- and what e gives there is its stretch of what both give
     pub text-on : chain (flowMode c rk) s (d ++ e) ≡ chain (flowMode c rk) s d ++ flowText c rk (flowAfter c rk s d) (length d % 16) e
     text-on =
         let before : chain m s d ≡ chain m s (fullPart d) ++ chain m t (begunPart d) =
         ap (chain m s) (sym (both-parts d)) ∙ chain-cut m (begunPart d) (λ _. refl) s (fullPart d) full in
-        rw (whole, before, here, ← begun-length d, chain-cut m (begunPart d ++ e) (λ _. refl) s (fullPart d) full)
+        rw (parts-behind d e, before, here, ← begun-length d, chain-cut m (begunPart d ++ e) (λ _. refl) s (fullPart d) full)
         (rw (text-begun t (begunPart d) e low, append-assoc))
+
+    -- so from e's first byte on both give that stretch, and what d gave stands before it
+    pub text-behind : drop (length d) (chain (flowMode c rk) s (d ++ e)) ≡ flowText c rk (flowAfter c rk s d) (length d % 16) e
+    text-behind = rw (text-on, drop-at (chain m s d) _ (length d) (length-stream (kindOf c) rk s d))
+
+    pub text-joined : chain (flowMode c rk) s d ++ drop (length d) (chain (flowMode c rk) s (d ++ e)) ≡ chain (flowMode c rk) s (d ++ e)
+    text-joined = rw text-behind (sym text-on)

@@ -1,19 +1,8 @@
 -- Opening in pieces, cut anywhere, answers as the single call does: yes exactly where the joined pieces open with the tag.
-use Rattle.block.proofs.Base.{_+_, _≤_, ℕ, _≡_, cond, List, [], _++_, add-zero, length, length-append}
-use Rattle.walk.specs.Outcome.{Head, finished, refusal, under, telling}
-use Rattle.gcm.specs.Gcm.{hashKey, J0, tagOf, opensUnder}
-use Rattle.gcm.proofs.HashKey.{hashKey-lt}
-use Rattle.gcm.proofs.Parts.{parts-text, parts-tag}
-use Rattle.cipher_mode.specs.declared.Direction.the-variants.{Decrypt}
-use Rattle.cipher_mode.specs.declared.Sm4Cipher.{Sm4Cipher}
-use Rattle.cipher_mode.specs.declared.checks.Checked.the-variants.{Passed}
-use Rattle.cipher_mode.specs.Key.{keyNumber}
-use Rattle.cipher_mode.specs.Tables.{limit}
-use Rattle.cipher_mode.specs.Calls.{gcmRound}
-use Rattle.pieces.specs.declared.opens.Opens.{Opens}
-use Rattle.pieces.specs.Checks.{gcmStarting}
-use Rattle.pieces.specs.States.{opensAfter, opensShut}
-use Rattle.pieces.specs.Calls.{ended, opensStart, opensPiece, opensEnd}
+use Rattle.pieces.proofs.Names.{Decrypt, Head, J0, List, Opens, Passed, Sm4Cipher, [], _++_, _+_, _≡_, _≤_, add-zero, cond, ended}
+use Rattle.pieces.proofs.Names.{finished, gcmRound, gcmStarting, hashKey, hashKey-lt, keyNumber, length, length-append, limit}
+use Rattle.pieces.proofs.Names.{opensAfter, opensEnd, opensPiece, opensShut, opensStart, opensUnder, parts-tag, parts-text, refusal}
+use Rattle.pieces.proofs.Names.{tagOf, telling, under, ℕ}
 use Rattle.pieces.proofs.HashOn.{hash-on-of, hash-ends-of}
 use Rattle.pieces.proofs.Passing.{running-passes, tagged-passes}
 use Rattle.pieces.proofs.Stepping.{step}

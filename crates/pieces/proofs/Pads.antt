@@ -1,29 +1,35 @@
 -- A text xored with a pad that is shorter or longer: as far as both go, in two parts, and byte by byte.
-use Rattle.block.proofs.Base.{_+_, _-_, _<_, _≤_, min, suc, zero, ℕ, _∙_, _≡_, ap, ap₂, refl, sym, List, [], _++_, _∷_, arith, drop, getD}
-use Rattle.block.proofs.Base.{length, length-drop, set, take, take-nil}
-use lib.Seq.{getD-drop}
-use Rattle.block.specs.Xor.{_⊕_, xors}
-use Rattle.walk.specs.Walk.{over}
-use Rattle.walk.proofs.Fill.{xor-turn}
+use Rattle.pieces.proofs.Names.{List, [], _++_, _+_, _-_, _<_, _∙_, _∷_, _≡_, _≤_, _⊕_, ap, ap₂, arith, drop, drop-at, getD}
+use Rattle.pieces.proofs.Names.{getD-drop, length, length-drop, min, over, refl, set, suc, sym, take, take-all, take-append-drop}
+use Rattle.pieces.proofs.Names.{take-at, xor-turn, xors, xors-comm, zero, ℕ}
 
--- bytes past the end of either do not count
-pub xors-front : (n : ℕ) (a b : List ℕ) → min (length a) (length b) ≤ n → xors (take n a) b ≡ xors a b
-xors-front n [] b h = ap (λ (l : List ℕ). xors l b) (take-nil n)
-xors-front zero (x ∷ a) [] h = refl
-xors-front zero (x ∷ a) (y ∷ b) h = absurd (omega arith)
-xors-front (suc n) (x ∷ a) [] h = refl
-xors-front (suc n) (x ∷ a) (y ∷ b) h = ap (λ (l : List ℕ). (x ⊕ y) ∷ l) (xors-front n a b (omega arith))
+-- a part of what is xored is that part of both
+pub take-xors : (n : ℕ) (a p : List ℕ) → take n (xors a p) ≡ xors (take n a) p
+take-xors zero a p = refl
+take-xors (suc n) [] p = refl
+take-xors (suc n) (x ∷ a) [] = refl
+take-xors (suc n) (x ∷ a) (y ∷ p) = ap {B = List ℕ} (λ l. (x ⊕ y) ∷ l) (take-xors n a p)
+
+pub drop-xors : (n : ℕ) (a p : List ℕ) → drop n (xors a p) ≡ xors (drop n a) (drop n p)
+drop-xors zero a p = refl
+drop-xors (suc n) [] p = refl
+drop-xors (suc n) (x ∷ a) [] = sym (xors-comm (drop n a) [])
+drop-xors (suc n) (x ∷ a) (y ∷ p) = drop-xors n a p
 
 pub length-both : (a b : List ℕ) → length (xors a b) ≡ min (length a) (length b)
 length-both [] b = omega arith
 length-both (x ∷ a) [] = omega arith
 length-both (x ∷ a) (y ∷ b) = let i = length-both a b in omega arith
 
+-- bytes past the end of either do not count
+pub xors-front : (n : ℕ) (a b : List ℕ) → min (length a) (length b) ≤ n → xors (take n a) b ≡ xors a b
+xors-front n a b h = sym (take-xors n a b) ∙ take-all n (xors a b) (rw length-both h)
+
 -- a text in two parts goes on in the pad
-pub xors-cut : (a b p : List ℕ) → length a ≤ length p → xors (a ++ b) p ≡ xors a p ++ xors b (drop (length a) p)
-xors-cut [] b p h = refl
-xors-cut (x ∷ a) b [] h = absurd (omega arith)
-xors-cut (x ∷ a) b (y ∷ p) h = ap (λ (l : List ℕ). (x ⊕ y) ∷ l) (xors-cut a b p (omega arith))
+pub xors-cut : (a b p : List ℕ) → xors (a ++ b) p ≡ xors a p ++ xors b (drop (length a) p)
+xors-cut a b p =
+    let n = length a in
+    rw (← take-append-drop n (xors (a ++ b) p), take-xors n (a ++ b) p, drop-xors n (a ++ b) p, take-at a b n refl, drop-at a b n refl)
 
 -- the pad from place p on
 module _ (d pad o b : List ℕ) (p i : ℕ) (e : b ≡ xors (take i d) (drop p pad) ++ drop i o) where

@@ -1,20 +1,22 @@
 -- What is known where the checks of a piece or of an end passed, and that a state that stands at 0 passes.
-use Rattle.block.proofs.Base.{_+_, _≤_, ℕ, _≡_, refl, Bool, cond, false, not, true, arith, eq-eqb, eqb-true, le-ltb, ltb-false, eqb, ltb}
-use Rattle.cipher_mode.specs.declared.KeyAnswer.{KeyAnswer}
+use Rattle.pieces.proofs.Names.{Bool, Direction, Ended, ErrorBlockSize, Fits, Hashable, KeyAnswer, Passed, Refused, Retired, TooLong}
+use Rattle.pieces.proofs.Names.{WrongIv, WrongNumber, _+_, _≡_, _≤_, arith, both, cond, eq-eqb, eqb, eqb-true, false, gcmStarting}
+use Rattle.pieces.proofs.Names.{key-and-iv-passed, keyAndIv, label-passed, le-ltb, let-through, limit, ltb, ltb-false, not, refl}
+use Rattle.pieces.proofs.Names.{refuse, running, sixteen, standing, tagged, true, w64, writing, wrongIv, ℕ}
 use Rattle.cipher_mode.specs.declared.CipherMode.the-variants.{Gcm}
-use Rattle.cipher_mode.specs.declared.Direction.{Direction}
-use Rattle.cipher_mode.specs.declared.answer.Refusal.the-variants.{ErrorBlockSize, TooLong, WrongIv, Ended, WrongNumber, Retired}
-use Rattle.cipher_mode.specs.declared.checks.Checked.the-variants.{Passed, Refused}
-use Rattle.cipher_mode.specs.Checks.{refuse, keyAndIv, wrongIv}
-use Rattle.cipher_mode.specs.Tables.{limit}
-use Rattle.cipher_mode.proofs.Passed.{let-through, both, sixteen, key-and-iv-passed, label-passed}
-use Rattle.pieces.specs.Checks.{gcmStarting, standing, running, writing, tagged}
 
 -- a state that runs, and n bytes more
 pub record Runs (mark label total n : ℕ) : Type 0 where
   pub stands : mark ≡ 0
   pub labelled : label ≤ limit
   pub within : total + n ≤ limit
+
+-- so no sum wraps, and both lengths can be hashed
+pub sum-fits : {mark label total n : ℕ} → Runs mark label total n → Fits w64 (total + n)
+sum-fits r = record { fits = omega (arith, r .within) }
+
+pub both-hashable : {mark label total : ℕ} → Runs mark label total 0 → Hashable label × Hashable total
+both-hashable r = (omega (arith, r .labelled), omega (arith, r .within))
 
 -- an IV that Gcm takes, and a label within the limit
 pub record GcmStarts (iv label : ℕ) : Type 0 where

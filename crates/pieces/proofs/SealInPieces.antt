@@ -1,24 +1,9 @@
 -- Sealing in pieces, cut anywhere, is the single call's: what the pieces give is the ciphertext of their join, and the end its tag.
-use Rattle.block.proofs.Base.{_%_, _+_, _≤_, ℕ, _≡_, List, [], _++_, add-zero, drop, length, length-append, drop-at}
-use Rattle.counter.specs.Counter.{gcmNext}
-use Rattle.walk.specs.Outcome.{finished, under, telling}
-use Rattle.walk.specs.Walk.{over}
-use Rattle.gcm.specs.Gcm.{hashKey, J0, textOf, tagOf}
-use Rattle.gcm.proofs.HashKey.{hashKey-lt}
-use Rattle.gcm.proofs.Parts.{length-text}
-use Rattle.cipher_mode.specs.declared.Direction.the-variants.{Encrypt}
-use Rattle.cipher_mode.specs.declared.Sm4Cipher.{Sm4Cipher}
-use Rattle.cipher_mode.specs.declared.checks.Checked.the-variants.{Passed}
-use Rattle.cipher_mode.specs.Key.{keyNumber}
-use Rattle.cipher_mode.specs.Tables.{limit}
-use Rattle.cipher_mode.specs.Calls.{gcmRound}
-use Rattle.pieces.specs.declared.flow.Counting.the-variants.{Gcm as Gcm·counting}
-use Rattle.pieces.specs.declared.seal.Seal.{Seal}
-use Rattle.pieces.specs.Flow.{flowAfter, flowText}
-use Rattle.pieces.specs.Checks.{gcmStarting}
-use Rattle.pieces.specs.States.{sealAfter, sealShut}
-use Rattle.pieces.specs.Calls.{ended, sealStart, sealPiece, sealEnd}
-use Rattle.pieces.proofs.KeyStream.{flow-on, text-on}
+use Rattle.pieces.proofs.Names.{Encrypt, Gcm·counting, J0, List, Passed, Seal, Sm4Cipher, [], _%_, _++_, _+_, _≡_, _≤_, add-zero}
+use Rattle.pieces.proofs.Names.{drop, ended, finished, flowAfter, flowText, gcmNext, gcmRound, gcmStarting, hashKey, hashKey-lt}
+use Rattle.pieces.proofs.Names.{keyNumber, length, length-append, length-text, limit, over, sealAfter, sealEnd, sealPiece, sealShut}
+use Rattle.pieces.proofs.Names.{sealStart, sym, tagOf, telling, textOf, under, ℕ}
+use Rattle.pieces.proofs.KeyStream.{flow-on, text-on, text-behind}
 use Rattle.pieces.proofs.HashOn.{hash-on-of, hash-ends-of}
 use Rattle.pieces.proofs.Passing.{writing-passes}
 use Rattle.pieces.proofs.Stepping.{step}
@@ -38,9 +23,13 @@ module _ (rk j d e : List ℕ) where
   unfolding textOf
   text-goes-on = text-on Gcm·counting rk (gcmNext j) d e
 
+  stretch-is : drop (length d) (textOf rk j (d ++ e)) ≡ here
+  unfolding textOf
+  stretch-is = text-behind Gcm·counting rk (gcmNext j) d e
+
   -- what d gave stands before its stretch of the single call's ciphertext
   pub seal-joined : textOf rk j d ++ drop (length d) (textOf rk j (d ++ e)) ≡ textOf rk j (d ++ e)
-  seal-joined = rw (text-goes-on, drop-at (textOf rk j d) here (length d) (length-text rk j d))
+  seal-joined = rw stretch-is (sym text-goes-on)
 
 module _ (k mark : ℕ) (rk label iv d : List ℕ) (labelled : length label ≤ limit) where
   -- a piece e behind d gives its stretch of the single call's ciphertext, and the state after both
@@ -52,9 +41,8 @@ module _ (k mark : ℕ) (rk label iv d : List ℕ) (labelled : length label ≤ 
   seal-goes-on e o within room =
       let j = J0 rk iv in
       rw (writing-passes (length label) (length d) labelled (length e) (length e) (length o) within room)
-      (rw (flow-on Gcm·counting rk (gcmNext j) d e, length-append d e, text-goes-on rk j d e)
-      (rw (drop-at (textOf rk j d) (here rk j d e) (length d) (length-text rk j d))
-      (rw (← hash-on-of (hashKey rk) label (textOf rk j d) (here rk j d e), length-text rk j d))))
+      (rw (flow-on Gcm·counting rk (gcmNext j) d e, length-append d e, stretch-is rk j d e, text-goes-on rk j d e)
+      (rw (← hash-on-of (hashKey rk) label (textOf rk j d) (here rk j d e), length-text rk j d)))
 
   -- the end gives the single call's tag, and tells of the counter what it does; then every call is refused by 12
   pub seal-ended : (o : List ℕ) → length d ≤ limit → 16 ≤ length o

@@ -1,10 +1,5 @@
 -- No text of nothing.
-use Rattle.block.proofs.Base.{ℕ, _≡_, List, [], arith}
-use Rattle.counter.specs.Counter.{gcmNext}
-use Rattle.stream.specs.Stream.{streamMode}
-use Rattle.stream.specs.declared.Kind.the-variants.{Gctr}
-use Rattle.walk.proofs.Chain.{chain-rest}
-use Rattle.gcm.specs.Gcm.{textOf}
+use Rattle.pieces.proofs.Names.{Gctr, List, [], _≡_, arith, chain-rest, gcmNext, streamMode, textOf, ℕ}
 
 pub no-text : (rk j : List ℕ) → textOf rk j [] ≡ []
 unfolding textOf

@@ -1,7 +1,5 @@
 -- What a call leaves, by its parts.
-use Rattle.block.proofs.Base.{ℕ, _≡_, List}
-use Rattle.walk.specs.Outcome.{Head}
-use Rattle.pieces.specs.Calls.{Stepped}
+use Rattle.pieces.proofs.Names.{Head, List, Stepped, _≡_, ℕ}
 
 module _ (S : Type 0) where
   abbrev pub step : Head → List ℕ → S → Stepped S

@@ -6,8 +6,8 @@ use lib.ListN.{length}
 use Rattle.block.specs.Same.{same}
 use Rattle.block.specs.Xor.{xors}
 use Rattle.counter.specs.CameRound.{blocksOf, ctrCameRound, gcmCameRound}
-use Rattle.walk.specs.Outcome.{Head, finished, refusal, under, telling}
-use Rattle.walk.specs.Walk.{over}
+use Rattle.cipher_mode.specs.Outcome.{Head, finished, refusal, under, telling}
+use Rattle.block.specs.Over.{over}
 use Rattle.cipher_mode.specs.declared.CipherMode.the-variants.{Ctr as Ctr·mode}
 use Rattle.cipher_mode.specs.declared.Direction.{Direction}
 use Rattle.cipher_mode.specs.declared.Direction.the-variants.{Encrypt, Decrypt}
@@ -106,7 +106,8 @@ unfoldable pub sealStart : Sm4Cipher → List ℕ → List ℕ → Stepped Seal
 sealStart c label iv =
     let k = keyNumber c in
     stepOn Seal k
-    (begun Seal (gcmStarting (c .answer) (c .retired) Encrypt (length iv) (length label)) (sealShut k) (sealAfter k (c .engine) (c .rk) label iv []))
+    (begun Seal (gcmStarting (c .answer) (c .retired) Encrypt (length iv) (length label)) (sealShut k)
+    (sealAfter k (c .engine) (c .rk) label iv []))
 
 -- the piece e, into the output o: what is written is hashed
 unfoldable pub sealPiece : Seal → List ℕ → List ℕ → Stepped Seal

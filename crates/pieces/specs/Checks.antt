@@ -5,7 +5,8 @@ use lib.Dec.{eqb, ltb}
 use Rattle.cipher_mode.specs.declared.KeyAnswer.{KeyAnswer}
 use Rattle.cipher_mode.specs.declared.CipherMode.the-variants.{Gcm}
 use Rattle.cipher_mode.specs.declared.Direction.{Direction}
-use Rattle.cipher_mode.specs.declared.answer.Refusal.the-variants.{ErrorBlockSize, TooLong, NoRoom, ShortGcm, WrongIv, Ended, WrongNumber, Retired}
+use Rattle.cipher_mode.specs.declared.answer.Refusal.the-variants.{ErrorBlockSize, TooLong, NoRoom, ShortGcm, WrongIv, Ended, WrongNumber}
+use Rattle.cipher_mode.specs.declared.answer.Refusal.the-variants.{Retired}
 use Rattle.cipher_mode.specs.declared.checks.Checked.{Checked}
 use Rattle.cipher_mode.specs.declared.checks.Checked.the-variants.{Passed, Refused}
 use Rattle.cipher_mode.specs.Checks.{refuse, andThen, keyAndIv, labelCheck}

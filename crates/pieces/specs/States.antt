@@ -17,7 +17,8 @@ use Rattle.pieces.specs.Hashing.{hashOf}
 
 -- Ctr under the round keys rk and the IV iv, after the text d
 unfoldable pub ctrAfter : ℕ → ℕ → List ℕ → List ℕ → List ℕ → Ctr
-ctrAfter k m rk iv d = record { rk = rk; flow = flowAfter Ctr·counting rk iv d; first = iv; total = length d; stands = 0; key = k; engine = m }
+ctrAfter k m rk iv d =
+    record { rk = rk; flow = flowAfter Ctr·counting rk iv d; first = iv; total = length d; stands = 0; key = k; engine = m }
 
 -- Gcm sealing under a label: counters from one after J0 on, the hash of what was written, and the cipher of J0 for the tag
 unfoldable pub sealAfter : ℕ → ℕ → List ℕ → List ℕ → List ℕ → List ℕ → Seal

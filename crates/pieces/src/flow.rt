@@ -6,7 +6,8 @@ ghost use Rattle.block.specs.Words.{unwords};
 ghost use Rattle.block.specs.Xor.{xors};
 ghost use Rattle.cipher.specs.Engine.{Engine};
 ghost use Rattle.cipher.specs.Sm4.{encryptBlock};
-ghost use Rattle.walk.specs.Walk.{chain, over};
+ghost use Rattle.block.specs.Over.{over};
+ghost use Rattle.walk.specs.Walk.{chain};
 ghost use Rattle.pieces.specs.States.{noFlow};
 ghost use Rattle.pieces.specs.Flow.{kindOf, nextCounter, flowMode, flowAt, flowAfter, flowText, flowNext};
 use stream::Kind;
@@ -44,7 +45,7 @@ fn next_counter(counting: Counting, s: [u32; 4]) -> [u32; 4]
 }
 
 // The smaller one.
-fn least(a: usize, b: usize) -> usize
+pub(crate) fn least(a: usize, b: usize) -> usize
     ensures { λ r. ⌜ r ≡ min a b ⌝ }
 {
     if a < b { a } else { b }

@@ -43,27 +43,22 @@ fn bytes_of(n: U128) -> [u8; 16]
     block::combine_block(block::from_u128(n))
 }
 
-// The byte at i of the first p bytes of `held` with `data` behind them, or 0 past the end.
-fn byte_at(held: [u8; 16], p: usize, data: &[u8], i: usize) -> u8
-    requires { ⌜ p ≤ 16 ⌝ }
-    ensures { λ r. ⌜ r ≡ getD (take p held ++ now («data» .entry)) i 0 ⌝ }
+// The byte at i, or 0 past the end.
+fn byte_at(data: &[u8], i: usize) -> u8
+    ensures { λ r. ⌜ r ≡ getD (now («data» .entry)) i 0 ⌝ }
 {
-    if i < p {
-        return held[i];
-    }
-    let j = i - p;
-    if j < data.len() { data[j] } else { 0 }
+    if i < data.len() { data[i] } else { 0 }
 }
 
-// The first sixteen of those bytes, zeros to the end.
+// The first p bytes of `held` with `data` behind them: the first sixteen of these, zeros to the end.
 fn filled(held: [u8; 16], p: usize, data: &[u8]) -> [u8; 16]
     requires { ⌜ p ≤ 16 ⌝ }
     ensures { λ r. ⌜ r ≡ filledUp (take p held ++ now («data» .entry)) ⌝ }
 {
-    let mut b = [0u8; 16];
-    let mut i: usize = 0;
+    let mut b = held;
+    let mut i = p;
     while i < 16 {
-        b[i] = byte_at(held, p, data, i);
+        b[i] = byte_at(data, i - p);
         i += 1;
     }
     b

@@ -86,14 +86,13 @@ pub fn start(cipher: Sm4Cipher, aad: &[u8], iv: &[u8]) -> OpensStep
     }
 }
 
-// Whether the tag is the one of mask and hash. All sixteen bytes are looked at, whatever the first ones are, as in `gcm::has_tag`.
+// Whether the tag is the one of mask and hash.
 fn same_tag(tag: &[u8], mask: [u8; 16], hash: [u8; 16]) -> bool
     requires { ⌜ length (now tag) ≡ 16 ⌝ }
     ensures { λ r. ⌜ r ≡ same (now (tag .entry)) (xors mask hash) ⌝ }
 {
     let expected = block::block_xor(block::split_block(&mask), block::split_block(&hash));
-    let d = block::block_xor(block::split_block(tag), expected);
-    d[0] as u64 + d[1] as u64 + d[2] as u64 + d[3] as u64 == 0
+    gcm::is_tag(tag, expected)
 }
 
 impl Opens {

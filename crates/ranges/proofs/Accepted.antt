@@ -1,18 +1,13 @@
 -- What is known of a plan that is accepted, and that no sum wraps in the check.
-use Rattle.block.proofs.Base.{_≤_, ℕ, _∙_, _≡_, refl, sym, false, false≢true, true, List, [], _∷_, arith, eqb-true, leb-true, leb, length}
-use Rattle.block.proofs.Base.{take, length-take-le}
-use Rattle.block.proofs.Same.{and-left, and-right}
-use Rattle.ranges.specs.Plan.{follows, accepts}
-use Rattle.ranges.specs.declared.plan.Plan.{Plan}
-use Rattle.ranges.proofs.Following.{first-piece}
+use Rattle.ranges.proofs.Names.{List, Plan, [], _+_, _∷_, _≡_, _≤_, accepts, and-left, and-right, arith, by-order, eqb-true, false}
+use Rattle.ranges.proofs.Names.{false≢true, follows, leb, leb-true, length, length-take, refl, sym, take, true, ℕ}
+use Rattle.ranges.proofs.Following.{first-piece, follows-on}
 
-nothing-follows : (ss ls : List ℕ) → follows 0 0 ss ls ≡ true → length ss ≡ 0
+as-many : (at n : ℕ) (ss ls : List ℕ) → follows at n ss ls ≡ true → length ss ≤ length ls
 unfolding follows
-nothing-follows [] ls e = refl
-nothing-follows (s ∷ ss) [] e = absurd (false≢true e)
-nothing-follows (s ∷ ss) (l ∷ ls) e =
-    let first = first-piece 0 0 s l ss ls e in
-    absurd (first .not-empty (omega (arith, first .inside)))
+as-many at n [] ls e = omega arith
+as-many at n (s ∷ ss) [] e = absurd (false≢true e)
+as-many at n (s ∷ ss) (l ∷ ls) e = omega (arith, as-many (at + l) n ss ls (first-piece at n s l ss ls e .rest))
 
 module _ (p : Plan) (n : ℕ) (accepted : accepts p n ≡ true) where
   pub at-most-64 : p .count ≤ 64
@@ -28,12 +23,23 @@ module _ (p : Plan) (n : ℕ) (accepted : accepts p n ≡ true) where
   unfolding follows
   no-pieces e = sym (eqb-true 0 n (rw e at from-0-to-n))
 
+  -- every piece has its start and its length in the arrays
+  pub in-arrays : length (p .starts) ≡ 64 → (p .count ≤ length (p .starts)) × (p .count ≤ length (p .lengths))
+  in-arrays room =
+      let few = at-most-64 in
+      let many = as-many 0 n _ _ from-0-to-n in
+      let starts = length-take (p .count) (p .starts) in
+      let lengths = length-take (p .count) (p .lengths) in
+      (omega arith, omega arith)
+
 -- and a plan of no bytes is one without pieces
 pub no-bytes : (p : Plan) → length (p .starts) ≡ 64 → accepts p 0 ≡ true → p .count ≡ 0
 no-bytes p room accepted =
-    let few = at-most-64 p 0 accepted in
-    sym (length-take-le (p .count) (p .starts) (omega (arith, few, room)))
-    ∙ nothing-follows (take (p .count) (p .starts)) (take (p .count) (p .lengths)) (from-0-to-n p 0 accepted)
+    let all = in-arrays p 0 accepted room in
+    by-order 0 (p .count)
+    (λ h. let first = follows-on (p .starts) (p .lengths) (p .count) 0 0 0 (all .0) (all .1) h (from-0-to-n p 0 accepted) in
+    absurd (first .not-empty (omega (arith, first .inside))))
+    (λ h. omega arith)
 
 -- 2^63
 abbrev half : ℕ

@@ -1,37 +1,13 @@
 -- The shares of a text may be done in any order: what stands in the output is the same. Those of an accepted plan give the single call's
 -- bytes.
-use Rattle.block.proofs.Base.{_+_, _-_, _≤_, min, suc, zero, ℕ, _∙_, _≡_, ap, refl, sym, false≢true, true, List, [], _∷_, arith, eqb-true}
-use Rattle.block.proofs.Base.{drop, length, length-drop, length-take, take}
-use mathlib.Core.HLevel.{hedberg}
-use mathlib.Core.List.{foldr, Perm, Perm·foldr-eq, List·isSet}
-use native.Mathlib.Decide.{ℕ-discrete}
-use Rattle.block.specs.Xor.{_⊕_, xors}
-use Rattle.block.proofs.Xors.{xors-comm}
-use Rattle.walk.specs.Walk.{chain, over}
-use Rattle.stream.specs.Stream.{streamMode}
-use Rattle.stream.specs.declared.Kind.the-variants.{Ctr as Ctr·kind}
-use Rattle.stream.proofs.RoundTrip.{length-stream}
-use Rattle.ranges.specs.declared.plan.Plan.{Plan}
-use Rattle.ranges.specs.Plan.{follows, accepts}
-use Rattle.ranges.specs.Range.{stretch}
-use Rattle.ranges.specs.Shares.{Share, shares, sharesOf, shareOf, worked, allWorked}
+use Rattle.ranges.proofs.Names.{Ctr·kind, List, List·isSet, Perm, Perm·foldr-eq, Plan, Share, [], _+_, _-_, _∙_, _∷_, _≡_, _≤_}
+use Rattle.ranges.proofs.Names.{accepts, allWorked, ap, arith, chain, drop, drop-xors, eqb-true, false≢true, foldr, follows, hedberg}
+use Rattle.ranges.proofs.Names.{length, length-drop, length-stream, length-take, min, over, refl, shareOf, shares, sharesOf}
+use Rattle.ranges.proofs.Names.{streamMode, stretch, sym, take, take-xors, true, worked, ℕ, ℕ-discrete}
 use Rattle.ranges.proofs.Accepted.{from-0-to-n}
 use Rattle.ranges.proofs.Following.{first-piece}
 use Rattle.ranges.proofs.KeyStream.{pads, chain-pads, stretch-pads}
-use Rattle.ranges.proofs.Copied.{copied, length-copied, none-copied, copies-commute, copies-join, all-copied, laid-copied}
-
--- a part of what is xored is that part of both
-take-xors : (n : ℕ) (a p : List ℕ) → take n (xors a p) ≡ xors (take n a) p
-take-xors zero a p = refl
-take-xors (suc n) [] p = refl
-take-xors (suc n) (x ∷ a) [] = refl
-take-xors (suc n) (x ∷ a) (y ∷ p) = ap {B = List ℕ} (λ l. (x ⊕ y) ∷ l) (take-xors n a p)
-
-drop-xors : (n : ℕ) (a p : List ℕ) → drop n (xors a p) ≡ xors (drop n a) (drop n p)
-drop-xors zero a p = refl
-drop-xors (suc n) [] p = refl
-drop-xors (suc n) (x ∷ a) [] = sym (xors-comm (drop n a) [])
-drop-xors (suc n) (x ∷ a) (y ∷ p) = drop-xors n a p
+use Rattle.ranges.proofs.Copied.{copied, length-zipped, none-zipped, zips-commute, copies-join, all-copied, laid-copied}
 
 module _ (rk iv d : List ℕ) where
   abbrev whole : List ℕ
@@ -63,7 +39,7 @@ module _ (rk iv d : List ℕ) where
       let rest = all-copy ps o h in
       let u = foldr copies o ps in (
         ap (worked rk iv d p) (rest .0) ∙ worker-copies p u (omega (arith, h, rest .1)),
-        length-copied (p .start) (p .size) whole u ∙ rest .1,
+        length-zipped _ (p .start) (p .size) whole u ∙ rest .1,
       )
 
   pub length-worked : (ps : List Share) (o : List ℕ) → length d ≤ length o → length (allWorked rk iv d ps o) ≡ length o
@@ -74,7 +50,7 @@ module _ (rk iv d : List ℕ) where
   any-order o h ps qs e =
       all-copy ps o h .0
       ∙ Perm·foldr-eq (List·isSet (hedberg ℕ-discrete)) copies
-      (λ p q u. copies-commute (p .start) (p .size) (q .start) (q .size) whole u) e o
+      (λ p q u. zips-commute _ (p .start) (p .size) (q .start) (q .size) whole whole u (λ i x. refl)) e o
       ∙ sym (all-copy qs o h .0)
 
   -- shares that follow one another from `at` to the text's end copy all that is from there on
@@ -83,7 +59,7 @@ module _ (rk iv d : List ℕ) where
   unfolding follows
   following at [] ls o e =
       let none : length d - at ≡ 0 = omega (arith, eqb-true at (length d) e) in
-      rw none (sym (none-copied at whole o))
+      rw none (sym (none-zipped _ at whole o))
   following at (s ∷ ss) [] o e = absurd (false≢true e)
   following at (s ∷ ss) (l ∷ ls) o e =
       let f = first-piece at (length d) s l ss ls e in

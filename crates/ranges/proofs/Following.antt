@@ -1,22 +1,20 @@
 -- What it says of a piece that the pieces from it on follow one another to n, and that the check's test of one piece tells it.
-use Rattle.block.proofs.Base.{_%_, _+_, _-_, _<_, _≤_, ℕ, _∙_, _≡_, refl, sym, _≢_, _⊎_, inl, inr, Bool, _&&_, _||_, cond, false}
-use Rattle.block.proofs.Base.{false≢true, not, true, List, [], _∷_, add-one, arith, eq-eqb, eqb-false, eqb-true, le-leb, leb-true, ne-eqb}
-use Rattle.block.proofs.Base.{not-true, eqb, leb, drop, drop-of-length-le, getD, length, take, drop-cons, getD-take, length-take-le}
-use Rattle.block.proofs.Same.{and-left, and-right}
-use Rattle.pieces.proofs.Cases.{by-order}
-use Rattle.ranges.specs.Plan.{isLast, follows, isPiece}
+use Rattle.ranges.proofs.Names.{Bool, List, [], _%_, _&&_, _+_, _-_, _<_, _||_, _∙_, _∷_, _≡_, _≢_, _≤_, add-one, and-left}
+use Rattle.ranges.proofs.Names.{and-right, arith, by-order, cond, drop, drop-cons, drop-of-length-le, eq-eqb, eqb, eqb-false}
+use Rattle.ranges.proofs.Names.{eqb-true, false, false≢true, follows, getD, getD-take, isLast, isPiece, le-leb, leb, leb-true}
+use Rattle.ranges.proofs.Names.{length, length-drop, length-take-le, ne-eqb, not, not-true, refl, sym, take, true, ℕ}
 
 -- the first of pieces that follow one another from `at` to n
 pub record First (at n s l : ℕ) (ss ls : List ℕ) : Type 0 where
   pub starts-here : s ≡ at
   pub not-empty : l ≢ 0
-  pub last-or-whole : (ss ≡ []) ⊎ (l % 16 ≡ 0)
+  pub whole : 0 < length ss → l % 16 ≡ 0
   pub inside : at + l ≤ n
   pub rest : follows (at + l) n ss ls ≡ true
 
-last-or : (ss : List ℕ) (l : ℕ) → (isLast ss || eqb (l % 16) 0) ≡ true → (ss ≡ []) ⊎ (l % 16 ≡ 0)
-last-or [] l e = inl refl
-last-or (s ∷ ss) l e = inr (eqb-true (l % 16) 0 e)
+not-last : (ss : List ℕ) (l : ℕ) → (isLast ss || eqb (l % 16) 0) ≡ true → 0 < length ss → l % 16 ≡ 0
+not-last [] l e h = absurd (omega (arith, h))
+not-last (s ∷ ss) l e h = eqb-true (l % 16) 0 e
 
 -- those behind it
 behind : (at n s l : ℕ) (ss ls : List ℕ) → follows at n (s ∷ ss) (l ∷ ls) ≡ true → follows (at + l) n ss ls ≡ true
@@ -38,7 +36,7 @@ first-piece at n s l ss ls e =
     record {
       starts-here = eqb-true s at (and-left (eqb s at) _ e);
       not-empty = eqb-false l 0 (not-true (eqb l 0) (and-left (not (eqb l 0)) _ from-length));
-      last-or-whole = last-or ss l (and-left (isLast ss || eqb (l % 16) 0) _ (and-right (not (eqb l 0)) _ from-length));
+      whole = not-last ss l (and-left (isLast ss || eqb (l % 16) 0) _ (and-right (not (eqb l 0)) _ from-length));
       inside = reaches (at + l) n ss ls (behind at n s l ss ls e);
       rest = behind at n s l ss ls e;
     }
@@ -71,7 +69,7 @@ module _ (starts lengths : List ℕ) (count i at n : ℕ)
   abbrev ls : List ℕ
   ls = drop (i + 1) (take count lengths)
 
-  turn : followsFrom starts lengths count n i at ≡ follows at n (s ∷ ss) (l ∷ ls)
+  pub turn : followsFrom starts lengths count n i at ≡ follows at n (s ∷ ss) (l ∷ ls)
   turn =
       rw (add-one i, drop-cons (take count starts) i 0 (omega (arith, length-take-le count starts room)))
       (rw (drop-cons (take count lengths) i 0 (omega (arith, length-take-le count lengths room′)), getD-take count starts i 0 inside)
@@ -87,6 +85,15 @@ module _ (starts lengths : List ℕ) (count i at n : ℕ)
       by-order (i + 1) count
       (λ h. rw (drop-cons (take count starts) (i + 1) 0 (omega arith), ne-eqb (i + 1) count (λ e. omega arith)))
       (λ h. rw (drop-of-length-le (take count starts) {i = i + 1} (omega arith), eq-eqb (i + 1) count (omega arith)))
+
+  pub not-yet-last : i + 1 < count → 0 < length ss
+  not-yet-last h = rw (length-drop (i + 1) (take count starts), length-take-le count starts room) (omega arith)
+
+  pub last-or-whole : (i + 1 < count → l % 16 ≡ 0) → (isLast ss || eqb (l % 16) 0) ≡ true
+  last-or-whole f =
+      by-order (i + 1) count
+      (λ h. rw (last, ne-eqb (i + 1) count (λ e. omega arith), eq-eqb (l % 16) 0 (f h)))
+      (λ h. rw (last, eq-eqb (i + 1) count (omega arith)))
 
   module _ (here : at ≤ n) where
     -- the test of the piece decides, and after it those to come

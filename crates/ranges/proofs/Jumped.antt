@@ -1,19 +1,9 @@
--- The flow at a counter that is jumped to goes on as the whole does: the counters of Ctr do not depend on the text, so the one behind any
--- text of `offset` bytes is the jump's.
-use Rattle.block.proofs.Base.{_%_, _/_, suc, zero, ℕ, _∙_, _≡_, refl, sym, List, _++_, arith, drop, length, length-append, length-drop}
-use Rattle.block.proofs.Base.{length-replicate, replicate, drop-at}
-use Rattle.block.specs.Below.{AreBytes}
-use Rattle.block.proofs.Convert.{length-bytesOf, bytesOf-bytes}
-use Rattle.counter.specs.Counter.{ctrJump, ctrNext}
-use Rattle.counter.proofs.JumpSteps.{no-jump, jump-on}
-use Rattle.walk.specs.Walk.{chain, stepped, endState}
-use Rattle.stream.specs.Stream.{streamMode}
-use Rattle.stream.specs.declared.Kind.the-variants.{Ctr as Ctr·kind}
-use Rattle.stream.proofs.RoundTrip.{length-stream}
-use Rattle.pieces.specs.declared.flow.Counting.the-variants.{Ctr as Ctr·counting}
-use Rattle.pieces.specs.Flow.{flowAt, flowAfter, flowText}
-use Rattle.pieces.proofs.KeyStream.{text-on}
-use Rattle.ranges.specs.Range.{stretch}
+-- The flow at a counter that is jumped to goes on as the whole does: the counters of Ctr do not depend on the text, so the one behind
+-- `offset` zeros is the jump's.
+use Rattle.ranges.proofs.Names.{AreBytes, Ctr·counting, Ctr·kind, List, _%_, _++_, _/_, _∙_, _≡_, arith, bytesOf-bytes, ctrJump}
+use Rattle.ranges.proofs.Names.{ctrNext, drop, endState, flowAfter, flowAt, flowText, jump-on, length, length-append, length-bytesOf}
+use Rattle.ranges.proofs.Names.{length-drop, length-replicate, length-stream, no-jump, replicate, stepped, streamMode, stretch, suc}
+use Rattle.ranges.proofs.Names.{sym, text-behind, zero, ℕ}
 
 -- n steps of Ctr's walk are a jump
 ctr-stepped : (rk : List ℕ) (n : ℕ) (s d : List ℕ) → length s ≡ 16 → AreBytes s → stepped (streamMode Ctr·kind rk) n s d ≡ ctrJump s n
@@ -22,24 +12,14 @@ ctr-stepped rk zero s d l a = sym (no-jump s l a)
 ctr-stepped rk (suc n) s d l a =
     ctr-stepped rk n (ctrNext s) (drop 16 d) (length-bytesOf 16 _) (bytesOf-bytes 16 _) ∙ jump-on s n
 
--- what is behind any text is that stretch
-pub behind : (rk iv pre d : List ℕ) (offset : ℕ) → length iv ≡ 16 → AreBytes iv → length pre ≡ offset
-    → drop offset (chain (streamMode Ctr·kind rk) iv (pre ++ d))
-    ≡ flowText Ctr·counting rk (flowAt rk (ctrJump iv (offset / 16))) (offset % 16) d
-unfolding flowAfter endState
-behind rk iv pre d offset l a n =
-    let given = length-stream Ctr·kind rk iv pre ∙ n in
-    rw (text-on Ctr·counting rk iv pre d, drop-at (chain (streamMode Ctr·kind rk) iv pre) _ offset given, ctr-stepped rk _ iv pre l a, n)
-
+-- the flow there gives the stretch
 pub jumped : (rk iv d : List ℕ) (offset : ℕ) → length iv ≡ 16 → AreBytes iv
     → flowText Ctr·counting rk (flowAt rk (ctrJump iv (offset / 16))) (offset % 16) d ≡ stretch rk iv offset d
-unfolding stretch
-jumped rk iv d offset l a = sym (behind rk iv (replicate offset 0) d offset l a (length-replicate offset 0))
-
--- A range is that stretch of the whole, whatever is before it.
-pub stretch-of-whole : (rk iv pre d : List ℕ) → length iv ≡ 16 → AreBytes iv
-    → drop (length pre) (chain (streamMode Ctr·kind rk) iv (pre ++ d)) ≡ stretch rk iv (length pre) d
-stretch-of-whole rk iv pre d l a = behind rk iv pre d (length pre) l a refl ∙ jumped rk iv d (length pre) l a
+unfolding stretch flowAfter endState
+jumped rk iv d offset l a =
+    let z : List ℕ = replicate offset 0 in
+    let n : length z ≡ offset = length-replicate offset 0 in
+    sym (rw (ctr-stepped rk _ iv z l a, n) at (text-behind Ctr·counting rk iv z d))
 
 pub length-stretch : (rk iv : List ℕ) (offset : ℕ) (d : List ℕ) → length (stretch rk iv offset d) ≡ length d
 unfolding stretch

@@ -1,48 +1,30 @@
 -- One more place of a plan, stored in the arrays and counted, and all 64.
-use Rattle.block.proofs.Base.{_+_, _-_, _<_, _≤_, suc, ℕ, _≡_, Bool, cond, false, true, List, _++_, append-assoc, append-nil, add-one}
-use Rattle.block.proofs.Base.{arith, ltb, length, set, take, take-all, take-suc-set}
-use Rattle.ranges.specs.Plan.{begins, startAt, lengthAt, countFrom, startsFrom, lengthsFrom}
+use Rattle.ranges.proofs.Names.{List, Plan, _++_, _+_, _-_, _<_, _≡_, _≤_, add-assoc, add-one, add-zero, append-assoc, append-nil}
+use Rattle.ranges.proofs.Names.{arith, begins, countFrom, length, lengthAt, lengthsFrom, set, startAt, startsFrom, suc, take}
+use Rattle.ranges.proofs.Names.{take-all, take-suc-set, ℕ}
 
-one-or-none : (t : Bool) → cond t 1 0 ≤ 1
-one-or-none true = omega arith
-one-or-none false = omega arith
+-- the places before place i, which is at byte `at`, and those still to come
+abbrev pub laid : ℕ → ℕ → ℕ → List ℕ → List ℕ → ℕ → ℕ → Plan
+laid n size count starts lengths at i = record {
+  count = count + countFrom n size (64 - i) at;
+  starts = take i starts ++ startsFrom n size (64 - i) at;
+  lengths = take i lengths ++ lengthsFrom n size (64 - i) at;
+}
 
-pub at-most-one : (n at b : ℕ) → b ≡ begins n at → b ≤ 1
-at-most-one n at b e = rw e (one-or-none (ltb at n))
+module _ (n size count : ℕ) (starts lengths : List ℕ) (at i : ℕ) (room : length starts ≡ 64) (room′ : length lengths ≡ 64) where
+  -- one more
+  pub laid-more : i < 64 → (b s l : ℕ) → b ≡ begins n at → s ≡ startAt n at → l ≡ lengthAt n size at
+      → laid n size (count + b) (set starts i s) (set lengths i l) (at + size) (i + 1) ≡ laid n size count starts lengths at i
+  unfolding countFrom startsFrom lengthsFrom
+  laid-more h b s l e f g =
+      let k : 64 - i ≡ suc (64 - (i + 1)) = omega arith in
+      rw (k, add-one i, take-suc-set starts i s (omega arith), take-suc-set lengths i l (omega arith), ← e, ← f, ← g)
+      (simp (append-assoc, add-assoc))
 
--- place i of 64 is at byte `at`
-module _ (n size at i : ℕ) (h : i < 64) where
-  one-less : 64 - i ≡ suc (64 - (i + 1))
-  one-less = omega arith
-
-  pub start-more : (xs : List ℕ) (s : ℕ) → s ≡ startAt n at → length xs ≡ 64
-      → take (i + 1) (set xs i s) ++ startsFrom n size (64 - (i + 1)) (at + size) ≡ take i xs ++ startsFrom n size (64 - i) at
-  unfolding startsFrom
-  start-more xs s e l = rw (one-less, add-one i, take-suc-set xs i s (omega (arith, l)), append-assoc, e)
-
-  pub length-more : (xs : List ℕ) (s : ℕ) → s ≡ lengthAt n size at → length xs ≡ 64
-      → take (i + 1) (set xs i s) ++ lengthsFrom n size (64 - (i + 1)) (at + size) ≡ take i xs ++ lengthsFrom n size (64 - i) at
-  unfolding lengthsFrom
-  length-more xs s e l = rw (one-less, add-one i, take-suc-set xs i s (omega (arith, l)), append-assoc, e)
-
-  pub count-more : (count b : ℕ) → b ≡ begins n at
-      → count + b + countFrom n size (64 - (i + 1)) (at + size) ≡ count + countFrom n size (64 - i) at
-  unfolding countFrom
-  count-more count b e = rw (one-less, ← e) (omega arith)
-
--- after the last place
-module _ (n size at i : ℕ) (h : 64 ≤ i) where
-  none : 64 - i ≡ 0
-  none = omega arith
-
-  pub starts-done : (xs : List ℕ) → length xs ≡ 64 → take i xs ++ startsFrom n size (64 - i) at ≡ xs
-  unfolding startsFrom
-  starts-done xs l = rw (none, take-all i xs (omega (arith, l)), append-nil)
-
-  pub lengths-done : (xs : List ℕ) → length xs ≡ 64 → take i xs ++ lengthsFrom n size (64 - i) at ≡ xs
-  unfolding lengthsFrom
-  lengths-done xs l = rw (none, take-all i xs (omega (arith, l)), append-nil)
-
-  pub count-done : (count : ℕ) → count + countFrom n size (64 - i) at ≡ count
-  unfolding countFrom
-  count-done count = rw none (omega arith)
+  -- after the last
+  pub laid-all : 64 ≤ i
+      → _≡_ {A = Plan} (record { count = count; starts = starts; lengths = lengths }) (laid n size count starts lengths at i)
+  unfolding countFrom startsFrom lengthsFrom
+  laid-all h =
+      let k : 64 - i ≡ 0 = omega arith in
+      rw (k, add-zero, take-all i starts (omega arith), take-all i lengths (omega arith), append-nil starts, append-nil lengths)

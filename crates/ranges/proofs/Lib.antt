@@ -1,3 +1,4 @@
+mod Names
 pub mod Accepted
 pub mod ByPiece
 pub mod Following

@@ -1,14 +1,8 @@
 -- The planner's plans are accepted, have no more pieces than workers, and no piece is longer than its share.
-use Rattle.block.proofs.Base.{_%_, _*_, _+_, _-_, _<_, _≤_, suc, zero, ℕ, _∙_, _≡_, refl, Bool, _||_, false, true, mul-le-mul-right, arith}
-use Rattle.block.proofs.Base.{eq-eqb, le-leb, le-ltb, lt-ltb, ne-eqb, getD, take}
-use native.Mathlib.Nat.{suc-mul}
-use Rattle.pieces.proofs.Cases.{by-order}
-use Rattle.ranges.specs.Plan.{follows, accepts, pieceSize, countFrom, startsFrom, lengthsFrom, planOf}
+use Rattle.ranges.proofs.Names.{Bool, _%_, _*_, _+_, _-_, _<_, _∙_, _≡_, _≤_, accepts, arith, by-order, countFrom, eq-eqb, follows}
+use Rattle.ranges.proofs.Names.{getD, le-leb, le-ltb, lengthsFrom, lt-ltb, mul-le-mul-right, ne-eqb, or-true, pieceSize, planOf}
+use Rattle.ranges.proofs.Names.{refl, startsFrom, suc, suc-mul, take, true, zero, ℕ}
 use Rattle.ranges.proofs.Sharing.{whole-blocks, hold-all, none-empty}
-
-or-true : (t : Bool) → t || true ≡ true
-or-true true = refl
-or-true false = refl
 
 -- n bytes in pieces of `size`
 module _ (n size : ℕ) where

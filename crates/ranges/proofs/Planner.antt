@@ -1,11 +1,7 @@
 -- What is known where the planner made a plan: the workers are 1 to 64, n is within the limit, and the plan is accepted.
-use Rattle.block.proofs.Base.{_≤_, ℕ, _∙_, _≡_, ap, refl, _≢_, Bool, _||_, cond, false, true, [], _∷_, arith, eqb-false, ltb-false, eqb}
-use Rattle.block.proofs.Base.{ltb, take}
-use Rattle.cipher_mode.specs.Tables.{limit}
-use Rattle.ranges.specs.Plan.{accepts, pieceSize, lengthsFrom, planOf, without, planned}
-use Rattle.ranges.specs.declared.plan.Making.the-variants.{Made, BadWorkers, TooLong}
-use Rattle.ranges.specs.declared.plan.Plan.{Plan}
-use Rattle.ranges.specs.declared.plan.Planned.{Planned}
+use Rattle.ranges.proofs.Names.{BadWorkers, Bool, Made, Plan, Planned, TooLong, [], _||_, _∙_, _∷_, _≡_, _≢_, _≤_, accepts, ap}
+use Rattle.ranges.proofs.Names.{arith, cond, eqb, eqb-false, false, lengthsFrom, limit, ltb, ltb-false, pieceSize, planOf, planned}
+use Rattle.ranges.proofs.Names.{refl, take, true, without, ℕ}
 use Rattle.ranges.proofs.OwnPlans.{own-accepted}
 
 pub record InOrder (n w : ℕ) : Type 0 where

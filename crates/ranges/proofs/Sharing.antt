@@ -1,10 +1,7 @@
 -- A piece's size: the workers' pieces hold all the bytes, each is whole blocks, none is empty unless all are, and none is too long
 -- for its place to be reckoned.
-use Rattle.block.proofs.Base.{_%_, _*_, _+_, _-_, _/_, _≤_, suc, zero, ℕ, _≡_, div-le-self, mod-lt, arith}
-use native.Mathlib.Nat.{div-add-mod, mul-left-comm, mul-mod-right}
-use Rattle.counter.specs.CameRound.{blocksOf}
-use Rattle.cipher_mode.specs.Tables.{limit}
-use Rattle.ranges.specs.Plan.{pieceSize}
+use Rattle.ranges.proofs.Names.{_%_, _*_, _+_, _-_, _/_, _≡_, _≤_, arith, blocksOf, by-order, div-add-mod, div-le-self, limit}
+use Rattle.ranges.proofs.Names.{mod-lt, mul-left-comm, mul-mod-right, pieceSize, ℕ}
 
 module _ (n w : ℕ) where
   abbrev share : ℕ
@@ -27,7 +24,5 @@ module _ (n w : ℕ) where
       omega (arith, all, left, same)
 
   pub none-empty : 1 ≤ w → 1 ≤ n → 1 ≤ pieceSize n w
-  none-empty h g = some (pieceSize n w) (hold-all h) where
-    some : (size : ℕ) → n ≤ w * size → 1 ≤ size
-    some zero e = omega (arith, e)
-    some (suc size) e = omega arith
+  none-empty h g =
+      by-order 0 (pieceSize n w) (λ e. e) (λ e. let z : pieceSize n w ≡ 0 = omega arith in absurd (omega (arith, rw z at (hold-all h))))

@@ -4,7 +4,7 @@ use mathlib.Core.Bool.{not}
 use mathlib.Core.List.{List}
 use lib.Dec.{ltb}
 use lib.ListN.{length}
-use Rattle.walk.specs.Outcome.{Head, Outcome, finished, refusal, under, leaving, keyed, refuse, done}
+use Rattle.cipher_mode.specs.Outcome.{Head, Outcome, finished, refusal, under, leaving, keyed, refuse, done}
 use Rattle.walk.specs.Walk.{chain}
 use Rattle.stream.specs.Stream.{streamMode}
 use Rattle.stream.specs.declared.Kind.the-variants.{Ctr as Ctr·kind}

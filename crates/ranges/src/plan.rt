@@ -76,6 +76,7 @@ pub fn accepts(plan: Plan, n: usize) -> bool
 // 1 where a piece begins before `n`, otherwise 0.
 fn begins(n: usize, at: usize) -> usize
     ensures { λ r. ⌜ r ≡ begins n at ⌝ }
+    ensures { λ r. ⌜ r ≤ 1 ⌝ }
 {
     if at < n {
         return 1;

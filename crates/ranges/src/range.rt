@@ -3,7 +3,7 @@ ghost use mathlib.Core.Path.{_≡_};
 ghost use Prim.Native.Nat.{_+_, _≤_};
 ghost use lib.ListN.{length};
 ghost use Rattle.cipher.specs.Engine.{Engine};
-ghost use Rattle.walk.specs.Walk.{over};
+ghost use Rattle.block.specs.Over.{over};
 ghost use Rattle.cipher_mode.specs.Answer.{outcome};
 ghost use Rattle.ranges.specs.Range.{stretch, reachCheck, rangeCall};
 use cipher_mode::CipherMode;
@@ -14,11 +14,11 @@ use cipher_mode::answer;
 use cipher_mode::answer::Answer;
 use cipher_mode::answer::Refusal;
 use cipher_mode::checks::Checked;
-use cipher_mode::checks::LIMIT;
+use pieces::checks;
 use pieces::flow;
 use pieces::flow::Counting;
 
-// What is refused of key, IV and the end of a stretch. What is left behind the offset only shrinks, so no sum wraps.
+// What is refused of key, IV and the end of a stretch. No sum wraps.
 pub(crate) fn reach(
     answer: KeyAnswer,
     mark: bool,
@@ -30,16 +30,11 @@ pub(crate) fn reach(
     ensures { λ r. ⌜ r ≡ reachCheck answer mark direction iv (offset + n) ⌝ }
 {
     let first = cipher_mode::checks::key_and_iv(answer, mark, direction, CipherMode::Ctr, iv);
-    let Checked::Passed = first else {
-        return first;
-    };
-    if offset > LIMIT {
-        return Checked::Refused(Refusal::TooLong);
-    }
-    if n > LIMIT - offset {
-        return Checked::Refused(Refusal::TooLong);
-    }
-    Checked::Passed
+    let past = checks::past_limit(offset, n);
+    checks::and_then(
+        first,
+        checks::refuse(past, Refusal::TooLong, Checked::Passed),
+    )
 }
 
 // The stretch `data` at `offset`, to the front of `out`. The counter is jumped to.
@@ -86,12 +81,11 @@ pub fn range(
     let stands = cipher.answer;
     let key = cipher_mode::number_in(stands, cipher.number);
     let n = data.len();
-    let checked = reach(stands, cipher.retired, direction, iv.len(), offset, n);
+    let reached = reach(stands, cipher.retired, direction, iv.len(), offset, n);
+    let room = checks::refuse(out.len() < n, Refusal::NoRoom, Checked::Passed);
+    let checked = checks::and_then(reached, room);
     if let Checked::Refused(refusal) = checked {
         return answer::refused(key, refusal);
-    }
-    if out.len() < n {
-        return answer::refused(key, Refusal::NoRoom);
     }
     let rk = cipher.rk;
     stretch_by(cipher.engine, rk, iv, offset, data, out);

@@ -1,10 +1,10 @@
 -- The blocks of a list of bytes are elements of the field, and with the list's length they tell it.
-use Rattle.block.proofs.Base.{_*_, _-_, _≤_, suc, zero, ℕ, _∙_, _≡_, ap, ap₂, refl, sym, List, [], _++_, _∷_, arith, drop, length}
-use Rattle.block.proofs.Base.{length-drop, take-append-drop}
+use Rattle.block.proofs.Base.{_*_, _≤_, suc, zero, ℕ, _∙_, _≡_, refl, List, [], _∷_, arith, drop, length}
+use Rattle.block.proofs.Base.{length-drop}
 use Rattle.block.specs.Below.{AreBytes}
 use Rattle.block.proofs.Entries.{below-drop}
 use Rattle.ghash.specs.Ghash.{blocksFrom, blockCount, blocks}
-use Rattle.ghash.proofs.Blocks.{blockOf-lt, blockOf-same}
+use Rattle.ghash.proofs.Blocks.{blockOf-lt, blockOf-same, parts-same}
 use Rattle.roots.proofs.Horner.{Elements}
 
 blocksFrom-elements : (k : ℕ) (bs : List ℕ) → AreBytes bs → Elements (blocksFrom k bs)
@@ -23,13 +23,11 @@ blocksFrom-same zero [] [] h l ha hb e = refl
 blocksFrom-same zero [] (y ∷ b) h l ha hb e = absurd (omega arith)
 blocksFrom-same zero (x ∷ a) b h l ha hb e = absurd (omega arith)
 blocksFrom-same (suc k) a b h l ha hb e =
-    let rest =
-    blocksFrom-same k (drop 16 a) (drop 16 b) (simp length-drop (omega arith)) (simp length-drop (ap (λ (n : ℕ). n - 16) l))
-    (below-drop 256 16 a ha) (below-drop 256 16 b hb) (cc) in
-    sym (take-append-drop 16 a) ∙ ap₂ _++_ (blockOf-same a b l ha hb (cc)) rest ∙ take-append-drop 16 b
+    parts-same 16 a b (blockOf-same a b l ha hb (cc))
+    (blocksFrom-same k (drop 16 a) (drop 16 b) (simp length-drop (omega arith)) (simp length-drop (rw l))
+    (below-drop 256 16 a ha) (below-drop 256 16 b hb) (cc))
 
 -- lists of one length that make the same blocks are the same
 pub blocks-same : (a b : List ℕ) → length a ≡ length b → AreBytes a → AreBytes b → blocks a ≡ blocks b → a ≡ b
 unfolding blocks
-blocks-same a b l ha hb e =
-    blocksFrom-same (blockCount (length a)) a b (omega arith) l ha hb (e ∙ ap (λ (n : ℕ). blocksFrom (blockCount n) b) (sym l))
+blocks-same a b l ha hb e = blocksFrom-same (blockCount (length a)) a b (omega arith) l ha hb (e ∙ rw l)

@@ -1,6 +1,6 @@
 -- The value of a polynomial over the field by Horner's rule, its highest coefficient first, and its quotient by x + r, whose
 -- coefficients are the values on the way to its value at r.
-use Rattle.block.proofs.Base.{_^_, suc, ℕ, _∙_, _≡_, ap, ap₂, refl, sym, List, [], _∷_, xor-lt, xor-self, xor-zero-r, length}
+use Rattle.block.proofs.Base.{_^_, suc, ℕ, _≡_, ap, refl, sym, List, [], _∷_, xor-lt, xor-self, xor-zero-r, length}
 use Rattle.block.specs.Below.{Below}
 use Rattle.block.specs.Xor.{_⊕_}
 use Rattle.block.proofs.Xor.{xor-swap, xor-meet}
@@ -33,8 +33,7 @@ step-lt y r d hr hd = xor-lt 128 (gmul y r) d (gmul-lt y r hr) hd
 pub quotient-elements : (r y : ℕ) (ds : List ℕ) → Element r → Element y → Elements ds → Elements (quotient r y ds)
 unfolding quotient
 quotient-elements r y [] hr hy hd = tt
-quotient-elements r y (d ∷ ds) hr hy hd =
-    (hy, quotient-elements r (gmul y r ⊕ d) ds hr (step-lt y r d hr (hd .0)) (hd .1))
+quotient-elements r y (d ∷ ds) hr hy hd = (hy, quotient-elements r (gmul y r ⊕ d) ds hr (step-lt y r d hr (hd .0)) (hd .1))
 
 pub horner-lt : (h y : ℕ) (ds : List ℕ) → Element h → Element y → Elements ds → Element (horner h y ds)
 unfolding horner
@@ -46,12 +45,8 @@ module _ (h r : ℕ) (hh : Element h) (hr : Element r) where
   carried : (a b c : ℕ) → Element b → Element c → a ⊕ b ≡ gmul (h ⊕ r) c → gmul a h ⊕ gmul b r ≡ gmul (h ⊕ r) (gmul c h ⊕ b)
   carried a b c hb hc e =
       let hs = xor-lt 128 h r hh hr in
-      sym
-      (gmul-xor (h ⊕ r) (gmul c h) b
-      ∙ ap₂ _⊕_
-      (sym (gmul-assoc (h ⊕ r) c h hs hc hh) ∙ ap (λ (w : ℕ). gmul w h) (sym e) ∙ xor-gmul a b h)
-      (gmul-comm (h ⊕ r) b hs hb ∙ gmul-xor b h r)
-      ∙ xor-meet (gmul a h) (gmul b h) (gmul b r))
+      rw (gmul-xor (h ⊕ r) (gmul c h) b, ← gmul-assoc (h ⊕ r) c h hs hc hh, ← e, xor-gmul a b h, gmul-comm (h ⊕ r) b hs hb, gmul-xor b h r)
+      (sym (xor-meet (gmul a h) (gmul b h) (gmul b r)))
 
   -- the values at h and at r differ by h + r times the quotient's value at h
   pub divided : (a b c : ℕ) (ds : List ℕ) → Element b → Element c → Elements ds → a ⊕ b ≡ gmul (h ⊕ r) c
@@ -60,7 +55,4 @@ module _ (h r : ℕ) (hh : Element h) (hr : Element r) where
   divided a b c [] hb hc hd e = e
   divided a b c (d ∷ ds) hb hc hd e =
       divided (gmul a h ⊕ d) (gmul b r ⊕ d) (gmul c h ⊕ b) ds (step-lt b r d hr (hd .0)) (step-lt c h b hh hb) (hd .1)
-      (xor-swap (gmul a h) d (gmul b r) d
-      ∙ ap (λ (w : ℕ). gmul a h ⊕ gmul b r ⊕ w) (xor-self d)
-      ∙ xor-zero-r (gmul a h ⊕ gmul b r)
-      ∙ carried a b c hb hc e)
+      (rw (xor-swap (gmul a h) d (gmul b r) d, xor-self d, xor-zero-r) (carried a b c hb hc e))

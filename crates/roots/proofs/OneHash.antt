@@ -1,14 +1,15 @@
 -- The hash of a list of blocks is a polynomial in H whose last coefficient is 0, and that of two lists xored is both hashes
 -- xored: so different lists of one length have one hash under no more H than they have blocks.
-use Rattle.block.proofs.Base.{_+_, suc, zero, ℕ, _∙_, _≡_, ap, ap₂, refl, sym, _≢_, List, [], _++_, _∷_, le-of-eq, le-of-suc-le-suc}
+use Rattle.block.proofs.Base.{suc, zero, ℕ, _∙_, _≡_, ap₂, refl, sym, _≢_, List, [], _++_, _∷_, le-of-eq, le-of-suc-le-suc}
 use Rattle.block.proofs.Base.{add-one, arith, xor-self, xor-zero-r, lit<, length, length-append, replicate}
 use Rattle.block.specs.Xor.{_⊕_, xors}
 use Rattle.block.proofs.Entries.{below-append}
-use Rattle.block.proofs.Xor.{xor-same, xor-swap}
+use Rattle.block.proofs.Xor.{xor-same}
 use Rattle.block.proofs.Xors.{length-xors, xors-below}
 use Rattle.field.specs.Field.{gmul}
-use Rattle.field.proofs.Distributes.{xor-gmul, zero-gmul}
+use Rattle.field.proofs.Distributes.{zero-gmul}
 use Rattle.ghash.specs.Ghash.{hashFrom, ghash}
+use Rattle.ghash.proofs.Join.{hash-xors}
 use Rattle.roots.specs.AtMost.{Having, AtMost}
 use Rattle.roots.proofs.Horner.{Elements, horner}
 use Rattle.roots.proofs.Roots.{Zeros, Root, fewer-roots}
@@ -26,17 +27,7 @@ hash-horner h y [] = refl
 hash-horner h y (b ∷ bs) = hash-horner h (gmul y h ⊕ b) bs
 
 ghash-horner : (h : ℕ) (bs : List ℕ) → ghash h bs ≡ horner h 0 (bs ++ (0 ∷ []))
-ghash-horner h bs = ap (λ (w : ℕ). hashFrom h w bs) (sym (zero-gmul h)) ∙ hash-horner h 0 bs ∙ sym (horner-last h 0 bs)
-
-hash-xors : (h y z : ℕ) (xs ys : List ℕ) → length xs ≡ length ys
-    → hashFrom h (y ⊕ z) (xors xs ys) ≡ hashFrom h y xs ⊕ hashFrom h z ys
-unfolding hashFrom
-hash-xors h y z [] [] e = refl
-hash-xors h y z [] (b ∷ ys) e = absurd (omega arith)
-hash-xors h y z (a ∷ xs) [] e = absurd (omega arith)
-hash-xors h y z (a ∷ xs) (b ∷ ys) e =
-    ap (λ (w : ℕ). hashFrom h w (xors xs ys)) (ap (λ (w : ℕ). gmul w h) (xor-swap y z a b) ∙ xor-gmul (y ⊕ a) (z ⊕ b) h)
-    ∙ hash-xors h (gmul (y ⊕ a) h) (gmul (z ⊕ b) h) xs ys (omega arith)
+ghash-horner h bs = rw (horner-last h 0 bs) (rw (zero-gmul h) at (hash-horner h 0 bs))
 
 xors-zeros : (xs ys : List ℕ) → length xs ≡ length ys → Zeros (xors xs ys) → xs ≡ ys
 xors-zeros [] [] e z = refl
@@ -50,8 +41,7 @@ zeros-front (x ∷ xs) ys z = (z .0, zeros-front xs ys (z .1))
 
 -- what follows from a property is had by the same elements
 pub having-too : (P Q : ℕ → Type 0) (hs : List ℕ) → ((h : ℕ) → P h → Q h) → Having P hs → Having Q hs
-having-too P Q hs f g =
-    record { different = g .different; each = λ h m. let (e, p) = g .each h m in (e, f h p) }
+having-too P Q hs f g = record { different = g .different; each = λ h m. let (e, p) = g .each h m in (e, f h p) }
 
 module _ (xs ys : List ℕ) (same : length xs ≡ length ys) where
   -- the polynomial that is 0 where the hashes agree
@@ -60,16 +50,11 @@ module _ (xs ys : List ℕ) (same : length xs ≡ length ys) where
 
   difference-length : length difference ≡ suc (length xs)
   unfolding difference
-  difference-length =
-      length-append (xors xs ys) (0 ∷ []) ∙ ap (λ (n : ℕ). n + 1) (length-xors xs ys (le-of-eq same)) ∙ add-one (length xs)
+  difference-length = rw (length-append (xors xs ys) (0 ∷ []), length-xors xs ys (le-of-eq same)) (add-one (length xs))
 
   agreeing-root : (h : ℕ) → ghash h xs ≡ ghash h ys → Root difference h
   unfolding difference
-  agreeing-root h e =
-      sym (ghash-horner h (xors xs ys))
-      ∙ hash-xors h 0 0 xs ys same
-      ∙ ap (λ (w : ℕ). w ⊕ ghash h ys) e
-      ∙ xor-self (ghash h ys)
+  agreeing-root h e = sym (ghash-horner h (xors xs ys)) ∙ hash-xors h 0 0 xs ys same ∙ rw e (xor-self (ghash h ys))
 
   pub few-agree : Elements xs → Elements ys → xs ≢ ys → AtMost (length xs) (λ h. ghash h xs ≡ ghash h ys)
   unfolding difference
@@ -83,4 +68,4 @@ module _ (xs ys : List ℕ) (same : length xs ≡ length ys) where
 pub zeros-hash : (h k : ℕ) (bs : List ℕ) → ghash h (replicate k 0 ++ bs) ≡ ghash h bs
 unfolding hashFrom
 zeros-hash h zero bs = refl
-zeros-hash h (suc k) bs = ap (λ (w : ℕ). hashFrom h w (replicate k 0 ++ bs)) (zero-gmul h) ∙ zeros-hash h k bs
+zeros-hash h (suc k) bs = rw (hashFrom, zero-gmul h) (zeros-hash h k bs)

@@ -27,13 +27,13 @@ unfolding horner quotient
 all-zeros r y [] z e = (e, tt)
 all-zeros r y (d ∷ ds) z e =
     let rest = all-zeros r (gmul y r ⊕ d) ds (z .1) e in
-    (z .0, (sym (ap (λ (w : ℕ). gmul w r ⊕ d) (z .0) ∙ from-zero r d) ∙ rest .0, rest .1))
+    (z .0, (rw (z .0, from-zero r d) at (rest .0), rest .1))
 
 module _ (r d : ℕ) (ds : List ℕ) (hr : Element r) (hd : Elements (d ∷ ds)) (root : Root (d ∷ ds) r) where
   -- the value from the highest coefficient on
   root-rest : (h : ℕ) → Root (d ∷ ds) h → horner h d ds ≡ 0
   unfolding horner
-  root-rest h e = ap (λ (w : ℕ). horner h w ds) (sym (from-zero h d)) ∙ e
+  root-rest h e = rw (horner, from-zero h d) at e
 
   quotient-not-zero : ¬ Zeros (d ∷ ds) → ¬ Zeros (quotient r d ds)
   quotient-not-zero nz z = nz (all-zeros r d ds z (root-rest r root))

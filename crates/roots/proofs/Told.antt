@@ -1,9 +1,9 @@
 -- What is hashed tells label and ciphertext, also where blocks of zeros stand in front: the last block tells both lengths, these
 -- tell how many zeros there are and where each part ends, and the blocks of a part tell its bytes.
-use Rattle.block.proofs.Base.{_+_, _-_, _≤_, ℕ, _∙_, _≡_, ap, ap₂, refl, sym, List, [], _++_, _∷_, append-assoc, arith, lit<, drop, length}
+use Rattle.block.proofs.Base.{_-_, _≤_, ℕ, _∙_, _≡_, ap, ap₂, refl, sym, List, [], _++_, _∷_, append-assoc, arith, lit<, drop, length}
 use Rattle.block.proofs.Base.{length-append, length-replicate, replicate, take, drop-at, take-at}
 use Rattle.block.proofs.Entries.{below-append, below-replicate}
-use Rattle.ghash.specs.Ghash.{blockCount, blocks, lengthBlock, authBlocks}
+use Rattle.ghash.specs.Ghash.{blocks, lengthBlock, authBlocks}
 use Rattle.ghash.proofs.Blocks.{length-blocks}
 use Rattle.ghash.proofs.Lengths.{lengthBlock-lt, lengthBlock-same}
 use Rattle.roots.specs.Confused.{Pair, Sound, hashed, hashedCount}
@@ -26,20 +26,9 @@ lasts-same p q x y e =
 unfoldable pub filled : ℕ → Pair → List ℕ
 filled n p = replicate (n - hashedCount p) 0 ++ hashed p
 
--- the blocks before the length block, which is the last
-before : ℕ → Pair → List ℕ
-before n p = replicate (n - hashedCount p) 0 ++ (blocks (p .label) ++ blocks (p .ciphertext))
-
-filled-ends : (n : ℕ) (p : Pair) → filled n p ≡ before n p ++ (lengthBlock (length (p .label)) (length (p .ciphertext)) ∷ [])
-unfolding filled before authBlocks
-filled-ends n p = simp append-assoc
-
 hashed-length : (p : Pair) → length (hashed p) ≡ hashedCount p
 unfolding authBlocks
-hashed-length p =
-    let la = length-blocks (p .label) in
-    let lt = length-blocks (p .ciphertext) in
-    simp length-append (omega arith)
+hashed-length p = simp (length-append, length-blocks) (omega arith)
 
 hashed-elements : (p : Pair) → Sound p → Elements (hashed p)
 unfolding authBlocks
@@ -50,10 +39,7 @@ hashed-elements p s =
 
 pub filled-length : (n : ℕ) (p : Pair) → hashedCount p ≤ n → length (filled n p) ≡ n
 unfolding filled
-filled-length n p l =
-    length-append (replicate (n - hashedCount p) 0) (hashed p)
-    ∙ ap₂ _+_ (length-replicate (n - hashedCount p) 0) (hashed-length p)
-    ∙ omega arith
+filled-length n p l = simp (length-append, length-replicate, hashed-length p) (omega arith)
 
 pub filled-elements : (n : ℕ) (p : Pair) → Sound p → Elements (filled n p)
 unfolding filled
@@ -63,25 +49,23 @@ filled-elements n p s =
 
 module _ (n : ℕ) (p q : Pair) (sp : Sound p) (sq : Sound q) (same : filled n p ≡ filled n q) where
   lengths : (length (p .label) ≡ length (q .label)) × (length (p .ciphertext) ≡ length (q .ciphertext))
+  unfolding filled authBlocks
   lengths =
+      let before : Pair → List ℕ = λ r. replicate (n - hashedCount r) 0 ++ (blocks (r .label) ++ blocks (r .ciphertext)) in
       lengthBlock-same _ _ _ _ (sp .label-length) (sp .ciphertext-length) (sq .label-length) (sq .ciphertext-length)
-      (lasts-same (before n p) (before n q) _ _ (sym (filled-ends n p) ∙ same ∙ filled-ends n q))
+      (lasts-same (before p) (before q) _ _ (simp append-assoc same))
 
   hashed-same : hashed p ≡ hashed q
   unfolding filled
   hashed-same =
-      let zeros : List ℕ = replicate (n - hashedCount p) 0 in
-      let counts : hashedCount p ≡ hashedCount q = ap₂ (λ (a t : ℕ). blockCount a + blockCount t + 1) (lengths .0) (lengths .1) in
-      ends-same zeros (hashed p) zeros (hashed q) refl
-      (same ∙ ap (λ (k : ℕ). replicate (n - k) 0 ++ hashed q) (sym counts))
+      let zeros : List ℕ = replicate (n - hashedCount q) 0 in
+      ends-same zeros (hashed p) zeros (hashed q) refl (rw (lengths .0, lengths .1) at same)
 
   pub told : p ≡ q
   unfolding authBlocks
   told =
-      let long : (a b : List ℕ) → length a ≡ length b → length (blocks a) ≡ length (blocks b) =
-      λ a b e. length-blocks a ∙ ap blockCount e ∙ sym (length-blocks b) in
-      let la = long (p .label) (q .label) (lengths .0) in
-      let lt = long (p .ciphertext) (q .ciphertext) (lengths .1) in
+      let la : length (blocks (p .label)) ≡ length (blocks (q .label)) = simp length-blocks (rw (lengths .0)) in
+      let lt : length (blocks (p .ciphertext)) ≡ length (blocks (q .ciphertext)) = simp length-blocks (rw (lengths .1)) in
       let labels = fronts-same (blocks (p .label)) _ (blocks (q .label)) _ la hashed-same in
       let rests = ends-same (blocks (p .label)) _ (blocks (q .label)) _ la hashed-same in
       let texts = fronts-same (blocks (p .ciphertext)) _ (blocks (q .ciphertext)) _ lt rests in

@@ -1,24 +1,19 @@
 -- The turns of the two loops of a stage.
-use Rattle.block.proofs.Base.{_*_, _+_, _<_, _^_, _≤_, suc, ℕ, _∙_, _≡_, ap₂, List, mul-le-mul-left, mul-suc, add-one, arith, getD}
+use Rattle.block.proofs.Base.{_*_, _+_, _<_, _^_, _≤_, suc, ℕ, _∙_, _≡_, refl, sym, List, mul-le-mul-left, mul-suc, add-one, arith, getD}
 use Rattle.block.proofs.Base.{length-set, set, getD-set-other, getD-set-same}
 use Rattle.lanes.proofs.Filling.{one-more}
 use Rattle.lanes.specs.Swaps.{firstSwapped, secondSwapped}
 use Rattle.rows.specs.Transposed.{Pair, Swapped, Staged}
 
-module _ (d m p q : ℕ) (a₀ a a′ : List ℕ) where
-  -- a pair that is left alone
-  pair-kept : getD a′ p 0 ≡ getD a p 0 → getD a′ q 0 ≡ getD a q 0 → Pair d m p q a₀ a → Pair d m p q a₀ a′
-  pair-kept f g P =
-      record { first = f ∙ P .first; second = g ∙ P .second; first-small = rw f (P .first-small); second-small = rw g (P .second-small) }
-
-  -- and one that was left alone before
-  pair-new : getD a p 0 ≡ getD a₀ p 0 → getD a q 0 ≡ getD a₀ q 0 → Pair d m p q a a′ → Pair d m p q a₀ a′
-  pair-new f g P = record {
-    first = P .first ∙ ap₂ (firstSwapped d m) f g;
-    second = P .second ∙ ap₂ (secondSwapped d m) f g;
-    first-small = P .first-small;
-    second-small = P .second-small;
-  }
+-- a pair in lists that have the same words there
+pair-same : {d m p q : ℕ} {a₀ a b₀ b : List ℕ} → Pair d m p q a₀ a → getD b₀ p 0 ≡ getD a₀ p 0 → getD b₀ q 0 ≡ getD a₀ q 0
+    → getD b p 0 ≡ getD a p 0 → getD b q 0 ≡ getD a q 0 → Pair d m p q b₀ b
+pair-same P e f g h = record {
+  first = rw (e, f, g) (P .first);
+  second = rw (e, f, h) (P .second);
+  first-small = rw g (P .first-small);
+  second-small = rw h (P .second-small);
+}
 
 -- a turn: u and v are the next pair, swapped
 module _ (d m g w e u v : ℕ) (a₀ a : List ℕ) (he : e < w) (hw : g + w + w ≤ 512) (S : Swapped d m g w e a₀ a)
@@ -38,11 +33,9 @@ module _ (d m g w e u v : ℕ) (a₀ a : List ℕ) (he : e < w) (hw : g + w + w 
       record {
         size = length-set b (g + e + w) v ∙ n ∙ s;
         pairs = one-more (λ r. Pair d m (g + r) (g + r + w) a₀ a′) e
-            (pair-new d m (g + e) (g + e + w) a₀ a a′ (S .rest (g + e) (omega arith)) (S .rest (g + e + w) (omega arith))
-            (record { first = x ∙ hu; second = y ∙ hv; first-small = rw x su; second-small = rw y sv }))
-            (λ r k.
-            pair-kept d m (g + r) (g + r + w) a₀ a a′ (other (g + r) (omega arith) (omega arith))
-            (other (g + r + w) (omega arith) (omega arith)) (S .pairs r k));
+            (pair-same {a₀ = a} {a = a′} (record { first = x ∙ hu; second = y ∙ hv; first-small = rw x su; second-small = rw y sv })
+            (sym (S .rest (g + e) (omega arith))) (sym (S .rest (g + e + w) (omega arith))) refl refl)
+            (λ r k. pair-same (S .pairs r k) refl refl (other _ (omega arith) (omega arith)) (other _ (omega arith) (omega arith)));
         rest = λ p h. other p (h e (omega arith) .0) (h e (omega arith) .1) ∙ S .rest p (λ r k. h r (omega arith));
       }
 
@@ -60,10 +53,8 @@ staged-next d m w i a₀ a a′ S W =
       size = W .size;
       pairs = λ l r h k.
           one-more (λ z. Pair d m (2 * w * z + r) (2 * w * z + r + w) a₀ a′) i
-          (pair-new d m (2 * w * i + r) (2 * w * i + r + w) a₀ a a′ (S .rest _ (omega arith)) (S .rest _ (omega arith)) (W .pairs r k))
-          (λ z g.
-          let b = groups w z i g in
-          pair-kept d m (2 * w * z + r) (2 * w * z + r + w) a₀ a a′ (below _ (omega arith)) (below _ (omega arith)) (S .pairs z r g k))
+          (pair-same (W .pairs r k) (sym (S .rest _ (omega arith))) (sym (S .rest _ (omega arith))) refl refl)
+          (λ z g. let b = groups w z i g in pair-same (S .pairs z r g k) refl refl (below _ (omega arith)) (below _ (omega arith)))
           l h;
       rest = λ p h. W .rest p (omega arith) ∙ S .rest p (omega arith);
     }

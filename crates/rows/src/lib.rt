@@ -8,7 +8,7 @@ ghost use lib.ListN.{length, take, drop, getD};
 ghost use Rattle.block.specs.BigEndian.{bytesOf};
 ghost use Rattle.block.specs.Blocks.{blockAt};
 ghost use Rattle.block.specs.Words.{words};
-ghost use Rattle.walk.specs.Walk.{over};
+ghost use Rattle.block.specs.Over.{over};
 ghost use Rattle.rows.specs.Rows.{place, Sized, Rows, xoredBlocks};
 ghost use Rattle.lanes.specs.Swaps.{firstSwapped, secondSwapped};
 ghost use Rattle.rows.specs.Transposed.{Swapped, Staged, Turned};

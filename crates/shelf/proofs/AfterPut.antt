@@ -1,52 +1,25 @@
 -- What stands after a put that is done, and after a collection: a shelf in order, the new record under its job, and every other job's
 -- current record as it was.
-use Rattle.block.proofs.Base.{_<_, _^_, _≤_, ℕ, _∙_, _≡_, ap, refl, sym, false, List, [], _++_, _∷_, append-nil, arith, eqb-false, eqb-true}
-use Rattle.block.proofs.Base.{lt-ltb, ltb-false, ltb-true, eqb, lit<, ltb, length, length-append, length-drop, take, take-append-seam}
-use lib.Seq.{drop-append-seam}
-use Rattle.block.specs.Below.{AreBytes}
-use Rattle.block.specs.BigEndian.{bytesOf}
-use Rattle.block.proofs.Convert.{bytesOf-bytes}
-use Rattle.block.proofs.Entries.{below-append, below-take, below-drop}
-use Rattle.walk.specs.Walk.{over}
-use Rattle.label.specs.Label.{labelOf}
-use Rattle.label.proofs.LabelTells.{label-bytes}
-use Rattle.shelf.specs.Records.{Record, Proper, AllProper, written, stored, records}
-use Rattle.shelf.specs.Shelf.{currentOf, collected, notHigher, fitted, badShelf}
-use Rattle.shelf.specs.Steps.{InOrder}
-use Rattle.shelf.specs.Calls.{newRecord, putIn, putCall, collectCall, lookedUp, holding}
+use Rattle.shelf.proofs.Names.{AllProper, AreBytes, InOrder, List, Record, [], _<_, _^_, _∙_, _∷_, _≡_, _≤_, ap, append-nil, arith}
+use Rattle.shelf.proofs.Names.{badShelf, below-take, by-test, collectCall, collected, currentOf, drop-append-seam, eqb, eqb-false}
+use Rattle.shelf.proofs.Names.{eqb-true, false, fitted, holding, length, length-append, length-drop, lookedUp, lt-ltb, ltb}
+use Rattle.shelf.proofs.Names.{ltb-false, ltb-true, newRecord, notHigher, over, putCall, putIn, records, refl, stored, sym, take}
+use Rattle.shelf.proofs.Names.{take-append-seam, written, ℕ}
 use Rattle.shelf.proofs.ReadsProper.{records-stored, records-proper, those-proper, put-proper}
 use Rattle.shelf.proofs.Sound.{in-order, not-bad}
-use Rattle.shelf.proofs.Putting.{length-made, enough}
-use Rattle.shelf.proofs.Reading.{by-test}
+use Rattle.shelf.proofs.Putting.{length-current, fitted-fits}
 use Rattle.shelf.proofs.Current.{at-most-one, no-two, collected-length, collected-again, current-collected, current-fitted}
 use Rattle.shelf.proofs.Current.{current-new, current-kept}
-use Rattle.shelf.proofs.FoundPart.{look-up}
-
-written-bytes : (r : Record) → Proper r → AreBytes (written r)
-unfolding written
-written-bytes r p = (
-  lit< tt,
-  (
-    by-test (r .current) (λ e. rw e (lit< tt)) (λ e. rw e (lit< tt)),
-    below-append 256 (labelOf (r .job) (r .edition)) (bytesOf 4 (length (r .sealed)) ++ r .sealed) (label-bytes (r .job) (r .edition))
-        (below-append 256 (bytesOf 4 (length (r .sealed))) (r .sealed) (bytesOf-bytes 4 (length (r .sealed))) (p .bytes)),
-  ),
-)
-
-all-bytes : (rs : List Record) → AllProper rs → AreBytes (stored rs)
-unfolding stored
-all-bytes [] h = tt
-all-bytes (r ∷ rs) h = below-append 256 (written r) (stored rs) (written-bytes r (h .0)) (all-bytes rs (h .1))
+use Rattle.shelf.proofs.FoundPart.{look-up-in, look-up}
 
 -- proper records of a shelf, no two of them current of one job, over a buffer that has room for them
 record Fit (rs : List Record) (shelf : List ℕ) : Type 0 where
-  small : AreBytes shelf
   proper : AllProper rs
   size : length shelf ≤ 65536
   room : length (stored rs) ≤ length shelf
   one : (job : ℕ) → length (currentOf job rs) ≤ 1
 
-module _ (rs : List Record) (shelf : List ℕ) (fit : Fit rs shelf) where
+module _ {rs : List Record} {shelf : List ℕ} (fit : Fit rs shelf) where
   reads-back : records (take (length (stored rs)) (over (stored rs) shelf)) ≡ rs
   reads-back = rw take-append-seam (records-stored rs (fit .proper))
 
@@ -66,10 +39,7 @@ module _ (rs : List Record) (shelf : List ℕ) (fit : Fit rs shelf) where
   -- looking up a job there gives its current record
   looks-up : (job : ℕ) → lookedUp (over (stored rs) shelf) (length (stored rs)) job ≡ stored (currentOf job rs)
   looks-up job =
-      look-up (over (stored rs) shelf) (length (stored rs))
-      (below-append 256 (stored rs) _ (all-bytes rs (fit .proper)) (below-drop 256 (length (stored rs)) shelf (fit .small)))
-      holds-in-order job
-      ∙ rw reads-back
+      look-up-in (over (stored rs) shelf) (length (stored rs)) holds-in-order job (rw (reads-back, drop-append-seam)) ∙ rw reads-back
 
 -- a collection that is done: a shelf in order, with every job's current record as it was, that collecting again does not change
 module _ (shelf : List ℕ) (used : ℕ) (small : AreBytes shelf) (order : InOrder shelf used) where
@@ -83,7 +53,6 @@ module _ (shelf : List ℕ) (used : ℕ) (small : AreBytes shelf) (order : InOrd
   collect-fit : Fit (collected rs) shelf
   collect-fit =
       record {
-        small = small;
         proper = those-proper (λ r. r .current) rs (records-proper (take used shelf) (below-take 256 used shelf small));
         size = order .size;
         room = omega (arith, collected-length rs, order .fills, order .within);
@@ -91,23 +60,17 @@ module _ (shelf : List ℕ) (used : ℕ) (small : AreBytes shelf) (order : InOrd
       }
 
   pub collect-in-order : let o = collectCall shelf used in InOrder (o .bytes) (o .used)
-  collect-in-order = rw collect-is (holds-in-order (collected rs) shelf collect-fit)
+  collect-in-order = rw collect-is (holds-in-order collect-fit)
 
   pub collect-look-up : (job : ℕ) → let o = collectCall shelf used in lookedUp (o .bytes) (o .used) job ≡ lookedUp shelf used job
   collect-look-up job =
-      rw (collect-is, looks-up (collected rs) shelf collect-fit job, look-up shelf used small order job, current-collected job rs)
+      rw (collect-is, looks-up collect-fit job, look-up shelf used small order job, current-collected job rs)
 
   pub collect-again : let o = collectCall shelf used in collectCall (o .bytes) (o .used) ≡ o
   unfolding collectCall
   collect-again =
-      let p = stored (collected rs) in
-      rw (
-        not-bad shelf used order,
-        not-bad (over p shelf) (length p) (holds-in-order (collected rs) shelf collect-fit),
-        reads-back (collected rs) shelf collect-fit,
-        collected-again rs,
-        drop-append-seam,
-      )
+      let again = not-bad _ _ (holds-in-order collect-fit) in
+      rw (not-bad shelf used order, again, reads-back collect-fit, collected-again rs, drop-append-seam)
 
 module _ (shelf : List ℕ) (used job edition : ℕ) (sealed : List ℕ) where
   -- the bytes of the records current after the put
@@ -172,16 +135,16 @@ module _ (shelf : List ℕ) (used job edition : ℕ) (sealed : List ℕ) (small 
 
   final-fit : Fit final shelf
   final-fit =
-      let e = enough new before (length shelf) refl (ltb-false (length shelf) (needed shelf used job edition sealed) (passed .room)) in
+      let fits = ltb-false (length shelf) (needed shelf used job edition sealed) (passed .room) in
+      let l = length-current shelf used order new refl refl in
       let short : length sealed < 2 ^ 32 = omega (arith, order .size) in
       record {
-        small = small;
         proper =
             put-proper (length shelf) new before
             (record { job = job-fits; edition = edition-fits; size = short; bytes = sealed-small })
             (records-proper (take used shelf) (below-take 256 used shelf small));
         size = order .size;
-        room = omega (arith, length-made new before (length shelf) refl);
+        room = fitted-fits (length shelf) (putIn shelf used job edition sealed) fits;
         one = λ other.
             by-test (eqb other job) (λ f. rw (eqb-true other job f, current-here) (omega arith))
             (λ f. rw (current-there other (eqb-false other job f)) (at-most-one before (order .single) other));
@@ -189,19 +152,18 @@ module _ (shelf : List ℕ) (used job edition : ℕ) (sealed : List ℕ) (small 
 
   -- the shelf is in order, so no call refuses it with 19, and the used count is within the buffer, which is as long as it was
   pub put-in-order : let o = putCall shelf used job edition sealed in InOrder (o .bytes) (o .used)
-  put-in-order = rw put-is (holds-in-order final shelf final-fit)
+  put-in-order = rw put-is (holds-in-order final-fit)
 
   pub put-length : length (putCall shelf used job edition sealed .bytes) ≡ length shelf
-  put-length = rw put-is (length-over final shelf final-fit)
+  put-length = rw put-is (length-over final-fit)
 
   -- looking up the job gives exactly the new record
   pub put-look-up : let o = putCall shelf used job edition sealed in lookedUp (o .bytes) (o .used) job ≡ written new
   unfolding stored
-  put-look-up = rw put-is (looks-up final shelf final-fit job ∙ ap stored current-here ∙ append-nil (written new))
+  put-look-up = rw put-is (looks-up final-fit job ∙ ap stored current-here ∙ append-nil (written new))
 
   -- and looking up another gives what it gave
   pub put-others : (other : ℕ) → (other ≡ job → ⊥)
       → let o = putCall shelf used job edition sealed in lookedUp (o .bytes) (o .used) other ≡ lookedUp shelf used other
   put-others other d =
-      rw put-is
-      (looks-up final shelf final-fit other ∙ ap stored (current-there other d) ∙ sym (look-up shelf used small order other))
+      rw put-is (looks-up final-fit other ∙ ap stored (current-there other d) ∙ sym (look-up shelf used small order other))

@@ -1,10 +1,7 @@
 -- The current records of a job, after each change to a list of records. No job has two exactly where each has at most one.
-use Rattle.block.proofs.Base.{_≤_, ℕ, _∙_, _≡_, refl, sym, Bool, _&&_, false, true, List, [], _∷_, append-nil, arith, eq-eqb, eqb-true}
-use Rattle.block.proofs.Base.{ne-eqb, leb, length, length-append}
-use Rattle.block.proofs.Same.{and-left, and-right}
-use Rattle.shelf.specs.Records.{Record, stored}
-use Rattle.shelf.specs.Shelf.{isCurrentOf, those, currentOf, collected, hasCurrent, twoCurrent, supersede, withNew, fitted}
-use Rattle.shelf.proofs.Reading.{by-test}
+use Rattle.shelf.proofs.Names.{Bool, List, Record, [], _&&_, _∙_, _∷_, _≡_, _≤_, and-left, and-right, append-nil, arith, by-test}
+use Rattle.shelf.proofs.Names.{collected, currentOf, eq-eqb, eqb-true, false, fitted, hasCurrent, isCurrentOf, leb, length}
+use Rattle.shelf.proofs.Names.{length-append, ne-eqb, refl, stored, supersede, sym, those, true, twoCurrent, withNew, ℕ}
 use Rattle.shelf.proofs.Walks.{none-current, alone, two-rest}
 use Rattle.shelf.proofs.Putting.{those-append, those-marked}
 

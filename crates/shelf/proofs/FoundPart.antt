@@ -1,13 +1,8 @@
 -- Looking up a job gives its whole current record, byte for byte, as a part of the buffer; of a job that has none, nothing.
-use Rattle.block.proofs.Base.{_+_, _≤_, ℕ, _∙_, _≡_, ap, refl, sym, false, List, [], _++_, _∷_, append-nil, arith, le-ltb, drop, length}
-use Rattle.block.proofs.Base.{length-append, length-drop, take, take-append-drop, drop-append-add, drop-append-le, take-append-le}
-use Rattle.block.proofs.Base.{take-append-seam}
-use Rattle.block.specs.Below.{AreBytes}
-use Rattle.shelf.specs.Records.{Record, written, stored, records}
-use Rattle.shelf.specs.Shelf.{isCurrentOf, those, currentOf, hasCurrent, twoCurrent, placeOf, sizeOf}
-use Rattle.shelf.specs.Steps.{InOrder}
-use Rattle.shelf.specs.Calls.{findCall, partOf, lookedUp}
-use Rattle.shelf.proofs.Reading.{by-test}
+use Rattle.shelf.proofs.Names.{AreBytes, InOrder, List, Record, [], _++_, _+_, _∙_, _∷_, _≡_, _≤_, ap, append-nil, arith, by-test}
+use Rattle.shelf.proofs.Names.{currentOf, drop, drop-append-add, drop-append-le, false, findCall, hasCurrent, isCurrentOf, le-ltb}
+use Rattle.shelf.proofs.Names.{length, length-append, length-drop, lookedUp, partOf, placeOf, records, refl, sizeOf, stored, take}
+use Rattle.shelf.proofs.Names.{take-append-le, take-append-seam, those, twoCurrent, written, ℕ}
 use Rattle.shelf.proofs.Walks.{none-current, alone, two-rest}
 use Rattle.shelf.proofs.Sound.{not-bad}
 use Rattle.shelf.proofs.Putting.{used-stored}
@@ -30,23 +25,25 @@ stored-part job (r ∷ rs) f =
     rw (e, whole) (omega arith, take-append-seam (written r) (stored rs)))
     (λ e. rw e (omega arith, rw drop-append-add (more .1)))
 
-module _ (shelf : List ℕ) (used : ℕ) (small : AreBytes shelf) (order : InOrder shelf used) (job : ℕ) where
-  pub look-up : lookedUp shelf used job ≡ stored (currentOf job (records (take used shelf)))
-  unfolding findCall partOf stored
-  look-up =
-      let rs = records (take used shelf) in
-      let n = placeOf job rs in
-      let m = sizeOf job rs in
-      let inside = stored-part job rs (order .single) in
-      let fills = order .fills in
-      let fits = order .within in
-      let whole : shelf ≡ stored rs ++ drop used shelf =
-      sym (take-append-drop used shelf) ∙ ap (λ (l : List ℕ). l ++ drop used shelf) (sym (used-stored shelf used small order)) in
-      -- the same part, in the buffer
-      let there : take m (drop n shelf) ≡ stored (currentOf job rs) =
-      ap (λ (l : List ℕ). take m (drop n l)) whole
-      ∙ ap (take m) (drop-append-le n (stored rs) (drop used shelf) (omega arith))
-      ∙ take-append-le m (drop n (stored rs)) (drop used shelf) (omega (arith, length-drop n (stored rs)))
-      ∙ inside .1 in
-      by-test (hasCurrent job rs) (λ e. rw (not-bad shelf used order, e, le-ltb (length shelf) (n + m) (omega arith)) there)
-      (λ e. rw (not-bad shelf used order, e, le-ltb (length shelf) (0 + 0) (omega arith), none-current job rs e))
+-- where the used bytes are the records
+pub look-up-in : (shelf : List ℕ) (used : ℕ) → InOrder shelf used → (job : ℕ)
+    → shelf ≡ stored (records (take used shelf)) ++ drop used shelf
+    → lookedUp shelf used job ≡ stored (currentOf job (records (take used shelf)))
+unfolding findCall partOf stored
+look-up-in shelf used order job whole =
+    let rs = records (take used shelf) in
+    let n = placeOf job rs in
+    let m = sizeOf job rs in
+    let inside = stored-part job rs (order .single) in
+    let first : n ≤ length (stored rs) = omega arith in
+    let last : m ≤ length (drop n (stored rs)) = rw length-drop (omega arith) in
+    -- the same part, in the buffer
+    let there : take m (drop n shelf) ≡ stored (currentOf job rs) =
+    ap (λ (l : List ℕ). take m (drop n l)) whole
+    ∙ rw (drop-append-le n (stored rs) (drop used shelf), take-append-le m (drop n (stored rs)) (drop used shelf)) (inside .1) in
+    by-test (hasCurrent job rs) (λ e. rw (not-bad shelf used order, e, le-ltb (length shelf) (n + m) (omega arith)) there)
+    (λ e. rw (not-bad shelf used order, e, le-ltb (length shelf) (0 + 0) (omega arith), none-current job rs e))
+
+pub look-up : (shelf : List ℕ) (used : ℕ) → AreBytes shelf → InOrder shelf used → (job : ℕ)
+    → lookedUp shelf used job ≡ stored (currentOf job (records (take used shelf)))
+look-up shelf used small order job = look-up-in shelf used order job (used-stored shelf used small order)

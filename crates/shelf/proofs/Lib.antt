@@ -1,3 +1,4 @@
+mod Names
 pub mod Reading
 pub mod Walks
 pub mod Putting

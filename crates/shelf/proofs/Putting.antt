@@ -1,25 +1,14 @@
--- What a put changes: marking the current record of a job changes one byte of the buffer; where a new record goes, and what it takes to find
--- room for it.
-use Rattle.block.proofs.Base.{_+_, _<_, _≤_, ℕ, _∙_, _≡_, ap, refl, sym, Bool, cond, false, true, List, [], _++_, _∷_, append-assoc}
-use Rattle.block.proofs.Base.{append-nil, suc-add, zero-add, arith, le-leb, lt-leb, ltb-false, ltb-true, eqb, ltb, drop, length}
-use Rattle.block.proofs.Base.{length-append, set, take, take-append-drop, length-take-le, take-length}
-use mathlib.Core.Bool.{and-true}
-use lib.Seq.{set-append-left}
-use Rattle.block.specs.Below.{AreBytes}
-use Rattle.block.proofs.Entries.{below-take}
-use Rattle.block.specs.BigEndian.{bytesOf}
-use Rattle.block.proofs.Convert.{length-bytesOf}
-use Rattle.walk.specs.Walk.{over}
-use Rattle.walk.proofs.Loop.{tailed, returned, over-behind}
-use Rattle.label.specs.Label.{labelOf}
-use Rattle.label.proofs.LabelTells.{length-label}
-use Rattle.shelf.specs.Records.{Record, written, stored, records}
-use Rattle.shelf.specs.Shelf.{isCurrentOf, those, hasCurrent, twoCurrent, placeOf, sizeOf, superseded, supersede, collected, withNew}
-use Rattle.shelf.specs.Shelf.{fitted}
-use Rattle.shelf.specs.Steps.{InOrder, stays, roomMade}
-use Rattle.shelf.specs.Calls.{newRecord}
-use Rattle.shelf.proofs.Reading.{by-test, length-written}
-use Rattle.shelf.proofs.Walks.{or-left, or-right, none-current, alone, two-rest}
+-- What a put changes: marking the current record of a job changes one byte of the buffer; where a new record goes, and what it takes
+-- to find room for it.
+use Rattle.shelf.proofs.Names.{AreBytes, Bool, InOrder, List, Record, Surveyed, Told, [], _++_, _+_, _<_, _∙_, _∷_, _≡_, _≤_}
+use Rattle.shelf.proofs.Names.{and-false, ap, append-assoc, append-nil, arith, below-take, by-test, bytesOf, collected, cond, drop}
+use Rattle.shelf.proofs.Names.{eqb, false, fitted, hasCurrent, isCurrentOf, labelOf, le-leb, le-ltb, leb, leb-true, length}
+use Rattle.shelf.proofs.Names.{length-append, length-bytesOf, length-drop, length-label, length-take-le, lt-leb, ltb, ltb-false}
+use Rattle.shelf.proofs.Names.{ltb-true, newRecord, not, over, over-behind, placeOf, records, refl, returned, roomMade, set}
+use Rattle.shelf.proofs.Names.{set-append-left, sizeOf, stays, stored, suc-add, supersede, superseded, sym, tailed, take}
+use Rattle.shelf.proofs.Names.{take-append-drop, take-length, those, true, twoCurrent, withNew, written, zero-add, ℕ}
+use Rattle.shelf.proofs.Reading.{length-written}
+use Rattle.shelf.proofs.Walks.{or-left, or-right, alone, two-rest, has-told}
 use Rattle.shelf.proofs.ReadsProper.{stored-records}
 
 set-behind : (xs ys : List ℕ) (n a : ℕ) → set (xs ++ ys) (length xs + n) a ≡ xs ++ set ys n a
@@ -33,92 +22,57 @@ supersede-none job [] e = refl
 supersede-none job (r ∷ rs) e =
     rw (or-left (isCurrentOf job r) _ e, supersede-none job rs (or-right (isCurrentOf job r) _ e))
 
-pub length-supersede : (job : ℕ) (rs : List Record) → length (stored (supersede job rs)) ≡ length (stored rs)
+length-supersede : (job : ℕ) (rs : List Record) → length (stored (supersede job rs)) ≡ length (stored rs)
 unfolding supersede stored
 length-supersede job [] = refl
 length-supersede job (r ∷ rs) =
     simp (length-append, length-supersede job rs)
     (by-test (isCurrentOf job r) (λ e. rw (e, length-written (superseded r), length-written r)) (λ e. rw e))
 
--- What holds where the first record is the current one of a job, and goes on to one record more, holds where the job has a current one.
-by-current : (job : ℕ) (P : List Record → Type 0) → ((r : Record) (rs : List Record) → isCurrentOf job r ≡ true → P (r ∷ rs))
-    → ((r : Record) (rs : List Record) → isCurrentOf job r ≡ false → P rs → P (r ∷ rs)) → (rs : List Record) → hasCurrent job rs ≡ true → P rs
-unfolding hasCurrent
-by-current job P here on [] e = let z : _≡_ {A = ℕ} 0 1 = cc in absurd (omega arith)
-by-current job P here on (r ∷ rs) e =
-    by-test (isCurrentOf job r) (here r rs) (λ f. on r rs f (by-current job P here on rs (rw f at e)))
-
 mark-set : (r : Record) (rest : List ℕ) → set (written r ++ rest) 1 0x58 ≡ written (superseded r) ++ rest
 unfolding written
 mark-set r rest = refl
 
-module _ (job : ℕ) where
-  -- the one byte
-  mark-one : (rs : List Record) → hasCurrent job rs ≡ true → twoCurrent rs ≡ false
-      → set (stored rs) (placeOf job rs + 1) 0x58 ≡ stored (supersede job rs)
-  unfolding placeOf supersede stored
-  mark-one =
-      by-current job (λ rs. twoCurrent rs ≡ false → set (stored rs) (placeOf job rs + 1) 0x58 ≡ stored (supersede job rs))
-      (λ r rs e f. rw (e, supersede-none job rs (alone job r rs f e)) (mark-set r (stored rs)))
-      (λ r rs e more f.
-      let place : length (written r) + placeOf job rs + 1 ≡ length (written r) + (placeOf job rs + 1) = omega arith in
-      rw (e, place, set-behind, more (two-rest r rs f)))
-
-  -- a current record stands before the end, all its head at least
-  pub place-within : (rs : List Record) → hasCurrent job rs ≡ true → placeOf job rs + 12 ≤ length (stored rs)
-  unfolding placeOf stored
-  place-within =
-      by-current job (λ rs. placeOf job rs + 12 ≤ length (stored rs)) (λ r rs e. rw (e, length-append) (omega (arith, length-written r)))
-      (λ r rs e more. rw (e, length-append) (omega arith))
-
-  -- a job has a current record exactly where that has bytes
-  current-size : (rs : List Record) → hasCurrent job rs ≡ true → 0 < sizeOf job rs
-  unfolding those stored
-  current-size =
-      by-current job (λ rs. 0 < sizeOf job rs) (λ r rs e. rw (e, length-append) (omega (arith, length-written r))) (λ r rs e more. rw e more)
-
-  pub size-has : (rs : List Record) → 0 < sizeOf job rs → hasCurrent job rs ≡ true
-  unfolding stored
-  size-has rs h =
-      by-test (hasCurrent job rs) (λ e. e) (λ e. absurd (omega (arith, ap (λ (l : List Record). length (stored l)) (none-current job rs e))))
-
-  pub size-zero : (rs : List Record) → sizeOf job rs ≡ 0 → hasCurrent job rs ≡ false
-  size-zero rs h = by-test (hasCurrent job rs) (λ e. absurd (omega (arith, current-size rs e))) (λ e. e)
+-- the current record of a job stands before the end, all its head at least, and marking it is one byte
+mark-one : (job : ℕ) (rs : List Record) → 0 < sizeOf job rs → twoCurrent rs ≡ false
+    → (placeOf job rs + 12 ≤ length (stored rs)) × (set (stored rs) (placeOf job rs + 1) 0x58 ≡ stored (supersede job rs))
+unfolding placeOf supersede stored those
+mark-one job [] e f = absurd (omega arith)
+mark-one job (r ∷ rs) e f =
+    by-test (isCurrentOf job r)
+    (λ g.
+    rw (g, length-append, supersede-none job rs (alone job r rs f g)) (omega (arith, length-written r), mark-set r (stored rs)))
+    (λ g.
+    let more = mark-one job rs (rw g at e) (two-rest r rs f) in
+    let place : length (written r) + placeOf job rs + 1 ≡ length (written r) + (placeOf job rs + 1) = omega arith in
+    rw (g, length-append) (omega arith, rw (place, set-behind, more .1)))
 
 module _ (shelf : List ℕ) (used : ℕ) (small : AreBytes shelf) (o : InOrder shelf used) where
+  abbrev rs : List Record
+  rs = records (take used shelf)
+
   -- the used bytes are the records
-  pub used-stored : stored (records (take used shelf)) ≡ take used shelf
+  pub used-stored : shelf ≡ stored rs ++ drop used shelf
   used-stored =
-      stored-records (take used shelf) (below-take 256 used shelf small) (o .fills ∙ sym (length-take-le used shelf (o .within)))
+      sym (take-append-drop used shelf)
+      ∙ ap (λ (x : List ℕ). x ++ drop used shelf)
+      (sym (stored-records (take used shelf) (below-take 256 used shelf small) (o .fills ∙ sym (length-take-le used shelf (o .within)))))
 
-  module _ (job : ℕ) where
-    abbrev rs : List Record
-    rs = records (take used shelf)
-
-    superseded-over : stored (supersede job rs) ++ drop used shelf ≡ over (stored (supersede job rs)) shelf
-    superseded-over = rw (length-supersede job rs, o .fills)
-
-    pub marked-over : hasCurrent job rs ≡ true → set shelf (placeOf job rs + 1) 0x58 ≡ over (stored (supersede job rs)) shelf
+  -- what a walk over them tells of a job is what is to be marked
+  module _ {job edition : ℕ} {told : Told} (s : Surveyed job edition rs told) where
+    pub marked-over : 0 < told .length
+        → (told .start + 12 ≤ used) × (set shelf (told .start + 1) 0x58 ≡ over (stored (supersede job rs)) shelf)
     marked-over has =
-        let p = placeOf job rs + 1 in
-        let w = place-within job rs has in
-        let l = length-take-le used shelf (o .within) in
-        let f = o .fills in
-        ap (λ (x : List ℕ). set x p 0x58) (sym (take-append-drop used shelf))
-        ∙ set-append-left (take used shelf) (drop used shelf) p 0x58 (omega arith)
-        ∙ ap (λ (x : List ℕ). x ++ drop used shelf) (ap (λ (x : List ℕ). set x p 0x58) (sym used-stored) ∙ mark-one job rs has (o .single))
-        ∙ superseded-over
+        let m = mark-one job rs (rw (s .size) at has) (o .single) in
+        rw (s .start) (
+          omega arith,
+          ap (λ (x : List ℕ). set x (placeOf job rs + 1) 0x58) used-stored
+              ∙ set-append-left (stored rs) (drop used shelf) (placeOf job rs + 1) 0x58 (omega arith)
+              ∙ rw (m .1, length-supersede job rs, o .fills),
+        )
 
-    pub unmarked-over : hasCurrent job rs ≡ false → shelf ≡ over (stored (supersede job rs)) shelf
-    unmarked-over none =
-        sym (take-append-drop used shelf)
-        ∙ ap (λ (x : List ℕ). x ++ drop used shelf) (sym used-stored ∙ ap stored (sym (supersede-none job rs none)))
-        ∙ superseded-over
-
-pub stored-append : (a b : List Record) → stored (a ++ b) ≡ stored a ++ stored b
-unfolding stored
-stored-append [] b = refl
-stored-append (r ∷ a) b = rw (stored-append a b, append-assoc)
+    pub unmarked-over : told .length ≤ 0 → shelf ≡ over (stored (supersede job rs)) shelf
+    unmarked-over none = used-stored ∙ rw (supersede-none job rs (has-told s ∙ le-ltb 0 (told .length) none), o .fills)
 
 pub those-append : (test : Record → Bool) (a b : List Record) → those test (a ++ b) ≡ those test a ++ those test b
 unfolding those
@@ -137,61 +91,89 @@ those-marked p q job each (r ∷ rs) = rw (those-marked p q job each rs) (each r
 those-coming : (job : ℕ) (rs : List Record) → those (stays true job) rs ≡ collected (supersede job rs)
 those-coming job rs =
     sym (those-marked (λ r. r .current) (stays true job) job
-    (λ r a. by-test (r .current) (λ e. by-test (eqb (r .job) job) (λ f. rw (e, f)) (λ f. rw (e, f))) (λ e. rw e)) rs)
+    (λ r a.
+    by-test (r .current) (λ e. by-test (eqb (r .job) job) (λ f. rw (e, f)) (λ f. rw (e, f)))
+    (λ e. rw (e, and-false (not (eqb (r .job) job)))))
+    rs)
 
-pub those-current : (job : ℕ) (rs : List Record) → those (stays false job) rs ≡ collected rs
-unfolding those
-those-current job [] = refl
-those-current job (r ∷ rs) = rw (and-true (r .current), those-current job rs)
+pub stored-new : (new : Record) (a : List Record) → stored (a ++ (new ∷ [])) ≡ stored a ++ written new
+unfolding stored
+stored-new new [] = append-nil (written new)
+stored-new new (r ∷ a) = rw (stored-new new a, append-assoc)
 
-module _ (new : Record) (rs : List Record) where
-  stored-new : (a : List Record) → stored (a ++ (new ∷ [])) ≡ stored a ++ written new
-  unfolding stored
-  stored-new a = rw (stored-append, append-nil)
+-- records that are collected where they do not fit have room where what is current has
+pub fitted-fits : (room : ℕ) (rs : List Record) → length (stored (collected rs)) ≤ room → length (stored (fitted room rs)) ≤ room
+unfolding fitted
+fitted-fits room rs h = by-test (leb (length (stored rs)) room) (λ e. rw e (leb-true (length (stored rs)) room e)) (λ e. rw e h)
 
-  length-new : (a : List Record) → length (stored (a ++ (new ∷ []))) ≡ length (stored a) + (12 + length (new .sealed))
-  length-new a = rw (stored-new a, length-append, length-written)
+module _ (shelf : List ℕ) (used : ℕ) (o : InOrder shelf used) where
+  -- what stands where room is made for a new record of a job with n sealed bytes: where it goes, and the buffer
+  abbrev pub Made : ℕ → ℕ → ℕ → List ℕ → Type 0
+  Made n job at s =
+      let m = stored (roomMade (length shelf) n job (records (take used shelf))) in (at ≡ length m) × (s ≡ over m shelf)
 
-  collected-new : new .current ≡ true → collected (withNew new rs) ≡ collected (supersede (new .job) rs) ++ (new ∷ [])
-  unfolding withNew those
-  collected-new e = those-append (λ r. r .current) (supersede (new .job) rs) (new ∷ []) ∙ rw e
-
-  -- the bytes of the records current after the put
-  pub length-current : new .current ≡ true
-      → length (stored (those (stays true (new .job)) rs)) + (12 + length (new .sealed)) ≡ length (stored (collected (withNew new rs)))
-  length-current e = rw (those-coming (new .job) rs, collected-new e) (sym (length-new (collected (supersede (new .job) rs))))
-
-  -- the room that is made, whether or not the new record fits behind all the others
-  module _ (room : ℕ) (current : new .current ≡ true) where
-    abbrev needed : ℕ
-    needed = length (stored rs) + (12 + length (new .sealed))
-
-    abbrev made : List Record
-    made = roomMade room (length (new .sealed)) (new .job) rs
-
-    fitted-made : fitted room (withNew new rs) ≡ made ++ (new ∷ [])
-    unfolding fitted roomMade withNew
-    fitted-made =
-        let n : length (stored (withNew new rs)) ≡ needed = length-new (supersede (new .job) rs) ∙ rw (length-supersede (new .job) rs) in
-        by-test (ltb room needed)
-        (λ f. rw (f, lt-leb (length (stored (withNew new rs))) room (omega (arith, ltb-true room needed f))) (collected-new current))
-        (λ f. rw (f, le-leb (length (stored (withNew new rs))) room (omega (arith, ltb-false room needed f))))
-
-    pub stored-made : stored (fitted room (withNew new rs)) ≡ stored made ++ written new
-    stored-made = ap stored fitted-made ∙ stored-new made
-
-    pub length-made : length (stored (fitted room (withNew new rs))) ≡ length (stored made) + (12 + length (new .sealed))
-    length-made = ap (λ (l : List Record). length (stored l)) fitted-made ∙ length-new made
-
-    -- where the records current after the put fit, the new one finds room
-    pub enough : length (stored (collected (withNew new rs))) ≤ room → length (stored made) + (12 + length (new .sealed)) ≤ room
+  module _ (n job : ℕ) {s : List ℕ} where
+    pub made-short : {at : ℕ} → ltb (length shelf) (used + (12 + n)) ≡ true
+        → (let m = stored (those (stays true job) (records (take used shelf))) in (at ≡ length m) × (s ≡ over m shelf)) → Made n job at s
     unfolding roomMade
-    enough h =
+    made-short f e = rw (o .fills, f) (rw those-coming at e)
+
+    pub made-long : ltb (length shelf) (used + (12 + n)) ≡ false → s ≡ over (stored (supersede job (records (take used shelf)))) shelf
+        → Made n job used s
+    unfolding roomMade
+    made-long f e = rw (o .fills, f) (sym (length-supersede job (records (take used shelf)) ∙ o .fills), e)
+
+  module _ (new : Record) (current : new .current ≡ true) where
+    abbrev old : List Record
+    old = records (take used shelf)
+
+    abbrev after : List Record
+    after = withNew new old
+
+    length-new : (a : List Record) → length (stored (a ++ (new ∷ []))) ≡ length (stored a) + (12 + length (new .sealed))
+    length-new a = rw (stored-new new a, length-append, length-written)
+
+    collected-new : collected after ≡ collected (supersede (new .job) old) ++ (new ∷ [])
+    unfolding withNew those
+    collected-new = those-append (λ r. r .current) (supersede (new .job) old) (new ∷ []) ∙ rw current
+
+    -- the bytes of the records current after the put
+    pub length-current : {kept : ℕ} → kept ≡ length (stored (those (stays true (new .job)) old))
+        → kept + (12 + length (new .sealed)) ≡ length (stored (collected after))
+    length-current e = rw (e, those-coming (new .job) old, collected-new) (sym (length-new (collected (supersede (new .job) old))))
+
+    -- the room that is made, whether or not the new record fits behind all the others
+    abbrev made : List ℕ
+    made = stored (roomMade (length shelf) (length (new .sealed)) (new .job) old)
+
+    stored-made : stored (fitted (length shelf) after) ≡ made ++ written new
+    unfolding fitted roomMade withNew
+    stored-made =
+        let needed = length (stored old) + (12 + length (new .sealed)) in
+        let all = length (stored after) in
+        let n : all ≡ needed = length-new (supersede (new .job) old) ∙ rw (length-supersede (new .job) old) in
+        let room = length shelf in
         by-test (ltb room needed)
-        (λ f.
-        let n = ap (λ (l : List Record). length (stored l)) (collected-new current) ∙ length-new (collected (supersede (new .job) rs)) in
-        rw f (omega arith))
-        (λ f. rw f (omega (arith, length-supersede (new .job) rs, ltb-false room needed f)))
+        (λ f. rw (f, lt-leb all room (omega (arith, ltb-true room needed f))) (ap stored collected-new ∙ stored-new new _))
+        (λ f. rw (f, le-leb all room (omega (arith, ltb-false room needed f))) (stored-new new _))
+
+    module _ {at : ℕ} {s : List ℕ} (m : Made (length (new .sealed)) (new .job) at s) where
+      pub made-used : at + (12 + length (new .sealed)) ≡ length (stored (fitted (length shelf) after))
+      made-used = rw (stored-made, length-append, length-written, m .0)
+
+      -- where the records current after the put fit, the new one finds room
+      pub made-room : ltb (length shelf) (length (stored (collected after))) ≡ false
+          → (at + (12 + length (new .sealed)) ≤ length s) × (length s ≡ length shelf) × (length shelf ≤ 65536)
+      made-room f =
+          let fits = fitted-fits (length shelf) after (ltb-false (length shelf) _ f) in
+          let u = made-used in
+          let l : length s ≡ length shelf = rw (m .1, length-append, length-drop) (omega (arith, m .0)) in
+          (omega arith, l, o .size)
+
+      pub made-bytes : {t : List ℕ} → t ≡ over (written new) (tailed at s)
+          → returned at s t ≡ over (stored (fitted (length shelf) after)) shelf
+      made-bytes e =
+          over-behind made (written new) shelf s _ at (sym (m .0)) (m .1) e ∙ ap (λ (x : List ℕ). over x shelf) (sym stored-made)
 
 -- head and sealed bytes written one behind the other
 pub record-written : (job edition : ℕ) (sealed head o o₁ t : List ℕ)
@@ -204,12 +186,3 @@ record-written job edition sealed head o o₁ t e f g =
     let long : length head ≡ 12 = ap length e ∙ omega (arith, n, length-label job edition, length-bytesOf 4 (length sealed)) in
     let whole : head ++ sealed ≡ written (newRecord job edition sealed) = rw (e, append-assoc) in
     over-behind head sealed o o₁ t 12 long (f ∙ rw take-length) (g ∙ rw take-length) ∙ ap (λ (x : List ℕ). over x o) whole
-
-module _ (room n job used : ℕ) (rs : List Record) (fills : length (stored rs) ≡ used) where
-  pub made-short : ltb room (used + (12 + n)) ≡ true → those (stays true job) rs ≡ roomMade room n job rs
-  unfolding roomMade
-  made-short f = those-coming job rs ∙ rw (fills, f)
-
-  pub made-long : ltb room (used + (12 + n)) ≡ false → supersede job rs ≡ roomMade room n job rs
-  unfolding roomMade
-  made-long f = rw (fills, f)

@@ -1,20 +1,8 @@
 -- Records are read one at a time: where one stands whole at the front, it and then what is behind it; otherwise none.
-use Rattle.block.proofs.Base.{_+_, _-_, _<_, _≤_, suc, zero, ℕ, _∙_, _≡_, ap, refl, sym, Bool, false, true, List, [], _∷_, arith, le-leb}
-use Rattle.block.proofs.Base.{leb-true, lt-leb, leb, drop, length, length-append, length-drop, take, length-take-le}
-use Rattle.block.specs.BigEndian.{bytesOf}
-use Rattle.block.specs.Words.{wordAt}
-use Rattle.block.proofs.Convert.{length-bytesOf}
-use Rattle.block.proofs.Same.{and-left, and-right}
-use Rattle.walk.proofs.Loop.{tailed, tail-is, length-tailed}
-use Rattle.label.specs.Label.{labelOf}
-use Rattle.label.proofs.LabelTells.{length-label}
-use Rattle.shelf.specs.declared.records.Head.{Head}
-use Rattle.shelf.specs.Records.{Record, written, marked, startsRecord, sizeAt, front, readUpTo, records, headAt}
-
--- a test holds, or it does not
-pub by-test : {A : Type 0} (t : Bool) → (t ≡ true → A) → (t ≡ false → A) → A
-by-test true f g = f refl
-by-test false f g = g refl
+use Rattle.shelf.proofs.Names.{Bool, List, Record, [], _+_, _-_, _<_, _∙_, _∷_, _≡_, _≤_, and-left, and-right, arith, by-test}
+use Rattle.shelf.proofs.Names.{bytesOf, cond, drop, eqb, false, front, labelOf, le-leb, leb, leb-true, length, length-append}
+use Rattle.shelf.proofs.Names.{length-bytesOf, length-drop, length-label, length-take-le, lt-leb, marked, ne-eqb, not, readUpTo}
+use Rattle.shelf.proofs.Names.{records, refl, sizeAt, startsRecord, suc, sym, take, true, wordAt, written, zero, ℕ}
 
 pub length-written : (r : Record) → length (written r) ≡ 12 + length (r .sealed)
 unfolding written
@@ -37,10 +25,6 @@ module _ (b : List ℕ) where
       let rest = and-right (leb 12 (length b)) _ e in
       (long, and-left _ _ rest, omega (arith, leb-true (wordAt b 8) (length b - 12) (and-right (marked b) _ rest)))
 
-  pub stands : 12 ≤ length b → marked b ≡ true → wordAt b 8 ≤ length b - 12 → startsRecord b ≡ true
-  unfolding startsRecord
-  stands h m l = rw (le-leb 12 (length b) h, m, le-leb (wordAt b 8) (length b - 12) l)
-
   too-short : length b < 12 → startsRecord b ≡ false
   unfolding startsRecord
   too-short h = rw (lt-leb 12 (length b) h)
@@ -49,15 +33,18 @@ module _ (b : List ℕ) where
   unfolding sizeAt
   size-starts e = rw e
 
-  pub size-zero : sizeAt b ≡ 0 → startsRecord b ≡ false
-  size-zero z = by-test (startsRecord b) (λ f. absurd (omega (arith, size-starts f))) (λ f. f)
+  pub size-marked : 12 ≤ length b → marked b ≡ true → {n : ℕ} → n ≡ wordAt b 8 → sizeAt b ≡ cond (leb n (length b - 12)) (12 + n) 0
+  unfolding sizeAt startsRecord
+  size-marked h m e = rw (e, le-leb 12 (length b) h, m)
 
-  pub size-some : (sizeAt b ≡ 0 → ⊥) → startsRecord b ≡ true
-  unfolding sizeAt
-  size-some z = by-test (startsRecord b) (λ f. f) (λ f. absurd (z (rw f)))
+  -- one stands there exactly where its size is not 0
+  pub starts-size : startsRecord b ≡ not (eqb (sizeAt b) 0)
+  starts-size =
+      by-test (startsRecord b) (λ f. rw (f, ne-eqb (sizeAt b) 0 (λ z. omega (arith, size-starts f))))
+      (λ f. rw f (unfold sizeAt in rw f))
 
   -- what is behind a record is shorter
-  pub behind-less : startsRecord b ≡ true → length (drop (sizeAt b) b) < length b
+  behind-less : startsRecord b ≡ true → length (drop (sizeAt b) b) < length b
   behind-less e = omega (arith, starts-within e, size-starts e, length-drop (sizeAt b) b)
 
   pub length-sealed : startsRecord b ≡ true → length (take (wordAt b 8) (drop 12 b)) ≡ wordAt b 8
@@ -102,58 +89,3 @@ module _ (P : List ℕ → Type 0) (none : (b : List ℕ) → startsRecord b ≡
 
   pub by-records : (b : List ℕ) → P b
   by-records b = up-to (length b) b (omega arith)
-
--- the record that a head tells of
-abbrev pub entry : List ℕ → Head → Record
-entry b h = record { current = h .current; job = h .job; edition = h .edition; sealed = take (h .size - 12) (drop 12 b) }
-
--- what a walk over the records finds where one stands
-pub record Turn (b : List ℕ) (h : Head) : Type 0 where
-  pub starts : startsRecord b ≡ true
-  pub size : h .size ≡ sizeAt b
-  pub long : 12 ≤ h .size
-  pub within : h .size ≤ length b
-  -- what is behind it is written as the borrow checker has it
-  pub reads : records b ≡ entry b h ∷ records (tailed (h .size) b)
-  pub whole : length (written (entry b h)) ≡ h .size
-
-module _ (b : List ℕ) (h : Head) (e : h ≡ headAt b) where
-  head-starts : startsRecord b ≡ true
-      → h ≡ record { size = sizeAt b; current = front b .current; job = front b .job; edition = front b .edition }
-  unfolding headAt
-  head-starts f = e ∙ rw f
-
-  -- nothing stands there
-  pub at-end : h .size ≡ 0 → records b ≡ []
-  at-end z =
-      by-test (startsRecord b) (λ f. absurd (omega (arith, ap (λ (x : Head). x .size) (head-starts f), size-starts b f))) (records-none b)
-
-  pub entry-front : startsRecord b ≡ true → front b ≡ entry b h
-  unfolding front
-  entry-front f =
-      let s = size-starts b f in
-      let n : 12 + wordAt b 8 - 12 ≡ wordAt b 8 = omega arith in
-      rw (head-starts f, s, n)
-
-  turn-at : startsRecord b ≡ true → Turn b h
-  turn-at f =
-      let w = starts-within b f in
-      let s = size-starts b f in
-      let n : h .size ≡ sizeAt b = ap (λ (x : Head). x .size) (head-starts f) in
-      let l : length (take (h .size - 12) (drop 12 b)) ≡ h .size - 12 =
-      length-take-le (h .size - 12) (drop 12 b) (omega (arith, length-drop 12 b)) in
-      record {
-        starts = f;
-        size = n;
-        long = omega arith;
-        within = omega arith;
-        reads = records-one b f ∙ rw (entry-front f, tail-is b (h .size), n);
-        whole = length-written (entry b h) ∙ rw l (omega arith);
-      }
-
-  pub on : (h .size ≡ 0 → ⊥) → Turn b h
-  unfolding headAt
-  on z = by-test (startsRecord b) turn-at (λ f. absurd (z (ap (λ (x : Head). x .size) e ∙ rw f)))
-
-pub shrinks : (b : List ℕ) (h : Head) → Turn b h → length (tailed (h .size) b) < length b
-shrinks b h t = omega (arith, length-tailed b (h .size), t .long, t .within)

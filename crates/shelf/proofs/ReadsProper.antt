@@ -1,37 +1,32 @@
 -- What is read of bytes is proper, and so is what putting and collecting make of it; reading and writing are each other's inverse.
-use Rattle.block.proofs.Base.{_+_, _<_, _^_, _≤_, suc, zero, ℕ, _∙_, _≡_, ap, ap₂, refl, sym, Bool, true, List, [], _++_, _∷_, append-assoc}
-use Rattle.block.proofs.Base.{append-nil, mod-eq-of-lt, arith, eqb-true, eqb, leb, lit<, drop, getD, length, length-append, take, drop-at}
-use Rattle.block.proofs.Base.{length-take-le, take-add, take-at, take-length}
-use Rattle.block.specs.Below.{AreBytes}
-use Rattle.block.specs.Words.{wordAt}
-use Rattle.block.proofs.Convert.{numberOf-lt, numberOf-bytesOf, bytesOf-numberOf}
-use Rattle.block.proofs.Entries.{below-at, below-take, below-drop}
-use Rattle.block.specs.BigEndian.{bytesOf}
-use Rattle.block.proofs.Same.{and-left, and-right}
-use Rattle.label.specs.Label.{labelOf}
-use Rattle.shelf.specs.Records.{Record, Proper, AllProper, stored, startsRecord, sizeAt, front, records, markOf, written, marked}
-use Rattle.shelf.specs.Records.{headAt}
-use Rattle.shelf.specs.Shelf.{isCurrentOf, those, supersede, withNew, fitted}
-use Rattle.shelf.specs.declared.records.Head.{Head}
-use Rattle.shelf.proofs.Reading.{by-test, length-sealed, records-none, records-one, by-records, length-written, starts-within}
-use Rattle.shelf.proofs.Reading.{size-starts, stands, records-empty, Turn, entry, entry-front}
+use Rattle.shelf.proofs.Names.{AllProper, AreBytes, Bool, Head, List, Proper, Record, [], _++_, _+_, _-_, _<_, _∙_, _∷_, _≡_, _≤_}
+use Rattle.shelf.proofs.Names.{and-left, and-right, ap, arith, below-at, below-drop, below-take, by-test, bytesOf, bytesOf-numberOf}
+use Rattle.shelf.proofs.Names.{drop, drop-append-seam, drop-drop, eqb, eqb-true, fitted, front, getD, headAt, isCurrentOf, labelOf}
+use Rattle.shelf.proofs.Names.{le-leb, leb, length, length-append, length-drop, length-take, length-take-le, lit<, markOf, marked}
+use Rattle.shelf.proofs.Names.{mod-eq-of-lt, ne-eqb, numberOf-bytesOf, numberOf-lt, records, refl, sizeAt, startsRecord, stored, suc}
+use Rattle.shelf.proofs.Names.{supersede, sym, take, take-add, take-length, take-nil, take-take, those, true, withNew, wordAt}
+use Rattle.shelf.proofs.Names.{written, zero, ℕ}
+use lib.Seq.{take-append-seam}
+use Rattle.shelf.proofs.Reading.{starts-size, length-sealed, records-none, records-one, by-records, length-written, starts-within}
+use Rattle.shelf.proofs.Reading.{size-starts, records-empty}
 
 module _ (b : List ℕ) (small : AreBytes b) where
-  pub byte-at : (i : ℕ) → getD b i 0 < 256
-  byte-at i = below-at 256 b (lit< tt) small i
+  abbrev four : ℕ → List ℕ
+  four i = getD b i 0 ∷ getD b (i + 1) 0 ∷ getD b (i + 2) 0 ∷ getD b (i + 3) 0 ∷ []
 
-  word-small : (i : ℕ) → wordAt b i < 2 ^ 32
-  word-small i =
-      numberOf-lt (getD b i 0 ∷ getD b (i + 1) 0 ∷ getD b (i + 2) 0 ∷ getD b (i + 3) 0 ∷ [])
-      (byte-at i, (byte-at (i + 1), (byte-at (i + 2), (byte-at (i + 3), tt))))
+  byte-at : (i : ℕ) → getD b i 0 < 256
+  byte-at = below-at 256 b (lit< tt) small
 
-  pub front-proper : startsRecord b ≡ true → Proper (front b)
+  four-bytes : (i : ℕ) → AreBytes (four i)
+  four-bytes i = (byte-at i, (byte-at (i + 1), (byte-at (i + 2), (byte-at (i + 3), tt))))
+
+  front-proper : startsRecord b ≡ true → Proper (front b)
   unfolding front
   front-proper f =
       record {
-        job = word-small 2;
+        job = numberOf-lt (four 2) (four-bytes 2);
         edition = numberOf-lt (getD b 6 0 ∷ getD b 7 0 ∷ []) (byte-at 6, (byte-at 7, tt));
-        size = rw (length-sealed b f) (word-small 8);
+        size = rw (length-sealed b f) (numberOf-lt (four 8) (four-bytes 8));
         bytes = below-take 256 (wordAt b 8) (drop 12 b) (below-drop 256 12 b small);
       }
 
@@ -46,19 +41,23 @@ those-proper test [] h = tt
 those-proper test (r ∷ rs) h =
     by-test (test r) (λ e. rw e (h .0, those-proper test rs (h .1))) (λ e. rw e (those-proper test rs (h .1)))
 
-new-proper : (job : ℕ) (new : Record) (rs : List Record) → Proper new → AllProper rs → AllProper (supersede job rs ++ (new ∷ []))
+supersede-proper : (job : ℕ) (rs : List Record) → AllProper rs → AllProper (supersede job rs)
 unfolding supersede
-new-proper job new [] p h = (p, tt)
-new-proper job new (r ∷ rs) p h =
+supersede-proper job [] h = tt
+supersede-proper job (r ∷ rs) h =
     let q = h .0 in
-    let rest = new-proper job new rs p (h .1) in
+    let rest = supersede-proper job rs (h .1) in
     by-test (isCurrentOf job r)
     (λ e. rw e (record { job = q .job; edition = q .edition; size = q .size; bytes = q .bytes }, rest)) (λ e. rw e (q, rest))
+
+pub more-proper : (rs : List Record) {r : Record} → AllProper rs → Proper r → AllProper (rs ++ (r ∷ []))
+more-proper [] h p = (p, tt)
+more-proper (x ∷ rs) h p = (h .0, more-proper rs (h .1) p)
 
 pub put-proper : (room : ℕ) (new : Record) (rs : List Record) → Proper new → AllProper rs → AllProper (fitted room (withNew new rs))
 unfolding fitted withNew
 put-proper room new rs p h =
-    let all = new-proper (new .job) new rs p h in
+    let all = more-proper (supersede (new .job) rs) (supersede-proper (new .job) rs h) p in
     by-test (leb (length (stored (withNew new rs))) room) (λ e. rw e all) (λ e. rw e (those-proper (λ r. r .current) _ all))
 
 -- the first n entries, each by its place
@@ -72,40 +71,31 @@ listed-take zero b h = refl
 listed-take (suc n) [] h = absurd (omega arith)
 listed-take (suc n) (x ∷ b) h = ap (λ (l : List ℕ). x ∷ l) (listed-take n b (omega arith))
 
--- a byte list that is read as a number is its bytes again
-module _ (b : List ℕ) (small : AreBytes b) where
-  four-back : (i : ℕ) → bytesOf 4 (wordAt b i) ≡ getD b i 0 ∷ getD b (i + 1) 0 ∷ getD b (i + 2) 0 ∷ getD b (i + 3) 0 ∷ []
-  four-back i =
-      let at = byte-at b small in
-      bytesOf-numberOf (getD b i 0 ∷ getD b (i + 1) 0 ∷ getD b (i + 2) 0 ∷ getD b (i + 3) 0 ∷ [])
-      (at i, (at (i + 1), (at (i + 2), (at (i + 3), tt))))
+marked-back : (b : List ℕ) → marked b ≡ true → (0x52 ≡ getD b 0 0) × (markOf (eqb (getD b 1 0) 0x44) ≡ getD b 1 0)
+unfolding marked
+marked-back b m = (
+  sym (eqb-true (getD b 0 0) 0x52 (and-left _ _ m)),
+  by-test (eqb (getD b 1 0) 0x44) (λ e. rw e (sym (eqb-true (getD b 1 0) 0x44 e)))
+      (λ e. rw e (sym (eqb-true (getD b 1 0) 0x58 (rw e at (and-right (eqb (getD b 0 0) 0x52) _ m))))),
+)
 
-  marked-back : marked b ≡ true → (0x52 ≡ getD b 0 0) × (markOf (eqb (getD b 1 0) 0x44) ≡ getD b 1 0)
-  unfolding marked
-  marked-back m = (
-    sym (eqb-true (getD b 0 0) 0x52 (and-left _ _ m)),
-    by-test (eqb (getD b 1 0) 0x44) (λ e. rw e (sym (eqb-true (getD b 1 0) 0x44 e)))
-        (λ e. rw e (sym (eqb-true (getD b 1 0) 0x58 (rw e at (and-right (eqb (getD b 0 0) 0x52) _ m))))),
-  )
-
-  -- the record that is read, written, is the bytes that it was read from
-  front-written : startsRecord b ≡ true → written (front b) ≡ take (sizeAt b) b
-  unfolding written front labelOf listed
-  front-written f =
-      let w = starts-within b f in
-      let m = marked-back (w .1) in
-      let two = bytesOf-numberOf (getD b 6 0 ∷ getD b 7 0 ∷ []) (byte-at b small 6, (byte-at b small 7, tt)) in
-      rw (
-        m .1,
-        two,
-        length-sealed b f,
-        four-back 2,
-        four-back 8,
-        size-starts b f,
-        take-add 12 (wordAt b 8) b,
-        ← listed-take 12 b (w .0),
-        ← m .0,
-      )
+-- the record that is read, written, is the bytes that it was read from
+front-written : (b : List ℕ) → AreBytes b → startsRecord b ≡ true → written (front b) ≡ take (sizeAt b) b
+unfolding written front labelOf listed
+front-written b small f =
+    let w = starts-within b f in
+    let m = marked-back b (w .1) in
+    rw (
+      m .1,
+      bytesOf-numberOf (getD b 6 0 ∷ getD b 7 0 ∷ []) (byte-at b small 6, (byte-at b small 7, tt)),
+      length-sealed b f,
+      bytesOf-numberOf (four b small 2) (four-bytes b small 2),
+      bytesOf-numberOf (four b small 8) (four-bytes b small 8),
+      size-starts b f,
+      take-add 12 (wordAt b 8) b,
+      ← listed-take 12 b (w .0),
+      ← m .0,
+    )
 
 -- what reads is what is stored of it
 stored-front : (b : List ℕ) → AreBytes b → stored (records b) ≡ take (length (stored (records b))) b
@@ -117,27 +107,28 @@ stored-front =
     rw (records-one b f, front-written b small f, length-append, l, take-add)
     (ap (λ (x : List ℕ). take (sizeAt b) b ++ x) (more (below-drop 256 (sizeAt b) b small))))
 
+-- there is no more of that than there are bytes
+pub stored-within : (b : List ℕ) → AreBytes b → length (stored (records b)) ≤ length b
+stored-within b small = omega (arith, ap length (stored-front b small) ∙ length-take (length (stored (records b))) b)
+
 -- records that fill the bytes are the bytes
 pub stored-records : (b : List ℕ) → AreBytes b → length (stored (records b)) ≡ length b → stored (records b) ≡ b
 stored-records b small e = stored-front b small ∙ ap (λ (k : ℕ). take k b) e ∙ take-length b
 
 -- a written record is read
-same-record : {c c′ : Bool} {j j′ e e′ : ℕ} {s s′ : List ℕ} → c ≡ c′ → j ≡ j′ → e ≡ e′ → s ≡ s′
-    → _≡_ {A = Record} (record { current = c; job = j; edition = e; sealed = s })
-    (record { current = c′; job = j′; edition = e′; sealed = s′ })
-same-record p q u v = rw (p, q, u, v)
-
 module _ (r : Record) (proper : Proper r) (rest : List ℕ) where
   size-field : wordAt (written r ++ rest) 8 ≡ length (r .sealed)
   unfolding written labelOf bytesOf
   size-field = numberOf-bytesOf 4 (length (r .sealed)) ∙ mod-eq-of-lt (proper .size)
 
   written-starts : startsRecord (written r ++ rest) ≡ true
-  unfolding written labelOf bytesOf marked
+  unfolding written labelOf bytesOf marked startsRecord
   written-starts =
       let l = length-append (written r) rest in
       let w = length-written r in
-      stands (written r ++ rest) (omega arith) (by-test (r .current) (λ e. rw e) (λ e. rw e)) (omega (arith, size-field))
+      let b = written r ++ rest in
+      rw (le-leb 12 (length b) (omega arith), le-leb (wordAt b 8) (length b - 12) (omega (arith, size-field)))
+      (by-test (r .current) (λ e. rw e) (λ e. rw e))
 
   written-size : sizeAt (written r ++ rest) ≡ length (written r)
   written-size = size-starts (written r ++ rest) written-starts ∙ rw size-field (sym (length-written r))
@@ -145,34 +136,76 @@ module _ (r : Record) (proper : Proper r) (rest : List ℕ) where
   written-front : front (written r ++ rest) ≡ r
   unfolding written labelOf bytesOf front
   written-front =
-      same-record (by-test (r .current) (λ e. rw e) (λ e. rw e)) (numberOf-bytesOf 4 (r .job) ∙ mod-eq-of-lt (proper .job))
-      (numberOf-bytesOf 2 (r .edition) ∙ mod-eq-of-lt (proper .edition))
-      (ap (λ (k : ℕ). take k (r .sealed ++ rest)) size-field ∙ take-at (r .sealed) rest (length (r .sealed)) refl)
+      let mark : eqb (markOf (r .current)) 0x44 ≡ r .current = by-test (r .current) (λ e. rw e) (λ e. rw e) in
+      let job = numberOf-bytesOf 4 (r .job) ∙ mod-eq-of-lt (proper .job) in
+      let edition = numberOf-bytesOf 2 (r .edition) ∙ mod-eq-of-lt (proper .edition) in
+      rw (mark, job, edition, size-field, take-append-seam (r .sealed) rest)
 
-  pub written-reads : records (written r ++ rest) ≡ r ∷ records rest
-  written-reads =
-      records-one (written r ++ rest) written-starts
-      ∙ ap₂ {C = List Record} (λ (x : Record) (l : List ℕ). x ∷ records l) written-front
-      (ap (λ (k : ℕ). drop k (written r ++ rest)) written-size ∙ drop-at (written r) rest (length (written r)) refl)
-
--- stored records are read, and then what is behind them
-pub records-behind : (rs : List Record) (b : List ℕ) → AllProper rs → records (stored rs ++ b) ≡ rs ++ records b
-unfolding stored
-records-behind [] b h = refl
-records-behind (r ∷ rs) b h =
-    ap records (append-assoc (written r) (stored rs) b)
-    ∙ written-reads r (h .0) (stored rs ++ b)
-    ∙ ap {B = List Record} (λ (l : List Record). r ∷ l) (records-behind rs b (h .1))
+  written-reads : records (written r ++ rest) ≡ r ∷ records rest
+  written-reads = rw (records-one (written r ++ rest) written-starts, written-front, written-size, drop-append-seam)
 
 -- what was stored is read
 pub records-stored : (rs : List Record) → AllProper rs → records (stored rs) ≡ rs
-records-stored rs h =
-    ap records (sym (append-nil (stored rs)))
-    ∙ records-behind rs [] h
-    ∙ ap {B = List Record} (λ (l : List Record). rs ++ l) records-empty
-    ∙ append-nil rs
+unfolding stored
+records-stored [] h = records-empty
+records-stored (r ∷ rs) h = rw (written-reads r (h .0) (stored rs), records-stored rs (h .1))
 
--- the entry that a head tells of, written
-pub entry-written : (b : List ℕ) (h : Head) → h ≡ headAt b → Turn b h → AreBytes b → written (entry b h) ≡ take (h .size) b
-entry-written b h e t small =
-    ap written (sym (entry-front b h e (t .starts))) ∙ front-written b small (t .starts) ∙ ap (λ (k : ℕ). take k b) (sym (t .size))
+-- what `&s[at..used]` holds
+abbrev pub between : ℕ → ℕ → List ℕ → List ℕ
+between at used s = take (used - at) (drop at s)
+
+drop-take : (n k : ℕ) (l : List ℕ) → drop n (take k l) ≡ take (k - n) (drop n l)
+drop-take zero k l = let e : k - 0 ≡ k = omega arith in rw e
+drop-take (suc n) zero l = let e : 0 - suc n ≡ 0 = omega arith in rw e
+drop-take (suc n) (suc k) [] = sym (take-nil (suc k - suc n))
+drop-take (suc n) (suc k) (x ∷ l) = let e : suc k - suc n ≡ k - n = omega arith in rw e (drop-take n k l)
+
+-- behind the record at the front of it
+between-on : (at used n : ℕ) (s : List ℕ) → drop n (between at used s) ≡ between (at + n) used s
+between-on at used n s =
+    let e : used - at - n ≡ used - (at + n) = omega arith in
+    drop-take n (used - at) (drop at s) ∙ rw (e, drop-drop)
+
+-- the record that a head tells of
+abbrev pub entry : List ℕ → Head → Record
+entry b h = record { current = h .current; job = h .job; edition = h .edition; sealed = take (h .size - 12) (drop 12 b) }
+
+-- what a walk over the records finds where one stands
+pub record Turn (s : List ℕ) (used at : ℕ) (h : Head) : Type 0 where
+  -- of bytes, it is proper, and written it is the bytes that it was read from
+  pub proper : AreBytes (between at used s) → Proper (entry (between at used s) h)
+  pub bytes : AreBytes (between at used s) → written (entry (between at used s) h) ≡ take (h .size) (drop at s)
+  pub long : 12 ≤ h .size
+  pub within : at + h .size ≤ used
+  pub inside : at + h .size ≤ length s
+  pub reads : records (between at used s) ≡ entry (between at used s) h ∷ records (between (at + h .size) used s)
+  pub whole : length (written (entry (between at used s) h)) ≡ h .size
+
+module _ (s : List ℕ) (used at : ℕ) (h : Head) (e : h ≡ headAt (between at used s)) where
+  head-size : h .size ≡ sizeAt (between at used s)
+  unfolding headAt sizeAt
+  head-size = rw e (by-test (startsRecord (between at used s)) (λ f. rw f) (λ f. rw f))
+
+  -- nothing stands there
+  pub at-end : h .size ≡ 0 → records (between at used s) ≡ []
+  at-end z = records-none (between at used s) (starts-size (between at used s) ∙ rw (sym head-size ∙ z))
+
+  pub on : (h .size ≡ 0 → ⊥) → Turn s used at h
+  unfolding front headAt
+  on z =
+      let b = between at used s in
+      let f : startsRecord b ≡ true = starts-size b ∙ rw (ne-eqb (sizeAt b) 0 (λ y. z (head-size ∙ y))) in
+      let w = starts-within b f in
+      let n : h .size ≡ 12 + wordAt b 8 = head-size ∙ size-starts b f in
+      let k : h .size - 12 ≡ wordAt b 8 = omega arith in
+      let l = simp (length-take, length-drop) at (w .2) in
+      let same : front b ≡ entry b h = rw k (rw (e, f)) in
+      record {
+        proper = λ small. rw (← same) (front-proper b small f);
+        bytes = λ small. rw (← same, front-written b small f, ← head-size) (take-take (h .size) (used - at) (drop at s) (omega arith));
+        long = omega arith;
+        within = omega arith;
+        inside = omega arith;
+        reads = records-one b f ∙ rw (same, ← head-size, between-on at used (h .size) s);
+        whole = rw (← same) (length-written (front b) ∙ rw (length-sealed b f, n));
+      }

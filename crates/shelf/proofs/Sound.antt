@@ -1,42 +1,30 @@
--- Where a shelf breaks off: all is in order where no job has two current records, and otherwise less than all; so a shelf is bad exactly where
--- it is not in order up to its used count.
-use Rattle.block.proofs.Base.{_+_, _<_, _≤_, ℕ, _∙_, _≡_, ap, ap₂, refl, sym, _&&_, _||_, cond, false, not, true, List, [], _++_, _∷_}
-use Rattle.block.proofs.Base.{append-assoc, append-nil, arith, eq-eqb, eqb-true, le-ltb, ltb-false, ne-eqb, not-false, eqb, ltb, drop}
-use Rattle.block.proofs.Base.{length, length-append, length-drop, take, drop-drop, length-take-le, take-add}
-use mathlib.Core.Bool.{or-true, or-false}
-use Rattle.block.specs.Below.{AreBytes}
-use Rattle.block.proofs.Entries.{below-take, below-drop}
-use Rattle.block.proofs.Same.{and-left, and-right}
-use Rattle.walk.proofs.Loop.{tailed, tail-is}
-use Rattle.shelf.specs.declared.records.Head.{Head}
-use Rattle.shelf.specs.Records.{Record, Proper, written, stored, records, headAt, sizeAt, front}
-use Rattle.shelf.specs.Shelf.{isCurrentOf, those, currentOf, hasCurrent, twoCurrent, badShelf}
-use Rattle.shelf.specs.Steps.{soundFrom, soundUpTo, InOrder}
-use Rattle.shelf.proofs.Reading.{by-test, length-written, records-empty, Turn, entry, entry-front, starts-within, size-starts}
-use Rattle.shelf.proofs.Reading.{length-sealed, records-none, records-one, by-records}
+-- Where a shelf breaks off: all is in order where no job has two current records, and otherwise less than all; so a shelf is bad
+-- exactly where it is not in order up to its used count.
+use Rattle.shelf.proofs.Names.{AreBytes, Head, InOrder, List, Record, [], _&&_, _++_, _+_, _-_, _<_, _∙_, _∷_, _≡_, _≤_, and-left}
+use Rattle.shelf.proofs.Names.{and-right, ap, append-assoc, append-nil, ap₂, arith, badShelf, below-drop, below-take, by-test, drop}
+use Rattle.shelf.proofs.Names.{eq-eqb, eqb, eqb-true, false, hasCurrent, headAt, isCurrentOf, le-ltb, length, length-append}
+use Rattle.shelf.proofs.Names.{length-take-le, ltb, ltb-false, ne-eqb, not, not-false, or-false, or-true, records, refl, soundFrom}
+use Rattle.shelf.proofs.Names.{soundUpTo, stored, sub-zero, sym, take, take-add, take-length, those, true, twoCurrent, written}
+use Rattle.shelf.proofs.Names.{zero-add, ℕ}
+use Rattle.shelf.proofs.Reading.{length-written, records-empty}
+use Rattle.shelf.proofs.ReadsProper.{between, Turn, entry, at-end, stored-records, records-stored, more-proper, records-proper}
+use Rattle.shelf.proofs.ReadsProper.{stored-within}
 use Rattle.shelf.proofs.Walks.{none-current, or-left, or-right}
-use Rattle.shelf.proofs.ReadsProper.{entry-written, stored-records, written-reads, records-behind, front-proper, records-proper}
-use Rattle.shelf.proofs.Putting.{stored-append, those-append}
+use Rattle.shelf.proofs.Putting.{stored-new, those-append}
 use Rattle.shelf.proofs.Current.{current-none, own-current, at-most-one, no-two}
-
--- how many current records of a job there are, with one more
-length-more : (job : ℕ) (passed : List Record) (r : Record) (rs : List Record)
-    → length (currentOf job (passed ++ (r ∷ rs)))
-    ≡ length (currentOf job passed) + length (cond (isCurrentOf job r) (r ∷ currentOf job rs) (currentOf job rs))
-unfolding those
-length-more job passed r rs = ap length (those-append (isCurrentOf job) passed (r ∷ rs)) ∙ length-append (currentOf job passed) _
 
 -- it is no second one
 first : (passed : List Record) (r : Record) (rs : List Record) → twoCurrent (passed ++ (r ∷ rs)) ≡ false
     → r .current && hasCurrent (r .job) passed ≡ false
+unfolding those
 first passed r rs f =
     by-test (r .current)
     (λ e.
-    let all = at-most-one (passed ++ (r ∷ rs)) f (r .job) in
-    rw e (current-none (r .job) passed (omega (arith, rw (own-current r e) at (length-more (r .job) passed r rs)))))
+    let all = rw (those-append, length-append, own-current r e) at (at-most-one (passed ++ (r ∷ rs)) f (r .job)) in
+    rw e (current-none (r .job) passed (omega arith)))
     (λ e. rw e)
 
-pub sound-all : (passed rs : List Record) → twoCurrent (passed ++ rs) ≡ false → soundFrom passed rs ≡ length (stored rs)
+sound-all : (passed rs : List Record) → twoCurrent (passed ++ rs) ≡ false → soundFrom passed rs ≡ length (stored rs)
 unfolding soundFrom stored
 sound-all passed [] e = refl
 sound-all passed (r ∷ rs) e =
@@ -48,7 +36,7 @@ still-single : (passed : List Record) (r : Record) → twoCurrent passed ≡ fal
 unfolding those
 still-single passed r e f =
     no-two (passed ++ (r ∷ []))
-    (λ job. rw (length-more job passed r [])
+    (λ job. rw (those-append, length-append)
     (by-test (isCurrentOf job r)
     (λ g.
     let same : r .job ≡ job = eqb-true (r .job) job (and-right (r .current) _ g) in
@@ -56,7 +44,7 @@ still-single passed r e f =
     rw (g, none-current job passed none) (omega arith))
     (λ g. rw g (omega (arith, at-most-one passed e job)))))
 
-pub sound-less : (passed rs : List Record) → twoCurrent passed ≡ false → twoCurrent (passed ++ rs) ≡ true
+sound-less : (passed rs : List Record) → twoCurrent passed ≡ false → twoCurrent (passed ++ rs) ≡ true
     → soundFrom passed rs < length (stored rs)
 unfolding soundFrom stored
 sound-less passed [] e f =
@@ -68,124 +56,73 @@ sound-less passed (r ∷ rs) e f =
     let more = sound-less (passed ++ (r ∷ [])) rs (still-single passed r e g) (rw append-assoc f) in
     rw (g, length-append) (omega arith))
 
--- how far a walk that looks back has come: `at` bytes are passed, all of them records, and t is to come
-pub record Passing (s t : List ℕ) (at : ℕ) : Type 0 where
+-- how far a walk that looks back has come: `at` bytes are passed, all of them records
+pub record Passing (s : List ℕ) (at : ℕ) : Type 0 where
   pub within : at ≤ length s
-  pub rest : t ≡ drop at s
   pub whole : length (stored (records (take at s))) ≡ at
-  pub sum : at + soundFrom (records (take at s)) (records t) ≡ soundUpTo (records s)
+  pub sum : at + soundFrom (records (take at s)) (records (between at (length s) s)) ≡ soundUpTo (records s)
 
-pub passing-starts : (s : List ℕ) → Passing s s 0
+pub passing-starts : (s : List ℕ) → Passing s 0
 unfolding stored
 passing-starts s =
-    record {
-      within = omega arith;
-      rest = refl;
-      whole = ap (λ (rs : List Record). length (stored rs)) records-empty;
-      sum = ap (λ (rs : List Record). 0 + soundFrom rs (records s)) records-empty ∙ omega arith;
-    }
+    record { within = omega arith; whole = rw records-empty; sum = rw (records-empty, sub-zero, take-length, zero-add) }
 
-module _ (s t : List ℕ) (at : ℕ) (p : Passing s t at) where
-  pub passed-all : records t ≡ [] → at ≡ soundUpTo (records s)
+module _ {s : List ℕ} {at : ℕ} (p : Passing s at) where
+  pub passed-all : {h : Head} → h ≡ headAt (between at (length s) s) → h .size ≡ 0 → at ≡ soundUpTo (records s)
   unfolding soundFrom
-  passed-all e = let z = ap (soundFrom (records (take at s))) e in omega (arith, z, p .sum)
+  passed-all e z = omega (arith, rw (at-end s (length s) at _ e z) at (p .sum))
 
-  module _ (h : Head) (told : h ≡ headAt t) (turn : Turn t h) where
+  module _ {h : Head} (turn : Turn s (length s) at h) where
     pub second : h .current && hasCurrent (h .job) (records (take at s)) ≡ true → at ≡ soundUpTo (records s)
     unfolding soundFrom
-    second e =
-        let z : soundFrom (records (take at s)) (records t) ≡ 0 = ap (soundFrom (records (take at s))) (turn .reads) ∙ rw e in
-        omega (arith, z, p .sum)
+    second e = omega (arith, rw (turn .reads, e) at (p .sum))
 
+    -- the records passed, with this one
     module _ (small : AreBytes s) where
-      small-rest : AreBytes t
-      small-rest = rw (p .rest) (below-drop 256 at s small)
-
-      entry-proper : Proper (entry t h)
-      entry-proper = rw (entry-front t h told (turn .starts)) at (front-proper t small-rest (turn .starts))
-
-      -- the records passed, with this one
-      passed-more : records (take (at + h .size) s) ≡ records (take at s) ++ (entry t h ∷ [])
+      passed-more : records (take (at + h .size) s) ≡ records (take at s) ++ (entry (between at (length s) s) h ∷ [])
       passed-more =
           let P = records (take at s) in
-          let e = entry t h in
-          let small-passed = below-take 256 at s small in
-          let before : take at s ≡ stored P =
-          sym (stored-records (take at s) small-passed (p .whole ∙ sym (length-take-le at s (p .within)))) in
-          let here : take (h .size) (drop at s) ≡ written e =
-          ap (take (h .size)) (sym (p .rest)) ∙ sym (entry-written t h told turn small-rest) in
-          ap records (take-add at (h .size) s ∙ ap₂ _++_ before (here ∙ sym (append-nil (written e))))
-          ∙ records-behind P (written e ++ []) (records-proper (take at s) small-passed)
-          ∙ ap {B = List Record} (λ (x : List Record). P ++ x)
-          (written-reads e entry-proper [] ∙ ap {B = List Record} (λ (x : List Record). e ∷ x) records-empty)
+          let passed = below-take 256 at s small in
+          let here = below-take 256 (length s - at) (drop at s) (below-drop 256 at s small) in
+          let before = stored-records (take at s) passed (p .whole ∙ sym (length-take-le at s (p .within))) in
+          ap records (take-add at (h .size) s ∙ ap₂ _++_ (sym before) (sym (turn .bytes here)) ∙ sym (stored-new _ P))
+          ∙ records-stored _ (more-proper P (records-proper (take at s) passed) (turn .proper here))
 
-      pub passing-on : h .current && hasCurrent (h .job) (records (take at s)) ≡ false → Passing s (tailed (h .size) t) (at + h .size)
-      unfolding soundFrom stored
+      pub passing-on : h .current && hasCurrent (h .job) (records (take at s)) ≡ false → Passing s (at + h .size)
+      unfolding soundFrom
       passing-on f =
-          let P = records (take at s) in
-          let e = entry t h in
-          let n = h .size in
-          let l = ap length (p .rest) ∙ length-drop at s in
-          let z : soundFrom P (records t) ≡ n + soundFrom (P ++ (e ∷ [])) (records (tailed n t)) =
-          ap (soundFrom P) (turn .reads) ∙ rw (f, turn .whole) in
           record {
-            within = omega (arith, turn .within);
-            rest = tail-is t n ∙ ap (drop n) (p .rest) ∙ drop-drop n at s;
-            whole = rw (passed-more, stored-append, append-nil, length-append, p .whole, turn .whole);
-            sum = rw passed-more (omega (arith, z, p .sum));
+            within = turn .inside;
+            whole = rw (passed-more, stored-new, length-append, p .whole, turn .whole);
+            sum = rw passed-more (omega (arith, rw (turn .reads, f, turn .whole) at (p .sum)));
           }
 
--- the records have no more bytes than they were read from
-stored-within : (b : List ℕ) → length (stored (records b)) ≤ length b
-unfolding stored front
-stored-within =
-    by-records (λ b. length (stored (records b)) ≤ length b) (λ b f. rw (records-none b f) (omega arith))
-    (λ b f more.
-    let w = starts-within b f in
-    let l : length (written (front b)) ≡ sizeAt b = length-written (front b) ∙ rw (length-sealed b f, size-starts b f) in
-    rw (records-one b f, length-append) (omega (arith, size-starts b f, length-drop (sizeAt b) b)))
-
-sound-test : (rs : List Record) (used : ℕ) → length (stored rs) ≤ used
-    → not (eqb (soundUpTo rs) used) ≡ not (eqb (length (stored rs)) used) || twoCurrent rs
-unfolding twoCurrent
-sound-test rs used h =
-    by-test (twoCurrent rs)
-    (λ e. let l = sound-less [] rs refl e in rw (e, ne-eqb (soundUpTo rs) used (λ f. omega arith), or-true))
-    (λ e. rw (e, sound-all [] rs e, or-false))
-
 module _ (shelf : List ℕ) (used : ℕ) where
-  pub bad-records : length shelf ≤ 65536 → used ≤ length shelf
+  pub bad-records : AreBytes shelf → length shelf ≤ 65536 → used ≤ length shelf
       → not (eqb (soundUpTo (records (take used shelf))) used) ≡ badShelf shelf used
-  unfolding badShelf
-  bad-records h k =
-      let n = stored-within (take used shelf) in
+  unfolding badShelf twoCurrent
+  bad-records small h k =
+      let rs = records (take used shelf) in
+      let n = stored-within (take used shelf) (below-take 256 used shelf small) in
       let l : length (take used shelf) ≡ used = length-take-le used shelf k in
       rw (le-ltb 65536 (length shelf) h, le-ltb (length shelf) used k)
-      (sound-test (records (take used shelf)) used (omega arith))
+      (by-test (twoCurrent rs)
+      (λ e. let less = sound-less [] rs refl e in rw (e, ne-eqb (soundUpTo rs) used (λ f. omega arith), or-true))
+      (λ e. rw (e, sound-all [] rs e, or-false)))
 
   pub in-order : badShelf shelf used ≡ false → InOrder shelf used
   unfolding badShelf
   in-order e =
-      let first = or-left (ltb 65536 (length shelf)) _ e in
       let e₁ = or-right (ltb 65536 (length shelf)) _ e in
-      let second = or-left (ltb (length shelf) used) _ e₁ in
       let e₂ = or-right (ltb (length shelf) used) _ e₁ in
-      let n = length (stored (records (take used shelf))) in
-      let filled = or-left (not (eqb n used)) _ e₂ in
       record {
-        size = ltb-false 65536 (length shelf) first;
-        within = ltb-false (length shelf) used second;
-        fills = eqb-true n used (not-false (eqb n used) filled);
-        single = or-right (not (eqb n used)) _ e₂;
+        size = ltb-false _ _ (or-left _ _ e);
+        within = ltb-false _ _ (or-left _ _ e₁);
+        fills = eqb-true _ _ (not-false _ (or-left _ _ e₂));
+        single = or-right (not (eqb (length (stored (records (take used shelf)))) used)) _ e₂;
       }
 
   -- and the other way round
   pub not-bad : InOrder shelf used → badShelf shelf used ≡ false
   unfolding badShelf
-  not-bad o =
-      rw (
-        le-ltb 65536 (length shelf) (o .size),
-        le-ltb (length shelf) used (o .within),
-        eq-eqb (length (stored (records (take used shelf)))) used (o .fills),
-        o .single,
-      )
+  not-bad o = rw (le-ltb _ _ (o .size), le-ltb _ _ (o .within), eq-eqb _ _ (o .fills), o .single)

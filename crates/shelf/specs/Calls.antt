@@ -4,7 +4,7 @@ use mathlib.Core.Bool.{Bool, true, cond}
 use mathlib.Core.List.{List, []}
 use lib.Dec.{ltb}
 use lib.ListN.{length, take, drop}
-use Rattle.walk.specs.Walk.{over}
+use Rattle.block.specs.Over.{over}
 use Rattle.shelf.specs.Records.{Record, stored, records}
 use Rattle.shelf.specs.Shelf.{collected, hasCurrent, placeOf, sizeOf, notHigher, withNew, fitted, badShelf}
 use Rattle.shelf.specs.declared.Ended.{Ended}

@@ -4,9 +4,9 @@ ghost use Prim.Native.Nat.{_+_, _≤_};
 ghost use lib.Dec.{ltb};
 ghost use lib.ListN.{length, take, drop};
 ghost use lib.Seq.{paste};
-ghost use Rattle.walk.specs.Walk.{over};
+ghost use Rattle.block.specs.Over.{over};
 ghost use Rattle.shelf.specs.Records.{written, stored, records};
-ghost use Rattle.shelf.specs.Shelf.{those, supersede};
+ghost use Rattle.shelf.specs.Shelf.{those};
 ghost use Rattle.shelf.specs.Steps.{stays, roomMade, InOrder};
 ghost use Rattle.shelf.specs.Calls.{newRecord};
 use crate::lookup;
@@ -48,34 +48,23 @@ pub(crate) fn keep(shelf: &mut [u8], used: usize, coming: bool, job: u32) -> usi
     }
 }
 
-// Marks the job's current record, if there is one, superseded: one byte.
-fn mark(shelf: &mut [u8], used: usize, job: u32)
-    requires { ⌜ InOrder (now shelf) used ⌝ }
-    ensures { λ _. ⌜ now (shelf .exit) ≡ over (stored (supersede job (records (take used (now (shelf .entry)))))) (now (shelf .entry)) ⌝ }
-{
-    let span = lookup::seek(&shelf[0..used], job);
-    let start = span.start;
-    if span.length > 0 {
-        shelf[start + 1] = records::SUPERSEDED;
-    }
-}
-
 // Whether a record with `n` sealed bytes finds no room behind `taken` bytes.
 pub(crate) fn short(room: usize, taken: usize, n: usize) -> bool
+    requires { ⌜ room ≤ 65536 ⌝ }
     ensures { λ r. ⌜ r ≡ ltb room (taken + (12 + n)) ⌝ }
 {
     if taken > room {
         return true;
     }
-    let left = room - taken;
-    if left < records::HEAD {
+    if n > room {
         return true;
     }
-    n > left - records::HEAD
+    taken + (records::HEAD + n) > room
 }
 
 // Makes room for a new record of the job with `n` sealed bytes, and hands back where it goes. Where it fits behind the last one,
-// the current one is marked; else all that is superseded is thrown out, and that one with it, unmarked.
+// the current one, if there is one, is marked superseded, one byte; else all that is superseded is thrown out, and that one with it,
+// unmarked.
 pub(crate) fn make_room(shelf: &mut [u8], used: usize, job: u32, n: usize) -> usize
     requires { ⌜ InOrder (now shelf) used ⌝ }
     ensures { λ r. ⌜ r ≡ length (stored (roomMade (length (now (shelf .entry))) n job (records (take used (now (shelf .entry)))))) ⌝ }
@@ -84,7 +73,10 @@ pub(crate) fn make_room(shelf: &mut [u8], used: usize, job: u32, n: usize) -> us
     if short(shelf.len(), used, n) {
         return keep(shelf, used, true, job);
     }
-    mark(shelf, used, job);
+    let found = lookup::survey(shelf, used, job, 0);
+    if found.length > 0 {
+        shelf[found.start + 1] = records::SUPERSEDED;
+    }
     used
 }
 

@@ -68,13 +68,13 @@ pub fn put(shelf: &mut [u8], used: usize, job: u32, edition: u16, sealed: &[u8])
         let ended = Ended::BadShelf;
         return Kept { ended, used };
     }
-    if lookup::not_higher(&shelf[0..used], job, edition) {
+    let told = lookup::survey(shelf, used, job, edition);
+    if told.reached > 0 {
         let ended = Ended::NotHigher;
         return Kept { ended, used };
     }
     let n = sealed.len();
-    let kept = lookup::kept_size(&shelf[0..used], true, job);
-    if change::short(shelf.len(), kept, n) {
+    if change::short(shelf.len(), told.kept, n) {
         let ended = Ended::NoRoom;
         return Kept { ended, used };
     }
@@ -111,8 +111,8 @@ pub fn find(shelf: &[u8], used: usize, job: u32) -> Found
             length: 0,
         };
     }
-    let span = lookup::seek(&shelf[0..used], job);
-    if span.length == 0 {
+    let told = lookup::survey(shelf, used, job, 0);
+    if told.length == 0 {
         return Found {
             ended: Ended::NoCurrent,
             start: 0,
@@ -121,8 +121,8 @@ pub fn find(shelf: &[u8], used: usize, job: u32) -> Found
     }
     Found {
         ended: Ended::Done,
-        start: span.start,
-        length: span.length,
+        start: told.start,
+        length: told.length,
     }
 }
 

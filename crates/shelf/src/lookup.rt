@@ -1,42 +1,71 @@
-// What the records of a shelf say, each by one walk over them; `s` is the used part.
+// What the records of a shelf say: its first `used` bytes are its records.
 ghost use mathlib.Core.Path.{_≡_};
-ghost use mathlib.Core.Bool.{false, _&&_};
-ghost use lib.ListN.{length};
-ghost use Rattle.shelf.specs.Records.{stored, records};
-ghost use Rattle.shelf.specs.Shelf.{hasCurrent, twoCurrent, notHigher, those, placeOf, sizeOf};
-ghost use Rattle.shelf.specs.Steps.{soundUpTo, stays};
+ghost use mathlib.Core.Bool.{_&&_, cond};
+ghost use Prim.Native.Nat.{_+_, _≤_, _<_, _^_};
+ghost use lib.ListN.{length, take};
+ghost use Rattle.shelf.specs.Records.{records};
+ghost use Rattle.shelf.specs.Shelf.{hasCurrent};
+ghost use Rattle.shelf.specs.Steps.{soundUpTo, Surveyed};
 use crate::records;
 use crate::records::Head;
 
-// Where a job's current record stands, and how many bytes it has: 0 where there is none.
-pub(crate) struct Span {
+// What the records say of a job and an edition, in bytes: those before the job's current record, those of that record, those of its
+// records with at least this edition, and those of the current records of all other jobs.
+pub(crate) struct Told {
     pub start: usize,
     pub length: usize,
+    pub reached: usize,
+    pub kept: usize,
 }
 
-pub(crate) fn has_current(s: &[u8], job: u32) -> bool
-    ensures { λ r. ⌜ r ≡ hasCurrent job (records (now (s .entry))) ⌝ }
+// A record that passes a test counts.
+fn add(sum: usize, passes: bool, n: usize) -> usize
+    requires { ⌜ sum + n < 2 ^ 64 ⌝ }
+    ensures { λ r. ⌜ r ≡ cond passes (sum + n) sum ⌝ }
+    ensures { λ r. ⌜ r ≤ sum + n ⌝ }
 {
-    let mut t = s;
+    if passes {
+        return sum + n;
+    }
+    sum
+}
+
+pub(crate) fn survey(shelf: &[u8], used: usize, job: u32, edition: u16) -> Told
+    requires { ⌜ used ≤ length (now shelf) ⌝ }
+    ensures { λ r. ⌜ Surveyed job edition (records (take used (now (shelf .entry)))) r ⌝ }
+{
+    let mut at = 0;
+    let mut start = 0;
+    let mut length = 0;
+    let mut reached = 0;
+    let mut kept = 0;
     loop {
-        let h = records::front(t);
+        let h = records::front(&shelf[at..used]);
         let n = h.size;
         if n == 0 {
-            return false;
+            return Told {
+                start,
+                length,
+                reached,
+                kept,
+            };
         }
-        if records::is_current_of(h, job) {
-            return true;
-        }
-        t = &t[n..];
+        length = add(length, records::is_current_of(h, job), n);
+        start = add(start, length == 0, n);
+        reached = add(reached, records::reaches(h, job, edition), n);
+        kept = add(kept, records::stays(h, true, job), n);
+        at += n;
     }
 }
 
-// Whether a record is current, and another one of its job among those passed.
-fn is_second(passed: &[u8], h: Head) -> bool
-    ensures { λ r. ⌜ r ≡ h .current && hasCurrent (h .job) (records (now (passed .entry))) ⌝ }
+// Whether a record is current, and another one of its job in the first `at` bytes.
+fn is_second(s: &[u8], at: usize, h: Head) -> bool
+    requires { ⌜ at ≤ length (now s) ⌝ }
+    ensures { λ r. ⌜ r ≡ h .current && hasCurrent (h .job) (records (take at (now (s .entry)))) ⌝ }
 {
     if h.current {
-        return has_current(passed, h.job);
+        let found = survey(s, at, h.job, 0);
+        return found.length > 0;
     }
     false
 }
@@ -46,81 +75,16 @@ fn is_second(passed: &[u8], h: Head) -> bool
 pub fn sound_up_to(s: &[u8]) -> usize
     ensures { λ r. ⌜ r ≡ soundUpTo (records (now (s .entry))) ⌝ }
 {
-    let mut t = s;
     let mut at = 0;
     loop {
-        let h = records::front(t);
+        let h = records::front(&s[at..]);
         let n = h.size;
         if n == 0 {
             return at;
         }
-        if is_second(&s[0..at], h) {
+        if is_second(s, at, h) {
             return at;
         }
-        t = &t[n..];
-        at += n;
-    }
-}
-
-// Whether some edition of the job is at least this one.
-pub(crate) fn not_higher(s: &[u8], job: u32, edition: u16) -> bool
-    ensures { λ r. ⌜ r ≡ notHigher job edition (records (now (s .entry))) ⌝ }
-{
-    let mut t = s;
-    loop {
-        let h = records::front(t);
-        let n = h.size;
-        if n == 0 {
-            return false;
-        }
-        if records::reaches(h, job, edition) {
-            return true;
-        }
-        t = &t[n..];
-    }
-}
-
-// How many bytes the records have that a collection keeps.
-pub(crate) fn kept_size(s: &[u8], coming: bool, job: u32) -> usize
-    ensures { λ r. ⌜ r ≡ length (stored (those (stays coming job) (records (now (s .entry))))) ⌝ }
-{
-    let mut t = s;
-    let mut kept = 0;
-    loop {
-        let h = records::front(t);
-        let n = h.size;
-        if n == 0 {
-            return kept;
-        }
-        if records::stays(h, coming, job) {
-            kept += n;
-        }
-        t = &t[n..];
-    }
-}
-
-pub(crate) fn seek(s: &[u8], job: u32) -> Span
-    requires { ⌜ twoCurrent (records (now s)) ≡ false ⌝ }
-    ensures { λ r. ⌜ r ≡ record { start = placeOf job (records (now (s .entry))); length = sizeOf job (records (now (s .entry))) } ⌝ }
-{
-    let mut t = s;
-    let mut at = 0;
-    loop {
-        let h = records::front(t);
-        let n = h.size;
-        if n == 0 {
-            return Span {
-                start: at,
-                length: 0,
-            };
-        }
-        if records::is_current_of(h, job) {
-            return Span {
-                start: at,
-                length: n,
-            };
-        }
-        t = &t[n..];
         at += n;
     }
 }

@@ -110,15 +110,15 @@ pub(crate) fn reaches(h: Head, job: u32, edition: u16) -> bool
 
 // Whether a collection keeps the record: a current one, but not of a job whose new record is coming.
 pub(crate) fn stays(h: Head, coming: bool, job: u32) -> bool
-    ensures { λ r. ⌜ r ≡ h .current && not (coming && eqb (h .job) job) ⌝ }
+    ensures { λ r. ⌜ r ≡ not (coming && eqb (h .job) job) && h .current ⌝ }
 {
-    if !h.current {
+    if !coming {
+        return h.current;
+    }
+    if h.job == job {
         return false;
     }
-    if coming {
-        return h.job != job;
-    }
-    true
+    h.current
 }
 
 // The head of a current record.

@@ -1,4 +1,4 @@
-pub mod Swap
+mod Names
 pub mod Stages
 pub mod Bytes
 pub mod Filling

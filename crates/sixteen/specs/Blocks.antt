@@ -1,5 +1,5 @@
--- Up to 64 blocks side by side: the words of block j are word j of four rows of 64 words. Sixteen words, from a multiple of sixteen on, are a
--- group.
+-- Up to 64 blocks side by side: the words of block j are word j of four rows of 64 words. Sixteen words, from a multiple of sixteen on, are
+-- a group.
 use mathlib.Core.Path.{_≡_}
 use mathlib.Core.List.{List, [], _∷_}
 use Prim.Native.Nat.{ℕ, _+_, _*_, _/_, _%_, _^_, _<_, _≤_}

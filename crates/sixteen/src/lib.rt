@@ -10,7 +10,7 @@ ghost use Rattle.block.specs.Blocks.{blockAt, cat};
 ghost use Rattle.block.specs.Words.{words, unwords};
 ghost use Rattle.block.specs.Xor.{xors};
 ghost use Rattle.cipher.specs.Sm4.{turned, encryptBlock};
-ghost use Rattle.walk.specs.Walk.{over};
+ghost use Rattle.block.specs.Over.{over};
 ghost use Rattle.sixteen.specs.Blocks.{block, Held};
 
 // The block w as block i.

@@ -1,26 +1,14 @@
 -- The words of a counter with carries between them are the words of its sum.
-use Rattle.block.proofs.Base.{_%_, _*_, _+_, _/_, _<_, _^_, ℕ, _∙_, _≡_, ap, ap₂, refl, sym, Bool, false, true, List, [], _∷_, arith}
-use Rattle.block.proofs.Base.{digits-div, digits-mod, mod-mul, lit<, getD}
-use Rattle.block.specs.Below.{AreWords}
-use Rattle.block.specs.BigEndian.{numberOf, bytesOf}
-use Rattle.block.specs.Words.{words, unwords}
-use Rattle.block.proofs.Convert.{bytesOf-numberOf}
-use Rattle.block.proofs.Entries.{below-at}
-use Rattle.block.proofs.WordsBack.{length-unwords, unwords-bytes, numberOf-unwords, words-unwords}
-use Rattle.counter.specs.Counter.{ctrJump, gcmJump, jumped}
-use Rattle.counter.proofs.Steps.{gcm-jump-words}
-use Rattle.lanes.proofs.Bits.{bit-zero, bit-small, pack-is}
-use Rattle.lanes.specs.Bits.{bit, Blank}
-use Rattle.sliced.specs.Lanes.{lane, lanes}
-use Rattle.sliced.specs.Counting.{carryAt, Added, Kept}
-use Rattle.sliced.proofs.Held.{lane-lt}
+use Rattle.sliced.proofs.Names.{Added, AreWords, Blank, Bool, Kept, List, [], _%_, _*_, _+_, _/_, _<_, _^_, _∙_, _∷_, _≡_, ap, ap₂}
+use Rattle.sliced.proofs.Names.{arith, below-at, bit, bit-small, bit-zero, bytesOf, bytesOf-numberOf, carryAt, ctrJump, digits-div}
+use Rattle.sliced.proofs.Names.{digits-mod, false, gcm-jump-words, gcmJump, getD, jumped, lane, lanes, length-unwords, lit<, mod-mul}
+use Rattle.sliced.proofs.Names.{numberOf, numberOf-unwords, pack-is, refl, sym, true, unwords, unwords-bytes, words, words-unwords}
+use Rattle.sliced.proofs.Names.{ℕ}
+use Rattle.sliced.proofs.Held.{lane-lt, lane-is, lanes-words}
 
 -- nothing in a lane, and no carry
 blank-lane : (x : List ℕ) → Blank x → (e : ℕ) → lane x e ≡ 0
-unfolding lane
-blank-lane x h e =
-    pack-is 32 (λ i. bit (e / 8) (getD x (8 * i + e % 8) 0)) 0 (λ i. bit-small (e / 8) (getD x (8 * i + e % 8) 0)) (lit< tt)
-    (λ i g. ap (bit (e / 8)) (h (8 * i + e % 8)) ∙ bit-zero (e / 8) ∙ sym (bit-zero i))
+blank-lane x h e = lane-is x e 0 (lit< tt) (λ i g. ap (bit (e / 8)) (h (8 * i + e % 8)) ∙ bit-zero (e / 8) ∙ sym (bit-zero i))
 
 no-carry : (y : List ℕ) → Blank y → (e : ℕ) → carryAt y e ≡ 0
 unfolding carryAt
@@ -33,68 +21,17 @@ digit A B h c k w y ha hw e =
     let hb : 0 < B = omega arith in
     rw (t, mod-mul ((h + y) * B + w) ha hb, digits-div (h + y) hw, digits-mod (h + y) hw)
 
--- the number of four digits
-abbrev four : ℕ → ℕ → ℕ → ℕ → ℕ → ℕ
-four B a b c d = ((a * B + b) * B + c) * B + d
-
 last-digit : (B c y w z : ℕ) → w < B → w + B * z ≡ c + y → (c + y) % B ≡ w
-last-digit B c y w z hw e =
-    let t : c + y ≡ z * B + w = omega arith in rw t (digits-mod z hw)
-
-four-digits : (B a b c d k w0 w1 w2 w3 y0 y1 y2 y3 : ℕ) → 0 < B → 0 < B * B → 0 < B * B * B
-    → w0 < B → w1 < B → w2 < B → w3 < B
-    → w3 + B * y3 ≡ d + k → w2 + B * y2 ≡ c + y3 → w1 + B * y1 ≡ b + y2 → w0 + B * y0 ≡ a + y1
-    → (four B a b c d + k) % (B * B * B * B) ≡ four B w0 w1 w2 w3
-four-digits B a b c d k w0 w1 w2 w3 y0 y1 y2 y3 p1 p2 p3 h0 h1 h2 h3 e3 e2 e1 e0 =
-    digit (B * B * B) B ((a * B + b) * B + c) d k w3 y3 p3 h3 e3
-    ∙ ap (λ (v : ℕ). v * B + w3)
-    (digit (B * B) B (a * B + b) c y3 w2 y2 p2 h2 e2
-    ∙ ap (λ (v : ℕ). v * B + w2)
-    (digit B B a b y2 w1 y1 p1 h1 e1 ∙ ap (λ (v : ℕ). v * B + w1) (last-digit B a y1 w0 y0 h0 e0)))
-
-halves : (B h c d : ℕ) → h * (B * B) + (c * B + d) ≡ (h * B + c) * B + d
-halves B h c d = omega arith
+last-digit B c y w z hw e = let t : c + y ≡ z * B + w = omega arith in rw t (digits-mod z hw)
 
 -- the number of a block by its words
-block-number : (x : List ℕ) → AreWords x → numberOf (unwords x) ≡ four (2 ^ 32) (getD x 0 0) (getD x 1 0) (getD x 2 0) (getD x 3 0)
-block-number x h =
-    numberOf-unwords x h ∙ halves (2 ^ 32) (getD x 0 0 * 2 ^ 32 + getD x 1 0) (getD x 2 0) (getD x 3 0)
-
-block-bytes : (x : List ℕ) → bytesOf 16 (numberOf (unwords x)) ≡ unwords x
-block-bytes x = rw (length-unwords x) at (bytesOf-numberOf (unwords x) (unwords-bytes x))
+block-number : (x : List ℕ) → AreWords x
+    → numberOf (unwords x) ≡ ((getD x 0 0 * 2 ^ 32 + getD x 1 0) * 2 ^ 32 + getD x 2 0) * 2 ^ 32 + getD x 3 0
+block-number x h = numberOf-unwords x h ∙ omega arith
 
 -- a word to which nothing is carried
 alone : (w c y u : ℕ) → c < 2 ^ 32 → u ≡ 0 → w + 2 ^ 32 * y ≡ c + u → (w ≡ c) × (y ≡ 0)
-alone w c y u h z e =
-    let n : y ≡ 0 = omega arith in
-    (omega arith, n)
-
--- the four words w, each the sum of a word of c and what is carried to it
-module _ (c : List ℕ) (k w0 w1 w2 w3 : ℕ) (hc : AreWords c) (h0 : w0 < 2 ^ 32) (h1 : w1 < 2 ^ 32) (h2 : w2 < 2 ^ 32) (h3 : w3 < 2 ^ 32)
-  where
-    all-count : (y0 y1 y2 y3 : ℕ) → w3 + 2 ^ 32 * y3 ≡ getD c 3 0 + k → w2 + 2 ^ 32 * y2 ≡ getD c 2 0 + y3
-        → w1 + 2 ^ 32 * y1 ≡ getD c 1 0 + y2 → w0 + 2 ^ 32 * y0 ≡ getD c 0 0 + y1
-        → unwords (w0 ∷ w1 ∷ w2 ∷ w3 ∷ []) ≡ ctrJump (unwords c) k
-    unfolding ctrJump
-    all-count y0 y1 y2 y3 e3 e2 e1 e0 =
-        let w = w0 ∷ w1 ∷ w2 ∷ w3 ∷ [] in
-        let e : (numberOf (unwords c) + k) % 2 ^ 128 ≡ numberOf (unwords w) =
-        ap (λ (v : ℕ). (v + k) % 2 ^ 128) (block-number c hc)
-        ∙ four-digits (2 ^ 32) (getD c 0 0) (getD c 1 0) (getD c 2 0) (getD c 3 0) k w0 w1 w2 w3 y0 y1 y2 y3 (lit< tt) (lit< tt) (lit< tt)
-        h0 h1 h2 h3 e3 e2 e1 e0
-        ∙ sym (block-number w (h0, (h1, (h2, (h3, tt))))) in
-        sym (ap (bytesOf 16) e ∙ block-bytes w)
-
-    last-counts : (y0 y1 y2 y3 : ℕ) → w3 + 2 ^ 32 * y3 ≡ getD c 3 0 + k → w2 + 2 ^ 32 * y2 ≡ getD c 2 0
-        → w1 + 2 ^ 32 * y1 ≡ getD c 1 0 + y2 → w0 + 2 ^ 32 * y0 ≡ getD c 0 0 + y1
-        → unwords (w0 ∷ w1 ∷ w2 ∷ w3 ∷ []) ≡ gcmJump (unwords c) k
-    last-counts y0 y1 y2 y3 e3 e2 e1 e0 =
-        let b = below-at (2 ^ 32) c (lit< tt) hc in
-        let r2 = alone w2 (getD c 2 0) y2 0 (b 2) refl (omega arith) in
-        let r1 = alone w1 (getD c 1 0) y1 y2 (b 1) (r2 .1) e1 in
-        let r0 = alone w0 (getD c 0 0) y0 y1 (b 0) (r1 .1) e0 in
-        ap unwords (ap₂ _∷_ (r0 .0) (ap₂ _∷_ (r1 .0) (ap (λ (v : ℕ). v ∷ w3 ∷ []) (r2 .0))))
-        ∙ gcm-jump-words c w3 k (b 3) (sym (last-digit (2 ^ 32) (getD c 3 0) k w3 y3 h3 e3))
+alone w c y u h z e = omega arith
 
 -- a word added to a number alone, and to a carry alone
 pub added-number : (w : ℕ) (x₀ y₀ x y : List ℕ) (k e : ℕ) → Added w x₀ y₀ x y → e < 512 → lane x₀ e ≡ k → Blank y₀
@@ -105,21 +42,31 @@ pub added-carry : (w : ℕ) (x₀ y₀ x y : List ℕ) (e : ℕ) → Added w x�
     → lane x e + 2 ^ 32 * carryAt y e ≡ w + carryAt y₀ e
 added-carry w x₀ y₀ x y e h he b = let z = blank-lane x₀ b e in h e he ∙ omega arith
 
--- y′ is carried out of the last word of four planes
-pub lanes-count : (wide : Bool) (c x0 x1 x2 x3 y y′ : List ℕ) (k e : ℕ) → AreWords c → Kept wide y y′ → (y0 y1 y2 : ℕ)
-    → lane x3 e + 2 ^ 32 * carryAt y e ≡ getD c 3 0 + k → lane x2 e + 2 ^ 32 * y2 ≡ getD c 2 0 + carryAt y′ e
-    → lane x1 e + 2 ^ 32 * y1 ≡ getD c 1 0 + y2 → lane x0 e + 2 ^ 32 * y0 ≡ getD c 0 0 + y1
-    → unwords (lanes x0 x1 x2 x3 e) ≡ jumped wide (unwords c) k
-lanes-count true c x0 x1 x2 x3 y y′ k e hc h y0 y1 y2 e3 e2 e1 e0 =
-    let q : carryAt y′ e ≡ carryAt y e = ap (λ (l : List ℕ). carryAt l e) h in
-    all-count c k (lane x0 e) (lane x1 e) (lane x2 e) (lane x3 e) hc (lane-lt x0 e) (lane-lt x1 e) (lane-lt x2 e) (lane-lt x3 e)
-    y0 y1 y2 (carryAt y e) e3 (e2 ∙ ap (λ (v : ℕ). getD c 2 0 + v) q) e1 e0
-lanes-count false c x0 x1 x2 x3 y y′ k e hc h y0 y1 y2 e3 e2 e1 e0 =
-    let q = no-carry y′ h e in
-    last-counts c k (lane x0 e) (lane x1 e) (lane x2 e) (lane x3 e) hc (lane-lt x0 e) (lane-lt x1 e) (lane-lt x2 e) (lane-lt x3 e)
-    y0 y1 y2 (carryAt y e) e3 (omega arith) e1 e0
+-- the lanes of four planes, each the sum of a word of c and what is carried to it; y′ is carried out of the last word
+module _ (c x0 x1 x2 x3 y y′ : List ℕ) (k e y0 y1 y2 : ℕ) (hc : AreWords c)
+    (e3 : lane x3 e + 2 ^ 32 * carryAt y e ≡ getD c 3 0 + k) (e2 : lane x2 e + 2 ^ 32 * y2 ≡ getD c 2 0 + carryAt y′ e)
+    (e1 : lane x1 e + 2 ^ 32 * y1 ≡ getD c 1 0 + y2) (e0 : lane x0 e + 2 ^ 32 * y0 ≡ getD c 0 0 + y1) where
+  lanes-count : (wide : Bool) → Kept wide y y′ → unwords (lanes x0 x1 x2 x3 e) ≡ jumped wide (unwords c) k
+  unfolding ctrJump
+  lanes-count true h =
+      let w = lanes x0 x1 x2 x3 e in
+      let n : (numberOf (unwords c) + k) % 2 ^ 128 ≡ numberOf (unwords w) =
+      ap (λ (v : ℕ). (v + k) % 2 ^ 128) (block-number c hc)
+      ∙ digit (2 ^ 96) (2 ^ 32) _ _ k _ (carryAt y e) (lit< tt) (lane-lt x3 e) e3
+      ∙ ap (λ (v : ℕ). v * 2 ^ 32 + lane x3 e) (digit (2 ^ 64) (2 ^ 32) _ _ _ _ y2 (lit< tt) (lane-lt x2 e) (rw h at e2)
+      ∙ ap (λ (v : ℕ). v * 2 ^ 32 + lane x2 e) (digit (2 ^ 32) (2 ^ 32) _ _ _ _ y1 (lit< tt) (lane-lt x1 e) e1
+      ∙ ap (λ (v : ℕ). v * 2 ^ 32 + lane x1 e) (last-digit (2 ^ 32) _ _ _ y0 (lane-lt x0 e) e0)))
+      ∙ sym (block-number w (lanes-words x0 x1 x2 x3 e)) in
+      sym (ap (bytesOf 16) n ∙ (rw (length-unwords w) at (bytesOf-numberOf (unwords w) (unwords-bytes w))))
+  lanes-count false h =
+      let b = below-at (2 ^ 32) c (lit< tt) hc in
+      let r2 = alone (lane x2 e) (getD c 2 0) y2 (carryAt y′ e) (b 2) (no-carry y′ h e) e2 in
+      let r1 = alone (lane x1 e) (getD c 1 0) y1 y2 (b 1) (r2 .1) e1 in
+      let r0 = alone (lane x0 e) (getD c 0 0) y0 y1 (b 0) (r1 .1) e0 in
+      rw (r0 .0, r1 .0, r2 .0)
+      (gcm-jump-words c (lane x3 e) k (b 3) (sym (last-digit (2 ^ 32) (getD c 3 0) k (lane x3 e) (carryAt y e) (lane-lt x3 e) e3)))
 
--- as the words of a block
-pub in-words : (x0 x1 x2 x3 b : List ℕ) (e : ℕ) → unwords (lanes x0 x1 x2 x3 e) ≡ b → lanes x0 x1 x2 x3 e ≡ words b
-in-words x0 x1 x2 x3 b e h =
-    sym (words-unwords (lanes x0 x1 x2 x3 e) refl (lane-lt x0 e, (lane-lt x1 e, (lane-lt x2 e, (lane-lt x3 e, tt))))) ∙ ap words h
+  -- as the words of a block
+  pub lanes-counted : (wide : Bool) → Kept wide y y′ → lanes x0 x1 x2 x3 e ≡ words (jumped wide (unwords c) k)
+  lanes-counted wide h =
+      sym (words-unwords (lanes x0 x1 x2 x3 e) refl (lanes-words x0 x1 x2 x3 e)) ∙ ap words (lanes-count wide h)

@@ -1,16 +1,9 @@
 -- Transposed halves of blocks are lanes, and lanes transposed are halves of blocks.
-use Rattle.block.proofs.Base.{_%_, _*_, _+_, _/_, _<_, _^_, _≤_, ℕ, _∙_, _≡_, ap, ap₂, refl, subst, sym, List, _∷_, mod-lt, arith, lit<}
-use Rattle.block.proofs.Base.{getD, length, length-set, set, pow-pos, getD-set-other, getD-set-same}
-use Rattle.block.proofs.Entries.{below-at}
-use Rattle.block.proofs.WordsBack.{four-entries}
-use Rattle.lanes.specs.Bits.{bit}
-use Rattle.lanes.proofs.Bits.{bit-mod, bit-shr, bit-ext}
-use Rattle.lanes.proofs.Filling.{one-more, word-more}
-use Rattle.cipher.specs.Sm4.{rounds, turned, encryptWords}
-use Rattle.rows.specs.Rows.{place, Row, Rows}
-use Rattle.rows.specs.Transposed.{at, Turned}
-use Rattle.sliced.specs.Lanes.{lane, lanes, Parted, Halved}
-use Rattle.sliced.proofs.Held.{lane-lt, lane-bit}
+use Rattle.sliced.proofs.Names.{Halved, List, Parted, Row, Rows, Turned, [], _%_, _*_, _+_, _/_, _<_, _^_, _∙_, _∷_, _≡_, _≤_}
+use Rattle.sliced.proofs.Names.{add-zero, ap, ap₂, arith, at, below-at, bit, bit-shr, encryptWords, four-entries, getD}
+use Rattle.sliced.proofs.Names.{getD-set-other, getD-set-same, lane, lanes, length, length-set, lit<, mod-is, mod-lt, one-more}
+use Rattle.sliced.proofs.Names.{place, pow-pos, puts, puts-in, puts-out, refl, rounds, set, subst, sym, turned, word-more, ℕ}
+use Rattle.sliced.proofs.Held.{lane-lt, lane-bit, lanes-words}
 
 pub parted-next : (a upper lower : List ℕ) (i : ℕ) → i < 256 → length upper ≡ 256 → length lower ≡ 256 → Parted i a upper lower
     → Parted (i + 1) a (set upper i (getD a (i + 256) 0)) (set lower i (getD a i 0))
@@ -22,21 +15,14 @@ parted-next a upper lower i h hu hl P = record {
 pub joined-next : (a upper lower : List ℕ) (i : ℕ) → i < 256 → length a ≡ 512 → Parted i a upper lower
     → Parted (i + 1) (set (set a i (getD lower i 0)) (i + 256) (getD upper i 0)) upper lower
 joined-next a upper lower i h ha P =
-    let x = getD lower i 0 in
-    let y = getD upper i 0 in
-    let b = set a i x in
-    let n = length-set a i x in
-    record {
-      up = one-more _ i (getD-set-same b (i + 256) y 0 (omega arith))
-          (λ m g. getD-set-other b (i + 256) (m + 256) y 0 (λ q. omega arith)
-          ∙ getD-set-other a i (m + 256) x 0 (λ q. omega arith)
-          ∙ P .up m g);
-      low = one-more _ i
-          (getD-set-other b (i + 256) i y 0 (λ q. omega arith) ∙ getD-set-same a i x 0 (omega arith))
-          (λ m g. getD-set-other b (i + 256) m y 0 (λ q. omega arith)
-          ∙ getD-set-other a i m x 0 (λ q. omega arith)
-          ∙ P .low m g);
-    }
+    let v = getD lower i 0 ∷ getD upper i 0 ∷ [] in
+    let J : Parted (i + 1) (puts 256 a i 0 v) upper lower = record {
+      up = one-more _ i (puts-in 256 v a i 0 1 (i + 256) (omega arith) (lit< tt) (lit< tt) (omega arith))
+          (λ m g. puts-out 256 v a i 0 (m + 256) (λ k q. omega arith) ∙ P .up m g);
+      low = one-more _ i (puts-in 256 v a i 0 0 i (omega arith) (lit< tt) (lit< tt) (omega arith))
+          (λ m g. puts-out 256 v a i 0 m (λ k q. omega arith) ∙ P .low m g);
+    } in
+    rw add-zero at J
 
 -- what is transposed is transposed back
 pub turned-back : (a₀ a : List ℕ) → Turned a₀ a → Turned a a₀
@@ -53,62 +39,43 @@ module _ (a a′ high low : List ℕ) (t : Turned a a′) (P : Parted 256 a high
   pub halved : Halved a′ high low
   halved e he =
       let x = getD a′ e 0 in (
-        bit-ext 32 (x / 2 ^ 32 % 2 ^ 32) (lane high e) (mod-lt (x / 2 ^ 32) (pow-pos 32)) (lane-lt high e)
+        mod-is 32 (x / 2 ^ 32) (lane high e) (lane-lt high e)
             (λ i h.
             let q : 8 * (32 + i) + e % 8 ≡ 8 * i + e % 8 + 256 = omega arith in
-            bit-mod 32 i (x / 2 ^ 32) h
-            ∙ bit-shr 32 i x
-            ∙ row-bit e (32 + i) he (omega arith)
-            ∙ ap (λ (z : ℕ). bit (e / 8) (getD a z 0)) q
-            ∙ ap (bit (e / 8)) (P .up (8 * i + e % 8) (omega arith))
-            ∙ lane-bit high e i h),
-        bit-ext 32 (x % 2 ^ 32) (lane low e) (mod-lt x (pow-pos 32)) (lane-lt low e)
-            (λ i h.
-            bit-mod 32 i x h
-            ∙ row-bit e i he (omega arith)
-            ∙ ap (bit (e / 8)) (P .low (8 * i + e % 8) (omega arith))
-            ∙ lane-bit low e i h),
+            bit-shr 32 i x ∙ row-bit e (32 + i) he (omega arith)
+            ∙ ap (bit (e / 8)) (ap (λ (z : ℕ). getD a z 0) q ∙ P .up (8 * i + e % 8) (omega arith)) ∙ lane-bit high e i h),
+        mod-is 32 x (lane low e) (lane-lt low e)
+            (λ i h. row-bit e i he (omega arith) ∙ ap (bit (e / 8)) (P .low (8 * i + e % 8) (omega arith)) ∙ lane-bit low e i h),
       )
 
 -- the words of a half
-high-word : (x u v : ℕ) → u < 2 ^ 32 → v < 2 ^ 32 → x ≡ u * 2 ^ 32 + v → x / 2 ^ 32 % 2 ^ 32 ≡ u
-high-word x u v hu hv e = omega arith
+words-of : (x u v : ℕ) → u < 2 ^ 32 → v < 2 ^ 32 → x ≡ u * 2 ^ 32 + v → (x / 2 ^ 32 % 2 ^ 32 ≡ u) × (x % 2 ^ 32 ≡ v)
+words-of x u v hu hv e = omega arith
 
-low-word : (x u v : ℕ) → v < 2 ^ 32 → x ≡ u * 2 ^ 32 + v → x % 2 ^ 32 ≡ v
-low-word x u v hv e = omega arith
-
-two-words : (x u v : ℕ) → x < 2 ^ 64 → x / 2 ^ 32 % 2 ^ 32 ≡ u → x % 2 ^ 32 ≡ v → x ≡ u * 2 ^ 32 + v
-two-words x u v h e f = omega arith
+of-words : (x u v : ℕ) → x < 2 ^ 64 → x / 2 ^ 32 % 2 ^ 32 ≡ u → x % 2 ^ 32 ≡ v → x ≡ u * 2 ^ 32 + v
+of-words x u v h e f = omega arith
 
 -- a block in a row is the block in its lane
-lanes-of : (a b x0 x1 x2 x3 : List ℕ) → Halved a x0 x1 → Halved b x2 x3
-    → (e : ℕ) → e < 512 → (x : List ℕ) → Row x (getD a e 0) (getD b e 0) → lanes x0 x1 x2 x3 e ≡ x
-lanes-of a b x0 x1 x2 x3 ha hb e he x r =
-    let w = below-at (2 ^ 32) x (lit< tt) (r .small) in
-    ap₂ _∷_ (sym (ha e he .0) ∙ high-word (getD a e 0) (getD x 0 0) (getD x 1 0) (w 0) (w 1) (r .high))
-    (ap₂ _∷_ (sym (ha e he .1) ∙ low-word (getD a e 0) (getD x 0 0) (getD x 1 0) (w 1) (r .high))
-    (ap₂ _∷_ (sym (hb e he .0) ∙ high-word (getD b e 0) (getD x 2 0) (getD x 3 0) (w 2) (w 3) (r .low))
-    (ap₂ _∷_ (sym (hb e he .1) ∙ low-word (getD b e 0) (getD x 2 0) (getD x 3 0) (w 3) (r .low)) refl)))
-    ∙ four-entries x (r .four)
+module _ (a b x0 x1 x2 x3 : List ℕ) (ha : Halved a x0 x1) (hb : Halved b x2 x3) where
+  lanes-of : (e : ℕ) → e < 512 → (x : List ℕ) → Row x (getD a e 0) (getD b e 0) → lanes x0 x1 x2 x3 e ≡ x
+  lanes-of e he x r =
+      let w = below-at (2 ^ 32) x (lit< tt) (r .small) in
+      let u = words-of (getD a e 0) (getD x 0 0) (getD x 1 0) (w 0) (w 1) (r .high) in
+      let v = words-of (getD b e 0) (getD x 2 0) (getD x 3 0) (w 2) (w 3) (r .low) in
+      cc (ha e he .0, ha e he .1, hb e he .0, hb e he .1, u .0, u .1, v .0, v .1, four-entries x (r .four))
 
--- and back
-row-of : (a b x0 x1 x2 x3 : List ℕ) → Halved a x0 x1 → Halved b x2 x3
-    → ((p : ℕ) → getD a p 0 < 2 ^ 64) → ((p : ℕ) → getD b p 0 < 2 ^ 64)
-    → (e : ℕ) → e < 512 → Row (lanes x0 x1 x2 x3 e) (getD a e 0) (getD b e 0)
-row-of a b x0 x1 x2 x3 ha hb sa sb e he =
-    record {
-      four = refl;
-      small = (lane-lt x0 e, (lane-lt x1 e, (lane-lt x2 e, (lane-lt x3 e, tt))));
-      high = two-words (getD a e 0) (lane x0 e) (lane x1 e) (sa e) (ha e he .0) (ha e he .1);
-      low = two-words (getD b e 0) (lane x2 e) (lane x3 e) (sb e) (hb e he .0) (hb e he .1);
-    }
+  row-of : ((p : ℕ) → getD a p 0 < 2 ^ 64) → ((p : ℕ) → getD b p 0 < 2 ^ 64) → (e : ℕ) → e < 512
+      → Row (lanes x0 x1 x2 x3 e) (getD a e 0) (getD b e 0)
+  row-of sa sb e he = record {
+    four = refl;
+    small = lanes-words x0 x1 x2 x3 e;
+    high = of-words (getD a e 0) (lane x0 e) (lane x1 e) (sa e) (ha e he .0) (ha e he .1);
+    low = of-words (getD b e 0) (lane x2 e) (lane x3 e) (sb e) (hb e he .0) (hb e he .1);
+  }
 
--- rows in lanes
-pub rows-in-lanes : (a b x0 x1 x2 x3 : List ℕ) → Halved a x0 x1 → Halved b x2 x3 → (m : ℕ) (f : ℕ → List ℕ) → m ≤ 512 → Rows m f a b
-    → (i : ℕ) → i < m → lanes x0 x1 x2 x3 (place i) ≡ f i
-rows-in-lanes a b x0 x1 x2 x3 ha hb m f hm R i hi =
-    let he : place i < 512 = omega arith in
-    lanes-of a b x0 x1 x2 x3 ha hb (place i) he (f i) (R .row i hi)
+  -- rows in lanes
+  pub rows-in-lanes : (m : ℕ) (f : ℕ → List ℕ) → m ≤ 512 → Rows m f a b → (i : ℕ) → i < m → lanes x0 x1 x2 x3 (place i) ≡ f i
+  rows-in-lanes m f hm R i hi = lanes-of (place i) (omega arith) (f i) (R .row i hi)
 
 -- lanes, 32 rounds, and into rows
 module _ (rk a b x0 x1 x2 x3 y0 y1 y2 y3 : List ℕ) (n : ℕ) (hn : n ≤ 8) (ha : Halved a y3 y2) (hb : Halved b y1 y0)

@@ -1,12 +1,7 @@
 -- The plane of lane numbers: six rows that are the same in every column, three that are all ones or zero, and zeros.
-use Rattle.block.proofs.Base.{_%_, _*_, _+_, _-_, _/_, _<_, _^_, _≤_, ℕ, _∙_, _≡_, ap, ap₂, sym, ⊎-elim, List, [], _∷_, arith, eqb, eqb→eq}
-use Rattle.block.proofs.Base.{getD, length, length-set, replicate, set, getD-set-other}
-use Rattle.block.proofs.Table.{rule-at}
-use Rattle.lanes.specs.Bits.{bit}
-use Rattle.lanes.proofs.Bits.{bit-zero, bit-low, bit-high, bit-past, lt-or-le}
-use Rattle.rows.specs.Rows.{place}
-use Rattle.sliced.specs.Lanes.{lane, Held}
-use Rattle.sliced.specs.Counting.{numberAt, Clear}
+use Rattle.sliced.proofs.Names.{Clear, Held, List, [], _%_, _*_, _+_, _-_, _/_, _<_, _^_, _∙_, _∷_, _≡_, _≤_, ap, ap₂, arith, bit}
+use Rattle.sliced.proofs.Names.{bit-high, bit-low, bit-past, bit-zero, eqb, eqb→eq, getD, getD-set-other, lane, length, length-set}
+use Rattle.sliced.proofs.Names.{lt-or-le, numberAt, place, replicate, same-at, set, sym, ℕ, ⊎-elim}
 use Rattle.sliced.proofs.Held.{lane-held, held-next}
 
 -- the six rows: bit k of row q is bit q of k
@@ -16,31 +11,20 @@ patterns =
 
 pattern-bit : (q k : ℕ) → q < 6 → k < 64 → bit k (getD patterns q 0) ≡ bit q k
 unfolding bit
-pattern-bit q k hq hk =
-    let i = 64 * q + k in
-    let a : i / 64 ≡ q = omega arith in
-    let b : i % 64 ≡ k = omega arith in
-    let t : bit (i % 64) (getD patterns (i / 64) 0) ≡ bit (i / 64) (i % 64) =
-    eqb→eq _ _
-    (rule-at (λ i x. eqb (bit (i % 64) (getD patterns (i / 64) 0)) (bit (i / 64) (i % 64))) (replicate 384 0) tt i (omega arith)) in
-    rw (a, b) at t
+pattern-bit = same-at 6 (λ q k. bit k (getD patterns q 0)) bit tt
 
 in-parts : (p k : ℕ) → p % 8 * 2 ^ 6 + k ≡ numberAt (8 * k + p % 8)
 in-parts p k = omega arith
 
 pub low-rows : (p : ℕ) → p < 48 → (k : ℕ) → k < 64 → bit k (getD patterns (p / 8) 0) ≡ bit (p / 8) (numberAt (8 * k + p % 8))
 low-rows p hp k hk =
-    pattern-bit (p / 8) k (omega arith) hk
-    ∙ sym (bit-low 6 (p / 8) (p % 8) k (omega arith) (omega arith))
-    ∙ ap (bit (p / 8)) (in-parts p k)
+    pattern-bit (p / 8) k (omega arith) hk ∙ sym (bit-low 6 (p / 8) (p % 8) k (omega arith) (omega arith)) ∙ ap (bit (p / 8)) (in-parts p k)
 
 pub high-rows : (p r : ℕ) → 48 ≤ p → ((k : ℕ) → k < 64 → bit k r ≡ bit (p / 8 - 6) (p % 8))
     → (k : ℕ) → k < 64 → bit k r ≡ bit (p / 8) (numberAt (8 * k + p % 8))
 high-rows p r hp h k hk =
     let e : 6 + (p / 8 - 6) ≡ p / 8 = omega arith in
-    h k hk
-    ∙ sym (bit-high 6 (p / 8 - 6) (p % 8) k (omega arith))
-    ∙ ap₂ bit e (in-parts p k)
+    h k hk ∙ sym (bit-high 6 (p / 8 - 6) (p % 8) k (omega arith)) ∙ ap₂ bit e (in-parts p k)
 
 -- the first p words hold the lanes' numbers, the others nothing
 abbrev pub Numbered : ℕ → List ℕ → Type 0
@@ -52,24 +36,20 @@ numbered-first x h = (h .0, λ q k hq hc hk. absurd (omega arith), λ q g. h .1 
 pub numbered-next : (p v : ℕ) (x : List ℕ) → p < 256 → ((k : ℕ) → k < 64 → bit k v ≡ bit (p / 8) (numberAt (8 * k + p % 8)))
     → Numbered p x → Numbered (p + 1) (set x p v)
 numbered-next p v x hp hv N =
-    let l = N .0 in (
-      length-set x p v ∙ l,
-      held-next numberAt 8 p v x (omega arith)
-          (λ k hc hk. let r : p / 8 ≡ p / 8 % 32 = omega arith in hv k hk ∙ ap (λ (z : ℕ). bit z (numberAt (8 * k + p % 8))) r) (N .1),
-      λ q h. getD-set-other x p q v 0 (λ e. omega arith) ∙ N .2 q (omega arith),
-    )
+    let l = N .0 in
+    let next = held-next numberAt 8 p v x (omega arith)
+    (λ k hc hk. let r : p / 8 ≡ p / 8 % 32 = omega arith in hv k hk ∙ ap (λ (z : ℕ). bit z (numberAt (8 * k + p % 8))) r) (N .1) in
+    (length-set x p v ∙ l, next, λ q h. getD-set-other x p q v 0 (λ e. omega arith) ∙ N .2 q (omega arith))
 
 -- the rows that are left hold nothing
 pub numbered-last : (x : List ℕ) (p : ℕ) → 72 ≤ p → Numbered p x → (e : ℕ) → e < 512 → lane x e ≡ numberAt e
 numbered-last x p hp N e he =
     lane-held numberAt 8 x
     (λ q k hq hc hk.
-    ⊎-elim
-    (λ (g : q < p). N .1 q k g hc hk)
+    ⊎-elim (λ (g : q < p). N .1 q k g hc hk)
     (λ (g : p ≤ q).
     let small : numberAt (8 * k + q % 8) < 2 ^ 9 = omega arith in
-    ap (bit k) (N .2 q g) ∙ bit-zero k ∙ sym (bit-past 9 (q / 8 % 32) (numberAt (8 * k + q % 8)) small (omega arith)))
-    (lt-or-le q p))
+    ap (bit k) (N .2 q g) ∙ bit-zero k ∙ sym (bit-past 9 (q / 8 % 32) (numberAt (8 * k + q % 8)) small (omega arith))) (lt-or-le q p))
     e he (omega arith) (omega arith)
 
 -- the lane of block i

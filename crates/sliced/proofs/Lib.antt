@@ -1,3 +1,4 @@
+mod Names
 pub mod Held
 pub mod KeyBits
 pub mod Ripple

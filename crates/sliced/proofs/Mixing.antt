@@ -1,15 +1,7 @@
 -- L in every lane; a round, and four.
-use Rattle.block.proofs.Base.{_%_, _*_, _+_, _/_, _<_, _^_, _≤_, ℕ, _∙_, _≡_, ap, ap₂, refl, sym, List, [], _∷_, arith, differ, xor-lt}
-use Rattle.block.proofs.Base.{getD, length, set, getD-set-other}
-use Rattle.block.specs.Xor.{_⊕_}
-use Rattle.lanes.specs.Bits.{bit}
-use Rattle.lanes.proofs.Bits.{bit-xor}
-use Rattle.cipher.specs.Sm4.{L, T, rounds}
-use Rattle.cipher.proofs.Bounds.{tau-lt, L-lt}
-use Rattle.cipher.proofs.Rounds.{four-by-hand}
-use Rattle.cipher.proofs.WordBits.{L-bit}
-use Rattle.sliced.specs.Lanes.{lane, lanes, Held}
-use Rattle.sliced.specs.Round.{keyed, subbed, mixed}
+use Rattle.sliced.proofs.Names.{Held, L, L-bit, L-lt, List, T, [], _%_, _*_, _+_, _/_, _<_, _^_, _∙_, _∷_, _≡_, _≤_, _⊕_, ap, ap₂}
+use Rattle.sliced.proofs.Names.{arith, bit, bit-xor, differ, getD, getD-set-other, keyed, lane, lanes, length, lit<, mixed, refl}
+use Rattle.sliced.proofs.Names.{rounds, set, subbed, sym, tau-lt, xor-lt, ℕ}
 use Rattle.sliced.proofs.Held.{lane-lt, held-lane, lane-held, held-next}
 
 pub doubled-next : (f : ℕ → ℕ) (n i : ℕ) (s : List ℕ) → i < 256 → length s ≡ 512 → Held f n (256 + i) s
@@ -37,42 +29,24 @@ module _ (f : ℕ → ℕ) (n : ℕ) (a₀ s : List ℕ) (hf : (e : ℕ) → f e
   mixed-bit i k hi hc hk =
       let e = 8 * k + i % 8 in
       let r = i / 8 % 32 in
-      let g : (d t : ℕ) → d < 33 → d * 8 ≡ t → bit k (getD s (i + t) 0) ≡ bit ((r + d) % 32) (f e) =
-      λ d t hd et.
-      let u : (i + t) / 8 % 32 ≡ (r + d) % 32 = omega arith in
-      let v : 8 * k + (i + t) % 8 ≡ e = omega arith in
-      hs (i + t) k (omega arith) (omega arith) hk ∙ ap₂ (λ (a c : ℕ). bit a (f c)) u v in
+      let g : (d : ℕ) → d < 33 → bit k (getD s (i + d * 8) 0) ≡ bit ((r + d) % 32) (f e) =
+      λ d h.
+      let u : (i + d * 8) / 8 % 32 ≡ (r + d) % 32 = omega arith in
+      let v : 8 * k + (i + d * 8) % 8 ≡ e = omega arith in
+      hs (i + d * 8) k (omega arith) (omega arith) hk ∙ ap₂ (λ (a c : ℕ). bit a (f c)) u v in
       let z : (r + 32) % 32 ≡ r = omega arith in
-      let g0 : bit k (getD s (i + 256) 0) ≡ bit r (f e) = g 32 256 (omega arith) refl ∙ ap (λ (a : ℕ). bit a (f e)) z in
-      let x1 = getD s (i + 256) 0 in
-      let x2 = getD s (i + 240) 0 in
-      let x3 = getD s (i + 176) 0 in
-      let x4 = getD s (i + 112) 0 in
-      let x5 = getD s (i + 64) 0 in
-      let q : bit k (x1 ⊕ x2 ⊕ x3 ⊕ x4 ⊕ x5) ≡ bit r (L (f e)) =
-      bit-xor k (x1 ⊕ x2 ⊕ x3 ⊕ x4) x5
-      ∙ rw (
-        bit-xor k (x1 ⊕ x2 ⊕ x3) x4,
-        bit-xor k (x1 ⊕ x2) x3,
-        bit-xor k x1 x2,
-        g0,
-        g 30 240 (omega arith) refl,
-        g 22 176 (omega arith) refl,
-        g 14 112 (omega arith) refl,
-        g 8 64 (omega arith) refl,
-      ) (L-bit (f e) r (hf e) (omega arith)) in
-      bit-xor k (getD a₀ i 0) (x1 ⊕ x2 ⊕ x3 ⊕ x4 ⊕ x5)
-      ∙ ap₂ differ (held-lane a₀ n i k hi hc hk) q
-      ∙ sym (bit-xor r (lane a₀ e) (L (f e)))
+      let q : bit k (five s i) ≡ bit r (L (f e)) =
+      simp (bit-xor, g 32 (lit< tt), z, g 30 (lit< tt), g 22 (lit< tt), g 14 (lit< tt), g 8 (lit< tt))
+      (L-bit (f e) r (hf e) (omega arith)) in
+      bit-xor k (getD a₀ i 0) (five s i) ∙ ap₂ differ (held-lane a₀ n i k hi hc hk) q ∙ sym (bit-xor r (lane a₀ e) (L (f e)))
 
   pub mixed-next : (i : ℕ) (a : List ℕ) → i < 256 → length a ≡ 256 → Mixed f n a₀ i a
       → Mixed f n a₀ (i + 1) (set a i (getD a i 0 ⊕ five s i))
   mixed-next i a hi ha h =
-      let v : ℕ → ℕ = λ u. u ⊕ five s i in (
-        held-next (mixed f a₀) n i (v (getD a i 0)) a (omega arith)
-            (λ k hc hk. ap (λ (u : ℕ). bit k (v u)) (h .1 i (omega arith)) ∙ mixed-bit i k hi hc hk) (h .0),
-        λ p hp. getD-set-other a i p (v (getD a i 0)) 0 (λ e. omega arith) ∙ h .1 p (omega arith),
-      )
+      let v : ℕ → ℕ = λ u. u ⊕ five s i in
+      let next = held-next (mixed f a₀) n i (v (getD a i 0)) a (omega arith)
+      (λ k hc hk. ap (λ (u : ℕ). bit k (v u)) (h .1 i (omega arith)) ∙ mixed-bit i k hi hc hk) (h .0) in
+      (next, λ p hp. getD-set-other a i p (v (getD a i 0)) 0 (λ e. omega arith) ∙ h .1 p (omega arith))
 
 pub round-done : (a b c d a′ : List ℕ) (k n : ℕ) → Held (mixed (subbed b c d k) a) n 256 a′
     → (e : ℕ) → e < 512 → e % 8 < n → lane a′ e ≡ lane a e ⊕ T (keyed b c d k e)
@@ -85,13 +59,5 @@ pub four-done : (a b c d a′ b′ c′ d′ : List ℕ) (k l m n e : ℕ)
     → lane a′ e ≡ lane a e ⊕ T (keyed b c d k e) → lane b′ e ≡ lane b e ⊕ T (keyed c d a′ l e)
     → lane c′ e ≡ lane c e ⊕ T (keyed d a′ b′ m e) → lane d′ e ≡ lane d e ⊕ T (keyed a′ b′ c′ n e)
     → lanes a′ b′ c′ d′ e ≡ rounds (k ∷ l ∷ m ∷ n ∷ []) (lanes a b c d e)
-unfolding keyed
-four-done a b c d a′ b′ c′ d′ k l m n e ha hb hc hd =
-    ap₂ _∷_ ha (ap₂ _∷_ hb (ap₂ _∷_ hc (ap₂ _∷_ hd refl)))
-    ∙ four-by-hand (k ∷ l ∷ m ∷ n ∷ []) (lanes a b c d e)
-    (T (keyed b c d k e)) (T (keyed c d a′ l e)) (T (keyed d a′ b′ m e)) (T (keyed a′ b′ c′ n e)) refl
-    refl
-    (ap (λ (x : ℕ). T (lane c e ⊕ lane d e ⊕ x ⊕ l)) ha)
-    (ap₂ (λ (x y : ℕ). T (lane d e ⊕ x ⊕ y ⊕ m)) ha hb)
-    (ap₂ (λ (x y : ℕ). T (x ⊕ y ⊕ lane c′ e ⊕ n)) ha hb
-    ∙ ap (λ (x : ℕ). T (lane a e ⊕ T (keyed b c d k e) ⊕ (lane b e ⊕ T (keyed c d a′ l e)) ⊕ x ⊕ n)) hc)
+unfolding keyed rounds
+four-done a b c d a′ b′ c′ d′ k l m n e ha hb hc hd = rw (hd, hc, hb, ha)

@@ -1,28 +1,15 @@
 -- A word added in every lane, row by row with carries: after i rows the sums of the low i bits and the carries are what was to be added.
-use Rattle.block.proofs.Base.{_%_, _*_, _+_, _/_, _<_, _^_, _≤_, min, suc, zero, ℕ, _∙_, _≡_, ap, ap₂, refl, sym, List, [], _∷_, add-zero}
-use Rattle.block.proofs.Base.{mul-assoc, mul-comm, pow-suc, add-one, arith, bitAnd, differ, getD, length, length-set, set, getD-set-other}
-use Rattle.block.proofs.Base.{getD-set-same}
-use Rattle.block.specs.Xor.{_⊕_}
-use Rattle.lanes.specs.Bits.{bit, pack}
-use Rattle.block.proofs.Xor.{two-cases}
-use Rattle.lanes.proofs.Bits.{bit-small, bit-xor, bit-and, pack-is}
-use Rattle.lanes.proofs.Filling.{word-more}
-use Rattle.sliced.specs.Lanes.{lane}
-use Rattle.sliced.specs.Counting.{carryAt, WordAdded, RowAdded, Added}
+use Rattle.sliced.proofs.Names.{Added, List, RowAdded, WordAdded, [], _%_, _*_, _+_, _/_, _<_, _^_, _∙_, _∷_, _≡_, _≤_, _⊕_, add-one}
+use Rattle.sliced.proofs.Names.{add-zero, ap, ap₂, arith, bit, bit-and, bit-small, bit-xor, bitAnd, carryAt, differ, each8, getD}
+use Rattle.sliced.proofs.Names.{getD-set-other, getD-set-same, lane, length, length-set, min, mul-assoc, mul-comm, pack, pack-below}
+use Rattle.sliced.proofs.Names.{pack-is, pow-suc, refl, set, suc, sym, three-bits, word-more, zero, ℕ}
 
--- three bits: their sum and its carry
-adder : (a b d : ℕ) → a < 2 → b < 2 → d < 2 → differ (differ a b) d + 2 * differ (min a b) (min (differ a b) d) ≡ d + a + b
-adder a b d ha hb hd =
-    let P : ℕ → ℕ → ℕ → Type 0 = λ a b d. differ (differ a b) d + 2 * differ (min a b) (min (differ a b) d) ≡ d + a + b in
-    let third : (a b : ℕ) → P a b 0 → P a b 1 → P a b d = λ a b p q. two-cases (P a b) p q d hd in
-    two-cases (λ a. P a b d) (two-cases (λ b. P 0 b d) (third 0 0 refl refl) (third 0 1 refl refl) b hb)
-    (two-cases (λ b. P 1 b d) (third 1 0 refl refl) (third 1 1 refl refl) b hb) a ha
-
--- the same in every bit of three words
+-- three bits, their sum and its carry, in every bit of three words
 word-adder : (k a b m : ℕ) → bit k (a ⊕ b ⊕ m) + 2 * bit k (bitAnd a b ⊕ bitAnd (a ⊕ b) m) ≡ bit k m + bit k a + bit k b
 word-adder k a b m =
-    rw (bit-xor k (a ⊕ b) m, bit-xor k (bitAnd a b) (bitAnd (a ⊕ b) m), bit-and k a b, bit-and k (a ⊕ b) m, bit-xor k a b)
-    (adder (bit k a) (bit k b) (bit k m) (bit-small k a) (bit-small k b) (bit-small k m))
+    simp (bit-xor, bit-and)
+    (three-bits (λ a b d. differ (differ a b) d + 2 * differ (min a b) (min (differ a b) d) ≡ d + a + b)
+    refl refl refl refl refl refl refl refl (bit k a) (bit k b) (bit k m) (bit-small k a) (bit-small k b) (bit-small k m))
 
 -- as the code stores it
 pub word-added : (p a b m : ℕ) (x : List ℕ) → p < 256 → length x ≡ 256
@@ -41,25 +28,17 @@ pub eight-words : (x : List ℕ) (p q : ℕ) → q < 8
     → getD (getD x p 0 ∷ getD x (p + 1) 0 ∷ getD x (p + 2) 0 ∷ getD x (p + 3) 0
     ∷ getD x (p + 4) 0 ∷ getD x (p + 5) 0 ∷ getD x (p + 6) 0 ∷ getD x (p + 7) 0 ∷ []) q 0
     ≡ getD x (p + q) 0
-eight-words x p zero h = ap (λ (z : ℕ). getD x z 0) (sym (add-zero p))
-eight-words x p (suc zero) h = refl
-eight-words x p (suc (suc zero)) h = refl
-eight-words x p (suc (suc (suc zero))) h = refl
-eight-words x p (suc (suc (suc (suc zero)))) h = refl
-eight-words x p (suc (suc (suc (suc (suc zero))))) h = refl
-eight-words x p (suc (suc (suc (suc (suc (suc zero)))))) h = refl
-eight-words x p (suc (suc (suc (suc (suc (suc (suc zero))))))) h = refl
-eight-words x p (suc (suc (suc (suc (suc (suc (suc (suc q)))))))) h = absurd (omega arith)
+eight-words x p =
+    each8 _ (ap (λ (z : ℕ). getD x z 0) (sym (add-zero p))) refl refl refl refl refl refl refl
 
 -- a row of which j words are added
 pub added-first : (m i : ℕ) (a x y : List ℕ) → length x ≡ 256 → length y ≡ 8 → RowAdded m i 0 a x y x y
 added-first m i a x y hx hy =
     record { size-x = hx; size-y = hy; sum = λ q k hq. absurd (omega arith); same-x = λ p h. refl; same-y = λ q h. refl }
 
-pub added-next : (m i j c : ℕ) (a x₀ y₀ x y x′ : List ℕ) → j < 8 → WordAdded (8 * i + j) (getD a j 0) (getD y j 0) m x x′ c
-    → RowAdded m i j a x₀ y₀ x y → RowAdded m i (j + 1) a x₀ y₀ x′ (set y j c)
-added-next m i j c a x₀ y₀ x y x′ hj W R =
-    let p = 8 * i + j in
+pub added-next : (m i : ℕ) (a x₀ y₀ : List ℕ) (j c : ℕ) (x y x′ : List ℕ) → j < 8
+    → WordAdded (8 * i + j) (getD a j 0) (getD y j 0) m x x′ c → RowAdded m i j a x₀ y₀ x y → RowAdded m i (j + 1) a x₀ y₀ x′ (set y j c)
+added-next m i a x₀ y₀ j c x y x′ hj W R =
     let ly = R .size-y in
     record {
       size-x = W .size;
@@ -72,36 +51,18 @@ added-next m i j c a x₀ y₀ x y x′ hj W R =
       same-y = λ q h. getD-set-other y j q c 0 (λ e. omega arith) ∙ R .same-y q (omega arith);
     }
 
--- the number of one bit more, and of bits that are the same
-pack-next : (k : ℕ) (f : ℕ → ℕ) → pack (suc k) f ≡ pack k f + 2 ^ k * f k
+-- the number of one bit more
+pack-suc : (k : ℕ) (f : ℕ → ℕ) → pack (suc k) f ≡ pack k f + 2 ^ k * f k
 unfolding pack
-pack-next zero f = omega arith
-pack-next (suc k) f =
-    let t = 2 ^ k * f (suc k) in
-    let e : 2 ^ suc k * f (suc k) ≡ t * 2 =
-    rw pow-suc (mul-assoc (2 ^ k) 2 (f (suc k)) ∙ ap (λ (z : ℕ). 2 ^ k * z) (mul-comm 2 (f (suc k))) ∙ sym (mul-assoc (2 ^ k) (f (suc k)) 2)) in
-    let h = pack-next k (λ i. f (suc i)) in
-    ap (λ (z : ℕ). z * 2 + f 0) h ∙ omega arith
+pack-suc zero f = omega arith
+pack-suc (suc k) f = ap (λ (z : ℕ). z * 2 + f 0) (pack-suc k (λ i. f (suc i))) ∙ rw (pow-suc 2 k) (omega arith)
 
-pack-below : (k : ℕ) (f g : ℕ → ℕ) → ((i : ℕ) → i < k → f i ≡ g i) → pack k f ≡ pack k g
-unfolding pack
-pack-below zero f g h = refl
-pack-below (suc k) f g h =
-    ap₂ (λ (x y : ℕ). x * 2 + y) (pack-below k (λ i. f (suc i)) (λ i. g (suc i)) (λ i l. h (suc i) (omega arith))) (h 0 (omega arith))
+pack-next : (k : ℕ) (f : ℕ → ℕ) → pack (k + 1) f ≡ pack k f + 2 ^ k * f k
+pack-next k f = rw (add-one k) (pack-suc k f)
 
 -- the low i bits of lane e
 pub low : List ℕ → ℕ → ℕ → ℕ
 low x e i = pack i (λ k. bit (e / 8) (getD x (8 * k + e % 8) 0))
-
-low-next : (x : List ℕ) (e i : ℕ) → low x e (i + 1) ≡ low x e i + 2 ^ i * bit (e / 8) (getD x (8 * i + e % 8) 0)
-unfolding low
-low-next x e i = ap (λ (k : ℕ). low x e k) (add-one i) ∙ pack-next i (λ k. bit (e / 8) (getD x (8 * k + e % 8) 0))
-
--- one row more, over any weight of its bits
-ripple : (B C P Q A y₀ y z d a s : ℕ) → C ≡ B * 2 → P + B * y ≡ Q + A + y₀ → s + 2 * z ≡ d + a + y
-    → P + B * s + C * z ≡ Q + B * d + (A + B * a) + y₀
-ripple B C P Q A y₀ y z d a s hC hP hs =
-    let e : B * (s + 2 * z) ≡ B * (d + a + y) = ap (λ (v : ℕ). B * v) hs in rw hC (omega arith)
 
 -- the low i bits of w, added in every lane; the rows from i on stand as they were
 pub record Rippled (w i : ℕ) (x₀ y₀ x y : List ℕ) : Type 0 where
@@ -127,12 +88,10 @@ rippled-next w i m a x₀ y₀ x y x′ y′ hm ha P R =
           ap (bit (e / 8)) (ha (e % 8) (omega arith) ∙ P .rest p (omega arith)) in
           let row : bit (e / 8) (getD x′ p 0) + 2 * carryAt y′ e ≡ bit i w + bit (e / 8) (getD x₀ p 0) + carryAt y e =
           R .sum (e % 8) (e / 8) (omega arith) ∙ ap₂ (λ (u v : ℕ). u + v + carryAt y e) (hm (e / 8) (omega arith)) was in
-          let words : pack (i + 1) (λ k. bit k w) ≡ pack i (λ k. bit k w) + 2 ^ i * bit i w =
-          ap (λ (k : ℕ). pack k (λ j. bit j w)) (add-one i) ∙ pack-next i (λ k. bit k w) in
-          let double : 2 ^ (i + 1) ≡ 2 ^ i * 2 = ap (λ (k : ℕ). 2 ^ k) (add-one i) ∙ pow-suc 2 i in
-          rw (low-next x′ e i, low-next x₀ e i, words, kept)
-          (ripple (2 ^ i) (2 ^ (i + 1)) (low x e i) (pack i (λ k. bit k w)) (low x₀ e i) (carryAt y₀ e) (carryAt y e) (carryAt y′ e)
-          (bit i w) (bit (e / 8) (getD x₀ p 0)) (bit (e / 8) (getD x′ p 0)) double (P .sum e he) row);
+          let double : 2 ^ (i + 1) ≡ 2 ^ i * 2 = rw (add-one i) (pow-suc 2 i) in
+          let weighed = ap (λ (v : ℕ). 2 ^ i * v) row in
+          let before = P .sum e he in
+          rw (pack-next i (f x′), pack-next i (f x₀), pack-next i (λ k. bit k w), kept, double) (omega arith);
       rest = λ p h. R .same-x p (λ q g e. omega arith) ∙ P .rest p (omega arith);
     }
 

@@ -10,7 +10,7 @@ ghost use Rattle.block.specs.Xor.{xors};
 ghost use Rattle.lanes.specs.Bits.{bit, Masks};
 ghost use Rattle.cipher.specs.Sm4.{encryptBlock};
 ghost use Rattle.counter.specs.Counter.{jumped};
-ghost use Rattle.walk.specs.Walk.{over};
+ghost use Rattle.block.specs.Over.{over};
 ghost use Rattle.sliced.specs.Lanes.{lane, lanes};
 ghost use Rattle.sliced.specs.Counting.{numberAt, Clear, Kept, WordAdded, RowAdded, Added};
 use crate::columns_of;

@@ -14,7 +14,7 @@ ghost use Rattle.block.specs.Xor.{_⊕_, xors};
 ghost use Rattle.lanes.specs.Bits.{bit, Masks};
 ghost use Rattle.cipher.specs.Sm4.{T, rounds, encryptWords, encryptBlock};
 ghost use Rattle.rows.specs.Rows.{place, Sized, Rows};
-ghost use Rattle.walk.specs.Walk.{over};
+ghost use Rattle.block.specs.Over.{over};
 ghost use Rattle.sliced.specs.Lanes.{lane, lanes, Held, Planes, Parted, Halved};
 ghost use Rattle.sliced.specs.Round.{keyed, subbed, mixed, column};
 

@@ -1,4 +1,6 @@
+mod Names
 pub mod RoundTrip
 pub mod CounterSteps
+pub mod Walks
 pub mod Counters
 pub mod Ahead

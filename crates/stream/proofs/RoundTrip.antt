@@ -1,15 +1,7 @@
 -- The five kinds: as many bytes come out as go in, and the opener takes back what a kind did.
-use Rattle.block.proofs.Base.{_≤_, ℕ, _∙_, _≡_, refl, List, arith, length}
-use Rattle.block.specs.Xor.{xors}
-use Rattle.block.proofs.Xors.{length-xors, xors-cancel}
-use Rattle.cipher.specs.Sm4.{encryptBlock}
-use Rattle.cipher.proofs.Blocks.{length-encryptBlock}
-use Rattle.walk.specs.Walk.{chain}
-use Rattle.stream.specs.Stream.{stateAfter, streamMode, opener}
-use Rattle.stream.specs.declared.Kind.{Kind}
-use Rattle.stream.specs.declared.Kind.the-variants.{CfbEncrypt, CfbDecrypt, Ofb, Ctr, Gctr}
-use Rattle.walk.proofs.Chain.{Any, Keeps, chain-length}
-use Rattle.walk.proofs.Undo.{Undoes, undo}
+use Rattle.stream.proofs.Names.{Any, CfbDecrypt, CfbEncrypt, Ctr, Gctr, Keeps, Kind, List, Ofb, Undoes, _∙_, _≡_, _≤_, arith, chain}
+use Rattle.stream.proofs.Names.{chain-length, encryptBlock, length, length-encryptBlock, length-xors, opener, refl, stateAfter}
+use Rattle.stream.proofs.Names.{streamMode, sym, undo, xors, xors-cancel, ℕ}
 
 -- a message of at most a block is covered by the cipher's output
 covered : (rk s d : List ℕ) → length d ≤ 16 → length d ≤ length (encryptBlock rk s)
@@ -39,28 +31,22 @@ same-state Ofb s e b c = refl
 same-state Ctr s e b c = refl
 same-state Gctr s e b c = refl
 
-stream-undoes : (k : Kind) (rk : List ℕ) → Undoes Any Any (streamMode (opener k) rk) (streamMode k rk)
-stream-undoes k rk =
+stream-undoes : (j k : Kind) (rk : List ℕ) → ((s e b c : List ℕ) → stateAfter j s e c b ≡ stateAfter k s e b c)
+    → Undoes Any Any (streamMode j rk) (streamMode k rk)
+stream-undoes j k rk same =
     let x : (s d : List ℕ) → length d ≤ 16 → xors (xors d (encryptBlock rk s)) (encryptBlock rk s) ≡ d =
     λ s d h. xors-cancel d (encryptBlock rk s) (covered rk s d h) in
     record {
       keeps = stream-keeps k rk;
       block = λ s b hs hb n. x s b (omega arith);
-      next = λ s b hs hb n. rw (x s b (omega arith)) (same-state k s (encryptBlock rk s) b (xors b (encryptBlock rk s)));
+      next = λ s b hs hb n. rw (x s b (omega arith)) (same s (encryptBlock rk s) b (xors b (encryptBlock rk s)));
       rest = λ s d hs hd n. x s d (omega arith);
     }
 
 -- all five round trips, for any round keys and any first state
 pub stream-back : (k : Kind) (rk s d : List ℕ) → chain (streamMode (opener k) rk) s (chain (streamMode k rk) s d) ≡ d
-stream-back k rk s d = undo Any Any (streamMode (opener k) rk) (streamMode k rk) (stream-undoes k rk) s d tt tt
-
-opener-twice : (k : Kind) → opener (opener k) ≡ k
-opener-twice CfbEncrypt = refl
-opener-twice CfbDecrypt = refl
-opener-twice Ofb = refl
-opener-twice Ctr = refl
-opener-twice Gctr = refl
+stream-back k rk s d = undo Any Any _ _ (stream-undoes (opener k) k rk (same-state k)) s d tt tt
 
 -- and the other way round
 pub stream-forth : (k : Kind) (rk s d : List ℕ) → chain (streamMode k rk) s (chain (streamMode (opener k) rk) s d) ≡ d
-stream-forth k rk s d = rw (opener-twice k) at (stream-back (opener k) rk s d)
+stream-forth k rk s d = undo Any Any _ _ (stream-undoes k (opener k) rk (λ t e b c. sym (same-state k t e c b))) s d tt tt

@@ -8,6 +8,7 @@ ghost use Rattle.counter.specs.Counter.{jumped};
 ghost use Rattle.walk.specs.Reached.{Reached};
 ghost use Rattle.stream.specs.Stream.{streamMode, counting};
 use crate::Kind;
+use crate::few::block_at;
 use crate::step;
 use sliced::LEAST;
 
@@ -63,9 +64,8 @@ fn feedback(t: &[u32], rk: [u32; 32], iv: [u32; 4], data: &[u8], out: &mut [u8])
         sliced::encrypt_xored(rk, m, &data[before..], &data[at..], &mut out[at..]);
         at += 16 * m;
     }
-    let before = at - 16;
     Place {
-        state: block::split_block(&data[before..]),
+        state: block_at(data, at - 16),
         at,
     }
 }

@@ -2,7 +2,7 @@
 // ahead: for what is too short for a batch.
 ghost use mathlib.Core.Path.{_≡_};
 ghost use mathlib.Core.Logic.{_⊎_};
-ghost use mathlib.Core.Bool.{true, false};
+ghost use mathlib.Core.Bool.{true};
 ghost use mathlib.Core.List.{List};
 ghost use Prim.Native.Nat.{ℕ, _+_, _*_, _<_, _≤_};
 ghost use lib.ListN.{length, take, drop};
@@ -10,7 +10,8 @@ ghost use Rattle.block.specs.Blocks.{blockAt, cat};
 ghost use Rattle.block.specs.Words.{unwords};
 ghost use Rattle.cipher.specs.Sm4.{encryptBlock};
 ghost use Rattle.counter.specs.Counter.{jumped};
-ghost use Rattle.walk.specs.Walk.{chain, stepped, endState, over};
+ghost use Rattle.block.specs.Over.{over};
+ghost use Rattle.walk.specs.Walk.{chain, stepped, endState};
 ghost use Rattle.stream.specs.Stream.{streamMode, ahead};
 use crate::End;
 use crate::Kind;
@@ -45,7 +46,7 @@ fn lay(kind: Kind, iv: [u32; 4], data: &[u8], n: usize, out: &mut [u8])
 }
 
 // The block at a place.
-fn block_at(s: &[u8], at: usize) -> [u32; 4]
+pub(crate) fn block_at(s: &[u8], at: usize) -> [u32; 4]
     requires { ⌜ at + 16 ≤ length (now s) ⌝ }
     ensures { λ r. ⌜ unwords r ≡ take 16 (drop at (now (s .entry))) ⌝ }
 {
@@ -54,8 +55,8 @@ fn block_at(s: &[u8], at: usize) -> [u32; 4]
 
 // How many states are ciphered for m blocks: one more where the pad behind them is needed.
 fn ciphered(m: usize, pad: bool) -> usize
-    requires { ⌜ m ≤ 64 ⌝ }
-    ensures { λ r. ⌜ ((r ≡ m) ⊎ (r ≡ m + 1)) × (pad ≡ true → r ≡ m + 1) × (pad ≡ false → r ≡ m) ⌝ }
+    requires { ⌜ (m ≤ 64) × (pad ≡ true → m ≤ 63) ⌝ }
+    ensures { λ r. ⌜ ((r ≡ m) ⊎ (r ≡ m + 1)) × (pad ≡ true → r ≡ m + 1) × (r ≤ 64) ⌝ }
 {
     if pad {
         return m + 1;

@@ -12,7 +12,8 @@ ghost use Rattle.block.specs.Words.{unwords};
 ghost use Rattle.block.specs.Xor.{xors};
 ghost use Rattle.cipher.specs.Engine.{Engine};
 ghost use Rattle.cipher.specs.Sm4.{encryptBlock};
-ghost use Rattle.walk.specs.Walk.{chain, endState, over};
+ghost use Rattle.block.specs.Over.{over};
+ghost use Rattle.walk.specs.Walk.{chain, endState};
 ghost use Rattle.stream.specs.Stream.{stateAfter, streamMode, ahead};
 
 // The mode and, where they differ, the direction.

@@ -1,22 +1,20 @@
 -- Many blocks at once: what n full blocks give, each from the state that the walk has there, is what the walk gives. So a loop that writes
 -- one block a turn, or many, goes on where the walk had come to.
-use Rattle.block.proofs.Base.{_%_, _*_, _+_, _-_, _<_, _≤_, suc, zero, ℕ, _∙_, _≡_, ap, ap₂, refl, sym, List, _++_, append-assoc, arith}
+use Rattle.block.proofs.Base.{_%_, _*_, _+_, _-_, _<_, _≤_, suc, zero, ℕ, _∙_, _≡_, ap, ap₂, refl, sym, List, [], _++_, append-assoc, arith}
 use Rattle.block.proofs.Base.{drop, length, length-append, length-drop, take, drop-at, drop-drop, length-take-le, take-at}
 use Rattle.block.specs.Blocks.{blockAt, cat}
-use Rattle.block.proofs.Cat.{cat-same, cat-first, length-cat}
-use Rattle.walk.specs.Walk.{Mode, chain, stepped, endState, over}
+use Rattle.block.proofs.Cat.{cat-same, cat-first, length-cat, length-blockAt}
+use Rattle.block.specs.Over.{over}
+use Rattle.walk.specs.Walk.{Mode, chain, stepped, endState}
 use Rattle.walk.specs.Reached.{Reached}
 use Rattle.walk.proofs.Chain.{chain-block}
 use Rattle.walk.proofs.Cut.{end-block}
-use Rattle.walk.proofs.Loop.{tailed, tail-is, returned, returned-is, over-append}
+use Rattle.block.proofs.Tails.{tailed, tail-is, returned, returned-is, over-append}
+use Rattle.walk.proofs.Loop.{last-state, nothing-left}
 
 -- what block i gives, from the state that the walk has there
 abbrev pub gives : Mode → List ℕ → List ℕ → ℕ → List ℕ
 gives m s d i = m .block (stepped m i s d) (blockAt d i)
-
--- a block that stands whole in d
-pub length-blockAt : (d : List ℕ) (i n : ℕ) → i < n → 16 * n ≤ length d → length (blockAt d i) ≡ 16
-length-blockAt d i n h g = length-take-le 16 (drop (16 * i) d) (rw length-drop (omega arith))
 
 -- the same tail, one block further on
 tail-on : (d : List ℕ) (i : ℕ) → drop (16 * i) (drop 16 d) ≡ drop (16 * suc i) d
@@ -55,6 +53,11 @@ end-blocks m (suc n) s d h =
 -- before the first block
 pub reached-first : (m : Mode) (s d o : List ℕ) → Reached m s d o s o 0
 reached-first m s d o = record { within = omega arith; size = refl; ends = refl; leaves = refl }
+
+-- the walk has come to where no full block is left, and the rest gives nothing: it has ended
+pub walk-ended : {m : Mode} {s d o s′ o′ : List ℕ} {at : ℕ} → Reached m s d o s′ o′ at → length d < at + 16 → m .rest s′ (drop at d) ≡ []
+    → (s′ ≡ endState m s d) × (o′ ≡ over (chain m s d) o)
+walk-ended {m} {s} {d} {o} {s′} {o′} {at} R h e = (last-state m s′ d at h ∙ R .ends, nothing-left m s′ d o′ at h e ∙ R .leaves)
 
 -- n blocks more were written where the walk had come to
 module _ (m : Mode) (s d o r p : List ℕ) (at : ℕ) (R : Reached m s d o r p at) where
@@ -164,5 +167,5 @@ module _ (m : Mode) (F : FedBack m) where
         let b = take 16 d in
         R .reached s o₀
         (rw (returned-is o₀ p 0) at
-        (reached-next m s d o₀ s o₀ 0 (reached-first m s d o₀) b p hd ho (rw x (F .full s b hs (length-take-le 16 d hd))) (rw x (sym (F .state s b)))
-        (rw (x, y) e)))
+        (reached-next m s d o₀ s o₀ 0 (reached-first m s d o₀) b p hd ho (rw x (F .full s b hs (length-take-le 16 d hd)))
+        (rw x (sym (F .state s b))) (rw (x, y) e)))

@@ -2,5 +2,4 @@ pub mod Chain
 pub mod Cut
 pub mod Undo
 pub mod Loop
-pub mod Fill
 pub mod Batch

@@ -3,7 +3,8 @@ use mathlib.Core.Path.{_≡_}
 use Prim.Native.Nat.{ℕ, _≤_}
 use mathlib.Core.List.{List, _++_}
 use lib.ListN.{length, take, drop}
-use Rattle.walk.specs.Walk.{Mode, chain, endState, over}
+use Rattle.block.specs.Over.{over}
+use Rattle.walk.specs.Walk.{Mode, chain, endState}
 
 -- the walk over d from the state s on, whose output was o, has come to `at`, to the state s′ and the output o′: if it goes on from
 -- there, it ends in the state, and leaves the bytes, that the whole walk does

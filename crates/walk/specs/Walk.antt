@@ -29,7 +29,3 @@ stepped m (suc n) s d = stepped m n (m .next s (take 16 d)) (drop 16 d)
 -- the state that the walk over d ends in
 unfoldable pub endState : Mode → List ℕ → List ℕ → List ℕ
 endState m s d = stepped m (length d / 16) s d
-
--- the output o with p written over its front
-abbrev pub over : List ℕ → List ℕ → List ℕ
-over p o = p ++ drop (length p) o

@@ -6,9 +6,7 @@ use Rattle.carryless.proofs.clmul128.Statement.{statement}
 use Rattle.carryless.proofs.clmul128.Tie as tie
 
 pub clmul128-spec : {M : Type 1} → statement M
-clmul128-spec =
-    tie.close
-    (tie.spec
+clmul128-spec = tie.close (tie.spec
     (λ c κs. search needs) (λ c. search needs) (λ c. search needs) (λ c. search needs) (λ c κs. search needs) (λ c. search needs)
     (λ c. search needs) (λ c. search needs) (λ c κs. search needs) (λ c. search needs) (λ c. search needs) (λ c. search needs)
     (λ c κs. search needs) (λ c κs. search needs)

@@ -5,7 +5,5 @@ use Rattle.carryless.proofs.clmul32.Statement.{statement}
 use Rattle.carryless.proofs.clmul32.Tie as tie
 
 pub clmul32-spec : {M : Type 1} → statement M
-clmul32-spec =
-    tie.close
-    (tie.spec
+clmul32-spec = tie.close (tie.spec
     (λ c κs. search needs) (λ c κs. search needs) (λ c κs. search needs) (λ c κs. search needs) (λ c. search (needs, by-quarters)))

@@ -5,7 +5,5 @@ use Rattle.carryless.proofs.square128.Statement.{statement}
 use Rattle.carryless.proofs.square128.Tie as tie
 
 pub square128-spec : {M : Type 1} → statement M
-square128-spec =
-    tie.close
-    (tie.spec
+square128-spec = tie.close (tie.spec
     (λ c κs. search needs) (λ c κs. search needs) (λ c κs. search needs) (λ c κs. search needs) (λ c. search (needs, square-words)))

@@ -1,5 +1,5 @@
--- `carryless::word_products` meets its contract. The loop's invariant: the first k products are there. The parts of y's words are lent in their
--- order (`lends-word`).
+-- `carryless::word_products` meets its contract. The loop's invariant: the first k products are there. The parts of y's words are lent in
+-- their order (`lends-word`).
 use Rattle.block.proofs.Base.{_-_, _≤_, _≡_, arith, needs, getD, length}
 use Rattle.carryless.specs.Carryless.{clmul}
 use Rattle.carryless.specs.Lanes.{Each}
@@ -9,9 +9,7 @@ use Rattle.carryless.proofs.word_products.Statement.{statement}
 use Rattle.carryless.proofs.word_products.Tie as tie
 
 pub word-products-spec : {M : Type 1} → statement M
-word-products-spec =
-    tie.close
-    (tie.spec
+word-products-spec = tie.close (tie.spec
     (λ m a b z₀ k₀ z k. (k ≤ 8) × (length z ≡ 9) × Each (λ i. clmul 32 (getD a i 0) (getD b i 0)) k z) (λ m a b z₀ k₀ z k. 8 - k)
     (λ c κs. search needs) (λ c κs. search needs) (λ c. search needs) (λ c. search needs) (λ c. search needs) (λ c. search needs)
     (λ c. search needs) (λ c. search needs)

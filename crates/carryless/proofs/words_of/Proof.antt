@@ -5,8 +5,5 @@ use Rattle.carryless.proofs.words_of.Statement.{statement}
 use Rattle.carryless.proofs.words_of.Tie as tie
 
 pub words-of-spec : {M : Type 1} → statement M
-words-of-spec =
-    tie.close
-    (tie.spec
-    (λ c. search needs) (λ c. search needs) (λ c. search needs) (λ c. search needs) (λ c. search (needs, high-lt)) (λ c. search needs)
-    (λ c. search needs))
+words-of-spec = tie.close (tie.spec (λ c. search needs) (λ c. search needs) (λ c. search needs) (λ c. search needs)
+    (λ c. search (needs, high-lt)) (λ c. search needs) (λ c. search needs))

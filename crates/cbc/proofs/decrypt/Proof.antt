@@ -1,15 +1,7 @@
 -- `cbc::decrypt` meets its contract. The last block decides (`unpad`), before a byte is written; then the front and what the padding leaves
 -- of the last block are put together (`open-done`). The round keys turned round twice are the round keys.
-use Rattle.block.proofs.Base.{_-_, _∙_, _≡_, sym, ⊎-elim, [], _∷_, reverse-reverse, sub-zero, arith, needs, now, drop, length}
-use denote.Enum.Declared.{tagOf}
-use types.Run.{OneOf}
-use Rattle.block.specs.Words.{unwords}
-use Rattle.block.proofs.WordsBack.{length-unwords}
-use Rattle.cbc.specs.Open.{headOf, cbcText}
-use Rattle.cbc.specs.declared.Opened.{Opened}
-use Rattle.cbc.specs.declared.Opened.the-variants.{Done, InvalidLastU8, InvalidPadding}
-use Rattle.cbc.proofs.Opened.{the-type}
-use Rattle.cbc.proofs.Unpadded.{unpadded-le}
+use Rattle.cbc.proofs.Names.{_-_, _∙_, _≡_, arith, cbcText, drop, length, length-unwords, needs, now, reverse-reverse, sub-zero, sym}
+use Rattle.cbc.proofs.Names.{unpadded-le, unwords}
 use Rattle.cbc.proofs.Opens.{open-refused, open-done}
 use Rattle.cbc.proofs.decrypt.Statement.{statement}
 use Rattle.cbc.proofs.decrypt.Tie as tie
@@ -21,21 +13,14 @@ last-is x =
     let a = x .before .before .before .before .before .args in
     rw (x .before .reversed .ensures, reverse-reverse (a .rk)) at (x .last-block .ensures)
 
--- what is not done has a number
-refusing : (a : Opened) → OneOf (1 ∷ 2 ∷ []) (tagOf the-type a) → headOf a .number ≡ 0 → ⊥
-refusing (Done n) told e = ⊎-elim (λ t. omega arith) (λ t. omega arith) told
-refusing InvalidLastU8 told e = omega arith
-refusing InvalidPadding told e = omega arith
-
 returns : tie.Need-returns
 returns c =
     let at-unpad = c .before in
     let at-last = at-unpad .before in
     let S = at-last .before .before .before .before .before in
     let a = S .args in
-    let answer = at-unpad .unpad .result in
     open-refused (a .rk) (unwords (a .iv)) (now (a .«data»)) (at-last .last-block .result) (now (a .out)) (length-unwords (a .iv))
-    (S .pre .1 .0) (S .pre .1 .1 .0) (last-is at-last) answer (refusing answer (c .match .keys2)) (sym (at-unpad .unpad .ensures))
+    (S .pre .1 .0) (S .pre .1 .1 .0) (last-is at-last) _ (c .match .keys2) (sym (at-unpad .unpad .ensures))
 
 put-front-requires : tie.Need-put-front-requires
 put-front-requires c κs =

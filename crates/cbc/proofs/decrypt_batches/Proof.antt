@@ -1,16 +1,9 @@
 -- `cbc::decrypt_batches` meets its contract. The first block goes by itself (`fed-reached`), and a turn of the loop goes as many blocks on
 -- as the batch has (`fed-on`), each from the ciphertext block before it.
-use Rattle.block.proofs.Base.{_-_, ℕ, _≡_, refl, List, _++_, reverse, arith, needs, now, drop, length, take, take-at}
-use Rattle.block.specs.Blocks.{blockAt}
-use Rattle.block.specs.Words.{unwords}
-use Rattle.block.proofs.WordsBack.{length-unwords}
-use Rattle.walk.specs.Reached.{Reached}
-use Rattle.walk.specs.Walk.{Mode}
-use Rattle.walk.proofs.Batch.{Fed, reached-first, fed-first, fed-on, fed-reached}
-use Rattle.walk.proofs.Loop.{tailed}
-use Rattle.cbc.specs.Cbc.{cbcDecrypt}
+use Rattle.cbc.proofs.Names.{Fed, List, Mode, Reached, _++_, _-_, _≡_, arith, block-before, blockAt, cbcDecrypt, drop, fed-first}
+use Rattle.cbc.proofs.Names.{fed-on, fed-reached, length, length-unwords, needs, now, reached-first, refl, reverse, tailed, take}
+use Rattle.cbc.proofs.Names.{take-at, unwords, ℕ}
 use Rattle.cbc.proofs.Batches.{decrypt-fed, decrypted}
-use Rattle.sixteen.proofs.Before.{block-before}
 use Rattle.cbc.proofs.decrypt_batches.Statement.{statement}
 use Rattle.cbc.proofs.decrypt_batches.Tie as tie
 
@@ -21,23 +14,8 @@ abbrev μ-loop : tie.MeasureT-loop
 μ-loop t back d out₀ at₀ out at = length d - at
 
 -- before the first block
-at-start : (m : Mode) (s d o : List ℕ) → length s ≡ 16 → Reached m s d o (take 16 (drop 0 (s ++ d))) o 0
-at-start m s d o h = rw (take-at s d 16 h) (reached-first m s d o)
-
-returns : tie.Need-returns Inv-loop μ-loop
-returns c =
-    let a = c .before .before .before .before .before .args in
-    (refl, at-start (cbcDecrypt (reverse (a .back))) (unwords (a .iv)) (now (a .«data»)) (now (a .out)) (length-unwords (a .iv)))
-
-returns-2 : tie.Need-returns-2 Inv-loop μ-loop
-returns-2 c =
-    let a = c .before .before .before .before .before .before .args in
-    (refl, at-start (cbcDecrypt (reverse (a .back))) (unwords (a .iv)) (now (a .«data»)) (now (a .out)) (length-unwords (a .iv)))
-
-loop-holds : tie.Need-loop-holds Inv-loop μ-loop
-loop-holds c =
-    let a = c .before .before .before .before .before .before .before .before .before .before .args in
-    fed-first (cbcDecrypt (reverse (a .back))) (now (a .«data»)) _ (omega arith) (omega arith)
+at-start : {m : Mode} {s d o : List ℕ} → length s ≡ 16 → Reached m s d o (take 16 (drop 0 (s ++ d))) o 0
+at-start {m} {s} {d} {o} h = rw (take-at s d 16 h) (reached-first m s d o)
 
 loop-again : tie.Need-loop-again Inv-loop μ-loop
 loop-again c =
@@ -54,21 +32,23 @@ loop-again c =
 
 returns-3 : tie.Need-returns-3 Inv-loop μ-loop
 returns-3 c =
-    let at-loop = c .before in
-    let l = at-loop .loop in
-    let at-step = at-loop .before .before .before in
+    let l = c .before .loop in
+    let at-step = c .before .before .before .before in
     let a = at-step .before .before .before .before .before .before .before .before .args in
     let d = now (a .«data») in
     let s = unwords (a .iv) in
     let sixteen = length-unwords (a .iv) in (
       l .inv .whole,
       rw (block-before s d (l .at) sixteen (l .inv .behind))
-          (fed-reached (cbcDecrypt (reverse (a .back))) (decrypt-fed (a .back)) d _ s (now (a .out)) (l .out) (l .at) (l .inv) sixteen
-          (omega arith) (omega arith) (at-step .decrypt-step .ensures .1)),
+          (fed-reached _ (decrypt-fed (a .back)) d _ s (now (a .out)) (l .out) (l .at) (l .inv) sixteen (omega arith) (omega arith)
+          (at-step .decrypt-step .ensures .1)),
     )
 
 pub decrypt-batches-spec : {M : Type 1} → statement M
-decrypt-batches-spec = tie.close (tie.spec Inv-loop μ-loop (λ c κs. search needs) returns returns-2 (λ c κs. search needs) loop-holds
-    (λ c. omega arith) (λ c. omega arith) (λ c κs. omega arith) (λ c. omega arith) (λ c. omega arith) (λ c. omega arith) (λ c. omega arith)
-    (λ c. omega arith) (λ c. omega arith) (λ c. omega arith) (λ c. omega arith) (λ c. omega arith) (λ c. omega arith) (λ c κs. search needs)
-    (λ c. omega arith) (λ c. omega arith) (λ c. omega arith) loop-again (λ c. omega arith) returns-3)
+decrypt-batches-spec = tie.close (tie.spec Inv-loop μ-loop (λ c κs. search needs)
+    (λ c. (refl, at-start (length-unwords (c .before .before .before .before .before .args .iv))))
+    (λ c. (refl, at-start (length-unwords (c .before .before .before .before .before .before .args .iv)))) (λ c κs. search needs)
+    (λ c. fed-first _ _ _ (omega arith) (omega arith)) (λ c. omega arith) (λ c. omega arith) (λ c κs. omega arith) (λ c. omega arith)
+    (λ c. omega arith) (λ c. omega arith) (λ c. omega arith) (λ c. omega arith) (λ c. omega arith) (λ c. omega arith) (λ c. omega arith)
+    (λ c. omega arith) (λ c. omega arith) (λ c κs. search needs) (λ c. omega arith) (λ c. omega arith) (λ c. omega arith) loop-again
+    (λ c. omega arith) returns-3)

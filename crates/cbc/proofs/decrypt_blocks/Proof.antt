@@ -1,8 +1,5 @@
 -- `cbc::decrypt_blocks` meets its contract: what goes on from where the batches have come to ends the walk (`reached-end`, `reached-over`).
-use Rattle.block.proofs.Base.{_∙_, reverse, arith, needs, now}
-use Rattle.block.specs.Words.{unwords}
-use Rattle.sixteen.proofs.Onward.{reached-end, reached-over}
-use Rattle.cbc.specs.Cbc.{cbcDecrypt}
+use Rattle.cbc.proofs.Names.{_∙_, arith, cbcDecrypt, needs, now, reached-end, reached-over, reverse, unwords}
 use Rattle.cbc.proofs.decrypt_blocks.Statement.{statement}
 use Rattle.cbc.proofs.decrypt_blocks.Tie as tie
 

@@ -1,7 +1,5 @@
 -- `cbc::decrypt_few` meets its contract: the ciphers of the blocks, each xored with the block before it (`few-decrypted`).
-use Rattle.block.proofs.Base.{_*_, sub-zero, arith, needs, now}
-use Rattle.block.specs.Words.{unwords}
-use Rattle.block.proofs.WordsBack.{length-unwords}
+use Rattle.cbc.proofs.Names.{_*_, arith, length-unwords, needs, now, sub-zero, unwords}
 use Rattle.cbc.proofs.Batches.{few-decrypted}
 use Rattle.cbc.proofs.decrypt_few.Statement.{statement}
 use Rattle.cbc.proofs.decrypt_few.Tie as tie

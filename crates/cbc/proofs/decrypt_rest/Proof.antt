@@ -1,6 +1,6 @@
 -- `cbc::decrypt_rest` meets its contract: so does either way.
 
-use Rattle.block.proofs.Base.{needs}
+use Rattle.cbc.proofs.Names.{needs}
 use Rattle.cbc.proofs.decrypt_rest.Statement.{statement}
 use Rattle.cbc.proofs.decrypt_rest.Tie as tie
 

@@ -1,10 +1,7 @@
 -- `cbc::decrypt_step` meets its contract. The cipher under the round keys turned round is decryption (`decrypt-turned`), and the words that
 -- it is given and gives are those of sixteen bytes (`decrypted-front`).
-use Rattle.block.proofs.Base.{_<_, ℕ, _∙_, _≡_, ap, List, _++_, reverse, arith, needs, now, drop, getD, length}
-use Rattle.block.proofs.Entries.{below-each}
-use Rattle.block.specs.Words.{words}
-use Rattle.block.proofs.WordsBack.{unwords-front}
-use Rattle.cipher.proofs.Blocks.{decrypt-turned}
+use Rattle.cbc.proofs.Names.{List, _++_, _<_, _∙_, _≡_, ap, arith, below-each, decrypt-turned, drop, getD, length, needs, now}
+use Rattle.cbc.proofs.Names.{reverse, unwords-front, words, ℕ}
 use Rattle.cbc.proofs.InWords.{decrypted-front}
 use Rattle.cbc.proofs.decrypt_step.Statement.{statement}
 use Rattle.cbc.proofs.decrypt_step.Tie as tie

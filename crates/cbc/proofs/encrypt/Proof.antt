@@ -1,14 +1,9 @@
 -- `cbc::encrypt` meets its contract. The full blocks go first; the step after them takes the padded message's last block, which is the
 -- padded rest (`rest-padded`), and then nothing is left.
-use Rattle.block.proofs.Base.{_%_, _+_, _-_, _≤_, _∙_, _≡_, refl, sub-zero, arith, needs, now, length, take}
-use Rattle.block.specs.Words.{unwords}
-use Rattle.block.specs.Xor.{xors}
-use Rattle.cipher.proofs.Blocks.{length-encryptBlock}
-use Rattle.walk.proofs.Batch.{reached-next}
-use Rattle.walk.proofs.Loop.{tailed, tail-is, nothing-left}
-use Rattle.cbc.specs.Cbc.{padded, cbcEncrypt, cbcSeal}
+use Rattle.cbc.proofs.Names.{_%_, _+_, _-_, _∙_, _≡_, _≤_, arith, cbcEncrypt, cbcSeal, length, length-encryptBlock, length-padded}
+use Rattle.cbc.proofs.Names.{needs, nothing-left, now, padded, reached-next, refl, rest-padded, sub-zero, tail-is, tailed, take}
+use Rattle.cbc.proofs.Names.{unwords, xors}
 use Rattle.cbc.proofs.Goes.{blocks-reached}
-use Rattle.cbc.proofs.Padding.{length-padded, rest-padded}
 use Rattle.cbc.proofs.encrypt.Statement.{statement}
 use Rattle.cbc.proofs.encrypt.Tie as tie
 

@@ -1,6 +1,5 @@
 -- `cbc::encrypt_step` meets its contract: the words that are xored and ciphered are those of sixteen bytes (`encrypted-front`).
-use Rattle.block.proofs.Base.{_<_, _^_, ℕ, _∙_, _≡_, arith, needs, now, getD, length, w32, Fits}
-use Rattle.block.proofs.Entries.{below-each}
+use Rattle.cbc.proofs.Names.{Fits, _<_, _^_, _∙_, _≡_, arith, below-each, getD, length, needs, now, w32, ℕ}
 use Rattle.cbc.proofs.InWords.{encrypted-front}
 use Rattle.cbc.proofs.encrypt_step.Statement.{statement}
 use Rattle.cbc.proofs.encrypt_step.Tie as tie

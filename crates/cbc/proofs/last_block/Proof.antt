@@ -1,11 +1,7 @@
 -- `cbc::last_block` meets its contract: the last block of the decrypted text takes the last two blocks alone (`last-words`), and the cipher
 -- under the round keys turned round is decryption.
-use Rattle.block.proofs.Base.{_-_, _<_, ℕ, _∙_, _≡_, reverse, arith, needs, now, getD, length}
-use Rattle.block.specs.Words.{words, unwords}
-use Rattle.block.proofs.Entries.{below-each}
-use Rattle.block.proofs.WordsBack.{length-unwords}
-use Rattle.cipher.proofs.Blocks.{decrypt-turned}
-use Rattle.walk.proofs.Loop.{tailed}
+use Rattle.cbc.proofs.Names.{_-_, _<_, _∙_, _≡_, arith, below-each, decrypt-turned, getD, length, length-unwords, needs, now}
+use Rattle.cbc.proofs.Names.{reverse, tailed, unwords, words, ℕ}
 use Rattle.cbc.proofs.Blocks.{last-words}
 use Rattle.cbc.proofs.last_block.Statement.{statement}
 use Rattle.cbc.proofs.last_block.Tie as tie

@@ -1,6 +1,5 @@
 -- `cbc::put_front` meets its contract. The loop's invariant: the first i bytes are the block's, the others as they were lent.
-use Rattle.block.proofs.Base.{_-_, _≤_, _∙_, _≡_, refl, _++_, arith, drop, length, length-set, take}
-use Rattle.walk.proofs.Fill.{copy-turn}
+use Rattle.cbc.proofs.Names.{_++_, _-_, _∙_, _≡_, _≤_, arith, copy-turn, drop, length, length-set, refl, take}
 use Rattle.cbc.proofs.put_front.Statement.{statement}
 use Rattle.cbc.proofs.put_front.Tie as tie
 

@@ -1,7 +1,6 @@
 -- `cipher::plain` meets its contract. The code's table is the definition's, by one computed test; the loop lays its
 -- entries out, and its invariant says that the first i words are the table's first i bytes.
-use Rattle.block.proofs.Base.{_-_, _≤_, _≡_, refl, arith, needs, length, take}
-use Rattle.cipher.specs.Sm4.{sboxTable}
+use Rattle.cipher.proofs.Names.{_-_, _≡_, _≤_, arith, length, needs, refl, sboxTable, take}
 use Rattle.cipher.proofs.Tables.{sbox-byte}
 use Rattle.cipher.proofs.Engines.{plain-length, laid-more, laid-front}
 use Rattle.cipher.proofs.plain.Statement.{statement}
@@ -28,6 +27,6 @@ loop-again c =
     (l .inv .0, omega arith, search needs, laid-more _ (l .wide) (l .i) (omega arith) (omega arith) (l .inv .3))
 
 pub plain-spec : {M : Type 1} → statement M
-plain-spec =
-    tie.close (tie.spec Inv-loop μ-loop loop-holds (λ c. search needs) cast-wide (λ c. search needs) (λ c. search needs) (λ c. search needs)
+plain-spec = tie.close (tie.spec Inv-loop μ-loop loop-holds (λ c. search needs) cast-wide (λ c. search needs) (λ c. search needs)
+    (λ c. search needs)
     (λ c. search needs) loop-again (λ c. let l = c .before .loop in laid-front _ (l .wide) (l .i) (l .inv .0) (omega arith) (l .inv .3)))

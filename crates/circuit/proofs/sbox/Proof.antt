@@ -10,8 +10,5 @@ unfolding circuit
 returns c = circuit-lanes (c .args .t1)
 
 pub sbox-spec : {M : Type 1} → statement M
-sbox-spec =
-    tie.close
-    (tie.spec
-    (λ c. search needs) (λ c. search needs) (λ c. search needs) (λ c. search needs) (λ c. search needs)
+sbox-spec = tie.close (tie.spec (λ c. search needs) (λ c. search needs) (λ c. search needs) (λ c. search needs) (λ c. search needs)
     (λ c. search needs) (λ c. search needs) (λ c. search needs) returns)

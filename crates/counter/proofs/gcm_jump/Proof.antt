@@ -10,8 +10,5 @@ gcm-jump-spec =
     (tie.spec
     (λ c. search needs) (λ c. search needs) (λ c. search needs) (λ c. search needs) (λ c κs. search needs)
     (λ c.
-    let a = c .before .args in
-    let x = a .t1 in
-    let h : Fits w32 (getD x 3 0) = search needs in
-    let low = c .wrapping-add-u32 in
-    gcm-jump-words x (low .result) (a .blocks) (h .fits) (low .ensures)))
+    let h : Fits w32 (getD (c .before .args .t1) 3 0) = search needs in
+    gcm-jump-words _ _ _ (h .fits) (c .wrapping-add-u32 .ensures)))

@@ -1,19 +1,9 @@
 -- `counter::jump` meets its contract. `to_u128` ensures the number that the block spells, `u128_add` so many more, and `from_u128` the
 -- block that spells that, which is Ctr's counter so many blocks on (`ctr-jump-words`).
-use Rattle.block.proofs.Base.{_%_, _+_, _^_, ℕ, _∙_, ap, needs}
-use Rattle.block.specs.Wide.{value}
+use Rattle.block.proofs.Base.{needs}
 use Rattle.counter.proofs.Steps.{ctr-jump-words}
 use Rattle.counter.proofs.jump.Statement.{statement}
 use Rattle.counter.proofs.jump.Tie as tie
 
 pub jump-spec : {M : Type 1} → statement M
-jump-spec =
-    tie.close
-    (tie.spec
-    (λ c κs. search needs) (λ c κs. search needs) (λ c κs. search needs)
-    (λ c.
-    let at-add = c .before in
-    let at-number = at-add .before in
-    let a = at-number .before .args in
-    ctr-jump-words (a .a) (c .from-u128 .result) (a .blocks) (value (at-add .u128-add .result))
-    (at-add .u128-add .ensures ∙ ap (λ (v : ℕ). (v + a .blocks) % 2 ^ 128) (at-number .to-u128 .ensures)) (c .from-u128 .ensures)))
+jump-spec = tie.close (tie.spec (λ c κs. search needs) (λ c κs. search needs) (λ c κs. search needs) (λ c. search (needs, ctr-jump-words)))

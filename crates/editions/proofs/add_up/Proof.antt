@@ -17,9 +17,8 @@ returns : tie.Need-returns Inv-loop μ-loop
 returns c =
     let at-loop = c .before .before .before in
     let a = at-loop .before .args in
-    let ns = now (a .lengths) in
-    let turn = sum-turn ns (at-loop .loop .i) (omega arith) in
-    sym (ne-eqb (sum ns) (a .n) (λ e. omega arith))
+    let turn = sum-turn (now (a .lengths)) (at-loop .loop .i) (omega arith) in
+    sym (ne-eqb (sum (now (a .lengths))) (a .n) (λ e. omega arith))
 
 loop-again : tie.Need-loop-again Inv-loop μ-loop
 loop-again c =
@@ -29,13 +28,11 @@ loop-again c =
 
 returns-2 : tie.Need-returns-2 Inv-loop μ-loop
 returns-2 c =
-    let at-loop = c .before in
-    let a = at-loop .before .args in
-    let ns = now (a .lengths) in
-    let past = sum-end ns (at-loop .loop .i) (omega arith) in
-    test-iff _ _ (λ e. eq-eqb (sum ns) (a .n) (omega (arith, eqb-true)))
-    (λ e. eq-eqb (at-loop .loop .left) 0 (omega (arith, eqb-true)))
+    let a = c .before .before .args in
+    let past = sum-end (now (a .lengths)) (c .before .loop .i) (omega arith) in
+    test-iff _ _ (λ e. eq-eqb (sum (now (a .lengths))) (a .n) (omega (arith, eqb-true)))
+    (λ e. eq-eqb (c .before .loop .left) 0 (omega (arith, eqb-true)))
 
 pub add-up-spec : {M : Type 1} → statement M
-add-up-spec = tie.close (tie.spec Inv-loop μ-loop (omega arith) (omega arith) (omega arith) returns (omega arith) (omega arith) loop-again
-    returns-2)
+add-up-spec = tie.close (tie.spec Inv-loop μ-loop (λ c. omega arith) (λ c. omega arith) (λ c. omega arith) returns (λ c. omega arith)
+    (λ c. omega arith) loop-again returns-2)

@@ -29,5 +29,5 @@ returns-2 c =
     sym (long-end (now (at-loop .before .args .lengths)) (at-loop .loop .i) (omega arith)) ∙ at-loop .loop .inv .1
 
 pub any-too-long-spec : {M : Type 1} → statement M
-any-too-long-spec = tie.close (tie.spec Inv-loop μ-loop (λ c. (omega arith, refl)) (omega arith) (omega arith) returns (omega arith)
-    (omega arith) loop-again returns-2)
+any-too-long-spec = tie.close (tie.spec Inv-loop μ-loop (λ c. (omega arith, refl)) (λ c. omega arith) (λ c. omega arith) returns
+    (λ c. omega arith) (λ c. omega arith) loop-again returns-2)

@@ -1,11 +1,11 @@
 -- `editions::search` meets its contract. The loop's invariant: the lengths to come add up to what is left of the buffer, none of them is
 -- past the limit, and the search among them decides. The measure is how many are to come.
-use Rattle.block.proofs.Base.{_+_, _-_, _≤_, _≡_, ap, refl, cond, false, arith, needs, now, drop, getD, length, length-take}
+use Rattle.block.proofs.Base.{_+_, _-_, _≤_, _≡_, ap, refl, false, arith, needs, now, drop, getD, length, length-take}
 use Rattle.block.specs.Wide.{value}
 use Rattle.block.specs.Words.{unwords}
 use Rattle.cipher_mode.proofs.Passed.{data-within, with-tag-passed}
 use Rattle.editions.specs.Candidates.{sum, anyTooLong}
-use Rattle.editions.specs.Which.{foundAt, onKey, firstOpening, opensMasked}
+use Rattle.editions.specs.Which.{onKey, firstOpening, opensMasked}
 use Rattle.editions.proofs.Turns.{sum-turn, short-turn, search-turn, search-end}
 use Rattle.editions.proofs.search.Statement.{statement}
 use Rattle.editions.proofs.search.Tie as tie
@@ -35,46 +35,30 @@ opens-after-requires c κs =
     let within = data-within _ _ _ (S .pre .1 .0) in
     ((simp length-take (omega (arith, short .0)), omega (arith, within)), (with-tag-passed _ (S .pre .1 .0), S .pre .0))
 
--- what the search comes to, by the test at this turn
-turned : (x : tie.After-opens-after Inv-loop μ-loop)
-    → let at-loop = x .before .before .before .before in
-    let a = at-loop .before .before .before .before .args in
-    let ns = now (a .lengths) in
-    let n = getD ns (at-loop .loop .i) 0 in
-    let start = at-loop .loop .start in
-    let test = opensMasked (unwords (a .mask)) (value (a .h)) (now (a .file)) in
-    cond (x .opens-after .result) (foundAt (at-loop .loop .i) start n)
-    (firstOpening test (drop (start + n) (now (a .labels))) (drop (at-loop .loop .i + 1) ns) (at-loop .loop .i + 1) (start + n))
-    ≡ firstOpening test (now (a .labels)) ns 0 0
-turned x =
-    let at-loop = x .before .before .before .before in
-    let a = at-loop .before .before .before .before .args in
-    let l = at-loop .loop in
-    rw (x .opens-after .ensures) (search-turn (now (a .lengths)) (l .i) (omega arith) _ (now (a .labels)) _ _ (l .inv .3))
-
 returns : tie.Need-returns Inv-loop μ-loop
 returns c =
-    let key = c .before .before .before .before .before .before .before .before .before .args .key in
-    ap (onKey key) (rw (c .if1 .taken) at (turned (c .before)))
+    let at-loop = c .before .before .before .before .before in
+    let l = at-loop .loop in
+    let ns = now (at-loop .before .before .before .before .args .lengths) in
+    ap (onKey _) (rw (c .if1 .taken) at (search-turn ns (l .i) (omega arith) _ _ _ _ _ (l .inv .3) (c .before .opens-after .ensures)))
 
 loop-again : tie.Need-loop-again Inv-loop μ-loop
 loop-again c =
     let at-loop = c .before .before .before .before .before in
+    let l = at-loop .loop in
     let ns = now (at-loop .before .before .before .before .args .lengths) in
-    let turn = sum-turn ns (at-loop .loop .i) (omega arith) in
-    let short = short-turn ns (at-loop .loop .i) (omega arith) (at-loop .loop .inv .2) in
-    (omega arith, omega arith, short .1, rw (c .if1 .left) at (turned (c .before)))
+    let turn = sum-turn ns (l .i) (omega arith) in
+    let short = short-turn ns (l .i) (omega arith) (l .inv .2) in
+    let found = search-turn ns (l .i) (omega arith) _ _ _ _ _ (l .inv .3) (c .before .opens-after .ensures) in
+    (omega arith, omega arith, short .1, rw (c .if1 .left) at found)
 
 returns-2 : tie.Need-returns-2 Inv-loop μ-loop
 returns-2 c =
-    let at-loop = c .before .before in
-    let a = at-loop .before .before .before .before .args in
-    let l = at-loop .loop in
-    rw (c .without .ensures)
-    (ap (onKey (a .key)) (search-end (now (a .lengths)) (l .i) (omega arith) _ (now (a .labels)) (l .start) _ (l .inv .3)))
+    let l = c .before .before .loop in
+    rw (c .without .ensures) (ap (onKey _) (search-end _ (l .i) (omega arith) _ _ (l .start) _ (l .inv .3)))
 
 pub search-spec : {M : Type 1} → statement M
 search-spec = tie.close (tie.spec Inv-loop μ-loop
-    (λ c. let S = c .before .before .before in (omega arith, omega (arith, S .pre .1 .1 .0), S .pre .1 .1 .1, refl)) (omega arith)
-    (omega arith) (λ c. omega (arith, room (c .before))) (omega arith) (omega arith) (λ c. omega (arith, room (c .before)))
-    opens-after-requires returns (omega arith) (omega arith) loop-again (search needs) returns-2)
+    (λ c. let S = c .before .before .before in (omega arith, omega (arith, S .pre .1 .1 .0), S .pre .1 .1 .1, refl)) (λ c. omega arith)
+    (λ c. omega arith) (λ c. omega (arith, room (c .before))) (λ c. omega arith) (λ c. omega arith) (λ c. omega (arith, room (c .before)))
+    opens-after-requires returns (λ c. omega arith) (λ c. omega arith) loop-again (λ c. search needs) returns-2)

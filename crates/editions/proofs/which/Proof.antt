@@ -38,6 +38,6 @@ returns-3 c =
 
 pub which-spec : {M : Type 1} → statement M
 unfolding which
-which-spec = tie.close (tie.spec (search needs) (search needs)
-    (λ c. rw (← c .before .before .bad-list .ensures, c .before .if1 .taken, c .without .ensures)) (search needs) (search needs)
-    (search needs) (search needs) returns-2 (search needs) under-key-requires returns-3)
+which-spec = tie.close (tie.spec (λ c. search needs) (λ c. search needs)
+    (λ c. rw (← c .before .before .bad-list .ensures, c .before .if1 .taken, c .without .ensures)) (λ c. search needs) (λ c. search needs)
+    (λ c. search needs) (λ c. search needs) returns-2 (λ c. search needs) under-key-requires returns-3)

@@ -1,6 +1,5 @@
 -- `gcm::first_counter` meets its contract: the test that it makes is the definition's, and each function gives its side.
-use Rattle.block.proofs.Base.{⊎-elim, eq-eqb, ne-eqb}
-use Rattle.gcm.specs.Gcm.{firstCounter}
+use Rattle.gcm.proofs.Names.{eq-eqb, firstCounter, ne-eqb, ⊎-elim}
 use Rattle.gcm.proofs.first_counter.Statement.{statement}
 use Rattle.gcm.proofs.first_counter.Tie as tie
 

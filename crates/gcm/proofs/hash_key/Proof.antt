@@ -1,6 +1,6 @@
 -- `gcm::hash_key` meets its contract: four zero words are sixteen zero bytes (`hash-key-words`).
+use Rattle.gcm.proofs.Names.{needs}
 use Rattle.gcm.proofs.InWords.{hash-key-words}
-use Rattle.block.proofs.Base.{needs}
 use Rattle.gcm.proofs.hash_key.Statement.{statement}
 use Rattle.gcm.proofs.hash_key.Tie as tie
 

@@ -1,6 +1,5 @@
 -- `gcm::hashed_counter` meets its contract: the blocks of an empty label and a 16-byte IV are those of J0 (`hashed-counter-words`).
-use Rattle.block.proofs.Base.{needs, now}
-use Rattle.block.specs.Wide.{value}
+use Rattle.gcm.proofs.Names.{needs, now, value}
 use Rattle.gcm.proofs.InWords.{hashed-counter-words}
 use Rattle.gcm.proofs.hashed_counter.Statement.{statement}
 use Rattle.gcm.proofs.hashed_counter.Tie as tie

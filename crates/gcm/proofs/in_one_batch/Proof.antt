@@ -1,5 +1,5 @@
 -- `gcm::in_one_batch` meets its contract, which says what it asks.
-use Rattle.block.proofs.Base.{ℕ, _≡_, arith, needs, ltb-true}
+use Rattle.gcm.proofs.Names.{_≡_, arith, ltb-true, needs, ℕ}
 use Rattle.gcm.proofs.in_one_batch.Statement.{statement}
 use Rattle.gcm.proofs.in_one_batch.Tie as tie
 

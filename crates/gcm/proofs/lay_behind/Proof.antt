@@ -1,10 +1,5 @@
 -- `gcm::lay_behind` meets its contract: the part behind the first block is lent on, and comes back.
-use Rattle.block.proofs.Base.{ℕ, _∙_, ap, false, List, _++_, needs, now, take}
-use Rattle.block.specs.Blocks.{cat}
-use Rattle.block.specs.Words.{unwords}
-use Rattle.counter.specs.Counter.{jumped}
-use Rattle.walk.specs.Walk.{over}
-use Rattle.walk.proofs.Loop.{tail-is, returned-is}
+use Rattle.gcm.proofs.Names.{List, _++_, _∙_, ap, cat, false, jumped, needs, now, over, returned-is, tail-is, take, unwords, ℕ}
 use Rattle.gcm.proofs.lay_behind.Statement.{statement}
 use Rattle.gcm.proofs.lay_behind.Tie as tie
 

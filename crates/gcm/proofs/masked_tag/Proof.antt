@@ -1,6 +1,5 @@
 -- `gcm::masked_tag` meets its contract: the words of the hash and of the mask, xored, are the tag's (`masked-words`).
-use Rattle.block.proofs.Base.{_≡_, needs, now, length}
-use Rattle.block.specs.Wide.{value}
+use Rattle.gcm.proofs.Names.{_≡_, length, needs, now, value}
 use Rattle.gcm.proofs.InWords.{masked-words}
 use Rattle.gcm.proofs.masked_tag.Statement.{statement}
 use Rattle.gcm.proofs.masked_tag.Tie as tie

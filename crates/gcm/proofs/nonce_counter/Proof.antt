@@ -1,6 +1,5 @@
 -- `gcm::nonce_counter` meets its contract: the three words of twelve bytes, and 1 behind them (`nonce-counter-words`).
-use Rattle.block.proofs.Base.{_<_, ℕ, arith, needs, now, getD}
-use Rattle.block.proofs.Entries.{below-each}
+use Rattle.gcm.proofs.Names.{_<_, arith, below-each, getD, needs, now, ℕ}
 use Rattle.gcm.proofs.InWords.{nonce-counter-words}
 use Rattle.gcm.proofs.nonce_counter.Statement.{statement}
 use Rattle.gcm.proofs.nonce_counter.Tie as tie

@@ -1,9 +1,6 @@
 -- `gcm::opens` meets its contract: the tag that is expected is the one of the message's text part.
-use Rattle.block.proofs.Base.{_-_, _∙_, _≡_, ap, arith, needs, now, length, length-take-le}
-use Rattle.block.specs.Same.{same}
-use Rattle.block.specs.Wide.{value}
-use Rattle.block.specs.Words.{unwords}
-use Rattle.gcm.specs.Gcm.{tagOf, tagPart, opensUnder}
+use Rattle.gcm.proofs.Names.{_-_, _∙_, _≡_, ap, arith, length, length-take-le, needs, now, opensUnder, same, tagOf, tagPart, unwords}
+use Rattle.gcm.proofs.Names.{value}
 use Rattle.gcm.proofs.opens.Statement.{statement}
 use Rattle.gcm.proofs.opens.Tie as tie
 

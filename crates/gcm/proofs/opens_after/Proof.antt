@@ -1,11 +1,7 @@
 -- `gcm::opens_after` meets its contract: the hash that is expected is that of label and text (`galois_hash_after`), under the mask
 -- (`masked-words`).
-use Rattle.block.proofs.Base.{_-_, ℕ, _∙_, _≡_, ap, subst, sym, List, arith, needs, now, length, length-take-le}
-use Rattle.block.specs.Same.{same}
-use Rattle.block.specs.Wide.{value}
-use Rattle.ghash.specs.Ghash.{ghash, authBlocks, blocks}
-use Rattle.ghash.specs.Joined.{HalfOf}
-use Rattle.gcm.specs.Gcm.{textPart, tagPart}
+use Rattle.gcm.proofs.Names.{HalfOf, List, _-_, _∙_, _≡_, ap, arith, authBlocks, blocks, ghash, length, length-take-le, needs, now}
+use Rattle.gcm.proofs.Names.{same, subst, sym, tagPart, textPart, value, ℕ}
 use Rattle.gcm.proofs.InWords.{masked-words}
 use Rattle.gcm.proofs.opens_after.Statement.{statement}
 use Rattle.gcm.proofs.opens_after.Tie as tie

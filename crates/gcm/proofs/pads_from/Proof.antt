@@ -1,7 +1,5 @@
 -- `gcm::pads_from` meets its contract: the counters from J0 on are laid behind the zero block, and all are ciphered (`pads-ready`).
-use Rattle.block.proofs.Base.{_+_, _/_, refl, arith, needs, replicate}
-use Rattle.block.specs.Words.{unwords}
-use Rattle.block.proofs.WordsBack.{length-unwords, unwords-bytes}
+use Rattle.gcm.proofs.Names.{_+_, _/_, arith, length-unwords, needs, refl, replicate, unwords, unwords-bytes}
 use Rattle.gcm.proofs.Short.{pads-ready}
 use Rattle.gcm.proofs.pads_from.Statement.{statement}
 use Rattle.gcm.proofs.pads_from.Tie as tie

@@ -1,8 +1,6 @@
 -- `gcm::start` meets its contract: H by itself or from the pads (`hash-key-front`), J0 by the length of the IV.
-use Rattle.block.proofs.Base.{ℕ, _∙_, _≡_, ap, refl, sym, ⊎-elim, Bool, false, not, true, arith, needs, eq-eqb, ne-eqb, now, getD, w8, Fits}
-use Rattle.block.specs.Words.{unwords}
-use Rattle.block.proofs.Entries.{below-each}
-use Rattle.gcm.specs.Gcm.{hashedCounter, firstCounter, J0}
+use Rattle.gcm.proofs.Names.{Bool, Fits, J0, _∙_, _≡_, ap, arith, below-each, eq-eqb, false, firstCounter, getD, hashedCounter}
+use Rattle.gcm.proofs.Names.{ne-eqb, needs, not, now, refl, sym, true, unwords, w8, ℕ, ⊎-elim}
 use Rattle.gcm.proofs.Short.{hash-key-front}
 use Rattle.gcm.proofs.start.Statement.{statement}
 use Rattle.gcm.proofs.start.Tie as tie

@@ -1,10 +1,6 @@
 -- `gcm::tag` meets its contract: the mask is the cipher of J0.
-use Rattle.block.proofs.Base.{_^_, ℕ, _∙_, _≡_, ap, List, needs, now, getD, length, w32, Fits}
-use Rattle.block.specs.Wide.{value}
-use Rattle.block.specs.Words.{unwords}
-use Rattle.block.proofs.Entries.{below-each}
-use Rattle.cipher.proofs.Blocks.{encrypt-unwords}
-use Rattle.gcm.specs.Gcm.{maskedTag, tagOf}
+use Rattle.gcm.proofs.Names.{Fits, List, _^_, _∙_, _≡_, ap, below-each, encrypt-unwords, getD, length, maskedTag, needs, now, tagOf}
+use Rattle.gcm.proofs.Names.{unwords, value, w32, ℕ}
 use Rattle.gcm.proofs.tag.Statement.{statement}
 use Rattle.gcm.proofs.tag.Tie as tie
 

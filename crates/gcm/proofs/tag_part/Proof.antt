@@ -1,6 +1,5 @@
 -- `gcm::tag_part` meets its contract: a slice from a place on is the list without what comes before (`tail-is`).
-use Rattle.block.proofs.Base.{_-_, needs, length}
-use Rattle.walk.proofs.Loop.{tail-is}
+use Rattle.gcm.proofs.Names.{_-_, length, needs, tail-is}
 use Rattle.gcm.proofs.tag_part.Statement.{statement}
 use Rattle.gcm.proofs.tag_part.Tie as tie
 

@@ -1,5 +1,5 @@
 -- `gcm::text_part` meets its contract: a slice from 0 to a place is the list up to it.
-use Rattle.block.proofs.Base.{sub-zero, needs}
+use Rattle.gcm.proofs.Names.{needs, sub-zero}
 use Rattle.gcm.proofs.text_part.Statement.{statement}
 use Rattle.gcm.proofs.text_part.Tie as tie
 

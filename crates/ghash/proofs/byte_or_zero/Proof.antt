@@ -1,6 +1,6 @@
 -- `ghash::byte_or_zero` meets its contract. Inside, the byte that is read is the list's entry; past the end an entry is its
 -- default, 0 (`List·getD-eq-default`).
-use Rattle.block.proofs.Base.{needs, List·getD-eq-default}
+use Rattle.ghash.proofs.Names.{List·getD-eq-default, needs}
 use Rattle.ghash.proofs.byte_or_zero.Statement.{statement}
 use Rattle.ghash.proofs.byte_or_zero.Tie as tie
 

@@ -1,13 +1,8 @@
 -- `replay` meets its contract. The loop's invariant: replay from here, with the report so far, ends as replay of the whole journal does,
 -- and no count passes the place. The measure is how many bytes are to come.
-use Rattle.block.proofs.Base.{_+_, _<_, _≤_, ℕ, _∙_, _≡_, ap, sym, false, List, arith, needs, now, length}
-use Rattle.cipher_mode.specs.declared.Sm4Cipher.{Sm4Cipher}
-use Rattle.walk.proofs.Loop.{length-tailed}
-use Rattle.journal.specs.KeyList.{keysIn, badKeys}
-use Rattle.journal.specs.Reports.{nothing, Within}
-use Rattle.journal.specs.Replay.{numberOfEnd, replayOne, replayFrom, replay}
-use Rattle.journal.specs.declared.report.Report.{Report}
-use Rattle.journal.specs.declared.Replayed.{Replayed}
+use Rattle.journal.proofs.Names.{List, Replayed, Report, Sm4Cipher, Within, _+_, _<_, _∙_, _≡_, _≤_, ap, arith, badKeys, false}
+use Rattle.journal.proofs.Names.{keysIn, length, length-drop, needs, nothing, now, numberOfEnd, replay, replayFrom, replayOne, sym}
+use Rattle.journal.proofs.Names.{ℕ}
 use Rattle.journal.proofs.Standing.{stands, size-within, data-within}
 use Rattle.journal.proofs.KeyTurns.{few-keys}
 use Rattle.journal.proofs.Counting.{within-nothing}
@@ -20,22 +15,20 @@ Inv-loop keys journal report₀ t₀ place₀ report t place =
     (keys .count ≤ 8)
     × (Within place report)
     × (place + length t ≡ length journal)
-    × (replayFrom (keysIn keys) t place report ≡ replayFrom (keysIn keys) journal 0 nothing)
+    × (replayFrom (keysIn keys) t place report ≡ replay keys journal)
 
 abbrev μ-loop : tie.MeasureT-loop
 μ-loop keys journal report₀ t₀ place₀ report t place = length t
 
-good : (x : tie.Else1 Inv-loop μ-loop) → badKeys (x .before .before .before .before .args .keys) ≡ false
-good x = sym (x .before .bad .ensures) ∙ x .if1 .left
-
 loop-holds : tie.Need-loop-holds Inv-loop μ-loop
 loop-holds c =
     let n = c .before .before .nothing .ensures in
-    let a = c .before .before .before .before .args in (
-      few-keys _ (good c),
+    let a = c .before .before .before .before .args in
+    let good = sym (c .before .bad .ensures) ∙ c .if1 .left in (
+      few-keys _ good,
       rw n within-nothing,
       omega arith,
-      ap {B = Replayed} (λ (r : Report). replayFrom (keysIn (a .keys)) (now (a .journal)) 0 r) n,
+      rw n (sym (from-start (a .keys) (now (a .journal)) good)),
     )
 
 -- the record in front
@@ -50,13 +43,13 @@ module _ (x : tie.After-number Inv-loop μ-loop) where
   here = now (at-loop .loop .t)
 
   number-is : x .number .result ≡ numberOfEnd (replayOne ks here (at-loop .loop .place) (at-loop .loop .report) .ended)
-  number-is = x .number .ensures ∙ ap (λ (y : Replayed). numberOfEnd (y .ended)) (x .before .replay-one .ensures)
+  number-is = cc
 
 returns-2 : tie.Need-returns-2 Inv-loop μ-loop
 returns-2 c =
     let x = c .before in
     x .before .replay-one .ensures ∙ sym (from-stop (ks x) (here x) _ _ (omega arith) (λ z. c .if2 .taken (number-is x ∙ z)))
-    ∙ at-loop x .loop .inv .3 ∙ sym (from-start _ _ (good (at-loop x .before)))
+    ∙ at-loop x .loop .inv .3
 
 -- it was counted
 module _ (c : tie.After-measure Inv-loop μ-loop) where
@@ -76,23 +69,21 @@ loop-again c =
     let m = c .before in
     let x = numbered m in
     let l = at-loop x .loop in
+    let next = c .skip .ensures in
     let told = x .before .replay-one .ensures in (
       l .inv .0,
       turn-within (ks x) (here x) (l .place) (l .report) _ _ (m .measure .ensures) told (passes m) (l .inv .1),
-      omega (arith, size m, length-tailed (here x) (m .measure .result), l .inv .2),
-      turn-from (ks x) (here x) (l .place) (l .report) _ _ (m .measure .ensures) told (passes m) ∙ l .inv .3,
+      omega (arith, size m, ap length next, length-drop (m .measure .result) (here x), l .inv .2),
+      rw next (turn-from (ks x) (here x) (l .place) (l .report) _ _ (m .measure .ensures) told (passes m) ∙ l .inv .3),
     )
-
-returns-3 : tie.Need-returns-3 Inv-loop μ-loop
-returns-3 c =
-    let l = c .before .loop in
-    sym (from-end _ (now (l .t)) (l .place) (l .report) (omega arith)) ∙ l .inv .3 ∙ sym (from-start _ _ (good (c .before .before)))
 
 pub replay-spec : {M : Type 1} → statement M
 replay-spec =
     tie.close (tie.spec Inv-loop μ-loop (λ c κs. search needs) (λ c κs. search needs)
     (λ c. unfold replay in rw (sym (c .before .bad .ensures) ∙ c .if1 .taken, c .before .before .nothing .ensures)) loop-holds
     (λ c κs. let inv = c .before .loop .inv in (inv .0, (inv .1, omega (arith, inv .2)))) (λ c κs. search needs) returns-2
-    (λ c κs. search needs) (λ c. size c .1) (λ c. size c .1) (λ c. omega arith)
+    (λ c κs. search needs) (λ c κs. size c .1)
     (λ c. omega (arith, size (c .before), at-loop (numbered (c .before)) .loop .inv .2))
-    (λ c. let m = c .before in omega (arith, size m, length-tailed (here (numbered m)) (m .measure .result))) loop-again returns-3)
+    (λ c. let m = c .before in omega (arith, size m, ap length (c .skip .ensures), length-drop (m .measure .result) (here (numbered m))))
+    loop-again
+    (λ c. let l = c .before .loop in sym (from-end _ (now (l .t)) (l .place) (l .report) (omega arith)) ∙ l .inv .3))

@@ -1,12 +1,8 @@
 -- `replay_one` meets its contract: each return is the definition, by the tests that led there.
-use Rattle.block.proofs.Base.{ℕ, _∙_, _≡_, ap, sym, false, true, List, needs, le-ltb, lt-ltb, now, ltb, length-map}
-use Rattle.cipher_mode.specs.declared.Sm4Cipher.{Sm4Cipher}
-use Rattle.journal.specs.Format.{startsRecord, front, tooLong}
-use Rattle.journal.specs.KeyList.{keysIn, placeOf, hasNumber}
-use Rattle.journal.proofs.Standing.{size-zero, size-some}
-use Rattle.journal.proofs.KeyTurns.{count-keys}
-use Rattle.journal.proofs.Lent.{recomputed-known, recomputed-size}
-use Rattle.journal.proofs.Replaying.{bad-record, too-long, no-key, counts}
+use Rattle.journal.proofs.Names.{BadRecord, List, Sm4Cipher, TooLong, UnknownKey, _∙_, _≡_, ap, false, front, hasNumber, keysIn}
+use Rattle.journal.proofs.Names.{le-ltb, lt-ltb, ltb, needs, now, placeOf, startsRecord, sym, tooLong, true, ℕ}
+use Rattle.journal.proofs.Standing.{stands, size-zero, size-some}
+use Rattle.journal.proofs.Replaying.{refuses, counts}
 use Rattle.journal.proofs.replay_one.Statement.{statement}
 use Rattle.journal.proofs.replay_one.Tie as tie
 
@@ -24,46 +20,31 @@ module _ (x : tie.After-find) where
   abbrev ks : List Sm4Cipher
   ks = keysIn (start .args .keys)
 
-  abbrev key : ℕ
-  key = front (now (start .args .s)) .key
+  place-is : x .find .result ≡ placeOf (front (now (start .args .s)) .key) ks
+  unfolding front
+  place-is = cc
 
-  place-is : x .find .result ≡ placeOf key ks
-  place-is = x .find .ensures ∙ ap (λ (n : ℕ). placeOf n ks) (x .before .key-number .ensures)
-
-  has : hasNumber key ks ≡ ltb (x .find .result) (start .args .keys .count)
-  has =
-      let eight = sym (length-map (start .args .keys .keys) _) ∙ start .good .0 .1 .1 .1 .0 .1 .0 .1 in
-      rw (← place-is, count-keys (start .args .keys) eight (start .pre .0))
-
-counted-requires : tie.Need-counted-requires
-counted-requires c κs =
-    let x = c .before .before .before .before in
-    let S = start x in
-    let e = front (now (S .args .s)) in
-    let cipher = c .before .at .result in (
-      starts (x .before .before .before .before),
-      (
-        rw (c .recompute .ensures) (recomputed-known cipher e),
-        (rw (c .recompute .ensures) (recomputed-size cipher e), S .pre .1),
-      ),
-    )
-
-returns-4 : tie.Need-returns-4
-returns-4 c =
-    let k = c .before .before in
-    let x = k .before .before .before in
-    let else2 = x .before .before in
-    rw (c .counted .ensures, c .before .recompute .ensures, k .at .ensures, place-is x)
-    (counts _ _ _ _ (starts (else2 .before .before), short else2, has x ∙ lt-ltb _ _ (k .before .if3 .left)))
+  has : hasNumber (front (now (start .args .s)) .key) ks ≡ ltb (x .find .result) (start .args .keys .count)
+  unfolding front
+  has = cc
 
 pub replay-one-spec : {M : Type 1} → statement M
 replay-one-spec =
-    tie.close (tie.spec (λ c κs. search needs) (λ c. bad-record _ _ _ _ (size-zero _ (sym (c .before .measure .ensures) ∙ c .if1 .taken)))
-    (λ c κs. starts c) (λ c. too-long _ _ _ _ (starts (c .before .before)) (sym (c .before .too-long .ensures) ∙ c .if2 .taken))
-    (λ c κs. starts (c .before .before)) (λ c κs. search needs)
+    tie.close (tie.spec (λ c κs. search needs)
+    (λ c. sym (refuses _ _ _ _ BadRecord (size-zero _ (sym (c .before .measure .ensures) ∙ c .if1 .taken)) .0))
+    (λ c κs. stands _ (starts c))
+    (λ c. sym (refuses _ _ _ _ TooLong (starts (c .before .before), sym (c .before .too-long .ensures) ∙ c .if2 .taken) .0))
+    (λ c κs. stands _ (starts (c .before .before))) (λ c κs. search needs)
     (λ c.
     let x = c .before .before in
     let else2 = x .before .before in
-    no-key _ _ _ _ (starts (else2 .before .before)) (short else2) (has x ∙ le-ltb _ _ (c .if3 .taken)))
-    (λ c κs. search needs) (λ c κs. let else2 = c .before .before .before .before .before in (starts (else2 .before .before), short else2))
-    counted-requires returns-4)
+    sym (refuses _ _ _ _ UnknownKey (starts (else2 .before .before), short else2, has x ∙ le-ltb _ _ (c .if3 .taken)) .0))
+    (λ c κs. search needs)
+    (λ c κs. let else2 = c .before .before .before .before .before in (stands _ (starts (else2 .before .before)), short else2))
+    (λ c κs. let s = stands _ (starts (c .before .before .before .before .before .before .before .before)) in search needs)
+    (λ c.
+    let k = c .before .before in
+    let x = k .before .before .before in
+    let else2 = x .before .before in
+    rw (c .counted .ensures, c .before .recompute .ensures .0, k .at .ensures .0, place-is x)
+    (counts _ _ _ _ (starts (else2 .before .before), short else2, has x ∙ lt-ltb _ _ (k .before .if3 .left)))))

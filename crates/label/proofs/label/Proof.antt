@@ -11,8 +11,5 @@ unfolding labelOf bytesOf
 returns c = rw (c .before .split .ensures, c .split2 .ensures)
 
 pub label-spec : {M : Type 1} → statement M
-label-spec =
-    tie.close
-    (tie.spec
-    (λ c κs. search needs) (λ c κs. search needs) (λ c. search needs) (λ c. search needs) (λ c. search needs)
+label-spec = tie.close (tie.spec (λ c κs. search needs) (λ c κs. search needs) (λ c. search needs) (λ c. search needs) (λ c. search needs)
     (λ c. search needs) (λ c. search needs) (λ c. search needs) returns)

@@ -21,6 +21,5 @@ returns-2 c =
     rw (lt-ltb 4 (a .mode) (omega arith)) (told (c .numbered .ensures) refl)
 
 pub mode-call-spec : {M : Type 1} → statement M
-mode-call-spec =
-    tie.close
-    (tie.spec (λ c κs. search needs) (λ c κs. search needs) (λ c κs. search needs) (λ c κs. search needs) (λ c. search needs) returns returns-2)
+mode-call-spec = tie.close (tie.spec (λ c κs. search needs) (λ c κs. search needs) (λ c κs. search needs) (λ c κs. search needs)
+    (λ c. search needs) returns returns-2)

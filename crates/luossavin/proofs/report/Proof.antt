@@ -5,15 +5,16 @@ use Rattle.block.proofs.Base.{needs}
 use Rattle.luossavin.proofs.report.Statement.{statement}
 use Rattle.luossavin.proofs.report.Tie as tie
 
-returns-2 : tie.Need-returns-2
-returns-2 c =
-    let at-ending = c .before .before .before in
-    let a = at-ending .before .before .before .args .answer in
-    let r = at-ending .ending2 .given in
-    rw (r .1, mark-byte (a .«came_round»), c .before .number .ensures, c .missing .ensures, refuses (r .0 .0) .no-size)
-
 pub report-spec : {M : Type 1} → statement M
 report-spec =
-    tie.close
-    (tie.spec (λ c. search needs) (λ c. search needs) (λ c. search needs) (λ c κs. search needs) (λ c κs. search needs)
-    (λ c. rw (c .before .ending .given .1, mark-byte (c .before .before .before .before .args .answer .«came_round»))) returns-2)
+    tie.close (tie.spec (λ c. search needs) (λ c. search needs) (λ c. search needs) (λ c κs. search needs) (λ c κs. search needs)
+    (λ c. rw (c .before .ending .given .1, mark-byte (c .before .before .before .before .args .answer .«came_round»)))
+    (λ c.
+    let e = c .before .before .before in
+    rw (
+      e .ending2 .given .1,
+      mark-byte (e .before .before .before .args .answer .«came_round»),
+      c .before .number .ensures,
+      c .missing .ensures,
+      refuses (e .ending2 .given .0 .0) .no-size,
+    )))

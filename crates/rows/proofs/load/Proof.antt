@@ -10,9 +10,7 @@ use Rattle.rows.proofs.load.Statement.{statement}
 use Rattle.rows.proofs.load.Tie as tie
 
 pub load-spec : {M : Type 1} → statement M
-load-spec =
-    tie.close
-    (tie.spec
+load-spec = tie.close (tie.spec
     (λ src m a₀ b₀ i₀ a b i. (i ≤ m) × Rows i (λ k. words (blockAt src k)) a b) (λ src m a₀ b₀ i₀ a b i. m - i)
     (λ c. search (needs, no-rows)) (λ c. search needs) (λ c. search needs) (λ c. search needs) (λ c. search needs) (λ c κs. search needs)
     (λ c κs. search needs) (λ c. search needs) (λ c. search needs)

@@ -1,17 +1,15 @@
 -- `rows::put` meets its contract: what is stored at the block's place are the halves of its words, and no other block has that place
 -- (`one-more-row`).
-use Rattle.block.proofs.Base.{ℕ, _≡_, needs, getD, length, w32, Fits}
+use Rattle.block.proofs.Base.{ℕ, _≡_, arith, needs, getD, length, w32, Fits}
 use Rattle.block.proofs.Entries.{below-each}
+use Rattle.lanes.proofs.Needs.{next8}
 use Rattle.rows.proofs.Standing.{one-more-row}
 use Rattle.rows.proofs.put.Statement.{statement}
 use Rattle.rows.proofs.put.Tie as tie
 
 pub put-spec : {M : Type 1} → statement M
-put-spec =
-    tie.close
-    (tie.spec
-    (λ c κs. search needs) (λ c. search needs) (λ c. search needs) (λ c κs. search needs) (λ c. search needs) (λ c. search needs)
-    (λ c. search needs) (λ c. search needs) (λ c κs. search needs) (λ c. search needs) (λ c. search needs)
+put-spec = tie.close (next8 tie.spec (omega arith)
+    (λ c κs. search needs) (λ c. search needs) (λ c. search needs)
     (λ c.
     let S = c .before .before .before in
     let a = S .args in

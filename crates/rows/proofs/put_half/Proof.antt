@@ -6,9 +6,7 @@ use Rattle.rows.proofs.put_half.Statement.{statement}
 use Rattle.rows.proofs.put_half.Tie as tie
 
 pub put-half-spec : {M : Type 1} → statement M
-put-half-spec =
-    tie.close
-    (tie.spec
+put-half-spec = tie.close (tie.spec
     (λ c. search needs) (λ c. search needs) (λ c. search needs) (λ c. search needs) (λ c. simp length-set (omega arith))
     (λ c. search needs) (λ c. search needs) (λ c. simp length-set (omega arith)) (λ c. search needs) (λ c. search needs)
     (λ c. simp length-set (omega arith)) (λ c. search needs) (λ c. search needs) (λ c. simp length-set (omega arith)) (λ c. search needs)

@@ -7,9 +7,7 @@ use Rattle.rows.proofs.stage.Statement.{statement}
 use Rattle.rows.proofs.stage.Tie as tie
 
 pub stage-spec : {M : Type 1} → statement M
-stage-spec =
-    tie.close
-    (tie.spec
+stage-spec = tie.close (tie.spec
     (λ a₀ n w d m i₀ a i. (i ≤ n) × Staged d m w i a₀ a) (λ a₀ n w d m i₀ a i. n - i) (λ c. search needs) (λ c. search needs)
     (λ c.
     let l = c .before .before .loop in

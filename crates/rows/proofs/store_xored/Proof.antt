@@ -8,21 +8,17 @@ use Rattle.block.specs.Words.{words}
 use Rattle.block.specs.Xor.{_⊕_, xors}
 use Rattle.block.proofs.Convert.{length-bytesOf}
 use Rattle.block.proofs.Entries.{below-each, below-drop}
+use Rattle.lanes.proofs.Needs.{next16}
 use Rattle.rows.specs.Rows.{Row}
-use Rattle.rows.proofs.Storing.{xoredRow, length-xoredRow, xored-halves, block-stored, all-stored}
+use Rattle.rows.proofs.Storing.{xoredRow, length-xoredRow, xored-row, block-stored, all-stored}
 use Rattle.rows.proofs.store_xored.Statement.{statement}
 use Rattle.rows.proofs.store_xored.Tie as tie
 
 pub store-xored-spec : {M : Type 1} → statement M
-store-xored-spec =
-    tie.close
-    (tie.spec
+store-xored-spec = tie.close (next16 (tie.spec
     (λ a b m d out₀ i₀ out i. (i ≤ m) × (length out ≡ length out₀) × (out ≡ cat i (xoredRow a b d) ++ drop (16 * i) out₀))
-    (λ a b m d out₀ i₀ out i. m - i) (λ c. unfold cat in search needs) (λ c. search needs) (λ c. search needs) (λ c. search needs)
-    (λ c. search needs) (λ c κs. search needs) (λ c κs. search needs) (λ c. search needs) (λ c. search needs) (λ c. search needs)
-    (λ c κs. search needs) (λ c. search needs) (λ c. search needs) (λ c κs. search needs) (λ c. search needs) (λ c. search needs)
-    (λ c. search needs) (λ c. search needs) (λ c κs. search needs) (λ c. search needs) (λ c. search needs) (λ c κs. search needs)
-    (λ c. search needs) (λ c. search needs)
+    (λ a b m d out₀ i₀ out i. m - i) (λ c. unfold cat in search needs)) (omega arith) (λ c. search needs) (λ c κs. search needs)
+    (λ c. search needs) (λ c. search needs) (λ c κs. search needs) (λ c. search needs) (λ c. search needs)
     (λ c.
     let at-second = c .before .before in
     let at-first = at-second .before .before .before .before .before .before in
@@ -43,20 +39,15 @@ store-xored-spec =
     let e : x ≡ words d = at-split .split-block .ensures ∙ ap words (take-all (length from - 16 * l .i) d (omega arith)) in
     let r : Row x (high .result) (low .result) =
     record { four = search needs; small = below-each (2 ^ 32) x (λ i. w i .fits); high = high .ensures; low = low .ensures } in
-    let u : ℕ → ℕ = λ q. getD (a .a .now) q 0 in
-    let v : ℕ → ℕ = λ q. getD (a .b .now) q 0 in
     let xored =
-    xored-halves d (high .result) (low .result) (u (p .result)) (v (p .result)) (rw e at r) (omega arith)
-    (below-drop 256 (16 * l .i) from (below-each 256 from (λ i. known i .fits)))
-    ∙ ap (λ (q : ℕ). xors (take 16 d) (bytesOf 8 (u q) ++ bytesOf 8 (v q))) (p .ensures) in (
-      omega arith,
-      search needs,
-      block-stored (a .out .now) (l .out) (at-first .put-half .last .0) (at-second .put-half2 .last .0)
-          (bytesOf 8 (high .result ⊕ u (p .result))) (bytesOf 8 (low .result ⊕ v (p .result))) (xoredRow (a .a .now) (a .b .now) from)
-          (l .i)
-          (λ i h. length-xoredRow from (a .m) (at-loop .before .before .before .pre .0 .1) (a .a .now) (a .b .now) i (omega arith))
-          (length-bytesOf 8 _) xored (l .inv .2) (at-first .put-half .ensures) (at-second .put-half2 .ensures),
-    ))
+    xored-row (a .a .now) (a .b .now) from (l .i) (p .result) (high .result) (low .result) (omega arith)
+    (below-each 256 from (λ i. known i .fits)) (p .ensures) (rw e at r) in
+    let stored =
+    block-stored (a .out .now) (l .out) (at-first .put-half .last .0) (at-second .put-half2 .last .0) _ _
+    (xoredRow (a .a .now) (a .b .now) from) (l .i)
+    (λ i h. length-xoredRow from (a .m) (at-loop .before .before .before .pre .0 .1) (a .a .now) (a .b .now) i (omega arith))
+    xored (l .inv .2) (at-first .put-half .ensures) (at-second .put-half2 .ensures) in
+    (omega arith, search needs, stored))
     (λ c. search needs)
     (λ c.
     let l = c .before .loop in

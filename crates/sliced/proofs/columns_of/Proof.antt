@@ -1,6 +1,5 @@
 -- `sliced::columns_of` meets its contract: the table's rule, that an entry is at least its place and at most 8, is one computed test each.
-use Rattle.block.proofs.Base.{_+_, _/_, _≤_, ℕ, List, [], _∷_, arith, needs, leb, leb→le, getD}
-use Rattle.block.proofs.Table.{rule-at}
+use Rattle.sliced.proofs.Names.{List, [], _+_, _/_, _∷_, _≤_, arith, getD, leb, leb→le, needs, rule-at, ℕ}
 use Rattle.sliced.proofs.columns_of.Statement.{statement}
 use Rattle.sliced.proofs.columns_of.Tie as tie
 
@@ -8,9 +7,7 @@ counts : List ℕ
 counts = 0 ∷ 2 ∷ 2 ∷ 4 ∷ 4 ∷ 6 ∷ 6 ∷ 8 ∷ 8 ∷ []
 
 pub columns-of-spec : {M : Type 1} → statement M
-columns-of-spec =
-    tie.close
-    (tie.spec
+columns-of-spec = tie.close (tie.spec
     (λ c. search needs) (λ c. search needs) (λ c. search needs)
     (λ c. unfold counts in
     let i = (c .args .m + 63) / 64 in

@@ -1,13 +1,11 @@
 -- `sliced::encrypt` meets its contract: the rows stand in lanes (`rows-in-lanes`), and the rounds work on these.
-use Rattle.block.proofs.Base.{arith, needs}
+use Rattle.sliced.proofs.Names.{arith, needs}
 use Rattle.sliced.proofs.Halves.{rows-in-lanes}
 use Rattle.sliced.proofs.encrypt.Statement.{statement}
 use Rattle.sliced.proofs.encrypt.Tie as tie
 
 pub encrypt-spec : {M : Type 1} → statement M
-encrypt-spec =
-    tie.close
-    (tie.spec
+encrypt-spec = tie.close (tie.spec
     (λ c κs. search needs) (λ c κs. search needs) (λ c κs. search needs)
     (λ c.
     let R = c .rounds-to-rows in
@@ -18,7 +16,6 @@ encrypt-spec =
     let a = at-first .before .before .before .before .args in (
       λ m f h G.
           R .ensures .0 m f h
-          (rows-in-lanes (a .a .now) (a .b .now) (E .last .1 .0) (E .last .1 .1 .0) (F .last .1 .0) (F .last .1 .1 .0)
-          (E .ensures .0) (F .ensures .0) m f (omega arith) G),
+          (rows-in-lanes (a .a .now) (a .b .now) _ _ _ _ (E .ensures .0) (F .ensures .0) m f (omega arith) G),
       R .ensures .1,
     )))

@@ -1,6 +1,6 @@
 -- `sliced::enter` meets its contract: halves of blocks transposed and parted are lanes, since transposing them once more gives the halves
 -- back (`turned-back`, `halved`).
-use Rattle.block.proofs.Base.{needs}
+use Rattle.sliced.proofs.Names.{needs}
 use Rattle.sliced.proofs.Halves.{turned-back, halved}
 use Rattle.sliced.proofs.enter.Statement.{statement}
 use Rattle.sliced.proofs.enter.Tie as tie

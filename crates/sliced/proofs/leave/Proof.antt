@@ -1,5 +1,5 @@
 -- `sliced::leave` meets its contract: two planes joined and transposed are the halves of blocks whose words are the lanes (`halved`).
-use Rattle.block.proofs.Base.{needs}
+use Rattle.sliced.proofs.Names.{needs}
 use Rattle.sliced.proofs.Halves.{halved}
 use Rattle.sliced.proofs.leave.Statement.{statement}
 use Rattle.sliced.proofs.leave.Tie as tie

@@ -1,18 +1,14 @@
 -- `sliced::part` meets its contract. The loop's invariant: the first i rows of each half are copied; a turn copies one more
 -- (`parted-next`).
-use Rattle.block.proofs.Base.{_-_, _≤_, _≡_, arith, needs, length}
-use Rattle.sliced.specs.Lanes.{Parted}
+use Rattle.sliced.proofs.Names.{Parted, _-_, _≡_, _≤_, arith, length, needs, next8}
 use Rattle.sliced.proofs.Halves.{parted-next}
 use Rattle.sliced.proofs.part.Statement.{statement}
 use Rattle.sliced.proofs.part.Tie as tie
 
 pub part-spec : {M : Type 1} → statement M
-part-spec =
-    tie.close
-    (tie.spec
+part-spec = tie.close (next8 (tie.spec
     (λ a upper₀ lower₀ i₀ upper lower i. (i ≤ 256) × (length upper ≡ 256) × (length lower ≡ 256) × Parted i a upper lower)
-    (λ a upper₀ lower₀ i₀ upper lower i. 256 - i) (λ c. search needs) (λ c. search needs) (λ c. search needs) (λ c. search needs)
-    (λ c. search needs) (λ c. search needs) (λ c. search needs) (λ c. search needs) (λ c. search needs) (λ c. search needs)
+    (λ a upper₀ lower₀ i₀ upper lower i. 256 - i) (λ c. search needs)) (omega arith) (λ c. search needs)
     (λ c. search needs) (λ c. search needs)
     (λ c.
     let n = c .before .before .before .loop .inv in

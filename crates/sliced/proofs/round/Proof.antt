@@ -1,37 +1,23 @@
 -- `sliced::round` meets its contract. The loop's invariant: s holds what the S-boxes make of the first q bytes. Once it holds all four, it
 -- holds them twice (`double`), and `mix` adds L of them to a, which is the round (`round-done`).
-use Rattle.block.proofs.Base.{_*_, _+_, _-_, _≤_, _≡_, arith, needs, length}
-use Rattle.cipher.proofs.Bounds.{tau-lt}
-use Rattle.sliced.specs.Lanes.{Held}
-use Rattle.sliced.specs.Round.{keyed, subbed}
-use Rattle.sliced.proofs.Held.{held-less}
+use Rattle.sliced.proofs.Names.{Held, _*_, _+_, _-_, _≡_, _≤_, arith, keyed, length, needs, subbed, tau-lt}
 use Rattle.sliced.proofs.Mixing.{round-done}
 use Rattle.sliced.proofs.round.Statement.{statement}
 use Rattle.sliced.proofs.round.Tie as tie
 
 pub round-spec : {M : Type 1} → statement M
-round-spec =
-    tie.close
-    (tie.spec
+round-spec = tie.close (tie.spec
     (λ a b c d s₀ k n q₀ s q. (q ≤ 4) × (length s ≡ 512) × Held (subbed b c d k) n (64 * q) s) (λ a b c d s₀ k n q₀ s q. 4 - q)
     (λ c. search needs) (λ c κs. search needs) (λ c. search needs) (λ c. search needs)
     (λ c.
-    let l = c .before .before .before .loop in
-    let a = c .before .before .before .before .args in
-    let r = c .sub-byte in (
-      omega arith,
-      r .ensures .1,
-      held-less (subbed (a .b .now) (a .c .now) (a .d .now) (a .k)) (a .n) (64 * l .q + 64) (64 * (l .q + 1)) (r .last .0) (omega arith)
-          (r .ensures .0),
-    ))
+    let r = c .sub-byte .ensures in
+    (omega arith, r .1, λ p k hp. r .0 p k (omega arith)))
     (λ c κs. search needs) (λ c κs. search needs)
     (λ c.
     let D = c .before .before .before .double in
     let l = c .before .before .before .before .before .before .loop in
     let a = c .before .before .before .before .before .before .before .args in
     let f = subbed (a .b .now) (a .c .now) (a .d .now) (a .k) in
-    let h = held-less f (a .n) (64 * l .q) 256 (l .s) (omega arith) (l .inv .2) in
-    let m = c .mix .ensures .0 f (a .n) (λ e. tau-lt (keyed (a .b .now) (a .c .now) (a .d .now) (a .k) e)) (D .ensures .0 f (a .n) h) in (
-      round-done (a .a .now) (a .b .now) (a .c .now) (a .d .now) (c .mix .last .0) (a .k) (a .n) m,
-      (c .mix .ensures .1, D .ensures .1),
-    )))
+    let h : Held f (a .n) 256 (l .s) = λ p k hp. l .inv .2 p k (omega arith) in
+    let m = c .mix .ensures .0 f (a .n) (λ e. tau-lt (keyed (a .b .now) (a .c .now) (a .d .now) (a .k) e)) (D .ensures .0 f (a .n) h) in
+    (round-done (a .a .now) (a .b .now) (a .c .now) (a .d .now) _ (a .k) (a .n) m, (c .mix .ensures .1, D .ensures .1))))

@@ -1,6 +1,6 @@
 -- `stream::finish` meets its contract: so does either way.
 
-use Rattle.block.proofs.Base.{needs}
+use Rattle.stream.proofs.Names.{needs}
 use Rattle.stream.proofs.finish.Statement.{statement}
 use Rattle.stream.proofs.finish.Tie as tie
 

@@ -1,5 +1,5 @@
 -- `stream::pad_needed` meets its contract, by both tests.
-use Rattle.block.proofs.Base.{_∙_, refl, sym, arith}
+use Rattle.stream.proofs.Names.{_∙_, arith, refl, sym}
 use Rattle.stream.proofs.Ahead.{untrue}
 use Rattle.stream.proofs.pad_needed.Statement.{statement}
 use Rattle.stream.proofs.pad_needed.Tie as tie

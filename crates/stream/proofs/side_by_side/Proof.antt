@@ -1,6 +1,5 @@
 -- `stream::side_by_side` meets its contract, by the kind.
-use Rattle.block.proofs.Base.{ap, needs}
-use Rattle.stream.specs.Stream.{ahead}
+use Rattle.stream.proofs.Names.{ahead, ap, needs}
 use Rattle.stream.proofs.Ahead.{untrue}
 use Rattle.stream.proofs.side_by_side.Statement.{statement}
 use Rattle.stream.proofs.side_by_side.Tie as tie

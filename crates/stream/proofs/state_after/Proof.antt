@@ -1,5 +1,5 @@
 -- `stream::state_after` meets its contract: in each arm the kind is known, and the definition gives that arm's state.
-use Rattle.block.proofs.Base.{needs}
+use Rattle.stream.proofs.Names.{needs}
 use Rattle.stream.proofs.state_after.Statement.{statement}
 use Rattle.stream.proofs.state_after.Tie as tie
 

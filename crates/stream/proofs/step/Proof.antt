@@ -1,12 +1,7 @@
 -- `stream::step` meets its contract. The words that are ciphered, read and xored are those of sixteen bytes (`unwords-front`,
 -- `encrypt-unwords`, `front-xored`), so what is written and the next state are the definition's.
-use Rattle.block.proofs.Base.{_<_, _^_, ℕ, _∙_, _≡_, arith, needs, now, getD, length, w32, Fits}
-use Rattle.block.proofs.Entries.{below-each}
-use Rattle.block.proofs.WordsBack.{unwords-front}
-use Rattle.cipher.specs.Sm4.{encryptWords}
-use Rattle.cipher.proofs.Bounds.{encrypt-four}
-use Rattle.cipher.proofs.Blocks.{encrypt-unwords}
-use Rattle.block.proofs.InWords.{front-xored}
+use Rattle.stream.proofs.Names.{Fits, _<_, _^_, _∙_, _≡_, arith, below-each, encrypt-four, encrypt-unwords, encryptWords}
+use Rattle.stream.proofs.Names.{front-xored, getD, length, needs, now, unwords-front, w32, ℕ}
 use Rattle.stream.proofs.step.Statement.{statement}
 use Rattle.stream.proofs.step.Tie as tie
 
@@ -27,12 +22,11 @@ returns c =
     let bytes = below-each 256 d small in
     let read = unwords-front d (S .pre .1 .0) bytes in
     let ciphered = encrypt-unwords (a .rk) (a .s) four (below-each (2 ^ 32) (a .s) (λ i. fits i .fits)) in
-    let xored = rw ciphered at (front-xored d (encryptWords (a .rk) (a .s)) (S .pre .1 .0) bytes (encrypt-four (a .rk) (a .s))) in (
-      c .state-after .ensures
-          ∙ rw (at-xor .block-xor .ensures, at-split .split-block .ensures, at-encrypt .encrypt .ensures, read, ciphered, xored),
-      at-put-block .put-block .ensures
-          ∙ rw (at-xor .block-xor .ensures, at-split .split-block .ensures, at-encrypt .encrypt .ensures, xored),
-    )
+    let xored = rw ciphered at (front-xored d (encryptWords (a .rk) (a .s)) (S .pre .1 .0) bytes (encrypt-four (a .rk) (a .s))) in
+    let x = at-xor .block-xor .ensures in
+    let b = at-split .split-block .ensures in
+    let e = at-encrypt .encrypt .ensures in
+    (c .state-after .ensures ∙ rw (x, b, e, read, ciphered, xored), at-put-block .put-block .ensures ∙ rw (x, b, e, xored))
 
 pub step-spec : {M : Type 1} → statement M
 step-spec = tie.close (tie.spec (λ c κs. search needs) (λ c κs. search needs) (λ c κs. search needs) (λ c κs. search needs)

@@ -11,9 +11,6 @@ abbrev μ-loop : tie.MeasureT-loop
 μ-loop bytes t at₀ all₀ differ₀ at all differ = 1000 - all
 
 pub run-all-spec : {M : Type 1} → statement M
-run-all-spec =
-    tie.close
-    (tie.spec
-    Inv-loop μ-loop (λ c κs. search needs) (λ c. search needs) (λ c κs. search needs) (λ c. search needs)
-    (λ c. search needs) (λ c κs. search needs) (λ c κs. search needs) (λ c. search needs) (λ c κs. search needs)
-    (λ c. search needs) (λ c. search needs) (λ c. search needs))
+run-all-spec = tie.close (tie.spec Inv-loop μ-loop (λ c κs. search needs) (λ c. search needs) (λ c κs. search needs) (λ c. search needs)
+    (λ c. search needs) (λ c κs. search needs) (λ c κs. search needs) (λ c. search needs) (λ c κs. search needs) (λ c. search needs)
+    (λ c. search needs) (λ c. search needs))

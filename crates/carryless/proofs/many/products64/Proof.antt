@@ -5,9 +5,7 @@ use Rattle.carryless.proofs.many.products64.Statement.{statement}
 use Rattle.carryless.proofs.many.products64.Tie as tie
 
 pub products64-spec : {M : Type 1} → statement M
-products64-spec =
-    tie.close
-    (tie.spec
+products64-spec = tie.close (tie.spec
     (λ c. search needs) (λ c. search needs) (λ c κs. search needs) (λ c κs. search needs) (λ c κs. search needs) (λ c κs. search needs)
     (λ c. search needs) (λ c κs. search needs) (λ c. search needs) (λ c κs. search needs) (λ c κs. search needs)
     (λ c.

@@ -1,7 +1,6 @@
 -- `cipher::gates::encrypt` meets its contract. The invariant of either loop: the rounds that are left give what they gave where it
 -- began (`rounds-next`).
-use Rattle.block.proofs.Base.{_%_, _+_, _-_, _≤_, _∙_, _≡_, ap, refl, arith, needs, drop, length}
-use Rattle.cipher.specs.Sm4.{rounds}
+use Rattle.cipher.proofs.Names.{_%_, _-_, _∙_, _≡_, _≤_, arith, drop, length, needs, refl, rounds}
 use Rattle.cipher.proofs.Rounds.{rounds-next, rounds-done}
 use Rattle.cipher.proofs.gates.encrypt.Statement.{statement}
 use Rattle.cipher.proofs.gates.encrypt.Tie as tie
@@ -18,29 +17,20 @@ Inv-loop rk x₀ i₀ x i = (i ≤ 32) × (i % 4 ≡ 0) × (rounds (drop i rk) x
 abbrev μ-loop : tie.MeasureT-loop
 μ-loop rk x₀ i₀ x i = 32 - i
 
-loop-again : tie.Need-loop-again Inv-loop2 μ-loop2 Inv-loop μ-loop
-loop-again c =
-    let m = c .before .loop2 in
-    let l = c .before .before .before .loop in
-    (omega arith, omega arith, m .inv .1 ∙ l .inv .2)
-
 loop2-again : tie.Need-loop2-again Inv-loop2 μ-loop2 Inv-loop μ-loop
 loop2-again c =
     let at-loop2 = c .before .before in
     let m = at-loop2 .loop2 in
     let rk = at-loop2 .before .before .before .args .t1 in
     let n : length rk ≡ 32 = search needs in
-    (omega arith, ap (rounds (drop (m .i + 1) rk)) (c .round .ensures) ∙ rounds-next rk (m .x) (m .i) (omega arith) ∙ m .inv .1)
-
-returns : tie.Need-returns Inv-loop2 μ-loop2 Inv-loop μ-loop
-returns c =
-    let l = c .before .loop in
-    let rk = c .before .before .args .t1 in
-    let n : length rk ≡ 32 = search needs in
-    rounds-done rk (l .x) _ (l .i) (omega arith) (l .inv .2)
+    (omega arith, rw (c .round .ensures) (rounds-next rk (m .x) (m .i) (omega arith) ∙ m .inv .1))
 
 pub encrypt-spec : {M : Type 1} → statement M
-encrypt-spec =
-    tie.close (tie.spec Inv-loop2 μ-loop2 Inv-loop μ-loop (λ c. (search needs, refl, refl)) (λ c. omega arith) (λ c. (omega arith, refl))
-    (λ c. omega arith) loop-again (λ c. search needs) (λ c. search needs) (λ c κs. search needs) (λ c. omega arith) (λ c. omega arith)
-    loop2-again (λ c. search needs) (λ c. search needs) (λ c. search needs) (λ c. search needs) returns)
+encrypt-spec = tie.close (tie.spec Inv-loop2 μ-loop2 Inv-loop μ-loop (λ c. (search needs, refl, refl)) (λ c. omega arith)
+    (λ c. (omega arith, refl)) (λ c. omega arith)
+    (λ c. (omega arith, omega arith, c .before .loop2 .inv .1 ∙ c .before .before .before .loop .inv .2)) (λ c. search needs)
+    (λ c. search needs)
+    (λ c κs. search needs) (λ c. omega arith) (λ c. omega arith) loop2-again (λ c. search needs) (λ c. search needs) (λ c. search needs)
+    (λ c. search needs)
+    (λ c. let n : length (c .before .before .args .t1) ≡ 32 = search needs in
+    rounds-done _ _ _ (c .before .loop .i) (omega arith) (c .before .loop .inv .2)))

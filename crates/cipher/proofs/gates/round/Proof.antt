@@ -1,5 +1,5 @@
 -- `cipher::gates::round` meets its contract: it is the definition's round by T.
-use Rattle.block.proofs.Base.{needs}
+use Rattle.cipher.proofs.Names.{needs}
 use Rattle.cipher.proofs.gates.round.Statement.{statement}
 use Rattle.cipher.proofs.gates.round.Tie as tie
 

@@ -1,5 +1,5 @@
 -- `cipher::gates::tau_trans` meets its contract: the S-box in every lane of the shifted word is tau of its bytes (`tau-lanes`).
-use Rattle.block.proofs.Base.{_∙_, needs}
+use Rattle.cipher.proofs.Names.{_∙_, needs}
 use Rattle.cipher.proofs.FourLanes.{tau-lanes}
 use Rattle.cipher.proofs.gates.tau_trans.Statement.{statement}
 use Rattle.cipher.proofs.gates.tau_trans.Tie as tie

@@ -1,7 +1,5 @@
 -- `cipher::mixed::tables` meets its contract: all 1,024 entries are the rule's, by one computed test.
-use Rattle.block.proofs.Base.{refl}
-use Rattle.cipher.specs.Sm4.{sboxTable, rotl, L}
-use Rattle.cipher.specs.Engine.{mixedFrom, mixedTable}
+use Rattle.cipher.proofs.Names.{L, mixedFrom, mixedTable, refl, rotl, sboxTable}
 use Rattle.cipher.proofs.mixed.tables.Statement.{statement}
 use Rattle.cipher.proofs.mixed.tables.Tie as tie
 

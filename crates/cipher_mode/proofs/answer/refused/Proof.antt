@@ -1,6 +1,6 @@
 -- `cipher_mode::answer::refused` meets its contract: no refusal says anything of a counter (`quiet-ending`).
 use Rattle.block.proofs.Base.{ap}
-use Rattle.walk.specs.Outcome.{under}
+use Rattle.cipher_mode.specs.Outcome.{under}
 use Rattle.cipher_mode.specs.declared.answer.Ending.the-variants.{Refused}
 use Rattle.cipher_mode.proofs.Refusals.{quiet-ending}
 use Rattle.cipher_mode.proofs.answer.refused.Statement.{statement}

@@ -1,13 +1,14 @@
 -- `cipher_mode::work::by_cbc` meets its contract: sealing is as long as the table says, and opening answers as `cbc::decrypt`.
 use Rattle.block.proofs.Base.{_<_, ℕ, _∙_, _≡_, ap, sym, List, arith, needs, now, getD}
 use Rattle.block.specs.Words.{unwords}
-use Rattle.walk.specs.Outcome.{Head, Outcome, leaving}
-use Rattle.walk.specs.Walk.{over}
+use Rattle.cipher_mode.specs.Outcome.{Head, Outcome, leaving}
+use Rattle.block.specs.Over.{over}
 use Rattle.cbc.specs.Cbc.{cbcSeal}
-use Rattle.cbc.specs.Open.{cbcOpen}
+use Rattle.cipher_mode.specs.Calls.{cbcOpen}
 use Rattle.cbc.proofs.RoundTrip.{length-cbcSeal}
 use Rattle.cipher_mode.proofs.Passed.{data-within, whole-blocks-passed}
 use Rattle.cipher_mode.proofs.Ends.{reached, spelled}
+use Rattle.cipher_mode.proofs.Opens.{cbc-left}
 use Rattle.cipher_mode.proofs.work.by_cbc.Statement.{statement}
 use Rattle.cipher_mode.proofs.work.by_cbc.Tie as tie
 
@@ -63,7 +64,8 @@ returns-2 c =
     let o = now (a .out) in
     rw (told .enum-told2 .given .1)
     (ap {B = Outcome} (λ (h : Head). leaving h (at-decrypt .decrypt .last .1 .1 .1 .1 .0)) (c .cbc-answer .ensures)
-    ∙ at-decrypt .decrypt .ensures ∙ ap {B = Outcome} (λ (s : List ℕ). cbcOpen (a .rk) s d o) (is-iv at-split))
+    ∙ cbc-left (a .rk) _ d o _ _ (at-decrypt .decrypt .ensures .0) (at-decrypt .decrypt .ensures .1)
+    ∙ ap {B = Outcome} (λ (s : List ℕ). cbcOpen (a .rk) s d o) (is-iv at-split))
 
 pub by-cbc-spec : {M : Type 1} → statement M
 by-cbc-spec = tie.close (tie.spec (λ c κs. search needs) (λ c. search needs) encrypt-requires encrypted-length-requires (λ c. search needs)

@@ -1,17 +1,17 @@
 -- `cipher_mode::work::by_gcm` meets its contract: with the start of keys and IV, as long as the table says or as `gcm::decrypt`.
-use Rattle.block.proofs.Base.{_-_, _≤_, ℕ, _∙_, _≡_, ap, ap₂, refl, sym, Bool, List, arith, needs, now, getD, length, w32, Fits}
+use Rattle.block.proofs.Base.{_-_, _≤_, ℕ, _∙_, _≡_, ap, ap₂, refl, sym, Bool, cond, List, arith, needs, now, getD, length, w32, Fits}
 use Rattle.counter.specs.Counter.{lastFour}
 use Rattle.counter.specs.CameRound.{blocksOf, gcmCameRound}
 use Rattle.counter.proofs.Steps.{last-four}
-use Rattle.walk.specs.Outcome.{Head, Outcome, leaving, reporting}
-use Rattle.walk.specs.Walk.{over}
+use Rattle.cipher_mode.specs.Outcome.{Outcome, finished, refusal, telling, reporting}
+use Rattle.block.specs.Over.{over}
 use Rattle.gcm.specs.Gcm.{hashKey, J0, sealed}
-use Rattle.gcm.specs.Open.{gcmOpen}
 use Rattle.gcm.proofs.Parts.{length-sealed}
 use Rattle.cipher_mode.specs.Tables.{limit}
-use Rattle.cipher_mode.specs.Calls.{gcmRound}
+use Rattle.cipher_mode.specs.Calls.{gcmRound, gcmOpen}
 use Rattle.cipher_mode.proofs.Passed.{iv-twelve-or-sixteen, label-passed, data-within, with-tag-passed}
 use Rattle.cipher_mode.proofs.Ends.{reached, told-of}
+use Rattle.cipher_mode.proofs.Opens.{gcm-left}
 use Rattle.cipher_mode.proofs.work.by_gcm.Statement.{statement}
 use Rattle.cipher_mode.proofs.work.by_gcm.Tie as tie
 
@@ -102,12 +102,13 @@ returns-2 c =
     let d = now (a .«data») in
     let o = now (a .out) in
     let b = at-round .gcm-came-round2 .result in
-    rw way (ap {B = Outcome} (λ (h : Head). leaving h (at-decrypt .decrypt .last .1 .1 .1 .1 .1 .1 .1 .1 .0)) (c .gcm-answer .ensures)
-    ∙ ap {B = Outcome} (reporting b) (at-decrypt .decrypt .ensures
-    ∙ ap₂ {C = Outcome} (λ (h : ℕ) (j : List ℕ). gcmOpen (a .rk) h j aad d o) (at-start .start .ensures .0)
-    (at-start .start .ensures .1 .0))
+    let n = at-text-length .text-length .ensures .1 way in
+    let told = c .gcm-answer .ensures ∙ ap (λ (k : ℕ). cond (at-decrypt .decrypt .result) (telling b (finished k)) (refusal 4)) n in
+    rw way (gcm-left (a .rk) _ _ aad d o _ b _ _ (at-decrypt .decrypt .ensures .0) (at-decrypt .decrypt .ensures .1) told
+    ∙ ap₂ {C = Outcome} (λ (h : ℕ) (j : List ℕ). reporting b (gcmOpen (a .rk) h j aad d o)) (at-start .start .ensures .0)
+    (at-start .start .ensures .1 .0)
     ∙ ap {B = Outcome} (λ (t : Bool). reporting t (gcmOpen (a .rk) (hashKey (a .rk)) (J0 (a .rk) (now (a .iv))) aad d o))
-    (round at-start b _ (length d - 16) (at-text-length .text-length .ensures .1 way) (at-round .gcm-came-round2 .ensures)))
+    (round at-start b _ (length d - 16) n (at-round .gcm-came-round2 .ensures)))
 
 pub by-gcm-spec : {M : Type 1} → statement M
 by-gcm-spec = tie.close (tie.spec (λ c κs e. with-tag-passed _ (rw e at (c .before .before .before .before .before .pre .1 .1 .1 .0)))

@@ -1,9 +1,5 @@
 -- `field::many::reduce_each` meets its contract. The loop's invariant: the first g elements are there.
-use Rattle.block.proofs.Base.{_-_, _≤_, _≡_, arith, needs, length}
-use Rattle.carryless.specs.Carryless.{joining128}
-use Rattle.carryless.specs.Lanes.{lane, Both}
-use Rattle.carryless.proofs.Filling.{both-next}
-use Rattle.field.specs.Field.{timesXs}
+use Rattle.field.proofs.Names.{Both, _-_, _≡_, _≤_, arith, both-next, joining128, lane, length, needs, timesXs}
 use Rattle.field.proofs.many.reduce_each.Statement.{statement}
 use Rattle.field.proofs.many.reduce_each.Tie as tie
 
@@ -27,12 +23,6 @@ reduce-each-spec =
     let l = at-loop .loop in
     let t = in-loop .loop-test .taken in
     let few = at-loop .before .pre .0 .0 in
-    let a = at-loop .before .args in (
-      omega arith,
-      search needs,
-      search needs,
-      both-next (l .g) _ _ (l .high) (l .low) (omega arith) (omega arith)
-          (λ i. timesXs 127 (joining128 (lane (a .h1 .now) (a .h0 .now) i) (lane (a .l1 .now) (a .l0 .now) i) (lane (a .b1 .now) (a .b0 .now) i)))
-          (c .reduced .ensures) (l .inv .3),
-    ))
+    let next = both-next (l .g) _ _ (l .high) (l .low) (omega arith) (omega arith) _ (c .reduced .ensures) (l .inv .3) in
+    (omega arith, search needs, search needs, next))
     (λ c. let l = c .before .loop in (λ j h. l .inv .3 j (omega arith), l .inv .1, l .inv .2)))

@@ -1,8 +1,5 @@
 -- `field::many::sums` meets its contract. The loop's invariant: the first g sums are there, and what was read are words.
-use Rattle.block.proofs.Base.{_-_, _<_, _^_, _≤_, ℕ, _≡_, arith, needs, getD, length}
-use Rattle.block.specs.Xor.{_⊕_}
-use Rattle.carryless.specs.Lanes.{Each}
-use Rattle.carryless.proofs.Filling.{one-more, each-next}
+use Rattle.field.proofs.Names.{Each, _-_, _<_, _^_, _≡_, _≤_, _⊕_, arith, each-next, getD, length, needs, one-more, ℕ}
 use Rattle.field.proofs.many.sums.Statement.{statement}
 use Rattle.field.proofs.many.sums.Tie as tie
 
@@ -14,12 +11,10 @@ sums-spec =
     (λ a b n r₀ g₀ r g. n - g) (λ c. search needs) (λ c. search needs) (λ c. search needs) (λ c. search needs) (λ c. search needs)
     (λ c κs. search needs) (λ c. search needs) (λ c. search needs) (λ c. search needs) (λ c. search needs)
     (λ c.
-    let at-loop = c .before .before .before .before in
-    let l = at-loop .loop in
-    let a = at-loop .before .args in (
+    let l = c .before .before .before .before .loop in (
       omega arith,
       search needs,
-      each-next (λ i. getD (a .a .now) i 0 ⊕ getD (a .b .now) i 0) (l .g) _ (l .r) (omega arith) (c .sum .ensures .0) (l .inv .2),
-      one-more (λ i. getD (a .a .now) i 0 < 2 ^ 64) (l .g) (c .sum .ensures .1) (l .inv .3),
+      each-next _ (l .g) _ (l .r) (omega arith) (c .sum .ensures .0) (l .inv .2),
+      one-more _ (l .g) (c .sum .ensures .1) (l .inv .3),
     ))
     (λ c. let l = c .before .loop in (λ j h. l .inv .2 j (omega arith), λ j h. l .inv .3 j (omega arith))))

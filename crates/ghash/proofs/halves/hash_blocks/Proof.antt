@@ -1,6 +1,6 @@
 -- `ghash::halves::hash_blocks` meets its contract: from the hash 0 on, the state takes in all blocks (`hash-of`).
-use Rattle.ghash.proofs.JoinedBytes.{hash-of}
-use Rattle.block.proofs.Base.{needs}
+use Rattle.ghash.proofs.Names.{needs}
+use Rattle.ghash.proofs.Absorbing.{hash-of}
 use Rattle.ghash.proofs.halves.hash_blocks.Statement.{statement}
 use Rattle.ghash.proofs.halves.hash_blocks.Tie as tie
 

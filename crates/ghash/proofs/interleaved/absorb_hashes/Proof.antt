@@ -1,11 +1,6 @@
--- `ghash::interleaved::absorb_hashes` meets its contract. The loop's invariant: the first k hashes are taken in, and m is the parts of H. A turn
--- takes in the one that comes next (`absorbed-both`).
-use Rattle.block.proofs.Base.{_-_, _≤_, _≡_, [], _∷_, arith, needs}
-use Rattle.carryless.specs.Lanes.{lane}
-use Rattle.carryless.specs.Lent.{PartsOf}
-use Rattle.ghash.specs.Absorbed.{Absorbed}
-use Rattle.ghash.specs.Ghash.{hashFrom}
-use Rattle.ghash.specs.Sets.{upTo}
+-- `ghash::interleaved::absorb_hashes` meets its contract. The loop's invariant: the first k hashes are taken in, and m is the parts of H. A
+-- turn takes in the one that comes next (`absorbed-both`).
+use Rattle.ghash.proofs.Names.{Absorbed, PartsOf, _-_, _≡_, _≤_, arith, hashFrom, lane, needs, upTo}
 use Rattle.ghash.proofs.Absorbing.{parts-same, absorbed-both}
 use Rattle.ghash.proofs.Sets.{upTo-next}
 use Rattle.ghash.proofs.interleaved.absorb_hashes.Statement.{statement}
@@ -20,12 +15,6 @@ absorb-hashes-spec =
     (λ c. search needs) (λ c. search needs) (λ c. search needs) (λ c κs. search (needs, parts-same)) (λ c. search needs)
     (λ c. search needs)
     (λ c.
-    let at-loop = c .before .before .before .before .before in
-    let turn = at-loop .loop in
-    let x = at-loop .before .before .args in
-    let f = lane (x .high .now) (x .low .now) in (
-      omega arith,
-      rw (upTo-next (turn .k) f) at (absorbed-both _ _ _ (upTo (turn .k) f) (f (turn .k) ∷ []) (turn .inv .1) (c .step .ensures)),
-      turn .inv .2,
-    ))
+    let turn = c .before .before .before .before .before .loop in
+    (omega arith, rw (← upTo-next) (absorbed-both _ _ _ _ _ (turn .inv .1) (c .step .ensures)), turn .inv .2))
     (λ c. let e : c .before .loop .k ≡ c .before .before .before .args .n = omega arith in rw e at (c .before .loop .inv .1)))

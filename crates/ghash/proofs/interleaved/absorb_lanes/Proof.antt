@@ -1,10 +1,7 @@
--- `ghash::interleaved::absorb_lanes` meets its contract: once the sets are taken in, the hashes join to the hash of their blocks, and the rest is
--- taken in block by block (`absorbed-cut`).
-use Rattle.block.proofs.Base.{_*_, _≤_, _∙_, lt-of-le-of-lt, arith, needs, length}
-use Rattle.block.specs.Wide.{value}
-use Rattle.field.proofs.Bounded.{whole-lt}
-use Rattle.ghash.proofs.Absorbing.{absorbed-cut}
-use Rattle.ghash.proofs.JoinedBytes.{hash-of}
+-- `ghash::interleaved::absorb_lanes` meets its contract: once the sets are taken in, the hashes join to the hash of their blocks, and the
+-- rest is taken in block by block (`absorbed-cut`).
+use Rattle.ghash.proofs.Names.{_*_, _∙_, _≤_, arith, length, lt-of-le-of-lt, needs, value, whole-lt}
+use Rattle.ghash.proofs.Absorbing.{absorbed-cut, hash-of}
 use Rattle.ghash.proofs.Sets.{lanes-few, starts-first}
 use Rattle.ghash.proofs.interleaved.absorb_lanes.Statement.{statement}
 use Rattle.ghash.proofs.interleaved.absorb_lanes.Tie as tie
@@ -38,10 +35,9 @@ absorb-lanes-spec =
     let at-power = at-sets .before .before .before .before .before in
     let S = at-power .before .before .before in
     let g = S .args .g in
-    let bytes = S .args .bytes .now in
     let element = whole-lt (g .h .high) (g .h .low) (omega (arith, S .good .0)) (omega (arith, S .good .0)) in
     let sets = at-sets .absorb-sets .ensures in
-    absorbed-cut g _ _ bytes (at-sets .absorb-sets .result) (sets .1)
+    absorbed-cut g _ _ _ _ (sets .1)
     (record {
       key = at-hashes .absorb-hashes .ensures .key ∙ at-new .new .ensures .0;
       hash =

@@ -1,10 +1,6 @@
--- `ghash::interleaved::absorb_sets` meets its contract. The loop's invariant: where the first set was hashed (`hashed-first`), the first b blocks are,
--- and the hashes are elements. In a turn the hashes are multiplied, and the next set is added (`hashed-next`).
-use Rattle.block.proofs.Base.{_-_, _<_, _≤_, ℕ, _≡_, arith, needs, length}
-use Rattle.block.specs.Wide.{value}
-use Rattle.carryless.specs.Lanes.{lane}
-use Rattle.field.specs.Field.{Element, gpow}
-use Rattle.ghash.specs.Sets.{upTo, blockNumber, Hashed}
+-- `ghash::interleaved::absorb_sets` meets its contract. The loop's invariant: where the first set was hashed (`hashed-first`), the first b
+-- blocks are, and the hashes are elements. In a turn the hashes are multiplied, and the next set is added (`hashed-next`).
+use Rattle.ghash.proofs.Names.{Element, Hashed, _-_, _<_, _≡_, _≤_, arith, blockNumber, gpow, lane, length, needs, upTo, value, ℕ}
 use Rattle.ghash.proofs.Sets.{lent-block, hashed-first, hashed-next}
 use Rattle.ghash.proofs.interleaved.absorb_sets.Statement.{statement}
 use Rattle.ghash.proofs.interleaved.absorb_sets.Tie as tie
@@ -22,30 +18,21 @@ absorb-sets-spec =
     (λ c. search needs) (λ c. search needs)
     (λ c.
     let at-mul = c .before .before .before .before in
-    let in-loop = at-mul .before .before .before in
-    let at-loop = in-loop .before in
-    let l = at-loop .loop in
-    let S = at-loop .before .before .before .before .before in
-    let bytes = S .args .bytes .now in
-    let n = S .args .n in
+    let l = at-mul .before .before .before .before .loop in
     let added = c .add-set2 .ensures in (
       omega arith,
       added .2,
       added .3,
       added .1,
       λ h y hh power done.
-          hashed-next h hh n y (l .b) (value (S .args .p)) (blockNumber bytes) _ (lane (l .high) (l .low)) _ _ power (lent-block bytes (l .b))
-          (l .inv .3) (l .inv .4 h y hh power done) (at-mul .multiply .ensures .0) (added .0),
+          hashed-next h hh _ y (l .b) _ _ _ _ _ _ power (lent-block _ (l .b)) (l .inv .3) (l .inv .4 h y hh power done)
+          (at-mul .multiply .ensures .0) (added .0),
     ))
     (λ c.
     let l = c .before .loop in
     let first = c .before .before in
-    let S = first .before .before .before .before in
-    let a = S .args in
-    let added = first .add-set .ensures in (
-      λ h y hh power starts.
-          l .inv .4 h y hh power
-          (hashed-first h (a .n) y (lane (a .high .now) (a .low .now)) _ (blockNumber (a .bytes .now)) (S .pre .1) starts (added .0)),
+    let S = first .before .before .before .before in (
+      λ h y hh power starts. l .inv .4 h y hh power (hashed-first h _ y _ _ _ (S .pre .1) starts (first .add-set .ensures .0)),
       omega arith,
       l .inv .1,
       l .inv .2,

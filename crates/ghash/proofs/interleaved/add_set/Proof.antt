@@ -1,13 +1,7 @@
--- `ghash::interleaved::add_set` meets its contract. The loop's invariant: to the first k hashes their blocks are added, and these are elements; the
--- others are as they were.
-use Rattle.block.proofs.Base.{_-_, _<_, _≤_, ℕ, _∙_, _≡_, ap₂, refl, arith, needs, length, set}
-use Rattle.block.specs.Xor.{_⊕_}
-use Rattle.block.proofs.Entries.{below-each}
-use Rattle.carryless.specs.Lanes.{lane, Both}
-use Rattle.carryless.proofs.Filling.{one-more, lane-same, lane-other, both-next}
-use Rattle.field.specs.Field.{Element}
-use Rattle.field.proofs.Bounded.{whole-lt}
-use Rattle.ghash.specs.Sets.{blockNumber}
+-- `ghash::interleaved::add_set` meets its contract. The loop's invariant: to the first k hashes their blocks are added, and these are
+-- elements; the others are as they were.
+use Rattle.ghash.proofs.Names.{Both, Element, _-_, _<_, _∙_, _≡_, _≤_, _⊕_, ap₂, arith, below-each, blockNumber, both-next, lane}
+use Rattle.ghash.proofs.Names.{lane-other, lane-same, length, needs, one-more, refl, whole-lt, ℕ}
 use Rattle.ghash.proofs.Sets.{lent-number}
 use Rattle.ghash.proofs.interleaved.add_set.Statement.{statement}
 use Rattle.ghash.proofs.interleaved.add_set.Tie as tie
@@ -32,24 +26,22 @@ add-set-spec =
     let at-loop = at-split .before .before .before in
     let l = at-loop .loop in
     let known = at-loop .before in
-    let a = known .before .args in
-    let bytes = a .bytes .now in
+    let bytes = known .before .args .bytes .now in
     let k = l .k in
     let u = c .add .result .high in
     let v = c .add .result .low in
     let ha : k < length (l .high) = omega arith in
     let hb : k < length (l .low) = omega arith in
-    let high = set (l .high) k u in
-    let low = set (l .low) k v in
     let number = below-each 256 bytes (λ i. known .shared-slice-known .given i .fits) in (
       omega arith,
       search needs,
       search needs,
-      both-next k u v (l .high) (l .low) ha hb (λ j. lane (a .high .now) (a .low .now) j ⊕ blockNumber bytes j)
+      both-next k u v (l .high) (l .low) ha hb _
           (c .add .ensures
-          ∙ ap₂ _⊕_ (l .inv .5 k (omega arith)) (at-number .to-u128 .ensures ∙ lent-number bytes k _ number (at-split .split-block .ensures)))
+          ∙ ap₂ _⊕_ (l .inv .5 k (omega arith))
+          (at-number .to-u128 .ensures ∙ lent-number bytes k _ number (at-split .split-block .ensures)))
           (l .inv .3),
-      one-more (λ j. Element (lane high low j)) k
+      one-more _ k
           (rw (lane-same k u v (l .high) (l .low) ha hb) (whole-lt u v (omega (arith, c .add .ok)) (omega (arith, c .add .ok))))
           (λ j h. rw (lane-other k u v (l .high) (l .low) ha hb j (λ e. omega arith)) (l .inv .4 j h)),
       λ j h. lane-other k u v (l .high) (l .low) ha hb j (λ e. omega arith) ∙ l .inv .5 j (omega arith),

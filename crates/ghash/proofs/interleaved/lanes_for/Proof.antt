@@ -1,5 +1,5 @@
 -- `ghash::interleaved::lanes_for` meets its contract.
-use Rattle.block.proofs.Base.{refl, inl, inr, arith}
+use Rattle.ghash.proofs.Names.{arith, inl, inr, refl}
 use Rattle.ghash.proofs.interleaved.lanes_for.Statement.{statement}
 use Rattle.ghash.proofs.interleaved.lanes_for.Tie as tie
 

@@ -1,16 +1,7 @@
 -- `again::call_into` meets its contract: a mode above 4 is refused, and otherwise the call answers.
-use Rattle.block.proofs.Base.{_<_, _≤_, ℕ, _≡_, refl, List, arith, needs, le-ltb, lt-ltb, now}
-use Rattle.walk.specs.Outcome.{Outcome}
-use Rattle.cipher_mode.specs.declared.CipherMode.{CipherMode}
-use Rattle.cipher_mode.specs.declared.Direction.{Direction}
-use Rattle.cipher_mode.specs.declared.Sm4Cipher.{Sm4Cipher}
-use Rattle.cipher_mode.specs.declared.answer.Answer.{Answer}
-use Rattle.cipher_mode.specs.Answer.{headOf, outcome}
-use Rattle.cipher_mode.specs.Tables.{modeOf}
-use Rattle.cipher_mode.specs.Calls.{modeCall}
-use Rattle.journal.specs.Format.{Entry, front}
-use Rattle.journal.specs.Recomputed.{callInto, Answers}
-use Rattle.journal.specs.declared.again.Answered.{Answered}
+use Rattle.journal.proofs.Names.{Answer, Answered, Answers, CipherMode, Direction, Entry, List, Outcome, Sm4Cipher, _<_, _≡_, _≤_}
+use Rattle.journal.proofs.Names.{arith, callInto, false, front, le-ltb, lt-ltb, ltb, modeCall, modeOf, needs, now, outcome, refl, ℕ}
+use Rattle.cipher_mode.specs.Answer.{headOf}
 use Rattle.journal.proofs.again.call_into.Statement.{statement}
 use Rattle.journal.proofs.again.call_into.Tie as tie
 
@@ -25,36 +16,20 @@ told-outcome : (a : Answer) (t : Answered) (o : List ℕ) (x : Outcome) → outc
     → t ≡ record { number = headOf a .number; length = headOf a .size } → Answers t o x
 told-outcome a t o x e f = rw (f, ← e) (record { number = refl; size = refl; bytes = refl })
 
--- the call with the record's fields is the entry's
-called : (c : Sm4Cipher) (e : Entry) (o : List ℕ) (x : Outcome) (dir : Direction) (mode : CipherMode) (l d iv : List ℕ) (n : ℕ) → n ≤ 4
-    → n ≡ e .mode → mode ≡ modeOf n → dir ≡ e .direction → l ≡ e .label → d ≡ e .«data» → iv ≡ e .iv
-    → x ≡ modeCall dir (record { cipher = c; mode = mode }) l d iv o → x ≡ callInto c e o
-unfolding callInto
-called c e o x dir mode l d iv n h en em edir el ed eiv ex =
-    let t : _ = le-ltb 4 n h in
-    rw (← en, t, ← em, ← edir, ← el, ← ed, ← eiv) ex
-
 returns-2 : tie.Need-returns-2
+unfolding callInto front
 returns-2 c =
-    let at-call = c .before .before .before in
-    let at-iv = at-call .before .before in
-    let at-data = at-iv .before in
-    let at-label = at-data .before in
-    let at-direction = at-label .before in
-    let at-mode-of = at-direction .before in
-    let small = at-mode-of .before in
-    let at-mode = small .before in
-    let a = at-mode .before .before .before .args in
-    told-outcome (at-call .call .result) (c .told .result) _ _
-    (called (a .cipher) (front (now (a .s))) (now (a .out)) _ (at-direction .direction .result) (at-mode-of .mode-of .result)
-    (now (at-label .label .result)) (now (at-data .«data» .result)) (now (at-iv .iv .result)) (at-mode .mode .result) (omega arith)
-    (at-mode .mode .ensures) (at-mode-of .mode-of .ensures) (at-direction .direction .ensures) (at-label .label .ensures)
-    (at-data .«data» .ensures) (at-iv .iv .ensures) (at-call .call .ensures))
-    (c .told .ensures)
+    let small = c .before .before .before .before .before .before .before .before .before .before in
+    let mode = small .before .mode in
+    let t : ltb 4 (front (now (small .before .before .before .before .args .s)) .mode) ≡ false =
+    rw (← mode .ensures) (le-ltb 4 (mode .result) (small .if1 .left)) in
+    told-outcome (c .before .before .before .call .result) (c .told .result) _ _ (cc t) (c .told .ensures)
 
 pub call-into-spec : {M : Type 1} → statement M
 call-into-spec =
     tie.close (tie.spec (λ c κs. search needs)
-    (λ c. let m = c .before in bad-mode (m .before .before .before .args .cipher) _ _ (rw (← m .mode .ensures) (c .if1 .taken)))
+    (λ c.
+    let m = c .before in
+    unfold front in bad-mode (m .before .before .before .args .cipher) _ _ (rw (← m .mode .ensures) (c .if1 .taken)))
     (λ c. search needs) (λ c κs. search needs) (λ c κs. search needs) (λ c κs. search needs) (λ c κs. search needs) (λ c κs. search needs)
     (λ c κs. search needs) (λ c κs. search needs) (λ c. search needs) returns-2)

@@ -1,9 +1,5 @@
 -- `records::direction` meets its contract, by what the match told of the byte.
-use Rattle.block.proofs.Base.{suc, zero, ℕ, _≡_, ap, refl, sym, arith}
-use Rattle.cipher_mode.specs.declared.Direction.{Direction}
-use Rattle.cipher_mode.specs.declared.Direction.the-variants.{Decrypt}
-use Rattle.journal.specs.Format.{directionOf, front}
-use Rattle.journal.proofs.Standing.{long}
+use Rattle.journal.proofs.Names.{Decrypt, Direction, _≡_, ap, directionOf, needs, refl, suc, sym, zero, ℕ}
 use Rattle.journal.proofs.records.direction.Statement.{statement}
 use Rattle.journal.proofs.records.direction.Tie as tie
 
@@ -12,6 +8,5 @@ not-zero zero h = absurd (h refl)
 not-zero (suc n) h = refl
 
 pub direction-spec : {M : Type 1} → statement M
-direction-spec =
-    tie.close (tie.spec (λ c. omega (arith, long)) (λ c. unfold front in (ap {B = Direction} directionOf (sym (c .match .keys1))))
-    (λ c. unfold front in (not-zero _ (c .match .rest .1))))
+direction-spec = tie.close (tie.spec (λ c. search needs) (λ c. ap {B = Direction} directionOf (sym (c .match .keys1)))
+    (λ c. not-zero _ (c .match .rest .1)))

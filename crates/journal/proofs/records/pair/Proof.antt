@@ -1,6 +1,5 @@
 -- `records::pair` meets its contract.
-use Rattle.block.proofs.Base.{arith, needs}
-use Rattle.block.specs.BigEndian.{numberOf}
+use Rattle.journal.proofs.Names.{arith, needs, numberOf}
 use Rattle.journal.proofs.records.pair.Statement.{statement}
 use Rattle.journal.proofs.records.pair.Tie as tie
 

@@ -1,8 +1,6 @@
 -- `records::part_at` meets its contract: the part is what stands behind its length.
-use Rattle.block.proofs.Base.{_+_, _-_, ℕ, _≡_, ap, arith, needs, now, drop, take}
-use Rattle.block.specs.Words.{wordAt}
-use Rattle.journal.specs.Format.{partAt}
-use Rattle.journal.proofs.Standing.{part-long, part-fits}
+use Rattle.journal.proofs.Names.{_+_, _-_, _≡_, ap, arith, drop, needs, now, partAt, take, wordAt, ℕ}
+use Rattle.journal.proofs.Standing.{part-fits}
 use Rattle.journal.proofs.records.part_at.Statement.{statement}
 use Rattle.journal.proofs.records.part_at.Tie as tie
 
@@ -15,6 +13,5 @@ returns c =
     ap (λ (k : ℕ). take k (drop 4 b)) n
 
 pub part-at-spec : {M : Type 1} → statement M
-part-at-spec =
-    tie.close (tie.spec (λ c κs. omega (arith, part-long)) (λ c. search needs) (λ c. search needs) (λ c. search needs) (λ c. search needs)
-    (λ c. omega (arith, part-fits, c .word-at .ensures)) returns)
+part-at-spec = tie.close (tie.spec (λ c κs. omega (arith, part-fits)) (λ c. search needs) (λ c. search needs) (λ c. search needs)
+    (λ c. search needs) (λ c. omega (arith, part-fits, c .word-at .ensures)) returns)

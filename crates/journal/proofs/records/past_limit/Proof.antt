@@ -1,6 +1,5 @@
 -- `records::past_limit` meets its contract: each return is the definition, by the tests that led there.
-use Rattle.block.proofs.Base.{le-ltb, lt-ltb}
-use Rattle.journal.specs.Format.{pastLimit}
+use Rattle.journal.proofs.Names.{le-ltb, lt-ltb, pastLimit}
 use Rattle.journal.proofs.records.past_limit.Statement.{statement}
 use Rattle.journal.proofs.records.past_limit.Tie as tie
 

@@ -1,24 +1,21 @@
 -- `report::counted` meets its contract, field by field. No sum wraps, since every count is at most the place.
-use Rattle.block.proofs.Base.{_+_, _<_, _≤_, suc, ℕ, _∙_, _≡_, ap, refl, true, List, arith, needs, length}
-use Rattle.block.proofs.Entries.{below-at}
-use Rattle.journal.specs.Format.{startsRecord, front}
-use Rattle.journal.specs.Reports.{oneMore, modePlace, counted}
-use Rattle.journal.proofs.Standing.{stands, size-within, data-within}
+use Rattle.journal.proofs.Names.{List, Stands, _+_, _<_, _∙_, _≡_, _≤_, ap, arith, below-at, counted, front, length, modePlace}
+use Rattle.journal.proofs.Names.{needs, oneMore, refl, suc, ℕ}
+use Rattle.journal.proofs.Standing.{size-within, data-within}
 use Rattle.journal.proofs.Counting.{same-report, mode-below-6}
 use Rattle.journal.proofs.report.counted.Statement.{statement}
 use Rattle.journal.proofs.report.counted.Tie as tie
 
 -- the record fits, so the place behind it does
-data-inside : (b : List ℕ) → startsRecord b ≡ true → 27 + length (front b .«data») ≤ length b
-data-inside b e = let s = stands b e in omega (arith, size-within b s, data-within b s)
+data-inside : (b : List ℕ) → Stands b → 27 + length (front b .«data») ≤ length b
+data-inside b s = omega (arith, size-within b s, data-within b s)
 
 one-more-requires : tie.Need-one-more-requires
 one-more-requires c κs =
     let S = c .before .before .before .before .before in
-    let i = c .mode-place .result in
-    let six : length (S .args .r .«by_mode») ≡ 6 = search needs in
-    let inside : i < 6 = rw (c .mode-place .ensures) (mode-below-6 (c .before .mode .result)) in
-    let small = below-at (suc (S .args .place)) (S .args .r .«by_mode») (omega arith) (S .pre .1 .1 .1 .0 .byMode) i in
+    let r = S .args .r in
+    let six : length (r .«by_mode») ≡ 6 = search needs in
+    let small = below-at (suc (S .args .place)) (r .«by_mode») (omega arith) (S .pre .1 .1 .1 .0 .byMode) (c .mode-place .result) in
     (omega arith, omega (arith, data-inside _ (S .pre .0)))
 
 one-more-requires-2 : tie.Need-one-more-requires-2
@@ -30,7 +27,7 @@ one-more-requires-2 c κs =
     (omega (arith, S .pre .1 .0), omega (arith, data-inside _ (S .pre .0)))
 
 returns : tie.Need-returns
-unfolding counted
+unfolding counted front
 returns c =
     let at-data = c .before .before .before in
     let at-answer = at-data .before .before .before .before in
@@ -39,14 +36,14 @@ returns c =
     let r = at-place .before .before .before .before .before .args .r in
     same-report refl
     (at-mode-count .one-more .ensures
-    ∙ ap (λ (i : ℕ). oneMore i (r .«by_mode»)) (at-place .mode-place .ensures ∙ ap modePlace (at-place .before .mode .ensures)))
+    ∙ ap (λ (i : ℕ). oneMore i (r .«by_mode»)) (at-place .mode-place .ensures .0 ∙ ap modePlace (at-place .before .mode .ensures)))
     (at-answer .one-more2 .ensures) (ap (λ (l : List ℕ). r .«bytes_in» + length l) (at-data .«data» .ensures)) refl (c .first-of .ensures)
 
 pub counted-spec : {M : Type 1} → statement M
 counted-spec =
     tie.close (tie.spec (λ c. search needs) (λ c κs. search needs) (λ c κs. search needs) one-more-requires (λ c. search needs)
     (λ c. search needs) one-more-requires-2 (λ c. omega (arith, data-inside)) (λ c κs. search needs)
-    (λ c. omega (arith, data-inside, ap length (c .before .«data» .ensures)))
+    (λ c. unfold front in omega (arith, data-inside, ap length (c .before .«data» .ensures)))
     (λ c.
     let x = c .before .before .before .before .before .before .before .before in
     let S = x .before .before .before .before .before .before .before .before .before in

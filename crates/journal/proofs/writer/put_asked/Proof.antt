@@ -1,10 +1,7 @@
 -- `writer::put_asked` meets its contract: head, label, data and IV, one behind the other.
-use Rattle.block.proofs.Base.{_+_, ℕ, _∙_, _≡_, ap, List, _++_, arith, needs, now, length, length-append}
-use Rattle.walk.specs.Walk.{over}
-use Rattle.walk.proofs.Loop.{over-behind}
-use Rattle.journal.specs.Format.{part}
-use Rattle.journal.specs.Writer.{headOf}
-use Rattle.journal.proofs.Writing.{copied-then, length-part-of, length-head, four-joined}
+use Rattle.journal.proofs.Names.{List, _++_, _+_, _∙_, _≡_, ap, append-assoc, arith, headOf, length, length-append, needs, now, over}
+use Rattle.journal.proofs.Names.{over-behind, part, ℕ}
+use Rattle.journal.proofs.Writing.{copied-then, length-part-of, length-head}
 use Rattle.journal.proofs.writer.put_asked.Statement.{statement}
 use Rattle.journal.proofs.writer.put_asked.Tie as tie
 
@@ -27,11 +24,10 @@ returns c =
     let m : length ((h ++ l) ++ d) ≡ 10 + length (now (a .label)) + 4 + length (now (a .«data»)) =
     omega (arith, length-append (h ++ l) d, n, length-part-of (now (a .«data»))) in
     over-behind ((h ++ l) ++ d) (part (now (a .iv))) (now (a .out)) _ _ _ m second (at-iv .put-part3 .ensures)
-    ∙ ap (λ (x : List ℕ). over x (now (a .out))) (four-joined h l d (part (now (a .iv))))
+    ∙ simp append-assoc
 
 pub put-asked-spec : {M : Type 1} → statement M
-put-asked-spec =
-    tie.close (tie.spec (λ c κs. search needs) (λ c. search needs) (λ c κs. search needs) (λ c. search needs) (λ c. search needs)
-    (λ c. search needs) (λ c κs. search needs) (λ c. search needs) (λ c. search needs) (λ c. search needs) (λ c. search needs)
-    (λ c. search needs) (λ c κs. search needs) (λ c. search needs) (λ c. search needs) (λ c. search needs) (λ c. search needs)
-    (λ c. search needs) (λ c κs. search needs) (λ c. search needs) returns)
+put-asked-spec = tie.close (tie.spec (λ c κs. search needs) (λ c. search needs) (λ c κs. search needs) (λ c. search needs)
+    (λ c. search needs) (λ c. search needs) (λ c κs. search needs) (λ c. search needs) (λ c. search needs) (λ c. search needs)
+    (λ c. search needs) (λ c. search needs) (λ c κs. search needs) (λ c. search needs) (λ c. search needs) (λ c. search needs)
+    (λ c. search needs) (λ c. search needs) (λ c κs. search needs) (λ c. search needs) returns)

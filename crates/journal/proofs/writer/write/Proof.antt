@@ -1,8 +1,7 @@
 -- `writer::write` meets its contract: what is within the limits fits sixteen bits and a few, and no sum wraps; each return is the
 -- definition.
-use Rattle.block.proofs.Base.{_<_, _^_, _∙_, sym, arith, needs, lt-ltb, now, length, length-drop, length-take}
-use Rattle.journal.specs.Format.{Entry, written}
-use Rattle.journal.specs.Writer.{entryOf, write}
+use Rattle.journal.proofs.Names.{Entry, _∙_, arith, entryOf, length, length-drop, length-take, lt-ltb, needs, now, sym, write}
+use Rattle.journal.proofs.Names.{written}
 use Rattle.journal.proofs.Cases.{Short, short}
 use Rattle.journal.proofs.Writing.{length-written, both-put}
 use Rattle.journal.proofs.writer.write.Statement.{statement}
@@ -19,9 +18,6 @@ module _ (x : tie.After-past-limit) where
 
 short-there : (c : tie.Else1) → Short (entry (c .before))
 short-there c = short (entry (c .before)) (sym (c .before .past-limit .ensures) ∙ c .if1 .left)
-
-no-wrap : (c : tie.Else1) → length (written (entry (c .before))) < 2 ^ 17
-no-wrap c = let s = short-there c in omega (arith, s .label, s .«data», s .iv, s .output, length-written (entry (c .before)))
 
 put-answered-requires : tie.Need-put-answered-requires
 put-answered-requires c κs =
@@ -43,9 +39,8 @@ returns-3 c =
 pub write-spec : {M : Type 1} → statement M
 write-spec =
     tie.close (tie.spec (λ c κs. search needs) (λ c. unfold write in rw (sym (c .before .past-limit .ensures) ∙ c .if1 .taken))
-    (λ c. search needs) (λ c. search needs) (λ c. search needs) (λ c. omega (arith, no-wrap c, length-written (entry (c .before))))
-    (λ c. omega (arith, no-wrap c, length-written (entry (c .before)))) (λ c. omega (arith, no-wrap c, length-written (entry (c .before))))
-    (λ c. omega (arith, no-wrap c, length-written (entry (c .before)))) (λ c. omega (arith, no-wrap c, length-written (entry (c .before))))
+    (λ c. search needs) (λ c. search needs) (λ c. search needs) (λ c. omega (arith, short-there c)) (λ c. omega (arith, short-there c))
+    (λ c. omega (arith, short-there c)) (λ c. omega (arith, short-there c)) (λ c. omega (arith, short-there c))
     (λ c.
     let x = c .before .before in
     unfold write in

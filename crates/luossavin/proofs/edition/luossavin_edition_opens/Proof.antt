@@ -1,6 +1,6 @@
 -- `luossavin::edition::luossavin_edition_opens` meets its contract: it asks with one candidate, the label of the job and the edition.
 use Rattle.block.proofs.Base.{ℕ, _∙_, ap, ap₂, List, [], _∷_, needs, now}
-use Rattle.walk.specs.Outcome.{Head}
+use Rattle.cipher_mode.specs.Outcome.{Head}
 use Rattle.cipher_mode.specs.declared.Sm4Cipher.{Sm4Cipher}
 use Rattle.editions.specs.Which.{which}
 use Rattle.label.specs.Label.{labelOf}
@@ -26,7 +26,5 @@ returns c =
     ∙ one-candidate (cipherIn (a .key)) (labelOf (a .job) (a .edition)) file iv (length-label (a .job) (a .edition))
 
 pub luossavin-edition-opens-spec : {M : Type 1} → statement M
-luossavin-edition-opens-spec =
-    tie.close
-    (tie.spec (λ c κs. search needs) (λ c κs. search needs) (λ c. search needs) (λ c. search needs) (λ c κs. search needs)
-    (λ c κs. search needs) returns)
+luossavin-edition-opens-spec = tie.close (tie.spec (λ c κs. search needs) (λ c κs. search needs) (λ c. search needs) (λ c. search needs)
+    (λ c κs. search needs) (λ c κs. search needs) returns)

@@ -7,5 +7,4 @@ use Rattle.luossavin.proofs.halves.luossavin_hash_join.Tie as tie
 
 pub luossavin-hash-join-spec : {M : Type 1} → statement M
 unfolding hostHashJoin
-luossavin-hash-join-spec =
-    tie.close (tie.spec (λ c κs. search needs) (λ c. of-value (c .join .result) (search needs) (c .join .ensures)))
+luossavin-hash-join-spec = tie.close (tie.spec (λ c κs. search needs) (λ c. of-value (c .join .result) (search needs) (c .join .ensures)))

@@ -5,7 +5,5 @@ use Rattle.luossavin.proofs.in_pieces.luossavin_ctr_piece.Statement.{st
 use Rattle.luossavin.proofs.in_pieces.luossavin_ctr_piece.Tie as tie
 
 pub luossavin-ctr-piece-spec : {M : Type 1} → statement M
-luossavin-ctr-piece-spec =
-    tie.close
-    (tie.spec (λ c κs. search needs) (λ c κs. search needs) (λ c. search needs)
+luossavin-ctr-piece-spec = tie.close (tie.spec (λ c κs. search needs) (λ c κs. search needs) (λ c. search needs)
     (λ c. handed-on (c .ctr-step .ensures) (c .before .before .before .piece .ensures)))

@@ -5,6 +5,5 @@ use Rattle.luossavin.proofs.in_pieces.luossavin_opens_piece.Statement.{
 use Rattle.luossavin.proofs.in_pieces.luossavin_opens_piece.Tie as tie
 
 pub luossavin-opens-piece-spec : {M : Type 1} → statement M
-luossavin-opens-piece-spec =
-    tie.close
-    (tie.spec (λ c κs. search needs) (λ c κs. search needs) (λ c. handed-on (c .opens-step .ensures) (c .before .piece .ensures)))
+luossavin-opens-piece-spec = tie.close (tie.spec (λ c κs. search needs) (λ c κs. search needs)
+    (λ c. handed-on (c .opens-step .ensures) (c .before .piece .ensures)))

@@ -7,7 +7,5 @@ use Rattle.luossavin.proofs.in_pieces.luossavin_opens_start.Tie as tie
 
 pub luossavin-opens-start-spec : {M : Type 1} → statement M
 unfolding hostOpensStart
-luossavin-opens-start-spec =
-    tie.close
-    (tie.spec (λ c κs. search needs) (λ c κs. search needs) (λ c κs. search needs)
+luossavin-opens-start-spec = tie.close (tie.spec (λ c κs. search needs) (λ c κs. search needs) (λ c κs. search needs)
     (λ c. handed-on (c .opens-step .ensures) (rw (← c .before .before .cipher-of .ensures) (c .before .start .ensures))))

@@ -5,7 +5,5 @@ use Rattle.luossavin.proofs.in_pieces.luossavin_seal_piece.Statement.{s
 use Rattle.luossavin.proofs.in_pieces.luossavin_seal_piece.Tie as tie
 
 pub luossavin-seal-piece-spec : {M : Type 1} → statement M
-luossavin-seal-piece-spec =
-    tie.close
-    (tie.spec (λ c κs. search needs) (λ c κs. search needs) (λ c. search needs)
+luossavin-seal-piece-spec = tie.close (tie.spec (λ c κs. search needs) (λ c κs. search needs) (λ c. search needs)
     (λ c. handed-on (c .seal-step .ensures) (c .before .before .before .piece .ensures)))

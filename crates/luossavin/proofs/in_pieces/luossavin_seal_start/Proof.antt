@@ -7,7 +7,5 @@ use Rattle.luossavin.proofs.in_pieces.luossavin_seal_start.Tie as tie
 
 pub luossavin-seal-start-spec : {M : Type 1} → statement M
 unfolding hostSealStart
-luossavin-seal-start-spec =
-    tie.close
-    (tie.spec (λ c κs. search needs) (λ c κs. search needs) (λ c κs. search needs)
+luossavin-seal-start-spec = tie.close (tie.spec (λ c κs. search needs) (λ c κs. search needs) (λ c κs. search needs)
     (λ c. handed-on (c .seal-step .ensures) (rw (← c .before .before .cipher-of .ensures) (c .before .start .ensures))))

@@ -40,8 +40,6 @@ returns c =
     (sym (all-made (k .keys) (l .ours) (l .i) (omega arith) (omega arith)) ∙ l .inv .3)
 
 pub keys-of-spec : {M : Type 1} → statement M
-keys-of-spec =
-    tie.close
-    (tie.spec
-    Inv-loop μ-loop (λ c. search needs) (λ c κs. search needs) loop-holds (λ c. omega arith) (λ c. omega arith) (λ c κs. search needs)
-    (λ c. omega arith) (λ c. omega arith) (λ c. omega arith) (λ c. omega arith) loop-again returns)
+keys-of-spec = tie.close (tie.spec Inv-loop μ-loop (λ c. search needs) (λ c κs. search needs) loop-holds (λ c. omega arith)
+    (λ c. omega arith) (λ c κs. search needs) (λ c. omega arith) (λ c. omega arith) (λ c. omega arith) (λ c. omega arith) loop-again
+    returns)

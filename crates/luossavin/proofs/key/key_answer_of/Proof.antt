@@ -6,7 +6,5 @@ use Rattle.luossavin.proofs.key.key_answer_of.Tie as tie
 
 pub key-answer-of-spec : {M : Type 1} → statement M
 unfolding keyAnswerOf
-key-answer-of-spec =
-    tie.close
-    (tie.spec (λ c. rw (c .match .keys1)) (λ c. rw (c .match .keys2))
+key-answer-of-spec = tie.close (tie.spec (λ c. rw (c .match .keys1)) (λ c. rw (c .match .keys2))
     (λ c. rw (ne-eqb _ _ (c .match .rest .0 .1), ne-eqb _ _ (c .match .rest .1))))

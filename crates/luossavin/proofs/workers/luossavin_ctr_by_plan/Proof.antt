@@ -13,6 +13,5 @@ returns c =
     told (c .report-ended .ensures) (rw (← at-way .direction-of .ensures, ← at-way .before .cipher-of .ensures) (at-work .by-plan .ensures))
 
 pub luossavin-ctr-by-plan-spec : {M : Type 1} → statement M
-luossavin-ctr-by-plan-spec =
-    tie.close
-    (tie.spec (λ c κs. search needs) (λ c κs. search needs) (λ c κs. search needs) (λ c κs. search needs) (λ c. search needs) returns)
+luossavin-ctr-by-plan-spec = tie.close (tie.spec (λ c κs. search needs) (λ c κs. search needs) (λ c κs. search needs) (λ c κs. search needs)
+    (λ c. search needs) returns)

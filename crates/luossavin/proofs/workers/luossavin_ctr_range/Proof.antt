@@ -13,6 +13,5 @@ returns c =
     told (c .report .ensures) (rw (← at-way .direction-of .ensures, ← at-way .before .cipher-of .ensures) (at-work .range .ensures))
 
 pub luossavin-ctr-range-spec : {M : Type 1} → statement M
-luossavin-ctr-range-spec =
-    tie.close
-    (tie.spec (λ c κs. search needs) (λ c κs. search needs) (λ c κs. search needs) (λ c κs. search needs) (λ c. search needs) returns)
+luossavin-ctr-range-spec = tie.close (tie.spec (λ c κs. search needs) (λ c κs. search needs) (λ c κs. search needs) (λ c κs. search needs)
+    (λ c. search needs) returns)

@@ -1,6 +1,6 @@
 -- `luossavin::workers::luossavin_plan_make` meets its contract: it hands on the planner's answer and its plan.
 use Rattle.block.proofs.Base.{_∙_, ap, needs}
-use Rattle.walk.specs.Outcome.{Head, refusal}
+use Rattle.cipher_mode.specs.Outcome.{Head, refusal}
 use Rattle.ranges.specs.declared.plan.Planned.{Planned}
 use Rattle.luossavin.specs.Ranges.{Handed, makingHead, hostPlanMake}
 use Rattle.luossavin.proofs.workers.luossavin_plan_make.Statement.{statement}

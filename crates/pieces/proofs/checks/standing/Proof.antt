@@ -1,6 +1,5 @@
 -- `pieces::checks::standing` meets its contract: each return is the definition, by the tests that led there.
-use Rattle.block.proofs.Base.{needs, eq-eqb, ne-eqb}
-use Rattle.pieces.specs.Checks.{standing}
+use Rattle.pieces.proofs.Names.{eq-eqb, ne-eqb, needs, standing}
 use Rattle.pieces.proofs.checks.standing.Statement.{statement}
 use Rattle.pieces.proofs.checks.standing.Tie as tie
 

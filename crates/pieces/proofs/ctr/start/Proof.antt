@@ -1,22 +1,9 @@
 -- `pieces::ctr::start` meets its contract: what the checks refuse is refused, and otherwise the IV is the first counter.
-use Rattle.block.proofs.Base.{_<_, ℕ, _∙_, _≡_, sym, arith, needs, now, getD, length}
-use Rattle.cipher_mode.proofs.Passed.{sixteen, key-and-iv-passed}
-use Rattle.cipher_mode.proofs.Ends.{spelled}
-use Rattle.pieces.specs.declared.flow.Counting.the-variants.{Ctr as Ctr·counting}
-use Rattle.pieces.specs.States.{ctrAfter}
-use Rattle.pieces.specs.Calls.{ctrStart}
+use Rattle.pieces.proofs.Names.{Ctr·counting, _<_, _∙_, _≡_, arith, ctrAfter, ctrStart, getD, key-and-iv-passed, length, needs, now}
+use Rattle.pieces.proofs.Names.{sixteen, spelled, sym, ℕ}
 use Rattle.pieces.proofs.KeyStream.{flow-start}
 use Rattle.pieces.proofs.ctr.start.Statement.{statement}
 use Rattle.pieces.proofs.ctr.start.Tie as tie
-
-returns : tie.Need-returns
-unfolding ctrStart
-returns c =
-    let at-refused = c .before .before in
-    let told = at-refused .before .before in
-    let at-check = told .before .before in
-    rw (← at-check .key-and-iv .ensures, told .checked .given .1, at-refused .refused .ensures, c .shut .ensures)
-    (rw (c .before .number .ensures, at-check .before .number-in .ensures))
 
 passed : (x : tie.After-enum-told) → length (now (x .before .before .before .before .before .args .iv)) ≡ 16
 passed x =
@@ -38,6 +25,12 @@ returns-2 c =
     (rw (← flow-start Ctr·counting (a .cipher .rk) iv, at-number .number-in .ensures))
 
 pub start-spec : {M : Type 1} → statement M
-start-spec = tie.close (tie.spec (search needs) (search needs) (search needs) (search needs) (search needs) (search needs) returns
-    (search needs) (search needs) (search needs) (search needs) (λ c κs. search needs)
-    (λ c κs. let n = passed (c .before .before .before .before .before) in omega arith) (λ c κs. search needs) (search needs) returns-2)
+unfolding ctrStart
+start-spec = tie.close (tie.spec (λ c. search needs) (λ c. search needs) (λ c. search needs) (λ c. search needs) (λ c. search needs)
+    (λ c. search needs)
+    (λ c. let told = c .before .before .before .before in
+    rw (← told .before .before .key-and-iv .ensures, told .checked .given .1, c .before .before .refused .ensures, c .shut .ensures)
+    (rw (c .before .number .ensures, told .before .before .before .number-in .ensures)))
+    (λ c. search needs) (λ c. search needs) (λ c. search needs) (λ c. search needs) (λ c κs. search needs)
+    (λ c κs. let n = passed (c .before .before .before .before .before) in omega arith) (λ c κs. search needs)
+    (λ c. search needs) returns-2)

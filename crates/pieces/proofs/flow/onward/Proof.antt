@@ -1,6 +1,5 @@
 -- `pieces::flow::onward` meets its contract: the stream starts at the next counter, and its end is the flow's.
-use Rattle.block.proofs.Base.{refl, needs}
-use Rattle.pieces.specs.Flow.{flowAfter}
+use Rattle.pieces.proofs.Names.{flowAfter, needs, refl}
 use Rattle.pieces.proofs.Fitting.{spelt}
 use Rattle.pieces.proofs.flow.onward.Statement.{statement}
 use Rattle.pieces.proofs.flow.onward.Tie as tie
@@ -19,5 +18,5 @@ returns c =
     (rw (spelt (S .args .t4) (search (needs, start), λ i. search (needs, start))) (refl, refl)))
 
 pub onward-spec : {M : Type 1} → statement M
-onward-spec = tie.close (tie.spec (search needs) (search needs) (search needs) (search needs) (λ c κs. search needs) (search needs)
-    (search needs) returns)
+onward-spec = tie.close (tie.spec (λ c. search needs) (λ c. search needs) (λ c. search needs) (λ c. search needs) (λ c κs. search needs)
+    (λ c. search needs) (λ c. search needs) returns)

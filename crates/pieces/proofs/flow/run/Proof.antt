@@ -1,9 +1,7 @@
 -- `pieces::flow::run` meets its contract. Where the text does not fill the begun block, its pad is all that is needed
 -- (`text-short`); where it does, what follows stands behind it in the output (`over-behind`).
-use Rattle.block.proofs.Base.{_-_, _∙_, _≡_, refl, arith, needs, le-ltb, lt-ltb, now, drop, length, length-drop}
-use Rattle.block.specs.Xor.{xors}
-use Rattle.walk.proofs.Loop.{tail-is, over-behind}
-use Rattle.pieces.specs.Flow.{flowText, flowNext}
+use Rattle.pieces.proofs.Names.{_-_, _∙_, _≡_, arith, drop, flowNext, flowText, le-ltb, length, length-drop, lt-ltb, needs, now}
+use Rattle.pieces.proofs.Names.{over-behind, refl, tail-is, xors}
 use Rattle.pieces.proofs.Pads.{length-both}
 use Rattle.pieces.proofs.KeyStream.{text-short}
 use Rattle.pieces.proofs.flow.run.Statement.{statement}
@@ -39,5 +37,5 @@ returns-2 c =
     (rw (le-ltb _ _ (at-else .if1 .left)) (onward .0), behind)
 
 pub run-spec : {M : Type 1} → statement M
-run-spec = tie.close (tie.spec (search needs) (search needs) (search needs) returns (search needs) (search needs) (search needs)
-    (search needs) (search needs) (search needs) (λ c κs. search needs) (search needs) returns-2)
+run-spec = tie.close (tie.spec (λ c. search needs) (λ c. search needs) (λ c. search needs) returns (λ c. search needs) (λ c. search needs)
+    (λ c. search needs) (λ c. search needs) (λ c. search needs) (λ c. search needs) (λ c κs. search needs) (λ c. search needs) returns-2)

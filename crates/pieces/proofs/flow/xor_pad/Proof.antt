@@ -1,7 +1,6 @@
 -- `pieces::flow::xor_pad` meets its contract. The loop's invariant: the first i bytes are xored with the pad from place p on,
 -- and the rest of the output is as it was lent.
-use Rattle.block.proofs.Base.{_-_, _≤_, _≡_, refl, _++_, arith, needs, now, drop, length, length-set, take}
-use Rattle.block.specs.Xor.{xors}
+use Rattle.pieces.proofs.Names.{_++_, _-_, _≡_, _≤_, arith, drop, length, length-set, needs, now, refl, take, xors}
 use Rattle.pieces.proofs.Pads.{pad-turn, pad-reached}
 use Rattle.pieces.proofs.flow.xor_pad.Statement.{statement}
 use Rattle.pieces.proofs.flow.xor_pad.Tie as tie
@@ -32,5 +31,6 @@ returns c =
     pad-reached (now (a .«data»)) (a .t1) (now (a .out)) (l .out) (a .p) (l .i) (l .inv .2) (omega arith)
 
 pub xor-pad-spec : {M : Type 1} → statement M
-xor-pad-spec = tie.close (tie.spec Inv-loop μ-loop (omega arith) (search needs) (λ c. (omega arith, refl, refl)) (omega arith)
-    (omega arith) (omega arith) (omega arith) (omega arith) (omega arith) loop-again (omega arith) returns)
+xor-pad-spec = tie.close (tie.spec Inv-loop μ-loop (λ c. omega arith) (λ c. search needs) (λ c. (omega arith, refl, refl))
+    (λ c. omega arith) (λ c. omega arith) (λ c. omega arith) (λ c. omega arith) (λ c. omega arith) (λ c. omega arith) loop-again
+    (λ c. omega arith) returns)

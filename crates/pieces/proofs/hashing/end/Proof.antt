@@ -1,7 +1,5 @@
 -- `pieces::hashing::end` meets its contract: what is held is one block or none, and the length block is behind it.
-use Rattle.block.proofs.Base.{_≡_, sub-zero, arith, needs, length}
-use Rattle.ghash.proofs.Absorbing.{absorbed-both}
-use Rattle.pieces.specs.Hashing.{hashEnd}
+use Rattle.pieces.proofs.Names.{_≡_, absorbed-both, arith, hashEnd, length, needs, sub-zero}
 use Rattle.pieces.proofs.hashing.end.Statement.{statement}
 use Rattle.pieces.proofs.hashing.end.Tie as tie
 
@@ -17,6 +15,6 @@ returns c =
     rw (c .bytes-of .ensures, hashed, sub-zero, at-y .before .number-of .ensures, at-y .number-of2 .ensures)
 
 pub end-spec : {M : Type 1} → statement M
-end-spec = tie.close (tie.spec (search needs) (search needs) (search needs) (search needs)
-    (λ c. let n = held-length (c .before .before .before .before .before .before) in omega arith) (search needs) (search needs)
-    (search needs) returns)
+end-spec = tie.close (tie.spec (λ c. search needs) (λ c. search needs) (λ c. search needs) (λ c. search needs)
+    (λ c. let n = held-length (c .before .before .before .before .before .before) in omega arith) (λ c. search needs) (λ c. search needs)
+    (λ c. search needs) returns)

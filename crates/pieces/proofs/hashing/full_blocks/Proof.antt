@@ -1,9 +1,6 @@
 -- `pieces::hashing::full_blocks` meets its contract: the block, and then the full blocks behind it, are those of both joined
 -- (`full-first`), and what is held is what is begun behind them (`begun-behind`).
-use Rattle.block.proofs.Base.{_%_, _*_, _-_, _/_, _≡_, sub-zero, arith, needs, now, length}
-use Rattle.ghash.proofs.Absorbing.{absorbed-both}
-use Rattle.walk.proofs.Loop.{tail-is}
-use Rattle.pieces.specs.Hashing.{hashAfter}
+use Rattle.pieces.proofs.Names.{_%_, _*_, _-_, _/_, _≡_, absorbed-both, arith, hashAfter, length, needs, now, sub-zero, tail-is}
 use Rattle.pieces.proofs.Begun.{begun-behind}
 use Rattle.pieces.proofs.HashOn.{full-first}
 use Rattle.pieces.proofs.hashing.full_blocks.Statement.{statement}
@@ -27,5 +24,6 @@ returns c =
     (rw (begun-behind _ d 1 (first-length S), at-y .before .number-of .ensures, at-y .number-of2 .ensures))
 
 pub full-blocks-spec : {M : Type 1} → statement M
-full-blocks-spec = tie.close (tie.spec (search needs) (search needs) (search needs) (search needs) (search needs) (search needs)
-    (search needs) (search needs) (search needs) (search needs) (search needs) (search needs) (search needs) (search needs) returns)
+full-blocks-spec = tie.close (tie.spec (λ c. search needs) (λ c. search needs) (λ c. search needs) (λ c. search needs) (λ c. search needs)
+    (λ c. search needs) (λ c. search needs) (λ c. search needs) (λ c. search needs) (λ c. search needs) (λ c. search needs)
+    (λ c. search needs) (λ c. search needs) (λ c. search needs) returns)

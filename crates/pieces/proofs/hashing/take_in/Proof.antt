@@ -1,8 +1,6 @@
 -- `pieces::hashing::take_in` meets its contract. Where the text does not fill the begun block, all is held (`held-within`);
 -- where it does, the first block and what is behind it are what was held and the text (`filled-full`).
-use Rattle.block.proofs.Base.{_-_, _<_, _++_, arith, needs, now, length, length-append, take, length-take-le}
-use Rattle.walk.proofs.Loop.{tail-is}
-use Rattle.pieces.specs.Hashing.{hashNext}
+use Rattle.pieces.proofs.Names.{_++_, _-_, _<_, arith, hashNext, length, length-append, length-take-le, needs, now, tail-is, take}
 use Rattle.pieces.proofs.Filling.{filled-full}
 use Rattle.pieces.proofs.Fitting.{Sixteen, are-bytes}
 use Rattle.pieces.proofs.HashOn.{held-within}
@@ -37,5 +35,5 @@ returns-2 c =
     rw (c .full-blocks .ensures, tail-is d (16 - a .p), at-filled .filled .ensures, filled-full _ d (a .p) p (omega arith) (omega arith))
 
 pub take-in-spec : {M : Type 1} → statement M
-take-in-spec = tie.close (tie.spec (search needs) (search needs) returns (search needs) (search needs) (search needs) (search needs)
-    returns-2)
+take-in-spec = tie.close (tie.spec (λ c. search needs) (λ c. search needs) returns (λ c. search needs) (λ c. search needs)
+    (λ c. search needs) (λ c. search needs) returns-2)

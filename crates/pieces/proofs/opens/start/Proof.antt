@@ -1,27 +1,9 @@
 -- `pieces::opens::start` meets its contract: what the checks refuse is refused, and otherwise the label's hash and the cipher of J0
 -- are `tagging::begin`'s.
-use Rattle.block.proofs.Base.{_∙_, sym, needs}
-use Rattle.cipher_mode.proofs.Passed.{iv-twelve-or-sixteen}
-use Rattle.pieces.specs.States.{opensAfter}
-use Rattle.pieces.specs.Calls.{opensStart}
+use Rattle.pieces.proofs.Names.{_∙_, iv-twelve-or-sixteen, needs, opensAfter, opensStart, sym}
 use Rattle.pieces.proofs.Passing.{starting-passed}
 use Rattle.pieces.proofs.opens.start.Statement.{statement}
 use Rattle.pieces.proofs.opens.start.Tie as tie
-
-returns : tie.Need-returns
-unfolding opensStart
-returns c =
-    let at-refused = c .before .before in
-    let told = at-refused .before .before in
-    let at-check = told .before .before in
-    rw (← at-check .gcm-start .ensures, told .checked .given .1, at-refused .refused .ensures, c .shut .ensures)
-    (rw (c .before .number .ensures, at-check .before .number-in .ensures))
-
-begin-requires : tie.Need-begin-requires
-begin-requires c κs =
-    let told = c .before .before .before .before .before in
-    let in-order = starting-passed _ _ _ _ _ (sym (told .before .before .gcm-start .ensures) ∙ told .enum-told .given .1) in
-    (c .lent .ensures .0, iv-twelve-or-sixteen _ (in-order .taken))
 
 returns-2 : tie.Need-returns-2
 unfolding opensStart opensAfter
@@ -34,5 +16,14 @@ returns-2 c =
     (rw (at-check .before .number-in .ensures))
 
 pub start-spec : {M : Type 1} → statement M
-start-spec = tie.close (tie.spec (search needs) (search needs) (search needs) (search needs) (search needs) (search needs) returns
-    (search needs) (search needs) (search needs) (search needs) (λ c κs. search needs) begin-requires (search needs) returns-2)
+unfolding opensStart
+start-spec = tie.close (tie.spec (λ c. search needs) (λ c. search needs) (λ c. search needs) (λ c. search needs) (λ c. search needs)
+    (λ c. search needs)
+    (λ c. let told = c .before .before .before .before in
+    rw (← told .before .before .gcm-start .ensures, told .checked .given .1, c .before .before .refused .ensures, c .shut .ensures)
+    (rw (c .before .number .ensures, told .before .before .before .number-in .ensures)))
+    (λ c. search needs) (λ c. search needs) (λ c. search needs) (λ c. search needs) (λ c κs. search needs)
+    (λ c κs. let told = c .before .before .before .before .before in
+    let iv = starting-passed _ _ _ _ _ (sym (told .before .before .gcm-start .ensures) ∙ told .enum-told .given .1) .taken in
+    (c .lent .ensures .0, iv-twelve-or-sixteen _ iv))
+    (λ c. search needs) returns-2)

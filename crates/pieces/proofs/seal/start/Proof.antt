@@ -1,32 +1,11 @@
 -- `pieces::seal::start` meets its contract: what the checks refuse is refused, and otherwise the flow is at the counter after J0,
 -- and J0, the label's hash and the cipher of J0 are `tagging::begin`'s.
-use Rattle.block.proofs.Base.{_∙_, sym, needs, now}
-use Rattle.counter.specs.Counter.{gcmNext}
-use Rattle.gcm.specs.Gcm.{J0}
-use Rattle.cipher_mode.proofs.Passed.{iv-twelve-or-sixteen}
-use Rattle.pieces.specs.declared.flow.Counting.the-variants.{Gcm as Gcm·counting}
-use Rattle.pieces.specs.States.{sealAfter}
-use Rattle.pieces.specs.Calls.{sealStart}
+use Rattle.pieces.proofs.Names.{Gcm·counting, J0, _∙_, gcmNext, iv-twelve-or-sixteen, needs, now, sealAfter, sealStart, sym}
 use Rattle.pieces.proofs.KeyStream.{flow-start}
 use Rattle.pieces.proofs.Passing.{starting-passed}
 use Rattle.pieces.proofs.Sealing.{no-text}
 use Rattle.pieces.proofs.seal.start.Statement.{statement}
 use Rattle.pieces.proofs.seal.start.Tie as tie
-
-returns : tie.Need-returns
-unfolding sealStart
-returns c =
-    let at-refused = c .before .before in
-    let told = at-refused .before .before in
-    let at-check = told .before .before in
-    rw (← at-check .gcm-start .ensures, told .checked .given .1, at-refused .refused .ensures, c .shut .ensures)
-    (rw (c .before .number .ensures, at-check .before .number-in .ensures))
-
-begin-requires : tie.Need-begin-requires
-begin-requires c κs =
-    let told = c .before .before .before .before .before in
-    let in-order = starting-passed _ _ _ _ _ (sym (told .before .before .gcm-start .ensures) ∙ told .enum-told .given .1) in
-    (c .before .lent .ensures .0, iv-twelve-or-sixteen _ (in-order .taken))
 
 returns-2 : tie.Need-returns-2
 unfolding sealStart sealAfter
@@ -43,6 +22,14 @@ returns-2 c =
     (rw (← flow-start Gcm·counting (a .cipher .rk) (gcmNext j), no-text (a .cipher .rk) j, at-check .before .number-in .ensures)))
 
 pub start-spec : {M : Type 1} → statement M
-start-spec = tie.close (tie.spec (search needs) (search needs) (search needs) (search needs) (search needs) (search needs) returns
-    (search needs) (search needs) (search needs) (search needs) (λ c κs. search needs) begin-requires (search needs) (λ c κs. search needs)
-    (search needs) returns-2)
+unfolding sealStart
+start-spec = tie.close (tie.spec (λ c. search needs) (λ c. search needs) (λ c. search needs) (λ c. search needs) (λ c. search needs)
+    (λ c. search needs)
+    (λ c. let told = c .before .before .before .before in
+    rw (← told .before .before .gcm-start .ensures, told .checked .given .1, c .before .before .refused .ensures, c .shut .ensures)
+    (rw (c .before .number .ensures, told .before .before .before .number-in .ensures)))
+    (λ c. search needs) (λ c. search needs) (λ c. search needs) (λ c. search needs) (λ c κs. search needs)
+    (λ c κs. let told = c .before .before .before .before .before in
+    let iv = starting-passed _ _ _ _ _ (sym (told .before .before .gcm-start .ensures) ∙ told .enum-told .given .1) .taken in
+    (c .before .lent .ensures .0, iv-twelve-or-sixteen _ iv))
+    (λ c. search needs) (λ c κs. search needs) (λ c. search needs) returns-2)

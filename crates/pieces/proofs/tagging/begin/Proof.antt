@@ -1,7 +1,6 @@
 -- `pieces::tagging::begin` meets its contract: H and J0 are those of the keys and the IV, and J0's last word is the number in its last four
 -- bytes.
-use Rattle.block.proofs.Base.{refl, needs, getD, w32, Fits}
-use Rattle.counter.proofs.Steps.{last-four}
+use Rattle.pieces.proofs.Names.{Fits, getD, last-four, needs, refl, w32}
 use Rattle.pieces.proofs.tagging.begin.Statement.{statement}
 use Rattle.pieces.proofs.tagging.begin.Tie as tie
 
@@ -14,5 +13,5 @@ returns c =
     (rw (at-counter .before .hash-key .ensures) (refl, (refl, (refl, refl))))
 
 pub begin-spec : {M : Type 1} → statement M
-begin-spec = tie.close (tie.spec (λ c κs. search needs) (λ c κs. c .before .before .before .before .pre .1) (search needs) (search needs)
-    (λ c κs. search needs) returns)
+begin-spec = tie.close (tie.spec (λ c κs. search needs) (λ c κs. c .before .before .before .before .pre .1) (λ c. search needs)
+    (λ c. search needs) (λ c κs. search needs) returns)

@@ -1,11 +1,7 @@
 -- `ranges::by_plan::by_plan` meets its contract: where the key, the IV or the length refused, or the plan is not accepted, or the room is
 -- short, so says the definition; where none did, the pieces gave what the single call gives.
-use Rattle.block.proofs.Base.{_∙_, _≡_, sym, zero-add, needs, le-ltb, lt-ltb, not-false, now, length}
-use Rattle.stream.specs.declared.Kind.the-variants.{Ctr}
-use Rattle.stream.proofs.RoundTrip.{length-stream}
-use Rattle.cipher_mode.specs.declared.checks.Checked.the-variants.{Passed}
-use Rattle.ranges.specs.Range.{reachCheck}
-use Rattle.ranges.specs.ByPlan.{planCall}
+use Rattle.ranges.proofs.Names.{Ctr, Passed, _∙_, _≡_, le-ltb, length, length-stream, lt-ltb, needs, not-false, now, planCall}
+use Rattle.ranges.proofs.Names.{reachCheck, sym, zero-add}
 use Rattle.ranges.proofs.Passed.{reach-passed}
 use Rattle.ranges.proofs.by_plan.by_plan.Statement.{statement}
 use Rattle.ranges.proofs.by_plan.by_plan.Tie as tie
@@ -14,20 +10,6 @@ passed : (x : tie.After-enum-told)
     → let a = x .before .before .before .before .before .before .before .args in
     reachCheck (a .cipher .answer) (a .cipher .retired) (a .direction) (length (now (a .iv))) (length (now (a .«data»))) ≡ Passed
 passed x = sym (rw zero-add at (x .before .before .reach .ensures)) ∙ x .enum-told .given .1
-
-returns-2 : tie.Need-returns-2
-unfolding planCall
-returns-2 c =
-    let told = c .before .before in
-    rw (passed told, ← c .before .accepts .ensures, c .if1 .taken, told .before .before .before .number-in .ensures)
-
-returns-3 : tie.Need-returns-3
-unfolding planCall
-returns-3 c =
-    let at-accepts = c .before .before in
-    let told = at-accepts .before in
-    rw (passed told, ← at-accepts .accepts .ensures, c .before .if1 .left, lt-ltb _ _ (c .if2 .taken))
-    (rw (told .before .before .before .number-in .ensures))
 
 pieces-by-requires : tie.Need-pieces-by-requires
 pieces-by-requires c κs =
@@ -50,7 +32,13 @@ returns-4 c =
 
 pub by-plan-spec : {M : Type 1} → statement M
 unfolding planCall
-by-plan-spec = tie.close (tie.spec (search needs) (search needs) (search needs)
+by-plan-spec = tie.close (tie.spec (λ c. search needs) (λ c. search needs) (λ c. search needs)
     (λ c. let at-reach = c .before .before .before in rw (← (rw zero-add at (at-reach .reach .ensures)), c .before .checked .given .1)
     (rw (at-reach .before .number-in .ensures)))
-    (search needs) (search needs) returns-2 returns-3 pieces-by-requires (search needs) returns-4)
+    (λ c. search needs) (λ c. search needs)
+    (λ c. let told = c .before .before in rw (passed told, ← c .before .accepts .ensures, c .if1 .taken)
+    (rw (told .before .before .before .number-in .ensures)))
+    (λ c. let told = c .before .before .before in
+    rw (passed told, ← c .before .before .accepts .ensures, c .before .if1 .left, lt-ltb _ _ (c .if2 .taken))
+    (rw (told .before .before .before .number-in .ensures)))
+    pieces-by-requires (λ c. search needs) returns-4)

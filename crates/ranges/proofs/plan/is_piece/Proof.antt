@@ -1,6 +1,5 @@
 -- `plan::is_piece` meets its contract: each return is the tests that led to it.
-use Rattle.block.proofs.Base.{needs, eq-eqb, le-leb, lt-leb, ne-eqb}
-use Rattle.ranges.specs.Plan.{isPiece}
+use Rattle.ranges.proofs.Names.{eq-eqb, isPiece, le-leb, lt-leb, ne-eqb, needs}
 use Rattle.ranges.proofs.plan.is_piece.Statement.{statement}
 use Rattle.ranges.proofs.plan.is_piece.Tie as tie
 

@@ -1,5 +1,5 @@
 -- `plan::start_at` meets its contract: each branch is the test that led to it.
-use Rattle.block.proofs.Base.{le-ltb, lt-ltb}
+use Rattle.ranges.proofs.Names.{le-ltb, lt-ltb}
 use Rattle.ranges.proofs.plan.start_at.Statement.{statement}
 use Rattle.ranges.proofs.plan.start_at.Tie as tie
 

@@ -1,16 +1,9 @@
 -- `ranges::range::put_stretch` meets its contract: the flow begins at the counter that is jumped to, and from there on gives the stretch
 -- (`jumped`).
-use Rattle.block.proofs.Base.{_<_, ℕ, arith, needs, now, getD}
-use Rattle.block.proofs.Entries.{below-each}
-use Rattle.cipher_mode.proofs.Ends.{spelled}
+use Rattle.ranges.proofs.Names.{_<_, arith, below-each, getD, lit<, mod-lt, needs, now, spelled, ℕ}
 use Rattle.ranges.proofs.Jumped.{jumped}
 use Rattle.ranges.proofs.range.put_stretch.Statement.{statement}
 use Rattle.ranges.proofs.range.put_stretch.Tie as tie
-
-run-requires : tie.Need-run-requires
-run-requires c κs =
-    let S = c .before .before .before .before .before .before .before .before in
-    (S .pre .0, (omega arith, S .pre .1 .1))
 
 returns : tie.Need-returns
 returns c =
@@ -27,4 +20,6 @@ returns c =
     rw (at-run .run .ensures .1, at-begin .begin .ensures, at-begin .before .jump .ensures, is-iv, stretched)
 
 pub put-stretch-spec : {M : Type 1} → statement M
-put-stretch-spec = tie.close (tie.spec (search needs) (search needs) (λ c κs. search needs) run-requires (search needs) returns)
+put-stretch-spec = tie.close (tie.spec (λ c. search needs) (λ c. search needs) (λ c κs. search needs)
+    (λ c κs. let S = c .before .before .before .before .before .before .before .before in (S .pre .0, (mod-lt _ (lit< tt), S .pre .1 .1)))
+    (λ c. search needs) returns)

@@ -1,41 +1,37 @@
 -- `ranges::range::range` meets its contract: where the key, the IV, the end of the stretch or the room refused, so does the definition;
 -- where they did not, the stretch was written and is as long as the data.
-use Rattle.block.proofs.Base.{_+_, _∙_, _≡_, sym, needs, le-ltb, lt-ltb, now, length}
-use Rattle.cipher_mode.specs.declared.checks.Checked.the-variants.{Passed}
-use Rattle.ranges.specs.Range.{reachCheck, rangeCheck, rangeCall}
-use Rattle.ranges.proofs.Passed.{reach-passed}
+use Rattle.ranges.proofs.Names.{_∙_, _≡_, length, needs, now, rangeCall, rangeCheck, sym}
+use Rattle.ranges.proofs.Passed.{range-passed}
 use Rattle.ranges.proofs.Jumped.{length-stretch}
 use Rattle.ranges.proofs.range.range.Statement.{statement}
 use Rattle.ranges.proofs.range.range.Tie as tie
 
-passed : (x : tie.After-enum-told)
+-- all checks together are the definition's
+checks : (x : tie.After-and-then)
     → let a = x .before .before .before .before .before .before .before .args in
-    let end = a .offset + length (now (a .«data»)) in
-    reachCheck (a .cipher .answer) (a .cipher .retired) (a .direction) (length (now (a .iv))) end ≡ Passed
-passed x = sym (x .before .before .reach .ensures) ∙ x .enum-told .given .1
+    x .and-then .result
+    ≡ rangeCheck (a .cipher .answer) (a .cipher .retired) (a .direction) (length (now (a .iv))) (a .offset) (length (now (a .«data»)))
+    (length (now (a .out)))
+unfolding rangeCheck
+checks x = rw (x .and-then .ensures, x .before .refuse .ensures, x .before .before .reach .ensures)
 
 returns-2 : tie.Need-returns-2
-unfolding rangeCall rangeCheck
+unfolding rangeCall
 returns-2 c =
-    let told = c .before .before in
-    rw (passed told, lt-ltb _ _ (c .before .if1 .taken), c .refused2 .ensures, told .before .before .before .number-in .ensures)
-
-returns-3 : tie.Need-returns-3
-unfolding rangeCall rangeCheck
-returns-3 c =
     let at-work = c .before .before .before in
-    let at-room = at-work .before .before .before in
-    let told = at-room .before in
-    let at-number = told .before .before .before in
+    let told = at-work .before .before .before in
+    let at-number = told .before .before .before .before .before in
     let a = at-number .before .before .before .before .args in
-    rw (passed told, le-ltb _ _ (at-room .if1 .left), c .done .ensures, at-work .stretch-by .ensures)
+    rw (← checks (told .before .before), told .enum-told .given .1, c .done .ensures, at-work .stretch-by .ensures)
     (rw (length-stretch (a .cipher .rk) (now (a .iv)) (a .offset) (now (a .«data»)), at-number .number-in .ensures))
 
 pub range-spec : {M : Type 1} → statement M
-unfolding rangeCall rangeCheck
-range-spec = tie.close (tie.spec (search needs) (search needs) (search needs) (search needs)
-    (λ c. let told = c .before .before in rw (← told .before .before .reach .ensures, told .checked .given .1)
-    (rw (c .refused .ensures, told .before .before .before .number-in .ensures)))
-    (search needs) (search needs) returns-2
-    (λ c κs. (reach-passed _ _ _ _ _ (passed (c .before .before .before)), c .before .before .if1 .left)) (search needs) (search needs)
-    returns-3)
+unfolding rangeCall
+range-spec = tie.close (tie.spec (λ c. search needs) (λ c. search needs) (λ c. search needs) (λ c. search needs) (λ c. search needs)
+    (λ c. search needs)
+    (λ c. let told = c .before .before in rw (← checks (told .before .before), told .checked .given .1, c .refused .ensures)
+    (rw (told .before .before .before .before .before .number-in .ensures)))
+    (λ c. search needs)
+    (λ c κs. let told = c .before .before in range-passed _ _ _ _ _ _ _ (sym (checks (told .before .before)) ∙ told .enum-told .given .1))
+    (λ c. search needs)
+    (λ c. search needs) returns-2)

@@ -1,6 +1,6 @@
 -- `records::is_current_of` meets its contract.
 
-use Rattle.block.proofs.Base.{needs}
+use Rattle.shelf.proofs.Names.{needs}
 use Rattle.shelf.proofs.records.is_current_of.Statement.{statement}
 use Rattle.shelf.proofs.records.is_current_of.Tie as tie
 

@@ -1,6 +1,5 @@
 -- `records::number` meets its contract.
-use Rattle.block.proofs.Base.{arith, needs}
-use Rattle.block.specs.BigEndian.{numberOf}
+use Rattle.shelf.proofs.Names.{arith, needs, numberOf}
 use Rattle.shelf.proofs.records.number.Statement.{statement}
 use Rattle.shelf.proofs.records.number.Tie as tie
 

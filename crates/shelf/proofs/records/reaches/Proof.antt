@@ -1,5 +1,5 @@
 -- `records::reaches` meets its contract.
-use Rattle.block.proofs.Base.{eq-eqb, ne-eqb}
+use Rattle.shelf.proofs.Names.{eq-eqb, ne-eqb}
 use Rattle.shelf.proofs.records.reaches.Statement.{statement}
 use Rattle.shelf.proofs.records.reaches.Tie as tie
 

@@ -1,9 +1,7 @@
 -- `sixteen::rounds::half` meets its contract: two words side by side have no bit in common (`shl-or`).
-use Rattle.block.proofs.Base.{arith, needs}
-use Rattle.block.proofs.Shift.{shl-or}
+use Rattle.sixteen.proofs.Names.{arith, needs, shl-or}
 use Rattle.sixteen.proofs.rounds.half.Statement.{statement}
 use Rattle.sixteen.proofs.rounds.half.Tie as tie
 
 pub half-spec : {M : Type 1} → statement M
-half-spec = tie.close (tie.spec
-    (λ c. (shl-or 64 32 32 (c .args .high) (c .args .low) (omega arith) (search needs) (search needs), c .fits .low .fits)))
+half-spec = tie.close (tie.spec (λ c. search (needs, shl-or)))

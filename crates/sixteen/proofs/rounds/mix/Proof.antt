@@ -1,39 +1,23 @@
 -- `sixteen::rounds::mix` meets its contract. The loop's invariant: the first j words are changed, the others are as they were.
-use Rattle.block.proofs.Base.{_+_, _-_, _≤_, ℕ, _≡_, ap₂, refl, arith, needs, getD, length}
-use Rattle.block.specs.Xor.{_⊕_}
-use Rattle.cipher.specs.Sm4.{L}
-use Rattle.sixteen.specs.Blocks.{row, Changed}
+use Rattle.sixteen.proofs.Names.{Changed, L, _+_, _-_, _≡_, _≤_, _⊕_, ap₂, arith, getD, length, needs, next8, refl, row, ℕ}
 use Rattle.sixteen.proofs.Filling.{changed-next}
 use Rattle.sixteen.proofs.rounds.mix.Statement.{statement}
 use Rattle.sixteen.proofs.rounds.mix.Tie as tie
 
-abbrev Inv-loop : tie.InvT-loop
-Inv-loop x₀ i s n a j₀ x j = (j ≤ n) × (length x ≡ 256) × Changed (row i) j (λ k. getD x₀ (row i + k) 0 ⊕ L (getD s k 0)) x₀ x
-
-abbrev μ-loop : tie.MeasureT-loop
-μ-loop x₀ i s n a j₀ x j = n - j
-
-loop-holds : tie.Need-loop-holds Inv-loop μ-loop
-loop-holds c = (search needs, search needs, record { new = λ j h. absurd (omega arith); below = λ p h. refl; above = λ p h. refl })
-
-loop-again : tie.Need-loop-again Inv-loop μ-loop
-loop-again c =
+pub mix-spec : {M : Type 1} → statement M
+mix-spec = tie.close (next8 (tie.spec
+    (λ x₀ i s n a j₀ x j. (j ≤ n) × (length x ≡ 256) × Changed (row i) j (λ k. getD x₀ (row i + k) 0 ⊕ L (getD s k 0)) x₀ x)
+    (λ x₀ i s n a j₀ x j. n - j)) (omega arith) (λ c. search needs) (λ c. search needs) (λ c. search needs) (λ c. search needs)
+    (λ c. search needs)
+    (λ c.
     let l = c .before .before .before .before .loop in
     let a = c .before .before .before .before .before .args in
-    let r = row (a .i) in (
-      omega arith,
-      search needs,
-      changed-next r (l .j) _ _ (a .x .now) (l .x) (omega arith)
-          (ap₂ (λ (x y : ℕ). x ⊕ y) (l .inv .2 .above (r + l .j) (omega arith)) (c .l-trans .ensures)) (l .inv .2),
-    )
-
-returns : tie.Need-returns Inv-loop μ-loop
-returns c =
+    let r = row (a .i) in
+    let next =
+    changed-next r (l .j) _ _ (a .x .now) (l .x) (omega arith)
+    (ap₂ (λ (x y : ℕ). x ⊕ y) (l .inv .2 .above (r + l .j) (omega arith)) (c .l-trans .ensures)) (l .inv .2) in
+    (omega arith, search needs, next))
+    (λ c.
     let l = c .before .loop in
     let C = l .inv .2 in
-    (record { new = λ j h. C .new j (omega arith); below = C .below; above = λ p h. C .above p (omega arith) }, l .inv .1)
-
-pub mix-spec : {M : Type 1} → statement M
-mix-spec = tie.close (tie.spec Inv-loop μ-loop (λ c. search needs) loop-holds (λ c. search needs) (λ c. search needs) (λ c. search needs)
-    (λ c. search needs) (λ c. search needs) (λ c κs. search needs) (λ c. search needs) (λ c. search needs) (λ c. search needs)
-    (λ c. search needs) (λ c. search needs) loop-again returns)
+    (record { new = λ j h. C .new j (omega arith); below = C .below; above = λ p h. C .above p (omega arith) }, l .inv .1)))

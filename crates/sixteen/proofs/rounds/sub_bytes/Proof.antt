@@ -1,16 +1,8 @@
 -- `sixteen::rounds::sub_bytes` meets its contract: the S-box in every lane of the transposed bytes (`all-subbed`).
-use Rattle.block.proofs.Base.{needs}
+use Rattle.sixteen.proofs.Names.{needs}
 use Rattle.sixteen.proofs.Bytes.{all-subbed}
 use Rattle.sixteen.proofs.rounds.sub_bytes.Statement.{statement}
 use Rattle.sixteen.proofs.rounds.sub_bytes.Tie as tie
 
-returns : tie.Need-returns
-returns c =
-    let at-transpose = c .before .before in
-    let S = at-transpose .before in
-    let t = at-transpose .transpose in
-    let s = c .before .sbox in
-    all-subbed (S .args .w) (t .result) (s .result) (c .transpose2 .result) (t .ensures) (s .ensures) (c .transpose2 .ensures)
-
 pub sub-bytes-spec : {M : Type 1} → statement M
-sub-bytes-spec = tie.close (tie.spec (λ c κs. search needs) (λ c κs. search needs) (λ c κs. search needs) returns)
+sub-bytes-spec = tie.close (tie.spec (λ c κs. search needs) (λ c κs. search needs) (λ c κs. search needs) (λ c. search (needs, all-subbed)))

@@ -1,27 +1,16 @@
 -- `sliced::counters::count` meets its contract: in each lane the last word of c and the lane's number are added, and what is carried to
--- the other words (`lanes-count`).
-use Rattle.block.proofs.Base.{_^_, ℕ, needs, getD, replicate, w32, Fits}
-use Rattle.block.specs.Below.{AreWords}
-use Rattle.block.proofs.Entries.{below-each}
-use Rattle.lanes.proofs.Masks.{blank-room}
-use Rattle.sliced.specs.Counting.{numberAt, carryAt}
-use Rattle.sliced.proofs.CounterDigits.{added-number, added-carry, lanes-count, in-words}
+-- the other words (`lanes-counted`).
+use Rattle.sliced.proofs.Names.{AreWords, Fits, _^_, below-each, blank-room, carryAt, getD, needs, numberAt, replicate, w32, ℕ}
+use Rattle.sliced.proofs.CounterDigits.{added-number, added-carry, lanes-counted}
 use Rattle.sliced.proofs.counters.count.Statement.{statement}
 use Rattle.sliced.proofs.counters.count.Tie as tie
 
 pub count-spec : {M : Type 1} → statement M
-count-spec =
-    tie.close
-    (tie.spec
+count-spec = tie.close (tie.spec
     (λ c κs. search needs) (λ c. search needs) (λ c κs. search needs) (λ c κs. search needs) (λ c. search needs)
-    (λ c κs. let x = c .before .before .before .before .before .before .pre .2 in (search needs, x .0, λ p h. x .1 p)) (λ c. search needs)
-    (λ c κs.
-    let x = c .before .before .before .before .before .before .before .before .pre .1 in
-    (search needs, x .0, λ p h. x .1 p))
-    (λ c. search needs)
-    (λ c κs.
-    let x = c .before .before .before .before .before .before .before .before .before .before .pre .0 in
-    (search needs, x .0, λ p h. x .1 p))
+    (λ c κs. search (needs, c .before .before .before .before .before .before .pre .2 .1)) (λ c. search needs)
+    (λ c κs. search (needs, c .before .before .before .before .before .before .before .before .pre .1 .1)) (λ c. search needs)
+    (λ c κs. search (needs, c .before .before .before .before .before .before .before .before .before .before .pre .0 .1))
     (λ c.
     let W0 = c .add-word4 in
     let at1 = c .before .before in
@@ -40,13 +29,9 @@ count-spec =
     let fits : (i : ℕ) → Fits w32 (getD x i 0) = λ i. search (needs, S .good .1 .0) in
     let small : AreWords x = below-each (2 ^ 32) x (λ i. fits i .fits) in (
       λ e he.
-          in-words _ _ _ _ _ e
-          (lanes-count (a .wide) x (W0 .last .0) (W1 .last .0) (W2 .last .0) (W3 .last .0) (W3 .result) (K .result)
-          (numberAt e) e small (K .ensures) (carryAt (W0 .result) e) (carryAt (W1 .result) e) (carryAt (W2 .result) e)
-          (added-number (getD x 3 0) (N .last .0) (replicate 8 0) (W3 .last .0) (W3 .result) (numberAt e) e (W3 .ensures .0) he
-          (N .ensures .0 e he) (blank-room 8))
-          (added-carry (getD x 2 0) (a .x2 .now) (K .result) (W2 .last .0) (W2 .result) e (W2 .ensures .0) he (S .pre .2 .1))
-          (added-carry (getD x 1 0) (a .x1 .now) (W2 .result) (W1 .last .0) (W1 .result) e (W1 .ensures .0) he (S .pre .1 .1))
-          (added-carry (getD x 0 0) (a .x0 .now) (W1 .result) (W0 .last .0) (W0 .result) e (W0 .ensures .0) he (S .pre .0 .1))),
+          lanes-counted x _ _ _ _ (W3 .result) (K .result) (numberAt e) e _ _ _ small
+          (added-number _ _ _ _ _ (numberAt e) e (W3 .ensures .0) he (N .ensures .0 e he) (blank-room 8))
+          (added-carry _ _ _ _ _ e (W2 .ensures .0) he (S .pre .2 .1)) (added-carry _ _ _ _ _ e (W1 .ensures .0) he (S .pre .1 .1))
+          (added-carry _ _ _ _ _ e (W0 .ensures .0) he (S .pre .0 .1)) (a .wide) (K .ensures),
       (W0 .ensures .1, W1 .ensures .1, W2 .ensures .1, W3 .ensures .1),
     )))

@@ -1,19 +1,12 @@
 -- `sliced::counters::encrypt_counters` meets its contract: the lanes are the words of the counters, and once they are encrypted the rows
 -- are those of their ciphers.
-use Rattle.block.proofs.Base.{ℕ, _∙_, ap, List, arith, needs}
-use Rattle.block.specs.Words.{words, unwords}
-use Rattle.cipher.specs.Sm4.{encryptBlock}
-use Rattle.counter.specs.Counter.{jumped}
-use Rattle.rows.specs.Rows.{place}
-use Rattle.lanes.proofs.Masks.{blank-room}
+use Rattle.sliced.proofs.Names.{List, _∙_, ap, arith, blank-room, encryptBlock, jumped, needs, place, unwords, words, ℕ}
 use Rattle.sliced.proofs.LaneNumbers.{number-place}
 use Rattle.sliced.proofs.counters.encrypt_counters.Statement.{statement}
 use Rattle.sliced.proofs.counters.encrypt_counters.Tie as tie
 
 pub encrypt-counters-spec : {M : Type 1} → statement M
-encrypt-counters-spec =
-    tie.close
-    (tie.spec
+encrypt-counters-spec = tie.close (tie.spec
     (λ c κs. search needs) (λ c κs. search (needs, blank-room)) (λ c κs. search needs) (λ c κs. search needs) (λ c. search needs)
     (λ c. unfold encryptBlock in
     let at-store = c .before .before in

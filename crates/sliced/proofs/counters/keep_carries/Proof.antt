@@ -1,6 +1,5 @@
 -- `sliced::counters::keep_carries` meets its contract: what is not kept is 0.
-use Rattle.block.proofs.Base.{refl}
-use Rattle.lanes.proofs.Masks.{blank-room}
+use Rattle.sliced.proofs.Names.{blank-room, refl}
 use Rattle.sliced.proofs.counters.keep_carries.Statement.{statement}
 use Rattle.sliced.proofs.counters.keep_carries.Tie as tie
 

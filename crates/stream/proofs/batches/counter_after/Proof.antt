@@ -1,5 +1,5 @@
 -- `stream::batches::counter_after` meets its contract: each kind of counter has its own jump.
-use Rattle.block.proofs.Base.{needs}
+use Rattle.stream.proofs.Names.{needs}
 use Rattle.stream.proofs.batches.counter_after.Statement.{statement}
 use Rattle.stream.proofs.batches.counter_after.Tie as tie
 

@@ -1,38 +1,19 @@
 -- `stream::few::lay` meets its contract: the states of each kind are laid as they are known ahead, and the other kinds are not asked for.
-use Rattle.block.proofs.Base.{refl, false, true, arith, needs, now}
-use Rattle.block.specs.Words.{unwords}
-use Rattle.block.proofs.WordsBack.{length-unwords, unwords-bytes}
-use Rattle.stream.specs.declared.Kind.the-variants.{CfbEncrypt, Ofb}
-use Rattle.stream.proofs.Ahead.{never-ahead, laid-counters, laid-before}
+use Rattle.stream.proofs.Names.{_∙_, ahead, ap, arith, false, length-unwords, needs, sym, true, unwords-bytes}
+use Rattle.stream.proofs.Ahead.{untrue, laid-counters, laid-before}
 use Rattle.stream.proofs.few.lay.Statement.{statement}
 use Rattle.stream.proofs.few.lay.Tie as tie
 
-returns-2 : tie.Need-returns-2
-returns-2 c =
-    let a = c .before .before .before .before .before .before .before .before .args in
-    rw (c .before .before .before .before .enum-told2 .given .1)
-    (λ rk. laid-before rk (a .n) (unwords (a .iv)) (now (a .«data»)) (now (a .out)) _ (length-unwords (a .iv)) (omega arith)
-    (c .before .before .lay-before .ensures))
-
-returns-4 : tie.Need-returns-4
-returns-4 c =
-    let a = c .before .before .before .before .before .before .before .before .args in
-    rw (c .before .before .before .before .enum-told4 .given .1)
-    (λ rk.
-    laid-counters true rk (a .n) (unwords (a .iv)) (now (a .«data»)) (now (a .out)) _ (length-unwords (a .iv)) (unwords-bytes (a .iv))
-    (c .before .before .lay-counters .ensures))
-
-returns-5 : tie.Need-returns-5
-returns-5 c =
-    let a = c .before .before .before .before .before .before .before .before .args in
-    rw (c .before .before .before .before .enum-told5 .given .1)
-    (λ rk.
-    laid-counters false rk (a .n) (unwords (a .iv)) (now (a .«data»)) (now (a .out)) _ (length-unwords (a .iv)) (unwords-bytes (a .iv))
-    (c .before .before .lay-counters2 .ensures))
-
 pub lay-spec : {M : Type 1} → statement M
 lay-spec = tie.close (tie.spec (λ c. search needs) (λ c. search needs) (λ c κs. search needs) (λ c. search needs) (λ c. search needs)
-    (λ c κs. search needs) (λ c. search needs) (λ c κs. search needs)
-    (λ c. absurd (never-ahead _ CfbEncrypt (c .before .before .before .before .pre .0) (c .enum-told .given .1) refl)) (λ c. search needs)
-    returns-2 (λ c. absurd (never-ahead _ Ofb (c .before .before .before .before .pre .0) (c .enum-told3 .given .1) refl))
-    (λ c. search needs) returns-4 (λ c. search needs) returns-5)
+    (λ c κs. search needs) (λ c. search needs)
+    (λ c κs. search needs) (λ c. untrue (sym (ap ahead (c .enum-told .given .1)) ∙ c .before .before .before .before .pre .0))
+    (λ c. search needs)
+    (λ c. rw (c .before .before .before .before .enum-told2 .given .1)
+    (λ rk. laid-before rk _ _ _ _ _ (length-unwords _) (omega arith) (c .before .before .lay-before .ensures)))
+    (λ c. untrue (sym (ap ahead (c .enum-told3 .given .1)) ∙ c .before .before .before .before .pre .0)) (λ c. search needs)
+    (λ c. rw (c .before .before .before .before .enum-told4 .given .1)
+    (λ rk. laid-counters true rk _ _ _ _ _ (length-unwords _) (unwords-bytes _) (c .before .before .lay-counters .ensures)))
+    (λ c. search needs)
+    (λ c. rw (c .before .before .before .before .enum-told5 .given .1)
+    (λ rk. laid-counters false rk _ _ _ _ _ (length-unwords _) (unwords-bytes _) (c .before .before .lay-counters2 .ensures))))

@@ -1,12 +1,7 @@
 -- `stream::few::lay_counters` meets its contract. The loop's invariant: the first i counters are laid, and behind them stands what stood
 -- there.
-use Rattle.block.proofs.Base.{_*_, _-_, _≤_, ℕ, _∙_, _≡_, ap, refl, List, _++_, arith, needs, drop, length, take}
-use Rattle.block.specs.Blocks.{cat}
-use Rattle.block.specs.Words.{unwords}
-use Rattle.block.proofs.WordsBack.{length-unwords}
-use Rattle.counter.specs.Counter.{jumped}
-use Rattle.sixteen.proofs.Blocks.{block-stored}
-use Rattle.sixteen.proofs.Padded.{over-stored}
+use Rattle.stream.proofs.Names.{_*_, _++_, _-_, _≡_, _≤_, arith, block-stored, cat, drop, jumped, length, length-unwords, needs}
+use Rattle.stream.proofs.Names.{over-stored, refl, unwords}
 use Rattle.stream.proofs.Ahead.{length-jumped}
 use Rattle.stream.proofs.few.lay_counters.Statement.{statement}
 use Rattle.stream.proofs.few.lay_counters.Tie as tie
@@ -19,28 +14,22 @@ abbrev μ-loop : tie.MeasureT-loop
 
 loop-again : tie.Need-loop-again Inv-loop μ-loop
 loop-again c =
-    let at-put-block = c .before .before in
-    let at-counter-after = at-put-block .before .before in
+    let at-counter-after = c .before .before .before .before in
     let at-loop = at-counter-after .before .before in
-    let S = at-loop .before .before in
     let l = at-loop .loop in
-    let a = S .args in (
-      omega arith,
-      search needs,
-      block-stored (a .out .now) (l .out) _ (jumped (a .wide) (unwords (a .c))) (l .i)
-          (λ k h. length-jumped (a .wide) (unwords (a .c)) k (length-unwords (a .c))) (l .inv .2) (at-put-block .put-block .ensures
-          ∙ ap (λ (x : List ℕ). x ++ drop 16 (take (length (l .out) - 16 * l .i) (drop (16 * l .i) (l .out))))
-          (at-counter-after .counter-after .ensures)),
-    )
+    let a = at-loop .before .before .args in
+    let stored = block-stored (a .out .now) (l .out) _ (jumped (a .wide) (unwords (a .c))) (l .i)
+    (λ k h. length-jumped (a .wide) (unwords (a .c)) k (length-unwords (a .c))) (l .inv .2)
+    (rw (at-counter-after .counter-after .ensures) at (c .before .before .put-block .ensures)) in
+    (omega arith, search needs, stored)
 
 returns : tie.Need-returns Inv-loop μ-loop
 returns c =
     let l = c .before .loop in
     let a = c .before .before .before .args in
-    let f = jumped (a .wide) (unwords (a .c)) in
     let e : l .i ≡ a .n = omega arith in
-    over-stored (a .n) f (a .out .now) (l .out) (λ k h. length-jumped (a .wide) (unwords (a .c)) k (length-unwords (a .c)))
-    (rw e at (l .inv .2))
+    over-stored (a .n) (jumped (a .wide) (unwords (a .c))) _ (l .out)
+    (λ k h. length-jumped (a .wide) (unwords (a .c)) k (length-unwords (a .c))) (rw e at (l .inv .2))
 
 pub lay-counters-spec : {M : Type 1} → statement M
 unfolding cat

@@ -5,15 +5,13 @@ use Rattle.vectors.proofs.fields.spelled.Statement.{statement}
 use Rattle.vectors.proofs.fields.spelled.Tie as tie
 
 abbrev Inv-loop : tie.InvT-loop
-Inv-loop s₀ comment₀ byte₀ digits₀ i₀ i-end s comment byte digits i = (i ≤ i-end) × (digits ≤ i) × (i-end ≡ length s₀) × (length s ≡ length s₀)
+Inv-loop s₀ comment₀ byte₀ digits₀ i₀ i-end s comment byte digits i =
+    (i ≤ i-end) × (digits ≤ i) × (i-end ≡ length s₀) × (length s ≡ length s₀)
 
 abbrev μ-loop : tie.MeasureT-loop
 μ-loop s₀ comment₀ byte₀ digits₀ i₀ i-end s comment byte digits i = i-end - i
 
 pub spelled-spec : {M : Type 1} → statement M
-spelled-spec =
-    tie.close
-    (tie.spec
-    Inv-loop μ-loop (λ c. search needs) (λ c. search needs) (λ c κs. search needs) (λ c κs. search needs)
-    (λ c κs. search needs) (λ c. search needs) (λ c κs. search needs) (λ c. search needs) (λ c. search needs)
-    (λ c. search needs) (λ c. search needs) (λ c. search needs) (λ c. search needs))
+spelled-spec = tie.close (tie.spec Inv-loop μ-loop (λ c. search needs) (λ c. search needs) (λ c κs. search needs) (λ c κs. search needs)
+    (λ c κs. search needs) (λ c. search needs) (λ c κs. search needs) (λ c. search needs) (λ c. search needs) (λ c. search needs)
+    (λ c. search needs) (λ c. search needs) (λ c. search needs))

@@ -11,8 +11,5 @@ abbrev μ-loop : tie.MeasureT-loop
 μ-loop t k₀ x₀ i₀ k x i = 32 - i
 
 pub crypted-spec : {M : Type 1} → statement M
-crypted-spec =
-    tie.close
-    (tie.spec
-    Inv-loop μ-loop (λ c κs. search needs) (λ c. search needs) (λ c κs. search needs) (λ c κs. search needs)
+crypted-spec = tie.close (tie.spec Inv-loop μ-loop (λ c κs. search needs) (λ c. search needs) (λ c κs. search needs) (λ c κs. search needs)
     (λ c κs. search needs) (λ c. search needs) (λ c. search needs) (λ c. search needs) (λ c. search needs))

@@ -11,8 +11,5 @@ abbrev μ-loop : tie.MeasureT-loop
 μ-loop x power₀ counter₀ power counter = 254 - counter
 
 pub inverse-spec : {M : Type 1} → statement M
-inverse-spec =
-    tie.close
-    (tie.spec
-    Inv-loop μ-loop (λ c. search needs) (λ c κs. search needs) (λ c. search needs) (λ c. search needs)
+inverse-spec = tie.close (tie.spec Inv-loop μ-loop (λ c. search needs) (λ c κs. search needs) (λ c. search needs) (λ c. search needs)
     (λ c. search needs) (λ c. search needs))

@@ -11,8 +11,5 @@ abbrev μ-loop : tie.MeasureT-loop
 μ-loop a b modulus sum₀ moved₀ rest₀ counter₀ sum moved rest counter = 32 - counter
 
 pub product-spec : {M : Type 1} → statement M
-product-spec =
-    tie.close
-    (tie.spec
-    Inv-loop μ-loop (λ c. search needs) (λ c κs. search needs) (λ c κs. search needs) (λ c. search needs)
+product-spec = tie.close (tie.spec Inv-loop μ-loop (λ c. search needs) (λ c κs. search needs) (λ c κs. search needs) (λ c. search needs)
     (λ c. search needs) (λ c. search needs) (λ c. search needs))

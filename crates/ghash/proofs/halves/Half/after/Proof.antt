@@ -1,13 +1,7 @@
 -- `ghash::halves::Half::after` meets its contract: `galois_mul` ensures the product, and `add` its sum with the hash.
-use Rattle.block.proofs.Base.{ℕ, _∙_, ap, needs}
-use Rattle.block.specs.Wide.{value}
-use Rattle.block.specs.Xor.{_⊕_}
+use Rattle.ghash.proofs.Names.{_∙_, needs}
 use Rattle.ghash.proofs.halves.Half.after.Statement.{statement}
 use Rattle.ghash.proofs.halves.Half.after.Tie as tie
 
 pub after-spec : {M : Type 1} → statement M
-after-spec =
-    tie.close
-    (tie.spec
-    (λ c κs. search needs) (λ c κs. search needs)
-    (λ c. c .add .ensures ∙ ap (λ (p : ℕ). p ⊕ value (c .before .before .args .self .hash)) (c .before .galois-mul .ensures)))
+after-spec = tie.close (tie.spec (λ c κs. search needs) (λ c κs. search needs) (λ c. c .add .ensures ∙ rw (c .before .galois-mul .ensures)))

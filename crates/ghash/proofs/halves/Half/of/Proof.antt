@@ -1,7 +1,5 @@
 -- `ghash::halves::Half::of` meets its contract: the count is how many blocks there are (`length-blocks`).
-use Rattle.block.proofs.Base.{_∙_, ap, sym, needs, now}
-use Rattle.block.specs.Wide.{value}
-use Rattle.field.specs.Field.{gpow}
+use Rattle.ghash.proofs.Names.{needs}
 use Rattle.ghash.proofs.Blocks.{length-blocks}
 use Rattle.ghash.proofs.halves.Half.of.Statement.{statement}
 use Rattle.ghash.proofs.halves.Half.of.Tie as tie
@@ -14,10 +12,4 @@ of-spec =
     (λ c.
     let at-hash = c .before in
     let at-count = at-hash .before in
-    let a = at-count .before .before .args in
-    record {
-      hash = at-hash .hash-blocks .ensures;
-      power =
-          c .power .ensures
-          ∙ ap (gpow (value (a .h))) (at-count .block-count .ensures ∙ sym (length-blocks (now (a .bytes))));
-    }))
+    record { hash = at-hash .hash-blocks .ensures; power = rw (length-blocks _, ← at-count .block-count .ensures) (c .power .ensures) }))

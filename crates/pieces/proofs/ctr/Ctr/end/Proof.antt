@@ -1,7 +1,6 @@
 -- `pieces::ctr::Ctr::end` meets its contract: a state that does not run is refused, and one that runs is shut, and tells what the formula
 -- says of the first counter, whose words spell it.
-use Rattle.block.proofs.Base.{arith, needs}
-use Rattle.pieces.specs.Calls.{ctrEnd}
+use Rattle.pieces.proofs.Names.{arith, ctrEnd, needs}
 use Rattle.pieces.proofs.Fitting.{Sixteen, spelt}
 use Rattle.pieces.proofs.ctr.Ctr.end.Statement.{statement}
 use Rattle.pieces.proofs.ctr.Ctr.end.Tie as tie
@@ -21,7 +20,8 @@ returns-2 c =
 
 pub end-spec : {M : Type 1} → statement M
 unfolding ctrEnd
-end-spec = tie.close (tie.spec (search needs) (search needs) (search needs)
+end-spec = tie.close (tie.spec (λ c. search needs) (λ c. search needs) (λ c. search needs)
     (λ c. let told = c .before .before in rw (← told .before .before .running .ensures, told .checked .given .1, c .refused .ensures))
-    (search needs) (λ c. search needs) (λ c κs. let n = first (c .before .before .before .before .before) .0 in omega arith) (search needs)
-    (search needs) (search needs) returns-2)
+    (λ c. search needs) (λ c. search needs) (λ c κs. let n = first (c .before .before .before .before .before) .0 in omega arith)
+    (λ c. search needs)
+    (λ c. search needs) (λ c. search needs) returns-2)

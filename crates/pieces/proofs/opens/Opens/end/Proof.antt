@@ -1,8 +1,7 @@
 -- `pieces::opens::Opens::end` meets its contract: what the checks refuse leaves the state, and otherwise the tag decides and the
 -- state is shut.
-use Rattle.block.proofs.Base.{_∙_, _≡_, sym, arith, needs, now, length}
-use Rattle.pieces.specs.Calls.{opensEnd}
-use Rattle.pieces.proofs.Passing.{Runs, tagged-passed}
+use Rattle.pieces.proofs.Names.{_∙_, _≡_, length, lit<, mod-lt, needs, now, opensEnd, sym}
+use Rattle.pieces.proofs.Passing.{Runs, both-hashable, tagged-passed}
 use Rattle.pieces.proofs.opens.Opens.end.Statement.{statement}
 use Rattle.pieces.proofs.opens.Opens.end.Tie as tie
 
@@ -30,8 +29,8 @@ returns-3 c =
 
 pub end-spec : {M : Type 1} → statement M
 unfolding opensEnd
-end-spec = tie.close (tie.spec (search needs) (search needs) (search needs)
+end-spec = tie.close (tie.spec (λ c. search needs) (λ c. search needs) (λ c. search needs)
     (λ c. let told = c .before .before in rw (← told .before .before .tagged .ensures, told .checked .given .1, c .refused .ensures))
-    (search needs)
-    (λ c κs. let runs = passed (c .before .before) .0 in (omega arith, (omega (arith, runs .labelled), omega (arith, runs .within))))
-    (search needs) (λ c κs. passed (c .before .before .before .before) .1) (search needs) (search needs) returns-2 (search needs) returns-3)
+    (λ c. search needs) (λ c κs. (mod-lt _ (lit< tt), both-hashable (passed (c .before .before) .0)))
+    (λ c. search needs) (λ c κs. passed (c .before .before .before .before) .1) (λ c. search needs) (λ c. search needs) returns-2
+    (λ c. search needs) returns-3)

@@ -1,8 +1,7 @@
 -- `pieces::seal::Seal::end` meets its contract: what the checks refuse leaves output and state, and otherwise the tag is written and
 -- the state is shut.
-use Rattle.block.proofs.Base.{_≤_, _∙_, _≡_, sym, arith, needs, now, length}
-use Rattle.pieces.specs.Calls.{sealEnd}
-use Rattle.pieces.proofs.Passing.{Runs, writing-passed}
+use Rattle.pieces.proofs.Names.{_∙_, _≡_, _≤_, arith, length, lit<, mod-lt, needs, now, sealEnd, sym}
+use Rattle.pieces.proofs.Passing.{Runs, both-hashable, writing-passed}
 use Rattle.pieces.proofs.seal.Seal.end.Statement.{statement}
 use Rattle.pieces.proofs.seal.Seal.end.Tie as tie
 
@@ -13,13 +12,6 @@ passed x = writing-passed _ _ _ _ _ _ (sym (x .before .before .writing .ensures)
 
 mask-length : (s : tie.Start) → length (s .args .self .mask) ≡ 16
 mask-length s = search needs
-
-xor-pad-requires : tie.Need-xor-pad-requires
-xor-pad-requires c κs =
-    let told = c .before .before .before .before .before in
-    let room = passed told .1 in
-    let n = mask-length (told .before .before .before .before) in
-    (omega arith, omega arith)
 
 returns-2 : tie.Need-returns-2
 unfolding sealEnd
@@ -33,8 +25,10 @@ returns-2 c =
 
 pub end-spec : {M : Type 1} → statement M
 unfolding sealEnd
-end-spec = tie.close (tie.spec (search needs) (search needs) (search needs)
+end-spec = tie.close (tie.spec (λ c. search needs) (λ c. search needs) (λ c. search needs)
     (λ c. let told = c .before .before in rw (← told .before .before .writing .ensures, told .checked .given .1, c .refused .ensures))
-    (search needs)
-    (λ c κs. let runs = passed (c .before .before) .0 in (omega arith, (omega (arith, runs .labelled), omega (arith, runs .within))))
-    (λ c. search needs) xor-pad-requires (search needs) (search needs) (search needs) (search needs) returns-2)
+    (λ c. search needs) (λ c κs. (mod-lt _ (lit< tt), both-hashable (passed (c .before .before) .0))) (λ c. search needs)
+    (λ c κs. let told = c .before .before .before .before .before in
+    let room = passed told .1 in
+    let n = mask-length (told .before .before .before .before) in (omega arith, omega arith))
+    (λ c. search needs) (λ c. search needs) (λ c. search needs) (λ c. search needs) returns-2)

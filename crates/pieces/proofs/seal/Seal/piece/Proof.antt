@@ -1,12 +1,9 @@
 -- `pieces::seal::Seal::piece` meets its contract: what the checks refuse leaves output and state, and otherwise the flow runs on
 -- and what it wrote, as many bytes as the piece has (`text-length`), is hashed.
-use Rattle.block.proofs.Base.{_%_, _-_, _≤_, _∙_, _≡_, sym, sub-zero, arith, needs, now, length, take, take-at}
-use Rattle.walk.specs.Walk.{over}
-use Rattle.pieces.specs.declared.flow.Counting.the-variants.{Gcm as Gcm·counting}
-use Rattle.pieces.specs.Flow.{flowText}
-use Rattle.pieces.specs.Calls.{sealPiece}
+use Rattle.pieces.proofs.Names.{Gcm·counting, _%_, _-_, _∙_, _≡_, _≤_, arith, flowText, length, lit<, mod-lt, needs, now, over}
+use Rattle.pieces.proofs.Names.{sealPiece, sub-zero, sym, take, take-at}
 use Rattle.pieces.proofs.KeyStream.{text-length}
-use Rattle.pieces.proofs.Passing.{Runs, writing-passed}
+use Rattle.pieces.proofs.Passing.{Runs, sum-fits, writing-passed}
 use Rattle.pieces.proofs.seal.Seal.piece.Statement.{statement}
 use Rattle.pieces.proofs.seal.Seal.piece.Tie as tie
 
@@ -17,16 +14,6 @@ passed x = writing-passed _ _ _ _ _ _ (sym (x .before .before .writing .ensures)
 
 pad-length : (s : tie.Start) → length (s .args .self .flow .pad) ≡ 16
 pad-length s = search needs
-
-part-take-in-end : tie.Need-part-take-in-end
-part-take-in-end c =
-    let room = passed (c .before .before .before .before .before .before .before .before .before) .1 in
-    omega (arith, c .before .before .before .run-by .kept)
-
-add-t27 : tie.Need-add-t27
-add-t27 c =
-    let told = c .before .before .before .before .before .before .before .before .before .before .before in
-    let within = passed told .0 .within in search needs
 
 returns-2 : tie.Need-returns-2
 unfolding sealPiece
@@ -41,11 +28,16 @@ returns-2 c =
     let written : take (length d - 0) (over text (now (S .args .out))) ≡ text = rw sub-zero (take-at text _ (length d) n) in
     let ran = at-run .run-by .ensures in
     rw (← told .before .before .writing .ensures, told .enum-told .given .1, c .done .ensures, c .before .take-in .ensures, ran .0, ran .1)
-    (rw (written))
+    (rw written)
 
 pub piece-spec : {M : Type 1} → statement M
 unfolding sealPiece
-piece-spec = tie.close (tie.spec (search needs) (search needs) (search needs)
+piece-spec = tie.close (tie.spec (λ c. search needs) (λ c. search needs) (λ c. search needs)
     (λ c. let told = c .before .before in rw (← told .before .before .writing .ensures, told .checked .given .1, c .refused .ensures))
-    (search needs) (λ c κs. (omega arith, passed (c .before .before .before .before .before) .1)) (search needs) (search needs)
-    part-take-in-end (search needs) add-t27 (search needs) (search needs) returns-2)
+    (λ c. search needs) (λ c κs. (mod-lt _ (lit< tt), passed (c .before .before .before .before .before) .1)) (λ c. search needs)
+    (λ c. search needs)
+    (λ c. let room = passed (c .before .before .before .before .before .before .before .before .before) .1 in
+    omega (arith, c .before .before .before .run-by .kept))
+    (λ c. search needs)
+    (λ c. sum-fits (passed (c .before .before .before .before .before .before .before .before .before .before .before) .0))
+    (λ c. search needs) (λ c. search needs) returns-2)

@@ -1,0 +1,4 @@
+pub mod AllPadding
+pub mod Filled
+pub mod Unpadded
+pub mod Into
