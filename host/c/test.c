@@ -1,6 +1,7 @@
 /* The library called from C, and held to what the header says, which is written down again in rules.c and the models.
  *
  *   test             on plain buffers, on each engine (host/smoke)
+ *   test --chosen    the same, with the tests on a key on the engine that is chosen alone (host/smoke under an emulator)
  *   test --fenced    the same calls, every buffer against a page that may be neither read nor written, first behind its end and then before
  *                    its start, inputs that may not be written, and lengths at the limits (host/faults)
  *   test --heap      fewer of them on buffers from malloc, for valgrind (host/faults)
@@ -223,10 +224,11 @@ static void run(enum place from, uint32_t count)
 
 int main(int argc, char **argv)
 {
-    int fenced = argc == 2 && strcmp(argv[1], "--fenced") == 0, heap = argc == 2 && strcmp(argv[1], "--heap") == 0;
+    const char *option = argc == 2 ? argv[1] : "";
+    int fenced = strcmp(option, "--fenced") == 0, heap = strcmp(option, "--heap") == 0, chosen = strcmp(option, "--chosen") == 0;
     static const int signals[] = {SIGSEGV, SIGBUS, SIGILL, SIGFPE, SIGABRT, SIGALRM};
-    if (argc > 1 && !fenced && !heap) {
-        fprintf(stderr, "usage: test [--fenced | --heap]\n");
+    if (argc > 1 && !fenced && !heap && !chosen) {
+        fprintf(stderr, "usage: test [--chosen | --fenced | --heap]\n");
         return 64;
     }
     for (size_t i = 0; i < sizeof signals / sizeof *signals; i++) {
@@ -240,7 +242,7 @@ int main(int argc, char **argv)
     } else if (heap) {
         run(HEAP, 1);
     } else {
-        run(PLAIN_MEMORY, ENGINES);
+        run(PLAIN_MEMORY, chosen ? CHOSEN + 1 : ENGINES);
         run_each(in_plain_memory);
     }
     printf("%lu checked, %lu wrong, on %s; %lu calls by the rules, in %lu a counter comes round\n", checked, wrong, variant_name(), calls,
