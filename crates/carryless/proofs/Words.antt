@@ -1,13 +1,12 @@
 -- Numbers of 32 bits as four parts of every fourth bit each: the sixteen products of the parts, summed up by their places, are the product
 -- without carry (`by-quarters`); of a square four of them are enough (`squares`).
 use Rattle.block.proofs.Base.{_%_, _*_, _+_, _-_, _/_, _<_, _^_, _≤_, min, suc, zero, ℕ, _∙_, _≡_, ap, ap₂, refl, sym, ⊎-elim, List}
-use Rattle.block.proofs.Base.{add-zero}
-use Rattle.block.proofs.Base.{lt-of-le-of-lt, lt-trans, mod-eq-of-lt, mod-lt, mul-assoc, mul-le-mul, mul-mul-mul-comm, pow-suc, arith}
-use Rattle.block.proofs.Base.{and-block, and-comm, and-le-l, and-mask, and-shr, and-step, and-zero-r, bitAnd, differ, xor-lt, xor-shr}
-use Rattle.block.proofs.Base.{xor-step, T, ltb, lit<, getD, length, pow-add, pow-pos, shl-shr, split}
+use Rattle.block.proofs.Base.{add-zero, lt-of-le-of-lt, lt-trans, mod-eq-of-lt, mod-lt, mul-assoc, mul-le-mul, mul-mul-mul-comm, pow-suc}
+use Rattle.block.proofs.Base.{arith, and-block, and-comm, and-le-l, and-mask, and-zero-r, bitAnd, differ, xor-lt, T, ltb, lit<, getD}
+use Rattle.block.proofs.Base.{length, pow-add, pow-pos, shl-shr, split}
 use Rattle.block.specs.declared.U128.{U128}
 use Rattle.block.specs.Xor.{_⊕_}
-use Rattle.block.proofs.Xor.{bit-lt, xor-odd, xor-sums}
+use Rattle.block.proofs.Xor.{xor-sums}
 use Rattle.lanes.proofs.Bits.{bit-and, bit-ext, bit-small, bit-xor, three-bits, lt-or-le}
 use Rattle.lanes.specs.Bits.{bit}
 use Rattle.lanes.proofs.Filling.{one-more, each8}

@@ -1,9 +1,9 @@
 -- What Cbc seals, Cbc opens, for any round keys; and what sealing gives: full blocks.
-use Rattle.cbc.proofs.Names.{Any, AreBytes, Done, List, Undoes, _%_, _*_, _+_, _-_, _/_, _∙_, _≡_, _≤_, ap, arith, below-append}
+use Rattle.cbc.proofs.Names.{Any, AreBytes, Done, List, Undoes, _%_, _*_, _+_, _-_, _/_, _∙_, _≡_, _≤_, arith, below-append}
 use Rattle.cbc.proofs.Names.{below-replicate, block-decrypt-encrypt, cbcDecrypt, cbcEncrypt, cbcSeal, cbcText, chain, chain-length}
 use Rattle.cbc.proofs.Names.{encryptBlock-bytes, into, length, length-encryptBlock, length-padded, length-xors, openedInto, over}
-use Rattle.cbc.proofs.Names.{padded, padded-unpadded, padding, refl, take, take-append-seam, undo, unpadded, xors, xors-below}
-use Rattle.cbc.proofs.Names.{xors-cancel, ℕ}
+use Rattle.cbc.proofs.Names.{padded, padded-unpadded, padding, refl, take-append-seam, undo, unpadded, xors, xors-below, xors-cancel}
+use Rattle.cbc.proofs.Names.{ℕ}
 use Rattle.cbc.proofs.Blocks.{Sixteen, Whole, Text, whole-front, whole-back, whole-short, whole-empty, text-front, text-back}
 
 pub padded-bytes : (d : List ℕ) → AreBytes d → AreBytes (padded d)

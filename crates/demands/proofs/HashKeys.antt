@@ -1,10 +1,10 @@
 -- How many hash keys could ever confuse two files: `roots` has it for all lengths that can be hashed, and here are the limits, the
 -- labels of jobs and editions, and two pairs at which the bound is reached.
 use Rattle.demands.specs.Names as N
-use N.{List, List·Mem, Pairwise·cons, [], _∷_, mem-of-ne-of-mem, mem-singleton, pairwise-singleton, _≢_, ⊎-elim, _≡_, ap, refl, _+_, _^_}
-use N.{_≤_, ℕ, eq-zero-or-pos, le-trans, lt-of-le-of-lt, max-le, mul-le-mul-right, ℕ-set, arith, lit<, length, length-append, AreBytes}
-use N.{bytesOf, numberOf, Element, gmul, mulFrom, timesX, authBlocks, blockCount, Ghash·block as blockOf, blocks, blocksFrom, hashFrom}
-use N.{lengthBlock, AtMost, Confuses, Pair, hashedCount, pairHash, hashKey, modeOf, Decrypt, labelOf, hostModeCall, cipherIn, LuossavinKey}
+use N.{List·Mem, Pairwise·cons, [], _∷_, mem-of-ne-of-mem, mem-singleton, pairwise-singleton, _≢_, ⊎-elim, _≡_, ap, refl, _+_, _^_, _≤_, ℕ}
+use N.{eq-zero-or-pos, le-trans, lt-of-le-of-lt, max-le, mul-le-mul-right, ℕ-set, arith, lit<, length, length-append, bytesOf, numberOf}
+use N.{Element, gmul, mulFrom, timesX, authBlocks, blockCount, Ghash·block as blockOf, blocks, blocksFrom, hashFrom, lengthBlock, AtMost}
+use N.{Confuses, Pair, hashedCount, pairHash, hashKey, modeOf, Decrypt, labelOf, hostModeCall, cipherIn, LuossavinKey}
 use Rattle.roots.proofs.FewConfuse.{few-confuse, zero-confuses}
 use Rattle.roots.proofs.EveryElement.{more-have}
 use Rattle.label.proofs.LabelTells.{length-label, label-bytes, label-job, label-edition}

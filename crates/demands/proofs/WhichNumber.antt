@@ -1,12 +1,12 @@
 -- Which number an exported call answers: that of the first of the conditions of docs/REQUIREMENTS.md that holds, and no other.
 use Rattle.demands.specs.Names as N
 use N.{Bool, _&&_, cond, false, not, true, List, [], _∷_, inl, inr, ⊎-elim, _≡_, refl, ℕ, eqb, length, eqb-true, Head, Outcome, finished}
-use N.{refusal, refuseAs, telling, cbcOpen, cbcHead, unpadded, Cbc·Done, InvalidLastU8, InvalidPadding, gcmOpen, gcmHead}
-use N.{refusalHead, blockCall, lengthsOf, modeCall, modeResult, andThen, blockCheck, checked, dataCheck, keyAndIv, keyCheck}
-use N.{messageCheck, refuse, roomCheck, newCipher, wrongNumber, CipherMode, Cbc, Cfb, Ctr, Gcm, Ofb, Direction, Decrypt, Encrypt, Refusal}
-use N.{Checked, Passed, Refused, ctrEnd, ctrPiece, ctrStart, opensEnd, opensPiece, opensStart, sealEnd, sealPiece, sealStart, gcmStarting}
-use N.{running, standing, tagged, writing, Ctr·state, Opens, Seal, searchCheck, which, hostBlockCall, hostModeCall, hostCtrStart}
-use N.{hostOpensStart, hostSealStart, cipherIn, hostKeyNew, keyAnswerOf, keyOf, hostWhich, LuossavinKey}
+use N.{refusal, refuseAs, telling, cbcOpen, cbcHead, unpadded, Cbc·Done, InvalidLastU8, InvalidPadding, gcmOpen, refusalHead, blockCall}
+use N.{lengthsOf, modeCall, modeResult, andThen, blockCheck, checked, dataCheck, keyAndIv, keyCheck, messageCheck, refuse, roomCheck}
+use N.{newCipher, wrongNumber, CipherMode, Cbc, Cfb, Ctr, Gcm, Ofb, Direction, Decrypt, Encrypt, Refusal, Checked, Passed, Refused, ctrEnd}
+use N.{ctrPiece, ctrStart, opensEnd, opensPiece, opensStart, sealEnd, sealPiece, sealStart, gcmStarting, running, standing, tagged, writing}
+use N.{Ctr·state, Opens, Seal, searchCheck, which, hostBlockCall, hostModeCall, hostCtrStart, hostOpensStart, hostSealStart, cipherIn}
+use N.{hostKeyNew, keyAnswerOf, keyOf, hostWhich, LuossavinKey}
 use Rattle.block.proofs.Same.{by-test}
 use Rattle.editions.proofs.FirstOpening.{search-number}
 use Rattle.demands.specs.WhichNumber.{Said, saidIn, only, Row, Among, isRetired, encryptRowsIn, decryptRowsIn, firstOf, numbersOf}

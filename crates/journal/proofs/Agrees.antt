@@ -1,9 +1,8 @@
 -- Calls that were recorded as they were answered agree, and only they do; of those that differ the first is told.
-use Rattle.journal.proofs.Names.{Difference, Ends, Entry, List, NoneDiffers, Replayed, Report, Sm4Cipher, [], _++_, _+_, _∙_, _∷_}
-use Rattle.journal.proofs.Names.{_≡_, add-zero, answerNow, answeredBy, ap, arith, by-test, callInto, counted, countedAll}
-use Rattle.journal.proofs.Names.{countedUnder, differs, differsFrom, eq-eqb, eqb, eqb-true, false, firstOf, keyOf, length}
-use Rattle.journal.proofs.Names.{length-append, not, not-false, nothing, refl, result, same-equal, same-refl, stored, sym, true}
-use Rattle.journal.proofs.Names.{written, zero-add, ℕ}
+use Rattle.journal.proofs.Names.{Ends, Entry, List, NoneDiffers, Replayed, Report, Sm4Cipher, [], _++_, _+_, _∙_, _∷_, _≡_, add-zero}
+use Rattle.journal.proofs.Names.{answerNow, answeredBy, ap, arith, by-test, callInto, counted, countedAll, countedUnder, differs}
+use Rattle.journal.proofs.Names.{differsFrom, eq-eqb, eqb-true, false, keyOf, length, length-append, not-false, nothing, refl}
+use Rattle.journal.proofs.Names.{result, same-equal, same-refl, stored, sym, true, written, zero-add, ℕ}
 use Rattle.journal.proofs.Cases.{clash, or-left, or-right}
 use Rattle.journal.proofs.Lent.{result-size}
 use Rattle.journal.proofs.Joined.{either-way}

@@ -1,11 +1,11 @@
 -- Reading and writing a record are each other's inverse.
 use Rattle.journal.proofs.Names.{AreBytes, Decrypt, Direction, Encrypt, Entry, List, Proper, ProperPart, Stands, [], _++_, _+_, _<_}
-use Rattle.journal.proofs.Names.{_^_, _∙_, _∷_, _≡_, _≤_, afterRecord, and-left, and-right, ap, append-assoc, append-nil, arith}
-use Rattle.journal.proofs.Names.{behind, below-at, below-drop, below-take, bytesOf, bytesOf-numberOf, directionByte, directionOf}
-use Rattle.journal.proofs.Names.{drop, drop-cons, eqb, eqb-true, fromData, fromIv, fromLabel, fromOutput, fromRoom, front, getD}
-use Rattle.journal.proofs.Names.{head, leb, leb-true, length, length-bytesOf, lit<, marked, middle, mod-eq-of-lt, numberOf-bytesOf}
-use Rattle.journal.proofs.Names.{numberOf-lt, part, partAt, refl, sizeAt, startsPart, startsRecord, suc, sym, take, take-add}
-use Rattle.journal.proofs.Names.{take-suc, true, wordAt, written, zero, ℕ}
+use Rattle.journal.proofs.Names.{_^_, _∙_, _∷_, _≡_, _≤_, afterRecord, and-left, and-right, ap, append-nil, arith, behind, below-at}
+use Rattle.journal.proofs.Names.{below-drop, below-take, bytesOf, bytesOf-numberOf, directionByte, directionOf, drop, drop-cons, eqb}
+use Rattle.journal.proofs.Names.{eqb-true, fromData, fromIv, fromLabel, fromOutput, fromRoom, front, getD, head, leb, leb-true}
+use Rattle.journal.proofs.Names.{length, lit<, marked, middle, mod-eq-of-lt, numberOf-bytesOf, numberOf-lt, part, partAt, refl}
+use Rattle.journal.proofs.Names.{sizeAt, startsPart, startsRecord, suc, sym, take, take-add, take-suc, true, wordAt, written, zero}
+use Rattle.journal.proofs.Names.{ℕ}
 use Rattle.journal.proofs.Fields.{Is, counted, Fit, row, past, past-below, fields, joined, joined-fields}
 use Rattle.journal.proofs.Standing.{part-fits, length-part, row-of, read, starts, front-read, fit-stands, size-is}
 

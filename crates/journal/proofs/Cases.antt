@@ -1,6 +1,6 @@
 -- What a test tells, and what it tells of an entry that is not too long.
-use Rattle.journal.proofs.Names.{Bool, Entry, _||_, _≡_, _≤_, arith, false, length, ltb, ltb-false, outputLimit, partLimit}
-use Rattle.journal.proofs.Names.{pastLimit, refl, tooLong, true, ℕ}
+use Rattle.journal.proofs.Names.{Bool, Entry, _||_, _≡_, _≤_, arith, false, length, ltb-false, outputLimit, partLimit, pastLimit}
+use Rattle.journal.proofs.Names.{refl, tooLong, true, ℕ}
 
 -- not both
 pub clash : (t : Bool) → t ≡ true → t ≡ false → ⊥

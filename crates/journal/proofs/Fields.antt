@@ -1,7 +1,7 @@
 -- A row of fields, one behind the other: each is so many bytes, or a part that tells its length. What is behind it changes nothing of it.
 use Rattle.journal.proofs.Names.{Below, List, List·getD-append, [], _++_, _+_, _<_, _∙_, _∷_, _≡_, _≤_, ap, append-assoc, arith}
-use Rattle.journal.proofs.Names.{below-drop, drop, drop-at, drop-drop, getD, getD-take, length, length-append, length-drop}
-use Rattle.journal.proofs.Names.{length-take-le, refl, sym, take, take-append-drop, take-at, wordAt, ℕ}
+use Rattle.journal.proofs.Names.{below-drop, drop, drop-at, getD, getD-take, length, length-append, length-take-le, refl, sym, take}
+use Rattle.journal.proofs.Names.{take-append-drop, take-at, wordAt, ℕ}
 
 pub data Field : Type 0 where
   fixed : ℕ → Field

@@ -3,13 +3,12 @@
 use Rattle.journal.proofs.Names.{BadLast, BadPadding, Bool, Cbc, Cbc·Done, Cbc·Opened, Cfb, Checked, CipherMode, Ctr, Ctr·kind}
 use Rattle.journal.proofs.Names.{Decrypt, Direction, EmptyCbc, Encrypt, ErrorDataLen, Gcm, Head, InvalidLastU8, InvalidPadding}
 use Rattle.journal.proofs.Names.{InvalidTag, J0, Kind, List, NoRoom, Ofb, Ofb·kind, Outcome, Passed, Refusal, Refused, Retired}
-use Rattle.journal.proofs.Names.{ShortGcm, WrongBlock, WrongIv, WrongNumber, [], _&&_, _+_, _-_, _<_, _∙_, _≡_, _≤_, ap, arith}
-use Rattle.journal.proofs.Names.{blocksOf, cbcHead, cbcOpen, cbcSeal, cbcText, cfbKind, chain, checked, cond, ctrCameRound}
-use Rattle.journal.proofs.Names.{dataCheck, eqb, false, finished, gcmHead, gcmOpen, gcmRound, hashKey, keyed, leaving, length}
-use Rattle.journal.proofs.Names.{length-cbcSeal, length-decrypt, length-sealed, length-stream, length-take-le, lit<, modeResult}
-use Rattle.journal.proofs.Names.{opensUnder, over, refl, refusal, refusalHead, refuse, refuses, reporting, roomOf, sealed, sixteen}
-use Rattle.journal.proofs.Names.{streamMode, sym, take, telling, text-size, textOf, textPart, true, under, unpadded, unpadded-le}
-use Rattle.journal.proofs.Names.{whole-blocks-passed, with-tag-passed, wrongIv, ℕ}
+use Rattle.journal.proofs.Names.{ShortGcm, WrongBlock, WrongIv, WrongNumber, [], _&&_, _+_, _-_, _<_, _≡_, _≤_, ap, arith, blocksOf}
+use Rattle.journal.proofs.Names.{cbcHead, cbcOpen, cbcSeal, cbcText, cfbKind, chain, checked, cond, ctrCameRound, dataCheck, eqb}
+use Rattle.journal.proofs.Names.{false, finished, gcmHead, gcmOpen, gcmRound, hashKey, keyed, leaving, length, length-cbcSeal}
+use Rattle.journal.proofs.Names.{length-decrypt, length-sealed, length-stream, length-take-le, lit<, modeResult, opensUnder, over}
+use Rattle.journal.proofs.Names.{refl, refusal, refusalHead, refuse, refuses, reporting, roomOf, sealed, sixteen, streamMode, sym}
+use Rattle.journal.proofs.Names.{take, text-size, textOf, textPart, true, unpadded, unpadded-le, whole-blocks-passed, wrongIv, ℕ}
 use Rattle.cipher_mode.specs.Outcome.{written, done}
 use Rattle.cipher_mode.specs.declared.answer.Refusal.the-variants.{ErrorBlockSize, TooLong, Ended}
 

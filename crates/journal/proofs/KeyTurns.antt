@@ -1,7 +1,7 @@
 -- The keys are looked at one after another.
 use Rattle.journal.proofs.Names.{ErrorBlockSize, Keys, List, Sm4Cipher, [], _+_, _<_, _∙_, _∷_, _≡_, _≤_, add-one, arith, badKeys}
-use Rattle.journal.proofs.Names.{drop, drop-cons, false, getD, getD-take, keyAt, keysIn, length, length-take-le, ltb, ltb-false}
-use Rattle.journal.proofs.Names.{noCipher, refl, suc, sym, zero, ℕ}
+use Rattle.journal.proofs.Names.{drop, drop-cons, false, getD, getD-take, keyAt, keysIn, length, length-take-le, ltb-false, noCipher}
+use Rattle.journal.proofs.Names.{refl, suc, sym, zero, ℕ}
 use Rattle.journal.proofs.Cases.{or-left}
 
 -- inside a list no default counts

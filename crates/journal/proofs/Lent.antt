@@ -1,6 +1,6 @@
 -- A call within the limits gives the same whether it is lent the recorded room or no more than the longest output.
-use Rattle.journal.proofs.Names.{Answered, Answers, Bool, Checked, CipherMode, Entry, Head, List, Outcome, Recomputed, Sm4Cipher, []}
-use Rattle.journal.proofs.Names.{_++_, _+_, _<_, _∙_, _≡_, _≤_, _⊎_, ap, append-assoc, append-nil, arith, by-test, callInto, checked}
+use Rattle.journal.proofs.Names.{Answered, Answers, Bool, Checked, CipherMode, Entry, List, Outcome, Recomputed, Sm4Cipher, [], _++_}
+use Rattle.journal.proofs.Names.{_+_, _<_, _∙_, _≡_, _≤_, _⊎_, ap, append-assoc, append-nil, arith, by-test, callInto, checked}
 use Rattle.journal.proofs.Names.{differsFrom, drop, false, inl, inr, judged, keyNumber, keyed, le-ltb, length, length-append}
 use Rattle.journal.proofs.Names.{length-drop, length-replicate, lentRoom, ltb, ltb-false, ltb-true, message-passed, messageCheck}
 use Rattle.journal.proofs.Names.{modeCall, modeOf, modeResult, outputLimit, recomputed, refl, refuse, replicate, result, roomCheck}

@@ -2,34 +2,32 @@
 pub use lib.ListN.{List·getD-append}
 pub use lib.Seq.{drop-length, take-suc}
 pub use Rattle.block.proofs.Base.{Bool, List, [], _&&_, _++_, _+_, _-_, _<_, _^_, _||_, _∙_, _∷_, _≡_, _≤_, _⊎_, add-assoc, add-one}
-pub use Rattle.block.proofs.Base.{add-zero, ap, append-assoc, append-nil, ap₂, arith, cond, drop, drop-append-le, drop-at, drop-cons}
-pub use Rattle.block.proofs.Base.{drop-drop, drop-of-length-le, eq-eqb, eqb, eqb-false, eqb-true, false, getD, getD-set-other}
-pub use Rattle.block.proofs.Base.{getD-set-same, getD-take, inl, inr, le-leb, le-ltb, leb, leb-true, length, length-append, length-drop}
-pub use Rattle.block.proofs.Base.{length-map, length-replicate, length-set, length-take, length-take-le, lit<, lt-leb, lt-ltb, ltb}
-pub use Rattle.block.proofs.Base.{ltb-false, ltb-true, mod-eq-of-lt, ne-eqb, needs, not, not-false, not-true, now, refl, replicate, set}
-pub use Rattle.block.proofs.Base.{sub-zero, suc, sym, take, take-add, take-append-drop, take-append-le, take-at, take-length, true, zero}
-pub use Rattle.block.proofs.Base.{zero-add, ℕ, ⊎-elim}
+pub use Rattle.block.proofs.Base.{add-zero, ap, append-assoc, append-nil, arith, cond, drop, drop-append-le, drop-at, drop-cons}
+pub use Rattle.block.proofs.Base.{drop-of-length-le, eq-eqb, eqb, eqb-false, eqb-true, false, getD, getD-set-other, getD-set-same}
+pub use Rattle.block.proofs.Base.{getD-take, inl, inr, le-leb, le-ltb, leb, leb-true, length, length-append, length-drop, length-map}
+pub use Rattle.block.proofs.Base.{length-replicate, length-set, length-take, length-take-le, lit<, lt-leb, lt-ltb, ltb, ltb-false, ltb-true}
+pub use Rattle.block.proofs.Base.{mod-eq-of-lt, ne-eqb, needs, not, not-false, not-true, now, refl, replicate, set, sub-zero, suc, sym}
+pub use Rattle.block.proofs.Base.{take, take-add, take-append-drop, take-append-le, take-at, take-length, true, zero, zero-add, ℕ, ⊎-elim}
 pub use Rattle.block.proofs.Convert.{bytesOf-numberOf, length-bytesOf, numberOf-bytesOf, numberOf-lt}
 pub use Rattle.block.proofs.Entries.{below-at, below-drop, below-replicate, below-take}
 pub use Rattle.block.proofs.Same.{and-left, and-right, by-test, same-equal, same-refl}
 pub use Rattle.block.proofs.Tails.{over-behind, returned, tail-is, tailed}
 pub use Rattle.block.specs.Below.{AreBytes, Below}
-unfoldable pub use Rattle.block.specs.BigEndian.{numberOf}
-unfoldable pub use Rattle.block.specs.BigEndian.{bytesOf}
+unfoldable pub use Rattle.block.specs.BigEndian.{numberOf, bytesOf}
 pub use Rattle.block.specs.Over.{over}
 pub use Rattle.block.specs.Words.{wordAt}
 pub use Rattle.cbc.proofs.Blocks.{length-decrypt}
 pub use Rattle.cbc.proofs.RoundTrip.{length-cbcSeal}
 pub use Rattle.cbc.specs.Cbc.{cbcSeal, cbcText}
-pub use Rattle.cipher_mode.proofs.Passed.{message-passed, sixteen, whole-blocks-passed, with-tag-passed}
+pub use Rattle.cipher_mode.proofs.Passed.{message-passed, sixteen, whole-blocks-passed}
 pub use Rattle.cipher_mode.proofs.Refusals.{refuses}
-pub use Rattle.cipher_mode.specs.Answer.{endingHead, outcome, refusalHead}
+pub use Rattle.cipher_mode.specs.Answer.{outcome, refusalHead}
 pub use Rattle.cipher_mode.specs.Calls.{cbcHead, cfbKind, gcmHead, gcmRound, modeResult}
 unfoldable pub use Rattle.cipher_mode.specs.Calls.{cbcOpen, gcmOpen, modeCall}
 pub use Rattle.cipher_mode.specs.Checks.{checked, dataCheck, wrongIv}
 unfoldable pub use Rattle.cipher_mode.specs.Checks.{messageCheck, roomCheck}
 pub use Rattle.cipher_mode.specs.Key.{keyNumber, noCipher}
-pub use Rattle.cipher_mode.specs.Outcome.{Head, Outcome, finished, keyed, leaving, refusal, refuse, reporting, telling, under}
+pub use Rattle.cipher_mode.specs.Outcome.{Head, Outcome, finished, keyed, leaving, refusal, refuse, reporting}
 pub use Rattle.cipher_mode.specs.Tables.{modeOf, roomOf}
 pub use Rattle.cipher_mode.specs.declared.CipherMode.{CipherMode}
 pub use Rattle.cipher_mode.specs.declared.CipherMode.the-variants.{Cbc, Cfb, Ctr, Gcm, Ofb}
@@ -38,7 +36,6 @@ pub use Rattle.cipher_mode.specs.declared.Direction.the-variants.{Decrypt, Encr
 pub use Rattle.cipher_mode.specs.declared.KeyAnswer.the-variants.{ErrorBlockSize}
 pub use Rattle.cipher_mode.specs.declared.Sm4Cipher.{Sm4Cipher}
 pub use Rattle.cipher_mode.specs.declared.answer.Answer.{Answer}
-pub use Rattle.cipher_mode.specs.declared.answer.Ending.{Ending}
 pub use Rattle.cipher_mode.specs.declared.answer.Refusal.{Refusal}
 pub use Rattle.cipher_mode.specs.declared.answer.Refusal.the-variants.{EmptyCbc, ErrorDataLen, InvalidLastU8 as BadLast}
 pub use Rattle.cipher_mode.specs.declared.answer.Refusal.the-variants.{InvalidPadding as BadPadding, InvalidTag, NoRoom, Retired, ShortGcm}

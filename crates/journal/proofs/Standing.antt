@@ -1,10 +1,10 @@
 -- What is known of a record that stands whole: its parts stand whole one behind the other, they make up its size, and what is read of it is
 -- told by the bytes of its fields alone.
-use Rattle.journal.proofs.Names.{Direction, Entry, List, Stands, [], _++_, _+_, _-_, _<_, _∙_, _∷_, _≡_, _≤_, afterRecord, and-left}
-use Rattle.journal.proofs.Names.{and-right, ap, arith, behind, by-test, directionOf, drop, drop-at, false, fromData, fromIv}
-use Rattle.journal.proofs.Names.{fromLabel, fromOutput, fromRoom, front, getD, getD-take, le-leb, leb, leb-true, length}
-use Rattle.journal.proofs.Names.{length-append, length-drop, length-take-le, lit<, marked, numberOf, partAt, pastPart, refl, sizeAt}
-use Rattle.journal.proofs.Names.{startsPart, startsRecord, sym, take, take-add, take-at, true, wordAt, ℕ}
+use Rattle.journal.proofs.Names.{Entry, List, Stands, [], _+_, _-_, _<_, _∙_, _∷_, _≡_, _≤_, afterRecord, and-left, and-right, ap}
+use Rattle.journal.proofs.Names.{arith, behind, by-test, directionOf, drop, drop-at, false, fromData, fromIv, fromLabel, fromOutput}
+use Rattle.journal.proofs.Names.{fromRoom, front, getD, getD-take, le-leb, leb, leb-true, length, length-append, length-drop}
+use Rattle.journal.proofs.Names.{length-take-le, lit<, marked, numberOf, partAt, pastPart, sizeAt, startsPart, startsRecord, sym}
+use Rattle.journal.proofs.Names.{take, take-add, take-at, true, wordAt, ℕ}
 use Rattle.journal.proofs.Fields.{Field, fixed, counted, Fit, fields, joined, past, sizes-are, joined-fields, row-in}
 
 -- a part

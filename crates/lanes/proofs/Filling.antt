@@ -1,7 +1,6 @@
 -- What holds at every place below i, and at i, holds below i + 1: so a list is filled word by word.
-use Rattle.block.proofs.Base.{_*_, _+_, _<_, _≤_, suc, zero, ℕ, _∙_, _≡_, ap, refl, subst, ⊎-elim, List, [], _∷_, arith, getD, length}
-use Rattle.block.proofs.Base.{length-set, set}
-use Rattle.block.proofs.Base.{getD-set-other, getD-set-same}
+use Rattle.block.proofs.Base.{_*_, _+_, _<_, _≤_, suc, zero, ℕ, _∙_, _≡_, refl, subst, ⊎-elim, List, [], _∷_, arith, getD, length}
+use Rattle.block.proofs.Base.{length-set, set, getD-set-other, getD-set-same}
 use Rattle.lanes.specs.Each.{Each}
 use Rattle.lanes.proofs.Bits.{lt-or-le}
 

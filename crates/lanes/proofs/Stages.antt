@@ -1,6 +1,6 @@
 -- Stages of swaps, one after the other: each changes one binary digit of a word's number with that of a bit's number.
-use Rattle.block.proofs.Base.{_%_, _*_, _+_, _-_, _/_, _<_, ℕ, _∙_, _≡_, ap₂, refl, sym, List, [], _∷_, arith, T, eqb, eqb→eq}
-use Rattle.block.proofs.Base.{length, length-replicate, replicate}
+use Rattle.block.proofs.Base.{_%_, _*_, _+_, _-_, _/_, _<_, ℕ, _∙_, _≡_, refl, List, [], _∷_, arith, T, eqb, eqb→eq, length}
+use Rattle.block.proofs.Base.{length-replicate, replicate}
 use Rattle.block.proofs.Table.{rule-at, passes}
 use Rattle.lanes.specs.Bits.{bit}
 use Rattle.lanes.proofs.Swaps.{digit, dig, MaskOf, Step, swapped}

@@ -1,6 +1,6 @@
 -- A masked swap of bits at a distance changes one binary digit of a word's number with that of a bit's number.
-use Rattle.block.proofs.Base.{_%_, _*_, _+_, _-_, _/_, _<_, _^_, _≤_, min, suc, zero, ℕ, _∙_, _≡_, ap, ap₂, refl, sym, _⊎_, inl, inr}
-use Rattle.block.proofs.Base.{⊎-elim, add-div-right, add-zero, div-eq-of-lt, arith, differ, pow-pos, xor-comm, xor-zero-r}
+use Rattle.block.proofs.Base.{_%_, _*_, _+_, _-_, _/_, _<_, _^_, _≤_, ℕ, _∙_, _≡_, ap, ap₂, sym, _⊎_, inl, inr, ⊎-elim, add-div-right}
+use Rattle.block.proofs.Base.{add-zero, div-eq-of-lt, arith, differ, pow-pos, xor-comm, xor-zero-r}
 use Rattle.block.specs.Xor.{_⊕_}
 use Rattle.block.proofs.Xor.{xor-again}
 use Rattle.lanes.specs.Bits.{bit}

@@ -1,6 +1,6 @@
 -- What is known where a range goes on to its work.
-use Rattle.ranges.proofs.Names.{Bool, Direction, KeyAnswer, Passed, _+_, _≡_, _≤_, both, key-and-iv-passed, keyAndIv, le-ltb}
-use Rattle.ranges.proofs.Names.{let-through, ltb, ltb-false, rangeCheck, reachCheck, sixteen, ℕ}
+use Rattle.ranges.proofs.Names.{Bool, Direction, KeyAnswer, Passed, _+_, _≡_, _≤_, both, key-and-iv-passed, keyAndIv, let-through}
+use Rattle.ranges.proofs.Names.{ltb, ltb-false, rangeCheck, reachCheck, sixteen, ℕ}
 use Rattle.cipher_mode.specs.declared.CipherMode.the-variants.{Ctr}
 
 module _ (a : KeyAnswer) (retired : Bool) (dir : Direction) (iv : ℕ) where
@@ -14,8 +14,3 @@ module _ (a : KeyAnswer) (retired : Bool) (dir : Direction) (iv : ℕ) where
   range-passed offset n room e =
       let from-reach = both (reachCheck a retired dir iv (offset + n)) _ e in
       (reach-passed (offset + n) (from-reach .0), ltb-false room n (let-through (ltb room n) _ _ (from-reach .1) .fails))
-
-  pub has-room : (offset n room : ℕ) → reachCheck a retired dir iv (offset + n) ≡ Passed → n ≤ room
-      → rangeCheck a retired dir iv offset n room ≡ Passed
-  unfolding rangeCheck
-  has-room offset n room e h = rw (e, le-ltb room n h)

@@ -3,7 +3,7 @@
 use Rattle.block.proofs.Base.{_-_, _≤_, ℕ, _∙_, _≡_, ap, ap₂, refl, sym, List, [], _++_, _∷_, append-assoc, arith, lit<, drop, length}
 use Rattle.block.proofs.Base.{length-append, length-replicate, replicate, take, drop-at, take-at}
 use Rattle.block.proofs.Entries.{below-append, below-replicate}
-use Rattle.ghash.specs.Ghash.{blocks, lengthBlock, authBlocks}
+use Rattle.ghash.specs.Ghash.{blocks, authBlocks}
 use Rattle.ghash.proofs.Blocks.{length-blocks}
 use Rattle.ghash.proofs.Lengths.{lengthBlock-lt, lengthBlock-same}
 use Rattle.roots.specs.Confused.{Pair, Sound, hashed, hashedCount}

@@ -1,10 +1,10 @@
 -- Six stages, from 32 down to 1, transpose.
-use Rattle.block.proofs.Base.{_%_, _*_, _+_, _-_, _/_, _<_, _^_, _≤_, ℕ, _∙_, _≡_, ap₂, refl, sym, ⊎-elim, List, [], _∷_, arith, T, eqb}
-use Rattle.block.proofs.Base.{eqb→eq, lit<, List·getD-eq-default, getD, replicate}
+use Rattle.block.proofs.Base.{_%_, _*_, _+_, _-_, _/_, _<_, _^_, _≤_, ℕ, _∙_, _≡_, ap₂, ⊎-elim, List, [], _∷_, arith, lit<}
+use Rattle.block.proofs.Base.{List·getD-eq-default, getD}
 use Rattle.lanes.specs.Bits.{bit}
 use Rattle.lanes.proofs.Bits.{lt-or-le}
 use Rattle.rows.specs.Transposed.{Staged, at, Turned}
-use Rattle.lanes.proofs.Stages.{masks, digs, By, by-none, by-stage, same-at}
+use Rattle.lanes.proofs.Stages.{masks, digs, by-none, by-stage, same-at}
 use Rattle.rows.proofs.Digits.{rows, step}
 
 -- once all six digits are changed, so are the numbers: one test over all pairs

@@ -1,8 +1,7 @@
 -- The bytes of blocks in rows, stored one after the other.
-use Rattle.block.proofs.Base.{_%_, _*_, _+_, _/_, _<_, _^_, _≤_, suc, ℕ, _∙_, _≡_, ap, ap₂, refl, sym, List, [], _++_, _∷_, append-assoc}
-use Rattle.block.proofs.Base.{add-one, add-two, add-three, div-one, arith, lit<, drop, getD, length, length-append, length-drop, set, take}
-use Rattle.block.proofs.Base.{drop-at, drop-drop}
-use Rattle.block.proofs.Base.{length-take-le, sets, sets-eq, take-at}
+use Rattle.block.proofs.Base.{_%_, _*_, _+_, _/_, _<_, _^_, _≤_, ℕ, _∙_, _≡_, ap, ap₂, sym, List, [], _++_, _∷_, append-assoc, add-one}
+use Rattle.block.proofs.Base.{add-two, add-three, div-one, arith, lit<, drop, getD, length, length-append, length-drop, set, take, drop-at}
+use Rattle.block.proofs.Base.{drop-drop, sets-eq, take-at}
 use native.Mathlib.Numerals.{add-four, add-five, add-six, add-seven}
 use Rattle.block.specs.Below.{AreBytes}
 use Rattle.block.specs.BigEndian.{bytesOf}

@@ -13,8 +13,7 @@ pub use Rattle.block.proofs.Entries.{below-at, below-drop, below-each, below-ta
 pub use Rattle.block.proofs.Same.{and-left, and-right, by-test}
 pub use Rattle.block.proofs.Tails.{length-tailed, over-behind, returned, tailed}
 pub use Rattle.block.specs.Below.{AreBytes}
-unfoldable pub use Rattle.block.specs.BigEndian.{numberOf}
-unfoldable pub use Rattle.block.specs.BigEndian.{bytesOf}
+unfoldable pub use Rattle.block.specs.BigEndian.{numberOf, bytesOf}
 pub use Rattle.block.specs.Over.{over}
 pub use Rattle.block.specs.Words.{wordAt}
 pub use Rattle.label.proofs.LabelTells.{length-label}

@@ -1,8 +1,8 @@
 -- Records are read one at a time: where one stands whole at the front, it and then what is behind it; otherwise none.
-use Rattle.shelf.proofs.Names.{Bool, List, Record, [], _+_, _-_, _<_, _∙_, _∷_, _≡_, _≤_, and-left, and-right, arith, by-test}
-use Rattle.shelf.proofs.Names.{bytesOf, cond, drop, eqb, false, front, labelOf, le-leb, leb, leb-true, length, length-append}
-use Rattle.shelf.proofs.Names.{length-bytesOf, length-drop, length-label, length-take-le, lt-leb, marked, ne-eqb, not, readUpTo}
-use Rattle.shelf.proofs.Names.{records, refl, sizeAt, startsRecord, suc, sym, take, true, wordAt, written, zero, ℕ}
+use Rattle.shelf.proofs.Names.{List, Record, [], _+_, _-_, _<_, _∙_, _∷_, _≡_, _≤_, and-left, and-right, arith, by-test, bytesOf}
+use Rattle.shelf.proofs.Names.{cond, drop, eqb, false, front, labelOf, le-leb, leb, leb-true, length, length-append, length-bytesOf}
+use Rattle.shelf.proofs.Names.{length-drop, length-label, length-take-le, lt-leb, marked, ne-eqb, not, readUpTo, records, refl}
+use Rattle.shelf.proofs.Names.{sizeAt, startsRecord, suc, sym, take, true, wordAt, written, zero, ℕ}
 
 pub length-written : (r : Record) → length (written r) ≡ 12 + length (r .sealed)
 unfolding written

@@ -1,9 +1,8 @@
 -- The S-boxes of a byte, column by column.
 use Rattle.sliced.proofs.Names.{Held, List, Masks, Sbox, SboxLanes, [], _%_, _*_, _+_, _-_, _/_, _<_, _^_, _∙_, _∷_, _≡_, _≤_, _⊎_}
-use Rattle.sliced.proofs.Names.{_⊕_, add-zero, ap, ap₂, arith, bit, bit-mod, bit-pack, bit-shr, bit-small, bit-xor, byteLane, column}
-use Rattle.sliced.proofs.Names.{each8, getD, getD-set-other, getD-set-same, inl, inr, keyed, lane, length, length-set, lit<}
-use Rattle.sliced.proofs.Names.{lt-or-le, mod-eq-of-lt, mod-lt, one-more, pack, pack-is, puts, puts-in, puts-out, refl, set, subbed}
-use Rattle.sliced.proofs.Names.{suc, summed, sym, tau-bit, zero, ℕ, ⊎-elim}
+use Rattle.sliced.proofs.Names.{add-zero, ap, ap₂, arith, bit, bit-mod, bit-pack, bit-shr, bit-small, bit-xor, byteLane, column}
+use Rattle.sliced.proofs.Names.{each8, getD, keyed, lane, length, lit<, lt-or-le, mod-eq-of-lt, mod-lt, one-more, pack, pack-is}
+use Rattle.sliced.proofs.Names.{puts, puts-in, puts-out, refl, subbed, summed, sym, tau-bit, ℕ, ⊎-elim}
 use Rattle.sliced.proofs.Held.{held-lane}
 
 -- the first eight entries

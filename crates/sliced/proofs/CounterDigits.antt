@@ -1,9 +1,8 @@
 -- The words of a counter with carries between them are the words of its sum.
-use Rattle.sliced.proofs.Names.{Added, AreWords, Blank, Bool, Kept, List, [], _%_, _*_, _+_, _/_, _<_, _^_, _∙_, _∷_, _≡_, ap, ap₂}
-use Rattle.sliced.proofs.Names.{arith, below-at, bit, bit-small, bit-zero, bytesOf, bytesOf-numberOf, carryAt, ctrJump, digits-div}
-use Rattle.sliced.proofs.Names.{digits-mod, false, gcm-jump-words, gcmJump, getD, jumped, lane, lanes, length-unwords, lit<, mod-mul}
-use Rattle.sliced.proofs.Names.{numberOf, numberOf-unwords, pack-is, refl, sym, true, unwords, unwords-bytes, words, words-unwords}
-use Rattle.sliced.proofs.Names.{ℕ}
+use Rattle.sliced.proofs.Names.{Added, AreWords, Blank, Bool, Kept, List, _%_, _*_, _+_, _/_, _<_, _^_, _∙_, _≡_, ap, arith}
+use Rattle.sliced.proofs.Names.{below-at, bit, bit-zero, bytesOf, bytesOf-numberOf, carryAt, ctrJump, digits-div, digits-mod, false}
+use Rattle.sliced.proofs.Names.{gcm-jump-words, getD, jumped, lane, lanes, length-unwords, lit<, mod-mul, numberOf, numberOf-unwords}
+use Rattle.sliced.proofs.Names.{refl, sym, true, unwords, unwords-bytes, words, words-unwords, ℕ}
 use Rattle.sliced.proofs.Held.{lane-lt, lane-is, lanes-words}
 
 -- nothing in a lane, and no carry

@@ -1,8 +1,8 @@
 -- Transposed halves of blocks are lanes, and lanes transposed are halves of blocks.
 use Rattle.sliced.proofs.Names.{Halved, List, Parted, Row, Rows, Turned, [], _%_, _*_, _+_, _/_, _<_, _^_, _∙_, _∷_, _≡_, _≤_}
-use Rattle.sliced.proofs.Names.{add-zero, ap, ap₂, arith, at, below-at, bit, bit-shr, encryptWords, four-entries, getD}
-use Rattle.sliced.proofs.Names.{getD-set-other, getD-set-same, lane, lanes, length, length-set, lit<, mod-is, mod-lt, one-more}
-use Rattle.sliced.proofs.Names.{place, pow-pos, puts, puts-in, puts-out, refl, rounds, set, subst, sym, turned, word-more, ℕ}
+use Rattle.sliced.proofs.Names.{add-zero, ap, arith, at, below-at, bit, bit-shr, encryptWords, four-entries, getD, lane, lanes}
+use Rattle.sliced.proofs.Names.{length, lit<, mod-is, one-more, place, puts, puts-in, puts-out, refl, rounds, set, subst, sym}
+use Rattle.sliced.proofs.Names.{turned, word-more, ℕ}
 use Rattle.sliced.proofs.Held.{lane-lt, lane-bit, lanes-words}
 
 pub parted-next : (a upper lower : List ℕ) (i : ℕ) → i < 256 → length upper ≡ 256 → length lower ≡ 256 → Parted i a upper lower

@@ -1,6 +1,6 @@
 -- What the words of a plane hold are its lanes.
-use Rattle.sliced.proofs.Names.{AreWords, Held, List, _%_, _*_, _+_, _/_, _<_, _^_, _∙_, _≡_, _≤_, ap₂, arith, bit, bit-pack}
-use Rattle.sliced.proofs.Names.{bit-small, getD, lane, lanes, length, pack-is, pack-lt, set, sym, word-more, ℕ}
+use Rattle.sliced.proofs.Names.{AreWords, Held, List, _%_, _*_, _+_, _/_, _<_, _^_, _∙_, _≡_, ap₂, arith, bit, bit-pack, bit-small}
+use Rattle.sliced.proofs.Names.{getD, lane, lanes, length, pack-is, pack-lt, set, sym, word-more, ℕ}
 
 -- the bits of lane e
 module _ (x : List ℕ) (e : ℕ) where

@@ -1,6 +1,5 @@
 -- The masks of a round key's bits, and a column with them.
-use Rattle.sliced.proofs.Names.{List, Masks, [], _*_, _+_, _<_, _∙_, _∷_, _≡_, _⊕_, add-zero, ap, ap₂, arith, bit, column, each8}
-use Rattle.sliced.proofs.Names.{getD, refl, suc, sym, zero, ℕ}
+use Rattle.sliced.proofs.Names.{List, Masks, [], _*_, _+_, _<_, _∷_, _≡_, _⊕_, add-zero, bit, column, each8, getD, ℕ}
 
 -- in every lane the bit i of k
 abbrev Spread : ℕ → ℕ → ℕ → Type 0

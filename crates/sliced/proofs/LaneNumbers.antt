@@ -1,7 +1,7 @@
 -- The plane of lane numbers: six rows that are the same in every column, three that are all ones or zero, and zeros.
 use Rattle.sliced.proofs.Names.{Clear, Held, List, [], _%_, _*_, _+_, _-_, _/_, _<_, _^_, _∙_, _∷_, _≡_, _≤_, ap, ap₂, arith, bit}
-use Rattle.sliced.proofs.Names.{bit-high, bit-low, bit-past, bit-zero, eqb, eqb→eq, getD, getD-set-other, lane, length, length-set}
-use Rattle.sliced.proofs.Names.{lt-or-le, numberAt, place, replicate, same-at, set, sym, ℕ, ⊎-elim}
+use Rattle.sliced.proofs.Names.{bit-high, bit-low, bit-past, bit-zero, getD, getD-set-other, lane, length, length-set, lt-or-le}
+use Rattle.sliced.proofs.Names.{numberAt, place, same-at, set, sym, ℕ, ⊎-elim}
 use Rattle.sliced.proofs.Held.{lane-held, held-next}
 
 -- the six rows: bit k of row q is bit q of k

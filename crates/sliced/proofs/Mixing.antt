@@ -1,7 +1,7 @@
 -- L in every lane; a round, and four.
 use Rattle.sliced.proofs.Names.{Held, L, L-bit, L-lt, List, T, [], _%_, _*_, _+_, _/_, _<_, _^_, _∙_, _∷_, _≡_, _≤_, _⊕_, ap, ap₂}
-use Rattle.sliced.proofs.Names.{arith, bit, bit-xor, differ, getD, getD-set-other, keyed, lane, lanes, length, lit<, mixed, refl}
-use Rattle.sliced.proofs.Names.{rounds, set, subbed, sym, tau-lt, xor-lt, ℕ}
+use Rattle.sliced.proofs.Names.{arith, bit, bit-xor, differ, getD, getD-set-other, keyed, lane, lanes, length, lit<, mixed, rounds}
+use Rattle.sliced.proofs.Names.{set, subbed, sym, tau-lt, xor-lt, ℕ}
 use Rattle.sliced.proofs.Held.{lane-lt, held-lane, lane-held, held-next}
 
 pub doubled-next : (f : ℕ → ℕ) (n i : ℕ) (s : List ℕ) → i < 256 → length s ≡ 512 → Held f n (256 + i) s

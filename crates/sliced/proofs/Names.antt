@@ -1,9 +1,8 @@
 -- The names from outside this crate's proofs that they use, each with the module that has it.
 pub use Rattle.block.proofs.Base.{Bool, Fits, List, [], _%_, _*_, _+_, _-_, _/_, _<_, _^_, _∙_, _∷_, _≡_, _≤_, _⊎_, add-one, add-zero, ap}
-pub use Rattle.block.proofs.Base.{ap₂, arith, bitAnd, differ, digits-div, digits-mod, drop, drop-of-length-le, eqb, eqb→eq, false, getD}
-pub use Rattle.block.proofs.Base.{getD-set-other, getD-set-same, inl, inr, leb, leb→le, length, length-set, lit<, min, mod-eq-of-lt, mod-lt}
-pub use Rattle.block.proofs.Base.{mod-mul, mul-assoc, mul-comm, needs, pow-pos, pow-suc, refl, replicate, set, subst, suc, sym, true, w32}
-pub use Rattle.block.proofs.Base.{xor-lt, zero, ℕ, ⊎-elim}
+pub use Rattle.block.proofs.Base.{ap₂, arith, bitAnd, differ, digits-div, digits-mod, drop, drop-of-length-le, false, getD, getD-set-other}
+pub use Rattle.block.proofs.Base.{getD-set-same, leb, leb→le, length, length-set, lit<, min, mod-eq-of-lt, mod-lt, mod-mul, needs, pow-suc}
+pub use Rattle.block.proofs.Base.{refl, set, subst, suc, sym, true, w32, xor-lt, zero, ℕ, ⊎-elim}
 pub use Rattle.block.proofs.Convert.{bytesOf-numberOf}
 pub use Rattle.block.proofs.Entries.{below-at, below-each}
 pub use Rattle.block.proofs.Table.{rule-at}
@@ -16,11 +15,10 @@ pub use Rattle.cipher.proofs.Bounds.{L-lt, tau-lt}
 pub use Rattle.cipher.proofs.Rounds.{rounds-front}
 pub use Rattle.cipher.proofs.WordBits.{L-bit, tau-bit}
 pub use Rattle.cipher.specs.Sm4.{L, turned}
-unfoldable pub use Rattle.cipher.specs.Sm4.{encryptBlock}
-unfoldable pub use Rattle.cipher.specs.Sm4.{T, encryptWords, rounds}
+unfoldable pub use Rattle.cipher.specs.Sm4.{encryptBlock, T, encryptWords, rounds}
 pub use Rattle.circuit.specs.Sbox.{Sbox, SboxLanes}
 pub use Rattle.counter.proofs.Steps.{gcm-jump-words}
-pub use Rattle.counter.specs.Counter.{gcmJump, jumped}
+pub use Rattle.counter.specs.Counter.{jumped}
 unfoldable pub use Rattle.counter.specs.Counter.{ctrJump}
 pub use Rattle.lanes.proofs.Bits.{bit-and, bit-high, bit-low, bit-mod, bit-pack, bit-past, bit-shr, bit-small, bit-xor, bit-zero, lt-or-le}
 pub use Rattle.lanes.proofs.Bits.{mod-is, pack-below, pack-is, pack-lt, three-bits}

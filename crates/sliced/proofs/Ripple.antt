@@ -1,8 +1,8 @@
 -- A word added in every lane, row by row with carries: after i rows the sums of the low i bits and the carries are what was to be added.
 use Rattle.sliced.proofs.Names.{Added, List, RowAdded, WordAdded, [], _%_, _*_, _+_, _/_, _<_, _^_, _∙_, _∷_, _≡_, _≤_, _⊕_, add-one}
 use Rattle.sliced.proofs.Names.{add-zero, ap, ap₂, arith, bit, bit-and, bit-small, bit-xor, bitAnd, carryAt, differ, each8, getD}
-use Rattle.sliced.proofs.Names.{getD-set-other, getD-set-same, lane, length, length-set, min, mul-assoc, mul-comm, pack, pack-below}
-use Rattle.sliced.proofs.Names.{pack-is, pow-suc, refl, set, suc, sym, three-bits, word-more, zero, ℕ}
+use Rattle.sliced.proofs.Names.{getD-set-other, getD-set-same, lane, length, length-set, min, pack, pack-below, pack-is, pow-suc}
+use Rattle.sliced.proofs.Names.{refl, set, suc, sym, three-bits, word-more, zero, ℕ}
 
 -- three bits, their sum and its carry, in every bit of three words
 word-adder : (k a b m : ℕ) → bit k (a ⊕ b ⊕ m) + 2 * bit k (bitAnd a b ⊕ bitAnd (a ⊕ b) m) ≡ bit k m + bit k a + bit k b

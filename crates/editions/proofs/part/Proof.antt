@@ -29,6 +29,6 @@ part-spec = tie.close (tie.spec (λ c. search needs) (λ c. search needs) (λ c.
     rw (← at-test .is-candidate .ensures, not-true (at-test .is-candidate .result) (c .before .if1 .taken)))
     (λ c. search needs) (λ c. search needs) (λ c. search needs) (λ c. outside (c .before .before) (omega arith)) (λ c. search needs)
     (λ c. search needs)
-    (λ c. search needs) (λ c. search needs) (λ c. outside (c .before .before .before) (omega arith)) (λ c. search needs)
-    (λ c. search needs) (λ c. search needs)
+    (λ c. search needs) (λ c. search needs) (λ c. outside (c .before .before .before) (omega arith)) (λ c. search needs) (λ c. search needs)
+    (λ c. search needs)
     (λ c. search needs) returns-4)

@@ -1,5 +1,5 @@
 -- `gcm::has_tag` meets its contract: it compares the tag part.
-use Rattle.gcm.proofs.Names.{_-_, _∙_, _≡_, ap, arith, length, length-drop, needs, now}
+use Rattle.gcm.proofs.Names.{_-_, _∙_, ap, arith, length, length-drop, needs, now}
 use Rattle.gcm.proofs.has_tag.Statement.{statement}
 use Rattle.gcm.proofs.has_tag.Tie as tie
 

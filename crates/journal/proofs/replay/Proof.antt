@@ -1,8 +1,7 @@
 -- `replay` meets its contract. The loop's invariant: replay from here, with the report so far, ends as replay of the whole journal does,
 -- and no count passes the place. The measure is how many bytes are to come.
-use Rattle.journal.proofs.Names.{List, Replayed, Report, Sm4Cipher, Within, _+_, _<_, _∙_, _≡_, _≤_, ap, arith, badKeys, false}
-use Rattle.journal.proofs.Names.{keysIn, length, length-drop, needs, nothing, now, numberOfEnd, replay, replayFrom, replayOne, sym}
-use Rattle.journal.proofs.Names.{ℕ}
+use Rattle.journal.proofs.Names.{List, Sm4Cipher, Within, _+_, _<_, _∙_, _≡_, _≤_, ap, arith, keysIn, length, length-drop, needs}
+use Rattle.journal.proofs.Names.{nothing, now, numberOfEnd, replay, replayFrom, replayOne, sym, ℕ}
 use Rattle.journal.proofs.Standing.{stands, size-within, data-within}
 use Rattle.journal.proofs.KeyTurns.{few-keys}
 use Rattle.journal.proofs.Counting.{within-nothing}

@@ -1,6 +1,6 @@
 -- `replay_one` meets its contract: each return is the definition, by the tests that led there.
-use Rattle.journal.proofs.Names.{BadRecord, List, Sm4Cipher, TooLong, UnknownKey, _∙_, _≡_, ap, false, front, hasNumber, keysIn}
-use Rattle.journal.proofs.Names.{le-ltb, lt-ltb, ltb, needs, now, placeOf, startsRecord, sym, tooLong, true, ℕ}
+use Rattle.journal.proofs.Names.{BadRecord, List, Sm4Cipher, TooLong, UnknownKey, _∙_, _≡_, false, front, hasNumber, keysIn, le-ltb}
+use Rattle.journal.proofs.Names.{lt-ltb, ltb, needs, now, placeOf, startsRecord, sym, tooLong, true}
 use Rattle.journal.proofs.Standing.{stands, size-zero, size-some}
 use Rattle.journal.proofs.Replaying.{refuses, counts}
 use Rattle.journal.proofs.replay_one.Statement.{statement}

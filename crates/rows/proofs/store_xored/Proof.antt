@@ -1,13 +1,10 @@
 -- `rows::store_xored` meets its contract. The loop's invariant: the first i blocks are stored, and behind them stands what stood there.
 -- A turn stores the two halves of one block more, each xored with its half of the other block.
-use Rattle.block.proofs.Base.{_*_, _-_, _^_, _≤_, ℕ, _∙_, _≡_, ap, _++_, arith, needs, drop, getD, length, length-drop, take, take-all, w32}
-use Rattle.block.proofs.Base.{w8, Fits}
-use Rattle.block.specs.BigEndian.{bytesOf}
+use Rattle.block.proofs.Base.{_*_, _-_, _^_, _≤_, ℕ, _∙_, _≡_, ap, _++_, arith, needs, drop, getD, length, length-drop, take-all, w32, w8}
+use Rattle.block.proofs.Base.{Fits}
 use Rattle.block.specs.Blocks.{cat}
 use Rattle.block.specs.Words.{words}
-use Rattle.block.specs.Xor.{_⊕_, xors}
-use Rattle.block.proofs.Convert.{length-bytesOf}
-use Rattle.block.proofs.Entries.{below-each, below-drop}
+use Rattle.block.proofs.Entries.{below-each}
 use Rattle.lanes.proofs.Needs.{next16}
 use Rattle.rows.specs.Rows.{Row}
 use Rattle.rows.proofs.Storing.{xoredRow, length-xoredRow, xored-row, block-stored, all-stored}

@@ -7,8 +7,8 @@ use Rattle.shelf.proofs.bad.Tie as tie
 pub bad-spec : {M : Type 1} → statement M
 bad-spec =
     tie.close (tie.spec (λ c. unfold badShelf in rw (lt-ltb _ _ (c .if1 .taken)))
-    (λ c. unfold badShelf in rw (le-ltb _ _ (c .before .if1 .left), lt-ltb _ _ (c .if2 .taken))) (λ c. search needs)
-    (λ c. search needs) (λ c. search needs) (λ c κs. search needs)
+    (λ c. unfold badShelf in rw (le-ltb _ _ (c .before .if1 .left), lt-ltb _ _ (c .if2 .taken))) (λ c. search needs) (λ c. search needs)
+    (λ c. search needs) (λ c κs. search needs)
     (λ c.
     let k = c .before .before .before .before in
     let a = k .before .args in

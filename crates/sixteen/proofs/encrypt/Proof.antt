@@ -6,8 +6,8 @@ use Rattle.sixteen.proofs.encrypt.Tie as tie
 
 pub encrypt-spec : {M : Type 1} → statement M
 encrypt-spec = tie.close (tie.spec
-    (λ c. unfold cat in rw (c .if1 .taken) refl) (λ c κs. search needs) (λ c κs. search needs) (λ c κs. search needs)
-    (λ c κs. omega arith) (λ c κs. search needs) (λ c. search needs)
+    (λ c. unfold cat in rw (c .if1 .taken) refl) (λ c κs. search needs) (λ c κs. search needs) (λ c κs. search needs) (λ c κs. omega arith)
+    (λ c κs. search needs) (λ c. search needs)
     (λ c. unfold encryptBlock in
     let at-store = c .before .before in
     let at-rounds = at-store .before .before .before in

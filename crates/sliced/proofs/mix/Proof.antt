@@ -1,6 +1,6 @@
 -- `sliced::mix` meets its contract. The loop's invariant: the first i words have L added to them, the others are as they were (`Mixed`).
 -- A turn adds to one word more the five words of s that L takes its bit from (`mixed-next`).
-use Rattle.sliced.proofs.Names.{Held, _-_, _<_, _^_, _≡_, _≤_, arith, length, mixed, needs, next16, ℕ}
+use Rattle.sliced.proofs.Names.{Held, _-_, _<_, _^_, _≡_, _≤_, arith, length, needs, next16, ℕ}
 use Rattle.sliced.proofs.Mixing.{Mixed, mixed-next}
 use Rattle.sliced.proofs.mix.Statement.{statement}
 use Rattle.sliced.proofs.mix.Tie as tie

@@ -8,8 +8,8 @@ use Rattle.sliced.proofs.part.Tie as tie
 pub part-spec : {M : Type 1} → statement M
 part-spec = tie.close (next8 (tie.spec
     (λ a upper₀ lower₀ i₀ upper lower i. (i ≤ 256) × (length upper ≡ 256) × (length lower ≡ 256) × Parted i a upper lower)
-    (λ a upper₀ lower₀ i₀ upper lower i. 256 - i) (λ c. search needs)) (omega arith) (λ c. search needs)
-    (λ c. search needs) (λ c. search needs)
+    (λ a upper₀ lower₀ i₀ upper lower i. 256 - i) (λ c. search needs)) (omega arith) (λ c. search needs) (λ c. search needs)
+    (λ c. search needs)
     (λ c.
     let n = c .before .before .before .loop .inv in
     (omega arith, search needs, search needs, parted-next _ _ _ _ (search needs) (n .1) (n .2) (n .3)))

@@ -1,6 +1,6 @@
 -- `sliced::round` meets its contract. The loop's invariant: s holds what the S-boxes make of the first q bytes. Once it holds all four, it
 -- holds them twice (`double`), and `mix` adds L of them to a, which is the round (`round-done`).
-use Rattle.sliced.proofs.Names.{Held, _*_, _+_, _-_, _≡_, _≤_, arith, keyed, length, needs, subbed, tau-lt}
+use Rattle.sliced.proofs.Names.{Held, _*_, _-_, _≡_, _≤_, arith, keyed, length, needs, subbed, tau-lt}
 use Rattle.sliced.proofs.Mixing.{round-done}
 use Rattle.sliced.proofs.round.Statement.{statement}
 use Rattle.sliced.proofs.round.Tie as tie

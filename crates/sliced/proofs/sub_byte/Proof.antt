@@ -1,7 +1,7 @@
 -- `sliced::sub_byte` meets its contract. The loop's invariant: byte b is done in the first j columns (`Columns`). In each lane of a column
 -- the gates give the S-box's entry for what goes in, and eight stores put it at its place (`columns-next`).
-use Rattle.sliced.proofs.Names.{Masks, SboxLanes, _*_, _+_, _-_, _<_, _∙_, _≡_, add-zero, arith, bit, column, length, length-set}
-use Rattle.sliced.proofs.Names.{needs, next16, subbed}
+use Rattle.sliced.proofs.Names.{Masks, SboxLanes, _*_, _+_, _-_, _<_, _≡_, add-zero, arith, bit, column, length, length-set, needs}
+use Rattle.sliced.proofs.Names.{next16, subbed}
 use Rattle.sliced.proofs.Columns.{Columns, columns-first, columns-next, columns-last}
 use Rattle.sliced.proofs.sub_byte.Statement.{statement}
 use Rattle.sliced.proofs.sub_byte.Tie as tie

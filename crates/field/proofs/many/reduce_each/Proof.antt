@@ -10,9 +10,9 @@ reduce-each-spec =
     (λ h1 h0 l1 l0 b1 b0 n high₀ low₀ g₀ high low g.
     (g ≤ n) × (length high ≡ 16) × (length low ≡ 16)
     × Both (λ i. timesXs 127 (joining128 (lane h1 h0 i) (lane l1 l0 i) (lane b1 b0 i))) g high low)
-    (λ h1 h0 l1 l0 b1 b0 n high₀ low₀ g₀ high low g. n - g) (λ c. search needs) (λ c. search needs) (λ c. search needs)
+    (λ h1 h0 l1 l0 b1 b0 n high₀ low₀ g₀ high low g. n - g) (λ c. search needs) (λ c. search needs) (λ c. search needs) (λ c. search needs)
     (λ c. search needs) (λ c. search needs) (λ c. search needs) (λ c. search needs) (λ c. search needs) (λ c. search needs)
-    (λ c. search needs) (λ c. search needs) (λ c. search needs) (λ c. search needs)
+    (λ c. search needs) (λ c. search needs) (λ c. search needs)
     (λ c κs.
     let in-loop = c .before .before .before .before .before .before in
     in-loop .before .before .pre .0 .1 (in-loop .before .loop .g) (in-loop .loop-test .taken))

@@ -12,8 +12,7 @@ absorb-hashes-spec =
     (tie.spec
     (λ n high low m state₀ k₀ state k. (k ≤ n) × Absorbed state₀ (upTo k (lane high low)) state × PartsOf (state₀ .h) m)
     (λ n high low m state₀ k₀ state k. n - k) (λ c κs. search needs) (λ c. unfold upTo hashFrom in search needs) (λ c. search needs)
-    (λ c. search needs) (λ c. search needs) (λ c. search needs) (λ c κs. search (needs, parts-same)) (λ c. search needs)
-    (λ c. search needs)
+    (λ c. search needs) (λ c. search needs) (λ c. search needs) (λ c κs. search (needs, parts-same)) (λ c. search needs) (λ c. search needs)
     (λ c.
     let turn = c .before .before .before .before .before .loop in
     (omega arith, rw (← upTo-next) (absorbed-both _ _ _ _ _ (turn .inv .1) (c .step .ensures)), turn .inv .2))

@@ -1,6 +1,6 @@
 -- `again::call_into` meets its contract: a mode above 4 is refused, and otherwise the call answers.
-use Rattle.journal.proofs.Names.{Answer, Answered, Answers, CipherMode, Direction, Entry, List, Outcome, Sm4Cipher, _<_, _≡_, _≤_}
-use Rattle.journal.proofs.Names.{arith, callInto, false, front, le-ltb, lt-ltb, ltb, modeCall, modeOf, needs, now, outcome, refl, ℕ}
+use Rattle.journal.proofs.Names.{Answer, Answered, Answers, Entry, List, Outcome, Sm4Cipher, _<_, _≡_, callInto, false, front}
+use Rattle.journal.proofs.Names.{le-ltb, lt-ltb, ltb, needs, now, outcome, refl, ℕ}
 use Rattle.cipher_mode.specs.Answer.{headOf}
 use Rattle.journal.proofs.again.call_into.Statement.{statement}
 use Rattle.journal.proofs.again.call_into.Tie as tie

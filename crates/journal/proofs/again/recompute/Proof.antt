@@ -1,6 +1,6 @@
 -- `again::recompute` meets its contract: the room that is lent serves as the recorded one does (`lent-judged`).
 use Rattle.journal.proofs.Names.{Entry, List, _++_, _-_, _∙_, _≡_, _≤_, ap, arith, differsFrom, drop, front, length, length-append}
-use Rattle.journal.proofs.Names.{length-drop, length-take-le, lentRoom, needs, now, sub-zero, take, ℕ}
+use Rattle.journal.proofs.Names.{length-take-le, needs, now, sub-zero, take, ℕ}
 use Rattle.journal.proofs.Lent.{into-fits, into-length, lent-judged, lent-most}
 use Rattle.journal.proofs.again.recompute.Statement.{statement}
 use Rattle.journal.proofs.again.recompute.Tie as tie

@@ -1,5 +1,5 @@
 -- `again::told` meets its contract: done tells its length, and a refusal its number.
-use Rattle.journal.proofs.Names.{Answered, Ending, _∙_, ap, ap₂, endingHead, needs, refuses, sym, ℕ}
+use Rattle.journal.proofs.Names.{needs, refuses}
 use Rattle.journal.proofs.again.told.Statement.{statement}
 use Rattle.journal.proofs.again.told.Tie as tie
 

@@ -1,7 +1,7 @@
 -- `keys::bad` meets its contract. The loop's invariant: the keys to come decide. The measure is how many they are.
-use Rattle.journal.proofs.Names.{Bool, Keys, List, Sm4Cipher, [], _+_, _-_, _||_, _∙_, _∷_, _≡_, _≤_, anyRetired, ap, arith, badKeys}
-use Rattle.journal.proofs.Names.{by-test, drop, drop-of-length-le, false, hasNumber, keyNumber, keysIn, le-ltb, length, length-map}
-use Rattle.journal.proofs.Names.{lt-ltb, needs, numberTwice, refl, sym, true, ℕ}
+use Rattle.journal.proofs.Names.{Bool, Keys, List, Sm4Cipher, _-_, _||_, _∙_, _∷_, _≡_, _≤_, anyRetired, ap, arith, badKeys, by-test}
+use Rattle.journal.proofs.Names.{drop, drop-of-length-le, false, hasNumber, keyNumber, keysIn, le-ltb, length, length-map, lt-ltb}
+use Rattle.journal.proofs.Names.{needs, numberTwice, sym, true, ℕ}
 use Rattle.journal.proofs.KeyTurns.{count-keys}
 use Rattle.journal.proofs.keys.bad.Statement.{statement}
 use Rattle.journal.proofs.keys.bad.Tie as tie

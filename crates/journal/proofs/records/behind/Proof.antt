@@ -1,5 +1,5 @@
 -- `records::behind` meets its contract: what is skipped is the length and the part.
-use Rattle.journal.proofs.Names.{_+_, _∙_, ap, arith, behind, drop, needs, now, ℕ}
+use Rattle.journal.proofs.Names.{arith, behind, needs}
 use Rattle.journal.proofs.Standing.{part-fits}
 use Rattle.journal.proofs.records.behind.Statement.{statement}
 use Rattle.journal.proofs.records.behind.Tie as tie

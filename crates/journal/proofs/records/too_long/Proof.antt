@@ -1,5 +1,5 @@
 -- `records::too_long` meets its contract: the lengths are those of the record's parts.
-use Rattle.journal.proofs.Names.{_∙_, front, needs}
+use Rattle.journal.proofs.Names.{front, needs}
 use Rattle.journal.proofs.records.too_long.Statement.{statement}
 use Rattle.journal.proofs.records.too_long.Tie as tie
 

@@ -1,8 +1,8 @@
 -- `report::counted` meets its contract, field by field. No sum wraps, since every count is at most the place.
-use Rattle.journal.proofs.Names.{List, Stands, _+_, _<_, _∙_, _≡_, _≤_, ap, arith, below-at, counted, front, length, modePlace}
-use Rattle.journal.proofs.Names.{needs, oneMore, refl, suc, ℕ}
+use Rattle.journal.proofs.Names.{List, Stands, _+_, _∙_, _≡_, _≤_, ap, arith, below-at, counted, front, length, modePlace, needs}
+use Rattle.journal.proofs.Names.{oneMore, refl, suc, ℕ}
 use Rattle.journal.proofs.Standing.{size-within, data-within}
-use Rattle.journal.proofs.Counting.{same-report, mode-below-6}
+use Rattle.journal.proofs.Counting.{same-report}
 use Rattle.journal.proofs.report.counted.Statement.{statement}
 use Rattle.journal.proofs.report.counted.Tie as tie
 

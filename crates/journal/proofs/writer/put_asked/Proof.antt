@@ -1,6 +1,6 @@
 -- `writer::put_asked` meets its contract: head, label, data and IV, one behind the other.
-use Rattle.journal.proofs.Names.{List, _++_, _+_, _∙_, _≡_, ap, append-assoc, arith, headOf, length, length-append, needs, now, over}
-use Rattle.journal.proofs.Names.{over-behind, part, ℕ}
+use Rattle.journal.proofs.Names.{_++_, _+_, _∙_, _≡_, append-assoc, arith, headOf, length, length-append, needs, now, over-behind}
+use Rattle.journal.proofs.Names.{part}
 use Rattle.journal.proofs.Writing.{copied-then, length-part-of, length-head}
 use Rattle.journal.proofs.writer.put_asked.Statement.{statement}
 use Rattle.journal.proofs.writer.put_asked.Tie as tie

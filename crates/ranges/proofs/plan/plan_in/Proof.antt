@@ -1,6 +1,6 @@
 -- `plan::plan_in` meets its contract. The loop's invariant: the places so far, and those still to come from byte `at` on, are the
 -- plan. The measure is how many are to come.
-use Rattle.ranges.proofs.Names.{_*_, _+_, _-_, _∙_, _≡_, _≤_, arith, length, length-set, needs, planIn, zero-add}
+use Rattle.ranges.proofs.Names.{_*_, _-_, _∙_, _≡_, _≤_, arith, length, length-set, needs, planIn, zero-add}
 use Rattle.ranges.proofs.Laying.{laid, laid-more, laid-all}
 use Rattle.ranges.proofs.plan.plan_in.Statement.{statement}
 use Rattle.ranges.proofs.plan.plan_in.Tie as tie

@@ -28,8 +28,8 @@ loop-again c =
 
 pub keep-spec : {M : Type 1} → statement M
 keep-spec =
-    tie.close (tie.spec Inv-loop μ-loop (λ c. collecting-starts _ _ _ _) (λ c. omega arith) (λ c. omega arith)
-    (λ c. omega arith) (λ c κs. search needs) (λ c. omega arith)
+    tie.close (tie.spec Inv-loop μ-loop (λ c. collecting-starts _ _ _ _) (λ c. omega arith) (λ c. omega arith) (λ c. omega arith)
+    (λ c κs. search needs) (λ c. omega arith)
     (λ c.
     let l = c .before .before .before .before in
     all-kept (l .before .before .pre) (l .loop .inv) (c .before .front .ensures) (c .if1 .taken))

@@ -1,5 +1,5 @@
 -- `sixteen::rounds::half` meets its contract: two words side by side have no bit in common (`shl-or`).
-use Rattle.sixteen.proofs.Names.{arith, needs, shl-or}
+use Rattle.sixteen.proofs.Names.{needs, shl-or}
 use Rattle.sixteen.proofs.rounds.half.Statement.{statement}
 use Rattle.sixteen.proofs.rounds.half.Tie as tie
 

@@ -1,6 +1,6 @@
 -- `sixteen::rounds::sub_groups` meets its contract. The loop's invariant: the groups so far are there.
 use Rattle.sixteen.proofs.Names.{Each, Halves, Sbox, _*_, _+_, _-_, _<_, _^_, _∙_, _≡_, _≤_, ap, arith, byte, getD, length, needs}
-use Rattle.sixteen.proofs.Names.{sym, tau, ℕ}
+use Rattle.sixteen.proofs.Names.{tau, ℕ}
 use Rattle.sixteen.proofs.Bytes.{low-half, high-half}
 use Rattle.sixteen.proofs.rounds.sub_groups.Statement.{statement}
 use Rattle.sixteen.proofs.rounds.sub_groups.Tie as tie

@@ -1,5 +1,5 @@
 -- `sliced::counters::add_row` meets its contract: the eight words are added one after the other (`added-next`).
-use Rattle.sliced.proofs.Names.{WordAdded, _*_, add-zero, arith, getD, needs, next16, subst, sym, ℕ}
+use Rattle.sliced.proofs.Names.{_*_, add-zero, arith, needs, next16}
 use Rattle.sliced.proofs.Ripple.{added-first, added-next}
 use Rattle.sliced.proofs.counters.add_row.Statement.{statement}
 use Rattle.sliced.proofs.counters.add_row.Tie as tie

@@ -12,8 +12,8 @@ add-word-spec = tie.close (tie.spec
     (λ x₁ n w m y₁ i₁ x y i.
     (i₁ ≤ i) × (i ≤ 32) × (length x ≡ 256) × (length y ≡ 8) × Masks 32 (λ k. bit k w) m
     × ((x₀ y₀ : List ℕ) → Rippled w i₁ x₀ y₀ x₁ y₁ → Rippled w i x₀ y₀ x y))
-    (λ x₁ n w m y₁ i₁ x y i. 32 - i) (λ c κs. search needs) (λ c. search (needs, rippled-first)) (λ c κs. search needs)
-    (λ c. search needs) (λ c. search needs) (λ c κs. search needs) (λ c. search needs) (λ c. search needs)
+    (λ x₁ n w m y₁ i₁ x y i. 32 - i) (λ c κs. search needs) (λ c. search (needs, rippled-first)) (λ c κs. search needs) (λ c. search needs)
+    (λ c. search needs) (λ c κs. search needs) (λ c. search needs) (λ c. search needs)
     (λ c.
     let at-row = c .before .before in
     let at-loop = at-row .before .before .before .before in

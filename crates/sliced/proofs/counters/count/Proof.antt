@@ -1,6 +1,6 @@
 -- `sliced::counters::count` meets its contract: in each lane the last word of c and the lane's number are added, and what is carried to
 -- the other words (`lanes-counted`).
-use Rattle.sliced.proofs.Names.{AreWords, Fits, _^_, below-each, blank-room, carryAt, getD, needs, numberAt, replicate, w32, ℕ}
+use Rattle.sliced.proofs.Names.{AreWords, Fits, _^_, below-each, blank-room, getD, needs, numberAt, w32, ℕ}
 use Rattle.sliced.proofs.CounterDigits.{added-number, added-carry, lanes-counted}
 use Rattle.sliced.proofs.counters.count.Statement.{statement}
 use Rattle.sliced.proofs.counters.count.Tie as tie

@@ -5,8 +5,8 @@ use Rattle.stream.proofs.batches.run.Tie as tie
 
 pub run-spec : {M : Type 1} → statement M
 run-spec = tie.close (tie.spec (λ c κs. search needs) (λ c. search needs) (λ c. search needs) (λ c. search needs) (λ c κs. search needs)
+    (λ c. search needs) (λ c. search needs) (λ c κs. search needs) (λ c. search needs) (λ c κs. search needs) (λ c. search needs)
     (λ c. search needs)
-    (λ c. search needs) (λ c κs. search needs) (λ c. search needs) (λ c κs. search needs) (λ c. search needs) (λ c. search needs)
     (λ c. let done = c .before .before in rw (done .before .before .enum-told2 .given .1) (done .feedback .ensures)) (λ c. search needs)
     (λ c. search needs) (λ c. let done = c .before .before in rw (done .before .before .enum-told4 .given .1) (done .counters .ensures))
     (λ c. search needs) (λ c. let done = c .before .before in rw (done .before .before .enum-told5 .given .1) (done .counters2 .ensures)))
