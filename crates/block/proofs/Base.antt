@@ -3,10 +3,10 @@ pub use Prim.Native.Nat.{◌%◌, ◌*◌, ◌+◌, ◌-◌, ◌/◌, ◌<◌, �
 pub use mathlib.Core.Path.{◌∙◌, ◌≡◌, ap, ap₂, refl, subst, sym}
 pub use mathlib.Core.Logic.{◌↔◌, ◌≢◌, ◌⊎◌, inl, inr, ⊎_elim}
 pub use mathlib.Core.Bool.{Bool, ◌&&◌, ◌||◌, and-eq-true_iff, cond, false, false≢true, not, true, true≢false}
-pub use mathlib.Core.List.Pairwise.{cons as Pairwise·cons}
-pub use mathlib.Core.List.Pairwise.{nil as Pairwise·nil}
-pub use mathlib.Core.List.Pairwise.{of_cons as Pairwise·of-cons}
-pub use mathlib.Core.List.{List, Mem as List-as-Mem, Nodup as List-as-Nodup, [], ◌++◌, ◌∷◌, append_assoc}
+pub use mathlib.Core.List.Pairwise.{cons as PairwiseCons}
+pub use mathlib.Core.List.Pairwise.{nil as PairwiseNil}
+pub use mathlib.Core.List.Pairwise.{of_cons as PairwiseOf-cons}
+pub use mathlib.Core.List.{List, Mem, Nodup, [], ◌++◌, ◌∷◌, append_assoc}
 pub use mathlib.Core.List.{append-nil, map, mem-cons_of_mem, mem-cons_self, mem_of_ne_of_mem, not-mem-nil, rel_of_Pairwise-cons, reverse}
 pub use mathlib.Core.List.{reverse-reverse}
 pub use native.Mathlib.Nat.{add_assoc, add_comm, add-div_right, add-le-add, add-mod, add-mul, add-mul-div_right, add-mul-mod_self_right}
@@ -26,7 +26,7 @@ pub use lib.Bits.{and_block, and_comm, and_le_l, and_le_r, and_mask, and_shr, an
 pub use lib.Bits.{or_add_and, or_shifted, shifted_even, xor_block, xor_comm, xor_lt, xor_mod, xor_self, xor_shifted, xor_shr, xor_step}
 pub use lib.Bits.{xor_zero_l, xor_zero_r}
 pub use lib.Dec.{T, eqb, eqb→eq, leb, leb→le, lit<, lit≤, ltb}
-pub use lib.ListN.{get_or-eq_default as List·getD-eq-default, get_or-map as List·getD-map, drop, drop_of_length-le, get_or, length, length-append, length-drop, length-map}
+pub use lib.ListN.{get_or-eq_default, get_or-map, drop, drop_of_length-le, get_or, length, length-append, length-drop, length-map}
 pub use lib.ListN.{length-replicate, length-set, length-take, replicate, set, take, take-append-drop}
 pub use lib.Pow.{field, high, low, mod-mod-pow, mod-pow-add, pow-add, pow-lt, pow_pos, shl_exact, shl_lt, shl-shr, shr_lt, shr-shr, split}
 pub use lib.Seq.{drop-append-add, drop-append-le, drop_at, drop-cons, drop-drop, get_or-set_other, get_or-set_same, get_or-take, length-take-le}

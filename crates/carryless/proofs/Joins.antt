@@ -6,7 +6,7 @@ use Rattle.block.specs.Wide.{whole}
 use Rattle.block.specs.Xor.{◌⊕◌}
 use Rattle.block.proofs.Xor.{xor-sums}
 use Rattle.carryless.specs.Carryless.{clmul, joining, joining128}
-use Rattle.carryless.proofs.Laws.{xor-clmul, clmul-mod, clmul-lt, karatsuba, square-halves}
+use Rattle.carryless.proofs.Laws.{xor-clmul, clmul-mod, clmul-lt, karatsuba, square_halves}
 
 -- a shift to the left in two words
 pub spill : (j k z : ℕ) → z / 2 ^ j * 2 ^ (k + j) + z * 2 ^ k % 2 ^ (k + j) ≡ z * 2 ^ k
@@ -32,8 +32,8 @@ module _ (x y h l b : ℕ)
   low-lt : l < 2 ^ 64
   low-lt = rw el (lt_trans (clmul-lt 31 32 (x % 2 ^ 32) (y % 2 ^ 32) (mod-lt y (pow_pos 32))) (lit< tt))
 
-  pub join-64 : joining h l b ≡ clmul 64 x y
-  join-64 =
+  pub join_64 : joining h l b ≡ clmul 64 x y
+  join_64 =
       join 32 h (b ⊕ l ⊕ h) l low-lt
       ∙ (cc)
       ∙ sym (karatsuba 32 (x / 2 ^ 32) (x % 2 ^ 32) (y / 2 ^ 32) (y % 2 ^ 32) (mod-lt x (pow_pos 32)) (mod-lt y (pow_pos 32)))
@@ -46,7 +46,7 @@ join-halves x y a b s h l m ea eb es eh el em =
     let t = y % 2 ^ 32 ⊕ y / 2 ^ 32 in
     let low-is : b ≡ x % 2 ^ 32 = eb ∙ rw (div-one x) in
     let high_is : (z : ℕ) → clmul 32 a z ≡ clmul 32 (x / 2 ^ 32) z = λ z. rw ea (clmul-mod 32 32 (x / 2 ^ 32) z (le_refl 32)) in
-    join-64 x y h l m (eh ∙ high_is (y / 2 ^ 32)) (el ∙ rw low-is)
+    join_64 x y h l m (eh ∙ high_is (y / 2 ^ 32)) (el ∙ rw low-is)
     (em ∙ rw (es, low-is, xor-clmul 32 (x % 2 ^ 32) a t, high_is t, xor-clmul 32 (x % 2 ^ 32) (x / 2 ^ 32) t))
 
 -- numbers of 128 bits
@@ -66,21 +66,21 @@ module _ (h1 h0 m1 m0 l1 l0 : ℕ) (p : h0 < 2 ^ 64) (q : m1 < 2 ^ 64) (r : m0 <
       ∙ join 64 (whole h1 h0) (whole m1 m0) (whole l1 l0) (digits_lt {m = 2 ^ 64} {c = 2 ^ 64} s t)
       ∙ rw (em, eg)
 
-pub join-128 : (h l b x1 x0 y1 y0 : ℕ) → x0 < 2 ^ 64 → y0 < 2 ^ 64
+pub join_128 : (h l b x1 x0 y1 y0 : ℕ) → x0 < 2 ^ 64 → y0 < 2 ^ 64
     → h ≡ clmul 64 x1 y1 → l ≡ clmul 64 x0 y0 → b ≡ clmul 64 (x0 ⊕ x1) (y0 ⊕ y1)
     → joining128 h l b ≡ clmul 128 (whole x1 x0) (whole y1 y0)
-join-128 h l b x1 x0 y1 y0 hx hy eh el eb =
+join_128 h l b x1 x0 y1 y0 hx hy eh el eb =
     rw (eh, el, eb) (sym (karatsuba 64 x1 x0 y1 y0 hx hy))
 
 -- squares, word by word
-pub square-words : (h l w3 w2 w1 w0 : ℕ) → h < 2 ^ 64 → l < 2 ^ 64
+pub square_words : (h l w3 w2 w1 w0 : ℕ) → h < 2 ^ 64 → l < 2 ^ 64
     → w3 ≡ clmul 32 (h / 2 ^ 32) (h / 2 ^ 32) → w2 ≡ clmul 32 (h % 2 ^ 32) (h % 2 ^ 32)
     → w1 ≡ clmul 32 (l / 2 ^ 32) (l / 2 ^ 32) → w0 ≡ clmul 32 (l % 2 ^ 32) (l % 2 ^ 32)
     → whole w3 w2 * 2 ^ 128 + whole w1 w0 ≡ clmul 128 (whole h l) (whole h l)
-square-words h l w3 w2 w1 w0 hh hl e3 e2 e1 e0 =
+square_words h l w3 w2 w1 w0 hh hl e3 e2 e1 e0 =
     let small : (x w : ℕ) → w ≡ clmul 32 (x % 2 ^ 32) (x % 2 ^ 32) → w < 2 ^ 64 =
     λ x w e. rw e (lt_trans (clmul-lt 31 32 (x % 2 ^ 32) (x % 2 ^ 32) (mod-lt x (pow_pos 32))) (lit< tt)) in
-    let high_is : whole w3 w2 ≡ clmul 64 h h = square-halves 32 h w3 w2 hh (small h w2 e2) e3 e2 in
-    let low-is : whole w1 w0 ≡ clmul 64 l l = square-halves 32 l w1 w0 hl (small l w0 e0) e1 e0 in
-    square-halves 64 (whole h l) (whole w3 w2) (whole w1 w0) (digits_lt {m = 2 ^ 64} {c = 2 ^ 64} hh hl)
+    let high_is : whole w3 w2 ≡ clmul 64 h h = square_halves 32 h w3 w2 hh (small h w2 e2) e3 e2 in
+    let low-is : whole w1 w0 ≡ clmul 64 l l = square_halves 32 l w1 w0 hl (small l w0 e0) e1 e0 in
+    square_halves 64 (whole h l) (whole w3 w2) (whole w1 w0) (digits_lt {m = 2 ^ 64} {c = 2 ^ 64} hh hl)
     (rw low-is (lt_trans (clmul-lt 63 64 l l hl) (lit< tt))) (rw (high h 64 hl) high_is) (rw (low h 64 hl) low-is)

@@ -11,7 +11,7 @@ ghost use Rattle.std.specs.Int.Bits.{bit_and};
 ghost use Rattle.block.specs.Wide.{value};
 ghost use Rattle.block.specs.Xor.{◌⊕◌};
 ghost use Rattle.carryless.specs.Carryless.{clmul, joining, joining128};
-ghost use Rattle.carryless.specs.Product.{productValue};
+ghost use Rattle.carryless.specs.Product.{product_value};
 ghost use Rattle.carryless.specs.Lanes.{Each};
 ghost use Rattle.carryless.specs.Lent.{Quarters, Lends, PartsOf, words128};
 
@@ -153,7 +153,7 @@ fn xor(a: U128, b: U128) -> U128
 
 // The same for halves of 64 bits.
 pub fn joined128(high: U128, low: U128, both: U128) -> Product
-    ensures { (productValue result ≡ joining128 (value high) (value low) (value both)) × (result.w3 ≡ high.high) }
+    ensures { (product_value result ≡ joining128 (value high) (value low) (value both)) × (result.w3 ≡ high.high) }
 {
     let part = xor(both, low);
     let middle = xor(part, high);
@@ -186,7 +186,7 @@ fn word_products(x: U128, y: U128, m: &[u32; 36]) -> [u64; 9]
 // The product of two numbers of 128 bits, from nine of 32. It is y's parts that are used, which are lent as m.
 pub fn clmul128(x: U128, y: U128, m: &[u32; 36]) -> Product
     requires { PartsOf y m.now }
-    ensures { productValue result ≡ clmul 128 (value x) (value y) }
+    ensures { product_value result ≡ clmul 128 (value x) (value y) }
 {
     let z = word_products(x, y, m);
     joined128(
@@ -210,7 +210,7 @@ fn square32(x: u64) -> u64
 
 // The square of a number of 128 bits: the products of two different words cancel.
 pub fn square128(x: U128) -> Product
-    ensures { productValue result ≡ clmul 128 (value x) (value x) }
+    ensures { product_value result ≡ clmul 128 (value x) (value x) }
 {
     Product {
         w3: square32(x.high >> 32),

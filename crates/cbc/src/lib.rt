@@ -5,9 +5,9 @@ ghost use Rattle.block.specs.Words.{unwords};
 ghost use Rattle.cipher.specs.Engine.{Engine};
 ghost use Rattle.walk.specs.Reached.{Reached};
 ghost use Rattle.block.specs.Over.{over};
-ghost use Rattle.walk.specs.Walk.{chain, stepped, endState};
-ghost use Rattle.padding.specs.Padding.{unpadded, openedInto};
-ghost use Rattle.cbc.specs.Cbc.{cbcEncrypt, cbcDecrypt, cbcSeal, cbcText};
+ghost use Rattle.walk.specs.Walk.{chain, stepped, end_state};
+ghost use Rattle.padding.specs.Padding.{unpadded, opened_into};
+ghost use Rattle.cbc.specs.Cbc.{cbc_encrypt, cbc_decrypt, cbc_seal, cbc_text};
 
 use padding::Opened;
 use sliced::LEAST;
@@ -17,8 +17,8 @@ fn encrypt_step(t: &[u32], rk: [u32; 32], s: [u32; 4], data: &[u8], out: &mut [u
     requires engine { Engine t.now }
     requires in_bounds { 16 ≤ length «data».now }
     requires in_bounds_2 { 16 ≤ length out.old }
-    ensures result_value { unwords result ≡ (cbcEncrypt rk).next (unwords s) (take 16 «data».now) }
-    ensures out_after { out.new ≡ (cbcEncrypt rk).block (unwords s) (take 16 «data».now) ++ drop 16 out.old }
+    ensures result_value { unwords result ≡ (cbc_encrypt rk).next (unwords s) (take 16 «data».now) }
+    ensures out_after { out.new ≡ (cbc_encrypt rk).block (unwords s) (take 16 «data».now) ++ drop 16 out.old }
 {
     let e = cipher::encrypt(t, rk, block::block_xor(block::split_block(data), s));
     block::put_block(e, out);
@@ -35,8 +35,8 @@ pub fn encrypt_blocks(
 ) -> [u32; 4]
     requires engine { Engine t.now }
     requires data_in_bounds { length «data».now ≤ length out.old }
-    ensures result_value { unwords result ≡ endState (cbcEncrypt rk) (unwords iv) «data».now }
-    ensures out_after { out.new ≡ over (chain (cbcEncrypt rk) (unwords iv) «data».now) out.old }
+    ensures result_value { unwords result ≡ end_state (cbc_encrypt rk) (unwords iv) «data».now }
+    ensures out_after { out.new ≡ over (chain (cbc_encrypt rk) (unwords iv) «data».now) out.old }
 {
     let mut s = iv;
     let mut at: usize = 0;
@@ -52,7 +52,7 @@ pub fn encrypt_blocks(
 pub fn encrypt(t: &[u32], rk: [u32; 32], iv: [u32; 4], data: &[u8], out: &mut [u8])
     requires engine { Engine t.now }
     requires data_in_bounds { 16 * (length «data».now / 16 + 1) ≤ length out.old }
-    ensures { out.new ≡ over (cbcSeal rk (unwords iv) «data».now) out.old }
+    ensures { out.new ≡ over (cbc_seal rk (unwords iv) «data».now) out.old }
 {
     let at = data.len() - data.len() % 16;
     let s = encrypt_blocks(t, rk, iv, &data[0..at], out);
@@ -66,8 +66,8 @@ fn decrypt_step(t: &[u32], back: [u32; 32], s: [u32; 4], data: &[u8], out: &mut 
     requires engine { Engine t.now }
     requires in_bounds { 16 ≤ length «data».now }
     requires in_bounds_2 { 16 ≤ length out.old }
-    ensures result_value { unwords result ≡ (cbcDecrypt (reverse back)).next (unwords s) (take 16 «data».now) }
-    ensures out_after { out.new ≡ (cbcDecrypt (reverse back)).block (unwords s) (take 16 «data».now) ++ drop 16 out.old }
+    ensures result_value { unwords result ≡ (cbc_decrypt (reverse back)).next (unwords s) (take 16 «data».now) }
+    ensures out_after { out.new ≡ (cbc_decrypt (reverse back)).block (unwords s) (take 16 «data».now) ++ drop 16 out.old }
 {
     let p = cipher::encrypt(t, back, block::split_block(data));
     block::put_block(block::block_xor(p, s), out);
@@ -81,7 +81,7 @@ fn decrypt_batches(t: &[u32], back: [u32; 32], iv: [u32; 4], data: &[u8], out: &
     requires engine { Engine t.now }
     requires data_in_bounds { length «data».now ≤ length out.old }
     ensures result_value { result % 16 ≡ 0 }
-    ensures reached { Reached (cbcDecrypt (reverse back)) (unwords iv) «data».now out.old (take 16 (drop result (unwords iv ++ «data».now))) out.new result }
+    ensures reached { Reached (cbc_decrypt (reverse back)) (unwords iv) «data».now out.old (take 16 (drop result (unwords iv ++ «data».now))) out.new result }
 {
     if !cipher::by_gates(t) {
         return 0;
@@ -103,7 +103,7 @@ fn decrypt_batches(t: &[u32], back: [u32; 32], iv: [u32; 4], data: &[u8], out: &
 // The first m blocks of `data`, decrypted side by side to the front of `out`.
 fn decrypt_few(back: [u32; 32], iv: [u32; 4], m: usize, data: &[u8], out: &mut [u8])
     requires { (m ≤ 64) × (16 * m ≤ length «data».now) × (16 * m ≤ length out.old) }
-    ensures { out.new ≡ over (cat m (λ i. (cbcDecrypt (reverse back)).block (stepped (cbcDecrypt (reverse back)) i (unwords iv) «data».now) (block_at «data».now i))) out.old }
+    ensures { out.new ≡ over (cat m (λ i. (cbc_decrypt (reverse back)).block (stepped (cbc_decrypt (reverse back)) i (unwords iv) «data».now) (block_at «data».now i))) out.old }
 {
     let mut before = [0u8; 1024];
     sixteen::lay_before(iv, data, m, &mut before);
@@ -125,8 +125,8 @@ fn next_few(n: usize) -> usize
 // The full blocks of `data`, decrypted 64 at a time to the front of `out`. Returns the state after them.
 fn decrypt_side_by_side(back: [u32; 32], iv: [u32; 4], data: &[u8], out: &mut [u8]) -> [u32; 4]
     requires { length «data».now ≤ length out.old }
-    ensures result_value { unwords result ≡ endState (cbcDecrypt (reverse back)) (unwords iv) «data».now }
-    ensures out_after { out.new ≡ over (chain (cbcDecrypt (reverse back)) (unwords iv) «data».now) out.old }
+    ensures result_value { unwords result ≡ end_state (cbc_decrypt (reverse back)) (unwords iv) «data».now }
+    ensures out_after { out.new ≡ over (chain (cbc_decrypt (reverse back)) (unwords iv) «data».now) out.old }
 {
     let mut s = iv;
     let mut at: usize = 0;
@@ -150,8 +150,8 @@ fn decrypt_one_by_one(
 ) -> [u32; 4]
     requires engine { Engine t.now }
     requires data_in_bounds { length «data».now ≤ length out.old }
-    ensures result_value { unwords result ≡ endState (cbcDecrypt (reverse back)) (unwords iv) «data».now }
-    ensures out_after { out.new ≡ over (chain (cbcDecrypt (reverse back)) (unwords iv) «data».now) out.old }
+    ensures result_value { unwords result ≡ end_state (cbc_decrypt (reverse back)) (unwords iv) «data».now }
+    ensures out_after { out.new ≡ over (chain (cbc_decrypt (reverse back)) (unwords iv) «data».now) out.old }
 {
     let mut s = iv;
     let mut at: usize = 0;
@@ -167,8 +167,8 @@ fn decrypt_one_by_one(
 fn decrypt_rest(t: &[u32], back: [u32; 32], iv: [u32; 4], data: &[u8], out: &mut [u8]) -> [u32; 4]
     requires engine { Engine t.now }
     requires data_in_bounds { length «data».now ≤ length out.old }
-    ensures result_value { unwords result ≡ endState (cbcDecrypt (reverse back)) (unwords iv) «data».now }
-    ensures out_after { out.new ≡ over (chain (cbcDecrypt (reverse back)) (unwords iv) «data».now) out.old }
+    ensures result_value { unwords result ≡ end_state (cbc_decrypt (reverse back)) (unwords iv) «data».now }
+    ensures out_after { out.new ≡ over (chain (cbc_decrypt (reverse back)) (unwords iv) «data».now) out.old }
 {
     if cipher::by_gates(t) {
         return decrypt_side_by_side(back, iv, data, out);
@@ -187,8 +187,8 @@ pub fn decrypt_blocks(
 ) -> [u32; 4]
     requires engine { Engine t.now }
     requires data_in_bounds { length «data».now ≤ length out.old }
-    ensures result_value { unwords result ≡ endState (cbcDecrypt (reverse back)) (unwords iv) «data».now }
-    ensures out_after { out.new ≡ over (chain (cbcDecrypt (reverse back)) (unwords iv) «data».now) out.old }
+    ensures result_value { unwords result ≡ end_state (cbc_decrypt (reverse back)) (unwords iv) «data».now }
+    ensures out_after { out.new ≡ over (chain (cbc_decrypt (reverse back)) (unwords iv) «data».now) out.old }
 {
     let at = decrypt_batches(t, back, iv, data, out);
     let s = sixteen::block_before(iv, data, at);
@@ -200,7 +200,7 @@ fn last_block(t: &[u32], back: [u32; 32], iv: [u32; 4], data: &[u8]) -> [u8; 16]
     requires engine { Engine t.now }
     requires in_bounds { 16 ≤ length «data».now }
     requires data_len { length «data».now % 16 ≡ 0 }
-    ensures { result ≡ drop (length «data».now - 16) (chain (cbcDecrypt (reverse back)) (unwords iv) «data».now) }
+    ensures { result ≡ drop (length «data».now - 16) (chain (cbc_decrypt (reverse back)) (unwords iv) «data».now) }
 {
     let at = data.len() - 16;
     let p = cipher::encrypt(t, back, block::split_block(&data[at..]));
@@ -226,8 +226,8 @@ pub fn decrypt(t: &[u32], rk: [u32; 32], iv: [u32; 4], data: &[u8], out: &mut [u
     requires in_bounds { 16 ≤ length «data».now }
     requires data_len { length «data».now % 16 ≡ 0 }
     requires data_in_bounds { length «data».now ≤ length out.old }
-    ensures value { result ≡ unpadded (cbcText rk (unwords iv) «data».now) }
-    ensures out_after { out.new ≡ openedInto (cbcText rk (unwords iv) «data».now) out.old }
+    ensures value { result ≡ unpadded (cbc_text rk (unwords iv) «data».now) }
+    ensures out_after { out.new ≡ opened_into (cbc_text rk (unwords iv) «data».now) out.old }
 {
     let back = cipher::reversed(rk);
     let last = last_block(t, back, iv, data);

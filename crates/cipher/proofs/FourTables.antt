@@ -1,18 +1,18 @@
 -- T of a word is one entry of each of the four tables, xored: tau's four bytes stand at places of their own, so their sum is their
 -- xor, and L distributes over it.
 use Rattle.cipher.proofs.Names.{L, Sbox, T, ◌%◌, ◌*◌, ◌+◌, ◌-◌, ◌/◌, ◌<◌, ◌^◌, ◌∙◌, ◌≡◌, ◌⊕◌, add-zero, ap, ap₂, arith, bit_xor}
-use Rattle.cipher.proofs.Names.{bytes_of, get_or, mixed, mixedFrom, mixedTable, number_of, refl, split, sym, tau, xor_shifted, zero-add}
+use Rattle.cipher.proofs.Names.{bytes_of, get_or, mixed, mixed_from, mixed_table, number_of, refl, split, sym, tau, xor_shifted, zero-add}
 use Rattle.cipher.proofs.Names.{ℕ}
 use Rattle.cipher.proofs.Tables.{sbox-byte, from_at}
 use Rattle.cipher.proofs.Linear.{L-xor}
 
 -- entry b of table j
-mixed-at : (j b k : ℕ) → b < 256 → j < 4 → k ≡ 256 * j + b → get_or mixedTable k 0 ≡ L (Sbox b * 256 ^ (3 - j))
-unfolding mixedTable mixedFrom
+mixed-at : (j b k : ℕ) → b < 256 → j < 4 → k ≡ 256 * j + b → get_or mixed_table k 0 ≡ L (Sbox b * 256 ^ (3 - j))
+unfolding mixed_table mixed_from
 mixed-at j b k h g e =
     let d : k / 256 ≡ j = omega arith in
     let m : k % 256 ≡ b = omega arith in
-    from_at mixed mixedFrom (λ n i. refl) 1024 0 k (omega arith) ∙ ap mixed (zero-add k) ∙ ap₂ (λ (x y : ℕ). L (Sbox x * 256 ^ (3 - y))) m d
+    from_at mixed mixed_from (λ n i. refl) 1024 0 k (omega arith) ∙ ap mixed (zero-add k) ∙ ap₂ (λ (x y : ℕ). L (Sbox x * 256 ^ (3 - y))) m d
 
 -- a multiple of 2 ^ k, and what is below 2 ^ k, have no bit in common
 xor-sum : (k a b : ℕ) → a % 2 ^ k ≡ 0 → b < 2 ^ k → a ⊕ b ≡ a + b
@@ -41,8 +41,8 @@ tau-bytes w h =
     rw (a, d) (omega arith)
 
 pub mixed-T : (w : ℕ) → w < 2 ^ 32
-    → get_or mixedTable (w / 2 ^ 24) 0 ⊕ get_or mixedTable (256 + w / 2 ^ 16 % 256) 0 ⊕ get_or mixedTable (512 + w / 2 ^ 8 % 256) 0 ⊕ get_or
-    mixedTable (768 + w % 256) 0 ≡ T w
+    → get_or mixed_table (w / 2 ^ 24) 0 ⊕ get_or mixed_table (256 + w / 2 ^ 16 % 256) 0 ⊕ get_or mixed_table (512 + w / 2 ^ 8 % 256) 0 ⊕ get_or
+    mixed_table (768 + w % 256) 0 ≡ T w
 unfolding T
 mixed-T w h =
     let b0 : w / 2 ^ 24 < 256 = omega arith in

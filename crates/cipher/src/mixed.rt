@@ -2,19 +2,19 @@
 // of a word is one entry of each table, xored.
 ghost use Rattle.std.specs.Prelude.{◌≡◌};
 ghost use Rattle.cipher.specs.Sm4.{T, rounds};
-ghost use Rattle.cipher.specs.Engine.{mixedTable};
+ghost use Rattle.cipher.specs.Engine.{mixed_table};
 
 use crate::constants::MIXED;
 
 // The four tables, to be lent.
 pub(crate) fn tables() -> [u32; 1024]
-    ensures { result ≡ mixedTable }
+    ensures { result ≡ mixed_table }
 {
     MIXED
 }
 
 fn t_trans(t: &[u32], input: u32) -> u32
-    requires { t.now ≡ mixedTable }
+    requires { t.now ≡ mixed_table }
     ensures { result ≡ T input }
 {
     t[(input >> 24) as usize]
@@ -25,7 +25,7 @@ fn t_trans(t: &[u32], input: u32) -> u32
 
 // Four rounds, with four round keys.
 pub(crate) fn four_rounds(t: &[u32], rk: [u32; 4], x: [u32; 4]) -> [u32; 4]
-    requires { t.now ≡ mixedTable }
+    requires { t.now ≡ mixed_table }
     ensures { result ≡ rounds rk x }
 {
     let a = x[0] ^ t_trans(t, x[1] ^ x[2] ^ x[3] ^ rk[0]);

@@ -3,7 +3,7 @@ use Rattle.block.proofs.Base.{◌<◌, ℕ, ◌∙◌, ◌≡◌, ap, ap₂, ref
 use Rattle.block.specs.Words.{words, unwords}
 use Rattle.block.proofs.Entries.{below_each}
 use Rattle.block.proofs.WordsBack.{length-unwords, unwords-words}
-use Rattle.cipher.specs.Sm4.{encryptWords, decryptWords, encryptBlock, decryptBlock}
+use Rattle.cipher.specs.Sm4.{encrypt_words, decrypt_words, encrypt_block, decrypt_block}
 use Rattle.cipher_mode.specs.Outcome.{Head, Outcome, finished, telling, leaving, reporting, done}
 use Rattle.block.specs.Over.{over}
 use Rattle.cipher_mode.specs.declared.checks.Checked.{Checked}
@@ -11,7 +11,7 @@ use Rattle.cipher_mode.specs.declared.checks.Checked.TheVariants.{Passed}
 use Rattle.cipher_mode.specs.declared.Direction.{Direction}
 use Rattle.cipher_mode.specs.declared.Direction.TheVariants.{Encrypt, Decrypt}
 use Rattle.cipher_mode.specs.Checks.{checked}
-use Rattle.cipher_mode.specs.Calls.{keysFor, block_of}
+use Rattle.cipher_mode.specs.Calls.{keys_for, block_of}
 
 -- a report that is another leaves what that leaves
 pub leaves : {h i : Head} {x : Outcome} (o : List ℕ) → h ≡ i → leaving i o ≡ x → leaving h o ≡ x
@@ -34,13 +34,13 @@ told_of b t h o x e f z =
     ∙ ap {B = Outcome} (λ (u : Bool). leaving (telling u x.head) x.bytes) tells
 
 -- a block by a direction is what the cipher makes of its words under that direction's round keys
-pub block-by : (dir : Direction) (rk b : List ℕ) → unwords (encryptWords (keysFor dir rk) (words b)) ≡ block_of dir rk b
-unfolding encryptBlock decryptBlock decryptWords
-block-by Encrypt rk b = refl
-block-by Decrypt rk b = refl
+pub block_by : (dir : Direction) (rk b : List ℕ) → unwords (encrypt_words (keys_for dir rk) (words b)) ≡ block_of dir rk b
+unfolding encrypt_block decrypt_block decrypt_words
+block_by Encrypt rk b = refl
+block_by Decrypt rk b = refl
 
 pub length-block : (dir : Direction) (rk b : List ℕ) → length (block_of dir rk b) ≡ 16
-length-block dir rk b = rw (← block-by dir rk b) (length-unwords (encryptWords (keysFor dir rk) (words b)))
+length-block dir rk b = rw (← block_by dir rk b) (length-unwords (encrypt_words (keys_for dir rk) (words b)))
 
 -- the words of a 16-byte IV spell it
 pub spelled : (iv w : List ℕ) → length iv ≡ 16 → ((i : ℕ) → get_or iv i 0 < 256) → w ≡ words iv → unwords w ≡ iv

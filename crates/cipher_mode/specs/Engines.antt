@@ -18,5 +18,5 @@ waits Ctr dir = false
 waits Cbc dir = forwards dir
 waits Gcm dir = false
 
-abbrev pub engineFor : ℕ → CipherMode → Direction → ℕ
-engineFor mark mode dir = chosen mark (waits mode dir)
+abbrev pub engine_for : ℕ → CipherMode → Direction → ℕ
+engine_for mark mode dir = chosen mark (waits mode dir)

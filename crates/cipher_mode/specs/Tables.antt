@@ -18,23 +18,23 @@ abbrev pub limit : ℕ
 limit = 16777216
 
 -- data to decrypt that has a block of padding or a tag
-abbrev pub sealedLimit : ℕ
-sealedLimit = limit + 16
+abbrev pub sealed_limit : ℕ
+sealed_limit = limit + 16
 
-abbrev pub limitOf : Direction → CipherMode → ℕ
-limitOf Encrypt m = limit
-limitOf Decrypt Cfb = limit
-limitOf Decrypt Ofb = limit
-limitOf Decrypt Ctr = limit
-limitOf Decrypt Cbc = sealedLimit
-limitOf Decrypt Gcm = sealedLimit
+abbrev pub limit_of : Direction → CipherMode → ℕ
+limit_of Encrypt m = limit
+limit_of Decrypt Cfb = limit
+limit_of Decrypt Ofb = limit
+limit_of Decrypt Ctr = limit
+limit_of Decrypt Cbc = sealed_limit
+limit_of Decrypt Gcm = sealed_limit
 
 -- room for n bytes of data, which is also the length of an encrypted message
-abbrev pub roomOf : CipherMode → Direction → ℕ → ℕ
-roomOf Cfb dir n = n
-roomOf Ofb dir n = n
-roomOf Ctr dir n = n
-roomOf Cbc Encrypt n = 16 * (n / 16 + 1)
-roomOf Cbc Decrypt n = n
-roomOf Gcm Encrypt n = n + 16
-roomOf Gcm Decrypt n = n - 16
+abbrev pub room_of : CipherMode → Direction → ℕ → ℕ
+room_of Cfb dir n = n
+room_of Ofb dir n = n
+room_of Ctr dir n = n
+room_of Cbc Encrypt n = 16 * (n / 16 + 1)
+room_of Cbc Decrypt n = n
+room_of Gcm Encrypt n = n + 16
+room_of Gcm Decrypt n = n - 16

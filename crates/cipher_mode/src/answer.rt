@@ -1,7 +1,7 @@
 // What a call answers. Every head is made here.
 ghost use Rattle.std.specs.Prelude.{◌≡◌};
 ghost use Rattle.cipher_mode.specs.Outcome.{finished, under, telling};
-ghost use Rattle.cipher_mode.specs.Answer.{refusalHead, head_of};
+ghost use Rattle.cipher_mode.specs.Answer.{refusal_head, head_of};
 
 // Why a call was refused, by the names of libsm and, after them, those that tell the lengths apart: Cbc decryption of
 // nothing; a Gcm message or tag that is not as long as it must be, with how many bytes were missing; a wrong IV; a wrong
@@ -43,7 +43,7 @@ pub struct Answer {
 
 // The number of a refusal, as in docs/NUMBERS.md.
 pub fn number(refusal: Refusal) -> u32
-    ensures { result ≡ (refusalHead refusal).number }
+    ensures { result ≡ (refusal_head refusal).number }
 {
     match refusal {
         Refusal::ErrorBlockSize => 1,
@@ -65,7 +65,7 @@ pub fn number(refusal: Refusal) -> u32
 
 // How many bytes were missing: of refusal 9 alone.
 pub fn missing(refusal: Refusal) -> u8
-    ensures { result ≡ (refusalHead refusal).missing }
+    ensures { result ≡ (refusal_head refusal).missing }
 {
     match refusal {
         Refusal::ErrorBlockSize => 0,
@@ -107,7 +107,7 @@ pub fn done_round(key: u16, length: usize, came_round: bool) -> Answer
 }
 
 pub fn refused(key: u16, refusal: Refusal) -> Answer
-    ensures { head_of result ≡ under key (refusalHead refusal) }
+    ensures { head_of result ≡ under key (refusal_head refusal) }
 {
     Answer {
         ending: Ending::Refused(refusal),

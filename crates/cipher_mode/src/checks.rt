@@ -1,8 +1,8 @@
 // All that is refused before a byte is looked at: it depends on the key's answer and mark, the mode, the direction and the
 // lengths alone. The stages stand in the order of docs/REQUIREMENTS.md, and a call takes those that it has.
 ghost use Rattle.std.specs.Prelude.{◌≡◌, ◌≤◌};
-ghost use Rattle.cipher_mode.specs.Tables.{limit, limitOf, roomOf};
-ghost use Rattle.cipher_mode.specs.Checks.{keyCheck, wrongIv, retiredCheck, keyAndIv, labelCheck, shapeCheck, dataCheck, room_check, messageCheck, block_check};
+ghost use Rattle.cipher_mode.specs.Tables.{limit, limit_of, room_of};
+ghost use Rattle.cipher_mode.specs.Checks.{key_check, wrong_iv, retired_check, key_and_iv, label_check, shape_check, data_check, room_check, message_check, block_check};
 
 use crate::answer::Refusal;
 use crate::{CipherMode, Direction, KeyAnswer};
@@ -30,7 +30,7 @@ pub struct Lengths {
 
 // A key's answer that is no key is refused as it was when the key was set up.
 fn key(answer: KeyAnswer) -> Checked
-    ensures { result ≡ keyCheck answer }
+    ensures { result ≡ key_check answer }
 {
     match answer {
         KeyAnswer::Key => Checked::Passed,
@@ -41,7 +41,7 @@ fn key(answer: KeyAnswer) -> Checked
 
 // An IV of a size that the mode does not take: 16 bytes, and in Gcm 12 as well.
 fn wrong_iv(mode: CipherMode, n: usize) -> bool
-    ensures { result ≡ wrongIv mode n }
+    ensures { result ≡ wrong_iv mode n }
 {
     match mode {
         CipherMode::Cfb => n != 16,
@@ -54,7 +54,7 @@ fn wrong_iv(mode: CipherMode, n: usize) -> bool
 
 // A retired key does not encrypt.
 fn retired(direction: Direction, retired: bool) -> Checked
-    ensures { result ≡ retiredCheck direction retired }
+    ensures { result ≡ retired_check direction retired }
 {
     let Direction::Encrypt = direction else {
         return Checked::Passed;
@@ -73,7 +73,7 @@ pub fn key_and_iv(
     mode: CipherMode,
     iv: usize,
 ) -> Checked
-    ensures { result ≡ keyAndIv answer mark direction mode iv }
+    ensures { result ≡ key_and_iv answer mark direction mode iv }
 {
     let first = key(answer);
     let Checked::Passed = first else {
@@ -87,7 +87,7 @@ pub fn key_and_iv(
 
 // Only Gcm looks at the label.
 pub fn label(mode: CipherMode, n: usize) -> Checked
-    ensures { result ≡ labelCheck mode n }
+    ensures { result ≡ label_check mode n }
 {
     match mode {
         CipherMode::Cfb => Checked::Passed,
@@ -104,7 +104,7 @@ pub fn label(mode: CipherMode, n: usize) -> Checked
 }
 
 pub fn limit_of(direction: Direction, mode: CipherMode) -> usize
-    ensures { result ≡ limitOf direction mode }
+    ensures { result ≡ limit_of direction mode }
 {
     let Direction::Decrypt = direction else {
         return LIMIT;
@@ -121,7 +121,7 @@ pub fn limit_of(direction: Direction, mode: CipherMode) -> usize
 // The lengths of data to decrypt that nothing was ever encrypted to: Cbc gives full blocks, and at least one, and Gcm a tag, and before it
 // the text.
 fn shape(direction: Direction, mode: CipherMode, n: usize) -> Checked
-    ensures { result ≡ shapeCheck direction mode n }
+    ensures { result ≡ shape_check direction mode n }
 {
     let Direction::Decrypt = direction else {
         return Checked::Passed;
@@ -149,7 +149,7 @@ fn shape(direction: Direction, mode: CipherMode, n: usize) -> Checked
 }
 
 pub fn data(direction: Direction, mode: CipherMode, n: usize) -> Checked
-    ensures { result ≡ dataCheck direction mode n }
+    ensures { result ≡ data_check direction mode n }
 {
     if n > limit_of(direction, mode) {
         return Checked::Refused(Refusal::TooLong);
@@ -160,7 +160,7 @@ pub fn data(direction: Direction, mode: CipherMode, n: usize) -> Checked
 // How long the message is that `n` bytes are encrypted to; it needs that room.
 pub fn encrypted_length(mode: CipherMode, n: usize) -> usize
     requires { n ≤ limit }
-    ensures { result ≡ roomOf mode Direction.Encrypt n }
+    ensures { result ≡ room_of mode Direction.Encrypt n }
 {
     match mode {
         CipherMode::Cfb => n,
@@ -172,8 +172,8 @@ pub fn encrypted_length(mode: CipherMode, n: usize) -> usize
 }
 
 fn room_of(direction: Direction, mode: CipherMode, n: usize) -> usize
-    requires { dataCheck direction mode n ≡ Checked.Passed }
-    ensures { result ≡ roomOf mode direction n }
+    requires { data_check direction mode n ≡ Checked.Passed }
+    ensures { result ≡ room_of mode direction n }
 {
     match direction {
         Direction::Encrypt => encrypted_length(mode, n),
@@ -189,7 +189,7 @@ fn room_of(direction: Direction, mode: CipherMode, n: usize) -> usize
 
 // The room, for data that is in order.
 pub fn room(direction: Direction, mode: CipherMode, n: usize, room: usize) -> Checked
-    requires { dataCheck direction mode n ≡ Checked.Passed }
+    requires { data_check direction mode n ≡ Checked.Passed }
     ensures { result ≡ room_check direction mode n room }
 {
     if room < room_of(direction, mode, n) {
@@ -206,7 +206,7 @@ pub fn message(
     mode: CipherMode,
     n: Lengths,
 ) -> Checked
-    ensures { result ≡ messageCheck answer mark direction mode n }
+    ensures { result ≡ message_check answer mark direction mode n }
 {
     let first = key_and_iv(answer, mark, direction, mode, n.iv);
     let Checked::Passed = first else {

@@ -6,10 +6,10 @@ mod work;
 
 ghost use Rattle.std.specs.Prelude.{◌≡◌};
 ghost use Rattle.cipher_mode.specs.Answer.{outcome};
-ghost use Rattle.cipher_mode.specs.Key.{noCipher, newCipher, retire, withEngine, number_in, newCipherMode};
-ghost use Rattle.cipher_mode.specs.Engines.{forwards, waits, engineFor};
+ghost use Rattle.cipher_mode.specs.Key.{no_cipher, new_cipher, retire, with_engine, number_in, new_cipher_mode};
+ghost use Rattle.cipher_mode.specs.Engines.{forwards, waits, engine_for};
 ghost use Rattle.cipher_mode.specs.Tables.{mode_of};
-ghost use Rattle.cipher_mode.specs.Calls.{blockCall, modeCall};
+ghost use Rattle.cipher_mode.specs.Calls.{block_call, mode_call};
 
 use answer::Answer;
 use checks::{Checked, Lengths};
@@ -103,14 +103,14 @@ fn waits(mode: CipherMode, direction: Direction) -> bool
 
 // The engine that a message goes by under a mark.
 pub fn engine_for(mark: u8, mode: CipherMode, direction: Direction) -> u8
-    ensures { result ≡ engineFor mark mode direction }
+    ensures { result ≡ engine_for mark mode direction }
 {
     cipher::engine_of(mark, waits(mode, direction))
 }
 
 // A record that every call refuses.
 fn no_cipher(answer: KeyAnswer) -> Sm4Cipher
-    ensures { result ≡ noCipher answer }
+    ensures { result ≡ no_cipher answer }
 {
     Sm4Cipher {
         rk: [0u32; 32],
@@ -124,7 +124,7 @@ fn no_cipher(answer: KeyAnswer) -> Sm4Cipher
 impl Sm4Cipher {
     // The record of a new key: 16 bytes, and a number from 1 to 65,535.
     pub fn new(key: &[u8], number: u32) -> Sm4Cipher
-        ensures { result ≡ newCipher key.now number }
+        ensures { result ≡ new_cipher key.now number }
     {
         if key.len() != 16 {
             return no_cipher(KeyAnswer::ErrorBlockSize);
@@ -168,7 +168,7 @@ impl Sm4Cipher {
     // The record with the mark of an engine: `cipher::FOUR_TABLES`, `cipher::GATES` or `cipher::PLAIN`, and under all else the library
     // chooses.
     pub fn with_engine(self, engine: u8) -> Sm4Cipher
-        ensures { result ≡ withEngine engine self }
+        ensures { result ≡ with_engine engine self }
     {
         let rk = self.rk;
         let answer = self.answer;
@@ -183,7 +183,7 @@ impl Sm4Cipher {
 
     // One block, either way, to the front of `out`.
     pub fn call(self, direction: Direction, block_in: &[u8], out: &mut [u8]) -> Answer
-        ensures { outcome result out.new ≡ blockCall direction self block_in.now out.old }
+        ensures { outcome result out.new ≡ block_call direction self block_in.now out.old }
     {
         let stands = self.answer;
         let key = number_in(stands, self.number);
@@ -198,14 +198,14 @@ impl Sm4Cipher {
 
     // One block, encrypted to the front of `out`.
     pub fn encrypt(self, block_in: &[u8], out: &mut [u8]) -> Answer
-        ensures { outcome result out.new ≡ blockCall Direction.Encrypt self block_in.now out.old }
+        ensures { outcome result out.new ≡ block_call Direction.Encrypt self block_in.now out.old }
     {
         self.call(Direction::Encrypt, block_in, out)
     }
 
     // One block, decrypted to the front of `out`.
     pub fn decrypt(self, block_in: &[u8], out: &mut [u8]) -> Answer
-        ensures { outcome result out.new ≡ blockCall Direction.Decrypt self block_in.now out.old }
+        ensures { outcome result out.new ≡ block_call Direction.Decrypt self block_in.now out.old }
     {
         self.call(Direction::Decrypt, block_in, out)
     }
@@ -213,7 +213,7 @@ impl Sm4Cipher {
 
 impl Sm4CipherMode {
     pub fn new(key: &[u8], number: u32, mode: CipherMode) -> Sm4CipherMode
-        ensures { result ≡ newCipherMode key.now number mode }
+        ensures { result ≡ new_cipher_mode key.now number mode }
     {
         let cipher = Sm4Cipher::new(key, number);
         Sm4CipherMode { cipher, mode }
@@ -229,7 +229,7 @@ impl Sm4CipherMode {
         iv: &[u8],
         out: &mut [u8],
     ) -> Answer
-        ensures { outcome result out.new ≡ modeCall direction self aad.now «data».now iv.now out.old }
+        ensures { outcome result out.new ≡ mode_call direction self aad.now «data».now iv.now out.old }
     {
         let cipher = self.cipher;
         let stands = cipher.answer;
@@ -258,14 +258,14 @@ impl Sm4CipherMode {
 
     // Encrypts `data` to the front of `out`, under the label `aad` in Gcm. The other modes do not look at `aad`.
     pub fn encrypt(self, aad: &[u8], data: &[u8], iv: &[u8], out: &mut [u8]) -> Answer
-        ensures { outcome result out.new ≡ modeCall Direction.Encrypt self aad.now «data».now iv.now out.old }
+        ensures { outcome result out.new ≡ mode_call Direction.Encrypt self aad.now «data».now iv.now out.old }
     {
         self.call(Direction::Encrypt, aad, data, iv, out)
     }
 
     // Decrypts `data` to the front of `out`. In Gcm and Cbc nothing is written before tag or padding is settled.
     pub fn decrypt(self, aad: &[u8], data: &[u8], iv: &[u8], out: &mut [u8]) -> Answer
-        ensures { outcome result out.new ≡ modeCall Direction.Decrypt self aad.now «data».now iv.now out.old }
+        ensures { outcome result out.new ≡ mode_call Direction.Decrypt self aad.now «data».now iv.now out.old }
     {
         self.call(Direction::Decrypt, aad, data, iv, out)
     }

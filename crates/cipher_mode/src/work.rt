@@ -1,14 +1,14 @@
 // What is done once nothing stands against it: bytes to bytes.
 ghost use Rattle.std.specs.Prelude.{◌≡◌, cond, false, ◌++◌, ◌-◌, ◌≤◌, length, drop};
 ghost use Rattle.cipher.specs.Engine.{Engine};
-ghost use Rattle.counter.specs.CameRound.{blocksOf, ctrCameRound};
+ghost use Rattle.counter.specs.CameRound.{blocks_of, ctr_came_round};
 ghost use Rattle.walk.specs.Walk.{chain};
-ghost use Rattle.stream.specs.Stream.{streamMode};
+ghost use Rattle.stream.specs.Stream.{stream_mode};
 ghost use Rattle.cipher_mode.specs.Outcome.{finished, refusal, telling, reporting, done};
-ghost use Rattle.cipher_mode.specs.Tables.{roomOf};
-ghost use Rattle.cipher_mode.specs.Answer.{endingHead, ended, workedHead, worked};
-ghost use Rattle.cipher_mode.specs.Checks.{wrongIv, labelCheck, dataCheck};
-ghost use Rattle.cipher_mode.specs.Calls.{keysFor, block_of, cfbKind, cbcHead, cbcResult, gcmResult, modeResult};
+ghost use Rattle.cipher_mode.specs.Tables.{room_of};
+ghost use Rattle.cipher_mode.specs.Answer.{ending_head, ended, worked_head, worked};
+ghost use Rattle.cipher_mode.specs.Checks.{wrong_iv, label_check, data_check};
+ghost use Rattle.cipher_mode.specs.Calls.{keys_for, block_of, cfb_kind, cbc_head, cbc_result, gcm_result, mode_result};
 
 use crate::answer::{Ending, Refusal};
 use crate::checks::Checked;
@@ -25,7 +25,7 @@ pub struct Worked {
 
 // Work that has no counter.
 fn quiet(ending: Ending) -> Worked
-    ensures { workedHead result ≡ endingHead ending }
+    ensures { worked_head result ≡ ending_head ending }
 {
     Worked {
         ending,
@@ -35,7 +35,7 @@ fn quiet(ending: Ending) -> Worked
 
 // The round keys in the order that a direction takes them.
 fn keys_for(rk: [u32; 32], direction: Direction) -> [u32; 32]
-    ensures { result ≡ keysFor direction rk }
+    ensures { result ≡ keys_for direction rk }
 {
     match direction {
         Direction::Encrypt => rk,
@@ -59,7 +59,7 @@ pub(crate) fn block(mark: u8, rk: [u32; 32], direction: Direction, block_in: &[u
 
 // Cfb has a kind for each direction; Ofb and Ctr are their own opposite.
 fn cfb_kind(direction: Direction) -> Kind
-    ensures { result ≡ cfbKind direction }
+    ensures { result ≡ cfb_kind direction }
 {
     match direction {
         Direction::Encrypt => Kind::CfbEncrypt,
@@ -72,7 +72,7 @@ fn by_stream(t: &[u32], rk: [u32; 32], kind: Kind, iv: &[u8], data: &[u8], out: 
     requires engine { Engine t.now }
     requires iv_len { length iv.now ≡ 16 }
     requires data_in_bounds { length «data».now ≤ length out.old }
-    ensures { ended result out.new ≡ done (chain (streamMode kind rk) iv.now «data».now) out.old }
+    ensures { ended result out.new ≡ done (chain (stream_mode kind rk) iv.now «data».now) out.old }
 {
     stream::stream(t, rk, kind, block::split_block(iv), false, data, out);
     Ending::Done(data.len())
@@ -83,7 +83,7 @@ fn by_ctr(t: &[u32], rk: [u32; 32], iv: &[u8], data: &[u8], out: &mut [u8]) -> W
     requires engine { Engine t.now }
     requires iv_len { length iv.now ≡ 16 }
     requires data_in_bounds { length «data».now ≤ length out.old }
-    ensures { worked result out.new ≡ reporting (ctrCameRound iv.now (blocksOf (length «data».now))) (done (chain (streamMode Kind.Ctr rk) iv.now «data».now) out.old) }
+    ensures { worked result out.new ≡ reporting (ctr_came_round iv.now (blocks_of (length «data».now))) (done (chain (stream_mode Kind.Ctr rk) iv.now «data».now) out.old) }
 {
     let ending = by_stream(t, rk, Kind::Ctr, iv, data, out);
     Worked {
@@ -93,7 +93,7 @@ fn by_ctr(t: &[u32], rk: [u32; 32], iv: &[u8], data: &[u8], out: &mut [u8]) -> W
 }
 
 fn cbc_answer(opened: Opened) -> Ending
-    ensures { endingHead result ≡ cbcHead opened }
+    ensures { ending_head result ≡ cbc_head opened }
 {
     match opened {
         Opened::Done(n) => Ending::Done(n),
@@ -112,9 +112,9 @@ fn by_cbc(
 ) -> Ending
     requires engine { Engine t.now }
     requires iv_len { length iv.now ≡ 16 }
-    requires data_value { dataCheck direction CipherMode.Cbc (length «data».now) ≡ Checked.Passed }
-    requires data_in_bounds { roomOf CipherMode.Cbc direction (length «data».now) ≤ length out.old }
-    ensures { ended result out.new ≡ cbcResult direction rk «data».now iv.now out.old }
+    requires data_value { data_check direction CipherMode.Cbc (length «data».now) ≡ Checked.Passed }
+    requires data_in_bounds { room_of CipherMode.Cbc direction (length «data».now) ≤ length out.old }
+    ensures { ended result out.new ≡ cbc_result direction rk «data».now iv.now out.old }
 {
     let start = block::split_block(iv);
     match direction {
@@ -128,7 +128,7 @@ fn by_cbc(
 
 // How opening ended: with a text of n bytes, and whether the counter came round; or refused.
 fn gcm_answer(opened: bool, n: usize, came_round: bool) -> Worked
-    ensures { workedHead result ≡ cond opened (telling came_round (finished n)) (refusal 4) }
+    ensures { worked_head result ≡ cond opened (telling came_round (finished n)) (refusal 4) }
 {
     if opened {
         return Worked {
@@ -160,11 +160,11 @@ fn by_gcm(
     out: &mut [u8],
 ) -> Worked
     requires engine { Engine t.now }
-    requires iv_value { wrongIv CipherMode.Gcm (length iv.now) ≡ false }
-    requires aad_value { labelCheck CipherMode.Gcm (length aad.now) ≡ Checked.Passed }
-    requires data_value { dataCheck direction CipherMode.Gcm (length «data».now) ≡ Checked.Passed }
-    requires data_in_bounds { roomOf CipherMode.Gcm direction (length «data».now) ≤ length out.old }
-    ensures { worked result out.new ≡ gcmResult direction rk aad.now «data».now iv.now out.old }
+    requires iv_value { wrong_iv CipherMode.Gcm (length iv.now) ≡ false }
+    requires aad_value { label_check CipherMode.Gcm (length aad.now) ≡ Checked.Passed }
+    requires data_value { data_check direction CipherMode.Gcm (length «data».now) ≡ Checked.Passed }
+    requires data_in_bounds { room_of CipherMode.Gcm direction (length «data».now) ≤ length out.old }
+    ensures { worked result out.new ≡ gcm_result direction rk aad.now «data».now iv.now out.old }
 {
     let n = text_length(direction, data.len());
     let begun = gcm::start(t, rk, iv, n);
@@ -199,11 +199,11 @@ fn message(
     out: &mut [u8],
 ) -> Worked
     requires engine { Engine t.now }
-    requires iv_value { wrongIv mode (length iv.now) ≡ false }
-    requires aad_value { labelCheck mode (length aad.now) ≡ Checked.Passed }
-    requires data_value { dataCheck direction mode (length «data».now) ≡ Checked.Passed }
-    requires data_in_bounds { roomOf mode direction (length «data».now) ≤ length out.old }
-    ensures { worked result out.new ≡ modeResult mode direction rk aad.now «data».now iv.now out.old }
+    requires iv_value { wrong_iv mode (length iv.now) ≡ false }
+    requires aad_value { label_check mode (length aad.now) ≡ Checked.Passed }
+    requires data_value { data_check direction mode (length «data».now) ≡ Checked.Passed }
+    requires data_in_bounds { room_of mode direction (length «data».now) ≤ length out.old }
+    ensures { worked result out.new ≡ mode_result mode direction rk aad.now «data».now iv.now out.old }
 {
     match mode {
         CipherMode::Cfb => quiet(by_stream(t, rk, cfb_kind(direction), iv, data, out)),
@@ -225,11 +225,11 @@ pub(crate) fn message_by(
     iv: &[u8],
     out: &mut [u8],
 ) -> Worked
-    requires iv_value { wrongIv mode (length iv.now) ≡ false }
-    requires aad_value { labelCheck mode (length aad.now) ≡ Checked.Passed }
-    requires data_value { dataCheck direction mode (length «data».now) ≡ Checked.Passed }
-    requires data_in_bounds { roomOf mode direction (length «data».now) ≤ length out.old }
-    ensures { worked result out.new ≡ modeResult mode direction rk aad.now «data».now iv.now out.old }
+    requires iv_value { wrong_iv mode (length iv.now) ≡ false }
+    requires aad_value { label_check mode (length aad.now) ≡ Checked.Passed }
+    requires data_value { data_check direction mode (length «data».now) ≡ Checked.Passed }
+    requires data_in_bounds { room_of mode direction (length «data».now) ≤ length out.old }
+    ensures { worked result out.new ≡ mode_result mode direction rk aad.now «data».now iv.now out.old }
 {
     let engine = engine_for(mark, mode, direction);
     let t = cipher::laid_out(engine);

@@ -1,10 +1,10 @@
 -- The S-box as a circuit of exclusive ors and ands: one test over the 256 bytes, carried to every lane of words.
 use Rattle.block.proofs.Base.{◌<◌, min, ℕ, ◌∙◌, ◌≡◌, ap, sym, Bool, List, [], ◌∷◌, map, bit_and, bit_xor, differ, eqb, eqb→eq, lit<, get_or}
-use Rattle.block.proofs.Table.{rule-at}
-use Rattle.lanes.specs.Bits.{bit, pack, byteLane}
+use Rattle.block.proofs.Table.{rule_at}
+use Rattle.lanes.specs.Bits.{bit, pack, byte_lane}
 use Rattle.lanes.proofs.Bits.{bit-small, pack-lt, bit-pack, pack-same}
 use Rattle.lanes.proofs.Gates.{Gate, X, A, run, lane-at, lane-run, ones_bit}
-use Rattle.circuit.specs.Sbox.{Sbox, sboxTable, SboxLanes}
+use Rattle.circuit.specs.Sbox.{Sbox, sbox_table, SboxLanes}
 
 -- the gates of the code, in its order
 unfoldable pub circuit : List Gate
@@ -47,20 +47,20 @@ right : ℕ → ℕ → Bool
 right b s = eqb (pack 8 (λ i. get_or (lane b) i 0)) s
 
 tested : (b : ℕ) → b < 256 → pack 8 (λ i. get_or (lane b) i 0) ≡ Sbox b
-unfolding sboxTable right lane circuit pack bit
-tested b h = eqb→eq _ _ (rule-at right sboxTable tt b h)
+unfolding sbox_table right lane circuit pack bit
+tested b h = eqb→eq _ _ (rule_at right sbox_table tt b h)
 
-outs-map : (n : ℕ) (e : List ℕ) → outs (map (bit n) e) ≡ map (bit n) (outs e)
-outs-map n e = rw (lane-at n e 0, lane-at n e 1, lane-at n e 5, lane-at n e 19, lane-at n e 2, lane-at n e 7, lane-at n e 3, lane-at n e 4)
+outs_map : (n : ℕ) (e : List ℕ) → outs (map (bit n) e) ≡ map (bit n) (outs e)
+outs_map n e = rw (lane-at n e 0, lane-at n e 1, lane-at n e 5, lane-at n e 19, lane-at n e 2, lane-at n e 7, lane-at n e 3, lane-at n e 4)
 
-pub circuit-lanes : (x : List ℕ) → SboxLanes x (outs (run bit_xor bit_and circuit (ins x 0xffffffffffffffff)))
-unfolding byteLane lane
-circuit-lanes x n h =
+pub circuit_lanes : (x : List ℕ) → SboxLanes x (outs (run bit_xor bit_and circuit (ins x 0xffffffffffffffff)))
+unfolding byte_lane lane
+circuit_lanes x n h =
     let given = ins x 0xffffffffffffffff in
     let made = run bit_xor bit_and circuit given in
     let f : ℕ → ℕ = λ i. bit n (get_or x i 0) in
     let s : (i : ℕ) → f i < 2 = λ i. bit-small n (get_or x i 0) in
-    let b = byteLane x n in
+    let b = byte_lane x n in
     let p : (i : ℕ) → i < 8 → f i ≡ bit i b = λ i g. sym (bit-pack 8 f s i g) in
     let in_lane : map (bit n) given ≡ bits b =
     rw (
@@ -75,7 +75,7 @@ circuit-lanes x n h =
       ones_bit n h,
     ) in
     let out-lane : map (bit n) (outs made) ≡ lane b =
-    sym (outs-map n made) ∙ ap outs (lane-run n circuit given ∙ ap (run differ min circuit) in_lane) in
+    sym (outs_map n made) ∙ ap outs (lane-run n circuit given ∙ ap (run differ min circuit) in_lane) in
     pack-same 8 (λ i. bit n (get_or (outs made) i 0)) (λ i. get_or (lane b) i 0)
     (λ i. sym (lane-at n (outs made) i) ∙ ap (λ (l : List ℕ). get_or l i 0) out-lane)
     ∙ tested b (pack-lt 8 f s)

@@ -6,8 +6,8 @@ use Rattle.block.specs.Wide.{whole}
 use Rattle.block.proofs.Same.{test_iff}
 
 -- one more is 0 exactly where it comes round
-pub zero-tells : (m v r : ℕ) → v < m → r ≡ (v + 1) % m → eqb r 0 ≡ eqb (v + 1) m
-zero-tells m v r h e =
+pub zero_tells : (m v r : ℕ) → v < m → r ≡ (v + 1) % m → eqb r 0 ≡ eqb (v + 1) m
+zero_tells m v r h e =
     elim (eq-or-lt_of_le h) [
       | inl q ↦
           let round : v + 1 ≡ m = omega arith in
@@ -19,8 +19,8 @@ zero-tells m v r h e =
     ]
 
 -- two halves have no bit exactly where their number is 0
-pub no-bit : (high low : ℕ) → eqb (bit_or high low) 0 ≡ eqb (whole high low) 0
-no-bit high low =
+pub no_bit : (high low : ℕ) → eqb (bit_or high low) 0 ≡ eqb (whole high low) 0
+no_bit high low =
     test_iff (eqb (bit_or high low) 0) (eqb (whole high low) 0)
     (λ t.
     let none = eqb-true (bit_or high low) 0 t in
@@ -29,16 +29,16 @@ no-bit high low =
     (λ t. let none = eqb-true (whole high low) 0 t in let z : (high ≡ 0) × (low ≡ 0) = omega arith in rw (z.0, z.1))
 
 -- k more than low reach m exactly where k is more than what is left below m
-pub left-tells : (m low k : ℕ) → low < m → ltb (m - 1 - low) k ≡ leb m (low + k)
-left-tells m low k h =
+pub left_tells : (m low k : ℕ) → low < m → ltb (m - 1 - low) k ≡ leb m (low + k)
+left_tells m low k h =
     test_iff (ltb (m - 1 - low) k) (leb m (low + k))
     (λ t. le-leb m (low + k) (omega (arith, ltb-true (m - 1 - low) k t)))
     (λ t. lt-ltb (m - 1 - low) k (omega (arith, leb-true m (low + k) t)))
 
 -- the same over two halves, for all blocks but one: the high half is as large as it can be, or it leaves more than any count
 module _ (base high low b : ℕ) (lows : low < base) where
-  pub high-full : high ≡ base - 1 → ltb (base - 1 - low) (b - 1) ≡ leb (base * base) (high * base + low + (b - 1))
-  high-full e =
+  pub high_full : high ≡ base - 1 → ltb (base - 1 - low) (b - 1) ≡ leb (base * base) (high * base + low + (b - 1))
+  high_full e =
       let f : high + 1 ≡ base = omega arith in
       let s : high * base + base ≡ base * base = rw (← f) (omega arith) in
       test_iff (ltb (base - 1 - low) (b - 1)) (leb (base * base) (high * base + low + (b - 1)))

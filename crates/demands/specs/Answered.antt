@@ -1,7 +1,7 @@
 -- Demand 1 as a property of an outcome: what a caller may count on, refused or done.
 use Rattle.demands.specs.Names as N
 use N.{Bool, ◌||◌, false, true, List, [], ◌∷◌, ◌≢◌, ◌⊎◌, ◌≡◌, ◌*◌, ◌+◌, ◌-◌, ◌/◌, ◌<◌, ◌≤◌, ℕ, eqb, drop, length, Outcome, finished}
-use N.{refusal, roundKeys, cbcText, lastByte, keyHead, keyNumber, CipherMode, Cbc, Cfb, Ctr, Gcm, Ofb, Direction, Decrypt, Encrypt}
+use N.{refusal, round_keys, cbc_text, last_byte, key_head, key_number, CipherMode, Cbc, Cfb, Ctr, Gcm, Ofb, Direction, Decrypt, Encrypt}
 use N.{Sm4Cipher}
 
 -- whether a number is one of a list
@@ -10,8 +10,8 @@ one_of n [] = false
 one_of n (k ∷ ks) = eqb n k || one_of n ks
 
 -- the numbers that a single call can answer: 12 is of messages in pieces alone
-abbrev pub singleNumbers : List ℕ
-singleNumbers = 0 ∷ 1 ∷ 2 ∷ 3 ∷ 4 ∷ 5 ∷ 6 ∷ 7 ∷ 8 ∷ 9 ∷ 10 ∷ 11 ∷ 13 ∷ 14 ∷ 15 ∷ []
+abbrev pub single_numbers : List ℕ
+single_numbers = 0 ∷ 1 ∷ 2 ∷ 3 ∷ 4 ∷ 5 ∷ 6 ∷ 7 ∷ 8 ∷ 9 ∷ 10 ∷ 11 ∷ 13 ∷ 14 ∷ 15 ∷ []
 
 -- x is an answer to a call on the key of number k whose output was lent as o, and of which the table of lengths gives the length n
 pub record Answered (numbers : List ℕ) (k : ℕ) (o : List ℕ) (n : ℕ) (x : Outcome) : Type 0 where
@@ -33,9 +33,9 @@ pub record Answered (numbers : List ℕ) (k : ℕ) (o : List ℕ) (n : ℕ) (x :
 
 -- c is the record that setting up the key with the number n gives: it lends no output, and reports length 0, done or refused
 pub record KeyAnswered (key : List ℕ) (n : ℕ) (c : Sm4Cipher) : Type 0 where
-  pub done : length key ≡ 16 → 1 ≤ n → n ≤ 65535 → (keyHead c.answer ≡ finished 0) × (keyNumber c ≡ n) × (c.rk ≡ roundKeys key)
-  pub refused : length key ≢ 16 → keyHead c.answer ≡ refusal 1
-  pub out_of_range : length key ≡ 16 → (n ≡ 0) ⊎ (65535 < n) → keyHead c.answer ≡ refusal 13
+  pub done : length key ≡ 16 → 1 ≤ n → n ≤ 65535 → (key_head c.answer ≡ finished 0) × (key_number c ≡ n) × (c.rk ≡ round_keys key)
+  pub refused : length key ≢ 16 → key_head c.answer ≡ refusal 1
+  pub out_of_range : length key ≡ 16 → (n ≡ 0) ⊎ (65535 < n) → key_head c.answer ≡ refusal 13
   -- a record set up anew is unretired
   pub fresh : c.retired ≡ false
 
@@ -45,6 +45,6 @@ length_of Cfb dir rk iv d = length d
 length_of Ofb dir rk iv d = length d
 length_of Ctr dir rk iv d = length d
 length_of Cbc Encrypt rk iv d = 16 * (length d / 16 + 1)
-length_of Cbc Decrypt rk iv d = length d - lastByte (cbcText rk iv d)
+length_of Cbc Decrypt rk iv d = length d - last_byte (cbc_text rk iv d)
 length_of Gcm Encrypt rk iv d = length d + 16
 length_of Gcm Decrypt rk iv d = length d - 16

@@ -7,8 +7,8 @@ abbrev pub Call : Type 0
 Call = List ℕ → List ℕ → List ℕ → List ℕ → Outcome
 
 -- a key's record in Gcm
-abbrev pub inGcm : Sm4Cipher → Sm4CipherMode
-inGcm c = record { cipher = c; mode = Gcm }
+abbrev pub in_gcm : Sm4Cipher → Sm4CipherMode
+in_gcm c = record { cipher = c; mode = Gcm }
 
 -- a single block's call is one that looks at neither label nor IV
 abbrev pub single : (List ℕ → List ℕ → Outcome) → Call

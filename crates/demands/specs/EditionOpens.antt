@@ -1,8 +1,8 @@
 -- The question whether a file opens under a job and an edition, as a property of any that is asked so, beside any call that opens
 -- sealed messages.
 use Rattle.demands.specs.Names as N
-use N.{false, true, List, ◌≢◌, ◌⊎◌, ◌≡◌, ◌+◌, ◌-◌, ◌<◌, ◌^◌, ◌≤◌, ℕ, drop, length, take, Head, Outcome, refusal, badList, label_at, noneWith}
-use N.{label_of, Told, toldOf}
+use N.{false, true, List, ◌≢◌, ◌⊎◌, ◌≡◌, ◌+◌, ◌-◌, ◌<◌, ◌^◌, ◌≤◌, ℕ, drop, length, take, Head, Outcome, refusal, bad_list, label_at, none_with}
+use N.{label_of, Told, told_of}
 use Rattle.demands.specs.Call.{Call}
 
 -- a question with its key, by what it answers to a job, an edition, a file and an IV
@@ -15,7 +15,7 @@ pub record WithoutText (h : Head) (x : Outcome) : Type 0 where
   pub missing : h.missing ≡ x.head.missing
   pub key : h.key ≡ x.head.key
   pub size : h.size ≡ 0
-  pub cameRound : h.cameRound ≡ 0
+  pub came_round : h.came_round ≡ 0
 
 -- it answers what the opening call answers under the label of the job and the edition, into any output that has room for the text
 abbrev pub AnswersAsOpening : Question → Call → Type 0
@@ -55,7 +55,7 @@ NoneOpens opening file iv labels lengths o = (i : ℕ) → i < length lengths �
 -- opens it; and the part of the buffer that is told is the candidate. The call is lent the output o.
 pub record Tells (opening : Call) (file iv labels lengths o : List ℕ) (v : Told) : Type 0 where
   pub found : v.found ≡ 1 → FirstThatOpens opening file iv labels lengths o v.place
-  pub is_found : v.head.number ≡ 0 → (i : ℕ) → FirstThatOpens opening file iv labels lengths o i → (v.found ≡ 1) × (v.place ≡ i)
+  pub is_found_lem : v.head.number ≡ 0 → (i : ℕ) → FirstThatOpens opening file iv labels lengths o i → (v.found ≡ 1) × (v.place ≡ i)
   pub none : v.head.number ≡ 0 → v.found ≡ 0 → NoneOpens opening file iv labels lengths o
   pub is_none : v.head.number ≡ 0 → NoneOpens opening file iv labels lengths o → v.found ≡ 0
   pub part : v.found ≡ 1 → take v.size (drop v.start labels) ≡ label_at labels lengths v.place
@@ -63,8 +63,8 @@ pub record Tells (opening : Call) (file iv labels lengths o : List ℕ) (v : Tol
 -- Demand 1 of the question, on the key of number k: what is told besides its number and how many bytes were missing.
 pub record WhichAnswered (k : ℕ) (labels lengths : List ℕ) (v : Told) : Type 0 where
   -- refused or done, the key's number is repeated; a bad list is told before any key is looked at, and nothing beside it
-  pub key : badList labels lengths ≡ false → v.head.key ≡ k
-  pub bad : badList labels lengths ≡ true → v ≡ toldOf (noneWith (refusal 16))
+  pub key : bad_list labels lengths ≡ false → v.head.key ≡ k
+  pub bad : bad_list labels lengths ≡ true → v ≡ told_of (none_with (refusal 16))
   -- nothing is written
   pub size : v.head.size ≡ 0
   -- found is 1 or 0, and 1 in no refusal

@@ -15,9 +15,9 @@ abbrev pub written : (S : Type 0) → Stepped S → List ℕ
 written S x = take x.head.size x.bytes
 
 -- Calls on pieces of a kind P, one after the other, from the state s on: the state after them,
-abbrev pub stateAfter : (S P : Type 0) → (S → P → Stepped S) → S → List P → S
-stateAfter S P call s [] = s
-stateAfter S P call s (p ∷ ps) = stateAfter S P call (call s p).state ps
+abbrev pub state_after : (S P : Type 0) → (S → P → Stepped S) → S → List P → S
+state_after S P call s [] = s
+state_after S P call s (p ∷ ps) = state_after S P call (call s p).state ps
 
 -- what they wrote, joined,
 abbrev pub wrote : (S P : Type 0) → (S → P → Stepped S) → S → List P → List ℕ
@@ -76,16 +76,16 @@ pub record AllDone (S : Type 0) (call : S → Piece → Stepped S) (started : St
 
 -- an end tells of the counter what the single call tells
 abbrev pub TellsAlike : (S : Type 0) → Stepped S → Outcome → Type 0
-TellsAlike S end single = end.head.cameRound ≡ single.head.cameRound
+TellsAlike S end single = end.head.came_round ≡ single.head.came_round
 
 -- Whenever the single call encrypts the whole, so do start, pieces and end, with its bytes, and the end tells of the counter what it
 -- tells. Ctr has no label.
 abbrev pub CtrInPieces : (S : Type 0) → (List ℕ → Stepped S) → (S → List ℕ → List ℕ → Stepped S) → (S → Stepped S) → Call → Type 0
 CtrInPieces S start piece end single =
     (ps : List Piece) (label iv o : List ℕ) → Roomy ps → (single label (whole ps) iv o).head.number ≡ 0
-    → AllDone S (onto S piece) (start iv) ps 0 (end (stateAfter S Piece (onto S piece) (start iv).state ps))
+    → AllDone S (onto S piece) (start iv) ps 0 (end (state_after S Piece (onto S piece) (start iv).state ps))
     × (wrote S Piece (onto S piece) (start iv).state ps ≡ result (single label (whole ps) iv o))
-    × TellsAlike S (end (stateAfter S Piece (onto S piece) (start iv).state ps)) (single label (whole ps) iv o)
+    × TellsAlike S (end (state_after S Piece (onto S piece) (start iv).state ps)) (single label (whole ps) iv o)
 
 -- Whenever the single call seals the whole, so do start, pieces and end: the pieces write its ciphertext, and the end, given an
 -- output t with room, its tag, and it tells of the counter what the single call tells.
@@ -93,11 +93,11 @@ abbrev pub SealInPieces : (S : Type 0) → (List ℕ → List ℕ → Stepped S)
     → (S → List ℕ → Stepped S) → Call → Type 0
 SealInPieces S start piece end single =
     (ps : List Piece) (label iv t o : List ℕ) → Roomy ps → 16 ≤ length t → (single label (whole ps) iv o).head.number ≡ 0
-    → AllDone S (onto S piece) (start label iv) ps 16 (end (stateAfter S Piece (onto S piece) (start label iv).state ps) t)
+    → AllDone S (onto S piece) (start label iv) ps 16 (end (state_after S Piece (onto S piece) (start label iv).state ps) t)
     × (wrote S Piece (onto S piece) (start label iv).state ps
-    ++ written S (end (stateAfter S Piece (onto S piece) (start label iv).state ps) t)
+    ++ written S (end (state_after S Piece (onto S piece) (start label iv).state ps) t)
     ≡ result (single label (whole ps) iv o))
-    × TellsAlike S (end (stateAfter S Piece (onto S piece) (start label iv).state ps) t) (single label (whole ps) iv o)
+    × TellsAlike S (end (state_after S Piece (onto S piece) (start label iv).state ps) t) (single label (whole ps) iv o)
 
 -- And the other way about: where start, pieces and end all answer 0, so does the single call, given room for the whole, with the bytes
 -- that they wrote, and it tells of the counter what the end tells.
@@ -105,22 +105,22 @@ abbrev pub CtrOfPieces : (S : Type 0) → (List ℕ → Stepped S) → (S → Li
 CtrOfPieces S start piece end single =
     (ps : List Piece) (label iv o : List ℕ) → length (whole ps) ≤ length o
     → (start iv).head.number ≡ 0 → AllZero S Piece (onto S piece) (start iv).state ps
-    → (end (stateAfter S Piece (onto S piece) (start iv).state ps)).head.number ≡ 0
+    → (end (state_after S Piece (onto S piece) (start iv).state ps)).head.number ≡ 0
     → ((single label (whole ps) iv o).head.number ≡ 0)
     × (wrote S Piece (onto S piece) (start iv).state ps ≡ result (single label (whole ps) iv o))
-    × TellsAlike S (end (stateAfter S Piece (onto S piece) (start iv).state ps)) (single label (whole ps) iv o)
+    × TellsAlike S (end (state_after S Piece (onto S piece) (start iv).state ps)) (single label (whole ps) iv o)
 
 abbrev pub SealOfPieces : (S : Type 0) → (List ℕ → List ℕ → Stepped S) → (S → List ℕ → List ℕ → Stepped S)
     → (S → List ℕ → Stepped S) → Call → Type 0
 SealOfPieces S start piece end single =
     (ps : List Piece) (label iv t o : List ℕ) → length (whole ps) + 16 ≤ length o
     → (start label iv).head.number ≡ 0 → AllZero S Piece (onto S piece) (start label iv).state ps
-    → (end (stateAfter S Piece (onto S piece) (start label iv).state ps) t).head.number ≡ 0
+    → (end (state_after S Piece (onto S piece) (start label iv).state ps) t).head.number ≡ 0
     → ((single label (whole ps) iv o).head.number ≡ 0)
     × (wrote S Piece (onto S piece) (start label iv).state ps
-    ++ written S (end (stateAfter S Piece (onto S piece) (start label iv).state ps) t)
+    ++ written S (end (state_after S Piece (onto S piece) (start label iv).state ps) t)
     ≡ result (single label (whole ps) iv o))
-    × TellsAlike S (end (stateAfter S Piece (onto S piece) (start label iv).state ps) t) (single label (whole ps) iv o)
+    × TellsAlike S (end (state_after S Piece (onto S piece) (start label iv).state ps) t) (single label (whole ps) iv o)
 
 -- the ciphertext that the pieces make which an opening takes; they lend no output
 abbrev pub joined : List (List ℕ) → List ℕ
@@ -138,8 +138,8 @@ OpensInPieces S start piece end single =
     (cs : List (List ℕ)) (label iv tag o : List ℕ) → length (joined cs) ≤ limit → length (joined cs) ≤ length o → length tag ≡ 16
     → (start label iv).head.number ≡ 0
     → AllDid S (List ℕ) piece none (start label iv).state cs
-    × ((end (stateAfter S (List ℕ) piece (start label iv).state cs) tag).head.number ≡ (single label (joined cs ++ tag) iv o).head.number)
-    × TellsAlike S (end (stateAfter S (List ℕ) piece (start label iv).state cs) tag) (single label (joined cs ++ tag) iv o)
+    × ((end (state_after S (List ℕ) piece (start label iv).state cs) tag).head.number ≡ (single label (joined cs ++ tag) iv o).head.number)
+    × TellsAlike S (end (state_after S (List ℕ) piece (start label iv).state cs) tag) (single label (joined cs ++ tag) iv o)
 
 -- The other way about: where start, pieces and end all answer 0, so does the single call, given room.
 abbrev pub OpensOfPieces : (S : Type 0) → (List ℕ → List ℕ → Stepped S) → (S → List ℕ → Stepped S) → (S → List ℕ → Stepped S) → Call
@@ -147,7 +147,7 @@ abbrev pub OpensOfPieces : (S : Type 0) → (List ℕ → List ℕ → Stepped S
 OpensOfPieces S start piece end single =
     (cs : List (List ℕ)) (label iv tag o : List ℕ) → length (joined cs) ≤ length o
     → (start label iv).head.number ≡ 0 → AllZero S (List ℕ) piece (start label iv).state cs
-    → (end (stateAfter S (List ℕ) piece (start label iv).state cs) tag).head.number ≡ 0
+    → (end (state_after S (List ℕ) piece (start label iv).state cs) tag).head.number ≡ 0
     → (single label (joined cs ++ tag) iv o).head.number ≡ 0
 
 -- A start is checked as the single call is. Where it is refused, the single call of any data is refused with its report and leaves the

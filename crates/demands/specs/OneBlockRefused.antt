@@ -1,11 +1,11 @@
 -- Demand 3 as a property of any call that opens sealed messages: one changed block is refused.
 use Rattle.demands.specs.Names as N
-use N.{List, [], ◌++◌, ◌∷◌, ◌≢◌, ◌⊎◌, ◌≡◌, ◌%◌, ◌+◌, ◌<◌, ◌^◌, ◌≤◌, ℕ, length, replicate, AreBytes, encryptBlock, OneBlock, label_of}
+use N.{List, [], ◌++◌, ◌∷◌, ◌≢◌, ◌⊎◌, ◌≡◌, ◌%◌, ◌+◌, ◌<◌, ◌^◌, ◌≤◌, ℕ, length, replicate, AreBytes, encrypt_block, OneBlock, label_of}
 use Rattle.demands.specs.Call.{Call, RefusedAs}
 
 -- under the round keys rk the all-zero block is not encrypted to itself
 abbrev pub MovesZero : List ℕ → Type 0
-MovesZero rk = encryptBlock rk (replicate 16 0) ≢ replicate 16 0
+MovesZero rk = encrypt_block rk (replicate 16 0) ≢ replicate 16 0
 
 -- Two sealed messages have the same tag t, and either their labels are the same and their ciphertexts differ inside exactly
 -- one block, or the other way about. If the first opens, the second, under the same IV and with as long an output, is

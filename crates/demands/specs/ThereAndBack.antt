@@ -1,6 +1,6 @@
 -- Demand 2 as a property of any two calls: the second takes back what the first did.
 use Rattle.demands.specs.Names as N
-use N.{List, ◌⊎◌, ◌≡◌, ◌≤◌, ℕ, length, AreBytes, Outcome, limit, roomOf, CipherMode, Cbc, Gcm, Decrypt, Encrypt, LuossavinKey}
+use N.{List, ◌⊎◌, ◌≡◌, ◌≤◌, ℕ, length, AreBytes, Outcome, limit, room_of, CipherMode, Cbc, Gcm, Decrypt, Encrypt, LuossavinKey}
 use Rattle.demands.specs.Call.{Call, result}
 
 -- the same key: the same round keys, and set up with the same answer. Its number, its engine and whether it is retired may be others.
@@ -16,12 +16,12 @@ pub record Returns (d : List ℕ) (x : Outcome) : Type 0 where
 
 -- what decryption asks of n bytes that encryption gave, and of the output: room
 abbrev pub Decryptable : CipherMode → ℕ → List ℕ → Type 0
-Decryptable mode n o = roomOf mode Decrypt n ≤ length o
+Decryptable mode n o = room_of mode Decrypt n ≤ length o
 
 -- what encryption asks of n bytes that decryption gave: room, and in Cbc that they are no more than may be encrypted, since a full
 -- message with a padding of 1 to 15 bytes gives more; in the other modes decryption's own limit sees to it
 abbrev pub Encryptable : CipherMode → ℕ → List ℕ → Type 0
-Encryptable mode n o = (mode ≡ Cbc → n ≤ limit) × (roomOf mode Encrypt n ≤ length o)
+Encryptable mode n o = (mode ≡ Cbc → n ≤ limit) × (room_of mode Encrypt n ≤ length o)
 
 -- a single block asks for its sixteen bytes
 abbrev pub Sixteen : ℕ → List ℕ → Type 0
@@ -48,13 +48,13 @@ pub record Asks (mode : CipherMode) (label d iv o : List ℕ) : Type 0 where
   pub iv-size : (length iv ≡ 16) ⊎ ((mode ≡ Gcm) × (length iv ≡ 12))
   pub label-fits : mode ≡ Gcm → length label ≤ limit
   pub data-fits : length d ≤ limit
-  pub room : roomOf mode Encrypt (length d) ≤ length o
+  pub room : room_of mode Encrypt (length d) ≤ length o
 
 -- Encryption answers 0 with the table's length, and decryption of what it gave, given room, answers 0 with the message's.
 pub record Served (mode : CipherMode) (encryption decryption : Call) : Type 0 where
-  pub sealing : (label d iv o : List ℕ) → Asks mode label d iv o → Serves (roomOf mode Encrypt (length d)) (encryption label d iv o)
+  pub sealing : (label d iv o : List ℕ) → Asks mode label d iv o → Serves (room_of mode Encrypt (length d)) (encryption label d iv o)
   pub opening : (label d iv o o' : List ℕ) → Asks mode label d iv o → AreBytes d → AreBytes iv
-      → roomOf mode Decrypt (roomOf mode Encrypt (length d)) ≤ length o'
+      → room_of mode Decrypt (room_of mode Encrypt (length d)) ≤ length o'
       → Serves (length d) (decryption label (result (encryption label d iv o)) iv o')
 
 -- a single block is served with its sixteen bytes

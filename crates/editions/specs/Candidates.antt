@@ -7,13 +7,13 @@ sum [] = 0
 sum (n ∷ ns) = n + sum ns
 
 -- more than 64 candidates, or lengths that do not add up to the buffer
-unfoldable pub badList : List ℕ → List ℕ → Bool
-badList labels lengths = ltb 64 (length lengths) || not (eqb (sum lengths) (length labels))
+unfoldable pub bad_list : List ℕ → List ℕ → Bool
+bad_list labels lengths = ltb 64 (length lengths) || not (eqb (sum lengths) (length labels))
 
 -- one label past the limit is enough
-unfoldable pub anyTooLong : List ℕ → Bool
-anyTooLong [] = false
-anyTooLong (n ∷ ns) = ltb limit n || anyTooLong ns
+unfoldable pub any_too_long : List ℕ → Bool
+any_too_long [] = false
+any_too_long (n ∷ ns) = ltb limit n || any_too_long ns
 
 -- candidate i, counted from 0
 unfoldable pub label_at : List ℕ → List ℕ → ℕ → List ℕ

@@ -4,10 +4,10 @@ ghost use Rattle.block.specs.Wide.{value};
 ghost use Rattle.block.specs.Words.{unwords};
 ghost use Rattle.ghash.specs.Ghash.{blocks};
 ghost use Rattle.ghash.specs.Joined.{HalfOf};
-ghost use Rattle.gcm.specs.Gcm.{hashKey, J0, textPart};
-ghost use Rattle.cipher_mode.specs.Checks.{wrongIv, dataCheck};
-ghost use Rattle.editions.specs.Candidates.{sum, badList, anyTooLong};
-ghost use Rattle.editions.specs.Which.{onKey, firstOpening, searchCheck, opensFile, opensMasked, which, part_of, isFound, verdictOf};
+ghost use Rattle.gcm.specs.Gcm.{hash_key, J0, text_part};
+ghost use Rattle.cipher_mode.specs.Checks.{wrong_iv, data_check};
+ghost use Rattle.editions.specs.Candidates.{sum, bad_list, any_too_long};
+ghost use Rattle.editions.specs.Which.{on_key, first_opening, search_check, opens_file, opens_masked, which, part_of, is_found, verdict_of};
 
 use block::U128;
 use cipher_mode::answer::Refusal;
@@ -70,7 +70,7 @@ fn add_up(lengths: &[usize], n: usize) -> bool
 }
 
 fn bad_list(labels: &[u8], lengths: &[usize]) -> bool
-    ensures { result ≡ badList labels.now lengths.now }
+    ensures { result ≡ bad_list labels.now lengths.now }
 {
     if lengths.len() > MOST {
         return true;
@@ -79,7 +79,7 @@ fn bad_list(labels: &[u8], lengths: &[usize]) -> bool
 }
 
 fn any_too_long(lengths: &[usize]) -> bool
-    ensures { result ≡ anyTooLong lengths.now }
+    ensures { result ≡ any_too_long lengths.now }
 {
     let mut i = 0;
     while i < lengths.len() {
@@ -93,7 +93,7 @@ fn any_too_long(lengths: &[usize]) -> bool
 
 // All that is refused of a list in order, before a tag is looked at.
 fn check(answer: KeyAnswer, mark: bool, iv: usize, file: usize, lengths: &[usize]) -> Checked
-    ensures { result ≡ searchCheck answer mark iv file lengths.now }
+    ensures { result ≡ search_check answer mark iv file lengths.now }
 {
     let first = cipher_mode::checks::key_and_iv(
         answer,
@@ -121,11 +121,11 @@ fn search(
     labels: &[u8],
     lengths: &[usize],
 ) -> Found
-    requires half_of { HalfOf (value h) (blocks (textPart file.now)) half }
-    requires file_value { dataCheck Direction.Decrypt CipherMode.Gcm (length file.now) ≡ Checked.Passed }
+    requires half_of { HalfOf (value h) (blocks (text_part file.now)) half }
+    requires file_value { data_check Direction.Decrypt CipherMode.Gcm (length file.now) ≡ Checked.Passed }
     requires lengths_value { sum lengths.now ≡ length labels.now }
-    requires lengths_value_2 { anyTooLong lengths.now ≡ false }
-    ensures { verdictOf result ≡ onKey key (firstOpening (opensMasked (unwords mask) (value h) file.now) labels.now lengths.now 0 0) }
+    requires lengths_value_2 { any_too_long lengths.now ≡ false }
+    ensures { verdict_of result ≡ on_key key (first_opening (opens_masked (unwords mask) (value h) file.now) labels.now lengths.now 0 0) }
 {
     let mut start = 0;
     let mut i = 0;
@@ -157,11 +157,11 @@ fn under_key(
     labels: &[u8],
     lengths: &[usize],
 ) -> Found
-    requires iv_value { wrongIv CipherMode.Gcm (length iv.now) ≡ false }
-    requires file_value { dataCheck Direction.Decrypt CipherMode.Gcm (length file.now) ≡ Checked.Passed }
+    requires iv_value { wrong_iv CipherMode.Gcm (length iv.now) ≡ false }
+    requires file_value { data_check Direction.Decrypt CipherMode.Gcm (length file.now) ≡ Checked.Passed }
     requires lengths_value { sum lengths.now ≡ length labels.now }
-    requires lengths_value_2 { anyTooLong lengths.now ≡ false }
-    ensures { verdictOf result ≡ onKey key (firstOpening (opensFile rk (hashKey rk) (J0 rk iv.now) file.now) labels.now lengths.now 0 0) }
+    requires lengths_value_2 { any_too_long lengths.now ≡ false }
+    ensures { verdict_of result ≡ on_key key (first_opening (opens_file rk (hash_key rk) (J0 rk iv.now) file.now) labels.now lengths.now 0 0) }
 {
     if lengths.len() == 0 {
         return without(key, Ended::None);
@@ -178,7 +178,7 @@ fn under_key(
 // The first of the candidates that the sealed file opens under, with a key's record, retired or not. The candidates are lent one
 // after another in `labels`, and `lengths` has the length of each.
 pub fn which(cipher: Sm4Cipher, file: &[u8], iv: &[u8], labels: &[u8], lengths: &[usize]) -> Found
-    ensures { verdictOf result ≡ which cipher file.now iv.now labels.now lengths.now }
+    ensures { verdict_of result ≡ which cipher file.now iv.now labels.now lengths.now }
 {
     if bad_list(labels, lengths) {
         return without(0, Ended::BadList);
@@ -195,7 +195,7 @@ pub fn which(cipher: Sm4Cipher, file: &[u8], iv: &[u8], labels: &[u8], lengths: 
 
 // Whether a question ended with a candidate.
 pub fn is_candidate(ended: Ended) -> bool
-    ensures { result ≡ isFound ended }
+    ensures { result ≡ is_found ended }
 {
     match ended {
         Ended::Candidate => true,
@@ -208,7 +208,7 @@ pub fn is_candidate(ended: Ended) -> bool
 // The label found, as a part of the buffer that the question was asked with; an empty part in every other answer, and where an
 // answer that a caller made up points outside.
 pub fn part(labels: &[u8], found: Found) -> &[u8]
-    ensures { result.now ≡ part_of (verdictOf found) labels.now }
+    ensures { result.now ≡ part_of (verdict_of found) labels.now }
 {
     let ended = found.ended;
     let start = found.start;

@@ -5,7 +5,7 @@ ghost use Rattle.block.specs.Xor.{◌⊕◌};
 ghost use Rattle.carryless.specs.Carryless.{joining128};
 ghost use Rattle.carryless.specs.Lanes.{Each, lane, Both};
 ghost use Rattle.carryless.specs.Lent.{PartsOf};
-ghost use Rattle.field.specs.Field.{timesXs, gmul};
+ghost use Rattle.field.specs.Field.{times_xs, gmul};
 
 use crate::reduce;
 use block::U128;
@@ -34,7 +34,7 @@ fn sums(a: &[u64; 16], b: &[u64; 16], n: usize) -> [u64; 16]
 // The element of three products of halves: h of the high halves, l of the low ones, and b of their sums.
 fn reduced(h: U128, l: U128, b: U128) -> U128
     requires { value h < 2 ^ 127 }
-    ensures { value result ≡ timesXs 127 (joining128 (value h) (value l) (value b)) }
+    ensures { value result ≡ times_xs 127 (joining128 (value h) (value l) (value b)) }
 {
     let p = carryless::joined128(h, l, b);
     reduce(p)
@@ -54,7 +54,7 @@ fn reduce_each(
 )
     requires n_bound { (n ≤ 16) × ((g : ℕ) → g < n → lane h1.now h0.now g < 2 ^ 127) }
     requires h1_len { (length h1.now ≡ 16) × (length h0.now ≡ 16) × (length l1.now ≡ 16) × (length l0.now ≡ 16) × (length b1.now ≡ 16) × (length b0.now ≡ 16) × (length high.old ≡ 16) × (length low.old ≡ 16) }
-    ensures { Both (λ g. timesXs 127 (joining128 (lane h1.now h0.now g) (lane l1.now l0.now g) (lane b1.now b0.now g))) n high.new low.new × (length high.new ≡ 16) × (length low.new ≡ 16) }
+    ensures { Both (λ g. times_xs 127 (joining128 (lane h1.now h0.now g) (lane l1.now l0.now g) (lane b1.now b0.now g))) n high.new low.new × (length high.new ≡ 16) × (length low.new ≡ 16) }
 {
     let mut g: usize = 0;
     while g < n {

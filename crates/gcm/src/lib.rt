@@ -9,7 +9,7 @@ ghost use Rattle.counter.specs.Counter.{jumped};
 ghost use Rattle.ghash.specs.Ghash.{Hashable, blocks};
 ghost use Rattle.ghash.specs.Joined.{HalfOf};
 ghost use Rattle.block.specs.Over.{over};
-ghost use Rattle.gcm.specs.Gcm.{hashKey, nonceCounter, hashedCounter, firstCounter, J0, maskedTag, tag_of, sealed, textPart, tagPart, opensUnder, textInto};
+ghost use Rattle.gcm.specs.Gcm.{hash_key, nonce_counter, hashed_counter, first_counter, J0, masked_tag, tag_of, sealed, text_part, tag_part, opens_under, text_into};
 ghost use Rattle.gcm.specs.Pads.{PadsFor};
 
 use block::U128;
@@ -20,7 +20,7 @@ use stream::Kind;
 // H, the cipher of sixteen zero bytes.
 pub fn hash_key(t: &[u32], rk: [u32; 32]) -> U128
     requires { Engine t.now }
-    ensures { value result ≡ hashKey rk }
+    ensures { value result ≡ hash_key rk }
 {
     block::to_u128(cipher::encrypt(t, rk, [0u32; 4]))
 }
@@ -28,7 +28,7 @@ pub fn hash_key(t: &[u32], rk: [u32; 32]) -> U128
 // J0 of a 12-byte IV.
 fn nonce_counter(iv: &[u8]) -> [u32; 4]
     requires { length iv.now ≡ 12 }
-    ensures { unwords result ≡ nonceCounter iv.now }
+    ensures { unwords result ≡ nonce_counter iv.now }
 {
     [
         block::word_at(iv, 0),
@@ -41,7 +41,7 @@ fn nonce_counter(iv: &[u8]) -> [u32; 4]
 // J0 of a 16-byte IV. The blocks of an empty label and the IV are the two that J0 is the hash of.
 fn hashed_counter(h: U128, iv: &[u8]) -> [u32; 4]
     requires { length iv.now ≡ 16 }
-    ensures { unwords result ≡ hashedCounter (value h) iv.now }
+    ensures { unwords result ≡ hashed_counter (value h) iv.now }
 {
     block::from_u128(ghash::galois_hash(h, &iv[0..0], iv))
 }
@@ -49,7 +49,7 @@ fn hashed_counter(h: U128, iv: &[u8]) -> [u32; 4]
 // J0 of an IV of twelve or of sixteen bytes.
 pub fn first_counter(h: U128, iv: &[u8]) -> [u32; 4]
     requires { (length iv.now ≡ 12) ⊎ (length iv.now ≡ 16) }
-    ensures { unwords result ≡ firstCounter (value h) iv.now }
+    ensures { unwords result ≡ first_counter (value h) iv.now }
 {
     if iv.len() == 12 {
         return nonce_counter(iv);
@@ -60,7 +60,7 @@ pub fn first_counter(h: U128, iv: &[u8]) -> [u32; 4]
 // The tag of a label and a text under a mask.
 fn masked_tag(mask: [u32; 4], h: U128, aad: &[u8], text: &[u8]) -> [u32; 4]
     requires { Hashable (length aad.now) × Hashable (length text.now) }
-    ensures { unwords result ≡ maskedTag (unwords mask) (value h) aad.now text.now }
+    ensures { unwords result ≡ masked_tag (unwords mask) (value h) aad.now text.now }
 {
     let hash = block::from_u128(ghash::galois_hash(h, aad, text));
     block::block_xor(mask, hash)
@@ -119,7 +119,7 @@ pub struct Begun {
 pub fn start(t: &[u32], rk: [u32; 32], iv: &[u8], n: usize) -> Begun
     requires engine { Engine t.now }
     requires fact { (length iv.now ≡ 12) ⊎ (length iv.now ≡ 16) }
-    ensures h_value { value result.h ≡ hashKey rk }
+    ensures h_value { value result.h ≡ hash_key rk }
     ensures j0_value { unwords result.j0 ≡ J0 rk iv.now }
     ensures pads_for { result.ready ≡ true → PadsFor rk (unwords result.j0) n result.pads }
 {
@@ -198,7 +198,7 @@ pub fn encrypt(
 // The text part of a sealed message.
 pub fn text_part(data: &[u8]) -> &[u8]
     requires { 16 ≤ length «data».now }
-    ensures { result.now ≡ textPart «data».now }
+    ensures { result.now ≡ text_part «data».now }
 {
     let n = data.len() - 16;
     &data[0..n]
@@ -207,7 +207,7 @@ pub fn text_part(data: &[u8]) -> &[u8]
 // The tag part, its last sixteen bytes.
 pub fn tag_part(data: &[u8]) -> &[u8]
     requires { 16 ≤ length «data».now }
-    ensures { result.now ≡ tagPart «data».now }
+    ensures { result.now ≡ tag_part «data».now }
 {
     let n = data.len() - 16;
     &data[n..]
@@ -226,7 +226,7 @@ pub fn is_tag(bytes: &[u8], expected: [u32; 4]) -> bool
 // Whether a sealed message has this tag.
 fn has_tag(data: &[u8], expected: [u32; 4]) -> bool
     requires { 16 ≤ length «data».now }
-    ensures { result ≡ same (tagPart «data».now) (unwords expected) }
+    ensures { result ≡ same (tag_part «data».now) (unwords expected) }
 {
     is_tag(tag_part(data), expected)
 }
@@ -236,7 +236,7 @@ pub fn opens(t: &[u32], rk: [u32; 32], h: U128, j0: [u32; 4], aad: &[u8], data: 
     requires engine { Engine t.now }
     requires hashable { Hashable (length aad.now) × Hashable (length «data».now) }
     requires in_bounds { 16 ≤ length «data».now }
-    ensures { result ≡ opensUnder rk (value h) (unwords j0) aad.now «data».now }
+    ensures { result ≡ opens_under rk (value h) (unwords j0) aad.now «data».now }
 {
     has_tag(data, tag(t, rk, h, j0, aad, text_part(data)))
 }
@@ -245,8 +245,8 @@ pub fn opens(t: &[u32], rk: [u32; 32], h: U128, j0: [u32; 4], aad: &[u8], data: 
 pub fn opens_after(mask: [u32; 4], h: U128, half: Half, aad: &[u8], data: &[u8]) -> bool
     requires hashable { Hashable (length aad.now) × Hashable (length «data».now) }
     requires in_bounds { 16 ≤ length «data».now }
-    requires half_of { HalfOf (value h) (blocks (textPart «data».now)) half }
-    ensures { result ≡ same (tagPart «data».now) (maskedTag (unwords mask) (value h) aad.now (textPart «data».now)) }
+    requires half_of { HalfOf (value h) (blocks (text_part «data».now)) half }
+    ensures { result ≡ same (tag_part «data».now) (masked_tag (unwords mask) (value h) aad.now (text_part «data».now)) }
 {
     let hash = halves::galois_hash_after(h, aad, text_part(data), half);
     has_tag(data, block::block_xor(mask, block::from_u128(hash)))
@@ -256,7 +256,7 @@ pub fn opens_after(mask: [u32; 4], h: U128, half: Half, aad: &[u8], data: &[u8])
 fn decrypt_short(h: U128, pads: &[u8], aad: &[u8], data: &[u8], out: &mut [u8]) -> bool
     requires hashable { Hashable (length aad.now) × Hashable (length «data».now) }
     requires in_bounds { (16 ≤ length «data».now) × (length «data».now + 16 ≤ length pads.now) × (length «data».now - 16 ≤ length out.old) }
-    ensures { (rk j : List ℕ) → PadsFor rk j (length «data».now - 16) pads.now → (result ≡ opensUnder rk (value h) j aad.now «data».now) × (out.new ≡ textInto rk (value h) j aad.now «data».now out.old) }
+    ensures { (rk j : List ℕ) → PadsFor rk j (length «data».now - 16) pads.now → (result ≡ opens_under rk (value h) j aad.now «data».now) × (out.new ≡ text_into rk (value h) j aad.now «data».now out.old) }
 {
     let text = text_part(data);
     let mask = block::split_block(&pads[16..]);
@@ -284,8 +284,8 @@ pub fn decrypt(
     requires pads_for { ready ≡ true → PadsFor rk (unwords j0) (length «data».now - 16) pads.now }
     requires hashable { Hashable (length aad.now) × Hashable (length «data».now) }
     requires in_bounds { (16 ≤ length «data».now) × (length «data».now - 16 ≤ length out.old) }
-    ensures value { result ≡ opensUnder rk (value h) (unwords j0) aad.now «data».now }
-    ensures out_after { out.new ≡ textInto rk (value h) (unwords j0) aad.now «data».now out.old }
+    ensures value { result ≡ opens_under rk (value h) (unwords j0) aad.now «data».now }
+    ensures out_after { out.new ≡ text_into rk (value h) (unwords j0) aad.now «data».now out.old }
 {
     if ready {
         return decrypt_short(h, pads, aad, data, out);

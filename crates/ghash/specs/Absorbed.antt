@@ -2,9 +2,9 @@
 use Rattle.std.specs.Prelude.{◌≡◌, List, ℕ}
 use Rattle.block.specs.Wide.{value}
 use Rattle.ghash.specs.declared.Ghash.{Ghash}
-use Rattle.ghash.specs.Ghash.{hashFrom}
+use Rattle.ghash.specs.Ghash.{hash_from}
 
 -- r is s after the blocks bs
 pub record Absorbed (s : Ghash) (bs : List ℕ) (r : Ghash) : Type 0 where
   pub key : r.h ≡ s.h
-  pub hash : value r.y ≡ hashFrom (value s.h) (value s.y) bs
+  pub hash : value r.y ≡ hash_from (value s.h) (value s.y) bs

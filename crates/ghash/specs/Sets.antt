@@ -1,6 +1,6 @@
 -- Hashes side by side: sets of n blocks, and what the state of n such hashes stands for.
 use Rattle.std.specs.Prelude.{◌≡◌, ◌⊎◌, List, [], ◌∷◌, ℕ, zero, suc, ◌*◌, ◌<◌, drop}
-use Rattle.ghash.specs.Ghash.{block_of, hashFrom, ghash}
+use Rattle.ghash.specs.Ghash.{block_of, hash_from, ghash}
 
 -- how many there may be
 abbrev pub LaneCount : ℕ → Type 0
@@ -12,8 +12,8 @@ up_to zero f = []
 up_to (suc n) f = f 0 ∷ up_to n (λ i. f (suc i))
 
 -- block i of bytes
-abbrev pub blockNumber : List ℕ → ℕ → ℕ
-blockNumber bs i = block_of (drop (16 * i) bs)
+abbrev pub block_number : List ℕ → ℕ → ℕ
+block_number bs i = block_of (drop (16 * i) bs)
 
 -- of n hashes f y is the first, and the others are 0
 pub record Starts (n y : ℕ) (f : ℕ → ℕ) : Type 0 where
@@ -22,4 +22,4 @@ pub record Starts (n y : ℕ) (f : ℕ → ℕ) : Type 0 where
 
 -- the n hashed like blocks are the hash of the blocks bs from y on
 abbrev pub Hashed : ℕ → ℕ → List ℕ → ℕ → (ℕ → ℕ) → Type 0
-Hashed h y bs n f = ghash h (up_to n f) ≡ hashFrom h y bs
+Hashed h y bs n f = ghash h (up_to n f) ≡ hash_from h y bs

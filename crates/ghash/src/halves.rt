@@ -4,7 +4,7 @@ ghost use Rattle.std.specs.Prelude.{◌≡◌, length};
 ghost use Rattle.block.specs.Wide.{value};
 ghost use Rattle.block.specs.Xor.{◌⊕◌};
 ghost use Rattle.field.specs.Field.{gmul};
-ghost use Rattle.ghash.specs.Ghash.{Hashable, blocks, authBlocks, ghash};
+ghost use Rattle.ghash.specs.Ghash.{Hashable, blocks, auth_blocks, ghash};
 ghost use Rattle.ghash.specs.Joined.{joined, HalfOf};
 
 use crate::{Ghash, block_count};
@@ -61,7 +61,7 @@ pub fn join(h: U128, first: U128, second: U128, count: u64) -> U128
 pub fn galois_hash_after(h: U128, label: &[u8], text: &[u8], half: Half) -> U128
     requires hashable { Hashable (length label.now) × Hashable (length text.now) }
     requires half_of { HalfOf (value h) (blocks text.now) half }
-    ensures { value result ≡ ghash (value h) (authBlocks label.now text.now) }
+    ensures { value result ≡ ghash (value h) (auth_blocks label.now text.now) }
 {
     let y = half.after(hash_blocks(h, label));
     let texted = Ghash { h, y };

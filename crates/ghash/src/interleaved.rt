@@ -8,7 +8,7 @@ ghost use Rattle.carryless.specs.Lent.{PartsOf};
 ghost use Rattle.field.specs.Field.{Element, gpow};
 ghost use Rattle.ghash.specs.Absorbed.{Absorbed};
 ghost use Rattle.ghash.specs.Ghash.{blocks};
-ghost use Rattle.ghash.specs.Sets.{LaneCount, up_to, blockNumber, Starts, Hashed};
+ghost use Rattle.ghash.specs.Sets.{LaneCount, up_to, block_number, Starts, Hashed};
 
 use crate::Ghash;
 use block::U128;
@@ -43,7 +43,7 @@ fn lane_power(h: U128, n: usize) -> U128
 // To each of n hashes its block of the n at the front of `bytes`.
 fn add_set(bytes: &[u8], n: usize, high: &mut [u64; 16], low: &mut [u64; 16])
     requires { (n ≤ 16) × (16 * n ≤ length bytes.now) × (length high.old ≡ 16) × (length low.old ≡ 16) }
-    ensures { Both (λ k. lane high.old low.old k ⊕ blockNumber bytes.now k) n high.new low.new × ((k : ℕ) → k < n → Element (lane high.new low.new k)) × (length high.new ≡ 16) × (length low.new ≡ 16) }
+    ensures { Both (λ k. lane high.old low.old k ⊕ block_number bytes.now k) n high.new low.new × ((k : ℕ) → k < n → Element (lane high.new low.new k)) × (length high.new ≡ 16) × (length low.new ≡ 16) }
 {
     let mut k: usize = 0;
     while k < n {
@@ -73,7 +73,7 @@ fn absorb_sets(
     low: &mut [u64; 16],
 ) -> usize
     requires { PartsOf p m.now × (1 ≤ n) × (n ≤ 16) × (16 * n ≤ length bytes.now) × (length high.old ≡ 16) × (length low.old ≡ 16) }
-    ensures { ((h y : ℕ) → Element h → value p ≡ gpow h n → Starts n y (lane high.old low.old) → Hashed h y (up_to result (blockNumber bytes.now)) n (lane high.new low.new)) × (16 * result ≤ length bytes.now) × (length high.new ≡ 16) × (length low.new ≡ 16) }
+    ensures { ((h y : ℕ) → Element h → value p ≡ gpow h n → Starts n y (lane high.old low.old) → Hashed h y (up_to result (block_number bytes.now)) n (lane high.new low.new)) × (16 * result ≤ length bytes.now) × (length high.new ≡ 16) × (length low.new ≡ 16) }
 {
     let all = bytes.len() / 16;
     add_set(bytes, n, high, low);

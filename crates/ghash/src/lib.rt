@@ -3,10 +3,10 @@ pub mod halves;
 mod interleaved;
 
 ghost use Rattle.std.specs.Prelude.{◌≡◌, [], ◌∷◌, ◌≤◌, length, get_or};
-ghost use Rattle.block.specs.Words.{wordAt, words};
+ghost use Rattle.block.specs.Words.{word_at, words};
 ghost use Rattle.block.specs.Wide.{value};
 ghost use Rattle.carryless.specs.Lent.{PartsOf};
-ghost use Rattle.ghash.specs.Ghash.{Hashable, block_of, blockCount, blocks, lengthBlock, authBlocks, ghash};
+ghost use Rattle.ghash.specs.Ghash.{Hashable, block_of, block_count, blocks, length_block, auth_blocks, ghash};
 ghost use Rattle.ghash.specs.Absorbed.{Absorbed};
 
 use block::U128;
@@ -21,7 +21,7 @@ fn byte_or_zero(s: &[u8], i: usize) -> u8
 // The word of the four bytes from `at` on, zeros past the end.
 fn word_or_zeros(s: &[u8], at: usize) -> u32
     requires { at ≤ 12 }
-    ensures { result ≡ wordAt s.now at }
+    ensures { result ≡ word_at s.now at }
 {
     block::combine([
         byte_or_zero(s, at),
@@ -49,7 +49,7 @@ fn load_block(rest: &[u8]) -> [u32; 4]
 
 // How many blocks n bytes are, the last one of which may be short. Nothing is added to n, so nothing wraps.
 pub fn block_count(n: usize) -> usize
-    ensures { result ≡ blockCount n }
+    ensures { result ≡ block_count n }
 {
     if n % 16 == 0 { n / 16 } else { n / 16 + 1 }
 }
@@ -125,7 +125,7 @@ impl Ghash {
     // The length block: both lengths in bits, the label's first.
     pub fn absorb_lengths(self, label: usize, text: usize) -> Ghash
         requires { Hashable label × Hashable text }
-        ensures { Absorbed self (lengthBlock label text ∷ []) result }
+        ensures { Absorbed self (length_block label text ∷ []) result }
     {
         let b = U128 {
             high: 8 * label as u64,
@@ -139,7 +139,7 @@ impl Ghash {
 // The hash of a label and a text, with their lengths.
 pub fn galois_hash(h: U128, label: &[u8], text: &[u8]) -> U128
     requires { Hashable (length label.now) × Hashable (length text.now) }
-    ensures { value result ≡ ghash (value h) (authBlocks label.now text.now) }
+    ensures { value result ≡ ghash (value h) (auth_blocks label.now text.now) }
 {
     let start = Ghash::new(h);
     let labelled = start.absorb_all(label);

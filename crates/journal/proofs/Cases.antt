@@ -1,6 +1,6 @@
 -- What a test tells, and what it tells of an entry that is not too long.
-use Rattle.journal.proofs.Names.{Bool, Entry, ◌||◌, ◌≡◌, ◌≤◌, arith, false, length, ltb-false, outputLimit, partLimit, pastLimit}
-use Rattle.journal.proofs.Names.{refl, tooLong, true, ℕ}
+use Rattle.journal.proofs.Names.{Bool, Entry, ◌||◌, ◌≡◌, ◌≤◌, arith, false, length, ltb-false, output_limit, part_limit, past_limit}
+use Rattle.journal.proofs.Names.{refl, too_long, true, ℕ}
 
 -- not both
 pub clash : (t : Bool) → t ≡ true → t ≡ false → ⊥
@@ -15,11 +15,11 @@ or_right true b e = absurd (clash true refl e)
 or_right false b e = e
 
 pub record Short (e : Entry) : Type 0 where
-  pub label : length e.label ≤ partLimit
-  pub «data» : length e.«data» ≤ partLimit
-  pub iv : length e.iv ≤ partLimit
-  pub output : length e.output ≤ outputLimit
+  pub label : length e.label ≤ part_limit
+  pub «data» : length e.«data» ≤ part_limit
+  pub iv : length e.iv ≤ part_limit
+  pub output : length e.output ≤ output_limit
 
-pub short : (e : Entry) → tooLong e ≡ false → Short e
-unfolding pastLimit
+pub short : (e : Entry) → too_long e ≡ false → Short e
+unfolding past_limit
 short e t = search (or_left, or_right, ltb-false)

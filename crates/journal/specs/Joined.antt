@@ -1,6 +1,6 @@
 -- The reports of two journals added, as the report of the two joined: the second's records come behind the first's.
 use Rattle.std.specs.Prelude.{ℕ, ◌+◌, true, cond, List, [], ◌∷◌, eqb}
-use Rattle.journal.specs.Replay.{numberOfEnd}
+use Rattle.journal.specs.Replay.{number_of_end}
 use Rattle.journal.specs.declared.report.Difference.{Difference}
 use Rattle.journal.specs.declared.report.Report.{Report}
 use Rattle.journal.specs.declared.Replayed.{Replayed}
@@ -30,10 +30,10 @@ added size r s =
     }
 
 -- how the two end, where the first was replayed to its end: as the second does, at a place that is counted from the first's start
-unfoldable pub behindReport : ℕ → Report → Replayed → Replayed
-behindReport size r x =
+unfoldable pub behind_report : ℕ → Report → Replayed → Replayed
+behind_report size r x =
     record {
       ended = x.ended;
-      place = cond (eqb (numberOfEnd x.ended) 0) 0 (size + x.place);
+      place = cond (eqb (number_of_end x.ended) 0) 0 (size + x.place);
       report = added size r x.report;
     }

@@ -19,12 +19,12 @@ nothing =
     }
 
 -- one more at place i
-abbrev pub oneMore : ℕ → List ℕ → List ℕ
-oneMore i counts = set counts i (get_or counts i 0 + 1)
+abbrev pub one_more : ℕ → List ℕ → List ℕ
+one_more i counts = set counts i (get_or counts i 0 + 1)
 
 -- the modes above 4 are counted together
-abbrev pub modePlace : ℕ → ℕ
-modePlace mode = cond (ltb 4 mode) 5 mode
+abbrev pub mode_place : ℕ → ℕ
+mode_place mode = cond (ltb 4 mode) 5 mode
 
 -- the first difference, where the record at a place, with so many before it, differs or does not
 abbrev pub first_of : Bool → ℕ → ℕ → Difference → Difference
@@ -35,8 +35,8 @@ unfoldable pub counted : Entry → Recomputed → ℕ → Report → Report
 counted e x place r =
     record {
       records = r.records + 1;
-      by_mode = oneMore (modePlace e.mode) r.by_mode;
-      by_answer = oneMore x.number r.by_answer;
+      by_mode = one_more (mode_place e.mode) r.by_mode;
+      by_answer = one_more x.number r.by_answer;
       bytes_in = r.bytes_in + length e.«data»;
       bytes_out = r.bytes_out + x.length;
       first = first_of x.differs r.records place r.first;
@@ -45,10 +45,10 @@ counted e x place r =
 -- no count is above n
 pub record Within (n : ℕ) (r : Report) : Type 0 where
   pub records : r.records ≤ n
-  pub byMode : Below (suc n) r.by_mode
-  pub byAnswer : Below (suc n) r.by_answer
-  pub bytesIn : r.bytes_in ≤ n
-  pub bytesOut : r.bytes_out ≤ n
+  pub by_mode : Below (suc n) r.by_mode
+  pub by_answer : Below (suc n) r.by_answer
+  pub bytes_in : r.bytes_in ≤ n
+  pub bytes_out : r.bytes_out ≤ n
 
 unfoldable pub total : List ℕ → ℕ
 total [] = 0
@@ -58,8 +58,8 @@ total (n ∷ ns) = n + total ns
 pub record AddsUp (r : Report) : Type 0 where
   pub modes : length r.by_mode ≡ 6
   pub answers : length r.by_answer ≡ 32
-  pub byMode : total r.by_mode ≡ r.records
-  pub byAnswer : total r.by_answer ≡ r.records
+  pub by_mode : total r.by_mode ≡ r.records
+  pub by_answer : total r.by_answer ≡ r.records
 
 -- a first difference, of so many records: it is one of them, or there is none and nothing is said of it
 pub record OfRecords (n : ℕ) (d : Difference) : Type 0 where

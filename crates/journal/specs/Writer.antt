@@ -1,7 +1,7 @@
 -- Writing a record: what is left in the output, from the call alone.
 use Rattle.std.specs.Prelude.{ℕ, cond, List, [], ◌++◌, ltb, length}
 use Rattle.block.specs.Over.{over}
-use Rattle.journal.specs.Format.{Entry, part, head, middle, written, tooLong}
+use Rattle.journal.specs.Format.{Entry, part, head, middle, written, too_long}
 use Rattle.journal.specs.declared.writer.Call.{Call}
 use Rattle.journal.specs.declared.writer.Wrote.{Wrote}
 use Rattle.journal.specs.declared.writer.Wrote.TheVariants.{Done, TooLong, NoRoom}
@@ -32,8 +32,8 @@ middle_of c = middle (entry_of c [] [] [] [])
 abbrev pub asked_of : Call → List ℕ → List ℕ → List ℕ → List ℕ
 asked_of c label d iv = head_of c ++ (part label ++ (part d ++ part iv))
 
-abbrev pub answeredOf : Call → List ℕ → List ℕ
-answeredOf c output = middle_of c ++ part output
+abbrev pub answered_of : Call → List ℕ → List ℕ
+answered_of c output = middle_of c ++ part output
 
 -- how it ended, and every byte of the output
 pub record Leaves : Type 0 where
@@ -43,6 +43,6 @@ pub record Leaves : Type 0 where
 -- the entry e at the front of o, if its parts are within the limits and there is room
 unfoldable pub write : Entry → List ℕ → Leaves
 write e o =
-    cond (tooLong e) (record { wrote = TooLong; bytes = o })
+    cond (too_long e) (record { wrote = TooLong; bytes = o })
     (cond (ltb (length o) (length (written e))) (record { wrote = NoRoom; bytes = o })
     (record { wrote = Done (length (written e)); bytes = over (written e) o }))

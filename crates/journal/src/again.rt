@@ -1,8 +1,8 @@
 // A recorded call, made again.
 ghost use Rattle.std.specs.Prelude.{◌≡◌, false, ◌+◌, ◌≤◌, ◌<◌, length};
 ghost use Rattle.cipher_mode.specs.Answer.{head_of};
-ghost use Rattle.journal.specs.Format.{Stands, front, tooLong};
-ghost use Rattle.journal.specs.Recomputed.{callInto, Answers, recomputed, differsFrom, lentRoom, judged};
+ghost use Rattle.journal.specs.Format.{Stands, front, too_long};
+ghost use Rattle.journal.specs.Recomputed.{call_into, Answers, recomputed, differs_from, lent_room, judged};
 
 use crate::records;
 use cipher_mode::answer::{Answer, Ending};
@@ -44,7 +44,7 @@ fn told(answer: Answer) -> Answered
 
 fn call_into(cipher: Sm4Cipher, s: &[u8], out: &mut [u8]) -> Answered
     requires { Stands s.now }
-    ensures { Answers result out.new (callInto cipher (front s.now) out.old) }
+    ensures { Answers result out.new (call_into cipher (front s.now) out.old) }
 {
     let number = records::mode(s);
     if number > 4 {
@@ -67,7 +67,7 @@ fn call_into(cipher: Sm4Cipher, s: &[u8], out: &mut [u8]) -> Answered
 
 fn differs(s: &[u8], answered: Answered, res: &[u8]) -> bool
     requires { Stands s.now }
-    ensures { result ≡ differsFrom (front s.now) answered.number answered.length res.now }
+    ensures { result ≡ differs_from (front s.now) answered.number answered.length res.now }
 {
     if records::number(s) as u32 != answered.number {
         return true;
@@ -82,7 +82,7 @@ fn differs(s: &[u8], answered: Answered, res: &[u8]) -> bool
 // How much room the call is lent: never more than the longest output, whatever was recorded.
 fn lent_room(s: &[u8]) -> usize
     requires { Stands s.now }
-    ensures { result ≡ lentRoom (front s.now) }
+    ensures { result ≡ lent_room (front s.now) }
 {
     let room = records::room(s) as usize;
     if room > records::OUTPUT_LIMIT {
@@ -97,7 +97,7 @@ fn longest_output() -> [u8; records::OUTPUT_LIMIT] {
 
 pub(crate) fn recompute(cipher: Sm4Cipher, s: &[u8]) -> Recomputed
     requires stands { Stands s.now }
-    requires s_value { tooLong (front s.now) ≡ false }
+    requires s_value { too_long (front s.now) ≡ false }
     ensures value { result ≡ judged (front s.now) (recomputed cipher (front s.now)) }
     ensures number_bound { result.number < 27 }
     ensures length_bound { result.length ≤ 16 + length (front s.now).«data» }

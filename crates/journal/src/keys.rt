@@ -1,7 +1,7 @@
 // The keys of a replay.
 ghost use Rattle.std.specs.Prelude.{◌≡◌, ◌+◌, ◌≤◌, ◌<◌, ◌∷◌, ltb, drop};
-ghost use Rattle.cipher_mode.specs.Key.{keyNumber};
-ghost use Rattle.journal.specs.KeyList.{keysIn, place_of, hasNumber, key_at, badKeys};
+ghost use Rattle.cipher_mode.specs.Key.{key_number};
+ghost use Rattle.journal.specs.KeyList.{keys_in, place_of, has_number, key_at, bad_keys};
 
 use cipher_mode::Sm4Cipher;
 
@@ -17,7 +17,7 @@ pub struct Keys {
 
 // The number that the answers of calls on a record repeat: 0 where no key stands.
 fn number_of(key: Sm4Cipher) -> u16
-    ensures { result ≡ keyNumber key }
+    ensures { result ≡ key_number key }
 {
     let answer = key.answer;
     cipher_mode::number_in(answer, key.number)
@@ -26,8 +26,8 @@ fn number_of(key: Sm4Cipher) -> u16
 pub(crate) fn at(keys: Keys, i: usize) -> Sm4Cipher
     requires i_lt_count { i < keys.count }
     requires count_bound { keys.count ≤ 8 }
-    ensures value { result ≡ key_at (keysIn keys) i }
-    ensures keys_value { drop i (keysIn keys) ≡ result ∷ drop (i + 1) (keysIn keys) }
+    ensures value { result ≡ key_at (keys_in keys) i }
+    ensures keys_value { drop i (keys_in keys) ≡ result ∷ drop (i + 1) (keys_in keys) }
 {
     let all = keys.keys;
     all[i]
@@ -37,8 +37,8 @@ pub(crate) fn at(keys: Keys, i: usize) -> Sm4Cipher
 fn find_from(keys: Keys, from: usize, number: u16) -> usize
     requires from_le_count { from ≤ keys.count }
     requires count_bound { keys.count ≤ 8 }
-    ensures value { result ≡ from + place_of number (drop from (keysIn keys)) }
-    ensures count_value { ltb result keys.count ≡ hasNumber number (drop from (keysIn keys)) }
+    ensures value { result ≡ from + place_of number (drop from (keys_in keys)) }
+    ensures count_value { ltb result keys.count ≡ has_number number (drop from (keys_in keys)) }
 {
     let mut i = from;
     while i < keys.count {
@@ -52,15 +52,15 @@ fn find_from(keys: Keys, from: usize, number: u16) -> usize
 
 pub(crate) fn find(keys: Keys, number: u16) -> usize
     requires { keys.count ≤ 8 }
-    ensures value { result ≡ place_of number (keysIn keys) }
-    ensures count_value { ltb result keys.count ≡ hasNumber number (keysIn keys) }
+    ensures value { result ≡ place_of number (keys_in keys) }
+    ensures count_value { ltb result keys.count ≡ has_number number (keys_in keys) }
 {
     find_from(keys, 0, number)
 }
 
 // Over eight keys, a retired one, or a number twice.
 pub fn bad(keys: Keys) -> bool
-    ensures { result ≡ badKeys keys }
+    ensures { result ≡ bad_keys keys }
 {
     if keys.count > MOST {
         return true;

@@ -10,9 +10,9 @@ pub mod report;
 pub mod writer;
 
 ghost use Rattle.std.specs.Prelude.{◌≡◌, ◌+◌, ◌≤◌, ◌<◌, ◌^◌, length};
-ghost use Rattle.journal.specs.KeyList.{keysIn};
+ghost use Rattle.journal.specs.KeyList.{keys_in};
 ghost use Rattle.journal.specs.Reports.{Within};
-ghost use Rattle.journal.specs.Replay.{numberOfEnd, replayOne, replay};
+ghost use Rattle.journal.specs.Replay.{number_of_end, replay_one, replay};
 
 use keys::Keys;
 use report::Report;
@@ -39,7 +39,7 @@ pub struct Replayed {
 
 // The number of how a replay ended (W11).
 pub fn number(ended: Ended) -> u32
-    ensures { result ≡ numberOfEnd ended }
+    ensures { result ≡ number_of_end ended }
 {
     match ended {
         Ended::Done => 0,
@@ -56,7 +56,7 @@ pub fn replay_one(keys: Keys, s: &[u8], place: usize, report: Report) -> Replaye
     requires count_bound { keys.count ≤ 8 }
     requires within { Within place report }
     requires s_bound { place + length s.now < 2 ^ 64 }
-    ensures { result ≡ replayOne (keysIn keys) s.now place report }
+    ensures { result ≡ replay_one (keys_in keys) s.now place report }
 {
     if records::measure(s) == 0 {
         let ended = Ended::BadRecord;

@@ -1,8 +1,8 @@
 // The record at the front of a part of a journal.
 ghost use Rattle.std.specs.Prelude.{◌≡◌, true, [], ◌∷◌, ◌≤◌, length, get_or, drop};
 ghost use Rattle.block.specs.BigEndian.{number_of};
-ghost use Rattle.block.specs.Words.{wordAt};
-ghost use Rattle.journal.specs.Format.{startsPart, part_at, behind, pastPart, fromLabel, fromData, fromIv, fromRoom, fromOutput, marked, size_at, Stands, directionOf, front, pastLimit, tooLong};
+ghost use Rattle.block.specs.Words.{word_at};
+ghost use Rattle.journal.specs.Format.{starts_part, part_at, behind, past_part, from_label, from_data, from_iv, from_room, from_output, marked, size_at, Stands, direction_of, front, past_limit, too_long};
 
 use cipher_mode::Direction;
 
@@ -29,7 +29,7 @@ pub(crate) fn skip(s: &[u8], n: usize) -> &[u8]
 
 // Whether a part stands whole at the front of `s`. What its length says is compared with what is left, so no sum wraps.
 fn starts_part(s: &[u8]) -> bool
-    ensures { result ≡ startsPart s.now }
+    ensures { result ≡ starts_part s.now }
 {
     if s.len() < LENGTH {
         return false;
@@ -38,7 +38,7 @@ fn starts_part(s: &[u8]) -> bool
 }
 
 fn part_at(s: &[u8]) -> &[u8]
-    requires { startsPart s.now ≡ true }
+    requires { starts_part s.now ≡ true }
     ensures { result.now ≡ part_at s.now }
 {
     let end = LENGTH + block::word_at(s, 0) as usize;
@@ -46,7 +46,7 @@ fn part_at(s: &[u8]) -> &[u8]
 }
 
 fn behind(s: &[u8]) -> &[u8]
-    requires { startsPart s.now ≡ true }
+    requires { starts_part s.now ≡ true }
     ensures { result.now ≡ behind s.now }
 {
     skip(s, LENGTH + block::word_at(s, 0) as usize)
@@ -54,7 +54,7 @@ fn behind(s: &[u8]) -> &[u8]
 
 // The same where a part stands whole at the front of `s`, otherwise nothing.
 fn past_part(s: &[u8]) -> &[u8]
-    ensures { result.now ≡ pastPart s.now }
+    ensures { result.now ≡ past_part s.now }
 {
     if !starts_part(s) {
         return skip(s, s.len());
@@ -100,28 +100,28 @@ pub fn measure(s: &[u8]) -> usize
 // A record from its label on, from its data on, from its IV on, from its room on, from its output on.
 fn from_label(s: &[u8]) -> &[u8]
     requires { Stands s.now }
-    ensures { result.now ≡ fromLabel s.now }
+    ensures { result.now ≡ from_label s.now }
 {
     skip(s, HEAD)
 }
 
 fn from_data(s: &[u8]) -> &[u8]
     requires { Stands s.now }
-    ensures { result.now ≡ fromData s.now }
+    ensures { result.now ≡ from_data s.now }
 {
     behind(from_label(s))
 }
 
 fn from_iv(s: &[u8]) -> &[u8]
     requires { Stands s.now }
-    ensures { result.now ≡ fromIv s.now }
+    ensures { result.now ≡ from_iv s.now }
 {
     behind(from_data(s))
 }
 
 fn from_room(s: &[u8]) -> &[u8]
     requires { Stands s.now }
-    ensures result_value { result.now ≡ fromRoom s.now }
+    ensures result_value { result.now ≡ from_room s.now }
     ensures in_bounds { 5 ≤ length result.now }
 {
     behind(from_iv(s))
@@ -129,7 +129,7 @@ fn from_room(s: &[u8]) -> &[u8]
 
 fn from_output(s: &[u8]) -> &[u8]
     requires { Stands s.now }
-    ensures { result.now ≡ fromOutput s.now }
+    ensures { result.now ≡ from_output s.now }
 {
     skip(from_room(s), MIDDLE)
 }
@@ -137,7 +137,7 @@ fn from_output(s: &[u8]) -> &[u8]
 // The fields of a record.
 pub(crate) fn direction(s: &[u8]) -> Direction
     requires { Stands s.now }
-    ensures { result ≡ directionOf (get_or s.now 2 0) }
+    ensures { result ≡ direction_of (get_or s.now 2 0) }
 {
     match s[2] {
         0 => Direction::Encrypt,
@@ -167,35 +167,35 @@ pub(crate) fn key_number(s: &[u8]) -> u16
 
 pub(crate) fn label(s: &[u8]) -> &[u8]
     requires { Stands s.now }
-    ensures { result.now ≡ part_at (fromLabel s.now) }
+    ensures { result.now ≡ part_at (from_label s.now) }
 {
     part_at(from_label(s))
 }
 
 pub(crate) fn data(s: &[u8]) -> &[u8]
     requires { Stands s.now }
-    ensures { result.now ≡ part_at (fromData s.now) }
+    ensures { result.now ≡ part_at (from_data s.now) }
 {
     part_at(from_data(s))
 }
 
 pub(crate) fn iv(s: &[u8]) -> &[u8]
     requires { Stands s.now }
-    ensures { result.now ≡ part_at (fromIv s.now) }
+    ensures { result.now ≡ part_at (from_iv s.now) }
 {
     part_at(from_iv(s))
 }
 
 pub(crate) fn room(s: &[u8]) -> u32
     requires { Stands s.now }
-    ensures { result ≡ wordAt (fromRoom s.now) 0 }
+    ensures { result ≡ word_at (from_room s.now) 0 }
 {
     block::word_at(from_room(s), 0)
 }
 
 pub(crate) fn number(s: &[u8]) -> u8
     requires { Stands s.now }
-    ensures { result ≡ get_or (fromRoom s.now) 4 0 }
+    ensures { result ≡ get_or (from_room s.now) 4 0 }
 {
     let middle = from_room(s);
     middle[4]
@@ -203,14 +203,14 @@ pub(crate) fn number(s: &[u8]) -> u8
 
 pub(crate) fn output(s: &[u8]) -> &[u8]
     requires { Stands s.now }
-    ensures { result.now ≡ part_at (fromOutput s.now) }
+    ensures { result.now ≡ part_at (from_output s.now) }
 {
     part_at(from_output(s))
 }
 
 // Whether so many bytes of label, data, IV and output are too many.
 pub(crate) fn past_limit(label: usize, data: usize, iv: usize, output: usize) -> bool
-    ensures { result ≡ pastLimit label «data» iv output }
+    ensures { result ≡ past_limit label «data» iv output }
 {
     if label > PART_LIMIT {
         return true;
@@ -227,7 +227,7 @@ pub(crate) fn past_limit(label: usize, data: usize, iv: usize, output: usize) ->
 // Whether a part or the output is past its limit.
 pub(crate) fn too_long(s: &[u8]) -> bool
     requires { Stands s.now }
-    ensures { result ≡ tooLong (front s.now) }
+    ensures { result ≡ too_long (front s.now) }
 {
     past_limit(label(s).len(), data(s).len(), iv(s).len(), output(s).len())
 }

@@ -1,7 +1,7 @@
 // The report of a replay, as a running value.
 ghost use Rattle.std.specs.Prelude.{◌≡◌, ◌+◌, ◌≤◌, ◌<◌, ◌^◌, length, get_or};
 ghost use Rattle.journal.specs.Format.{Stands, front};
-ghost use Rattle.journal.specs.Reports.{nothing, oneMore, modePlace, first_of, counted, Within};
+ghost use Rattle.journal.specs.Reports.{nothing, one_more, mode_place, first_of, counted, Within};
 
 use crate::again::Recomputed;
 use crate::records;
@@ -45,7 +45,7 @@ pub fn nothing() -> Report
 }
 
 fn mode_place(mode: u8) -> usize
-    ensures value { result ≡ modePlace mode }
+    ensures value { result ≡ mode_place mode }
     ensures upper_bound { result < 6 }
 {
     if mode > 4 {
@@ -57,7 +57,7 @@ fn mode_place(mode: u8) -> usize
 fn one_more(counts: &mut [u64], i: usize)
     requires i_in_bounds { i < length counts.old }
     requires i_bound { get_or counts.old i 0 + 1 < 2 ^ 64 }
-    ensures { counts.new ≡ oneMore i counts.old }
+    ensures { counts.new ≡ one_more i counts.old }
 {
     counts[i] += 1;
 }

@@ -1,8 +1,8 @@
 // Writes a record.
 ghost use Rattle.std.specs.Prelude.{◌≡◌, ◌+◌, ◌≤◌, length};
 ghost use Rattle.block.specs.Over.{over};
-ghost use Rattle.journal.specs.Format.{directionByte, part};
-ghost use Rattle.journal.specs.Writer.{head_of, middle_of, asked_of, answeredOf, entry_of, write};
+ghost use Rattle.journal.specs.Format.{direction_byte, part};
+ghost use Rattle.journal.specs.Writer.{head_of, middle_of, asked_of, answered_of, entry_of, write};
 
 use crate::records;
 use crate::records::{HEAD, LENGTH, MIDDLE};
@@ -28,7 +28,7 @@ pub enum Wrote {
 }
 
 fn direction_byte(direction: Direction) -> u8
-    ensures { result ≡ directionByte direction }
+    ensures { result ≡ direction_byte direction }
 {
     match direction {
         Direction::Encrypt => 0,
@@ -92,7 +92,7 @@ fn put_asked(call: Call, label: &[u8], data: &[u8], iv: &[u8], out: &mut [u8])
 fn put_answered(call: Call, output: &[u8], out: &mut [u8])
     requires output_len_bound { length output.now ≤ 16400 }
     requires output_in_bounds { 9 + length output.now ≤ length out.old }
-    ensures { out.new ≡ over (answeredOf call output.now) out.old }
+    ensures { out.new ≡ over (answered_of call output.now) out.old }
 {
     let middle = middle(call);
     bytes::copy(&middle, out);

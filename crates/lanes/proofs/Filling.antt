@@ -28,17 +28,17 @@ puts t s p k [] = s
 puts t s p k (v ∷ vs) = puts t (set s (p + k) v) p (k + t) vs
 
 module _ (t : ℕ) where
-  pub puts-out : (vs s : List ℕ) (p k q : ℕ) → ((i : ℕ) → q ≡ p + k + t * i → ⊥) → get_or (puts t s p k vs) q 0 ≡ get_or s q 0
-  puts-out [] s p k q h = refl
-  puts-out (v ∷ vs) s p k q h =
-      puts-out vs (set s (p + k) v) p (k + t) q (λ i e. h (suc i) (omega arith))
+  pub puts_out : (vs s : List ℕ) (p k q : ℕ) → ((i : ℕ) → q ≡ p + k + t * i → ⊥) → get_or (puts t s p k vs) q 0 ≡ get_or s q 0
+  puts_out [] s p k q h = refl
+  puts_out (v ∷ vs) s p k q h =
+      puts_out vs (set s (p + k) v) p (k + t) q (λ i e. h (suc i) (omega arith))
       ∙ get_or-set_other s (p + k) q v 0 (λ e. h 0 (omega arith))
 
-  pub puts-in : (vs s : List ℕ) (p k i q : ℕ) → q ≡ p + k + t * i → 0 < t → i < length vs → p + k + t * length vs < length s + t
+  pub puts_in : (vs s : List ℕ) (p k i q : ℕ) → q ≡ p + k + t * i → 0 < t → i < length vs → p + k + t * length vs < length s + t
       → get_or (puts t s p k vs) q 0 ≡ get_or vs i 0
-  puts-in [] s p k i q e ht h g = absurd (omega arith)
-  puts-in (v ∷ vs) s p k zero q e ht h g =
+  puts_in [] s p k i q e ht h g = absurd (omega arith)
+  puts_in (v ∷ vs) s p k zero q e ht h g =
       let f : q ≡ p + k = omega arith in
-      rw f (puts-out vs (set s (p + k) v) p (k + t) (p + k) (λ i e. omega arith) ∙ get_or-set_same s (p + k) v 0 (omega arith))
-  puts-in (v ∷ vs) s p k (suc i) q e ht h g =
-      let l = length-set s (p + k) v in puts-in vs (set s (p + k) v) p (k + t) i q (omega arith) ht (omega arith) (omega arith)
+      rw f (puts_out vs (set s (p + k) v) p (k + t) (p + k) (λ i e. omega arith) ∙ get_or-set_same s (p + k) v 0 (omega arith))
+  puts_in (v ∷ vs) s p k (suc i) q e ht h g =
+      let l = length-set s (p + k) v in puts_in vs (set s (p + k) v) p (k + t) i q (omega arith) ht (omega arith) (omega arith)

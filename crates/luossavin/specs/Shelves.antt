@@ -5,8 +5,8 @@ use Rattle.luossavin.specs.declared.shelves.LuossavinShelf.{LuossavinShelf}
 use Rattle.luossavin.specs.declared.shelves.LuossavinShelved.{LuossavinShelved}
 
 -- the outcome of a host's answer with the buffer
-abbrev pub shelfReported : LuossavinShelf → List ℕ → Outcome
-shelfReported r shelf = record { number = r.number; used = r.used; bytes = shelf }
+abbrev pub shelf_reported : LuossavinShelf → List ℕ → Outcome
+shelf_reported r shelf = record { number = r.number; used = r.used; bytes = shelf }
 
-abbrev pub shelvedReported : LuossavinShelved → Place
-shelvedReported r = record { number = r.number; start = r.start; size = r.length }
+abbrev pub shelved_reported : LuossavinShelved → Place
+shelved_reported r = record { number = r.number; start = r.start; size = r.length }

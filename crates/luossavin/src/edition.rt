@@ -2,8 +2,8 @@
 // no text.
 ghost use Rattle.std.specs.Prelude.{◌≡◌};
 ghost use Rattle.label.specs.Label.{label_of};
-ghost use Rattle.luossavin.specs.Host.{headIn, reported, hostModeCall};
-ghost use Rattle.luossavin.specs.Edition.{hostEditionOpens};
+ghost use Rattle.luossavin.specs.Host.{head_in, reported, host_mode_call};
+ghost use Rattle.luossavin.specs.Edition.{host_edition_opens};
 
 use crate::key::{LuossavinKey, cipher_of};
 use crate::which::report_ended;
@@ -40,7 +40,7 @@ pub extern "C" fn luossavin_edition_opens(
     sealed: &[u8],
     iv: &[u8],
 ) -> LuossavinAnswer
-    ensures { headIn result ≡ hostEditionOpens key job edition sealed.now iv.now }
+    ensures { head_in result ≡ host_edition_opens key job edition sealed.now iv.now }
 {
     let label = label::label(job, edition);
     let lengths = [6usize];
@@ -58,7 +58,7 @@ pub extern "C" fn luossavin_edition_seal(
     iv: &[u8],
     out: &mut [u8],
 ) -> LuossavinAnswer
-    ensures { reported result out.new ≡ hostModeCall Direction.Encrypt 4 key (label_of job edition) text.now iv.now out.old }
+    ensures { reported result out.new ≡ host_mode_call Direction.Encrypt 4 key (label_of job edition) text.now iv.now out.old }
 {
     let label = label::label(job, edition);
     mode_call(Direction::Encrypt, GCM, key, &label, text, iv, out)
@@ -73,7 +73,7 @@ pub extern "C" fn luossavin_edition_open(
     iv: &[u8],
     out: &mut [u8],
 ) -> LuossavinAnswer
-    ensures { reported result out.new ≡ hostModeCall Direction.Decrypt 4 key (label_of job edition) sealed.now iv.now out.old }
+    ensures { reported result out.new ≡ host_mode_call Direction.Decrypt 4 key (label_of job edition) sealed.now iv.now out.old }
 {
     let label = label::label(job, edition);
     mode_call(Direction::Decrypt, GCM, key, &label, sealed, iv, out)

@@ -1,14 +1,14 @@
 // Hashes of halves, for a host: blocks are hashed by themselves, and two hashes are joined. Nothing is refused. A hash is the
 // big-endian number of its 16 bytes.
 ghost use Rattle.std.specs.Prelude.{◌≡◌};
-ghost use Rattle.luossavin.specs.Halves.{hostHashBlocks, hostHashJoin};
+ghost use Rattle.luossavin.specs.Halves.{host_hash_blocks, host_hash_join};
 
 use block::U128;
 use ghash::halves;
 
 #[unsafe(no_mangle)]
 pub extern "C" fn luossavin_hash_blocks(h: U128, bytes: &[u8]) -> U128
-    ensures { result ≡ hostHashBlocks h bytes.now }
+    ensures { result ≡ host_hash_blocks h bytes.now }
 {
     halves::hash_blocks(h, bytes)
 }
@@ -20,7 +20,7 @@ pub extern "C" fn luossavin_hash_join(
     second: U128,
     second_blocks: u64,
 ) -> U128
-    ensures { result ≡ hostHashJoin h first second second_blocks }
+    ensures { result ≡ host_hash_join h first second second_blocks }
 {
     halves::join(h, first, second, second_blocks)
 }

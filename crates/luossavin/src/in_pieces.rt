@@ -2,9 +2,9 @@
 // and comes back by value, beside the answer, and each of its values has an answer.
 ghost use Rattle.std.specs.Prelude.{◌≡◌, []};
 ghost use Rattle.cipher_mode.specs.Answer.{head_of};
-ghost use Rattle.pieces.specs.Calls.{ctrPiece, ctrEnd, sealPiece, sealEnd, opensPiece, opensEnd};
-ghost use Rattle.luossavin.specs.Host.{headIn};
-ghost use Rattle.luossavin.specs.InPieces.{ctrReported, sealReported, opensReported, directionOf, hostCtrStart, hostSealStart, hostOpensStart};
+ghost use Rattle.pieces.specs.Calls.{ctr_piece, ctr_end, seal_piece, seal_end, opens_piece, opens_end};
+ghost use Rattle.luossavin.specs.Host.{head_in};
+ghost use Rattle.luossavin.specs.InPieces.{ctr_reported, seal_reported, opens_reported, direction_of, host_ctr_start, host_seal_start, host_opens_start};
 
 use crate::key::{LuossavinKey, cipher_of};
 use crate::{LuossavinAnswer, report};
@@ -34,7 +34,7 @@ pub struct LuossavinOpensStep {
 }
 
 fn ctr_step(step: ctr::CtrStep) -> LuossavinCtrStep
-    ensures { (headIn result.answer ≡ head_of step.answer) × (result.state ≡ step.state) }
+    ensures { (head_in result.answer ≡ head_of step.answer) × (result.state ≡ step.state) }
 {
     let state = step.state;
     LuossavinCtrStep {
@@ -44,7 +44,7 @@ fn ctr_step(step: ctr::CtrStep) -> LuossavinCtrStep
 }
 
 fn seal_step(step: seal::SealStep) -> LuossavinSealStep
-    ensures { (headIn result.answer ≡ head_of step.answer) × (result.state ≡ step.state) }
+    ensures { (head_in result.answer ≡ head_of step.answer) × (result.state ≡ step.state) }
 {
     let state = step.state;
     LuossavinSealStep {
@@ -54,7 +54,7 @@ fn seal_step(step: seal::SealStep) -> LuossavinSealStep
 }
 
 fn opens_step(step: opens::OpensStep) -> LuossavinOpensStep
-    ensures { (headIn result.answer ≡ head_of step.answer) × (result.state ≡ step.state) }
+    ensures { (head_in result.answer ≡ head_of step.answer) × (result.state ≡ step.state) }
 {
     let state = step.state;
     LuossavinOpensStep {
@@ -64,7 +64,7 @@ fn opens_step(step: opens::OpensStep) -> LuossavinOpensStep
 }
 
 pub(crate) fn direction_of(decrypt: bool) -> Direction
-    ensures { result ≡ directionOf decrypt }
+    ensures { result ≡ direction_of decrypt }
 {
     if decrypt {
         return Direction::Decrypt;
@@ -78,21 +78,21 @@ pub extern "C" fn luossavin_ctr_start(
     decrypt: bool,
     iv: &[u8],
 ) -> LuossavinCtrStep
-    ensures { ctrReported result [] ≡ hostCtrStart key decrypt iv.now }
+    ensures { ctr_reported result [] ≡ host_ctr_start key decrypt iv.now }
 {
     ctr_step(ctr::start(direction_of(decrypt), cipher_of(key), iv))
 }
 
 #[unsafe(no_mangle)]
 pub extern "C" fn luossavin_ctr_piece(state: Ctr, data: &[u8], out: &mut [u8]) -> LuossavinCtrStep
-    ensures { ctrReported result out.new ≡ ctrPiece state «data».now out.old }
+    ensures { ctr_reported result out.new ≡ ctr_piece state «data».now out.old }
 {
     ctr_step(state.piece(data, out))
 }
 
 #[unsafe(no_mangle)]
 pub extern "C" fn luossavin_ctr_end(state: Ctr) -> LuossavinCtrStep
-    ensures { ctrReported result [] ≡ ctrEnd state }
+    ensures { ctr_reported result [] ≡ ctr_end state }
 {
     ctr_step(state.end())
 }
@@ -103,7 +103,7 @@ pub extern "C" fn luossavin_seal_start(
     aad: &[u8],
     iv: &[u8],
 ) -> LuossavinSealStep
-    ensures { sealReported result [] ≡ hostSealStart key aad.now iv.now }
+    ensures { seal_reported result [] ≡ host_seal_start key aad.now iv.now }
 {
     seal_step(seal::start(cipher_of(key), aad, iv))
 }
@@ -114,14 +114,14 @@ pub extern "C" fn luossavin_seal_piece(
     data: &[u8],
     out: &mut [u8],
 ) -> LuossavinSealStep
-    ensures { sealReported result out.new ≡ sealPiece state «data».now out.old }
+    ensures { seal_reported result out.new ≡ seal_piece state «data».now out.old }
 {
     seal_step(state.piece(data, out))
 }
 
 #[unsafe(no_mangle)]
 pub extern "C" fn luossavin_seal_end(state: seal::Seal, out: &mut [u8]) -> LuossavinSealStep
-    ensures { sealReported result out.new ≡ sealEnd state out.old }
+    ensures { seal_reported result out.new ≡ seal_end state out.old }
 {
     seal_step(state.end(out))
 }
@@ -132,21 +132,21 @@ pub extern "C" fn luossavin_opens_start(
     aad: &[u8],
     iv: &[u8],
 ) -> LuossavinOpensStep
-    ensures { opensReported result [] ≡ hostOpensStart key aad.now iv.now }
+    ensures { opens_reported result [] ≡ host_opens_start key aad.now iv.now }
 {
     opens_step(opens::start(cipher_of(key), aad, iv))
 }
 
 #[unsafe(no_mangle)]
 pub extern "C" fn luossavin_opens_piece(state: opens::Opens, data: &[u8]) -> LuossavinOpensStep
-    ensures { opensReported result [] ≡ opensPiece state «data».now }
+    ensures { opens_reported result [] ≡ opens_piece state «data».now }
 {
     opens_step(state.piece(data))
 }
 
 #[unsafe(no_mangle)]
 pub extern "C" fn luossavin_opens_end(state: opens::Opens, tag: &[u8]) -> LuossavinOpensStep
-    ensures { opensReported result [] ≡ opensEnd state tag.now }
+    ensures { opens_reported result [] ≡ opens_end state tag.now }
 {
     opens_step(state.end(tag))
 }

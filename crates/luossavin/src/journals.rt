@@ -1,9 +1,9 @@
 // A journal of recorded calls, for a host: the record of a call of `luossavin_encrypt` or `luossavin_decrypt` is written, and the
 // calls of a journal are made again, on the records that the host's are.
 ghost use Rattle.std.specs.Prelude.{◌≡◌, ◌≤◌};
-ghost use Rattle.luossavin.specs.Host.{headIn, reported};
-ghost use Rattle.luossavin.specs.Journals.{keys_of, toldOf, hostReplay};
-ghost use Rattle.luossavin.specs.Recording.{at_most, wroteHead, hostRecord};
+ghost use Rattle.luossavin.specs.Host.{head_in, reported};
+ghost use Rattle.luossavin.specs.Journals.{keys_of, told_of, host_replay};
+ghost use Rattle.luossavin.specs.Recording.{at_most, wrote_head, host_record};
 
 use crate::in_pieces::direction_of;
 use crate::key::{LuossavinKey, cipher_of};
@@ -56,7 +56,7 @@ fn keys_of(keys: LuossavinKeys) -> Keys
 }
 
 fn report_replayed(replayed: Replayed) -> LuossavinReplayed
-    ensures { result ≡ toldOf replayed }
+    ensures { result ≡ told_of replayed }
 {
     let ended = replayed.ended;
     let totals = replayed.report;
@@ -79,7 +79,7 @@ fn report_replayed(replayed: Replayed) -> LuossavinReplayed
 
 #[unsafe(no_mangle)]
 pub extern "C" fn luossavin_replay(keys: LuossavinKeys, file: &[u8]) -> LuossavinReplayed
-    ensures { result ≡ hostReplay keys file.now }
+    ensures { result ≡ host_replay keys file.now }
 {
     report_replayed(journal::replay(keys_of(keys), file))
 }
@@ -95,7 +95,7 @@ fn at_most(most: usize, n: usize) -> usize
 }
 
 fn report_wrote(wrote: writer::Wrote) -> LuossavinAnswer
-    ensures { headIn result ≡ wroteHead wrote }
+    ensures { head_in result ≡ wrote_head wrote }
 {
     match wrote {
         writer::Wrote::Done(n) => report(answer::done(0, n)),
@@ -117,7 +117,7 @@ pub extern "C" fn luossavin_record(
     output: &[u8],
     out: &mut [u8],
 ) -> LuossavinAnswer
-    ensures { reported result out.new ≡ hostRecord decrypt mode key aad.now «data».now iv.now room number output.now out.old }
+    ensures { reported result out.new ≡ host_record decrypt mode key aad.now «data».now iv.now room number output.now out.old }
 {
     let call = writer::Call {
         direction: direction_of(decrypt),

@@ -1,7 +1,7 @@
 // A key's record, as a host holds it. A host can put anything into one, and each value has its answer.
 ghost use Rattle.std.specs.Prelude.{◌≡◌};
-ghost use Rattle.cipher_mode.specs.Key.{keyHead};
-ghost use Rattle.luossavin.specs.Key.{keyAnswerOf, cipherIn, hostKeyNew, hostKeyRetire, engineMark, hostKeyEngine};
+ghost use Rattle.cipher_mode.specs.Key.{key_head};
+ghost use Rattle.luossavin.specs.Key.{key_answer_of, cipher_in, host_key_new, host_key_retire, engine_mark, host_key_engine};
 
 use cipher_mode::{KeyAnswer, Sm4Cipher};
 
@@ -17,7 +17,7 @@ pub struct LuossavinKey {
 }
 
 fn key_answer_of(answer: u32) -> KeyAnswer
-    ensures { result ≡ keyAnswerOf answer }
+    ensures { result ≡ key_answer_of answer }
 {
     match answer {
         0 => KeyAnswer::Key,
@@ -28,7 +28,7 @@ fn key_answer_of(answer: u32) -> KeyAnswer
 
 // The record that the calls of `cipher_mode` take.
 pub(crate) fn cipher_of(key: LuossavinKey) -> Sm4Cipher
-    ensures { result ≡ cipherIn key }
+    ensures { result ≡ cipher_in key }
 {
     let rk = key.round_keys;
     Sm4Cipher {
@@ -42,7 +42,7 @@ pub(crate) fn cipher_of(key: LuossavinKey) -> Sm4Cipher
 
 // The number of a key's answer.
 fn answer_number(answer: KeyAnswer) -> u32
-    ensures { result ≡ (keyHead answer).number }
+    ensures { result ≡ (key_head answer).number }
 {
     match answer {
         KeyAnswer::Key => 0,
@@ -53,7 +53,7 @@ fn answer_number(answer: KeyAnswer) -> u32
 
 #[unsafe(no_mangle)]
 pub extern "C" fn luossavin_key_new(key: &[u8], number: u32) -> LuossavinKey
-    ensures { result ≡ hostKeyNew key.now number }
+    ensures { result ≡ host_key_new key.now number }
 {
     let cipher = Sm4Cipher::new(key, number);
     let rk = cipher.rk;
@@ -70,7 +70,7 @@ pub extern "C" fn luossavin_key_new(key: &[u8], number: u32) -> LuossavinKey
 // A key is retired, and what is no key comes back as it was.
 #[unsafe(no_mangle)]
 pub extern "C" fn luossavin_key_retire(key: LuossavinKey) -> LuossavinKey
-    ensures { result ≡ hostKeyRetire key }
+    ensures { result ≡ host_key_retire key }
 {
     if key.answer != 0 {
         return key;
@@ -82,7 +82,7 @@ pub extern "C" fn luossavin_key_retire(key: LuossavinKey) -> LuossavinKey
 
 // The mark of an engine: 1 is the four tables, 2 the gates, 3 the plain engine, and all else leaves the choice to the library.
 fn mark_of(engine: u32) -> u8
-    ensures { result ≡ engineMark engine }
+    ensures { result ≡ engine_mark engine }
 {
     if engine > 3 {
         return 0;
@@ -93,7 +93,7 @@ fn mark_of(engine: u32) -> u8
 // The record with an engine. Nothing else of it changes.
 #[unsafe(no_mangle)]
 pub extern "C" fn luossavin_key_engine(key: LuossavinKey, engine: u32) -> LuossavinKey
-    ensures { result ≡ hostKeyEngine key engine }
+    ensures { result ≡ host_key_engine key engine }
 {
     let mut marked = key;
     marked.engine = mark_of(engine);

@@ -13,7 +13,7 @@ mod workers;
 ghost use Rattle.std.specs.Prelude.{◌≡◌};
 ghost use Rattle.cipher_mode.specs.Outcome.{under, refusal};
 ghost use Rattle.cipher_mode.specs.Answer.{head_of};
-ghost use Rattle.luossavin.specs.Host.{headIn, reported, modeIn, hostBlockCall, hostModeCall};
+ghost use Rattle.luossavin.specs.Host.{head_in, reported, mode_in, host_block_call, host_mode_call};
 
 use cipher_mode::{Direction, Sm4CipherMode, answer};
 use key::{LuossavinKey, cipher_of};
@@ -35,7 +35,7 @@ const BAD_MODE: u32 = 7;
 
 // An answer that is a number alone, on a key with this number.
 pub(crate) fn numbered(number: u32, key: u16) -> LuossavinAnswer
-    ensures { headIn result ≡ under key (refusal number) }
+    ensures { head_in result ≡ under key (refusal number) }
 {
     LuossavinAnswer {
         number,
@@ -47,7 +47,7 @@ pub(crate) fn numbered(number: u32, key: u16) -> LuossavinAnswer
 }
 
 pub(crate) fn report(answer: answer::Answer) -> LuossavinAnswer
-    ensures { headIn result ≡ head_of answer }
+    ensures { head_in result ≡ head_of answer }
 {
     let ending = answer.ending;
     let came_round = answer.came_round as u8;
@@ -72,7 +72,7 @@ pub(crate) fn report(answer: answer::Answer) -> LuossavinAnswer
 
 // The record with the mode that it is used in.
 fn mode_in(key: LuossavinKey, mode: u32) -> Sm4CipherMode
-    ensures { result ≡ modeIn key mode }
+    ensures { result ≡ mode_in key mode }
 {
     Sm4CipherMode {
         cipher: cipher_of(key),
@@ -90,7 +90,7 @@ pub(crate) fn mode_call(
     iv: &[u8],
     out: &mut [u8],
 ) -> LuossavinAnswer
-    ensures { reported result out.new ≡ hostModeCall direction mode key aad.now «data».now iv.now out.old }
+    ensures { reported result out.new ≡ host_mode_call direction mode key aad.now «data».now iv.now out.old }
 {
     match mode {
         0..=4 => report(mode_in(key, mode).call(direction, aad, data, iv, out)),
@@ -104,7 +104,7 @@ pub extern "C" fn luossavin_block_encrypt(
     block: &[u8],
     out: &mut [u8],
 ) -> LuossavinAnswer
-    ensures { reported result out.new ≡ hostBlockCall Direction.Encrypt key block.now out.old }
+    ensures { reported result out.new ≡ host_block_call Direction.Encrypt key block.now out.old }
 {
     report(cipher_of(key).call(Direction::Encrypt, block, out))
 }
@@ -115,7 +115,7 @@ pub extern "C" fn luossavin_block_decrypt(
     block: &[u8],
     out: &mut [u8],
 ) -> LuossavinAnswer
-    ensures { reported result out.new ≡ hostBlockCall Direction.Decrypt key block.now out.old }
+    ensures { reported result out.new ≡ host_block_call Direction.Decrypt key block.now out.old }
 {
     report(cipher_of(key).call(Direction::Decrypt, block, out))
 }
@@ -129,7 +129,7 @@ pub extern "C" fn luossavin_encrypt(
     iv: &[u8],
     out: &mut [u8],
 ) -> LuossavinAnswer
-    ensures { reported result out.new ≡ hostModeCall Direction.Encrypt mode key aad.now «data».now iv.now out.old }
+    ensures { reported result out.new ≡ host_mode_call Direction.Encrypt mode key aad.now «data».now iv.now out.old }
 {
     mode_call(Direction::Encrypt, mode, key, aad, data, iv, out)
 }
@@ -143,7 +143,7 @@ pub extern "C" fn luossavin_decrypt(
     iv: &[u8],
     out: &mut [u8],
 ) -> LuossavinAnswer
-    ensures { reported result out.new ≡ hostModeCall Direction.Decrypt mode key aad.now «data».now iv.now out.old }
+    ensures { reported result out.new ≡ host_mode_call Direction.Decrypt mode key aad.now «data».now iv.now out.old }
 {
     mode_call(Direction::Decrypt, mode, key, aad, data, iv, out)
 }

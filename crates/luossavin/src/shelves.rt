@@ -1,8 +1,8 @@
 // A shelf, for a host: the calls of the crate `shelf` on a buffer that the host lends. The record that is found crosses as its
 // start and length, since no reference does.
 ghost use Rattle.std.specs.Prelude.{◌≡◌};
-ghost use Rattle.shelf.specs.Calls.{numberOfEnd, putCall, collectCall, findCall};
-ghost use Rattle.luossavin.specs.Shelves.{shelfReported, shelvedReported};
+ghost use Rattle.shelf.specs.Calls.{number_of_end, put_call, collect_call, find_call};
+ghost use Rattle.luossavin.specs.Shelves.{shelf_reported, shelved_reported};
 
 use shelf::Kept;
 
@@ -24,7 +24,7 @@ pub struct LuossavinShelved {
 }
 
 fn report_kept(kept: Kept) -> LuossavinShelf
-    ensures number_value { result.number ≡ numberOfEnd kept.ended }
+    ensures number_value { result.number ≡ number_of_end kept.ended }
     ensures used_value { result.used ≡ kept.used }
 {
     let ended = kept.ended;
@@ -42,21 +42,21 @@ pub extern "C" fn luossavin_shelf_put(
     edition: u16,
     sealed: &[u8],
 ) -> LuossavinShelf
-    ensures { shelfReported result shelf.new ≡ putCall shelf.old used job edition sealed.now }
+    ensures { shelf_reported result shelf.new ≡ put_call shelf.old used job edition sealed.now }
 {
     report_kept(shelf::put(shelf, used, job, edition, sealed))
 }
 
 #[unsafe(no_mangle)]
 pub extern "C" fn luossavin_shelf_collect(shelf: &mut [u8], used: usize) -> LuossavinShelf
-    ensures { shelfReported result shelf.new ≡ collectCall shelf.old used }
+    ensures { shelf_reported result shelf.new ≡ collect_call shelf.old used }
 {
     report_kept(shelf::collect(shelf, used))
 }
 
 #[unsafe(no_mangle)]
 pub extern "C" fn luossavin_shelf_find(shelf: &[u8], used: usize, job: u32) -> LuossavinShelved
-    ensures { shelvedReported result ≡ findCall shelf.now used job }
+    ensures { shelved_reported result ≡ find_call shelf.now used job }
 {
     let found = shelf::find(shelf, used, job);
     let ended = found.ended;

@@ -2,8 +2,8 @@
 // reference does.
 ghost use Rattle.std.specs.Prelude.{◌≡◌};
 ghost use Rattle.cipher_mode.specs.Outcome.{under};
-ghost use Rattle.luossavin.specs.Host.{headIn};
-ghost use Rattle.luossavin.specs.Which.{endedHead, foundReported, hostWhich};
+ghost use Rattle.luossavin.specs.Host.{head_in};
+ghost use Rattle.luossavin.specs.Which.{ended_head, found_reported, host_which};
 
 use crate::key::{LuossavinKey, cipher_of};
 use crate::{LuossavinAnswer, numbered, report};
@@ -23,7 +23,7 @@ pub struct LuossavinFound {
 
 // How a question ended, as an answer; `none` is the number where the file opens under no candidate.
 pub(crate) fn report_ended(ended: Ended, key: u16, none: u32) -> LuossavinAnswer
-    ensures { headIn result ≡ under key (endedHead none ended) }
+    ensures { head_in result ≡ under key (ended_head none ended) }
 {
     match ended {
         Ended::Candidate => numbered(0, key),
@@ -41,7 +41,7 @@ pub extern "C" fn luossavin_which(
     labels: &[u8],
     lengths: &[usize],
 ) -> LuossavinFound
-    ensures { foundReported result ≡ hostWhich key sealed.now iv.now labels.now lengths.now }
+    ensures { found_reported result ≡ host_which key sealed.now iv.now labels.now lengths.now }
 {
     let found = editions::which(cipher_of(key), sealed, iv, labels, lengths);
     let ended = found.ended;

@@ -1,10 +1,10 @@
 // Ranges and plans, for a host: the calls of the crate `ranges` on the host's record.
 ghost use Rattle.std.specs.Prelude.{◌≡◌};
 ghost use Rattle.cipher_mode.specs.Outcome.{under};
-ghost use Rattle.ranges.specs.ByPlan.{endedHead};
+ghost use Rattle.ranges.specs.ByPlan.{ended_head};
 ghost use Rattle.ranges.specs.Plan.{accepts};
-ghost use Rattle.luossavin.specs.Host.{headIn, reported};
-ghost use Rattle.luossavin.specs.Ranges.{makingNumber, plannedReported, hostPlanMake, hostCtrRange, hostCtrByPlan};
+ghost use Rattle.luossavin.specs.Host.{head_in, reported};
+ghost use Rattle.luossavin.specs.Ranges.{making_number, planned_reported, host_plan_make, host_ctr_range, host_ctr_by_plan};
 
 use crate::in_pieces::direction_of;
 use crate::key::{LuossavinKey, cipher_of};
@@ -21,7 +21,7 @@ pub struct LuossavinPlanned {
 }
 
 fn number_of(making: plan::Making) -> u32
-    ensures { result ≡ makingNumber making }
+    ensures { result ≡ making_number making }
 {
     match making {
         plan::Making::Made => 0,
@@ -32,7 +32,7 @@ fn number_of(making: plan::Making) -> u32
 
 #[unsafe(no_mangle)]
 pub extern "C" fn luossavin_plan_make(n: usize, workers: usize) -> LuossavinPlanned
-    ensures { plannedReported result ≡ hostPlanMake n workers }
+    ensures { planned_reported result ≡ host_plan_make n workers }
 {
     let planned = plan::make(n, workers);
     let making = planned.making;
@@ -59,13 +59,13 @@ pub extern "C" fn luossavin_ctr_range(
     data: &[u8],
     out: &mut [u8],
 ) -> LuossavinAnswer
-    ensures { reported result out.new ≡ hostCtrRange key decrypt iv.now offset «data».now out.old }
+    ensures { reported result out.new ≡ host_ctr_range key decrypt iv.now offset «data».now out.old }
 {
     report(range::range(cipher_of(key), direction_of(decrypt), iv, offset, data, out))
 }
 
 fn report_ended(ended: by_plan::Ended, key: u16) -> LuossavinAnswer
-    ensures { headIn result ≡ under key (endedHead ended) }
+    ensures { head_in result ≡ under key (ended_head ended) }
 {
     match ended {
         by_plan::Ended::Done(n) => report(answer::done(key, n)),
@@ -83,7 +83,7 @@ pub extern "C" fn luossavin_ctr_by_plan(
     data: &[u8],
     out: &mut [u8],
 ) -> LuossavinAnswer
-    ensures { reported result out.new ≡ hostCtrByPlan key decrypt iv.now plan «data».now out.old }
+    ensures { reported result out.new ≡ host_ctr_by_plan key decrypt iv.now plan «data».now out.old }
 {
     let done = by_plan::by_plan(cipher_of(key), direction_of(decrypt), iv, plan, data, out);
     let ended = done.ended;

@@ -21,16 +21,16 @@ times-le zero y h = omega arith
 times-le (suc zero) y h = omega arith
 times-le (suc (suc q)) y h = absurd (omega arith)
 
-pub difference-le : (n i x : ℕ) → n ≤ 16 → i < 16 → x < 256 → difference n i x ≤ 255
-difference-le n i x hn hi hx =
+pub difference_le : (n i x : ℕ) → n ≤ 16 → i < 16 → x < 256 → difference n i x ≤ 255
+difference_le n i x hn hi hx =
     let s : (x ⊕ n) < 2 ^ 8 = xor_lt 8 x n hx (omega arith) in
     omega (arith, times-le ((i + n) / 16) (x ⊕ n) (omega arith))
 
 -- a turn adds the first of what is left
-pub difference-turn : (n i : ℕ) (l : List ℕ) → i < length l
+pub difference_turn : (n i : ℕ) (l : List ℕ) → i < length l
     → difference n i (get_or l i 0) + differences n (i + 1) (drop (i + 1) l) ≡ differences n i (drop i l)
 unfolding differences
-difference-turn n i l h = rw (add-one, drop-cons l i 0)
+difference_turn n i l h = rw (add-one, drop-cons l i 0)
 
 pub none_left : (n : ℕ) (l : List ℕ) → differences n (length l) (drop (length l) l) ≡ 0
 unfolding differences
@@ -47,13 +47,13 @@ none_before n i (suc k) (x ∷ l) h =
     let z : difference n i x + differences n (suc i) l ≡ differences n (suc i) l = rw q (omega arith) in
     rw (z, e) (none_before n (suc i) k l (omega arith))
 
-xor-test : (x n : ℕ) → eqb (x ⊕ n) 0 ≡ eqb x n
-xor-test x n =
+xor_test : (x n : ℕ) → eqb (x ⊕ n) 0 ≡ eqb x n
+xor_test x n =
     test_iff (eqb (x ⊕ n) 0) (eqb x n) (λ e. eq-eqb x n (xor_same x n n (eqb-true (x ⊕ n) 0 e ∙ sym (xor_self n))))
     (λ e. eq-eqb (x ⊕ n) 0 (rw (eqb-true x n e) (xor_self n)))
 
-sum-test : (a b : ℕ) → eqb (a + b) 0 ≡ (eqb a 0 && eqb b 0)
-sum-test a b =
+sum_test : (a b : ℕ) → eqb (a + b) 0 ≡ (eqb a 0 && eqb b 0)
+sum_test a b =
     test_iff (eqb (a + b) 0) (eqb a 0 && eqb b 0)
     (λ e. let z = eqb-true (a + b) 0 e in rw (eq-eqb a 0 (omega arith), eq-eqb b 0 (omega arith)))
     (λ e.
@@ -67,10 +67,10 @@ unfolding differences same
 all_hold n i [] hn hi hl = refl
 all_hold n i (x ∷ l) hn hi hl =
     let q : difference n i x ≡ x ⊕ n = let o : (i + n) / 16 ≡ 1 = omega arith in rw o (omega arith) in
-    rw (q, sum-test (x ⊕ n) (differences n (suc i) l), xor-test x n, all_hold n (suc i) l hn (omega arith) (omega arith))
+    rw (q, sum_test (x ⊕ n) (differences n (suc i) l), xor_test x n, all_hold n (suc i) l hn (omega arith) (omega arith))
 
-pub padding-test : (n : ℕ) (l : List ℕ) → n ≤ 16 → length l ≡ 16 → eqb (differences n 0 l) 0 ≡ same (drop (16 - n) l) (replicate n n)
-padding-test n l hn hl =
+pub padding_test : (n : ℕ) (l : List ℕ) → n ≤ 16 → length l ≡ 16 → eqb (differences n 0 l) 0 ≡ same (drop (16 - n) l) (replicate n n)
+padding_test n l hn hl =
     let k = 16 - n in
     let m : length (drop k l) ≡ n = rw length-drop (omega arith) in
     let z : 0 + k ≡ k = omega arith in

@@ -3,15 +3,15 @@ use Rattle.block.proofs.Base.{◌≤◌, ℕ, ◌≡◌, refl, ⊎_elim, List, [
 use denote.Enum.Declared.{tag_of}
 use types.Run.{OneOf}
 use Rattle.block.specs.Over.{over}
-use Rattle.padding.specs.Padding.{unpadded, kept, openedInto}
+use Rattle.padding.specs.Padding.{unpadded, kept, opened_into}
 use Rattle.padding.specs.declared.Opened.{Opened}
 use Rattle.padding.specs.declared.Opened.TheVariants.{Done, InvalidLastU8, InvalidPadding}
 use Rattle.padding.specs.contracts.Opened.{the_type}
 use Rattle.padding.proofs.Unpadded.{behind, unpadded-le}
 
 -- what is decided tells what is written
-pub into : (p o : List ℕ) (a : Opened) → unpadded p ≡ a → openedInto p o ≡ over (take (kept a) p) o
-unfolding openedInto
+pub into : (p o : List ℕ) (a : Opened) → unpadded p ≡ a → opened_into p o ≡ over (take (kept a) p) o
+unfolding opened_into
 into p o a e = rw e
 
 kept_by : (p : List ℕ) (a : Opened) → unpadded p ≡ a → kept a ≤ length p
@@ -20,9 +20,9 @@ kept_by p InvalidLastU8 e = omega arith
 kept_by p InvalidPadding e = omega arith
 
 -- the bytes past the message are as they were lent, and of a refusal all are
-pub past-the-message : (p o : List ℕ) → drop (kept (unpadded p)) (openedInto p o) ≡ drop (kept (unpadded p)) o
-unfolding openedInto
-past-the-message p o =
+pub past_the_message : (p o : List ℕ) → drop (kept (unpadded p)) (opened_into p o) ≡ drop (kept (unpadded p)) o
+unfolding opened_into
+past_the_message p o =
     let k = kept (unpadded p) in
     let n : length (take k p) ≡ k = length-take-le k p (kept_by p (unpadded p) refl) in
     rw n (drop_at (take k p) (drop k o) k n)

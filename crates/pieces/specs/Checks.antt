@@ -7,12 +7,12 @@ use Rattle.cipher_mode.specs.declared.answer.Refusal.TheVariants.{ErrorBlockSize
 use Rattle.cipher_mode.specs.declared.answer.Refusal.TheVariants.{Retired}
 use Rattle.cipher_mode.specs.declared.checks.Checked.{Checked}
 use Rattle.cipher_mode.specs.declared.checks.Checked.TheVariants.{Passed, Refused}
-use Rattle.cipher_mode.specs.Checks.{refuse, and_then, keyAndIv, labelCheck}
+use Rattle.cipher_mode.specs.Checks.{refuse, and_then, key_and_iv, label_check}
 use Rattle.cipher_mode.specs.Tables.{limit}
 
 -- a start of Gcm with an IV and a label of these lengths, as in the single call
-unfoldable pub gcmStarting : KeyAnswer → Bool → Direction → ℕ → ℕ → Checked
-gcmStarting a retired dir iv label = and_then (keyAndIv a retired dir Gcm iv) (labelCheck Gcm label)
+unfoldable pub gcm_starting : KeyAnswer → Bool → Direction → ℕ → ℕ → Checked
+gcm_starting a retired dir iv label = and_then (key_and_iv a retired dir Gcm iv) (label_check Gcm label)
 
 -- 0 is a running state, and 1, 5, 10, 13 and 14 are refused starts, which every call refuses alike; every other mark is an ended
 -- message's

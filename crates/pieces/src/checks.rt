@@ -3,7 +3,7 @@
 ghost use Rattle.std.specs.Prelude.{◌≡◌, ◌+◌, ltb};
 ghost use Rattle.cipher_mode.specs.Checks.{refuse, and_then};
 ghost use Rattle.cipher_mode.specs.Tables.{limit};
-ghost use Rattle.pieces.specs.Checks.{gcmStarting, standing, running, writing, tagged};
+ghost use Rattle.pieces.specs.Checks.{gcm_starting, standing, running, writing, tagged};
 
 use crate::flow;
 use cipher_mode::answer::Refusal;
@@ -48,7 +48,7 @@ pub(crate) fn gcm_start(
     iv: usize,
     label: usize,
 ) -> Checked
-    ensures { result ≡ gcmStarting answer mark direction iv label }
+    ensures { result ≡ gcm_starting answer mark direction iv label }
 {
     let first = cipher_mode::checks::key_and_iv(answer, mark, direction, CipherMode::Gcm, iv);
     and_then(first, cipher_mode::checks::label(CipherMode::Gcm, label))

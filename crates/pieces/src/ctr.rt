@@ -1,7 +1,7 @@
 // Ctr in pieces, either way.
 ghost use Rattle.std.specs.Prelude.{◌≡◌, []};
-ghost use Rattle.pieces.specs.States.{ctrShut};
-ghost use Rattle.pieces.specs.Calls.{ctrStepped, ctrStart, ctrPiece, ctrEnd};
+ghost use Rattle.pieces.specs.States.{ctr_shut};
+ghost use Rattle.pieces.specs.Calls.{ctr_stepped, ctr_start, ctr_piece, ctr_end};
 
 use crate::flow::{Counting, Flow};
 use crate::{checks, flow};
@@ -31,7 +31,7 @@ pub struct CtrStep {
 
 // The state of no message.
 fn shut(key: u16, stands: u32) -> Ctr
-    ensures { result ≡ ctrShut key stands }
+    ensures { result ≡ ctr_shut key stands }
 {
     Ctr {
         rk: [0u32; 32],
@@ -46,7 +46,7 @@ fn shut(key: u16, stands: u32) -> Ctr
 
 // Key and IV are checked as in the single call of that direction; from here on the two are the same.
 pub fn start(direction: Direction, cipher: Sm4Cipher, iv: &[u8]) -> CtrStep
-    ensures { ctrStepped result [] ≡ ctrStart direction cipher iv.now }
+    ensures { ctr_stepped result [] ≡ ctr_start direction cipher iv.now }
 {
     let stands = cipher.answer;
     let key = cipher_mode::number_in(stands, cipher.number);
@@ -87,7 +87,7 @@ pub fn start(direction: Direction, cipher: Sm4Cipher, iv: &[u8]) -> CtrStep
 impl Ctr {
     // A piece of any length, to the front of `out`.
     pub fn piece(self, data: &[u8], out: &mut [u8]) -> CtrStep
-        ensures { ctrStepped result out.new ≡ ctrPiece self «data».now out.old }
+        ensures { ctr_stepped result out.new ≡ ctr_piece self «data».now out.old }
     {
         let key = self.key;
         let n = data.len();
@@ -121,7 +121,7 @@ impl Ctr {
 
     // The end of the message, which tells whether its counter came round. Nothing is kept.
     pub fn end(self) -> CtrStep
-        ensures { ctrStepped result [] ≡ ctrEnd self }
+        ensures { ctr_stepped result [] ≡ ctr_end self }
     {
         let key = self.key;
         let checked = checks::running(self.stands, 0, self.total, 0);

@@ -3,11 +3,11 @@ ghost use Rattle.std.specs.Prelude.{◌≡◌, ◌<◌, ◌≤◌, min, length, 
 ghost use Rattle.block.specs.Words.{unwords};
 ghost use Rattle.block.specs.Xor.{xors};
 ghost use Rattle.cipher.specs.Engine.{Engine};
-ghost use Rattle.cipher.specs.Sm4.{encryptBlock};
+ghost use Rattle.cipher.specs.Sm4.{encrypt_block};
 ghost use Rattle.block.specs.Over.{over};
 ghost use Rattle.walk.specs.Walk.{chain};
-ghost use Rattle.pieces.specs.States.{noFlow};
-ghost use Rattle.pieces.specs.Flow.{kind_of, nextCounter, flowMode, flowAt, flowAfter, flowText, flowNext};
+ghost use Rattle.pieces.specs.States.{no_flow};
+ghost use Rattle.pieces.specs.Flow.{kind_of, next_counter, flow_mode, flow_at, flow_after, flow_text, flow_next};
 
 use stream::Kind;
 
@@ -37,7 +37,7 @@ fn kind_of(counting: Counting) -> Kind
 }
 
 fn next_counter(counting: Counting, s: [u32; 4]) -> [u32; 4]
-    ensures { unwords result ≡ nextCounter counting (unwords s) }
+    ensures { unwords result ≡ next_counter counting (unwords s) }
 {
     match counting {
         Counting::Ctr => counter::block_add_one(s).counter,
@@ -68,7 +68,7 @@ pub(crate) fn xor_pad(pad: [u8; 16], p: usize, data: &[u8], out: &mut [u8])
 
 // A flow of zeros, of no message.
 pub(crate) fn none() -> Flow
-    ensures { result ≡ noFlow }
+    ensures { result ≡ no_flow }
 {
     Flow {
         counter: [0u8; 16],
@@ -79,7 +79,7 @@ pub(crate) fn none() -> Flow
 // The cipher of a block, in bytes.
 pub(crate) fn ciphered(t: &[u32], rk: [u32; 32], s: [u32; 4]) -> [u8; 16]
     requires { Engine t.now }
-    ensures { result ≡ encryptBlock rk (unwords s) }
+    ensures { result ≡ encrypt_block rk (unwords s) }
 {
     block::combine_block(cipher::encrypt(t, rk, s))
 }
@@ -87,7 +87,7 @@ pub(crate) fn ciphered(t: &[u32], rk: [u32; 32], s: [u32; 4]) -> [u8; 16]
 // The flow at a counter.
 pub fn begin(t: &[u32], rk: [u32; 32], s: [u32; 4]) -> Flow
     requires { Engine t.now }
-    ensures { result ≡ flowAt rk (unwords s) }
+    ensures { result ≡ flow_at rk (unwords s) }
 {
     Flow {
         counter: block::combine_block(s),
@@ -106,8 +106,8 @@ fn onward(
 ) -> Flow
     requires engine { Engine t.now }
     requires data_in_bounds { length «data».now ≤ length out.old }
-    ensures value { result ≡ flowAfter counting rk (nextCounter counting counter) «data».now }
-    ensures out_after { out.new ≡ over (chain (flowMode counting rk) (nextCounter counting counter) «data».now) out.old }
+    ensures value { result ≡ flow_after counting rk (next_counter counting counter) «data».now }
+    ensures out_after { out.new ≡ over (chain (flow_mode counting rk) (next_counter counting counter) «data».now) out.old }
 {
     let next = next_counter(counting, block::split_block(&counter));
     let end = stream::stream(t, rk, kind_of(counting), next, true, data, out);
@@ -132,8 +132,8 @@ pub fn run(
     requires engine { Engine t.now }
     requires p_bound { p < 16 }
     requires data_in_bounds { length «data».now ≤ length out.old }
-    ensures value { result ≡ flowNext counting rk flow p «data».now }
-    ensures out_after { out.new ≡ over (flowText counting rk flow p «data».now) out.old }
+    ensures value { result ≡ flow_next counting rk flow p «data».now }
+    ensures out_after { out.new ≡ over (flow_text counting rk flow p «data».now) out.old }
 {
     let pad = flow.pad;
     xor_pad(pad, p, data, out);
@@ -157,8 +157,8 @@ pub(crate) fn run_by(
 ) -> Flow
     requires p_bound { p < 16 }
     requires data_in_bounds { length «data».now ≤ length out.old }
-    ensures value { result ≡ flowNext counting rk flow p «data».now }
-    ensures out_after { out.new ≡ over (flowText counting rk flow p «data».now) out.old }
+    ensures value { result ≡ flow_next counting rk flow p «data».now }
+    ensures out_after { out.new ≡ over (flow_text counting rk flow p «data».now) out.old }
 {
     let engine = cipher::engine_of(mark, false);
     let t = cipher::laid_out(engine);

@@ -3,8 +3,8 @@ ghost use Rattle.std.specs.Prelude.{◌≡◌, [], ◌++◌, ◌<◌, ◌≤◌,
 ghost use Rattle.block.specs.BigEndian.{number_of, bytes_of};
 ghost use Rattle.block.specs.Wide.{value};
 ghost use Rattle.ghash.specs.Ghash.{Hashable};
-ghost use Rattle.pieces.specs.States.{noHashing};
-ghost use Rattle.pieces.specs.Hashing.{filledUp, hashAfter, hashNext, hashEnd, hashOf};
+ghost use Rattle.pieces.specs.States.{no_hashing};
+ghost use Rattle.pieces.specs.Hashing.{filled_up, hash_after, hash_next, hash_end, hash_of};
 
 use block::U128;
 use ghash::Ghash;
@@ -21,7 +21,7 @@ pub struct Hashing {
 
 // A hash of zeros, of no message.
 pub(crate) fn none() -> Hashing
-    ensures { result ≡ noHashing }
+    ensures { result ≡ no_hashing }
 {
     Hashing {
         h: [0u8; 16],
@@ -52,7 +52,7 @@ fn byte_at(data: &[u8], i: usize) -> u8
 // The first p bytes of `held` with `data` behind them: the first sixteen of these, zeros to the end.
 fn filled(held: [u8; 16], p: usize, data: &[u8]) -> [u8; 16]
     requires { p ≤ 16 }
-    ensures { result ≡ filledUp (take p held ++ «data».now) }
+    ensures { result ≡ filled_up (take p held ++ «data».now) }
 {
     let mut b = held;
     let mut i = p;
@@ -67,7 +67,7 @@ fn filled(held: [u8; 16], p: usize, data: &[u8]) -> [u8; 16]
 // they stand, and the last bytes are held.
 pub(crate) fn take_in(g: Hashing, p: usize, data: &[u8]) -> Hashing
     requires { p < 16 }
-    ensures { result ≡ hashNext g p «data».now }
+    ensures { result ≡ hash_next g p «data».now }
 {
     let h = g.h;
     let y = g.y;
@@ -82,7 +82,7 @@ pub(crate) fn take_in(g: Hashing, p: usize, data: &[u8]) -> Hashing
 
 // A full block and then `rest`, of which the last bytes are held.
 fn full_blocks(h: [u8; 16], y: [u8; 16], first: [u8; 16], rest: &[u8]) -> Hashing
-    ensures { result ≡ hashAfter h y (first ++ rest.now) }
+    ensures { result ≡ hash_after h y (first ++ rest.now) }
 {
     let n = rest.len() - rest.len() % 16;
     let start = Ghash {
@@ -103,7 +103,7 @@ fn full_blocks(h: [u8; 16], y: [u8; 16], first: [u8; 16], rest: &[u8]) -> Hashin
 pub(crate) fn end(g: Hashing, p: usize, label: usize, text: usize) -> [u8; 16]
     requires p_bound { p < 16 }
     requires hashable { Hashable label × Hashable text }
-    ensures { result ≡ hashEnd g p label text }
+    ensures { result ≡ hash_end g p label text }
 {
     let h = g.h;
     let y = g.y;
@@ -119,7 +119,7 @@ pub(crate) fn end(g: Hashing, p: usize, label: usize, text: usize) -> [u8; 16]
 
 // The hash before the first byte of a text, under H: that of the label's blocks.
 pub(crate) fn begin(h: U128, label: &[u8]) -> Hashing
-    ensures { result ≡ hashOf (value h) label.now [] }
+    ensures { result ≡ hash_of (value h) label.now [] }
 {
     let start = Ghash::new(h);
     let labelled = start.absorb_all(label);

@@ -2,8 +2,8 @@
 ghost use Rattle.std.specs.Prelude.{◌≡◌, [], length};
 ghost use Rattle.block.specs.Same.{same};
 ghost use Rattle.block.specs.Xor.{xors};
-ghost use Rattle.pieces.specs.States.{opensShut};
-ghost use Rattle.pieces.specs.Calls.{opensStepped, opensStart, opensPiece, opensEnd};
+ghost use Rattle.pieces.specs.States.{opens_shut};
+ghost use Rattle.pieces.specs.Calls.{opens_stepped, opens_start, opens_piece, opens_end};
 
 use crate::hashing::Hashing;
 use crate::{checks, hashing, tagging};
@@ -33,7 +33,7 @@ pub struct OpensStep {
 
 // The state of no message.
 fn shut(key: u16, stands: u32) -> Opens
-    ensures { result ≡ opensShut key stands }
+    ensures { result ≡ opens_shut key stands }
 {
     Opens {
         hashing: hashing::none(),
@@ -48,7 +48,7 @@ fn shut(key: u16, stands: u32) -> Opens
 
 // Key, IV and label are checked as in the single call.
 pub fn start(cipher: Sm4Cipher, aad: &[u8], iv: &[u8]) -> OpensStep
-    ensures { opensStepped result [] ≡ opensStart cipher aad.now iv.now }
+    ensures { opens_stepped result [] ≡ opens_start cipher aad.now iv.now }
 {
     let stands = cipher.answer;
     let key = cipher_mode::number_in(stands, cipher.number);
@@ -93,7 +93,7 @@ fn same_tag(tag: &[u8], mask: [u8; 16], hash: [u8; 16]) -> bool
 impl Opens {
     // A piece of the ciphertext.
     pub fn piece(self, data: &[u8]) -> OpensStep
-        ensures { opensStepped result [] ≡ opensPiece self «data».now }
+        ensures { opens_stepped result [] ≡ opens_piece self «data».now }
     {
         let key = self.key;
         let n = data.len();
@@ -125,7 +125,7 @@ impl Opens {
 
     // The end: 0 where the message opens with this tag, and whether the counter came round; otherwise 4. Either way nothing is kept.
     pub fn end(self, tag: &[u8]) -> OpensStep
-        ensures { opensStepped result [] ≡ opensEnd self tag.now }
+        ensures { opens_stepped result [] ≡ opens_end self tag.now }
     {
         let key = self.key;
         let total = self.total;

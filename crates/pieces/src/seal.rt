@@ -1,7 +1,7 @@
 // Gcm sealing in pieces: the ciphertext of each as it comes, and the tag at the end.
 ghost use Rattle.std.specs.Prelude.{◌≡◌, []};
-ghost use Rattle.pieces.specs.States.{sealShut};
-ghost use Rattle.pieces.specs.Calls.{sealStepped, sealStart, sealPiece, sealEnd};
+ghost use Rattle.pieces.specs.States.{seal_shut};
+ghost use Rattle.pieces.specs.Calls.{seal_stepped, seal_start, seal_piece, seal_end};
 
 use crate::flow::{Counting, Flow};
 use crate::hashing::Hashing;
@@ -35,7 +35,7 @@ pub struct SealStep {
 
 // The state of no message.
 fn shut(key: u16, stands: u32) -> Seal
-    ensures { result ≡ sealShut key stands }
+    ensures { result ≡ seal_shut key stands }
 {
     Seal {
         rk: [0u32; 32],
@@ -53,7 +53,7 @@ fn shut(key: u16, stands: u32) -> Seal
 
 // Key, IV and label are checked as in the single call.
 pub fn start(cipher: Sm4Cipher, aad: &[u8], iv: &[u8]) -> SealStep
-    ensures { sealStepped result [] ≡ sealStart cipher aad.now iv.now }
+    ensures { seal_stepped result [] ≡ seal_start cipher aad.now iv.now }
 {
     let stands = cipher.answer;
     let key = cipher_mode::number_in(stands, cipher.number);
@@ -95,7 +95,7 @@ pub fn start(cipher: Sm4Cipher, aad: &[u8], iv: &[u8]) -> SealStep
 impl Seal {
     // A piece of any length, to the front of `out`. What was written is hashed.
     pub fn piece(self, data: &[u8], out: &mut [u8]) -> SealStep
-        ensures { sealStepped result out.new ≡ sealPiece self «data».now out.old }
+        ensures { seal_stepped result out.new ≡ seal_piece self «data».now out.old }
     {
         let key = self.key;
         let n = data.len();
@@ -134,7 +134,7 @@ impl Seal {
 
     // The end: the tag, to the front of `out`, and whether the counter came round. Nothing is kept.
     pub fn end(self, out: &mut [u8]) -> SealStep
-        ensures { sealStepped result out.new ≡ sealEnd self out.old }
+        ensures { seal_stepped result out.new ≡ seal_end self out.old }
     {
         let key = self.key;
         let total = self.total;

@@ -2,10 +2,10 @@
 ghost use Rattle.std.specs.Prelude.{◌≡◌, ◌⊎◌, [], length};
 ghost use Rattle.block.specs.Words.{unwords};
 ghost use Rattle.cipher.specs.Engine.{Engine};
-ghost use Rattle.cipher.specs.Sm4.{encryptBlock};
-ghost use Rattle.counter.specs.Counter.{lastFour};
-ghost use Rattle.gcm.specs.Gcm.{hashKey, J0};
-ghost use Rattle.pieces.specs.Hashing.{hashOf};
+ghost use Rattle.cipher.specs.Sm4.{encrypt_block};
+ghost use Rattle.counter.specs.Counter.{last_four};
+ghost use Rattle.gcm.specs.Gcm.{hash_key, J0};
+ghost use Rattle.pieces.specs.Hashing.{hash_of};
 
 use crate::hashing::Hashing;
 use crate::{flow, hashing};
@@ -23,9 +23,9 @@ pub(crate) fn begin(t: &[u32], rk: [u32; 32], aad: &[u8], iv: &[u8]) -> Begun
     requires engine { Engine t.now }
     requires fact { (length iv.now ≡ 12) ⊎ (length iv.now ≡ 16) }
     ensures j0_value { unwords result.j0 ≡ J0 rk iv.now }
-    ensures hashing_value { result.hashing ≡ hashOf (hashKey rk) aad.now [] }
-    ensures mask_value { result.mask ≡ encryptBlock rk (J0 rk iv.now) }
-    ensures low_value { result.low ≡ lastFour (J0 rk iv.now) }
+    ensures hashing_value { result.hashing ≡ hash_of (hash_key rk) aad.now [] }
+    ensures mask_value { result.mask ≡ encrypt_block rk (J0 rk iv.now) }
+    ensures low_value { result.low ≡ last_four (J0 rk iv.now) }
 {
     let h = gcm::hash_key(t, rk);
     let j0 = gcm::first_counter(h, iv);

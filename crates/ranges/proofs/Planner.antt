@@ -2,13 +2,13 @@
 use Rattle.ranges.proofs.Names.{BadWorkers, Bool, Made, Plan, Planned, TooLong, [], ◌||◌, ◌∙◌, ◌∷◌, ◌≡◌, ◌≢◌, ◌≤◌, accepts, ap}
 use Rattle.ranges.proofs.Names.{arith, cond, eqb, eqb-false, false, lengths_from, limit, ltb, ltb-false, piece_size, plan_of, planned}
 use Rattle.ranges.proofs.Names.{refl, take, true, without, ℕ}
-use Rattle.ranges.proofs.OwnPlans.{own-accepted}
+use Rattle.ranges.proofs.OwnPlans.{own_accepted}
 
 pub record InOrder (n w : ℕ) : Type 0 where
   pub least : 1 ≤ w
   pub most : w ≤ 64
   pub within : n ≤ limit
-  pub as-planned : (planned n w).plan ≡ plan_of n w
+  pub as_planned : (planned n w).plan ≡ plan_of n w
 
 module _ (n w : ℕ) where
   -- the planner's answer by its tests
@@ -33,14 +33,14 @@ module _ (n w : ℕ) where
           least = omega (arith, some);
           most = ltb-false 64 w pass.1;
           within = ltb-false limit n pass.2;
-          as-planned = pass.3;
+          as_planned = pass.3;
         }
 
-    pub made-accepted : accepts (planned n w).plan n ≡ true
-    made-accepted =
-        ap (λ (p : Plan). accepts p n) in_order.as-planned ∙ own-accepted n w in_order.least in_order.most
+    pub made_accepted : accepts (planned n w).plan n ≡ true
+    made_accepted =
+        ap (λ (p : Plan). accepts p n) in_order.as_planned ∙ own_accepted n w in_order.least in_order.most
 
 -- 100 bytes for 3 workers: two pieces of three blocks, and what is left
-pub hundred-for-three : take 4 (plan_of 100 3).lengths ≡ 48 ∷ 48 ∷ 4 ∷ 0 ∷ []
+pub hundred_for_three : take 4 (plan_of 100 3).lengths ≡ 48 ∷ 48 ∷ 4 ∷ 0 ∷ []
 unfolding piece_size lengths_from
-hundred-for-three = refl
+hundred_for_three = refl

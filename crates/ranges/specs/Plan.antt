@@ -1,6 +1,6 @@
 -- A plan for several workers: which plans are accepted, and the plan that is made.
 use Rattle.std.specs.Prelude.{ℕ, zero, suc, ◌+◌, ◌-◌, ◌*◌, ◌/◌, ◌%◌, Bool, true, false, not, ◌&&◌, ◌||◌, cond, List, [], ◌∷◌, eqb, leb, ltb, take, replicate}
-use Rattle.counter.specs.CameRound.{blocksOf}
+use Rattle.counter.specs.CameRound.{blocks_of}
 use Rattle.cipher_mode.specs.Tables.{limit}
 use Rattle.ranges.specs.declared.plan.Making.{Making}
 use Rattle.ranges.specs.declared.plan.Making.TheVariants.{Made, BadWorkers, TooLong}
@@ -23,12 +23,12 @@ unfoldable pub accepts : Plan → ℕ → Bool
 accepts p n = leb p.count 64 && follows 0 n (take p.count p.starts) (take p.count p.lengths)
 
 -- what the check asks of one piece at byte `at`, where no more than `left` bytes are left
-unfoldable pub isPiece : ℕ → ℕ → ℕ → ℕ → Bool → Bool
-isPiece start size at left last = eqb start at && (not (eqb size 0) && (leb size left && (last || eqb (size % 16) 0)))
+unfoldable pub is_piece : ℕ → ℕ → ℕ → ℕ → Bool → Bool
+is_piece start size at left last = eqb start at && (not (eqb size 0) && (leb size left && (last || eqb (size % 16) 0)))
 
 -- the blocks of n bytes shared among w workers, rounded up, in bytes
 unfoldable pub piece_size : ℕ → ℕ → ℕ
-piece_size n w = 16 * ((blocksOf n + (w - 1)) / w)
+piece_size n w = 16 * ((blocks_of n + (w - 1)) / w)
 
 -- a place of a plan at byte `at`: a piece if that is before n, otherwise none, with zeros
 abbrev pub begins : ℕ → ℕ → ℕ
@@ -41,33 +41,33 @@ abbrev pub length_at : ℕ → ℕ → ℕ → ℕ
 length_at n size at = cond (ltb size (n - at)) size (n - at)
 
 -- k places from byte `at` on, each `size` bytes further: how many are pieces, where they start, and how long they are
-unfoldable pub countFrom : ℕ → ℕ → ℕ → ℕ → ℕ
-countFrom n size zero at = 0
-countFrom n size (suc k) at = begins n at + countFrom n size k (at + size)
+unfoldable pub count_from : ℕ → ℕ → ℕ → ℕ → ℕ
+count_from n size zero at = 0
+count_from n size (suc k) at = begins n at + count_from n size k (at + size)
 
-unfoldable pub startsFrom : ℕ → ℕ → ℕ → ℕ → List ℕ
-startsFrom n size zero at = []
-startsFrom n size (suc k) at = start_at n at ∷ startsFrom n size k (at + size)
+unfoldable pub starts_from : ℕ → ℕ → ℕ → ℕ → List ℕ
+starts_from n size zero at = []
+starts_from n size (suc k) at = start_at n at ∷ starts_from n size k (at + size)
 
 unfoldable pub lengths_from : ℕ → ℕ → ℕ → ℕ → List ℕ
 lengths_from n size zero at = []
 lengths_from n size (suc k) at = length_at n size at ∷ lengths_from n size k (at + size)
 
 -- n bytes in pieces of `size`, the last of what is left
-abbrev pub planIn : ℕ → ℕ → Plan
-planIn n size = record { count = countFrom n size 64 0; starts = startsFrom n size 64 0; lengths = lengths_from n size 64 0 }
+abbrev pub plan_in : ℕ → ℕ → Plan
+plan_in n size = record { count = count_from n size 64 0; starts = starts_from n size 64 0; lengths = lengths_from n size 64 0 }
 
 -- n bytes for w workers
 abbrev pub plan_of : ℕ → ℕ → Plan
-plan_of n w = planIn n (piece_size n w)
+plan_of n w = plan_in n (piece_size n w)
 
 -- only zeros
-abbrev pub noPieces : Plan
-noPieces = record { count = 0; starts = replicate 64 0; lengths = replicate 64 0 }
+abbrev pub no_pieces : Plan
+no_pieces = record { count = 0; starts = replicate 64 0; lengths = replicate 64 0 }
 
 -- no plan, and why
 abbrev pub without : Making → Planned
-without m = record { making = m; plan = noPieces }
+without m = record { making = m; plan = no_pieces }
 
 -- what the planner answers: a number of workers outside 1 to 64 is told before a length past the limit
 unfoldable pub planned : ℕ → ℕ → Planned

@@ -6,7 +6,7 @@ use Rattle.ranges.specs.declared.plan.Plan.{Plan}
 -- piece i of `count`
 pub record Piece (starts lengths : List ℕ) (count n i : ℕ) : Type 0 where
   pub not-empty : get_or lengths i 0 ≢ 0
-  pub goes_on : suc i < count → (get_or lengths i 0 % 16 ≡ 0) × (get_or starts (suc i) 0 ≡ get_or starts i 0 + get_or lengths i 0)
+  pub goes_on_lem : suc i < count → (get_or lengths i 0 % 16 ≡ 0) × (get_or starts (suc i) 0 ≡ get_or starts i 0 + get_or lengths i 0)
   pub ends : suc i ≡ count → get_or starts i 0 + get_or lengths i 0 ≡ n
 
 -- all that the check asks

@@ -23,16 +23,16 @@ abbrev pub share_of : Share → List ℕ → List ℕ
 share_of p l = take p.size (drop p.start l)
 
 -- an output with the bytes s laid into it from byte `at` on
-abbrev pub laidAt : ℕ → List ℕ → List ℕ → List ℕ
-laidAt at s o = take at o ++ (s ++ drop (at + length s) o)
+abbrev pub laid_at : ℕ → List ℕ → List ℕ → List ℕ
+laid_at at s o = take at o ++ (s ++ drop (at + length s) o)
 
 -- the output o after the worker of a share: what Ctr gives of that stretch of the text d stands at the share's own place
 abbrev pub worked : List ℕ → List ℕ → List ℕ → Share → List ℕ → List ℕ
-worked rk iv d p o = laidAt p.start (stretch rk iv p.start (share_of p d)) o
+worked rk iv d p o = laid_at p.start (stretch rk iv p.start (share_of p d)) o
 
 -- and after all workers, one after the other: the last of the list is the first to work
-abbrev pub allWorked : List ℕ → List ℕ → List ℕ → List Share → List ℕ → List ℕ
-allWorked rk iv d ps o = foldr (worked rk iv d) o ps
+abbrev pub all_worked : List ℕ → List ℕ → List ℕ → List Share → List ℕ → List ℕ
+all_worked rk iv d ps o = foldr (worked rk iv d) o ps
 
 -- a text after a range that was applied to it: what Ctr gives of the range stands in its place
 abbrev pub applied : List ℕ → List ℕ → Share → List ℕ → List ℕ

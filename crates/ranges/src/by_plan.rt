@@ -3,9 +3,9 @@ ghost use Rattle.std.specs.Prelude.{◌≡◌, true, ◌≤◌, length};
 ghost use Rattle.cipher.specs.Engine.{Engine};
 ghost use Rattle.block.specs.Over.{over};
 ghost use Rattle.walk.specs.Walk.{chain};
-ghost use Rattle.stream.specs.Stream.{streamMode};
+ghost use Rattle.stream.specs.Stream.{stream_mode};
 ghost use Rattle.ranges.specs.Plan.{accepts};
-ghost use Rattle.ranges.specs.ByPlan.{planned·outcome, planCall};
+ghost use Rattle.ranges.specs.ByPlan.{plannedOutcome, plan_call};
 
 use crate::plan::Plan;
 use crate::{plan, range};
@@ -35,7 +35,7 @@ fn put_pieces(t: &[u32], rk: [u32; 32], iv: &[u8], plan: Plan, data: &[u8], out:
     requires iv_len { length iv.now ≡ 16 }
     requires data_value { accepts plan (length «data».now) ≡ true }
     requires data_in_bounds { length «data».now ≤ length out.old }
-    ensures { out.new ≡ over (chain (streamMode Kind.Ctr rk) iv.now «data».now) out.old }
+    ensures { out.new ≡ over (chain (stream_mode Kind.Ctr rk) iv.now «data».now) out.old }
 {
     let count = plan.count;
     let starts = plan.starts;
@@ -56,7 +56,7 @@ fn pieces_by(mark: u8, rk: [u32; 32], iv: &[u8], plan: Plan, data: &[u8], out: &
     requires iv_len { length iv.now ≡ 16 }
     requires data_value { accepts plan (length «data».now) ≡ true }
     requires data_in_bounds { length «data».now ≤ length out.old }
-    ensures { out.new ≡ over (chain (streamMode Kind.Ctr rk) iv.now «data».now) out.old }
+    ensures { out.new ≡ over (chain (stream_mode Kind.Ctr rk) iv.now «data».now) out.old }
 {
     let engine = cipher::engine_of(mark, false);
     let t = cipher::laid_out(engine);
@@ -72,7 +72,7 @@ pub fn by_plan(
     data: &[u8],
     out: &mut [u8],
 ) -> ByPlan
-    ensures { planned·outcome result out.new ≡ planCall direction cipher iv.now plan «data».now out.old }
+    ensures { plannedOutcome result out.new ≡ plan_call direction cipher iv.now plan «data».now out.old }
 {
     let stands = cipher.answer;
     let key = cipher_mode::number_in(stands, cipher.number);

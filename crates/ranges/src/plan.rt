@@ -1,7 +1,7 @@
 // A plan: which worker does which stretch of a message.
 ghost use Rattle.std.specs.Prelude.{◌≡◌, ◌*◌, ◌≤◌};
 ghost use Rattle.cipher_mode.specs.Tables.{limit};
-ghost use Rattle.ranges.specs.Plan.{accepts, isPiece, begins, start_at, length_at, piece_size, planIn, noPieces, planned};
+ghost use Rattle.ranges.specs.Plan.{accepts, is_piece, begins, start_at, length_at, piece_size, plan_in, no_pieces, planned};
 
 use cipher_mode::checks::LIMIT;
 
@@ -34,7 +34,7 @@ pub struct Planned {
 
 // Whether a piece starts at `at`, is not empty, is no longer than what is `left`, and divides by 16 if it is not the last.
 fn is_piece(start: usize, length: usize, at: usize, left: usize, last: bool) -> bool
-    ensures { result ≡ isPiece start length at left last }
+    ensures { result ≡ is_piece start length at left last }
 {
     if start != at {
         return false;
@@ -114,7 +114,7 @@ fn length_at(n: usize, size: usize, at: usize) -> usize
 // The plan of `n` bytes in pieces of `size`, as many of 64 as begin before `n`.
 fn plan_in(n: usize, size: usize) -> Plan
     requires { size ≤ 2 * limit }
-    ensures { result ≡ planIn n size }
+    ensures { result ≡ plan_in n size }
 {
     let mut starts = [0usize; MOST];
     let mut lengths = [0usize; MOST];
@@ -148,7 +148,7 @@ fn piece_size(n: usize, workers: usize) -> usize
 
 // No plan: one of no pieces.
 fn without(making: Making) -> Planned
-    ensures { result ≡ record { making = making; plan = noPieces } }
+    ensures { result ≡ record { making = making; plan = no_pieces } }
 {
     let starts = [0usize; MOST];
     let lengths = [0usize; MOST];

@@ -3,7 +3,7 @@ ghost use Rattle.std.specs.Prelude.{◌≡◌, ◌+◌, ◌≤◌, length};
 ghost use Rattle.cipher.specs.Engine.{Engine};
 ghost use Rattle.block.specs.Over.{over};
 ghost use Rattle.cipher_mode.specs.Answer.{outcome};
-ghost use Rattle.ranges.specs.Range.{stretch, reachCheck, rangeCall};
+ghost use Rattle.ranges.specs.Range.{stretch, reach_check, range_call};
 
 use cipher_mode::answer::{Answer, Refusal};
 use cipher_mode::checks::Checked;
@@ -20,7 +20,7 @@ pub(crate) fn reach(
     offset: usize,
     n: usize,
 ) -> Checked
-    ensures { result ≡ reachCheck answer mark direction iv (offset + n) }
+    ensures { result ≡ reach_check answer mark direction iv (offset + n) }
 {
     let first = cipher_mode::checks::key_and_iv(answer, mark, direction, CipherMode::Ctr, iv);
     let past = checks::past_limit(offset, n);
@@ -69,7 +69,7 @@ pub fn range(
     data: &[u8],
     out: &mut [u8],
 ) -> Answer
-    ensures { outcome result out.new ≡ rangeCall direction cipher iv.now offset «data».now out.old }
+    ensures { outcome result out.new ≡ range_call direction cipher iv.now offset «data».now out.old }
 {
     let stands = cipher.answer;
     let key = cipher_mode::number_in(stands, cipher.number);

@@ -2,7 +2,7 @@
 use Rattle.block.proofs.Base.{◌*◌, ◌+◌, ◌<◌, ◌^◌, ◌≤◌, suc, ℕ, ◌∙◌, ◌≡◌, refl, sym, List, mul-le-mul_left, mul-suc, add-one, arith, get_or}
 use Rattle.block.proofs.Base.{length-set, set, get_or-set_other, get_or-set_same}
 use Rattle.lanes.proofs.Filling.{one_more}
-use Rattle.lanes.specs.Swaps.{firstSwapped, secondSwapped}
+use Rattle.lanes.specs.Swaps.{first_swapped, second_swapped}
 use Rattle.rows.specs.Transposed.{Pair, Swapped, Staged}
 
 -- a pair in lists that have the same words there
@@ -17,10 +17,10 @@ pair_same P e f g h = record {
 
 -- a turn: u and v are the next pair, swapped
 module _ (d m g w e u v : ℕ) (a₀ a : List ℕ) (he : e < w) (hw : g + w + w ≤ 512) (S : Swapped d m g w e a₀ a)
-    (hu : u ≡ firstSwapped d m (get_or a (g + e) 0) (get_or a (g + e + w) 0)) (su : u < 2 ^ 64)
-    (hv : v ≡ secondSwapped d m (get_or a (g + e) 0) (get_or a (g + e + w) 0)) (sv : v < 2 ^ 64) where
-  pub swapped-next : Swapped d m g w (e + 1) a₀ (set (set a (g + e) u) (g + e + w) v)
-  swapped-next =
+    (hu : u ≡ first_swapped d m (get_or a (g + e) 0) (get_or a (g + e + w) 0)) (su : u < 2 ^ 64)
+    (hv : v ≡ second_swapped d m (get_or a (g + e) 0) (get_or a (g + e + w) 0)) (sv : v < 2 ^ 64) where
+  pub swapped_next : Swapped d m g w (e + 1) a₀ (set (set a (g + e) u) (g + e + w) v)
+  swapped_next =
       let b = set a (g + e) u in
       let a' = set b (g + e + w) v in
       let s = S.size in
@@ -45,8 +45,8 @@ groups w i n h =
     let l : 2 * w * suc i ≤ 2 * w * n = mul-le-mul_left (2 * w) h in
     omega arith
 
-pub staged-next : (d m w i : ℕ) (a₀ a a' : List ℕ) → Staged d m w i a₀ a → Swapped d m (2 * w * i) w w a a' → Staged d m w (i + 1) a₀ a'
-staged-next d m w i a₀ a a' S W =
+pub staged_next : (d m w i : ℕ) (a₀ a a' : List ℕ) → Staged d m w i a₀ a → Swapped d m (2 * w * i) w w a a' → Staged d m w (i + 1) a₀ a'
+staged_next d m w i a₀ a a' S W =
     let below : (p : ℕ) → p < 2 * w * i → get_or a' p 0 ≡ get_or a p 0 = λ p h. W.rest p (omega arith) in
     let n : 2 * w * (i + 1) ≡ 2 * w * i + 2 * w = rw (add-one i) (mul-suc (2 * w) i) in
     record {

@@ -11,8 +11,8 @@ place i = 8 * (i % 64) + i / 64
 
 -- the arrays of the high and of the low halves
 pub record Sized (a b : List ℕ) : Type 0 where
-  pub size-a : length a ≡ 512
-  pub size-b : length b ≡ 512
+  pub size_a : length a ≡ 512
+  pub size_b : length b ≡ 512
 
 -- the halves of a block of four words
 pub record Row (x : List ℕ) (hi lo : ℕ) : Type 0 where
@@ -23,10 +23,10 @@ pub record Row (x : List ℕ) (hi lo : ℕ) : Type 0 where
 
 -- the first m blocks of f stand in rows
 pub record Rows (m : ℕ) (f : ℕ → List ℕ) (a b : List ℕ) : Type 0 where
-  pub size-a : length a ≡ 512
-  pub size-b : length b ≡ 512
+  pub size_a : length a ≡ 512
+  pub size_b : length b ≡ 512
   pub row : (i : ℕ) → i < m → Row (f i) (get_or a (place i) 0) (get_or b (place i) 0)
 
 -- the first m blocks of f, each xored with its block of d
-abbrev pub xoredBlocks : ℕ → List ℕ → (ℕ → List ℕ) → List ℕ
-xoredBlocks m d f = cat m (λ i. xors (block_at d i) (unwords (f i)))
+abbrev pub xored_blocks : ℕ → List ℕ → (ℕ → List ℕ) → List ℕ
+xored_blocks m d f = cat m (λ i. xors (block_at d i) (unwords (f i)))

@@ -1,7 +1,7 @@
 -- Eight matrices of 64 x 64 bits side by side, transposed by masked swaps: row r of matrix j is word 8 r + j.
 use Rattle.std.specs.Prelude.{◌≡◌, List, ℕ, ◌+◌, ◌*◌, ◌^◌, ◌<◌, ◌≤◌, get_or, length}
 use Rattle.lanes.specs.Bits.{bit}
-use Rattle.lanes.specs.Swaps.{firstSwapped, secondSwapped}
+use Rattle.lanes.specs.Swaps.{first_swapped, second_swapped}
 
 -- bit c of row r of matrix j
 unfoldable pub at : List ℕ → ℕ → ℕ → ℕ → ℕ
@@ -13,8 +13,8 @@ Turned a₀ a = (j r c : ℕ) → j < 8 → r < 64 → c < 64 → at a j r c ≡
 
 -- the words at p and q of a list have changed places under a mask
 pub record Pair (d m p q : ℕ) (a₀ a : List ℕ) : Type 0 where
-  pub first : get_or a p 0 ≡ firstSwapped d m (get_or a₀ p 0) (get_or a₀ q 0)
-  pub second : get_or a q 0 ≡ secondSwapped d m (get_or a₀ p 0) (get_or a₀ q 0)
+  pub first : get_or a p 0 ≡ first_swapped d m (get_or a₀ p 0) (get_or a₀ q 0)
+  pub second : get_or a q 0 ≡ second_swapped d m (get_or a₀ p 0) (get_or a₀ q 0)
   pub first_small : get_or a p 0 < 2 ^ 64
   pub second-small : get_or a q 0 < 2 ^ 64
 

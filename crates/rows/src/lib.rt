@@ -6,14 +6,14 @@ ghost use Rattle.block.specs.BigEndian.{bytes_of};
 ghost use Rattle.block.specs.Blocks.{block_at};
 ghost use Rattle.block.specs.Words.{words};
 ghost use Rattle.block.specs.Over.{over};
-ghost use Rattle.rows.specs.Rows.{place, Sized, Rows, xoredBlocks};
-ghost use Rattle.lanes.specs.Swaps.{firstSwapped, secondSwapped};
+ghost use Rattle.rows.specs.Rows.{place, Sized, Rows, xored_blocks};
+ghost use Rattle.lanes.specs.Swaps.{first_swapped, second_swapped};
 ghost use Rattle.rows.specs.Transposed.{Swapped, Staged, Turned};
 
 // x, once its bits have changed places with those of y that stand d lower, where the mask m has them.
 fn first_swapped(x: u64, y: u64, d: usize, m: u64) -> u64
     requires { d < 64 }
-    ensures { result ≡ firstSwapped d m x y }
+    ensures { result ≡ first_swapped d m x y }
 {
     x ^ ((((x >> d) ^ y) & m) << d)
 }
@@ -21,7 +21,7 @@ fn first_swapped(x: u64, y: u64, d: usize, m: u64) -> u64
 // And y.
 fn second_swapped(x: u64, y: u64, d: usize, m: u64) -> u64
     requires { d < 64 }
-    ensures { result ≡ secondSwapped d m x y }
+    ensures { result ≡ second_swapped d m x y }
 {
     y ^ (((x >> d) ^ y) & m)
 }
@@ -125,7 +125,7 @@ fn put_half(out: &mut [u8], at: usize, x: u64)
 pub fn store_xored(a: &[u64; 512], b: &[u64; 512], m: usize, with: &[u8], out: &mut [u8])
     requires m_bound { (m ≤ 512) × (16 * m ≤ length «with».now) × (16 * m ≤ length out.old) }
     requires sized { Sized a.now b.now }
-    ensures { (f : ℕ → List ℕ) → Rows m f a.now b.now → out.new ≡ over (xoredBlocks m «with».now f) out.old }
+    ensures { (f : ℕ → List ℕ) → Rows m f a.now b.now → out.new ≡ over (xored_blocks m «with».now f) out.old }
 {
     let mut i: usize = 0;
     while i < m {

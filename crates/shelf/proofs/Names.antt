@@ -8,23 +8,23 @@ pub use Rattle.block.proofs.Base.{length-set, length-take, length-take-le, lit<,
 pub use Rattle.block.proofs.Base.{ne_eqb, needs, not, not-false, not-true, now, refl, set, sub-zero, suc, suc-add, sym, take, take-add}
 pub use Rattle.block.proofs.Base.{take-append-drop, take-append-le, take-append_seam, take-length, take-nil, take-suc-set, true, zero}
 pub use Rattle.block.proofs.Base.{zero-add, ℕ, ⊎_elim}
-pub use Rattle.block.proofs.Convert.{bytesOf-numberOf, length-bytesOf, numberOf-bytesOf, numberOf-lt}
+pub use Rattle.block.proofs.Convert.{bytes_of-number_of, length-bytes_of, number_of-bytes_of, number_of-lt}
 pub use Rattle.block.proofs.Entries.{below_at, below-drop, below_each, below-take}
-pub use Rattle.block.proofs.Same.{and_left, and_right, by-test}
-pub use Rattle.block.proofs.Tails.{length-tailed, over-behind, returned, tailed}
+pub use Rattle.block.proofs.Same.{and_left, and_right, by_test}
+pub use Rattle.block.proofs.Tails.{length_tailed, over-behind, returned, tailed}
 pub use Rattle.block.specs.Below.{AreBytes}
 unfoldable pub use Rattle.block.specs.BigEndian.{number_of, bytes_of}
 pub use Rattle.block.specs.Over.{over}
-pub use Rattle.block.specs.Words.{wordAt}
+pub use Rattle.block.specs.Words.{word_at}
 pub use Rattle.label.proofs.LabelTells.{length_label}
 unfoldable pub use Rattle.label.specs.Label.{label_of}
-pub use Rattle.shelf.specs.Calls.{holding, lookedUp, newRecord, put_in}
-unfoldable pub use Rattle.shelf.specs.Calls.{collectCall, findCall, part_of, putCall}
+pub use Rattle.shelf.specs.Calls.{holding, looked_up, new_record, put_in}
+unfoldable pub use Rattle.shelf.specs.Calls.{collect_call, find_call, part_of, put_call}
 pub use Rattle.shelf.specs.Records.{AllProper, Proper, Record, mark_of}
-unfoldable pub use Rattle.shelf.specs.Records.{front, headAt, marked, readUpTo, records, size_at, startsRecord, stored, written}
-pub use Rattle.shelf.specs.Shelf.{collected, currentOf, isCurrentOf, size_of, superseded}
-unfoldable pub use Rattle.shelf.specs.Shelf.{badShelf, fitted, hasCurrent, notHigher, place_of, supersede, those, twoCurrent, withNew}
-pub use Rattle.shelf.specs.Steps.{InOrder, Surveyed, reaches, soundUpTo, stays}
-unfoldable pub use Rattle.shelf.specs.Steps.{roomMade, soundFrom}
+unfoldable pub use Rattle.shelf.specs.Records.{front, head_at, marked, read_up_to, records, size_at, starts_record, stored, written}
+pub use Rattle.shelf.specs.Shelf.{collected, current_of, is_current_of, size_of, superseded}
+unfoldable pub use Rattle.shelf.specs.Shelf.{bad_shelf, fitted, has_current, not_higher, place_of, supersede, those, two_current, with_new}
+pub use Rattle.shelf.specs.Steps.{InOrder, Surveyed, reaches, sound_up_to, stays}
+unfoldable pub use Rattle.shelf.specs.Steps.{room_made, sound_from}
 pub use Rattle.shelf.specs.declared.lookup.Told.{Told}
 pub use Rattle.shelf.specs.declared.records.Head.{Head}

@@ -2,7 +2,7 @@
 use Rattle.std.specs.Prelude.{ℕ, zero, suc, ◌+◌, ◌-◌, ◌<◌, ◌^◌, Bool, false, ◌&&◌, ◌||◌, cond, List, [], ◌∷◌, ◌++◌, leb, eqb, length, get_or, take, drop}
 use Rattle.block.specs.Below.{AreBytes}
 use Rattle.block.specs.BigEndian.{number_of, bytes_of}
-use Rattle.block.specs.Words.{wordAt}
+use Rattle.block.specs.Words.{word_at}
 use Rattle.label.specs.Label.{label_of}
 use Rattle.shelf.specs.declared.records.Head.{Head}
 
@@ -41,35 +41,35 @@ unfoldable pub marked : List ℕ → Bool
 marked b = eqb (get_or b 0 0) 0x52 && (eqb (get_or b 1 0) 0x44 || eqb (get_or b 1 0) 0x58)
 
 -- whether a record stands whole at the front of b
-unfoldable pub startsRecord : List ℕ → Bool
-startsRecord b = leb 12 (length b) && (marked b && leb (wordAt b 8) (length b - 12))
+unfoldable pub starts_record : List ℕ → Bool
+starts_record b = leb 12 (length b) && (marked b && leb (word_at b 8) (length b - 12))
 
 -- how many bytes it has; 0 where there is none
 unfoldable pub size_at : List ℕ → ℕ
-size_at b = cond (startsRecord b) (12 + wordAt b 8) 0
+size_at b = cond (starts_record b) (12 + word_at b 8) 0
 
 -- the record at the front of b
 unfoldable pub front : List ℕ → Record
 front b =
     record {
       current = eqb (get_or b 1 0) 0x44;
-      job = wordAt b 2;
+      job = word_at b 2;
       edition = number_of (get_or b 6 0 ∷ get_or b 7 0 ∷ []);
-      sealed = take (wordAt b 8) (drop 12 b);
+      sealed = take (word_at b 8) (drop 12 b);
     }
 
 -- at most n records from the front of b on, as far as they stand whole
-unfoldable pub readUpTo : ℕ → List ℕ → List Record
-readUpTo zero b = []
-readUpTo (suc n) b = cond (startsRecord b) (front b ∷ readUpTo n (drop (size_at b) b)) []
+unfoldable pub read_up_to : ℕ → List ℕ → List Record
+read_up_to zero b = []
+read_up_to (suc n) b = cond (starts_record b) (front b ∷ read_up_to n (drop (size_at b) b)) []
 
 -- all of them: there are no more records than bytes
 unfoldable pub records : List ℕ → List Record
-records b = readUpTo (length b) b
+records b = read_up_to (length b) b
 
 -- the head of the record at the front of b, all 0 where there is none
-unfoldable pub headAt : List ℕ → Head
-headAt b =
-    cond (startsRecord b)
+unfoldable pub head_at : List ℕ → Head
+head_at b =
+    cond (starts_record b)
     (record { size = size_at b; current = (front b).current; job = (front b).job; edition = (front b).edition })
     (record { size = 0; current = false; job = 0; edition = 0 })

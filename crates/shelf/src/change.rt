@@ -4,8 +4,8 @@ ghost use Rattle.std.proofs.Math.Seq.{paste};
 ghost use Rattle.block.specs.Over.{over};
 ghost use Rattle.shelf.specs.Records.{written, stored, records};
 ghost use Rattle.shelf.specs.Shelf.{those};
-ghost use Rattle.shelf.specs.Steps.{stays, roomMade, InOrder};
-ghost use Rattle.shelf.specs.Calls.{newRecord};
+ghost use Rattle.shelf.specs.Steps.{stays, room_made, InOrder};
+ghost use Rattle.shelf.specs.Calls.{new_record};
 
 use crate::{lookup, records};
 
@@ -64,8 +64,8 @@ pub(crate) fn short(room: usize, taken: usize, n: usize) -> bool
 // unmarked.
 pub(crate) fn make_room(shelf: &mut [u8], used: usize, job: u32, n: usize) -> usize
     requires { InOrder shelf.old used }
-    ensures value { result ≡ length (stored (roomMade (length shelf.old) n job (records (take used shelf.old)))) }
-    ensures shelf_after { shelf.new ≡ over (stored (roomMade (length shelf.old) n job (records (take used shelf.old)))) shelf.old }
+    ensures value { result ≡ length (stored (room_made (length shelf.old) n job (records (take used shelf.old)))) }
+    ensures shelf_after { shelf.new ≡ over (stored (room_made (length shelf.old) n job (records (take used shelf.old)))) shelf.old }
 {
     if short(shelf.len(), used, n) {
         return keep(shelf, used, true, job);
@@ -81,7 +81,7 @@ pub(crate) fn make_room(shelf: &mut [u8], used: usize, job: u32, n: usize) -> us
 pub(crate) fn write(job: u32, edition: u16, sealed: &[u8], out: &mut [u8])
     requires sealed_in_bounds { 12 + length sealed.now ≤ length out.old }
     requires sealed_len_bound { length sealed.now ≤ 65536 }
-    ensures { out.new ≡ over (written (newRecord job edition sealed.now)) out.old }
+    ensures { out.new ≡ over (written (new_record job edition sealed.now)) out.old }
 {
     let head = records::new_head(job, edition, sealed.len() as u32);
     bytes::copy(&head, out);

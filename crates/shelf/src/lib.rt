@@ -5,8 +5,8 @@ pub mod lookup;
 pub mod records;
 
 ghost use Rattle.std.specs.Prelude.{◌≡◌};
-ghost use Rattle.shelf.specs.Shelf.{badShelf};
-ghost use Rattle.shelf.specs.Calls.{numberOfEnd, outcomeOf, putCall, collectCall, place_in, findCall, part_of};
+ghost use Rattle.shelf.specs.Shelf.{bad_shelf};
+ghost use Rattle.shelf.specs.Calls.{number_of_end, outcome_of, put_call, collect_call, place_in, find_call, part_of};
 
 // The most bytes of a buffer.
 const MOST: usize = 65536;
@@ -39,7 +39,7 @@ pub struct Found {
 
 // The number of how a call ended (W10).
 pub fn number(ended: Ended) -> u32
-    ensures { result ≡ numberOfEnd ended }
+    ensures { result ≡ number_of_end ended }
 {
     match ended {
         Ended::Done => 0,
@@ -51,7 +51,7 @@ pub fn number(ended: Ended) -> u32
 }
 
 fn bad(shelf: &[u8], used: usize) -> bool
-    ensures { result ≡ badShelf shelf.now used }
+    ensures { result ≡ bad_shelf shelf.now used }
 {
     if shelf.len() > MOST {
         return true;
@@ -65,7 +65,7 @@ fn bad(shelf: &[u8], used: usize) -> bool
 // Puts in an edition of a job, which must be higher than every one of it on the shelf. All is decided before the first byte is
 // written.
 pub fn put(shelf: &mut [u8], used: usize, job: u32, edition: u16, sealed: &[u8]) -> Kept
-    ensures { outcomeOf result shelf.new ≡ putCall shelf.old used job edition sealed.now }
+    ensures { outcome_of result shelf.new ≡ put_call shelf.old used job edition sealed.now }
 {
     if bad(shelf, used) {
         let ended = Ended::BadShelf;
@@ -92,7 +92,7 @@ pub fn put(shelf: &mut [u8], used: usize, job: u32, edition: u16, sealed: &[u8])
 
 // Throws out every superseded record.
 pub fn collect(shelf: &mut [u8], used: usize) -> Kept
-    ensures { outcomeOf result shelf.new ≡ collectCall shelf.old used }
+    ensures { outcome_of result shelf.new ≡ collect_call shelf.old used }
 {
     if bad(shelf, used) {
         let ended = Ended::BadShelf;
@@ -105,7 +105,7 @@ pub fn collect(shelf: &mut [u8], used: usize) -> Kept
 
 // Looks up a job's current record. Nothing is copied.
 pub fn find(shelf: &[u8], used: usize, job: u32) -> Found
-    ensures { place_in result ≡ findCall shelf.now used job }
+    ensures { place_in result ≡ find_call shelf.now used job }
 {
     if bad(shelf, used) {
         return Found {

@@ -1,8 +1,8 @@
 // What the records of a shelf say: its first `used` bytes are its records.
 ghost use Rattle.std.specs.Prelude.{◌≡◌, ◌&&◌, cond, ◌+◌, ◌≤◌, ◌<◌, ◌^◌, length, take};
 ghost use Rattle.shelf.specs.Records.{records};
-ghost use Rattle.shelf.specs.Shelf.{hasCurrent};
-ghost use Rattle.shelf.specs.Steps.{soundUpTo, Surveyed};
+ghost use Rattle.shelf.specs.Shelf.{has_current};
+ghost use Rattle.shelf.specs.Steps.{sound_up_to, Surveyed};
 
 use crate::records;
 use crate::records::Head;
@@ -60,7 +60,7 @@ pub(crate) fn survey(shelf: &[u8], used: usize, job: u32, edition: u16) -> Told
 // Whether a record is current, and another one of its job in the first `at` bytes.
 fn is_second(s: &[u8], at: usize, h: Head) -> bool
     requires { at ≤ length s.now }
-    ensures { result ≡ h.current && hasCurrent h.job (records (take at s.now)) }
+    ensures { result ≡ h.current && has_current h.job (records (take at s.now)) }
 {
     if h.current {
         let found = survey(s, at, h.job, 0);
@@ -72,7 +72,7 @@ fn is_second(s: &[u8], at: usize, h: Head) -> bool
 // How many bytes are in order. A shelf whose used bytes are not all in order breaks off there: at a record that does not stand
 // whole or has no known mark, or at the second current record of a job.
 pub fn sound_up_to(s: &[u8]) -> usize
-    ensures { result ≡ soundUpTo (records s.now) }
+    ensures { result ≡ sound_up_to (records s.now) }
 {
     let mut at = 0;
     loop {

@@ -2,7 +2,7 @@
 ghost use Rattle.std.specs.Prelude.{◌≡◌, ◌&&◌, not, [], ◌∷◌, ◌++◌, ◌≤◌, leb, eqb, length};
 ghost use Rattle.block.specs.BigEndian.{number_of, bytes_of};
 ghost use Rattle.label.specs.Label.{label_of};
-ghost use Rattle.shelf.specs.Records.{marked, size_at, headAt};
+ghost use Rattle.shelf.specs.Records.{marked, size_at, head_at};
 
 // Mark, job, edition and length, in bytes.
 pub(crate) const HEAD: usize = 12;
@@ -62,7 +62,7 @@ fn number(high: u8, low: u8) -> u16
 
 // The head of the record at the front of `s`, all 0 where none stands whole there. To list a shelf, go on behind its size.
 pub fn front(s: &[u8]) -> Head
-    ensures { result ≡ headAt s.now }
+    ensures { result ≡ head_at s.now }
 {
     let size = size(s);
     if size == 0 {

@@ -6,7 +6,7 @@ ghost use Rattle.std.specs.Prelude.{◌≡◌, List, ◌++◌, ℕ, ◌+◌, ◌
 ghost use Rattle.block.specs.Blocks.{block_at, cat};
 ghost use Rattle.block.specs.Words.{words, unwords};
 ghost use Rattle.block.specs.Xor.{xors};
-ghost use Rattle.cipher.specs.Sm4.{turned, encryptBlock};
+ghost use Rattle.cipher.specs.Sm4.{turned, encrypt_block};
 ghost use Rattle.block.specs.Over.{over};
 ghost use Rattle.sixteen.specs.Blocks.{block, Held};
 
@@ -83,7 +83,7 @@ fn groups_of(m: usize) -> usize
 // The first m blocks of `src`, encrypted to the front of `out`.
 pub fn encrypt(rk: [u32; 32], m: usize, src: &[u8], out: &mut [u8])
     requires { (m ≤ 64) × (16 * m ≤ length src.now) × (16 * m ≤ length out.old) }
-    ensures { out.new ≡ over (cat m (λ i. encryptBlock rk (block_at src.now i))) out.old }
+    ensures { out.new ≡ over (cat m (λ i. encrypt_block rk (block_at src.now i))) out.old }
 {
     if m == 0 {
         return;

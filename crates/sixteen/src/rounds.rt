@@ -6,7 +6,7 @@
 // here.
 ghost use Rattle.std.specs.Prelude.{◌≡◌, List, ℕ, ◌+◌, ◌*◌, ◌^◌, ◌<◌, ◌≤◌, length, get_or};
 ghost use Rattle.block.specs.Xor.{◌⊕◌};
-ghost use Rattle.cipher.specs.Sm4.{tau, L, T, roundBy, turned, encryptWords};
+ghost use Rattle.cipher.specs.Sm4.{tau, L, T, round_by, turned, encrypt_words};
 ghost use Rattle.sixteen.specs.Bytes.{Transposed, Subbed};
 ghost use Rattle.sixteen.specs.Blocks.{Each, pair_at, Paired, Halves, row, block, keyed, Changed, Sized};
 
@@ -180,7 +180,7 @@ fn round(
 )
     requires n_bound { (n ≤ 16 * groups) × (groups ≤ 4) × (i < 32) }
     requires sized { Sized x.old t.old s.old }
-    ensures by_index { (j : ℕ) → j < n → block x.new (i + 1) j ≡ roundBy T (block x.old i j) k }
+    ensures by_index { (j : ℕ) → j < n → block x.new (i + 1) j ≡ round_by T (block x.old i j) k }
     ensures sized_2 { Sized x.new t.new s.new }
 {
     keyed_words(t, x, i, k, n);
@@ -192,7 +192,7 @@ fn round(
 pub(crate) fn all_rounds(rk: [u32; 32], x: &mut [u32; 256], n: usize, groups: usize)
     requires n_bound { (n ≤ 16 * groups) × (groups ≤ 4) }
     requires x_len { length x.old ≡ 256 }
-    ensures by_index { (j : ℕ) → j < n → turned (block x.new 0 j) ≡ encryptWords rk (block x.old 0 j) }
+    ensures by_index { (j : ℕ) → j < n → turned (block x.new 0 j) ≡ encrypt_words rk (block x.old 0 j) }
     ensures x_len_2 { length x.new ≡ 256 }
 {
     let mut t = [0u32; 64];

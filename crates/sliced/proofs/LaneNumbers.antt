@@ -2,27 +2,27 @@
 use Rattle.sliced.proofs.Names.{Clear, Held, List, [], ◌%◌, ◌*◌, ◌+◌, ◌-◌, ◌/◌, ◌<◌, ◌^◌, ◌∙◌, ◌∷◌, ◌≡◌, ◌≤◌, ap, ap₂, arith, bit}
 use Rattle.sliced.proofs.Names.{bit_high, bit-low, bit_past, bit-zero, get_or, get_or-set_other, lane, length, length-set, lt-or-le}
 use Rattle.sliced.proofs.Names.{number_at, place, same_at, set, sym, ℕ, ⊎_elim}
-use Rattle.sliced.proofs.Held.{lane-held, held_next}
+use Rattle.sliced.proofs.Held.{lane_held, held_next}
 
 -- the six rows: bit k of row q is bit q of k
 abbrev patterns : List ℕ
 patterns =
     0xaaaaaaaaaaaaaaaa ∷ 0xcccccccccccccccc ∷ 0xf0f0f0f0f0f0f0f0 ∷ 0xff00ff00ff00ff00 ∷ 0xffff0000ffff0000 ∷ 0xffffffff00000000 ∷ []
 
-pattern-bit : (q k : ℕ) → q < 6 → k < 64 → bit k (get_or patterns q 0) ≡ bit q k
+pattern_bit : (q k : ℕ) → q < 6 → k < 64 → bit k (get_or patterns q 0) ≡ bit q k
 unfolding bit
-pattern-bit = same_at 6 (λ q k. bit k (get_or patterns q 0)) bit tt
+pattern_bit = same_at 6 (λ q k. bit k (get_or patterns q 0)) bit tt
 
 in_parts : (p k : ℕ) → p % 8 * 2 ^ 6 + k ≡ number_at (8 * k + p % 8)
 in_parts p k = omega arith
 
 pub low_rows : (p : ℕ) → p < 48 → (k : ℕ) → k < 64 → bit k (get_or patterns (p / 8) 0) ≡ bit (p / 8) (number_at (8 * k + p % 8))
 low_rows p hp k hk =
-    pattern-bit (p / 8) k (omega arith) hk ∙ sym (bit-low 6 (p / 8) (p % 8) k (omega arith) (omega arith)) ∙ ap (bit (p / 8)) (in_parts p k)
+    pattern_bit (p / 8) k (omega arith) hk ∙ sym (bit-low 6 (p / 8) (p % 8) k (omega arith) (omega arith)) ∙ ap (bit (p / 8)) (in_parts p k)
 
-pub high-rows : (p r : ℕ) → 48 ≤ p → ((k : ℕ) → k < 64 → bit k r ≡ bit (p / 8 - 6) (p % 8))
+pub high_rows : (p r : ℕ) → 48 ≤ p → ((k : ℕ) → k < 64 → bit k r ≡ bit (p / 8 - 6) (p % 8))
     → (k : ℕ) → k < 64 → bit k r ≡ bit (p / 8) (number_at (8 * k + p % 8))
-high-rows p r hp h k hk =
+high_rows p r hp h k hk =
     let e : 6 + (p / 8 - 6) ≡ p / 8 = omega arith in
     h k hk ∙ sym (bit_high 6 (p / 8 - 6) (p % 8) k (omega arith)) ∙ ap₂ bit e (in_parts p k)
 
@@ -44,7 +44,7 @@ numbered_next p v x hp hv N =
 -- the rows that are left hold nothing
 pub numbered-last : (x : List ℕ) (p : ℕ) → 72 ≤ p → Numbered p x → (e : ℕ) → e < 512 → lane x e ≡ number_at e
 numbered-last x p hp N e he =
-    lane-held number_at 8 x
+    lane_held number_at 8 x
     (λ q k hq hc hk.
     ⊎_elim (λ (g : q < p). N.1 q k g hc hk)
     (λ (g : p ≤ q).

@@ -2,11 +2,11 @@
 use Rattle.sliced.proofs.Names.{Held, L, L-bit, L-lt, List, T, [], ◌%◌, ◌*◌, ◌+◌, ◌/◌, ◌<◌, ◌^◌, ◌∙◌, ◌∷◌, ◌≡◌, ◌≤◌, ◌⊕◌, ap, ap₂}
 use Rattle.sliced.proofs.Names.{arith, bit, bit-xor, differ, get_or, get_or-set_other, keyed, lane, lanes, length, lit<, mixed, rounds}
 use Rattle.sliced.proofs.Names.{set, subbed, sym, tau-lt, xor_lt, ℕ}
-use Rattle.sliced.proofs.Held.{lane-lt, held-lane, lane-held, held_next}
+use Rattle.sliced.proofs.Held.{lane-lt, held_lane, lane_held, held_next}
 
-pub doubled-next : (f : ℕ → ℕ) (n i : ℕ) (s : List ℕ) → i < 256 → length s ≡ 512 → Held f n (256 + i) s
+pub doubled_next : (f : ℕ → ℕ) (n i : ℕ) (s : List ℕ) → i < 256 → length s ≡ 512 → Held f n (256 + i) s
     → Held f n (256 + (i + 1)) (set s (i + 256) (get_or s i 0))
-doubled-next f n i s hi hs h p k hp =
+doubled_next f n i s hi hs h p k hp =
     held_next f n (i + 256) (get_or s i 0) s (omega arith)
     (λ k hc hk.
     let u : i / 8 % 32 ≡ (i + 256) / 8 % 32 = omega arith in
@@ -38,7 +38,7 @@ module _ (f : ℕ → ℕ) (n : ℕ) (a₀ s : List ℕ) (hf : (e : ℕ) → f e
       let q : bit k (five s i) ≡ bit r (L (f e)) =
       simp (bit-xor, g 32 (lit< tt), z, g 30 (lit< tt), g 22 (lit< tt), g 14 (lit< tt), g 8 (lit< tt))
       (L-bit (f e) r (hf e) (omega arith)) in
-      bit-xor k (get_or a₀ i 0) (five s i) ∙ ap₂ differ (held-lane a₀ n i k hi hc hk) q ∙ sym (bit-xor r (lane a₀ e) (L (f e)))
+      bit-xor k (get_or a₀ i 0) (five s i) ∙ ap₂ differ (held_lane a₀ n i k hi hc hk) q ∙ sym (bit-xor r (lane a₀ e) (L (f e)))
 
   pub mixed-next : (i : ℕ) (a : List ℕ) → i < 256 → length a ≡ 256 → Mixed f n a₀ i a
       → Mixed f n a₀ (i + 1) (set a i (get_or a i 0 ⊕ five s i))
@@ -52,7 +52,7 @@ pub round-done : (a b c d a' : List ℕ) (k n : ℕ) → Held (mixed (subbed b c
     → (e : ℕ) → e < 512 → e % 8 < n → lane a' e ≡ lane a e ⊕ T (keyed b c d k e)
 unfolding mixed T
 round-done a b c d a' k n h e he hc =
-    lane-held (mixed (subbed b c d k) a) n a' h e he hc
+    lane_held (mixed (subbed b c d k) a) n a' h e he hc
     (xor_lt 32 (lane a e) (L (subbed b c d k e)) (lane-lt a e) (L-lt _ (tau-lt (keyed b c d k e))))
 
 pub four-done : (a b c d a' b' c' d' : List ℕ) (k l m n e : ℕ)

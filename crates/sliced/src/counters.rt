@@ -6,7 +6,7 @@ ghost use Rattle.block.specs.Blocks.{block_at, cat};
 ghost use Rattle.block.specs.Words.{words, unwords};
 ghost use Rattle.block.specs.Xor.{xors};
 ghost use Rattle.lanes.specs.Bits.{bit, Masks};
-ghost use Rattle.cipher.specs.Sm4.{encryptBlock};
+ghost use Rattle.cipher.specs.Sm4.{encrypt_block};
 ghost use Rattle.counter.specs.Counter.{jumped};
 ghost use Rattle.block.specs.Over.{over};
 ghost use Rattle.sliced.specs.Lanes.{lane, lanes};
@@ -159,7 +159,7 @@ pub fn encrypt_counters(
     out: &mut [u8],
 )
     requires { (m ≤ 512) × (16 * m ≤ length «with».now) × (16 * m ≤ length out.old) }
-    ensures { out.new ≡ over (cat m (λ i. xors (block_at «with».now i) (encryptBlock rk (jumped wide (unwords c) i)))) out.old }
+    ensures { out.new ≡ over (cat m (λ i. xors (block_at «with».now i) (encrypt_block rk (jumped wide (unwords c) i)))) out.old }
 {
     let mut x0 = [0u64; 256];
     let mut x1 = [0u64; 256];

@@ -9,7 +9,7 @@ ghost use Rattle.std.specs.Prelude.{◌≡◌, List, [], ◌∷◌, ℕ, ◌+◌
 ghost use Rattle.block.specs.Blocks.{block_at, cat};
 ghost use Rattle.block.specs.Xor.{◌⊕◌, xors};
 ghost use Rattle.lanes.specs.Bits.{bit, Masks};
-ghost use Rattle.cipher.specs.Sm4.{T, rounds, encryptWords, encryptBlock};
+ghost use Rattle.cipher.specs.Sm4.{T, rounds, encrypt_words, encrypt_block};
 ghost use Rattle.rows.specs.Rows.{place, Sized, Rows};
 ghost use Rattle.block.specs.Over.{over};
 ghost use Rattle.sliced.specs.Lanes.{lane, lanes, Held, Planes, Parted, Halved};
@@ -250,7 +250,7 @@ pub(crate) fn rounds_to_rows(
 )
     requires n_bound { (n ≤ 8) × Sized a.old b.old }
     requires x0_len { (length x0.old ≡ 256) × (length x1.old ≡ 256) × (length x2.old ≡ 256) × (length x3.old ≡ 256) }
-    ensures by_index { (m : ℕ) (f : ℕ → List ℕ) → m ≤ 64 * n → ((i : ℕ) → i < m → lanes x0.old x1.old x2.old x3.old (place i) ≡ f i) → Rows m (λ i. encryptWords rk (f i)) a.new b.new }
+    ensures by_index { (m : ℕ) (f : ℕ → List ℕ) → m ≤ 64 * n → ((i : ℕ) → i < m → lanes x0.old x1.old x2.old x3.old (place i) ≡ f i) → Rows m (λ i. encrypt_words rk (f i)) a.new b.new }
     ensures sized { Sized a.new b.new }
 {
     let mut s = [0u64; 512];
@@ -263,7 +263,7 @@ pub(crate) fn rounds_to_rows(
 fn encrypt(rk: [u32; 32], n: usize, a: &mut [u64; 512], b: &mut [u64; 512])
     requires n_bound { n ≤ 8 }
     requires sized { Sized a.old b.old }
-    ensures by_index { (m : ℕ) (f : ℕ → List ℕ) → m ≤ 64 * n → Rows m f a.old b.old → Rows m (λ i. encryptWords rk (f i)) a.new b.new }
+    ensures by_index { (m : ℕ) (f : ℕ → List ℕ) → m ≤ 64 * n → Rows m f a.old b.old → Rows m (λ i. encrypt_words rk (f i)) a.new b.new }
     ensures sized_2 { Sized a.new b.new }
 {
     let mut x0 = [0u64; 256];
@@ -307,7 +307,7 @@ pub(crate) fn columns_of(m: usize) -> usize
 pub fn encrypt_xored(rk: [u32; 32], m: usize, src: &[u8], with: &[u8], out: &mut [u8])
     requires m_bound { (m ≤ 512) × (16 * m ≤ length src.now) }
     requires m_in_bounds { (16 * m ≤ length «with».now) × (16 * m ≤ length out.old) }
-    ensures { out.new ≡ over (cat m (λ i. xors (block_at «with».now i) (encryptBlock rk (block_at src.now i)))) out.old }
+    ensures { out.new ≡ over (cat m (λ i. xors (block_at «with».now i) (encrypt_block rk (block_at src.now i)))) out.old }
 {
     let mut a = [0u64; 512];
     let mut b = [0u64; 512];

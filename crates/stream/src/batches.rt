@@ -4,7 +4,7 @@ ghost use Rattle.block.specs.Words.{unwords};
 ghost use Rattle.cipher.specs.Engine.{Engine};
 ghost use Rattle.counter.specs.Counter.{jumped};
 ghost use Rattle.walk.specs.Reached.{Reached};
-ghost use Rattle.stream.specs.Stream.{streamMode, counting};
+ghost use Rattle.stream.specs.Stream.{stream_mode, counting};
 
 use crate::few::block_at;
 use crate::{Kind, step};
@@ -31,7 +31,7 @@ pub(crate) fn counter_after(wide: bool, s: [u32; 4], m: usize) -> [u32; 4]
 // As many batches of a message as there are, in a mode whose states are counters: Ctr's are wide, Gctr's are not.
 fn counters(rk: [u32; 32], wide: bool, iv: [u32; 4], data: &[u8], out: &mut [u8]) -> Place
     requires { length «data».now ≤ length out.old }
-    ensures { Reached (streamMode (counting wide) rk) (unwords iv) «data».now out.old (unwords result.state) out.new result.at }
+    ensures { Reached (stream_mode (counting wide) rk) (unwords iv) «data».now out.old (unwords result.state) out.new result.at }
 {
     let mut s = iv;
     let mut at: usize = 0;
@@ -50,7 +50,7 @@ fn counters(rk: [u32; 32], wide: bool, iv: [u32; 4], data: &[u8], out: &mut [u8]
 fn feedback(t: &[u32], rk: [u32; 32], iv: [u32; 4], data: &[u8], out: &mut [u8]) -> Place
     requires engine { Engine t.now }
     requires data_in_bounds { length «data».now ≤ length out.old }
-    ensures { Reached (streamMode Kind.CfbDecrypt rk) (unwords iv) «data».now out.old (unwords result.state) out.new result.at }
+    ensures { Reached (stream_mode Kind.CfbDecrypt rk) (unwords iv) «data».now out.old (unwords result.state) out.new result.at }
 {
     if data.len() < LEAST {
         return Place { state: iv, at: 0 };
@@ -80,7 +80,7 @@ pub(crate) fn run(
 ) -> Place
     requires engine { Engine t.now }
     requires data_in_bounds { length «data».now ≤ length out.old }
-    ensures { Reached (streamMode kind rk) (unwords iv) «data».now out.old (unwords result.state) out.new result.at }
+    ensures { Reached (stream_mode kind rk) (unwords iv) «data».now out.old (unwords result.state) out.new result.at }
 {
     let start = Place { state: iv, at: 0 };
     if !cipher::by_gates(t) {

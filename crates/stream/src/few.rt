@@ -3,11 +3,11 @@
 ghost use Rattle.std.specs.Prelude.{◌≡◌, ◌⊎◌, true, List, ℕ, ◌+◌, ◌*◌, ◌<◌, ◌≤◌, length, take, drop};
 ghost use Rattle.block.specs.Blocks.{block_at, cat};
 ghost use Rattle.block.specs.Words.{unwords};
-ghost use Rattle.cipher.specs.Sm4.{encryptBlock};
+ghost use Rattle.cipher.specs.Sm4.{encrypt_block};
 ghost use Rattle.counter.specs.Counter.{jumped};
 ghost use Rattle.block.specs.Over.{over};
-ghost use Rattle.walk.specs.Walk.{chain, stepped, endState};
-ghost use Rattle.stream.specs.Stream.{streamMode, ahead};
+ghost use Rattle.walk.specs.Walk.{chain, stepped, end_state};
+ghost use Rattle.stream.specs.Stream.{stream_mode, ahead};
 
 use crate::batches::counter_after;
 use crate::{End, Kind, pad_needed};
@@ -28,7 +28,7 @@ pub fn lay_counters(wide: bool, c: [u32; 4], n: usize, out: &mut [u8])
 fn lay(kind: Kind, iv: [u32; 4], data: &[u8], n: usize, out: &mut [u8])
     requires kind_value { ahead kind ≡ true }
     requires n_bound { (n ≤ 65) × (16 * n ≤ length «data».now + 16) × (16 * n ≤ length out.old) }
-    ensures { (rk : List ℕ) (i : ℕ) → i < n → block_at out.new i ≡ stepped (streamMode kind rk) i (unwords iv) «data».now }
+    ensures { (rk : List ℕ) (i : ℕ) → i < n → block_at out.new i ≡ stepped (stream_mode kind rk) i (unwords iv) «data».now }
 {
     match kind {
         Kind::CfbEncrypt => {}
@@ -71,9 +71,9 @@ fn few(
     requires kind_value { ahead kind ≡ true }
     requires m_bound { (m ≤ 64) × (pad ≡ true → m ≤ 63) }
     requires m_in_bounds { (16 * m ≤ length «data».now) × (16 * m ≤ length out.old) }
-    ensures state_value { unwords result.state ≡ stepped (streamMode kind rk) m (unwords iv) «data».now }
-    ensures pad_value { pad ≡ true → result.pad ≡ encryptBlock rk (stepped (streamMode kind rk) m (unwords iv) «data».now) }
-    ensures out_after { out.new ≡ over (cat m (λ i. (streamMode kind rk).block (stepped (streamMode kind rk) i (unwords iv) «data».now) (block_at «data».now i))) out.old }
+    ensures state_value { unwords result.state ≡ stepped (stream_mode kind rk) m (unwords iv) «data».now }
+    ensures pad_value { pad ≡ true → result.pad ≡ encrypt_block rk (stepped (stream_mode kind rk) m (unwords iv) «data».now) }
+    ensures out_after { out.new ≡ over (cat m (λ i. (stream_mode kind rk).block (stepped (stream_mode kind rk) i (unwords iv) «data».now) (block_at «data».now i))) out.old }
 {
     let mut states = [0u8; 1040];
     lay(kind, iv, data, m + 1, &mut states);
@@ -91,9 +91,9 @@ fn few(
 fn last(rk: [u32; 32], kind: Kind, iv: [u32; 4], on: bool, data: &[u8], out: &mut [u8]) -> End
     requires kind_value { ahead kind ≡ true }
     requires data_len_bound { (length «data».now < 1024) × (length «data».now ≤ length out.old) }
-    ensures state_value { unwords result.state ≡ endState (streamMode kind rk) (unwords iv) «data».now }
-    ensures pad_value { on ≡ true → result.pad ≡ encryptBlock rk (endState (streamMode kind rk) (unwords iv) «data».now) }
-    ensures out_after { out.new ≡ over (chain (streamMode kind rk) (unwords iv) «data».now) out.old }
+    ensures state_value { unwords result.state ≡ end_state (stream_mode kind rk) (unwords iv) «data».now }
+    ensures pad_value { on ≡ true → result.pad ≡ encrypt_block rk (end_state (stream_mode kind rk) (unwords iv) «data».now) }
+    ensures out_after { out.new ≡ over (chain (stream_mode kind rk) (unwords iv) «data».now) out.old }
 {
     let m = data.len() / 16;
     let end = few(rk, kind, iv, m, pad_needed(on, data.len() % 16), data, out);
@@ -114,9 +114,9 @@ pub(crate) fn run(
 ) -> End
     requires kind_value { ahead kind ≡ true }
     requires data_in_bounds { length «data».now ≤ length out.old }
-    ensures state_value { unwords result.state ≡ endState (streamMode kind rk) (unwords iv) «data».now }
-    ensures pad_value { on ≡ true → result.pad ≡ encryptBlock rk (endState (streamMode kind rk) (unwords iv) «data».now) }
-    ensures out_after { out.new ≡ over (chain (streamMode kind rk) (unwords iv) «data».now) out.old }
+    ensures state_value { unwords result.state ≡ end_state (stream_mode kind rk) (unwords iv) «data».now }
+    ensures pad_value { on ≡ true → result.pad ≡ encrypt_block rk (end_state (stream_mode kind rk) (unwords iv) «data».now) }
+    ensures out_after { out.new ≡ over (chain (stream_mode kind rk) (unwords iv) «data».now) out.old }
 {
     let mut s = iv;
     let mut at: usize = 0;

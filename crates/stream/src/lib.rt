@@ -7,10 +7,10 @@ ghost use Rattle.std.specs.Prelude.{◌≡◌, true, false, ◌++◌, ◌<◌, �
 ghost use Rattle.block.specs.Words.{unwords};
 ghost use Rattle.block.specs.Xor.{xors};
 ghost use Rattle.cipher.specs.Engine.{Engine};
-ghost use Rattle.cipher.specs.Sm4.{encryptBlock};
+ghost use Rattle.cipher.specs.Sm4.{encrypt_block};
 ghost use Rattle.block.specs.Over.{over};
-ghost use Rattle.walk.specs.Walk.{chain, endState};
-ghost use Rattle.stream.specs.Stream.{stateAfter, streamMode, ahead};
+ghost use Rattle.walk.specs.Walk.{chain, end_state};
+ghost use Rattle.stream.specs.Stream.{state_after, stream_mode, ahead};
 
 // The mode and, where they differ, the direction.
 #[derive(Drop)]
@@ -24,7 +24,7 @@ pub enum Kind {
 
 // The state after the block `b`: `s` is the state before it, `e` the cipher of `s`, and `c` what the block became.
 fn state_after(kind: Kind, s: [u32; 4], e: [u32; 4], b: [u32; 4], c: [u32; 4]) -> [u32; 4]
-    ensures { unwords result ≡ stateAfter kind (unwords s) (unwords e) (unwords b) (unwords c) }
+    ensures { unwords result ≡ state_after kind (unwords s) (unwords e) (unwords b) (unwords c) }
 {
     match kind {
         Kind::CfbEncrypt => c,
@@ -47,8 +47,8 @@ pub(crate) fn step(
     requires engine { Engine t.now }
     requires in_bounds { 16 ≤ length «data».now }
     requires in_bounds_2 { 16 ≤ length out.old }
-    ensures result_value { unwords result ≡ (streamMode kind rk).next (unwords s) (take 16 «data».now) }
-    ensures out_after { out.new ≡ (streamMode kind rk).block (unwords s) (take 16 «data».now) ++ drop 16 out.old }
+    ensures result_value { unwords result ≡ (stream_mode kind rk).next (unwords s) (take 16 «data».now) }
+    ensures out_after { out.new ≡ (stream_mode kind rk).block (unwords s) (take 16 «data».now) ++ drop 16 out.old }
 {
     let e = cipher::encrypt(t, rk, s);
     let b = block::split_block(data);
@@ -82,8 +82,8 @@ fn xor_rest(
     requires engine { Engine t.now }
     requires data_len_bound { length «data».now < 16 }
     requires data_in_bounds { length «data».now ≤ length out.old }
-    ensures value { on ≡ true → result ≡ encryptBlock rk (unwords s) }
-    ensures out_after { out.new ≡ over (xors «data».now (encryptBlock rk (unwords s))) out.old }
+    ensures value { on ≡ true → result ≡ encrypt_block rk (unwords s) }
+    ensures out_after { out.new ≡ over (xors «data».now (encrypt_block rk (unwords s))) out.old }
 {
     if !pad_needed(on, data.len()) {
         return [0u8; 16];
@@ -113,9 +113,9 @@ fn one_by_one(
 ) -> End
     requires engine { Engine t.now }
     requires data_in_bounds { length «data».now ≤ length out.old }
-    ensures state_value { unwords result.state ≡ endState (streamMode kind rk) (unwords iv) «data».now }
-    ensures pad_value { on ≡ true → result.pad ≡ encryptBlock rk (endState (streamMode kind rk) (unwords iv) «data».now) }
-    ensures out_after { out.new ≡ over (chain (streamMode kind rk) (unwords iv) «data».now) out.old }
+    ensures state_value { unwords result.state ≡ end_state (stream_mode kind rk) (unwords iv) «data».now }
+    ensures pad_value { on ≡ true → result.pad ≡ encrypt_block rk (end_state (stream_mode kind rk) (unwords iv) «data».now) }
+    ensures out_after { out.new ≡ over (chain (stream_mode kind rk) (unwords iv) «data».now) out.old }
 {
     let mut s = iv;
     let mut at: usize = 0;
@@ -159,9 +159,9 @@ fn finish(
 ) -> End
     requires engine { Engine t.now }
     requires data_in_bounds { length «data».now ≤ length out.old }
-    ensures state_value { unwords result.state ≡ endState (streamMode kind rk) (unwords iv) «data».now }
-    ensures pad_value { on ≡ true → result.pad ≡ encryptBlock rk (endState (streamMode kind rk) (unwords iv) «data».now) }
-    ensures out_after { out.new ≡ over (chain (streamMode kind rk) (unwords iv) «data».now) out.old }
+    ensures state_value { unwords result.state ≡ end_state (stream_mode kind rk) (unwords iv) «data».now }
+    ensures pad_value { on ≡ true → result.pad ≡ encrypt_block rk (end_state (stream_mode kind rk) (unwords iv) «data».now) }
+    ensures out_after { out.new ≡ over (chain (stream_mode kind rk) (unwords iv) «data».now) out.old }
 {
     if side_by_side(t, kind, data.len()) {
         return few::run(rk, kind, iv, on, data, out);
@@ -181,9 +181,9 @@ pub fn stream(
 ) -> End
     requires engine { Engine t.now }
     requires data_in_bounds { length «data».now ≤ length out.old }
-    ensures state_value { unwords result.state ≡ endState (streamMode kind rk) (unwords iv) «data».now }
-    ensures pad_value { on ≡ true → result.pad ≡ encryptBlock rk (endState (streamMode kind rk) (unwords iv) «data».now) }
-    ensures out_after { out.new ≡ over (chain (streamMode kind rk) (unwords iv) «data».now) out.old }
+    ensures state_value { unwords result.state ≡ end_state (stream_mode kind rk) (unwords iv) «data».now }
+    ensures pad_value { on ≡ true → result.pad ≡ encrypt_block rk (end_state (stream_mode kind rk) (unwords iv) «data».now) }
+    ensures out_after { out.new ≡ over (chain (stream_mode kind rk) (unwords iv) «data».now) out.old }
 {
     let begun = batches::run(t, rk, kind, iv, data, out);
     let at = begun.at;

@@ -25,5 +25,5 @@ stepped m zero s d = s
 stepped m (suc n) s d = stepped m n (m.next s (take 16 d)) (drop 16 d)
 
 -- the state that the walk over d ends in
-unfoldable pub endState : Mode → List ℕ → List ℕ → List ℕ
-endState m s d = stepped m (length d / 16) s d
+unfoldable pub end_state : Mode → List ℕ → List ℕ → List ℕ
+end_state m s d = stepped m (length d / 16) s d

@@ -4,7 +4,7 @@ use Rattle.carryless.proofs.Words.{part-fits, part-times}
 use Rattle.carryless.proofs.diagonal.Statement.{statement}
 use Rattle.carryless.proofs.diagonal.Tie as tie
 
-pub diagonal-spec : {M : Type 1} → statement M
-diagonal-spec = tie.close (tie.spec (λ c. search (needs, part-fits)) (λ c. search (needs, part-times)) (λ c. search (needs, part-fits))
+pub diagonal_spec : {M : Type 1} → statement M
+diagonal_spec = tie.close (tie.spec (λ c. search (needs, part-fits)) (λ c. search (needs, part-times)) (λ c. search (needs, part-fits))
     (λ c. search (needs, part-times)) (λ c. search (needs, part-fits)) (λ c. search (needs, part-times)) (λ c. search (needs, part-fits))
     (λ c. search (needs, part-times)) (λ c. search needs))

@@ -8,8 +8,8 @@ use Rattle.carryless.proofs.parts.Tie as tie
 abbrev of_three : List ℕ → ℕ → ℕ → ℕ → List ℕ
 of_three w i j k = quarters (get_or w i 0) ++ (quarters (get_or w j 0) ++ quarters (get_or w k 0))
 
-pub parts-spec : {M : Type 1} → statement M
-parts-spec = tie.close (next8 (tie.spec (λ c κs. search needs)) (omega arith)
+pub parts_spec : {M : Type 1} → statement M
+parts_spec = tie.close (next8 (tie.spec (λ c κs. search needs)) (omega arith)
     (λ c. search needs)
     (λ c.
     record {

@@ -1,21 +1,21 @@
 -- `carryless::word_products` meets its contract. The loop's invariant: the first k products are there. The parts of y's words are lent in
--- their order (`lends-word`).
+-- their order (`lends_word`).
 use Rattle.block.proofs.Base.{◌-◌, ◌≤◌, ◌≡◌, arith, needs, get_or, length}
 use Rattle.carryless.specs.Carryless.{clmul}
 use Rattle.carryless.specs.Lanes.{Each}
 use Rattle.lanes.proofs.Filling.{each_next}
-use Rattle.carryless.proofs.Words.{lends-word}
+use Rattle.carryless.proofs.Words.{lends_word}
 use Rattle.carryless.proofs.word_products.Statement.{statement}
 use Rattle.carryless.proofs.word_products.Tie as tie
 
-pub word-products-spec : {M : Type 1} → statement M
-word-products-spec = tie.close (tie.spec
+pub word_products_spec : {M : Type 1} → statement M
+word_products_spec = tie.close (tie.spec
     (λ m a b z₀ k₀ z k. (k ≤ 8) × (length z ≡ 9) × Each (λ i. clmul 32 (get_or a i 0) (get_or b i 0)) k z) (λ m a b z₀ k₀ z k. 8 - k)
     (λ c κs. search needs) (λ c κs. search needs) (λ c. search needs) (λ c. search needs) (λ c. search needs) (λ c. search needs)
     (λ c. search needs) (λ c. search needs)
     (λ c κs.
     let at_b = c.before.before in
-    rw at_b.words-of2.ensures.0 (lends-word _ _ at_b.before.before.requires c.before.loop.k (omega arith)))
+    rw at_b.words-of2.ensures.0 (lends_word _ _ at_b.before.before.requires c.before.loop.k (omega arith)))
     (λ c. search needs) (λ c. search needs) (λ c. search needs) (λ c. search needs)
     (λ c.
     let l = c.before.before.loop in
@@ -23,7 +23,7 @@ word-products-spec = tie.close (tie.spec
     (λ c. search needs) (λ c. search needs)
     (λ c κs.
     let at_b = c.before.before in
-    rw at_b.words-of2.ensures.0 (lends-word _ _ at_b.before.before.requires 8 (omega arith)))
+    rw at_b.words-of2.ensures.0 (lends_word _ _ at_b.before.before.requires 8 (omega arith)))
     (λ c. search needs)
     (λ c.
     let l = c.before.before.loop in

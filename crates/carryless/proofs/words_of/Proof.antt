@@ -4,6 +4,6 @@ use Rattle.carryless.proofs.Joins.{high_lt}
 use Rattle.carryless.proofs.words_of.Statement.{statement}
 use Rattle.carryless.proofs.words_of.Tie as tie
 
-pub words-of-spec : {M : Type 1} → statement M
-words-of-spec = tie.close (tie.spec (λ c. search needs) (λ c. search needs) (λ c. search needs) (λ c. search needs)
+pub words_of_spec : {M : Type 1} → statement M
+words_of_spec = tie.close (tie.spec (λ c. search needs) (λ c. search needs) (λ c. search needs) (λ c. search needs)
     (λ c. search (needs, high_lt)) (λ c. search needs) (λ c. search needs))

@@ -1,37 +1,37 @@
--- `cbc::decrypt_batches` meets its contract. The first block goes by itself (`fed-reached`), and a turn of the loop goes as many blocks on
--- as the batch has (`fed-on`), each from the ciphertext block before it.
-use Rattle.cbc.proofs.Names.{Fed, List, Mode, Reached, ◌++◌, ◌-◌, ◌≡◌, arith, block-before, block_at, cbcDecrypt, drop, fed-first}
-use Rattle.cbc.proofs.Names.{fed-on, fed-reached, length, length-unwords, needs, now, reached-first, refl, reverse, tailed, take}
+-- `cbc::decrypt_batches` meets its contract. The first block goes by itself (`fed_reached`), and a turn of the loop goes as many blocks on
+-- as the batch has (`fed_on`), each from the ciphertext block before it.
+use Rattle.cbc.proofs.Names.{Fed, List, Mode, Reached, ◌++◌, ◌-◌, ◌≡◌, arith, block-before, block_at, cbc_decrypt, drop, fed_first}
+use Rattle.cbc.proofs.Names.{fed_on, fed_reached, length, length-unwords, needs, now, reached-first, refl, reverse, tailed, take}
 use Rattle.cbc.proofs.Names.{take_at, unwords, ℕ}
-use Rattle.cbc.proofs.Batches.{decrypt-fed, decrypted}
+use Rattle.cbc.proofs.Batches.{decrypt_fed, decrypted}
 use Rattle.cbc.proofs.decrypt_batches.Statement.{statement}
 use Rattle.cbc.proofs.decrypt_batches.Tie as tie
 
-abbrev invariant-loop : tie.invariant-loop
-invariant-loop t back d out₀ at₀ out at = Fed (cbcDecrypt (reverse back)) d out₀ out at
+abbrev invariant_loop : tie.invariant_loop
+invariant_loop t back d out₀ at₀ out at = Fed (cbc_decrypt (reverse back)) d out₀ out at
 
-abbrev decreases-loop : tie.decreases-loop
-decreases-loop t back d out₀ at₀ out at = length d - at
+abbrev decreases_loop : tie.decreases_loop
+decreases_loop t back d out₀ at₀ out at = length d - at
 
 -- before the first block
 at-start : {m : Mode} {s d o : List ℕ} → length s ≡ 16 → Reached m s d o (take 16 (drop 0 (s ++ d))) o 0
 at-start {m} {s} {d} {o} h = rw (take_at s d 16 h) (reached-first m s d o)
 
-loop-again : tie.Need-loop-preserved invariant-loop decreases-loop
-loop-again c =
+loop_again : tie.Need-loop-preserved invariant_loop decreases_loop
+loop_again c =
     let at-xored = c.before.before in
     let at_next = at-xored.before.before.before.before in
-    let at-loop = at_next.before.before in
-    let l = at-loop.loop in
-    let a = at-loop.before.before.before.before.before.before.before.before.before.before.before.args in
+    let at_loop = at_next.before.before in
+    let l = at_loop.loop in
+    let a = at_loop.before.before.before.before.before.before.before.before.before.before.before.args in
     let d = now a.«data» in
     let at = l.at in
     let n = at_next.next-batch.result in
-    fed-on (cbcDecrypt (reverse a.back)) (decrypt-fed a.back) d _ l.out _ at n l.invariant (omega arith) (omega arith)
+    fed_on (cbc_decrypt (reverse a.back)) (decrypt_fed a.back) d _ l.out _ at n l.invariant (omega arith) (omega arith)
     (decrypted a.back n (block_at (tailed (at - 16) d)) (block_at (tailed at d)) (tailed at l.out) _ at-xored.encrypt-xored.ensures)
 
-returns-3 : tie.Need-returns-3 invariant-loop decreases-loop
-returns-3 c =
+returns_3 : tie.Need-returns-3 invariant_loop decreases_loop
+returns_3 c =
     let l = c.before.loop in
     let at-step = c.before.before.before.before in
     let a = at-step.before.before.before.before.before.before.before.before.args in
@@ -40,15 +40,15 @@ returns-3 c =
     let sixteen = length-unwords a.iv in (
       l.invariant.whole,
       rw (block-before s d l.at sixteen l.invariant.behind)
-          (fed-reached _ (decrypt-fed a.back) d _ s (now a.out) l.out l.at l.invariant sixteen (omega arith) (omega arith)
+          (fed_reached _ (decrypt_fed a.back) d _ s (now a.out) l.out l.at l.invariant sixteen (omega arith) (omega arith)
           at-step.decrypt-step.ensures.1),
     )
 
-pub decrypt-batches-spec : {M : Type 1} → statement M
-decrypt-batches-spec = tie.close (tie.spec invariant-loop decreases-loop (λ c κs. search needs)
+pub decrypt_batches_spec : {M : Type 1} → statement M
+decrypt_batches_spec = tie.close (tie.spec invariant_loop decreases_loop (λ c κs. search needs)
     (λ c. (refl, at-start (length-unwords c.before.before.before.before.before.args.iv)))
     (λ c. (refl, at-start (length-unwords c.before.before.before.before.before.before.args.iv))) (λ c κs. search needs)
-    (λ c. fed-first _ _ _ (omega arith) (omega arith)) (λ c. omega arith) (λ c. omega arith) (λ c κs. omega arith) (λ c. omega arith)
+    (λ c. fed_first _ _ _ (omega arith) (omega arith)) (λ c. omega arith) (λ c. omega arith) (λ c κs. omega arith) (λ c. omega arith)
     (λ c. omega arith) (λ c. omega arith) (λ c. omega arith) (λ c. omega arith) (λ c. omega arith) (λ c. omega arith) (λ c. omega arith)
-    (λ c. omega arith) (λ c. omega arith) (λ c κs. search needs) (λ c. omega arith) (λ c. omega arith) (λ c. omega arith) loop-again
-    (λ c. omega arith) returns-3)
+    (λ c. omega arith) (λ c. omega arith) (λ c κs. search needs) (λ c. omega arith) (λ c. omega arith) (λ c. omega arith) loop_again
+    (λ c. omega arith) returns_3)

@@ -29,6 +29,6 @@ returns c =
     (last-words (reverse a.back) (unwords a.iv) d chained.result (length-unwords a.iv) (below_each 256 d small)
     S.requires.1.0 S.requires.1.1 four chained.ensures)
 
-pub last-block-spec : {M : Type 1} → statement M
-last-block-spec = tie.close (tie.spec (λ c. search needs) (λ c. search needs) (λ c. search needs) (λ c. search needs) (λ c κs. search needs)
+pub last_block_spec : {M : Type 1} → statement M
+last_block_spec = tie.close (tie.spec (λ c. search needs) (λ c. search needs) (λ c. search needs) (λ c. search needs) (λ c κs. search needs)
     (λ c κs. search needs) (λ c κs. search needs) (λ c κs. search needs) (λ c κs. search needs) returns)

@@ -4,6 +4,6 @@ use Rattle.cipher.specs.Engine.{chosen}
 use Rattle.cipher_mode.proofs.engine_for.Statement.{statement}
 use Rattle.cipher_mode.proofs.engine_for.Tie as tie
 
-pub engine-for-spec : {M : Type 1} → statement M
-engine-for-spec = tie.close (tie.spec (λ c κs. search needs) (λ c κs. search needs)
+pub engine_for_spec : {M : Type 1} → statement M
+engine_for_spec = tie.close (tie.spec (λ c κs. search needs) (λ c κs. search needs)
     (λ c. c.engine-of.ensures ∙ ap (chosen c.before.before.args.mark) c.before.waits.ensures))

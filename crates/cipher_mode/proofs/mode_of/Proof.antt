@@ -4,8 +4,8 @@ use Rattle.block.proofs.Base.{◌-◌, suc, ◌≡◌, arith}
 use Rattle.cipher_mode.proofs.mode_of.Statement.{statement}
 use Rattle.cipher_mode.proofs.mode_of.Tie as tie
 
-pub mode-of-spec : {M : Type 1} → statement M
+pub mode_of_spec : {M : Type 1} → statement M
 unfolding mode_of
-mode-of-spec = tie.close (tie.spec (λ c. rw c.match.keys1) (λ c. rw c.match.keys2) (λ c. rw c.match.keys3)
+mode_of_spec = tie.close (tie.spec (λ c. rw c.match.keys1) (λ c. rw c.match.keys2) (λ c. rw c.match.keys3)
     (λ c. rw c.match.keys4)
     (λ c. let n = c.before.args.mode in let above : n ≡ suc (suc (suc (suc (n - 4)))) = omega arith in rw above))

@@ -4,8 +4,8 @@ use Rattle.counter.proofs.Steps.{gcm-jump-words}
 use Rattle.counter.proofs.gcm_jump.Statement.{statement}
 use Rattle.counter.proofs.gcm_jump.Tie as tie
 
-pub gcm-jump-spec : {M : Type 1} → statement M
-gcm-jump-spec =
+pub gcm_jump_spec : {M : Type 1} → statement M
+gcm_jump_spec =
     tie.close
     (tie.spec
     (λ c. search needs) (λ c. search needs) (λ c. search needs) (λ c. search needs) (λ c κs. search needs)

@@ -5,5 +5,5 @@ use Rattle.counter.proofs.Steps.{ctr-jump-words}
 use Rattle.counter.proofs.jump.Statement.{statement}
 use Rattle.counter.proofs.jump.Tie as tie
 
-pub jump-spec : {M : Type 1} → statement M
-jump-spec = tie.close (tie.spec (λ c κs. search needs) (λ c κs. search needs) (λ c κs. search needs) (λ c. search (needs, ctr-jump-words)))
+pub jump_spec : {M : Type 1} → statement M
+jump_spec = tie.close (tie.spec (λ c κs. search needs) (λ c κs. search needs) (λ c κs. search needs) (λ c. search (needs, ctr-jump-words)))

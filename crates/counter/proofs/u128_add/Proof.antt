@@ -5,8 +5,8 @@ use Rattle.counter.proofs.Carry.{carry}
 use Rattle.counter.proofs.u128_add.Statement.{statement}
 use Rattle.counter.proofs.u128_add.Tie as tie
 
-pub u128-add-spec : {M : Type 1} → statement M
-u128-add-spec =
+pub u128_add_spec : {M : Type 1} → statement M
+u128_add_spec =
     tie.close
     (tie.spec
     (λ c κs. search needs) (λ c κs. search needs)

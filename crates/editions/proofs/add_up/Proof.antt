@@ -3,36 +3,36 @@
 use Rattle.block.proofs.Base.{◌+◌, ◌-◌, ◌≤◌, ◌≡◌, sym, arith, eq-eqb, eqb-true, ne_eqb, now, drop, length}
 use Rattle.block.proofs.Same.{test_iff}
 use Rattle.editions.specs.Candidates.{sum}
-use Rattle.editions.proofs.Turns.{sum-turn, sum-end}
+use Rattle.editions.proofs.Turns.{sum_turn, sum-end}
 use Rattle.editions.proofs.add_up.Statement.{statement}
 use Rattle.editions.proofs.add_up.Tie as tie
 
-abbrev invariant-loop : tie.invariant-loop
-invariant-loop lengths n left₀ i₀ left i = (i ≤ length lengths) × (sum lengths + left ≡ n + sum (drop i lengths))
+abbrev invariant_loop : tie.invariant_loop
+invariant_loop lengths n left₀ i₀ left i = (i ≤ length lengths) × (sum lengths + left ≡ n + sum (drop i lengths))
 
-abbrev decreases-loop : tie.decreases-loop
-decreases-loop lengths n left₀ i₀ left i = length lengths - i
+abbrev decreases_loop : tie.decreases_loop
+decreases_loop lengths n left₀ i₀ left i = length lengths - i
 
-returns : tie.Need-returns invariant-loop decreases-loop
+returns : tie.Need-returns invariant_loop decreases_loop
 returns c =
-    let at-loop = c.before.before.before in
-    let a = at-loop.before.args in
-    let turn = sum-turn (now a.lengths) at-loop.loop.i (omega arith) in
+    let at_loop = c.before.before.before in
+    let a = at_loop.before.args in
+    let turn = sum_turn (now a.lengths) at_loop.loop.i (omega arith) in
     sym (ne_eqb (sum (now a.lengths)) a.n (λ e. omega arith))
 
-loop-again : tie.Need-loop-preserved invariant-loop decreases-loop
-loop-again c =
-    let at-loop = c.before.before.before in
-    let turn = sum-turn (now at-loop.before.args.lengths) at-loop.loop.i (omega arith) in
+loop_again : tie.Need-loop-preserved invariant_loop decreases_loop
+loop_again c =
+    let at_loop = c.before.before.before in
+    let turn = sum_turn (now at_loop.before.args.lengths) at_loop.loop.i (omega arith) in
     omega arith
 
-returns-2 : tie.Need-returns-2 invariant-loop decreases-loop
-returns-2 c =
+returns_2 : tie.Need-returns-2 invariant_loop decreases_loop
+returns_2 c =
     let a = c.before.before.args in
     let past = sum-end (now a.lengths) c.before.loop.i (omega arith) in
     test_iff _ _ (λ e. eq-eqb (sum (now a.lengths)) a.n (omega (arith, eqb-true)))
     (λ e. eq-eqb c.before.loop.left 0 (omega (arith, eqb-true)))
 
-pub add-up-spec : {M : Type 1} → statement M
-add-up-spec = tie.close (tie.spec invariant-loop decreases-loop (λ c. omega arith) (λ c. omega arith) (λ c. omega arith) returns (λ c. omega arith)
-    (λ c. omega arith) loop-again returns-2)
+pub add_up_spec : {M : Type 1} → statement M
+add_up_spec = tie.close (tie.spec invariant_loop decreases_loop (λ c. omega arith) (λ c. omega arith) (λ c. omega arith) returns (λ c. omega arith)
+    (λ c. omega arith) loop_again returns_2)

@@ -3,29 +3,29 @@
 use Rattle.block.proofs.Base.{◌^◌, ℕ, ◌≡◌, ap, refl, arith, needs, get_or, length, w32, Fits}
 use Rattle.block.proofs.Entries.{below_each}
 use Rattle.cipher.proofs.Blocks.{encrypt-unwords}
-use Rattle.gcm.specs.Gcm.{tag_of, opensUnder}
-use Rattle.cipher_mode.proofs.Passed.{iv-twelve-or-sixteen, with-tag-passed}
-use Rattle.editions.specs.Which.{onKey}
+use Rattle.gcm.specs.Gcm.{tag_of, opens_under}
+use Rattle.cipher_mode.proofs.Passed.{iv_twelve_or_sixteen, with_tag_passed}
+use Rattle.editions.specs.Which.{on_key}
 use Rattle.editions.proofs.Turns.{search-end}
 use Rattle.editions.proofs.under_key.Statement.{statement}
 use Rattle.editions.proofs.under_key.Tie as tie
 
-returns-2 : tie.Need-returns-2
-unfolding opensUnder tag_of
-returns-2 c =
+returns_2 : tie.Need-returns-2
+unfolding opens_under tag_of
+returns_2 c =
     let at-mask = c.before.before.before in
     let at-counter = at-mask.before in
     let at_key = at-counter.before in
-    let j = at-counter.first-counter.result in
+    let j = at-counter.first_counter_lem.result in
     let four : length j ≡ 4 = search needs in
     let fits : (i : ℕ) → Fits w32 (get_or j i 0) = λ i. search needs in
     let spelled = below_each (2 ^ 32) j (λ i. (fits i).fits) in
-    rw (c.search.ensures, at-mask.encrypt.ensures, encrypt-unwords _ j four spelled, at-counter.first-counter.ensures)
+    rw (c.search.ensures, at-mask.encrypt.ensures, encrypt-unwords _ j four spelled, at-counter.first_counter_lem.ensures)
     (rw at_key.hash-key.ensures)
 
-pub under-key-spec : {M : Type 1} → statement M
-under-key-spec = tie.close (tie.spec (λ c. search needs)
-    (λ c. rw c.without.ensures (ap (onKey _) (search-end _ 0 (omega arith) _ _ 0 _ refl))) (λ c. search needs) (λ c. search needs)
-    (λ c. search needs) (λ c κs. search needs) (λ c κs. search needs) (λ c κs. search (needs, iv-twelve-or-sixteen)) (λ c κs. search needs)
-    (λ c κs. search (needs, with-tag-passed)) (λ c. search needs)
-    (λ c κs. (rw c.before.text-part.ensures at c.of.ensures, search needs)) returns-2)
+pub under_key_spec : {M : Type 1} → statement M
+under_key_spec = tie.close (tie.spec (λ c. search needs)
+    (λ c. rw c.without.ensures (ap (on_key _) (search-end _ 0 (omega arith) _ _ 0 _ refl))) (λ c. search needs) (λ c. search needs)
+    (λ c. search needs) (λ c κs. search needs) (λ c κs. search needs) (λ c κs. search (needs, iv_twelve_or_sixteen)) (λ c κs. search needs)
+    (λ c κs. search (needs, with_tag_passed)) (λ c. search needs)
+    (λ c κs. (rw c.before.text-part.ensures at c.of.ensures, search needs)) returns_2)

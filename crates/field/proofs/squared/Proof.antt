@@ -6,5 +6,5 @@ use Rattle.field.proofs.Reduction.{top_lt, reduced-product}
 use Rattle.field.proofs.squared.Statement.{statement}
 use Rattle.field.proofs.squared.Tie as tie
 
-pub squared-spec : {M : Type 1} → statement M
-squared-spec = tie.close (tie.spec (λ c κs. search needs) (λ c κs. search (needs, top_lt, whole-lt)) (λ c. search (needs, reduced-product)))
+pub squared_spec : {M : Type 1} → statement M
+squared_spec = tie.close (tie.spec (λ c κs. search needs) (λ c κs. search (needs, top_lt, whole-lt)) (λ c. search (needs, reduced-product)))

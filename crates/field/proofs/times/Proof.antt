@@ -6,5 +6,5 @@ use Rattle.field.proofs.Reduction.{top_lt, reduced-product}
 use Rattle.field.proofs.times.Statement.{statement}
 use Rattle.field.proofs.times.Tie as tie
 
-pub times-spec : {M : Type 1} → statement M
-times-spec = tie.close (tie.spec (λ c κs. search needs) (λ c κs. search (needs, top_lt, whole-lt)) (λ c. search (needs, reduced-product)))
+pub times_spec : {M : Type 1} → statement M
+times_spec = tie.close (tie.spec (λ c κs. search needs) (λ c κs. search (needs, top_lt, whole-lt)) (λ c. search (needs, reduced-product)))

@@ -1,14 +1,14 @@
 -- `gcm::decrypt` meets its contract. A text whose pads are ready goes by them. Else, where the tag is the message's, the stream writes its
--- text (`into-opened`); otherwise nothing is written (`into-refused`).
+-- text (`into_opened`); otherwise nothing is written (`into_refused`).
 use Rattle.gcm.proofs.Names.{List, ◌-◌, ◌∙◌, ◌≡◌, ap, arith, length, length-take-le, needs, now, over, sym, text_of, unwords, value}
 use Rattle.gcm.proofs.Names.{ℕ}
 use Rattle.gcm.proofs.InWords.{text-words}
-use Rattle.gcm.proofs.Settled.{into-refused, into-opened}
+use Rattle.gcm.proofs.Settled.{into_refused, into_opened}
 use Rattle.gcm.proofs.decrypt.Statement.{statement}
 use Rattle.gcm.proofs.decrypt.Tie as tie
 
-decrypt-short-requires : tie.Need-decrypt-short-requires
-decrypt-short-requires c κs =
+decrypt-short_requires : tie.Need-decrypt-short-requires
+decrypt-short_requires c κs =
     let room = (c.before.before.before.before.before.before.before.requires.1.0 c.before.if1.true).room in
     (search needs, (omega arith, omega arith, omega arith))
 
@@ -19,15 +19,15 @@ returns c =
     let S = at-if1.before.before.before.before.before.before in
     at-decrypt-short.decrypt-short.ensures _ _ (S.requires.1.0 at-if1.if1.true)
 
-stream-requires : tie.Need-stream-requires
-stream-requires c κs =
+stream_requires : tie.Need-stream-requires
+stream_requires c κs =
     let d = c.before.before.before.before.before.before.before.before.before.before.before.before.args.«data».now in
     let n : length (now c.before.text-part.result) ≡ length d - 16 =
     ap length c.before.text-part.ensures ∙ length-take-le (length d - 16) d (omega arith) in
     (search needs, omega arith)
 
-returns-2 : tie.Need-returns-2
-returns-2 c =
+returns_2 : tie.Need-returns-2
+returns_2 c =
     let at-stream = c.before.before in
     let at-text-part = at-stream.before.before in
     let at-add-one = at-text-part.before.before in
@@ -41,15 +41,15 @@ returns-2 c =
     let is-text = text-words a.rk j _ _ at-add-one.gcm-block-add-one.ensures.0 ∙ ap (text_of a.rk j) part in (
       sym opens,
       at-stream.stream.ensures.1.1 ∙ ap (λ (p : List ℕ). over p (now a.out)) is-text
-          ∙ into-opened a.rk (value a.h) j (now a.aad) d (now a.out) opens,
+          ∙ into_opened a.rk (value a.h) j (now a.aad) d (now a.out) opens,
     )
 
-returns-3 : tie.Need-returns-3
-returns-3 c =
+returns_3 : tie.Need-returns-3
+returns_3 c =
     let a = c.before.before.before.before.before.before.before.before.args in
     let closed = sym c.before.opens.ensures ∙ c.if2.false in
-    (sym closed, into-refused a.rk (value a.h) (unwords a.j0) (now a.aad) (now a.«data») (now a.out) closed)
+    (sym closed, into_refused a.rk (value a.h) (unwords a.j0) (now a.aad) (now a.«data») (now a.out) closed)
 
-pub decrypt-spec : {M : Type 1} → statement M
-decrypt-spec = tie.close (tie.spec decrypt-short-requires (λ c. search needs) returns (λ c κs. search needs) (λ c κs. search needs)
-    (λ c κs. search needs) stream-requires (λ c. search needs) returns-2 returns-3)
+pub decrypt_spec : {M : Type 1} → statement M
+decrypt_spec = tie.close (tie.spec decrypt-short_requires (λ c. search needs) returns (λ c κs. search needs) (λ c κs. search needs)
+    (λ c κs. search needs) stream_requires (λ c. search needs) returns_2 returns_3)

@@ -5,8 +5,8 @@ use Rattle.gcm.proofs.InWords.{text-words, sealed-written}
 use Rattle.gcm.proofs.encrypt.Statement.{statement}
 use Rattle.gcm.proofs.encrypt.Tie as tie
 
-encrypt-short-requires : tie.Need-encrypt-short-requires
-encrypt-short-requires c κs =
+encrypt-short_requires : tie.Need-encrypt-short-requires
+encrypt-short_requires c κs =
     let S = c.before.before.before.before.before.before.before in
     ((S.requires.1.0 c.before.if1.true).room, (search needs, search needs))
 
@@ -17,8 +17,8 @@ returns c =
     let S = at-if1.before.before.before.before.before.before in
     at-encrypt-short.encrypt-short.ensures _ _ (S.requires.1.0 at-if1.if1.true)
 
-returns-2 : tie.Need-returns-2
-returns-2 c =
+returns_2 : tie.Need-returns-2
+returns_2 c =
     let at-put-block = c.before.before in
     let at_tag = at-put-block.before.before in
     let at-stream = at_tag.before.before.before.before.before in
@@ -29,7 +29,7 @@ returns-2 c =
     (at-stream.stream.ensures.1.1 ∙ ap (λ (q : List ℕ). over q (now a.out)) text) at_tag.tag.ensures
     at-put-block.put-block.ensures
 
-pub encrypt-spec : {M : Type 1} → statement M
-encrypt-spec = tie.close (tie.spec encrypt-short-requires (λ c. search needs) returns (λ c κs. search needs) (λ c κs. search needs)
+pub encrypt_spec : {M : Type 1} → statement M
+encrypt_spec = tie.close (tie.spec encrypt-short_requires (λ c. search needs) returns (λ c κs. search needs) (λ c κs. search needs)
     (λ c. search needs) (λ c. search needs) (λ c. search needs) (λ c κs. search needs) (λ c. search needs) (λ c. search needs)
-    (λ c. search needs) (λ c κs. search needs) (λ c. search needs) returns-2)
+    (λ c. search needs) (λ c κs. search needs) (λ c. search needs) returns_2)

@@ -1,5 +1,5 @@
 -- `gcm::encrypt_short` meets its contract: the text is xored with its pads, and its tag is put behind it (`sealed-written`).
-use Rattle.gcm.proofs.Names.{List, ◌-◌, ◌<◌, ◌∙◌, ap, arith, below_each, get_or, length, maskedTag, needs, now, over, refl, tag_of}
+use Rattle.gcm.proofs.Names.{List, ◌-◌, ◌<◌, ◌∙◌, ap, arith, below_each, get_or, length, masked_tag, needs, now, over, refl, tag_of}
 use Rattle.gcm.proofs.Names.{take, value, ℕ}
 use Rattle.gcm.proofs.InWords.{sealed-written}
 use Rattle.gcm.proofs.Short.{mask-front, text-front}
@@ -24,10 +24,10 @@ returns c =
     let mask = mask-front rk j pads _ p _ (below_each 256 pads small) at_split.split-block.ensures in
     sealed-written rk h j label _ (now a.out) _ _ _
     (at-xor-bytes.xor_Bytes.ensures ∙ ap (λ (q : List ℕ). over q (now a.out)) (text-front rk j pads _ p _ refl))
-    (at-masked-tag.masked-tag.ensures ∙ ap (λ (x : List ℕ). maskedTag x h label text) mask) at-put-block.put-block.ensures
+    (at-masked-tag.masked-tag.ensures ∙ ap (λ (x : List ℕ). masked_tag x h label text) mask) at-put-block.put-block.ensures
 
-pub encrypt-short-spec : {M : Type 1} → statement M
-encrypt-short-spec =
+pub encrypt_short_spec : {M : Type 1} → statement M
+encrypt_short_spec =
     tie.close (tie.spec (λ c. search needs) (λ c. search needs) (λ c. search needs) (λ c κs. search needs) (λ c. search needs)
     (λ c. search needs) (λ c. search needs) (λ c κs. search needs) (λ c. search needs) (λ c. search needs) (λ c. search needs)
     (λ c κs. search needs) (λ c. search needs) (λ c. search needs) (λ c. search needs) (λ c κs. search needs) (λ c. search needs) returns)

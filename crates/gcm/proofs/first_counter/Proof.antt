@@ -1,10 +1,10 @@
 -- `gcm::first_counter` meets its contract: the test that it makes is the definition's, and each function gives its side.
-use Rattle.gcm.proofs.Names.{eq-eqb, firstCounter, ne_eqb, ⊎_elim}
+use Rattle.gcm.proofs.Names.{eq-eqb, first_counter, ne_eqb, ⊎_elim}
 use Rattle.gcm.proofs.first_counter.Statement.{statement}
 use Rattle.gcm.proofs.first_counter.Tie as tie
 
-pub first-counter-spec : {M : Type 1} → statement M
-unfolding firstCounter
-first-counter-spec = tie.close (tie.spec (λ c κs. c.if1.true) (λ c. rw (eq-eqb _ _ c.before.if1.true) c.nonce-counter.ensures)
+pub first_counter_spec : {M : Type 1} → statement M
+unfolding first_counter
+first_counter_spec = tie.close (tie.spec (λ c κs. c.if1.true) (λ c. rw (eq-eqb _ _ c.before.if1.true) c.nonce-counter.ensures)
     (λ c κs. ⊎_elim (λ twelve. absurd (c.if1.false twelve)) (λ sixteen. sixteen) c.before.before.requires)
     (λ c. rw (ne_eqb _ _ c.before.if1.false) c.hashed-counter.ensures))

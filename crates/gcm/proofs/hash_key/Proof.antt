@@ -4,6 +4,6 @@ use Rattle.gcm.proofs.InWords.{hash-key-words}
 use Rattle.gcm.proofs.hash_key.Statement.{statement}
 use Rattle.gcm.proofs.hash_key.Tie as tie
 
-pub hash-key-spec : {M : Type 1} → statement M
-hash-key-spec = tie.close (tie.spec (λ c κs. search needs) (λ c κs. search needs)
+pub hash_key_spec : {M : Type 1} → statement M
+hash_key_spec = tie.close (tie.spec (λ c κs. search needs) (λ c κs. search needs)
     (λ c. hash-key-words c.before.before.before.args.rk _ _ c.before.encrypt.ensures c.to-u128.ensures))

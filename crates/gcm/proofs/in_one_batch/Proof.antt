@@ -3,6 +3,6 @@ use Rattle.gcm.proofs.Names.{◌≡◌, arith, ltb-true, needs, ℕ}
 use Rattle.gcm.proofs.in_one_batch.Statement.{statement}
 use Rattle.gcm.proofs.in_one_batch.Tie as tie
 
-pub in-one-batch-spec : {M : Type 1} → statement M
-in-one-batch-spec =
+pub in_one_batch_spec : {M : Type 1} → statement M
+in_one_batch_spec =
     tie.close (tie.spec (λ c κs. search needs) (λ c e. let z : ◌≡◌ {A = ℕ} 0 1 = cc in absurd (omega arith)) (λ c e. ltb-true _ _ e))

@@ -1,7 +1,7 @@
 -- `gcm::is_tag` meets its contract: the four words of the difference are all 0 exactly where the bytes are the expected tag
--- (`is-tag-words`).
+-- (`is_tag-words`).
 use Rattle.gcm.proofs.Names.{Fits, ◌<◌, ◌^◌, ◌≡◌, arith, below_each, get_or, length, needs, now, w32, ℕ}
-use Rattle.gcm.proofs.TagTest.{is-tag-words}
+use Rattle.gcm.proofs.TagTest.{is_tag-words}
 use Rattle.gcm.proofs.is_tag.Statement.{statement}
 use Rattle.gcm.proofs.is_tag.Tie as tie
 
@@ -15,17 +15,17 @@ returns c =
     let four : length e ≡ 4 = search (needs, S.well-formed.1.0) in
     let fits : (i : ℕ) → Fits w32 (get_or e i 0) = λ i. search (needs, S.well-formed.1.0) in
     let small : (i : ℕ) → get_or s i 0 < 256 = λ i. omega (arith, known.shared-slice-known.given i) in
-    is-tag-words s _ e _ S.requires (below_each 256 s small) at_split.split-block.ensures
+    is_tag-words s _ e _ S.requires (below_each 256 s small) at_split.split-block.ensures
     four (below_each (2 ^ 32) e (λ i. (fits i).fits)) c.block-xor.ensures
 
 small-words : (x : tie.After-block-xor) (i : ℕ) → Fits w32 (get_or x.block-xor.result i 0)
 small-words x i = search needs
 
-add-result-3 : tie.Need-overflow-add-result-3
-add-result-3 c = record { fits = omega (arith, (small-words c 0).fits, (small-words c 1).fits, (small-words c 2).fits, (small-words c 3).fits) }
+add-result_3 : tie.Need-overflow-add-result-3
+add-result_3 c = record { fits = omega (arith, (small-words c 0).fits, (small-words c 1).fits, (small-words c 2).fits, (small-words c 3).fits) }
 
-pub is-tag-spec : {M : Type 1} → statement M
-is-tag-spec = tie.close (tie.spec (λ c κs. search needs) (λ c κs. search needs) (λ c. search needs) (λ c. search needs) (λ c. search needs)
+pub is_tag_spec : {M : Type 1} → statement M
+is_tag_spec = tie.close (tie.spec (λ c κs. search needs) (λ c κs. search needs) (λ c. search needs) (λ c. search needs) (λ c. search needs)
     (λ c. search needs) (λ c. record { fits = omega (arith, (small-words c 0).fits, (small-words c 1).fits) }) (λ c. search needs)
     (λ c. search needs) (λ c. record { fits = omega (arith, (small-words c 0).fits, (small-words c 1).fits, (small-words c 2).fits) })
-    (λ c. search needs) (λ c. search needs) add-result-3 returns)
+    (λ c. search needs) (λ c. search needs) add-result_3 returns)

@@ -13,5 +13,5 @@ returns c =
     masked-words a.mask (now a.aad) (now a.text) _ _ (value a.h) _ four
     c.before.before.galois-hash.ensures c.before.from-u128.ensures c.block-xor.ensures
 
-pub masked-tag-spec : {M : Type 1} → statement M
-masked-tag-spec = tie.close (tie.spec (λ c κs. search needs) (λ c κs. search needs) (λ c κs. search needs) returns)
+pub masked_tag_spec : {M : Type 1} → statement M
+masked_tag_spec = tie.close (tie.spec (λ c κs. search needs) (λ c κs. search needs) (λ c κs. search needs) returns)

@@ -1,6 +1,6 @@
--- `gcm::nonce_counter` meets its contract: the three words of twelve bytes, and 1 behind them (`nonce-counter-words`).
+-- `gcm::nonce_counter` meets its contract: the three words of twelve bytes, and 1 behind them (`nonce_counter_words`).
 use Rattle.gcm.proofs.Names.{◌<◌, arith, below_each, get_or, needs, now, ℕ}
-use Rattle.gcm.proofs.InWords.{nonce-counter-words}
+use Rattle.gcm.proofs.InWords.{nonce_counter_words}
 use Rattle.gcm.proofs.nonce_counter.Statement.{statement}
 use Rattle.gcm.proofs.nonce_counter.Tie as tie
 
@@ -12,8 +12,8 @@ returns c =
     let S = at-iv.before in
     let iv = now S.args.iv in
     let small : (i : ℕ) → get_or iv i 0 < 256 = λ i. omega (arith, at-iv.shared-slice-known.given i) in
-    nonce-counter-words iv _ _ _ S.requires (below_each 256 iv small)
+    nonce_counter_words iv _ _ _ S.requires (below_each 256 iv small)
     at_first.word_at.ensures at_second.word-at2.ensures c.word-at3.ensures
 
-pub nonce-counter-spec : {M : Type 1} → statement M
-nonce-counter-spec = tie.close (tie.spec (λ c κs. search needs) (λ c κs. search needs) (λ c κs. search needs) returns)
+pub nonce_counter_spec : {M : Type 1} → statement M
+nonce_counter_spec = tie.close (tie.spec (λ c κs. search needs) (λ c κs. search needs) (λ c κs. search needs) returns)

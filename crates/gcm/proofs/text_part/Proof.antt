@@ -3,5 +3,5 @@ use Rattle.gcm.proofs.Names.{needs, sub-zero}
 use Rattle.gcm.proofs.text_part.Statement.{statement}
 use Rattle.gcm.proofs.text_part.Tie as tie
 
-pub text-part-spec : {M : Type 1} → statement M
-text-part-spec = tie.close (tie.spec (λ c. search needs) (λ c. search needs) (λ c. search needs) (λ c. search needs) (λ c. simp sub-zero))
+pub text_part_spec : {M : Type 1} → statement M
+text_part_spec = tie.close (tie.spec (λ c. search needs) (λ c. search needs) (λ c. search needs) (λ c. search needs) (λ c. simp sub-zero))

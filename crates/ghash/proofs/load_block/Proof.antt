@@ -4,6 +4,6 @@ use Rattle.ghash.proofs.Names.{needs, words}
 use Rattle.ghash.proofs.load_block.Statement.{statement}
 use Rattle.ghash.proofs.load_block.Tie as tie
 
-pub load-block-spec : {M : Type 1} → statement M
-load-block-spec = tie.close (tie.spec (λ c κs. search needs) (λ c. search needs) (λ c κs. search needs) (λ c κs. search needs)
+pub load_block_spec : {M : Type 1} → statement M
+load_block_spec = tie.close (tie.spec (λ c κs. search needs) (λ c. search needs) (λ c κs. search needs) (λ c κs. search needs)
     (λ c κs. search needs) (λ c κs. search needs) (λ c. unfold words in search needs))

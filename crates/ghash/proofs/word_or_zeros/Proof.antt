@@ -4,6 +4,6 @@ use Rattle.ghash.proofs.Names.{needs}
 use Rattle.ghash.proofs.word_or_zeros.Statement.{statement}
 use Rattle.ghash.proofs.word_or_zeros.Tie as tie
 
-pub word-or-zeros-spec : {M : Type 1} → statement M
-word-or-zeros-spec = tie.close (tie.spec (λ c κs. search needs) (λ c. search needs) (λ c κs. search needs) (λ c. search needs)
+pub word_or_zeros_spec : {M : Type 1} → statement M
+word_or_zeros_spec = tie.close (tie.spec (λ c κs. search needs) (λ c. search needs) (λ c κs. search needs) (λ c. search needs)
     (λ c κs. search needs) (λ c. search needs) (λ c κs. search needs) (λ c κs. search needs) (λ c. cc))

@@ -1,26 +1,26 @@
 -- `replay` meets its contract. The loop's invariant: replay from here, with the report so far, ends as replay of the whole journal does,
 -- and no count passes the place. The measure is how many bytes are to come.
-use Rattle.journal.proofs.Names.{List, Sm4Cipher, Within, ◌+◌, ◌<◌, ◌∙◌, ◌≡◌, ◌≤◌, ap, arith, keysIn, length, length-drop, needs}
-use Rattle.journal.proofs.Names.{nothing, now, numberOfEnd, replay, replayFrom, replayOne, sym, ℕ}
+use Rattle.journal.proofs.Names.{List, Sm4Cipher, Within, ◌+◌, ◌<◌, ◌∙◌, ◌≡◌, ◌≤◌, ap, arith, keys_in, length, length-drop, needs}
+use Rattle.journal.proofs.Names.{nothing, now, number_of_end, replay, replay_from, replay_one, sym, ℕ}
 use Rattle.journal.proofs.Standing.{stands, size-within, data-within}
 use Rattle.journal.proofs.KeyTurns.{few-keys}
 use Rattle.journal.proofs.Counting.{within-nothing}
-use Rattle.journal.proofs.Replaying.{Passes, passed, from_end, from-stop, turn-within, turn-from, from_start}
+use Rattle.journal.proofs.Replaying.{Passes, passed, from_end, from_stop, turn_within, turn_from, from_start}
 use Rattle.journal.proofs.replay.Statement.{statement}
 use Rattle.journal.proofs.replay.Tie as tie
 
-abbrev invariant-loop : tie.invariant-loop
-invariant-loop keys journal report₀ t₀ place₀ report t place =
+abbrev invariant_loop : tie.invariant_loop
+invariant_loop keys journal report₀ t₀ place₀ report t place =
     (keys.count ≤ 8)
     × (Within place report)
     × (place + length t ≡ length journal)
-    × (replayFrom (keysIn keys) t place report ≡ replay keys journal)
+    × (replay_from (keys_in keys) t place report ≡ replay keys journal)
 
-abbrev decreases-loop : tie.decreases-loop
-decreases-loop keys journal report₀ t₀ place₀ report t place = length t
+abbrev decreases_loop : tie.decreases_loop
+decreases_loop keys journal report₀ t₀ place₀ report t place = length t
 
-loop-holds : tie.Need-loop-init invariant-loop decreases-loop
-loop-holds c =
+loop_holds : tie.Need-loop-init invariant_loop decreases_loop
+loop_holds c =
     let n = c.before.before.nothing.ensures in
     let a = c.before.before.before.before.args in
     let good = sym c.before.bad.ensures ∙ c.if1.false in (
@@ -31,28 +31,28 @@ loop-holds c =
     )
 
 -- the record in front
-module _ (x : tie.After-number invariant-loop decreases-loop) where
-  abbrev at-loop : tie.At-loop invariant-loop decreases-loop
-  at-loop = x.before.before.before
+module _ (x : tie.After-number invariant_loop decreases_loop) where
+  abbrev at_loop : tie.At-loop invariant_loop decreases_loop
+  at_loop = x.before.before.before
 
   abbrev ks : List Sm4Cipher
-  ks = keysIn at-loop.before.before.before.before.before.args.keys
+  ks = keys_in at_loop.before.before.before.before.before.args.keys
 
   abbrev here : List ℕ
-  here = now at-loop.loop.t
+  here = now at_loop.loop.t
 
-  number_is : x.number.result ≡ numberOfEnd (replayOne ks here at-loop.loop.place at-loop.loop.report).ended
+  number_is : x.number.result ≡ number_of_end (replay_one ks here at_loop.loop.place at_loop.loop.report).ended
   number_is = cc
 
-returns-2 : tie.Need-returns-2 invariant-loop decreases-loop
-returns-2 c =
+returns_2 : tie.Need-returns-2 invariant_loop decreases_loop
+returns_2 c =
     let x = c.before in
-    x.before.replay-one.ensures ∙ sym (from-stop (ks x) (here x) _ _ (omega arith) (λ z. c.if2.true (number_is x ∙ z)))
-    ∙ (at-loop x).loop.invariant.3
+    x.before.replay-one.ensures ∙ sym (from_stop (ks x) (here x) _ _ (omega arith) (λ z. c.if2.true (number_is x ∙ z)))
+    ∙ (at_loop x).loop.invariant.3
 
 -- it was counted
-module _ (c : tie.After-measure invariant-loop decreases-loop) where
-  abbrev numbered : tie.After-number invariant-loop decreases-loop
+module _ (c : tie.After-measure invariant_loop decreases_loop) where
+  abbrev numbered : tie.After-number invariant_loop decreases_loop
   numbered = c.before.before.before
 
   passes : Passes (ks numbered) (here numbered)
@@ -63,26 +63,26 @@ module _ (c : tie.After-measure invariant-loop decreases-loop) where
       let s = stands (here numbered) passes.0 in
       omega (arith, data-within (here numbered) s, size-within (here numbered) s, c.measure.ensures)
 
-loop-again : tie.Need-loop-preserved invariant-loop decreases-loop
-loop-again c =
+loop_again : tie.Need-loop-preserved invariant_loop decreases_loop
+loop_again c =
     let m = c.before in
     let x = numbered m in
-    let l = (at-loop x).loop in
+    let l = (at_loop x).loop in
     let next = c.skip.ensures in
     let told = x.before.replay-one.ensures in (
       l.inv.0,
-      turn-within (ks x) (here x) l.place l.report _ _ m.measure.ensures told (passes m) l.inv.1,
+      turn_within (ks x) (here x) l.place l.report _ _ m.measure.ensures told (passes m) l.inv.1,
       omega (arith, size m, ap length next, length-drop m.measure.result (here x), l.inv.2),
-      rw next (turn-from (ks x) (here x) l.place l.report _ _ m.measure.ensures told (passes m) ∙ l.inv.3),
+      rw next (turn_from (ks x) (here x) l.place l.report _ _ m.measure.ensures told (passes m) ∙ l.inv.3),
     )
 
-pub replay-spec : {M : Type 1} → statement M
-replay-spec =
-    tie.close (tie.spec invariant-loop decreases-loop (λ c κs. search needs) (λ c κs. search needs)
-    (λ c. unfold replay in rw (sym c.before.bad.ensures ∙ c.if1.true, c.before.before.nothing.ensures)) loop-holds
-    (λ c κs. let inv = c.before.loop.invariant in (inv.0, (inv.1, omega (arith, inv.2)))) (λ c κs. search needs) returns-2
+pub replay_spec : {M : Type 1} → statement M
+replay_spec =
+    tie.close (tie.spec invariant_loop decreases_loop (λ c κs. search needs) (λ c κs. search needs)
+    (λ c. unfold replay in rw (sym c.before.bad.ensures ∙ c.if1.true, c.before.before.nothing.ensures)) loop_holds
+    (λ c κs. let inv = c.before.loop.invariant in (inv.0, (inv.1, omega (arith, inv.2)))) (λ c κs. search needs) returns_2
     (λ c κs. search needs) (λ c κs. (size c).1)
-    (λ c. omega (arith, size c.before, (at-loop (numbered c.before)).loop.inv.2))
+    (λ c. omega (arith, size c.before, (at_loop (numbered c.before)).loop.inv.2))
     (λ c. let m = c.before in omega (arith, size m, ap length c.skip.ensures, length-drop m.measure.result (here (numbered m))))
-    loop-again
+    loop_again
     (λ c. let l = c.before.loop in sym (from_end _ (now l.t) l.place l.report (omega arith)) ∙ l.invariant.3))

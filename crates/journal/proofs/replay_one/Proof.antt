@@ -1,15 +1,15 @@
 -- `replay_one` meets its contract: each return is the definition, by the tests that led there.
-use Rattle.journal.proofs.Names.{BadRecord, List, Sm4Cipher, TooLong, UnknownKey, ◌∙◌, ◌≡◌, false, front, hasNumber, keysIn, le-ltb}
-use Rattle.journal.proofs.Names.{lt-ltb, ltb, needs, now, place_of, startsRecord, sym, tooLong, true}
+use Rattle.journal.proofs.Names.{BadRecord, List, Sm4Cipher, TooLong, UnknownKey, ◌∙◌, ◌≡◌, false, front, has_number, keys_in, le-ltb}
+use Rattle.journal.proofs.Names.{lt-ltb, ltb, needs, now, place_of, starts_record, sym, too_long, true}
 use Rattle.journal.proofs.Standing.{stands, size-zero, size-some}
 use Rattle.journal.proofs.Replaying.{refuses, counts}
 use Rattle.journal.proofs.replay_one.Statement.{statement}
 use Rattle.journal.proofs.replay_one.Tie as tie
 
-starts : (x : tie.Else1) → startsRecord (now x.before.before.before.args.s) ≡ true
+starts : (x : tie.Else1) → starts_record (now x.before.before.before.args.s) ≡ true
 starts x = size-some _ (λ z. x.if1.false (x.before.measure.ensures ∙ z))
 
-short : (x : tie.Else2) → tooLong (front (now x.before.before.before.before.before.args.s)) ≡ false
+short : (x : tie.Else2) → too_long (front (now x.before.before.before.before.before.args.s)) ≡ false
 short x = sym x.before.too_long.ensures ∙ x.if2.false
 
 -- the key that is sought
@@ -18,18 +18,18 @@ module _ (x : tie.After-find) where
   start = x.before.before.before.before.before.before.before
 
   abbrev ks : List Sm4Cipher
-  ks = keysIn start.args.keys
+  ks = keys_in start.args.keys
 
   place_is : x.find.result ≡ place_of (front (now start.args.s)).key ks
   unfolding front
   place_is = cc
 
-  has : hasNumber (front (now start.args.s)).key ks ≡ ltb x.find.result start.args.keys.count
+  has : has_number (front (now start.args.s)).key ks ≡ ltb x.find.result start.args.keys.count
   unfolding front
   has = cc
 
-pub replay-one-spec : {M : Type 1} → statement M
-replay-one-spec =
+pub replay_one_spec : {M : Type 1} → statement M
+replay_one_spec =
     tie.close (tie.spec (λ c κs. search needs)
     (λ c. sym (refuses _ _ _ _ BadRecord (size-zero _ (sym c.before.measure.ensures ∙ c.if1.true))).0)
     (λ c κs. stands _ (starts c))

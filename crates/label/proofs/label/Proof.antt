@@ -10,6 +10,6 @@ returns : tie.Need-returns
 unfolding label_of bytes_of
 returns c = rw (c.before.split.ensures, c.split2.ensures)
 
-pub label-spec : {M : Type 1} → statement M
-label-spec = tie.close (tie.spec (λ c κs. search needs) (λ c κs. search needs) (λ c. search needs) (λ c. search needs) (λ c. search needs)
+pub label_spec : {M : Type 1} → statement M
+label_spec = tie.close (tie.spec (λ c κs. search needs) (λ c κs. search needs) (λ c. search needs) (λ c. search needs) (λ c. search needs)
     (λ c. search needs) (λ c. search needs) (λ c. search needs) returns)

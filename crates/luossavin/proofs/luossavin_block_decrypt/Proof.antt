@@ -1,16 +1,16 @@
 -- `luossavin::luossavin_block_decrypt` meets its contract: it reports the call on the host's record.
-use Rattle.luossavin.specs.Host.{hostBlockCall}
+use Rattle.luossavin.specs.Host.{host_block_call}
 use Rattle.luossavin.proofs.Steps.{told}
 use Rattle.block.proofs.Base.{needs}
 use Rattle.luossavin.proofs.luossavin_block_decrypt.Statement.{statement}
 use Rattle.luossavin.proofs.luossavin_block_decrypt.Tie as tie
 
 returns : tie.Need-returns
-unfolding hostBlockCall
+unfolding host_block_call
 returns c =
     let at_call = c.before.before.before in
     told c.report.ensures (rw (← at_call.before.before.cipher-of.ensures) at_call.call.ensures)
 
-pub luossavin-block-decrypt-spec : {M : Type 1} → statement M
-luossavin-block-decrypt-spec =
+pub luossavin_block_decrypt_spec : {M : Type 1} → statement M
+luossavin_block_decrypt_spec =
     tie.close (tie.spec (λ c κs. search needs) (λ c κs. search needs) (λ c κs. search needs) (λ c. search needs) returns)

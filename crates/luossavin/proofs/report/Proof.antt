@@ -5,8 +5,8 @@ use Rattle.block.proofs.Base.{needs}
 use Rattle.luossavin.proofs.report.Statement.{statement}
 use Rattle.luossavin.proofs.report.Tie as tie
 
-pub report-spec : {M : Type 1} → statement M
-report-spec =
+pub report_spec : {M : Type 1} → statement M
+report_spec =
     tie.close (tie.spec (λ c. search needs) (λ c. search needs) (λ c. search needs) (λ c κs. search needs) (λ c κs. search needs)
     (λ c. rw (c.before.ending.given.1, mark-byte c.before.before.before.before.args.answer.came_round))
     (λ c.

@@ -15,9 +15,9 @@ load_spec = tie.close (tie.spec
     (λ c. search (needs, no_rows)) (λ c. search needs) (λ c. search needs) (λ c. search needs) (λ c. search needs) (λ c κs. search needs)
     (λ c κs. search needs) (λ c. search needs) (λ c. search needs)
     (λ c.
-    let at-loop = c.before.before.before.before.before.before in
-    let l = at-loop.loop in
-    let S = at-loop.before.before in
+    let at_loop = c.before.before.before.before.before.before in
+    let l = at_loop.loop in
+    let S = at_loop.before.before in
     let src = S.args.src.now in
     let d = drop (16 * l.i) src in
     let k : length d ≤ length src - 16 * l.i = omega (arith, length-drop (16 * l.i) src) in

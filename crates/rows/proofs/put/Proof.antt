@@ -1,9 +1,9 @@
 -- `rows::put` meets its contract: what is stored at the block's place are the halves of its words, and no other block has that place
--- (`one-more-row`).
+-- (`one_more_row`).
 use Rattle.block.proofs.Base.{ℕ, ◌≡◌, arith, needs, get_or, length, w32, Fits}
 use Rattle.block.proofs.Entries.{below_each}
 use Rattle.lanes.proofs.Needs.{next8}
-use Rattle.rows.proofs.Standing.{one-more-row}
+use Rattle.rows.proofs.Standing.{one_more_row}
 use Rattle.rows.proofs.put.Statement.{statement}
 use Rattle.rows.proofs.put.Tie as tie
 
@@ -18,7 +18,7 @@ put_spec = tie.close (next8 tie.spec (omega arith)
     let n : length x ≡ 4 = search needs in
     let p = c.before.before.place_of in (
       λ f R e.
-          one-more-row f a.a.now a.b.now a.i p.result _ _ S.requires.0 p.ensures R
+          one_more_row f a.a.now a.b.now a.i p.result _ _ S.requires.0 p.ensures R
           (rw e (record { four = n; small = below_each _ x (λ i. (w i).fits); high = c.before.half.ensures; low = c.half2.ensures })),
       search needs,
     )))

@@ -5,8 +5,8 @@ use Rattle.rows.proofs.Storing.{half-stored}
 use Rattle.rows.proofs.put_half.Statement.{statement}
 use Rattle.rows.proofs.put_half.Tie as tie
 
-pub put-half-spec : {M : Type 1} → statement M
-put-half-spec = tie.close (tie.spec
+pub put_half_spec : {M : Type 1} → statement M
+put_half_spec = tie.close (tie.spec
     (λ c. search needs) (λ c. search needs) (λ c. search needs) (λ c. search needs) (λ c. simp length-set (omega arith))
     (λ c. search needs) (λ c. search needs) (λ c. simp length-set (omega arith)) (λ c. search needs) (λ c. search needs)
     (λ c. simp length-set (omega arith)) (λ c. search needs) (λ c. search needs) (λ c. simp length-set (omega arith)) (λ c. search needs)

@@ -7,13 +7,13 @@ use Rattle.block.specs.Words.{words}
 use Rattle.block.proofs.Entries.{below_each}
 use Rattle.lanes.proofs.Needs.{next16}
 use Rattle.rows.specs.Rows.{Row}
-use Rattle.rows.proofs.Storing.{xoredRow, length-xoredRow, xored-row, block-stored, all-stored}
+use Rattle.rows.proofs.Storing.{xored_row, length_xored_row, xored-row, block-stored, all_stored}
 use Rattle.rows.proofs.store_xored.Statement.{statement}
 use Rattle.rows.proofs.store_xored.Tie as tie
 
-pub store-xored-spec : {M : Type 1} → statement M
-store-xored-spec = tie.close (next16 (tie.spec
-    (λ a b m d out₀ i₀ out i. (i ≤ m) × (length out ≡ length out₀) × (out ≡ cat i (xoredRow a b d) ++ drop (16 * i) out₀))
+pub store_xored_spec : {M : Type 1} → statement M
+store_xored_spec = tie.close (next16 (tie.spec
+    (λ a b m d out₀ i₀ out i. (i ≤ m) × (length out ≡ length out₀) × (out ≡ cat i (xored_row a b d) ++ drop (16 * i) out₀))
     (λ a b m d out₀ i₀ out i. m - i) (λ c. unfold cat in search needs)) (omega arith) (λ c. search needs) (λ c κs. search needs)
     (λ c. search needs) (λ c. search needs) (λ c κs. search needs) (λ c. search needs) (λ c. search needs)
     (λ c.
@@ -21,9 +21,9 @@ store-xored-spec = tie.close (next16 (tie.spec
     let at_first = at_second.before.before.before.before.before.before in
     let at_place = at_first.before.before.before.before in
     let at_split = at_place.before in
-    let at-loop = at_split.before.before.before in
-    let l = at-loop.loop in
-    let a = at-loop.before.before.before.args in
+    let at_loop = at_split.before.before.before in
+    let l = at_loop.loop in
+    let a = at_loop.before.before.before.args in
     let p = at_place.place_of in
     let x = at_split.split-block.result in
     let high = at_first.before.before.half in
@@ -31,7 +31,7 @@ store-xored-spec = tie.close (next16 (tie.spec
     let from = a.with.now in
     let d = drop (16 * l.i) from in
     let n = length-drop (16 * l.i) from in
-    let known : (i : ℕ) → Fits w8 (get_or from i 0) = λ i. at-loop.before.before.shared-slice-known.given i in
+    let known : (i : ℕ) → Fits w8 (get_or from i 0) = λ i. at_loop.before.before.shared-slice-known.given i in
     let w : (i : ℕ) → Fits w32 (get_or x i 0) = λ i. search needs in
     let e : x ≡ words d = at_split.split-block.ensures ∙ ap words (take_all (length from - 16 * l.i) d (omega arith)) in
     let r : Row x high.result low.result =
@@ -41,8 +41,8 @@ store-xored-spec = tie.close (next16 (tie.spec
     (below_each 256 from (λ i. (known i).fits)) p.ensures (rw e at r) in
     let stored =
     block-stored a.out.now l.out at_first.put-half.new.0 at_second.put-half2.new.0 _ _
-    (xoredRow a.a.now a.b.now from) l.i
-    (λ i h. length-xoredRow from a.m at-loop.before.before.before.requires.0.1 a.a.now a.b.now i (omega arith))
+    (xored_row a.a.now a.b.now from) l.i
+    (λ i h. length_xored_row from a.m at_loop.before.before.before.requires.0.1 a.a.now a.b.now i (omega arith))
     xored l.invariant.2 at_first.put-half.ensures at_second.put-half2.ensures in
     (omega arith, search needs, stored))
     (λ c. search needs)
@@ -52,5 +52,5 @@ store-xored-spec = tie.close (next16 (tie.spec
     let a = S.args in
     let e : l.i ≡ a.m = omega arith in
     λ f R.
-    all-stored a.with.now a.m S.requires.0.1 a.a.now a.b.now a.out.now l.out f R
+    all_stored a.with.now a.m S.requires.0.1 a.a.now a.b.now a.out.now l.out f R
     (rw e at l.invariant.2)))

@@ -5,6 +5,6 @@ use Rattle.rows.proofs.Six.{six, all_small}
 use Rattle.rows.proofs.transpose.Statement.{statement}
 use Rattle.rows.proofs.transpose.Tie as tie
 
-pub transpose-spec : {M : Type 1} → statement M
-transpose-spec = tie.close (tie.spec (λ c κs. search needs) (λ c κs. search needs) (λ c κs. search needs) (λ c κs. search needs)
+pub transpose_spec : {M : Type 1} → statement M
+transpose_spec = tie.close (tie.spec (λ c κs. search needs) (λ c κs. search needs) (λ c κs. search needs) (λ c κs. search needs)
     (λ c κs. search needs) (λ c κs. search needs) (λ c. search (needs, six, all_small)))

@@ -4,12 +4,12 @@ use Rattle.std.proofs.Common.{◌-◌, length, rules}
 use Rattle.rust_answers.proofs.untouched.Statement.{statement}
 use Rattle.rust_answers.proofs.untouched.Tie as tie
 
-abbrev invariant-loop : tie.invariant-loop
-invariant-loop out at i₀ i = Unit {0}
+abbrev invariant_loop : tie.invariant_loop
+invariant_loop out at i₀ i = Unit {0}
 
-abbrev decreases-loop : tie.decreases-loop
-decreases-loop out at i₀ i = length out - i
+abbrev decreases_loop : tie.decreases_loop
+decreases_loop out at i₀ i = length out - i
 
-pub untouched-spec : {M : Type 1} → statement M
-untouched-spec = tie.close (tie.spec invariant-loop decreases-loop (λ c. search rules) (λ c. search rules) (λ c. search rules) (λ c. search rules)
+pub untouched_spec : {M : Type 1} → statement M
+untouched_spec = tie.close (tie.spec invariant_loop decreases_loop (λ c. search rules) (λ c. search rules) (λ c. search rules) (λ c. search rules)
     (λ c. search rules) (λ c. search rules) (λ c. search rules))

@@ -1,19 +1,19 @@
 -- `shelf::find` meets its contract: each return is the definition, by the tests that led there.
-use Rattle.shelf.proofs.Names.{◌∙◌, ◌≡◌, arith, badShelf, false, findCall, lt-ltb, needs, now, sym}
+use Rattle.shelf.proofs.Names.{◌∙◌, ◌≡◌, arith, bad_shelf, false, find_call, lt-ltb, needs, now, sym}
 use Rattle.shelf.proofs.Sound.{in_order}
-use Rattle.shelf.proofs.Walks.{has-told}
+use Rattle.shelf.proofs.Walks.{has_told}
 use Rattle.shelf.proofs.find.Statement.{statement}
 use Rattle.shelf.proofs.find.Tie as tie
 
-good : (x : tie.Else1) → let a = x.before.before.before.args in badShelf (now a.shelf) a.used ≡ false
+good : (x : tie.Else1) → let a = x.before.before.before.args in bad_shelf (now a.shelf) a.used ≡ false
 good x = sym x.before.bad.ensures ∙ x.if1.false
 
 pub find_spec : {M : Type 1} → statement M
 find_spec =
-    tie.close (tie.spec (λ c κs. search needs) (λ c. unfold findCall in rw (sym c.before.bad.ensures ∙ c.if1.true))
+    tie.close (tie.spec (λ c κs. search needs) (λ c. unfold find_call in rw (sym c.before.bad.ensures ∙ c.if1.true))
     (λ c κs. (in_order _ _ (good c)).within)
-    (λ c. let s = c.before.before in unfold findCall in rw (good s.before, has-told s.survey.ensures, c.if2.true))
+    (λ c. let s = c.before.before in unfold find_call in rw (good s.before, has_told s.survey.ensures, c.if2.true))
     (λ c.
     let s = c.before.before in
     let told = s.survey.ensures in
-    unfold findCall in rw (good s.before, has-told told, lt-ltb 0 s.survey.result.length (omega arith), told.start, told.size)))
+    unfold find_call in rw (good s.before, has_told told, lt-ltb 0 s.survey.result.length (omega arith), told.start, told.size)))

@@ -3,9 +3,9 @@ use Rattle.shelf.proofs.Names.{◌+◌, ◌-◌, ◌≡◌, arith, le-ltb, lengt
 use Rattle.shelf.proofs.part.Statement.{statement}
 use Rattle.shelf.proofs.part.Tie as tie
 
-pub part-spec : {M : Type 1} → statement M
+pub part_spec : {M : Type 1} → statement M
 unfolding part_of
-part-spec =
+part_spec =
     tie.close (tie.spec (λ c. search needs) (λ c. search needs) (λ c. search needs)
     (λ c. let a = c.before.before.args in rw (lt-ltb (length (now a.shelf)) (a.found.start + a.found.length) (omega arith)))
     (λ c. search needs) (λ c. search needs) (λ c. search needs) (λ c. search needs)

@@ -5,17 +5,17 @@ use Rattle.sliced.proofs.Names.{needs, next8, rounds, rounds-front, ℕ}
 use Rattle.sliced.proofs.all_rounds.Statement.{statement}
 use Rattle.sliced.proofs.all_rounds.Tie as tie
 
-pub all-rounds-spec : {M : Type 1} → statement M
-all-rounds-spec = tie.close (next8 (tie.spec
+pub all_rounds_spec : {M : Type 1} → statement M
+all_rounds_spec = tie.close (next8 (tie.spec
     (λ a₀ b₀ c₀ d₀ s₀ n rk i₀ a b c d s i.
     (i ≤ 32) × (i % 4 ≡ 0) × Planes a b c d s
     × ((e : ℕ) → e < 512 → e % 8 < n → rounds (drop i rk) (lanes a b c d e) ≡ rounds rk (lanes a₀ b₀ c₀ d₀ e)))
     (λ a₀ b₀ c₀ d₀ s₀ n rk i₀ a b c d s i. 32 - i) (λ c. search needs)) (omega arith) (λ c. search needs) (λ c. search needs)
     (λ c. search needs) (λ c κs. search needs) (λ c. search needs) (λ c. search needs)
     (λ c.
-    let at-loop = c.before.before.before.before.before.before.before in
-    let l = at-loop.loop in
-    let rk = at-loop.before.args.t6 in
+    let at_loop = c.before.before.before.before.before.before.before in
+    let l = at_loop.loop in
+    let rk = at_loop.before.args.t6 in
     let n : length rk ≡ 32 = search needs in
     let r = c.four.ensures in (
       omega arith,

@@ -1,11 +1,11 @@
--- `sliced::encrypt` meets its contract: the rows stand in lanes (`rows-in-lanes`), and the rounds work on these.
+-- `sliced::encrypt` meets its contract: the rows stand in lanes (`rows_in_lanes`), and the rounds work on these.
 use Rattle.sliced.proofs.Names.{arith, needs}
-use Rattle.sliced.proofs.Halves.{rows-in-lanes}
+use Rattle.sliced.proofs.Halves.{rows_in_lanes}
 use Rattle.sliced.proofs.encrypt.Statement.{statement}
 use Rattle.sliced.proofs.encrypt.Tie as tie
 
-pub encrypt-spec : {M : Type 1} → statement M
-encrypt-spec = tie.close (tie.spec
+pub encrypt_spec : {M : Type 1} → statement M
+encrypt_spec = tie.close (tie.spec
     (λ c κs. search needs) (λ c κs. search needs) (λ c κs. search needs)
     (λ c.
     let R = c.rounds-to-rows in
@@ -16,6 +16,6 @@ encrypt-spec = tie.close (tie.spec
     let a = at_first.before.before.before.before.args in (
       λ m f h G.
           R.ensures.0 m f h
-          (rows-in-lanes a.a.now a.b.now _ _ _ _ E.ensures.0 F.ensures.0 m f (omega arith) G),
+          (rows_in_lanes a.a.now a.b.now _ _ _ _ E.ensures.0 F.ensures.0 m f (omega arith) G),
       R.ensures.1,
     )))

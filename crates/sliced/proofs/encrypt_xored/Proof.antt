@@ -1,12 +1,12 @@
 -- `sliced::encrypt_xored` meets its contract: the rows that are loaded are the words of the blocks, those that are stored their ciphers.
-use Rattle.sliced.proofs.Names.{arith, encryptBlock, needs}
+use Rattle.sliced.proofs.Names.{arith, encrypt_block, needs}
 use Rattle.sliced.proofs.encrypt_xored.Statement.{statement}
 use Rattle.sliced.proofs.encrypt_xored.Tie as tie
 
-pub encrypt-xored-spec : {M : Type 1} → statement M
-encrypt-xored-spec = tie.close (tie.spec
+pub encrypt_xored_spec : {M : Type 1} → statement M
+encrypt_xored_spec = tie.close (tie.spec
     (λ c κs. search needs) (λ c κs. search needs) (λ c κs. search needs) (λ c κs. search needs) (λ c. search needs)
-    (λ c. unfold encryptBlock in
+    (λ c. unfold encrypt_block in
     let at_store = c.before.before in
     let at-encrypt = at_store.before.before.before.before in
     let at_load = at-encrypt.before.before.before.before in

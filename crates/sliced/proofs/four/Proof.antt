@@ -5,8 +5,8 @@ use Rattle.sliced.proofs.Mixing.{four-done}
 use Rattle.sliced.proofs.four.Statement.{statement}
 use Rattle.sliced.proofs.four.Tie as tie
 
-pub four-spec : {M : Type 1} → statement M
-four-spec = tie.close (tie.spec
+pub four_spec : {M : Type 1} → statement M
+four_spec = tie.close (tie.spec
     (λ c κs. search needs) (λ c κs. search needs) (λ c κs. search needs)
     (λ c κs.
     let at_second = c.before.before.before.before.before.before.before.before.before.before.before in

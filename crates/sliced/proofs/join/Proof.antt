@@ -5,8 +5,8 @@ use Rattle.sliced.proofs.Halves.{joined-next}
 use Rattle.sliced.proofs.join.Statement.{statement}
 use Rattle.sliced.proofs.join.Tie as tie
 
-pub join-spec : {M : Type 1} → statement M
-join-spec = tie.close (next8 (tie.spec
+pub join_spec : {M : Type 1} → statement M
+join_spec = tie.close (next8 (tie.spec
     (λ upper lower a₀ i₀ a i. (i ≤ 256) × (length a ≡ 512) × Parted i a upper lower) (λ upper lower a₀ i₀ a i. 256 - i)
     (λ c. search needs)) (omega arith) (λ c. search needs) (λ c. search needs) (λ c. search needs)
     (λ c. search (needs, joined-next))

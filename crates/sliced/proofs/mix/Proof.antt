@@ -5,8 +5,8 @@ use Rattle.sliced.proofs.Mixing.{Mixed, mixed-next}
 use Rattle.sliced.proofs.mix.Statement.{statement}
 use Rattle.sliced.proofs.mix.Tie as tie
 
-pub mix-spec : {M : Type 1} → statement M
-mix-spec = tie.close (next16 (tie.spec
+pub mix_spec : {M : Type 1} → statement M
+mix_spec = tie.close (next16 (tie.spec
     (λ a₀ s i₀ a i. (i ≤ 256) × (length a ≡ 256) × ((f : ℕ → ℕ) (n : ℕ) → ((e : ℕ) → f e < 2 ^ 32) → Held f n 512 s → Mixed f n a₀ i a))
     (λ a₀ s i₀ a i. 256 - i) (λ c. search needs)) (omega arith) (λ c. search needs) (λ c. search needs) (λ c. search needs)
     (λ c. search needs) (λ c. search needs)

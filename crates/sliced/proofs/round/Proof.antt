@@ -5,8 +5,8 @@ use Rattle.sliced.proofs.Mixing.{round-done}
 use Rattle.sliced.proofs.round.Statement.{statement}
 use Rattle.sliced.proofs.round.Tie as tie
 
-pub round-spec : {M : Type 1} → statement M
-round-spec = tie.close (tie.spec
+pub round_spec : {M : Type 1} → statement M
+round_spec = tie.close (tie.spec
     (λ a b c d s₀ k n q₀ s q. (q ≤ 4) × (length s ≡ 512) × Held (subbed b c d k) n (64 * q) s) (λ a b c d s₀ k n q₀ s q. 4 - q)
     (λ c. search needs) (λ c κs. search needs) (λ c. search needs) (λ c. search needs)
     (λ c.

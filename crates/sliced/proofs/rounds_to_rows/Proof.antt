@@ -1,12 +1,12 @@
 -- `sliced::rounds_to_rows` meets its contract: the rounds work in every lane, and the lanes go back into halves, the last word first
--- (`rows-encrypted`).
+-- (`rows_encrypted`).
 use Rattle.sliced.proofs.Names.{needs}
-use Rattle.sliced.proofs.Halves.{rows-encrypted}
+use Rattle.sliced.proofs.Halves.{rows_encrypted}
 use Rattle.sliced.proofs.rounds_to_rows.Statement.{statement}
 use Rattle.sliced.proofs.rounds_to_rows.Tie as tie
 
-pub rounds-to-rows-spec : {M : Type 1} → statement M
-rounds-to-rows-spec = tie.close (tie.spec
+pub rounds_to_rows_spec : {M : Type 1} → statement M
+rounds_to_rows_spec = tie.close (tie.spec
     (λ c κs. search needs) (λ c κs. search needs) (λ c κs. search needs)
     (λ c.
     let B = c.leave2 in
@@ -16,7 +16,7 @@ rounds-to-rows-spec = tie.close (tie.spec
     let R = at-rounds.all-rounds in
     let S = at-rounds.before.before.before.before.before.before in
     let a = S.args in (
-      rows-encrypted a.rk _ _ a.x0.now a.x1.now a.x2.now a.x3.now _ _ _ _ a.n S.requires.0.0
+      rows_encrypted a.rk _ _ a.x0.now a.x1.now a.x2.now a.x3.now _ _ _ _ a.n S.requires.0.0
           A.ensures.0 B.ensures.0 A.ensures.1.1 B.ensures.1.1 R.ensures.0 A.ensures.1.0 B.ensures.1.0,
-      record { size-a = A.ensures.1.0; size-b = B.ensures.1.0 },
+      record { size_a = A.ensures.1.0; size_b = B.ensures.1.0 },
     )))

@@ -4,6 +4,6 @@ use Rattle.stream.proofs.Ahead.{untrue}
 use Rattle.stream.proofs.pad_needed.Statement.{statement}
 use Rattle.stream.proofs.pad_needed.Tie as tie
 
-pub pad-needed-spec : {M : Type 1} → statement M
-pad-needed-spec = tie.close (tie.spec (λ c. (λ e. refl, λ e. untrue (sym e))) (λ c. (λ e. refl, λ e. untrue (sym e)))
+pub pad_needed_spec : {M : Type 1} → statement M
+pad_needed_spec = tie.close (tie.spec (λ c. (λ e. refl, λ e. untrue (sym e))) (λ c. (λ e. refl, λ e. untrue (sym e)))
     (λ c. (λ e. untrue (sym c.before.if1.false ∙ e), λ e. omega arith)))

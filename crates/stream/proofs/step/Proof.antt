@@ -1,6 +1,6 @@
 -- `stream::step` meets its contract. The words that are ciphered, read and xored are those of sixteen bytes (`unwords-front`,
 -- `encrypt-unwords`, `front-xored`), so what is written and the next state are the definition's.
-use Rattle.stream.proofs.Names.{Fits, ◌<◌, ◌^◌, ◌∙◌, ◌≡◌, arith, below_each, encrypt-four, encrypt-unwords, encryptWords}
+use Rattle.stream.proofs.Names.{Fits, ◌<◌, ◌^◌, ◌∙◌, ◌≡◌, arith, below_each, encrypt-four, encrypt-unwords, encrypt_words}
 use Rattle.stream.proofs.Names.{front-xored, get_or, length, needs, now, unwords-front, w32, ℕ}
 use Rattle.stream.proofs.step.Statement.{statement}
 use Rattle.stream.proofs.step.Tie as tie
@@ -22,7 +22,7 @@ returns c =
     let bytes = below_each 256 d small in
     let read = unwords-front d S.requires.1.0 bytes in
     let ciphered = encrypt-unwords a.rk a.s four (below_each (2 ^ 32) a.s (λ i. (fits i).fits)) in
-    let xored = rw ciphered at (front-xored d (encryptWords a.rk a.s) S.requires.1.0 bytes (encrypt-four a.rk a.s)) in
+    let xored = rw ciphered at (front-xored d (encrypt_words a.rk a.s) S.requires.1.0 bytes (encrypt-four a.rk a.s)) in
     let x = at-xor.block-xor.ensures in
     let b = at_split.split-block.ensures in
     let e = at-encrypt.encrypt.ensures in

@@ -10,6 +10,6 @@ returns c =
     let a = at-run.before.before.before.before.before.args in
     onward a.kind a.rk at-run.run.ensures _ _ _ _ c.before.before.finish.ensures
 
-pub stream-spec : {M : Type 1} → statement M
-stream-spec = tie.close (tie.spec (λ c κs. search needs) (λ c. omega arith) (λ c. omega arith) (λ c. omega arith) (λ c. omega arith)
+pub stream_spec : {M : Type 1} → statement M
+stream_spec = tie.close (tie.spec (λ c κs. search needs) (λ c. omega arith) (λ c. omega arith) (λ c. omega arith) (λ c. omega arith)
     (λ c. omega arith) (λ c. omega arith) (λ c κs. (search needs, omega arith)) (λ c. omega arith) returns)

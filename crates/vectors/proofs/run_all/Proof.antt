@@ -4,13 +4,13 @@ use Rattle.block.proofs.Base.{◌-◌, ◌≤◌, needs}
 use Rattle.vectors.proofs.run_all.Statement.{statement}
 use Rattle.vectors.proofs.run_all.Tie as tie
 
-abbrev invariant-loop : tie.invariant-loop
-invariant-loop bytes t at₀ all₀ differ₀ at all differ = differ ≤ all
+abbrev invariant_loop : tie.invariant_loop
+invariant_loop bytes t at₀ all₀ differ₀ at all differ = differ ≤ all
 
-abbrev decreases-loop : tie.decreases-loop
-decreases-loop bytes t at₀ all₀ differ₀ at all differ = 1000 - all
+abbrev decreases_loop : tie.decreases_loop
+decreases_loop bytes t at₀ all₀ differ₀ at all differ = 1000 - all
 
-pub run-all-spec : {M : Type 1} → statement M
-run-all-spec = tie.close (tie.spec invariant-loop decreases-loop (λ c κs. search needs) (λ c. search needs) (λ c κs. search needs) (λ c. search needs)
+pub run_all_spec : {M : Type 1} → statement M
+run_all_spec = tie.close (tie.spec invariant_loop decreases_loop (λ c κs. search needs) (λ c. search needs) (λ c κs. search needs) (λ c. search needs)
     (λ c. search needs) (λ c κs. search needs) (λ c κs. search needs) (λ c. search needs) (λ c κs. search needs) (λ c. search needs)
     (λ c. search needs) (λ c. search needs))

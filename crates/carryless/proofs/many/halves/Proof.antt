@@ -6,8 +6,8 @@ use Rattle.lanes.proofs.Filling.{each_next}
 use Rattle.carryless.proofs.many.halves.Statement.{statement}
 use Rattle.carryless.proofs.many.halves.Tie as tie
 
-pub halves-spec : {M : Type 1} → statement M
-halves-spec = tie.close (next8 (tie.spec
+pub halves_spec : {M : Type 1} → statement M
+halves_spec = tie.close (next8 (tie.spec
     (λ x k n r₀ g₀ r g. (g ≤ n) × (length r ≡ 16) × Each (λ i. get_or x i 0 / 2 ^ k % 2 ^ 32) g r) (λ x k n r₀ g₀ r g. n - g)
     (λ c. search needs)) (omega arith)
     (λ c. let l = c.before.before.loop in (omega arith, search needs, each_next _ l.g _ l.r (omega arith) refl l.invariant.2))

@@ -7,8 +7,8 @@ use Rattle.carryless.proofs.Filling.{both-next}
 use Rattle.carryless.proofs.many.join_each.Statement.{statement}
 use Rattle.carryless.proofs.many.join_each.Tie as tie
 
-pub join-each-spec : {M : Type 1} → statement M
-join-each-spec = tie.close (next8 (tie.spec
+pub join_each_spec : {M : Type 1} → statement M
+join_each_spec = tie.close (next8 (tie.spec
     (λ p q r n high₀ low₀ g₀ high low g.
     (g ≤ n) × (length high ≡ 16) × (length low ≡ 16) × Both (λ i. joining (get_or p i 0) (get_or q i 0) (get_or r i 0)) g high low)
     (λ p q r n high₀ low₀ g₀ high low g. n - g) (λ c. search needs)) (omega arith) (λ c. search needs) (λ c. search needs)

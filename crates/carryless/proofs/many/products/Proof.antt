@@ -8,8 +8,8 @@ use Rattle.lanes.proofs.Filling.{each_next}
 use Rattle.carryless.proofs.many.products.Statement.{statement}
 use Rattle.carryless.proofs.many.products.Tie as tie
 
-pub products-spec : {M : Type 1} → statement M
-products-spec = tie.close (next8 (tie.spec
+pub products_spec : {M : Type 1} → statement M
+products_spec = tie.close (next8 (tie.spec
     (λ x y m at n p q r s z₀ g₀ z g. (g ≤ n) × (length z ≡ 16) × Quarters y p q r s × Each (λ i. clmul 32 (get_or x i 0) y) g z)
     (λ x y m at n p q r s z₀ g₀ z g. n - g)) (omega arith) (λ c. search needs) (λ c. search needs) (λ c. search needs) (λ c. search needs)
     (λ c. search needs) (λ c. search needs) (λ c κs. search needs) (λ c. search needs) (λ c. search needs) (λ c. search needs)

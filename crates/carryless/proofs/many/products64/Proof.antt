@@ -4,8 +4,8 @@ use Rattle.carryless.proofs.Joins.{join-halves}
 use Rattle.carryless.proofs.many.products64.Statement.{statement}
 use Rattle.carryless.proofs.many.products64.Tie as tie
 
-pub products64-spec : {M : Type 1} → statement M
-products64-spec = tie.close (tie.spec
+pub products64_spec : {M : Type 1} → statement M
+products64_spec = tie.close (tie.spec
     (λ c. search needs) (λ c. search needs) (λ c κs. search needs) (λ c κs. search needs) (λ c κs. search needs) (λ c κs. search needs)
     (λ c. search needs) (λ c κs. search needs) (λ c. search needs) (λ c κs. search needs) (λ c κs. search needs)
     (λ c.

@@ -7,8 +7,8 @@ use Rattle.lanes.proofs.Filling.{each_next}
 use Rattle.carryless.proofs.many.sums.Statement.{statement}
 use Rattle.carryless.proofs.many.sums.Tie as tie
 
-pub sums-spec : {M : Type 1} → statement M
-sums-spec = tie.close (next8 (tie.spec
+pub sums_spec : {M : Type 1} → statement M
+sums_spec = tie.close (next8 (tie.spec
     (λ a b n r₀ g₀ r g. (g ≤ n) × (length r ≡ 16) × Each (λ i. get_or a i 0 ⊕ get_or b i 0) g r) (λ a b n r₀ g₀ r g. n - g) (λ c. search needs))
     (omega arith)
     (λ c.

@@ -12,8 +12,8 @@ returns c =
     (rw (c.before.before.before.four-lanes5.ensures.0, at-4.four-lanes4.ensures.0, at-4.before.four-lanes3.ensures.0)
     (rw (at-4.before.before.four-lanes2.ensures.0, at-4.before.before.before.four_lanes.ensures.0) (lanes-joined _)))
 
-pub four-bytes-spec : {M : Type 1} → statement M
-four-bytes-spec = tie.close (tie.spec (λ c. search needs) (λ c κs. search needs) (λ c. search needs) (λ c. search needs)
+pub four_bytes_spec : {M : Type 1} → statement M
+four_bytes_spec = tie.close (tie.spec (λ c. search needs) (λ c κs. search needs) (λ c. search needs) (λ c. search needs)
     (λ c κs. search needs) (λ c. search needs) (λ c. search needs) (λ c. search needs) (λ c κs. search needs) (λ c. search needs)
     (λ c. search needs) (λ c. search needs) (λ c κs. search needs) (λ c. search needs) (λ c. search needs) (λ c. search needs)
     (λ c κs. search needs) (λ c. search needs) (λ c. search needs) (λ c. search needs) (λ c κs. search needs) (λ c. search needs)

@@ -4,5 +4,5 @@ use Rattle.cipher.proofs.FourLanes.{masked-lanes}
 use Rattle.cipher.proofs.gates.four_lanes.Statement.{statement}
 use Rattle.cipher.proofs.gates.four_lanes.Tie as tie
 
-pub four-lanes-spec : {M : Type 1} → statement M
-four-lanes-spec = tie.close (tie.spec (λ c. (masked-lanes c.args.w, omega (arith, and_le_r c.args.w 0x01010101))))
+pub four_lanes_spec : {M : Type 1} → statement M
+four_lanes_spec = tie.close (tie.spec (λ c. (masked-lanes c.args.w, omega (arith, and_le_r c.args.w 0x01010101))))

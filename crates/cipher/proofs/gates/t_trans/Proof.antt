@@ -3,7 +3,7 @@ use Rattle.cipher.proofs.Names.{T, ◌∙◌, needs}
 use Rattle.cipher.proofs.gates.t_trans.Statement.{statement}
 use Rattle.cipher.proofs.gates.t_trans.Tie as tie
 
-pub t-trans-spec : {M : Type 1} → statement M
+pub t_trans_spec : {M : Type 1} → statement M
 unfolding T
-t-trans-spec = tie.close (tie.spec (λ c κs. search needs) (λ c κs. search needs)
+t_trans_spec = tie.close (tie.spec (λ c κs. search needs) (λ c κs. search needs)
     (λ c. c.l-trans.ensures ∙ rw c.before.tau-trans.ensures))

@@ -4,6 +4,6 @@ use Rattle.cipher.proofs.FourLanes.{tau-lanes}
 use Rattle.cipher.proofs.gates.tau_trans.Statement.{statement}
 use Rattle.cipher.proofs.gates.tau_trans.Tie as tie
 
-pub tau-trans-spec : {M : Type 1} → statement M
-tau-trans-spec = tie.close (tie.spec (λ c κs. search needs) (λ c κs. search needs)
+pub tau_trans_spec : {M : Type 1} → statement M
+tau_trans_spec = tie.close (tie.spec (λ c κs. search needs) (λ c κs. search needs)
     (λ c. c.four_bytes.ensures ∙ tau-lanes c.before.before.args.input _ (search needs) c.before.sbox.ensures))

@@ -6,8 +6,8 @@ use Rattle.cipher.proofs.FourTables.{mixed-T}
 use Rattle.cipher.proofs.mixed.t_trans.Statement.{statement}
 use Rattle.cipher.proofs.mixed.t_trans.Tie as tie
 
-pub t-trans-spec : {M : Type 1} → statement M
-t-trans-spec = tie.close (tie.spec (λ c. search needs) (λ c. search needs) (λ c. omega (arith, mixed-length _ c.before.requires))
+pub t_trans_spec : {M : Type 1} → statement M
+t_trans_spec = tie.close (tie.spec (λ c. search needs) (λ c. search needs) (λ c. omega (arith, mixed-length _ c.before.requires))
     (λ c. search needs)
     (λ c. search needs) (λ c. search needs) (λ c. omega (arith, mixed-length _ c.before.before.requires)) (λ c. search needs)
     (λ c. search needs) (λ c. search needs)

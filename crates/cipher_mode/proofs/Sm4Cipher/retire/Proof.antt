@@ -5,16 +5,16 @@ use types.Run.{OneOf}
 use Rattle.cipher_mode.specs.declared.KeyAnswer.{KeyAnswer}
 use Rattle.cipher_mode.specs.declared.KeyAnswer.TheVariants.{Key, ErrorBlockSize, WrongNumber}
 use Rattle.cipher_mode.specs.declared.Sm4Cipher.{Sm4Cipher}
-use Rattle.cipher_mode.specs.Key.{retiredIf, retire}
+use Rattle.cipher_mode.specs.Key.{retired_if, retire}
 use Rattle.cipher_mode.specs.contracts.KeyAnswer.{the_type}
 use Rattle.cipher_mode.proofs.Sm4Cipher.retire.Statement.{statement}
 use Rattle.cipher_mode.proofs.Sm4Cipher.retire.Tie as tie
 
-no_key : (c : Sm4Cipher) (a : KeyAnswer) → OneOf (1 ∷ 2 ∷ []) (tag_of the_type a) → retiredIf a c ≡ c
+no_key : (c : Sm4Cipher) (a : KeyAnswer) → OneOf (1 ∷ 2 ∷ []) (tag_of the_type a) → retired_if a c ≡ c
 no_key c Key told = absurd (⊎_elim (λ t. omega arith) (λ t. omega arith) told)
 no_key c ErrorBlockSize told = refl
 no_key c WrongNumber told = refl
 
-pub retire-spec : {M : Type 1} → statement M
+pub retire_spec : {M : Type 1} → statement M
 unfolding retire
-retire-spec = tie.close (tie.spec (λ c. search needs) (λ c. rw (no_key _ _ c.match.keys2)) (λ c. rw c.before.enum_told.given.1))
+retire_spec = tie.close (tie.spec (λ c. search needs) (λ c. rw (no_key _ _ c.match.keys2)) (λ c. rw c.before.enum_told.given.1))

@@ -2,33 +2,33 @@
 -- what the definition goes on to.
 use Rattle.block.proofs.Base.{◌∙◌, ap₂, refl, sym, needs}
 use Rattle.cipher_mode.specs.Outcome.{Outcome, keyed}
-use Rattle.cipher_mode.specs.Calls.{modeCall}
-use Rattle.cipher_mode.proofs.Passed.{message-passed}
+use Rattle.cipher_mode.specs.Calls.{mode_call}
+use Rattle.cipher_mode.proofs.Passed.{message_passed}
 use Rattle.cipher_mode.proofs.Ends.{leaves}
 use Rattle.cipher_mode.proofs.Sm4CipherMode.call.Statement.{statement}
 use Rattle.cipher_mode.proofs.Sm4CipherMode.call.Tie as tie
 
 returns : tie.Need-returns
-unfolding modeCall
+unfolding mode_call
 returns c =
     let told = c.before.before in
     let at-number = told.before.before.before in
     rw (← told.before.before.message.ensures, told.checked.given.1)
     (leaves _ (rw at-number.number_in.ensures at c.refused.ensures) refl)
 
-message-by-requires : tie.Need-message-by-requires
-message-by-requires c κs =
+message_by_requires : tie.Need-message-by-requires
+message_by_requires c κs =
     let told = c.before.before in
-    let in_order = message-passed _ _ _ _ _ (sym told.before.before.message.ensures ∙ told.enum_told.given.1) in
+    let in_order = message_passed _ _ _ _ _ (sym told.before.before.message.ensures ∙ told.enum_told.given.1) in
     (in_order.iv-size, (in_order.label, (in_order.content, in_order.room)))
 
-returns-2 : tie.Need-returns-2
-unfolding modeCall
-returns-2 c =
+returns_2 : tie.Need-returns-2
+unfolding mode_call
+returns_2 c =
     let told = c.before.before.before.before.before in
     rw (← told.before.before.message.ensures, told.enum_told.given.1)
     (ap₂ {C = Outcome} keyed told.before.before.before.number_in.ensures c.before.before.message-by.ensures)
 
-pub call-spec : {M : Type 1} → statement M
-call-spec = tie.close (tie.spec (λ c κs. search needs) (λ c κs. search needs) (λ c. search needs) (λ c κs. search needs) returns
-    (λ c. search needs) message-by-requires (λ c. search needs) returns-2)
+pub call_spec : {M : Type 1} → statement M
+call_spec = tie.close (tie.spec (λ c κs. search needs) (λ c κs. search needs) (λ c. search needs) (λ c κs. search needs) returns
+    (λ c. search needs) message_by_requires (λ c. search needs) returns_2)

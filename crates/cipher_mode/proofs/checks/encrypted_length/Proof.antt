@@ -3,7 +3,7 @@ use Rattle.block.proofs.Base.{needs}
 use Rattle.cipher_mode.proofs.checks.encrypted_length.Statement.{statement}
 use Rattle.cipher_mode.proofs.checks.encrypted_length.Tie as tie
 
-pub encrypted-length-spec : {M : Type 1} → statement M
-encrypted-length-spec = tie.close (tie.spec (λ c. search needs) (λ c. search needs) (λ c. search needs) (λ c. search needs)
+pub encrypted_length_spec : {M : Type 1} → statement M
+encrypted_length_spec = tie.close (tie.spec (λ c. search needs) (λ c. search needs) (λ c. search needs) (λ c. search needs)
     (λ c. search needs) (λ c. search needs) (λ c. search needs) (λ c. search needs) (λ c. search needs) (λ c. search needs)
     (λ c. search needs) (λ c. rw c.enum-told4.given.1) (λ c. rw c.enum-told5.given.1))

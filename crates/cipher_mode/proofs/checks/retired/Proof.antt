@@ -3,6 +3,6 @@ use Rattle.block.proofs.Base.{needs}
 use Rattle.cipher_mode.proofs.checks.retired.Statement.{statement}
 use Rattle.cipher_mode.proofs.checks.retired.Tie as tie
 
-pub retired-spec : {M : Type 1} → statement M
-retired-spec = tie.close (tie.spec (λ c. search needs) (λ c. search needs) (λ c. search needs)
+pub retired_spec : {M : Type 1} → statement M
+retired_spec = tie.close (tie.spec (λ c. search needs) (λ c. search needs) (λ c. search needs)
     (λ c. rw (c.before.enum_told.given.1, c.if1.true)) (λ c. search needs))

@@ -4,7 +4,7 @@ use Rattle.cipher_mode.specs.Checks.{room_check}
 use Rattle.cipher_mode.proofs.checks.room.Statement.{statement}
 use Rattle.cipher_mode.proofs.checks.room.Tie as tie
 
-pub room-spec : {M : Type 1} → statement M
+pub room_spec : {M : Type 1} → statement M
 unfolding room_check
-room-spec = tie.close (tie.spec (λ c κs. search needs) (λ c. rw (← c.before.room_of.ensures, lt-ltb _ _ c.if1.true))
+room_spec = tie.close (tie.spec (λ c κs. search needs) (λ c. rw (← c.before.room_of.ensures, lt-ltb _ _ c.if1.true))
     (λ c. rw (← c.before.room_of.ensures, le-ltb _ _ c.if1.false)))

@@ -3,8 +3,8 @@ use Rattle.block.proofs.Base.{needs, eq-eqb, le-ltb, lt-ltb, ne_eqb}
 use Rattle.cipher_mode.proofs.checks.shape.Statement.{statement}
 use Rattle.cipher_mode.proofs.checks.shape.Tie as tie
 
-pub shape-spec : {M : Type 1} → statement M
-shape-spec = tie.close (tie.spec (λ c. search needs) (λ c. search needs) (λ c. search needs) (λ c. search needs) (λ c. search needs)
+pub shape_spec : {M : Type 1} → statement M
+shape_spec = tie.close (tie.spec (λ c. search needs) (λ c. search needs) (λ c. search needs) (λ c. search needs) (λ c. search needs)
     (λ c. search needs)
     (λ c. search needs) (λ c. rw (
       c.before.before.before.enum_told.given.1,

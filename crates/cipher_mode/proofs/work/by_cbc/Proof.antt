@@ -3,41 +3,41 @@ use Rattle.block.proofs.Base.{◌<◌, ℕ, ◌∙◌, ◌≡◌, ap, sym, List,
 use Rattle.block.specs.Words.{unwords}
 use Rattle.cipher_mode.specs.Outcome.{Head, Outcome, leaving}
 use Rattle.block.specs.Over.{over}
-use Rattle.cbc.specs.Cbc.{cbcSeal}
-use Rattle.cipher_mode.specs.Calls.{cbcOpen}
-use Rattle.cbc.proofs.RoundTrip.{length-cbcSeal}
-use Rattle.cipher_mode.proofs.Passed.{data-within, whole-blocks-passed}
+use Rattle.cbc.specs.Cbc.{cbc_seal}
+use Rattle.cipher_mode.specs.Calls.{cbc_open}
+use Rattle.cbc.proofs.RoundTrip.{length-cbc_seal}
+use Rattle.cipher_mode.proofs.Passed.{data-within, whole-blocks_passed}
 use Rattle.cipher_mode.proofs.Ends.{reached, spelled}
-use Rattle.cipher_mode.proofs.Opens.{cbc-left}
+use Rattle.cipher_mode.proofs.Opens.{cbc_left}
 use Rattle.cipher_mode.proofs.work.by_cbc.Statement.{statement}
 use Rattle.cipher_mode.proofs.work.by_cbc.Tie as tie
 
-is-iv : (x : tie.After-split-block) → unwords x.split-block.result ≡ now x.before.before.before.before.before.args.iv
-is-iv x =
+is_iv : (x : tie.After-split-block) → unwords x.split-block.result ≡ now x.before.before.before.before.before.args.iv
+is_iv x =
     let at-iv = x.before.before.before in
     let S = at-iv.before.before in
     let iv = now S.args.iv in
     let small : (i : ℕ) → get_or iv i 0 < 256 = λ i. omega (arith, at-iv.shared-slice-known2.given i) in
     spelled iv _ S.requires.1.0 small x.split-block.ensures
 
-encrypt-requires : tie.Need-encrypt-requires
-encrypt-requires c κs =
+encrypt_requires : tie.Need-encrypt-requires
+encrypt_requires c κs =
     let told = c.before in
     let S = told.before.before.before.before.before.before.before in
     (S.requires.0, rw told.enum_told.given.1 at S.requires.1.1.1)
 
-encrypted-length-requires : tie.Need-encrypted-length-requires
-encrypted-length-requires c κs =
+encrypted_length_requires : tie.Need-encrypted-length-requires
+encrypted_length_requires c κs =
     let told = c.before.before.before.before in
     let S = told.before.before.before.before.before.before.before in
     rw told.enum_told.given.1 at (data-within _ _ _ S.requires.1.1.0)
 
-decrypt-requires : tie.Need-decrypt-requires
-decrypt-requires c κs =
+decrypt_requires : tie.Need-decrypt-requires
+decrypt_requires c κs =
     let told = c.before in
     let S = told.before.before.before.before.before.before.before in
     let way = told.enum-told2.given.1 in
-    let whole = whole-blocks-passed _ (rw way at S.requires.1.1.0) in
+    let whole = whole-blocks_passed _ (rw way at S.requires.1.1.0) in
     (S.requires.0, (whole.0, (whole.1, rw way at S.requires.1.1.1)))
 
 returns : tie.Need-returns
@@ -50,11 +50,11 @@ returns c =
     let iv = now a.iv in
     let d = now a.«data» in
     let o = now a.out in
-    rw told.enum_told.given.1 (reached (cbcSeal a.rk iv d) o _ _ (length-cbcSeal a.rk iv d ∙ sym c.encrypted-length.ensures)
-    (at-encrypt.encrypt.ensures ∙ ap (λ (s : List ℕ). over (cbcSeal a.rk s d) o) (is-iv at_split)))
+    rw told.enum_told.given.1 (reached (cbc_seal a.rk iv d) o _ _ (length-cbc_seal a.rk iv d ∙ sym c.encrypted-length.ensures)
+    (at-encrypt.encrypt.ensures ∙ ap (λ (s : List ℕ). over (cbc_seal a.rk s d) o) (is_iv at_split)))
 
-returns-2 : tie.Need-returns-2
-returns-2 c =
+returns_2 : tie.Need-returns-2
+returns_2 c =
     let at-decrypt = c.before.before.before in
     let told = at-decrypt.before.before in
     let at_split = told.before.before in
@@ -64,9 +64,9 @@ returns-2 c =
     let o = now a.out in
     rw told.enum-told2.given.1
     (ap {B = Outcome} (λ (h : Head). leaving h at-decrypt.decrypt.new.1.1.1.1.0) c.cbc-answer.ensures
-    ∙ cbc-left a.rk _ d o _ _ at-decrypt.decrypt.ensures.0 at-decrypt.decrypt.ensures.1
-    ∙ ap {B = Outcome} (λ (s : List ℕ). cbcOpen a.rk s d o) (is-iv at_split))
+    ∙ cbc_left a.rk _ d o _ _ at-decrypt.decrypt.ensures.0 at-decrypt.decrypt.ensures.1
+    ∙ ap {B = Outcome} (λ (s : List ℕ). cbc_open a.rk s d o) (is_iv at_split))
 
-pub by-cbc-spec : {M : Type 1} → statement M
-by-cbc-spec = tie.close (tie.spec (λ c κs. search needs) (λ c. search needs) encrypt-requires encrypted-length-requires (λ c. search needs)
-    decrypt-requires (λ c κs. search needs) (λ c. search needs) returns (λ c. search needs) returns-2)
+pub by_cbc_spec : {M : Type 1} → statement M
+by_cbc_spec = tie.close (tie.spec (λ c κs. search needs) (λ c. search needs) encrypt_requires encrypted_length_requires (λ c. search needs)
+    decrypt_requires (λ c κs. search needs) (λ c. search needs) returns (λ c. search needs) returns_2)

@@ -13,8 +13,8 @@ returns c =
     let S = at-iv.before.before in
     let iv = now S.args.iv in
     let small : (i : ℕ) → get_or iv i 0 < 256 = λ i. omega (arith, at-iv.shared-slice-known2.given i) in
-    let is-iv = spelled iv _ S.requires.1.0 small at_split.split-block.ensures in
-    told_of _ _ _ _ _ (rw is-iv at c.ctr-came-round.ensures) at-stream.by-stream.ensures refl
+    let is_iv = spelled iv _ S.requires.1.0 small at_split.split-block.ensures in
+    told_of _ _ _ _ _ (rw is_iv at c.ctr-came-round.ensures) at-stream.by-stream.ensures refl
 
-pub by-ctr-spec : {M : Type 1} → statement M
-by-ctr-spec = tie.close (tie.spec (λ c κs. search needs) (λ c κs. search needs) (λ c κs. search needs) (λ c. search needs) returns)
+pub by_ctr_spec : {M : Type 1} → statement M
+by_ctr_spec = tie.close (tie.spec (λ c κs. search needs) (λ c κs. search needs) (λ c κs. search needs) (λ c. search needs) returns)

@@ -1,34 +1,34 @@
 -- `cipher_mode::work::by_gcm` meets its contract: with the start of keys and IV, as long as the table says or as `gcm::decrypt`.
 use Rattle.block.proofs.Base.{◌-◌, ◌≤◌, ℕ, ◌∙◌, ◌≡◌, ap, ap₂, refl, sym, Bool, cond, List, arith, needs, now, get_or, length, w32, Fits}
-use Rattle.counter.specs.Counter.{lastFour}
-use Rattle.counter.specs.CameRound.{blocksOf, gcmCameRound}
+use Rattle.counter.specs.Counter.{last_four}
+use Rattle.counter.specs.CameRound.{blocks_of, gcm_came_round}
 use Rattle.counter.proofs.Steps.{last-four}
 use Rattle.cipher_mode.specs.Outcome.{Outcome, finished, refusal, telling, reporting}
 use Rattle.block.specs.Over.{over}
-use Rattle.gcm.specs.Gcm.{hashKey, J0, sealed}
+use Rattle.gcm.specs.Gcm.{hash_key, J0, sealed}
 use Rattle.gcm.proofs.Parts.{length-sealed}
 use Rattle.cipher_mode.specs.Tables.{limit}
-use Rattle.cipher_mode.specs.Calls.{gcmRound, gcmOpen}
-use Rattle.cipher_mode.proofs.Passed.{iv-twelve-or-sixteen, label-passed, data-within, with-tag-passed}
+use Rattle.cipher_mode.specs.Calls.{gcm_round, gcm_open}
+use Rattle.cipher_mode.proofs.Passed.{iv_twelve_or_sixteen, label_passed, data-within, with_tag_passed}
 use Rattle.cipher_mode.proofs.Ends.{reached, told_of}
-use Rattle.cipher_mode.proofs.Opens.{gcm-left}
+use Rattle.cipher_mode.proofs.Opens.{gcm_left}
 use Rattle.cipher_mode.proofs.work.by_gcm.Statement.{statement}
 use Rattle.cipher_mode.proofs.work.by_gcm.Tie as tie
 
-start-requires : tie.Need-start-requires
-start-requires c κs =
+start_requires : tie.Need-start-requires
+start_requires c κs =
     let S = c.before.before.before.before.before.before in
-    (S.requires.0, iv-twelve-or-sixteen (length (now S.args.iv)) S.requires.1.0)
+    (S.requires.0, iv_twelve_or_sixteen (length (now S.args.iv)) S.requires.1.0)
 
-encrypt-requires : tie.Need-encrypt-requires
-encrypt-requires c κs =
+encrypt_requires : tie.Need-encrypt-requires
+encrypt_requires c κs =
     let at-enum-told = c.before.before in
     let at-start = at-enum-told.before.before.before.before.before in
     let at-text-length = at-start.before in
     let S = c.before.before.before.before.before.before.before.before.before.before.before.before.before.before in
     let way = at-enum-told.enum_told.given.1 in
     let x = at-start.start in
-    let label = label-passed (length (now S.args.aad)) S.requires.1.1.0 in
+    let label = label_passed (length (now S.args.aad)) S.requires.1.1.0 in
     let within : length (now S.args.«data») ≤ limit = rw way at (data-within _ _ _ S.requires.1.1.1.0) in (
       S.requires.0,
       (
@@ -37,37 +37,37 @@ encrypt-requires c κs =
       ),
     )
 
-encrypted-length-requires : tie.Need-encrypted-length-requires
-encrypted-length-requires c κs =
+encrypted_length_requires : tie.Need-encrypted-length-requires
+encrypted_length_requires c κs =
     let at-enum-told = c.before.before.before.before.before in
     let S = at-enum-told.before.before.before.before.before.before.before.before.before.before.before.before in
     rw at-enum-told.enum_told.given.1 at (data-within _ _ _ S.requires.1.1.1.0)
 
-decrypt-requires : tie.Need-decrypt-requires
-decrypt-requires c κs =
+decrypt_requires : tie.Need-decrypt-requires
+decrypt_requires c κs =
     let at-enum-told2 = c.before.before in
     let at-start = at-enum-told2.before.before.before.before.before in
     let at-text-length = at-start.before in
     let S = c.before.before.before.before.before.before.before.before.before.before.before.before.before.before in
     let way = at-enum-told2.enum-told2.given.1 in
     let x = at-start.start in
-    let label = label-passed (length (now S.args.aad)) S.requires.1.1.0 in
+    let label = label_passed (length (now S.args.aad)) S.requires.1.1.0 in
     let ordered = rw way at S.requires.1.1.1.0 in
     let within = data-within _ _ _ ordered in (
       S.requires.0,
       (
         λ e. rw (at-text-length.text-length.ensures.1 way) at (x.ensures.1.1 e),
-        ((omega (arith, label), omega (arith, within)), (with-tag-passed _ ordered, rw way at S.requires.1.1.1.1)),
+        ((omega (arith, label), omega (arith, within)), (with_tag_passed _ ordered, rw way at S.requires.1.1.1.1)),
       ),
     )
 
 -- what is told of the counter: J0's last word is the number in its last four bytes
-round : (x : tie.After-start) (b : Bool) (m n : ℕ) → m ≡ n → b ≡ gcmCameRound (get_or x.start.result.j0 3 0) (blocksOf m)
-    → let a = x.before.before.before.before.before.before.before.args in b ≡ gcmRound a.rk (now a.iv) n
+round : (x : tie.After-start) (b : Bool) (m n : ℕ) → m ≡ n → b ≡ gcm_came_round (get_or x.start.result.j0 3 0) (blocks_of m)
+    → let a = x.before.before.before.before.before.before.before.args in b ≡ gcm_round a.rk (now a.iv) n
 round x b m n k e =
     let j = x.start.result.j0 in
     let h : Fits w32 (get_or j 3 0) = search (needs, x.start) in
-    e ∙ ap₂ (λ (low size : ℕ). gcmCameRound low (blocksOf size)) (sym (last-four j h.fits) ∙ ap lastFour x.start.ensures.1.0) k
+    e ∙ ap₂ (λ (low size : ℕ). gcm_came_round low (blocks_of size)) (sym (last-four j h.fits) ∙ ap last_four x.start.ensures.1.0) k
 
 returns : tie.Need-returns
 returns c =
@@ -84,12 +84,12 @@ returns c =
     let j = J0 a.rk (now a.iv) in
     rw way (told_of _ _ _ _ _
     (round at-start c.gcm-came-round.result _ (length d) (at-text-length.text-length.ensures.0 way) c.gcm-came-round.ensures)
-    (reached (sealed a.rk (hashKey a.rk) j aad d) o _ _
-    (length-sealed a.rk (hashKey a.rk) j aad d ∙ sym c.before.encrypted-length.ensures) (at-encrypt.encrypt.ensures
+    (reached (sealed a.rk (hash_key a.rk) j aad d) o _ _
+    (length-sealed a.rk (hash_key a.rk) j aad d ∙ sym c.before.encrypted-length.ensures) (at-encrypt.encrypt.ensures
     ∙ ap₂ (λ (h : ℕ) (j : List ℕ). over (sealed a.rk h j aad d) o) at-start.start.ensures.0 at-start.start.ensures.1.0)) refl)
 
-returns-2 : tie.Need-returns-2
-returns-2 c =
+returns_2 : tie.Need-returns-2
+returns_2 c =
     let at-enum-told2 = c.before.before.before.before.before.before.before in
     let at-text-length = at-enum-told2.before.before.before.before.before.before in
     let S = at-text-length.before.before.before.before.before.before in
@@ -104,14 +104,14 @@ returns-2 c =
     let b = at-round.gcm-came-round2.result in
     let n = at-text-length.text-length.ensures.1 way in
     let told = c.gcm-answer.ensures ∙ ap (λ (k : ℕ). cond at-decrypt.decrypt.result (telling b (finished k)) (refusal 4)) n in
-    rw way (gcm-left a.rk _ _ aad d o _ b _ _ at-decrypt.decrypt.ensures.0 at-decrypt.decrypt.ensures.1 told
-    ∙ ap₂ {C = Outcome} (λ (h : ℕ) (j : List ℕ). reporting b (gcmOpen a.rk h j aad d o)) at-start.start.ensures.0
+    rw way (gcm_left a.rk _ _ aad d o _ b _ _ at-decrypt.decrypt.ensures.0 at-decrypt.decrypt.ensures.1 told
+    ∙ ap₂ {C = Outcome} (λ (h : ℕ) (j : List ℕ). reporting b (gcm_open a.rk h j aad d o)) at-start.start.ensures.0
     at-start.start.ensures.1.0
-    ∙ ap {B = Outcome} (λ (t : Bool). reporting t (gcmOpen a.rk (hashKey a.rk) (J0 a.rk (now a.iv)) aad d o))
+    ∙ ap {B = Outcome} (λ (t : Bool). reporting t (gcm_open a.rk (hash_key a.rk) (J0 a.rk (now a.iv)) aad d o))
     (round at-start b _ (length d - 16) n at-round.gcm-came-round2.ensures))
 
-pub by-gcm-spec : {M : Type 1} → statement M
-by-gcm-spec = tie.close (tie.spec (λ c κs e. with-tag-passed _ (rw e at c.before.before.before.before.before.requires.1.1.1.0))
-    start-requires (λ c. search needs) (λ c. search needs) encrypt-requires encrypted-length-requires (λ c. search needs)
-    (λ c κs. search needs) (λ c. search needs) (λ c. search needs) decrypt-requires (λ c. search needs) (λ c κs. search needs)
-    (λ c κs. search needs) (λ c. search needs) returns (λ c. search needs) returns-2)
+pub by_gcm_spec : {M : Type 1} → statement M
+by_gcm_spec = tie.close (tie.spec (λ c κs e. with_tag_passed _ (rw e at c.before.before.before.before.before.requires.1.1.1.0))
+    start_requires (λ c. search needs) (λ c. search needs) encrypt_requires encrypted_length_requires (λ c. search needs)
+    (λ c κs. search needs) (λ c. search needs) (λ c. search needs) decrypt_requires (λ c. search needs) (λ c κs. search needs)
+    (λ c κs. search needs) (λ c. search needs) returns (λ c. search needs) returns_2)

@@ -1,7 +1,7 @@
 -- `cipher_mode::work::by_stream` meets its contract: the IV's words spell it, and the chain is as long as the data.
 use Rattle.block.proofs.Base.{◌<◌, ℕ, arith, needs, now, get_or}
 use Rattle.walk.specs.Walk.{chain}
-use Rattle.stream.specs.Stream.{streamMode}
+use Rattle.stream.specs.Stream.{stream_mode}
 use Rattle.stream.proofs.RoundTrip.{length-stream}
 use Rattle.cipher_mode.proofs.Ends.{reached, spelled}
 use Rattle.cipher_mode.proofs.work.by_stream.Statement.{statement}
@@ -15,9 +15,9 @@ returns c =
     let a = S.args in
     let iv = now a.iv in
     let small : (i : ℕ) → get_or iv i 0 < 256 = λ i. omega (arith, at-iv.shared-slice-known2.given i) in
-    let is-iv = spelled iv _ S.requires.1.0 small at_split.split-block.ensures in
-    reached (chain (streamMode a.kind a.rk) iv (now a.«data»)) (now a.out) _ _ (length-stream a.kind a.rk iv _)
-    (rw is-iv at c.before.before.stream.ensures.1.1)
+    let is_iv = spelled iv _ S.requires.1.0 small at_split.split-block.ensures in
+    reached (chain (stream_mode a.kind a.rk) iv (now a.«data»)) (now a.out) _ _ (length-stream a.kind a.rk iv _)
+    (rw is_iv at c.before.before.stream.ensures.1.1)
 
-pub by-stream-spec : {M : Type 1} → statement M
-by-stream-spec = tie.close (tie.spec (λ c κs. search needs) (λ c κs. search needs) (λ c. search needs) returns)
+pub by_stream_spec : {M : Type 1} → statement M
+by_stream_spec = tie.close (tie.spec (λ c κs. search needs) (λ c κs. search needs) (λ c. search needs) returns)

@@ -3,5 +3,5 @@ use Rattle.block.proofs.Base.{needs}
 use Rattle.cipher_mode.proofs.work.gcm_answer.Statement.{statement}
 use Rattle.cipher_mode.proofs.work.gcm_answer.Tie as tie
 
-pub gcm-answer-spec : {M : Type 1} → statement M
-gcm-answer-spec = tie.close (tie.spec (λ c. rw c.if1.true) (λ c κs. search needs) (λ c. rw c.before.if1.false c.quiet.ensures))
+pub gcm_answer_spec : {M : Type 1} → statement M
+gcm_answer_spec = tie.close (tie.spec (λ c. rw c.if1.true) (λ c κs. search needs) (λ c. rw c.before.if1.false c.quiet.ensures))

@@ -3,6 +3,6 @@ use Rattle.block.proofs.Base.{needs}
 use Rattle.cipher_mode.proofs.work.keys_for.Statement.{statement}
 use Rattle.cipher_mode.proofs.work.keys_for.Tie as tie
 
-pub keys-for-spec : {M : Type 1} → statement M
-keys-for-spec = tie.close (tie.spec (λ c. search needs) (λ c. search needs) (λ c κs. search needs) (λ c. search needs)
+pub keys_for_spec : {M : Type 1} → statement M
+keys_for_spec = tie.close (tie.spec (λ c. search needs) (λ c. search needs) (λ c κs. search needs) (λ c. search needs)
     (λ c. rw c.before.enum-told2.given.1 c.reversed.ensures))

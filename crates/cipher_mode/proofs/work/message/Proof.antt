@@ -9,8 +9,8 @@ use Rattle.cipher_mode.proofs.work.message.Tie as tie
 streamed : {E L D R : Type 0} (n : ℕ) → E × ((not (eqb n 16) ≡ false) × (L × (D × R))) → E × ((n ≡ 16) × R)
 streamed n p = (p.0, (sixteen n p.1.0, p.1.1.1.1))
 
-by-cbc-requires : tie.Need-by-cbc-requires
-by-cbc-requires c κs =
+by_cbc_requires : tie.Need-by-cbc-requires
+by_cbc_requires c κs =
     let p = rw c.before.enum-told4.given.1 at c.before.before.before.before.before.before.before.before.requires in
     (p.0, (sixteen _ p.1.0, p.1.1.1))
 
@@ -21,8 +21,8 @@ returns c =
     rw at-kind.before.enum_told.given.1
     (leaves _ c.quiet.ensures (rw at-kind.cfb-kind.ensures at at-stream.by-stream.ensures))
 
-pub message-spec : {M : Type 1} → statement M
-message-spec = tie.close (tie.spec (λ c. search needs) (λ c κs. search needs)
+pub message_spec : {M : Type 1} → statement M
+message_spec = tie.close (tie.spec (λ c. search needs) (λ c κs. search needs)
     (λ c κs. let S = c.before.before.before.before.before.before.before.before.before in
     streamed _ (rw c.before.before.enum_told.given.1 at S.requires))
     (λ c κs. search needs) (λ c. search needs)
@@ -31,7 +31,7 @@ message-spec = tie.close (tie.spec (λ c. search needs) (λ c κs. search needs)
     (λ c κs. search needs) (λ c. search needs)
     (λ c κs. let S = c.before.before.before.before.before.before.before.before in
     streamed _ (rw c.before.enum-told3.given.1 at S.requires))
-    (λ c. search needs) by-cbc-requires (λ c κs. search needs) (λ c. search needs)
+    (λ c. search needs) by_cbc_requires (λ c κs. search needs) (λ c. search needs)
     (λ c κs. rw c.before.enum-told5.given.1 at c.before.before.before.before.before.before.before.before.requires)
     (λ c. search needs) returns (λ c. search needs)
     (λ c. let at-stream = c.before.before.before in

@@ -1,15 +1,15 @@
--- `field::many::multiply` meets its contract: three products of halves make up each product without carry (`join-128`), and x^127 times
+-- `field::many::multiply` meets its contract: three products of halves make up each product without carry (`join_128`), and x^127 times
 -- that is the product (`reduced-product`).
-use Rattle.field.proofs.Names.{◌∙◌, clmul-lt, join-128, lends_both, lends-high, lends-low, needs}
+use Rattle.field.proofs.Names.{◌∙◌, clmul-lt, join_128, lends_both, lends_high, lends_low, needs}
 use Rattle.field.proofs.Reduction.{reduced-product}
 use Rattle.field.proofs.many.multiply.Statement.{statement}
 use Rattle.field.proofs.many.multiply.Tie as tie
 
-pub multiply-spec : {M : Type 1} → statement M
-multiply-spec =
+pub multiply_spec : {M : Type 1} → statement M
+multiply_spec =
     tie.close
     (tie.spec
-    (λ c κs. search needs) (λ c κs. search (needs, lends-high)) (λ c κs. search (needs, lends-low)) (λ c κs. search (needs, lends_both))
+    (λ c κs. search needs) (λ c κs. search (needs, lends_high)) (λ c κs. search (needs, lends_low)) (λ c κs. search (needs, lends_both))
     (λ c κs.
     let at_both = c.before.before.before.before.before.before.before.before in
     let at_low = at_both.before.before.before.before.before in
@@ -31,7 +31,7 @@ multiply-spec =
     let small = at_both.before.before.before.struct_known.given.1.0.fits in (
       λ g h.
           reduced-product _ _ _ _ (done.0 g h)
-          (join-128 _ _ _ _ _ _ _ (sum.1 g h) small (at_high.products64.ensures.0 g h) (at_low.products642.ensures.0 g h)
+          (join_128 _ _ _ _ _ _ _ (sum.1 g h) small (at_high.products64.ensures.0 g h) (at_low.products642.ensures.0 g h)
           (at_both.products643.ensures.0 g h ∙ rw (sum.0 g h))),
       done.1,
       done.2,

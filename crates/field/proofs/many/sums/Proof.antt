@@ -3,8 +3,8 @@ use Rattle.field.proofs.Names.{Each, ◌-◌, ◌<◌, ◌^◌, ◌≡◌, ◌�
 use Rattle.field.proofs.many.sums.Statement.{statement}
 use Rattle.field.proofs.many.sums.Tie as tie
 
-pub sums-spec : {M : Type 1} → statement M
-sums-spec =
+pub sums_spec : {M : Type 1} → statement M
+sums_spec =
     tie.close
     (tie.spec
     (λ a b n r₀ g₀ r g. (g ≤ n) × (length r ≡ 16) × Each (λ i. get_or a i 0 ⊕ get_or b i 0) g r × ((i : ℕ) → i < g → get_or a i 0 < 2 ^ 64))

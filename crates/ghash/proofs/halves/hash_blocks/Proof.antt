@@ -4,5 +4,5 @@ use Rattle.ghash.proofs.Absorbing.{hash-of}
 use Rattle.ghash.proofs.halves.hash_blocks.Statement.{statement}
 use Rattle.ghash.proofs.halves.hash_blocks.Tie as tie
 
-pub hash-blocks-spec : {M : Type 1} → statement M
-hash-blocks-spec = tie.close (tie.spec (λ c κs. search needs) (λ c κs. search needs) (λ c. search (needs, hash-of)))
+pub hash_blocks_spec : {M : Type 1} → statement M
+hash_blocks_spec = tie.close (tie.spec (λ c κs. search needs) (λ c κs. search needs) (λ c. search (needs, hash-of)))

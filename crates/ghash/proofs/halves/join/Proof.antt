@@ -3,6 +3,6 @@ use Rattle.ghash.proofs.Names.{◌∙◌, joined, needs}
 use Rattle.ghash.proofs.halves.join.Statement.{statement}
 use Rattle.ghash.proofs.halves.join.Tie as tie
 
-pub join-spec : {M : Type 1} → statement M
-join-spec = tie.close (tie.spec (λ c κs. search needs) (λ c κs. search needs)
+pub join_spec : {M : Type 1} → statement M
+join_spec = tie.close (tie.spec (λ c κs. search needs) (λ c κs. search needs)
     (λ c. unfold joined in c.after.ensures ∙ rw c.before.power.ensures))

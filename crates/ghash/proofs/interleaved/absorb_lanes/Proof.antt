@@ -1,13 +1,13 @@
 -- `ghash::interleaved::absorb_lanes` meets its contract: once the sets are taken in, the hashes join to the hash of their blocks, and the
--- rest is taken in block by block (`absorbed-cut`).
+-- rest is taken in block by block (`absorbed_cut`).
 use Rattle.ghash.proofs.Names.{◌*◌, ◌∙◌, ◌≤◌, arith, length, lt_of_le_of_lt, needs, value, whole-lt}
-use Rattle.ghash.proofs.Absorbing.{absorbed-cut, hash-of}
+use Rattle.ghash.proofs.Absorbing.{absorbed_cut, hash-of}
 use Rattle.ghash.proofs.Sets.{lanes-few, starts_first}
 use Rattle.ghash.proofs.interleaved.absorb_lanes.Statement.{statement}
 use Rattle.ghash.proofs.interleaved.absorb_lanes.Tie as tie
 
-pub absorb-lanes-spec : {M : Type 1} → statement M
-absorb-lanes-spec =
+pub absorb_lanes_spec : {M : Type 1} → statement M
+absorb_lanes_spec =
     tie.close
     (tie.spec
     (λ c κs. search needs) (λ c κs. search needs) (λ c κs. search needs) (λ c. search needs) (λ c. search needs)
@@ -37,7 +37,7 @@ absorb-lanes-spec =
     let g = S.args.g in
     let element = whole-lt g.h.high g.h.low (omega (arith, S.well-formed.0)) (omega (arith, S.well-formed.0)) in
     let sets = at-sets.absorb-sets.ensures in
-    absorbed-cut g _ _ _ _ sets.1
+    absorbed_cut g _ _ _ _ sets.1
     (record {
       key = at-hashes.absorb-hashes.ensures.key ∙ at_new.new.ensures.0;
       hash =

@@ -1,18 +1,18 @@
 -- `ghash::interleaved::absorb_sets` meets its contract. The loop's invariant: where the first set was hashed (`hashed-first`), the first b
 -- blocks are, and the hashes are elements. In a turn the hashes are multiplied, and the next set is added (`hashed-next`).
-use Rattle.ghash.proofs.Names.{Element, Hashed, ◌-◌, ◌<◌, ◌≡◌, ◌≤◌, arith, blockNumber, gpow, lane, length, needs, up_to, value, ℕ}
+use Rattle.ghash.proofs.Names.{Element, Hashed, ◌-◌, ◌<◌, ◌≡◌, ◌≤◌, arith, block_number, gpow, lane, length, needs, up_to, value, ℕ}
 use Rattle.ghash.proofs.Sets.{lent-block, hashed-first, hashed-next}
 use Rattle.ghash.proofs.interleaved.absorb_sets.Statement.{statement}
 use Rattle.ghash.proofs.interleaved.absorb_sets.Tie as tie
 
-pub absorb-sets-spec : {M : Type 1} → statement M
-absorb-sets-spec =
+pub absorb_sets_spec : {M : Type 1} → statement M
+absorb_sets_spec =
     tie.close
     (tie.spec
     (λ p m n bytes high₀ low₀ all b₀ high low b.
     (b ≤ all) × (length high ≡ 16) × (length low ≡ 16) × ((k : ℕ) → k < n → Element (lane high low k))
-    × ((h y : ℕ) → Element h → value p ≡ gpow h n → Hashed h y (up_to b₀ (blockNumber bytes)) n (lane high₀ low₀)
-    → Hashed h y (up_to b (blockNumber bytes)) n (lane high low)))
+    × ((h y : ℕ) → Element h → value p ≡ gpow h n → Hashed h y (up_to b₀ (block_number bytes)) n (lane high₀ low₀)
+    → Hashed h y (up_to b (block_number bytes)) n (lane high low)))
     (λ p m n bytes high₀ low₀ all b₀ high low b. all - b) (λ c κs. search needs) (λ c. search needs) (λ c. search needs)
     (λ c κs. search needs) (λ c. search needs) (λ c. search needs) (λ c. search needs) (λ c. search needs) (λ c κs. search needs)
     (λ c. search needs) (λ c. search needs)

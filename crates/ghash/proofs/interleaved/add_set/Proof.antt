@@ -1,18 +1,18 @@
 -- `ghash::interleaved::add_set` meets its contract. The loop's invariant: to the first k hashes their blocks are added, and these are
 -- elements; the others are as they were.
-use Rattle.ghash.proofs.Names.{Both, Element, ◌-◌, ◌<◌, ◌∙◌, ◌≡◌, ◌≤◌, ◌⊕◌, ap₂, arith, below_each, blockNumber, both-next, lane}
-use Rattle.ghash.proofs.Names.{lane-other, lane-same, length, needs, one_more, refl, whole-lt, ℕ}
+use Rattle.ghash.proofs.Names.{Both, Element, ◌-◌, ◌<◌, ◌∙◌, ◌≡◌, ◌≤◌, ◌⊕◌, ap₂, arith, below_each, block_number, both-next, lane}
+use Rattle.ghash.proofs.Names.{lane_other, lane-same, length, needs, one_more, refl, whole-lt, ℕ}
 use Rattle.ghash.proofs.Sets.{lent-number}
 use Rattle.ghash.proofs.interleaved.add_set.Statement.{statement}
 use Rattle.ghash.proofs.interleaved.add_set.Tie as tie
 
-pub add-set-spec : {M : Type 1} → statement M
-add-set-spec =
+pub add_set_spec : {M : Type 1} → statement M
+add_set_spec =
     tie.close
     (tie.spec
     (λ bytes n high₀ low₀ k₀ high low k.
     (k ≤ n) × (length high ≡ 16) × (length low ≡ 16)
-    × Both (λ j. lane high₀ low₀ j ⊕ blockNumber bytes j) k high low
+    × Both (λ j. lane high₀ low₀ j ⊕ block_number bytes j) k high low
     × ((j : ℕ) → j < k → Element (lane high low j))
     × ((j : ℕ) → k ≤ j → lane high low j ≡ lane high₀ low₀ j))
     (λ bytes n high₀ low₀ k₀ high low k. n - k)
@@ -23,9 +23,9 @@ add-set-spec =
     (λ c.
     let at-number = c.before.before.before in
     let at_split = at-number.before in
-    let at-loop = at_split.before.before.before in
-    let l = at-loop.loop in
-    let known = at-loop.before in
+    let at_loop = at_split.before.before.before in
+    let l = at_loop.loop in
+    let known = at_loop.before in
     let bytes = known.before.args.bytes.now in
     let k = l.k in
     let u = c.add.result.high in
@@ -43,8 +43,8 @@ add-set-spec =
           l.invariant.3,
       one_more _ k
           (rw (lane-same k u v l.high l.low ha hb) (whole-lt u v (omega (arith, c.add.type-inv)) (omega (arith, c.add.type-inv))))
-          (λ j h. rw (lane-other k u v l.high l.low ha hb j (λ e. omega arith)) (l.invariant.4 j h)),
-      λ j h. lane-other k u v l.high l.low ha hb j (λ e. omega arith) ∙ l.invariant.5 j (omega arith),
+          (λ j h. rw (lane_other k u v l.high l.low ha hb j (λ e. omega arith)) (l.invariant.4 j h)),
+      λ j h. lane_other k u v l.high l.low ha hb j (λ e. omega arith) ∙ l.invariant.5 j (omega arith),
     ))
     (λ c.
     let l = c.before.loop in

@@ -18,8 +18,8 @@ eight c =
     let two = doubled h e 1 _ _ (sym (power-one h e)) c.before.before.squared.ensures in
     doubled h e 4 _ _ (doubled h e 2 _ _ two c.before.squared2.ensures) c.squared3.ensures
 
-pub lane-power-spec : {M : Type 1} → statement M
-lane-power-spec =
+pub lane_power_spec : {M : Type 1} → statement M
+lane_power_spec =
     tie.close
     (tie.spec
     (λ c κs. search needs) (λ c κs. search needs) (λ c κs. search needs)

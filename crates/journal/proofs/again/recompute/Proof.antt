@@ -1,7 +1,7 @@
 -- `again::recompute` meets its contract: the room that is lent serves as the recorded one does (`lent-judged`).
-use Rattle.journal.proofs.Names.{Entry, List, ◌++◌, ◌-◌, ◌∙◌, ◌≡◌, ◌≤◌, ap, arith, differsFrom, drop, front, length, length-append}
+use Rattle.journal.proofs.Names.{Entry, List, ◌++◌, ◌-◌, ◌∙◌, ◌≡◌, ◌≤◌, ap, arith, differs_from, drop, front, length, length-append}
 use Rattle.journal.proofs.Names.{length-take-le, needs, now, sub-zero, take, ℕ}
-use Rattle.journal.proofs.Lent.{into-fits, into-length, lent-judged, lent-most}
+use Rattle.journal.proofs.Lent.{into_fits, into_length, lent-judged, lent_most}
 use Rattle.journal.proofs.again.recompute.Statement.{statement}
 use Rattle.journal.proofs.again.recompute.Tie as tie
 
@@ -20,7 +20,7 @@ module _ (x : tie.After-lent-room) where
   long = search needs
 
   room : x.lent-room.result ≤ 16400
-  room = rw x.lent-room.ensures (lent-most entry)
+  room = rw x.lent-room.ensures (lent_most entry)
 
   size : length part ≡ x.lent-room.result
   size = length-take-le (x.lent-room.result - 0) buffer (omega (arith, long, room)) ∙ sub-zero x.lent-room.result
@@ -33,8 +33,8 @@ part-differs-end c =
     let given = at_call.call-into.new.1.1.0 in
     let answers = at_call.call-into.ensures in
     let o = part at_room in
-    let n : length given ≡ length o = ap length answers.bytes ∙ into-length cipher (entry at_room) o in
-    let m : at_call.call-into.result.length ≤ length o = rw answers.size (into-fits cipher (entry at_room) o) in
+    let n : length given ≡ length o = ap length answers.bytes ∙ into_length cipher (entry at_room) o in
+    let m : at_call.call-into.result.length ≤ length o = rw answers.size (into_fits cipher (entry at_room) o) in
     omega (arith, length-append given (drop (at_room.lent-room.result - 0) (buffer at_room)))
 
 returns : tie.Need-returns
@@ -48,9 +48,9 @@ returns c =
     lent-judged S.args.cipher (entry at_room) S.requires.1 _ (size at_room ∙ at_room.lent-room.ensures) a given rest
     c.differs.result at_call.call-into.ensures
     (c.differs.ensures
-    ∙ ap (λ (k : ℕ). differsFrom (entry at_room) a.number a.length (take k (given ++ rest))) (sub-zero a.length))
+    ∙ ap (λ (k : ℕ). differs_from (entry at_room) a.number a.length (take k (given ++ rest))) (sub-zero a.length))
 
-pub recompute-spec : {M : Type 1} → statement M
-recompute-spec = tie.close (tie.spec (λ c κs. search needs) (λ c κs. search needs) (λ c. search needs) (λ c. search needs)
+pub recompute_spec : {M : Type 1} → statement M
+recompute_spec = tie.close (tie.spec (λ c κs. search needs) (λ c κs. search needs) (λ c. search needs) (λ c. search needs)
     (λ c. omega (arith, long c, room c)) (λ c κs. search needs) (λ c. search needs) (λ c. search needs) part-differs-end
     (λ c κs. search needs) returns)

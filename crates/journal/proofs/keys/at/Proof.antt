@@ -4,8 +4,8 @@ use Rattle.journal.proofs.KeyTurns.{key-lent}
 use Rattle.journal.proofs.keys.at.Statement.{statement}
 use Rattle.journal.proofs.keys.at.Tie as tie
 
-pub at-spec : {M : Type 1} → statement M
-at-spec =
+pub at_spec : {M : Type 1} → statement M
+at_spec =
     tie.close (tie.spec (λ c. search needs) (λ c. search needs)
     (λ c.
     let S = c.before.before in

@@ -1,57 +1,57 @@
 -- `keys::bad` meets its contract. The loop's invariant: the keys to come decide. The measure is how many they are.
-use Rattle.journal.proofs.Names.{Bool, Keys, List, Sm4Cipher, ◌-◌, ◌||◌, ◌∙◌, ◌∷◌, ◌≡◌, ◌≤◌, anyRetired, ap, arith, badKeys, by-test}
-use Rattle.journal.proofs.Names.{drop, drop_of_length-le, false, hasNumber, keyNumber, keysIn, le-ltb, length, length-map, lt-ltb}
-use Rattle.journal.proofs.Names.{needs, numberTwice, sym, true, ℕ}
+use Rattle.journal.proofs.Names.{Bool, Keys, List, Sm4Cipher, ◌-◌, ◌||◌, ◌∙◌, ◌∷◌, ◌≡◌, ◌≤◌, any_retired, ap, arith, bad_keys, by_test}
+use Rattle.journal.proofs.Names.{drop, drop_of_length-le, false, has_number, key_number, keys_in, le-ltb, length, length-map, lt-ltb}
+use Rattle.journal.proofs.Names.{needs, number_twice, sym, true, ℕ}
 use Rattle.journal.proofs.KeyTurns.{count-keys}
 use Rattle.journal.proofs.keys.bad.Statement.{statement}
 use Rattle.journal.proofs.keys.bad.Tie as tie
 
 -- a retired key, or a number twice
 abbrev worse : List Sm4Cipher → Bool
-worse ks = anyRetired ks || numberTwice ks
+worse ks = any_retired ks || number_twice ks
 
-told : (keys : Keys) → keys.count ≤ 8 → worse (keysIn keys) ≡ badKeys keys
-unfolding badKeys
+told : (keys : Keys) → keys.count ≤ 8 → worse (keys_in keys) ≡ bad_keys keys
+unfolding bad_keys
 told keys h = rw (le-ltb 8 keys.count h)
 
 none : (i : ℕ) (ks : List Sm4Cipher) → length ks ≤ i → false ≡ worse (drop i ks)
-unfolding anyRetired numberTwice
+unfolding any_retired number_twice
 none i ks h = sym (ap worse (drop_of_length-le ks h))
 
 -- by the first of the keys, or by those behind it
 module _ (c : Sm4Cipher) (cs all : List Sm4Cipher) (e : all ≡ c ∷ cs) where
   retired : c.retired ≡ true → true ≡ worse all
-  unfolding anyRetired
+  unfolding any_retired
   retired f = rw (e, f)
 
-  module _ (n : ℕ) (k : n ≡ keyNumber c) where
-    twice : hasNumber n cs ≡ true → true ≡ worse all
-    unfolding numberTwice
-    twice f = by-test (anyRetired all) (λ g. rw g) (λ g. rw (g, e, ← k, f))
+  module _ (n : ℕ) (k : n ≡ key_number c) where
+    twice : has_number n cs ≡ true → true ≡ worse all
+    unfolding number_twice
+    twice f = by_test (any_retired all) (λ g. rw g) (λ g. rw (g, e, ← k, f))
 
-    neither : c.retired ≡ false → hasNumber n cs ≡ false → worse cs ≡ worse all
-    unfolding anyRetired numberTwice
+    neither : c.retired ≡ false → has_number n cs ≡ false → worse cs ≡ worse all
+    unfolding any_retired number_twice
     neither f g = rw (e, f, ← k, g)
 
-abbrev invariant-loop : tie.invariant-loop
-invariant-loop keys i₀ i =
+abbrev invariant_loop : tie.invariant_loop
+invariant_loop keys i₀ i =
     (keys.count ≤ 8)
-    × (length (keysIn keys) ≡ keys.count)
+    × (length (keys_in keys) ≡ keys.count)
     × (i ≤ keys.count)
-    × (worse (drop i (keysIn keys)) ≡ badKeys keys)
+    × (worse (drop i (keys_in keys)) ≡ bad_keys keys)
 
-abbrev decreases-loop : tie.decreases-loop
-decreases-loop keys i₀ i = keys.count - i
+abbrev decreases_loop : tie.decreases_loop
+decreases_loop keys i₀ i = keys.count - i
 
-loop-holds : tie.Need-loop-init invariant-loop decreases-loop
-loop-holds c =
+loop_holds : tie.Need-loop-init invariant_loop decreases_loop
+loop_holds c =
     let S = c.before.before in
     let eight = sym (length-map S.args.keys.keys _) ∙ S.well-formed.0.1.1.1.0.1.0.1 in
     (omega arith, count-keys S.args.keys eight (omega arith), omega arith, told S.args.keys (omega arith))
 
-pub bad-spec : {M : Type 1} → statement M
-bad-spec =
-    tie.close (tie.spec invariant-loop decreases-loop (λ c. unfold badKeys in rw (lt-ltb _ _ c.if1.true)) loop-holds (λ c κs. omega arith)
+pub bad_spec : {M : Type 1} → statement M
+bad_spec =
+    tie.close (tie.spec invariant_loop decreases_loop (λ c. unfold bad_keys in rw (lt-ltb _ _ c.if1.true)) loop_holds (λ c κs. omega arith)
     (λ c. let x = c.before in retired _ _ _ x.at.ensures.1 c.if3.true ∙ x.before.before.before.loop.invariant.3)
     (λ c κs. search needs) (λ c. omega arith) (λ c κs. omega arith)
     (λ c.

@@ -1,7 +1,7 @@
 -- `keys::find_from` meets its contract. The loop's invariant: the place that is sought is found from here on too. The measure is how many
 -- keys are to come.
-use Rattle.journal.proofs.Names.{Keys, List, Sm4Cipher, ◌+◌, ◌-◌, ◌∙◌, ◌∷◌, ◌≡◌, ◌≤◌, ap, arith, by-test, drop, drop_of_length-le}
-use Rattle.journal.proofs.Names.{eq-eqb, hasNumber, keyNumber, keysIn, le-ltb, length, length-drop, length-map, lt-ltb, ltb}
+use Rattle.journal.proofs.Names.{Keys, List, Sm4Cipher, ◌+◌, ◌-◌, ◌∙◌, ◌∷◌, ◌≡◌, ◌≤◌, ap, arith, by_test, drop, drop_of_length-le}
+use Rattle.journal.proofs.Names.{eq-eqb, has_number, key_number, keys_in, le-ltb, length, length-drop, length-map, lt-ltb, ltb}
 use Rattle.journal.proofs.Names.{ltb-false, ltb-true, ne_eqb, needs, place_of, refl, sym, ℕ}
 use Rattle.journal.proofs.KeyTurns.{count-keys}
 use Rattle.journal.proofs.keys.find_from.Statement.{statement}
@@ -9,43 +9,43 @@ use Rattle.journal.proofs.keys.find_from.Tie as tie
 
 -- the first of the keys has the number, or those behind it tell
 module _ (n : ℕ) (c : Sm4Cipher) (cs all : List Sm4Cipher) (e : all ≡ c ∷ cs) where
-  here : keyNumber c ≡ n → place_of n all ≡ 0
+  here : key_number c ≡ n → place_of n all ≡ 0
   unfolding place_of
-  here h = rw (e, eq-eqb (keyNumber c) n h)
+  here h = rw (e, eq-eqb (key_number c) n h)
 
-  behind : (keyNumber c ≡ n → ⊥) → place_of n all ≡ 1 + place_of n cs
+  behind : (key_number c ≡ n → ⊥) → place_of n all ≡ 1 + place_of n cs
   unfolding place_of
-  behind h = rw (e, ne_eqb (keyNumber c) n h)
+  behind h = rw (e, ne_eqb (key_number c) n h)
 
 none : (n i : ℕ) (cs : List Sm4Cipher) → length cs ≤ i → place_of n (drop i cs) ≡ 0
 unfolding place_of
 none n i cs h = ap (place_of n) (drop_of_length-le cs h)
 
 -- the place that is found is below the count where a key has the number
-told : (keys : Keys) (from n r : ℕ) → length (keysIn keys) ≡ keys.count → from ≤ keys.count
-    → r ≡ from + place_of n (drop from (keysIn keys))
-    → (r ≡ from + place_of n (drop from (keysIn keys))) × (ltb r keys.count ≡ hasNumber n (drop from (keysIn keys)))
+told : (keys : Keys) (from n r : ℕ) → length (keys_in keys) ≡ keys.count → from ≤ keys.count
+    → r ≡ from + place_of n (drop from (keys_in keys))
+    → (r ≡ from + place_of n (drop from (keys_in keys))) × (ltb r keys.count ≡ has_number n (drop from (keys_in keys)))
 told keys from n r l h e =
-    let p = place_of n (drop from (keysIn keys)) in
-    let m = length (drop from (keysIn keys)) in
-    let d = length-drop from (keysIn keys) in (
+    let p = place_of n (drop from (keys_in keys)) in
+    let m = length (drop from (keys_in keys)) in
+    let d = length-drop from (keys_in keys) in (
       e,
-      by-test (ltb p m) (λ t. lt-ltb r keys.count (omega (arith, ltb-true p m t)) ∙ sym t)
+      by_test (ltb p m) (λ t. lt-ltb r keys.count (omega (arith, ltb-true p m t)) ∙ sym t)
           (λ t. le-ltb r keys.count (omega (arith, ltb-false p m t)) ∙ sym t),
     )
 
-abbrev invariant-loop : tie.invariant-loop
-invariant-loop keys from number i₀ i =
-    (length (keysIn keys) ≡ keys.count)
+abbrev invariant_loop : tie.invariant_loop
+invariant_loop keys from number i₀ i =
+    (length (keys_in keys) ≡ keys.count)
     × (i ≤ keys.count)
-    × (i + place_of number (drop i (keysIn keys)) ≡ from + place_of number (drop from (keysIn keys)))
+    × (i + place_of number (drop i (keys_in keys)) ≡ from + place_of number (drop from (keys_in keys)))
 
-abbrev decreases-loop : tie.decreases-loop
-decreases-loop keys from number i₀ i = keys.count - i
+abbrev decreases_loop : tie.decreases_loop
+decreases_loop keys from number i₀ i = keys.count - i
 
-pub find-from-spec : {M : Type 1} → statement M
-find-from-spec =
-    tie.close (tie.spec invariant-loop decreases-loop
+pub find_from_spec : {M : Type 1} → statement M
+find_from_spec =
+    tie.close (tie.spec invariant_loop decreases_loop
     (λ c. (count-keys _ (sym (length-map c.args.keys.keys _) ∙ c.well-formed.0.1.1.1.0.1.0.1) c.requires.1, c.requires.0, refl))
     (λ c κs. (omega arith, c.before.before.before.requires.1)) (λ c κs. search needs)
     (λ c.
@@ -63,5 +63,5 @@ find-from-spec =
     (λ c.
     let l = c.before.before in
     let a = l.before.args in
-    let z = none a.number l.loop.i (keysIn a.keys) (omega arith) in
+    let z = none a.number l.loop.i (keys_in a.keys) (omega arith) in
     told a.keys a.from a.number _ l.loop.invariant.0 l.before.requires.0 (omega arith)))

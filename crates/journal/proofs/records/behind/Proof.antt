@@ -4,6 +4,6 @@ use Rattle.journal.proofs.Standing.{part-fits}
 use Rattle.journal.proofs.records.behind.Statement.{statement}
 use Rattle.journal.proofs.records.behind.Tie as tie
 
-pub behind-spec : {M : Type 1} → statement M
-behind-spec = tie.close (tie.spec (λ c κs. omega (arith, part-fits)) (λ c. search needs) (λ c. search needs)
+pub behind_spec : {M : Type 1} → statement M
+behind_spec = tie.close (tie.spec (λ c κs. omega (arith, part-fits)) (λ c. search needs) (λ c. search needs)
     (λ c κs. omega (arith, part-fits, c.word_at.ensures)) (λ c. unfold behind in rw (c.skip.ensures, c.before.word_at.ensures)))

@@ -3,6 +3,6 @@ use Rattle.journal.proofs.Names.{needs}
 use Rattle.journal.proofs.records.data.Statement.{statement}
 use Rattle.journal.proofs.records.data.Tie as tie
 
-pub data-spec : {M : Type 1} → statement M
-data-spec = tie.close (tie.spec (λ c κs. search needs) (λ c κs. rw c.from-data.ensures c.before.before.requires.«data»)
+pub data_spec : {M : Type 1} → statement M
+data_spec = tie.close (tie.spec (λ c κs. search needs) (λ c κs. rw c.from-data.ensures c.before.before.requires.«data»)
     (λ c. rw (c.part_at.ensures, c.before.from-data.ensures)))

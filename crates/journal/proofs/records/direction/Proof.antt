@@ -1,12 +1,12 @@
 -- `records::direction` meets its contract, by what the match told of the byte.
-use Rattle.journal.proofs.Names.{Decrypt, Direction, ◌≡◌, ap, directionOf, needs, refl, suc, sym, zero, ℕ}
+use Rattle.journal.proofs.Names.{Decrypt, Direction, ◌≡◌, ap, direction_of, needs, refl, suc, sym, zero, ℕ}
 use Rattle.journal.proofs.records.direction.Statement.{statement}
 use Rattle.journal.proofs.records.direction.Tie as tie
 
-not-zero : (n : ℕ) → (n ≡ 0 → ⊥) → Decrypt ≡ directionOf n
+not-zero : (n : ℕ) → (n ≡ 0 → ⊥) → Decrypt ≡ direction_of n
 not-zero zero h = absurd (h refl)
 not-zero (suc n) h = refl
 
-pub direction-spec : {M : Type 1} → statement M
-direction-spec = tie.close (tie.spec (λ c. search needs) (λ c. ap {B = Direction} directionOf (sym c.match.keys1))
+pub direction_spec : {M : Type 1} → statement M
+direction_spec = tie.close (tie.spec (λ c. search needs) (λ c. ap {B = Direction} direction_of (sym c.match.keys1))
     (λ c. not-zero _ c.match.rest.1))

@@ -3,6 +3,6 @@ use Rattle.journal.proofs.Names.{needs}
 use Rattle.journal.proofs.records.from_data.Statement.{statement}
 use Rattle.journal.proofs.records.from_data.Tie as tie
 
-pub from-data-spec : {M : Type 1} → statement M
-from-data-spec = tie.close (tie.spec (λ c κs. search needs) (λ c κs. rw c.from-label.ensures c.before.before.requires.label)
+pub from_data_spec : {M : Type 1} → statement M
+from_data_spec = tie.close (tie.spec (λ c κs. search needs) (λ c κs. rw c.from-label.ensures c.before.before.requires.label)
     (λ c. rw (c.behind.ensures, c.before.from-label.ensures)))

@@ -3,6 +3,6 @@ use Rattle.journal.proofs.Names.{needs}
 use Rattle.journal.proofs.records.from_iv.Statement.{statement}
 use Rattle.journal.proofs.records.from_iv.Tie as tie
 
-pub from-iv-spec : {M : Type 1} → statement M
-from-iv-spec = tie.close (tie.spec (λ c κs. search needs) (λ c κs. rw c.from-data.ensures c.before.before.requires.«data»)
+pub from_iv_spec : {M : Type 1} → statement M
+from_iv_spec = tie.close (tie.spec (λ c κs. search needs) (λ c κs. rw c.from-data.ensures c.before.before.requires.«data»)
     (λ c. rw (c.behind.ensures, c.before.from-data.ensures)))

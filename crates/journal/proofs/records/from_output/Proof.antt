@@ -3,5 +3,5 @@ use Rattle.journal.proofs.Names.{needs}
 use Rattle.journal.proofs.records.from_output.Statement.{statement}
 use Rattle.journal.proofs.records.from_output.Tie as tie
 
-pub from-output-spec : {M : Type 1} → statement M
-from-output-spec = tie.close (tie.spec (λ c κs. search needs) (λ c κs. search needs) (λ c. cc))
+pub from_output_spec : {M : Type 1} → statement M
+from_output_spec = tie.close (tie.spec (λ c κs. search needs) (λ c κs. search needs) (λ c. cc))

@@ -3,6 +3,6 @@ use Rattle.journal.proofs.Names.{needs}
 use Rattle.journal.proofs.records.iv.Statement.{statement}
 use Rattle.journal.proofs.records.iv.Tie as tie
 
-pub iv-spec : {M : Type 1} → statement M
-iv-spec = tie.close (tie.spec (λ c κs. search needs) (λ c κs. rw c.from-iv.ensures c.before.before.requires.iv)
+pub iv_spec : {M : Type 1} → statement M
+iv_spec = tie.close (tie.spec (λ c κs. search needs) (λ c κs. rw c.from-iv.ensures c.before.before.requires.iv)
     (λ c. rw (c.part_at.ensures, c.before.from-iv.ensures)))

@@ -3,6 +3,6 @@ use Rattle.journal.proofs.Names.{needs}
 use Rattle.journal.proofs.records.label.Statement.{statement}
 use Rattle.journal.proofs.records.label.Tie as tie
 
-pub label-spec : {M : Type 1} → statement M
-label-spec = tie.close (tie.spec (λ c κs. search needs) (λ c κs. rw c.from-label.ensures c.before.before.requires.label)
+pub label_spec : {M : Type 1} → statement M
+label_spec = tie.close (tie.spec (λ c κs. search needs) (λ c κs. rw c.from-label.ensures c.before.before.requires.label)
     (λ c. rw (c.part_at.ensures, c.before.from-label.ensures)))

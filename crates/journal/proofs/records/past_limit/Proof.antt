@@ -1,11 +1,11 @@
 -- `records::past_limit` meets its contract: each return is the definition, by the tests that led there.
-use Rattle.journal.proofs.Names.{le-ltb, lt-ltb, pastLimit}
+use Rattle.journal.proofs.Names.{le-ltb, lt-ltb, past_limit}
 use Rattle.journal.proofs.records.past_limit.Statement.{statement}
 use Rattle.journal.proofs.records.past_limit.Tie as tie
 
-pub past-limit-spec : {M : Type 1} → statement M
-past-limit-spec =
-    tie.close (tie.spec (λ c. unfold pastLimit in rw (lt-ltb _ _ c.if1.true))
-    (λ c. unfold pastLimit in rw (le-ltb _ _ c.before.if1.false, lt-ltb _ _ c.if2.true))
-    (λ c. unfold pastLimit in rw (le-ltb _ _ c.before.before.if1.false, le-ltb _ _ c.before.if2.false, lt-ltb _ _ c.if3.true))
-    (λ c. unfold pastLimit in rw (le-ltb _ _ c.before.before.if1.false, le-ltb _ _ c.before.if2.false, le-ltb _ _ c.if3.false)))
+pub past_limit_spec : {M : Type 1} → statement M
+past_limit_spec =
+    tie.close (tie.spec (λ c. unfold past_limit in rw (lt-ltb _ _ c.if1.true))
+    (λ c. unfold past_limit in rw (le-ltb _ _ c.before.if1.false, lt-ltb _ _ c.if2.true))
+    (λ c. unfold past_limit in rw (le-ltb _ _ c.before.before.if1.false, le-ltb _ _ c.before.if2.false, lt-ltb _ _ c.if3.true))
+    (λ c. unfold past_limit in rw (le-ltb _ _ c.before.before.if1.false, le-ltb _ _ c.before.if2.false, le-ltb _ _ c.if3.false)))

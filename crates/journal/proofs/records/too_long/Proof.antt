@@ -3,6 +3,6 @@ use Rattle.journal.proofs.Names.{front, needs}
 use Rattle.journal.proofs.records.too_long.Statement.{statement}
 use Rattle.journal.proofs.records.too_long.Tie as tie
 
-pub too-long-spec : {M : Type 1} → statement M
-too-long-spec = tie.close (tie.spec (λ c κs. search needs) (λ c κs. search needs) (λ c κs. search needs) (λ c κs. search needs)
+pub too_long_spec : {M : Type 1} → statement M
+too_long_spec = tie.close (tie.spec (λ c κs. search needs) (λ c κs. search needs) (λ c κs. search needs) (λ c κs. search needs)
     (λ c κs. search needs) (λ c. unfold front in cc))

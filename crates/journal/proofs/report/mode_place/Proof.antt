@@ -3,6 +3,6 @@ use Rattle.journal.proofs.Names.{arith, le-ltb, lt-ltb}
 use Rattle.journal.proofs.report.mode_place.Statement.{statement}
 use Rattle.journal.proofs.report.mode_place.Tie as tie
 
-pub mode-place-spec : {M : Type 1} → statement M
-mode-place-spec = tie.close (tie.spec (λ c. (rw (lt-ltb _ _ c.if1.true), omega arith))
+pub mode_place_spec : {M : Type 1} → statement M
+mode_place_spec = tie.close (tie.spec (λ c. (rw (lt-ltb _ _ c.if1.true), omega arith))
     (λ c. (rw (le-ltb _ _ c.if1.false), omega arith)))

@@ -1,16 +1,16 @@
 -- `writer::put_answered` meets its contract: room and number, and behind them the output.
 use Rattle.journal.proofs.Names.{needs}
-use Rattle.journal.proofs.Writing.{copied-then, length-middle}
+use Rattle.journal.proofs.Writing.{copied_then, length-middle}
 use Rattle.journal.proofs.writer.put_answered.Statement.{statement}
 use Rattle.journal.proofs.writer.put_answered.Tie as tie
 
-pub put-answered-spec : {M : Type 1} → statement M
-put-answered-spec =
+pub put_answered_spec : {M : Type 1} → statement M
+put_answered_spec =
     tie.close (tie.spec (λ c κs. search needs) (λ c. search needs) (λ c κs. search needs) (λ c. search needs) (λ c. search needs)
     (λ c. search needs) (λ c κs. search needs) (λ c. search needs)
     (λ c.
     let x = c.before.before in
     let l = x.before.before.before.before in
     let m = l.before.before.before in
-    copied-then _ _ _ _ _ _ 5 m.middle.ensures (length-middle m.before.before.before.args.call) l.copy.ensures.1
+    copied_then _ _ _ _ _ _ 5 m.middle.ensures (length-middle m.before.before.before.args.call) l.copy.ensures.1
     x.put-part.ensures))

@@ -1,7 +1,7 @@
 -- `writer::put_asked` meets its contract: head, label, data and IV, one behind the other.
 use Rattle.journal.proofs.Names.{◌++◌, ◌+◌, ◌∙◌, ◌≡◌, append_assoc, arith, head_of, length, length-append, needs, now, over-behind}
 use Rattle.journal.proofs.Names.{part}
-use Rattle.journal.proofs.Writing.{copied-then, length-part-of, length-head}
+use Rattle.journal.proofs.Writing.{copied_then, length-part-of, length-head}
 use Rattle.journal.proofs.writer.put_asked.Statement.{statement}
 use Rattle.journal.proofs.writer.put_asked.Tie as tie
 
@@ -16,7 +16,7 @@ returns c =
     let h = head_of a.call in
     let l = part (now a.label) in
     let d = part (now a.«data») in
-    let first = copied-then h l _ (now a.out) _ _ 6 at_head.head.ensures (length-head a.call) at_copy.copy.ensures.1
+    let first = copied_then h l _ (now a.out) _ _ 6 at_head.head.ensures (length-head a.call) at_copy.copy.ensures.1
     at_label.put-part.ensures in
     let n : length (h ++ l) ≡ 10 + length (now a.label) =
     omega (arith, length-append h l, length-head a.call, length-part-of (now a.label)) in
@@ -26,8 +26,8 @@ returns c =
     over-behind ((h ++ l) ++ d) (part (now a.iv)) (now a.out) _ _ _ m second at-iv.put-part3.ensures
     ∙ simp append_assoc
 
-pub put-asked-spec : {M : Type 1} → statement M
-put-asked-spec = tie.close (tie.spec (λ c κs. search needs) (λ c. search needs) (λ c κs. search needs) (λ c. search needs)
+pub put_asked_spec : {M : Type 1} → statement M
+put_asked_spec = tie.close (tie.spec (λ c κs. search needs) (λ c. search needs) (λ c κs. search needs) (λ c. search needs)
     (λ c. search needs) (λ c. search needs) (λ c κs. search needs) (λ c. search needs) (λ c. search needs) (λ c. search needs)
     (λ c. search needs) (λ c. search needs) (λ c κs. search needs) (λ c. search needs) (λ c. search needs) (λ c. search needs)
     (λ c. search needs) (λ c. search needs) (λ c κs. search needs) (λ c. search needs) returns)

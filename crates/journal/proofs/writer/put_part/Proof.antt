@@ -1,11 +1,11 @@
 -- `writer::put_part` meets its contract: the length, and behind it the part.
-use Rattle.journal.proofs.Names.{bytes_of, length, length-bytesOf, needs, now, part}
-use Rattle.journal.proofs.Writing.{whole-copied, copied-then}
+use Rattle.journal.proofs.Names.{bytes_of, length, length-bytes_of, needs, now, part}
+use Rattle.journal.proofs.Writing.{whole_copied, copied_then}
 use Rattle.journal.proofs.writer.put_part.Statement.{statement}
 use Rattle.journal.proofs.writer.put_part.Tie as tie
 
-pub put-part-spec : {M : Type 1} → statement M
-put-part-spec =
+pub put_part_spec : {M : Type 1} → statement M
+put_part_spec =
     tie.close (tie.spec (λ c. search needs) (λ c κs. search needs) (λ c. search needs) (λ c κs. search needs) (λ c. search needs)
     (λ c. search needs) (λ c. search needs) (λ c κs. search needs) (λ c. search needs)
     (λ c.
@@ -14,5 +14,5 @@ put-part-spec =
     let s = l.before.before.before in
     let p = now s.before.before.before.args.p in
     unfold part in
-    copied-then (bytes_of 4 (length p)) p _ _ _ _ 4 s.split.ensures (length-bytesOf 4 (length p)) l.copy.ensures.1
-    (whole-copied p _ _ x.copy2.ensures.1)))
+    copied_then (bytes_of 4 (length p)) p _ _ _ _ 4 s.split.ensures (length-bytes_of 4 (length p)) l.copy.ensures.1
+    (whole_copied p _ _ x.copy2.ensures.1)))

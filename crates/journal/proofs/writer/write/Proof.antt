@@ -16,16 +16,16 @@ module _ (x : tie.After-past-limit) where
   entry =
       entry_of start.args.call (now start.args.label) (now start.args.«data») (now start.args.iv) (now start.args.output)
 
-short-there : (c : tie.Else1) → Short (entry c.before)
-short-there c = short (entry c.before) (sym c.before.past-limit.ensures ∙ c.if1.false)
+short_there : (c : tie.Else1) → Short (entry c.before)
+short_there c = short (entry c.before) (sym c.before.past-limit.ensures ∙ c.if1.false)
 
-put-answered-requires : tie.Need-put-answered-requires
-put-answered-requires c κs =
+put-answered_requires : tie.Need-put-answered-requires
+put-answered_requires c κs =
     let fits = c.before.before.before.before.before in
-    ((short-there fits.before).output, simp (length-take, length-drop) (omega (arith, fits.if2.false)))
+    ((short_there fits.before).output, simp (length-take, length-drop) (omega (arith, fits.if2.false)))
 
-returns-3 : tie.Need-returns-3
-returns-3 c =
+returns_3 : tie.Need-returns-3
+returns_3 c =
     let at-answered = c.before.before in
     let at-asked = at-answered.before.before.before.before in
     let fits = at-asked.before.before in
@@ -39,8 +39,8 @@ returns-3 c =
 pub write_spec : {M : Type 1} → statement M
 write_spec =
     tie.close (tie.spec (λ c κs. search needs) (λ c. unfold write in rw (sym c.before.past-limit.ensures ∙ c.if1.true))
-    (λ c. search needs) (λ c. search needs) (λ c. search needs) (λ c. omega (arith, short-there c)) (λ c. omega (arith, short-there c))
-    (λ c. omega (arith, short-there c)) (λ c. omega (arith, short-there c)) (λ c. omega (arith, short-there c))
+    (λ c. search needs) (λ c. search needs) (λ c. search needs) (λ c. omega (arith, short_there c)) (λ c. omega (arith, short_there c))
+    (λ c. omega (arith, short_there c)) (λ c. omega (arith, short_there c)) (λ c. omega (arith, short_there c))
     (λ c.
     let x = c.before.before in
     unfold write in
@@ -48,5 +48,5 @@ write_spec =
       sym x.past-limit.ensures ∙ c.before.if1.false,
       lt-ltb (length (now (start x).args.out)) (length (written (entry x))) (omega (arith, c.if2.true, length-written (entry x))),
     ))
-    (λ c κs. let s = short-there c.before.before in (s.label, (s.«data», (s.iv, omega (arith, c.before.if2.false)))))
-    (λ c. search needs) (λ c. search needs) (λ c. search needs) put-answered-requires (λ c. search needs) returns-3)
+    (λ c κs. let s = short_there c.before.before in (s.label, (s.«data», (s.iv, omega (arith, c.before.if2.false)))))
+    (λ c. search needs) (λ c. search needs) (λ c. search needs) put-answered_requires (λ c. search needs) returns_3)

@@ -3,6 +3,6 @@ use Rattle.block.proofs.Base.{needs}
 use Rattle.luossavin.proofs.edition.luossavin_edition_open.Statement.{statement}
 use Rattle.luossavin.proofs.edition.luossavin_edition_open.Tie as tie
 
-pub luossavin-edition-open-spec : {M : Type 1} → statement M
-luossavin-edition-open-spec = tie.close (tie.spec (λ c κs. search needs) (λ c. search needs) (λ c κs. search needs) (λ c. search needs)
+pub luossavin_edition_open_spec : {M : Type 1} → statement M
+luossavin_edition_open_spec = tie.close (tie.spec (λ c κs. search needs) (λ c. search needs) (λ c κs. search needs) (λ c. search needs)
     (λ c. rw (← c.before.before.before.before.before.label.ensures) c.before.before.mode-call.ensures))

@@ -5,14 +5,14 @@ use Rattle.cipher_mode.specs.declared.Sm4Cipher.{Sm4Cipher}
 use Rattle.editions.specs.Which.{which}
 use Rattle.label.specs.Label.{label_of}
 use Rattle.label.proofs.LabelTells.{length_label}
-use Rattle.luossavin.specs.Key.{cipherIn}
-use Rattle.luossavin.specs.Edition.{hostEditionOpens}
-use Rattle.luossavin.proofs.Asked.{toOne, asked-ended, one-candidate}
+use Rattle.luossavin.specs.Key.{cipher_in}
+use Rattle.luossavin.specs.Edition.{host_edition_opens}
+use Rattle.luossavin.proofs.Asked.{to_one, asked_ended, one_candidate}
 use Rattle.luossavin.proofs.edition.luossavin_edition_opens.Statement.{statement}
 use Rattle.luossavin.proofs.edition.luossavin_edition_opens.Tie as tie
 
 returns : tie.Need-returns
-unfolding hostEditionOpens
+unfolding host_edition_opens
 returns c =
     let at-which = c.before in
     let at_key = at-which.before.before.before in
@@ -20,11 +20,11 @@ returns c =
     let a = at_label.before.before.before.args in
     let file = now a.sealed in
     let iv = now a.iv in
-    c.report-ended.ensures ∙ asked-ended at-which.which.result ∙ ap toOne at-which.which.ensures
-    ∙ ap₂ {C = Head} (λ (k : Sm4Cipher) (l : List ℕ). toOne (which k file iv l (6 ∷ []))) at_key.cipher-of.ensures
+    c.report-ended.ensures ∙ asked_ended at-which.which.result ∙ ap to_one at-which.which.ensures
+    ∙ ap₂ {C = Head} (λ (k : Sm4Cipher) (l : List ℕ). to_one (which k file iv l (6 ∷ []))) at_key.cipher-of.ensures
     at_label.label.ensures
-    ∙ one-candidate (cipherIn a.key) (label_of a.job a.edition) file iv (length_label a.job a.edition)
+    ∙ one_candidate (cipher_in a.key) (label_of a.job a.edition) file iv (length_label a.job a.edition)
 
-pub luossavin-edition-opens-spec : {M : Type 1} → statement M
-luossavin-edition-opens-spec = tie.close (tie.spec (λ c κs. search needs) (λ c κs. search needs) (λ c. search needs) (λ c. search needs)
+pub luossavin_edition_opens_spec : {M : Type 1} → statement M
+luossavin_edition_opens_spec = tie.close (tie.spec (λ c κs. search needs) (λ c κs. search needs) (λ c. search needs) (λ c. search needs)
     (λ c κs. search needs) (λ c κs. search needs) returns)

@@ -3,6 +3,6 @@ use Rattle.block.proofs.Base.{needs}
 use Rattle.luossavin.proofs.edition.luossavin_edition_seal.Statement.{statement}
 use Rattle.luossavin.proofs.edition.luossavin_edition_seal.Tie as tie
 
-pub luossavin-edition-seal-spec : {M : Type 1} → statement M
-luossavin-edition-seal-spec = tie.close (tie.spec (λ c κs. search needs) (λ c. search needs) (λ c κs. search needs) (λ c. search needs)
+pub luossavin_edition_seal_spec : {M : Type 1} → statement M
+luossavin_edition_seal_spec = tie.close (tie.spec (λ c κs. search needs) (λ c. search needs) (λ c κs. search needs) (λ c. search needs)
     (λ c. rw (← c.before.before.before.before.before.label.ensures) c.before.before.mode-call.ensures))

@@ -4,7 +4,7 @@ use Rattle.luossavin.specs.Recording.{at_most}
 use Rattle.luossavin.proofs.journals.at_most.Statement.{statement}
 use Rattle.luossavin.proofs.journals.at_most.Tie as tie
 
-pub at-most-spec : {M : Type 1} → statement M
+pub at_most_spec : {M : Type 1} → statement M
 unfolding at_most
-at-most-spec =
+at_most_spec =
     tie.close (tie.spec (λ c. (rw (lt-ltb _ _ c.if1.true), search needs)) (λ c. (rw (le-ltb _ _ c.if1.false), search needs)))

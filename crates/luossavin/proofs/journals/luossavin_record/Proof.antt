@@ -1,13 +1,13 @@
 -- `luossavin::journals::luossavin_record` meets its contract: the writer's record of the call, told as an answer.
 use Rattle.block.proofs.Base.{◌∙◌, ap, needs, now}
-use Rattle.luossavin.specs.Recording.{hostRecord}
-use Rattle.luossavin.proofs.Recorded.{leavesOutcome, written-recorded}
+use Rattle.luossavin.specs.Recording.{host_record}
+use Rattle.luossavin.proofs.Recorded.{leaves_outcome, written-recorded}
 use Rattle.luossavin.proofs.journals.luossavin_record.Statement.{statement}
 use Rattle.luossavin.proofs.journals.luossavin_record.Tie as tie
 
-pub luossavin-record-spec : {M : Type 1} → statement M
-unfolding hostRecord
-luossavin-record-spec =
+pub luossavin_record_spec : {M : Type 1} → statement M
+unfolding host_record
+luossavin_record_spec =
     tie.close (tie.spec (λ c κs. search needs) (λ c κs. search needs) (λ c. search needs) (λ c κs. search needs) (λ c. search needs)
     (λ c κs. search needs) (λ c. search needs) (λ c κs. search needs) (λ c κs. search needs) (λ c. search needs)
     (λ c.
@@ -16,6 +16,6 @@ luossavin-record-spec =
     let d = n.before.before.before in
     let o = now d.before.before.before.before.before.before.args.out in
     rw c.report-wrote.ensures
-    (ap leavesOutcome w.write.ensures
+    (ap leaves_outcome w.write.ensures
     ∙ written-recorded _ o
     ∙ rw (d.direction-of.ensures, n.before.before.at_most.ensures.0, n.before.at-most2.ensures.0, n.at-most3.ensures.0))))

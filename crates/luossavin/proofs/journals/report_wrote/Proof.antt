@@ -3,8 +3,8 @@ use Rattle.block.proofs.Base.{◌∙◌, needs}
 use Rattle.luossavin.proofs.journals.report_wrote.Statement.{statement}
 use Rattle.luossavin.proofs.journals.report_wrote.Tie as tie
 
-pub report-wrote-spec : {M : Type 1} → statement M
-report-wrote-spec = tie.close (tie.spec (λ c. search needs) (λ c κs. search needs) (λ c κs. search needs) (λ c. search needs)
+pub report_wrote_spec : {M : Type 1} → statement M
+report_wrote_spec = tie.close (tie.spec (λ c. search needs) (λ c κs. search needs) (λ c κs. search needs) (λ c. search needs)
     (λ c κs. search needs) (λ c. search needs) (λ c κs. search needs)
     (λ c. rw c.before.before.before.wrote.given.1 (c.report.ensures ∙ c.before.done.ensures))
     (λ c. rw c.before.enum_told.given.1 c.numbered.ensures) (λ c. rw c.before.enum-told2.given.1 c.numbered2.ensures))

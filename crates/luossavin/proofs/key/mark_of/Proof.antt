@@ -3,5 +3,5 @@ use Rattle.block.proofs.Base.{needs, le-ltb, lt-ltb}
 use Rattle.luossavin.proofs.key.mark_of.Statement.{statement}
 use Rattle.luossavin.proofs.key.mark_of.Tie as tie
 
-pub mark-of-spec : {M : Type 1} → statement M
-mark-of-spec = tie.close (tie.spec (λ c. rw (lt-ltb _ _ c.if1.true)) (λ c. search needs) (λ c. rw (le-ltb _ _ c.if1.false)))
+pub mark_of_spec : {M : Type 1} → statement M
+mark_of_spec = tie.close (tie.spec (λ c. rw (lt-ltb _ _ c.if1.true)) (λ c. search needs) (λ c. rw (le-ltb _ _ c.if1.false)))

@@ -1,28 +1,28 @@
 -- `luossavin::which::luossavin_which` meets its contract: it tells the verdict on the host's record, whose place is below 64.
 use Rattle.block.proofs.Base.{◌<◌, ◌∙◌, ap, arith, needs}
 use Rattle.editions.specs.Which.{Verdict, which}
-use Rattle.editions.proofs.WhichOpens.{place-below-64}
-use Rattle.luossavin.specs.Which.{toldOf, hostWhich}
-use Rattle.luossavin.proofs.Asked.{none-is-done}
+use Rattle.editions.proofs.WhichOpens.{place-below_64}
+use Rattle.luossavin.specs.Which.{told_of, host_which}
+use Rattle.luossavin.proofs.Asked.{none_is_done}
 use Rattle.luossavin.proofs.Marks.{mark-byte}
 use Rattle.luossavin.proofs.which.luossavin_which.Statement.{statement}
 use Rattle.luossavin.proofs.which.luossavin_which.Tie as tie
 
-cast-t12 : tie.Need-overflow-cast-t12
-cast-t12 c =
+cast_t12 : tie.Need-overflow-cast-t12
+cast_t12 c =
     let found = c.before.before.before.which in
     let place : found.result.place < 64 =
-    rw (ap (λ (v : Verdict). v.place) found.ensures) (place-below-64 _ _ _ _ _) in
+    rw (ap (λ (v : Verdict). v.place) found.ensures) (place-below_64 _ _ _ _ _) in
     record { fits = omega (arith, place) }
 
-pub luossavin-which-spec : {M : Type 1} → statement M
-unfolding hostWhich
-luossavin-which-spec =
+pub luossavin_which_spec : {M : Type 1} → statement M
+unfolding host_which
+luossavin_which_spec =
     tie.close (tie.spec (λ c κs. search needs) (λ c κs. search needs) (λ c κs. search needs) (λ c κs. search needs) (λ c. search needs)
-    cast-t12
+    cast_t12
     (λ c.
     let x = c.before in
     let w = x.before.before in
     let found = x.is-candidate in
-    rw (x.before.report-ended.ensures, none-is-done w.which.result.ended, mark-byte found.result, found.ensures)
-    (ap toldOf w.which.ensures ∙ rw w.before.cipher-of.ensures)))
+    rw (x.before.report-ended.ensures, none_is_done w.which.result.ended, mark-byte found.result, found.ensures)
+    (ap told_of w.which.ensures ∙ rw w.before.cipher-of.ensures)))

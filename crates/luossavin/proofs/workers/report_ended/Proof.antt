@@ -3,8 +3,8 @@ use Rattle.block.proofs.Base.{◌∙◌, needs}
 use Rattle.luossavin.proofs.workers.report_ended.Statement.{statement}
 use Rattle.luossavin.proofs.workers.report_ended.Tie as tie
 
-pub report-ended-spec : {M : Type 1} → statement M
-report-ended-spec = tie.close (tie.spec (λ c. search needs) (λ c κs. search needs) (λ c κs. search needs) (λ c. search needs)
+pub report_ended_spec : {M : Type 1} → statement M
+report_ended_spec = tie.close (tie.spec (λ c. search needs) (λ c κs. search needs) (λ c κs. search needs) (λ c. search needs)
     (λ c κs. search needs) (λ c. search needs) (λ c κs. search needs) (λ c κs. search needs)
     (λ c. rw c.before.before.before.ended.given.1 (c.report.ensures ∙ c.before.done.ensures))
     (λ c. rw c.before.enum_told.given.1 c.numbered.ensures)

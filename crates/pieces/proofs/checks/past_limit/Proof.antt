@@ -4,8 +4,8 @@ use Rattle.pieces.proofs.Cases.{by_order}
 use Rattle.pieces.proofs.checks.past_limit.Statement.{statement}
 use Rattle.pieces.proofs.checks.past_limit.Tie as tie
 
-pub past-limit-spec : {M : Type 1} → statement M
-past-limit-spec = tie.close (tie.spec
+pub past_limit_spec : {M : Type 1} → statement M
+past_limit_spec = tie.close (tie.spec
     (λ c. let a = c.before.args in rw (lt-ltb limit (a.total + a.n) (omega arith)))
     (λ c. let a = c.before.args in
     by_order (limit - a.total) a.n (λ h. rw (lt-ltb _ _ h, lt-ltb limit (a.total + a.n) (omega arith)))

@@ -3,8 +3,8 @@ use Rattle.pieces.proofs.Names.{eq-eqb, ne_eqb, needs, standing}
 use Rattle.pieces.proofs.checks.standing.Statement.{statement}
 use Rattle.pieces.proofs.checks.standing.Tie as tie
 
-pub standing-spec : {M : Type 1} → statement M
+pub standing_spec : {M : Type 1} → statement M
 unfolding standing
-standing-spec = tie.close (tie.spec (λ c. search (needs, eq-eqb, ne_eqb)) (λ c. search (needs, eq-eqb, ne_eqb))
+standing_spec = tie.close (tie.spec (λ c. search (needs, eq-eqb, ne_eqb)) (λ c. search (needs, eq-eqb, ne_eqb))
     (λ c. search (needs, eq-eqb, ne_eqb)) (λ c. search (needs, eq-eqb, ne_eqb)) (λ c. search (needs, eq-eqb, ne_eqb))
     (λ c. search (needs, eq-eqb, ne_eqb)) (λ c. search (needs, eq-eqb, ne_eqb)))

@@ -3,9 +3,9 @@ use Rattle.pieces.proofs.Names.{◌-◌, ◌≡◌, arith, needs, tagged}
 use Rattle.pieces.proofs.checks.tagged.Statement.{statement}
 use Rattle.pieces.proofs.checks.tagged.Tie as tie
 
-pub tagged-spec : {M : Type 1} → statement M
+pub tagged_spec : {M : Type 1} → statement M
 unfolding tagged
-tagged-spec = tie.close (tie.spec (λ c. search needs) (λ c. search needs) (λ c. search needs) (λ c. search needs) (λ c. search needs)
+tagged_spec = tie.close (tie.spec (λ c. search needs) (λ c. search needs) (λ c. search needs) (λ c. search needs) (λ c. search needs)
     (λ c. search needs)
     (λ c. let at_tag = c.before.before in
     let missing : 16 - at_tag.before.least.result ≡ 16 - at_tag.before.before.args.tag = omega arith in

@@ -3,7 +3,7 @@ use Rattle.pieces.proofs.Names.{needs, writing}
 use Rattle.pieces.proofs.checks.writing.Statement.{statement}
 use Rattle.pieces.proofs.checks.writing.Tie as tie
 
-pub writing-spec : {M : Type 1} → statement M
+pub writing_spec : {M : Type 1} → statement M
 unfolding writing
-writing-spec = tie.close (tie.spec (λ c. search needs) (λ c. search needs) (λ c. search needs)
+writing_spec = tie.close (tie.spec (λ c. search needs) (λ c. search needs) (λ c. search needs)
     (λ c. rw (c.and_then.ensures, c.before.running.ensures, c.before.before.refuse.ensures)))

@@ -3,6 +3,6 @@ use Rattle.pieces.proofs.Names.{needs}
 use Rattle.pieces.proofs.flow.begin.Statement.{statement}
 use Rattle.pieces.proofs.flow.begin.Tie as tie
 
-pub begin-spec : {M : Type 1} → statement M
-begin-spec = tie.close (tie.spec (λ c. search needs) (λ c κs. search needs)
+pub begin_spec : {M : Type 1} → statement M
+begin_spec = tie.close (tie.spec (λ c. search needs) (λ c κs. search needs)
     (λ c. rw (c.before.combine-block.ensures, c.ciphered.ensures)))

@@ -4,7 +4,7 @@ use Rattle.pieces.proofs.Fitting.{ciphered-words}
 use Rattle.pieces.proofs.flow.ciphered.Statement.{statement}
 use Rattle.pieces.proofs.flow.ciphered.Tie as tie
 
-pub ciphered-spec : {M : Type 1} → statement M
-ciphered-spec = tie.close (tie.spec (λ c κs. search needs) (λ c. search needs)
+pub ciphered_spec : {M : Type 1} → statement M
+ciphered_spec = tie.close (tie.spec (λ c κs. search needs) (λ c. search needs)
     (λ c. let a = c.before.before.before.args in
     rw (c.combine-block.ensures, c.before.encrypt.ensures, ciphered-words a.rk a.s (search needs) (λ i. search needs))))

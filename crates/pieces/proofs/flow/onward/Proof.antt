@@ -1,11 +1,11 @@
 -- `pieces::flow::onward` meets its contract: the stream starts at the next counter, and its end is the flow's.
-use Rattle.pieces.proofs.Names.{flowAfter, needs, refl}
+use Rattle.pieces.proofs.Names.{flow_after, needs, refl}
 use Rattle.pieces.proofs.Fitting.{spelt}
 use Rattle.pieces.proofs.flow.onward.Statement.{statement}
 use Rattle.pieces.proofs.flow.onward.Tie as tie
 
 returns : tie.Need-returns
-unfolding flowAfter
+unfolding flow_after
 returns c =
     let at-stream = c.before.before.before.before.before in
     let at-kind = at-stream.before.before in
@@ -14,9 +14,9 @@ returns c =
     let start = S.well-formed.1.1.1.0 in
     let streamed = at-stream.stream.ensures in
     rw (c.combine-block.ensures, streamed.0, streamed.1.0 refl, streamed.1.1, at-kind.kind-of.ensures)
-    (rw (at-kind.before.next-counter.ensures, at_split.split-block.ensures)
+    (rw (at-kind.before.next_counter_lem.ensures, at_split.split-block.ensures)
     (rw (spelt S.args.t4 (search (needs, start), λ i. search (needs, start))) (refl, refl)))
 
-pub onward-spec : {M : Type 1} → statement M
-onward-spec = tie.close (tie.spec (λ c. search needs) (λ c. search needs) (λ c. search needs) (λ c. search needs) (λ c κs. search needs)
+pub onward_spec : {M : Type 1} → statement M
+onward_spec = tie.close (tie.spec (λ c. search needs) (λ c. search needs) (λ c. search needs) (λ c. search needs) (λ c κs. search needs)
     (λ c. search needs) (λ c. search needs) returns)

@@ -3,6 +3,6 @@ use Rattle.pieces.proofs.Names.{◌∙◌, needs, unwords-number}
 use Rattle.pieces.proofs.hashing.bytes_of.Statement.{statement}
 use Rattle.pieces.proofs.hashing.bytes_of.Tie as tie
 
-pub bytes-of-spec : {M : Type 1} → statement M
-bytes-of-spec = tie.close (tie.spec (λ c κs. search needs) (λ c κs. search needs)
+pub bytes_of_spec : {M : Type 1} → statement M
+bytes_of_spec = tie.close (tie.spec (λ c κs. search needs) (λ c κs. search needs)
     (λ c. c.combine-block.ensures ∙ unwords-number _ _ c.before.from-u128.ensures))

@@ -7,8 +7,8 @@ use Rattle.pieces.proofs.opens.same_tag.Tie as tie
 mask_is : (s : tie.Start) → Sixteen s.args.t2
 mask_is s = (search needs, λ i. search needs)
 
-hash-is : (s : tie.Start) → Sixteen s.args.t3
-hash-is s = (search needs, λ i. search needs)
+hash_is : (s : tie.Start) → Sixteen s.args.t3
+hash_is s = (search needs, λ i. search needs)
 
 returns : tie.Need-returns
 returns c =
@@ -18,8 +18,8 @@ returns c =
     let mask = S.args.t2 in
     let hash = S.args.t3 in
     c.is-tag.ensures ∙ rw (c.before.block-xor.ensures, at-mask.split-block.ensures, at-hash.split-block2.ensures)
-    (rw (unwords-xors (words mask) (words hash) (length-words mask) (length-words hash), spelt mask (mask_is S), spelt hash (hash-is S)))
+    (rw (unwords-xors (words mask) (words hash) (length-words mask) (length-words hash), spelt mask (mask_is S), spelt hash (hash_is S)))
 
-pub same-tag-spec : {M : Type 1} → statement M
-same-tag-spec = tie.close (tie.spec (λ c. search needs) (λ c. search needs) (λ c. search needs) (λ c. search needs) (λ c. search needs)
+pub same_tag_spec : {M : Type 1} → statement M
+same_tag_spec = tie.close (tie.spec (λ c. search needs) (λ c. search needs) (λ c. search needs) (λ c. search needs) (λ c. search needs)
     (λ c. search needs) returns)

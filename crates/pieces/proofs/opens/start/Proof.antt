@@ -1,13 +1,13 @@
 -- `pieces::opens::start` meets its contract: what the checks refuse is refused, and otherwise the label's hash and the cipher of J0
 -- are `tagging::begin`'s.
-use Rattle.pieces.proofs.Names.{◌∙◌, iv-twelve-or-sixteen, needs, opensAfter, opensStart, sym}
-use Rattle.pieces.proofs.Passing.{starting-passed}
+use Rattle.pieces.proofs.Names.{◌∙◌, iv_twelve_or_sixteen, needs, opens_after, opens_start, sym}
+use Rattle.pieces.proofs.Passing.{starting_passed}
 use Rattle.pieces.proofs.opens.start.Statement.{statement}
 use Rattle.pieces.proofs.opens.start.Tie as tie
 
-returns-2 : tie.Need-returns-2
-unfolding opensStart opensAfter
-returns-2 c =
+returns_2 : tie.Need-returns-2
+unfolding opens_start opens_after
+returns_2 c =
     let at-begin = c.before.before.before in
     let told = at-begin.before.before.before.before.before.before in
     let at-check = told.before.before in
@@ -16,7 +16,7 @@ returns-2 c =
     (rw at-check.before.number_in.ensures)
 
 pub start_spec : {M : Type 1} → statement M
-unfolding opensStart
+unfolding opens_start
 start_spec = tie.close (tie.spec (λ c. search needs) (λ c. search needs) (λ c. search needs) (λ c. search needs) (λ c. search needs)
     (λ c. search needs)
     (λ c. let told = c.before.before.before.before in
@@ -24,6 +24,6 @@ start_spec = tie.close (tie.spec (λ c. search needs) (λ c. search needs) (λ c
     (rw (c.before.number.ensures, told.before.before.before.number_in.ensures)))
     (λ c. search needs) (λ c. search needs) (λ c. search needs) (λ c. search needs) (λ c κs. search needs)
     (λ c κs. let told = c.before.before.before.before.before in
-    let iv = (starting-passed _ _ _ _ _ (sym told.before.before.gcm-start.ensures ∙ told.enum_told.given.1)).taken in
-    (c.lent.ensures.0, iv-twelve-or-sixteen _ iv))
-    (λ c. search needs) returns-2)
+    let iv = (starting_passed _ _ _ _ _ (sym told.before.before.gcm-start.ensures ∙ told.enum_told.given.1)).taken in
+    (c.lent.ensures.0, iv_twelve_or_sixteen _ iv))
+    (λ c. search needs) returns_2)

@@ -7,11 +7,11 @@ use Rattle.pieces.proofs.tagging.begin.Tie as tie
 returns : tie.Need-returns
 returns c =
     let at-counter = c.before.before in
-    let w = at-counter.first-counter.result in
+    let w = at-counter.first_counter_lem.result in
     let word : Fits w32 (get_or w 3 0) = search needs in
-    rw (← last-four w word.fits, c.before.begin.ensures, c.ciphered.ensures, at-counter.first-counter.ensures)
+    rw (← last-four w word.fits, c.before.begin.ensures, c.ciphered.ensures, at-counter.first_counter_lem.ensures)
     (rw at-counter.before.hash-key.ensures (refl, (refl, (refl, refl))))
 
-pub begin-spec : {M : Type 1} → statement M
-begin-spec = tie.close (tie.spec (λ c κs. search needs) (λ c κs. c.before.before.before.before.requires.1) (λ c. search needs)
+pub begin_spec : {M : Type 1} → statement M
+begin_spec = tie.close (tie.spec (λ c κs. search needs) (λ c κs. c.before.before.before.before.requires.1) (λ c. search needs)
     (λ c. search needs) (λ c κs. search needs) returns)

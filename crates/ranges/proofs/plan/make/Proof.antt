@@ -1,12 +1,12 @@
 -- `plan::make` meets its contract: each return is the tests that led to it, and a piece is short enough for a plan of 64.
 use Rattle.ranges.proofs.Names.{arith, eq-eqb, le-ltb, lt-ltb, ne_eqb, needs, planned}
-use Rattle.ranges.proofs.Sharing.{short-enough}
+use Rattle.ranges.proofs.Sharing.{short_enough}
 use Rattle.ranges.proofs.plan.make.Statement.{statement}
 use Rattle.ranges.proofs.plan.make.Tie as tie
 
-returns-4 : tie.Need-returns-4
+returns_4 : tie.Need-returns-4
 unfolding planned
-returns-4 c =
+returns_4 c =
     let b = c.before.before in
     rw (c.plan-in.ensures, c.before.piece-size.ensures, ne_eqb _ _ b.before.before.if1.left, le-ltb _ _ b.before.if2.left)
     (rw (le-ltb _ _ b.if3.left))
@@ -19,4 +19,4 @@ make_spec = tie.close (tie.spec (λ c. search needs) (λ c. rw (c.without.ensure
     (rw (lt-ltb _ _ b.if3.taken)))
     (λ c. search needs)
     (λ c κs. let a = c.before.before.before.before.args in
-    omega (arith, short-enough a.n a.workers (omega arith) (omega arith), c.piece-size.ensures)) returns-4)
+    omega (arith, short_enough a.n a.workers (omega arith) (omega arith), c.piece-size.ensures)) returns_4)

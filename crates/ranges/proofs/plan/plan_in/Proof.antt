@@ -1,24 +1,24 @@
 -- `plan::plan_in` meets its contract. The loop's invariant: the places so far, and those still to come from byte `at` on, are the
 -- plan. The measure is how many are to come.
-use Rattle.ranges.proofs.Names.{◌*◌, ◌-◌, ◌∙◌, ◌≡◌, ◌≤◌, arith, length, length-set, needs, planIn, zero-add}
-use Rattle.ranges.proofs.Laying.{laid, laid_more, laid-all}
+use Rattle.ranges.proofs.Names.{◌*◌, ◌-◌, ◌∙◌, ◌≡◌, ◌≤◌, arith, length, length-set, needs, plan_in, zero-add}
+use Rattle.ranges.proofs.Laying.{laid, laid_more, laid_all}
 use Rattle.ranges.proofs.plan.plan_in.Statement.{statement}
 use Rattle.ranges.proofs.plan.plan_in.Tie as tie
 
-abbrev invariant-loop : tie.invariant-loop
-invariant-loop n size starts₀ lengths₀ count₀ at₀ i₀ starts lengths count at i =
+abbrev invariant_loop : tie.invariant_loop
+invariant_loop n size starts₀ lengths₀ count₀ at₀ i₀ starts lengths count at i =
     (i ≤ 64)
     × (count ≤ i)
     × (at ≤ i * 33554432)
     × (length starts ≡ 64)
     × (length lengths ≡ 64)
-    × (laid n size count starts lengths at i ≡ planIn n size)
+    × (laid n size count starts lengths at i ≡ plan_in n size)
 
-abbrev decreases-loop : tie.decreases-loop
-decreases-loop n size starts₀ lengths₀ count₀ at₀ i₀ starts lengths count at i = 64 - i
+abbrev decreases_loop : tie.decreases_loop
+decreases_loop n size starts₀ lengths₀ count₀ at₀ i₀ starts lengths count at i = 64 - i
 
-loop-again : tie.Need-loop-preserved invariant-loop decreases-loop
-loop-again c =
+loop_again : tie.Need-loop-preserved invariant_loop decreases_loop
+loop_again c =
     let l = c.before.before.before.before.loop in
     let a = c.before.before.before.before.before.args in (
       omega arith,
@@ -31,13 +31,13 @@ loop-again c =
           ∙ l.invariant.5,
     )
 
-returns : tie.Need-returns invariant-loop decreases-loop
+returns : tie.Need-returns invariant_loop decreases_loop
 returns c =
     let l = c.before.loop in
     let a = c.before.before.args in
-    laid-all a.n a.size l.count l.starts l.lengths l.at l.i l.invariant.3 l.invariant.4 (omega arith) ∙ l.invariant.5
+    laid_all a.n a.size l.count l.starts l.lengths l.at l.i l.invariant.3 l.invariant.4 (omega arith) ∙ l.invariant.5
 
-pub plan-in-spec : {M : Type 1} → statement M
-plan-in-spec = tie.close (tie.spec invariant-loop decreases-loop (λ c. (omega arith, omega arith, omega arith, search needs, search needs, rw zero-add))
+pub plan_in_spec : {M : Type 1} → statement M
+plan_in_spec = tie.close (tie.spec invariant_loop decreases_loop (λ c. (omega arith, omega arith, omega arith, search needs, search needs, rw zero-add))
     (λ c. search needs) (λ c. omega arith) (λ c. omega arith) (λ c. search needs) (λ c. omega arith) (λ c. omega arith) (λ c. search needs)
-    (λ c. record { fits = omega arith }) (λ c. omega arith) (λ c. omega arith) (λ c. omega arith) loop-again returns)
+    (λ c. record { fits = omega arith }) (λ c. omega arith) (λ c. omega arith) (λ c. omega arith) loop_again returns)

@@ -3,5 +3,5 @@ use Rattle.ranges.proofs.Names.{le-ltb, lt-ltb}
 use Rattle.ranges.proofs.plan.start_at.Statement.{statement}
 use Rattle.ranges.proofs.plan.start_at.Tie as tie
 
-pub start-at-spec : {M : Type 1} → statement M
-start-at-spec = tie.close (tie.spec (λ c. rw (lt-ltb _ _ c.if1.taken)) (λ c. rw (le-ltb _ _ c.if1.left)))
+pub start_at_spec : {M : Type 1} → statement M
+start_at_spec = tie.close (tie.spec (λ c. rw (lt-ltb _ _ c.if1.taken)) (λ c. rw (le-ltb _ _ c.if1.left)))

@@ -15,11 +15,11 @@ returns c =
     let a = S.args in
     let iv = now a.iv in
     let small : (i : ℕ) → get_or iv i 0 < 256 = λ i. omega (arith, at-iv.shared-slice-known2.given i) in
-    let is-iv = spelled iv _ S.pre.1.0 small at_split.split-block.ensures in
+    let is_iv = spelled iv _ S.pre.1.0 small at_split.split-block.ensures in
     let stretched = jumped a.rk iv (now a.«data») a.offset S.pre.1.0 (below_each 256 iv small) in
-    rw (at-run.run.ensures.1, at-begin.begin.ensures, at-begin.before.jump.ensures, is-iv, stretched)
+    rw (at-run.run.ensures.1, at-begin.begin.ensures, at-begin.before.jump.ensures, is_iv, stretched)
 
-pub put-stretch-spec : {M : Type 1} → statement M
-put-stretch-spec = tie.close (tie.spec (λ c. search needs) (λ c. search needs) (λ c κs. search needs)
+pub put_stretch_spec : {M : Type 1} → statement M
+put_stretch_spec = tie.close (tie.spec (λ c. search needs) (λ c. search needs) (λ c κs. search needs)
     (λ c κs. let S = c.before.before.before.before.before.before.before.before in (S.pre.0, (mod-lt _ (lit< tt), S.pre.1.1)))
     (λ c. search needs) returns)

@@ -1,7 +1,7 @@
 -- `ranges::range::range` meets its contract: where the key, the IV, the end of the stretch or the room refused, so does the definition;
 -- where they did not, the stretch was written and is as long as the data.
-use Rattle.ranges.proofs.Names.{◌∙◌, ◌≡◌, length, needs, now, rangeCall, rangeCheck, sym}
-use Rattle.ranges.proofs.Passed.{range-passed}
+use Rattle.ranges.proofs.Names.{◌∙◌, ◌≡◌, length, needs, now, range_call, range_check, sym}
+use Rattle.ranges.proofs.Passed.{range_passed}
 use Rattle.ranges.proofs.Jumped.{length-stretch}
 use Rattle.ranges.proofs.range.range.Statement.{statement}
 use Rattle.ranges.proofs.range.range.Tie as tie
@@ -10,14 +10,14 @@ use Rattle.ranges.proofs.range.range.Tie as tie
 checks : (x : tie.After-and-then)
     → let a = x.before.before.before.before.before.before.before.args in
     x.and_then.result
-    ≡ rangeCheck a.cipher.answer a.cipher.retired a.direction (length (now a.iv)) a.offset (length (now a.«data»))
+    ≡ range_check a.cipher.answer a.cipher.retired a.direction (length (now a.iv)) a.offset (length (now a.«data»))
     (length (now a.out))
-unfolding rangeCheck
+unfolding range_check
 checks x = rw (x.and_then.ensures, x.before.refuse.ensures, x.before.before.reach.ensures)
 
-returns-2 : tie.Need-returns-2
-unfolding rangeCall
-returns-2 c =
+returns_2 : tie.Need-returns-2
+unfolding range_call
+returns_2 c =
     let at-work = c.before.before.before in
     let told = at-work.before.before.before in
     let at-number = told.before.before.before.before.before in
@@ -25,13 +25,13 @@ returns-2 c =
     rw (← checks told.before.before, told.enum_told.given.1, c.done.ensures, at-work.stretch-by.ensures)
     (rw (length-stretch a.cipher.rk (now a.iv) a.offset (now a.«data»), at-number.number_in.ensures))
 
-pub range-spec : {M : Type 1} → statement M
-unfolding rangeCall
-range-spec = tie.close (tie.spec (λ c. search needs) (λ c. search needs) (λ c. search needs) (λ c. search needs) (λ c. search needs)
+pub range_spec : {M : Type 1} → statement M
+unfolding range_call
+range_spec = tie.close (tie.spec (λ c. search needs) (λ c. search needs) (λ c. search needs) (λ c. search needs) (λ c. search needs)
     (λ c. search needs)
     (λ c. let told = c.before.before in rw (← checks told.before.before, told.checked.given.1, c.refused.ensures)
     (rw told.before.before.before.before.before.number_in.ensures))
     (λ c. search needs)
-    (λ c κs. let told = c.before.before in range-passed _ _ _ _ _ _ _ (sym (checks told.before.before) ∙ told.enum_told.given.1))
+    (λ c κs. let told = c.before.before in range_passed _ _ _ _ _ _ _ (sym (checks told.before.before) ∙ told.enum_told.given.1))
     (λ c. search needs)
-    (λ c. search needs) returns-2)
+    (λ c. search needs) returns_2)

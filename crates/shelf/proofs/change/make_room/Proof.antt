@@ -1,7 +1,7 @@
 -- `change::make_room` meets its contract: the definition goes by the same test.
 use Rattle.shelf.proofs.Names.{AreBytes, ◌+◌, ◌∙◌, ◌≡◌, ◌≤◌, arith, below_each, needs, now, over, records, set, stored, supersede}
 use Rattle.shelf.proofs.Names.{sym, take}
-use Rattle.shelf.proofs.Putting.{made-short, made-long, marked-over, unmarked-over}
+use Rattle.shelf.proofs.Putting.{made_short, made_long, marked-over, unmarked-over}
 use Rattle.shelf.proofs.change.make_room.Statement.{statement}
 use Rattle.shelf.proofs.change.make_room.Tie as tie
 
@@ -19,24 +19,24 @@ marked : (x : tie.Then2)
     (p + 12 ≤ a.used) × (set s (p + 1) 0x58 ≡ over (stored (supersede a.job (records (take a.used s)))) s)
 marked x = let v = x.before.before in marked-over _ _ (small v) (start v).requires v.survey.ensures x.if2.true
 
-pub make-room-spec : {M : Type 1} → statement M
-make-room-spec =
+pub make_room_spec : {M : Type 1} → statement M
+make_room_spec =
     tie.close (tie.spec (λ c κs. c.before.requires.size) (λ c κs. c.before.before.before.before.requires.within) (λ c. search needs)
     (λ c.
     let k = c.before.before in
     let t = k.before.before in
     let S = t.before.before.before in
-    made-short _ _ S.requires S.args.n S.args.job (sym t.before.short.ensures ∙ t.if1.true) k.keep.ensures)
+    made_short _ _ S.requires S.args.n S.args.job (sym t.before.short.ensures ∙ t.if1.true) k.keep.ensures)
     (λ c κs. c.before.before.before.before.requires.within) (λ c. omega (arith, (marked c.before).0))
     (λ c. omega (arith, (marked c.before).0, (start c.before.before.before).requires.within)) (λ c. search needs)
     (λ c.
     let e = c.before.before.before.before.before in
     let S = e.before.before.before in
-    made-long _ _ S.requires S.args.n S.args.job (sym e.before.short.ensures ∙ e.if1.false) (marked c.before).1)
+    made_long _ _ S.requires S.args.n S.args.job (sym e.before.short.ensures ∙ e.if1.false) (marked c.before).1)
     (λ c. search needs)
     (λ c.
     let v = c.before.before in
     let e = v.before.before in
     let S = start v in
-    made-long _ _ S.pre S.args.n S.args.job (sym e.before.short.ensures ∙ e.if1.false)
+    made_long _ _ S.pre S.args.n S.args.job (sym e.before.short.ensures ∙ e.if1.false)
     (unmarked-over _ _ (small v) S.pre v.survey.ensures c.if2.false)))

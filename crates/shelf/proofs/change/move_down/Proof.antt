@@ -5,12 +5,12 @@ use Rattle.shelf.proofs.Names.{length, length-set, paste, paste-zero, refl, set,
 use Rattle.shelf.proofs.change.move_down.Statement.{statement}
 use Rattle.shelf.proofs.change.move_down.Tie as tie
 
-abbrev invariant-loop : tie.invariant-loop
-invariant-loop shelf₀ to from n i₀ shelf i =
+abbrev invariant_loop : tie.invariant_loop
+invariant_loop shelf₀ to from n i₀ shelf i =
     (i ≤ n) × (length shelf ≡ length shelf₀) × (paste shelf (to + i) (drop (from + i) shelf) (n - i) ≡ paste shelf₀ to (drop from shelf₀) n)
 
-abbrev decreases-loop : tie.decreases-loop
-decreases-loop shelf₀ to from n i₀ shelf i = n - i
+abbrev decreases_loop : tie.decreases_loop
+decreases_loop shelf₀ to from n i₀ shelf i = n - i
 
 -- one byte has moved, and the others are to move from where they stand
 moved : (s : List ℕ) (to from n : ℕ) → to ≤ from → from < length s
@@ -24,8 +24,8 @@ moved s to from n h k =
     let e : suc to + n ≡ m = omega arith in
     rw (e, take-suc-set s to v, drop-set-lt (suc from) s to v, drop-set-lt m s to v, drop-cons s from 0, append_assoc (take to s))
 
-loop-again : tie.Need-loop-preserved invariant-loop decreases-loop
-loop-again c =
+loop_again : tie.Need-loop-preserved invariant_loop decreases_loop
+loop_again c =
     let l = c.before.before in
     let a = l.before.args in
     let i = l.loop.i in
@@ -40,8 +40,8 @@ loop-again c =
 
 pub move_down_spec : {M : Type 1} → statement M
 move_down_spec =
-    tie.close (tie.spec invariant-loop decreases-loop (λ c. (omega arith, refl, simp (add-zero, sub-zero))) (λ c. omega arith) (λ c. omega arith)
-    (λ c. omega arith) (λ c. omega arith) (λ c. omega arith) (λ c. omega arith) loop-again (λ c. omega arith)
+    tie.close (tie.spec invariant_loop decreases_loop (λ c. (omega arith, refl, simp (add-zero, sub-zero))) (λ c. omega arith) (λ c. omega arith)
+    (λ c. omega arith) (λ c. omega arith) (λ c. omega arith) (λ c. omega arith) loop_again (λ c. omega arith)
     (λ c.
     let l = c.before in
     let a = l.before.args in

@@ -3,8 +3,8 @@ use Rattle.shelf.proofs.Names.{◌+◌, arith, lt-ltb, needs, sym}
 use Rattle.shelf.proofs.change.short.Statement.{statement}
 use Rattle.shelf.proofs.change.short.Tie as tie
 
-pub short-spec : {M : Type 1} → statement M
-short-spec =
+pub short_spec : {M : Type 1} → statement M
+short_spec =
     tie.close (tie.spec (λ c. let a = c.before.args in sym (lt-ltb a.room (a.taken + (12 + a.n)) (omega arith)))
     (λ c. let a = c.before.before.args in sym (lt-ltb a.room (a.taken + (12 + a.n)) (omega arith))) (λ c. search needs)
     (λ c. search needs) (λ c. search needs))

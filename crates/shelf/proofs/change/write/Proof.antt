@@ -1,6 +1,6 @@
 -- `change::write` meets its contract: the head, and behind it the sealed bytes.
 use Rattle.shelf.proofs.Names.{needs, now}
-use Rattle.shelf.proofs.Putting.{record-written}
+use Rattle.shelf.proofs.Putting.{record_written}
 use Rattle.shelf.proofs.change.write.Statement.{statement}
 use Rattle.shelf.proofs.change.write.Tie as tie
 
@@ -13,5 +13,5 @@ write_spec =
     let h = s.before.before.before.before in
     let m = h.before.before.before in
     let a = m.before.before.before.args in
-    record-written a.job a.edition (now a.sealed) m.new-head.result (now a.out) _ _ m.new-head.ensures
+    record_written a.job a.edition (now a.sealed) m.new-head.result (now a.out) _ _ m.new-head.ensures
     h.copy.ensures.1 s.copy2.ensures.1))

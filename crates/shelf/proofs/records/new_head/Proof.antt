@@ -3,7 +3,7 @@ use Rattle.shelf.proofs.Names.{bytes_of, label_of, needs}
 use Rattle.shelf.proofs.records.new_head.Statement.{statement}
 use Rattle.shelf.proofs.records.new_head.Tie as tie
 
-pub new-head-spec : {M : Type 1} → statement M
-new-head-spec = tie.close (tie.spec (λ c κs. search needs) (λ c κs. search needs) (λ c. search needs) (λ c. search needs)
+pub new_head_spec : {M : Type 1} → statement M
+new_head_spec = tie.close (tie.spec (λ c κs. search needs) (λ c κs. search needs) (λ c. search needs) (λ c. search needs)
     (λ c. search needs) (λ c. search needs) (λ c. search needs) (λ c. search needs) (λ c. search needs) (λ c. search needs)
     (λ c. search needs) (λ c. search needs) (λ c. unfold label_of bytes_of in rw (c.before.label.ensures, c.split.ensures)))

@@ -3,5 +3,5 @@ use Rattle.shelf.proofs.Names.{arith, needs, number_of}
 use Rattle.shelf.proofs.records.number.Statement.{statement}
 use Rattle.shelf.proofs.records.number.Tie as tie
 
-pub number-spec : {M : Type 1} → statement M
-number-spec = tie.close (tie.spec (λ c. search needs) (λ c. search needs) (λ c. unfold number_of in (omega arith)))
+pub number_spec : {M : Type 1} → statement M
+number_spec = tie.close (tie.spec (λ c. search needs) (λ c. search needs) (λ c. unfold number_of in (omega arith)))

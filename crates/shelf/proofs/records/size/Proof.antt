@@ -1,6 +1,6 @@
 -- `records::size` meets its contract: each return is the definition, by the tests that led there.
 use Rattle.shelf.proofs.Names.{◌+◌, ◌-◌, ◌∙◌, ◌≡◌, cond, le-leb, leb, length, lt-leb, needs, not-false, not-true, now, size_at}
-use Rattle.shelf.proofs.Names.{startsRecord, sym}
+use Rattle.shelf.proofs.Names.{starts_record, sym}
 use Rattle.shelf.proofs.Reading.{size-marked}
 use Rattle.shelf.proofs.records.size.Statement.{statement}
 use Rattle.shelf.proofs.records.size.Tie as tie
@@ -13,11 +13,11 @@ told w =
     let m = w.before.before in
     size-marked _ m.before.if1.false (sym m.marked.ensures ∙ not-false _ w.before.if2.false) w.word_at.ensures
 
-pub size-spec : {M : Type 1} → statement M
-size-spec =
-    tie.close (tie.spec (λ c. unfold size_at startsRecord in rw (lt-leb _ _ c.if1.true)) (λ c κs. search needs)
+pub size_spec : {M : Type 1} → statement M
+size_spec =
+    tie.close (tie.spec (λ c. unfold size_at starts_record in rw (lt-leb _ _ c.if1.true)) (λ c κs. search needs)
     (λ c.
     let m = c.before in
-    unfold size_at startsRecord in rw (le-leb _ _ m.before.if1.false, sym m.marked.ensures ∙ not-true _ c.if2.true))
+    unfold size_at starts_record in rw (le-leb _ _ m.before.if1.false, sym m.marked.ensures ∙ not-true _ c.if2.true))
     (λ c κs. search needs) (λ c. search needs) (λ c. search needs) (λ c. sym (told c.before ∙ rw (lt-leb _ _ c.if3.true)))
     (λ c. search needs) (λ c. sym (told c.before ∙ rw (le-leb _ _ c.if3.false))))

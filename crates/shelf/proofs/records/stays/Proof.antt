@@ -3,7 +3,7 @@ use Rattle.shelf.proofs.Names.{eq-eqb, ne_eqb, not-false, not-true}
 use Rattle.shelf.proofs.records.stays.Statement.{statement}
 use Rattle.shelf.proofs.records.stays.Tie as tie
 
-pub stays-spec : {M : Type 1} → statement M
-stays-spec = tie.close (tie.spec (λ c. rw (not-true c.before.args.coming c.if1.true))
+pub stays_spec : {M : Type 1} → statement M
+stays_spec = tie.close (tie.spec (λ c. rw (not-true c.before.args.coming c.if1.true))
     (λ c. rw (not-false c.before.before.before.args.coming c.before.before.if1.false, eq-eqb _ _ c.if2.true))
     (λ c. rw (not-false c.before.before.before.args.coming c.before.before.if1.false, ne_eqb _ _ c.if2.false)))

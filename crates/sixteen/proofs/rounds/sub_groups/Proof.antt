@@ -5,16 +5,16 @@ use Rattle.sixteen.proofs.Bytes.{low_half, high_half}
 use Rattle.sixteen.proofs.rounds.sub_groups.Statement.{statement}
 use Rattle.sixteen.proofs.rounds.sub_groups.Tie as tie
 
-pub sub-groups-spec : {M : Type 1} → statement M
-sub-groups-spec = tie.close (tie.spec
+pub sub_groups_spec : {M : Type 1} → statement M
+sub_groups_spec = tie.close (tie.spec
     (λ t s₀ groups g₀ s g. (g ≤ groups) × (length s ≡ 64) × Each (λ j. tau (get_or t j 0)) (16 * g) s) (λ t s₀ groups g₀ s g. groups - g)
     (λ c. search needs) (λ c κs. search needs) (λ c κs. search needs) (λ c κs. search needs) (λ c. search needs) (λ c. search needs)
     (λ c.
     let at-sub = c.before.before in
     let at-pairs = at-sub.before in
-    let at-loop = at-pairs.before.before in
-    let l = at-loop.loop in
-    let t = at-loop.before.args.t.now in
+    let at_loop = at-pairs.before.before in
+    let l = at_loop.loop in
+    let t = at_loop.before.args.t.now in
     let g = l.g in
     let f : ℕ → ℕ = λ j. tau (get_or t j 0) in
     let halves : Halves f g at-sub.sub-bytes.result =

@@ -4,5 +4,5 @@ use Rattle.sliced.proofs.Ripple.{word-added}
 use Rattle.sliced.proofs.counters.add_at.Statement.{statement}
 use Rattle.sliced.proofs.counters.add_at.Tie as tie
 
-pub add-at-spec : {M : Type 1} → statement M
-add-at-spec = tie.close (tie.spec (λ c. search needs) (λ c. search needs) (λ c. search (needs, word-added)))
+pub add_at_spec : {M : Type 1} → statement M
+add_at_spec = tie.close (tie.spec (λ c. search needs) (λ c. search needs) (λ c. search (needs, word-added)))

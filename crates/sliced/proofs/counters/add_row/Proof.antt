@@ -4,8 +4,8 @@ use Rattle.sliced.proofs.Ripple.{added-first, added_next}
 use Rattle.sliced.proofs.counters.add_row.Statement.{statement}
 use Rattle.sliced.proofs.counters.add_row.Tie as tie
 
-pub add-row-spec : {M : Type 1} → statement M
-add-row-spec = tie.close (next16 (next16 tie.spec (omega arith)) (omega arith)
+pub add_row_spec : {M : Type 1} → statement M
+add_row_spec = tie.close (next16 (next16 tie.spec (omega arith)) (omega arith)
     (λ c. search needs) (λ c κs. search needs) (λ c. search needs) (λ c. search needs) (λ c. search needs) (λ c. search needs)
     (λ c κs.
     let at7 = c.before.before in

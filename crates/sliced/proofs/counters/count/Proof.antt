@@ -1,7 +1,7 @@
 -- `sliced::counters::count` meets its contract: in each lane the last word of c and the lane's number are added, and what is carried to
 -- the other words (`lanes-counted`).
-use Rattle.sliced.proofs.Names.{AreWords, Fits, ◌^◌, below_each, blank-room, get_or, needs, number_at, w32, ℕ}
-use Rattle.sliced.proofs.CounterDigits.{added-number, added-carry, lanes-counted}
+use Rattle.sliced.proofs.Names.{AreWords, Fits, ◌^◌, below_each, blank_room, get_or, needs, number_at, w32, ℕ}
+use Rattle.sliced.proofs.CounterDigits.{added-number, added_carry, lanes-counted}
 use Rattle.sliced.proofs.counters.count.Statement.{statement}
 use Rattle.sliced.proofs.counters.count.Tie as tie
 
@@ -30,8 +30,8 @@ count_spec = tie.close (tie.spec
     let small : AreWords x = below_each (2 ^ 32) x (λ i. (fits i).fits) in (
       λ e he.
           lanes-counted x _ _ _ _ W3.result K.result (number_at e) e _ _ _ small
-          (added-number _ _ _ _ _ (number_at e) e W3.ensures.0 he (N.ensures.0 e he) (blank-room 8))
-          (added-carry _ _ _ _ _ e W2.ensures.0 he S.requires.2.1) (added-carry _ _ _ _ _ e W1.ensures.0 he S.requires.1.1)
-          (added-carry _ _ _ _ _ e W0.ensures.0 he S.requires.0.1) a.wide K.ensures,
+          (added-number _ _ _ _ _ (number_at e) e W3.ensures.0 he (N.ensures.0 e he) (blank_room 8))
+          (added_carry _ _ _ _ _ e W2.ensures.0 he S.requires.2.1) (added_carry _ _ _ _ _ e W1.ensures.0 he S.requires.1.1)
+          (added_carry _ _ _ _ _ e W0.ensures.0 he S.requires.0.1) a.wide K.ensures,
       (W0.ensures.1, W1.ensures.1, W2.ensures.1, W3.ensures.1),
     )))

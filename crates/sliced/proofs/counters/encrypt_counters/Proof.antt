@@ -1,14 +1,14 @@
 -- `sliced::counters::encrypt_counters` meets its contract: the lanes are the words of the counters, and once they are encrypted the rows
 -- are those of their ciphers.
-use Rattle.sliced.proofs.Names.{List, ◌∙◌, ap, arith, blank-room, encryptBlock, jumped, needs, place, unwords, words, ℕ}
+use Rattle.sliced.proofs.Names.{List, ◌∙◌, ap, arith, blank_room, encrypt_block, jumped, needs, place, unwords, words, ℕ}
 use Rattle.sliced.proofs.LaneNumbers.{number-place}
 use Rattle.sliced.proofs.counters.encrypt_counters.Statement.{statement}
 use Rattle.sliced.proofs.counters.encrypt_counters.Tie as tie
 
-pub encrypt-counters-spec : {M : Type 1} → statement M
-encrypt-counters-spec = tie.close (tie.spec
-    (λ c κs. search needs) (λ c κs. search (needs, blank-room)) (λ c κs. search needs) (λ c κs. search needs) (λ c. search needs)
-    (λ c. unfold encryptBlock in
+pub encrypt_counters_spec : {M : Type 1} → statement M
+encrypt_counters_spec = tie.close (tie.spec
+    (λ c κs. search needs) (λ c κs. search (needs, blank_room)) (λ c κs. search needs) (λ c κs. search needs) (λ c. search needs)
+    (λ c. unfold encrypt_block in
     let at_store = c.before.before in
     let at-rounds = at_store.before.before.before.before in
     let at_count = at-rounds.before.before.before.before.before.before.before in

@@ -1,12 +1,12 @@
 -- `sliced::counters::numbers` meets its contract. The invariant of both loops: the first p words hold the lanes' numbers, the others
--- nothing. The low six rows are the patterns (`low_rows`), the others the bits of the column (`high-rows`).
+-- nothing. The low six rows are the patterns (`low_rows`), the others the bits of the column (`high_rows`).
 use Rattle.sliced.proofs.Names.{◌-◌, ◌≤◌, arith, needs}
-use Rattle.sliced.proofs.LaneNumbers.{low_rows, high-rows, Numbered, numbered-first, numbered_next, numbered-last}
+use Rattle.sliced.proofs.LaneNumbers.{low_rows, high_rows, Numbered, numbered-first, numbered_next, numbered-last}
 use Rattle.sliced.proofs.counters.numbers.Statement.{statement}
 use Rattle.sliced.proofs.counters.numbers.Tie as tie
 
-pub numbers-spec : {M : Type 1} → statement M
-numbers-spec = tie.close (tie.spec
+pub numbers_spec : {M : Type 1} → statement M
+numbers_spec = tie.close (tie.spec
     (λ x₀ low p₀ x p. (p ≤ 48) × Numbered p x) (λ x₀ low p₀ x p. 48 - p) (λ x₀ p₀ x p. (48 ≤ p) × (p ≤ 72) × Numbered p x)
     (λ x₀ p₀ x p. 72 - p) (λ c. search (needs, numbered-first)) (λ c. search needs) (λ c. search needs) (λ c. search needs)
     (λ c. search needs) (λ c. search needs) (λ c. search needs)
@@ -17,7 +17,7 @@ numbers-spec = tie.close (tie.spec
     (λ c. search needs)
     (λ c.
     let l = c.before.before.loop2 in
-    let next = numbered_next l.p _ l.x (omega arith) (high-rows l.p _ l.invariant.0 c.spread.ensures) l.invariant.2 in
+    let next = numbered_next l.p _ l.x (omega arith) (high_rows l.p _ l.invariant.0 c.spread.ensures) l.invariant.2 in
     (omega arith, omega arith, next))
     (λ c.
     let l = c.before.loop2 in

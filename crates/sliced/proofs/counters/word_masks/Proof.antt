@@ -3,8 +3,8 @@ use Rattle.sliced.proofs.Names.{Masks, ◌-◌, ◌≡◌, ◌≤◌, arith, bit
 use Rattle.sliced.proofs.counters.word_masks.Statement.{statement}
 use Rattle.sliced.proofs.counters.word_masks.Tie as tie
 
-pub word-masks-spec : {M : Type 1} → statement M
-word-masks-spec = tie.close (tie.spec
+pub word_masks_spec : {M : Type 1} → statement M
+word_masks_spec = tie.close (tie.spec
     (λ k m₀ i₀ m i. (i ≤ 32) × (length m ≡ 32) × Masks i (λ n. bit n k) m) (λ k m₀ i₀ m i. 32 - i) (λ c. search needs)
     (λ c κs. search needs) (λ c. search needs) (λ c. search needs) (λ c. search needs) (λ c. search needs)
     (λ c. search (needs, masks-next))

@@ -4,6 +4,6 @@ use Rattle.stream.proofs.Ahead.{untrue}
 use Rattle.stream.proofs.few.ciphered.Statement.{statement}
 use Rattle.stream.proofs.few.ciphered.Tie as tie
 
-pub ciphered-spec : {M : Type 1} → statement M
-ciphered-spec = tie.close (tie.spec (λ c. search needs) (λ c. (inr refl, λ e. refl, omega (arith, c.before.requires.1 c.if1.true)))
+pub ciphered_spec : {M : Type 1} → statement M
+ciphered_spec = tie.close (tie.spec (λ c. search needs) (λ c. (inr refl, λ e. refl, omega (arith, c.before.requires.1 c.if1.true)))
     (λ c. (inl refl, λ e. untrue (sym c.if1.false ∙ e), omega arith)))

@@ -24,8 +24,8 @@ returns c =
     let read = c.combine-block.ensures ∙ c.before.block-at2.ensures in
     (at-block-at.block_at.ensures ∙ laid a.m (omega arith), (λ e. read ∙ pad (n.1 e), written))
 
-pub few-spec : {M : Type 1} → statement M
-few-spec = tie.close (tie.spec (λ c. search needs) (λ c. search needs) (λ c κs. search needs) (λ c κs. search needs) (λ c. search needs)
+pub few_spec : {M : Type 1} → statement M
+few_spec = tie.close (tie.spec (λ c. search needs) (λ c. search needs) (λ c κs. search needs) (λ c κs. search needs) (λ c. search needs)
     (λ c. search needs) (λ c. search needs) (λ c. search needs) (λ c. search needs) (λ c. search needs) (λ c. search needs)
     (λ c. search needs) (λ c κs. search needs) (λ c. search needs) (λ c κs. search needs) (λ c. search needs) (λ c κs. search needs)
     (λ c κs. search needs) (λ c. search needs) returns)

@@ -6,24 +6,24 @@ use Rattle.stream.proofs.Ahead.{length-jumped}
 use Rattle.stream.proofs.few.lay_counters.Statement.{statement}
 use Rattle.stream.proofs.few.lay_counters.Tie as tie
 
-abbrev invariant-loop : tie.invariant-loop
-invariant-loop wide c n out₀ i₀ out i = (i ≤ n) × (length out ≡ length out₀) × (out ≡ cat i (jumped wide (unwords c)) ++ drop (16 * i) out₀)
+abbrev invariant_loop : tie.invariant_loop
+invariant_loop wide c n out₀ i₀ out i = (i ≤ n) × (length out ≡ length out₀) × (out ≡ cat i (jumped wide (unwords c)) ++ drop (16 * i) out₀)
 
-abbrev decreases-loop : tie.decreases-loop
-decreases-loop wide c n out₀ i₀ out i = n - i
+abbrev decreases_loop : tie.decreases_loop
+decreases_loop wide c n out₀ i₀ out i = n - i
 
-loop-again : tie.Need-loop-preserved invariant-loop decreases-loop
-loop-again c =
+loop_again : tie.Need-loop-preserved invariant_loop decreases_loop
+loop_again c =
     let at-counter-after = c.before.before.before.before in
-    let at-loop = at-counter-after.before.before in
-    let l = at-loop.loop in
-    let a = at-loop.before.before.args in
+    let at_loop = at-counter-after.before.before in
+    let l = at_loop.loop in
+    let a = at_loop.before.before.args in
     let stored = block-stored a.out.now l.out _ (jumped a.wide (unwords a.c)) l.i
     (λ k h. length-jumped a.wide (unwords a.c) k (length-unwords a.c)) l.invariant.2
     (rw at-counter-after.counter-after.ensures at c.before.before.put-block.ensures) in
     (omega arith, search needs, stored)
 
-returns : tie.Need-returns invariant-loop decreases-loop
+returns : tie.Need-returns invariant_loop decreases_loop
 returns c =
     let l = c.before.loop in
     let a = c.before.before.before.args in
@@ -31,8 +31,8 @@ returns c =
     over-stored a.n (jumped a.wide (unwords a.c)) _ l.out
     (λ k h. length-jumped a.wide (unwords a.c) k (length-unwords a.c)) (rw e at l.invariant.2)
 
-pub lay-counters-spec : {M : Type 1} → statement M
+pub lay_counters_spec : {M : Type 1} → statement M
 unfolding cat
-lay-counters-spec = tie.close (tie.spec invariant-loop decreases-loop (λ c. (search needs, refl, refl)) (λ c κs. search needs) (λ c. search needs)
-    (λ c. search needs) (λ c. search needs) (λ c. search needs) (λ c κs. search needs) (λ c. search needs) (λ c. search needs) loop-again
+lay_counters_spec = tie.close (tie.spec invariant_loop decreases_loop (λ c. (search needs, refl, refl)) (λ c κs. search needs) (λ c. search needs)
+    (λ c. search needs) (λ c. search needs) (λ c. search needs) (λ c κs. search needs) (λ c. search needs) (λ c. search needs) loop_again
     (λ c. search needs) returns)

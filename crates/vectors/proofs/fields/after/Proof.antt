@@ -4,12 +4,12 @@ use Rattle.block.proofs.Base.{◌-◌, needs}
 use Rattle.vectors.proofs.fields.after.Statement.{statement}
 use Rattle.vectors.proofs.fields.after.Tie as tie
 
-abbrev invariant-loop : tie.invariant-loop
-invariant-loop s from count at₀ counter₀ at counter = Unit {0}
+abbrev invariant_loop : tie.invariant_loop
+invariant_loop s from count at₀ counter₀ at counter = Unit {0}
 
-abbrev decreases-loop : tie.decreases-loop
-decreases-loop s from count at₀ counter₀ at counter = count - counter
+abbrev decreases_loop : tie.decreases_loop
+decreases_loop s from count at₀ counter₀ at counter = count - counter
 
-pub after-spec : {M : Type 1} → statement M
-after-spec = tie.close (tie.spec invariant-loop decreases-loop (λ c. search needs) (λ c κs. search needs) (λ c. search needs) (λ c. search needs)
+pub after_spec : {M : Type 1} → statement M
+after_spec = tie.close (tie.spec invariant_loop decreases_loop (λ c. search needs) (λ c κs. search needs) (λ c. search needs) (λ c. search needs)
     (λ c. search needs) (λ c. search needs))

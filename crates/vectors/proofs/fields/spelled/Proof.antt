@@ -4,14 +4,14 @@ use Rattle.block.proofs.Base.{◌-◌, ◌≤◌, ◌≡◌, needs, length}
 use Rattle.vectors.proofs.fields.spelled.Statement.{statement}
 use Rattle.vectors.proofs.fields.spelled.Tie as tie
 
-abbrev invariant-loop : tie.invariant-loop
-invariant-loop s₀ comment₀ byte₀ digits₀ i₀ i-end s comment byte digits i =
+abbrev invariant_loop : tie.invariant_loop
+invariant_loop s₀ comment₀ byte₀ digits₀ i₀ i-end s comment byte digits i =
     (i ≤ i-end) × (digits ≤ i) × (i-end ≡ length s₀) × (length s ≡ length s₀)
 
-abbrev decreases-loop : tie.decreases-loop
-decreases-loop s₀ comment₀ byte₀ digits₀ i₀ i-end s comment byte digits i = i-end - i
+abbrev decreases_loop : tie.decreases_loop
+decreases_loop s₀ comment₀ byte₀ digits₀ i₀ i-end s comment byte digits i = i-end - i
 
-pub spelled-spec : {M : Type 1} → statement M
-spelled-spec = tie.close (tie.spec invariant-loop decreases-loop (λ c. search needs) (λ c. search needs) (λ c κs. search needs) (λ c κs. search needs)
+pub spelled_spec : {M : Type 1} → statement M
+spelled_spec = tie.close (tie.spec invariant_loop decreases_loop (λ c. search needs) (λ c. search needs) (λ c κs. search needs) (λ c κs. search needs)
     (λ c κs. search needs) (λ c. search needs) (λ c κs. search needs) (λ c. search needs) (λ c. search needs) (λ c. search needs)
     (λ c. search needs) (λ c. search needs) (λ c. search needs))

@@ -4,12 +4,12 @@ use Rattle.block.proofs.Base.{◌-◌, ◌≤◌, needs}
 use Rattle.vectors.proofs.independent.crypted.Statement.{statement}
 use Rattle.vectors.proofs.independent.crypted.Tie as tie
 
-abbrev invariant-loop : tie.invariant-loop
-invariant-loop t k₀ x₀ i₀ k x i = i ≤ 32
+abbrev invariant_loop : tie.invariant_loop
+invariant_loop t k₀ x₀ i₀ k x i = i ≤ 32
 
-abbrev decreases-loop : tie.decreases-loop
-decreases-loop t k₀ x₀ i₀ k x i = 32 - i
+abbrev decreases_loop : tie.decreases_loop
+decreases_loop t k₀ x₀ i₀ k x i = 32 - i
 
-pub crypted-spec : {M : Type 1} → statement M
-crypted-spec = tie.close (tie.spec invariant-loop decreases-loop (λ c κs. search needs) (λ c. search needs) (λ c κs. search needs) (λ c κs. search needs)
+pub crypted_spec : {M : Type 1} → statement M
+crypted_spec = tie.close (tie.spec invariant_loop decreases_loop (λ c κs. search needs) (λ c. search needs) (λ c κs. search needs) (λ c κs. search needs)
     (λ c κs. search needs) (λ c. search needs) (λ c. search needs) (λ c. search needs) (λ c. search needs))

@@ -4,12 +4,12 @@ use Rattle.block.proofs.Base.{◌+◌, ◌-◌, ◌/◌, ◌≤◌, needs}
 use Rattle.vectors.proofs.independent.hashed_on.Statement.{statement}
 use Rattle.vectors.proofs.independent.hashed_on.Tie as tie
 
-abbrev invariant-loop : tie.invariant-loop
-invariant-loop h s n hash₀ i₀ i-end hash i = (i ≤ i-end) × (i-end ≤ n / 16 + 1)
+abbrev invariant_loop : tie.invariant_loop
+invariant_loop h s n hash₀ i₀ i-end hash i = (i ≤ i-end) × (i-end ≤ n / 16 + 1)
 
-abbrev decreases-loop : tie.decreases-loop
-decreases-loop h s n hash₀ i₀ i-end hash i = i-end - i
+abbrev decreases_loop : tie.decreases_loop
+decreases_loop h s n hash₀ i₀ i-end hash i = i-end - i
 
-pub hashed-on-spec : {M : Type 1} → statement M
-hashed-on-spec = tie.close (tie.spec invariant-loop decreases-loop (λ c. search needs) (λ c. search needs) (λ c. search needs) (λ c κs. search needs)
+pub hashed_on_spec : {M : Type 1} → statement M
+hashed_on_spec = tie.close (tie.spec invariant_loop decreases_loop (λ c. search needs) (λ c. search needs) (λ c. search needs) (λ c κs. search needs)
     (λ c κs. search needs) (λ c κs. search needs) (λ c. search needs) (λ c. search needs) (λ c. search needs) (λ c. search needs))

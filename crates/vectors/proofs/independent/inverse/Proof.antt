@@ -4,12 +4,12 @@ use Rattle.block.proofs.Base.{◌-◌, ◌≤◌, needs}
 use Rattle.vectors.proofs.independent.inverse.Statement.{statement}
 use Rattle.vectors.proofs.independent.inverse.Tie as tie
 
-abbrev invariant-loop : tie.invariant-loop
-invariant-loop x power₀ counter₀ power counter = counter ≤ 254
+abbrev invariant_loop : tie.invariant_loop
+invariant_loop x power₀ counter₀ power counter = counter ≤ 254
 
-abbrev decreases-loop : tie.decreases-loop
-decreases-loop x power₀ counter₀ power counter = 254 - counter
+abbrev decreases_loop : tie.decreases_loop
+decreases_loop x power₀ counter₀ power counter = 254 - counter
 
-pub inverse-spec : {M : Type 1} → statement M
-inverse-spec = tie.close (tie.spec invariant-loop decreases-loop (λ c. search needs) (λ c κs. search needs) (λ c. search needs) (λ c. search needs)
+pub inverse_spec : {M : Type 1} → statement M
+inverse_spec = tie.close (tie.spec invariant_loop decreases_loop (λ c. search needs) (λ c κs. search needs) (λ c. search needs) (λ c. search needs)
     (λ c. search needs) (λ c. search needs))

@@ -4,13 +4,13 @@ use Rattle.block.proofs.Base.{◌-◌, ◌≤◌, ◌≡◌, needs, length}
 use Rattle.vectors.proofs.independent.tables.Statement.{statement}
 use Rattle.vectors.proofs.independent.tables.Tie as tie
 
-abbrev invariant-loop : tie.invariant-loop
-invariant-loop t₀ i₀ t i = (i ≤ 256) × (length t ≡ 512)
+abbrev invariant_loop : tie.invariant_loop
+invariant_loop t₀ i₀ t i = (i ≤ 256) × (length t ≡ 512)
 
-abbrev decreases-loop : tie.decreases-loop
-decreases-loop t₀ i₀ t i = 256 - i
+abbrev decreases_loop : tie.decreases_loop
+decreases_loop t₀ i₀ t i = 256 - i
 
-pub tables-spec : {M : Type 1} → statement M
-tables-spec = tie.close (tie.spec invariant-loop decreases-loop (λ c. search needs) (λ c κs. search needs) (λ c. search needs) (λ c. search needs)
+pub tables_spec : {M : Type 1} → statement M
+tables_spec = tie.close (tie.spec invariant_loop decreases_loop (λ c. search needs) (λ c κs. search needs) (λ c. search needs) (λ c. search needs)
     (λ c κs. search needs) (λ c. search needs) (λ c. search needs) (λ c. search needs) (λ c. search needs) (λ c. search needs)
     (λ c. search needs) (λ c. search needs))

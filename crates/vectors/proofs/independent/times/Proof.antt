@@ -4,12 +4,12 @@ use Rattle.block.proofs.Base.{◌-◌, ◌≤◌, needs}
 use Rattle.vectors.proofs.independent.times.Statement.{statement}
 use Rattle.vectors.proofs.independent.times.Tie as tie
 
-abbrev invariant-loop : tie.invariant-loop
-invariant-loop b rest₀ sum₀ counter₀ rest sum counter = counter ≤ 128
+abbrev invariant_loop : tie.invariant_loop
+invariant_loop b rest₀ sum₀ counter₀ rest sum counter = counter ≤ 128
 
-abbrev decreases-loop : tie.decreases-loop
-decreases-loop b rest₀ sum₀ counter₀ rest sum counter = 128 - counter
+abbrev decreases_loop : tie.decreases_loop
+decreases_loop b rest₀ sum₀ counter₀ rest sum counter = 128 - counter
 
-pub times-spec : {M : Type 1} → statement M
-times-spec = tie.close (tie.spec invariant-loop decreases-loop (λ c κs. search needs) (λ c. search needs) (λ c κs. search needs) (λ c κs. search needs)
+pub times_spec : {M : Type 1} → statement M
+times_spec = tie.close (tie.spec invariant_loop decreases_loop (λ c κs. search needs) (λ c. search needs) (λ c κs. search needs) (λ c κs. search needs)
     (λ c κs. search needs) (λ c κs. search needs) (λ c. search needs) (λ c. search needs) (λ c. search needs) (λ c. search needs))

@@ -4,12 +4,12 @@ use Rattle.block.proofs.Base.{◌-◌, ◌≡◌, needs, length}
 use Rattle.vectors.proofs.ours.over.Statement.{statement}
 use Rattle.vectors.proofs.ours.over.Tie as tie
 
-abbrev invariant-loop : tie.invariant-loop
-invariant-loop cipher direction times block_in x₀ counter₀ x counter = length x ≡ 16
+abbrev invariant_loop : tie.invariant_loop
+invariant_loop cipher direction times block_in x₀ counter₀ x counter = length x ≡ 16
 
-abbrev decreases-loop : tie.decreases-loop
-decreases-loop cipher direction times block_in x₀ counter₀ x counter = times - counter
+abbrev decreases_loop : tie.decreases_loop
+decreases_loop cipher direction times block_in x₀ counter₀ x counter = times - counter
 
-pub over-spec : {M : Type 1} → statement M
-over-spec = tie.close (tie.spec invariant-loop decreases-loop (λ c. search needs) (λ c κs. search needs) (λ c. search needs) (λ c. search needs)
+pub over_spec : {M : Type 1} → statement M
+over_spec = tie.close (tie.spec invariant_loop decreases_loop (λ c. search needs) (λ c κs. search needs) (λ c. search needs) (λ c. search needs)
     (λ c. search needs) (λ c κs. search needs) (λ c. search needs) (λ c. search needs) (λ c. search needs) (λ c. search needs))

@@ -3,5 +3,5 @@ use Rattle.ghash.proofs.Names.{◌∙◌, needs}
 use Rattle.ghash.proofs.halves.Half.after.Statement.{statement}
 use Rattle.ghash.proofs.halves.Half.after.Tie as tie
 
-pub after-spec : {M : Type 1} → statement M
-after-spec = tie.close (tie.spec (λ c κs. search needs) (λ c κs. search needs) (λ c. c.add.ensures ∙ rw c.before.galois-mul.ensures))
+pub after_spec : {M : Type 1} → statement M
+after_spec = tie.close (tie.spec (λ c κs. search needs) (λ c κs. search needs) (λ c. c.add.ensures ∙ rw c.before.galois-mul.ensures))

@@ -1,6 +1,6 @@
 -- `pieces::ctr::Ctr::end` meets its contract: a state that does not run is refused, and one that runs is shut, and tells what the formula
 -- says of the first counter, whose words spell it.
-use Rattle.pieces.proofs.Names.{arith, ctrEnd, needs}
+use Rattle.pieces.proofs.Names.{arith, ctr_end, needs}
 use Rattle.pieces.proofs.Fitting.{Sixteen, spelt}
 use Rattle.pieces.proofs.ctr.Ctr.end.Statement.{statement}
 use Rattle.pieces.proofs.ctr.Ctr.end.Tie as tie
@@ -8,9 +8,9 @@ use Rattle.pieces.proofs.ctr.Ctr.end.Tie as tie
 first : (s : tie.Start) → Sixteen s.args.self.first
 first s = (search needs, λ i. search needs)
 
-returns-2 : tie.Need-returns-2
-unfolding ctrEnd
-returns-2 c =
+returns_2 : tie.Need-returns-2
+unfolding ctr_end
+returns_2 c =
     let at-round = c.before.before in
     let told = at-round.before.before.before.before in
     let at-check = told.before.before in
@@ -18,10 +18,10 @@ returns-2 c =
     rw (← at-check.running.ensures, told.enum_told.given.1, c.before.done-round.ensures, at-round.ctr-came-round.ensures)
     (rw (at-round.before.split-block.ensures, is-first, c.shut.ensures))
 
-pub end-spec : {M : Type 1} → statement M
-unfolding ctrEnd
-end-spec = tie.close (tie.spec (λ c. search needs) (λ c. search needs) (λ c. search needs)
+pub end_spec : {M : Type 1} → statement M
+unfolding ctr_end
+end_spec = tie.close (tie.spec (λ c. search needs) (λ c. search needs) (λ c. search needs)
     (λ c. let told = c.before.before in rw (← told.before.before.running.ensures, told.checked.given.1, c.refused.ensures))
     (λ c. search needs) (λ c. search needs) (λ c κs. let n = (first c.before.before.before.before.before).0 in omega arith)
     (λ c. search needs)
-    (λ c. search needs) (λ c. search needs) returns-2)
+    (λ c. search needs) (λ c. search needs) returns_2)

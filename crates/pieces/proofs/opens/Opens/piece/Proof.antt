@@ -1,16 +1,16 @@
 -- `pieces::opens::Opens::piece` meets its contract: what the checks refuse leaves the state, and otherwise the piece is hashed.
-use Rattle.pieces.proofs.Names.{◌∙◌, needs, opensPiece, sym}
-use Rattle.pieces.proofs.Passing.{sum_fits, running-passed}
+use Rattle.pieces.proofs.Names.{◌∙◌, needs, opens_piece, sym}
+use Rattle.pieces.proofs.Passing.{sum_fits, running_passed}
 use Rattle.pieces.proofs.opens.Opens.piece.Statement.{statement}
 use Rattle.pieces.proofs.opens.Opens.piece.Tie as tie
 
-pub piece-spec : {M : Type 1} → statement M
-unfolding opensPiece
-piece-spec = tie.close (tie.spec (λ c. search needs) (λ c. search needs) (λ c. search needs)
+pub piece_spec : {M : Type 1} → statement M
+unfolding opens_piece
+piece_spec = tie.close (tie.spec (λ c. search needs) (λ c. search needs) (λ c. search needs)
     (λ c. let told = c.before.before in rw (← told.before.before.running.ensures, told.checked.given.1, c.refused.ensures))
     (λ c. search needs) (λ c. search needs)
     (λ c. let told = c.before.before.before in
-    sum_fits (running-passed _ _ _ _ (sym told.before.before.running.ensures ∙ told.enum_told.given.1)))
+    sum_fits (running_passed _ _ _ _ (sym told.before.before.running.ensures ∙ told.enum_told.given.1)))
     (λ c. search needs)
     (λ c. let told = c.before.before.before.before in
     rw (← told.before.before.running.ensures, told.enum_told.given.1, c.done.ensures, c.before.take_in.ensures)))
