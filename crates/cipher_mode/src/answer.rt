@@ -7,7 +7,7 @@ ghost use Rattle.cipher_mode.specs.Answer.{refusal_head, head_of};
 // nothing; a Gcm message or tag that is not as long as it must be, with how many bytes were missing; a wrong IV; a wrong
 // single block. Then come a message in pieces that has come to its end, a key's number out of range, encrypting under a
 // retired key, and a Cbc padding whose bytes are not all its count.
-#[derive(Drop)]
+#[derive(Clone, Copy)]
 pub enum Refusal {
     ErrorBlockSize,
     ErrorDataLen,

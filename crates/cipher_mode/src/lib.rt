@@ -15,7 +15,7 @@ use answer::Answer;
 use checks::{Checked, Lengths};
 
 // What setting up a key answers.
-#[derive(Drop)]
+#[derive(Clone, Copy)]
 pub enum KeyAnswer {
     Key,
     ErrorBlockSize,
@@ -24,7 +24,7 @@ pub enum KeyAnswer {
 
 // Round keys, beside the answer that says whether they are a key's; the key's number, whether it is retired, and the mark of the
 // engine that its rounds go by, which no outcome tells.
-#[derive(Drop)]
+#[derive(Clone, Copy)]
 pub struct Sm4Cipher {
     pub rk: [u32; 32],
     pub answer: KeyAnswer,
@@ -33,7 +33,7 @@ pub struct Sm4Cipher {
     pub engine: u8,
 }
 
-#[derive(Drop)]
+#[derive(Clone, Copy)]
 pub enum CipherMode {
     Cfb,
     Ofb,
@@ -42,14 +42,14 @@ pub enum CipherMode {
     Gcm,
 }
 
-#[derive(Drop)]
+#[derive(Clone, Copy)]
 pub enum Direction {
     Encrypt,
     Decrypt,
 }
 
 // A key's record with the mode that it is used in.
-#[derive(Drop)]
+#[derive(Clone, Copy)]
 pub struct Sm4CipherMode {
     pub cipher: Sm4Cipher,
     pub mode: CipherMode,

@@ -20,7 +20,7 @@ const MOST: usize = 64;
 
 // How a question ended: with a candidate that opens the file, with none, which is no refusal, or refused. A bad list is more
 // than 64 candidates, or lengths that do not add up to the buffer.
-#[derive(Drop)]
+#[derive(Clone, Copy)]
 pub enum Ended {
     Candidate,
     None,

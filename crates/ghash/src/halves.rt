@@ -11,7 +11,7 @@ use crate::{Ghash, block_count};
 use block::U128;
 
 // What is kept of blocks to join any hash before them to theirs: their hash, and H to their count.
-#[derive(Drop)]
+#[derive(Clone, Copy)]
 pub struct Half {
     pub hash: U128,
     pub power: U128,

@@ -12,7 +12,7 @@ use cipher_mode::{Sm4Cipher, Sm4CipherMode, answer};
 const BAD_MODE: u32 = 7;
 
 // What a call answered.
-#[derive(Drop)]
+#[derive(Clone, Copy)]
 pub(crate) struct Answered {
     pub number: u32,
     pub length: usize,

@@ -9,7 +9,7 @@ use cipher_mode::Sm4Cipher;
 const MOST: usize = 8;
 
 // The first `count` records; the others are not looked at.
-#[derive(Drop)]
+#[derive(Clone, Copy)]
 pub struct Keys {
     pub count: usize,
     pub keys: [Sm4Cipher; MOST],

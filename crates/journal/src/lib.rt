@@ -19,7 +19,7 @@ use report::Report;
 
 // How a replay ended. A bad record is cut, unmarked, or has a bad direction; bad keys are over eight, a retired one or a number
 // twice.
-#[derive(Drop)]
+#[derive(Clone, Copy)]
 pub enum Ended {
     Done,
     BadRecord,

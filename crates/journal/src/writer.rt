@@ -10,7 +10,7 @@ use cipher_mode::Direction;
 
 // What a record says of a call beside its label, data, IV and output: what was asked on which key, with how much room, and the number
 // of the answer.
-#[derive(Drop)]
+#[derive(Clone, Copy)]
 pub struct Call {
     pub direction: Direction,
     pub mode: u8,
@@ -67,8 +67,8 @@ fn put_part(p: &[u8], out: &mut [u8])
     ensures { out.new ≡ over (part p.now) out.old }
 {
     let n = block::split(p.len() as u32);
-    bytes::copy(&n, out);
-    bytes::copy(p, &mut out[LENGTH..]);
+    out[..LENGTH].copy_from_slice(&n);
+    out[LENGTH..LENGTH + p.len()].copy_from_slice(p);
 }
 
 // What was asked.
@@ -80,7 +80,7 @@ fn put_asked(call: Call, label: &[u8], data: &[u8], iv: &[u8], out: &mut [u8])
     ensures { out.new ≡ over (asked_of call label.now «data».now iv.now) out.old }
 {
     let head = head(call);
-    bytes::copy(&head, out);
+    out[..HEAD].copy_from_slice(&head);
     put_part(label, &mut out[HEAD..]);
     let at = HEAD + LENGTH + label.len();
     put_part(data, &mut out[at..]);
@@ -95,7 +95,7 @@ fn put_answered(call: Call, output: &[u8], out: &mut [u8])
     ensures { out.new ≡ over (answered_of call output.now) out.old }
 {
     let middle = middle(call);
-    bytes::copy(&middle, out);
+    out[..MIDDLE].copy_from_slice(&middle);
     put_part(output, &mut out[MIDDLE..]);
 }
 

@@ -7,7 +7,7 @@ use cipher_mode::{KeyAnswer, Sm4Cipher};
 
 // It stands for `Sm4Cipher`, whose answer is an enum and whose mark is a bool, for which a host may hand over any number.
 #[repr(C)]
-#[derive(Drop)]
+#[derive(Clone, Copy)]
 pub struct LuossavinKey {
     pub round_keys: [u32; 32],
     pub answer: u32,

@@ -12,7 +12,7 @@ ghost use Rattle.pieces.specs.Flow.{kind_of, next_counter, flow_mode, flow_at, f
 use stream::Kind;
 
 // Whose counters: all sixteen bytes count, or the last four.
-#[derive(Drop)]
+#[derive(Clone, Copy)]
 pub enum Counting {
     Ctr,
     Gcm,

@@ -10,7 +10,7 @@ pub const MOST: usize = 64;
 
 // Where each piece starts and how long it is; what is past `count` is not looked at.
 #[repr(C)]
-#[derive(Drop)]
+#[derive(Clone, Copy)]
 pub struct Plan {
     pub count: usize,
     pub starts: [usize; MOST],

@@ -36,7 +36,7 @@ const SEALED: usize = 8;
 const MAY: [u32; 10] = [0x1, 0xc02, 0x4, 0x8, 0x10, 0x300, 0, 0x8000, 0x1, 0x10];
 
 // A call's answer: number, missing count, the key's number and length.
-#[derive(Drop)]
+#[derive(Clone, Copy)]
 pub struct Told {
     pub number: u32,
     pub missing: u8,
@@ -45,7 +45,7 @@ pub struct Told {
 }
 
 // The counts so far: of the part that is being replayed, and how many records differ in all.
-#[derive(Drop)]
+#[derive(Clone, Copy)]
 pub struct Tally {
     pub part: usize,
     pub replayed: u64,

@@ -84,6 +84,6 @@ pub(crate) fn write(job: u32, edition: u16, sealed: &[u8], out: &mut [u8])
     ensures { out.new ≡ over (written (new_record job edition sealed.now)) out.old }
 {
     let head = records::new_head(job, edition, sealed.len() as u32);
-    bytes::copy(&head, out);
-    bytes::copy(sealed, &mut out[records::HEAD..]);
+    out[..records::HEAD].copy_from_slice(&head);
+    out[records::HEAD..records::HEAD + sealed.len()].copy_from_slice(sealed);
 }

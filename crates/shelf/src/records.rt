@@ -14,7 +14,7 @@ const CURRENT: u8 = 0x44;
 pub(crate) const SUPERSEDED: u8 = 0x58;
 
 // What the first bytes of a record say, and how many bytes it has, these included.
-#[derive(Drop)]
+#[derive(Clone, Copy)]
 pub struct Head {
     pub size: usize,
     pub current: bool,

@@ -13,7 +13,7 @@ ghost use Rattle.walk.specs.Walk.{chain, end_state};
 ghost use Rattle.stream.specs.Stream.{state_after, stream_mode, ahead};
 
 // The mode and, where they differ, the direction.
-#[derive(Drop)]
+#[derive(Clone, Copy)]
 pub enum Kind {
     CfbEncrypt,
     CfbDecrypt,

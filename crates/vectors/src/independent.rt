@@ -13,7 +13,7 @@ const BYTE_CIRCLE: u64 = 0x101;
 const WORD_CIRCLE: u64 = 0x1_0000_0001;
 
 // A block, or an element of the hash's field: sixteen bytes in four words.
-#[derive(Drop)]
+#[derive(Clone, Copy)]
 pub struct Words {
     pub a: u32,
     pub b: u32,
